@@ -1,0 +1,17 @@
+pub mod Justified
+pub mod Codes
+pub mod Order
+pub mod Clauses
+pub mod Propagation
+pub mod Pivot
+pub mod Trees
+pub mod Truth
+pub mod UniversalPivot
+pub mod Reduction
+pub mod Prefixes
+pub mod Runs
+pub mod Soundness
+pub mod Blocks
+pub mod Places
+pub mod Examples
+pub mod Pieces

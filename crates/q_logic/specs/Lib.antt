@@ -1,0 +1,14 @@
+pub mod Literals
+pub mod Formulas
+pub mod Prefixes
+pub mod Parts
+pub mod Truth
+pub mod Circuits
+pub mod Skolems
+pub mod Propagation
+pub mod Pivots
+pub mod Reach
+pub mod Steps
+pub mod Runs
+pub mod Undos
+pub mod Limits

@@ -1,0 +1,18 @@
+//! Quantified Boolean formulas: literals, clauses, prefixes and their truth, unit propagation, proof
+//! steps, and the laws on them. Every other crate stands on this one.
+#![tactic(auto)]
+
+mod formulas;
+mod laws;
+mod limits;
+mod literals;
+mod memory;
+
+pub use formulas::{Bound, Formula, Quant};
+pub use laws::{
+    implied_by_more, implied_is_sound, reducible_by_variable, runs_keep_truth, runs_rebuild,
+    same_formulas, truth_is_skolem,
+};
+pub use limits::Limits;
+pub use literals::Lit;
+pub use memory::NoMemory;
