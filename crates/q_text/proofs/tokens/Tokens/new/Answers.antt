@@ -1,0 +1,5 @@
+use Rattle.q_text.proofs.Law.{from_start}
+use Rattle.q_text.proofs.tokens.Tokens.new.Goals as goal
+
+pub returns-clause-tokens : goal.returns-clause-tokens
+returns-clause-tokens c = from_start

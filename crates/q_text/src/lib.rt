@@ -1,0 +1,10 @@
+//! The tokens of a text, byte by byte, and the decimal text of numbers. Nothing here takes memory
+//! of its own.
+#![tactic(auto)]
+
+mod numbers;
+mod shape;
+mod tokens;
+
+pub use numbers::{digits, put_number};
+pub use tokens::{Token, TokenKind, Tokens};

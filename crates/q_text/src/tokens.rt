@@ -1,0 +1,104 @@
+ghost use Rattle.std.specs.Prelude.{◌≡◌, ℕ, ◌+◌, ◌-◌, ◌<◌, ◌^◌, ◌++◌, ◌==◌, [], ◌∷◌, List, if◌then◌else◌};
+ghost use Rattle.q_text.specs.Words.{is_separator};
+ghost use Rattle.q_text.specs.Texts.{tokens_of};
+ghost use Rattle.q_text.specs.Tokens.{to_come, listed, kind_in, token_in, handed, after, begun};
+
+use crate::shape::Shape;
+
+/// What a word is. A magnitude above 2^62 is given as 2^62.
+#[derive(Clone, Copy, Debug, PartialEq, Eq)]
+pub enum TokenKind {
+    Number(i64),
+    P,
+    Cnf,
+    E,
+    A,
+    D,
+    U,
+    R,
+    Other,
+}
+
+/// A word of the text, and the line of its first byte.
+#[derive(Clone, Copy, Debug, PartialEq, Eq)]
+pub struct Token {
+    pub kind: TokenKind,
+    pub line: u64,
+}
+
+/// Divides a text into tokens. Space, tab, CR and LF stand between words, and a line whose first
+/// word begins with `c` is a comment.
+#[derive(Drop)]
+pub struct Tokens {
+    line: u64,
+    shape: Shape,
+}
+
+impl Tokens {
+    pub fn new() -> Tokens
+        ensures tokens { (bytes : List ℕ) → to_come result bytes ≡ tokens_of bytes }
+        ensures start { result ≡ begun }
+    {
+        Tokens {
+            line: 1,
+            shape: Shape::Start,
+        }
+    }
+
+    /// 1 and the LF bytes so far.
+    #[inline(always)]
+    pub fn line(&self) -> u64
+        ensures { result ≡ self.now.line }
+    {
+        self.line
+    }
+
+    /// The token that this byte ends, if it ends one.
+    #[inline(always)]
+    pub fn push(&mut self, byte: u8) -> Option<Token>
+        requires { self.old.line < 2 ^ 64 - 1 }
+        ensures next { (rest : List ℕ) → to_come self.old (byte ∷ rest) ≡ listed result ++ to_come self.new rest }
+        ensures ended { listed result ≡ (if is_separator byte then to_come self.old [] else []) }
+        ensures line { self.new.line ≡ self.old.line + (if byte == 10 then 1 else 0) }
+        ensures state { self.new ≡ after self.old byte }
+        ensures token { result ≡ handed self.old byte }
+    {
+        if !is_blank(byte) {
+            self.shape = self.shape.grown(byte);
+            return None;
+        }
+        let ended = ended_token(self.shape, self.line);
+        if byte == b'\n' {
+            self.line += 1;
+            self.shape = Shape::Start;
+        } else {
+            self.shape = self.shape.after_blank();
+        }
+        ended
+    }
+
+    /// The token that the end of the text ends, if it ends one.
+    pub fn finish(self) -> Option<Token>
+        ensures ended { listed result ≡ to_come self [] }
+        ensures token { result ≡ token_in (kind_in self.shape) self.line }
+    {
+        ended_token(self.shape, self.line)
+    }
+}
+
+#[inline(always)]
+fn is_blank(byte: u8) -> bool
+    ensures { result ≡ is_separator byte }
+{
+    matches!(byte, b'\n' | b' ' | b'\t' | b'\r')
+}
+
+#[inline(always)]
+fn ended_token(shape: Shape, line: u64) -> Option<Token>
+    ensures { result ≡ token_in (kind_in shape) line }
+{
+    match shape.kind() {
+        None => None,
+        Some(kind) => Some(Token { kind, line }),
+    }
+}
