@@ -1,0 +1,149 @@
+-- The free variables of a formula.
+use Rattle.std.proofs.Common.{◌≡◌, ◌≢◌, ◌⊎◌, ℕ, zero, suc, ◌+◌, ◌-◌, ◌<◌, ◌≤◌, ◌==◌, ◌||◌, ◌&&◌, not, max, Bool, true, false, cond, List, [], ◌∷◌, ◌++◌, length, refl, ap, sym, ◌∙◌, arith, add-zero, append_assoc, get_or, add-one, append-nil, slice_range, drop, subst, inl, inr, eq-eqb}
+use Rattle.std.proofs.lemmas.List.Folds.{drop_split}
+use Rattle.std.specs.List.{AllByRecursion}
+use Rattle.q_logic.specs.Literals.{Literal}
+use Rattle.q_logic.specs.Parts.{ArePairs, IsBound, AreEnds, clauses_between}
+use Rattle.std.proofs.lemmas.Bool.Decides.{nat_tests, eqb_tells}
+use Rattle.q_logic.specs.declared.formulas.Bound.{Bound}
+use Rattle.q_logic.specs.declared.formulas.Quant.TheVariants.{Exists}
+use Rattle.q_logic.specs.Formulas.{Prefix, Matrix}
+use Rattle.q_dimacs.specs.Building.{bounds_from, is_marked_free, is_bound, occurs, occurs_in, greatest, greatest_in}
+
+abbrev free_at : Bool → ℕ → Prefix
+free_at b v = cond b (record { quant = Exists; var = v } ∷ []) []
+
+pub bounds-next : (t : ℕ → Bool) (v n : ℕ) → bounds_from t v (suc n) ≡ bounds_from t v n ++ free_at (t (v + n)) (v + n)
+bounds-next t v zero = rw add-zero (go (t v)) where
+  go : (b : Bool) → cond b (record { quant = Exists; var = v } ∷ []) [] ≡ [] ++ free_at b v
+  go true = refl
+  go false = refl
+bounds-next t v (suc n) = go (t v) (bounds-next t (v + 1) n) where
+  e : (v + 1) + n ≡ v + suc n
+  e = omega arith
+
+  go : (b : Bool) → bounds_from t (v + 1) (suc n) ≡ bounds_from t (v + 1) n ++ free_at (t ((v + 1) + n)) ((v + 1) + n)
+      → cond b (record { quant = Exists; var = v } ∷ bounds_from t (v + 1) (suc n)) (bounds_from t (v + 1) (suc n))
+      ≡ cond b (record { quant = Exists; var = v } ∷ bounds_from t (v + 1) n) (bounds_from t (v + 1) n) ++ free_at (t (v + suc n)) (v + suc n)
+  go true ih = ap (λ p. record { quant = Exists; var = v } ∷ p) (rw e at ih)
+  go false ih = rw e at ih
+
+pub bounds-yes : (t : ℕ → Bool) (n : ℕ) → t n ≡ true → bounds_from t 0 (n + 1) ≡ bounds_from t 0 n ++ record { quant = Exists; var = n } ∷ []
+bounds-yes t n h = let e = bounds-next t 0 n in let z : 0 + n ≡ n = omega arith in rw add-one (rw (z, h) at e)
+
+pub bounds-no : (t : ℕ → Bool) (n : ℕ) → t n ≡ false → bounds_from t 0 (n + 1) ≡ bounds_from t 0 n
+bounds-no t n h = let e = bounds-next t 0 n in let z : 0 + n ≡ n = omega arith in rw add-one ((rw (z, h) at e) ∙ append-nil (bounds_from t 0 n))
+
+pub bounds-same : (t f : ℕ → Bool) (v n : ℕ) → ((k : ℕ) → t k ≡ f k) → bounds_from t v n ≡ bounds_from f v n
+bounds-same t f v zero h = refl
+bounds-same t f v (suc n) h = rw (h v) (go (f v) (bounds-same t f (v + 1) n h)) where
+  go : (b : Bool) → bounds_from t (v + 1) n ≡ bounds_from f (v + 1) n → cond b (record { quant = Exists; var = v } ∷ bounds_from t (v + 1) n) (bounds_from t (v + 1) n) ≡ cond b (record { quant = Exists; var = v } ∷ bounds_from f (v + 1) n) (bounds_from f (v + 1) n)
+  go true e = ap (λ p. record { quant = Exists; var = v } ∷ p) e
+  go false e = e
+
+bounds-none : (f : ℕ → Bool) (v n : ℕ) → ((k : ℕ) → v ≤ k → f k ≡ false) → bounds_from f v n ≡ []
+bounds-none f v zero h = refl
+bounds-none f v (suc n) h = rw (h v (omega arith)) (bounds-none f (v + 1) n (λ k l. h k (omega arith)))
+
+pub bounds-trim : (f : ℕ → Bool) (v n m : ℕ) → ((k : ℕ) → v + n ≤ k → f k ≡ false) → ((k : ℕ) → v + m ≤ k → f k ≡ false) → bounds_from f v n ≡ bounds_from f v m
+bounds-trim f v zero m h g = sym (bounds-none f v m (λ k l. h k (omega arith)))
+bounds-trim f v (suc n) zero h g = bounds-none f v (suc n) (λ k l. g k (omega arith))
+bounds-trim f v (suc n) (suc m) h g = go (f v) (bounds-trim f (v + 1) n m (λ k l. h k (omega arith)) (λ k l. g k (omega arith))) where
+  go : (b : Bool) → bounds_from f (v + 1) n ≡ bounds_from f (v + 1) m → cond b (record { quant = Exists; var = v } ∷ bounds_from f (v + 1) n) (bounds_from f (v + 1) n) ≡ cond b (record { quant = Exists; var = v } ∷ bounds_from f (v + 1) m) (bounds_from f (v + 1) m)
+  go true e = ap (λ p. record { quant = Exists; var = v } ∷ p) e
+  go false e = e
+
+-- what holds of each variable that passes holds of each bound
+pub bounds-all : (P : Bound → Type 0) (f : ℕ → Bool) (v n : ℕ) → ((k : ℕ) → v ≤ k → f k ≡ true → P (record { quant = Exists; var = k })) → AllByRecursion P (bounds_from f v n)
+bounds-all P f v zero h = tt
+bounds-all P f v (suc n) h = go (f v) (h v (omega arith)) (bounds-all P f (v + 1) n (λ k l. h k (omega arith))) where
+  go : (b : Bool) → (b ≡ true → P (record { quant = Exists; var = v })) → AllByRecursion P (bounds_from f (v + 1) n) → AllByRecursion P (cond b (record { quant = Exists; var = v } ∷ bounds_from f (v + 1) n) (bounds_from f (v + 1) n))
+  go true p a = (p refl, a)
+  go false p a = a
+
+pub bounds-distinct : (f : ℕ → Bool) (v n : ℕ) → ArePairs (λ q r. q.var ≢ r.var) (bounds_from f v n)
+bounds-distinct f v zero = tt
+bounds-distinct f v (suc n) = go (f v) (bounds-all (λ r. v ≢ r.var) f (v + 1) n (λ k l t. omega arith)) (bounds-distinct f (v + 1) n) where
+  go : (b : Bool) → AllByRecursion (λ r. v ≢ r.var) (bounds_from f (v + 1) n) → ArePairs (λ q r. q.var ≢ r.var) (bounds_from f (v + 1) n) → ArePairs (λ q r. q.var ≢ r.var) (cond b (record { quant = Exists; var = v } ∷ bounds_from f (v + 1) n) (bounds_from f (v + 1) n))
+  go true a p = (a, p)
+  go false a p = p
+
+pub bounds-has : (f : ℕ → Bool) (v n k : ℕ) → v ≤ k → k < v + n → f k ≡ true → IsBound (bounds_from f v n) k
+bounds-has f v zero k l h t = absurd (omega arith)
+bounds-has f v (suc n) k l h t = go (f v) refl (eqb_tells v k) (λ g. bounds-has f (v + 1) n k g (omega arith) t) where
+  go : (b : Bool) → f v ≡ b → ((v == k) ≡ true) × (v ≡ k) ⊎ ((v == k) ≡ false) × (v ≢ k) → (v + 1 ≤ k → IsBound (bounds_from f (v + 1) n) k) → IsBound (cond b (record { quant = Exists; var = v } ∷ bounds_from f (v + 1) n) (bounds_from f (v + 1) n)) k
+  go true e (inl d) ih = inl d.1
+  go true e (inr d) ih = let o = d.1 in inr (ih (omega arith))
+  go false e (inl d) ih = absurd (let j = d.1 in let z : f v ≡ true = rw j t in cc)
+  go false e (inr d) ih = let o = d.1 in ih (omega arith)
+
+-- above the greatest variable none occurs
+none-above-in : (ls : List Literal) (k : ℕ) → greatest_in ls < k → occurs_in ls k ≡ false
+none-above-in [] k h = refl
+none-above-in (l ∷ ls) k h = let e : (l.var == k) ≡ false = grind (arith, nat_tests) in rw e (none-above-in ls k (omega arith))
+
+pub none-above : (x : Matrix) (k : ℕ) → greatest x < k → occurs x k ≡ false
+none-above [] k h = refl
+none-above (c ∷ x) k h = rw (none-above-in c k (omega arith)) (none-above x k (omega arith))
+
+-- each literal of the row occurs
+occurs-self : (ls : List Literal) (f : ℕ → Bool) → ((v : ℕ) → occurs_in ls v ≡ true → f v ≡ true) → AllByRecursion (λ l. f l.var ≡ true) ls
+occurs-self [] f h = tt
+occurs-self (l ∷ ls) f h = (h l.var (let e : (l.var == l.var) ≡ true = eq-eqb l.var l.var refl in rw e refl), occurs-self ls f (λ v e. h v (or-yes (l.var == v) (occurs_in ls v) e))) where
+  or-yes : (a b : Bool) → b ≡ true → (a || b) ≡ true
+  or-yes true b e = refl
+  or-yes false b e = e
+
+or-one : (a b : Bool) → a ≡ true → (a || b) ≡ true
+or-one true b e = refl
+or-one false b e = cc
+
+or-two : (a b : Bool) → b ≡ true → (a || b) ≡ true
+or-two true b e = refl
+or-two false b e = e
+
+occurs-own : (x : Matrix) (f : ℕ → Bool) → ((v : ℕ) → occurs x v ≡ true → f v ≡ true) → AllByRecursion (λ c. AllByRecursion (λ l. f l.var ≡ true) c) x
+occurs-own [] f h = tt
+occurs-own (c ∷ x) f h = (occurs-self c f (λ v e. h v (or-one (occurs_in c v) (occurs x v) e)), occurs-own x f (λ v e. h v (or-two (occurs_in c v) (occurs x v) e)))
+
+all-append : {X : Type 0} (P : X → Type 0) (xs ys : List X) → AllByRecursion P xs → AllByRecursion P ys → AllByRecursion P (xs ++ ys)
+all-append P [] ys h k = k
+all-append P (x ∷ xs) ys h k = (h.0, all-append P xs ys h.1 k)
+
+drop-all : (lits : List Literal) → drop (length lits) lits ≡ []
+drop-all [] = refl
+drop-all (l ∷ lits) = drop-all lits
+
+row : (P : Literal → Type 0) (lits : List Literal) (from : ℕ) (ends : List ℕ) → AreEnds from ends (length lits) → AllByRecursion (λ c. AllByRecursion P c) (clauses_between lits from ends) → AllByRecursion P (drop from lits)
+row P lits from [] e h = subst (λ n. AllByRecursion P (drop n lits)) (sym e) (subst (AllByRecursion P) (sym (drop-all lits)) tt)
+row P lits from (n ∷ ends) e h = subst (AllByRecursion P) (sym (drop_split lits from n e.0)) (all-append P (slice_range lits from n) (drop n lits) h.0 (row P lits n ends e.1 h.1))
+
+pub row-occurs : (lits : List Literal) (ends : List ℕ) → AreEnds 0 ends (length lits) → AllByRecursion (λ l. occurs (clauses_between lits 0 ends) l.var ≡ true) lits
+row-occurs lits ends e = row (λ l. occurs (clauses_between lits 0 ends) l.var ≡ true) lits 0 ends e (occurs-own (clauses_between lits 0 ends) (occurs (clauses_between lits 0 ends)) (λ v h. h))
+
+pub pairs-append : {X : Type 0} (R : X → X → Type 0) (xs ys : List X) → ArePairs R xs → ArePairs R ys → AllByRecursion (λ x. AllByRecursion (R x) ys) xs → ArePairs R (xs ++ ys)
+pairs-append R [] ys h k a = k
+pairs-append R (x ∷ xs) ys h k a = (all-append (R x) xs ys h.0 a.0, pairs-append R xs ys h.1 k a.1)
+
+pub is-append-left : (p q : Prefix) (v : ℕ) → IsBound p v → IsBound (p ++ q) v
+is-append-left [] q v h = absurd h
+is-append-left (r ∷ p) q v (inl e) = inl e
+is-append-left (r ∷ p) q v (inr h) = inr (is-append-left p q v h)
+
+pub is-append-right : (p q : Prefix) (v : ℕ) → IsBound q v → IsBound (p ++ q) v
+is-append-right [] q v h = h
+is-append-right (r ∷ p) q v h = inr (is-append-right p q v h)
+
+pub bound-is : (p : Prefix) (v : ℕ) → is_bound p v ≡ true → IsBound p v
+bound-is [] v e = cc
+bound-is (q ∷ p) v e = go (eqb_tells q.var v) e (bound-is p v) where
+  go : ((q.var == v) ≡ true) × (q.var ≡ v) ⊎ ((q.var == v) ≡ false) × (q.var ≢ v) → ((q.var == v) || is_bound p v) ≡ true → (is_bound p v ≡ true → IsBound p v) → (q.var ≡ v) ⊎ IsBound p v
+  go (inl d) e ih = inl d.1
+  go (inr d) e ih = inr (ih (rw d.0 at e))
+
+pub apart : (p : Prefix) (v : ℕ) → is_bound p v ≡ false → AllByRecursion (λ r. v ≢ r.var) p
+apart [] v e = tt
+apart (r ∷ p) v e = go (eqb_tells r.var v) e (apart p v) where
+  go : ((r.var == v) ≡ true) × (r.var ≡ v) ⊎ ((r.var == v) ≡ false) × (r.var ≢ v) → ((r.var == v) || is_bound p v) ≡ false → (is_bound p v ≡ false → AllByRecursion (λ r. v ≢ r.var) p) → (v ≢ r.var) × AllByRecursion (λ r. v ≢ r.var) p
+  go (inl d) e ih = let f = rw d.0 at e in cc
+  go (inr d) e ih = ((λ x. d.1 (sym x)), ih (rw d.0 at e))

@@ -1,0 +1,136 @@
+-- What one token does to what has been read, and which offence it is otherwise.
+use Rattle.std.specs.Prelude.{◌≡◌, ℕ, ◌+◌, ◌<◌, ◌≤◌, ◌==◌, nat_lt, nat_le, Bool, true, false, List, [], ◌∷◌, ◌++◌, length, if◌then◌else◌, Result, Ok, Err, ℤ, pos, negsuc, Option, Some, None}
+use Rattle.q_logic.specs.declared.formulas.Bound.{Bound}
+use Rattle.q_logic.specs.declared.limits.Limits.{Limits}
+use Rattle.q_logic.specs.declared.formulas.Quant.{Quant}
+use Rattle.q_logic.specs.declared.formulas.Quant.TheVariants.{Exists, Forall}
+use Rattle.q_logic.specs.Literals.{Literal}
+use Rattle.q_logic.specs.Formulas.{PrenexFormula}
+use Rattle.q_text.specs.declared.tokens.Token.{Token}
+use Rattle.q_text.specs.declared.tokens.TokenKind.{TokenKind}
+use Rattle.q_text.specs.declared.tokens.TokenKind.TheVariants.{Number, P, Cnf, E, A, D, U, R, Other}
+use Rattle.q_text.specs.Texts.{tokens_of, line_after}
+use Rattle.q_dimacs.specs.declared.builder.Place.{Place}
+use Rattle.q_dimacs.specs.declared.builder.Place.TheVariants.{Problem, Format, Vars, Count, Outside, InSet, InClause}
+use Rattle.q_dimacs.specs.declared.builder.Builder.{Builder}
+use Rattle.q_dimacs.specs.Building.{Built, is_bound, clause_of, formula_of}
+
+abbrev pub bad_header : ℕ
+bad_header = 1
+
+abbrev pub bad_token : ℕ
+bad_token = 2
+
+abbrev pub above_header : ℕ
+above_header = 3
+
+abbrev pub bound_twice : ℕ
+bound_twice = 4
+
+abbrev pub late_quantifier : ℕ
+late_quantifier = 5
+
+abbrev pub clause_count : ℕ
+clause_count = 6
+
+abbrev pub unended : ℕ
+unended = 7
+
+abbrev pub limit : ℕ
+limit = 8
+
+-- the header
+abbrev pub problem : Builder → TokenKind → Result Builder ℕ
+problem b P = Ok (record b { place = Format })
+problem b k = Err bad_header
+
+abbrev pub format : Builder → TokenKind → Result Builder ℕ
+format b Cnf = Ok (record b { place = Vars })
+format b k = Err bad_header
+
+abbrev pub vars_of : Limits → Builder → TokenKind → Result Builder ℕ
+vars_of m b (Number (pos n)) = if nat_lt m.vars n then Err limit else Ok (record b { place = Count; vars = n })
+vars_of m b k = Err bad_header
+
+abbrev pub count_of : Limits → Builder → TokenKind → Result Builder ℕ
+count_of m b (Number (pos n)) = if nat_lt m.clauses n then Err limit else Ok (record b { place = Outside; count = n })
+count_of m b k = Err bad_header
+
+-- a set
+abbrev pub begin_set : Quant → Builder → Result Builder ℕ
+begin_set q b = if nat_lt 0 (length b.parts.clauses) then Err late_quantifier else Ok (record b { place = InSet q })
+
+abbrev pub bind : Quant → Built → ℕ → Built
+bind q p v = record p { bounds = p.bounds ++ record { quant = q; var = v } ∷ [] }
+
+abbrev pub in_set : Quant → Builder → TokenKind → Result Builder ℕ
+in_set q b (Number (pos n)) =
+    if n == 0 then Ok (record b { place = Outside })
+    else (if nat_lt b.vars n then Err above_header
+    else (if is_bound b.parts.bounds n then Err bound_twice
+    else Ok (record b { parts = bind q b.parts n })))
+in_set q b k = Err bad_token
+
+-- a clause
+abbrev pub end_clause : Builder → Builder
+end_clause b = record b { place = Outside; parts = record { bounds = b.parts.bounds; clauses = b.parts.clauses ++ clause_of b.parts.pending ∷ []; pending = [] } }
+
+abbrev pub literal : Limits → Builder → ℕ → Bool → Result Builder ℕ
+literal m b n s =
+    if nat_lt b.vars n then Err above_header
+    else (if nat_le m.lits b.lits then Err limit
+    else Ok (record b { place = InClause; lits = b.lits + 1; parts = record b.parts { pending = b.parts.pending ++ record { var = n; negative = s } ∷ [] } }))
+
+abbrev pub number : Limits → Builder → ℤ → Result Builder ℕ
+number m b (pos n) = if n == 0 then Ok (end_clause b) else literal m b n false
+number m b (negsuc n) = literal m b (n + 1) true
+
+abbrev pub in_clause : Limits → Builder → TokenKind → Result Builder ℕ
+in_clause m b (Number z) = number m b z
+in_clause m b k = Err bad_token
+
+-- outside sets and clauses
+abbrev pub outside : Limits → Builder → TokenKind → Result Builder ℕ
+outside m b E = begin_set Exists b
+outside m b A = begin_set Forall b
+outside m b (Number z) = if nat_le b.count (length b.parts.clauses) then Err clause_count else number m b z
+outside m b k = Err bad_token
+
+abbrev pub at_place : Limits → Builder → TokenKind → Place → Result Builder ℕ
+at_place m b k Problem = problem b k
+at_place m b k Format = format b k
+at_place m b k Vars = vars_of m b k
+at_place m b k Count = count_of m b k
+at_place m b k Outside = outside m b k
+at_place m b k (InSet q) = in_set q b k
+at_place m b k InClause = in_clause m b k
+
+-- one token: what has been read with it, or the cause
+abbrev pub step_of : Limits → Builder → TokenKind → Result Builder ℕ
+step_of m b k = at_place m b k b.place
+
+-- the cause at the end
+abbrev pub end_at : Builder → Place → Option ℕ
+end_at b Problem = Some bad_header
+end_at b Format = Some bad_header
+end_at b Vars = Some bad_header
+end_at b Count = Some bad_header
+end_at b Outside = if nat_lt (length b.parts.clauses) b.count then Some clause_count else None
+end_at b (InSet q) = Some unended
+end_at b InClause = Some unended
+
+abbrev pub end_of : Builder → Option ℕ
+end_of b = end_at b b.place
+
+abbrev pub nothing_read : Builder
+nothing_read = record { place = Problem; vars = 0; count = 0; lits = 0; parts = record { bounds = []; clauses = []; pending = [] } }
+
+-- outside clauses no literal waits
+abbrev pub IsSettled : Place → List Literal → Type 0
+IsSettled Problem ls = ls ≡ []
+IsSettled Format ls = ls ≡ []
+IsSettled Vars ls = ls ≡ []
+IsSettled Count ls = ls ≡ []
+IsSettled Outside ls = ls ≡ []
+IsSettled (InSet q) ls = ls ≡ []
+IsSettled InClause ls = Unit {0}

@@ -1,0 +1,267 @@
+//! One token after another.
+ghost use Rattle.std.specs.Prelude.{◌≡◌, ℕ, ◌≤◌, ◌<◌, ◌^◌, ◌++◌, [], ◌∷◌, length, MatchResult, Ok, Err, ℤ};
+ghost use Rattle.q_dimacs.specs.Reading.{problem, format, vars_of, count_of, begin_set, outside, in_clause, number, in_set, end_of, step_of, nothing_read};
+ghost use Rattle.q_dimacs.specs.Steps.{Steps};
+
+use crate::parts::Parts;
+use q_logic::{Limits, Lit, NoMemory, Quant};
+use q_text::TokenKind;
+use std::alloc::Global;
+
+#[derive(Clone, Copy)]
+pub enum Place {
+    Problem,
+    Format,
+    Vars,
+    Count,
+    Outside,
+    InSet(Quant),
+    InClause,
+}
+
+#[derive(Clone, Copy)]
+pub enum Fault {
+    Cause(u8),
+    NoMemory,
+}
+
+impl From<NoMemory> for Fault {
+    ghost use Rattle.q_dimacs.specs.declared.builder.Fault.TheVariants.{NoMemory as gone};
+
+    ghost from_gives = { λ _ e. e ≡ gone };
+
+    fn from(_: NoMemory) -> Fault {
+        Fault::NoMemory
+    }
+}
+
+#[derive(Drop)]
+pub struct Builder {
+    pub place: Place,
+    pub vars: u32,
+    pub count: u64,
+    pub lits: u64,
+    pub parts: Parts,
+}
+
+impl Builder {
+    pub fn new(alloc: Global) -> Builder
+        ensures start { result ≡ nothing_read }
+    {
+        Builder {
+            place: Place::Problem,
+            vars: 0,
+            count: 0,
+            lits: 0,
+            parts: Parts::new(alloc),
+        }
+    }
+
+    #[inline(always)]
+    pub fn step(&mut self, limits: Limits, kind: TokenKind) -> Result<(), Fault>
+        requires small { self.old.vars < 2 ^ 31 }
+        requires bounded { limits.vars < 2 ^ 31 }
+        ensures exact { Steps result (step_of limits self.old kind) self.new }
+        ensures kept { self.new.vars < 2 ^ 31 }
+    {
+        match self.place {
+            Place::InClause => self.in_clause(limits, kind),
+            Place::InSet(quant) => self.in_set(quant, kind),
+            Place::Outside => self.outside(limits, kind),
+            Place::Problem => self.problem(kind),
+            Place::Format => self.format(kind),
+            Place::Vars => self.vars(limits, kind),
+            Place::Count => self.count(limits, kind),
+        }
+    }
+
+    fn problem(&mut self, kind: TokenKind) -> Result<(), Fault>
+        requires small { self.old.vars < 2 ^ 31 }
+        ensures exact { Steps result (problem self.old kind) self.new }
+        ensures kept { self.new.vars < 2 ^ 31 }
+    {
+        match kind {
+            TokenKind::P => {
+                self.place = Place::Format;
+                Ok(())
+            }
+            _ => Err(Fault::Cause(1)),
+        }
+    }
+
+    fn format(&mut self, kind: TokenKind) -> Result<(), Fault>
+        requires small { self.old.vars < 2 ^ 31 }
+        ensures exact { Steps result (format self.old kind) self.new }
+        ensures kept { self.new.vars < 2 ^ 31 }
+    {
+        match kind {
+            TokenKind::Cnf => {
+                self.place = Place::Vars;
+                Ok(())
+            }
+            _ => Err(Fault::Cause(1)),
+        }
+    }
+
+    fn vars(&mut self, limits: Limits, kind: TokenKind) -> Result<(), Fault>
+        requires small { self.old.vars < 2 ^ 31 }
+        requires bounded { limits.vars < 2 ^ 31 }
+        ensures exact { Steps result (vars_of limits self.old kind) self.new }
+        ensures kept { self.new.vars < 2 ^ 31 }
+    {
+        match kind {
+            TokenKind::Number(n) => {
+                if n < 0 {
+                    return Err(Fault::Cause(1));
+                }
+                if n > limits.vars as i64 {
+                    return Err(Fault::Cause(8));
+                }
+                self.vars = n as u32;
+                self.place = Place::Count;
+                Ok(())
+            }
+            _ => Err(Fault::Cause(1)),
+        }
+    }
+
+    fn count(&mut self, limits: Limits, kind: TokenKind) -> Result<(), Fault>
+        requires small { self.old.vars < 2 ^ 31 }
+        requires bounded { limits.vars < 2 ^ 31 }
+        ensures exact { Steps result (count_of limits self.old kind) self.new }
+        ensures kept { self.new.vars < 2 ^ 31 }
+    {
+        match kind {
+            TokenKind::Number(n) => {
+                if n < 0 {
+                    return Err(Fault::Cause(1));
+                }
+                if n as u64 > limits.clauses {
+                    return Err(Fault::Cause(8));
+                }
+                self.count = n as u64;
+                self.place = Place::Outside;
+                Ok(())
+            }
+            _ => Err(Fault::Cause(1)),
+        }
+    }
+
+    fn begin_set(&mut self, quant: Quant) -> Result<(), Fault>
+        requires small { self.old.vars < 2 ^ 31 }
+        ensures exact { Steps result (begin_set quant self.old) self.new }
+        ensures kept { self.new.vars < 2 ^ 31 }
+    {
+        if self.parts.clauses() > 0 {
+            return Err(Fault::Cause(5));
+        }
+        self.place = Place::InSet(quant);
+        Ok(())
+    }
+
+    #[inline(always)]
+    fn outside(&mut self, limits: Limits, kind: TokenKind) -> Result<(), Fault>
+        requires small { self.old.vars < 2 ^ 31 }
+        requires bounded { limits.vars < 2 ^ 31 }
+        ensures exact { Steps result (outside limits self.old kind) self.new }
+        ensures kept { self.new.vars < 2 ^ 31 }
+    {
+        match kind {
+            TokenKind::Number(n) => {
+                if self.parts.clauses() as u64 >= self.count {
+                    return Err(Fault::Cause(6));
+                }
+                self.number(limits, n)
+            }
+            TokenKind::E => self.begin_set(Quant::Exists),
+            TokenKind::A => self.begin_set(Quant::Forall),
+            _ => Err(Fault::Cause(2)),
+        }
+    }
+
+    #[inline(always)]
+    fn in_clause(&mut self, limits: Limits, kind: TokenKind) -> Result<(), Fault>
+        requires small { self.old.vars < 2 ^ 31 }
+        requires bounded { limits.vars < 2 ^ 31 }
+        ensures exact { Steps result (in_clause limits self.old kind) self.new }
+        ensures kept { self.new.vars < 2 ^ 31 }
+    {
+        match kind {
+            TokenKind::Number(n) => self.number(limits, n),
+            _ => Err(Fault::Cause(2)),
+        }
+    }
+
+    // A number of a clause.
+    #[inline(always)]
+    fn number(&mut self, limits: Limits, n: i64) -> Result<(), Fault>
+        requires small { self.old.vars < 2 ^ 31 }
+        requires bounded { limits.vars < 2 ^ 31 }
+        ensures exact { Steps result (number limits self.old n) self.new }
+        ensures kept { self.new.vars < 2 ^ 31 }
+    {
+        if n == 0 {
+            self.parts.end_clause()?;
+            self.place = Place::Outside;
+            return Ok(());
+        }
+        let magnitude = n.unsigned_abs();
+        if magnitude > self.vars as u64 {
+            return Err(Fault::Cause(3));
+        }
+        if self.lits >= limits.lits {
+            return Err(Fault::Cause(8));
+        }
+        self.parts.add(Lit::new(magnitude as u32, n < 0))?;
+        self.lits += 1;
+        self.place = Place::InClause;
+        Ok(())
+    }
+
+    #[inline(always)]
+    fn in_set(&mut self, quant: Quant, kind: TokenKind) -> Result<(), Fault>
+        requires small { self.old.vars < 2 ^ 31 }
+        ensures exact { Steps result (in_set quant self.old kind) self.new }
+        ensures kept { self.new.vars < 2 ^ 31 }
+    {
+        match kind {
+            TokenKind::Number(n) => {
+                if n < 0 {
+                    return Err(Fault::Cause(2));
+                }
+                if n == 0 {
+                    self.place = Place::Outside;
+                    return Ok(());
+                }
+                if n as u64 > self.vars as u64 {
+                    return Err(Fault::Cause(3));
+                }
+                let var = n as u32;
+                if self.parts.is_bound(var) {
+                    return Err(Fault::Cause(4));
+                }
+                self.parts.bind(quant, var)?;
+                Ok(())
+            }
+            _ => Err(Fault::Cause(2)),
+        }
+    }
+
+    // The cause at the end, if there is one.
+    pub fn end(&self) -> Option<u8>
+        ensures { result ≡ end_of self.now }
+    {
+        match self.place {
+            Place::Outside => {
+                if (self.parts.clauses() as u64) < self.count {
+                    Some(6)
+                } else {
+                    None
+                }
+            }
+            Place::InSet(_) => Some(7),
+            Place::InClause => Some(7),
+            _ => Some(1),
+        }
+    }
+}
