@@ -1,12 +1,10 @@
 -- The definitions at small formulas.
-use Rattle.std.proofs.Common.{◌≡◌, ℕ, Bool, true, false, List, [], ◌∷◌, ◌⊎◌, inl, inr, arith, refl}
+use Rattle.std.proofs.Common.{◌≡◌, ℕ, Bool, true, false, [], ◌∷◌, ◌⊎◌, inl, inr, refl}
 use Rattle.q_logic.specs.declared.formulas.Bound.{Bound}
 use Rattle.q_logic.specs.declared.formulas.Quant.TheVariants.{Exists, Forall}
-use Rattle.q_logic.specs.Literals.{Literal, negation}
-use Rattle.q_logic.specs.Formulas.{Prefix, Clause, Matrix, IsIn}
-use Rattle.q_logic.specs.Prefixes.{outer_or_same, universal_before}
-use Rattle.q_logic.specs.Truth.{HoldsUnder, MatrixTrue, ClauseTrue, LiteralTrue, with_value}
-use Rattle.q_logic.specs.Pivots.{outer, ExistsPivot, ForallPivot}
+use Rattle.q_logic.specs.Literals.{Literal}
+use Rattle.q_logic.specs.Prefixes.{outer_or_same}
+use Rattle.q_logic.specs.Pivots.{outer}
 use Rattle.q_logic.proofs.Soundness.{true_decided, matrix_decided, clause_decided}
 
 abbrev e : ℕ → Bound

@@ -15,3 +15,7 @@ pub mod Blocks
 pub mod Places
 pub mod Examples
 pub mod Pieces
+pub mod Membership
+pub mod ClauseSets
+pub mod Sorting
+pub mod StepForms

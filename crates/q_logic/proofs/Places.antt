@@ -1,10 +1,10 @@
 -- The order of a prefix by places.
-use Rattle.std.proofs.Common.{◌≡◌, ◌↔◌, ℕ, zero, suc, ◌+◌, ◌<◌, ◌≤◌, Bool, true, false, cond, not, ◌&&◌, eqb, List, [], ◌∷◌, ◌⊎◌, inl, inr, arith, refl, sym, ap, ◌∙◌, subst, length, Contains, slice_index_or}
+use Rattle.std.proofs.Common.{◌≡◌, ℕ, zero, suc, ◌≤◌, Bool, true, false, cond, ◌&&◌, eqb, [], ◌∷◌, ◌⊎◌, inl, inr, arith, refl, sym, subst}
 use Rattle.q_logic.specs.declared.formulas.Quant.{Quant}
 use Rattle.q_logic.specs.declared.formulas.Bound.{Bound}
 use Rattle.q_logic.specs.declared.formulas.Quant.TheVariants.{Exists, Forall}
-use Rattle.q_logic.specs.Formulas.{Prefix, IsIn}
-use Rattle.q_logic.specs.Prefixes.{is_existential, is_universal, is_bound, run_to, outer_or_same, is_exists, same_quant, Distinct}
+use Rattle.q_logic.specs.Formulas.{Prefix}
+use Rattle.q_logic.specs.Prefixes.{is_bound, run_to, outer_or_same, same_quant}
 
 -- The place of a variable, the length where it is absent.
 abbrev pub place : Prefix → ℕ → ℕ
@@ -76,14 +76,3 @@ places-outer_or_same (b ∷ P) a v n m o = go (eqb b.var a) (eqb b.var v) n m o 
     go false true n m (inr f) ih = places-run_to b.quant P a n (λ i h. f (suc i) (omega arith) (omega arith))
     go false false n m (inl h) ih = ih n m (inl (omega arith))
     go false false n m (inr f) ih = ih n m (inr (λ i h k. f (suc i) (omega arith) (omega arith)))
-
--- Membership against std's word.
-IsIn-Contains : {X : Type 0} (x : X) (xs : List X) → IsIn x xs → Contains xs x
-IsIn-Contains x [] m = elim m [ ]
-IsIn-Contains x (y ∷ ys) (inl e) = (0, omega arith, sym e)
-IsIn-Contains x (y ∷ ys) (inr m) = let r : Contains ys x = IsIn-Contains x ys m in (suc r.0, omega arith, r.2)
-
-Contains-IsIn : {X : Type 0} (x : X) (xs : List X) → Contains xs x → IsIn x xs
-Contains-IsIn x [] c = absurd (omega (arith, c.1))
-Contains-IsIn x (y ∷ ys) (zero, h, e) = inl (sym e)
-Contains-IsIn x (y ∷ ys) (suc k, h, e) = inr (Contains-IsIn x ys (k, omega arith, e))

@@ -2,17 +2,15 @@
 use Rattle.std.proofs.Common.{◌≡◌, Bool, true, false, cond, List, [], ◌∷◌, ◌++◌, ◌⊎◌, ◌↔◌, inl, inr, arith, refl, sym, ap, ◌∙◌, subst, Option, Some, None}
 use Rattle.q_logic.proofs.Justified.{Justified, JustifiedSteps, JustifiedRun}
 use Rattle.q_logic.specs.declared.formulas.Quant.{Quant}
-use Rattle.q_logic.specs.declared.formulas.Bound.{Bound}
 use Rattle.q_logic.specs.declared.formulas.Quant.TheVariants.{Exists, Forall}
-use Rattle.q_logic.specs.Literals.{Literal, negation, literal_eq}
+use Rattle.q_logic.specs.Literals.{Literal, negation}
 use Rattle.q_logic.specs.Formulas.{Prefix, Clause, Matrix, IsIn, PrenexFormula}
-use Rattle.q_logic.specs.Prefixes.{is_existential, is_universal, is_bound, universal_before, Distinct, Closed, IsFormula}
+use Rattle.q_logic.specs.Prefixes.{is_existential, is_bound, IsFormula}
 use Rattle.q_logic.specs.Truth.{Assignment, LiteralTrue, ClauseTrue, MatrixTrue, signed, HoldsUnder, by_quant, with_value, Holds}
-use Rattle.q_logic.specs.Circuits.{Circuit, constant, value_of, Reads}
-use Rattle.q_logic.specs.Skolems.{Strategy, circuit_of, or_input, given, outcome, Skolem, Lawful, SkolemOf}
+use Rattle.q_logic.specs.Circuits.{constant}
+use Rattle.q_logic.specs.Skolems.{Strategy, outcome, Skolem, Lawful, SkolemOf}
 use Rattle.q_logic.specs.Propagation.{Implied}
-use Rattle.q_logic.specs.Pivots.{outer, ExistsPivot, ForallPivot, OutersOf, without}
-use Rattle.q_logic.specs.Reach.{Reducible}
+use Rattle.q_logic.specs.Pivots.{ExistsPivot, OutersOf, without}
 use Rattle.q_logic.specs.Steps.{one_less, insert_after, ProofStep, add, delete, drop_literal, fresh, remove_variable, FirstPivot, after}
 use Rattle.q_logic.specs.Runs.{SameFormula}
 use Rattle.q_logic.specs.Undos.{all_of, pivoted, UndoEntry, removed, freshened, with_circuit, taken_back, Back, Entries, Undos}

@@ -12,3 +12,5 @@ pub mod Steps
 pub mod Runs
 pub mod Undos
 pub mod Limits
+pub mod Clauses
+pub mod StepForms

@@ -1,5 +1,5 @@
 -- The limits on formulas, and the checker's.
-use Rattle.std.specs.Prelude.{ℕ, ◌*◌, ◌<◌, ◌≤◌, ◌^◌}
+use Rattle.std.specs.Prelude.{◌<◌, ◌≤◌, ◌^◌}
 use Rattle.q_logic.specs.declared.limits.Limits.{Limits}
 
 -- the limits of the program

@@ -1,8 +1,8 @@
 -- A formula in parts: the literals of all clauses in one row, and where each clause ends.
-use Rattle.std.specs.Prelude.{◌≡◌, ◌≢◌, ◌⊎◌, ℕ, Bool, true, false, ◌≤◌, ◌<◌, ◌^◌, List, [], ◌∷◌, All, AllPairs, Contains, map, length, slice_range}
+use Rattle.std.specs.Prelude.{◌≡◌, ◌≢◌, ◌⊎◌, ℕ, ◌≤◌, ◌<◌, ◌^◌, List, [], ◌∷◌, length, slice_range}
 use Rattle.std.specs.List.{AllByRecursion}
 use Rattle.q_logic.specs.Literals.{Literal, IsBelow}
-use Rattle.q_logic.specs.Formulas.{Clause, Matrix, Prefix}
+use Rattle.q_logic.specs.Formulas.{Matrix, Prefix}
 use Rattle.std.proofs.Common.{zero, suc}
 
 -- the clauses between the ends

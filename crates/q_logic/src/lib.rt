@@ -6,7 +6,9 @@ mod formulas;
 mod laws;
 mod limits;
 mod literals;
+mod lits;
 mod memory;
+mod steps;
 
 pub use formulas::{Bound, Formula, Quant};
 pub use laws::{
@@ -15,4 +17,6 @@ pub use laws::{
 };
 pub use limits::Limits;
 pub use literals::Lit;
+pub use lits::{Lits, sort_clause};
 pub use memory::NoMemory;
+pub use steps::{Kind, Step};

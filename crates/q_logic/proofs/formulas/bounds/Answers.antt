@@ -1,6 +1,5 @@
-use Rattle.std.proofs.Common.{◌≡◌, ◌≢◌, ◌≤◌, ◌-◌, get_or, sym, rules, arith}
+use Rattle.std.proofs.Common.{sym}
 use Rattle.q_logic.proofs.Pieces.{AreEnds-start, AreEnds-end, start_of-later}
-use Rattle.q_logic.specs.Parts.{start_of}
 use Rattle.q_logic.proofs.formulas.bounds.Goals as goal
 
 pub returns-then-at-eq0-clause-within : goal.returns-then-at-eq0-clause-within

@@ -1,4 +1,3 @@
-use Rattle.std.proofs.Common.{◌≡◌, sym, ◌∙◌, rules, arith}
 use Rattle.q_logic.proofs.Pieces.{slice_get-clauses_between}
 use Rattle.q_logic.proofs.formulas.piece.Goals as goal
 

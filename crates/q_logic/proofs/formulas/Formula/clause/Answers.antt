@@ -1,4 +1,4 @@
-use Rattle.std.proofs.Common.{◌≡◌, ◌<◌, ap, length, rules, arith, sym, ◌∙◌}
+use Rattle.std.proofs.Common.{ap, length}
 use Rattle.q_logic.specs.Formulas.{PrenexFormula}
 use Rattle.q_logic.proofs.Pieces.{length-clauses_between}
 use Rattle.q_logic.proofs.formulas.Formula.clause.Goals as goal

@@ -1,0 +1,76 @@
+ghost use Rattle.std.specs.Prelude.{◌≡◌, ◌++◌, List, [], ◌∷◌, length, OnOk, OnErr};
+ghost use Rattle.q_logic.specs.Clauses.{clause_of};
+
+use crate::literals::Lit;
+use crate::memory::NoMemory;
+use std::alloc::Global;
+use std::marker::Model;
+
+/// A list of literals.
+#[derive(Drop)]
+pub struct Lits {
+    row: Vec<Lit>,
+}
+
+impl Model for Lits {
+    ghost use Rattle.std.specs.Prelude.{List};
+    ghost use Rattle.q_logic.specs.Literals.{Literal};
+
+    ghost Value = { List Literal };
+
+    ghost view = { λ l. l.row.items };
+}
+
+impl Lits {
+    pub fn new(alloc: Global) -> Lits
+        ensures { result ≡ [] }
+    {
+        Lits {
+            row: Vec::new(alloc),
+        }
+    }
+
+    /// Takes the literals over, without memory.
+    pub fn from_vec(row: Vec<Lit>) -> Lits
+        ensures { result ≡ row.items }
+    {
+        Lits { row }
+    }
+
+    /// Gives the literals back, without memory.
+    pub fn into_vec(self) -> Vec<Lit>
+        ensures { result.items ≡ self }
+    {
+        self.row
+    }
+
+    pub fn push(&mut self, lit: Lit) -> Result<(), NoMemory>
+        ensures ok { OnOk result (self.new ≡ self.old ++ lit ∷ []) }
+        ensures err { OnErr result (self.new ≡ self.old) }
+    {
+        self.row.push(lit)?;
+        Ok(())
+    }
+
+    /// Keeps the memory for later literals.
+    pub fn clear(&mut self)
+        ensures { self.new ≡ [] }
+    {
+        self.row.clear();
+    }
+
+    pub fn as_slice(&self) -> &[Lit]
+        ensures { result.now ≡ self.now }
+    {
+        &self.row
+    }
+}
+
+/// Makes the literals a clause: brings them into literal order, each once.
+#[inline(always)]
+pub fn sort_clause(lits: &mut Vec<Lit>)
+    ensures { lits.new.items ≡ clause_of lits.old.items }
+{
+    lits.sort_unstable();
+    lits.dedup();
+}
