@@ -1,0 +1,15 @@
+pub mod SlotLemmas
+pub mod MarkLemmas
+pub mod RowLemmas
+pub mod WatchLemmas
+pub mod WorkingLemmas
+pub mod Reaching
+pub mod Settling
+pub mod Rooting
+pub mod Members
+pub mod Literals
+pub mod Chains
+pub mod Fixpoint
+pub mod Statuses
+pub mod Missing
+pub mod Definition

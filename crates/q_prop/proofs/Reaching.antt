@@ -1,0 +1,143 @@
+-- From one literal to the next, and to the end.
+use Rattle.std.proofs.Common.{◌≡◌, ◌≢◌, ◌⊎◌, ℕ, zero, suc, ◌+◌, ◌<◌, ◌≤◌, List, [], ◌∷◌, ◌++◌, Option, None, Some, Contains, slice_get, take, drop, get_or, length, refl, sym, ◌∙◌, ap, inl, inr, arith, append_assoc, append-nil, length-append, take_all, zero-le, suc-le-suc, le_of_suc-le-suc, not-suc-le-zero, add-one}
+use Rattle.q_logic.specs.Literals.{Literal, negation}
+use Rattle.q_logic.specs.Formulas.{Clause, Matrix}
+use Rattle.q_prop.specs.Chains.{IsForced, HasOpposites}
+use Rattle.q_prop.proofs.Members.{Contains-nil}
+use Rattle.q_prop.proofs.Literals.{Literal-cases}
+use Rattle.q_prop.specs.Search.{IsSearch, IsSettled, AllSettled}
+use Rattle.std.proofs.lemmas.List.Elements.{Contains-append_left}
+use Rattle.q_prop.proofs.Missing.{missing, missing-lt}
+use Rattle.q_prop.proofs.Fixpoint.{IsSearch-push}
+use Rattle.q_prop.specs.declared.watches.Pair.{Pair}
+use Rattle.q_prop.specs.Watches.{IsWatched, AllWatched, IsSingle, IsShort}
+use Rattle.q_prop.specs.Slots.{Slots, Holds, filled}
+use Rattle.q_prop.specs.Rows.{row_of, IsFrom}
+use Rattle.q_prop.specs.Working.{IsCovered, IsWorking, IsGrown, IsNew, AreNew, IsReached, IsReady, IsKept, AreListed, AreTrue}
+use Rattle.q_prop.proofs.WatchLemmas.{IsWithin, IsWatched-apart, IsWatched-settled, IsSingle-settled, IsWatched-less}
+use Rattle.q_prop.proofs.SlotLemmas.{take-slice_get, slice_get-in, slice_get-there, filled-cases, slice_get-Contains}
+
+AreNew-push : (x : Matrix) (known added : List Literal) (l : Literal) → AreNew x known added → IsNew x (known ++ added) l → AreNew x known (added ++ l ∷ [])
+AreNew-push x known [] l h n = (rw append-nil at n, tt)
+AreNew-push x known (a ∷ added) l h n = (h.0, AreNew-push x (known ++ a ∷ []) added l h.1 (rw append_assoc n))
+
+AreNew-append : (x : Matrix) (known first second : List Literal) → AreNew x known first → AreNew x (known ++ first) second → AreNew x known (first ++ second)
+AreNew-append x known [] second h n = rw append-nil at n
+AreNew-append x known (a ∷ first) second h n = (h.0, AreNew-append x (known ++ a ∷ []) first second h.1 (rw append_assoc n))
+
+pub IsReached-refl : (x : Matrix) (known : List Literal) → IsReached x known known
+IsReached-refl x known = record { added = []; is = sym (append-nil known); each = tt }
+
+pub IsReached-grown : (x : Matrix) (a b c : List Literal) → IsReached x a b → IsGrown x b c → IsReached x a c
+IsReached-grown x a b c r g =
+    elim g [
+        inl e ↦ rw e r
+      | inr n ↦ record {
+            added = r.added ++ n.0 ∷ [];
+            is = n.1 ∙ ap (λ (ks : List Literal). ks ++ n.0 ∷ []) r.is ∙ append_assoc a r.added (n.0 ∷ []);
+            each = AreNew-push x a r.added n.0 r.each (let h : IsNew x b n.0 = n.2 in rw r.is at h);
+        }
+    ]
+
+pub IsReached-trans : (x : Matrix) (a b c : List Literal) → IsReached x a b → IsReached x b c → IsReached x a c
+IsReached-trans x a b c r s = record {
+    added = r.added ++ s.added;
+    is = s.is ∙ ap (λ (ks : List Literal). ks ++ s.added) r.is ∙ append_assoc a r.added s.added;
+    each = AreNew-append x a r.added s.added r.each (let h = s.each in rw r.is at h);
+}
+
+search_along : (x : Matrix) (start known added : List Literal) → IsSearch x start known → AreNew x known added → IsSearch x start (known ++ added)
+search_along x start known [] s n = rw append-nil s
+search_along x start known (l ∷ added) s n =
+    rw append_assoc at (search_along x start (known ++ l ∷ []) added (IsSearch-push x start known l s n.0.0 n.0.2) n.1)
+
+pub IsReached-search : (x : Matrix) (start old new : List Literal) → IsSearch x start old → IsReached x old new → IsSearch x start new
+IsReached-search x start old new s r = rw r.is (search_along x start old r.added s r.each)
+
+-- what is missing and what is known do not grow together
+budget : Matrix → List Literal → ℕ
+budget x known = missing known x + length known
+
+budget_along : (x : Matrix) (known added : List Literal) → AreNew x known added → budget x (known ++ added) ≤ budget x known
+unfolding budget
+budget_along x known [] n = rw append-nil (omega arith)
+budget_along x known (l ∷ added) n =
+    let f = n.0.0 in
+    let less = missing-lt known l n.0.1 f.clause f.of_clause x f.of_matrix in
+    let rest = budget_along x (known ++ l ∷ []) added n.1 in
+    let one = length-append known (l ∷ []) in
+    let e = append_assoc known (l ∷ []) added in
+    let h : missing ((known ++ l ∷ []) ++ added) x + length ((known ++ l ∷ []) ++ added) ≤ missing known x + length known = omega (arith, less, rest, one) in
+    rw e at h
+
+pub IsReached-budget : (x : Matrix) (old new : List Literal) → IsReached x old new → missing new x + length new ≤ missing old x + length old
+unfolding budget
+IsReached-budget x old new r = rw r.is (budget_along x old r.added r.each)
+
+pub IsReached-longer : (x : Matrix) (old new : List Literal) → IsReached x old new → length old ≤ length new
+IsReached-longer x old new r = rw r.is (omega (arith, length-append old r.added))
+
+
+pub IsReached-within : (x : Matrix) (old new : List Literal) → IsReached x old new → IsWithin old new
+IsReached-within x old new r l h = rw r.is (Contains-append_left old r.added l h)
+
+pub IsKept-refl : (s : Slots) (known : List Literal) (pairs : List (Option Pair)) → IsKept s known pairs pairs
+IsKept-refl s known pairs = record {
+    same_length = refl;
+    unpaired = λ b e. e;
+    floors = λ few within all. all;
+}
+
+-- what is kept under more literals is kept under fewer
+pub IsKept-trans : (s : Slots) (known more : List Literal) (a b c : List (Option Pair)) → IsWithin known more → IsKept s known a b → IsKept s more b c → IsKept s known a c
+IsKept-trans s known more a b c w k l = record {
+    same_length = l.same_length ∙ k.same_length;
+    unpaired = λ n e. k.unpaired n (l.unpaired n e);
+    floors = λ few within all. l.floors few (λ m h. w m (within m h)) (k.floors few within all);
+}
+
+start_watch : (s : Slots) (head : ℕ) (lit : Literal) (known : List Literal) (pairs : List (Option Pair)) (rows : List (List ℕ)) → IsReady s head known pairs rows → slice_get known head ≡ Some lit → (at' : ℕ) (c : Clause) (p : Pair) → slice_get pairs at' ≡ Some (Some p) → IsWatched (take head known) known c p → IsWatched (take (suc head) known) known c p ⊎ (IsFrom (row_of rows (negation lit)) 0 at' × IsWatched (take head known) known c p)
+start_watch s head lit known pairs rows r h at' c p e g =
+    let covered = r.covered at' p e in
+    elim (Literal-cases p.first (negation lit)) [
+        inl q ↦ inr (rw q at covered.0, g)
+      | inr n ↦ elim (Literal-cases p.second (negation lit)) [
+            inl q ↦ inr (rw q at covered.1, g)
+          | inr m ↦ inl (rw (take-slice_get known head lit h) (IsWatched-apart (take head known) known lit c p n m g))
+        ]
+    ]
+
+pub IsReady-start : (s : Slots) (head : ℕ) (lit : Literal) (known : List Literal) (pairs : List (Option Pair)) (rows : List (List ℕ)) → IsReady s head known pairs rows → slice_get known head ≡ Some lit → IsWorking s head lit 0 known pairs rows
+IsReady-start s head lit known pairs rows r h = record {
+    is_head = h;
+    consistent = r.consistent;
+    covered = r.covered;
+    watched = λ at' c p e f. start_watch s head lit known pairs rows r h at' c p f (r.watched at' c p e f);
+}
+
+pub IsWorking-end : (s : Slots) (head : ℕ) (lit : Literal) (i : ℕ) (known : List Literal) (pairs : List (Option Pair)) (rows : List (List ℕ)) → IsWorking s head lit i known pairs rows → length (row_of rows (negation lit)) ≤ i → IsReady s (head + 1) known pairs rows
+IsWorking-end s head lit i known pairs rows w past = record {
+    consistent = w.consistent;
+    covered = w.covered;
+    watched = λ at' c p e f. elim (w.watched at' c p e f) [
+        inl d ↦ rw add-one d
+      | inr r ↦
+            let inside = slice_get-in (row_of rows (negation lit)) r.0.0 at' r.0.2 in
+            absurd (omega (arith, inside, past, r.0.1))
+    ];
+}
+
+-- where all is worked off, all clauses are settled
+pub settled_store : (s : Slots) (known root : List Literal) (pairs : List (Option Pair)) (singles : List ℕ) → (HasOpposites known → ⊥) → AllWatched known known s pairs → AreListed s pairs singles → IsWithin root known → AreTrue s singles (length singles) root → AllSettled known (filled s)
+settled_store s known root pairs singles consistent watched listed within true' c h =
+    let n = filled-cases s c h in
+    let inside = slice_get-in s n.0 (Some c) n.1 in
+    let o = slice_get-there pairs n.0 (rw listed.same_length inside) in
+    settled_slot s known root pairs singles consistent watched listed within true' c n.0 n.1 o.0 o.1
+  where
+    settled_slot : (s : Slots) (known root : List Literal) (pairs : List (Option Pair)) (singles : List ℕ) → (HasOpposites known → ⊥) → AllWatched known known s pairs → AreListed s pairs singles → IsWithin root known → AreTrue s singles (length singles) root → (c : Clause) (n : ℕ) → Holds s n c → (o : Option Pair) → slice_get pairs n ≡ Some o → IsSettled known c
+    settled_slot s known root pairs singles consistent watched listed within true' c n e None f =
+        let j = slice_get-Contains singles n (listed.listed n c e f) in
+        let single = true' j.0 n c (slice_get-in singles j.0 n j.1) j.1 e in
+        IsSingle-settled known c consistent (listed.short n c (listed.listed n c e f) e) (record { literal = single.literal; is_in = single.is_in; is_known = within single.literal single.is_known })
+    settled_slot s known root pairs singles consistent watched listed within true' c n e (Some p) f = IsWatched-settled known c p consistent (watched n c p e f)

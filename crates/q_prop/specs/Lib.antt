@@ -1,0 +1,8 @@
+pub mod Marks
+pub mod Slots
+pub mod Views
+pub mod Rows
+pub mod Watches
+pub mod Working
+pub mod Chains
+pub mod Search

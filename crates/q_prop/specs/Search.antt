@@ -1,0 +1,35 @@
+-- What the parts of the search for a conflict answer.
+use Rattle.std.specs.Prelude.{◌≡◌, ◌≢◌, ◌++◌, List, Option, None, Some, map, Contains}
+use Rattle.q_logic.specs.Literals.{Literal, negation}
+use Rattle.q_logic.specs.Formulas.{Clause, Matrix}
+use Rattle.q_prop.specs.Chains.{IsFalsified, IsUnit, IsForced, IsChain, HasOpposites, HasFalsified}
+
+-- two literals of the clause are not false
+pub record IsOpen (known : List Literal) (c : Clause) : Type 0 where
+  pub first : Literal
+  pub second : Literal
+  pub has_first : Contains c first
+  pub has_second : Contains c second
+  pub differ : first ≢ second
+  pub first_open : Contains known (negation first) → ⊥
+  pub second_open : Contains known (negation second) → ⊥
+
+-- the clause is not falsified and forces no new literal
+pub record IsSettled (known : List Literal) (c : Clause) : Type 0 where
+  pub not_falsified : IsFalsified known c → ⊥
+  pub nothing_new : (l : Literal) → Contains c l → IsUnit known c l → Contains known l
+
+abbrev pub AllSettled : List Literal → Matrix → Type 0
+AllSettled known x = (c : Clause) → Contains x c → IsSettled known c
+
+-- what the literals seen so far are, by the one that is left
+abbrev pub IsLeft : List Literal → Clause → Option Literal → Type 0
+IsLeft known seen None = IsFalsified known seen
+IsLeft known seen (Some l) = Contains seen l × (Contains known (negation l) → ⊥) × IsUnit known seen l
+
+-- the known literals are a chain without opposites
+pub record IsSearch (x : Matrix) (start known : List Literal) : Type 0 where
+  pub added : List Literal
+  pub is : known ≡ start ++ added
+  pub chain : IsChain x start added
+  pub consistent : HasOpposites known → ⊥

@@ -1,0 +1,12 @@
+//! The checker's clause store: clauses in slots, and what unit propagation shows of them, by watched
+//! literals, kept from call to call.
+#![tactic(auto)]
+
+mod clauses;
+mod propagation;
+mod rows;
+mod store;
+mod trail;
+mod watches;
+
+pub use store::Store;

@@ -1,0 +1,100 @@
+ghost use Rattle.std.specs.Prelude.{◌≡◌, ◌↔◌, ◌<◌, ◌+◌, ◌-◌, ◌++◌, ◌∷◌, [], length, slice_get, OnOk, OnErr, Some, Contains, IsTrue, ℕ, slice_index_or, vec_len, false, take};
+ghost use Rattle.q_logic.specs.Literals.{pack};
+
+use q_logic::{Lit, NoMemory};
+use std::alloc::Global;
+use std::marker::Model;
+
+/// The literals that are known, in the order in which they came.
+#[derive(Drop)]
+pub struct Trail {
+    lits: Vec<Lit>,
+    marks: Vec<bool>,
+}
+
+impl Model for Trail {
+    ghost use Rattle.std.specs.Prelude.{List};
+    ghost use Rattle.q_logic.specs.Literals.{Literal};
+    ghost use Rattle.q_prop.specs.Marks.{IsMarked, IsOnce};
+
+    ghost Value = { List Literal };
+
+    ghost view = { λ t. t.lits.items };
+
+    ghost invariant = { λ t. IsMarked t.marks.items t.lits.items × IsOnce t.lits.items };
+}
+
+impl Trail {
+    pub fn new(alloc: Global) -> Trail
+        ensures { result ≡ [] }
+    {
+        Trail {
+            lits: Vec::new(alloc),
+            marks: Vec::new(alloc),
+        }
+    }
+
+    pub fn len(&self) -> usize
+        ensures { result ≡ length self.now }
+    {
+        self.lits.len()
+    }
+
+    pub fn at(&self, place: usize) -> Lit
+        requires { place < length self.now }
+        ensures { slice_get self.now place ≡ Some result }
+    {
+        self.lits[place]
+    }
+
+    pub fn has(&self, lit: Lit) -> bool
+        ensures { IsTrue result ↔ Contains self.now lit }
+    {
+        is_marked(&self.marks, lit)
+    }
+
+    pub fn push(&mut self, lit: Lit) -> Result<(), NoMemory>
+        requires { Contains self.old lit → ⊥ }
+        ensures ok { OnOk result (self.new ≡ self.old ++ lit ∷ []) }
+        ensures err { OnErr result (self.new ≡ self.old) }
+    {
+        make_room(&mut self.marks, lit)?;
+        self.lits.push(lit)?;
+        self.marks[lit.index()] = true;
+        Ok(())
+    }
+
+    // Takes the last literal back, which stands there once.
+    fn pop(&mut self)
+        ensures { self.new ≡ take (length self.old - 1) self.old }
+    {
+        if let Some(lit) = self.lits.pop() {
+            self.marks[lit.index()] = false;
+        }
+    }
+
+    pub fn truncate(&mut self, end: usize)
+        ensures { self.new ≡ take end self.old }
+    {
+        while self.len() > end {
+            self.pop();
+        }
+    }
+}
+
+fn is_marked(marks: &[bool], lit: Lit) -> bool
+    ensures { result ≡ slice_index_or marks.now (pack lit) false }
+{
+    marks.get(lit.index()).copied().unwrap_or(false)
+}
+
+fn make_room(marks: &mut Vec<bool>, lit: Lit) -> Result<(), NoMemory>
+    ensures room { OnOk result (pack lit < vec_len marks.new) }
+    ensures same { (k : ℕ) → slice_index_or marks.new.items k false ≡ slice_index_or marks.old.items k false }
+{
+    let end = lit.index() + 1;
+    if marks.len() < end {
+        marks.resize(end, false)?;
+    }
+    Ok(())
+}
