@@ -4,6 +4,8 @@ use Rattle.std.proofs.lemmas.List.Elements.{Contains-append_left, Contains-appen
 use Rattle.std.proofs.lemmas.List.{take_more}
 use Rattle.q_logic.specs.Literals.{Literal, negation}
 use Rattle.q_logic.specs.Formulas.{Clause, Matrix}
+use Rattle.q_logic.specs.Propagation.{Implied}
+use Rattle.q_prop.proofs.Definition.{is_implied, implied_of}
 use Rattle.q_prop.specs.Chains.{IsUnit, IsFalsified, IsForced, IsChain, HasOpposites, HasFalsified, IsConflict, IsImplied}
 use Rattle.q_prop.proofs.Members.{Contains-along, Contains-nil, Contains-take, Contains-map, Contains-map_cases}
 use Rattle.q_prop.proofs.Literals.{negation-negation, Literal-cases, ℕ-cases}
@@ -91,21 +93,21 @@ pub reached_chain : (x : Matrix) (old new : List Literal) → IsChain x [] old �
 reached_chain x old new h r = rw r.is (IsChain-append x [] old r.added h (AreNew-chain x old r.added r.each))
 
 -- where a root literal is one of the clause, or two of its literals are opposites
-pub clash_implied : (x : Matrix) (root : List Literal) (c : Clause) → IsChain x [] root → Clashes root c → IsImplied x c
-clash_implied x root c chain (inl h) = record {
+clash_implied-told : (x : Matrix) (root : List Literal) (c : Clause) → IsChain x [] root → Clashes root c → IsImplied x c
+clash_implied-told x root c chain (inl h) = record {
     added = root;
     chain = IsChain-more x [] (map negation c) root (λ l m. absurd (Contains-nil l m)) chain;
     conflict = inl (h.0, Contains-append_right (map negation c) root h.0 h.2, Contains-append_left (map negation c) root (negation h.0) (Contains-map negation c h.0 h.1));
 }
-clash_implied x root c chain (inr o) = record {
+clash_implied-told x root c chain (inr o) = record {
     added = [];
     chain = tt;
     conflict = inl (rw append-nil o);
 }
 
 -- where a clause is falsified above the root
-pub falsified_implied : (x : Matrix) (root known new : List Literal) (c : Clause) → IsChain x [] root → IsAssumed root c known → IsReached x known new → HasFalsified x new → IsImplied x c
-falsified_implied x root known new c chain assumed r f =
+falsified_implied-told : (x : Matrix) (root known new : List Literal) (c : Clause) → IsChain x [] root → IsAssumed root c known → IsReached x known new → HasFalsified x new → IsImplied x c
+falsified_implied-told x root known new c chain assumed r f =
     let start = map negation c in
     let within : IsWithin known (start ++ root) = λ l h. elim (assumed.no_other l h) [
         inl a ↦ Contains-append_right start root l a
@@ -124,8 +126,8 @@ falsified_implied x root known new c chain assumed r f =
     }
 
 -- a falsified clause at the root
-pub root_implied : (x : Matrix) (root : List Literal) (c : Clause) → IsChain x [] root → HasFalsified x root → IsImplied x c
-root_implied x root c chain f = record {
+root_implied-told : (x : Matrix) (root : List Literal) (c : Clause) → IsChain x [] root → HasFalsified x root → IsImplied x c
+root_implied-told x root c chain f = record {
     added = root;
     chain = IsChain-more x [] (map negation c) root (λ l m. absurd (Contains-nil l m)) chain;
     conflict = inr (f.0, f.1, λ k m. Contains-append_right (map negation c) root (negation k) (f.2 k m));
@@ -155,8 +157,8 @@ assumed_within root c known a l h =
     Contains-along known (negation r.0) l r.2 (a.assumed r.0 r.1)
 
 -- what the search above the root answers
-pub search_not_implied : (s : Slots) (root known new : List Literal) (pairs : List (Option Pair)) (rows : List (List ℕ)) (singles : List ℕ) (c : Clause) → AreListed s pairs singles → AreTrue s singles (length singles) root → IsWithin root known → IsAssumed root c known → IsReached (filled s) known new → IsReady s (length new) new pairs rows → IsImplied (filled s) c → ⊥
-search_not_implied s root known new pairs rows singles c listed true' long a r ready =
+search_not_implied-told : (s : Slots) (root known new : List Literal) (pairs : List (Option Pair)) (rows : List (List ℕ)) (singles : List ℕ) (c : Clause) → AreListed s pairs singles → AreTrue s singles (length singles) root → IsWithin root known → IsAssumed root c known → IsReached (filled s) known new → IsReady s (length new) new pairs rows → IsImplied (filled s) c → ⊥
+search_not_implied-told s root known new pairs rows singles c listed true' long a r ready =
     let more = IsReached-within (filled s) known new r in
     let all : take (length new) new ≡ new = take_all (length new) new (omega arith) in
     settled_not_implied (filled s) new c
@@ -266,3 +268,17 @@ if_ok_map A (Err e) b f = tt
 
 pub truncated : (old new : List Literal) → IsLonger old new → take (length old) new ≡ old
 truncated old new h = rw h.1 (take-front old h.0 (length old) (omega arith) ∙ take_all (length old) old (omega arith))
+
+-- The same in the words of the definition.
+pub clash_implied : (x : Matrix) (root : List Literal) (c : Clause) → IsChain x [] root → Clashes root c → Implied x c
+clash_implied x root c chain clash = is_implied x c (clash_implied-told x root c chain clash)
+
+pub falsified_implied : (x : Matrix) (root known new : List Literal) (c : Clause) → IsChain x [] root → IsAssumed root c known → IsReached x known new → HasFalsified x new → Implied x c
+falsified_implied x root known new c chain assumed r f = is_implied x c (falsified_implied-told x root known new c chain assumed r f)
+
+pub root_implied : (x : Matrix) (root : List Literal) (c : Clause) → IsChain x [] root → HasFalsified x root → Implied x c
+root_implied x root c chain f = is_implied x c (root_implied-told x root c chain f)
+
+pub search_not_implied : (s : Slots) (root known new : List Literal) (pairs : List (Option Pair)) (rows : List (List ℕ)) (singles : List ℕ) (c : Clause) → AreListed s pairs singles → AreTrue s singles (length singles) root → IsWithin root known → IsAssumed root c known → IsReached (filled s) known new → IsReady s (length new) new pairs rows → Implied (filled s) c → ⊥
+search_not_implied s root known new pairs rows singles c listed true' long a r ready i =
+    search_not_implied-told s root known new pairs rows singles c listed true' long a r ready (implied_of (filled s) c i)

@@ -1,7 +1,8 @@
 ghost use Rattle.std.specs.Prelude.{◌≡◌, ◌↔◌, ◌<◌, ◌≤◌, ◌+◌, ◌-◌, [], length, None, Some, Contains, IsTrue, ℕ, Option, false, MatchOption, MatchBool, IfOk};
 ghost use Rattle.q_logic.specs.Formulas.{Clause};
 ghost use Rattle.q_logic.specs.Literals.{negation};
-ghost use Rattle.q_prop.specs.Chains.{HasFalsified, HasOpposites, IsImplied, IsChain};
+ghost use Rattle.q_prop.specs.Chains.{HasFalsified, HasOpposites, IsChain};
+ghost use Rattle.q_logic.specs.Propagation.{Implied};
 ghost use Rattle.q_prop.specs.Rows.{row_of};
 ghost use Rattle.q_prop.specs.Slots.{filled, without, Holds};
 ghost use Rattle.q_prop.specs.Watches.{IsShort, AllWatched, IsSingle};
@@ -231,7 +232,7 @@ pub fn search(
     ensures longer { IsLonger trail.old trail.new }
     ensures kept { IsKept clauses.now trail.old pairs.old.items pairs.new.items }
     ensures covered { IsCovered pairs.new.items rows.new }
-    ensures exact { IfOk result (λ yes. IsTrue yes ↔ IsImplied (filled (without clauses.now skip)) lits.now) }
+    ensures exact { IfOk result (λ yes. IsTrue yes ↔ Implied (filled (without clauses.now skip)) lits.now) }
 {
     let base = trail.len();
     if assume(trail, lits)? {
@@ -255,7 +256,7 @@ pub fn query(
     ensures same { trail.new ≡ trail.old }
     ensures kept { IsKept clauses.now trail.old pairs.old.items pairs.new.items }
     ensures covered { IsCovered pairs.new.items rows.new }
-    ensures exact { IfOk result (λ yes. IsTrue yes ↔ IsImplied (filled (without clauses.now skip)) lits.now) }
+    ensures exact { IfOk result (λ yes. IsTrue yes ↔ Implied (filled (without clauses.now skip)) lits.now) }
 {
     let base = trail.len();
     let result = search(alloc, clauses, skip, pairs, rows, trail, lits, singles);
@@ -281,7 +282,7 @@ pub fn query_anew(
     ensures consistent { HasOpposites trail.new → ⊥ }
     ensures kept { IsKept clauses.now [] pairs.old.items pairs.new.items }
     ensures covered { IsCovered pairs.new.items rows.new }
-    ensures exact { IfOk result (λ yes. IsTrue yes ↔ IsImplied (filled (without clauses.now skip)) lits.now) }
+    ensures exact { IfOk result (λ yes. IsTrue yes ↔ Implied (filled (without clauses.now skip)) lits.now) }
 {
     trail.truncate(0);
     if settle(alloc, clauses, skip, pairs, rows, singles, 0, trail, 0)? {

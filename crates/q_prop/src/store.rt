@@ -1,7 +1,7 @@
-ghost use Rattle.std.specs.Prelude.{◌≡◌, ◌↔◌, ◌<◌, ◌+◌, ◌-◌, ◌⊎◌, ◌++◌, ◌∷◌, [], length, slice_set, OnOk, OnErr, None, Some, Contains, IsTrue, Option, MatchOption, IfOk};
+ghost use Rattle.std.specs.Prelude.{◌≡◌, ◌↔◌, ◌<◌, ◌+◌, ◌-◌, ◌⊎◌, ◌++◌, ◌∷◌, [], length, slice_set, OnOk, OnErr, None, Some, Contains, IsTrue, Option, MatchOption, IfOk, ℕ};
 ghost use Rattle.q_logic.specs.Formulas.{Clause};
-ghost use Rattle.q_prop.specs.Chains.{IsImplied};
-ghost use Rattle.q_prop.specs.Slots.{filled, without, Holds};
+ghost use Rattle.q_logic.specs.Propagation.{Implied};
+ghost use Rattle.q_prop.specs.Slots.{filled, without, Holds, IsPut};
 ghost use Rattle.q_prop.specs.Working.{IsCovered};
 
 use crate::clauses::Clauses;
@@ -66,7 +66,7 @@ impl Store {
         self.clauses.get(at)
     }
 
-    /// Empties a slot.
+    /// Empties a slot. Takes no memory.
     pub fn delete(&mut self, at: usize)
         requires { at < length self.old }
         ensures { self.new ≡ slice_set self.old at None }
@@ -86,7 +86,7 @@ impl Store {
     /// Whether a chain from the negations of the literals conflicts, over the slots but one.
     pub fn implied(&mut self, lits: &[Lit], skip: Option<usize>) -> Result<bool, NoMemory>
         ensures same { self.new ≡ self.old }
-        ensures exact { IfOk result (λ yes. IsTrue yes ↔ IsImplied (filled (without self.old skip)) lits.now) }
+        ensures exact { IfOk result (λ yes. IsTrue yes ↔ Implied (filled (without self.old skip)) lits.now) }
     {
         let (head, done) = (self.head, self.done);
         self.head = 0;
@@ -103,9 +103,30 @@ impl Store {
         query(self.alloc, &self.clauses, skip, &mut self.pairs, &mut self.rows, &mut self.trail, lits, &self.singles)
     }
 
-    /// Puts a clause into a new slot.
+    /// A slot with this clause.
+    pub fn find(&self, lits: &[Lit]) -> Option<usize>
+        ensures { MatchOption result ((at : ℕ) → Holds self.now at lits.now → ⊥) (λ at. Holds self.now at lits.now) }
+    {
+        for at in 0..self.slots() {
+            if self.stands_at(at, lits) {
+                return Some(at);
+            }
+        }
+        None
+    }
+
+    fn stands_at(&self, at: usize, lits: &[Lit]) -> bool
+        ensures { IsTrue result ↔ Holds self.now at lits.now }
+    {
+        match self.slot(at) {
+            Some(clause) => same_clause(clause, lits),
+            None => false,
+        }
+    }
+
+    /// Puts a clause into an empty slot, which may be a new one.
     pub fn add(&mut self, lits: &[Lit]) -> Result<usize, NoMemory>
-        ensures ok { IfOk result (λ at. (at ≡ length self.old) × (self.new ≡ self.old ++ Some lits.now ∷ [])) }
+        ensures ok { IfOk result (λ at. IsPut self.old at lits.now self.new) }
         ensures err { OnErr result (self.new ≡ self.old) }
     {
         let at = self.clauses.len();
@@ -188,4 +209,18 @@ fn put_short(
     pairs.push_reserved(None);
     singles.push_reserved(at);
     Ok(())
+}
+
+fn same_clause(clause: &[Lit], lits: &[Lit]) -> bool
+    ensures { IsTrue result ↔ (clause.now ≡ lits.now) }
+{
+    if clause.len() != lits.len() {
+        return false;
+    }
+    for i in 0..lits.len() {
+        if !clause[i].is(lits[i]) {
+            return false;
+        }
+    }
+    true
 }

@@ -80,3 +80,9 @@ invariant_of-self-2 c =
     ( rooted_kept i.clauses c.settle.new.pairs.items c.query.new.pairs.items c.settle.new.rows c.query.new.rows i.singles.items (length i.singles.items) c.settle.new.trail h c.query.ensures.kept c.query.ensures.covered
     , omega arith
     )
+
+pub returns-then-not-stands-clause-exact : goal.returns-then-not-stands-clause-exact
+returns-then-not-stands-clause-exact c = rw (← c.self.view_is) c.query_anew.ensures.exact
+
+pub returns-clause-exact : goal.returns-clause-exact
+returns-clause-exact c = rw (← c.self.view_is) c.query.ensures.exact
