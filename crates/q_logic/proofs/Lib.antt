@@ -19,3 +19,4 @@ pub mod Membership
 pub mod ClauseSets
 pub mod Sorting
 pub mod StepForms
+pub mod Parts

@@ -14,3 +14,5 @@ pub mod Undos
 pub mod Limits
 pub mod Clauses
 pub mod StepForms
+pub mod Sweep
+pub mod Measure

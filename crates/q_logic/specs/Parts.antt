@@ -2,7 +2,8 @@
 use Rattle.std.specs.Prelude.{◌≡◌, ◌≢◌, ◌⊎◌, ℕ, ◌≤◌, ◌<◌, ◌^◌, List, [], ◌∷◌, length, slice_range}
 use Rattle.std.specs.List.{AllByRecursion}
 use Rattle.q_logic.specs.Literals.{Literal, IsBelow}
-use Rattle.q_logic.specs.Formulas.{Matrix, Prefix}
+use Rattle.q_logic.specs.Formulas.{Matrix, Prefix, PrenexFormula}
+use Rattle.q_logic.specs.Prefixes.{IsFormula}
 use Rattle.std.proofs.Common.{zero, suc}
 
 -- the clauses between the ends
@@ -32,6 +33,12 @@ pub record AreLawful (prefix : Prefix) (lits : List Literal) (ends : List ℕ) :
   pub in_order : AreEnds 0 ends (length lits)
   pub ordered : AllByRecursion (ArePairs IsBelow) (clauses_between lits 0 ends)
   pub bound : AllByRecursion (λ l. IsBound prefix l.var) lits
+
+-- a formula that the code may hold: its variables are in range, and its clauses in literal order
+pub record IsProper (F : PrenexFormula) : Type 0 where
+  pub formula : IsFormula F
+  pub ranges : AllByRecursion (λ q. (1 ≤ q.var) × (q.var < 2 ^ 31)) F.prefix
+  pub ordered : AllByRecursion (ArePairs IsBelow) F.matrix
 
 -- where the clause at a place begins
 abbrev pub start_of : ℕ → List ℕ → ℕ → ℕ

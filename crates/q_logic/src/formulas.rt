@@ -1,5 +1,7 @@
 ghost use Rattle.std.specs.Prelude.{◌≡◌, ◌≤◌, ◌<◌, length, slice_get, slice_index};
-ghost use Rattle.q_logic.specs.Parts.{AreEnds, AreLawful, clauses_between, start_of};
+ghost use Rattle.q_logic.specs.Literals.{IsBelow};
+ghost use Rattle.q_logic.specs.Parts.{AreEnds, AreLawful, ArePairs, IsProper, clauses_between, start_of};
+ghost use Rattle.q_logic.specs.Steps.{Within};
 
 use crate::literals::Lit;
 use std::marker::Model;
@@ -40,27 +42,32 @@ impl Model for Formula {
 impl Formula {
     pub fn from_parts(prefix: Vec<Bound>, lits: Vec<Lit>, ends: Vec<usize>) -> Formula
         requires { AreLawful prefix.items lits.items ends.items }
-        ensures { result ≡ record { prefix = prefix.items; matrix = clauses_between lits.items 0 ends.items } }
+        ensures value { result ≡ record { prefix = prefix.items; matrix = clauses_between lits.items 0 ends.items } }
+        ensures proper { IsProper result }
     {
         Formula { prefix, lits, ends }
     }
 
     pub fn prefix(&self) -> &[Bound]
-        ensures { result.now ≡ self.now.prefix }
+        ensures value { result.now ≡ self.now.prefix }
+        ensures proper { IsProper self.now }
     {
         &self.prefix
     }
 
     /// The number of clauses.
     pub fn clauses(&self) -> usize
-        ensures { result ≡ length self.now.matrix }
+        ensures value { result ≡ length self.now.matrix }
+        ensures proper { IsProper self.now }
     {
         self.ends.len()
     }
 
     pub fn clause(&self, at: usize) -> &[Lit]
         requires { at < length self.now.matrix }
-        ensures { slice_get self.now.matrix at ≡ Some result.now }
+        ensures value { slice_get self.now.matrix at ≡ Some result.now }
+        ensures ordered { ArePairs IsBelow result.now }
+        ensures bound { Within self.now.prefix result.now }
     {
         piece(&self.lits, &self.ends, at)
     }

@@ -8,6 +8,7 @@ mod limits;
 mod literals;
 mod lits;
 mod memory;
+mod rule_bounds;
 mod steps;
 
 pub use formulas::{Bound, Formula, Quant};
@@ -19,4 +20,5 @@ pub use limits::Limits;
 pub use literals::Lit;
 pub use lits::{Lits, sort_clause};
 pub use memory::NoMemory;
+pub use rule_bounds::Bounds;
 pub use steps::{Kind, Step};
