@@ -1,10 +1,10 @@
 -- Parts that are lawful make a formula.
-use Rattle.std.proofs.Common.{◌≡◌, ◌≢◌, ℕ, zero, suc, ◌<◌, Bool, true, false, cond, eqb, List, [], ◌∷◌, length, take, drop, slice_get, slice_range, Some, ◌⊎◌, inl, inr, refl, sym, subst, arith, not-suc-le-zero, le_of_suc-le-suc}
+use Rattle.std.proofs.Common.{◌≡◌, ◌≢◌, ℕ, zero, suc, Bool, true, false, cond, eqb, List, [], ◌∷◌, take, drop, slice_get, slice_range, Some, inl, inr, refl, sym, subst, arith}
 use Rattle.std.specs.List.{AllByRecursion}
 use Rattle.q_logic.specs.declared.formulas.Bound.{Bound}
 use Rattle.q_logic.specs.Literals.{Literal, IsBelow}
-use Rattle.q_logic.specs.Formulas.{Clause, Matrix, Prefix, IsIn, PrenexFormula}
-use Rattle.q_logic.specs.Prefixes.{is_bound, Distinct, Closed, IsFormula}
+use Rattle.q_logic.specs.Formulas.{Clause, Prefix, IsIn, PrenexFormula}
+use Rattle.q_logic.specs.Prefixes.{is_bound, Distinct}
 use Rattle.q_logic.specs.Parts.{AreLawful, ArePairs, IsBound, IsProper, clauses_between}
 use Rattle.q_logic.specs.Steps.{Within}
 
@@ -61,10 +61,10 @@ pub lawful-proper : (P : Prefix) (lits : List Literal) (ends : List ℕ) → Are
 lawful-proper P lits ends h =
     record {
       formula =
-        record {
-          distinct = pairs-Distinct P h.distinct;
-          closed = λ D m k n. IsBound-is_bound P k.var (AllByRecursion-IsIn (λ (l : Literal). IsBound P l.var) lits k h.bound (IsIn-clauses_between lits 0 ends D k m n));
-        };
+          record {
+            distinct = pairs-Distinct P h.distinct;
+            closed = λ D m k n. IsBound-is_bound P k.var (AllByRecursion-IsIn (λ (l : Literal). IsBound P l.var) lits k h.bound (IsIn-clauses_between lits 0 ends D k m n));
+          };
       ranges = h.ranges;
       ordered = h.ordered;
     }
