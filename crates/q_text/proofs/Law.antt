@@ -30,7 +30,7 @@ lines-split : (n : ℕ) (ls : List (List ℕ)) → lines_tokens n ls ≡ line_to
 lines-split n [] = refl
 lines-split n (l ∷ ls) = refl
 
-abbrev at : ℕ → Shape → Tokens
+abbrev pub at : ℕ → Shape → Tokens
 at n s = record { line = n; shape = s }
 
 -- the word that ends is the only token there
@@ -94,7 +94,7 @@ grown-in_line C b h = split (b == 110) Cn (Word Other) refl refl
 grown-in_line Cn b h = split (b == 102) (Word Cnf) (Word Other) refl refl
 grown-in_line (Word k) b h = refl
 
-shape-in_line : (s : Shape) (w : List ℕ) → after_blank s ≡ Between → after_blank (shape_after s w) ≡ Between
+pub shape-in_line : (s : Shape) (w : List ℕ) → after_blank s ≡ Between → after_blank (shape_after s w) ≡ Between
 shape-in_line s [] h = h
 shape-in_line s (b ∷ w) h = shape-in_line (grown s b) w (grown-in_line s b h)
 

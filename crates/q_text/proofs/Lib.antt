@@ -1,3 +1,4 @@
 pub mod Words
 pub mod Law
+pub mod Spelling
 pub mod Decimals

@@ -56,9 +56,9 @@ letter_stays k c bs = word_stays bs
 
 -- behind a byte that is no digit, no minus and no c there is no number
 no_number : (b c : ℕ) (bs : List ℕ) → is_digit b ≡ false → (b == 45) ≡ false → (b == 99) ≡ false → kind_of (b ∷ c ∷ bs) ≡ Other
-no_number b c [] d m e = simp (d, m, e)
+no_number b c [] d m e = simp (d, m)
 no_number b c (x ∷ []) d m e = simp (d, m, e)
-no_number b c (x ∷ y ∷ bs) d m e = simp (d, m, e)
+no_number b c (x ∷ y ∷ bs) d m e = simp (d, m)
 
 record IsOther (s : Shape) (c : ℕ) (bs : List ℕ) : Type 0 where
   is : kind_in (shape_after s (c ∷ bs)) ≡ Some Other

@@ -68,6 +68,14 @@ listed (Some t) = t ∷ []
 abbrev pub handed : Tokens → ℕ → Option Token
 handed t b = if is_separator b then token_in (kind_in t.shape) t.line else None
 
+-- the token that the end hands out
+abbrev pub handed_at_end : Tokens → Option Token
+handed_at_end t = token_in (kind_in t.shape) t.line
+
+-- 1 and the LF bytes so far
+abbrev pub line_of : Tokens → ℕ
+line_of t = t.line
+
 abbrev pub after : Tokens → ℕ → Tokens
 after t b =
     if b == 10 then record { line = t.line + 1; shape = Start }

@@ -25,3 +25,28 @@ pub fn digits(number: i64) -> usize
     let mut buffer = Buffer::new();
     buffer.format(number).len()
 }
+
+#[cfg(test)]
+mod tests {
+    use super::*;
+    use std::test::Fail;
+
+    #[test]
+    fn decimal_texts(rt: HostRuntime) -> Result<(), Fail> {
+        let cases = [
+            (0, "0"),
+            (-1, "-1"),
+            (16_777_215, "16777215"),
+            (-2_147_483_647, "-2147483647"),
+            (i64::MAX, "9223372036854775807"),
+            (i64::MIN, "-9223372036854775808"),
+        ];
+        for (number, expected) in cases {
+            let mut text = Vec::new(rt.alloc());
+            put_number(&mut text, number).expect(&rt, "memory");
+            assert_eq!(rt; text.as_slice(), expected.as_bytes());
+            assert_eq!(rt; digits(number), expected.len());
+        }
+        Ok(())
+    }
+}
