@@ -1,0 +1,69 @@
+-- What the calls of a store of named files do, and those of a sink.
+use Rattle.std.specs.Prelude.{◌≡◌, ◌≢◌, ◌⊎◌, ◌<◌, ◌≤◌, ◌+◌, ◌-◌, ◌^◌, ℕ, min, List, [], ◌++◌, length, take, drop, Option, Some, unwrap_or}
+use Rattle.std.specs.Ordering.{nat_cmp}
+use Rattle.std.specs.Cmp.Lexicographic.{slice_cmp}
+use Rattle.std.specs.FinMap as map
+
+-- a finite map from names, as bytes, to bytes
+abbrev pub Disk : Type 0
+Disk = map.FinMap (slice_cmp nat_cmp) (List ℕ)
+
+-- the bytes of a name; one that is not held counts as a file of no bytes
+abbrev pub bytes_at : Disk → List ℕ → List ℕ
+bytes_at disk name = unwrap_or (map.get disk name) []
+
+-- each other name is as before
+abbrev pub OthersStay : List ℕ → Disk → Disk → Type 0
+OthersStay name before after = (q : List ℕ) → q ≢ name → map.get after q ≡ map.get before q
+
+-- a count rose in a call, or stands at its end
+abbrev pub Rose : ℕ → ℕ → Type 0
+Rose before now = min (before + 1) (2 ^ 64 - 1) ≤ now
+
+-- how often reading has failed, and how often creating or appending
+pub record FaultCounts : Type 0 where
+  pub read : ℕ
+  pub write : ℕ
+
+-- a read of n bytes from a place on
+pub record Reads (disk : Disk) (name : List ℕ) (place : ℕ) (old new : List ℕ) (n : ℕ) : Type 0 where
+  pub copied : take n new ≡ take n (drop place (bytes_at disk name))
+  pub left : n ≤ length (drop place (bytes_at disk name))
+  pub end : n ≡ 0 → 0 < length old → length (bytes_at disk name) ≤ place
+
+-- after a create that succeeded: the name holds no bytes
+pub record Empties (name : List ℕ) (before : Disk) (after : Option Disk) : Type 0 where
+  pub disk : Disk
+  pub told : after ≡ Some disk
+  pub bytes : map.get disk name ≡ Some []
+  pub others : OthersStay name before disk
+
+-- after one that failed: it is as before, or holds no bytes
+pub record MayEmpty (name : List ℕ) (before : Disk) (after : Option Disk) : Type 0 where
+  pub disk : Disk
+  pub told : after ≡ Some disk
+  pub bytes : (map.get disk name ≡ map.get before name) ⊎ (map.get disk name ≡ Some [])
+  pub others : OthersStay name before disk
+
+-- after an append: these bytes stand at the name's end
+pub record Appends (name more : List ℕ) (before : Disk) (after : Option Disk) : Type 0 where
+  pub disk : Disk
+  pub told : after ≡ Some disk
+  pub bytes : map.get disk name ≡ Some (bytes_at before name ++ more)
+  pub others : OthersStay name before disk
+
+-- after one that failed: a prefix of them stands there
+pub record AppendsPart (name more : List ℕ) (before : Disk) (after : Option Disk) : Type 0 where
+  pub disk : Disk
+  pub told : after ≡ Some disk
+  pub part : ℕ
+  pub bytes : bytes_at disk name ≡ bytes_at before name ++ take part more
+  pub others : OthersStay name before disk
+
+-- after a put
+abbrev pub GrowsBy : List ℕ → List ℕ → Option (List ℕ) → Type 0
+GrowsBy more before after = after ≡ Some (before ++ more)
+
+-- after one that failed: a prefix of the bytes was put
+abbrev pub GrowsByPart : List ℕ → List ℕ → Option (List ℕ) → Type 0
+GrowsByPart more before after = (part : ℕ) × (after ≡ Some (before ++ take part more))

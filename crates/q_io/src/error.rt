@@ -1,0 +1,33 @@
+ghost use Rattle.std.specs.Prelude.{◌≡◌};
+
+use std::alloc::{AllocError, AllocFailed};
+use thiserror::Error;
+
+/// What goes wrong with a file or a sink.
+#[derive(Clone, Copy, Debug, PartialEq, Eq, Error)]
+pub enum DeviceError {
+    #[error("the device failed")]
+    Failed,
+    #[error("no memory")]
+    NoMemory,
+}
+
+impl From<AllocError> for DeviceError {
+    ghost use Rattle.q_io.specs.declared.error.DeviceError.TheVariants.{NoMemory};
+
+    ghost from_gives = { λ _ e. e ≡ NoMemory };
+
+    fn from(_: AllocError) -> DeviceError {
+        DeviceError::NoMemory
+    }
+}
+
+impl<T: Drop> From<AllocFailed<T>> for DeviceError {
+    ghost use Rattle.q_io.specs.declared.error.DeviceError.TheVariants.{NoMemory};
+
+    ghost from_gives = { λ _ e. e ≡ NoMemory };
+
+    fn from(_: AllocFailed<T>) -> DeviceError {
+        DeviceError::NoMemory
+    }
+}

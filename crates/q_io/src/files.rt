@@ -1,0 +1,70 @@
+ghost use Rattle.std.specs.Prelude.{◌≡◌, ◌≤◌, ◌++◌, List, ℕ, Option, length, is_some, IfOk, OnOk, OnErr, IfSome, IsErrOf};
+ghost use Rattle.q_io.specs.Files.{Disk, Rose, Reads, Empties, MayEmpty, Appends, AppendsPart, GrowsBy, GrowsByPart};
+
+use crate::error::DeviceError;
+
+/// The last place that a read may begin at: no file is longer than is read of it.
+pub const LAST_PLACE: u64 = 1_099_511_627_776;
+
+/// Files by name. A call fails only where a count of faults rose in it, or stands at the last number
+/// that a u64 has; no count ever falls.
+pub trait Files {
+    /// The bytes of each name, where the store tells.
+    ghost held: { Self → Option Disk };
+
+    /// How often reading a name has failed.
+    ghost read_faults: { Self → List ℕ → ℕ };
+
+    /// How often creating or appending to a name has failed.
+    ghost write_faults: { Self → List ℕ → ℕ };
+
+    /// Copies bytes of the file from the place `at` on to the front of `buf`, and says how many.
+    fn read(&mut self, name: &str, at: u64, buf: &mut [u8]) -> Result<usize, DeviceError>
+        requires { at ≤ LAST_PLACE }
+        ensures within { IfOk result (λ n. n ≤ length buf.old) }
+        ensures bytes { IfOk result (λ n. IfSome (held self.old) (λ disk. Reads disk name.now at buf.old buf.new n)) }
+        ensures held { held self.new ≡ held self.old }
+        ensures cause { IsErrOf result DeviceError.Failed →
+            Rose (read_faults self.old name.now) (read_faults self.new name.now) }
+        ensures read_later { (q : List ℕ) → read_faults self.old q ≤ read_faults self.new q }
+        ensures write_later { (q : List ℕ) → write_faults self.old q ≤ write_faults self.new q };
+
+    /// Makes the file, or empties it.
+    fn create(&mut self, name: &str) -> Result<(), DeviceError>
+        ensures told { is_some (held self.new) ≡ is_some (held self.old) }
+        ensures empty { OnOk result (IfSome (held self.old) (λ disk. Empties name.now disk (held self.new))) }
+        ensures err { OnErr result (IfSome (held self.old) (λ disk. MayEmpty name.now disk (held self.new))) }
+        ensures cause { IsErrOf result DeviceError.Failed →
+            Rose (write_faults self.old name.now) (write_faults self.new name.now) }
+        ensures read_later { (q : List ℕ) → read_faults self.old q ≤ read_faults self.new q }
+        ensures write_later { (q : List ℕ) → write_faults self.old q ≤ write_faults self.new q };
+
+    /// Puts all the bytes at the file's end. A name that is not held counts as an empty file.
+    fn append(&mut self, name: &str, bytes: &[u8]) -> Result<(), DeviceError>
+        ensures told { is_some (held self.new) ≡ is_some (held self.old) }
+        ensures all { OnOk result (IfSome (held self.old) (λ disk. Appends name.now bytes.now disk (held self.new))) }
+        ensures err { OnErr result
+            (IfSome (held self.old) (λ disk. AppendsPart name.now bytes.now disk (held self.new))) }
+        ensures cause { IsErrOf result DeviceError.Failed →
+            Rose (write_faults self.old name.now) (write_faults self.new name.now) }
+        ensures read_later { (q : List ℕ) → read_faults self.old q ≤ read_faults self.new q }
+        ensures write_later { (q : List ℕ) → write_faults self.old q ≤ write_faults self.new q };
+}
+
+/// A place where lines go.
+pub trait Sink {
+    /// What was put, where the sink tells.
+    ghost written: { Self → Option (List ℕ) };
+
+    /// How often putting has failed.
+    ghost faults: { Self → ℕ };
+
+    /// Puts all the bytes at the end.
+    fn put(&mut self, bytes: &[u8]) -> Result<(), DeviceError>
+        ensures told { is_some (written self.new) ≡ is_some (written self.old) }
+        ensures all { OnOk result (IfSome (written self.old) (λ text. GrowsBy bytes.now text (written self.new))) }
+        ensures err { OnErr result
+            (IfSome (written self.old) (λ text. GrowsByPart bytes.now text (written self.new))) }
+        ensures cause { IsErrOf result DeviceError.Failed → Rose (faults self.old) (faults self.new) }
+        ensures later { faults self.old ≤ faults self.new };
+}

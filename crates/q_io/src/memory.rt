@@ -1,0 +1,166 @@
+ghost use Rattle.std.specs.Prelude.{◌≡◌, ◌≤◌, ◌-◌, length, min, option_copied, IfOk, IsErrOf, OnOk, OnErr, Some};
+ghost use Rattle.std.specs.FinMap as map;
+ghost use Rattle.q_io.specs.Files.{OthersStay, Reads, Rose, bytes_at};
+
+use crate::error::DeviceError;
+use crate::files::Files;
+use crate::names::{Names, copy_from, extend, store};
+use q_logic::NoMemory;
+use std::alloc::Global;
+use std::collections::BTreeMap;
+use std::marker::Model;
+
+/// The kinds of call that a fault can be planned for.
+#[derive(Clone, Copy, Debug, PartialEq, Eq)]
+pub enum Call {
+    Read,
+    Create,
+    Append,
+}
+
+/// The `nth` call of a kind fails, counted from 1. A failing append first stores the first `part`
+/// bytes; a failing read or create changes nothing.
+#[derive(Clone, Copy, Debug, PartialEq, Eq)]
+pub struct Fault {
+    pub call: Call,
+    pub nth: u64,
+    pub part: usize,
+}
+
+/// Files in memory, with planned faults. A read of a name that is not held fails too.
+#[derive(Drop)]
+pub struct MemFiles {
+    alloc: Global,
+    names: Names,
+    planned: Vec<Fault>,
+    reads: u64,
+    creates: u64,
+    appends: u64,
+    read_failures: u64,
+    write_failures: u64,
+}
+
+impl Model for MemFiles {
+    ghost use Rattle.q_io.specs.Memory.{MemDisk, mem_code, disk_of};
+
+    ghost Value = { MemDisk };
+
+    ghost coded = { mem_code };
+
+    ghost view = { λ m. record {
+      disk = disk_of m.names;
+      read_faults = m.read_failures;
+      write_faults = m.write_failures;
+    } };
+}
+
+// The part of the planned fault of this call, if it is to fail.
+fn planned_part(planned: &[Fault], call: Call, nth: u64) -> Option<usize> {
+    planned
+        .iter()
+        .find(|fault| fault.call == call && fault.nth == nth)
+        .map(|fault| fault.part)
+}
+
+impl MemFiles {
+    pub fn new(alloc: Global) -> MemFiles
+        ensures empty { result.disk ≡ map.empty }
+        ensures faults { (result.read_faults ≡ 0) × (result.write_faults ≡ 0) }
+    {
+        MemFiles {
+            alloc,
+            names: BTreeMap::new(alloc),
+            planned: Vec::new(alloc),
+            reads: 0,
+            creates: 0,
+            appends: 0,
+            read_failures: 0,
+            write_failures: 0,
+        }
+    }
+
+    pub fn put_file(&mut self, name: &str, bytes: &[u8]) -> Result<(), NoMemory>
+        ensures stored { OnOk result (map.get self.new.disk name.now ≡ Some bytes.now) }
+        ensures others { OnOk result (OthersStay name.now self.old.disk self.new.disk) }
+        ensures err { OnErr result (self.new.disk ≡ self.old.disk) }
+        ensures faults { (self.new.read_faults ≡ self.old.read_faults)
+            × (self.new.write_faults ≡ self.old.write_faults) }
+    {
+        store(self.alloc, &mut self.names, name, bytes)?;
+        Ok(())
+    }
+
+    pub fn file(&self, name: &str) -> Option<&[u8]>
+        ensures { option_copied result ≡ map.get self.now.disk name.now }
+    {
+        match self.names.get(name) {
+            Some(bytes) => Some(bytes.as_slice()),
+            None => None,
+        }
+    }
+
+    /// Plans one more fault.
+    pub fn fail_at(&mut self, fault: Fault) -> Result<(), NoMemory>
+        ensures { self.new ≡ self.old }
+    {
+        self.planned.push(fault)?;
+        Ok(())
+    }
+}
+
+impl Files for MemFiles {
+    ghost held = { λ m. Some m.disk };
+
+    ghost read_faults = { λ m _. m.read_faults };
+
+    ghost write_faults = { λ m _. m.write_faults };
+
+    fn read(&mut self, name: &str, at: u64, buf: &mut [u8]) -> Result<usize, DeviceError>
+        ensures missing { map.get self.old.disk name.now ≡ None → result ≡ Err DeviceError.Failed }
+        ensures count { IfOk result (λ n. n ≡ min (length buf.old) (length (bytes_at self.old.disk name.now) - at)) }
+        ensures bytes { IfOk result (λ n. Reads self.old.disk name.now at buf.old buf.new n) }
+        ensures held { self.new.disk ≡ self.old.disk }
+        ensures cause { IsErrOf result DeviceError.Failed → Rose self.old.read_faults self.new.read_faults }
+        ensures read_later { self.old.read_faults ≤ self.new.read_faults }
+        ensures write_later { self.new.write_faults ≡ self.old.write_faults }
+    {
+        self.reads = self.reads.saturating_add(1);
+        if planned_part(&self.planned, Call::Read, self.reads).is_some() {
+            self.read_failures = self.read_failures.saturating_add(1);
+            return Err(DeviceError::Failed);
+        }
+        match self.names.get(name) {
+            Some(bytes) => Ok(copy_from(bytes, at, buf)),
+            None => {
+                self.read_failures = self.read_failures.saturating_add(1);
+                Err(DeviceError::Failed)
+            }
+        }
+    }
+
+    fn create(&mut self, name: &str) -> Result<(), DeviceError> {
+        self.creates = self.creates.saturating_add(1);
+        if planned_part(&self.planned, Call::Create, self.creates).is_some() {
+            self.write_failures = self.write_failures.saturating_add(1);
+            return Err(DeviceError::Failed);
+        }
+        store(self.alloc, &mut self.names, name, &[])?;
+        Ok(())
+    }
+
+    fn append(&mut self, name: &str, bytes: &[u8]) -> Result<(), DeviceError> {
+        self.appends = self.appends.saturating_add(1);
+        match planned_part(&self.planned, Call::Append, self.appends) {
+            Some(part) => {
+                let stored = part.min(bytes.len());
+                extend(self.alloc, &mut self.names, name, &bytes[..stored])?;
+                self.write_failures = self.write_failures.saturating_add(1);
+                Err(DeviceError::Failed)
+            }
+            None => {
+                extend(self.alloc, &mut self.names, name, bytes)?;
+                Ok(())
+            }
+        }
+    }
+}

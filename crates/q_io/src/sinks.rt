@@ -1,0 +1,110 @@
+ghost use Rattle.std.specs.Prelude.{◌≡◌, [], List, ℕ, Some};
+ghost use Rattle.q_io.specs.Memory.{MemText};
+
+use crate::error::DeviceError;
+use crate::files::Sink;
+use q_logic::NoMemory;
+use std::alloc::Global;
+use std::marker::Model;
+
+/// A sink in memory, with planned faults.
+#[derive(Drop)]
+pub struct MemSink {
+    written: Vec<u8>,
+    planned: Vec<u64>,
+    puts: u64,
+    failures: u64,
+}
+
+impl Model for MemSink {
+    ghost use Rattle.q_io.specs.Memory.{MemText};
+
+    ghost Value = { MemText };
+
+    ghost view = { λ s. record { text = s.written.items; faults = s.failures } };
+}
+
+impl MemSink {
+    pub fn new(alloc: Global) -> MemSink
+        ensures empty { result.text ≡ [] }
+        ensures faults { result.faults ≡ 0 }
+    {
+        MemSink {
+            written: Vec::new(alloc),
+            planned: Vec::new(alloc),
+            puts: 0,
+            failures: 0,
+        }
+    }
+
+    /// The `nth` put fails, counted from 1, and puts nothing.
+    pub fn fail_at(&mut self, nth: u64) -> Result<(), NoMemory>
+        ensures { self.new ≡ self.old }
+    {
+        self.planned.push(nth)?;
+        Ok(())
+    }
+
+    pub fn bytes(&self) -> &[u8]
+        ensures { result.now ≡ self.now.text }
+    {
+        &self.written
+    }
+}
+
+impl Sink for MemSink {
+    ghost written = { λ s. Some s.text };
+
+    ghost faults = { λ s. s.faults };
+
+    fn put(&mut self, bytes: &[u8]) -> Result<(), DeviceError> {
+        self.puts = self.puts.saturating_add(1);
+        if self.planned.contains(&self.puts) {
+            self.failures = self.failures.saturating_add(1);
+            return Err(DeviceError::Failed);
+        }
+        self.written.extend_from_slice(bytes)?;
+        Ok(())
+    }
+}
+
+/// A sink in memory that never fails.
+#[derive(Drop)]
+pub struct SteadySink {
+    written: Vec<u8>,
+}
+
+impl Model for SteadySink {
+    ghost use Rattle.std.specs.Prelude.{List, ℕ};
+
+    ghost Value = { List ℕ };
+
+    ghost view = { λ s. s.written.items };
+}
+
+impl SteadySink {
+    pub fn new(alloc: Global) -> SteadySink
+        ensures { result ≡ [] }
+    {
+        SteadySink {
+            written: Vec::new(alloc),
+        }
+    }
+
+    pub fn bytes(&self) -> &[u8]
+        ensures { result.now ≡ self.now }
+    {
+        &self.written
+    }
+}
+
+impl Sink for SteadySink {
+    ghost written = { λ s. Some s };
+
+    ghost faults = { λ _. 0 };
+
+    fn put(&mut self, bytes: &[u8]) -> Result<(), DeviceError> {
+        self.written.extend_from_slice(bytes)?;
+        Ok(())
+    }
+}
