@@ -1,5 +1,5 @@
 -- What is read is in the grammar.
-use Rattle.std.proofs.Common.{◌≡◌, ◌≢◌, ◌⊎◌, ℕ, zero, suc, ◌+◌, ◌<◌, ◌≤◌, ◌==◌, nat_lt, nat_le, Bool, true, false, cond, List, [], ◌∷◌, ◌++◌, length, map, Ok, Err, Result, Option, Some, None, refl, ap, sym, ◌∙◌, arith, ℤ, pos, negsuc, neg_ℤ, add-one, add-zero, append_assoc, append-nil, if◌then◌else◌, subst, inl, inr, length-append, eqb-true, take}
+use Rattle.std.proofs.Common.{◌≡◌, ◌≢◌, ◌⊎◌, ℕ, zero, suc, ◌+◌, ◌<◌, ◌≤◌, ◌==◌, nat_lt, nat_le, Bool, true, false, cond, List, [], ◌∷◌, ◌++◌, length, map, Ok, Err, Result, Option, Some, None, refl, ap, sym, ◌∙◌, arith, ℤ, pos, negsuc, add-one, add-zero, append_assoc, append-nil, if◌then◌else◌, inl, inr, length-append, eqb-true, take}
 use Rattle.std.proofs.lemmas.Bool.Decides.{nat_tests}
 use Rattle.std.specs.List.{AllByRecursion}
 use Rattle.q_logic.specs.declared.formulas.Bound.{Bound}
@@ -14,17 +14,19 @@ use Rattle.q_text.specs.declared.tokens.TokenKind.TheVariants.{Number, P, Cnf, E
 use Rattle.q_dimacs.specs.declared.builder.Place.{Place}
 use Rattle.q_dimacs.specs.declared.builder.Place.TheVariants.{Problem, Format, Vars, Count, Outside, InSet, InClause}
 use Rattle.q_dimacs.specs.declared.builder.Builder.{Builder}
-use Rattle.q_dimacs.specs.Building.{clause_of, is_bound, formula_of}
-use Rattle.q_dimacs.specs.Reading.{step_of, problem, format, vars_of, count_of, number, literal, end_clause, end_of, nothing_read}
-use Rattle.q_dimacs.specs.Grammar.{TextSet, Text, IsLawful, IsDimacs, vars_kinds, sets_kinds, clause_kinds, clauses_kinds, letter, vars_bounds, sets_bounds, total, IsVar}
+use Rattle.q_dimacs.specs.Building.{formula_of}
+use Rattle.q_logic.specs.Clauses.{clause_of}
+use Rattle.q_logic.specs.Prefixes.{is_bound}
+use Rattle.q_dimacs.specs.Reading.{step_of, problem, format, vars_of, count_of, number, literal, end_of, nothing_read}
+use Rattle.q_dimacs.specs.Dimacs.{Dimacs, vars_kinds, sets_kinds, clause_kinds, clauses_kinds, letter, vars_bounds, sets_bounds, total, IsVar}
+use Rattle.q_logic.specs.Prefixes.{Block}
 use Rattle.q_dimacs.proofs.Grammar.{kinds_read, kinds-err, inside}
 use Rattle.q_text.specs.declared.tokens.Token.{Token}
 use Rattle.q_text.specs.Texts.{tokens_of, tokens_ended, line_after}
 use Rattle.q_dimacs.specs.declared.reader.ReadError.{ReadError}
 use Rattle.q_dimacs.specs.declared.reader.ReadError.TheVariants.{Refused}
-use Rattle.q_dimacs.specs.Texts.{tokens_read, at_line, at_last, at_end, past_limit, parse}
+use Rattle.q_dimacs.specs.Offences.{tokens_read, at_line, at_last, at_end, past_limit, parse}
 use Rattle.q_dimacs.proofs.Law.{tokens_read-err}
-use Rattle.q_dimacs.proofs.Free.{apart}
 use Rattle.q_dimacs.proofs.Marks.{Pairs-push, differs}
 
 pub record FromClause (m : Limits) (d : Builder) (v c n : ℕ) (p : Prefix) (x : Matrix) (ls : List Literal) (ks : List TokenKind) : Type 0 where
@@ -38,7 +40,7 @@ pub record FromClause (m : Limits) (d : Builder) (v c n : ℕ) (p : Prefix) (x :
   pub full : length x < c → length x + suc (length cs) ≤ c
 
 pub record FromOutside (m : Limits) (d : Builder) (v c n : ℕ) (p : Prefix) (x : Matrix) (ks : List TokenKind) : Type 0 where
-  pub ss : List TextSet
+  pub ss : List Block
   pub cs : List (List Literal)
   pub kinds : ks ≡ sets_kinds ss ++ clauses_kinds cs
   pub is : d ≡ inside Outside v c (n + total cs) (p ++ sets_bounds ss) (x ++ map clause_of cs) []
@@ -128,7 +130,7 @@ from-number m d at v c n p x ls (negsuc w) ks h out more =
 
 pub record FromSet (m : Limits) (d : Builder) (q : Quant) (v c n : ℕ) (p : Prefix) (x : Matrix) (ks : List TokenKind) : Type 0 where
   pub vs : List ℕ
-  pub ss : List TextSet
+  pub ss : List Block
   pub cs : List (List Literal)
   pub kinds : ks ≡ vars_kinds vs ++ (sets_kinds ss ++ clauses_kinds cs)
   pub is : d ≡ inside Outside v c (n + total cs) (p ++ (vars_bounds q vs ++ sets_bounds ss)) (x ++ map clause_of cs) []
@@ -426,7 +428,7 @@ all-ended v c n p x e = go (nat_lt (length x) c) refl e where
   go true f g = absurd (cc)
   go false f g = above-var (length x) c f
 
-pub read_is_grammar : (m : Limits) (bytes : List ℕ) (f : PrenexFormula) → parse m bytes ≡ Ok f → IsDimacs m bytes f
+pub read_is_grammar : (m : Limits) (bytes : List ℕ) (f : PrenexFormula) → parse m bytes ≡ Ok f → Dimacs m bytes f
 read_is_grammar m bytes f h =
     let o = parse-ok m bytes f h in
     let s = from-start m o.d (map (λ t. t.kind) (tokens_of bytes)) o.end (lines-back m nothing_read o.d (tokens_of bytes) o.read) in

@@ -1,18 +1,15 @@
 -- The formula that is made of the parts.
-use Rattle.q_logic.specs.Literals.{IsBelow}
-use Rattle.std.proofs.Common.{◌≡◌, ◌≢◌, ◌⊎◌, ℕ, zero, suc, ◌+◌, ◌<◌, ◌≤◌, ◌^◌, ◌==◌, ◌||◌, ◌&&◌, not, Bool, true, false, cond, List, [], ◌∷◌, ◌++◌, length, slice_index_or, get_or, refl, ap, sym, ◌∙◌, arith, subst, inl, inr, add-one, nat_le}
+use Rattle.std.proofs.Common.{◌≡◌, ◌≢◌, ◌⊎◌, ℕ, suc, ◌+◌, ◌<◌, ◌≤◌, ◌^◌, ◌&&◌, not, Bool, true, false, List, [], ◌∷◌, ◌++◌, length, slice_index_or, refl, sym, ◌∙◌, arith, subst, inl, inr, nat_le}
 use Rattle.std.proofs.Math.ListN.{get_or-eq_default}
 use Rattle.std.proofs.lemmas.Bool.Decides.{nat_tests}
 use Rattle.std.specs.List.{AllByRecursion}
-use Rattle.q_logic.specs.declared.formulas.Bound.{Bound}
-use Rattle.q_logic.specs.declared.formulas.Quant.TheVariants.{Exists}
 use Rattle.q_logic.specs.Literals.{Literal}
-use Rattle.q_logic.specs.Formulas.{Matrix, Prefix, PrenexFormula}
-use Rattle.q_logic.specs.Parts.{ArePairs, AreEnds, AreLawful, IsBound, clauses_between}
-use Rattle.q_dimacs.specs.Building.{is_bound, is_free, is_marked_free, occurs, occurs_in, greatest, bounds_from, formula_of, AreParts}
+use Rattle.q_logic.specs.Formulas.{Prefix}
+use Rattle.q_logic.specs.Parts.{AreLawful, IsBound, clauses_between}
+use Rattle.q_dimacs.specs.Building.{is_free, is_marked_free, occurs, greatest, bounds_from, AreParts}
+use Rattle.q_logic.specs.Prefixes.{is_bound}
 use Rattle.q_dimacs.proofs.Marks.{or_false}
 use Rattle.q_dimacs.proofs.Free.{bounds-same, bounds-trim, bounds-all, bounds-distinct, bounds-has, none-above, row-occurs, pairs-append, is-append-left, is-append-right, bound-is, apart}
-use Rattle.q_dimacs.proofs.Marks.{All-push}
 
 and-left : (a b : Bool) → (a && b) ≡ true → a ≡ true
 and-left true b e = refl

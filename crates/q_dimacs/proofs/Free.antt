@@ -1,5 +1,5 @@
 -- The free variables of a formula.
-use Rattle.std.proofs.Common.{◌≡◌, ◌≢◌, ◌⊎◌, ℕ, zero, suc, ◌+◌, ◌-◌, ◌<◌, ◌≤◌, ◌==◌, ◌||◌, ◌&&◌, not, max, Bool, true, false, cond, List, [], ◌∷◌, ◌++◌, length, refl, ap, sym, ◌∙◌, arith, add-zero, append_assoc, get_or, add-one, append-nil, slice_range, drop, subst, inl, inr, eq-eqb}
+use Rattle.std.proofs.Common.{◌≡◌, ◌≢◌, ◌⊎◌, ℕ, zero, suc, ◌+◌, ◌<◌, ◌≤◌, ◌==◌, ◌||◌, Bool, true, false, cond, List, [], ◌∷◌, ◌++◌, length, refl, ap, sym, ◌∙◌, arith, add-zero, add-one, append-nil, slice_range, drop, subst, inl, inr, eq-eqb}
 use Rattle.std.proofs.lemmas.List.Folds.{drop_split}
 use Rattle.std.specs.List.{AllByRecursion}
 use Rattle.q_logic.specs.Literals.{Literal}
@@ -8,7 +8,8 @@ use Rattle.std.proofs.lemmas.Bool.Decides.{nat_tests, eqb_tells}
 use Rattle.q_logic.specs.declared.formulas.Bound.{Bound}
 use Rattle.q_logic.specs.declared.formulas.Quant.TheVariants.{Exists}
 use Rattle.q_logic.specs.Formulas.{Prefix, Matrix}
-use Rattle.q_dimacs.specs.Building.{bounds_from, is_marked_free, is_bound, occurs, occurs_in, greatest, greatest_in}
+use Rattle.q_dimacs.specs.Building.{bounds_from, occurs, occurs_in, greatest, greatest_in}
+use Rattle.q_logic.specs.Prefixes.{is_bound}
 
 abbrev free_at : Bool → ℕ → Prefix
 free_at b v = cond b (record { quant = Exists; var = v } ∷ []) []
@@ -137,13 +138,13 @@ is-append-right (r ∷ p) q v h = inr (is-append-right p q v h)
 pub bound-is : (p : Prefix) (v : ℕ) → is_bound p v ≡ true → IsBound p v
 bound-is [] v e = cc
 bound-is (q ∷ p) v e = go (eqb_tells q.var v) e (bound-is p v) where
-  go : ((q.var == v) ≡ true) × (q.var ≡ v) ⊎ ((q.var == v) ≡ false) × (q.var ≢ v) → ((q.var == v) || is_bound p v) ≡ true → (is_bound p v ≡ true → IsBound p v) → (q.var ≡ v) ⊎ IsBound p v
+  go : ((q.var == v) ≡ true) × (q.var ≡ v) ⊎ ((q.var == v) ≡ false) × (q.var ≢ v) → cond (q.var == v) true (is_bound p v) ≡ true → (is_bound p v ≡ true → IsBound p v) → (q.var ≡ v) ⊎ IsBound p v
   go (inl d) e ih = inl d.1
   go (inr d) e ih = inr (ih (rw d.0 at e))
 
 pub apart : (p : Prefix) (v : ℕ) → is_bound p v ≡ false → AllByRecursion (λ r. v ≢ r.var) p
 apart [] v e = tt
 apart (r ∷ p) v e = go (eqb_tells r.var v) e (apart p v) where
-  go : ((r.var == v) ≡ true) × (r.var ≡ v) ⊎ ((r.var == v) ≡ false) × (r.var ≢ v) → ((r.var == v) || is_bound p v) ≡ false → (is_bound p v ≡ false → AllByRecursion (λ r. v ≢ r.var) p) → (v ≢ r.var) × AllByRecursion (λ r. v ≢ r.var) p
+  go : ((r.var == v) ≡ true) × (r.var ≡ v) ⊎ ((r.var == v) ≡ false) × (r.var ≢ v) → cond (r.var == v) true (is_bound p v) ≡ false → (is_bound p v ≡ false → AllByRecursion (λ r. v ≢ r.var) p) → (v ≢ r.var) × AllByRecursion (λ r. v ≢ r.var) p
   go (inl d) e ih = let f = rw d.0 at e in cc
   go (inr d) e ih = ((λ x. d.1 (sym x)), ih (rw d.0 at e))

@@ -1,5 +1,5 @@
 -- What is in the grammar is read.
-use Rattle.std.proofs.Common.{◌≡◌, ◌≢◌, ℕ, zero, suc, ◌+◌, ◌<◌, ◌≤◌, ◌==◌, nat_lt, nat_le, Bool, true, false, cond, List, [], ◌∷◌, ◌++◌, length, map, Ok, Err, Result, refl, ap, sym, ◌∙◌, arith, ℤ, pos, negsuc, neg_ℤ, add-one, add-zero, append_assoc, append-nil, if◌then◌else◌, subst, length-append, zero-add, take}
+use Rattle.std.proofs.Common.{◌≡◌, ◌≢◌, ℕ, zero, suc, ◌+◌, ◌<◌, ◌≤◌, ◌==◌, nat_lt, nat_le, Bool, true, false, List, [], ◌∷◌, ◌++◌, length, map, Ok, Err, Result, refl, ap, sym, ◌∙◌, arith, pos, add-one, add-zero, append_assoc, append-nil, if◌then◌else◌, length-append, zero-add, take}
 use Rattle.std.proofs.lemmas.Bool.Decides.{nat_tests}
 use Rattle.std.specs.List.{AllByRecursion}
 use Rattle.q_logic.specs.declared.formulas.Bound.{Bound}
@@ -10,17 +10,19 @@ use Rattle.q_logic.specs.Literals.{Literal, number_of}
 use Rattle.q_logic.specs.Formulas.{Matrix, Prefix, PrenexFormula}
 use Rattle.q_text.specs.declared.tokens.Token.{Token}
 use Rattle.q_text.specs.declared.tokens.TokenKind.{TokenKind}
-use Rattle.q_text.specs.declared.tokens.TokenKind.TheVariants.{Number, P, Cnf, E, A}
+use Rattle.q_text.specs.declared.tokens.TokenKind.TheVariants.{Number}
 use Rattle.q_dimacs.specs.declared.builder.Place.{Place}
-use Rattle.q_dimacs.specs.declared.builder.Place.TheVariants.{Problem, Format, Vars, Count, Outside, InSet, InClause}
+use Rattle.q_dimacs.specs.declared.builder.Place.TheVariants.{Vars, Count, Outside, InSet, InClause}
 use Rattle.q_dimacs.specs.declared.builder.Builder.{Builder}
 use Rattle.q_dimacs.specs.declared.reader.ReadError.{ReadError}
-use Rattle.q_dimacs.specs.Building.{Built, clause_of, formula_of, is_bound}
-use Rattle.q_dimacs.specs.Reading.{step_of, number, literal, end_clause, nothing_read}
-use Rattle.q_dimacs.specs.Texts.{tokens_read, after_token, at_line, at_last, past_limit, parse}
+use Rattle.q_logic.specs.Clauses.{clause_of}
+use Rattle.q_logic.specs.Prefixes.{is_bound}
+use Rattle.q_dimacs.specs.Reading.{step_of, number, nothing_read}
+use Rattle.q_dimacs.specs.Offences.{tokens_read, at_line, at_last, past_limit, parse}
 use Rattle.q_text.specs.Texts.{tokens_of, tokens_ended, line_after}
 use Rattle.q_logic.specs.Parts.{ArePairs}
-use Rattle.q_dimacs.specs.Grammar.{TextSet, Text, vars_kinds, sets_kinds, clause_kinds, clauses_kinds, letter, spelled, vars_bounds, sets_bounds, total, IsVar, IsLawful, IsDimacs, text_formula}
+use Rattle.q_dimacs.specs.Dimacs.{Text, vars_kinds, sets_kinds, clause_kinds, clauses_kinds, letter, spelled, vars_bounds, sets_bounds, total, IsVar, IsLawful, Dimacs, text_formula}
+use Rattle.q_logic.specs.Prefixes.{Block}
 
 abbrev kind_step : Limits → Result Builder ℕ → TokenKind → Result Builder ℕ
 kind_step m (Ok b) k = step_of m b k
@@ -143,7 +145,7 @@ begin-set : (m : Limits) (v c : ℕ) (q : Quant) (p : Prefix) → kind_step m (O
 begin-set m v c Exists p = refl
 begin-set m v c Forall p = refl
 
-read-sets : (m : Limits) (v c : ℕ) (p : Prefix) (ss : List TextSet) → AllByRecursion (λ b. IsVar v b.var) (sets_bounds ss) → ArePairs (λ r s. r.var ≢ s.var) (p ++ sets_bounds ss)
+read-sets : (m : Limits) (v c : ℕ) (p : Prefix) (ss : List Block) → AllByRecursion (λ b. IsVar v b.var) (sets_bounds ss) → ArePairs (λ r s. r.var ≢ s.var) (p ++ sets_bounds ss)
     → kinds_read m (Ok (inside Outside v c 0 p [] [])) (sets_kinds ss) ≡ Ok (inside Outside v c 0 (p ++ sets_bounds ss) [] [])
 read-sets m v c p [] h d = rw append-nil refl
 read-sets m v c p (s ∷ ss) h d =
@@ -182,7 +184,7 @@ ended m t n h =
     rw e refl
 
 -- what is in the grammar is read, as its formula
-pub grammar_is_read : (m : Limits) (bytes : List ℕ) (f : PrenexFormula) → IsDimacs m bytes f → parse m bytes ≡ Ok f
+pub grammar_is_read : (m : Limits) (bytes : List ℕ) (f : PrenexFormula) → Dimacs m bytes f → parse m bytes ≡ Ok f
 grammar_is_read m bytes f h =
     let s : nat_le (length bytes) m.bytes ≡ true = le-test (length bytes) m.bytes h.short in
     let r = without-lines m nothing_read (inside Outside h.text.vars h.text.count (total h.text.clauses) (sets_bounds h.text.sets) (map clause_of h.text.clauses) []) (tokens_of bytes)

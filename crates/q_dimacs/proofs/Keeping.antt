@@ -1,14 +1,16 @@
 -- What each change keeps of the parts.
-use Rattle.std.proofs.Common.{◌≡◌, ◌≢◌, ◌⊎◌, ℕ, zero, suc, ◌+◌, ◌<◌, ◌≤◌, ◌^◌, ◌==◌, ◌||◌, Bool, true, false, List, [], ◌∷◌, ◌++◌, length, set, slice_index_or, refl, ap, sym, ◌∙◌, arith, subst, length-set}
+use Rattle.std.proofs.Common.{◌≡◌, ◌≢◌, ℕ, ◌<◌, ◌≤◌, ◌^◌, ◌==◌, ◌||◌, Bool, true, false, List, [], ◌∷◌, ◌++◌, length, set, slice_index_or, ap, sym, ◌∙◌, arith, length-set}
 use Rattle.q_logic.specs.declared.formulas.Bound.{Bound}
 use Rattle.q_logic.specs.Literals.{IsBelow, Literal}
-use Rattle.q_logic.specs.Formulas.{Matrix, Prefix, Clause}
+use Rattle.q_logic.specs.Formulas.{Prefix}
 use Rattle.q_logic.specs.Parts.{ArePairs, AreEnds, clauses_between}
-use Rattle.std.specs.List.{AllByRecursion}
 use Rattle.std.proofs.lemmas.Bool.Decides.{nat_tests}
-use Rattle.q_dimacs.specs.Building.{is_bound, occurs, occurs_in, clause_of, AreParts}
+use Rattle.q_dimacs.specs.Building.{occurs, occurs_in, AreParts}
+use Rattle.q_logic.specs.Clauses.{clause_of}
+use Rattle.q_logic.specs.Prefixes.{is_bound}
 use Rattle.q_dimacs.proofs.Marks.{marked, is_bound-push, occurs_in-push, occurs-push, or_more, or_false, All-push, Pairs-push, differs}
-use Rattle.q_dimacs.proofs.Clauses.{occurs_in-clause_of, clause_of-ordered}
+use Rattle.q_logic.proofs.ClauseSets.{clause_of-ordered}
+use Rattle.q_dimacs.proofs.Clauses.{occurs_in-clause_of}
 
 no_zero : (v : ℕ) → 1 ≤ v → (v == 0) ≡ false
 no_zero v h = grind (arith, nat_tests)

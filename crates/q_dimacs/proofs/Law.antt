@@ -1,5 +1,5 @@
 -- Feeding all bytes gives what parsing says.
-use Rattle.std.proofs.Common.{◌≡◌, ◌≢◌, ℕ, zero, suc, ◌+◌, ◌-◌, ◌<◌, ◌≤◌, ◌==◌, nat_le, Bool, true, false, cond, List, [], ◌∷◌, ◌++◌, length, take, drop, Ok, Err, Option, Some, None, Result, refl, ap, sym, ◌∙◌, arith, count_by, subst, add_assoc, add-zero, if◌then◌else◌}
+use Rattle.std.proofs.Common.{◌≡◌, ℕ, suc, ◌+◌, ◌<◌, ◌≤◌, ◌==◌, nat_le, Bool, true, false, List, [], ◌∷◌, ◌++◌, length, take, drop, Ok, Err, Option, Some, None, Result, refl, ap, sym, ◌∙◌, arith, subst, if◌then◌else◌}
 use Rattle.std.proofs.lemmas.Bool.Decides.{nat_tests}
 use Rattle.q_logic.specs.declared.limits.Limits.{Limits}
 use Rattle.q_logic.specs.Formulas.{PrenexFormula}
@@ -14,13 +14,12 @@ use Rattle.q_text.specs.Tokens.{handed, after, token_in, kind_in, begun, after_b
 use Rattle.q_text.proofs.Law.{from_start, handed-ended}
 use Rattle.q_dimacs.specs.declared.builder.Builder.{Builder}
 use Rattle.q_dimacs.specs.declared.reader.ReadError.{ReadError}
-use Rattle.q_dimacs.specs.declared.reader.ReadError.TheVariants.{Refused, NoMemory}
+use Rattle.q_dimacs.specs.declared.reader.ReadError.TheVariants.{Refused}
 use Rattle.q_dimacs.specs.declared.reader.Standing.TheVariants.{Reading, Stopped}
-use Rattle.q_dimacs.specs.Building.{formula_of}
 use Rattle.q_dimacs.specs.Reading.{step_of, end_of, nothing_read, limit}
-use Rattle.q_dimacs.specs.Scanning.{Scan, stepped, token_step, byte_at, byte_step, fed, start, whole, ended, ended_at, outcome, outcome_at}
-use Rattle.q_dimacs.specs.Texts.{at_end, at_line, after_token, tokens_read, at_last, past_limit, parse}
-use Rattle.q_dimacs.proofs.Feeding.{fed-stopped, fed-more}
+use Rattle.q_dimacs.specs.Scanning.{Scan, stepped, token_step, fed, start, whole, ended, outcome, outcome_at}
+use Rattle.q_dimacs.specs.Offences.{at_end, at_line, tokens_read, at_last, past_limit, parse}
+use Rattle.q_dimacs.proofs.Feeding.{fed-stopped}
 
 abbrev scan : Limits → Tokens → ℕ → Builder → Scan
 scan m t n b = record { limits = m; tokens = t; taken = n; builder = b; standing = Reading }

@@ -1,12 +1,13 @@
 -- Marks of variables, and lists with one more at their end.
-use Rattle.std.proofs.Common.{◌≡◌, ◌≢◌, ◌⊎◌, ℕ, zero, suc, ◌+◌, ◌<◌, ◌≤◌, ◌==◌, ◌||◌, Bool, true, false, cond, List, [], ◌∷◌, ◌++◌, length, get_or, set, slice_index_or, refl, ap, sym, ◌∙◌, arith, inl, inr, not-suc-le-zero, le_of_suc-le-suc, get_or-set_same, get_or-set_other, eqb-true}
+use Rattle.std.proofs.Common.{◌≡◌, ◌≢◌, ℕ, ◌<◌, ◌==◌, ◌||◌, Bool, true, false, cond, List, [], ◌∷◌, ◌++◌, length, get_or, set, slice_index_or, refl, ap, sym, ◌∙◌, arith, inl, inr, get_or-set_same, get_or-set_other}
 use Rattle.std.proofs.lemmas.Bool.Decides.{nat_tests, eqb_tells}
 use Rattle.std.specs.List.{AllByRecursion}
 use Rattle.q_logic.specs.declared.formulas.Bound.{Bound}
 use Rattle.q_logic.specs.Literals.{Literal}
 use Rattle.q_logic.specs.Formulas.{Matrix, Prefix, Clause}
 use Rattle.q_logic.specs.Parts.{ArePairs}
-use Rattle.q_dimacs.specs.Building.{is_bound, occurs, occurs_in}
+use Rattle.q_dimacs.specs.Building.{occurs, occurs_in}
+use Rattle.q_logic.specs.Prefixes.{is_bound}
 
 pub or_false : (a : Bool) → a || false ≡ a
 or_false true = refl
@@ -33,9 +34,16 @@ marked marks i v h = elim (eqb_tells i v) [
   | inr e ↦ (let n : v ≢ i = λ x. e.1 (sym x) in rw (e.0, get_or-set_other) (sym (or-false (get_or marks v false))))
 ]
 
+pub cond-or : (a b : Bool) → cond a true b ≡ a || b
+cond-or true b = refl
+cond-or false b = refl
+
 pub is_bound-push : (p : Prefix) (q : Bound) (v : ℕ) → is_bound (p ++ q ∷ []) v ≡ (is_bound p v || (q.var == v))
-is_bound-push [] q v = or-false (q.var == v)
-is_bound-push (r ∷ p) q v = ap (λ x. (r.var == v) || x) (is_bound-push p q v) ∙ sym (or-assoc (r.var == v) (is_bound p v) (q.var == v))
+is_bound-push [] q v = cond-or (q.var == v) false ∙ or-false (q.var == v)
+is_bound-push (r ∷ p) q v =
+    cond-or (r.var == v) (is_bound (p ++ q ∷ []) v)
+    ∙ (ap (λ x. (r.var == v) || x) (is_bound-push p q v)
+    ∙ (sym (or-assoc (r.var == v) (is_bound p v) (q.var == v)) ∙ ap (λ x. x || (q.var == v)) (sym (cond-or (r.var == v) (is_bound p v)))))
 
 pub occurs_in-push : (ls : List Literal) (l : Literal) (v : ℕ) → occurs_in (ls ++ l ∷ []) v ≡ (occurs_in ls v || (l.var == v))
 occurs_in-push [] l v = or-false (l.var == v)
@@ -66,6 +74,6 @@ or-right false b e = e
 
 pub differs : (p : Prefix) (q : Bound) → is_bound p q.var ≡ false → AllByRecursion (λ r. r.var ≢ q.var) p
 differs [] q e = tt
-differs (r ∷ p) q e = ((λ f. first f (or-left (r.var == q.var) (is_bound p q.var) e)), differs p q (or-right (r.var == q.var) (is_bound p q.var) e)) where
+differs (r ∷ p) q e = ((λ f. first f (or-left (r.var == q.var) (is_bound p q.var) (sym (cond-or (r.var == q.var) (is_bound p q.var)) ∙ e))), differs p q (or-right (r.var == q.var) (is_bound p q.var) (sym (cond-or (r.var == q.var) (is_bound p q.var)) ∙ e))) where
   first : r.var ≡ q.var → (r.var == q.var) ≡ false → ⊥
   first f g = grind (arith, nat_tests)

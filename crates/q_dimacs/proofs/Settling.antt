@@ -1,15 +1,9 @@
 -- A step leaves no literal waiting outside clauses.
-use Rattle.std.proofs.Common.{◌≡◌, ℕ, ◌+◌, ◌==◌, nat_lt, nat_le, Bool, true, false, cond, List, [], ◌∷◌, ◌++◌, length, Ok, Err, Result, refl, ap, sym, ◌∙◌, arith, ℤ, pos, negsuc, subst}
-use Rattle.q_logic.specs.declared.limits.Limits.{Limits}
-use Rattle.q_logic.specs.declared.formulas.Quant.{Quant}
-use Rattle.q_logic.specs.declared.formulas.Quant.TheVariants.{Exists, Forall}
+use Rattle.std.proofs.Common.{◌≡◌, ℕ, Bool, true, false, cond, [], Ok, Err, Result}
 use Rattle.q_text.specs.declared.tokens.TokenKind.{TokenKind}
 use Rattle.q_text.specs.declared.tokens.TokenKind.TheVariants.{Number, P, Cnf, E, A, D, U, R, Other}
-use Rattle.q_dimacs.specs.declared.builder.Place.{Place}
-use Rattle.q_dimacs.specs.declared.builder.Place.TheVariants.{Problem, Format, Vars, Count, Outside, InSet, InClause}
 use Rattle.q_dimacs.specs.declared.builder.Builder.{Builder}
-use Rattle.q_dimacs.specs.Building.{is_bound}
-use Rattle.q_dimacs.specs.Reading.{problem, format, vars_of, count_of, begin_set, in_set, number, literal, in_clause, outside, at_place, step_of, IsSettled}
+use Rattle.q_dimacs.specs.Reading.{problem, IsSettled}
 
 abbrev Settles : Result Builder ℕ → Type 0
 Settles (Ok b) = IsSettled b.place b.parts.pending

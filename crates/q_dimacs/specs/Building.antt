@@ -1,11 +1,10 @@
 -- What has been read of a formula, and what becomes of it.
-use Rattle.std.specs.Prelude.{◌≡◌, ◌≢◌, ◌⊎◌, ℕ, ◌+◌, ◌<◌, ◌≤◌, ◌^◌, ◌==◌, ◌&&◌, ◌||◌, not, nat_lt, Bool, true, false, List, [], ◌∷◌, ◌++◌, length, if◌then◌else◌, slice_index_or, suc, zero, max}
+use Rattle.std.specs.Prelude.{◌≡◌, ◌≢◌, ℕ, ◌+◌, ◌<◌, ◌≤◌, ◌^◌, ◌==◌, ◌&&◌, ◌||◌, not, Bool, false, List, [], ◌∷◌, ◌++◌, length, if◌then◌else◌, slice_index_or, suc, zero, max}
 use Rattle.std.specs.List.{AllByRecursion}
-use Rattle.q_logic.specs.declared.formulas.Bound.{Bound}
-use Rattle.q_logic.specs.declared.formulas.Quant.{Quant}
-use Rattle.q_logic.specs.declared.formulas.Quant.TheVariants.{Exists, Forall}
-use Rattle.q_logic.specs.Literals.{IsBelow, Literal, pack}
-use Rattle.q_logic.specs.Formulas.{Clause, Matrix, Prefix, PrenexFormula}
+use Rattle.q_logic.specs.declared.formulas.Quant.TheVariants.{Exists}
+use Rattle.q_logic.specs.Literals.{IsBelow, Literal}
+use Rattle.q_logic.specs.Formulas.{Matrix, Prefix, PrenexFormula}
+use Rattle.q_logic.specs.Prefixes.{is_bound}
 use Rattle.q_logic.specs.Parts.{AreEnds, ArePairs, clauses_between}
 
 -- the sets so far, the clauses that have ended, and the literals of the next, as they were written
@@ -14,10 +13,6 @@ pub record Built : Type 0 where
   pub clauses : Matrix
   pub pending : List Literal
 
-abbrev pub is_bound : Prefix → ℕ → Bool
-is_bound [] v = false
-is_bound (q ∷ p) v = (q.var == v) || is_bound p v
-
 abbrev pub occurs_in : List Literal → ℕ → Bool
 occurs_in [] v = false
 occurs_in (l ∷ ls) v = (l.var == v) || occurs_in ls v
@@ -25,16 +20,6 @@ occurs_in (l ∷ ls) v = (l.var == v) || occurs_in ls v
 abbrev pub occurs : Matrix → ℕ → Bool
 occurs [] v = false
 occurs (c ∷ cs) v = occurs_in c v || occurs cs v
-
--- a literal into a clause in literal order, once
-abbrev pub insert : Literal → Clause → Clause
-insert l [] = l ∷ []
-insert l (k ∷ c) = if nat_lt (pack l) (pack k) then l ∷ k ∷ c else (if pack l == pack k then k ∷ c else k ∷ insert l c)
-
--- the set of the literals: in literal order, each once
-abbrev pub clause_of : List Literal → Clause
-clause_of [] = []
-clause_of (l ∷ ls) = insert l (clause_of ls)
 
 -- the greatest variable of a clause, of a matrix
 abbrev pub greatest_in : List Literal → ℕ

@@ -1,19 +1,17 @@
 -- What one token does to what has been read, and which offence it is otherwise.
-use Rattle.std.specs.Prelude.{◌≡◌, ℕ, ◌+◌, ◌<◌, ◌≤◌, ◌==◌, nat_lt, nat_le, Bool, true, false, List, [], ◌∷◌, ◌++◌, length, if◌then◌else◌, Result, Ok, Err, ℤ, pos, negsuc, Option, Some, None}
-use Rattle.q_logic.specs.declared.formulas.Bound.{Bound}
+use Rattle.std.specs.Prelude.{◌≡◌, ℕ, ◌+◌, ◌==◌, nat_lt, nat_le, Bool, true, false, List, [], ◌∷◌, ◌++◌, length, if◌then◌else◌, Result, Ok, Err, ℤ, pos, negsuc, Option, Some, None}
 use Rattle.q_logic.specs.declared.limits.Limits.{Limits}
 use Rattle.q_logic.specs.declared.formulas.Quant.{Quant}
 use Rattle.q_logic.specs.declared.formulas.Quant.TheVariants.{Exists, Forall}
 use Rattle.q_logic.specs.Literals.{Literal}
-use Rattle.q_logic.specs.Formulas.{PrenexFormula}
-use Rattle.q_text.specs.declared.tokens.Token.{Token}
 use Rattle.q_text.specs.declared.tokens.TokenKind.{TokenKind}
-use Rattle.q_text.specs.declared.tokens.TokenKind.TheVariants.{Number, P, Cnf, E, A, D, U, R, Other}
-use Rattle.q_text.specs.Texts.{tokens_of, line_after}
+use Rattle.q_text.specs.declared.tokens.TokenKind.TheVariants.{Number, P, Cnf, E, A}
 use Rattle.q_dimacs.specs.declared.builder.Place.{Place}
 use Rattle.q_dimacs.specs.declared.builder.Place.TheVariants.{Problem, Format, Vars, Count, Outside, InSet, InClause}
 use Rattle.q_dimacs.specs.declared.builder.Builder.{Builder}
-use Rattle.q_dimacs.specs.Building.{Built, is_bound, clause_of, formula_of}
+use Rattle.q_dimacs.specs.Building.{Built}
+use Rattle.q_logic.specs.Clauses.{clause_of}
+use Rattle.q_logic.specs.Prefixes.{is_bound}
 
 abbrev pub bad_header : ℕ
 bad_header = 1

@@ -1,10 +1,10 @@
 //! The reader of bytes.
 ghost use Rattle.std.specs.Prelude.{◌≡◌, ◌≤◌, ◌<◌, ◌^◌, ◌++◌, [], ◌∷◌, length, Ok, Err, IfOk};
 ghost use Rattle.q_dimacs.specs.Scanning.{Feeds, Answers, byte_step, fed, outcome, start, IsSound, token_step, stepped};
-ghost use Rattle.q_dimacs.specs.Texts.{parse, at_end, closed_with};
+ghost use Rattle.q_dimacs.specs.Offences.{parse, at_end, closed_with};
 ghost use Rattle.q_dimacs.specs.Reading.{end_of, IsSettled};
 ghost use Rattle.std.specs.Prelude.{List, ℕ};
-ghost use Rattle.q_dimacs.specs.Grammar.{IsDimacs};
+ghost use Rattle.q_dimacs.specs.Dimacs.{Dimacs};
 ghost use Rattle.q_logic.specs.Formulas.{PrenexFormula};
 ghost use Rattle.q_logic.specs.declared.limits.Limits.{Limits};
 
@@ -213,6 +213,6 @@ fn read_with(reader: Reader, bytes: &[u8]) -> Result<Formula, ReadError>
 
 /// What is written by the grammar is read, as its formula, and nothing else is.
 pub fn grammar_is_read()
-    ensures converse { (m : Limits) (bytes : List ℕ) (f : PrenexFormula) → parse m bytes ≡ Ok f → IsDimacs m bytes f }
-    ensures read { (m : Limits) (bytes : List ℕ) (f : PrenexFormula) → IsDimacs m bytes f → parse m bytes ≡ Ok f }
+    ensures converse { (m : Limits) (bytes : List ℕ) (f : PrenexFormula) → parse m bytes ≡ Ok f → Dimacs m bytes f }
+    ensures read { (m : Limits) (bytes : List ℕ) (f : PrenexFormula) → Dimacs m bytes f → parse m bytes ≡ Ok f }
 {}

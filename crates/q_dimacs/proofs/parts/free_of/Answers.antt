@@ -1,4 +1,4 @@
-use Rattle.std.proofs.Common.{◌∙◌, sym, ap, arith}
+use Rattle.std.proofs.Common.{◌∙◌, sym, arith}
 use Rattle.q_dimacs.specs.Building.{is_marked_free}
 use Rattle.q_dimacs.proofs.Free.{bounds-yes, bounds-no}
 use Rattle.q_dimacs.proofs.parts.free_of.Goals as goal

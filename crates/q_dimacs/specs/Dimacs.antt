@@ -1,28 +1,24 @@
 -- A formula file by what is written in it: the header, the sets, the clauses.
-use Rattle.std.specs.Prelude.{◌≡◌, ◌≢◌, ℕ, ◌+◌, ◌<◌, ◌≤◌, Bool, true, false, List, [], ◌∷◌, ◌++◌, length, map, pos}
+use Rattle.std.specs.Prelude.{◌≡◌, ◌≢◌, ℕ, ◌+◌, ◌≤◌, List, [], ◌∷◌, ◌++◌, length, map, pos}
 use Rattle.std.specs.List.{AllByRecursion}
-use Rattle.q_logic.specs.declared.formulas.Bound.{Bound}
 use Rattle.q_logic.specs.declared.limits.Limits.{Limits}
 use Rattle.q_logic.specs.declared.formulas.Quant.{Quant}
 use Rattle.q_logic.specs.declared.formulas.Quant.TheVariants.{Exists, Forall}
 use Rattle.q_logic.specs.Literals.{Literal, number_of}
-use Rattle.q_logic.specs.Formulas.{Matrix, Prefix, PrenexFormula}
+use Rattle.q_logic.specs.Formulas.{Prefix, PrenexFormula}
+use Rattle.q_logic.specs.Prefixes.{Block}
 use Rattle.q_logic.specs.Parts.{ArePairs}
-use Rattle.q_text.specs.declared.tokens.Token.{Token}
 use Rattle.q_text.specs.declared.tokens.TokenKind.{TokenKind}
 use Rattle.q_text.specs.declared.tokens.TokenKind.TheVariants.{Number, P, Cnf, E, A}
 use Rattle.q_text.specs.Texts.{tokens_of}
-use Rattle.q_dimacs.specs.Building.{clause_of, formula_of}
-
-pub record TextSet : Type 0 where
-  pub quant : Quant
-  pub vars : List ℕ
+use Rattle.q_dimacs.specs.Building.{formula_of}
+use Rattle.q_logic.specs.Clauses.{clause_of}
 
 -- what is written: V, C, the sets, and the clauses with their literals in the order of the text
 pub record Text : Type 0 where
   pub vars : ℕ
   pub count : ℕ
-  pub sets : List TextSet
+  pub sets : List Block
   pub clauses : List (List Literal)
 
 abbrev pub letter : Quant → TokenKind
@@ -33,7 +29,7 @@ abbrev pub vars_kinds : List ℕ → List TokenKind
 vars_kinds [] = Number (pos 0) ∷ []
 vars_kinds (v ∷ vs) = Number (pos v) ∷ vars_kinds vs
 
-abbrev pub sets_kinds : List TextSet → List TokenKind
+abbrev pub sets_kinds : List Block → List TokenKind
 sets_kinds [] = []
 sets_kinds (s ∷ ss) = letter s.quant ∷ vars_kinds s.vars ++ sets_kinds ss
 
@@ -53,7 +49,7 @@ abbrev pub vars_bounds : Quant → List ℕ → Prefix
 vars_bounds q [] = []
 vars_bounds q (v ∷ vs) = record { quant = q; var = v } ∷ vars_bounds q vs
 
-abbrev pub sets_bounds : List TextSet → Prefix
+abbrev pub sets_bounds : List Block → Prefix
 sets_bounds [] = []
 sets_bounds (s ∷ ss) = vars_bounds s.quant s.vars ++ sets_bounds ss
 
@@ -78,7 +74,7 @@ abbrev pub text_formula : Text → PrenexFormula
 text_formula t = formula_of (sets_bounds t.sets) (map clause_of t.clauses)
 
 -- the bytes are a formula file, and this is its formula
-pub record IsDimacs (m : Limits) (bytes : List ℕ) (f : PrenexFormula) : Type 0 where
+pub record Dimacs (m : Limits) (bytes : List ℕ) (f : PrenexFormula) : Type 0 where
   pub text : Text
   pub short : length bytes ≤ m.bytes
   pub tokens : map (λ t. t.kind) (tokens_of bytes) ≡ spelled text

@@ -1,13 +1,12 @@
 -- The formula of a whole text, or its first offence.
-use Rattle.std.specs.Prelude.{◌≡◌, ℕ, ◌+◌, ◌==◌, nat_le, Bool, true, false, ◌||◌, List, [], ◌∷◌, ◌++◌, length, take, if◌then◌else◌, Result, Ok, Err, Option, Some, None}
+use Rattle.std.specs.Prelude.{ℕ, nat_le, List, [], ◌∷◌, length, take, if◌then◌else◌, Result, Ok, Err, Option, Some, None}
 use Rattle.q_logic.specs.declared.limits.Limits.{Limits}
 use Rattle.q_logic.specs.Formulas.{PrenexFormula}
 use Rattle.q_text.specs.declared.tokens.Token.{Token}
-use Rattle.q_text.specs.Words.{is_separator}
 use Rattle.q_text.specs.Texts.{tokens_of, tokens_ended, line_after}
 use Rattle.q_dimacs.specs.declared.builder.Builder.{Builder}
 use Rattle.q_dimacs.specs.declared.reader.ReadError.{ReadError}
-use Rattle.q_dimacs.specs.declared.reader.ReadError.TheVariants.{Refused, NoMemory}
+use Rattle.q_dimacs.specs.declared.reader.ReadError.TheVariants.{Refused}
 use Rattle.q_dimacs.specs.Building.{formula_of}
 use Rattle.q_dimacs.specs.Reading.{step_of, end_of, nothing_read, limit}
 
