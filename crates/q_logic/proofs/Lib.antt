@@ -13,10 +13,12 @@ pub mod Runs
 pub mod Soundness
 pub mod Blocks
 pub mod Places
-pub mod Examples
+pub mod SmallFormulas
 pub mod Pieces
 pub mod Membership
 pub mod ClauseSets
 pub mod Sorting
 pub mod StepForms
 pub mod Parts
+pub mod Deciding
+pub mod Validity

@@ -4,21 +4,7 @@ use Rattle.q_logic.specs.declared.formulas.Quant.{Quant}
 use Rattle.q_logic.specs.declared.formulas.Bound.{Bound}
 use Rattle.q_logic.specs.declared.formulas.Quant.TheVariants.{Exists, Forall}
 use Rattle.q_logic.specs.Formulas.{Prefix}
-use Rattle.q_logic.specs.Prefixes.{is_bound, run_to, outer_or_same, same_quant}
-
--- The place of a variable, the length where it is absent.
-abbrev pub place : Prefix → ℕ → ℕ
-place [] v = 0
-place (b ∷ P) v = cond (eqb b.var v) 0 (suc (place P v))
-
-abbrev pub quant_at : Prefix → ℕ → Quant
-quant_at [] i = Exists
-quant_at (b ∷ P) zero = b.quant
-quant_at (b ∷ P) (suc i) = quant_at P i
-
--- a stands at or before v, or all variables from v to a have v's quantifier.
-abbrev pub OuterOrSame : Prefix → ℕ → ℕ → Type 0
-OuterOrSame P a v = (place P a ≤ place P v) ⊎ ((i : ℕ) → place P v ≤ i → i ≤ place P a → quant_at P i ≡ quant_at P (place P v))
+use Rattle.q_logic.specs.Prefixes.{place, quant_at, OuterOrSame, is_bound, run_to, outer_or_same, same_quant}
 
 same_quant-sound : (p q : Quant) → same_quant p q ≡ true → q ≡ p
 same_quant-sound Exists Exists h = refl

@@ -1,10 +1,10 @@
 -- Propagation entails.
-use Rattle.std.proofs.Common.{◌≡◌, ◌≢◌, Bool, true, false, not, List, [], ◌∷◌, ◌++◌, ◌⊎◌, inl, inr, arith, refl, sym, ap, ◌∙◌, subst}
+use Rattle.std.proofs.Common.{◌≡◌, Bool, true, false, not, List, [], ◌∷◌, ◌⊎◌, inl, inr, arith, refl, sym, ap, ◌∙◌, subst}
 use Rattle.q_logic.specs.Literals.{Literal, negation, literal_eq}
 use Rattle.q_logic.specs.Formulas.{Clause, Matrix, IsIn}
 use Rattle.q_logic.specs.Truth.{Assignment, LiteralTrue, ClauseTrue, MatrixTrue, signed}
-use Rattle.q_logic.specs.Propagation.{Chain, begin, more, Conflicts, negations, Implied}
-use Rattle.q_logic.proofs.Clauses.{literal_eq-sound, literal_eq-itself, IsIn-append_left}
+use Rattle.q_logic.specs.Propagation.{Chain, begin, more, Conflicts, negations, Implied, IsSaturated}
+use Rattle.q_logic.proofs.Clauses.{literal_eq-sound, literal_eq-itself}
 
 pub Holds-negation : (A : Assignment) (k : Literal) → LiteralTrue A k → LiteralTrue A (negation k) → ⊥
 Holds-negation A k h n = go k.negative (A k.var) h n
@@ -50,25 +50,13 @@ implied-true A X S (K, ch, conflict) t = elim (true_or_not A S) [ inl w ↦ w | 
     go (inl (k, a, b)) all = Holds-negation A k (all k a) (all (negation k) b)
     go (inr (D, inX, falsified)) all = let w : ClauseTrue A D = t D inX in Holds-negation A w.0 w.2 (all (negation w.0) (falsified w.0 w.1))
 
-chain-more : (X Y : Matrix) (S K : List Literal) → Chain X S K → Chain (X ++ Y) S K
-chain-more X Y S K begin = begin
-chain-more X Y S K (more {K = L} h D inX inD rest ch) = more h D (IsIn-append_left D X Y inX) inD rest (chain-more X Y S L ch)
-
-pub implied-more : (X Y : Matrix) (S : Clause) → Implied X S → Implied (X ++ Y) S
-implied-more X Y S (K, ch, inl e) = (K, chain-more X Y (negations S) K ch, inl e)
-implied-more X Y S (K, ch, inr (D, m, f)) = (K, chain-more X Y (negations S) K ch, inr (D, IsIn-append_left D X Y m, f))
-
 -- A saturated list holds each chain, so it conflicts where some chain does.
-pub record Saturated (X : Matrix) (S K : List Literal) : Type 0 where
-  pub has_start : (k : Literal) → IsIn k S → IsIn k K
-  pub closed : (D : Clause) (k : Literal) → IsIn D X → IsIn k D → ((j : Literal) → IsIn j D → j ≢ k → IsIn (negation j) K) → IsIn k K
-
-saturated-chain : (X : Matrix) (S K L : List Literal) → Saturated X S K → Chain X S L → (k : Literal) → IsIn k L → IsIn k K
+saturated-chain : (X : Matrix) (S K L : List Literal) → IsSaturated X S K → Chain X S L → (k : Literal) → IsIn k L → IsIn k K
 saturated-chain X S K L s begin k m = s.has_start k m
 saturated-chain X S K L s (more {K = M} h D inX inD rest ch) k (inr m) = saturated-chain X S K M s ch k m
 saturated-chain X S K L s (more {K = M} h D inX inD rest ch) k (inl e) = subst (λ y. IsIn y K) (sym e) (s.closed D h inX inD (λ j m n. saturated-chain X S K M s ch (negation j) (rest j m n)))
 
-pub saturated-conflicts : (X : Matrix) (S : Clause) (K : List Literal) → Saturated X (negations S) K → Implied X S → Conflicts X K
+pub saturated-conflicts : (X : Matrix) (S : Clause) (K : List Literal) → IsSaturated X (negations S) K → Implied X S → Conflicts X K
 saturated-conflicts X S K s (L, ch, inl (k, a, b)) = inl (k, saturated-chain X (negations S) K L s ch k a, saturated-chain X (negations S) K L s ch (negation k) b)
 saturated-conflicts X S K s (L, ch, inr (D, m, f)) = inr (D, m, λ j i. saturated-chain X (negations S) K L s ch (negation j) (f j i))
 

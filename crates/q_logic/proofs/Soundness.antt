@@ -1,12 +1,10 @@
 -- Runs keep the truth, and undo lists give Skolem functions back.
-use Rattle.std.proofs.Common.{◌≡◌, Bool, true, false, cond, List, [], ◌∷◌, ◌++◌, ◌⊎◌, ◌↔◌, inl, inr, arith, refl, sym, ap, ◌∙◌, subst, Option, Some, None}
+use Rattle.std.proofs.Common.{◌≡◌, Bool, true, false, cond, List, [], ◌∷◌, ◌++◌, ◌⊎◌, ◌↔◌, inl, inr, refl, sym, ap, ◌∙◌, subst, Option, Some, None}
 use Rattle.q_logic.proofs.Justified.{Justified, JustifiedSteps, JustifiedRun}
-use Rattle.q_logic.specs.declared.formulas.Quant.{Quant}
-use Rattle.q_logic.specs.declared.formulas.Quant.TheVariants.{Exists, Forall}
 use Rattle.q_logic.specs.Literals.{Literal, negation}
 use Rattle.q_logic.specs.Formulas.{Prefix, Clause, Matrix, IsIn, PrenexFormula}
 use Rattle.q_logic.specs.Prefixes.{is_existential, is_bound, IsFormula}
-use Rattle.q_logic.specs.Truth.{Assignment, LiteralTrue, ClauseTrue, MatrixTrue, signed, HoldsUnder, by_quant, with_value, Holds}
+use Rattle.q_logic.specs.Truth.{Holds}
 use Rattle.q_logic.specs.Circuits.{constant}
 use Rattle.q_logic.specs.Skolems.{Strategy, outcome, Skolem, Lawful, SkolemOf}
 use Rattle.q_logic.specs.Propagation.{Implied}
@@ -14,6 +12,7 @@ use Rattle.q_logic.specs.Pivots.{ExistsPivot, OutersOf, without}
 use Rattle.q_logic.specs.Steps.{one_less, insert_after, ProofStep, add, delete, drop_literal, fresh, remove_variable, FirstPivot, after}
 use Rattle.q_logic.specs.Runs.{SameFormula}
 use Rattle.q_logic.specs.Undos.{all_of, pivoted, UndoEntry, removed, freshened, with_circuit, taken_back, Back, Entries, Undos}
+use Rattle.q_logic.proofs.Deciding.{true_decided}
 use Rattle.q_logic.proofs.Blocks.{skolem-same, lawful-same, Same-sym}
 use Rattle.q_logic.proofs.Propagation.{implied-true}
 use Rattle.q_logic.proofs.Pivot.{pivot-keeps, pivot-lawful, outers-near}
@@ -23,47 +22,6 @@ use Rattle.q_logic.proofs.Truth.{true_has-skolem, skolem_makes-true}
 use Rattle.q_logic.proofs.Prefixes.{insert-distinct, insert-is_bound, insert-itself, removed-is_bound, removed-distinct}
 use Rattle.q_logic.proofs.Order.{bound_of_e}
 use Rattle.q_logic.proofs.Runs.{one_less-IsIn, IsIn-one_less, Skolem-fewer, Skolem-first, Skolem-longer, fresh-back, fresh-lawful, fresh-on, removed-back, removed-lawful, removed-on, at_or_other}
-
--- Truth is decided.
-unfoldable pub clause_decided : (A : Assignment) (C : Clause) → ClauseTrue A C ⊎ (ClauseTrue A C → ⊥)
-clause_decided A [] = inr (λ w. elim w.1 [ ])
-clause_decided A (k ∷ C) = go (signed k.negative (A k.var)) refl (clause_decided A C)
-  where
-    go : (b : Bool) → signed k.negative (A k.var) ≡ b → ClauseTrue A C ⊎ (ClauseTrue A C → ⊥) → ClauseTrue A (k ∷ C) ⊎ (ClauseTrue A (k ∷ C) → ⊥)
-    go true e ih = inl (k, inl refl, e)
-    go false e (inl w) = inl (w.0, inr w.1, w.2)
-    go false e (inr n) = inr refuted
-      where
-        refuted : ClauseTrue A (k ∷ C) → ⊥
-        refuted (j, inl s, t) = let z : signed k.negative (A k.var) ≡ true = subst (LiteralTrue A) s t in grind arith
-        refuted (j, inr m, t) = n (j, m, t)
-
-unfoldable pub matrix_decided : (A : Assignment) (X : Matrix) → MatrixTrue A X ⊎ (MatrixTrue A X → ⊥)
-matrix_decided A [] = inl (λ D m. elim m [ ])
-matrix_decided A (C ∷ X) = go (clause_decided A C) (matrix_decided A X)
-  where
-    go : ClauseTrue A C ⊎ (ClauseTrue A C → ⊥) → MatrixTrue A X ⊎ (MatrixTrue A X → ⊥) → MatrixTrue A (C ∷ X) ⊎ (MatrixTrue A (C ∷ X) → ⊥)
-    go (inl a) (inl b) = inl (λ D m. elim m [ inl e ↦ subst (ClauseTrue A) (sym e) a | inr r ↦ b D r ])
-    go (inl a) (inr b) = inr (λ t. b (λ D m. t D (inr m)))
-    go (inr a) b = inr (λ t. a (t C (inl refl)))
-
-unfoldable pub true_decided : (P : Prefix) (X : Matrix) (A : Assignment) → HoldsUnder P X A ⊎ (HoldsUnder P X A → ⊥)
-true_decided [] X A = matrix_decided A X
-true_decided (b ∷ P) X A = go b.quant (true_decided P X (with_value A b.var false)) (true_decided P X (with_value A b.var true))
-  where
-    S : Type 0
-    S = HoldsUnder P X (with_value A b.var false)
-
-    T : Type 0
-    T = HoldsUnder P X (with_value A b.var true)
-
-    go : (q : Quant) → S ⊎ (S → ⊥) → T ⊎ (T → ⊥) → by_quant q S T ⊎ (by_quant q S T → ⊥)
-    go Exists (inl s) t = inl (inl s)
-    go Exists (inr s) (inl t) = inl (inr t)
-    go Exists (inr s) (inr t) = inr (λ h. elim h [ inl a ↦ s a | inr a ↦ t a ])
-    go Forall (inl s) (inl t) = inl (s, t)
-    go Forall (inl s) (inr t) = inr (λ h. t h.1)
-    go Forall (inr s) t = inr (λ h. s h.0)
 
 -- What a step leaves is a formula.
 pub after-formula : (F : PrenexFormula) (s : ProofStep) → IsFormula F → Justified F s → IsFormula (after F s)
@@ -186,7 +144,7 @@ rebuilt-skolem F ss G us c f r u sk = run-back F ss r.last us c f r.steps u (sko
 pub rebuilt-lawful : (F : PrenexFormula) (ss : List ProofStep) (G : PrenexFormula) (us : List UndoEntry) (c : Strategy) → IsFormula F → JustifiedRun F ss G → Undos F ss us → Lawful G.prefix c → Lawful F.prefix (Back us c)
 rebuilt-lawful F ss G us c f r u l = steps-lawful F ss r.last us c f r.steps u (lawful-same r.last G c r.same l)
 
-steps-formula : (F : PrenexFormula) (ss : List ProofStep) (E : PrenexFormula) → IsFormula F → JustifiedSteps F ss E → IsFormula E
+pub steps-formula : (F : PrenexFormula) (ss : List ProofStep) (E : PrenexFormula) → IsFormula F → JustifiedSteps F ss E → IsFormula E
 steps-formula F [] E f r = subst IsFormula r f
 steps-formula F (s ∷ ss) E f r = steps-formula (after F s) ss E (after-formula F s f r.0) r.1
 
@@ -204,3 +162,6 @@ run-true F ss G f g r = (on, back)
 
 pub same-true : (F G : PrenexFormula) → IsFormula F → IsFormula G → SameFormula F G → Holds F ↔ Holds G
 same-true F G f g s = run-true F [] G f g (record { last = F; steps = refl; same = s })
+
+pub steps-true : (F : PrenexFormula) (ss : List ProofStep) (E : PrenexFormula) → IsFormula F → JustifiedSteps F ss E → Holds F ↔ Holds E
+steps-true F ss E f r = (run-true_on F ss E f r, run-true_back F ss E f r)

@@ -16,3 +16,4 @@ pub mod Clauses
 pub mod StepForms
 pub mod Sweep
 pub mod Measure
+pub mod Examples

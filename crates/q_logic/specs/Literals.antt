@@ -1,17 +1,21 @@
--- Literals
+-- Literals and their order. (QDIMACS 1.1)
 use Rattle.std.specs.Prelude.{◌≡◌, ◌⊎◌, ◌<◌, ℕ, ◌+◌, ◌*◌, ◌/◌, ◌%◌, ◌==◌, Bool, true, false, not, ◌&&◌, eqb, if◌then◌else◌, ℤ, pos, neg_ℤ}
 
+-- a variable or its negation
 pub record Literal : Type 0 where
   pub var : ℕ
   pub negative : Bool
 
+-- the literal of the same variable and the other sign
 abbrev pub negation : Literal → Literal
 negation k = record { var = k.var; negative = not k.negative }
 
+-- whether the two values are equal
 abbrev pub bool_eq : Bool → Bool → Bool
 bool_eq true b = b
 bool_eq false b = not b
 
+-- whether the two literals are equal
 abbrev pub literal_eq : Literal → Literal → Bool
 literal_eq j k = eqb j.var k.var && bool_eq j.negative k.negative
 

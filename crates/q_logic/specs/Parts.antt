@@ -1,4 +1,5 @@
--- A formula in parts: the literals of all clauses in one row, and where each clause ends.
+-- A formula in parts, as the code holds it: the literals of all clauses in one row, and where each clause
+-- ends.
 use Rattle.std.specs.Prelude.{◌≡◌, ◌≢◌, ◌⊎◌, ℕ, ◌≤◌, ◌<◌, ◌^◌, List, [], ◌∷◌, length, slice_range}
 use Rattle.std.specs.List.{AllByRecursion}
 use Rattle.q_logic.specs.Literals.{Literal, IsBelow}

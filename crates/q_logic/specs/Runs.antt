@@ -1,4 +1,4 @@
--- Runs
+-- Runs of valid steps. (This project's own; every deletion is checked.)
 use Rattle.std.specs.Prelude.{◌≡◌, ℕ, ◌+◌, cond, List, [], ◌∷◌}
 use Rattle.q_logic.specs.Formulas.{Clause, Matrix, PrenexFormula}
 use Rattle.q_logic.specs.Prefixes.{blocks, SameBlocks}
@@ -11,10 +11,12 @@ abbrev pub ValidSteps : Limits → PrenexFormula → List ProofStep → PrenexFo
 ValidSteps m F [] E = F ≡ E
 ValidSteps m F (s ∷ ss) E = Valid m F s × ValidSteps m (after F s) ss E
 
+-- the number of copies of a clause
 abbrev pub copies : Clause → Matrix → ℕ
 copies C [] = 0
 copies C (D ∷ X) = cond (clause_eq D C) (copies C X + 1) (copies C X)
 
+-- the same blocks, and the same clauses with as many copies
 pub record SameFormula (F G : PrenexFormula) : Type 0 where
   pub same_blocks : SameBlocks (blocks F.prefix) (blocks G.prefix)
   pub same_clauses : (C : Clause) → copies C F.matrix ≡ copies C G.matrix

@@ -1,37 +1,45 @@
--- Skolems
+-- Skolem functions as circuits. (Heule, Seidl, Biere, "Solution Validation and Extraction for QBF
+-- Preprocessing", Journal of Automated Reasoning 58, 2017.)
 use Rattle.std.specs.Prelude.{◌≡◌, ℕ, Bool, true, false, Option, Some, None}
 use Rattle.q_logic.specs.Formulas.{Matrix, Prefix, PrenexFormula}
 use Rattle.q_logic.specs.Prefixes.{is_existential, universal_before}
 use Rattle.q_logic.specs.Truth.{Assignment, MatrixTrue}
 use Rattle.q_logic.specs.Circuits.{Circuit, value_of, Reads, input}
 
--- One tree or none for each variable; a variable without one is read as an input.
+-- a circuit or none for each variable
 abbrev pub Strategy : Type 0
 Strategy = ℕ → Option Circuit
 
+-- a variable without a circuit is read as an input
 abbrev pub or_input : ℕ → Option Circuit → Circuit
 or_input x None = input x
 or_input x (Some t) = t
 
+-- what stands for the variable
 abbrev pub circuit_of : Strategy → ℕ → Circuit
 circuit_of c x = or_input x (c x)
 
+-- each variable with a circuit gets its value
 abbrev pub outcome : Strategy → Assignment → Assignment
 outcome c A x = value_of (circuit_of c x) A
 
+-- whether there is a circuit
 abbrev pub given : Option Circuit → Bool
 given None = false
 given (Some t) = true
 
--- A tree for each existential and for no other variable, which reads universals before it alone.
+-- a circuit for each existential and for no other variable, which reads only universals that stand before
+-- its own variable
 pub record Lawful (P : Prefix) (c : Strategy) : Type 0 where
   pub trees : (x : ℕ) → given (c x) ≡ is_existential P x
   pub reads : (x : ℕ) → is_existential P x ≡ true → (u : ℕ) → Reads (circuit_of c x) u → universal_before P u x ≡ true
 
+-- lawful circuits that make each clause true, whatever the universals are
 pub record Skolem (P : Prefix) (X : Matrix) (c : Strategy) : Type 0 where
   pub lawful : Lawful P c
   pub open lawful use *
   pub wins : (A : Assignment) → MatrixTrue (outcome c A) X
 
+-- Skolem functions of a formula
 abbrev pub SkolemOf : PrenexFormula → Strategy → Type 0
 SkolemOf F c = Skolem F.prefix F.matrix c

@@ -1,4 +1,7 @@
--- Steps
+-- Steps of a proof: when each is valid, what it leaves, and what is wrong with one that is not valid.
+-- (Additions, deletions and the dropping of a literal: Heule, Seidl, Biere, "A Unified Proof System for QBF
+-- Preprocessing", IJCAR 2014. Fresh and removed variables, and that a deletion has to be justified, are this
+-- project's own.)
 use Rattle.std.specs.Prelude.{◌≡◌, ◌≤◌, ◌<◌, ℕ, ◌+◌, ◌*◌, Bool, true, false, cond, ◌&&◌, eqb, [], ◌∷◌, length, ◌⊎◌, Option, Some}
 use Rattle.q_logic.specs.declared.limits.Limits.{Limits}
 use Rattle.q_logic.specs.declared.formulas.Quant.TheVariants.{Exists}
@@ -9,27 +12,29 @@ use Rattle.q_logic.specs.Propagation.{Implied}
 use Rattle.q_logic.specs.Pivots.{ExistsPivot, without, ForallPivot}
 use Rattle.q_logic.specs.Reach.{Reducible}
 
+-- whether the two clauses are equal
 abbrev pub clause_eq : Clause → Clause → Bool
 clause_eq [] [] = true
 clause_eq [] (k ∷ D) = false
 clause_eq (j ∷ C) [] = false
 clause_eq (j ∷ C) (k ∷ D) = literal_eq j k && clause_eq C D
 
--- X with one copy of C fewer.
+-- the clauses with one copy of C fewer
 abbrev pub one_less : Clause → Matrix → Matrix
 one_less C [] = []
 one_less C (D ∷ X) = cond (clause_eq D C) X (D ∷ one_less C X)
 
--- The existential v directly after w.
+-- the prefix with the existential v directly after w
 abbrev pub insert_after : ℕ → ℕ → Prefix → Prefix
 insert_after w v [] = []
 insert_after w v (b ∷ P) = cond (eqb b.var w) (b ∷ record { quant = Exists; var = v } ∷ P) (b ∷ insert_after w v P)
 
+-- the prefix without v
 abbrev pub removed_from : ℕ → Prefix → Prefix
 removed_from v [] = []
 removed_from v (b ∷ P) = cond (eqb b.var v) P (b ∷ removed_from v P)
 
--- Of a clause the first literal is told beside its set of literals.
+-- a step; of a clause the first literal is told beside its set of literals
 pub data ProofStep : Type 0 where
   add : Option Literal → Clause → ProofStep
   delete : Option Literal → Clause → ProofStep
@@ -37,9 +42,11 @@ pub data ProofStep : Type 0 where
   fresh : ℕ → ℕ → ProofStep
   remove_variable : ℕ → ProofStep
 
+-- the first literal is an existential pivot
 abbrev pub FirstPivot : Prefix → Matrix → Clause → Option Literal → Type 0
 FirstPivot P X C p = (l : Literal) × (p ≡ Some l) × ExistsPivot P X C l
 
+-- the variables of the clause are in the prefix
 abbrev pub Within : Prefix → Clause → Type 0
 Within P C = (k : Literal) → IsIn k C → is_bound P k.var ≡ true
 
@@ -93,6 +100,7 @@ pub record Cause (m : Limits) (F : PrenexFormula) (s : ProofStep) (n : ℕ) : Ty
   pub applies : IsWrong m F s n
   pub least : (k : ℕ) → k < n → ¬ IsWrong m F s k
 
+-- the formula after a step
 abbrev pub after : PrenexFormula → ProofStep → PrenexFormula
 after F (add p C) = record { prefix = F.prefix; matrix = C ∷ F.matrix }
 after F (delete p C) = record { prefix = F.prefix; matrix = one_less C F.matrix }

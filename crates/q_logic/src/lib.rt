@@ -2,6 +2,7 @@
 //! steps, and the laws on them. Every other crate stands on this one.
 #![tactic(auto)]
 
+mod examples;
 mod formulas;
 mod laws;
 mod limits;
@@ -11,10 +12,15 @@ mod memory;
 mod rule_bounds;
 mod steps;
 
+pub use examples::{
+    careless_pivot_is_wrong, careless_reduction_is_wrong, fresh_place_matters,
+    order_matters_to_outer_clauses, order_matters_to_truth,
+};
 pub use formulas::{Bound, Formula, Quant};
 pub use laws::{
-    implied_by_more, implied_is_sound, reducible_by_variable, runs_keep_truth, runs_rebuild,
-    same_formulas, truth_is_skolem,
+    causes_are_exact, implied_by_more, implied_is_sound, larger_limits_keep_steps, order_by_places,
+    reducible_by_variable, runs_keep_truth, runs_rebuild, same_formulas, saturated_conflicts,
+    steps_keep_formulas, truth_is_decided, truth_is_skolem,
 };
 pub use limits::Limits;
 pub use literals::Lit;
