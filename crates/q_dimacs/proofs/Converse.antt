@@ -23,8 +23,8 @@ use Rattle.q_logic.specs.Prefixes.{Block}
 use Rattle.q_dimacs.proofs.Grammar.{kinds_read, kinds-err, inside}
 use Rattle.q_text.specs.declared.tokens.Token.{Token}
 use Rattle.q_text.specs.Texts.{tokens_of, tokens_ended, line_after}
-use Rattle.q_dimacs.specs.declared.reader.ReadError.{ReadError}
-use Rattle.q_dimacs.specs.declared.reader.ReadError.TheVariants.{Refused}
+use Rattle.q_dimacs.specs.declared.error.ReadError.{ReadError}
+use Rattle.q_dimacs.specs.declared.error.ReadError.TheVariants.{Refused}
 use Rattle.q_dimacs.specs.Offences.{tokens_read, at_line, at_last, at_end, past_limit, parse}
 use Rattle.q_dimacs.proofs.Law.{tokens_read-err}
 use Rattle.q_dimacs.proofs.Marks.{Pairs-push, differs}

@@ -14,7 +14,7 @@ use Rattle.q_text.specs.declared.tokens.TokenKind.TheVariants.{Number}
 use Rattle.q_dimacs.specs.declared.builder.Place.{Place}
 use Rattle.q_dimacs.specs.declared.builder.Place.TheVariants.{Vars, Count, Outside, InSet, InClause}
 use Rattle.q_dimacs.specs.declared.builder.Builder.{Builder}
-use Rattle.q_dimacs.specs.declared.reader.ReadError.{ReadError}
+use Rattle.q_dimacs.specs.declared.error.ReadError.{ReadError}
 use Rattle.q_logic.specs.Clauses.{clause_of}
 use Rattle.q_logic.specs.Prefixes.{is_bound}
 use Rattle.q_dimacs.specs.Reading.{step_of, number, nothing_read}

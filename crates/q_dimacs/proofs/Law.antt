@@ -13,8 +13,8 @@ use Rattle.q_text.specs.Texts.{tokens_of, tokens_ended, line_after, line_from}
 use Rattle.q_text.specs.Tokens.{handed, after, token_in, kind_in, begun, after_blank, grown, to_come, listed, all_handed}
 use Rattle.q_text.proofs.Law.{from_start, handed-ended}
 use Rattle.q_dimacs.specs.declared.builder.Builder.{Builder}
-use Rattle.q_dimacs.specs.declared.reader.ReadError.{ReadError}
-use Rattle.q_dimacs.specs.declared.reader.ReadError.TheVariants.{Refused}
+use Rattle.q_dimacs.specs.declared.error.ReadError.{ReadError}
+use Rattle.q_dimacs.specs.declared.error.ReadError.TheVariants.{Refused}
 use Rattle.q_dimacs.specs.declared.reader.Standing.TheVariants.{Reading, Stopped}
 use Rattle.q_dimacs.specs.Reading.{step_of, end_of, nothing_read, limit}
 use Rattle.q_dimacs.specs.Scanning.{Scan, stepped, token_step, fed, start, whole, ended, outcome, outcome_at}
@@ -31,7 +31,7 @@ tokens_read-err m e (t ∷ ts) = tokens_read-err m e ts
 outcome-stopped : (s : Scan) (e : ReadError) → s.standing ≡ Stopped e → outcome s ≡ Err e
 outcome-stopped s e h = ap (outcome_at s) h
 
-outcome-fed-stopped : (s : Scan) (e : ReadError) (bs : List ℕ) → s.standing ≡ Stopped e → outcome (fed s bs) ≡ Err e
+pub outcome-fed-stopped : (s : Scan) (e : ReadError) (bs : List ℕ) → s.standing ≡ Stopped e → outcome (fed s bs) ≡ Err e
 outcome-fed-stopped s e bs h = rw (fed-stopped s e bs h) (outcome-stopped s e h)
 
 -- the end

@@ -80,3 +80,10 @@ pub record Dimacs (m : Limits) (bytes : List ℕ) (f : PrenexFormula) : Type 0 w
   pub tokens : map (λ t. t.kind) (tokens_of bytes) ≡ spelled text
   pub lawful : IsLawful m text
   pub formula : f ≡ text_formula text
+
+-- no limit of the first is above that of the second
+pub record AreWithin (small large : Limits) : Type 0 where
+  pub vars : small.vars ≤ large.vars
+  pub clauses : small.clauses ≤ large.clauses
+  pub lits : small.lits ≤ large.lits
+  pub bytes : small.bytes ≤ large.bytes

@@ -1,12 +1,12 @@
 -- The formula of a whole text, or its first offence.
-use Rattle.std.specs.Prelude.{ℕ, nat_le, List, [], ◌∷◌, length, take, if◌then◌else◌, Result, Ok, Err, Option, Some, None}
+use Rattle.std.specs.Prelude.{◌≡◌, ℕ, nat_le, List, [], ◌∷◌, length, take, if◌then◌else◌, Result, Ok, Err, Option, Some, None}
 use Rattle.q_logic.specs.declared.limits.Limits.{Limits}
 use Rattle.q_logic.specs.Formulas.{PrenexFormula}
 use Rattle.q_text.specs.declared.tokens.Token.{Token}
 use Rattle.q_text.specs.Texts.{tokens_of, tokens_ended, line_after}
 use Rattle.q_dimacs.specs.declared.builder.Builder.{Builder}
-use Rattle.q_dimacs.specs.declared.reader.ReadError.{ReadError}
-use Rattle.q_dimacs.specs.declared.reader.ReadError.TheVariants.{Refused}
+use Rattle.q_dimacs.specs.declared.error.ReadError.{ReadError}
+use Rattle.q_dimacs.specs.declared.error.ReadError.TheVariants.{Refused}
 use Rattle.q_dimacs.specs.Building.{formula_of}
 use Rattle.q_dimacs.specs.Reading.{step_of, end_of, nothing_read, limit}
 
@@ -44,3 +44,7 @@ parse m bytes =
 
 abbrev pub closed_with : Limits → Builder → Token → ℕ → Result PrenexFormula ReadError
 closed_with m b t n = at_last n (at_line t.line (step_of m b t.kind))
+
+-- the first offence of the bytes
+abbrev pub Offence : Limits → List ℕ → ℕ → ℕ → Type 0
+Offence m bytes line cause = parse m bytes ≡ Err (Refused line cause)

@@ -6,8 +6,8 @@ use Rattle.q_text.specs.declared.tokens.Token.{Token}
 use Rattle.q_text.specs.declared.tokens.Tokens.{Tokens}
 use Rattle.q_text.specs.Tokens.{handed, after, token_in, kind_in, begun}
 use Rattle.q_dimacs.specs.declared.builder.Builder.{Builder}
-use Rattle.q_dimacs.specs.declared.reader.ReadError.{ReadError}
-use Rattle.q_dimacs.specs.declared.reader.ReadError.TheVariants.{Refused, NoMemory}
+use Rattle.q_dimacs.specs.declared.error.ReadError.{ReadError}
+use Rattle.q_dimacs.specs.declared.error.ReadError.TheVariants.{Refused, NoMemory}
 use Rattle.q_dimacs.specs.declared.reader.Standing.{Standing}
 use Rattle.q_dimacs.specs.declared.reader.Standing.TheVariants.{Reading, Stopped}
 use Rattle.q_dimacs.specs.Building.{formula_of}
@@ -44,6 +44,10 @@ fed s (b ∷ bs) = fed (byte_step s b) bs
 
 abbrev pub start : Limits → Scan
 start m = record { limits = m; tokens = begun; taken = 0; builder = nothing_read; standing = Reading }
+
+-- the reader has read these bytes, in whatever pieces, and no offence stood in them
+abbrev pub HasRead : Limits → List ℕ → Scan → Type 0
+HasRead m bytes s = s ≡ fed (start m) bytes
 
 abbrev pub whole : Scan → Option ℕ → Result PrenexFormula ReadError
 whole s (Some c) = Err (Refused s.tokens.line c)

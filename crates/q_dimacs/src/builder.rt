@@ -1,13 +1,16 @@
-//! One token after another.
 ghost use Rattle.std.specs.Prelude.{◌≡◌, ℕ, ◌≤◌, ◌<◌, ◌^◌, ◌++◌, [], ◌∷◌, length, MatchResult, Ok, Err, ℤ};
 ghost use Rattle.q_dimacs.specs.Reading.{problem, format, vars_of, count_of, begin_set, outside, in_clause, number, in_set, end_of, step_of, nothing_read};
 ghost use Rattle.q_dimacs.specs.Steps.{Steps};
 
+use crate::error::{
+    ABOVE_HEADER, BAD_HEADER, BAD_TOKEN, BOUND_TWICE, CLAUSE_COUNT, LATE_QUANTIFIER, LIMIT, UNENDED,
+};
 use crate::parts::Parts;
 use q_logic::{Limits, Lit, NoMemory, Quant};
 use q_text::TokenKind;
 use std::alloc::Global;
 
+/// What stands next.
 #[derive(Clone, Copy)]
 pub enum Place {
     Problem,
@@ -19,6 +22,7 @@ pub enum Place {
     InClause,
 }
 
+/// Why a token was not taken.
 #[derive(Clone, Copy)]
 pub enum Fault {
     Cause(u8),
@@ -35,6 +39,7 @@ impl From<NoMemory> for Fault {
     }
 }
 
+/// What the tokens so far have given.
 #[derive(Drop)]
 pub struct Builder {
     pub place: Place,
@@ -85,7 +90,7 @@ impl Builder {
                 self.place = Place::Format;
                 Ok(())
             }
-            _ => Err(Fault::Cause(1)),
+            _ => Err(Fault::Cause(BAD_HEADER)),
         }
     }
 
@@ -99,7 +104,7 @@ impl Builder {
                 self.place = Place::Vars;
                 Ok(())
             }
-            _ => Err(Fault::Cause(1)),
+            _ => Err(Fault::Cause(BAD_HEADER)),
         }
     }
 
@@ -112,16 +117,16 @@ impl Builder {
         match kind {
             TokenKind::Number(n) => {
                 if n < 0 {
-                    return Err(Fault::Cause(1));
+                    return Err(Fault::Cause(BAD_HEADER));
                 }
                 if n > limits.vars as i64 {
-                    return Err(Fault::Cause(8));
+                    return Err(Fault::Cause(LIMIT));
                 }
                 self.vars = n as u32;
                 self.place = Place::Count;
                 Ok(())
             }
-            _ => Err(Fault::Cause(1)),
+            _ => Err(Fault::Cause(BAD_HEADER)),
         }
     }
 
@@ -134,16 +139,16 @@ impl Builder {
         match kind {
             TokenKind::Number(n) => {
                 if n < 0 {
-                    return Err(Fault::Cause(1));
+                    return Err(Fault::Cause(BAD_HEADER));
                 }
                 if n as u64 > limits.clauses {
-                    return Err(Fault::Cause(8));
+                    return Err(Fault::Cause(LIMIT));
                 }
                 self.count = n as u64;
                 self.place = Place::Outside;
                 Ok(())
             }
-            _ => Err(Fault::Cause(1)),
+            _ => Err(Fault::Cause(BAD_HEADER)),
         }
     }
 
@@ -153,7 +158,7 @@ impl Builder {
         ensures kept { self.new.vars < 2 ^ 31 }
     {
         if self.parts.clauses() > 0 {
-            return Err(Fault::Cause(5));
+            return Err(Fault::Cause(LATE_QUANTIFIER));
         }
         self.place = Place::InSet(quant);
         Ok(())
@@ -169,13 +174,13 @@ impl Builder {
         match kind {
             TokenKind::Number(n) => {
                 if self.parts.clauses() as u64 >= self.count {
-                    return Err(Fault::Cause(6));
+                    return Err(Fault::Cause(CLAUSE_COUNT));
                 }
                 self.number(limits, n)
             }
             TokenKind::E => self.begin_set(Quant::Exists),
             TokenKind::A => self.begin_set(Quant::Forall),
-            _ => Err(Fault::Cause(2)),
+            _ => Err(Fault::Cause(BAD_TOKEN)),
         }
     }
 
@@ -188,7 +193,7 @@ impl Builder {
     {
         match kind {
             TokenKind::Number(n) => self.number(limits, n),
-            _ => Err(Fault::Cause(2)),
+            _ => Err(Fault::Cause(BAD_TOKEN)),
         }
     }
 
@@ -207,10 +212,10 @@ impl Builder {
         }
         let magnitude = n.unsigned_abs();
         if magnitude > self.vars as u64 {
-            return Err(Fault::Cause(3));
+            return Err(Fault::Cause(ABOVE_HEADER));
         }
         if self.lits >= limits.lits {
-            return Err(Fault::Cause(8));
+            return Err(Fault::Cause(LIMIT));
         }
         self.parts.add(Lit::new(magnitude as u32, n < 0))?;
         self.lits += 1;
@@ -227,23 +232,23 @@ impl Builder {
         match kind {
             TokenKind::Number(n) => {
                 if n < 0 {
-                    return Err(Fault::Cause(2));
+                    return Err(Fault::Cause(BAD_TOKEN));
                 }
                 if n == 0 {
                     self.place = Place::Outside;
                     return Ok(());
                 }
                 if n as u64 > self.vars as u64 {
-                    return Err(Fault::Cause(3));
+                    return Err(Fault::Cause(ABOVE_HEADER));
                 }
                 let var = n as u32;
                 if self.parts.is_bound(var) {
-                    return Err(Fault::Cause(4));
+                    return Err(Fault::Cause(BOUND_TWICE));
                 }
                 self.parts.bind(quant, var)?;
                 Ok(())
             }
-            _ => Err(Fault::Cause(2)),
+            _ => Err(Fault::Cause(BAD_TOKEN)),
         }
     }
 
@@ -254,14 +259,14 @@ impl Builder {
         match self.place {
             Place::Outside => {
                 if (self.parts.clauses() as u64) < self.count {
-                    Some(6)
+                    Some(CLAUSE_COUNT)
                 } else {
                     None
                 }
             }
-            Place::InSet(_) => Some(7),
-            Place::InClause => Some(7),
-            _ => Some(1),
+            Place::InSet(_) => Some(UNENDED),
+            Place::InClause => Some(UNENDED),
+            _ => Some(BAD_HEADER),
         }
     }
 }

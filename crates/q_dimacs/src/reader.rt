@@ -1,31 +1,26 @@
-//! The reader of bytes.
-ghost use Rattle.std.specs.Prelude.{◌≡◌, ◌≤◌, ◌<◌, ◌^◌, ◌++◌, [], ◌∷◌, length, Ok, Err, IfOk};
-ghost use Rattle.q_dimacs.specs.Scanning.{Feeds, Answers, byte_step, fed, outcome, start, IsSound, token_step, stepped};
-ghost use Rattle.q_dimacs.specs.Offences.{parse, at_end, closed_with};
-ghost use Rattle.q_dimacs.specs.Reading.{end_of, IsSettled};
-ghost use Rattle.std.specs.Prelude.{List, ℕ};
-ghost use Rattle.q_dimacs.specs.Dimacs.{Dimacs};
-ghost use Rattle.q_logic.specs.Formulas.{PrenexFormula};
+ghost use Rattle.std.specs.Prelude.{◌≡◌, ℕ, ◌<◌, ◌^◌, List, [], ◌++◌, Some, Err, IfOk, OnOk, IfErr};
 ghost use Rattle.q_logic.specs.declared.limits.Limits.{Limits};
+ghost use Rattle.q_logic.specs.Limits.{AreModerate};
+ghost use Rattle.q_dimacs.specs.Scanning.{Feeds, Answers, HasRead, byte_step, fed, outcome, start, token_step};
+ghost use Rattle.q_dimacs.specs.Dimacs.{Dimacs};
+ghost use Rattle.q_dimacs.specs.Offences.{Offence, parse, at_end, closed_with};
+ghost use Rattle.q_dimacs.specs.Reading.{end_of, IsSettled};
 
 use crate::builder::{Builder, Fault};
+use crate::error::{LIMIT, ReadError};
 use q_logic::{Formula, Limits};
 use q_text::{Token, Tokens};
 use std::alloc::Global;
 use std::marker::Model;
 
-#[derive(Clone, Copy)]
-pub enum ReadError {
-    Refused { line: u64, cause: u8 },
-    NoMemory,
-}
-
+/// Whether the reader still reads, or for what it stopped.
 #[derive(Clone, Copy)]
 pub enum Standing {
     Reading,
     Stopped(ReadError),
 }
 
+/// Reads a formula from bytes that come in pieces. How they are cut makes no difference.
 #[derive(Drop)]
 pub struct Reader {
     alloc: Global,
@@ -48,9 +43,9 @@ impl Model for Reader {
 
 impl Reader {
     pub fn new(alloc: Global, limits: Limits) -> Result<Reader, ReadError>
-        requires vars { limits.vars < 2 ^ 31 }
-        requires bytes { limits.bytes ≤ 2 ^ 62 }
-        ensures { IfOk result (λ r. r ≡ start limits) }
+        requires { AreModerate limits }
+        ensures start { IfOk result (λ reader. HasRead limits [] reader) }
+        ensures refusal { IfErr result (λ e. e ≡ ReadError.NoMemory) }
     {
         Ok(Reader {
             alloc,
@@ -62,12 +57,67 @@ impl Reader {
         })
     }
 
-    fn stop(&mut self, error: ReadError) -> Result<(), ReadError>
-        ensures new { self.new ≡ record self.old { standing = Standing.Stopped error } }
-        ensures result { result ≡ Err error }
+    /// Reads on. It refuses only for an offence in the bytes so far, which is then that of every text
+    /// that begins with them, and gives the same answer from then on.
+    pub fn feed(&mut self, piece: &[u8]) -> Result<(), ReadError>
+        ensures read { OnOk result ((limits : Limits) → (bytes : List ℕ) → HasRead limits bytes self.old → HasRead limits (bytes ++ piece.now) self.new) }
+        ensures refused { (limits : Limits) → (bytes : List ℕ) → (rest : List ℕ) → (line : ℕ) → (cause : ℕ) → HasRead limits bytes self.old → result ≡ Err (ReadError.Refused line cause) → Offence limits (bytes ++ (piece.now ++ rest)) line cause }
+
+        // What has stopped the reader stops it for good.
+        ensures stopped { IfErr result (λ e. self.new.standing ≡ Standing.Stopped e) }
+        ensures lasting_answer { (e : ReadError) → self.old.standing ≡ Standing.Stopped e → result ≡ Err e }
+        ensures lasting_state { (e : ReadError) → self.old.standing ≡ Standing.Stopped e → self.new ≡ self.old }
     {
-        self.standing = Standing::Stopped(error);
-        Err(error)
+        self.feed_bytes(piece)
+    }
+
+    /// The formula of all bytes, or their first offence.
+    pub fn finish(self) -> Result<Formula, ReadError>
+        ensures formula { IfOk result (λ f. (limits : Limits) → (bytes : List ℕ) → HasRead limits bytes self → Dimacs limits bytes f) }
+        ensures refused { (limits : Limits) → (bytes : List ℕ) → (line : ℕ) → (cause : ℕ) → HasRead limits bytes self → result ≡ Err (ReadError.Refused line cause) → Offence limits bytes line cause }
+        ensures lasting { (e : ReadError) → self.standing ≡ Standing.Stopped e → result ≡ Err e }
+    {
+        self.formula()
+    }
+
+    fn feed_bytes(&mut self, piece: &[u8]) -> Result<(), ReadError>
+        ensures fed { Feeds result (fed self.old piece.now) self.new }
+        ensures lasting_answer { (e : ReadError) → self.old.standing ≡ Standing.Stopped e → result ≡ Err e }
+        ensures lasting_state { (e : ReadError) → self.old.standing ≡ Standing.Stopped e → self.new ≡ self.old }
+    {
+        match self.standing {
+            Standing::Stopped(error) => Err(error),
+            Standing::Reading => self.push_all(piece),
+        }
+    }
+
+    fn push_all(&mut self, piece: &[u8]) -> Result<(), ReadError>
+        requires { self.old.standing ≡ Standing.Reading }
+        ensures { Feeds result (fed self.old piece.now) self.new }
+    {
+        for byte in piece {
+            match self.push(*byte) {
+                Ok(()) => {}
+                Err(error) => return Err(error),
+            }
+        }
+        Ok(())
+    }
+
+    #[inline(always)]
+    fn push(&mut self, byte: u8) -> Result<(), ReadError>
+        requires { self.old.standing ≡ Standing.Reading }
+        ensures { Feeds result (byte_step self.old byte) self.new }
+    {
+        if self.taken >= self.limits.bytes {
+            let line = self.tokens.line();
+            return self.stop(ReadError::Refused { line, cause: LIMIT });
+        }
+        self.taken += 1;
+        match self.tokens.push(byte) {
+            None => Ok(()),
+            Some(token) => self.take(token),
+        }
     }
 
     #[inline(always)]
@@ -92,45 +142,28 @@ impl Reader {
         }
     }
 
-    #[inline(always)]
-    fn push(&mut self, byte: u8) -> Result<(), ReadError>
-        requires { self.old.standing ≡ Standing.Reading }
-        ensures { Feeds result (byte_step self.old byte) self.new }
+    fn stop(&mut self, error: ReadError) -> Result<(), ReadError>
+        ensures new { self.new ≡ record self.old { standing = Standing.Stopped error } }
+        ensures result { result ≡ Err error }
     {
-        if self.taken >= self.limits.bytes {
-            let line = self.tokens.line();
-            return self.stop(ReadError::Refused { line, cause: 8 });
-        }
-        self.taken += 1;
-        match self.tokens.push(byte) {
-            None => Ok(()),
-            Some(token) => self.take(token),
-        }
+        self.standing = Standing::Stopped(error);
+        Err(error)
     }
 
-    pub fn feed(&mut self, piece: &[u8]) -> Result<(), ReadError>
-        ensures { Feeds result (fed self.old piece.now) self.new }
+    fn formula(self) -> Result<Formula, ReadError>
+        ensures exact { Answers result (outcome self) }
+        ensures lasting { (e : ReadError) → self.standing ≡ Standing.Stopped e → result ≡ Err e }
     {
         match self.standing {
-            Standing::Stopped(error) => return Err(error),
-            Standing::Reading => {}
+            Standing::Stopped(error) => Err(error),
+            Standing::Reading => self.close(),
         }
-        for byte in piece {
-            match self.push(*byte) {
-                Ok(()) => {}
-                Err(error) => return Err(error),
-            }
-        }
-        Ok(())
     }
 
-    pub fn finish(self) -> Result<Formula, ReadError>
+    fn close(self) -> Result<Formula, ReadError>
+        requires { self.standing ≡ Standing.Reading }
         ensures { Answers result (outcome self) }
     {
-        match self.standing {
-            Standing::Stopped(error) => return Err(error),
-            Standing::Reading => {}
-        }
         let Reader {
             alloc,
             limits,
@@ -141,13 +174,27 @@ impl Reader {
         } = self;
         let line = tokens.line();
         match tokens.finish() {
-            None => close(alloc, builder, line),
-            Some(token) => close_with(alloc, limits, builder, token, line),
+            None => formula_of(alloc, builder, line),
+            Some(token) => formula_with(alloc, limits, builder, token, line),
         }
     }
 }
 
-fn close_with(
+/// The formula of the bytes, or their first offence.
+pub fn read(alloc: Global, limits: Limits, bytes: &[u8]) -> Result<Formula, ReadError>
+    requires { AreModerate limits }
+    ensures formula { IfOk result (λ f. Dimacs limits bytes.now f) }
+    ensures refused { (line : ℕ) → (cause : ℕ) → result ≡ Err (ReadError.Refused line cause) → Offence limits bytes.now line cause }
+{
+    let mut reader = Reader::new(alloc, limits)?;
+    match reader.feed(bytes) {
+        Ok(()) => reader.finish(),
+        Err(error) => Err(error),
+    }
+}
+
+// The formula where the last token has still to be taken.
+fn formula_with(
     alloc: Global,
     limits: Limits,
     builder: Builder,
@@ -161,7 +208,7 @@ fn close_with(
 {
     let mut builder = builder;
     match builder.step(limits, token.kind) {
-        Ok(()) => close(alloc, builder, line),
+        Ok(()) => formula_of(alloc, builder, line),
         Err(Fault::Cause(cause)) => Err(ReadError::Refused {
             line: token.line,
             cause,
@@ -170,7 +217,7 @@ fn close_with(
     }
 }
 
-fn close(alloc: Global, builder: Builder, line: u64) -> Result<Formula, ReadError>
+fn formula_of(alloc: Global, builder: Builder, line: u64) -> Result<Formula, ReadError>
     requires { IsSettled builder.place builder.parts.pending }
     ensures { Answers result (at_end line builder (end_of builder)) }
 {
@@ -189,30 +236,3 @@ fn close(alloc: Global, builder: Builder, line: u64) -> Result<Formula, ReadErro
         Err(_) => Err(ReadError::NoMemory),
     }
 }
-
-pub fn read(alloc: Global, limits: Limits, bytes: &[u8]) -> Result<Formula, ReadError>
-    requires vars { limits.vars < 2 ^ 31 }
-    requires bytes { limits.bytes ≤ 2 ^ 62 }
-    ensures { Answers result (parse limits bytes.now) }
-{
-    match Reader::new(alloc, limits) {
-        Ok(reader) => read_with(reader, bytes),
-        Err(_) => Err(ReadError::NoMemory),
-    }
-}
-
-fn read_with(reader: Reader, bytes: &[u8]) -> Result<Formula, ReadError>
-    ensures { Answers result (outcome (fed reader bytes.now)) }
-{
-    let mut reader = reader;
-    match reader.feed(bytes) {
-        Ok(()) => reader.finish(),
-        Err(error) => Err(error),
-    }
-}
-
-/// What is written by the grammar is read, as its formula, and nothing else is.
-pub fn grammar_is_read()
-    ensures converse { (m : Limits) (bytes : List ℕ) (f : PrenexFormula) → parse m bytes ≡ Ok f → Dimacs m bytes f }
-    ensures read { (m : Limits) (bytes : List ℕ) (f : PrenexFormula) → Dimacs m bytes f → parse m bytes ≡ Ok f }
-{}

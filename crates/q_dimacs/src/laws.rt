@@ -1,0 +1,16 @@
+//! Laws on the definitions: each is the contract of a function that does nothing.
+ghost use Rattle.std.specs.Prelude.{◌≡◌, ◌↔◌, ℕ, List, Ok};
+ghost use Rattle.q_logic.specs.declared.limits.Limits.{Limits};
+ghost use Rattle.q_logic.specs.Formulas.{PrenexFormula};
+ghost use Rattle.q_dimacs.specs.Dimacs.{Dimacs, AreWithin};
+ghost use Rattle.q_dimacs.specs.Offences.{parse};
+
+/// A text is in the grammar exactly where it has no offence, and its formula is that of the grammar.
+pub fn grammar_is_read()
+    ensures { (limits : Limits) → (bytes : List ℕ) → (formula : PrenexFormula) → Dimacs limits bytes formula ↔ (parse limits bytes ≡ Ok formula) }
+{}
+
+/// Under larger limits a text has the same formula.
+pub fn larger_limits_read_the_same()
+    ensures { (small : Limits) → (large : Limits) → (bytes : List ℕ) → (formula : PrenexFormula) → AreWithin small large → Dimacs small bytes formula → Dimacs large bytes formula }
+{}
