@@ -17,3 +17,4 @@ pub mod StepForms
 pub mod Sweep
 pub mod Measure
 pub mod Examples
+pub mod Certificates

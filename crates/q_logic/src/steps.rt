@@ -112,3 +112,54 @@ fn place_of(clause: &[Lit], lit: Lit) -> usize
     }
     at
 }
+
+#[cfg(test)]
+mod tests {
+    use super::*;
+    use std::alloc::Global;
+    use std::process::Abort;
+
+    fn literals(rt: &impl Abort, alloc: Global, numbers: &[i32]) -> Lits {
+        let mut lits = Lits::new(alloc);
+        for number in numbers {
+            let var = number.unsigned_abs();
+            assert!(rt; var >= 1 && var < 1000);
+            lits.push(Lit::new(var, *number < 0)).expect(rt, "memory");
+        }
+        lits
+    }
+
+    fn check(rt: &impl Abort, lits: &[Lit], expected: &[i32]) {
+        assert_eq!(rt; lits.len(), expected.len());
+        for (lit, number) in lits.iter().zip(expected) {
+            assert_eq!(rt; lit.number(), *number);
+        }
+    }
+
+    #[test]
+    fn a_clause_is_arranged(rt: HostRuntime) {
+        let cases: [(&[i32], &[i32]); 5] = [
+            (&[], &[]),
+            (&[-7], &[-7]),
+            (&[3, 1, -1, 2], &[3, -1, 1, 2]),
+            (&[2, 2, -5, 2, -5, 1], &[2, 1, -5]),
+            (&[1, 4, -4, 1, 3], &[1, 3, -4, 4]),
+        ];
+        for (given, expected) in cases {
+            let step = Step::new(Kind::Add, literals(&rt, rt.alloc(), given));
+            assert_eq!(rt; step.kind(), Kind::Add);
+            check(&rt, step.lits(), expected);
+        }
+    }
+
+    #[test]
+    fn a_list_is_used_again(rt: HostRuntime) {
+        let mut lits = literals(&rt, rt.alloc(), &[2, -1]);
+        check(&rt, lits.as_slice(), &[2, -1]);
+        lits.clear();
+        lits.push(Lit::new(3, false)).expect(&rt, "memory");
+        let step = Step::new(Kind::Remove, lits);
+        check(&rt, step.lits(), &[3]);
+        check(&rt, step.into_lits().as_slice(), &[3]);
+    }
+}
