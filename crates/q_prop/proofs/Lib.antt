@@ -6,6 +6,10 @@ pub mod WorkingLemmas
 pub mod Reaching
 pub mod Settling
 pub mod Rooting
+pub mod Placing
+pub mod Lost
+pub mod PieceLemmas
+pub mod Putting
 pub mod Members
 pub mod Literals
 pub mod Chains

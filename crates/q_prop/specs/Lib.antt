@@ -1,6 +1,6 @@
 pub mod Marks
 pub mod Slots
-pub mod Views
+pub mod Pieces
 pub mod Rows
 pub mod Watches
 pub mod Working

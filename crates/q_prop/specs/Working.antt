@@ -72,6 +72,10 @@ pub record AreListed (s : Slots) (pairs : List (Option Pair)) (singles : List �
   pub inside : (at : ℕ) → Contains singles at → at < length s
   pub short : (at : ℕ) (c : Clause) → Contains singles at → Holds s at c → IsShort c
 
+-- a clause stands in each slot of the list
+abbrev pub AreStanding : Slots → List ℕ → Type 0
+AreStanding s singles = (b : ℕ) → Contains singles b → (c : Clause) × Holds s b c
+
 -- the listed clauses before a place are true
 abbrev pub AreTrue : Slots → List ℕ → ℕ → List Literal → Type 0
 AreTrue s singles done known = (j at' : ℕ) (c : Clause) → j < done → slice_get singles j ≡ Some at' → Holds s at' c → IsSingle known c

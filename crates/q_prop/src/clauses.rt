@@ -1,25 +1,41 @@
-ghost use Rattle.std.specs.Prelude.{◌≡◌, ◌<◌, ◌+◌, ◌-◌, ◌++◌, ◌∷◌, [], length, slice_set, OnOk, OnErr, None, Some, Option, MatchOption};
+ghost use Rattle.std.specs.Prelude.{◌≡◌, ◌<◌, ◌++◌, [], length, slice_set, OnOk, OnErr, None, Option, MatchOption, map, IfOk, ℕ, ◌≤◌};
 ghost use Rattle.q_logic.specs.Formulas.{Clause};
-ghost use Rattle.q_prop.specs.Slots.{without, Holds};
+ghost use Rattle.q_prop.specs.Slots.{without, Holds, IsPut, IsVacant};
+ghost use Rattle.q_prop.specs.Pieces.{clause_of, AreWithin, IsBounds, IsCarried};
+ghost use Rattle.q_prop.specs.declared.clauses.Piece.TheVariants.{Filled};
 
+use crate::places::place;
 use q_logic::{Lit, NoMemory};
 use std::alloc::Global;
 use std::marker::Model;
 
-/// The clauses, in slots.
+/// Where a slot's clause stands in the row of literals. The empty slots are linked.
+#[derive(Clone, Copy)]
+pub enum Piece {
+    Empty { next: u32 },
+    Filled { start: u32, end: u32 },
+}
+
+/// The clauses, in slots. Their literals stand in one row.
 #[derive(Drop)]
 pub struct Clauses {
-    clauses: Vec<Option<Vec<Lit>>>,
+    alloc: Global,
+    pieces: Vec<Piece>,
+    lits: Vec<Lit>,
+    vacant: u32,
+    dead: usize,
 }
 
 impl Model for Clauses {
     ghost use Rattle.q_prop.specs.Slots.{Slots};
     ghost use Rattle.std.specs.Prelude.{map};
-    ghost use Rattle.q_prop.specs.Views.{clause_of};
+    ghost use Rattle.q_prop.specs.Pieces.{clause_of, AreWithin, IsBounds, IsCarried};
 
     ghost Value = { Slots };
 
-    ghost view = { λ r. map clause_of r.clauses.items };
+    ghost view = { λ r. map (clause_of r.lits.items) r.pieces.items };
+
+    ghost invariant = { λ r. AreWithin r.lits.items r.pieces.items };
 }
 
 impl Clauses {
@@ -27,32 +43,50 @@ impl Clauses {
         ensures { result ≡ [] }
     {
         Clauses {
-            clauses: Vec::new(alloc),
+            alloc,
+            pieces: Vec::new(alloc),
+            lits: Vec::new(alloc),
+            vacant: 0,
+            dead: 0,
         }
     }
 
     pub fn len(&self) -> usize
         ensures { result ≡ length self.now }
     {
-        self.clauses.len()
+        self.pieces.len()
     }
 
     pub fn get(&self, at: usize) -> Option<&[Lit]>
         ensures { MatchOption result ((c : Clause) → Holds self.now at c → ⊥) (λ r. Holds self.now at r.now) }
     {
-        match self.clauses.get(at) {
-            Some(Some(clause)) => Some(clause),
-            _ => None,
+        match bounds(&self.pieces, at) {
+            Some((start, end)) => Some(&self.lits[start..end]),
+            None => None,
         }
     }
 
-    pub fn push(&mut self, alloc: Global, lits: &[Lit]) -> Result<(), NoMemory>
-        ensures ok { OnOk result (self.new ≡ self.old ++ Some lits.now ∷ []) }
+    /// An empty slot, or the next new one.
+    pub fn vacant(&self) -> usize
+        ensures { IsVacant self.now result }
+    {
+        let first = self.vacant as usize;
+        match self.pieces.get(first) {
+            Some(Piece::Empty { .. }) => first,
+            _ => self.pieces.len(),
+        }
+    }
+
+    pub fn fill(&mut self, at: usize, lits: &[Lit]) -> Result<(), NoMemory>
+        requires { IsVacant self.old at }
+        ensures ok { OnOk result (IsPut self.old at lits.now self.new) }
         ensures err { OnErr result (self.new ≡ self.old) }
     {
-        let mut clause = Vec::new(alloc);
-        clause.extend_from_slice(lits)?;
-        self.clauses.push(Some(clause))?;
+        self.compact()?;
+        self.pieces.reserve(1)?;
+        let piece = append(&mut self.lits, lits)?;
+        self.vacant = link_at(&self.pieces, at, self.vacant);
+        place(&mut self.pieces, at, piece);
         Ok(())
     }
 
@@ -60,7 +94,88 @@ impl Clauses {
         requires { at < length self.old }
         ensures { self.new ≡ slice_set self.old at None }
     {
-        self.clauses[at] = None;
+        self.dead = self.dead.saturating_add(length_at(&self.pieces, at));
+        self.pieces[at] = Piece::Empty { next: self.vacant };
+        self.vacant = u32::try_from(at).unwrap_or(u32::MAX);
+    }
+
+    // Where more than half of the row is of cleared slots, moves the clauses into a new one.
+    fn compact(&mut self) -> Result<(), NoMemory>
+        ensures { self.new ≡ self.old }
+    {
+        if self.dead <= self.lits.len() / 2 {
+            return Ok(());
+        }
+        let mut lits = Vec::with_capacity(self.alloc, self.lits.len() - self.lits.len() / 2)?;
+        self.pieces = moved(self.alloc, &self.pieces, &self.lits, &mut lits)?;
+        self.lits = lits;
+        self.dead = 0;
+        Ok(())
+    }
+}
+
+// Where the clause of a slot begins and ends in the row.
+fn bounds(pieces: &[Piece], at: usize) -> Option<(usize, usize)>
+    ensures { IsBounds pieces.now at result }
+{
+    match pieces.get(at) {
+        Some(Piece::Filled { start, end }) => Some((*start as usize, *end as usize)),
+        _ => None,
+    }
+}
+
+// The empty slot to which this one is linked, or else the one given.
+fn link_at(pieces: &[Piece], at: usize, otherwise: u32) -> u32 {
+    match pieces.get(at) {
+        Some(Piece::Empty { next }) => *next,
+        _ => otherwise,
+    }
+}
+
+// The length of a slot's clause.
+fn length_at(pieces: &[Piece], at: usize) -> usize {
+    match bounds(pieces, at) {
+        Some((start, end)) => end.saturating_sub(start),
+        None => 0,
+    }
+}
+
+// Appends a clause to the row. A row has at most 2^32 - 1 literals.
+fn append(row: &mut Vec<Lit>, lits: &[Lit]) -> Result<Piece, NoMemory>
+    ensures ok { IfOk result (λ p. (row.new.items ≡ row.old.items ++ lits.now) × (p ≡ Filled (length row.old.items) (length row.new.items))) }
+    ensures err { OnErr result (row.new.items ≡ row.old.items) }
+{
+    let start = u32::try_from(row.len()).map_err(|_| NoMemory)?;
+    let Some(total) = row.len().checked_add(lits.len()) else {
+        return Err(NoMemory);
+    };
+    let end = u32::try_from(total).map_err(|_| NoMemory)?;
+    row.extend_from_slice(lits)?;
+    Ok(Piece::Filled { start, end })
+}
+
+// The clauses of the row appended to another one, and where they stand there.
+fn moved(alloc: Global, pieces: &[Piece], from: &[Lit], into: &mut Vec<Lit>) -> Result<Vec<Piece>, NoMemory>
+    requires within { AreWithin from.now pieces.now }
+    requires empty { into.old.items ≡ [] }
+    ensures { IfOk result (λ v. (map (clause_of into.new.items) v.items ≡ map (clause_of from.now) pieces.now) × AreWithin into.new.items v.items) }
+{
+    let mut news = Vec::with_capacity(alloc, pieces.len())?;
+    for piece in pieces {
+        let new = carry(from, into, *piece)?;
+        news.push(new)?;
+    }
+    Ok(news)
+}
+
+// Appends the clause of a piece to another row.
+fn carry(from: &[Lit], into: &mut Vec<Lit>, piece: Piece) -> Result<Piece, NoMemory>
+    requires { (s e : ℕ) → piece ≡ Filled s e → (s ≤ e) × (e ≤ length from.now) }
+    ensures { IfOk result (λ p. IsCarried from.now piece into.old.items into.new.items p) }
+{
+    match piece {
+        Piece::Filled { start, end } => append(into, &from[start as usize..end as usize]),
+        Piece::Empty { next } => Ok(Piece::Empty { next }),
     }
 }
 

@@ -3,7 +3,9 @@
 #![tactic(auto)]
 
 mod clauses;
+mod places;
 mod propagation;
+mod propagator;
 mod rows;
 mod store;
 mod trail;

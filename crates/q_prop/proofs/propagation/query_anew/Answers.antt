@@ -2,13 +2,13 @@ use Rattle.std.proofs.Common.{◌≡◌, [], refl}
 use Rattle.q_prop.specs.Slots.{without, filled}
 use Rattle.q_prop.proofs.Reaching.{IsReached-refl, IsKept-trans}
 use Rattle.q_prop.proofs.Settling.{reached_chain, reached_consistent, root_implied, IsKept-fewer}
-use Rattle.q_prop.proofs.Rooting.{rooted_empty}
+use Rattle.q_prop.proofs.Rooting.{rooted_nothing}
 use Rattle.q_prop.proofs.Members.{Contains-nil}
 use Rattle.q_prop.proofs.propagation.query_anew.Goals as goal
 
 pub settle-requires-clause-rooted : goal.settle-requires-clause-rooted
 settle-requires-clause-rooted c =
-    rw c.truncate.ensures (rooted_empty c.args.clauses.now c.args.skip c.args.pairs.now.items c.args.rows.now c.args.singles.now c.requires.listed c.requires.watched c.requires.covered)
+    rw c.truncate.ensures (rooted_nothing c.args.clauses.now c.args.skip c.args.pairs.now.items c.args.rows.now c.args.singles.now c.requires.listed c.requires.watched c.requires.covered)
 
 pub returns-in_err-settle-clause-chain : goal.returns-in_err-settle-clause-chain
 returns-in_err-settle-clause-chain c = let r = rw c.truncate.ensures at c.settle.ensures.reached in reached_chain (filled (without c.args.clauses.now c.args.skip)) [] c.settle.new.trail tt r
