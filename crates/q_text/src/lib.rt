@@ -6,5 +6,5 @@ mod numbers;
 mod shape;
 mod tokens;
 
-pub use numbers::{digits, put_number};
+pub use numbers::{digits, put_count, put_number};
 pub use tokens::{Token, TokenKind, Tokens};

@@ -1,5 +1,5 @@
 ghost use Rattle.std.specs.Prelude.{◌≡◌, ◌≤◌, ◌+◌, ◌++◌, length, vec_len, vec_capacity, OnOk, OnErr, IsOk};
-ghost use Rattle.std.specs.Fmt.{signed_decimal};
+ghost use Rattle.std.specs.Fmt.{decimal, signed_decimal};
 
 use itoa::Buffer;
 use q_logic::NoMemory;
@@ -12,10 +12,18 @@ pub fn put_number(text: &mut Vec<u8>, number: i64) -> Result<(), NoMemory>
     ensures capacity { vec_capacity text.old ≤ vec_capacity text.new }
 {
     let mut buffer = Buffer::new();
-    match text.extend_from_slice(buffer.format(number).as_bytes()) {
-        Ok(()) => Ok(()),
-        Err(_) => Err(NoMemory),
-    }
+    put(text, buffer.format(number).as_bytes())
+}
+
+/// Appends the decimal text of a count, as `put_number` does.
+pub fn put_count(text: &mut Vec<u8>, count: usize) -> Result<(), NoMemory>
+    ensures ok { OnOk result (text.new.items ≡ text.old.items ++ decimal count) }
+    ensures err { OnErr result (text.new.items ≡ text.old.items) }
+    ensures room { vec_len text.old + length (decimal count) ≤ vec_capacity text.old → IsOk result }
+    ensures capacity { vec_capacity text.old ≤ vec_capacity text.new }
+{
+    let mut buffer = Buffer::new();
+    put(text, buffer.format(count).as_bytes())
 }
 
 /// The length of the decimal text of a number.
@@ -24,6 +32,18 @@ pub fn digits(number: i64) -> usize
 {
     let mut buffer = Buffer::new();
     buffer.format(number).len()
+}
+
+fn put(text: &mut Vec<u8>, bytes: &[u8]) -> Result<(), NoMemory>
+    ensures ok { OnOk result (text.new.items ≡ text.old.items ++ bytes.now) }
+    ensures err { OnErr result (text.new.items ≡ text.old.items) }
+    ensures room { vec_len text.old + length bytes.now ≤ vec_capacity text.old → IsOk result }
+    ensures capacity { vec_capacity text.old ≤ vec_capacity text.new }
+{
+    match text.extend_from_slice(bytes) {
+        Ok(()) => Ok(()),
+        Err(_) => Err(NoMemory),
+    }
 }
 
 #[cfg(test)]
@@ -47,6 +67,9 @@ mod tests {
             assert_eq!(rt; text.as_slice(), expected.as_bytes());
             assert_eq!(rt; digits(number), expected.len());
         }
+        let mut text = Vec::new(rt.alloc());
+        put_count(&mut text, usize::MAX).expect(&rt, "memory");
+        assert_eq!(rt; text.as_slice(), b"18446744073709551615".as_slice());
         Ok(())
     }
 }
