@@ -1,0 +1,15 @@
+use Rattle.std.proofs.Common.{ap, refl, None}
+use Rattle.q_log.specs.Reading.{LogState, open_of}
+use Rattle.q_log.proofs.Reading.{start-reads}
+use Rattle.q_log.proofs.reader.LogReader.new.Goals as goal
+
+pub returns-clause-log : goal.returns-clause-log
+returns-clause-log c text =
+    let s : LogState = record {
+      tokens = c.new.result;
+      left = c.args.bytes;
+      begun = open_of c.new-2.result.begun c.new-2.result.lits;
+      refused = None;
+    } in
+    start-reads s c.args.bytes text c.new.ensures.start refl
+    (ap (λ b. open_of b c.new-2.result.lits) c.new-2.ensures)

@@ -1,0 +1,171 @@
+ghost use Rattle.std.specs.Prelude.{◌≡◌, ◌++◌, [], ◌∷◌, true, Some, None, is_some};
+ghost use Rattle.q_log.specs.Grammar.{move, first_move, with_number, with_literal, with_zero, is_whole, has_room, empty_step, goes_on};
+ghost use Rattle.q_log.specs.Reading.{Builds, open_of, opened, are_plain, is_plain};
+
+use crate::error::LogError;
+use q_logic::{Kind, Lit, Lits, Step};
+use q_text::{Token, TokenKind};
+use std::alloc::Global;
+
+/// The greatest variable that a log may name.
+const GREATEST: u64 = 2_147_483_647;
+
+/// A step that has begun: the line of its first token, and its kind.
+#[derive(Clone, Copy)]
+pub struct Begun {
+    pub line: u64,
+    pub kind: Kind,
+}
+
+/// Makes steps of tokens.
+#[derive(Drop)]
+pub struct StepBuilder {
+    alloc: Global,
+    begun: Option<Begun>,
+    lits: Lits,
+    spare: Lits,
+    ghost plain: { is_plain begun lits ≡ true },
+}
+
+// A 0 may end the step here.
+fn is_whole(kind: Kind, lits: &[Lit]) -> bool
+    ensures { result ≡ is_whole kind lits.now }
+{
+    match kind {
+        Kind::Add | Kind::Delete => true,
+        Kind::Drop => lits.len() > 0,
+        Kind::Fresh => lits.len() == 2,
+        Kind::Remove => lits.len() == 1,
+    }
+}
+
+// One more literal may stand here.
+fn has_room(kind: Kind, lits: &[Lit], negative: bool) -> bool
+    ensures { result ≡ has_room kind lits.now negative }
+{
+    match kind {
+        Kind::Add | Kind::Delete | Kind::Drop => true,
+        Kind::Fresh => !negative && lits.len() < 2,
+        Kind::Remove => !negative && lits.len() < 1,
+    }
+}
+
+impl StepBuilder {
+    pub fn new(alloc: Global) -> StepBuilder
+        ensures { result.begun ≡ None }
+    {
+        StepBuilder {
+            alloc,
+            begun: None,
+            lits: Lits::new(alloc),
+            spare: Lits::new(alloc),
+        }
+    }
+
+    /// The step that the token makes whole.
+    pub fn take(&mut self, token: Token) -> Result<Option<(u64, Step)>, LogError>
+        ensures { Builds result (move (open_of self.old.begun self.old.lits) token) self.new.begun self.new.lits token.line }
+    {
+        match self.begun {
+            None => self.first(token),
+            Some(begun) => match token.kind {
+                TokenKind::Number(number) => self.number(begun, number, token.line),
+                _ => Err(LogError::BadLine { line: token.line }),
+            },
+        }
+    }
+
+    fn first(&mut self, token: Token) -> Result<Option<(u64, Step)>, LogError>
+        requires { self.old.begun ≡ None }
+        ensures { Builds result (first_move token.line token.kind) self.new.begun self.new.lits token.line }
+    {
+        match token.kind {
+            TokenKind::D => self.begin(Kind::Delete, token.line),
+            TokenKind::U => self.begin(Kind::Drop, token.line),
+            TokenKind::E => self.begin(Kind::Fresh, token.line),
+            TokenKind::R => self.begin(Kind::Remove, token.line),
+            TokenKind::Number(number) => {
+                self.lits.clear();
+                let begun = Begun {
+                    line: token.line,
+                    kind: Kind::Add,
+                };
+                self.number(begun, number, token.line)
+            }
+            _ => Err(LogError::BadLine { line: token.line }),
+        }
+    }
+
+    fn begin(&mut self, kind: Kind, line: u64) -> Result<Option<(u64, Step)>, LogError>
+        ensures { Builds result (goes_on (empty_step line kind)) self.new.begun self.new.lits line }
+    {
+        self.lits.clear();
+        self.begun = Some(Begun { line, kind });
+        Ok(None)
+    }
+
+    fn number(
+        &mut self,
+        begun: Begun,
+        number: i64,
+        line: u64,
+    ) -> Result<Option<(u64, Step)>, LogError>
+        requires { are_plain begun.kind self.old.lits ≡ true }
+        ensures { Builds result (with_number (opened begun self.old.lits) number) self.new.begun self.new.lits line }
+    {
+        if number == 0 {
+            return self.end(begun, line);
+        }
+        let magnitude = number.unsigned_abs();
+        if magnitude > GREATEST {
+            return Err(LogError::BadLine { line });
+        }
+        self.literal(begun, Lit::new(magnitude as u32, number < 0), line)
+    }
+
+    fn literal(
+        &mut self,
+        begun: Begun,
+        lit: Lit,
+        line: u64,
+    ) -> Result<Option<(u64, Step)>, LogError>
+        requires { are_plain begun.kind self.old.lits ≡ true }
+        ensures { Builds result (with_literal (opened begun self.old.lits) lit) self.new.begun self.new.lits line }
+    {
+        if !has_room(begun.kind, self.lits.as_slice(), lit.negative()) {
+            return Err(LogError::BadLine { line });
+        }
+        self.lits.push(lit)?;
+        self.begun = Some(begun);
+        Ok(None)
+    }
+
+    fn end(&mut self, begun: Begun, line: u64) -> Result<Option<(u64, Step)>, LogError>
+        requires { are_plain begun.kind self.old.lits ≡ true }
+        ensures { Builds result (with_zero (opened begun self.old.lits)) self.new.begun self.new.lits line }
+    {
+        if !is_whole(begun.kind, self.lits.as_slice()) {
+            return Err(LogError::BadLine { line });
+        }
+        let next = std::mem::replace(&mut self.spare, Lits::new(self.alloc));
+        let lits = std::mem::replace(&mut self.lits, next);
+        self.begun = None;
+        Ok(Some((begun.line, Step::new(begun.kind, lits))))
+    }
+
+    /// A step has begun and is not whole.
+    pub fn is_open(&self) -> bool
+        ensures { result ≡ is_some self.now.begun }
+    {
+        self.begun.is_some()
+    }
+
+    /// Keeps the memory of a list of literals for a later step.
+    pub fn keep(&mut self, lits: Lits)
+        ensures begun { self.new.begun ≡ self.old.begun }
+        ensures lits { self.new.lits ≡ self.old.lits }
+    {
+        self.spare = lits;
+        self.spare.clear();
+    }
+}

@@ -1,0 +1,10 @@
+//! Logs of proof steps: a reader that hands out each step at the byte that ends it, and the
+//! canonical text of steps.
+#![tactic(auto)]
+
+mod builder;
+mod error;
+mod reader;
+
+pub use error::LogError;
+pub use reader::LogReader;
