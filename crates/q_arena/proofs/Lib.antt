@@ -1,0 +1,15 @@
+pub mod Numbers
+pub mod Joins
+pub mod Paths
+pub mod RingLemmas
+pub mod Sound
+pub mod Seen
+pub mod Growth
+pub mod Before
+pub mod Layouts
+pub mod Pieces
+pub mod GapLemmas
+pub mod Totals
+pub mod More
+pub mod Dropped
+pub mod Filled

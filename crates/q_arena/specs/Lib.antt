@@ -1,0 +1,6 @@
+pub mod Nodes
+pub mod Rings
+pub mod Chains
+pub mod Layout
+pub mod Seen
+pub mod Gaps
