@@ -1,2 +1,3 @@
 mod Plain
 mod Reading
+pub mod Texts

@@ -1,3 +1,4 @@
 pub mod Grammar
 pub mod Logs
 pub mod Reading
+pub mod Texts

@@ -5,6 +5,8 @@
 mod builder;
 mod error;
 mod reader;
+mod text;
 
 pub use error::LogError;
 pub use reader::LogReader;
+pub use text::{push_step, step_len, write_step};
