@@ -18,3 +18,16 @@ pub mod Sweep
 pub mod Measure
 pub mod Examples
 pub mod Certificates
+pub mod Sets
+pub mod InLimits
+pub mod Numbered
+pub mod Targets
+pub mod Blocking
+pub mod Merging
+pub mod Covering
+pub mod Eliminating
+pub mod Expanding
+pub mod Rules
+pub mod Settled
+pub mod Deciding
+pub mod CarelessRules

@@ -2,6 +2,7 @@
 //! steps, and the laws on them. Every other crate stands on this one.
 #![tactic(auto)]
 
+mod careless_rules;
 mod examples;
 mod formulas;
 mod laws;
@@ -10,8 +11,12 @@ mod literals;
 mod lits;
 mod memory;
 mod rule_bounds;
+mod rules;
 mod steps;
 
+pub use careless_rules::{
+    careless_blocking_is_wrong, careless_elimination_is_wrong, careless_expansion_is_wrong,
+};
 pub use examples::{
     careless_pivot_is_wrong, careless_reduction_is_wrong, fresh_place_matters,
     order_matters_to_outer_clauses, order_matters_to_truth,
@@ -27,4 +32,8 @@ pub use literals::Lit;
 pub use lits::{Lits, sort_clause};
 pub use memory::NoMemory;
 pub use rule_bounds::Bounds;
+pub use rules::{
+    growing_keeps, plain_programs_decide, settled_at_once, sweeping_runs, targets_lower,
+    targets_run,
+};
 pub use steps::{Kind, Step};
