@@ -8,6 +8,8 @@ pub mod Settling
 pub mod Rooting
 pub mod Placing
 pub mod Lost
+pub mod HolderLemmas
+pub mod ListLemmas
 pub mod PieceLemmas
 pub mod Putting
 pub mod Members

@@ -19,19 +19,19 @@ module _ {A : Type 0} (f : A → List ℕ) where
     row_at (v ∷ vs) zero i d h = refl
     row_at (v ∷ vs) (suc n) i d h = row_at vs n i d h
 
-    row_set_here : (vs : List A) (n : ℕ) (w : A) → n < length vs → get_or (map f (set vs n w)) n [] ≡ f w
+    pub row_set_here : (vs : List A) (n : ℕ) (w : A) → n < length vs → get_or (map f (set vs n w)) n [] ≡ f w
     row_set_here [] n w h = absurd (not-suc-le-zero h)
     row_set_here (v ∷ vs) zero w h = refl
     row_set_here (v ∷ vs) (suc n) w h = row_set_here vs n w (le_of_suc-le-suc h)
 
-    row_set_other : (vs : List A) (n m : ℕ) (w : A) → m ≢ n → get_or (map f (set vs n w)) m [] ≡ get_or (map f vs) m []
+    pub row_set_other : (vs : List A) (n m : ℕ) (w : A) → m ≢ n → get_or (map f (set vs n w)) m [] ≡ get_or (map f vs) m []
     row_set_other [] n m w h = refl
     row_set_other (v ∷ vs) zero zero w h = absurd (h refl)
     row_set_other (v ∷ vs) zero (suc m) w h = refl
     row_set_other (v ∷ vs) (suc n) zero w h = refl
     row_set_other (v ∷ vs) (suc n) (suc m) w h = row_set_other vs n m w (λ e. h (ap suc e))
 
-    row_more : (vs : List A) (w : A) (m : ℕ) → f w ≡ [] → get_or (map f (vs ++ w ∷ [])) m [] ≡ get_or (map f vs) m []
+    pub row_more : (vs : List A) (w : A) (m : ℕ) → f w ≡ [] → get_or (map f (vs ++ w ∷ [])) m [] ≡ get_or (map f vs) m []
     row_more [] w zero e = e
     row_more [] w (suc m) e = refl
     row_more (v ∷ vs) w zero e = refl

@@ -2,6 +2,8 @@ pub mod Marks
 pub mod Slots
 pub mod Pieces
 pub mod Rows
+pub mod Lists
+pub mod Holders
 pub mod Watches
 pub mod Working
 pub mod Chains

@@ -3,6 +3,8 @@
 #![tactic(auto)]
 
 mod clauses;
+mod holders;
+mod lists;
 mod places;
 mod propagation;
 mod propagator;

@@ -1,8 +1,12 @@
-ghost use Rattle.std.specs.Prelude.{◌≡◌, ◌↔◌, ◌<◌, [], length, slice_set, OnErr, None, IsTrue, MatchOption, IfOk, ℕ};
+ghost use Rattle.std.specs.Prelude.{◌≡◌, ◌↔◌, ◌<◌, [], length, slice_set, OnErr, None, IsTrue, MatchOption, IfOk, ℕ, Contains, Some, ◌^◌};
 ghost use Rattle.q_logic.specs.Formulas.{Clause};
 ghost use Rattle.q_logic.specs.Propagation.{Implied};
-ghost use Rattle.q_prop.specs.Slots.{filled, without, Holds, IsPut};
+ghost use Rattle.q_prop.specs.Slots.{filled, without, Holds, IsPut, IsOrdered};
+ghost use Rattle.q_prop.specs.Holders.{IsHolder, AreHolders};
+ghost use Rattle.q_prop.specs.Lists.{IsDistinct};
 
+use crate::holders::{insert, remove};
+use crate::lists::Lists;
 use crate::propagator::Propagator;
 use q_logic::{Lit, NoMemory};
 use std::alloc::Global;
@@ -12,14 +16,19 @@ use std::marker::Model;
 #[derive(Drop)]
 pub struct Store {
     propagator: Propagator,
+    holders: Lists,
 }
 
 impl Model for Store {
-    ghost use Rattle.q_prop.specs.Slots.{Slots};
+    ghost use Rattle.std.specs.Prelude.{◌≤◌, ◌^◌, length};
+    ghost use Rattle.q_prop.specs.Slots.{Slots, AreOrdered};
+    ghost use Rattle.q_prop.specs.Holders.{AreHolders};
 
     ghost Value = { Slots };
 
     ghost view = { λ r. r.propagator };
+
+    ghost invariant = { λ r. AreHolders r.propagator r.holders × (length r.propagator ≤ 2 ^ 32) × AreOrdered r.propagator };
 }
 
 impl Store {
@@ -28,6 +37,7 @@ impl Store {
     {
         Store {
             propagator: Propagator::new(alloc),
+            holders: Lists::new(alloc),
         }
     }
 
@@ -65,13 +75,27 @@ impl Store {
         }
     }
 
+    /// The slots whose clauses hold the literal, each once.
+    pub fn holders(&self, lit: Lit) -> &[u32]
+        ensures members { (at : ℕ) → Contains result.now at ↔ IsHolder self.now at lit }
+        ensures once { IsDistinct result.now }
+    {
+        self.holders.list(lit.index())
+    }
+
     /// Puts a clause into an empty slot, which may be a new one.
     pub fn add(&mut self, lits: &[Lit]) -> Result<usize, NoMemory>
+        requires ordered { IsOrdered lits.now }
         ensures ok { IfOk result (λ at. IsPut self.old at lits.now self.new) }
         ensures err { OnErr result (self.new ≡ self.old) }
     {
         let at = self.propagator.vacant();
-        self.propagator.fill(at, lits)?;
+        let slot = number(at)?;
+        insert(&mut self.holders, slot, lits)?;
+        if let Err(error) = self.propagator.fill(at, lits) {
+            remove(&mut self.holders, slot, lits);
+            return Err(error);
+        }
         Ok(at)
     }
 
@@ -80,6 +104,7 @@ impl Store {
         requires { at < length self.old }
         ensures { self.new ≡ slice_set self.old at None }
     {
+        free(&self.propagator, &mut self.holders, at);
         self.propagator.delete(at);
     }
 
@@ -89,6 +114,27 @@ impl Store {
         ensures exact { IfOk result (λ yes. IsTrue yes ↔ Implied (filled (without self.old skip)) lits.now) }
     {
         self.propagator.implied(lits, skip)
+    }
+}
+
+// The slot as it stands in lists.
+fn number(at: usize) -> Result<u32, NoMemory>
+    ensures { IfOk result (λ slot. (slot ≡ at) × (at < 2 ^ 32)) }
+{
+    match u32::try_from(at) {
+        Ok(slot) => Ok(slot),
+        Err(_) => Err(NoMemory),
+    }
+}
+
+// Takes a slot from under the literals of its clause.
+fn free(propagator: &Propagator, holders: &mut Lists, at: usize)
+    requires small { at < 2 ^ 32 }
+    requires holders { AreHolders propagator.now holders.old }
+    ensures { AreHolders (without propagator.now (Some at)) holders.new }
+{
+    if let Some(lits) = propagator.slot(at) {
+        remove(holders, at as u32, lits);
     }
 }
 

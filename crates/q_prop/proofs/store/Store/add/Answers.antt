@@ -1,0 +1,41 @@
+use Rattle.std.proofs.Common.{◌≡◌, length, None, arith, sym}
+use Rattle.q_logic.specs.Formulas.{Clause}
+use Rattle.q_prop.specs.Slots.{Holds}
+use Rattle.q_prop.proofs.HolderLemmas.{holders_fresh, holders_put, holders_alike, held_freed, vacant_empty, ordered_put, length_put}
+use Rattle.q_prop.proofs.store.Store.add.Goals as goal
+
+pub insert-requires-clause-fresh : goal.insert-requires-clause-fresh
+insert-requires-clause-fresh c =
+    let s = c.self.inside.propagator in
+    rw c.in_ok-slot.ensures.0 (holders_fresh s c.self.inside.holders c.vacant-at.result c.self.invariant.0 (vacant_empty s c.vacant-at.result c.vacant-at.ensures))
+
+pub invariant_of-self : goal.invariant_of-self
+invariant_of-self c =
+    let v = c.self.invariant in
+    (holders_alike c.self.inside.propagator c.self.inside.holders c.insert.new.lists v.0 c.in_err-insert.ensures.err, v.1, v.2)
+
+pub invariant_of-self-in-Err : goal.invariant_of-self-in-Err
+invariant_of-self-in-Err c =
+    let s = c.self.inside.propagator in
+    let v = c.self.invariant in
+    let at = c.vacant-at.result in
+    let held = rw c.in_ok-slot.ensures.0 at c.in_ok-insert.ensures.ok in
+    let freed = rw c.in_ok-slot.ensures.0 at c.remove.ensures in
+    rw c.in-Err.ensures.err
+    ( held_freed s c.self.inside.holders c.insert.new.lists c.remove.new.lists at c.args.lits.now v.0 (vacant_empty s at c.vacant-at.ensures) held freed
+    , v.1
+    , v.2
+    )
+
+pub invariant_of-self-in_default : goal.invariant_of-self-in_default
+invariant_of-self-in_default c =
+    let s = c.self.inside.propagator in
+    let v = c.self.invariant in
+    let at = c.vacant-at.result in
+    let lits = c.args.lits.now in
+    let held = rw c.in_ok-slot.ensures.0 at c.in_ok-insert.ensures.ok in
+    let put = c.in_default.ensures.ok in
+    ( holders_put s at lits c.fill.new.self c.self.inside.holders c.insert.new.lists put v.0 held
+    , length_put s at lits c.fill.new.self 4294967296 put c.in_ok-slot.ensures.1 v.1
+    , ordered_put s at lits c.fill.new.self put c.requires.ordered v.2
+    )

@@ -1,0 +1,14 @@
+use Rattle.std.proofs.Common.{◌≡◌, length, None, arith}
+use Rattle.std.proofs.lemmas.List.{length-set}
+use Rattle.q_prop.proofs.HolderLemmas.{ordered_without}
+use Rattle.q_prop.proofs.store.Store.delete.Goals as goal
+
+pub invariant_of-self : goal.invariant_of-self
+invariant_of-self c =
+    let s = c.self.inside.propagator in
+    let v = c.self.invariant in
+    rw c.delete.ensures
+    ( c.free.ensures
+    , (let l = length-set s c.args.at None in omega (arith, l, v.1))
+    , ordered_without s c.args.at v.2
+    )
