@@ -33,8 +33,10 @@ among-same x vs ws e = go (among x vs) refl (among x ws) refl
     go : (a : Bool) → among x vs ≡ a → (b : Bool) → among x ws ≡ b → among x vs ≡ among x ws
     go true p true q = p ∙ sym q
     go false p false q = p ∙ sym q
-    go true p false q = let z : among x ws ≡ true = IsIn-among x ws (e.0 (among-IsIn x vs p)) in absurd (grind arith)
-    go false p true q = let z : among x vs ≡ true = IsIn-among x vs (e.1 (among-IsIn x ws q)) in absurd (grind arith)
+    go true p false q =
+        let z : among x ws ≡ true = IsIn-among x ws (e.0 (among-IsIn x vs p)) in absurd (grind arith)
+    go false p true q =
+        let z : among x vs ≡ true = IsIn-among x vs (e.1 (among-IsIn x ws q)) in absurd (grind arith)
 
 abbrev block_e : List Block → ℕ → Bool
 block_e [] x = false
@@ -46,52 +48,73 @@ block_bound (B ∷ Bs) x = cond (among x B.vars) true (block_bound Bs x)
 
 abbrev block_before : List Block → ℕ → ℕ → Bool
 block_before [] u x = false
-block_before (B ∷ Bs) u x = cond (among x B.vars) false (cond (among u B.vars) (not (is_exists B.quant) && block_bound Bs x) (block_before Bs u x))
+block_before (B ∷ Bs) u x =
+    cond (among x B.vars) false (cond (among u B.vars) (not (is_exists B.quant) && block_bound Bs x)
+    (block_before Bs u x))
 
-push-e : (b : Bound) (Bs : List Block) (x : ℕ) → block_e (push_block b Bs) x ≡ cond (eqb b.var x) (is_exists b.quant) (block_e Bs x)
+push-e : (b : Bound) (Bs : List Block) (x : ℕ) → block_e (push_block b Bs) x ≡
+    cond (eqb b.var x) (is_exists b.quant) (block_e Bs x)
 push-e b [] x = grind arith
 push-e b (B ∷ Bs) x = grind arith
 
-push-is_bound : (b : Bound) (Bs : List Block) (x : ℕ) → block_bound (push_block b Bs) x ≡ cond (eqb b.var x) true (block_bound Bs x)
+push-is_bound : (b : Bound) (Bs : List Block) (x : ℕ) →
+    block_bound (push_block b Bs) x ≡ cond (eqb b.var x) true (block_bound Bs x)
 push-is_bound b [] x = grind arith
 push-is_bound b (B ∷ Bs) x = grind arith
 
-push-before : (b : Bound) (Bs : List Block) (u x : ℕ) → block_e (push_block b Bs) x ≡ true → block_before (push_block b Bs) u x ≡ cond (eqb b.var x) false (cond (eqb b.var u) (not (is_exists b.quant) && block_bound Bs x) (block_before Bs u x))
+push-before : (b : Bound) (Bs : List Block) (u x : ℕ) → block_e (push_block b Bs) x ≡ true →
+    block_before (push_block b Bs) u x ≡ cond (eqb b.var x) false
+    (cond (eqb b.var u) (not (is_exists b.quant) && block_bound Bs x) (block_before Bs u x))
 push-before b [] u x e = grind arith
 push-before b (B ∷ Bs) u x e = grind arith
 
 blocks-e : (P : Prefix) (x : ℕ) → is_existential P x ≡ block_e (blocks P) x
 blocks-e [] x = refl
-blocks-e (b ∷ P) x = ap (λ r. cond (eqb b.var x) (is_exists b.quant) r) (blocks-e P x) ∙ sym (push-e b (blocks P) x)
+blocks-e (b ∷ P) x =
+    ap (λ r. cond (eqb b.var x) (is_exists b.quant) r) (blocks-e P x) ∙ sym (push-e b (blocks P) x)
 
 blocks-is_bound : (P : Prefix) (x : ℕ) → is_bound P x ≡ block_bound (blocks P) x
 blocks-is_bound [] x = refl
-blocks-is_bound (b ∷ P) x = ap (λ r. cond (eqb b.var x) true r) (blocks-is_bound P x) ∙ sym (push-is_bound b (blocks P) x)
+blocks-is_bound (b ∷ P) x =
+    ap (λ r. cond (eqb b.var x) true r) (blocks-is_bound P x) ∙ sym (push-is_bound b (blocks P) x)
 
-blocks-before : (P : Prefix) (u x : ℕ) → is_existential P x ≡ true → universal_before P u x ≡ block_before (blocks P) u x
+blocks-before : (P : Prefix) (u x : ℕ) → is_existential P x ≡ true →
+    universal_before P u x ≡ block_before (blocks P) u x
 blocks-before [] u x e = refl
 blocks-before (b ∷ P) u x e =
     let f : block_e (push_block b (blocks P)) x ≡ true = sym (blocks-e (b ∷ P) x) ∙ e in
-    let h : block_before (push_block b (blocks P)) u x ≡ cond (eqb b.var x) false (cond (eqb b.var u) (not (is_exists b.quant) && block_bound (blocks P) x) (block_before (blocks P) u x)) = push-before b (blocks P) u x f in
+    let h : block_before (push_block b (blocks P)) u x ≡
+    cond (eqb b.var x) false (cond (eqb b.var u) (not (is_exists b.quant) && block_bound (blocks P) x)
+    (block_before (blocks P) u x)) = push-before b (blocks P) u x f in
     let g : is_bound P x ≡ block_bound (blocks P) x = blocks-is_bound P x in
     go (eqb b.var x) refl (blocks-before P u x) g ∙ sym h
   where
-    go : (d : Bool) → eqb b.var x ≡ d → (is_existential P x ≡ true → universal_before P u x ≡ block_before (blocks P) u x) → is_bound P x ≡ block_bound (blocks P) x →
-        cond d false (cond (eqb b.var u) (not (is_exists b.quant) && is_bound P x) (universal_before P u x)) ≡ cond d false (cond (eqb b.var u) (not (is_exists b.quant) && block_bound (blocks P) x) (block_before (blocks P) u x))
+    go : (d : Bool) → eqb b.var x ≡ d → (is_existential P x ≡ true →
+        universal_before P u x ≡ block_before (blocks P) u x) → is_bound P x ≡ block_bound (blocks P) x →
+        cond d false (cond (eqb b.var u) (not (is_exists b.quant) && is_bound P x)
+        (universal_before P u x)) ≡ cond d false
+        (cond (eqb b.var u) (not (is_exists b.quant) && block_bound (blocks P) x)
+        (block_before (blocks P) u x))
     go true q ih g = refl
-    go false q ih g = let i : universal_before P u x ≡ block_before (blocks P) u x = ih (grind arith) in rw (i, g) refl
+    go false q ih g =
+        let i : universal_before P u x ≡ block_before (blocks P) u x = ih (grind arith) in rw (i, g) refl
 
 same-e : (Bs Cs : List Block) (x : ℕ) → SameBlocks Bs Cs → block_e Bs x ≡ block_e Cs x
 same-e [] [] x s = refl
 same-e [] (C ∷ Cs) x s = elim s [ ]
 same-e (B ∷ Bs) [] x s = elim s [ ]
-same-e (B ∷ Bs) (C ∷ Cs) x s = let a : among x B.vars ≡ among x C.vars = among-same x B.vars C.vars (s.1 x) in let i : block_e Bs x ≡ block_e Cs x = same-e Bs Cs x s.2 in let q : B.quant ≡ C.quant = s.0 in grind arith
+same-e (B ∷ Bs) (C ∷ Cs) x s =
+    let a : among x B.vars ≡ among x C.vars = among-same x B.vars C.vars (s.1 x) in
+    let i : block_e Bs x ≡ block_e Cs x = same-e Bs Cs x s.2 in let q : B.quant ≡ C.quant = s.0 in
+    grind arith
 
 same-is_bound : (Bs Cs : List Block) (x : ℕ) → SameBlocks Bs Cs → block_bound Bs x ≡ block_bound Cs x
 same-is_bound [] [] x s = refl
 same-is_bound [] (C ∷ Cs) x s = elim s [ ]
 same-is_bound (B ∷ Bs) [] x s = elim s [ ]
-same-is_bound (B ∷ Bs) (C ∷ Cs) x s = let a : among x B.vars ≡ among x C.vars = among-same x B.vars C.vars (s.1 x) in let i : block_bound Bs x ≡ block_bound Cs x = same-is_bound Bs Cs x s.2 in grind arith
+same-is_bound (B ∷ Bs) (C ∷ Cs) x s =
+    let a : among x B.vars ≡ among x C.vars = among-same x B.vars C.vars (s.1 x) in
+    let i : block_bound Bs x ≡ block_bound Cs x = same-is_bound Bs Cs x s.2 in grind arith
 
 same-before : (Bs Cs : List Block) (u x : ℕ) → SameBlocks Bs Cs → block_before Bs u x ≡ block_before Cs u x
 same-before [] [] u x s = refl
@@ -106,7 +129,9 @@ same-before (B ∷ Bs) (C ∷ Cs) u x s =
 
 clause_eq-itself : (C : Clause) → clause_eq C C ≡ true
 clause_eq-itself [] = refl
-clause_eq-itself (k ∷ C) = let a : literal_eq k k ≡ true = literal_eq-itself k in let i : clause_eq C C ≡ true = clause_eq-itself C in grind arith
+clause_eq-itself (k ∷ C) =
+    let a : literal_eq k k ≡ true = literal_eq-itself k in
+    let i : clause_eq C C ≡ true = clause_eq-itself C in grind arith
 
 copies-IsIn : (C : Clause) (X : Matrix) → 1 ≤ copies C X → IsIn C X
 copies-IsIn C [] h = grind arith
@@ -118,24 +143,39 @@ copies-IsIn C (D ∷ X) h = go (clause_eq D C) refl (copies-IsIn C X)
 
 IsIn-copies : (C : Clause) (X : Matrix) → IsIn C X → 1 ≤ copies C X
 IsIn-copies C [] m = elim m [ ]
-IsIn-copies C (D ∷ X) (inl e) = let z : clause_eq D C ≡ true = subst (λ y. clause_eq y C ≡ true) e (clause_eq-itself C) in grind arith
+IsIn-copies C (D ∷ X) (inl e) =
+    let z : clause_eq D C ≡ true = subst (λ y. clause_eq y C ≡ true) e (clause_eq-itself C) in grind arith
 IsIn-copies C (D ∷ X) (inr m) = let z : 1 ≤ copies C X = IsIn-copies C X m in grind arith
 
 pub IsIn-same : (F G : PrenexFormula) (D : Clause) → SameFormula F G → IsIn D F.matrix → IsIn D G.matrix
-IsIn-same F G D s m = copies-IsIn D G.matrix (let z : 1 ≤ copies D F.matrix = IsIn-copies D F.matrix m in subst (λ n. 1 ≤ n) (s.same_clauses D) z)
+IsIn-same F G D s m =
+    copies-IsIn D G.matrix (let z : 1 ≤ copies D F.matrix = IsIn-copies D F.matrix m in
+    subst (λ n. 1 ≤ n) (s.same_clauses D) z)
 
 -- The Skolem functions are the same.
-pub lawful-same : (F G : PrenexFormula) (c : Strategy) → SameFormula F G → Lawful G.prefix c → Lawful F.prefix c
-lawful-same F G c s sk = record { trees = λ x. sk.trees x ∙ sym (e x); reads = λ x h u r. before x u h ∙ sk.reads x (sym (e x) ∙ h) u r }
+pub lawful-same : (F G : PrenexFormula) (c : Strategy) → SameFormula F G → Lawful G.prefix c →
+    Lawful F.prefix c
+lawful-same F G c s sk =
+    record {
+      trees = λ x. sk.trees x ∙ sym (e x);
+      reads = λ x h u r. before x u h ∙
+          sk.reads x (sym (e x) ∙ h) u r;
+    }
   where
     e : (x : ℕ) → is_existential F.prefix x ≡ is_existential G.prefix x
-    e x = blocks-e F.prefix x ∙ (same-e (blocks F.prefix) (blocks G.prefix) x s.same_blocks ∙ sym (blocks-e G.prefix x))
+    e x =
+        blocks-e F.prefix x ∙ (same-e (blocks F.prefix) (blocks G.prefix) x s.same_blocks ∙
+        sym (blocks-e G.prefix x))
 
-    before : (x u : ℕ) → is_existential F.prefix x ≡ true → universal_before F.prefix u x ≡ universal_before G.prefix u x
-    before x u h = blocks-before F.prefix u x h ∙ (same-before (blocks F.prefix) (blocks G.prefix) u x s.same_blocks ∙ sym (blocks-before G.prefix u x (sym (e x) ∙ h)))
+    before : (x u : ℕ) → is_existential F.prefix x ≡ true →
+        universal_before F.prefix u x ≡ universal_before G.prefix u x
+    before x u h =
+        blocks-before F.prefix u x h ∙ (same-before (blocks F.prefix) (blocks G.prefix) u x s.same_blocks ∙
+        sym (blocks-before G.prefix u x (sym (e x) ∙ h)))
 
 pub skolem-same : (F G : PrenexFormula) (c : Strategy) → SameFormula F G → SkolemOf G c → SkolemOf F c
-skolem-same F G c s sk = record { lawful = lawful-same F G c s sk.lawful; wins = λ A D m. sk.wins A D (IsIn-same F G D s m) }
+skolem-same F G c s sk =
+    record { lawful = lawful-same F G c s sk.lawful; wins = λ A D m. sk.wins A D (IsIn-same F G D s m) }
 
 SameBlocks-sym : (Bs Cs : List Block) → SameBlocks Bs Cs → SameBlocks Cs Bs
 SameBlocks-sym [] [] s = s
@@ -144,4 +184,8 @@ SameBlocks-sym (B ∷ Bs) [] s = elim s [ ]
 SameBlocks-sym (B ∷ Bs) (C ∷ Cs) s = (sym s.0, (λ x. ((s.1 x).1, (s.1 x).0)), SameBlocks-sym Bs Cs s.2)
 
 pub Same-sym : (F G : PrenexFormula) → SameFormula F G → SameFormula G F
-Same-sym F G s = record { same_blocks = SameBlocks-sym (blocks F.prefix) (blocks G.prefix) s.same_blocks; same_clauses = λ C. sym (s.same_clauses C) }
+Same-sym F G s =
+    record {
+      same_blocks = SameBlocks-sym (blocks F.prefix) (blocks G.prefix) s.same_blocks;
+      same_clauses = λ C. sym (s.same_clauses C);
+    }

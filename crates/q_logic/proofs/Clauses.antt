@@ -34,67 +34,94 @@ pub literal_eq-negation : (k : Literal) → literal_eq k (negation k) ≡ false
 literal_eq-negation k = grind arith
 
 -- A literal of the outer clause.
-pub IsIn-outer : (P : Prefix) (m : Literal) (D : Clause) (k : Literal) → IsIn k (outer P m D) → IsIn k D × (keeps P m k ≡ true)
+pub IsIn-outer : (P : Prefix) (m : Literal) (D : Clause) (k : Literal) → IsIn k (outer P m D) →
+    IsIn k D × (keeps P m k ≡ true)
 IsIn-outer P m [] k h = elim h [ ]
 IsIn-outer P m (j ∷ D) k h = go (keeps P m j) refl h (IsIn-outer P m D k)
   where
-    go : (b : Bool) → keeps P m j ≡ b → IsIn k (cond b (j ∷ outer P m D) (outer P m D)) → (IsIn k (outer P m D) → IsIn k D × (keeps P m k ≡ true)) → IsIn k (j ∷ D) × (keeps P m k ≡ true)
+    go : (b : Bool) → keeps P m j ≡ b → IsIn k (cond b (j ∷ outer P m D) (outer P m D)) →
+        (IsIn k (outer P m D) → IsIn k D × (keeps P m k ≡ true)) → IsIn k (j ∷ D) × (keeps P m k ≡ true)
     go true e (inl s) ih = (inl s, ap (keeps P m) s ∙ e)
     go true e (inr r) ih = (inr (ih r).0, (ih r).1)
     go false e r ih = (inr (ih r).0, (ih r).1)
 
 -- The trees of literals, clauses and lists of clauses.
-pub value_of-lit_tree : (c : Strategy) (A : Assignment) (k : Literal) → value_of (literal_circuit c k) A ≡ signed k.negative (outcome c A k.var)
+pub value_of-lit_tree : (c : Strategy) (A : Assignment) (k : Literal) →
+    value_of (literal_circuit c k) A ≡ signed k.negative (outcome c A k.var)
 value_of-lit_tree c A k = go k.negative
   where
-    go : (n : Bool) → value_of (cond n (Circuit.inverter (circuit_of c k.var)) (circuit_of c k.var)) A ≡ signed n (outcome c A k.var)
+    go : (n : Bool) → value_of (cond n (Circuit.inverter (circuit_of c k.var)) (circuit_of c k.var)) A ≡
+        signed n (outcome c A k.var)
     go true = refl
     go false = refl
 
-pub some_of-true : (c : Strategy) (A : Assignment) (O : Clause) → value_of (some_of c O) A ≡ true → ClauseTrue (outcome c A) O
+pub some_of-true : (c : Strategy) (A : Assignment) (O : Clause) → value_of (some_of c O) A ≡ true →
+    ClauseTrue (outcome c A) O
 some_of-true c A [] h = grind arith
-some_of-true c A (k ∷ O) h = go (value_of (literal_circuit c k) A) refl (value_of (some_of c O) A) refl (some_of-true c A O)
+some_of-true c A (k ∷ O) h =
+    go (value_of (literal_circuit c k) A) refl (value_of (some_of c O) A) refl (some_of-true c A O)
   where
-    go : (a : Bool) → value_of (literal_circuit c k) A ≡ a → (b : Bool) → value_of (some_of c O) A ≡ b → (value_of (some_of c O) A ≡ true → ClauseTrue (outcome c A) O) → ClauseTrue (outcome c A) (k ∷ O)
+    go : (a : Bool) → value_of (literal_circuit c k) A ≡ a → (b : Bool) → value_of (some_of c O) A ≡ b →
+        (value_of (some_of c O) A ≡ true → ClauseTrue (outcome c A) O) → ClauseTrue (outcome c A) (k ∷ O)
     go true e b eb ih = (k, inl refl, sym (value_of-lit_tree c A k) ∙ e)
     go false e true eb ih = let r : ClauseTrue (outcome c A) O = ih eb in (r.0, inr r.1, r.2)
     go false e false eb ih = grind arith
 
-pub some_of-false : (c : Strategy) (A : Assignment) (O : Clause) → value_of (some_of c O) A ≡ false → ClauseTrue (outcome c A) O → ⊥
+pub some_of-false : (c : Strategy) (A : Assignment) (O : Clause) → value_of (some_of c O) A ≡ false →
+    ClauseTrue (outcome c A) O → ⊥
 some_of-false c A [] h t = elim t.1 [ ]
-some_of-false c A (k ∷ O) h (j, inl e, t) = let s : value_of (literal_circuit c k) A ≡ true = value_of-lit_tree c A k ∙ subst (LiteralTrue (outcome c A)) e t in grind arith
+some_of-false c A (k ∷ O) h (j, inl e, t) =
+    let s : value_of (literal_circuit c k) A ≡ true = value_of-lit_tree c A k ∙
+    subst (LiteralTrue (outcome c A)) e t in grind arith
 some_of-false c A (k ∷ O) h (j, inr m, t) = some_of-false c A O (grind arith) (j, m, t)
 
-pub all_of-true : (c : Strategy) (A : Assignment) (Os : List Clause) → value_of (all_of c Os) A ≡ true → (O : Clause) → IsIn O Os → ClauseTrue (outcome c A) O
+pub all_of-true : (c : Strategy) (A : Assignment) (Os : List Clause) → value_of (all_of c Os) A ≡ true →
+    (O : Clause) → IsIn O Os → ClauseTrue (outcome c A) O
 all_of-true c A [] h O m = elim m [ ]
-all_of-true c A (N ∷ Os) h O (inl e) = subst (ClauseTrue (outcome c A)) (sym e) (some_of-true c A N (grind arith))
+all_of-true c A (N ∷ Os) h O (inl e) =
+    subst (ClauseTrue (outcome c A)) (sym e) (some_of-true c A N (grind arith))
 all_of-true c A (N ∷ Os) h O (inr m) = all_of-true c A Os (grind arith) O m
 
-pub all_of-false : (c : Strategy) (A : Assignment) (Os : List Clause) → value_of (all_of c Os) A ≡ false → (O : Clause) × IsIn O Os × (ClauseTrue (outcome c A) O → ⊥)
+pub all_of-false : (c : Strategy) (A : Assignment) (Os : List Clause) → value_of (all_of c Os) A ≡ false →
+    (O : Clause) × IsIn O Os × (ClauseTrue (outcome c A) O → ⊥)
 all_of-false c A [] h = grind arith
 all_of-false c A (N ∷ Os) h = go (value_of (some_of c N) A) refl (all_of-false c A Os)
   where
-    go : (b : Bool) → value_of (some_of c N) A ≡ b → (value_of (all_of c Os) A ≡ false → (O : Clause) × IsIn O Os × (ClauseTrue (outcome c A) O → ⊥)) → (O : Clause) × IsIn O (N ∷ Os) × (ClauseTrue (outcome c A) O → ⊥)
+    go : (b : Bool) → value_of (some_of c N) A ≡ b →
+        (value_of (all_of c Os) A ≡ false → (O : Clause) × IsIn O Os × (ClauseTrue (outcome c A) O → ⊥)) →
+        (O : Clause) × IsIn O (N ∷ Os) × (ClauseTrue (outcome c A) O → ⊥)
     go false e ih = (N, inl refl, some_of-false c A N e)
-    go true e ih = let r : (O : Clause) × IsIn O Os × (ClauseTrue (outcome c A) O → ⊥) = ih (grind arith) in (r.0, inr r.1, r.2)
+    go true e ih =
+        let r : (O : Clause) × IsIn O Os × (ClauseTrue (outcome c A) O → ⊥) = ih (grind arith) in
+        (r.0, inr r.1, r.2)
 
 -- What these trees read.
-pub Reads-lit_tree : (c : Strategy) (k : Literal) (u : ℕ) → Reads (literal_circuit c k) u → Reads (circuit_of c k.var) u
+pub Reads-lit_tree : (c : Strategy) (k : Literal) (u : ℕ) → Reads (literal_circuit c k) u →
+    Reads (circuit_of c k.var) u
 Reads-lit_tree c k u h = go k.negative h
   where
-    go : (n : Bool) → Reads (cond n (Circuit.inverter (circuit_of c k.var)) (circuit_of c k.var)) u → Reads (circuit_of c k.var) u
+    go : (n : Bool) → Reads (cond n (Circuit.inverter (circuit_of c k.var)) (circuit_of c k.var)) u →
+        Reads (circuit_of c k.var) u
     go true r = r
     go false r = r
 
-pub Reads-some_of : (c : Strategy) (O : Clause) (u : ℕ) → Reads (some_of c O) u → (k : Literal) × IsIn k O × Reads (circuit_of c k.var) u
+pub Reads-some_of : (c : Strategy) (O : Clause) (u : ℕ) → Reads (some_of c O) u →
+    (k : Literal) × IsIn k O × Reads (circuit_of c k.var) u
 Reads-some_of c [] u h = elim h [ ]
 Reads-some_of c (k ∷ O) u (inl r) = (k, inl refl, Reads-lit_tree c k u r)
-Reads-some_of c (k ∷ O) u (inr r) = let s : (k : Literal) × IsIn k O × Reads (circuit_of c k.var) u = Reads-some_of c O u r in (s.0, inr s.1, s.2)
+Reads-some_of c (k ∷ O) u (inr r) =
+    let s : (k : Literal) × IsIn k O × Reads (circuit_of c k.var) u = Reads-some_of c O u r in
+    (s.0, inr s.1, s.2)
 
-pub Reads-all_of : (c : Strategy) (Os : List Clause) (u : ℕ) → Reads (all_of c Os) u → (O : Clause) × IsIn O Os × (k : Literal) × IsIn k O × Reads (circuit_of c k.var) u
+pub Reads-all_of : (c : Strategy) (Os : List Clause) (u : ℕ) → Reads (all_of c Os) u →
+    (O : Clause) × IsIn O Os × (k : Literal) × IsIn k O × Reads (circuit_of c k.var) u
 Reads-all_of c [] u h = elim h [ ]
-Reads-all_of c (O ∷ Os) u (inl r) = let s : (k : Literal) × IsIn k O × Reads (circuit_of c k.var) u = Reads-some_of c O u r in (O, inl refl, s.0, s.1, s.2)
-Reads-all_of c (O ∷ Os) u (inr r) = let s : (O : Clause) × IsIn O Os × (k : Literal) × IsIn k O × Reads (circuit_of c k.var) u = Reads-all_of c Os u r in (s.0, inr s.1, s.2, s.3, s.4)
+Reads-all_of c (O ∷ Os) u (inl r) =
+    let s : (k : Literal) × IsIn k O × Reads (circuit_of c k.var) u = Reads-some_of c O u r in
+    (O, inl refl, s.0, s.1, s.2)
+Reads-all_of c (O ∷ Os) u (inr r) =
+    let s : (O : Clause) × IsIn O Os × (k : Literal) × IsIn k O × Reads (circuit_of c k.var) u =
+    Reads-all_of c Os u r in (s.0, inr s.1, s.2, s.3, s.4)
 
 -- A variable without a tree is an input.
 pub tree_of-none : (c : Strategy) (x : ℕ) → given (c x) ≡ false → circuit_of c x ≡ Circuit.input x

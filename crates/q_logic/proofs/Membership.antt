@@ -5,7 +5,8 @@ use Rattle.q_logic.specs.Formulas.{IsIn}
 pub IsIn-Contains : {X : Type 0} (x : X) (xs : List X) → IsIn x xs → Contains xs x
 IsIn-Contains x [] m = elim m [ ]
 IsIn-Contains x (y ∷ ys) (inl e) = (0, omega arith, sym e)
-IsIn-Contains x (y ∷ ys) (inr m) = let r : Contains ys x = IsIn-Contains x ys m in (suc r.0, omega arith, r.2)
+IsIn-Contains x (y ∷ ys) (inr m) =
+    let r : Contains ys x = IsIn-Contains x ys m in (suc r.0, omega arith, r.2)
 
 pub Contains-IsIn : {X : Type 0} (x : X) (xs : List X) → Contains xs x → IsIn x xs
 Contains-IsIn x [] c = absurd (omega (arith, c.1))
@@ -19,7 +20,8 @@ IsIn-drop_within x [] (suc at) m = elim m [ ]
 IsIn-drop_within x (y ∷ ys) zero m = omega arith
 IsIn-drop_within x (y ∷ ys) (suc at) m = let h = IsIn-drop_within x ys at m in omega arith
 
-pub IsIn-drop_next : {X : Type 0} (x : X) (xs : List X) (at : ℕ) → IsIn x (drop at xs) → (get_or xs at x ≡ x) ⊎ IsIn x (drop (suc at) xs)
+pub IsIn-drop_next : {X : Type 0} (x : X) (xs : List X) (at : ℕ) → IsIn x (drop at xs) →
+    (get_or xs at x ≡ x) ⊎ IsIn x (drop (suc at) xs)
 IsIn-drop_next x [] zero m = elim m [ ]
 IsIn-drop_next x [] (suc at) m = elim m [ ]
 IsIn-drop_next x (y ∷ ys) zero (inl e) = inl (sym e)

@@ -17,7 +17,8 @@ pub is_bound-IsBound : (P : Prefix) (v : ℕ) → is_bound P v ≡ true → IsBo
 is_bound-IsBound [] v h = grind arith
 is_bound-IsBound (b ∷ P) v h = go (eqb b.var v) refl h (is_bound-IsBound P v)
   where
-    go : (t : Bool) → eqb b.var v ≡ t → cond t true (is_bound P v) ≡ true → (is_bound P v ≡ true → IsBound P v) → IsBound (b ∷ P) v
+    go : (t : Bool) → eqb b.var v ≡ t → cond t true (is_bound P v) ≡ true →
+        (is_bound P v ≡ true → IsBound P v) → IsBound (b ∷ P) v
     go true e h ih = inl (grind arith)
     go false e h ih = inr (ih h)
 
@@ -44,26 +45,34 @@ IsIn-take x zero (y ∷ xs) m = elim m [ ]
 IsIn-take x (suc n) (y ∷ xs) (inl e) = inl e
 IsIn-take x (suc n) (y ∷ xs) (inr m) = inr (IsIn-take x n xs m)
 
-IsIn-slice_range : {X : Type 0} (x : X) (from to : ℕ) (xs : List X) → IsIn x (slice_range xs from to) → IsIn x xs
+IsIn-slice_range : {X : Type 0} (x : X) (from to : ℕ) (xs : List X) → IsIn x (slice_range xs from to) →
+    IsIn x xs
 IsIn-slice_range x from to xs m = IsIn-drop x from xs (IsIn-take x _ (drop from xs) m)
 
-pub IsIn-clauses_between : (lits : List Literal) (from : ℕ) (ends : List ℕ) (D : Clause) (k : Literal) → IsIn D (clauses_between lits from ends) → IsIn k D → IsIn k lits
+pub IsIn-clauses_between : (lits : List Literal) (from : ℕ) (ends : List ℕ) (D : Clause) (k : Literal) →
+    IsIn D (clauses_between lits from ends) → IsIn k D → IsIn k lits
 IsIn-clauses_between lits from [] D k m h = elim m [ ]
-IsIn-clauses_between lits from (e ∷ ends) D k (inl q) h = IsIn-slice_range k from e lits (subst (IsIn k) q h)
+IsIn-clauses_between lits from (e ∷ ends) D k (inl q) h =
+    IsIn-slice_range k from e lits (subst (IsIn k) q h)
 IsIn-clauses_between lits from (e ∷ ends) D k (inr m) h = IsIn-clauses_between lits e ends D k m h
 
-pub AllByRecursion-IsIn : {X : Type 0} (R : X → Type 0) (xs : List X) (x : X) → AllByRecursion R xs → IsIn x xs → R x
+pub AllByRecursion-IsIn : {X : Type 0} (R : X → Type 0) (xs : List X) (x : X) → AllByRecursion R xs →
+    IsIn x xs → R x
 AllByRecursion-IsIn R [] x a m = elim m [ ]
 AllByRecursion-IsIn R (y ∷ xs) x a (inl e) = subst R (sym e) a.0
 AllByRecursion-IsIn R (y ∷ xs) x a (inr m) = AllByRecursion-IsIn R xs x a.1 m
 
-pub lawful-proper : (P : Prefix) (lits : List Literal) (ends : List ℕ) → AreLawful P lits ends → IsProper (record { prefix = P; matrix = clauses_between lits 0 ends })
+pub lawful-proper : (P : Prefix) (lits : List Literal) (ends : List ℕ) → AreLawful P lits ends →
+    IsProper (record { prefix = P; matrix = clauses_between lits 0 ends })
 lawful-proper P lits ends h =
     record {
       formula =
           record {
             distinct = pairs-Distinct P h.distinct;
-            closed = λ D m k n. IsBound-is_bound P k.var (AllByRecursion-IsIn (λ (l : Literal). IsBound P l.var) lits k h.bound (IsIn-clauses_between lits 0 ends D k m n));
+            closed =
+                λ D m k n. IsBound-is_bound P k.var
+                (AllByRecursion-IsIn (λ (l : Literal). IsBound P l.var) lits k h.bound
+                (IsIn-clauses_between lits 0 ends D k m n));
           };
       ranges = h.ranges;
       ordered = h.ordered;
@@ -76,8 +85,11 @@ slice_get-IsIn [] at x e = absurd (cc)
 slice_get-IsIn (y ∷ xs) zero x e = inl (cc)
 slice_get-IsIn (y ∷ xs) (suc at) x e = inr (slice_get-IsIn xs at x e)
 
-pub proper-ordered : (F : PrenexFormula) (at : ℕ) (C : Clause) → IsProper F → slice_get F.matrix at ≡ Some C → ArePairs IsBelow C
-proper-ordered F at C h e = AllByRecursion-IsIn (ArePairs IsBelow) F.matrix C h.ordered (slice_get-IsIn F.matrix at C e)
+pub proper-ordered : (F : PrenexFormula) (at : ℕ) (C : Clause) → IsProper F →
+    slice_get F.matrix at ≡ Some C → ArePairs IsBelow C
+proper-ordered F at C h e =
+    AllByRecursion-IsIn (ArePairs IsBelow) F.matrix C h.ordered (slice_get-IsIn F.matrix at C e)
 
-pub proper-bound : (F : PrenexFormula) (at : ℕ) (C : Clause) → IsProper F → slice_get F.matrix at ≡ Some C → Within F.prefix C
+pub proper-bound : (F : PrenexFormula) (at : ℕ) (C : Clause) → IsProper F → slice_get F.matrix at ≡ Some C →
+    Within F.prefix C
 proper-bound F at C h e k m = h.formula.closed C (slice_get-IsIn F.matrix at C e) k m

@@ -19,13 +19,16 @@ pub clause_eq-sound : (C D : Clause) → clause_eq C D ≡ true → C ≡ D
 clause_eq-sound [] [] h = refl
 clause_eq-sound [] (k ∷ D) h = grind arith
 clause_eq-sound (j ∷ C) [] h = grind arith
-clause_eq-sound (j ∷ C) (k ∷ D) h = let e : j ≡ k = literal_eq-sound j k (grind arith) in let f : C ≡ D = clause_eq-sound C D (grind arith) in λ i. e i ∷ f i
+clause_eq-sound (j ∷ C) (k ∷ D) h =
+    let e : j ≡ k = literal_eq-sound j k (grind arith) in
+    let f : C ≡ D = clause_eq-sound C D (grind arith) in λ i. e i ∷ f i
 
 pub one_less-IsIn : (C : Clause) (X : Matrix) (D : Clause) → IsIn D (one_less C X) → IsIn D X
 one_less-IsIn C [] D m = m
 one_less-IsIn C (E ∷ X) D m = go (clause_eq E C) m (one_less-IsIn C X D)
   where
-    go : (b : Bool) → IsIn D (cond b X (E ∷ one_less C X)) → (IsIn D (one_less C X) → IsIn D X) → IsIn D (E ∷ X)
+    go : (b : Bool) → IsIn D (cond b X (E ∷ one_less C X)) → (IsIn D (one_less C X) → IsIn D X) →
+        IsIn D (E ∷ X)
     go true m ih = inr m
     go false (inl e) ih = inl e
     go false (inr m) ih = inr (ih m)
@@ -34,16 +37,20 @@ pub IsIn-one_less : (C : Clause) (X : Matrix) (D : Clause) → IsIn D X → IsIn
 IsIn-one_less C [] D m = elim m [ ]
 IsIn-one_less C (E ∷ X) D m = go (clause_eq E C) refl m (IsIn-one_less C X D)
   where
-    go : (b : Bool) → clause_eq E C ≡ b → (D ≡ E) ⊎ IsIn D X → (IsIn D X → IsIn D (C ∷ one_less C X)) → IsIn D (C ∷ cond b X (E ∷ one_less C X))
+    go : (b : Bool) → clause_eq E C ≡ b → (D ≡ E) ⊎ IsIn D X → (IsIn D X → IsIn D (C ∷ one_less C X)) →
+        IsIn D (C ∷ cond b X (E ∷ one_less C X))
     go true q (inl e) ih = inl (e ∙ clause_eq-sound E C q)
     go true q (inr m) ih = inr m
     go false q (inl e) ih = inr (inl e)
     go false q (inr m) ih = elim (ih m) [ inl e ↦ inl e | inr n ↦ inr (inr n) ]
 
-pub Skolem-fewer : (P : Prefix) (X Y : Matrix) (c : Strategy) → ((D : Clause) → IsIn D Y → IsIn D X) → Skolem P X c → Skolem P Y c
+pub Skolem-fewer : (P : Prefix) (X Y : Matrix) (c : Strategy) → ((D : Clause) → IsIn D Y → IsIn D X) →
+    Skolem P X c → Skolem P Y c
 Skolem-fewer P X Y c h sk = record { lawful = sk.lawful; wins = λ A D m. sk.wins A D (h D m) }
 
-pub Skolem-first : (P : Prefix) (X : Matrix) (C : Clause) (c : Strategy) → ((A : Assignment) → MatrixTrue (outcome c A) X → ClauseTrue (outcome c A) C) → Skolem P X c → Skolem P (C ∷ X) c
+pub Skolem-first : (P : Prefix) (X : Matrix) (C : Clause) (c : Strategy) →
+    ((A : Assignment) → MatrixTrue (outcome c A) X → ClauseTrue (outcome c A) C) → Skolem P X c →
+    Skolem P (C ∷ X) c
 Skolem-first P X C c h sk = record { lawful = sk.lawful; wins = winning }
   where
     winning : (A : Assignment) → MatrixTrue (outcome c A) (C ∷ X)
@@ -51,26 +58,39 @@ Skolem-first P X C c h sk = record { lawful = sk.lawful; wins = winning }
     winning A D (inr m) = sk.wins A D m
 
 -- The clause C in place of a shorter one.
-pub Skolem-longer : (P : Prefix) (X : Matrix) (l : Literal) (C : Clause) (c : Strategy) → Skolem P (without l C ∷ X) c → Skolem P (C ∷ X) c
-Skolem-longer P X l C c sk = Skolem-first P X C c (λ A t. let w : ClauseTrue (outcome c A) (without l C) = sk.wins A (without l C) (inl refl) in (w.0, without-IsIn l C w.0 w.1, w.2)) (Skolem-fewer P (without l C ∷ X) X c (λ D m. inr m) sk)
+pub Skolem-longer : (P : Prefix) (X : Matrix) (l : Literal) (C : Clause) (c : Strategy) →
+    Skolem P (without l C ∷ X) c → Skolem P (C ∷ X) c
+Skolem-longer P X l C c sk =
+    Skolem-first P X C c (λ A t. let w : ClauseTrue (outcome c A) (without l C) =
+    sk.wins A (without l C) (inl refl) in (w.0, without-IsIn l C w.0 w.1, w.2))
+    (Skolem-fewer P (without l C ∷ X) X c (λ D m. inr m) sk)
 
 -- Other trees, at variables that no clause has.
-Skolem-aside : (P Q : Prefix) (X : Matrix) (c d : Strategy) (v : ℕ) → ((D : Clause) → IsIn D X → (k : Literal) → IsIn k D → eqb k.var v ≡ false) →
+Skolem-aside : (P Q : Prefix) (X : Matrix) (c d : Strategy) (v : ℕ) →
+    ((D : Clause) → IsIn D X → (k : Literal) → IsIn k D → eqb k.var v ≡ false) →
     ((x : ℕ) → eqb x v ≡ false → d x ≡ c x) → Lawful Q d → Skolem P X c → Skolem Q X d
 Skolem-aside P Q X c d v free same lawful sk = record { lawful = lawful; wins = winning }
   where
     winning : (A : Assignment) → MatrixTrue (outcome d A) X
-    winning A D m = let w : ClauseTrue (outcome c A) D = sk.wins A D m in
-        (w.0, w.1, subst (λ o. signed w.0.negative (value_of (or_input w.0.var o) A) ≡ true) (sym (same w.0.var (free D m w.0 w.1))) w.2)
+    winning A D m = let w : ClauseTrue (outcome c A) D = sk.wins A D m in (
+      w.0,
+      w.1,
+      subst (λ o. signed w.0.negative (value_of (or_input w.0.var o) A) ≡ true)
+          (sym (same w.0.var (free D m w.0 w.1))) w.2,
+    )
 
-pub set_tree-other : (v : ℕ) (o : Option Circuit) (c : Strategy) (x : ℕ) → eqb x v ≡ false → with_circuit v o c x ≡ c x
+pub set_tree-other : (v : ℕ) (o : Option Circuit) (c : Strategy) (x : ℕ) → eqb x v ≡ false →
+    with_circuit v o c x ≡ c x
 set_tree-other v o c x n = rw n refl
 
-pub unbound_free : (P : Prefix) (X : Matrix) (v : ℕ) → Closed P X → is_bound P v ≡ false → (D : Clause) → IsIn D X → (k : Literal) → IsIn k D → eqb k.var v ≡ false
+pub unbound_free : (P : Prefix) (X : Matrix) (v : ℕ) → Closed P X → is_bound P v ≡ false → (D : Clause) →
+    IsIn D X → (k : Literal) → IsIn k D → eqb k.var v ≡ false
 unbound_free P X v cl n D m k i = go (eqb k.var v) refl
   where
     go : (b : Bool) → eqb k.var v ≡ b → eqb k.var v ≡ false
-    go true q = let e : k.var ≡ v = grind arith in let z : is_bound P v ≡ true = subst (λ x. is_bound P x ≡ true) e (cl D m k i) in grind arith
+    go true q =
+        let e : k.var ≡ v = grind arith in let z : is_bound P v ≡ true =
+        subst (λ x. is_bound P x ≡ true) e (cl D m k i) in grind arith
     go false q = q
 
 -- A variable is v or another one.
@@ -84,60 +104,100 @@ at_or_other v Q here there x = go (eqb x v) refl
 set_tree-itself : (v : ℕ) (o : Option Circuit) (c : Strategy) → with_circuit v o c v ≡ o
 set_tree-itself v o c = let e : eqb v v ≡ true = grind arith in rw e refl
 
-unread_by_const : (v : ℕ) (b : Bool) (c : Strategy) (u : ℕ) → Reads (circuit_of (with_circuit v (Some (constant b)) c) v) u → ⊥
+unread_by_const : (v : ℕ) (b : Bool) (c : Strategy) (u : ℕ) →
+    Reads (circuit_of (with_circuit v (Some (constant b)) c) v) u → ⊥
 unread_by_const v b c u r = subst (λ o. Reads (or_input v o) u) (set_tree-itself v (Some (constant b)) c) r
 
 -- A fresh variable, back and forth.
-pub fresh-lawful : (P : Prefix) (v w : ℕ) (c : Strategy) → is_bound P v ≡ false → Lawful (insert_after w v P) c → Lawful P (with_circuit v None c)
+pub fresh-lawful : (P : Prefix) (v w : ℕ) (c : Strategy) → is_bound P v ≡ false →
+    Lawful (insert_after w v P) c → Lawful P (with_circuit v None c)
 fresh-lawful P v w c n sk = record { trees = trees; reads = reading }
   where
     not_e : is_existential P v ≡ false
     not_e = none_bound P v n
 
     trees : (x : ℕ) → given (with_circuit v None c x) ≡ is_existential P x
-    trees = at_or_other v (λ x. given (with_circuit v None c x) ≡ is_existential P x) (ap given (set_tree-itself v None c) ∙ sym not_e) (λ x q. ap given (set_tree-other v None c x q) ∙ (sk.trees x ∙ insert-is_existential w v P x q))
+    trees =
+        at_or_other v (λ x. given (with_circuit v None c x) ≡ is_existential P x)
+        (ap given (set_tree-itself v None c) ∙ sym not_e) (λ x q. ap given (set_tree-other v None c x q) ∙
+        (sk.trees x ∙ insert-is_existential w v P x q))
 
-    reading : (x : ℕ) → is_existential P x ≡ true → (u : ℕ) → Reads (circuit_of (with_circuit v None c) x) u → universal_before P u x ≡ true
-    reading = at_or_other v (λ x. is_existential P x ≡ true → (u : ℕ) → Reads (circuit_of (with_circuit v None c) x) u → universal_before P u x ≡ true) (λ f. let z : is_existential P v ≡ false = not_e in absurd (grind arith)) other
+    reading : (x : ℕ) → is_existential P x ≡ true → (u : ℕ) →
+        Reads (circuit_of (with_circuit v None c) x) u → universal_before P u x ≡ true
+    reading =
+        at_or_other v (λ x. is_existential P x ≡ true → (u : ℕ) →
+        Reads (circuit_of (with_circuit v None c) x) u →
+        universal_before P u x ≡ true) (λ f. let z : is_existential P v ≡ false = not_e in
+        absurd (grind arith)) other
       where
-        other : (x : ℕ) → eqb x v ≡ false → is_existential P x ≡ true → (u : ℕ) → Reads (circuit_of (with_circuit v None c) x) u → universal_before P u x ≡ true
+        other : (x : ℕ) → eqb x v ≡ false → is_existential P x ≡ true → (u : ℕ) →
+            Reads (circuit_of (with_circuit v None c) x) u → universal_before P u x ≡ true
         other x q f u r =
-            let z : universal_before (insert_after w v P) u x ≡ true = sk.reads x (insert-is_existential w v P x q ∙ f) u (subst (λ o. Reads (or_input x o) u) (set_tree-other v None c x q) r) in
+            let z : universal_before (insert_after w v P) u x ≡ true =
+            sk.reads x (insert-is_existential w v P x q ∙
+            f) u (subst (λ o. Reads (or_input x o) u) (set_tree-other v None c x q) r) in
             go (eqb u v) refl z
           where
-            go : (b : Bool) → eqb u v ≡ b → universal_before (insert_after w v P) u x ≡ true → universal_before P u x ≡ true
-            go true p z = let i : u ≡ v = grind arith in let y : universal_before (insert_after w v P) v x ≡ true = subst (λ t. universal_before (insert_after w v P) t x ≡ true) i z in let h : universal_before (insert_after w v P) v x ≡ false = insert-not_before w v P x n in grind arith
+            go : (b : Bool) → eqb u v ≡ b → universal_before (insert_after w v P) u x ≡ true →
+                universal_before P u x ≡ true
+            go true p z =
+                let i : u ≡ v = grind arith in let y : universal_before (insert_after w v P) v x ≡ true =
+                subst (λ t. universal_before (insert_after w v P) t x ≡ true) i z in
+                let h : universal_before (insert_after w v P) v x ≡ false = insert-not_before w v P x n in
+                grind arith
             go false p z = sym (insert-universal_before w v P u x q p) ∙ z
 
-pub fresh-back : (P : Prefix) (X : Matrix) (v w : ℕ) (c : Strategy) → Closed P X → is_bound P v ≡ false → is_existential P w ≡ true → Skolem (insert_after w v P) X c → Skolem P X (with_circuit v None c)
-fresh-back P X v w c cl n e sk = Skolem-aside (insert_after w v P) P X c (with_circuit v None c) v (unbound_free P X v cl n) (set_tree-other v None c) (fresh-lawful P v w c n sk.lawful) sk
+pub fresh-back : (P : Prefix) (X : Matrix) (v w : ℕ) (c : Strategy) → Closed P X → is_bound P v ≡ false →
+    is_existential P w ≡ true → Skolem (insert_after w v P) X c → Skolem P X (with_circuit v None c)
+fresh-back P X v w c cl n e sk =
+    Skolem-aside (insert_after w v P) P X c (with_circuit v None c) v (unbound_free P X v cl n)
+    (set_tree-other v None c) (fresh-lawful P v w c n sk.lawful) sk
 
-pub fresh-on : (P : Prefix) (X : Matrix) (v w : ℕ) (c : Strategy) → Closed P X → is_bound P v ≡ false → is_existential P w ≡ true → Skolem P X c → Skolem (insert_after w v P) X (with_circuit v (Some (constant false)) c)
-fresh-on P X v w c cl n e sk = Skolem-aside P (insert_after w v P) X c d v (unbound_free P X v cl n) (set_tree-other v (Some (constant false)) c) (record { trees = trees; reads = reading }) sk
+pub fresh-on : (P : Prefix) (X : Matrix) (v w : ℕ) (c : Strategy) → Closed P X → is_bound P v ≡ false →
+    is_existential P w ≡ true → Skolem P X c → Skolem (insert_after w v P) X
+    (with_circuit v (Some (constant false)) c)
+fresh-on P X v w c cl n e sk =
+    Skolem-aside P (insert_after w v P) X c d v (unbound_free P X v cl n)
+    (set_tree-other v (Some (constant false)) c) (record { trees = trees; reads = reading }) sk
   where
     d : Strategy
     d = with_circuit v (Some (constant false)) c
 
     trees : (x : ℕ) → given (d x) ≡ is_existential (insert_after w v P) x
-    trees = at_or_other v (λ x. given (d x) ≡ is_existential (insert_after w v P) x) (ap given (set_tree-itself v (Some (constant false)) c) ∙ sym (insert-itself w v P n e)) (λ x q. ap given (set_tree-other v (Some (constant false)) c x q) ∙ (sk.trees x ∙ sym (insert-is_existential w v P x q)))
+    trees =
+        at_or_other v (λ x. given (d x) ≡ is_existential (insert_after w v P) x)
+        (ap given (set_tree-itself v (Some (constant false)) c) ∙
+        sym (insert-itself w v P n e)) (λ x q. ap given (set_tree-other v (Some (constant false)) c x q) ∙
+        (sk.trees x ∙ sym (insert-is_existential w v P x q)))
 
-    reading : (x : ℕ) → is_existential (insert_after w v P) x ≡ true → (u : ℕ) → Reads (circuit_of d x) u → universal_before (insert_after w v P) u x ≡ true
-    reading = at_or_other v (λ x. is_existential (insert_after w v P) x ≡ true → (u : ℕ) → Reads (circuit_of d x) u → universal_before (insert_after w v P) u x ≡ true) (λ f u r. absurd (unread_by_const v false c u r)) other
+    reading : (x : ℕ) → is_existential (insert_after w v P) x ≡ true → (u : ℕ) → Reads (circuit_of d x) u →
+        universal_before (insert_after w v P) u x ≡ true
+    reading =
+        at_or_other v (λ x. is_existential (insert_after w v P) x ≡ true → (u : ℕ) →
+        Reads (circuit_of d x) u → universal_before (insert_after w v P) u x ≡ true)
+        (λ f u r. absurd (unread_by_const v false c u r)) other
       where
-        other : (x : ℕ) → eqb x v ≡ false → is_existential (insert_after w v P) x ≡ true → (u : ℕ) → Reads (circuit_of d x) u → universal_before (insert_after w v P) u x ≡ true
+        other : (x : ℕ) → eqb x v ≡ false → is_existential (insert_after w v P) x ≡ true → (u : ℕ) →
+            Reads (circuit_of d x) u → universal_before (insert_after w v P) u x ≡ true
         other x q f u r =
-            let z : universal_before P u x ≡ true = sk.reads x (sym (insert-is_existential w v P x q) ∙ f) u (subst (λ o. Reads (or_input x o) u) (set_tree-other v (Some (constant false)) c x q) r) in
+            let z : universal_before P u x ≡ true =
+            sk.reads x (sym (insert-is_existential w v P x q) ∙
+            f) u (subst (λ o. Reads (or_input x o) u)
+            (set_tree-other v (Some (constant false)) c x q) r) in
             insert-universal_before w v P u x q (differs (universal_before-is_bound P u x z)) ∙ z
           where
             differs : is_bound P u ≡ true → eqb u v ≡ false
             differs h = go (eqb u v) refl
               where
                 go : (b : Bool) → eqb u v ≡ b → eqb u v ≡ false
-                go true p = let i : u ≡ v = grind arith in let y : is_bound P v ≡ true = subst (λ t. is_bound P t ≡ true) i h in grind arith
+                go true p =
+                    let i : u ≡ v = grind arith in
+                    let y : is_bound P v ≡ true = subst (λ t. is_bound P t ≡ true) i h in grind arith
                 go false p = p
 
 -- A removed variable.
-pub removed-lawful : (P : Prefix) (v : ℕ) (c : Strategy) → Distinct P → Lawful (removed_from v P) c → Lawful P (cond (is_existential P v) (with_circuit v (Some (constant false)) c) c)
+pub removed-lawful : (P : Prefix) (v : ℕ) (c : Strategy) → Distinct P → Lawful (removed_from v P) c →
+    Lawful P (cond (is_existential P v) (with_circuit v (Some (constant false)) c) c)
 removed-lawful P v c di sk = go (is_existential P v) refl
   where
     Q : Prefix
@@ -146,7 +206,8 @@ removed-lawful P v c di sk = go (is_existential P v) refl
     not_there : is_bound Q v ≡ false
     not_there = removed-unbound v P di
 
-    old : (x : ℕ) → eqb x v ≡ false → is_existential P x ≡ true → (u : ℕ) → Reads (circuit_of c x) u → universal_before P u x ≡ true
+    old : (x : ℕ) → eqb x v ≡ false → is_existential P x ≡ true → (u : ℕ) → Reads (circuit_of c x) u →
+        universal_before P u x ≡ true
     old x q f u r =
         let z : universal_before Q u x ≡ true = sk.reads x (removed-is_existential v P x q ∙ f) u r in
         sym (removed-universal_before v P u x q (differs (universal_before-is_bound Q u x z))) ∙ z
@@ -155,34 +216,57 @@ removed-lawful P v c di sk = go (is_existential P v) refl
         differs h = step (eqb u v) refl
           where
             step : (b : Bool) → eqb u v ≡ b → eqb u v ≡ false
-            step true p = let i : u ≡ v = grind arith in let y : is_bound Q v ≡ true = subst (λ t. is_bound Q t ≡ true) i h in let z : is_bound Q v ≡ false = not_there in grind arith
+            step true p =
+                let i : u ≡ v = grind arith in let y : is_bound Q v ≡ true =
+                subst (λ t. is_bound Q t ≡ true) i h in let z : is_bound Q v ≡ false = not_there in
+                grind arith
             step false p = p
 
-    go : (b : Bool) → is_existential P v ≡ b → Lawful P (cond b (with_circuit v (Some (constant false)) c) c)
+    go : (b : Bool) → is_existential P v ≡ b → Lawful P
+        (cond b (with_circuit v (Some (constant false)) c) c)
     go false e = record {
-      trees = (at_or_other v (λ x. given (c x) ≡ is_existential P x) (sk.trees v ∙ (none_bound Q v not_there ∙ sym e)) (λ x q. sk.trees x ∙ removed-is_existential v P x q));
-      reads = (at_or_other v (λ x. is_existential P x ≡ true → (u : ℕ) → Reads (circuit_of c x) u → universal_before P u x ≡ true) (λ f. absurd (grind arith)) old);
+      trees =
+          (at_or_other v (λ x. given (c x) ≡ is_existential P x) (sk.trees v ∙
+          (none_bound Q v not_there ∙ sym e)) (λ x q. sk.trees x ∙ removed-is_existential v P x q));
+      reads =
+          (at_or_other v (λ x. is_existential P x ≡ true → (u : ℕ) → Reads (circuit_of c x) u →
+          universal_before P u x ≡ true) (λ f. absurd (grind arith)) old);
     }
     go true e = record {
-      trees = (at_or_other v (λ x. given (with_circuit v (Some (constant false)) c x) ≡ is_existential P x) (ap given (set_tree-itself v (Some (constant false)) c) ∙ sym e) (λ x q. ap given (set_tree-other v (Some (constant false)) c x q) ∙ (sk.trees x ∙ removed-is_existential v P x q)));
-      reads = (at_or_other v (λ x. is_existential P x ≡ true → (u : ℕ) → Reads (circuit_of (with_circuit v (Some (constant false)) c) x) u → universal_before P u x ≡ true) (λ f u r. absurd (unread_by_const v false c u r))
-          (λ x q f u r. old x q f u (subst (λ o. Reads (or_input x o) u) (set_tree-other v (Some (constant false)) c x q) r)));
+      trees =
+          (at_or_other v (λ x. given (with_circuit v (Some (constant false)) c x) ≡ is_existential P x)
+          (ap given (set_tree-itself v (Some (constant false)) c) ∙
+          sym e) (λ x q. ap given (set_tree-other v (Some (constant false)) c x q) ∙
+          (sk.trees x ∙ removed-is_existential v P x q)));
+      reads =
+          (at_or_other v (λ x. is_existential P x ≡ true → (u : ℕ) →
+          Reads (circuit_of (with_circuit v (Some (constant false)) c) x) u →
+          universal_before P u x ≡ true) (λ f u r. absurd (unread_by_const v false c u r))
+          (λ x q f u r. old x q f u (subst (λ o. Reads (or_input x o) u)
+          (set_tree-other v (Some (constant false)) c x q) r)));
     }
 
-pub removed-back : (P : Prefix) (X : Matrix) (v : ℕ) (c : Strategy) → Distinct P → ((D : Clause) → IsIn D X → (k : Literal) → IsIn k D → eqb k.var v ≡ false) → Skolem (removed_from v P) X c →
+pub removed-back : (P : Prefix) (X : Matrix) (v : ℕ) (c : Strategy) → Distinct P →
+    ((D : Clause) → IsIn D X → (k : Literal) → IsIn k D → eqb k.var v ≡ false) →
+    Skolem (removed_from v P) X c →
     Skolem P X (cond (is_existential P v) (with_circuit v (Some (constant false)) c) c)
-removed-back P X v c di free sk = Skolem-aside (removed_from v P) P X c (cond (is_existential P v) (with_circuit v (Some (constant false)) c) c) v free same (removed-lawful P v c di sk.lawful) sk
+removed-back P X v c di free sk =
+    Skolem-aside (removed_from v P) P X c (cond (is_existential P v)
+    (with_circuit v (Some (constant false)) c) c) v free same (removed-lawful P v c di sk.lawful) sk
   where
-    same : (x : ℕ) → eqb x v ≡ false → cond (is_existential P v) (with_circuit v (Some (constant false)) c) c x ≡ c x
+    same : (x : ℕ) → eqb x v ≡ false → cond (is_existential P v)
+        (with_circuit v (Some (constant false)) c) c x ≡ c x
     same x q = go (is_existential P v)
       where
         go : (b : Bool) → cond b (with_circuit v (Some (constant false)) c) c x ≡ c x
         go true = set_tree-other v (Some (constant false)) c x q
         go false = refl
 
-pub removed-on : (P : Prefix) (X : Matrix) (v : ℕ) (c : Strategy) → Distinct P → ((D : Clause) → IsIn D X → (k : Literal) → IsIn k D → eqb k.var v ≡ false) → Skolem P X c →
+pub removed-on : (P : Prefix) (X : Matrix) (v : ℕ) (c : Strategy) → Distinct P →
+    ((D : Clause) → IsIn D X → (k : Literal) → IsIn k D → eqb k.var v ≡ false) → Skolem P X c →
     Skolem (removed_from v P) X (with_circuit v None (reread v (constant false) c))
-removed-on P X v c di free sk = record { lawful = record { trees = trees; reads = reading }; wins = winning }
+removed-on P X v c di free sk =
+    record { lawful = record { trees = trees; reads = reading }; wins = winning }
   where
     Q : Prefix
     Q = removed_from v P
@@ -197,21 +281,39 @@ removed-on P X v c di free sk = record { lawful = record { trees = trees; reads 
     not_e = none_bound Q v (removed-unbound v P di)
 
     trees : (x : ℕ) → given (d x) ≡ is_existential Q x
-    trees = at_or_other v (λ x. given (d x) ≡ is_existential Q x) (ap given (set_tree-itself v None r0) ∙ sym not_e) (λ x q. ap given (set_tree-other v None r0 x q) ∙ (given-reread v (constant false) c x ∙ (sk.trees x ∙ sym (removed-is_existential v P x q))))
+    trees =
+        at_or_other v (λ x. given (d x) ≡ is_existential Q x) (ap given (set_tree-itself v None r0) ∙
+        sym not_e) (λ x q. ap given (set_tree-other v None r0 x q) ∙
+        (given-reread v (constant false) c x ∙ (sk.trees x ∙ sym (removed-is_existential v P x q))))
 
-    reading : (x : ℕ) → is_existential Q x ≡ true → (u : ℕ) → Reads (circuit_of d x) u → universal_before Q u x ≡ true
-    reading = at_or_other v (λ x. is_existential Q x ≡ true → (u : ℕ) → Reads (circuit_of d x) u → universal_before Q u x ≡ true) (λ f. let z : is_existential Q v ≡ false = not_e in absurd (grind arith)) other
+    reading : (x : ℕ) → is_existential Q x ≡ true → (u : ℕ) → Reads (circuit_of d x) u →
+        universal_before Q u x ≡ true
+    reading =
+        at_or_other v (λ x. is_existential Q x ≡ true → (u : ℕ) → Reads (circuit_of d x) u →
+        universal_before Q u x ≡ true) (λ f. let z : is_existential Q v ≡ false = not_e in
+        absurd (grind arith)) other
       where
-        other : (x : ℕ) → eqb x v ≡ false → is_existential Q x ≡ true → (u : ℕ) → Reads (circuit_of d x) u → universal_before Q u x ≡ true
-        other x q f u r = go (c x) (sk.trees x ∙ (sym (removed-is_existential v P x q) ∙ f)) (sk.reads x (sym (removed-is_existential v P x q) ∙ f)) (subst (λ o. Reads (or_input x o) u) (set_tree-other v None r0 x q) r)
+        other : (x : ℕ) → eqb x v ≡ false → is_existential Q x ≡ true → (u : ℕ) → Reads (circuit_of d x) u →
+            universal_before Q u x ≡ true
+        other x q f u r =
+            go (c x) (sk.trees x ∙ (sym (removed-is_existential v P x q) ∙ f))
+            (sk.reads x (sym (removed-is_existential v P x q) ∙ f))
+            (subst (λ o. Reads (or_input x o) u) (set_tree-other v None r0 x q) r)
           where
-            go : (o : Option Circuit) → given o ≡ true → ((w : ℕ) → Reads (or_input x o) w → universal_before P w x ≡ true) → Reads (or_input x (map_tree (replaced v (constant false)) o)) u → universal_before Q u x ≡ true
+            go : (o : Option Circuit) → given o ≡ true →
+                ((w : ℕ) → Reads (or_input x o) w → universal_before P w x ≡ true) →
+                Reads (or_input x (map_tree (replaced v (constant false)) o)) u →
+                universal_before Q u x ≡ true
             go None g h r = absurd (grind arith)
-            go (Some t) g h r = elim (Reads-replaced v (constant false) t u r) [ inl p ↦ removed-universal_before v P u x q p.1 ∙ h u p.0 | inr p ↦ elim p.1 [ ] ]
+            go (Some t) g h r =
+                elim (Reads-replaced v (constant false) t u r)
+                [ inl p ↦ removed-universal_before v P u x q p.1 ∙ h u p.0 | inr p ↦ elim p.1 [ ] ]
 
     winning : (A : Assignment) → MatrixTrue (outcome d A) X
     winning A D m =
         let w : ClauseTrue (outcome c (with_value A v false)) D = sk.wins (with_value A v false) D m in
         let q : eqb w.0.var v ≡ false = free D m w.0 w.1 in
-        let e : outcome d A w.0.var ≡ outcome c (with_value A v false) w.0.var = ap (λ o. value_of (or_input w.0.var o) A) (set_tree-other v None r0 w.0.var q) ∙ outcome-reread v (constant false) c A w.0.var q in
+        let e : outcome d A w.0.var ≡ outcome c (with_value A v false) w.0.var =
+        ap (λ o. value_of (or_input w.0.var o) A) (set_tree-other v None r0 w.0.var q) ∙
+        outcome-reread v (constant false) c A w.0.var q in
         (w.0, w.1, ap (signed w.0.negative) e ∙ w.2)

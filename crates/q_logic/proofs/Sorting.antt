@@ -32,7 +32,8 @@ literal_cmp-total = record {
 less-below : (k l : Literal) → literal_cmp k l ≡ Less → IsBelow k l
 less-below k l e = grind (arith, nat_tests)
 
-all-below : (k : Literal) (ls : List Literal) → AllByRecursion (λ l. literal_cmp k l ≡ Less) ls → AllByRecursion (IsBelow k) ls
+all-below : (k : Literal) (ls : List Literal) → AllByRecursion (λ l. literal_cmp k l ≡ Less) ls →
+    AllByRecursion (IsBelow k) ls
 all-below k [] h = tt
 all-below k (l ∷ ls) h = (less-below k l h.0, all-below k ls h.1)
 
@@ -54,8 +55,13 @@ same_literal-equivalence = record {
   congr = λ x y z e. grind (arith, nat_tests);
 }
 
-pub dedup-sorted : (old sorted : List Literal) → IsPermutation old sorted → IsSorted literal_cmp sorted → dedup same_literal sorted ≡ clause_of old
+pub dedup-sorted : (old sorted : List Literal) → IsPermutation old sorted → IsSorted literal_cmp sorted →
+    dedup same_literal sorted ≡ clause_of old
 dedup-sorted old sorted p s =
-    is_clause_of (dedup same_literal sorted) old (strict-pairs (dedup same_literal sorted) (IsStrictlySortedBy-dedup literal_cmp-total same_literal-cmp sorted s))
-    (λ l h. Contains-IsIn l old (Contains-permutation sorted old l (IsPermutation-sym old sorted p) (Contains-from_dedup same_literal sorted l (IsIn-Contains l (dedup same_literal sorted) h))))
-    (λ l h. Contains-IsIn l (dedup same_literal sorted) (Contains-dedup same_literal-equivalence same_literal-sound sorted l (Contains-permutation old sorted l p (IsIn-Contains l old h))))
+    is_clause_of (dedup same_literal sorted) old (strict-pairs (dedup same_literal sorted)
+    (IsStrictlySortedBy-dedup literal_cmp-total same_literal-cmp sorted s))
+    (λ l h. Contains-IsIn l old (Contains-permutation sorted old l (IsPermutation-sym old sorted p)
+    (Contains-from_dedup same_literal sorted l (IsIn-Contains l (dedup same_literal sorted) h))))
+    (λ l h. Contains-IsIn l (dedup same_literal sorted)
+    (Contains-dedup same_literal-equivalence same_literal-sound sorted l
+    (Contains-permutation old sorted l p (IsIn-Contains l old h))))

@@ -8,27 +8,41 @@ use Rattle.q_logic.specs.Steps.{ProofStep, add, delete, drop_literal, fresh, rem
 use Rattle.q_logic.specs.Runs.{ValidSteps}
 
 KeepsLimits-larger : (m n : Limits) (X : Matrix) → AreWithin m n → KeepsLimits m X → KeepsLimits n X
-KeepsLimits-larger m n X w h = record { clauses = larger (length X) m.clauses n.clauses w.clauses h.clauses; lits = larger (literals_in X) m.lits n.lits w.lits h.lits }
+KeepsLimits-larger m n X w h =
+    record {
+      clauses = larger (length X) m.clauses n.clauses w.clauses h.clauses;
+      lits = larger (literals_in X) m.lits n.lits w.lits h.lits;
+    }
   where
     larger : (k a b : ℕ) → a ≤ b → k ≤ 4 * a → k ≤ 4 * b
     larger k a b g h = omega arith
 
-pub Valid-larger : (m n : Limits) (F : PrenexFormula) (s : ProofStep) → AreWithin m n → Valid m F s → Valid n F s
+pub Valid-larger : (m n : Limits) (F : PrenexFormula) (s : ProofStep) → AreWithin m n → Valid m F s →
+    Valid n F s
 Valid-larger m n F (add p C) w v = (v.0, v.1, KeepsLimits-larger m n (C ∷ F.matrix) w v.2)
 Valid-larger m n F (delete p C) w v = v
 Valid-larger m n F (drop_literal l C) w v = v
-Valid-larger m n F (fresh v x) w h = record { absent = h.absent; positive = h.positive; within = higher v m.vars n.vars w.vars h.within; behind = h.behind }
+Valid-larger m n F (fresh v x) w h =
+    record {
+      absent = h.absent;
+      positive = h.positive;
+      within = higher v m.vars n.vars w.vars h.within;
+      behind = h.behind;
+    }
   where
     higher : (k a b : ℕ) → a ≤ b → k ≤ a → k ≤ b
     higher k a b g h = omega arith
 Valid-larger m n F (remove_variable v) w h = h
 
-pub ValidSteps-larger : (m n : Limits) (F : PrenexFormula) (ss : List ProofStep) (E : PrenexFormula) → AreWithin m n → ValidSteps m F ss E → ValidSteps n F ss E
+pub ValidSteps-larger : (m n : Limits) (F : PrenexFormula) (ss : List ProofStep) (E : PrenexFormula) →
+    AreWithin m n → ValidSteps m F ss E → ValidSteps n F ss E
 ValidSteps-larger m n F [] E w h = h
-ValidSteps-larger m n F (s ∷ ss) E w (v, r) = (Valid-larger m n F s w v, ValidSteps-larger m n (after F s) ss E w r)
+ValidSteps-larger m n F (s ∷ ss) E w (v, r) =
+    (Valid-larger m n F s w v, ValidSteps-larger m n (after F s) ss E w r)
 
 -- Nothing is wrong with a valid step.
-pub Valid-not_wrong : (m : Limits) (F : PrenexFormula) (s : ProofStep) (n : ℕ) → Valid m F s → IsWrong m F s n → ⊥
+pub Valid-not_wrong : (m : Limits) (F : PrenexFormula) (s : ProofStep) (n : ℕ) → Valid m F s →
+    IsWrong m F s n → ⊥
 Valid-not_wrong m F (add p C) n v (inl (e, w)) = w v.0
 Valid-not_wrong m F (add p C) n v (inr (inl (e, w))) = w v.1
 Valid-not_wrong m F (add p C) n v (inr (inr (e, w))) = w v.2
@@ -39,21 +53,29 @@ Valid-not_wrong m F (drop_literal l C) n v (inl (e, w)) = w v.0
 Valid-not_wrong m F (drop_literal l C) n v (inr (inl (e, w))) = w v.1
 Valid-not_wrong m F (drop_literal l C) n v (inr (inr (e, w))) = w v.2
 Valid-not_wrong m F (fresh v x) n h (e, w) = w h
-Valid-not_wrong m F (remove_variable v) n h (inl (e, w)) = let z : is_bound F.prefix v ≡ true = h.0 in grind arith
+Valid-not_wrong m F (remove_variable v) n h (inl (e, w)) =
+    let z : is_bound F.prefix v ≡ true = h.0 in grind arith
 Valid-not_wrong m F (remove_variable v) n h (inr (e, w)) = w h.1
 
-pub Valid-no_cause : (m : Limits) (F : PrenexFormula) (s : ProofStep) (n : ℕ) → Valid m F s → Cause m F s n → ⊥
+pub Valid-no_cause : (m : Limits) (F : PrenexFormula) (s : ProofStep) (n : ℕ) → Valid m F s →
+    Cause m F s n → ⊥
 Valid-no_cause m F s n v c = Valid-not_wrong m F s n v c.applies
 
 -- There is one cause at most.
-pub Cause-one : (m : Limits) (F : PrenexFormula) (s : ProofStep) (i j : ℕ) → Cause m F s i → Cause m F s j → i ≡ j
+pub Cause-one : (m : Limits) (F : PrenexFormula) (s : ProofStep) (i j : ℕ) → Cause m F s i → Cause m F s j →
+    i ≡ j
 Cause-one m F s i j c d = go (order i j)
   where
     order : (i j : ℕ) → (i < j) ⊎ ((i ≡ j) ⊎ (j < i))
     order zero zero = inr (inl refl)
     order zero (suc j) = inl (omega arith)
     order (suc i) zero = inr (inr (omega arith))
-    order (suc i) (suc j) = elim (order i j) [ inl h ↦ inl (omega arith) | inr (inl e) ↦ inr (inl (omega arith)) | inr (inr h) ↦ inr (inr (omega arith)) ]
+    order (suc i) (suc j) =
+        elim (order i j) [
+          | inl h ↦ inl (omega arith)
+          | inr (inl e) ↦ inr (inl (omega arith))
+          | inr (inr h) ↦ inr (inr (omega arith))
+        ]
 
     go : (i < j) ⊎ ((i ≡ j) ⊎ (j < i)) → i ≡ j
     go (inl h) = absurd (d.least i h c.applies)
@@ -61,14 +83,20 @@ Cause-one m F s i j c d = go (order i j)
     go (inr (inr h)) = absurd (c.least j h d.applies)
 
 -- Where there is no cause, nothing is wrong.
-no_cause-right : (m : Limits) (F : PrenexFormula) (s : ProofStep) → ((n : ℕ) → ¬ Cause m F s n) → (n : ℕ) → (k : ℕ) → k < n → ¬ IsWrong m F s k
+no_cause-right : (m : Limits) (F : PrenexFormula) (s : ProofStep) → ((n : ℕ) → ¬ Cause m F s n) → (n : ℕ) →
+    (k : ℕ) → k < n → ¬ IsWrong m F s k
 no_cause-right m F s none zero k h w = absurd (not-suc-le-zero h)
-no_cause-right m F s none (suc n) k h w = none k (record { applies = w; least = λ j g. no_cause-right m F s none n j (omega arith) })
+no_cause-right m F s none (suc n) k h w =
+    none k (record { applies = w; least = λ j g. no_cause-right m F s none n j (omega arith) })
 
-right-valid : (m : Limits) (F : PrenexFormula) (s : ProofStep) → ((n : ℕ) → ¬ IsWrong m F s n) → ¬ (¬ Valid m F s)
-right-valid m F (add p C) r n = r 2 (inl (refl, λ a. r 4 (inr (inl (refl, λ b. r 8 (inr (inr (refl, λ c. n (a, b, c)))))))))
-right-valid m F (delete p C) r n = r 2 (inl (refl, λ a. r 3 (inr (inl (refl, λ b. r 4 (inr (inr (refl, λ c. n (a, b, c)))))))))
-right-valid m F (drop_literal l C) r n = r 2 (inl (refl, λ a. r 3 (inr (inl (refl, λ b. r 5 (inr (inr (refl, λ c. n (a, b, c)))))))))
+right-valid : (m : Limits) (F : PrenexFormula) (s : ProofStep) → ((n : ℕ) → ¬ IsWrong m F s n) →
+    ¬ (¬ Valid m F s)
+right-valid m F (add p C) r n =
+    r 2 (inl (refl, λ a. r 4 (inr (inl (refl, λ b. r 8 (inr (inr (refl, λ c. n (a, b, c)))))))))
+right-valid m F (delete p C) r n =
+    r 2 (inl (refl, λ a. r 3 (inr (inl (refl, λ b. r 4 (inr (inr (refl, λ c. n (a, b, c)))))))))
+right-valid m F (drop_literal l C) r n =
+    r 2 (inl (refl, λ a. r 3 (inr (inl (refl, λ b. r 5 (inr (inr (refl, λ c. n (a, b, c)))))))))
 right-valid m F (fresh v x) r n = r 6 (refl, n)
 right-valid m F (remove_variable v) r n = go (is_bound F.prefix v) refl
   where
@@ -77,5 +105,6 @@ right-valid m F (remove_variable v) r n = go (is_bound F.prefix v) refl
     go false e = r 2 (inl (refl, e))
 
 -- A step that is not valid has a cause.
-pub not_valid-cause : (m : Limits) (F : PrenexFormula) (s : ProofStep) → ¬ Valid m F s → ¬ ((n : ℕ) → ¬ Cause m F s n)
+pub not_valid-cause : (m : Limits) (F : PrenexFormula) (s : ProofStep) → ¬ Valid m F s →
+    ¬ ((n : ℕ) → ¬ Cause m F s n)
 not_valid-cause m F s v none = right-valid m F s (λ n. no_cause-right m F s none (suc n) n (omega arith)) v

@@ -41,7 +41,8 @@ IsThere inputs gates (gate_at g) = g < gates
 abbrev pub AreGates : ℕ → ℕ → List Gate → Type 0
 AreGates inputs before [] = Unit {0}
 AreGates inputs before (g ∷ gates) =
-    IsThere inputs before g.left.node × IsThere inputs before g.right.node × AreGates inputs (before + 1) gates
+    IsThere inputs before g.left.node × IsThere inputs before g.right.node ×
+    AreGates inputs (before + 1) gates
 
 -- the tree of a node, by the trees of the gates
 abbrev pub node_tree : List ℕ → List Circuit → GateNode → Circuit
@@ -50,15 +51,20 @@ node_tree inputs trees (input_at i) = Circuit.input (slice_index_or inputs i 0)
 node_tree inputs trees (gate_at g) = slice_index_or trees g (Circuit.constant false)
 
 abbrev pub operand_tree : List ℕ → List Circuit → Operand → Circuit
-operand_tree inputs trees o = cond o.negated (Circuit.inverter (node_tree inputs trees o.node)) (node_tree inputs trees o.node)
+operand_tree inputs trees o =
+    cond o.negated
+    (Circuit.inverter (node_tree inputs trees o.node))
+    (node_tree inputs trees o.node)
 
 abbrev pub gate_tree : List ℕ → List Circuit → Gate → Circuit
-gate_tree inputs trees g = Circuit.conjunction (operand_tree inputs trees g.left) (operand_tree inputs trees g.right)
+gate_tree inputs trees g =
+    Circuit.conjunction (operand_tree inputs trees g.left) (operand_tree inputs trees g.right)
 
 -- the trees of the gates, after those that are there
 abbrev pub gate_trees : List ℕ → List Circuit → List Gate → List Circuit
 gate_trees inputs trees [] = trees
-gate_trees inputs trees (g ∷ gates) = gate_trees inputs (trees ++ gate_tree inputs trees g ∷ []) gates
+gate_trees inputs trees (g ∷ gates) =
+    gate_trees inputs (trees ++ gate_tree inputs trees g ∷ []) gates
 
 -- the tree of an operand in a certificate
 abbrev pub tree_of : CertificateView → Operand → Circuit

@@ -38,7 +38,8 @@ guessed = record { prefix = existential 2 ∷ universal 1 ∷ []; matrix = diffe
 pub record CarelessPivot (P : Prefix) (X : Matrix) (C : Clause) (l : Literal) : Type 0 where
   pub existential_pivot : is_existential P l.var ≡ true
   pub in_clause : IsIn l C
-  pub implied : (D : Clause) → IsIn D X → IsIn (negation l) D → Implied X (C ++ without (negation l) D)
+  pub implied : (D : Clause) → IsIn D X → IsIn (negation l) D →
+      Implied X (C ++ without (negation l) D)
 
 -- guessed after the deletion of {1 2} by the careless pivot 2
 abbrev pub guessed_less : PrenexFormula
@@ -51,7 +52,8 @@ pub record CarelessReduction (P : Prefix) (C : Clause) (l : Literal) : Type 0 wh
 
 -- answered after the careless reduction of {1 2} by 1
 abbrev pub answered_less : PrenexFormula
-answered_less = record answered { matrix = (positive 2 ∷ []) ∷ of_two (negative 1) (negative 2) ∷ [] }
+answered_less =
+    record answered { matrix = (positive 2 ∷ []) ∷ of_two (negative 1) (negative 2) ∷ [] }
 
 -- 3 is equal to 2, which differs from 1
 abbrev pub copied : Matrix
@@ -59,8 +61,10 @@ copied = of_two (positive 3) (negative 2) ∷ of_two (negative 3) (positive 2) �
 
 -- the copy stands behind its original
 abbrev pub copied_behind : PrenexFormula
-copied_behind = record { prefix = universal 1 ∷ existential 2 ∷ existential 3 ∷ []; matrix = copied }
+copied_behind =
+    record { prefix = universal 1 ∷ existential 2 ∷ existential 3 ∷ []; matrix = copied }
 
 -- the copy stands before the universal that its original reads
 abbrev pub copied_before : PrenexFormula
-copied_before = record { prefix = existential 3 ∷ universal 1 ∷ existential 2 ∷ []; matrix = copied }
+copied_before =
+    record { prefix = existential 3 ∷ universal 1 ∷ existential 2 ∷ []; matrix = copied }

@@ -27,4 +27,5 @@ universals_in (b ∷ P) X = one_if (not (is_exists b.quant) && occurs b.var X) +
 -- an existential outweighs what its elimination adds, and a universal what its expansion adds
 abbrev pub measure_of : Bounds → PrenexFormula → ℕ
 measure_of B F =
-    size_of F.matrix + (B.grow + 1) * existentials_in F.prefix F.matrix + (B.expand + (B.grow + 1) * B.expand + 1) * universals_in F.prefix F.matrix
+    size_of F.matrix + (B.grow + 1) * existentials_in F.prefix F.matrix +
+    (B.expand + (B.grow + 1) * B.expand + 1) * universals_in F.prefix F.matrix

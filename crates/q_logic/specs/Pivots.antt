@@ -20,12 +20,14 @@ outer P m (k ∷ D) = cond (keeps P m k) (k ∷ outer P m D) (outer P m D)
 pub record ExistsPivot (P : Prefix) (X : Matrix) (C : Clause) (l : Literal) : Type 0 where
   pub existential_pivot : is_existential P l.var ≡ true
   pub in_clause : IsIn l C
-  pub implied : (D : Clause) → IsIn D X → IsIn (negation l) D → Implied X (C ++ outer P (negation l) D)
+  pub implied : (D : Clause) → IsIn D X → IsIn (negation l) D →
+      Implied X (C ++ outer P (negation l) D)
 
 -- the outer clauses of the clauses that hold m
 pub record OutersOf (P : Prefix) (X : Matrix) (m : Literal) (outers : List Clause) : Type 0 where
   pub all_there : (D : Clause) → IsIn D X → IsIn m D → IsIn (outer P m D) outers
-  pub no_other : (O : Clause) → IsIn O outers → (D : Clause) × IsIn D X × IsIn m D × (O ≡ outer P m D)
+  pub no_other : (O : Clause) → IsIn O outers → (D : Clause) × IsIn D X × IsIn m D ×
+      (O ≡ outer P m D)
 
 -- the clause with no copy of the literal l
 abbrev pub without : Literal → Clause → Clause
@@ -37,4 +39,5 @@ pub record ForallPivot (P : Prefix) (X : Matrix) (C : Clause) (l : Literal) : Ty
   pub universal_pivot : is_universal P l.var ≡ true
   pub in_clause : IsIn l C
   pub not_negated : IsIn (negation l) C → ⊥
-  pub implied : (D : Clause) → IsIn D X → IsIn (negation l) D → Implied X (without l C ++ outer P (negation l) D)
+  pub implied : (D : Clause) → IsIn D X → IsIn (negation l) D →
+      Implied X (without l C ++ outer P (negation l) D)

@@ -30,7 +30,8 @@ is_bound (b ∷ P) v = cond (eqb b.var v) true (is_bound P v)
 abbrev pub universal_before : Prefix → ℕ → ℕ → Bool
 universal_before [] u x = false
 universal_before (b ∷ P) u x =
-    cond (eqb b.var x) false (cond (eqb b.var u) (not (is_exists b.quant) && is_bound P x) (universal_before P u x))
+    cond (eqb b.var x) false
+    (cond (eqb b.var u) (not (is_exists b.quant) && is_bound P x) (universal_before P u x))
 
 -- whether the two quantifiers are equal
 abbrev pub same_quant : Quant → Quant → Bool
@@ -62,7 +63,8 @@ quant_at (b ∷ P) (suc i) = quant_at P i
 -- the same as `outer_or_same`, told by places
 abbrev pub OuterOrSame : Prefix → ℕ → ℕ → Type 0
 OuterOrSame P a v =
-    (place P a ≤ place P v) ⊎ ((i : ℕ) → place P v ≤ i → i ≤ place P a → quant_at P i ≡ quant_at P (place P v))
+    (place P a ≤ place P v)
+    ⊎ ((i : ℕ) → place P v ≤ i → i ≤ place P a → quant_at P i ≡ quant_at P (place P v))
 
 -- no variable stands twice in the prefix
 abbrev pub Distinct : Prefix → Type 0
@@ -86,7 +88,9 @@ pub record Block : Type 0 where
 -- a variable before the blocks joins the first one, or begins one
 abbrev pub push_block : Bound → List Block → List Block
 push_block b [] = record { quant = b.quant; vars = b.var ∷ [] } ∷ []
-push_block b (B ∷ Bs) = cond (same_quant b.quant B.quant) (record { quant = B.quant; vars = b.var ∷ B.vars } ∷ Bs) (record { quant = b.quant; vars = b.var ∷ [] } ∷ B ∷ Bs)
+push_block b (B ∷ Bs) =
+    cond (same_quant b.quant B.quant) (record { quant = B.quant; vars = b.var ∷ B.vars } ∷ Bs)
+    (record { quant = b.quant; vars = b.var ∷ [] } ∷ B ∷ Bs)
 
 -- the longest runs of one quantifier
 abbrev pub blocks : Prefix → List Block
@@ -98,4 +102,5 @@ abbrev pub SameBlocks : List Block → List Block → Type 0
 SameBlocks [] [] = Unit {0}
 SameBlocks [] (C ∷ Cs) = ⊥
 SameBlocks (B ∷ Bs) [] = ⊥
-SameBlocks (B ∷ Bs) (C ∷ Cs) = (B.quant ≡ C.quant) × ((x : ℕ) → IsIn x B.vars ↔ IsIn x C.vars) × SameBlocks Bs Cs
+SameBlocks (B ∷ Bs) (C ∷ Cs) =
+    (B.quant ≡ C.quant) × ((x : ℕ) → IsIn x B.vars ↔ IsIn x C.vars) × SameBlocks Bs Cs

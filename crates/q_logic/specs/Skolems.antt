@@ -32,7 +32,8 @@ given (Some t) = true
 -- its own variable
 pub record Lawful (P : Prefix) (c : Strategy) : Type 0 where
   pub trees : (x : ℕ) → given (c x) ≡ is_existential P x
-  pub reads : (x : ℕ) → is_existential P x ≡ true → (u : ℕ) → Reads (circuit_of c x) u → universal_before P u x ≡ true
+  pub reads : (x : ℕ) → is_existential P x ≡ true → (u : ℕ) → Reads (circuit_of c x) u →
+      universal_before P u x ≡ true
 
 -- lawful circuits that make each clause true, whatever the universals are
 pub record Skolem (P : Prefix) (X : Matrix) (c : Strategy) : Type 0 where

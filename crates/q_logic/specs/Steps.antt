@@ -27,7 +27,8 @@ one_less C (D ∷ X) = cond (clause_eq D C) X (D ∷ one_less C X)
 -- the prefix with the existential v directly after w
 abbrev pub insert_after : ℕ → ℕ → Prefix → Prefix
 insert_after w v [] = []
-insert_after w v (b ∷ P) = cond (eqb b.var w) (b ∷ record { quant = Exists; var = v } ∷ P) (b ∷ insert_after w v P)
+insert_after w v (b ∷ P) =
+    cond (eqb b.var w) (b ∷ record { quant = Exists; var = v } ∷ P) (b ∷ insert_after w v P)
 
 -- the prefix without v
 abbrev pub removed_from : ℕ → Prefix → Prefix
@@ -81,19 +82,29 @@ pub record IsFresh (m : Limits) (P : Prefix) (v w : ℕ) : Type 0 where
 
 -- a valid step
 abbrev pub Valid : Limits → PrenexFormula → ProofStep → Type 0
-Valid m F (add p C) = Within F.prefix C × IsWarranted F.prefix F.matrix C p × KeepsLimits m (C ∷ F.matrix)
-Valid m F (delete p C) = Within F.prefix C × IsIn C F.matrix × IsWarranted F.prefix (one_less C F.matrix) C p
-Valid m F (drop_literal l C) = Within F.prefix C × IsIn C F.matrix × IsDroppable F.prefix (one_less C F.matrix) C l
+Valid m F (add p C) =
+    Within F.prefix C × IsWarranted F.prefix F.matrix C p × KeepsLimits m (C ∷ F.matrix)
+Valid m F (delete p C) =
+    Within F.prefix C × IsIn C F.matrix × IsWarranted F.prefix (one_less C F.matrix) C p
+Valid m F (drop_literal l C) =
+    Within F.prefix C × IsIn C F.matrix × IsDroppable F.prefix (one_less C F.matrix) C l
 Valid m F (fresh v w) = IsFresh m F.prefix v w
 Valid m F (remove_variable v) = (is_bound F.prefix v ≡ true) × IsAbsent F.matrix v
 
 -- what is wrong with a step, by number
 abbrev pub IsWrong : Limits → PrenexFormula → ProofStep → ℕ → Type 0
-IsWrong m F (add p C) n = ((n ≡ 2) × ¬ Within F.prefix C) ⊎ ((n ≡ 4) × ¬ IsWarranted F.prefix F.matrix C p) ⊎ ((n ≡ 8) × ¬ KeepsLimits m (C ∷ F.matrix))
-IsWrong m F (delete p C) n = ((n ≡ 2) × ¬ Within F.prefix C) ⊎ ((n ≡ 3) × ¬ IsIn C F.matrix) ⊎ ((n ≡ 4) × ¬ IsWarranted F.prefix (one_less C F.matrix) C p)
-IsWrong m F (drop_literal l C) n = ((n ≡ 2) × ¬ Within F.prefix C) ⊎ ((n ≡ 3) × ¬ IsIn C F.matrix) ⊎ ((n ≡ 5) × ¬ IsDroppable F.prefix (one_less C F.matrix) C l)
+IsWrong m F (add p C) n =
+    ((n ≡ 2) × ¬ Within F.prefix C) ⊎ ((n ≡ 4) × ¬ IsWarranted F.prefix F.matrix C p) ⊎
+    ((n ≡ 8) × ¬ KeepsLimits m (C ∷ F.matrix))
+IsWrong m F (delete p C) n =
+    ((n ≡ 2) × ¬ Within F.prefix C) ⊎ ((n ≡ 3) × ¬ IsIn C F.matrix) ⊎
+    ((n ≡ 4) × ¬ IsWarranted F.prefix (one_less C F.matrix) C p)
+IsWrong m F (drop_literal l C) n =
+    ((n ≡ 2) × ¬ Within F.prefix C) ⊎ ((n ≡ 3) × ¬ IsIn C F.matrix) ⊎
+    ((n ≡ 5) × ¬ IsDroppable F.prefix (one_less C F.matrix) C l)
 IsWrong m F (fresh v w) n = (n ≡ 6) × ¬ IsFresh m F.prefix v w
-IsWrong m F (remove_variable v) n = ((n ≡ 2) × (is_bound F.prefix v ≡ false)) ⊎ ((n ≡ 7) × ¬ IsAbsent F.matrix v)
+IsWrong m F (remove_variable v) n =
+    ((n ≡ 2) × (is_bound F.prefix v ≡ false)) ⊎ ((n ≡ 7) × ¬ IsAbsent F.matrix v)
 
 -- the least number that applies
 pub record Cause (m : Limits) (F : PrenexFormula) (s : ProofStep) (n : ℕ) : Type 0 where
@@ -104,6 +115,7 @@ pub record Cause (m : Limits) (F : PrenexFormula) (s : ProofStep) (n : ℕ) : Ty
 abbrev pub after : PrenexFormula → ProofStep → PrenexFormula
 after F (add p C) = record { prefix = F.prefix; matrix = C ∷ F.matrix }
 after F (delete p C) = record { prefix = F.prefix; matrix = one_less C F.matrix }
-after F (drop_literal l C) = record { prefix = F.prefix; matrix = without l C ∷ one_less C F.matrix }
+after F (drop_literal l C) =
+    record { prefix = F.prefix; matrix = without l C ∷ one_less C F.matrix }
 after F (fresh v w) = record { prefix = insert_after w v F.prefix; matrix = F.matrix }
 after F (remove_variable v) = record { prefix = removed_from v F.prefix; matrix = F.matrix }

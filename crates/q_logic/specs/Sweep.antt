@@ -28,7 +28,9 @@ abbrev pub falsity : PrenexFormula
 falsity = record { prefix = []; matrix = [] ∷ [] }
 
 abbrev pub swept : PrenexFormula → PrenexFormula
-swept F = cond (has_empty F.matrix) falsity (record { prefix = occurring F.prefix F.matrix; matrix = F.matrix })
+swept F =
+    cond (has_empty F.matrix) falsity
+    (record { prefix = occurring F.prefix F.matrix; matrix = F.matrix })
 
 abbrev pub IsSwept : PrenexFormula → Type 0
 IsSwept F = swept F ≡ F

@@ -39,7 +39,8 @@ by_quant Forall S T = S × T
 -- W says when the end is won
 abbrev pub Game : Prefix → (Assignment → Type 0) → Assignment → Type 0
 Game [] W A = W A
-Game (b ∷ P) W A = by_quant b.quant (Game P W (with_value A b.var false)) (Game P W (with_value A b.var true))
+Game (b ∷ P) W A =
+    by_quant b.quant (Game P W (with_value A b.var false)) (Game P W (with_value A b.var true))
 
 -- the game that is won where the matrix is true
 abbrev pub HoldsUnder : Prefix → Matrix → Assignment → Type 0
@@ -72,7 +73,9 @@ one_or_both Forall a b = a && b
 abbrev pub is_true_under : Prefix → Matrix → Assignment → Bool
 is_true_under [] X A = matrix_true A X
 is_true_under (b ∷ P) X A =
-    one_or_both b.quant (is_true_under P X (with_value A b.var false)) (is_true_under P X (with_value A b.var true))
+    one_or_both b.quant
+    (is_true_under P X (with_value A b.var false))
+    (is_true_under P X (with_value A b.var true))
 
 -- whether the formula is true
 abbrev pub is_true : PrenexFormula → Bool

@@ -57,12 +57,16 @@ Back (u ∷ us) c = taken_back u (Back us c)
 
 -- the entry of a deletion by its first literal
 abbrev pub PivotEntry : PrenexFormula → Option Literal → Clause → List UndoEntry → Type 0
-PivotEntry F p C us = (l : Literal) × (outers : List Clause) × (p ≡ Some l) × OutersOf F.prefix (one_less C F.matrix) (negation l) outers × (us ≡ pivot l outers ∷ [])
+PivotEntry F p C us =
+    (l : Literal) × (outers : List Clause) × (p ≡ Some l) ×
+    OutersOf F.prefix (one_less C F.matrix) (negation l) outers × (us ≡ pivot l outers ∷ [])
 
 -- what one step puts into the undo list
 abbrev pub Entries : PrenexFormula → ProofStep → List UndoEntry → Type 0
 Entries F (add p C) us = us ≡ []
-Entries F (delete p C) us = (Implied (one_less C F.matrix) C × (us ≡ [])) ⊎ ((Implied (one_less C F.matrix) C → ⊥) × PivotEntry F p C us)
+Entries F (delete p C) us =
+    (Implied (one_less C F.matrix) C × (us ≡ [])) ⊎
+    ((Implied (one_less C F.matrix) C → ⊥) × PivotEntry F p C us)
 Entries F (drop_literal l C) us = us ≡ []
 Entries F (fresh v w) us = us ≡ freshened v ∷ []
 Entries F (remove_variable v) us = us ≡ cond (is_existential F.prefix v) (removed v ∷ []) []
@@ -70,4 +74,6 @@ Entries F (remove_variable v) us = us ≡ cond (is_existential F.prefix v) (remo
 -- the undo list of a run, in the order of its steps
 abbrev pub Undos : PrenexFormula → List ProofStep → List UndoEntry → Type 0
 Undos F [] us = us ≡ []
-Undos F (s ∷ ss) us = (es : List UndoEntry) × (rest : List UndoEntry) × Entries F s es × Undos (after F s) ss rest × (us ≡ es ++ rest)
+Undos F (s ∷ ss) us =
+    (es : List UndoEntry) × (rest : List UndoEntry) × Entries F s es × Undos (after F s) ss rest ×
+    (us ≡ es ++ rest)
