@@ -1,0 +1,86 @@
+-- What is left to write of a list behind a place of it, and the blocks of a prefix.
+use Rattle.std.proofs.Common.{◌≡◌, ℕ, zero, suc, ◌+◌, ◌≤◌, List, [], ◌∷◌, ◌++◌, map, length, drop, slice_get, Option, Some, None, Result, Ok, Err, OnErr, refl, ap, sym, ◌∙◌, add-one, append_assoc, append-nil, not-suc-le-zero, le_of_suc-le-suc, pos}
+use Rattle.q_logic.specs.declared.formulas.Bound.{Bound}
+use Rattle.q_logic.specs.declared.formulas.Quant.{Quant}
+use Rattle.q_logic.specs.declared.formulas.Quant.TheVariants.{Exists, Forall}
+use Rattle.q_logic.specs.Formulas.{Clause, Matrix, Prefix}
+use Rattle.q_logic.specs.Prefixes.{Block, blocks, push_block}
+use Rattle.q_text.specs.Numbers.{number_text, numbers_text, line_end}
+use Rattle.q_dimacs.specs.Writing.{quant_text, blocks_text, clause_text, matrix_text, closing, bounds_text, Extends}
+
+pub extends-self : (a : List ℕ) → Extends a a
+extends-self a = record { rest = []; is = sym (append-nil a) }
+
+pub extends-more : (a b c : List ℕ) → Extends a b → Extends b c → Extends a c
+extends-more a b c h k = record { rest = h.rest ++ k.rest; is = k.is ∙ (ap (λ x. x ++ k.rest) h.is ∙ append_assoc a h.rest k.rest) }
+
+pub extends-append : (a b c : List ℕ) → Extends a b → Extends a (b ++ c)
+extends-append a b c h = record { rest = h.rest ++ c; is = ap (λ x. x ++ c) h.is ∙ append_assoc a h.rest c }
+
+pub on-err : {X E : Type 0} {P : Type 0} (r : Result X E) → P → OnErr r P
+on-err (Ok x) p = tt
+on-err (Err e) p = p
+
+pub bounds-done : (P : Prefix) (o : Option Quant) (i : ℕ) → length P ≤ i → bounds_text o (drop i P) ≡ closing o
+bounds-done [] o zero l = refl
+bounds-done [] o (suc i) l = refl
+bounds-done (b ∷ P) o zero l = absurd (not-suc-le-zero l)
+bounds-done (b ∷ P) o (suc i) l = bounds-done P o i (le_of_suc-le-suc l)
+
+matrix-at : (X : Matrix) (i : ℕ) (C : Clause) → slice_get X i ≡ Some C → matrix_text (drop i X) ≡ clause_text C ++ matrix_text (drop (suc i) X)
+matrix-at [] i C e = absurd (cc)
+matrix-at (D ∷ X) zero C e = let f : D ≡ C = cc in ap (λ B. clause_text B ++ matrix_text X) f
+matrix-at (D ∷ X) (suc i) C e = matrix-at X i C e
+
+pub matrix-next : (X : Matrix) (i : ℕ) (C : Clause) → slice_get X i ≡ Some C → matrix_text (drop i X) ≡ clause_text C ++ matrix_text (drop (i + 1) X)
+matrix-next X i C e = rw add-one (matrix-at X i C e)
+
+-- a prefix begins a block, whose text goes on as the bounds do
+record Begins (b : Bound) (P : Prefix) (Bs : List Block) : Type 0 where
+  vars : List ℕ
+  later : List Block
+  is : Bs ≡ record { quant = b.quant; vars = vars } ∷ later
+  text : (numbers_text (map pos vars) ++ line_end) ++ blocks_text later ≡ number_text (pos b.var) ++ bounds_text (Some b.quant) P
+
+one-more : (a b c : List ℕ) → ((a ++ b) ++ line_end) ++ c ≡ a ++ ((b ++ line_end) ++ c)
+one-more a b c = ap (λ x. x ++ c) (append_assoc a b line_end) ∙ append_assoc a (b ++ line_end) c
+
+alone : (a c : List ℕ) → ((a ++ []) ++ line_end) ++ c ≡ a ++ (line_end ++ c)
+alone a c = ap (λ x. (x ++ line_end) ++ c) (append-nil a) ∙ append_assoc a line_end c
+
+begins : (q : Quant) (v : ℕ) (P : Prefix) → Begins (record { quant = q; var = v }) P (blocks (record { quant = q; var = v } ∷ P))
+begins q v [] = record { vars = v ∷ []; later = []; is = refl; text = alone (number_text (pos v)) [] }
+begins q v (c ∷ P) = go q c.quant (begins c.quant c.var P) where
+  go : (q p : Quant) → Begins (record { quant = p; var = c.var }) P (blocks (record { quant = p; var = c.var } ∷ P))
+      → Begins (record { quant = q; var = v }) (record { quant = p; var = c.var } ∷ P) (blocks (record { quant = q; var = v } ∷ record { quant = p; var = c.var } ∷ P))
+  go Exists Exists o = record {
+    vars = v ∷ o.vars;
+    later = o.later;
+    is = ap (push_block (record { quant = Exists; var = v })) o.is;
+    text = one-more (number_text (pos v)) (numbers_text (map pos o.vars)) (blocks_text o.later) ∙ ap (λ x. number_text (pos v) ++ x) o.text;
+  }
+  go Forall Forall o = record {
+    vars = v ∷ o.vars;
+    later = o.later;
+    is = ap (push_block (record { quant = Forall; var = v })) o.is;
+    text = one-more (number_text (pos v)) (numbers_text (map pos o.vars)) (blocks_text o.later) ∙ ap (λ x. number_text (pos v) ++ x) o.text;
+  }
+  go Exists Forall o = record {
+    vars = v ∷ [];
+    later = record { quant = Forall; vars = o.vars } ∷ o.later;
+    is = ap (push_block (record { quant = Exists; var = v })) o.is;
+    text = alone (number_text (pos v)) (blocks_text (record { quant = Forall; vars = o.vars } ∷ o.later)) ∙ ap (λ x. number_text (pos v) ++ 48 ∷ 10 ∷ 97 ∷ 32 ∷ x) o.text;
+  }
+  go Forall Exists o = record {
+    vars = v ∷ [];
+    later = record { quant = Exists; vars = o.vars } ∷ o.later;
+    is = ap (push_block (record { quant = Forall; var = v })) o.is;
+    text = alone (number_text (pos v)) (blocks_text (record { quant = Exists; vars = o.vars } ∷ o.later)) ∙ ap (λ x. number_text (pos v) ++ 48 ∷ 10 ∷ 101 ∷ 32 ∷ x) o.text;
+  }
+
+pub blocks-bounds : (P : Prefix) → bounds_text None P ≡ blocks_text (blocks P)
+blocks-bounds [] = refl
+blocks-bounds (b ∷ P) =
+    let o = begins b.quant b.var P in
+    let t = append_assoc (quant_text b.quant) (numbers_text (map pos o.vars) ++ line_end) (blocks_text o.later) ∙ ap (λ x. quant_text b.quant ++ x) o.text in
+    append_assoc (quant_text b.quant) (number_text (pos b.var)) (bounds_text (Some b.quant) P) ∙ (sym t ∙ sym (ap blocks_text o.is))

@@ -1,0 +1,9 @@
+use Rattle.std.proofs.Common.{◌≡◌, ◌++◌, drop}
+use Rattle.q_dimacs.specs.Writing.{matrix_text, Extends}
+use Rattle.q_dimacs.proofs.writer.put_matrix.Given as goal
+
+abbrev pub invariant-loop-at : goal.invariant-loop-at
+invariant-loop-at l = record {
+  text : l.text.items ++ matrix_text (drop l.at l.formula.matrix) ≡ l.initial.text.items ++ matrix_text l.formula.matrix;
+  before : Extends l.initial.text.items l.text.items;
+}

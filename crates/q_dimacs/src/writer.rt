@@ -1,0 +1,133 @@
+ghost use Rattle.std.specs.Prelude.{◌≡◌, ◌++◌, ◌∷◌, [], OnOk, OnErr, length, Option, Some, None, map};
+ghost use Rattle.q_logic.specs.Literals.{number_of};
+ghost use Rattle.q_text.specs.Numbers.{number_text, numbers_text, line_end};
+ghost use Rattle.q_dimacs.specs.Writing.{quant_text, opening, bound_text, closing, bounds_text, blocks_text, clause_text, matrix_text, greatest_bound, header_text, formula_text, Extends};
+ghost use Rattle.q_logic.specs.Prefixes.{blocks};
+
+use q_logic::{Bound, Formula, Lit, NoMemory, Quant};
+use q_text::{put_count, put_number};
+
+/// Appends the canonical text of the formula.
+pub fn write(formula: &Formula, text: &mut Vec<u8>) -> Result<(), NoMemory>
+    ensures ok { OnOk result (text.new.items ≡ text.old.items ++ formula_text formula.now) }
+    ensures err { OnErr result (text.new.items ≡ text.old.items) }
+{
+    let before = text.len();
+    let written = put_formula(text, formula);
+    if written.is_err() {
+        text.truncate(before);
+    }
+    written
+}
+
+fn put_formula(text: &mut Vec<u8>, formula: &Formula) -> Result<(), NoMemory>
+    ensures ok { OnOk result (text.new.items ≡ text.old.items ++ formula_text formula.now) }
+    ensures err { OnErr result (Extends text.old.items text.new.items) }
+{
+    put_header(text, greatest(formula.prefix()), formula.clauses())?;
+    put_prefix(text, formula.prefix())?;
+    put_matrix(text, formula)
+}
+
+// The greatest variable, or 0.
+fn greatest(prefix: &[Bound]) -> u32
+    ensures { result ≡ greatest_bound prefix.now }
+{
+    let mut greatest = 0;
+    for bound in prefix {
+        greatest = bound.var.max(greatest);
+    }
+    greatest
+}
+
+fn put_header(text: &mut Vec<u8>, vars: u32, clauses: usize) -> Result<(), NoMemory>
+    ensures ok { OnOk result (text.new.items ≡ text.old.items ++ header_text vars clauses) }
+    ensures err { OnErr result (Extends text.old.items text.new.items) }
+{
+    text.extend_from_slice(b"p cnf ")?;
+    put_count(text, vars as usize)?;
+    text.push(b' ')?;
+    put_count(text, clauses)?;
+    text.push(b'\n')?;
+    Ok(())
+}
+
+// A line for each block.
+fn put_prefix(text: &mut Vec<u8>, prefix: &[Bound]) -> Result<(), NoMemory>
+    ensures ok { OnOk result (text.new.items ≡ text.old.items ++ blocks_text (blocks prefix.now)) }
+    ensures err { OnErr result (Extends text.old.items text.new.items) }
+{
+    let mut block = None;
+    for bound in prefix {
+        put_bound(text, block, *bound)?;
+        block = Some(bound.quant);
+    }
+    put_closing(text, block)?;
+    Ok(())
+}
+
+// The variable, in the open block or a new one.
+fn put_bound(text: &mut Vec<u8>, block: Option<Quant>, bound: Bound) -> Result<(), NoMemory>
+    ensures ok { OnOk result (text.new.items ≡ text.old.items ++ bound_text block bound) }
+    ensures err { OnErr result (Extends text.old.items text.new.items) }
+{
+    put_opening(text, block, bound.quant)?;
+    put_number(text, bound.var as i64)?;
+    text.push(b' ')?;
+    Ok(())
+}
+
+fn put_opening(text: &mut Vec<u8>, block: Option<Quant>, quant: Quant) -> Result<(), NoMemory>
+    ensures ok { OnOk result (text.new.items ≡ text.old.items ++ opening block quant) }
+    ensures err { OnErr result (Extends text.old.items text.new.items) }
+{
+    match (block, quant) {
+        (None, Quant::Exists) => text.extend_from_slice(b"e ")?,
+        (None, Quant::Forall) => text.extend_from_slice(b"a ")?,
+        (Some(Quant::Exists), Quant::Forall) => text.extend_from_slice(b"0\na ")?,
+        (Some(Quant::Forall), Quant::Exists) => text.extend_from_slice(b"0\ne ")?,
+        _ => {}
+    }
+    Ok(())
+}
+
+fn put_closing(text: &mut Vec<u8>, block: Option<Quant>) -> Result<(), NoMemory>
+    ensures ok { OnOk result (text.new.items ≡ text.old.items ++ closing block) }
+    ensures err { OnErr result (Extends text.old.items text.new.items) }
+{
+    if block.is_some() {
+        text.extend_from_slice(b"0\n")?;
+    }
+    Ok(())
+}
+
+// A line for each clause.
+fn put_matrix(text: &mut Vec<u8>, formula: &Formula) -> Result<(), NoMemory>
+    ensures ok { OnOk result (text.new.items ≡ text.old.items ++ matrix_text formula.now.matrix) }
+    ensures err { OnErr result (Extends text.old.items text.new.items) }
+{
+    for at in 0..formula.clauses() {
+        put_clause(text, formula.clause(at))?;
+    }
+    Ok(())
+}
+
+fn put_clause(text: &mut Vec<u8>, lits: &[Lit]) -> Result<(), NoMemory>
+    ensures ok { OnOk result (text.new.items ≡ text.old.items ++ clause_text lits.now) }
+    ensures err { OnErr result (Extends text.old.items text.new.items) }
+{
+    for lit in lits {
+        put_literal(text, *lit)?;
+    }
+    text.extend_from_slice(b"0\n")?;
+    Ok(())
+}
+
+fn put_literal(text: &mut Vec<u8>, lit: Lit) -> Result<(), NoMemory>
+    ensures ok { OnOk result (text.new.items ≡ text.old.items ++ number_text (number_of lit)) }
+    ensures err { OnErr result (Extends text.old.items text.new.items) }
+{
+    put_number(text, lit.number() as i64)?;
+    text.push(b' ')?;
+    Ok(())
+}
