@@ -1,3 +1,4 @@
 mod Plain
 mod Reading
 pub mod Texts
+mod Rereading

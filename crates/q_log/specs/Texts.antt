@@ -1,10 +1,11 @@
 -- The canonical text of steps: a letter, the numbers of the literals, 0 and LF.
-use Rattle.std.specs.Prelude.{◌≡◌, ◌≢◌, ℕ, false, List, [], ◌∷◌, ◌++◌, map, Option, Some, None}
+use Rattle.std.specs.Prelude.{◌≡◌, ◌≢◌, ◌≤◌, ◌<◌, ◌+◌, ◌^◌, ℕ, false, List, [], ◌∷◌, ◌++◌, map, Option, Some, None}
+use Rattle.std.specs.List.{AllByRecursion}
 use Rattle.q_logic.specs.declared.steps.Kind.{Kind}
 use Rattle.q_logic.specs.declared.steps.Kind.TheVariants.{Add, Delete, Drop, Fresh, Remove}
 use Rattle.q_logic.specs.Literals.{Literal, number_of}
 use Rattle.q_logic.specs.Steps.{ProofStep, add, delete, drop_literal, fresh, remove_variable}
-use Rattle.q_logic.specs.StepForms.{positive, kind_of, literals_of}
+use Rattle.q_logic.specs.StepForms.{positive, kind_of, literals_of, IsStep}
 use Rattle.q_text.specs.Numbers.{numbers_text, line_end}
 
 -- a letter and a space, or nothing for an addition
@@ -52,3 +53,13 @@ IsWritable Fresh (Some v) (w ∷ x ∷ ls) = ⊥
 IsWritable Remove None ls = ⊥
 IsWritable Remove (Some v) [] = v.negative ≡ false
 IsWritable Remove (Some v) (w ∷ ls) = ⊥
+
+-- a step that a log can hold: its variables are from 1 to 2147483647
+pub record IsLogged (s : ProofStep) : Type 0 where
+  pub step : IsStep s
+  pub numbers : AllByRecursion (λ l. (1 ≤ l.var) × (l.var < 2 ^ 31)) (literals_of s)
+
+-- steps, each on a line of its own, from line n on
+abbrev pub on_lines : ℕ → List ProofStep → List (ℕ × ProofStep)
+on_lines n [] = []
+on_lines n (s ∷ ss) = (n, s) ∷ on_lines (n + 1) ss

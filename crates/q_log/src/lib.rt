@@ -4,9 +4,11 @@
 
 mod builder;
 mod error;
+mod law;
 mod reader;
 mod text;
 
 pub use error::LogError;
+pub use law::texts_are_read;
 pub use reader::LogReader;
 pub use text::{push_step, step_len, write_step};

@@ -1,0 +1,5 @@
+use Rattle.q_log.proofs.Rereading.{steps-reread}
+use Rattle.q_log.proofs.law.texts_are_read.Goals as goal
+
+pub returns : goal.returns
+returns c = steps-reread
