@@ -42,7 +42,7 @@ bounds-same t f v (suc n) h = rw (h v) (go (f v) (bounds-same t f (v + 1) n h)) 
   go true e = ap (λ p. record { quant = Exists; var = v } ∷ p) e
   go false e = e
 
-bounds-none : (f : ℕ → Bool) (v n : ℕ) → ((k : ℕ) → v ≤ k → f k ≡ false) → bounds_from f v n ≡ []
+pub bounds-none : (f : ℕ → Bool) (v n : ℕ) → ((k : ℕ) → v ≤ k → f k ≡ false) → bounds_from f v n ≡ []
 bounds-none f v zero h = refl
 bounds-none f v (suc n) h = rw (h v (omega arith)) (bounds-none f (v + 1) n (λ k l. h k (omega arith)))
 

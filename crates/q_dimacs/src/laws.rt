@@ -3,6 +3,9 @@ ghost use Rattle.std.specs.Prelude.{◌≡◌, ◌↔◌, ℕ, List, Ok};
 ghost use Rattle.q_logic.specs.declared.limits.Limits.{Limits};
 ghost use Rattle.q_logic.specs.Formulas.{PrenexFormula};
 ghost use Rattle.q_dimacs.specs.Dimacs.{Dimacs, AreWithin};
+ghost use Rattle.q_logic.specs.Limits.{AreModerate};
+ghost use Rattle.q_logic.specs.Parts.{IsProper};
+ghost use Rattle.q_dimacs.specs.Writing.{formula_text, KeepsLimits};
 ghost use Rattle.q_dimacs.specs.Offences.{parse};
 
 /// A text is in the grammar exactly where it has no offence, and its formula is that of the grammar.
@@ -13,4 +16,9 @@ pub fn grammar_is_read()
 /// Under larger limits a text has the same formula.
 pub fn larger_limits_read_the_same()
     ensures { (small : Limits) → (large : Limits) → (bytes : List ℕ) → (formula : PrenexFormula) → AreWithin small large → Dimacs small bytes formula → Dimacs large bytes formula }
+{}
+
+/// The canonical text of a formula that keeps the limits is read as this formula.
+pub fn written_is_read()
+    ensures { (limits : Limits) → (formula : PrenexFormula) → AreModerate limits → IsProper formula → KeepsLimits limits formula → Dimacs limits (formula_text formula) formula }
 {}

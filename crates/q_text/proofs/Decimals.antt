@@ -114,6 +114,17 @@ number-space n s (negsuc m) rest o h = go (decimal (suc m)) (decimal-digits (suc
       ∙ (word-space n 45 (c ∷ bs) rest s o refl (digits-plain 0 (suc m) (c ∷ bs) e)
       ∙ ap (λ x. let t : Token = record { kind = x; line = n } in t ∷ to_come (at n Between) rest) (negative-kind m c bs (omega arith) e))
 
+-- a count and LF
+pub count-line : (n : ℕ) (s : Shape) (m : ℕ) (rest : List ℕ) → Opens s → m ≤ 4611686018427387904 → to_come (at n s) (decimal m ++ 10 ∷ rest) ≡ token_of n (pos m) ∷ to_come (at (n + 1) Start) rest
+count-line n s zero rest o h = rw decimal-zero (word-line n 48 [] rest s o refl refl)
+count-line n s (suc m) rest o h = go (decimal (suc m)) (decimal-digits (suc m) (omega arith)) (decimal-kind (suc m) (omega arith) h)
+  where
+    go : (ds : List ℕ) → digits_behind 0 ds ≡ Some (suc m) → kind_of ds ≡ Number (pos (suc m)) → to_come (at n s) (ds ++ 10 ∷ rest) ≡ token_of n (pos (suc m)) ∷ to_come (at (n + 1) Start) rest
+    go [] e k = absurd (not-empty (suc m) [] e (omega arith) refl)
+    go (b ∷ bs) e k =
+        word-line n b bs rest s o (digit_no_c b (first-digit 0 (suc m) b bs e)) (digits-plain 0 (suc m) (b ∷ bs) e)
+        ∙ ap (λ x. let t : Token = record { kind = x; line = n } in t ∷ to_come (at (n + 1) Start) rest) k
+
 -- a line of numbers, 0 at its end
 pub numbers-line : (n : ℕ) (s : Shape) (zs : List ℤ) (rest : List ℕ) → Opens s → AllByRecursion IsShown zs →
     to_come (at n s) (numbers_text zs ++ 48 ∷ 10 ∷ rest) ≡ map (token_of n) zs ++ token_of n (pos 0) ∷ to_come (at (n + 1) Start) rest
