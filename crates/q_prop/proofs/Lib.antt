@@ -9,6 +9,7 @@ pub mod Rooting
 pub mod Placing
 pub mod Lost
 pub mod HolderLemmas
+pub mod BucketLemmas
 pub mod ListLemmas
 pub mod PieceLemmas
 pub mod Putting

@@ -4,6 +4,7 @@ pub mod Pieces
 pub mod Rows
 pub mod Lists
 pub mod Holders
+pub mod Buckets
 pub mod Watches
 pub mod Working
 pub mod Chains

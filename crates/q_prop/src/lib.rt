@@ -2,6 +2,7 @@
 //! literals, kept from call to call.
 #![tactic(auto)]
 
+mod buckets;
 mod clauses;
 mod holders;
 mod lists;

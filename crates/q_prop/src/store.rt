@@ -1,10 +1,12 @@
-ghost use Rattle.std.specs.Prelude.{◌≡◌, ◌↔◌, ◌<◌, [], length, slice_set, OnErr, None, IsTrue, MatchOption, IfOk, ℕ, Contains, Some, ◌^◌};
+ghost use Rattle.std.specs.Prelude.{◌≡◌, ◌↔◌, ◌<◌, [], length, slice_set, OnErr, None, IsTrue, MatchOption, IfOk, ℕ, Contains, Some, ◌^◌, ◌≤◌};
 ghost use Rattle.q_logic.specs.Formulas.{Clause};
 ghost use Rattle.q_logic.specs.Propagation.{Implied};
 ghost use Rattle.q_prop.specs.Slots.{filled, without, Holds, IsPut, IsOrdered};
 ghost use Rattle.q_prop.specs.Holders.{IsHolder, AreHolders};
+ghost use Rattle.q_prop.specs.Buckets.{AreHashed};
 ghost use Rattle.q_prop.specs.Lists.{IsDistinct};
 
+use crate::buckets::{bucket, find_in, rehashed};
 use crate::holders::{insert, remove};
 use crate::lists::Lists;
 use crate::propagator::Propagator;
@@ -15,20 +17,24 @@ use std::marker::Model;
 /// Clauses in slots. A clause stays in its slot until it is deleted.
 #[derive(Drop)]
 pub struct Store {
+    alloc: Global,
     propagator: Propagator,
     holders: Lists,
+    buckets: Lists,
+    count: usize,
 }
 
 impl Model for Store {
     ghost use Rattle.std.specs.Prelude.{◌≤◌, ◌^◌, length};
     ghost use Rattle.q_prop.specs.Slots.{Slots, AreOrdered};
     ghost use Rattle.q_prop.specs.Holders.{AreHolders};
+    ghost use Rattle.q_prop.specs.Buckets.{AreHashed};
 
     ghost Value = { Slots };
 
     ghost view = { λ r. r.propagator };
 
-    ghost invariant = { λ r. AreHolders r.propagator r.holders × (length r.propagator ≤ 2 ^ 32) × AreOrdered r.propagator };
+    ghost invariant = { λ r. AreHolders r.propagator r.holders × (length r.propagator ≤ 2 ^ 32) × AreOrdered r.propagator × AreHashed r.propagator r.count r.buckets × (1 ≤ r.count) };
 }
 
 impl Store {
@@ -36,8 +42,11 @@ impl Store {
         ensures { result ≡ [] }
     {
         Store {
+            alloc,
             propagator: Propagator::new(alloc),
             holders: Lists::new(alloc),
+            buckets: Lists::new(alloc),
+            count: 1,
         }
     }
 
@@ -58,21 +67,8 @@ impl Store {
     pub fn find(&self, lits: &[Lit]) -> Option<usize>
         ensures { MatchOption result ((at : ℕ) → Holds self.now at lits.now → ⊥) (λ at. Holds self.now at lits.now) }
     {
-        for at in 0..self.slots() {
-            if self.stands_at(at, lits) {
-                return Some(at);
-            }
-        }
-        None
-    }
-
-    fn stands_at(&self, at: usize, lits: &[Lit]) -> bool
-        ensures { IsTrue result ↔ Holds self.now at lits.now }
-    {
-        match self.slot(at) {
-            Some(clause) => same_clause(clause, lits),
-            None => false,
-        }
+        let list = self.buckets.list(bucket(self.count, lits));
+        find_in(&self.propagator, list, lits)
     }
 
     /// The slots whose clauses hold the literal, each once.
@@ -89,8 +85,10 @@ impl Store {
         ensures ok { IfOk result (λ at. IsPut self.old at lits.now self.new) }
         ensures err { OnErr result (self.new ≡ self.old) }
     {
+        self.widen()?;
         let at = self.propagator.vacant();
         let slot = number(at)?;
+        self.buckets.push(bucket(self.count, lits), slot)?;
         insert(&mut self.holders, slot, lits)?;
         if let Err(error) = self.propagator.fill(at, lits) {
             remove(&mut self.holders, slot, lits);
@@ -99,12 +97,25 @@ impl Store {
         Ok(at)
     }
 
+    // As many buckets as slots, or twice as many.
+    fn widen(&mut self) -> Result<(), NoMemory>
+        ensures { self.new ≡ self.old }
+    {
+        if self.propagator.slots() <= self.count {
+            return Ok(());
+        }
+        let count = self.propagator.slots() * 2;
+        self.buckets = rehashed(self.alloc, &self.propagator, count)?;
+        self.count = count;
+        Ok(())
+    }
+
     /// Empties a slot. Takes no memory.
     pub fn delete(&mut self, at: usize)
         requires { at < length self.old }
         ensures { self.new ≡ slice_set self.old at None }
     {
-        free(&self.propagator, &mut self.holders, at);
+        free(&self.propagator, &mut self.holders, &mut self.buckets, self.count, at);
         self.propagator.delete(at);
     }
 
@@ -127,27 +138,17 @@ fn number(at: usize) -> Result<u32, NoMemory>
     }
 }
 
-// Takes a slot from under the literals of its clause.
-fn free(propagator: &Propagator, holders: &mut Lists, at: usize)
+// Takes a slot from under the literals of its clause, and out of its bucket.
+fn free(propagator: &Propagator, holders: &mut Lists, buckets: &mut Lists, count: usize, at: usize)
     requires small { at < 2 ^ 32 }
+    requires count { 1 ≤ count }
     requires holders { AreHolders propagator.now holders.old }
-    ensures { AreHolders (without propagator.now (Some at)) holders.new }
+    requires buckets { AreHashed propagator.now count buckets.old }
+    ensures holders { AreHolders (without propagator.now (Some at)) holders.new }
+    ensures buckets { AreHashed (without propagator.now (Some at)) count buckets.new }
 {
     if let Some(lits) = propagator.slot(at) {
         remove(holders, at as u32, lits);
+        buckets.take_out(bucket(count, lits), at as u32);
     }
-}
-
-fn same_clause(clause: &[Lit], lits: &[Lit]) -> bool
-    ensures { IsTrue result ↔ (clause.now ≡ lits.now) }
-{
-    if clause.len() != lits.len() {
-        return false;
-    }
-    for i in 0..lits.len() {
-        if !clause[i].is(lits[i]) {
-            return false;
-        }
-    }
-    true
 }

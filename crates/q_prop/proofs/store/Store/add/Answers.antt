@@ -2,6 +2,7 @@ use Rattle.std.proofs.Common.{◌≡◌, length, None, arith, sym}
 use Rattle.q_logic.specs.Formulas.{Clause}
 use Rattle.q_prop.specs.Slots.{Holds}
 use Rattle.q_prop.proofs.HolderLemmas.{holders_fresh, holders_put, holders_alike, held_freed, vacant_empty, ordered_put, length_put}
+use Rattle.q_prop.proofs.BucketLemmas.{hashed_put, hashed_appended, hashed_same}
 use Rattle.q_prop.proofs.store.Store.add.Goals as goal
 
 pub insert-requires-clause-fresh : goal.insert-requires-clause-fresh
@@ -11,8 +12,20 @@ insert-requires-clause-fresh c =
 
 pub invariant_of-self : goal.invariant_of-self
 invariant_of-self c =
+    let i = c.self.inside in
     let v = c.self.invariant in
-    (holders_alike c.self.inside.propagator c.self.inside.holders c.insert.new.lists v.0 c.in_err-insert.ensures.err, v.1, v.2)
+    (v.0, v.1, v.2, hashed_same i.propagator i.count i.buckets c.push.new.self c.in_err-push.ensures.err v.3, v.4)
+
+pub invariant_of-self-in_err-insert : goal.invariant_of-self-in_err-insert
+invariant_of-self-in_err-insert c =
+    let v = c.self.invariant in
+    let i = c.self.inside in
+    ( holders_alike i.propagator i.holders c.insert.new.lists v.0 c.in_err-insert.ensures.err
+    , v.1
+    , v.2
+    , hashed_appended i.propagator i.count i.buckets c.push.new.self c.bucket.result c.in_ok-slot.slot c.in_ok-push.ensures.ok v.3
+    , v.4
+    )
 
 pub invariant_of-self-in-Err : goal.invariant_of-self-in-Err
 invariant_of-self-in-Err c =
@@ -25,6 +38,8 @@ invariant_of-self-in-Err c =
     ( held_freed s c.self.inside.holders c.insert.new.lists c.remove.new.lists at c.args.lits.now v.0 (vacant_empty s at c.vacant-at.ensures) held freed
     , v.1
     , v.2
+    , hashed_appended s c.self.inside.count c.self.inside.buckets c.push.new.self c.bucket.result c.in_ok-slot.slot c.in_ok-push.ensures.ok v.3
+    , v.4
     )
 
 pub invariant_of-self-in_default : goal.invariant_of-self-in_default
@@ -38,4 +53,6 @@ invariant_of-self-in_default c =
     ( holders_put s at lits c.fill.new.self c.self.inside.holders c.insert.new.lists put v.0 held
     , length_put s at lits c.fill.new.self 4294967296 put c.in_ok-slot.ensures.1 v.1
     , ordered_put s at lits c.fill.new.self put c.requires.ordered v.2
+    , hashed_put s at lits c.fill.new.self c.self.inside.count c.self.inside.buckets c.push.new.self put (rw (c.bucket.ensures, c.in_ok-slot.ensures.0) at c.in_ok-push.ensures.ok) v.3
+    , v.4
     )
