@@ -1,11 +1,14 @@
 -- Parts that are lawful make a formula.
-use Rattle.std.proofs.Common.{◌≡◌, ◌≢◌, ℕ, zero, suc, Bool, true, false, cond, eqb, List, [], ◌∷◌, take, drop, slice_get, slice_range, Some, inl, inr, refl, sym, subst, arith}
+use Rattle.std.proofs.Common.{◌≡◌, ◌≢◌, ◌⊎◌, ℕ, zero, suc, Bool, true, false, cond, eqb, List, [], ◌∷◌, take, drop, slice_get, slice_range, Some, inl, inr, refl, sym, subst, arith, ◌-◌, ◌≤◌, ap, ◌∙◌, length, ◌+◌}
+use Rattle.std.proofs.lemmas.List.{drop-drop, take-append-drop}
+use Rattle.std.proofs.Math.Seq.{drop-length}
 use Rattle.std.specs.List.{AllByRecursion}
+use Rattle.q_logic.proofs.Clauses.{IsIn-append}
 use Rattle.q_logic.specs.declared.formulas.Bound.{Bound}
 use Rattle.q_logic.specs.Literals.{Literal, IsBelow}
 use Rattle.q_logic.specs.Formulas.{Clause, Prefix, IsIn, PrenexFormula}
 use Rattle.q_logic.specs.Prefixes.{is_bound, Distinct}
-use Rattle.q_logic.specs.Parts.{AreLawful, ArePairs, IsBound, IsProper, clauses_between}
+use Rattle.q_logic.specs.Parts.{AreEnds, AreLawful, ArePairs, IsBound, IsProper, clauses_between}
 use Rattle.q_logic.specs.Steps.{Within}
 
 pub IsBound-is_bound : (P : Prefix) (v : ℕ) → IsBound P v → is_bound P v ≡ true
@@ -93,3 +96,69 @@ proper-ordered F at C h e =
 pub proper-bound : (F : PrenexFormula) (at : ℕ) (C : Clause) → IsProper F → slice_get F.matrix at ≡ Some C →
     Within F.prefix C
 proper-bound F at C h e k m = h.formula.closed C (slice_get-IsIn F.matrix at C e) k m
+
+-- the parts of a proper formula are lawful
+
+IsIn-split : (k : Literal) (n : ℕ) (xs : List Literal) → IsIn k xs → IsIn k (take n xs) ⊎ IsIn k (drop n xs)
+IsIn-split k n xs m = IsIn-append k (take n xs) (drop n xs) (subst (IsIn k) (sym (take-append-drop n xs)) m)
+
+none-past : (k : Literal) (n : ℕ) (xs : List Literal) → n ≡ length xs → IsIn k (drop n xs) → ⊥
+none-past k n xs e m = elim (subst (IsIn k) (ap (λ (i : ℕ). drop i xs) e ∙ drop-length xs) m) [ ]
+
+clause-there : (lits : List Literal) (from : ℕ) (ends : List ℕ) (k : Literal) →
+    AreEnds from ends (length lits) →
+    IsIn k (drop from lits) → (D : Clause) × IsIn D (clauses_between lits from ends) × IsIn k D
+clause-there lits from [] k h m = absurd (none-past k from lits h m)
+clause-there lits from (e ∷ ends) k h m =
+    go (IsIn-split k (e - from) (drop from lits) m) (clause-there lits e ends k h.1)
+  where
+    past : drop (e - from) (drop from lits) ≡ drop e lits
+    past =
+        let l : from ≤ e = h.0 in
+        let there : from + (e - from) ≡ e = omega arith in
+        drop-drop (e - from) from lits ∙ ap (λ (i : ℕ). drop i lits) there
+
+    go : IsIn k (slice_range lits from e) ⊎ IsIn k (drop (e - from) (drop from lits)) →
+        (IsIn k (drop e lits) → (D : Clause) × IsIn D (clauses_between lits e ends) × IsIn k D) →
+        (D : Clause) × IsIn D (clauses_between lits from (e ∷ ends)) × IsIn k D
+    go (inl a) ih = (slice_range lits from e, inl refl, a)
+    go (inr b) ih =
+        let r : (D : Clause) × IsIn D (clauses_between lits e ends) × IsIn k D =
+        ih (subst (IsIn k) past b) in
+        (r.0, inr r.1, r.2)
+
+each-IsIn : {X : Type 0} (R : X → Type 0) (xs : List X) → ((x : X) → IsIn x xs → R x) → AllByRecursion R xs
+each-IsIn R [] h = tt
+each-IsIn R (x ∷ xs) h = (h x (inl refl), each-IsIn R xs (λ y m. h y (inr m)))
+
+unbound-apart : (b : Bound) (P : Prefix) → is_bound P b.var ≡ false → AllByRecursion (λ r. b.var ≢ r.var) P
+unbound-apart b [] h = tt
+unbound-apart b (r ∷ P) h = ((λ e. differs e), unbound-apart b P (grind arith))
+  where
+    differs : b.var ≡ r.var → ⊥
+    differs e = grind arith
+
+Distinct-pairs : (P : Prefix) → Distinct P → ArePairs (λ q r. q.var ≢ r.var) P
+Distinct-pairs [] h = tt
+Distinct-pairs (b ∷ P) h = (unbound-apart b P h.0, Distinct-pairs P h.1)
+
+pub proper-lawful : (P : Prefix) (lits : List Literal) (ends : List ℕ) → AreEnds 0 ends (length lits) →
+    IsProper (record { prefix = P; matrix = clauses_between lits 0 ends }) → AreLawful P lits ends
+proper-lawful P lits ends e h =
+    record {
+      distinct = Distinct-pairs P h.formula.distinct;
+      ranges = h.ranges;
+      in_order = e;
+      ordered = h.ordered;
+      bound = each-IsIn (λ (l : Literal). IsBound P l.var) lits bound_in;
+    }
+  where
+    bound_in : (l : Literal) → IsIn l lits → IsBound P l.var
+    bound_in l m =
+        let r : (D : Clause) × IsIn D (clauses_between lits 0 ends) × IsIn l D =
+        clause-there lits 0 ends l e (whole lits m) in
+        is_bound-IsBound P l.var (h.formula.closed r.0 r.1 l r.2)
+      where
+        whole : (xs : List Literal) → IsIn l xs → IsIn l (drop 0 xs)
+        whole [] m = m
+        whole (x ∷ xs) m = m

@@ -12,19 +12,10 @@ use Rattle.q_logic.specs.Pivots.{without}
 use Rattle.q_logic.specs.Steps.{ProofStep}
 use Rattle.q_logic.specs.StepForms.{IsStepForm, IsStep, IsFirst, AreStepParts, step_of, in_front, first_of, arranged}
 use Rattle.q_logic.proofs.Clauses.{literal_eq-sound, literal_eq-itself}
+use Rattle.q_logic.proofs.UniversalPivot.{without-IsIn}
 use Rattle.q_logic.proofs.ClauseSets.{is_clause_of, clause_of-ordered, clause_of-IsIn, not_itself_below}
 
 -- without a literal
-
-pub IsIn-without : (l m : Literal) (C : Clause) → IsIn m (without l C) → IsIn m C
-IsIn-without l m [] h = h
-IsIn-without l m (k ∷ C) h = go (literal_eq k l) h (IsIn-without l m C)
-  where
-    go : (b : Bool) → IsIn m (cond b (without l C) (k ∷ without l C)) → (IsIn m (without l C) → IsIn m C) →
-        IsIn m (k ∷ C)
-    go true h ih = inr (ih h)
-    go false (inl e) ih = inl e
-    go false (inr h) ih = inr (ih h)
 
 pub without-IsIn_other : (l m : Literal) (C : Clause) → IsIn m C → IsIn m (l ∷ without l C)
 without-IsIn_other l m [] h = elim h [ ]
@@ -144,7 +135,7 @@ clause_of-in_front l C p h =
   where
     back : (m : Literal) → IsIn m (l ∷ without l C) → IsIn m C
     back m (inl e) = subst (λ (k : Literal). IsIn k C) (sym e) h
-    back m (inr g) = IsIn-without l m C g
+    back m (inr g) = without-IsIn l C m g
 
 clause_of-arranged : (ls : List Literal) → clause_of (arranged ls) ≡ clause_of ls
 clause_of-arranged [] = refl

@@ -50,12 +50,14 @@ node_tree inputs trees falsum = Circuit.constant false
 node_tree inputs trees (input_at i) = Circuit.input (slice_index_or inputs i 0)
 node_tree inputs trees (gate_at g) = slice_index_or trees g (Circuit.constant false)
 
+-- the tree of an operand, by the trees of the gates
 abbrev pub operand_tree : List ℕ → List Circuit → Operand → Circuit
 operand_tree inputs trees o =
     cond o.negated
     (Circuit.inverter (node_tree inputs trees o.node))
     (node_tree inputs trees o.node)
 
+-- the tree of a gate
 abbrev pub gate_tree : List ℕ → List Circuit → Gate → Circuit
 gate_tree inputs trees g =
     Circuit.conjunction (operand_tree inputs trees g.left) (operand_tree inputs trees g.right)
@@ -75,6 +77,7 @@ abbrev pub output_named : ℕ → List NamedOutput → Option Operand
 output_named x [] = None
 output_named x (o ∷ outputs) = cond (eqb o.name x) (Some o.operand) (output_named x outputs)
 
+-- the tree of an operand, if there is one
 abbrev pub tree_of_some : CertificateView → Option Operand → Option Circuit
 tree_of_some c None = None
 tree_of_some c (Some o) = Some (tree_of c o)

@@ -10,15 +10,19 @@ use Rattle.q_logic.specs.Propagation.{Implied}
 use Rattle.q_logic.specs.Pivots.{without}
 use Rattle.q_logic.specs.StepForms.{positive}
 
+-- an existential variable of a prefix
 abbrev pub existential : ℕ → Bound
 existential v = record { quant = Exists; var = v }
 
+-- a universal one
 abbrev pub universal : ℕ → Bound
 universal v = record { quant = Forall; var = v }
 
+-- the negative literal of a variable
 abbrev pub negative : ℕ → Literal
 negative v = record { var = v; negative = true }
 
+-- a clause of two literals
 abbrev pub of_two : Literal → Literal → Clause
 of_two k l = k ∷ l ∷ []
 

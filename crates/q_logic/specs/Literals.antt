@@ -27,6 +27,7 @@ IsBelow k l = (k.var < l.var) ⊎ ((k.var ≡ l.var) × (k.negative ≡ true) ×
 abbrev pub pack : Literal → ℕ
 pack l = 2 * l.var + (if l.negative then 0 else 1)
 
+-- the literal of a number
 abbrev pub unpack : ℕ → Literal
 unpack n = record { var = n / 2; negative = n % 2 == 0 }
 

@@ -10,6 +10,7 @@ abbrev pub size_of : Matrix → ℕ
 size_of [] = 0
 size_of (C ∷ X) = length C + 1 + size_of X
 
+-- 1 where the test passes
 abbrev pub one_if : Bool → ℕ
 one_if true = 1
 one_if false = 0

@@ -14,6 +14,7 @@ use Rattle.q_logic.specs.Steps.{ProofStep, add, delete, drop_literal, fresh, rem
 abbrev pub positive : ℕ → Literal
 positive v = record { var = v; negative = false }
 
+-- the first literal, if there is one
 abbrev pub first_of : List Literal → Option Literal
 first_of [] = None
 first_of (l ∷ ls) = Some l
@@ -38,6 +39,7 @@ step_of Fresh (v ∷ w ∷ ls) = fresh v.var w.var
 step_of Remove [] = remove_variable 0
 step_of Remove (v ∷ ls) = remove_variable v.var
 
+-- the kind of a step
 abbrev pub kind_of : ProofStep → Kind
 kind_of (add p C) = Add
 kind_of (delete p C) = Delete

@@ -13,6 +13,7 @@ abbrev pub occurs : ℕ → Matrix → Bool
 occurs v [] = false
 occurs v (D ∷ X) = has_variable v D || occurs v X
 
+-- whether some clause is empty
 abbrev pub has_empty : Matrix → Bool
 has_empty [] = false
 has_empty ([] ∷ X) = true
@@ -27,10 +28,12 @@ occurring (b ∷ P) X = cond (occurs b.var X) (b ∷ occurring P X) (occurring P
 abbrev pub falsity : PrenexFormula
 falsity = record { prefix = []; matrix = [] ∷ [] }
 
+-- the formula after sweeping
 abbrev pub swept : PrenexFormula → PrenexFormula
 swept F =
     cond (has_empty F.matrix) falsity
     (record { prefix = occurring F.prefix F.matrix; matrix = F.matrix })
 
+-- sweeping leaves the formula as it is
 abbrev pub IsSwept : PrenexFormula → Type 0
 IsSwept F = swept F ≡ F
