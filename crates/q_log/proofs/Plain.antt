@@ -1,5 +1,5 @@
 -- The variables of e and r stand without sign, so that the literals are those of a step.
-use Rattle.std.proofs.Common.{◌≡◌, ◌==◌, nat_lt, Bool, true, false, not, ◌&&◌, List, [], ◌∷◌, ◌++◌, length, refl, arith, eqb-true}
+use Rattle.std.proofs.Common.{◌≡◌, Bool, true, false, not, ◌&&◌, List, [], ◌∷◌, ◌++◌, length, refl, arith, eqb-true}
 use Rattle.std.proofs.lemmas.Bool.Decides.{nat_tests}
 use Rattle.std.specs.List.{AllByRecursion}
 use Rattle.q_logic.specs.declared.steps.Kind.{Kind}

@@ -1,5 +1,5 @@
 -- What was to come is the answer to a byte, and then what is to come behind it.
-use Rattle.std.proofs.Common.{◌≡◌, ℕ, zero, suc, ◌+◌, ◌-◌, ◌==◌, nat_le, Bool, true, false, cond, List, [], ◌∷◌, ◌++◌, length, take, if◌then◌else◌, Result, Ok, Err, Option, Some, None, refl, sym, ap, ◌∙◌, arith, sub-one, subst}
+use Rattle.std.proofs.Common.{◌≡◌, ℕ, zero, suc, ◌+◌, ◌==◌, nat_le, Bool, true, false, List, ◌∷◌, ◌++◌, length, take, if◌then◌else◌, Result, Ok, Err, Option, Some, None, refl, sym, ap, ◌∙◌, arith, sub-one, subst}
 use Rattle.std.proofs.lemmas.Bool.Decides.{nat_tests}
 use Rattle.q_logic.specs.Literals.{Literal}
 use Rattle.q_logic.specs.Steps.{ProofStep}
@@ -17,7 +17,7 @@ use Rattle.q_log.specs.declared.error.LogError.TheVariants.{BadLine, Limit, NoMe
 use Rattle.q_log.specs.declared.builder.Begun.{Begun}
 use Rattle.q_log.specs.Grammar.{OpenStep, Move, ends_step, goes_on, unfit, move}
 use Rattle.q_log.specs.Logs.{Outcome, stopped, onto, follow, outcome, at_end, past_limit, read}
-use Rattle.q_log.specs.Reading.{LogState, open_to_come, unless_refused, to_come, Turn, turn, token_turn, moved, Answers, Leads, Builds}
+use Rattle.q_log.specs.Reading.{LogState, open_to_come, unless_refused, to_come, turn, token_turn, moved, Answers, Leads, Builds}
 
 pub start-reads : (s : LogState) (limit : ℕ) (text : List ℕ) → s.tokens ≡ begun → s.left ≡ limit → s.begun ≡ None → open_to_come s text ≡ read limit text
 start-reads s limit text t l b = rw (t, l, b, from_start text, handed-ended (take limit text)) refl

@@ -1,5 +1,5 @@
 -- The canonical text of steps is read as these steps.
-use Rattle.std.proofs.Common.{◌≡◌, ℕ, zero, suc, ◌+◌, ◌^◌, ◌<◌, ◌≤◌, ◌==◌, nat_lt, nat_le, Bool, true, false, cond, not, List, [], ◌∷◌, ◌++◌, map, length, if◌then◌else◌, Option, Some, None, refl, sym, ap, ◌∙◌, arith, add-one, pos, negsuc, append_assoc, append-nil, length-append, subst}
+use Rattle.std.proofs.Common.{◌≡◌, ℕ, zero, suc, ◌+◌, ◌^◌, ◌<◌, ◌≤◌, ◌==◌, nat_lt, nat_le, Bool, true, false, List, [], ◌∷◌, ◌++◌, map, length, Option, Some, None, refl, ap, ◌∙◌, arith, add-one, pos, append_assoc, append-nil, length-append}
 use Rattle.std.proofs.lemmas.Bool.Decides.{nat_tests}
 use Rattle.std.specs.List.{AllByRecursion}
 use Rattle.q_logic.specs.declared.steps.Kind.{Kind}
@@ -9,23 +9,22 @@ use Rattle.q_logic.specs.Formulas.{Clause}
 use Rattle.q_logic.specs.Parts.{ArePairs}
 use Rattle.q_logic.specs.Literals.{IsBelow}
 use Rattle.q_logic.specs.Steps.{ProofStep, add, delete, drop_literal, fresh, remove_variable}
-use Rattle.q_logic.specs.StepForms.{IsStep, IsStepForm, IsFirst, step_of, kind_of, literals_of, first_of, in_front, positive}
+use Rattle.q_logic.specs.StepForms.{IsStep, IsStepForm, IsFirst, step_of, kind_of, literals_of, first_of, in_front}
 use Rattle.q_logic.specs.Clauses.{clause_of}
 use Rattle.q_logic.proofs.StepForms.{clause_of-in_front}
 use Rattle.q_text.specs.declared.tokens.Token.{Token}
-use Rattle.q_text.specs.declared.tokens.TokenKind.{TokenKind}
 use Rattle.q_text.specs.declared.tokens.TokenKind.TheVariants.{D, U, E, R}
 use Rattle.q_text.specs.declared.shape.Shape.TheVariants.{Start, Between}
-use Rattle.q_text.specs.Numbers.{numbers_text, line_end}
-use Rattle.q_text.specs.Texts.{tokens_of, line_after}
+use Rattle.q_text.specs.Numbers.{line_end}
+use Rattle.q_text.specs.Texts.{line_after}
 use Rattle.q_text.specs.Tokens.{to_come}
 use Rattle.q_text.proofs.Law.{at, from_start}
 use Rattle.q_text.proofs.Spelling.{opens-start, opens-between, word-space}
 use Rattle.q_text.proofs.Decimals.{IsShown, token_of, numbers-line}
 use Rattle.q_log.specs.declared.error.LogError.{LogError}
 use Rattle.q_log.specs.Grammar.{OpenStep, goes_on, is_whole, has_room, with_number, empty_step}
-use Rattle.q_log.specs.Logs.{Outcome, onto, follow, outcome, at_end, read, Steps}
-use Rattle.q_log.specs.Texts.{letter_text, literals_text, step_text, steps_text, IsLogged, on_lines}
+use Rattle.q_log.specs.Logs.{onto, follow, outcome, at_end, read, Steps}
+use Rattle.q_log.specs.Texts.{letter_text, literals_text, steps_text, IsLogged, on_lines}
 
 -- a step is that of its kind and its literals
 

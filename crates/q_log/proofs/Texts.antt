@@ -1,5 +1,5 @@
 -- The text of literals, one by one, and its length.
-use Rattle.std.proofs.Common.{◌≡◌, ℕ, suc, zero, ◌+◌, ◌*◌, ◌^◌, ◌<◌, ◌≤◌, Bool, true, false, cond, List, [], ◌∷◌, ◌++◌, length, get_or, drop, refl, ap, sym, ◌∙◌, arith, not-suc-le-zero, le_of_suc-le-suc, add-one, ℤ, pos, negsuc, inl, inr, Option, Some, None, length-append}
+use Rattle.std.proofs.Common.{◌≡◌, ℕ, suc, zero, ◌+◌, ◌^◌, ◌<◌, ◌≤◌, Bool, true, false, cond, List, [], ◌∷◌, ◌++◌, length, get_or, drop, refl, ap, arith, not-suc-le-zero, le_of_suc-le-suc, add-one, ℤ, pos, negsuc, inl, inr, Option, Some, None, length-append}
 use Rattle.std.specs.Int.Signed.{mag}
 use Rattle.std.proofs.lemmas.Bool.Decides.{nat_tests}
 use Rattle.std.specs.Fmt.{signed_decimal}
@@ -11,7 +11,7 @@ use Rattle.q_logic.specs.Parts.{ArePairs}
 use Rattle.q_logic.specs.Pivots.{without}
 use Rattle.q_logic.specs.Steps.{ProofStep, add, delete, drop_literal, fresh, remove_variable}
 use Rattle.q_logic.specs.StepForms.{IsStep, IsFirst, in_front, literals_of}
-use Rattle.q_text.specs.Numbers.{number_text, numbers_text}
+use Rattle.q_text.specs.Numbers.{number_text}
 use Rattle.q_log.specs.Texts.{literals_text}
 
 next : (ls : List Literal) (i : ℕ) (d : Literal) → i < length ls → literals_text (drop i ls) ≡ number_text (number_of (get_or ls i d)) ++ literals_text (drop (suc i) ls)

@@ -1,7 +1,7 @@
 -- The steps of a proof log, token by token. Additions, deletions (d) and drops of a universal literal
 -- (u) are those of QRAT (Heule, Seidl, Biere 2014, 2017); e brings a fresh variable behind another,
 -- and r removes a variable.
-use Rattle.std.specs.Prelude.{ℕ, ◌+◌, ◌==◌, ◌&&◌, nat_lt, Bool, true, false, List, [], ◌∷◌, ◌++◌, length, if◌then◌else◌, Option, Some, None, ℤ, pos, negsuc}
+use Rattle.std.specs.Prelude.{ℕ, ◌+◌, ◌==◌, nat_lt, Bool, true, false, List, [], ◌∷◌, ◌++◌, length, if◌then◌else◌, Option, Some, None, ℤ, pos, negsuc}
 use Rattle.q_logic.specs.declared.steps.Kind.{Kind}
 use Rattle.q_logic.specs.declared.steps.Kind.TheVariants.{Add, Delete, Drop, Fresh, Remove}
 use Rattle.q_logic.specs.Literals.{Literal}

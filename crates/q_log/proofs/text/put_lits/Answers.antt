@@ -1,4 +1,4 @@
-use Rattle.std.proofs.Common.{◌≡◌, ◌≤◌, ◌+◌, ◌++◌, length, length-append, arith}
+use Rattle.std.proofs.Common.{length-append, arith}
 use Rattle.q_log.proofs.Texts.{text-next}
 use Rattle.q_log.proofs.text.put_lits.Goals as goal
 
