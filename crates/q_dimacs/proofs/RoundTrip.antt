@@ -90,8 +90,8 @@ blocks-kinds n T (B ∷ Bs) rest s h =
     ap (λ x. kinds (to_come (at n Start) x)) (append_assoc (block_text B) (blocks_text Bs) rest)
     ∙ (block-kinds n T B (blocks_text Bs ++ rest) s (all-left (λ b. IsVar T b.var) (vars_bounds B.quant B.vars) (sets_bounds Bs) h)
     ∙ ap (λ ks. letter B.quant ∷ ks)
-        (ap (λ ks. vars_kinds B.vars ++ ks) (blocks-kinds (n + 1) T Bs rest s (all-right (λ b. IsVar T b.var) (vars_bounds B.quant B.vars) (sets_bounds Bs) h))
-        ∙ sym (append_assoc (vars_kinds B.vars) (sets_kinds Bs) (kinds (to_come (at (lines_past (n + 1) Bs) Start) rest)))))
+    (ap (λ ks. vars_kinds B.vars ++ ks) (blocks-kinds (n + 1) T Bs rest s (all-right (λ b. IsVar T b.var) (vars_bounds B.quant B.vars) (sets_bounds Bs) h))
+    ∙ sym (append_assoc (vars_kinds B.vars) (sets_kinds Bs) (kinds (to_come (at (lines_past (n + 1) Bs) Start) rest)))))
 
 clause-kinds : (n T : ℕ) (C : Clause) (rest : List ℕ) → T < 2 ^ 31 → AllByRecursion (λ l. IsVar T l.var) C
     → kinds (to_come (at n Start) (clause_text C ++ rest)) ≡ clause_kinds C ++ kinds (to_come (at (n + 1) Start) rest)
@@ -212,8 +212,8 @@ text-kinds m F a h k =
     ap kinds (sym (from_start (formula_text F)))
     ∙ (header-kinds T (length F.matrix) body (omega arith) few
     ∙ ap (λ ks. P ∷ Cnf ∷ Number (pos T) ∷ Number (pos (length F.matrix)) ∷ ks)
-        (blocks-kinds 2 T (blocks F.prefix) (matrix_text F.matrix) s v
-        ∙ ap (λ ks. sets_kinds (blocks F.prefix) ++ ks) (matrix-kinds (lines_past 2 (blocks F.prefix)) T F.matrix s (matrix-within F.prefix T F.matrix w h.formula.closed))))
+    (blocks-kinds 2 T (blocks F.prefix) (matrix_text F.matrix) s v
+    ∙ ap (λ ks. sets_kinds (blocks F.prefix) ++ ks) (matrix-kinds (lines_past 2 (blocks F.prefix)) T F.matrix s (matrix-within F.prefix T F.matrix w h.formula.closed))))
 
 pub written_is_read : (m : Limits) (F : PrenexFormula) → AreModerate m → IsProper F → KeepsLimits m F → Dimacs m (formula_text F) F
 written_is_read m F a h k =
