@@ -1,4 +1,4 @@
--- A covered clause goes, and any order of growths decides.
+-- A covered clause goes by a run: each growth adds the larger clause and deletes the smaller one.
 use Rattle.q_logic.specs.declared.rule_bounds.Bounds.{Bounds}
 use Rattle.std.proofs.Common.{◌≡◌, ◌↔◌, ℕ, Bool, true, false, List, [], ◌∷◌, ◌++◌, ◌⊎◌, inl, inr, arith, refl, sym, subst, Option, Some, ◌≤◌, ◌+◌, ◌-◌, ◌*◌, length}
 use Rattle.q_logic.specs.Literals.{Literal, negation, literal_eq}

@@ -1,4 +1,4 @@
--- The slow procedure decides what is reducible.
+-- The plain program decides what is reducible.
 use Rattle.std.proofs.Common.{◌≡◌, ◌↔◌, ◌≤◌, ℕ, zero, suc, ◌+◌, Bool, true, false, cond, ◌&&◌, not, [], ◌∷◌, ◌++◌, ◌⊎◌, inl, inr, arith, refl, sym, ap, ◌∙◌, subst, length}
 use Rattle.q_logic.specs.Clauses.{insert}
 use Rattle.q_logic.specs.Literals.{Literal, negation}

@@ -1,4 +1,4 @@
--- The slow procedures decide.
+-- The plain programs decide the conditions of most targets.
 use Rattle.std.proofs.Common.{◌≡◌, ◌≢◌, ◌↔◌, ◌≤◌, ℕ, ◌+◌, Bool, true, false, ◌||◌, ◌&&◌, not, eqb, [], ◌∷◌, ◌⊎◌, inl, inr, arith, refl, sym, ap, ◌∙◌, subst, Option, Some, None, length}
 use Rattle.q_logic.specs.StepForms.{positive}
 use Rattle.q_logic.specs.Sweep.{occurs}

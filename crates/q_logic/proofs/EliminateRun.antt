@@ -1,4 +1,4 @@
--- Elimination of an existential.
+-- Eliminating an existential is a run: the resolvents come, then the clauses of the variable go by pivot.
 use Rattle.std.proofs.Common.{◌≡◌, ◌≢◌, ℕ, ◌+◌, Bool, true, false, [], ◌∷◌, ◌++◌, ◌⊎◌, inl, inr, arith, refl, sym, ◌∙◌, subst, Some, length}
 use Rattle.q_logic.specs.StepForms.{positive}
 use Rattle.q_logic.specs.declared.rule_bounds.Bounds.{Bounds}

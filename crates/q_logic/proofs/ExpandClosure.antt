@@ -1,4 +1,4 @@
--- The variables of an expansion are closed, and an expansion is a run.
+-- The variables of an expansion are closed under links, and an expansion is a run.
 use Rattle.std.proofs.Common.{◌≡◌, ◌≤◌, ◌<◌, ℕ, zero, suc, ◌+◌, ◌-◌, Bool, true, false, cond, ◌||◌, ◌&&◌, not, eqb, List, [], ◌∷◌, ◌++◌, ◌⊎◌, inl, inr, arith, refl, sym, ap, ◌∙◌, subst, length, ◌*◌}
 use Rattle.q_logic.specs.Sweep.{has_variable}
 use Rattle.q_logic.specs.StepForms.{positive}

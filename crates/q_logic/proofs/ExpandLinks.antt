@@ -1,4 +1,4 @@
--- The clauses that define copies where u is true.
+-- The clauses that make each copy equal to its original where u is true.
 use Rattle.std.proofs.Common.{◌≡◌, ◌≤◌, ◌<◌, ℕ, ◌+◌, Bool, true, false, not, eqb, List, [], ◌∷◌, ◌++◌, ◌⊎◌, inl, inr, arith, refl, sym, ap, ◌∙◌, subst, Some}
 use Rattle.q_logic.specs.Clauses.{insert}
 use Rattle.q_logic.specs.StepForms.{positive}

@@ -1,4 +1,4 @@
--- The prefix with copies.
+-- The prefix of an expansion: each copy stands in the block of its original.
 use Rattle.std.proofs.Common.{◌≡◌, ◌≤◌, ◌<◌, ℕ, ◌+◌, Bool, true, false, cond, eqb, List, [], ◌∷◌, arith, refl, ◌∙◌, subst}
 use Rattle.q_logic.specs.declared.formulas.Quant.{Quant}
 use Rattle.q_logic.specs.Formulas.{Prefix, Matrix}

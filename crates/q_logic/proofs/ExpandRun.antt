@@ -1,4 +1,4 @@
--- The expansion of a universal.
+-- The steps of an expansion, over a prefix that has the copies.
 use Rattle.std.proofs.Common.{◌≡◌, ◌≤◌, ◌<◌, ℕ, ◌+◌, Bool, true, false, eqb, List, [], ◌∷◌, ◌++◌, ◌⊎◌, inl, inr, arith, refl, sym, ap, ◌∙◌, subst}
 use Rattle.q_logic.specs.Clauses.{insert}
 use Rattle.q_logic.specs.StepForms.{positive}

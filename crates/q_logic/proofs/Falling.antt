@@ -1,4 +1,4 @@
--- Each rule lowers the measure.
+-- Each rule but expansion lowers the measure.
 use Rattle.std.proofs.Common.{◌≡◌, ◌≤◌, ℕ, ◌+◌, Bool, true, false, cond, eqb, [], ◌∷◌, ◌++◌, ◌⊎◌, inl, inr, arith, refl, sym, ap, subst, Some, length}
 use Rattle.q_logic.specs.StepForms.{positive}
 use Rattle.q_logic.specs.declared.rule_bounds.Bounds.{Bounds}

@@ -263,7 +263,7 @@ longer C X s m z = let e : 1 + length X + s ≤ m = sooner 1 (length X) s m z in
 as_long : (C D : Clause) (X : Matrix) (s m : ℕ) → IsIn C X → length X + s ≤ m → length (D ∷ one_less C X) + s ≤ m
 as_long C D X s m i z = let e : length X ≡ 1 + length (one_less C X) = length-one_less C X i in grind arith
 
-reaches-valid : (F : PrenexFormula) (ss : List ProofStep) (G : PrenexFormula) → IsFormula F → Reaches F ss G
+pub reaches-valid : (F : PrenexFormula) (ss : List ProofStep) (G : PrenexFormula) → IsFormula F → Reaches F ss G
     → length F.matrix + rise one ss ≤ 4 * standard.clauses → literals_in F.matrix + rise length ss ≤ 4 * standard.lits → FreshUpTo standard.vars ss
     → (E : PrenexFormula) × ValidSteps standard F ss E × Alike E G
 reaches-valid F [] G f r a b v = (F, refl, r)

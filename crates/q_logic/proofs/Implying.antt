@@ -1,4 +1,4 @@
--- What is implied by propagation.
+-- The three ways in which the clauses of the rules are implied: by a clause within, as a tautology, by a hidden literal.
 use Rattle.std.proofs.Common.{◌≡◌, ◌≢◌, Bool, true, false, not, List, [], ◌∷◌, ◌++◌, ◌⊎◌, inl, inr, arith, refl, sym, ap, subst}
 use Rattle.q_logic.specs.Literals.{Literal, negation, literal_eq}
 use Rattle.q_logic.specs.Formulas.{Clause, Matrix, IsIn}

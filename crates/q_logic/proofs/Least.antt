@@ -1,4 +1,4 @@
--- The computed variables of an expansion are the least closed set.
+-- The variables that an expansion copies are the least set that is closed under links.
 use Rattle.std.proofs.Common.{◌≡◌, ◌↔◌, ℕ, zero, suc, Bool, true, false, cond, ◌||◌, ◌&&◌, eqb, List, [], ◌∷◌, ◌⊎◌, inl, inr, arith, refl, sym, ◌∙◌, subst, length}
 use Rattle.q_logic.specs.Sweep.{has_variable}
 use Rattle.q_logic.specs.Literals.{Literal}

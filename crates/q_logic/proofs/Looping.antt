@@ -1,4 +1,4 @@
--- For loops over slots: each turn keeps the change that is still to come, and in the end there is nothing to change.
+-- For loops over numbered clauses: each turn keeps the change that is still to come, and at the end nothing is left to change.
 use Rattle.std.proofs.Common.{◌≡◌, ℕ, zero, suc, Bool, true, false, cond, eqb, [], ◌∷◌, inl, inr, arith, refl, sym, ap, ◌∙◌, subst, Option, Some, None}
 use Rattle.q_logic.specs.Sweep.{has_variable}
 use Rattle.q_logic.specs.Literals.{Literal, negation, literal_eq}

@@ -1,4 +1,4 @@
--- One literal in place of an equal one.
+-- Putting a literal in place of an equivalent one is a run.
 use Rattle.std.proofs.Common.{◌≡◌, ℕ, Bool, true, false, cond, eqb, List, [], ◌∷◌, ◌++◌, ◌⊎◌, inl, inr, arith, refl, sym, ◌∙◌, subst, Some, ◌≤◌, ◌+◌, ◌-◌, length}
 use Rattle.q_logic.specs.Clauses.{insert}
 use Rattle.q_logic.specs.Sweep.{has_variable}

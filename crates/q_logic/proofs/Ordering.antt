@@ -1,4 +1,4 @@
--- Clauses in literal order.
+-- Clauses in literal order: what keeps them so, and that a clause over a prefix has at most two literals a variable.
 use Rattle.std.proofs.Common.{◌≡◌, ◌<◌, ℕ, Bool, true, false, cond, eqb, List, [], ◌∷◌, inl, inr, arith, refl, ◌≤◌, ◌+◌, ◌*◌, length}
 use Rattle.q_logic.specs.Clauses.{insert}
 use Rattle.q_logic.specs.Literals.{Literal, literal_eq, pack, IsBelow}

@@ -1,4 +1,4 @@
--- Each plain rule is a list of valid steps.
+-- Tautology, Unit, Cut, Pure, Subsumed, Strengthen and both blocked rules are runs; what makes each of their steps valid.
 use Rattle.std.proofs.Common.{◌≡◌, ◌≤◌, ◌+◌, length, ◌≢◌, ℕ, Bool, true, false, cond, List, [], ◌∷◌, ◌++◌, ◌⊎◌, inl, inr, arith, refl, sym, subst, Some}
 use Rattle.q_logic.specs.declared.rule_bounds.Bounds.{Bounds}
 use Rattle.q_logic.specs.Literals.{Literal, negation, literal_eq}

@@ -1,4 +1,4 @@
--- How valid steps compose.
+-- How justified steps compose, up to the order of clauses.
 use Rattle.std.proofs.Common.{◌≡◌, ◌≤◌, ◌+◌, Bool, true, false, cond, List, [], ◌∷◌, ◌++◌, ◌⊎◌, inl, inr, arith, refl, sym, ap, ◌∙◌, subst, Option}
 use Rattle.q_logic.specs.Literals.{Literal, negation, literal_eq}
 use Rattle.q_logic.specs.Formulas.{Clause, Matrix, Prefix, IsIn, PrenexFormula}

@@ -1,4 +1,4 @@
--- What a search over the formula has to show.
+-- What a search for joined literals or for a reach has to show.
 use Rattle.std.proofs.Common.{◌≡◌, ℕ, true, false, List, refl}
 use Rattle.q_logic.specs.Literals.{Literal, negation}
 use Rattle.q_logic.specs.Formulas.{Clause, Matrix, Prefix, IsIn}

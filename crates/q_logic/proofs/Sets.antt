@@ -1,4 +1,4 @@
--- Sets of literals in order.
+-- Membership and length of clauses that are put together.
 use Rattle.std.proofs.Common.{◌≡◌, ◌≤◌, ◌+◌, length, Bool, true, false, cond, [], ◌∷◌, ◌⊎◌, inl, inr, arith, refl, sym, subst, nat_lt, ◌==◌}
 use Rattle.q_logic.specs.Clauses.{insert}
 use Rattle.q_logic.specs.Literals.{Literal, negation, literal_eq, pack}

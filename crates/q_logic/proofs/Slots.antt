@@ -1,4 +1,4 @@
--- Slots as collections; clauses with and without a literal.
+-- Numbered clauses as collections, and the clauses with and without a literal.
 use Rattle.std.proofs.Common.{◌≡◌, ◌≢◌, ℕ, zero, suc, Bool, true, false, cond, [], ◌∷◌, ◌++◌, ◌⊎◌, inl, inr, arith, refl, sym, ap, subst, Option, Some, None}
 use Rattle.q_logic.specs.Literals.{Literal, literal_eq}
 use Rattle.q_logic.specs.Formulas.{Clause, Matrix, IsIn}

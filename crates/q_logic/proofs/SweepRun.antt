@@ -1,4 +1,4 @@
--- Sweeping by valid steps.
+-- Sweeping is a run that adds nothing.
 use Rattle.std.proofs.Common.{◌≡◌, ℕ, Bool, true, false, cond, eqb, List, [], ◌∷◌, ◌++◌, inl, inr, arith, refl, sym, ap, subst, ◌≤◌, length}
 use Rattle.q_logic.specs.declared.formulas.Bound.{Bound}
 use Rattle.q_logic.specs.Literals.{Literal}

@@ -22,7 +22,8 @@ pub record Hidden (X : Matrix) (S T : Clause) : Type 0 where
 
 -- k is in the outer clause of each clause that holds not l and does not clash with S
 abbrev pub InEach : Prefix → Matrix → Literal → Clause → Literal → Type 0
-InEach P X l S k = (D : Clause) → IsIn D X → IsIn (negation l) D → (Clashes P l S D → ⊥) → IsIn k (outer P (negation l) D)
+InEach P X l S k = (D : Clause) → IsIn D X → IsIn (negation l) D → (Clashes P l S D → ⊥) →
+    IsIn k (outer P (negation l) D)
 
 -- all such literals come into S, for an existential literal of S
 pub record Covered (P : Prefix) (X : Matrix) (S T : Clause) : Type 0 where
@@ -39,7 +40,8 @@ Grows P X S T = Hidden X S T ⊎ Covered P X S T
 
 -- S is a tautology or blocked
 abbrev pub Ends : Prefix → Matrix → Clause → Type 0
-Ends P X S = IsTautology S ⊎ ((l : Literal) × IsIn l S × (is_existential P l.var ≡ true) × AllClash P X l S)
+Ends P X S = IsTautology S ⊎
+    ((l : Literal) × IsIn l S × (is_existential P l.var ≡ true) × AllClash P X l S)
 
 -- some growth of S ends
 pub data Covers (P : Prefix) (X : Matrix) : Clause → Type 0 where
@@ -62,7 +64,8 @@ hidden_once (D ∷ X) S = union (hidden_of (missing D S) D) (hidden_once X S)
 
 abbrev pub open_clauses : Prefix → Matrix → Literal → Clause → Matrix
 open_clauses P [] l S = []
-open_clauses P (D ∷ X) l S = cond (has (negation l) D && not (clashes P l S D)) (D ∷ open_clauses P X l S) (open_clauses P X l S)
+open_clauses P (D ∷ X) l S =
+    cond (has (negation l) D && not (clashes P l S D)) (D ∷ open_clauses P X l S) (open_clauses P X l S)
 
 abbrev pub common : Prefix → Literal → Clause → Matrix → Clause
 common P l O [] = O
@@ -74,11 +77,14 @@ covered_of P l (D ∷ X) = common P l (outer P (negation l) D) X
 
 abbrev pub covered_once : Prefix → Matrix → Clause → Clause → Clause
 covered_once P X S [] = S
-covered_once P X S (l ∷ C) = union (cond (is_existential P l.var) (covered_of P l (open_clauses P X l S)) []) (covered_once P X S C)
+covered_once P X S (l ∷ C) =
+    union (cond (is_existential P l.var) (covered_of P l (open_clauses P X l S)) [])
+    (covered_once P X S C)
 
 abbrev pub grow_often : ℕ → Prefix → Matrix → Clause → Clause
 grow_often zero P X S = S
-grow_often (suc n) P X S = covered_once P X (hidden_once X (grow_often n P X S)) (hidden_once X (grow_often n P X S))
+grow_often (suc n) P X S =
+    covered_once P X (hidden_once X (grow_often n P X S)) (hidden_once X (grow_often n P X S))
 
 abbrev pub is_blocked : Prefix → Matrix → Clause → Clause → Bool
 is_blocked P X S [] = false

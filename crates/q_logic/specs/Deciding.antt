@@ -33,7 +33,8 @@ is_unit P (l ∷ k ∷ C) = false
 -- The inner existential literals of the reached clauses, turn by turn.
 abbrev pub inner_literals : Prefix → ℕ → Clause → Clause
 inner_literals P u [] = []
-inner_literals P u (k ∷ C) = cond (inner_existential P u k.var) (insert k (inner_literals P u C)) (inner_literals P u C)
+inner_literals P u (k ∷ C) =
+    cond (inner_existential P u k.var) (insert k (inner_literals P u C)) (inner_literals P u C)
 
 -- the clause does not hold l, and holds the negation of a literal of K
 abbrev pub is_hit : Literal → Clause → Clause → Bool
@@ -41,7 +42,8 @@ is_hit l K D = not (has l D) && negated_in K D
 
 abbrev pub reach_once : Prefix → Literal → Matrix → Clause → Clause
 reach_once P l [] K = K
-reach_once P l (D ∷ X) K = cond (is_hit l K D) (union (inner_literals P l.var D) (reach_once P l X K)) (reach_once P l X K)
+reach_once P l (D ∷ X) K =
+    cond (is_hit l K D) (union (inner_literals P l.var D) (reach_once P l X K)) (reach_once P l X K)
 
 abbrev pub reach_often : ℕ → Prefix → Literal → Matrix → Clause → Clause
 reach_often zero P l X K = K
@@ -52,31 +54,47 @@ none_hit l [] K = true
 none_hit l (D ∷ X) K = not (is_hit l K D && has (negation l) D) && none_hit l X K
 
 abbrev pub reducible : Prefix → Matrix → Clause → Literal → Bool
-reducible P X C l = is_universal P l.var && (has l C && (not (has (negation l) C) && none_hit l X (reach_often (length C + size_of X) P l X (inner_literals P l.var C))))
+reducible P X C l = is_universal P l.var &&
+    (has l C &&
+    (not (has (negation l) C) &&
+    none_hit l X (reach_often (length C + size_of X) P l X (inner_literals P l.var C))))
 
 abbrev pub strengthens : Literal → Clause → Clause → Bool
 strengthens l [] D = true
-strengthens l (k ∷ C) D = (literal_eq k (negation l) || (has k D && not (literal_eq k l))) && strengthens l C D
+strengthens l (k ∷ C) D = (literal_eq k (negation l) || (has k D && not (literal_eq k l))) &&
+    strengthens l C D
 
 -- where the conditions of a target hold
 abbrev pub fits : Bounds → Prefix → Slots → Target → Bool
 fits B P N (tautology c) = if_some is_tautology (slot N c)
 fits B P N (unit c) = if_some (is_unit P) (slot N c)
 fits B P N (cut c l) = if_some (λ C. reducible P (others c N) C l) (slot N c)
-fits B P N (pure l) = is_bound P l.var && (literal_occurs l (live N) && not (literal_occurs (negation l) (live N)))
+fits B P N (pure l) =
+    is_bound P l.var && (literal_occurs l (live N) && not (literal_occurs (negation l) (live N)))
 fits B P N (subsumed c d) = not (eqb c d) && if_some (λ C. if_some (all_in C) (slot N d)) (slot N c)
-fits B P N (strengthen c d l) = not (eqb c d) && if_some (λ C. if_some (λ D. has l D && (has (negation l) C && strengthens l C D)) (slot N d)) (slot N c)
-fits B P N (merge keep gone) = not (eqb keep.var gone.var) && (is_existential P gone.var && (outer_or_same P keep.var gone.var && (joined (live N) keep gone && joined (live N) gone keep)))
-fits B P N (blocked c l) = if_some (λ C. has l C && (is_existential P l.var && all_clash P (others c N) l C)) (slot N c)
-fits B P N (blocked_forall c l) = if_some (λ C. has l C && (is_universal P l.var && (not (has (negation l) C) && all_clash P (others c N) l C))) (slot N c)
+fits B P N (strengthen c d l) =
+    not (eqb c d) && if_some (λ C. if_some
+    (λ D. has l D && (has (negation l) C && strengthens l C D)) (slot N d)) (slot N c)
+fits B P N (merge keep gone) =
+    not (eqb keep.var gone.var) && (is_existential P gone.var &&
+    (outer_or_same P keep.var gone.var &&
+    (joined (live N) keep gone && joined (live N) gone keep)))
+fits B P N (blocked c l) =
+    if_some (λ C. has l C && (is_existential P l.var && all_clash P (others c N) l C)) (slot N c)
+fits B P N (blocked_forall c l) =
+    if_some (λ C. has l C && (is_universal P l.var &&
+    (not (has (negation l) C) && all_clash P (others c N) l C))) (slot N c)
 fits B P N (cover c) = if_some (is_covered P (others c N)) (slot N c)
 fits B P N (eliminate x) =
-    is_existential P x && (occurs x (live N) && (no_tautology (positive x) (live N) && (no_tautology (negation (positive x)) (live N)
-    && ((outer_side P (positive x) (live N) || outer_side P (negation (positive x)) (live N))
-    && at_most (size_of (resolvents x (live N))) (size_of (clauses_of x (live N)) + B.grow)))))
+    is_existential P x && (occurs x (live N) &&
+    (no_tautology (positive x) (live N) && (no_tautology (negation (positive x)) (live N) &&
+    ((outer_side P (positive x) (live N) || outer_side P (negation (positive x)) (live N)) &&
+    at_most (size_of (resolvents x (live N))) (size_of (clauses_of x (live N)) + B.grow)))))
 fits B P N (expand_universal u) =
-    is_universal P u && (occurs u (live N) && (no_both u (live N) && (at_most (length (expansion_vars P (live N) u)) B.expand
-    && at_most (size_of (touched_neither u (expansion_vars P (live N) u) (live N))) (B.expand + length (clauses_of u (live N))))))
+    is_universal P u && (occurs u (live N) && (no_both u (live N) &&
+    (at_most (length (expansion_vars P (live N) u)) B.expand &&
+    at_most (size_of (touched_neither u (expansion_vars P (live N) u) (live N)))
+    (B.expand + length (clauses_of u (live N))))))
 
 -- where a target applies
 abbrev pub applicable : Bounds → Prefix → Slots → Target → Bool

@@ -24,7 +24,8 @@ resolve_all l (C ∷ X) Y = resolve_one l C Y ++ resolve_all l X Y
 
 -- all resolvents on x that are no tautologies
 abbrev pub resolvents : ℕ → Matrix → Matrix
-resolvents x X = resolve_all (positive x) (with_literal (positive x) X) (with_literal (negation (positive x)) X)
+resolvents x X =
+    resolve_all (positive x) (with_literal (positive x) X) (with_literal (negation (positive x)) X)
 
 -- the clauses that hold x or not x
 abbrev pub clauses_of : ℕ → Matrix → Matrix
@@ -36,12 +37,14 @@ clauses_not_of x X = without_literal (negation (positive x)) (without_literal (p
 
 -- each clause with l has only literals outer or same to l
 abbrev pub AllOuter : Prefix → Literal → Matrix → Type 0
-AllOuter P l X = (D : Clause) → IsIn D X → IsIn l D → (k : Literal) → IsIn k D → outer_or_same P k.var l.var ≡ true
+AllOuter P l X = (D : Clause) → IsIn D X → IsIn l D → (k : Literal) → IsIn k D →
+    outer_or_same P k.var l.var ≡ true
 
 pub record Eliminable (grow : ℕ) (P : Prefix) (X : Matrix) (x : ℕ) : Type 0 where
   pub existential : is_existential P x ≡ true
   pub occurs : OccursIn (positive x) X ⊎ OccursIn (negation (positive x)) X
-  pub no_tautology : (D : Clause) → IsIn D X → IsIn (positive x) D ⊎ IsIn (negation (positive x)) D → IsTautology D → ⊥
+  pub no_tautology : (D : Clause) → IsIn D X → IsIn (positive x) D ⊎
+      IsIn (negation (positive x)) D → IsTautology D → ⊥
   pub outer_side : AllOuter P (positive x) X ⊎ AllOuter P (negation (positive x)) X
   pub small : size_of (resolvents x X) ≤ size_of (clauses_of x X) + grow
 

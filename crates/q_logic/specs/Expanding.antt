@@ -38,7 +38,9 @@ touched_with v u V (D ∷ X) = (has_variable v D && touches u V D) || touched_wi
 -- what is connected in one step, in prefix order
 abbrev pub next_vars : Prefix → Prefix → Matrix → ℕ → List ℕ → List ℕ
 next_vars [] P X u V = []
-next_vars (b ∷ Q) P X u V = cond (inner_existential P u b.var && touched_with b.var u V X) (b.var ∷ next_vars Q P X u V) (next_vars Q P X u V)
+next_vars (b ∷ Q) P X u V =
+    cond (inner_existential P u b.var && touched_with b.var u V X)
+    (b.var ∷ next_vars Q P X u V) (next_vars Q P X u V)
 
 abbrev pub grown_vars : ℕ → Prefix → Matrix → ℕ → List ℕ
 grown_vars zero P X u = []
@@ -80,19 +82,24 @@ expanded u V t (D ∷ X) = expanded_one u V t D (expanded u V t X)
 -- the clauses that hold a copied variable but neither u nor not u
 abbrev pub touched_neither : ℕ → List ℕ → Matrix → Matrix
 touched_neither u V [] = []
-touched_neither u V (D ∷ X) = cond (not (has_variable u D) && shares V D) (D ∷ touched_neither u V X) (touched_neither u V X)
+touched_neither u V (D ∷ X) =
+    cond (not (has_variable u D) && shares V D) (D ∷ touched_neither u V X) (touched_neither u V X)
 
 pub record Expandable (expand : ℕ) (P : Prefix) (X : Matrix) (u : ℕ) : Type 0 where
   pub universal : is_universal P u ≡ true
   pub occurs : OccursIn (positive u) X ⊎ OccursIn (negation (positive u)) X
-  pub no_tautology : (D : Clause) → IsIn D X → IsIn (positive u) D → IsIn (negation (positive u)) D → ⊥
+  pub no_tautology : (D : Clause) → IsIn D X → IsIn (positive u) D →
+      IsIn (negation (positive u)) D → ⊥
   pub few : length (expansion_vars P X u) ≤ expand
-  pub small : size_of (touched_neither u (expansion_vars P X u) X) ≤ expand + length (clauses_of u X)
+  pub small :
+      size_of (touched_neither u (expansion_vars P X u) X) ≤ expand + length (clauses_of u X)
 
 -- the least set: inner existentials in a clause with u, or in a clause with one of them
 pub data Spread (P : Prefix) (X : Matrix) (u : ℕ) : ℕ → Type 0 where
-  starts : (D : Clause) → (j k : Literal) → IsIn D X → IsIn j D → j.var ≡ u → IsIn k D → inner_existential P u k.var ≡ true → Spread P X u k.var
-  spreads : {w : ℕ} → (D : Clause) → (j k : Literal) → IsIn D X → IsIn j D → j.var ≡ w → IsIn k D → inner_existential P u k.var ≡ true → Spread P X u w → Spread P X u k.var
+  starts : (D : Clause) → (j k : Literal) → IsIn D X → IsIn j D → j.var ≡ u → IsIn k D →
+      inner_existential P u k.var ≡ true → Spread P X u k.var
+  spreads : {w : ℕ} → (D : Clause) → (j k : Literal) → IsIn D X → IsIn j D → j.var ≡ w → IsIn k D →
+      inner_existential P u k.var ≡ true → Spread P X u w → Spread P X u k.var
 
 abbrev pub no_both : ℕ → Matrix → Bool
 no_both u [] = true

@@ -19,4 +19,5 @@ pub record IsInLimits (m : Limits) (F : PrenexFormula) : Type 0 where
   pub lits : literals_in F.matrix ≤ m.lits
 
 abbrev pub is_in_limits : Limits → PrenexFormula → Bool
-is_in_limits m F = at_most (greatest F.prefix) m.vars && (at_most (length F.matrix) m.clauses && at_most (literals_in F.matrix) m.lits)
+is_in_limits m F = at_most (greatest F.prefix) m.vars &&
+    (at_most (length F.matrix) m.clauses && at_most (literals_in F.matrix) m.lits)

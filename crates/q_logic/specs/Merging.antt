@@ -24,7 +24,8 @@ pub data Joined (X : Matrix) (q : Literal) : Literal → Type 0 where
 
 -- keep or its negation takes the place of gone or its negation
 abbrev pub renamed_literal : Literal → Literal → Literal → Literal
-renamed_literal keep gone k = cond (literal_eq k gone) keep (cond (literal_eq k (negation gone)) (negation keep) k)
+renamed_literal keep gone k =
+    cond (literal_eq k gone) keep (cond (literal_eq k (negation gone)) (negation keep) k)
 
 abbrev pub renamed : Literal → Literal → Clause → Clause
 renamed keep gone [] = []
@@ -32,7 +33,8 @@ renamed keep gone (k ∷ C) = insert (renamed_literal keep gone k) (renamed keep
 
 -- a clause that becomes a tautology goes
 abbrev pub merged_one : Literal → Literal → Clause → Matrix → Matrix
-merged_one keep gone C X = cond (has_variable gone.var C) (put_unless_tautology (renamed keep gone C) X) (C ∷ X)
+merged_one keep gone C X =
+    cond (has_variable gone.var C) (put_unless_tautology (renamed keep gone C) X) (C ∷ X)
 
 abbrev pub merged : Literal → Literal → Matrix → Matrix
 merged keep gone [] = []
@@ -49,7 +51,8 @@ pub record Mergeable (P : Prefix) (X : Matrix) (keep gone : Literal) : Type 0 wh
 abbrev pub pair_from : Clause → Clause → Clause
 pair_from [] L = []
 pair_from (a ∷ []) L = []
-pair_from (a ∷ b ∷ []) L = union (cond (has (negation a) L) (b ∷ []) []) (cond (has (negation b) L) (a ∷ []) [])
+pair_from (a ∷ b ∷ []) L =
+    union (cond (has (negation a) L) (b ∷ []) []) (cond (has (negation b) L) (a ∷ []) [])
 pair_from (a ∷ b ∷ c ∷ C) L = []
 
 abbrev pub join_once : Matrix → Clause → Clause

@@ -16,8 +16,7 @@ use Rattle.q_logic.specs.Merging.{merged, Mergeable}
 use Rattle.q_logic.specs.Covering.{Covers}
 use Rattle.q_logic.specs.Eliminating.{resolvents, clauses_not_of, Eliminable}
 use Rattle.q_logic.specs.Expanding.{expansion_vars, insert_all, expanded, Expandable}
-use Rattle.q_logic.specs.InLimits.{greatest}
-use Rattle.q_logic.specs.InLimits.{IsInLimits}
+use Rattle.q_logic.specs.InLimits.{greatest, IsInLimits}
 use Rattle.q_logic.specs.Limits.{standard}
 use Rattle.q_logic.specs.Sweep.{swept}
 
@@ -30,17 +29,22 @@ Fits B P N (unit c) = (l : Literal) × (slot N c ≡ Some (l ∷ [])) × (is_exi
 -- l is universal and reducible in c
 Fits B P N (cut c l) = (C : Clause) × (slot N c ≡ Some C) × Reducible P (others c N) C l
 -- l occurs, its negation does not
-Fits B P N (pure l) = (is_bound P l.var ≡ true) × OccursIn l (live N) × (OccursIn (negation l) (live N) → ⊥)
+Fits B P N (pure l) = (is_bound P l.var ≡ true) × OccursIn l (live N) ×
+    (OccursIn (negation l) (live N) → ⊥)
 -- each literal of c is in d
-Fits B P N (subsumed c d) = (C : Clause) × (D : Clause) × (c ≢ d) × (slot N c ≡ Some C) × (slot N d ≡ Some D) × IsSubset C D
+Fits B P N (subsumed c d) = (C : Clause) × (D : Clause) × (c ≢ d) × (slot N c ≡ Some C) ×
+    (slot N d ≡ Some D) × IsSubset C D
 -- l is in d, not l in c, and each other literal of c is in d and is not l
-Fits B P N (strengthen c d l) = (C : Clause) × (D : Clause) × (c ≢ d) × (slot N c ≡ Some C) × (slot N d ≡ Some D) × IsIn l D × IsIn (negation l) C
+Fits B P N (strengthen c d l) = (C : Clause) × (D : Clause) × (c ≢ d) × (slot N c ≡ Some C) ×
+    (slot N d ≡ Some D) × IsIn l D × IsIn (negation l) C
     × ((k : Literal) → IsIn k C → k ≢ negation l → IsIn k D × (k ≢ l))
 Fits B P N (merge keep gone) = Mergeable P (live N) keep gone
 -- each clause with not l clashes with c on the existential l
-Fits B P N (blocked c l) = (C : Clause) × (slot N c ≡ Some C) × IsIn l C × (is_existential P l.var ≡ true) × AllClash P (others c N) l C
+Fits B P N (blocked c l) = (C : Clause) × (slot N c ≡ Some C) × IsIn l C ×
+    (is_existential P l.var ≡ true) × AllClash P (others c N) l C
 -- the same for a universal l whose negation is not in c
-Fits B P N (blocked_forall c l) = (C : Clause) × (slot N c ≡ Some C) × IsIn l C × (is_universal P l.var ≡ true) × (IsIn (negation l) C → ⊥) × AllClash P (others c N) l C
+Fits B P N (blocked_forall c l) = (C : Clause) × (slot N c ≡ Some C) × IsIn l C ×
+    (is_universal P l.var ≡ true) × (IsIn (negation l) C → ⊥) × AllClash P (others c N) l C
 -- some growth of c ends
 Fits B P N (cover c) = (C : Clause) × (slot N c ≡ Some C) × Covers P (others c N) C
 Fits B P N (eliminate x) = Eliminable B.grow P (live N) x
@@ -67,7 +71,9 @@ abbrev pub change : Prefix → Slots → Target → PrenexFormula
 change P N (tautology c) = formula_of P (others c N)
 change P N (unit c) = formula_of P (assigned (head_of (slot N c)) (live N))
 change P N (cut c l) = formula_of P (shortened l (slot N c) (others c N))
-change P N (pure l) = formula_of P (cond (is_existential P l.var) (without_literal l (live N)) (each_without l (live N)))
+change P N (pure l) =
+    formula_of P
+    (cond (is_existential P l.var) (without_literal l (live N)) (each_without l (live N)))
 change P N (subsumed c d) = formula_of P (others d N)
 change P N (strengthen c d l) = formula_of P (shortened l (slot N d) (others d N))
 change P N (merge keep gone) = formula_of P (merged keep gone (live N))
@@ -75,7 +81,9 @@ change P N (blocked c l) = formula_of P (others c N)
 change P N (blocked_forall c l) = formula_of P (shortened l (slot N c) (others c N))
 change P N (cover c) = formula_of P (others c N)
 change P N (eliminate x) = formula_of P (clauses_not_of x (live N) ++ resolvents x (live N))
-change P N (expand_universal u) = formula_of (insert_all (expansion_vars P (live N) u) (greatest P + 1) P) (expanded u (expansion_vars P (live N) u) (greatest P + 1) (live N))
+change P N (expand_universal u) =
+    formula_of (insert_all (expansion_vars P (live N) u) (greatest P + 1) P)
+    (expanded u (expansion_vars P (live N) u) (greatest P + 1) (live N))
 
 -- a target applies where its conditions hold and its change, before sweeping, keeps the limits
 pub record Applicable (B : Bounds) (P : Prefix) (N : Slots) (t : Target) : Type 0 where

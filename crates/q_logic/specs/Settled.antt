@@ -8,4 +8,5 @@ use Rattle.q_logic.specs.Sweep.{swept}
 use Rattle.q_logic.specs.Rules.{Applicable}
 
 abbrev pub Settled : Bounds → Prefix → Slots → Type 0
-Settled B P N = (swept (formula_of P (live N)) ≡ formula_of P (live N)) × ((t : Target) → Applicable B P N t → ⊥)
+Settled B P N = (swept (formula_of P (live N)) ≡ formula_of P (live N)) ×
+    ((t : Target) → Applicable B P N t → ⊥)

@@ -24,27 +24,38 @@ ghost use Rattle.q_logic.specs.Deciding.{applicable};
 /// From a formula within the limits, a run leads to the result of each applicable target, and the result
 /// is again a formula within the limits.
 pub fn targets_run()
-    ensures run { (B : Bounds) → (P : Prefix) → (N : Slots) → (t : Target) → IsFormula (formula_of P (live N)) → IsInLimits standard (formula_of P (live N)) → Applicable B P N t → (ss : List ProofStep) × Run (formula_of P (live N)) ss (result_of P N t) }
-    ensures formula { (B : Bounds) → (P : Prefix) → (N : Slots) → (t : Target) → IsFormula (formula_of P (live N)) → IsInLimits standard (formula_of P (live N)) → Applicable B P N t → IsFormula (result_of P N t) × IsInLimits standard (result_of P N t) }
+    ensures run { (B : Bounds) → (P : Prefix) → (N : Slots) → (t : Target) →
+        IsFormula (formula_of P (live N)) → IsInLimits standard (formula_of P (live N)) →
+        Applicable B P N t →
+        (ss : List ProofStep) × Run (formula_of P (live N)) ss (result_of P N t) }
+    ensures formula { (B : Bounds) → (P : Prefix) → (N : Slots) → (t : Target) →
+        IsFormula (formula_of P (live N)) → IsInLimits standard (formula_of P (live N)) →
+        Applicable B P N t → IsFormula (result_of P N t) × IsInLimits standard (result_of P N t) }
 {}
 
 /// Each applicable target lowers the measure, whatever the bounds.
 pub fn targets_lower()
-    ensures { (B : Bounds) → (P : Prefix) → (N : Slots) → (t : Target) → Applicable B P N t → measure_of B (result_of P N t) + 1 ≤ measure_of B (formula_of P (live N)) }
+    ensures { (B : Bounds) → (P : Prefix) → (N : Slots) → (t : Target) → Applicable B P N t →
+        measure_of B (result_of P N t) + 1 ≤ measure_of B (formula_of P (live N)) }
 {}
 
 /// Sweeping is a run, twice is once, and it never raises the measure.
 pub fn sweeping_runs()
-    ensures run { (F : PrenexFormula) → IsFormula F → IsInLimits standard F → (ss : List ProofStep) × Run F ss (swept F) }
+    ensures run { (F : PrenexFormula) → IsFormula F → IsInLimits standard F →
+        (ss : List ProofStep) × Run F ss (swept F) }
     ensures twice { (F : PrenexFormula) → swept (swept F) ≡ swept F }
     ensures measure { (B : Bounds) → (F : PrenexFormula) → measure_of B (swept F) ≤ measure_of B F }
 {}
 
 /// Growing never takes away a possible end or growth of a larger set, so any order of growths decides.
 pub fn growing_keeps()
-    ensures end { (P : Prefix) → (X : Matrix) → (S : Clause) → (T : Clause) → IsSubset S T → Ends P X S → Ends P X T }
-    ensures growth { (P : Prefix) → (X : Matrix) → (S : Clause) → (T : Clause) → (U : Clause) → IsSubset S T → Grows P X S U → IsSubset U T ⊎ (((V : Clause) × Grows P X T V × IsSubset U V) ⊎ Ends P X T) }
-    ensures order { (P : Prefix) → (X : Matrix) → (S : Clause) → (T : Clause) → Grows P X S T → Covers P X S ↔ Covers P X T }
+    ensures end { (P : Prefix) → (X : Matrix) → (S T : Clause) → IsSubset S T →
+        Ends P X S → Ends P X T }
+    ensures growth { (P : Prefix) → (X : Matrix) → (S T U : Clause) →
+        IsSubset S T → Grows P X S U →
+        IsSubset U T ⊎ (((V : Clause) × Grows P X T V × IsSubset U V) ⊎ Ends P X T) }
+    ensures order { (P : Prefix) → (X : Matrix) → (S T : Clause) → Grows P X S T →
+        Covers P X S ↔ Covers P X T }
 {}
 
 /// Over the empty prefix, no clauses and the single empty clause are settled.
@@ -56,6 +67,9 @@ pub fn settled_at_once()
 /// The plain programs decide where a target other than Cover applies, and find the variables that an
 /// expansion copies.
 pub fn plain_programs_decide()
-    ensures targets { (B : Bounds) → (P : Prefix) → (N : Slots) → (t : Target) → ((D : Clause) → IsIn D (live N) → ArePairs IsBelow D) → ((c : ℕ) → t ≢ cover c) → (applicable B P N t ≡ true) ↔ Applicable B P N t }
-    ensures copies { (P : Prefix) → (X : Matrix) → (u : ℕ) → (v : ℕ) → (in_list v (expansion_vars P X u) ≡ true) ↔ Spread P X u v }
+    ensures targets { (B : Bounds) → (P : Prefix) → (N : Slots) → (t : Target) →
+        ((D : Clause) → IsIn D (live N) → ArePairs IsBelow D) → ((c : ℕ) → t ≢ cover c) →
+        (applicable B P N t ≡ true) ↔ Applicable B P N t }
+    ensures copies { (P : Prefix) → (X : Matrix) → (u v : ℕ) →
+        (in_list v (expansion_vars P X u) ≡ true) ↔ Spread P X u v }
 {}
