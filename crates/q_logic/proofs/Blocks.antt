@@ -10,11 +10,11 @@ use Rattle.q_logic.specs.Runs.{copies, SameFormula}
 use Rattle.q_logic.proofs.Clauses.{literal_eq-itself}
 use Rattle.q_logic.proofs.Runs.{clause_eq-sound}
 
-abbrev among : ℕ → List ℕ → Bool
+abbrev pub among : ℕ → List ℕ → Bool
 among x [] = false
 among x (v ∷ vs) = cond (eqb v x) true (among x vs)
 
-among-IsIn : (x : ℕ) (vs : List ℕ) → among x vs ≡ true → IsIn x vs
+pub among-IsIn : (x : ℕ) (vs : List ℕ) → among x vs ≡ true → IsIn x vs
 among-IsIn x [] h = grind arith
 among-IsIn x (v ∷ vs) h = go (eqb v x) refl (among-IsIn x vs)
   where
@@ -42,7 +42,7 @@ abbrev block_e : List Block → ℕ → Bool
 block_e [] x = false
 block_e (B ∷ Bs) x = cond (among x B.vars) (is_exists B.quant) (block_e Bs x)
 
-abbrev block_bound : List Block → ℕ → Bool
+abbrev pub block_bound : List Block → ℕ → Bool
 block_bound [] x = false
 block_bound (B ∷ Bs) x = cond (among x B.vars) true (block_bound Bs x)
 
@@ -73,7 +73,7 @@ blocks-e [] x = refl
 blocks-e (b ∷ P) x =
     ap (λ r. cond (eqb b.var x) (is_exists b.quant) r) (blocks-e P x) ∙ sym (push-e b (blocks P) x)
 
-blocks-is_bound : (P : Prefix) (x : ℕ) → is_bound P x ≡ block_bound (blocks P) x
+pub blocks-is_bound : (P : Prefix) (x : ℕ) → is_bound P x ≡ block_bound (blocks P) x
 blocks-is_bound [] x = refl
 blocks-is_bound (b ∷ P) x =
     ap (λ r. cond (eqb b.var x) true r) (blocks-is_bound P x) ∙ sym (push-is_bound b (blocks P) x)
@@ -108,7 +108,7 @@ same-e (B ∷ Bs) (C ∷ Cs) x s =
     let i : block_e Bs x ≡ block_e Cs x = same-e Bs Cs x s.2 in let q : B.quant ≡ C.quant = s.0 in
     grind arith
 
-same-is_bound : (Bs Cs : List Block) (x : ℕ) → SameBlocks Bs Cs → block_bound Bs x ≡ block_bound Cs x
+pub same-is_bound : (Bs Cs : List Block) (x : ℕ) → SameBlocks Bs Cs → block_bound Bs x ≡ block_bound Cs x
 same-is_bound [] [] x s = refl
 same-is_bound [] (C ∷ Cs) x s = elim s [ ]
 same-is_bound (B ∷ Bs) [] x s = elim s [ ]

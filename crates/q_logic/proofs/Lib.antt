@@ -55,3 +55,4 @@ pub mod JoinedDecided
 pub mod CutDecided
 pub mod AllDecided
 pub mod RuleRows
+pub mod Repeated

@@ -55,7 +55,7 @@ pub fn reducible_by_variable()
 /// Formulas with equal blocks and equal collections of clauses have one truth value and the same
 /// Skolem functions.
 pub fn same_formulas()
-    ensures truth { (F G : PrenexFormula) → IsFormula F → IsFormula G → SameFormula F G → Holds F ↔ Holds G }
+    ensures truth { (F G : PrenexFormula) → IsFormula F → SameFormula F G → Holds F ↔ Holds G }
     ensures skolem { (F G : PrenexFormula) → (c : Strategy) → SameFormula F G → SkolemOf F c ↔ SkolemOf G c }
 {}
 
@@ -72,7 +72,7 @@ pub fn runs_keep_truth()
     ensures steps { (m : Limits) → (F E : PrenexFormula) → (ss : List ProofStep) →
         IsFormula F → ValidSteps m F ss E → Holds F ↔ Holds E }
     ensures run { (F G : PrenexFormula) → (ss : List ProofStep) →
-        IsFormula F → IsFormula G → Run F ss G → Holds F ↔ Holds G }
+        IsFormula F → Run F ss G → Holds F ↔ Holds G }
 {}
 
 /// Circuits of the end of a run, taken back over its undo list, are circuits of its beginning: Skolem
