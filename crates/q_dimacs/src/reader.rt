@@ -1,5 +1,6 @@
-ghost use Rattle.std.specs.Prelude.{◌≡◌, ℕ, ◌<◌, ◌^◌, List, [], ◌++◌, Some, Err, IfOk, OnOk, IfErr};
+ghost use Rattle.std.specs.Prelude.{◌≡◌, ℕ, ◌<◌, ◌≤◌, length, ◌^◌, List, [], ◌++◌, Some, Err, IfOk, OnOk, IfErr};
 ghost use Rattle.q_logic.specs.declared.limits.Limits.{Limits};
+ghost use Rattle.q_logic.specs.Parts.{IsProper};
 ghost use Rattle.q_logic.specs.Limits.{AreModerate};
 ghost use Rattle.q_dimacs.specs.Scanning.{Feeds, Answers, HasRead, byte_step, fed, outcome, start, token_step};
 ghost use Rattle.q_dimacs.specs.Dimacs.{Dimacs};
@@ -63,6 +64,9 @@ impl Reader {
         ensures read { OnOk result ((limits : Limits) → (bytes : List ℕ) → HasRead limits bytes self.old → HasRead limits (bytes ++ piece.now) self.new) }
         ensures refused { (limits : Limits) → (bytes : List ℕ) → (rest : List ℕ) → (line : ℕ) → (cause : ℕ) → HasRead limits bytes self.old → result ≡ Err (ReadError.Refused line cause) → Offence limits (bytes ++ (piece.now ++ rest)) line cause }
 
+        // It has not passed the limit on bytes.
+        ensures within { OnOk result ((limits : Limits) → (bytes : List ℕ) → HasRead limits bytes self.old → length (bytes ++ piece.now) ≤ limits.bytes) }
+
         // What has stopped the reader stops it for good.
         ensures stopped { IfErr result (λ e. self.new.standing ≡ Standing.Stopped e) }
         ensures lasting_answer { (e : ReadError) → self.old.standing ≡ Standing.Stopped e → result ≡ Err e }
@@ -75,6 +79,7 @@ impl Reader {
     pub fn finish(self) -> Result<Formula, ReadError>
         ensures formula { IfOk result (λ f. (limits : Limits) → (bytes : List ℕ) → HasRead limits bytes self → Dimacs limits bytes f) }
         ensures refused { (limits : Limits) → (bytes : List ℕ) → (line : ℕ) → (cause : ℕ) → HasRead limits bytes self → result ≡ Err (ReadError.Refused line cause) → Offence limits bytes line cause }
+        ensures proper { IfOk result IsProper }
         ensures lasting { (e : ReadError) → self.standing ≡ Standing.Stopped e → result ≡ Err e }
     {
         self.formula()
@@ -152,6 +157,7 @@ impl Reader {
 
     fn formula(self) -> Result<Formula, ReadError>
         ensures exact { Answers result (outcome self) }
+        ensures proper { IfOk result IsProper }
         ensures lasting { (e : ReadError) → self.standing ≡ Standing.Stopped e → result ≡ Err e }
     {
         match self.standing {
@@ -162,7 +168,8 @@ impl Reader {
 
     fn close(self) -> Result<Formula, ReadError>
         requires { self.standing ≡ Standing.Reading }
-        ensures { Answers result (outcome self) }
+        ensures exact { Answers result (outcome self) }
+        ensures proper { IfOk result IsProper }
     {
         let Reader {
             alloc,
@@ -185,6 +192,7 @@ pub fn read(alloc: Global, limits: Limits, bytes: &[u8]) -> Result<Formula, Read
     requires { AreModerate limits }
     ensures formula { IfOk result (λ f. Dimacs limits bytes.now f) }
     ensures refused { (line : ℕ) → (cause : ℕ) → result ≡ Err (ReadError.Refused line cause) → Offence limits bytes.now line cause }
+    ensures proper { IfOk result IsProper }
 {
     let mut reader = Reader::new(alloc, limits)?;
     match reader.feed(bytes) {
@@ -204,7 +212,8 @@ fn formula_with(
     requires small { builder.vars < 2 ^ 31 }
     requires bounded { limits.vars < 2 ^ 31 }
     requires settled { IsSettled builder.place builder.parts.pending }
-    ensures { Answers result (closed_with limits builder token line) }
+    ensures exact { Answers result (closed_with limits builder token line) }
+    ensures proper { IfOk result IsProper }
 {
     let mut builder = builder;
     match builder.step(limits, token.kind) {
@@ -219,7 +228,8 @@ fn formula_with(
 
 fn formula_of(alloc: Global, builder: Builder, line: u64) -> Result<Formula, ReadError>
     requires { IsSettled builder.place builder.parts.pending }
-    ensures { Answers result (at_end line builder (end_of builder)) }
+    ensures exact { Answers result (at_end line builder (end_of builder)) }
+    ensures proper { IfOk result IsProper }
 {
     if let Some(cause) = builder.end() {
         return Err(ReadError::Refused { line, cause });
