@@ -38,9 +38,9 @@ among-same x vs ws e = go (among x vs) refl (among x ws) refl
     go false p true q =
         let z : among x vs ≡ true = IsIn-among x vs (e.1 (among-IsIn x ws q)) in absurd (grind arith)
 
-abbrev block_e : List Block → ℕ → Bool
-block_e [] x = false
-block_e (B ∷ Bs) x = cond (among x B.vars) (is_exists B.quant) (block_e Bs x)
+abbrev block_existential : List Block → ℕ → Bool
+block_existential [] x = false
+block_existential (B ∷ Bs) x = cond (among x B.vars) (is_exists B.quant) (block_existential Bs x)
 
 abbrev pub block_bound : List Block → ℕ → Bool
 block_bound [] x = false
@@ -52,26 +52,26 @@ block_before (B ∷ Bs) u x =
     cond (among x B.vars) false (cond (among u B.vars) (not (is_exists B.quant) && block_bound Bs x)
     (block_before Bs u x))
 
-push-e : (b : Bound) (Bs : List Block) (x : ℕ) → block_e (push_block b Bs) x ≡
-    cond (eqb b.var x) (is_exists b.quant) (block_e Bs x)
-push-e b [] x = grind arith
-push-e b (B ∷ Bs) x = grind arith
+push-existential : (b : Bound) (Bs : List Block) (x : ℕ) → block_existential (push_block b Bs) x ≡
+    cond (eqb b.var x) (is_exists b.quant) (block_existential Bs x)
+push-existential b [] x = grind arith
+push-existential b (B ∷ Bs) x = grind arith
 
 push-is_bound : (b : Bound) (Bs : List Block) (x : ℕ) →
     block_bound (push_block b Bs) x ≡ cond (eqb b.var x) true (block_bound Bs x)
 push-is_bound b [] x = grind arith
 push-is_bound b (B ∷ Bs) x = grind arith
 
-push-before : (b : Bound) (Bs : List Block) (u x : ℕ) → block_e (push_block b Bs) x ≡ true →
+push-before : (b : Bound) (Bs : List Block) (u x : ℕ) → block_existential (push_block b Bs) x ≡ true →
     block_before (push_block b Bs) u x ≡ cond (eqb b.var x) false
     (cond (eqb b.var u) (not (is_exists b.quant) && block_bound Bs x) (block_before Bs u x))
 push-before b [] u x e = grind arith
 push-before b (B ∷ Bs) u x e = grind arith
 
-blocks-e : (P : Prefix) (x : ℕ) → is_existential P x ≡ block_e (blocks P) x
-blocks-e [] x = refl
-blocks-e (b ∷ P) x =
-    ap (λ r. cond (eqb b.var x) (is_exists b.quant) r) (blocks-e P x) ∙ sym (push-e b (blocks P) x)
+blocks-existential : (P : Prefix) (x : ℕ) → is_existential P x ≡ block_existential (blocks P) x
+blocks-existential [] x = refl
+blocks-existential (b ∷ P) x =
+    ap (λ r. cond (eqb b.var x) (is_exists b.quant) r) (blocks-existential P x) ∙ sym (push-existential b (blocks P) x)
 
 pub blocks-is_bound : (P : Prefix) (x : ℕ) → is_bound P x ≡ block_bound (blocks P) x
 blocks-is_bound [] x = refl
@@ -82,7 +82,7 @@ blocks-before : (P : Prefix) (u x : ℕ) → is_existential P x ≡ true →
     universal_before P u x ≡ block_before (blocks P) u x
 blocks-before [] u x e = refl
 blocks-before (b ∷ P) u x e =
-    let f : block_e (push_block b (blocks P)) x ≡ true = sym (blocks-e (b ∷ P) x) ∙ e in
+    let f : block_existential (push_block b (blocks P)) x ≡ true = sym (blocks-existential (b ∷ P) x) ∙ e in
     let h : block_before (push_block b (blocks P)) u x ≡
     cond (eqb b.var x) false (cond (eqb b.var u) (not (is_exists b.quant) && block_bound (blocks P) x)
     (block_before (blocks P) u x)) = push-before b (blocks P) u x f in
@@ -99,13 +99,13 @@ blocks-before (b ∷ P) u x e =
     go false q ih g =
         let i : universal_before P u x ≡ block_before (blocks P) u x = ih (grind arith) in rw (i, g) refl
 
-same-e : (Bs Cs : List Block) (x : ℕ) → SameBlocks Bs Cs → block_e Bs x ≡ block_e Cs x
-same-e [] [] x s = refl
-same-e [] (C ∷ Cs) x s = elim s [ ]
-same-e (B ∷ Bs) [] x s = elim s [ ]
-same-e (B ∷ Bs) (C ∷ Cs) x s =
+same-existential : (Bs Cs : List Block) (x : ℕ) → SameBlocks Bs Cs → block_existential Bs x ≡ block_existential Cs x
+same-existential [] [] x s = refl
+same-existential [] (C ∷ Cs) x s = elim s [ ]
+same-existential (B ∷ Bs) [] x s = elim s [ ]
+same-existential (B ∷ Bs) (C ∷ Cs) x s =
     let a : among x B.vars ≡ among x C.vars = among-same x B.vars C.vars (s.1 x) in
-    let i : block_e Bs x ≡ block_e Cs x = same-e Bs Cs x s.2 in let q : B.quant ≡ C.quant = s.0 in
+    let i : block_existential Bs x ≡ block_existential Cs x = same-existential Bs Cs x s.2 in let q : B.quant ≡ C.quant = s.0 in
     grind arith
 
 pub same-is_bound : (Bs Cs : List Block) (x : ℕ) → SameBlocks Bs Cs → block_bound Bs x ≡ block_bound Cs x
@@ -164,8 +164,8 @@ lawful-same F G c s sk =
   where
     e : (x : ℕ) → is_existential F.prefix x ≡ is_existential G.prefix x
     e x =
-        blocks-e F.prefix x ∙ (same-e (blocks F.prefix) (blocks G.prefix) x s.same_blocks ∙
-        sym (blocks-e G.prefix x))
+        blocks-existential F.prefix x ∙ (same-existential (blocks F.prefix) (blocks G.prefix) x s.same_blocks ∙
+        sym (blocks-existential G.prefix x))
 
     before : (x u : ℕ) → is_existential F.prefix x ≡ true →
         universal_before F.prefix u x ≡ universal_before G.prefix u x

@@ -46,9 +46,9 @@ IsIn-outer P m (j ∷ D) k h = go (keeps P m j) refl h (IsIn-outer P m D k)
     go false e r ih = (inr (ih r).0, (ih r).1)
 
 -- The trees of literals, clauses and lists of clauses.
-pub value_of-lit_tree : (c : Strategy) (A : Assignment) (k : Literal) →
+pub value_of-literal_circuit : (c : Strategy) (A : Assignment) (k : Literal) →
     value_of (literal_circuit c k) A ≡ signed k.negative (outcome c A k.var)
-value_of-lit_tree c A k = go k.negative
+value_of-literal_circuit c A k = go k.negative
   where
     go : (n : Bool) → value_of (cond n (Circuit.inverter (circuit_of c k.var)) (circuit_of c k.var)) A ≡
         signed n (outcome c A k.var)
@@ -63,7 +63,7 @@ some_of-true c A (k ∷ O) h =
   where
     go : (a : Bool) → value_of (literal_circuit c k) A ≡ a → (b : Bool) → value_of (some_of c O) A ≡ b →
         (value_of (some_of c O) A ≡ true → ClauseTrue (outcome c A) O) → ClauseTrue (outcome c A) (k ∷ O)
-    go true e b eb ih = (k, inl refl, sym (value_of-lit_tree c A k) ∙ e)
+    go true e b eb ih = (k, inl refl, sym (value_of-literal_circuit c A k) ∙ e)
     go false e true eb ih = let r : ClauseTrue (outcome c A) O = ih eb in (r.0, inr r.1, r.2)
     go false e false eb ih = grind arith
 
@@ -71,7 +71,7 @@ pub some_of-false : (c : Strategy) (A : Assignment) (O : Clause) → value_of (s
     ClauseTrue (outcome c A) O → ⊥
 some_of-false c A [] h t = elim t.1 [ ]
 some_of-false c A (k ∷ O) h (j, inl e, t) =
-    let s : value_of (literal_circuit c k) A ≡ true = value_of-lit_tree c A k ∙
+    let s : value_of (literal_circuit c k) A ≡ true = value_of-literal_circuit c A k ∙
     subst (LiteralTrue (outcome c A)) e t in grind arith
 some_of-false c A (k ∷ O) h (j, inr m, t) = some_of-false c A O (grind arith) (j, m, t)
 
@@ -96,9 +96,9 @@ all_of-false c A (N ∷ Os) h = go (value_of (some_of c N) A) refl (all_of-false
         (r.0, inr r.1, r.2)
 
 -- What these trees read.
-pub Reads-lit_tree : (c : Strategy) (k : Literal) (u : ℕ) → Reads (literal_circuit c k) u →
+pub Reads-literal_circuit : (c : Strategy) (k : Literal) (u : ℕ) → Reads (literal_circuit c k) u →
     Reads (circuit_of c k.var) u
-Reads-lit_tree c k u h = go k.negative h
+Reads-literal_circuit c k u h = go k.negative h
   where
     go : (n : Bool) → Reads (cond n (Circuit.inverter (circuit_of c k.var)) (circuit_of c k.var)) u →
         Reads (circuit_of c k.var) u
@@ -108,7 +108,7 @@ Reads-lit_tree c k u h = go k.negative h
 pub Reads-some_of : (c : Strategy) (O : Clause) (u : ℕ) → Reads (some_of c O) u →
     (k : Literal) × IsIn k O × Reads (circuit_of c k.var) u
 Reads-some_of c [] u h = elim h [ ]
-Reads-some_of c (k ∷ O) u (inl r) = (k, inl refl, Reads-lit_tree c k u r)
+Reads-some_of c (k ∷ O) u (inl r) = (k, inl refl, Reads-literal_circuit c k u r)
 Reads-some_of c (k ∷ O) u (inr r) =
     let s : (k : Literal) × IsIn k O × Reads (circuit_of c k.var) u = Reads-some_of c O u r in
     (s.0, inr s.1, s.2)
@@ -124,8 +124,8 @@ Reads-all_of c (O ∷ Os) u (inr r) =
     Reads-all_of c Os u r in (s.0, inr s.1, s.2, s.3, s.4)
 
 -- A variable without a tree is an input.
-pub tree_of-none : (c : Strategy) (x : ℕ) → given (c x) ≡ false → circuit_of c x ≡ Circuit.input x
-tree_of-none c x = go (c x)
+pub circuit_of-none : (c : Strategy) (x : ℕ) → given (c x) ≡ false → circuit_of c x ≡ Circuit.input x
+circuit_of-none c x = go (c x)
   where
     go : (o : Option Circuit) → given o ≡ false → or_input x o ≡ Circuit.input x
     go None h = refl

@@ -72,14 +72,14 @@ is-all_in : (C D : Clause) → IsSubset C D → all_in C D ≡ true
 is-all_in [] D w = refl
 is-all_in (j ∷ C) D w = and-both (has j D) (all_in C D) (IsIn-has j D (w j (inl refl))) (is-all_in C D (λ k m. w k (inr m)))
 
-occurs_lit-is : (l : Literal) (X : Matrix) → literal_occurs l X ≡ true → OccursIn l X
-occurs_lit-is l [] h = grind arith
-occurs_lit-is l (D ∷ X) h = elim (or-parts (has l D) (literal_occurs l X) h) [ inl a ↦ (D, inl refl, has-IsIn l D a) | inr b ↦ let r : OccursIn l X = occurs_lit-is l X b in (r.0, inr r.1, r.2) ]
+occurs_literal-is : (l : Literal) (X : Matrix) → literal_occurs l X ≡ true → OccursIn l X
+occurs_literal-is l [] h = grind arith
+occurs_literal-is l (D ∷ X) h = elim (or-parts (has l D) (literal_occurs l X) h) [ inl a ↦ (D, inl refl, has-IsIn l D a) | inr b ↦ let r : OccursIn l X = occurs_literal-is l X b in (r.0, inr r.1, r.2) ]
 
-is-occurs_lit : (l : Literal) (X : Matrix) → OccursIn l X → literal_occurs l X ≡ true
-is-occurs_lit l [] o = elim o.1 [ ]
-is-occurs_lit l (E ∷ X) (D, inl e, i) = or-either (has l E) (literal_occurs l X) (inl (IsIn-has l E (subst (IsIn l) e i)))
-is-occurs_lit l (E ∷ X) (D, inr m, i) = or-either (has l E) (literal_occurs l X) (inr (is-occurs_lit l X (D, m, i)))
+is-occurs_literal : (l : Literal) (X : Matrix) → OccursIn l X → literal_occurs l X ≡ true
+is-occurs_literal l [] o = elim o.1 [ ]
+is-occurs_literal l (E ∷ X) (D, inl e, i) = or-either (has l E) (literal_occurs l X) (inl (IsIn-has l E (subst (IsIn l) e i)))
+is-occurs_literal l (E ∷ X) (D, inr m, i) = or-either (has l E) (literal_occurs l X) (inr (is-occurs_literal l X (D, m, i)))
 
 pub negated_in-is : (O S : Clause) → negated_in O S ≡ true → (k : Literal) × IsIn k O × IsIn (negation k) S
 negated_in-is [] S h = grind arith
@@ -149,8 +149,8 @@ pub decided-pure : (B : Bounds) (P : Prefix) (N : Slots) (l : Literal) → (fits
 decided-pure B P N l = (
   (λ h. let r : (is_bound P l.var ≡ true) × ((literal_occurs l (live N) && not (literal_occurs (negation l) (live N))) ≡ true) = and-parts (is_bound P l.var) (literal_occurs l (live N) && not (literal_occurs (negation l) (live N))) h in
       let s : (literal_occurs l (live N) ≡ true) × (not (literal_occurs (negation l) (live N)) ≡ true) = and-parts (literal_occurs l (live N)) (not (literal_occurs (negation l) (live N))) r.1 in
-      (r.0, occurs_lit-is l (live N) s.0, λ o. not-parts (literal_occurs (negation l) (live N)) s.1 (is-occurs_lit (negation l) (live N) o))),
-  λ h. and-both (is_bound P l.var) (literal_occurs l (live N) && not (literal_occurs (negation l) (live N))) h.0 (and-both (literal_occurs l (live N)) (not (literal_occurs (negation l) (live N))) (is-occurs_lit l (live N) h.1) (not-both (literal_occurs (negation l) (live N)) (λ o. h.2 (occurs_lit-is (negation l) (live N) o)))),
+      (r.0, occurs_literal-is l (live N) s.0, λ o. not-parts (literal_occurs (negation l) (live N)) s.1 (is-occurs_literal (negation l) (live N) o))),
+  λ h. and-both (is_bound P l.var) (literal_occurs l (live N) && not (literal_occurs (negation l) (live N))) h.0 (and-both (literal_occurs l (live N)) (not (literal_occurs (negation l) (live N))) (is-occurs_literal l (live N) h.1) (not-both (literal_occurs (negation l) (live N)) (λ o. h.2 (occurs_literal-is (negation l) (live N) o)))),
 )
 
 pub decided-subsumed : (B : Bounds) (P : Prefix) (N : Slots) (c d : ℕ) → (fits B P N (subsumed c d) ≡ true) ↔ Fits B P N (subsumed c d)

@@ -20,7 +20,7 @@ use Rattle.q_logic.proofs.UniversalPivot.{IsIn-without, without-IsIn}
 use Rattle.q_logic.proofs.Reaching.{alike-sym, copies-append, reaches-alike, reaches-append}
 use Rattle.q_logic.proofs.Implying.{implied-subsumed, implied-tautology, implied-hidden, same_or_not}
 use Rattle.q_logic.proofs.Building.{deletes, adds, least, IsIn-right, reaches-deletes, reaches-adds}
-use Rattle.q_logic.proofs.Slots.{with-alike, IsIn-with, IsIn-without_lit, IsIn-in_with, without_lit-swap}
+use Rattle.q_logic.proofs.Slots.{with-alike, IsIn-with, IsIn-without_literal, IsIn-in_with, without_literal-swap}
 use Rattle.q_logic.proofs.Sets.{union-IsIn, IsIn-union, IsIn-outer_in, without-other, IsIn-put_unless, put_unless-IsIn, put_unless-more}
 use Rattle.q_logic.proofs.PlainRuns.{pure-pivot}
 
@@ -154,8 +154,8 @@ eliminated_from P X V m closed new q o r no_tautology twice v = (
       (reaches-alike P (A ++ (B ++ (R ++ V))) (V ++ X) (deletes (λ C. Some m) A ++ deletes (λ C. Some (negation m)) B) (formula_of P (R ++ V)) (alike-sym (V ++ X) (A ++ (B ++ (R ++ V))) (parted m X V))
       (eliminated P X V A B R m q o r
       (λ D i. IsIn-with m X D i)
-      (λ D i. ((IsIn-without_lit m X D (IsIn-with (negation m) (without_literal m X) D i).0).0, (IsIn-with (negation m) (without_literal m X) D i).1, λ k. (IsIn-without_lit m X D (IsIn-with (negation m) (without_literal m X) D i).0).1 (subst (λ y. IsIn y D) twice k)))
-      (λ D i. ((IsIn-without_lit m X D (IsIn-without_lit (negation m) (without_literal m X) D i).0).0, λ k. (IsIn-without_lit m X D (IsIn-without_lit (negation m) (without_literal m X) D i).0).1 (subst (λ y. IsIn y D) twice k)))
+      (λ D i. ((IsIn-without_literal m X D (IsIn-with (negation m) (without_literal m X) D i).0).0, (IsIn-with (negation m) (without_literal m X) D i).1, λ k. (IsIn-without_literal m X D (IsIn-with (negation m) (without_literal m X) D i).0).1 (subst (λ y. IsIn y D) twice k)))
+      (λ D i. ((IsIn-without_literal m X D (IsIn-without_literal (negation m) (without_literal m X) D i).0).0, λ k. (IsIn-without_literal m X D (IsIn-without_literal (negation m) (without_literal m X) D i).0).1 (subst (λ y. IsIn y D) twice k)))
       (λ D i k. v D i (subst (λ y. IsIn y D) twice k)))),
   modest-append (weight one V) (weight length V) (0 + 0) (0 + 0) (adds least V) (deletes (λ C. Some m) A ++ deletes (λ C. Some (negation m)) B) (modest-adds least V)
       (modest-append 0 0 0 0 (deletes (λ C. Some m) A) (deletes (λ C. Some (negation m)) B) (modest-deletes (λ C. Some m) A) (modest-deletes (λ C. Some (negation m)) B)),
@@ -216,7 +216,7 @@ eliminate_on grow P X x closed h = elim h.outer_side [ inl o ↦ first o | inr o
     resolved C D a b c d = resolve_all-in p (with_literal p X) (with_literal n X) C D (IsIn-in_with p X C a b) (IsIn-in_with n X D c d)
 
     first : AllOuter P p X → Way (weight one (resolvents x X) + (0 + 0)) (weight length (resolvents x X) + (0 + 0)) (formula_of P X) (formula_of P (clauses_not_of x X ++ resolvents x X))
-    first o = subst (λ R. Way (weight one V + (0 + 0)) (weight length V + (0 + 0)) (formula_of P X) (formula_of P (R ++ V))) (without_lit-swap p n X)
+    first o = subst (λ R. Way (weight one V + (0 + 0)) (weight length V + (0 + 0)) (formula_of P X) (formula_of P (R ++ V))) (without_literal-swap p n X)
         (eliminated_from P X V n closed new h.existential o
         (record { resolvent_of = λ C D a b c d. (resolvent p D C, resolved D C c d a b, λ k i. elim (union-IsIn (without p D) (without n C) k i) [ inl y ↦ inr (without-IsIn p D k y, without-other p D k y) | inr z ↦ inl (without-IsIn n C k z) ]); free = λ D m. (free D m).0 })
         (λ D m i j. both D m j i) refl (λ D m. (free D m).1))

@@ -14,7 +14,7 @@ use Rattle.q_logic.specs.InLimits.{greatest, IsInLimits}
 use Rattle.q_logic.specs.Limits.{standard}
 use Rattle.q_logic.specs.Rules.{Fits, change}
 use Rattle.q_logic.proofs.Reaching.{Reaches}
-use Rattle.q_logic.proofs.Order.{bound_of_e, universal-not_existential}
+use Rattle.q_logic.proofs.Order.{existential-is_bound, universal-not_existential}
 use Rattle.q_logic.proofs.Reaching.{reaches-append}
 use Rattle.q_logic.proofs.Slots.{has-IsIn}
 use Rattle.q_logic.proofs.Ordering.{is_bound-greatest}
@@ -184,15 +184,15 @@ touched_with-of v u V (E ∷ X) D (inr m) h t = let i : touched_with v u V X ≡
     go true i = refl
     go false i = i
 
-pub has_var-of_Mem : (D : Clause) (k : Literal) → IsIn k D → has_variable k.var D ≡ true
-has_var-of_Mem [] k m = elim m [ ]
-has_var-of_Mem (j ∷ D) k (inl e) = let z : k.var ≡ j.var = ap (λ y. y.var) e in grind arith
-has_var-of_Mem (j ∷ D) k (inr m) = let i : has_variable k.var D ≡ true = has_var-of_Mem D k m in grind arith
+pub has_variable-IsIn : (D : Clause) (k : Literal) → IsIn k D → has_variable k.var D ≡ true
+has_variable-IsIn [] k m = elim m [ ]
+has_variable-IsIn (j ∷ D) k (inl e) = let z : k.var ≡ j.var = ap (λ y. y.var) e in grind arith
+has_variable-IsIn (j ∷ D) k (inr m) = let i : has_variable k.var D ≡ true = has_variable-IsIn D k m in grind arith
 
 -- The computed list is closed.
 pub expansion_vars-closed : (P : Prefix) (X : Matrix) (u : ℕ) (D : Clause) → IsIn D X → touches u (expansion_vars P X u) D ≡ true → (k : Literal) → IsIn k D → is_bound P k.var ≡ true → inner_existential P u k.var ≡ true → in_list k.var (expansion_vars P X u) ≡ true
 expansion_vars-closed P X u D m t k i b h = subst (λ V. in_list k.var V ≡ true) (expansion_vars-fixed P X u)
-    (next-in P P X u (expansion_vars P X u) k.var b h (touched_with-of k.var u (expansion_vars P X u) X D m (has_var-of_Mem D k i) t))
+    (next-in P P X u (expansion_vars P X u) k.var b h (touched_with-of k.var u (expansion_vars P X u) X D m (has_variable-IsIn D k i) t))
 
 pub expansion_vars-inner : (P : Prefix) (X : Matrix) (u v : ℕ) → in_list v (expansion_vars P X u) ≡ true → inner_existential P u v ≡ true
 expansion_vars-inner P X u v h = (next-inner P P X u (expansion_vars P X u) v (subst (λ V. in_list v V ≡ true) (sym (expansion_vars-fixed P X u)) h)).0
@@ -254,7 +254,7 @@ originals-of P u t W [] e a q b h o = tt
 originals-of P u t W (x ∷ V) e a q b h o = (
   (
     inserted-is_existential W t P e a x l ∙ r.0,
-    inserted-outer W t P e a u x (below P t u a b) l ∙ outer_or_same-inner P x u (bound_of_e P x r.0) b r.1,
+    inserted-outer W t P e a u x (below P t u a b) l ∙ outer_or_same-inner P x u (existential-is_bound P x r.0) b r.1,
     l,
     differ (eqb x u) refl,
     o.0,
@@ -266,7 +266,7 @@ originals-of P u t W (x ∷ V) e a q b h o = (
     r = inner-parts P u x h.0
 
     l : x < t
-    l = below P t x a (bound_of_e P x (inner-parts P u x h.0).0)
+    l = below P t x a (existential-is_bound P x (inner-parts P u x h.0).0)
 
     differ : (c : Bool) → eqb x u ≡ c → eqb x u ≡ false
     differ true z = let y : u ≡ x = grind arith in let w : is_universal P x ≡ true = subst (λ v. is_universal P v ≡ true) y q in let n : is_existential P x ≡ false = universal-not_existential P x w in let m : is_existential P x ≡ true = (inner-parts P u x h.0).0 in grind arith
@@ -312,8 +312,8 @@ expand_on expand P X u d closed h =
     under D m k i = below P (greatest P + 1) k.var a (closed D m k i)
 
     touched : (D : Clause) → (has (positive u) D ≡ true) ⊎ ((has (minus u) D ≡ true) ⊎ (shares (expansion_vars P X u) D ≡ true)) → touches u (expansion_vars P X u) D ≡ true
-    touched D (inl p) = let z : has_variable u D ≡ true = has_var-of_Mem D (positive u) (has-IsIn (positive u) D p) in rw z refl
-    touched D (inr (inl p)) = let z : has_variable u D ≡ true = has_var-of_Mem D (minus u) (has-IsIn (minus u) D p) in rw z refl
+    touched D (inl p) = let z : has_variable u D ≡ true = has_variable-IsIn D (positive u) (has-IsIn (positive u) D p) in rw z refl
+    touched D (inr (inl p)) = let z : has_variable u D ≡ true = has_variable-IsIn D (minus u) (has-IsIn (minus u) D p) in rw z refl
     touched D (inr (inr p)) = go (has_variable u D)
       where
         go : (b : Bool) → (b || shares (expansion_vars P X u) D) ≡ true

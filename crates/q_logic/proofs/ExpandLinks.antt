@@ -12,7 +12,7 @@ use Rattle.q_logic.specs.Numbered.{formula_of}
 use Rattle.q_logic.specs.Expanding.{in_list, copied_literal, copied}
 use Rattle.q_logic.proofs.Reaching.{SameClauses, Reaches}
 use Rattle.q_logic.proofs.Clauses.{literal_eq-sound, IsIn-append_left, IsIn-append}
-use Rattle.q_logic.proofs.Order.{bound_of_e}
+use Rattle.q_logic.proofs.Order.{existential-is_bound}
 use Rattle.q_logic.proofs.UniversalPivot.{IsIn-without}
 use Rattle.q_logic.proofs.Reaching.{alike-refl, alike-trans, alike-cons, alike-swap, reaches-end}
 use Rattle.q_logic.proofs.Implying.{implied-subsumed, implied-tautology, implied-hidden_new, implied-longer}
@@ -161,10 +161,10 @@ reaches-links Q u (x ∷ V) t Z ub ul c o v = (
     L2 = link u (lit t true) (lit x false)
 
     copy_bound : is_bound Q t ≡ true
-    copy_bound = bound_of_e Q t c.0.0
+    copy_bound = existential-is_bound Q t c.0.0
 
     original_bound : is_bound Q x ≡ true
-    original_bound = bound_of_e Q x o.0.0
+    original_bound = existential-is_bound Q x o.0.0
 
     turned : SameClauses (links u V (t + 1) ++ (link u (lit t true) (lit x false) ∷ link u (lit t false) (lit x true) ∷ Z)) (link u (lit t false) (lit x true) ∷ link u (lit t true) (lit x false) ∷ (links u V (t + 1) ++ Z))
     turned = alike-trans (links u V (t + 1) ++ (L2 ∷ L1 ∷ Z)) (L2 ∷ (links u V (t + 1) ++ (L1 ∷ Z))) (L1 ∷ L2 ∷ (links u V (t + 1) ++ Z)) (alike-turned L2 (links u V (t + 1)) (L1 ∷ Z))

@@ -8,7 +8,7 @@ use Rattle.q_logic.specs.Numbered.{formula_of}
 use Rattle.q_logic.specs.Expanding.{insert_all, in_list, copy_of}
 use Rattle.q_logic.proofs.Reaching.{Reaches}
 use Rattle.q_logic.proofs.Prefixes.{insert-is_bound, insert-is_existential, insert-itself, insert-distinct}
-use Rattle.q_logic.proofs.Order.{bound_of_e}
+use Rattle.q_logic.proofs.Order.{existential-is_bound}
 use Rattle.q_logic.proofs.Reaching.{alike-refl}
 
 run_to-insert : (q : Quant) (w v : ℕ) (P : Prefix) (a : ℕ) → is_existential P w ≡ true → eqb a v ≡ false → run_to q (insert_after w v P) a ≡ run_to q P a
@@ -54,7 +54,7 @@ above-insert P x t a w h = let n : eqb w t ≡ false = grind arith in insert-is_
 
 pub alle-insert : (P : Prefix) (x t : ℕ) (V : List ℕ) → Above P t → AllE P V → AllE (insert_after x t P) V
 alle-insert P x t [] a h = tt
-alle-insert P x t (y ∷ V) a h = let l : y < t = below P t y a (bound_of_e P y h.0) in let n : eqb y t ≡ false = grind arith in (insert-is_existential x t P y n ∙ h.0, alle-insert P x t V a h.1)
+alle-insert P x t (y ∷ V) a h = let l : y < t = below P t y a (existential-is_bound P y h.0) in let n : eqb y t ≡ false = grind arith in (insert-is_existential x t P y n ∙ h.0, alle-insert P x t V a h.1)
 
 pub inserted-is_existential : (V : List ℕ) (t : ℕ) (P : Prefix) → AllE P V → Above P t → (w : ℕ) → w < t → is_existential (insert_all V t P) w ≡ is_existential P w
 inserted-is_existential [] t P h a w l = refl
@@ -96,7 +96,7 @@ inserted-copies (x ∷ V) t P h a = (here, inserted-copies V (t + 1) (insert_aft
     n = a t (grind arith)
 
     l : x < t
-    l = below P t x a (bound_of_e P x h.0)
+    l = below P t x a (existential-is_bound P x h.0)
 
     e1 : AllE P1 V
     e1 = alle-insert P x t V a h.1

@@ -15,7 +15,7 @@ use Rattle.q_logic.specs.Numbered.{formula_of}
 use Rattle.q_logic.specs.Expanding.{in_list, shares, inner_existential, copy_of, copied_literal, copied, expanded}
 use Rattle.q_logic.proofs.Reaching.{SameClauses, Reaches}
 use Rattle.q_logic.proofs.Clauses.{literal_eq-sound, literal_eq-itself, IsIn-append_left, IsIn-append}
-use Rattle.q_logic.proofs.Order.{bound_of_e, universal-not_existential}
+use Rattle.q_logic.proofs.Order.{existential-is_bound, universal-not_existential}
 use Rattle.q_logic.proofs.UniversalPivot.{without-IsIn}
 use Rattle.q_logic.proofs.Reaching.{alike-sym, copies-append, reaches-alike, reaches-append, reaches-end}
 use Rattle.q_logic.proofs.Implying.{implied-subsumed, implied-hidden}
@@ -130,8 +130,8 @@ not_in_list Q u t V v o h = go (in_list v V) refl
     go true q = let r : Original Q u t v = originals-in Q u t V v o q in let l : v < t = r.1 in let n : eqb v u ≡ false = r.2 in elim h [ inl a ↦ grind arith | inr e ↦ grind arith ]
     go false q = q
 
-no_lit : (l : Literal) (D : Clause) → has l D ≡ false → (k : Literal) → IsIn k D → literal_eq k l ≡ false
-no_lit l D h k m = go (literal_eq k l) refl
+no_literal : (l : Literal) (D : Clause) → has l D ≡ false → (k : Literal) → IsIn k D → literal_eq k l ≡ false
+no_literal l D h k m = go (literal_eq k l) refl
   where
     go : (b : Bool) → literal_eq k l ≡ b → literal_eq k l ≡ false
     go true q = absurd (IsIn-has_not l D h (subst (λ y. IsIn y D) (literal_eq-sound k l q) m))
@@ -139,7 +139,7 @@ no_lit l D h k m = go (literal_eq k l) refl
 
 -- A clause of X without not u.
 class_u : (Q : Prefix) (X : Matrix) (u : ℕ) (V : List ℕ) (t : ℕ) → Expansion Q X u V t → (D : Clause) → IsIn D X → has (minus u) D ≡ false → (has (positive u) D ≡ true) ⊎ (shares V D ≡ true) → ClassU Q u V t D
-class_u Q X u V t x D m n h k i = (x.below D m k i, x.closed D m (elim h [ inl a ↦ inl a | inr b ↦ inr (inr b) ]) k i, no_lit (minus u) D n k i)
+class_u Q X u V t x D m n h k i = (x.below D m k i, x.closed D m (elim h [ inl a ↦ inl a | inr b ↦ inr (inr b) ]) k i, no_literal (minus u) D n k i)
 
 class_u-insert : (Q : Prefix) (X : Matrix) (u : ℕ) (V : List ℕ) (t : ℕ) → Expansion Q X u V t → (D : Clause) → ClassU Q u V t D → ClassU Q u V t (insert (positive u) D)
 class_u-insert Q X u V t x D c k i = elim (insert-IsIn (positive u) D k i) [
@@ -158,7 +158,7 @@ class_m-copies Q X u V t x D m p h k i = go (copied-IsIn V t (without (minus u) 
     Fine y = (in_list y.var V ≡ false) × (y.var < t → inner_existential Q u y.var ≡ false) × (literal_eq y (positive u) ≡ false)
 
     plain : (j : Literal) → IsIn j D → in_list j.var V ≡ false → Fine j
-    plain j a q = (q, (λ l. inner (inner_existential Q u j.var) refl), no_lit (positive u) D p j a)
+    plain j a q = (q, (λ l. inner (inner_existential Q u j.var) refl), no_literal (positive u) D p j a)
       where
         inner : (b : Bool) → inner_existential Q u j.var ≡ b → inner_existential Q u j.var ≡ false
         inner true e = let z : in_list j.var V ≡ true = x.closed D m (inr h) j a e in grind arith
@@ -194,7 +194,7 @@ copied-is_bound Q X u V t x D m k i = elim (insert-IsIn (minus u) (copied V t (w
 ]
   where
     one : (j : Literal) → IsIn j D → (b : Bool) → in_list j.var V ≡ b → is_bound Q (copy_of V t j.var) ≡ true
-    one j a true q = bound_of_e Q (copy_of V t j.var) (copy_of-in (CopyOf Q) V t j.var x.copies_there q).0.0
+    one j a true q = existential-is_bound Q (copy_of V t j.var) (copy_of-in (CopyOf Q) V t j.var x.copies_there q).0.0
     one j a false q = subst (λ v. is_bound Q v ≡ true) (sym (copy_of-out V t j.var q)) (x.all_bound D m j a)
 
     go : ((j : Literal) × IsIn j (without (minus u) D) × (k ≡ copied_literal V t j)) → is_bound Q k.var ≡ true

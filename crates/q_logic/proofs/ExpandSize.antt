@@ -11,7 +11,7 @@ use Rattle.q_logic.specs.Limits.{standard}
 use Rattle.q_logic.specs.Sets.{has}
 use Rattle.q_logic.specs.InLimits.{greatest}
 use Rattle.q_logic.specs.Expanding.{shares, copied, insert_all, expanded}
-use Rattle.q_logic.proofs.Order.{bound_of_e}
+use Rattle.q_logic.proofs.Order.{existential-is_bound}
 use Rattle.q_logic.proofs.Prefixes.{insert-itself}
 use Rattle.q_logic.proofs.Building.{least, adds, deletes, replaces, drops, mapped}
 use Rattle.q_logic.proofs.Slots.{without-same}
@@ -179,7 +179,7 @@ pub greatest-inserted : (V : List ℕ) (t : ℕ) (P : Prefix) → AllE P V → A
 greatest-inserted [] t P e a l = grind arith
 greatest-inserted (x ∷ V) t P e a l =
     let b : is_existential (insert_after x t P) t ≡ true = insert-itself x t P (a t (omega arith)) e.0 in
-    let m : t ≤ greatest (insert_after x t P) = is_bound-greatest (insert_after x t P) t (bound_of_e (insert_after x t P) t b) in
+    let m : t ≤ greatest (insert_after x t P) = is_bound-greatest (insert_after x t P) t (existential-is_bound (insert_after x t P) t b) in
     let i : t + 1 + length V ≤ greatest (insert_all V (t + 1) (insert_after x t P)) + 1 = greatest-inserted V (t + 1) (insert_after x t P) (alle-insert P x t V a e.1) (above-insert P x t a) (next t (greatest (insert_after x t P)) m) in grind arith
   where
     next : (t g : ℕ) → t ≤ g → t + 1 ≤ g + 1

@@ -17,9 +17,9 @@ use Rattle.q_logic.proofs.Reaching.{SameClauses}
 use Rattle.q_logic.proofs.Clauses.{literal_eq-itself, IsIn-append}
 use Rattle.q_logic.proofs.UniversalPivot.{without-IsIn}
 use Rattle.q_logic.proofs.Reaching.{IsIn-alike, alike-sym}
-use Rattle.q_logic.proofs.Slots.{slot-alike, with-alike, has-IsIn, IsIn-has, IsIn-with, IsIn-without_lit}
+use Rattle.q_logic.proofs.Slots.{slot-alike, with-alike, has-IsIn, IsIn-has, IsIn-with, IsIn-without_literal}
 use Rattle.q_logic.proofs.Sets.{insert-IsIn, union-IsIn, without-other, without-shorter}
-use Rattle.q_logic.proofs.MergeRun.{renamed-length, renamed_all, renamed_all-free, without_var-free, merged-alike, renamed_lit-cases, with_var, without_var}
+use Rattle.q_logic.proofs.MergeRun.{renamed-length, renamed_all, renamed_all-free, without_var-free, merged-alike, renamed_literal-cases, with_var, without_var}
 use Rattle.q_logic.proofs.EliminateRun.{resolve_all-IsIn}
 use Rattle.q_logic.proofs.Measuring.{existentials-le, universals-le, VarsIn, vars-in, occurs_var-IsIn, occurs_var-find, size-alike, measure-smaller, measure-fewer}
 
@@ -55,17 +55,17 @@ falls-shortened B P N c C l e m = subst (λ o. Falls B (formula_of P (live N)) (
     vars D (inl f) k i = occurs_var-IsIn (live N) C k (back C (inl refl)) (without-IsIn l C k (subst (IsIn k) f i))
     vars D (inr n) k i = occurs_var-IsIn (live N) D k (back D (inr n)) i
 
-without_lit-smaller : (l : Literal) (X : Matrix) → size_of (without_literal l X) ≤ size_of X
-without_lit-smaller l [] = grind arith
-without_lit-smaller l (D ∷ X) = let i : size_of (without_literal l X) ≤ size_of X = without_lit-smaller l X in go (has l D) i
+without_literal-smaller : (l : Literal) (X : Matrix) → size_of (without_literal l X) ≤ size_of X
+without_literal-smaller l [] = grind arith
+without_literal-smaller l (D ∷ X) = let i : size_of (without_literal l X) ≤ size_of X = without_literal-smaller l X in go (has l D) i
   where
     go : (b : Bool) → size_of (without_literal l X) ≤ size_of X → size_of (cond b (without_literal l X) (D ∷ without_literal l X)) ≤ size_of (D ∷ X)
     go true i = grind arith
     go false i = grind arith
 
-without_lit-less : (l : Literal) (X : Matrix) (D : Clause) → IsIn D X → IsIn l D → size_of (without_literal l X) + 1 ≤ size_of X
-without_lit-less l [] D m i = elim m [ ]
-without_lit-less l (E ∷ X) D m i = go (has l E) refl m (λ n. without_lit-less l X D n i) (without_lit-smaller l X)
+without_literal-less : (l : Literal) (X : Matrix) (D : Clause) → IsIn D X → IsIn l D → size_of (without_literal l X) + 1 ≤ size_of X
+without_literal-less l [] D m i = elim m [ ]
+without_literal-less l (E ∷ X) D m i = go (has l E) refl m (λ n. without_literal-less l X D n i) (without_literal-smaller l X)
   where
     go : (b : Bool) → has l E ≡ b → (D ≡ E) ⊎ IsIn D X → (IsIn D X → size_of (without_literal l X) + 1 ≤ size_of X) → size_of (without_literal l X) ≤ size_of X → size_of (cond b (without_literal l X) (E ∷ without_literal l X)) + 1 ≤ size_of (E ∷ X)
     go true q n ih s = grind arith
@@ -90,14 +90,14 @@ vars-each : (l : Literal) (X Y : Matrix) → ((D : Clause) → IsIn D Y → IsIn
 vars-each l X Y f = vars-in (each_without l Y) X (λ D m k i. let r : (E : Clause) × IsIn E Y × (D ≡ without l E) = IsIn-each l Y D m in occurs_var-IsIn X r.0 k (f r.0 r.1) (without-IsIn l r.0 k (subst (IsIn k) r.2 i)))
 
 pub falls-unit : (B : Bounds) (P : Prefix) (X : Matrix) (l : Literal) (D : Clause) → IsIn D X → IsIn l D → Falls B (formula_of P X) (formula_of P (each_without (negation l) (without_literal l X)))
-falls-unit B P X l D m i = measure-smaller B P X (each_without (negation l) (without_literal l X)) (vars-each (negation l) X (without_literal l X) (λ E n. (IsIn-without_lit l X E n).0))
-    (let a : size_of (each_without (negation l) (without_literal l X)) ≤ size_of (without_literal l X) = each_without-smaller (negation l) (without_literal l X) in let b : size_of (without_literal l X) + 1 ≤ size_of X = without_lit-less l X D m i in grind arith)
+falls-unit B P X l D m i = measure-smaller B P X (each_without (negation l) (without_literal l X)) (vars-each (negation l) X (without_literal l X) (λ E n. (IsIn-without_literal l X E n).0))
+    (let a : size_of (each_without (negation l) (without_literal l X)) ≤ size_of (without_literal l X) = each_without-smaller (negation l) (without_literal l X) in let b : size_of (without_literal l X) + 1 ≤ size_of X = without_literal-less l X D m i in grind arith)
 
 pub falls-pure : (B : Bounds) (P : Prefix) (X : Matrix) (l : Literal) → OccursIn l X → Falls B (formula_of P X) (formula_of P (cond (is_existential P l.var) (without_literal l X) (each_without l X)))
 falls-pure B P X l o = go (is_existential P l.var)
   where
     go : (b : Bool) → Falls B (formula_of P X) (formula_of P (cond b (without_literal l X) (each_without l X)))
-    go true = measure-smaller B P X (without_literal l X) (vars-in (without_literal l X) X (λ E n k j. occurs_var-IsIn X E k (IsIn-without_lit l X E n).0 j)) (without_lit-less l X o.0 o.1 o.2)
+    go true = measure-smaller B P X (without_literal l X) (vars-in (without_literal l X) X (λ E n k j. occurs_var-IsIn X E k (IsIn-without_literal l X E n).0 j)) (without_literal-less l X o.0 o.1 o.2)
     go false = measure-smaller B P X (each_without l X) (vars-each l X X (λ E n. n)) (each_without-less l X o.0 o.1 o.2)
 
 -- Merging.
@@ -135,7 +135,7 @@ merged-free keep gone X d = go (occurs gone.var (merged keep gone X)) refl
 renamed-vars : (keep gone : Literal) (X : Matrix) (C : Clause) → occurs keep.var X ≡ true → ((k : Literal) → IsIn k C → occurs k.var X ≡ true) → (k : Literal) → IsIn k (renamed keep gone C) → occurs k.var X ≡ true
 renamed-vars keep gone X [] o f k m = elim m [ ]
 renamed-vars keep gone X (j ∷ C) o f k m = elim (insert-IsIn (renamed_literal keep gone j) (renamed keep gone C) k m)
-    [ inl e ↦ subst (λ y. occurs y.var X ≡ true) (sym e) (one (renamed_lit-cases keep gone j)) | inr n ↦ renamed-vars keep gone X C o (λ i x. f i (inr x)) k n ]
+    [ inl e ↦ subst (λ y. occurs y.var X ≡ true) (sym e) (one (renamed_literal-cases keep gone j)) | inr n ↦ renamed-vars keep gone X C o (λ i x. f i (inr x)) k n ]
   where
     one : ((j ≡ gone) × (renamed_literal keep gone j ≡ keep)) ⊎ (((j ≡ negation gone) × (renamed_literal keep gone j ≡ negation keep)) ⊎ (renamed_literal keep gone j ≡ j)) → occurs (renamed_literal keep gone j).var X ≡ true
     one (inl a) = subst (λ y. occurs y.var X ≡ true) (sym a.1) o
@@ -219,7 +219,7 @@ falls-eliminate B P X x h = measure-fewer B P X (clauses_not_of x X ++ resolvent
 
     vars : (D : Clause) → IsIn D (clauses_not_of x X ++ resolvents x X) → (k : Literal) → IsIn k D → occurs k.var X ≡ true
     vars D m k i = elim (IsIn-append D (clauses_not_of x X) (resolvents x X) m) [
-      | inl a ↦ occurs_var-IsIn X D k (IsIn-without_lit p X D (IsIn-without_lit n (without_literal p X) D a).0).0 i
+      | inl a ↦ occurs_var-IsIn X D k (IsIn-without_literal p X D (IsIn-without_literal n (without_literal p X) D a).0).0 i
       | inr b ↦ go (resolve_all-IsIn p (with_literal p X) (with_literal n X) D b)
     ]
       where
@@ -229,7 +229,7 @@ falls-eliminate B P X x h = measure-fewer B P X (clauses_not_of x X ++ resolvent
 
     neither : (D : Clause) → IsIn D (clauses_not_of x X ++ resolvents x X) → (IsIn (positive x) D → ⊥) × (IsIn (negation (positive x)) D → ⊥)
     neither D m = elim (IsIn-append D (clauses_not_of x X) (resolvents x X) m) [
-      | inl a ↦ ((IsIn-without_lit p X D (IsIn-without_lit n (without_literal p X) D a).0).1, (IsIn-without_lit n (without_literal p X) D a).1)
+      | inl a ↦ ((IsIn-without_literal p X D (IsIn-without_literal n (without_literal p X) D a).0).1, (IsIn-without_literal n (without_literal p X) D a).1)
       | inr b ↦ go (resolve_all-IsIn p (with_literal p X) (with_literal n X) D b)
     ]
       where

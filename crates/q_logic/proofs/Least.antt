@@ -5,8 +5,8 @@ use Rattle.q_logic.specs.Literals.{Literal}
 use Rattle.q_logic.specs.Formulas.{Clause, Prefix, Matrix, IsIn}
 use Rattle.q_logic.specs.Prefixes.{is_bound}
 use Rattle.q_logic.specs.Expanding.{in_list, shares, touched_with, next_vars, grown_vars, expansion_vars, inner_existential, Spread}
-use Rattle.q_logic.proofs.Order.{bound_of_e}
-use Rattle.q_logic.proofs.ExpandClosure.{next-in, expansion_vars-fixed, next-inner, inner-parts, expansion_vars-closed, has_var-of_Mem}
+use Rattle.q_logic.proofs.Order.{existential-is_bound}
+use Rattle.q_logic.proofs.ExpandClosure.{next-in, expansion_vars-fixed, next-inner, inner-parts, expansion_vars-closed, has_variable-IsIn}
 
 find_var : (v : ℕ) (D : Clause) → has_variable v D ≡ true → (k : Literal) × IsIn k D × (k.var ≡ v)
 find_var v [] h = grind arith
@@ -73,12 +73,12 @@ shares-of V (i ∷ D) j (inr m) h = let z : shares V D ≡ true = shares-of V D 
 
 spread-in : (P : Prefix) (X : Matrix) (u v : ℕ) → Spread P X u v → in_list v (expansion_vars P X u) ≡ true
 spread-in P X u v (Spread.starts D j k m a e b i) =
-    let z : has_variable u D ≡ true = subst (λ y. has_variable y D ≡ true) e (has_var-of_Mem D j a) in
-    expansion_vars-closed P X u D m (rw z refl) k b (bound_of_e P k.var (inner-parts P u k.var i).0) i
+    let z : has_variable u D ≡ true = subst (λ y. has_variable y D ≡ true) e (has_variable-IsIn D j a) in
+    expansion_vars-closed P X u D m (rw z refl) k b (existential-is_bound P k.var (inner-parts P u k.var i).0) i
 spread-in P X u v (Spread.spreads {w = w} D j k m a e b i s) =
     let z : in_list j.var (expansion_vars P X u) ≡ true = subst (λ y. in_list y (expansion_vars P X u) ≡ true) (sym e) (spread-in P X u w s) in
     let y : shares (expansion_vars P X u) D ≡ true = shares-of (expansion_vars P X u) D j a z in
-    expansion_vars-closed P X u D m (go (has_variable u D) y) k b (bound_of_e P k.var (inner-parts P u k.var i).0) i
+    expansion_vars-closed P X u D m (go (has_variable u D) y) k b (existential-is_bound P k.var (inner-parts P u k.var i).0) i
   where
     go : (c : Bool) → shares (expansion_vars P X u) D ≡ true → (c || shares (expansion_vars P X u) D) ≡ true
     go true y = refl

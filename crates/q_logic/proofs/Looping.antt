@@ -7,7 +7,7 @@ use Rattle.q_logic.specs.Pivots.{without}
 use Rattle.q_logic.specs.Sets.{has, without_literal, each_without, is_tautology}
 use Rattle.q_logic.specs.Numbered.{Slots, slot, live, others, put_first}
 use Rattle.q_logic.specs.Merging.{merged, merged_one, renamed}
-use Rattle.q_logic.proofs.Slots.{without_lit-slot, without-same, has-IsIn}
+use Rattle.q_logic.proofs.Slots.{without_literal-slot, without-same, has-IsIn}
 use Rattle.q_logic.proofs.Sets.{without-other}
 use Rattle.q_logic.proofs.ExpandRun.{has_none}
 use Rattle.q_logic.proofs.MergeRun.{renamed-free}
@@ -46,9 +46,9 @@ folded-set f (Some D ∷ N) (suc c) C o s h = ap (f D) (folded-set f N c C o s h
 abbrev pub drop_with : Literal → Clause → Matrix → Matrix
 drop_with l D X = cond (has l D) X (D ∷ X)
 
-without_lit-folded : (l : Literal) (X : Matrix) → without_literal l X ≡ folded (drop_with l) X
-without_lit-folded l [] = refl
-without_lit-folded l (D ∷ X) = ap (λ Y. cond (has l D) Y (D ∷ Y)) (without_lit-folded l X)
+without_literal-folded : (l : Literal) (X : Matrix) → without_literal l X ≡ folded (drop_with l) X
+without_literal-folded l [] = refl
+without_literal-folded l (D ∷ X) = ap (λ Y. cond (has l D) Y (D ∷ Y)) (without_literal-folded l X)
 
 merged-folded : (keep gone : Literal) (X : Matrix) → merged keep gone X ≡ folded (merged_one keep gone) X
 merged-folded keep gone [] = refl
@@ -56,7 +56,7 @@ merged-folded keep gone (D ∷ X) = ap (merged_one keep gone D) (merged-folded k
 
 -- A turn of Pure: a clause with l goes.
 pub turn-pure : (l : Literal) (N : Slots) (c : ℕ) (C : Clause) → slot N c ≡ Some C → has l C ≡ true → without_literal l (live (set_slot c None N)) ≡ without_literal l (live N)
-turn-pure l N c C s h = without_lit-folded l (live (set_slot c None N)) ∙ (folded-set (drop_with l) N c C None s (λ X. rw h refl) ∙ sym (without_lit-folded l (live N)))
+turn-pure l N c C s h = without_literal-folded l (live (set_slot c None N)) ∙ (folded-set (drop_with l) N c C None s (λ X. rw h refl) ∙ sym (without_literal-folded l (live N)))
 
 has_not-without : (l : Literal) (C : Clause) → has l (without l C) ≡ false
 has_not-without l C = has_none l (without l C) (λ m. let a : literal_eq l l ≡ false = without-other l C l m in let b : literal_eq l l ≡ true = Rattle.q_logic.proofs.Clauses.literal_eq-itself l in grind arith)

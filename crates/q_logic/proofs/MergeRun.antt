@@ -17,7 +17,7 @@ use Rattle.q_logic.specs.Merging.{Joined, Mergeable, renamed_literal, renamed, m
 use Rattle.q_logic.specs.Rules.{Fits, change}
 use Rattle.q_logic.proofs.Reaching.{SameClauses, Reaches}
 use Rattle.q_logic.proofs.Clauses.{literal_eq-sound, IsIn-append_left, IsIn-append}
-use Rattle.q_logic.proofs.Order.{bound_of_e}
+use Rattle.q_logic.proofs.Order.{existential-is_bound}
 use Rattle.q_logic.proofs.Reaching.{alike-refl, alike-trans, alike-sym, alike-cons, alike-swap, reaches-alike, reaches-append, reaches-end}
 use Rattle.q_logic.proofs.Implying.{implied-subsumed, implied-tautology, implied-hidden, implied-hidden_new, implied-longer, negation-negation}
 use Rattle.q_logic.proofs.Building.{least, IsIn-right, reaches-delete, step-first, alike-turned}
@@ -62,8 +62,8 @@ grows_by_pair : (Z : Matrix) (i j : Literal) (S : Clause) → IsIn (pair (negati
 grows_by_pair Z i j S (inl m) n h = implied-hidden_new Z (pair (negation i) j) S i m (pair-first (negation i) j) (λ k a d. elim (pair-IsIn (negation i) j k a) [ inl e ↦ absurd (d e) | inr e ↦ subst (λ z. IsIn z S) (sym e) n ]) h
 grows_by_pair Z i j S (inr m) n h = implied-hidden_new Z (pair j (negation i)) S i m (pair-second j (negation i)) (λ k a d. elim (pair-IsIn j (negation i) k a) [ inl e ↦ subst (λ z. IsIn z S) (sym e) n | inr e ↦ absurd (d e) ]) h
 
-pub renamed_lit-cases : (keep gone k : Literal) → ((k ≡ gone) × (renamed_literal keep gone k ≡ keep)) ⊎ (((k ≡ negation gone) × (renamed_literal keep gone k ≡ negation keep)) ⊎ (renamed_literal keep gone k ≡ k))
-renamed_lit-cases keep gone k = go (literal_eq k gone) refl (literal_eq k (negation gone)) refl
+pub renamed_literal-cases : (keep gone k : Literal) → ((k ≡ gone) × (renamed_literal keep gone k ≡ keep)) ⊎ (((k ≡ negation gone) × (renamed_literal keep gone k ≡ negation keep)) ⊎ (renamed_literal keep gone k ≡ k))
+renamed_literal-cases keep gone k = go (literal_eq k gone) refl (literal_eq k (negation gone)) refl
   where
     go : (a : Bool) → literal_eq k gone ≡ a → (b : Bool) → literal_eq k (negation gone) ≡ b →
         ((k ≡ gone) × (cond a keep (cond b (negation keep) k) ≡ keep)) ⊎ (((k ≡ negation gone) × (cond a keep (cond b (negation keep) k) ≡ negation keep)) ⊎ (cond a keep (cond b (negation keep) k) ≡ k))
@@ -77,7 +77,7 @@ pub record Linked (Z : Matrix) (keep gone : Literal) : Type 0 where
   pub gone_gives_keep : IsIn (pair keep (negation gone)) Z
 
 to_renamed : (Z : Matrix) (keep gone k : Literal) (S : Clause) → Linked Z keep gone → IsIn k S → Implied Z (renamed_literal keep gone k ∷ S) → Implied Z S
-to_renamed Z keep gone k S h m i = elim (renamed_lit-cases keep gone k) [
+to_renamed Z keep gone k S h m i = elim (renamed_literal-cases keep gone k) [
   | inl a ↦ grows_by_pair Z keep gone S (inl h.keep_gives_gone) (subst (λ z. IsIn z S) a.0 m) (subst (λ z. Implied Z (z ∷ S)) a.1 i)
   | inr r ↦ elim r [
     | inl b ↦ grows_by_pair Z (negation keep) (negation gone) S (inl (subst (λ z. IsIn (pair z (negation gone)) Z) (sym (negation-negation keep)) h.gone_gives_keep)) (subst (λ z. IsIn z S) b.0 m) (subst (λ z. Implied Z (z ∷ S)) b.1 i)
@@ -86,7 +86,7 @@ to_renamed Z keep gone k S h m i = elim (renamed_lit-cases keep gone k) [
 ]
 
 from_renamed : (Z : Matrix) (keep gone k : Literal) (S : Clause) → Linked Z keep gone → IsIn (renamed_literal keep gone k) S → Implied Z (k ∷ S) → Implied Z S
-from_renamed Z keep gone k S h m i = elim (renamed_lit-cases keep gone k) [
+from_renamed Z keep gone k S h m i = elim (renamed_literal-cases keep gone k) [
   | inl a ↦ grows_by_pair Z gone keep S (inr h.gone_gives_keep) (subst (λ z. IsIn z S) a.1 m) (subst (λ z. Implied Z (z ∷ S)) a.0 i)
   | inr r ↦ elim r [
     | inl b ↦ grows_by_pair Z (negation gone) (negation keep) S (inr (subst (λ z. IsIn (pair (negation keep) z) Z) (sym (negation-negation gone)) h.keep_gives_gone)) (subst (λ z. IsIn z S) b.1 m) (subst (λ z. Implied Z (z ∷ S)) b.0 i)
@@ -204,13 +204,13 @@ without_var-free v (E ∷ X) D m k i = go (has_variable v E) refl m (λ n. witho
     go false q (inl e) ih = has_var-IsIn v E q k (subst (IsIn k) e i)
     go false q (inr n) ih = ih n
 
-renamed_lit-free : (keep gone k : Literal) → eqb keep.var gone.var ≡ false → eqb (renamed_literal keep gone k).var gone.var ≡ false
-renamed_lit-free keep gone k d = grind arith
+renamed_literal-free : (keep gone k : Literal) → eqb keep.var gone.var ≡ false → eqb (renamed_literal keep gone k).var gone.var ≡ false
+renamed_literal-free keep gone k d = grind arith
 
 pub renamed-free : (keep gone : Literal) (C : Clause) → eqb keep.var gone.var ≡ false → (k : Literal) → IsIn k (renamed keep gone C) → eqb k.var gone.var ≡ false
 renamed-free keep gone [] d k m = elim m [ ]
 renamed-free keep gone (j ∷ C) d k m = elim (insert-IsIn (renamed_literal keep gone j) (renamed keep gone C) k m)
-    [ inl e ↦ subst (λ y. eqb y.var gone.var ≡ false) (sym e) (renamed_lit-free keep gone j d) | inr n ↦ renamed-free keep gone C d k n ]
+    [ inl e ↦ subst (λ y. eqb y.var gone.var ≡ false) (sym e) (renamed_literal-free keep gone j d) | inr n ↦ renamed-free keep gone C d k n ]
 
 pub renamed_all-free : (keep gone : Literal) (W : Matrix) → eqb keep.var gone.var ≡ false → (D : Clause) → IsIn D (renamed_all keep gone W) → (k : Literal) → IsIn k D → eqb k.var gone.var ≡ false
 renamed_all-free keep gone [] d D m k i = elim m [ ]
@@ -224,7 +224,7 @@ renamed_all-free keep gone (C ∷ W) d D m k i = go (is_tautology (renamed keep 
 renamed-is_bound : (P : Prefix) (keep gone : Literal) (C : Clause) → is_bound P keep.var ≡ true → ((k : Literal) → IsIn k C → is_bound P k.var ≡ true) → (k : Literal) → IsIn k (renamed keep gone C) → is_bound P k.var ≡ true
 renamed-is_bound P keep gone [] b w k m = elim m [ ]
 renamed-is_bound P keep gone (j ∷ C) b w k m = elim (insert-IsIn (renamed_literal keep gone j) (renamed keep gone C) k m)
-    [ inl e ↦ subst (λ y. is_bound P y.var ≡ true) (sym e) (one (renamed_lit-cases keep gone j)) | inr n ↦ renamed-is_bound P keep gone C b (λ i x. w i (inr x)) k n ]
+    [ inl e ↦ subst (λ y. is_bound P y.var ≡ true) (sym e) (one (renamed_literal-cases keep gone j)) | inr n ↦ renamed-is_bound P keep gone C b (λ i x. w i (inr x)) k n ]
   where
     one : ((j ≡ gone) × (renamed_literal keep gone j ≡ keep)) ⊎ (((j ≡ negation gone) × (renamed_literal keep gone j ≡ negation keep)) ⊎ (renamed_literal keep gone j ≡ j)) → is_bound P (renamed_literal keep gone j).var ≡ true
     one (inl a) = subst (λ y. is_bound P y.var ≡ true) (sym a.1) b
@@ -340,7 +340,7 @@ merge_on P X keep gone closed h = (
     keep_bound = outer_or_same-is_bound P keep.var gone.var h.kept_outer
 
     gone_bound : is_bound P gone.var ≡ true
-    gone_bound = bound_of_e P gone.var h.existential
+    gone_bound = existential-is_bound P gone.var h.existential
 
     bound1 : (k : Literal) → IsIn k E1 → is_bound P k.var ≡ true
     bound1 k m = elim (pair-IsIn (negation keep) gone k m) [ inl e ↦ subst (λ y. is_bound P y.var ≡ true) (sym e) keep_bound | inr e ↦ subst (λ y. is_bound P y.var ≡ true) (sym e) gone_bound ]

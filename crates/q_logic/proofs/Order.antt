@@ -5,9 +5,9 @@ use Rattle.q_logic.specs.declared.formulas.Quant.TheVariants.{Exists, Forall}
 use Rattle.q_logic.specs.Formulas.{Prefix}
 use Rattle.q_logic.specs.Prefixes.{is_existential, is_universal, is_bound, universal_before, run_to, outer_or_same}
 
-pub bound_of_e : (P : Prefix) (v : ℕ) → is_existential P v ≡ true → is_bound P v ≡ true
-bound_of_e [] v h = h
-bound_of_e (b ∷ P) v h = grind (arith, bound_of_e P v)
+pub existential-is_bound : (P : Prefix) (v : ℕ) → is_existential P v ≡ true → is_bound P v ≡ true
+existential-is_bound [] v h = h
+existential-is_bound (b ∷ P) v h = grind (arith, existential-is_bound P v)
 
 run_to-universal : (P : Prefix) (a : ℕ) → run_to Exists P a ≡ true → is_universal P a ≡ true → ⊥
 run_to-universal [] a r h = grind arith
@@ -33,7 +33,7 @@ pub outer_universal-before : (P : Prefix) (a v : ℕ) → outer_or_same P a v �
     is_existential P v ≡ true → universal_before P a v ≡ true
 outer_universal-before [] a v o ha hv = o
 outer_universal-before (b ∷ P) a v o ha hv =
-    grind (arith, outer_universal-before P a v, run_to-universal P a, bound_of_e P v)
+    grind (arith, outer_universal-before P a v, run_to-universal P a, existential-is_bound P v)
 
 -- What stands before an existential that is outer or same to another one, stands before that.
 pub outer_existential-before : (P : Prefix) (a v u : ℕ) → outer_or_same P a v ≡ true →
@@ -41,7 +41,7 @@ pub outer_existential-before : (P : Prefix) (a v u : ℕ) → outer_or_same P a 
     universal_before P u v ≡ true
 outer_existential-before [] a v u o ha hv hu = o
 outer_existential-before (b ∷ P) a v u o ha hv hu =
-    grind (arith, outer_existential-before P a v u, run_to-before P a u, bound_of_e P v)
+    grind (arith, outer_existential-before P a v u, run_to-before P a u, existential-is_bound P v)
 
 -- A universal u in place of the existential v.
 
@@ -52,7 +52,7 @@ run_to-existential (b ∷ P) a r h = grind (arith, run_to-existential P a)
 run_to-reaches : (P : Prefix) (w x : ℕ) → run_to Forall P w ≡ true → is_existential P x ≡ true →
     universal_before P w x ≡ true
 run_to-reaches [] w x r h = r
-run_to-reaches (b ∷ P) w x r h = grind (arith, run_to-reaches P w x, bound_of_e P x)
+run_to-reaches (b ∷ P) w x r h = grind (arith, run_to-reaches P w x, existential-is_bound P x)
 
 pub universal_before-bound_right : (P : Prefix) (u x : ℕ) → universal_before P u x ≡ true →
     is_bound P x ≡ true
@@ -88,7 +88,7 @@ outer_universal-before_inner (b ∷ P) w u x o hw hu he hx =
       outer_universal-before_inner P w u x,
       run_to-reaches P w x,
       universal_before-bound_right P u x,
-      bound_of_e P x,
+      existential-is_bound P x,
     )
 
 pub universal-not_existential : (P : Prefix) (x : ℕ) → is_universal P x ≡ true → is_existential P x ≡ false

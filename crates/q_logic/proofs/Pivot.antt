@@ -8,7 +8,7 @@ use Rattle.q_logic.specs.Circuits.{Circuit, value_of, Reads}
 use Rattle.q_logic.specs.Skolems.{Strategy, circuit_of, or_input, given, outcome, Skolem, Lawful}
 use Rattle.q_logic.specs.Pivots.{keeps, outer, ExistsPivot, OutersOf}
 use Rattle.q_logic.specs.Undos.{raised, all_of, pivoted}
-use Rattle.q_logic.proofs.Clauses.{literal_eq-sound, IsIn-append, IsIn-outer, all_of-true, all_of-false, Reads-all_of, tree_of-none}
+use Rattle.q_logic.proofs.Clauses.{literal_eq-sound, IsIn-append, IsIn-outer, all_of-true, all_of-false, Reads-all_of, circuit_of-none}
 use Rattle.q_logic.proofs.Order.{outer_or_same-is_bound, outer_universal-before, outer_existential-before}
 use Rattle.q_logic.proofs.Propagation.{implied-true}
 
@@ -35,7 +35,7 @@ outers-before P v Os c he near sk u r = go (Reads-all_of c Os u r)
         choose : (b : Bool) → is_existential P k.var ≡ b → universal_before P u v ≡ true
         choose true e = outer_existential-before P k.var v u o e he (sk.reads k.var e u q)
         choose false e =
-            let s : k.var ≡ u = subst (λ t. Reads t u) (tree_of-none c k.var (sk.trees k.var ∙ e)) q in
+            let s : k.var ≡ u = subst (λ t. Reads t u) (circuit_of-none c k.var (sk.trees k.var ∙ e)) q in
             subst (λ w. universal_before P w v ≡ true) s
             (outer_universal-before P k.var v o (outer_or_same-is_bound P k.var v o e) he)
 

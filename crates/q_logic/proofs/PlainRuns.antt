@@ -22,7 +22,7 @@ use Rattle.q_logic.proofs.Implying.{implied-subsumed, implied-tautology, implied
 use Rattle.q_logic.proofs.Building.{deletes, replaces, drops, mapped, least, IsIn-right, alike-turned, reaches-deletes, reaches-replaces, reaches-drops, reaches-delete, reaches-drop, reaches-replace}
 use Rattle.q_logic.proofs.Sets.{without-shorter}
 use Rattle.q_logic.proofs.Heights.{Way, one, weight, modest-append, modest-more, modest-delete, modest-deletes, modest-drops, modest-replaces, weight-mapped, weight-with, weight-without, weight-others, weight-slot}
-use Rattle.q_logic.proofs.Slots.{slot-alike, live-slot, others-slot, with-alike, each_without-alike, IsIn-with, IsIn-without_lit, IsIn-each_without, without_lit-slot}
+use Rattle.q_logic.proofs.Slots.{slot-alike, live-slot, others-slot, with-alike, each_without-alike, IsIn-with, IsIn-without_literal, IsIn-each_without, without_literal-slot}
 
 -- A blocked clause goes by its pivot.
 pub blocked-pivot : (P : Prefix) (X : Matrix) (C : Clause) (l : Literal) → IsIn l C → is_existential P l.var ≡ true → AllClash P X l C → ExistsPivot P X C l
@@ -165,7 +165,7 @@ unit_on P X l q closed =
         (reaches-deletes P least (with_literal l X) (U ∷ W) (λ C m Z f g. inl (implied-subsumed Z U C (f U (inl refl)) (λ k i. elim i [ inl e ↦ subst (λ y. IsIn y C) (sym e) (IsIn-with l X C m).1 | inr n ↦ elim n [ ] ]))))
 
     inX : (C : Clause) → IsIn C (with_literal (negation l) W) → IsIn C X
-    inX C m = (IsIn-without_lit l X C (IsIn-with (negation l) W C m).0).0
+    inX C m = (IsIn-without_literal l X C (IsIn-with (negation l) W C m).0).0
 
     second : Reaches (formula_of P (U ∷ W)) (replaces (without (negation l)) (with_literal (negation l) W)) (formula_of P (U ∷ E))
     second = reaches-alike P (with_literal (negation l) W ++ (U ∷ without_literal (negation l) W)) (U ∷ W) (replaces (without (negation l)) (with_literal (negation l) W)) (formula_of P (U ∷ E))
@@ -192,7 +192,7 @@ pub unit-run : (B : Bounds) (P : Prefix) (N : Slots) (c : ℕ) → ((D : Clause)
 unit-run B P N c closed (l, e, q) = (
   unit_steps l (others c N),
   subst (λ o. Reaches (formula_of P (live N)) (unit_steps l (others c N)) (formula_of P (assigned (head_of o) (live N)))) (sym e)
-      (subst (λ X. Reaches (formula_of P (live N)) (unit_steps l (others c N)) (formula_of P (each_without (negation l) X))) (sym (without_lit-slot l N c (l ∷ []) (let z : literal_eq l l ≡ true = literal_eq-itself l in grind arith) e))
+      (subst (λ X. Reaches (formula_of P (live N)) (unit_steps l (others c N)) (formula_of P (each_without (negation l) X))) (sym (without_literal-slot l N c (l ∷ []) (let z : literal_eq l l ≡ true = literal_eq-itself l in grind arith) e))
       (reaches-alike P ((l ∷ []) ∷ others c N) (live N) (unit_steps l (others c N)) (formula_of P (each_without (negation l) (without_literal l (others c N)))) back
       (unit_on P (others c N) l q (λ D m. closed D (IsIn-alike ((l ∷ []) ∷ others c N) (live N) back D (inr m)))))),
   modest-more (0 + (weight one (mapped (without (negation l)) W) + 0)) (0 + (weight length (mapped (without (negation l)) W) + 0)) (weight one (live N)) (weight length (live N)) (unit_steps l (others c N))

@@ -8,7 +8,7 @@ use Rattle.q_logic.specs.Circuits.{Circuit, constant, input, conjunction, disjun
 use Rattle.q_logic.specs.Skolems.{Strategy, circuit_of, or_input, given, outcome, Skolem}
 use Rattle.q_logic.specs.Pivots.{without}
 use Rattle.q_logic.specs.Reach.{Reached, Reducible, ReachedByVariable, ReducibleByVariable}
-use Rattle.q_logic.proofs.Clauses.{literal_eq-sound, tree_of-none}
+use Rattle.q_logic.proofs.Clauses.{literal_eq-sound, circuit_of-none}
 use Rattle.q_logic.proofs.Order.{universal-not_existential}
 use Rattle.q_logic.proofs.Propagation.{Holds-negation}
 use Rattle.q_logic.proofs.Trees.{value_of-replaced, Reads-replaced, value_of-agree}
@@ -137,11 +137,11 @@ module _ (P : Prefix) (X : Matrix) (c : Strategy) (sk : Skolem P X c) (l : Liter
   new : Strategy
   new = reduced l.var s R c
 
-  new_tree : (x : ℕ) → is_existential P x ≡ true →
+  new_circuit : (x : ℕ) → is_existential P x ≡ true →
       circuit_of new x ≡ turned (any_has (positive x) R) (any_has (negative x) R) (circuit_of c x)
       (replaced l.var s (circuit_of c x))
   unfolding new
-  new_tree x e = go (c x) (sk.trees x ∙ e)
+  new_circuit x e = go (c x) (sk.trees x ∙ e)
     where
       go : (o : Option Circuit) → given o ≡ true →
           or_input x (turn l.var s (any_has (positive x) R) (any_has (negative x) R) o) ≡
@@ -160,16 +160,16 @@ module _ (P : Prefix) (X : Matrix) (c : Strategy) (sk : Skolem P X c) (l : Liter
       go (Some t) = refl
 
   new_input : (x : ℕ) → is_existential P x ≡ false → circuit_of new x ≡ input x
-  new_input x e = tree_of-none new x (new_given x ∙ sk.trees x ∙ e)
+  new_input x e = circuit_of-none new x (new_given x ∙ sk.trees x ∙ e)
 
   old_input : (x : ℕ) → is_existential P x ≡ false → circuit_of c x ≡ input x
-  old_input x e = tree_of-none c x (sk.trees x ∙ e)
+  old_input x e = circuit_of-none c x (sk.trees x ∙ e)
 
   new_reads : (x : ℕ) → is_existential P x ≡ true → (u : ℕ) → Reads (circuit_of new x) u →
       universal_before P u x ≡ true
   unfolding s
   new_reads x e u r =
-      go (any_has (positive x) R) (any_has (negative x) R) (subst (λ t. Reads t u) (new_tree x e) r)
+      go (any_has (positive x) R) (any_has (negative x) R) (subst (λ t. Reads t u) (new_circuit x e) r)
     where
       in_new : Reads (replaced l.var s (circuit_of c x)) u → universal_before P u x ≡ true
       in_new q =
@@ -202,7 +202,7 @@ module _ (P : Prefix) (X : Matrix) (c : Strategy) (sk : Skolem P X c) (l : Liter
         let z : signed k.negative (outcome c A k.var) ≡
         signed k.negative (value_of (replaced l.var s (circuit_of c k.var)) A) =
         ap (signed k.negative) (sym (new_value k.var ∙ q)) in
-        ap (λ t. signed k.negative (value_of t A)) (new_tree k.var e) ∙
+        ap (λ t. signed k.negative (value_of t A)) (new_circuit k.var e) ∙
         (turned_value k.negative (any_has (positive k.var) R) (any_has (negative k.var) R)
         (circuit_of c k.var) (replaced l.var s (circuit_of c k.var)) A z ∙ h)
 
@@ -232,7 +232,7 @@ module _ (P : Prefix) (X : Matrix) (c : Strategy) (sk : Skolem P X c) (l : Liter
             outer_kept P c sk.lawful l.var hu A l.negative k.var p n in
             kept_same k e q (ap (signed k.negative) (sym q) ∙ h)
         choose true e false p =
-            ap (λ t. signed k.negative (value_of t A)) (new_tree k.var e) ∙
+            ap (λ t. signed k.negative (value_of t A)) (new_circuit k.var e) ∙
             reached_value k.negative (any_has (positive k.var) R) (any_has (negative k.var) R)
             (circuit_of c k.var) (replaced l.var s (circuit_of c k.var)) A (own k.negative (r e p))
             (ap (signed k.negative) (new_value k.var) ∙ h)
@@ -254,7 +254,7 @@ module _ (P : Prefix) (X : Matrix) (c : Strategy) (sk : Skolem P X c) (l : Liter
             kept_input k e (subst (λ t. signed k.negative (value_of t A) ≡ true) (old_input k.var e) h)
         choose true e true p = kept_same k e (outer_kept P c sk.lawful l.var hu A l.negative k.var p n) h
         choose true e false p =
-            ap (λ t. signed k.negative (value_of t A)) (new_tree k.var e) ∙
+            ap (λ t. signed k.negative (value_of t A)) (new_circuit k.var e) ∙
             unreached_value k.negative (any_has (positive k.var) R) (any_has (negative k.var) R)
             (circuit_of c k.var) (replaced l.var s (circuit_of c k.var)) A (own k.negative (r e p)) h
 
@@ -310,7 +310,7 @@ reduction-keeps P X C l R c rd re sk =
         not_e = universal-not_existential P l.var hu
 
         at_pivot : (E : Assignment) → outcome c E l.var ≡ E l.var
-        at_pivot E = rw (tree_of-none c l.var (sk.trees l.var ∙ not_e)) refl
+        at_pivot E = rw (circuit_of-none c l.var (sk.trees l.var ∙ not_e)) refl
 
         first_and : ClauseTrue N (without l C) → ((D : Clause) → IsIn D X → ClauseTrue N D) →
             MatrixTrue N (without l C ∷ X)

@@ -10,7 +10,7 @@ use Rattle.q_logic.specs.Pivots.{without}
 use Rattle.q_logic.specs.Steps.{clause_eq, one_less, insert_after, removed_from}
 use Rattle.q_logic.specs.Undos.{with_circuit}
 use Rattle.q_logic.proofs.Clauses.{literal_eq-sound}
-use Rattle.q_logic.proofs.UniversalPivot.{without-IsIn, reread, given-reread, outcome-reread, map_tree}
+use Rattle.q_logic.proofs.UniversalPivot.{without-IsIn, reread, given-reread, outcome-reread, map_circuit}
 use Rattle.q_logic.proofs.Truth.{none_bound, universal_before-is_bound}
 use Rattle.q_logic.proofs.Trees.{Reads-replaced}
 use Rattle.q_logic.proofs.Prefixes.{insert-is_existential, insert-itself, insert-universal_before, insert-not_before, removed-is_existential, removed-unbound, removed-universal_before}
@@ -79,9 +79,9 @@ Skolem-aside P Q X c d v free same lawful sk = record { lawful = lawful; wins = 
           (sym (same w.0.var (free D m w.0 w.1))) w.2,
     )
 
-pub set_tree-other : (v : ℕ) (o : Option Circuit) (c : Strategy) (x : ℕ) → eqb x v ≡ false →
+pub with_circuit-other : (v : ℕ) (o : Option Circuit) (c : Strategy) (x : ℕ) → eqb x v ≡ false →
     with_circuit v o c x ≡ c x
-set_tree-other v o c x n = rw n refl
+with_circuit-other v o c x n = rw n refl
 
 pub unbound_free : (P : Prefix) (X : Matrix) (v : ℕ) → Closed P X → is_bound P v ≡ false → (D : Clause) →
     IsIn D X → (k : Literal) → IsIn k D → eqb k.var v ≡ false
@@ -101,12 +101,12 @@ at_or_other v Q here there x = go (eqb x v) refl
     go true q = let e : v ≡ x = grind arith in subst Q e here
     go false q = there x q
 
-set_tree-itself : (v : ℕ) (o : Option Circuit) (c : Strategy) → with_circuit v o c v ≡ o
-set_tree-itself v o c = let e : eqb v v ≡ true = grind arith in rw e refl
+with_circuit-itself : (v : ℕ) (o : Option Circuit) (c : Strategy) → with_circuit v o c v ≡ o
+with_circuit-itself v o c = let e : eqb v v ≡ true = grind arith in rw e refl
 
 unread_by_const : (v : ℕ) (b : Bool) (c : Strategy) (u : ℕ) →
     Reads (circuit_of (with_circuit v (Some (constant b)) c) v) u → ⊥
-unread_by_const v b c u r = subst (λ o. Reads (or_input v o) u) (set_tree-itself v (Some (constant b)) c) r
+unread_by_const v b c u r = subst (λ o. Reads (or_input v o) u) (with_circuit-itself v (Some (constant b)) c) r
 
 -- A fresh variable, back and forth.
 pub fresh-lawful : (P : Prefix) (v w : ℕ) (c : Strategy) → is_bound P v ≡ false →
@@ -119,7 +119,7 @@ fresh-lawful P v w c n sk = record { trees = trees; reads = reading }
     trees : (x : ℕ) → given (with_circuit v None c x) ≡ is_existential P x
     trees =
         at_or_other v (λ x. given (with_circuit v None c x) ≡ is_existential P x)
-        (ap given (set_tree-itself v None c) ∙ sym not_e) (λ x q. ap given (set_tree-other v None c x q) ∙
+        (ap given (with_circuit-itself v None c) ∙ sym not_e) (λ x q. ap given (with_circuit-other v None c x q) ∙
         (sk.trees x ∙ insert-is_existential w v P x q))
 
     reading : (x : ℕ) → is_existential P x ≡ true → (u : ℕ) →
@@ -135,7 +135,7 @@ fresh-lawful P v w c n sk = record { trees = trees; reads = reading }
         other x q f u r =
             let z : universal_before (insert_after w v P) u x ≡ true =
             sk.reads x (insert-is_existential w v P x q ∙
-            f) u (subst (λ o. Reads (or_input x o) u) (set_tree-other v None c x q) r) in
+            f) u (subst (λ o. Reads (or_input x o) u) (with_circuit-other v None c x q) r) in
             go (eqb u v) refl z
           where
             go : (b : Bool) → eqb u v ≡ b → universal_before (insert_after w v P) u x ≡ true →
@@ -151,14 +151,14 @@ pub fresh-back : (P : Prefix) (X : Matrix) (v w : ℕ) (c : Strategy) → Closed
     is_existential P w ≡ true → Skolem (insert_after w v P) X c → Skolem P X (with_circuit v None c)
 fresh-back P X v w c cl n e sk =
     Skolem-aside (insert_after w v P) P X c (with_circuit v None c) v (unbound_free P X v cl n)
-    (set_tree-other v None c) (fresh-lawful P v w c n sk.lawful) sk
+    (with_circuit-other v None c) (fresh-lawful P v w c n sk.lawful) sk
 
 pub fresh-on : (P : Prefix) (X : Matrix) (v w : ℕ) (c : Strategy) → Closed P X → is_bound P v ≡ false →
     is_existential P w ≡ true → Skolem P X c → Skolem (insert_after w v P) X
     (with_circuit v (Some (constant false)) c)
 fresh-on P X v w c cl n e sk =
     Skolem-aside P (insert_after w v P) X c d v (unbound_free P X v cl n)
-    (set_tree-other v (Some (constant false)) c) (record { trees = trees; reads = reading }) sk
+    (with_circuit-other v (Some (constant false)) c) (record { trees = trees; reads = reading }) sk
   where
     d : Strategy
     d = with_circuit v (Some (constant false)) c
@@ -166,8 +166,8 @@ fresh-on P X v w c cl n e sk =
     trees : (x : ℕ) → given (d x) ≡ is_existential (insert_after w v P) x
     trees =
         at_or_other v (λ x. given (d x) ≡ is_existential (insert_after w v P) x)
-        (ap given (set_tree-itself v (Some (constant false)) c) ∙
-        sym (insert-itself w v P n e)) (λ x q. ap given (set_tree-other v (Some (constant false)) c x q) ∙
+        (ap given (with_circuit-itself v (Some (constant false)) c) ∙
+        sym (insert-itself w v P n e)) (λ x q. ap given (with_circuit-other v (Some (constant false)) c x q) ∙
         (sk.trees x ∙ sym (insert-is_existential w v P x q)))
 
     reading : (x : ℕ) → is_existential (insert_after w v P) x ≡ true → (u : ℕ) → Reads (circuit_of d x) u →
@@ -183,7 +183,7 @@ fresh-on P X v w c cl n e sk =
             let z : universal_before P u x ≡ true =
             sk.reads x (sym (insert-is_existential w v P x q) ∙
             f) u (subst (λ o. Reads (or_input x o) u)
-            (set_tree-other v (Some (constant false)) c x q) r) in
+            (with_circuit-other v (Some (constant false)) c x q) r) in
             insert-universal_before w v P u x q (differs (universal_before-is_bound P u x z)) ∙ z
           where
             differs : is_bound P u ≡ true → eqb u v ≡ false
@@ -235,15 +235,15 @@ removed-lawful P v c di sk = go (is_existential P v) refl
     go true e = record {
       trees =
           (at_or_other v (λ x. given (with_circuit v (Some (constant false)) c x) ≡ is_existential P x)
-          (ap given (set_tree-itself v (Some (constant false)) c) ∙
-          sym e) (λ x q. ap given (set_tree-other v (Some (constant false)) c x q) ∙
+          (ap given (with_circuit-itself v (Some (constant false)) c) ∙
+          sym e) (λ x q. ap given (with_circuit-other v (Some (constant false)) c x q) ∙
           (sk.trees x ∙ removed-is_existential v P x q)));
       reads =
           (at_or_other v (λ x. is_existential P x ≡ true → (u : ℕ) →
           Reads (circuit_of (with_circuit v (Some (constant false)) c) x) u →
           universal_before P u x ≡ true) (λ f u r. absurd (unread_by_const v false c u r))
           (λ x q f u r. old x q f u (subst (λ o. Reads (or_input x o) u)
-          (set_tree-other v (Some (constant false)) c x q) r)));
+          (with_circuit-other v (Some (constant false)) c x q) r)));
     }
 
 pub removed-back : (P : Prefix) (X : Matrix) (v : ℕ) (c : Strategy) → Distinct P →
@@ -259,7 +259,7 @@ removed-back P X v c di free sk =
     same x q = go (is_existential P v)
       where
         go : (b : Bool) → cond b (with_circuit v (Some (constant false)) c) c x ≡ c x
-        go true = set_tree-other v (Some (constant false)) c x q
+        go true = with_circuit-other v (Some (constant false)) c x q
         go false = refl
 
 pub removed-on : (P : Prefix) (X : Matrix) (v : ℕ) (c : Strategy) → Distinct P →
@@ -282,8 +282,8 @@ removed-on P X v c di free sk =
 
     trees : (x : ℕ) → given (d x) ≡ is_existential Q x
     trees =
-        at_or_other v (λ x. given (d x) ≡ is_existential Q x) (ap given (set_tree-itself v None r0) ∙
-        sym not_e) (λ x q. ap given (set_tree-other v None r0 x q) ∙
+        at_or_other v (λ x. given (d x) ≡ is_existential Q x) (ap given (with_circuit-itself v None r0) ∙
+        sym not_e) (λ x q. ap given (with_circuit-other v None r0 x q) ∙
         (given-reread v (constant false) c x ∙ (sk.trees x ∙ sym (removed-is_existential v P x q))))
 
     reading : (x : ℕ) → is_existential Q x ≡ true → (u : ℕ) → Reads (circuit_of d x) u →
@@ -298,11 +298,11 @@ removed-on P X v c di free sk =
         other x q f u r =
             go (c x) (sk.trees x ∙ (sym (removed-is_existential v P x q) ∙ f))
             (sk.reads x (sym (removed-is_existential v P x q) ∙ f))
-            (subst (λ o. Reads (or_input x o) u) (set_tree-other v None r0 x q) r)
+            (subst (λ o. Reads (or_input x o) u) (with_circuit-other v None r0 x q) r)
           where
             go : (o : Option Circuit) → given o ≡ true →
                 ((w : ℕ) → Reads (or_input x o) w → universal_before P w x ≡ true) →
-                Reads (or_input x (map_tree (replaced v (constant false)) o)) u →
+                Reads (or_input x (map_circuit (replaced v (constant false)) o)) u →
                 universal_before Q u x ≡ true
             go None g h r = absurd (grind arith)
             go (Some t) g h r =
@@ -314,6 +314,6 @@ removed-on P X v c di free sk =
         let w : ClauseTrue (outcome c (with_value A v false)) D = sk.wins (with_value A v false) D m in
         let q : eqb w.0.var v ≡ false = free D m w.0 w.1 in
         let e : outcome d A w.0.var ≡ outcome c (with_value A v false) w.0.var =
-        ap (λ o. value_of (or_input w.0.var o) A) (set_tree-other v None r0 w.0.var q) ∙
+        ap (λ o. value_of (or_input w.0.var o) A) (with_circuit-other v None r0 w.0.var q) ∙
         outcome-reread v (constant false) c A w.0.var q in
         (w.0, w.1, ap (signed w.0.negative) e ∙ w.2)

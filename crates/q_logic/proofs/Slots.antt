@@ -55,9 +55,9 @@ IsIn-with l (E ∷ X) D m = go (has l E) refl m (IsIn-with l X D)
     go true q (inr n) ih = (inr (ih n).0, (ih n).1)
     go false q n ih = (inr (ih n).0, (ih n).1)
 
-pub IsIn-without_lit : (l : Literal) (X : Matrix) (D : Clause) → IsIn D (without_literal l X) → IsIn D X × (IsIn l D → ⊥)
-IsIn-without_lit l [] D m = elim m [ ]
-IsIn-without_lit l (E ∷ X) D m = go (has l E) refl m (IsIn-without_lit l X D)
+pub IsIn-without_literal : (l : Literal) (X : Matrix) (D : Clause) → IsIn D (without_literal l X) → IsIn D X × (IsIn l D → ⊥)
+IsIn-without_literal l [] D m = elim m [ ]
+IsIn-without_literal l (E ∷ X) D m = go (has l E) refl m (IsIn-without_literal l X D)
   where
     go : (b : Bool) → has l E ≡ b → IsIn D (cond b (without_literal l X) (E ∷ without_literal l X)) → (IsIn D (without_literal l X) → IsIn D X × (IsIn l D → ⊥)) → IsIn D (E ∷ X) × (IsIn l D → ⊥)
     go false q (inl e) ih = (inl e, λ i. IsIn-has_not l E q (subst (IsIn l) e i))
@@ -103,15 +103,15 @@ IsIn-each_without l [] D m = elim m [ ]
 IsIn-each_without l (E ∷ X) D (inl e) = (E, inl refl, e)
 IsIn-each_without l (E ∷ X) D (inr m) = let r : (E : Clause) × IsIn E X × (D ≡ without l E) = IsIn-each_without l X D m in (r.0, inr r.1, r.2)
 
-pub without_lit-slot : (l : Literal) (N : Slots) (c : ℕ) (C : Clause) → has l C ≡ true → slot N c ≡ Some C → without_literal l (live N) ≡ without_literal l (others c N)
-without_lit-slot l [] c C q h = grind arith
-without_lit-slot l (o ∷ N) zero C q h = subst (λ p. without_literal l (put_first p (live N)) ≡ without_literal l (live N)) (sym h) (rw q refl)
-without_lit-slot l (None ∷ N) (suc c) C q h = without_lit-slot l N c C q h
-without_lit-slot l (Some D ∷ N) (suc c) C q h = ap (λ X. cond (has l D) X (D ∷ X)) (without_lit-slot l N c C q h)
+pub without_literal-slot : (l : Literal) (N : Slots) (c : ℕ) (C : Clause) → has l C ≡ true → slot N c ≡ Some C → without_literal l (live N) ≡ without_literal l (others c N)
+without_literal-slot l [] c C q h = grind arith
+without_literal-slot l (o ∷ N) zero C q h = subst (λ p. without_literal l (put_first p (live N)) ≡ without_literal l (live N)) (sym h) (rw q refl)
+without_literal-slot l (None ∷ N) (suc c) C q h = without_literal-slot l N c C q h
+without_literal-slot l (Some D ∷ N) (suc c) C q h = ap (λ X. cond (has l D) X (D ∷ X)) (without_literal-slot l N c C q h)
 
-pub without_lit-swap : (j l : Literal) (X : Matrix) → without_literal j (without_literal l X) ≡ without_literal l (without_literal j X)
-without_lit-swap j l [] = refl
-without_lit-swap j l (D ∷ X) = go (has j D) refl (has l D) refl (without_lit-swap j l X)
+pub without_literal-swap : (j l : Literal) (X : Matrix) → without_literal j (without_literal l X) ≡ without_literal l (without_literal j X)
+without_literal-swap j l [] = refl
+without_literal-swap j l (D ∷ X) = go (has j D) refl (has l D) refl (without_literal-swap j l X)
   where
     go : (a : Bool) → has j D ≡ a → (b : Bool) → has l D ≡ b → without_literal j (without_literal l X) ≡ without_literal l (without_literal j X)
         → without_literal j (cond b (without_literal l X) (D ∷ without_literal l X)) ≡ without_literal l (cond a (without_literal j X) (D ∷ without_literal j X))

@@ -20,7 +20,7 @@ use Rattle.q_logic.proofs.UniversalPivot.{without-IsIn, forall_pivot-keeps, rere
 use Rattle.q_logic.proofs.Reduction.{reduction-keeps, some_reached, reduced}
 use Rattle.q_logic.proofs.Truth.{true_has-skolem, skolem_makes-true}
 use Rattle.q_logic.proofs.Prefixes.{insert-distinct, insert-is_bound, insert-itself, removed-is_bound, removed-distinct}
-use Rattle.q_logic.proofs.Order.{bound_of_e}
+use Rattle.q_logic.proofs.Order.{existential-is_bound}
 use Rattle.q_logic.proofs.Runs.{one_less-IsIn, IsIn-one_less, Skolem-fewer, Skolem-first, Skolem-longer, fresh-back, fresh-lawful, fresh-on, removed-back, removed-lawful, removed-on, at_or_other}
 
 -- What a step leaves is a formula.
@@ -49,7 +49,7 @@ after-formula F (fresh v w) f h = record {
   closed = λ D m k i.
       at_or_other v (λ x. is_bound F.prefix x ≡ true →
       is_bound (insert_after w v F.prefix) x ≡ true)
-      (λ z. bound_of_e (insert_after w v F.prefix) v (insert-itself w v F.prefix h.0 h.1))
+      (λ z. existential-is_bound (insert_after w v F.prefix) v (insert-itself w v F.prefix h.0 h.1))
       (λ x q z. insert-is_bound w v F.prefix x q ∙ z) k.var (f.closed D m k i);
 }
 after-formula F (remove_variable v) f h =

@@ -9,7 +9,7 @@ use Rattle.q_logic.specs.Truth.{Assignment, ClauseTrue, MatrixTrue, signed, with
 use Rattle.q_logic.specs.Circuits.{Circuit, constant, input, inverter, conjunction, disjunction, value_of, Reads, replaced}
 use Rattle.q_logic.specs.Skolems.{Skolem, Strategy, circuit_of, or_input, given, outcome, Lawful}
 use Rattle.q_logic.proofs.Trees.{value_of-agree, value_of-replaced, Reads-replaced, MatrixTrue-agree}
-use Rattle.q_logic.proofs.Order.{bound_of_e}
+use Rattle.q_logic.proofs.Order.{existential-is_bound}
 
 abbrev play : Prefix → (ℕ → Circuit) → Assignment → Assignment
 play P c A v = cond (is_existential P v) (value_of (c v) A) (A v)
@@ -27,7 +27,7 @@ universal_before-is_bound (b ∷ P) u x h = grind (arith, universal_before-is_bo
 
 universal_before-more : (b : Bound) (P : Prefix) (u x : ℕ) → is_bound P b.var ≡ false →
     is_existential P x ≡ true → universal_before P u x ≡ true → universal_before (b ∷ P) u x ≡ true
-universal_before-more b P u x d e h = grind (arith, universal_before-is_bound P u x, bound_of_e P x)
+universal_before-more b P u x d e h = grind (arith, universal_before-is_bound P u x, existential-is_bound P x)
 
 -- Under an existential with the value w.
 exists_to : (v : ℕ) (P : Prefix) (W : Assignment → Type 0) (ag : Agrees W) (A : Assignment) (w : Bool) →
@@ -61,7 +61,7 @@ exists_to v P W ag A w d c sk = record { reads = reading; wins = winning }
         go : (b : Bool) → eqb x v ≡ b → (b2 : Bool) → eqb v x ≡ b2 → (e : Bool) → is_existential P x ≡ e →
             cond e (value_of (c x) (with_value B v w)) (cond b w (B x)) ≡
             cond (cond b2 true e) (value_of (cond b (constant w) (c x)) B) (B x)
-        go true p true p2 true q = absurd (grind (arith, bound_of_e P x))
+        go true p true p2 true q = absurd (grind (arith, existential-is_bound P x))
         go true p true p2 false q = refl
         go true p false p2 e q = absurd (grind arith)
         go false p true p2 e q = absurd (grind arith)
@@ -107,7 +107,7 @@ forall_to v P W ag A d c0 c1 s0 s1 = record { reads = reading; wins = winning }
         more = universal_before-more (record { quant = Forall; var = v }) P u x d e1
 
         itself : v ≡ u → universal_before Q u x ≡ true
-        itself q = let b : is_bound P x ≡ true = bound_of_e P x e1 in grind arith
+        itself q = let b : is_bound P x ≡ true = existential-is_bound P x e1 in grind arith
 
         go : Reads (c2 x) u → universal_before Q u x ≡ true
         go (inl (inl q)) = itself q
@@ -131,7 +131,7 @@ forall_to v P W ag A d c0 c1 s0 s1 = record { reads = reading; wins = winning }
             step : (b : Bool) → eqb v x ≡ b → (e : Bool) → is_existential P x ≡ e → (w : Bool) → B v ≡ w →
                 cond e (value_of (cond w (c1 x) (c0 x)) B) (B x) ≡
                 cond (cond b false e) (value_of (c2 x) B) (B x)
-            step true q true z w p = absurd (grind (arith, bound_of_e P x))
+            step true q true z w p = absurd (grind (arith, existential-is_bound P x))
             step true q false z w p = refl
             step false q true z true p = grind arith
             step false q true z false p = grind arith
@@ -194,7 +194,7 @@ exists_from v P W ag A d c sk = record { reads = reading; wins = winning }
 
     reading : (x : ℕ) → is_existential P x ≡ true → (u : ℕ) → Reads (c x) u → universal_before P u x ≡ true
     reading x e u r =
-        let b : is_bound P x ≡ true = bound_of_e P x e in
+        let b : is_bound P x ≡ true = existential-is_bound P x e in
         let z : universal_before Q u x ≡ true = sk.reads x (grind arith) u r in grind arith
 
     first : (B : Assignment) → value_of (c v) B ≡ value_of (c v) A
@@ -239,7 +239,7 @@ forall_from v P W ag A w d c sk = record { reads = reading; wins = winning }
       where
         go : (Reads (c x) u × (eqb u v ≡ false)) ⊎ (Reads (c x) v × ⊥) → universal_before P u x ≡ true
         go (inl p) =
-            let b : is_bound P x ≡ true = bound_of_e P x e in
+            let b : is_bound P x ≡ true = existential-is_bound P x e in
             let z : universal_before Q u x ≡ true = sk.reads x (grind arith) u p.0 in grind arith
         go (inr p) = absurd p.1
 
@@ -265,7 +265,7 @@ forall_from v P W ag A w d c sk = record { reads = reading; wins = winning }
           where
             step : (b : Bool) → eqb v x ≡ b → (e : Bool) → is_existential P x ≡ e →
                 cond (cond b false e) (value_of (c x) B) (B x) ≡ cond e (value_of (c1 x) B) (B x)
-            step true q true z = absurd (grind (arith, bound_of_e P x))
+            step true q true z = absurd (grind (arith, existential-is_bound P x))
             step true q false z = refl
             step false q true z =
                 value_of-agree (c x) B (with_value B v w) (λ u r. kept u) ∙
@@ -300,7 +300,7 @@ pub none_bound : (P : Prefix) (x : ℕ) → is_bound P x ≡ false → is_existe
 none_bound P x h = go (is_existential P x) refl
   where
     go : (b : Bool) → is_existential P x ≡ b → is_existential P x ≡ false
-    go true e = absurd (grind (arith, bound_of_e P x))
+    go true e = absurd (grind (arith, existential-is_bound P x))
     go false e = e
 
 pub MatrixTrue-closed : (P : Prefix) (A B : Assignment) (X : Matrix) → Closed P X →

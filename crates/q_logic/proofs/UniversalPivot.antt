@@ -8,7 +8,7 @@ use Rattle.q_logic.specs.Circuits.{Circuit, input, inverter, conjunction, disjun
 use Rattle.q_logic.specs.Skolems.{Strategy, circuit_of, or_input, given, outcome, Skolem, Lawful}
 use Rattle.q_logic.specs.Pivots.{keeps, outer, ForallPivot, OutersOf, without}
 use Rattle.q_logic.specs.Undos.{all_of}
-use Rattle.q_logic.proofs.Clauses.{literal_eq-sound, literal_eq-itself, IsIn-append, IsIn-outer, all_of-true, all_of-false, Reads-all_of, tree_of-none}
+use Rattle.q_logic.proofs.Clauses.{literal_eq-sound, literal_eq-itself, IsIn-append, IsIn-outer, all_of-true, all_of-false, Reads-all_of, circuit_of-none}
 use Rattle.q_logic.proofs.Order.{outer_or_same-is_bound, outer_existential-free, before_outer_existential-before, outer_universal-before_inner, universal-not_existential}
 use Rattle.q_logic.proofs.Pivot.{Near, outers-near}
 use Rattle.q_logic.proofs.Propagation.{implied-true}
@@ -95,17 +95,17 @@ pub every_outers : (P : Prefix) (X : Matrix) (m : Literal) → OutersOf P X m (e
 every_outers P X m = record { all_there = every_outer-there P m X; no_other = every_outer-from P m X }
 
 -- Each tree reads the universal u by the tree s.
-abbrev pub map_tree : (Circuit → Circuit) → Option Circuit → Option Circuit
-map_tree f None = None
-map_tree f (Some t) = Some (f t)
+abbrev pub map_circuit : (Circuit → Circuit) → Option Circuit → Option Circuit
+map_circuit f None = None
+map_circuit f (Some t) = Some (f t)
 
 abbrev pub reread : ℕ → Circuit → Strategy → Strategy
-reread u s c x = map_tree (replaced u s) (c x)
+reread u s c x = map_circuit (replaced u s) (c x)
 
 pub given-reread : (u : ℕ) (s : Circuit) (c : Strategy) (x : ℕ) → given (reread u s c x) ≡ given (c x)
 given-reread u s c x = go (c x)
   where
-    go : (o : Option Circuit) → given (map_tree (replaced u s) o) ≡ given o
+    go : (o : Option Circuit) → given (map_circuit (replaced u s) o) ≡ given o
     go None = refl
     go (Some t) = refl
 
@@ -114,7 +114,7 @@ pub outcome-reread : (u : ℕ) (s : Circuit) (c : Strategy) (A : Assignment) (x 
     outcome (reread u s c) A x ≡ outcome c (with_value A u (value_of s A)) x
 outcome-reread u s c A x n = go (c x)
   where
-    go : (o : Option Circuit) → value_of (or_input x (map_tree (replaced u s) o)) A ≡
+    go : (o : Option Circuit) → value_of (or_input x (map_circuit (replaced u s) o)) A ≡
         value_of (or_input x o) (with_value A u (value_of s A))
     go None = rw n refl
     go (Some t) = value_of-replaced u s t A
@@ -131,7 +131,7 @@ outcome-same u s c A e x = go (c x)
         cases true q = let z : w ≡ u = grind arith in rw z e
         cases false q = refl
 
-    go : (o : Option Circuit) → value_of (or_input x (map_tree (replaced u s) o)) A ≡
+    go : (o : Option Circuit) → value_of (or_input x (map_circuit (replaced u s) o)) A ≡
         value_of (or_input x o) A
     go None = refl
     go (Some t) =
@@ -162,7 +162,7 @@ lowered-false l h A e = go l.negative
 -- What a surgery on the universal u does to the trees, where the clauses over u are left aside.
 module _ (P : Prefix) (c : Strategy) (sk : Lawful P c) (u : ℕ) (hu : is_universal P u ≡ true) where
   input_at : (x : ℕ) → is_existential P x ≡ false → circuit_of c x ≡ input x
-  input_at x e = tree_of-none c x (sk.trees x ∙ e)
+  input_at x e = circuit_of-none c x (sk.trees x ∙ e)
 
   -- An outer or same variable other than u keeps its outcome when u changes.
   pub outer_kept : (A : Assignment) (w : Bool) (x : ℕ) → outer_or_same P x u ≡ true → eqb x u ≡ false →
@@ -216,7 +216,7 @@ reread-lawful P m Os c hu near sk =
             choose true ek =
                 before_outer_existential-before P k.var m.var u x o ek hu (sk.reads k.var ek u q) hx
             choose false ek =
-                let z : k.var ≡ u = subst (λ t. Reads t u) (tree_of-none c k.var (sk.trees k.var ∙ ek)) q in
+                let z : k.var ≡ u = subst (λ t. Reads t u) (circuit_of-none c k.var (sk.trees k.var ∙ ek)) q in
                 subst (λ w. universal_before P w x ≡ true) z
                 (outer_universal-before_inner P k.var m.var x o
                 (outer_or_same-is_bound P k.var m.var o ek) hu e hx)
@@ -231,7 +231,7 @@ reread-lawful P m Os c hu near sk =
       where
         go : (o : Option Circuit) → given o ≡ true →
             ((v : ℕ) → Reads (or_input x o) v → universal_before P v x ≡ true) →
-            Reads (or_input x (map_tree (replaced m.var s) o)) u → universal_before P u x ≡ true
+            Reads (or_input x (map_circuit (replaced m.var s) o)) u → universal_before P u x ≡ true
         go None g old r = absurd (grind arith)
         go (Some t) g old r =
             elim (Reads-replaced m.var s t u r) [
@@ -269,7 +269,7 @@ forall_pivot-keeps P X C l c pv sk =
     unchanged A e S (k, m, t) = (k, m, ap (signed k.negative) (outcome-same l.var s c A e k.var) ∙ t)
 
     at_pivot : (A : Assignment) → outcome c A l.var ≡ A l.var
-    at_pivot A = rw (tree_of-none c l.var (sk.trees l.var ∙ not_e)) refl
+    at_pivot A = rw (circuit_of-none c l.var (sk.trees l.var ∙ not_e)) refl
 
     winning : (A : Assignment) → MatrixTrue (outcome (reread l.var s c) A) (without l C ∷ X)
     winning A = go (value_of h A) refl (signed l.negative (A l.var)) refl
@@ -326,7 +326,7 @@ forall_pivot-keeps P X C l c pv sk =
         pivot_true : signed l.negative (A l.var) ≡ true → LiteralTrue N l
         pivot_true e =
             let z : circuit_of (reread l.var s c) l.var ≡ input l.var =
-            tree_of-none (reread l.var s c) l.var (given-reread l.var s c l.var ∙ sk.trees l.var ∙ not_e) in
+            circuit_of-none (reread l.var s c) l.var (given-reread l.var s c l.var ∙ sk.trees l.var ∙ not_e) in
             subst (λ t. signed l.negative (value_of t A) ≡ true) (sym z) e
 
         by_clause : value_of h A ≡ true → ClauseTrue N (without l C)
