@@ -56,3 +56,4 @@ pub mod CutDecided
 pub mod AllDecided
 pub mod RuleRows
 pub mod Repeated
+pub mod CertificateTrees
