@@ -1,4 +1,6 @@
 mod Plain
 mod Reading
-pub mod Texts
 mod Rereading
+pub mod Texts
+pub mod Lengths
+pub mod Outcomes

@@ -1,5 +1,5 @@
 -- What a whole log says: its steps with their lines, or its first offence.
-use Rattle.std.specs.Prelude.{ℕ, nat_le, List, [], ◌∷◌, length, take, if◌then◌else◌, Option, Some, None}
+use Rattle.std.specs.Prelude.{ℕ, nat_le, List, [], ◌∷◌, ◌++◌, length, take, if◌then◌else◌, Option, Some, None}
 use Rattle.q_logic.specs.Steps.{ProofStep}
 use Rattle.q_text.specs.declared.tokens.Token.{Token}
 use Rattle.q_text.specs.Texts.{tokens_of, tokens_ended, line_after}
@@ -21,6 +21,10 @@ finished = record { steps = []; refused = None }
 -- a step in front
 abbrev pub onto : ℕ × ProofStep → Outcome → Outcome
 onto s o = record { steps = s ∷ o.steps; refused = o.refused }
+
+-- steps that were handed out already, in front
+abbrev pub behind : List (ℕ × ProofStep) → Outcome → Outcome
+behind steps o = record { steps = steps ++ o.steps; refused = o.refused }
 
 abbrev pub follow : Move → ℕ → (Option OpenStep → Outcome) → Outcome
 follow (ends_step n s) line later = onto (n, s) (later None)
