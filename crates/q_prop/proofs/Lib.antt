@@ -20,3 +20,5 @@ pub mod Fixpoint
 pub mod Statuses
 pub mod Missing
 pub mod Definition
+pub mod PlainLemmas
+pub mod Ordered

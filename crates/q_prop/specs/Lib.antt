@@ -9,3 +9,4 @@ pub mod Watches
 pub mod Working
 pub mod Chains
 pub mod Search
+pub mod Plain

@@ -7,6 +7,7 @@ mod clauses;
 mod holders;
 mod lists;
 mod places;
+mod plain;
 mod propagation;
 mod propagator;
 mod rows;
@@ -14,4 +15,5 @@ mod store;
 mod trail;
 mod watches;
 
+pub use plain::implied_plainly;
 pub use store::Store;
