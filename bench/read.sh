@@ -1,0 +1,62 @@
+#!/usr/bin/env bash
+# Makes a formula of 1,000,000 clauses and a log of 1,000,000 steps in a temporary folder, lets the
+# built program read them, and reports bytes per second and peak memory.
+#
+# The formula is read twice, as IN and as OUT of a check with an empty log, and the time includes the
+# comparison of the two. The log adds a clause that follows and deletes it, again and again, so its time
+# includes the checking of the steps.
+set -eu
+cd "$(dirname "$0")/.."
+work=$(mktemp -d)
+trap 'rm -rf "$work"' EXIT
+
+python3 - "$work" <<'PYTHON'
+import os, random, resource, subprocess, sys, time
+
+work = sys.argv[1]
+count = 1_000_000
+variables = 300_000
+random.seed(1)
+
+
+def path(name):
+    return os.path.join(work, name)
+
+
+def clause():
+    return [random.choice((-1, 1)) * random.randint(2, variables) for _ in range(3)]
+
+
+def text(literals):
+    return " ".join(map(str, literals)) + " 0\n"
+
+
+with open(path("formula"), "w") as out:
+    out.write(f"p cnf {variables} {count}\n")
+    out.write("a " + text(range(2, variables, 10)) + "e " + text(range(3, variables, 10)))
+    out.writelines(text(clause()) for _ in range(count))
+with open(path("unit"), "w") as out:
+    out.write(f"p cnf {variables} 1\ne " + text(range(1, variables + 1)) + "1 0\n")
+with open(path("log"), "w") as out:
+    for _ in range(count // 2):
+        literals = text([1] + clause())
+        out.write(literals + "d " + literals)
+open(path("empty"), "w").close()
+
+
+def measure(name, files, bytes_read):
+    begun = time.monotonic()
+    process = subprocess.Popen(["./celdrinn", "check", *map(path, files)], stdout=subprocess.PIPE)
+    said = process.stdout.read().decode().strip()
+    _, status, usage = os.wait4(process.pid, 0)
+    taken = time.monotonic() - begun
+    rate = bytes_read / taken / 1e6
+    peak = usage.ru_maxrss / 1024
+    size = os.path.getsize(path(name)) / 1e6
+    print(f"{name}: {size:.1f} MB, {taken:.2f} s, {rate:.0f} MB/s read, peak {peak:.0f} MiB; {said}")
+
+
+size = os.path.getsize
+measure("formula", ["formula", "formula", "empty"], 2 * size(path("formula")))
+measure("log", ["unit", "unit", "log"], size(path("log")) + 2 * size(path("unit")))
+PYTHON
