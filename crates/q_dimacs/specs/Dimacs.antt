@@ -1,4 +1,4 @@
--- A formula file by what is written in it: the header, the sets, the clauses.
+-- The grammar of formula files (QDIMACS 1.1): what is written in a file, and what it has to obey.
 use Rattle.std.specs.Prelude.{◌≡◌, ◌≢◌, ℕ, ◌+◌, ◌≤◌, List, [], ◌∷◌, ◌++◌, length, map, pos}
 use Rattle.std.specs.List.{AllByRecursion}
 use Rattle.q_logic.specs.declared.limits.Limits.{Limits}
@@ -11,6 +11,7 @@ use Rattle.q_logic.specs.Parts.{ArePairs}
 use Rattle.q_text.specs.declared.tokens.TokenKind.{TokenKind}
 use Rattle.q_text.specs.declared.tokens.TokenKind.TheVariants.{Number, P, Cnf, E, A}
 use Rattle.q_text.specs.Texts.{tokens_of}
+use Rattle.q_dimacs.specs.Scanning.{Scan, HasRead}
 use Rattle.q_dimacs.specs.Building.{formula_of}
 use Rattle.q_logic.specs.Clauses.{clause_of}
 
@@ -87,3 +88,7 @@ pub record AreWithin (small large : Limits) : Type 0 where
   pub clauses : small.clauses ≤ large.clauses
   pub lits : small.lits ≤ large.lits
   pub bytes : small.bytes ≤ large.bytes
+
+-- what the reader has read is a formula file, and this is its formula
+abbrev pub FormulaOf : Scan → PrenexFormula → Type 0
+FormulaOf s f = (m : Limits) → (bytes : List ℕ) → HasRead m bytes s → Dimacs m bytes f

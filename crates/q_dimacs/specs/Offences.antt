@@ -1,5 +1,5 @@
--- The formula of a whole text, or its first offence.
-use Rattle.std.specs.Prelude.{◌≡◌, ℕ, nat_le, List, [], ◌∷◌, length, take, if◌then◌else◌, Result, Ok, Err, Option, Some, None}
+-- The formula of a whole text, or its first offence from the left.
+use Rattle.std.specs.Prelude.{◌≤◌, ◌++◌, ◌≡◌, ℕ, nat_le, List, [], ◌∷◌, length, take, if◌then◌else◌, Result, Ok, Err, Option, Some, None}
 use Rattle.q_logic.specs.declared.limits.Limits.{Limits}
 use Rattle.q_logic.specs.Formulas.{PrenexFormula}
 use Rattle.q_text.specs.declared.tokens.Token.{Token}
@@ -7,6 +7,7 @@ use Rattle.q_text.specs.Texts.{tokens_of, tokens_ended, line_after}
 use Rattle.q_dimacs.specs.declared.builder.Builder.{Builder}
 use Rattle.q_dimacs.specs.declared.error.ReadError.{ReadError}
 use Rattle.q_dimacs.specs.declared.error.ReadError.TheVariants.{Refused}
+use Rattle.q_dimacs.specs.Scanning.{Scan, HasRead}
 use Rattle.q_dimacs.specs.Building.{formula_of}
 use Rattle.q_dimacs.specs.Reading.{step_of, end_of, nothing_read, limit}
 
@@ -48,3 +49,20 @@ closed_with m b t n = at_last n (at_line t.line (step_of m b t.kind))
 -- the first offence of the bytes
 abbrev pub Offence : Limits → List ℕ → ℕ → ℕ → Type 0
 Offence m bytes line cause = parse m bytes ≡ Err (Refused line cause)
+
+-- the reader has read on by this piece
+abbrev pub ReadsOn : Scan → List ℕ → Scan → Type 0
+ReadsOn old piece new = (m : Limits) → (bytes : List ℕ) → HasRead m bytes old → HasRead m (bytes ++ piece) new
+
+-- what has been read and this piece keep the limit on bytes
+abbrev pub StaysWithin : Scan → List ℕ → Type 0
+StaysWithin old piece = (m : Limits) → (bytes : List ℕ) → HasRead m bytes old → length (bytes ++ piece) ≤ m.bytes
+
+-- each text that begins with what has been read and this piece has this first offence
+abbrev pub OffenceBehind : Scan → List ℕ → ℕ → ℕ → Type 0
+OffenceBehind old piece line cause =
+    (m : Limits) → (bytes : List ℕ) → (rest : List ℕ) → HasRead m bytes old → Offence m (bytes ++ (piece ++ rest)) line cause
+
+-- what has been read has this first offence
+abbrev pub OffenceOf : Scan → ℕ → ℕ → Type 0
+OffenceOf s line cause = (m : Limits) → (bytes : List ℕ) → HasRead m bytes s → Offence m bytes line cause

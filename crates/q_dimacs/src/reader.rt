@@ -3,8 +3,8 @@ ghost use Rattle.q_logic.specs.declared.limits.Limits.{Limits};
 ghost use Rattle.q_logic.specs.Parts.{IsProper};
 ghost use Rattle.q_logic.specs.Limits.{AreModerate};
 ghost use Rattle.q_dimacs.specs.Scanning.{Feeds, Answers, HasRead, byte_step, fed, outcome, start, token_step};
-ghost use Rattle.q_dimacs.specs.Dimacs.{Dimacs};
-ghost use Rattle.q_dimacs.specs.Offences.{Offence, parse, at_end, closed_with};
+ghost use Rattle.q_dimacs.specs.Dimacs.{Dimacs, FormulaOf};
+ghost use Rattle.q_dimacs.specs.Offences.{Offence, OffenceBehind, OffenceOf, ReadsOn, StaysWithin, at_end, closed_with};
 ghost use Rattle.q_dimacs.specs.Reading.{end_of, IsSettled};
 
 use crate::builder::{Builder, Fault};
@@ -61,24 +61,28 @@ impl Reader {
     /// Reads on. It refuses only for an offence in the bytes so far, which is then that of every text
     /// that begins with them, and gives the same answer from then on.
     pub fn feed(&mut self, piece: &[u8]) -> Result<(), ReadError>
-        ensures read { OnOk result ((limits : Limits) → (bytes : List ℕ) → HasRead limits bytes self.old → HasRead limits (bytes ++ piece.now) self.new) }
-        ensures refused { (limits : Limits) → (bytes : List ℕ) → (rest : List ℕ) → (line : ℕ) → (cause : ℕ) → HasRead limits bytes self.old → result ≡ Err (ReadError.Refused line cause) → Offence limits (bytes ++ (piece.now ++ rest)) line cause }
+        ensures read { OnOk result (ReadsOn self.old piece.now self.new) }
+        ensures refused { (line : ℕ) → (cause : ℕ) → result ≡ Err (ReadError.Refused line cause)
+            → OffenceBehind self.old piece.now line cause }
 
         // It has not passed the limit on bytes.
-        ensures within { OnOk result ((limits : Limits) → (bytes : List ℕ) → HasRead limits bytes self.old → length (bytes ++ piece.now) ≤ limits.bytes) }
+        ensures within { OnOk result (StaysWithin self.old piece.now) }
 
         // What has stopped the reader stops it for good.
         ensures stopped { IfErr result (λ e. self.new.standing ≡ Standing.Stopped e) }
-        ensures lasting_answer { (e : ReadError) → self.old.standing ≡ Standing.Stopped e → result ≡ Err e }
-        ensures lasting_state { (e : ReadError) → self.old.standing ≡ Standing.Stopped e → self.new ≡ self.old }
+        ensures lasting_answer { (e : ReadError) → self.old.standing ≡ Standing.Stopped e
+            → result ≡ Err e }
+        ensures lasting_state { (e : ReadError) → self.old.standing ≡ Standing.Stopped e
+            → self.new ≡ self.old }
     {
         self.feed_bytes(piece)
     }
 
     /// The formula of all bytes, or their first offence.
     pub fn finish(self) -> Result<Formula, ReadError>
-        ensures formula { IfOk result (λ f. (limits : Limits) → (bytes : List ℕ) → HasRead limits bytes self → Dimacs limits bytes f) }
-        ensures refused { (limits : Limits) → (bytes : List ℕ) → (line : ℕ) → (cause : ℕ) → HasRead limits bytes self → result ≡ Err (ReadError.Refused line cause) → Offence limits bytes line cause }
+        ensures formula { IfOk result (λ f. FormulaOf self f) }
+        ensures refused { (line : ℕ) → (cause : ℕ) → result ≡ Err (ReadError.Refused line cause)
+            → OffenceOf self line cause }
         ensures proper { IfOk result IsProper }
         ensures lasting { (e : ReadError) → self.standing ≡ Standing.Stopped e → result ≡ Err e }
     {
@@ -87,8 +91,10 @@ impl Reader {
 
     fn feed_bytes(&mut self, piece: &[u8]) -> Result<(), ReadError>
         ensures fed { Feeds result (fed self.old piece.now) self.new }
-        ensures lasting_answer { (e : ReadError) → self.old.standing ≡ Standing.Stopped e → result ≡ Err e }
-        ensures lasting_state { (e : ReadError) → self.old.standing ≡ Standing.Stopped e → self.new ≡ self.old }
+        ensures lasting_answer { (e : ReadError) → self.old.standing ≡ Standing.Stopped e
+            → result ≡ Err e }
+        ensures lasting_state { (e : ReadError) → self.old.standing ≡ Standing.Stopped e
+            → self.new ≡ self.old }
     {
         match self.standing {
             Standing::Stopped(error) => Err(error),
@@ -191,7 +197,8 @@ impl Reader {
 pub fn read(alloc: Global, limits: Limits, bytes: &[u8]) -> Result<Formula, ReadError>
     requires { AreModerate limits }
     ensures formula { IfOk result (λ f. Dimacs limits bytes.now f) }
-    ensures refused { (line : ℕ) → (cause : ℕ) → result ≡ Err (ReadError.Refused line cause) → Offence limits bytes.now line cause }
+    ensures refused { (line : ℕ) → (cause : ℕ) → result ≡ Err (ReadError.Refused line cause)
+        → Offence limits bytes.now line cause }
     ensures proper { IfOk result IsProper }
 {
     let mut reader = Reader::new(alloc, limits)?;
