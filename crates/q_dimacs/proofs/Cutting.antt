@@ -7,7 +7,7 @@ use Rattle.q_dimacs.specs.declared.error.ReadError.TheVariants.{Refused}
 use Rattle.q_dimacs.specs.declared.reader.Standing.TheVariants.{Stopped}
 use Rattle.q_dimacs.specs.Scanning.{Scan, fed, start, outcome, HasRead, Feeds, FeedFails, Answers, FailsAs}
 use Rattle.q_dimacs.specs.Dimacs.{Dimacs}
-use Rattle.q_dimacs.specs.Offences.{Offence, OffenceBehind, OffenceOf}
+use Rattle.q_dimacs.specs.Offences.{Offence, RefusesBehind, RefusesAll}
 use Rattle.q_dimacs.proofs.Feeding.{fed-more}
 use Rattle.q_dimacs.proofs.Law.{reads, outcome-fed-stopped}
 use Rattle.q_dimacs.proofs.Converse.{read_is_grammar}
@@ -25,9 +25,9 @@ refuses m bytes piece rest old line cause h e =
     ∙ outcome-fed-stopped (fed old piece) (Refused line cause) rest e)
 
 pub feed-refuses : {X : Type 0} (r : Result X ReadError) (old new : Scan) (piece : List ℕ) → Feeds r (fed old piece) new
-    → (line cause : ℕ) → r ≡ Err (Refused line cause) → OffenceBehind old piece line cause
-feed-refuses (Ok x) old new piece h line cause e m bytes rest k = absurd (cc)
-feed-refuses (Err f) old new piece h line cause e m bytes rest k =
+    → RefusesBehind r old piece
+feed-refuses (Ok x) old new piece h m bytes rest line cause k e = absurd (cc)
+feed-refuses (Err f) old new piece h m bytes rest line cause k e =
     let g : f ≡ Refused line cause = cc in
     refuses m bytes piece rest old line cause k ((subst (λ x. FeedFails x (fed old piece) new) g h).0)
 
@@ -37,9 +37,9 @@ finish-reads (Ok f) s h = λ m bytes k. read_is_grammar m bytes f (sym (reads m 
 finish-reads (Err e) s h = tt
 
 pub finish-refuses : (r : Result PrenexFormula ReadError) (s : Scan) → Answers r (outcome s)
-    → (line cause : ℕ) → r ≡ Err (Refused line cause) → OffenceOf s line cause
-finish-refuses (Ok f) s h line cause e m bytes k = absurd (cc)
-finish-refuses (Err f) s h line cause e m bytes k =
+    → RefusesAll r s
+finish-refuses (Ok f) s h m bytes line cause k e = absurd (cc)
+finish-refuses (Err f) s h m bytes line cause k e =
     let g : f ≡ Refused line cause = cc in
     sym (reads m bytes) ∙ (ap outcome (sym k) ∙ subst (λ x. FailsAs x (outcome s)) g h)
 

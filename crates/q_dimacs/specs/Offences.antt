@@ -58,11 +58,13 @@ ReadsOn old piece new = (m : Limits) → (bytes : List ℕ) → HasRead m bytes 
 abbrev pub StaysWithin : Scan → List ℕ → Type 0
 StaysWithin old piece = (m : Limits) → (bytes : List ℕ) → HasRead m bytes old → length (bytes ++ piece) ≤ m.bytes
 
--- each text that begins with what has been read and this piece has this first offence
-abbrev pub OffenceBehind : Scan → List ℕ → ℕ → ℕ → Type 0
-OffenceBehind old piece line cause =
-    (m : Limits) → (bytes : List ℕ) → (rest : List ℕ) → HasRead m bytes old → Offence m (bytes ++ (piece ++ rest)) line cause
+-- a refusal is the first offence of each text that begins with what has been read and this piece
+abbrev pub RefusesBehind : {X : Type 0} → Result X ReadError → Scan → List ℕ → Type 0
+RefusesBehind r old piece =
+    (m : Limits) → (bytes : List ℕ) → (rest : List ℕ) → (line : ℕ) → (cause : ℕ) → HasRead m bytes old → r ≡ Err (Refused line cause)
+    → Offence m (bytes ++ (piece ++ rest)) line cause
 
--- what has been read has this first offence
-abbrev pub OffenceOf : Scan → ℕ → ℕ → Type 0
-OffenceOf s line cause = (m : Limits) → (bytes : List ℕ) → HasRead m bytes s → Offence m bytes line cause
+-- a refusal is the first offence of what has been read
+abbrev pub RefusesAll : {X : Type 0} → Result X ReadError → Scan → Type 0
+RefusesAll r s =
+    (m : Limits) → (bytes : List ℕ) → (line : ℕ) → (cause : ℕ) → HasRead m bytes s → r ≡ Err (Refused line cause) → Offence m bytes line cause

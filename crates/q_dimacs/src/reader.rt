@@ -4,7 +4,7 @@ ghost use Rattle.q_logic.specs.Parts.{IsProper};
 ghost use Rattle.q_logic.specs.Limits.{AreModerate};
 ghost use Rattle.q_dimacs.specs.Scanning.{Feeds, Answers, HasRead, byte_step, fed, outcome, start, token_step};
 ghost use Rattle.q_dimacs.specs.Dimacs.{Dimacs, FormulaOf};
-ghost use Rattle.q_dimacs.specs.Offences.{Offence, OffenceBehind, OffenceOf, ReadsOn, StaysWithin, at_end, closed_with};
+ghost use Rattle.q_dimacs.specs.Offences.{Offence, ReadsOn, RefusesAll, RefusesBehind, StaysWithin, at_end, closed_with};
 ghost use Rattle.q_dimacs.specs.Reading.{end_of, IsSettled};
 
 use crate::builder::{Builder, Fault};
@@ -62,8 +62,7 @@ impl Reader {
     /// that begins with them, and gives the same answer from then on.
     pub fn feed(&mut self, piece: &[u8]) -> Result<(), ReadError>
         ensures read { OnOk result (ReadsOn self.old piece.now self.new) }
-        ensures refused { (line : ℕ) → (cause : ℕ) → result ≡ Err (ReadError.Refused line cause)
-            → OffenceBehind self.old piece.now line cause }
+        ensures refused { RefusesBehind result self.old piece.now }
 
         // It has not passed the limit on bytes.
         ensures within { OnOk result (StaysWithin self.old piece.now) }
@@ -81,8 +80,7 @@ impl Reader {
     /// The formula of all bytes, or their first offence.
     pub fn finish(self) -> Result<Formula, ReadError>
         ensures formula { IfOk result (λ f. FormulaOf self f) }
-        ensures refused { (line : ℕ) → (cause : ℕ) → result ≡ Err (ReadError.Refused line cause)
-            → OffenceOf self line cause }
+        ensures refused { RefusesAll result self }
         ensures proper { IfOk result IsProper }
         ensures lasting { (e : ReadError) → self.standing ≡ Standing.Stopped e → result ≡ Err e }
     {
