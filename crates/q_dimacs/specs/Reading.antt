@@ -73,11 +73,14 @@ in_set q b k = Err bad_token
 abbrev pub end_clause : Builder → Builder
 end_clause b = record b { place = Outside; parts = record { bounds = b.parts.bounds; clauses = b.parts.clauses ++ clause_of b.parts.pending ∷ []; pending = [] } }
 
+abbrev pub with_literal : Built → Literal → Built
+with_literal p l = record p { pending = p.pending ++ l ∷ [] }
+
 abbrev pub literal : Limits → Builder → ℕ → Bool → Result Builder ℕ
 literal m b n s =
     if nat_lt b.vars n then Err above_header
     else (if nat_le m.lits b.lits then Err limit
-    else Ok (record b { place = InClause; lits = b.lits + 1; parts = record b.parts { pending = b.parts.pending ++ record { var = n; negative = s } ∷ [] } }))
+    else Ok (record b { place = InClause; lits = b.lits + 1; parts = with_literal b.parts (record { var = n; negative = s }) }))
 
 abbrev pub number : Limits → Builder → ℤ → Result Builder ℕ
 number m b (pos n) = if n == 0 then Ok (end_clause b) else literal m b n false

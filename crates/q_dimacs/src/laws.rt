@@ -10,15 +10,19 @@ ghost use Rattle.q_dimacs.specs.Offences.{parse};
 
 /// A text is in the grammar exactly where it has no offence, and its formula is that of the grammar.
 pub fn grammar_is_read()
-    ensures { (limits : Limits) → (bytes : List ℕ) → (formula : PrenexFormula) → Dimacs limits bytes formula ↔ (parse limits bytes ≡ Ok formula) }
+    ensures { (limits : Limits) → (bytes : List ℕ) → (formula : PrenexFormula)
+        → Dimacs limits bytes formula ↔ (parse limits bytes ≡ Ok formula) }
 {}
 
 /// Under larger limits a text has the same formula.
 pub fn larger_limits_read_the_same()
-    ensures { (small : Limits) → (large : Limits) → (bytes : List ℕ) → (formula : PrenexFormula) → AreWithin small large → Dimacs small bytes formula → Dimacs large bytes formula }
+    ensures { (small : Limits) → (large : Limits) → (bytes : List ℕ) → (formula : PrenexFormula)
+        → AreWithin small large → Dimacs small bytes formula → Dimacs large bytes formula }
 {}
 
 /// The canonical text of a formula that keeps the limits is read as this formula.
 pub fn written_is_read()
-    ensures { (limits : Limits) → (formula : PrenexFormula) → AreModerate limits → IsProper formula → KeepsLimits limits formula → Dimacs limits (formula_text formula) formula }
+    ensures { (limits : Limits) → (formula : PrenexFormula)
+        → AreModerate limits → IsProper formula → KeepsLimits limits formula
+        → Dimacs limits (formula_text formula) formula }
 {}

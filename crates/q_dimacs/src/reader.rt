@@ -37,9 +37,21 @@ impl Model for Reader {
 
     ghost Value = { Scan };
 
-    ghost view = { λ r. record { limits = r.limits; tokens = r.tokens; taken = r.taken; builder = r.builder; standing = r.standing } };
+    ghost view = { λ r. record {
+      limits = r.limits;
+      tokens = r.tokens;
+      taken = r.taken;
+      builder = r.builder;
+      standing = r.standing;
+    } };
 
-    ghost invariant = { λ r. IsSound (record { limits = r.limits; tokens = r.tokens; taken = r.taken; builder = r.builder; standing = r.standing }) };
+    ghost invariant = { λ r. IsSound (record {
+      limits = r.limits;
+      tokens = r.tokens;
+      taken = r.taken;
+      builder = r.builder;
+      standing = r.standing;
+    }) };
 }
 
 impl Reader {
