@@ -19,10 +19,10 @@ IsWithin x y = (c : Clause) → Contains x c → Contains y c
 
 IsForced-within : (x y : Matrix) (known : List Literal) (l : Literal) → IsWithin x y → IsForced x known l → IsForced y known l
 IsForced-within x y known l w f = record {
-    clause = f.clause;
-    of_matrix = w f.clause f.of_matrix;
-    of_clause = f.of_clause;
-    others = f.others;
+  clause = f.clause;
+  of_matrix = w f.clause f.of_matrix;
+  of_clause = f.of_clause;
+  others = f.others;
 }
 
 IsChain-within : (x y : Matrix) (known added : List Literal) → IsWithin x y → IsChain x known added → IsChain y known added
@@ -32,14 +32,14 @@ IsChain-within x y known (l ∷ added) w h = (IsForced-within x y known l w h.0,
 IsConflict-within : (x y : Matrix) (known : List Literal) → IsWithin x y → IsConflict x known → IsConflict y known
 IsConflict-within x y known w c =
     elim c [
-        inl o ↦ inl o
+      | inl o ↦ inl o
       | inr f ↦ inr (f.0, w f.0 f.1, f.2)
     ]
 
 -- more clauses keep what is implied
 pub IsImplied-within : (x y : Matrix) (s : Clause) → IsWithin x y → IsImplied x s → IsImplied y s
 IsImplied-within x y s w i = record {
-    added = i.added;
-    chain = IsChain-within x y (map negation s) i.added w i.chain;
-    conflict = IsConflict-within x y (map negation s ++ i.added) w i.conflict;
+  added = i.added;
+  chain = IsChain-within x y (map negation s) i.added w i.chain;
+  conflict = IsConflict-within x y (map negation s ++ i.added) w i.conflict;
 }

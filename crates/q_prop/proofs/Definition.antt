@@ -30,17 +30,17 @@ told x start known begin = ([], tt, λ l m. rw append-nil (of_in l start m))
 told x start known (more {K = K} k D inX inD rest ch) =
     let t = told x start K ch in
     let f : IsForced x (start ++ t.0) k = record {
-        clause = D;
-        of_matrix = of_in D x inX;
-        of_clause = of_in k D inD;
-        others = λ j m n. t.2 (negation j) (rest j (to_in j D m) n);
-    } in
-    ( t.0 ++ k ∷ []
-    , IsChain-push x start t.0 k t.1 f
-    , λ l m. rw (← append_assoc) (elim m [
-            inl e ↦ subst (λ z. Contains ((start ++ t.0) ++ k ∷ []) z) (sym e) (Contains-push (start ++ t.0) k)
-          | inr n ↦ Contains-append_left (start ++ t.0) (k ∷ []) l (t.2 l n)
-        ])
+      clause = D;
+      of_matrix = of_in D x inX;
+      of_clause = of_in k D inD;
+      others = λ j m n. t.2 (negation j) (rest j (to_in j D m) n);
+    } in (
+      t.0 ++ k ∷ [],
+      IsChain-push x start t.0 k t.1 f,
+      λ l m. rw (← append_assoc) (elim m [
+        | inl e ↦ subst (λ z. Contains ((start ++ t.0) ++ k ∷ []) z) (sym e) (Contains-push (start ++ t.0) k)
+        | inr n ↦ Contains-append_left (start ++ t.0) (k ∷ []) l (t.2 l n)
+      ]),
     )
 
 -- The other way: the chain from what is known already goes on.
@@ -50,11 +50,11 @@ Back x start some = (known : List Literal) × Chain x start known × ((l : Liter
 back : (x : Matrix) (start some added : List Literal) → IsChain x some added → Back x start some → Back x start (some ++ added)
 back x start some [] h b = rw append-nil b
 back x start some (l ∷ added) (f, h) (known, ch, all) =
-    rw append_assoc at (back x start (some ++ l ∷ []) added h
-        ( l ∷ known
-        , more l f.clause (to_in f.clause x f.of_matrix) (to_in l f.clause f.of_clause) (λ j m n. all (negation j) (f.others j (of_in j f.clause m) n)) ch
-        , λ k m. elim (Contains-push_cases some l k m) [ inl before ↦ inr (all k before) | inr e ↦ inl (sym e) ]
-        ))
+    rw append_assoc at (back x start (some ++ l ∷ []) added h (
+      l ∷ known,
+      more l f.clause (to_in f.clause x f.of_matrix) (to_in l f.clause f.of_clause) (λ j m n. all (negation j) (f.others j (of_in j f.clause m) n)) ch,
+      λ k m. elim (Contains-push_cases some l k m) [ inl before ↦ inr (all k before) | inr e ↦ inl (sym e) ],
+    ))
 
 conflicts : (x : Matrix) (known some : List Literal) → ((l : Literal) → Contains some l → IsIn l known) → IsConflict x some → Conflicts x known
 conflicts x known some all (inl o) = inl (o.0, all o.0 o.1, all (negation o.0) o.2)
@@ -67,7 +67,7 @@ conflict_of x known some all (inr (D, m, f)) = inr (D, of_in D x m, λ j i. all 
 pub implied_of : (x : Matrix) (s : Clause) → Implied x s → IsImplied x s
 implied_of x s (K, ch, c) =
     let t = told x (map negation s) K (rw negations-map at ch) in
-    record { added = t.0; chain = t.1; conflict = conflict_of x K (map negation s ++ t.0) t.2 c; }
+    record { added = t.0; chain = t.1; conflict = conflict_of x K (map negation s ++ t.0) t.2 c }
 
 pub is_implied : (x : Matrix) (s : Clause) → IsImplied x s → Implied x s
 is_implied x s i =

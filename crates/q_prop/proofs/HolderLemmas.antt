@@ -20,74 +20,74 @@ apart k l d e = d (pack-apart k l e)
 
 pub held-none : (lists : List (List ℕ)) (slot : ℕ) → IsHeld lists lists slot []
 held-none lists slot = record {
-    members = λ l m. ((λ h. inl h), (λ h. elim h [ inl a ↦ a | inr b ↦ absurd (Contains-nil l b.1) ]));
-    distinct = λ d. d;
+  members = λ l m. ((λ h. inl h), (λ h. elim h [ inl a ↦ a | inr b ↦ absurd (Contains-nil l b.1) ]));
+  distinct = λ d. d;
 }
 
 pub freed-none : (lists : List (List ℕ)) (slot : ℕ) → IsFreed lists lists slot []
 freed-none lists slot = record {
-    members = λ l m. ((λ h. (h, λ e k. Contains-nil l k)), (λ h. h.0));
-    distinct = λ d. d;
+  members = λ l m. ((λ h. (h, λ e k. Contains-nil l k)), (λ h. h.0));
+  distinct = λ d. d;
 }
 
 module _ (old now new : List (List ℕ)) (slot : ℕ) (seen : Clause) (k : Literal) where
-    pub held-push : IsHeld old now slot seen → IsAppended now new (pack k) slot → (Contains (list_at now (pack k)) slot → ⊥) → IsHeld old new slot (seen ++ k ∷ [])
-    held-push h a fresh = record {
-        members = λ l m. elim (Literal-cases l k) [
-            inl e ↦ rw (e, a.here)
-                ( (λ c. elim (Contains-push_cases (list_at now (pack k)) slot m c) [
-                    inl b ↦ elim ((h.members k m).0 b) [ inl o ↦ inl o | inr n ↦ inr (n.0, Contains-append_left seen (k ∷ []) k n.1) ]
-                  | inr b ↦ inr (sym b, Contains-push seen k)
-                  ])
-                , (λ c. elim c [
-                    inl o ↦ Contains-append_left (list_at now (pack k)) (slot ∷ []) m ((h.members k m).1 (inl o))
-                  | inr n ↦ rw n.0 (Contains-push (list_at now (pack k)) slot)
-                  ])
-                )
-          | inr d ↦ rw (a.others (pack l) (apart l k d))
-                ( (λ c. elim ((h.members l m).0 c) [ inl o ↦ inl o | inr n ↦ inr (n.0, Contains-append_left seen (k ∷ []) l n.1) ])
-                , (λ c. elim c [
-                    inl o ↦ (h.members l m).1 (inl o)
-                  | inr n ↦ elim (Contains-push_cases seen k l n.1) [
-                        inl b ↦ (h.members l m).1 (inr (n.0, b))
-                      | inr b ↦ absurd (d (sym b))
-                    ]
-                  ])
-                )
-        ];
-        distinct = λ d l. elim (Literal-cases l k) [
-            inl e ↦ rw (e, a.here) (distinct-push (list_at now (pack k)) slot (h.distinct d k) fresh)
-          | inr n ↦ rw (a.others (pack l) (apart l k n)) (h.distinct d l)
-        ];
-    }
+  pub held-push : IsHeld old now slot seen → IsAppended now new (pack k) slot → (Contains (list_at now (pack k)) slot → ⊥) → IsHeld old new slot (seen ++ k ∷ [])
+  held-push h a fresh = record {
+    members = λ l m. elim (Literal-cases l k) [
+      | inl e ↦ rw (e, a.here) (
+        (λ c. elim (Contains-push_cases (list_at now (pack k)) slot m c) [
+          | inl b ↦ elim ((h.members k m).0 b) [ inl o ↦ inl o | inr n ↦ inr (n.0, Contains-append_left seen (k ∷ []) k n.1) ]
+          | inr b ↦ inr (sym b, Contains-push seen k)
+        ]),
+        (λ c. elim c [
+          | inl o ↦ Contains-append_left (list_at now (pack k)) (slot ∷ []) m ((h.members k m).1 (inl o))
+          | inr n ↦ rw n.0 (Contains-push (list_at now (pack k)) slot)
+        ]),
+      )
+      | inr d ↦ rw (a.others (pack l) (apart l k d)) (
+        (λ c. elim ((h.members l m).0 c) [ inl o ↦ inl o | inr n ↦ inr (n.0, Contains-append_left seen (k ∷ []) l n.1) ]),
+        (λ c. elim c [
+          | inl o ↦ (h.members l m).1 (inl o)
+          | inr n ↦ elim (Contains-push_cases seen k l n.1) [
+            | inl b ↦ (h.members l m).1 (inr (n.0, b))
+            | inr b ↦ absurd (d (sym b))
+          ]
+        ]),
+      )
+    ];
+    distinct = λ d l. elim (Literal-cases l k) [
+      | inl e ↦ rw (e, a.here) (distinct-push (list_at now (pack k)) slot (h.distinct d k) fresh)
+      | inr n ↦ rw (a.others (pack l) (apart l k n)) (h.distinct d l)
+    ];
+  }
 
-    pub freed-take : IsFreed old now slot seen → IsTakenOut now new (pack k) slot → IsFreed old new slot (seen ++ k ∷ [])
-    freed-take f t = record {
-        members = λ l m. elim (Literal-cases l k) [
-            inl e ↦ rw e
-                ( (λ c. let g = (t.here.members m).0 c in (((f.members k m).0 g.0).0, λ s h. g.1 s))
-                , (λ c. (t.here.members m).1 ((f.members k m).1 (c.0, λ s h. c.1 s (Contains-append_left seen (k ∷ []) k h)), λ s. c.1 s (Contains-push seen k)))
-                )
-          | inr d ↦ rw (t.others (pack l) (apart l k d))
-                ( (λ c. let g = (f.members l m).0 c in (g.0, λ s h. elim (Contains-push_cases seen k l h) [ inl b ↦ g.1 s b | inr b ↦ d (sym b) ]))
-                , (λ c. (f.members l m).1 (c.0, λ s h. c.1 s (Contains-append_left seen (k ∷ []) l h)))
-                )
-        ];
-        distinct = λ d l. elim (Literal-cases l k) [
-            inl e ↦ rw e (t.here.distinct (f.distinct d k))
-          | inr n ↦ rw (t.others (pack l) (apart l k n)) (f.distinct d l)
-        ];
-    }
+  pub freed-take : IsFreed old now slot seen → IsTakenOut now new (pack k) slot → IsFreed old new slot (seen ++ k ∷ [])
+  freed-take f t = record {
+    members = λ l m. elim (Literal-cases l k) [
+      | inl e ↦ rw e (
+        (λ c. let g = (t.here.members m).0 c in (((f.members k m).0 g.0).0, λ s h. g.1 s)),
+        (λ c. (t.here.members m).1 ((f.members k m).1 (c.0, λ s h. c.1 s (Contains-append_left seen (k ∷ []) k h)), λ s. c.1 s (Contains-push seen k))),
+      )
+      | inr d ↦ rw (t.others (pack l) (apart l k d)) (
+        (λ c. let g = (f.members l m).0 c in (g.0, λ s h. elim (Contains-push_cases seen k l h) [ inl b ↦ g.1 s b | inr b ↦ d (sym b) ])),
+        (λ c. (f.members l m).1 (c.0, λ s h. c.1 s (Contains-append_left seen (k ∷ []) l h))),
+      )
+    ];
+    distinct = λ d l. elim (Literal-cases l k) [
+      | inl e ↦ rw e (t.here.distinct (f.distinct d k))
+      | inr n ↦ rw (t.others (pack l) (apart l k n)) (f.distinct d l)
+    ];
+  }
 
 -- what came and went again
 pub undone : (old now now' new : List (List ℕ)) (slot : ℕ) (seen : Clause) → ((l : Literal) → Contains (list_at old (pack l)) slot → ⊥) → IsHeld old now slot seen → AreSameLists now now' → IsFreed now' new slot seen → AreAlike old new
 undone old now now' new slot seen fresh h same f = record {
-    members = λ l m.
-        ( (λ c. let g = (f.members l m).0 c in
-            elim ((h.members l m).0 (rw (same (pack l)) at g.0)) [ inl o ↦ o | inr n ↦ absurd (g.1 n.0 n.1) ])
-        , (λ c. (f.members l m).1 (rw (same (pack l)) ((h.members l m).1 (inl c)), λ s k. fresh l (rw s at c)))
-        );
-    distinct = λ d. f.distinct (λ l. rw (same (pack l)) (h.distinct d l));
+  members = λ l m. (
+    (λ c. let g = (f.members l m).0 c in
+        elim ((h.members l m).0 (rw (same (pack l)) at g.0)) [ inl o ↦ o | inr n ↦ absurd (g.1 n.0 n.1) ]),
+    (λ c. (f.members l m).1 (rw (same (pack l)) ((h.members l m).1 (inl c)), λ s k. fresh l (rw s at c))),
+  );
+  distinct = λ d. f.distinct (λ l. rw (same (pack l)) (h.distinct d l));
 }
 
 -- in an ordered clause a literal is none of those before it
@@ -103,30 +103,30 @@ pub ordered-new : (c : Clause) (i : ℕ) (k : Literal) → IsOrdered c → slice
 ordered-new [] i k o e h = cc
 ordered-new (x ∷ c) zero k o e h = Contains-nil k h
 ordered-new (x ∷ c) (suc i) k o e h = elim (Contains-cons_cases x (take i c) k h) [
-    inl s ↦ below-apart k (rw s at (all-in x c o.0 k (Contains-slice_get c i k e)))
+  | inl s ↦ below-apart k (rw s at (all-in x c o.0 k (Contains-slice_get c i k e)))
   | inr t ↦ ordered-new c i k o.1 e t
 ]
 
 -- a clause comes to its slot
 pub holders_put : (s : Slots) (n : ℕ) (c : Clause) (s' : Slots) (old new : List (List ℕ)) → IsPut s n c s' → AreHolders s old → IsHeld old new n c → AreHolders s' new
 holders_put s n c s' old new put a h = record {
-    members = λ l m.
-        ( (λ k. elim ((h.members l m).0 k) [
-            inl o ↦ let e = (a.members l m).0 o in (e.0, put-other s n c s' put m e.0 e.1, e.2)
-          | inr e ↦ (c, subst (λ x. Holds s' x c) (sym e.0) (put-here s n c s' put), e.1)
-          ])
-        , (λ k. elim (put-cases s n c s' put m k.0 k.1) [
-            inl o ↦ (h.members l m).1 (inl ((a.members l m).1 (k.0, o.1, k.2)))
-          | inr e ↦ (h.members l m).1 (inr (e.0, subst (λ d. Contains d l) (sym e.1) k.2))
-          ])
-        );
-    distinct = h.distinct a.distinct;
+  members = λ l m. (
+    (λ k. elim ((h.members l m).0 k) [
+      | inl o ↦ let e = (a.members l m).0 o in (e.0, put-other s n c s' put m e.0 e.1, e.2)
+      | inr e ↦ (c, subst (λ x. Holds s' x c) (sym e.0) (put-here s n c s' put), e.1)
+    ]),
+    (λ k. elim (put-cases s n c s' put m k.0 k.1) [
+      | inl o ↦ (h.members l m).1 (inl ((a.members l m).1 (k.0, o.1, k.2)))
+      | inr e ↦ (h.members l m).1 (inr (e.0, subst (λ d. Contains d l) (sym e.1) k.2))
+    ]),
+  );
+  distinct = h.distinct a.distinct;
 }
 
 pub holders_alike : (s : Slots) (old new : List (List ℕ)) → AreHolders s old → AreAlike old new → AreHolders s new
 holders_alike s old new a k = record {
-    members = λ l m. ((λ h. (a.members l m).0 ((k.members l m).0 h)), (λ h. (k.members l m).1 ((a.members l m).1 h)));
-    distinct = k.distinct a.distinct;
+  members = λ l m. ((λ h. (a.members l m).0 ((k.members l m).0 h)), (λ h. (k.members l m).1 ((a.members l m).1 h)));
+  distinct = k.distinct a.distinct;
 }
 
 -- a vacant slot is under no literal
@@ -136,33 +136,33 @@ holders_fresh s lists n a vacant l h = let e = (a.members l n).0 h in vacant e.0
 -- a clause leaves its slot
 pub holders_cleared : (s : Slots) (n : ℕ) (c : Clause) (old new : List (List ℕ)) → Holds s n c → AreHolders s old → IsFreed old new n c → AreHolders (without s (Some n)) new
 holders_cleared s n c old new here a f = record {
-    members = λ l m.
-        ( (λ k. let g = (f.members l m).0 k in
-            let e = (a.members l m).0 g.0 in
-            let other : m ≢ n = λ s'. g.1 s' (let same : e.0 ≡ c = let z : Some e.0 ≡ Some c = same_slice_get s n (Some e.0) (Some c) (subst (λ x. Holds s x e.0) s' e.1) here in cc in subst (λ d. Contains d l) same e.2) in
-            (e.0, without-other s n m other ∙ e.1, e.2))
-        , (λ k. (f.members l m).1
-            ( (a.members l m).1 (k.0, without-le s (Some n) m k.0 k.1, k.2)
-            , λ s' h. without-here s n k.0 (subst (λ x. Holds (without s (Some n)) x k.0) s' k.1)
-            ))
-        );
-    distinct = f.distinct a.distinct;
+  members = λ l m. (
+    (λ k. let g = (f.members l m).0 k in
+        let e = (a.members l m).0 g.0 in
+        let other : m ≢ n = λ s'. g.1 s' (let same : e.0 ≡ c = let z : Some e.0 ≡ Some c = same_slice_get s n (Some e.0) (Some c) (subst (λ x. Holds s x e.0) s' e.1) here in cc in subst (λ d. Contains d l) same e.2) in
+        (e.0, without-other s n m other ∙ e.1, e.2)),
+    (λ k. (f.members l m).1 (
+      (a.members l m).1 (k.0, without-le s (Some n) m k.0 k.1, k.2),
+      λ s' h. without-here s n k.0 (subst (λ x. Holds (without s (Some n)) x k.0) s' k.1),
+    )),
+  );
+  distinct = f.distinct a.distinct;
 }
 
 pub holders_vacant : (s : Slots) (n : ℕ) (lists : List (List ℕ)) → ((c : Clause) → Holds s n c → ⊥) → AreHolders s lists → AreHolders (without s (Some n)) lists
 holders_vacant s n lists vacant a = record {
-    members = λ l m.
-        ( (λ k. let e = (a.members l m).0 k in
-            (e.0, without-other s n m (λ s'. vacant e.0 (subst (λ x. Holds s x e.0) s' e.1)) ∙ e.1, e.2))
-        , (λ k. (a.members l m).1 (k.0, without-le s (Some n) m k.0 k.1, k.2))
-        );
-    distinct = a.distinct;
+  members = λ l m. (
+    (λ k. let e = (a.members l m).0 k in
+        (e.0, without-other s n m (λ s'. vacant e.0 (subst (λ x. Holds s x e.0) s' e.1)) ∙ e.1, e.2)),
+    (λ k. (a.members l m).1 (k.0, without-le s (Some n) m k.0 k.1, k.2)),
+  );
+  distinct = a.distinct;
 }
 
 pub holders_none : AreHolders [] []
 holders_none = record {
-    members = λ l n. ((λ h. absurd (Contains-nil n (subst (λ (xs : List ℕ). Contains xs n) (list_at-none (pack l)) h))), (λ h. absurd (let k = h.1 in cc)));
-    distinct = λ l i j n e f. absurd (slice_get-none i n (subst (λ (xs : List ℕ). slice_get xs i ≡ Some n) (list_at-none (pack l)) e));
+  members = λ l n. ((λ h. absurd (Contains-nil n (subst (λ (xs : List ℕ). Contains xs n) (list_at-none (pack l)) h))), (λ h. absurd (let k = h.1 in cc)));
+  distinct = λ l i j n e f. absurd (slice_get-none i n (subst (λ (xs : List ℕ). slice_get xs i ≡ Some n) (list_at-none (pack l)) e));
 }
   where
     list_at-none : (k : ℕ) → list_at [] k ≡ []
@@ -179,7 +179,7 @@ vacant_empty s n (inr h) c e = cc
 
 pub ordered_put : (s : Slots) (n : ℕ) (c : Clause) (s' : Slots) → IsPut s n c s' → IsOrdered c → AreOrdered s → AreOrdered s'
 ordered_put s n c s' put here old m d e = elim (put-cases s n c s' put m d e) [
-    inl o ↦ old m d o.1
+  | inl o ↦ old m d o.1
   | inr f ↦ rw (← f.1) here
 ]
 

@@ -27,10 +27,10 @@ same_literal a b e f = ap₂ of_parts e f
 pub Literal-cases : (a b : Literal) → (a ≡ b) ⊎ (a ≢ b)
 Literal-cases a b =
     elim (ℕ-cases a.var b.var) [
-        inl e ↦ elim (Bool-cases a.negative b.negative) [
-            inl f ↦ inl (same_literal a b e f)
-          | inr n ↦ inr (λ g. n (ap (λ (l : Literal). l.negative) g))
-        ]
+      | inl e ↦ elim (Bool-cases a.negative b.negative) [
+        | inl f ↦ inl (same_literal a b e f)
+        | inr n ↦ inr (λ g. n (ap (λ (l : Literal). l.negative) g))
+      ]
       | inr n ↦ inr (λ g. n (ap (λ (l : Literal). l.var) g))
     ]
 

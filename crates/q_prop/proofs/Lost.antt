@@ -11,7 +11,7 @@ filtered_in n (x ∷ xs) b h = go (keep n x) refl h (filtered_in n xs b)
   where
     go : (t : Bool) → keep n x ≡ t → Contains (cond t (x ∷ filter (keep n) xs) (filter (keep n) xs)) b → (Contains (filter (keep n) xs) b → Contains xs b × (b ≢ n)) → Contains (x ∷ xs) b × (b ≢ n)
     go true e k ih = elim (Contains-cons_cases x (filter (keep n) xs) b k) [
-        inl s ↦ (Contains-along (x ∷ xs) x b s (Contains-here x xs), λ d. (let z : x ≢ n = grind arith in z (s ∙ d)))
+      | inl s ↦ (Contains-along (x ∷ xs) x b s (Contains-here x xs), λ d. (let z : x ≢ n = grind arith in z (s ∙ d)))
       | inr m ↦ (Contains-there x xs b (ih m).0, (ih m).1)
     ]
     go false e k ih = (Contains-there x xs b (ih k).0, (ih k).1)
@@ -22,11 +22,11 @@ filtered_of n (x ∷ xs) b h d = go (keep n x) refl (filtered_of n xs b)
   where
     go : (t : Bool) → keep n x ≡ t → (Contains xs b → b ≢ n → Contains (filter (keep n) xs) b) → Contains (cond t (x ∷ filter (keep n) xs) (filter (keep n) xs)) b
     go true e ih = elim (Contains-cons_cases x xs b h) [
-        inl s ↦ Contains-along (x ∷ filter (keep n) xs) x b s (Contains-here x (filter (keep n) xs))
+      | inl s ↦ Contains-along (x ∷ filter (keep n) xs) x b s (Contains-here x (filter (keep n) xs))
       | inr m ↦ Contains-there x (filter (keep n) xs) b (ih m d)
     ]
     go false e ih = elim (Contains-cons_cases x xs b h) [
-        inl s ↦ absurd (let z : x ≡ n = grind arith in d (sym s ∙ z))
+      | inl s ↦ absurd (let z : x ≡ n = grind arith in d (sym s ∙ z))
       | inr m ↦ ih m d
     ]
 

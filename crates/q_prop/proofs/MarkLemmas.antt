@@ -19,19 +19,19 @@ IsMarked-along marks more lits e h l = rw (e (pack l)) (h l)
 pub IsMarked-push : (marks : List Bool) (lits : List Literal) (l : Literal) → pack l < length marks → IsMarked marks lits → IsMarked (set marks (pack l) true) (lits ++ l ∷ [])
 IsMarked-push marks lits l room h k =
     elim (ℕ-cases (pack l) (pack k)) [
-        inl e ↦
-            ( λ m. Contains-along (lits ++ l ∷ []) l k (pack-apart l k e) (Contains-push lits l)
-            , λ m. rw (← e) (get_or-set_same marks (pack l) true false room)
-            )
+      | inl e ↦ (
+        λ m. Contains-along (lits ++ l ∷ []) l k (pack-apart l k e) (Contains-push lits l),
+        λ m. rw (← e) (get_or-set_same marks (pack l) true false room),
+      )
       | inr n ↦
-            let other = get_or-set_other marks (pack l) (pack k) true false (λ e. n (sym e)) in
-            rw other
-            ( λ m. Contains-append_left lits (l ∷ []) k ((h k).0 m)
-            , λ m. elim (Contains-push_cases lits l k m) [
-                inl before ↦ (h k).1 before
+          let other = get_or-set_other marks (pack l) (pack k) true false (λ e. n (sym e)) in
+          rw other (
+            λ m. Contains-append_left lits (l ∷ []) k ((h k).0 m),
+            λ m. elim (Contains-push_cases lits l k m) [
+              | inl before ↦ (h k).1 before
               | inr e ↦ absurd (n (ap pack e))
-              ]
-            )
+            ],
+          )
     ]
 
 pub IsMarked-none : IsMarked [] []
@@ -43,14 +43,14 @@ IsOnce-none i j l e f = cc
 pub IsOnce-push : (lits : List Literal) (l : Literal) → (Contains lits l → ⊥) → IsOnce lits → IsOnce (lits ++ l ∷ [])
 IsOnce-push lits l new h i j k e f =
     elim (slice_get-push_cases lits l k i e) [
-        inl a ↦ elim (slice_get-push_cases lits l k j f) [
-            inl b ↦ h i j k a b
-          | inr b ↦ absurd (new (Contains-along lits k l (sym b.1) (Contains-slice_get lits i k a)))
-        ]
+      | inl a ↦ elim (slice_get-push_cases lits l k j f) [
+        | inl b ↦ h i j k a b
+        | inr b ↦ absurd (new (Contains-along lits k l (sym b.1) (Contains-slice_get lits i k a)))
+      ]
       | inr a ↦ elim (slice_get-push_cases lits l k j f) [
-            inl b ↦ absurd (new (Contains-along lits k l (sym a.1) (Contains-slice_get lits j k b)))
-          | inr b ↦ a.0 ∙ sym b.0
-        ]
+        | inl b ↦ absurd (new (Contains-along lits k l (sym a.1) (Contains-slice_get lits j k b)))
+        | inr b ↦ a.0 ∙ sym b.0
+      ]
     ]
 
 pub IsOnce-take : (lits : List Literal) (n : ℕ) → IsOnce lits → IsOnce (take n lits)
@@ -60,35 +60,35 @@ IsOnce-take lits n h i j k e f = h i j k (slice_get-take lits n i k e).0 (slice_
 pub IsMarked-pop : (marks : List Bool) (lits : List Literal) (l : Literal) (n : ℕ) → pack l < length marks → length lits ≡ n + 1 → slice_get lits n ≡ Some l → IsOnce lits → IsMarked marks lits → IsMarked (set marks (pack l) false) (take n lits)
 IsMarked-pop marks lits l n room len last once h k =
     elim (ℕ-cases (pack l) (pack k)) [
-        inl e ↦
-            let gone : get_or (set marks (pack l) false) (pack k) false ≡ false = rw (← e) (get_or-set_same marks (pack l) false false room) in
-            ( λ m. absurd (true≢false (sym m ∙ gone))
-            , λ m.
+      | inl e ↦
+          let gone : get_or (set marks (pack l) false) (pack k) false ≡ false = rw (← e) (get_or-set_same marks (pack l) false false room) in (
+            λ m. absurd (true≢false (sym m ∙ gone)),
+            λ m.
                 let at' = slice_get-Contains (take n lits) k m in
                 let in' = slice_get-take lits n at'.0 k at'.1 in
                 let same : k ≡ l = pack-apart k l (sym e) in
                 let two : at'.0 ≡ n = once at'.0 n l (in'.0 ∙ ap (λ (z : Literal). Some z) same) last in
-                absurd (omega (arith, two, in'.1))
-            )
+                absurd (omega (arith, two, in'.1)),
+          )
       | inr d ↦
-            let other = get_or-set_other marks (pack l) (pack k) false false (λ e. d (sym e)) in
-            rw other
-            ( λ m.
+          let other = get_or-set_other marks (pack l) (pack k) false false (λ e. d (sym e)) in
+          rw other (
+            λ m.
                 let at' = slice_get-Contains lits k ((h k).0 m) in
                 let inside = slice_get-in lits at'.0 k at'.1 in
                 elim (ℕ-cases at'.0 n) [
-                    inl e ↦
-                        let g : slice_get lits n ≡ Some k = rw e at at'.1 in
-                        let same : l ≡ k = cc in
-                        absurd (d (ap pack same))
+                  | inl e ↦
+                      let g : slice_get lits n ≡ Some k = rw e at at'.1 in
+                      let same : l ≡ k = cc in
+                      absurd (d (ap pack same))
                   | inr f ↦
-                        let less : at'.0 < n = omega (arith, inside, len, f) in
-                        Contains-slice_get (take n lits) at'.0 k (slice_get-take_in lits n at'.0 k at'.1 less)
-                ]
-            , λ m.
+                      let less : at'.0 < n = omega (arith, inside, len, f) in
+                      Contains-slice_get (take n lits) at'.0 k (slice_get-take_in lits n at'.0 k at'.1 less)
+                ],
+            λ m.
                 let at' = slice_get-Contains (take n lits) k m in
-                (h k).1 (Contains-slice_get lits at'.0 k (slice_get-take lits n at'.0 k at'.1).0)
-            )
+                (h k).1 (Contains-slice_get lits at'.0 k (slice_get-take lits n at'.0 k at'.1).0),
+          )
     ]
 
 pub mark_room : (marks : List Bool) (n : ℕ) → get_or marks n false ≡ true → n < length marks

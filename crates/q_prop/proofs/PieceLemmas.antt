@@ -82,7 +82,7 @@ filled_empty n s e f = cc
 
 pub within-cleared : (row : List Literal) (pieces : List Piece) (at' n : ℕ) → AreWithin row pieces → AreWithin row (set pieces at' (Empty n))
 within-cleared row pieces at' n w m s e f = elim (ℕ-cases m at') [
-    inl g ↦ absurd (filled_empty n s e (slice_get-set_here pieces at' (Empty n) (Filled s e) (rw g at f)))
+  | inl g ↦ absurd (filled_empty n s e (slice_get-set_here pieces at' (Empty n) (Filled s e) (rw g at f)))
   | inr d ↦ w m s e (sym (slice_get-set_other pieces at' m (Empty n) d) ∙ f)
 ]
 
@@ -92,7 +92,7 @@ filled_same a b s e f = (cc, cc)
 -- a clause is appended, and its piece placed
 pub within-placed : (row lits : List Literal) (pieces pieces' : List Piece) (n : ℕ) → IsPlaced pieces n (Filled (length row) (length (row ++ lits))) pieces' → AreWithin row pieces → AreWithin (row ++ lits) pieces'
 within-placed row lits pieces pieces' n placed w m s e f = elim (placed-cases pieces n (Filled (length row) (length (row ++ lits))) pieces' placed m (Filled s e) f) [
-    inl g ↦ within-front row lits pieces w m s e g.1
+  | inl g ↦ within-front row lits pieces w m s e g.1
   | inr g ↦ let k = filled_same (length row) (length (row ++ lits)) s e g.1 in let l = length-append row lits in (omega (arith, k.0, k.1, l), omega (arith, k.1))
 ]
 
@@ -106,37 +106,39 @@ length-map f (x ∷ xs) = ap suc (length-map f xs)
 
 pub put-placed_piece : (row lits : List Literal) (pieces pieces' : List Piece) (n : ℕ) → AreWithin row pieces → IsVacant (map (clause_of row) pieces) n → IsPlaced pieces n (Filled (length row) (length (row ++ lits))) pieces' → IsPut (map (clause_of row) pieces) n lits (map (clause_of (row ++ lits)) pieces')
 put-placed_piece row lits pieces pieces' n w vacant (inl (at', is)) =
-    inl (at' ∙ sym (length-map (clause_of row) pieces)
-        , rw (is, map-append (clause_of (row ++ lits)) pieces (Filled (length row) (length (row ++ lits)) ∷ []), clauses-front row lits pieces w, range-end row lits) refl)
+    inl (
+      at' ∙ sym (length-map (clause_of row) pieces),
+      rw (is, map-append (clause_of (row ++ lits)) pieces (Filled (length row) (length (row ++ lits)) ∷ []), clauses-front row lits pieces w, range-end row lits) refl,
+    )
 put-placed_piece row lits pieces pieces' n w (inl v) (inr (less, is)) = absurd (let l = length-map (clause_of row) pieces in omega (arith, less, v, l))
 put-placed_piece row lits pieces pieces' n w (inr v) (inr (less, is)) =
     inr (v, rw (is, map_set (clause_of (row ++ lits)) pieces n (Filled (length row) (length (row ++ lits))), clauses-front row lits pieces w, range-end row lits) refl)
 
 -- one more clause is carried to another row
 pub carried : (from old new : List Literal) (pieces news : List Piece) (p q : Piece) → IsCarried from p old new q → AreWithin old news → map (clause_of old) news ≡ map (clause_of from) pieces → AreWithin new (news ++ q ∷ []) × (map (clause_of new) (news ++ q ∷ []) ≡ map (clause_of from) (pieces ++ p ∷ []))
-carried from old new pieces news p q k w same =
-    ( (λ n s e f. elim (slice_get-push_cases news q (Filled s e) n f) [
-        inl g ↦ rw k.is (within-front old k.more news w n s e g)
-      | inr g ↦ k.within s e g.1
-      ])
-    , rw (map-append (clause_of new) news (q ∷ []), map-append (clause_of from) pieces (p ∷ []), k.same, front, same) refl
-    )
+carried from old new pieces news p q k w same = (
+  (λ n s e f. elim (slice_get-push_cases news q (Filled s e) n f) [
+    | inl g ↦ rw k.is (within-front old k.more news w n s e g)
+    | inr g ↦ k.within s e g.1
+  ]),
+  rw (map-append (clause_of new) news (q ∷ []), map-append (clause_of from) pieces (p ∷ []), k.same, front, same) refl,
+)
   where
     front : map (clause_of new) news ≡ map (clause_of old) news
     front = rw k.is (clauses-front old k.more news w)
 
 pub carried_filled : (from old : List Literal) (s e : ℕ) → IsCarried from (Filled s e) old (old ++ slice_range from s e) (Filled (length old) (length (old ++ slice_range from s e)))
 carried_filled from old s e = record {
-    more = slice_range from s e;
-    is = refl;
-    same = ap (λ (c : Clause). Some c) (range-end old (slice_range from s e));
-    within = λ a b f. let k = filled_same (length old) (length (old ++ slice_range from s e)) a b f in let l = length-append old (slice_range from s e) in (omega (arith, k.0, k.1, l), omega (arith, k.1));
+  more = slice_range from s e;
+  is = refl;
+  same = ap (λ (c : Clause). Some c) (range-end old (slice_range from s e));
+  within = λ a b f. let k = filled_same (length old) (length (old ++ slice_range from s e)) a b f in let l = length-append old (slice_range from s e) in (omega (arith, k.0, k.1, l), omega (arith, k.1));
 }
 
 pub carried_empty : (from old : List Literal) (n m : ℕ) → IsCarried from (Empty n) old old (Empty m)
 carried_empty from old n m = record {
-    more = [];
-    is = sym (append-nil old);
-    same = refl;
-    within = λ a b f. absurd (filled_empty m a b f);
+  more = [];
+  is = sym (append-nil old);
+  same = refl;
+  within = λ a b f. absurd (filled_empty m a b f);
 }

@@ -24,7 +24,7 @@ settled_at known s n l (c, h, m, open', u) k d e =
 
 pub settled_more : (known : List Literal) (s : Slots) (n : ℕ) → ((m : ℕ) (c : Clause) → m < n → Holds s m c → IsSettled known c) → ((c : Clause) → Holds s n c → IsSettled known c) → (m : ℕ) (c : Clause) → m < n + 1 → Holds s m c → IsSettled known c
 settled_more known s n before here m c less h = elim (ℕ-cases m n) [
-    inl e ↦ here c (subst (λ x. Holds s x c) e h)
+  | inl e ↦ here c (subst (λ x. Holds s x c) e h)
   | inr d ↦ before m c (omega (arith, less, d)) h
 ]
 

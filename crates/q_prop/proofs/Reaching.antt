@@ -31,19 +31,19 @@ IsReached-refl x known = record { added = []; is = sym (append-nil known); each 
 pub IsReached-grown : (x : Matrix) (a b c : List Literal) → IsReached x a b → IsGrown x b c → IsReached x a c
 IsReached-grown x a b c r g =
     elim g [
-        inl e ↦ rw e r
+      | inl e ↦ rw e r
       | inr n ↦ record {
-            added = r.added ++ n.0 ∷ [];
-            is = n.1 ∙ ap (λ (ks : List Literal). ks ++ n.0 ∷ []) r.is ∙ append_assoc a r.added (n.0 ∷ []);
-            each = AreNew-push x a r.added n.0 r.each (let h : IsNew x b n.0 = n.2 in rw r.is at h);
-        }
+        added = r.added ++ n.0 ∷ [];
+        is = n.1 ∙ ap (λ (ks : List Literal). ks ++ n.0 ∷ []) r.is ∙ append_assoc a r.added (n.0 ∷ []);
+        each = AreNew-push x a r.added n.0 r.each (let h : IsNew x b n.0 = n.2 in rw r.is at h);
+      }
     ]
 
 pub IsReached-trans : (x : Matrix) (a b c : List Literal) → IsReached x a b → IsReached x b c → IsReached x a c
 IsReached-trans x a b c r s = record {
-    added = r.added ++ s.added;
-    is = s.is ∙ ap (λ (ks : List Literal). ks ++ s.added) r.is ∙ append_assoc a r.added s.added;
-    each = AreNew-append x a r.added s.added r.each (let h = s.each in rw r.is at h);
+  added = r.added ++ s.added;
+  is = s.is ∙ ap (λ (ks : List Literal). ks ++ s.added) r.is ∙ append_assoc a r.added s.added;
+  each = AreNew-append x a r.added s.added r.each (let h = s.each in rw r.is at h);
 }
 
 search_along : (x : Matrix) (start known added : List Literal) → IsSearch x start known → AreNew x known added → IsSearch x start (known ++ added)
@@ -77,54 +77,53 @@ IsReached-budget x old new r = rw r.is (budget_along x old r.added r.each)
 pub IsReached-longer : (x : Matrix) (old new : List Literal) → IsReached x old new → length old ≤ length new
 IsReached-longer x old new r = rw r.is (omega (arith, length-append old r.added))
 
-
 pub IsReached-within : (x : Matrix) (old new : List Literal) → IsReached x old new → IsWithin old new
 IsReached-within x old new r l h = rw r.is (Contains-append_left old r.added l h)
 
 pub IsKept-refl : (s : Slots) (known : List Literal) (pairs : List (Option Pair)) → IsKept s known pairs pairs
 IsKept-refl s known pairs = record {
-    same_length = refl;
-    unpaired = λ b e. e;
-    floors = λ few within all. all;
+  same_length = refl;
+  unpaired = λ b e. e;
+  floors = λ few within all. all;
 }
 
 -- what is kept under more literals is kept under fewer
 pub IsKept-trans : (s : Slots) (known more : List Literal) (a b c : List (Option Pair)) → IsWithin known more → IsKept s known a b → IsKept s more b c → IsKept s known a c
 IsKept-trans s known more a b c w k l = record {
-    same_length = l.same_length ∙ k.same_length;
-    unpaired = λ n e. k.unpaired n (l.unpaired n e);
-    floors = λ few within all. l.floors few (λ m h. w m (within m h)) (k.floors few within all);
+  same_length = l.same_length ∙ k.same_length;
+  unpaired = λ n e. k.unpaired n (l.unpaired n e);
+  floors = λ few within all. l.floors few (λ m h. w m (within m h)) (k.floors few within all);
 }
 
 start_watch : (s : Slots) (head : ℕ) (lit : Literal) (known : List Literal) (pairs : List (Option Pair)) (rows : List (List ℕ)) → IsReady s head known pairs rows → slice_get known head ≡ Some lit → (at' : ℕ) (c : Clause) (p : Pair) → slice_get pairs at' ≡ Some (Some p) → IsWatched (take head known) known c p → IsWatched (take (suc head) known) known c p ⊎ (IsFrom (row_of rows (negation lit)) 0 at' × IsWatched (take head known) known c p)
 start_watch s head lit known pairs rows r h at' c p e g =
     let covered = r.covered at' p e in
     elim (Literal-cases p.first (negation lit)) [
-        inl q ↦ inr (rw q at covered.0, g)
+      | inl q ↦ inr (rw q at covered.0, g)
       | inr n ↦ elim (Literal-cases p.second (negation lit)) [
-            inl q ↦ inr (rw q at covered.1, g)
-          | inr m ↦ inl (rw (take-slice_get known head lit h) (IsWatched-apart (take head known) known lit c p n m g))
-        ]
+        | inl q ↦ inr (rw q at covered.1, g)
+        | inr m ↦ inl (rw (take-slice_get known head lit h) (IsWatched-apart (take head known) known lit c p n m g))
+      ]
     ]
 
 pub IsReady-start : (s : Slots) (head : ℕ) (lit : Literal) (known : List Literal) (pairs : List (Option Pair)) (rows : List (List ℕ)) → IsReady s head known pairs rows → slice_get known head ≡ Some lit → IsWorking s head lit 0 known pairs rows
 IsReady-start s head lit known pairs rows r h = record {
-    is_head = h;
-    consistent = r.consistent;
-    covered = r.covered;
-    watched = λ at' c p e f. start_watch s head lit known pairs rows r h at' c p f (r.watched at' c p e f);
+  is_head = h;
+  consistent = r.consistent;
+  covered = r.covered;
+  watched = λ at' c p e f. start_watch s head lit known pairs rows r h at' c p f (r.watched at' c p e f);
 }
 
 pub IsWorking-end : (s : Slots) (head : ℕ) (lit : Literal) (i : ℕ) (known : List Literal) (pairs : List (Option Pair)) (rows : List (List ℕ)) → IsWorking s head lit i known pairs rows → length (row_of rows (negation lit)) ≤ i → IsReady s (head + 1) known pairs rows
 IsWorking-end s head lit i known pairs rows w past = record {
-    consistent = w.consistent;
-    covered = w.covered;
-    watched = λ at' c p e f. elim (w.watched at' c p e f) [
-        inl d ↦ rw add-one d
-      | inr r ↦
-            let inside = slice_get-in (row_of rows (negation lit)) r.0.0 at' r.0.2 in
-            absurd (omega (arith, inside, past, r.0.1))
-    ];
+  consistent = w.consistent;
+  covered = w.covered;
+  watched = λ at' c p e f. elim (w.watched at' c p e f) [
+    | inl d ↦ rw add-one d
+    | inr r ↦
+        let inside = slice_get-in (row_of rows (negation lit)) r.0.0 at' r.0.2 in
+        absurd (omega (arith, inside, past, r.0.1))
+  ];
 }
 
 -- where all is worked off, all clauses are settled

@@ -26,15 +26,15 @@ none_watched done known s pairs w b c p e f = IsWatched-none done known [] c p (
 -- nothing is worked off
 pub rooted_zero : (s : Slots) (pairs pairs' : List (Option Pair)) (rows' : List (List ℕ)) (singles : List ℕ) (root' : List Literal) → AreListed s pairs singles → AllWatched [] [] s pairs → IsChain (filled s) [] root' → (HasOpposites root' → ⊥) → IsKept s [] pairs pairs' → IsCovered pairs' rows' → IsRooted s pairs' rows' singles 0 root' 0
 rooted_zero s pairs pairs' rows' singles root' listed watched chain' consistent' kept covered' = record {
-    ready = record {
-        consistent = consistent';
-        covered = covered';
-        watched = λ b c p e f. IsWatched-none [] [] root' c p (kept.floors [] (λ l h. h) watched b c p e f);
-    };
-    head_in = omega arith;
-    listed = AreListed-kept s s [] pairs pairs' singles kept listed;
-    singles_true = λ j b c h e f. absurd (not-suc-le-zero h);
-    chain = chain';
+  ready = record {
+    consistent = consistent';
+    covered = covered';
+    watched = λ b c p e f. IsWatched-none [] [] root' c p (kept.floors [] (λ l h. h) watched b c p e f);
+  };
+  head_in = omega arith;
+  listed = AreListed-kept s s [] pairs pairs' singles kept listed;
+  singles_true = λ j b c h e f. absurd (not-suc-le-zero h);
+  chain = chain';
 }
 
 -- all is worked off, and pairs have moved above the root
@@ -42,75 +42,75 @@ pub rooted_kept : (s : Slots) (pairs pairs' : List (Option Pair)) (rows rows' : 
 rooted_kept s pairs pairs' rows rows' singles done root r kept covered' =
     let all : take (length root) root ≡ root = take_all (length root) root (omega arith) in
     record {
-        ready = record {
-            consistent = r.ready.consistent;
-            covered = covered';
-            watched = rw all (kept.floors root (λ l h. h) (rw all at r.ready.watched));
-        };
-        head_in = r.head_in;
-        listed = AreListed-kept s s root pairs pairs' singles kept r.listed;
-        singles_true = r.singles_true;
-        chain = r.chain;
+      ready = record {
+        consistent = r.ready.consistent;
+        covered = covered';
+        watched = rw all (kept.floors root (λ l h. h) (rw all at r.ready.watched));
+      };
+      head_in = r.head_in;
+      listed = AreListed-kept s s root pairs pairs' singles kept r.listed;
+      singles_true = r.singles_true;
+      chain = r.chain;
     }
 
 pub without-chain : (s : Slots) (skip : Option ℕ) (root : List Literal) → IsChain (filled (without s skip)) [] root → IsChain (filled s) [] root
 without-chain s skip root h =
     IsChain-over (filled (without s skip)) (filled s) [] root
-        (λ c m. let n = filled-cases (without s skip) c m in filled-in s n.0 c (without-le s skip n.0 c n.1)) h
+    (λ c m. let n = filled-cases (without s skip) c m in filled-in s n.0 c (without-le s skip n.0 c n.1)) h
 
 module _ (s : Slots) (at' : ℕ) (root : List Literal) (free : (c : Clause) → Holds s at' c → IsOpen root c) where
-    -- a clause all of whose literals but one are false stands in another slot
-    other_slot : (known : List Literal) (l : Literal) (c : Clause) → IsWithin known root → Contains (filled s) c → IsUnit known c l → Contains (filled (without s (Some at'))) c
-    other_slot known l c within m u =
-        let n = filled-cases s c m in
-        elim (ℕ-cases n.0 at') [
-            inl e ↦
-                let o = free c (rw e at n.1) in
-                absurd (elim (Literal-cases o.first l) [
-                    inl f ↦ o.second_open (within (negation o.second) (u o.second o.has_second (λ g. o.differ (f ∙ sym g))))
-                  | inr f ↦ o.first_open (within (negation o.first) (u o.first o.has_first f))
-                ])
-          | inr d ↦ filled-in (without s (Some at')) n.0 c (without-other s at' n.0 d ∙ n.1)
-        ]
-
-    chain_along : (known ls : List Literal) → IsWithin (known ++ ls) root → IsChain (filled s) known ls → IsChain (filled (without s (Some at'))) known ls
-    chain_along known [] w h = tt
-    chain_along known (l ∷ ls) w h =
-        let f = h.0 in
-        ( record { clause = f.clause; of_matrix = other_slot known l f.clause (λ k m. w k (Contains-append_left known (l ∷ ls) k m)) f.of_matrix f.others; of_clause = f.of_clause; others = f.others }
-        , chain_along (known ++ l ∷ []) ls (λ k m. w k (rw append_assoc at m)) h.1
-        )
-
-    pub chain_free : IsChain (filled s) [] root → IsChain (filled (without s (Some at'))) [] root
-    chain_free h = chain_along [] root (λ k m. m) h
-
-    pub falsified_free : HasFalsified (filled s) root → HasFalsified (filled (without s (Some at'))) root
-    falsified_free f =
-        ( f.0
-        , (let n = filled-cases s f.0 f.1 in
-            elim (ℕ-cases n.0 at') [
-                inl e ↦ let o = free f.0 (rw e at n.1) in absurd (o.first_open (f.2 o.first o.has_first))
-              | inr d ↦ filled-in (without s (Some at')) n.0 f.0 (without-other s at' n.0 d ∙ n.1)
+  -- a clause all of whose literals but one are false stands in another slot
+  other_slot : (known : List Literal) (l : Literal) (c : Clause) → IsWithin known root → Contains (filled s) c → IsUnit known c l → Contains (filled (without s (Some at'))) c
+  other_slot known l c within m u =
+      let n = filled-cases s c m in
+      elim (ℕ-cases n.0 at') [
+        | inl e ↦
+            let o = free c (rw e at n.1) in
+            absurd (elim (Literal-cases o.first l) [
+              | inl f ↦ o.second_open (within (negation o.second) (u o.second o.has_second (λ g. o.differ (f ∙ sym g))))
+              | inr f ↦ o.first_open (within (negation o.first) (u o.first o.has_first f))
             ])
-        , f.2
-        )
+        | inr d ↦ filled-in (without s (Some at')) n.0 c (without-other s at' n.0 d ∙ n.1)
+      ]
+
+  chain_along : (known ls : List Literal) → IsWithin (known ++ ls) root → IsChain (filled s) known ls → IsChain (filled (without s (Some at'))) known ls
+  chain_along known [] w h = tt
+  chain_along known (l ∷ ls) w h =
+      let f = h.0 in (
+        record { clause = f.clause; of_matrix = other_slot known l f.clause (λ k m. w k (Contains-append_left known (l ∷ ls) k m)) f.of_matrix f.others; of_clause = f.of_clause; others = f.others },
+        chain_along (known ++ l ∷ []) ls (λ k m. w k (rw append_assoc at m)) h.1,
+      )
+
+  pub chain_free : IsChain (filled s) [] root → IsChain (filled (without s (Some at'))) [] root
+  chain_free h = chain_along [] root (λ k m. m) h
+
+  pub falsified_free : HasFalsified (filled s) root → HasFalsified (filled (without s (Some at'))) root
+  falsified_free f = (
+    f.0,
+    (let n = filled-cases s f.0 f.1 in
+        elim (ℕ-cases n.0 at') [
+          | inl e ↦ let o = free f.0 (rw e at n.1) in absurd (o.first_open (f.2 o.first o.has_first))
+          | inr d ↦ filled-in (without s (Some at')) n.0 f.0 (without-other s at' n.0 d ∙ n.1)
+        ]),
+    f.2,
+  )
 
 pub without-rooted : (s : Slots) (at' : ℕ) (pairs : List (Option Pair)) (rows : List (List ℕ)) (singles : List ℕ) (done : ℕ) (root root' : List Literal) (head : ℕ) → IsRooted s pairs rows singles done root head → IsChain (filled (without s (Some at'))) [] root → IsRooted (without s (Some at')) pairs rows singles done root head
 without-rooted s at' pairs rows singles done root root' head r chain' = record {
-    ready = record {
-        consistent = r.ready.consistent;
-        covered = r.ready.covered;
-        watched = λ b c p e f. r.ready.watched b c p (without-le s (Some at') b c e) f;
-    };
-    head_in = r.head_in;
-    listed = record {
-        same_length = r.listed.same_length ∙ sym (length-set s at' None);
-        listed = λ b c e f. r.listed.listed b c (without-le s (Some at') b c e) f;
-        inside = λ b h. rw (length-set s at' None) (r.listed.inside b h);
-        short = λ b c h e. r.listed.short b c h (without-le s (Some at') b c e);
-    };
-    singles_true = λ j b c h e f. r.singles_true j b c h e (without-le s (Some at') b c f);
-    chain = chain';
+  ready = record {
+    consistent = r.ready.consistent;
+    covered = r.ready.covered;
+    watched = λ b c p e f. r.ready.watched b c p (without-le s (Some at') b c e) f;
+  };
+  head_in = r.head_in;
+  listed = record {
+    same_length = r.listed.same_length ∙ sym (length-set s at' None);
+    listed = λ b c e f. r.listed.listed b c (without-le s (Some at') b c e) f;
+    inside = λ b h. rw (length-set s at' None) (r.listed.inside b h);
+    short = λ b c h e. r.listed.short b c h (without-le s (Some at') b c e);
+  };
+  singles_true = λ j b c h e f. r.singles_true j b c h e (without-le s (Some at') b c f);
+  chain = chain';
 }
 
 -- the root stands without the slot
@@ -130,24 +130,24 @@ chain_skip s (Some at') root free f = chain_free s at' root (λ c e. free at' c 
 -- a root of nothing, without a slot
 pub rooted_empty : (s : Slots) (n : ℕ) (pairs : List (Option Pair)) (rows : List (List ℕ)) (singles : List ℕ) → AreListed (without s (Some n)) pairs singles → AllWatched [] [] s pairs → IsCovered pairs rows → IsRooted (without s (Some n)) pairs rows singles 0 [] 0
 rooted_empty s n pairs rows singles listed watched covered' = record {
-    ready = record {
-        consistent = λ o. Contains-nil o.0 o.1;
-        covered = covered';
-        watched = λ b c p e f. watched b c p (without-le s (Some n) b c e) f;
-    };
-    head_in = omega arith;
-    listed = listed;
-    singles_true = λ j b c h e f. absurd (not-suc-le-zero h);
-    chain = tt;
+  ready = record {
+    consistent = λ o. Contains-nil o.0 o.1;
+    covered = covered';
+    watched = λ b c p e f. watched b c p (without-le s (Some n) b c e) f;
+  };
+  head_in = omega arith;
+  listed = listed;
+  singles_true = λ j b c h e f. absurd (not-suc-le-zero h);
+  chain = tt;
 }
 
 -- what is listed stays so where a slot is left out
 pub listed_without : (s : Slots) (skip : Option ℕ) (pairs : List (Option Pair)) (singles : List ℕ) → AreListed s pairs singles → AreListed (without s skip) pairs singles
 listed_without s skip pairs singles listed = record {
-    same_length = listed.same_length ∙ sym (length-without s skip);
-    listed = λ b c e f. listed.listed b c (without-le s skip b c e) f;
-    inside = λ b h. rw (length-without s skip) (listed.inside b h);
-    short = λ b c h e. listed.short b c h (without-le s skip b c e);
+  same_length = listed.same_length ∙ sym (length-without s skip);
+  listed = λ b c e f. listed.listed b c (without-le s skip b c e) f;
+  inside = λ b h. rw (length-without s skip) (listed.inside b h);
+  short = λ b c h e. listed.short b c h (without-le s skip b c e);
 }
   where
     length-without : (s : Slots) (skip : Option ℕ) → length (without s skip) ≡ length s
@@ -157,40 +157,40 @@ listed_without s skip pairs singles listed = record {
 -- a root of nothing
 pub rooted_nothing : (s : Slots) (skip : Option ℕ) (pairs : List (Option Pair)) (rows : List (List ℕ)) (singles : List ℕ) → AreListed s pairs singles → AllWatched [] [] s pairs → IsCovered pairs rows → IsRooted (without s skip) pairs rows singles 0 [] 0
 rooted_nothing s None pairs rows singles listed watched covered' = record {
-    ready = record { consistent = λ o. Contains-nil o.0 o.1; covered = covered'; watched = watched; };
-    head_in = omega arith;
-    listed = listed;
-    singles_true = λ j b c h e f. absurd (not-suc-le-zero h);
-    chain = tt;
+  ready = record { consistent = λ o. Contains-nil o.0 o.1; covered = covered'; watched = watched };
+  head_in = omega arith;
+  listed = listed;
+  singles_true = λ j b c h e f. absurd (not-suc-le-zero h);
+  chain = tt;
 }
 rooted_nothing s (Some n) pairs rows singles listed watched covered' = rooted_empty s n pairs rows singles (listed_without s (Some n) pairs singles listed) watched covered'
 
 -- an empty slot needs no pair
 pub rooted_cleared : (s : Slots) (at' : ℕ) (pairs : List (Option Pair)) (rows : List (List ℕ)) (singles : List ℕ) (done : ℕ) (root : List Literal) (head : ℕ) → IsRooted (without s (Some at')) pairs rows singles done root head → IsRooted (without s (Some at')) (set pairs at' None) rows singles done root head
 rooted_cleared s at' pairs rows singles done root head r = record {
-    ready = record {
-        consistent = r.ready.consistent;
-        covered = λ b p e. elim (ℕ-cases b at') [
-            inl f ↦ absurd (none_pair p (slice_get-set_here pairs at' None (Some p) (rw f at e)))
-          | inr d ↦ r.ready.covered b p (sym (slice_get-set_other pairs at' b None d) ∙ e)
-        ];
-        watched = λ b c p e f. elim (ℕ-cases b at') [
-            inl g ↦ absurd (none_pair p (slice_get-set_here pairs at' None (Some p) (rw g at f)))
-          | inr d ↦ r.ready.watched b c p e (sym (slice_get-set_other pairs at' b None d) ∙ f)
-        ];
-    };
-    head_in = r.head_in;
-    listed = record {
-        same_length = length-set pairs at' None ∙ r.listed.same_length;
-        listed = λ b c e f. elim (ℕ-cases b at') [
-            inl g ↦ absurd (without-here s at' c (rw g at e))
-          | inr d ↦ r.listed.listed b c e (sym (slice_get-set_other pairs at' b None d) ∙ f)
-        ];
-        inside = r.listed.inside;
-        short = r.listed.short;
-    };
-    singles_true = r.singles_true;
-    chain = r.chain;
+  ready = record {
+    consistent = r.ready.consistent;
+    covered = λ b p e. elim (ℕ-cases b at') [
+      | inl f ↦ absurd (none_pair p (slice_get-set_here pairs at' None (Some p) (rw f at e)))
+      | inr d ↦ r.ready.covered b p (sym (slice_get-set_other pairs at' b None d) ∙ e)
+    ];
+    watched = λ b c p e f. elim (ℕ-cases b at') [
+      | inl g ↦ absurd (none_pair p (slice_get-set_here pairs at' None (Some p) (rw g at f)))
+      | inr d ↦ r.ready.watched b c p e (sym (slice_get-set_other pairs at' b None d) ∙ f)
+    ];
+  };
+  head_in = r.head_in;
+  listed = record {
+    same_length = length-set pairs at' None ∙ r.listed.same_length;
+    listed = λ b c e f. elim (ℕ-cases b at') [
+      | inl g ↦ absurd (without-here s at' c (rw g at e))
+      | inr d ↦ r.listed.listed b c e (sym (slice_get-set_other pairs at' b None d) ∙ f)
+    ];
+    inside = r.listed.inside;
+    short = r.listed.short;
+  };
+  singles_true = r.singles_true;
+  chain = r.chain;
 }
   where
     none_pair : (p : Pair) → None ≡ Some p → ⊥
@@ -212,10 +212,10 @@ IsLost n old new = (b : ℕ) → Contains new b ↔ (Contains old b × b ≢ n)
 -- what is listed once the slot is empty
 pub listed_fewer : (s : Slots) (n : ℕ) (pairs : List (Option Pair)) (old new : List ℕ) → AreListed s pairs old → IsLost n old new → AreListed (without s (Some n)) pairs new
 listed_fewer s n pairs old new l lost = record {
-    same_length = l.same_length ∙ sym (length-set s n None);
-    listed = λ b c e f. (lost b).1 (l.listed b c (without-le s (Some n) b c e) f, λ g. without-here s n c (rw g at e));
-    inside = λ b h. rw (length-set s n None) (l.inside b ((lost b).0 h).0);
-    short = λ b c h e. l.short b c ((lost b).0 h).0 (without-le s (Some n) b c e);
+  same_length = l.same_length ∙ sym (length-set s n None);
+  listed = λ b c e f. (lost b).1 (l.listed b c (without-le s (Some n) b c e) f, λ g. without-here s n c (rw g at e));
+  inside = λ b h. rw (length-set s n None) (l.inside b ((lost b).0 h).0);
+  short = λ b c h e. l.short b c ((lost b).0 h).0 (without-le s (Some n) b c e);
 }
 
 pub standing_cleared : (s : Slots) (n : ℕ) (old new : List ℕ) → AreStanding s old → IsLost n old new → AreStanding (without s (Some n)) new
@@ -227,19 +227,19 @@ standing_cleared s n old new standing lost b h =
 -- a slot whose clause has two literals open is not listed
 pub standing_free : (s : Slots) (n : ℕ) (pairs : List (Option Pair)) (singles : List ℕ) (root : List Literal) → AreListed s pairs singles → AreStanding s singles → ((c : Clause) → Holds s n c → IsOpen root c) → AreStanding (without s (Some n)) singles
 standing_free s n pairs singles root l standing free b h =
-    let e = standing b h in
-    ( e.0
-    , without-other s n b (λ g.
-        let o = free e.0 (subst (λ x. Holds s x e.0) g e.1) in
-        o.differ (l.short b e.0 h e.1 o.first o.second o.has_first o.has_second)) ∙ e.1
+    let e = standing b h in (
+      e.0,
+      without-other s n b (λ g.
+          let o = free e.0 (subst (λ x. Holds s x e.0) g e.1) in
+          o.differ (l.short b e.0 h e.1 o.first o.second o.has_first o.has_second)) ∙ e.1,
     )
 
 -- rows that still cover the pairs
 pub rooted_covered : (s : Slots) (pairs : List (Option Pair)) (rows rows' : List (List ℕ)) (singles : List ℕ) (done : ℕ) (root : List Literal) (head : ℕ) → IsRooted s pairs rows singles done root head → IsCovered pairs rows' → IsRooted s pairs rows' singles done root head
 rooted_covered s pairs rows rows' singles done root head r covered' = record {
-    ready = record { consistent = r.ready.consistent; covered = covered'; watched = r.ready.watched; };
-    head_in = r.head_in;
-    listed = r.listed;
-    singles_true = r.singles_true;
-    chain = r.chain;
+  ready = record { consistent = r.ready.consistent; covered = covered'; watched = r.ready.watched };
+  head_in = r.head_in;
+  listed = r.listed;
+  singles_true = r.singles_true;
+  chain = r.chain;
 }

@@ -20,16 +20,20 @@ use Rattle.q_prop.proofs.WatchLemmas.{IsWithin, IsWatched-none, IsWatched-more}
 use Rattle.q_prop.proofs.Reaching.{IsReached-within, IsReached-grown, IsReached-refl, IsKept-refl, IsKept-trans, settled_store}
 
 module _ (s : Slots) (at' : ℕ) (c : Clause) (l : Literal) (known : List Literal) (holds : Holds s at' c) (short : IsShort c) (in' : Contains c l) where
-    pub single_falsified : Contains known (negation l) → HasFalsified (filled s) known
-    single_falsified n = (c, filled-in s at' c holds, λ k m. rw (short k l m in') n)
+  pub single_falsified : Contains known (negation l) → HasFalsified (filled s) known
+  single_falsified n = (c, filled-in s at' c holds, λ k m. rw (short k l m in') n)
 
-    pub single_new : (Contains known l → ⊥) → (Contains known (negation l) → ⊥) → IsNew (filled s) known l
-    single_new f g = (record {
-        clause = c;
-        of_matrix = filled-in s at' c holds;
-        of_clause = in';
-        others = λ k m n. absurd (n (short k l m in'));
-    }, f, g)
+  pub single_new : (Contains known l → ⊥) → (Contains known (negation l) → ⊥) → IsNew (filled s) known l
+  single_new f g = (
+    record {
+      clause = c;
+      of_matrix = filled-in s at' c holds;
+      of_clause = in';
+      others = λ k m n. absurd (n (short k l m in'));
+    },
+    f,
+    g,
+  )
 
 pub single_true : (s : Slots) (at' : ℕ) (c : Clause) (l : Literal) (known : List Literal) → Holds s at' c → Contains c l → Contains known l → (d : Clause) → Holds s at' d → IsSingle known d
 single_true s at' c l known holds in' here d e =
@@ -44,9 +48,9 @@ AreTrue-more s singles done known more w t j at' c h e f =
 pub AreTrue-next : (s : Slots) (singles : List ℕ) (done at' : ℕ) (known : List Literal) → slice_get singles done ≡ Some at' → AreTrue s singles done known → ((c : Clause) → Holds s at' c → IsSingle known c) → AreTrue s singles (done + 1) known
 AreTrue-next s singles done at' known here t new j b c h e f =
     elim (ℕ-cases j done) [
-        inl q ↦
-            let same : at' ≡ b = same_slice_get singles done at' b here (rw q at e) in
-            new c (rw (← same) at f)
+      | inl q ↦
+          let same : at' ≡ b = same_slice_get singles done at' b here (rw q at e) in
+          new c (rw (← same) at f)
       | inr n ↦ t j b c (omega (arith, h, n)) e f
     ]
 
@@ -54,23 +58,23 @@ AreTrue-next s singles done at' known here t new j b c h e f =
 pub IsChain-more : (x : Matrix) (few more ls : List Literal) → IsWithin few more → IsChain x few ls → IsChain x more ls
 IsChain-more x few more [] w h = tt
 IsChain-more x few more (l ∷ ls) w h =
-    let f = h.0 in
-    ( record { clause = f.clause; of_matrix = f.of_matrix; of_clause = f.of_clause; others = λ k m n. w (negation k) (f.others k m n) }
-    , IsChain-more x (few ++ l ∷ []) (more ++ l ∷ []) ls
-        (λ k m. elim (Contains-push_cases few l k m) [
-            inl b ↦ Contains-append_left more (l ∷ []) k (w k b)
-          | inr e ↦ rw (← e) (Contains-push more l)
-        ])
-        h.1
+    let f = h.0 in (
+      record { clause = f.clause; of_matrix = f.of_matrix; of_clause = f.of_clause; others = λ k m n. w (negation k) (f.others k m n) },
+      IsChain-more x (few ++ l ∷ []) (more ++ l ∷ []) ls
+          (λ k m. elim (Contains-push_cases few l k m) [
+            | inl b ↦ Contains-append_left more (l ∷ []) k (w k b)
+            | inr e ↦ rw (← e) (Contains-push more l)
+          ])
+          h.1,
     )
 
 -- a chain goes over into a larger matrix
 pub IsChain-over : (x y : Matrix) (known ls : List Literal) → ((c : Clause) → Contains x c → Contains y c) → IsChain x known ls → IsChain y known ls
 IsChain-over x y known [] w h = tt
 IsChain-over x y known (l ∷ ls) w h =
-    let f = h.0 in
-    ( record { clause = f.clause; of_matrix = w f.clause f.of_matrix; of_clause = f.of_clause; others = f.others }
-    , IsChain-over x y (known ++ l ∷ []) ls w h.1
+    let f = h.0 in (
+      record { clause = f.clause; of_matrix = w f.clause f.of_matrix; of_clause = f.of_clause; others = f.others },
+      IsChain-over x y (known ++ l ∷ []) ls w h.1,
     )
 
 pub IsChain-append : (x : Matrix) (known first second : List Literal) → IsChain x known first → IsChain x (known ++ first) second → IsChain x known (first ++ second)
@@ -95,14 +99,14 @@ reached_chain x old new h r = rw r.is (IsChain-append x [] old r.added h (AreNew
 -- where a root literal is one of the clause, or two of its literals are opposites
 clash_implied-told : (x : Matrix) (root : List Literal) (c : Clause) → IsChain x [] root → Clashes root c → IsImplied x c
 clash_implied-told x root c chain (inl h) = record {
-    added = root;
-    chain = IsChain-more x [] (map negation c) root (λ l m. absurd (Contains-nil l m)) chain;
-    conflict = inl (h.0, Contains-append_right (map negation c) root h.0 h.2, Contains-append_left (map negation c) root (negation h.0) (Contains-map negation c h.0 h.1));
+  added = root;
+  chain = IsChain-more x [] (map negation c) root (λ l m. absurd (Contains-nil l m)) chain;
+  conflict = inl (h.0, Contains-append_right (map negation c) root h.0 h.2, Contains-append_left (map negation c) root (negation h.0) (Contains-map negation c h.0 h.1));
 }
 clash_implied-told x root c chain (inr o) = record {
-    added = [];
-    chain = tt;
-    conflict = inl (rw append-nil o);
+  added = [];
+  chain = tt;
+  conflict = inl (rw append-nil o);
 }
 
 -- where a clause is falsified above the root
@@ -110,27 +114,27 @@ falsified_implied-told : (x : Matrix) (root known new : List Literal) (c : Claus
 falsified_implied-told x root known new c chain assumed r f =
     let start = map negation c in
     let within : IsWithin known (start ++ root) = λ l h. elim (assumed.no_other l h) [
-        inl a ↦ Contains-append_right start root l a
+      | inl a ↦ Contains-append_right start root l a
       | inr b ↦ Contains-append_left start root l b
     ] in
     let all : IsWithin new (start ++ (root ++ r.added)) = λ l h. elim (Contains-append_cases known r.added l (rw r.is at h)) [
-        inl a ↦ rw append_assoc at (Contains-append_left (start ++ root) r.added l (within l a))
+      | inl a ↦ rw append_assoc at (Contains-append_left (start ++ root) r.added l (within l a))
       | inr b ↦ rw append_assoc at (Contains-append_right (start ++ root) r.added l b)
     ] in
     record {
-        added = root ++ r.added;
-        chain = IsChain-append x start root r.added
-            (IsChain-more x [] start root (λ l m. absurd (Contains-nil l m)) chain)
-            (IsChain-more x known (start ++ root) r.added within (AreNew-chain x known r.added r.each));
-        conflict = inr (f.0, f.1, λ k m. all (negation k) (f.2 k m));
+      added = root ++ r.added;
+      chain = IsChain-append x start root r.added
+          (IsChain-more x [] start root (λ l m. absurd (Contains-nil l m)) chain)
+          (IsChain-more x known (start ++ root) r.added within (AreNew-chain x known r.added r.each));
+      conflict = inr (f.0, f.1, λ k m. all (negation k) (f.2 k m));
     }
 
 -- a falsified clause at the root
 root_implied-told : (x : Matrix) (root : List Literal) (c : Clause) → IsChain x [] root → HasFalsified x root → IsImplied x c
 root_implied-told x root c chain f = record {
-    added = root;
-    chain = IsChain-more x [] (map negation c) root (λ l m. absurd (Contains-nil l m)) chain;
-    conflict = inr (f.0, f.1, λ k m. Contains-append_right (map negation c) root (negation k) (f.2 k m));
+  added = root;
+  chain = IsChain-more x [] (map negation c) root (λ l m. absurd (Contains-nil l m)) chain;
+  conflict = inr (f.0, f.1, λ k m. Contains-append_right (map negation c) root (negation k) (f.2 k m));
 }
 
 closed_chain : (x : Matrix) (known some added : List Literal) → AllSettled known x → IsWithin some known → IsChain x some added → IsWithin (some ++ added) known
@@ -139,15 +143,15 @@ closed_chain x known some (l ∷ added) settled within h =
     let f = h.0 in
     let here : Contains known l = (settled f.clause f.of_matrix).nothing_new l f.of_clause (λ k m n. within (negation k) (f.others k m n)) in
     rw append_assoc at (closed_chain x known (some ++ l ∷ []) added settled
-        (λ k m. elim (Contains-push_cases some l k m) [ inl before ↦ within k before | inr e ↦ rw (← e) here ])
-        h.1)
+    (λ k m. elim (Contains-push_cases some l k m) [ inl before ↦ within k before | inr e ↦ rw (← e) here ])
+    h.1)
 
 -- a settled set of literals without opposites has no conflict
 pub settled_not_implied : (x : Matrix) (known : List Literal) (c : Clause) → AllSettled known x → (HasOpposites known → ⊥) → IsWithin (map negation c) known → IsImplied x c → ⊥
 settled_not_implied x known c settled consistent within i =
     let all = closed_chain x known (map negation c) i.added settled within i.chain in
     elim i.conflict [
-        inl o ↦ consistent (o.0, all o.0 o.1, all (negation o.0) o.2)
+      | inl o ↦ consistent (o.0, all o.0 o.1, all (negation o.0) o.2)
       | inr f ↦ (settled f.0 f.1).not_falsified (λ k m. all (negation k) (f.2 k m))
     ]
 
@@ -162,17 +166,17 @@ search_not_implied-told s root known new pairs rows singles c listed true' long 
     let more = IsReached-within (filled s) known new r in
     let all : take (length new) new ≡ new = take_all (length new) new (omega arith) in
     settled_not_implied (filled s) new c
-        (settled_store s new root pairs singles ready.consistent (rw all at ready.watched) listed (λ l h. more l (long l h)) true')
-        ready.consistent
-        (λ l h. more l (assumed_within root c known a l h))
+    (settled_store s new root pairs singles ready.consistent (rw all at ready.watched) listed (λ l h. more l (long l h)) true')
+    ready.consistent
+    (λ l h. more l (assumed_within root c known a l h))
 
 -- no clause is left out of the list where pairs move
 pub AreListed-kept : (t s : Slots) (known : List Literal) (pairs pairs' : List (Option Pair)) (singles : List ℕ) → IsKept t known pairs pairs' → AreListed s pairs singles → AreListed s pairs' singles
 AreListed-kept t s known pairs pairs' singles k l = record {
-    same_length = k.same_length ∙ l.same_length;
-    listed = λ n c e f. l.listed n c e (k.unpaired n f);
-    inside = l.inside;
-    short = l.short;
+  same_length = k.same_length ∙ l.same_length;
+  listed = λ n c e f. l.listed n c e (k.unpaired n f);
+  inside = l.inside;
+  short = l.short;
 }
 
 pub empty_none : (c : Clause) → None ≡ slice_get c 0 → (k : Literal) → Contains c k → ⊥
@@ -183,56 +187,56 @@ take_step : (xs : List Literal) (i : ℕ) (l : Literal) → i < length xs → l 
 take_step xs i l room e = take_more xs i l room ∙ ap (λ (z : Literal). take i xs ++ z ∷ []) (sym e)
 
 module _ (root lits : List Literal) (i : ℕ) (l : Literal) (known : List Literal) (room : i < length lits) (e : l ≡ get_or lits i l) (a : IsAssumed root (take i lits) known) where
-    l_in : Contains lits l
-    l_in = Contains-take lits (i + 1) l (rw (take_step lits i l room e) (Contains-push (take i lits) l))
+  l_in : Contains lits l
+  l_in = Contains-take lits (i + 1) l (rw (take_step lits i l room e) (Contains-push (take i lits) l))
 
-    pub assumed_clash : Contains known l → Clashes root lits
-    assumed_clash h =
-        elim (a.no_other l h) [
-            inl r ↦ inl (l, l_in, r)
-          | inr m ↦
-                let k = Contains-map_cases negation (take i lits) l m in
-                let there = Contains-along (map negation lits) (negation k.0) l k.2 (Contains-map negation lits k.0 (Contains-take lits i k.0 k.1)) in
-                inr (l, there, Contains-map negation lits l l_in)
-        ]
+  pub assumed_clash : Contains known l → Clashes root lits
+  assumed_clash h =
+      elim (a.no_other l h) [
+        | inl r ↦ inl (l, l_in, r)
+        | inr m ↦
+            let k = Contains-map_cases negation (take i lits) l m in
+            let there = Contains-along (map negation lits) (negation k.0) l k.2 (Contains-map negation lits k.0 (Contains-take lits i k.0 k.1)) in
+            inr (l, there, Contains-map negation lits l l_in)
+      ]
 
-    no_other_more : (k : Literal) → Contains (map negation (take i lits)) k → Contains (map negation (take (i + 1) lits)) k
-    no_other_more k m =
-        let r = Contains-map_cases negation (take i lits) k m in
-        Contains-along (map negation (take (i + 1) lits)) (negation r.0) k r.2
-            (Contains-map negation (take (i + 1) lits) r.0 (rw (take_step lits i l room e) (Contains-append_left (take i lits) (l ∷ []) r.0 r.1)))
+  no_other_more : (k : Literal) → Contains (map negation (take i lits)) k → Contains (map negation (take (i + 1) lits)) k
+  no_other_more k m =
+      let r = Contains-map_cases negation (take i lits) k m in
+      Contains-along (map negation (take (i + 1) lits)) (negation r.0) k r.2
+      (Contains-map negation (take (i + 1) lits) r.0 (rw (take_step lits i l room e) (Contains-append_left (take i lits) (l ∷ []) r.0 r.1)))
 
-    l_negated : Contains (map negation (take (i + 1) lits)) (negation l)
-    l_negated = Contains-map negation (take (i + 1) lits) l (rw (take_step lits i l room e) (Contains-push (take i lits) l))
+  l_negated : Contains (map negation (take (i + 1) lits)) (negation l)
+  l_negated = Contains-map negation (take (i + 1) lits) l (rw (take_step lits i l room e) (Contains-push (take i lits) l))
 
-    pub assumed_same : Contains known (negation l) → IsAssumed root (take (i + 1) lits) known
-    assumed_same h = record {
-        consistent = a.consistent;
-        assumed = λ k m. elim (Contains-push_cases (take i lits) l k (rw (take_step lits i l room e) at m)) [
-            inl b ↦ a.assumed k b
-          | inr f ↦ rw (← f) h
-        ];
-        no_other = λ k m. elim (a.no_other k m) [
-            inl r ↦ inl r
-          | inr n ↦ inr (no_other_more k n)
-        ];
-    }
+  pub assumed_same : Contains known (negation l) → IsAssumed root (take (i + 1) lits) known
+  assumed_same h = record {
+    consistent = a.consistent;
+    assumed = λ k m. elim (Contains-push_cases (take i lits) l k (rw (take_step lits i l room e) at m)) [
+      | inl b ↦ a.assumed k b
+      | inr f ↦ rw (← f) h
+    ];
+    no_other = λ k m. elim (a.no_other k m) [
+      | inl r ↦ inl r
+      | inr n ↦ inr (no_other_more k n)
+    ];
+  }
 
-    pub assumed_push : (Contains known l → ⊥) → IsAssumed root (take (i + 1) lits) (known ++ negation l ∷ [])
-    assumed_push new = record {
-        consistent = no_opposites-push known (negation l) a.consistent (λ h. new (Contains-along known (negation (negation l)) l (negation-negation l) h));
-        assumed = λ k m. elim (Contains-push_cases (take i lits) l k (rw (take_step lits i l room e) at m)) [
-            inl b ↦ Contains-append_left known (negation l ∷ []) (negation k) (a.assumed k b)
-          | inr f ↦ rw (← f) (Contains-push known (negation l))
-        ];
-        no_other = λ k m. elim (Contains-push_cases known (negation l) k m) [
-            inl b ↦ elim (a.no_other k b) [
-                inl r ↦ inl r
-              | inr n ↦ inr (no_other_more k n)
-            ]
-          | inr f ↦ inr (rw (← f) l_negated)
-        ];
-    }
+  pub assumed_push : (Contains known l → ⊥) → IsAssumed root (take (i + 1) lits) (known ++ negation l ∷ [])
+  assumed_push new = record {
+    consistent = no_opposites-push known (negation l) a.consistent (λ h. new (Contains-along known (negation (negation l)) l (negation-negation l) h));
+    assumed = λ k m. elim (Contains-push_cases (take i lits) l k (rw (take_step lits i l room e) at m)) [
+      | inl b ↦ Contains-append_left known (negation l ∷ []) (negation k) (a.assumed k b)
+      | inr f ↦ rw (← f) (Contains-push known (negation l))
+    ];
+    no_other = λ k m. elim (Contains-push_cases known (negation l) k m) [
+      | inl b ↦ elim (a.no_other k b) [
+        | inl r ↦ inl r
+        | inr n ↦ inr (no_other_more k n)
+      ]
+      | inr f ↦ inr (rw (← f) l_negated)
+    ];
+  }
 
 pub longer_push : (old known : List Literal) (l : Literal) → IsLonger old known → IsLonger old (known ++ l ∷ [])
 longer_push old known l h = (h.0 ++ l ∷ [], ap (λ (ks : List Literal). ks ++ l ∷ []) h.1 ∙ append_assoc old h.0 (l ∷ []))
@@ -246,11 +250,11 @@ longer_within old new h l m = rw h.1 (Contains-append_left old h.0 l m)
 -- more literals are known, which are not worked off
 pub ready_longer : (s : Slots) (head : ℕ) (old new : List Literal) (pairs : List (Option Pair)) (rows : List (List ℕ)) → IsReady s head old pairs rows → head ≤ length old → IsLonger old new → (HasOpposites new → ⊥) → IsReady s head new pairs rows
 ready_longer s head old new pairs rows r h long c = record {
-    consistent = c;
-    covered = r.covered;
-    watched = λ b d p e f.
-        let same : take head new ≡ take head old = rw long.1 (take-front old long.0 head h) in
-        rw same (IsWatched-more (take head old) old new d p (longer_within old new long) (r.watched b d p e f));
+  consistent = c;
+  covered = r.covered;
+  watched = λ b d p e f.
+      let same : take head new ≡ take head old = rw long.1 (take-front old long.0 head h) in
+      rw same (IsWatched-more (take head old) old new d p (longer_within old new long) (r.watched b d p e f));
 }
 
 pub IsKept-fewer : (s : Slots) (few more : List Literal) (a b : List (Option Pair)) → IsWithin few more → IsKept s more a b → IsKept s few a b

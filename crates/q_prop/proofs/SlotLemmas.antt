@@ -7,94 +7,94 @@ use Rattle.q_prop.proofs.Literals.{ℕ-cases}
 use Rattle.q_prop.specs.Slots.{Slots, filled, without, Holds}
 
 module _ {A : Type 0} where
-    pub slice_get-in : (xs : List A) (n : ℕ) (y : A) → slice_get xs n ≡ Some y → n < length xs
-    slice_get-in [] n y e = cc
-    slice_get-in (x ∷ xs) zero y e = suc-le-suc zero-le
-    slice_get-in (x ∷ xs) (suc n) y e = suc-le-suc (slice_get-in xs n y e)
+  pub slice_get-in : (xs : List A) (n : ℕ) (y : A) → slice_get xs n ≡ Some y → n < length xs
+  slice_get-in [] n y e = cc
+  slice_get-in (x ∷ xs) zero y e = suc-le-suc zero-le
+  slice_get-in (x ∷ xs) (suc n) y e = suc-le-suc (slice_get-in xs n y e)
 
-    pub slice_get-append : (xs ys : List A) (n : ℕ) (y : A) → slice_get xs n ≡ Some y → slice_get (xs ++ ys) n ≡ Some y
-    slice_get-append [] ys n y e = cc
-    slice_get-append (x ∷ xs) ys zero y e = e
-    slice_get-append (x ∷ xs) ys (suc n) y e = slice_get-append xs ys n y e
+  pub slice_get-append : (xs ys : List A) (n : ℕ) (y : A) → slice_get xs n ≡ Some y → slice_get (xs ++ ys) n ≡ Some y
+  slice_get-append [] ys n y e = cc
+  slice_get-append (x ∷ xs) ys zero y e = e
+  slice_get-append (x ∷ xs) ys (suc n) y e = slice_get-append xs ys n y e
 
-    pub slice_get-end : (xs : List A) (y : A) → slice_get (xs ++ y ∷ []) (length xs) ≡ Some y
-    slice_get-end [] y = refl
-    slice_get-end (x ∷ xs) y = slice_get-end xs y
+  pub slice_get-end : (xs : List A) (y : A) → slice_get (xs ++ y ∷ []) (length xs) ≡ Some y
+  slice_get-end [] y = refl
+  slice_get-end (x ∷ xs) y = slice_get-end xs y
 
-    pub slice_get-push_cases : (xs : List A) (y z : A) (n : ℕ) → slice_get (xs ++ y ∷ []) n ≡ Some z → (slice_get xs n ≡ Some z) ⊎ ((n ≡ length xs) × (y ≡ z))
-    slice_get-push_cases [] y z zero e = inr (refl, cc)
-    slice_get-push_cases [] y z (suc n) e = cc
-    slice_get-push_cases (x ∷ xs) y z zero e = inl e
-    slice_get-push_cases (x ∷ xs) y z (suc n) e =
-        elim (slice_get-push_cases xs y z n e) [
-            inl f ↦ inl f
-          | inr f ↦ inr (ap suc f.0, f.1)
-        ]
+  pub slice_get-push_cases : (xs : List A) (y z : A) (n : ℕ) → slice_get (xs ++ y ∷ []) n ≡ Some z → (slice_get xs n ≡ Some z) ⊎ ((n ≡ length xs) × (y ≡ z))
+  slice_get-push_cases [] y z zero e = inr (refl, cc)
+  slice_get-push_cases [] y z (suc n) e = cc
+  slice_get-push_cases (x ∷ xs) y z zero e = inl e
+  slice_get-push_cases (x ∷ xs) y z (suc n) e =
+      elim (slice_get-push_cases xs y z n e) [
+        | inl f ↦ inl f
+        | inr f ↦ inr (ap suc f.0, f.1)
+      ]
 
-    pub take-slice_get : (xs : List A) (n : ℕ) (y : A) → slice_get xs n ≡ Some y → take (suc n) xs ≡ take n xs ++ y ∷ []
-    take-slice_get [] n y e = cc
-    take-slice_get (x ∷ xs) zero y e = let g : x ≡ y = cc in ap (λ (z : A). z ∷ []) g
-    take-slice_get (x ∷ xs) (suc n) y e = ap (λ (zs : List A). x ∷ zs) (take-slice_get xs n y e)
+  pub take-slice_get : (xs : List A) (n : ℕ) (y : A) → slice_get xs n ≡ Some y → take (suc n) xs ≡ take n xs ++ y ∷ []
+  take-slice_get [] n y e = cc
+  take-slice_get (x ∷ xs) zero y e = let g : x ≡ y = cc in ap (λ (z : A). z ∷ []) g
+  take-slice_get (x ∷ xs) (suc n) y e = ap (λ (zs : List A). x ∷ zs) (take-slice_get xs n y e)
 
-    pub take-front : (xs ys : List A) (n : ℕ) → n ≤ length xs → take n (xs ++ ys) ≡ take n xs
-    take-front xs ys zero h = refl
-    take-front [] ys (suc n) h = absurd (not-suc-le-zero h)
-    take-front (x ∷ xs) ys (suc n) h = ap (λ (zs : List A). x ∷ zs) (take-front xs ys n (le_of_suc-le-suc h))
+  pub take-front : (xs ys : List A) (n : ℕ) → n ≤ length xs → take n (xs ++ ys) ≡ take n xs
+  take-front xs ys zero h = refl
+  take-front [] ys (suc n) h = absurd (not-suc-le-zero h)
+  take-front (x ∷ xs) ys (suc n) h = ap (λ (zs : List A). x ∷ zs) (take-front xs ys n (le_of_suc-le-suc h))
 
-    pub slice_get-take : (xs : List A) (n j : ℕ) (y : A) → slice_get (take n xs) j ≡ Some y → (slice_get xs j ≡ Some y) × (j < n)
-    slice_get-take xs zero j y e = cc
-    slice_get-take [] (suc n) j y e = cc
-    slice_get-take (x ∷ xs) (suc n) zero y e = (e, suc-le-suc zero-le)
-    slice_get-take (x ∷ xs) (suc n) (suc j) y e = let r = slice_get-take xs n j y e in (r.0, suc-le-suc r.1)
+  pub slice_get-take : (xs : List A) (n j : ℕ) (y : A) → slice_get (take n xs) j ≡ Some y → (slice_get xs j ≡ Some y) × (j < n)
+  slice_get-take xs zero j y e = cc
+  slice_get-take [] (suc n) j y e = cc
+  slice_get-take (x ∷ xs) (suc n) zero y e = (e, suc-le-suc zero-le)
+  slice_get-take (x ∷ xs) (suc n) (suc j) y e = let r = slice_get-take xs n j y e in (r.0, suc-le-suc r.1)
 
-    pub slice_get-take_in : (xs : List A) (n j : ℕ) (y : A) → slice_get xs j ≡ Some y → j < n → slice_get (take n xs) j ≡ Some y
-    slice_get-take_in xs zero j y e h = absurd (not-suc-le-zero h)
-    slice_get-take_in [] (suc n) j y e h = e
-    slice_get-take_in (x ∷ xs) (suc n) zero y e h = e
-    slice_get-take_in (x ∷ xs) (suc n) (suc j) y e h = slice_get-take_in xs n j y e (le_of_suc-le-suc h)
+  pub slice_get-take_in : (xs : List A) (n j : ℕ) (y : A) → slice_get xs j ≡ Some y → j < n → slice_get (take n xs) j ≡ Some y
+  slice_get-take_in xs zero j y e h = absurd (not-suc-le-zero h)
+  slice_get-take_in [] (suc n) j y e h = e
+  slice_get-take_in (x ∷ xs) (suc n) zero y e h = e
+  slice_get-take_in (x ∷ xs) (suc n) (suc j) y e h = slice_get-take_in xs n j y e (le_of_suc-le-suc h)
 
-    pub same_slice_get : (xs : List A) (n : ℕ) (y z : A) → slice_get xs n ≡ Some y → slice_get xs n ≡ Some z → y ≡ z
-    same_slice_get xs n y z e f = cc
+  pub same_slice_get : (xs : List A) (n : ℕ) (y z : A) → slice_get xs n ≡ Some y → slice_get xs n ≡ Some z → y ≡ z
+  same_slice_get xs n y z e f = cc
 
-    pub slice_get-set_same : (xs : List A) (n : ℕ) (y z : A) → slice_get xs n ≡ Some y → slice_get (set xs n z) n ≡ Some z
-    slice_get-set_same [] n y z e = cc
-    slice_get-set_same (x ∷ xs) zero y z e = refl
-    slice_get-set_same (x ∷ xs) (suc n) y z e = slice_get-set_same xs n y z e
+  pub slice_get-set_same : (xs : List A) (n : ℕ) (y z : A) → slice_get xs n ≡ Some y → slice_get (set xs n z) n ≡ Some z
+  slice_get-set_same [] n y z e = cc
+  slice_get-set_same (x ∷ xs) zero y z e = refl
+  slice_get-set_same (x ∷ xs) (suc n) y z e = slice_get-set_same xs n y z e
 
-    pub slice_get-set_other : (xs : List A) (n m : ℕ) (z : A) → m ≢ n → slice_get (set xs n z) m ≡ slice_get xs m
-    slice_get-set_other [] n m z h = refl
-    slice_get-set_other (x ∷ xs) zero zero z h = absurd (h refl)
-    slice_get-set_other (x ∷ xs) zero (suc m) z h = refl
-    slice_get-set_other (x ∷ xs) (suc n) zero z h = refl
-    slice_get-set_other (x ∷ xs) (suc n) (suc m) z h = slice_get-set_other xs n m z (λ e. h (ap suc e))
+  pub slice_get-set_other : (xs : List A) (n m : ℕ) (z : A) → m ≢ n → slice_get (set xs n z) m ≡ slice_get xs m
+  slice_get-set_other [] n m z h = refl
+  slice_get-set_other (x ∷ xs) zero zero z h = absurd (h refl)
+  slice_get-set_other (x ∷ xs) zero (suc m) z h = refl
+  slice_get-set_other (x ∷ xs) (suc n) zero z h = refl
+  slice_get-set_other (x ∷ xs) (suc n) (suc m) z h = slice_get-set_other xs n m z (λ e. h (ap suc e))
 
-    pub slice_get-set_here : (xs : List A) (n : ℕ) (z y : A) → slice_get (set xs n z) n ≡ Some y → z ≡ y
-    slice_get-set_here [] n z y e = cc
-    slice_get-set_here (x ∷ xs) zero z y e = cc
-    slice_get-set_here (x ∷ xs) (suc n) z y e = slice_get-set_here xs n z y e
+  pub slice_get-set_here : (xs : List A) (n : ℕ) (z y : A) → slice_get (set xs n z) n ≡ Some y → z ≡ y
+  slice_get-set_here [] n z y e = cc
+  slice_get-set_here (x ∷ xs) zero z y e = cc
+  slice_get-set_here (x ∷ xs) (suc n) z y e = slice_get-set_here xs n z y e
 
-    pub slice_get-there : (xs : List A) (n : ℕ) → n < length xs → (y : A) × (slice_get xs n ≡ Some y)
-    slice_get-there [] n h = absurd (not-suc-le-zero h)
-    slice_get-there (x ∷ xs) zero h = (x, refl)
-    slice_get-there (x ∷ xs) (suc n) h = slice_get-there xs n (le_of_suc-le-suc h)
+  pub slice_get-there : (xs : List A) (n : ℕ) → n < length xs → (y : A) × (slice_get xs n ≡ Some y)
+  slice_get-there [] n h = absurd (not-suc-le-zero h)
+  slice_get-there (x ∷ xs) zero h = (x, refl)
+  slice_get-there (x ∷ xs) (suc n) h = slice_get-there xs n (le_of_suc-le-suc h)
 
-    pub slice_get-at : (xs : List A) (i : ℕ) (d : A) → i < length xs → slice_get xs i ≡ Some (get_or xs i d)
-    slice_get-at [] i d h = absurd (not-suc-le-zero h)
-    slice_get-at (x ∷ xs) zero d h = refl
-    slice_get-at (x ∷ xs) (suc i) d h = slice_get-at xs i d (le_of_suc-le-suc h)
+  pub slice_get-at : (xs : List A) (i : ℕ) (d : A) → i < length xs → slice_get xs i ≡ Some (get_or xs i d)
+  slice_get-at [] i d h = absurd (not-suc-le-zero h)
+  slice_get-at (x ∷ xs) zero d h = refl
+  slice_get-at (x ∷ xs) (suc i) d h = slice_get-at xs i d (le_of_suc-le-suc h)
 
-    pub Contains-slice_get : (xs : List A) (n : ℕ) (y : A) → slice_get xs n ≡ Some y → Contains xs y
-    Contains-slice_get [] n y e = cc
-    Contains-slice_get (x ∷ xs) zero y e = let g : x ≡ y = cc in Contains-along (x ∷ xs) x y g (Contains-here x xs)
-    Contains-slice_get (x ∷ xs) (suc n) y e = Contains-there x xs y (Contains-slice_get xs n y e)
+  pub Contains-slice_get : (xs : List A) (n : ℕ) (y : A) → slice_get xs n ≡ Some y → Contains xs y
+  Contains-slice_get [] n y e = cc
+  Contains-slice_get (x ∷ xs) zero y e = let g : x ≡ y = cc in Contains-along (x ∷ xs) x y g (Contains-here x xs)
+  Contains-slice_get (x ∷ xs) (suc n) y e = Contains-there x xs y (Contains-slice_get xs n y e)
 
-    pub slice_get-Contains : (xs : List A) (y : A) → Contains xs y → (n : ℕ) × (slice_get xs n ≡ Some y)
-    slice_get-Contains [] y h = absurd (Contains-nil y h)
-    slice_get-Contains (x ∷ xs) y h =
-        elim (Contains-cons_cases x xs y h) [
-            inl e ↦ (zero, ap (λ (z : A). Some z) e)
-          | inr t ↦ let r = slice_get-Contains xs y t in (suc r.0, r.1)
-        ]
+  pub slice_get-Contains : (xs : List A) (y : A) → Contains xs y → (n : ℕ) × (slice_get xs n ≡ Some y)
+  slice_get-Contains [] y h = absurd (Contains-nil y h)
+  slice_get-Contains (x ∷ xs) y h =
+      elim (Contains-cons_cases x xs y h) [
+        | inl e ↦ (zero, ap (λ (z : A). Some z) e)
+        | inr t ↦ let r = slice_get-Contains xs y t in (suc r.0, r.1)
+      ]
 
 pub filled-in : (s : Slots) (n : ℕ) (c : Clause) → Holds s n c → Contains (filled s) c
 filled-in [] n c e = cc
@@ -108,7 +108,7 @@ filled-cases [] c h = absurd (Contains-nil c h)
 filled-cases (None ∷ s) c h = let r = filled-cases s c h in (suc r.0, r.1)
 filled-cases (Some d ∷ s) c h =
     elim (Contains-cons_cases d (filled s) c h) [
-        inl e ↦ (zero, ap (λ (z : Clause). Some (Some z)) e)
+      | inl e ↦ (zero, ap (λ (z : Clause). Some (Some z)) e)
       | inr t ↦ let r = filled-cases s c t in (suc r.0, r.1)
     ]
 
@@ -120,8 +120,8 @@ pub without-le : (s : Slots) (k : Option ℕ) (n : ℕ) (c : Clause) → Holds (
 without-le s None n c e = e
 without-le s (Some m) n c e =
     elim (ℕ-cases n m) [
-        inl f ↦
-            absurd (none-some c (slice_get-set_here s m None (Some c) (rw f at e)))
+      | inl f ↦
+          absurd (none-some c (slice_get-set_here s m None (Some c) (rw f at e)))
       | inr d ↦ sym (slice_get-set_other s m n None d) ∙ e
     ]
 

@@ -20,37 +20,37 @@ negation-apart k l e = sym (negation-negation k) ∙ ap negation e ∙ negation-
 -- at the end a watched clause is settled
 pub IsWatched-settled : (known : List Literal) (c : Clause) (p : Pair) → (HasOpposites known → ⊥) → IsWatched known known c p → IsSettled known c
 IsWatched-settled known c p consistent w = record {
-    not_falsified = λ f.
-        let n = f p.first w.first_in in
-        let m = f p.second w.second_in in
-        consistent (p.second, w.first_false n, m);
-    nothing_new = λ l in' u. elim (Literal-cases p.first l) [
-        inl e ↦
-            let m = u p.second w.second_in (λ f. w.differ (e ∙ sym f)) in
-            Contains-along known p.first l e (w.second_false m)
-      | inr n ↦
-            let second = w.first_false (u p.first w.first_in n) in
-            elim (Literal-cases p.second l) [
-                inl e ↦ Contains-along known p.second l e second
-              | inr m ↦ absurd (consistent (p.second, second, u p.second w.second_in m))
-            ]
-    ];
+  not_falsified = λ f.
+      let n = f p.first w.first_in in
+      let m = f p.second w.second_in in
+      consistent (p.second, w.first_false n, m);
+  nothing_new = λ l in' u. elim (Literal-cases p.first l) [
+    | inl e ↦
+        let m = u p.second w.second_in (λ f. w.differ (e ∙ sym f)) in
+        Contains-along known p.first l e (w.second_false m)
+    | inr n ↦
+        let second = w.first_false (u p.first w.first_in n) in
+        elim (Literal-cases p.second l) [
+          | inl e ↦ Contains-along known p.second l e second
+          | inr m ↦ absurd (consistent (p.second, second, u p.second w.second_in m))
+        ]
+  ];
 }
 
 pub IsSingle-settled : (known : List Literal) (c : Clause) → (HasOpposites known → ⊥) → IsShort c → IsSingle known c → IsSettled known c
 IsSingle-settled known c consistent short s = record {
-    not_falsified = λ f. consistent (s.literal, s.is_known, f s.literal s.is_in);
-    nothing_new = λ l in' u. Contains-along known s.literal l (short s.literal l s.is_in in') s.is_known;
+  not_falsified = λ f. consistent (s.literal, s.is_known, f s.literal s.is_in);
+  nothing_new = λ l in' u. Contains-along known s.literal l (short s.literal l s.is_in in') s.is_known;
 }
 
 -- more known literals keep what is watched
 pub IsWatched-more : (done known more : List Literal) (c : Clause) (p : Pair) → IsWithin known more → IsWatched done known c p → IsWatched done more c p
 IsWatched-more done known more c p w g = record {
-    first_in = g.first_in;
-    second_in = g.second_in;
-    differ = g.differ;
-    first_false = λ h. w p.second (g.first_false h);
-    second_false = λ h. w p.first (g.second_false h);
+  first_in = g.first_in;
+  second_in = g.second_in;
+  differ = g.differ;
+  first_false = λ h. w p.second (g.first_false h);
+  second_false = λ h. w p.first (g.second_false h);
 }
 
 abbrev pub swapped : Pair → Pair
@@ -58,64 +58,64 @@ swapped p = record { first = p.second; second = p.first }
 
 pub IsWatched-swap : (done known : List Literal) (c : Clause) (p : Pair) → IsWatched done known c p → IsWatched done known c (swapped p)
 IsWatched-swap done known c p w = record {
-    first_in = w.second_in;
-    second_in = w.first_in;
-    differ = λ e. w.differ (sym e);
-    first_false = w.second_false;
-    second_false = w.first_false;
+  first_in = w.second_in;
+  second_in = w.first_in;
+  differ = λ e. w.differ (sym e);
+  first_false = w.second_false;
+  second_false = w.first_false;
 }
 
 -- one more literal is worked off, of which no watched literal is the negation
 pub IsWatched-apart : (done known : List Literal) (k : Literal) (c : Clause) (p : Pair) → p.first ≢ negation k → p.second ≢ negation k → IsWatched done known c p → IsWatched (done ++ k ∷ []) known c p
 IsWatched-apart done known k c p n m w = record {
-    first_in = w.first_in;
-    second_in = w.second_in;
-    differ = w.differ;
-    first_false = λ h. elim (Contains-push_cases done k (negation p.first) h) [
-        inl before ↦ w.first_false before
-      | inr e ↦ absurd (n (sym (negation-negation p.first) ∙ ap negation (sym e)))
-    ];
-    second_false = λ h. elim (Contains-push_cases done k (negation p.second) h) [
-        inl before ↦ w.second_false before
-      | inr e ↦ absurd (m (sym (negation-negation p.second) ∙ ap negation (sym e)))
-    ];
+  first_in = w.first_in;
+  second_in = w.second_in;
+  differ = w.differ;
+  first_false = λ h. elim (Contains-push_cases done k (negation p.first) h) [
+    | inl before ↦ w.first_false before
+    | inr e ↦ absurd (n (sym (negation-negation p.first) ∙ ap negation (sym e)))
+  ];
+  second_false = λ h. elim (Contains-push_cases done k (negation p.second) h) [
+    | inl before ↦ w.second_false before
+    | inr e ↦ absurd (m (sym (negation-negation p.second) ∙ ap negation (sym e)))
+  ];
 }
 
 module _ (done known : List Literal) (k : Literal) (c : Clause) (p : Pair) (within : IsWithin (done ++ k ∷ []) known) (consistent : HasOpposites known → ⊥) where
-    -- the other literal is true
-    pub IsWatched-keep : Contains known p.second → IsWatched done known c p → IsWatched (done ++ k ∷ []) known c p
-    IsWatched-keep second w = record {
-        first_in = w.first_in;
-        second_in = w.second_in;
-        differ = w.differ;
-        first_false = λ h. second;
-        second_false = λ h. absurd (consistent (p.second, second, within (negation p.second) h));
-    }
+  -- the other literal is true
+  pub IsWatched-keep : Contains known p.second → IsWatched done known c p → IsWatched (done ++ k ∷ []) known c p
+  IsWatched-keep second w = record {
+    first_in = w.first_in;
+    second_in = w.second_in;
+    differ = w.differ;
+    first_false = λ h. second;
+    second_false = λ h. absurd (consistent (p.second, second, within (negation p.second) h));
+  }
 
-    -- a literal that is not false takes the place of the first
-    pub IsWatched-move : (l : Literal) → Contains c l → l ≢ p.second → (Contains known (negation l) → ⊥) → p.first ≡ negation k → IsWatched done known c p → IsWatched (done ++ k ∷ []) known c (record { first = l; second = p.second })
-    IsWatched-move l in' differ' open' e w = record {
-        first_in = in';
-        second_in = w.second_in;
-        differ = differ';
-        first_false = λ h. absurd (open' (within (negation l) h));
-        second_false = λ h. absurd (elim (Contains-push_cases done k (negation p.second) h) [
-            inl before ↦
-                let first = w.second_false before in
-                let k_known = within k (Contains-push done k) in
-                consistent (k, k_known, Contains-along known p.first (negation k) e first)
-          | inr f ↦ w.differ (e ∙ ap negation f ∙ negation-negation p.second)
-        ]);
-    }
+  -- a literal that is not false takes the place of the first
+  pub IsWatched-move : (l : Literal) → Contains c l → l ≢ p.second → (Contains known (negation l) → ⊥) → p.first ≡ negation k → IsWatched done known c p → IsWatched (done ++ k ∷ []) known c (record { first = l; second = p.second })
+  IsWatched-move l in' differ' open' e w = record {
+    first_in = in';
+    second_in = w.second_in;
+    differ = differ';
+    first_false = λ h. absurd (open' (within (negation l) h));
+    second_false = λ h. absurd (elim (Contains-push_cases done k (negation p.second) h) [
+      | inl before ↦
+          let first = w.second_false before in
+          let k_known = within k (Contains-push done k) in
+          consistent (k, k_known, Contains-along known p.first (negation k) e first)
+      | inr f ↦ w.differ (e ∙ ap negation f ∙ negation-negation p.second)
+    ]);
+  }
 
 -- less is worked off
 pub IsWatched-less : (done some known : List Literal) (c : Clause) (p : Pair) → IsWithin some done → IsWatched done known c p → IsWatched some known c p
 IsWatched-less done some known c p within w = record {
-    first_in = w.first_in;
-    second_in = w.second_in;
-    differ = w.differ;
-    first_false = λ h. w.first_false (within (negation p.first) h);
-    second_false = λ h. w.second_false (within (negation p.second) h);
+  first_in = w.first_in;
+  second_in = w.second_in;
+  differ = w.differ;
+  first_false = λ h. w.first_false (within (negation p.first) h);
+  second_false = λ h. w.second_false (within (negation p.second) h);
 }
 
 abbrev pub pair_of : Literal → Literal → Pair
@@ -124,25 +124,25 @@ pair_of f o = record { first = f; second = o }
 pub IsOther-to : (done known : List Literal) (c : Clause) (p : Pair) (f o : Literal) → IsOther p f (Some o) → IsWatched done known c p → IsWatched done known c (pair_of f o)
 IsOther-to done known c p f o h w =
     elim h [
-        inl e ↦ subst (IsWatched done known c) (ap₂ pair_of e.0 e.1) w
+      | inl e ↦ subst (IsWatched done known c) (ap₂ pair_of e.0 e.1) w
       | inr e ↦ subst (IsWatched done known c) (ap₂ pair_of e.0 e.1) (IsWatched-swap done known c p w)
     ]
 
 pub IsOther-from : (done known : List Literal) (c : Clause) (p : Pair) (f o : Literal) → IsOther p f (Some o) → IsWatched done known c (pair_of f o) → IsWatched done known c p
 IsOther-from done known c p f o h w =
     elim h [
-        inl e ↦ subst (IsWatched done known c) (sym (ap₂ pair_of e.0 e.1)) w
+      | inl e ↦ subst (IsWatched done known c) (sym (ap₂ pair_of e.0 e.1)) w
       | inr e ↦ IsWatched-swap done known c (swapped p) (subst (IsWatched done known c) (sym (ap₂ pair_of e.0 e.1)) w)
     ]
 
 -- nothing is worked off
 pub IsWatched-none : (done known more : List Literal) (c : Clause) (p : Pair) → IsWatched done known c p → IsWatched [] more c p
 IsWatched-none done known more c p w = record {
-    first_in = w.first_in;
-    second_in = w.second_in;
-    differ = w.differ;
-    first_false = λ h. absurd (Contains-nil (negation p.first) h);
-    second_false = λ h. absurd (Contains-nil (negation p.second) h);
+  first_in = w.first_in;
+  second_in = w.second_in;
+  differ = w.differ;
+  first_false = λ h. absurd (Contains-nil (negation p.first) h);
+  second_false = λ h. absurd (Contains-nil (negation p.second) h);
 }
 
 -- a moved pair is watched under few of the known literals
@@ -150,9 +150,9 @@ pub IsWatched-floor : (few known : List Literal) (lit l o : Literal) (c : Clause
 IsWatched-floor few known lit l o c p within consistent here other in' differ' open' w =
     let v = IsOther-to few few c p (negation lit) o other w in
     record {
-        first_in = in';
-        second_in = v.second_in;
-        differ = differ';
-        first_false = λ h. absurd (open' (within (negation l) h));
-        second_false = λ h. absurd (consistent (lit, here, within (negation lit) (v.second_false h)));
+      first_in = in';
+      second_in = v.second_in;
+      differ = differ';
+      first_false = λ h. absurd (open' (within (negation l) h));
+      second_false = λ h. absurd (consistent (lit, here, within (negation lit) (v.second_false h)));
     }

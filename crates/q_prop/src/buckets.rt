@@ -36,7 +36,8 @@ pub fn bucket(count: usize, lits: &[Lit]) -> usize
 
 /// The last slot of the list that has this clause.
 pub fn find_in(propagator: &Propagator, list: &[u32], lits: &[Lit]) -> Option<usize>
-    ensures { MatchOption result ((at : ℕ) → Contains list.now at → Holds propagator.now at lits.now → ⊥) (λ at. Holds propagator.now at lits.now) }
+    ensures { MatchOption result ((at : ℕ) → Contains list.now at → Holds propagator.now at lits.now → ⊥)
+        (λ at. Holds propagator.now at lits.now) }
 {
     let mut rest = list.len();
     while rest > 0 {
@@ -86,7 +87,12 @@ pub fn rehashed(alloc: Global, propagator: &Propagator, count: usize) -> Result<
 }
 
 // Puts a slot into the bucket of its clause.
-fn enter(propagator: &Propagator, lists: &mut Lists, count: usize, at: usize) -> Result<(), NoMemory>
+fn enter(
+    propagator: &Propagator,
+    lists: &mut Lists,
+    count: usize,
+    at: usize,
+) -> Result<(), NoMemory>
     requires positive { 1 ≤ count }
     requires small { at < 2 ^ 32 }
     ensures { OnOk result (IsEntered propagator.now count lists.old lists.new at) }

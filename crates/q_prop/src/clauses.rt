@@ -58,7 +58,8 @@ impl Clauses {
     }
 
     pub fn get(&self, at: usize) -> Option<&[Lit]>
-        ensures { MatchOption result ((c : Clause) → Holds self.now at c → ⊥) (λ r. Holds self.now at r.now) }
+        ensures { MatchOption result ((c : Clause) → Holds self.now at c → ⊥) (λ r.
+            Holds self.now at r.now) }
     {
         match bounds(&self.pieces, at) {
             Some((start, end)) => Some(&self.lits[start..end]),
@@ -142,7 +143,9 @@ fn length_at(pieces: &[Piece], at: usize) -> usize {
 
 // Appends a clause to the row. A row has at most 2^32 - 1 literals.
 fn append(row: &mut Vec<Lit>, lits: &[Lit]) -> Result<Piece, NoMemory>
-    ensures ok { IfOk result (λ p. (row.new.items ≡ row.old.items ++ lits.now) × (p ≡ Filled (length row.old.items) (length row.new.items))) }
+    ensures ok { IfOk result (λ p.
+        (row.new.items ≡ row.old.items ++ lits.now) ×
+        (p ≡ Filled (length row.old.items) (length row.new.items))) }
     ensures err { OnErr result (row.new.items ≡ row.old.items) }
 {
     let start = u32::try_from(row.len()).map_err(|_| NoMemory)?;
@@ -155,10 +158,17 @@ fn append(row: &mut Vec<Lit>, lits: &[Lit]) -> Result<Piece, NoMemory>
 }
 
 // The clauses of the row appended to another one, and where they stand there.
-fn moved(alloc: Global, pieces: &[Piece], from: &[Lit], into: &mut Vec<Lit>) -> Result<Vec<Piece>, NoMemory>
+fn moved(
+    alloc: Global,
+    pieces: &[Piece],
+    from: &[Lit],
+    into: &mut Vec<Lit>,
+) -> Result<Vec<Piece>, NoMemory>
     requires within { AreWithin from.now pieces.now }
     requires empty { into.old.items ≡ [] }
-    ensures { IfOk result (λ v. (map (clause_of into.new.items) v.items ≡ map (clause_of from.now) pieces.now) × AreWithin into.new.items v.items) }
+    ensures { IfOk result (λ v.
+        (map (clause_of into.new.items) v.items ≡ map (clause_of from.now) pieces.now) ×
+        AreWithin into.new.items v.items) }
 {
     let mut news = Vec::with_capacity(alloc, pieces.len())?;
     for piece in pieces {
@@ -181,7 +191,8 @@ fn carry(from: &[Lit], into: &mut Vec<Lit>, piece: Piece) -> Result<Piece, NoMem
 
 // The clause in a slot that is not the one left out.
 pub fn clause_at<'a>(clauses: &'a Clauses, skip: Option<usize>, at: usize) -> Option<&'a [Lit]>
-    ensures { MatchOption result ((c : Clause) → Holds (without clauses.now skip) at c → ⊥) (λ r. Holds (without clauses.now skip) at r.now) }
+    ensures { MatchOption result ((c : Clause) → Holds (without clauses.now skip) at c → ⊥) (λ r.
+        Holds (without clauses.now skip) at r.now) }
 {
     if let Some(left_out) = skip {
         if left_out == at {

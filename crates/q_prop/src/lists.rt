@@ -70,8 +70,10 @@ fn grow(alloc: Global, lists: &mut Vec<Vec<u32>>, k: usize) -> Result<(), NoMemo
 
 fn push_at(lists: &mut Vec<Vec<u32>>, k: usize, slot: u32) -> Result<(), NoMemory>
     requires { k < vec_len lists.old }
-    ensures ok { OnOk result (IsAppended (map (λ v. v.items) lists.old.items) (map (λ v. v.items) lists.new.items) k slot) }
-    ensures err { OnErr result (AreSameLists (map (λ v. v.items) lists.old.items) (map (λ v. v.items) lists.new.items)) }
+    ensures ok { OnOk result
+        (IsAppended (map (λ v. v.items) lists.old.items) (map (λ v. v.items) lists.new.items) k slot) }
+    ensures err { OnErr result
+        (AreSameLists (map (λ v. v.items) lists.old.items) (map (λ v. v.items) lists.new.items)) }
 {
     let list = &mut lists[k];
     list.push(slot)?;

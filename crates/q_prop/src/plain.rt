@@ -97,7 +97,8 @@ fn status_at(store: &Store, skip: Option<usize>, at: usize, known: &[Lit]) -> St
 
 // The clause in a slot that is not the one left out.
 fn clause_but<'a>(store: &'a Store, skip: Option<usize>, at: usize) -> Option<&'a [Lit]>
-    ensures { MatchOption result ((c : Clause) → Holds (without store.now skip) at c → ⊥) (λ r. Holds (without store.now skip) at r.now) }
+    ensures { MatchOption result ((c : Clause) → Holds (without store.now skip) at c → ⊥) (λ r.
+        Holds (without store.now skip) at r.now) }
 {
     if let Some(left_out) = skip {
         if left_out == at {

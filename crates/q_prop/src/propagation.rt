@@ -8,14 +8,15 @@ ghost use Rattle.q_prop.specs.Slots.{filled, without, Holds};
 ghost use Rattle.q_prop.specs.Watches.{IsShort, AllWatched, IsSingle};
 ghost use Rattle.q_prop.specs.Working.{IsWorking, IsGrown, IsReached, IsReady, IsCovered, IsKept, AreListed, IsRooted, AreTrue, IsLonger, Clashes, IsAssumed};
 
-use crate::clauses::{clause_at, Clauses};
+use crate::clauses::{Clauses, clause_at};
 use crate::rows::Rows;
 use crate::trail::Trail;
-use crate::watches::{visit_of, watch_at, Pair, Visit};
+use crate::watches::{Pair, Visit, visit_of, watch_at};
 use q_logic::{Lit, NoMemory};
 use std::alloc::Global;
 
-// Visits the clause at a place of the row, and answers the place of the next, or None where the clause is falsified.
+// Visits the clause at a place of the row, and answers the place of the next, or None where the
+// clause is falsified.
 pub fn step(
     alloc: Global,
     clauses: &Clauses,
@@ -34,7 +35,12 @@ pub fn step(
     ensures grown { IsGrown (filled (without clauses.now skip)) trail.old trail.new }
     ensures kept { IsKept clauses.now trail.old pairs.old.items pairs.new.items }
     ensures covered { IsCovered pairs.new.items rows.new }
-    ensures going { IfOk result (λ next. MatchOption next (HasFalsified (filled (without clauses.now skip)) trail.new) (λ k. IsWorking (without clauses.now skip) head lit k trail.new pairs.new.items rows.new × (length (row_of rows.new (negation lit)) + i + 1 ≡ length (row_of rows.old (negation lit)) + k) × (k ≤ i + 1))) }
+    ensures going { IfOk result (λ next.
+        MatchOption next (HasFalsified (filled (without clauses.now skip)) trail.new) (λ k.
+        IsWorking (without clauses.now skip) head lit k trail.new pairs.new.items rows.new ×
+        (length (row_of rows.new (negation lit)) + i + 1 ≡ length
+        (row_of rows.old (negation lit)) + k)
+        × (k ≤ i + 1))) }
 {
     let false_lit = lit.negated();
     let at = rows.at(false_lit, i);
@@ -81,13 +87,18 @@ pub fn work_off(
     ensures reached { IsReached (filled (without clauses.now skip)) trail.old trail.new }
     ensures kept { IsKept clauses.now trail.old pairs.old.items pairs.new.items }
     ensures covered { IsCovered pairs.new.items rows.new }
-    ensures going { IfOk result (λ conflict. MatchBool conflict (HasFalsified (filled (without clauses.now skip)) trail.new) (IsReady (without clauses.now skip) (head + 1) trail.new pairs.new.items rows.new)) }
+    ensures going { IfOk result (λ conflict.
+        MatchBool conflict (HasFalsified (filled (without clauses.now skip)) trail.new)
+        (IsReady (without clauses.now skip) (head + 1) trail.new pairs.new.items rows.new)) }
 {
     let false_lit = lit.negated();
     let mut i = 0;
     while i < rows.count(false_lit) {
         let count = rows.count(false_lit);
-        let Some(next) = step(alloc, clauses, skip, pairs, rows, trail, head, lit, i, count)? else {
+        let Some(next) = step(
+            alloc, clauses, skip, pairs, rows, trail, head, lit, i, count,
+        )?
+        else {
             return Ok(true);
         };
         i = next;
@@ -110,7 +121,9 @@ pub fn propagate(
     ensures reached { IsReached (filled (without clauses.now skip)) trail.old trail.new }
     ensures kept { IsKept clauses.now trail.old pairs.old.items pairs.new.items }
     ensures covered { IsCovered pairs.new.items rows.new }
-    ensures ends { IfOk result (λ conflict. MatchBool conflict (HasFalsified (filled (without clauses.now skip)) trail.new) (IsReady (without clauses.now skip) (length trail.new) trail.new pairs.new.items rows.new)) }
+    ensures ends { IfOk result (λ conflict.
+        MatchBool conflict (HasFalsified (filled (without clauses.now skip)) trail.new)
+        (IsReady (without clauses.now skip) (length trail.new) trail.new pairs.new.items rows.new)) }
 {
     let mut head = from;
     while head < trail.len() {
@@ -132,7 +145,9 @@ pub fn take_single(
 ) -> Result<bool, NoMemory>
     requires short { (c : Clause) → Holds (without clauses.now skip) at c → IsShort c }
     ensures grown { IsGrown (filled (without clauses.now skip)) trail.old trail.new }
-    ensures ends { IfOk result (λ conflict. MatchBool conflict (HasFalsified (filled (without clauses.now skip)) trail.new) ((c : Clause) → Holds (without clauses.now skip) at c → IsSingle trail.new c)) }
+    ensures ends { IfOk result (λ conflict.
+        MatchBool conflict (HasFalsified (filled (without clauses.now skip)) trail.new)
+        ((c : Clause) → Holds (without clauses.now skip) at c → IsSingle trail.new c)) }
 {
     let Some(clause) = clause_at(clauses, skip, at) else {
         return Ok(false);
@@ -160,10 +175,13 @@ pub fn take_singles(
     trail: &mut Trail,
 ) -> Result<bool, NoMemory>
     requires done { done ≤ length singles.now }
-    requires short { (at : ℕ) (c : Clause) → Contains singles.now at → Holds (without clauses.now skip) at c → IsShort c }
+    requires short { (at : ℕ) (c : Clause) → Contains singles.now at → Holds (without clauses.now skip) at c →
+        IsShort c }
     requires before { AreTrue (without clauses.now skip) singles.now done trail.old }
     ensures reached { IsReached (filled (without clauses.now skip)) trail.old trail.new }
-    ensures ends { IfOk result (λ conflict. MatchBool conflict (HasFalsified (filled (without clauses.now skip)) trail.new) (AreTrue (without clauses.now skip) singles.now (length singles.now) trail.new)) }
+    ensures ends { IfOk result (λ conflict.
+        MatchBool conflict (HasFalsified (filled (without clauses.now skip)) trail.new)
+        (AreTrue (without clauses.now skip) singles.now (length singles.now) trail.new)) }
 {
     let mut next = done;
     while next < singles.len() {
@@ -192,7 +210,10 @@ pub fn settle(
     ensures reached { IsReached (filled (without clauses.now skip)) trail.old trail.new }
     ensures kept { IsKept clauses.now trail.old pairs.old.items pairs.new.items }
     ensures covered { IsCovered pairs.new.items rows.new }
-    ensures ends { IfOk result (λ conflict. MatchBool conflict (HasFalsified (filled (without clauses.now skip)) trail.new) (IsRooted (without clauses.now skip) pairs.new.items rows.new singles.now (length singles.now) trail.new (length trail.new))) }
+    ensures ends { IfOk result (λ conflict.
+        MatchBool conflict (HasFalsified (filled (without clauses.now skip)) trail.new)
+        (IsRooted (without clauses.now skip) pairs.new.items rows.new singles.now
+        (length singles.now) trail.new (length trail.new))) }
 {
     if take_singles(clauses, skip, singles, done, trail)? {
         return Ok(true);
@@ -200,11 +221,13 @@ pub fn settle(
     propagate(alloc, clauses, skip, pairs, rows, trail, head)
 }
 
-// Makes the negations of the literals known, and answers whether one of these is true or two are opposites.
+// Makes the negations of the literals known, and answers whether one of the literals is true or two
+// are opposites.
 pub fn assume(trail: &mut Trail, lits: &[Lit]) -> Result<bool, NoMemory>
     requires consistent { HasOpposites trail.old → ⊥ }
     ensures longer { IsLonger trail.old trail.new }
-    ensures ends { IfOk result (λ clash. MatchBool clash (Clashes trail.old lits.now) (IsAssumed trail.old lits.now trail.new)) }
+    ensures ends { IfOk result (λ clash.
+        MatchBool clash (Clashes trail.old lits.now) (IsAssumed trail.old lits.now trail.new)) }
 {
     for lit in lits {
         if trail.has(*lit) {
@@ -228,7 +251,8 @@ pub fn search(
     lits: &[Lit],
     singles: &[usize],
 ) -> Result<bool, NoMemory>
-    requires rooted { IsRooted (without clauses.now skip) pairs.old.items rows.old singles.now (length singles.now) trail.old (length trail.old) }
+    requires rooted { IsRooted (without clauses.now skip) pairs.old.items rows.old singles.now
+        (length singles.now) trail.old (length trail.old) }
     ensures longer { IsLonger trail.old trail.new }
     ensures kept { IsKept clauses.now trail.old pairs.old.items pairs.new.items }
     ensures covered { IsCovered pairs.new.items rows.new }
@@ -252,7 +276,8 @@ pub fn query(
     lits: &[Lit],
     singles: &[usize],
 ) -> Result<bool, NoMemory>
-    requires rooted { IsRooted (without clauses.now skip) pairs.old.items rows.old singles.now (length singles.now) trail.old (length trail.old) }
+    requires rooted { IsRooted (without clauses.now skip) pairs.old.items rows.old singles.now
+        (length singles.now) trail.old (length trail.old) }
     ensures same { trail.new ≡ trail.old }
     ensures kept { IsKept clauses.now trail.old pairs.old.items pairs.new.items }
     ensures covered { IsCovered pairs.new.items rows.new }

@@ -9,7 +9,7 @@ use crate::places::place;
 use crate::propagation::{query, query_anew, settle};
 use crate::rows::Rows;
 use crate::trail::Trail;
-use crate::watches::{choose, is_free, stands, Pair, Pick};
+use crate::watches::{Pair, Pick, choose, is_free, stands};
 use q_logic::{Lit, NoMemory};
 use std::alloc::Global;
 use std::marker::Model;
@@ -62,7 +62,8 @@ impl Propagator {
     }
 
     pub fn slot(&self, at: usize) -> Option<&[Lit]>
-        ensures { MatchOption result ((c : Clause) → Holds self.now at c → ⊥) (λ r. Holds self.now at r.now) }
+        ensures { MatchOption result ((c : Clause) → Holds self.now at c → ⊥) (λ r.
+            Holds self.now at r.now) }
     {
         self.clauses.get(at)
     }
@@ -93,16 +94,44 @@ impl Propagator {
         let (head, done) = (self.head, self.done);
         self.head = 0;
         self.done = 0;
-        let conflict = settle(self.alloc, &self.clauses, None, &mut self.pairs, &mut self.rows, &self.singles, done, &mut self.trail, head)?;
+        let conflict = settle(
+            self.alloc,
+            &self.clauses,
+            None,
+            &mut self.pairs,
+            &mut self.rows,
+            &self.singles,
+            done,
+            &mut self.trail,
+            head,
+        )?;
         if !stands(&self.clauses, skip, &self.trail) {
-            return query_anew(self.alloc, &self.clauses, skip, &mut self.pairs, &mut self.rows, &mut self.trail, lits, &self.singles);
+            return query_anew(
+                self.alloc,
+                &self.clauses,
+                skip,
+                &mut self.pairs,
+                &mut self.rows,
+                &mut self.trail,
+                lits,
+                &self.singles,
+            );
         }
         if conflict {
             return Ok(true);
         }
         self.head = self.trail.len();
         self.done = self.singles.len();
-        query(self.alloc, &self.clauses, skip, &mut self.pairs, &mut self.rows, &mut self.trail, lits, &self.singles)
+        query(
+            self.alloc,
+            &self.clauses,
+            skip,
+            &mut self.pairs,
+            &mut self.rows,
+            &mut self.trail,
+            lits,
+            &self.singles,
+        )
     }
 
     /// An empty slot, or the next new one.
@@ -121,18 +150,48 @@ impl Propagator {
         let alloc = self.alloc;
         match choose(lits, &self.trail) {
             Pick::Short => {
-                put_short(&mut self.clauses, &mut self.pairs, &mut self.singles, at, lits)?;
+                put_short(
+                    &mut self.clauses,
+                    &mut self.pairs,
+                    &mut self.singles,
+                    at,
+                    lits,
+                )?;
             }
             Pick::Open(pair) => {
-                put(alloc, &mut self.clauses, &mut self.pairs, &mut self.rows, at, lits, pair)?;
+                put(
+                    alloc,
+                    &mut self.clauses,
+                    &mut self.pairs,
+                    &mut self.rows,
+                    at,
+                    lits,
+                    pair,
+                )?;
             }
             Pick::OneLeft(pair) => {
                 let (first, head) = (pair.first, self.head);
-                put(alloc, &mut self.clauses, &mut self.pairs, &mut self.rows, at, lits, pair)?;
+                put(
+                    alloc,
+                    &mut self.clauses,
+                    &mut self.pairs,
+                    &mut self.rows,
+                    at,
+                    lits,
+                    pair,
+                )?;
                 self.head = push_forced(&mut self.trail, first, head);
             }
             Pick::AllFalse(pair) => {
-                put(alloc, &mut self.clauses, &mut self.pairs, &mut self.rows, at, lits, pair)?;
+                put(
+                    alloc,
+                    &mut self.clauses,
+                    &mut self.pairs,
+                    &mut self.rows,
+                    at,
+                    lits,
+                    pair,
+                )?;
                 self.head = 0;
             }
         }
@@ -143,7 +202,8 @@ impl Propagator {
 // Puts a literal on the trail, if there is memory, and answers up to where the trail is then worked off.
 fn push_forced(trail: &mut Trail, lit: Lit, head: usize) -> usize
     requires { Contains trail.old lit → ⊥ }
-    ensures { ((trail.new ≡ trail.old ++ lit ∷ []) × (result ≡ head)) ⊎ ((trail.new ≡ trail.old) × (result ≡ 0)) }
+    ensures { ((trail.new ≡ trail.old ++ lit ∷ []) × (result ≡ head)) ⊎
+        ((trail.new ≡ trail.old) × (result ≡ 0)) }
 {
     match trail.push(lit) {
         Ok(_) => head,
@@ -171,7 +231,9 @@ fn put(
     requires length { length pairs.old.items ≡ length clauses.old }
     requires vacant { IsVacant clauses.old at }
     requires covered { IsCovered pairs.old.items rows.old }
-    ensures ok { OnOk result (IsPut clauses.old at lits.now clauses.new × IsPlaced pairs.old.items at (Some pair) pairs.new.items) }
+    ensures ok { OnOk result
+        (IsPut clauses.old at lits.now clauses.new × IsPlaced pairs.old.items at (Some pair)
+        pairs.new.items) }
     ensures err { OnErr result ((clauses.new ≡ clauses.old) × (pairs.new.items ≡ pairs.old.items)) }
     ensures covered { IsCovered pairs.new.items rows.new }
 {
@@ -193,8 +255,12 @@ fn put_short(
 ) -> Result<(), NoMemory>
     requires length { length pairs.old.items ≡ length clauses.old }
     requires vacant { IsVacant clauses.old at }
-    ensures ok { OnOk result (IsPut clauses.old at lits.now clauses.new × IsPlaced pairs.old.items at None pairs.new.items × (singles.new.items ≡ singles.old.items ++ at ∷ [])) }
-    ensures err { OnErr result ((clauses.new ≡ clauses.old) × (pairs.new.items ≡ pairs.old.items) × (singles.new.items ≡ singles.old.items)) }
+    ensures ok { OnOk result
+        (IsPut clauses.old at lits.now clauses.new × IsPlaced pairs.old.items at None
+        pairs.new.items × (singles.new.items ≡ singles.old.items ++ at ∷ [])) }
+    ensures err { OnErr result
+        ((clauses.new ≡ clauses.old) × (pairs.new.items ≡ pairs.old.items) ×
+        (singles.new.items ≡ singles.old.items)) }
 {
     pairs.reserve(1)?;
     singles.reserve(1)?;

@@ -78,8 +78,10 @@ fn grow(alloc: Global, rows: &mut Vec<Vec<usize>>, end: usize) -> Result<(), NoM
 
 fn push_at(rows: &mut Vec<Vec<usize>>, lit: Lit, at: usize) -> Result<(), NoMemory>
     requires { pack lit < vec_len rows.old }
-    ensures ok { OnOk result (IsPushed (map (λ v. v.items) rows.old.items) (map (λ v. v.items) rows.new.items) lit at) }
-    ensures err { OnErr result (AreSameRows (map (λ v. v.items) rows.old.items) (map (λ v. v.items) rows.new.items)) }
+    ensures ok { OnOk result
+        (IsPushed (map (λ v. v.items) rows.old.items) (map (λ v. v.items) rows.new.items) lit at) }
+    ensures err { OnErr result
+        (AreSameRows (map (λ v. v.items) rows.old.items) (map (λ v. v.items) rows.new.items)) }
 {
     let row = &mut rows[lit.index()];
     row.push(at)?;

@@ -58,14 +58,16 @@ impl Store {
     }
 
     pub fn slot(&self, at: usize) -> Option<&[Lit]>
-        ensures { MatchOption result ((c : Clause) → Holds self.now at c → ⊥) (λ r. Holds self.now at r.now) }
+        ensures { MatchOption result ((c : Clause) → Holds self.now at c → ⊥) (λ r.
+            Holds self.now at r.now) }
     {
         self.propagator.slot(at)
     }
 
     /// A slot with this clause.
     pub fn find(&self, lits: &[Lit]) -> Option<usize>
-        ensures { MatchOption result ((at : ℕ) → Holds self.now at lits.now → ⊥) (λ at. Holds self.now at lits.now) }
+        ensures { MatchOption result ((at : ℕ) → Holds self.now at lits.now → ⊥) (λ at.
+            Holds self.now at lits.now) }
     {
         let list = self.buckets.list(bucket(self.count, lits));
         find_in(&self.propagator, list, lits)
@@ -115,7 +117,13 @@ impl Store {
         requires { at < length self.old }
         ensures { self.new ≡ slice_set self.old at None }
     {
-        free(&self.propagator, &mut self.holders, &mut self.buckets, self.count, at);
+        free(
+            &self.propagator,
+            &mut self.holders,
+            &mut self.buckets,
+            self.count,
+            at,
+        );
         self.propagator.delete(at);
     }
 

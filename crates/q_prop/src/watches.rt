@@ -25,7 +25,7 @@ pub enum Visit {
     Conflict,
 }
 
-// What to do with a clause one of whose watched literals became false, and the other is not true.
+// What to do with a clause one of whose watched literals became false, where the other is not true.
 pub fn visit_of(clause: &[Lit], other: Lit, trail: &Trail) -> Visit
     ensures { IsVisit trail.now clause.now other result }
 {
@@ -43,7 +43,8 @@ pub fn visit_of(clause: &[Lit], other: Lit, trail: &Trail) -> Visit
 
 // A literal of the clause beside the given one that is not false.
 pub fn find_open(clause: &[Lit], other: Lit, trail: &Trail) -> Option<Lit>
-    ensures { MatchOption result (IsUnit trail.now clause.now other) (λ l. Contains clause.now l × l ≢ other × (Contains trail.now (negation l) → ⊥)) }
+    ensures { MatchOption result (IsUnit trail.now clause.now other) (λ l.
+        Contains clause.now l × l ≢ other × (Contains trail.now (negation l) → ⊥)) }
 {
     for l in clause {
         if !l.is(other) && !trail.has(l.negated()) {
@@ -55,7 +56,8 @@ pub fn find_open(clause: &[Lit], other: Lit, trail: &Trail) -> Option<Lit>
 
 // A literal of the clause beside the given one.
 pub fn find_other(clause: &[Lit], other: Lit) -> Option<Lit>
-    ensures { MatchOption result ((k : Literal) → Contains clause.now k → k ≡ other) (λ l. Contains clause.now l × l ≢ other) }
+    ensures { MatchOption result ((k : Literal) → Contains clause.now k → k ≡ other) (λ l.
+        Contains clause.now l × l ≢ other) }
 {
     for l in clause {
         if !l.is(other) {
@@ -133,7 +135,8 @@ pub fn is_free(clauses: &Clauses, at: usize, trail: &Trail) -> bool
 
 // Whether the root stands without the slot that is left out.
 pub fn stands(clauses: &Clauses, skip: Option<usize>, trail: &Trail) -> bool
-    ensures { IsTrue result → (at : ℕ) (c : Clause) → skip ≡ Some at → Holds clauses.now at c → IsOpen trail.now c }
+    ensures { IsTrue result → (at : ℕ) (c : Clause) → skip ≡ Some at → Holds clauses.now at c → IsOpen
+        trail.now c }
 {
     match skip {
         Some(at) => is_free(clauses, at, trail),

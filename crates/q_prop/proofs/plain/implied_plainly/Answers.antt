@@ -36,7 +36,7 @@ loop-known-preserved c =
 pub returns-in-Settled : goal.returns-in-Settled
 returns-in-Settled c =
     let x = filled (without c.args.store.now c.args.skip) in
-    let f = rw c.deref-in-loop-known.ensures.value at (c.in-Settled.ensures) in
-    ( λ t. cc
-    , λ i. absurd (settled_not_implied x c.args.lits.now c.loop-known.known.items c.loop-known.invariant f (implied_of x c.args.lits.now i))
+    let f = rw c.deref-in-loop-known.ensures.value at (c.in-Settled.ensures) in (
+      λ t. cc,
+      λ i. absurd (settled_not_implied x c.args.lits.now c.loop-known.known.items c.loop-known.invariant f (implied_of x c.args.lits.now i)),
     )

@@ -14,10 +14,10 @@ returns-then-not-is c =
     let l = c.lit-item.result in
     let here = Contains-along c.args.clause.now (get_or c.args.clause.now c.loop-lit.lit-index l) l (sym c.lit-item.is) (Contains-get_or c.args.clause.now c.loop-lit.lit-index l c.loop-lit-test.true) in
     IsLeft-open c.args.known.now (take c.loop-lit.lit-index c.args.clause.now) l c.in-Some.other c.args.clause.now h
-        (λ e. test_fails c.is.result (l ≡ c.in-Some.other) c.is.ensures c.if-not-is.true (sym e))
-        (rw c.negated.ensures at (test_fails c.is_known.result (Contains c.args.known.now c.negated.result) c.is_known.ensures c.if-not-is_known.true))
-        (Contains-take c.args.clause.now c.loop-lit.lit-index c.in-Some.other h.0)
-        here
+    (λ e. test_fails c.is.result (l ≡ c.in-Some.other) c.is.ensures c.if-not-is.true (sym e))
+    (rw c.negated.ensures at (test_fails c.is_known.result (Contains c.args.known.now c.negated.result) c.is_known.ensures c.if-not-is_known.true))
+    (Contains-take c.args.clause.now c.loop-lit.lit-index c.in-Some.other h.0)
+    here
 
 pub loop-lit-preserved : goal.loop-lit-preserved
 loop-lit-preserved c =
@@ -25,15 +25,15 @@ loop-lit-preserved c =
     let item = c.lit-item.is in
     let seen = take c.loop-lit.lit-index c.args.clause.now in
     elim c.if-not-is_known.branch [
-        then-not-is_known+in-None w ↦
-            rw (w.left-is, more, ← item) (IsLeft-first c.args.known.now seen c.lit-item.result (rw w.in-None.is at c.loop-lit.invariant)
-                (rw c.negated.ensures at (test_fails c.is_known.result (Contains c.args.known.now c.negated.result) c.is_known.ensures w.if-not-is_known.true)))
+      | then-not-is_known+in-None w ↦
+          rw (w.left-is, more, ← item) (IsLeft-first c.args.known.now seen c.lit-item.result (rw w.in-None.is at c.loop-lit.invariant)
+          (rw c.negated.ensures at (test_fails c.is_known.result (Contains c.args.known.now c.negated.result) c.is_known.ensures w.if-not-is_known.true)))
       | then-not-is_known+in-Some+else-not-is w ↦
-            rw (w.left-is, more, ← item) (IsLeft-same c.args.known.now seen c.lit-item.result w.in-Some.other (rw w.in-Some.is at c.loop-lit.invariant)
-                (sym (w.is.ensures.0 w.if-not-is.false)))
+          rw (w.left-is, more, ← item) (IsLeft-same c.args.known.now seen c.lit-item.result w.in-Some.other (rw w.in-Some.is at c.loop-lit.invariant)
+          (sym (w.is.ensures.0 w.if-not-is.false)))
       | else-not-is_known w ↦
-            rw (w.left-is, more, ← item) (IsLeft-false c.args.known.now seen c.lit-item.result c.loop-lit.left c.loop-lit.invariant
-                (rw c.negated.ensures at (c.is_known.ensures.0 w.if-not-is_known.false)))
+          rw (w.left-is, more, ← item) (IsLeft-false c.args.known.now seen c.lit-item.result c.loop-lit.left c.loop-lit.invariant
+          (rw c.negated.ensures at (c.is_known.ensures.0 w.if-not-is_known.false)))
     ]
 
 pub returns-in-Some-left : goal.returns-in-Some-left

@@ -6,16 +6,16 @@ use Rattle.q_prop.proofs.Reaching.{IsReached-refl, IsReached-trans, IsReached-bu
 use Rattle.q_prop.proofs.propagation.propagate.Goals as goal
 
 pub loop-head-init : goal.loop-head-init
-loop-head-init c =
-    ( c.requires.from
-    , IsReached-refl (filled (without c.args.clauses.now c.args.skip)) c.args.trail.now
-    , IsKept-refl c.args.clauses.now c.args.trail.now c.args.pairs.now.items
-    , c.requires.ready
-    )
+loop-head-init c = (
+  c.requires.from,
+  IsReached-refl (filled (without c.args.clauses.now c.args.skip)) c.args.trail.now,
+  IsKept-refl c.args.clauses.now c.args.trail.now c.args.pairs.now.items,
+  c.requires.ready,
+)
 
 pub work_off-requires : goal.work_off-requires
 work_off-requires c = record {
-    working = IsReady-start (without c.args.clauses.now c.args.skip) c.loop-head.head c.at-lit.result c.loop-head.trail c.loop-head.pairs.items c.loop-head.rows c.loop-head.invariant.3 c.at-lit.ensures;
+  working = IsReady-start (without c.args.clauses.now c.args.skip) c.loop-head.head c.at-lit.result c.loop-head.trail c.loop-head.pairs.items c.loop-head.rows c.loop-head.invariant.3 c.at-lit.ensures;
 }
 
 pub returns-in_err-work_off-clause-reached : goal.returns-in_err-work_off-clause-reached
@@ -46,11 +46,11 @@ loop-head-smaller c =
 pub loop-head-preserved : goal.loop-head-preserved
 loop-head-preserved c =
     let reached : IsReached (filled (without c.args.clauses.now c.args.skip)) c.loop-head.trail c.work_off.new.trail = c.work_off.ensures.reached in
-    let longer = IsReached-longer (filled (without c.args.clauses.now c.args.skip)) c.loop-head.trail c.work_off.new.trail reached in
-    ( omega (arith, longer, c.loop-head-test.true, c.len.ensures)
-    , IsReached-trans (filled (without c.args.clauses.now c.args.skip)) c.args.trail.now c.loop-head.trail c.work_off.new.trail c.loop-head.invariant.1 reached
-    , IsKept-trans c.args.clauses.now c.args.trail.now c.loop-head.trail c.args.pairs.now.items c.loop-head.pairs.items c.work_off.new.pairs.items (IsReached-within (filled (without c.args.clauses.now c.args.skip)) c.args.trail.now c.loop-head.trail c.loop-head.invariant.1) c.loop-head.invariant.2 c.work_off.ensures.kept
-    , rw c.if-branch.false at c.in_ok-work_off.ensures.going
+    let longer = IsReached-longer (filled (without c.args.clauses.now c.args.skip)) c.loop-head.trail c.work_off.new.trail reached in (
+      omega (arith, longer, c.loop-head-test.true, c.len.ensures),
+      IsReached-trans (filled (without c.args.clauses.now c.args.skip)) c.args.trail.now c.loop-head.trail c.work_off.new.trail c.loop-head.invariant.1 reached,
+      IsKept-trans c.args.clauses.now c.args.trail.now c.loop-head.trail c.args.pairs.now.items c.loop-head.pairs.items c.work_off.new.pairs.items (IsReached-within (filled (without c.args.clauses.now c.args.skip)) c.args.trail.now c.loop-head.trail c.loop-head.invariant.1) c.loop-head.invariant.2 c.work_off.ensures.kept,
+      rw c.if-branch.false at c.in_ok-work_off.ensures.going,
     )
 
 pub returns-clause-ends : goal.returns-clause-ends

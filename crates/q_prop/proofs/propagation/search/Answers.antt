@@ -22,5 +22,5 @@ returns-clause-exact c =
     let r = c.requires.rooted in
     let a = rw c.if-branch.false at c.in_ok-assume.ensures.ends in
     finish c.propagate.result c.propagate.ensures.ends
-        (λ f. falsified_implied (filled (without c.args.clauses.now c.args.skip)) c.args.trail.now c.assume.new.trail c.propagate.new.trail c.args.lits.now r.chain a c.propagate.ensures.reached f)
-        (λ g. search_not_implied (without c.args.clauses.now c.args.skip) c.args.trail.now c.assume.new.trail c.propagate.new.trail c.propagate.new.pairs.items c.propagate.new.rows c.args.singles.now c.args.lits.now (AreListed-kept c.args.clauses.now (without c.args.clauses.now c.args.skip) c.assume.new.trail c.args.pairs.now.items c.propagate.new.pairs.items c.args.singles.now c.propagate.ensures.kept r.listed) r.singles_true (longer_within c.args.trail.now c.assume.new.trail c.assume.ensures.longer) a c.propagate.ensures.reached g)
+    (λ f. falsified_implied (filled (without c.args.clauses.now c.args.skip)) c.args.trail.now c.assume.new.trail c.propagate.new.trail c.args.lits.now r.chain a c.propagate.ensures.reached f)
+    (λ g. search_not_implied (without c.args.clauses.now c.args.skip) c.args.trail.now c.assume.new.trail c.propagate.new.trail c.propagate.new.pairs.items c.propagate.new.rows c.args.singles.now c.args.lits.now (AreListed-kept c.args.clauses.now (without c.args.clauses.now c.args.skip) c.assume.new.trail c.args.pairs.now.items c.propagate.new.pairs.items c.args.singles.now c.propagate.ensures.kept r.listed) r.singles_true (longer_within c.args.trail.now c.assume.new.trail c.assume.ensures.longer) a c.propagate.ensures.reached g)

@@ -23,9 +23,9 @@ returns-clause-ends c =
     let r = c.requires.rooted in
     let whole = IsReached-trans (filled (without c.args.clauses.now c.args.skip)) c.args.trail.now c.take_singles.new.trail c.propagate.new.trail c.take_singles.ensures.reached c.propagate.ensures.reached in
     if_ok_map (HasFalsified (filled (without c.args.clauses.now c.args.skip)) c.propagate.new.trail) c.propagate.result c.propagate.ensures.ends (λ g. record {
-        ready = g;
-        head_in = omega arith;
-        listed = AreListed-kept c.args.clauses.now (without c.args.clauses.now c.args.skip) c.take_singles.new.trail c.args.pairs.now.items c.propagate.new.pairs.items c.args.singles.now c.propagate.ensures.kept r.listed;
-        singles_true = AreTrue-more (without c.args.clauses.now c.args.skip) c.args.singles.now (length c.args.singles.now) c.take_singles.new.trail c.propagate.new.trail (IsReached-within (filled (without c.args.clauses.now c.args.skip)) c.take_singles.new.trail c.propagate.new.trail c.propagate.ensures.reached) (rw c.if-branch.false at c.in_ok-take_singles.ensures.ends);
-        chain = reached_chain (filled (without c.args.clauses.now c.args.skip)) c.args.trail.now c.propagate.new.trail r.chain whole;
+      ready = g;
+      head_in = omega arith;
+      listed = AreListed-kept c.args.clauses.now (without c.args.clauses.now c.args.skip) c.take_singles.new.trail c.args.pairs.now.items c.propagate.new.pairs.items c.args.singles.now c.propagate.ensures.kept r.listed;
+      singles_true = AreTrue-more (without c.args.clauses.now c.args.skip) c.args.singles.now (length c.args.singles.now) c.take_singles.new.trail c.propagate.new.trail (IsReached-within (filled (without c.args.clauses.now c.args.skip)) c.take_singles.new.trail c.propagate.new.trail c.propagate.ensures.reached) (rw c.if-branch.false at c.in_ok-take_singles.ensures.ends);
+      chain = reached_chain (filled (without c.args.clauses.now c.args.skip)) c.args.trail.now c.propagate.new.trail r.chain whole;
     })

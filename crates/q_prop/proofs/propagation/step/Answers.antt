@@ -23,20 +23,20 @@ returns-in_default-clause-going c =
     let here = rw f at c.at-at.ensures in
     let n = rw (c.deref.ensures.value, f) at c.in_default.ensures in
     let r = rw f at c.remove.ensures in
-    let l : length (row_of c.remove.new.self (negation c.args.lit)) + 1 ≡ length (row_of c.args.rows.now (negation c.args.lit)) = r.shorter in
-    ( IsWorking-stale (without c.args.clauses.now c.args.skip) c.args.head c.args.lit c.args.i c.at-at.result c.args.trail.now c.args.pairs.now.items c.args.rows.now c.requires.working here c.remove.new.self n r
-    , omega (arith, l)
-    , omega arith
+    let l : length (row_of c.remove.new.self (negation c.args.lit)) + 1 ≡ length (row_of c.args.rows.now (negation c.args.lit)) = r.shorter in (
+      IsWorking-stale (without c.args.clauses.now c.args.skip) c.args.head c.args.lit c.args.i c.at-at.result c.args.trail.now c.args.pairs.now.items c.args.rows.now c.requires.working here c.remove.new.self n r,
+      omega (arith, l),
+      omega arith,
     )
 
 pub returns-then-has-clause-going : goal.returns-then-has-clause-going
 returns-then-has-clause-going c =
     let f = c.negated-false_lit.ensures in
     let here = rw f at c.at-at.ensures in
-    let h = rw (c.deref.ensures.value, f) at c.in-Some.ensures in
-    ( IsWorking-keep (without c.args.clauses.now c.args.skip) c.args.head c.args.lit c.args.i c.at-at.result c.args.trail.now c.args.pairs.now.items c.args.rows.now c.requires.working here h.pair c.in-Some.other h.is_there h.is_other (c.has.ensures.0 c.if-has.true)
-    , omega arith
-    , omega arith
+    let h = rw (c.deref.ensures.value, f) at c.in-Some.ensures in (
+      IsWorking-keep (without c.args.clauses.now c.args.skip) c.args.head c.args.lit c.args.i c.at-at.result c.args.trail.now c.args.pairs.now.items c.args.rows.now c.requires.working here h.pair c.in-Some.other h.is_there h.is_other (c.has.ensures.0 c.if-has.true),
+      omega arith,
+      omega arith,
     )
 
 pub returns-in_default-clause_at-clause-going : goal.returns-in_default-clause_at-clause-going
@@ -93,10 +93,10 @@ returns-in_ok-push-in-Move-clause-going c =
     let h = rw (c.deref.ensures.value, f) at c.in-Some.ensures in
     let v = c.in-Move.ensures in
     let holds = c.in-Some-clause_at.ensures in
-    let r = rw f at c.remove-in-Move.ensures in
-    ( IsWorking-move (without c.args.clauses.now c.args.skip) c.args.head c.args.lit c.args.i c.at-at.result c.args.trail.now c.args.pairs.now.items c.args.rows.now c.requires.working here h.pair c.in-Some.other h.is_there h.is_other c.in-Some-clause_at.clause.now holds c.in-Move.l c.push.new.self v.0 v.1 v.2 c.in_ok-push-in-Move.ensures.ok c.remove-in-Move.new.self r
-    , shorter (without c.args.clauses.now c.args.skip) c.args.head c.args.lit c.args.i c.at-at.result c.args.trail.now c.args.pairs.now.items c.args.rows.now c.requires.working here h.pair c.in-Some.other h.is_there h.is_other c.in-Some-clause_at.clause.now holds c.in-Move.l c.push.new.self v.0 v.1 v.2 c.in_ok-push-in-Move.ensures.ok c.remove-in-Move.new.self r
-    , omega arith
+    let r = rw f at c.remove-in-Move.ensures in (
+      IsWorking-move (without c.args.clauses.now c.args.skip) c.args.head c.args.lit c.args.i c.at-at.result c.args.trail.now c.args.pairs.now.items c.args.rows.now c.requires.working here h.pair c.in-Some.other h.is_there h.is_other c.in-Some-clause_at.clause.now holds c.in-Move.l c.push.new.self v.0 v.1 v.2 c.in_ok-push-in-Move.ensures.ok c.remove-in-Move.new.self r,
+      shorter (without c.args.clauses.now c.args.skip) c.args.head c.args.lit c.args.i c.at-at.result c.args.trail.now c.args.pairs.now.items c.args.rows.now c.requires.working here h.pair c.in-Some.other h.is_there h.is_other c.in-Some-clause_at.clause.now holds c.in-Move.l c.push.new.self v.0 v.1 v.2 c.in_ok-push-in-Move.ensures.ok c.remove-in-Move.new.self r,
+      omega arith,
     )
 
 pub push-requires-in-Force : goal.push-requires-in-Force
@@ -117,10 +117,10 @@ returns-in_ok-push-in-Force-clause-going c =
     let f = c.negated-false_lit.ensures in
     let here = rw f at c.at-at.ensures in
     let h = rw (c.deref.ensures.value, f) at c.in-Some.ensures in
-    let v = c.in-Force.ensures in
-    ( rw c.in_ok-push-in-Force.ensures.ok (IsWorking-force (without c.args.clauses.now c.args.skip) c.args.head c.args.lit c.args.i c.at-at.result c.args.trail.now c.args.pairs.now.items c.args.rows.now c.requires.working here h.pair c.in-Some.other h.is_there h.is_other v.1)
-    , omega arith
-    , omega arith
+    let v = c.in-Force.ensures in (
+      rw c.in_ok-push-in-Force.ensures.ok (IsWorking-force (without c.args.clauses.now c.args.skip) c.args.head c.args.lit c.args.i c.at-at.result c.args.trail.now c.args.pairs.now.items c.args.rows.now c.requires.working here h.pair c.in-Some.other h.is_there h.is_other v.1),
+      omega arith,
+      omega arith,
     )
 
 pub returns-in-Conflict-clause-going : goal.returns-in-Conflict-clause-going

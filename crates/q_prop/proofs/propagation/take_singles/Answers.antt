@@ -10,9 +10,9 @@ loop-next-init c = (c.requires.done, IsReached-refl (filled (without c.args.clau
 
 pub take_single-requires : goal.take_single-requires
 take_single-requires c = record {
-    short = λ d e.
-        let here = slice_get-at c.args.singles.now c.loop-next.next 0 c.loop-next-test.true in
-        c.requires.short (get_or c.args.singles.now c.loop-next.next 0) d (Contains-slice_get c.args.singles.now c.loop-next.next (get_or c.args.singles.now c.loop-next.next 0) here) e;
+  short = λ d e.
+      let here = slice_get-at c.args.singles.now c.loop-next.next 0 c.loop-next-test.true in
+      c.requires.short (get_or c.args.singles.now c.loop-next.next 0) d (Contains-slice_get c.args.singles.now c.loop-next.next (get_or c.args.singles.now c.loop-next.next 0) here) e;
 }
 
 pub returns-in_err-take_single-clause-reached : goal.returns-in_err-take_single-clause-reached
@@ -24,12 +24,12 @@ returns-then-branch-clause-reached c = IsReached-grown (filled (without c.args.c
 pub loop-next-preserved : goal.loop-next-preserved
 loop-next-preserved c =
     let here = slice_get-at c.args.singles.now c.loop-next.next 0 c.loop-next-test.true in
-    let step = IsReached-grown (filled (without c.args.clauses.now c.args.skip)) c.loop-next.trail c.loop-next.trail c.take_single.new.trail (IsReached-refl (filled (without c.args.clauses.now c.args.skip)) c.loop-next.trail) c.take_single.ensures.grown in
-    ( omega (arith, c.loop-next-test.true)
-    , IsReached-grown (filled (without c.args.clauses.now c.args.skip)) c.args.trail.now c.loop-next.trail c.take_single.new.trail c.loop-next.invariant.1 c.take_single.ensures.grown
-    , AreTrue-next (without c.args.clauses.now c.args.skip) c.args.singles.now c.loop-next.next (get_or c.args.singles.now c.loop-next.next 0) c.take_single.new.trail here
-        (AreTrue-more (without c.args.clauses.now c.args.skip) c.args.singles.now c.loop-next.next c.loop-next.trail c.take_single.new.trail (IsReached-within (filled (without c.args.clauses.now c.args.skip)) c.loop-next.trail c.take_single.new.trail step) c.loop-next.invariant.2)
-        (rw c.if-branch.false at c.in_ok-take_single.ensures.ends)
+    let step = IsReached-grown (filled (without c.args.clauses.now c.args.skip)) c.loop-next.trail c.loop-next.trail c.take_single.new.trail (IsReached-refl (filled (without c.args.clauses.now c.args.skip)) c.loop-next.trail) c.take_single.ensures.grown in (
+      omega (arith, c.loop-next-test.true),
+      IsReached-grown (filled (without c.args.clauses.now c.args.skip)) c.args.trail.now c.loop-next.trail c.take_single.new.trail c.loop-next.invariant.1 c.take_single.ensures.grown,
+      AreTrue-next (without c.args.clauses.now c.args.skip) c.args.singles.now c.loop-next.next (get_or c.args.singles.now c.loop-next.next 0) c.take_single.new.trail here
+          (AreTrue-more (without c.args.clauses.now c.args.skip) c.args.singles.now c.loop-next.next c.loop-next.trail c.take_single.new.trail (IsReached-within (filled (without c.args.clauses.now c.args.skip)) c.loop-next.trail c.take_single.new.trail step) c.loop-next.invariant.2)
+          (rw c.if-branch.false at c.in_ok-take_single.ensures.ends),
     )
 
 pub returns-clause-ends : goal.returns-clause-ends

@@ -7,11 +7,11 @@ use Rattle.q_prop.proofs.Reaching.{IsReached-refl, IsReached-grown, IsReached-wi
 use Rattle.q_prop.proofs.propagation.work_off.Goals as goal
 
 pub loop-i-init : goal.loop-i-init
-loop-i-init c =
-    ( IsReached-refl (filled (without c.args.clauses.now c.args.skip)) c.args.trail.now
-    , IsKept-refl c.args.clauses.now c.args.trail.now c.args.pairs.now.items
-    , c.requires.working
-    )
+loop-i-init c = (
+  IsReached-refl (filled (without c.args.clauses.now c.args.skip)) c.args.trail.now,
+  IsKept-refl c.args.clauses.now c.args.trail.now c.args.pairs.now.items,
+  c.requires.working,
+)
 
 pub returns-in_err-next-clause-reached : goal.returns-in_err-next-clause-reached
 returns-in_err-next-clause-reached c =
@@ -30,11 +30,11 @@ returns-in_default-clause-kept c =
     IsKept-trans c.args.clauses.now c.args.trail.now c.loop-i.trail c.args.pairs.now.items c.loop-i.pairs.items c.step.new.pairs.items (IsReached-within (filled (without c.args.clauses.now c.args.skip)) c.args.trail.now c.loop-i.trail c.loop-i.invariant.0) c.loop-i.invariant.1 c.step.ensures.kept
 
 pub loop-i-preserved : goal.loop-i-preserved
-loop-i-preserved c =
-    ( IsReached-grown (filled (without c.args.clauses.now c.args.skip)) c.args.trail.now c.loop-i.trail c.step.new.trail c.loop-i.invariant.0 c.step.ensures.grown
-    , IsKept-trans c.args.clauses.now c.args.trail.now c.loop-i.trail c.args.pairs.now.items c.loop-i.pairs.items c.step.new.pairs.items (IsReached-within (filled (without c.args.clauses.now c.args.skip)) c.args.trail.now c.loop-i.trail c.loop-i.invariant.0) c.loop-i.invariant.1 c.step.ensures.kept
-    , (rw c.in-Some.is at c.in_ok-next.ensures.going).0
-    )
+loop-i-preserved c = (
+  IsReached-grown (filled (without c.args.clauses.now c.args.skip)) c.args.trail.now c.loop-i.trail c.step.new.trail c.loop-i.invariant.0 c.step.ensures.grown,
+  IsKept-trans c.args.clauses.now c.args.trail.now c.loop-i.trail c.args.pairs.now.items c.loop-i.pairs.items c.step.new.pairs.items (IsReached-within (filled (without c.args.clauses.now c.args.skip)) c.args.trail.now c.loop-i.trail c.loop-i.invariant.0) c.loop-i.invariant.1 c.step.ensures.kept,
+  (rw c.in-Some.is at c.in_ok-next.ensures.going).0,
+)
 
 pub returns-clause-going : goal.returns-clause-going
 returns-clause-going c =

@@ -11,7 +11,7 @@ loop-l-preserved c k h =
     let t = take_more c.args.clause.now c.loop-l.l-index c.l-item.result room in
     let g = rw (t, ← e) at h in
     elim (Contains-push_cases (take c.loop-l.l-index c.args.clause.now) c.l-item.result k g) [
-        inl before ↦ c.loop-l.invariant k before
+      | inl before ↦ c.loop-l.invariant k before
       | inr f ↦ let s : c.l-item.result ≡ c.args.other = grind (arith, c.is.ensures, c.if-not-is.false) in sym f ∙ s
     ]
 

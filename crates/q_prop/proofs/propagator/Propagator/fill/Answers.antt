@@ -13,10 +13,10 @@ invariant_of-self c =
     let pairs' = c.put_short.new.pairs.items in
     let long = length-append i.singles.items (c.args.at ∷ []) in
     let before : i.done ≤ length i.singles.items = v.1 in
-    rw k.2
-    ( rooted_short i.clauses c.args.at c.args.lits.now s' k.0 i.pairs.items i.rows i.rows i.singles.items i.done i.trail i.head v.0 v.2 None pairs' k.1 refl before c.in-Short.ensures
-    , omega (arith, long, before)
-    , standing_pushed i.clauses c.args.at c.args.lits.now s' k.0 i.singles.items v.2
+    rw k.2 (
+      rooted_short i.clauses c.args.at c.args.lits.now s' k.0 i.pairs.items i.rows i.rows i.singles.items i.done i.trail i.head v.0 v.2 None pairs' k.1 refl before c.in-Short.ensures,
+      omega (arith, long, before),
+      standing_pushed i.clauses c.args.at c.args.lits.now s' k.0 i.singles.items v.2,
     )
 
 pub invariant_of-self-in-Continue-branch-2 : goal.invariant_of-self-in-Continue-branch-2
@@ -24,10 +24,10 @@ invariant_of-self-in-Continue-branch-2 c =
     let i = c.self.inside in
     let v = c.self.invariant in
     let k = c.in_ok-put-in-Open.ensures.ok in
-    let s' = c.put.new.clauses in
-    ( rooted_open i.clauses c.args.at c.args.lits.now s' k.0 i.pairs.items i.rows c.put.new.rows i.singles.items i.done i.trail i.head v.0 v.2 (Some c.in-Open.pair) c.put.new.pairs.items k.1 c.in-Open.pair refl c.put.ensures.covered c.in-Open.ensures
-    , v.1
-    , standing_more i.clauses c.args.at c.args.lits.now s' k.0 i.singles.items v.2
+    let s' = c.put.new.clauses in (
+      rooted_open i.clauses c.args.at c.args.lits.now s' k.0 i.pairs.items i.rows c.put.new.rows i.singles.items i.done i.trail i.head v.0 v.2 (Some c.in-Open.pair) c.put.new.pairs.items k.1 c.in-Open.pair refl c.put.ensures.covered c.in-Open.ensures,
+      v.1,
+      standing_more i.clauses c.args.at c.args.lits.now s' k.0 i.singles.items v.2,
     )
 
 pub invariant_of-self-in-AllFalse : goal.invariant_of-self-in-AllFalse
@@ -35,10 +35,10 @@ invariant_of-self-in-AllFalse c =
     let i = c.self.inside in
     let v = c.self.invariant in
     let k = c.in_ok-put-in-AllFalse.ensures.ok in
-    let s' = c.put-in-AllFalse.new.clauses in
-    ( rooted_again i.clauses c.args.at c.args.lits.now s' k.0 i.pairs.items i.rows c.put-in-AllFalse.new.rows i.singles.items i.done i.trail i.head v.0 v.2 (Some c.in-AllFalse.pair) c.put-in-AllFalse.new.pairs.items k.1 c.in-AllFalse.pair refl c.put-in-AllFalse.ensures.covered c.in-AllFalse.ensures
-    , v.1
-    , standing_more i.clauses c.args.at c.args.lits.now s' k.0 i.singles.items v.2
+    let s' = c.put-in-AllFalse.new.clauses in (
+      rooted_again i.clauses c.args.at c.args.lits.now s' k.0 i.pairs.items i.rows c.put-in-AllFalse.new.rows i.singles.items i.done i.trail i.head v.0 v.2 (Some c.in-AllFalse.pair) c.put-in-AllFalse.new.pairs.items k.1 c.in-AllFalse.pair refl c.put-in-AllFalse.ensures.covered c.in-AllFalse.ensures,
+      v.1,
+      standing_more i.clauses c.args.at c.args.lits.now s' k.0 i.singles.items v.2,
     )
 
 pub invariant_of-self-in-OneLeft : goal.invariant_of-self-in-OneLeft
@@ -50,16 +50,16 @@ invariant_of-self-in-OneLeft c =
     let w = c.in-OneLeft.ensures in
     let standing = standing_more i.clauses c.args.at c.args.lits.now s' k.0 i.singles.items v.2 in
     elim c.push_forced-self-inside.ensures [
-        inl h ↦ rw (h.0, h.1)
-            ( rooted_forced i.clauses c.args.at c.args.lits.now s' k.0 i.pairs.items i.rows c.put-in-OneLeft.new.rows i.singles.items i.done i.trail i.head v.0 v.2 (Some c.in-OneLeft.pair) c.put-in-OneLeft.new.pairs.items k.1 c.in-OneLeft.pair refl c.put-in-OneLeft.ensures.covered w.0 w.1 w.2
-            , v.1
-            , standing
-            )
-      | inr h ↦ rw (h.0, h.1)
-            ( rooted_again i.clauses c.args.at c.args.lits.now s' k.0 i.pairs.items i.rows c.put-in-OneLeft.new.rows i.singles.items i.done i.trail i.head v.0 v.2 (Some c.in-OneLeft.pair) c.put-in-OneLeft.new.pairs.items k.1 c.in-OneLeft.pair refl c.put-in-OneLeft.ensures.covered w.0
-            , v.1
-            , standing
-            )
+      | inl h ↦ rw (h.0, h.1) (
+        rooted_forced i.clauses c.args.at c.args.lits.now s' k.0 i.pairs.items i.rows c.put-in-OneLeft.new.rows i.singles.items i.done i.trail i.head v.0 v.2 (Some c.in-OneLeft.pair) c.put-in-OneLeft.new.pairs.items k.1 c.in-OneLeft.pair refl c.put-in-OneLeft.ensures.covered w.0 w.1 w.2,
+        v.1,
+        standing,
+      )
+      | inr h ↦ rw (h.0, h.1) (
+        rooted_again i.clauses c.args.at c.args.lits.now s' k.0 i.pairs.items i.rows c.put-in-OneLeft.new.rows i.singles.items i.done i.trail i.head v.0 v.2 (Some c.in-OneLeft.pair) c.put-in-OneLeft.new.pairs.items k.1 c.in-OneLeft.pair refl c.put-in-OneLeft.ensures.covered w.0,
+        v.1,
+        standing,
+      )
     ]
 
 pub invariant_of-self-in_err-put_short-in-Short : goal.invariant_of-self-in_err-put_short-in-Short

@@ -19,12 +19,12 @@ invariant_of-self c =
 pub invariant_of-self-in_err-insert : goal.invariant_of-self-in_err-insert
 invariant_of-self-in_err-insert c =
     let v = c.self.invariant in
-    let i = c.self.inside in
-    ( holders_alike i.propagator i.holders c.insert.new.lists v.0 c.in_err-insert.ensures.err
-    , v.1
-    , v.2
-    , hashed_appended i.propagator i.count i.buckets c.push.new.self c.bucket.result c.in_ok-slot.slot c.in_ok-push.ensures.ok v.3
-    , v.4
+    let i = c.self.inside in (
+      holders_alike i.propagator i.holders c.insert.new.lists v.0 c.in_err-insert.ensures.err,
+      v.1,
+      v.2,
+      hashed_appended i.propagator i.count i.buckets c.push.new.self c.bucket.result c.in_ok-slot.slot c.in_ok-push.ensures.ok v.3,
+      v.4,
     )
 
 pub invariant_of-self-in-Err : goal.invariant_of-self-in-Err
@@ -34,12 +34,12 @@ invariant_of-self-in-Err c =
     let at = c.vacant-at.result in
     let held = rw c.in_ok-slot.ensures.0 at c.in_ok-insert.ensures.ok in
     let freed = rw c.in_ok-slot.ensures.0 at c.remove.ensures in
-    rw c.in-Err.ensures.err
-    ( held_freed s c.self.inside.holders c.insert.new.lists c.remove.new.lists at c.args.lits.now v.0 (vacant_empty s at c.vacant-at.ensures) held freed
-    , v.1
-    , v.2
-    , hashed_appended s c.self.inside.count c.self.inside.buckets c.push.new.self c.bucket.result c.in_ok-slot.slot c.in_ok-push.ensures.ok v.3
-    , v.4
+    rw c.in-Err.ensures.err (
+      held_freed s c.self.inside.holders c.insert.new.lists c.remove.new.lists at c.args.lits.now v.0 (vacant_empty s at c.vacant-at.ensures) held freed,
+      v.1,
+      v.2,
+      hashed_appended s c.self.inside.count c.self.inside.buckets c.push.new.self c.bucket.result c.in_ok-slot.slot c.in_ok-push.ensures.ok v.3,
+      v.4,
     )
 
 pub invariant_of-self-in_default : goal.invariant_of-self-in_default
@@ -49,10 +49,10 @@ invariant_of-self-in_default c =
     let at = c.vacant-at.result in
     let lits = c.args.lits.now in
     let held = rw c.in_ok-slot.ensures.0 at c.in_ok-insert.ensures.ok in
-    let put = c.in_default.ensures.ok in
-    ( holders_put s at lits c.fill.new.self c.self.inside.holders c.insert.new.lists put v.0 held
-    , length_put s at lits c.fill.new.self 4294967296 put c.in_ok-slot.ensures.1 v.1
-    , ordered_put s at lits c.fill.new.self put c.requires.ordered v.2
-    , hashed_put s at lits c.fill.new.self c.self.inside.count c.self.inside.buckets c.push.new.self put (rw (c.bucket.ensures, c.in_ok-slot.ensures.0) at c.in_ok-push.ensures.ok) v.3
-    , v.4
+    let put = c.in_default.ensures.ok in (
+      holders_put s at lits c.fill.new.self c.self.inside.holders c.insert.new.lists put v.0 held,
+      length_put s at lits c.fill.new.self 4294967296 put c.in_ok-slot.ensures.1 v.1,
+      ordered_put s at lits c.fill.new.self put c.requires.ordered v.2,
+      hashed_put s at lits c.fill.new.self c.self.inside.count c.self.inside.buckets c.push.new.self put (rw (c.bucket.ensures, c.in_ok-slot.ensures.0) at c.in_ok-push.ensures.ok) v.3,
+      v.4,
     )

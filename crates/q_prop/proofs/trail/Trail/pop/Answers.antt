@@ -19,9 +19,9 @@ invariant_of-self c =
     let all = take_all (length new) new le in
     let t : new ≡ take (length new) old = rw items (sym (front ∙ all)) in
     let room = mark_room marks (pack lit) ((c.self.invariant.0 lit).1 (Contains-slice_get old (length new) lit last)) in
-    rw (c.index.ensures, t)
-    ( IsMarked-pop marks old lit (length new) room len last c.self.invariant.1 c.self.invariant.0
-    , IsOnce-take old (length new) c.self.invariant.1
+    rw (c.index.ensures, t) (
+      IsMarked-pop marks old lit (length new) room len last c.self.invariant.1 c.self.invariant.0,
+      IsOnce-take old (length new) c.self.invariant.1,
     )
 
 pub index_mut-requires : goal.index_mut-requires
