@@ -17,3 +17,6 @@ mod watches;
 
 pub use plain::implied_plainly;
 pub use store::Store;
+
+#[cfg(test)]
+mod tests;
