@@ -44,21 +44,21 @@ pub fn step(
 {
     let false_lit = lit.negated();
     let at = rows.at(false_lit, i);
-    let Some(other) = watch_at(pairs, at, false_lit) else {
+    let Some(other) = watch_at(pairs, at as usize, false_lit) else {
         rows.remove(false_lit, i);
         return Ok(Some(i));
     };
     if trail.has(other) {
         return Ok(Some(i + 1));
     }
-    let Some(clause) = clause_at(clauses, skip, at) else {
+    let Some(clause) = clause_at(clauses, skip, at as usize) else {
         return Ok(Some(i + 1));
     };
     match visit_of(clause, other, trail) {
         Visit::Move(l) => {
             rows.push(alloc, l, at)?;
             rows.remove(false_lit, i);
-            pairs[at] = Some(Pair {
+            pairs[at as usize] = Some(Pair {
                 first: l,
                 second: other,
             });

@@ -142,7 +142,7 @@ impl Propagator {
     }
 
     /// Puts a clause into an empty slot, or into the next new one.
-    pub fn fill(&mut self, at: usize, lits: &[Lit]) -> Result<(), NoMemory>
+    pub fn fill(&mut self, at: u32, lits: &[Lit]) -> Result<(), NoMemory>
         requires { IsVacant self.old at }
         ensures ok { OnOk result (IsPut self.old at lits.now self.new) }
         ensures err { OnErr result (self.new ≡ self.old) }
@@ -224,7 +224,7 @@ fn put(
     clauses: &mut Clauses,
     pairs: &mut Vec<Option<Pair>>,
     rows: &mut Rows,
-    at: usize,
+    at: u32,
     lits: &[Lit],
     pair: Pair,
 ) -> Result<(), NoMemory>
@@ -240,8 +240,8 @@ fn put(
     pairs.reserve(1)?;
     rows.push(alloc, pair.first, at)?;
     rows.push(alloc, pair.second, at)?;
-    clauses.fill(at, lits)?;
-    place(pairs, at, Some(pair));
+    clauses.fill(at as usize, lits)?;
+    place(pairs, at as usize, Some(pair));
     Ok(())
 }
 
@@ -250,7 +250,7 @@ fn put_short(
     clauses: &mut Clauses,
     pairs: &mut Vec<Option<Pair>>,
     singles: &mut Vec<usize>,
-    at: usize,
+    at: u32,
     lits: &[Lit],
 ) -> Result<(), NoMemory>
     requires length { length pairs.old.items ≡ length clauses.old }
@@ -264,8 +264,8 @@ fn put_short(
 {
     pairs.reserve(1)?;
     singles.reserve(1)?;
-    clauses.fill(at, lits)?;
-    place(pairs, at, None);
-    singles.push_reserved(at);
+    clauses.fill(at as usize, lits)?;
+    place(pairs, at as usize, None);
+    singles.push_reserved(at as usize);
     Ok(())
 }

@@ -9,7 +9,7 @@ use std::marker::Model;
 /// For each literal the clauses that watch it.
 #[derive(Drop)]
 pub struct Rows {
-    rows: Vec<Vec<usize>>,
+    rows: Vec<Vec<u32>>,
 }
 
 impl Model for Rows {
@@ -38,7 +38,7 @@ impl Rows {
         }
     }
 
-    pub fn at(&self, lit: Lit, i: usize) -> usize
+    pub fn at(&self, lit: Lit, i: usize) -> u32
         requires { i < length (row_of self.now lit) }
         ensures { slice_get (row_of self.now lit) i ≡ Some result }
     {
@@ -46,16 +46,14 @@ impl Rows {
         row[i]
     }
 
-    pub fn push(&mut self, alloc: Global, lit: Lit, at: usize) -> Result<(), NoMemory>
+    pub fn push(&mut self, alloc: Global, lit: Lit, at: u32) -> Result<(), NoMemory>
         ensures ok { OnOk result (IsPushed self.old self.new lit at) }
         ensures err { OnErr result (AreSameRows self.old self.new) }
     {
         grow(alloc, &mut self.rows, lit.index() + 1)?;
         push_at(&mut self.rows, lit, at)
     }
-}
 
-impl Rows {
     pub fn remove(&mut self, lit: Lit, i: usize)
         requires { i < length (row_of self.old lit) }
         ensures { IsRemoved self.old self.new lit i }
@@ -66,7 +64,7 @@ impl Rows {
 }
 
 // Empty rows up to an end.
-fn grow(alloc: Global, rows: &mut Vec<Vec<usize>>, end: usize) -> Result<(), NoMemory>
+fn grow(alloc: Global, rows: &mut Vec<Vec<u32>>, end: usize) -> Result<(), NoMemory>
     ensures room { OnOk result (end ≤ vec_len rows.new) }
     ensures same { AreSameRows (map (λ v. v.items) rows.old.items) (map (λ v. v.items) rows.new.items) }
 {
@@ -76,7 +74,7 @@ fn grow(alloc: Global, rows: &mut Vec<Vec<usize>>, end: usize) -> Result<(), NoM
     Ok(())
 }
 
-fn push_at(rows: &mut Vec<Vec<usize>>, lit: Lit, at: usize) -> Result<(), NoMemory>
+fn push_at(rows: &mut Vec<Vec<u32>>, lit: Lit, at: u32) -> Result<(), NoMemory>
     requires { pack lit < vec_len rows.old }
     ensures ok { OnOk result
         (IsPushed (map (λ v. v.items) rows.old.items) (map (λ v. v.items) rows.new.items) lit at) }

@@ -92,7 +92,7 @@ impl Store {
         let slot = number(at)?;
         self.buckets.push(bucket(self.count, lits), slot)?;
         insert(&mut self.holders, slot, lits)?;
-        if let Err(error) = self.propagator.fill(at, lits) {
+        if let Err(error) = self.propagator.fill(slot, lits) {
             remove(&mut self.holders, slot, lits);
             return Err(error);
         }

@@ -49,7 +49,7 @@ invariant_of-self-in_default c =
     let at = c.vacant-at.result in
     let lits = c.args.lits.now in
     let held = rw c.in_ok-slot.ensures.0 at c.in_ok-insert.ensures.ok in
-    let put = c.in_default.ensures.ok in (
+    let put = rw c.in_ok-slot.ensures.0 at c.in_default.ensures.ok in (
       holders_put s at lits c.fill.new.self c.self.inside.holders c.insert.new.lists put v.0 held,
       length_put s at lits c.fill.new.self 4294967296 put c.in_ok-slot.ensures.1 v.1,
       ordered_put s at lits c.fill.new.self put c.requires.ordered v.2,
