@@ -13,3 +13,4 @@ pub mod Totals
 pub mod More
 pub mod Dropped
 pub mod Filled
+pub mod After

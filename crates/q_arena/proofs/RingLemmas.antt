@@ -27,7 +27,7 @@ pub with_list-other : (L : ℕ → List ℕ) (l m : ℕ) (ys : List ℕ) → m �
 with_list-other L l m ys n = grind (arith, nat_tests)
 
 -- each place of the new list is of the old one, or of none
-one_with : (heads l : ℕ) (L : ℕ → List ℕ) (ys : List ℕ) → l < heads
+pub one_with : (heads l : ℕ) (L : ℕ → List ℕ) (ys : List ℕ) → l < heads
     → ((k m p : ℕ) → k < heads → m < heads → Has (L k) p → Has (L m) p → k ≡ m)
     → ((q : ℕ) → Has ys q → Has (L l) q ⊎ ((m : ℕ) → m < heads → Has (L m) q → ⊥))
     → (k m p : ℕ) → k < heads → m < heads → Has (with_list L l ys k) p → Has (with_list L l ys m) p → k ≡ m
@@ -50,7 +50,7 @@ one_with heads l L ys lh one new k m p kh mh a b =
     ]
 
 -- what is on one ring is off another
-off : (s : ℕ → Link) (base room heads : ℕ) (L : ℕ → List ℕ) → AreRings s base room heads L → room ≤ base → (l m k : ℕ) → l < heads → m < heads → m ≢ l → Has (L l) k ⊎ (k ≡ base + l) → (base + m ≢ k) × Misses k (L m)
+pub off : (s : ℕ → Link) (base room heads : ℕ) (L : ℕ → List ℕ) → AreRings s base room heads L → room ≤ base → (l m k : ℕ) → l < heads → m < heads → m ≢ l → Has (L l) k ⊎ (k ≡ base + l) → (base + m ≢ k) × Misses k (L m)
 off s base room heads L r rb l m k lh mh n (inl h) =
     let lt : k < room = Has-below room k (L l) (r.each l lh).below h in
     (λ e. absurd (omega arith), Misses-from k (L m) (λ g. n (sym (r.one l m k lh mh h g))))
@@ -58,10 +58,10 @@ off s base room heads L r rb l m k lh mh n (inr e) =
     (λ f. n (omega arith), Misses-below room k (L m) (omega arith) (r.each m mh).below)
 
 -- a place in no list is off each
-off_new : (s : ℕ → Link) (base room heads : ℕ) (L : ℕ → List ℕ) → room ≤ base → (p : ℕ) → p < room → ((m : ℕ) → m < heads → Has (L m) p → ⊥) → (m : ℕ) → m < heads → (base + m ≢ p) × Misses p (L m)
+pub off_new : (s : ℕ → Link) (base room heads : ℕ) (L : ℕ → List ℕ) → room ≤ base → (p : ℕ) → p < room → ((m : ℕ) → m < heads → Has (L m) p → ⊥) → (m : ℕ) → m < heads → (base + m ≢ p) × Misses p (L m)
 off_new s base room heads L rb p pr f m mh = (λ e. absurd (omega arith), Misses-from p (L m) (f m mh))
 
-IsRing-kept : (s t : ℕ → Link) (room h : ℕ) (ys : List ℕ) (a b : ℕ) → IsJoined s t a b → (h ≢ a) × Misses a ys → (h ≢ b) × Misses b ys → IsRing s room h ys → IsRing t room h ys
+pub IsRing-kept : (s t : ℕ → Link) (room h : ℕ) (ys : List ℕ) (a b : ℕ) → IsJoined s t a b → (h ≢ a) × Misses a ys → (h ≢ b) × Misses b ys → IsRing s room h ys → IsRing t room h ys
 IsRing-kept s t room h ys a b j x y r = record {
   path = IsPath-kept s t a b j h ys h x.0 x.1 y.1 (λ e. y.0 (sym e)) r.path;
   count = j.tag h ∙ r.count;
@@ -69,7 +69,7 @@ IsRing-kept s t room h ys a b j x y r = record {
   below = r.below;
 }
 
-IsRing-tagged : (s t : ℕ → Link) (room h : ℕ) (ys : List ℕ) (a n : ℕ) → IsTagged s t a n → h ≢ a → IsRing s room h ys → IsRing t room h ys
+pub IsRing-tagged : (s t : ℕ → Link) (room h : ℕ) (ys : List ℕ) (a n : ℕ) → IsTagged s t a n → h ≢ a → IsRing s room h ys → IsRing t room h ys
 IsRing-tagged s t room h ys a n g x r = record {
   path = IsPath-along s t g.next g.prev h ys h r.path;
   count = let e = g.tag h in let c = r.count in grind (arith, nat_tests);
@@ -83,7 +83,7 @@ AreRings-tagged s t base room heads L a n r g ab = record {
   one = r.one;
 }
 
-tag_here : (s t : ℕ → Link) (a n : ℕ) → IsTagged s t a n → (t a).tag ≡ n
+pub tag_here : (s t : ℕ → Link) (a n : ℕ) → IsTagged s t a n → (t a).tag ≡ n
 tag_here s t a n g = let e = g.tag a in grind (arith, nat_tests)
 
 -- a place is put in front of a list

@@ -36,6 +36,11 @@ abbrev pub without : ℕ → List ℕ → List ℕ
 without p [] = []
 without p (y ∷ ys) = if y == p then ys else y ∷ without p ys
 
+-- the list with a number directly after another one
+abbrev pub with_next : ℕ → ℕ → List ℕ → List ℕ
+with_next a p [] = []
+with_next a p (y ∷ ys) = if y == a then y ∷ p ∷ ys else y ∷ with_next a p ys
+
 -- the nodes after a head stand as this list, back to the head
 pub record IsRing (s : ℕ → Link) (room h : ℕ) (ys : List ℕ) : Type 0 where
   pub path : IsPath s h ys h

@@ -1,6 +1,6 @@
 ghost use Rattle.std.specs.Prelude.{◌≡◌, ◌≤◌, ◌<◌, ◌+◌, ◌-◌, ◌^◌, ◌++◌, ◌∷◌, [], ℕ, length, slice_index_or, slice_set, MatchOption, OnOk, OnErr, List, Contains, ◌⊎◌, vec_len, None, Some, if◌then◌else◌, nat_lt, slice_get, slice_index};
 ghost use Rattle.q_arena.specs.Nodes.{node_at, IsNode, IsPut, IsJoined, IsTagged, blank, base};
-ghost use Rattle.q_arena.specs.Rings.{AreRings, AreSound, AreApart, Has, without, rings_of, with_list};
+ghost use Rattle.q_arena.specs.Rings.{AreRings, AreSound, AreApart, Has, without, with_next, rings_of, with_list};
 ghost use Rattle.q_arena.specs.Chains.{Chains, list_at, following, preceding, HasSameLists, HasSameOwners, lists_of};
 
 use q_logic::NoMemory;
@@ -90,6 +90,25 @@ fn put_front(places: &mut Vec<Link>, heads: &mut Vec<Link>, head: usize, place: 
     join(places, heads, HEADS + head, place);
     join(places, heads, place, link.next);
     set_tag(places, heads, HEADS + head, link.tag + 1);
+}
+
+// Puts a place after one of the list of a head.
+fn put_after(places: &mut Vec<Link>, heads: &mut Vec<Link>, head: usize, after: usize, place: usize)
+    requires head { head < length heads.old.items }
+    requires place { place < length places.old.items }
+    requires sound { AreSound places.old.items heads.old.items }
+    requires there { Has (rings_of (node_at places.old.items heads.old.items) base head) after }
+    requires fresh { (m : ℕ) → m < length heads.old.items → Has (rings_of (node_at places.old.items heads.old.items) base m) place → ⊥ }
+    ensures rings { AreRings (node_at places.new.items heads.new.items) base (length places.old.items) (length heads.old.items) (with_list (rings_of (node_at places.old.items heads.old.items) base) head (with_next after place (rings_of (node_at places.old.items heads.old.items) base head))) }
+    ensures places { length places.new.items ≡ length places.old.items }
+    ensures heads { length heads.new.items ≡ length heads.old.items }
+    ensures tags { (k : ℕ) → k < base → (node_at places.new.items heads.new.items k).tag ≡ (node_at places.old.items heads.old.items k).tag }
+{
+    let count = node(places, heads, HEADS + head).tag;
+    let link = node(places, heads, after);
+    join(places, heads, after, place);
+    join(places, heads, place, link.next);
+    set_tag(places, heads, HEADS + head, count + 1);
 }
 
 // Takes a place out of the list of a head.
@@ -221,6 +240,18 @@ impl Rings {
         ensures owners { self.new.owners ≡ slice_set self.old.owners place owner }
     {
         put_front(&mut self.places, &mut self.heads, head, place);
+        set_tag(&mut self.places, &mut self.heads, place, owner);
+    }
+
+    /// Puts a place that is in no list directly after one of the list of a head.
+    pub fn insert_after(&mut self, head: usize, after: usize, place: usize, owner: u32)
+        requires after { Has (list_at self.old head) after }
+        requires place { place < length self.old.owners }
+        requires fresh { (m : ℕ) → Has (list_at self.old m) place → ⊥ }
+        ensures lists { self.new.lists ≡ slice_set self.old.lists head (with_next after place (list_at self.old head)) }
+        ensures owners { self.new.owners ≡ slice_set self.old.owners place owner }
+    {
+        put_after(&mut self.places, &mut self.heads, head, after, place);
         set_tag(&mut self.places, &mut self.heads, place, owner);
     }
 

@@ -1,0 +1,11 @@
+use Rattle.std.proofs.Common.{sym, ◌∙◌}
+use Rattle.q_logic.specs.Literals.{pack}
+use Rattle.q_arena.specs.Rings.{Has}
+use Rattle.q_arena.specs.Chains.{list_at}
+use Rattle.q_occ.proofs.Walks.{following-has}
+use Rattle.q_occ.proofs.occ.Occ.next.Goals as goal
+
+pub returns-clause-there : goal.returns-clause-there
+returns-clause-there c = λ l p h e.
+    let inside : Has (list_at c.self.inside.rings (pack l)) c.args.place = rw c.self.view_is h in
+    rw (← c.self.view_is) (following-has c.args.place p (list_at c.self.inside.rings (pack l)) (sym (c.next.ensures (pack l) inside) ∙ e))

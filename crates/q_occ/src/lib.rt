@@ -1,0 +1,10 @@
+//! For each literal the places in an arena's words at which it stands.
+#![tactic(auto)]
+
+mod linking;
+mod occ;
+
+pub use occ::Occ;
+
+#[cfg(test)]
+mod tests;
