@@ -106,7 +106,7 @@ zero-ends m d v c n p x ls ks r =
       ms = [];
       cs = r.cs;
       kinds = ap (λ js. Number (pos 0) ∷ js) (r.kinds ∙ ap (λ ss. sets_kinds ss ++ clauses_kinds r.cs) none);
-      is = r.is ∙ (ap (λ ss. inside Outside v c (n + total r.cs) (p ++ sets_bounds ss) ((x ++ clause_of ls ∷ []) ++ map clause_of r.cs) []) none ∙ rw (a, q, append-nil, append-nil) refl);
+      is = r.is ∙ (ap (λ ss. inside Outside v c (n + total r.cs) (p ++ sets_bounds ss) ((x ++ clause_of ls ∷ []) ++ map clause_of r.cs) []) none ∙ rw (a, q, append-nil p, append-nil ls) refl);
       lits = tt;
       later = r.lits;
       few = λ k. let z = r.few k in omega arith;
@@ -157,7 +157,7 @@ done m d e = record {
     ss = [];
     cs = [];
     kinds = refl;
-    is = sym (same-ok (inside Outside v c n p x []) d h) ∙ rw (add-zero, append-nil, append-nil) refl;
+    is = sym (same-ok (inside Outside v c n p x []) d h) ∙ rw (add-zero, append-nil p, append-nil x) refl;
     lits = tt;
     few = λ k. omega arith;
     late = λ k. refl;
