@@ -1,0 +1,17 @@
+pub mod Copies
+pub mod Alike
+pub mod Runs
+pub mod Numbering
+pub mod Cells
+pub mod Seats
+pub mod Seating
+pub mod Changes
+pub mod Slots
+pub mod Outers
+pub mod Members
+pub mod Collecting
+pub mod Walks
+pub mod Reaching
+pub mod Trying
+pub mod SameBlocks
+pub mod Comparing

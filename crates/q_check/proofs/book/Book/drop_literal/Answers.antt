@@ -1,0 +1,113 @@
+use Rattle.std.proofs.Common.{Some, None, Bool, true, false, refl, arith, set}
+use Rattle.std.proofs.lemmas.Result.{err_from_is_err_and}
+use Rattle.std.proofs.Common.{cond, [], ◌∷◌}
+use Rattle.std.specs.List.{AllByRecursion}
+use Rattle.q_logic.specs.Literals.{Literal, IsBelow, literal_eq}
+use Rattle.q_logic.specs.Parts.{ArePairs}
+use Rattle.q_logic.specs.Formulas.{Clause}
+use Rattle.q_logic.specs.Limits.{standard}
+use Rattle.q_logic.specs.Pivots.{without}
+use Rattle.q_logic.specs.Steps.{drop_literal}
+use Rattle.q_prop.specs.Slots.{filled}
+use Rattle.q_prop.proofs.SlotLemmas.{slice_get-in}
+use Rattle.q_check.proofs.Members.{test_is}
+use Rattle.q_check.proofs.Slots.{left-sizes}
+use Rattle.q_check.proofs.Trying.{of, drop-unbound, drop-missing, drop-refused, drop-valid, drop-after, drop-sizes, drop-entry, length-without, put-holds, valid-formula}
+use Rattle.q_check.proofs.book.Book.drop_literal.Goals as goal
+
+pub returns-then-not-binds_all : goal.returns-then-not-binds_all
+returns-then-not-binds_all c keep m =
+    let i = c.self.inside in
+    let P = i.scope in
+    let s = i.store in
+    let C = c.args.clause.now in
+    rw (← c.self.view_is) (refl, drop-unbound m P (filled s) c.args.lit C (test_is c.binds_all.result c.binds_all.ensures c.if-not-binds_all.true))
+
+pub returns-in_default : goal.returns-in_default
+returns-in_default c keep m =
+    let i = c.self.inside in
+    let P = i.scope in
+    let s = i.store in
+    let C = c.args.clause.now in
+    rw (← c.self.view_is) (refl, drop-missing m P s c.args.lit C (c.binds_all.ensures.0 c.if-not-binds_all.false) c.in_default.ensures)
+
+pub returns-in_err-droppable : goal.returns-in_err-droppable
+returns-in_err-droppable c keep m = let r = err_from_is_err_and c.from_residual.result c.from_residual.ensures.1 in rw (r.1, r.2, ← c.self.view_is, c.in_err-droppable.ensures.same) refl
+
+pub returns-then-not-droppable : goal.returns-then-not-droppable
+returns-then-not-droppable c keep m =
+    let i = c.self.inside in
+    let P = i.scope in
+    let s = i.store in
+    let C = c.args.clause.now in
+    rw (← c.self.view_is, c.in_ok-droppable.ensures.same) (refl, drop-refused P s c.in-Some.at C c.in-Some.ensures m c.args.lit (c.binds_all.ensures.0 c.if-not-binds_all.false) (test_is c.in_ok-droppable.droppable c.in_ok-droppable.ensures.exact c.if-not-droppable.true))
+
+pub returns-in_err-add : goal.returns-in_err-add
+returns-in_err-add c keep m = let r = err_from_is_err_and c.from_residual-in_err-add.result c.from_residual-in_err-add.ensures.1 in rw (r.1, r.2, ← c.self.view_is, c.in_err-add.ensures.err, c.in_ok-droppable.ensures.same) refl
+
+pub delete-requires : goal.delete-requires
+delete-requires c =
+    let i = c.self.inside in
+    let P = i.scope in
+    let s = i.store in
+    let C = c.args.clause.now in
+    let p = rw (c.in_ok-droppable.ensures.same, c.requires.rest) at c.in_ok-add.ensures.ok in
+    slice_get-in c.add.new.self c.in-Some.at (Some C) (put-holds s c.add.new.self c.in-Some.at c.in_ok-add.field-0 C (without c.args.lit C) p c.in-Some.ensures)
+
+pub overflow_sub-self : goal.overflow_sub-self
+overflow_sub-self c = rw c.requires.rest (length-without c.args.lit c.args.clause.now)
+
+pub overflow_sub-self-2 : goal.overflow_sub-self-2
+overflow_sub-self-2 c = let z = left-sizes c.self.inside.store c.in-Some.at c.args.clause.now c.in-Some.ensures in omega (arith, z.1, c.self.invariant.lits_are)
+
+pub invariant_of-self-2 : goal.invariant_of-self-2
+invariant_of-self-2 c =
+    let i = c.self.inside in
+    let P = i.scope in
+    let s = i.store in
+    let C = c.args.clause.now in
+    let n = c.in-Some.at in
+    let t = c.add.new.self in
+    let k = c.in_ok-add.field-0 in
+    let p = rw (c.in_ok-droppable.ensures.same, c.requires.rest) at c.in_ok-add.ensures.ok in
+    let v = drop-valid P s n C c.in-Some.ensures standard c.args.lit (c.binds_all.ensures.0 c.if-not-binds_all.false) (c.in_ok-droppable.ensures.exact.0 c.if-not-droppable.false) in
+    let z = drop-sizes s t n k c.args.lit C c.in-Some.ensures p in
+    let l = length-without c.args.lit C in
+    rw (c.delete.ensures, c.requires.rest)
+    (record {
+      formula = valid-formula standard (of P (filled s)) (of P (filled (set t n None))) (drop_literal c.args.lit C) v (drop-after P s t n k c.args.lit C c.in-Some.ensures p) c.self.invariant.formula;
+      clauses_are = omega (arith, z.0, c.self.invariant.clauses_are);
+      lits_are = omega (arith, z.1, l, c.self.invariant.lits_are);
+    })
+
+pub returns : goal.returns
+returns c keep m =
+    let i = c.self.inside in
+    let P = i.scope in
+    let s = i.store in
+    let C = c.args.clause.now in
+    let n = c.in-Some.at in
+    let t = c.add.new.self in
+    let k = c.in_ok-add.field-0 in
+    let p = rw (c.in_ok-droppable.ensures.same, c.requires.rest) at c.in_ok-add.ensures.ok in
+    let v = drop-valid P s n C c.in-Some.ensures m c.args.lit (c.binds_all.ensures.0 c.if-not-binds_all.false) (c.in_ok-droppable.ensures.exact.0 c.if-not-droppable.false) in
+    rw (← c.self.view_is, c.delete.ensures) (v, drop-after P s t n k c.args.lit C c.in-Some.ensures p, drop-entry keep (of P (filled s)) c.args.lit C)
+
+all-without : (l j : Literal) (C : Clause) → AllByRecursion (IsBelow j) C → AllByRecursion (IsBelow j) (without l C)
+all-without l j [] a = a
+all-without l j (k ∷ C) a = go (literal_eq k l) (all-without l j C a.1)
+  where
+    go : (b : Bool) → AllByRecursion (IsBelow j) (without l C) → AllByRecursion (IsBelow j) (cond b (without l C) (k ∷ without l C))
+    go true i = i
+    go false i = (a.0, i)
+
+ordered-without : (l : Literal) (C : Clause) → ArePairs IsBelow C → ArePairs IsBelow (without l C)
+ordered-without l [] o = o
+ordered-without l (k ∷ C) o = go (literal_eq k l) (ordered-without l C o.1)
+  where
+    go : (b : Bool) → ArePairs IsBelow (without l C) → ArePairs IsBelow (cond b (without l C) (k ∷ without l C))
+    go true i = i
+    go false i = (all-without l k C o.0, i)
+
+pub add-requires : goal.add-requires
+add-requires c = record { ordered = rw c.requires.rest (ordered-without c.args.lit c.args.clause.now c.requires.ordered) }

@@ -1,0 +1,51 @@
+use Rattle.std.proofs.Common.{refl}
+use Rattle.std.proofs.lemmas.Result.{err_from_is_err_and}
+use Rattle.q_logic.specs.Steps.{fresh, insert_after}
+use Rattle.q_prop.specs.Slots.{filled}
+use Rattle.q_check.proofs.Members.{test_is}
+use Rattle.q_check.proofs.Cells.{existential-bound}
+use Rattle.q_check.proofs.Alike.{alike_itself}
+use Rattle.q_check.proofs.Trying.{of, fresh-refused, fresh-entry, valid-formula}
+use Rattle.q_check.proofs.book.Book.fresh.Goals as goal
+
+pub returns-then-not-takes_fresh : goal.returns-then-not-takes_fresh
+returns-then-not-takes_fresh c =
+    let i = c.self.inside in
+    let P = i.scope in
+    let s = i.store in
+    rw (← c.self.view_is) (refl, fresh-refused c.args.limits P (filled s) c.args.v c.args.w (test_is c.takes_fresh.result c.takes_fresh.ensures c.if-not-takes_fresh.true))
+
+pub insert_after-requires-clause-absent : goal.insert_after-requires-clause-absent
+insert_after-requires-clause-absent c = (c.takes_fresh.ensures.0 c.if-not-takes_fresh.false).absent
+
+pub insert_after-requires-clause-there : goal.insert_after-requires-clause-there
+insert_after-requires-clause-there c = existential-bound c.self.inside.scope c.args.w (c.takes_fresh.ensures.0 c.if-not-takes_fresh.false).behind
+
+pub returns-in_err-insert_after : goal.returns-in_err-insert_after
+returns-in_err-insert_after c = let r = err_from_is_err_and c.from_residual.result c.from_residual.ensures.1 in rw (r.1, r.2, ← c.self.view_is, c.in_err-insert_after.ensures.err) refl
+
+pub invariant_of-self : goal.invariant_of-self
+invariant_of-self c = rw c.in_err-insert_after.ensures.err c.self.invariant
+
+pub invariant_of-self-2 : goal.invariant_of-self-2
+invariant_of-self-2 c =
+    let i = c.self.inside in
+    let P = i.scope in
+    let s = i.store in
+    let v = c.takes_fresh.ensures.0 c.if-not-takes_fresh.false in
+    let F = of P (filled s) in
+    let G = of (insert_after c.args.w c.args.v P) (filled s) in
+    rw c.in_ok-insert_after.ensures.ok
+    (record {
+      formula = valid-formula c.args.limits F G (fresh c.args.v c.args.w) v (alike_itself G) c.self.invariant.formula;
+      clauses_are = c.self.invariant.clauses_are;
+      lits_are = c.self.invariant.lits_are;
+    })
+
+pub returns : goal.returns
+returns c =
+    let i = c.self.inside in
+    let P = i.scope in
+    let s = i.store in
+    let v = c.takes_fresh.ensures.0 c.if-not-takes_fresh.false in
+    rw (← c.self.view_is, c.in_ok-insert_after.ensures.ok) (v, alike_itself (of (insert_after c.args.w c.args.v P) (filled s)), fresh-entry c.args.keep (of P (filled s)) c.args.v c.args.w c.fresh_entry.result c.fresh_entry.ensures)

@@ -1,0 +1,11 @@
+use Rattle.std.proofs.Common.{refl}
+use Rattle.q_check.proofs.Seats.{seated-outer}
+use Rattle.q_check.proofs.scope.Scope.outer_or_same.Goals as goal
+
+pub returns : goal.returns
+returns c =
+    let i = c.self.inside in
+    let a = rw (← c.self.view_is) at c.requires.first in
+    let b = rw (← c.self.view_is) at c.requires.second in
+    let law = seated-outer i.cells.items i.seats.items i.counts.items c.self.invariant c.args.a c.args.v a b in
+    rw (← c.self.view_is) (rw (law, c.rank_of.ensures, c.rank_of-2.ensures, c.deref.ensures.value, c.deref-2.ensures.value) refl)

@@ -1,0 +1,28 @@
+-- The undo list as the code keeps it.
+use Rattle.std.specs.Prelude.{◌≡◌, Bool, true, false, List, [], ◌∷◌, Option, None, Some}
+use Rattle.q_logic.specs.Literals.{Literal, negation}
+use Rattle.q_logic.specs.Formulas.{Clause, Matrix, Prefix}
+use Rattle.q_logic.specs.Pivots.{OutersOf}
+use Rattle.q_logic.specs.Undos.{UndoEntry, pivot, removed, freshened}
+use Rattle.q_check.specs.declared.pivots.Warrant.{Warrant}
+use Rattle.q_check.specs.declared.pivots.Warrant.TheVariants.{Propagation, Missing}
+use Rattle.q_check.specs.declared.pivots.Warrant.TheVariants.{Pivot as ByPivot}
+use Rattle.q_check.specs.declared.undo.Undo.{Undo}
+use Rattle.q_check.specs.declared.undo.Undo.TheVariants.{Pivot, Removed, Fresh}
+
+abbrev pub entry_of : Undo → UndoEntry
+entry_of (Pivot l outers) = pivot l outers
+entry_of (Removed v) = removed v
+entry_of (Fresh v) = freshened v
+
+-- one entry or none
+abbrev pub entries_of : Option Undo → List UndoEntry
+entries_of None = []
+entries_of (Some u) = entry_of u ∷ []
+
+-- a clause that goes by its pivot leaves its outer clauses, where they are kept
+abbrev pub IsPivotEntry : Bool → Prefix → Matrix → Option Literal → Warrant → Option Undo → Type 0
+IsPivotEntry false P X p w u = u ≡ None
+IsPivotEntry true P X p Propagation u = u ≡ None
+IsPivotEntry true P X p Missing u = u ≡ None
+IsPivotEntry true P X p ByPivot u = (l : Literal) → p ≡ Some l → (outers : List Clause) × OutersOf P X (negation l) outers × (entries_of u ≡ pivot l outers ∷ [])

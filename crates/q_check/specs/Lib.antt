@@ -1,0 +1,6 @@
+pub mod Alike
+pub mod Scopes
+pub mod Warrants
+pub mod Entries
+pub mod Checked
+pub mod Walks

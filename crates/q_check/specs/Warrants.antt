@@ -1,0 +1,25 @@
+-- Why a clause may come or go.
+use Rattle.std.specs.Prelude.{ℕ, List, Option, ◌++◌, Contains}
+use Rattle.q_logic.specs.Literals.{Literal}
+use Rattle.q_logic.specs.Formulas.{Clause, Matrix, Prefix, IsIn}
+use Rattle.q_logic.specs.Propagation.{Implied}
+use Rattle.q_logic.specs.Pivots.{outer}
+use Rattle.q_logic.specs.Steps.{FirstPivot}
+use Rattle.q_prop.specs.Slots.{Slots, Holds}
+use Rattle.q_check.specs.declared.pivots.Warrant.{Warrant}
+use Rattle.q_check.specs.declared.pivots.Warrant.TheVariants.{Propagation, Pivot, Missing}
+
+-- the slots whose clauses hold the literal
+pub record AreHolders (s : Slots) (m : Literal) (slots : List ℕ) : Type 0 where
+  pub all_there : (at : ℕ) (D : Clause) → Holds s at D → IsIn m D → Contains slots at
+  pub no_other : (at : ℕ) → Contains slots at → (D : Clause) × Holds s at D × IsIn m D
+
+-- with each clause that holds m the literals, joined with its outer clause, are implied
+abbrev pub Resolves : Prefix → Matrix → List Literal → Literal → Type 0
+Resolves P X base m = (D : Clause) → IsIn D X → IsIn m D → Implied X (base ++ outer P m D)
+
+-- the first that applies: implied, or by its first literal, or neither
+abbrev pub IsWarrant : Prefix → Matrix → Clause → Option Literal → Warrant → Type 0
+IsWarrant P X C p Propagation = Implied X C
+IsWarrant P X C p Pivot = (¬ Implied X C) × FirstPivot P X C p
+IsWarrant P X C p Missing = (¬ Implied X C) × (¬ FirstPivot P X C p)

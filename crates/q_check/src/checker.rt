@@ -1,0 +1,160 @@
+//! The checker: a formula, and what the steps so far leave.
+ghost use Rattle.std.specs.Prelude.{◌≡◌, ◌∷◌, ◌++◌, [], length, drop, ◌<◌, IfOk, IfErr, OnOk, OnErr};
+ghost use Rattle.q_logic.specs.Clauses.{clause_of};
+ghost use Rattle.q_logic.specs.Limits.{AreModerate};
+ghost use Rattle.q_logic.specs.Runs.{SameFormula};
+ghost use Rattle.q_logic.specs.Steps.{Valid, after};
+ghost use Rattle.q_check.specs.declared.error.CheckError.TheVariants.{NoMemory as MemoryError};
+ghost use Rattle.q_check.specs.Alike.{AreAlike};
+ghost use Rattle.q_check.specs.Checked.{HasGrown, IsRefusal, IsEndRefusal, IsTried};
+
+use crate::book::{Book, first_lit};
+use crate::error::CheckError;
+use crate::undo::{Undo, Undos};
+use q_logic::{Formula, Kind, Limits, Lit, NoMemory, Step, sort_clause};
+use std::alloc::Global;
+use std::marker::Model;
+
+/// Tries the steps of a proof, one after the other.
+#[derive(Drop)]
+pub struct Checker {
+    book: Book,
+    undo: Vec<Undo>,
+    limits: Limits,
+    keeps: bool,
+    clause: Vec<Lit>,
+    rest: Vec<Lit>,
+}
+
+impl Model for Checker {
+    ghost use Rattle.std.specs.Prelude.{map};
+    ghost use Rattle.q_logic.specs.Limits.{AreModerate};
+    ghost use Rattle.q_check.specs.Checked.{Checked};
+    ghost use Rattle.q_check.specs.Entries.{entry_of};
+
+    ghost Value = { Checked };
+
+    ghost view = { λ c. record { formula = c.book; undo = map entry_of c.undo.items; limits = c.limits; keeps = c.keeps } };
+
+    ghost invariant = { λ c. AreModerate c.limits };
+}
+
+/// What an accepted proof leaves.
+#[derive(Drop)]
+pub struct Verified {
+    pub undo: Undos,
+}
+
+impl Checker {
+    pub fn start(
+        alloc: Global,
+        formula: &Formula,
+        limits: Limits,
+        keep_undo: bool,
+    ) -> Result<Checker, CheckError>
+        requires { AreModerate limits }
+        ensures started { IfOk result (λ c. AreAlike formula.now c.formula × (c.undo ≡ []) × (c.limits ≡ limits) × (c.keeps ≡ keep_undo)) }
+        ensures only_memory { IfErr result (λ e. e ≡ MemoryError) }
+    {
+        let book = match Book::start(alloc, formula) {
+            Ok(book) => book,
+            Err(_) => return Err(CheckError::NoMemory),
+        };
+        Ok(Checker {
+            book,
+            undo: Vec::new(alloc),
+            limits,
+            keeps: keep_undo,
+            clause: Vec::new(alloc),
+            rest: Vec::new(alloc),
+        })
+    }
+
+    /// Takes the step if it is valid. After an error the checker is as before.
+    pub fn step(&mut self, step: &Step) -> Result<(), CheckError>
+        ensures valid { OnOk result (Valid self.old.limits self.old.formula step.now) }
+        ensures after { OnOk result (AreAlike (after self.old.formula step.now) self.new.formula) }
+        ensures undo { OnOk result (HasGrown self.old.keeps self.old.formula step.now self.old.undo self.new.undo) }
+        ensures settings { (self.new.limits ≡ self.old.limits) × (self.new.keeps ≡ self.old.keeps) }
+        ensures refused { IfErr result (IsRefusal self.old.limits self.old.formula step.now) }
+        ensures unchanged { OnErr result (self.new ≡ self.old) }
+    {
+        self.undo.reserve(1)?;
+        let entry = try_step(
+            &mut self.book,
+            &mut self.clause,
+            &mut self.rest,
+            self.limits,
+            self.keeps,
+            step,
+        )?;
+        if let Some(entry) = entry {
+            self.undo.push_reserved(entry);
+        }
+        Ok(())
+    }
+
+    /// Ends the check: blocks and clauses are those of the output, in any order.
+    pub fn finish(self, output: &Formula) -> Result<Verified, CheckError>
+        ensures same { OnOk result (SameFormula self.formula output.now) }
+        ensures undo { IfOk result (λ v. v.undo ≡ self.undo) }
+        ensures refused { IfErr result (IsEndRefusal self.formula output.now) }
+    {
+        self.book.finish(output)?;
+        Ok(Verified {
+            undo: Undos::from_entries(self.undo),
+        })
+    }
+}
+
+// Tries the step on the formula.
+fn try_step(
+    book: &mut Book,
+    clause: &mut Vec<Lit>,
+    rest: &mut Vec<Lit>,
+    limits: Limits,
+    keeps: bool,
+    step: &Step,
+) -> Result<Option<Undo>, CheckError>
+    requires { AreModerate limits }
+    ensures { IsTried keeps limits book.old step.now book.new result }
+{
+    let lits = step.lits();
+    match step.kind() {
+        Kind::Add => {
+            load_clause(clause, lits)?;
+            book.add(limits, clause, first_lit(lits))
+        }
+        Kind::Delete => {
+            load_clause(clause, lits)?;
+            book.delete(clause, lits, keeps)
+        }
+        Kind::Drop => {
+            load_clause(clause, lits)?;
+            load_rest(rest, lits)?;
+            book.drop_literal(clause, rest, lits[0])
+        }
+        Kind::Fresh => book.fresh(limits, lits[0].var(), lits[1].var(), keeps),
+        Kind::Remove => book.remove(lits[0].var(), keeps),
+    }
+}
+
+// The clause of the literals.
+fn load_clause(clause: &mut Vec<Lit>, lits: &[Lit]) -> Result<(), NoMemory>
+    ensures { OnOk result (clause.new.items ≡ clause_of lits.now) }
+{
+    clause.clear();
+    clause.extend_from_slice(lits)?;
+    sort_clause(clause);
+    Ok(())
+}
+
+// The literals after the first.
+fn load_rest(rest: &mut Vec<Lit>, lits: &[Lit]) -> Result<(), NoMemory>
+    requires { 0 < length lits.now }
+    ensures { OnOk result (rest.new.items ≡ drop 1 lits.now) }
+{
+    rest.clear();
+    rest.extend_from_slice(&lits[1..])?;
+    Ok(())
+}

@@ -1,0 +1,14 @@
+//! The checker of proofs: each step is tried on the formula that the steps before it left.
+#![tactic(auto)]
+
+mod book;
+mod checker;
+mod error;
+mod pivots;
+mod reach;
+mod scope;
+mod undo;
+
+pub use checker::{Checker, Verified};
+pub use error::CheckError;
+pub use undo::{Clauses, Undo, Undos};
