@@ -17,6 +17,7 @@ mod watches;
 
 pub use plain::implied_plainly;
 pub use store::Store;
+pub use trail::Trail;
 
 #[cfg(test)]
 mod tests;
