@@ -1,5 +1,5 @@
 -- Slots in the buckets of their clauses.
-use Rattle.std.proofs.Common.{◌≡◌, ◌≢◌, ◌⊎◌, ℕ, ◌+◌, ◌<◌, ◌≤◌, List, [], ◌∷◌, ◌++◌, Some, None, Contains, slice_get, length, refl, sym, ◌∙◌, ap, inl, inr, arith, subst}
+use Rattle.std.proofs.Common.{◌≡◌, ℕ, ◌+◌, ◌<◌, List, [], ◌∷◌, Some, Contains, inl, inr, arith, subst}
 use Rattle.std.proofs.lemmas.List.Elements.{Contains-append_left, Contains-push}
 use Rattle.q_logic.specs.Formulas.{Clause}
 use Rattle.q_prop.specs.Slots.{Slots, Holds, IsPut, without}
@@ -7,7 +7,7 @@ use Rattle.q_prop.specs.Lists.{list_at, IsAppended, IsTakenOut, AreSameLists}
 use Rattle.q_prop.specs.Buckets.{bucket_of, AreHashed, IsEntered}
 use Rattle.q_prop.proofs.Literals.{ℕ-cases}
 use Rattle.q_prop.proofs.Placing.{put-cases}
-use Rattle.q_prop.proofs.SlotLemmas.{without-le, without-here, without-other, same_slice_get, slice_get-in}
+use Rattle.q_prop.proofs.SlotLemmas.{without-le, without-here, same_slice_get}
 
 pub appended-keeps : (old new : List (List ℕ)) (k n : ℕ) → IsAppended old new k n → (j m : ℕ) → Contains (list_at old j) m → Contains (list_at new j) m
 appended-keeps old new k n a j m h = elim (ℕ-cases j k) [

@@ -1,11 +1,8 @@
 -- Chains.
-use Rattle.std.proofs.Common.{◌≡◌, ◌≢◌, ◌⊎◌, ℕ, List, [], ◌∷◌, ◌++◌, map, Contains, refl, sym, ap, inl, inr, append_assoc, append-nil, arith}
-use Rattle.std.proofs.lemmas.List.Elements.{Contains-append_left, Contains-append_right, Contains-append_cases, Contains-push, Contains-push_cases}
+use Rattle.std.proofs.Common.{List, [], ◌∷◌, ◌++◌, map, Contains, inl, inr, append_assoc, append-nil}
 use Rattle.q_logic.specs.Literals.{Literal, negation}
 use Rattle.q_logic.specs.Formulas.{Clause, Matrix}
-use Rattle.q_prop.specs.Chains.{IsFalsified, IsUnit, IsForced, IsChain, HasOpposites, HasFalsified, IsConflict, IsImplied}
-use Rattle.q_prop.proofs.Members.{Contains-here, Contains-there, Contains-nil, Contains-cons_cases, Contains-along, Contains-map, Contains-map_cases}
-use Rattle.q_prop.proofs.Literals.{negation-negation, Literal-cases}
+use Rattle.q_prop.specs.Chains.{IsForced, IsChain, IsConflict, IsImplied}
 
 -- one more literal at the end
 pub IsChain-push : (x : Matrix) (known added : List Literal) (l : Literal) → IsChain x known added → IsForced x (known ++ added) l → IsChain x known (added ++ l ∷ [])

@@ -1,10 +1,10 @@
 -- The chains of the search are those of the definition.
-use Rattle.std.proofs.Common.{◌≡◌, ◌≢◌, ◌⊎◌, ℕ, zero, suc, List, [], ◌∷◌, ◌++◌, map, Contains, refl, sym, ap, ◌∙◌, subst, inl, inr, append_assoc, append-nil, arith, ◌↔◌}
-use Rattle.std.proofs.lemmas.List.Elements.{Contains-append_left, Contains-append_right, Contains-append_cases, Contains-push, Contains-push_cases}
+use Rattle.std.proofs.Common.{◌≡◌, List, [], ◌∷◌, ◌++◌, map, Contains, refl, sym, ap, subst, inl, inr, append_assoc, append-nil, ◌↔◌}
+use Rattle.std.proofs.lemmas.List.Elements.{Contains-append_left, Contains-push, Contains-push_cases}
 use Rattle.q_logic.specs.Literals.{Literal, negation}
 use Rattle.q_logic.specs.Formulas.{Clause, Matrix, IsIn}
 use Rattle.q_logic.specs.Propagation.{Chain, begin, more, Conflicts, Implied, negations}
-use Rattle.q_prop.specs.Chains.{IsFalsified, IsUnit, IsForced, IsChain, HasOpposites, HasFalsified, IsConflict, IsImplied}
+use Rattle.q_prop.specs.Chains.{IsForced, IsChain, IsConflict, IsImplied}
 use Rattle.q_prop.proofs.Members.{Contains-here, Contains-there, Contains-nil, Contains-cons_cases}
 use Rattle.q_prop.proofs.Chains.{IsChain-push}
 

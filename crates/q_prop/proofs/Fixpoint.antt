@@ -1,13 +1,13 @@
 -- At a fixed point no chain conflicts.
-use Rattle.std.proofs.Common.{◌≡◌, ◌≢◌, ◌⊎◌, List, [], ◌∷◌, ◌++◌, map, Contains, refl, sym, ◌∙◌, ap, inl, inr, append_assoc, append-nil}
-use Rattle.std.proofs.lemmas.List.Elements.{Contains-append_left, Contains-append_cases, Contains-push, Contains-push_cases}
+use Rattle.std.proofs.Common.{List, [], ◌∷◌, ◌++◌, map, Contains, sym, ◌∙◌, ap, inl, inr, append_assoc, append-nil}
+use Rattle.std.proofs.lemmas.List.Elements.{Contains-append_left, Contains-push_cases}
 use Rattle.q_logic.specs.Literals.{Literal, negation}
 use Rattle.q_logic.specs.Formulas.{Clause, Matrix}
-use Rattle.q_prop.specs.Chains.{IsFalsified, IsUnit, IsForced, IsChain, HasOpposites, HasFalsified, IsConflict, IsImplied}
-use Rattle.q_prop.proofs.Literals.{negation-negation, negation-apart, Literal-cases}
+use Rattle.q_prop.specs.Chains.{IsForced, IsChain, HasOpposites, HasFalsified, IsConflict, IsImplied}
+use Rattle.q_prop.proofs.Literals.{negation-negation, negation-apart}
 use Rattle.q_prop.proofs.Members.{Contains-along}
 use Rattle.q_prop.proofs.Chains.{IsChain-push}
-use Rattle.q_prop.specs.Search.{IsSettled, AllSettled, IsSearch}
+use Rattle.q_prop.specs.Search.{AllSettled, IsSearch}
 
 -- each of the first literals is one of the second
 pub AreKnown : List Literal → List Literal → Type 0

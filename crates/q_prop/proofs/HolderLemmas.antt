@@ -1,19 +1,19 @@
 -- Lists of slots under literals.
-use Rattle.std.proofs.Common.{◌≡◌, ◌≢◌, ◌⊎◌, ◌↔◌, ℕ, zero, suc, ◌+◌, ◌<◌, ◌≤◌, List, [], ◌∷◌, ◌++◌, Some, None, Contains, set, slice_get, take, length, refl, sym, ◌∙◌, ap, inl, inr, arith, subst, length-append}
+use Rattle.std.proofs.Common.{◌≡◌, ◌≢◌, ℕ, zero, suc, ◌<◌, ◌≤◌, List, [], ◌∷◌, ◌++◌, Some, Contains, slice_get, take, length, refl, sym, ◌∙◌, inl, inr, arith, subst, length-append}
 use Rattle.std.specs.List.{AllByRecursion}
 use Rattle.std.proofs.lemmas.List.{length-set}
 use Rattle.std.proofs.lemmas.List.Elements.{Contains-append_left, Contains-push, Contains-push_cases}
 use Rattle.q_logic.specs.Literals.{Literal, pack, IsBelow}
 use Rattle.q_logic.specs.Formulas.{Clause}
 use Rattle.q_prop.specs.Slots.{Slots, Holds, IsPut, IsOrdered, AreOrdered, IsVacant, without}
-use Rattle.q_prop.specs.Lists.{list_at, IsAppended, IsDistinct, IsLost, IsTakenOut, AreSameLists}
-use Rattle.q_prop.specs.Holders.{AreDistinct, IsHeld, IsFreed, AreAlike, IsHolder, AreHolders}
-use Rattle.q_prop.proofs.Literals.{Literal-cases, ℕ-cases}
-use Rattle.q_prop.proofs.Members.{Contains-nil, Contains-here, Contains-there, Contains-cons_cases, Contains-along, Contains-take}
+use Rattle.q_prop.specs.Lists.{list_at, IsAppended, IsTakenOut, AreSameLists}
+use Rattle.q_prop.specs.Holders.{IsHeld, IsFreed, AreAlike, AreHolders}
+use Rattle.q_prop.proofs.Literals.{Literal-cases}
+use Rattle.q_prop.proofs.Members.{Contains-nil, Contains-cons_cases}
 use Rattle.q_prop.proofs.MarkLemmas.{pack-apart}
 use Rattle.q_prop.proofs.ListLemmas.{distinct-push}
 use Rattle.q_prop.proofs.SlotLemmas.{without-le, without-here, without-other, same_slice_get, Contains-slice_get, slice_get-in}
-use Rattle.q_prop.proofs.Placing.{put-vacant, put-cases, put-here, put-other}
+use Rattle.q_prop.proofs.Placing.{put-cases, put-here, put-other}
 
 apart : (k l : Literal) → k ≢ l → pack k ≢ pack l
 apart k l d e = d (pack-apart k l e)

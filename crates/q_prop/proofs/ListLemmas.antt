@@ -1,10 +1,9 @@
 -- Lists behind vectors.
-use Rattle.std.proofs.Common.{◌≡◌, ◌≢◌, ◌⊎◌, ◌↔◌, ℕ, zero, suc, ◌+◌, ◌<◌, ◌≤◌, Bool, true, false, not, ◌==◌, cond, List, [], ◌∷◌, ◌++◌, Some, Contains, filter, map, set, length, get_or, slice_get, refl, sym, ◌∙◌, ap, inl, inr, arith, Result, Ok, Err, OnErr}
-use Rattle.q_prop.specs.Lists.{list_at, IsAppended, IsDistinct, IsLost, IsTakenOut, AreSameLists}
+use Rattle.std.proofs.Common.{◌≡◌, ℕ, zero, suc, ◌<◌, Bool, true, false, not, ◌==◌, cond, List, [], ◌∷◌, ◌++◌, Contains, filter, map, set, length, get_or, refl, sym, ◌∙◌, ap, inl, inr, arith, Result, Ok, Err, OnErr}
+use Rattle.q_prop.specs.Lists.{IsAppended, IsDistinct, IsLost, IsTakenOut, AreSameLists}
 use Rattle.q_prop.proofs.Literals.{ℕ-cases}
 use Rattle.q_prop.proofs.Lost.{lost_filtered}
 use Rattle.q_prop.proofs.SlotLemmas.{Contains-slice_get, slice_get-Contains, slice_get-push_cases}
-use Rattle.q_prop.proofs.Members.{Contains-nil}
 use Rattle.q_prop.proofs.RowLemmas.{row_map, row_set_here, row_set_other, row_more}
 
 module _ {A : Type 0} (f : A → List ℕ) where

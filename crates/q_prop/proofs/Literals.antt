@@ -1,5 +1,5 @@
 -- Literals: negation and equality.
-use Rattle.std.proofs.Common.{◌≡◌, ◌≢◌, ◌⊎◌, ℕ, ◌<◌, ◌≤◌, Bool, true, false, not, refl, sym, ◌∙◌, ap, ap₂, subst, inl, inr, arith, ◌&&◌, eqb, eqb-true, eq-eqb, true≢false}
+use Rattle.std.proofs.Common.{◌≡◌, ◌≢◌, ◌⊎◌, ℕ, Bool, true, false, not, refl, ap, ap₂, inl, inr, arith}
 use Rattle.q_logic.specs.Literals.{Literal, negation}
 
 not_not : (b : Bool) → not (not b) ≡ b

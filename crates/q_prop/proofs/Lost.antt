@@ -1,5 +1,5 @@
 -- A list that has lost a number.
-use Rattle.std.proofs.Common.{◌≡◌, ◌≢◌, ◌⊎◌, ◌↔◌, ℕ, Bool, true, false, not, ◌==◌, cond, List, [], ◌∷◌, Contains, filter, refl, sym, ◌∙◌, inl, inr, arith}
+use Rattle.std.proofs.Common.{◌≡◌, ◌≢◌, ◌↔◌, ℕ, Bool, true, false, not, ◌==◌, cond, List, [], ◌∷◌, Contains, filter, refl, sym, ◌∙◌, inl, inr, arith}
 use Rattle.q_prop.proofs.Members.{Contains-here, Contains-there, Contains-nil, Contains-cons_cases, Contains-along}
 
 abbrev keep : ℕ → ℕ → Bool

@@ -1,5 +1,5 @@
 -- Marks after a push.
-use Rattle.std.proofs.Common.{◌≡◌, ◌≢◌, ◌⊎◌, ◌↔◌, ℕ, zero, suc, suc-le-suc, zero-le, ◌+◌, ◌*◌, ◌<◌, ◌≤◌, Bool, true, false, cond, List, [], ◌∷◌, ◌++◌, Contains, length, get_or, set, slice_get, take, Some, ◌-◌, replicate, refl, sym, ◌∙◌, ap, subst, inl, inr, arith, true≢false, get_or-set_same, get_or-set_other}
+use Rattle.std.proofs.Common.{◌≡◌, ℕ, zero, suc, suc-le-suc, zero-le, ◌+◌, ◌<◌, Bool, true, false, List, [], ◌∷◌, ◌++◌, Contains, length, get_or, set, slice_get, take, Some, sym, ◌∙◌, ap, inl, inr, arith, true≢false, get_or-set_same, get_or-set_other}
 use Rattle.q_prop.proofs.Literals.{ℕ-cases}
 use Rattle.std.proofs.lemmas.List.Elements.{Contains-append_left, Contains-push, Contains-push_cases}
 use Rattle.std.proofs.lemmas.Bool.Decides.{nat_tests}

@@ -1,13 +1,13 @@
 -- The clauses of a store in one row of literals.
-use Rattle.std.proofs.Common.{◌≡◌, ◌≢◌, ◌⊎◌, ℕ, zero, suc, ◌+◌, ◌-◌, ◌<◌, ◌≤◌, List, [], ◌∷◌, ◌++◌, Option, None, Some, slice_get, slice_range, set, map, take, drop, length, length-append, refl, sym, ◌∙◌, ap, inl, inr, arith, zero-le, suc-le-suc, le_of_suc-le-suc, not-suc-le-zero, append-nil}
+use Rattle.std.proofs.Common.{◌≡◌, ℕ, zero, suc, ◌+◌, ◌-◌, ◌≤◌, List, [], ◌∷◌, ◌++◌, None, Some, slice_get, slice_range, set, map, take, drop, length, length-append, refl, sym, ◌∙◌, ap, inl, inr, arith, le_of_suc-le-suc, not-suc-le-zero, append-nil}
 use Rattle.q_logic.specs.Literals.{Literal}
 use Rattle.q_logic.specs.Formulas.{Clause}
-use Rattle.q_prop.specs.Slots.{Slots, Holds, IsPut, IsVacant, IsPlaced}
+use Rattle.q_prop.specs.Slots.{Holds, IsPut, IsVacant, IsPlaced}
 use Rattle.q_prop.specs.declared.clauses.Piece.{Piece}
 use Rattle.q_prop.specs.declared.clauses.Piece.TheVariants.{Empty, Filled}
 use Rattle.q_prop.specs.Pieces.{clause_of, AreWithin, IsBounds, IsCarried}
 use Rattle.q_prop.proofs.Literals.{ℕ-cases}
-use Rattle.q_prop.proofs.SlotLemmas.{slice_get-in, slice_get-push_cases, slice_get-set_here, slice_get-set_other, map_set, take-front}
+use Rattle.q_prop.proofs.SlotLemmas.{slice_get-push_cases, slice_get-set_here, slice_get-set_other, map_set, take-front}
 use Rattle.q_prop.proofs.Placing.{placed-cases}
 
 none_some : (c : Clause) → None ≡ Some c → ⊥

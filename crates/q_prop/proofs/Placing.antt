@@ -1,8 +1,8 @@
 -- Items put at places.
-use Rattle.std.proofs.Common.{◌≡◌, ◌≢◌, ◌⊎◌, ℕ, zero, suc, ◌+◌, ◌<◌, ◌≤◌, List, [], ◌∷◌, ◌++◌, Option, None, Some, slice_get, set, length, length-append, refl, sym, ◌∙◌, ap, inl, inr, arith}
+use Rattle.std.proofs.Common.{◌≡◌, ◌≢◌, ◌⊎◌, ℕ, ◌<◌, ◌≤◌, List, [], ◌∷◌, None, Some, slice_get, length, length-append, sym, ◌∙◌, inl, inr, arith}
 use Rattle.std.proofs.lemmas.List.{length-set}
 use Rattle.q_logic.specs.Formulas.{Clause}
-use Rattle.q_prop.specs.Slots.{Slots, Holds, IsPut, IsPlaced, IsVacant}
+use Rattle.q_prop.specs.Slots.{Slots, Holds, IsPut, IsPlaced}
 use Rattle.q_prop.proofs.Literals.{ℕ-cases}
 use Rattle.q_prop.proofs.SlotLemmas.{slice_get-in, slice_get-append, slice_get-end, slice_get-push_cases, slice_get-set_same, slice_get-set_other, slice_get-set_here, slice_get-there}
 

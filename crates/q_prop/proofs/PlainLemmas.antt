@@ -1,8 +1,8 @@
 -- The plain search over slots.
-use Rattle.std.proofs.Common.{◌≡◌, ◌⊎◌, ℕ, ◌+◌, ◌<◌, ◌≤◌, List, Option, None, Some, Contains, length, sym, ◌∙◌, inl, inr, arith, subst}
+use Rattle.std.proofs.Common.{◌≡◌, ℕ, ◌+◌, ◌<◌, ◌≤◌, List, Option, Some, Contains, length, inl, inr, arith, subst}
 use Rattle.q_logic.specs.Literals.{Literal, negation}
 use Rattle.q_logic.specs.Formulas.{Clause}
-use Rattle.q_prop.specs.Chains.{IsForced, IsUnit, HasFalsified, IsFalsified}
+use Rattle.q_prop.specs.Chains.{IsForced, HasFalsified}
 use Rattle.q_prop.specs.Slots.{Slots, Holds, without, filled}
 use Rattle.q_prop.specs.Search.{IsSettled, AllSettled}
 use Rattle.q_prop.specs.Plain.{IsAt}

@@ -1,10 +1,10 @@
 -- A clause put into a slot, and the root after that.
-use Rattle.std.proofs.Common.{◌≡◌, ◌≢◌, ◌⊎◌, ℕ, zero, suc, ◌+◌, ◌<◌, ◌≤◌, List, [], ◌∷◌, ◌++◌, Option, None, Some, Contains, slice_get, set, take, length, refl, sym, ◌∙◌, ap, inl, inr, arith, append_assoc, append-nil, take_all, not-suc-le-zero, length-append, subst}
-use Rattle.std.proofs.lemmas.List.Elements.{Contains-append_left, Contains-append_right, Contains-push, Contains-push_cases}
+use Rattle.std.proofs.Common.{◌≡◌, ◌≢◌, ℕ, ◌<◌, ◌≤◌, List, [], ◌∷◌, ◌++◌, Option, None, Some, Contains, take, length, sym, ◌∙◌, inl, inr, arith, length-append, subst}
+use Rattle.std.proofs.lemmas.List.Elements.{Contains-append_left, Contains-push, Contains-push_cases}
 use Rattle.q_logic.specs.Literals.{Literal, negation}
-use Rattle.q_logic.specs.Formulas.{Clause, Matrix}
-use Rattle.q_prop.specs.Chains.{IsUnit, IsFalsified, IsForced, IsChain, HasOpposites, HasFalsified}
-use Rattle.q_prop.proofs.Members.{Contains-along, Contains-nil, Contains-take}
+use Rattle.q_logic.specs.Formulas.{Clause}
+use Rattle.q_prop.specs.Chains.{IsUnit, IsChain, HasOpposites}
+use Rattle.q_prop.proofs.Members.{Contains-take}
 use Rattle.q_prop.proofs.Fixpoint.{no_opposites-push}
 use Rattle.q_prop.specs.declared.watches.Pair.{Pair}
 use Rattle.q_prop.specs.Slots.{Slots, Holds, filled, IsPut, IsPlaced}
@@ -12,11 +12,11 @@ use Rattle.q_prop.specs.Watches.{IsWatched, AllWatched, IsShort}
 use Rattle.q_prop.specs.Rows.{row_of, IsFrom, IsPushed}
 use Rattle.q_prop.proofs.RowLemmas.{IsPushed-in, IsFrom-end}
 use Rattle.q_prop.specs.Working.{IsCovered, AreListed, AreTrue, IsRooted, AreStanding}
-use Rattle.q_prop.proofs.SlotLemmas.{filled-in, filled-cases, slice_get-in, slice_get-push_cases, take-front, Contains-slice_get}
+use Rattle.q_prop.proofs.SlotLemmas.{filled-in, filled-cases, slice_get-push_cases, take-front, Contains-slice_get}
 use Rattle.q_prop.proofs.WatchLemmas.{IsWithin, IsWatched-none, IsWatched-more, IsWatched-less}
 use Rattle.q_prop.proofs.Settling.{IsChain-over, IsChain-append, AreTrue-more}
 use Rattle.q_prop.proofs.Rooting.{covered_pushed}
-use Rattle.q_prop.proofs.Placing.{placed-cases, placed-other, placed-here, placed-longer, placed-within, placed-same_length, put-placed, put-vacant, put-cases, put-here, put-other}
+use Rattle.q_prop.proofs.Placing.{placed-cases, placed-longer, placed-within, placed-same_length, put-placed, put-vacant, put-cases, put-here, put-other}
 
 -- the new pair stands in its two rows
 pub covered_put : (pairs pairs' : List (Option Pair)) (rows rows1 rows2 : List (List ℕ)) (p : Pair) (n : ℕ) → IsPlaced pairs n (Some p) pairs' → IsPushed rows rows1 p.first n → IsPushed rows1 rows2 p.second n → IsCovered pairs rows → IsCovered pairs' rows2

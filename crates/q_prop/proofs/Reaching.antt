@@ -1,20 +1,19 @@
 -- From one literal to the next, and to the end.
-use Rattle.std.proofs.Common.{◌≡◌, ◌≢◌, ◌⊎◌, ℕ, zero, suc, ◌+◌, ◌<◌, ◌≤◌, List, [], ◌∷◌, ◌++◌, Option, None, Some, Contains, slice_get, take, drop, get_or, length, refl, sym, ◌∙◌, ap, inl, inr, arith, append_assoc, append-nil, length-append, take_all, zero-le, suc-le-suc, le_of_suc-le-suc, not-suc-le-zero, add-one}
+use Rattle.std.proofs.Common.{◌≡◌, ◌⊎◌, ℕ, suc, ◌+◌, ◌≤◌, List, [], ◌∷◌, ◌++◌, Option, None, Some, slice_get, take, length, refl, sym, ◌∙◌, ap, inl, inr, arith, append_assoc, append-nil, length-append, add-one}
 use Rattle.q_logic.specs.Literals.{Literal, negation}
 use Rattle.q_logic.specs.Formulas.{Clause, Matrix}
-use Rattle.q_prop.specs.Chains.{IsForced, HasOpposites}
-use Rattle.q_prop.proofs.Members.{Contains-nil}
+use Rattle.q_prop.specs.Chains.{HasOpposites}
 use Rattle.q_prop.proofs.Literals.{Literal-cases}
 use Rattle.q_prop.specs.Search.{IsSearch, IsSettled, AllSettled}
 use Rattle.std.proofs.lemmas.List.Elements.{Contains-append_left}
 use Rattle.q_prop.proofs.Missing.{missing, missing-lt}
 use Rattle.q_prop.proofs.Fixpoint.{IsSearch-push}
 use Rattle.q_prop.specs.declared.watches.Pair.{Pair}
-use Rattle.q_prop.specs.Watches.{IsWatched, AllWatched, IsSingle, IsShort}
+use Rattle.q_prop.specs.Watches.{IsWatched, AllWatched}
 use Rattle.q_prop.specs.Slots.{Slots, Holds, filled}
 use Rattle.q_prop.specs.Rows.{row_of, IsFrom}
-use Rattle.q_prop.specs.Working.{IsCovered, IsWorking, IsGrown, IsNew, AreNew, IsReached, IsReady, IsKept, AreListed, AreTrue}
-use Rattle.q_prop.proofs.WatchLemmas.{IsWithin, IsWatched-apart, IsWatched-settled, IsSingle-settled, IsWatched-less}
+use Rattle.q_prop.specs.Working.{IsWorking, IsGrown, IsNew, AreNew, IsReached, IsReady, IsKept, AreListed, AreTrue}
+use Rattle.q_prop.proofs.WatchLemmas.{IsWithin, IsWatched-apart, IsWatched-settled, IsSingle-settled}
 use Rattle.q_prop.proofs.SlotLemmas.{take-slice_get, slice_get-in, slice_get-there, filled-cases, slice_get-Contains}
 
 AreNew-push : (x : Matrix) (known added : List Literal) (l : Literal) → AreNew x known added → IsNew x (known ++ added) l → AreNew x known (added ++ l ∷ [])

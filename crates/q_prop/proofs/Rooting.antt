@@ -1,24 +1,22 @@
 -- The root between calls: what a call, a deletion and an addition leave of it.
-use Rattle.std.proofs.Common.{◌≡◌, ◌≢◌, ◌⊎◌, ◌↔◌, ℕ, zero, suc, ◌+◌, ◌<◌, ◌≤◌, List, [], ◌∷◌, ◌++◌, Option, None, Some, Contains, slice_get, set, take, length, refl, sym, ◌∙◌, ap, inl, inr, arith, append_assoc, append-nil, take_all, not-suc-le-zero, subst}
-use Rattle.std.proofs.lemmas.List.Elements.{Contains-append_left, Contains-append_right, Contains-push, Contains-push_cases}
+use Rattle.std.proofs.Common.{◌≡◌, ◌≢◌, ◌↔◌, ℕ, List, [], ◌∷◌, ◌++◌, Option, None, Some, Contains, set, take, length, refl, sym, ◌∙◌, inl, inr, arith, append_assoc, take_all, not-suc-le-zero, subst}
+use Rattle.std.proofs.lemmas.List.Elements.{Contains-append_left}
 use Rattle.std.proofs.lemmas.List.{length-set}
-use Rattle.std.proofs.Common.{length-append}
 use Rattle.q_logic.specs.Literals.{Literal, negation}
-use Rattle.q_logic.specs.Formulas.{Clause, Matrix}
-use Rattle.q_prop.specs.Chains.{IsUnit, IsFalsified, IsForced, IsChain, HasOpposites, HasFalsified}
-use Rattle.q_prop.proofs.Members.{Contains-along, Contains-nil, Contains-take}
-use Rattle.q_prop.proofs.Fixpoint.{no_opposites-push}
-use Rattle.q_prop.proofs.Literals.{negation-negation, Literal-cases, ℕ-cases}
+use Rattle.q_logic.specs.Formulas.{Clause}
+use Rattle.q_prop.specs.Chains.{IsUnit, IsChain, HasOpposites, HasFalsified}
+use Rattle.q_prop.proofs.Members.{Contains-nil}
+use Rattle.q_prop.proofs.Literals.{Literal-cases, ℕ-cases}
 use Rattle.q_prop.specs.Search.{IsOpen}
 use Rattle.q_prop.specs.declared.watches.Pair.{Pair}
 use Rattle.q_prop.specs.Slots.{Slots, Holds, filled, without}
-use Rattle.q_prop.specs.Watches.{IsWatched, AllWatched, IsShort, IsSingle}
-use Rattle.q_prop.specs.Rows.{row_of, IsFrom, IsPushed}
-use Rattle.q_prop.proofs.RowLemmas.{IsPushed-in, IsFrom-end}
-use Rattle.q_prop.specs.Working.{IsCovered, IsReady, IsKept, AreListed, AreTrue, IsRooted, AreStanding}
-use Rattle.q_prop.proofs.SlotLemmas.{filled-in, filled-cases, without-le, without-here, without-other, slice_get-set_other, slice_get-set_here, slice_get-push_cases, slice_get-append, slice_get-in, take-front, Contains-slice_get, slice_get-Contains, slice_get-end}
-use Rattle.q_prop.proofs.WatchLemmas.{IsWithin, IsWatched-none, IsWatched-more, IsWatched-less}
-use Rattle.q_prop.proofs.Settling.{IsChain-over, IsChain-append, AreListed-kept, AreTrue-more}
+use Rattle.q_prop.specs.Watches.{AllWatched}
+use Rattle.q_prop.specs.Rows.{IsPushed}
+use Rattle.q_prop.proofs.RowLemmas.{IsPushed-in}
+use Rattle.q_prop.specs.Working.{IsCovered, IsKept, AreListed, IsRooted, AreStanding}
+use Rattle.q_prop.proofs.SlotLemmas.{filled-in, filled-cases, without-le, without-here, without-other, slice_get-set_other, slice_get-set_here}
+use Rattle.q_prop.proofs.WatchLemmas.{IsWithin, IsWatched-none}
+use Rattle.q_prop.proofs.Settling.{IsChain-over, AreListed-kept}
 
 pub none_watched : (done known : List Literal) (s : Slots) (pairs : List (Option Pair)) → AllWatched done known s pairs → AllWatched [] [] s pairs
 none_watched done known s pairs w b c p e f = IsWatched-none done known [] c p (w b c p e f)

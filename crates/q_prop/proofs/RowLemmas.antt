@@ -1,5 +1,5 @@
 -- Rows behind vectors.
-use Rattle.std.proofs.Common.{◌≡◌, ◌≢◌, ℕ, zero, suc, ◌+◌, ◌-◌, ◌⊎◌, inl, inr, arith, take, ◌<◌, ◌≤◌, List, [], ◌∷◌, ◌++◌, Some, map, set, length, get_or, slice_get, refl, sym, ◌∙◌, ap, le_of_suc-le-suc, not-suc-le-zero, suc-le-suc, zero-le}
+use Rattle.std.proofs.Common.{◌≡◌, ◌≢◌, ℕ, zero, suc, ◌+◌, ◌-◌, ◌⊎◌, inl, inr, arith, ◌<◌, ◌≤◌, List, [], ◌∷◌, ◌++◌, Some, map, set, length, get_or, slice_get, refl, sym, ◌∙◌, ap, le_of_suc-le-suc, not-suc-le-zero, suc-le-suc, zero-le}
 use Rattle.q_logic.specs.Literals.{Literal}
 use Rattle.q_logic.specs.Literals.{pack}
 use Rattle.std.specs.List.{swap_remove}

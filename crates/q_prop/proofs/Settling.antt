@@ -1,23 +1,23 @@
 -- The root, and what is asked above it.
-use Rattle.std.proofs.Common.{◌≡◌, ◌≢◌, ◌⊎◌, ◌↔◌, ℕ, zero, suc, ◌+◌, ◌<◌, ◌≤◌, Bool, true, false, List, [], ◌∷◌, ◌++◌, Option, None, Some, Contains, slice_get, take, map, get_or, length, refl, sym, ◌∙◌, ap, inl, inr, arith, append_assoc, append-nil, take_all, Result, Ok, Err, IfOk, MatchBool, IsTrue, add-one}
+use Rattle.std.proofs.Common.{◌≡◌, ◌↔◌, ℕ, ◌+◌, ◌<◌, ◌≤◌, Bool, true, false, List, [], ◌∷◌, ◌++◌, Option, None, Some, Contains, slice_get, take, map, get_or, length, refl, sym, ◌∙◌, ap, inl, inr, arith, append_assoc, append-nil, take_all, Result, Ok, Err, IfOk, MatchBool, IsTrue}
 use Rattle.std.proofs.lemmas.List.Elements.{Contains-append_left, Contains-append_right, Contains-append_cases, Contains-push, Contains-push_cases}
 use Rattle.std.proofs.lemmas.List.{take_more}
 use Rattle.q_logic.specs.Literals.{Literal, negation}
 use Rattle.q_logic.specs.Formulas.{Clause, Matrix}
 use Rattle.q_logic.specs.Propagation.{Implied}
 use Rattle.q_prop.proofs.Definition.{is_implied, implied_of}
-use Rattle.q_prop.specs.Chains.{IsUnit, IsFalsified, IsForced, IsChain, HasOpposites, HasFalsified, IsConflict, IsImplied}
+use Rattle.q_prop.specs.Chains.{IsChain, HasOpposites, HasFalsified, IsImplied}
 use Rattle.q_prop.proofs.Members.{Contains-along, Contains-nil, Contains-take, Contains-map, Contains-map_cases}
-use Rattle.q_prop.proofs.Literals.{negation-negation, Literal-cases, ℕ-cases}
-use Rattle.q_prop.specs.Search.{IsSettled, AllSettled, IsOpen}
+use Rattle.q_prop.proofs.Literals.{negation-negation, ℕ-cases}
+use Rattle.q_prop.specs.Search.{AllSettled}
 use Rattle.q_prop.proofs.Fixpoint.{no_opposites-push}
 use Rattle.q_prop.specs.declared.watches.Pair.{Pair}
-use Rattle.q_prop.specs.Slots.{Slots, Holds, filled, without}
-use Rattle.q_prop.specs.Watches.{IsWatched, AllWatched, IsShort, IsSingle}
-use Rattle.q_prop.specs.Working.{IsCovered, IsNew, IsGrown, AreNew, IsReached, IsReady, IsKept, AreListed, AreTrue, IsRooted, IsLonger, Clashes, IsAssumed}
-use Rattle.q_prop.proofs.SlotLemmas.{filled-in, filled-cases, without-le, without-here, without-other, slice_get-in, slice_get-Contains, Contains-slice_get, same_slice_get, take-front}
-use Rattle.q_prop.proofs.WatchLemmas.{IsWithin, IsWatched-none, IsWatched-more}
-use Rattle.q_prop.proofs.Reaching.{IsReached-within, IsReached-grown, IsReached-refl, IsKept-refl, IsKept-trans, settled_store}
+use Rattle.q_prop.specs.Slots.{Slots, Holds, filled}
+use Rattle.q_prop.specs.Watches.{IsShort, IsSingle}
+use Rattle.q_prop.specs.Working.{IsNew, AreNew, IsReached, IsReady, IsKept, AreListed, AreTrue, IsLonger, Clashes, IsAssumed}
+use Rattle.q_prop.proofs.SlotLemmas.{filled-in, same_slice_get, take-front}
+use Rattle.q_prop.proofs.WatchLemmas.{IsWithin, IsWatched-more}
+use Rattle.q_prop.proofs.Reaching.{IsReached-within, IsKept-refl, IsKept-trans, settled_store}
 
 module _ (s : Slots) (at' : ℕ) (c : Clause) (l : Literal) (known : List Literal) (holds : Holds s at' c) (short : IsShort c) (in' : Contains c l) where
   pub single_falsified : Contains known (negation l) → HasFalsified (filled s) known

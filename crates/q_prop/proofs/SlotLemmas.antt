@@ -1,7 +1,6 @@
 -- Lists by places, and slots.
-use Rattle.std.proofs.Common.{◌≡◌, ◌≢◌, ◌⊎◌, ℕ, zero, suc, ◌+◌, ◌-◌, ◌<◌, ◌≤◌, List, [], ◌∷◌, ◌++◌, Option, None, Some, Contains, slice_get, take, drop, set, get_or, map, Result, Ok, Err, OnErr, length, refl, sym, ◌∙◌, ap, inl, inr, arith, zero-le, suc-le-suc, le_of_suc-le-suc, not-suc-le-zero}
-use Rattle.q_logic.specs.Literals.{Literal}
-use Rattle.q_logic.specs.Formulas.{Clause, Matrix}
+use Rattle.std.proofs.Common.{◌≡◌, ◌≢◌, ◌⊎◌, ℕ, zero, suc, ◌<◌, ◌≤◌, List, [], ◌∷◌, ◌++◌, Option, None, Some, Contains, slice_get, take, set, get_or, map, Result, Ok, Err, OnErr, length, refl, sym, ◌∙◌, ap, inl, inr, zero-le, suc-le-suc, le_of_suc-le-suc, not-suc-le-zero}
+use Rattle.q_logic.specs.Formulas.{Clause}
 use Rattle.q_prop.proofs.Members.{Contains-here, Contains-there, Contains-nil, Contains-cons_cases, Contains-along}
 use Rattle.q_prop.proofs.Literals.{ℕ-cases}
 use Rattle.q_prop.specs.Slots.{Slots, filled, without, Holds}

@@ -1,9 +1,8 @@
 -- What the literals of a clause seen so far are, one literal later.
-use Rattle.std.proofs.Common.{◌≡◌, ◌≢◌, ◌⊎◌, ℕ, zero, suc, ◌+◌, take, slice_get, add-one, List, [], ◌∷◌, ◌++◌, map, Contains, Some, None, Bool, true, false, not, Option, IsTrue, ◌↔◌, true≢false, refl, sym, ◌∙◌, ap, inl, inr}
+use Rattle.std.proofs.Common.{◌≡◌, ◌≢◌, ◌⊎◌, ℕ, zero, suc, ◌+◌, take, slice_get, add-one, List, [], ◌∷◌, ◌++◌, Contains, Some, None, Bool, false, Option, IsTrue, ◌↔◌, true≢false, sym, ◌∙◌, inl, inr}
 use Rattle.std.proofs.lemmas.List.Elements.{Contains-append_left, Contains-push, Contains-push_cases}
 use Rattle.q_logic.specs.Literals.{Literal, negation}
 use Rattle.q_logic.specs.Formulas.{Clause, Matrix}
-use Rattle.q_prop.specs.Chains.{IsFalsified, IsUnit}
 use Rattle.q_prop.proofs.Members.{Contains-along, Contains-here, Contains-there, Contains-nil, Contains-cons_cases}
 use Rattle.q_prop.proofs.Literals.{Literal-cases}
 use Rattle.q_prop.specs.Search.{IsLeft, IsOpen, IsSettled, AllSettled}

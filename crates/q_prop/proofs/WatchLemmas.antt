@@ -1,9 +1,9 @@
 -- Watched literals: what a visit keeps, and what they say at the end.
-use Rattle.std.proofs.Common.{◌≡◌, ◌≢◌, ◌⊎◌, ℕ, List, [], ◌∷◌, ◌++◌, Option, None, Some, Contains, refl, sym, ◌∙◌, ap, ap₂, subst, inl, inr}
-use Rattle.std.proofs.lemmas.List.Elements.{Contains-append_left, Contains-push, Contains-push_cases}
+use Rattle.std.proofs.Common.{◌≡◌, ◌≢◌, List, [], ◌∷◌, ◌++◌, Some, Contains, sym, ◌∙◌, ap, ap₂, subst, inl, inr}
+use Rattle.std.proofs.lemmas.List.Elements.{Contains-push, Contains-push_cases}
 use Rattle.q_logic.specs.Literals.{Literal, negation}
-use Rattle.q_logic.specs.Formulas.{Clause, Matrix}
-use Rattle.q_prop.specs.Chains.{IsUnit, IsFalsified, HasOpposites}
+use Rattle.q_logic.specs.Formulas.{Clause}
+use Rattle.q_prop.specs.Chains.{HasOpposites}
 use Rattle.q_prop.proofs.Members.{Contains-along, Contains-nil}
 use Rattle.q_prop.proofs.Literals.{negation-negation, Literal-cases}
 use Rattle.q_prop.specs.Search.{IsSettled}

@@ -1,20 +1,20 @@
 -- A visit goes one place on in the row.
-use Rattle.std.proofs.Common.{◌≡◌, ◌≢◌, ◌⊎◌, ℕ, zero, suc, ◌+◌, ◌<◌, ◌≤◌, List, [], ◌∷◌, ◌++◌, Option, None, Some, Contains, slice_get, take, set, length, refl, sym, ◌∙◌, ap, subst, inl, inr, arith, le_of_lt}
-use Rattle.std.proofs.lemmas.List.Elements.{Contains-append_left, Contains-push, Contains-push_cases}
+use Rattle.std.proofs.Common.{◌≡◌, ◌≢◌, ℕ, suc, ◌+◌, List, [], ◌∷◌, ◌++◌, Option, None, Some, Contains, slice_get, take, set, length, refl, sym, ◌∙◌, ap, inl, inr, arith, le_of_lt}
+use Rattle.std.proofs.lemmas.List.Elements.{Contains-append_left, Contains-push}
 use Rattle.std.proofs.lemmas.List.{length-set}
 use Rattle.q_logic.specs.Literals.{Literal, negation}
-use Rattle.q_logic.specs.Formulas.{Clause, Matrix}
-use Rattle.q_prop.specs.Chains.{IsUnit, IsFalsified, IsForced, HasOpposites, HasFalsified}
+use Rattle.q_logic.specs.Formulas.{Clause}
+use Rattle.q_prop.specs.Chains.{IsUnit, IsForced, HasOpposites, HasFalsified}
 use Rattle.q_prop.proofs.Members.{Contains-along, Contains-take}
 use Rattle.q_prop.proofs.Literals.{negation-negation, Literal-cases, ℕ-cases}
 use Rattle.q_prop.specs.declared.watches.Pair.{Pair}
-use Rattle.q_prop.specs.Slots.{Slots, Holds, filled, without}
-use Rattle.q_prop.specs.Watches.{IsWatched, AllWatched}
+use Rattle.q_prop.specs.Slots.{Slots, Holds, filled}
+use Rattle.q_prop.specs.Watches.{IsWatched}
 use Rattle.q_prop.specs.Rows.{row_of, IsFrom, IsPushed, IsRemoved}
 use Rattle.q_prop.specs.Working.{IsCovered, IsWorking, IsOther, IsKept, WatchesNot}
-use Rattle.q_prop.proofs.SlotLemmas.{slice_get-in, slice_get-append, take-slice_get, take-front, same_slice_get, slice_get-set_same, slice_get-set_other, Contains-slice_get, filled-in, without-le}
+use Rattle.q_prop.proofs.SlotLemmas.{slice_get-in, slice_get-append, take-slice_get, take-front, same_slice_get, slice_get-set_same, slice_get-set_other, Contains-slice_get, filled-in}
 use Rattle.q_prop.proofs.RowLemmas.{IsPushed-in, IsRemoved-in, IsFrom-end}
-use Rattle.q_prop.proofs.WatchLemmas.{IsWithin, IsWatched-more, IsWatched-swap, IsWatched-apart, IsWatched-keep, IsWatched-move, IsWatched-less, IsWatched-floor, pair_of, IsOther-to, IsOther-from}
+use Rattle.q_prop.proofs.WatchLemmas.{IsWithin, IsWatched-more, IsWatched-apart, IsWatched-keep, IsWatched-move, IsWatched-less, IsWatched-floor, pair_of, IsOther-to, IsOther-from}
 use Rattle.q_prop.proofs.Fixpoint.{no_opposites-push}
 
 -- what is unvisited stays so, but for the place that is visited

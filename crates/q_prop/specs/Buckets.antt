@@ -1,6 +1,6 @@
 -- Slots by a hash of their clauses.
-use Rattle.std.specs.Prelude.{◌≡◌, ℕ, ◌+◌, ◌*◌, ◌/◌, ◌%◌, ◌^◌, List, [], ◌∷◌, Contains}
-use Rattle.q_logic.specs.Literals.{Literal, pack}
+use Rattle.std.specs.Prelude.{ℕ, ◌+◌, ◌*◌, ◌/◌, ◌%◌, ◌^◌, List, [], ◌∷◌, Contains}
+use Rattle.q_logic.specs.Literals.{pack}
 use Rattle.q_logic.specs.Formulas.{Clause}
 use Rattle.q_prop.specs.Slots.{Slots, Holds}
 use Rattle.q_prop.specs.Lists.{list_at}

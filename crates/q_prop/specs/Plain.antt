@@ -1,5 +1,5 @@
 -- What the parts of the plain search for a conflict answer.
-use Rattle.std.specs.Prelude.{◌≡◌, ℕ, List, Contains}
+use Rattle.std.specs.Prelude.{ℕ, List, Contains}
 use Rattle.q_logic.specs.Literals.{Literal, negation}
 use Rattle.q_logic.specs.Formulas.{Clause}
 use Rattle.q_prop.specs.Slots.{Slots, Holds, filled}

@@ -1,8 +1,8 @@
 -- What the parts of the search for a conflict answer.
-use Rattle.std.specs.Prelude.{◌≡◌, ◌≢◌, ◌++◌, List, Option, None, Some, map, Contains}
+use Rattle.std.specs.Prelude.{◌≡◌, ◌≢◌, ◌++◌, List, Option, None, Some, Contains}
 use Rattle.q_logic.specs.Literals.{Literal, negation}
 use Rattle.q_logic.specs.Formulas.{Clause, Matrix}
-use Rattle.q_prop.specs.Chains.{IsFalsified, IsUnit, IsForced, IsChain, HasOpposites, HasFalsified}
+use Rattle.q_prop.specs.Chains.{IsFalsified, IsUnit, IsChain, HasOpposites}
 
 -- two literals of the clause are not false
 pub record IsOpen (known : List Literal) (c : Clause) : Type 0 where

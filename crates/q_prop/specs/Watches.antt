@@ -1,8 +1,8 @@
 -- Watched literals.
-use Rattle.std.specs.Prelude.{◌≡◌, ◌≢◌, ℕ, List, [], Option, None, Some, Contains, slice_get}
+use Rattle.std.specs.Prelude.{◌≡◌, ◌≢◌, ℕ, List, [], Option, Some, Contains, slice_get}
 use Rattle.q_logic.specs.Literals.{Literal, negation}
-use Rattle.q_logic.specs.Formulas.{Clause, Matrix}
-use Rattle.q_prop.specs.Chains.{IsUnit, IsFalsified}
+use Rattle.q_logic.specs.Formulas.{Clause}
+use Rattle.q_prop.specs.Chains.{IsUnit}
 use Rattle.q_prop.specs.Slots.{Slots, Holds}
 use Rattle.q_prop.specs.declared.watches.Pair.{Pair}
 use Rattle.q_prop.specs.declared.watches.Visit.{Visit}

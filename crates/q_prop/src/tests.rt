@@ -137,9 +137,16 @@ fn a_clause_stays_while_others_come_and_go(rt: HostRuntime) -> Result<(), NoMemo
     let mut lits = Vec::new(rt.alloc());
     let kept = put(&mut store, &mut lits, &[yes(1), yes(2), yes(3)])?;
     for number in 4..500 {
-        let slot = put(&mut store, &mut lits, &[yes(number), yes(number + 1).negated()])?;
+        let slot = put(
+            &mut store,
+            &mut lits,
+            &[yes(number), yes(number + 1).negated()],
+        )?;
         delete(&mut store, slot);
     }
-    assert_eq!(rt; (store.find(&[yes(1), yes(2), yes(3)]), store.slots()), (Some(kept), 2));
+    assert_eq!(rt;
+        (store.find(&[yes(1), yes(2), yes(3)]), store.slots()),
+        (Some(kept), 2)
+    );
     Ok(())
 }

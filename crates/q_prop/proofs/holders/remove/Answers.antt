@@ -1,4 +1,4 @@
-use Rattle.std.proofs.Common.{take, get_or, arith}
+use Rattle.std.proofs.Common.{take}
 use Rattle.std.proofs.lemmas.List.{take_more}
 use Rattle.q_prop.proofs.HolderLemmas.{freed-take}
 use Rattle.q_prop.proofs.holders.remove.Goals as goal

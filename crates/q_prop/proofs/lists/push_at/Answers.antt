@@ -1,4 +1,4 @@
-use Rattle.std.proofs.Common.{◌<◌, length, arith, sym, ap, ◌∷◌, [], ◌++◌, List, ℕ, ◌∙◌, Vec, Global}
+use Rattle.std.proofs.Common.{◌<◌, length, arith, ap, ◌∷◌, [], ◌++◌, List, ℕ, ◌∙◌, Vec, Global}
 use Rattle.q_prop.proofs.ListLemmas.{appended-set, same-set}
 use Rattle.q_prop.proofs.SlotLemmas.{on_err}
 use Rattle.q_prop.proofs.lists.push_at.Goals as goal

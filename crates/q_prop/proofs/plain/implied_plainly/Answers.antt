@@ -1,9 +1,9 @@
-use Rattle.std.proofs.Common.{◌≡◌, Bool, true, false, refl, sym, ◌∙◌, ◌∷◌, [], ◌++◌, map, Contains}
-use Rattle.q_logic.specs.Literals.{Literal, negation}
+use Rattle.std.proofs.Common.{refl, ◌∙◌, map}
+use Rattle.q_logic.specs.Literals.{negation}
 use Rattle.q_prop.specs.Slots.{filled, without}
 use Rattle.q_prop.proofs.Definition.{is_implied, implied_of}
-use Rattle.q_prop.proofs.Missing.{missing, missing-lt}
-use Rattle.q_prop.proofs.Fixpoint.{settled_not_implied, conflict_implied, opposites_implied, IsSearch-start, IsSearch-push}
+use Rattle.q_prop.proofs.Missing.{missing-lt}
+use Rattle.q_prop.proofs.Fixpoint.{settled_not_implied, conflict_implied, opposites_implied, IsSearch-push}
 use Rattle.q_prop.proofs.plain.implied_plainly.Goals as goal
 
 pub returns-then-has_opposites : goal.returns-then-has_opposites

@@ -1,4 +1,4 @@
-use Rattle.std.proofs.Common.{◌≡◌, ◌<◌, ◌≤◌, ℕ, Some, length, Contains, arith}
+use Rattle.std.proofs.Common.{Contains, arith}
 use Rattle.q_logic.specs.Formulas.{Clause}
 use Rattle.q_prop.specs.Slots.{Holds, without}
 use Rattle.q_prop.specs.Search.{IsSettled}

@@ -1,10 +1,8 @@
-use Rattle.std.proofs.Common.{◌≡◌, ◌≢◌, Bool, true, false, not, Some, None, List, [], ◌∷◌, ◌++◌, sym, refl, ap, ◌∙◌, take, take_all, get_or, length, Contains, arith}
+use Rattle.std.proofs.Common.{◌≡◌, sym, take, take_all, get_or, Contains}
 use Rattle.std.proofs.lemmas.List.{take_more}
 use Rattle.std.proofs.lemmas.List.Elements.{Contains-get_or}
-use Rattle.q_logic.specs.Literals.{Literal, negation}
 use Rattle.q_prop.proofs.Members.{Contains-along, Contains-take}
-use Rattle.q_prop.specs.Search.{IsLeft}
-use Rattle.q_prop.proofs.Statuses.{IsLeft-false_none, IsLeft-false_some, IsLeft-false, IsLeft-first, IsLeft-same, IsLeft-open, test_fails}
+use Rattle.q_prop.proofs.Statuses.{IsLeft-false, IsLeft-first, IsLeft-same, IsLeft-open, test_fails}
 use Rattle.q_prop.proofs.plain.status_of.Goals as goal
 use Rattle.q_prop.proofs.plain.status_of.Goals.{then-not-is_known+in-None, then-not-is_known+in-Some+else-not-is, else-not-is_known}
 

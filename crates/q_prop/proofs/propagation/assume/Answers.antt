@@ -1,4 +1,4 @@
-use Rattle.std.proofs.Common.{◌≡◌, ◌∷◌, [], ◌++◌, List, Contains, ap, ◌∙◌, sym}
+use Rattle.std.proofs.Common.{◌∷◌, [], ◌++◌, Contains, ap, ◌∙◌}
 use Rattle.q_logic.specs.Literals.{Literal, negation}
 use Rattle.q_prop.proofs.Statuses.{test_fails}
 use Rattle.q_prop.proofs.Settling.{assumed_clash, assumed_same, assumed_push, longer_push}

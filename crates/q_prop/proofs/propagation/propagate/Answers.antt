@@ -1,6 +1,6 @@
-use Rattle.std.proofs.Common.{◌≡◌, ◌<◌, ◌≤◌, ◌+◌, ◌-◌, length, arith, sym, ap, ◌∙◌, add-one, take_all}
+use Rattle.std.proofs.Common.{◌≡◌, ◌<◌, ◌≤◌, ◌+◌, ◌-◌, length, arith}
 use Rattle.q_prop.specs.Slots.{without, filled}
-use Rattle.q_prop.specs.Working.{IsWorking, IsReached, IsReady}
+use Rattle.q_prop.specs.Working.{IsReached}
 use Rattle.q_prop.proofs.Missing.{missing}
 use Rattle.q_prop.proofs.Reaching.{IsReached-refl, IsReached-trans, IsReached-budget, IsReached-longer, IsReached-within, IsKept-refl, IsKept-trans, IsReady-start}
 use Rattle.q_prop.proofs.propagation.propagate.Goals as goal

@@ -1,7 +1,7 @@
-use Rattle.std.proofs.Common.{◌≡◌, [], refl}
+use Rattle.std.proofs.Common.{[], refl}
 use Rattle.q_prop.specs.Slots.{without, filled}
-use Rattle.q_prop.proofs.Reaching.{IsReached-refl, IsKept-trans}
-use Rattle.q_prop.proofs.Settling.{reached_chain, reached_consistent, root_implied, IsKept-fewer}
+use Rattle.q_prop.proofs.Reaching.{IsKept-trans}
+use Rattle.q_prop.proofs.Settling.{reached_chain, reached_consistent, root_implied}
 use Rattle.q_prop.proofs.Rooting.{rooted_nothing}
 use Rattle.q_prop.proofs.Members.{Contains-nil}
 use Rattle.q_prop.proofs.propagation.query_anew.Goals as goal

@@ -1,6 +1,5 @@
-use Rattle.std.proofs.Common.{◌≡◌, ◌≤◌, length, refl, arith}
+use Rattle.std.proofs.Common.{length, refl, arith}
 use Rattle.q_prop.specs.Slots.{without, filled}
-use Rattle.q_prop.specs.Working.{IsReached, IsReady}
 use Rattle.q_prop.proofs.Settling.{clash_implied, falsified_implied, search_not_implied, AreListed-kept, ready_longer, longer_within, IsKept-fewer, finish}
 use Rattle.q_prop.proofs.propagation.search.Goals as goal
 

@@ -1,7 +1,6 @@
-use Rattle.std.proofs.Common.{◌≡◌, ◌≤◌, length, refl, arith}
+use Rattle.std.proofs.Common.{length, arith}
 use Rattle.q_prop.specs.Chains.{HasFalsified}
 use Rattle.q_prop.specs.Slots.{without, filled}
-use Rattle.q_prop.specs.Working.{IsReached, IsReady, IsRooted}
 use Rattle.q_prop.proofs.Reaching.{IsReached-trans, IsReached-within}
 use Rattle.q_prop.proofs.Settling.{reached_chain, reached_longer, reached_consistent, AreTrue-more, AreListed-kept, ready_longer, IsKept-fewer, if_ok_map}
 use Rattle.q_prop.proofs.propagation.settle.Goals as goal

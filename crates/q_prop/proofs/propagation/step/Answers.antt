@@ -1,8 +1,7 @@
-use Rattle.std.proofs.Common.{◌≡◌, ◌<◌, ◌≤◌, ◌+◌, ◌∷◌, [], ◌++◌, Some, length, Contains, vec_len, refl, sym, ◌∙◌, ap, inl, inr, arith}
+use Rattle.std.proofs.Common.{◌≡◌, ◌<◌, ◌+◌, Some, length, Contains, inr, arith}
 use Rattle.q_logic.specs.Literals.{negation}
-use Rattle.q_prop.specs.Slots.{without, filled}
-use Rattle.q_prop.specs.Rows.{row_of, IsRemoved, IsPushed}
-use Rattle.q_prop.specs.Working.{Watches, WatchesNot, IsWorking, IsGrown, IsNew}
+use Rattle.q_prop.specs.Slots.{without}
+use Rattle.q_prop.specs.Rows.{row_of}
 use Rattle.q_prop.proofs.SlotLemmas.{slice_get-in, without-le}
 use Rattle.q_prop.proofs.WorkingLemmas.{covered_stale, IsWorking-stale, IsWorking-empty, IsWorking-keep, IsWorking-force, IsWorking-move, covered_move, row_move, shorter, IsKept-move, IsForced-other, HasFalsified-other}
 use Rattle.q_prop.proofs.RowLemmas.{IsFrom-same}

@@ -1,6 +1,5 @@
-use Rattle.std.proofs.Common.{◌≡◌, ◌∷◌, [], ◌++◌, Contains, sym, ap, inr}
-use Rattle.q_logic.specs.Literals.{Literal, negation}
-use Rattle.q_prop.specs.Slots.{without, filled}
+use Rattle.std.proofs.Common.{Contains, sym, inr}
+use Rattle.q_prop.specs.Slots.{without}
 use Rattle.q_prop.proofs.Statuses.{test_fails}
 use Rattle.std.proofs.lemmas.List.Elements.{Contains-push}
 use Rattle.q_prop.proofs.SlotLemmas.{filled-in, Contains-slice_get}

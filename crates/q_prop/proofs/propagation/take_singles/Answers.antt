@@ -1,4 +1,4 @@
-use Rattle.std.proofs.Common.{◌≡◌, ◌<◌, ◌≤◌, length, arith, Some, get_or, slice_get}
+use Rattle.std.proofs.Common.{◌≡◌, length, arith, get_or}
 use Rattle.q_prop.specs.Slots.{without, filled}
 use Rattle.q_prop.proofs.SlotLemmas.{slice_get-at, Contains-slice_get}
 use Rattle.q_prop.proofs.Reaching.{IsReached-refl, IsReached-grown, IsReached-within}

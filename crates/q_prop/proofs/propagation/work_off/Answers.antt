@@ -1,8 +1,7 @@
-use Rattle.std.proofs.Common.{◌≡◌, ◌≤◌, ◌<◌, ◌+◌, ◌-◌, length, arith, sym, ap, ◌∙◌, add-one}
+use Rattle.std.proofs.Common.{◌≤◌, length, arith}
 use Rattle.q_logic.specs.Literals.{negation}
 use Rattle.q_prop.specs.Slots.{without, filled}
 use Rattle.q_prop.specs.Rows.{row_of}
-use Rattle.q_prop.specs.Working.{IsWorking, IsReached, IsReady}
 use Rattle.q_prop.proofs.Reaching.{IsReached-refl, IsReached-grown, IsReached-within, IsKept-refl, IsKept-trans, IsWorking-end}
 use Rattle.q_prop.proofs.propagation.work_off.Goals as goal
 

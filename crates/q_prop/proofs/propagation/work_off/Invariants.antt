@@ -1,4 +1,4 @@
-use Rattle.std.proofs.Common.{◌≡◌, ◌-◌, length}
+use Rattle.std.proofs.Common.{◌-◌, length}
 use Rattle.q_logic.specs.Literals.{negation}
 use Rattle.q_prop.specs.Slots.{without, filled}
 use Rattle.q_prop.specs.Rows.{row_of}

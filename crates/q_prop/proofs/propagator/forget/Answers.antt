@@ -1,4 +1,4 @@
-use Rattle.std.proofs.Common.{rules, ◌≡◌, ◌==◌, ℕ, Bool, not, filter}
+use Rattle.std.proofs.Common.{rules, ◌≡◌, ◌==◌, not, filter}
 use Rattle.std.proofs.lemmas.Fn.{filter_same}
 use Rattle.q_prop.proofs.Lost.{lost_filtered}
 use Rattle.q_prop.proofs.propagator.forget.Goals as goal

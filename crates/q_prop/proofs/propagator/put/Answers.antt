@@ -1,4 +1,3 @@
-use Rattle.std.proofs.Common.{◌≡◌, sym, ◌∙◌, ap, ◌∷◌, [], ◌++◌, Some, length}
 use Rattle.q_prop.proofs.RowLemmas.{IsFrom-same}
 use Rattle.q_prop.proofs.Rooting.{covered_pushed}
 use Rattle.q_prop.proofs.Putting.{covered_put}

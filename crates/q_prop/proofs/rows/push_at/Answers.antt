@@ -1,4 +1,4 @@
-use Rattle.std.proofs.Common.{◌<◌, length, arith, sym, ap, ◌∷◌, [], ◌++◌, List, ℕ, ◌∙◌, Vec, Global}
+use Rattle.std.proofs.Common.{◌<◌, length, arith, ap, ◌∷◌, [], ◌++◌, List, ℕ, ◌∙◌, Vec, Global}
 use Rattle.q_logic.specs.Literals.{pack}
 use Rattle.q_prop.proofs.RowLemmas.{IsPushed-set, AreSameRows-set}
 use Rattle.q_prop.proofs.SlotLemmas.{on_err}

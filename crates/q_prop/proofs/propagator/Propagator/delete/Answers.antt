@@ -1,4 +1,4 @@
-use Rattle.std.proofs.Common.{◌≡◌, ◌≤◌, ℕ, [], None, Some, length, arith, take}
+use Rattle.std.proofs.Common.{◌≡◌, [], Some, arith, take}
 use Rattle.q_logic.specs.Formulas.{Clause}
 use Rattle.q_prop.specs.Search.{IsOpen}
 use Rattle.q_prop.specs.Slots.{Holds}

@@ -1,5 +1,4 @@
-use Rattle.std.proofs.Common.{◌≡◌, ◌≤◌, ◌⊎◌, ◌+◌, ◌++◌, ◌∷◌, [], List, length, length-append, arith, take, refl, sym, inl, inr, Some, None}
-use Rattle.q_logic.specs.Literals.{Literal, negation}
+use Rattle.std.proofs.Common.{◌≤◌, ◌∷◌, [], length, length-append, arith, refl, inl, inr, Some, None}
 use Rattle.q_prop.proofs.Putting.{rooted_open, rooted_again, rooted_forced, rooted_short, standing_more, standing_pushed}
 use Rattle.q_prop.proofs.Rooting.{rooted_covered}
 use Rattle.q_prop.proofs.propagator.Propagator.fill.Goals as goal

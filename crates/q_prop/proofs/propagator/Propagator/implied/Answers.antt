@@ -1,8 +1,6 @@
-use Rattle.std.proofs.Common.{◌≡◌, ◌≤◌, ℕ, [], None, Some, length, arith, take, refl}
-use Rattle.q_logic.specs.Formulas.{Clause}
+use Rattle.std.proofs.Common.{◌≡◌, [], length, arith, take, refl}
 use Rattle.q_prop.proofs.Members.{Contains-nil}
-use Rattle.q_prop.specs.Search.{IsOpen}
-use Rattle.q_prop.specs.Slots.{Holds, filled, without}
+use Rattle.q_prop.specs.Slots.{filled, without}
 use Rattle.q_prop.proofs.Reaching.{IsKept-trans}
 use Rattle.q_prop.proofs.Settling.{reached_chain, reached_consistent, root_implied, IsKept-fewer, AreListed-kept}
 use Rattle.q_prop.proofs.Rooting.{rooted_zero, rooted_kept, rooted_free, none_watched, without-chain, chain_skip, falsified_skip}

@@ -1,4 +1,4 @@
-use Rattle.std.proofs.Common.{◌<◌, ◌≡◌, length, arith, sym, ap, List, ℕ, ◌∙◌, Some, Vec, Global}
+use Rattle.std.proofs.Common.{◌≡◌, sym, ap, List, ℕ, ◌∙◌, Vec, Global}
 use Rattle.q_logic.specs.Literals.{pack}
 use Rattle.q_prop.specs.Rows.{row_of}
 use Rattle.q_prop.proofs.RowLemmas.{row_at}

@@ -1,7 +1,6 @@
-use Rattle.std.proofs.Common.{◌≡◌, ◌<◌, ◌+◌, length, arith, sym, ap, ◌∷◌, [], ◌++◌, List, ℕ, ◌∙◌, Vec, Global, get_or, map}
+use Rattle.std.proofs.Common.{◌≡◌, ◌<◌, ◌+◌, length, arith, ap, [], List, ℕ, ◌∙◌, Vec, Global, get_or, map}
 use Rattle.std.specs.List.{swap_remove}
 use Rattle.q_logic.specs.Literals.{pack}
-use Rattle.q_prop.specs.Rows.{row_of, IsRemoved}
 use Rattle.q_prop.proofs.RowLemmas.{IsRemoved-set, row_at, row_room}
 use Rattle.q_prop.proofs.rows.Rows.remove.Goals as goal
 

@@ -1,6 +1,3 @@
-use Rattle.std.proofs.Common.{◌≡◌, length, None, arith, sym}
-use Rattle.q_logic.specs.Formulas.{Clause}
-use Rattle.q_prop.specs.Slots.{Holds}
 use Rattle.q_prop.proofs.HolderLemmas.{holders_fresh, holders_put, holders_alike, held_freed, vacant_empty, ordered_put, length_put}
 use Rattle.q_prop.proofs.BucketLemmas.{hashed_put, hashed_appended, hashed_same}
 use Rattle.q_prop.proofs.store.Store.add.Goals as goal

@@ -1,4 +1,4 @@
-use Rattle.std.proofs.Common.{◌≡◌, length, None, arith}
+use Rattle.std.proofs.Common.{None, arith}
 use Rattle.std.proofs.lemmas.List.{length-set}
 use Rattle.q_prop.proofs.HolderLemmas.{ordered_without}
 use Rattle.q_prop.proofs.store.Store.delete.Goals as goal

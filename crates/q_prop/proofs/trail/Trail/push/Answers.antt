@@ -1,6 +1,5 @@
-use Rattle.std.proofs.Common.{◌≡◌, ◌<◌, length, arith}
+use Rattle.std.proofs.Common.{◌<◌, length, arith}
 use Rattle.q_logic.specs.Literals.{pack}
-use Rattle.q_prop.specs.Marks.{IsMarked}
 use Rattle.q_prop.proofs.MarkLemmas.{IsMarked-push, IsMarked-along, IsOnce-push}
 use Rattle.q_prop.proofs.trail.Trail.push.Goals as goal
 
