@@ -1,0 +1,5 @@
+pub mod Ranks
+pub mod Bounds
+pub mod Changes
+pub mod Walks
+pub mod Filling
