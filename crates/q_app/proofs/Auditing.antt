@@ -1,0 +1,240 @@
+-- Steps that are tried while a log is read.
+use Rattle.std.proofs.Common.{◌≡◌, ◌⊎◌, inl, inr, ◌≤◌, ◌<◌, ◌+◌, ◌-◌, ◌==◌, ◌∙◌, refl, sym, ap, subst, arith, ℕ, Bool, true, false, List, [], ◌∷◌, ◌++◌, length, take, drop, if◌then◌else◌, Option, Some, None, Ok, Err, append_assoc, length-append, length-drop, get_or}
+use Rattle.std.proofs.lemmas.List.{take-append-drop, drop_more}
+use Rattle.std.proofs.Math.Seq.{take-add, take-length}
+use Rattle.std.proofs.lemmas.Bool.Decides.{nat_tests}
+use Rattle.q_logic.specs.Formulas.{PrenexFormula, Prefix}
+use Rattle.q_logic.specs.Prefixes.{SameBlocks, blocks}
+use Rattle.q_logic.specs.Limits.{standard}
+use Rattle.q_logic.specs.Steps.{ProofStep, Valid, Cause, after}
+use Rattle.q_logic.specs.Runs.{ValidSteps, SameFormula}
+use Rattle.q_text.specs.declared.tokens.Token.{Token}
+use Rattle.q_text.specs.Tokens as tokens
+use Rattle.q_log.specs.declared.error.LogError.{LogError}
+use Rattle.q_log.specs.declared.error.LogError.TheVariants as log
+use Rattle.q_log.specs.Grammar.{Move, ends_step, goes_on, unfit, move}
+use Rattle.q_log.specs.Logs as logs
+use Rattle.q_log.specs.Reading.{LogState, Turn, turn, turn_unless, open_turn, token_turn, moved, Answers, to_come}
+use Rattle.q_log.specs.Reading as reading
+use Rattle.q_check.specs.Alike.{AreAlike, Leads}
+use Rattle.q_check.proofs.Alike.{alike_swapped, alike_cause}
+use Rattle.q_check.proofs.Runs.{leads_begin, leads_more}
+use Rattle.q_app.specs.Logs.{Entry, steps_of, IsRefusedAt}
+use Rattle.q_check.specs.declared.error.CheckError.{CheckError}
+use Rattle.q_check.specs.declared.error.CheckError.TheVariants as check
+use Rattle.q_check.specs.Checked.{Checked, IsRefusal}
+use Rattle.q_app.specs.declared.audit.Audit.{Audit}
+use Rattle.q_app.specs.declared.outcome.Outcome.{Outcome}
+use Rattle.q_app.specs.declared.outcome.Outcome.TheVariants.{Verified, RefusedLine, RefusedEnd, RefusedInput, ReadFault, NoMemory, Usage}
+use Rattle.q_app.specs.Refusals.{step_refused}
+use Rattle.q_app.specs.Audits.{behind, IsOpen, Advances, Refuses, HasTaken, EndsAs, EndsWith, Concludes}
+
+-- a byte that is taken leaves one byte fewer to take
+abbrev OneFewer : LogState → Turn → Type 0
+OneFewer r t = (o : Option (ℕ × ProofStep)) → Ok o ≡ t.answer → t.state.left + 1 ≡ r.left
+
+moved-fewer : (r s : LogState) (m : Move) (n : ℕ) → s.left + 1 ≡ r.left → OneFewer r (moved s m n)
+moved-fewer r s (ends_step k p) n e o h = e
+moved-fewer r s (goes_on q) n e o h = e
+moved-fewer r s unfit n e o h = cc
+
+token_turn-fewer : (r s : LogState) (o : Option Token) → s.left + 1 ≡ r.left → OneFewer r (token_turn s o)
+token_turn-fewer r s None e o h = e
+token_turn-fewer r s (Some t) e o h = moved-fewer r s (move s.begun t) t.line e o h
+
+open_turn-fewer : (r : LogState) (b : ℕ) → OneFewer r (open_turn r b)
+open_turn-fewer r b = go (r.left == 0) refl
+  where
+    next : LogState
+    next = record r { tokens = tokens.after r.tokens b; left = r.left - 1 }
+
+    go : (c : Bool) → (r.left == 0) ≡ c → OneFewer r (if c then record { answer = Err (log.Limit (tokens.line_of r.tokens)); state = record r { refused = Some (log.Limit (tokens.line_of r.tokens)) } } else token_turn next (tokens.handed r.tokens b))
+    go true e o h = cc
+    go false e o h = token_turn-fewer r next (tokens.handed r.tokens b) (grind (arith, nat_tests, e)) o h
+
+turn-fewer : (r : LogState) (b : ℕ) → OneFewer r (turn r b)
+turn-fewer r b = go r.refused
+  where
+    go : (e : Option LogError) → OneFewer r (turn_unless e r (open_turn r b))
+    go None o h = open_turn-fewer r b o h
+    go (Some e) o h = cc
+
+pub taken-fewer : (r new : LogState) (b : ℕ) (o : Option (ℕ × ProofStep)) → Answers (Ok o) new (turn r b) → new.left + 1 ≡ r.left
+taken-fewer r new b o a = ap (λ (s : LogState). s.left + 1) a.1 ∙ turn-fewer r b o a.0
+
+pub leads-none : (o : Option (ℕ × ProofStep)) (before now : List ℕ → logs.Outcome) → o ≡ None → ((rest : List ℕ) → reading.Leads (Ok o) (before rest) (now rest)) → (rest : List ℕ) → before rest ≡ now rest
+leads-none o before now e h = subst (λ x. (rest : List ℕ) → reading.Leads (Ok x) (before rest) (now rest)) e h
+
+pub leads-some : (o : Option (ℕ × ProofStep)) (before now : List ℕ → logs.Outcome) (n : ℕ) (s : ProofStep) → o ≡ Some (n, s) → ((rest : List ℕ) → reading.Leads (Ok o) (before rest) (now rest)) → (rest : List ℕ) → before rest ≡ logs.onto (n, s) (now rest)
+leads-some o before now n s e h = subst (λ x. (rest : List ℕ) → reading.Leads (Ok x) (before rest) (now rest)) e h
+
+pub steps_of-append : (xs ys : List Entry) → steps_of (xs ++ ys) ≡ steps_of xs ++ steps_of ys
+steps_of-append [] ys = refl
+steps_of-append (e ∷ xs) ys = ap (λ ss. e.1 ∷ ss) (steps_of-append xs ys)
+
+pub behind-behind : (xs ys : List Entry) (o : logs.Outcome) → behind xs (behind ys o) ≡ behind (xs ++ ys) o
+behind-behind xs ys o = ap (λ es. record { steps = es; refused = o.refused }) (sym (append_assoc xs ys o.steps))
+
+-- what is refused behind valid steps is refused at the same place
+pub refused-behind : (F E : PrenexFormula) (es : List Entry) (o : logs.Outcome) (n c : ℕ) → ValidSteps standard F (steps_of es) E → IsRefusedAt E o n c → IsRefusedAt F (behind es o) n c
+refused-behind F E [] o n c v h = subst (λ (G : PrenexFormula). IsRefusedAt G o n c) (sym v) h
+refused-behind F E (e ∷ es) o n c v h = inr (v.0, refused-behind (after F e.1) E es o n c v.1 h)
+
+pub valid-joined : (F E G : PrenexFormula) (xs ys : List Entry) → ValidSteps standard F (steps_of xs) E → ValidSteps standard E (steps_of ys) G → ValidSteps standard F (steps_of (xs ++ ys)) G
+valid-joined F E G [] ys v w = subst (λ (H : PrenexFormula). ValidSteps standard H (steps_of ys) G) (sym v) w
+valid-joined F E G (e ∷ xs) ys v w = (v.0, valid-joined (after F e.1) E G xs ys v.1 w)
+
+pub advances_begin : (a : Audit) → IsOpen a → Advances a a []
+advances_begin a o =
+    record {
+      entries = [];
+      log = λ rest. refl;
+      tried = λ F s. leads_begin standard F a.checker.formula s;
+      few = omega arith;
+      counted = omega arith;
+      left = omega arith;
+      goes_on = o;
+    }
+
+-- a byte that ends no step
+pub advances_nothing : (old new : Audit) (b : ℕ) → IsOpen old → new.checker ≡ old.checker → new.steps ≡ old.steps → ((rest : List ℕ) → to_come old.reader (b ∷ rest) ≡ to_come new.reader rest) → new.reader.left + 1 ≡ old.reader.left → Advances old new (b ∷ [])
+advances_nothing old new b o same steps next left =
+    record {
+      entries = [];
+      log = next;
+      tried = λ F s. leads_begin standard F new.checker.formula (subst (λ (k : Checked). AreAlike F k.formula) (sym same) s);
+      few = omega arith;
+      counted = omega (arith, steps);
+      left = left;
+      goes_on = record { limits = ap (λ (k : Checked). k.limits) same ∙ o.limits; room = omega (arith, o.room, steps, left) };
+    }
+
+-- a byte that ends a valid step
+pub advances_step : (old new : Audit) (b n : ℕ) (s : ProofStep) → IsOpen old → new.checker.limits ≡ old.checker.limits → new.steps ≡ old.steps + 1 → ((rest : List ℕ) → to_come old.reader (b ∷ rest) ≡ logs.onto (n, s) (to_come new.reader rest)) → new.reader.left + 1 ≡ old.reader.left → Valid old.checker.limits old.checker.formula s → AreAlike (after old.checker.formula s) new.checker.formula → Advances old new (b ∷ [])
+advances_step old new b n s o same steps next left v a =
+    record {
+      entries = (n, s) ∷ [];
+      log = next;
+      tried = λ F h. leads_more standard F [] old.checker.formula new.checker.formula s (leads_begin standard F old.checker.formula h) (subst (λ m. Valid m old.checker.formula s) o.limits v) a;
+      few = omega arith;
+      counted = steps;
+      left = left;
+      goes_on = record { limits = same ∙ o.limits; room = omega (arith, o.room, steps, left) };
+    }
+
+pub advances_more : (a b c : Audit) (xs ys : List ℕ) → Advances a b xs → Advances b c ys → Advances a c (xs ++ ys)
+advances_more a b c xs ys f g =
+    record {
+      entries = f.entries ++ g.entries;
+      log = λ rest. ap (to_come a.reader) (append_assoc xs ys rest) ∙ (f.log (ys ++ rest) ∙ (ap (behind f.entries) (g.log rest) ∙ behind-behind f.entries g.entries (to_come c.reader rest)));
+      tried = λ F h. tries F (f.tried F h);
+      few = omega (arith, f.few, g.few, length-append f.entries g.entries, length-append xs ys);
+      counted = omega (arith, f.counted, g.counted, length-append f.entries g.entries);
+      left = omega (arith, f.left, g.left, length-append xs ys);
+      goes_on = g.goes_on;
+    }
+  where
+    tries : (F : PrenexFormula) → Leads standard F (steps_of f.entries) b.checker.formula → Leads standard F (steps_of (f.entries ++ g.entries)) c.checker.formula
+    tries F l =
+        let m : Leads standard l.last (steps_of g.entries) c.checker.formula = g.tried l.last l.alike in
+        record { last = m.last; steps = valid-joined F l.last m.last f.entries g.entries l.steps m.steps; alike = m.alike }
+
+-- a step that is refused
+pub refuses_step : (old : Audit) (b n : ℕ) (s : ProofStep) (e : CheckError) (w : Outcome) (next : List ℕ → logs.Outcome) → IsOpen old → w ≡ step_refused n e → IsRefusal old.checker.limits old.checker.formula s e → ((rest : List ℕ) → to_come old.reader (b ∷ rest) ≡ logs.onto (n, s) (next rest)) → (rest : List ℕ) → Refuses w old (b ∷ rest)
+refuses_step old b n s (check.Refused c) w next o q h t rest =
+    subst (λ x. Refuses x old (b ∷ rest)) (sym q) (λ F a. subst (λ x. IsRefusedAt F x n c) (sym (t rest)) (inl (refl, alike_cause standard old.checker.formula F s c (alike_swapped F old.checker.formula a) (subst (λ m. Cause m old.checker.formula s c) o.limits h))))
+refuses_step old b n s check.NoMemory w next o q h t rest = subst (λ x. Refuses x old (b ∷ rest)) (sym q) tt
+
+-- a refusal behind valid steps
+pub refuses_later : (a b : Audit) (xs ys : List ℕ) (w : Outcome) → Advances a b xs → Refuses w b ys → Refuses w a (xs ++ ys)
+refuses_later a b xs ys (Verified n) f h = h
+refuses_later a b xs ys (RefusedLine n c) f h = λ F s. refused F (f.tried F s)
+  where
+    refused : (F : PrenexFormula) → Leads standard F (steps_of f.entries) b.checker.formula → IsRefusedAt F (to_come a.reader (xs ++ ys)) n c
+    refused F l = subst (λ x. IsRefusedAt F x n c) (sym (f.log ys)) (refused-behind F l.last f.entries (to_come b.reader ys) n c l.steps (h l.last l.alike))
+refuses_later a b xs ys (RefusedEnd c) f h = h
+refuses_later a b xs ys (RefusedInput r n c) f h = h
+refuses_later a b xs ys ReadFault f h = h
+refuses_later a b xs ys NoMemory f h = h
+refuses_later a b xs ys Usage f h = h
+
+-- a byte of a piece is refused, behind the bytes before it
+pub refuses_from : (a b : Audit) (piece : List ℕ) (i d : ℕ) (w : Outcome) → i < length piece → Advances a b (take i piece) → ((rest : List ℕ) → Refuses w b (get_or piece i d ∷ rest)) → (rest : List ℕ) → Refuses w a (piece ++ rest)
+refuses_from a b piece i d w h f r rest =
+    let whole : take i piece ++ (get_or piece i d ∷ (drop (i + 1) piece ++ rest)) ≡ piece ++ rest =
+    sym (append_assoc (take i piece) (get_or piece i d ∷ drop (i + 1) piece) rest) ∙ ap (λ xs. xs ++ rest) (ap (λ ys. take i piece ++ ys) (sym (drop_more piece i d h)) ∙ take-append-drop i piece) in
+    subst (λ xs. Refuses w a xs) whole (refuses_later a b (take i piece) (get_or piece i d ∷ (drop (i + 1) piece ++ rest)) w f (r (drop (i + 1) piece ++ rest)))
+
+-- a refusal within a piece of the file is that of all its rest
+pub refuses_file : (a : Audit) (file : List ℕ) (place n : ℕ) (piece : List ℕ) (w : Outcome) → piece ≡ take n (drop place file) → ((rest : List ℕ) → Refuses w a (piece ++ rest)) → Refuses w a (drop place file)
+refuses_file a file place n piece w e r =
+    subst (λ xs. Refuses w a xs) (ap (λ xs. xs ++ drop n (drop place file)) e ∙ take-append-drop n (drop place file)) (r (drop n (drop place file)))
+
+-- the audit stands behind the front of a file
+pub record HasTried (file : List ℕ) (place : ℕ) (first now : Audit) : Type 0 where
+  pub front : Advances first now (take place file)
+  pub within : place ≤ length file
+
+pub tries_begin : (file : List ℕ) (a : Audit) → IsOpen a → HasTried file 0 a a
+tries_begin file a o = record { front = advances_begin a o; within = omega arith }
+
+pub tries_more : (file : List ℕ) (place n : ℕ) (first old new : Audit) → HasTried file place first old → HasTaken file place n old new → HasTried file (place + n) first new
+tries_more file place n first old new f p =
+    let len : length (drop place file) ≡ length file - place = length-drop place file in
+    record {
+      front = subst (λ xs. Advances first new xs) (sym (take-add place n file)) (advances_more first old new (take place file) (take n (drop place file)) f.front p.piece);
+      within = omega (arith, len, p.left, f.within);
+    }
+
+-- at the end of the file
+pub tries_end : (file : List ℕ) (place n : ℕ) (first old new : Audit) → n ≡ 0 → HasTried file place first old → HasTaken file place n old new → Advances first new file
+tries_end file place n first old new z f p =
+    let g : HasTried file (place + n) first new = tries_more file place n first old new f p in
+    let all : place + n ≡ length file = omega (arith, p.end z, f.within, z) in
+    subst (λ xs. Advances first new xs) (ap (λ k. take k file) all ∙ take-length file) g.front
+
+pub refuses_whole : (file : List ℕ) (place : ℕ) (first old : Audit) (w : Outcome) → HasTried file place first old → Refuses w old (drop place file) → Refuses w first file
+refuses_whole file place first old w f r = subst (λ xs. Refuses w first xs) (take-append-drop place file) (refuses_later first old (take place file) (drop place file) w f.front r)
+
+same_last : (E f G : PrenexFormula) → AreAlike E f → SameFormula f G → SameFormula E G
+same_last E f G a s =
+    record {
+      same_blocks = subst (λ (P : Prefix). SameBlocks (blocks P) (blocks G.prefix)) (sym a.prefix) s.same_blocks;
+      same_clauses = λ C. a.clauses C ∙ s.same_clauses C;
+    }
+
+-- what is said at the end, where all steps of the log were tried
+pub concludes : (a : Audit) (es : List Entry) (f G : PrenexFormula) (steps : ℕ) (w : Outcome) → ((F : PrenexFormula) → AreAlike F a.checker.formula → Leads standard F (steps_of es) f) → to_come a.reader [] ≡ record { steps = es; refused = None } → steps ≡ a.steps + length es → EndsAs w f steps G → Concludes w a G
+concludes a es f G steps (Verified n) l t k (s, e) = λ F h. (es, (l F h).last, record { log = t; steps = (l F h).steps }, same_last (l F h).last f G (l F h).alike s, e ∙ k)
+concludes a es f G steps (RefusedLine n c) l t k h = elim h [ ]
+concludes a es f G steps (RefusedEnd c) l t k r = λ F h. ended (l F h)
+  where
+    ended : {F : PrenexFormula} → (m : Leads standard F (steps_of es) f) → (xs : List Entry) × (last : PrenexFormula) × EndsWith a xs F last × (¬ SameFormula last G) × (((c ≡ 9) × ¬ SameBlocks (blocks last.prefix) (blocks G.prefix)) ⊎ ((c ≡ 10) × SameBlocks (blocks last.prefix) (blocks G.prefix)))
+    ended m = elim r [
+      | inl (nine, apart) ↦ (es, m.last, record { log = t; steps = m.steps }, (λ s. apart (subst (λ (P : Prefix). SameBlocks (blocks P) (blocks G.prefix)) m.alike.prefix s.same_blocks)), inl (nine, λ s. apart (subst (λ (P : Prefix). SameBlocks (blocks P) (blocks G.prefix)) m.alike.prefix s)))
+      | inr (ten, same, apart) ↦ (es, m.last, record { log = t; steps = m.steps }, (λ s. apart (λ C. sym (m.alike.clauses C) ∙ s.same_clauses C)), inr (ten, subst (λ (P : Prefix). SameBlocks (blocks P) (blocks G.prefix)) (sym m.alike.prefix) same))
+    ]
+concludes a es f G steps (RefusedInput r n c) l t k h = elim h [ ]
+concludes a es f G steps ReadFault l t k h = elim h [ ]
+concludes a es f G steps NoMemory l t k h = tt
+concludes a es f G steps Usage l t k h = elim h [ ]
+
+-- the log ends without a step more
+pub concludes_now : (a : Audit) (G : PrenexFormula) (w : Outcome) → to_come a.reader [] ≡ logs.finished → EndsAs w a.checker.formula a.steps G → Concludes w a G
+concludes_now a G w t e = concludes a [] a.checker.formula G a.steps w (λ F h. leads_begin standard F a.checker.formula h) t (omega arith) e
+
+-- the end makes a last step whole
+pub concludes_step : (a : Audit) (n : ℕ) (s : ProofStep) (f G : PrenexFormula) (w : Outcome) → IsOpen a → to_come a.reader [] ≡ logs.onto (n, s) logs.finished → Valid a.checker.limits a.checker.formula s → AreAlike (after a.checker.formula s) f → EndsAs w f (a.steps + 1) G → Concludes w a G
+concludes_step a n s f G w o t v h e =
+    concludes a ((n, s) ∷ []) f G (a.steps + 1) w (λ F k. leads_more standard F [] a.checker.formula f s (leads_begin standard F a.checker.formula k) (subst (λ m. Valid m a.checker.formula s) o.limits v) h) t (omega arith) e
+
+pub concludes_refused : (a : Audit) (n : ℕ) (s : ProofStep) (e : CheckError) (G : PrenexFormula) (w : Outcome) → IsOpen a → w ≡ step_refused n e → IsRefusal a.checker.limits a.checker.formula s e → to_come a.reader [] ≡ logs.onto (n, s) logs.finished → Concludes w a G
+concludes_refused a n s (check.Refused c) G w o q h t =
+    subst (λ x. Concludes x a G) (sym q) (λ F k. subst (λ x. IsRefusedAt F x n c) (sym t) (inl (refl, alike_cause standard a.checker.formula F s c (alike_swapped F a.checker.formula k) (subst (λ m. Cause m a.checker.formula s c) o.limits h))))
+concludes_refused a n s check.NoMemory G w o q h t = subst (λ x. Concludes x a G) (sym q) tt
+
+pub ends-some : (o : Option (ℕ × ProofStep)) (before : logs.Outcome) (n : ℕ) (s : ProofStep) → o ≡ Some (n, s) → reading.Ends (Ok o) before → before ≡ logs.onto (n, s) logs.finished
+ends-some o before n s e h = subst (λ x. reading.Ends (Ok x) before) e h
+
+pub ends-none : (o : Option (ℕ × ProofStep)) (before : logs.Outcome) → o ≡ None → reading.Ends (Ok o) before → before ≡ logs.finished
+ends-none o before e h = subst (λ x. reading.Ends (Ok x) before) e h

@@ -1,0 +1,5 @@
+pub mod Operands
+pub mod Feeding
+pub mod Auditing
+pub mod Concluding
+pub mod Exact

@@ -1,0 +1,16 @@
+use Rattle.std.proofs.Common.{◌-◌, ◌≡◌, ◌≤◌, List, ℕ, IfSome}
+use Rattle.q_io.specs.Files.{bytes_at}
+use Rattle.q_app.specs.Inputs.{IsReading, HasFront}
+use Rattle.q_app.proofs.input.read_formula.Given as goal
+
+abbrev pub invariant-loop-reader : goal.invariant-loop-reader
+invariant-loop-reader g l =
+    record {
+      reading : IsReading l.at l.reader;
+      front : IfSome (g.F.Files.held l.fn.files) (λ disk. HasFront (bytes_at disk l.name) l.at l.reader);
+      held : g.F.Files.held l.files ≡ g.F.Files.held l.fn.files;
+      read_later : (q : List ℕ) → g.F.Files.read_faults l.fn.files q ≤ g.F.Files.read_faults l.files q;
+    }
+
+abbrev pub decreases-loop-reader : goal.decreases-loop-reader
+decreases-loop-reader g l = 1099511627776 - l.at

@@ -1,0 +1,88 @@
+-- A log that is tried while it is read: what some bytes of it do, and what its end says.
+use Rattle.std.specs.Prelude.{◌≡◌, ◌⊎◌, ◌+◌, ◌≤◌, ℕ, List, [], ◌++◌, length, take, drop, None}
+use Rattle.q_logic.specs.Formulas.{PrenexFormula}
+use Rattle.q_logic.specs.Limits.{standard}
+use Rattle.q_logic.specs.Prefixes.{blocks, SameBlocks}
+use Rattle.q_logic.specs.Runs.{ValidSteps, SameFormula}
+use Rattle.q_log.specs.Logs as logs
+use Rattle.q_log.specs.Reading.{to_come}
+use Rattle.q_check.specs.declared.error.CheckError.TheVariants as check
+use Rattle.q_check.specs.Checked.{IsEndRefusal}
+use Rattle.q_check.specs.Alike.{AreAlike, Leads}
+use Rattle.q_app.specs.Logs.{Entry, steps_of, IsRefusedAt}
+use Rattle.q_app.specs.declared.audit.Audit.{Audit}
+use Rattle.q_app.specs.declared.outcome.Outcome.{Outcome}
+use Rattle.q_app.specs.declared.outcome.Outcome.TheVariants.{Verified, RefusedLine, RefusedEnd, RefusedInput, ReadFault, NoMemory, Usage}
+
+-- steps in front of what is to come
+abbrev pub behind : List Entry → logs.Outcome → logs.Outcome
+behind es o = record { steps = es ++ o.steps; refused = o.refused }
+
+-- the limits are those of the program, and there is room to count a step for each byte
+pub record IsOpen (a : Audit) : Type 0 where
+  pub limits : a.checker.limits ≡ standard
+  pub room : a.steps + a.reader.left ≤ 1099511627776
+
+-- the bytes handed out valid steps
+pub record Advances (old new : Audit) (bytes : List ℕ) : Type 0 where
+  pub entries : List Entry
+  pub log : (rest : List ℕ) → to_come old.reader (bytes ++ rest) ≡ behind entries (to_come new.reader rest)
+  pub tried : (F : PrenexFormula) → AreAlike F old.checker.formula → Leads standard F (steps_of entries) new.checker.formula
+  pub few : length entries ≤ length bytes
+  pub counted : new.steps ≡ old.steps + length entries
+  pub left : new.reader.left + length bytes ≡ old.reader.left
+  pub goes_on : IsOpen new
+
+-- a refusal is that of all bytes that follow
+abbrev pub Refuses : Outcome → Audit → List ℕ → Type 0
+Refuses (Verified n) a bytes = ⊥
+Refuses (RefusedLine n c) a bytes = (F : PrenexFormula) → AreAlike F a.checker.formula → IsRefusedAt F (to_come a.reader bytes) n c
+Refuses (RefusedEnd c) a bytes = ⊥
+Refuses (RefusedInput r n c) a bytes = ⊥
+Refuses ReadFault a bytes = Unit {0}
+Refuses NoMemory a bytes = Unit {0}
+Refuses Usage a bytes = ⊥
+
+-- n bytes of the file were tried, from a place on
+pub record HasTaken (file : List ℕ) (place n : ℕ) (old new : Audit) : Type 0 where
+  pub piece : Advances old new (take n (drop place file))
+  pub left : n ≤ length (drop place file)
+  pub end : n ≡ 0 → length file ≤ place
+
+-- what the end of the checker says, behind so many steps
+abbrev pub EndsAs : Outcome → PrenexFormula → ℕ → PrenexFormula → Type 0
+EndsAs (Verified n) F steps G = SameFormula F G × (n ≡ steps)
+EndsAs (RefusedLine n c) F steps G = ⊥
+EndsAs (RefusedEnd c) F steps G = IsEndRefusal F G (check.Refused c)
+EndsAs (RefusedInput r n c) F steps G = ⊥
+EndsAs ReadFault F steps G = ⊥
+EndsAs NoMemory F steps G = Unit {0}
+EndsAs Usage F steps G = ⊥
+
+-- the log has come to its end behind these steps
+pub record EndsWith (a : Audit) (es : List Entry) (F last : PrenexFormula) : Type 0 where
+  pub log : to_come a.reader [] ≡ record { steps = es; refused = None }
+  pub steps : ValidSteps standard F (steps_of es) last
+
+-- what is said at the end, where the output is G
+abbrev pub Concludes : Outcome → Audit → PrenexFormula → Type 0
+Concludes (Verified n) a G =
+    (F : PrenexFormula) → AreAlike F a.checker.formula →
+    (es : List Entry) × (last : PrenexFormula) × EndsWith a es F last × SameFormula last G × (n ≡ a.steps + length es)
+Concludes (RefusedLine n c) a G = (F : PrenexFormula) → AreAlike F a.checker.formula → IsRefusedAt F (to_come a.reader []) n c
+Concludes (RefusedEnd c) a G =
+    (F : PrenexFormula) → AreAlike F a.checker.formula →
+    (es : List Entry) × (last : PrenexFormula) × EndsWith a es F last × (¬ SameFormula last G)
+    × (((c ≡ 9) × ¬ SameBlocks (blocks last.prefix) (blocks G.prefix)) ⊎ ((c ≡ 10) × SameBlocks (blocks last.prefix) (blocks G.prefix)))
+Concludes (RefusedInput r n c) a G = ⊥
+Concludes ReadFault a G = ⊥
+Concludes NoMemory a G = Unit {0}
+Concludes Usage a G = ⊥
+
+-- nothing is read yet, and the checker has the formula
+pub record IsStarted (a : Audit) (F : PrenexFormula) : Type 0 where
+  pub log : (bytes : List ℕ) → to_come a.reader bytes ≡ logs.read standard.bytes bytes
+  pub alike : AreAlike F a.checker.formula
+  pub steps : a.steps ≡ 0
+  pub left : a.reader.left ≡ 1099511627776
+  pub goes_on : IsOpen a

@@ -1,0 +1,143 @@
+// A log is tried step by step, while it is read.
+ghost use Rattle.std.specs.Prelude.{◌≡◌, ◌≤◌, ◌<◌, ◌+◌, List, ℕ, length, IfOk, IfErr, OnOk, IfSome, IsErrOf, [], ◌∷◌, ◌++◌, drop};
+ghost use Rattle.q_logic.specs.Limits.{standard};
+ghost use Rattle.q_io.specs.Files.{Rose, bytes_at};
+ghost use Rattle.q_app.specs.Audits.{IsOpen, Advances, Refuses, Concludes, IsStarted, HasTaken, EndsAs};
+
+use crate::outcome::Outcome;
+use crate::refusals::{log_refusal, step_refusal};
+use q_check::{CheckError, Checker};
+use q_io::{DeviceError, Files};
+use q_log::LogReader;
+use q_logic::{Formula, Limits, NoMemory};
+use std::alloc::Global;
+
+/// The reader of a log, the checker over the steps so far, and their number.
+#[derive(Drop)]
+pub(crate) struct Audit {
+    reader: LogReader,
+    checker: Checker,
+    steps: u64,
+}
+
+impl Audit {
+    /// Nothing is read, and the checker has the formula.
+    pub fn start(alloc: Global, formula: &Formula) -> Result<Audit, NoMemory>
+        ensures { IfOk result (λ a. IsStarted a formula.now) }
+    {
+        let limits = Limits::standard();
+        let Ok(reader) = LogReader::new(alloc, limits.bytes) else {
+            return Err(NoMemory);
+        };
+        let Ok(checker) = Checker::start(alloc, formula, limits, false) else {
+            return Err(NoMemory);
+        };
+        Ok(Audit {
+            reader,
+            checker,
+            steps: 0,
+        })
+    }
+
+    // Takes one byte, and tries the step that it makes whole.
+    fn take_byte(&mut self, byte: u8) -> Result<(), Outcome>
+        requires { IsOpen self.old }
+        ensures ok { OnOk result (Advances self.old self.new (byte ∷ [])) }
+        ensures refused { IfErr result (λ o. (rest : List ℕ) → Refuses o self.old (byte ∷ rest)) }
+        ensures usage { IsErrOf result Outcome.Usage → ⊥ }
+        ensures fault { IsErrOf result Outcome.ReadFault → ⊥ }
+    {
+        match self.reader.push(byte) {
+            Ok(None) => Ok(()),
+            Ok(Some((line, step))) => match self.checker.step(&step) {
+                Ok(()) => {
+                    self.steps += 1;
+                    self.reader.keep(step);
+                    Ok(())
+                }
+                Err(error) => Err(step_refusal(line, error)),
+            },
+            Err(error) => Err(log_refusal(error)),
+        }
+    }
+
+    // Takes the bytes of a piece.
+    fn take_piece(&mut self, piece: &[u8]) -> Result<(), Outcome>
+        requires { IsOpen self.old }
+        ensures ok { OnOk result (Advances self.old self.new piece.now) }
+        ensures refused { IfErr result (λ o. (rest : List ℕ) → Refuses o self.old (piece.now ++ rest)) }
+        ensures usage { IsErrOf result Outcome.Usage → ⊥ }
+        ensures fault { IsErrOf result Outcome.ReadFault → ⊥ }
+    {
+        for byte in piece {
+            if let Err(outcome) = self.take_byte(*byte) {
+                return Err(outcome);
+            }
+        }
+        Ok(())
+    }
+
+    /// Reads the next piece of the log, and takes it.
+    pub fn read_piece<F: Files>(
+        &mut self,
+        files: &mut F,
+        name: &str,
+        at: u64,
+        buffer: &mut [u8],
+    ) -> Result<usize, Outcome>
+        requires place { at ≤ 1099511627776 }
+        requires room { 0 < length buffer.old }
+        requires goes_on { IsOpen self.old }
+        ensures goes_on { OnOk result (IsOpen self.new) }
+        ensures left { IfOk result (λ n. self.new.reader.left + n ≡ self.old.reader.left) }
+        ensures taken { IfOk result (λ n. IfSome (F.held files.old) (λ disk. HasTaken (bytes_at disk name.now) at n self.old self.new)) }
+        ensures refused { IfErr result (λ o. IfSome (F.held files.old) (λ disk. Refuses o self.old (drop at (bytes_at disk name.now)))) }
+        ensures usage { IsErrOf result Outcome.Usage → ⊥ }
+        ensures fault { IsErrOf result Outcome.ReadFault → Rose (F.read_faults files.old name.now) (F.read_faults files.new name.now) }
+        ensures held { F.held files.new ≡ F.held files.old }
+        ensures read_later { (q : List ℕ) → F.read_faults files.old q ≤ F.read_faults files.new q }
+    {
+        let count = match files.read(name, at, buffer) {
+            Ok(count) => count,
+            Err(DeviceError::Failed) => return Err(Outcome::ReadFault),
+            Err(DeviceError::NoMemory) => return Err(Outcome::NoMemory),
+        };
+        match self.take_piece(&buffer[..count]) {
+            Ok(()) => Ok(count),
+            Err(outcome) => Err(outcome),
+        }
+    }
+
+    /// The outcome, where the log has come to its end.
+    pub fn finish(self, output: &Formula) -> Outcome
+        requires { IsOpen self }
+        ensures says { Concludes result self output.now }
+        ensures usage { result ≡ Outcome.Usage → ⊥ }
+        ensures fault { result ≡ Outcome.ReadFault → ⊥ }
+    {
+        let Audit {
+            reader,
+            mut checker,
+            steps,
+        } = self;
+        match reader.finish() {
+            Ok(None) => end(checker, steps, output),
+            Ok(Some((line, step))) => match checker.step(&step) {
+                Ok(()) => end(checker, steps + 1, output),
+                Err(error) => step_refusal(line, error),
+            },
+            Err(error) => log_refusal(error),
+        }
+    }
+}
+
+// The outcome, where all steps are valid.
+fn end(checker: Checker, steps: u64, output: &Formula) -> Outcome
+    ensures { EndsAs result checker.formula steps output.now }
+{
+    match checker.finish(output) {
+        Ok(_) => Outcome::Verified { steps },
+        Err(CheckError::Refused { cause }) => Outcome::RefusedEnd { cause },
+        Err(CheckError::NoMemory) => Outcome::NoMemory,
+    }
+}

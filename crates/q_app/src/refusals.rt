@@ -1,0 +1,26 @@
+// What is said of a log that is refused.
+ghost use Rattle.std.specs.Prelude.{◌≡◌};
+ghost use Rattle.q_app.specs.Refusals.{log_refused, step_refused};
+
+use crate::outcome::Outcome;
+use q_check::CheckError;
+use q_log::LogError;
+
+pub(crate) fn log_refusal(error: LogError) -> Outcome
+    ensures { result ≡ log_refused error }
+{
+    match error {
+        LogError::BadLine { line } => Outcome::RefusedLine { line, cause: 1 },
+        LogError::Limit { line } => Outcome::RefusedLine { line, cause: 8 },
+        LogError::NoMemory => Outcome::NoMemory,
+    }
+}
+
+pub(crate) fn step_refusal(line: u64, error: CheckError) -> Outcome
+    ensures { result ≡ step_refused line error }
+{
+    match error {
+        CheckError::Refused { cause } => Outcome::RefusedLine { line, cause },
+        CheckError::NoMemory => Outcome::NoMemory,
+    }
+}
