@@ -11,7 +11,7 @@ work=$(mktemp -d)
 trap 'rm -rf "$work"' EXIT
 
 python3 - "$work" <<'PYTHON'
-import os, random, sys
+import os, random, shutil, sys
 
 work = sys.argv[1]
 count = 1_000_000
@@ -38,6 +38,8 @@ with open(os.path.join(work, "log"), "w") as out:
         literals = text([1] + clause())
         out.write(literals + "d " + literals)
 open(os.path.join(work, "empty"), "w").close()
+for name in ("formula", "unit"):
+    shutil.copy(os.path.join(work, name), os.path.join(work, name + "-again"))
 PYTHON
 
 # A process of its own, since a child's peak is at least that of the process that begins it.
@@ -57,6 +59,7 @@ def measure(name, files):
     print(f"{name}: {size:.1f} MB read in {taken:.2f} s, {size / taken:.0f} MB/s, peak {peak:.0f} MiB; {said}")
 
 
-measure("formula", ["formula", "formula", "empty"])
-measure("log", ["unit", "unit", "log"])
+subprocess.run(["./celdrinn"], stdout=subprocess.DEVNULL)
+measure("formula", ["formula", "formula-again", "empty"])
+measure("log", ["unit", "unit-again", "log"])
 PYTHON
