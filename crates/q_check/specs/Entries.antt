@@ -1,4 +1,4 @@
--- The undo list as the code keeps it.
+-- The undo list as the code keeps it, with which circuits are taken back (Heule, Seidl and Biere, 2017).
 use Rattle.std.specs.Prelude.{◌≡◌, Bool, true, false, List, [], ◌∷◌, Option, None, Some}
 use Rattle.q_logic.specs.Literals.{Literal, negation}
 use Rattle.q_logic.specs.Formulas.{Clause, Matrix, Prefix}

@@ -1,4 +1,4 @@
--- A prefix in cells, and where each variable is seated.
+-- A prefix of quantified variables (QDIMACS 1.1) in cells, and where each variable is seated.
 use Rattle.std.specs.Prelude.{◌≡◌, ℕ, ◌+◌, ◌≤◌, ◌<◌, ◌&&◌, Bool, true, false, cond, eqb, List, [], ◌∷◌, Option, None, Some, slice_get, slice_index_or, length}
 use Rattle.q_logic.specs.declared.formulas.Quant.{Quant}
 use Rattle.q_logic.specs.declared.formulas.Bound.{Bound}

@@ -1,4 +1,5 @@
--- A walk over the clauses that are reached from one, literal by literal.
+-- A walk over the clauses that are reached from one, literal by literal, for the reduction of a
+-- universal literal (after Heule, Seidl and Biere, 2014 and 2017).
 use Rattle.std.specs.Prelude.{◌≡◌, ◌⊎◌, ℕ, Bool, true, false, not, ◌&&◌, List, ◌++◌, Contains}
 use Rattle.q_logic.specs.Literals.{Literal, negation}
 use Rattle.q_logic.specs.Formulas.{Clause, Matrix, Prefix, IsIn}

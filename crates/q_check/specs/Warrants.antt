@@ -1,4 +1,4 @@
--- Why a clause may come or go.
+-- Why a clause may come or go: the QRAT rules of Heule, Seidl and Biere (2014), over slots.
 use Rattle.std.specs.Prelude.{ℕ, List, Option, ◌++◌, Contains}
 use Rattle.q_logic.specs.Literals.{Literal}
 use Rattle.q_logic.specs.Formulas.{Clause, Matrix, Prefix, IsIn}

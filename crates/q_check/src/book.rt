@@ -122,7 +122,7 @@ impl Book {
         let Some(at) = self.store.find(clause) else {
             return Err(CheckError::Refused { cause: 3 });
         };
-        let warrant = warrant_of(
+        let reason = warrant_of(
             &mut self.store,
             &self.scope,
             &mut self.buffers,
@@ -130,7 +130,7 @@ impl Book {
             clause,
             first_lit(lits),
         )?;
-        if warrant.is_missing() {
+        if reason.is_missing() {
             return Err(CheckError::Refused { cause: 4 });
         }
         let alloc = self.alloc;
@@ -140,7 +140,7 @@ impl Book {
             &self.scope,
             &mut self.buffers.slots,
             at,
-            warrant,
+            reason,
             first_lit(lits),
             keep,
         )?;

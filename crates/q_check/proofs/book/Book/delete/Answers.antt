@@ -28,8 +28,8 @@ returns-in_default c m =
     let C = c.args.clause.now in
     rw (← c.self.view_is) (refl, delete-missing m P s p C (c.binds_all.ensures.0 c.if-not-binds_all.false) c.in_default.ensures)
 
-pub returns-in_err-warrant : goal.returns-in_err-warrant
-returns-in_err-warrant c m = let r = err_from_is_err_and c.from_residual.result c.from_residual.ensures.1 in rw (r.1, r.2, ← c.self.view_is, c.in_err-warrant.ensures.same) refl
+pub returns-in_err-reason : goal.returns-in_err-reason
+returns-in_err-reason c m = let r = err_from_is_err_and c.from_residual.result c.from_residual.ensures.1 in rw (r.1, r.2, ← c.self.view_is, c.in_err-reason.ensures.same) refl
 
 pub returns-then-is_missing : goal.returns-then-is_missing
 returns-then-is_missing c m =
@@ -38,14 +38,14 @@ returns-then-is_missing c m =
     let s = i.store in
     let p = first_of c.args.lits.now in
     let C = c.args.clause.now in
-    let x = rw (c.first_lit.ensures, c.is_missing.ensures.0 c.if-is_missing.true) at c.in_ok-warrant.ensures.exact in
-    rw (← c.self.view_is, c.in_ok-warrant.ensures.same) (refl, delete-unwarranted P s c.in-Some.at C c.in-Some.ensures m p (c.binds_all.ensures.0 c.if-not-binds_all.false) x)
+    let x = rw (c.first_lit.ensures, c.is_missing.ensures.0 c.if-is_missing.true) at c.in_ok-reason.ensures.exact in
+    rw (← c.self.view_is, c.in_ok-reason.ensures.same) (refl, delete-unwarranted P s c.in-Some.at C c.in-Some.ensures m p (c.binds_all.ensures.0 c.if-not-binds_all.false) x)
 
 pub returns-in_err-entry : goal.returns-in_err-entry
-returns-in_err-entry c m = let r = err_from_is_err_and c.from_residual-in_err-entry.result c.from_residual-in_err-entry.ensures.1 in rw (r.1, r.2, ← c.self.view_is, c.in_ok-warrant.ensures.same) refl
+returns-in_err-entry c m = let r = err_from_is_err_and c.from_residual-in_err-entry.result c.from_residual-in_err-entry.ensures.1 in rw (r.1, r.2, ← c.self.view_is, c.in_ok-reason.ensures.same) refl
 
 pub delete-requires : goal.delete-requires
-delete-requires c = rw c.in_ok-warrant.ensures.same (slice_get-in c.self.inside.store c.in-Some.at (Some c.args.clause.now) c.in-Some.ensures)
+delete-requires c = rw c.in_ok-reason.ensures.same (slice_get-in c.self.inside.store c.in-Some.at (Some c.args.clause.now) c.in-Some.ensures)
 
 pub overflow_sub-self : goal.overflow_sub-self
 overflow_sub-self c = let z = left-sizes c.self.inside.store c.in-Some.at c.args.clause.now c.in-Some.ensures in omega (arith, z.0, c.self.invariant.clauses_are)
@@ -63,10 +63,10 @@ invariant_of-self-2 c =
     let n = c.in-Some.at in
     let h = c.in-Some.ensures in
     let w = c.binds_all.ensures.0 c.if-not-binds_all.false in
-    let x = rw c.first_lit.ensures at c.in_ok-warrant.ensures.exact in
-    let v = delete-valid P s n C h standard p w (warranted P (filled (without s (Some n))) p C c.in_ok-warrant.warrant (test_is c.is_missing.result c.is_missing.ensures c.if-is_missing.false) x) in
+    let x = rw c.first_lit.ensures at c.in_ok-reason.ensures.exact in
+    let v = delete-valid P s n C h standard p w (warranted P (filled (without s (Some n))) p C c.in_ok-reason.reason (test_is c.is_missing.result c.is_missing.ensures c.if-is_missing.false) x) in
     let z = left-sizes s n C h in
-    let e = rw c.in_ok-warrant.ensures.same at c.delete.ensures in
+    let e = rw c.in_ok-reason.ensures.same at c.delete.ensures in
     rw e
     (record {
       formula = valid-formula standard (of P (filled s)) (of P (filled (set s n None))) (delete p C) v (delete-after P s n C h p) c.self.invariant.formula;
@@ -84,9 +84,9 @@ returns c m =
     let n = c.in-Some.at in
     let h = c.in-Some.ensures in
     let w = c.binds_all.ensures.0 c.if-not-binds_all.false in
-    let x = rw c.first_lit.ensures at c.in_ok-warrant.ensures.exact in
+    let x = rw c.first_lit.ensures at c.in_ok-reason.ensures.exact in
     let o = test_is c.is_missing.result c.is_missing.ensures c.if-is_missing.false in
-    let v = delete-valid P s n C h m p w (warranted P (filled (without s (Some n))) p C c.in_ok-warrant.warrant o x) in
-    let e = rw c.in_ok-warrant.ensures.same at c.delete.ensures in
-    let q = rw (c.first_lit-2.ensures, c.in_ok-warrant.ensures.same) at c.in_ok-entry.ensures in
-    rw (← c.self.view_is, e) (v, delete-after P s n C h p, delete-entry P s n C h c.args.keep p c.in_ok-warrant.warrant c.in_ok-entry.entry o x q)
+    let v = delete-valid P s n C h m p w (warranted P (filled (without s (Some n))) p C c.in_ok-reason.reason o x) in
+    let e = rw c.in_ok-reason.ensures.same at c.delete.ensures in
+    let q = rw (c.first_lit-2.ensures, c.in_ok-reason.ensures.same) at c.in_ok-entry.ensures in
+    rw (← c.self.view_is, e) (v, delete-after P s n C h p, delete-entry P s n C h c.args.keep p c.in_ok-reason.reason c.in_ok-entry.entry o x q)
