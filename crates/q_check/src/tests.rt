@@ -173,14 +173,24 @@ fn one_line_logs(rt: HostRuntime) {
     }
 }
 
+fn take(
+    alloc: Global,
+    checker: &mut Checker,
+    letter: u8,
+    first: i32,
+    second: i32,
+) -> Result<(), CheckError> {
+    let step = step_of(alloc, letter, first, second)?;
+    checker.step(&step)
+}
+
 // Takes both clauses and both variables away.
 fn equivalence(alloc: Global) -> Result<Undos, CheckError> {
     let formula = two(alloc, Quant::Forall, Quant::Exists)?;
     let mut checker = Checker::start(alloc, &formula, moderate(100, 1000), true)?;
-    checker.step(&step_of(alloc, b'd', 2, 1)?)?;
-    checker.step(&step_of(alloc, b'd', -2, -1)?)?;
-    checker.step(&step_of(alloc, b'r', 1, 1)?)?;
-    checker.step(&step_of(alloc, b'r', 2, 2)?)?;
+    for (letter, first, second) in [(b'd', 2, 1), (b'd', -2, -1), (b'r', 1, 1), (b'r', 2, 2)] {
+        take(alloc, &mut checker, letter, first, second)?;
+    }
     let verified = checker.finish(&nothing(alloc))?;
     Ok(verified.undo)
 }
