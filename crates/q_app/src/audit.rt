@@ -65,7 +65,8 @@ impl Audit {
     fn take_piece(&mut self, piece: &[u8]) -> Result<(), Outcome>
         requires { IsOpen self.old }
         ensures ok { OnOk result (Advances self.old self.new piece.now) }
-        ensures refused { IfErr result (λ o. (rest : List ℕ) → Refuses o self.old (piece.now ++ rest)) }
+        ensures refused { IfErr result (λ o. (rest : List ℕ) →
+            Refuses o self.old (piece.now ++ rest)) }
         ensures usage { IsErrOf result Outcome.Usage → ⊥ }
         ensures fault { IsErrOf result Outcome.ReadFault → ⊥ }
     {
@@ -90,10 +91,13 @@ impl Audit {
         requires goes_on { IsOpen self.old }
         ensures goes_on { OnOk result (IsOpen self.new) }
         ensures left { IfOk result (λ n. self.new.reader.left + n ≡ self.old.reader.left) }
-        ensures taken { IfOk result (λ n. IfSome (F.held files.old) (λ disk. HasTaken (bytes_at disk name.now) at n self.old self.new)) }
-        ensures refused { IfErr result (λ o. IfSome (F.held files.old) (λ disk. Refuses o self.old (drop at (bytes_at disk name.now)))) }
+        ensures taken { IfOk result (λ n. IfSome (F.held files.old)
+            (λ disk. HasTaken (bytes_at disk name.now) at n self.old self.new)) }
+        ensures refused { IfErr result (λ o. IfSome (F.held files.old)
+            (λ disk. Refuses o self.old (drop at (bytes_at disk name.now)))) }
         ensures usage { IsErrOf result Outcome.Usage → ⊥ }
-        ensures fault { IsErrOf result Outcome.ReadFault → Rose (F.read_faults files.old name.now) (F.read_faults files.new name.now) }
+        ensures fault { IsErrOf result Outcome.ReadFault → Rose
+            (F.read_faults files.old name.now) (F.read_faults files.new name.now) }
         ensures held { F.held files.new ≡ F.held files.old }
         ensures read_later { (q : List ℕ) → F.read_faults files.old q ≤ F.read_faults files.new q }
     {

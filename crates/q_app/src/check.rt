@@ -30,11 +30,14 @@ fn read_operand<F: Files>(
     buffer: &mut [u8],
 ) -> Result<Formula, Outcome>
     requires room { 0 < length buffer.old }
-    ensures formula { IfOk result (λ f. IfSome (F.held files.old) (λ disk. IsFileOf (bytes_at disk name.now) f)) }
+    ensures formula { IfOk result (λ f. IfSome (F.held files.old)
+        (λ disk. IsFileOf (bytes_at disk name.now) f)) }
     ensures proper { IfOk result IsProper }
-    ensures refused { IfErr result (λ o. IfSome (F.held files.old) (λ disk. IsInputRefusal role o (bytes_at disk name.now))) }
+    ensures refused { IfErr result (λ o. IfSome (F.held files.old)
+        (λ disk. IsInputRefusal role o (bytes_at disk name.now))) }
     ensures early { IfErr result IsEarly }
-    ensures fault { IsErrOf result Outcome.ReadFault → Rose (F.read_faults files.old name.now) (F.read_faults files.new name.now) }
+    ensures fault { IsErrOf result Outcome.ReadFault →
+        Rose (F.read_faults files.old name.now) (F.read_faults files.new name.now) }
     ensures held { F.held files.new ≡ F.held files.old }
     ensures read_later { (q : List ℕ) → F.read_faults files.old q ≤ F.read_faults files.new q }
 {
@@ -54,9 +57,11 @@ fn check_log<F: Files>(
     output: &Formula,
 ) -> Outcome
     requires room { 0 < length buffer.old }
-    ensures says { IfSome (F.held files.old) (λ disk. LogSays result input.now output.now (bytes_at disk name.now)) }
+    ensures says { IfSome (F.held files.old)
+        (λ disk. LogSays result input.now output.now (bytes_at disk name.now)) }
     ensures usage { result ≡ Outcome.Usage → ⊥ }
-    ensures fault { result ≡ Outcome.ReadFault → Rose (F.read_faults files.old name.now) (F.read_faults files.new name.now) }
+    ensures fault { result ≡ Outcome.ReadFault →
+        Rose (F.read_faults files.old name.now) (F.read_faults files.new name.now) }
     ensures held { F.held files.new ≡ F.held files.old }
     ensures read_later { (q : List ℕ) → F.read_faults files.old q ≤ F.read_faults files.new q }
 {
@@ -83,10 +88,15 @@ fn check_files<F: Files>(
     buffer: &mut [u8],
 ) -> Outcome
     requires room { 0 < length buffer.old }
-    ensures checks { IfSome (F.held files.old) (λ disk. Checks result (bytes_at disk input.now) (bytes_at disk output.now) (bytes_at disk log.now)) }
-    ensures truth { IfVerified result (IfSome (F.held files.old) (λ disk. HaveOneTruth (bytes_at disk input.now) (bytes_at disk output.now))) }
+    ensures checks { IfSome (F.held files.old) (λ disk.
+        Checks result (bytes_at disk input.now) (bytes_at disk output.now) (bytes_at disk log.now)) }
+    ensures truth { IfVerified result (IfSome (F.held files.old)
+        (λ disk. HaveOneTruth (bytes_at disk input.now) (bytes_at disk output.now))) }
     ensures usage { result ≡ Outcome.Usage → ⊥ }
-    ensures fault { result ≡ Outcome.ReadFault → Rose (F.read_faults files.old input.now) (F.read_faults files.new input.now) ⊎ Rose (F.read_faults files.old output.now) (F.read_faults files.new output.now) ⊎ Rose (F.read_faults files.old log.now) (F.read_faults files.new log.now) }
+    ensures fault { result ≡ Outcome.ReadFault →
+        Rose (F.read_faults files.old input.now) (F.read_faults files.new input.now)
+        ⊎ Rose (F.read_faults files.old output.now) (F.read_faults files.new output.now)
+        ⊎ Rose (F.read_faults files.old log.now) (F.read_faults files.new log.now) }
     ensures held { F.held files.new ≡ F.held files.old }
 {
     let from = match read_operand(alloc, files, Role::In, input, buffer) {
@@ -108,10 +118,15 @@ pub(crate) fn check<F: Files>(
     output: &str,
     log: &str,
 ) -> Outcome
-    ensures checks { IfSome (F.held files.old) (λ disk. Checks result (bytes_at disk input.now) (bytes_at disk output.now) (bytes_at disk log.now)) }
-    ensures truth { IfVerified result (IfSome (F.held files.old) (λ disk. HaveOneTruth (bytes_at disk input.now) (bytes_at disk output.now))) }
+    ensures checks { IfSome (F.held files.old) (λ disk.
+        Checks result (bytes_at disk input.now) (bytes_at disk output.now) (bytes_at disk log.now)) }
+    ensures truth { IfVerified result (IfSome (F.held files.old)
+        (λ disk. HaveOneTruth (bytes_at disk input.now) (bytes_at disk output.now))) }
     ensures usage { result ≡ Outcome.Usage → ⊥ }
-    ensures fault { result ≡ Outcome.ReadFault → Rose (F.read_faults files.old input.now) (F.read_faults files.new input.now) ⊎ Rose (F.read_faults files.old output.now) (F.read_faults files.new output.now) ⊎ Rose (F.read_faults files.old log.now) (F.read_faults files.new log.now) }
+    ensures fault { result ≡ Outcome.ReadFault →
+        Rose (F.read_faults files.old input.now) (F.read_faults files.new input.now)
+        ⊎ Rose (F.read_faults files.old output.now) (F.read_faults files.new output.now)
+        ⊎ Rose (F.read_faults files.old log.now) (F.read_faults files.new log.now) }
     ensures held { F.held files.new ≡ F.held files.old }
 {
     match vec![in alloc; 0u8; PIECE] {

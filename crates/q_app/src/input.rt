@@ -53,9 +53,13 @@ fn feed_piece<F: Files>(
     requires room { 0 < length buffer.old }
     requires reading { IsReading at reader.old }
     ensures reading { IfOk result (λ n. IsReading (at + n) reader.new) }
-    ensures fed { IfOk result (λ n. IfSome (F.held files.old) (λ disk. HasFed (bytes_at disk name.now) at n reader.old reader.new)) }
-    ensures refused { IfErr result (λ e. IfSome (F.held files.old) (λ disk. HasFront (bytes_at disk name.now) at reader.old → IsRefused e (bytes_at disk name.now))) }
-    ensures fault { IsErrOf result InputError.Fault → Rose (F.read_faults files.old name.now) (F.read_faults files.new name.now) }
+    ensures fed { IfOk result (λ n. IfSome (F.held files.old)
+        (λ disk. HasFed (bytes_at disk name.now) at n reader.old reader.new)) }
+    ensures refused { IfErr result (λ e. IfSome (F.held files.old)
+        (λ disk. HasFront (bytes_at disk name.now) at reader.old →
+        IsRefused e (bytes_at disk name.now))) }
+    ensures fault { IsErrOf result InputError.Fault →
+        Rose (F.read_faults files.old name.now) (F.read_faults files.new name.now) }
     ensures held { F.held files.new ≡ F.held files.old }
     ensures read_later { (q : List ℕ) → F.read_faults files.old q ≤ F.read_faults files.new q }
 {
@@ -70,9 +74,11 @@ fn feed_piece<F: Files>(
 }
 
 fn finish(reader: Reader) -> Result<Formula, InputError>
-    ensures formula { IfOk result (λ f. (bytes : List ℕ) → HasRead standard bytes reader → Dimacs standard bytes f) }
+    ensures formula { IfOk result (λ f. (bytes : List ℕ) → HasRead standard bytes reader →
+        Dimacs standard bytes f) }
     ensures proper { IfOk result IsProper }
-    ensures refused { IfErr result (λ e. (bytes : List ℕ) → HasRead standard bytes reader → IsRefused e bytes) }
+    ensures refused { IfErr result (λ e. (bytes : List ℕ) → HasRead standard bytes reader →
+        IsRefused e bytes) }
     ensures fault { IsErrOf result InputError.Fault → ⊥ }
 {
     match reader.finish() {
@@ -89,10 +95,13 @@ pub(crate) fn read_formula<F: Files>(
     buffer: &mut [u8],
 ) -> Result<Formula, InputError>
     requires room { 0 < length buffer.old }
-    ensures formula { IfOk result (λ f. IfSome (F.held files.old) (λ disk. Dimacs standard (bytes_at disk name.now) f)) }
+    ensures formula { IfOk result (λ f. IfSome (F.held files.old)
+        (λ disk. Dimacs standard (bytes_at disk name.now) f)) }
     ensures proper { IfOk result IsProper }
-    ensures refused { IfErr result (λ e. IfSome (F.held files.old) (λ disk. IsRefused e (bytes_at disk name.now))) }
-    ensures fault { IsErrOf result InputError.Fault → Rose (F.read_faults files.old name.now) (F.read_faults files.new name.now) }
+    ensures refused { IfErr result (λ e. IfSome (F.held files.old)
+        (λ disk. IsRefused e (bytes_at disk name.now))) }
+    ensures fault { IsErrOf result InputError.Fault →
+        Rose (F.read_faults files.old name.now) (F.read_faults files.new name.now) }
     ensures held { F.held files.new ≡ F.held files.old }
     ensures read_later { (q : List ℕ) → F.read_faults files.old q ≤ F.read_faults files.new q }
 {

@@ -81,7 +81,8 @@ fn verified(alloc: Global, steps: u64) -> Result<Vec<u8>, NoMemory>
 }
 
 fn end(alloc: Global, cause: u8) -> Result<Vec<u8>, NoMemory>
-    ensures { IfOk result (λ text. text.items ≡ codes "refused end cause " ++ decimal cause ++ codes "\n") }
+    ensures { IfOk result (λ text. text.items
+        ≡ codes "refused end cause " ++ decimal cause ++ codes "\n") }
 {
     let mut text = words(alloc, b"refused end cause ")?;
     put_decimal(&mut text, u64::from(cause))?;
@@ -90,7 +91,8 @@ fn end(alloc: Global, cause: u8) -> Result<Vec<u8>, NoMemory>
 }
 
 fn place(alloc: Global, before: &[u8], line: u64, cause: u8) -> Result<Vec<u8>, NoMemory>
-    ensures { IfOk result (λ text. text.items ≡ before.now ++ decimal line ++ codes " cause " ++ decimal cause ++ codes "\n") }
+    ensures { IfOk result (λ text. text.items
+        ≡ before.now ++ decimal line ++ codes " cause " ++ decimal cause ++ codes "\n") }
 {
     let mut text = words(alloc, before)?;
     put_decimal(&mut text, line)?;

@@ -17,8 +17,11 @@ use std::alloc::Global;
 // Puts a line. The answer is the status of its outcome, or why it could not be put.
 fn put<S: Sink>(out: &mut S, outcome: Outcome, line: &[u8]) -> Status
     requires { line.now ≡ line_of outcome }
-    ensures says { IfSome (S.written out.old) (λ before. Says before outcome result (S.written out.new)) }
-    ensures answer { (result ≡ status_of outcome) ⊎ ((result ≡ Status.WriteFault) × Rose (S.faults out.old) (S.faults out.new)) ⊎ (result ≡ Status.NoMemory) }
+    ensures says { IfSome (S.written out.old) (λ before.
+        Says before outcome result (S.written out.new)) }
+    ensures answer { (result ≡ status_of outcome)
+        ⊎ ((result ≡ Status.WriteFault) × Rose (S.faults out.old) (S.faults out.new))
+        ⊎ (result ≡ Status.NoMemory) }
 {
     match out.put(line) {
         Ok(()) => outcome.status(),
@@ -28,8 +31,11 @@ fn put<S: Sink>(out: &mut S, outcome: Outcome, line: &[u8]) -> Status
 }
 
 fn say<S: Sink>(alloc: Global, out: &mut S, outcome: Outcome) -> Status
-    ensures says { IfSome (S.written out.old) (λ before. Says before outcome result (S.written out.new)) }
-    ensures answer { (result ≡ status_of outcome) ⊎ ((result ≡ Status.WriteFault) × Rose (S.faults out.old) (S.faults out.new)) ⊎ (result ≡ Status.NoMemory) }
+    ensures says { IfSome (S.written out.old) (λ before.
+        Says before outcome result (S.written out.new)) }
+    ensures answer { (result ≡ status_of outcome)
+        ⊎ ((result ≡ Status.WriteFault) × Rose (S.faults out.old) (S.faults out.new))
+        ⊎ (result ≡ Status.NoMemory) }
 {
     match outcome {
         Outcome::NoMemory => put(out, outcome, b"no memory\n"),
@@ -45,17 +51,24 @@ fn say<S: Sink>(alloc: Global, out: &mut S, outcome: Outcome) -> Status
 pub fn run<F: Files, S: Sink>(alloc: Global, words: &[String], files: &mut F, out: &mut S) -> Status
     // Where the words are no command, that is said and nothing else is done.
     ensures usage { result ≡ Status.Usage → command (map (λ w. string_bytes w) words.now) ≡ None }
-    ensures no_command { command (map (λ w. string_bytes w) words.now) ≡ None → (result ≡ Status.Usage) ⊎ (result ≡ Status.WriteFault) ⊎ (result ≡ Status.NoMemory) }
+    ensures no_command { command (map (λ w. string_bytes w) words.now) ≡ None →
+        (result ≡ Status.Usage) ⊎ (result ≡ Status.WriteFault) ⊎ (result ≡ Status.NoMemory) }
 
     // When each status comes, over the bytes that the files hold; after Done the two formulas have one
     // truth value.
-    ensures check { IfSome (command (map (λ w. string_bytes w) words.now)) (λ c. IfSome (F.held files.old) (λ disk. AnswersExactly result (bytes_at disk c.input) (bytes_at disk c.output) (bytes_at disk c.log))) }
-    ensures read_fault { result ≡ Status.ReadFault → IfSome (command (map (λ w. string_bytes w) words.now)) (λ c. RoseFor (F.read_faults files.old) (F.read_faults files.new) c) }
+    ensures check { IfSome (command (map (λ w. string_bytes w) words.now)) (λ c.
+        IfSome (F.held files.old) (λ disk.
+        AnswersExactly result (bytes_at disk c.input) (bytes_at disk c.output) (bytes_at disk c.log))) }
+    ensures read_fault { result ≡ Status.ReadFault →
+        IfSome (command (map (λ w. string_bytes w) words.now)) (λ c.
+        RoseFor (F.read_faults files.old) (F.read_faults files.new) c) }
     ensures write_fault { result ≡ Status.WriteFault → Rose (S.faults out.old) (S.faults out.new) }
 
     // No file is changed, and the line that is put is the one of the outcome.
     ensures unchanged { F.held files.new ≡ F.held files.old }
-    ensures line { IfSome (S.written out.old) (λ before. SaysOf (F.held files.old) (command (map (λ w. string_bytes w) words.now)) before result (S.written out.new)) }
+    ensures line { IfSome (S.written out.old) (λ before.
+        SaysOf (F.held files.old) (command (map (λ w. string_bytes w) words.now)) before result
+        (S.written out.new)) }
 {
     match operands(words) {
         None => say(alloc, out, Outcome::Usage),

@@ -11,7 +11,9 @@ pub(crate) struct Names<'a> {
 
 /// The operands of `check IN OUT LOG`, where the words are this command and the names differ.
 pub(crate) fn operands(words: &[String]) -> Option<Names>
-    ensures { option_map (λ o. record { input = o.input.now; output = o.output.now; log = o.log.now }) result ≡ command (map (λ w. string_bytes w) words.now) }
+    ensures { option_map
+        (λ o. record { input = o.input.now; output = o.output.now; log = o.log.now }) result
+        ≡ command (map (λ w. string_bytes w) words.now) }
 {
     if words.len() != 4 {
         return None;
