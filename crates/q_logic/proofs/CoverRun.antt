@@ -222,12 +222,12 @@ light-turn P S V p q rest o b f m w h l = turn (w V) (rise w rest) (w S) m (h.mo
     turn v r s m a l i = omega arith
 
 covers-steps : (P : Prefix) (X : Matrix) (R : Clause) → ((D : Clause) → IsIn D X → (k : Literal) → IsIn k D → is_bound P k.var ≡ true) → Covers P X R → (S : Clause) → Same R S → ((k : Literal) → IsIn k S → is_bound P k.var ≡ true) → CoverWay P X S
-covers-steps P X R closed (Covers.ended R2 e) S s w = go (ends-same P X R S s e)
+covers-steps P X R closed (Covers.ended U e) S s w = go (ends-same P X R S s e)
   where
     go : Ends P X S → CoverWay P X S
     go (inl t) = (delete (least S) S ∷ [], reaches-delete P (least S) S X (S ∷ X) (alike-refl (S ∷ X)) (inl (implied-tautology X S t)), tt, light-delete P S (least S))
     go (inr (l, m, q, h)) = (delete (Some l) S ∷ [], reaches-delete P (Some l) S X (S ∷ X) (alike-refl (S ∷ X)) (inr (l, refl, blocked-pivot P X S l m q h)), tt, light-delete P S (Some l))
-covers-steps P X R closed (Covers.grown {T = T} R2 g c) S s w = go (grows-same P X R S T V s v g) (covers-steps P X T closed c V v (bounded (grows-same P X R S T V s v g)))
+covers-steps P X R closed (Covers.grown {T = T} U g c) S s w = go (grows-same P X R S T V s v g) (covers-steps P X T closed c V v (bounded (grows-same P X R S T V s v g)))
   where
     V : Clause
     V = (tidied T).0
