@@ -5,18 +5,12 @@ use Rattle.q_logic.specs.Literals.{Literal, negation, literal_eq}
 use Rattle.q_logic.specs.Formulas.{Clause, Matrix, IsIn}
 use Rattle.q_logic.specs.Pivots.{without}
 use Rattle.q_logic.specs.Sets.{has, without_literal, each_without, is_tautology}
-use Rattle.q_logic.specs.Numbered.{Slots, slot, live, others, put_first}
+use Rattle.q_logic.specs.Numbered.{Slots, slot, set_slot, live, others, put_first}
 use Rattle.q_logic.specs.Merging.{merged, merged_one, renamed}
 use Rattle.q_logic.proofs.Slots.{without_literal-slot, without-same, has-IsIn}
 use Rattle.q_logic.proofs.Sets.{without-other}
 use Rattle.q_logic.proofs.ExpandRun.{has_none}
 use Rattle.q_logic.proofs.MergeRun.{renamed-free}
-
--- What stands at the number c becomes o.
-abbrev pub set_slot : ℕ → Option Clause → Slots → Slots
-set_slot c o [] = []
-set_slot zero o (p ∷ N) = o ∷ N
-set_slot (suc c) o (p ∷ N) = p ∷ set_slot c o N
 
 pub live-without : (N : Slots) (c : ℕ) → live (set_slot c None N) ≡ others c N
 live-without [] c = refl

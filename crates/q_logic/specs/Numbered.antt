@@ -12,6 +12,12 @@ slot [] c = None
 slot (o ∷ N) zero = o
 slot (o ∷ N) (suc c) = slot N c
 
+-- the numbers with something else at one of them
+abbrev pub set_slot : ℕ → Option Clause → Slots → Slots
+set_slot c o [] = []
+set_slot zero o (p ∷ N) = o ∷ N
+set_slot (suc c) o (p ∷ N) = p ∷ set_slot c o N
+
 -- the clause, if there is one, before the others
 abbrev pub put_first : Option Clause → Matrix → Matrix
 put_first None X = X
