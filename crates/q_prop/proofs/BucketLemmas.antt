@@ -55,7 +55,7 @@ hashed_taken s n count old new k t h m d e = elim (ℕ-cases m n) [
   | inr other ↦
       let before = h m d (without-le s (Some n) m d e) in
       elim (ℕ-cases (bucket_of count d) k) [
-        | inl b ↦ rw b ((t.here.members m).1 (rw b at before, other))
+        | inl b ↦ rw b (t.here.kept m (rw b at before) other)
         | inr b ↦ rw (t.others (bucket_of count d) b) before
       ]
 ]

@@ -7,7 +7,7 @@ use Rattle.q_logic.specs.Literals.{Literal, pack, IsBelow}
 use Rattle.q_logic.specs.Formulas.{Clause}
 use Rattle.q_prop.specs.Slots.{Slots, Holds, IsPut, IsOrdered, AreOrdered, IsVacant, without}
 use Rattle.q_prop.specs.Lists.{list_at, IsAppended, IsTakenOut, AreSameLists}
-use Rattle.q_prop.specs.Holders.{IsHeld, IsFreed, AreAlike, AreHolders}
+use Rattle.q_prop.specs.Holders.{IsHeld, IsFreed, AreAlike, AreDistinct, AreHolders}
 use Rattle.q_prop.proofs.Literals.{Literal-cases}
 use Rattle.q_prop.proofs.Members.{Contains-nil, Contains-cons_cases}
 use Rattle.q_prop.proofs.MarkLemmas.{pack-apart}
@@ -61,12 +61,12 @@ module _ (old now new : List (List ℕ)) (slot : ℕ) (seen : Clause) (k : Liter
     ];
   }
 
-  pub freed-take : IsFreed old now slot seen → IsTakenOut now new (pack k) slot → IsFreed old new slot (seen ++ k ∷ [])
-  freed-take f t = record {
+  pub freed-take : AreDistinct old → IsFreed old now slot seen → IsTakenOut now new (pack k) slot → IsFreed old new slot (seen ++ k ∷ [])
+  freed-take apart' f t = record {
     members = λ l m. elim (Literal-cases l k) [
       | inl e ↦ rw e (
-        (λ c. let g = (t.here.members m).0 c in (((f.members k m).0 g.0).0, λ s h. g.1 s)),
-        (λ c. (t.here.members m).1 ((f.members k m).1 (c.0, λ s h. c.1 s (Contains-append_left seen (k ∷ []) k h)), λ s. c.1 s (Contains-push seen k))),
+        (λ c. (((f.members k m).0 (t.here.inside m c)).0, λ s h. t.here.gone (f.distinct apart' k) (rw s at c))),
+        (λ c. t.here.kept m ((f.members k m).1 (c.0, λ s h. c.1 s (Contains-append_left seen (k ∷ []) k h))) (λ s. c.1 s (Contains-push seen k))),
       )
       | inr d ↦ rw (t.others (pack l) (apart l k d)) (
         (λ c. let g = (f.members l m).0 c in (g.0, λ s h. elim (Contains-push_cases seen k l h) [ inl b ↦ g.1 s b | inr b ↦ d (sym b) ])),

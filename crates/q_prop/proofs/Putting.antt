@@ -9,8 +9,9 @@ use Rattle.q_prop.proofs.Fixpoint.{no_opposites-push}
 use Rattle.q_prop.specs.declared.watches.Pair.{Pair}
 use Rattle.q_prop.specs.Slots.{Slots, Holds, filled, IsPut, IsPlaced}
 use Rattle.q_prop.specs.Watches.{IsWatched, AllWatched, IsShort}
-use Rattle.q_prop.specs.Rows.{row_of, IsFrom, IsPushed}
-use Rattle.q_prop.proofs.RowLemmas.{IsPushed-in, IsFrom-end}
+use Rattle.q_prop.specs.declared.rows.Entry.{Entry}
+use Rattle.q_prop.specs.Rows.{row_of, HasEntry, entry_of, IsPushed}
+use Rattle.q_prop.proofs.RowLemmas.{HasEntry-pushed, IsFrom-end}
 use Rattle.q_prop.specs.Working.{IsCovered, AreListed, AreTrue, IsRooted, AreStanding}
 use Rattle.q_prop.proofs.SlotLemmas.{filled-in, filled-cases, slice_get-push_cases, take-front, Contains-slice_get}
 use Rattle.q_prop.proofs.WatchLemmas.{IsWithin, IsWatched-none, IsWatched-more, IsWatched-less}
@@ -19,16 +20,32 @@ use Rattle.q_prop.proofs.Rooting.{covered_pushed}
 use Rattle.q_prop.proofs.Placing.{placed-cases, placed-longer, placed-within, placed-same_length, put-placed, put-vacant, put-cases, put-here, put-other}
 
 -- the new pair stands in its two rows
-pub covered_put : (pairs pairs' : List (Option Pair)) (rows rows1 rows2 : List (List ℕ)) (p : Pair) (n : ℕ) → IsPlaced pairs n (Some p) pairs' → IsPushed rows rows1 p.first n → IsPushed rows1 rows2 p.second n → IsCovered pairs rows → IsCovered pairs' rows2
-covered_put pairs pairs' rows rows1 rows2 p n placed one two c b q e =
+pub covered_put : (s : Slots) (n : ℕ) (d : Clause) (s' : Slots) → IsPut s n d s' → (pairs pairs' : List (Option Pair)) (rows rows1 rows2 : List (List Entry)) (p : Pair) → Contains d p.first → Contains d p.second → IsPlaced pairs n (Some p) pairs' → IsPushed rows rows1 p.first (entry_of n p.second) → IsPushed rows1 rows2 p.second (entry_of n p.first) → IsCovered s pairs rows → IsCovered s' pairs' rows2
+covered_put s n d s' put pairs pairs' rows rows1 rows2 p first_in second_in placed one two covered' b c q h e =
     elim (placed-cases pairs n (Some p) pairs' placed b (Some q) e) [
-      | inl f ↦ covered_pushed pairs rows1 rows2 p.second n two (covered_pushed pairs rows rows1 p.first n one c) b q f.1
+      | inl f ↦
+          let before : Holds s b c = elim (put-cases s n d s' put b c h) [ inl k ↦ k.1 | inr k ↦ absurd (f.0 k.0) ] in
+          covered_pushed s pairs rows1 rows2 p.second (entry_of n p.first) two (covered_pushed s pairs rows rows1 p.first (entry_of n p.second) one covered') b c q before f.1
       | inr f ↦
           let same : p ≡ q = let g = f.1 in cc in
-          let first : IsFrom (row_of rows1 p.first) 0 n = rw one.here (IsFrom-end (row_of rows p.first) n) in
-          let second : IsFrom (row_of rows2 p.second) 0 n = rw two.here (IsFrom-end (row_of rows1 p.second) n) in
-          rw (f.0, ← same) (IsPushed-in rows1 rows2 p.second n two p.first 0 n first, second)
+          let clause : d ≡ c = elim (put-cases s n d s' put b c h) [ inl k ↦ absurd (k.0 f.0) | inr k ↦ k.1 ] in
+          let first : HasEntry (row_of rows1 p.first) 0 n d = (p.second, second_in, rw one.here (IsFrom-end (row_of rows p.first) (entry_of n p.second))) in
+          let second : HasEntry (row_of rows2 p.second) 0 n d = (p.first, first_in, rw two.here (IsFrom-end (row_of rows1 p.second) (entry_of n p.first))) in
+          rw (f.0, ← same, ← clause) (HasEntry-pushed rows1 rows2 p.second (entry_of n p.first) two p.first 0 n d first, second)
     ]
+
+-- a clause without a pair needs no entry
+pub covered_short : (s : Slots) (n : ℕ) (d : Clause) (s' : Slots) → IsPut s n d s' → (pairs pairs' : List (Option Pair)) (rows : List (List Entry)) → IsPlaced pairs n None pairs' → IsCovered s pairs rows → IsCovered s' pairs' rows
+covered_short s n d s' put pairs pairs' rows placed covered' b c q h e =
+    elim (placed-cases pairs n None pairs' placed b (Some q) e) [
+      | inl f ↦
+          let before : Holds s b c = elim (put-cases s n d s' put b c h) [ inl k ↦ k.1 | inr k ↦ absurd (f.0 k.0) ] in
+          covered' b c q before f.1
+      | inr f ↦ absurd (no_pair q f.1)
+    ]
+  where
+    no_pair : (q : Pair) → None ≡ Some q → ⊥
+    no_pair q e = cc
 
 module _ (s : Slots) (n : ℕ) (d : Clause) (s' : Slots) (put : IsPut s n d s') where
   filled-more : (c : Clause) → Contains (filled s) c → Contains (filled s') c
@@ -58,7 +75,7 @@ module _ (s : Slots) (n : ℕ) (d : Clause) (s' : Slots) (put : IsPut s n d s') 
     | inr g ↦ rw (← g) (d, put-here s n d s' put)
   ]
 
-  module _ (pairs : List (Option Pair)) (rows rows' : List (List ℕ)) (singles : List ℕ) (done : ℕ) (root : List Literal) (head : ℕ) (r : IsRooted s pairs rows singles done root head) (standing : AreStanding s singles) (o : Option Pair) (pairs' : List (Option Pair)) (placed : IsPlaced pairs n o pairs') where
+  module _ (pairs : List (Option Pair)) (singles : List ℕ) (done : ℕ) (root : List Literal) (head : ℕ) (r : IsRooted s pairs singles done root head) (standing : AreStanding s singles) (o : Option Pair) (pairs' : List (Option Pair)) (placed : IsPlaced pairs n o pairs') where
     grown_length : length pairs' ≡ length s'
     grown_length = placed-same_length pairs pairs' s s' n o (Some d) placed (put-placed s n d s' put) r.listed.same_length
 
@@ -71,7 +88,7 @@ module _ (s : Slots) (n : ℕ) (d : Clause) (s' : Slots) (put : IsPut s n d s') 
     some_none : (p : Pair) → Some p ≡ None → ⊥
     some_none p e = cc
 
-    module _ (p : Pair) (is_some : o ≡ Some p) (root' : List Literal) (head' : ℕ) (covered' : IsCovered pairs' rows') (within : IsWithin root root') (consistent' : HasOpposites root' → ⊥) (head_in' : head' ≤ length root') (old : (c : Clause) (q : Pair) → IsWatched (take head root) root c q → IsWatched (take head' root') root' c q) (new : IsWatched (take head' root') root' d p) where
+    module _ (p : Pair) (is_some : o ≡ Some p) (root' : List Literal) (head' : ℕ) (within : IsWithin root root') (consistent' : HasOpposites root' → ⊥) (head_in' : head' ≤ length root') (old : (c : Clause) (q : Pair) → IsWatched (take head root) root c q → IsWatched (take head' root') root' c q) (new : IsWatched (take head' root') root' d p) where
       watched_put : AllWatched (take head' root') root' s' pairs'
       watched_put b c q e f = elim (placed-cases pairs n o pairs' placed b (Some q) f) [
         | inl g ↦ old c q (r.ready.watched b c q (old_slot b c g.0 e) g.1)
@@ -94,9 +111,9 @@ module _ (s : Slots) (n : ℕ) (d : Clause) (s' : Slots) (put : IsPut s n d s') 
         short = λ b c h e. r.listed.short b c h (old_slot b c (not_listed singles standing b h) e);
       }
 
-      pub rooted_put : IsChain (filled s') [] root' → IsRooted s' pairs' rows' singles done root' head'
+      pub rooted_put : IsChain (filled s') [] root' → IsRooted s' pairs' singles done root' head'
       rooted_put chain' = record {
-        ready = record { consistent = consistent'; covered = covered'; watched = watched_put };
+        ready = record { consistent = consistent'; watched = watched_put };
         head_in = head_in';
         listed = listed_put;
         singles_true = AreTrue-more s' singles done root root' within singles_more;
@@ -104,44 +121,40 @@ module _ (s : Slots) (n : ℕ) (d : Clause) (s' : Slots) (put : IsPut s n d s') 
       }
 
     -- a clause that is watched at the root
-    pub rooted_open : (p : Pair) → o ≡ Some p → IsCovered pairs' rows' → IsWatched root root d p → IsRooted s' pairs' rows' singles done root head
-    rooted_open p is covered' new =
-        rooted_put p is root head covered' (λ l h. h) r.ready.consistent r.head_in (λ c q w. w)
+    pub rooted_open : (p : Pair) → o ≡ Some p → IsWatched root root d p → IsRooted s' pairs' singles done root head
+    rooted_open p is new =
+        rooted_put p is root head (λ l h. h) r.ready.consistent r.head_in (λ c q w. w)
         (IsWatched-less root (take head root) root d p (λ l h. Contains-take root head l h) new) (chain_more root r.chain)
 
     -- nothing is worked off
-    pub rooted_again : (p : Pair) → o ≡ Some p → IsCovered pairs' rows' → IsWatched [] [] d p → IsRooted s' pairs' rows' singles done root 0
-    rooted_again p is covered' new =
-        rooted_put p is root 0 covered' (λ l h. h) r.ready.consistent (omega arith) (λ c q w. IsWatched-none (take head root) root root c q w)
+    pub rooted_again : (p : Pair) → o ≡ Some p → IsWatched [] [] d p → IsRooted s' pairs' singles done root 0
+    rooted_again p is new =
+        rooted_put p is root 0 (λ l h. h) r.ready.consistent (omega arith) (λ c q w. IsWatched-none (take head root) root root c q w)
         (IsWatched-none [] [] root d p new) (chain_more root r.chain)
 
     -- the clause forces its first literal
-    pub rooted_forced : (p : Pair) → o ≡ Some p → IsCovered pairs' rows' → IsWatched [] [] d p → IsUnit root d p.first → (Contains root (negation p.first) → ⊥) → IsRooted s' pairs' rows' singles done (root ++ p.first ∷ []) head
-    rooted_forced p is covered' new unit open' =
+    pub rooted_forced : (p : Pair) → o ≡ Some p → IsWatched [] [] d p → IsUnit root d p.first → (Contains root (negation p.first) → ⊥) → IsRooted s' pairs' singles done (root ++ p.first ∷ []) head
+    rooted_forced p is new unit open' =
         let same : take head (root ++ p.first ∷ []) ≡ take head root = take-front root (p.first ∷ []) head r.head_in in
         let long = length-append root (p.first ∷ []) in
         let within : IsWithin root (root ++ p.first ∷ []) = λ l h. Contains-append_left root (p.first ∷ []) l h in
-        rooted_put p is (root ++ p.first ∷ []) head covered' within (no_opposites-push root p.first r.ready.consistent open') (omega (arith, long, r.head_in))
+        rooted_put p is (root ++ p.first ∷ []) head within (no_opposites-push root p.first r.ready.consistent open') (omega (arith, long, r.head_in))
         (λ c q w. rw same (IsWatched-more (take head root) root (root ++ p.first ∷ []) c q within w))
         (record {
           first_in = new.first_in;
           second_in = new.second_in;
           differ = new.differ;
           first_false = λ h. absurd (open' (Contains-take root head (negation p.first) (rw same at h)));
-          second_false = λ h. Contains-push root p.first;
+          second_false = λ h. (p.first, new.first_in, Contains-push root p.first);
         })
         (IsChain-append (filled s') [] root (p.first ∷ []) (chain_more root r.chain)
         (record { clause = d; of_matrix = filled-new; of_clause = new.first_in; others = unit }, tt))
 
     -- a short clause is listed
-    pub rooted_short : o ≡ None → done ≤ length singles → IsShort d → IsRooted s' pairs' rows (singles ++ n ∷ []) done root head
+    pub rooted_short : o ≡ None → done ≤ length singles → IsShort d → IsRooted s' pairs' (singles ++ n ∷ []) done root head
     rooted_short is before short' = record {
       ready = record {
         consistent = r.ready.consistent;
-        covered = λ b q e. elim (placed-cases pairs n o pairs' placed b (Some q) e) [
-          | inl g ↦ r.ready.covered b q g.1
-          | inr g ↦ absurd (some_none q (sym g.1 ∙ is))
-        ];
         watched = λ b c q e f. elim (placed-cases pairs n o pairs' placed b (Some q) f) [
           | inl g ↦ r.ready.watched b c q (old_slot b c g.0 e) g.1
           | inr g ↦ absurd (some_none q (sym g.1 ∙ is))

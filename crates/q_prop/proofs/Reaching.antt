@@ -10,11 +10,12 @@ use Rattle.q_prop.proofs.Missing.{missing, missing-lt}
 use Rattle.q_prop.proofs.Fixpoint.{IsSearch-push}
 use Rattle.q_prop.specs.declared.watches.Pair.{Pair}
 use Rattle.q_prop.specs.Watches.{IsWatched, AllWatched}
-use Rattle.q_prop.specs.Slots.{Slots, Holds, filled}
-use Rattle.q_prop.specs.Rows.{row_of, IsFrom}
-use Rattle.q_prop.specs.Working.{IsWorking, IsGrown, IsNew, AreNew, IsReached, IsReady, IsKept, AreListed, AreTrue}
+use Rattle.q_prop.specs.Slots.{Slots, Holds, filled, without}
+use Rattle.q_prop.specs.declared.rows.Entry.{Entry}
+use Rattle.q_prop.specs.Rows.{row_of, HasEntry, entry_of}
+use Rattle.q_prop.specs.Working.{IsWorking, IsGrown, IsNew, AreNew, IsReached, IsReady, IsCovered, IsKept, AreListed, AreTrue}
 use Rattle.q_prop.proofs.WatchLemmas.{IsWithin, IsWatched-apart, IsWatched-settled, IsSingle-settled}
-use Rattle.q_prop.proofs.SlotLemmas.{take-slice_get, slice_get-in, slice_get-there, filled-cases, slice_get-Contains}
+use Rattle.q_prop.proofs.SlotLemmas.{take-slice_get, slice_get-in, slice_get-there, without-le, filled-cases, slice_get-Contains}
 
 AreNew-push : (x : Matrix) (known added : List Literal) (l : Literal) → AreNew x known added → IsNew x (known ++ added) l → AreNew x known (added ++ l ∷ [])
 AreNew-push x known [] l h n = (rw append-nil at n, tt)
@@ -94,9 +95,9 @@ IsKept-trans s known more a b c w k l = record {
   floors = λ few within all. l.floors few (λ m h. w m (within m h)) (k.floors few within all);
 }
 
-start_watch : (s : Slots) (head : ℕ) (lit : Literal) (known : List Literal) (pairs : List (Option Pair)) (rows : List (List ℕ)) → IsReady s head known pairs rows → slice_get known head ≡ Some lit → (at' : ℕ) (c : Clause) (p : Pair) → slice_get pairs at' ≡ Some (Some p) → IsWatched (take head known) known c p → IsWatched (take (suc head) known) known c p ⊎ (IsFrom (row_of rows (negation lit)) 0 at' × IsWatched (take head known) known c p)
-start_watch s head lit known pairs rows r h at' c p e g =
-    let covered = r.covered at' p e in
+start_watch : (t : Slots) (head : ℕ) (lit : Literal) (known : List Literal) (pairs : List (Option Pair)) (rows : List (List Entry)) → IsCovered t pairs rows → slice_get known head ≡ Some lit → (at' : ℕ) (c : Clause) (p : Pair) → Holds t at' c → slice_get pairs at' ≡ Some (Some p) → IsWatched (take head known) known c p → IsWatched (take (suc head) known) known c p ⊎ (HasEntry (row_of rows (negation lit)) 0 at' c × IsWatched (take head known) known c p)
+start_watch t head lit known pairs rows covered' h at' c p d e g =
+    let covered = covered' at' c p d e in
     elim (Literal-cases p.first (negation lit)) [
       | inl q ↦ inr (rw q at covered.0, g)
       | inr n ↦ elim (Literal-cases p.second (negation lit)) [
@@ -105,23 +106,23 @@ start_watch s head lit known pairs rows r h at' c p e g =
       ]
     ]
 
-pub IsReady-start : (s : Slots) (head : ℕ) (lit : Literal) (known : List Literal) (pairs : List (Option Pair)) (rows : List (List ℕ)) → IsReady s head known pairs rows → slice_get known head ≡ Some lit → IsWorking s head lit 0 known pairs rows
-IsReady-start s head lit known pairs rows r h = record {
+pub IsReady-start : (t : Slots) (skip : Option ℕ) (head : ℕ) (lit : Literal) (known : List Literal) (pairs : List (Option Pair)) (rows : List (List Entry)) → IsReady (without t skip) head known pairs → IsCovered t pairs rows → slice_get known head ≡ Some lit → IsWorking (without t skip) head lit 0 known pairs rows
+IsReady-start t skip head lit known pairs rows r covered' h = record {
   is_head = h;
   consistent = r.consistent;
-  covered = r.covered;
-  watched = λ at' c p e f. start_watch s head lit known pairs rows r h at' c p f (r.watched at' c p e f);
+  watched = λ at' c p e f. start_watch t head lit known pairs rows covered' h at' c p (without-le t skip at' c e) f (r.watched at' c p e f);
 }
 
-pub IsWorking-end : (s : Slots) (head : ℕ) (lit : Literal) (i : ℕ) (known : List Literal) (pairs : List (Option Pair)) (rows : List (List ℕ)) → IsWorking s head lit i known pairs rows → length (row_of rows (negation lit)) ≤ i → IsReady s (head + 1) known pairs rows
+pub IsWorking-end : (s : Slots) (head : ℕ) (lit : Literal) (i : ℕ) (known : List Literal) (pairs : List (Option Pair)) (rows : List (List Entry)) → IsWorking s head lit i known pairs rows → length (row_of rows (negation lit)) ≤ i → IsReady s (head + 1) known pairs
 IsWorking-end s head lit i known pairs rows w past = record {
   consistent = w.consistent;
-  covered = w.covered;
   watched = λ at' c p e f. elim (w.watched at' c p e f) [
     | inl d ↦ rw add-one d
     | inr r ↦
-        let inside = slice_get-in (row_of rows (negation lit)) r.0.0 at' r.0.2 in
-        absurd (omega (arith, inside, past, r.0.1))
+        let x = r.0 in
+        let j = x.2 in
+        let inside = slice_get-in (row_of rows (negation lit)) j.0 (entry_of at' x.0) j.2 in
+        absurd (omega (arith, inside, past, j.1))
   ];
 }
 

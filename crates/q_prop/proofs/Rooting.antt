@@ -11,8 +11,9 @@ use Rattle.q_prop.specs.Search.{IsOpen}
 use Rattle.q_prop.specs.declared.watches.Pair.{Pair}
 use Rattle.q_prop.specs.Slots.{Slots, Holds, filled, without}
 use Rattle.q_prop.specs.Watches.{AllWatched}
+use Rattle.q_prop.specs.declared.rows.Entry.{Entry}
 use Rattle.q_prop.specs.Rows.{IsPushed}
-use Rattle.q_prop.proofs.RowLemmas.{IsPushed-in}
+use Rattle.q_prop.proofs.RowLemmas.{HasEntry-pushed}
 use Rattle.q_prop.specs.Working.{IsCovered, IsKept, AreListed, IsRooted, AreStanding}
 use Rattle.q_prop.proofs.SlotLemmas.{filled-in, filled-cases, without-le, without-here, without-other, slice_get-set_other, slice_get-set_here}
 use Rattle.q_prop.proofs.WatchLemmas.{IsWithin, IsWatched-none}
@@ -22,11 +23,10 @@ pub none_watched : (done known : List Literal) (s : Slots) (pairs : List (Option
 none_watched done known s pairs w b c p e f = IsWatched-none done known [] c p (w b c p e f)
 
 -- nothing is worked off
-pub rooted_zero : (s : Slots) (pairs pairs' : List (Option Pair)) (rows' : List (List ℕ)) (singles : List ℕ) (root' : List Literal) → AreListed s pairs singles → AllWatched [] [] s pairs → IsChain (filled s) [] root' → (HasOpposites root' → ⊥) → IsKept s [] pairs pairs' → IsCovered pairs' rows' → IsRooted s pairs' rows' singles 0 root' 0
-rooted_zero s pairs pairs' rows' singles root' listed watched chain' consistent' kept covered' = record {
+pub rooted_zero : (s : Slots) (pairs pairs' : List (Option Pair)) (singles : List ℕ) (root' : List Literal) → AreListed s pairs singles → AllWatched [] [] s pairs → IsChain (filled s) [] root' → (HasOpposites root' → ⊥) → IsKept s [] pairs pairs' → IsRooted s pairs' singles 0 root' 0
+rooted_zero s pairs pairs' singles root' listed watched chain' consistent' kept = record {
   ready = record {
     consistent = consistent';
-    covered = covered';
     watched = λ b c p e f. IsWatched-none [] [] root' c p (kept.floors [] (λ l h. h) watched b c p e f);
   };
   head_in = omega arith;
@@ -36,13 +36,12 @@ rooted_zero s pairs pairs' rows' singles root' listed watched chain' consistent'
 }
 
 -- all is worked off, and pairs have moved above the root
-pub rooted_kept : (s : Slots) (pairs pairs' : List (Option Pair)) (rows rows' : List (List ℕ)) (singles : List ℕ) (done : ℕ) (root : List Literal) → IsRooted s pairs rows singles done root (length root) → IsKept s root pairs pairs' → IsCovered pairs' rows' → IsRooted s pairs' rows' singles done root (length root)
-rooted_kept s pairs pairs' rows rows' singles done root r kept covered' =
+pub rooted_kept : (s : Slots) (pairs pairs' : List (Option Pair)) (singles : List ℕ) (done : ℕ) (root : List Literal) → IsRooted s pairs singles done root (length root) → IsKept s root pairs pairs' → IsRooted s pairs' singles done root (length root)
+rooted_kept s pairs pairs' singles done root r kept =
     let all : take (length root) root ≡ root = take_all (length root) root (omega arith) in
     record {
       ready = record {
         consistent = r.ready.consistent;
-        covered = covered';
         watched = rw all (kept.floors root (λ l h. h) (rw all at r.ready.watched));
       };
       head_in = r.head_in;
@@ -93,11 +92,10 @@ module _ (s : Slots) (at' : ℕ) (root : List Literal) (free : (c : Clause) → 
     f.2,
   )
 
-pub without-rooted : (s : Slots) (at' : ℕ) (pairs : List (Option Pair)) (rows : List (List ℕ)) (singles : List ℕ) (done : ℕ) (root root' : List Literal) (head : ℕ) → IsRooted s pairs rows singles done root head → IsChain (filled (without s (Some at'))) [] root → IsRooted (without s (Some at')) pairs rows singles done root head
-without-rooted s at' pairs rows singles done root root' head r chain' = record {
+pub without-rooted : (s : Slots) (at' : ℕ) (pairs : List (Option Pair)) (singles : List ℕ) (done : ℕ) (root root' : List Literal) (head : ℕ) → IsRooted s pairs singles done root head → IsChain (filled (without s (Some at'))) [] root → IsRooted (without s (Some at')) pairs singles done root head
+without-rooted s at' pairs singles done root root' head r chain' = record {
   ready = record {
     consistent = r.ready.consistent;
-    covered = r.ready.covered;
     watched = λ b c p e f. r.ready.watched b c p (without-le s (Some at') b c e) f;
   };
   head_in = r.head_in;
@@ -112,10 +110,10 @@ without-rooted s at' pairs rows singles done root root' head r chain' = record {
 }
 
 -- the root stands without the slot
-pub rooted_free : (s : Slots) (skip : Option ℕ) (pairs : List (Option Pair)) (rows : List (List ℕ)) (singles : List ℕ) (done : ℕ) (root : List Literal) (head : ℕ) → ((at' : ℕ) (c : Clause) → skip ≡ Some at' → Holds s at' c → IsOpen root c) → IsRooted s pairs rows singles done root head → IsRooted (without s skip) pairs rows singles done root head
-rooted_free s None pairs rows singles done root head free r = r
-rooted_free s (Some at') pairs rows singles done root head free r =
-    without-rooted s at' pairs rows singles done root root head r (chain_free s at' root (λ c e. free at' c refl e) r.chain)
+pub rooted_free : (s : Slots) (skip : Option ℕ) (pairs : List (Option Pair)) (singles : List ℕ) (done : ℕ) (root : List Literal) (head : ℕ) → ((at' : ℕ) (c : Clause) → skip ≡ Some at' → Holds s at' c → IsOpen root c) → IsRooted s pairs singles done root head → IsRooted (without s skip) pairs singles done root head
+rooted_free s None pairs singles done root head free r = r
+rooted_free s (Some at') pairs singles done root head free r =
+    without-rooted s at' pairs singles done root root head r (chain_free s at' root (λ c e. free at' c refl e) r.chain)
 
 pub falsified_skip : (s : Slots) (skip : Option ℕ) (root : List Literal) → ((at' : ℕ) (c : Clause) → skip ≡ Some at' → Holds s at' c → IsOpen root c) → HasFalsified (filled s) root → HasFalsified (filled (without s skip)) root
 falsified_skip s None root free f = f
@@ -126,11 +124,10 @@ chain_skip s None root free f = f
 chain_skip s (Some at') root free f = chain_free s at' root (λ c e. free at' c refl e) f
 
 -- a root of nothing, without a slot
-pub rooted_empty : (s : Slots) (n : ℕ) (pairs : List (Option Pair)) (rows : List (List ℕ)) (singles : List ℕ) → AreListed (without s (Some n)) pairs singles → AllWatched [] [] s pairs → IsCovered pairs rows → IsRooted (without s (Some n)) pairs rows singles 0 [] 0
-rooted_empty s n pairs rows singles listed watched covered' = record {
+pub rooted_empty : (s : Slots) (n : ℕ) (pairs : List (Option Pair)) (singles : List ℕ) → AreListed (without s (Some n)) pairs singles → AllWatched [] [] s pairs → IsRooted (without s (Some n)) pairs singles 0 [] 0
+rooted_empty s n pairs singles listed watched = record {
   ready = record {
     consistent = λ o. Contains-nil o.0 o.1;
-    covered = covered';
     watched = λ b c p e f. watched b c p (without-le s (Some n) b c e) f;
   };
   head_in = omega arith;
@@ -153,25 +150,21 @@ listed_without s skip pairs singles listed = record {
     length-without s (Some at') = length-set s at' None
 
 -- a root of nothing
-pub rooted_nothing : (s : Slots) (skip : Option ℕ) (pairs : List (Option Pair)) (rows : List (List ℕ)) (singles : List ℕ) → AreListed s pairs singles → AllWatched [] [] s pairs → IsCovered pairs rows → IsRooted (without s skip) pairs rows singles 0 [] 0
-rooted_nothing s None pairs rows singles listed watched covered' = record {
-  ready = record { consistent = λ o. Contains-nil o.0 o.1; covered = covered'; watched = watched };
+pub rooted_nothing : (s : Slots) (skip : Option ℕ) (pairs : List (Option Pair)) (singles : List ℕ) → AreListed s pairs singles → AllWatched [] [] s pairs → IsRooted (without s skip) pairs singles 0 [] 0
+rooted_nothing s None pairs singles listed watched = record {
+  ready = record { consistent = λ o. Contains-nil o.0 o.1; watched = watched };
   head_in = omega arith;
   listed = listed;
   singles_true = λ j b c h e f. absurd (not-suc-le-zero h);
   chain = tt;
 }
-rooted_nothing s (Some n) pairs rows singles listed watched covered' = rooted_empty s n pairs rows singles (listed_without s (Some n) pairs singles listed) watched covered'
+rooted_nothing s (Some n) pairs singles listed watched = rooted_empty s n pairs singles (listed_without s (Some n) pairs singles listed) watched
 
 -- an empty slot needs no pair
-pub rooted_cleared : (s : Slots) (at' : ℕ) (pairs : List (Option Pair)) (rows : List (List ℕ)) (singles : List ℕ) (done : ℕ) (root : List Literal) (head : ℕ) → IsRooted (without s (Some at')) pairs rows singles done root head → IsRooted (without s (Some at')) (set pairs at' None) rows singles done root head
-rooted_cleared s at' pairs rows singles done root head r = record {
+pub rooted_cleared : (s : Slots) (at' : ℕ) (pairs : List (Option Pair)) (singles : List ℕ) (done : ℕ) (root : List Literal) (head : ℕ) → IsRooted (without s (Some at')) pairs singles done root head → IsRooted (without s (Some at')) (set pairs at' None) singles done root head
+rooted_cleared s at' pairs singles done root head r = record {
   ready = record {
     consistent = r.ready.consistent;
-    covered = λ b p e. elim (ℕ-cases b at') [
-      | inl f ↦ absurd (none_pair p (slice_get-set_here pairs at' None (Some p) (rw f at e)))
-      | inr d ↦ r.ready.covered b p (sym (slice_get-set_other pairs at' b None d) ∙ e)
-    ];
     watched = λ b c p e f. elim (ℕ-cases b at') [
       | inl g ↦ absurd (none_pair p (slice_get-set_here pairs at' None (Some p) (rw g at f)))
       | inr d ↦ r.ready.watched b c p e (sym (slice_get-set_other pairs at' b None d) ∙ f)
@@ -195,10 +188,17 @@ rooted_cleared s at' pairs rows singles done root head r = record {
     none_pair p e = cc
 
 -- a row has grown
-pub covered_pushed : (pairs : List (Option Pair)) (rows rows' : List (List ℕ)) (l : Literal) (at' : ℕ) → IsPushed rows rows' l at' → IsCovered pairs rows → IsCovered pairs rows'
-covered_pushed pairs rows rows' l at' p c b q e =
-    let old = c b q e in
-    (IsPushed-in rows rows' l at' p q.first 0 b old.0, IsPushed-in rows rows' l at' p q.second 0 b old.1)
+pub covered_pushed : (t : Slots) (pairs : List (Option Pair)) (rows rows' : List (List Entry)) (l : Literal) (e : Entry) → IsPushed rows rows' l e → IsCovered t pairs rows → IsCovered t pairs rows'
+covered_pushed t pairs rows rows' l e p covered' b c q h g =
+    let old = covered' b c q h g in
+    (HasEntry-pushed rows rows' l e p q.first 0 b c old.0, HasEntry-pushed rows rows' l e p q.second 0 b c old.1)
+
+-- an empty slot needs no entry
+pub covered_cleared : (t : Slots) (n : ℕ) (pairs : List (Option Pair)) (rows : List (List Entry)) → IsCovered t pairs rows → IsCovered (without t (Some n)) (set pairs n None) rows
+covered_cleared t n pairs rows covered' b c q h g = elim (ℕ-cases b n) [
+  | inl s ↦ absurd (without-here t n c (rw s at h))
+  | inr d ↦ covered' b c q (without-le t (Some n) b c h) (sym (slice_get-set_other pairs n b None d) ∙ g)
+]
 
 none_not_some : (c : Clause) → None ≡ Some (Some c) → ⊥
 none_not_some c e = cc
@@ -231,13 +231,3 @@ standing_free s n pairs singles root l standing free b h =
           let o = free e.0 (subst (λ x. Holds s x e.0) g e.1) in
           o.differ (l.short b e.0 h e.1 o.first o.second o.has_first o.has_second)) ∙ e.1,
     )
-
--- rows that still cover the pairs
-pub rooted_covered : (s : Slots) (pairs : List (Option Pair)) (rows rows' : List (List ℕ)) (singles : List ℕ) (done : ℕ) (root : List Literal) (head : ℕ) → IsRooted s pairs rows singles done root head → IsCovered pairs rows' → IsRooted s pairs rows' singles done root head
-rooted_covered s pairs rows rows' singles done root head r covered' = record {
-  ready = record { consistent = r.ready.consistent; covered = covered'; watched = r.ready.watched };
-  head_in = r.head_in;
-  listed = r.listed;
-  singles_true = r.singles_true;
-  chain = r.chain;
-}

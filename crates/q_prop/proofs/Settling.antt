@@ -161,8 +161,8 @@ assumed_within root c known a l h =
     Contains-along known (negation r.0) l r.2 (a.assumed r.0 r.1)
 
 -- what the search above the root answers
-search_not_implied-told : (s : Slots) (root known new : List Literal) (pairs : List (Option Pair)) (rows : List (List ℕ)) (singles : List ℕ) (c : Clause) → AreListed s pairs singles → AreTrue s singles (length singles) root → IsWithin root known → IsAssumed root c known → IsReached (filled s) known new → IsReady s (length new) new pairs rows → IsImplied (filled s) c → ⊥
-search_not_implied-told s root known new pairs rows singles c listed true' long a r ready =
+search_not_implied-told : (s : Slots) (root known new : List Literal) (pairs : List (Option Pair)) (singles : List ℕ) (c : Clause) → AreListed s pairs singles → AreTrue s singles (length singles) root → IsWithin root known → IsAssumed root c known → IsReached (filled s) known new → IsReady s (length new) new pairs → IsImplied (filled s) c → ⊥
+search_not_implied-told s root known new pairs singles c listed true' long a r ready =
     let more = IsReached-within (filled s) known new r in
     let all : take (length new) new ≡ new = take_all (length new) new (omega arith) in
     settled_not_implied (filled s) new c
@@ -248,10 +248,9 @@ pub longer_within : (old new : List Literal) → IsLonger old new → IsWithin o
 longer_within old new h l m = rw h.1 (Contains-append_left old h.0 l m)
 
 -- more literals are known, which are not worked off
-pub ready_longer : (s : Slots) (head : ℕ) (old new : List Literal) (pairs : List (Option Pair)) (rows : List (List ℕ)) → IsReady s head old pairs rows → head ≤ length old → IsLonger old new → (HasOpposites new → ⊥) → IsReady s head new pairs rows
-ready_longer s head old new pairs rows r h long c = record {
+pub ready_longer : (s : Slots) (head : ℕ) (old new : List Literal) (pairs : List (Option Pair)) → IsReady s head old pairs → head ≤ length old → IsLonger old new → (HasOpposites new → ⊥) → IsReady s head new pairs
+ready_longer s head old new pairs r h long c = record {
   consistent = c;
-  covered = r.covered;
   watched = λ b d p e f.
       let same : take head new ≡ take head old = rw long.1 (take-front old long.0 head h) in
       rw same (IsWatched-more (take head old) old new d p (longer_within old new long) (r.watched b d p e f));
@@ -283,6 +282,6 @@ falsified_implied x root known new c chain assumed r f = is_implied x c (falsifi
 pub root_implied : (x : Matrix) (root : List Literal) (c : Clause) → IsChain x [] root → HasFalsified x root → Implied x c
 root_implied x root c chain f = is_implied x c (root_implied-told x root c chain f)
 
-pub search_not_implied : (s : Slots) (root known new : List Literal) (pairs : List (Option Pair)) (rows : List (List ℕ)) (singles : List ℕ) (c : Clause) → AreListed s pairs singles → AreTrue s singles (length singles) root → IsWithin root known → IsAssumed root c known → IsReached (filled s) known new → IsReady s (length new) new pairs rows → Implied (filled s) c → ⊥
-search_not_implied s root known new pairs rows singles c listed true' long a r ready i =
-    search_not_implied-told s root known new pairs rows singles c listed true' long a r ready (implied_of (filled s) c i)
+pub search_not_implied : (s : Slots) (root known new : List Literal) (pairs : List (Option Pair)) (singles : List ℕ) (c : Clause) → AreListed s pairs singles → AreTrue s singles (length singles) root → IsWithin root known → IsAssumed root c known → IsReached (filled s) known new → IsReady s (length new) new pairs → Implied (filled s) c → ⊥
+search_not_implied s root known new pairs singles c listed true' long a r ready i =
+    search_not_implied-told s root known new pairs singles c listed true' long a r ready (implied_of (filled s) c i)

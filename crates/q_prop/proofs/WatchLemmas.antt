@@ -1,14 +1,14 @@
 -- Watched literals: what a visit keeps, and what they say at the end.
 use Rattle.std.proofs.Common.{◌≡◌, ◌≢◌, List, [], ◌∷◌, ◌++◌, Some, Contains, sym, ◌∙◌, ap, ap₂, subst, inl, inr}
-use Rattle.std.proofs.lemmas.List.Elements.{Contains-push, Contains-push_cases}
+use Rattle.std.proofs.lemmas.List.Elements.{Contains-push_cases}
 use Rattle.q_logic.specs.Literals.{Literal, negation}
 use Rattle.q_logic.specs.Formulas.{Clause}
-use Rattle.q_prop.specs.Chains.{HasOpposites}
+use Rattle.q_prop.specs.Chains.{IsUnit, HasOpposites}
 use Rattle.q_prop.proofs.Members.{Contains-along, Contains-nil}
 use Rattle.q_prop.proofs.Literals.{negation-negation, Literal-cases}
 use Rattle.q_prop.specs.Search.{IsSettled}
 use Rattle.q_prop.specs.declared.watches.Pair.{Pair}
-use Rattle.q_prop.specs.Watches.{IsWatched, IsSingle, IsShort}
+use Rattle.q_prop.specs.Watches.{HasTrue, IsWatched, IsSingle, IsShort}
 use Rattle.q_prop.specs.Working.{IsOther}
 
 abbrev pub IsWithin : List Literal → List Literal → Type 0
@@ -20,22 +20,18 @@ negation-apart k l e = sym (negation-negation k) ∙ ap negation e ∙ negation-
 -- at the end a watched clause is settled
 pub IsWatched-settled : (known : List Literal) (c : Clause) (p : Pair) → (HasOpposites known → ⊥) → IsWatched known known c p → IsSettled known c
 IsWatched-settled known c p consistent w = record {
-  not_falsified = λ f.
-      let n = f p.first w.first_in in
-      let m = f p.second w.second_in in
-      consistent (p.second, w.first_false n, m);
+  not_falsified = λ f. let t = w.first_false (f p.first w.first_in) in consistent (t.0, t.2, f t.0 t.1);
   nothing_new = λ l in' u. elim (Literal-cases p.first l) [
-    | inl e ↦
-        let m = u p.second w.second_in (λ f. w.differ (e ∙ sym f)) in
-        Contains-along known p.first l e (w.second_false m)
-    | inr n ↦
-        let second = w.first_false (u p.first w.first_in n) in
-        elim (Literal-cases p.second l) [
-          | inl e ↦ Contains-along known p.second l e second
-          | inr m ↦ absurd (consistent (p.second, second, u p.second w.second_in m))
-        ]
+    | inl e ↦ true_known l u (w.second_false (u p.second w.second_in (λ f. w.differ (e ∙ sym f))))
+    | inr n ↦ true_known l u (w.first_false (u p.first w.first_in n))
   ];
 }
+  where
+    true_known : (l : Literal) → IsUnit known c l → HasTrue known c → Contains known l
+    true_known l u t = elim (Literal-cases t.0 l) [
+      | inl e ↦ Contains-along known t.0 l e t.2
+      | inr m ↦ absurd (consistent (t.0, t.2, u t.0 t.1 m))
+    ]
 
 pub IsSingle-settled : (known : List Literal) (c : Clause) → (HasOpposites known → ⊥) → IsShort c → IsSingle known c → IsSettled known c
 IsSingle-settled known c consistent short s = record {
@@ -49,8 +45,8 @@ IsWatched-more done known more c p w g = record {
   first_in = g.first_in;
   second_in = g.second_in;
   differ = g.differ;
-  first_false = λ h. w p.second (g.first_false h);
-  second_false = λ h. w p.first (g.second_false h);
+  first_false = λ h. let t = g.first_false h in (t.0, t.1, w t.0 t.2);
+  second_false = λ h. let t = g.second_false h in (t.0, t.1, w t.0 t.2);
 }
 
 abbrev pub swapped : Pair → Pair
@@ -81,32 +77,28 @@ IsWatched-apart done known k c p n m w = record {
   ];
 }
 
-module _ (done known : List Literal) (k : Literal) (c : Clause) (p : Pair) (within : IsWithin (done ++ k ∷ []) known) (consistent : HasOpposites known → ⊥) where
-  -- the other literal is true
-  pub IsWatched-keep : Contains known p.second → IsWatched done known c p → IsWatched (done ++ k ∷ []) known c p
-  IsWatched-keep second w = record {
-    first_in = w.first_in;
-    second_in = w.second_in;
-    differ = w.differ;
-    first_false = λ h. second;
-    second_false = λ h. absurd (consistent (p.second, second, within (negation p.second) h));
-  }
+-- a clause that is true stays watched, whatever is worked off
+pub IsWatched-true : (done some known : List Literal) (c : Clause) (p : Pair) → HasTrue known c → IsWatched done known c p → IsWatched some known c p
+IsWatched-true done some known c p t w = record {
+  first_in = w.first_in;
+  second_in = w.second_in;
+  differ = w.differ;
+  first_false = λ h. t;
+  second_false = λ h. t;
+}
 
-  -- a literal that is not false takes the place of the first
-  pub IsWatched-move : (l : Literal) → Contains c l → l ≢ p.second → (Contains known (negation l) → ⊥) → p.first ≡ negation k → IsWatched done known c p → IsWatched (done ++ k ∷ []) known c (record { first = l; second = p.second })
-  IsWatched-move l in' differ' open' e w = record {
-    first_in = in';
-    second_in = w.second_in;
-    differ = differ';
-    first_false = λ h. absurd (open' (within (negation l) h));
-    second_false = λ h. absurd (elim (Contains-push_cases done k (negation p.second) h) [
-      | inl before ↦
-          let first = w.second_false before in
-          let k_known = within k (Contains-push done k) in
-          consistent (k, k_known, Contains-along known p.first (negation k) e first)
-      | inr f ↦ w.differ (e ∙ ap negation f ∙ negation-negation p.second)
-    ]);
-  }
+-- a literal that is not false takes the place of the first
+pub IsWatched-move : (done known : List Literal) (k : Literal) (c : Clause) (p : Pair) → IsWithin (done ++ k ∷ []) known → (l : Literal) → Contains c l → l ≢ p.second → (Contains known (negation l) → ⊥) → p.first ≡ negation k → IsWatched done known c p → IsWatched (done ++ k ∷ []) known c (record { first = l; second = p.second })
+IsWatched-move done known k c p within l in' differ' open' e w = record {
+  first_in = in';
+  second_in = w.second_in;
+  differ = differ';
+  first_false = λ h. absurd (open' (within (negation l) h));
+  second_false = λ h. elim (Contains-push_cases done k (negation p.second) h) [
+    | inl before ↦ w.second_false before
+    | inr f ↦ absurd (w.differ (e ∙ ap negation f ∙ negation-negation p.second))
+  ];
+}
 
 -- less is worked off
 pub IsWatched-less : (done some known : List Literal) (c : Clause) (p : Pair) → IsWithin some done → IsWatched done known c p → IsWatched some known c p
@@ -146,13 +138,13 @@ IsWatched-none done known more c p w = record {
 }
 
 -- a moved pair is watched under few of the known literals
-pub IsWatched-floor : (few known : List Literal) (lit l o : Literal) (c : Clause) (p : Pair) → IsWithin few known → (HasOpposites known → ⊥) → Contains known lit → IsOther p (negation lit) (Some o) → Contains c l → l ≢ o → (Contains known (negation l) → ⊥) → IsWatched few few c p → IsWatched few few c (pair_of l o)
-IsWatched-floor few known lit l o c p within consistent here other in' differ' open' w =
-    let v = IsOther-to few few c p (negation lit) o other w in
+pub IsWatched-floor : (few known : List Literal) (f l o : Literal) (c : Clause) (p : Pair) → IsWithin few known → IsOther p f (Some o) → Contains c l → l ≢ o → (Contains known (negation l) → ⊥) → IsWatched few few c p → IsWatched few few c (pair_of l o)
+IsWatched-floor few known f l o c p within other in' differ' open' w =
+    let v = IsOther-to few few c p f o other w in
     record {
       first_in = in';
       second_in = v.second_in;
       differ = differ';
       first_false = λ h. absurd (open' (within (negation l) h));
-      second_false = λ h. absurd (consistent (lit, here, within (negation lit) (v.second_false h)));
+      second_false = v.second_false;
     }

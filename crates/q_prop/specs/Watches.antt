@@ -10,13 +10,17 @@ use Rattle.q_prop.specs.declared.watches.Visit.TheVariants.{Move, Force, Conflic
 use Rattle.q_prop.specs.declared.watches.Pick.{Pick}
 use Rattle.q_prop.specs.declared.watches.Pick.TheVariants.{Short, Open, OneLeft, AllFalse}
 
--- two literals of the clause, of which neither is false by what is worked off unless the other is true
+-- some literal of the clause is known
+abbrev pub HasTrue : List Literal → Clause → Type 0
+HasTrue known c = (l : Literal) × Contains c l × Contains known l
+
+-- two literals of the clause, of which neither is false by what is worked off unless the clause is true
 pub record IsWatched (done known : List Literal) (c : Clause) (p : Pair) : Type 0 where
   pub first_in : Contains c p.first
   pub second_in : Contains c p.second
   pub differ : p.first ≢ p.second
-  pub first_false : Contains done (negation p.first) → Contains known p.second
-  pub second_false : Contains done (negation p.second) → Contains known p.first
+  pub first_false : Contains done (negation p.first) → HasTrue known c
+  pub second_false : Contains done (negation p.second) → HasTrue known c
 
 -- the clauses that have a pair are watched
 abbrev pub AllWatched : List Literal → List Literal → Slots → List (Option Pair) → Type 0

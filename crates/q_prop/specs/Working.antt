@@ -7,18 +7,18 @@ use Rattle.q_prop.specs.Chains.{IsForced, HasOpposites, IsChain}
 use Rattle.q_prop.specs.declared.watches.Pair.{Pair}
 use Rattle.q_prop.specs.Slots.{Slots, Holds, filled}
 use Rattle.q_prop.specs.Watches.{IsWatched, AllWatched, IsShort, IsSingle}
-use Rattle.q_prop.specs.Rows.{row_of, IsFrom}
+use Rattle.q_prop.specs.declared.rows.Entry.{Entry}
+use Rattle.q_prop.specs.Rows.{row_of, HasEntry}
 
--- each pair stands in the rows of its literals
-abbrev pub IsCovered : List (Option Pair) → List (List ℕ) → Type 0
-IsCovered pairs rows = (at' : ℕ) (p : Pair) → slice_get pairs at' ≡ Some (Some p) → IsFrom (row_of rows p.first) 0 at' × IsFrom (row_of rows p.second) 0 at'
+-- each clause with a pair stands in the rows of its pair's literals
+abbrev pub IsCovered : Slots → List (Option Pair) → List (List Entry) → Type 0
+IsCovered s pairs rows = (at' : ℕ) (c : Clause) (p : Pair) → Holds s at' c → slice_get pairs at' ≡ Some (Some p) → HasEntry (row_of rows p.first) 0 at' c × HasEntry (row_of rows p.second) 0 at' c
 
 -- each clause is watched with the literal worked off, or stands in the rest of the row
-pub record IsWorking (s : Slots) (head : ℕ) (lit : Literal) (i : ℕ) (known : List Literal) (pairs : List (Option Pair)) (rows : List (List ℕ)) : Type 0 where
+pub record IsWorking (s : Slots) (head : ℕ) (lit : Literal) (i : ℕ) (known : List Literal) (pairs : List (Option Pair)) (rows : List (List Entry)) : Type 0 where
   pub is_head : slice_get known head ≡ Some lit
   pub consistent : HasOpposites known → ⊥
-  pub covered : IsCovered pairs rows
-  pub watched : (at' : ℕ) (c : Clause) (p : Pair) → Holds s at' c → slice_get pairs at' ≡ Some (Some p) → IsWatched (take (suc head) known) known c p ⊎ (IsFrom (row_of rows (negation lit)) i at' × IsWatched (take head known) known c p)
+  pub watched : (at' : ℕ) (c : Clause) (p : Pair) → Holds s at' c → slice_get pairs at' ≡ Some (Some p) → IsWatched (take (suc head) known) known c p ⊎ (HasEntry (row_of rows (negation lit)) i at' c × IsWatched (take head known) known c p)
 
 -- the literal is forced, and neither it nor its negation is known
 abbrev pub IsNew : Matrix → List Literal → Literal → Type 0
@@ -60,9 +60,8 @@ pub record IsKept (s : Slots) (known : List Literal) (old new : List (Option Pai
   pub floors : (few : List Literal) → ((l : Literal) → Contains few l → Contains known l) → AllWatched few few s old → AllWatched few few s new
 
 -- the literals before the head are worked off
-pub record IsReady (s : Slots) (head : ℕ) (known : List Literal) (pairs : List (Option Pair)) (rows : List (List ℕ)) : Type 0 where
+pub record IsReady (s : Slots) (head : ℕ) (known : List Literal) (pairs : List (Option Pair)) : Type 0 where
   pub consistent : HasOpposites known → ⊥
-  pub covered : IsCovered pairs rows
   pub watched : AllWatched (take head known) known s pairs
 
 -- the clauses without a pair stand in a list, and all of this list are short
@@ -81,8 +80,8 @@ abbrev pub AreTrue : Slots → List ℕ → ℕ → List Literal → Type 0
 AreTrue s singles done known = (j at' : ℕ) (c : Clause) → j < done → slice_get singles j ≡ Some at' → Holds s at' c → IsSingle known c
 
 -- the root: a chain from nothing over the clauses, worked off up to a place
-pub record IsRooted (s : Slots) (pairs : List (Option Pair)) (rows : List (List ℕ)) (singles : List ℕ) (done : ℕ) (root : List Literal) (head : ℕ) : Type 0 where
-  pub ready : IsReady s head root pairs rows
+pub record IsRooted (s : Slots) (pairs : List (Option Pair)) (singles : List ℕ) (done : ℕ) (root : List Literal) (head : ℕ) : Type 0 where
+  pub ready : IsReady s head root pairs
   pub head_in : head ≤ length root
   pub listed : AreListed s pairs singles
   pub singles_true : AreTrue s singles done root

@@ -1,11 +1,13 @@
 //! Lists of slots under a hash of their clauses.
-ghost use Rattle.std.specs.Prelude.{◌≡◌, ◌↔◌, ◌≤◌, ◌^◌, length, IsTrue, IfOk, OnOk, ◌<◌, MatchOption, Contains, ℕ};
+ghost use Rattle.std.specs.Prelude.{◌≡◌, ◌↔◌, ◌≤◌, ◌^◌, length, IsTrue, IfOk, OnOk, OnErr, ◌<◌, MatchOption, Contains, ℕ};
 ghost use Rattle.q_logic.specs.Literals.{pack};
 ghost use Rattle.q_prop.specs.Slots.{Holds};
+ghost use Rattle.q_prop.specs.Lists.{IsAppended, IsTakenOut, AreSameLists};
 ghost use Rattle.q_prop.specs.Buckets.{stirred, hash_from, bucket_of, AreHashed, IsEntered};
 
 use crate::lists::Lists;
 use crate::propagator::Propagator;
+use crate::spots::{Spots, renote};
 use q_logic::{Lit, NoMemory};
 use std::alloc::Global;
 
@@ -73,23 +75,50 @@ fn same_clause(clause: &[Lit], lits: &[Lit]) -> bool
     true
 }
 
-/// All filled slots in so many buckets.
-pub fn rehashed(alloc: Global, propagator: &Propagator, count: usize) -> Result<Lists, NoMemory>
+/// All filled slots in so many buckets, with their places.
+pub fn rehashed(
+    alloc: Global,
+    propagator: &Propagator,
+    spots: &mut Spots,
+    count: usize,
+) -> Result<Lists, NoMemory>
     requires positive { 1 ≤ count }
     requires small { length propagator.now ≤ 2 ^ 32 }
     ensures { IfOk result (λ lists. AreHashed propagator.now count lists) }
 {
     let mut lists = Lists::new(alloc);
     for at in 0..propagator.slots() {
-        enter(propagator, &mut lists, count, at)?;
+        enter(propagator, &mut lists, spots, count, at)?;
     }
     Ok(lists)
+}
+
+/// Puts a slot at the end of a list, and notes its place.
+pub fn put_into(lists: &mut Lists, spots: &mut Spots, k: usize, slot: u32) -> Result<(), NoMemory>
+    ensures ok { OnOk result (IsAppended lists.old lists.new k slot) }
+    ensures err { OnErr result (AreSameLists lists.old lists.new) }
+{
+    spots.grow((slot as usize).saturating_add(1))?;
+    let place = lists.list(k).len();
+    lists.push(k, slot)?;
+    spots.set(slot as usize, place);
+    Ok(())
+}
+
+/// Takes a slot out of a list, and notes the place of the one that comes where it stood.
+pub fn take_from(lists: &mut Lists, spots: &mut Spots, k: usize, slot: u32)
+    ensures { IsTakenOut lists.old lists.new k slot }
+{
+    let place = spots.get(slot as usize);
+    lists.take_out(k, slot, place);
+    renote(spots, lists.list(k), place);
 }
 
 // Puts a slot into the bucket of its clause.
 fn enter(
     propagator: &Propagator,
     lists: &mut Lists,
+    spots: &mut Spots,
     count: usize,
     at: usize,
 ) -> Result<(), NoMemory>
@@ -98,7 +127,7 @@ fn enter(
     ensures { OnOk result (IsEntered propagator.now count lists.old lists.new at) }
 {
     match propagator.slot(at) {
-        Some(clause) => lists.push(bucket(count, clause), at as u32),
+        Some(clause) => put_into(lists, spots, bucket(count, clause), at as u32),
         None => Ok(()),
     }
 }

@@ -4,7 +4,9 @@ ghost use Rattle.q_prop.specs.Slots.{without, Holds, IsPut, IsVacant};
 ghost use Rattle.q_prop.specs.Pieces.{clause_of, AreWithin, IsBounds, IsCarried};
 ghost use Rattle.q_prop.specs.declared.clauses.Piece.TheVariants.{Filled};
 
+use crate::lists::Lists;
 use crate::places::place;
+use crate::spots::Spots;
 use q_logic::{Lit, NoMemory};
 use std::alloc::Global;
 use std::marker::Model;
@@ -16,12 +18,14 @@ pub enum Piece {
     Filled { start: u32, end: u32 },
 }
 
-/// The clauses, in slots. Their literals stand in one row.
+/// The clauses, in slots. Their literals stand in one row, and beside each of them its slot's place in
+/// the list of those that hold it.
 #[derive(Drop)]
 pub struct Clauses {
     alloc: Global,
     pieces: Vec<Piece>,
     lits: Vec<Lit>,
+    spots: Spots,
     vacant: u32,
     dead: usize,
 }
@@ -46,6 +50,7 @@ impl Clauses {
             alloc,
             pieces: Vec::new(alloc),
             lits: Vec::new(alloc),
+            spots: Spots::new(alloc),
             vacant: 0,
             dead: 0,
         }
@@ -85,6 +90,7 @@ impl Clauses {
     {
         self.compact()?;
         self.pieces.reserve(1)?;
+        self.spots.grow(self.lits.len().saturating_add(lits.len()))?;
         let piece = append(&mut self.lits, lits)?;
         self.vacant = link_at(&self.pieces, at, self.vacant);
         place(&mut self.pieces, at, piece);
@@ -100,6 +106,32 @@ impl Clauses {
         self.vacant = u32::try_from(at).unwrap_or(u32::MAX);
     }
 
+    /// Where the slot may stand in the list of those that hold a literal of its clause.
+    pub fn spot(&self, at: usize, nth: usize) -> usize {
+        match bounds(&self.pieces, at) {
+            Some((start, _)) => self.spots.get(start.saturating_add(nth)),
+            None => 0,
+        }
+    }
+
+    /// Notes where the slot stands in the list of those that hold a literal of its clause.
+    pub fn note(&mut self, at: usize, nth: usize, place: usize)
+        ensures { self.new ≡ self.old }
+    {
+        if let Some((start, _)) = bounds(&self.pieces, at) {
+            self.spots.set(start.saturating_add(nth), place);
+        }
+    }
+
+    /// Notes the places of those that have come where a slot stood in the lists.
+    pub fn renote(&mut self, at: usize, lists: &Lists)
+        ensures { self.new ≡ self.old }
+    {
+        if let Some((start, end)) = bounds(&self.pieces, at) {
+            renote_words(&self.pieces, &self.lits, &mut self.spots, start, end, lists);
+        }
+    }
+
     // Where more than half of the row is of cleared slots, moves the clauses into a new one.
     fn compact(&mut self) -> Result<(), NoMemory>
         ensures { self.new ≡ self.old }
@@ -107,9 +139,11 @@ impl Clauses {
         if self.dead <= self.lits.len() / 2 {
             return Ok(());
         }
+        let spots = carried(self.alloc, &self.pieces, &self.spots)?;
         let mut lits = Vec::with_capacity(self.alloc, self.lits.len() - self.lits.len() / 2)?;
         self.pieces = moved(self.alloc, &self.pieces, &self.lits, &mut lits)?;
         self.lits = lits;
+        self.spots = spots;
         self.dead = 0;
         Ok(())
     }
@@ -186,6 +220,55 @@ fn carry(from: &[Lit], into: &mut Vec<Lit>, piece: Piece) -> Result<Piece, NoMem
     match piece {
         Piece::Filled { start, end } => append(into, &from[start as usize..end as usize]),
         Piece::Empty { next } => Ok(Piece::Empty { next }),
+    }
+}
+
+// The places of the pieces' literals, as they stand once the clauses have moved.
+fn carried(alloc: Global, pieces: &[Piece], from: &Spots) -> Result<Spots, NoMemory> {
+    let mut spots = Spots::new(alloc);
+    for piece in pieces {
+        if let Piece::Filled { start, end } = *piece {
+            spots.append(from, start as usize, end as usize)?;
+        }
+    }
+    Ok(spots)
+}
+
+// Notes the places of those that have come where the literals of the row from a start to an end had theirs.
+fn renote_words(
+    pieces: &[Piece],
+    lits: &[Lit],
+    spots: &mut Spots,
+    start: usize,
+    end: usize,
+    lists: &Lists,
+)
+    requires { AreWithin lits.now pieces.now }
+{
+    for word in start..end {
+        let place = spots.get(word);
+        if let Some(moved) = moved_word(pieces, lits, word, place, lists) {
+            spots.set(moved, place);
+        }
+    }
+}
+
+// Where in the row the literal stands once more, of the slot that has come to this place of its list.
+fn moved_word(
+    pieces: &[Piece],
+    lits: &[Lit],
+    word: usize,
+    place: usize,
+    lists: &Lists,
+) -> Option<usize>
+    requires { AreWithin lits.now pieces.now }
+{
+    let lit = *lits.get(word)?;
+    let slot = *lists.list(lit.index()).get(place)?;
+    let (start, end) = bounds(pieces, slot as usize)?;
+    match lits[start..end].binary_search(&lit) {
+        Ok(nth) => Some(start.saturating_add(nth)),
+        Err(_) => None,
     }
 }
 

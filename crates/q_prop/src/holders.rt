@@ -3,13 +3,20 @@ ghost use Rattle.std.specs.Prelude.{◌≡◌, OnOk, OnErr, Contains};
 ghost use Rattle.q_logic.specs.Literals.{Literal, pack};
 ghost use Rattle.q_prop.specs.Slots.{IsOrdered};
 ghost use Rattle.q_prop.specs.Lists.{list_at};
-ghost use Rattle.q_prop.specs.Holders.{IsHeld, IsFreed, AreAlike};
+ghost use Rattle.q_prop.specs.Holders.{IsHeld, IsFreed, AreAlike, AreDistinct};
 
 use crate::lists::Lists;
+use crate::propagator::Propagator;
 use q_logic::{Lit, NoMemory};
 
 /// Puts a slot under each literal of its clause.
-pub fn insert(lists: &mut Lists, slot: u32, lits: &[Lit]) -> Result<(), NoMemory>
+pub fn insert(
+    lists: &mut Lists,
+    propagator: &Propagator,
+    slot: u32,
+    lits: &[Lit],
+) -> Result<(), NoMemory>
+    requires distinct { AreDistinct lists.old }
     requires fresh { (l : Literal) → Contains (list_at lists.old (pack l)) slot → ⊥ }
     requires ordered { IsOrdered lits.now }
     ensures ok { OnOk result (IsHeld lists.old lists.new slot lits.now) }
@@ -17,7 +24,7 @@ pub fn insert(lists: &mut Lists, slot: u32, lits: &[Lit]) -> Result<(), NoMemory
 {
     for i in 0..lits.len() {
         if let Err(error) = lists.push(lits[i].index(), slot) {
-            remove(lists, slot, &lits[..i]);
+            remove(lists, propagator, slot, &lits[..i]);
             return Err(error);
         }
     }
@@ -25,10 +32,22 @@ pub fn insert(lists: &mut Lists, slot: u32, lits: &[Lit]) -> Result<(), NoMemory
 }
 
 /// Takes a slot from under each literal of its clause.
-pub fn remove(lists: &mut Lists, slot: u32, lits: &[Lit])
+pub fn remove(lists: &mut Lists, propagator: &Propagator, slot: u32, lits: &[Lit])
+    requires distinct { AreDistinct lists.old }
     ensures { IsFreed lists.old lists.new slot lits.now }
 {
-    for lit in lits {
-        lists.take_out(lit.index(), slot);
+    for i in 0..lits.len() {
+        let place = propagator.spot(slot as usize, i);
+        lists.take_out(lits[i].index(), slot, place);
+    }
+}
+
+/// Notes the places of a slot that has come to the ends of the lists under its literals.
+pub fn note(lists: &Lists, propagator: &mut Propagator, at: usize, lits: &[Lit])
+    ensures { propagator.new ≡ propagator.old }
+{
+    for i in 0..lits.len() {
+        let count = lists.list(lits[i].index()).len();
+        propagator.note(at, i, count.saturating_sub(1));
     }
 }

@@ -11,6 +11,7 @@ mod plain;
 mod propagation;
 mod propagator;
 mod rows;
+mod spots;
 mod store;
 mod trail;
 mod watches;

@@ -1,4 +1,4 @@
-ghost use Rattle.std.specs.Prelude.{◌≡◌, ◌≤◌, ◌<◌, ◌++◌, ◌∷◌, [], OnOk, OnErr, map, vec_len};
+ghost use Rattle.std.specs.Prelude.{◌≡◌, ◌≤◌, ◌<◌, ◌++◌, ◌∷◌, [], OnOk, OnErr, map, vec_len, IsTrue, slice_get, Some};
 ghost use Rattle.q_prop.specs.Lists.{list_at, IsAppended, IsTakenOut, IsLost, AreSameLists};
 
 use q_logic::NoMemory;
@@ -47,12 +47,13 @@ impl Lists {
         push_at(&mut self.lists, k, slot)
     }
 
-    /// Takes a slot out of a list.
-    pub fn take_out(&mut self, k: usize, slot: u32)
+    /// Takes a slot out of a list, in constant time where it stands at the given place. The last one
+    /// comes there then.
+    pub fn take_out(&mut self, k: usize, slot: u32, place: usize)
         ensures { IsTakenOut self.old self.new k slot }
     {
         if k < self.lists.len() {
-            take_out_at(&mut self.lists, k, slot);
+            take_out_at(&mut self.lists, k, slot, place);
         }
     }
 }
@@ -80,16 +81,36 @@ fn push_at(lists: &mut Vec<Vec<u32>>, k: usize, slot: u32) -> Result<(), NoMemor
     Ok(())
 }
 
-fn take_out_at(lists: &mut Vec<Vec<u32>>, k: usize, slot: u32)
+fn take_out_at(lists: &mut Vec<Vec<u32>>, k: usize, slot: u32, place: usize)
     requires { k < vec_len lists.old }
     ensures { IsTakenOut (map (λ v. v.items) lists.old.items) (map (λ v. v.items) lists.new.items) k slot }
 {
     let list = &mut lists[k];
-    forget(list, slot);
+    forget(list, slot, place);
 }
 
-// Takes a slot out of the list.
-fn forget(list: &mut Vec<u32>, slot: u32)
+/// Takes a slot out of the list, in constant time where it stands at the given place.
+pub fn forget(list: &mut Vec<u32>, slot: u32, place: usize)
+    ensures { IsLost slot list.old.items list.new.items }
+{
+    if is_at(list, slot, place) {
+        list.swap_remove(place);
+    } else {
+        lose(list, slot);
+    }
+}
+
+fn is_at(list: &[u32], slot: u32, place: usize) -> bool
+    ensures { IsTrue result → slice_get list.now place ≡ Some slot }
+{
+    match list.get(place) {
+        Some(other) => *other == slot,
+        None => false,
+    }
+}
+
+// Takes a slot out of the list, wherever it stands.
+fn lose(list: &mut Vec<u32>, slot: u32)
     ensures { IsLost slot list.old.items list.new.items }
 {
     list.retain(|other| *other != slot);

@@ -9,7 +9,7 @@ ghost use Rattle.q_prop.specs.Watches.{IsShort, AllWatched, IsSingle};
 ghost use Rattle.q_prop.specs.Working.{IsWorking, IsGrown, IsReached, IsReady, IsCovered, IsKept, AreListed, IsRooted, AreTrue, IsLonger, Clashes, IsAssumed};
 
 use crate::clauses::{Clauses, clause_at};
-use crate::rows::Rows;
+use crate::rows::{Entry, Rows};
 use crate::trail::Trail;
 use crate::watches::{Pair, Visit, visit_of, watch_at};
 use q_logic::{Lit, NoMemory};
@@ -30,11 +30,12 @@ pub fn step(
     count: usize,
 ) -> Result<Option<usize>, NoMemory>
     requires working { IsWorking (without clauses.now skip) head lit i trail.old pairs.old.items rows.old }
+    requires covered { IsCovered clauses.now pairs.old.items rows.old }
     requires i { i < count }
     requires count { count ≡ length (row_of rows.old (negation lit)) }
     ensures grown { IsGrown (filled (without clauses.now skip)) trail.old trail.new }
     ensures kept { IsKept clauses.now trail.old pairs.old.items pairs.new.items }
-    ensures covered { IsCovered pairs.new.items rows.new }
+    ensures covered { IsCovered clauses.now pairs.new.items rows.new }
     ensures going { IfOk result (λ next.
         MatchOption next (HasFalsified (filled (without clauses.now skip)) trail.new) (λ k.
         IsWorking (without clauses.now skip) head lit k trail.new pairs.new.items rows.new ×
@@ -43,22 +44,30 @@ pub fn step(
         × (k ≤ i + 1))) }
 {
     let false_lit = lit.negated();
-    let at = rows.at(false_lit, i);
-    let Some(other) = watch_at(pairs, at as usize, false_lit) else {
+    let entry = rows.at(false_lit, i);
+    if trail.has(entry.blocker) {
+        return Ok(Some(i + 1));
+    }
+    let at = entry.slot as usize;
+    let Some(other) = watch_at(pairs, at, false_lit) else {
         rows.remove(false_lit, i);
         return Ok(Some(i));
     };
     if trail.has(other) {
         return Ok(Some(i + 1));
     }
-    let Some(clause) = clause_at(clauses, skip, at as usize) else {
+    let Some(clause) = clause_at(clauses, skip, at) else {
         return Ok(Some(i + 1));
     };
     match visit_of(clause, other, trail) {
         Visit::Move(l) => {
-            rows.push(alloc, l, at)?;
+            let moved = Entry {
+                slot: entry.slot,
+                blocker: other,
+            };
+            rows.push(alloc, l, moved)?;
             rows.remove(false_lit, i);
-            pairs[at as usize] = Some(Pair {
+            pairs[at] = Some(Pair {
                 first: l,
                 second: other,
             });
@@ -84,12 +93,13 @@ pub fn work_off(
     lit: Lit,
 ) -> Result<bool, NoMemory>
     requires working { IsWorking (without clauses.now skip) head lit 0 trail.old pairs.old.items rows.old }
+    requires covered { IsCovered clauses.now pairs.old.items rows.old }
     ensures reached { IsReached (filled (without clauses.now skip)) trail.old trail.new }
     ensures kept { IsKept clauses.now trail.old pairs.old.items pairs.new.items }
-    ensures covered { IsCovered pairs.new.items rows.new }
+    ensures covered { IsCovered clauses.now pairs.new.items rows.new }
     ensures going { IfOk result (λ conflict.
         MatchBool conflict (HasFalsified (filled (without clauses.now skip)) trail.new)
-        (IsReady (without clauses.now skip) (head + 1) trail.new pairs.new.items rows.new)) }
+        (IsReady (without clauses.now skip) (head + 1) trail.new pairs.new.items)) }
 {
     let false_lit = lit.negated();
     let mut i = 0;
@@ -117,13 +127,14 @@ pub fn propagate(
     from: usize,
 ) -> Result<bool, NoMemory>
     requires from { from ≤ length trail.old }
-    requires ready { IsReady (without clauses.now skip) from trail.old pairs.old.items rows.old }
+    requires ready { IsReady (without clauses.now skip) from trail.old pairs.old.items }
+    requires covered { IsCovered clauses.now pairs.old.items rows.old }
     ensures reached { IsReached (filled (without clauses.now skip)) trail.old trail.new }
     ensures kept { IsKept clauses.now trail.old pairs.old.items pairs.new.items }
-    ensures covered { IsCovered pairs.new.items rows.new }
+    ensures covered { IsCovered clauses.now pairs.new.items rows.new }
     ensures ends { IfOk result (λ conflict.
         MatchBool conflict (HasFalsified (filled (without clauses.now skip)) trail.new)
-        (IsReady (without clauses.now skip) (length trail.new) trail.new pairs.new.items rows.new)) }
+        (IsReady (without clauses.now skip) (length trail.new) trail.new pairs.new.items)) }
 {
     let mut head = from;
     while head < trail.len() {
@@ -170,7 +181,7 @@ pub fn take_single(
 pub fn take_singles(
     clauses: &Clauses,
     skip: Option<usize>,
-    singles: &[usize],
+    singles: &[u32],
     done: usize,
     trail: &mut Trail,
 ) -> Result<bool, NoMemory>
@@ -185,7 +196,7 @@ pub fn take_singles(
 {
     let mut next = done;
     while next < singles.len() {
-        if take_single(clauses, skip, singles[next], trail)? {
+        if take_single(clauses, skip, singles[next] as usize, trail)? {
             return Ok(true);
         }
         next += 1;
@@ -200,19 +211,20 @@ pub fn settle(
     skip: Option<usize>,
     pairs: &mut Vec<Option<Pair>>,
     rows: &mut Rows,
-    singles: &[usize],
+    singles: &[u32],
     done: usize,
     trail: &mut Trail,
     head: usize,
 ) -> Result<bool, NoMemory>
-    requires rooted { IsRooted (without clauses.now skip) pairs.old.items rows.old singles.now done trail.old head }
+    requires rooted { IsRooted (without clauses.now skip) pairs.old.items singles.now done trail.old head }
     requires done { done ≤ length singles.now }
+    requires covered { IsCovered clauses.now pairs.old.items rows.old }
     ensures reached { IsReached (filled (without clauses.now skip)) trail.old trail.new }
     ensures kept { IsKept clauses.now trail.old pairs.old.items pairs.new.items }
-    ensures covered { IsCovered pairs.new.items rows.new }
+    ensures covered { IsCovered clauses.now pairs.new.items rows.new }
     ensures ends { IfOk result (λ conflict.
         MatchBool conflict (HasFalsified (filled (without clauses.now skip)) trail.new)
-        (IsRooted (without clauses.now skip) pairs.new.items rows.new singles.now
+        (IsRooted (without clauses.now skip) pairs.new.items singles.now
         (length singles.now) trail.new (length trail.new))) }
 {
     if take_singles(clauses, skip, singles, done, trail)? {
@@ -249,13 +261,14 @@ pub fn search(
     rows: &mut Rows,
     trail: &mut Trail,
     lits: &[Lit],
-    singles: &[usize],
+    singles: &[u32],
 ) -> Result<bool, NoMemory>
-    requires rooted { IsRooted (without clauses.now skip) pairs.old.items rows.old singles.now
+    requires rooted { IsRooted (without clauses.now skip) pairs.old.items singles.now
         (length singles.now) trail.old (length trail.old) }
+    requires covered { IsCovered clauses.now pairs.old.items rows.old }
     ensures longer { IsLonger trail.old trail.new }
     ensures kept { IsKept clauses.now trail.old pairs.old.items pairs.new.items }
-    ensures covered { IsCovered pairs.new.items rows.new }
+    ensures covered { IsCovered clauses.now pairs.new.items rows.new }
     ensures exact { IfOk result (λ yes. IsTrue yes ↔ Implied (filled (without clauses.now skip)) lits.now) }
 {
     let base = trail.len();
@@ -274,13 +287,14 @@ pub fn query(
     rows: &mut Rows,
     trail: &mut Trail,
     lits: &[Lit],
-    singles: &[usize],
+    singles: &[u32],
 ) -> Result<bool, NoMemory>
-    requires rooted { IsRooted (without clauses.now skip) pairs.old.items rows.old singles.now
+    requires rooted { IsRooted (without clauses.now skip) pairs.old.items singles.now
         (length singles.now) trail.old (length trail.old) }
+    requires covered { IsCovered clauses.now pairs.old.items rows.old }
     ensures same { trail.new ≡ trail.old }
     ensures kept { IsKept clauses.now trail.old pairs.old.items pairs.new.items }
-    ensures covered { IsCovered pairs.new.items rows.new }
+    ensures covered { IsCovered clauses.now pairs.new.items rows.new }
     ensures exact { IfOk result (λ yes. IsTrue yes ↔ Implied (filled (without clauses.now skip)) lits.now) }
 {
     let base = trail.len();
@@ -298,15 +312,15 @@ pub fn query_anew(
     rows: &mut Rows,
     trail: &mut Trail,
     lits: &[Lit],
-    singles: &[usize],
+    singles: &[u32],
 ) -> Result<bool, NoMemory>
     requires listed { AreListed clauses.now pairs.old.items singles.now }
-    requires covered { IsCovered pairs.old.items rows.old }
+    requires covered { IsCovered clauses.now pairs.old.items rows.old }
     requires watched { AllWatched [] [] clauses.now pairs.old.items }
     ensures chain { IsChain (filled (without clauses.now skip)) [] trail.new }
     ensures consistent { HasOpposites trail.new → ⊥ }
     ensures kept { IsKept clauses.now [] pairs.old.items pairs.new.items }
-    ensures covered { IsCovered pairs.new.items rows.new }
+    ensures covered { IsCovered clauses.now pairs.new.items rows.new }
     ensures exact { IfOk result (λ yes. IsTrue yes ↔ Implied (filled (without clauses.now skip)) lits.now) }
 {
     trail.truncate(0);

@@ -1,13 +1,16 @@
-ghost use Rattle.std.specs.Prelude.{◌≡◌, ◌↔◌, ◌<◌, ◌+◌, ◌-◌, ◌⊎◌, ◌++◌, ◌∷◌, [], length, slice_set, OnOk, OnErr, None, Some, Contains, IsTrue, Option, MatchOption, IfOk, ℕ, ◌≢◌, ◌≤◌, vec_len, vec_capacity};
+ghost use Rattle.std.specs.Prelude.{◌≡◌, ◌↔◌, ◌<◌, ◌+◌, ◌-◌, ◌⊎◌, ◌++◌, ◌∷◌, [], length, slice_set, OnOk, OnErr, None, Some, Contains, IsTrue, Option, MatchOption, IfOk, ℕ, ◌≢◌, ◌≤◌, vec_len, vec_capacity, slice_get};
 ghost use Rattle.q_logic.specs.Formulas.{Clause};
 ghost use Rattle.q_logic.specs.Propagation.{Implied};
 ghost use Rattle.q_prop.specs.Slots.{filled, without, Holds, IsPut, IsPlaced, IsVacant};
 ghost use Rattle.q_prop.specs.Working.{IsCovered};
+ghost use Rattle.q_prop.specs.Lists.{IsLost};
 
 use crate::clauses::Clauses;
+use crate::lists::{Lists, forget};
 use crate::places::place;
 use crate::propagation::{query, query_anew, settle};
-use crate::rows::Rows;
+use crate::rows::{Entry, Rows};
+use crate::spots::{Spots, renote};
 use crate::trail::Trail;
 use crate::watches::{Pair, Pick, choose, is_free, stands};
 use q_logic::{Lit, NoMemory};
@@ -21,7 +24,8 @@ pub struct Propagator {
     clauses: Clauses,
     pairs: Vec<Option<Pair>>,
     rows: Rows,
-    singles: Vec<usize>,
+    singles: Vec<u32>,
+    spots: Spots,
     trail: Trail,
     head: usize,
     done: usize,
@@ -29,14 +33,15 @@ pub struct Propagator {
 
 impl Model for Propagator {
     ghost use Rattle.q_prop.specs.Slots.{Slots};
-    ghost use Rattle.q_prop.specs.Working.{IsRooted, AreStanding};
+    ghost use Rattle.q_prop.specs.Working.{IsRooted, IsCovered, AreStanding};
+    ghost use Rattle.q_prop.specs.Lists.{IsDistinct};
     ghost use Rattle.std.specs.Prelude.{◌≤◌, length};
 
     ghost Value = { Slots };
 
     ghost view = { λ r. r.clauses };
 
-    ghost invariant = { λ r. IsRooted r.clauses r.pairs.items r.rows r.singles.items r.done r.trail r.head × (r.done ≤ length r.singles.items) × AreStanding r.clauses r.singles.items };
+    ghost invariant = { λ r. IsRooted r.clauses r.pairs.items r.singles.items r.done r.trail r.head × (r.done ≤ length r.singles.items) × AreStanding r.clauses r.singles.items × IsDistinct r.singles.items × IsCovered r.clauses r.pairs.items r.rows };
 }
 
 impl Propagator {
@@ -49,6 +54,7 @@ impl Propagator {
             pairs: Vec::new(alloc),
             rows: Rows::new(alloc),
             singles: Vec::new(alloc),
+            spots: Spots::new(alloc),
             trail: Trail::new(alloc),
             head: 0,
             done: 0,
@@ -69,15 +75,16 @@ impl Propagator {
     }
 
     /// Empties a slot. Takes no memory.
-    pub fn delete(&mut self, at: usize)
-        requires { at < length self.old }
-        ensures { self.new ≡ slice_set self.old at None }
+    pub fn delete(&mut self, slot: u32)
+        requires { slot < length self.old }
+        ensures { self.new ≡ slice_set self.old slot None }
     {
+        let at = slot as usize;
         if !is_free(&self.clauses, at, &self.trail) {
             self.trail.truncate(0);
             self.head = 0;
             self.done = 0;
-            forget(&mut self.singles, at);
+            unlist(&self.pairs, &mut self.singles, &mut self.spots, slot);
             self.clauses.clear(at);
             self.pairs[at] = None;
             return;
@@ -134,6 +141,25 @@ impl Propagator {
         )
     }
 
+    /// Where the slot may stand in the list of those that hold a literal of its clause.
+    pub fn spot(&self, at: usize, nth: usize) -> usize {
+        self.clauses.spot(at, nth)
+    }
+
+    /// Notes where the slot stands in the list of those that hold a literal of its clause.
+    pub fn note(&mut self, at: usize, nth: usize, place: usize)
+        ensures { self.new ≡ self.old }
+    {
+        self.clauses.note(at, nth, place);
+    }
+
+    /// Notes the places of those that have come where a slot stood in the lists.
+    pub fn renote(&mut self, at: usize, lists: &Lists)
+        ensures { self.new ≡ self.old }
+    {
+        self.clauses.renote(at, lists);
+    }
+
     /// An empty slot, or the next new one.
     pub fn vacant(&self) -> usize
         ensures { IsVacant self.now result }
@@ -154,6 +180,7 @@ impl Propagator {
                     &mut self.clauses,
                     &mut self.pairs,
                     &mut self.singles,
+                    &mut self.spots,
                     at,
                     lits,
                 )?;
@@ -211,11 +238,18 @@ fn push_forced(trail: &mut Trail, lit: Lit, head: usize) -> usize
     }
 }
 
-// Takes a number out of the list.
-fn forget(list: &mut Vec<usize>, at: usize)
-    ensures { (b : ℕ) → Contains list.new.items b ↔ (Contains list.old.items b × b ≢ at) }
+// Takes a slot that has no pair out of the list.
+fn unlist(pairs: &[Option<Pair>], singles: &mut Vec<u32>, spots: &mut Spots, slot: u32)
+    requires { (p : Pair) → slice_get pairs.now slot ≡ Some (Some p) → Contains singles.old.items slot → ⊥ }
+    ensures { IsLost slot singles.old.items singles.new.items }
 {
-    list.retain(|b| *b != at);
+    let at = slot as usize;
+    if let Some(Some(_)) = pairs.get(at) {
+        return;
+    }
+    let place = spots.get(at);
+    forget(singles, slot, place);
+    renote(spots, singles, place);
 }
 
 // Puts a clause and its pair into a slot.
@@ -230,16 +264,25 @@ fn put(
 ) -> Result<(), NoMemory>
     requires length { length pairs.old.items ≡ length clauses.old }
     requires vacant { IsVacant clauses.old at }
-    requires covered { IsCovered pairs.old.items rows.old }
+    requires covered { IsCovered clauses.old pairs.old.items rows.old }
+    requires inside { Contains lits.now pair.first × Contains lits.now pair.second }
     ensures ok { OnOk result
         (IsPut clauses.old at lits.now clauses.new × IsPlaced pairs.old.items at (Some pair)
         pairs.new.items) }
     ensures err { OnErr result ((clauses.new ≡ clauses.old) × (pairs.new.items ≡ pairs.old.items)) }
-    ensures covered { IsCovered pairs.new.items rows.new }
+    ensures covered { IsCovered clauses.new pairs.new.items rows.new }
 {
     pairs.reserve(1)?;
-    rows.push(alloc, pair.first, at)?;
-    rows.push(alloc, pair.second, at)?;
+    let first = Entry {
+        slot: at,
+        blocker: pair.second,
+    };
+    rows.push(alloc, pair.first, first)?;
+    let second = Entry {
+        slot: at,
+        blocker: pair.first,
+    };
+    rows.push(alloc, pair.second, second)?;
     clauses.fill(at as usize, lits)?;
     place(pairs, at as usize, Some(pair));
     Ok(())
@@ -249,7 +292,8 @@ fn put(
 fn put_short(
     clauses: &mut Clauses,
     pairs: &mut Vec<Option<Pair>>,
-    singles: &mut Vec<usize>,
+    singles: &mut Vec<u32>,
+    spots: &mut Spots,
     at: u32,
     lits: &[Lit],
 ) -> Result<(), NoMemory>
@@ -264,8 +308,10 @@ fn put_short(
 {
     pairs.reserve(1)?;
     singles.reserve(1)?;
+    spots.grow((at as usize).saturating_add(1))?;
     clauses.fill(at as usize, lits)?;
     place(pairs, at as usize, None);
-    singles.push_reserved(at as usize);
+    spots.set(at as usize, singles.len());
+    singles.push_reserved(at);
     Ok(())
 }

@@ -6,16 +6,25 @@ use q_logic::{Lit, NoMemory};
 use std::alloc::Global;
 use std::marker::Model;
 
+/// A slot whose clause watches a literal, and some literal of that clause: while it is true, the clause
+/// needs no visit.
+#[derive(Clone, Copy)]
+pub struct Entry {
+    pub slot: u32,
+    pub blocker: Lit,
+}
+
 /// For each literal the clauses that watch it.
 #[derive(Drop)]
 pub struct Rows {
-    rows: Vec<Vec<u32>>,
+    rows: Vec<Vec<Entry>>,
 }
 
 impl Model for Rows {
-    ghost use Rattle.std.specs.Prelude.{List, ℕ, map};
+    ghost use Rattle.std.specs.Prelude.{List, map};
+    ghost use Rattle.q_prop.specs.declared.rows.Entry.{Entry};
 
-    ghost Value = { List (List ℕ) };
+    ghost Value = { List (List Entry) };
 
     ghost view = { λ r. map (λ v. v.items) r.rows.items };
 }
@@ -38,7 +47,7 @@ impl Rows {
         }
     }
 
-    pub fn at(&self, lit: Lit, i: usize) -> u32
+    pub fn at(&self, lit: Lit, i: usize) -> Entry
         requires { i < length (row_of self.now lit) }
         ensures { slice_get (row_of self.now lit) i ≡ Some result }
     {
@@ -46,12 +55,12 @@ impl Rows {
         row[i]
     }
 
-    pub fn push(&mut self, alloc: Global, lit: Lit, at: u32) -> Result<(), NoMemory>
-        ensures ok { OnOk result (IsPushed self.old self.new lit at) }
+    pub fn push(&mut self, alloc: Global, lit: Lit, entry: Entry) -> Result<(), NoMemory>
+        ensures ok { OnOk result (IsPushed self.old self.new lit entry) }
         ensures err { OnErr result (AreSameRows self.old self.new) }
     {
         grow(alloc, &mut self.rows, lit.index() + 1)?;
-        push_at(&mut self.rows, lit, at)
+        push_at(&mut self.rows, lit, entry)
     }
 
     pub fn remove(&mut self, lit: Lit, i: usize)
@@ -64,7 +73,7 @@ impl Rows {
 }
 
 // Empty rows up to an end.
-fn grow(alloc: Global, rows: &mut Vec<Vec<u32>>, end: usize) -> Result<(), NoMemory>
+fn grow(alloc: Global, rows: &mut Vec<Vec<Entry>>, end: usize) -> Result<(), NoMemory>
     ensures room { OnOk result (end ≤ vec_len rows.new) }
     ensures same { AreSameRows (map (λ v. v.items) rows.old.items) (map (λ v. v.items) rows.new.items) }
 {
@@ -74,14 +83,14 @@ fn grow(alloc: Global, rows: &mut Vec<Vec<u32>>, end: usize) -> Result<(), NoMem
     Ok(())
 }
 
-fn push_at(rows: &mut Vec<Vec<u32>>, lit: Lit, at: u32) -> Result<(), NoMemory>
+fn push_at(rows: &mut Vec<Vec<Entry>>, lit: Lit, entry: Entry) -> Result<(), NoMemory>
     requires { pack lit < vec_len rows.old }
     ensures ok { OnOk result
-        (IsPushed (map (λ v. v.items) rows.old.items) (map (λ v. v.items) rows.new.items) lit at) }
+        (IsPushed (map (λ v. v.items) rows.old.items) (map (λ v. v.items) rows.new.items) lit entry) }
     ensures err { OnErr result
         (AreSameRows (map (λ v. v.items) rows.old.items) (map (λ v. v.items) rows.new.items)) }
 {
     let row = &mut rows[lit.index()];
-    row.push(at)?;
+    row.push(entry)?;
     Ok(())
 }

@@ -6,10 +6,11 @@ ghost use Rattle.q_prop.specs.Holders.{IsHolder, AreHolders};
 ghost use Rattle.q_prop.specs.Buckets.{AreHashed};
 ghost use Rattle.q_prop.specs.Lists.{IsDistinct};
 
-use crate::buckets::{bucket, find_in, rehashed};
-use crate::holders::{insert, remove};
+use crate::buckets::{bucket, find_in, put_into, rehashed, take_from};
+use crate::holders::{insert, note, remove};
 use crate::lists::Lists;
 use crate::propagator::Propagator;
+use crate::spots::Spots;
 use q_logic::{Lit, NoMemory};
 use std::alloc::Global;
 use std::marker::Model;
@@ -21,6 +22,7 @@ pub struct Store {
     propagator: Propagator,
     holders: Lists,
     buckets: Lists,
+    spots: Spots,
     count: usize,
 }
 
@@ -46,6 +48,7 @@ impl Store {
             propagator: Propagator::new(alloc),
             holders: Lists::new(alloc),
             buckets: Lists::new(alloc),
+            spots: Spots::new(alloc),
             count: 1,
         }
     }
@@ -90,12 +93,18 @@ impl Store {
         self.widen()?;
         let at = self.propagator.vacant();
         let slot = number(at)?;
-        self.buckets.push(bucket(self.count, lits), slot)?;
-        insert(&mut self.holders, slot, lits)?;
+        put_into(
+            &mut self.buckets,
+            &mut self.spots,
+            bucket(self.count, lits),
+            slot,
+        )?;
+        insert(&mut self.holders, &self.propagator, slot, lits)?;
         if let Err(error) = self.propagator.fill(slot, lits) {
-            remove(&mut self.holders, slot, lits);
+            remove(&mut self.holders, &self.propagator, slot, lits);
             return Err(error);
         }
+        note(&self.holders, &mut self.propagator, at, lits);
         Ok(at)
     }
 
@@ -107,7 +116,7 @@ impl Store {
             return Ok(());
         }
         let count = self.propagator.slots() * 2;
-        self.buckets = rehashed(self.alloc, &self.propagator, count)?;
+        self.buckets = rehashed(self.alloc, &self.propagator, &mut self.spots, count)?;
         self.count = count;
         Ok(())
     }
@@ -121,10 +130,12 @@ impl Store {
             &self.propagator,
             &mut self.holders,
             &mut self.buckets,
+            &mut self.spots,
             self.count,
             at,
         );
-        self.propagator.delete(at);
+        self.propagator.renote(at, &self.holders);
+        self.propagator.delete(at as u32);
     }
 
     /// Whether the literals are implied by propagation, over the clauses of all slots but one.
@@ -147,7 +158,14 @@ fn number(at: usize) -> Result<u32, NoMemory>
 }
 
 // Takes a slot from under the literals of its clause, and out of its bucket.
-fn free(propagator: &Propagator, holders: &mut Lists, buckets: &mut Lists, count: usize, at: usize)
+fn free(
+    propagator: &Propagator,
+    holders: &mut Lists,
+    buckets: &mut Lists,
+    spots: &mut Spots,
+    count: usize,
+    at: usize,
+)
     requires small { at < 2 ^ 32 }
     requires count { 1 ≤ count }
     requires holders { AreHolders propagator.now holders.old }
@@ -156,7 +174,7 @@ fn free(propagator: &Propagator, holders: &mut Lists, buckets: &mut Lists, count
     ensures buckets { AreHashed (without propagator.now (Some at)) count buckets.new }
 {
     if let Some(lits) = propagator.slot(at) {
-        remove(holders, at as u32, lits);
-        buckets.take_out(bucket(count, lits), at as u32);
+        remove(holders, propagator, at as u32, lits);
+        take_from(buckets, spots, bucket(count, lits), at as u32);
     }
 }

@@ -131,6 +131,40 @@ fn slots_are_found_and_used_again(rt: HostRuntime) -> Result<(), NoMemory> {
     Ok(())
 }
 
+// Adds so many clauses with a literal in common, and deletes them in this order or the opposite one.
+fn fill_and_clear(
+    store: &mut Store,
+    lits: &mut Vec<Lit>,
+    count: u32,
+    backwards: bool,
+) -> Result<(), NoMemory> {
+    for number in 0..count {
+        let other = Lit::new(number % 100_000 + 2, number % 200_000 >= 100_000);
+        put(store, lits, &[yes(0), other])?;
+    }
+    for number in 0..count {
+        let at = if backwards {
+            count - 1 - number
+        } else {
+            number
+        };
+        delete(store, at as usize);
+    }
+    Ok(())
+}
+
+#[test]
+fn many_clauses_of_one_literal_come_and_go(rt: HostRuntime) -> Result<(), NoMemory> {
+    let mut store = Store::new(rt.alloc());
+    let mut lits = Vec::new(rt.alloc());
+    for backwards in [false, true] {
+        fill_and_clear(&mut store, &mut lits, 200_000, backwards)?;
+        assert!(rt; store.holders(yes(0)).is_empty());
+        assert_eq!(rt; store.slots(), 200_000);
+    }
+    Ok(())
+}
+
 #[test]
 fn a_clause_stays_while_others_come_and_go(rt: HostRuntime) -> Result<(), NoMemory> {
     let mut store = Store::new(rt.alloc());

@@ -1,10 +1,9 @@
-use Rattle.std.proofs.Common.{rules, ◌≡◌, ◌==◌, not, filter}
-use Rattle.std.proofs.lemmas.Fn.{filter_same}
-use Rattle.q_prop.proofs.ListLemmas.{lost-filter}
+use Rattle.q_prop.proofs.SlotLemmas.{slice_get-in}
+use Rattle.q_prop.proofs.ListLemmas.{lost-swapped}
 use Rattle.q_prop.proofs.lists.forget.Goals as goal
 
-pub returns : goal.returns
-returns c =
-    let slot = c.args.slot in
-    let is : c.retain.new.self.items ≡ filter (λ b. not (b == slot)) c.args.list.now.items = filter_same _ _ _ (λ x b f' k. search rules) _ _ c.retain.ensures.filtered in
-    lost-filter slot c.args.list.now.items c.retain.new.self.items is
+pub returns-then-is_at : goal.returns-then-is_at
+returns-then-is_at c =
+    let old = c.args.list.now.items in
+    let here = rw c.deref.ensures.value at (c.is_at.ensures c.if-is_at.true) in
+    lost-swapped old c.args.place c.swap_remove.result (slice_get-in old c.args.place c.args.slot here) c.args.slot c.swap_remove.new.self.items here c.swap_remove.ensures.items

@@ -11,11 +11,13 @@ loop-head-init c = (
   IsReached-refl (filled (without c.args.clauses.now c.args.skip)) c.args.trail.now,
   IsKept-refl c.args.clauses.now c.args.trail.now c.args.pairs.now.items,
   c.requires.ready,
+  c.requires.covered,
 )
 
 pub work_off-requires : goal.work_off-requires
 work_off-requires c = record {
-  working = IsReady-start (without c.args.clauses.now c.args.skip) c.loop-head.head c.at-lit.result c.loop-head.trail c.loop-head.pairs.items c.loop-head.rows c.loop-head.invariant.3 c.at-lit.ensures;
+  working = IsReady-start c.args.clauses.now c.args.skip c.loop-head.head c.at-lit.result c.loop-head.trail c.loop-head.pairs.items c.loop-head.rows c.loop-head.invariant.3 c.loop-head.invariant.4 c.at-lit.ensures;
+  covered = c.loop-head.invariant.4;
 }
 
 pub returns-in_err-work_off-clause-reached : goal.returns-in_err-work_off-clause-reached
@@ -51,6 +53,7 @@ loop-head-preserved c =
       IsReached-trans (filled (without c.args.clauses.now c.args.skip)) c.args.trail.now c.loop-head.trail c.work_off.new.trail c.loop-head.invariant.1 reached,
       IsKept-trans c.args.clauses.now c.args.trail.now c.loop-head.trail c.args.pairs.now.items c.loop-head.pairs.items c.work_off.new.pairs.items (IsReached-within (filled (without c.args.clauses.now c.args.skip)) c.args.trail.now c.loop-head.trail c.loop-head.invariant.1) c.loop-head.invariant.2 c.work_off.ensures.kept,
       rw c.if-branch.false at c.in_ok-work_off.ensures.going,
+      c.work_off.ensures.covered,
     )
 
 pub returns-clause-ends : goal.returns-clause-ends

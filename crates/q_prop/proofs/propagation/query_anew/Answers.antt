@@ -8,7 +8,7 @@ use Rattle.q_prop.proofs.propagation.query_anew.Goals as goal
 
 pub settle-requires-clause-rooted : goal.settle-requires-clause-rooted
 settle-requires-clause-rooted c =
-    rw c.truncate.ensures (rooted_nothing c.args.clauses.now c.args.skip c.args.pairs.now.items c.args.rows.now c.args.singles.now c.requires.listed c.requires.watched c.requires.covered)
+    rw c.truncate.ensures (rooted_nothing c.args.clauses.now c.args.skip c.args.pairs.now.items c.args.singles.now c.requires.listed c.requires.watched)
 
 pub returns-in_err-settle-clause-chain : goal.returns-in_err-settle-clause-chain
 returns-in_err-settle-clause-chain c = let r = rw c.truncate.ensures at c.settle.ensures.reached in reached_chain (filled (without c.args.clauses.now c.args.skip)) [] c.settle.new.trail tt r

@@ -10,7 +10,7 @@ returns-then-branch-clause-exact c =
 pub propagate-requires-clause-ready : goal.propagate-requires-clause-ready
 propagate-requires-clause-ready c =
     let a = rw c.if-branch.false at c.in_ok-assume.ensures.ends in
-    rw c.len-base.ensures (ready_longer (without c.args.clauses.now c.args.skip) (length c.args.trail.now) c.args.trail.now c.assume.new.trail c.args.pairs.now.items c.args.rows.now c.requires.rooted.ready (omega arith) c.assume.ensures.longer a.consistent)
+    rw c.len-base.ensures (ready_longer (without c.args.clauses.now c.args.skip) (length c.args.trail.now) c.args.trail.now c.assume.new.trail c.args.pairs.now.items c.requires.rooted.ready (omega arith) c.assume.ensures.longer a.consistent)
 
 pub returns-clause-kept : goal.returns-clause-kept
 returns-clause-kept c =
@@ -22,4 +22,4 @@ returns-clause-exact c =
     let a = rw c.if-branch.false at c.in_ok-assume.ensures.ends in
     finish c.propagate.result c.propagate.ensures.ends
     (λ f. falsified_implied (filled (without c.args.clauses.now c.args.skip)) c.args.trail.now c.assume.new.trail c.propagate.new.trail c.args.lits.now r.chain a c.propagate.ensures.reached f)
-    (λ g. search_not_implied (without c.args.clauses.now c.args.skip) c.args.trail.now c.assume.new.trail c.propagate.new.trail c.propagate.new.pairs.items c.propagate.new.rows c.args.singles.now c.args.lits.now (AreListed-kept c.args.clauses.now (without c.args.clauses.now c.args.skip) c.assume.new.trail c.args.pairs.now.items c.propagate.new.pairs.items c.args.singles.now c.propagate.ensures.kept r.listed) r.singles_true (longer_within c.args.trail.now c.assume.new.trail c.assume.ensures.longer) a c.propagate.ensures.reached g)
+    (λ g. search_not_implied (without c.args.clauses.now c.args.skip) c.args.trail.now c.assume.new.trail c.propagate.new.trail c.propagate.new.pairs.items c.args.singles.now c.args.lits.now (AreListed-kept c.args.clauses.now (without c.args.clauses.now c.args.skip) c.assume.new.trail c.args.pairs.now.items c.propagate.new.pairs.items c.args.singles.now c.propagate.ensures.kept r.listed) r.singles_true (longer_within c.args.trail.now c.assume.new.trail c.assume.ensures.longer) a c.propagate.ensures.reached g)

@@ -8,7 +8,7 @@ use Rattle.q_prop.proofs.propagation.settle.Goals as goal
 pub propagate-requires-clause-ready : goal.propagate-requires-clause-ready
 propagate-requires-clause-ready c =
     let r = c.requires.rooted in
-    ready_longer (without c.args.clauses.now c.args.skip) c.args.head c.args.trail.now c.take_singles.new.trail c.args.pairs.now.items c.args.rows.now r.ready r.head_in (reached_longer (filled (without c.args.clauses.now c.args.skip)) c.args.trail.now c.take_singles.new.trail c.take_singles.ensures.reached) (reached_consistent (filled (without c.args.clauses.now c.args.skip)) c.args.trail.now c.take_singles.new.trail r.ready.consistent c.take_singles.ensures.reached)
+    ready_longer (without c.args.clauses.now c.args.skip) c.args.head c.args.trail.now c.take_singles.new.trail c.args.pairs.now.items r.ready r.head_in (reached_longer (filled (without c.args.clauses.now c.args.skip)) c.args.trail.now c.take_singles.new.trail c.take_singles.ensures.reached) (reached_consistent (filled (without c.args.clauses.now c.args.skip)) c.args.trail.now c.take_singles.new.trail r.ready.consistent c.take_singles.ensures.reached)
 
 pub returns-clause-reached : goal.returns-clause-reached
 returns-clause-reached c = IsReached-trans (filled (without c.args.clauses.now c.args.skip)) c.args.trail.now c.take_singles.new.trail c.propagate.new.trail c.take_singles.ensures.reached c.propagate.ensures.reached

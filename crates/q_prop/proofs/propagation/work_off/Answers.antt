@@ -10,6 +10,7 @@ loop-i-init c = (
   IsReached-refl (filled (without c.args.clauses.now c.args.skip)) c.args.trail.now,
   IsKept-refl c.args.clauses.now c.args.trail.now c.args.pairs.now.items,
   c.requires.working,
+  c.requires.covered,
 )
 
 pub returns-in_err-next-clause-reached : goal.returns-in_err-next-clause-reached
@@ -33,6 +34,7 @@ loop-i-preserved c = (
   IsReached-grown (filled (without c.args.clauses.now c.args.skip)) c.args.trail.now c.loop-i.trail c.step.new.trail c.loop-i.invariant.0 c.step.ensures.grown,
   IsKept-trans c.args.clauses.now c.args.trail.now c.loop-i.trail c.args.pairs.now.items c.loop-i.pairs.items c.step.new.pairs.items (IsReached-within (filled (without c.args.clauses.now c.args.skip)) c.args.trail.now c.loop-i.trail c.loop-i.invariant.0) c.loop-i.invariant.1 c.step.ensures.kept,
   (rw c.in-Some.is at c.in_ok-next.ensures.going).0,
+  c.step.ensures.covered,
 )
 
 pub returns-clause-going : goal.returns-clause-going

@@ -1,6 +1,7 @@
 use Rattle.std.proofs.Common.{◌≤◌, ◌∷◌, [], length, length-append, arith, refl, inl, inr, Some, None}
-use Rattle.q_prop.proofs.Putting.{rooted_open, rooted_again, rooted_forced, rooted_short, standing_more, standing_pushed}
-use Rattle.q_prop.proofs.Rooting.{rooted_covered}
+use Rattle.q_prop.proofs.Putting.{rooted_open, rooted_again, rooted_forced, rooted_short, covered_short, standing_more, standing_pushed}
+use Rattle.q_prop.proofs.ListLemmas.{distinct-push}
+use Rattle.q_prop.proofs.Placing.{put-vacant}
 use Rattle.q_prop.proofs.propagator.Propagator.fill.Goals as goal
 
 pub invariant_of-self : goal.invariant_of-self
@@ -13,9 +14,11 @@ invariant_of-self c =
     let long = length-append i.singles.items (c.args.at ∷ []) in
     let before : i.done ≤ length i.singles.items = v.1 in
     rw k.2 (
-      rooted_short i.clauses c.args.at c.args.lits.now s' k.0 i.pairs.items i.rows i.rows i.singles.items i.done i.trail i.head v.0 v.2 None pairs' k.1 refl before c.in-Short.ensures,
+      rooted_short i.clauses c.args.at c.args.lits.now s' k.0 i.pairs.items i.singles.items i.done i.trail i.head v.0 v.2 None pairs' k.1 refl before c.in-Short.ensures,
       omega (arith, long, before),
       standing_pushed i.clauses c.args.at c.args.lits.now s' k.0 i.singles.items v.2,
+      distinct-push i.singles.items c.args.at v.3 (λ h. let e = v.2 c.args.at h in put-vacant i.clauses c.args.at c.args.lits.now s' k.0 e.0 e.1),
+      covered_short i.clauses c.args.at c.args.lits.now s' k.0 i.pairs.items pairs' i.rows k.1 v.4,
     )
 
 pub invariant_of-self-in-Continue-branch-2 : goal.invariant_of-self-in-Continue-branch-2
@@ -24,9 +27,11 @@ invariant_of-self-in-Continue-branch-2 c =
     let v = c.self.invariant in
     let k = c.in_ok-put-in-Open.ensures.ok in
     let s' = c.put.new.clauses in (
-      rooted_open i.clauses c.args.at c.args.lits.now s' k.0 i.pairs.items i.rows c.put.new.rows i.singles.items i.done i.trail i.head v.0 v.2 (Some c.in-Open.pair) c.put.new.pairs.items k.1 c.in-Open.pair refl c.put.ensures.covered c.in-Open.ensures,
+      rooted_open i.clauses c.args.at c.args.lits.now s' k.0 i.pairs.items i.singles.items i.done i.trail i.head v.0 v.2 (Some c.in-Open.pair) c.put.new.pairs.items k.1 c.in-Open.pair refl c.in-Open.ensures,
       v.1,
       standing_more i.clauses c.args.at c.args.lits.now s' k.0 i.singles.items v.2,
+      v.3,
+      c.put.ensures.covered,
     )
 
 pub invariant_of-self-in-AllFalse : goal.invariant_of-self-in-AllFalse
@@ -35,9 +40,11 @@ invariant_of-self-in-AllFalse c =
     let v = c.self.invariant in
     let k = c.in_ok-put-in-AllFalse.ensures.ok in
     let s' = c.put-in-AllFalse.new.clauses in (
-      rooted_again i.clauses c.args.at c.args.lits.now s' k.0 i.pairs.items i.rows c.put-in-AllFalse.new.rows i.singles.items i.done i.trail i.head v.0 v.2 (Some c.in-AllFalse.pair) c.put-in-AllFalse.new.pairs.items k.1 c.in-AllFalse.pair refl c.put-in-AllFalse.ensures.covered c.in-AllFalse.ensures,
+      rooted_again i.clauses c.args.at c.args.lits.now s' k.0 i.pairs.items i.singles.items i.done i.trail i.head v.0 v.2 (Some c.in-AllFalse.pair) c.put-in-AllFalse.new.pairs.items k.1 c.in-AllFalse.pair refl c.in-AllFalse.ensures,
       v.1,
       standing_more i.clauses c.args.at c.args.lits.now s' k.0 i.singles.items v.2,
+      v.3,
+      c.put-in-AllFalse.ensures.covered,
     )
 
 pub invariant_of-self-in-OneLeft : goal.invariant_of-self-in-OneLeft
@@ -50,14 +57,18 @@ invariant_of-self-in-OneLeft c =
     let standing = standing_more i.clauses c.args.at c.args.lits.now s' k.0 i.singles.items v.2 in
     elim c.push_forced-self-inside.ensures [
       | inl h ↦ rw (h.0, h.1) (
-        rooted_forced i.clauses c.args.at c.args.lits.now s' k.0 i.pairs.items i.rows c.put-in-OneLeft.new.rows i.singles.items i.done i.trail i.head v.0 v.2 (Some c.in-OneLeft.pair) c.put-in-OneLeft.new.pairs.items k.1 c.in-OneLeft.pair refl c.put-in-OneLeft.ensures.covered w.0 w.1 w.2,
+        rooted_forced i.clauses c.args.at c.args.lits.now s' k.0 i.pairs.items i.singles.items i.done i.trail i.head v.0 v.2 (Some c.in-OneLeft.pair) c.put-in-OneLeft.new.pairs.items k.1 c.in-OneLeft.pair refl w.0 w.1 w.2,
         v.1,
         standing,
+        v.3,
+        c.put-in-OneLeft.ensures.covered,
       )
       | inr h ↦ rw (h.0, h.1) (
-        rooted_again i.clauses c.args.at c.args.lits.now s' k.0 i.pairs.items i.rows c.put-in-OneLeft.new.rows i.singles.items i.done i.trail i.head v.0 v.2 (Some c.in-OneLeft.pair) c.put-in-OneLeft.new.pairs.items k.1 c.in-OneLeft.pair refl c.put-in-OneLeft.ensures.covered w.0,
+        rooted_again i.clauses c.args.at c.args.lits.now s' k.0 i.pairs.items i.singles.items i.done i.trail i.head v.0 v.2 (Some c.in-OneLeft.pair) c.put-in-OneLeft.new.pairs.items k.1 c.in-OneLeft.pair refl w.0,
         v.1,
         standing,
+        v.3,
+        c.put-in-OneLeft.ensures.covered,
       )
     ]
 
@@ -68,21 +79,18 @@ invariant_of-self-in_err-put_short-in-Short c =
 
 pub invariant_of-self-in_err-put-in-Open : goal.invariant_of-self-in_err-put-in-Open
 invariant_of-self-in_err-put-in-Open c =
-    let i = c.self.inside in
     let v = c.self.invariant in
     let k = c.in_err-put-in-Open.ensures.err in
-    rw (k.0, k.1) (rooted_covered i.clauses i.pairs.items i.rows c.put.new.rows i.singles.items i.done i.trail i.head v.0 (rw k.1 at c.put.ensures.covered), v.1, v.2)
+    rw (k.0, k.1) (v.0, v.1, v.2, v.3, rw (k.0, k.1) at c.put.ensures.covered)
 
 pub invariant_of-self-in_err-put-in-OneLeft : goal.invariant_of-self-in_err-put-in-OneLeft
 invariant_of-self-in_err-put-in-OneLeft c =
-    let i = c.self.inside in
     let v = c.self.invariant in
     let k = c.in_err-put-in-OneLeft.ensures.err in
-    rw (k.0, k.1) (rooted_covered i.clauses i.pairs.items i.rows c.put-in-OneLeft.new.rows i.singles.items i.done i.trail i.head v.0 (rw k.1 at c.put-in-OneLeft.ensures.covered), v.1, v.2)
+    rw (k.0, k.1) (v.0, v.1, v.2, v.3, rw (k.0, k.1) at c.put-in-OneLeft.ensures.covered)
 
 pub invariant_of-self-in_err-put-in-AllFalse : goal.invariant_of-self-in_err-put-in-AllFalse
 invariant_of-self-in_err-put-in-AllFalse c =
-    let i = c.self.inside in
     let v = c.self.invariant in
     let k = c.in_err-put-in-AllFalse.ensures.err in
-    rw (k.0, k.1) (rooted_covered i.clauses i.pairs.items i.rows c.put-in-AllFalse.new.rows i.singles.items i.done i.trail i.head v.0 (rw k.1 at c.put-in-AllFalse.ensures.covered), v.1, v.2)
+    rw (k.0, k.1) (v.0, v.1, v.2, v.3, rw (k.0, k.1) at c.put-in-AllFalse.ensures.covered)
