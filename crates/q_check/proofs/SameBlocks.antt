@@ -7,27 +7,27 @@ use Rattle.q_logic.specs.declared.formulas.Bound.{Bound}
 use Rattle.q_logic.specs.Formulas.{Prefix, IsIn}
 use Rattle.q_logic.specs.Prefixes.{is_bound, is_exists, same_quant, Block, blocks, push_block, SameBlocks}
 use Rattle.q_check.specs.Scopes.{IsNumbered}
-use Rattle.q_check.proofs.Numbering.{same_quant-sound}
+use Rattle.q_check.proofs.Ranking.{same_quant-sound}
 
 -- the blocks are numbered from n on, and their variables have these quantifiers
-abbrev pub AreNumbered : (ℕ → ℕ) → (ℕ → Bool) → ℕ → List Block → Type 0
-AreNumbered rank kind n [] = Unit {0}
-AreNumbered rank kind n (B ∷ Bs) = ((x : ℕ) × IsIn x B.vars) × ((x : ℕ) → IsIn x B.vars → (rank x ≡ n) × (kind x ≡ is_exists B.quant)) × AreNumbered rank kind (suc n) Bs
+abbrev pub AreBlocksNumbered : (ℕ → ℕ) → (ℕ → Bool) → ℕ → List Block → Type 0
+AreBlocksNumbered rank kind n [] = Unit {0}
+AreBlocksNumbered rank kind n (B ∷ Bs) = ((x : ℕ) × IsIn x B.vars) × ((x : ℕ) → IsIn x B.vars → (rank x ≡ n) × (kind x ≡ is_exists B.quant)) × AreBlocksNumbered rank kind (suc n) Bs
 
 abbrev pub Among : ℕ → List Block → Type 0
 Among x [] = ⊥
 Among x (B ∷ Bs) = IsIn x B.vars ⊎ Among x Bs
 
 module _ (rank : ℕ → ℕ) (kind : ℕ → Bool) where
-  pub numbered-above : (n : ℕ) (Bs : List Block) (x : ℕ) → AreNumbered rank kind n Bs → Among x Bs → n ≤ rank x
+  pub numbered-above : (n : ℕ) (Bs : List Block) (x : ℕ) → AreBlocksNumbered rank kind n Bs → Among x Bs → n ≤ rank x
   numbered-above n [] x h m = absurd m
   numbered-above n (B ∷ Bs) x h (inl m) = let e : rank x ≡ n = (h.1 x m).0 in omega arith
   numbered-above n (B ∷ Bs) x h (inr m) = let i : suc n ≤ rank x = numbered-above (suc n) Bs x h.2 m in omega arith
 
-  push-same : (b : Bound) (B : Block) (Cs : List Block) (n : ℕ) → rank b.var ≡ n → kind b.var ≡ is_exists b.quant → same_quant b.quant B.quant ≡ true → AreNumbered rank kind n (B ∷ Cs) → AreNumbered rank kind n (push_block b (B ∷ Cs))
+  push-same : (b : Bound) (B : Block) (Cs : List Block) (n : ℕ) → rank b.var ≡ n → kind b.var ≡ is_exists b.quant → same_quant b.quant B.quant ≡ true → AreBlocksNumbered rank kind n (B ∷ Cs) → AreBlocksNumbered rank kind n (push_block b (B ∷ Cs))
   push-same b B Cs n e k t a = rw t ((b.var, inl refl), (λ x m. elim m [ inl z ↦ (ap rank z ∙ e, ap kind z ∙ k ∙ ap is_exists (same_quant-sound b.quant B.quant t)) | inr z ↦ a.1 x z ]), a.2)
 
-  push-other : (b : Bound) (B : Block) (Cs : List Block) (n : ℕ) → rank b.var ≡ n → kind b.var ≡ is_exists b.quant → same_quant b.quant B.quant ≡ false → AreNumbered rank kind (suc n) (B ∷ Cs) → AreNumbered rank kind n (push_block b (B ∷ Cs))
+  push-other : (b : Bound) (B : Block) (Cs : List Block) (n : ℕ) → rank b.var ≡ n → kind b.var ≡ is_exists b.quant → same_quant b.quant B.quant ≡ false → AreBlocksNumbered rank kind (suc n) (B ∷ Cs) → AreBlocksNumbered rank kind n (push_block b (B ∷ Cs))
   push-other b B Cs n e k t a = rw t ((b.var, inl refl), (λ x m. elim m [ inl z ↦ (ap rank z ∙ e, ap kind z ∙ k) | inr z ↦ absurd z ]), a)
 
   head-quant : (c : Bound) (Bs : List Block) → (B : Block) × (Cs : List Block) × (push_block c Bs ≡ B ∷ Cs) × (B.quant ≡ c.quant)
@@ -38,13 +38,13 @@ module _ (rank : ℕ → ℕ) (kind : ℕ → Bool) where
       go true t = (record { quant = B.quant; vars = c.var ∷ B.vars }, Bs, refl, sym (same_quant-sound c.quant B.quant t))
       go false t = (record { quant = c.quant; vars = c.var ∷ [] }, B ∷ Bs, refl, refl)
 
-  pub blocks-numbered : (b : Bound) (P : Prefix) → ((c : Bound) → IsIn c (b ∷ P) → kind c.var ≡ is_exists c.quant) → (n : ℕ) → rank b.var ≡ n → IsNumbered rank (Some b.quant) n P → AreNumbered rank kind n (blocks (b ∷ P))
+  pub blocks-numbered : (b : Bound) (P : Prefix) → ((c : Bound) → IsIn c (b ∷ P) → kind c.var ≡ is_exists c.quant) → (n : ℕ) → rank b.var ≡ n → IsNumbered rank (Some b) n P → AreBlocksNumbered rank kind n (blocks (b ∷ P))
   blocks-numbered b [] k n e h = ((b.var, inl refl), (λ x m. elim m [ inl z ↦ (ap rank z ∙ e, ap kind z ∙ k b (inl refl)) | inr z ↦ absurd z ]), tt)
   blocks-numbered b (c ∷ P) k n e h = go (same_quant b.quant c.quant) refl h (λ m f g. blocks-numbered c P (λ d i. k d (inr i)) m f g) (head-quant c (blocks P))
     where
-      go : (s : Bool) → same_quant b.quant c.quant ≡ s → (rank c.var ≡ cond s n (n + 1)) × IsNumbered rank (Some c.quant) (cond s n (n + 1)) P → ((m : ℕ) → rank c.var ≡ m → IsNumbered rank (Some c.quant) m P → AreNumbered rank kind m (blocks (c ∷ P))) → ((B : Block) × (Cs : List Block) × (blocks (c ∷ P) ≡ B ∷ Cs) × (B.quant ≡ c.quant)) → AreNumbered rank kind n (push_block b (blocks (c ∷ P)))
-      go true q g ih (B, Cs, f, r) = subst (λ (Ds : List Block). AreNumbered rank kind n (push_block b Ds)) (sym f) (push-same b B Cs n e (k b (inl refl)) (ap (same_quant b.quant) r ∙ q) (subst (λ (Ds : List Block). AreNumbered rank kind n Ds) f (ih n g.0 g.1)))
-      go false q g ih (B, Cs, f, r) = subst (λ (Ds : List Block). AreNumbered rank kind n (push_block b Ds)) (sym f) (push-other b B Cs n e (k b (inl refl)) (ap (same_quant b.quant) r ∙ q) (subst (λ (Ds : List Block). AreNumbered rank kind (suc n) Ds) f (ih (suc n) (g.0 ∙ one n) (subst (λ (m : ℕ). IsNumbered rank (Some c.quant) m P) (one n) g.1))))
+      go : (s : Bool) → same_quant b.quant c.quant ≡ s → (rank c.var ≡ cond s n (n + 1)) × IsNumbered rank (Some c) (cond s n (n + 1)) P → ((m : ℕ) → rank c.var ≡ m → IsNumbered rank (Some c) m P → AreBlocksNumbered rank kind m (blocks (c ∷ P))) → ((B : Block) × (Cs : List Block) × (blocks (c ∷ P) ≡ B ∷ Cs) × (B.quant ≡ c.quant)) → AreBlocksNumbered rank kind n (push_block b (blocks (c ∷ P)))
+      go true q g ih (B, Cs, f, r) = subst (λ (Ds : List Block). AreBlocksNumbered rank kind n (push_block b Ds)) (sym f) (push-same b B Cs n e (k b (inl refl)) (ap (same_quant b.quant) r ∙ q) (subst (λ (Ds : List Block). AreBlocksNumbered rank kind n Ds) f (ih n g.0 g.1)))
+      go false q g ih (B, Cs, f, r) = subst (λ (Ds : List Block). AreBlocksNumbered rank kind n (push_block b Ds)) (sym f) (push-other b B Cs n e (k b (inl refl)) (ap (same_quant b.quant) r ∙ q) (subst (λ (Ds : List Block). AreBlocksNumbered rank kind (suc n) Ds) f (ih (suc n) (g.0 ∙ one n) (subst (λ (m : ℕ). IsNumbered rank (Some c) m P) (one n) g.1))))
         where
           one : (n : ℕ) → n + 1 ≡ suc n
           one n = omega arith
@@ -97,7 +97,7 @@ exists-same Forall Exists e = absurd (true≢false (sym e))
 exists-same Forall Forall e = refl
 
 module _ (rank rank' : ℕ → ℕ) (kind kind' : ℕ → Bool) where
-  pub same-blocks : (n : ℕ) (Bs Cs : List Block) → AreNumbered rank kind n Bs → AreNumbered rank' kind' n Cs → ((x : ℕ) → Among x Bs → Among x Cs × (rank x ≡ rank' x) × (kind x ≡ kind' x)) → ((x : ℕ) → Among x Cs → Among x Bs) → SameBlocks Bs Cs
+  pub same-blocks : (n : ℕ) (Bs Cs : List Block) → AreBlocksNumbered rank kind n Bs → AreBlocksNumbered rank' kind' n Cs → ((x : ℕ) → Among x Bs → Among x Cs × (rank x ≡ rank' x) × (kind x ≡ kind' x)) → ((x : ℕ) → Among x Cs → Among x Bs) → SameBlocks Bs Cs
   same-blocks n [] [] a b f g = tt
   same-blocks n [] (C ∷ Cs) a b f g = g b.0.0 (inl b.0.1)
   same-blocks n (B ∷ Bs) [] a b f g = (f a.0.0 (inl a.0.1)).0
@@ -131,7 +131,7 @@ module _ (rank rank' : ℕ → ℕ) (kind kind' : ℕ → Bool) where
         | inr z ↦ z
       ]
 
-  pub blocks-same : (n : ℕ) (Bs Cs : List Block) → AreNumbered rank kind n Bs → AreNumbered rank' kind' n Cs → SameBlocks Bs Cs → (x : ℕ) → Among x Bs → Among x Cs × (rank x ≡ rank' x) × (kind x ≡ kind' x)
+  pub blocks-same : (n : ℕ) (Bs Cs : List Block) → AreBlocksNumbered rank kind n Bs → AreBlocksNumbered rank' kind' n Cs → SameBlocks Bs Cs → (x : ℕ) → Among x Bs → Among x Cs × (rank x ≡ rank' x) × (kind x ≡ kind' x)
   blocks-same n [] [] a b s x m = absurd m
   blocks-same n [] (C ∷ Cs) a b s x m = absurd s
   blocks-same n (B ∷ Bs) [] a b s x m = absurd s

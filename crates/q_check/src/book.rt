@@ -18,7 +18,7 @@ ghost use Rattle.q_check.specs.Checked.{IsTried, IsEndRefusal};
 ghost use Rattle.q_check.specs.Entries.{entries_of, IsPivotEntry};
 
 use crate::error::CheckError;
-use crate::pivots::{Buffers, Warrant, collect_holders, warrant_of};
+use crate::pivots::{Buffers, Warrant, slots_of, warrant_of};
 use crate::reach::is_droppable;
 use crate::scope::Scope;
 use crate::undo::{Undo, collect_outers};
@@ -138,7 +138,6 @@ impl Book {
             alloc,
             &self.store,
             &self.scope,
-            &mut self.buffers.slots,
             at,
             reason,
             first_lit(lits),
@@ -224,8 +223,7 @@ impl Book {
         ensures same { OnOk result (SameFormula self output.now) }
         ensures refused { IfErr result (IsEndRefusal self output.now) }
     {
-        let scope = Scope::start(self.alloc, output.prefix())?;
-        if !self.scope.has_blocks_of(&scope) {
+        if !self.scope.has_blocks_of(self.alloc, output.prefix())? {
             return Err(CheckError::Refused { cause: 9 });
         }
         if !takes_all(&mut self.store, self.clauses, output) {
@@ -291,7 +289,6 @@ fn pivot_entry(
     alloc: Global,
     store: &Store,
     scope: &Scope,
-    slots: &mut Vec<u32>,
     at: usize,
     warrant: Warrant,
     first: Option<Lit>,
@@ -307,7 +304,7 @@ fn pivot_entry(
     let Some(pivot) = first else {
         return Ok(None);
     };
-    collect_holders(store, pivot.negated(), slots)?;
+    let slots = slots_of(store, pivot.negated());
     let outer = collect_outers(alloc, store, scope, slots, Some(at), pivot.negated())?;
     Ok(Some(Undo::Pivot { pivot, outer }))
 }

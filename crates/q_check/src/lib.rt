@@ -4,9 +4,11 @@
 mod book;
 mod checker;
 mod error;
+mod links;
 mod pivots;
 mod reach;
 mod scope;
+mod seats;
 mod undo;
 
 pub use checker::{Checker, Verified};

@@ -1,5 +1,5 @@
 //! Whether a clause may come or go: implied, or by a pivot.
-ghost use Rattle.std.specs.Prelude.{◌≡◌, ◌↔◌, ◌++◌, ℕ, List, true, length, None, Some, Option, OnOk, IfOk, IsTrue, MatchOption};
+ghost use Rattle.std.specs.Prelude.{◌≡◌, ◌↔◌, ◌++◌, [], ℕ, List, true, length, None, Some, Option, OnOk, IfOk, IsTrue, MatchOption};
 ghost use Rattle.q_logic.specs.Literals.{Literal};
 ghost use Rattle.q_logic.specs.Formulas.{Clause, IsIn};
 ghost use Rattle.q_logic.specs.Prefixes.{Closed, is_bound, is_existential};
@@ -53,7 +53,11 @@ pub struct Buffers {
 }
 
 impl Buffers {
-    pub fn new(alloc: Global) -> Buffers {
+    pub fn new(alloc: Global) -> Buffers
+        ensures slots { result.slots.items ≡ [] }
+        ensures joined { result.joined.items ≡ [] }
+        ensures trail { result.trail ≡ [] }
+    {
         Buffers {
             slots: Vec::new(alloc),
             joined: Vec::new(alloc),
@@ -74,11 +78,18 @@ pub fn holds(clause: &[Lit], lit: Lit) -> bool
 }
 
 /// The slots whose clauses hold the literal.
-pub fn collect_holders(store: &Store, lit: Lit, slots: &mut Vec<u32>) -> Result<(), NoMemory>
+pub fn slots_of<'a>(store: &'a Store, lit: Lit) -> &'a [u32]
+    ensures { AreHolders store.now lit result.now }
+{
+    store.holders(lit)
+}
+
+// A copy of the slots whose clauses hold the literal.
+fn collect_holders(store: &Store, lit: Lit, slots: &mut Vec<u32>) -> Result<(), NoMemory>
     ensures { OnOk result (AreHolders store.now lit slots.new.items) }
 {
     slots.clear();
-    slots.extend_from_slice(store.holders(lit))?;
+    slots.extend_from_slice(slots_of(store, lit))?;
     Ok(())
 }
 

@@ -10,7 +10,7 @@ ghost use Rattle.q_prop.specs.Slots.{filled};
 ghost use Rattle.q_prop.specs.Slots.{without as without_slot};
 ghost use Rattle.q_check.specs.Walks.{is_inner, IsWidened, IsFollowed, IsVisited};
 
-use crate::pivots::{Buffers, clause_at, collect_holders, holds, resolves};
+use crate::pivots::{Buffers, clause_at, holds, resolves, slots_of};
 use crate::scope::Scope;
 use q_logic::{Lit, NoMemory};
 use q_prop::{Store, Trail};
@@ -42,7 +42,8 @@ pub fn is_droppable(
     if resolves(store, scope, buffers, skip, rest, lit.negated())? {
         return Ok(true);
     }
-    let reducible = is_reducible(store, scope, buffers, skip, clause, lit)?;
+    let trail = &mut buffers.trail;
+    let reducible = is_reducible(store, scope, trail, skip, clause, lit)?;
     Ok(reducible)
 }
 
@@ -50,7 +51,7 @@ pub fn is_droppable(
 fn is_reducible(
     store: &Store,
     scope: &Scope,
-    buffers: &mut Buffers,
+    trail: &mut Trail,
     skip: Option<usize>,
     clause: &[Lit],
     lit: Lit,
@@ -62,15 +63,13 @@ fn is_reducible(
     requires not_negated { IsIn (negation lit) clause.now → ⊥ }
     ensures { IfOk result (λ yes. IsTrue yes ↔ Reducible scope.now (filled (without_slot store.now skip)) clause.now lit) }
 {
-    let trail = &mut buffers.trail;
-    let slots = &mut buffers.slots;
     trail.truncate(0);
     push_inner(trail, scope, clause, lit)?;
     for head in 0..usize::MAX {
         if head >= trail.len() {
             return Ok(true);
         }
-        if !visit(store, scope, slots, trail, skip, head, lit)? {
+        if !visit(store, scope, trail, skip, head, lit)? {
             return Ok(false);
         }
     }
@@ -82,7 +81,6 @@ fn is_reducible(
 fn visit(
     store: &Store,
     scope: &Scope,
-    slots: &mut Vec<u32>,
     trail: &mut Trail,
     skip: Option<usize>,
     head: usize,
@@ -94,7 +92,7 @@ fn visit(
     ensures { IfOk result (λ yes. (k : Literal) → slice_get trail.old head ≡ Some k → IsVisited scope.now (filled (without_slot store.now skip)) u k trail.old trail.new yes) }
 {
     let lit = trail.at(head);
-    collect_holders(store, lit.negated(), slots)?;
+    let slots = slots_of(store, lit.negated());
     for i in 0..slots.len() {
         if !follow(store, scope, trail, skip, slots[i] as usize, u)? {
             return Ok(false);

@@ -3,4 +3,4 @@ use Rattle.q_check.proofs.Walks.{IsFollowing}
 use Rattle.q_check.proofs.reach.visit.Given as goal
 
 abbrev pub invariant-loop-i : goal.invariant-loop-i
-invariant-loop-i l = IsFollowing l.scope l.u (without l.store l.skip) l.slots.items l.i l.fn.trail l.trail
+invariant-loop-i l = IsFollowing l.scope l.u (without l.store l.skip) l.slots l.i l.fn.trail l.trail

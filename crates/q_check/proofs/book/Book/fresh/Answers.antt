@@ -3,7 +3,6 @@ use Rattle.std.proofs.lemmas.Result.{err_from_is_err_and}
 use Rattle.q_logic.specs.Steps.{fresh, insert_after}
 use Rattle.q_prop.specs.Slots.{filled}
 use Rattle.q_check.proofs.Members.{test_is}
-use Rattle.q_check.proofs.Cells.{existential-bound}
 use Rattle.q_check.proofs.Alike.{alike_itself}
 use Rattle.q_check.proofs.Trying.{of, fresh-refused, fresh-entry, valid-formula}
 use Rattle.q_check.proofs.book.Book.fresh.Goals as goal
@@ -19,7 +18,7 @@ pub insert_after-requires-clause-absent : goal.insert_after-requires-clause-abse
 insert_after-requires-clause-absent c = (c.takes_fresh.ensures.0 c.if-not-takes_fresh.false).absent
 
 pub insert_after-requires-clause-there : goal.insert_after-requires-clause-there
-insert_after-requires-clause-there c = existential-bound c.self.inside.scope c.args.w (c.takes_fresh.ensures.0 c.if-not-takes_fresh.false).behind
+insert_after-requires-clause-there c = (c.takes_fresh.ensures.0 c.if-not-takes_fresh.false).behind
 
 pub returns-in_err-insert_after : goal.returns-in_err-insert_after
 returns-in_err-insert_after c = let r = err_from_is_err_and c.from_residual.result c.from_residual.ensures.1 in rw (r.1, r.2, ← c.self.view_is, c.in_err-insert_after.ensures.err) refl

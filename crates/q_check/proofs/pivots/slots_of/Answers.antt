@@ -4,7 +4,7 @@ use Rattle.q_logic.proofs.Membership.{IsIn-Contains, Contains-IsIn}
 use Rattle.q_prop.specs.Slots.{Slots}
 use Rattle.q_prop.specs.Holders.{IsHolder}
 use Rattle.q_check.specs.Warrants.{AreHolders}
-use Rattle.q_check.proofs.pivots.collect_holders.Goals as goal
+use Rattle.q_check.proofs.pivots.slots_of.Goals as goal
 
 listed : (s : Slots) (m : Literal) (slots : List ℕ) → ((n : ℕ) → (Contains slots n → IsHolder s n m) × (IsHolder s n m → Contains slots n)) → AreHolders s m slots
 listed s m slots h = record {
@@ -13,4 +13,4 @@ listed s m slots h = record {
 }
 
 pub returns : goal.returns
-returns c = rw (c.in_ok-extend_from_slice.ensures.items, c.clear.ensures.items) (listed c.args.store.now c.args.lit c.holders.result.now c.holders.ensures.members)
+returns c = listed c.args.store.now c.args.lit c.holders.result.now c.holders.ensures.members
