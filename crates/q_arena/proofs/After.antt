@@ -1,5 +1,5 @@
 -- Rings under an insertion after a node.
-use Rattle.std.proofs.Common.{◌≡◌, ◌≢◌, ◌⊎◌, ℕ, zero, suc, ◌+◌, ◌<◌, ◌≤◌, List, [], ◌∷◌, length, refl, sym, ◌∙◌, ap, subst, inl, inr, arith}
+use Rattle.std.proofs.Common.{◌≡◌, ◌≢◌, ◌⊎◌, ℕ, suc, ◌+◌, ◌<◌, ◌≤◌, List, [], ◌∷◌, length, refl, sym, ◌∙◌, ap, subst, inl, inr, arith}
 use Rattle.std.proofs.lemmas.Bool.Decides.{nat_tests}
 use Rattle.q_arena.proofs.Numbers.{ℕ-cases}
 use Rattle.q_arena.specs.declared.rings.Link.{Link}
@@ -7,7 +7,7 @@ use Rattle.q_arena.specs.Nodes.{IsJoined, IsTagged}
 use Rattle.q_arena.specs.Rings.{IsPath, Has, Misses, AreApart, AreBelow, with_next, IsRing, AreRings, with_list}
 use Rattle.q_arena.proofs.Joins.{next_joined, next_other, prev_joined, prev_other}
 use Rattle.q_arena.proofs.Paths.{Misses-not, Misses-from, IsPath-kept, IsPath-along, next_in}
-use Rattle.q_arena.proofs.RingLemmas.{Has-below, Misses-below, with_list-here, with_list-other, first_in, one_with, off, off_new, IsRing-kept, IsRing-tagged, tag_here}
+use Rattle.q_arena.proofs.RingLemmas.{Misses-below, with_list-here, with_list-other, first_in, one_with, off, off_new, IsRing-kept, IsRing-tagged, tag_here}
 
 pub with_next-here : (a p y : ℕ) (ys : List ℕ) → y ≡ a → with_next a p (y ∷ ys) ≡ y ∷ p ∷ ys
 with_next-here a p y ys e = grind (arith, nat_tests)

@@ -14,3 +14,4 @@ pub mod More
 pub mod Dropped
 pub mod Filled
 pub mod After
+pub mod Free

@@ -35,6 +35,11 @@ without_at k c = take k c ++ drop (k + 1) c
 abbrev pub IsLive : Clauses → ℕ → Type 0
 IsLive a i = (c : List Literal) × (clause_at a i ≡ Some c)
 
+-- the id may be given to a clause
+pub record IsFree (a : Clauses) (i : ℕ) : Type 0 where
+  pub within : i < length a.clauses
+  pub free : clause_at a i ≡ None
+
 -- how many clauses there are
 abbrev pub live_in : List (Option (List Literal)) → ℕ
 live_in [] = 0

@@ -1,9 +1,9 @@
-ghost use Rattle.std.specs.Prelude.{◌≡◌, ◌≢◌, ◌⊎◌, ◌↔◌, ◌≤◌, ◌<◌, ◌+◌, ◌^◌, ◌∷◌, [], ℕ, length, slice_set, slice_index_or, OnOk, OnErr, List, None, Some, Option, IsTrue};
+ghost use Rattle.std.specs.Prelude.{◌≡◌, ◌≢◌, ◌⊎◌, ◌↔◌, ◌≤◌, ◌<◌, ◌+◌, ◌-◌, ◌^◌, ◌∷◌, [], ℕ, length, slice_set, slice_index_or, OnOk, OnErr, List, None, Some, Option, IsTrue};
 ghost use Rattle.q_logic.specs.Literals.{Literal, IsBelow};
 ghost use Rattle.q_logic.specs.Formulas.{IsIn};
 ghost use Rattle.q_logic.specs.Parts.{ArePairs};
 ghost use Rattle.q_logic.specs.Pivots.{without};
-ghost use Rattle.q_arena.specs.Seen.{Clauses, clause_at, start_at, without_at, IsLive, IsEnd, IsFilled, IsFirstPastDead, live_in, words_in, AreSameClauses};
+ghost use Rattle.q_arena.specs.Seen.{Clauses, clause_at, start_at, without_at, IsLive, IsFree, IsEnd, IsFilled, IsFirstPastDead, live_in, words_in, AreSameClauses};
 
 use crate::ids::Ids;
 use crate::slots::{
@@ -65,6 +65,7 @@ impl Arena {
         ensures ids { OnOk result (ids ≤ self.new.spare_ids) }
         ensures same { AreSameClauses self.old self.new }
         ensures room { self.old.room ≤ self.new.room }
+        ensures grown { self.new.room ≤ self.old.room + (words - self.old.spare_words) }
         ensures kept_words { self.old.spare_words ≤ self.new.spare_words }
         ensures kept_ids { self.old.spare_ids ≤ self.new.spare_ids }
         ensures dead { self.new.dead ≡ self.old.dead }
@@ -86,11 +87,20 @@ impl Arena {
         self.words.len()
     }
 
+    /// How many more words clauses may take.
+    pub fn spare_words(&self) -> usize
+        ensures { result ≡ self.now.spare_words }
+    {
+        self.words.len() - self.end
+    }
+
     /// Live clauses stand within the room, apart from one another.
     pub fn apart(&self)
         ensures within { (i : ℕ) (c : List Literal) → clause_at self.now i ≡ Some c → start_at self.now i + length c ≤ self.now.room }
         ensures apart { (i j : ℕ) (c d : List Literal) → clause_at self.now i ≡ Some c → clause_at self.now j ≡ Some d → i ≢ j → (start_at self.now i + length c ≤ start_at self.now j) ⊎ (start_at self.now j + length d ≤ start_at self.now i) }
         ensures few { self.now.room < 18446744073709551616 }
+        ensures ids { length self.now.clauses ≡ live_in self.now.clauses + self.now.spare_ids }
+        ensures few_ids { length self.now.clauses ≤ 4294967295 }
     {
         let _ = &self.words;
     }
@@ -251,8 +261,35 @@ impl Arena {
         ensures ids { self.old.spare_ids ≡ self.new.spare_ids + 1 }
         ensures dead { self.new.dead ≡ self.old.dead }
     {
+        let id = self.free_id();
+        self.add_at(id, lits);
+        id
+    }
+
+    /// An id that is not live.
+    pub fn free_id(&self) -> ClauseId
+        requires { 1 ≤ self.now.spare_ids }
+        ensures free { IsFree self.now result }
+        ensures below { result < 4294967295 }
+    {
+        self.ids.free() as ClauseId
+    }
+
+    /// Adds a clause at the end of the row, under this id.
+    pub fn add_at(&mut self, id: ClauseId, lits: &[Lit])
+        requires free { IsFree self.old id }
+        requires ordered { ArePairs IsBelow lits.now }
+        requires words { length lits.now ≤ self.old.spare_words }
+        ensures there { clause_at self.new id ≡ Some lits.now }
+        ensures clauses { self.new.clauses ≡ slice_set self.old.clauses id (Some lits.now) }
+        ensures starts { (i : ℕ) (c : List Literal) → clause_at self.old i ≡ Some c → start_at self.new i ≡ start_at self.old i }
+        ensures room { self.new.room ≡ self.old.room }
+        ensures words { self.old.spare_words ≡ self.new.spare_words + length lits.now }
+        ensures ids { self.old.spare_ids ≡ self.new.spare_ids + 1 }
+        ensures dead { self.new.dead ≡ self.old.dead }
+    {
         self.ids.distinct();
-        let at = self.ids.free();
+        let at = id as usize;
         self.ids.take(at);
         write(&mut self.words, self.end, lits);
         self.slots[at] = Slot {
@@ -262,7 +299,6 @@ impl Arena {
         };
         self.end += lits.len();
         self.total += lits.len();
-        at as ClauseId
     }
 }
 

@@ -188,6 +188,7 @@ impl Rings {
         ensures apart { (l : ℕ) → AreApart (list_at self.now l) }
         ensures one { (l m p : ℕ) → Has (list_at self.now l) p → Has (list_at self.now m) p → l ≡ m }
         ensures below { (l p : ℕ) → Has (list_at self.now l) p → p < length self.now.owners }
+        ensures few { length self.now.owners < 4294967296 }
     {
         let _ = &self.places;
     }

@@ -148,6 +148,7 @@ pub fn grow_words(words: &mut Vec<Lit>, end: usize, more: usize) -> Result<(), N
     requires { end ≤ length words.old.items }
     ensures room { OnOk result (end + more ≤ length words.new.items) }
     ensures kept { length words.old.items ≤ length words.new.items }
+    ensures exact { (length words.new.items ≡ length words.old.items) ⊎ (length words.new.items ≡ end + more) }
     ensures same { (k : ℕ) (d : Literal) → k < length words.old.items → slice_index_or words.new.items k d ≡ slice_index_or words.old.items k d }
 {
     if words.len() - end >= more {

@@ -4,3 +4,4 @@ mod Rereading
 pub mod Texts
 pub mod Lengths
 pub mod Outcomes
+pub mod InFront

@@ -103,7 +103,7 @@ without-all R l (k ∷ C) (a, as_) = go (literal_eq k l) (without-all R l C as_)
     go true ih = ih
     go false ih = (a, ih)
 
-without-ordered : (l : Literal) (C : Clause) → ArePairs IsBelow C → ArePairs IsBelow (without l C)
+pub without-ordered : (l : Literal) (C : Clause) → ArePairs IsBelow C → ArePairs IsBelow (without l C)
 without-ordered l [] p = tt
 without-ordered l (k ∷ C) (a, p) = go (literal_eq k l) (without-ordered l C p)
   where

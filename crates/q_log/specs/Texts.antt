@@ -5,7 +5,8 @@ use Rattle.q_logic.specs.declared.steps.Kind.{Kind}
 use Rattle.q_logic.specs.declared.steps.Kind.TheVariants.{Add, Delete, Drop, Fresh, Remove}
 use Rattle.q_logic.specs.Literals.{Literal, number_of}
 use Rattle.q_logic.specs.Steps.{ProofStep, add, delete, drop_literal, fresh, remove_variable}
-use Rattle.q_logic.specs.StepForms.{positive, kind_of, literals_of, IsStep}
+use Rattle.q_logic.specs.Pivots.{without}
+use Rattle.q_logic.specs.StepForms.{positive, first_of, kind_of, literals_of, IsStep}
 use Rattle.q_text.specs.Numbers.{numbers_text, line_end}
 
 -- a letter and a space, or nothing for an addition
@@ -40,6 +41,10 @@ written Fresh (Some v) [] = fresh v.var 0
 written Fresh (Some v) (w ∷ ls) = fresh v.var w.var
 written Remove None ls = remove_variable 0
 written Remove (Some v) ls = remove_variable v.var
+
+-- the addition of a clause without one of its literals
+abbrev pub shorter : Literal → List Literal → ProofStep
+shorter out C = add (first_of (without out C)) (without out C)
 
 abbrev pub IsWritable : Kind → Option Literal → List Literal → Type 0
 IsWritable Add p C = Unit {0}

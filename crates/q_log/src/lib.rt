@@ -11,7 +11,7 @@ mod text;
 pub use error::LogError;
 pub use law::texts_are_read;
 pub use reader::LogReader;
-pub use text::{push_step, step_len, write_step};
+pub use text::{push_step, step_len, write_shorter, write_step};
 
 #[cfg(test)]
 mod tests;

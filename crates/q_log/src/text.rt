@@ -4,7 +4,7 @@ ghost use Rattle.q_logic.specs.Parts.{ArePairs};
 ghost use Rattle.q_logic.specs.Pivots.{without};
 ghost use Rattle.q_logic.specs.StepForms.{literals_of};
 ghost use Rattle.q_text.specs.Numbers.{number_text};
-ghost use Rattle.q_log.specs.Texts.{letter_text, literals_text, step_text, written, IsWritable};
+ghost use Rattle.q_log.specs.Texts.{letter_text, literals_text, step_text, written, shorter, IsWritable};
 
 use q_logic::{Kind, Lit, NoMemory, Step};
 use q_text::{digits, put_number};
@@ -43,6 +43,18 @@ pub fn write_step(text: &mut Vec<u8>, kind: Kind, first: Option<Lit>, lits: &[Li
         Some(first) => put_in_front(text, first, lits),
         None => put_lits(text, lits),
     }
+    put(text, END);
+}
+
+/// Appends the canonical text of the addition of a clause without one of its literals. The first
+/// literal of the step is the least that is left. It takes no memory.
+pub fn write_shorter(text: &mut Vec<u8>, lits: &[Lit], out: Lit)
+    requires ordered { ArePairs IsBelow lits.now }
+    requires room { vec_len text.old + length (step_text (shorter out lits.now)) ≤ vec_capacity text.old }
+    ensures items { text.new.items ≡ text.old.items ++ step_text (shorter out lits.now) }
+    ensures capacity { vec_capacity text.old ≤ vec_capacity text.new }
+{
+    put_others(text, out, lits);
     put(text, END);
 }
 
@@ -102,8 +114,17 @@ fn put_in_front(text: &mut Vec<u8>, first: Lit, lits: &[Lit])
     ensures capacity { vec_capacity text.old ≤ vec_capacity text.new }
 {
     put_lit(text, first);
+    put_others(text, first, lits);
+}
+
+// The literals other than one.
+fn put_others(text: &mut Vec<u8>, out: Lit, lits: &[Lit])
+    requires { vec_len text.old + length (literals_text (without out lits.now)) ≤ vec_capacity text.old }
+    ensures items { text.new.items ≡ text.old.items ++ literals_text (without out lits.now) }
+    ensures capacity { vec_capacity text.old ≤ vec_capacity text.new }
+{
     for lit in lits {
-        if !lit.is(first) {
+        if !lit.is(out) {
             put_lit(text, *lit);
         }
     }

@@ -46,10 +46,11 @@ impl Occ {
         self.rings.reserve(words, 2 * vars as usize + 2)
     }
 
-    /// Each place is in one list at most, and once.
+    /// Each place is in one list at most, and once, and places are small numbers.
     pub fn distinct(&self)
         ensures apart { (l : Literal) → AreApart (places_of self.now l) }
         ensures one { (l m : Literal) (p : ℕ) → Has (places_of self.now l) p → Has (places_of self.now m) p → l ≡ m }
+        ensures few { length self.now.owners < 4294967296 }
     {
         self.rings.distinct();
     }

@@ -52,3 +52,21 @@ returns-clause-same c =
       clauses = λ j. clause-more i.slots.items c.grow_ids.new.slots.items i.ids c.grow_ids.new.ids c.grow_ids.ensures.more c.grow_words.new.words.items j ∙ ap (λ (cs : List (Option (List Literal))). get_or cs j None) e;
       starts = λ j. start-more i.slots.items c.grow_ids.new.slots.items i.ids c.grow_ids.new.ids c.grow_ids.ensures.more j;
     })
+
+pub returns-in_err-grow_words-clause-grown : goal.returns-in_err-grow_words-clause-grown
+returns-in_err-grow_words-clause-grown c = rw (← c.self.view_is) (elim c.grow_words.ensures.exact [
+  | inl a ↦ omega (arith, a)
+  | inr b ↦ omega (arith, b, c.self.invariant.laid.within)
+])
+
+pub returns-then-ids-spare-clause-grown : goal.returns-then-ids-spare-clause-grown
+returns-then-ids-spare-clause-grown c = rw (← c.self.view_is) (elim c.grow_words.ensures.exact [
+  | inl a ↦ omega (arith, a)
+  | inr b ↦ omega (arith, b, c.self.invariant.laid.within)
+])
+
+pub returns-clause-grown : goal.returns-clause-grown
+returns-clause-grown c = rw (← c.self.view_is) (elim c.grow_words.ensures.exact [
+  | inl a ↦ omega (arith, a)
+  | inr b ↦ omega (arith, b, c.self.invariant.laid.within)
+])
