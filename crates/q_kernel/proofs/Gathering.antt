@@ -1,0 +1,176 @@
+-- Clauses that are put under the ids 0, 1, 2 and so on, and clauses that are gathered by ascending id.
+use Rattle.std.proofs.Common.{◌≡◌, ◌≢◌, ◌⊎◌, ◌≤◌, ◌<◌, ◌+◌, ◌-◌, ℕ, zero, suc, List, [], ◌∷◌, ◌++◌, length, take, drop, get_or, inl, inr, arith, refl, sym, ap, ◌∙◌, subst, Option, Some, None, add-one, not-suc-le-zero, le_of_suc-le-suc}
+use Rattle.std.specs.Prelude.{slice_range}
+use Rattle.q_logic.specs.Literals.{Literal}
+use Rattle.q_logic.specs.Formulas.{Clause, Matrix}
+use Rattle.q_logic.specs.Parts.{AreEnds, clauses_between}
+use Rattle.q_logic.specs.Steps.{literals_in}
+use Rattle.q_logic.specs.Numbered.{Slots, slot, set_slot, live, numbered, put_first}
+use Rattle.q_arena.proofs.Numbers.{ℕ-cases}
+use Rattle.q_kernel.proofs.Slotting.{slot-set_same, slot-set_other, live-same, live-numbered}
+
+-- The first clauses stand under their ids, and nothing else is there.
+abbrev pub AreFirst : Slots → Matrix → ℕ → Type 0
+AreFirst N X k = (c : ℕ) → slot N c ≡ slot (numbered (take k X)) c
+
+numbered-before : (X : Matrix) (k c : ℕ) → c < k → slot (numbered (take (suc k) X)) c ≡ slot (numbered (take k X)) c
+numbered-before X zero c h = absurd (not-suc-le-zero h)
+numbered-before [] (suc k) c h = refl
+numbered-before (C ∷ X) (suc k) zero h = refl
+numbered-before (C ∷ X) (suc k) (suc c) h = numbered-before X k c (le_of_suc-le-suc h)
+
+numbered-here : (X : Matrix) (k : ℕ) (d : Clause) → k < length X → slot (numbered (take (suc k) X)) k ≡ Some (get_or X k d)
+numbered-here [] k d h = absurd (not-suc-le-zero h)
+numbered-here (C ∷ X) zero d h = refl
+numbered-here (C ∷ X) (suc k) d h = numbered-here X k d (le_of_suc-le-suc h)
+
+numbered-past : (X : Matrix) (k c : ℕ) → k ≤ c → slot (numbered (take k X)) c ≡ None
+numbered-past X zero c h = none X
+  where
+    none : (X : Matrix) → slot (numbered (take 0 X)) c ≡ None
+    none [] = refl
+    none (C ∷ X) = refl
+numbered-past [] (suc k) c h = refl
+numbered-past (C ∷ X) (suc k) zero h = absurd (not-suc-le-zero h)
+numbered-past (C ∷ X) (suc k) (suc c) h = numbered-past X k c (le_of_suc-le-suc h)
+
+pub first-none : (N : Slots) (X : Matrix) → ((c : ℕ) → slot N c ≡ None) → AreFirst N X 0
+first-none N X h c = h c ∙ sym (numbered-past X 0 c (omega arith))
+
+pub first-free : (N : Slots) (X : Matrix) (k : ℕ) → AreFirst N X k → slot N k ≡ None
+first-free N X k h = h k ∙ numbered-past X k k (omega arith)
+
+pub first-more : (N : Slots) (X : Matrix) (k : ℕ) (d : Clause) → k < length X → k < length N → AreFirst N X k → AreFirst (set_slot k (Some (get_or X k d)) N) X (k + 1)
+first-more N X k d h b f c = subst (λ (n : ℕ). slot (set_slot k (Some (get_or X k d)) N) c ≡ slot (numbered (take n X)) c) (sym (add-one k)) (elim (ℕ-cases c k) [
+  | inl e ↦ subst (λ (n : ℕ). slot (set_slot k (Some (get_or X k d)) N) n ≡ slot (numbered (take (suc k) X)) n) (sym e) (slot-set_same k (Some (get_or X k d)) N b ∙ sym (numbered-here X k d h))
+  | inr n ↦ slot-set_other k c (Some (get_or X k d)) N n ∙ (f c ∙ either (split c n))
+])
+  where
+    split : (c : ℕ) → c ≢ k → (c < k) ⊎ (suc k ≤ c)
+    split c n = grind arith
+
+    either : (c < k) ⊎ (suc k ≤ c) → slot (numbered (take k X)) c ≡ slot (numbered (take (suc k) X)) c
+    either (inl l) = sym (numbered-before X k c l)
+    either (inr g) = numbered-past X k c (omega arith) ∙ sym (numbered-past X (suc k) c g)
+
+take-whole : (X : Matrix) → take (length X) X ≡ X
+take-whole [] = refl
+take-whole (C ∷ X) = ap (λ (Y : Matrix). C ∷ Y) (take-whole X)
+
+pub first-all : (N : Slots) (X : Matrix) (k : ℕ) → k ≡ length X → AreFirst N X k → (c : ℕ) → slot N c ≡ slot (numbered X) c
+first-all N X k e h c = h c ∙ ap (λ (Y : Matrix). slot (numbered Y) c) (ap (λ (n : ℕ). take n X) e ∙ take-whole X)
+
+pub first-live : (N : Slots) (X : Matrix) → ((c : ℕ) → slot N c ≡ slot (numbered X) c) → live N ≡ X
+first-live N X h = live-same N (numbered X) h ∙ live-numbered X
+
+-- Clauses below a number.
+pub gathered-none : (N : Slots) → live (take 0 N) ≡ []
+gathered-none [] = refl
+gathered-none (o ∷ N) = refl
+
+put-append : (o : Option Clause) (X Y : Matrix) → put_first o X ++ Y ≡ put_first o (X ++ Y)
+put-append None X Y = refl
+put-append (Some C) X Y = refl
+
+skip : (N : Slots) (from to : ℕ) → from ≤ to → ((c : ℕ) → from ≤ c → c < to → slot N c ≡ None) → live (take to N) ≡ live (take from N)
+skip N from zero h n = let e : 0 ≡ from = omega arith in ap (λ (k : ℕ). live (take k N)) e
+skip [] zero (suc to) h n = refl
+skip [] (suc from) (suc to) h n = refl
+skip (o ∷ N) zero (suc to) h n =
+    let e : o ≡ None = n 0 (omega arith) (omega arith) in
+    ap (λ (q : Option Clause). put_first q (live (take to N))) e ∙ (skip N 0 to (omega arith) (λ c a b. n (suc c) (omega arith) (omega arith)) ∙ gathered-none N)
+skip (o ∷ N) (suc from) (suc to) h n = ap (put_first o) (skip N from to (le_of_suc-le-suc h) (λ c a b. n (suc c) (omega arith) (omega arith)))
+
+one-more : (N : Slots) (id : ℕ) (C : Clause) → slot N id ≡ Some C → live (take (suc id) N) ≡ live (take id N) ++ C ∷ []
+one-more [] id C s = grind arith
+one-more (o ∷ N) zero C s = ap (λ (q : Option Clause). put_first q (live (take 0 N))) s ∙ ap (λ (X : Matrix). C ∷ X) (gathered-none N)
+one-more (o ∷ N) (suc id) C s = ap (put_first o) (one-more N id C s) ∙ sym (put-append o (live (take id N)) (C ∷ []))
+
+-- the next live id after a number
+pub gathered-more : (N : Slots) (from id : ℕ) (C : Clause) → from ≤ id → ((c : ℕ) → from ≤ c → c < id → slot N c ≡ None) → slot N id ≡ Some C → live (take (id + 1) N) ≡ live (take from N) ++ C ∷ []
+gathered-more N from id C h n s = subst (λ (k : ℕ). live (take k N) ≡ live (take from N) ++ C ∷ []) (sym (add-one id)) (one-more N id C s ∙ ap (λ (X : Matrix). X ++ C ∷ []) (skip N from id h n))
+
+pub gathered-all : (N : Slots) (from : ℕ) → ((c : ℕ) → from ≤ c → slot N c ≡ None) → live (take from N) ≡ live N
+gathered-all N zero n = gathered-none N ∙ sym (live-no N (λ c. n c (omega arith)))
+  where
+    live-no : (N : Slots) → ((c : ℕ) → slot N c ≡ None) → live N ≡ []
+    live-no N h = live-same N [] h
+gathered-all [] (suc from) n = refl
+gathered-all (o ∷ N) (suc from) n = ap (put_first o) (gathered-all N from (λ c h. n (suc c) (omega arith)))
+
+-- One clause more at the end of the parts of a formula.
+ends-low : (from : ℕ) (ends : List ℕ) (n : ℕ) → AreEnds from ends n → from ≤ n
+ends-low from [] n h = let z : from ≡ n = h in omega arith
+ends-low from (e ∷ ends) n h = let i : e ≤ n = ends-low e ends n h.1 in let k : from ≤ e = h.0 in omega arith
+
+pub ends-push : (from : ℕ) (ends : List ℕ) (n m : ℕ) → AreEnds from ends n → n ≤ m → AreEnds from (ends ++ m ∷ []) m
+ends-push from [] n m h k = let z : from ≡ n = h in (omega arith, refl)
+ends-push from (e ∷ ends) n m h k = (h.0, ends-push e ends n m h.1 k)
+
+take-front : {X : Type 0} (xs ys : List X) (n : ℕ) → n ≤ length xs → take n (xs ++ ys) ≡ take n xs
+take-front xs ys zero h = refl
+take-front [] ys (suc n) h = absurd (omega arith)
+take-front (x ∷ xs) ys (suc n) h = ap (λ (zs : List _). x ∷ zs) (take-front xs ys n (omega arith))
+
+take-all : {X : Type 0} (xs : List X) → take (length xs) xs ≡ xs
+take-all [] = refl
+take-all (x ∷ xs) = ap (λ (zs : List _). x ∷ zs) (take-all xs)
+
+drop-front : {X : Type 0} (xs ys : List X) → drop (length xs) (xs ++ ys) ≡ ys
+drop-front [] ys = refl
+drop-front (x ∷ xs) ys = drop-front xs ys
+
+pub length-both : {X : Type 0} (xs ys : List X) → length (xs ++ ys) ≡ length xs + length ys
+length-both [] ys = omega arith
+length-both (x ∷ xs) ys = let i : length (xs ++ ys) ≡ length xs + length ys = length-both xs ys in omega arith
+
+last-range : (lits more : List Literal) → slice_range (lits ++ more) (length lits) (length (lits ++ more)) ≡ more
+last-range lits more = let n : length (lits ++ more) - length lits ≡ length more = (let e = length-both lits more in omega (arith, e)) in rw (n, drop-front lits more) (take-all more)
+
+early : (xs ys : List Literal) (i n : ℕ) → (n ≡ 0) ⊎ (i + n ≤ length xs) → take n (drop i (xs ++ ys)) ≡ take n (drop i xs)
+early xs ys i n (inl e) = rw e refl
+early xs ys zero n (inr h) = take-front xs ys n (omega arith)
+early [] ys (suc i) n (inr h) = absurd (omega arith)
+early (x ∷ xs) ys (suc i) n (inr h) = early xs ys i n (inr (omega arith))
+
+within : (n i j : ℕ) → j ≤ n → (j - i ≡ 0) ⊎ (i + (j - i) ≤ n)
+within n zero j h = inr (omega arith)
+within n (suc i) zero h = inl (omega arith)
+within zero (suc i) (suc j) h = absurd (omega arith)
+within (suc n) (suc i) (suc j) h = elim (within n i j (omega arith)) [
+  | inl e ↦ inl (omega arith)
+  | inr k ↦ inr (omega arith)
+]
+
+pub clauses-push : (lits more : List Literal) (from : ℕ) (ends : List ℕ) → AreEnds from ends (length lits) → clauses_between (lits ++ more) from (ends ++ length (lits ++ more) ∷ []) ≡ clauses_between lits from ends ++ more ∷ []
+clauses-push lits more from [] h = let e : from ≡ length lits = h in rw e (ap (λ (C : Clause). C ∷ []) (last-range lits more))
+clauses-push lits more from (e ∷ ends) h =
+    let r : slice_range (lits ++ more) from e ≡ slice_range lits from e = early lits more from (e - from) (within (length lits) from e (ends-low e ends (length lits) h.1)) in
+    let i = clauses-push lits more e ends h.1 in
+    rw (r, i) refl
+
+-- How many literals the clauses have.
+pub literals-append : (X Y : Matrix) → literals_in (X ++ Y) ≡ literals_in X + literals_in Y
+literals-append [] Y = omega arith
+literals-append (C ∷ X) Y = let i : literals_in (X ++ Y) ≡ literals_in X + literals_in Y = literals-append X Y in omega arith
+
+pub gathered-fewer : (N : Slots) (from : ℕ) → (literals_in (live (take from N)) ≤ literals_in (live N)) × (length (live (take from N)) ≤ length (live N))
+gathered-fewer N zero = subst (λ (X : Matrix). (literals_in X ≤ literals_in (live N)) × (length X ≤ length (live N))) (sym (gathered-none N)) (omega arith, omega arith)
+gathered-fewer [] (suc from) = (omega arith, omega arith)
+gathered-fewer (None ∷ N) (suc from) = gathered-fewer N from
+gathered-fewer (Some C ∷ N) (suc from) = let i : (literals_in (live (take from N)) ≤ literals_in (live N)) × (length (live (take from N)) ≤ length (live N)) = gathered-fewer N from in (omega (arith, i.0), omega (arith, i.1))
+
+-- the parts so far, and one clause more
+pub record AreGathered (N : Slots) (from : ℕ) (lits : List Literal) (ends : List ℕ) : Type 0 where
+  pub in_order : AreEnds 0 ends (length lits)
+  pub clauses : clauses_between lits 0 ends ≡ live (take from N)
+
+pub gathered-push : (N : Slots) (from id : ℕ) (C : Clause) (lits more : List Literal) (ends last : List ℕ) (n : ℕ) → AreGathered N from lits ends → from ≤ id → ((c : ℕ) → from ≤ c → c < id → slot N c ≡ None) → slot N id ≡ Some C
+    → more ≡ lits ++ C → n ≡ length more → last ≡ ends ++ n ∷ [] → AreGathered N (id + 1) more last
+gathered-push N from id C lits more ends last n g f none e em en el =
+    let e' : last ≡ ends ++ length (lits ++ C) ∷ [] = el ∙ ap (λ (m : ℕ). ends ++ m ∷ []) (en ∙ ap length em) in
+    let long : length lits ≤ length (lits ++ C) = let b = length-both lits C in omega arith in
+    record {
+      in_order = subst (λ (es : List ℕ). AreEnds 0 es (length more)) (sym e') (subst (λ (ls : List Literal). AreEnds 0 (ends ++ length (lits ++ C) ∷ []) (length ls)) (sym em) (ends-push 0 ends (length lits) (length (lits ++ C)) g.in_order long));
+      clauses = ap (λ (ls : List Literal). clauses_between ls 0 last) em ∙ ap (clauses_between (lits ++ C) 0) e' ∙ clauses-push lits C 0 ends g.in_order ∙ ap (λ (X : Matrix). X ++ C ∷ []) g.clauses ∙ sym (gathered-more N from id C f none e);
+    }

@@ -1,0 +1,21 @@
+use Rattle.std.proofs.Common.{sym, ◌∙◌, arith, subst, false, [], ap, ℕ}
+use Rattle.q_logic.specs.Formulas.{Prefix}
+use Rattle.q_logic.specs.Parts.{IsProper}
+use Rattle.q_logic.specs.Numbered.{formula_of}
+use Rattle.q_logic.specs.InLimits.{greatest}
+use Rattle.q_logic.proofs.Ordering.{is_bound-greatest}
+use Rattle.q_arena.specs.Seen.{Clauses}
+use Rattle.q_kernel.specs.Uses.{AreUses}
+use Rattle.q_kernel.proofs.Walking.{kernel-bare}
+use Rattle.q_kernel.proofs.kernel.Kernel.bare.Goals as goal
+
+pub idle_uses-requires-clause-within : goal.idle_uses-requires-clause-within
+idle_uses-requires-clause-within c = λ v b. let l = is_bound-greatest c.args.bounds.now v b in omega (arith, c.greatest_of-greatest.ensures)
+
+pub invariant_of-result : goal.invariant_of-result
+invariant_of-result c =
+    let same = c.reserve.ensures.bounds ∙ c.in_ok-prefix.ensures.bounds in
+    kernel-bare c.reserve.new.self c.new-3.result c.in_ok-occ.occ c.in_ok-uses.uses c.greatest_of-greatest.result
+    (subst (λ (P : Prefix). IsProper (formula_of P [])) (sym same) c.requires)
+    (ap (λ (a : Clauses). a.clauses) c.new-3.ensures) (ap (λ (a : Clauses). a.room) c.new-3.ensures) c.in_ok-occ.ensures.empty c.in_ok-occ.ensures.vars
+    c.in_ok-uses.ensures.room c.in_ok-reserve.ensures.greatest (subst (λ (P : Prefix). AreUses c.in_ok-uses.uses P (λ (v : ℕ). false)) (sym same) c.in_ok-uses.ensures.uses) (c.greatest_of-greatest.ensures ∙ sym (ap greatest same))

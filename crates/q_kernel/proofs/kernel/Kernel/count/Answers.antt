@@ -1,0 +1,9 @@
+use Rattle.std.proofs.Common.{sym, ◌∙◌, arith}
+use Rattle.q_kernel.proofs.Occurring.{counted-none, counted-some}
+use Rattle.q_kernel.proofs.kernel.Kernel.count.Goals as goal
+
+pub returns-clause-none : goal.returns-clause-none
+returns-clause-none c = rw (← c.self.view_is) (λ e. counted-none c.self.inside.occ c.self.inside.arena c.self.invariant.linked c.args.lit (sym c.count.ensures ∙ e))
+
+pub returns-clause-some : goal.returns-clause-some
+returns-clause-some c = rw (← c.self.view_is) (λ h. let r = counted-some c.self.inside.occ c.self.inside.arena c.self.invariant.linked c.args.lit (omega (arith, c.count.ensures, h)) in (r.0, (r.1, r.2, r.3)))

@@ -1,0 +1,85 @@
+-- What holds of the parts of a kernel.
+use Rattle.std.specs.Prelude.{◌≡◌, ◌≤◌, ◌<◌, ◌+◌, ◌*◌, ℕ, true, [], ◌∷◌, length, Some, None}
+use Rattle.q_logic.specs.Formulas.{Clause, Matrix}
+use Rattle.q_logic.specs.Literals.{Literal}
+use Rattle.q_logic.specs.Pivots.{without}
+use Rattle.q_logic.specs.Prefixes.{is_bound}
+use Rattle.q_logic.specs.Parts.{IsProper}
+use Rattle.q_logic.specs.Numbered.{slot, set_slot, live, formula_of}
+use Rattle.q_logic.specs.Measure.{size_of}
+use Rattle.q_logic.specs.InLimits.{greatest}
+use Rattle.q_logic.specs.Runs.{copies}
+use Rattle.q_arena.specs.Chains.{Chains}
+use Rattle.q_arena.specs.Seen.{Clauses}
+use Rattle.q_prefix.specs.Order.{FlatPrefix}
+use Rattle.q_kernel.specs.Uses.{Groups, AreUses}
+use Rattle.q_kernel.specs.Listing.{is_listed}
+use Rattle.q_kernel.specs.Linking.{AreLinked}
+use Rattle.q_kernel.specs.Kernels.{Seen, slots, KeepsRoom, HasSweepBytes}
+use Rattle.q_kernel.specs.Changes.{IsLed}
+
+-- there are places for all words, and lists and marks for all variables up to the greatest that may come
+pub record IsRoomy (P : FlatPrefix) (a : Clauses) (o : Chains) (g : Groups) (most : ℕ) : Type 0 where
+  pub places : a.room ≤ length o.owners
+  pub lists : 2 * most + 2 ≤ length o.lists
+  pub rows : most < g.room
+  pub marks : most ≤ P.greatest
+  pub vars : (v : ℕ) → is_bound P.bounds v ≡ true → v ≤ most
+
+-- the number of clauses, the number of literals and clauses, and the number of empty clauses
+pub record IsCounted (X : Matrix) (n s e : ℕ) : Type 0 where
+  pub count : n ≡ length X
+  pub size : s ≡ size_of X
+  pub empties : e ≡ copies [] X
+
+-- 1 for an empty clause
+abbrev pub empty_ones : Clause → ℕ
+empty_ones [] = 1
+empty_ones (l ∷ C) = 0
+
+pub record IsKernel (P : FlatPrefix) (a : Clauses) (o : Chains) (g : Groups) (n s e t most : ℕ) : Type 0 where
+  pub proper : IsProper (formula_of P.bounds (live a.clauses))
+  pub linked : AreLinked o a
+  pub roomy : IsRoomy P a o g most
+  pub grouped : AreUses g P.bounds (is_listed o)
+  pub counted : IsCounted (live a.clauses) n s e
+  pub top : t ≡ greatest P.bounds
+
+-- what is not of the clauses is the same
+pub record HasSameRest (old new : Seen) : Type 0 where
+  pub prefix : new.prefix ≡ old.prefix
+  pub text : new.text ≡ old.text
+  pub vars : new.spare_vars ≡ old.spare_vars
+  pub greatest : new.greatest ≡ old.greatest
+  pub bytes : new.spare_bytes ≡ old.spare_bytes
+
+-- a clause has come under a free id
+pub record IsPut (old new : Seen) (C : Clause) (id : ℕ) : Type 0 where
+  pub change : slots new ≡ set_slot id (Some C) (slots old)
+  pub there : slot (slots new) id ≡ Some C
+  pub words : old.arena.spare_words ≡ new.arena.spare_words + length C
+  pub ids : old.arena.spare_ids ≡ new.arena.spare_ids + 1
+  pub rest : HasSameRest old new
+
+-- words and ids are as many as before, or more
+pub record KeepsArena (old new : Clauses) : Type 0 where
+  pub words : old.spare_words ≤ new.spare_words
+  pub ids : old.spare_ids ≤ new.spare_ids
+
+-- the clause of an id has gone
+pub record IsTakenOut (old new : Seen) (id : ℕ) : Type 0 where
+  pub change : slots new ≡ set_slot id None (slots old)
+  pub kept : KeepsArena old.arena new.arena
+  pub rest : HasSameRest old new
+
+-- the clause of an id has lost a literal
+pub record IsShortened (old new : Seen) (id : ℕ) (l : Literal) : Type 0 where
+  pub change : (C : Clause) → slot (slots old) id ≡ Some C → slots new ≡ set_slot id (Some (without l C)) (slots old)
+  pub kept : KeepsArena old.arena new.arena
+  pub rest : HasSameRest old new
+
+-- part of a sweep: steps have led on, and there are bytes for the rest
+pub record IsSweeping (old new : Seen) : Type 0 where
+  pub led : IsLed old new
+  pub room : KeepsRoom old new
+  pub bytes : HasSweepBytes new

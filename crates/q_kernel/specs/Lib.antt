@@ -1,0 +1,8 @@
+pub mod Kernels
+pub mod Changes
+pub mod Taking
+pub mod Uses
+pub mod Linking
+pub mod Listing
+pub mod Invariant
+pub mod Examples

@@ -1,0 +1,19 @@
+-- Occurrence lists kept beside the clauses.
+use Rattle.std.specs.Prelude.{◌<◌, ℕ, true, false, length}
+use Rattle.q_logic.specs.Literals.{Literal, pack}
+use Rattle.q_logic.specs.Formulas.{Clause, IsIn}
+use Rattle.q_arena.specs.Chains.{Chains}
+use Rattle.q_arena.specs.Seen.{Clauses}
+use Rattle.q_occ.specs.Places.{AreExact, with_linked}
+
+-- the lists hold exactly the places of all clauses
+abbrev pub AreLinked : Chains → Clauses → Type 0
+AreLinked o a = AreExact o a (λ i. true)
+
+-- the same for all clauses but one
+abbrev pub AreLinkedBut : Chains → Clauses → ℕ → Type 0
+AreLinkedBut o a id = AreExact o a (with_linked id false (λ i. true))
+
+-- each literal has a list
+abbrev pub HasLists : Chains → Clause → Type 0
+HasLists o C = (l : Literal) → IsIn l C → pack l < length o.lists

@@ -1,0 +1,19 @@
+//! The formula that is simplified and the log of its changes, in one: each change is a valid step, made
+//! without memory after a reservation, and logged at once.
+#![tactic(auto)]
+
+mod kernel;
+mod links;
+mod need;
+mod parts;
+mod pending;
+mod taken;
+mod uses;
+mod variables;
+
+pub use kernel::Kernel;
+pub use need::Need;
+pub use taken::Taken;
+
+#[cfg(test)]
+mod tests;
