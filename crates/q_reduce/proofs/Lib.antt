@@ -1,0 +1,12 @@
+pub mod Marking
+pub mod Members
+pub mod Neighbours
+pub mod Quantifiers
+pub mod Walks
+pub mod Reaching
+pub mod Turns
+pub mod Steps
+pub mod Clearing
+pub mod Becoming
+pub mod Passing
+pub mod Results

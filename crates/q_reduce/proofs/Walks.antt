@@ -1,0 +1,130 @@
+-- Walks, literal by literal and clause by clause.
+use Rattle.std.proofs.Common.{◌≡◌, ◌≢◌, ◌⊎◌, ℕ, zero, suc, None, true, false, List, [], ◌∷◌, ◌++◌, Some, sym, ◌∙◌, ap, subst, inl, inr, arith, append-nil, append_assoc}
+use Rattle.q_logic.specs.Literals.{Literal, negation}
+use Rattle.q_logic.specs.Formulas.{Clause, Prefix, IsIn}
+use Rattle.q_logic.specs.Expanding.{inner_existential}
+use Rattle.q_logic.specs.Numbered.{Slots, slot, others}
+use Rattle.q_logic.proofs.Slots.{others-slot}
+use Rattle.q_arena.specs.Rings.{Has}
+use Rattle.q_kernel.proofs.Slotting.{IsIn-slot}
+use Rattle.q_kernel.proofs.Following.{Has-last}
+use Rattle.q_logic.proofs.Clauses.{IsIn-append_left, IsIn-append}
+use Rattle.q_logic.proofs.Implying.{IsIn-append_right}
+use Rattle.q_reduce.specs.Walks.{IsWidened, IsSettled, IsGrown, IsBeside, IsFollowed, IsVisited}
+
+pub IsIn-grown : (old new added : List Literal) (k : Literal) → new ≡ old ++ added → IsIn k old → IsIn k new
+IsIn-grown old new added k e m = rw e (IsIn-append_left k old added m)
+
+-- A clause beside that of a number stands at another number.
+pub others-find : (N : Slots) (c : ℕ) (E : Clause) → IsIn E (others c N) → (d : ℕ) × (d ≢ c) × (slot N d ≡ Some E)
+others-find [] c E m = absurd m
+others-find (o ∷ N) zero E m = let r = IsIn-slot N E m in (suc r.0, (λ e. omega arith), r.1)
+others-find (None ∷ N) (suc c) E m = let r = others-find N c E m in (suc r.0, (λ e. r.1 (omega arith)), r.2)
+others-find (Some D ∷ N) (suc c) E (inl e) = (0, (λ z. omega arith), ap Some (sym e))
+others-find (Some D ∷ N) (suc c) E (inr m) = let r = others-find N c E m in (suc r.0, (λ e. r.1 (omega arith)), r.2)
+
+module _ (P : Prefix) (u : Literal) where
+  pub widened-begun : (old : List Literal) → IsWidened P u [] old old
+  widened-begun old = record { added = []; is = sym (append-nil old); all_there = λ k i t. absurd i; no_other = λ k m. inl m }
+
+  -- one more literal of the clause, which is not inner or there already
+  pub widened-left : (C D : Clause) (j : Literal) (old new : List Literal) → ((k : Literal) → IsIn k D → IsIn k C ⊎ (k ≡ j)) → ((k : Literal) → IsIn k C → IsIn k D) → (inner_existential P u.var j.var ≡ true → IsIn j new) → IsWidened P u C old new → IsWidened P u D old new
+  widened-left C D j old new f g h w = record {
+    added = w.added;
+    is = w.is;
+    all_there = λ k i t. elim (f k i) [
+      | inl a ↦ w.all_there k a t
+      | inr a ↦ subst (λ (x : Literal). IsIn x new) (sym a) (h (subst (λ (x : Literal). inner_existential P u.var x.var ≡ true) a t))
+    ];
+    no_other = λ k m. elim (w.no_other k m) [ inl a ↦ inl a | inr a ↦ inr (g k a.0, a.1) ];
+  }
+
+  -- or it comes
+  pub widened-pushed : (C D : Clause) (j : Literal) (old new : List Literal) → ((k : Literal) → IsIn k D → IsIn k C ⊎ (k ≡ j)) → ((k : Literal) → IsIn k C → IsIn k D) → IsIn j D → inner_existential P u.var j.var ≡ true → IsWidened P u C old new → IsWidened P u D old (new ++ j ∷ [])
+  widened-pushed C D j old new f g i t w = record {
+    added = w.added ++ j ∷ [];
+    is = ap (λ (xs : List Literal). xs ++ j ∷ []) w.is ∙ append_assoc old w.added (j ∷ []);
+    all_there = λ k m q. elim (f k m) [
+      | inl a ↦ IsIn-append_left k new (j ∷ []) (w.all_there k a q)
+      | inr a ↦ IsIn-append_right k new (j ∷ []) (inl a)
+    ];
+    no_other = λ k m. elim (IsIn-append k new (j ∷ []) m) [
+      | inl a ↦ elim (w.no_other k a) [ inl b ↦ inl b | inr b ↦ inr (g k b.0, b.1) ]
+      | inr a ↦ elim a [
+        | inl e ↦ inr (subst (λ (x : Literal). IsIn x D) (sym e) i, subst (λ (x : Literal). inner_existential P u.var x.var ≡ true) (sym e) t)
+        | inr none ↦ absurd none
+      ]
+    ];
+  }
+
+  one : (N : Slots) (n : ℕ) (C D : Clause) → slot N n ≡ Some C → slot N n ≡ Some D → C ≡ D
+  one N n C D e f = let g : Some C ≡ Some D = sym e ∙ f in cc
+
+  pub grown-same : (Q : Clause → Type 0) (old : List Literal) → IsGrown P u Q old old
+  grown-same Q old = record { added = []; is = sym (append-nil old); from = λ k m. inl m }
+
+  pub followed-own : (N : Slots) (c d : ℕ) (old : List Literal) → d ≡ c → IsFollowed P N c u d old old true
+  followed-own N c d old e = (grown-same (IsBeside N c d) old, λ E b. absurd (b.0 e))
+
+  pub followed-held : (N : Slots) (c d : ℕ) (C : Clause) (old : List Literal) → slot N d ≡ Some C → IsIn u C → IsFollowed P N c u d old old true
+  followed-held N c d C old h m = (grown-same (IsBeside N c d) old, λ E b. inl (subst (λ (x : Clause). IsIn u x) (one N d C E h b.1) m))
+
+  pub followed-widened : (N : Slots) (c d : ℕ) (C : Clause) (old new : List Literal) → d ≢ c → slot N d ≡ Some C → (IsIn u C → ⊥) → (IsIn (negation u) C → ⊥) → IsWidened P u C old new → IsFollowed P N c u d old new true
+  followed-widened N c d C old new n h a b w = (
+    record { added = w.added; is = w.is; from = λ k m. elim (w.no_other k m) [ inl x ↦ inl x | inr x ↦ inr (C, (n, h), a, x.0, x.1) ] },
+    (λ E s. let q = one N d C E h s.1 in inr ((λ m. b (subst (λ (x : Clause). IsIn (negation u) x) (sym q) m)), (λ k m t. w.all_there k (subst (λ (x : Clause). IsIn k x) (sym q) m) t))),
+  )
+
+  pub settled-more : (old new added : List Literal) (E : Clause) → new ≡ old ++ added → IsSettled P u old E → IsSettled P u new E
+  settled-more old new added E e (inl m) = inl m
+  settled-more old new added E e (inr (n, h)) = inr (n, λ k m t. IsIn-grown old new added k e (h k m t))
+
+  pub grown-through : (Q R : Clause → Type 0) (old mid new : List Literal) → ((E : Clause) → R E → Q E) → IsGrown P u Q old mid → IsGrown P u R mid new → IsGrown P u Q old new
+  grown-through Q R old mid new f g h = record {
+    added = g.added ++ h.added;
+    is = h.is ∙ ap (λ (xs : List Literal). xs ++ h.added) g.is ∙ append_assoc old g.added h.added;
+    from = λ k m. elim (h.from k m) [ inl x ↦ g.from k x | inr x ↦ inr (x.0, f x.0 x.1, x.2, x.3, x.4) ];
+  }
+
+  pub grown-wider : (Q R : Clause → Type 0) (old new : List Literal) → ((E : Clause) → Q E → R E) → IsGrown P u Q old new → IsGrown P u R old new
+  grown-wider Q R old new f g = record { added = g.added; is = g.is; from = λ k m. elim (g.from k m) [ inl a ↦ inl a | inr a ↦ inr (a.0, f a.0 a.1, a.2, a.3, a.4) ] }
+
+  -- the clauses that own places which a walk has passed were followed
+  pub record IsFollowing (N : Slots) (c : ℕ) (owner : ℕ → ℕ) (Q : Clause → Type 0) (places : List ℕ) (old new : List Literal) : Type 0 where
+    pub grown : IsGrown P u Q old new
+    pub settled : (p : ℕ) (E : Clause) → Has places p → IsBeside N c (owner p) E → IsSettled P u new E
+
+  pub following-begun : (N : Slots) (c : ℕ) (owner : ℕ → ℕ) (Q : Clause → Type 0) (old : List Literal) → IsFollowing N c owner Q [] old old
+  following-begun N c owner Q old = record { grown = grown-same Q old; settled = λ p E h b. absurd h }
+
+  pub following-more : (N : Slots) (c : ℕ) (owner : ℕ → ℕ) (Q : Clause → Type 0) (places : List ℕ) (p : ℕ) (old mid new : List Literal) → ((E : Clause) → IsBeside N c (owner p) E → Q E) → IsFollowing N c owner Q places old mid → IsFollowed P N c u (owner p) mid new true → IsFollowing N c owner Q (places ++ p ∷ []) old new
+  following-more N c owner Q places p old mid new q f h = record {
+    grown = grown-through Q (IsBeside N c (owner p)) old mid new q f.grown h.0;
+    settled = λ r E m b. elim (Has-last p r places m) [
+      | inl a ↦ settled-more mid new h.0.added E h.0.is (f.settled r E a b)
+      | inr e ↦ h.1 E (subst (λ (x : ℕ). IsBeside N c (owner x) E) e b)
+    ];
+  }
+
+  -- what the walk asks of the lists: each clause with the literal owns a place
+  pub following-visited : (N : Slots) (c : ℕ) (owner : ℕ → ℕ) (k : Literal) (places : List ℕ) (old new : List Literal) → ((d : ℕ) (E : Clause) → slot N d ≡ Some E → IsIn (negation k) E → (p : ℕ) × Has places p × (owner p ≡ d)) → IsFollowing N c owner (λ E. IsIn E (others c N) × IsIn (negation k) E) places old new → IsVisited P (others c N) u k old new true
+  following-visited N c owner k places old new own f = (
+    f.grown,
+    (λ E m i.
+        let d = others-find N c E m in
+        let p = own d.0 E d.2 i in
+        f.settled p.0 E p.1 (subst (λ (x : ℕ). IsBeside N c x E) (sym p.2) (d.1, d.2))),
+  )
+
+  -- a clause that was followed and holds the negation of u
+  pub visited-not : (N : Slots) (c d : ℕ) (k : Literal) (D : Clause) (old mid new : List Literal) → slot N d ≡ Some D → IsIn (negation k) D → IsFollowed P N c u d mid new false → IsVisited P (others c N) u k old new false
+  visited-not N c d k D old mid new h m f = (
+    f.0,
+    others-slot N d c f.0 f.1.0 f.1.1,
+    subst (λ (x : Clause). IsIn (negation k) x) (one N d D f.0 h f.1.1) m,
+    f.2,
+    f.3,
+  )
+
+  pub beside-held : (N : Slots) (c d : ℕ) (k : Literal) (D E : Clause) → slot N d ≡ Some D → IsIn (negation k) D → IsBeside N c d E → IsIn E (others c N) × IsIn (negation k) E
+  beside-held N c d k D E h m b = (others-slot N d c E b.0 b.1, subst (λ (x : Clause). IsIn (negation k) x) (one N d D E h b.1) m)

@@ -1,0 +1,40 @@
+use Rattle.std.proofs.Common.{◌≡◌, ◌∙◌, ◌<◌, ◌≤◌, Some, [], length, sym, subst, arith, refl, true≢false}
+use Rattle.q_logic.specs.Literals.{negation}
+use Rattle.q_logic.specs.Formulas.{Clause, IsIn}
+use Rattle.q_logic.specs.Numbered.{others}
+use Rattle.q_kernel.specs.Kernels.{slots}
+use Rattle.q_reduce.specs.Walks.{IsWidened}
+use Rattle.q_reduce.proofs.Reaching.{walk-begun, walk-more, walk-refuted, walk-ended}
+use Rattle.q_reduce.proofs.reach.is_reducible.Goals as goal
+
+same : (C D : Clause) → Some C ≡ Some D → C ≡ D
+same C D e = cc
+
+pub loop-head-init : goal.loop-head-init
+loop-head-init c C e =
+    let k = c.args.kernel.now in
+    let w = rw c.clear.ensures at c.in_ok-push_inner.ensures in
+    let q = same c.clause_of.result.now C (sym c.clause_of.ensures.clause ∙ e) in
+    walk-begun k.prefix (others c.args.c (slots k)) C c.args.lit c.push_inner.new.queue (subst (λ (x : Clause). IsWidened k.prefix c.args.lit x [] c.push_inner.new.queue) q w)
+
+pub returns-then-head-len : goal.returns-then-head-len
+returns-then-head-len c C e =
+    let k = c.args.kernel.now in
+    let q = same c.requires.live.0 C (sym c.requires.live.1 ∙ e) in
+    let m : IsIn c.args.lit C = subst (λ (x : Clause). IsIn c.args.lit x) q c.requires.live.2 in
+    let past : length c.loop-head.queue ≤ c.loop-head.head = omega (arith, c.if-head-len.true, c.len.ensures) in
+    let r = walk-ended k.prefix (others c.args.c (slots k)) C c.args.lit c.loop-head.head c.loop-head.queue (c.loop-head.invariant C e) past c.requires.universal m (λ n. c.requires.live.3 (subst (λ (x : Clause). IsIn (negation c.args.lit) x) (sym q) n)) in
+    ((λ t. r), (λ x. refl))
+
+pub returns-then-not-branch : goal.returns-then-not-branch
+returns-then-not-branch c C e =
+    let k = c.args.kernel.now in
+    let v = rw c.if-not-branch.true at c.in_ok-visit.ensures in
+    ((λ t. absurd (true≢false (sym t))), (λ r. absurd (walk-refuted k.prefix (others c.args.c (slots k)) C c.args.lit c.loop-head.head c.at-next.result c.loop-head.queue c.visit.new.queue (c.loop-head.invariant C e) c.at-next.ensures v r)))
+
+pub loop-head-preserved : goal.loop-head-preserved
+loop-head-preserved c C e =
+    let k = c.args.kernel.now in
+    let v = rw c.if-not-branch.false at c.in_ok-visit.ensures in
+    let room : c.loop-head.head < length c.loop-head.queue = omega (arith, c.if-head-len.false, c.len.ensures) in
+    walk-more k.prefix (others c.args.c (slots k)) C c.args.lit c.loop-head.head c.at-next.result c.loop-head.queue c.visit.new.queue (c.loop-head.invariant C e) room c.at-next.ensures v

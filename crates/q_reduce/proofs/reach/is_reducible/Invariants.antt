@@ -1,0 +1,10 @@
+use Rattle.q_logic.specs.Numbered.{others}
+use Rattle.q_logic.specs.Formulas.{Clause}
+use Rattle.std.proofs.Common.{◌≡◌, Some}
+use Rattle.q_logic.specs.Numbered.{slot}
+use Rattle.q_kernel.specs.Kernels.{slots}
+use Rattle.q_reduce.proofs.Reaching.{IsWalk}
+use Rattle.q_reduce.proofs.reach.is_reducible.Given as goal
+
+abbrev pub invariant-loop-head : goal.invariant-loop-head
+invariant-loop-head l = (C : Clause) → slot (slots l.kernel) l.c ≡ Some C → IsWalk l.kernel.prefix (others l.c (slots l.kernel)) C l.lit l.head l.queue

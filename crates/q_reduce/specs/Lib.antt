@@ -1,0 +1,6 @@
+pub mod Targets
+pub mod Marks
+pub mod Walks
+pub mod Quants
+pub mod Becoming
+pub mod Searches

@@ -1,0 +1,151 @@
+//! Whether a universal literal is reducible in its clause.
+ghost use Rattle.std.specs.Prelude.{◌≡◌, ◌↔◌, ◌<◌, ℕ, true, length, Some, OnOk, IfOk, IsTrue, slice_get};
+ghost use Rattle.q_logic.specs.Literals.{Literal, negation};
+ghost use Rattle.q_logic.specs.Formulas.{Clause, IsIn};
+ghost use Rattle.q_logic.specs.Prefixes.{is_bound, is_existential, is_universal};
+ghost use Rattle.q_logic.specs.Expanding.{inner_existential};
+ghost use Rattle.q_logic.specs.Steps.{Within};
+ghost use Rattle.q_logic.specs.Reach.{Reducible};
+ghost use Rattle.q_logic.specs.Numbered.{slot, others};
+ghost use Rattle.q_kernel.specs.Kernels.{slots};
+ghost use Rattle.q_reduce.specs.Quants.{is_some_exists, is_some_forall};
+ghost use Rattle.q_reduce.specs.Walks.{IsWidened, IsFollowed, IsVisited};
+
+use crate::clauses::holds;
+use crate::queue::Queue;
+use q_arena::ClauseId;
+use q_kernel::Kernel;
+use q_logic::{Lit, NoMemory, Quant};
+
+fn says_exists(quant: Option<Quant>) -> bool
+    ensures { result ≡ is_some_exists quant }
+{
+    matches!(quant, Some(Quant::Exists))
+}
+
+fn says_forall(quant: Option<Quant>) -> bool
+    ensures { result ≡ is_some_forall quant }
+{
+    matches!(quant, Some(Quant::Forall))
+}
+
+pub fn is_existential(kernel: &Kernel, var: u32) -> bool
+    ensures { result ≡ is_existential kernel.now.prefix var }
+{
+    says_exists(kernel.prefix().quant(var))
+}
+
+pub fn is_universal(kernel: &Kernel, var: u32) -> bool
+    ensures { result ≡ is_universal kernel.now.prefix var }
+{
+    says_forall(kernel.prefix().quant(var))
+}
+
+// The clause of an id. Its variables are in the prefix.
+fn clause_of(kernel: &Kernel, id: ClauseId) -> &[Lit]
+    requires { (C : Clause) × (slot (slots kernel.now) id ≡ Some C) }
+    ensures clause { slot (slots kernel.now) id ≡ Some result.now }
+    ensures within { Within kernel.now.prefix result.now }
+{
+    kernel.sound();
+    kernel.lits(id)
+}
+
+/// Whether no clause that is reached from the clause holds the literal's negation. The walk expands each
+/// literal once, and stops at the first such clause.
+pub fn is_reducible(
+    kernel: &Kernel,
+    queue: &mut Queue,
+    c: ClauseId,
+    lit: Lit,
+) -> Result<bool, NoMemory>
+    requires live { (C : Clause) × (slot (slots kernel.now) c ≡ Some C) × IsIn lit C × (IsIn (negation lit) C → ⊥) }
+    requires universal { is_universal kernel.now.prefix lit.var ≡ true }
+    ensures { IfOk result (λ yes. (C : Clause) → slot (slots kernel.now) c ≡ Some C → IsTrue yes ↔ Reducible kernel.now.prefix (others c (slots kernel.now)) C lit) }
+{
+    queue.clear();
+    push_inner(kernel, queue, clause_of(kernel, c), lit)?;
+    for head in 0..usize::MAX {
+        if head >= queue.len() {
+            return Ok(true);
+        }
+        let next = queue.at(head);
+        if !visit(kernel, queue, c, next, lit)? {
+            return Ok(false);
+        }
+    }
+    // a queue that long has no place in memory
+    Err(NoMemory)
+}
+
+// Follows the clauses, but one, that hold the negation of a literal; whether none that lacks u holds the
+// negation of u.
+fn visit(
+    kernel: &Kernel,
+    queue: &mut Queue,
+    c: ClauseId,
+    lit: Lit,
+    u: Lit,
+) -> Result<bool, NoMemory>
+    requires { is_bound kernel.now.prefix u.var ≡ true }
+    ensures { IfOk result (λ yes. IsVisited kernel.now.prefix (others c (slots kernel.now)) u lit queue.old queue.new yes) }
+{
+    kernel.sound();
+    let mut at = kernel.first(lit.negated());
+    while let Some(place) = at {
+        if !follow(kernel, queue, c, kernel.owner(place), u)? {
+            return Ok(false);
+        }
+        at = kernel.next(place);
+    }
+    Ok(true)
+}
+
+// Puts the inner literals of the clause d into the queue, unless it is c or holds u; whether it does not
+// hold the negation of u then.
+fn follow(
+    kernel: &Kernel,
+    queue: &mut Queue,
+    c: ClauseId,
+    d: ClauseId,
+    u: Lit,
+) -> Result<bool, NoMemory>
+    requires bound { is_bound kernel.now.prefix u.var ≡ true }
+    requires live { (D : Clause) × (slot (slots kernel.now) d ≡ Some D) }
+    ensures { IfOk result (λ yes. IsFollowed kernel.now.prefix (slots kernel.now) c u d queue.old queue.new yes) }
+{
+    if d == c {
+        return Ok(true);
+    }
+    let clause = clause_of(kernel, d);
+    if holds(clause, u) {
+        return Ok(true);
+    }
+    if holds(clause, u.negated()) {
+        return Ok(false);
+    }
+    push_inner(kernel, queue, clause, u)?;
+    Ok(true)
+}
+
+// Puts the literals of the clause that are existential and inner to u into the queue, each once.
+fn push_inner(kernel: &Kernel, queue: &mut Queue, clause: &[Lit], u: Lit) -> Result<(), NoMemory>
+    requires bound { is_bound kernel.now.prefix u.var ≡ true }
+    requires within { Within kernel.now.prefix clause.now }
+    ensures { OnOk result (IsWidened kernel.now.prefix u clause.now queue.old queue.new) }
+{
+    for k in clause {
+        if lies_inside(kernel, *k, u) && !queue.has(*k) {
+            queue.push(*k)?;
+        }
+    }
+    Ok(())
+}
+
+fn lies_inside(kernel: &Kernel, k: Lit, u: Lit) -> bool
+    requires first { is_bound kernel.now.prefix k.var ≡ true }
+    requires second { is_bound kernel.now.prefix u.var ≡ true }
+    ensures { result ≡ inner_existential kernel.now.prefix u.var k.var }
+{
+    is_existential(kernel, k.var()) && !kernel.prefix().outer_or_same(k.var(), u.var())
+}

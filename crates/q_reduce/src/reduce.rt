@@ -1,0 +1,79 @@
+ghost use Rattle.std.specs.Prelude.{◌≡◌, ◌↔◌, ◌≤◌, Some, None, OnOk, OnErr, IfOk};
+ghost use Rattle.q_logic.specs.Targets.{place};
+ghost use Rattle.q_kernel.specs.declared.taken.Taken.TheVariants.{Yes, No};
+ghost use Rattle.q_logic.specs.Limits.{standard};
+ghost use Rattle.q_logic.specs.InLimits.{IsInLimits};
+ghost use Rattle.q_kernel.specs.Kernels.{SameView, formula_in};
+ghost use Rattle.q_kernel.specs.Taking.{AreModest, IsReady, Applies, IsTaken};
+ghost use Rattle.q_reduce.specs.declared.target.Target.{Target as TargetValue};
+ghost use Rattle.q_reduce.specs.Targets.{target_of};
+ghost use Rattle.q_reduce.specs.Becoming.{CanChange};
+
+use crate::applying::fits;
+use crate::changing::take;
+use crate::finding::find_from;
+use crate::queue::Queue;
+use crate::target::Target;
+use q_kernel::{Kernel, Need, Taken};
+use q_logic::{Bounds, NoMemory};
+use std::alloc::Global;
+
+/// Takes a target exactly where it applies.
+pub fn try_one(
+    alloc: Global,
+    kernel: &mut Kernel,
+    target: &Target,
+    bounds: &Bounds,
+) -> Result<Taken, NoMemory>
+    requires ready { IsReady kernel.old }
+    requires bounds { AreModest bounds.now }
+    ensures applies { IfOk result (λ r. (r ≡ Yes) ↔ Applies bounds.now kernel.old (target_of target.now)) }
+    ensures yes { IfOk result (λ r. r ≡ Yes → IsTaken bounds.now kernel.old kernel.new (target_of target.now)) }
+    ensures no { IfOk result (λ r. r ≡ No → SameView kernel.old kernel.new) }
+    ensures err { OnErr result (SameView kernel.old kernel.new) }
+{
+    let _ = bounds;
+    let mut queue = Queue::new(alloc);
+    if !fits(kernel, &mut queue, target)? {
+        return Ok(Taken::No);
+    }
+    reserve(kernel)?;
+    take(kernel, target);
+    Ok(Taken::Yes)
+}
+
+/// A target whose place is at least a number; none exactly where no target from that place on applies. The
+/// place of a target is its clause's id, or its variable.
+pub fn find(
+    alloc: Global,
+    kernel: &Kernel,
+    bounds: &Bounds,
+    from: u32,
+) -> Result<Option<Target>, NoMemory>
+    requires ready { IsReady kernel.now }
+    requires bounds { AreModest bounds.now }
+    ensures some { IfOk result (λ o. (t : TargetValue) → o ≡ Some t → Applies bounds.now kernel.now (target_of t) × (from ≤ place (target_of t))) }
+    ensures none { IfOk result (λ o. o ≡ None → (t : TargetValue) → from ≤ place (target_of t) → Applies bounds.now kernel.now (target_of t) → ⊥) }
+{
+    let _ = bounds;
+    let mut queue = Queue::new(alloc);
+    let found = find_from(kernel, &mut queue, from)?;
+    Ok(found)
+}
+
+// Log bytes for the change of any target, and for the sweep after it.
+fn reserve(kernel: &mut Kernel) -> Result<(), NoMemory>
+    requires { IsInLimits standard (formula_in kernel.old) }
+    ensures view { SameView kernel.old kernel.new }
+    ensures bytes { OnOk result (CanChange kernel.new) }
+{
+    kernel.sound();
+    let need = Need {
+        words: 0,
+        ids: 0,
+        vars: 0,
+        greatest: 0,
+        log_bytes: 16 * (3 * kernel.size() + kernel.prefix().len()),
+    };
+    kernel.reserve(need)
+}
