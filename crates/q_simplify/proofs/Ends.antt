@@ -1,0 +1,39 @@
+-- How it ended, by why no further turn comes.
+use Rattle.std.proofs.Common.{◌≡◌, ◌≢◌, ℕ, List, [], ◌∷◌, refl, sym, ap, ◌∙◌, subst, Option, Bool, true, false}
+use Rattle.q_logic.specs.declared.rule_bounds.Bounds.{Bounds}
+use Rattle.q_logic.specs.Formulas.{Clause, Matrix, PrenexFormula}
+use Rattle.q_logic.specs.Sweep.{IsSwept, swept, falsity}
+use Rattle.q_logic.specs.Measure.{measure_of}
+use Rattle.q_kernel.specs.Kernels.{Seen, slots, formula_in}
+use Rattle.q_simplify.specs.declared.options.Options.{Options}
+use Rattle.q_simplify.specs.declared.turn.Turn.{Turn}
+use Rattle.q_simplify.specs.declared.turn.Turn.TheVariants.{Moved, Settled, Spent}
+use Rattle.q_simplify.specs.declared.report.Ending.{Ending}
+use Rattle.q_simplify.specs.declared.report.Ending.TheVariants as ending
+use Rattle.q_simplify.specs.Settled.{IsSettled}
+use Rattle.q_simplify.specs.Turns.{IsDone, IsSpent, Stops}
+use Rattle.q_simplify.specs.Results.{EndsAs, ends_as, by_clauses}
+use Rattle.q_simplify.proofs.Renumbering.{none-numbered, numbered-none}
+
+pub done-settled : (B : Bounds) (k : Seen) → IsSwept (formula_in k) → IsDone B k → IsSettled B (formula_in k)
+done-settled B k s d = record { swept = s; none = none-numbered B k.prefix (slots k) d }
+
+pub settled-done : (B : Bounds) (k : Seen) → IsSettled B (formula_in k) → IsDone B k
+settled-done B k s = numbered-none B k.prefix (slots k) s.none
+
+by-clauses : (o : Options) (F G : PrenexFormula) (X : Matrix) → G.matrix ≡ X → IsSettled o.bounds G → EndsAs (by_clauses X) o F G
+by-clauses o F G [] e s = (s, e)
+by-clauses o F G ([] ∷ X) e s = (s, sym s.swept ∙ only-empty G X e)
+  where
+    only-empty : (G : PrenexFormula) (X : Matrix) → G.matrix ≡ [] ∷ X → swept G ≡ falsity
+    only-empty G X e = let f : swept (record { prefix = G.prefix; matrix = G.matrix }) ≡ swept (record { prefix = G.prefix; matrix = [] ∷ X }) = ap (λ (Y : Matrix). swept (record { prefix = G.prefix; matrix = Y })) e in f
+by-clauses o F G ((k ∷ C) ∷ X) e s = (s, (λ n. let f : (k ∷ C) ∷ X ≡ [] = sym e ∙ n in cc), (λ n. let f : (k ∷ C) ∷ X ≡ [] ∷ [] = sym e ∙ ap (λ (H : PrenexFormula). H.matrix) n in cc))
+
+-- the kernel may have gone on to another state with the same formula
+pub ends : (last : Turn) (o : Options) (first : ℕ) (F G : PrenexFormula) (k : Seen) → first ≡ measure_of o.bounds F → G ≡ formula_in k → IsSwept (formula_in k) → Stops last o.bounds o.budget first k → EndsAs (ends_as last G) o F G
+ends Moved o first F G k m g s h = elim h [ ]
+ends Settled o first F G k m g s h = by-clauses o F G G.matrix refl (subst (λ (H : PrenexFormula). IsSettled o.bounds H) (sym g) (done-settled o.bounds k s h))
+ends Spent o first F G k m g s h = (
+  (λ n. h.1 (settled-done o.bounds k (subst (λ (H : PrenexFormula). IsSettled o.bounds H) g n))),
+  subst (λ (f : ℕ). IsSpent o.budget f (measure_of o.bounds G)) m (subst (λ (H : PrenexFormula). IsSpent o.budget first (measure_of o.bounds H)) (sym g) h.0),
+)

@@ -1,0 +1,10 @@
+pub mod Steps
+pub mod Logging
+pub mod Outputting
+pub mod Targets
+pub mod Driving
+pub mod Renumbering
+pub mod Readable
+pub mod Ends
+pub mod Reducing
+pub mod Finishing

@@ -1,0 +1,64 @@
+-- The whole work over one kernel.
+use Rattle.std.proofs.Common.{◌≡◌, ◌≤◌, ◌<◌, ℕ, List, [], ◌∷◌, refl, sym, ap, ◌∙◌, subst, arith, length, inr, unwrap_or, Option}
+use Rattle.q_logic.specs.Formulas.{Matrix, Prefix, PrenexFormula}
+use Rattle.q_logic.specs.Limits.{standard}
+use Rattle.q_logic.specs.InLimits.{IsInLimits}
+use Rattle.q_logic.specs.Parts.{IsProper}
+use Rattle.q_logic.specs.Numbered.{live, formula_of}
+use Rattle.q_logic.specs.Measure.{measure_of, size_of}
+use Rattle.q_logic.specs.Sweep.{IsSwept, swept}
+use Rattle.q_logic.proofs.Settling.{sweep-twice, swept-in_limits}
+use Rattle.q_io.specs.Files.{Disk, Empties}
+use Rattle.q_kernel.specs.Kernels.{Seen, slots, formula_in, SameView, IsSound}
+use Rattle.q_kernel.specs.Changes.{IsLed}
+use Rattle.q_kernel.specs.Taking.{IsReady}
+use Rattle.q_simplify.specs.declared.options.Options.{Options}
+use Rattle.q_simplify.specs.declared.turn.Turn.{Turn}
+use Rattle.q_simplify.specs.declared.report.Report.{Report}
+use Rattle.q_simplify.specs.declared.report.Ending.{Ending}
+use Rattle.q_simplify.specs.Turns.{Stops}
+use Rattle.q_simplify.specs.Logs.{HasLog, LeavesLog}
+use Rattle.q_simplify.specs.Results.{IsReport, LeadsTo, EndsAs, ends_as}
+use Rattle.q_simplify.proofs.Logging.{has_log-begin, has_log-led, has_log-same, has_log-left, same-formula}
+use Rattle.q_simplify.proofs.Driving.{ready-same}
+use Rattle.q_simplify.proofs.Readable.{reads_back}
+use Rattle.q_simplify.proofs.Ends.{ends}
+
+pub swept-ready : (j k : Seen) → formula_in k ≡ swept (formula_in j) → IsInLimits standard (formula_in j) → IsReady k
+swept-ready j k e l =
+    record {
+      swept = subst (λ (F : PrenexFormula). IsSwept F) (sym e) (sweep-twice (formula_in j));
+      limits = subst (λ (F : PrenexFormula). IsInLimits standard F) (sym e) (swept-in_limits standard (formula_in j) l);
+    }
+
+-- nothing was done yet
+pub begin-left : (name : List ℕ) (before : Disk) (k : Seen) (held : Option Disk) → k.text ≡ [] → Empties name before held → LeavesLog (formula_in k) name before held
+begin-left name before k held t e = has_log-left (formula_in k) name before k held (has_log-begin (formula_in k) name before k held e refl t)
+
+-- swept
+pub begin-swept : (name : List ℕ) (before : Disk) (j k : Seen) (held : Option Disk) → j.text ≡ [] → IsLed j k → Empties name before held → HasLog (formula_in j) name before k held
+begin-swept name before j k held t d e = has_log-led (formula_in j) name before j k held (has_log-begin (formula_in j) name before j held e refl t) d
+
+pub no_bytes : (text : List ℕ) → length text < 1 → text ≡ []
+no_bytes [] h = refl
+no_bytes (x ∷ xs) h = absurd (omega arith)
+
+-- the report, where the kernel k is that of the end of the turns and m that of the flushed log
+pub reports : (o : Options) (F G : PrenexFormula) (k m : Seen) (last : Turn) (r : Report) → IsReady k → Stops last o.bounds o.budget r.before k → m.prefix ≡ k.prefix → slots m ≡ slots k → IsSound m → G ≡ formula_in m → r.before ≡ measure_of o.bounds F → r.after ≡ measure_of o.bounds (formula_in m) → r.ending ≡ ends_as last G → IsReport o F r G
+reports o F G k m last r d s p q w g b a e =
+    let f : formula_in m ≡ formula_in k = same-formula k m p q in
+    let gk : G ≡ formula_in k = g ∙ f in
+    record {
+      swept = subst (λ (H : PrenexFormula). IsSwept H) (sym gk) d.swept;
+      before = b;
+      after = a ∙ ap (λ (H : PrenexFormula). measure_of o.bounds H) (sym g);
+      ending = subst (λ (x : Ending). EndsAs x o F G) (sym e) (ends last o r.before F G k b gk d.swept s);
+      readable = reads_back G (subst (λ (H : PrenexFormula). IsProper H) (sym g) w.proper) (subst (λ (H : PrenexFormula). IsInLimits standard H) (sym gk) d.limits) (subst (λ (H : PrenexFormula). size_of H.matrix < 8589934592) (sym g) w.size) (subst (λ (H : PrenexFormula). length H.prefix < 4294967296) (sym g) w.vars);
+    }
+
+pub started : (F : PrenexFormula) (k : Seen) → k.prefix ≡ F.prefix → live (slots k) ≡ F.matrix → formula_in k ≡ F
+started F k p m = ap (λ (X : Matrix). formula_of k.prefix X) m ∙ ap (λ (P : Prefix). formula_of P F.matrix) p
+
+pub begin-formula_left : (F : PrenexFormula) (name : List ℕ) (before : Disk) (held : Option Disk) → Empties name before held → LeavesLog F name before held
+begin-formula_left F name before held e =
+    record { disk = e.disk; told = e.told; log = inr (record { steps = []; last = F; valid = refl; part = 0; bytes = ap (λ o. unwrap_or o []) e.bytes }); others = e.others }

@@ -1,0 +1,5 @@
+pub mod Settled
+pub mod Turns
+pub mod Logs
+pub mod Outputs
+pub mod Results

@@ -1,0 +1,46 @@
+-- What the file of the log holds while a formula is simplified.
+use Rattle.std.specs.Prelude.{◌≡◌, ◌⊎◌, ℕ, List, ◌++◌, take, Option, Some}
+use Rattle.std.specs.List.{AllByRecursion}
+use Rattle.std.specs.FinMap as map
+use Rattle.q_logic.specs.Formulas.{PrenexFormula}
+use Rattle.q_logic.specs.Limits.{standard}
+use Rattle.q_logic.specs.Steps.{ProofStep}
+use Rattle.q_logic.specs.Runs.{ValidSteps}
+use Rattle.q_io.specs.Files.{Disk, OthersStay, bytes_at}
+use Rattle.q_log.specs.Texts.{IsLogged, steps_text}
+use Rattle.q_kernel.specs.Kernels.{Seen, formula_in}
+use Rattle.q_kernel.specs.Changes.{AreAlike}
+
+-- valid steps lead from F to the kernel's formula; the file holds the text of the first of them, and that of the rest is
+-- pending
+pub record HasLog (F : PrenexFormula) (name : List ℕ) (before : Disk) (k : Seen) (after : Option Disk) : Type 0 where
+  pub disk : Disk
+  pub told : after ≡ Some disk
+  pub bytes : List ℕ
+  pub there : map.get disk name ≡ Some bytes
+  pub steps : List ProofStep
+  pub logged : AllByRecursion IsLogged steps
+  pub text : bytes ++ k.text ≡ steps_text steps
+  pub last : PrenexFormula
+  pub valid : ValidSteps standard F steps last
+  pub alike : AreAlike last (formula_in k)
+  pub others : OthersStay name before disk
+
+-- the file holds a front of the text of steps that are valid from F on
+pub record HoldsFront (F : PrenexFormula) (name : List ℕ) (disk : Disk) : Type 0 where
+  pub steps : List ProofStep
+  pub last : PrenexFormula
+  pub valid : ValidSteps standard F steps last
+  pub part : ℕ
+  pub bytes : bytes_at disk name ≡ take part (steps_text steps)
+
+-- the file is as before, or holds such a front
+abbrev pub MayHoldSteps : PrenexFormula → List ℕ → Disk → Disk → Type 0
+MayHoldSteps F name before disk = (map.get disk name ≡ map.get before name) ⊎ HoldsFront F name disk
+
+-- what a fault or want of memory leaves of the log
+pub record LeavesLog (F : PrenexFormula) (name : List ℕ) (before : Disk) (after : Option Disk) : Type 0 where
+  pub disk : Disk
+  pub told : after ≡ Some disk
+  pub log : MayHoldSteps F name before disk
+  pub others : OthersStay name before disk

@@ -1,0 +1,100 @@
+-- What simplification leaves: a formula and the log that leads to it.
+use Rattle.std.specs.Prelude.{◌≡◌, ◌≢◌, ◌⊎◌, ◌↔◌, ◌≤◌, ℕ, List, [], ◌∷◌, take, Option, Some, None}
+use Rattle.std.specs.List.{AllByRecursion}
+use Rattle.std.specs.FinMap as map
+use Rattle.q_logic.specs.Formulas.{Matrix, PrenexFormula}
+use Rattle.q_logic.specs.Limits.{standard}
+use Rattle.q_logic.specs.Measure.{measure_of}
+use Rattle.q_logic.specs.Steps.{ProofStep}
+use Rattle.q_logic.specs.Sweep.{IsSwept, falsity}
+use Rattle.q_logic.specs.Runs.{Run}
+use Rattle.q_logic.specs.Truth.{Holds}
+use Rattle.q_io.specs.Files.{Disk, OthersStay, bytes_at}
+use Rattle.q_dimacs.specs.Dimacs.{Dimacs}
+use Rattle.q_dimacs.specs.Writing.{formula_text}
+use Rattle.q_log.specs.Texts.{IsLogged, steps_text}
+use Rattle.q_simplify.specs.declared.options.Options.{Options}
+use Rattle.q_simplify.specs.declared.report.Report.{Report}
+use Rattle.q_simplify.specs.declared.report.Ending.{Ending}
+use Rattle.q_simplify.specs.declared.report.Ending.TheVariants as ending
+use Rattle.q_simplify.specs.declared.turn.Turn.{Turn}
+use Rattle.q_simplify.specs.declared.turn.Turn.TheVariants as turn
+use Rattle.q_simplify.specs.Settled.{IsSettled}
+use Rattle.q_simplify.specs.Turns.{IsSpent}
+use Rattle.q_simplify.specs.Logs.{MayHoldSteps}
+
+-- how it ends, by why no further turn comes and by the clauses that are left
+abbrev pub by_clauses : Matrix → Ending
+by_clauses [] = ending.True
+by_clauses ([] ∷ X) = ending.False
+by_clauses ((k ∷ C) ∷ X) = ending.Settled
+
+abbrev pub ends_as : Turn → PrenexFormula → Ending
+ends_as turn.Spent G = ending.Spent
+ends_as turn.Settled G = by_clauses G.matrix
+ends_as turn.Moved G = by_clauses G.matrix
+
+-- how it ended, from F to G: settled, with no clause, with the empty clause or with others; or with the budget spent
+abbrev pub EndsAs : Ending → Options → PrenexFormula → PrenexFormula → Type 0
+EndsAs ending.Settled o F G = IsSettled o.bounds G × (G.matrix ≢ []) × (G ≢ falsity)
+EndsAs ending.True o F G = IsSettled o.bounds G × (G.matrix ≡ [])
+EndsAs ending.False o F G = IsSettled o.bounds G × (G ≡ falsity)
+EndsAs ending.Spent o F G = (¬ IsSettled o.bounds G) × IsSpent o.budget (measure_of o.bounds F) (measure_of o.bounds G)
+
+-- the report is that of F and of the swept G, and G is the formula of its text
+pub record IsReport (o : Options) (F : PrenexFormula) (r : Report) (G : PrenexFormula) : Type 0 where
+  pub swept : IsSwept G
+  pub before : r.before ≡ measure_of o.bounds F
+  pub after : r.after ≡ measure_of o.bounds G
+  pub ending : EndsAs r.ending o F G
+  pub readable : Dimacs standard (formula_text G) G
+
+-- the file of the log holds the text of a run from F to G; the steps are those of their text
+pub record HoldsRun (F G : PrenexFormula) (log_name : List ℕ) (disk : Disk) : Type 0 where
+  pub steps : List ProofStep
+  pub run : Run F steps G
+  pub logged : AllByRecursion IsLogged steps
+  pub bytes : map.get disk log_name ≡ Some (steps_text steps)
+
+-- the log is whole
+pub record LeadsTo (F G : PrenexFormula) (log_name : List ℕ) (before : Disk) (after : Option Disk) : Type 0 where
+  pub disk : Disk
+  pub told : after ≡ Some disk
+  pub log : HoldsRun F G log_name disk
+  pub others : OthersStay log_name before disk
+
+-- each name but these two is as before
+abbrev pub OnlyThese : List ℕ → List ℕ → Disk → Disk → Type 0
+OnlyThese output log before after =
+    (q : List ℕ) → q ≢ output → q ≢ log → map.get after q ≡ map.get before q
+
+-- the two files hold the texts of such a formula and such steps, and the two formulas have one truth value
+pub record Simplifies (o : Options) (F : PrenexFormula) (r : Report) (output_name log_name : List ℕ) (before : Disk) (after : Option Disk) : Type 0 where
+  pub disk : Disk
+  pub told : after ≡ Some disk
+  pub result : PrenexFormula
+  pub report : IsReport o F r result
+  pub truth : Holds F ↔ Holds result
+  pub output : map.get disk output_name ≡ Some (formula_text result)
+  pub log : HoldsRun F result log_name disk
+  pub others : OnlyThese output_name log_name before disk
+
+-- the log is whole, and the output holds a front of the text of the formula that it leads to
+pub record HoldsPart (F : PrenexFormula) (output_name log_name : List ℕ) (disk : Disk) : Type 0 where
+  pub result : PrenexFormula
+  pub log : HoldsRun F result log_name disk
+  pub part : ℕ
+  pub bytes : bytes_at disk output_name ≡ take part (formula_text result)
+
+-- what a fault or want of memory leaves: the output is as before until the log is whole
+pub record Leaves (F : PrenexFormula) (output_name log_name : List ℕ) (before : Disk) (after : Option Disk) : Type 0 where
+  pub disk : Disk
+  pub told : after ≡ Some disk
+  pub log : MayHoldSteps F log_name before disk
+  pub output : (map.get disk output_name ≡ map.get before output_name) ⊎ HoldsPart F output_name log_name disk
+  pub others : OnlyThese output_name log_name before disk
+
+-- no budget is given, or one that no fall of the measure passes
+abbrev pub IsEnoughFor : Option ℕ → ℕ → Type 0
+IsEnoughFor None first = Unit {0}
+IsEnoughFor (Some budget) first = first ≤ budget

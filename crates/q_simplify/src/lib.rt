@@ -1,0 +1,13 @@
+//! A formula is simplified by the rules that there are, and each change goes into a log.
+#![tactic(auto)]
+
+mod log_file;
+mod options;
+mod output;
+mod report;
+mod turn;
+mod work;
+
+pub use options::Options;
+pub use report::{Ending, Report};
+pub use work::simplify;

@@ -1,0 +1,203 @@
+// Simplification from the formula read to the files written.
+ghost use Rattle.std.specs.Prelude.{◌≡◌, ◌≢◌, ◌≤◌, ◌⊎◌, [], List, ℕ, IfOk, OnOk, OnErr, IfSome, IsErrOf};
+ghost use Rattle.q_logic.specs.Formulas.{PrenexFormula};
+ghost use Rattle.q_logic.specs.Limits.{standard};
+ghost use Rattle.q_logic.specs.InLimits.{IsInLimits};
+ghost use Rattle.q_logic.specs.Parts.{IsProper};
+ghost use Rattle.q_logic.specs.Measure.{measure_of};
+ghost use Rattle.q_io.specs.Files.{Disk, Empties, Rose};
+ghost use Rattle.q_kernel.specs.Kernels.{formula_in};
+ghost use Rattle.q_kernel.specs.Taking.{AreModest, IsReady};
+ghost use Rattle.q_simplify.specs.Turns.{Stops};
+ghost use Rattle.q_simplify.specs.Logs.{HasLog, LeavesLog};
+ghost use Rattle.q_simplify.specs.Results.{IsReport, Leaves, LeadsTo, Simplifies, ends_as};
+
+use crate::log_file::flush;
+use crate::options::Options;
+use crate::output::write_output;
+use crate::report::{Ending, Report};
+use crate::turn::{Turn, take_turn};
+use q_io::{DeviceError, Files};
+use q_kernel::Kernel;
+use q_logic::Formula;
+use std::alloc::Global;
+
+// So many bytes of the log are pending before they are written.
+const PENDING: usize = 65_536;
+
+// Takes targets until there is none or the budget is spent.
+fn drive<F: Files>(
+    alloc: Global,
+    files: &mut F,
+    log: &str,
+    kernel: &mut Kernel,
+    options: &Options,
+    first: u64,
+) -> Result<Turn, DeviceError>
+    requires ready { IsReady kernel.old }
+    requires bounds { AreModest options.now.bounds }
+    ensures ready { IsReady kernel.new }
+    ensures stops { IfOk result (λ t. Stops t options.now.bounds options.now.budget first kernel.new) }
+    ensures log { (G : PrenexFormula) → (before : Disk) →
+        HasLog G log.now before kernel.old (F.held files.old) →
+        OnOk result (HasLog G log.now before kernel.new (F.held files.new)) }
+    ensures log_left { (G : PrenexFormula) → (before : Disk) →
+        HasLog G log.now before kernel.old (F.held files.old) →
+        OnErr result (LeavesLog G log.now before (F.held files.new)) }
+    ensures cause { IsErrOf result DeviceError.Failed →
+        Rose (F.write_faults files.old log.now) (F.write_faults files.new log.now) }
+    ensures read_later { (q : List ℕ) → F.read_faults files.old q ≤ F.read_faults files.new q }
+    ensures write_later { (q : List ℕ) → F.write_faults files.old q ≤ F.write_faults files.new q }
+{
+    let mut cursor = 0;
+    loop {
+        match take_turn(alloc, kernel, &mut cursor, options, first) {
+            Ok(Turn::Moved) => {
+                if let Err(error) = flush(files, log, kernel, PENDING) {
+                    return Err(error);
+                }
+            }
+            Ok(Turn::Settled) => return Ok(Turn::Settled),
+            Ok(Turn::Spent) => return Ok(Turn::Spent),
+            Err(_) => return Err(DeviceError::NoMemory),
+        }
+    }
+}
+
+// How it ended, by the clauses that are left.
+fn ending_of(last: Turn, formula: &Formula) -> Ending
+    ensures { result ≡ ends_as last formula.now }
+{
+    match last {
+        Turn::Spent => Ending::Spent,
+        _ => {
+            if formula.clauses() == 0 {
+                Ending::True
+            } else if formula.clause(0).is_empty() {
+                Ending::False
+            } else {
+                Ending::Settled
+            }
+        }
+    }
+}
+
+// The formula that is left, and what there is to say of it.
+#[derive(Drop)]
+struct Reduced {
+    formula: Formula,
+    report: Report,
+}
+
+// Simplifies the formula of a kernel where no step is pending, and writes the log into its file, which is empty.
+fn reduce<F: Files>(
+    alloc: Global,
+    files: &mut F,
+    log: &str,
+    kernel: &mut Kernel,
+    options: &Options,
+) -> Result<Reduced, DeviceError>
+    requires limits { IsInLimits standard (formula_in kernel.old) }
+    requires text { kernel.old.text ≡ [] }
+    requires bounds { AreModest options.now.bounds }
+    ensures report { IfOk result (λ r. IsReport options.now (formula_in kernel.old) r.report r.formula) }
+    ensures log { IfOk result (λ r. (before : Disk) → Empties log.now before (F.held files.old) →
+        LeadsTo (formula_in kernel.old) r.formula log.now before (F.held files.new)) }
+    ensures log_left { OnErr result ((before : Disk) → Empties log.now before (F.held files.old) →
+        LeavesLog (formula_in kernel.old) log.now before (F.held files.new)) }
+    ensures cause { IsErrOf result DeviceError.Failed →
+        Rose (F.write_faults files.old log.now) (F.write_faults files.new log.now) }
+    ensures read_later { (q : List ℕ) → F.read_faults files.old q ≤ F.read_faults files.new q }
+    ensures write_later { (q : List ℕ) → F.write_faults files.old q ≤ F.write_faults files.new q }
+{
+    let before = kernel.measure(&options.bounds);
+    let Ok(()) = kernel.sweep() else {
+        return Err(DeviceError::NoMemory);
+    };
+    let last = match drive(alloc, files, log, kernel, options, before) {
+        Ok(last) => last,
+        Err(error) => return Err(error),
+    };
+    if let Err(error) = flush(files, log, kernel, 1) {
+        return Err(error);
+    }
+    match kernel.formula(alloc) {
+        Ok(formula) => {
+            kernel.sound();
+            let report = Report {
+                ending: ending_of(last, &formula),
+                before,
+                after: kernel.measure(&options.bounds),
+            };
+            Ok(Reduced { formula, report })
+        }
+        Err(_) => Err(DeviceError::NoMemory),
+    }
+}
+
+// The same for a formula.
+fn reduce_formula<F: Files>(
+    alloc: Global,
+    files: &mut F,
+    log: &str,
+    formula: &Formula,
+    options: &Options,
+) -> Result<Reduced, DeviceError>
+    requires limits { IsInLimits standard formula.now }
+    requires bounds { AreModest options.now.bounds }
+    ensures report { IfOk result (λ r. IsReport options.now formula.now r.report r.formula) }
+    ensures log { IfOk result (λ r. (before : Disk) → Empties log.now before (F.held files.old) →
+        LeadsTo formula.now r.formula log.now before (F.held files.new)) }
+    ensures log_left { OnErr result ((before : Disk) → Empties log.now before (F.held files.old) →
+        LeavesLog formula.now log.now before (F.held files.new)) }
+    ensures cause { IsErrOf result DeviceError.Failed →
+        Rose (F.write_faults files.old log.now) (F.write_faults files.new log.now) }
+    ensures read_later { (q : List ℕ) → F.read_faults files.old q ≤ F.read_faults files.new q }
+    ensures write_later { (q : List ℕ) → F.write_faults files.old q ≤ F.write_faults files.new q }
+{
+    let Ok(mut kernel) = Kernel::start(alloc, formula) else {
+        return Err(DeviceError::NoMemory);
+    };
+    match reduce(alloc, files, log, &mut kernel, options) {
+        Ok(reduced) => Ok(reduced),
+        Err(error) => Err(error),
+    }
+}
+
+/// Simplifies the formula by the rules that there are: sweeps it, and takes one target after another until none
+/// applies or the budget is spent. Each change goes into the log, which is written in pieces; the formula that is left
+/// is written behind it.
+pub fn simplify<F: Files>(
+    alloc: Global,
+    files: &mut F,
+    formula: &Formula,
+    output: &str,
+    log: &str,
+    options: &Options,
+) -> Result<Report, DeviceError>
+    requires proper { IsProper formula.now }
+    requires limits { IsInLimits standard formula.now }
+    requires bounds { AreModest options.now.bounds }
+    requires names { output.now ≢ log.now }
+    ensures report { IfOk result (λ r. IfSome (F.held files.old) (λ before.
+        Simplifies options.now formula.now r output.now log.now before (F.held files.new))) }
+    ensures left { OnErr result (IfSome (F.held files.old) (λ before.
+        Leaves formula.now output.now log.now before (F.held files.new))) }
+    ensures cause { IsErrOf result DeviceError.Failed →
+        Rose (F.write_faults files.old output.now) (F.write_faults files.new output.now)
+        ⊎ Rose (F.write_faults files.old log.now) (F.write_faults files.new log.now) }
+    ensures read_later { (q : List ℕ) → F.read_faults files.old q ≤ F.read_faults files.new q }
+    ensures write_later { (q : List ℕ) → F.write_faults files.old q ≤ F.write_faults files.new q }
+{
+    if let Err(error) = files.create(log) {
+        return Err(error);
+    }
+    let reduced = match reduce_formula(alloc, files, log, formula, options) {
+        Ok(reduced) => reduced,
+        Err(error) => return Err(error),
+    };
+    match write_output(alloc, files, output, &reduced.formula) {
+        Ok(()) => Ok(reduced.report),
+        Err(error) => Err(error),
+    }
+}
