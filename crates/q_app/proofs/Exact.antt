@@ -24,10 +24,10 @@ use Rattle.q_app.specs.declared.status.Status.TheVariants as status
 use Rattle.q_app.specs.Checks.{IsFileOf, IsNoFormula, OfFormulas, LeadsTo, EndsElsewhere, LogSays, Checks, IsVerified, IsNoRun, HaveOneTruth, IfVerified, MayCome, AnswersExactly}
 
 -- a file has one formula, or an offence
-one_formula : (bytes : List ℕ) (F G : PrenexFormula) → IsFileOf bytes F → IsFileOf bytes G → F ≡ G
+pub one_formula : (bytes : List ℕ) (F G : PrenexFormula) → IsFileOf bytes F → IsFileOf bytes G → F ≡ G
 one_formula bytes F G f g = let e : parse standard bytes ≡ Ok F = grammar_is_read standard bytes F f in let d : parse standard bytes ≡ Ok G = grammar_is_read standard bytes G g in cc
 
-no_offence : (bytes : List ℕ) (F : PrenexFormula) (n c : ℕ) → Offence standard bytes n c → IsFileOf bytes F → ⊥
+pub no_offence : (bytes : List ℕ) (F : PrenexFormula) (n c : ℕ) → Offence standard bytes n c → IsFileOf bytes F → ⊥
 no_offence bytes F n c o f = let e : parse standard bytes ≡ Ok F = grammar_is_read standard bytes F f in let d : parse standard bytes ≡ Err (reading.Refused n c) = o in cc
 
 -- what the files hold is determined

@@ -3,6 +3,7 @@ use Rattle.std.proofs.Common.{◌≡◌, ◌≤◌, ◌+◌, ◌∙◌, refl, sy
 use Rattle.std.proofs.Math.Seq.{take-add, take-length}
 use Rattle.std.proofs.lemmas.List.{take-append-drop}
 use Rattle.q_logic.specs.Limits.{standard}
+use Rattle.q_logic.specs.InLimits.{IsInLimits}
 use Rattle.q_logic.specs.Formulas.{PrenexFormula}
 use Rattle.q_io.specs.Files.{Rose}
 use Rattle.q_dimacs.specs.declared.error.ReadError.{ReadError}
@@ -82,3 +83,8 @@ ends_formula o file place n old new (Err w) z h p e = tt
 pub ends_refused : {D : Type 0} (o : Option D) (file : D → List ℕ) (place n : ℕ) (old new : Scan) (r : Result PrenexFormula InputError) → n ≡ 0 → IfSome o (λ d. HasFront (file d) place old) → IfSome o (λ d. HasFed (file d) place n old new) → IfErr r (λ w. (bytes : List ℕ) → HasRead standard bytes new → IsRefused w bytes) → IfErr r (λ w. IfSome o (λ d. IsRefused w (file d)))
 ends_refused o file place n old new (Ok f) z h p e = tt
 ends_refused o file place n old new (Err w) z h p e = if_some_2 o h p (λ d a b. e (file d) (ends (file d) place n old new z a b))
+
+-- what holds of all bytes that the reader may have read
+pub ends_limits : {k : ℕ} (r : Result PrenexFormula InputError) (s : Scan) → IsReading k s → IfOk r (λ f. (bytes : List ℕ) → HasRead standard bytes s → IsInLimits standard f) → IfOk r (λ f. IsInLimits standard f)
+ends_limits (Ok f) s i h = h i.bytes i.has_read
+ends_limits (Err w) s i h = tt

@@ -1,5 +1,10 @@
-pub mod Operands
+pub mod Fronts
 pub mod Feeding
 pub mod Auditing
 pub mod Concluding
 pub mod Exact
+pub mod Limits
+pub mod Wording
+pub mod Answering
+pub mod Verifying
+pub mod Running

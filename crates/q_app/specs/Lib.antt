@@ -6,4 +6,5 @@ pub mod Logs
 pub mod Refusals
 pub mod Audits
 pub mod Checks
+pub mod Simplifying
 pub mod Says

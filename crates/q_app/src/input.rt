@@ -1,6 +1,7 @@
 // A formula file is read whole, in pieces.
 ghost use Rattle.std.specs.Prelude.{◌≡◌, ◌≤◌, ◌<◌, ◌+◌, List, ℕ, length, IfOk, IfErr, IfSome, IsErrOf};
 ghost use Rattle.q_logic.specs.Limits.{standard};
+ghost use Rattle.q_logic.specs.InLimits.{IsInLimits};
 ghost use Rattle.q_logic.specs.Parts.{IsProper};
 ghost use Rattle.q_io.specs.Files.{Rose, bytes_at};
 ghost use Rattle.q_dimacs.specs.Dimacs.{Dimacs};
@@ -62,6 +63,7 @@ fn feed_piece<F: Files>(
         Rose (F.read_faults files.old name.now) (F.read_faults files.new name.now) }
     ensures held { F.held files.new ≡ F.held files.old }
     ensures read_later { (q : List ℕ) → F.read_faults files.old q ≤ F.read_faults files.new q }
+    ensures write_later { (q : List ℕ) → F.write_faults files.old q ≤ F.write_faults files.new q }
 {
     let count = match files.read(name, at, buffer) {
         Ok(count) => count,
@@ -77,6 +79,8 @@ fn finish(reader: Reader) -> Result<Formula, InputError>
     ensures formula { IfOk result (λ f. (bytes : List ℕ) → HasRead standard bytes reader →
         Dimacs standard bytes f) }
     ensures proper { IfOk result IsProper }
+    ensures limits { IfOk result (λ f. (bytes : List ℕ) → HasRead standard bytes reader →
+        IsInLimits standard f) }
     ensures refused { IfErr result (λ e. (bytes : List ℕ) → HasRead standard bytes reader →
         IsRefused e bytes) }
     ensures fault { IsErrOf result InputError.Fault → ⊥ }
@@ -98,12 +102,14 @@ pub(crate) fn read_formula<F: Files>(
     ensures formula { IfOk result (λ f. IfSome (F.held files.old)
         (λ disk. Dimacs standard (bytes_at disk name.now) f)) }
     ensures proper { IfOk result IsProper }
+    ensures limits { IfOk result (λ f. IsInLimits standard f) }
     ensures refused { IfErr result (λ e. IfSome (F.held files.old)
         (λ disk. IsRefused e (bytes_at disk name.now))) }
     ensures fault { IsErrOf result InputError.Fault →
         Rose (F.read_faults files.old name.now) (F.read_faults files.new name.now) }
     ensures held { F.held files.new ≡ F.held files.old }
     ensures read_later { (q : List ℕ) → F.read_faults files.old q ≤ F.read_faults files.new q }
+    ensures write_later { (q : List ℕ) → F.write_faults files.old q ≤ F.write_faults files.new q }
 {
     let mut reader = match Reader::new(alloc, Limits::standard()) {
         Ok(reader) => reader,

@@ -4,15 +4,23 @@
 mod audit;
 mod check;
 mod input;
+mod laws;
 mod outcome;
 mod refusals;
+mod settings;
+mod simplified;
+mod simplify;
 mod status;
 mod top;
 mod words;
 
+pub use laws::simplified_is_verified;
 pub use outcome::{Outcome, Role};
+pub use simplified::Simplified;
 pub use status::Status;
 pub use top::run;
 
+#[cfg(test)]
+mod simplify_tests;
 #[cfg(test)]
 mod tests;

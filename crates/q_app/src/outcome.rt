@@ -64,7 +64,7 @@ impl Outcome {
     }
 }
 
-fn words(alloc: Global, line: &[u8]) -> Result<Vec<u8>, NoMemory>
+pub(crate) fn words(alloc: Global, line: &[u8]) -> Result<Vec<u8>, NoMemory>
     ensures { IfOk result (λ text. text.items ≡ line.now) }
 {
     let text = Vec::from_slice(alloc, line)?;
@@ -90,7 +90,7 @@ fn end(alloc: Global, cause: u8) -> Result<Vec<u8>, NoMemory>
     Ok(text)
 }
 
-fn place(alloc: Global, before: &[u8], line: u64, cause: u8) -> Result<Vec<u8>, NoMemory>
+pub(crate) fn place(alloc: Global, before: &[u8], line: u64, cause: u8) -> Result<Vec<u8>, NoMemory>
     ensures { IfOk result (λ text. text.items
         ≡ before.now ++ decimal line ++ codes " cause " ++ decimal cause ++ codes "\n") }
 {
@@ -102,7 +102,7 @@ fn place(alloc: Global, before: &[u8], line: u64, cause: u8) -> Result<Vec<u8>, 
     Ok(text)
 }
 
-fn put_decimal(text: &mut Vec<u8>, number: u64) -> Result<(), NoMemory>
+pub(crate) fn put_decimal(text: &mut Vec<u8>, number: u64) -> Result<(), NoMemory>
     ensures { OnOk result (text.new.items ≡ text.old.items ++ decimal number) }
 {
     let mut buffer = Buffer::new();

@@ -5,6 +5,9 @@ ghost use Rattle.q_app.specs.Statuses.{code_of};
 #[derive(Clone, Copy, Debug, PartialEq, Eq)]
 pub enum Status {
     Done,
+    True,
+    False,
+    Spent,
     LogRefused,
     InputRefused,
     ReadFault,
@@ -20,6 +23,9 @@ impl Status {
     {
         match self {
             Status::Done => 0,
+            Status::True => 10,
+            Status::False => 20,
+            Status::Spent => 2,
             Status::LogRefused => 1,
             Status::InputRefused => 3,
             Status::ReadFault => 4,

@@ -1,30 +1,32 @@
 // The top call.
-ghost use Rattle.std.specs.Prelude.{◌≡◌, ◌⊎◌, List, ℕ, map, string_bytes, IfSome, None};
+ghost use Rattle.std.specs.Prelude.{◌≡◌, ◌≢◌, ◌⊎◌, List, ℕ, map, string_bytes, IfSome, None};
 ghost use Rattle.q_io.specs.Files.{Rose, bytes_at};
-ghost use Rattle.q_app.specs.Statuses.{status_of};
+ghost use Rattle.q_kernel.specs.Taking.{AreModest};
+ghost use Rattle.q_app.specs.Statuses.{status_of, status_of_simplified};
 ghost use Rattle.q_app.specs.Words.{command};
-ghost use Rattle.q_app.specs.Checks.{AnswersExactly};
-ghost use Rattle.q_app.specs.Lines.{line_of};
-ghost use Rattle.q_app.specs.Says.{Says, SaysOf, RoseFor};
+ghost use Rattle.q_app.specs.Checks.{AnswersExactly, Checks};
+ghost use Rattle.q_app.specs.Simplifying.{Ends, SimplifiesExactly};
+ghost use Rattle.q_app.specs.Lines.{line_of, line_of_simplified};
+ghost use Rattle.q_app.specs.Says.{Says, SaysOf, SaysSome, SaysSimplified, IsDue, RoseForReads, RoseForWrites, IfReading, IfCheck, IfSimplify, IsSomeAnd};
 
 use crate::check::check;
 use crate::outcome::Outcome;
+use crate::simplified::Simplified;
+use crate::simplify::simplify_file;
 use crate::status::Status;
-use crate::words::operands;
+use crate::words::{Task, parse};
 use q_io::{DeviceError, Files, Sink};
+use q_simplify::Options;
 use std::alloc::Global;
 
-// Puts a line. The answer is the status of its outcome, or why it could not be put.
-fn put<S: Sink>(out: &mut S, outcome: Outcome, line: &[u8]) -> Status
-    requires { line.now ≡ line_of outcome }
+// Puts a line. The answer is the status that is due, or why the line could not be put.
+fn put<S: Sink>(out: &mut S, due: Status, line: &[u8]) -> Status
     ensures says { IfSome (S.written out.old) (λ before.
-        Says before outcome result (S.written out.new)) }
-    ensures answer { (result ≡ status_of outcome)
-        ⊎ ((result ≡ Status.WriteFault) × Rose (S.faults out.old) (S.faults out.new))
-        ⊎ (result ≡ Status.NoMemory) }
+        Says before line.now due result (S.written out.new)) }
+    ensures answer { IsDue due result (S.faults out.old) (S.faults out.new) }
 {
     match out.put(line) {
-        Ok(()) => outcome.status(),
+        Ok(()) => due,
         Err(DeviceError::Failed) => Status::WriteFault,
         Err(DeviceError::NoMemory) => Status::NoMemory,
     }
@@ -32,49 +34,138 @@ fn put<S: Sink>(out: &mut S, outcome: Outcome, line: &[u8]) -> Status
 
 fn say<S: Sink>(alloc: Global, out: &mut S, outcome: Outcome) -> Status
     ensures says { IfSome (S.written out.old) (λ before.
-        Says before outcome result (S.written out.new)) }
-    ensures answer { (result ≡ status_of outcome)
-        ⊎ ((result ≡ Status.WriteFault) × Rose (S.faults out.old) (S.faults out.new))
-        ⊎ (result ≡ Status.NoMemory) }
+        Says before (line_of outcome) (status_of outcome) result (S.written out.new)) }
+    ensures answer { IsDue (status_of outcome) result (S.faults out.old) (S.faults out.new) }
 {
     match outcome {
-        Outcome::NoMemory => put(out, outcome, b"no memory\n"),
+        Outcome::NoMemory => put(out, Status::NoMemory, b"no memory\n"),
         _ => match outcome.line(alloc) {
-            Ok(line) => put(out, outcome, &line),
+            Ok(line) => put(out, outcome.status(), &line),
             Err(_) => Status::NoMemory,
         },
     }
 }
 
-/// Does all that the program does: `check IN OUT LOG` over these files, with one line put into the
-/// sink. Main hands in the disk, standard output and the words after the program's name.
+fn say_simplified<S: Sink>(alloc: Global, out: &mut S, outcome: Simplified) -> Status
+    ensures says { IfSome (S.written out.old) (λ before.
+        Says before (line_of_simplified outcome) (status_of_simplified outcome) result
+        (S.written out.new)) }
+    ensures answer { IsDue (status_of_simplified outcome) result (S.faults out.old) (S.faults out.new) }
+{
+    match outcome {
+        Simplified::NoMemory => put(out, Status::NoMemory, b"no memory\n"),
+        _ => match outcome.line(alloc) {
+            Ok(line) => put(out, outcome.status(), &line),
+            Err(_) => Status::NoMemory,
+        },
+    }
+}
+
+fn run_check<F: Files, S: Sink>(
+    alloc: Global,
+    files: &mut F,
+    out: &mut S,
+    input: &str,
+    output: &str,
+    log: &str,
+) -> Status
+    ensures usage { result ≢ Status.Usage }
+    ensures exact { IfSome (F.held files.old) (λ disk.
+        AnswersExactly result (bytes_at disk input.now) (bytes_at disk output.now) (bytes_at disk log.now)) }
+    ensures read_fault { result ≡ Status.ReadFault →
+        Rose (F.read_faults files.old input.now) (F.read_faults files.new input.now)
+        ⊎ Rose (F.read_faults files.old output.now) (F.read_faults files.new output.now)
+        ⊎ Rose (F.read_faults files.old log.now) (F.read_faults files.new log.now) }
+    ensures write_fault { result ≡ Status.WriteFault → Rose (S.faults out.old) (S.faults out.new) }
+    ensures unchanged { F.held files.new ≡ F.held files.old }
+    ensures line { IfSome (S.written out.old) (λ before. IfSome (F.held files.old) (λ disk.
+        SaysSome (λ due. Checks due (bytes_at disk input.now) (bytes_at disk output.now) (bytes_at disk log.now))
+        before result (S.written out.new))) }
+{
+    let outcome = check(alloc, files, input, output, log);
+    say(alloc, out, outcome)
+}
+
+fn run_simplify<F: Files, S: Sink>(
+    alloc: Global,
+    files: &mut F,
+    out: &mut S,
+    input: &str,
+    output: &str,
+    log: &str,
+    options: &Options,
+) -> Status
+    requires bounds { AreModest options.now.bounds }
+    requires names { output.now ≢ log.now }
+    ensures usage { result ≢ Status.Usage }
+    ensures exact { IfSome (F.held files.old) (λ disk.
+        SimplifiesExactly result options.now input.now output.now log.now disk (F.held files.new)) }
+    ensures read_fault { result ≡ Status.ReadFault →
+        Rose (F.read_faults files.old input.now) (F.read_faults files.new input.now) }
+    ensures write_fault { result ≡ Status.WriteFault → Rose (S.faults out.old) (S.faults out.new)
+        ⊎ (Rose (F.write_faults files.old output.now) (F.write_faults files.new output.now)
+        ⊎ Rose (F.write_faults files.old log.now) (F.write_faults files.new log.now)) }
+    ensures line { IfSome (S.written out.old) (λ before. IfSome (F.held files.old) (λ disk.
+        SaysSimplified (λ due. Ends due options.now input.now output.now log.now disk (F.held files.new))
+        before result (S.written out.new))) }
+{
+    let outcome = simplify_file(alloc, files, input, output, log, options);
+    say_simplified(alloc, out, outcome)
+}
+
+/// Does all that the program does: `check IN OUT LOG`, or `simplify IN OUT LOG` with its options, over these files,
+/// with one line put into the sink. Main hands in the disk, standard output and the words after the program's name.
 pub fn run<F: Files, S: Sink>(alloc: Global, words: &[String], files: &mut F, out: &mut S) -> Status
     // Where the words are no command, that is said and nothing else is done.
     ensures usage { result ≡ Status.Usage → command (map (λ w. string_bytes w) words.now) ≡ None }
     ensures no_command { command (map (λ w. string_bytes w) words.now) ≡ None →
         (result ≡ Status.Usage) ⊎ (result ≡ Status.WriteFault) ⊎ (result ≡ Status.NoMemory) }
 
-    // When each status comes, over the bytes that the files hold; after Done the two formulas have one
+    // When each status of `check` comes, over the bytes that the files hold; after Done the two formulas have one
     // truth value.
-    ensures check { IfSome (command (map (λ w. string_bytes w) words.now)) (λ c.
+    ensures check { IfCheck (command (map (λ w. string_bytes w) words.now)) (λ c.
         IfSome (F.held files.old) (λ disk.
         AnswersExactly result (bytes_at disk c.input) (bytes_at disk c.output) (bytes_at disk c.log))) }
+
+    // When each status of `simplify` comes, and what the files hold then.
+    ensures simplify { IfSimplify (command (map (λ w. string_bytes w) words.now)) (λ c o.
+        IfSome (F.held files.old) (λ disk.
+        SimplifiesExactly result o c.input c.output c.log disk (F.held files.new))) }
+
     ensures read_fault { result ≡ Status.ReadFault →
         IfSome (command (map (λ w. string_bytes w) words.now)) (λ c.
-        RoseFor (F.read_faults files.old) (F.read_faults files.new) c) }
-    ensures write_fault { result ≡ Status.WriteFault → Rose (S.faults out.old) (S.faults out.new) }
+        RoseForReads (F.read_faults files.old) (F.read_faults files.new) c c.task) }
+    ensures write_fault { result ≡ Status.WriteFault → Rose (S.faults out.old) (S.faults out.new)
+        ⊎ IsSomeAnd (command (map (λ w. string_bytes w) words.now)) (λ c.
+        RoseForWrites (F.write_faults files.old) (F.write_faults files.new) c c.task) }
 
-    // No file is changed, and the line that is put is the one of the outcome.
-    ensures unchanged { F.held files.new ≡ F.held files.old }
+    // Only `simplify` changes files, and the line that is put is the one of the outcome.
+    ensures unchanged { IfReading (command (map (λ w. string_bytes w) words.now))
+        (F.held files.new ≡ F.held files.old) }
     ensures line { IfSome (S.written out.old) (λ before.
-        SaysOf (F.held files.old) (command (map (λ w. string_bytes w) words.now)) before result
-        (S.written out.new)) }
+        SaysOf (command (map (λ w. string_bytes w) words.now)) (F.held files.old) (F.held files.new)
+        before result (S.written out.new)) }
 {
-    match operands(words) {
+    match parse(words) {
         None => say(alloc, out, Outcome::Usage),
-        Some(names) => {
-            let outcome = check(alloc, files, names.input, names.output, names.log);
-            say(alloc, out, outcome)
-        }
+        Some(command) => match command.task {
+            Task::Check => run_check(
+                alloc,
+                files,
+                out,
+                command.input,
+                command.output,
+                command.log,
+            ),
+            Task::Simplify { options } => run_simplify(
+                alloc,
+                files,
+                out,
+                command.input,
+                command.output,
+                command.log,
+                &options,
+            ),
+        },
     }
 }

@@ -1,7 +1,7 @@
 use Rattle.std.proofs.Common.{◌∙◌, refl, subst, arith, []}
 use Rattle.q_io.specs.Files.{bytes_at}
 use Rattle.q_dimacs.specs.Scanning.{HasRead}
-use Rattle.q_app.proofs.Feeding.{if_some, if_some_2, at_same, begins, starts, ends_formula, ends_refused, rises, err_of}
+use Rattle.q_app.proofs.Feeding.{if_some, if_some_2, at_same, begins, starts, ends_formula, ends_refused, ends_limits, rises, err_of}
 use Rattle.q_app.proofs.input.read_formula.Goals as goal
 
 pub loop-reader-init : goal.loop-reader-init
@@ -11,6 +11,7 @@ loop-reader-init g c =
       front = if_some (g.F.Files.held c.args.files.now) (λ d. begins _ _ (subst (λ m. HasRead m [] c.in-Ok.reader) c.standard.ensures c.in-Ok.ensures.start));
       held = refl;
       read_later = λ q. omega arith;
+      write_later = λ q. omega arith;
     }
 
 pub feed_piece-requires-clause-place : goal.feed_piece-requires-clause-place
@@ -47,6 +48,7 @@ loop-reader-preserved g c =
       front = if_some_2 (g.F.Files.held c.args.files.now) c.loop-reader.invariant.front fed (λ d f p. p.further f);
       held = c.feed_piece.ensures.held ∙ c.loop-reader.invariant.held;
       read_later = λ q. omega (arith, c.loop-reader.invariant.read_later q, c.feed_piece.ensures.read_later q);
+      write_later = λ q. omega (arith, c.loop-reader.invariant.write_later q, c.feed_piece.ensures.write_later q);
     }
 
 pub returns-in-Err-feed_piece-clause-refused : goal.returns-in-Err-feed_piece-clause-refused
@@ -63,3 +65,12 @@ returns-in-Err-feed_piece-clause-held g c = c.feed_piece.ensures.held ∙ c.loop
 
 pub returns-in-Err-feed_piece-clause-read_later : goal.returns-in-Err-feed_piece-clause-read_later
 returns-in-Err-feed_piece-clause-read_later g c = λ q. omega (arith, c.loop-reader.invariant.read_later q, c.feed_piece.ensures.read_later q)
+
+pub returns-in-Ok-eq0-clause-limits : goal.returns-in-Ok-eq0-clause-limits
+returns-in-Ok-eq0-clause-limits g c = ends_limits c.finish.result c.feed_piece.new.reader c.in-Ok-eq0.ensures.reading c.finish.ensures.limits
+
+pub returns-in-Ok-eq0-clause-write_later : goal.returns-in-Ok-eq0-clause-write_later
+returns-in-Ok-eq0-clause-write_later g c = λ q. omega (arith, c.loop-reader.invariant.write_later q, c.feed_piece.ensures.write_later q)
+
+pub returns-in-Err-feed_piece-clause-write_later : goal.returns-in-Err-feed_piece-clause-write_later
+returns-in-Err-feed_piece-clause-write_later g c = λ q. omega (arith, c.loop-reader.invariant.write_later q, c.feed_piece.ensures.write_later q)

@@ -10,6 +10,7 @@ invariant-loop-reader g l =
       front : IfSome (g.F.Files.held l.fn.files) (λ disk. HasFront (bytes_at disk l.name) l.at l.reader);
       held : g.F.Files.held l.files ≡ g.F.Files.held l.fn.files;
       read_later : (q : List ℕ) → g.F.Files.read_faults l.fn.files q ≤ g.F.Files.read_faults l.files q;
+      write_later : (q : List ℕ) → g.F.Files.write_faults l.fn.files q ≤ g.F.Files.write_faults l.files q;
     }
 
 abbrev pub decreases-loop-reader : goal.decreases-loop-reader

@@ -1,0 +1,79 @@
+-- The options of `simplify`: numbers, names and settings.
+use Rattle.std.proofs.Common.{◌≡◌, ◌≢◌, ◌≤◌, ◌<◌, ◌+◌, ◌-◌, ◌*◌, ◌/◌, ℕ, Bool, true, false, nat_le, ◌&&◌, ◌==◌, eqb, cond, List, [], ◌∷◌, ◌++◌, refl, sym, ap, ◌∙◌, subst, arith, length, drop, get_or, Option, Some, None, if◌then◌else◌, suc, drop-cons, Bor, option_map, MatchOption, inl, inr, ◌⊎◌}
+use Rattle.std.specs.Bool.{Decides}
+use Rattle.std.proofs.lemmas.Slice.Eq.{strip_prefix_is}
+use Rattle.std.proofs.lemmas.Bool.Decides.{Decides-eqb}
+use Rattle.q_text.specs.Words.{is_digit, digits_behind, digits}
+use Rattle.q_app.specs.Words.{behind, up_to, number_of}
+
+-- digits only make a number larger
+digits-more : (n : ℕ) (bs : List ℕ) (m : ℕ) → digits_behind n bs ≡ Some m → n ≤ m
+digits-more n [] m e = let f : n ≡ m = cc in omega arith
+digits-more n (b ∷ bs) m e = go (is_digit b) e (digits-more (10 * n + (b - 48)) bs m)
+  where
+    go : (t : Bool) → (if t then digits_behind (10 * n + (b - 48)) bs else None) ≡ Some m → (digits_behind (10 * n + (b - 48)) bs ≡ Some m → 10 * n + (b - 48) ≤ m) → n ≤ m
+    go true e ih = let i : 10 * n + (b - 48) ≤ m = ih e in omega arith
+    go false e ih = cc
+
+up_to-none : (most : ℕ) (o : Option ℕ) → ((m : ℕ) → o ≡ Some m → most < m) → up_to most o ≡ None
+up_to-none most None h = refl
+up_to-none most (Some m) h = let z : most < m = h m refl in let e : nat_le m most ≡ false = grind arith in rw e refl
+
+-- behind a number that is too large no number comes that is not
+pub too_large : (most n : ℕ) (bs : List ℕ) → most < n → None ≡ up_to most (digits_behind n bs)
+too_large most n bs h = sym (up_to-none most (digits_behind n bs) (λ m e. let i : n ≤ m = digits-more n bs m e in omega arith))
+
+pub no_digit : (most n : ℕ) (b : ℕ) (bs : List ℕ) → is_digit b ≡ false → None ≡ up_to most (digits_behind n (b ∷ bs))
+no_digit most n b bs e = let f : digits_behind n (b ∷ bs) ≡ None = grind arith in rw f refl
+
+pub next_digit : (n b : ℕ) (bs : List ℕ) → is_digit b ≡ true → digits_behind n (b ∷ bs) ≡ digits_behind (10 * n + (b - 48)) bs
+next_digit n b bs e = rw e refl
+
+pub in_reach : (most n : ℕ) → n ≤ most → Some n ≡ up_to most (Some n)
+in_reach most n h = let e : nat_le n most ≡ true = grind arith in rw e refl
+
+-- a word that begins with the front
+pub behind-front : (front rest : List ℕ) → behind front (front ++ rest) ≡ Some rest
+behind-front [] rest = refl
+behind-front (a ∷ front) rest = let e : (a == a) ≡ true = grind arith in let i : behind front (front ++ rest) ≡ Some rest = behind-front front rest in rw e i
+
+behind-sound : (front word rest : List ℕ) → behind front word ≡ Some rest → word ≡ front ++ rest
+behind-sound [] word rest e = cc
+behind-sound (a ∷ front) [] rest e = cc
+behind-sound (a ∷ front) (b ∷ word) rest e = go (a == b) refl e (behind-sound front word rest)
+  where
+    go : (t : Bool) → (a == b) ≡ t → (if t then behind front word else None) ≡ Some rest → (behind front word ≡ Some rest → word ≡ front ++ rest) → b ∷ word ≡ a ∷ (front ++ rest)
+    go true q e ih = let z : a ≡ b = grind arith in let i : word ≡ front ++ rest = ih e in cc
+    go false q e ih = cc
+
+none-left : (o : Option (List ℕ)) → ((rest : List ℕ) → o ≡ Some rest → ⊥) → None ≡ o
+none-left None h = refl
+none-left (Some rest) h = absurd (h rest refl)
+
+pub behind-none : (front word : List ℕ) → ((rest : List ℕ) → word ≢ front ++ rest) → None ≡ behind front word
+behind-none front word h = none-left (behind front word) (λ rest e. h rest (behind-sound front word rest e))
+
+pub behind-some : (front word rest : List ℕ) → word ≡ front ++ rest → Some rest ≡ behind front word
+behind-some front word rest e = sym (ap (behind front) e ∙ behind-front front rest)
+
+digits-first : (text : List ℕ) → 0 < length text → digits text ≡ digits_behind 0 text
+digits-first [] h = absurd (omega arith)
+digits-first (b ∷ bs) h = refl
+
+-- a further digit makes the number too large
+pub overflows : (most v i : ℕ) (text : List ℕ) → i < length text → digits_behind 0 text ≡ digits_behind v (drop i text) → 48 ≤ get_or text i 0 → get_or text i 0 ≤ 57 → most < 10 * v + (get_or text i 0 - 48) → None ≡ number_of most text
+overflows most v i text h e a b z =
+    let d : is_digit (get_or text i 0) ≡ true = grind arith in
+    let f : digits text ≡ digits_behind 0 text = digits-first text (omega arith) in
+    let s : drop i text ≡ get_or text i 0 ∷ drop (suc i) text = drop-cons text i 0 h in
+    let n : digits_behind v (get_or text i 0 ∷ drop (suc i) text) ≡ digits_behind (10 * v + (get_or text i 0 - 48)) (drop (suc i) text) = next_digit v (get_or text i 0) (drop (suc i) text) d in
+    let all : digits text ≡ digits_behind (10 * v + (get_or text i 0 - 48)) (drop (suc i) text) = f ∙ (e ∙ (ap (digits_behind v) s ∙ n)) in
+    too_large most (10 * v + (get_or text i 0 - 48)) (drop (suc i) text) z ∙ ap (up_to most) (sym all)
+
+pub strip-some : (s p : List ℕ) (r : Option (Bor (List ℕ))) (x : Bor (List ℕ)) → MatchOption r ((rest : List ℕ) → s ≢ p ++ rest) (λ y. s ≡ p ++ y.now) → r ≡ Some x → Some x.now ≡ behind p s
+strip-some s p None x h e = cc
+strip-some s p (Some y) x h e = let z : y ≡ x = cc in subst (λ (b : Bor (List ℕ)). Some b.now ≡ behind p s) z (behind-some p s y.now h)
+
+pub strip-none : (s p : List ℕ) (r : Option (Bor (List ℕ))) → MatchOption r ((rest : List ℕ) → s ≢ p ++ rest) (λ y. s ≡ p ++ y.now) → r ≡ None → None ≡ behind p s
+strip-none s p None h e = behind-none p s h
+strip-none s p (Some y) h e = cc

@@ -1,0 +1,53 @@
+-- What `simplify` says and leaves, over the files before and after.
+use Rattle.std.specs.Prelude.{◌≡◌, ◌≢◌, ◌⊎◌, ◌≤◌, ℕ, List, length, Option, Some, None}
+use Rattle.std.specs.FinMap as map
+use Rattle.q_logic.specs.Formulas.{PrenexFormula}
+use Rattle.q_logic.specs.Limits.{standard}
+use Rattle.q_logic.specs.Measure.{measure_of}
+use Rattle.q_io.specs.Files.{Disk, bytes_at}
+use Rattle.q_dimacs.specs.Offences.{Offence}
+use Rattle.q_simplify.specs.declared.options.Options.{Options}
+use Rattle.q_simplify.specs.declared.report.Report.{Report}
+use Rattle.q_simplify.specs.Results.{IsEnoughFor, Simplifies, Leaves}
+use Rattle.q_app.specs.Checks.{IsFileOf, IsNoFormula, Exactly, MayCome}
+use Rattle.q_app.specs.Statuses.{status_of_ending}
+use Rattle.q_app.specs.declared.status.Status.{Status}
+use Rattle.q_app.specs.declared.status.Status.TheVariants as status
+use Rattle.q_app.specs.declared.simplified.Simplified.{Simplified}
+use Rattle.q_app.specs.declared.simplified.Simplified.TheVariants.{Written, RefusedInput, ReadFault, WriteFault, NoMemory}
+
+-- the file of the input holds a formula, and OUT and LOG hold its result and the steps that lead there
+abbrev pub IsWritten : Report → Options → List ℕ → List ℕ → List ℕ → Disk → Option Disk → Type 0
+IsWritten r o input output log before after =
+    (F : PrenexFormula) × IsFileOf (bytes_at before input) F × Simplifies o F r output log before after
+
+-- a fault or want of memory while they were written
+abbrev pub IsLeft : List ℕ → List ℕ → List ℕ → Disk → Option Disk → Type 0
+IsLeft input output log before after =
+    (F : PrenexFormula) × IsFileOf (bytes_at before input) F × Leaves F output log before after
+
+-- what there is to say, and what the files hold then
+abbrev pub Ends : Simplified → Options → List ℕ → List ℕ → List ℕ → Disk → Option Disk → Type 0
+Ends (Written r) o input output log before after = IsWritten r o input output log before after
+Ends (RefusedInput n c) o input output log before after =
+    Offence standard (bytes_at before input) n c × (after ≡ Some before)
+Ends ReadFault o input output log before after = after ≡ Some before
+Ends WriteFault o input output log before after = IsLeft input output log before after
+Ends NoMemory o input output log before after =
+    (after ≡ Some before) ⊎ IsLeft input output log before after
+
+-- the status says that both files are written
+abbrev pub IsEnded : Status → Type 0
+IsEnded s = (s ≡ status.Done) ⊎ (s ≡ status.True) ⊎ (s ≡ status.False) ⊎ (s ≡ status.Spent)
+
+-- when each status of `simplify` comes, and what the files hold then
+pub record SimplifiesExactly (answer : Status) (o : Options) (input output log : List ℕ) (before : Disk) (after : Option Disk) : Type 0 where
+  pub ended : IsEnded answer →
+      (r : Report) × IsWritten r o input output log before after × (answer ≡ status_of_ending r.ending)
+  pub enough : (F : PrenexFormula) → IsFileOf (bytes_at before input) F → IsEnoughFor o.budget (measure_of o.bounds F) →
+      answer ≢ status.Spent
+  pub refused : Exactly answer status.InputRefused (IsNoFormula (bytes_at before input))
+  pub untouched : (answer ≡ status.InputRefused) ⊎ (answer ≡ status.ReadFault) → after ≡ Some before
+  pub left : (answer ≡ status.WriteFault) ⊎ (answer ≡ status.NoMemory) →
+      (after ≡ Some before) ⊎ IsLeft input output log before after
+  pub any : IsEnded answer ⊎ (answer ≡ status.InputRefused) ⊎ MayCome answer

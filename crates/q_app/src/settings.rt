@@ -1,0 +1,143 @@
+// The options of `simplify`.
+ghost use Rattle.std.specs.Prelude.{◌≡◌, ◌≢◌, ◌≤◌, ◌++◌, List, ℕ, map, option_map, string_bytes, Some};
+ghost use Rattle.q_app.specs.Words.{behind, nothing_set, number_of, options_of, setting_of, with_setting, with_word, with_words};
+
+use q_logic::Bounds;
+use q_simplify::Options;
+
+/// An option with its number.
+#[derive(Clone, Copy, Debug, PartialEq, Eq)]
+pub(crate) enum Setting {
+    Grow(u32),
+    Expand(u32),
+    Budget(u64),
+}
+
+/// The options so far.
+#[derive(Clone, Copy, Debug, PartialEq, Eq)]
+pub(crate) struct Settings {
+    grow: Option<u32>,
+    expand: Option<u32>,
+    budget: Option<u64>,
+}
+
+// The greatest bound that can be set.
+const MOST: u64 = 10_000;
+
+// The number of a text of digits, where it is not too large.
+fn number(text: &[u8], most: u64) -> Option<u64>
+    ensures { result ≡ number_of most text.now }
+{
+    if text.is_empty() {
+        return None;
+    }
+    let mut value = 0u64;
+    for byte in text {
+        if *byte < b'0' || *byte > b'9' {
+            return None;
+        }
+        let digit = u64::from(*byte - b'0');
+        if digit > most || value > (most - digit) / 10 {
+            return None;
+        }
+        value = 10 * value + digit;
+    }
+    Some(value)
+}
+
+// What stands behind a front, where the word begins with it.
+fn strip<'a>(word: &'a str, front: &[u8]) -> Option<&'a [u8]>
+    ensures { option_map (λ x. x.now) result ≡ behind front.now word.now }
+{
+    match word.as_bytes().strip_prefix(front) {
+        Some(rest) => Some(rest),
+        None => None,
+    }
+}
+
+fn parse_setting(word: &str) -> Option<Setting>
+    ensures { result ≡ setting_of word.now }
+{
+    if let Some(text) = strip(word, b"--grow=") {
+        return match number(text, MOST) {
+            Some(grow) => Some(Setting::Grow(grow as u32)),
+            None => None,
+        };
+    }
+    if let Some(text) = strip(word, b"--expand=") {
+        return match number(text, MOST) {
+            Some(expand) => Some(Setting::Expand(expand as u32)),
+            None => None,
+        };
+    }
+    if let Some(text) = strip(word, b"--budget=") {
+        return match number(text, u64::MAX) {
+            Some(budget) => Some(Setting::Budget(budget)),
+            None => None,
+        };
+    }
+    None
+}
+
+impl Settings {
+    // One more setting, where it was not set before.
+    fn with(self, setting: Setting) -> Option<Settings>
+        ensures { result ≡ with_setting self (Some setting) }
+    {
+        match setting {
+            Setting::Grow(grow) if self.grow.is_none() => Some(Settings {
+                grow: Some(grow),
+                ..self
+            }),
+            Setting::Expand(expand) if self.expand.is_none() => Some(Settings {
+                expand: Some(expand),
+                ..self
+            }),
+            Setting::Budget(budget) if self.budget.is_none() => Some(Settings {
+                budget: Some(budget),
+                ..self
+            }),
+            _ => None,
+        }
+    }
+
+    fn with_word(self, word: &str) -> Option<Settings>
+        ensures { result ≡ with_word (Some self) word.now }
+    {
+        match parse_setting(word) {
+            Some(setting) => self.with(setting),
+            None => None,
+        }
+    }
+
+    /// The settings of these words.
+    pub fn of(words: &[String]) -> Option<Settings>
+        ensures { result ≡ with_words (Some nothing_set) (map (λ w. string_bytes w) words.now) }
+    {
+        let mut settings = Settings {
+            grow: None,
+            expand: None,
+            budget: None,
+        };
+        for word in words {
+            match settings.with_word(word.as_str()) {
+                Some(next) => settings = next,
+                None => return None,
+            }
+        }
+        Some(settings)
+    }
+
+    /// What is not set has its default.
+    pub fn options(self) -> Options
+        ensures { result ≡ options_of self }
+    {
+        Options {
+            bounds: Bounds {
+                grow: self.grow.unwrap_or(0),
+                expand: self.expand.unwrap_or(16),
+            },
+            budget: self.budget,
+        }
+    }
+}

@@ -1,0 +1,89 @@
+// `simplify`: IN is read whole, then the formula is simplified into OUT and LOG.
+ghost use Rattle.std.specs.Prelude.{◌≡◌, ◌≢◌, ◌≤◌, ◌⊎◌, List, ℕ, IfOk, IfErr, IfSome, IsErrOf};
+ghost use Rattle.q_logic.specs.Limits.{standard};
+ghost use Rattle.q_logic.specs.InLimits.{IsInLimits};
+ghost use Rattle.q_logic.specs.Parts.{IsProper};
+ghost use Rattle.q_io.specs.Files.{Rose, bytes_at};
+ghost use Rattle.q_dimacs.specs.Dimacs.{Dimacs};
+ghost use Rattle.q_app.specs.Inputs.{IsRefused};
+ghost use Rattle.q_app.specs.Refusals.{failure_of, refusal_of};
+ghost use Rattle.q_kernel.specs.Taking.{AreModest};
+ghost use Rattle.q_app.specs.Simplifying.{Ends};
+
+use crate::input::{InputError, PIECE, read_formula};
+use crate::simplified::Simplified;
+use q_io::{DeviceError, Files};
+use q_logic::Formula;
+use q_simplify::{Options, simplify};
+use std::alloc::Global;
+
+// The formula of IN, read through a buffer.
+fn read_input<F: Files>(alloc: Global, files: &mut F, input: &str) -> Result<Formula, InputError>
+    ensures formula { IfOk result (λ f. IfSome (F.held files.old)
+        (λ disk. Dimacs standard (bytes_at disk input.now) f)) }
+    ensures proper { IfOk result IsProper }
+    ensures limits { IfOk result (λ f. IsInLimits standard f) }
+    ensures refused { IfErr result (λ e. IfSome (F.held files.old)
+        (λ disk. IsRefused e (bytes_at disk input.now))) }
+    ensures fault { IsErrOf result InputError.Fault →
+        Rose (F.read_faults files.old input.now) (F.read_faults files.new input.now) }
+    ensures held { F.held files.new ≡ F.held files.old }
+    ensures read_later { (q : List ℕ) → F.read_faults files.old q ≤ F.read_faults files.new q }
+    ensures write_later { (q : List ℕ) → F.write_faults files.old q ≤ F.write_faults files.new q }
+{
+    match vec![in alloc; 0u8; PIECE] {
+        Ok(mut room) => match read_formula(alloc, files, input, &mut room) {
+            Ok(formula) => Ok(formula),
+            Err(error) => Err(error),
+        },
+        Err(_) => Err(InputError::NoMemory),
+    }
+}
+
+fn refused(error: InputError) -> Simplified
+    ensures { result ≡ refusal_of error }
+{
+    match error {
+        InputError::Refused { line, cause } => Simplified::RefusedInput { line, cause },
+        InputError::Fault => Simplified::ReadFault,
+        InputError::NoMemory => Simplified::NoMemory,
+    }
+}
+
+fn failed(error: DeviceError) -> Simplified
+    ensures { result ≡ failure_of error }
+{
+    match error {
+        DeviceError::Failed => Simplified::WriteFault,
+        DeviceError::NoMemory => Simplified::NoMemory,
+    }
+}
+
+/// What there is to say of `simplify` over the files of these names.
+pub(crate) fn simplify_file<F: Files>(
+    alloc: Global,
+    files: &mut F,
+    input: &str,
+    output: &str,
+    log: &str,
+    options: &Options,
+) -> Simplified
+    requires bounds { AreModest options.now.bounds }
+    requires names { output.now ≢ log.now }
+    ensures ends { IfSome (F.held files.old) (λ disk.
+        Ends result options.now input.now output.now log.now disk (F.held files.new)) }
+    ensures read_fault { result ≡ Simplified.ReadFault →
+        Rose (F.read_faults files.old input.now) (F.read_faults files.new input.now) }
+    ensures write_fault { result ≡ Simplified.WriteFault →
+        Rose (F.write_faults files.old output.now) (F.write_faults files.new output.now)
+        ⊎ Rose (F.write_faults files.old log.now) (F.write_faults files.new log.now) }
+{
+    let formula = match read_input(alloc, files, input) {
+        Ok(formula) => formula,
+        Err(error) => return refused(error),
+    };
+    match simplify(alloc, files, &formula, output, log, options) {
+        Ok(report) => Simplified::Written { report },
+        Err(error) => failed(error),
+    }
+}
