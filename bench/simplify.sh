@@ -1,0 +1,64 @@
+#!/usr/bin/env bash
+# Times `simplify` on three families of formulas: random clauses of three literals, a chain of unit clauses,
+# and universal literals that are cut in one connected component. The time of the first two should grow no
+# worse than n log n. Usage: bench/simplify.sh [random|units|cuts ..]
+set -eu
+cd "$(dirname "$0")/.."
+work=$(mktemp -d)
+trap 'rm -rf "$work"' EXIT
+
+formula() {
+    python3 - "$work/in" "$@" <<'PYTHON'
+import random, sys
+
+name, family, n = sys.argv[1], sys.argv[2], int(sys.argv[3])
+random.seed(n)
+
+
+def write(blocks, clauses):
+    with open(name, "w") as out:
+        out.write(f"p cnf {max(max(block) for _, block in blocks)} {len(clauses)}\n")
+        for quantifier, block in blocks:
+            out.write(quantifier + " " + " ".join(map(str, block)) + " 0\n")
+        out.writelines(" ".join(map(str, clause)) + " 0\n" for clause in clauses)
+
+
+def signed(variables):
+    return [x if random.random() < 0.5 else -x for x in variables]
+
+
+if family == "random":
+    # three blocks: a third of the existentials outside, fifty universals, the other existentials inside
+    existentials, universals = n // 4, 50
+    outer = existentials // 3
+    x = list(range(1, existentials + universals + 1))
+    blocks = [("e", x[:outer]), ("a", x[outer:outer + universals]), ("e", x[outer + universals:])]
+    write(blocks, [signed(random.sample(x, 3)) if random.random() < 0.5
+                   else signed([random.choice(blocks[1][1])] + random.sample(blocks[2][1], 2)) for _ in range(n)])
+elif family == "units":
+    write([("e", range(1, n + 1))], [[1]] + [[-i, i + 1] for i in range(1, n)])
+else:
+    # the chain over x holds the universals positively, that over y negatively; no clause joins the two
+    x, y, u = range(1, n + 1), range(n + 1, 2 * n + 1), range(2 * n + 1, 2 * n + n // 2 + 1)
+    clauses = [[-v, v + 1] for v in x[:-1]] + [[-v, v + 1] for v in y[:-1]]
+    clauses += [[u[i], x[i], -x[i - 1]] for i in range(1, n // 2)] + [[-u[i], y[i], -y[i - 1]] for i in range(1, n // 2)]
+    write([("a", u), ("e", list(x) + list(y))], clauses)
+PYTHON
+}
+
+measured() {
+    formula "$1" "$2"
+    /usr/bin/time -f "$1 $2: %e s, %M KiB" ./celdrinn simplify "$work/in" "$work/out" "$work/log" || true
+    head -n 1 "$work/out"
+    wc -lc <"$work/log" | awk '{ print "log: " $1 " steps, " $2 " bytes" }'
+}
+
+for family in "${@:-random units cuts}"; do
+    for f in $family; do
+        case $f in
+        random) for n in 250000 500000 1000000; do measured "$f" "$n"; done ;;
+        units) for n in 50000 100000 200000 400000; do measured "$f" "$n"; done ;;
+        cuts) for n in 1000 2000 4000; do measured "$f" "$n"; done ;;
+        esac
+    done
+done
