@@ -1,8 +1,7 @@
 -- A prefix that gains or loses a variable.
-use Rattle.std.proofs.Common.{◌≡◌, ◌≢◌, ◌⊎◌, ℕ, ◌<◌, ◌≤◌, true, false, true≢false, List, [], ◌∷◌, length, set, get_or, slice_get, Option, None, Some, refl, sym, ◌∙◌, ap, subst, inl, inr, arith}
+use Rattle.std.proofs.Common.{◌≡◌, ◌≢◌, ◌⊎◌, ℕ, ◌<◌, ◌≤◌, true, false, true≢false, List, [], ◌∷◌, length, set, get_or, slice_get, Option, Some, refl, sym, ◌∙◌, ap, subst, inl, inr, arith}
 use Rattle.std.proofs.lemmas.List.{get_or-set_same, get_or-set_other, get_or_past}
 use Rattle.std.proofs.lemmas.Bool.{cases_lt}
-use Rattle.std.proofs.lemmas.Bool.Decides.{nat_tests}
 use Rattle.q_logic.specs.declared.formulas.Quant.{Quant}
 use Rattle.q_logic.specs.declared.formulas.Bound.{Bound}
 use Rattle.q_logic.specs.Formulas.{IsIn}
@@ -17,8 +16,10 @@ use Rattle.q_arena.proofs.Layouts.{without-gone, Has-kept}
 use Rattle.q_arena.proofs.Seen.{length-set'}
 use Rattle.q_arena.proofs.After.{with_next-here, with_next-later, Has-with_next}
 use Rattle.q_prefix.specs.declared.marks.Mark.{Mark}
-use Rattle.q_prefix.specs.Order.{Binds, with_after, IsRankedFrom, IsRanked, IsRankBefore, merged, no_mark, mark_at, bound_of, rank_of, bounds_of, IsPrefix, IsParted}
-use Rattle.q_prefix.proofs.Ranks.{IsBetween, StartsWith, next-le, quant-self, ranked-gone, ranked-merged, ranked-joined}
+use Rattle.q_prefix.specs.Order.{Binds, with_after, IsRankedFrom, IsRanked, IsRankBefore, no_mark, mark_at, bound_of, rank_of, bounds_of, IsPrefix, IsParted}
+use Rattle.q_prefix.proofs.Ranks.{IsBetween, StartsWith, IsJoint, next-le, quant-self, ranked-gone, ranked-merged, ranked-joined}
+use Rattle.q_prefix.proofs.Walks.{following-here, following-later, none-some}
+use Rattle.q_prefix.proofs.Directions.{preceding-here, preceding-later, preceding-none}
 use Rattle.q_prefix.proofs.Bounds.{bounds-without, bounds-with, in-bounds, bounds-same, ranked-same, has-binds}
 
 pub mark-set_here : (marks : List Mark) (v : ℕ) (m : Mark) → v < length marks → mark_at (set marks v m) v ≡ m
@@ -92,25 +93,6 @@ rank-before_same r s b n (c ∷ p) f h =
 
 -- what stands beside a variable
 
-preceding-here : (v u c : ℕ) (cs : List ℕ) → c ≡ v → preceding_from v u (c ∷ cs) ≡ Some u
-preceding-here v u c cs e = grind (arith, nat_tests)
-
-preceding-later : (v u c : ℕ) (cs : List ℕ) → c ≢ v → preceding_from v u (c ∷ cs) ≡ preceding_from v c cs
-preceding-later v u c cs n = grind (arith, nat_tests)
-
-following-here : (v c : ℕ) (cs : List ℕ) → c ≡ v → following v (c ∷ cs) ≡ slice_get cs 0
-following-here v c cs e = grind (arith, nat_tests)
-
-following-later : (v c : ℕ) (cs : List ℕ) → c ≢ v → following v (c ∷ cs) ≡ following v cs
-following-later v c cs n = grind (arith, nat_tests)
-
-none-some : (x : ℕ) → None ≡ Some x → ⊥
-none-some x e = cc
-
-preceding-none : (v u : ℕ) (us : List ℕ) → Misses v us → preceding_from v u us ≡ None
-preceding-none v u [] m = refl
-preceding-none v u (c ∷ cs) m = preceding-later v u c cs (λ e. m.0 (sym e)) ∙ preceding-none v c cs m.1
-
 module _ (marks : List Mark) (v : ℕ) where
   between-beside : (u : ℕ) (us : List ℕ) (x y : Bound) → IsBetween x v y (bound_of marks u) (bounds_of marks us)
       → (preceding_from v u us ≡ Some x.var) × (following v us ≡ Some y.var) × (x ≡ bound_of marks x.var) × (y ≡ bound_of marks y.var)
@@ -164,7 +146,7 @@ between-rises rank x v y b (c ∷ p) r k = elim k [
         let n = next-le rank c d r.1.0 in
         omega (arith, bx, dy, m, n)
 
-ranked-tail : (rank : ℕ → ℕ) (b : Bound) (p : List Bound) → IsRankedFrom rank b p → IsRanked rank p
+pub ranked-tail : (rank : ℕ → ℕ) (b : Bound) (p : List Bound) → IsRankedFrom rank b p → IsRanked rank p
 ranked-tail rank b [] r = tt
 ranked-tail rank b (c ∷ p) r = r.1
 
@@ -190,15 +172,16 @@ module _ (marks : List Mark) (gone : ℕ) where
   -- the neighbours' blocks become one
   joined : (vars : List ℕ) → AreApart vars → Has vars gone → IsRanked (rank_of marks) (bounds_of marks vars)
       → (x y : ℕ) → preceding gone vars ≡ Some x → following gone vars ≡ Some y → same_quant (mark_at marks x).quant (mark_at marks y).quant ≡ true → rank_of marks x ≢ rank_of marks y
-      → IsRanked (merged (rank_of marks) (rank_of marks x) (rank_of marks y)) (bounds_of marks (without gone vars))
-  joined [] a h r x y p q s d = tt
-  joined (u ∷ us) a h r x y p q s d = elim (ℕ-cases u gone) [
+      → (f : ℕ → ℕ) → (rank_of marks x < rank_of marks y → IsJoint f (rank_of marks x) (rank_of marks y))
+      → IsRanked (λ v. f (rank_of marks v)) (bounds_of marks (without gone vars))
+  joined [] a h r x y p q s d f j = tt
+  joined (u ∷ us) a h r x y p q s d f j = elim (ℕ-cases u gone) [
     | inl e ↦ absurd (none-some x (sym (preceding-none gone u us (subst (λ (k : ℕ). Misses k us) e a.0)) ∙ p))
     | inr n ↦
         let k = beside-between marks gone u us x y p (sym (following-later gone u us n) ∙ q) in
         let le = between-rises (rank_of marks) (bound_of marks x) gone (bound_of marks y) (bound_of marks u) (bounds_of marks us) r k in
         let lt : rank_of marks x < rank_of marks y = omega (arith, le, d) in
-        let done = ranked-merged (rank_of marks) (rank_of marks x) (rank_of marks y) lt (bound_of marks x) gone (bound_of marks y) (bound_of marks u) (bounds_of marks us) r k s refl refl in
+        let done = ranked-merged (rank_of marks) f (rank_of marks x) (rank_of marks y) (j lt) (bound_of marks x) gone (bound_of marks y) (bound_of marks u) (bounds_of marks us) r k s refl refl in
         rw (without-later gone u us n, bounds-without marks us gone) done
   ]
 
@@ -209,24 +192,14 @@ module _ (order : Chains) (marks : List Mark) (before after : Option ℕ) (p : I
 
   pub parted-joined : (more : List Mark) (x y : ℕ) → before ≡ Some x → after ≡ Some y → same_quant (mark_at marks x).quant (mark_at marks y).quant ≡ true → rank_of marks x ≢ rank_of marks y
       → ((v : ℕ) → (mark_at more v).quant ≡ (mark_at marks v).quant)
-      → ((v : ℕ) → v < length marks → rank_of more v ≡ merged (rank_of marks) (rank_of marks x) (rank_of marks y) v)
+      → (f : ℕ → ℕ) → (rank_of marks x < rank_of marks y → IsJoint f (rank_of marks x) (rank_of marks y))
+      → ((v : ℕ) → Has (list_at order 0) v → rank_of more v ≡ f (rank_of marks v))
       → IsRanked (rank_of more) (bounds_of more (list_at order 0))
-  parted-joined more x y e g s d q k =
-      let one = joined marks p.gone p.vars p.apart p.there p.ranked x y (sym p.before_is ∙ e) (sym p.after_is ∙ g) s d in
-      let in-vars : (v : ℕ) → Has (without p.gone p.vars) v → v < length marks = λ v h. p.within v (has-without p.gone p.vars v h) in
+  parted-joined more x y e g s d q f j k =
+      let one = joined marks p.gone p.vars p.apart p.there p.ranked x y (sym p.before_is ∙ e) (sym p.after_is ∙ g) s d f j in
       rw (p.left, bounds-same marks more (without p.gone p.vars) (λ v h. q v))
-      (ranked-same (merged (rank_of marks) (rank_of marks x) (rank_of marks y)) (rank_of more) (bounds_of marks (without p.gone p.vars))
-      (λ v h. k v (in-vars v (has-binds marks (without p.gone p.vars) v h))) one)
-    where
-      has-without : (g : ℕ) (vs : List ℕ) (v : ℕ) → Has (without g vs) v → Has vs v
-      has-without g [] v h = absurd h
-      has-without g (u ∷ us) v h = elim (ℕ-cases u g) [
-        | inl e ↦ inr (subst (λ (xs : List ℕ). Has xs v) (without-first g u us e) h)
-        | inr n ↦ elim (subst (λ (xs : List ℕ). Has xs v) (without-later g u us n) h) [
-          | inl e ↦ inl e
-          | inr i ↦ inr (has-without g us v i)
-        ]
-      ]
+      (ranked-same (λ v. f (rank_of marks v)) (rank_of more) (bounds_of marks (without p.gone p.vars))
+      (λ v h. k v (subst (λ (vs : List ℕ). Has vs v) (sym p.left) (has-binds marks (without p.gone p.vars) v h))) one)
 
 -- a variable joins the list after another one, with its mark
 

@@ -9,7 +9,7 @@ use Rattle.q_logic.specs.declared.formulas.Bound.{Bound}
 use Rattle.q_logic.specs.Prefixes.{same_quant, run_to, outer_or_same}
 use Rattle.q_logic.specs.Formulas.{IsIn}
 use Rattle.q_logic.specs.Steps.{removed_from}
-use Rattle.q_prefix.specs.Order.{Binds, IsNext, IsRankedFrom, IsRanked, with_after, merged}
+use Rattle.q_prefix.specs.Order.{Binds, IsNext, IsRankedFrom, IsRanked, with_after}
 
 pub same_quant-trans : (a b c : Quant) → same_quant a b ≡ true → same_quant a c ≡ same_quant b c
 same_quant-trans Exists Exists c e = refl
@@ -114,34 +114,55 @@ abbrev pub IsBetween : Bound → ℕ → Bound → Bound → List Bound → Type
 IsBetween x v y b [] = ⊥
 IsBetween x v y b (c ∷ p) = ((b ≡ x) × (c.var ≡ v) × StartsWith y p) ⊎ ((c.var ≢ v) × IsBetween x v y c p)
 
-merged-at : (rank : ℕ → ℕ) (r1 r2 v : ℕ) → rank v ≡ r2 → merged rank r1 r2 v ≡ r1
-merged-at rank r1 r2 v e = grind (arith, nat_tests)
-
-merged-off : (rank : ℕ → ℕ) (r1 r2 v : ℕ) → rank v ≢ r2 → merged rank r1 r2 v ≡ rank v
-merged-off rank r1 r2 v e = grind (arith, nat_tests)
-
 without-here : (v : ℕ) (b : Bound) (p : List Bound) → b.var ≡ v → removed_from v (b ∷ p) ≡ p
 without-here v b p e = grind (arith, nat_tests)
 
 without-there : (v : ℕ) (b : Bound) (p : List Bound) → b.var ≢ v → removed_from v (b ∷ p) ≡ b ∷ removed_from v p
 without-there v b p e = grind (arith, nat_tests)
 
-module _ (rank : ℕ → ℕ) (r1 r2 : ℕ) (lt : r1 < r2) where
-  ranked-above : (d : Bound) (q : List Bound) → r2 ≤ rank d.var → IsRankedFrom rank d q → IsRankedFrom (merged rank r1 r2) d q
+-- ranks of which two neighbours become one, and the others keep their order
+pub record IsJoint (f : ℕ → ℕ) (r1 r2 : ℕ) : Type 0 where
+  pub meet : f r1 ≡ f r2
+  pub low : (a b : ℕ) → a < b → b ≤ r1 → f a < f b
+  pub high : (a b : ℕ) → r2 ≤ a → a < b → f a < f b
+
+-- one rank in place of another one
+abbrev pub renamed : ℕ → ℕ → ℕ → ℕ
+renamed from to r = if r == from then to else r
+
+pub renamed-at : (from to r : ℕ) → r ≡ from → renamed from to r ≡ to
+renamed-at from to r e = grind (arith, nat_tests)
+
+pub renamed-off : (from to r : ℕ) → r ≢ from → renamed from to r ≡ r
+renamed-off from to r n = grind (arith, nat_tests)
+
+-- the higher rank may take the lower one's place, and the lower one the higher one's
+pub joint-down : (r1 r2 : ℕ) → r1 < r2 → IsJoint (renamed r2 r1) r1 r2
+joint-down r1 r2 lt = record {
+  meet = grind (arith, nat_tests);
+  low = λ a b h g. grind (arith, nat_tests);
+  high = λ a b h g. grind (arith, nat_tests);
+}
+
+pub joint-up : (r1 r2 : ℕ) → r1 < r2 → IsJoint (renamed r1 r2) r1 r2
+joint-up r1 r2 lt = record {
+  meet = grind (arith, nat_tests);
+  low = λ a b h g. grind (arith, nat_tests);
+  high = λ a b h g. grind (arith, nat_tests);
+}
+
+module _ (rank f : ℕ → ℕ) (r1 r2 : ℕ) (j : IsJoint f r1 r2) where
+  ranked-above : (d : Bound) (q : List Bound) → r2 ≤ rank d.var → IsRankedFrom rank d q → IsRankedFrom (λ v. f (rank v)) d q
   ranked-above d [] h r = tt
   ranked-above d (e ∷ q) h r =
-      let rest : r2 ≤ rank e.var → IsRankedFrom (merged rank r1 r2) e q = λ k. ranked-above e q k r.1 in
-      elim r.0 [
-        | inl s ↦ let x : rank d.var ≡ rank e.var = s.1 in (inl (s.0, ap (λ (k : ℕ). if k == r2 then r1 else k) x), rest (omega arith))
-        | inr l ↦
-            let x : rank d.var < rank e.var = l.1 in
-            let fe : merged rank r1 r2 e.var ≡ rank e.var = merged-off rank r1 r2 e.var (λ k. absurd (omega arith)) in
-            let fd : merged rank r1 r2 d.var ≤ rank d.var = elim (ℕ-cases (rank d.var) r2) [
-              | inl k ↦ let z = merged-at rank r1 r2 d.var k in omega arith
-              | inr k ↦ let z = merged-off rank r1 r2 d.var k in omega arith
-            ] in
-            (inr (l.0, omega arith), rest (omega arith))
-      ]
+      let rest : r2 ≤ rank e.var → IsRankedFrom (λ v. f (rank v)) e q = λ k. ranked-above e q k r.1 in
+      let n = next-le rank d e r.0 in (
+        elim r.0 [
+          | inl s ↦ inl (s.0, ap f s.1)
+          | inr l ↦ inr (l.0, j.high (rank d.var) (rank e.var) h l.1)
+        ],
+        rest (omega arith),
+      )
 
   between-rank : (x : Bound) (v : ℕ) (y b : Bound) (p : List Bound) → IsRankedFrom rank b p → IsBetween x v y b p → rank b.var ≤ rank x.var
   between-rank x v y b [] r h = absurd h
@@ -151,35 +172,30 @@ module _ (rank : ℕ → ℕ) (r1 r2 : ℕ) (lt : r1 < r2) where
   ]
 
   -- the last variable of its block goes, and the blocks beside it become one
-  pub ranked-merged : (x : Bound) (v : ℕ) (y b : Bound) (p : List Bound) → IsRankedFrom rank b p → IsBetween x v y b p → same_quant x.quant y.quant ≡ true → rank x.var ≡ r1 → rank y.var ≡ r2 → IsRankedFrom (merged rank r1 r2) b (removed_from v p)
-  ranked-merged x v y b [] r h s e f = absurd h
-  ranked-merged x v y b (c ∷ p) r h s e f = elim h [
-    | inl k ↦ here x v y b c p r k s e f
+  pub ranked-merged : (x : Bound) (v : ℕ) (y b : Bound) (p : List Bound) → IsRankedFrom rank b p → IsBetween x v y b p → same_quant x.quant y.quant ≡ true → rank x.var ≡ r1 → rank y.var ≡ r2 → IsRankedFrom (λ v. f (rank v)) b (removed_from v p)
+  ranked-merged x v y b [] r h s e g = absurd h
+  ranked-merged x v y b (c ∷ p) r h s e g = elim h [
+    | inl k ↦ here x v y b c p r k s e g
     | inr k ↦
-        let low = between-rank x v y c p r.1 k.1 in
-        let n = next-le rank b c r.0 in
-        let fb : merged rank r1 r2 b.var ≡ rank b.var = merged-off rank r1 r2 b.var (λ z. absurd (omega arith)) in
-        let fc : merged rank r1 r2 c.var ≡ rank c.var = merged-off rank r1 r2 c.var (λ z. absurd (omega arith)) in
+        let le = between-rank x v y c p r.1 k.1 in
         rw (without-there v c p k.0) (
           elim r.0 [
-            | inl z ↦ inl (z.0, fb ∙ z.1 ∙ sym fc)
-            | inr z ↦ let w : rank b.var < rank c.var = z.1 in inr (z.0, omega arith)
+            | inl z ↦ inl (z.0, ap f z.1)
+            | inr z ↦ inr (z.0, j.low (rank b.var) (rank c.var) z.1 (omega arith))
           ],
-          ranked-merged x v y c p r.1 k.1 s e f,
+          ranked-merged x v y c p r.1 k.1 s e g,
         )
   ]
     where
-      here : (x : Bound) (v : ℕ) (y b c : Bound) (p : List Bound) → IsRankedFrom rank b (c ∷ p) → (b ≡ x) × (c.var ≡ v) × StartsWith y p → same_quant x.quant y.quant ≡ true → rank x.var ≡ r1 → rank y.var ≡ r2 → IsRankedFrom (merged rank r1 r2) b (removed_from v (c ∷ p))
-      here x v y b c [] r k s e f = absurd k.2
-      here x v y b c (d ∷ q) r k s e f =
+      here : (x : Bound) (v : ℕ) (y b c : Bound) (p : List Bound) → IsRankedFrom rank b (c ∷ p) → (b ≡ x) × (c.var ≡ v) × StartsWith y p → same_quant x.quant y.quant ≡ true → rank x.var ≡ r1 → rank y.var ≡ r2 → IsRankedFrom (λ v. f (rank v)) b (removed_from v (c ∷ p))
+      here x v y b c [] r k s e g = absurd k.2
+      here x v y b c (d ∷ q) r k s e g =
           let dy : d ≡ y = k.2 in
-          let rd : rank d.var ≡ r2 = ap (λ (z : Bound). rank z.var) dy ∙ f in
+          let rd : rank d.var ≡ r2 = ap (λ (z : Bound). rank z.var) dy ∙ g in
           let rb : rank b.var ≡ r1 = ap (λ (z : Bound). rank z.var) k.0 ∙ e in
-          let fb : merged rank r1 r2 b.var ≡ rank b.var = merged-off rank r1 r2 b.var (λ z. absurd (omega arith)) in
-          let fd = merged-at rank r1 r2 d.var rd in
           let sq : same_quant b.quant d.quant ≡ true = rw (k.0, dy) s in
           rw (without-here v c (d ∷ q) k.1) (
-            inl (sq, fb ∙ rb ∙ sym fd),
+            inl (sq, ap f rb ∙ j.meet ∙ sym (ap f rd)),
             ranked-above d q (omega arith) r.1.1,
           )
 

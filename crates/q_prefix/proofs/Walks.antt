@@ -17,10 +17,10 @@ none-some x e = cc
 pub some-same : {X : Type 0} (x y : X) → Some x ≡ Some y → x ≡ y
 some-same x y e = cc
 
-following-here : (p y : ℕ) (ys : List ℕ) → y ≡ p → following p (y ∷ ys) ≡ slice_get ys 0
+pub following-here : (p y : ℕ) (ys : List ℕ) → y ≡ p → following p (y ∷ ys) ≡ slice_get ys 0
 following-here p y ys f = grind (arith, nat_tests)
 
-following-later : (p y : ℕ) (ys : List ℕ) → y ≢ p → following p (y ∷ ys) ≡ following p ys
+pub following-later : (p y : ℕ) (ys : List ℕ) → y ≢ p → following p (y ∷ ys) ≡ following p ys
 following-later p y ys n = grind (arith, nat_tests)
 
 pub following-has : (p q : ℕ) (ys : List ℕ) → following p ys ≡ Some q → Has ys q
@@ -28,6 +28,13 @@ following-has p q [] e = absurd (none-some q e)
 following-has p q (y ∷ ys) e = elim (ℕ-cases y p) [
   | inl f ↦ inr (first-has ys q (sym (following-here p y ys f) ∙ e))
   | inr n ↦ inr (following-has p q ys (sym (following-later p y ys n) ∙ e))
+]
+
+pub followed-has : (p q : ℕ) (ys : List ℕ) → following p ys ≡ Some q → Has ys p
+followed-has p q [] e = absurd (none-some q e)
+followed-has p q (y ∷ ys) e = elim (ℕ-cases y p) [
+  | inl f ↦ inl (sym f)
+  | inr n ↦ inr (followed-has p q ys (sym (following-later p y ys n) ∙ e))
 ]
 
 pub get-has : (L : List ℕ) (i v : ℕ) → slice_get L i ≡ Some v → Has L v

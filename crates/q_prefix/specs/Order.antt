@@ -1,5 +1,5 @@
 -- The order of a prefix, and ranks that tell it.
-use Rattle.std.specs.Prelude.{◌≡◌, ◌⊎◌, ◌≤◌, ◌<◌, ℕ, true, false, cond, eqb, if◌then◌else◌, ◌==◌, List, [], ◌∷◌, length, map, Option, None, Some, slice_get, slice_index_or}
+use Rattle.std.specs.Prelude.{◌≡◌, ◌⊎◌, ◌≤◌, ◌<◌, ℕ, true, false, cond, eqb, List, [], ◌∷◌, length, map, Option, None, Some, slice_get, slice_index_or}
 use Rattle.q_logic.specs.declared.formulas.Quant.{Quant}
 use Rattle.q_logic.specs.declared.formulas.Quant.TheVariants.{Exists}
 use Rattle.q_logic.specs.declared.formulas.Bound.{Bound}
@@ -44,10 +44,6 @@ IsRankedFrom rank b (c ∷ p) = IsNext rank b c × IsRankedFrom rank c p
 abbrev pub IsRanked : (ℕ → ℕ) → List Bound → Type 0
 IsRanked rank [] = Unit {0}
 IsRanked rank (b ∷ p) = IsRankedFrom rank b p
-
--- one rank in place of another one
-abbrev pub merged : (ℕ → ℕ) → ℕ → ℕ → ℕ → ℕ
-merged rank r1 r2 v = if rank v == r2 then r1 else rank v
 
 -- what is known of a variable
 abbrev pub no_mark : Mark

@@ -1,11 +1,12 @@
-ghost use Rattle.std.specs.Prelude.{◌≡◌, ◌≤◌, ◌<◌, ◌+◌, ◌∷◌, [], ℕ, List, length, slice_get, Option, Some, None, true, false};
+ghost use Rattle.std.specs.Prelude.{◌≡◌, ◌≤◌, ◌<◌, ◌+◌, ◌∷◌, [], ℕ, List, length, slice_get, nat_le, Option, Some, None, true, false};
 ghost use Rattle.q_logic.specs.Prefixes.{Distinct, same_quant};
 ghost use Rattle.q_logic.specs.declared.formulas.Bound.{Bound as BoundValue};
 ghost use Rattle.q_arena.specs.Rings.{Has};
-ghost use Rattle.q_arena.specs.Chains.{list_at};
+ghost use Rattle.q_arena.specs.Chains.{list_at, following};
 ghost use Rattle.q_prefix.specs.Order.{IsPrefix, IsRanked, IsRankBefore, IsParted, bounds_of, mark_at, rank_of};
+ghost use Rattle.q_prefix.specs.Blocks.{ahead, block_from, mate_of};
 
-use crate::marks::{Mark, mark_of, relabel, same};
+use crate::marks::{Mark, mark_of, same, set_rank};
 use q_arena::Rings;
 use q_logic::Bound;
 
@@ -62,7 +63,8 @@ fn rank_before(bounds: &[Bound], place: usize, rank: u32) -> u32
     }
 }
 
-/// Where the variables that are now neighbours have one quantifier, their blocks become one.
+/// Where the variables that are now neighbours have one quantifier, their blocks become one: the smaller
+/// block takes the other's rank.
 pub fn join_blocks(
     order: &Rings,
     marks: &mut Vec<Mark>,
@@ -85,5 +87,78 @@ pub fn join_blocks(
     if first.rank == second.rank {
         return;
     }
-    relabel(marks, second.rank, first.rank);
+    order.distinct();
+    if is_smaller(order, marks, x, y) {
+        rename(order, marks, x, false, second.rank);
+    } else {
+        rename(order, marks, y, true, first.rank);
+    }
+}
+
+// Whether the block that ends at x is no larger than the one that begins at y. One walk goes back from x and one
+// on from y, in step, up to the end of the smaller block.
+fn is_smaller(order: &Rings, marks: &Vec<Mark>, x: usize, y: usize) -> bool
+    requires before { Has (list_at order.now 0) x }
+    requires after { Has (list_at order.now 0) y }
+    ensures { result ≡ nat_le (length (block_from (rank_of marks.now.items) x (ahead false (list_at order.now 0)))) (length (block_from (rank_of marks.now.items) y (ahead true (list_at order.now 0)))) }
+{
+    order.distinct();
+    let mut before = x;
+    let mut after = y;
+    loop {
+        let Some(b) = mate(order, marks, before, false) else {
+            return true;
+        };
+        let Some(a) = mate(order, marks, after, true) else {
+            return false;
+        };
+        before = b;
+        after = a;
+    }
+}
+
+// Gives the variables of a block another rank, from the one at its end on.
+fn rename(order: &Rings, marks: &mut Vec<Mark>, start: usize, forward: bool, to: u32)
+    requires there { Has (list_at order.now 0) start }
+    requires within { (v : ℕ) → Has (list_at order.now 0) v → v < length marks.old.items }
+    ensures len { length marks.new.items ≡ length marks.old.items }
+    ensures quant { (v : ℕ) → (mark_at marks.new.items v).quant ≡ (mark_at marks.old.items v).quant }
+    ensures bound { (v : ℕ) → (mark_at marks.new.items v).bound ≡ (mark_at marks.old.items v).bound }
+    ensures block { (v : ℕ) → Has (block_from (rank_of marks.old.items) start (ahead forward (list_at order.now 0))) v → rank_of marks.new.items v ≡ to }
+    ensures others { (v : ℕ) → (Has (block_from (rank_of marks.old.items) start (ahead forward (list_at order.now 0))) v → ⊥) → rank_of marks.new.items v ≡ rank_of marks.old.items v }
+{
+    order.distinct();
+    let mut at = Some(start);
+    while let Some(var) = at {
+        at = mate(order, marks, var, forward);
+        set_rank(marks, var, to);
+    }
+}
+
+// The next variable of a block in one direction.
+fn mate(order: &Rings, marks: &Vec<Mark>, var: usize, forward: bool) -> Option<usize>
+    requires { Has (list_at order.now 0) var }
+    ensures { result ≡ mate_of (rank_of marks.now.items) var (ahead forward (list_at order.now 0)) }
+{
+    let Some(next) = beside(order, var, forward) else {
+        return None;
+    };
+    if mark_of(marks, next).rank == mark_of(marks, var).rank {
+        Some(next)
+    } else {
+        None
+    }
+}
+
+// The neighbour of a variable in one direction.
+fn beside(order: &Rings, var: usize, forward: bool) -> Option<usize>
+    requires { Has (list_at order.now 0) var }
+    ensures { result ≡ following var (ahead forward (list_at order.now 0)) }
+{
+    order.distinct();
+    if forward {
+        order.next(var)
+    } else {
+        order.prev(var)
+    }
 }

@@ -1,6 +1,6 @@
-ghost use Rattle.std.specs.Prelude.{◌≡◌, ◌⊎◌, ◌≤◌, ◌<◌, ◌+◌, ℕ, Bool, length, OnOk};
+ghost use Rattle.std.specs.Prelude.{◌≡◌, ◌⊎◌, ◌≢◌, ◌≤◌, ◌<◌, ℕ, Bool, length, OnOk};
 ghost use Rattle.q_logic.specs.Prefixes.{same_quant};
-ghost use Rattle.q_prefix.specs.Order.{mark_at, merged, rank_of};
+ghost use Rattle.q_prefix.specs.Order.{mark_at, rank_of};
 
 use q_logic::{NoMemory, Quant};
 
@@ -59,21 +59,15 @@ pub fn grow_marks(marks: &mut Vec<Mark>, room: usize) -> Result<(), NoMemory>
     Ok(())
 }
 
-/// Gives each variable of one rank another one.
-pub fn relabel(marks: &mut Vec<Mark>, from: u32, to: u32)
+/// Gives a variable another rank.
+pub fn set_rank(marks: &mut Vec<Mark>, var: usize, rank: u32)
+    requires { var < length marks.old.items }
     ensures len { length marks.new.items ≡ length marks.old.items }
     ensures quant { (v : ℕ) → (mark_at marks.new.items v).quant ≡ (mark_at marks.old.items v).quant }
     ensures bound { (v : ℕ) → (mark_at marks.new.items v).bound ≡ (mark_at marks.old.items v).bound }
-    ensures rank { (v : ℕ) → v < length marks.old.items → rank_of marks.new.items v ≡ merged (rank_of marks.old.items) to from v }
+    ensures rank { rank_of marks.new.items var ≡ rank }
+    ensures others { (v : ℕ) → v ≢ var → rank_of marks.new.items v ≡ rank_of marks.old.items v }
 {
-    for var in 0..marks.len() {
-        let mark = mark_of(marks, var);
-        if mark.rank == from {
-            marks[var] = Mark {
-                quant: mark.quant,
-                bound: mark.bound,
-                rank: to,
-            };
-        }
-    }
+    let mark = mark_of(marks, var);
+    marks[var] = Mark { rank, ..mark };
 }

@@ -16,6 +16,16 @@ const THREE: Bound = Bound {
     var: 3,
 };
 
+const FOUR: Bound = Bound {
+    quant: Quant::Exists,
+    var: 4,
+};
+
+const FIVE: Bound = Bound {
+    quant: Quant::Forall,
+    var: 5,
+};
+
 // Whether a variable that is there stands at or before another one, or in its block.
 fn is_outer(prefix: &Prefix, a: u32, b: u32) -> bool {
     if !prefix.contains(a) || !prefix.contains(b) {
@@ -59,6 +69,25 @@ fn blocks_become_one(rt: HostRuntime) -> Result<(), NoMemory> {
     assert_eq!(rt; prefix.quant(2), None);
     assert!(rt; is_outer(&prefix, 3, 1));
     assert_eq!(rt; at(&prefix, 1), Some(THREE));
+    Ok(())
+}
+
+#[test]
+fn the_smaller_block_joins_the_larger(rt: HostRuntime) -> Result<(), NoMemory> {
+    let mut first = Prefix::new(rt.alloc(), &[ONE, TWO, THREE, FOUR, FIVE])?;
+    let mut last = Prefix::new(rt.alloc(), &[THREE, FOUR, TWO, ONE, FIVE])?;
+    remove(&mut first, 2);
+    remove(&mut last, 2);
+    for (a, b, outer) in [
+        (1, 4, true),
+        (4, 1, true),
+        (3, 1, true),
+        (4, 5, true),
+        (5, 1, false),
+    ] {
+        assert_eq!(rt; is_outer(&first, a, b), outer, "{a} {b}");
+        assert_eq!(rt; is_outer(&last, a, b), outer, "{a} {b}");
+    }
     Ok(())
 }
 
