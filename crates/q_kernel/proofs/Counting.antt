@@ -1,5 +1,5 @@
 -- How many variables occur, what is left of a prefix without the idle ones, and its greatest variable.
-use Rattle.std.proofs.Common.{◌≡◌, ◌≢◌, ◌⊎◌, ◌↔◌, ◌≤◌, ◌<◌, ◌+◌, ℕ, suc, Bool, true, false, cond, eqb, not, ◌&&◌, List, [], ◌∷◌, length, inl, inr, arith, refl, sym, ap, ◌∙◌, subst, true≢false}
+use Rattle.std.proofs.Common.{◌≡◌, ◌⊎◌, ◌↔◌, ◌≤◌, ◌<◌, ◌+◌, ℕ, suc, Bool, true, false, cond, eqb, not, ◌&&◌, List, [], ◌∷◌, length, inl, inr, arith, refl, sym, ap, ◌∙◌, subst, true≢false}
 use Rattle.std.proofs.lemmas.Bool.Decides.{nat_tests}
 use Rattle.std.specs.List.{AllByRecursion}
 use Rattle.q_logic.specs.declared.formulas.Bound.{Bound}
@@ -12,8 +12,6 @@ use Rattle.q_logic.specs.Steps.{insert_after, removed_from}
 use Rattle.q_logic.specs.Sweep.{occurs, occurring}
 use Rattle.q_logic.specs.Measure.{one_if, existentials_in, universals_in}
 use Rattle.q_logic.specs.InLimits.{greatest, larger_of}
-use Rattle.q_logic.proofs.Ordering.{is_bound-greatest}
-use Rattle.q_logic.proofs.Prefixes.{removed-is_bound}
 use Rattle.q_arena.specs.Rings.{Has, AreApart, AreBelow, without}
 use Rattle.q_arena.proofs.Numbers.{ℕ-cases}
 use Rattle.q_arena.proofs.Paths.{Misses-not, Misses-from}
@@ -195,35 +193,14 @@ occurring-all (b ∷ P) X h =
     later : (v : ℕ) → is_bound P v ≡ true → occurs v X ≡ true
     later v e = h v (grind arith)
 
-occurring-occurs : (P : Prefix) (X : Matrix) (v : ℕ) → is_bound (occurring P X) v ≡ true → occurs v X ≡ true
-occurring-occurs [] X v h = grind arith
-occurring-occurs (b ∷ P) X v h = go (occurs b.var X) refl h (occurring-occurs P X v)
-  where
-    go : (t : Bool) → occurs b.var X ≡ t → is_bound (cond t (b ∷ occurring P X) (occurring P X)) v ≡ true → (is_bound (occurring P X) v ≡ true → occurs v X ≡ true) → occurs v X ≡ true
-    go true o h ih = elim (ℕ-cases b.var v) [
-      | inl e ↦ subst (λ (k : ℕ). occurs k X ≡ true) e o
-      | inr n ↦ ih (grind (arith, nat_tests))
-    ]
-    go false o h ih = ih h
-
-pub all-occurring : (P : Prefix) (X : Matrix) → occurring P X ≡ P → (v : ℕ) → is_bound P v ≡ true → occurs v X ≡ true
-all-occurring P X e v h = occurring-occurs P X v (subst (λ (Q : Prefix). is_bound Q v ≡ true) (sym e) h)
-
 module _ (g : Groups) (P : Prefix) (X : Matrix) (u : AreUses g P (λ v. occurs v X)) where
-  -- Where no variable is idle, sweeping leaves the prefix as it is, and the other way round.
+  -- Where no variable is idle, sweeping leaves the prefix as it is.
   pub none_idle-occurring : g.idle ≡ [] → occurring P X ≡ P
   none_idle-occurring e = occurring-all P X (λ v h. go v h (occurs v X) refl)
     where
       go : (v : ℕ) → is_bound P v ≡ true → (t : Bool) → occurs v X ≡ t → t ≡ true
       go v h true o = refl
       go v h false o = absurd (subst (λ (ys : List ℕ). Has ys v) e ((u.idle v).1 (h, o)))
-
-  pub occurring-none_idle : occurring P X ≡ P → g.idle ≡ []
-  occurring-none_idle e = none g.idle (λ v h. let r : (is_bound P v ≡ true) × (occurs v X ≡ false) = (u.idle v).0 h in true≢false (sym (all-occurring P X e v r.0) ∙ r.1))
-    where
-      none : (ys : List ℕ) → ((v : ℕ) → Has ys v → ⊥) → ys ≡ []
-      none [] n = refl
-      none (y ∷ ys) n = absurd (n y (inl refl))
 
 -- An idle variable that leaves changes nothing of what sweeping leaves.
 pub occurring-removed : (v : ℕ) (P : Prefix) (X : Matrix) → occurs v X ≡ false → occurring (removed_from v P) X ≡ occurring P X
@@ -238,34 +215,9 @@ occurring-removed v (b ∷ P) X o = elim (ℕ-cases b.var v) [
       ap (λ (s : Bool). occurring (cond s P (b ∷ removed_from v P)) X) t ∙ ap (λ (Q : Prefix). cond (occurs b.var X) (b ∷ Q) Q) (occurring-removed v P X o)
 ]
 
--- Variables taken out one after the other.
-abbrev pub removed_all : List ℕ → Prefix → Prefix
-removed_all [] P = P
-removed_all (v ∷ vs) P = removed_all vs (removed_from v P)
-
-pub occurring-removed_all : (vs : List ℕ) (P : Prefix) (X : Matrix) → ((v : ℕ) → Has vs v → occurs v X ≡ false) → occurring (removed_all vs P) X ≡ occurring P X
-occurring-removed_all [] P X h = refl
-occurring-removed_all (v ∷ vs) P X h = occurring-removed_all vs (removed_from v P) X (λ w i. h w (inr i)) ∙ occurring-removed v P X (h v (inl refl))
-
 -- The greatest variable.
-larger-left : (m n : ℕ) → m ≤ larger_of m n
-larger-left m n = omega arith
-
 larger-right : (m n : ℕ) → n ≤ larger_of m n
 larger-right m n = omega arith
-
-larger-most : (m n k : ℕ) → m ≤ k → n ≤ k → larger_of m n ≤ k
-larger-most m n k a b = omega arith
-
-pub greatest-most : (P : Prefix) (m : ℕ) → ((v : ℕ) → is_bound P v ≡ true → v ≤ m) → greatest P ≤ m
-greatest-most [] m h = omega arith
-greatest-most (b ∷ P) m h = larger-most b.var (greatest P) m (h b.var (grind (arith, nat_tests))) (greatest-most P m (λ v e. h v (later v e)))
-  where
-    later : (v : ℕ) → is_bound P v ≡ true → is_bound (b ∷ P) v ≡ true
-    later v e = grind arith
-
-pub greatest-is : (P : Prefix) (m : ℕ) → is_bound P m ≡ true → ((v : ℕ) → is_bound P v ≡ true → v ≤ m) → greatest P ≡ m
-greatest-is P m b h = let x : m ≤ greatest P = is_bound-greatest P m b in let y : greatest P ≤ m = greatest-most P m h in omega arith
 
 pub greatest-bound : (P : Prefix) → 1 ≤ greatest P → is_bound P (greatest P) ≡ true
 greatest-bound [] h = grind arith
@@ -305,31 +257,6 @@ greatest-removed_most v (b ∷ P) = go (eqb b.var v) (greatest-removed_most v P)
     go : (t : Bool) → greatest (removed_from v P) ≤ greatest P → greatest (cond t P (b ∷ removed_from v P)) ≤ larger_of b.var (greatest P)
     go true h = larger-right b.var (greatest P)
     go false h = more b.var (greatest (removed_from v P)) (greatest P) h
-
-pub greatest-removed_other : (v : ℕ) (P : Prefix) → v ≢ greatest P → greatest (removed_from v P) ≡ greatest P
-greatest-removed_other v P n = elim (ℕ-cases (greatest P) 0) [
-  | inl e ↦ let m : greatest (removed_from v P) ≤ greatest P = greatest-removed_most v P in omega arith
-  | inr s ↦
-      let b : is_bound P (greatest P) ≡ true = greatest-bound P (omega arith) in
-      let t : eqb (greatest P) v ≡ false = grind (arith, nat_tests) in
-      let i : is_bound (removed_from v P) (greatest P) ≡ true = removed-is_bound v P (greatest P) t ∙ b in
-      let l : greatest P ≤ greatest (removed_from v P) = is_bound-greatest (removed_from v P) (greatest P) i in
-      let m : greatest (removed_from v P) ≤ greatest P = greatest-removed_most v P in omega arith
-]
-
-pub greatest-occurring_most : (P : Prefix) (X : Matrix) → greatest (occurring P X) ≤ greatest P
-greatest-occurring_most [] X = omega arith
-greatest-occurring_most (b ∷ P) X = go (occurs b.var X) (greatest-occurring_most P X)
-  where
-    more : (x y z : ℕ) → y ≤ z → larger_of x y ≤ larger_of x z
-    more x y z h = omega arith
-
-    right : (x y z : ℕ) → y ≤ z → y ≤ larger_of x z
-    right x y z h = omega arith
-
-    go : (t : Bool) → greatest (occurring P X) ≤ greatest P → greatest (cond t (b ∷ occurring P X) (occurring P X)) ≤ larger_of b.var (greatest P)
-    go true h = more b.var (greatest (occurring P X)) (greatest P) h
-    go false h = right b.var (greatest (occurring P X)) (greatest P) h
 
 -- A prefix of distinct variables below a number is no longer than that number.
 abbrev pub variables_of : Prefix → List ℕ

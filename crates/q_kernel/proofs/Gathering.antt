@@ -4,7 +4,6 @@ use Rattle.std.specs.Prelude.{slice_range}
 use Rattle.q_logic.specs.Literals.{Literal}
 use Rattle.q_logic.specs.Formulas.{Clause, Matrix}
 use Rattle.q_logic.specs.Parts.{AreEnds, clauses_between}
-use Rattle.q_logic.specs.Steps.{literals_in}
 use Rattle.q_logic.specs.Numbered.{Slots, slot, set_slot, live, numbered, put_first}
 use Rattle.q_arena.proofs.Numbers.{ℕ-cases}
 use Rattle.q_kernel.proofs.Slotting.{slot-set_same, slot-set_other, live-same, live-numbered}
@@ -33,9 +32,6 @@ numbered-past X zero c h = none X
 numbered-past [] (suc k) c h = refl
 numbered-past (C ∷ X) (suc k) zero h = absurd (not-suc-le-zero h)
 numbered-past (C ∷ X) (suc k) (suc c) h = numbered-past X k c (le_of_suc-le-suc h)
-
-pub first-none : (N : Slots) (X : Matrix) → ((c : ℕ) → slot N c ≡ None) → AreFirst N X 0
-first-none N X h c = h c ∙ sym (numbered-past X 0 c (omega arith))
 
 pub first-free : (N : Slots) (X : Matrix) (k : ℕ) → AreFirst N X k → slot N k ≡ None
 first-free N X k h = h k ∙ numbered-past X k k (omega arith)
@@ -148,17 +144,6 @@ clauses-push lits more from (e ∷ ends) h =
     let r : slice_range (lits ++ more) from e ≡ slice_range lits from e = early lits more from (e - from) (within (length lits) from e (ends-low e ends (length lits) h.1)) in
     let i = clauses-push lits more e ends h.1 in
     rw (r, i) refl
-
--- How many literals the clauses have.
-pub literals-append : (X Y : Matrix) → literals_in (X ++ Y) ≡ literals_in X + literals_in Y
-literals-append [] Y = omega arith
-literals-append (C ∷ X) Y = let i : literals_in (X ++ Y) ≡ literals_in X + literals_in Y = literals-append X Y in omega arith
-
-pub gathered-fewer : (N : Slots) (from : ℕ) → (literals_in (live (take from N)) ≤ literals_in (live N)) × (length (live (take from N)) ≤ length (live N))
-gathered-fewer N zero = subst (λ (X : Matrix). (literals_in X ≤ literals_in (live N)) × (length X ≤ length (live N))) (sym (gathered-none N)) (omega arith, omega arith)
-gathered-fewer [] (suc from) = (omega arith, omega arith)
-gathered-fewer (None ∷ N) (suc from) = gathered-fewer N from
-gathered-fewer (Some C ∷ N) (suc from) = let i : (literals_in (live (take from N)) ≤ literals_in (live N)) × (length (live (take from N)) ≤ length (live N)) = gathered-fewer N from in (omega (arith, i.0), omega (arith, i.1))
 
 -- the parts so far, and one clause more
 pub record AreGathered (N : Slots) (from : ℕ) (lits : List Literal) (ends : List ℕ) : Type 0 where

@@ -1,23 +1,21 @@
 -- What holds of a kernel stays when a clause comes, goes or is shortened.
-use Rattle.std.proofs.Common.{◌≡◌, ◌≢◌, ◌⊎◌, ◌↔◌, ◌≤◌, ◌<◌, ◌+◌, ◌-◌, ◌*◌, ℕ, Bool, true, false, ◌&&◌, ◌||◌, if◌then◌else◌, List, [], ◌∷◌, length, set, inl, inr, arith, refl, sym, ap, ◌∙◌, subst, Option, Some, None, true≢false}
+use Rattle.std.proofs.Common.{◌≡◌, ◌≢◌, ◌⊎◌, ◌≤◌, ◌<◌, ◌+◌, ◌-◌, ◌*◌, ℕ, Bool, true, false, ◌&&◌, ◌||◌, if◌then◌else◌, [], ◌∷◌, length, set, inl, inr, arith, refl, sym, ap, ◌∙◌, subst, Option, Some, None, true≢false}
 use Rattle.std.specs.List.{AllByRecursion}
 use Rattle.q_logic.specs.Literals.{Literal, IsBelow, pack}
 use Rattle.q_logic.specs.Formulas.{Clause, Matrix, Prefix, IsIn}
 use Rattle.q_logic.specs.Parts.{ArePairs, IsProper}
 use Rattle.q_logic.specs.Pivots.{without}
-use Rattle.q_logic.specs.Prefixes.{is_bound, is_existential, is_universal}
 use Rattle.q_logic.specs.Steps.{Within}
 use Rattle.q_logic.specs.Runs.{copies}
 use Rattle.q_logic.specs.Sweep.{has_variable, occurs}
 use Rattle.q_logic.specs.Numbered.{Slots, slot, set_slot, live, others, formula_of}
-use Rattle.q_logic.specs.InLimits.{greatest}
 use Rattle.q_logic.proofs.UniversalPivot.{without-IsIn}
 use Rattle.q_log.proofs.Lengths.{in_front-length}
 use Rattle.q_logic.proofs.Measuring.{occurs_var-find, occurs_var-IsIn}
 use Rattle.q_logic.proofs.Parts.{AllByRecursion-IsIn}
 use Rattle.q_logic.proofs.Slots.{slot-alike}
 use Rattle.q_arena.specs.Chains.{Chains}
-use Rattle.q_arena.specs.Rings.{Has, AreApart}
+use Rattle.q_arena.specs.Rings.{Has}
 use Rattle.q_arena.specs.Seen.{Clauses}
 use Rattle.q_arena.proofs.Numbers.{ℕ-cases}
 use Rattle.q_arena.proofs.Pieces.{none-some, Some-same}
@@ -199,17 +197,6 @@ counted-shorter N id C D n s e h f k = record {
 pub length-shorter : (l : Literal) (C : Clause) → ArePairs IsBelow C → IsIn l C → length C ≡ length (without l C) + 1
 length-shorter l C o m = let e = in_front-length l C o m in omega arith
 
--- Groups with the same variables.
-uses-equal : (g h : Groups) (P : Prefix) (occ : ℕ → Bool) → AreUses g P occ → h.idle ≡ g.idle → h.existentials ≡ g.existentials → h.universals ≡ g.universals → AreUses h P occ
-uses-equal g h P occ u i e v = record {
-  idle = λ w. subst (λ (ys : List ℕ). Has ys w ↔ ((is_bound P w ≡ true) × (occ w ≡ false))) (sym i) (u.idle w);
-  existentials = λ w. subst (λ (ys : List ℕ). Has ys w ↔ ((is_existential P w ≡ true) × (occ w ≡ true))) (sym e) (u.existentials w);
-  universals = λ w. subst (λ (ys : List ℕ). Has ys w ↔ ((is_universal P w ≡ true) × (occ w ≡ true))) (sym v) (u.universals w);
-  apart_idle = subst AreApart (sym i) u.apart_idle;
-  apart_existentials = subst AreApart (sym e) u.apart_existentials;
-  apart_universals = subst AreApart (sym v) u.apart_universals;
-}
-
 -- The parts of a kernel after a change.
 pub same-listed : (o q : Chains) (a b : Clauses) → AreLinked o a → AreLinked q b → ((c : ℕ) → slot b.clauses c ≡ slot a.clauses c) → (v : ℕ) → is_listed q v ≡ is_listed o v
 same-listed o q a b x y s v = listed-occurs q b y v ∙ ap (occurs v) (live-same b.clauses a.clauses s) ∙ sym (listed-occurs o a x v)
@@ -227,18 +214,6 @@ module _ (P : FlatPrefix) (a : Clauses) (o : Chains) (g : Groups) (n s e t most 
         counted = subst (λ (X : Matrix). IsCounted X n s e) (sym l) k.counted;
         top = k.top;
       }
-
-  -- more room for variables
-  pub kernel-wider : (Q : FlatPrefix) (h : Groups) (more : ℕ) → Q.bounds ≡ P.bounds → most ≤ more → 2 * more + 2 ≤ length o.lists → more < h.room → more ≤ Q.greatest
-      → h.idle ≡ g.idle → h.existentials ≡ g.existentials → h.universals ≡ g.universals → IsKernel Q a o h n s e t more
-  kernel-wider Q h more eb le lists rows marks ei ee eu = record {
-    proper = subst (λ (R : Prefix). IsProper (formula_of R (live a.clauses))) (sym eb) k.proper;
-    linked = k.linked;
-    roomy = record { places = k.roomy.places; lists = lists; rows = rows; marks = marks; vars = λ v b. let r = k.roomy.vars v (subst (λ (R : Prefix). is_bound R v ≡ true) eb b) in omega arith };
-    grouped = subst (λ (R : Prefix). AreUses h R (is_listed o)) (sym eb) (uses-equal g h P.bounds (is_listed o) k.grouped ei ee eu);
-    counted = k.counted;
-    top = subst (λ (R : Prefix). t ≡ greatest R) (sym eb) k.top;
-  }
 
   module _ (b : Clauses) (q : Chains) (h : Groups) (id : ℕ) (y : AreLinked q b) (room : b.room ≡ a.room) (kept : KeepsRoom o q) (rows : h.room ≡ g.room) where
     changed-roomy : IsRoomy P b q h most

@@ -9,15 +9,14 @@ use Rattle.q_logic.specs.Literals.{Literal, IsBelow, literal_eq}
 use Rattle.q_logic.specs.Formulas.{Clause, Matrix, Prefix, IsIn, PrenexFormula}
 use Rattle.q_logic.specs.Parts.{ArePairs, IsProper}
 use Rattle.q_logic.specs.Pivots.{without}
-use Rattle.q_logic.specs.Prefixes.{IsFormula, blocks, SameBlocks}
+use Rattle.q_logic.specs.Prefixes.{IsFormula}
 use Rattle.q_logic.specs.Propagation.{Implied}
 use Rattle.q_logic.specs.Limits.{standard}
 use Rattle.q_logic.specs.Steps.{ProofStep, add, delete, drop_literal, fresh, remove_variable, Valid, after, KeepsLimits, clause_eq, one_less, insert_after, removed_from, literals_in}
-use Rattle.q_logic.specs.Runs.{ValidSteps, copies, Run}
-use Rattle.q_logic.specs.Measure.{size_of}
+use Rattle.q_logic.specs.Runs.{ValidSteps, copies}
 use Rattle.q_logic.specs.Numbered.{Slots, slot, set_slot, live, formula_of}
 use Rattle.q_logic.proofs.Justified.{Justified, Valid-justified}
-use Rattle.q_logic.proofs.Reaching.{SameClauses, alike-refl, alike-sym, alike-trans, alike-cons, one_less-same, one_less-alike, IsIn-alike, IsIn-copies, valid-alike, SameBlocks-refl, alike-uncons}
+use Rattle.q_logic.proofs.Reaching.{SameClauses, alike-refl, alike-sym, alike-trans, alike-cons, one_less-same, one_less-alike, IsIn-alike, IsIn-copies, valid-alike, alike-uncons}
 use Rattle.q_logic.proofs.Runs.{clause_eq-sound, one_less-IsIn}
 use Rattle.q_logic.proofs.Soundness.{after-formula}
 use Rattle.q_logic.proofs.Parts.{AllByRecursion-IsIn}
@@ -30,7 +29,7 @@ use Rattle.q_logic.proofs.Heights.{length-one_less, literals-one_less}
 use Rattle.q_log.specs.Texts.{IsLogged, step_text, steps_text}
 use Rattle.q_kernel.specs.Kernels.{Seen, slots, formula_in, SameView}
 use Rattle.q_kernel.specs.Changes.{AreAlike, IsLed}
-use Rattle.q_kernel.proofs.Slotting.{slot-below, slot-IsIn, alike-added, alike-deleted, alike-changed, length-set_slot, size-parts}
+use Rattle.q_kernel.proofs.Slotting.{slot-below, slot-IsIn, alike-added, alike-deleted, alike-changed, length-set_slot}
 
 -- Alike formulas.
 pub alike-itself : (F : PrenexFormula) → AreAlike F F
@@ -222,13 +221,6 @@ led-freshened a b v w g h t prefix change = led-step a b (fresh v w) g h t (alik
 pub led-removed : (a b : Seen) (v : ℕ) → IsLogged (remove_variable v) → Valid standard (formula_in a) (remove_variable v) → b.text ≡ a.text ++ step_text (remove_variable v) → b.prefix ≡ removed_from v a.prefix → slots b ≡ slots a → IsLed a b
 led-removed a b v g h t prefix change = led-step a b (remove_variable v) g h t (alike-after_remove a b v prefix change)
 
--- They are a run.
-pub alike-blocks : (F G : PrenexFormula) → F.prefix ≡ G.prefix → SameBlocks (blocks F.prefix) (blocks G.prefix)
-alike-blocks F G e = subst (λ (P : Prefix). SameBlocks (blocks F.prefix) (blocks P)) e (SameBlocks-refl (blocks F.prefix))
-
-pub led-run : (a b : Seen) (h : IsLed a b) → Run (formula_in a) h.steps (formula_in b)
-led-run a b h = record { last = h.last; steps = h.valid; same = record { same_blocks = alike-blocks h.last (formula_in b) h.alike.prefix; same_clauses = h.alike.clauses } }
-
 -- A valid step keeps a proper formula, if a clause that it adds is in literal order.
 abbrev pub IsOrderedStep : ProofStep → Type 0
 IsOrderedStep (add p C) = ArePairs IsBelow C
@@ -289,29 +281,3 @@ after-proper F s p v h = record {
   ranges = after-ranges F s p.ranges v;
   ordered = after-ordered F s p.ordered v h;
 }
-
-pub proper-alike : (F G : PrenexFormula) → AreAlike F G → IsProper F → IsProper G
-proper-alike F G a p = subst (λ (P : Prefix). IsProper (formula_of P G.matrix)) a.prefix (record {
-  formula = record { distinct = p.formula.distinct; closed = λ D m. p.formula.closed D (IsIn-alike G.matrix F.matrix (alike-sym F.matrix G.matrix a.clauses) D m) };
-  ranges = p.ranges;
-  ordered = all-members (ArePairs IsBelow) G.matrix (λ D m. AllByRecursion-IsIn (ArePairs IsBelow) F.matrix D p.ordered (IsIn-alike G.matrix F.matrix (alike-sym F.matrix G.matrix a.clauses) D m));
-})
-
--- A kernel's formula after one step, and after the two of a shorter clause.
-pub proper-step : (a b : Seen) (s : ProofStep) → IsProper (formula_in a) → Valid standard (formula_in a) s → IsOrderedStep s → AreAlike (after (formula_in a) s) (formula_in b) → IsProper (formula_in b)
-proper-step a b s p v o h = proper-alike (after (formula_in a) s) (formula_in b) h (after-proper (formula_in a) s p v o)
-
-pub proper-shrunk : (a b : Seen) (p q : Option Literal) (l : Literal) (C : Clause) (id : ℕ) → IsProper (formula_in a) → IsIn l C → Valid standard (formula_in a) (add p (without l C)) → slot (slots a) id ≡ Some C → slots b ≡ set_slot id (Some (without l C)) (slots a) → b.prefix ≡ a.prefix → IsProper (formula_in b)
-proper-shrunk a b p q l C id f m v was change prefix =
-    let i : IsIn C (live (slots a)) = slot-IsIn (slots a) id C was in
-    let F : PrenexFormula = after (formula_in a) (add p (without l C)) in
-    let o : ArePairs IsBelow (without l C) = without-in_order l C (AllByRecursion-IsIn (ArePairs IsBelow) (live (slots a)) C f.ordered i) in
-    proper-alike (after F (delete q C)) (formula_in b) (alike-after_shrink a b p q l C id m was change prefix)
-    (after-proper F (delete q C) (after-proper (formula_in a) (add p (without l C)) f v o) (valid-longer (formula_in a) p q l C f.formula m i) tt)
-
--- A clause that may come leaves a small formula.
-pub add-small : (F : PrenexFormula) (p : Option Literal) (C : Clause) → Valid standard F (add p C) → size_of (C ∷ F.matrix) < 8589934592
-add-small F p C v = sum (length (C ∷ F.matrix)) (literals_in (C ∷ F.matrix)) (size_of (C ∷ F.matrix)) v.2.clauses v.2.lits (size-parts (C ∷ F.matrix))
-  where
-    sum : (n l s : ℕ) → n ≤ 4 * 33554432 → l ≤ 4 * 134217728 → s ≡ l + n → s < 8589934592
-    sum n l s a b e = omega arith

@@ -1,11 +1,11 @@
 -- The steps of a proper formula are such that their text is read as them.
-use Rattle.std.proofs.Common.{◌≡◌, ◌≤◌, ◌<◌, ◌^◌, ℕ, Bool, true, false, cond, eqb, [], ◌∷◌, inl, inr, arith, refl, sym, subst, Option, Some, None}
+use Rattle.std.proofs.Common.{◌≡◌, ◌≤◌, ◌<◌, ◌^◌, ℕ, Bool, true, false, cond, [], ◌∷◌, inl, inr, arith, refl, Option, Some, None}
 use Rattle.std.specs.List.{AllByRecursion}
 use Rattle.q_logic.specs.Literals.{Literal, IsBelow, literal_eq}
-use Rattle.q_logic.specs.Formulas.{Clause, Prefix, IsIn, PrenexFormula}
+use Rattle.q_logic.specs.Formulas.{Clause, IsIn, PrenexFormula}
 use Rattle.q_logic.specs.Parts.{ArePairs, IsProper}
 use Rattle.q_logic.specs.Pivots.{without}
-use Rattle.q_logic.specs.Prefixes.{is_bound, is_existential}
+use Rattle.q_logic.specs.Prefixes.{is_bound}
 use Rattle.q_logic.specs.Limits.{standard}
 use Rattle.q_logic.specs.Steps.{add, delete, drop_literal, fresh, remove_variable, Within, Valid}
 use Rattle.q_logic.specs.StepForms.{IsFirst, first_of, in_front}

@@ -1,26 +1,20 @@
 -- What the lists of places tell of the clauses: which hold a literal, and which variables occur.
-use Rattle.std.proofs.Common.{◌≡◌, ◌≢◌, ◌⊎◌, ◌≤◌, ◌<◌, ◌+◌, ℕ, zero, suc, Bool, true, false, not, ◌&&◌, ◌||◌, eqb, List, [], ◌∷◌, length, take, get_or, inl, inr, arith, refl, sym, ap, ◌∙◌, subst, Some, None, true≢false, not-suc-le-zero, le_of_suc-le-suc, add-one}
+use Rattle.std.proofs.Common.{◌≡◌, ◌≢◌, ◌≤◌, ◌<◌, ◌+◌, ℕ, zero, suc, Bool, true, false, ◌&&◌, ◌||◌, eqb, List, [], ◌∷◌, length, get_or, inl, inr, arith, refl, sym, ap, ◌∙◌, subst, Some, None, true≢false, not-suc-le-zero, le_of_suc-le-suc}
 use Rattle.std.proofs.lemmas.Bool.Decides.{nat_tests}
-use Rattle.q_logic.specs.Literals.{Literal, negation, literal_eq, bool_eq}
+use Rattle.q_logic.specs.Literals.{Literal, literal_eq, bool_eq}
 use Rattle.q_logic.specs.Formulas.{Clause, Matrix, IsIn}
 use Rattle.q_logic.specs.Pivots.{without}
-use Rattle.q_logic.specs.StepForms.{positive}
 use Rattle.q_logic.specs.Sweep.{has_variable, occurs}
 use Rattle.q_logic.specs.Numbered.{Slots, slot, set_slot, live, others}
 use Rattle.q_logic.proofs.Reaching.{SameClauses, IsIn-alike, alike-sym}
 use Rattle.q_logic.proofs.Measuring.{occurs_var-find, occurs_var-IsIn}
-use Rattle.q_logic.proofs.Falling.{var_is}
 use Rattle.q_logic.proofs.UniversalPivot.{without-IsIn, IsIn-without}
 use Rattle.q_logic.proofs.Slots.{slot-alike}
 use Rattle.q_arena.specs.Rings.{Has}
 use Rattle.q_arena.specs.Chains.{Chains}
-use Rattle.q_arena.specs.Seen.{Clauses, clause_at, start_at}
-use Rattle.q_arena.proofs.Numbers.{ℕ-cases}
+use Rattle.q_arena.specs.Seen.{Clauses, start_at}
 use Rattle.q_occ.specs.Places.{no_lit, places_of, IsPlaceIn, AreExact}
-use Rattle.q_kernel.specs.Kernels.{Seen, HoldsLiteral}
-use Rattle.q_kernel.specs.Uses.{with_occurring}
 use Rattle.q_kernel.proofs.Slotting.{slot-get, IsIn-slot, slot-IsIn, alike-added, alike-replaced}
-use Rattle.q_kernel.proofs.Using.{occurring-here, occurring-other}
 
 -- A literal at a place of a clause is one of its literals, and the other way round.
 pub get-IsIn : (C : Clause) (i : ℕ) (d : Literal) → i < length C → IsIn (get_or C i d) C
@@ -39,10 +33,6 @@ IsIn-get (k ∷ C) l d (inr m) = let r : (i : ℕ) × (i < length C) × (get_or 
 -- The lists hold the places of all clauses.
 abbrev pub AreAll : Chains → Clauses → Type 0
 AreAll o a = AreExact o a (λ c. true)
-
-none_in : (ys : List ℕ) → ((p : ℕ) → Has ys p → ⊥) → ys ≡ []
-none_in [] n = refl
-none_in (y ∷ ys) n = absurd (n y (inl refl))
 
 no_length : (ys : List ℕ) → length ys ≡ 0 → ys ≡ []
 no_length [] e = refl
@@ -68,9 +58,6 @@ module _ (o : Chains) (a : Clauses) (x : AreAll o a) where
       let p : (p : ℕ) × Has (places_of o l) p = clause-place l s.0 D s.1 i in
       subst (λ (ys : List ℕ). Has ys p.0) e p.1
 
-  pub none-empty : (l : Literal) → ((D : Clause) → IsIn D (live a.clauses) → IsIn l D → ⊥) → places_of o l ≡ []
-  none-empty l n = none_in (places_of o l) (λ p h. let r : (C : Clause) × (slot a.clauses (get_or o.owners p 0) ≡ Some C) × IsIn l C = place-clause l p h in n r.0 (slot-IsIn a.clauses (get_or o.owners p 0) r.0 r.1) r.2)
-
   pub counted-none : (l : Literal) → length (places_of o l) ≡ 0 → (D : Clause) → IsIn D (live a.clauses) → IsIn l D → ⊥
   counted-none l e = empty-none l (no_length (places_of o l) e)
 
@@ -84,52 +71,6 @@ module _ (o : Chains) (a : Clauses) (x : AreAll o a) where
   -- A variable occurs where one of its two literals has a place.
   pub place-occurs : (l : Literal) (p : ℕ) → Has (places_of o l) p → occurs l.var (live a.clauses) ≡ true
   place-occurs l p h = let r : (C : Clause) × (slot a.clauses (get_or o.owners p 0) ≡ Some C) × IsIn l C = place-clause l p h in occurs_var-IsIn (live a.clauses) r.0 l (slot-IsIn a.clauses (get_or o.owners p 0) r.0 r.1) r.2
-
-  pub empty-absent : (v : ℕ) → places_of o (positive v) ≡ [] → places_of o (negation (positive v)) ≡ [] → occurs v (live a.clauses) ≡ false
-  empty-absent v e f = go (occurs v (live a.clauses)) refl
-    where
-      go : (b : Bool) → occurs v (live a.clauses) ≡ b → b ≡ false
-      go false q = refl
-      go true q = let r : (D : Clause) × (k : Literal) × IsIn D (live a.clauses) × IsIn k D × (k.var ≡ v) = occurs_var-find v (live a.clauses) q in
-          absurd (elim (var_is r.1 v r.4) [
-            | inl i ↦ empty-none (positive v) e r.0 r.2 (subst (λ (k : Literal). IsIn k r.0) i r.3)
-            | inr i ↦ empty-none (negation (positive v)) f r.0 r.2 (subst (λ (k : Literal). IsIn k r.0) i r.3)
-          ])
-
-  pub absent-empty : (v : ℕ) (l : Literal) → l.var ≡ v → occurs v (live a.clauses) ≡ false → places_of o l ≡ []
-  absent-empty v l e q = none_in (places_of o l) (λ p h. true≢false (sym (place-occurs l p h) ∙ (ap (λ (k : ℕ). occurs k (live a.clauses)) e ∙ q)))
-
-  pub counted-absent : (v : ℕ) → length (places_of o (positive v)) ≡ 0 → length (places_of o (negation (positive v))) ≡ 0 → occurs v (live a.clauses) ≡ false
-  counted-absent v e f = empty-absent v (no_length (places_of o (positive v)) e) (no_length (places_of o (negation (positive v))) f)
-
-  pub counted-occurs : (l : Literal) → 1 ≤ length (places_of o l) → occurs l.var (live a.clauses) ≡ true
-  counted-occurs l h = go (places_of o l) refl
-    where
-      go : (ys : List ℕ) → places_of o l ≡ ys → occurs l.var (live a.clauses) ≡ true
-      go [] e = let z : length (places_of o l) ≡ 0 = ap length e in absurd (omega arith)
-      go (y ∷ ys) e = place-occurs l y (subst (λ (zs : List ℕ). Has zs y) (sym e) (inl refl))
-
-  -- The owner of a place is the only clause that has it, where clauses lie apart.
-  pub place-owner : (l : Literal) (c p : ℕ) → ((i j : ℕ) (C D : Clause) → clause_at a i ≡ Some C → clause_at a j ≡ Some D → i ≢ j → (start_at a i + length C ≤ start_at a j) ⊎ (start_at a j + length D ≤ start_at a i)) → IsPlaceIn a c l p → get_or o.owners p 0 ≡ c
-  place-owner l c p apart i =
-      let r : (id : ℕ) × (true ≡ true) × IsPlaceIn a id l p × (get_or o.owners p 0 ≡ id) = x.listed l p (x.all c l p refl i) in
-      elim (ℕ-cases r.0 c) [
-        | inl e ↦ r.3 ∙ e
-        | inr n ↦ absurd (elim (apart r.0 c r.2.clause i.clause r.2.live i.live n) [
-          | inl b ↦ clash (start_at a r.0) (length r.2.clause) (start_at a c) p r.2.at_index i.at_index r.2.is r.2.in_range i.is b
-          | inr b ↦ clash (start_at a c) (length i.clause) (start_at a r.0) p i.at_index r.2.at_index i.is i.in_range r.2.is b
-        ])
-      ]
-    where
-      clash : (s n t p j k : ℕ) → p ≡ s + j → j < n → p ≡ t + k → s + n ≤ t → ⊥
-      clash s n t p j k e h f b = absurd (omega arith)
-
--- For a kernel.
-pub listed-holds : (k : Seen) → AreAll k.lists k.arena → (l : Literal) (p : ℕ) → Has (places_of k.lists l) p → HoldsLiteral k (get_or k.lists.owners p 0) l
-listed-holds k x l p h = place-clause k.lists k.arena x l p h
-
-pub holds-listed : (k : Seen) → AreAll k.lists k.arena → (c : ℕ) (l : Literal) → HoldsLiteral k c l → (p : ℕ) × Has (places_of k.lists l) p
-holds-listed k x c l h = clause-place k.lists k.arena x l c h.0 h.1 h.2
 
 -- Variables occur by the clauses alone, and not by their order.
 pub occurs-alike : (v : ℕ) (X Y : Matrix) → SameClauses X Y → occurs v X ≡ occurs v Y
@@ -153,87 +94,6 @@ occurs-replaced v N c C D h = occurs-alike v (live (set_slot c (Some D) N)) (D �
 
 pub occurs-beside : (v : ℕ) (N : Slots) (c : ℕ) (C : Clause) → slot N c ≡ Some C → occurs v (live N) ≡ (has_variable v C || occurs v (others c N))
 occurs-beside v N c C h = occurs-alike v (live N) (C ∷ others c N) (slot-alike N c C h)
-
--- Literal by literal: the variables of a clause that comes start to occur.
-abbrev pub started_upto : Clause → Matrix → ℕ → ℕ → Bool
-started_upto C X i v = has_variable v (take i C) || occurs v X
-
-or-false : (b : Bool) → (b || false) ≡ b
-or-false true = refl
-or-false false = refl
-
-has_variable-more : (v : ℕ) (C : Clause) (i : ℕ) (d : Literal) → i < length C → has_variable v (take (suc i) C) ≡ (has_variable v (take i C) || eqb (get_or C i d).var v)
-has_variable-more v [] i d h = absurd (not-suc-le-zero h)
-has_variable-more v (k ∷ C) zero d h = or-false (eqb k.var v)
-has_variable-more v (k ∷ C) (suc i) d h = ap (λ (b : Bool). eqb k.var v || b) (has_variable-more v C i d (le_of_suc-le-suc h)) ∙ regroup (eqb k.var v) (has_variable v (take i C)) (eqb (get_or C i d).var v)
-  where
-    regroup : (a b c : Bool) → (a || (b || c)) ≡ ((a || b) || c)
-    regroup true b c = refl
-    regroup false b c = refl
-
-take-all : (C : Clause) → take (length C) C ≡ C
-take-all [] = refl
-take-all (k ∷ C) = ap (λ (D : Clause). k ∷ D) (take-all C)
-
-pub started-none : (C : Clause) (X : Matrix) (v : ℕ) → started_upto C X 0 v ≡ occurs v X
-started-none [] X v = refl
-started-none (k ∷ C) X v = refl
-
-pub started-more : (C : Clause) (X : Matrix) (i : ℕ) (d : Literal) → i < length C → (v : ℕ) → with_occurring (get_or C i d).var true (started_upto C X i) v ≡ started_upto C X (i + 1) v
-started-more C X i d h v =
-    let m : has_variable v (take (suc i) C) ≡ (has_variable v (take i C) || eqb (get_or C i d).var v) = has_variable-more v C i d h in
-    rw add-one (elim (ℕ-cases v (get_or C i d).var) [
-      | inl e ↦ let t : eqb (get_or C i d).var v ≡ true = grind (arith, nat_tests) in
-          occurring-here (get_or C i d).var true (started_upto C X i) v e ∙ sym (ap (λ (b : Bool). b || occurs v X) (m ∙ ap (λ (b : Bool). has_variable v (take i C) || b) t) ∙ last (has_variable v (take i C)) (occurs v X))
-      | inr n ↦ let t : eqb (get_or C i d).var v ≡ false = grind (arith, nat_tests) in
-          occurring-other (get_or C i d).var true (started_upto C X i) v n ∙ sym (ap (λ (b : Bool). b || occurs v X) (m ∙ (ap (λ (b : Bool). has_variable v (take i C) || b) t ∙ or-false (has_variable v (take i C)))))
-    ])
-  where
-    last : (a b : Bool) → ((a || true) || b) ≡ true
-    last true b = refl
-    last false b = refl
-
-pub started-all : (C : Clause) (X : Matrix) (v : ℕ) → started_upto C X (length C) v ≡ occurs v (C ∷ X)
-started-all C X v = ap (λ (D : Clause). has_variable v D || occurs v X) (take-all C)
-
--- Those of a clause that goes stop to occur, unless another clause holds them.
-abbrev pub stopped_upto : Clause → Matrix → ℕ → ℕ → Bool
-stopped_upto C X i v = (has_variable v C && not (has_variable v (take i C))) || occurs v X
-
-pub stopped-none : (C : Clause) (X : Matrix) (v : ℕ) → stopped_upto C X 0 v ≡ occurs v (C ∷ X)
-stopped-none C X v = ap (λ (b : Bool). b || occurs v X) (ap (λ (D : Clause). has_variable v C && not (has_variable v D)) (none C) ∙ and-true (has_variable v C))
-  where
-    none : (D : Clause) → take 0 D ≡ []
-    none [] = refl
-    none (k ∷ D) = refl
-
-    and-true : (b : Bool) → (b && true) ≡ b
-    and-true true = refl
-    and-true false = refl
-
-pub stopped-more : (C : Clause) (X : Matrix) (i : ℕ) (d : Literal) → i < length C → (v : ℕ) → with_occurring (get_or C i d).var (occurs (get_or C i d).var X) (stopped_upto C X i) v ≡ stopped_upto C X (i + 1) v
-stopped-more C X i d h v =
-    let m : has_variable v (take (suc i) C) ≡ (has_variable v (take i C) || eqb (get_or C i d).var v) = has_variable-more v C i d h in
-    rw add-one (elim (ℕ-cases v (get_or C i d).var) [
-      | inl e ↦ let t : eqb (get_or C i d).var v ≡ true = grind (arith, nat_tests) in
-          occurring-here (get_or C i d).var (occurs (get_or C i d).var X) (stopped_upto C X i) v e ∙ (ap (λ (w : ℕ). occurs w X) (sym e)
-          ∙ sym (ap (λ (b : Bool). (has_variable v C && not b) || occurs v X) (m ∙ ap (λ (b : Bool). has_variable v (take i C) || b) t) ∙ gone (has_variable v C) (has_variable v (take i C)) (occurs v X)))
-      | inr n ↦ let t : eqb (get_or C i d).var v ≡ false = grind (arith, nat_tests) in
-          occurring-other (get_or C i d).var (occurs (get_or C i d).var X) (stopped_upto C X i) v n
-          ∙ sym (ap (λ (b : Bool). (has_variable v C && not b) || occurs v X) (m ∙ (ap (λ (b : Bool). has_variable v (take i C) || b) t ∙ or-false (has_variable v (take i C)))))
-    ])
-  where
-    gone : (a b c : Bool) → ((a && not (b || true)) || c) ≡ c
-    gone true true c = refl
-    gone true false c = refl
-    gone false b c = refl
-
-pub stopped-all : (C : Clause) (X : Matrix) (v : ℕ) → stopped_upto C X (length C) v ≡ occurs v X
-stopped-all C X v = ap (λ (D : Clause). (has_variable v C && not (has_variable v D)) || occurs v X) (take-all C) ∙ never (has_variable v C) (occurs v X)
-  where
-    never : (a c : Bool) → ((a && not a) || c) ≡ c
-    never true c = refl
-    never false c = refl
 
 -- A clause loses a literal: at most its variable stops to occur.
 has_variable-find : (v : ℕ) (C : Clause) → has_variable v C ≡ true → (k : Literal) × IsIn k C × (k.var ≡ v)
@@ -269,13 +129,3 @@ has_variable-without v l C n = go (has_variable v (without l C)) refl (has_varia
     go false p false q = refl
     go true p false q = absurd (true≢false (sym (back p) ∙ q))
     go false p true q = absurd (true≢false (sym (over q) ∙ p))
-
-pub has_variable-shorter : (v : ℕ) (l : Literal) (C : Clause) → has_variable v (without l C) ≡ true → has_variable v C ≡ true
-has_variable-shorter v l C h = let r : (k : Literal) × IsIn k (without l C) × (k.var ≡ v) = has_variable-find v (without l C) h in
-    subst (λ (w : ℕ). has_variable w C ≡ true) r.2 (has_variable-IsIn C r.0 (without-IsIn l C r.0 r.1))
-
-pub dropped-occurs : (C : Clause) (X : Matrix) (l : Literal) (w : ℕ) → with_occurring l.var (occurs l.var (without l C ∷ X)) (λ v. occurs v (C ∷ X)) w ≡ occurs w (without l C ∷ X)
-dropped-occurs C X l w = elim (ℕ-cases w l.var) [
-  | inl e ↦ occurring-here l.var (occurs l.var (without l C ∷ X)) (λ v. occurs v (C ∷ X)) w e ∙ ap (λ (v : ℕ). occurs v (without l C ∷ X)) (sym e)
-  | inr n ↦ occurring-other l.var (occurs l.var (without l C ∷ X)) (λ v. occurs v (C ∷ X)) w n ∙ sym (ap (λ (b : Bool). b || occurs w X) (has_variable-without w l C n))
-]

@@ -17,17 +17,8 @@ use Rattle.q_kernel.proofs.Leading.{led-itself, led-through}
 use Rattle.q_kernel.proofs.Counting.{occurring-removed}
 use Rattle.q_kernel.proofs.Sweeping.{spare-after_delete, spare-after_remove, IsAlone, alone-first, alone-kept, alone-deleted, occurring-none}
 use Rattle.q_arena.specs.Seen.{Clauses, live_in, AreSameClauses}
-use Rattle.q_kernel.specs.Kernels.{Seen, slots, formula_in, SameView, KeepsRoom, KeepsSpare, HasSweepBytes}
+use Rattle.q_kernel.specs.Kernels.{Seen, slots, formula_in, SameView, KeepsRoom, HasSweepBytes}
 use Rattle.q_kernel.proofs.Slotting.{live-same, live_in-length, slot-get, length-set_slot, IsIn-slot, has_empty-IsIn}
-
-pub view-through : (a b c : Seen) → SameView a b → SameView b c → SameView a c
-view-through a b c x y = record { prefix = y.prefix ∙ x.prefix; clauses = λ i. y.clauses i ∙ x.clauses i; formula = y.formula ∙ x.formula; text = y.text ∙ x.text }
-
-pub spare-through : (a b c : Seen) → KeepsSpare a b → KeepsSpare b c → KeepsSpare a c
-spare-through a b c x y = record {
-  room = record { words = omega (arith, x.room.words, y.room.words); ids = omega (arith, x.room.ids, y.room.ids); vars = omega (arith, x.room.vars, y.room.vars); greatest = omega (arith, x.room.greatest, y.room.greatest) };
-  bytes = omega (arith, x.bytes, y.bytes);
-}
 
 -- the same clauses at other places
 pub view-clauses : (a b : Seen) → ((c : ℕ) → slot (slots b) c ≡ slot (slots a) c) → b.prefix ≡ a.prefix → b.text ≡ a.text → SameView a b

@@ -43,17 +43,6 @@ slot-set_other zero (suc d) o (p ∷ N) n = refl
 slot-set_other (suc c) zero o (p ∷ N) n = refl
 slot-set_other (suc c) (suc d) o (p ∷ N) n = slot-set_other c d o N (λ e. n (ap suc e))
 
--- Setting twice, and setting what stands there.
-pub set_slot-twice : (c : ℕ) (o p : Option Clause) (N : Slots) → set_slot c o (set_slot c p N) ≡ set_slot c o N
-set_slot-twice c o p [] = refl
-set_slot-twice zero o p (q ∷ N) = refl
-set_slot-twice (suc c) o p (q ∷ N) = ap (λ (M : Slots). q ∷ M) (set_slot-twice c o p N)
-
-pub set_slot-own : (c : ℕ) (o : Option Clause) (N : Slots) → slot N c ≡ o → set_slot c o N ≡ N
-set_slot-own c o [] h = refl
-set_slot-own zero o (p ∷ N) h = ap (λ (q : Option Clause). q ∷ N) (sym h)
-set_slot-own (suc c) o (p ∷ N) h = ap (λ (M : Slots). p ∷ M) (set_slot-own c o N h)
-
 -- All clauses after a change.
 pub live-gone : (N : Slots) (c : ℕ) → live (set_slot c None N) ≡ others c N
 live-gone N c = live-without N c
@@ -117,10 +106,6 @@ pub live-numbered : (X : Matrix) → live (numbered X) ≡ X
 live-numbered [] = refl
 live-numbered (C ∷ X) = ap (λ (Y : Matrix). C ∷ Y) (live-numbered X)
 
-pub length-numbered : (X : Matrix) → length (numbered X) ≡ length X
-length-numbered [] = refl
-length-numbered (C ∷ X) = ap suc (length-numbered X)
-
 -- Counts.
 pub live_in-length : (N : Slots) → live_in N ≡ length (live N)
 live_in-length [] = refl
@@ -178,9 +163,6 @@ size-added N c D h b = subst (λ (X : Matrix). size_of (live (set_slot c (Some D
 pub length-added : (N : Slots) (c : ℕ) (D : Clause) → slot N c ≡ None → c < length N → length (live (set_slot c (Some D) N)) ≡ length (live N) + 1
 length-added N c D h b = subst (λ (X : Matrix). length (live (set_slot c (Some D) N)) ≡ length X + 1) (others-none N c h) (length-set N c D b)
 
-pub literals-added : (N : Slots) (c : ℕ) (D : Clause) → slot N c ≡ None → c < length N → literals_in (live (set_slot c (Some D) N)) ≡ literals_in (live N) + length D
-literals-added N c D h b = subst (λ (X : Matrix). literals_in (live (set_slot c (Some D) N)) ≡ literals_in X + length D) (others-none N c h) (literals-set N c D b)
-
 pub size-gone : (N : Slots) (c : ℕ) (C : Clause) → slot N c ≡ Some C → size_of (live N) ≡ size_of (live (set_slot c None N)) + (length C + 1)
 size-gone N c C h = subst (λ (X : Matrix). size_of (live N) ≡ size_of X + (length C + 1)) (sym (live-gone N c)) (size-others N c C h)
 
@@ -225,16 +207,3 @@ has_empty-alike X Y s = go (has_empty X) refl (has_empty Y) refl
     go false p false q = refl
     go true p false q = let z : has_empty Y ≡ true = IsIn-has_empty Y (IsIn-alike X Y s [] (has_empty-IsIn X p)) in grind arith
     go false p true q = let z : has_empty X ≡ true = IsIn-has_empty X (IsIn-alike Y X (alike-sym X Y s) [] (has_empty-IsIn Y q)) in grind arith
-
-pub has_empty-added : (N : Slots) (c : ℕ) (D : Clause) → slot N c ≡ None → c < length N → has_empty (live (set_slot c (Some D) N)) ≡ has_empty (D ∷ live N)
-has_empty-added N c D h b = has_empty-alike (live (set_slot c (Some D) N)) (D ∷ live N) (alike-added N c D h b)
-
-pub has_empty-replaced : (N : Slots) (c : ℕ) (C D : Clause) → slot N c ≡ Some C → has_empty (live (set_slot c (Some D) N)) ≡ has_empty (D ∷ others c N)
-has_empty-replaced N c C D h = has_empty-alike (live (set_slot c (Some D) N)) (D ∷ others c N) (alike-replaced N c C D h)
-
-pub has_empty-gone : (N : Slots) (c : ℕ) → has_empty (live (set_slot c None N)) ≡ has_empty (others c N)
-has_empty-gone N c = ap has_empty (live-gone N c)
-
--- Beside a clause that is not empty nothing is lost.
-pub has_empty-beside : (N : Slots) (c : ℕ) (C : Clause) → slot N c ≡ Some C → has_empty (live N) ≡ has_empty (C ∷ others c N)
-has_empty-beside N c C h = has_empty-alike (live N) (C ∷ others c N) (slot-alike N c C h)

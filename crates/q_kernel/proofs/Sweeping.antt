@@ -8,9 +8,9 @@ use Rattle.q_logic.specs.Limits.{standard}
 use Rattle.q_logic.specs.Steps.{delete, remove_variable, Valid, one_less, removed_from}
 use Rattle.q_logic.specs.StepForms.{first_of}
 use Rattle.q_logic.specs.Runs.{copies}
-use Rattle.q_logic.specs.Sweep.{has_empty, occurs, occurring, falsity, swept}
+use Rattle.q_logic.specs.Sweep.{has_empty, occurs, occurring}
 use Rattle.q_logic.specs.Measure.{size_of}
-use Rattle.q_logic.specs.Numbered.{Slots, slot, set_slot, live, others, put_first, formula_of}
+use Rattle.q_logic.specs.Numbered.{Slots, slot, set_slot, live, others, put_first}
 use Rattle.q_logic.proofs.Reaching.{IsIn-alike, copies-IsIn, IsIn-copies}
 use Rattle.q_logic.proofs.Slots.{others-slot}
 use Rattle.q_logic.proofs.Implying.{implied-subsumed}
@@ -22,12 +22,6 @@ use Rattle.q_kernel.proofs.Slotting.{slot-IsIn, slot-set_same, slot-set_other, s
 use Rattle.q_kernel.proofs.Costs.{cost-delete, cost-remove, first-first, proper-in_order, proper-small, proper-var}
 
 -- What sweeping leaves.
-pub swept-full : (F : PrenexFormula) → has_empty F.matrix ≡ false → swept F ≡ formula_of (occurring F.prefix F.matrix) F.matrix
-swept-full F e = ap (λ (b : Bool). cond b falsity (formula_of (occurring F.prefix F.matrix) F.matrix)) e
-
-pub swept-empty : (F : PrenexFormula) → has_empty F.matrix ≡ true → swept F ≡ falsity
-swept-empty F e = ap (λ (b : Bool). cond b falsity (formula_of (occurring F.prefix F.matrix) F.matrix)) e
-
 pub occurring-none : (P : Prefix) → occurring P ([] ∷ []) ≡ []
 occurring-none [] = refl
 occurring-none (b ∷ P) = occurring-none P

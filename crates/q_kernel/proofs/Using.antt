@@ -33,14 +33,6 @@ quant-unbound (b ∷ P) v h = go (eqb b.var v) h (quant-unbound P v)
     go true h ih = grind arith
     go false h ih = ih h
 
-pub bound-quant : (P : Prefix) (v : ℕ) → is_bound P v ≡ true → (q : Quant) × (quant_of P v ≡ Some q)
-bound-quant [] v h = grind arith
-bound-quant (b ∷ P) v h = go (eqb b.var v) h (bound-quant P v)
-  where
-    go : (t : Bool) → cond t true (is_bound P v) ≡ true → (is_bound P v ≡ true → (q : Quant) × (quant_of P v ≡ Some q)) → (q : Quant) × (cond t (Some b.quant) (quant_of P v) ≡ Some q)
-    go true h ih = (b.quant, refl)
-    go false h ih = ih h
-
 quant-same : (q r : Quant) → Some q ≡ Some r → q ≡ r
 quant-same q r e = cc
 
@@ -114,19 +106,12 @@ module _ (g : Groups) (P : Prefix) (occ : ℕ → Bool) (u : AreUses g P occ) (v
   pub not-grouped : is_bound P v ≡ false → IsGrouped g v → ⊥
   not-grouped n h = true≢false (sym (group-bound h) ∙ n)
 
-  pub idle-not_occurring : Has g.idle v → occ v ≡ false
-  idle-not_occurring h = ((u.idle v).0 h).1
-
   pub quant-idle : (q : Quant) → quant_of P v ≡ Some q → occ v ≡ false → Has g.idle v
   quant-idle q e o = (u.idle v).1 (quant-bound P v q e, o)
 
   pub quant-group : (q : Quant) → quant_of P v ≡ Some q → occ v ≡ true → Has (group_of g q) v
   quant-group Exists e o = (u.existentials v).1 (quant-existential P v Exists e, o)
   quant-group Forall e o = (u.universals v).1 (quant-universal P v Forall e, o)
-
-  pub group-occurring : (q : Quant) → Has (group_of g q) v → occ v ≡ true
-  group-occurring Exists h = ((u.existentials v).0 h).1
-  group-occurring Forall h = ((u.universals v).0 h).1
 
   pub one-group : (q : Quant) → quant_of P v ≡ Some q → Has g.idle v ⊎ Has (group_of g q) v
   one-group q e = go (occ v) refl

@@ -1,13 +1,13 @@
 -- Walks over a prefix or over clauses.
-use Rattle.std.proofs.Common.{◌≡◌, ◌↔◌, ◌≤◌, ◌<◌, ◌+◌, ◌-◌, ◌*◌, ℕ, zero, suc, Bool, true, false, ◌||◌, cond, eqb, List, [], ◌∷◌, ◌++◌, length, get_or, slice_get, take, drop, inl, inr, arith, refl, sym, ap, ◌∙◌, subst, Some, None, add-one, drop-cons, true≢false, append_assoc, length-append}
+use Rattle.std.proofs.Common.{◌≡◌, ◌↔◌, ◌≤◌, ◌<◌, ◌+◌, ◌-◌, ◌*◌, ℕ, zero, suc, Bool, true, false, ◌||◌, cond, eqb, List, [], ◌∷◌, ◌++◌, length, get_or, slice_get, take, drop, inl, inr, arith, refl, sym, ap, ◌∙◌, subst, Some, None, add-one, true≢false, append_assoc, length-append}
 use Rattle.std.proofs.lemmas.List.{append-nil}
 use Rattle.std.proofs.lemmas.Bool.Decides.{nat_tests}
 use Rattle.q_logic.specs.declared.formulas.Bound.{Bound}
 use Rattle.q_logic.specs.Formulas.{Clause, Matrix, Prefix}
 use Rattle.q_logic.specs.Prefixes.{is_bound, Distinct}
 use Rattle.q_logic.specs.Steps.{literals_in}
-use Rattle.q_logic.specs.InLimits.{greatest, larger_of}
-use Rattle.q_arena.specs.Rings.{Has, AreApart}
+use Rattle.q_logic.specs.InLimits.{greatest}
+use Rattle.q_arena.specs.Rings.{Has}
 use Rattle.q_arena.proofs.Numbers.{ℕ-cases}
 use Rattle.q_arena.proofs.Pieces.{Some-same, none-some}
 use Rattle.q_prefix.specs.Order.{FlatPrefix, bound_after}
@@ -27,13 +27,6 @@ use Rattle.q_logic.specs.Runs.{copies}
 use Rattle.q_logic.specs.Sweep.{occurs}
 use Rattle.q_arena.specs.Chains.{Chains, list_at}
 use Rattle.q_arena.specs.Seen.{Clauses}
-
--- The greatest variable, from the front.
-pub greatest-next : (P : Prefix) (k : ℕ) (d : Bound) (g : ℕ) → k < length P → larger_of g (greatest (drop k P)) ≡ larger_of (larger_of (get_or P k d).var g) (greatest (drop (k + 1) P))
-greatest-next P k d g h = ap (λ (Q : Prefix). larger_of g (greatest Q)) (drop-cons P k d h) ∙ both g (get_or P k d).var (greatest (drop (suc k) P)) ∙ ap (λ (n : ℕ). larger_of (larger_of (get_or P k d).var g) (greatest (drop n P))) (sym (add-one k))
-  where
-    both : (x y z : ℕ) → larger_of x (larger_of y z) ≡ larger_of (larger_of y x) z
-    both x y z = omega arith
 
 -- The number of literals, from the front.
 literals-suc : (X : Matrix) (k : ℕ) (C : Clause) → slice_get X k ≡ Some C → literals_in (drop k X) ≡ length C + literals_in (drop (suc k) X)
@@ -123,13 +116,6 @@ pub record AreIdle (g : Groups) (P : Prefix) : Type 0 where
   pub existentials : g.existentials ≡ []
   pub universals : g.universals ≡ []
 
-pub none-idle : (g : Groups) → g.idle ≡ [] → g.existentials ≡ [] → g.universals ≡ [] → AreIdle g []
-none-idle g i e u = record {
-  idle = λ v. ((λ h. absurd (subst (λ (ys : List ℕ). Has ys v) i h)), (λ h. absurd (true≢false (sym h))));
-  existentials = e;
-  universals = u;
-}
-
 pub idle-absent : (g : Groups) (P : Prefix) (k : ℕ) (d b : Bound) → Distinct P → k < length P → b ≡ get_or P k d → AreIdle g (take k P) → IsGrouped g b.var → ⊥
 idle-absent g P k d b a h e i (inl x) = true≢false (sym ((i.idle b.var).0 x) ∙ subst (λ (q : Bound). is_bound (take k P) q.var ≡ false) (sym e) (not-before P k d a h))
 idle-absent g P k d b a h e i (inr (inl x)) = subst (λ (ys : List ℕ). Has ys b.var) i.existentials x
@@ -158,16 +144,6 @@ idle-more g n P k d b h e i ei ee eu = record {
           let y : is_bound (take k P) v ≡ true = grind arith in
           inr ((i.idle v).1 y)
     ]
-
-pub idle-uses : (g : Groups) (P : Prefix) → AreIdle g P → AreApart g.idle → AreApart g.existentials → AreApart g.universals → AreUses g P (λ v. false)
-idle-uses g P i ai ae au = record {
-  idle = λ v. ((λ h. ((i.idle v).0 h, refl)), (λ h. (i.idle v).1 h.0));
-  existentials = λ v. ((λ h. absurd (subst (λ (ys : List ℕ). Has ys v) i.existentials h)), (λ h. absurd (true≢false (sym h.1))));
-  universals = λ v. ((λ h. absurd (subst (λ (ys : List ℕ). Has ys v) i.universals h)), (λ h. absurd (true≢false (sym h.1))));
-  apart_idle = ai;
-  apart_existentials = ae;
-  apart_universals = au;
-}
 
 -- A kernel without clauses.
 pub kernel-bare : (P : FlatPrefix) (a : Clauses) (o : Chains) (g : Groups) (most : ℕ) → IsProper (formula_of P.bounds []) → a.clauses ≡ [] → a.room ≡ 0 → ((h p : ℕ) → Has (list_at o h) p → ⊥) → 2 * most + 2 ≤ length o.lists

@@ -5,4 +5,4 @@ pub mod Uses
 pub mod Linking
 pub mod Listing
 pub mod Invariant
-pub mod Examples
+pub mod Conditions

@@ -16,4 +16,6 @@ pub use need::Need;
 pub use taken::Taken;
 
 #[cfg(test)]
+mod conditions;
+#[cfg(test)]
 mod tests;
