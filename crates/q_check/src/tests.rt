@@ -63,6 +63,32 @@ fn two(alloc: Global, first: Quant, second: Quant) -> Result<Formula, NoMemory> 
     Ok(Formula::from_parts(prefix, lits, ends))
 }
 
+// Three blocks of one variable each, and the clauses {1, 3} and {-1, -3}.
+fn three(alloc: Global) -> Result<Formula, NoMemory> {
+    let mut prefix = Vec::new(alloc);
+    prefix.push(Bound {
+        quant: Quant::Exists,
+        var: 1,
+    })?;
+    prefix.push(Bound {
+        quant: Quant::Forall,
+        var: 2,
+    })?;
+    prefix.push(Bound {
+        quant: Quant::Exists,
+        var: 3,
+    })?;
+    let mut lits = Vec::new(alloc);
+    lits.push(Lit::new(1, false))?;
+    lits.push(Lit::new(3, false))?;
+    lits.push(Lit::new(1, true))?;
+    lits.push(Lit::new(3, true))?;
+    let mut ends = Vec::new(alloc);
+    ends.push(2)?;
+    ends.push(4)?;
+    Ok(Formula::from_parts(prefix, lits, ends))
+}
+
 fn clause_step(alloc: Global, add: bool, numbers: &[i32]) -> Result<Step, NoMemory> {
     let mut lits = Lits::new(alloc);
     for number in numbers {
@@ -193,6 +219,21 @@ fn equivalence(alloc: Global) -> Result<Undos, CheckError> {
     }
     let verified = checker.finish(&nothing(alloc))?;
     Ok(verified.undo)
+}
+
+// The answers to a deletion by an outer pivot, to the removal of the block between, and to the same
+// deletion once the outer blocks are one.
+fn meeting(alloc: Global) -> Result<(u8, u8, u8), CheckError> {
+    let mut checker = Checker::start(alloc, &three(alloc)?, moderate(100, 1000), false)?;
+    let before = code(take(alloc, &mut checker, b'd', 1, 3));
+    let removed = code(take(alloc, &mut checker, b'r', 2, 2));
+    let after = code(take(alloc, &mut checker, b'd', 1, 3));
+    Ok((before, removed, after))
+}
+
+#[test]
+fn blocks_meet(rt: HostRuntime) {
+    assert_eq!(rt; meeting(rt.alloc()).ok(), Some((4, 0, 0)));
 }
 
 // The pivot, the number of outer clauses, and the first literal of the first; of a removed variable

@@ -7,7 +7,6 @@ pub mod Reaching
 pub mod Settling
 pub mod Rooting
 pub mod Placing
-pub mod Lost
 pub mod HolderLemmas
 pub mod BucketLemmas
 pub mod ListLemmas

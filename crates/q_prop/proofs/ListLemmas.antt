@@ -1,8 +1,7 @@
 -- Lists behind vectors.
-use Rattle.std.proofs.Common.{◌≡◌, ◌≢◌, ◌↔◌, ◌⊎◌, ◌-◌, ℕ, zero, suc, ◌<◌, Some, slice_get, Bool, true, false, not, ◌==◌, cond, List, [], ◌∷◌, ◌++◌, Contains, filter, map, set, length, get_or, refl, sym, ◌∙◌, ap, inl, inr, arith, Result, Ok, Err, OnErr}
+use Rattle.std.proofs.Common.{◌≡◌, ◌≢◌, ◌↔◌, ◌⊎◌, ◌-◌, ℕ, ◌<◌, Some, slice_get, List, [], ◌∷◌, ◌++◌, Contains, map, set, length, get_or, sym, ◌∙◌, ap, inl, inr, arith, Result, Ok, Err, OnErr}
 use Rattle.q_prop.specs.Lists.{IsAppended, IsDistinct, IsLost, IsTakenOut, AreSameLists}
 use Rattle.q_prop.proofs.Literals.{ℕ-cases}
-use Rattle.q_prop.proofs.Lost.{lost_filtered}
 use Rattle.std.specs.List.{swap_remove}
 use Rattle.q_prop.proofs.SlotLemmas.{Contains-slice_get, slice_get-Contains, slice_get-push_cases, slice_get-take, slice_get-set_here, slice_get-set_other, slice_get-at, same_slice_get}
 use Rattle.q_prop.proofs.RowLemmas.{row_map, row_set_here, row_set_other, row_more, swap_remove-kept}
@@ -28,38 +27,6 @@ module _ {A : Type 0} (f : A → List ℕ) where
     here = rw (row_set_here f vs k w h, row_map f vs k d h) l;
     others = λ j m. row_set_other f vs k j w m;
   }
-
--- a list that is filtered keeps its numbers apart
-distinct-rest : (x : ℕ) (xs : List ℕ) → IsDistinct (x ∷ xs) → IsDistinct xs
-distinct-rest x xs d i j n e f = let s : suc i ≡ suc j = d (suc i) (suc j) n e f in omega (arith, s)
-
-distinct-head : (x : ℕ) (xs : List ℕ) → IsDistinct (x ∷ xs) → Contains xs x → ⊥
-distinct-head x xs d h =
-    let k = slice_get-Contains xs x h in
-    let s : 0 ≡ suc k.0 = d 0 (suc k.0) x refl k.1 in
-    omega (arith, s)
-
-distinct-cons : (x : ℕ) (xs : List ℕ) → (Contains xs x → ⊥) → IsDistinct xs → IsDistinct (x ∷ xs)
-distinct-cons x xs new d zero zero n e f = refl
-distinct-cons x xs new d zero (suc j) n e f = let s : x ≡ n = cc in absurd (new (rw s (Contains-slice_get xs j n f)))
-distinct-cons x xs new d (suc i) zero n e f = let s : x ≡ n = cc in absurd (new (rw s (Contains-slice_get xs i n e)))
-distinct-cons x xs new d (suc i) (suc j) n e f = ap suc (d i j n e f)
-
-filtered_distinct : (n : ℕ) (xs : List ℕ) → IsDistinct xs → IsDistinct (filter (λ b. not (b == n)) xs)
-filtered_distinct n [] d = d
-filtered_distinct n (x ∷ xs) d = go (not (x == n)) (filtered_distinct n xs (distinct-rest x xs d))
-  where
-    go : (t : Bool) → IsDistinct (filter (λ b. not (b == n)) xs) → IsDistinct (cond t (x ∷ filter (λ b. not (b == n)) xs) (filter (λ b. not (b == n)) xs))
-    go true ih = distinct-cons x (filter (λ b. not (b == n)) xs) (λ h. distinct-head x xs d ((lost_filtered n xs (filter (λ b. not (b == n)) xs) refl x).0 h).0) ih
-    go false ih = ih
-
-pub lost-filter : (n : ℕ) (old new : List ℕ) → new ≡ filter (λ b. not (b == n)) old → IsLost n old new
-lost-filter n old new is = record {
-  kept = λ m h d. (lost_filtered n old new is m).1 (h, d);
-  inside = λ m h. ((lost_filtered n old new is m).0 h).0;
-  gone = λ d h. ((lost_filtered n old new is n).0 h).1 refl;
-  distinct = λ d. rw is (filtered_distinct n old d);
-}
 
 module _ (xs : List ℕ) (i d : ℕ) (room : i < length xs) where
   -- where what stands after a swap_remove stood before
@@ -116,15 +83,6 @@ module _ (xs : List ℕ) (i d : ℕ) (room : i < length xs) where
         ];
     distinct = λ apart. rw is (swapped-distinct apart);
   }
-
--- a number that is not in the list
-pub lost-none : (n : ℕ) (xs : List ℕ) → (Contains xs n → ⊥) → IsLost n xs xs
-lost-none n xs out = record {
-  kept = λ m h d. h;
-  inside = λ m h. h;
-  gone = λ d h. out h;
-  distinct = λ d. d;
-}
 
 pub lost-members : (n : ℕ) (old new : List ℕ) → IsLost n old new → IsDistinct old → (m : ℕ) → Contains new m ↔ (Contains old m × m ≢ n)
 lost-members n old new l apart m = (

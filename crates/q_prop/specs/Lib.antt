@@ -3,6 +3,7 @@ pub mod Slots
 pub mod Pieces
 pub mod Rows
 pub mod Lists
+pub mod Spots
 pub mod Holders
 pub mod Buckets
 pub mod Watches

@@ -1,10 +1,10 @@
-ghost use Rattle.std.specs.Prelude.{◌≡◌, ◌<◌, ◌++◌, [], length, slice_set, OnOk, OnErr, None, Option, MatchOption, map, IfOk, ℕ, ◌≤◌};
+ghost use Rattle.std.specs.Prelude.{◌≡◌, ◌<◌, ◌++◌, [], length, slice_get, slice_set, OnOk, OnErr, None, Some, Contains, Option, MatchOption, map, IfOk, ℕ, ◌≤◌};
 ghost use Rattle.q_logic.specs.Formulas.{Clause};
 ghost use Rattle.q_prop.specs.Slots.{without, Holds, IsPut, IsVacant};
 ghost use Rattle.q_prop.specs.Pieces.{clause_of, AreWithin, IsBounds, IsCarried};
 ghost use Rattle.q_prop.specs.declared.clauses.Piece.TheVariants.{Filled};
 
-use crate::lists::Lists;
+use crate::lists::{Lists, place_of};
 use crate::places::place;
 use crate::spots::Spots;
 use q_logic::{Lit, NoMemory};
@@ -106,12 +106,15 @@ impl Clauses {
         self.vacant = u32::try_from(at).unwrap_or(u32::MAX);
     }
 
-    /// Where the slot may stand in the list of those that hold a literal of its clause.
-    pub fn spot(&self, at: usize, nth: usize) -> usize {
-        match bounds(&self.pieces, at) {
+    /// The place of a slot in the list of those that hold a literal of its clause, the nth.
+    pub fn place_in(&self, list: &[u32], slot: u32, nth: usize) -> Option<usize>
+        ensures { MatchOption result (Contains list.now slot → ⊥) (λ place. slice_get list.now place ≡ Some slot) }
+    {
+        let guess = match bounds(&self.pieces, slot as usize) {
             Some((start, _)) => self.spots.get(start.saturating_add(nth)),
             None => 0,
-        }
+        };
+        place_of(list, slot, guess)
     }
 
     /// Notes where the slot stands in the list of those that hold a literal of its clause.

@@ -2,7 +2,7 @@
 ghost use Rattle.std.specs.Prelude.{◌≡◌, OnOk, OnErr, Contains};
 ghost use Rattle.q_logic.specs.Literals.{Literal, pack};
 ghost use Rattle.q_prop.specs.Slots.{IsOrdered};
-ghost use Rattle.q_prop.specs.Lists.{list_at};
+ghost use Rattle.q_prop.specs.Lists.{list_at, IsTakenOut};
 ghost use Rattle.q_prop.specs.Holders.{IsHeld, IsFreed, AreAlike, AreDistinct};
 
 use crate::lists::Lists;
@@ -37,8 +37,16 @@ pub fn remove(lists: &mut Lists, propagator: &Propagator, slot: u32, lits: &[Lit
     ensures { IsFreed lists.old lists.new slot lits.now }
 {
     for i in 0..lits.len() {
-        let place = propagator.spot(slot as usize, i);
-        lists.take_out(lits[i].index(), slot, place);
+        remove_from(lists, propagator, slot, i, lits[i]);
+    }
+}
+
+// Takes a slot from under a literal of its clause, the nth.
+fn remove_from(lists: &mut Lists, propagator: &Propagator, slot: u32, nth: usize, lit: Lit)
+    ensures { IsTakenOut lists.old lists.new (pack lit) slot }
+{
+    if let Some(place) = propagator.place_in(lists.list(lit.index()), slot, nth) {
+        lists.take_out(lit.index(), place);
     }
 }
 

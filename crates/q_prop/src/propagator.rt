@@ -6,7 +6,7 @@ ghost use Rattle.q_prop.specs.Working.{IsCovered};
 ghost use Rattle.q_prop.specs.Lists.{IsLost};
 
 use crate::clauses::Clauses;
-use crate::lists::{Lists, forget};
+use crate::lists::{Lists, place_of};
 use crate::places::place;
 use crate::propagation::{query, query_anew, settle};
 use crate::rows::{Entry, Rows};
@@ -141,9 +141,11 @@ impl Propagator {
         )
     }
 
-    /// Where the slot may stand in the list of those that hold a literal of its clause.
-    pub fn spot(&self, at: usize, nth: usize) -> usize {
-        self.clauses.spot(at, nth)
+    /// The place of a slot in the list of those that hold a literal of its clause, the nth.
+    pub fn place_in(&self, list: &[u32], slot: u32, nth: usize) -> Option<usize>
+        ensures { MatchOption result (Contains list.now slot → ⊥) (λ place. slice_get list.now place ≡ Some slot) }
+    {
+        self.clauses.place_in(list, slot, nth)
     }
 
     /// Notes where the slot stands in the list of those that hold a literal of its clause.
@@ -247,8 +249,10 @@ fn unlist(pairs: &[Option<Pair>], singles: &mut Vec<u32>, spots: &mut Spots, slo
     if let Some(Some(_)) = pairs.get(at) {
         return;
     }
-    let place = spots.get(at);
-    forget(singles, slot, place);
+    let Some(place) = place_of(singles, slot, spots.get(at)) else {
+        return;
+    };
+    singles.swap_remove(place);
     renote(spots, singles, place);
 }
 

@@ -40,7 +40,8 @@ impl Model for Store {
 }
 
 impl Store {
-    pub fn new(alloc: Global) -> Store
+    /// An empty store, in which so many clauses are looked for at once.
+    pub fn new(alloc: Global, clauses: usize) -> Store
         ensures { result ≡ [] }
     {
         Store {
@@ -49,7 +50,7 @@ impl Store {
             holders: Lists::new(alloc),
             buckets: Lists::new(alloc),
             spots: Spots::new(alloc),
-            count: 1,
+            count: clauses.max(1),
         }
     }
 

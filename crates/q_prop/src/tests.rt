@@ -57,13 +57,13 @@ fn change(store: &mut Store, lits: &mut Vec<Lit>, state: u64) -> Result<u64, NoM
 
 #[test]
 fn watched_and_plain_propagation_agree(rt: HostRuntime) -> Result<(), NoMemory> {
-    let mut store = Store::new(rt.alloc());
+    let mut store = Store::new(rt.alloc(), 0);
     let mut lits = Vec::new(rt.alloc());
     let mut state = 1;
     let mut implied = 0u32;
     for round in 0..3000u32 {
         if round % 30 == 0 {
-            store = Store::new(rt.alloc());
+            store = Store::new(rt.alloc(), 0);
         }
         state = change(&mut store, &mut lits, state)?;
         state = draw(&mut lits, state)?;
@@ -100,7 +100,7 @@ fn three(store: &mut Store, lits: &mut Vec<Lit>) -> Result<(), NoMemory> {
 
 #[test]
 fn units_are_implied_by_hand(rt: HostRuntime) -> Result<(), NoMemory> {
-    let mut store = Store::new(rt.alloc());
+    let mut store = Store::new(rt.alloc(), 0);
     let mut lits = Vec::new(rt.alloc());
     three(&mut store, &mut lits)?;
     for (number, skip, want) in [
@@ -117,7 +117,7 @@ fn units_are_implied_by_hand(rt: HostRuntime) -> Result<(), NoMemory> {
 
 #[test]
 fn slots_are_found_and_used_again(rt: HostRuntime) -> Result<(), NoMemory> {
-    let mut store = Store::new(rt.alloc());
+    let mut store = Store::new(rt.alloc(), 0);
     let mut lits = Vec::new(rt.alloc());
     three(&mut store, &mut lits)?;
     for at in [1, 0, 2] {
@@ -155,7 +155,7 @@ fn fill_and_clear(
 
 #[test]
 fn many_clauses_of_one_literal_come_and_go(rt: HostRuntime) -> Result<(), NoMemory> {
-    let mut store = Store::new(rt.alloc());
+    let mut store = Store::new(rt.alloc(), 0);
     let mut lits = Vec::new(rt.alloc());
     for backwards in [false, true] {
         fill_and_clear(&mut store, &mut lits, 200_000, backwards)?;
@@ -167,7 +167,7 @@ fn many_clauses_of_one_literal_come_and_go(rt: HostRuntime) -> Result<(), NoMemo
 
 #[test]
 fn a_clause_stays_while_others_come_and_go(rt: HostRuntime) -> Result<(), NoMemory> {
-    let mut store = Store::new(rt.alloc());
+    let mut store = Store::new(rt.alloc(), 0);
     let mut lits = Vec::new(rt.alloc());
     let kept = put(&mut store, &mut lits, &[yes(1), yes(2), yes(3)])?;
     for number in 4..500 {

@@ -50,7 +50,7 @@ invariant_of-result c =
     let z = same-sizes F.matrix (filled c.loop-at.store) a.clauses in
     record {
       formula = alike-formula F (of c.in_ok-scope.scope (filled c.loop-at.store)) a c.prefix.ensures.proper.formula;
-      clauses_are = c.clauses.ensures.value ∙ z.0;
+      clauses_are = c.clauses-2.ensures.value ∙ z.0;
       lits_are = c.loop-at.invariant.1 ∙ ap literals_in (take-past F.matrix c.loop-at.at (omega (arith, c.loop-at-test.false, c.clauses-at-end.ensures.value))) ∙ z.1;
     }
 
