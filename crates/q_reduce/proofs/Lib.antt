@@ -3,10 +3,14 @@ pub mod Members
 pub mod Neighbours
 pub mod Quantifiers
 pub mod Walks
+pub mod Places
 pub mod Reaching
+pub mod Hopping
 pub mod Turns
 pub mod Steps
 pub mod Clearing
 pub mod Becoming
 pub mod Passing
 pub mod Results
+pub mod Outer
+pub mod Separating

@@ -1,5 +1,5 @@
 -- Members of a list by places, and what a test tells.
-use Rattle.std.proofs.Common.{◌≡◌, ◌⊎◌, ℕ, zero, suc, ◌+◌, ◌<◌, ◌≤◌, Bool, true, false, List, [], ◌∷◌, ◌++◌, take, get_or, length, refl, sym, ap, subst, inl, inr, arith}
+use Rattle.std.proofs.Common.{◌≡◌, ◌⊎◌, ℕ, zero, suc, ◌+◌, ◌<◌, ◌≤◌, Bool, true, false, not, List, [], ◌∷◌, ◌++◌, take, get_or, length, refl, sym, ap, subst, inl, inr, arith}
 use Rattle.std.proofs.lemmas.List.{take_more}
 use Rattle.q_logic.specs.Formulas.{IsIn}
 use Rattle.q_logic.proofs.Clauses.{IsIn-append, IsIn-append_left}
@@ -36,3 +36,7 @@ module _ {X : Type 0} where
 pub test-false : {A : Type 0} (b : Bool) → (b ≡ true → A) × (A → b ≡ true) → b ≡ false → A → ⊥
 test-false true h e a = let z : true ≡ false = e in absurd (cc)
 test-false false h e a = let z : false ≡ true = h.1 a in absurd (cc)
+
+pub test-not : {A : Type 0} (b : Bool) → (b ≡ true → A) × (A → b ≡ true) → not b ≡ true → A → ⊥
+test-not true h e a = let z : false ≡ true = e in absurd (cc)
+test-not false h e a = let z : false ≡ true = h.1 a in absurd (cc)

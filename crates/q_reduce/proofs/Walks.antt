@@ -69,9 +69,12 @@ module _ (P : Prefix) (u : Literal) where
   pub followed-held : (N : Slots) (c d : ℕ) (C : Clause) (old : List Literal) → slot N d ≡ Some C → IsIn u C → IsFollowed P N c u d old old true
   followed-held N c d C old h m = (grown-same (IsBeside N c d) old, λ E b. inl (subst (λ (x : Clause). IsIn u x) (one N d C E h b.1) m))
 
+  pub grown-widened : (N : Slots) (c d : ℕ) (C : Clause) (old new : List Literal) → d ≢ c → slot N d ≡ Some C → (IsIn u C → ⊥) → IsWidened P u C old new → IsGrown P u (IsBeside N c d) old new
+  grown-widened N c d C old new n h a w = record { added = w.added; is = w.is; from = λ k m. elim (w.no_other k m) [ inl x ↦ inl x | inr x ↦ inr (C, (n, h), a, x.0, x.1) ] }
+
   pub followed-widened : (N : Slots) (c d : ℕ) (C : Clause) (old new : List Literal) → d ≢ c → slot N d ≡ Some C → (IsIn u C → ⊥) → (IsIn (negation u) C → ⊥) → IsWidened P u C old new → IsFollowed P N c u d old new true
   followed-widened N c d C old new n h a b w = (
-    record { added = w.added; is = w.is; from = λ k m. elim (w.no_other k m) [ inl x ↦ inl x | inr x ↦ inr (C, (n, h), a, x.0, x.1) ] },
+    grown-widened N c d C old new n h a w,
     (λ E s. let q = one N d C E h s.1 in inr ((λ m. b (subst (λ (x : Clause). IsIn (negation u) x) (sym q) m)), (λ k m t. w.all_there k (subst (λ (x : Clause). IsIn k x) (sym q) m) t))),
   )
 
@@ -126,5 +129,8 @@ module _ (P : Prefix) (u : Literal) where
     f.3,
   )
 
+  pub beside-in : (N : Slots) (c d : ℕ) (l : Literal) (D E : Clause) → slot N d ≡ Some D → IsIn l D → IsBeside N c d E → IsIn E (others c N) × IsIn l E
+  beside-in N c d l D E h m b = (others-slot N d c E b.0 b.1, subst (λ (x : Clause). IsIn l x) (one N d D E h b.1) m)
+
   pub beside-held : (N : Slots) (c d : ℕ) (k : Literal) (D E : Clause) → slot N d ≡ Some D → IsIn (negation k) D → IsBeside N c d E → IsIn E (others c N) × IsIn (negation k) E
-  beside-held N c d k D E h m b = (others-slot N d c E b.0 b.1, subst (λ (x : Clause). IsIn (negation k) x) (one N d D E h b.1) m)
+  beside-held N c d k D E h m b = beside-in N c d (negation k) D E h m b

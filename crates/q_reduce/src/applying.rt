@@ -10,23 +10,26 @@ ghost use Rattle.q_logic.specs.Numbered.{slot, live, others};
 ghost use Rattle.q_logic.specs.Rules.{Fits};
 ghost use Rattle.q_kernel.specs.Kernels.{slots};
 ghost use Rattle.q_reduce.specs.Targets.{target_of};
+ghost use Rattle.q_reduce.specs.Regions.{AreRegionsOf};
 
 use crate::clauses::{holds, is_tautology, only_literal};
-use crate::queue::Queue;
-use crate::reach::{is_existential, is_reducible, is_universal};
+use crate::reach::{is_existential, is_universal};
+use crate::search::Search;
 use crate::target::Target;
 use q_arena::ClauseId;
 use q_kernel::Kernel;
 use q_logic::{Lit, NoMemory};
 
-/// Whether the conditions of a target hold. The queue may hold anything before and after.
-pub fn fits(kernel: &Kernel, queue: &mut Queue, target: &Target) -> Result<bool, NoMemory>
-    ensures { IfOk result (λ yes. (B : Bounds) → IsTrue yes ↔ Fits B kernel.now.prefix (slots kernel.now) (target_of target.now)) }
+/// Whether the conditions of a target hold.
+pub fn fits(kernel: &Kernel, search: &mut Search, target: &Target) -> Result<bool, NoMemory>
+    requires { AreRegionsOf kernel.now search.old }
+    ensures fits { IfOk result (λ yes. (B : Bounds) → IsTrue yes ↔ Fits B kernel.now.prefix (slots kernel.now) (target_of target.now)) }
+    ensures regions { AreRegionsOf kernel.now search.new }
 {
     match *target {
         Target::Tautology { c } => Ok(fits_tautology(kernel, c)),
         Target::Unit { c } => Ok(fits_unit(kernel, c)),
-        Target::Cut { c, l } => fits_cut(kernel, queue, c, l),
+        Target::Cut { c, l } => fits_cut(kernel, search, c, l),
         Target::Pure { l } => Ok(fits_pure(kernel, l)),
     }
 }
@@ -59,8 +62,10 @@ fn fits_unit(kernel: &Kernel, c: ClauseId) -> bool
     unit_literal(kernel, c).is_some()
 }
 
-fn fits_cut(kernel: &Kernel, queue: &mut Queue, c: ClauseId, l: Lit) -> Result<bool, NoMemory>
-    ensures { IfOk result (λ yes. IsTrue yes ↔ ((C : Clause) × (slot (slots kernel.now) c ≡ Some C) × Reducible kernel.now.prefix (others c (slots kernel.now)) C l)) }
+fn fits_cut(kernel: &Kernel, search: &mut Search, c: ClauseId, l: Lit) -> Result<bool, NoMemory>
+    requires { AreRegionsOf kernel.now search.old }
+    ensures fits { IfOk result (λ yes. IsTrue yes ↔ ((C : Clause) × (slot (slots kernel.now) c ≡ Some C) × Reducible kernel.now.prefix (others c (slots kernel.now)) C l)) }
+    ensures regions { AreRegionsOf kernel.now search.new }
 {
     if !is_universal(kernel, l.var()) || !kernel.live(c) {
         return Ok(false);
@@ -69,7 +74,7 @@ fn fits_cut(kernel: &Kernel, queue: &mut Queue, c: ClauseId, l: Lit) -> Result<b
     if !holds(clause, l) || holds(clause, l.negated()) {
         return Ok(false);
     }
-    is_reducible(kernel, queue, c, l)
+    search.may_drop(kernel, c, l)
 }
 
 fn fits_pure(kernel: &Kernel, l: Lit) -> bool

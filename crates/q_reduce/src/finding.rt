@@ -8,22 +8,29 @@ ghost use Rattle.q_logic.specs.Rules.{Fits};
 ghost use Rattle.q_kernel.specs.Kernels.{slots};
 ghost use Rattle.q_reduce.specs.declared.target.Target.{Target as TargetValue};
 ghost use Rattle.q_reduce.specs.Targets.{target_of};
+ghost use Rattle.q_reduce.specs.Regions.{AreRegionsOf};
 ghost use Rattle.q_reduce.specs.Searches.{IsCutOf, IsOfClause, IsOfVariable, IsAt, IsFound};
 
 use crate::applying::fits;
-use crate::queue::Queue;
+use crate::search::Search;
 use crate::target::Target;
 use q_arena::ClauseId;
 use q_kernel::Kernel;
 use q_logic::{Lit, NoMemory};
 
 /// A target that fits, at the first place from a number on at which one does.
-pub fn find_from(kernel: &Kernel, queue: &mut Queue, from: u32) -> Result<Option<Target>, NoMemory>
-    ensures { IfOk result (IsFound kernel.now (λ t. from ≤ place (target_of t))) }
+pub fn find_from(
+    kernel: &Kernel,
+    search: &mut Search,
+    from: u32,
+) -> Result<Option<Target>, NoMemory>
+    requires { AreRegionsOf kernel.now search.old }
+    ensures found { IfOk result (IsFound kernel.now (λ t. from ≤ place (target_of t))) }
+    ensures regions { AreRegionsOf kernel.now search.new }
 {
     let mut at = from;
     while let Some(place) = next_place(kernel, at) {
-        let found = find_at(kernel, queue, place)?;
+        let found = find_at(kernel, search, place)?;
         if found.is_some() {
             return Ok(found);
         }
@@ -50,44 +57,50 @@ fn next_place(kernel: &Kernel, at: u32) -> Option<u32>
 }
 
 // A target at a place: of its clause, or else of its variable.
-fn find_at(kernel: &Kernel, queue: &mut Queue, place: u32) -> Result<Option<Target>, NoMemory>
-    ensures { IfOk result (IsFound kernel.now (IsAt place)) }
+fn find_at(kernel: &Kernel, search: &mut Search, place: u32) -> Result<Option<Target>, NoMemory>
+    requires { AreRegionsOf kernel.now search.old }
+    ensures found { IfOk result (IsFound kernel.now (IsAt place)) }
+    ensures regions { AreRegionsOf kernel.now search.new }
 {
-    let found = find_in(kernel, queue, place)?;
+    let found = find_in(kernel, search, place)?;
     if found.is_some() {
         return Ok(found);
     }
-    let pure = find_pure(kernel, queue, place)?;
+    let pure = find_pure(kernel, search, place)?;
     Ok(pure)
 }
 
 // A target of a clause.
-fn find_in(kernel: &Kernel, queue: &mut Queue, c: ClauseId) -> Result<Option<Target>, NoMemory>
-    ensures { IfOk result (IsFound kernel.now (IsOfClause c)) }
+fn find_in(kernel: &Kernel, search: &mut Search, c: ClauseId) -> Result<Option<Target>, NoMemory>
+    requires { AreRegionsOf kernel.now search.old }
+    ensures found { IfOk result (IsFound kernel.now (IsOfClause c)) }
+    ensures regions { AreRegionsOf kernel.now search.new }
 {
     if !kernel.live(c) {
         return Ok(None);
     }
     let tautology = Target::Tautology { c };
-    if fits(kernel, queue, &tautology)? {
+    if fits(kernel, search, &tautology)? {
         return Ok(Some(tautology));
     }
     let unit = Target::Unit { c };
-    if fits(kernel, queue, &unit)? {
+    if fits(kernel, search, &unit)? {
         return Ok(Some(unit));
     }
-    let cut = find_cut(kernel, queue, c)?;
+    let cut = find_cut(kernel, search, c)?;
     Ok(cut)
 }
 
 // A literal that may leave a clause.
-fn find_cut(kernel: &Kernel, queue: &mut Queue, c: ClauseId) -> Result<Option<Target>, NoMemory>
-    requires { (C : Clause) × (slot (slots kernel.now) c ≡ Some C) }
-    ensures { IfOk result (IsFound kernel.now (IsCutOf c)) }
+fn find_cut(kernel: &Kernel, search: &mut Search, c: ClauseId) -> Result<Option<Target>, NoMemory>
+    requires live { (C : Clause) × (slot (slots kernel.now) c ≡ Some C) }
+    requires regions { AreRegionsOf kernel.now search.old }
+    ensures found { IfOk result (IsFound kernel.now (IsCutOf c)) }
+    ensures regions { AreRegionsOf kernel.now search.new }
 {
     for l in kernel.lits(c) {
         let cut = Target::Cut { c, l: *l };
-        if fits(kernel, queue, &cut)? {
+        if fits(kernel, search, &cut)? {
             return Ok(Some(cut));
         }
     }
@@ -95,8 +108,10 @@ fn find_cut(kernel: &Kernel, queue: &mut Queue, c: ClauseId) -> Result<Option<Ta
 }
 
 // A pure literal of a variable.
-fn find_pure(kernel: &Kernel, queue: &mut Queue, var: u32) -> Result<Option<Target>, NoMemory>
-    ensures { IfOk result (IsFound kernel.now (IsOfVariable var)) }
+fn find_pure(kernel: &Kernel, search: &mut Search, var: u32) -> Result<Option<Target>, NoMemory>
+    requires { AreRegionsOf kernel.now search.old }
+    ensures found { IfOk result (IsFound kernel.now (IsOfVariable var)) }
+    ensures regions { AreRegionsOf kernel.now search.new }
 {
     kernel.sound();
     if !kernel.prefix().contains(var) {
@@ -105,13 +120,13 @@ fn find_pure(kernel: &Kernel, queue: &mut Queue, var: u32) -> Result<Option<Targ
     let positive = Target::Pure {
         l: Lit::new(var, false),
     };
-    if fits(kernel, queue, &positive)? {
+    if fits(kernel, search, &positive)? {
         return Ok(Some(positive));
     }
     let negative = Target::Pure {
         l: Lit::new(var, true),
     };
-    if fits(kernel, queue, &negative)? {
+    if fits(kernel, search, &negative)? {
         return Ok(Some(negative));
     }
     Ok(None)

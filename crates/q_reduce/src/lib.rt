@@ -2,15 +2,23 @@
 #![tactic(auto)]
 
 mod applying;
+mod asked;
 mod changing;
 mod clauses;
 mod finding;
+mod guide;
+mod joining;
+mod maps;
 mod queue;
 mod reach;
 mod reduce;
+mod regions;
+mod search;
 mod target;
+mod tree;
 
-pub use reduce::{find, try_one};
+pub use reduce::{applies, find, find_with, try_one, try_with};
+pub use search::Search;
 pub use target::Target;
 
 #[cfg(test)]

@@ -12,10 +12,14 @@ ghost use Rattle.q_reduce.specs.Quants.{is_some_exists, is_some_forall};
 ghost use Rattle.q_reduce.specs.Walks.{IsWidened, IsFollowed, IsVisited};
 
 use crate::clauses::holds;
+use crate::guide::Guide;
 use crate::queue::Queue;
 use q_arena::ClauseId;
 use q_kernel::Kernel;
 use q_logic::{Lit, NoMemory, Quant};
+
+// The guide is asked at so many literals of a walk.
+const GUIDED: usize = 64;
 
 fn says_exists(quant: Option<Quant>) -> bool
     ensures { result ≡ is_some_exists quant }
@@ -41,8 +45,8 @@ pub fn is_universal(kernel: &Kernel, var: u32) -> bool
     says_forall(kernel.prefix().quant(var))
 }
 
-// The clause of an id. Its variables are in the prefix.
-fn clause_of(kernel: &Kernel, id: ClauseId) -> &[Lit]
+/// The clause of an id. Its variables are in the prefix.
+pub fn clause_of(kernel: &Kernel, id: ClauseId) -> &[Lit]
     requires { (C : Clause) × (slot (slots kernel.now) id ≡ Some C) }
     ensures clause { slot (slots kernel.now) id ≡ Some result.now }
     ensures within { Within kernel.now.prefix result.now }
@@ -52,17 +56,21 @@ fn clause_of(kernel: &Kernel, id: ClauseId) -> &[Lit]
 }
 
 /// Whether no clause that is reached from the clause holds the literal's negation. The walk expands each
-/// literal once, and stops at the first such clause.
+/// literal once, and stops at the first such clause, or where the guide knows the way to one. It counts the clauses
+/// that it may look at.
 pub fn is_reducible(
     kernel: &Kernel,
     queue: &mut Queue,
+    guide: &Guide,
     c: ClauseId,
     lit: Lit,
+    looks: &mut usize,
 ) -> Result<bool, NoMemory>
     requires live { (C : Clause) × (slot (slots kernel.now) c ≡ Some C) × IsIn lit C × (IsIn (negation lit) C → ⊥) }
     requires universal { is_universal kernel.now.prefix lit.var ≡ true }
     ensures { IfOk result (λ yes. (C : Clause) → slot (slots kernel.now) c ≡ Some C → IsTrue yes ↔ Reducible kernel.now.prefix (others c (slots kernel.now)) C lit) }
 {
+    let exit = guide.exit(kernel, queue, c, lit)?;
     queue.clear();
     push_inner(kernel, queue, clause_of(kernel, c), lit)?;
     for head in 0..usize::MAX {
@@ -70,6 +78,10 @@ pub fn is_reducible(
             return Ok(true);
         }
         let next = queue.at(head);
+        if head < GUIDED && guide.leads_out(kernel, c, lit, next, exit) {
+            return Ok(false);
+        }
+        *looks = looks.saturating_add(kernel.count(next.negated()) as usize);
         if !visit(kernel, queue, c, next, lit)? {
             return Ok(false);
         }
@@ -128,8 +140,13 @@ fn follow(
     Ok(true)
 }
 
-// Puts the literals of the clause that are existential and inner to u into the queue, each once.
-fn push_inner(kernel: &Kernel, queue: &mut Queue, clause: &[Lit], u: Lit) -> Result<(), NoMemory>
+/// Puts the literals of the clause that are existential and inner to u into the queue, each once.
+pub fn push_inner(
+    kernel: &Kernel,
+    queue: &mut Queue,
+    clause: &[Lit],
+    u: Lit,
+) -> Result<(), NoMemory>
     requires bound { is_bound kernel.now.prefix u.var ≡ true }
     requires within { Within kernel.now.prefix clause.now }
     ensures { OnOk result (IsWidened kernel.now.prefix u clause.now queue.old queue.new) }
@@ -142,10 +159,18 @@ fn push_inner(kernel: &Kernel, queue: &mut Queue, clause: &[Lit], u: Lit) -> Res
     Ok(())
 }
 
-fn lies_inside(kernel: &Kernel, k: Lit, u: Lit) -> bool
-    requires first { is_bound kernel.now.prefix k.var ≡ true }
-    requires second { is_bound kernel.now.prefix u.var ≡ true }
+/// Whether k is existential and inner to u.
+pub fn lies_inside(kernel: &Kernel, k: Lit, u: Lit) -> bool
+    requires { is_bound kernel.now.prefix u.var ≡ true }
     ensures { result ≡ inner_existential kernel.now.prefix u.var k.var }
 {
-    is_existential(kernel, k.var()) && !kernel.prefix().outer_or_same(k.var(), u.var())
+    is_inner(kernel, k.var(), u.var())
+}
+
+/// Whether a variable is existential and inner to another.
+pub fn is_inner(kernel: &Kernel, var: u32, u: u32) -> bool
+    requires { is_bound kernel.now.prefix u ≡ true }
+    ensures { result ≡ inner_existential kernel.now.prefix u var }
+{
+    is_existential(kernel, var) && !kernel.prefix().outer_or_same(var, u)
 }

@@ -1,4 +1,4 @@
-ghost use Rattle.std.specs.Prelude.{◌≡◌, ◌↔◌, ◌≤◌, Some, None, OnOk, OnErr, IfOk};
+ghost use Rattle.std.specs.Prelude.{◌≡◌, ◌↔◌, ◌≤◌, Some, None, OnOk, OnErr, IfOk, IsTrue};
 ghost use Rattle.q_logic.specs.Targets.{place};
 ghost use Rattle.q_kernel.specs.declared.taken.Taken.TheVariants.{Yes, No};
 ghost use Rattle.q_logic.specs.Limits.{standard};
@@ -8,11 +8,12 @@ ghost use Rattle.q_kernel.specs.Taking.{AreModest, IsReady, Applies, IsTaken};
 ghost use Rattle.q_reduce.specs.declared.target.Target.{Target as TargetValue};
 ghost use Rattle.q_reduce.specs.Targets.{target_of};
 ghost use Rattle.q_reduce.specs.Becoming.{CanChange};
+ghost use Rattle.q_reduce.specs.Regions.{AreRegionsOf};
 
 use crate::applying::fits;
 use crate::changing::take;
 use crate::finding::find_from;
-use crate::queue::Queue;
+use crate::search::Search;
 use crate::target::Target;
 use q_kernel::{Kernel, Need, Taken};
 use q_logic::{Bounds, NoMemory};
@@ -32,14 +33,51 @@ pub fn try_one(
     ensures no { IfOk result (λ r. r ≡ No → SameView kernel.old kernel.new) }
     ensures err { OnErr result (SameView kernel.old kernel.new) }
 {
+    let mut search = Search::new(alloc);
+    try_with(kernel, &mut search, target, bounds)
+}
+
+/// The same, with a search that is lent.
+pub fn try_with(
+    kernel: &mut Kernel,
+    search: &mut Search,
+    target: &Target,
+    bounds: &Bounds,
+) -> Result<Taken, NoMemory>
+    requires ready { IsReady kernel.old }
+    requires bounds { AreModest bounds.now }
+    requires regions { AreRegionsOf kernel.old search.old }
+    ensures applies { IfOk result (λ r. (r ≡ Yes) ↔ Applies bounds.now kernel.old (target_of target.now)) }
+    ensures yes { IfOk result (λ r. r ≡ Yes → IsTaken bounds.now kernel.old kernel.new (target_of target.now)) }
+    ensures no { IfOk result (λ r. r ≡ No → SameView kernel.old kernel.new) }
+    ensures err { OnErr result (SameView kernel.old kernel.new) }
+    ensures regions { AreRegionsOf kernel.new search.new }
+{
     let _ = bounds;
-    let mut queue = Queue::new(alloc);
-    if !fits(kernel, &mut queue, target)? {
+    if !fits(kernel, search, target)? {
         return Ok(Taken::No);
     }
     reserve(kernel)?;
     take(kernel, target);
     Ok(Taken::Yes)
+}
+
+/// Whether a target applies, with a search that is lent.
+pub fn applies(
+    kernel: &Kernel,
+    search: &mut Search,
+    target: &Target,
+    bounds: &Bounds,
+) -> Result<bool, NoMemory>
+    requires ready { IsReady kernel.now }
+    requires bounds { AreModest bounds.now }
+    requires regions { AreRegionsOf kernel.now search.old }
+    ensures yes { IfOk result (λ yes. IsTrue yes ↔ Applies bounds.now kernel.now (target_of target.now)) }
+    ensures regions { AreRegionsOf kernel.now search.new }
+{
+    let _ = bounds;
+    let yes = fits(kernel, search, target)?;
+    Ok(yes)
 }
 
 /// A target whose place is at least a number; none exactly where no target from that place on applies. The
@@ -55,9 +93,26 @@ pub fn find(
     ensures some { IfOk result (λ o. (t : TargetValue) → o ≡ Some t → Applies bounds.now kernel.now (target_of t) × (from ≤ place (target_of t))) }
     ensures none { IfOk result (λ o. o ≡ None → (t : TargetValue) → from ≤ place (target_of t) → Applies bounds.now kernel.now (target_of t) → ⊥) }
 {
+    let mut search = Search::new(alloc);
+    find_with(kernel, &mut search, bounds, from)
+}
+
+/// The same, with a search that is lent.
+pub fn find_with(
+    kernel: &Kernel,
+    search: &mut Search,
+    bounds: &Bounds,
+    from: u32,
+) -> Result<Option<Target>, NoMemory>
+    requires ready { IsReady kernel.now }
+    requires bounds { AreModest bounds.now }
+    requires regions { AreRegionsOf kernel.now search.old }
+    ensures some { IfOk result (λ o. (t : TargetValue) → o ≡ Some t → Applies bounds.now kernel.now (target_of t) × (from ≤ place (target_of t))) }
+    ensures none { IfOk result (λ o. o ≡ None → (t : TargetValue) → from ≤ place (target_of t) → Applies bounds.now kernel.now (target_of t) → ⊥) }
+    ensures regions { AreRegionsOf kernel.now search.new }
+{
     let _ = bounds;
-    let mut queue = Queue::new(alloc);
-    let found = find_from(kernel, &mut queue, from)?;
+    let found = find_from(kernel, search, from)?;
     Ok(found)
 }
 

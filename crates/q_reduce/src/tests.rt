@@ -1,6 +1,11 @@
 ghost use Rattle.std.specs.Prelude.{IfOk};
 ghost use Rattle.q_kernel.specs.Taking.{IsReady};
 
+use crate::clauses::holds;
+use crate::guide::Guide;
+use crate::queue::Queue;
+use crate::reach::is_universal;
+use crate::regions::Regions;
 use crate::{Target, find, try_one};
 use q_kernel::{Kernel, Taken};
 use q_logic::{Bound, Bounds, Formula, Lit, NoMemory, Quant};
@@ -119,6 +124,43 @@ fn with_pure(alloc: Global) -> Result<Formula, NoMemory> {
     Ok(Formula::from_parts(prefix, lits, ends))
 }
 
+// a 2, e 1 3; {1 2} {-1 3} {-2 -3}
+fn with_chain(alloc: Global) -> Result<Formula, NoMemory> {
+    let mut prefix = Vec::new(alloc);
+    prefix.push(FORALL_TWO)?;
+    prefix.push(ONE)?;
+    prefix.push(THREE)?;
+    let mut lits = Vec::new(alloc);
+    lits.push(Lit::new(1, false))?;
+    lits.push(Lit::new(2, false))?;
+    lits.push(Lit::new(1, true))?;
+    lits.push(Lit::new(3, false))?;
+    lits.push(Lit::new(2, true))?;
+    lits.push(Lit::new(3, true))?;
+    let mut ends = Vec::new(alloc);
+    ends.push(2)?;
+    ends.push(4)?;
+    ends.push(6)?;
+    Ok(Formula::from_parts(prefix, lits, ends))
+}
+
+// a 2, e 1 3; {1 2} {-2 3}
+fn with_parts(alloc: Global) -> Result<Formula, NoMemory> {
+    let mut prefix = Vec::new(alloc);
+    prefix.push(FORALL_TWO)?;
+    prefix.push(ONE)?;
+    prefix.push(THREE)?;
+    let mut lits = Vec::new(alloc);
+    lits.push(Lit::new(1, false))?;
+    lits.push(Lit::new(2, false))?;
+    lits.push(Lit::new(2, true))?;
+    lits.push(Lit::new(3, false))?;
+    let mut ends = Vec::new(alloc);
+    ends.push(2)?;
+    ends.push(4)?;
+    Ok(Formula::from_parts(prefix, lits, ends))
+}
+
 fn formula_of(alloc: Global, row: u8) -> Result<Formula, NoMemory> {
     match row {
         1 => with_tautology(alloc),
@@ -126,6 +168,8 @@ fn formula_of(alloc: Global, row: u8) -> Result<Formula, NoMemory> {
         3 => with_cut(alloc),
         4 => with_reach(alloc),
         5 => with_pure(alloc),
+        6 => with_chain(alloc),
+        7 => with_parts(alloc),
         _ => Ok(nothing(alloc)),
     }
 }
@@ -170,6 +214,57 @@ fn outcome(
 fn found(alloc: Global, row: u8, from: u32) -> Result<Option<Target>, NoMemory> {
     let kernel = kernel_of(alloc, row)?;
     find(alloc, &kernel, &BOUNDS, from)
+}
+
+// Whether hints lead to the negation of the universal literal of the chain's first clause, after some walks that looked at
+// three clauses each.
+fn told(alloc: Global, walks: u32) -> Result<bool, NoMemory> {
+    let kernel = kernel_of(alloc, 6)?;
+    let mut queue = Queue::new(alloc);
+    let mut guide = Guide::new(alloc);
+    let lit = yes(2);
+    if !kernel.live(0) || !kernel.prefix().contains(lit.var()) {
+        return Err(NoMemory);
+    }
+    for _ in 0..walks {
+        queue.clear();
+        queue.push(yes(1))?;
+        queue.push(yes(3))?;
+        guide.learn(&kernel, &mut queue, lit, 3)?;
+    }
+    Ok(guide.exit(&kernel, &mut queue, 0, lit)?.is_some())
+}
+
+// Whether regions tell that the universal literal of the first clause may go.
+fn apart(alloc: Global, row: u8) -> Result<bool, NoMemory> {
+    let kernel = kernel_of(alloc, row)?;
+    let lit = yes(2);
+    if !kernel.live(0) || !kernel.prefix().contains(2) || !is_universal(&kernel, lit.var()) {
+        return Err(NoMemory);
+    }
+    let clause = kernel.lits(0);
+    if !holds(clause, lit) || holds(clause, lit.negated()) {
+        return Err(NoMemory);
+    }
+    let mut regions = Regions::new(alloc);
+    regions.build(&kernel, 2)?;
+    Ok(regions.separates(&kernel, 0, lit))
+}
+
+#[test]
+fn regions_tell_parts_apart(rt: HostRuntime) -> Result<(), NoMemory> {
+    for (row, want) in [(3, true), (4, false), (6, false), (7, true)] {
+        assert_eq!(rt; apart(rt.alloc(), row)?, want, "{row}");
+    }
+    Ok(())
+}
+
+#[test]
+fn hints_come_with_walks(rt: HostRuntime) -> Result<(), NoMemory> {
+    for (walks, want) in [(0, false), (4, false), (5, true)] {
+        assert_eq!(rt; told(rt.alloc(), walks)?, want, "{walks}");
+    }
+    Ok(())
 }
 
 #[test]

@@ -9,8 +9,8 @@ use Rattle.q_reduce.proofs.applying.fits_cut.Goals.{then-not-holds-via-then-not-
 same : (C D : Clause) → Some C ≡ Some D → C ≡ D
 same C D e = cc
 
-pub returns-then-not-holds : goal.returns-then-not-holds
-returns-then-not-holds c = (
+pub returns-then-not-holds-clause-fits : goal.returns-then-not-holds-clause-fits
+returns-then-not-holds-clause-fits c = (
   λ t. absurd (true≢false (sym t)),
   λ (C, e, r).
       let q : c.lits-clause.result.now ≡ C = same c.lits-clause.result.now C (sym c.lits-clause.ensures.clause ∙ e) in

@@ -4,10 +4,10 @@ use Rattle.q_reduce.specs.Searches.{IsOfClause, IsFound}
 use Rattle.q_reduce.proofs.Passing.{found-at, found-clause, none-is}
 use Rattle.q_reduce.proofs.finding.find_at.Goals as goal
 
-pub returns-then-is_some : goal.returns-then-is_some
-returns-then-is_some c = found-clause c.args.kernel.now c.args.place c.in_ok-found.found (sym c.is_some.ensures ∙ c.if-is_some.true) c.in_ok-found.ensures
+pub returns-then-is_some-clause-found : goal.returns-then-is_some-clause-found
+returns-then-is_some-clause-found c = found-clause c.args.kernel.now c.args.place c.in_ok-found.found (sym c.is_some.ensures ∙ c.if-is_some.true) c.in_ok-found.ensures.found
 
-pub returns : goal.returns
-returns c =
+pub returns-clause-found : goal.returns-clause-found
+returns-clause-found c =
     let e : c.in_ok-found.found ≡ None = none-is c.in_ok-found.found (sym c.is_some.ensures ∙ c.if-is_some.false) in
-    found-at c.args.kernel.now c.args.place c.in_ok-pure.pure (subst (λ (o : Option Target). IsFound c.args.kernel.now (IsOfClause c.args.place) o) e c.in_ok-found.ensures) c.in_ok-pure.ensures
+    found-at c.args.kernel.now c.args.place c.in_ok-pure.pure (subst (λ (o : Option Target). IsFound c.args.kernel.now (IsOfClause c.args.place) o) e c.in_ok-found.ensures.found) c.in_ok-pure.ensures.found

@@ -14,27 +14,30 @@ use Rattle.q_reduce.proofs.Members.{taken-cases, taken-all}
 use Rattle.q_reduce.proofs.Passing.{found-one, found-none}
 use Rattle.q_reduce.proofs.finding.find_cut.Goals as goal
 
-pub returns-then-branch : goal.returns-then-branch
-returns-then-branch c = found-one c.args.kernel.now (IsCutOf c.args.c) (Cut c.args.c c.l-item.result) refl (λ B. (c.in_ok-fits.ensures B).0 c.if-branch.true)
+pub returns-then-branch-clause-found : goal.returns-then-branch-clause-found
+returns-then-branch-clause-found c = found-one c.args.kernel.now (IsCutOf c.args.c) (Cut c.args.c c.l-item.result) refl (λ B. (c.in_ok-fits.ensures.fits B).0 c.if-branch.true)
 
 pub loop-l-preserved : goal.loop-l-preserved
-loop-l-preserved c k m B f = elim (taken-cases c.lits-l-items.result.now c.loop-l.l-index c.l-item.result k c.loop-l-test.true c.l-item.is m) [
-  | inl a ↦ c.loop-l.invariant k a B f
-  | inr e ↦
-      let s = c.args.kernel.now in
-      let g = subst (λ (x : Literal). Fits B s.prefix (slots s) (theory.cut c.args.c x)) e f in
-      true≢false (sym ((c.in_ok-fits.ensures B).1 g) ∙ c.if-branch.false)
-]
+loop-l-preserved c = record {
+  none = λ k m B f. elim (taken-cases c.lits-l-items.result.now c.loop-l.l-index c.l-item.result k c.loop-l-test.true c.l-item.is m) [
+    | inl a ↦ c.loop-l.invariant.none k a B f
+    | inr e ↦
+        let s = c.args.kernel.now in
+        let g = subst (λ (x : Literal). Fits B s.prefix (slots s) (theory.cut c.args.c x)) e f in
+        true≢false (sym ((c.in_ok-fits.ensures.fits B).1 g) ∙ c.if-branch.false)
+  ];
+  regions = c.fits.ensures.regions;
+}
 
 same : (C D : Clause) → Some C ≡ Some D → C ≡ D
 same C D e = cc
 
-pub returns : goal.returns
-returns c =
+pub returns-clause-found : goal.returns-clause-found
+returns-clause-found c =
     let s = c.args.kernel.now in
     let C = c.lits-l-items.result.now in
     found-none s (IsCutOf c.args.c) (none s c.args.c C c.lits-l-items.ensures.clause
-    (λ l m B f. c.loop-l.invariant l (subst (λ (xs : Clause). IsIn l xs) (sym (taken-all C c.loop-l.l-index c.loop-l-test.false)) m) B f))
+    (λ l m B f. c.loop-l.invariant.none l (subst (λ (xs : Clause). IsIn l xs) (sym (taken-all C c.loop-l.l-index c.loop-l-test.false)) m) B f))
   where
     none : (k : Seen) (c : ℕ) (C : Clause) → slot (slots k) c ≡ Some C → ((l : Literal) → IsIn l C → (B : Bounds) → Fits B k.prefix (slots k) (theory.cut c l) → ⊥) → (t : Target) → IsCutOf c t → (B : Bounds) → Fits B k.prefix (slots k) (target_of t) → ⊥
     none k c C e h (Tautology d) q B f = q

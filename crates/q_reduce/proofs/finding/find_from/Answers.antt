@@ -5,15 +5,18 @@ use Rattle.q_reduce.proofs.Passing.{IsPassed, passed-begun, passed-more, passed-
 use Rattle.q_reduce.proofs.finding.find_from.Goals as goal
 
 pub loop-place-init : goal.loop-place-init
-loop-place-init c = passed-begun c.args.kernel.now c.args.from
+loop-place-init c = record { passed = passed-begun c.args.kernel.now c.args.from; regions = c.requires }
 
-pub returns-then-is_some : goal.returns-then-is_some
-returns-then-is_some c = passed-found c.args.kernel.now c.args.from c.loop-place.at c.in-Some.place c.in_ok-found.found (c.in-Some.ensures.some c.in-Some.place refl) (sym c.is_some.ensures ∙ c.if-is_some.true) c.in_ok-found.ensures c.loop-place.invariant
+pub returns-then-is_some-clause-found : goal.returns-then-is_some-clause-found
+returns-then-is_some-clause-found c = passed-found c.args.kernel.now c.args.from c.loop-place.at c.in-Some.place c.in_ok-found.found (c.in-Some.ensures.some c.in-Some.place refl) (sym c.is_some.ensures ∙ c.if-is_some.true) c.in_ok-found.ensures.found c.loop-place.invariant.passed
 
 pub loop-place-preserved : goal.loop-place-preserved
 loop-place-preserved c =
     let e : c.in_ok-found.found ≡ None = none-is c.in_ok-found.found (sym c.is_some.ensures ∙ c.if-is_some.false) in
-    let h = subst (λ (o : Option Target). IsFound c.args.kernel.now (IsAt c.in-Some.place) o) e c.in_ok-found.ensures in
+    let h = subst (λ (o : Option Target). IsFound c.args.kernel.now (IsAt c.in-Some.place) o) e c.in_ok-found.ensures.found in
     let next : c.in-Some-checked_add.after ≡ c.in-Some.place + 1 = c.in-Some-checked_add.ensures.1 in
-    subst (λ (n : ℕ). IsPassed c.args.kernel.now c.args.from n) (sym next)
-    (passed-more c.args.kernel.now c.args.from c.loop-place.at c.in-Some.place (c.in-Some.ensures.some c.in-Some.place refl) (c.in-Some.ensures.between c.in-Some.place refl) h c.loop-place.invariant)
+    record {
+      passed = subst (λ (n : ℕ). IsPassed c.args.kernel.now c.args.from n) (sym next)
+          (passed-more c.args.kernel.now c.args.from c.loop-place.at c.in-Some.place (c.in-Some.ensures.some c.in-Some.place refl) (c.in-Some.ensures.between c.in-Some.place refl) h c.loop-place.invariant.passed);
+      regions = c.find_at.ensures.regions;
+    }

@@ -19,14 +19,14 @@ stale k c n (Unit d) q B f = let g : Fits B k.prefix (slots k) (theory.unit c) =
 stale k c n (Cut d l) q B f = let g : Fits B k.prefix (slots k) (theory.cut c l) = subst (λ (x : ℕ). Fits B k.prefix (slots k) (theory.cut x l)) q f in n (g.0, g.1)
 stale k c n (Pure l) q B f = q
 
-pub returns-then-not-live : goal.returns-then-not-live
-returns-then-not-live c = found-none c.args.kernel.now (IsOfClause c.args.c) (stale c.args.kernel.now c.args.c (test-false c.live.result c.live.ensures c.if-not-live.true))
+pub returns-then-not-live-clause-found : goal.returns-then-not-live-clause-found
+returns-then-not-live-clause-found c = found-none c.args.kernel.now (IsOfClause c.args.c) (stale c.args.kernel.now c.args.c (test-false c.live.result c.live.ensures c.if-not-live.true))
 
-pub returns-then-branch : goal.returns-then-branch
-returns-then-branch c = found-one c.args.kernel.now (IsOfClause c.args.c) (Tautology c.args.c) refl (λ B. (c.in_ok-fits.ensures B).0 c.if-branch.true)
+pub returns-then-branch-clause-found : goal.returns-then-branch-clause-found
+returns-then-branch-clause-found c = found-one c.args.kernel.now (IsOfClause c.args.c) (Tautology c.args.c) refl (λ B. (c.in_ok-fits.ensures.fits B).0 c.if-branch.true)
 
-pub returns-then-branch-2 : goal.returns-then-branch-2
-returns-then-branch-2 c = found-one c.args.kernel.now (IsOfClause c.args.c) (Unit c.args.c) refl (λ B. (c.in_ok-fits-2.ensures B).0 c.if-branch-2.true)
+pub returns-then-branch-2-clause-found : goal.returns-then-branch-2-clause-found
+returns-then-branch-2-clause-found c = found-one c.args.kernel.now (IsOfClause c.args.c) (Unit c.args.c) refl (λ B. (c.in_ok-fits-2.ensures.fits B).0 c.if-branch-2.true)
 
 all : (k : Seen) (c : ℕ) (o : Option Target) → ((B : Bounds) → Fits B k.prefix (slots k) (theory.tautology c) → ⊥) → ((B : Bounds) → Fits B k.prefix (slots k) (theory.unit c) → ⊥) → IsFound k (IsCutOf c) o → IsFound k (IsOfClause c) o
 all k c o a b h = record {
@@ -46,8 +46,8 @@ all k c o a b h = record {
     neither e (Cut d l) q B f = h.none e (Cut d l) q B f
     neither e (Pure l) q B f = q
 
-pub returns : goal.returns
-returns c = all c.args.kernel.now c.args.c c.in_ok-cut.cut
-    (λ B f. true≢false (sym ((c.in_ok-fits.ensures B).1 f) ∙ c.if-branch.false))
-    (λ B f. true≢false (sym ((c.in_ok-fits-2.ensures B).1 f) ∙ c.if-branch-2.false))
-    c.in_ok-cut.ensures
+pub returns-clause-found : goal.returns-clause-found
+returns-clause-found c = all c.args.kernel.now c.args.c c.in_ok-cut.cut
+    (λ B f. true≢false (sym ((c.in_ok-fits.ensures.fits B).1 f) ∙ c.if-branch.false))
+    (λ B f. true≢false (sym ((c.in_ok-fits-2.ensures.fits B).1 f) ∙ c.if-branch-2.false))
+    c.in_ok-cut.ensures.found

@@ -13,8 +13,8 @@ use Rattle.q_reduce.specs.Searches.{IsOfVariable}
 use Rattle.q_reduce.proofs.Passing.{found-one, found-none}
 use Rattle.q_reduce.proofs.finding.find_pure.Goals as goal
 
-pub returns-then-not-contains : goal.returns-then-not-contains
-returns-then-not-contains c =
+pub returns-then-not-contains-clause-found : goal.returns-then-not-contains-clause-found
+returns-then-not-contains-clause-found c =
     let k = c.args.kernel.now in
     let e : is_bound k.prefix c.args.var ≡ false = sym (rw c.prefix.ensures at c.contains.ensures) ∙ c.if-not-contains.true in
     found-none k (IsOfVariable c.args.var) (absent k c.args.var e)
@@ -37,22 +37,22 @@ new-requires-clause-small c =
     let e : is_bound k.prefix c.args.var ≡ true = sym (rw c.prefix.ensures at c.contains.ensures) ∙ c.if-not-contains.false in
     (proper-var (formula_in k) c.args.var c.sound.ensures.proper e).1
 
-pub returns-then-branch : goal.returns-then-branch
-returns-then-branch c =
+pub returns-then-branch-clause-found : goal.returns-then-branch-clause-found
+returns-then-branch-clause-found c =
     let k = c.args.kernel.now in
-    found-one k (IsOfVariable c.args.var) (Pure c.new.result) (ap (λ (l : Literal). l.var) c.new.ensures) (λ B. (c.in_ok-fits.ensures B).0 c.if-branch.true)
+    found-one k (IsOfVariable c.args.var) (Pure c.new.result) (ap (λ (l : Literal). l.var) c.new.ensures) (λ B. (c.in_ok-fits.ensures.fits B).0 c.if-branch.true)
 
-pub returns-then-branch-2 : goal.returns-then-branch-2
-returns-then-branch-2 c =
+pub returns-then-branch-2-clause-found : goal.returns-then-branch-2-clause-found
+returns-then-branch-2-clause-found c =
     let k = c.args.kernel.now in
-    found-one k (IsOfVariable c.args.var) (Pure c.new-2.result) (ap (λ (l : Literal). l.var) c.new-2.ensures) (λ B. (c.in_ok-fits-2.ensures B).0 c.if-branch-2.true)
+    found-one k (IsOfVariable c.args.var) (Pure c.new-2.result) (ap (λ (l : Literal). l.var) c.new-2.ensures) (λ B. (c.in_ok-fits-2.ensures.fits B).0 c.if-branch-2.true)
 
-pub returns : goal.returns
-returns c =
+pub returns-clause-found : goal.returns-clause-found
+returns-clause-found c =
     let k = c.args.kernel.now in
     found-none k (IsOfVariable c.args.var) (neither k c.args.var
-    (λ B f. let g = subst (λ (l : Literal). Fits B k.prefix (slots k) (theory.pure l)) (sym c.new.ensures) f in true≢false (sym ((c.in_ok-fits.ensures B).1 g) ∙ c.if-branch.false))
-    (λ B f. let g = subst (λ (l : Literal). Fits B k.prefix (slots k) (theory.pure l)) (sym c.new-2.ensures) f in true≢false (sym ((c.in_ok-fits-2.ensures B).1 g) ∙ c.if-branch-2.false)))
+    (λ B f. let g = subst (λ (l : Literal). Fits B k.prefix (slots k) (theory.pure l)) (sym c.new.ensures) f in true≢false (sym ((c.in_ok-fits.ensures.fits B).1 g) ∙ c.if-branch.false))
+    (λ B f. let g = subst (λ (l : Literal). Fits B k.prefix (slots k) (theory.pure l)) (sym c.new-2.ensures) f in true≢false (sym ((c.in_ok-fits-2.ensures.fits B).1 g) ∙ c.if-branch-2.false)))
   where
     neither : (k : Seen) (v : ℕ) → ((B : Bounds) → Fits B k.prefix (slots k) (theory.pure (record { var = v; negative = false })) → ⊥) → ((B : Bounds) → Fits B k.prefix (slots k) (theory.pure (record { var = v; negative = true })) → ⊥) → (t : Target) → IsOfVariable v t → (B : Bounds) → Fits B k.prefix (slots k) (target_of t) → ⊥
     neither k v p n (Tautology d) q B f = q

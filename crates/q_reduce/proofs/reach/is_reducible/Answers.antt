@@ -4,7 +4,8 @@ use Rattle.q_logic.specs.Formulas.{Clause, IsIn}
 use Rattle.q_logic.specs.Numbered.{others}
 use Rattle.q_kernel.specs.Kernels.{slots}
 use Rattle.q_reduce.specs.Walks.{IsWidened}
-use Rattle.q_reduce.proofs.Reaching.{walk-begun, walk-more, walk-refuted, walk-ended}
+use Rattle.q_reduce.proofs.Reaching.{place-member, walk-begun, walk-more, walk-refuted, walk-ended}
+use Rattle.q_reduce.proofs.Quantifiers.{bound-universal}
 use Rattle.q_reduce.proofs.reach.is_reducible.Goals as goal
 
 same : (C D : Clause) → Some C ≡ Some D → C ≡ D
@@ -38,3 +39,12 @@ loop-head-preserved c C e =
     let v = rw c.if-not-branch.false at c.in_ok-visit.ensures in
     let room : c.loop-head.head < length c.loop-head.queue = omega (arith, c.if-head-len.false, c.len.ensures) in
     walk-more k.prefix (others c.args.c (slots k)) C c.args.lit c.loop-head.head c.at-next.result c.loop-head.queue c.visit.new.queue (c.loop-head.invariant C e) room c.at-next.ensures v
+
+pub returns-then-leads_out : goal.returns-then-leads_out
+returns-then-leads_out c C e =
+    let w = c.loop-head.invariant C e in
+    let met = w.linked c.at-next.result (place-member c.loop-head.queue c.loop-head.head c.at-next.result c.at-next.ensures) in
+    ((λ t. absurd (true≢false (sym t))), (λ r. absurd (c.leads_out.ensures c.if-leads_out.true C met r)))
+
+pub exit-requires : goal.exit-requires
+exit-requires c = bound-universal c.args.kernel.now.prefix c.args.lit.var c.requires.universal

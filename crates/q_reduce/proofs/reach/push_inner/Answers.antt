@@ -1,15 +1,12 @@
 use Rattle.std.proofs.Common.{◌+◌, take, sym, ◌∙◌, true≢false}
 use Rattle.q_logic.specs.Literals.{Literal}
-use Rattle.q_reduce.proofs.Members.{item-in, taken-cases, taken-more, taken-last, taken-all}
+use Rattle.q_reduce.proofs.Members.{taken-cases, taken-more, taken-last, taken-all}
 use Rattle.q_reduce.proofs.Walks.{widened-begun, widened-left, widened-pushed}
 use Rattle.q_reduce.proofs.reach.push_inner.Goals as goal
 use Rattle.q_reduce.proofs.reach.push_inner.Goals.{then-lies_inside+then-not-has+in_ok-push, else-lies_inside, else-lies_inside-via-then-lies_inside+else-not-has, else-lies_inside-via-else-lies_inside}
 
 pub loop-k-init : goal.loop-k-init
 loop-k-init c = widened-begun c.args.kernel.now.prefix c.args.u c.args.queue.now
-
-pub lies_inside-requires-clause-first : goal.lies_inside-requires-clause-first
-lies_inside-requires-clause-first c = c.requires.within c.k-item.result (item-in c.args.clause.now c.loop-k.k-index c.k-item.result c.loop-k-test.true c.k-item.is)
 
 pub loop-k-preserved : goal.loop-k-preserved
 loop-k-preserved c =

@@ -1,13 +1,13 @@
-use Rattle.std.proofs.Common.{◌≡◌, ◌∙◌, ◌<◌, ◌-◌, ◌+◌, ◌++◌, ◌∷◌, [], ℕ, List, Option, Some, true, length, get_or, sym, ap, subst, arith, length-append}
+use Rattle.std.proofs.Common.{◌≡◌, ◌∙◌, ◌++◌, ◌∷◌, [], ℕ, List, Option, Some, true, get_or, sym, ap, subst}
 use Rattle.q_logic.specs.Literals.{negation}
 use Rattle.q_logic.specs.Formulas.{IsIn}
 use Rattle.q_logic.specs.Numbered.{slot, others}
-use Rattle.q_arena.specs.Rings.{Has, AreApart}
-use Rattle.q_arena.specs.Chains.{following}
+use Rattle.q_arena.specs.Rings.{Has}
 use Rattle.q_occ.specs.Places.{places_of}
 use Rattle.q_kernel.specs.Kernels.{slots, HoldsLiteral}
-use Rattle.q_kernel.proofs.Following.{passed, passed-none, passed-more, passed-less}
+use Rattle.q_kernel.proofs.Following.{passed, passed-none}
 use Rattle.q_reduce.specs.Walks.{IsFollowed}
+use Rattle.q_reduce.proofs.Places.{passed-step, passed-falls}
 use Rattle.q_reduce.proofs.Walks.{IsFollowing, following-begun, following-more, following-visited, visited-not, beside-held}
 use Rattle.q_reduce.proofs.reach.visit.Goals as goal
 
@@ -31,22 +31,13 @@ returns-then-not-branch c =
     let f = rw c.if-not-branch.true at c.in_ok-follow.ensures in
     visited-not k.prefix c.args.u (slots k) c.args.c c.owner.result c.args.lit held.0 c.args.queue.now c.loop-at.queue c.follow.new.queue held.1 held.2 f
 
-step : (p : ℕ) (at' next : Option ℕ) (ys : List ℕ) → AreApart ys → at' ≡ Some p → Has ys p → next ≡ following p ys → passed next ys ≡ passed at' ys ++ p ∷ []
-step p at' next ys a e h f = ap (λ (o : Option ℕ). passed o ys) f ∙ (passed-more p ys a h ∙ ap (λ (o : Option ℕ). passed o ys ++ p ∷ []) (sym e))
-
 pub loop-at-smaller : goal.loop-at-smaller
 loop-at-smaller c =
     let k = c.args.kernel.now in
     let ys = places_of k.lists (negation c.args.lit) in
     let p = c.in-Some.place in
     let there : Has ys p = c.loop-at.invariant.listed p c.in-Some.is in
-    let s : passed c.next-at.result ys ≡ passed c.loop-at.at ys ++ p ∷ [] = step p c.loop-at.at c.next-at.result ys (c.sound.ensures.apart (negation c.args.lit)) c.in-Some.is there (c.next-at.ensures.next (negation c.args.lit) there) in
-    let n : length (passed c.next-at.result ys) ≡ length (passed c.loop-at.at ys) + 1 = ap length s ∙ length-append (passed c.loop-at.at ys) (p ∷ []) in
-    let m : length (passed c.loop-at.at ys) < length ys = subst (λ (o : Option ℕ). length (passed o ys) < length ys) (sym c.in-Some.is) (passed-less p ys there) in
-    falls (length (passed c.loop-at.at ys)) (length (passed c.next-at.result ys)) (length ys) n m
-  where
-    falls : (a b n : ℕ) → b ≡ a + 1 → a < n → n - b < n - a
-    falls a b n e h = omega arith
+    passed-falls p c.loop-at.at c.next-at.result ys (c.sound.ensures.apart (negation c.args.lit)) c.in-Some.is there (c.next-at.ensures.next (negation c.args.lit) there)
 
 pub loop-at-preserved : goal.loop-at-preserved
 loop-at-preserved c =
@@ -55,7 +46,7 @@ loop-at-preserved c =
     let p = c.in-Some.place in
     let there : Has ys p = c.loop-at.invariant.listed p c.in-Some.is in
     let held : HoldsLiteral k c.owner.result (negation c.args.lit) = c.owner.ensures.holds (negation c.args.lit) there in
-    let s : passed c.next-at.result ys ≡ passed c.loop-at.at ys ++ p ∷ [] = step p c.loop-at.at c.next-at.result ys (c.sound.ensures.apart (negation c.args.lit)) c.in-Some.is there (c.next-at.ensures.next (negation c.args.lit) there) in
+    let s : passed c.next-at.result ys ≡ passed c.loop-at.at ys ++ p ∷ [] = passed-step p c.loop-at.at c.next-at.result ys (c.sound.ensures.apart (negation c.args.lit)) c.in-Some.is there (c.next-at.ensures.next (negation c.args.lit) there) in
     let f = rw c.if-not-branch.false at c.in_ok-follow.ensures in
     let g : IsFollowed k.prefix (slots k) c.args.c c.args.u (get_or k.lists.owners p 0) c.loop-at.queue c.follow.new.queue true = rw c.owner.ensures.value at f in
     let own : slot (slots k) (get_or k.lists.owners p 0) ≡ Some held.0 = rw c.owner.ensures.value at held.1 in

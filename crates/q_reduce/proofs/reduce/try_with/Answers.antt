@@ -1,0 +1,30 @@
+use Rattle.std.proofs.Common.{◌∙◌, refl, sym, true≢false}
+use Rattle.q_reduce.proofs.Results.{fits-applies, fits-view, taken}
+use Rattle.q_reduce.proofs.Separating.{regions-view, regions-taken}
+use Rattle.q_reduce.proofs.reduce.try_with.Goals as goal
+
+pub returns-then-not-branch-clause-applies : goal.returns-then-not-branch-clause-applies
+returns-then-not-branch-clause-applies c = (
+  (λ e. absurd (cc)),
+  (λ h. absurd (true≢false (sym ((c.in_ok-fits.ensures.fits c.args.bounds.now).1 h.fits) ∙ c.if-not-branch.true))),
+)
+
+pub take-requires-clause-fits : goal.take-requires-clause-fits
+take-requires-clause-fits c B = fits-view B c.args.kernel.now c.reserve.new.kernel c.args.target.now c.in_ok-reserve.ensures.view ((c.in_ok-fits.ensures.fits B).0 c.if-not-branch.false)
+
+pub returns-clause-applies : goal.returns-clause-applies
+returns-clause-applies c = (
+  (λ e. fits-applies c.args.bounds.now c.args.kernel.now c.args.target.now c.requires.ready.limits ((c.in_ok-fits.ensures.fits c.args.bounds.now).0 c.if-not-branch.false)),
+  (λ h. refl),
+)
+
+pub returns-clause-yes : goal.returns-clause-yes
+returns-clause-yes c e = taken c.args.bounds.now c.args.kernel.now c.reserve.new.kernel c.take.new.kernel c.args.target.now c.requires.ready ((c.in_ok-fits.ensures.fits c.args.bounds.now).0 c.if-not-branch.false) c.in_ok-reserve.ensures.view c.take.ensures
+
+pub returns-in_err-reserve-clause-regions : goal.returns-in_err-reserve-clause-regions
+returns-in_err-reserve-clause-regions c = regions-view c.args.kernel.now c.reserve.new.kernel c.fits.new.search c.reserve.ensures.view c.fits.ensures.regions
+
+pub returns-clause-regions : goal.returns-clause-regions
+returns-clause-regions c =
+    let t = taken c.args.bounds.now c.args.kernel.now c.reserve.new.kernel c.take.new.kernel c.args.target.now c.requires.ready ((c.in_ok-fits.ensures.fits c.args.bounds.now).0 c.if-not-branch.false) c.in_ok-reserve.ensures.view c.take.ensures in
+    regions-taken c.args.bounds.now c.args.kernel.now c.take.new.kernel c.fits.new.search c.args.target.now t c.fits.ensures.regions

@@ -1,0 +1,27 @@
+use Rattle.std.proofs.Common.{◌≡◌, ◌∙◌, ℕ, true, Some, sym, ap, subst, inl, inr, true≢false}
+use Rattle.q_logic.specs.Literals.{Literal}
+use Rattle.q_logic.specs.Expanding.{inner_existential}
+use Rattle.q_reduce.specs.Regions.{region_of}
+use Rattle.q_reduce.proofs.Members.{item-in, taken-cases}
+use Rattle.q_reduce.proofs.regions.Regions.region_in.Goals as goal
+
+same : (r s : ℕ) → Some r ≡ Some s → r ≡ s
+same r s e = cc
+
+pub returns-then-is_inner-clause-some : goal.returns-then-is_inner-clause-some
+returns-then-is_inner-clause-some c r e =
+    let P = c.args.kernel.now.prefix in (
+      c.k-item.result,
+      item-in c.args.clause.now c.loop-k.k-index c.k-item.result c.loop-k-test.true c.k-item.is,
+      ap (inner_existential P c.args.u) (sym c.var.ensures.value) ∙ (sym c.is_inner.ensures ∙ c.if-is_inner.true),
+      ap (region_of c.args.self.now) (sym c.var-then-is_inner.ensures.value) ∙ (sym c.region_of.ensures ∙ same c.region_of.result r e),
+    )
+
+pub loop-k-preserved : goal.loop-k-preserved
+loop-k-preserved c k m t = elim (taken-cases c.args.clause.now c.loop-k.k-index c.k-item.result k c.loop-k-test.true c.k-item.is m) [
+  | inl a ↦ c.loop-k.invariant k a t
+  | inr e ↦
+      let P = c.args.kernel.now.prefix in
+      let here = subst (λ (x : Literal). inner_existential P c.args.u x.var ≡ true) e t in
+      true≢false (sym here ∙ (ap (inner_existential P c.args.u) (sym c.var.ensures.value) ∙ (sym c.is_inner.ensures ∙ c.if-is_inner.false)))
+]

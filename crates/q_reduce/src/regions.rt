@@ -1,0 +1,280 @@
+//! Regions of variables, which tell that a literal is reducible without a walk.
+ghost use Rattle.std.specs.Prelude.{◌≡◌, ◌↔◌, ◌≤◌, ◌<◌, ℕ, true, length, slice_index_or, Some, None, IsTrue};
+ghost use Rattle.q_logic.specs.Literals.{Literal, negation};
+ghost use Rattle.q_logic.specs.Formulas.{Clause, IsIn};
+ghost use Rattle.q_logic.specs.Prefixes.{is_bound, is_universal, outer_or_same};
+ghost use Rattle.q_logic.specs.Expanding.{inner_existential};
+ghost use Rattle.q_logic.specs.Reach.{Reducible};
+ghost use Rattle.q_logic.specs.Numbered.{slot, live, others};
+ghost use Rattle.q_kernel.specs.Kernels.{slots};
+ghost use Rattle.q_reduce.specs.Regions.{no_regions, region_of, is_covered, key_of, IsRegional, AreRegions};
+
+use crate::joining::{join_all, label_at, settle};
+use crate::reach::{is_inner, is_universal};
+use q_arena::ClauseId;
+use q_kernel::Kernel;
+use q_logic::{Lit, NoMemory};
+use std::alloc::Global;
+use std::marker::Model;
+
+/// Regions for the universal variables of one block and of those inside it: the existential literals of a clause that
+/// are inner to such a variable lie in one region. They stay right while clauses go or lose literals.
+#[derive(Drop)]
+pub struct Regions {
+    // the region of each variable, 0 for those that are not inner
+    labels: Vec<u32>,
+    // the universal variables that the regions are for
+    covered: Vec<bool>,
+    // the literals of these, each with the region in which it stands, in ascending order
+    keys: Vec<u64>,
+}
+
+impl Model for Regions {
+    ghost use Rattle.std.specs.Prelude.{◌≤◌, ◌<◌, ℕ, length, slice_index_or};
+    ghost use Rattle.q_reduce.specs.Regions.{Known};
+
+    ghost Value = { Known };
+
+    ghost view = { λ r. record { labels = r.labels.items; covered = r.covered.items; keys = r.keys.items } };
+
+    ghost invariant = { λ r. (i j : ℕ) → i ≤ j → j < length r.keys.items → slice_index_or r.keys.items i 0 ≤ slice_index_or r.keys.items j 0 };
+}
+
+// Whether a variable is universal, and w is outer or same to it.
+fn is_behind(kernel: &Kernel, var: u32, w: u32) -> bool
+    requires { is_bound kernel.now.prefix w ≡ true }
+    ensures { IsTrue result → outer_or_same kernel.now.prefix w var ≡ true }
+{
+    is_universal(kernel, var) && kernel.prefix().outer_or_same(w, var)
+}
+
+// The same for a variable that may be none.
+fn is_place_behind(kernel: &Kernel, place: usize, w: u32) -> bool
+    requires { is_bound kernel.now.prefix w ≡ true }
+    ensures { IsTrue result → outer_or_same kernel.now.prefix w place ≡ true }
+{
+    match u32::try_from(place) {
+        Ok(var) => is_behind(kernel, var, w),
+        Err(_) => false,
+    }
+}
+
+// A literal and a region as one number.
+fn key_of(lit: Lit, region: u32) -> u64
+    ensures { result ≡ key_of lit region }
+{
+    lit.index() as u64 * 4_294_967_296 + u64::from(region)
+}
+
+// Notes the literals of a clause that stand beside a label.
+fn note(
+    keys: &mut Vec<u64>,
+    labels: &[u32],
+    covered: &[bool],
+    clause: &[Lit],
+) -> Result<(), NoMemory> {
+    let region = clause
+        .iter()
+        .map(|k| label_at(labels, k.var()))
+        .max()
+        .unwrap_or(0);
+    if region == 0 {
+        return Ok(());
+    }
+    for l in clause {
+        if covered.get(l.var() as usize).copied().unwrap_or(false) {
+            keys.push(key_of(*l, region))?;
+        }
+    }
+    Ok(())
+}
+
+fn note_all(
+    keys: &mut Vec<u64>,
+    labels: &[u32],
+    covered: &[bool],
+    kernel: &Kernel,
+) -> Result<(), NoMemory> {
+    let mut at = 0;
+    while let Some(id) = kernel.next_live(at) {
+        note(keys, labels, covered, kernel.lits(id))?;
+        let Some(after) = id.checked_add(1) else {
+            return Ok(());
+        };
+        at = after;
+    }
+    Ok(())
+}
+
+impl Regions {
+    /// Nothing is known.
+    pub fn new(alloc: Global) -> Regions
+        ensures { result ≡ no_regions }
+    {
+        Regions {
+            labels: Vec::new(alloc),
+            covered: Vec::new(alloc),
+            keys: Vec::new(alloc),
+        }
+    }
+
+    /// Forgets what is known.
+    pub fn forget(&mut self)
+        ensures { self.new ≡ no_regions }
+    {
+        self.labels.clear();
+        self.covered.clear();
+        self.keys.clear();
+    }
+
+    /// Makes regions for the block of a variable. It costs the size of the formula, but for a small factor.
+    pub fn build(&mut self, kernel: &Kernel, w: u32) -> Result<(), NoMemory>
+        requires { is_bound kernel.now.prefix w ≡ true }
+        ensures { AreRegions kernel.now.prefix (live (slots kernel.now)) self.new }
+    {
+        let filled = self.fill(kernel, w);
+        if filled.is_err() || !self.lies_behind(kernel, w) || !self.is_right(kernel, w) {
+            self.forget();
+        }
+        filled
+    }
+
+    /// Whether the regions tell that a literal is reducible in its clause.
+    pub fn separates(&self, kernel: &Kernel, c: ClauseId, lit: Lit) -> bool
+        requires live { (C : Clause) × (slot (slots kernel.now) c ≡ Some C) × IsIn lit C × (IsIn (negation lit) C → ⊥) }
+        requires universal { is_universal kernel.now.prefix lit.var ≡ true }
+        requires regions { AreRegions kernel.now.prefix (live (slots kernel.now)) self.now }
+        ensures { IsTrue result → (C : Clause) → slot (slots kernel.now) c ≡ Some C → Reducible kernel.now.prefix (others c (slots kernel.now)) C lit }
+    {
+        match self.region_in(kernel, kernel.lits(c), lit.var()) {
+            Some(region) => self.covers(lit.var()) && !self.has_noted(lit.negated(), region),
+            None => true,
+        }
+    }
+
+    // The region of a clause: of its first existential literal that is inner to u.
+    fn region_in(&self, kernel: &Kernel, clause: &[Lit], u: u32) -> Option<u32>
+        requires { is_bound kernel.now.prefix u ≡ true }
+        ensures some { (r : ℕ) → result ≡ Some r → (k : Literal) × IsIn k clause.now × (inner_existential kernel.now.prefix u k.var ≡ true) × (region_of self.now k.var ≡ r) }
+        ensures none { result ≡ None → (k : Literal) → IsIn k clause.now → inner_existential kernel.now.prefix u k.var ≡ true → ⊥ }
+    {
+        for k in clause {
+            if is_inner(kernel, k.var(), u) {
+                return Some(self.region_of(k.var()));
+            }
+        }
+        None
+    }
+
+    fn region_of(&self, var: u32) -> u32
+        ensures { result ≡ region_of self.now var }
+    {
+        label_at(&self.labels, var)
+    }
+
+    fn covers(&self, u: u32) -> bool
+        ensures { result ≡ is_covered self.now u }
+    {
+        self.covered.get(u as usize).copied().unwrap_or(false)
+    }
+
+    fn has_noted(&self, lit: Lit, region: u32) -> bool
+        ensures { IsTrue result ↔ IsIn (key_of lit region) self.now.keys }
+    {
+        self.keys.binary_search(&key_of(lit, region)).is_ok()
+    }
+
+    // Finds regions, which are still to be verified.
+    fn fill(&mut self, kernel: &Kernel, w: u32) -> Result<(), NoMemory>
+        requires { is_bound kernel.now.prefix w ≡ true }
+    {
+        self.forget();
+        self.start(kernel, w)?;
+        join_all(&mut self.labels, kernel);
+        settle(&mut self.labels);
+        let noted = note_all(&mut self.keys, &self.labels, &self.covered, kernel);
+        self.keys.sort_unstable();
+        noted
+    }
+
+    // A region for each existential variable that is inner to w. They are for the universal variables that are not
+    // outer to w.
+    fn start(&mut self, kernel: &Kernel, w: u32) -> Result<(), NoMemory>
+        requires { is_bound kernel.now.prefix w ≡ true }
+    {
+        for var in 0..=kernel.greatest_var() {
+            let label = if is_inner(kernel, var, w) { var } else { 0 };
+            self.labels.push(label)?;
+            self.covered.push(is_behind(kernel, var, w))?;
+        }
+        Ok(())
+    }
+
+    // Whether w is outer or same to each variable that is covered.
+    fn lies_behind(&self, kernel: &Kernel, w: u32) -> bool
+        requires { is_bound kernel.now.prefix w ≡ true }
+        ensures { IsTrue result → (u : ℕ) → is_covered self.now u ≡ true → outer_or_same kernel.now.prefix w u ≡ true }
+    {
+        for (var, covered) in self.covered.iter().enumerate() {
+            if *covered && !is_place_behind(kernel, var, w) {
+                return false;
+            }
+        }
+        true
+    }
+
+    // Whether each clause has its literals that are inner to w in one region.
+    fn is_right(&self, kernel: &Kernel, w: u32) -> bool
+        requires { is_bound kernel.now.prefix w ≡ true }
+        ensures { IsTrue result → (D : Clause) → IsIn D (live (slots kernel.now)) → IsRegional kernel.now.prefix self.now w D }
+    {
+        let mut at = 0;
+        while let Some(id) = kernel.next_live(at) {
+            if !self.fits(kernel, kernel.lits(id), w) {
+                return false;
+            }
+            let Some(next) = id.checked_add(1) else {
+                return false;
+            };
+            at = next;
+        }
+        true
+    }
+
+    fn fits(&self, kernel: &Kernel, clause: &[Lit], w: u32) -> bool
+        requires { is_bound kernel.now.prefix w ≡ true }
+        ensures { IsTrue result → IsRegional kernel.now.prefix self.now w clause.now }
+    {
+        match self.region_in(kernel, clause, w) {
+            Some(region) => {
+                self.has_one(kernel, clause, w, region) && self.has_noted_all(clause, region)
+            }
+            None => true,
+        }
+    }
+
+    // Whether the existential literals that are inner to w lie in the region.
+    fn has_one(&self, kernel: &Kernel, clause: &[Lit], w: u32, region: u32) -> bool
+        requires { is_bound kernel.now.prefix w ≡ true }
+        ensures { IsTrue result → (k : Literal) → IsIn k clause.now → inner_existential kernel.now.prefix w k.var ≡ true → region_of self.now k.var ≡ region }
+    {
+        for k in clause {
+            if is_inner(kernel, k.var(), w) && self.region_of(k.var()) != region {
+                return false;
+            }
+        }
+        true
+    }
+
+    // Whether the literals of covered variables are noted with the region.
+    fn has_noted_all(&self, clause: &[Lit], region: u32) -> bool
+        ensures { IsTrue result → (l : Literal) → IsIn l clause.now → is_covered self.now l.var ≡ true → IsIn (key_of l region) self.now.keys }
+    {
+        for l in clause {
+            if self.covers(l.var()) && !self.has_noted(*l, region) {
+                return false;
+            }
+        }
+        true
+    }
+}
