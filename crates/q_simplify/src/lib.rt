@@ -1,6 +1,7 @@
 //! A formula is simplified by the rules that there are, and each change goes into a log.
 #![tactic(auto)]
 
+mod agenda;
 mod log_file;
 mod options;
 mod output;

@@ -5,13 +5,14 @@ ghost use Rattle.q_kernel.specs.Kernels.{SameView};
 ghost use Rattle.q_kernel.specs.Taking.{AreModest, IsReady, Applies};
 ghost use Rattle.q_reduce.specs.declared.target.Target.{Target as TargetValue};
 ghost use Rattle.q_reduce.specs.Targets.{target_of};
+ghost use Rattle.q_reduce.specs.Regions.{AreRegionsOf};
 ghost use Rattle.q_simplify.specs.Turns.{IsDone, IsSpent, Turns};
 
+use crate::agenda::Agenda;
 use crate::options::Options;
 use q_kernel::{Kernel, Taken};
 use q_logic::{Bounds, NoMemory};
-use q_reduce::{Target, find, try_one};
-use std::alloc::Global;
+use q_reduce::{Search, Target, applies, find_with, try_with};
 
 /// What a turn did.
 #[derive(Clone, Copy, Debug, PartialEq, Eq)]
@@ -45,62 +46,88 @@ fn place_of(target: &Target) -> u32
     }
 }
 
-// The target to be taken next: the search goes on from the cursor, and begins anew before it says that there is none.
-fn next_target(
-    alloc: Global,
+// A noted target that applies.
+fn noted_target(
     kernel: &Kernel,
+    search: &mut Search,
+    agenda: &mut Agenda,
     bounds: &Bounds,
-    cursor: u32,
 ) -> Result<Option<Target>, NoMemory>
     requires ready { IsReady kernel.now }
     requires bounds { AreModest bounds.now }
+    requires regions { AreRegionsOf kernel.now search.old }
     ensures some { IfOk result (λ o. (t : TargetValue) → o ≡ Some t → Applies bounds.now kernel.now (target_of t)) }
-    ensures none { IfOk result (λ o. o ≡ None → IsDone bounds.now kernel.now) }
+    ensures regions { AreRegionsOf kernel.now search.new }
 {
-    match find(alloc, kernel, bounds, cursor) {
-        Ok(Some(target)) => Ok(Some(target)),
-        Ok(None) if cursor > 0 => first_target(alloc, kernel, bounds),
-        Ok(None) => Ok(None),
-        Err(error) => Err(error),
+    for _ in 0..agenda.len() {
+        let Some(target) = agenda.pop() else {
+            return Ok(None);
+        };
+        if applies(kernel, search, &target, bounds)? {
+            return Ok(Some(target));
+        }
     }
+    Ok(None)
 }
 
-fn first_target(alloc: Global, kernel: &Kernel, bounds: &Bounds) -> Result<Option<Target>, NoMemory>
+// The target to be taken next: one that is noted, or else what the search finds from the cursor on. The search begins
+// anew before it says that there is none.
+fn next_target(
+    kernel: &Kernel,
+    search: &mut Search,
+    agenda: &mut Agenda,
+    bounds: &Bounds,
+) -> Result<Option<Target>, NoMemory>
     requires ready { IsReady kernel.now }
     requires bounds { AreModest bounds.now }
+    requires regions { AreRegionsOf kernel.now search.old }
     ensures some { IfOk result (λ o. (t : TargetValue) → o ≡ Some t → Applies bounds.now kernel.now (target_of t)) }
     ensures none { IfOk result (λ o. o ≡ None → IsDone bounds.now kernel.now) }
+    ensures regions { AreRegionsOf kernel.now search.new }
 {
-    match find(alloc, kernel, bounds, 0) {
-        Ok(Some(target)) => Ok(Some(target)),
-        Ok(None) => Ok(None),
-        Err(error) => Err(error),
+    if let Some(target) = noted_target(kernel, search, agenda, bounds)? {
+        return Ok(Some(target));
     }
+    if agenda.cursor > 0 {
+        if let Some(target) = find_with(kernel, search, bounds, agenda.cursor)? {
+            agenda.cursor = place_of(&target);
+            return Ok(Some(target));
+        }
+    }
+    let Some(target) = find_with(kernel, search, bounds, 0)? else {
+        return Ok(None);
+    };
+    agenda.cursor = place_of(&target);
+    Ok(Some(target))
 }
 
 /// Takes the next target, unless there is none or the budget is spent.
 pub(crate) fn take_turn(
-    alloc: Global,
     kernel: &mut Kernel,
-    cursor: &mut u32,
+    search: &mut Search,
+    agenda: &mut Agenda,
     options: &Options,
     first: u64,
 ) -> Result<Turn, NoMemory>
     requires ready { IsReady kernel.old }
     requires bounds { AreModest options.now.bounds }
+    requires regions { AreRegionsOf kernel.old search.old }
     ensures turns { IfOk result (λ t. Turns t options.now.bounds options.now.budget first kernel.old kernel.new) }
     ensures err { OnErr result (SameView kernel.old kernel.new) }
+    ensures regions { AreRegionsOf kernel.new search.new }
 {
     let bounds = options.bounds;
     let spent = is_spent(options.budget, first, kernel.measure(&bounds));
-    match next_target(alloc, kernel, &bounds, *cursor) {
+    match next_target(kernel, search, agenda, &bounds) {
         Ok(None) => Ok(Turn::Settled),
         Ok(Some(target)) => {
             if spent {
                 return Ok(Turn::Spent);
             }
-            *cursor = place_of(&target);
-            match try_one(alloc, kernel, &target, &bounds) {
+            if let Err(error) = agenda.note(kernel, &target) {
+                return Err(error);
+            }
+            match try_with(kernel, search, &target, &bounds) {
                 Ok(Taken::Yes) => Ok(Turn::Moved),
                 Ok(Taken::No) => unreachable!(),
                 Err(error) => Err(error),

@@ -12,6 +12,7 @@ ghost use Rattle.q_simplify.specs.Turns.{Stops};
 ghost use Rattle.q_simplify.specs.Logs.{HasLog, LeavesLog};
 ghost use Rattle.q_simplify.specs.Results.{IsReport, Leaves, LeadsTo, Simplifies, ends_as};
 
+use crate::agenda::Agenda;
 use crate::log_file::flush;
 use crate::options::Options;
 use crate::output::write_output;
@@ -20,6 +21,7 @@ use crate::turn::{Turn, take_turn};
 use q_io::{DeviceError, Files};
 use q_kernel::Kernel;
 use q_logic::Formula;
+use q_reduce::Search;
 use std::alloc::Global;
 
 // So many bytes of the log are pending before they are written.
@@ -49,9 +51,10 @@ fn drive<F: Files>(
     ensures read_later { (q : List ℕ) → F.read_faults files.old q ≤ F.read_faults files.new q }
     ensures write_later { (q : List ℕ) → F.write_faults files.old q ≤ F.write_faults files.new q }
 {
-    let mut cursor = 0;
+    let mut search = Search::new(alloc);
+    let mut agenda = Agenda::new(alloc);
     loop {
-        match take_turn(alloc, kernel, &mut cursor, options, first) {
+        match take_turn(kernel, &mut search, &mut agenda, options, first) {
             Ok(Turn::Moved) => {
                 if let Err(error) = flush(files, log, kernel, PENDING) {
                     return Err(error);

@@ -1,6 +1,7 @@
+use Rattle.std.proofs.Common.{arith}
 use Rattle.q_simplify.proofs.Targets.{none-done}
 use Rattle.q_simplify.proofs.turn.next_target.Goals as goal
 
-pub returns-in-Ok-None-2-clause-none : goal.returns-in-Ok-None-2-clause-none
-returns-in-Ok-None-2-clause-none c =
-    λ e. none-done c.args.bounds.now c.args.kernel.now c.args.cursor c.if-cursor-gt0.false (c.in-Ok-None.ensures.none c.in-Ok-None.field-0-is)
+pub returns-in_default-3-clause-none : goal.returns-in_default-3-clause-none
+returns-in_default-3-clause-none c =
+    λ e. none-done c.args.bounds.now c.args.kernel.now 0 (omega arith) (c.in_ok-target-3.ensures.none c.in_default-3.is)

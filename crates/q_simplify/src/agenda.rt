@@ -1,0 +1,114 @@
+// What a change touches, so that the search looks there first.
+ghost use Rattle.std.specs.Prelude.{◌≡◌, [], length};
+
+use q_arena::ClauseId;
+use q_kernel::Kernel;
+use q_logic::{Lit, NoMemory, Quant};
+use q_reduce::Target;
+use std::alloc::Global;
+
+/// Targets that may have come to apply by the last changes, and where the search goes on once none of them
+/// does. A noted target is tested before it is taken, and the search looks at all places before it says that
+/// there is none; so nothing rests on what is noted.
+#[derive(Drop)]
+pub(crate) struct Agenda {
+    targets: Vec<Target>,
+    pub cursor: u32,
+}
+
+// What the clauses of a list lose.
+#[derive(Clone, Copy)]
+enum Loss {
+    Clause,
+    Literal,
+}
+
+impl Agenda {
+    pub(crate) fn new(alloc: Global) -> Agenda {
+        Agenda {
+            targets: Vec::new(alloc),
+            cursor: 0,
+        }
+    }
+
+    pub(crate) fn len(&self) -> usize {
+        self.targets.len()
+    }
+
+    /// The target that was noted last.
+    pub(crate) fn pop(&mut self) -> Option<Target> {
+        self.targets.pop()
+    }
+
+    /// Notes what may apply once this target is taken: units and cuts of the clauses that it shortens, and the
+    /// negations of the literals that it takes away, which may be pure then.
+    pub(crate) fn note(&mut self, kernel: &Kernel, target: &Target) -> Result<(), NoMemory> {
+        match *target {
+            Target::Tautology { c } => self.note_clause(kernel, c),
+            Target::Unit { c } => self.note_unit(kernel, c),
+            Target::Cut { c, l } => {
+                self.targets.push(Target::Pure { l: l.negated() })?;
+                self.note_shorter(kernel, c, l)
+            }
+            Target::Pure { l } => match kernel.prefix().quant(l.var()) {
+                Some(Quant::Exists) => self.note_list(kernel, l, Loss::Clause),
+                Some(Quant::Forall) => self.note_list(kernel, l, Loss::Literal),
+                None => Ok(()),
+            },
+        }
+    }
+
+    fn note_unit(&mut self, kernel: &Kernel, c: ClauseId) -> Result<(), NoMemory> {
+        if !kernel.live(c) {
+            return Ok(());
+        }
+        for l in kernel.lits(c) {
+            self.note_list(kernel, *l, Loss::Clause)?;
+            self.note_list(kernel, l.negated(), Loss::Literal)?;
+        }
+        Ok(())
+    }
+
+    // The clauses with a literal go, or lose it.
+    fn note_list(&mut self, kernel: &Kernel, lit: Lit, loss: Loss) -> Result<(), NoMemory> {
+        let mut at = kernel.first(lit);
+        for _ in 0..kernel.count(lit) {
+            let Some(place) = at else { return Ok(()) };
+            let id = kernel.owner(place);
+            match loss {
+                Loss::Clause => self.note_clause(kernel, id)?,
+                Loss::Literal => self.note_shorter(kernel, id, lit)?,
+            }
+            at = kernel.next(place);
+        }
+        Ok(())
+    }
+
+    // A clause goes.
+    fn note_clause(&mut self, kernel: &Kernel, c: ClauseId) -> Result<(), NoMemory> {
+        if !kernel.live(c) {
+            return Ok(());
+        }
+        for m in kernel.lits(c) {
+            self.targets.push(Target::Pure { l: m.negated() })?;
+        }
+        Ok(())
+    }
+
+    // A clause loses a literal.
+    fn note_shorter(&mut self, kernel: &Kernel, c: ClauseId, lit: Lit) -> Result<(), NoMemory> {
+        if !kernel.live(c) {
+            return Ok(());
+        }
+        let clause = kernel.lits(c);
+        for m in clause {
+            if !m.is(lit) && matches!(kernel.prefix().quant(m.var()), Some(Quant::Forall)) {
+                self.targets.push(Target::Cut { c, l: *m })?;
+            }
+        }
+        if clause.len() == 2 {
+            self.targets.push(Target::Unit { c })?;
+        }
+        Ok(())
+    }
+}
