@@ -1,6 +1,6 @@
 // `simplify` through the top call, over files in memory, and `check` over what it left.
 use crate::{Status, run};
-use q_io::{MemFiles, MemSink, SteadyFiles, SteadySink};
+use q_io::{Call, Fault, MemFiles, MemSink, SteadyFiles, SteadySink};
 use std::alloc::Global;
 use std::test::Fail;
 
@@ -163,6 +163,84 @@ const ROWS: [Row; 19] = [
     },
 ];
 
+// A device that fails while two unit clauses go, and what is left in the two files: nothing, or the front of a text.
+struct FaultRow {
+    call: Call,
+    nth: u64,
+    part: usize,
+    line: &'static str,
+    output: Option<&'static str>,
+    log: Option<&'static str>,
+}
+
+const FAULTS: [FaultRow; 8] = [
+    FaultRow {
+        call: Call::Read,
+        nth: 1,
+        part: 0,
+        line: "read fault\n",
+        output: None,
+        log: None,
+    },
+    FaultRow {
+        call: Call::Read,
+        nth: 2,
+        part: 0,
+        line: "read fault\n",
+        output: None,
+        log: None,
+    },
+    FaultRow {
+        call: Call::Create,
+        nth: 1,
+        part: 0,
+        line: "write fault\n",
+        output: None,
+        log: None,
+    },
+    FaultRow {
+        call: Call::Append,
+        nth: 1,
+        part: 0,
+        line: "write fault\n",
+        output: None,
+        log: Some(""),
+    },
+    FaultRow {
+        call: Call::Append,
+        nth: 1,
+        part: 9,
+        line: "write fault\n",
+        output: None,
+        log: Some("d 1 0\nr 1"),
+    },
+    FaultRow {
+        call: Call::Create,
+        nth: 2,
+        part: 0,
+        line: "write fault\n",
+        output: None,
+        log: Some("d 1 0\nr 1 0\nd 2 0\nr 2 0\n"),
+    },
+    FaultRow {
+        call: Call::Append,
+        nth: 2,
+        part: 5,
+        line: "write fault\n",
+        output: Some("p cnf"),
+        log: Some("d 1 0\nr 1 0\nd 2 0\nr 2 0\n"),
+    },
+    // no third append comes
+    FaultRow {
+        call: Call::Append,
+        nth: 3,
+        part: 0,
+        line: "true 6 0\n",
+        output: Some(NOTHING),
+        log: Some("d 1 0\nr 1 0\nd 2 0\nr 2 0\n"),
+    },
+];
+
 // Options that make no command.
 const OPTIONS: [&[&str]; 9] = [
     &["--grow=10001"],
@@ -271,6 +349,60 @@ fn an_input_that_is_no_formula_is_refused(rt: HostRuntime) -> Result<(), Fail> {
     assert_eq!(rt; out.bytes(), b"input IN line 1 cause 8\n".as_slice());
     assert!(rt; files.file("OUT").is_none());
     assert!(rt; files.file("LOG").is_none());
+    Ok(())
+}
+
+#[test]
+fn the_greatest_variable_is_a_variable(rt: HostRuntime) -> Result<(), Fail> {
+    let alloc = rt.alloc();
+    let words = words_of(alloc, "simplify", &[])?;
+    let mut files = SteadyFiles::new(alloc);
+    files.put_file("IN", b"p cnf 16777215 1\ne 16777215 0\n16777215 0\n")?;
+    let mut out = SteadySink::new(alloc);
+    assert_eq!(rt; run(alloc, &words, &mut files, &mut out), Status::True);
+    assert_eq!(rt; out.bytes(), b"true 3 0\n".as_slice());
+    assert_eq!(rt; files.file("OUT"), Some(NOTHING.as_bytes()));
+    Ok(())
+}
+
+fn bytes_of(text: Option<&'static str>) -> Option<&'static [u8]> {
+    match text {
+        Some(text) => Some(text.as_bytes()),
+        None => None,
+    }
+}
+
+#[test]
+fn a_device_that_fails_leaves_the_front_of_a_text(rt: HostRuntime) -> Result<(), Fail> {
+    let alloc = rt.alloc();
+    let words = words_of(alloc, "simplify", &[])?;
+    for row in &FAULTS {
+        let mut files = MemFiles::new(alloc);
+        files.put_file("IN", TWO_UNITS.as_bytes())?;
+        files.fail_at(Fault {
+            call: row.call,
+            nth: row.nth,
+            part: row.part,
+        })?;
+        let mut out = MemSink::new(alloc);
+        run(alloc, &words, &mut files, &mut out);
+        assert_eq!(rt; out.bytes(), row.line.as_bytes());
+        assert_eq!(rt; files.file("OUT"), bytes_of(row.output));
+        assert_eq!(rt; files.file("LOG"), bytes_of(row.log));
+    }
+    Ok(())
+}
+
+#[test]
+fn a_line_that_is_not_put_is_a_fault(rt: HostRuntime) -> Result<(), Fail> {
+    let alloc = rt.alloc();
+    let words = words_of(alloc, "simplify", &[])?;
+    let mut files = MemFiles::new(alloc);
+    files.put_file("IN", TWO_UNITS.as_bytes())?;
+    let mut out = MemSink::new(alloc);
+    out.fail_at(1)?;
+    assert_eq!(rt; run(alloc, &words, &mut files, &mut out).code(), 5);
+    assert_eq!(rt; files.file("OUT"), Some(NOTHING.as_bytes()));
     Ok(())
 }
 
