@@ -4,7 +4,7 @@
 # left out of the log, and OUT is IN with the added clauses. Usage: bench/proofs.sh [VARIABLES ..]
 set -eu
 cd "$(dirname "$0")/.."
-command -v cadical >/dev/null || apt-get install -y cadical >/dev/null
+command -v cadical >/dev/null || { apt-get update && apt-get install -y cadical; } >/dev/null
 work=$(mktemp -d)
 trap 'rm -rf "$work"' EXIT
 

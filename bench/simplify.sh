@@ -1,7 +1,7 @@
 #!/usr/bin/env bash
-# Times `simplify` on three families of formulas: random clauses of three literals, a chain of unit clauses,
-# and universal literals that are cut in one connected component. The time of the first two should grow no
-# worse than n log n. Usage: bench/simplify.sh [random|units|cuts ..]
+# Times `simplify` on four families of formulas: random clauses of three literals, a chain of unit clauses in order
+# and in mixed order, and universal literals that are cut in one connected component. The time should grow no
+# worse than n log n. Usage: bench/simplify.sh [random|units|mixed|cuts ..]
 set -eu
 cd "$(dirname "$0")/.."
 work=$(mktemp -d)
@@ -28,20 +28,25 @@ def signed(variables):
 
 
 if family == "random":
-    # three blocks: a third of the existentials outside, fifty universals, the other existentials inside
-    existentials, universals = n // 4, 50
+    # three blocks: a third of the existentials outside, one universal for ten clauses, the other existentials inside;
+    # half the clauses have a universal and two inner existentials, the others three existentials
+    existentials, universals = n // 4, n // 10
     outer = existentials // 3
     x = list(range(1, existentials + universals + 1))
     blocks = [("e", x[:outer]), ("a", x[outer:outer + universals]), ("e", x[outer + universals:])]
-    write(blocks, [signed(random.sample(x, 3)) if random.random() < 0.5
+    bound = blocks[0][1] + blocks[2][1]
+    write(blocks, [signed(random.sample(bound, 3)) if random.random() < 0.5
                    else signed([random.choice(blocks[1][1])] + random.sample(blocks[2][1], 2)) for _ in range(n)])
-elif family == "units":
-    write([("e", range(1, n + 1))], [[1]] + [[-i, i + 1] for i in range(1, n)])
+elif family in ("units", "mixed"):
+    clauses = [[1]] + [[-i, i + 1] for i in range(1, n)]
+    if family == "mixed":
+        random.shuffle(clauses)
+    write([("e", range(1, n + 1))], clauses)
 else:
-    # the chain over x holds the universals positively, that over y negatively; no clause joins the two
-    x, y, u = range(1, n + 1), range(n + 1, 2 * n + 1), range(2 * n + 1, 2 * n + n // 2 + 1)
-    clauses = [[-v, v + 1] for v in x[:-1]] + [[-v, v + 1] for v in y[:-1]]
-    clauses += [[u[i], x[i], -x[i - 1]] for i in range(1, n // 2)] + [[-u[i], y[i], -y[i - 1]] for i in range(1, n // 2)]
+    # n universals, positive in the clauses of a cycle over x and negative in those of a cycle over y. No clause joins the
+    # cycles, so each of the 2n literals can be cut, and a walk from one of them goes round its whole cycle.
+    x, y, u = range(1, n + 1), range(n + 1, 2 * n + 1), range(2 * n + 1, 3 * n + 1)
+    clauses = [[-x[i - 1], x[i], u[i]] for i in range(n)] + [[-y[i - 1], y[i], -u[i]] for i in range(n)]
     write([("a", u), ("e", list(x) + list(y))], clauses)
 PYTHON
 }
@@ -53,12 +58,12 @@ measured() {
     wc -lc <"$work/log" | awk '{ print "log: " $1 " steps, " $2 " bytes" }'
 }
 
-for family in "${@:-random units cuts}"; do
+for family in "${@:-random units mixed cuts}"; do
     for f in $family; do
         case $f in
-        random) for n in 250000 500000 1000000; do measured "$f" "$n"; done ;;
-        units) for n in 50000 100000 200000 400000; do measured "$f" "$n"; done ;;
-        cuts) for n in 1000 2000 4000; do measured "$f" "$n"; done ;;
+        random) for n in 125000 250000 500000 1000000; do measured "$f" "$n"; done ;;
+        units | mixed) for n in 50000 100000 200000 400000; do measured "$f" "$n"; done ;;
+        cuts) for n in 25000 50000 100000 200000; do measured "$f" "$n"; done ;;
         esac
     done
 done
