@@ -60,7 +60,7 @@ preceding-is places heads s l p h =
     let lh = Has-head places heads l p h in
     let i = subst (λ (xs : List ℕ). Has xs p) (list-is places heads l) h in
     let r : IsRing (node_at places heads) (length places) (base + l) ys = s.rings.each l lh in
-    let few : length places < 4294967296 = s.few_places in
+    let few : length places ≤ base = s.few_places in
     let f = preceding-of (node_at places heads) base (length places) (base + l) ys (base + l) p (omega arith) (omega arith) r.below r.apart i r.path in
     let pl = place-in places heads s l p h in
     ap (λ (xs : List ℕ). preceding p xs) (list-is places heads l) ∙ f ∙ ap (λ (k : Link). if nat_lt k.prev base then Some k.prev else None) (node_at-place places heads p (omega arith))

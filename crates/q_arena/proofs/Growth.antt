@@ -49,7 +49,7 @@ module _ (places heads : List Link) (x : Link) where
       let old : ℕ → Link = node_at places heads in
       let new : ℕ → Link = node_at places (heads ++ x ∷ []) in
       let la = length-append heads (x ∷ []) in
-      let fp : length places < 4294967296 = s.few_places in
+      let fp : length places ≤ base = s.few_places in
       let L : ℕ → List ℕ = rings_of old base in
       let past : (l : ℕ) → length heads ≤ l → L l ≡ [] = λ l hi. sym (list-is places heads l) ∙ get_or_past (lists_of places heads) l [] (rw length-lists hi) in
       let Ln : L (length heads) ≡ [] = past (length heads) (omega arith) in
@@ -101,7 +101,7 @@ module _ (places heads : List Link) (x : Link) where
           let new : ℕ → Link = node_at places (heads ++ x ∷ []) in
           let d : base + l ≢ base + length heads = λ q. absurd (omega arith) in
           let r : IsRing old (length places) (base + l) (rings_of old base l) = s.rings.each l lo in
-          let fp : length places < 4294967296 = s.few_places in
+          let fp : length places ≤ base = s.few_places in
           let path = IsPath-off old new (base + length heads) node-pushed (base + l) (rings_of old base l) (base + l) d (Misses-below (length places) (base + length heads) (rings_of old base l) (omega arith) r.below) d r.path in
           let tag : (new (base + l)).tag ≡ length (rings_of old base l) = ap (λ (k : Link). k.tag) (node-pushed (base + l) d) ∙ r.count in
           let w : rings_of new base l ≡ rings_of old base l = ap (λ (k : ℕ). walk new k (new (base + l)).next) tag ∙ walk-path new (base + l) (rings_of old base l) (base + l) path in
@@ -139,7 +139,7 @@ module _ (p q heads : List Link) (same : (k : ℕ) → get_or q k blank ≡ get_
   pub lists-places : (l : ℕ) → get_or (lists_of q heads) l [] ≡ get_or (lists_of p heads) l []
   lists-places l = list-is q heads l ∙ rings-same l ∙ sym (list-is p heads l)
 
-  pub AreSound-places : AreSound p heads → length p ≤ length q → length q < 4294967296 → AreSound q heads
+  pub AreSound-places : AreSound p heads → length p ≤ length q → length q ≤ base → AreSound q heads
   AreSound-places s more few = record {
     rings = record {
       each = λ l lh.

@@ -31,11 +31,12 @@ clauses-grown w v slots ids end total a n f =
     go i false e = clause-free v slots i e ∙ sym (clause-free w slots i e)
 
 pub sound-grown : (w v : List Literal) (slots : List Slot) (ids : Order) (end total : ℕ) (gap : Option ℕ) → IsSound w slots ids end total gap → length w ≤ length v
-    → ((k : ℕ) (d : Literal) → k < length w → get_or v k d ≡ get_or w k d) → IsSound v slots ids end total gap
-sound-grown w v slots ids end total gap s n f =
+    → ((k : ℕ) (d : Literal) → k < length w → get_or v k d ≡ get_or w k d) → (length w < 4294967296 → length v < 4294967296) → IsSound v slots ids end total gap
+sound-grown w v slots ids end total gap s n f few =
     let a = s.laid in
     let in_row : end ≤ length w = a.within in
     record {
+      few_words = few s.few_words;
       laid = record {
         stack = a.stack;
         apart = a.apart;
@@ -81,6 +82,7 @@ module _ (slots more : List Slot) (ids grown : Order) (m : AreMore slots more id
   pub sound-more : (w : List Literal) (end total : ℕ) (gap : Option ℕ) → IsSound w slots ids end total gap → length more ≤ 4294967295 → IsSound w more grown end total gap
   sound-more w end total gap s few = record {
     laid = laid-more (length w) end total s.laid few;
+    few_words = s.few_words;
     known = rw m.used (s.known ∙ sym (gap-same (slot_at slots) (slot_at more) ids.used (λ i u. m.same i)));
     ordered = λ i c e. s.ordered i c (sym (clause-more w i) ∙ e);
   }

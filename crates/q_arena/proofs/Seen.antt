@@ -138,7 +138,7 @@ following-of s b room x (y ∷ ys) z p rb bz w a h k =
 
 module _ (places heads : List Link) (s : AreSound places heads) where
   few : length places ≤ base
-  few = let h : length places < 4294967296 = s.few_places in omega arith
+  few = let h : length places ≤ base = s.few_places in omega arith
 
   the-ring : (l : ℕ) → l < length heads → IsRing (node_at places heads) (length places) (base + l) (rings_of (node_at places heads) base l)
   the-ring l lh = s.rings.each l lh

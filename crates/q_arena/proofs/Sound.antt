@@ -6,7 +6,7 @@ use Rattle.q_arena.specs.Rings.{Has, AreBelow, IsRing, AreSound, rings_of}
 use Rattle.q_arena.proofs.Paths.{Misses-from, prev_in, next_in}
 use Rattle.q_arena.proofs.RingLemmas.{Has-below, first_in, length-below}
 
-IsNode-on : (P H l k : ℕ) (ys : List ℕ) → P < 4294967296 → l < H → AreBelow P ys → Has ys k ⊎ (k ≡ base + l) → IsNode P H k
+IsNode-on : (P H l k : ℕ) (ys : List ℕ) → P ≤ base → l < H → AreBelow P ys → Has ys k ⊎ (k ≡ base + l) → IsNode P H k
 IsNode-on P H l k ys few lh b (inl h) = let lt : k < P = Has-below P k ys b h in inl (omega arith, lt)
 IsNode-on P H l k ys few lh b (inr e) = inr (omega arith, omega arith)
 
@@ -23,7 +23,7 @@ module _ (places heads : List Link) (s : AreSound places heads) (l : ℕ) (lh : 
       let ys : List ℕ = rings_of (node_at places heads) base l in
       let n = length-below (length places) (p ∷ ys) (Misses-from p ys (f l lh), r.apart) (pr, r.below) in
       let e : (node_at places heads (base + l)).tag ≡ length ys = r.count in
-      let few : length places < 4294967296 = s.few_places in
+      let few : length places ≤ base = s.few_places in
       rw e (omega (arith, n, few))
 
   module _ (p : ℕ) (h : Has (rings_of (node_at places heads) base l) p) where

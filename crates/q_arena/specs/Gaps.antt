@@ -1,5 +1,5 @@
 -- The first clause of the row with dead words before it.
-use Rattle.std.specs.Prelude.{◌≡◌, ℕ, Bool, if◌then◌else◌, ◌==◌, nat_lt, List, [], ◌∷◌, Option, None, Some, length, map}
+use Rattle.std.specs.Prelude.{◌≡◌, ◌<◌, ℕ, Bool, if◌then◌else◌, ◌==◌, nat_lt, List, [], ◌∷◌, Option, None, Some, length, map}
 use Rattle.q_arena.specs.declared.slots.Slot.{Slot}
 use Rattle.q_logic.specs.Literals.{Literal}
 use Rattle.q_arena.specs.Seen.{AreOrdered, clause_in}
@@ -31,3 +31,4 @@ pub record IsSound (words : List Literal) (slots : List Slot) (ids : Order) (end
   pub laid : AreLaid (length words) slots ids end total
   pub known : gap ≡ first_gap (slot_at slots) ids.used
   pub ordered : AreOrdered (map (clause_in words) slots)
+  pub few_words : length words < 4294967296

@@ -4,7 +4,7 @@ use Rattle.q_arena.specs.declared.rings.Link.{Link}
 
 -- the number of the first head
 abbrev pub base : ℕ
-base = 4611686018427387904
+base = 2147483648
 
 abbrev pub blank : Link
 blank = record { next = 0; prev = 0; tag = 0 }

@@ -68,5 +68,5 @@ with_list L l ys m = if m == l then ys else L m
 -- rows of links that hold a list for each head
 pub record AreSound (places heads : List Link) : Type 0 where
   pub rings : AreRings (node_at places heads) base (length places) (length heads) (rings_of (node_at places heads) base)
-  pub few_places : length places < 4294967296
+  pub few_places : length places ≤ base
   pub few_heads : length heads ≤ base

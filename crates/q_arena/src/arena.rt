@@ -130,7 +130,7 @@ impl Arena {
         requires { IsLive self.now id }
         ensures { result ≡ start_at self.now id }
     {
-        self.slots[id as usize].start
+        self.slots[id as usize].start as usize
     }
 
     pub fn live(&self, id: ClauseId) -> bool
@@ -145,7 +145,7 @@ impl Arena {
         ensures ordered { ArePairs IsBelow result.now }
     {
         let slot = self.slots[id as usize];
-        part(&self.words, slot.start, slot.len)
+        part(&self.words, slot.start as usize, slot.len as usize)
     }
 
     /// The least live id at or above one.
@@ -176,7 +176,7 @@ impl Arena {
         let gap = gap_after_delete(&self.slots, self.gap, at, up);
         self.ids.give(at);
         self.slots[at].live = false;
-        self.total -= slot.len;
+        self.total -= slot.len as usize;
         self.end = end_of(&self.slots, &self.ids);
         self.gap = gap;
     }
@@ -207,8 +207,8 @@ impl Arena {
         let slot = slot_of(&self.slots, at);
         let up = self.ids.after(at);
         let gap = gap_after_drop(&self.slots, self.gap, at, up);
-        let from = slot.start + k;
-        move_down(&mut self.words, from + 1, from, slot.len - k - 1);
+        let from = slot.start as usize + k;
+        move_down(&mut self.words, from + 1, from, slot.len as usize - k - 1);
         self.slots[at] = Slot {
             start: slot.start,
             len: slot.len - 1,
@@ -235,10 +235,10 @@ impl Arena {
         let slot = slot_of(&self.slots, at);
         self.ids.distinct();
         let to = end_below(&self.slots, &self.ids, at);
-        move_down(&mut self.words, slot.start, to, slot.len);
+        move_down(&mut self.words, slot.start as usize, to, slot.len as usize);
         let up = self.ids.after(at);
         self.slots[at] = Slot {
-            start: to,
+            start: to as u32,
             len: slot.len,
             live: true,
         };
@@ -293,8 +293,8 @@ impl Arena {
         self.ids.take(at);
         write(&mut self.words, self.end, lits);
         self.slots[at] = Slot {
-            start: self.end,
-            len: lits.len(),
+            start: self.end as u32,
+            len: lits.len() as u32,
             live: true,
         };
         self.end += lits.len();

@@ -10,28 +10,31 @@ use std::marker::Model;
 /// The neighbours of a node, and its tag: the owner of a place, or the count of a head.
 #[derive(Clone, Copy)]
 pub struct Link {
-    next: usize,
-    prev: usize,
+    next: u32,
+    prev: u32,
     tag: u32,
 }
 
 // The number of the first head as a node; below it a node is a place.
-const HEADS: usize = 4611686018427387904;
+const HEADS: u32 = 2_147_483_648;
+
+// So many places there may be, and so many heads.
+const MOST: usize = 2_147_483_648;
 
 // The link of a node.
-fn node(places: &Vec<Link>, heads: &Vec<Link>, at: usize) -> Link
+fn node(places: &Vec<Link>, heads: &Vec<Link>, at: u32) -> Link
     requires at { IsNode (length places.now.items) (length heads.now.items) at }
     ensures { result ≡ node_at places.now.items heads.now.items at }
 {
     if at < HEADS {
-        places[at]
+        places[at as usize]
     } else {
-        heads[at - HEADS]
+        heads[(at - HEADS) as usize]
     }
 }
 
 // Writes the link of a node.
-fn put(places: &mut Vec<Link>, heads: &mut Vec<Link>, at: usize, link: Link)
+fn put(places: &mut Vec<Link>, heads: &mut Vec<Link>, at: u32, link: Link)
     requires at { IsNode (length places.old.items) (length heads.old.items) at }
     requires few { length places.old.items ≤ base }
     ensures put { IsPut (node_at places.old.items heads.old.items) (node_at places.new.items heads.new.items) at link }
@@ -39,14 +42,14 @@ fn put(places: &mut Vec<Link>, heads: &mut Vec<Link>, at: usize, link: Link)
     ensures heads { length heads.new.items ≡ length heads.old.items }
 {
     if at < HEADS {
-        places[at] = link;
+        places[at as usize] = link;
     } else {
-        heads[at - HEADS] = link;
+        heads[(at - HEADS) as usize] = link;
     }
 }
 
 // Makes the second node follow the first.
-fn join(places: &mut Vec<Link>, heads: &mut Vec<Link>, a: usize, b: usize)
+fn join(places: &mut Vec<Link>, heads: &mut Vec<Link>, a: u32, b: u32)
     requires a { IsNode (length places.old.items) (length heads.old.items) a }
     requires b { IsNode (length places.old.items) (length heads.old.items) b }
     requires few { length places.old.items ≤ base }
@@ -63,7 +66,7 @@ fn join(places: &mut Vec<Link>, heads: &mut Vec<Link>, a: usize, b: usize)
 }
 
 // Writes the tag of a node.
-fn set_tag(places: &mut Vec<Link>, heads: &mut Vec<Link>, at: usize, tag: u32)
+fn set_tag(places: &mut Vec<Link>, heads: &mut Vec<Link>, at: u32, tag: u32)
     requires at { IsNode (length places.old.items) (length heads.old.items) at }
     requires few { length places.old.items ≤ base }
     ensures tagged { IsTagged (node_at places.old.items heads.old.items) (node_at places.new.items heads.new.items) at tag }
@@ -76,7 +79,7 @@ fn set_tag(places: &mut Vec<Link>, heads: &mut Vec<Link>, at: usize, tag: u32)
 }
 
 // Puts a place in front of the list of a head.
-fn put_front(places: &mut Vec<Link>, heads: &mut Vec<Link>, head: usize, place: usize)
+fn put_front(places: &mut Vec<Link>, heads: &mut Vec<Link>, head: u32, place: u32)
     requires head { head < length heads.old.items }
     requires place { place < length places.old.items }
     requires sound { AreSound places.old.items heads.old.items }
@@ -93,7 +96,7 @@ fn put_front(places: &mut Vec<Link>, heads: &mut Vec<Link>, head: usize, place: 
 }
 
 // Puts a place after one of the list of a head.
-fn put_after(places: &mut Vec<Link>, heads: &mut Vec<Link>, head: usize, after: usize, place: usize)
+fn put_after(places: &mut Vec<Link>, heads: &mut Vec<Link>, head: u32, after: u32, place: u32)
     requires head { head < length heads.old.items }
     requires place { place < length places.old.items }
     requires sound { AreSound places.old.items heads.old.items }
@@ -112,7 +115,7 @@ fn put_after(places: &mut Vec<Link>, heads: &mut Vec<Link>, head: usize, after: 
 }
 
 // Takes a place out of the list of a head.
-fn take_out(places: &mut Vec<Link>, heads: &mut Vec<Link>, head: usize, place: usize)
+fn take_out(places: &mut Vec<Link>, heads: &mut Vec<Link>, head: u32, place: u32)
     requires head { head < length heads.old.items }
     requires sound { AreSound places.old.items heads.old.items }
     requires there { Has (rings_of (node_at places.old.items heads.old.items) base head) place }
@@ -176,7 +179,7 @@ impl Rings {
         ensures kept_room { length self.old.owners ≤ length self.new.owners }
         ensures kept_heads { length self.old.lists ≤ length self.new.lists }
     {
-        if room > 4294967295 || heads > HEADS {
+        if room > MOST || heads > MOST {
             return Err(NoMemory);
         }
         grow_places(&mut self.places, room)?;
@@ -240,8 +243,8 @@ impl Rings {
         ensures lists { self.new.lists ≡ slice_set self.old.lists head (place ∷ list_at self.old head) }
         ensures owners { self.new.owners ≡ slice_set self.old.owners place owner }
     {
-        put_front(&mut self.places, &mut self.heads, head, place);
-        set_tag(&mut self.places, &mut self.heads, place, owner);
+        put_front(&mut self.places, &mut self.heads, head as u32, place as u32);
+        set_tag(&mut self.places, &mut self.heads, place as u32, owner);
     }
 
     /// Puts a place that is in no list directly after one of the list of a head.
@@ -252,8 +255,14 @@ impl Rings {
         ensures lists { self.new.lists ≡ slice_set self.old.lists head (with_next after place (list_at self.old head)) }
         ensures owners { self.new.owners ≡ slice_set self.old.owners place owner }
     {
-        put_after(&mut self.places, &mut self.heads, head, after, place);
-        set_tag(&mut self.places, &mut self.heads, place, owner);
+        put_after(
+            &mut self.places,
+            &mut self.heads,
+            head as u32,
+            after as u32,
+            place as u32,
+        );
+        set_tag(&mut self.places, &mut self.heads, place as u32, owner);
     }
 
     /// Takes a place out of the list of a head.
@@ -262,15 +271,15 @@ impl Rings {
         ensures lists { self.new.lists ≡ slice_set self.old.lists head (without place (list_at self.old head)) }
         ensures owners { self.new.owners ≡ self.old.owners }
     {
-        take_out(&mut self.places, &mut self.heads, head, place);
+        take_out(&mut self.places, &mut self.heads, head as u32, place as u32);
     }
 }
 
 // The place that a node is, if it is one.
-fn place_of(at: usize) -> Option<usize>
+fn place_of(at: u32) -> Option<usize>
     ensures { result ≡ (if nat_lt at base then Some at else None) }
 {
-    if at < HEADS { Some(at) } else { None }
+    if at < HEADS { Some(at as usize) } else { None }
 }
 
 // Room for more places, in no list.
@@ -302,7 +311,7 @@ fn add_head(places: &Vec<Link>, heads: &mut Vec<Link>) -> Result<(), NoMemory>
     ensures same { OnErr result (length heads.new.items ≡ length heads.old.items) }
     ensures lists { (l : ℕ) → slice_index_or (lists_of places.now.items heads.new.items) l [] ≡ slice_index_or (lists_of places.now.items heads.old.items) l [] }
 {
-    let at = HEADS + heads.len();
+    let at = HEADS + heads.len() as u32;
     heads.push(Link {
         next: at,
         prev: at,

@@ -8,11 +8,14 @@ ghost use Rattle.q_arena.specs.Seen.{piece};
 use crate::ids::Ids;
 use q_logic::{Lit, NoMemory};
 
+// So many words there may be.
+const MOST: usize = 4_294_967_295;
+
 /// Where a clause stands in the row of words.
 #[derive(Clone, Copy)]
 pub struct Slot {
-    pub start: usize,
-    pub len: usize,
+    pub start: u32,
+    pub len: u32,
     pub live: bool,
 }
 
@@ -35,7 +38,7 @@ pub fn end_of(slots: &Vec<Slot>, ids: &Ids) -> usize
     match ids.last() {
         Some(last) => {
             let slot = slots[last];
-            slot.start + slot.len
+            slot.start as usize + slot.len as usize
         }
         None => 0,
     }
@@ -76,7 +79,7 @@ pub fn end_below(slots: &Vec<Slot>, ids: &Ids, at: usize) -> usize
     match ids.before(at) {
         Some(last) => {
             let slot = slot_of(slots, last);
-            slot.start + slot.len
+            slot.start as usize + slot.len as usize
         }
         None => 0,
     }
@@ -149,12 +152,13 @@ pub fn grow_words(words: &mut Vec<Lit>, end: usize, more: usize) -> Result<(), N
     ensures room { OnOk result (end + more ≤ length words.new.items) }
     ensures kept { length words.old.items ≤ length words.new.items }
     ensures exact { (length words.new.items ≡ length words.old.items) ⊎ (length words.new.items ≡ end + more) }
+    ensures few { length words.old.items < 4294967296 → length words.new.items < 4294967296 }
     ensures same { (k : ℕ) (d : Literal) → k < length words.old.items → slice_index_or words.new.items k d ≡ slice_index_or words.old.items k d }
 {
     if words.len() - end >= more {
         return Ok(());
     }
-    if more > usize::MAX - end {
+    if more > MOST || end > MOST - more {
         return Err(NoMemory);
     }
     words.resize(end + more, Lit::new(1, false))?;

@@ -1,4 +1,4 @@
-use Rattle.std.proofs.Common.{◌≡◌, ◌+◌, ◌<◌, ◌≤◌, arith, ap, length}
+use Rattle.std.proofs.Common.{◌≡◌, ◌+◌, ◌≤◌, arith, ap, length}
 use Rattle.q_arena.specs.Nodes.{node_at, base}
 use Rattle.q_arena.specs.Rings.{rings_of}
 use Rattle.q_arena.proofs.After.{AreRings-after}
@@ -28,7 +28,7 @@ returns-clause-rings c =
     let t = node_at c.join.new.places.items c.join.new.heads.items in
     let u = node_at c.join-2.new.places.items c.join-2.new.heads.items in
     let v = node_at c.set_tag.new.places.items c.set_tag.new.heads.items in
-    let few : length c.args.places.now.items ≤ base = (let h : length c.args.places.now.items < 4294967296 = c.requires.sound.few_places in omega arith) in
+    let few : length c.args.places.now.items ≤ base = c.requires.sound.few_places in
     AreRings-after s t u v base (length c.args.places.now.items) (length c.args.heads.now.items) (rings_of s base) c.args.head c.args.after c.args.place c.node-count.result.tag
     c.requires.sound.rings few c.requires.head c.requires.place c.requires.there c.requires.fresh
     c.join.ensures.joined

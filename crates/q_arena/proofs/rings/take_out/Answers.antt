@@ -1,4 +1,4 @@
-use Rattle.std.proofs.Common.{◌≡◌, ◌+◌, ◌-◌, ◌<◌, ◌≤◌, arith, ap, length}
+use Rattle.std.proofs.Common.{◌≡◌, ◌+◌, ◌-◌, ◌≤◌, arith, ap, length}
 use Rattle.q_arena.specs.Nodes.{node_at, base}
 use Rattle.q_arena.specs.Rings.{rings_of}
 use Rattle.q_arena.proofs.RingLemmas.{AreRings-without}
@@ -22,7 +22,7 @@ returns-clause-rings c =
     let s = node_at c.args.places.now.items c.args.heads.now.items in
     let t = node_at c.join.new.places.items c.join.new.heads.items in
     let v = node_at c.set_tag.new.places.items c.set_tag.new.heads.items in
-    let few : length c.args.places.now.items ≤ base = (let h : length c.args.places.now.items < 4294967296 = c.requires.sound.few_places in omega arith) in
+    let few : length c.args.places.now.items ≤ base = c.requires.sound.few_places in
     let positive = count-positive c.args.places.now.items c.args.heads.now.items c.requires.sound c.args.head c.requires.head c.args.place c.requires.there c.node-count.result.tag (ap (λ k. k.tag) c.node-count.ensures) in
     let count : (s (base + c.args.head)).tag ≡ (c.node-count.result.tag - 1) + 1 = rw (← c.node-count.ensures) (omega arith) in
     AreRings-without s t v base (length c.args.places.now.items) (length c.args.heads.now.items) (rings_of s base) c.args.head c.args.place (c.node-count.result.tag - 1)

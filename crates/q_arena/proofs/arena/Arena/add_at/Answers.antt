@@ -61,6 +61,7 @@ invariant_of-self c =
     record {
       ordered = ordered-same _ _ now (ordered-set _ id _ c.self.invariant.ordered (λ d' e. subst (ArePairs IsBelow) (Some-same _ d' e) c.requires.ordered));
       known = rw (c.take.ensures.used, c.self.invariant.known) (sym gap);
+      few_words = rw c.write.ensures.len c.self.invariant.few_words;
       laid =
           rw c.write.ensures.len
           (AreLaid-add (length i.words.items) i.slots.items i.ids c.take.new.self i.end i.total c.args.id (length c.args.lits.now) c.self.invariant.laid there c.take.ensures.used c.take.ensures.free c.distinct.ensures.free fits);

@@ -69,6 +69,7 @@ invariant_of-self c =
     record {
       ordered = ordered-same _ _ now (ordered-set _ c.args.id None c.self.invariant.ordered (λ d' e'. absurd (none-some d' e')));
       laid = rw (c.end_of-self-inside.ensures, e) d.1;
+      few_words = c.self.invariant.few_words;
       known = rw (c.give.ensures.used, c.gap_after_delete-gap.ensures, c.after-up.ensures, c.self.invariant.known) (sym (same ∙ gap));
     }
 

@@ -233,6 +233,7 @@ invariant_of-self c =
     record {
       ordered = ordered-same _ _ now (ordered-set _ id _ c.self.invariant.ordered (λ d' e. subst (ArePairs IsBelow) (Some-same _ d' e) (pairs-without_at IsBelow c.args.k c.requires.0 mine)));
       laid = rw (c.end_of-self-inside.ensures, c.move_down.ensures.len) d.1;
+      few_words = rw c.move_down.ensures.len c.self.invariant.few_words;
       known = rw (c.gap_after_drop-gap.ensures, c.after-up.ensures, c.self.invariant.known) (sym gap);
     }
 

@@ -7,12 +7,12 @@ use Rattle.q_arena.proofs.arena.Arena.reserve.Goals as goal
 pub invariant_of-self : goal.invariant_of-self
 invariant_of-self c =
     let i = c.self.inside in
-    sound-grown i.words.items c.grow_words.new.words.items i.slots.items i.ids i.end i.total i.gap c.self.invariant c.grow_words.ensures.kept c.grow_words.ensures.same
+    sound-grown i.words.items c.grow_words.new.words.items i.slots.items i.ids i.end i.total i.gap c.self.invariant c.grow_words.ensures.kept c.grow_words.ensures.same c.grow_words.ensures.few
 
 pub invariant_of-self-then-ids-spare : goal.invariant_of-self-then-ids-spare
 invariant_of-self-then-ids-spare c =
     let i = c.self.inside in
-    sound-grown i.words.items c.grow_words.new.words.items i.slots.items i.ids i.end i.total i.gap c.self.invariant c.grow_words.ensures.kept c.grow_words.ensures.same
+    sound-grown i.words.items c.grow_words.new.words.items i.slots.items i.ids i.end i.total i.gap c.self.invariant c.grow_words.ensures.kept c.grow_words.ensures.same c.grow_words.ensures.few
 
 pub returns-in_err-grow_words-clause-same : goal.returns-in_err-grow_words-clause-same
 returns-in_err-grow_words-clause-same c =
@@ -35,7 +35,7 @@ returns-then-ids-spare-clause-same c =
 pub invariant_of-self-2 : goal.invariant_of-self-2
 invariant_of-self-2 c =
     let i = c.self.inside in
-    let s = sound-grown i.words.items c.grow_words.new.words.items i.slots.items i.ids i.end i.total i.gap c.self.invariant c.grow_words.ensures.kept c.grow_words.ensures.same in
+    let s = sound-grown i.words.items c.grow_words.new.words.items i.slots.items i.ids i.end i.total i.gap c.self.invariant c.grow_words.ensures.kept c.grow_words.ensures.same c.grow_words.ensures.few in
     let live = live-count i.words.items i.slots.items i.ids i.end i.total c.self.invariant.laid in
     let within = rw (← c.self.view_is) at c.requires in
     let few : length c.grow_ids.new.slots.items ≤ 4294967295 = elim c.grow_ids.ensures.exact [

@@ -38,6 +38,17 @@ end_below-to-requires-clause-fits c =
     let hl = ap (λ k. k.len) c.slot_of-slot.ensures in
     omega (arith, low, room, i.words.ok.0)
 
+pub overflow_cast-to : goal.overflow_cast-to
+overflow_cast-to c =
+    let i = c.self.inside in
+    let id = c.args.id in
+    let first : first_gap (slot_at i.slots.items) i.ids.used ≡ Some id = sym c.self.invariant.known ∙ (rw (← c.self.view_is) at c.requires.next) in
+    let l = c.self.invariant.laid.live id (gap-in (slot_at i.slots.items) i.ids.used id first) in
+    let u = c.self.invariant.laid.lives id l in
+    let room = live-room (length i.words.items) i.slots.items i.ids i.end i.total id c.self.invariant.laid l in
+    let low = below-top (slot_at i.slots.items) id i.ids.used c.self.invariant.laid.stack u in
+    omega (arith, low, room, c.end_below-to.ensures, c.self.invariant.few_words)
+
 pub end_below-to-requires-clause-used : goal.end_below-to-requires-clause-used
 end_below-to-requires-clause-used c =
     let i = c.self.inside in
@@ -153,6 +164,7 @@ invariant_of-self c =
     record {
       ordered = ordered-same _ _ same c.self.invariant.ordered;
       laid = rw (c.end_of-self-inside.ensures, c.move_down.ensures.len) d.1;
+      few_words = rw c.move_down.ensures.len c.self.invariant.few_words;
       known = rw c.after-up.ensures (sym gap);
     }
 

@@ -4,7 +4,17 @@ use Rattle.q_arena.specs.Rings.{Has, rings_of, with_list, with_next}
 use Rattle.q_arena.specs.Chains.{Chains, list_at}
 use Rattle.q_arena.proofs.RingLemmas.{AreRings-tagged}
 use Rattle.q_arena.proofs.Seen.{list-is, length-tags, lists-with, tags-set, AreSound-with, Has-head}
+use Rattle.q_arena.proofs.Sound.{place-below}
 use Rattle.q_arena.proofs.rings.Rings.insert_after.Goals as goal
+
+pub overflow_cast-after : goal.overflow_cast-after
+overflow_cast-after c =
+    let p = c.self.inside.places.items in
+    let h = c.self.inside.heads.items in
+    let there = subst (λ (v : Chains). Has (list_at v c.args.head) c.args.after) (sym c.self.view_is) c.requires.after in
+    let below = place-below p h c.self.invariant c.args.head (Has-head p h c.args.head c.args.after there) c.args.after
+    (subst (λ (xs : List ℕ). Has xs c.args.after) (list-is p h c.args.head) there) in
+    omega (arith, below, c.self.invariant.few_places)
 
 pub put_after-requires-clause-fresh : goal.put_after-requires-clause-fresh
 put_after-requires-clause-fresh c = λ m mh h.

@@ -3,7 +3,17 @@ use Rattle.q_arena.specs.Nodes.{base, node_at}
 use Rattle.q_arena.specs.Rings.{Has, rings_of, with_list, without}
 use Rattle.q_arena.specs.Chains.{Chains, list_at}
 use Rattle.q_arena.proofs.Seen.{list-is, lists-with, tags-same, AreSound-with, Has-head}
+use Rattle.q_arena.proofs.Sound.{place-below}
 use Rattle.q_arena.proofs.rings.Rings.remove.Goals as goal
+
+pub overflow_cast-place : goal.overflow_cast-place
+overflow_cast-place c =
+    let p = c.self.inside.places.items in
+    let h = c.self.inside.heads.items in
+    let there = subst (λ (v : Chains). Has (list_at v c.args.head) c.args.place) (sym c.self.view_is) c.requires in
+    let below = place-below p h c.self.invariant c.args.head (Has-head p h c.args.head c.args.place there) c.args.place
+    (subst (λ (xs : List ℕ). Has xs c.args.place) (list-is p h c.args.head) there) in
+    omega (arith, below, c.self.invariant.few_places)
 
 pub take_out-requires-clause-head : goal.take_out-requires-clause-head
 take_out-requires-clause-head c =

@@ -1,23 +1,23 @@
-use Rattle.std.proofs.Common.{◌<◌, length, arith, ap, sym, ◌∙◌, inl, inr, ℕ}
+use Rattle.std.proofs.Common.{◌≤◌, length, arith, ap, sym, ◌∙◌, inl, inr, ℕ}
 use Rattle.q_arena.proofs.Growth.{AreSound-places}
 use Rattle.q_arena.specs.declared.rings.Link.{Link}
-use Rattle.q_arena.specs.Nodes.{blank}
+use Rattle.q_arena.specs.Nodes.{base, blank}
 use Rattle.q_arena.proofs.Seen.{get_or-mapped}
 use Rattle.q_arena.proofs.rings.Rings.reserve.Goals as goal
 
 pub invariant_of-self : goal.invariant_of-self
 invariant_of-self c =
-    let few : length c.grow_places.new.places.items < 4294967296 = elim c.grow_places.ensures.exact [
+    let few : length c.grow_places.new.places.items ≤ base = elim c.grow_places.ensures.exact [
       | inl e ↦ omega (arith, e, c.self.invariant.few_places)
-      | inr e ↦ omega (arith, e, c.if-room-gt4294967295.false)
+      | inr e ↦ omega (arith, e, c.if-room-gt-MOST.false)
     ] in
     AreSound-places c.self.inside.places.items c.grow_places.new.places.items c.self.inside.heads.items c.grow_places.ensures.same c.self.invariant c.grow_places.ensures.more few
 
 pub grow_heads-requires-clause-sound : goal.grow_heads-requires-clause-sound
 grow_heads-requires-clause-sound c =
-    let few : length c.grow_places.new.places.items < 4294967296 = elim c.grow_places.ensures.exact [
+    let few : length c.grow_places.new.places.items ≤ base = elim c.grow_places.ensures.exact [
       | inl e ↦ omega (arith, e, c.self.invariant.few_places)
-      | inr e ↦ omega (arith, e, c.if-room-gt4294967295.false)
+      | inr e ↦ omega (arith, e, c.if-room-gt-MOST.false)
     ] in
     AreSound-places c.self.inside.places.items c.grow_places.new.places.items c.self.inside.heads.items c.grow_places.ensures.same c.self.invariant c.grow_places.ensures.more few
 
