@@ -1,12 +1,13 @@
 -- What is left to write of a list behind a place of it, and the blocks of a prefix.
-use Rattle.std.proofs.Common.{◌≡◌, ℕ, zero, suc, ◌+◌, ◌≤◌, List, [], ◌∷◌, ◌++◌, map, length, drop, slice_get, Option, Some, None, Result, Ok, Err, OnErr, refl, ap, sym, ◌∙◌, add-one, append_assoc, append-nil, not-suc-le-zero, le_of_suc-le-suc, pos}
+use Rattle.std.proofs.Common.{◌≡◌, ℕ, zero, suc, ◌+◌, ◌<◌, ◌≤◌, List, [], ◌∷◌, ◌++◌, map, length, drop, slice_get, get_or, Option, Some, None, Result, Ok, Err, OnErr, refl, ap, sym, ◌∙◌, add-one, append_assoc, append-nil, not-suc-le-zero, le_of_suc-le-suc, pos, arith, length-append}
 use Rattle.q_logic.specs.declared.formulas.Bound.{Bound}
 use Rattle.q_logic.specs.declared.formulas.Quant.{Quant}
 use Rattle.q_logic.specs.declared.formulas.Quant.TheVariants.{Exists, Forall}
+use Rattle.q_logic.specs.Literals.{Literal, number_of}
 use Rattle.q_logic.specs.Formulas.{Clause, Matrix, Prefix}
 use Rattle.q_logic.specs.Prefixes.{Block, blocks, push_block}
 use Rattle.q_text.specs.Numbers.{number_text, numbers_text, line_end}
-use Rattle.q_dimacs.specs.Writing.{quant_text, blocks_text, clause_text, matrix_text, closing, bounds_text, Extends}
+use Rattle.q_dimacs.specs.Writing.{quant_text, blocks_text, clause_text, matrix_text, bound_text, closing, bounds_text, Extends}
 
 pub extends-self : (a : List ℕ) → Extends a a
 extends-self a = record { rest = []; is = sym (append-nil a) }
@@ -21,11 +22,36 @@ pub on-err : {X E : Type 0} {P : Type 0} (r : Result X E) → P → OnErr r P
 on-err (Ok x) p = tt
 on-err (Err e) p = p
 
+-- what is written next fits where all that is left fits
+pub next-fits : (a r b w x y : List ℕ) → a ++ r ≡ b ++ w → r ≡ x ++ y → length a + length x ≤ length b + length w
+next-fits a r b w x y e f =
+    let l = ap length e in
+    let m = ap length f in
+    omega (arith, length-append a r, length-append b w, length-append x y)
+
 pub bounds-done : (P : Prefix) (o : Option Quant) (i : ℕ) → length P ≤ i → bounds_text o (drop i P) ≡ closing o
 bounds-done [] o zero l = refl
 bounds-done [] o (suc i) l = refl
 bounds-done (b ∷ P) o zero l = absurd (not-suc-le-zero l)
 bounds-done (b ∷ P) o (suc i) l = bounds-done P o i (le_of_suc-le-suc l)
+
+bounds-at : (P : Prefix) (o : Option Quant) (i : ℕ) (d : Bound) → i < length P → bounds_text o (drop i P) ≡ bound_text o (get_or P i d) ++ bounds_text (Some (get_or P i d).quant) (drop (suc i) P)
+bounds-at [] o i d h = absurd (not-suc-le-zero h)
+bounds-at (b ∷ P) o zero d h = refl
+bounds-at (b ∷ P) o (suc i) d h = bounds-at P o i d (le_of_suc-le-suc h)
+
+pub bounds-next : (P : Prefix) (o : Option Quant) (i : ℕ) (d : Bound) → i < length P → bounds_text o (drop i P) ≡ bound_text o (get_or P i d) ++ bounds_text (Some (get_or P i d).quant) (drop (i + 1) P)
+bounds-next P o i d h = rw add-one (bounds-at P o i d h)
+
+literal-at : (C : Clause) (i : ℕ) (d : Literal) → i < length C →
+    numbers_text (map number_of (drop i C)) ≡ number_text (number_of (get_or C i d)) ++ numbers_text (map number_of (drop (suc i) C))
+literal-at [] i d h = absurd (not-suc-le-zero h)
+literal-at (l ∷ C) zero d h = refl
+literal-at (l ∷ C) (suc i) d h = literal-at C i d (le_of_suc-le-suc h)
+
+pub literal-next : (C : Clause) (i : ℕ) (d : Literal) → i < length C →
+    numbers_text (map number_of (drop i C)) ≡ number_text (number_of (get_or C i d)) ++ numbers_text (map number_of (drop (i + 1) C))
+literal-next C i d h = rw add-one (literal-at C i d h)
 
 matrix-at : (X : Matrix) (i : ℕ) (C : Clause) → slice_get X i ≡ Some C → matrix_text (drop i X) ≡ clause_text C ++ matrix_text (drop (suc i) X)
 matrix-at [] i C e = absurd (cc)

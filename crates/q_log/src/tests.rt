@@ -1,3 +1,6 @@
+ghost use Rattle.std.specs.Prelude.{◌≤◌, length};
+ghost use Rattle.q_log.specs.Texts.{step_text, written, IsWritable};
+
 use crate::{LogError, LogReader, push_step, step_len, write_step};
 use q_logic::{Kind, Lit, Lits, Step};
 use std::alloc::Global;
@@ -149,5 +152,40 @@ fn the_length_is_that_of_the_text(rt: HostRuntime) -> Result<(), Fail> {
     push_step(&mut text, &step)?;
     assert_eq!(rt; text.as_slice(), b"d -20 1 3 0\n".as_slice());
     assert_eq!(rt; step_len(&step), 12);
+    Ok(())
+}
+
+// The text of a step, written into room that was there before.
+fn in_room(text: &mut Vec<u8>, kind: Kind, first: Option<Lit>, lits: &[Lit]) -> Result<bool, Fail>
+    requires form { IsWritable kind first lits.now }
+    requires short { length (step_text (written kind first lits.now)) ≤ 80 }
+{
+    text.clear();
+    text.reserve(80)?;
+    let room = text.capacity();
+    write_step(text, kind, first, lits);
+    Ok(text.capacity() == room)
+}
+
+#[test]
+fn each_kind_of_step_is_written_without_memory(rt: HostRuntime) -> Result<(), Fail> {
+    let one = Lit::new(1, false);
+    let not_two = Lit::new(2, true);
+    let thirty = Lit::new(30, false);
+    let greatest = Lit::new(2_147_483_647, false);
+    let lits = [one, not_two, thirty];
+    let mut text = Vec::new(rt.alloc());
+    assert!(rt; in_room(&mut text, Kind::Add, Some(not_two), &lits)?);
+    assert_eq!(rt; text.as_slice(), b"-2 1 30 0\n".as_slice());
+    assert!(rt; in_room(&mut text, Kind::Add, None, &lits)?);
+    assert_eq!(rt; text.as_slice(), b"1 -2 30 0\n".as_slice());
+    assert!(rt; in_room(&mut text, Kind::Delete, Some(thirty), &lits)?);
+    assert_eq!(rt; text.as_slice(), b"d 30 1 -2 0\n".as_slice());
+    assert!(rt; in_room(&mut text, Kind::Drop, Some(thirty), &lits)?);
+    assert_eq!(rt; text.as_slice(), b"u 30 1 -2 0\n".as_slice());
+    assert!(rt; in_room(&mut text, Kind::Fresh, Some(greatest), &[one])?);
+    assert_eq!(rt; text.as_slice(), b"e 2147483647 1 0\n".as_slice());
+    assert!(rt; in_room(&mut text, Kind::Remove, Some(thirty), &[])?);
+    assert_eq!(rt; text.as_slice(), b"r 30 0\n".as_slice());
     Ok(())
 }

@@ -1,4 +1,4 @@
-ghost use Rattle.std.specs.Prelude.{◌≡◌, ◌≤◌, ◌<◌, ◌+◌, ◌*◌, ◌^◌, ◌++◌, ◌∷◌, length, drop, vec_len, vec_capacity, OnOk, OnErr};
+ghost use Rattle.std.specs.Prelude.{◌≡◌, ◌≤◌, ◌<◌, ◌+◌, ◌*◌, ◌^◌, ◌++◌, ◌∷◌, length, drop, vec_len, vec_capacity, OnOk, OnErr, IsOk};
 ghost use Rattle.q_logic.specs.Literals.{IsBelow, number_of};
 ghost use Rattle.q_logic.specs.Parts.{ArePairs};
 ghost use Rattle.q_logic.specs.Pivots.{without};
@@ -9,10 +9,11 @@ ghost use Rattle.q_log.specs.Texts.{letter_text, literals_text, step_text, writt
 use q_logic::{Kind, Lit, NoMemory, Step};
 use q_text::{digits, put_number};
 
-/// Appends the canonical text of a step.
+/// Appends the canonical text of a step. Where the text has room for it, it takes no memory.
 pub fn push_step(text: &mut Vec<u8>, step: &Step) -> Result<(), NoMemory>
     ensures ok { OnOk result (text.new.items ≡ text.old.items ++ step_text step.now) }
     ensures err { OnErr result (text.new.items ≡ text.old.items) }
+    ensures room { vec_len text.old + length (step_text step.now) ≤ vec_capacity text.old → IsOk result }
     ensures capacity { vec_capacity text.old ≤ vec_capacity text.new }
 {
     text.reserve(step_len(step))?;

@@ -1,4 +1,4 @@
-use Rattle.std.proofs.Common.{◌≡◌, ◌++◌, drop}
+use Rattle.std.proofs.Common.{◌≡◌, ◌++◌, ◌≤◌, vec_capacity, drop}
 use Rattle.q_dimacs.specs.Writing.{matrix_text, Extends}
 use Rattle.q_dimacs.proofs.writer.put_matrix.Given as goal
 
@@ -6,4 +6,5 @@ abbrev pub invariant-loop-at : goal.invariant-loop-at
 invariant-loop-at l = record {
   text : l.text.items ++ matrix_text (drop l.at l.formula.matrix) ≡ l.initial.text.items ++ matrix_text l.formula.matrix;
   before : Extends l.initial.text.items l.text.items;
+  capacity : vec_capacity l.initial.text ≤ vec_capacity l.text;
 }
