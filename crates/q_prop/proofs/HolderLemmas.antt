@@ -1,5 +1,7 @@
 -- Lists of slots under literals.
-use Rattle.std.proofs.Common.{◌≡◌, ◌≢◌, ℕ, zero, suc, ◌<◌, ◌≤◌, List, [], ◌∷◌, ◌++◌, Some, Contains, slice_get, take, length, refl, sym, ◌∙◌, inl, inr, arith, subst, length-append}
+use Rattle.std.specs.Bool.{◌==◌}
+use Rattle.std.proofs.lemmas.Bool.Decides.{nat_tests}
+use Rattle.std.proofs.Common.{◌≡◌, ◌≢◌, Bool, IsTrue, true≢false, ℕ, zero, suc, ◌<◌, ◌≤◌, List, [], ◌∷◌, ◌++◌, Some, Contains, slice_get, take, length, refl, sym, ◌∙◌, inl, inr, arith, subst, length-append}
 use Rattle.std.specs.List.{AllByRecursion}
 use Rattle.std.proofs.lemmas.List.{length-set}
 use Rattle.std.proofs.lemmas.List.Elements.{Contains-append_left, Contains-push, Contains-push_cases}
@@ -197,3 +199,6 @@ held_freed s old now new n c a vacant h f =
 
 pub not_held : (old now : List (List ℕ)) (slot : ℕ) (seen : Clause) (k : Literal) → IsHeld old now slot seen → (Contains (list_at old (pack k)) slot → ⊥) → (Contains seen k → ⊥) → Contains (list_at now (pack k)) slot → ⊥
 not_held old now slot seen k h fresh new c = elim ((h.members k slot).0 c) [ inl o ↦ fresh o | inr n ↦ new n.1 ]
+
+pub none_listed : (xs : List ℕ) (r : Bool) → r ≡ (length xs == 0) → IsTrue r → (m : ℕ) → Contains xs m → ⊥
+none_listed xs r e t m h = let z : length xs ≡ 0 = grind (arith, nat_tests) in absurd (omega (arith, z, h.1))

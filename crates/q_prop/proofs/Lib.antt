@@ -6,6 +6,7 @@ pub mod WorkingLemmas
 pub mod Reaching
 pub mod Settling
 pub mod Rooting
+pub mod Taking
 pub mod Placing
 pub mod HolderLemmas
 pub mod BucketLemmas

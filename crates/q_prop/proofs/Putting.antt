@@ -3,7 +3,7 @@ use Rattle.std.proofs.Common.{◌≡◌, ◌≢◌, ℕ, ◌<◌, ◌≤◌, Lis
 use Rattle.std.proofs.lemmas.List.Elements.{Contains-append_left, Contains-push, Contains-push_cases}
 use Rattle.q_logic.specs.Literals.{Literal, negation}
 use Rattle.q_logic.specs.Formulas.{Clause}
-use Rattle.q_prop.specs.Chains.{IsUnit, IsChain, HasOpposites}
+use Rattle.q_prop.specs.Chains.{IsUnit, IsDerived, HasOpposites, HasFalsified}
 use Rattle.q_prop.proofs.Members.{Contains-take}
 use Rattle.q_prop.proofs.Fixpoint.{no_opposites-push}
 use Rattle.q_prop.specs.declared.watches.Pair.{Pair}
@@ -15,7 +15,7 @@ use Rattle.q_prop.proofs.RowLemmas.{HasEntry-pushed, IsFrom-end}
 use Rattle.q_prop.specs.Working.{IsCovered, AreListed, AreTrue, IsRooted, AreStanding}
 use Rattle.q_prop.proofs.SlotLemmas.{filled-in, filled-cases, slice_get-push_cases, take-front, Contains-slice_get}
 use Rattle.q_prop.proofs.WatchLemmas.{IsWithin, IsWatched-none, IsWatched-more, IsWatched-less}
-use Rattle.q_prop.proofs.Settling.{IsChain-over, IsChain-append, AreTrue-more}
+use Rattle.q_prop.proofs.Settling.{derived_over, derived_append, AreTrue-more}
 use Rattle.q_prop.proofs.Rooting.{covered_pushed}
 use Rattle.q_prop.proofs.Placing.{placed-cases, placed-longer, placed-within, placed-same_length, put-placed, put-vacant, put-cases, put-here, put-other}
 
@@ -54,8 +54,12 @@ module _ (s : Slots) (n : ℕ) (d : Clause) (s' : Slots) (put : IsPut s n d s') 
   filled-new : Contains (filled s') d
   filled-new = filled-in s' n d (put-here s n d s' put)
 
-  chain_more : (root : List Literal) → IsChain (filled s) [] root → IsChain (filled s') [] root
-  chain_more root h = IsChain-over (filled s) (filled s') [] root filled-more h
+  derived_more : (root : List Literal) → IsDerived (filled s) root → IsDerived (filled s') root
+  derived_more root h = derived_over (filled s) (filled s') root filled-more h
+
+  -- what is falsified stays so
+  pub falsified_put : (root root' : List Literal) → IsWithin root root' → HasFalsified (filled s) root → HasFalsified (filled s') root'
+  falsified_put root root' w f = (f.0, filled-more f.0 f.1, λ k m. w (negation k) (f.2 k m))
 
   old_slot : (b : ℕ) (c : Clause) → b ≢ n → Holds s' b c → Holds s b c
   old_slot b c other e = elim (put-cases s n d s' put b c e) [
@@ -111,26 +115,26 @@ module _ (s : Slots) (n : ℕ) (d : Clause) (s' : Slots) (put : IsPut s n d s') 
         short = λ b c h e. r.listed.short b c h (old_slot b c (not_listed singles standing b h) e);
       }
 
-      pub rooted_put : IsChain (filled s') [] root' → IsRooted s' pairs' singles done root' head'
-      rooted_put chain' = record {
+      pub rooted_put : IsDerived (filled s') root' → IsRooted s' pairs' singles done root' head'
+      rooted_put derived' = record {
         ready = record { consistent = consistent'; watched = watched_put };
         head_in = head_in';
         listed = listed_put;
         singles_true = AreTrue-more s' singles done root root' within singles_more;
-        chain = chain';
+        derived = derived';
       }
 
     -- a clause that is watched at the root
     pub rooted_open : (p : Pair) → o ≡ Some p → IsWatched root root d p → IsRooted s' pairs' singles done root head
     rooted_open p is new =
         rooted_put p is root head (λ l h. h) r.ready.consistent r.head_in (λ c q w. w)
-        (IsWatched-less root (take head root) root d p (λ l h. Contains-take root head l h) new) (chain_more root r.chain)
+        (IsWatched-less root (take head root) root d p (λ l h. Contains-take root head l h) new) (derived_more root r.derived)
 
     -- nothing is worked off
     pub rooted_again : (p : Pair) → o ≡ Some p → IsWatched [] [] d p → IsRooted s' pairs' singles done root 0
     rooted_again p is new =
         rooted_put p is root 0 (λ l h. h) r.ready.consistent (omega arith) (λ c q w. IsWatched-none (take head root) root root c q w)
-        (IsWatched-none [] [] root d p new) (chain_more root r.chain)
+        (IsWatched-none [] [] root d p new) (derived_more root r.derived)
 
     -- the clause forces its first literal
     pub rooted_forced : (p : Pair) → o ≡ Some p → IsWatched [] [] d p → IsUnit root d p.first → (Contains root (negation p.first) → ⊥) → IsRooted s' pairs' singles done (root ++ p.first ∷ []) head
@@ -147,7 +151,7 @@ module _ (s : Slots) (n : ℕ) (d : Clause) (s' : Slots) (put : IsPut s n d s') 
           first_false = λ h. absurd (open' (Contains-take root head (negation p.first) (rw same at h)));
           second_false = λ h. (p.first, new.first_in, Contains-push root p.first);
         })
-        (IsChain-append (filled s') [] root (p.first ∷ []) (chain_more root r.chain)
+        (derived_append (filled s') root (p.first ∷ []) (derived_more root r.derived)
         (record { clause = d; of_matrix = filled-new; of_clause = new.first_in; others = unit }, tt))
 
     -- a short clause is listed
@@ -186,5 +190,5 @@ module _ (s : Slots) (n : ℕ) (d : Clause) (s' : Slots) (put : IsPut s n d s') 
         | inl g ↦ singles_more j b c h g f
         | inr g ↦ absurd (let k = g.0 in omega (arith, k, h, before))
       ];
-      chain = chain_more root r.chain;
+      derived = derived_more root r.derived;
     }

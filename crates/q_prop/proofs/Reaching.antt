@@ -84,7 +84,7 @@ pub IsKept-refl : (s : Slots) (known : List Literal) (pairs : List (Option Pair)
 IsKept-refl s known pairs = record {
   same_length = refl;
   unpaired = λ b e. e;
-  floors = λ few within all. all;
+  floors = λ few within b c e all. all;
 }
 
 -- what is kept under more literals is kept under fewer
@@ -92,8 +92,12 @@ pub IsKept-trans : (s : Slots) (known more : List Literal) (a b c : List (Option
 IsKept-trans s known more a b c w k l = record {
   same_length = l.same_length ∙ k.same_length;
   unpaired = λ n e. k.unpaired n (l.unpaired n e);
-  floors = λ few within all. l.floors few (λ m h. w m (within m h)) (k.floors few within all);
+  floors = λ few within n c e all. l.floors few (λ m h. w m (within m h)) n c e (k.floors few within n c e all);
 }
+
+-- what was watched under few literals still is
+pub kept_watched : (s : Slots) (few known : List Literal) (a b : List (Option Pair)) → IsWithin few known → IsKept s known a b → AllWatched few few s a → AllWatched few few s b
+kept_watched s few known a b w k all n c p e f = k.floors few w n c e (λ q g. all n c q e g) p f
 
 start_watch : (t : Slots) (head : ℕ) (lit : Literal) (known : List Literal) (pairs : List (Option Pair)) (rows : List (List Entry)) → IsCovered t pairs rows → slice_get known head ≡ Some lit → (at' : ℕ) (c : Clause) (p : Pair) → Holds t at' c → slice_get pairs at' ≡ Some (Some p) → IsWatched (take head known) known c p → IsWatched (take (suc head) known) known c p ⊎ (HasEntry (row_of rows (negation lit)) 0 at' c × IsWatched (take head known) known c p)
 start_watch t head lit known pairs rows covered' h at' c p d e g =

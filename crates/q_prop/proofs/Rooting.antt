@@ -4,35 +4,37 @@ use Rattle.std.proofs.lemmas.List.Elements.{Contains-append_left}
 use Rattle.std.proofs.lemmas.List.{length-set}
 use Rattle.q_logic.specs.Literals.{Literal, negation}
 use Rattle.q_logic.specs.Formulas.{Clause}
-use Rattle.q_prop.specs.Chains.{IsUnit, IsChain, HasOpposites, HasFalsified}
-use Rattle.q_prop.proofs.Members.{Contains-nil}
+use Rattle.q_prop.specs.Chains.{IsForced, IsChain, IsDerived, HasOpposites, HasFalsified}
+use Rattle.q_prop.proofs.Members.{Contains-nil, Contains-along}
 use Rattle.q_prop.proofs.Literals.{Literal-cases, ℕ-cases}
-use Rattle.q_prop.specs.Search.{IsOpen}
+use Rattle.q_prop.specs.Roles.{IsDoubled, IsSpare}
 use Rattle.q_prop.specs.declared.watches.Pair.{Pair}
 use Rattle.q_prop.specs.Slots.{Slots, Holds, filled, without}
 use Rattle.q_prop.specs.Watches.{AllWatched}
 use Rattle.q_prop.specs.declared.rows.Entry.{Entry}
 use Rattle.q_prop.specs.Rows.{IsPushed}
 use Rattle.q_prop.proofs.RowLemmas.{HasEntry-pushed}
+use Rattle.q_prop.specs.Lists.{AreTaken}
 use Rattle.q_prop.specs.Working.{IsCovered, IsKept, AreListed, IsRooted, AreStanding}
 use Rattle.q_prop.proofs.SlotLemmas.{filled-in, filled-cases, without-le, without-here, without-other, slice_get-set_other, slice_get-set_here}
 use Rattle.q_prop.proofs.WatchLemmas.{IsWithin, IsWatched-none}
-use Rattle.q_prop.proofs.Settling.{IsChain-over, AreListed-kept}
+use Rattle.q_prop.proofs.Reaching.{kept_watched}
+use Rattle.q_prop.proofs.Settling.{derived_nothing, derived_over, AreListed-kept}
 
 pub none_watched : (done known : List Literal) (s : Slots) (pairs : List (Option Pair)) → AllWatched done known s pairs → AllWatched [] [] s pairs
 none_watched done known s pairs w b c p e f = IsWatched-none done known [] c p (w b c p e f)
 
 -- nothing is worked off
-pub rooted_zero : (s : Slots) (pairs pairs' : List (Option Pair)) (singles : List ℕ) (root' : List Literal) → AreListed s pairs singles → AllWatched [] [] s pairs → IsChain (filled s) [] root' → (HasOpposites root' → ⊥) → IsKept s [] pairs pairs' → IsRooted s pairs' singles 0 root' 0
-rooted_zero s pairs pairs' singles root' listed watched chain' consistent' kept = record {
+pub rooted_zero : (s : Slots) (pairs pairs' : List (Option Pair)) (singles : List ℕ) (root' : List Literal) → AreListed s pairs singles → AllWatched [] [] s pairs → IsDerived (filled s) root' → (HasOpposites root' → ⊥) → IsKept s [] pairs pairs' → IsRooted s pairs' singles 0 root' 0
+rooted_zero s pairs pairs' singles root' listed watched derived' consistent' kept = record {
   ready = record {
     consistent = consistent';
-    watched = λ b c p e f. IsWatched-none [] [] root' c p (kept.floors [] (λ l h. h) watched b c p e f);
+    watched = λ b c p e f. IsWatched-none [] [] root' c p (kept_watched s [] [] pairs pairs' (λ l h. h) kept watched b c p e f);
   };
   head_in = omega arith;
   listed = AreListed-kept s s [] pairs pairs' singles kept listed;
   singles_true = λ j b c h e f. absurd (not-suc-le-zero h);
-  chain = chain';
+  derived = derived';
 }
 
 -- all is worked off, and pairs have moved above the root
@@ -42,58 +44,74 @@ rooted_kept s pairs pairs' singles done root r kept =
     record {
       ready = record {
         consistent = r.ready.consistent;
-        watched = rw all (kept.floors root (λ l h. h) (rw all at r.ready.watched));
+        watched = rw all (kept_watched s root root pairs pairs' (λ l h. h) kept (rw all at r.ready.watched));
       };
       head_in = r.head_in;
       listed = AreListed-kept s s root pairs pairs' singles kept r.listed;
       singles_true = r.singles_true;
-      chain = r.chain;
+      derived = r.derived;
     }
 
-pub without-chain : (s : Slots) (skip : Option ℕ) (root : List Literal) → IsChain (filled (without s skip)) [] root → IsChain (filled s) [] root
-without-chain s skip root h =
-    IsChain-over (filled (without s skip)) (filled s) [] root
-    (λ c m. let n = filled-cases (without s skip) c m in filled-in s n.0 c (without-le s skip n.0 c n.1)) h
+pub without-derived : (s : Slots) (skip : Option ℕ) (root : List Literal) → IsDerived (filled (without s skip)) root → IsDerived (filled s) root
+without-derived s skip root d =
+    derived_over (filled (without s skip)) (filled s) root
+    (λ c m. let n = filled-cases (without s skip) c m in filled-in s n.0 c (without-le s skip n.0 c n.1)) d
 
-module _ (s : Slots) (at' : ℕ) (root : List Literal) (free : (c : Clause) → Holds s at' c → IsOpen root c) where
-  -- a clause all of whose literals but one are false stands in another slot
-  other_slot : (known : List Literal) (l : Literal) (c : Clause) → IsWithin known root → Contains (filled s) c → IsUnit known c l → Contains (filled (without s (Some at'))) c
-  other_slot known l c within m u =
-      let n = filled-cases s c m in
+module _ (s : Slots) (at' : ℕ) (root : List Literal) (spare : IsSpare s at' root) where
+  -- what the slot's clause forces within the root, the other clause does
+  doubled_forced : (known : List Literal) (l : Literal) → IsWithin known root → (f : IsForced (filled s) known l) → Holds s at' f.clause → (k : Literal) → IsDoubled s at' k → (Contains root (negation k) → ⊥) → IsForced (filled (without s (Some at'))) known l
+  doubled_forced known l within f here k d open' =
+      let inside = d.inside f.clause here in
+      elim (Literal-cases k l) [
+        | inl e ↦ record { clause = d.clause; of_matrix = d.elsewhere; of_clause = Contains-along d.clause k l e d.has; others = λ m i n. f.others m (inside m i) n }
+        | inr n ↦ absurd (open' (within (negation k) (f.others k (inside k d.has) n)))
+      ]
+
+  -- what is forced within the root is forced by other slots
+  spare_forced : (known : List Literal) (l : Literal) → IsWithin known root → IsForced (filled s) known l → IsForced (filled (without s (Some at'))) known l
+  spare_forced known l within f =
+      let n = filled-cases s f.clause f.of_matrix in
       elim (ℕ-cases n.0 at') [
         | inl e ↦
-            let o = free c (rw e at n.1) in
-            absurd (elim (Literal-cases o.first l) [
-              | inl f ↦ o.second_open (within (negation o.second) (u o.second o.has_second (λ g. o.differ (f ∙ sym g))))
-              | inr f ↦ o.first_open (within (negation o.first) (u o.first o.has_first f))
-            ])
-        | inr d ↦ filled-in (without s (Some at')) n.0 c (without-other s at' n.0 d ∙ n.1)
+            let here : Holds s at' f.clause = rw e at n.1 in
+            elim (spare f.clause here) [
+              | inl o ↦ absurd (elim (Literal-cases o.first l) [
+                | inl g ↦ o.second_open (within (negation o.second) (f.others o.second o.has_second (λ h. o.differ (g ∙ sym h))))
+                | inr g ↦ o.first_open (within (negation o.first) (f.others o.first o.has_first g))
+              ])
+              | inr d ↦ doubled_forced known l within f here d.0 d.1 d.2
+            ]
+        | inr d ↦ record { clause = f.clause; of_matrix = filled-in (without s (Some at')) n.0 f.clause (without-other s at' n.0 d ∙ n.1); of_clause = f.of_clause; others = f.others }
       ]
 
   chain_along : (known ls : List Literal) → IsWithin (known ++ ls) root → IsChain (filled s) known ls → IsChain (filled (without s (Some at'))) known ls
   chain_along known [] w h = tt
-  chain_along known (l ∷ ls) w h =
-      let f = h.0 in (
-        record { clause = f.clause; of_matrix = other_slot known l f.clause (λ k m. w k (Contains-append_left known (l ∷ ls) k m)) f.of_matrix f.others; of_clause = f.of_clause; others = f.others },
-        chain_along (known ++ l ∷ []) ls (λ k m. w k (rw append_assoc at m)) h.1,
-      )
+  chain_along known (l ∷ ls) w h = (
+    spare_forced known l (λ k m. w k (Contains-append_left known (l ∷ ls) k m)) h.0,
+    chain_along (known ++ l ∷ []) ls (λ k m. w k (rw append_assoc at m)) h.1,
+  )
 
-  pub chain_free : IsChain (filled s) [] root → IsChain (filled (without s (Some at'))) [] root
-  chain_free h = chain_along [] root (λ k m. m) h
+  pub derived_spare : IsDerived (filled s) root → IsDerived (filled (without s (Some at'))) root
+  derived_spare d = record { order = d.order; chain = chain_along [] d.order (λ l m. (d.members l).0 m) d.chain; members = d.members }
 
-  pub falsified_free : HasFalsified (filled s) root → HasFalsified (filled (without s (Some at'))) root
-  falsified_free f = (
+  pub falsified_spare : HasFalsified (filled s) root → HasFalsified (filled (without s (Some at'))) root
+  falsified_spare f = (
     f.0,
     (let n = filled-cases s f.0 f.1 in
         elim (ℕ-cases n.0 at') [
-          | inl e ↦ let o = free f.0 (rw e at n.1) in absurd (o.first_open (f.2 o.first o.has_first))
+          | inl e ↦
+              let here : Holds s at' f.0 = rw e at n.1 in
+              absurd (elim (spare f.0 here) [
+                | inl o ↦ o.first_open (f.2 o.first o.has_first)
+                | inr d ↦ d.2 (f.2 d.0 (d.1.inside f.0 here d.0 d.1.has))
+              ])
           | inr d ↦ filled-in (without s (Some at')) n.0 f.0 (without-other s at' n.0 d ∙ n.1)
         ]),
     f.2,
   )
 
-pub without-rooted : (s : Slots) (at' : ℕ) (pairs : List (Option Pair)) (singles : List ℕ) (done : ℕ) (root root' : List Literal) (head : ℕ) → IsRooted s pairs singles done root head → IsChain (filled (without s (Some at'))) [] root → IsRooted (without s (Some at')) pairs singles done root head
-without-rooted s at' pairs singles done root root' head r chain' = record {
+pub without-rooted : (s : Slots) (at' : ℕ) (pairs : List (Option Pair)) (singles : List ℕ) (done : ℕ) (root : List Literal) (head : ℕ) → IsRooted s pairs singles done root head → IsDerived (filled (without s (Some at'))) root → IsRooted (without s (Some at')) pairs singles done root head
+without-rooted s at' pairs singles done root head r derived' = record {
   ready = record {
     consistent = r.ready.consistent;
     watched = λ b c p e f. r.ready.watched b c p (without-le s (Some at') b c e) f;
@@ -106,22 +124,22 @@ without-rooted s at' pairs singles done root root' head r chain' = record {
     short = λ b c h e. r.listed.short b c h (without-le s (Some at') b c e);
   };
   singles_true = λ j b c h e f. r.singles_true j b c h e (without-le s (Some at') b c f);
-  chain = chain';
+  derived = derived';
 }
 
 -- the root stands without the slot
-pub rooted_free : (s : Slots) (skip : Option ℕ) (pairs : List (Option Pair)) (singles : List ℕ) (done : ℕ) (root : List Literal) (head : ℕ) → ((at' : ℕ) (c : Clause) → skip ≡ Some at' → Holds s at' c → IsOpen root c) → IsRooted s pairs singles done root head → IsRooted (without s skip) pairs singles done root head
+pub rooted_free : (s : Slots) (skip : Option ℕ) (pairs : List (Option Pair)) (singles : List ℕ) (done : ℕ) (root : List Literal) (head : ℕ) → ((at' : ℕ) → skip ≡ Some at' → IsSpare s at' root) → IsRooted s pairs singles done root head → IsRooted (without s skip) pairs singles done root head
 rooted_free s None pairs singles done root head free r = r
 rooted_free s (Some at') pairs singles done root head free r =
-    without-rooted s at' pairs singles done root root head r (chain_free s at' root (λ c e. free at' c refl e) r.chain)
+    without-rooted s at' pairs singles done root head r (derived_spare s at' root (free at' refl) r.derived)
 
-pub falsified_skip : (s : Slots) (skip : Option ℕ) (root : List Literal) → ((at' : ℕ) (c : Clause) → skip ≡ Some at' → Holds s at' c → IsOpen root c) → HasFalsified (filled s) root → HasFalsified (filled (without s skip)) root
+pub falsified_skip : (s : Slots) (skip : Option ℕ) (root : List Literal) → ((at' : ℕ) → skip ≡ Some at' → IsSpare s at' root) → HasFalsified (filled s) root → HasFalsified (filled (without s skip)) root
 falsified_skip s None root free f = f
-falsified_skip s (Some at') root free f = falsified_free s at' root (λ c e. free at' c refl e) f
+falsified_skip s (Some at') root free f = falsified_spare s at' root (free at' refl) f
 
-pub chain_skip : (s : Slots) (skip : Option ℕ) (root : List Literal) → ((at' : ℕ) (c : Clause) → skip ≡ Some at' → Holds s at' c → IsOpen root c) → IsChain (filled s) [] root → IsChain (filled (without s skip)) [] root
-chain_skip s None root free f = f
-chain_skip s (Some at') root free f = chain_free s at' root (λ c e. free at' c refl e) f
+pub derived_skip : (s : Slots) (skip : Option ℕ) (root : List Literal) → ((at' : ℕ) → skip ≡ Some at' → IsSpare s at' root) → IsDerived (filled s) root → IsDerived (filled (without s skip)) root
+derived_skip s None root free d = d
+derived_skip s (Some at') root free d = derived_spare s at' root (free at' refl) d
 
 -- a root of nothing, without a slot
 pub rooted_empty : (s : Slots) (n : ℕ) (pairs : List (Option Pair)) (singles : List ℕ) → AreListed (without s (Some n)) pairs singles → AllWatched [] [] s pairs → IsRooted (without s (Some n)) pairs singles 0 [] 0
@@ -133,7 +151,7 @@ rooted_empty s n pairs singles listed watched = record {
   head_in = omega arith;
   listed = listed;
   singles_true = λ j b c h e f. absurd (not-suc-le-zero h);
-  chain = tt;
+  derived = derived_nothing (filled (without s (Some n)));
 }
 
 -- what is listed stays so where a slot is left out
@@ -156,7 +174,7 @@ rooted_nothing s None pairs singles listed watched = record {
   head_in = omega arith;
   listed = listed;
   singles_true = λ j b c h e f. absurd (not-suc-le-zero h);
-  chain = tt;
+  derived = derived_nothing (filled s);
 }
 rooted_nothing s (Some n) pairs singles listed watched = rooted_empty s n pairs singles (listed_without s (Some n) pairs singles listed) watched
 
@@ -181,7 +199,7 @@ rooted_cleared s at' pairs singles done root head r = record {
     short = r.listed.short;
   };
   singles_true = r.singles_true;
-  chain = r.chain;
+  derived = r.derived;
 }
   where
     none_pair : (p : Pair) → None ≡ Some p → ⊥
@@ -222,12 +240,12 @@ standing_cleared s n old new standing lost b h =
     let e = standing b k.0 in
     (e.0, without-other s n b k.1 ∙ e.1)
 
--- a slot whose clause has two literals open is not listed
-pub standing_free : (s : Slots) (n : ℕ) (pairs : List (Option Pair)) (singles : List ℕ) (root : List Literal) → AreListed s pairs singles → AreStanding s singles → ((c : Clause) → Holds s n c → IsOpen root c) → AreStanding (without s (Some n)) singles
-standing_free s n pairs singles root l standing free b h =
-    let e = standing b h in (
-      e.0,
-      without-other s n b (λ g.
-          let o = free e.0 (subst (λ x. Holds s x e.0) g e.1) in
-          o.differ (l.short b e.0 h e.1 o.first o.second o.has_first o.has_second)) ∙ e.1,
-    )
+-- the slot is taken out of the list
+pub rooted_fewer : (s : Slots) (n : ℕ) (pairs : List (Option Pair)) (old new : List ℕ) (done mark : ℕ) (root : List Literal) (head : ℕ) → AreListed s pairs old → IsLost n old new → AreTaken old done new mark → IsRooted (without s (Some n)) pairs old done root head → IsRooted (without s (Some n)) pairs new mark root head
+rooted_fewer s n pairs old new done mark root head listed lost taken r = record {
+  ready = r.ready;
+  head_in = r.head_in;
+  listed = listed_fewer s n pairs old new listed lost;
+  singles_true = λ j b c h e f. let k = taken.before j b h e in r.singles_true k.0 b c k.1 k.2 f;
+  derived = r.derived;
+}

@@ -6,7 +6,7 @@ use Rattle.q_logic.specs.Literals.{Literal, negation}
 use Rattle.q_logic.specs.Formulas.{Clause, Matrix}
 use Rattle.q_logic.specs.Propagation.{Implied}
 use Rattle.q_prop.proofs.Definition.{is_implied, implied_of}
-use Rattle.q_prop.specs.Chains.{IsChain, HasOpposites, HasFalsified, IsImplied}
+use Rattle.q_prop.specs.Chains.{IsChain, IsDerived, HasOpposites, HasFalsified, IsImplied}
 use Rattle.q_prop.proofs.Members.{Contains-along, Contains-nil, Contains-take, Contains-map, Contains-map_cases}
 use Rattle.q_prop.proofs.Literals.{negation-negation, ℕ-cases}
 use Rattle.q_prop.specs.Search.{AllSettled}
@@ -92,9 +92,39 @@ AreNew-consistent x known (l ∷ ls) c n o = AreNew-consistent x (known ++ l ∷
 pub reached_consistent : (x : Matrix) (old new : List Literal) → (HasOpposites old → ⊥) → IsReached x old new → HasOpposites new → ⊥
 reached_consistent x old new c r o = AreNew-consistent x old r.added c r.each (rw r.is at o)
 
--- the root stays a chain
-pub reached_chain : (x : Matrix) (old new : List Literal) → IsChain x [] old → IsReached x old new → IsChain x [] new
-reached_chain x old new h r = rw r.is (IsChain-append x [] old r.added h (AreNew-chain x old r.added r.each))
+pub derived_nothing : (x : Matrix) → IsDerived x []
+derived_nothing x = record { order = []; chain = tt; members = λ l. (λ h. h, λ h. h) }
+
+-- the order of what is derived is free
+pub derived_same : (x : Matrix) (old new : List Literal) → ((l : Literal) → Contains old l ↔ Contains new l) → IsDerived x old → IsDerived x new
+derived_same x old new same d = record {
+  order = d.order;
+  chain = d.chain;
+  members = λ l. (λ h. (same l).0 ((d.members l).0 h), λ h. (d.members l).1 ((same l).1 h));
+}
+
+pub derived_over : (x y : Matrix) (root : List Literal) → ((c : Clause) → Contains x c → Contains y c) → IsDerived x root → IsDerived y root
+derived_over x y root w d = record { order = d.order; chain = IsChain-over x y [] d.order w d.chain; members = d.members }
+
+pub derived_append : (x : Matrix) (old added : List Literal) → IsDerived x old → IsChain x old added → IsDerived x (old ++ added)
+derived_append x old added d h = record {
+  order = d.order ++ added;
+  chain = IsChain-append x [] d.order added d.chain (IsChain-more x old d.order added (λ l m. (d.members l).1 m) h);
+  members = λ l. (
+    λ m. elim (Contains-append_cases d.order added l m) [
+      | inl a ↦ Contains-append_left old added l ((d.members l).0 a)
+      | inr b ↦ Contains-append_right old added l b
+    ],
+    λ m. elim (Contains-append_cases old added l m) [
+      | inl a ↦ Contains-append_left d.order added l ((d.members l).1 a)
+      | inr b ↦ Contains-append_right d.order added l b
+    ],
+  );
+}
+
+-- the root stays derived
+pub reached_derived : (x : Matrix) (old new : List Literal) → IsDerived x old → IsReached x old new → IsDerived x new
+reached_derived x old new d r = rw r.is (derived_append x old r.added d (AreNew-chain x old r.added r.each))
 
 -- where a root literal is one of the clause, or two of its literals are opposites
 clash_implied-told : (x : Matrix) (root : List Literal) (c : Clause) → IsChain x [] root → Clashes root c → IsImplied x c
@@ -272,15 +302,30 @@ if_ok_map A (Err e) b f = tt
 pub truncated : (old new : List Literal) → IsLonger old new → take (length old) new ≡ old
 truncated old new h = rw h.1 (take-front old h.0 (length old) (omega arith) ∙ take_all (length old) old (omega arith))
 
--- The same in the words of the definition.
-pub clash_implied : (x : Matrix) (root : List Literal) (c : Clause) → IsChain x [] root → Clashes root c → Implied x c
-clash_implied x root c chain clash = is_implied x c (clash_implied-told x root c chain clash)
+pub falsified_more : (x : Matrix) (known more : List Literal) → IsWithin known more → HasFalsified x known → HasFalsified x more
+falsified_more x known more w f = (f.0, f.1, λ k m. w (negation k) (f.2 k m))
 
-pub falsified_implied : (x : Matrix) (root known new : List Literal) (c : Clause) → IsChain x [] root → IsAssumed root c known → IsReached x known new → HasFalsified x new → Implied x c
-falsified_implied x root known new c chain assumed r f = is_implied x c (falsified_implied-told x root known new c chain assumed r f)
+-- The same in the words of the definition, of a root in any order.
+pub clash_implied : (x : Matrix) (root : List Literal) (c : Clause) → IsDerived x root → Clashes root c → Implied x c
+clash_implied x root c d clash =
+    is_implied x c (clash_implied-told x d.order c d.chain (elim clash [
+      | inl h ↦ inl (h.0, h.1, (d.members h.0).1 h.2)
+      | inr o ↦ inr o
+    ]))
 
-pub root_implied : (x : Matrix) (root : List Literal) (c : Clause) → IsChain x [] root → HasFalsified x root → Implied x c
-root_implied x root c chain f = is_implied x c (root_implied-told x root c chain f)
+pub falsified_implied : (x : Matrix) (root known new : List Literal) (c : Clause) → IsDerived x root → IsAssumed root c known → IsReached x known new → HasFalsified x new → Implied x c
+falsified_implied x root known new c d assumed r f =
+    is_implied x c (falsified_implied-told x d.order known new c d.chain (record {
+      consistent = assumed.consistent;
+      assumed = assumed.assumed;
+      no_other = λ l h. elim (assumed.no_other l h) [
+        | inl a ↦ inl ((d.members l).1 a)
+        | inr b ↦ inr b
+      ];
+    }) r f)
+
+pub root_implied : (x : Matrix) (root : List Literal) (c : Clause) → IsDerived x root → HasFalsified x root → Implied x c
+root_implied x root c d f = is_implied x c (root_implied-told x d.order c d.chain (falsified_more x root d.order (λ l m. (d.members l).1 m) f))
 
 pub search_not_implied : (s : Slots) (root known new : List Literal) (pairs : List (Option Pair)) (singles : List ℕ) (c : Clause) → AreListed s pairs singles → AreTrue s singles (length singles) root → IsWithin root known → IsAssumed root c known → IsReached (filled s) known new → IsReady s (length new) new pairs → Implied (filled s) c → ⊥
 search_not_implied s root known new pairs singles c listed true' long a r ready i =

@@ -229,12 +229,13 @@ module _ (s : Slots) (head : ℕ) (lit : Literal) (i at' : ℕ) (blocker' : Lite
               cc
           | inr n ↦ sym (slice_get-set_other pairs at' b (Some (pair_of l o)) n) ∙ e
         ];
-        floors = λ few within all b d q f g. elim (ℕ-cases b at') [
+        floors = λ few within b d f all q g. elim (ℕ-cases b at') [
           | inl m ↦
               let same : c ≡ d = let h : Some c ≡ Some d = same_slice_get t at' (Some c) (Some d) there (rw m at f) in cc in
               let new : pair_of l o ≡ q = let h : Some (pair_of l o) ≡ Some q = same_slice_get (set pairs at' (Some (pair_of l o))) at' (Some (pair_of l o)) (Some q) (slice_get-set_same pairs at' (Some p) (Some (pair_of l o)) is_pair) (rw m at g) in cc in
-              rw (← same, ← new) (IsWatched-floor few known (negation lit) l o c p within is_other in' differ' open' (all at' c p there is_pair))
-          | inr n ↦ all b d q f (sym (slice_get-set_other pairs at' b (Some (pair_of l o)) n) ∙ g)
+              let w : IsWatched few few d p = all p (rw m is_pair) in
+              rw (← same, ← new) (IsWatched-floor few known (negation lit) l o c p within is_other in' differ' open' (rw (← same) at w))
+          | inr n ↦ all q (sym (slice_get-set_other pairs at' b (Some (pair_of l o)) n) ∙ g)
         ];
       }
 

@@ -10,4 +10,5 @@ pub mod Watches
 pub mod Working
 pub mod Chains
 pub mod Search
+pub mod Roles
 pub mod Plain

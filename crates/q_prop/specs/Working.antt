@@ -3,7 +3,7 @@ use Rattle.std.specs.Prelude.{◌≡◌, ◌≢◌, ◌⊎◌, ◌<◌, ◌≤�
 use Rattle.std.proofs.Common.{suc}
 use Rattle.q_logic.specs.Literals.{Literal, negation}
 use Rattle.q_logic.specs.Formulas.{Clause, Matrix}
-use Rattle.q_prop.specs.Chains.{IsForced, HasOpposites, IsChain}
+use Rattle.q_prop.specs.Chains.{IsForced, HasOpposites, IsDerived}
 use Rattle.q_prop.specs.declared.watches.Pair.{Pair}
 use Rattle.q_prop.specs.Slots.{Slots, Holds, filled}
 use Rattle.q_prop.specs.Watches.{IsWatched, AllWatched, IsShort, IsSingle}
@@ -53,11 +53,11 @@ pub record IsReached (x : Matrix) (old new : List Literal) : Type 0 where
   pub is : new ≡ old ++ added
   pub each : AreNew x old added
 
--- pairs have moved, and what was watched under any part of the known literals still is
+-- pairs have moved, and each clause that was watched under some part of the known literals still is
 pub record IsKept (s : Slots) (known : List Literal) (old new : List (Option Pair)) : Type 0 where
   pub same_length : length new ≡ length old
   pub unpaired : (at : ℕ) → slice_get new at ≡ Some None → slice_get old at ≡ Some None
-  pub floors : (few : List Literal) → ((l : Literal) → Contains few l → Contains known l) → AllWatched few few s old → AllWatched few few s new
+  pub floors : (few : List Literal) → ((l : Literal) → Contains few l → Contains known l) → (at : ℕ) (c : Clause) → Holds s at c → ((p : Pair) → slice_get old at ≡ Some (Some p) → IsWatched few few c p) → (p : Pair) → slice_get new at ≡ Some (Some p) → IsWatched few few c p
 
 -- the literals before the head are worked off
 pub record IsReady (s : Slots) (head : ℕ) (known : List Literal) (pairs : List (Option Pair)) : Type 0 where
@@ -79,13 +79,13 @@ AreStanding s singles = (b : ℕ) → Contains singles b → (c : Clause) × Hol
 abbrev pub AreTrue : Slots → List ℕ → ℕ → List Literal → Type 0
 AreTrue s singles done known = (j at' : ℕ) (c : Clause) → j < done → slice_get singles j ≡ Some at' → Holds s at' c → IsSingle known c
 
--- the root: a chain from nothing over the clauses, worked off up to a place
+-- the root: the literals of a chain from nothing over the clauses, worked off up to a place
 pub record IsRooted (s : Slots) (pairs : List (Option Pair)) (singles : List ℕ) (done : ℕ) (root : List Literal) (head : ℕ) : Type 0 where
   pub ready : IsReady s head root pairs
   pub head_in : head ≤ length root
   pub listed : AreListed s pairs singles
   pub singles_true : AreTrue s singles done root
-  pub chain : IsChain (filled s) [] root
+  pub derived : IsDerived (filled s) root
 
 -- the second list goes on from the first
 abbrev pub IsLonger : List Literal → List Literal → Type 0

@@ -10,6 +10,7 @@ mod places;
 mod plain;
 mod propagation;
 mod propagator;
+mod roles;
 mod rows;
 mod spots;
 mod store;

@@ -1,8 +1,9 @@
-ghost use Rattle.std.specs.Prelude.{◌≡◌, ◌↔◌, ◌<◌, ◌≤◌, ◌+◌, ◌-◌, [], length, None, Some, Contains, IsTrue, ℕ, Option, false, MatchOption, MatchBool, IfOk};
+ghost use Rattle.std.specs.Prelude.{◌≡◌, ◌↔◌, ◌<◌, ◌≤◌, ◌+◌, ◌-◌, [], length, None, Some, Contains, IsTrue, ℕ, Option, false, MatchOption, MatchBool, IfOk, OnOk};
 ghost use Rattle.q_logic.specs.Formulas.{Clause};
 ghost use Rattle.q_logic.specs.Literals.{negation};
-ghost use Rattle.q_prop.specs.Chains.{HasFalsified, HasOpposites, IsChain};
+ghost use Rattle.q_prop.specs.Chains.{HasFalsified, HasOpposites, IsDerived};
 ghost use Rattle.q_logic.specs.Propagation.{Implied};
+ghost use Rattle.q_prop.specs.Roles.{IsAlone};
 ghost use Rattle.q_prop.specs.Rows.{row_of};
 ghost use Rattle.q_prop.specs.Slots.{filled, without, Holds};
 ghost use Rattle.q_prop.specs.Watches.{IsShort, AllWatched, IsSingle};
@@ -317,7 +318,7 @@ pub fn query_anew(
     requires listed { AreListed clauses.now pairs.old.items singles.now }
     requires covered { IsCovered clauses.now pairs.old.items rows.old }
     requires watched { AllWatched [] [] clauses.now pairs.old.items }
-    ensures chain { IsChain (filled (without clauses.now skip)) [] trail.new }
+    ensures derived { IsDerived (filled (without clauses.now skip)) trail.new }
     ensures consistent { HasOpposites trail.new → ⊥ }
     ensures kept { IsKept clauses.now [] pairs.old.items pairs.new.items }
     ensures covered { IsCovered clauses.now pairs.new.items rows.new }
@@ -328,4 +329,37 @@ pub fn query_anew(
         return Ok(true);
     }
     query(alloc, clauses, skip, pairs, rows, trail, lits, singles)
+}
+
+// Whether the literals are implied without a slot on which a root literal hangs that no other clause
+// holds: it is taken off, and put back at the end.
+pub fn query_beside(
+    alloc: Global,
+    clauses: &Clauses,
+    skip: Option<usize>,
+    pairs: &mut Vec<Option<Pair>>,
+    rows: &mut Rows,
+    trail: &mut Trail,
+    lits: &[Lit],
+    singles: &[u32],
+    lit: Lit,
+) -> Result<bool, NoMemory>
+    requires alone { (at : ℕ) × (skip ≡ Some at) × IsAlone clauses.now at lit }
+    requires known { Contains trail.old lit }
+    requires rooted { IsRooted clauses.now pairs.old.items singles.now (length singles.now) trail.old
+        (length trail.old) }
+    requires covered { IsCovered clauses.now pairs.old.items rows.old }
+    ensures derived { IsDerived (filled clauses.now) trail.new }
+    ensures consistent { HasOpposites trail.new → ⊥ }
+    ensures kept { IsKept clauses.now [] pairs.old.items pairs.new.items }
+    ensures covered { IsCovered clauses.now pairs.new.items rows.new }
+    ensures rooted { OnOk result
+        (IsRooted clauses.now pairs.new.items singles.now (length singles.now) trail.new
+        (length trail.new)) }
+    ensures exact { IfOk result (λ yes. IsTrue yes ↔ Implied (filled (without clauses.now skip)) lits.now) }
+{
+    trail.remove(lit);
+    let result = query(alloc, clauses, skip, pairs, rows, trail, lits, singles);
+    trail.push(lit)?;
+    result
 }

@@ -1,18 +1,20 @@
-ghost use Rattle.std.specs.Prelude.{◌≡◌, ◌↔◌, ◌<◌, ◌+◌, ◌-◌, ◌⊎◌, ◌++◌, ◌∷◌, [], length, slice_set, OnOk, OnErr, None, Some, Contains, IsTrue, Option, MatchOption, IfOk, ℕ, ◌≢◌, ◌≤◌, vec_len, vec_capacity, slice_get};
+ghost use Rattle.std.specs.Prelude.{◌≡◌, ◌↔◌, ◌<◌, ◌+◌, ◌-◌, ◌⊎◌, ◌++◌, ◌∷◌, [], length, slice_set, OnOk, OnErr, None, Some, Contains, IsTrue, Option, MatchOption, MatchBool, IfOk, ℕ, false, ◌≢◌, ◌≤◌, vec_len, vec_capacity, slice_get};
 ghost use Rattle.q_logic.specs.Formulas.{Clause};
 ghost use Rattle.q_logic.specs.Propagation.{Implied};
 ghost use Rattle.q_prop.specs.Slots.{filled, without, Holds, IsPut, IsPlaced, IsVacant};
 ghost use Rattle.q_prop.specs.Working.{IsCovered};
-ghost use Rattle.q_prop.specs.Lists.{IsLost};
+ghost use Rattle.q_prop.specs.Lists.{IsLost, AreTaken};
+ghost use Rattle.q_prop.specs.Roles.{IsRole, IsAlone, IsLoosened};
 
 use crate::clauses::Clauses;
 use crate::lists::{Lists, place_of};
 use crate::places::place;
-use crate::propagation::{query, query_anew, settle};
+use crate::propagation::{query, query_anew, query_beside, settle};
+use crate::roles::Role;
 use crate::rows::{Entry, Rows};
 use crate::spots::{Spots, renote};
 use crate::trail::Trail;
-use crate::watches::{Pair, Pick, choose, is_free, stands};
+use crate::watches::{Pair, Pick, choose, is_free, left_in, stands};
 use q_logic::{Lit, NoMemory};
 use std::alloc::Global;
 use std::marker::Model;
@@ -29,19 +31,21 @@ pub struct Propagator {
     trail: Trail,
     head: usize,
     done: usize,
+    conflict: bool,
 }
 
 impl Model for Propagator {
-    ghost use Rattle.q_prop.specs.Slots.{Slots};
+    ghost use Rattle.q_prop.specs.Slots.{Slots, filled};
+    ghost use Rattle.q_prop.specs.Chains.{HasFalsified};
     ghost use Rattle.q_prop.specs.Working.{IsRooted, IsCovered, AreStanding};
     ghost use Rattle.q_prop.specs.Lists.{IsDistinct};
-    ghost use Rattle.std.specs.Prelude.{◌≤◌, length};
+    ghost use Rattle.std.specs.Prelude.{◌≤◌, length, IsTrue};
 
     ghost Value = { Slots };
 
     ghost view = { λ r. r.clauses };
 
-    ghost invariant = { λ r. IsRooted r.clauses r.pairs.items r.singles.items r.done r.trail r.head × (r.done ≤ length r.singles.items) × AreStanding r.clauses r.singles.items × IsDistinct r.singles.items × IsCovered r.clauses r.pairs.items r.rows };
+    ghost invariant = { λ r. IsRooted r.clauses r.pairs.items r.singles.items r.done r.trail r.head × (r.done ≤ length r.singles.items) × AreStanding r.clauses r.singles.items × IsDistinct r.singles.items × IsCovered r.clauses r.pairs.items r.rows × (IsTrue r.conflict → HasFalsified (filled r.clauses) r.trail) };
 }
 
 impl Propagator {
@@ -58,6 +62,7 @@ impl Propagator {
             trail: Trail::new(alloc),
             head: 0,
             done: 0,
+            conflict: false,
         }
     }
 
@@ -75,29 +80,47 @@ impl Propagator {
     }
 
     /// Empties a slot. Takes no memory.
-    pub fn delete(&mut self, slot: u32)
-        requires { slot < length self.old }
+    pub fn delete(&mut self, slot: u32, role: Role)
+        requires within { slot < length self.old }
+        requires role { IsRole self.old (Some slot) role }
         ensures { self.new ≡ slice_set self.old slot None }
     {
         let at = slot as usize;
-        if !is_free(&self.clauses, at, &self.trail) {
+        let settled = is_settled(
+            &self.trail,
+            self.head,
+            &self.singles,
+            self.done,
+            self.conflict,
+        );
+        let rest = loosen(&self.clauses, at, &mut self.trail, role, settled);
+        let done = unlist(
+            &self.pairs,
+            &mut self.singles,
+            &mut self.spots,
+            slot,
+            self.done,
+        );
+        if rest {
+            self.head = self.head.min(self.trail.len());
+            self.done = done;
+        } else {
             self.trail.truncate(0);
             self.head = 0;
             self.done = 0;
-            unlist(&self.pairs, &mut self.singles, &mut self.spots, slot);
-            self.clauses.clear(at);
-            self.pairs[at] = None;
-            return;
+            self.conflict = false;
         }
         self.clauses.clear(at);
         self.pairs[at] = None;
     }
 
-    /// Whether a chain from the negations of the literals conflicts, over the slots but one.
-    pub fn implied(&mut self, lits: &[Lit], skip: Option<usize>) -> Result<bool, NoMemory>
-        ensures same { self.new ≡ self.old }
-        ensures exact { IfOk result (λ yes. IsTrue yes ↔ Implied (filled (without self.old skip)) lits.now) }
+    /// Brings the root to its fixed point, or to a conflict.
+    pub fn settle(&mut self) -> Result<(), NoMemory>
+        ensures { self.new ≡ self.old }
     {
+        if self.conflict {
+            return Ok(());
+        }
         let (head, done) = (self.head, self.done);
         self.head = 0;
         self.done = 0;
@@ -112,24 +135,120 @@ impl Propagator {
             &mut self.trail,
             head,
         )?;
-        if !stands(&self.clauses, skip, &self.trail) {
-            return query_anew(
-                self.alloc,
-                &self.clauses,
-                skip,
-                &mut self.pairs,
-                &mut self.rows,
-                &mut self.trail,
-                lits,
-                &self.singles,
-            );
-        }
         if conflict {
+            self.conflict = true;
+        } else {
+            self.head = self.trail.len();
+            self.done = self.singles.len();
+        }
+        Ok(())
+    }
+
+    /// The literal of a slot's clause that alone is not false, where the root is found.
+    pub fn left_in(&self, at: usize) -> Option<Lit> {
+        if is_settled(
+            &self.trail,
+            self.head,
+            &self.singles,
+            self.done,
+            self.conflict,
+        ) {
+            left_in(&self.clauses, at, &self.trail)
+        } else {
+            None
+        }
+    }
+
+    /// Whether a chain from the negations of the literals conflicts, over the slots but one. Where the
+    /// root is not found, it is found anew.
+    pub fn implied(
+        &mut self,
+        lits: &[Lit],
+        skip: Option<usize>,
+        role: Role,
+    ) -> Result<bool, NoMemory>
+        requires { IsRole self.old skip role }
+        ensures same { self.new ≡ self.old }
+        ensures exact { IfOk result (λ yes. IsTrue yes ↔ Implied (filled (without self.old skip)) lits.now) }
+    {
+        if let Role::Alone(lit) = role {
+            return self.implied_beside(lits, skip, lit);
+        }
+        if !stands(&self.clauses, skip, &self.trail, role) {
+            return self.implied_anew(lits, skip);
+        }
+        if self.conflict {
             return Ok(true);
         }
+        if !is_settled(
+            &self.trail,
+            self.head,
+            &self.singles,
+            self.done,
+            self.conflict,
+        ) {
+            return self.implied_anew(lits, skip);
+        }
+        query(
+            self.alloc,
+            &self.clauses,
+            skip,
+            &mut self.pairs,
+            &mut self.rows,
+            &mut self.trail,
+            lits,
+            &self.singles,
+        )
+    }
+
+    // Whether the literals are implied without the slot on which a literal hangs alone.
+    fn implied_beside(
+        &mut self,
+        lits: &[Lit],
+        skip: Option<usize>,
+        lit: Lit,
+    ) -> Result<bool, NoMemory>
+        requires { (at : ℕ) × (skip ≡ Some at) × IsAlone self.old at lit }
+        ensures same { self.new ≡ self.old }
+        ensures exact { IfOk result (λ yes. IsTrue yes ↔ Implied (filled (without self.old skip)) lits.now) }
+    {
+        let settled = is_settled(
+            &self.trail,
+            self.head,
+            &self.singles,
+            self.done,
+            self.conflict,
+        );
+        if !settled || !self.trail.has(lit) {
+            return self.implied_anew(lits, skip);
+        }
+        self.head = 0;
+        self.done = 0;
+        let answer = query_beside(
+            self.alloc,
+            &self.clauses,
+            skip,
+            &mut self.pairs,
+            &mut self.rows,
+            &mut self.trail,
+            lits,
+            &self.singles,
+            lit,
+        )?;
         self.head = self.trail.len();
         self.done = self.singles.len();
-        query(
+        Ok(answer)
+    }
+
+    // Whether the literals are implied, with the root found anew.
+    fn implied_anew(&mut self, lits: &[Lit], skip: Option<usize>) -> Result<bool, NoMemory>
+        ensures same { self.new ≡ self.old }
+        ensures exact { IfOk result (λ yes. IsTrue yes ↔ Implied (filled (without self.old skip)) lits.now) }
+    {
+        self.head = 0;
+        self.done = 0;
+        self.conflict = false;
+        query_anew(
             self.alloc,
             &self.clauses,
             skip,
@@ -240,20 +359,56 @@ fn push_forced(trail: &mut Trail, lit: Lit, head: usize) -> usize
     }
 }
 
-// Takes a slot that has no pair out of the list.
-fn unlist(pairs: &[Option<Pair>], singles: &mut Vec<u32>, spots: &mut Spots, slot: u32)
-    requires { (p : Pair) → slice_get pairs.now slot ≡ Some (Some p) → Contains singles.old.items slot → ⊥ }
-    ensures { IsLost slot singles.old.items singles.new.items }
+// Whether all of the root is found, without a conflict.
+fn is_settled(trail: &Trail, head: usize, singles: &[u32], done: usize, conflict: bool) -> bool
+    ensures { IsTrue result → (head ≡ length trail.now) × (done ≡ length singles.now) × (conflict ≡ false) }
+{
+    !conflict && head == trail.len() && done == singles.len()
+}
+
+// Takes off the trail what hangs on the slot alone, where all of the root is found, and answers
+// whether the rest stands without the slot.
+fn loosen(clauses: &Clauses, at: usize, trail: &mut Trail, role: Role, settled: bool) -> bool
+    requires { IsRole clauses.now (Some at) role }
+    ensures { IsTrue result → IsLoosened clauses.now at trail.old trail.new settled }
+{
+    if let Role::Alone(lit) = role {
+        if settled && trail.has(lit) {
+            trail.remove(lit);
+            return true;
+        }
+    }
+    is_free(clauses, at, trail, role)
+}
+
+// Takes a slot that has no pair out of the list, and answers up to where the rest is taken.
+fn unlist(
+    pairs: &[Option<Pair>],
+    singles: &mut Vec<u32>,
+    spots: &mut Spots,
+    slot: u32,
+    done: usize,
+) -> usize
+    requires paired { (p : Pair) → slice_get pairs.now slot ≡ Some (Some p) → Contains singles.old.items slot →
+        ⊥ }
+    requires done { done ≤ length singles.old.items }
+    ensures lost { IsLost slot singles.old.items singles.new.items }
+    ensures taken { AreTaken singles.old.items done singles.new.items result }
 {
     let at = slot as usize;
     if let Some(Some(_)) = pairs.get(at) {
-        return;
+        return done;
     }
     let Some(place) = place_of(singles, slot, spots.get(at)) else {
-        return;
+        return done;
     };
     singles.swap_remove(place);
     renote(spots, singles, place);
+    if done > singles.len() {
+        singles.len()
+    } else {
+        done.min(place)
+    }
 }
 
 // Puts a clause and its pair into a slot.

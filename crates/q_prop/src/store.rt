@@ -5,11 +5,13 @@ ghost use Rattle.q_prop.specs.Slots.{filled, without, Holds, IsPut, IsOrdered};
 ghost use Rattle.q_prop.specs.Holders.{IsHolder, AreHolders};
 ghost use Rattle.q_prop.specs.Buckets.{AreHashed};
 ghost use Rattle.q_prop.specs.Lists.{IsDistinct};
+ghost use Rattle.q_prop.specs.Roles.{IsRole, IsDoubled, IsAlone};
 
 use crate::buckets::{bucket, find_in, put_into, rehashed, take_from};
 use crate::holders::{insert, note, remove};
 use crate::lists::Lists;
 use crate::propagator::Propagator;
+use crate::roles::{Role, is_only, is_part};
 use crate::spots::Spots;
 use q_logic::{Lit, NoMemory};
 use std::alloc::Global;
@@ -127,6 +129,7 @@ impl Store {
         requires { at < length self.old }
         ensures { self.new ≡ slice_set self.old at None }
     {
+        let role = self.role_of(at);
         free(
             &self.propagator,
             &mut self.holders,
@@ -136,7 +139,7 @@ impl Store {
             at,
         );
         self.propagator.renote(at, &self.holders);
-        self.propagator.delete(at as u32);
+        self.propagator.delete(at as u32, role);
     }
 
     /// Whether the literals are implied by propagation, over the clauses of all slots but one.
@@ -144,7 +147,75 @@ impl Store {
         ensures same { self.new ≡ self.old }
         ensures exact { IfOk result (λ yes. IsTrue yes ↔ Implied (filled (without self.old skip)) lits.now) }
     {
-        self.propagator.implied(lits, skip)
+        self.propagator.settle()?;
+        let role = self.role(skip);
+        self.propagator.implied(lits, skip, role)
+    }
+
+    fn role(&self, skip: Option<usize>) -> Role
+        ensures { IsRole self.now skip result }
+    {
+        match skip {
+            Some(at) => self.role_of(at),
+            None => Role::Unknown,
+        }
+    }
+
+    // What the clauses beside a slot say of the literal of its clause that alone is not false.
+    fn role_of(&self, at: usize) -> Role
+        ensures { IsRole self.now (Some at) result }
+    {
+        match self.propagator.left_in(at) {
+            Some(lit) => {
+                if self.is_doubled(at, lit) {
+                    Role::Doubled(lit)
+                } else if self.is_alone(at, lit) {
+                    Role::Alone(lit)
+                } else {
+                    Role::Unknown
+                }
+            }
+            None => Role::Unknown,
+        }
+    }
+
+    // Whether the literal alone is a clause of another slot, or one of the last slots that hold it has
+    // a part of this one's clause.
+    fn is_doubled(&self, at: usize, lit: Lit) -> bool
+        ensures { IsTrue result → IsDoubled self.now at lit }
+    {
+        if let Some(other) = self.find(&[lit]) {
+            if self.doubles(other, at, lit) {
+                return true;
+            }
+        }
+        let list = self.holders(lit);
+        for i in list.len().saturating_sub(4)..list.len() {
+            if self.doubles(list[i] as usize, at, lit) {
+                return true;
+            }
+        }
+        false
+    }
+
+    // Whether another slot that holds the literal has a part of this one's clause.
+    fn doubles(&self, other: usize, at: usize, lit: Lit) -> bool
+        requires { IsHolder self.now other lit }
+        ensures { IsTrue result → IsDoubled self.now at lit }
+    {
+        if other == at {
+            return false;
+        }
+        match (self.slot(other), self.slot(at)) {
+            (Some(part), Some(clause)) => is_part(part, clause),
+            _ => false,
+        }
+    }
+
+    fn is_alone(&self, at: usize, lit: Lit) -> bool
+        ensures { IsTrue result → IsAlone self.now at lit }
+    {
+        is_only(self.holders(lit), at) && self.holders(lit.negated()).is_empty()
     }
 }
 

@@ -1,15 +1,19 @@
-ghost use Rattle.std.specs.Prelude.{◌≡◌, ◌↔◌, ◌<◌, ◌+◌, ◌-◌, ◌++◌, ◌∷◌, [], length, slice_get, OnOk, OnErr, Some, Contains, IsTrue, ℕ, slice_index_or, vec_len, false, take};
+ghost use Rattle.std.specs.Prelude.{◌≡◌, ◌↔◌, ◌<◌, ◌+◌, ◌-◌, ◌++◌, ◌∷◌, [], length, slice_get, OnOk, OnErr, Some, Contains, IsTrue, MatchOption, ℕ, slice_index_or, vec_len, false, take};
 ghost use Rattle.q_logic.specs.Literals.{pack};
+ghost use Rattle.q_prop.specs.Marks.{IsTaken};
 
+use crate::spots::Spots;
 use q_logic::{Lit, NoMemory};
 use std::alloc::Global;
 use std::marker::Model;
 
-/// The literals that are known, in the order in which they came.
+/// The literals that are known, in the order in which they came unless one was taken off. Beside the
+/// marks stands where each was put.
 #[derive(Drop)]
 pub struct Trail {
     lits: Vec<Lit>,
     marks: Vec<bool>,
+    spots: Spots,
 }
 
 impl Model for Trail {
@@ -31,6 +35,7 @@ impl Trail {
         Trail {
             lits: Vec::new(alloc),
             marks: Vec::new(alloc),
+            spots: Spots::new(alloc),
         }
     }
 
@@ -58,9 +63,11 @@ impl Trail {
         ensures ok { OnOk result (self.new ≡ self.old ++ lit ∷ []) }
         ensures err { OnErr result (self.new ≡ self.old) }
     {
-        make_room(&mut self.marks, lit)?;
+        make_room(&mut self.marks, &mut self.spots, lit)?;
+        let place = self.lits.len();
         self.lits.push(lit)?;
         self.marks[lit.index()] = true;
+        self.spots.set(lit.index(), place);
         Ok(())
     }
 
@@ -80,6 +87,44 @@ impl Trail {
             self.pop();
         }
     }
+
+    /// Takes a literal off. The last one comes to its place then.
+    pub fn remove(&mut self, lit: Lit)
+        ensures { IsTaken lit self.old self.new }
+    {
+        let Some(place) = place_of(&self.lits, lit, self.spots.get(lit.index())) else {
+            return;
+        };
+        self.lits.swap_remove(place);
+        self.marks[lit.index()] = false;
+        if let Some(moved) = self.lits.get(place) {
+            self.spots.set(moved.index(), place);
+        }
+    }
+}
+
+// The place of a literal, looked for first at the given one.
+fn place_of(lits: &[Lit], lit: Lit, guess: usize) -> Option<usize>
+    ensures { MatchOption result (Contains lits.now lit → ⊥) (λ place. slice_get lits.now place ≡ Some lit) }
+{
+    if is_at(lits, lit, guess) {
+        return Some(guess);
+    }
+    for place in 0..lits.len() {
+        if lits[place].is(lit) {
+            return Some(place);
+        }
+    }
+    None
+}
+
+fn is_at(lits: &[Lit], lit: Lit, place: usize) -> bool
+    ensures { IsTrue result ↔ (slice_get lits.now place ≡ Some lit) }
+{
+    match lits.get(place) {
+        Some(other) => other.is(lit),
+        None => false,
+    }
 }
 
 fn is_marked(marks: &[bool], lit: Lit) -> bool
@@ -88,12 +133,13 @@ fn is_marked(marks: &[bool], lit: Lit) -> bool
     marks.get(lit.index()).copied().unwrap_or(false)
 }
 
-fn make_room(marks: &mut Vec<bool>, lit: Lit) -> Result<(), NoMemory>
+fn make_room(marks: &mut Vec<bool>, spots: &mut Spots, lit: Lit) -> Result<(), NoMemory>
     ensures room { OnOk result (pack lit < vec_len marks.new) }
     ensures same { (k : ℕ) → slice_index_or marks.new.items k false ≡ slice_index_or marks.old.items k false }
 {
     let end = lit.index() + 1;
     if marks.len() < end {
+        spots.grow(end)?;
         marks.resize(end, false)?;
     }
     Ok(())

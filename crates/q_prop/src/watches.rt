@@ -2,12 +2,14 @@ ghost use Rattle.std.specs.Prelude.{◌≡◌, ◌<◌, ◌-◌, None, Some, Con
 ghost use Rattle.q_logic.specs.Formulas.{Clause};
 ghost use Rattle.q_logic.specs.Literals.{Literal, negation};
 ghost use Rattle.q_prop.specs.Chains.{IsUnit, HasOpposites};
+ghost use Rattle.q_prop.specs.Roles.{IsRole, IsSpare};
 ghost use Rattle.q_prop.specs.Search.{IsOpen};
 ghost use Rattle.q_prop.specs.Slots.{without, Holds};
 ghost use Rattle.q_prop.specs.Watches.{IsVisit, IsPick};
 ghost use Rattle.q_prop.specs.Working.{IsOther, WatchesNot, Watches};
 
 use crate::clauses::Clauses;
+use crate::roles::Role;
 use crate::trail::Trail;
 use q_logic::Lit;
 
@@ -124,9 +126,15 @@ pub fn is_open(clause: &[Lit], trail: &Trail) -> bool
 }
 
 // Whether the root needs no slot's clause of this place.
-pub fn is_free(clauses: &Clauses, at: usize, trail: &Trail) -> bool
-    ensures { IsTrue result → (c : Clause) → Holds clauses.now at c → IsOpen trail.now c }
+pub fn is_free(clauses: &Clauses, at: usize, trail: &Trail, role: Role) -> bool
+    requires { IsRole clauses.now (Some at) role }
+    ensures { IsTrue result → IsSpare clauses.now at trail.now }
 {
+    if let Role::Doubled(lit) = role {
+        if !trail.has(lit.negated()) {
+            return true;
+        }
+    }
     match clauses.get(at) {
         Some(clause) => is_open(clause, trail),
         None => true,
@@ -134,13 +142,23 @@ pub fn is_free(clauses: &Clauses, at: usize, trail: &Trail) -> bool
 }
 
 // Whether the root stands without the slot that is left out.
-pub fn stands(clauses: &Clauses, skip: Option<usize>, trail: &Trail) -> bool
-    ensures { IsTrue result → (at : ℕ) (c : Clause) → skip ≡ Some at → Holds clauses.now at c → IsOpen
-        trail.now c }
+pub fn stands(clauses: &Clauses, skip: Option<usize>, trail: &Trail, role: Role) -> bool
+    requires { IsRole clauses.now skip role }
+    ensures { IsTrue result → (at : ℕ) → skip ≡ Some at → IsSpare clauses.now at trail.now }
 {
     match skip {
-        Some(at) => is_free(clauses, at, trail),
+        Some(at) => is_free(clauses, at, trail, role),
         None => true,
+    }
+}
+
+// The literal of a slot's clause that alone is not false.
+pub fn left_in(clauses: &Clauses, at: usize, trail: &Trail) -> Option<Lit> {
+    let clause = clauses.get(at)?;
+    let lit = find_first(clause, trail)?;
+    match find_open(clause, lit, trail) {
+        Some(_) => None,
+        None => Some(lit),
     }
 }
 

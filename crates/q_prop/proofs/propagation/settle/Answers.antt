@@ -2,7 +2,7 @@ use Rattle.std.proofs.Common.{length, arith}
 use Rattle.q_prop.specs.Chains.{HasFalsified}
 use Rattle.q_prop.specs.Slots.{without, filled}
 use Rattle.q_prop.proofs.Reaching.{IsReached-trans, IsReached-within}
-use Rattle.q_prop.proofs.Settling.{reached_chain, reached_longer, reached_consistent, AreTrue-more, AreListed-kept, ready_longer, IsKept-fewer, if_ok_map}
+use Rattle.q_prop.proofs.Settling.{reached_derived, reached_longer, reached_consistent, AreTrue-more, AreListed-kept, ready_longer, IsKept-fewer, if_ok_map}
 use Rattle.q_prop.proofs.propagation.settle.Goals as goal
 
 pub propagate-requires-clause-ready : goal.propagate-requires-clause-ready
@@ -26,5 +26,5 @@ returns-clause-ends c =
       head_in = omega arith;
       listed = AreListed-kept c.args.clauses.now (without c.args.clauses.now c.args.skip) c.take_singles.new.trail c.args.pairs.now.items c.propagate.new.pairs.items c.args.singles.now c.propagate.ensures.kept r.listed;
       singles_true = AreTrue-more (without c.args.clauses.now c.args.skip) c.args.singles.now (length c.args.singles.now) c.take_singles.new.trail c.propagate.new.trail (IsReached-within (filled (without c.args.clauses.now c.args.skip)) c.take_singles.new.trail c.propagate.new.trail c.propagate.ensures.reached) (rw c.if-branch.false at c.in_ok-take_singles.ensures.ends);
-      chain = reached_chain (filled (without c.args.clauses.now c.args.skip)) c.args.trail.now c.propagate.new.trail r.chain whole;
+      derived = reached_derived (filled (without c.args.clauses.now c.args.skip)) c.args.trail.now c.propagate.new.trail r.derived whole;
     })
