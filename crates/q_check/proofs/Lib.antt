@@ -21,3 +21,5 @@ pub mod Collecting
 pub mod Walks
 pub mod Reaching
 pub mod Trying
+pub mod Nesting
+pub mod Apart

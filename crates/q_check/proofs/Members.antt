@@ -1,5 +1,5 @@
 -- Members of a list by places.
-use Rattle.std.proofs.Common.{◌≡◌, ◌⊎◌, ℕ, zero, suc, ◌+◌, ◌<◌, Bool, true, false, List, [], ◌∷◌, ◌++◌, take, get_or, length, Contains, refl, subst, inl, inr, arith}
+use Rattle.std.proofs.Common.{◌≡◌, ◌⊎◌, ℕ, zero, suc, ◌+◌, ◌<◌, ◌≤◌, Bool, true, false, List, [], ◌∷◌, ◌++◌, take, get_or, length, Contains, refl, ap, subst, inl, inr, arith}
 use Rattle.std.proofs.lemmas.List.{take_more}
 use Rattle.q_logic.specs.Formulas.{IsIn}
 use Rattle.q_logic.proofs.Clauses.{IsIn-append, IsIn-append_left}
@@ -23,6 +23,12 @@ module _ {X : Type 0} where
     | inl a ↦ inl a
     | inr a ↦ elim a [ inl b ↦ inr b | inr b ↦ absurd b ]
   ]
+
+  pub take-all : (xs : List X) (n : ℕ) → length xs ≤ n → take n xs ≡ xs
+  take-all [] zero h = refl
+  take-all [] (suc n) h = refl
+  take-all (x ∷ xs) zero h = absurd (omega arith)
+  take-all (x ∷ xs) (suc n) h = ap (λ (ys : List X). x ∷ ys) (take-all xs n (omega arith))
 
   pub Contains-push : (xs : List X) (y k : X) → Contains xs k → Contains (xs ++ y ∷ []) k
   Contains-push xs y k m = IsIn-Contains k (xs ++ y ∷ []) (IsIn-append_left k xs (y ∷ []) (Contains-IsIn k xs m))

@@ -4,3 +4,4 @@ pub mod Warrants
 pub mod Entries
 pub mod Checked
 pub mod Walks
+pub mod Regions

@@ -18,6 +18,7 @@ ghost use Rattle.q_check.specs.Checked.{IsTried, IsEndRefusal};
 ghost use Rattle.q_check.specs.Entries.{entries_of, IsPivotEntry};
 
 use crate::error::CheckError;
+use crate::maps::Maps;
 use crate::pivots::{Buffers, Warrant, slots_of, warrant_of};
 use crate::reach::is_droppable;
 use crate::scope::Scope;
@@ -36,18 +37,20 @@ pub struct Book {
     clauses: u64,
     lits: u64,
     buffers: Buffers,
+    maps: Maps,
 }
 
 impl Model for Book {
     ghost use Rattle.q_logic.specs.Formulas.{PrenexFormula};
     ghost use Rattle.q_prop.specs.Slots.{filled};
     ghost use Rattle.q_check.specs.Checked.{IsCounted};
+    ghost use Rattle.q_check.specs.Regions.{AreRegionsOf};
 
     ghost Value = { PrenexFormula };
 
     ghost view = { λ b. record { prefix = b.scope; matrix = filled b.store } };
 
-    ghost invariant = { λ b. IsCounted (record { prefix = b.scope; matrix = filled b.store }) b.clauses b.lits };
+    ghost invariant = { λ b. IsCounted (record { prefix = b.scope; matrix = filled b.store }) b.clauses b.lits × AreRegionsOf b.scope (filled b.store) b.maps };
 }
 
 impl Book {
@@ -69,6 +72,7 @@ impl Book {
             clauses: formula.clauses() as u64,
             lits,
             buffers: Buffers::new(alloc),
+            maps: Maps::new(alloc),
         })
     }
 
@@ -100,6 +104,7 @@ impl Book {
         if !has_room(limits, self.clauses, self.lits, clause) {
             return Err(CheckError::Refused { cause: 8 });
         }
+        self.maps.take(&self.scope, clause);
         self.store.add(clause)?;
         self.clauses += 1;
         self.lits += clause.len() as u64;
@@ -170,6 +175,7 @@ impl Book {
         let droppable = is_droppable(
             &mut self.store,
             &self.scope,
+            &mut self.maps,
             &mut self.buffers,
             Some(at),
             clause,
@@ -198,6 +204,7 @@ impl Book {
         if !takes_fresh(&self.scope, limits, v, w) {
             return Err(CheckError::Refused { cause: 6 });
         }
+        self.maps.inherit(v, w)?;
         self.scope.insert_after(w, v)?;
         Ok(fresh_entry(keep, v))
     }
@@ -214,6 +221,7 @@ impl Book {
             return Err(CheckError::Refused { cause: 7 });
         }
         let existential = self.scope.is_existential(var);
+        self.maps.leave(&self.scope, var);
         self.scope.remove(var);
         Ok(removed_entry(keep, existential, var))
     }

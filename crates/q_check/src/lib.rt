@@ -4,9 +4,12 @@
 mod book;
 mod checker;
 mod error;
+mod labels;
 mod links;
+mod maps;
 mod pivots;
 mod reach;
+mod regions;
 mod scope;
 mod seats;
 mod undo;

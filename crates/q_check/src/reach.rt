@@ -8,8 +8,10 @@ ghost use Rattle.q_logic.specs.Reach.{Reducible};
 ghost use Rattle.q_logic.specs.Steps.{Within, IsDroppable};
 ghost use Rattle.q_prop.specs.Slots.{filled};
 ghost use Rattle.q_prop.specs.Slots.{without as without_slot};
+ghost use Rattle.q_check.specs.Regions.{AreRegionsOf};
 ghost use Rattle.q_check.specs.Walks.{is_inner, IsWidened, IsFollowed, IsVisited};
 
+use crate::maps::Maps;
 use crate::pivots::{Buffers, clause_at, holds, resolves, slots_of};
 use crate::scope::Scope;
 use q_logic::{Lit, NoMemory};
@@ -20,6 +22,7 @@ use q_prop::{Store, Trail};
 pub fn is_droppable(
     store: &mut Store,
     scope: &Scope,
+    maps: &mut Maps,
     buffers: &mut Buffers,
     skip: Option<usize>,
     clause: &[Lit],
@@ -30,7 +33,9 @@ pub fn is_droppable(
     requires within { Within scope.now clause.now }
     requires held { IsIn lit clause.now }
     requires rest { rest.now ≡ without lit clause.now }
+    requires regions { AreRegionsOf scope.now (filled store.old) maps.old }
     ensures same { store.new ≡ store.old }
+    ensures regions { AreRegionsOf scope.now (filled store.old) maps.new }
     ensures exact { IfOk result (λ yes. IsTrue yes ↔ IsDroppable scope.now (filled (without_slot store.old skip)) clause.now lit) }
 {
     if !scope.is_universal(lit.var()) {
@@ -43,14 +48,19 @@ pub fn is_droppable(
         return Ok(true);
     }
     let trail = &mut buffers.trail;
-    let reducible = is_reducible(store, scope, trail, skip, clause, lit)?;
+    let reducible = is_reducible(store, scope, maps, trail, skip, clause, lit)?;
+    if reducible {
+        maps.learn(store, scope, buffers, lit.var())?;
+    }
     Ok(reducible)
 }
 
-/// Whether no clause that is reached from the clause holds the literal's negation.
+/// Whether no clause that is reached from the clause holds the literal's negation. Regions are asked once the walk
+/// went on from as many literals as there are clauses with the negation, so that this costs no more than the walk.
 fn is_reducible(
     store: &Store,
     scope: &Scope,
+    maps: &Maps,
     trail: &mut Trail,
     skip: Option<usize>,
     clause: &[Lit],
@@ -61,12 +71,17 @@ fn is_reducible(
     requires held { IsIn lit clause.now }
     requires universal { is_universal scope.now lit.var ≡ true }
     requires not_negated { IsIn (negation lit) clause.now → ⊥ }
+    requires regions { AreRegionsOf scope.now (filled store.now) maps.now }
     ensures { IfOk result (λ yes. IsTrue yes ↔ Reducible scope.now (filled (without_slot store.now skip)) clause.now lit) }
 {
     trail.truncate(0);
     push_inner(trail, scope, clause, lit)?;
+    let opposite = slots_of(store, lit.negated()).len();
     for head in 0..usize::MAX {
         if head >= trail.len() {
+            return Ok(true);
+        }
+        if head == opposite && maps.separate(store, scope, clause, lit) {
             return Ok(true);
         }
         if !visit(store, scope, trail, skip, head, lit)? {
@@ -147,5 +162,5 @@ fn lies_inside(scope: &Scope, k: Lit, u: Lit) -> bool
     requires second { is_bound scope.now u.var ≡ true }
     ensures { result ≡ is_inner scope.now u k }
 {
-    scope.is_existential(k.var()) && !scope.outer_or_same(k.var(), u.var())
+    scope.is_inner(k.var(), u.var())
 }

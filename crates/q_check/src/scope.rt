@@ -1,6 +1,7 @@
 //! The checker's prefix, with a look-up of each variable's block.
 ghost use Rattle.std.specs.Prelude.{◌≡◌, ◌↔◌, IsTrue, ◌≤◌, ◌<◌, ◌+◌, ◌-◌, ◌^◌, ◌++◌, ℕ, suc, true, false, length, None, Some, OnOk, OnErr, IfOk, slice_get, slice_set, slice_index_or};
 ghost use Rattle.q_logic.specs.Prefixes.{Distinct, is_bound, is_existential, is_universal, outer_or_same, blocks, SameBlocks};
+ghost use Rattle.q_logic.specs.Expanding.{inner_existential};
 ghost use Rattle.q_logic.specs.Steps.{insert_after, removed_from};
 ghost use Rattle.q_check.specs.Scopes.{first_or, bounds_from};
 
@@ -63,6 +64,22 @@ impl Scope {
         ensures { result ≡ outer_or_same self.now a v }
     {
         rank_of(&self.seats, a) <= rank_of(&self.seats, v)
+    }
+
+    /// Whether a variable is existential, and inner to u.
+    pub fn is_inner(&self, var: u32, u: u32) -> bool
+        requires { is_bound self.now u ≡ true }
+        ensures { result ≡ inner_existential self.now u var }
+    {
+        self.is_existential(var) && !self.outer_or_same(var, u)
+    }
+
+    /// The variables that stand before and after a variable. Nothing is promised of them: who asks tests them.
+    pub(crate) fn beside(&self, var: u32) -> (Option<u32>, Option<u32>) {
+        match seat_of(&self.seats, var) {
+            Some(seat) => (seat.before, seat.after),
+            None => (None, None),
+        }
     }
 
     /// The prefix of distinct variables.

@@ -300,3 +300,86 @@ fn ends_that_differ(rt: HostRuntime) {
         assert_eq!(rt; end(rt.alloc(), turned, more).ok(), Some(cause));
     }
 }
+
+// Five blocks of one variable each, and no clause.
+fn five(alloc: Global) -> Result<Formula, NoMemory> {
+    let mut prefix = Vec::new(alloc);
+    prefix.push(Bound {
+        quant: Quant::Exists,
+        var: 1,
+    })?;
+    prefix.push(Bound {
+        quant: Quant::Forall,
+        var: 2,
+    })?;
+    prefix.push(Bound {
+        quant: Quant::Exists,
+        var: 3,
+    })?;
+    prefix.push(Bound {
+        quant: Quant::Forall,
+        var: 4,
+    })?;
+    prefix.push(Bound {
+        quant: Quant::Exists,
+        var: 5,
+    })?;
+    Ok(Formula::from_parts(prefix, Vec::new(alloc), Vec::new(alloc)))
+}
+
+// Adds clauses by their first literal.
+fn add_all(alloc: Global, checker: &mut Checker, clauses: &[[i32; 3]]) -> Result<(), CheckError> {
+    for numbers in clauses {
+        checker.step(&clause_step(alloc, true, numbers)?)?;
+    }
+    Ok(())
+}
+
+// The answer to a drop of u from the clause {1, u, 5}, which comes first.
+fn cut(alloc: Global, checker: &mut Checker, u: i32) -> Result<u8, CheckError> {
+    checker.step(&clause_step(alloc, true, &[1, u, 5])?)?;
+    let mut lits = Lits::new(alloc);
+    lits.push(lit(u))?;
+    lits.push(lit(1))?;
+    lits.push(lit(5))?;
+    Ok(code(checker.step(&Step::new(Kind::Drop, lits))))
+}
+
+// Drops 4 from such a clause again and again, so that walks make way for regions.
+fn cut_often(alloc: Global, checker: &mut Checker) -> Result<(), CheckError> {
+    for _ in 0..9 {
+        cut(alloc, checker, 4)?;
+        checker.step(&clause_step(alloc, false, &[1, 5])?)?;
+    }
+    Ok(())
+}
+
+// A checker with two fresh variables, 6 and 7, beside 5.
+fn widened(alloc: Global) -> Result<Checker, CheckError> {
+    let mut checker = Checker::start(alloc, &five(alloc)?, moderate(100, 1000), false)?;
+    checker.step(&fresh_step(alloc, 6, 5)?)?;
+    checker.step(&fresh_step(alloc, 7, 5)?)?;
+    Ok(checker)
+}
+
+// The answer to one more drop, of u. From 5 the clauses lead to 6, and only where a link is given to 7, beside which
+// the negations of u stand.
+fn last_cut(alloc: Global, link: &[[i32; 3]], u: i32) -> Result<u8, CheckError> {
+    let mut checker = widened(alloc)?;
+    add_all(alloc, &mut checker, &[[1, -5, 6], [1, -4, 7], [1, -2, 7]])?;
+    cut_often(alloc, &mut checker)?;
+    add_all(alloc, &mut checker, link)?;
+    cut(alloc, &mut checker, u)
+}
+
+// For 2 the second link leads through 3, which is outer to 4.
+#[test]
+fn added_clauses_join_regions(rt: HostRuntime) {
+    assert_eq!(rt; last_cut(rt.alloc(), &[], 4).ok(), Some(0));
+    assert_eq!(rt; last_cut(rt.alloc(), &[[1, -6, -7]], 4).ok(), Some(5));
+    assert_eq!(rt; last_cut(rt.alloc(), &[], 2).ok(), Some(0));
+    assert_eq!(rt;
+        last_cut(rt.alloc(), &[[1, 3, -6], [1, -3, -7]], 2).ok(),
+        Some(5)
+    );
+}

@@ -1,6 +1,8 @@
 use Rattle.std.proofs.Common.{sym, arith, refl, true≢false}
 use Rattle.q_prop.specs.Slots.{filled, without}
 use Rattle.q_prop.proofs.SlotLemmas.{slice_get-there}
+use Rattle.q_check.proofs.Alike.{reducible-within}
+use Rattle.q_check.proofs.Slots.{left-in}
 use Rattle.q_check.proofs.Reaching.{walk-begun, walk-more, walk-refuted, walk-ended}
 use Rattle.q_check.proofs.reach.is_reducible.Goals as goal
 
@@ -11,6 +13,11 @@ pub returns-then-head-len : goal.returns-then-head-len
 returns-then-head-len c =
     let r = walk-ended c.args.scope.now (filled (without c.args.store.now c.args.skip)) c.args.clause.now c.args.lit c.loop-head.head c.loop-head.trail c.loop-head.invariant (omega (arith, c.if-head-len.true, c.len.ensures)) c.requires.universal c.requires.held c.requires.not_negated in
     ((λ t. r), (λ x. refl))
+
+pub returns-then-separate : goal.returns-then-separate
+returns-then-separate c =
+    let s = c.args.store.now in
+    ((λ t. reducible-within c.args.scope.now (filled s) (filled (without s c.args.skip)) c.args.clause.now c.args.lit (λ D m. left-in s c.args.skip D m) (c.separate.ensures c.if-separate.true)), (λ h. refl))
 
 pub returns-then-not-branch : goal.returns-then-not-branch
 returns-then-not-branch c =

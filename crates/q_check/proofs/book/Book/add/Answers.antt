@@ -4,6 +4,7 @@ use Rattle.q_logic.specs.Steps.{add}
 use Rattle.q_prop.specs.Slots.{filled}
 use Rattle.q_check.proofs.Members.{test_is}
 use Rattle.q_check.proofs.Slots.{put-sizes}
+use Rattle.q_check.proofs.Apart.{all-put}
 use Rattle.q_check.proofs.Trying.{of, add-unbound, add-unwarranted, add-full, add-valid, add-after, add-entry, warranted, valid-formula}
 use Rattle.q_check.proofs.book.Book.add.Goals as goal
 
@@ -35,7 +36,7 @@ returns-then-not-has_room c keep =
     let C = c.args.clause.now in
     let w = c.binds_all.ensures.0 c.if-not-binds_all.false in
     let v = warranted P (filled s) c.args.first C c.in_ok-warrant.warrant (test_is c.is_missing.result c.is_missing.ensures c.if-is_missing.false) c.in_ok-warrant.ensures.exact in
-    rw (← c.self.view_is, c.in_ok-warrant.ensures.same) (refl, add-full c.args.limits P (filled s) c.args.first C i.clauses i.lits c.self.invariant w v (test_is c.has_room.result c.has_room.ensures c.if-not-has_room.true))
+    rw (← c.self.view_is, c.in_ok-warrant.ensures.same) (refl, add-full c.args.limits P (filled s) c.args.first C i.clauses i.lits c.self.invariant.0 w v (test_is c.has_room.result c.has_room.ensures c.if-not-has_room.true))
 
 pub returns-in_err-add : goal.returns-in_err-add
 returns-in_err-add c keep = let r = err_from_is_err_and c.from_residual-in_err-add.result c.from_residual-in_err-add.ensures.1 in rw (r.1, r.2, ← c.self.view_is, c.in_err-add.ensures.err, c.in_ok-warrant.ensures.same) refl
@@ -54,15 +55,17 @@ invariant_of-self-2 c =
     let C = c.args.clause.now in
     let w = c.binds_all.ensures.0 c.if-not-binds_all.false in
     let v = warranted P (filled s) c.args.first C c.in_ok-warrant.warrant (test_is c.is_missing.result c.is_missing.ensures c.if-is_missing.false) c.in_ok-warrant.ensures.exact in
-    let a = add-valid c.args.limits P (filled s) c.args.first C i.clauses i.lits c.self.invariant w v (c.has_room.ensures.0 c.if-not-has_room.false) in
+    let a = add-valid c.args.limits P (filled s) c.args.first C i.clauses i.lits c.self.invariant.0 w v (c.has_room.ensures.0 c.if-not-has_room.false) in
     let p = rw c.in_ok-warrant.ensures.same at c.in_ok-add.ensures.ok in
     let t = c.add.new.self in
-    let z = put-sizes s t c.in_ok-add.field-0 C p in
-    record {
-      formula = valid-formula c.args.limits (of P (filled s)) (of P (filled t)) (add c.args.first C) a (add-after P s t c.in_ok-add.field-0 c.args.first C p) c.self.invariant.formula;
-      clauses_are = omega (arith, z.0, c.self.invariant.clauses_are);
-      lits_are = omega (arith, z.1, c.self.invariant.lits_are);
-    }
+    let z = put-sizes s t c.in_ok-add.field-0 C p in (
+      record {
+        formula = valid-formula c.args.limits (of P (filled s)) (of P (filled t)) (add c.args.first C) a (add-after P s t c.in_ok-add.field-0 c.args.first C p) c.self.invariant.0.formula;
+        clauses_are = omega (arith, z.0, c.self.invariant.0.clauses_are);
+        lits_are = omega (arith, z.1, c.self.invariant.0.lits_are);
+      },
+      all-put P c.take.new.self s t c.in_ok-add.field-0 C p (c.take.ensures (filled s) c.self.invariant.1),
+    )
 
 pub returns : goal.returns
 returns c keep =
@@ -72,6 +75,6 @@ returns c keep =
     let C = c.args.clause.now in
     let w = c.binds_all.ensures.0 c.if-not-binds_all.false in
     let v = warranted P (filled s) c.args.first C c.in_ok-warrant.warrant (test_is c.is_missing.result c.is_missing.ensures c.if-is_missing.false) c.in_ok-warrant.ensures.exact in
-    let a = add-valid c.args.limits P (filled s) c.args.first C i.clauses i.lits c.self.invariant w v (c.has_room.ensures.0 c.if-not-has_room.false) in
+    let a = add-valid c.args.limits P (filled s) c.args.first C i.clauses i.lits c.self.invariant.0 w v (c.has_room.ensures.0 c.if-not-has_room.false) in
     let p = rw c.in_ok-warrant.ensures.same at c.in_ok-add.ensures.ok in
     rw (← c.self.view_is) (a, add-after P s c.add.new.self c.in_ok-add.field-0 c.args.first C p, add-entry keep (of P (filled s)) c.args.first C)

@@ -7,6 +7,7 @@ use Rattle.q_prop.specs.Slots.{filled, without}
 use Rattle.q_prop.proofs.SlotLemmas.{slice_get-in}
 use Rattle.q_check.proofs.Members.{test_is}
 use Rattle.q_check.proofs.Slots.{left-sizes}
+use Rattle.q_check.proofs.Apart.{all-left}
 use Rattle.q_check.proofs.Trying.{of, delete-unbound, delete-missing, delete-unwarranted, delete-valid, delete-after, delete-entry, warranted, valid-formula}
 use Rattle.q_check.proofs.book.Book.delete.Goals as goal
 
@@ -48,10 +49,10 @@ pub delete-requires : goal.delete-requires
 delete-requires c = rw c.in_ok-reason.ensures.same (slice_get-in c.self.inside.store c.in-Some.at (Some c.args.clause.now) c.in-Some.ensures)
 
 pub overflow_sub-self : goal.overflow_sub-self
-overflow_sub-self c = let z = left-sizes c.self.inside.store c.in-Some.at c.args.clause.now c.in-Some.ensures in omega (arith, z.0, c.self.invariant.clauses_are)
+overflow_sub-self c = let z = left-sizes c.self.inside.store c.in-Some.at c.args.clause.now c.in-Some.ensures in omega (arith, z.0, c.self.invariant.0.clauses_are)
 
 pub overflow_sub-self-2 : goal.overflow_sub-self-2
-overflow_sub-self-2 c = let z = left-sizes c.self.inside.store c.in-Some.at c.args.clause.now c.in-Some.ensures in omega (arith, z.1, c.self.invariant.lits_are)
+overflow_sub-self-2 c = let z = left-sizes c.self.inside.store c.in-Some.at c.args.clause.now c.in-Some.ensures in omega (arith, z.1, c.self.invariant.0.lits_are)
 
 pub invariant_of-self-2 : goal.invariant_of-self-2
 invariant_of-self-2 c =
@@ -67,12 +68,14 @@ invariant_of-self-2 c =
     let v = delete-valid P s n C h standard p w (warranted P (filled (without s (Some n))) p C c.in_ok-reason.reason (test_is c.is_missing.result c.is_missing.ensures c.if-is_missing.false) x) in
     let z = left-sizes s n C h in
     let e = rw c.in_ok-reason.ensures.same at c.delete.ensures in
-    rw e
-    (record {
-      formula = valid-formula standard (of P (filled s)) (of P (filled (set s n None))) (delete p C) v (delete-after P s n C h p) c.self.invariant.formula;
-      clauses_are = omega (arith, z.0, c.self.invariant.clauses_are);
-      lits_are = omega (arith, z.1, c.self.invariant.lits_are);
-    })
+    rw e (
+      record {
+        formula = valid-formula standard (of P (filled s)) (of P (filled (set s n None))) (delete p C) v (delete-after P s n C h p) c.self.invariant.0.formula;
+        clauses_are = omega (arith, z.0, c.self.invariant.0.clauses_are);
+        lits_are = omega (arith, z.1, c.self.invariant.0.lits_are);
+      },
+      all-left P i.maps s n c.self.invariant.1,
+    )
 
 pub returns : goal.returns
 returns c m =

@@ -12,6 +12,7 @@ use Rattle.q_prop.specs.Slots.{filled}
 use Rattle.q_prop.proofs.SlotLemmas.{slice_get-in}
 use Rattle.q_check.proofs.Members.{test_is}
 use Rattle.q_check.proofs.Slots.{left-sizes}
+use Rattle.q_check.proofs.Apart.{all-shrunk}
 use Rattle.q_check.proofs.Trying.{of, drop-unbound, drop-missing, drop-refused, drop-valid, drop-after, drop-sizes, drop-entry, length-without, put-holds, valid-formula}
 use Rattle.q_check.proofs.book.Book.drop_literal.Goals as goal
 
@@ -58,7 +59,7 @@ pub overflow_sub-self : goal.overflow_sub-self
 overflow_sub-self c = rw c.requires.rest (length-without c.args.lit c.args.clause.now)
 
 pub overflow_sub-self-2 : goal.overflow_sub-self-2
-overflow_sub-self-2 c = let z = left-sizes c.self.inside.store c.in-Some.at c.args.clause.now c.in-Some.ensures in omega (arith, z.1, c.self.invariant.lits_are)
+overflow_sub-self-2 c = let z = left-sizes c.self.inside.store c.in-Some.at c.args.clause.now c.in-Some.ensures in omega (arith, z.1, c.self.invariant.0.lits_are)
 
 pub invariant_of-self-2 : goal.invariant_of-self-2
 invariant_of-self-2 c =
@@ -73,12 +74,14 @@ invariant_of-self-2 c =
     let v = drop-valid P s n C c.in-Some.ensures standard c.args.lit (c.binds_all.ensures.0 c.if-not-binds_all.false) (c.in_ok-droppable.ensures.exact.0 c.if-not-droppable.false) in
     let z = drop-sizes s t n k c.args.lit C c.in-Some.ensures p in
     let l = length-without c.args.lit C in
-    rw (c.delete.ensures, c.requires.rest)
-    (record {
-      formula = valid-formula standard (of P (filled s)) (of P (filled (set t n None))) (drop_literal c.args.lit C) v (drop-after P s t n k c.args.lit C c.in-Some.ensures p) c.self.invariant.formula;
-      clauses_are = omega (arith, z.0, c.self.invariant.clauses_are);
-      lits_are = omega (arith, z.1, l, c.self.invariant.lits_are);
-    })
+    rw (c.delete.ensures, c.requires.rest) (
+      record {
+        formula = valid-formula standard (of P (filled s)) (of P (filled (set t n None))) (drop_literal c.args.lit C) v (drop-after P s t n k c.args.lit C c.in-Some.ensures p) c.self.invariant.0.formula;
+        clauses_are = omega (arith, z.0, c.self.invariant.0.clauses_are);
+        lits_are = omega (arith, z.1, l, c.self.invariant.0.lits_are);
+      },
+      all-shrunk P c.is_droppable.new.maps s t n k c.args.lit C c.in-Some.ensures p c.in_ok-droppable.ensures.regions,
+    )
 
 pub returns : goal.returns
 returns c keep m =

@@ -4,6 +4,7 @@ use Rattle.q_logic.specs.Steps.{fresh, insert_after}
 use Rattle.q_prop.specs.Slots.{filled}
 use Rattle.q_check.proofs.Members.{test_is}
 use Rattle.q_check.proofs.Alike.{alike_itself}
+use Rattle.q_check.proofs.Apart.{all-inserted}
 use Rattle.q_check.proofs.Trying.{of, fresh-refused, fresh-entry, valid-formula}
 use Rattle.q_check.proofs.book.Book.fresh.Goals as goal
 
@@ -21,10 +22,12 @@ pub insert_after-requires-clause-there : goal.insert_after-requires-clause-there
 insert_after-requires-clause-there c = (c.takes_fresh.ensures.0 c.if-not-takes_fresh.false).behind
 
 pub returns-in_err-insert_after : goal.returns-in_err-insert_after
-returns-in_err-insert_after c = let r = err_from_is_err_and c.from_residual.result c.from_residual.ensures.1 in rw (r.1, r.2, ← c.self.view_is, c.in_err-insert_after.ensures.err) refl
+returns-in_err-insert_after c = let r = err_from_is_err_and c.from_residual-in_err-insert_after.result c.from_residual-in_err-insert_after.ensures.1 in rw (r.1, r.2, ← c.self.view_is, c.in_err-insert_after.ensures.err) refl
 
 pub invariant_of-self : goal.invariant_of-self
-invariant_of-self c = rw c.in_err-insert_after.ensures.err c.self.invariant
+invariant_of-self c =
+    let v = c.takes_fresh.ensures.0 c.if-not-takes_fresh.false in
+    (c.self.invariant.0, c.inherit.ensures c.self.inside.scope (filled c.self.inside.store) v.absent c.self.invariant.0.formula.closed c.self.invariant.1)
 
 pub invariant_of-self-2 : goal.invariant_of-self-2
 invariant_of-self-2 c =
@@ -34,12 +37,14 @@ invariant_of-self-2 c =
     let v = c.takes_fresh.ensures.0 c.if-not-takes_fresh.false in
     let F = of P (filled s) in
     let G = of (insert_after c.args.w c.args.v P) (filled s) in
-    rw c.in_ok-insert_after.ensures.ok
-    (record {
-      formula = valid-formula c.args.limits F G (fresh c.args.v c.args.w) v (alike_itself G) c.self.invariant.formula;
-      clauses_are = c.self.invariant.clauses_are;
-      lits_are = c.self.invariant.lits_are;
-    })
+    rw c.in_ok-insert_after.ensures.ok (
+      record {
+        formula = valid-formula c.args.limits F G (fresh c.args.v c.args.w) v (alike_itself G) c.self.invariant.0.formula;
+        clauses_are = c.self.invariant.0.clauses_are;
+        lits_are = c.self.invariant.0.lits_are;
+      },
+      all-inserted P c.inherit.new.self (filled s) c.args.w c.args.v v.behind c.self.invariant.0.formula.closed v.absent (c.inherit.ensures P (filled s) v.absent c.self.invariant.0.formula.closed c.self.invariant.1),
+    )
 
 pub returns : goal.returns
 returns c =

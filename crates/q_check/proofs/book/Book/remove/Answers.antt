@@ -5,6 +5,7 @@ use Rattle.q_logic.specs.Steps.{remove_variable, removed_from, IsAbsent}
 use Rattle.q_prop.specs.Slots.{filled}
 use Rattle.q_check.proofs.Members.{test_is}
 use Rattle.q_check.proofs.Alike.{alike_itself}
+use Rattle.q_check.proofs.Apart.{all-removed}
 use Rattle.q_check.proofs.Trying.{of, remove-unbound, remove-occurring, removed-entry, valid-formula}
 use Rattle.q_check.proofs.book.Book.remove.Goals as goal
 
@@ -33,12 +34,14 @@ invariant_of-self c =
     let v : (is_bound P c.args.var ≡ true) × IsAbsent (filled s) c.args.var = (sym c.binds.ensures ∙ c.if-not-binds.false, c.is_absent.ensures.0 c.if-not-is_absent.false) in
     let F = of P (filled s) in
     let G = of (removed_from c.args.var P) (filled s) in
-    rw c.remove.ensures
-    (record {
-      formula = valid-formula standard F G (remove_variable c.args.var) v (alike_itself G) c.self.invariant.formula;
-      clauses_are = c.self.invariant.clauses_are;
-      lits_are = c.self.invariant.lits_are;
-    })
+    rw c.remove.ensures (
+      record {
+        formula = valid-formula standard F G (remove_variable c.args.var) v (alike_itself G) c.self.invariant.0.formula;
+        clauses_are = c.self.invariant.0.clauses_are;
+        lits_are = c.self.invariant.0.lits_are;
+      },
+      all-removed P c.leave.new.self (filled s) c.args.var c.self.invariant.0.formula.distinct v.1 (c.leave.ensures (filled s) c.self.invariant.1),
+    )
 
 pub returns : goal.returns
 returns c m =

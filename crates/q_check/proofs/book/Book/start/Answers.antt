@@ -47,12 +47,14 @@ pub invariant_of-result : goal.invariant_of-result
 invariant_of-result c =
     let F = c.args.formula.now in
     let a = whole F c.in_ok-scope.scope c.prefix.result.now c.loop-at.store c.clauses-at-end.result c.loop-at.at c.in_ok-scope.ensures c.prefix.ensures.value c.clauses-at-end.ensures.value c.loop-at-test.false c.loop-at.invariant.0 in
-    let z = same-sizes F.matrix (filled c.loop-at.store) a.clauses in
-    record {
-      formula = alike-formula F (of c.in_ok-scope.scope (filled c.loop-at.store)) a c.prefix.ensures.proper.formula;
-      clauses_are = c.clauses-2.ensures.value ∙ z.0;
-      lits_are = c.loop-at.invariant.1 ∙ ap literals_in (take-past F.matrix c.loop-at.at (omega (arith, c.loop-at-test.false, c.clauses-at-end.ensures.value))) ∙ z.1;
-    }
+    let z = same-sizes F.matrix (filled c.loop-at.store) a.clauses in (
+      record {
+        formula = alike-formula F (of c.in_ok-scope.scope (filled c.loop-at.store)) a c.prefix.ensures.proper.formula;
+        clauses_are = c.clauses-2.ensures.value ∙ z.0;
+        lits_are = c.loop-at.invariant.1 ∙ ap literals_in (take-past F.matrix c.loop-at.at (omega (arith, c.loop-at-test.false, c.clauses-at-end.ensures.value))) ∙ z.1;
+      },
+      rw c.new-2.ensures (λ R m. absurd m),
+    )
 
 pub returns : goal.returns
 returns c = whole c.args.formula.now c.in_ok-scope.scope c.prefix.result.now c.loop-at.store c.clauses-at-end.result c.loop-at.at c.in_ok-scope.ensures c.prefix.ensures.value c.clauses-at-end.ensures.value c.loop-at-test.false c.loop-at.invariant.0

@@ -1,0 +1,41 @@
+-- Regions of variables: the existential literals of a clause that are inner to one variable lie in one region.
+use Rattle.std.specs.Prelude.{◌≡◌, ℕ, Bool, true, false, cond, List, slice_index_or}
+use Rattle.q_logic.specs.Literals.{Literal}
+use Rattle.q_logic.specs.Formulas.{Clause, Matrix, Prefix, IsIn}
+use Rattle.q_logic.specs.Prefixes.{is_universal}
+use Rattle.q_logic.specs.Expanding.{inner_existential}
+
+-- the label of each variable, and which labels are regions of their own
+pub record Labelled : Type 0 where
+  pub labels : List ℕ
+  pub live : List Bool
+
+abbrev pub label_of : Labelled → ℕ → ℕ
+label_of L v = slice_index_or L.labels v 0
+
+-- the region of a variable: its label, or 0 where that is no region of its own
+abbrev pub region_of : Labelled → ℕ → ℕ
+region_of L v = cond (slice_index_or L.live (label_of L v) false) (label_of L v) 0
+
+-- what was one region is still one
+abbrev pub IsCoarser : Labelled → Labelled → Type 0
+IsCoarser old new = (a b : ℕ) → region_of old a ≡ region_of old b → region_of new a ≡ region_of new b
+
+-- regions for the literals that are inner to a variable
+pub record Known : Type 0 where
+  pub var : ℕ
+  pub labels : Labelled
+
+-- the clause has its inner literals in one region
+abbrev pub IsRegional : Prefix → Known → Clause → Type 0
+IsRegional P R D =
+    (j k : Literal) → IsIn j D → IsIn k D → inner_existential P R.var j.var ≡ true →
+    inner_existential P R.var k.var ≡ true → region_of R.labels j.var ≡ region_of R.labels k.var
+
+-- so has each clause, as long as the variable is universal
+abbrev pub AreRegions : Prefix → Matrix → Known → Type 0
+AreRegions P X R = is_universal P R.var ≡ true → (D : Clause) → IsIn D X → IsRegional P R D
+
+-- the regions of several variables are right
+abbrev pub AreRegionsOf : Prefix → Matrix → List Known → Type 0
+AreRegionsOf P X Rs = (R : Known) → IsIn R Rs → AreRegions P X R
