@@ -10,13 +10,10 @@ use Rattle.q_logic.proofs.Slots.{live-slot}
 use Rattle.q_logic.proofs.Implying.{negation-negation}
 use Rattle.q_logic.proofs.Searching.{hit-reached, hit-not_reducible}
 use Rattle.q_reduce.specs.Walks.{IsGrown}
-use Rattle.q_reduce.specs.Hops.{Leads, IsMet, IsExit}
+use Rattle.q_reduce.specs.Hops.{LeadsBack, IsExit}
 use Rattle.q_reduce.proofs.Walks.{others-find}
 
 module _ (P : Prefix) (X : Matrix) (u : Literal) where
-  pub met-next : (C : Clause) (k j : Literal) → Leads P X u k j → IsMet P X C u k → IsMet P X C u j
-  met-next C k j h m = (h.0, hit-reached P X C u h.0 k m h.1 h.2 h.3, h.4, h.5)
-
   -- by a clause with the negation of u, or with the negation of a literal before an exit, whoever enters it
   pub exit-begun : (E : Clause) (k : Literal) → IsIn E X → (IsIn u E → ⊥) → IsIn (negation u) E → IsIn k E → IsExit P X u (negation k)
   exit-begun E k e n i m C met = hit-not_reducible P X C u E (negation k) met e n (subst (λ (x : Literal). IsIn x E) (sym (negation-negation k)) m) i
@@ -39,6 +36,10 @@ module _ (P : Prefix) (X : Matrix) (u : Literal) where
     | inl a ↦ x j a
     | inr a ↦ (a.4, exit-before a.0 k j a.1.0 a.2 a.1.1 (x k i).0 a.3 (x k i).1)
   ]
+
+  -- hops that lead from the root to the negation of one of them make it an exit
+  pub exit-back : (root : Literal) (known : List Literal) → AreExits known → LeadsBack P X u root known → IsExit P X u root
+  exit-back root known x b C m = (x b.0 b.1).1 C (b.2 C m)
 
 -- A literal may go where its negation occurs nowhere.
 pub absent-reducible : (P : Prefix) (N : Slots) (c : ℕ) (C : Clause) (u : Literal) → slot N c ≡ Some C → is_universal P u.var ≡ true → IsIn u C → ((D : Clause) → IsIn D (live N) → IsIn (negation u) D → ⊥) → Reducible P (others c N) C u

@@ -14,3 +14,5 @@ pub mod Passing
 pub mod Results
 pub mod Outer
 pub mod Separating
+pub mod Bridging
+pub mod Lending

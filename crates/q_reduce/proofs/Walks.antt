@@ -134,3 +134,6 @@ module _ (P : Prefix) (u : Literal) where
 
   pub beside-held : (N : Slots) (c d : ℕ) (k : Literal) (D E : Clause) → slot N d ≡ Some D → IsIn (negation k) D → IsBeside N c d E → IsIn E (others c N) × IsIn (negation k) E
   beside-held N c d k D E h m b = beside-in N c d (negation k) D E h m b
+
+  pub grown-held : (N : Slots) (c d : ℕ) (l : Literal) (D : Clause) (old mid new : List Literal) → slot N d ≡ Some D → IsIn l D → IsGrown P u (λ E. IsIn E (others c N) × IsIn l E) old mid → IsGrown P u (IsBeside N c d) mid new → IsGrown P u (λ E. IsIn E (others c N) × IsIn l E) old new
+  grown-held N c d l D old mid new h m f g = grown-through (λ E. IsIn E (others c N) × IsIn l E) (IsBeside N c d) old mid new (λ E b. beside-in N c d l D E h m b) f g

@@ -1,13 +1,20 @@
 -- Steps from literal to literal, by clauses that are reached.
-use Rattle.std.specs.Prelude.{◌≡◌, true}
-use Rattle.q_logic.specs.Literals.{Literal, negation}
+use Rattle.std.specs.Prelude.{◌≡◌, ◌≤◌, ◌⊎◌, ℕ, true, [], ◌∷◌, List, Some, length, slice_index_or}
+use Rattle.q_logic.specs.Literals.{Literal, negation, pack}
 use Rattle.q_logic.specs.Formulas.{Clause, Matrix, Prefix, IsIn}
+use Rattle.q_logic.specs.Prefixes.{is_existential, is_universal}
+use Rattle.q_logic.specs.Numbered.{Slots, slot, live}
 use Rattle.q_logic.specs.Reach.{Reached, Reducible}
 use Rattle.q_logic.specs.Expanding.{inner_existential}
+use Rattle.q_kernel.specs.Kernels.{Seen, slots}
+use Rattle.q_reduce.specs.declared.hop.Hop.{Hop}
+use Rattle.q_reduce.specs.declared.hop.Hop.TheVariants.{Nothing, Sure}
+use Rattle.q_reduce.specs.declared.target.Target.{Target}
+use Rattle.q_reduce.specs.declared.target.Target.TheVariants.{Tautology, Unit, Cut, Pure}
 
--- a clause without u holds the negation of k, and j, which is inner to u
-abbrev pub Leads : Prefix → Matrix → Literal → Literal → Literal → Type 0
-Leads P X u k j = (E : Clause) × IsIn E X × (IsIn u E → ⊥) × IsIn (negation k) E × IsIn j E × (inner_existential P u.var j.var ≡ true)
+-- a clause without u holds both literals
+abbrev pub Joins : Matrix → Literal → Literal → Literal → Type 0
+Joins X u k j = (E : Clause) × IsIn E X × (IsIn u E → ⊥) × IsIn k E × IsIn j E
 
 -- an inner literal of a clause that is reached from C
 abbrev pub IsMet : Prefix → Matrix → Clause → Literal → Literal → Type 0
@@ -16,3 +23,65 @@ IsMet P X C u k = (D : Clause) × Reached P X C u D × IsIn k D × (inner_existe
 -- who meets the literal cannot let u go
 abbrev pub IsExit : Prefix → Matrix → Literal → Literal → Type 0
 IsExit P X u k = (C : Clause) → IsMet P X C u k → Reducible P X C u → ⊥
+
+-- who meets the root meets the negation of a literal in the list
+abbrev pub LeadsBack : Prefix → Matrix → Literal → Literal → List Literal → Type 0
+LeadsBack P X u root known =
+    (k : Literal) × IsIn k known × ((C : Clause) → IsMet P X C u root → IsMet P X C u (negation k))
+
+-- a universal literal of the clause of an id
+abbrev pub HoldsUniversal : Prefix → Slots → ℕ → Literal → Type 0
+HoldsUniversal P N c u = (C : Clause) × (slot N c ≡ Some C) × IsIn u C × (is_universal P u.var ≡ true)
+
+-- the clause holds no universal literal but at most the given one
+abbrev pub IsLone : Prefix → Clause → Literal → Type 0
+IsLone P E beside = (i : Literal) → IsIn i E → is_universal P i.var ≡ true → i ≡ beside
+
+-- the hop at a literal
+abbrev pub hop_at : List Hop → Literal → Hop
+hop_at row k = slice_index_or row (pack k) Nothing
+
+-- a clause that is not long holds both literals, and no universal literal but at most one
+pub record IsBridge (P : Prefix) (k j beside : Literal) (E : Clause) : Type 0 where
+  pub short : length E ≤ 16
+  pub one : IsIn k E
+  pub other : IsIn j E
+  pub lone : IsLone P E beside
+
+-- the sure hops of the row are by clauses of the formula
+abbrev pub AreSure : Prefix → Matrix → List Hop → Type 0
+AreSure P X row =
+    (k j beside : Literal) → hop_at row k ≡ Sure j beside → (E : Clause) × IsIn E X × IsBridge P k j beside E
+
+-- sure hops have gone from the row; none is left by a clause of the given kind
+pub record IsLoosened (T : Clause → Type 0) (old new : List Hop) : Type 0 where
+  pub less : (k j beside : Literal) → hop_at new k ≡ Sure j beside → hop_at old k ≡ Sure j beside
+  pub free : (D : Clause) → T D → length D ≤ 16 → (k j beside : Literal) → hop_at new k ≡ Sure j beside → IsIn k D → IsIn j D → ⊥
+
+-- the hops of two walks
+pub record Rows : Type 0 where
+  pub onward : List Hop
+  pub toward : List Hop
+
+abbrev pub no_rows : Rows
+no_rows = record { onward = []; toward = [] }
+
+-- the sure hops are right for the formula of a kernel
+abbrev pub AreHopsOf : Seen → Rows → Type 0
+AreHopsOf k H = AreSure k.prefix (live (slots k)) H.onward × AreSure k.prefix (live (slots k)) H.toward
+
+abbrev pub AreLoosened : (Clause → Type 0) → Rows → Rows → Type 0
+AreLoosened T H J = IsLoosened T H.onward J.onward × IsLoosened T H.toward J.toward
+
+-- the clause holds the literal of a unit clause, or its negation
+abbrev pub IsAssigned : Prefix → Slots → ℕ → Clause → Type 0
+IsAssigned P N c D =
+    (l : Literal) × (slot N c ≡ Some (l ∷ [])) × (is_existential P l.var ≡ true) × IsIn D (live N)
+    × (IsIn l D ⊎ IsIn (negation l) D)
+
+-- the change of the target may take the clause out, or a literal of it
+abbrev pub IsTouched : Prefix → Slots → Target → Clause → Type 0
+IsTouched P N (Tautology c) D = slot N c ≡ Some D
+IsTouched P N (Unit c) D = IsAssigned P N c D
+IsTouched P N (Cut c l) D = slot N c ≡ Some D
+IsTouched P N (Pure l) D = IsIn D (live N) × IsIn l D

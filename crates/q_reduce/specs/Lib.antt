@@ -6,3 +6,4 @@ pub mod Quants
 pub mod Becoming
 pub mod Searches
 pub mod Regions
+pub mod Lent

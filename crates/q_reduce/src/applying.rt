@@ -10,7 +10,7 @@ ghost use Rattle.q_logic.specs.Numbered.{slot, live, others};
 ghost use Rattle.q_logic.specs.Rules.{Fits};
 ghost use Rattle.q_kernel.specs.Kernels.{slots};
 ghost use Rattle.q_reduce.specs.Targets.{target_of};
-ghost use Rattle.q_reduce.specs.Regions.{AreRegionsOf};
+ghost use Rattle.q_reduce.specs.Lent.{IsFitFor};
 
 use crate::clauses::{holds, is_tautology, only_literal};
 use crate::reach::{is_existential, is_universal};
@@ -22,9 +22,9 @@ use q_logic::{Lit, NoMemory};
 
 /// Whether the conditions of a target hold.
 pub fn fits(kernel: &Kernel, search: &mut Search, target: &Target) -> Result<bool, NoMemory>
-    requires { AreRegionsOf kernel.now search.old }
+    requires { IsFitFor kernel.now search.old }
     ensures fits { IfOk result (λ yes. (B : Bounds) → IsTrue yes ↔ Fits B kernel.now.prefix (slots kernel.now) (target_of target.now)) }
-    ensures regions { AreRegionsOf kernel.now search.new }
+    ensures fit { IsFitFor kernel.now search.new }
 {
     match *target {
         Target::Tautology { c } => Ok(fits_tautology(kernel, c)),
@@ -63,9 +63,9 @@ fn fits_unit(kernel: &Kernel, c: ClauseId) -> bool
 }
 
 fn fits_cut(kernel: &Kernel, search: &mut Search, c: ClauseId, l: Lit) -> Result<bool, NoMemory>
-    requires { AreRegionsOf kernel.now search.old }
+    requires { IsFitFor kernel.now search.old }
     ensures fits { IfOk result (λ yes. IsTrue yes ↔ ((C : Clause) × (slot (slots kernel.now) c ≡ Some C) × Reducible kernel.now.prefix (others c (slots kernel.now)) C l)) }
-    ensures regions { AreRegionsOf kernel.now search.new }
+    ensures fit { IsFitFor kernel.now search.new }
 {
     if !is_universal(kernel, l.var()) || !kernel.live(c) {
         return Ok(false);

@@ -8,7 +8,7 @@ ghost use Rattle.q_logic.specs.Rules.{Fits};
 ghost use Rattle.q_kernel.specs.Kernels.{slots};
 ghost use Rattle.q_reduce.specs.declared.target.Target.{Target as TargetValue};
 ghost use Rattle.q_reduce.specs.Targets.{target_of};
-ghost use Rattle.q_reduce.specs.Regions.{AreRegionsOf};
+ghost use Rattle.q_reduce.specs.Lent.{IsFitFor};
 ghost use Rattle.q_reduce.specs.Searches.{IsCutOf, IsOfClause, IsOfVariable, IsAt, IsFound};
 
 use crate::applying::fits;
@@ -24,9 +24,9 @@ pub fn find_from(
     search: &mut Search,
     from: u32,
 ) -> Result<Option<Target>, NoMemory>
-    requires { AreRegionsOf kernel.now search.old }
+    requires { IsFitFor kernel.now search.old }
     ensures found { IfOk result (IsFound kernel.now (λ t. from ≤ place (target_of t))) }
-    ensures regions { AreRegionsOf kernel.now search.new }
+    ensures fit { IsFitFor kernel.now search.new }
 {
     let mut at = from;
     while let Some(place) = next_place(kernel, at) {
@@ -58,9 +58,9 @@ fn next_place(kernel: &Kernel, at: u32) -> Option<u32>
 
 // A target at a place: of its clause, or else of its variable.
 fn find_at(kernel: &Kernel, search: &mut Search, place: u32) -> Result<Option<Target>, NoMemory>
-    requires { AreRegionsOf kernel.now search.old }
+    requires { IsFitFor kernel.now search.old }
     ensures found { IfOk result (IsFound kernel.now (IsAt place)) }
-    ensures regions { AreRegionsOf kernel.now search.new }
+    ensures fit { IsFitFor kernel.now search.new }
 {
     let found = find_in(kernel, search, place)?;
     if found.is_some() {
@@ -72,9 +72,9 @@ fn find_at(kernel: &Kernel, search: &mut Search, place: u32) -> Result<Option<Ta
 
 // A target of a clause.
 fn find_in(kernel: &Kernel, search: &mut Search, c: ClauseId) -> Result<Option<Target>, NoMemory>
-    requires { AreRegionsOf kernel.now search.old }
+    requires { IsFitFor kernel.now search.old }
     ensures found { IfOk result (IsFound kernel.now (IsOfClause c)) }
-    ensures regions { AreRegionsOf kernel.now search.new }
+    ensures fit { IsFitFor kernel.now search.new }
 {
     if !kernel.live(c) {
         return Ok(None);
@@ -94,9 +94,9 @@ fn find_in(kernel: &Kernel, search: &mut Search, c: ClauseId) -> Result<Option<T
 // A literal that may leave a clause.
 fn find_cut(kernel: &Kernel, search: &mut Search, c: ClauseId) -> Result<Option<Target>, NoMemory>
     requires live { (C : Clause) × (slot (slots kernel.now) c ≡ Some C) }
-    requires regions { AreRegionsOf kernel.now search.old }
+    requires fit { IsFitFor kernel.now search.old }
     ensures found { IfOk result (IsFound kernel.now (IsCutOf c)) }
-    ensures regions { AreRegionsOf kernel.now search.new }
+    ensures fit { IsFitFor kernel.now search.new }
 {
     for l in kernel.lits(c) {
         let cut = Target::Cut { c, l: *l };
@@ -109,9 +109,9 @@ fn find_cut(kernel: &Kernel, search: &mut Search, c: ClauseId) -> Result<Option<
 
 // A pure literal of a variable.
 fn find_pure(kernel: &Kernel, search: &mut Search, var: u32) -> Result<Option<Target>, NoMemory>
-    requires { AreRegionsOf kernel.now search.old }
+    requires { IsFitFor kernel.now search.old }
     ensures found { IfOk result (IsFound kernel.now (IsOfVariable var)) }
-    ensures regions { AreRegionsOf kernel.now search.new }
+    ensures fit { IsFitFor kernel.now search.new }
 {
     kernel.sound();
     if !kernel.prefix().contains(var) {

@@ -1,55 +1,80 @@
 //! Hints that tell most literals which may not go.
 //!
 //! Where nearly every literal leads to a root and the root to nearly every literal, one walk to the root and one from it
-//! answer for all clauses. Nothing is believed: each hop counts only by its clause as it is now, so hints may be of any
-//! age.
+//! answer for all clauses. Most hops of these walks are sure: they stay right while targets are taken. Of the others
+//! nothing is believed: such a hop counts only by its clause as it is now.
 ghost use Rattle.std.specs.Prelude.{◌≡◌, true, Some, IsTrue, IfOk, OnOk};
 ghost use Rattle.q_logic.specs.Literals.{Literal};
 ghost use Rattle.q_logic.specs.Formulas.{Clause, IsIn};
 ghost use Rattle.q_logic.specs.Prefixes.{is_bound};
-ghost use Rattle.q_logic.specs.Numbered.{slot, others};
+ghost use Rattle.q_logic.specs.Numbered.{slot, live, others};
 ghost use Rattle.q_kernel.specs.Kernels.{slots};
 ghost use Rattle.q_reduce.specs.Walks.{IsBeside, IsGrown};
-ghost use Rattle.q_reduce.specs.Hops.{Leads, IsMet, IsExit};
+ghost use Rattle.q_reduce.specs.Hops.{IsMet, IsExit, LeadsBack, HoldsUniversal, AreSure, no_rows, AreHopsOf, AreLoosened, IsTouched};
 
 use crate::asked::Asked;
 use crate::clauses::holds;
 use crate::queue::Queue;
 use crate::reach::{clause_of, lies_inside, push_inner};
+use crate::target::Target;
 use crate::tree::Tree;
+use crate::trees::Trees;
 use q_arena::ClauseId;
 use q_kernel::Kernel;
 use q_logic::{Lit, NoMemory};
 use std::alloc::Global;
+use std::marker::Model;
 
 // So many hops are followed from a literal.
 const HOPS: usize = 64;
 
-// So many literals near the negation of a universal are tried, and so many clauses with one of them.
+// So many literals near the negation of a universal are tried, and so many clauses with each of them.
 const NEAR: usize = 64;
 
 const TRIES: usize = 8;
 
-/// The hops of two walks, from a root and from its negation. Those of the second, read backwards, lead to the root.
+/// A root, and the hops that lead from it and to it.
 #[derive(Drop)]
 pub struct Guide {
     root: Option<Lit>,
-    onward: Tree,
-    toward: Tree,
+    trees: Trees,
     asked: Asked,
     // so many clauses were looked at by walks since
     debt: usize,
 }
 
+impl Model for Guide {
+    ghost use Rattle.q_reduce.specs.Hops.{Rows};
+
+    ghost Value = { Rows };
+
+    ghost view = { λ g. g.trees };
+}
+
 impl Guide {
-    pub(crate) fn new(alloc: Global) -> Guide {
+    pub(crate) fn new(alloc: Global) -> Guide
+        ensures { result ≡ no_rows }
+    {
         Guide {
             root: None,
-            onward: Tree::new(alloc),
-            toward: Tree::new(alloc),
+            trees: Trees::new(alloc),
             asked: Asked::new(alloc),
             debt: 0,
         }
+    }
+
+    /// Forgets all hops.
+    pub(crate) fn forget(&mut self)
+        ensures { self.new ≡ no_rows }
+    {
+        self.trees.forget();
+    }
+
+    /// Forgets the sure hops by clauses that a target touches.
+    pub(crate) fn loosen(&mut self, kernel: &Kernel, target: &Target)
+        ensures { AreLoosened (IsTouched kernel.now.prefix (slots kernel.now) target.now) self.old self.new }
+    {
+        self.trees.loosen(kernel, target);
     }
 
     /// The root, where hops lead from it to a literal near the negation of u: a walk that meets the root need not go on.
@@ -61,25 +86,81 @@ impl Guide {
         c: ClauseId,
         u: Lit,
     ) -> Result<Option<Lit>, NoMemory>
-        requires { is_bound kernel.now.prefix u.var ≡ true }
+        requires universal { HoldsUniversal kernel.now.prefix (slots kernel.now) c u }
+        requires hops { AreHopsOf kernel.now self.now }
         ensures { IfOk result (λ o. (r : Literal) → o ≡ Some r → IsExit kernel.now.prefix (others c (slots kernel.now)) u r) }
     {
         let Some(root) = self.root else {
             return Ok(None);
         };
         queue.clear();
-        gather(kernel, queue, c, u, u.negated())?;
+        if self.probe(kernel, queue, c, u, u.negated(), root)? {
+            return Ok(Some(root));
+        }
         for head in 0..NEAR {
-            if head >= queue.len() {
+            if head >= queue.len() || queue.len() >= NEAR {
                 return Ok(None);
             }
             let back = queue.at(head).negated();
-            if descends(kernel, &self.onward, c, u, root, back) {
+            if self.probe(kernel, queue, c, u, back, root)? {
                 return Ok(Some(root));
             }
-            gather(kernel, queue, c, u, back)?;
         }
         Ok(None)
+    }
+
+    // Puts the inner literals of some clauses that hold a literal into the queue, but of c and of those that hold u, until
+    // hops lead from the root to the negation of one; whether they do.
+    fn probe(
+        &self,
+        kernel: &Kernel,
+        queue: &mut Queue,
+        c: ClauseId,
+        u: Lit,
+        lit: Lit,
+        root: Lit,
+    ) -> Result<bool, NoMemory>
+        requires universal { HoldsUniversal kernel.now.prefix (slots kernel.now) c u }
+        requires hops { AreHopsOf kernel.now self.now }
+        ensures grown { OnOk result (IsGrown kernel.now.prefix u (λ E. IsIn E (others c (slots kernel.now)) × IsIn lit E) queue.old queue.new) }
+        ensures back { IfOk result (λ yes. IsTrue yes → LeadsBack kernel.now.prefix (others c (slots kernel.now)) u root queue.new) }
+    {
+        let mut at = kernel.first(lit);
+        for _ in 0..TRIES {
+            let Some(place) = at else {
+                return Ok(false);
+            };
+            let known = queue.len();
+            gather_from(kernel, queue, c, u, kernel.owner(place))?;
+            if self.leads_back(kernel, queue, known, c, u, root) {
+                return Ok(true);
+            }
+            at = kernel.next(place);
+        }
+        Ok(false)
+    }
+
+    // Whether hops lead from the root to the negation of a literal of the queue, from a place on.
+    fn leads_back(
+        &self,
+        kernel: &Kernel,
+        queue: &Queue,
+        known: usize,
+        c: ClauseId,
+        u: Lit,
+        root: Lit,
+    ) -> bool
+        requires universal { HoldsUniversal kernel.now.prefix (slots kernel.now) c u }
+        requires hops { AreHopsOf kernel.now self.now }
+        ensures { IsTrue result → LeadsBack kernel.now.prefix (others c (slots kernel.now)) u root queue.now }
+    {
+        for place in known..queue.len().min(NEAR) {
+            let back = queue.at(place).negated();
+            if descends(kernel, &self.trees.onward, c, u, root, back) {
+                return true;
+            }
+        }
+        false
     }
 
     /// Whether hops lead from a literal to the exit.
@@ -91,12 +172,13 @@ impl Guide {
         from: Lit,
         exit: Option<Lit>,
     ) -> bool
-        requires bound { is_bound kernel.now.prefix u.var ≡ true }
+        requires universal { HoldsUniversal kernel.now.prefix (slots kernel.now) c u }
+        requires hops { AreHopsOf kernel.now self.now }
         requires exit { (r : Literal) → exit ≡ Some r → IsExit kernel.now.prefix (others c (slots kernel.now)) u r }
         ensures { IsTrue result → IsExit kernel.now.prefix (others c (slots kernel.now)) u from }
     {
         match exit {
-            Some(root) => climbs(kernel, &self.toward, c, u, from, root),
+            Some(root) => climbs(kernel, &self.trees.toward, c, u, from, root),
             None => false,
         }
     }
@@ -109,7 +191,10 @@ impl Guide {
         queue: &mut Queue,
         u: Lit,
         looks: usize,
-    ) -> Result<(), NoMemory> {
+    ) -> Result<(), NoMemory>
+        requires { AreHopsOf kernel.now self.old }
+        ensures { AreHopsOf kernel.now self.new }
+    {
         kernel.sound();
         self.asked.keep(kernel, u)?;
         self.debt = self.debt.saturating_add(looks);
@@ -120,8 +205,7 @@ impl Guide {
             return Ok(());
         };
         let universals = self.asked.universals();
-        self.onward.grow(kernel, queue, root, universals)?;
-        self.toward.grow(kernel, queue, root.negated(), universals)?;
+        self.trees.grow(kernel, queue, root, universals)?;
         self.root = Some(root);
         self.debt = 0;
         Ok(())
@@ -145,7 +229,8 @@ fn busiest(kernel: &Kernel, queue: &Queue, asked: &Asked) -> Option<Lit> {
 
 // Whether hops lead from a literal to the root.
 fn climbs(kernel: &Kernel, toward: &Tree, c: ClauseId, u: Lit, from: Lit, root: Lit) -> bool
-    requires { is_bound kernel.now.prefix u.var ≡ true }
+    requires universal { HoldsUniversal kernel.now.prefix (slots kernel.now) c u }
+    requires sure { AreSure kernel.now.prefix (live (slots kernel.now)) toward.now }
     ensures { IsTrue result → (C : Clause) → IsMet kernel.now.prefix (others c (slots kernel.now)) C u from → IsMet kernel.now.prefix (others c (slots kernel.now)) C u root }
 {
     let mut at = from;
@@ -153,11 +238,10 @@ fn climbs(kernel: &Kernel, toward: &Tree, c: ClauseId, u: Lit, from: Lit, root: 
         if at.is(root) {
             return true;
         }
-        let Some(hop) = toward.hop(at.negated()) else {
+        let Some(next) = toward.mate(kernel, c, u, at.negated()) else {
             return false;
         };
-        let next = hop.from.negated();
-        if !leads(kernel, hop.clause, c, u, at, next) {
+        if !lies_inside(kernel, next, u) {
             return false;
         }
         at = next;
@@ -165,20 +249,7 @@ fn climbs(kernel: &Kernel, toward: &Tree, c: ClauseId, u: Lit, from: Lit, root: 
     false
 }
 
-// Puts the inner literals of some clauses that hold a literal into the queue, but of c and of those that hold u.
-fn gather(kernel: &Kernel, queue: &mut Queue, c: ClauseId, u: Lit, lit: Lit) -> Result<(), NoMemory>
-    requires { is_bound kernel.now.prefix u.var ≡ true }
-    ensures { OnOk result (IsGrown kernel.now.prefix u (λ E. IsIn E (others c (slots kernel.now)) × IsIn lit E) queue.old queue.new) }
-{
-    let mut at = kernel.first(lit);
-    for _ in 0..TRIES {
-        let Some(place) = at else { return Ok(()) };
-        gather_from(kernel, queue, c, u, kernel.owner(place))?;
-        at = kernel.next(place);
-    }
-    Ok(())
-}
-
+// Puts the inner literals of the clause d into the queue, unless it is c or holds u.
 fn gather_from(
     kernel: &Kernel,
     queue: &mut Queue,
@@ -200,7 +271,8 @@ fn gather_from(
 
 // Whether hops lead from the root to a literal.
 fn descends(kernel: &Kernel, onward: &Tree, c: ClauseId, u: Lit, root: Lit, to: Lit) -> bool
-    requires { is_bound kernel.now.prefix u.var ≡ true }
+    requires universal { HoldsUniversal kernel.now.prefix (slots kernel.now) c u }
+    requires sure { AreSure kernel.now.prefix (live (slots kernel.now)) onward.now }
     ensures { IsTrue result → (C : Clause) → IsMet kernel.now.prefix (others c (slots kernel.now)) C u root → IsMet kernel.now.prefix (others c (slots kernel.now)) C u to }
 {
     let mut at = to;
@@ -208,28 +280,13 @@ fn descends(kernel: &Kernel, onward: &Tree, c: ClauseId, u: Lit, root: Lit, to: 
         if at.is(root) {
             return true;
         }
-        let Some(hop) = onward.hop(at) else {
-            return false;
-        };
-        if !leads(kernel, hop.clause, c, u, hop.from, at) {
+        if !lies_inside(kernel, at, u) {
             return false;
         }
-        at = hop.from;
+        let Some(mate) = onward.mate(kernel, c, u, at) else {
+            return false;
+        };
+        at = mate.negated();
     }
     false
-}
-
-// Whether the clause d leads from a literal to another one, which is inner to u. It may be neither c nor hold u.
-fn leads(kernel: &Kernel, d: ClauseId, c: ClauseId, u: Lit, from: Lit, to: Lit) -> bool
-    requires { is_bound kernel.now.prefix u.var ≡ true }
-    ensures { IsTrue result → Leads kernel.now.prefix (others c (slots kernel.now)) u from to }
-{
-    if d == c || !kernel.live(d) {
-        return false;
-    }
-    let clause = clause_of(kernel, d);
-    if holds(clause, u) || !holds(clause, from.negated()) || !holds(clause, to) {
-        return false;
-    }
-    lies_inside(kernel, to, u)
 }

@@ -7,6 +7,7 @@ mod changing;
 mod clauses;
 mod finding;
 mod guide;
+mod hop;
 mod joining;
 mod maps;
 mod queue;
@@ -16,6 +17,7 @@ mod regions;
 mod search;
 mod target;
 mod tree;
+mod trees;
 
 pub use reduce::{applies, find, find_with, try_one, try_with};
 pub use search::Search;

@@ -9,6 +9,7 @@ ghost use Rattle.q_logic.specs.Reach.{Reducible};
 ghost use Rattle.q_logic.specs.Numbered.{slot, others};
 ghost use Rattle.q_kernel.specs.Kernels.{slots};
 ghost use Rattle.q_reduce.specs.Quants.{is_some_exists, is_some_forall};
+ghost use Rattle.q_reduce.specs.Hops.{AreHopsOf};
 ghost use Rattle.q_reduce.specs.Walks.{IsWidened, IsFollowed, IsVisited};
 
 use crate::clauses::holds;
@@ -68,6 +69,7 @@ pub fn is_reducible(
 ) -> Result<bool, NoMemory>
     requires live { (C : Clause) × (slot (slots kernel.now) c ≡ Some C) × IsIn lit C × (IsIn (negation lit) C → ⊥) }
     requires universal { is_universal kernel.now.prefix lit.var ≡ true }
+    requires hops { AreHopsOf kernel.now guide.now }
     ensures { IfOk result (λ yes. (C : Clause) → slot (slots kernel.now) c ≡ Some C → IsTrue yes ↔ Reducible kernel.now.prefix (others c (slots kernel.now)) C lit) }
 {
     let exit = guide.exit(kernel, queue, c, lit)?;

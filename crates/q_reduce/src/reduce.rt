@@ -8,7 +8,7 @@ ghost use Rattle.q_kernel.specs.Taking.{AreModest, IsReady, Applies, IsTaken};
 ghost use Rattle.q_reduce.specs.declared.target.Target.{Target as TargetValue};
 ghost use Rattle.q_reduce.specs.Targets.{target_of};
 ghost use Rattle.q_reduce.specs.Becoming.{CanChange};
-ghost use Rattle.q_reduce.specs.Regions.{AreRegionsOf};
+ghost use Rattle.q_reduce.specs.Lent.{IsFitFor};
 
 use crate::applying::fits;
 use crate::changing::take;
@@ -46,19 +46,21 @@ pub fn try_with(
 ) -> Result<Taken, NoMemory>
     requires ready { IsReady kernel.old }
     requires bounds { AreModest bounds.now }
-    requires regions { AreRegionsOf kernel.old search.old }
+    requires fit { IsFitFor kernel.old search.old }
     ensures applies { IfOk result (λ r. (r ≡ Yes) ↔ Applies bounds.now kernel.old (target_of target.now)) }
     ensures yes { IfOk result (λ r. r ≡ Yes → IsTaken bounds.now kernel.old kernel.new (target_of target.now)) }
     ensures no { IfOk result (λ r. r ≡ No → SameView kernel.old kernel.new) }
     ensures err { OnErr result (SameView kernel.old kernel.new) }
-    ensures regions { AreRegionsOf kernel.new search.new }
+    ensures fit { IsFitFor kernel.new search.new }
 {
     let _ = bounds;
     if !fits(kernel, search, target)? {
         return Ok(Taken::No);
     }
+    search.loosen(kernel, target);
     reserve(kernel)?;
     take(kernel, target);
+    search.settle(kernel);
     Ok(Taken::Yes)
 }
 
@@ -71,9 +73,9 @@ pub fn applies(
 ) -> Result<bool, NoMemory>
     requires ready { IsReady kernel.now }
     requires bounds { AreModest bounds.now }
-    requires regions { AreRegionsOf kernel.now search.old }
+    requires fit { IsFitFor kernel.now search.old }
     ensures yes { IfOk result (λ yes. IsTrue yes ↔ Applies bounds.now kernel.now (target_of target.now)) }
-    ensures regions { AreRegionsOf kernel.now search.new }
+    ensures fit { IsFitFor kernel.now search.new }
 {
     let _ = bounds;
     let yes = fits(kernel, search, target)?;
@@ -106,10 +108,10 @@ pub fn find_with(
 ) -> Result<Option<Target>, NoMemory>
     requires ready { IsReady kernel.now }
     requires bounds { AreModest bounds.now }
-    requires regions { AreRegionsOf kernel.now search.old }
+    requires fit { IsFitFor kernel.now search.old }
     ensures some { IfOk result (λ o. (t : TargetValue) → o ≡ Some t → Applies bounds.now kernel.now (target_of t) × (from ≤ place (target_of t))) }
     ensures none { IfOk result (λ o. o ≡ None → (t : TargetValue) → from ≤ place (target_of t) → Applies bounds.now kernel.now (target_of t) → ⊥) }
-    ensures regions { AreRegionsOf kernel.now search.new }
+    ensures fit { IsFitFor kernel.now search.new }
 {
     let _ = bounds;
     let found = find_from(kernel, search, from)?;

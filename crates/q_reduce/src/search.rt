@@ -1,25 +1,28 @@
 //! What searches lend each other.
-ghost use Rattle.std.specs.Prelude.{◌≡◌, ◌↔◌, [], true, Some, IfOk, IsTrue};
+ghost use Rattle.std.specs.Prelude.{◌≡◌, ◌↔◌, ◌⊎◌, ◌<◌, true, Some, IfOk, IsTrue};
 ghost use Rattle.q_logic.specs.Literals.{negation};
 ghost use Rattle.q_logic.specs.Formulas.{Clause, IsIn};
 ghost use Rattle.q_logic.specs.Prefixes.{is_universal};
 ghost use Rattle.q_logic.specs.Reach.{Reducible};
-ghost use Rattle.q_logic.specs.Numbered.{slot, others};
+ghost use Rattle.q_logic.specs.Measure.{size_of};
+ghost use Rattle.q_logic.specs.Numbered.{slot, live, others};
 ghost use Rattle.q_kernel.specs.Kernels.{slots};
-ghost use Rattle.q_reduce.specs.Regions.{AreRegionsOf};
+ghost use Rattle.q_reduce.specs.Hops.{no_rows, AreLoosened, IsTouched};
+ghost use Rattle.q_reduce.specs.Lent.{nothing_learned, IsFitFor};
 
 use crate::guide::Guide;
 use crate::maps::Maps;
 use crate::queue::Queue;
 use crate::reach::is_reducible;
+use crate::target::Target;
 use q_arena::ClauseId;
 use q_kernel::Kernel;
 use q_logic::{Lit, NoMemory};
 use std::alloc::Global;
 use std::marker::Model;
 
-/// What searches lend each other: room for walks, and regions, which have to be those of the kernel. They stay so
-/// while the targets of this crate are taken; where a kernel is changed in another way, the search has to forget them.
+/// What searches lend each other: room for walks, and regions and hops, which have to be those of the kernel. They stay
+/// so while the targets of this crate are taken; where a kernel is changed in another way, the search has to forget them.
 #[derive(Drop)]
 pub struct Search {
     queue: Queue,
@@ -28,17 +31,16 @@ pub struct Search {
 }
 
 impl Model for Search {
-    ghost use Rattle.std.specs.Prelude.{List};
-    ghost use Rattle.q_reduce.specs.Regions.{Known};
+    ghost use Rattle.q_reduce.specs.Lent.{Learned};
 
-    ghost Value = { List Known };
+    ghost Value = { Learned };
 
-    ghost view = { λ s. s.maps };
+    ghost view = { λ s. record { regions = s.maps; hops = s.guide } };
 }
 
 impl Search {
     pub fn new(alloc: Global) -> Search
-        ensures { result ≡ [] }
+        ensures { result ≡ nothing_learned }
     {
         Search {
             queue: Queue::new(alloc),
@@ -49,9 +51,28 @@ impl Search {
 
     /// Makes the search fit for any kernel.
     pub fn forget(&mut self)
-        ensures { self.new ≡ [] }
+        ensures { self.new ≡ nothing_learned }
     {
         self.maps.forget();
+        self.guide.forget();
+    }
+
+    /// Forgets the sure hops that would not stay right where a target is taken.
+    pub(crate) fn loosen(&mut self, kernel: &Kernel, target: &Target)
+        ensures regions { self.new.regions ≡ self.old.regions }
+        ensures hops { AreLoosened (IsTouched kernel.now.prefix (slots kernel.now) target.now) self.old.hops self.new.hops }
+    {
+        self.guide.loosen(kernel, target);
+    }
+
+    /// Forgets all hops where no literal is left.
+    pub(crate) fn settle(&mut self, kernel: &Kernel)
+        ensures regions { self.new.regions ≡ self.old.regions }
+        ensures hops { (self.new.hops ≡ no_rows) ⊎ ((1 < size_of (live (slots kernel.now))) × (self.new.hops ≡ self.old.hops)) }
+    {
+        if kernel.size() <= 1 {
+            self.guide.forget();
+        }
     }
 
     /// Whether a universal literal may leave its clause: by a walk, where nothing tells it before.
@@ -63,9 +84,9 @@ impl Search {
     ) -> Result<bool, NoMemory>
         requires live { (C : Clause) × (slot (slots kernel.now) c ≡ Some C) × IsIn lit C × (IsIn (negation lit) C → ⊥) }
         requires universal { is_universal kernel.now.prefix lit.var ≡ true }
-        requires regions { AreRegionsOf kernel.now self.old }
+        requires fit { IsFitFor kernel.now self.old }
         ensures yes { IfOk result (λ yes. (C : Clause) → slot (slots kernel.now) c ≡ Some C → IsTrue yes ↔ Reducible kernel.now.prefix (others c (slots kernel.now)) C lit) }
-        ensures regions { AreRegionsOf kernel.now self.new }
+        ensures fit { IsFitFor kernel.now self.new }
     {
         if kernel.count(lit.negated()) == 0 {
             return Ok(true);

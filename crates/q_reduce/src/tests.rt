@@ -2,8 +2,6 @@ ghost use Rattle.std.specs.Prelude.{IfOk};
 ghost use Rattle.q_kernel.specs.Taking.{IsReady};
 
 use crate::clauses::holds;
-use crate::guide::Guide;
-use crate::queue::Queue;
 use crate::reach::is_universal;
 use crate::regions::Regions;
 use crate::{Target, find, try_one};
@@ -216,25 +214,6 @@ fn found(alloc: Global, row: u8, from: u32) -> Result<Option<Target>, NoMemory> 
     find(alloc, &kernel, &BOUNDS, from)
 }
 
-// Whether hints lead to the negation of the universal literal of the chain's first clause, after some walks that looked at
-// three clauses each.
-fn told(alloc: Global, walks: u32) -> Result<bool, NoMemory> {
-    let kernel = kernel_of(alloc, 6)?;
-    let mut queue = Queue::new(alloc);
-    let mut guide = Guide::new(alloc);
-    let lit = yes(2);
-    if !kernel.live(0) || !kernel.prefix().contains(lit.var()) {
-        return Err(NoMemory);
-    }
-    for _ in 0..walks {
-        queue.clear();
-        queue.push(yes(1))?;
-        queue.push(yes(3))?;
-        guide.learn(&kernel, &mut queue, lit, 3)?;
-    }
-    Ok(guide.exit(&kernel, &mut queue, 0, lit)?.is_some())
-}
-
 // Whether regions tell that the universal literal of the first clause may go.
 fn apart(alloc: Global, row: u8) -> Result<bool, NoMemory> {
     let kernel = kernel_of(alloc, row)?;
@@ -255,14 +234,6 @@ fn apart(alloc: Global, row: u8) -> Result<bool, NoMemory> {
 fn regions_tell_parts_apart(rt: HostRuntime) -> Result<(), NoMemory> {
     for (row, want) in [(3, true), (4, false), (6, false), (7, true)] {
         assert_eq!(rt; apart(rt.alloc(), row)?, want, "{row}");
-    }
-    Ok(())
-}
-
-#[test]
-fn hints_come_with_walks(rt: HostRuntime) -> Result<(), NoMemory> {
-    for (walks, want) in [(0, false), (4, false), (5, true)] {
-        assert_eq!(rt; told(rt.alloc(), walks)?, want, "{walks}");
     }
     Ok(())
 }

@@ -1,5 +1,5 @@
 -- What a turn leaves of the kernel.
-use Rattle.std.proofs.Common.{◌≡◌, ℕ, List, sym, subst, Option}
+use Rattle.std.proofs.Common.{◌≡◌, ℕ, sym, subst, Option}
 use Rattle.q_logic.specs.declared.rule_bounds.Bounds.{Bounds}
 use Rattle.q_logic.specs.Formulas.{PrenexFormula}
 use Rattle.q_logic.specs.Sweep.{IsSwept}
@@ -8,7 +8,8 @@ use Rattle.q_logic.specs.InLimits.{IsInLimits}
 use Rattle.q_logic.specs.Targets.{Target}
 use Rattle.q_kernel.specs.Kernels.{Seen, slots, formula_in}
 use Rattle.q_kernel.specs.Taking.{IsReady, IsTaken}
-use Rattle.q_reduce.specs.Regions.{Known, AreRegions, AreRegionsOf}
+use Rattle.q_reduce.specs.Lent.{Learned, IsFitFor}
+use Rattle.q_reduce.proofs.Lending.{fit-same}
 use Rattle.q_simplify.specs.declared.turn.Turn.{Turn}
 use Rattle.q_simplify.specs.declared.turn.Turn.TheVariants.{Moved, Settled, Spent}
 use Rattle.q_simplify.specs.Turns.{Turns}
@@ -36,5 +37,5 @@ ready-same j k e r =
 pub ready-flushed : (j k : Seen) → k.prefix ≡ j.prefix → slots k ≡ slots j → IsReady j → IsReady k
 ready-flushed j k p s r = ready-same j k (same-formula j k p s) r
 
-pub regions-flushed : (j k : Seen) (Rs : List Known) → k.prefix ≡ j.prefix → slots k ≡ slots j → AreRegionsOf j Rs → AreRegionsOf k Rs
-regions-flushed j k Rs p s h R m = subst (λ (F : PrenexFormula). AreRegions F.prefix F.matrix R) (sym (same-formula j k p s)) (h R m)
+pub fit-flushed : (j k : Seen) (s : Learned) → k.prefix ≡ j.prefix → slots k ≡ slots j → IsFitFor j s → IsFitFor k s
+fit-flushed j k s p e h = fit-same j k s (same-formula j k p e) h

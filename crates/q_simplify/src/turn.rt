@@ -5,7 +5,7 @@ ghost use Rattle.q_kernel.specs.Kernels.{SameView};
 ghost use Rattle.q_kernel.specs.Taking.{AreModest, IsReady, Applies};
 ghost use Rattle.q_reduce.specs.declared.target.Target.{Target as TargetValue};
 ghost use Rattle.q_reduce.specs.Targets.{target_of};
-ghost use Rattle.q_reduce.specs.Regions.{AreRegionsOf};
+ghost use Rattle.q_reduce.specs.Lent.{IsFitFor};
 ghost use Rattle.q_simplify.specs.Turns.{IsDone, IsSpent, Turns};
 
 use crate::agenda::Agenda;
@@ -55,9 +55,9 @@ fn noted_target(
 ) -> Result<Option<Target>, NoMemory>
     requires ready { IsReady kernel.now }
     requires bounds { AreModest bounds.now }
-    requires regions { AreRegionsOf kernel.now search.old }
+    requires fit { IsFitFor kernel.now search.old }
     ensures some { IfOk result (λ o. (t : TargetValue) → o ≡ Some t → Applies bounds.now kernel.now (target_of t)) }
-    ensures regions { AreRegionsOf kernel.now search.new }
+    ensures fit { IsFitFor kernel.now search.new }
 {
     for _ in 0..agenda.len() {
         let Some(target) = agenda.pop() else {
@@ -80,10 +80,10 @@ fn next_target(
 ) -> Result<Option<Target>, NoMemory>
     requires ready { IsReady kernel.now }
     requires bounds { AreModest bounds.now }
-    requires regions { AreRegionsOf kernel.now search.old }
+    requires fit { IsFitFor kernel.now search.old }
     ensures some { IfOk result (λ o. (t : TargetValue) → o ≡ Some t → Applies bounds.now kernel.now (target_of t)) }
     ensures none { IfOk result (λ o. o ≡ None → IsDone bounds.now kernel.now) }
-    ensures regions { AreRegionsOf kernel.now search.new }
+    ensures fit { IsFitFor kernel.now search.new }
 {
     if let Some(target) = noted_target(kernel, search, agenda, bounds)? {
         return Ok(Some(target));
@@ -111,10 +111,10 @@ pub(crate) fn take_turn(
 ) -> Result<Turn, NoMemory>
     requires ready { IsReady kernel.old }
     requires bounds { AreModest options.now.bounds }
-    requires regions { AreRegionsOf kernel.old search.old }
+    requires fit { IsFitFor kernel.old search.old }
     ensures turns { IfOk result (λ t. Turns t options.now.bounds options.now.budget first kernel.old kernel.new) }
     ensures err { OnErr result (SameView kernel.old kernel.new) }
-    ensures regions { AreRegionsOf kernel.new search.new }
+    ensures fit { IsFitFor kernel.new search.new }
 {
     let bounds = options.bounds;
     let spent = is_spent(options.budget, first, kernel.measure(&bounds));

@@ -26,7 +26,7 @@ loop-l-preserved c = record {
         let g = subst (λ (x : Literal). Fits B s.prefix (slots s) (theory.cut c.args.c x)) e f in
         true≢false (sym ((c.in_ok-fits.ensures.fits B).1 g) ∙ c.if-branch.false)
   ];
-  regions = c.fits.ensures.regions;
+  fit = c.fits.ensures.fit;
 }
 
 same : (C D : Clause) → Some C ≡ Some D → C ≡ D

@@ -5,7 +5,7 @@ use Rattle.q_reduce.proofs.Passing.{IsPassed, passed-begun, passed-more, passed-
 use Rattle.q_reduce.proofs.finding.find_from.Goals as goal
 
 pub loop-place-init : goal.loop-place-init
-loop-place-init c = record { passed = passed-begun c.args.kernel.now c.args.from; regions = c.requires }
+loop-place-init c = record { passed = passed-begun c.args.kernel.now c.args.from; fit = c.requires }
 
 pub returns-then-is_some-clause-found : goal.returns-then-is_some-clause-found
 returns-then-is_some-clause-found c = passed-found c.args.kernel.now c.args.from c.loop-place.at c.in-Some.place c.in_ok-found.found (c.in-Some.ensures.some c.in-Some.place refl) (sym c.is_some.ensures ∙ c.if-is_some.true) c.in_ok-found.ensures.found c.loop-place.invariant.passed
@@ -18,5 +18,5 @@ loop-place-preserved c =
     record {
       passed = subst (λ (n : ℕ). IsPassed c.args.kernel.now c.args.from n) (sym next)
           (passed-more c.args.kernel.now c.args.from c.loop-place.at c.in-Some.place (c.in-Some.ensures.some c.in-Some.place refl) (c.in-Some.ensures.between c.in-Some.place refl) h c.loop-place.invariant.passed);
-      regions = c.find_at.ensures.regions;
+      fit = c.find_at.ensures.fit;
     }

@@ -5,7 +5,6 @@ use Rattle.q_logic.specs.Numbered.{others}
 use Rattle.q_kernel.specs.Kernels.{slots}
 use Rattle.q_reduce.specs.Walks.{IsWidened}
 use Rattle.q_reduce.proofs.Reaching.{place-member, walk-begun, walk-more, walk-refuted, walk-ended}
-use Rattle.q_reduce.proofs.Quantifiers.{bound-universal}
 use Rattle.q_reduce.proofs.reach.is_reducible.Goals as goal
 
 same : (C D : Clause) → Some C ≡ Some D → C ≡ D
@@ -46,5 +45,8 @@ returns-then-leads_out c C e =
     let met = w.linked c.at-next.result (place-member c.loop-head.queue c.loop-head.head c.at-next.result c.at-next.ensures) in
     ((λ t. absurd (true≢false (sym t))), (λ r. absurd (c.leads_out.ensures c.if-leads_out.true C met r)))
 
-pub exit-requires : goal.exit-requires
-exit-requires c = bound-universal c.args.kernel.now.prefix c.args.lit.var c.requires.universal
+pub exit-requires-clause-universal : goal.exit-requires-clause-universal
+exit-requires-clause-universal c = (c.requires.live.0, c.requires.live.1, c.requires.live.2, c.requires.universal)
+
+pub leads_out-requires-clause-universal : goal.leads_out-requires-clause-universal
+leads_out-requires-clause-universal c = (c.requires.live.0, c.requires.live.1, c.requires.live.2, c.requires.universal)

@@ -2,7 +2,7 @@ use Rattle.std.proofs.Common.{subst, sym, arith}
 use Rattle.q_kernel.specs.Kernels.{Seen}
 use Rattle.q_simplify.specs.Logs.{HasLog}
 use Rattle.q_simplify.proofs.Logging.{has_log-led, has_log-left}
-use Rattle.q_simplify.proofs.Driving.{moved-taken, settled-same, spent-same, ready-flushed, regions-flushed}
+use Rattle.q_simplify.proofs.Driving.{moved-taken, settled-same, spent-same, ready-flushed, fit-flushed}
 use Rattle.q_simplify.proofs.work.drive.Goals as goal
 
 pub returns-in-Err-flush-clause-log_left : goal.returns-in-Err-flush-clause-log_left
@@ -15,7 +15,7 @@ loop-files-preserved g c =
     let taken = moved-taken c.in-Ok-Moved.field-0 c.args.options.now.bounds c.args.options.now.budget c.args.first c.loop-files.kernel c.take_turn.new.kernel c.in-Ok-Moved.field-0-is c.in-Ok-Moved.ensures.turns in
     record {
       ready = ready-flushed c.take_turn.new.kernel c.flush.new.kernel c.flush.ensures.prefix c.flush.ensures.clauses taken.1.ready;
-      regions = regions-flushed c.take_turn.new.kernel c.flush.new.kernel c.take_turn.new.search c.flush.ensures.prefix c.flush.ensures.clauses c.take_turn.ensures.regions;
+      fit = fit-flushed c.take_turn.new.kernel c.flush.new.kernel c.take_turn.new.search c.flush.ensures.prefix c.flush.ensures.clauses c.take_turn.ensures.fit;
       log = λ G before h. c.in_default.ensures.log G before (has_log-led G c.args.log.now before c.loop-files.kernel c.take_turn.new.kernel (g.F.Files.held c.loop-files.files) (c.loop-files.invariant.log G before h) taken.1.led);
       read_later = λ q. omega (arith, c.loop-files.invariant.read_later q, c.flush.ensures.read_later q);
       write_later = λ q. omega (arith, c.loop-files.invariant.write_later q, c.flush.ensures.write_later q);

@@ -4,7 +4,7 @@ use Rattle.q_logic.specs.Measure.{measure_of}
 use Rattle.q_io.specs.Files.{Disk}
 use Rattle.q_kernel.specs.Kernels.{formula_in}
 use Rattle.q_kernel.specs.Taking.{IsReady}
-use Rattle.q_reduce.specs.Regions.{AreRegionsOf}
+use Rattle.q_reduce.specs.Lent.{IsFitFor}
 use Rattle.q_simplify.specs.Logs.{HasLog}
 use Rattle.q_simplify.proofs.work.drive.Given as goal
 
@@ -12,7 +12,7 @@ abbrev pub invariant-loop-files : goal.invariant-loop-files
 invariant-loop-files g l =
     record {
       ready : IsReady l.kernel;
-      regions : AreRegionsOf l.kernel l.search;
+      fit : IsFitFor l.kernel l.search;
       log : (G : PrenexFormula) → (before : Disk) → HasLog G l.log before l.fn.kernel (g.F.Files.held l.fn.files) → HasLog G l.log before l.kernel (g.F.Files.held l.files);
       read_later : (q : List ℕ) → g.F.Files.read_faults l.fn.files q ≤ g.F.Files.read_faults l.files q;
       write_later : (q : List ℕ) → g.F.Files.write_faults l.fn.files q ≤ g.F.Files.write_faults l.files q;

@@ -1,30 +1,37 @@
-use Rattle.std.proofs.Common.{◌≡◌, Some, sym, subst}
+use Rattle.std.proofs.Common.{◌≡◌, Some, subst}
 use Rattle.q_logic.specs.Literals.{Literal}
 use Rattle.q_logic.specs.Numbered.{others}
 use Rattle.q_kernel.specs.Kernels.{slots}
-use Rattle.q_reduce.specs.Hops.{IsMet}
+use Rattle.q_reduce.specs.Hops.{IsExit}
 use Rattle.q_reduce.proofs.Reaching.{place-member}
-use Rattle.q_reduce.proofs.Hopping.{exits-begun, exits-more}
+use Rattle.q_reduce.proofs.Hopping.{exits-begun, exits-more, exit-back}
 use Rattle.q_reduce.proofs.guide.Guide.exit.Goals as goal
-
-pub loop-head-init : goal.loop-head-init
-loop-head-init c =
-    let k = c.args.kernel.now in
-    let g = rw c.clear.ensures at c.in_ok-gather.ensures in
-    exits-begun k.prefix (others c.args.c (slots k)) c.args.u c.gather.new.queue (rw c.negated.ensures at g)
 
 same : (j k : Literal) → Some j ≡ Some k → j ≡ k
 same j k e = cc
 
-pub returns-then-descends : goal.returns-then-descends
-returns-then-descends c r e C m =
+pub returns-then-branch : goal.returns-then-branch
+returns-then-branch c r e =
     let k = c.args.kernel.now in
-    let met = subst (λ (x : Literal). IsMet k.prefix (others c.args.c (slots k)) C c.args.u x) (sym (same c.in-Some.root r e)) m in
-    let back = rw c.negated-back.ensures at c.descends.ensures c.if-descends.true C met in
-    (c.loop-head.invariant c.at.result (place-member c.loop-head.queue c.loop-head.head c.at.result c.at.ensures)).1 C back
+    let g = rw c.clear.ensures at c.in_ok-probe.ensures.grown in
+    let exits = exits-begun k.prefix (others c.args.c (slots k)) c.args.u c.probe.new.queue (rw c.negated.ensures at g) in
+    subst (λ (x : Literal). IsExit k.prefix (others c.args.c (slots k)) c.args.u x) (same c.in-Some.root r e) (exit-back k.prefix (others c.args.c (slots k)) c.args.u c.in-Some.root c.probe.new.queue exits (c.in_ok-probe.ensures.back c.if-branch.true))
+
+pub loop-head-init : goal.loop-head-init
+loop-head-init c =
+    let k = c.args.kernel.now in
+    let g = rw c.clear.ensures at c.in_ok-probe.ensures.grown in
+    exits-begun k.prefix (others c.args.c (slots k)) c.args.u c.probe.new.queue (rw c.negated.ensures at g)
+
+pub returns-then-branch-2 : goal.returns-then-branch-2
+returns-then-branch-2 c r e =
+    let k = c.args.kernel.now in
+    let exits = exits-more k.prefix (others c.args.c (slots k)) c.args.u c.at.result c.loop-head.queue c.probe-in-loop-head.new.queue
+    (place-member c.loop-head.queue c.loop-head.head c.at.result c.at.ensures) c.loop-head.invariant (rw c.negated-back.ensures at c.in_ok-probe-2.ensures.grown) in
+    subst (λ (x : Literal). IsExit k.prefix (others c.args.c (slots k)) c.args.u x) (same c.in-Some.root r e) (exit-back k.prefix (others c.args.c (slots k)) c.args.u c.in-Some.root c.probe-in-loop-head.new.queue exits (c.in_ok-probe-2.ensures.back c.if-branch-2.true))
 
 pub loop-head-preserved : goal.loop-head-preserved
 loop-head-preserved c =
     let k = c.args.kernel.now in
-    exits-more k.prefix (others c.args.c (slots k)) c.args.u c.at.result c.loop-head.queue c.gather-in-loop-head.new.queue
-    (place-member c.loop-head.queue c.loop-head.head c.at.result c.at.ensures) c.loop-head.invariant (rw c.negated-back.ensures at c.in_ok-gather-2.ensures)
+    exits-more k.prefix (others c.args.c (slots k)) c.args.u c.at.result c.loop-head.queue c.probe-in-loop-head.new.queue
+    (place-member c.loop-head.queue c.loop-head.head c.at.result c.at.ensures) c.loop-head.invariant (rw c.negated-back.ensures at c.in_ok-probe-2.ensures.grown)

@@ -1,4 +1,4 @@
-use Rattle.std.proofs.Common.{◌≡◌, ◌∙◌, Some, sym, refl, subst, true≢false}
+use Rattle.std.proofs.Common.{◌≡◌, ◌∙◌, Some, sym, refl, subst}
 use Rattle.q_logic.specs.Formulas.{Clause, IsIn}
 use Rattle.q_kernel.specs.Kernels.{slots}
 use Rattle.q_reduce.proofs.Quantifiers.{bound-universal}

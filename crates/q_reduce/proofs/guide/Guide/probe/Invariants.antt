@@ -5,7 +5,7 @@ use Rattle.q_arena.specs.Rings.{Has}
 use Rattle.q_occ.specs.Places.{places_of}
 use Rattle.q_kernel.specs.Kernels.{slots}
 use Rattle.q_reduce.specs.Walks.{IsGrown}
-use Rattle.q_reduce.proofs.guide.gather.Given as goal
+use Rattle.q_reduce.proofs.guide.Guide.probe.Given as goal
 
 abbrev pub invariant-loop : goal.invariant-loop
 invariant-loop l = record {

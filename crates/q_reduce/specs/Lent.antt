@@ -1,0 +1,17 @@
+-- What a search has learned of a formula, and lends to the next one.
+use Rattle.std.specs.Prelude.{[], List}
+use Rattle.q_kernel.specs.Kernels.{Seen}
+use Rattle.q_reduce.specs.Regions.{Known, AreRegionsOf}
+use Rattle.q_reduce.specs.Hops.{Rows, no_rows, AreHopsOf}
+
+pub record Learned : Type 0 where
+  pub regions : List Known
+  pub hops : Rows
+
+abbrev pub nothing_learned : Learned
+nothing_learned = record { regions = []; hops = no_rows }
+
+-- all of it is right for the formula of a kernel
+pub record IsFitFor (k : Seen) (s : Learned) : Type 0 where
+  pub regions : AreRegionsOf k s.regions
+  pub hops : AreHopsOf k s.hops

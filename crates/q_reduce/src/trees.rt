@@ -1,0 +1,112 @@
+//! The hops of two walks, and how they stay right while targets are taken.
+ghost use Rattle.std.specs.Prelude.{◌≡◌, [], ◌∷◌, Some};
+ghost use Rattle.q_logic.specs.Formulas.{IsIn};
+ghost use Rattle.q_logic.specs.Numbered.{slot, live};
+ghost use Rattle.q_kernel.specs.Kernels.{slots};
+ghost use Rattle.q_reduce.specs.Hops.{no_rows, AreHopsOf, AreLoosened, IsAssigned, IsTouched};
+
+use crate::applying::unit_literal;
+use crate::queue::Queue;
+use crate::target::Target;
+use crate::tree::Tree;
+use q_arena::ClauseId;
+use q_kernel::Kernel;
+use q_logic::{Lit, NoMemory};
+use std::alloc::Global;
+use std::marker::Model;
+
+/// The hops of two walks, from a root and from its negation. Those of the second, read backwards, lead to the root.
+#[derive(Drop)]
+pub struct Trees {
+    pub onward: Tree,
+    pub toward: Tree,
+}
+
+impl Model for Trees {
+    ghost use Rattle.q_reduce.specs.Hops.{Rows};
+
+    ghost Value = { Rows };
+
+    ghost view = { λ t. record { onward = t.onward; toward = t.toward } };
+}
+
+impl Trees {
+    pub(crate) fn new(alloc: Global) -> Trees
+        ensures { result ≡ no_rows }
+    {
+        Trees {
+            onward: Tree::new(alloc),
+            toward: Tree::new(alloc),
+        }
+    }
+
+    pub(crate) fn forget(&mut self)
+        ensures { self.new ≡ no_rows }
+    {
+        self.onward.forget();
+        self.toward.forget();
+    }
+
+    /// Makes both walks anew. The queue may hold anything before and after.
+    pub(crate) fn grow(
+        &mut self,
+        kernel: &Kernel,
+        queue: &mut Queue,
+        root: Lit,
+        universals: &[Lit],
+    ) -> Result<(), NoMemory>
+        requires { AreHopsOf kernel.now self.old }
+        ensures { AreHopsOf kernel.now self.new }
+    {
+        self.onward.grow(kernel, queue, root, universals)?;
+        self.toward.grow(kernel, queue, root.negated(), universals)
+    }
+
+    /// Forgets the sure hops by clauses that a target touches. It costs what these clauses are.
+    pub(crate) fn loosen(&mut self, kernel: &Kernel, target: &Target)
+        ensures { AreLoosened (IsTouched kernel.now.prefix (slots kernel.now) target.now) self.old self.new }
+    {
+        match *target {
+            Target::Tautology { c } => self.loosen_clause(kernel, c),
+            Target::Unit { c } => self.loosen_unit(kernel, c),
+            Target::Cut { c, .. } => self.loosen_clause(kernel, c),
+            Target::Pure { l } => self.loosen_list(kernel, l),
+        }
+    }
+
+    fn loosen_clause(&mut self, kernel: &Kernel, c: ClauseId)
+        ensures { AreLoosened (λ D. slot (slots kernel.now) c ≡ Some D) self.old self.new }
+    {
+        if kernel.live(c) {
+            self.loosen_lits(kernel.lits(c));
+        }
+    }
+
+    fn loosen_unit(&mut self, kernel: &Kernel, c: ClauseId)
+        ensures { AreLoosened (IsAssigned kernel.now.prefix (slots kernel.now) c) self.old self.new }
+    {
+        if let Some(l) = unit_literal(kernel, c) {
+            self.loosen_list(kernel, l);
+            self.loosen_list(kernel, l.negated());
+        }
+    }
+
+    // Forgets the sure hops by clauses that hold a literal.
+    fn loosen_list(&mut self, kernel: &Kernel, lit: Lit)
+        ensures { AreLoosened (λ D. IsIn D (live (slots kernel.now)) × IsIn lit D) self.old self.new }
+    {
+        kernel.sound();
+        let mut at = kernel.first(lit);
+        while let Some(place) = at {
+            self.loosen_lits(kernel.lits(kernel.owner(place)));
+            at = kernel.next(place);
+        }
+    }
+
+    fn loosen_lits(&mut self, clause: &[Lit])
+        ensures { AreLoosened (λ D. D ≡ clause.now) self.old self.new }
+    {
+        self.onward.loosen(clause);
+        self.toward.loosen(clause);
+    }
+}
