@@ -1,7 +1,7 @@
 #!/usr/bin/env bash
-# Times `simplify` on four families of formulas: random clauses of three literals, a chain of unit clauses in order
-# and in mixed order, and universal literals that are cut in one connected component. The time should grow no
-# worse than n log n. Usage: bench/simplify.sh [random|units|mixed|cuts ..]
+# Times `simplify`, and `check` over what it wrote, on four families of formulas: random clauses of three literals, a
+# chain of unit clauses in order and in mixed order, and universal literals that are cut in one connected component.
+# The time should grow no worse than n log n. Usage: bench/simplify.sh [random|units|mixed|cuts ..]
 set -eu
 cd "$(dirname "$0")/.."
 work=$(mktemp -d)
@@ -56,6 +56,7 @@ measured() {
     /usr/bin/time -f "$1 $2: %e s, %M KiB" ./celdrinn simplify "$work/in" "$work/out" "$work/log" || true
     head -n 1 "$work/out"
     wc -lc <"$work/log" | awk '{ print "log: " $1 " steps, " $2 " bytes" }'
+    /usr/bin/time -f "check: %e s, %M KiB" ./celdrinn check "$work/in" "$work/out" "$work/log"
 }
 
 for family in "${@:-random units mixed cuts}"; do
