@@ -145,7 +145,7 @@ impl Propagator {
     }
 
     /// The literal of a slot's clause that alone is not false, where the root is found.
-    pub fn left_in(&self, at: usize) -> Option<Lit> {
+    pub(crate) fn left_in(&self, at: usize) -> Option<Lit> {
         if is_settled(
             &self.trail,
             self.head,

@@ -153,7 +153,7 @@ pub fn stands(clauses: &Clauses, skip: Option<usize>, trail: &Trail, role: Role)
 }
 
 // The literal of a slot's clause that alone is not false.
-pub fn left_in(clauses: &Clauses, at: usize, trail: &Trail) -> Option<Lit> {
+pub(crate) fn left_in(clauses: &Clauses, at: usize, trail: &Trail) -> Option<Lit> {
     let clause = clauses.get(at)?;
     let lit = find_first(clause, trail)?;
     match find_open(clause, lit, trail) {
