@@ -13,7 +13,7 @@ use Rattle.q_logic.specs.Rules.{Fits, change, assigned, head_of, shortened}
 use Rattle.q_logic.proofs.Slots.{others-slot, without-same}
 use Rattle.q_logic.proofs.ExpandRun.{has_none}
 use Rattle.q_logic.proofs.Implying.{negation-negation}
-use Rattle.q_logic.proofs.Measuring.{size-alike}
+use Rattle.q_logic.proofs.Measuring.{size-alike, occurs_var-IsIn}
 use Rattle.q_logic.proofs.Reaching.{IsIn-alike}
 use Rattle.q_logic.proofs.Searching.{hit-reached}
 use Rattle.q_arena.specs.Rings.{Has}
@@ -23,63 +23,76 @@ use Rattle.q_kernel.specs.Taking.{IsTaken}
 use Rattle.q_kernel.proofs.Slotting.{IsIn-slot}
 use Rattle.q_kernel.proofs.Following.{Has-last}
 use Rattle.q_reduce.specs.declared.hop.Hop.{Hop}
-use Rattle.q_reduce.specs.declared.hop.Hop.TheVariants.{Nothing, Sure}
+use Rattle.q_reduce.specs.declared.hop.Hop.TheVariants.{Nothing, Core, Sure, Hint}
 use Rattle.q_reduce.specs.declared.target.Target.{Target}
 use Rattle.q_reduce.specs.declared.target.Target.TheVariants.{Tautology, Unit, Cut, Pure}
 use Rattle.q_reduce.specs.Targets.{target_of}
-use Rattle.q_reduce.specs.Hops.{Joins, IsMet, HoldsUniversal, hop_at, IsBridge, AreSure, IsLoosened, Rows, no_rows, AreHopsOf, AreLoosened, IsAssigned, IsTouched}
+use Rattle.q_reduce.specs.Hops.{Joins, IsMet, HoldsUniversal, GoesTo, Tells, hop_at, IsBridge, AreSure, IsLoosened, Rows, no_rows, AreHopsOf, AreLoosened, IsAssigned, IsTouched}
 use Rattle.q_reduce.proofs.Marking.{pack-apart}
 use Rattle.q_reduce.proofs.Members.{taken-cases, taken-all}
-use Rattle.q_reduce.proofs.Outer.{occurring-universal}
+use Rattle.q_reduce.proofs.Outer.{occurring-universal, occurring-stays}
 use Rattle.q_reduce.proofs.Quantifiers.{bound-universal}
 
 -- Rows of hops.
-nothing-sure : (j b : Literal) → Nothing ≡ Sure j b → ⊥
-nothing-sure j b e = cc
-
 blank : (n i : ℕ) → get_or (replicate n Nothing) i Nothing ≡ Nothing
 blank zero i = refl
 blank (suc n) zero = refl
 blank (suc n) (suc i) = blank n i
 
-set-cases : (row : List Hop) (i n : ℕ) (h : Hop) (j b : Literal) → get_or (set row i h) n Nothing ≡ Sure j b → ((n ≡ i) × (h ≡ Sure j b)) ⊎ ((n ≢ i) × (get_or row n Nothing ≡ Sure j b))
-set-cases [] i n h j b e = absurd (nothing-sure j b e)
-set-cases (x ∷ row) zero zero h j b e = inl (refl, e)
-set-cases (x ∷ row) zero (suc n) h j b e = inr ((λ q. omega arith), e)
-set-cases (x ∷ row) (suc i) zero h j b e = inr ((λ q. omega arith), e)
-set-cases (x ∷ row) (suc i) (suc n) h j b e = elim (set-cases row i n h j b e) [
+set-cases : (row : List Hop) (i n : ℕ) (h : Hop) (j : Literal) → GoesTo (get_or (set row i h) n Nothing) j → ((n ≡ i) × (get_or (set row i h) n Nothing ≡ h)) ⊎ ((n ≢ i) × (get_or (set row i h) n Nothing ≡ get_or row n Nothing))
+set-cases [] i n h j g = absurd g
+set-cases (x ∷ row) zero zero h j g = inl (refl, refl)
+set-cases (x ∷ row) zero (suc n) h j g = inr ((λ q. omega arith), refl)
+set-cases (x ∷ row) (suc i) zero h j g = inr ((λ q. omega arith), refl)
+set-cases (x ∷ row) (suc i) (suc n) h j g = elim (set-cases row i n h j g) [
   | inl a ↦ inl (ap suc a.0, a.1)
   | inr a ↦ inr ((λ q. a.0 (omega arith)), a.1)
 ]
 
+along : (g h : Hop) (j : Literal) → g ≡ h → GoesTo g j → GoesTo h j
+along g h j e m = subst (λ (x : Hop). GoesTo x j) e m
+
 module _ (P : Prefix) (X : Matrix) where
+  -- a hop from k to j has its clause
+  abbrev pub Spans : Literal → Literal → Hop → Type 0
+  Spans k j h = (E : Clause) × IsIn E X × IsBridge P k j h E
+
   pub sure-none : AreSure P X []
-  sure-none k j b e = absurd (nothing-sure j b e)
+  sure-none k j g = absurd g
 
   pub sure-blank : (n : ℕ) → AreSure P X (replicate n Nothing)
-  sure-blank n k j b e = absurd (nothing-sure j b (sym (blank n (pack k)) ∙ e))
+  sure-blank n k j g = absurd (along (hop_at (replicate n Nothing) k) Nothing j (blank n (pack k)) g)
 
-  pub sure-set : (row : List Hop) (k : Literal) (h : Hop) → ((j b : Literal) → h ≡ Sure j b → (E : Clause) × IsIn E X × IsBridge P k j b E) → AreSure P X row → AreSure P X (set row (pack k) h)
-  sure-set row k h f all i j b e = elim (set-cases row (pack k) (pack i) h j b e) [
-    | inl a ↦ subst (λ (x : Literal). (E : Clause) × IsIn E X × IsBridge P x j b E) (sym (pack-apart i k a.0)) (f j b a.1)
-    | inr a ↦ all i j b a.1
+  pub sure-set : (row : List Hop) (k : Literal) (h : Hop) → ((j : Literal) → GoesTo h j → Spans k j h) → AreSure P X row → AreSure P X (set row (pack k) h)
+  sure-set row k h f all i j g = elim (set-cases row (pack k) (pack i) h j g) [
+    | inl a ↦ subst (λ (x : Literal). Spans x j (hop_at (set row (pack k) h) i)) (sym (pack-apart i k a.0))
+        (subst (λ (y : Hop). Spans k j y) (sym a.1) (f j (along (hop_at (set row (pack k) h) i) h j a.1 g)))
+    | inr a ↦ subst (λ (y : Hop). Spans i j y) (sym a.1) (all i j (along (hop_at (set row (pack k) h) i) (hop_at row i) j a.1 g))
   ]
+
+  -- the clause of a hop that is known
+  pub sure-span : (row : List Hop) (k j : Literal) (h : Hop) → AreSure P X row → hop_at row k ≡ h → GoesTo h j → Spans k j h
+  sure-span row k j h all e g = subst (λ (y : Hop). Spans k j y) e (all k j (along h (hop_at row k) j (sym e) g))
 
 -- A bridge serves where it is not the clause of the question.
 one : (C D : Clause) → Some C ≡ Some D → C ≡ D
 one C D e = cc
 
-pub sure-joins : (P : Prefix) (N : Slots) (c : ℕ) (u k j b : Literal) → HoldsUniversal P N c u → (b ≡ u → ⊥) → (E : Clause) × IsIn E (live N) × IsBridge P k j b E → Joins (others c N) u k j
-sure-joins P N c u k j b q n h =
-    let E = h.0 in
-    let lacks : IsIn u E → ⊥ = λ x. n (sym (h.2.lone u x q.3)) in
-    let d = IsIn-slot N E h.1 in (
+pub bridge-joins : (P : Prefix) (N : Slots) (c : ℕ) (u k j : Literal) (E : Clause) → HoldsUniversal P N c u → IsIn E (live N) → (IsIn u E → ⊥) → IsIn k E → IsIn j E → Joins (others c N) u k j
+bridge-joins P N c u k j E q m lacks a b =
+    let d = IsIn-slot N E m in (
       E,
       others-slot N d.0 c E (λ e. lacks (subst (λ (x : Clause). IsIn u x) (one q.0 E (sym q.1 ∙ (ap (slot N) (sym e) ∙ d.1))) q.2)) d.1,
       lacks,
-      h.2.one,
-      h.2.other,
+      a,
+      b,
     )
+
+pub sure-joins : (P : Prefix) (N : Slots) (c : ℕ) (u k j b : Literal) → HoldsUniversal P N c u → (b ≡ u → ⊥) → Spans P (live N) k j (Sure j b) → Joins (others c N) u k j
+sure-joins P N c u k j b q n h = bridge-joins P N c u k j h.0 q h.1 (λ x. n (sym (h.2.told u x q.3))) h.2.one h.2.other
+
+pub core-joins : (P : Prefix) (N : Slots) (c : ℕ) (u k j : Literal) (w : ℕ) → HoldsUniversal P N c u → Spans P (live N) k j (Core j w) → Joins (others c N) u k j
+core-joins P N c u k j w q h = bridge-joins P N c u k j h.0 q h.1 (λ x. h.2.told.0 u x q.3) h.2.one h.2.other
 
 pub asked-bound : (P : Prefix) (N : Slots) (c : ℕ) (u : Literal) → HoldsUniversal P N c u → is_bound P u.var ≡ true
 asked-bound P N c u q = bound-universal P u.var q.3
@@ -93,50 +106,52 @@ module _ (P : Prefix) (X : Matrix) (u : Literal) (C : Clause) where
 
 -- Rows that lose hops.
 pub loosened-sure : (P : Prefix) (X : Matrix) (T : Clause → Type 0) (old new : List Hop) → IsLoosened T old new → AreSure P X old → AreSure P X new
-loosened-sure P X T old new h all k j b e = all k j b (h.less k j b e)
+loosened-sure P X T old new h all k j g =
+    let e = h.less k j g in
+    subst (λ (y : Hop). Spans P X k j y) (sym e) (all k j (along (hop_at new k) (hop_at old k) j e g))
 
 pub loosened-same : (T : Clause → Type 0) (row : List Hop) → ((D : Clause) → T D → length D ≤ 16 → ⊥) → IsLoosened T row row
-loosened-same T row none = record { less = λ k j b e. e; free = λ D t s k j b e m n. none D t s }
+loosened-same T row none = record { less = λ k j g. refl; free = λ D t s k j g m n. none D t s }
 
 pub loosened-wider : (T U : Clause → Type 0) (old new : List Hop) → ((D : Clause) → U D → T D) → IsLoosened T old new → IsLoosened U old new
-loosened-wider T U old new f h = record { less = h.less; free = λ D t s k j b e m n. h.free D (f D t) s k j b e m n }
+loosened-wider T U old new f h = record { less = h.less; free = λ D t s k j g m n. h.free D (f D t) s k j g m n }
 
 pub loosened-through : (T S U : Clause → Type 0) (old mid new : List Hop) → ((D : Clause) → U D → T D ⊎ S D) → IsLoosened T old mid → IsLoosened S mid new → IsLoosened U old new
 loosened-through T S U old mid new f g h = record {
-  less = λ k j b e. g.less k j b (h.less k j b e);
-  free = λ D t s k j b e m n. elim (f D t) [ inl a ↦ g.free D a s k j b (h.less k j b e) m n | inr a ↦ h.free D a s k j b e m n ];
+  less = λ k j x. let e = h.less k j x in e ∙ g.less k j (along (hop_at new k) (hop_at mid k) j e x);
+  free = λ D t s k j x m n. elim (f D t) [ inl a ↦ g.free D a s k j (along (hop_at new k) (hop_at mid k) j (h.less k j x) x) m n | inr a ↦ h.free D a s k j x m n ];
 }
 
 -- a clause, literal by literal
 pub record IsLoosening (C : Clause) (i : ℕ) (old now : List Hop) : Type 0 where
-  pub less : (k j b : Literal) → hop_at now k ≡ Sure j b → hop_at old k ≡ Sure j b
-  pub free : (k j b : Literal) → IsIn k (take i C) → hop_at now k ≡ Sure j b → IsIn j C → ⊥
+  pub less : (k j : Literal) → GoesTo (hop_at now k) j → hop_at now k ≡ hop_at old k
+  pub free : (k j : Literal) → IsIn k (take i C) → GoesTo (hop_at now k) j → IsIn j C → ⊥
 
 pub loosening-gone : (C : Clause) (i : ℕ) (l : Literal) (old now : List Hop) → i < length C → l ≡ get_or C i l → IsLoosening C i old now → IsLoosening C (i + 1) old (set now (pack l) Nothing)
 loosening-gone C i l old now h is g = record {
-  less = λ k j b e. g.less k j b (left k j b e).1;
-  free = λ k j b m e n. elim (taken-cases C i l k h is m) [
-    | inl a ↦ g.free k j b a (left k j b e).1 n
-    | inr a ↦ (left k j b e).0 (ap pack a)
+  less = λ k j x. let r = left k j x in r.1 ∙ g.less k j (along (hop_at (set now (pack l) Nothing) k) (hop_at now k) j r.1 x);
+  free = λ k j m x n. let r = left k j x in elim (taken-cases C i l k h is m) [
+    | inl a ↦ g.free k j a (along (hop_at (set now (pack l) Nothing) k) (hop_at now k) j r.1 x) n
+    | inr a ↦ r.0 (ap pack a)
   ];
 }
   where
-    left : (k j b : Literal) → hop_at (set now (pack l) Nothing) k ≡ Sure j b → (pack k ≢ pack l) × (hop_at now k ≡ Sure j b)
-    left k j b e = elim (set-cases now (pack l) (pack k) Nothing j b e) [ inl a ↦ absurd (nothing-sure j b a.1) | inr a ↦ a ]
+    left : (k j : Literal) → GoesTo (hop_at (set now (pack l) Nothing) k) j → (pack k ≢ pack l) × (hop_at (set now (pack l) Nothing) k ≡ hop_at now k)
+    left k j x = elim (set-cases now (pack l) (pack k) Nothing j x) [ inl a ↦ absurd (along (hop_at (set now (pack l) Nothing) k) Nothing j a.1 x) | inr a ↦ a ]
 
-pub loosening-kept : (C : Clause) (i : ℕ) (l : Literal) (old now : List Hop) → i < length C → l ≡ get_or C i l → ((j b : Literal) → hop_at now l ≡ Sure j b → IsIn j C → ⊥) → IsLoosening C i old now → IsLoosening C (i + 1) old now
+pub loosening-kept : (C : Clause) (i : ℕ) (l : Literal) (old now : List Hop) → i < length C → l ≡ get_or C i l → ((j : Literal) → GoesTo (hop_at now l) j → IsIn j C → ⊥) → IsLoosening C i old now → IsLoosening C (i + 1) old now
 loosening-kept C i l old now h is f g = record {
   less = g.less;
-  free = λ k j b m e n. elim (taken-cases C i l k h is m) [
-    | inl a ↦ g.free k j b a e n
-    | inr a ↦ f j b (subst (λ (x : Literal). hop_at now x ≡ Sure j b) a e) n
+  free = λ k j m x n. elim (taken-cases C i l k h is m) [
+    | inl a ↦ g.free k j a x n
+    | inr a ↦ f j (subst (λ (y : Literal). GoesTo (hop_at now y) j) a x) n
   ];
 }
 
 pub loosening-ended : (C : Clause) (i : ℕ) (old now : List Hop) → length C ≤ i → IsLoosening C i old now → IsLoosened (λ D. D ≡ C) old now
 loosening-ended C i old now h g = record {
   less = g.less;
-  free = λ D q s k j b e m n. g.free k j b (subst (λ (x : Clause). IsIn k x) (q ∙ sym (taken-all C i h)) m) e (subst (λ (x : Clause). IsIn j x) q n);
+  free = λ D q s k j x m n. g.free k j (subst (λ (y : Clause). IsIn k y) (q ∙ sym (taken-all C i h)) m) x (subst (λ (y : Clause). IsIn j y) q n);
 }
 
 -- a list, place by place: the clauses that own some places
@@ -213,25 +228,35 @@ change-prefix P N (Unit c) = refl
 change-prefix P N (Cut c l) = refl
 change-prefix P N (Pure l) = refl
 
--- Sure hops stay right when a target is taken.
+-- Core and sure hops stay right when a target is taken.
 sure-change : (B : Bounds) (P : Prefix) (N : Slots) (t : Target) (old row : List Hop) → Fits B P N (target_of t) → AreSure P (live N) old → IsLoosened (IsTouched P N t) old row → AreSure (change P N (target_of t)).prefix (change P N (target_of t)).matrix row
 sure-change B P N t old row f all h = subst (λ (Q : Prefix). AreSure Q (change P N (target_of t)).matrix row) (sym (change-prefix P N t))
-    (λ k j b e.
-    let r = all k j b (h.less k j b e) in
-    (r.0, untouched-kept B P N t r.0 f r.1 (λ x. h.free r.0 x r.2.short k j b e r.2.one r.2.other), r.2))
+    (λ k j g.
+    let r = loosened-sure P (live N) (IsTouched P N t) old row h all k j g in
+    (r.0, untouched-kept B P N t r.0 f r.1 (λ x. h.free r.0 x r.2.short k j g r.2.one r.2.other), r.2))
+
+-- what a hop tells is so too where variables that occur nowhere have left the prefix
+told-occurring : (P : Prefix) (X : Matrix) (k j : Literal) (E : Clause) (h : Hop) → IsIn E X → IsIn k E → IsIn j E → Tells P k j E h → Tells (occurring P X) k j E h
+told-occurring P X k j E Nothing e m n t = t
+told-occurring P X k j E (Core mate w) e m n t = (
+  (λ i q u. t.0 i q (occurring-universal X P i.var u)),
+  (λ b. let r = t.1 (occurring-universal X P w b) in (occurring-stays X P w k.var b (occurs_var-IsIn X E k e m) r.0, occurring-stays X P w j.var b (occurs_var-IsIn X E j e n) r.1)),
+)
+told-occurring P X k j E (Sure mate beside) e m n t = λ i q u. t i q (occurring-universal X P i.var u)
+told-occurring P X k j E (Hint mate c) e m n t = t
 
 sure-swept : (F : PrenexFormula) (row : List Hop) → 1 < size_of (swept F).matrix → AreSure F.prefix F.matrix row → AreSure (swept F).prefix (swept F).matrix row
 sure-swept F row h all = go (has_empty F.matrix) h
   where
     go : (b : Bool) → let G : PrenexFormula = cond b falsity (record { prefix = occurring F.prefix F.matrix; matrix = F.matrix }) in 1 < size_of G.matrix → AreSure G.prefix G.matrix row
     go true i = absurd (omega (arith, i))
-    go false i = λ k j b e.
-        let r = all k j b e in
-        (r.0, r.1, record { short = r.2.short; one = r.2.one; other = r.2.other; lone = λ x m t. r.2.lone x m (occurring-universal F.matrix F.prefix x.var t) })
+    go false i = λ k j g.
+        let r = all k j g in
+        (r.0, r.1, record { short = r.2.short; one = r.2.one; other = r.2.other; told = told-occurring F.prefix F.matrix k j r.0 (hop_at row k) r.1 r.2.one r.2.other r.2.told })
 
 sure-alike : (F G : PrenexFormula) (row : List Hop) → AreAlike F G → AreSure F.prefix F.matrix row → AreSure G.prefix G.matrix row
 sure-alike F G row a all = subst (λ (Q : Prefix). AreSure Q G.matrix row) a.prefix
-    (λ k j b e. let r = all k j b e in (r.0, IsIn-alike F.matrix G.matrix a.clauses r.0 r.1, r.2))
+    (λ k j g. let r = all k j g in (r.0, IsIn-alike F.matrix G.matrix a.clauses r.0 r.1, r.2))
 
 sure-taken : (B : Bounds) (old new : Seen) (t : Target) (before row : List Hop) → IsTaken B old new (target_of t) → 1 < size_of (live (slots new)) → AreSure old.prefix (live (slots old)) before → IsLoosened (IsTouched old.prefix (slots old) t) before row → AreSure new.prefix (live (slots new)) row
 sure-taken B old new t before row h s all l =

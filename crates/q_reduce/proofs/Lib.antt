@@ -16,3 +16,4 @@ pub mod Outer
 pub mod Separating
 pub mod Bridging
 pub mod Lending
+pub mod Leading

@@ -21,6 +21,11 @@ run-outer : (q : Quant) (P : Prefix) (a u : ℕ) → run_to q P a ≡ true → o
 run-outer q [] a u r = r
 run-outer q (b ∷ P) a u r = grind (arith, run-outer q P a u, same_quant-run q b.quant P a)
 
+-- a run of universal variables does not come to an existential one
+existential-run : (P : Prefix) (v : ℕ) → is_existential P v ≡ true → run_to Forall P v ≡ false
+existential-run [] v h = refl
+existential-run (b ∷ P) v h = grind (arith, existential-run P v)
+
 -- a run goes on to what is outer or same to its end
 run-through : (q : Quant) (P : Prefix) (a w : ℕ) → outer_or_same P a w ≡ true → run_to q P w ≡ true → run_to q P a ≡ true
 run-through q [] a w o r = r
@@ -92,3 +97,26 @@ module _ (X : Matrix) where
           let p = inner-parts (occurring P X) u v h in
           absurd (true≢false (sym (occurring-outer P v u (occurring-occurs P v (bound-existential (occurring P X) v p.0)) (occurring-occurs P u (bound-universal (occurring P X) u t)) e) ∙ p.1))
       go false e = refl
+
+  occurring-keeps : (P : Prefix) (v : ℕ) → occurs v X ≡ true → is_existential P v ≡ true → is_existential (occurring P X) v ≡ true
+  occurring-keeps [] v o h = h
+  occurring-keeps (b ∷ P) v o h = go (occurs b.var X) refl (occurring-keeps P v o)
+    where
+      go : (c : Bool) → occurs b.var X ≡ c → (is_existential P v ≡ true → is_existential (occurring P X) v ≡ true) → is_existential (cond c (b ∷ occurring P X) (occurring P X)) v ≡ true
+      go true e i = grind arith
+      go false e i = grind arith
+
+  occurring-later : (P : Prefix) (w v : ℕ) → is_universal P w ≡ true → is_existential P v ≡ true → occurs w X ≡ true → occurs v X ≡ true → outer_or_same P v w ≡ false → outer_or_same (occurring P X) v w ≡ false
+  occurring-later [] w v t x o p h = h
+  occurring-later (b ∷ P) w v t x o p h = go (occurs b.var X) refl (occurring-later P w v) (existential-run (occurring P X) v) (occurring-keeps P v p)
+    where
+      go : (c : Bool) → occurs b.var X ≡ c → (is_universal P w ≡ true → is_existential P v ≡ true → occurs w X ≡ true → occurs v X ≡ true → outer_or_same P v w ≡ false → outer_or_same (occurring P X) v w ≡ false) → (is_existential (occurring P X) v ≡ true → run_to Forall (occurring P X) v ≡ false) → (is_existential P v ≡ true → is_existential (occurring P X) v ≡ true) → outer_or_same (cond c (b ∷ occurring P X) (occurring P X)) v w ≡ false
+      go true e i r k = grind arith
+      go false e i r k = grind arith
+
+  -- what is inner to a universal variable stays so while both occur
+  pub occurring-stays : (P : Prefix) (w v : ℕ) → is_universal (occurring P X) w ≡ true → occurs v X ≡ true → inner_existential P w v ≡ true → inner_existential (occurring P X) w v ≡ true
+  occurring-stays P w v t o h =
+      let p = inner-parts P w v h in
+      inner_of (occurring P X) w v (occurring-keeps P v o p.0)
+      (occurring-later P w v (occurring-universal P w t) p.0 (occurring-occurs P w (bound-universal (occurring P X) w t)) o p.1)

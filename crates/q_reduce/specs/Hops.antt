@@ -8,7 +8,7 @@ use Rattle.q_logic.specs.Reach.{Reached, Reducible}
 use Rattle.q_logic.specs.Expanding.{inner_existential}
 use Rattle.q_kernel.specs.Kernels.{Seen, slots}
 use Rattle.q_reduce.specs.declared.hop.Hop.{Hop}
-use Rattle.q_reduce.specs.declared.hop.Hop.TheVariants.{Nothing, Sure}
+use Rattle.q_reduce.specs.declared.hop.Hop.TheVariants.{Nothing, Core, Sure, Hint}
 use Rattle.q_reduce.specs.declared.target.Target.{Target}
 use Rattle.q_reduce.specs.declared.target.Target.TheVariants.{Tautology, Unit, Cut, Pure}
 
@@ -41,22 +41,42 @@ IsLone P E beside = (i : Literal) → IsIn i E → is_universal P i.var ≡ true
 abbrev pub hop_at : List Hop → Literal → Hop
 hop_at row k = slice_index_or row (pack k) Nothing
 
--- a clause that is not long holds both literals, and no universal literal but at most one
-pub record IsBridge (P : Prefix) (k j beside : Literal) (E : Clause) : Type 0 where
+-- the clause holds no universal literal
+abbrev pub IsBare : Prefix → Clause → Type 0
+IsBare P E = (i : Literal) → IsIn i E → is_universal P i.var ≡ true → ⊥
+
+-- the hop goes to the literal by a clause that need not be looked at again
+abbrev pub GoesTo : Hop → Literal → Type 0
+GoesTo Nothing j = ⊥
+GoesTo (Core mate block) j = j ≡ mate
+GoesTo (Sure mate beside) j = j ≡ mate
+GoesTo (Hint mate clause) j = ⊥
+
+-- what such a hop from k to j tells of its clause
+abbrev pub Tells : Prefix → Literal → Literal → Clause → Hop → Type 0
+Tells P k j E Nothing = ⊥
+Tells P k j E (Core mate block) =
+    IsBare P E
+    × (is_universal P block ≡ true → (inner_existential P block k.var ≡ true) × (inner_existential P block j.var ≡ true))
+Tells P k j E (Sure mate beside) = IsLone P E beside
+Tells P k j E (Hint mate clause) = ⊥
+
+-- a clause that is not long holds both literals, and is as the hop tells
+pub record IsBridge (P : Prefix) (k j : Literal) (h : Hop) (E : Clause) : Type 0 where
   pub short : length E ≤ 16
   pub one : IsIn k E
   pub other : IsIn j E
-  pub lone : IsLone P E beside
+  pub told : Tells P k j E h
 
--- the sure hops of the row are by clauses of the formula
+-- the core and sure hops of the row are by clauses of the formula
 abbrev pub AreSure : Prefix → Matrix → List Hop → Type 0
 AreSure P X row =
-    (k j beside : Literal) → hop_at row k ≡ Sure j beside → (E : Clause) × IsIn E X × IsBridge P k j beside E
+    (k j : Literal) → GoesTo (hop_at row k) j → (E : Clause) × IsIn E X × IsBridge P k j (hop_at row k) E
 
--- sure hops have gone from the row; none is left by a clause of the given kind
+-- core and sure hops have gone from the row; none is left by a clause of the given kind
 pub record IsLoosened (T : Clause → Type 0) (old new : List Hop) : Type 0 where
-  pub less : (k j beside : Literal) → hop_at new k ≡ Sure j beside → hop_at old k ≡ Sure j beside
-  pub free : (D : Clause) → T D → length D ≤ 16 → (k j beside : Literal) → hop_at new k ≡ Sure j beside → IsIn k D → IsIn j D → ⊥
+  pub less : (k j : Literal) → GoesTo (hop_at new k) j → hop_at new k ≡ hop_at old k
+  pub free : (D : Clause) → T D → length D ≤ 16 → (k j : Literal) → GoesTo (hop_at new k) j → IsIn k D → IsIn j D → ⊥
 
 -- the hops of two walks
 pub record Rows : Type 0 where

@@ -1,12 +1,12 @@
 //! Hints that tell most literals which may not go.
 //!
 //! Where nearly every literal leads to a root and the root to nearly every literal, one walk to the root and one from it
-//! answer for all clauses. Most hops of these walks are sure: they stay right while targets are taken. Of the others
-//! nothing is believed: such a hop counts only by its clause as it is now.
+//! answer for all clauses. Most hops of these walks are core or sure hops: they stay right while targets are taken. Of the
+//! others nothing is believed: such a hop counts only by its clause as it is now.
 ghost use Rattle.std.specs.Prelude.{◌≡◌, true, Some, IsTrue, IfOk, OnOk};
 ghost use Rattle.q_logic.specs.Literals.{Literal};
 ghost use Rattle.q_logic.specs.Formulas.{Clause, IsIn};
-ghost use Rattle.q_logic.specs.Prefixes.{is_bound};
+ghost use Rattle.q_logic.specs.Prefixes.{is_bound, is_universal, outer_or_same};
 ghost use Rattle.q_logic.specs.Numbered.{slot, live, others};
 ghost use Rattle.q_kernel.specs.Kernels.{slots};
 ghost use Rattle.q_reduce.specs.Walks.{IsBeside, IsGrown};
@@ -15,7 +15,7 @@ ghost use Rattle.q_reduce.specs.Hops.{IsMet, IsExit, LeadsBack, HoldsUniversal, 
 use crate::asked::Asked;
 use crate::clauses::holds;
 use crate::queue::Queue;
-use crate::reach::{clause_of, lies_inside, push_inner};
+use crate::reach::{clause_of, is_universal, lies_inside, push_inner};
 use crate::target::Target;
 use crate::tree::Tree;
 use crate::trees::Trees;
@@ -37,6 +37,8 @@ const TRIES: usize = 8;
 #[derive(Drop)]
 pub struct Guide {
     root: Option<Lit>,
+    // the core hops of this block are asked for
+    block: u32,
     trees: Trees,
     asked: Asked,
     // so many clauses were looked at by walks since
@@ -57,6 +59,7 @@ impl Guide {
     {
         Guide {
             root: None,
+            block: 0,
             trees: Trees::new(alloc),
             asked: Asked::new(alloc),
             debt: 0,
@@ -80,19 +83,23 @@ impl Guide {
     /// The root, where hops lead from it to a literal near the negation of u: a walk that meets the root need not go on.
     /// The queue may hold anything before and after.
     pub fn exit(
-        &self,
+        &mut self,
         kernel: &Kernel,
         queue: &mut Queue,
         c: ClauseId,
         u: Lit,
     ) -> Result<Option<Lit>, NoMemory>
         requires universal { HoldsUniversal kernel.now.prefix (slots kernel.now) c u }
-        requires hops { AreHopsOf kernel.now self.now }
-        ensures { IfOk result (λ o. (r : Literal) → o ≡ Some r → IsExit kernel.now.prefix (others c (slots kernel.now)) u r) }
+        requires hops { AreHopsOf kernel.now self.old }
+        ensures same { self.new ≡ self.old }
+        ensures exit { IfOk result (λ o. (r : Literal) → o ≡ Some r → IsExit kernel.now.prefix (others c (slots kernel.now)) u r) }
     {
         let Some(root) = self.root else {
             return Ok(None);
         };
+        if self.opens(kernel, c, u, root) {
+            return Ok(Some(root));
+        }
         queue.clear();
         if self.probe(kernel, queue, c, u, u.negated(), root)? {
             return Ok(Some(root));
@@ -107,6 +114,19 @@ impl Guide {
             }
         }
         Ok(None)
+    }
+
+    // Whether core hops lead from the root to a literal beside the negation of u.
+    fn opens(&mut self, kernel: &Kernel, c: ClauseId, u: Lit, root: Lit) -> bool
+        requires universal { HoldsUniversal kernel.now.prefix (slots kernel.now) c u }
+        requires hops { AreHopsOf kernel.now self.old }
+        ensures same { self.new ≡ self.old }
+        ensures exit { IsTrue result → IsExit kernel.now.prefix (others c (slots kernel.now)) u root }
+    {
+        if !serves(kernel, self.block, u) {
+            return false;
+        }
+        self.trees.opens(u, root, self.block)
     }
 
     // Puts the inner literals of some clauses that hold a literal into the queue, but of c and of those that hold u, until
@@ -165,7 +185,7 @@ impl Guide {
 
     /// Whether hops lead from a literal to the exit.
     pub fn leads_out(
-        &self,
+        &mut self,
         kernel: &Kernel,
         c: ClauseId,
         u: Lit,
@@ -173,14 +193,26 @@ impl Guide {
         exit: Option<Lit>,
     ) -> bool
         requires universal { HoldsUniversal kernel.now.prefix (slots kernel.now) c u }
-        requires hops { AreHopsOf kernel.now self.now }
+        requires hops { AreHopsOf kernel.now self.old }
         requires exit { (r : Literal) → exit ≡ Some r → IsExit kernel.now.prefix (others c (slots kernel.now)) u r }
-        ensures { IsTrue result → IsExit kernel.now.prefix (others c (slots kernel.now)) u from }
+        ensures same { self.new ≡ self.old }
+        ensures exit { IsTrue result → IsExit kernel.now.prefix (others c (slots kernel.now)) u from }
     {
-        match exit {
-            Some(root) => climbs(kernel, &self.trees.toward, c, u, from, root),
-            None => false,
+        let Some(root) = exit else { return false };
+        if self.arrives(kernel, c, u, from, root) {
+            return true;
         }
+        climbs(kernel, &self.trees.toward, c, u, from, root)
+    }
+
+    // Whether core hops lead from a literal to the root.
+    fn arrives(&mut self, kernel: &Kernel, c: ClauseId, u: Lit, from: Lit, root: Lit) -> bool
+        requires universal { HoldsUniversal kernel.now.prefix (slots kernel.now) c u }
+        requires hops { AreHopsOf kernel.now self.old }
+        ensures same { self.new ≡ self.old }
+        ensures leads { IsTrue result → (C : Clause) → IsMet kernel.now.prefix (others c (slots kernel.now)) C u from → IsMet kernel.now.prefix (others c (slots kernel.now)) C u root }
+    {
+        serves(kernel, self.block, u) && self.trees.arrives(from, root, self.block)
     }
 
     /// Learns of a walk that looked at so many clauses, and whose literals the queue holds. The hints are made anew
@@ -198,18 +230,39 @@ impl Guide {
         kernel.sound();
         self.asked.keep(kernel, u)?;
         self.debt = self.debt.saturating_add(looks);
-        if self.debt <= kernel.size() + kernel.greatest_var() as usize {
+        if self.debt <= self.patience(kernel) {
             return Ok(());
         }
+        let universals = self.asked.universals();
+        let Some(inmost) = universals.first() else {
+            return Ok(());
+        };
         let Some(root) = busiest(kernel, queue, &self.asked) else {
             return Ok(());
         };
-        let universals = self.asked.universals();
         self.trees.grow(kernel, queue, root, universals)?;
         self.root = Some(root);
+        self.block = inmost.var();
         self.debt = 0;
         Ok(())
     }
+
+    // So many clauses may be looked at before the hints are made. The first time it is less, for without hints each walk
+    // is a long one.
+    fn patience(&self, kernel: &Kernel) -> usize {
+        kernel.sound();
+        let all = kernel.size() + kernel.greatest_var() as usize;
+        if self.root.is_none() { all / 8 } else { all }
+    }
+}
+
+// Whether the core hops of a block serve for u, since what is inner to the block is inner to u.
+fn serves(kernel: &Kernel, block: u32, u: Lit) -> bool
+    requires { is_bound kernel.now.prefix u.var ≡ true }
+    ensures universal { IsTrue result → is_universal kernel.now.prefix block ≡ true }
+    ensures outer { IsTrue result → outer_or_same kernel.now.prefix u.var block ≡ true }
+{
+    is_universal(kernel, block) && kernel.prefix().outer_or_same(u.var(), block)
 }
 
 // The literal of the queue that occurs most with both signs, of those inner to all blocks.

@@ -9,6 +9,7 @@ mod finding;
 mod guide;
 mod hop;
 mod joining;
+mod known;
 mod maps;
 mod queue;
 mod reach;

@@ -62,15 +62,16 @@ pub fn clause_of(kernel: &Kernel, id: ClauseId) -> &[Lit]
 pub fn is_reducible(
     kernel: &Kernel,
     queue: &mut Queue,
-    guide: &Guide,
+    guide: &mut Guide,
     c: ClauseId,
     lit: Lit,
     looks: &mut usize,
 ) -> Result<bool, NoMemory>
     requires live { (C : Clause) × (slot (slots kernel.now) c ≡ Some C) × IsIn lit C × (IsIn (negation lit) C → ⊥) }
     requires universal { is_universal kernel.now.prefix lit.var ≡ true }
-    requires hops { AreHopsOf kernel.now guide.now }
-    ensures { IfOk result (λ yes. (C : Clause) → slot (slots kernel.now) c ≡ Some C → IsTrue yes ↔ Reducible kernel.now.prefix (others c (slots kernel.now)) C lit) }
+    requires hops { AreHopsOf kernel.now guide.old }
+    ensures same { guide.new ≡ guide.old }
+    ensures yes { IfOk result (λ yes. (C : Clause) → slot (slots kernel.now) c ≡ Some C → IsTrue yes ↔ Reducible kernel.now.prefix (others c (slots kernel.now)) C lit) }
 {
     let exit = guide.exit(kernel, queue, c, lit)?;
     queue.clear();

@@ -95,7 +95,7 @@ impl Search {
             return Ok(true);
         }
         let mut looks = 0;
-        let reducible = is_reducible(kernel, &mut self.queue, &self.guide, c, lit, &mut looks)?;
+        let reducible = is_reducible(kernel, &mut self.queue, &mut self.guide, c, lit, &mut looks)?;
         if reducible {
             self.maps.learn(kernel, lit.var(), looks)?;
         }

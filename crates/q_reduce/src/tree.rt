@@ -1,18 +1,22 @@
 //! The hops of a walk over the clauses.
 //!
-//! A hop by a clause with at most one universal literal is sure: its clause is not looked at again. The other hops are
-//! hints: whoever follows one looks at its clause as it is now.
-ghost use Rattle.std.specs.Prelude.{◌≡◌, [], true, slice_set, Some, IsTrue};
+//! A hop by a clause with at most one universal literal is sure: its clause is not looked at again. Where its clause has
+//! none, it serves for each universal of a block, and the way that such hops lead is gone once for all questions. The
+//! other hops are hints: whoever follows one looks at its clause as it is now.
+ghost use Rattle.std.specs.Prelude.{◌≡◌, ◌≤◌, ℕ, [], true, length, slice_set, None, Some, IsTrue};
 ghost use Rattle.q_logic.specs.Literals.{Literal, pack};
-ghost use Rattle.q_logic.specs.Formulas.{Clause, IsIn};
+ghost use Rattle.q_logic.specs.Formulas.{Clause, Prefix, Matrix, IsIn};
 ghost use Rattle.q_logic.specs.Prefixes.{is_bound, is_universal};
+ghost use Rattle.q_logic.specs.Expanding.{inner_existential};
 ghost use Rattle.q_logic.specs.Numbered.{slot, live, others};
 ghost use Rattle.q_kernel.specs.Kernels.{slots};
-ghost use Rattle.q_reduce.specs.declared.hop.Hop.TheVariants.{Sure};
-ghost use Rattle.q_reduce.specs.Hops.{Joins, HoldsUniversal, IsLone, hop_at, AreSure, IsLoosened};
+ghost use Rattle.q_reduce.specs.declared.hop.Hop.TheVariants.{Core, Sure};
+ghost use Rattle.q_reduce.specs.Hops.{Joins, HoldsUniversal, IsLone, IsBare, GoesTo, Tells, hop_at, AreSure, IsLoosened};
+ghost use Rattle.q_reduce.specs.Leading.{Leads};
 
 use crate::clauses::holds;
-use crate::hop::Hop;
+use crate::hop::{Hop, hop_at};
+use crate::known::Known;
 use crate::queue::Queue;
 use crate::reach::{clause_of, is_universal, lies_inside};
 use q_arena::ClauseId;
@@ -28,15 +32,19 @@ const LONGEST: usize = 16;
 #[derive(Drop)]
 pub struct Tree {
     hops: Vec<Hop>,
+    known: Known,
 }
 
 impl Model for Tree {
     ghost use Rattle.std.specs.Prelude.{List};
     ghost use Rattle.q_reduce.specs.declared.hop.Hop.{Hop};
+    ghost use Rattle.q_reduce.specs.Leading.{AreRight};
 
     ghost Value = { List Hop };
 
     ghost view = { λ t. t.hops.items };
+
+    ghost invariant = { λ t. AreRight t.hops.items t.known };
 }
 
 impl Tree {
@@ -45,19 +53,21 @@ impl Tree {
     {
         Tree {
             hops: Vec::new(alloc),
+            known: Known::new(alloc),
         }
     }
 
     pub(crate) fn forget(&mut self)
         ensures { self.new ≡ [] }
     {
+        self.known.forget();
         self.hops.clear();
     }
 
     fn hop(&self, lit: Lit) -> Hop
         ensures { result ≡ hop_at self.now lit }
     {
-        self.hops.get(lit.index()).copied().unwrap_or(Hop::Nothing)
+        hop_at(&self.hops, lit)
     }
 
     /// The literal to which the hop at a literal goes, where its clause is not c and lacks u.
@@ -68,6 +78,7 @@ impl Tree {
     {
         match self.hop(lit) {
             Hop::Nothing => None,
+            Hop::Core { mate, .. } => Some(mate),
             Hop::Sure { mate, beside } => { if beside.is(u) { None } else { Some(mate) } }
             Hop::Hint { mate, clause } => {
                 if joins(kernel, clause, c, u, lit, mate) {
@@ -79,8 +90,39 @@ impl Tree {
         }
     }
 
-    /// Walks from a root, through the literals inner to the first universal, then on through those inner to the next one:
-    /// so hops go as far inside as they can. The queue may hold anything before and after.
+    /// Whether core hops of a block lead from a literal to a goal, each from the negation of the literal before.
+    pub(crate) fn leads(&mut self, from: Lit, goal: Lit, block: u32) -> bool
+        ensures same { self.new ≡ self.old }
+        ensures leads { IsTrue result → Leads self.new goal block from }
+    {
+        self.known.aim(goal, block);
+        if !self.known.arrives(&self.hops, from) {
+            return false;
+        }
+        self.known.note_way(&self.hops, from);
+        true
+    }
+
+    /// The literal beside which a universal literal stands in a clause with no other one.
+    pub(crate) fn neighbour(&self, universal: Lit) -> Option<Lit>
+        ensures { (j : Literal) → result ≡ Some j → hop_at self.now universal ≡ Sure j universal }
+    {
+        match self.hop(universal) {
+            Hop::Sure { mate, beside } => {
+                if beside.is(universal) {
+                    Some(mate)
+                } else {
+                    None
+                }
+            }
+            _ => None,
+        }
+    }
+
+    /// Walks from a root: first by clauses without universal literals, through the literals inner to the first universal.
+    /// Unless that meets most of the literals, so that it is not far from the others to them, it walks by all clauses then,
+    /// and on through the literals inner to the next universal: so hops go as far inside as they can. The queue may hold
+    /// anything before and after.
     pub(crate) fn grow(
         &mut self,
         kernel: &Kernel,
@@ -90,21 +132,43 @@ impl Tree {
     ) -> Result<(), NoMemory>
         ensures { AreSure kernel.now.prefix (live (slots kernel.now)) self.new }
     {
-        self.hops.clear();
-        self.hops
-            .resize(2 * kernel.greatest_var() as usize + 2, Hop::Nothing)?;
+        self.start(2 * kernel.greatest_var() as usize + 2)?;
         queue.clear();
         queue.push(root)?;
+        let mut bare = true;
         for u in universals {
             if kernel.prefix().contains(u.var()) {
-                self.widen(kernel, queue, *u)?;
+                if bare {
+                    self.widen(kernel, queue, *u, true)?;
+                    if queue.len() > kernel.greatest_var() as usize / 2 {
+                        return Ok(());
+                    }
+                    bare = false;
+                }
+                self.widen(kernel, queue, *u, false)?;
             }
         }
         Ok(())
     }
 
-    // Walks on from all literals that were met, through those inner to u.
-    fn widen(&mut self, kernel: &Kernel, queue: &mut Queue, u: Lit) -> Result<(), NoMemory>
+    // No hop is known at so many places.
+    fn start(&mut self, places: usize) -> Result<(), NoMemory>
+        ensures { (P : Prefix) → (X : Matrix) → AreSure P X self.new }
+    {
+        self.known.forget();
+        self.hops.clear();
+        self.hops.resize(places, Hop::Nothing)?;
+        Ok(())
+    }
+
+    // Walks on from all literals that were met, through those inner to u, by bare clauses alone or by all.
+    fn widen(
+        &mut self,
+        kernel: &Kernel,
+        queue: &mut Queue,
+        u: Lit,
+        bare: bool,
+    ) -> Result<(), NoMemory>
         requires bound { is_bound kernel.now.prefix u.var ≡ true }
         requires sure { AreSure kernel.now.prefix (live (slots kernel.now)) self.old }
         ensures { AreSure kernel.now.prefix (live (slots kernel.now)) self.new }
@@ -114,7 +178,7 @@ impl Tree {
                 break;
             }
             let from = queue.at(head);
-            self.spread(kernel, queue, from.negated(), u)?;
+            self.spread(kernel, queue, from.negated(), u, bare)?;
         }
         Ok(())
     }
@@ -126,6 +190,7 @@ impl Tree {
         queue: &mut Queue,
         mate: Lit,
         u: Lit,
+        bare: bool,
     ) -> Result<(), NoMemory>
         requires bound { is_bound kernel.now.prefix u.var ≡ true }
         requires sure { AreSure kernel.now.prefix (live (slots kernel.now)) self.old }
@@ -135,13 +200,14 @@ impl Tree {
         let mut at = kernel.first(mate);
         while let Some(place) = at {
             let clause = kernel.owner(place);
-            self.note(kernel, queue, clause, mate, u)?;
+            self.note(kernel, queue, clause, mate, u, bare)?;
             at = kernel.next(place);
         }
         Ok(())
     }
 
-    // Notes the hop by a clause at each inner literal of it that has none.
+    // Notes the hop by a clause at each inner literal of it that has none. Where only bare clauses serve, another one tells
+    // beside which literal its universal stands.
     fn note(
         &mut self,
         kernel: &Kernel,
@@ -149,6 +215,7 @@ impl Tree {
         clause: ClauseId,
         mate: Lit,
         u: Lit,
+        bare: bool,
     ) -> Result<(), NoMemory>
         requires bound { is_bound kernel.now.prefix u.var ≡ true }
         requires live { (C : Clause) × (slot (slots kernel.now) clause ≡ Some C) × IsIn mate C }
@@ -159,25 +226,73 @@ impl Tree {
         if lits.len() > LONGEST {
             return Ok(());
         }
+        if bare {
+            if let Some(k) = first_universal(kernel, lits) {
+                self.note_universal(kernel, lits, k, mate);
+                return Ok(());
+            }
+        }
+        self.note_inner(kernel, queue, clause, mate, u)
+    }
+
+    // Notes the hop at the only universal literal of a clause.
+    fn note_universal(&mut self, kernel: &Kernel, lits: &[Lit], k: Lit, mate: Lit)
+        requires live { IsIn lits.now (live (slots kernel.now)) }
+        requires one { IsIn k lits.now }
+        requires other { IsIn mate lits.now }
+        requires short { length lits.now ≤ 16 }
+        requires sure { AreSure kernel.now.prefix (live (slots kernel.now)) self.old }
+        ensures { AreSure kernel.now.prefix (live (slots kernel.now)) self.new }
+    {
+        if self.neighbour(k).is_none() && is_lone(kernel, lits, k) {
+            self.set(k, &Hop::Sure { mate, beside: k });
+        }
+    }
+
+    // Notes the hop by a clause at each inner literal of it that the queue has not.
+    fn note_inner(
+        &mut self,
+        kernel: &Kernel,
+        queue: &mut Queue,
+        clause: ClauseId,
+        mate: Lit,
+        u: Lit,
+    ) -> Result<(), NoMemory>
+        requires bound { is_bound kernel.now.prefix u.var ≡ true }
+        requires live { (C : Clause) × (slot (slots kernel.now) clause ≡ Some C) × IsIn mate C × (length C ≤ 16) }
+        requires sure { AreSure kernel.now.prefix (live (slots kernel.now)) self.old }
+        ensures { AreSure kernel.now.prefix (live (slots kernel.now)) self.new }
+    {
+        let lits = clause_of(kernel, clause);
         for k in lits {
-            if lies_inside(kernel, *k, u) && !queue.has(*k) {
+            if !queue.has(*k) && lies_inside(kernel, *k, u) {
                 queue.push(*k)?;
-                let hop = hop_by(kernel, clause, lits, mate);
+                let hop = hop_by(kernel, clause, lits, mate, u);
                 self.set(*k, &hop);
             }
         }
         Ok(())
     }
 
+    // Another hop at a literal. What leads by a core hop that was there is not known any more.
     fn set(&mut self, lit: Lit, hop: &Hop)
         ensures { self.new ≡ slice_set self.old (pack lit) hop.now }
     {
+        if self.has_core(lit) {
+            self.known.forget();
+        }
         if lit.index() < self.hops.len() {
             self.hops[lit.index()] = *hop;
         }
     }
 
-    /// Forgets the sure hops between literals of a clause. Those of longer clauses are not by this one.
+    fn has_core(&self, lit: Lit) -> bool
+        ensures { (j : Literal) → (v : ℕ) → hop_at self.now lit ≡ Core j v → IsTrue result }
+    {
+        matches!(self.hop(lit), Hop::Core { .. })
+    }
+
+    /// Forgets the core and sure hops between literals of a clause. Those of longer clauses are not by this one.
     pub(crate) fn loosen(&mut self, clause: &[Lit])
         ensures { IsLoosened (λ D. D ≡ clause.now) self.old self.new }
     {
@@ -191,11 +306,12 @@ impl Tree {
         }
     }
 
-    // Whether the hop at a literal is sure and goes to a literal of the clause.
+    // Whether the hop at a literal is a core or sure one and goes to a literal of the clause.
     fn goes_into(&self, lit: Lit, clause: &[Lit]) -> bool
-        ensures { (j beside : Literal) → hop_at self.now lit ≡ Sure j beside → IsIn j clause.now → IsTrue result }
+        ensures { (j : Literal) → GoesTo (hop_at self.now lit) j → IsIn j clause.now → IsTrue result }
     {
         match self.hop(lit) {
+            Hop::Core { mate, .. } => holds(clause, mate),
             Hop::Sure { mate, .. } => holds(clause, mate),
             _ => false,
         }
@@ -216,19 +332,37 @@ fn joins(kernel: &Kernel, d: ClauseId, c: ClauseId, u: Lit, k: Lit, j: Lit) -> b
     holds(clause, j)
 }
 
-// A hop to a literal of a clause, at any other one.
-fn hop_by(kernel: &Kernel, clause: ClauseId, lits: &[Lit], mate: Lit) -> Hop
-    ensures { (j beside : Literal) → result ≡ Sure j beside → (j ≡ mate) × IsLone kernel.now.prefix lits.now beside }
+// A hop to a literal of a clause, at any other one that is inner to u.
+fn hop_by(kernel: &Kernel, clause: ClauseId, lits: &[Lit], mate: Lit, u: Lit) -> Hop
+    requires { is_bound kernel.now.prefix u.var ≡ true }
+    ensures { (k j : Literal) → inner_existential kernel.now.prefix u.var k.var ≡ true → GoesTo result j → (j ≡ mate) × Tells kernel.now.prefix k j lits.now result }
 {
-    let beside = first_universal(kernel, lits).unwrap_or(mate);
-    if is_lone(kernel, lits, beside) {
-        Hop::Sure { mate, beside }
-    } else {
-        Hop::Hint { mate, clause }
+    let beside = first_universal(kernel, lits);
+    match beside {
+        None => {
+            if lies_inside(kernel, mate, u) {
+                Hop::Core {
+                    mate,
+                    block: u.var(),
+                }
+            } else {
+                Hop::Sure { mate, beside: mate }
+            }
+        }
+        Some(beside) => {
+            if is_lone(kernel, lits, beside) {
+                Hop::Sure { mate, beside }
+            } else {
+                Hop::Hint { mate, clause }
+            }
+        }
     }
 }
 
-fn first_universal(kernel: &Kernel, clause: &[Lit]) -> Option<Lit> {
+fn first_universal(kernel: &Kernel, clause: &[Lit]) -> Option<Lit>
+    ensures some { (k : Literal) → result ≡ Some k → IsIn k clause.now }
+    ensures none { result ≡ None → IsBare kernel.now.prefix clause.now }
+{
     for k in clause {
         if is_universal(kernel, k.var()) {
             return Some(*k);

@@ -1,9 +1,12 @@
 //! The hops of two walks, and how they stay right while targets are taken.
-ghost use Rattle.std.specs.Prelude.{◌≡◌, [], ◌∷◌, Some};
+ghost use Rattle.std.specs.Prelude.{◌≡◌, [], ◌∷◌, Some, IsTrue};
+ghost use Rattle.q_logic.specs.Literals.{Literal, negation};
 ghost use Rattle.q_logic.specs.Formulas.{IsIn};
 ghost use Rattle.q_logic.specs.Numbered.{slot, live};
 ghost use Rattle.q_kernel.specs.Kernels.{slots};
-ghost use Rattle.q_reduce.specs.Hops.{no_rows, AreHopsOf, AreLoosened, IsAssigned, IsTouched};
+ghost use Rattle.q_reduce.specs.declared.hop.Hop.TheVariants.{Sure};
+ghost use Rattle.q_reduce.specs.Leading.{Leads};
+ghost use Rattle.q_reduce.specs.Hops.{hop_at, no_rows, AreHopsOf, AreLoosened, IsAssigned, IsTouched};
 
 use crate::applying::unit_literal;
 use crate::queue::Queue;
@@ -62,7 +65,26 @@ impl Trees {
         self.toward.grow(kernel, queue, root.negated(), universals)
     }
 
-    /// Forgets the sure hops by clauses that a target touches. It costs what these clauses are.
+    /// Whether core hops of a block lead from a root to a literal beside the negation of u.
+    pub(crate) fn opens(&mut self, u: Lit, root: Lit, block: u32) -> bool
+        ensures same { self.new ≡ self.old }
+        ensures opens { IsTrue result → (j : Literal) × (hop_at self.new.onward (negation u) ≡ Sure j (negation u)) × Leads self.new.onward (negation root) block j }
+    {
+        match self.onward.neighbour(u.negated()) {
+            Some(mate) => self.onward.leads(mate, root.negated(), block),
+            None => false,
+        }
+    }
+
+    /// Whether core hops of a block lead from a literal to a root.
+    pub(crate) fn arrives(&mut self, from: Lit, root: Lit, block: u32) -> bool
+        ensures same { self.new ≡ self.old }
+        ensures leads { IsTrue result → Leads self.new.toward root block from }
+    {
+        self.toward.leads(from, root, block)
+    }
+
+    /// Forgets the core and sure hops by clauses that a target touches. It costs what these clauses are.
     pub(crate) fn loosen(&mut self, kernel: &Kernel, target: &Target)
         ensures { AreLoosened (IsTouched kernel.now.prefix (slots kernel.now) target.now) self.old self.new }
     {
@@ -91,7 +113,7 @@ impl Trees {
         }
     }
 
-    // Forgets the sure hops by clauses that hold a literal.
+    // Forgets the core and sure hops by clauses that hold a literal.
     fn loosen_list(&mut self, kernel: &Kernel, lit: Lit)
         ensures { AreLoosened (λ D. IsIn D (live (slots kernel.now)) × IsIn lit D) self.old self.new }
     {

@@ -1,49 +1,59 @@
 use Rattle.std.proofs.Common.{◌≡◌, ◌∙◌, ◌<◌, ◌≤◌, Some, [], length, sym, subst, arith, refl, true≢false}
 use Rattle.q_logic.specs.Literals.{negation}
 use Rattle.q_logic.specs.Formulas.{Clause, IsIn}
-use Rattle.q_logic.specs.Numbered.{others}
+use Rattle.q_logic.specs.Numbered.{slot, others}
 use Rattle.q_kernel.specs.Kernels.{slots}
 use Rattle.q_reduce.specs.Walks.{IsWidened}
-use Rattle.q_reduce.proofs.Reaching.{place-member, walk-begun, walk-more, walk-refuted, walk-ended}
+use Rattle.q_reduce.proofs.Reaching.{IsWalk, place-member, walk-begun, walk-more, walk-refuted, walk-ended}
 use Rattle.q_reduce.proofs.reach.is_reducible.Goals as goal
+use Rattle.q_reduce.proofs.reach.is_reducible.Goals.{else-head-lt-GUIDED-via-then-head-lt-GUIDED+else-leads_out, else-head-lt-GUIDED-via-else-head-lt-GUIDED}
 
 same : (C D : Clause) → Some C ≡ Some D → C ≡ D
 same C D e = cc
 
 pub loop-head-init : goal.loop-head-init
-loop-head-init c C e =
-    let k = c.args.kernel.now in
-    let w = rw c.clear.ensures at c.in_ok-push_inner.ensures in
-    let q = same c.clause_of.result.now C (sym c.clause_of.ensures.clause ∙ e) in
-    walk-begun k.prefix (others c.args.c (slots k)) C c.args.lit c.push_inner.new.queue (subst (λ (x : Clause). IsWidened k.prefix c.args.lit x [] c.push_inner.new.queue) q w)
+loop-head-init c = record { walk = begun; same = c.exit.ensures.same }
+  where
+    begun : (C : Clause) → slot (slots c.args.kernel.now) c.args.c ≡ Some C → IsWalk c.args.kernel.now.prefix (others c.args.c (slots c.args.kernel.now)) C c.args.lit 0 c.push_inner.new.queue
+    begun C e =
+        let k = c.args.kernel.now in
+        let w = rw c.clear.ensures at c.in_ok-push_inner.ensures in
+        let q = same c.clause_of.result.now C (sym c.clause_of.ensures.clause ∙ e) in
+        walk-begun k.prefix (others c.args.c (slots k)) C c.args.lit c.push_inner.new.queue (subst (λ (x : Clause). IsWidened k.prefix c.args.lit x [] c.push_inner.new.queue) q w)
 
-pub returns-then-head-len : goal.returns-then-head-len
-returns-then-head-len c C e =
+pub returns-then-head-len-clause-yes : goal.returns-then-head-len-clause-yes
+returns-then-head-len-clause-yes c C e =
     let k = c.args.kernel.now in
     let q = same c.requires.live.0 C (sym c.requires.live.1 ∙ e) in
     let m : IsIn c.args.lit C = subst (λ (x : Clause). IsIn c.args.lit x) q c.requires.live.2 in
     let past : length c.loop-head.queue ≤ c.loop-head.head = omega (arith, c.if-head-len.true, c.len.ensures) in
-    let r = walk-ended k.prefix (others c.args.c (slots k)) C c.args.lit c.loop-head.head c.loop-head.queue (c.loop-head.invariant C e) past c.requires.universal m (λ n. c.requires.live.3 (subst (λ (x : Clause). IsIn (negation c.args.lit) x) (sym q) n)) in
+    let r = walk-ended k.prefix (others c.args.c (slots k)) C c.args.lit c.loop-head.head c.loop-head.queue (c.loop-head.invariant.walk C e) past c.requires.universal m (λ n. c.requires.live.3 (subst (λ (x : Clause). IsIn (negation c.args.lit) x) (sym q) n)) in
     ((λ t. r), (λ x. refl))
 
-pub returns-then-not-branch : goal.returns-then-not-branch
-returns-then-not-branch c C e =
+pub returns-then-not-branch-clause-yes : goal.returns-then-not-branch-clause-yes
+returns-then-not-branch-clause-yes c C e =
     let k = c.args.kernel.now in
     let v = rw c.if-not-branch.true at c.in_ok-visit.ensures in
-    ((λ t. absurd (true≢false (sym t))), (λ r. absurd (walk-refuted k.prefix (others c.args.c (slots k)) C c.args.lit c.loop-head.head c.at-next.result c.loop-head.queue c.visit.new.queue (c.loop-head.invariant C e) c.at-next.ensures v r)))
+    ((λ t. absurd (true≢false (sym t))), (λ r. absurd (walk-refuted k.prefix (others c.args.c (slots k)) C c.args.lit c.loop-head.head c.at-next.result c.loop-head.queue c.visit.new.queue (c.loop-head.invariant.walk C e) c.at-next.ensures v r)))
 
 pub loop-head-preserved : goal.loop-head-preserved
-loop-head-preserved c C e =
-    let k = c.args.kernel.now in
-    let v = rw c.if-not-branch.false at c.in_ok-visit.ensures in
-    let room : c.loop-head.head < length c.loop-head.queue = omega (arith, c.if-head-len.false, c.len.ensures) in
-    walk-more k.prefix (others c.args.c (slots k)) C c.args.lit c.loop-head.head c.at-next.result c.loop-head.queue c.visit.new.queue (c.loop-head.invariant C e) room c.at-next.ensures v
+loop-head-preserved c = record {
+  walk = λ C e.
+      let k = c.args.kernel.now in
+      let v = rw c.if-not-branch.false at c.in_ok-visit.ensures in
+      let room : c.loop-head.head < length c.loop-head.queue = omega (arith, c.if-head-len.false, c.len.ensures) in
+      walk-more k.prefix (others c.args.c (slots k)) C c.args.lit c.loop-head.head c.at-next.result c.loop-head.queue c.visit.new.queue (c.loop-head.invariant.walk C e) room c.at-next.ensures v;
+  same = elim c.else-head-lt-GUIDED.branch [
+    | else-head-lt-GUIDED-via-then-head-lt-GUIDED+else-leads_out w ↦ w.guide-is ∙ (w.leads_out.ensures.same ∙ c.loop-head.invariant.same)
+    | else-head-lt-GUIDED-via-else-head-lt-GUIDED w ↦ w.guide-is ∙ c.loop-head.invariant.same
+  ];
+}
 
-pub returns-then-leads_out : goal.returns-then-leads_out
-returns-then-leads_out c C e =
-    let w = c.loop-head.invariant C e in
+pub returns-then-leads_out-clause-yes : goal.returns-then-leads_out-clause-yes
+returns-then-leads_out-clause-yes c C e =
+    let w = c.loop-head.invariant.walk C e in
     let met = w.linked c.at-next.result (place-member c.loop-head.queue c.loop-head.head c.at-next.result c.at-next.ensures) in
-    ((λ t. absurd (true≢false (sym t))), (λ r. absurd (c.leads_out.ensures c.if-leads_out.true C met r)))
+    ((λ t. absurd (true≢false (sym t))), (λ r. absurd (c.leads_out.ensures.exit c.if-leads_out.true C met r)))
 
 pub exit-requires-clause-universal : goal.exit-requires-clause-universal
 exit-requires-clause-universal c = (c.requires.live.0, c.requires.live.1, c.requires.live.2, c.requires.universal)

@@ -10,8 +10,8 @@ use Rattle.q_reduce.proofs.guide.Guide.exit.Goals as goal
 same : (j k : Literal) → Some j ≡ Some k → j ≡ k
 same j k e = cc
 
-pub returns-then-branch : goal.returns-then-branch
-returns-then-branch c r e =
+pub returns-then-branch-clause-exit : goal.returns-then-branch-clause-exit
+returns-then-branch-clause-exit c r e =
     let k = c.args.kernel.now in
     let g = rw c.clear.ensures at c.in_ok-probe.ensures.grown in
     let exits = exits-begun k.prefix (others c.args.c (slots k)) c.args.u c.probe.new.queue (rw c.negated.ensures at g) in
@@ -23,8 +23,8 @@ loop-head-init c =
     let g = rw c.clear.ensures at c.in_ok-probe.ensures.grown in
     exits-begun k.prefix (others c.args.c (slots k)) c.args.u c.probe.new.queue (rw c.negated.ensures at g)
 
-pub returns-then-branch-2 : goal.returns-then-branch-2
-returns-then-branch-2 c r e =
+pub returns-then-branch-2-clause-exit : goal.returns-then-branch-2-clause-exit
+returns-then-branch-2-clause-exit c r e =
     let k = c.args.kernel.now in
     let exits = exits-more k.prefix (others c.args.c (slots k)) c.args.u c.at.result c.loop-head.queue c.probe-in-loop-head.new.queue
     (place-member c.loop-head.queue c.loop-head.head c.at.result c.at.ensures) c.loop-head.invariant (rw c.negated-back.ensures at c.in_ok-probe-2.ensures.grown) in

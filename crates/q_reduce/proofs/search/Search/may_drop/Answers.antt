@@ -3,7 +3,10 @@ use Rattle.q_logic.specs.Formulas.{Clause, IsIn}
 use Rattle.q_kernel.specs.Kernels.{slots}
 use Rattle.q_reduce.proofs.Quantifiers.{bound-universal}
 use Rattle.q_reduce.proofs.Hopping.{absent-reducible}
+use Rattle.q_reduce.specs.Hops.{Rows, AreHopsOf}
+use Rattle.q_reduce.specs.Lent.{Learned}
 use Rattle.q_reduce.proofs.search.Search.may_drop.Goals as goal
+use Rattle.q_reduce.proofs.search.Search.may_drop.Goals.{then-reducible+in_ok-learn, else-reducible}
 
 same : (C D : Clause) → Some C ≡ Some D → C ≡ D
 same C D e = cc
@@ -18,3 +21,14 @@ returns-then-count-eq0-clause-yes c C e =
 
 pub learn-requires-clause-bound : goal.learn-requires-clause-bound
 learn-requires-clause-bound c = rw c.var.ensures.value (bound-universal c.args.kernel.now.prefix c.args.lit.var c.requires.universal)
+
+pub learn-requires-2 : goal.learn-requires-2
+learn-requires-2 c = elim c.if-reducible.branch [
+  | then-reducible+in_ok-learn w ↦ rw w.self-inside-is kept
+  | else-reducible w ↦ rw w.self-inside-is kept
+]
+  where
+    kept : AreHopsOf c.args.kernel.now c.is_reducible.new.guide
+    kept =
+        let h : AreHopsOf c.args.kernel.now c.self.inside.guide = subst (λ (s : Learned). AreHopsOf c.args.kernel.now s.hops) (sym c.self.view_is) c.requires.fit.hops in
+        subst (λ (x : Rows). AreHopsOf c.args.kernel.now x) (sym c.is_reducible.ensures.same) h
