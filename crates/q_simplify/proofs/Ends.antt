@@ -1,15 +1,13 @@
 -- How it ended, by why no further turn comes.
-use Rattle.std.proofs.Common.{◌≡◌, ◌≢◌, ℕ, List, [], ◌∷◌, refl, sym, ap, ◌∙◌, subst, Option, Bool, true, false}
+use Rattle.std.proofs.Common.{◌≡◌, ℕ, [], ◌∷◌, refl, sym, ap, ◌∙◌, subst}
 use Rattle.q_logic.specs.declared.rule_bounds.Bounds.{Bounds}
-use Rattle.q_logic.specs.Formulas.{Clause, Matrix, PrenexFormula}
+use Rattle.q_logic.specs.Formulas.{Matrix, PrenexFormula}
 use Rattle.q_logic.specs.Sweep.{IsSwept, swept, falsity}
 use Rattle.q_logic.specs.Measure.{measure_of}
 use Rattle.q_kernel.specs.Kernels.{Seen, slots, formula_in}
 use Rattle.q_simplify.specs.declared.options.Options.{Options}
 use Rattle.q_simplify.specs.declared.turn.Turn.{Turn}
 use Rattle.q_simplify.specs.declared.turn.Turn.TheVariants.{Moved, Settled, Spent}
-use Rattle.q_simplify.specs.declared.report.Ending.{Ending}
-use Rattle.q_simplify.specs.declared.report.Ending.TheVariants as ending
 use Rattle.q_simplify.specs.Settled.{IsSettled}
 use Rattle.q_simplify.specs.Turns.{IsDone, IsSpent, Stops}
 use Rattle.q_simplify.specs.Results.{EndsAs, ends_as, by_clauses}

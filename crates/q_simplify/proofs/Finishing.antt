@@ -1,18 +1,17 @@
 -- The two files together.
-use Rattle.std.proofs.Common.{◌≡◌, ◌≢◌, ◌≤◌, ◌+◌, ◌*◌, ◌⊎◌, inl, inr, ℕ, List, [], ◌∷◌, ◌++◌, arith, refl, sym, ap, ◌∙◌, subst, length, take, append-nil, Option, Some, None, unwrap_or, IfSome}
+use Rattle.std.proofs.Common.{◌≡◌, ◌≢◌, ◌≤◌, inl, inr, ℕ, List, [], ◌∷◌, arith, refl, sym, ap, ◌∙◌, subst, length, take, append-nil, Option, Some, None, unwrap_or, IfSome}
 use Rattle.std.specs.FinMap as map
 use Rattle.q_logic.specs.Formulas.{PrenexFormula}
 use Rattle.q_logic.specs.Parts.{IsProper}
-use Rattle.q_logic.specs.Truth.{Holds}
 use Rattle.q_logic.proofs.Justified.{Run-justified}
 use Rattle.q_logic.proofs.Repeated.{run-true_to}
-use Rattle.q_io.specs.Files.{Disk, bytes_at, MayEmpty}
+use Rattle.q_io.specs.Files.{Disk, MayEmpty}
 use Rattle.q_log.specs.Texts.{steps_text}
 use Rattle.q_simplify.specs.declared.options.Options.{Options}
 use Rattle.q_simplify.specs.declared.report.Report.{Report}
-use Rattle.q_simplify.specs.Logs.{HoldsFront, MayHoldSteps, LeavesLog}
+use Rattle.q_simplify.specs.Logs.{HoldsFront, LeavesLog}
 use Rattle.q_simplify.specs.Outputs.{HoldsText, HoldsTextPart}
-use Rattle.q_simplify.specs.Results.{IsReport, IsEnoughFor, EndsAs, HoldsRun, LeadsTo, Simplifies, HoldsPart, Leaves}
+use Rattle.q_simplify.specs.Results.{IsReport, IsEnoughFor, EndsAs, HoldsRun, LeadsTo, Simplifies, Leaves}
 use Rattle.q_logic.specs.declared.rule_bounds.Bounds.{Bounds}
 use Rattle.q_logic.specs.Formulas.{Matrix, Prefix}
 use Rattle.q_logic.specs.Measure.{size_of, measure_of}

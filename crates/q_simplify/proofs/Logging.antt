@@ -1,18 +1,13 @@
 -- What the file of the log and the kernel say together, through the changes of both.
-use Rattle.std.proofs.Common.{◌≡◌, ◌≤◌, ◌⊎◌, inl, inr, ℕ, suc, ◌+◌, List, [], ◌∷◌, ◌++◌, refl, sym, ap, ◌∙◌, subst, arith, length, take, append_assoc, append-nil, Option, Some, None, unwrap_or, IfSome}
-use Rattle.std.specs.FinMap as map
-use Rattle.std.specs.List.{AllByRecursion}
-use Rattle.q_logic.specs.Formulas.{Prefix, PrenexFormula}
+use Rattle.std.proofs.Common.{◌≡◌, inr, ℕ, suc, ◌+◌, List, [], ◌∷◌, ◌++◌, refl, sym, ap, ◌∙◌, subst, arith, length, take, append_assoc, append-nil, Option, Some, unwrap_or, IfSome}
+use Rattle.q_logic.specs.Formulas.{PrenexFormula}
 use Rattle.q_logic.specs.Limits.{standard}
-use Rattle.q_logic.specs.Numbered.{formula_of, live}
-use Rattle.q_logic.specs.Steps.{ProofStep}
-use Rattle.q_logic.specs.Runs.{ValidSteps, Run}
-use Rattle.q_io.specs.Files.{Disk, OthersStay, bytes_at, Empties, MayEmpty, Appends, AppendsPart}
-use Rattle.q_log.specs.Texts.{IsLogged, steps_text}
+use Rattle.q_io.specs.Files.{Disk, OthersStay, bytes_at, Empties, Appends, AppendsPart}
+use Rattle.q_log.specs.Texts.{steps_text}
 use Rattle.q_kernel.specs.Kernels.{Seen, slots, formula_in, SameView}
 use Rattle.q_kernel.specs.Changes.{AreAlike, IsLed}
-use Rattle.q_simplify.specs.Logs.{HasLog, HoldsFront, MayHoldSteps, LeavesLog}
-use Rattle.q_simplify.specs.Results.{HoldsRun, LeadsTo}
+use Rattle.q_simplify.specs.Logs.{HasLog, LeavesLog}
+use Rattle.q_simplify.specs.Results.{LeadsTo}
 use Rattle.q_simplify.proofs.Steps.{Lead, lead-append, text-append, logged-append, alike-itself, alike-same}
 
 pub at_some : {D : Type 0} (P : D → Type 0) (o : Option D) → IfSome o P → (d : D) → o ≡ Some d → P d

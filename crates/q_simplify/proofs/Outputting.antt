@@ -1,8 +1,7 @@
 -- The file of the result, created and written.
-use Rattle.std.proofs.Common.{◌≡◌, ◌⊎◌, inl, inr, ℕ, List, [], ◌++◌, refl, sym, ap, ◌∙◌, subst, take, Option, Some, None, unwrap_or, IfSome}
-use Rattle.std.specs.FinMap as map
+use Rattle.std.proofs.Common.{◌≡◌, inl, inr, ℕ, List, [], ◌++◌, refl, ap, ◌∙◌, take, Option, Some, None, unwrap_or, IfSome}
 use Rattle.q_logic.specs.Formulas.{PrenexFormula}
-use Rattle.q_io.specs.Files.{Disk, OthersStay, bytes_at, Empties, MayEmpty, Appends, AppendsPart}
+use Rattle.q_io.specs.Files.{Disk, bytes_at, Empties, MayEmpty, Appends, AppendsPart}
 use Rattle.q_dimacs.specs.Writing.{formula_text}
 use Rattle.q_simplify.specs.Outputs.{HoldsText, HoldsTextPart}
 use Rattle.q_simplify.proofs.Logging.{at_some, others-through}

@@ -1,9 +1,8 @@
 -- The text of a formula within the limits is read as this formula.
-use Rattle.std.proofs.Common.{◌≡◌, ◌≤◌, ◌<◌, ◌+◌, ◌*◌, ◌^◌, ◌-◌, ℕ, Bool, true, false, cond, eqb, max, List, [], ◌∷◌, ◌++◌, inl, inr, refl, sym, ap, ◌∙◌, subst, arith, length, length-append, map, pos, Option, Some, None}
+use Rattle.std.proofs.Common.{◌≡◌, ◌≤◌, ◌<◌, ◌+◌, ◌*◌, ◌^◌, ℕ, Bool, true, false, cond, eqb, List, [], ◌∷◌, ◌++◌, inl, inr, refl, sym, ap, subst, arith, length, length-append, map, pos, Option, Some, None}
 use Rattle.std.specs.Fmt.{decimal}
 use Rattle.std.proofs.lemmas.Fmt.{length-decimal-le}
 use Rattle.std.specs.List.{AllByRecursion}
-use Rattle.q_logic.specs.declared.formulas.Bound.{Bound}
 use Rattle.q_logic.specs.declared.formulas.Quant.{Quant}
 use Rattle.q_logic.specs.declared.formulas.Quant.TheVariants.{Exists, Forall}
 use Rattle.q_logic.specs.Literals.{Literal, number_of}
@@ -13,11 +12,11 @@ use Rattle.q_logic.specs.Parts.{IsProper}
 use Rattle.q_logic.specs.Steps.{literals_in}
 use Rattle.q_logic.specs.Measure.{size_of}
 use Rattle.q_logic.specs.Limits.{standard, AreModerate}
-use Rattle.q_logic.specs.InLimits.{IsInLimits, greatest, larger_of}
+use Rattle.q_logic.specs.InLimits.{IsInLimits, greatest}
 use Rattle.q_text.specs.Numbers.{number_text, numbers_text, line_end}
 use Rattle.q_log.proofs.Texts.{literal-short}
 use Rattle.q_dimacs.specs.Dimacs.{Dimacs, total}
-use Rattle.q_dimacs.specs.Writing.{formula_text, header_text, blocks_text, matrix_text, clause_text, quant_text, opening, bounds_text, greatest_bound, KeepsLimits}
+use Rattle.q_dimacs.specs.Writing.{formula_text, header_text, blocks_text, matrix_text, clause_text, quant_text, opening, bounds_text, greatest_bound}
 use Rattle.q_dimacs.proofs.Writing.{blocks-bounds}
 use Rattle.q_dimacs.proofs.RoundTrip.{written_is_read}
 

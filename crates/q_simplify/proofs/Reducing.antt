@@ -1,5 +1,5 @@
 -- The whole work over one kernel.
-use Rattle.std.proofs.Common.{◌≡◌, ◌≤◌, ◌<◌, ℕ, List, [], ◌∷◌, refl, sym, ap, ◌∙◌, subst, arith, length, inr, unwrap_or, Option}
+use Rattle.std.proofs.Common.{◌≡◌, ◌<◌, ℕ, List, [], ◌∷◌, refl, sym, ap, ◌∙◌, subst, arith, length, inr, unwrap_or, Option}
 use Rattle.q_logic.specs.Formulas.{Matrix, Prefix, PrenexFormula}
 use Rattle.q_logic.specs.Limits.{standard}
 use Rattle.q_logic.specs.InLimits.{IsInLimits}
@@ -9,7 +9,7 @@ use Rattle.q_logic.specs.Measure.{measure_of, size_of}
 use Rattle.q_logic.specs.Sweep.{IsSwept, swept}
 use Rattle.q_logic.proofs.Settling.{sweep-twice, swept-in_limits}
 use Rattle.q_io.specs.Files.{Disk, Empties}
-use Rattle.q_kernel.specs.Kernels.{Seen, slots, formula_in, SameView, IsSound}
+use Rattle.q_kernel.specs.Kernels.{Seen, slots, formula_in, IsSound}
 use Rattle.q_kernel.specs.Changes.{IsLed}
 use Rattle.q_kernel.specs.Taking.{IsReady}
 use Rattle.q_simplify.specs.declared.options.Options.{Options}
@@ -18,9 +18,8 @@ use Rattle.q_simplify.specs.declared.report.Report.{Report}
 use Rattle.q_simplify.specs.declared.report.Ending.{Ending}
 use Rattle.q_simplify.specs.Turns.{Stops}
 use Rattle.q_simplify.specs.Logs.{HasLog, LeavesLog}
-use Rattle.q_simplify.specs.Results.{IsReport, LeadsTo, EndsAs, ends_as}
-use Rattle.q_simplify.proofs.Logging.{has_log-begin, has_log-led, has_log-same, has_log-left, same-formula}
-use Rattle.q_simplify.proofs.Driving.{ready-same}
+use Rattle.q_simplify.specs.Results.{IsReport, EndsAs, ends_as}
+use Rattle.q_simplify.proofs.Logging.{has_log-begin, has_log-led, has_log-left, same-formula}
 use Rattle.q_simplify.proofs.Readable.{reads_back}
 use Rattle.q_simplify.proofs.Ends.{ends}
 

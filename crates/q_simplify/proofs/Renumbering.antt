@@ -1,5 +1,5 @@
 -- Whether some target applies does not depend on the numbers of the clauses.
-use Rattle.std.proofs.Common.{◌≡◌, ℕ, zero, suc, List, [], ◌∷◌, refl, sym, ap, ◌∙◌, subst, Option, Some, None, true, cond}
+use Rattle.std.proofs.Common.{◌≡◌, ℕ, zero, suc, [], ◌∷◌, refl, sym, ap, ◌∙◌, subst, Option, Some, None, true, cond}
 use Rattle.q_logic.specs.declared.rule_bounds.Bounds.{Bounds}
 use Rattle.q_logic.specs.Literals.{Literal, negation}
 use Rattle.q_logic.specs.Prefixes.{is_bound, is_existential}
@@ -8,11 +8,10 @@ use Rattle.q_logic.specs.Formulas.{Clause, Matrix, Prefix, PrenexFormula}
 use Rattle.q_logic.specs.Reach.{Reducible}
 use Rattle.q_logic.specs.Limits.{standard}
 use Rattle.q_logic.specs.InLimits.{IsInLimits}
-use Rattle.q_logic.specs.Numbered.{Slots, slot, live, others, put_first, numbered, formula_of}
-use Rattle.q_logic.specs.Sweep.{IsSwept}
+use Rattle.q_logic.specs.Numbered.{Slots, slot, live, others, numbered, formula_of}
 use Rattle.q_logic.specs.Targets.{Target, tautology, unit, cut, pure, subsumed, strengthen, merge, blocked, blocked_forall, cover, eliminate, expand_universal}
-use Rattle.q_logic.specs.Rules.{Applicable, assigned, head_of, shortened, change}
-use Rattle.q_simplify.specs.Settled.{HasRule, NoneApplies, IsSettled}
+use Rattle.q_logic.specs.Rules.{Applicable, assigned, head_of, shortened}
+use Rattle.q_simplify.specs.Settled.{HasRule, NoneApplies}
 
 pub live-numbered : (X : Matrix) → live (numbered X) ≡ X
 live-numbered [] = refl

@@ -1,5 +1,5 @@
 -- Valid steps, one list behind the other, over formulas with the same clauses.
-use Rattle.std.proofs.Common.{◌≡◌, ◌≤◌, ℕ, ◌*◌, ◌+◌, List, [], ◌∷◌, ◌++◌, inl, append_assoc, refl, sym, ◌∙◌, subst, arith, length}
+use Rattle.std.proofs.Common.{◌≡◌, ◌≤◌, ◌*◌, ◌+◌, List, [], ◌∷◌, ◌++◌, inl, append_assoc, refl, sym, ◌∙◌, subst, arith, length}
 use Rattle.std.specs.List.{AllByRecursion}
 use Rattle.q_logic.specs.declared.limits.Limits.{Limits}
 use Rattle.q_logic.specs.Formulas.{Clause, Matrix, Prefix, IsIn, PrenexFormula}

@@ -1,7 +1,7 @@
 -- The targets that a search finds are those of the rules that there are.
-use Rattle.std.proofs.Common.{◌≡◌, ◌≤◌, ℕ, refl, subst, arith}
+use Rattle.std.proofs.Common.{◌≤◌, ℕ, arith}
 use Rattle.q_logic.specs.declared.rule_bounds.Bounds.{Bounds}
-use Rattle.q_logic.specs.Targets.{Target, tautology, unit, cut, pure, subsumed, strengthen, merge, blocked, blocked_forall, cover, eliminate, expand_universal, place}
+use Rattle.q_logic.specs.Targets.{tautology, unit, cut, pure, subsumed, strengthen, merge, blocked, blocked_forall, cover, eliminate, expand_universal, place}
 use Rattle.q_kernel.specs.Kernels.{Seen}
 use Rattle.q_kernel.specs.Taking.{Applies}
 use Rattle.q_reduce.specs.declared.target.Target.{Target as Plain}

@@ -1,5 +1,4 @@
 -- Settled over the rules that there are.
-use Rattle.std.specs.Prelude.{ℕ}
 use Rattle.q_logic.specs.declared.rule_bounds.Bounds.{Bounds}
 use Rattle.q_logic.specs.Formulas.{Prefix, PrenexFormula}
 use Rattle.q_logic.specs.Numbered.{Slots, numbered}

@@ -24,10 +24,53 @@ enum Loss {
 }
 
 impl Agenda {
-    pub(crate) fn new(alloc: Global) -> Agenda {
-        Agenda {
+    /// Begins with the unit clauses and the pure literals, which cost little to find: what a search for cuts learns before
+    /// they are gone would not last.
+    pub(crate) fn start(alloc: Global, kernel: &Kernel) -> Result<Agenda, NoMemory> {
+        let mut agenda = Agenda {
             targets: Vec::new(alloc),
             cursor: 0,
+        };
+        agenda.note_units(kernel)?;
+        agenda.note_pure(kernel)?;
+        // the list is worked off from its end
+        agenda.targets.reverse();
+        Ok(agenda)
+    }
+
+    fn note_units(&mut self, kernel: &Kernel) -> Result<(), NoMemory> {
+        let mut at = 0;
+        while let Some(c) = kernel.next_live(at) {
+            if kernel.lits(c).len() == 1 {
+                self.targets.push(Target::Unit { c })?;
+            }
+            let Some(after) = c.checked_add(1) else {
+                return Ok(());
+            };
+            at = after;
+        }
+        Ok(())
+    }
+
+    fn note_pure(&mut self, kernel: &Kernel) -> Result<(), NoMemory> {
+        for var in 1..=kernel.greatest_var() {
+            self.note_variable(kernel, var)?;
+        }
+        Ok(())
+    }
+
+    fn note_variable(&mut self, kernel: &Kernel, var: u32) -> Result<(), NoMemory> {
+        kernel.sound();
+        if !kernel.prefix().contains(var) {
+            return Ok(());
+        }
+        let yes = Lit::new(var, false);
+        let no = Lit::new(var, true);
+        match (kernel.count(yes), kernel.count(no)) {
+            (0, 0) => Ok(()),
+            (0, _) => Ok(self.targets.push(Target::Pure { l: no })?),
+            (_, 0) => Ok(self.targets.push(Target::Pure { l: yes })?),
+            _ => Ok(()),
         }
     }
 

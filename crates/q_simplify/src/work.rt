@@ -52,7 +52,9 @@ fn drive<F: Files>(
     ensures write_later { (q : List ℕ) → F.write_faults files.old q ≤ F.write_faults files.new q }
 {
     let mut search = Search::new(alloc);
-    let mut agenda = Agenda::new(alloc);
+    let Ok(mut agenda) = Agenda::start(alloc, kernel) else {
+        return Err(DeviceError::NoMemory);
+    };
     loop {
         match take_turn(kernel, &mut search, &mut agenda, options, first) {
             Ok(Turn::Moved) => {

@@ -16,7 +16,7 @@ loop-files-preserved g c =
     record {
       ready = ready-flushed c.take_turn.new.kernel c.flush.new.kernel c.flush.ensures.prefix c.flush.ensures.clauses taken.1.ready;
       fit = fit-flushed c.take_turn.new.kernel c.flush.new.kernel c.take_turn.new.search c.flush.ensures.prefix c.flush.ensures.clauses c.take_turn.ensures.fit;
-      log = λ G before h. c.in_default.ensures.log G before (has_log-led G c.args.log.now before c.loop-files.kernel c.take_turn.new.kernel (g.F.Files.held c.loop-files.files) (c.loop-files.invariant.log G before h) taken.1.led);
+      log = λ G before h. c.in_default-flush.ensures.log G before (has_log-led G c.args.log.now before c.loop-files.kernel c.take_turn.new.kernel (g.F.Files.held c.loop-files.files) (c.loop-files.invariant.log G before h) taken.1.led);
       read_later = λ q. omega (arith, c.loop-files.invariant.read_later q, c.flush.ensures.read_later q);
       write_later = λ q. omega (arith, c.loop-files.invariant.write_later q, c.flush.ensures.write_later q);
     }
@@ -34,3 +34,6 @@ returns-in-Ok-Spent-clause-log g c =
 pub returns-in-Err-clause-log_left : goal.returns-in-Err-clause-log_left
 returns-in-Err-clause-log_left g c =
     λ G before h. has_log-left G c.args.log.now before c.loop-files.kernel (g.F.Files.held c.loop-files.files) (c.loop-files.invariant.log G before h)
+
+pub returns-in_default-clause-log_left : goal.returns-in_default-clause-log_left
+returns-in_default-clause-log_left g c = λ G before h. has_log-left G c.args.log.now before c.args.kernel.now (g.F.Files.held c.args.files.now) h

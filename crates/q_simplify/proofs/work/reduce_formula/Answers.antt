@@ -1,7 +1,7 @@
 use Rattle.std.proofs.Common.{subst}
 use Rattle.q_logic.specs.Formulas.{PrenexFormula}
 use Rattle.q_simplify.specs.Logs.{LeavesLog}
-use Rattle.q_simplify.specs.Results.{IsReport, LeadsTo}
+use Rattle.q_simplify.specs.Results.{LeadsTo}
 use Rattle.q_simplify.proofs.Reducing.{started, begin-formula_left}
 use Rattle.q_simplify.proofs.work.reduce_formula.Goals as goal
 
