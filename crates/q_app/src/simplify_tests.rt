@@ -16,7 +16,7 @@ struct Row {
     log: Option<&'static str>,
 }
 
-const ROWS: [Row; 19] = [
+const ROWS: [Row; 22] = [
     // empty formula
     Row {
         option: "",
@@ -129,6 +129,30 @@ const ROWS: [Row; 19] = [
         line: "settled 40 40\n",
         output: "p cnf 2 2\na 1 0\ne 2 0\n1 2 0\n-1 -2 0\n",
         log: Some(""),
+    },
+    // each universal literal leads to its negation, but for that of the last clause
+    Row {
+        option: "",
+        input: "p cnf 8 13\na 1 2 0\ne 3 4 5 6 7 8 0\n-3 4 0\n-4 5 0\n-5 6 0\n-6 3 0\n3 5 0\n-3 -5 0\n1 4 0\n-1 -5 0\n2 6 0\n-2 -3 0\n-7 8 0\n-8 7 0\n2 7 0\n",
+        line: "settled 111 100\n",
+        output: "p cnf 6 10\na 1 2 0\ne 3 4 5 6 0\n-3 4 0\n-4 5 0\n-5 6 0\n3 -6 0\n3 5 0\n-3 -5 0\n1 4 0\n-1 -5 0\n2 6 0\n-2 -3 0\n",
+        log: None,
+    },
+    // 2 leads to its negation by one clause, which goes when 7 becomes true
+    Row {
+        option: "",
+        input: "p cnf 10 15\na 1 2 0\ne 3 4 5 6 7 8 9 10 0\n2 3 0\n2 4 0\n-2 5 0\n-2 6 0\n-3 4 0\n-4 3 0\n-5 6 0\n-6 5 0\n3 5 7 0\n-7 8 0\n-8 7 0\n1 7 0\n-1 9 0\n-9 10 0\n-10 9 0\n",
+        line: "true 120 0\n",
+        output: NOTHING,
+        log: None,
+    },
+    // two universal blocks: 1 leads to its negation over 2, 3 does not, which lies inside 2
+    Row {
+        option: "",
+        input: "p cnf 4 6\na 1 0\ne 2 0\na 3 0\ne 4 0\n1 2 0\n-2 4 0\n-1 -4 0\n2 3 4 0\n-2 -3 4 0\n1 2 3 0\n",
+        line: "settled 89 88\n",
+        output: "p cnf 4 6\na 1 0\ne 2 0\na 3 0\ne 4 0\n1 2 0\n-2 4 0\n-1 -4 0\n2 3 4 0\n-2 -3 4 0\n1 2 0\n",
+        log: Some("u 3 1 2 0\n"),
     },
     // reach by literals
     Row {

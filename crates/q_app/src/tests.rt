@@ -19,7 +19,7 @@ struct Row {
 }
 
 // Logs that are runs, and logs that are refused at a step or at the end.
-const LOGS: [Row; 17] = [
+const LOGS: [Row; 22] = [
     // the first run
     Row {
         input: "p cnf 2 2\ne 1 2 0\n1 0\n1 2 0\n",
@@ -100,6 +100,38 @@ const LOGS: [Row; 17] = [
         output: "p cnf 3 3\na 1 0\ne 2 3 0\n2 0\n1 -2 3 0\n-1 -3 0\n",
         log: "u 1 2 0\n",
         line: "verified 1\n",
+    },
+    // nothing leads from 5 to 6, until a clause joins them
+    Row {
+        input: "p cnf 9 15\na 1 2 3 4 0\ne 5 6 7 8 9 0\n1 5 0\n2 5 0\n3 5 0\n4 9 0\n-9 5 0\n-5 7 0\n-5 8 0\n-7 8 0\n-7 5 0\n-8 5 0\n-8 7 0\n-1 6 0\n-2 6 0\n-3 6 0\n-4 6 0\n",
+        output: "p cnf 9 15\na 1 2 3 4 0\ne 5 6 7 8 9 0\n5 0\n5 0\n5 0\n9 0\n-9 5 0\n-5 7 0\n-5 8 0\n-7 8 0\n-7 5 0\n-8 5 0\n-8 7 0\n-1 6 0\n-2 6 0\n-3 6 0\n-4 6 0\n",
+        log: "u 1 5 0\nu 2 5 0\nu 3 5 0\nu 4 9 0\n",
+        line: "verified 4\n",
+    },
+    Row {
+        input: "p cnf 9 15\na 1 2 3 4 0\ne 5 6 7 8 9 0\n1 5 0\n2 5 0\n3 5 0\n4 9 0\n-9 5 0\n-5 7 0\n-5 8 0\n-7 8 0\n-7 5 0\n-8 5 0\n-8 7 0\n-1 6 0\n-2 6 0\n-3 6 0\n-4 6 0\n",
+        output: "p cnf 9 15\na 1 2 3 4 0\ne 5 6 7 8 9 0\n5 0\n5 0\n5 0\n9 0\n-9 5 0\n-5 7 0\n-5 8 0\n-7 8 0\n-7 5 0\n-8 5 0\n-8 7 0\n-1 6 0\n-2 6 0\n-3 6 0\n-4 6 0\n",
+        log: "u 1 5 0\nu 2 5 0\nu 3 5 0\n5 -5 -6 0\nu 4 9 0\n",
+        line: "refused line 5 cause 5\n",
+    },
+    // a forced literal whose clause goes: by a copy, by no other clause, and by other clauses
+    Row {
+        input: "p cnf 4 6\ne 1 2 3 4 0\n1 0\n-1 3 0\n-1 3 0\n2 3 0\n-3 4 0\n-4 -2 0\n",
+        output: "p cnf 4 4\ne 1 2 3 4 0\n1 0\n-1 3 0\n-3 4 0\n-4 -2 0\n",
+        log: "d -1 3 0\nd 2 3 0\n",
+        line: "verified 2\n",
+    },
+    Row {
+        input: "p cnf 4 5\ne 1 2 3 4 0\n1 0\n-1 3 0\n2 3 0\n-3 4 0\n-4 -2 0\n",
+        output: NOTHING,
+        log: "d 3 -1 0\n",
+        line: "refused line 1 cause 4\n",
+    },
+    Row {
+        input: "p cnf 4 5\ne 1 2 3 4 0\n1 0\n-1 2 0\n-1 3 0\n-2 3 0\n3 4 0\n",
+        output: NOTHING,
+        log: "d -1 3 0\nd 3 4 0\nd -2 3 0\n",
+        line: "refused line 3 cause 4\n",
     },
     // formulas that are none
     Row {
