@@ -13,15 +13,14 @@ use q_logic::Lit;
 use std::alloc::Global;
 use std::marker::Model;
 
-// So many hops are followed from a literal.
-const HOPS: usize = 64;
-
 /// Literals from which core hops of a block lead to a goal.
 #[derive(Drop)]
 pub struct Known {
     lits: Queue,
     goal: Lit,
     block: u32,
+    // from these they lead nowhere; nothing rests on that
+    lost: Queue,
 }
 
 impl Model for Known {
@@ -40,13 +39,23 @@ impl Known {
             lits: Queue::new(alloc),
             goal: Lit::new(1, false),
             block: 0,
+            lost: Queue::new(alloc),
         }
     }
 
+    /// Forgets from where hops lead to the goal. Where a hop went, the others lead nowhere as before.
     pub(crate) fn forget(&mut self)
         ensures { self.new.lits ≡ [] }
     {
         self.lits.clear();
+    }
+
+    /// Forgets all literals.
+    pub(crate) fn forget_all(&mut self)
+        ensures { self.new.lits ≡ [] }
+    {
+        self.lits.clear();
+        self.lost.clear();
     }
 
     /// Forgets the literals unless they are those of this goal.
@@ -58,7 +67,7 @@ impl Known {
         if self.goal.is(goal) && self.block == block {
             return;
         }
-        self.lits.clear();
+        self.forget_all();
         self.goal = goal;
         self.block = block;
     }
@@ -80,15 +89,35 @@ impl Known {
         let Ok(()) = self.lits.push(lit) else { return };
     }
 
-    /// Whether core hops lead from a literal to one that is known, or to the goal.
-    pub(crate) fn arrives(&self, hops: &[Hop], from: Lit) -> bool
+    /// Whether core hops lead from a literal to the goal. The way is noted, so that it is not gone again.
+    pub(crate) fn leads(&mut self, hops: &[Hop], from: Lit) -> bool
+        requires { AreRight hops.now self.old }
+        ensures goal { self.new.goal ≡ self.old.goal }
+        ensures block { self.new.block ≡ self.old.block }
+        ensures right { AreRight hops.now self.new }
+        ensures leads { IsTrue result → Leads hops.now self.old.goal self.old.block from }
+    {
+        let arrives = self.arrives(hops, from);
+        if arrives {
+            self.note_way(hops, from);
+        } else {
+            self.note_lost(hops, from);
+        }
+        arrives
+    }
+
+    // Whether core hops lead from a literal to one that is known, or to the goal.
+    fn arrives(&self, hops: &[Hop], from: Lit) -> bool
         requires { AreRight hops.now self.now }
         ensures { IsTrue result → Leads hops.now self.now.goal self.now.block from }
     {
         let mut at = from;
-        for _ in 0..HOPS {
+        for _ in 0..=hops.len() {
             if self.has(at) {
                 return true;
+            }
+            if self.lost.has(at) {
+                return false;
             }
             let Some(next) = core_mate(hops, self.block, at.negated()) else {
                 return false;
@@ -98,8 +127,8 @@ impl Known {
         false
     }
 
-    /// Notes the literals on the way from one that leads to the goal.
-    pub(crate) fn note_way(&mut self, hops: &[Hop], from: Lit)
+    // Notes the literals on the way from one that leads to the goal.
+    fn note_way(&mut self, hops: &[Hop], from: Lit)
         requires right { AreRight hops.now self.old }
         requires leads { Leads hops.now self.old.goal self.old.block from }
         ensures goal { self.new.goal ≡ self.old.goal }
@@ -107,11 +136,27 @@ impl Known {
         ensures right { AreRight hops.now self.new }
     {
         let mut at = from;
-        for _ in 0..HOPS {
+        for _ in 0..=hops.len() {
             if self.has(at) {
                 return;
             }
             self.add(at);
+            let Some(next) = core_mate(hops, self.block, at.negated()) else {
+                return;
+            };
+            at = next;
+        }
+    }
+
+    // Notes the literals on the way from one that leads nowhere.
+    fn note_lost(&mut self, hops: &[Hop], from: Lit)
+        ensures { self.new ≡ self.old }
+    {
+        let mut at = from;
+        for _ in 0..=hops.len() {
+            if self.lost.has(at) || self.lost.push(at).is_err() {
+                return;
+            }
             let Some(next) = core_mate(hops, self.block, at.negated()) else {
                 return;
             };

@@ -60,7 +60,7 @@ impl Tree {
     pub(crate) fn forget(&mut self)
         ensures { self.new ≡ [] }
     {
-        self.known.forget();
+        self.known.forget_all();
         self.hops.clear();
     }
 
@@ -96,11 +96,7 @@ impl Tree {
         ensures leads { IsTrue result → Leads self.new goal block from }
     {
         self.known.aim(goal, block);
-        if !self.known.arrives(&self.hops, from) {
-            return false;
-        }
-        self.known.note_way(&self.hops, from);
-        true
+        self.known.leads(&self.hops, from)
     }
 
     /// The literal beside which a universal literal stands in a clause with no other one.
@@ -155,7 +151,7 @@ impl Tree {
     fn start(&mut self, places: usize) -> Result<(), NoMemory>
         ensures { (P : Prefix) → (X : Matrix) → AreSure P X self.new }
     {
-        self.known.forget();
+        self.known.forget_all();
         self.hops.clear();
         self.hops.resize(places, Hop::Nothing)?;
         Ok(())
