@@ -1,7 +1,8 @@
 #!/usr/bin/env bash
-# Times `simplify`, and `check` over what it wrote, on four families of formulas: random clauses of three literals, a
-# chain of unit clauses in order and in mixed order, and universal literals that are cut in one connected component.
-# The time should grow no worse than n log n. Usage: bench/simplify.sh [random|units|mixed|cuts ..]
+# Times `simplify`, and `check` over what it wrote, on five families of formulas: random clauses of three literals, a
+# chain of unit clauses in order and in mixed order, universal literals that are cut in one connected component, and
+# universal literals that lead to their negations half way round a ring.
+# The time should grow no worse than n log n. Usage: bench/simplify.sh [random|units|mixed|cuts|ring ..]
 set -eu
 cd "$(dirname "$0")/.."
 work=$(mktemp -d)
@@ -42,6 +43,12 @@ elif family in ("units", "mixed"):
     if family == "mixed":
         random.shuffle(clauses)
     write([("e", range(1, n + 1))], clauses)
+elif family == "ring":
+    # each x implies the next one; each universal stands positive at one place of the ring and negative at the opposite one
+    x, u = range(1, n + 1), range(n + 1, 2 * n + 1)
+    clauses = [[-x[i - 1], x[i]] for i in range(n)]
+    clauses += [[x[i], u[i]] for i in range(n)] + [[-x[i - n // 2], -u[i]] for i in range(n)]
+    write([("a", u), ("e", x)], clauses)
 else:
     # n universals, positive in the clauses of a cycle over x and negative in those of a cycle over y. No clause joins the
     # cycles, so each of the 2n literals can be cut, and a walk from one of them goes round its whole cycle.
@@ -59,12 +66,12 @@ measured() {
     /usr/bin/time -f "check: %e s, %M KiB" ./celdrinn check "$work/in" "$work/out" "$work/log"
 }
 
-for family in "${@:-random units mixed cuts}"; do
+for family in "${@:-random units mixed cuts ring}"; do
     for f in $family; do
         case $f in
         random) for n in 125000 250000 500000 1000000; do measured "$f" "$n"; done ;;
         units | mixed) for n in 50000 100000 200000 400000; do measured "$f" "$n"; done ;;
-        cuts) for n in 25000 50000 100000 200000; do measured "$f" "$n"; done ;;
+        cuts | ring) for n in 25000 50000 100000 200000; do measured "$f" "$n"; done ;;
         esac
     done
 done
