@@ -28,10 +28,10 @@ use Rattle.q_reduce.specs.declared.target.Target.{Target}
 use Rattle.q_reduce.specs.declared.target.Target.TheVariants.{Tautology, Unit, Cut, Pure}
 use Rattle.q_reduce.specs.Targets.{target_of}
 use Rattle.q_reduce.specs.Hops.{Joins, IsMet, HoldsUniversal, GoesTo, Tells, hop_at, IsBridge, AreSure, IsLoosened, Rows, no_rows, AreHopsOf, AreLoosened, IsAssigned, IsTouched}
-use Rattle.q_reduce.proofs.Marking.{pack-apart}
-use Rattle.q_reduce.proofs.Members.{taken-cases, taken-all}
-use Rattle.q_reduce.proofs.Outer.{occurring-universal, occurring-stays}
-use Rattle.q_reduce.proofs.Quantifiers.{bound-universal}
+use Rattle.q_rule.proofs.Marking.{pack-apart}
+use Rattle.q_rule.proofs.Members.{taken-cases, taken-all}
+use Rattle.q_rule.proofs.Outer.{occurring-universal, occurring-stays}
+use Rattle.q_rule.proofs.Quantifiers.{bound-universal}
 
 -- Rows of hops.
 blank : (n i : ℕ) → get_or (replicate n Nothing) i Nothing ≡ Nothing

@@ -10,7 +10,7 @@ use Rattle.q_reduce.specs.declared.hop.Hop.{Hop}
 use Rattle.q_reduce.specs.declared.hop.Hop.TheVariants.{Nothing, Core, Sure}
 use Rattle.q_reduce.specs.Hops.{Joins, IsMet, IsExit, HoldsUniversal, AreSure, hop_at}
 use Rattle.q_reduce.specs.Leading.{Leads, Arrivals, AreRight}
-use Rattle.q_reduce.proofs.Outer.{inner-through}
+use Rattle.q_rule.proofs.Outer.{inner-through}
 use Rattle.q_reduce.proofs.Hopping.{exit-begun}
 use Rattle.q_reduce.proofs.Bridging.{Spans, sure-span, core-joins, sure-joins, met-mate, met-back}
 

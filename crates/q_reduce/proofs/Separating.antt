@@ -27,7 +27,7 @@ use Rattle.q_reduce.specs.declared.target.Target.TheVariants.{Tautology, Unit, C
 use Rattle.q_reduce.specs.Targets.{target_of}
 use Rattle.q_reduce.specs.Regions.{Known, region_of, is_covered, key_of, IsRegional, AreRegions, AreRegionsOf}
 use Rattle.q_reduce.proofs.Walks.{others-find}
-use Rattle.q_reduce.proofs.Outer.{inner-through, occurring-universal, occurring-inner}
+use Rattle.q_rule.proofs.Outer.{inner-through, occurring-universal, occurring-inner}
 
 -- What a search among ascending numbers tells.
 number-in : (xs : List ℕ) (x i : ℕ) → i < length xs → get_or xs i 0 ≡ x → IsIn x xs

@@ -1,10 +1,7 @@
 pub mod Targets
-pub mod Marks
 pub mod Walks
 pub mod Hops
 pub mod Leading
-pub mod Quants
-pub mod Becoming
 pub mod Searches
 pub mod Regions
 pub mod Lent

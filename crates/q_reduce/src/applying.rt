@@ -12,13 +12,12 @@ ghost use Rattle.q_kernel.specs.Kernels.{slots};
 ghost use Rattle.q_reduce.specs.Targets.{target_of};
 ghost use Rattle.q_reduce.specs.Lent.{IsFitFor};
 
-use crate::clauses::{holds, is_tautology, only_literal};
-use crate::reach::{is_existential, is_universal};
 use crate::search::Search;
 use crate::target::Target;
 use q_arena::ClauseId;
 use q_kernel::Kernel;
 use q_logic::{Lit, NoMemory};
+use q_rule::{holds, is_existential, is_tautology, is_universal, only_literal};
 
 /// Whether the conditions of a target hold.
 pub fn fits(kernel: &Kernel, search: &mut Search, target: &Target) -> Result<bool, NoMemory>

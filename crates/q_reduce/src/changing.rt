@@ -11,14 +11,14 @@ ghost use Rattle.q_logic.specs.Sets.{OccursIn, with_literal, without_literal, ea
 ghost use Rattle.q_logic.specs.Rules.{Fits};
 ghost use Rattle.q_kernel.specs.Kernels.{slots, formula_in, HoldsLiteral, HasSweepBytes};
 ghost use Rattle.q_reduce.specs.Targets.{target_of};
-ghost use Rattle.q_reduce.specs.Becoming.{CanChange, HasBecome, IsChanged, HasResult};
+ghost use Rattle.q_rule.specs.Becoming.{CanChange, HasBecome, IsChanged, HasResult};
 
 use crate::applying::unit_literal;
-use crate::reach::is_existential;
 use crate::target::Target;
 use q_arena::ClauseId;
 use q_kernel::Kernel;
 use q_logic::Lit;
+use q_rule::is_existential;
 
 /// Makes the change of a target, and sweeps.
 pub fn take(kernel: &mut Kernel, target: &Target)

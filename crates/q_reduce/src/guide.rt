@@ -13,15 +13,14 @@ ghost use Rattle.q_reduce.specs.Walks.{IsBeside, IsGrown};
 ghost use Rattle.q_reduce.specs.Hops.{IsMet, IsExit, LeadsBack, HoldsUniversal, AreSure, no_rows, AreHopsOf, AreLoosened, IsTouched};
 
 use crate::asked::Asked;
-use crate::clauses::holds;
-use crate::queue::Queue;
-use crate::reach::{clause_of, is_universal, lies_inside, push_inner};
+use crate::reach::{lies_inside, push_inner};
 use crate::target::Target;
 use crate::tree::Tree;
 use crate::trees::Trees;
 use q_arena::ClauseId;
 use q_kernel::Kernel;
 use q_logic::{Lit, NoMemory};
+use q_rule::{Queue, clause_of, holds, is_universal};
 use std::alloc::Global;
 use std::marker::Model;
 

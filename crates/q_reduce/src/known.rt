@@ -8,8 +8,8 @@ ghost use Rattle.q_reduce.specs.Hops.{hop_at};
 ghost use Rattle.q_reduce.specs.Leading.{Arrivals, Leads, AreRight};
 
 use crate::hop::{Hop, hop_at};
-use crate::queue::Queue;
 use q_logic::Lit;
+use q_rule::Queue;
 use std::alloc::Global;
 use std::marker::Model;
 

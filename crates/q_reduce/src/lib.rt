@@ -4,14 +4,12 @@
 mod applying;
 mod asked;
 mod changing;
-mod clauses;
 mod finding;
 mod guide;
 mod hop;
 mod joining;
 mod known;
 mod maps;
-mod queue;
 mod reach;
 mod reduce;
 mod regions;
@@ -23,6 +21,3 @@ mod trees;
 pub use reduce::{applies, find, find_with, try_one, try_with};
 pub use search::Search;
 pub use target::Target;
-
-#[cfg(test)]
-mod tests;

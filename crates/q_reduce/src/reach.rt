@@ -8,53 +8,18 @@ ghost use Rattle.q_logic.specs.Steps.{Within};
 ghost use Rattle.q_logic.specs.Reach.{Reducible};
 ghost use Rattle.q_logic.specs.Numbered.{slot, others};
 ghost use Rattle.q_kernel.specs.Kernels.{slots};
-ghost use Rattle.q_reduce.specs.Quants.{is_some_exists, is_some_forall};
+ghost use Rattle.q_rule.specs.Quants.{is_some_exists, is_some_forall};
 ghost use Rattle.q_reduce.specs.Hops.{AreHopsOf};
 ghost use Rattle.q_reduce.specs.Walks.{IsWidened, IsFollowed, IsVisited};
 
-use crate::clauses::holds;
 use crate::guide::Guide;
-use crate::queue::Queue;
 use q_arena::ClauseId;
 use q_kernel::Kernel;
 use q_logic::{Lit, NoMemory, Quant};
+use q_rule::{Queue, holds};
 
 // The guide is asked at so many literals of a walk.
 const GUIDED: usize = 64;
-
-fn says_exists(quant: Option<Quant>) -> bool
-    ensures { result ≡ is_some_exists quant }
-{
-    matches!(quant, Some(Quant::Exists))
-}
-
-fn says_forall(quant: Option<Quant>) -> bool
-    ensures { result ≡ is_some_forall quant }
-{
-    matches!(quant, Some(Quant::Forall))
-}
-
-pub fn is_existential(kernel: &Kernel, var: u32) -> bool
-    ensures { result ≡ is_existential kernel.now.prefix var }
-{
-    says_exists(kernel.prefix().quant(var))
-}
-
-pub fn is_universal(kernel: &Kernel, var: u32) -> bool
-    ensures { result ≡ is_universal kernel.now.prefix var }
-{
-    says_forall(kernel.prefix().quant(var))
-}
-
-/// The clause of an id. Its variables are in the prefix.
-pub fn clause_of(kernel: &Kernel, id: ClauseId) -> &[Lit]
-    requires { (C : Clause) × (slot (slots kernel.now) id ≡ Some C) }
-    ensures clause { slot (slots kernel.now) id ≡ Some result.now }
-    ensures within { Within kernel.now.prefix result.now }
-{
-    kernel.sound();
-    kernel.lits(id)
-}
 
 /// Whether no clause that is reached from the clause holds the literal's negation. The walk expands each
 /// literal once, and stops at the first such clause, or where the guide knows the way to one. It counts the clauses
@@ -168,12 +133,4 @@ pub fn lies_inside(kernel: &Kernel, k: Lit, u: Lit) -> bool
     ensures { result ≡ inner_existential kernel.now.prefix u.var k.var }
 {
     is_inner(kernel, k.var(), u.var())
-}
-
-/// Whether a variable is existential and inner to another.
-pub fn is_inner(kernel: &Kernel, var: u32, u: u32) -> bool
-    requires { is_bound kernel.now.prefix u ≡ true }
-    ensures { result ≡ inner_existential kernel.now.prefix u var }
-{
-    is_existential(kernel, var) && !kernel.prefix().outer_or_same(var, u)
 }

@@ -7,7 +7,7 @@ ghost use Rattle.q_kernel.specs.Kernels.{SameView, formula_in};
 ghost use Rattle.q_kernel.specs.Taking.{AreModest, IsReady, Applies, IsTaken};
 ghost use Rattle.q_reduce.specs.declared.target.Target.{Target as TargetValue};
 ghost use Rattle.q_reduce.specs.Targets.{target_of};
-ghost use Rattle.q_reduce.specs.Becoming.{CanChange};
+ghost use Rattle.q_rule.specs.Becoming.{CanChange};
 ghost use Rattle.q_reduce.specs.Lent.{IsFitFor};
 
 use crate::applying::fits;

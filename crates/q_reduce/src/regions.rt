@@ -10,10 +10,10 @@ ghost use Rattle.q_kernel.specs.Kernels.{slots};
 ghost use Rattle.q_reduce.specs.Regions.{no_regions, region_of, is_covered, key_of, IsRegional, AreRegions};
 
 use crate::joining::{join_all, label_at, settle};
-use crate::reach::{is_inner, is_universal};
 use q_arena::ClauseId;
 use q_kernel::Kernel;
 use q_logic::{Lit, NoMemory};
+use q_rule::{is_inner, is_universal};
 use std::alloc::Global;
 use std::marker::Model;
 

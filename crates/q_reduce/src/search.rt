@@ -12,12 +12,12 @@ ghost use Rattle.q_reduce.specs.Lent.{nothing_learned, IsFitFor};
 
 use crate::guide::Guide;
 use crate::maps::Maps;
-use crate::queue::Queue;
 use crate::reach::is_reducible;
 use crate::target::Target;
 use q_arena::ClauseId;
 use q_kernel::Kernel;
 use q_logic::{Lit, NoMemory};
+use q_rule::Queue;
 use std::alloc::Global;
 use std::marker::Model;
 

@@ -14,14 +14,13 @@ ghost use Rattle.q_reduce.specs.declared.hop.Hop.TheVariants.{Core, Sure};
 ghost use Rattle.q_reduce.specs.Hops.{Joins, HoldsUniversal, IsLone, IsBare, GoesTo, Tells, hop_at, AreSure, IsLoosened};
 ghost use Rattle.q_reduce.specs.Leading.{Leads};
 
-use crate::clauses::holds;
 use crate::hop::{Hop, hop_at};
 use crate::known::Known;
-use crate::queue::Queue;
-use crate::reach::{clause_of, is_universal, lies_inside};
+use crate::reach::lies_inside;
 use q_arena::ClauseId;
 use q_kernel::Kernel;
 use q_logic::{Lit, NoMemory};
+use q_rule::{Queue, clause_of, holds, is_universal};
 use std::alloc::Global;
 use std::marker::Model;
 

@@ -9,12 +9,12 @@ ghost use Rattle.q_reduce.specs.Leading.{Leads};
 ghost use Rattle.q_reduce.specs.Hops.{hop_at, no_rows, AreHopsOf, AreLoosened, IsAssigned, IsTouched};
 
 use crate::applying::unit_literal;
-use crate::queue::Queue;
 use crate::target::Target;
 use crate::tree::Tree;
 use q_arena::ClauseId;
 use q_kernel::Kernel;
 use q_logic::{Lit, NoMemory};
+use q_rule::Queue;
 use std::alloc::Global;
 use std::marker::Model;
 

@@ -2,7 +2,7 @@ use Rattle.std.proofs.Common.{◌≡◌, ◌∙◌, Some, sym, subst, true≢fal
 use Rattle.q_logic.specs.Literals.{negation}
 use Rattle.q_logic.specs.Formulas.{Clause, IsIn}
 use Rattle.q_logic.specs.Reach.{Reached}
-use Rattle.q_reduce.proofs.Members.{test-false}
+use Rattle.q_rule.proofs.Members.{test-false}
 use Rattle.q_reduce.proofs.applying.fits_cut.Goals as goal
 use Rattle.q_reduce.proofs.applying.fits_cut.Goals.{then-not-holds-via-then-not-holds, then-not-holds-via-else-not-holds+then-holds}
 

@@ -4,9 +4,9 @@ use Rattle.q_logic.specs.Formulas.{Matrix}
 use Rattle.q_logic.specs.Sets.{OccursIn, without_literal, each_without}
 use Rattle.q_logic.specs.Numbered.{live}
 use Rattle.q_kernel.specs.Kernels.{slots}
-use Rattle.q_reduce.specs.Becoming.{HasBecome}
-use Rattle.q_reduce.proofs.Turns.{each_without-gone, without-swap}
-use Rattle.q_reduce.proofs.Becoming.{change-clear, become-through, become-same}
+use Rattle.q_rule.specs.Becoming.{HasBecome}
+use Rattle.q_rule.proofs.Turns.{each_without-gone, without-swap}
+use Rattle.q_rule.proofs.Becoming.{change-clear, become-through, become-same}
 use Rattle.q_reduce.proofs.changing.assign.Goals as goal
 
 one : (k l : Literal) → Some (k ∷ []) ≡ Some (l ∷ []) → k ≡ l

@@ -2,8 +2,8 @@ use Rattle.std.proofs.Common.{◌≡◌, true, Some, sym, ◌∙◌, refl, subst
 use Rattle.q_logic.specs.Formulas.{Clause, IsIn}
 use Rattle.q_logic.specs.Prefixes.{is_existential}
 use Rattle.q_kernel.specs.Kernels.{HoldsLiteral}
-use Rattle.q_reduce.proofs.Steps.{may-go_pure}
-use Rattle.q_reduce.proofs.Clearing.{deleting-more, deleting-done, size-deleted, clause-bytes}
+use Rattle.q_rule.proofs.Steps.{may-go_pure}
+use Rattle.q_rule.proofs.Clearing.{deleting-more, deleting-done, size-deleted, clause-bytes}
 use Rattle.q_reduce.proofs.changing.delete_all.Goals as goal
 
 same : (C D : Clause) → Some C ≡ Some D → C ≡ D

@@ -9,9 +9,9 @@ use Rattle.q_logic.specs.Steps.{drop_literal}
 use Rattle.std.proofs.Common.{length}
 use Rattle.q_kernel.specs.Kernels.{slots, HoldsLiteral}
 use Rattle.q_kernel.proofs.Leading.{led-itself}
-use Rattle.q_reduce.proofs.Steps.{may-drop_pure, drop-cost}
-use Rattle.q_reduce.proofs.Turns.{shorter-in}
-use Rattle.q_reduce.proofs.Clearing.{clearing-bytes, clearing-more, clearing-done, with-falls}
+use Rattle.q_rule.proofs.Steps.{may-drop_pure, drop-cost}
+use Rattle.q_rule.proofs.Turns.{shorter-in}
+use Rattle.q_rule.proofs.Clearing.{clearing-bytes, clearing-more, clearing-done, with-falls}
 use Rattle.q_reduce.proofs.changing.drop_all.Goals as goal
 
 same : (C D : Clause) → Some C ≡ Some D → C ≡ D

@@ -7,9 +7,9 @@ use Rattle.q_kernel.specs.Kernels.{slots}
 use Rattle.q_reduce.specs.declared.target.Target.{Target}
 use Rattle.q_reduce.specs.declared.target.Target.TheVariants.{Tautology, Unit, Cut, Pure}
 use Rattle.q_reduce.specs.Targets.{target_of}
-use Rattle.q_reduce.specs.Becoming.{IsChanged}
-use Rattle.q_reduce.proofs.Steps.{may-go_tautology, may-drop_reducible}
-use Rattle.q_reduce.proofs.Becoming.{change-clause, changed-tautology, changed-cut, changed-unit}
+use Rattle.q_rule.specs.Becoming.{IsChanged}
+use Rattle.q_rule.proofs.Steps.{may-go_tautology, may-drop_reducible}
+use Rattle.q_rule.proofs.Becoming.{change-clause, changed-tautology, changed-cut, changed-unit}
 use Rattle.q_reduce.proofs.changing.make_change.Goals as goal
 
 none : Bounds

@@ -4,7 +4,7 @@ use Rattle.q_logic.specs.Measure.{size_of}
 use Rattle.q_logic.specs.Sets.{with_literal}
 use Rattle.q_logic.specs.Numbered.{slot, live}
 use Rattle.q_kernel.specs.Kernels.{slots}
-use Rattle.q_reduce.proofs.Clearing.{IsClearing}
+use Rattle.q_rule.proofs.Clearing.{IsClearing}
 use Rattle.q_reduce.proofs.changing.shrink_all.Given as goal
 
 abbrev pub invariant-loop-id : goal.invariant-loop-id

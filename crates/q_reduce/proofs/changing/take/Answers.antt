@@ -1,5 +1,5 @@
 use Rattle.q_reduce.specs.Targets.{target_of}
-use Rattle.q_reduce.proofs.Becoming.{swept-result}
+use Rattle.q_rule.proofs.Becoming.{swept-result}
 use Rattle.q_reduce.proofs.changing.take.Goals as goal
 
 pub returns : goal.returns

@@ -10,7 +10,7 @@ use Rattle.q_reduce.specs.declared.target.Target.{Target}
 use Rattle.q_reduce.specs.declared.target.Target.TheVariants.{Tautology, Unit, Cut, Pure}
 use Rattle.q_reduce.specs.Targets.{target_of}
 use Rattle.q_reduce.specs.Searches.{IsCutOf}
-use Rattle.q_reduce.proofs.Members.{taken-cases, taken-all}
+use Rattle.q_rule.proofs.Members.{taken-cases, taken-all}
 use Rattle.q_reduce.proofs.Passing.{found-one, found-none}
 use Rattle.q_reduce.proofs.finding.find_cut.Goals as goal
 

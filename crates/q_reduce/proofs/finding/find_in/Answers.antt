@@ -9,7 +9,7 @@ use Rattle.q_reduce.specs.declared.target.Target.{Target}
 use Rattle.q_reduce.specs.declared.target.Target.TheVariants.{Tautology, Unit, Cut, Pure}
 use Rattle.q_reduce.specs.Targets.{target_of}
 use Rattle.q_reduce.specs.Searches.{IsOfClause, IsCutOf, IsFound}
-use Rattle.q_reduce.proofs.Members.{test-false}
+use Rattle.q_rule.proofs.Members.{test-false}
 use Rattle.q_reduce.proofs.Passing.{found-one, found-none}
 use Rattle.q_reduce.proofs.finding.find_in.Goals as goal
 

@@ -7,7 +7,7 @@ use Rattle.q_occ.specs.Places.{places_of}
 use Rattle.q_kernel.specs.Kernels.{slots, HoldsLiteral}
 use Rattle.q_kernel.proofs.Following.{passed, passed-none}
 use Rattle.q_reduce.specs.Walks.{IsFollowed}
-use Rattle.q_reduce.proofs.Places.{passed-step, passed-falls}
+use Rattle.q_rule.proofs.Places.{passed-step, passed-falls}
 use Rattle.q_reduce.proofs.Walks.{IsFollowing, following-begun, following-more, following-visited, visited-not, beside-held}
 use Rattle.q_reduce.proofs.reach.visit.Goals as goal
 

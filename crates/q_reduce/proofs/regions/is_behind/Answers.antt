@@ -1,5 +1,5 @@
 use Rattle.std.proofs.Common.{◌∙◌, sym}
-use Rattle.q_reduce.proofs.Quantifiers.{bound-universal}
+use Rattle.q_rule.proofs.Quantifiers.{bound-universal}
 use Rattle.q_reduce.proofs.regions.is_behind.Goals as goal
 
 pub outer_or_same-requires-clause-b : goal.outer_or_same-requires-clause-b

@@ -2,7 +2,7 @@ use Rattle.std.proofs.Common.{◌≡◌, ◌∙◌, true, Some, sym, ap, subst, 
 use Rattle.q_logic.specs.Literals.{Literal}
 use Rattle.q_logic.specs.Formulas.{IsIn}
 use Rattle.q_logic.specs.Prefixes.{is_universal}
-use Rattle.q_reduce.proofs.Members.{item-in, taken-cases}
+use Rattle.q_rule.proofs.Members.{item-in, taken-cases}
 use Rattle.q_reduce.proofs.tree.first_universal.Goals as goal
 
 same : (j k : Literal) → Some j ≡ Some k → j ≡ k

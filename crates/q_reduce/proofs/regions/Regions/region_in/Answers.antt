@@ -2,7 +2,7 @@ use Rattle.std.proofs.Common.{◌≡◌, ◌∙◌, ℕ, true, Some, sym, ap, su
 use Rattle.q_logic.specs.Literals.{Literal}
 use Rattle.q_logic.specs.Expanding.{inner_existential}
 use Rattle.q_reduce.specs.Regions.{region_of}
-use Rattle.q_reduce.proofs.Members.{item-in, taken-cases}
+use Rattle.q_rule.proofs.Members.{item-in, taken-cases}
 use Rattle.q_reduce.proofs.regions.Regions.region_in.Goals as goal
 
 same : (r s : ℕ) → Some r ≡ Some s → r ≡ s

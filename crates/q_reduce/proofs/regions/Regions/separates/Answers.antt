@@ -4,8 +4,8 @@ use Rattle.q_logic.specs.Formulas.{Clause, IsIn}
 use Rattle.q_logic.specs.Expanding.{inner_existential}
 use Rattle.q_kernel.specs.Kernels.{slots}
 use Rattle.q_reduce.specs.Regions.{is_covered}
-use Rattle.q_reduce.proofs.Members.{test-not}
-use Rattle.q_reduce.proofs.Quantifiers.{bound-universal}
+use Rattle.q_rule.proofs.Members.{test-not}
+use Rattle.q_rule.proofs.Quantifiers.{bound-universal}
 use Rattle.q_reduce.proofs.Separating.{reducible-none, reducible-apart}
 use Rattle.q_reduce.proofs.regions.Regions.separates.Goals as goal
 

@@ -1,7 +1,7 @@
 use Rattle.std.proofs.Common.{◌≡◌, ◌∙◌, Some, sym, refl, subst}
 use Rattle.q_logic.specs.Formulas.{Clause, IsIn}
 use Rattle.q_kernel.specs.Kernels.{slots}
-use Rattle.q_reduce.proofs.Quantifiers.{bound-universal}
+use Rattle.q_rule.proofs.Quantifiers.{bound-universal}
 use Rattle.q_reduce.proofs.Hopping.{absent-reducible}
 use Rattle.q_reduce.specs.Hops.{Rows, AreHopsOf}
 use Rattle.q_reduce.specs.Lent.{Learned}

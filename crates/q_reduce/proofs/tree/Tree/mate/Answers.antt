@@ -4,7 +4,7 @@ use Rattle.q_logic.specs.Numbered.{live, others}
 use Rattle.q_kernel.specs.Kernels.{slots}
 use Rattle.q_reduce.specs.declared.hop.Hop.TheVariants.{Core, Sure}
 use Rattle.q_reduce.specs.Hops.{Joins}
-use Rattle.q_reduce.proofs.Members.{test-false}
+use Rattle.q_rule.proofs.Members.{test-false}
 use Rattle.q_reduce.proofs.Bridging.{core-joins, sure-joins, sure-span}
 use Rattle.q_reduce.proofs.tree.Tree.mate.Goals as goal
 

@@ -4,7 +4,7 @@ use Rattle.q_logic.specs.Formulas.{Clause, IsIn}
 use Rattle.q_logic.specs.Numbered.{live}
 use Rattle.q_logic.proofs.Slots.{live-slot}
 use Rattle.q_kernel.specs.Kernels.{slots}
-use Rattle.q_reduce.proofs.Members.{item-in}
+use Rattle.q_rule.proofs.Members.{item-in}
 use Rattle.q_reduce.proofs.Bridging.{sure-set}
 use Rattle.q_reduce.proofs.tree.Tree.note_inner.Goals as goal
 use Rattle.q_reduce.proofs.tree.Tree.note_inner.Goals.{then-not-has+then-lies_inside+in_ok-push, else-not-has}

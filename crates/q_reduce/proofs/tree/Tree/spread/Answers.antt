@@ -1,5 +1,5 @@
 use Rattle.q_occ.specs.Places.{places_of}
-use Rattle.q_reduce.proofs.Places.{passed-falls}
+use Rattle.q_rule.proofs.Places.{passed-falls}
 use Rattle.q_reduce.proofs.tree.Tree.spread.Goals as goal
 
 pub loop-at-init : goal.loop-at-init

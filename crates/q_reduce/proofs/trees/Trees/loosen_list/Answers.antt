@@ -6,7 +6,7 @@ use Rattle.q_occ.specs.Places.{places_of}
 use Rattle.q_kernel.specs.Kernels.{slots}
 use Rattle.q_kernel.proofs.Following.{passed, passed-none}
 use Rattle.q_reduce.specs.Hops.{Rows, AreLoosened}
-use Rattle.q_reduce.proofs.Places.{passed-step, passed-falls}
+use Rattle.q_rule.proofs.Places.{passed-step, passed-falls}
 use Rattle.q_reduce.proofs.Bridging.{IsOwned, owned-begun, owned-more, owned-ended}
 use Rattle.q_reduce.proofs.trees.Trees.loosen_list.Goals as goal
 

@@ -1,0 +1,11 @@
+pub mod Marking
+pub mod Members
+pub mod Neighbours
+pub mod Quantifiers
+pub mod Places
+pub mod Outer
+pub mod Turns
+pub mod Steps
+pub mod Clearing
+pub mod Becoming
+pub mod Results

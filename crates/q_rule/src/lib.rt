@@ -1,0 +1,11 @@
+//! What every rule stands on: tests of clauses and variables, sets of literals as marks and a list, and how the
+//! steps of a rule lead from a formula to the result of a target (`specs/Becoming.antt`, `proofs/`).
+#![tactic(auto)]
+
+mod clauses;
+mod queue;
+mod variables;
+
+pub use clauses::{holds, is_tautology, only_literal};
+pub use queue::Queue;
+pub use variables::{clause_of, is_existential, is_inner, is_universal};
