@@ -1,5 +1,5 @@
 -- The targets of this crate: their changes keep the limits.
-use Rattle.std.proofs.Common.{Bool, true, false, cond, subst, sym}
+use Rattle.std.proofs.Common.{Bool, true, false, cond, ◌∷◌, subst, sym}
 use Rattle.q_logic.specs.declared.rule_bounds.Bounds.{Bounds}
 use Rattle.q_logic.specs.Literals.{negation}
 use Rattle.q_logic.specs.Formulas.{Prefix}

@@ -16,7 +16,7 @@ use crate::guide::Guide;
 use q_arena::ClauseId;
 use q_kernel::Kernel;
 use q_logic::{Lit, NoMemory, Quant};
-use q_rule::{Queue, holds};
+use q_rule::{Queue, clause_of, holds, is_inner};
 
 // The guide is asked at so many literals of a walk.
 const GUIDED: usize = 64;

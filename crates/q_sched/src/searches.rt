@@ -1,0 +1,120 @@
+//! The searches of all rules, lent from turn to turn.
+ghost use Rattle.std.specs.Prelude.{◌≡◌, ◌↔◌, ◌≤◌, Some, None, IfOk, OnErr, IsTrue};
+ghost use Rattle.q_logic.specs.Targets.{Target as TheoryTarget, place};
+ghost use Rattle.q_kernel.specs.Kernels.{SameView};
+ghost use Rattle.q_kernel.specs.Taking.{AreModest, IsReady, Applies, IsTaken};
+ghost use Rattle.q_kernel.specs.declared.taken.Taken.TheVariants.{Yes, No};
+ghost use Rattle.q_reduce.specs.Lent.{nothing_learned, IsFitFor};
+ghost use Rattle.q_sched.specs.declared.moves.Move.{Move as MoveValue};
+ghost use Rattle.q_sched.specs.Moves.{target_of, IsOf};
+
+use crate::moves::{Move, Rule};
+use q_kernel::{Kernel, Taken};
+use q_logic::{Bounds, NoMemory};
+use std::alloc::Global;
+use std::marker::Model;
+
+/// What the searches of the rules keep from call to call: buffers, and what universal reduction has learned of the formula,
+/// which has to be right for the kernel before (`IsFitFor`) and is so after.
+#[derive(Drop)]
+pub struct Searches {
+    plain: q_reduce::Search,
+}
+
+impl Model for Searches {
+    ghost use Rattle.q_reduce.specs.Lent.{Learned};
+
+    ghost Value = { Learned };
+
+    ghost view = { λ s. s.plain };
+}
+
+impl Searches {
+    /// Nothing is learned. It takes no memory.
+    pub fn new(alloc: Global) -> Searches
+        ensures { result ≡ nothing_learned }
+    {
+        Searches {
+            plain: q_reduce::Search::new(alloc),
+        }
+    }
+
+    /// Whether a target applies.
+    pub fn applies(
+        &mut self,
+        kernel: &Kernel,
+        target: &Move,
+        bounds: &Bounds,
+    ) -> Result<bool, NoMemory>
+        requires ready { IsReady kernel.now }
+        requires bounds { AreModest bounds.now }
+        requires fit { IsFitFor kernel.now self.old }
+        ensures yes { IfOk result (λ yes. IsTrue yes ↔ Applies bounds.now kernel.now (target_of target.now)) }
+        ensures fit { IsFitFor kernel.now self.new }
+    {
+        match target {
+            Move::Reduce(t) => q_reduce::applies(kernel, &mut self.plain, t, bounds),
+        }
+    }
+
+    /// Takes a target exactly where it applies.
+    pub fn take(
+        &mut self,
+        kernel: &mut Kernel,
+        target: &Move,
+        bounds: &Bounds,
+    ) -> Result<Taken, NoMemory>
+        requires ready { IsReady kernel.old }
+        requires bounds { AreModest bounds.now }
+        requires fit { IsFitFor kernel.old self.old }
+        ensures applies { IfOk result (λ r. (r ≡ Yes) ↔ Applies bounds.now kernel.old (target_of target.now)) }
+        ensures yes { IfOk result (λ r. r ≡ Yes → IsTaken bounds.now kernel.old kernel.new (target_of target.now)) }
+        ensures no { IfOk result (λ r. r ≡ No → SameView kernel.old kernel.new) }
+        ensures err { OnErr result (SameView kernel.old kernel.new) }
+        ensures fit { IsFitFor kernel.new self.new }
+    {
+        match target {
+            Move::Reduce(t) => q_reduce::try_with(kernel, &mut self.plain, t, bounds),
+        }
+    }
+
+    /// A target of a rule whose place is at least a number; none exactly where none from that place on applies.
+    pub fn find(
+        &mut self,
+        kernel: &Kernel,
+        rule: Rule,
+        bounds: &Bounds,
+        from: u32,
+    ) -> Result<Option<Move>, NoMemory>
+        requires ready { IsReady kernel.now }
+        requires bounds { AreModest bounds.now }
+        requires fit { IsFitFor kernel.now self.old }
+        ensures some { IfOk result (λ o. (m : MoveValue) → o ≡ Some m → Applies bounds.now kernel.now (target_of m)) }
+        ensures none { IfOk result (λ o. o ≡ None → (t : TheoryTarget) → IsOf rule t → from ≤ place t → Applies bounds.now kernel.now t → ⊥) }
+        ensures fit { IsFitFor kernel.now self.new }
+    {
+        match rule {
+            Rule::Reduce => self.find_plain(kernel, bounds, from),
+        }
+    }
+
+    fn find_plain(
+        &mut self,
+        kernel: &Kernel,
+        bounds: &Bounds,
+        from: u32,
+    ) -> Result<Option<Move>, NoMemory>
+        requires ready { IsReady kernel.now }
+        requires bounds { AreModest bounds.now }
+        requires fit { IsFitFor kernel.now self.old }
+        ensures some { IfOk result (λ o. (m : MoveValue) → o ≡ Some m → Applies bounds.now kernel.now (target_of m)) }
+        ensures none { IfOk result (λ o. o ≡ None → (t : TheoryTarget) → IsOf Rule.Reduce t → from ≤ place t → Applies bounds.now kernel.now t → ⊥) }
+        ensures fit { IsFitFor kernel.now self.new }
+    {
+        match q_reduce::find_with(kernel, &mut self.plain, bounds, from) {
+            Ok(Some(t)) => Ok(Some(Move::Reduce(t))),
+            Ok(None) => Ok(None),
+            Err(error) => Err(error),
+        }
+    }
+}
