@@ -1,4 +1,5 @@
 -- The targets of all rules, as targets of the theory.
+use Rattle.std.specs.Prelude.{◌≡◌, ℕ}
 use Rattle.q_logic.specs.Targets as theory
 use Rattle.q_logic.specs.Targets.{tautology, unit, cut, pure, subsumed, strengthen, merge, blocked, blocked_forall, cover, eliminate, expand_universal}
 use Rattle.q_reduce.specs.Targets as plain
@@ -10,17 +11,29 @@ use Rattle.q_sched.specs.declared.moves.Move.TheVariants as move
 abbrev pub target_of : Move → theory.Target
 target_of (move.Reduce t) = plain.target_of t
 
--- the targets that a rule's search looks for
+-- the rules in the order in which they are searched
+abbrev pub rank : Rule → ℕ
+rank rule.Reduce = 0
+
+-- how many of them there are
+abbrev pub rules : ℕ
+rules = 1
+
+-- the place of a target's rule in that order
+abbrev pub rank_of : theory.Target → ℕ
+rank_of (tautology c) = 0
+rank_of (unit c) = 0
+rank_of (cut c l) = 0
+rank_of (pure l) = 0
+rank_of (subsumed c d) = 1
+rank_of (strengthen c d l) = 1
+rank_of (merge keep gone) = 2
+rank_of (blocked c l) = 3
+rank_of (blocked_forall c l) = 3
+rank_of (cover c) = 3
+rank_of (eliminate x) = 4
+rank_of (expand_universal u) = 5
+
+-- the target is one of the rule's
 abbrev pub IsOf : Rule → theory.Target → Type 0
-IsOf rule.Reduce (tautology c) = Unit {0}
-IsOf rule.Reduce (unit c) = Unit {0}
-IsOf rule.Reduce (cut c l) = Unit {0}
-IsOf rule.Reduce (pure l) = Unit {0}
-IsOf rule.Reduce (subsumed c d) = ⊥
-IsOf rule.Reduce (strengthen c d l) = ⊥
-IsOf rule.Reduce (merge keep gone) = ⊥
-IsOf rule.Reduce (blocked c l) = ⊥
-IsOf rule.Reduce (blocked_forall c l) = ⊥
-IsOf rule.Reduce (cover c) = ⊥
-IsOf rule.Reduce (eliminate x) = ⊥
-IsOf rule.Reduce (expand_universal u) = ⊥
+IsOf r t = rank_of t ≡ rank r

@@ -1,26 +1,17 @@
 -- Settled over the rules that there are.
+use Rattle.std.specs.Prelude.{◌<◌}
 use Rattle.q_logic.specs.declared.rule_bounds.Bounds.{Bounds}
 use Rattle.q_logic.specs.Formulas.{Prefix, PrenexFormula}
 use Rattle.q_logic.specs.Numbered.{Slots, numbered}
 use Rattle.q_logic.specs.Sweep.{IsSwept}
-use Rattle.q_logic.specs.Targets.{Target, tautology, unit, cut, pure, subsumed, strengthen, merge, blocked, blocked_forall, cover, eliminate, expand_universal}
+use Rattle.q_logic.specs.Targets.{Target}
 use Rattle.q_logic.specs.Rules.{Applicable}
 use Rattle.q_kernel.specs.Kernels.{Seen, slots}
+use Rattle.q_sched.specs.Moves.{rank_of, rules}
 
--- the targets of the rules that there are: the plain ones
+-- the targets of the rules that there are
 abbrev pub HasRule : Target → Type 0
-HasRule (tautology c) = Unit {0}
-HasRule (unit c) = Unit {0}
-HasRule (cut c l) = Unit {0}
-HasRule (pure l) = Unit {0}
-HasRule (subsumed c d) = ⊥
-HasRule (strengthen c d l) = ⊥
-HasRule (merge keep gone) = ⊥
-HasRule (blocked c l) = ⊥
-HasRule (blocked_forall c l) = ⊥
-HasRule (cover c) = ⊥
-HasRule (eliminate x) = ⊥
-HasRule (expand_universal u) = ⊥
+HasRule t = rank_of t < rules
 
 -- no target of these applies
 abbrev pub NoneApplies : Bounds → Prefix → Slots → Type 0

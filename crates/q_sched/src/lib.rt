@@ -4,5 +4,5 @@
 mod moves;
 mod searches;
 
-pub use moves::{Move, Rule};
+pub use moves::{Move, RULES, Rule};
 pub use searches::Searches;

@@ -1,7 +1,7 @@
 //! The rules, and what any of them is applied to.
-ghost use Rattle.std.specs.Prelude.{◌≡◌};
+ghost use Rattle.std.specs.Prelude.{◌≡◌, ◌<◌};
 ghost use Rattle.q_logic.specs.Targets.{place};
-ghost use Rattle.q_sched.specs.Moves.{target_of};
+ghost use Rattle.q_sched.specs.Moves.{target_of, rank, rank_of, rules};
 
 use q_reduce::Target as Plain;
 
@@ -9,6 +9,28 @@ use q_reduce::Target as Plain;
 #[derive(Clone, Copy, Debug, PartialEq, Eq)]
 pub enum Rule {
     Reduce,
+}
+
+/// So many rules there are.
+pub const RULES: u32 = 1;
+
+impl Rule {
+    /// The rule at a place of the order.
+    pub fn at(place: u32) -> Rule
+        requires { place < rules }
+        ensures { rank result ≡ place }
+    {
+        Rule::Reduce
+    }
+
+    /// The place of the rule in the order.
+    pub fn rank(self) -> u32
+        ensures { result ≡ rank self }
+    {
+        match self {
+            Rule::Reduce => 0,
+        }
+    }
 }
 
 /// A target of some rule.
@@ -19,7 +41,9 @@ pub enum Move {
 
 impl Move {
     /// The rule of the target.
-    pub fn rule(&self) -> Rule {
+    pub fn rule(&self) -> Rule
+        ensures { rank result ≡ rank_of (target_of self.now) }
+    {
         match self {
             Move::Reduce(_) => Rule::Reduce,
         }

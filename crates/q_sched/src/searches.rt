@@ -6,9 +6,10 @@ ghost use Rattle.q_kernel.specs.Taking.{AreModest, IsReady, Applies, IsTaken};
 ghost use Rattle.q_kernel.specs.declared.taken.Taken.TheVariants.{Yes, No};
 ghost use Rattle.q_reduce.specs.Lent.{nothing_learned, IsFitFor};
 ghost use Rattle.q_sched.specs.declared.moves.Move.{Move as MoveValue};
-ghost use Rattle.q_sched.specs.Moves.{target_of, IsOf};
+ghost use Rattle.q_sched.specs.Moves.{target_of, IsOf, rank_of};
+ghost use Rattle.q_sched.specs.Settled.{HasRule, IsDone};
 
-use crate::moves::{Move, Rule};
+use crate::moves::{Move, RULES, Rule};
 use q_kernel::{Kernel, Taken};
 use q_logic::{Bounds, NoMemory};
 use std::alloc::Global;
@@ -98,6 +99,24 @@ impl Searches {
         }
     }
 
+    /// A target of the first rule that has one; none exactly where no target of the rules applies.
+    pub fn find_any(&mut self, kernel: &Kernel, bounds: &Bounds) -> Result<Option<Move>, NoMemory>
+        requires ready { IsReady kernel.now }
+        requires bounds { AreModest bounds.now }
+        requires fit { IsFitFor kernel.now self.old }
+        ensures some { IfOk result (λ o. (m : MoveValue) → o ≡ Some m → HasRule (target_of m) × Applies bounds.now kernel.now (target_of m)) }
+        ensures none { IfOk result (λ o. o ≡ None → IsDone bounds.now kernel.now) }
+        ensures fit { IsFitFor kernel.now self.new }
+    {
+        for place in 0..RULES {
+            let found = self.find(kernel, Rule::at(place), bounds, 0)?;
+            if found.is_some() {
+                return Ok(found);
+            }
+        }
+        Ok(None)
+    }
+
     fn find_plain(
         &mut self,
         kernel: &Kernel,
@@ -108,13 +127,12 @@ impl Searches {
         requires bounds { AreModest bounds.now }
         requires fit { IsFitFor kernel.now self.old }
         ensures some { IfOk result (λ o. (m : MoveValue) → o ≡ Some m → Applies bounds.now kernel.now (target_of m)) }
-        ensures none { IfOk result (λ o. o ≡ None → (t : TheoryTarget) → IsOf Rule.Reduce t → from ≤ place t → Applies bounds.now kernel.now t → ⊥) }
+        ensures none { IfOk result (λ o. o ≡ None → (t : TheoryTarget) → rank_of t ≡ 0 → from ≤ place t → Applies bounds.now kernel.now t → ⊥) }
         ensures fit { IsFitFor kernel.now self.new }
     {
-        match q_reduce::find_with(kernel, &mut self.plain, bounds, from) {
-            Ok(Some(t)) => Ok(Some(Move::Reduce(t))),
-            Ok(None) => Ok(None),
-            Err(error) => Err(error),
-        }
+        let Some(target) = q_reduce::find_with(kernel, &mut self.plain, bounds, from)? else {
+            return Ok(None);
+        };
+        Ok(Some(Move::Reduce(target)))
     }
 }

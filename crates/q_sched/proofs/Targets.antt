@@ -1,0 +1,52 @@
+-- A search of a rule's crate that finds nothing finds none of the theory's targets of that rule.
+use Rattle.std.proofs.Common.{◌≡◌, ◌≤◌, ◌<◌, ◌+◌, ◌⊎◌, inl, inr, ℕ, arith}
+use Rattle.q_logic.specs.declared.rule_bounds.Bounds.{Bounds}
+use Rattle.q_logic.specs.Targets.{Target, tautology, unit, cut, pure, subsumed, strengthen, merge, blocked, blocked_forall, cover, eliminate, expand_universal, place}
+use Rattle.q_kernel.specs.Kernels.{Seen}
+use Rattle.q_kernel.specs.Taking.{Applies}
+use Rattle.q_reduce.specs.declared.target.Target.{Target as Plain}
+use Rattle.q_reduce.specs.declared.target.Target.TheVariants.{Tautology, Unit, Cut, Pure}
+use Rattle.q_reduce.specs.Targets as plain
+use Rattle.q_sched.specs.declared.moves.Rule.TheVariants as rule
+use Rattle.q_sched.specs.declared.moves.Move.{Move}
+use Rattle.q_sched.specs.declared.moves.Move.TheVariants as move
+use Rattle.q_sched.specs.Moves.{IsOf, rank_of, rules, target_of}
+use Rattle.q_sched.specs.Settled.{HasRule, IsDone}
+
+pub none-plain : (B : Bounds) (k : Seen) (from : ℕ) → ((s : Plain) → from ≤ place (plain.target_of s) → Applies B k (plain.target_of s) → ⊥) → (t : Target) → IsOf rule.Reduce t → from ≤ place t → Applies B k t → ⊥
+none-plain B k from h (tautology c) i p a = h (Tautology c) p a
+none-plain B k from h (unit c) i p a = h (Unit c) p a
+none-plain B k from h (cut c l) i p a = h (Cut c l) p a
+none-plain B k from h (pure l) i p a = h (Pure l) p a
+none-plain B k from h (subsumed c d) i p a = absurd (omega arith)
+none-plain B k from h (strengthen c d l) i p a = absurd (omega arith)
+none-plain B k from h (merge keep gone) i p a = absurd (omega arith)
+none-plain B k from h (blocked c l) i p a = absurd (omega arith)
+none-plain B k from h (blocked_forall c l) i p a = absurd (omega arith)
+none-plain B k from h (cover c) i p a = absurd (omega arith)
+none-plain B k from h (eliminate x) i p a = absurd (omega arith)
+none-plain B k from h (expand_universal u) i p a = absurd (omega arith)
+
+-- each target of the code has one of the rules
+pub has_rule : (m : Move) → HasRule (target_of m)
+has_rule (move.Reduce (Tautology c)) = omega arith
+has_rule (move.Reduce (Unit c)) = omega arith
+has_rule (move.Reduce (Cut c l)) = omega arith
+has_rule (move.Reduce (Pure l)) = omega arith
+
+-- so where one applies, something is left to do
+pub some-not_done : (B : Bounds) (k : Seen) (m : Move) → Applies B k (target_of m) → IsDone B k → ⊥
+some-not_done B k m a d = d (target_of m) (has_rule m) a
+
+-- no target of the rules below a place of the order applies
+abbrev pub NoneBelow : Bounds → Seen → ℕ → Type 0
+NoneBelow B k n = (t : Target) → rank_of t < n → Applies B k t → ⊥
+
+pub none-more : (B : Bounds) (k : Seen) (n r from : ℕ) → r ≡ n → from ≤ 0 → NoneBelow B k n → ((t : Target) → rank_of t ≡ r → from ≤ place t → Applies B k t → ⊥) → NoneBelow B k (n + 1)
+none-more B k n r from e z h i t less a = elim (two (rank_of t) n less) [
+  | inl b ↦ h t b a
+  | inr b ↦ i t (omega arith) (omega arith) a
+]
+  where
+    two : (x n : ℕ) → x < n + 1 → (x < n) ⊎ (x ≡ n)
+    two x n h = grind (arith, Rattle.std.proofs.lemmas.Bool.Decides.nat_tests)
