@@ -8,8 +8,9 @@ use Rattle.q_kernel.specs.Kernels.{Seen, slots, formula_in}
 use Rattle.q_simplify.specs.declared.options.Options.{Options}
 use Rattle.q_simplify.specs.declared.turn.Turn.{Turn}
 use Rattle.q_simplify.specs.declared.turn.Turn.TheVariants.{Moved, Settled, Spent}
-use Rattle.q_simplify.specs.Settled.{IsSettled}
-use Rattle.q_simplify.specs.Turns.{IsDone, IsSpent, Stops}
+use Rattle.q_sched.specs.Settled.{IsSettled}
+use Rattle.q_sched.specs.Settled.{IsDone}
+use Rattle.q_simplify.specs.Turns.{IsSpent, Stops}
 use Rattle.q_simplify.specs.Results.{EndsAs, ends_as, by_clauses}
 use Rattle.q_simplify.proofs.Renumbering.{none-numbered, numbered-none}
 

@@ -19,7 +19,7 @@ use Rattle.q_logic.specs.Numbered.{formula_of, numbered}
 use Rattle.q_logic.specs.Sweep.{occurring, swept}
 use Rattle.q_logic.proofs.Settling.{settled-nothing}
 use Rattle.q_dimacs.specs.Writing.{formula_text}
-use Rattle.q_simplify.specs.Settled.{IsSettled, NoneApplies}
+use Rattle.q_sched.specs.Settled.{IsSettled, NoneApplies}
 use Rattle.q_simplify.specs.Turns.{IsSpent}
 use Rattle.q_simplify.specs.declared.report.Ending.{Ending}
 use Rattle.q_simplify.specs.declared.report.Ending.TheVariants as ending

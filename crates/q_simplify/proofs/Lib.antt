@@ -1,7 +1,6 @@
 pub mod Steps
 pub mod Logging
 pub mod Outputting
-pub mod Targets
 pub mod Driving
 pub mod Renumbering
 pub mod Readable

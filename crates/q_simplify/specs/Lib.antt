@@ -1,4 +1,3 @@
-pub mod Settled
 pub mod Turns
 pub mod Logs
 pub mod Outputs

@@ -19,7 +19,7 @@ use Rattle.q_simplify.specs.declared.report.Ending.{Ending}
 use Rattle.q_simplify.specs.declared.report.Ending.TheVariants as ending
 use Rattle.q_simplify.specs.declared.turn.Turn.{Turn}
 use Rattle.q_simplify.specs.declared.turn.Turn.TheVariants as turn
-use Rattle.q_simplify.specs.Settled.{IsSettled}
+use Rattle.q_sched.specs.Settled.{IsSettled}
 use Rattle.q_simplify.specs.Turns.{IsSpent}
 use Rattle.q_simplify.specs.Logs.{MayHoldSteps}
 

@@ -3,9 +3,9 @@ use Rattle.std.specs.Prelude.{◌≡◌, ◌≤◌, ◌+◌, ℕ, Option, Some, 
 use Rattle.q_logic.specs.declared.rule_bounds.Bounds.{Bounds}
 use Rattle.q_logic.specs.Measure.{measure_of}
 use Rattle.q_logic.specs.Targets.{Target}
-use Rattle.q_kernel.specs.Kernels.{Seen, slots, formula_in}
+use Rattle.q_kernel.specs.Kernels.{Seen, formula_in}
 use Rattle.q_kernel.specs.Taking.{IsTaken}
-use Rattle.q_simplify.specs.Settled.{HasRule, NoneApplies}
+use Rattle.q_sched.specs.Settled.{HasRule, IsDone}
 use Rattle.q_simplify.specs.declared.turn.Turn.{Turn}
 use Rattle.q_simplify.specs.declared.turn.Turn.TheVariants.{Moved, Settled, Spent}
 
@@ -13,10 +13,6 @@ use Rattle.q_simplify.specs.declared.turn.Turn.TheVariants.{Moved, Settled, Spen
 abbrev pub IsSpent : Option ℕ → ℕ → ℕ → Type 0
 IsSpent None first now = ⊥
 IsSpent (Some budget) first now = now + budget ≤ first
-
--- no target of the rules applies to the kernel's formula
-abbrev pub IsDone : Bounds → Seen → Type 0
-IsDone B k = NoneApplies B k.prefix (slots k)
 
 -- what a turn did: while the budget is not spent it takes a target where one applies; otherwise it changes nothing
 abbrev pub Turns : Turn → Bounds → Option ℕ → ℕ → Seen → Seen → Type 0

@@ -5,6 +5,7 @@ use q_arena::ClauseId;
 use q_kernel::Kernel;
 use q_logic::{Lit, NoMemory, Quant};
 use q_reduce::Target;
+use q_sched::Move;
 use std::alloc::Global;
 
 /// Targets that may have come to apply by the last changes, and where the search goes on once none of them
@@ -12,7 +13,9 @@ use std::alloc::Global;
 /// there is none; so nothing rests on what is noted.
 #[derive(Drop)]
 pub(crate) struct Agenda {
-    targets: Vec<Target>,
+    targets: Vec<Move>,
+    /// The place in the order of rules, and of the formula, where the last target was found.
+    pub rule: u32,
     pub cursor: u32,
 }
 
@@ -29,6 +32,7 @@ impl Agenda {
     pub(crate) fn start(alloc: Global, kernel: &Kernel) -> Result<Agenda, NoMemory> {
         let mut agenda = Agenda {
             targets: Vec::new(alloc),
+            rule: 0,
             cursor: 0,
         };
         agenda.note_units(kernel)?;
@@ -42,7 +46,7 @@ impl Agenda {
         let mut at = 0;
         while let Some(c) = kernel.next_live(at) {
             if kernel.lits(c).len() == 1 {
-                self.targets.push(Target::Unit { c })?;
+                self.push(Target::Unit { c })?;
             }
             let Some(after) = c.checked_add(1) else {
                 return Ok(());
@@ -68,8 +72,8 @@ impl Agenda {
         let no = Lit::new(var, true);
         match (kernel.count(yes), kernel.count(no)) {
             (0, 0) => Ok(()),
-            (0, _) => Ok(self.targets.push(Target::Pure { l: no })?),
-            (_, 0) => Ok(self.targets.push(Target::Pure { l: yes })?),
+            (0, _) => self.push(Target::Pure { l: no }),
+            (_, 0) => self.push(Target::Pure { l: yes }),
             _ => Ok(()),
         }
     }
@@ -79,18 +83,37 @@ impl Agenda {
     }
 
     /// The target that was noted last.
-    pub(crate) fn pop(&mut self) -> Option<Target> {
+    pub(crate) fn pop(&mut self) -> Option<Move> {
         self.targets.pop()
+    }
+
+    fn push(&mut self, target: Target) -> Result<(), NoMemory> {
+        self.targets.push(Move::Reduce(target))?;
+        Ok(())
+    }
+
+    /// The search goes on there.
+    pub(crate) fn go_to(&mut self, rule: u32, cursor: u32)
+        ensures { self.new.rule ≡ rule }
+    {
+        self.rule = rule;
+        self.cursor = cursor;
     }
 
     /// Notes what may apply once this target is taken: units and cuts of the clauses that it shortens, and the
     /// negations of the literals that it takes away, which may be pure then.
-    pub(crate) fn note(&mut self, kernel: &Kernel, target: &Target) -> Result<(), NoMemory> {
+    pub(crate) fn note(&mut self, kernel: &Kernel, target: &Move) -> Result<(), NoMemory> {
+        match target {
+            Move::Reduce(target) => self.note_plain(kernel, target),
+        }
+    }
+
+    fn note_plain(&mut self, kernel: &Kernel, target: &Target) -> Result<(), NoMemory> {
         match *target {
             Target::Tautology { c } => self.note_clause(kernel, c),
             Target::Unit { c } => self.note_unit(kernel, c),
             Target::Cut { c, l } => {
-                self.targets.push(Target::Pure { l: l.negated() })?;
+                self.push(Target::Pure { l: l.negated() })?;
                 self.note_shorter(kernel, c, l)
             }
             Target::Pure { l } => match kernel.prefix().quant(l.var()) {
@@ -133,7 +156,7 @@ impl Agenda {
             return Ok(());
         }
         for m in kernel.lits(c) {
-            self.targets.push(Target::Pure { l: m.negated() })?;
+            self.push(Target::Pure { l: m.negated() })?;
         }
         Ok(())
     }
@@ -146,11 +169,11 @@ impl Agenda {
         let clause = kernel.lits(c);
         for m in clause {
             if !m.is(lit) && matches!(kernel.prefix().quant(m.var()), Some(Quant::Forall)) {
-                self.targets.push(Target::Cut { c, l: *m })?;
+                self.push(Target::Cut { c, l: *m })?;
             }
         }
         if clause.len() == 2 {
-            self.targets.push(Target::Unit { c })?;
+            self.push(Target::Unit { c })?;
         }
         Ok(())
     }

@@ -21,7 +21,7 @@ use crate::turn::{Turn, take_turn};
 use q_io::{DeviceError, Files};
 use q_kernel::Kernel;
 use q_logic::Formula;
-use q_reduce::Search;
+use q_sched::Searches;
 use std::alloc::Global;
 
 // So many bytes of the log are pending before they are written.
@@ -51,12 +51,12 @@ fn drive<F: Files>(
     ensures read_later { (q : List ℕ) → F.read_faults files.old q ≤ F.read_faults files.new q }
     ensures write_later { (q : List ℕ) → F.write_faults files.old q ≤ F.write_faults files.new q }
 {
-    let mut search = Search::new(alloc);
+    let mut searches = Searches::new(alloc);
     let Ok(mut agenda) = Agenda::start(alloc, kernel) else {
         return Err(DeviceError::NoMemory);
     };
     loop {
-        match take_turn(kernel, &mut search, &mut agenda, options, first) {
+        match take_turn(kernel, &mut searches, &mut agenda, options, first) {
             Ok(Turn::Moved) => {
                 if let Err(error) = flush(files, log, kernel, PENDING) {
                     return Err(error);

@@ -1,6 +1,6 @@
 use Rattle.std.proofs.Common.{refl, subst, ℕ}
 use Rattle.q_simplify.specs.Turns.{IsSpent}
-use Rattle.q_simplify.proofs.Targets.{some-not_done}
+use Rattle.q_sched.proofs.Targets.{some-not_done}
 use Rattle.q_simplify.proofs.turn.take_turn.Goals as goal
 
 pub returns-then-spent-clause-turns : goal.returns-then-spent-clause-turns

@@ -15,7 +15,7 @@ loop-files-preserved g c =
     let taken = moved-taken c.in-Ok-Moved.field-0 c.args.options.now.bounds c.args.options.now.budget c.args.first c.loop-files.kernel c.take_turn.new.kernel c.in-Ok-Moved.field-0-is c.in-Ok-Moved.ensures.turns in
     record {
       ready = ready-flushed c.take_turn.new.kernel c.flush.new.kernel c.flush.ensures.prefix c.flush.ensures.clauses taken.1.ready;
-      fit = fit-flushed c.take_turn.new.kernel c.flush.new.kernel c.take_turn.new.search c.flush.ensures.prefix c.flush.ensures.clauses c.take_turn.ensures.fit;
+      fit = fit-flushed c.take_turn.new.kernel c.flush.new.kernel c.take_turn.new.searches c.flush.ensures.prefix c.flush.ensures.clauses c.take_turn.ensures.fit;
       log = λ G before h. c.in_default-flush.ensures.log G before (has_log-led G c.args.log.now before c.loop-files.kernel c.take_turn.new.kernel (g.F.Files.held c.loop-files.files) (c.loop-files.invariant.log G before h) taken.1.led);
       read_later = λ q. omega (arith, c.loop-files.invariant.read_later q, c.flush.ensures.read_later q);
       write_later = λ q. omega (arith, c.loop-files.invariant.write_later q, c.flush.ensures.write_later q);

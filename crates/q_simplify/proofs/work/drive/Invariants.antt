@@ -12,7 +12,7 @@ abbrev pub invariant-loop-files : goal.invariant-loop-files
 invariant-loop-files g l =
     record {
       ready : IsReady l.kernel;
-      fit : IsFitFor l.kernel l.search;
+      fit : IsFitFor l.kernel l.searches;
       log : (G : PrenexFormula) → (before : Disk) → HasLog G l.log before l.fn.kernel (g.F.Files.held l.fn.files) → HasLog G l.log before l.kernel (g.F.Files.held l.files);
       read_later : (q : List ℕ) → g.F.Files.read_faults l.fn.files q ≤ g.F.Files.read_faults l.files q;
       write_later : (q : List ℕ) → g.F.Files.write_faults l.fn.files q ≤ g.F.Files.write_faults l.files q;
