@@ -11,8 +11,8 @@ ghost use Rattle.q_reduce.specs.Targets.{target_of};
 ghost use Rattle.q_reduce.specs.Lent.{IsFitFor};
 ghost use Rattle.q_reduce.specs.Searches.{IsCutOf, IsOfClause, IsOfVariable, IsAt, IsFound};
 
-use crate::applying::fits;
 use crate::search::Search;
+use crate::taking::fits;
 use crate::target::Target;
 use q_arena::ClauseId;
 use q_kernel::Kernel;

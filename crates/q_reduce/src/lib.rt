@@ -1,22 +1,26 @@
 //! The plain rules: tautologies, unit clauses, universal reduction and pure literals.
 #![tactic(auto)]
 
-mod applying;
 mod asked;
-mod changing;
+mod cut;
 mod finding;
 mod guide;
 mod hop;
 mod joining;
 mod known;
+mod lists;
 mod maps;
+mod pure;
 mod reach;
 mod reduce;
 mod regions;
 mod search;
+mod taking;
 mod target;
+mod tautology;
 mod tree;
 mod trees;
+mod unit;
 
 pub use reduce::{applies, find, find_with, try_one, try_with};
 pub use search::Search;

@@ -10,10 +10,9 @@ ghost use Rattle.q_reduce.specs.Targets.{target_of};
 ghost use Rattle.q_rule.specs.Becoming.{CanChange};
 ghost use Rattle.q_reduce.specs.Lent.{IsFitFor};
 
-use crate::applying::fits;
-use crate::changing::take;
 use crate::finding::find_from;
 use crate::search::Search;
+use crate::taking::{fits, take};
 use crate::target::Target;
 use q_kernel::{Kernel, Need, Taken};
 use q_logic::{Bounds, NoMemory};

@@ -8,9 +8,9 @@ ghost use Rattle.q_reduce.specs.declared.hop.Hop.TheVariants.{Sure};
 ghost use Rattle.q_reduce.specs.Leading.{Leads};
 ghost use Rattle.q_reduce.specs.Hops.{hop_at, no_rows, AreHopsOf, AreLoosened, IsAssigned, IsTouched};
 
-use crate::applying::unit_literal;
 use crate::target::Target;
 use crate::tree::Tree;
+use crate::unit::unit_literal;
 use q_arena::ClauseId;
 use q_kernel::Kernel;
 use q_logic::{Lit, NoMemory};

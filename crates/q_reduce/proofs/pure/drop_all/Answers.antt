@@ -1,0 +1,54 @@
+use Rattle.std.proofs.Common.{◌≡◌, true, Some, sym, ◌∙◌, refl, subst}
+use Rattle.q_logic.specs.Literals.{negation}
+use Rattle.q_logic.specs.Formulas.{Clause, IsIn}
+use Rattle.q_logic.specs.Prefixes.{is_universal}
+use Rattle.q_logic.specs.Numbered.{Slots, live}
+use Rattle.q_logic.specs.Sets.{OccursIn}
+use Rattle.q_log.specs.Texts.{step_text}
+use Rattle.q_logic.specs.Steps.{drop_literal}
+use Rattle.std.proofs.Common.{length}
+use Rattle.q_kernel.specs.Kernels.{slots, HoldsLiteral}
+use Rattle.q_kernel.proofs.Leading.{led-itself}
+use Rattle.q_rule.proofs.Steps.{may-drop_pure, drop-cost}
+use Rattle.q_rule.proofs.Turns.{shorter-in}
+use Rattle.q_rule.proofs.Clearing.{clearing-bytes, clearing-more, clearing-done, with-falls}
+use Rattle.q_reduce.proofs.pure.drop_all.Goals as goal
+
+same : (C D : Clause) → Some C ≡ Some D → C ≡ D
+same C D e = cc
+
+pub loop-id-init : goal.loop-id-init
+loop-id-init c = record {
+  clearing = record { led = led-itself c.args.kernel.now; prefix = refl; same = refl; limits = c.requires.limits; bytes = c.requires.bytes };
+  pure = c.requires.pure;
+}
+
+pub drop_reach-requires : goal.drop_reach-requires
+drop_reach-requires c =
+    let k = c.loop-id.kernel in
+    let held : HoldsLiteral k c.in-Some.id c.args.l = c.in-Some.ensures.some c.in-Some.id refl in
+    may-drop_pure k c.in-Some.id held.0 c.sound.ensures held.1 c.args.l held.2
+    (subst (λ P. is_universal P c.args.l.var ≡ true) (sym c.loop-id.invariant.clearing.prefix) c.requires.universal)
+    c.loop-id.invariant.pure (clearing-bytes 16 c.args.l k c.in-Some.id held.0 held.1 held.2 c.loop-id.invariant.clearing.bytes)
+
+pub loop-id-smaller : goal.loop-id-smaller
+loop-id-smaller c =
+    let k = c.loop-id.kernel in
+    let held : HoldsLiteral k c.in-Some.id c.args.l = c.in-Some.ensures.some c.in-Some.id refl in
+    let d = c.drop_reach.ensures in
+    with-falls c.args.l k c.drop_reach.new.self c.in-Some.id d.clause d.was (subst (λ (x : Clause). IsIn c.args.l x) (same held.0 d.clause (sym held.1 ∙ d.was)) held.2) d.change
+
+pub loop-id-preserved : goal.loop-id-preserved
+loop-id-preserved c =
+    let k = c.loop-id.kernel in
+    let held : HoldsLiteral k c.in-Some.id c.args.l = c.in-Some.ensures.some c.in-Some.id refl in
+    let d = c.drop_reach.ensures in
+    let m : IsIn c.args.l d.clause = subst (λ (x : Clause). IsIn c.args.l x) (same held.0 d.clause (sym held.1 ∙ d.was)) held.2 in
+    record {
+      clearing = clearing-more 16 c.args.l c.args.kernel.now k c.drop_reach.new.self c.in-Some.id (length (step_text (drop_literal c.args.l d.clause))) d.clause d.was m d.change d.prefix d.logged.led d.logged.bytes
+          (drop-cost k c.in-Some.id d.clause c.sound.ensures d.was c.args.l m) c.loop-id.invariant.clearing;
+      pure = λ o. c.loop-id.invariant.pure (shorter-in c.args.l (negation c.args.l) (slots k) c.in-Some.id d.clause d.was (subst (λ (N : Slots). OccursIn (negation c.args.l) (live N)) d.change o));
+    }
+
+pub returns : goal.returns
+returns c = clearing-done 16 c.args.l c.args.kernel.now c.loop-id.kernel (c.in_default.ensures.none refl) c.loop-id.invariant.clearing
