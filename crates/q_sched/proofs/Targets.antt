@@ -1,23 +1,26 @@
 -- A search of a rule's crate that finds nothing finds none of the theory's targets of that rule.
 use Rattle.std.proofs.Common.{◌≡◌, ◌≤◌, ◌<◌, ◌+◌, ◌⊎◌, inl, inr, ℕ, arith}
+use Rattle.std.proofs.lemmas.Bool.Decides.{nat_tests}
 use Rattle.q_logic.specs.declared.rule_bounds.Bounds.{Bounds}
 use Rattle.q_logic.specs.Targets.{Target, tautology, unit, cut, pure, subsumed, strengthen, merge, blocked, blocked_forall, cover, eliminate, expand_universal, place}
 use Rattle.q_kernel.specs.Kernels.{Seen}
 use Rattle.q_kernel.specs.Taking.{Applies}
-use Rattle.q_reduce.specs.declared.target.Target.{Target as Plain}
-use Rattle.q_reduce.specs.declared.target.Target.TheVariants.{Tautology, Unit, Cut, Pure}
+use Rattle.q_reduce.specs.declared.target.Target.{Target as TheReduce}
+use Rattle.q_reduce.specs.declared.target.Target.TheVariants as plain_target
 use Rattle.q_reduce.specs.Targets as plain
-use Rattle.q_sched.specs.declared.moves.Rule.TheVariants as rule
+use Rattle.q_subsume.specs.declared.target.Target.{Target as TheSubsume}
+use Rattle.q_subsume.specs.declared.target.Target.TheVariants as subsume_target
+use Rattle.q_subsume.specs.Targets as subsume
 use Rattle.q_sched.specs.declared.moves.Move.{Move}
 use Rattle.q_sched.specs.declared.moves.Move.TheVariants as move
-use Rattle.q_sched.specs.Moves.{IsOf, rank_of, rules, target_of}
+use Rattle.q_sched.specs.Moves.{rank_of, rules, target_of}
 use Rattle.q_sched.specs.Settled.{HasRule, IsDone}
 
-pub none-plain : (B : Bounds) (k : Seen) (from : ℕ) → ((s : Plain) → from ≤ place (plain.target_of s) → Applies B k (plain.target_of s) → ⊥) → (t : Target) → IsOf rule.Reduce t → from ≤ place t → Applies B k t → ⊥
-none-plain B k from h (tautology c) i p a = h (Tautology c) p a
-none-plain B k from h (unit c) i p a = h (Unit c) p a
-none-plain B k from h (cut c l) i p a = h (Cut c l) p a
-none-plain B k from h (pure l) i p a = h (Pure l) p a
+pub none-plain : (B : Bounds) (k : Seen) (from : ℕ) → ((s : TheReduce) → from ≤ place (plain.target_of s) → Applies B k (plain.target_of s) → ⊥) → (t : Target) → rank_of t ≡ 0 → from ≤ place t → Applies B k t → ⊥
+none-plain B k from h (tautology c) i p a = h (plain_target.Tautology c) p a
+none-plain B k from h (unit c) i p a = h (plain_target.Unit c) p a
+none-plain B k from h (cut c l) i p a = h (plain_target.Cut c l) p a
+none-plain B k from h (pure l) i p a = h (plain_target.Pure l) p a
 none-plain B k from h (subsumed c d) i p a = absurd (omega arith)
 none-plain B k from h (strengthen c d l) i p a = absurd (omega arith)
 none-plain B k from h (merge keep gone) i p a = absurd (omega arith)
@@ -27,12 +30,34 @@ none-plain B k from h (cover c) i p a = absurd (omega arith)
 none-plain B k from h (eliminate x) i p a = absurd (omega arith)
 none-plain B k from h (expand_universal u) i p a = absurd (omega arith)
 
+pub none-subsume : (B : Bounds) (k : Seen) (from : ℕ) → ((s : TheSubsume) → from ≤ place (subsume.target_of s) → Applies B k (subsume.target_of s) → ⊥) → (t : Target) → rank_of t ≡ 1 → from ≤ place t → Applies B k t → ⊥
+none-subsume B k from h (tautology c) i p a = absurd (omega arith)
+none-subsume B k from h (unit c) i p a = absurd (omega arith)
+none-subsume B k from h (cut c l) i p a = absurd (omega arith)
+none-subsume B k from h (pure l) i p a = absurd (omega arith)
+none-subsume B k from h (subsumed c d) i p a = h (subsume_target.Subsumed c d) p a
+none-subsume B k from h (strengthen c d l) i p a = h (subsume_target.Strengthen c d l) p a
+none-subsume B k from h (merge keep gone) i p a = absurd (omega arith)
+none-subsume B k from h (blocked c l) i p a = absurd (omega arith)
+none-subsume B k from h (blocked_forall c l) i p a = absurd (omega arith)
+none-subsume B k from h (cover c) i p a = absurd (omega arith)
+none-subsume B k from h (eliminate x) i p a = absurd (omega arith)
+none-subsume B k from h (expand_universal u) i p a = absurd (omega arith)
+
 -- each target of the code has one of the rules
+pub has-plain : (t : TheReduce) → HasRule (plain.target_of t)
+has-plain (plain_target.Tautology a) = omega arith
+has-plain (plain_target.Unit a) = omega arith
+has-plain (plain_target.Cut a b) = omega arith
+has-plain (plain_target.Pure a) = omega arith
+
+pub has-subsume : (t : TheSubsume) → HasRule (subsume.target_of t)
+has-subsume (subsume_target.Subsumed a b) = omega arith
+has-subsume (subsume_target.Strengthen a b c) = omega arith
+
 pub has_rule : (m : Move) → HasRule (target_of m)
-has_rule (move.Reduce (Tautology c)) = omega arith
-has_rule (move.Reduce (Unit c)) = omega arith
-has_rule (move.Reduce (Cut c l)) = omega arith
-has_rule (move.Reduce (Pure l)) = omega arith
+has_rule (move.Reduce t) = has-plain t
+has_rule (move.Subsume t) = has-subsume t
 
 -- so where one applies, something is left to do
 pub some-not_done : (B : Bounds) (k : Seen) (m : Move) → Applies B k (target_of m) → IsDone B k → ⊥
@@ -49,4 +74,4 @@ none-more B k n r from e z h i t less a = elim (two (rank_of t) n less) [
 ]
   where
     two : (x n : ℕ) → x < n + 1 → (x < n) ⊎ (x ≡ n)
-    two x n h = grind (arith, Rattle.std.proofs.lemmas.Bool.Decides.nat_tests)
+    two x n h = grind (arith, nat_tests)

@@ -3,16 +3,15 @@ ghost use Rattle.std.specs.Prelude.{◌≡◌, ◌<◌};
 ghost use Rattle.q_logic.specs.Targets.{place};
 ghost use Rattle.q_sched.specs.Moves.{target_of, rank, rank_of, rules};
 
-use q_reduce::Target as Plain;
-
 /// The crates of rules, in the order in which they are searched.
 #[derive(Clone, Copy, Debug, PartialEq, Eq)]
 pub enum Rule {
     Reduce,
+    Subsume,
 }
 
 /// So many rules there are.
-pub const RULES: u32 = 1;
+pub const RULES: u32 = 2;
 
 impl Rule {
     /// The rule at a place of the order.
@@ -20,7 +19,10 @@ impl Rule {
         requires { place < rules }
         ensures { rank result ≡ place }
     {
-        Rule::Reduce
+        match place {
+            0 => Rule::Reduce,
+            _ => Rule::Subsume,
+        }
     }
 
     /// The place of the rule in the order.
@@ -29,6 +31,7 @@ impl Rule {
     {
         match self {
             Rule::Reduce => 0,
+            Rule::Subsume => 1,
         }
     }
 }
@@ -36,7 +39,8 @@ impl Rule {
 /// A target of some rule.
 #[derive(Clone, Copy, Debug, PartialEq, Eq)]
 pub enum Move {
-    Reduce(Plain),
+    Reduce(q_reduce::Target),
+    Subsume(q_subsume::Target),
 }
 
 impl Move {
@@ -45,7 +49,12 @@ impl Move {
         ensures { rank result ≡ rank_of (target_of self.now) }
     {
         match self {
-            Move::Reduce(_) => Rule::Reduce,
+            Move::Reduce(q_reduce::Target::Tautology { .. }) => Rule::Reduce,
+            Move::Reduce(q_reduce::Target::Unit { .. }) => Rule::Reduce,
+            Move::Reduce(q_reduce::Target::Cut { .. }) => Rule::Reduce,
+            Move::Reduce(q_reduce::Target::Pure { .. }) => Rule::Reduce,
+            Move::Subsume(q_subsume::Target::Subsumed { .. }) => Rule::Subsume,
+            Move::Subsume(q_subsume::Target::Strengthen { .. }) => Rule::Subsume,
         }
     }
 
@@ -54,10 +63,12 @@ impl Move {
         ensures { result ≡ place (target_of self.now) }
     {
         match self {
-            Move::Reduce(Plain::Tautology { c }) => *c,
-            Move::Reduce(Plain::Unit { c }) => *c,
-            Move::Reduce(Plain::Cut { c, .. }) => *c,
-            Move::Reduce(Plain::Pure { l }) => l.var(),
+            Move::Reduce(q_reduce::Target::Tautology { c }) => *c,
+            Move::Reduce(q_reduce::Target::Unit { c }) => *c,
+            Move::Reduce(q_reduce::Target::Cut { c, .. }) => *c,
+            Move::Reduce(q_reduce::Target::Pure { l }) => l.var(),
+            Move::Subsume(q_subsume::Target::Subsumed { d, .. }) => *d,
+            Move::Subsume(q_subsume::Target::Strengthen { d, .. }) => *d,
         }
     }
 }

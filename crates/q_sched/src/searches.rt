@@ -20,6 +20,7 @@ use std::marker::Model;
 #[derive(Drop)]
 pub struct Searches {
     plain: q_reduce::Search,
+    subsume: q_subsume::Search,
 }
 
 impl Model for Searches {
@@ -37,6 +38,7 @@ impl Searches {
     {
         Searches {
             plain: q_reduce::Search::new(alloc),
+            subsume: q_subsume::Search::new(alloc),
         }
     }
 
@@ -55,10 +57,11 @@ impl Searches {
     {
         match target {
             Move::Reduce(t) => q_reduce::applies(kernel, &mut self.plain, t, bounds),
+            Move::Subsume(t) => q_subsume::applies(kernel, &mut self.subsume, t, bounds),
         }
     }
 
-    /// Takes a target exactly where it applies.
+    /// Takes a target exactly where it applies. What universal reduction has learned lasts over its own targets alone.
     pub fn take(
         &mut self,
         kernel: &mut Kernel,
@@ -76,6 +79,10 @@ impl Searches {
     {
         match target {
             Move::Reduce(t) => q_reduce::try_with(kernel, &mut self.plain, t, bounds),
+            Move::Subsume(t) => {
+                self.plain.forget();
+                q_subsume::try_with(kernel, &mut self.subsume, t, bounds)
+            }
         }
     }
 
@@ -90,12 +97,13 @@ impl Searches {
         requires ready { IsReady kernel.now }
         requires bounds { AreModest bounds.now }
         requires fit { IsFitFor kernel.now self.old }
-        ensures some { IfOk result (λ o. (m : MoveValue) → o ≡ Some m → Applies bounds.now kernel.now (target_of m)) }
+        ensures some { IfOk result (λ o. (m : MoveValue) → o ≡ Some m → HasRule (target_of m) × Applies bounds.now kernel.now (target_of m)) }
         ensures none { IfOk result (λ o. o ≡ None → (t : TheoryTarget) → IsOf rule t → from ≤ place t → Applies bounds.now kernel.now t → ⊥) }
         ensures fit { IsFitFor kernel.now self.new }
     {
         match rule {
             Rule::Reduce => self.find_plain(kernel, bounds, from),
+            Rule::Subsume => self.find_subsume(kernel, bounds, from),
         }
     }
 
@@ -126,7 +134,7 @@ impl Searches {
         requires ready { IsReady kernel.now }
         requires bounds { AreModest bounds.now }
         requires fit { IsFitFor kernel.now self.old }
-        ensures some { IfOk result (λ o. (m : MoveValue) → o ≡ Some m → Applies bounds.now kernel.now (target_of m)) }
+        ensures some { IfOk result (λ o. (m : MoveValue) → o ≡ Some m → HasRule (target_of m) × Applies bounds.now kernel.now (target_of m)) }
         ensures none { IfOk result (λ o. o ≡ None → (t : TheoryTarget) → rank_of t ≡ 0 → from ≤ place t → Applies bounds.now kernel.now t → ⊥) }
         ensures fit { IsFitFor kernel.now self.new }
     {
@@ -134,5 +142,24 @@ impl Searches {
             return Ok(None);
         };
         Ok(Some(Move::Reduce(target)))
+    }
+
+    fn find_subsume(
+        &mut self,
+        kernel: &Kernel,
+        bounds: &Bounds,
+        from: u32,
+    ) -> Result<Option<Move>, NoMemory>
+        requires ready { IsReady kernel.now }
+        requires bounds { AreModest bounds.now }
+        requires fit { IsFitFor kernel.now self.old }
+        ensures some { IfOk result (λ o. (m : MoveValue) → o ≡ Some m → HasRule (target_of m) × Applies bounds.now kernel.now (target_of m)) }
+        ensures none { IfOk result (λ o. o ≡ None → (t : TheoryTarget) → rank_of t ≡ 1 → from ≤ place t → Applies bounds.now kernel.now t → ⊥) }
+        ensures fit { IsFitFor kernel.now self.new }
+    {
+        let Some(target) = q_subsume::find_with(kernel, &mut self.subsume, bounds, from)? else {
+            return Ok(None);
+        };
+        Ok(Some(Move::Subsume(target)))
     }
 }

@@ -1,0 +1,6 @@
+pub mod Ordered
+pub mod Lengths
+pub mod Fitting
+pub mod Changing
+pub mod Results
+pub mod Searching

@@ -1,0 +1,20 @@
+-- What is seen of two clauses side by side.
+use Rattle.std.specs.Prelude.{◌≡◌, ◌≢◌, ◌≤◌, ℕ, Some, drop}
+use Rattle.q_logic.specs.Literals.{Literal, negation, pack}
+use Rattle.q_logic.specs.Formulas.{Clause, IsIn}
+use Rattle.q_logic.specs.Numbered.{Slots, slot}
+
+-- no literal from a place on is below k
+abbrev pub IsLeastFrom : Clause → ℕ → Literal → Type 0
+IsLeastFrom D at' k = (j : Literal) → IsIn j (drop at' D) → pack k ≤ pack j
+
+-- two different numbers have clauses
+pub record AreTwo (N : Slots) (c d : ℕ) : Type 0 where
+  pub apart : c ≢ d
+  pub inner : (C : Clause) × (slot N c ≡ Some C)
+  pub other : (D : Clause) × (slot N d ≡ Some D)
+
+-- l is in D, and each literal of C but not l is in D and is not l
+pub record IsTurnedWithin (C D : Clause) (l : Literal) : Type 0 where
+  pub held : IsIn l D
+  pub rest : (k : Literal) → IsIn k C → k ≢ negation l → IsIn k D × (k ≢ l)

@@ -1,0 +1,189 @@
+//! The search for targets, clause by clause.
+//!
+//! Each clause c is taken as the one that lies within others. Where c lies within d as it is, or with one literal turned, d
+//! holds any one literal of c or its negation. So the search walks the lists of one literal of c and of its negation, those
+//! that are the shortest together, and looks at each clause d there once. A pass over the formula costs the sum of these
+//! lists, and for each look one walk along c and d that ends at the first literal of c that d lacks.
+ghost use Rattle.std.specs.Prelude.{◌≡◌, ◌≢◌, ◌≤◌, ℕ, [], None, Some, IfOk};
+ghost use Rattle.q_logic.specs.Literals.{Literal, IsBelow};
+ghost use Rattle.q_logic.specs.Formulas.{Clause, IsIn};
+ghost use Rattle.q_logic.specs.Parts.{ArePairs};
+ghost use Rattle.q_logic.specs.Numbered.{slot};
+ghost use Rattle.q_logic.specs.declared.rule_bounds.Bounds.{Bounds};
+ghost use Rattle.q_logic.specs.Rules.{Fits};
+ghost use Rattle.q_logic.specs.Targets.{place};
+ghost use Rattle.q_logic.specs.Sweep.{IsSwept};
+ghost use Rattle.q_kernel.specs.Kernels.{slots, formula_in};
+ghost use Rattle.q_subsume.specs.declared.target.Target.{Target as TargetValue};
+ghost use Rattle.q_subsume.specs.Targets.{target_of};
+ghost use Rattle.q_subsume.specs.Looks.{AreTwo};
+ghost use Rattle.q_subsume.specs.Searches.{IsBetween, IsBy, IsBehind, IsBefore, IsAmong, IsFound};
+
+use crate::missing::first_missing;
+use crate::search::Search;
+use crate::strengthen::is_turned_within;
+use crate::target::Target;
+use q_arena::ClauseId;
+use q_kernel::Kernel;
+use q_logic::{Lit, NoMemory};
+use q_rule::clause_of;
+
+/// A target that fits and whose place is at least a number. The search goes once round all clauses.
+pub fn find_from(
+    kernel: &Kernel,
+    search: &mut Search,
+    from: u32,
+) -> Result<Option<Target>, NoMemory>
+    requires { IsSwept (formula_in kernel.now) }
+    ensures { IfOk result (IsFound kernel.now (λ t. from ≤ place (target_of t))) }
+{
+    let start = search.start();
+    if let Some(target) = find_behind(kernel, start, from)? {
+        search.note(&target);
+        return Ok(Some(target));
+    }
+    let Some(target) = find_before(kernel, start, from) else {
+        return Ok(None);
+    };
+    search.note(&target);
+    Ok(Some(target))
+}
+
+// A target by which a clause from a number on changes another one.
+fn find_behind(kernel: &Kernel, start: ClauseId, from: u32) -> Result<Option<Target>, NoMemory>
+    requires { IsSwept (formula_in kernel.now) }
+    ensures { IfOk result (IsFound kernel.now (IsBehind start from)) }
+{
+    let mut at = start;
+    while let Some(c) = kernel.next_live(at) {
+        let found = find_by(kernel, c, from);
+        if found.is_some() {
+            return Ok(found);
+        }
+        let Some(after) = c.checked_add(1) else {
+            // so many clauses have no place in memory
+            return Err(NoMemory);
+        };
+        at = after;
+    }
+    Ok(None)
+}
+
+// A target by which a clause before a number changes another one.
+fn find_before(kernel: &Kernel, end: ClauseId, from: u32) -> Option<Target>
+    requires { IsSwept (formula_in kernel.now) }
+    ensures { IsFound kernel.now (IsBefore end from) result }
+{
+    for c in 0..end {
+        let found = find_if_live(kernel, c, from);
+        if found.is_some() {
+            return found;
+        }
+    }
+    None
+}
+
+// A target by which the clause of an id, if there is one, changes another one.
+fn find_if_live(kernel: &Kernel, c: ClauseId, from: u32) -> Option<Target>
+    requires { IsSwept (formula_in kernel.now) }
+    ensures { IsFound kernel.now (IsBy c from) result }
+{
+    if !kernel.live(c) {
+        return None;
+    }
+    find_by(kernel, c, from)
+}
+
+/// A target by which the clause c changes another one.
+pub fn find_by(kernel: &Kernel, c: ClauseId, from: u32) -> Option<Target>
+    requires live { (C : Clause) × (slot (slots kernel.now) c ≡ Some C) }
+    requires swept { IsSwept (formula_in kernel.now) }
+    ensures { IsFound kernel.now (IsBy c from) result }
+{
+    let Some(k) = rarest(kernel, clause_of(kernel, c)) else {
+        return None;
+    };
+    let found = find_among(kernel, c, k, from);
+    if found.is_some() {
+        return found;
+    }
+    find_among(kernel, c, k.negated(), from)
+}
+
+// The literal of a clause whose lists, its negation's with it, are the shortest.
+fn rarest(kernel: &Kernel, clause: &[Lit]) -> Option<Lit>
+    ensures some { (k : Literal) → result ≡ Some k → IsIn k clause.now }
+    ensures none { result ≡ None → clause.now ≡ [] }
+{
+    if clause.is_empty() {
+        return None;
+    }
+    let mut best = clause[0];
+    let mut least = places_of(kernel, best);
+    for k in clause {
+        let places = places_of(kernel, *k);
+        if places < least {
+            best = *k;
+            least = places;
+        }
+    }
+    Some(best)
+}
+
+// How many places a literal and its negation have.
+fn places_of(kernel: &Kernel, lit: Lit) -> u64 {
+    u64::from(kernel.count(lit)) + u64::from(kernel.count(lit.negated()))
+}
+
+// The same among the clauses that hold a literal.
+fn find_among(kernel: &Kernel, c: ClauseId, lit: Lit, from: u32) -> Option<Target>
+    requires { (C : Clause) × (slot (slots kernel.now) c ≡ Some C) }
+    ensures { IsFound kernel.now (IsAmong kernel.now c from lit) result }
+{
+    kernel.sound();
+    let mut at = kernel.first(lit);
+    while let Some(place) = at {
+        let found = look(kernel, c, kernel.owner(place), from);
+        if found.is_some() {
+            return found;
+        }
+        at = kernel.next(place);
+    }
+    None
+}
+
+// The same for one other clause.
+fn look(kernel: &Kernel, c: ClauseId, d: ClauseId, from: u32) -> Option<Target>
+    requires live { (C : Clause) × (slot (slots kernel.now) c ≡ Some C) }
+    requires other { (D : Clause) × (slot (slots kernel.now) d ≡ Some D) }
+    ensures some { (t : TargetValue) → result ≡ Some t → IsBetween c d t × (from ≤ d) × ((B : Bounds) → Fits B kernel.now.prefix (slots kernel.now) (target_of t)) }
+    ensures none { result ≡ None → from ≤ d → (t : TargetValue) → IsBetween c d t → (B : Bounds) → Fits B kernel.now.prefix (slots kernel.now) (target_of t) → ⊥ }
+{
+    if d < from {
+        return None;
+    }
+    if d == c {
+        return None;
+    }
+    between(kernel, c, d)
+}
+
+// Whether the clause c lies within the clause d, as it is or with one literal turned.
+fn between(kernel: &Kernel, c: ClauseId, d: ClauseId) -> Option<Target>
+    requires { AreTwo (slots kernel.now) c d }
+    ensures { IsFound kernel.now (IsBetween c d) result }
+{
+    let clause = clause_of(kernel, c);
+    let other = clause_of(kernel, d);
+    if other.len() < clause.len() {
+        return None;
+    }
+    let Some(k) = first_missing(clause, other, &None) else {
+        return Some(Target::Subsumed { c, d });
+    };
+    let l = k.negated();
+    if is_turned_within(clause, other, l) {
+        return Some(Target::Strengthen { c, d, l });
+    }
+    None
+}

@@ -1,0 +1,14 @@
+//! Clauses within other clauses: subsumption, and strengthening by a clause of which one literal is turned.
+#![tactic(auto)]
+
+mod finding;
+mod missing;
+mod search;
+mod strengthen;
+mod subsume;
+mod subsumed;
+mod target;
+
+pub use search::Search;
+pub use subsume::{applies, find, find_with, try_one, try_with};
+pub use target::Target;

@@ -1,0 +1,12 @@
+use q_arena::ClauseId;
+use q_logic::Lit;
+
+/// What subsumption is applied to.
+#[derive(Clone, Copy, Debug, PartialEq, Eq)]
+pub enum Target {
+    /// The clause d goes: it holds all literals of the clause c.
+    Subsumed { c: ClauseId, d: ClauseId },
+    /// The literal l leaves the clause d: with the negation of l turned into l, all literals of the clause c
+    /// are in d.
+    Strengthen { c: ClauseId, d: ClauseId, l: Lit },
+}
