@@ -105,7 +105,20 @@ impl Agenda {
     pub(crate) fn note(&mut self, kernel: &Kernel, target: &Move) -> Result<(), NoMemory> {
         match target {
             Move::Reduce(target) => self.note_plain(kernel, target),
+            Move::Subsume(q_subsume::Target::Subsumed { d, .. }) => self.note_clause(kernel, *d),
+            Move::Subsume(q_subsume::Target::Strengthen { d, l, .. }) => {
+                self.note_unit_left(kernel, *d, *l)
+            }
         }
+    }
+
+    // A clause loses a literal: it may be a unit clause then, and the negation may be pure.
+    fn note_unit_left(&mut self, kernel: &Kernel, c: ClauseId, l: Lit) -> Result<(), NoMemory> {
+        self.push(Target::Pure { l: l.negated() })?;
+        if kernel.live(c) && kernel.lits(c).len() == 2 {
+            self.push(Target::Unit { c })?;
+        }
+        Ok(())
     }
 
     fn note_plain(&mut self, kernel: &Kernel, target: &Target) -> Result<(), NoMemory> {
