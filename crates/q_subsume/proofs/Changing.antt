@@ -1,5 +1,5 @@
 -- When the steps of both targets are valid, and what they leave.
-use Rattle.std.proofs.Common.{◌≡◌, ◌≢◌, ◌≤◌, ◌+◌, ◌*◌, ◌⊎◌, ℕ, suc, Bool, true, false, [], ◌∷◌, inl, inr, arith, refl, sym, subst, Some, length}
+use Rattle.std.proofs.Common.{◌≡◌, ◌≢◌, ◌≤◌, ◌+◌, ◌*◌, ◌⊎◌, ℕ, suc, Bool, true, false, ◌∷◌, inl, inr, arith, refl, sym, subst, Some, length}
 use Rattle.q_logic.specs.Literals.{Literal, negation, literal_eq}
 use Rattle.q_logic.specs.Formulas.{Clause, Matrix, IsIn}
 use Rattle.q_logic.specs.Pivots.{without}
@@ -13,7 +13,7 @@ use Rattle.q_logic.specs.Sets.{IsSubset}
 use Rattle.q_logic.specs.Numbered.{Slots, slot, set_slot, live, others, formula_of}
 use Rattle.q_logic.specs.Targets as theory
 use Rattle.q_logic.specs.Rules.{shortened}
-use Rattle.q_logic.proofs.Clauses.{literal_eq-sound, literal_eq-itself}
+use Rattle.q_logic.proofs.Clauses.{literal_eq-sound}
 use Rattle.q_logic.proofs.Slots.{others-slot, live-slot}
 use Rattle.q_logic.proofs.Sets.{without-shorter}
 use Rattle.q_logic.proofs.UniversalPivot.{IsIn-without, without-IsIn}

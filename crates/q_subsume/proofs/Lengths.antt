@@ -1,6 +1,5 @@
 -- A clause within another one is no longer than that.
-use Rattle.std.proofs.Common.{◌≡◌, ◌≢◌, ◌≤◌, ◌<◌, ◌⊎◌, ◌+◌, ℕ, Bool, true, false, [], ◌∷◌, length, refl, sym, ap, ◌∙◌, subst, inl, inr, arith, true≢false}
-use Rattle.std.specs.List.{AllByRecursion}
+use Rattle.std.proofs.Common.{◌≡◌, ◌≢◌, ◌≤◌, ◌<◌, ◌⊎◌, ℕ, Bool, true, false, [], ◌∷◌, length, refl, sym, ap, ◌∙◌, subst, inl, inr, arith, true≢false}
 use Rattle.q_logic.specs.Literals.{Literal, IsBelow, negation, literal_eq, pack}
 use Rattle.q_logic.specs.Formulas.{Clause, IsIn}
 use Rattle.q_logic.specs.Parts.{ArePairs}
@@ -13,7 +12,7 @@ use Rattle.q_logic.proofs.UniversalPivot.{IsIn-without, without-IsIn}
 use Rattle.q_kernel.proofs.Leading.{without-in_order}
 use Rattle.q_kernel.proofs.Keeping.{length-shorter}
 use Rattle.q_subsume.specs.Looks.{IsTurnedWithin}
-use Rattle.q_subsume.proofs.Ordered.{below-pack, all-below}
+use Rattle.q_subsume.proofs.Ordered.{all-below}
 
 below_or_not : (a b : ℕ) → (a < b) ⊎ (b ≤ a)
 below_or_not a b = grind arith

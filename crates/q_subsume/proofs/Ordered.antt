@@ -1,11 +1,11 @@
 -- What follows a literal in a clause that is in order.
-use Rattle.std.proofs.Common.{◌≡◌, ◌≢◌, ◌⊎◌, ◌∙◌, ℕ, zero, suc, ◌+◌, ◌<◌, ◌≤◌, Bool, true, false, [], ◌∷◌, length, get_or, take, drop, refl, sym, ap, subst, inl, inr, arith, add-one}
+use Rattle.std.proofs.Common.{◌≡◌, ◌⊎◌, ◌∙◌, ℕ, zero, suc, ◌+◌, ◌<◌, ◌≤◌, Bool, [], ◌∷◌, length, get_or, drop, refl, sym, subst, inl, inr, arith, add-one}
 use Rattle.std.proofs.lemmas.Bool.Decides.{nat_tests}
 use Rattle.std.specs.List.{AllByRecursion}
 use Rattle.q_logic.specs.Literals.{Literal, IsBelow, pack}
 use Rattle.q_logic.specs.Formulas.{Clause, IsIn}
 use Rattle.q_logic.specs.Parts.{ArePairs}
-use Rattle.q_logic.proofs.Membership.{IsIn-drop_next, IsIn-drop_within}
+use Rattle.q_logic.proofs.Membership.{IsIn-drop_within}
 use Rattle.q_subsume.specs.Looks.{IsLeastFrom}
 
 pub below-pack : (j k : Literal) → IsBelow j k → pack j < pack k

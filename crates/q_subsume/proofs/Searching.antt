@@ -7,9 +7,8 @@ use Rattle.q_logic.specs.Formulas.{Clause, Matrix, Prefix, IsIn}
 use Rattle.q_logic.specs.Parts.{ArePairs}
 use Rattle.q_logic.specs.Sets.{IsSubset}
 use Rattle.q_logic.specs.Numbered.{Slots, slot, live, others, formula_of}
-use Rattle.q_logic.specs.Sweep.{swept, IsSwept, has_empty, occurring, falsity}
+use Rattle.q_logic.specs.Sweep.{IsSwept, has_empty, occurring, falsity}
 use Rattle.q_logic.specs.Targets.{place}
-use Rattle.q_logic.specs.Targets as theory
 use Rattle.q_logic.specs.Rules.{Fits}
 use Rattle.q_logic.proofs.Implying.{same_or_not, negation-negation}
 use Rattle.q_logic.proofs.Slots.{live-slot, others-slot}
@@ -20,7 +19,7 @@ use Rattle.q_kernel.proofs.Following.{Has-last}
 use Rattle.q_subsume.specs.declared.target.Target.{Target}
 use Rattle.q_subsume.specs.declared.target.Target.TheVariants.{Subsumed, Strengthen}
 use Rattle.q_subsume.specs.Targets.{target_of, inner_of}
-use Rattle.q_subsume.specs.Looks.{AreTwo, IsTurnedWithin}
+use Rattle.q_subsume.specs.Looks.{IsTurnedWithin}
 use Rattle.q_subsume.specs.Searches.{IsBetween, IsBy, IsBehind, IsBefore, IsAmong, IsFound}
 use Rattle.q_subsume.proofs.Lengths.{within-length, turned-length}
 

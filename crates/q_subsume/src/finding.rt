@@ -3,11 +3,14 @@
 //! Each clause c is taken as the one that lies within others. Where c lies within d as it is, or with one literal turned, d
 //! holds any one literal of c or its negation. So the search walks the lists of one literal of c and of its negation, those
 //! that are the shortest together, and looks at each clause d there once. A pass over the formula costs the sum of these
-//! lists, and for each look one walk along c and d that ends at the first literal of c that d lacks.
-ghost use Rattle.std.specs.Prelude.{◌≡◌, ◌≢◌, ◌≤◌, ℕ, [], None, Some, IfOk};
-ghost use Rattle.q_logic.specs.Literals.{Literal, IsBelow};
+//! lists, and for each look at a clause that is no shorter than c one walk along both, which ends at the first literal of c
+//! that d lacks.
+//!
+//! A lent search begins at the clause by which the last target was found, and goes once round all clauses. So targets that
+//! are taken one after the other are found in one pass, and one more pass tells that none is left.
+ghost use Rattle.std.specs.Prelude.{◌≡◌, ◌≤◌, [], None, Some, IfOk};
+ghost use Rattle.q_logic.specs.Literals.{Literal};
 ghost use Rattle.q_logic.specs.Formulas.{Clause, IsIn};
-ghost use Rattle.q_logic.specs.Parts.{ArePairs};
 ghost use Rattle.q_logic.specs.Numbered.{slot};
 ghost use Rattle.q_logic.specs.declared.rule_bounds.Bounds.{Bounds};
 ghost use Rattle.q_logic.specs.Rules.{Fits};
@@ -135,7 +138,7 @@ fn places_of(kernel: &Kernel, lit: Lit) -> u64 {
     u64::from(kernel.count(lit)) + u64::from(kernel.count(lit.negated()))
 }
 
-// The same among the clauses that hold a literal.
+// A target by which the clause c changes one that holds a literal.
 fn find_among(kernel: &Kernel, c: ClauseId, lit: Lit, from: u32) -> Option<Target>
     requires { (C : Clause) × (slot (slots kernel.now) c ≡ Some C) }
     ensures { IsFound kernel.now (IsAmong kernel.now c from lit) result }

@@ -1,26 +1,25 @@
 //! Strengthened clauses.
 //!
-//! Let c hold `not l`, and let all its other literals be in d beside l. The resolvent of c and d on l is d without l; it
-//! subsumes d, so l leaves d. (Self-subsuming resolution: N. Eén and A. Biere, "Effective preprocessing in SAT through
+//! Let d hold l and c hold `not l`, and let each other literal of c be in d and not be l. The resolvent of c and d on l is
+//! d without l, which subsumes d; so l leaves d. (Self-subsuming resolution: N. Eén and A. Biere, "Effective preprocessing in SAT through
 //! variable and clause elimination", SAT 2005; it keeps the truth of quantified formulas whatever the quantifier of l is.)
 //!
 //! The condition stands in q_logic's `specs/Rules.antt` at `strengthen`, the law in its `proofs/PlainRuns.antt`
 //! (`strengthen-run`): where the rest of d is false, c makes l false, and d is left with nothing. A test walks both clauses
 //! side by side, after l was found in d and not in c. Targets are found from c (`finding.rt`). Taking one may make d a unit
 //! clause, a clause that subsumes others or that strengthens them, and may leave l's negation pure.
-ghost use Rattle.std.specs.Prelude.{◌≡◌, ◌↔◌, ◌≢◌, Some, IsTrue};
+ghost use Rattle.std.specs.Prelude.{◌↔◌, Some, IsTrue};
 ghost use Rattle.q_logic.specs.declared.rule_bounds.Bounds.{Bounds};
 ghost use Rattle.q_logic.specs.Literals.{IsBelow, negation};
-ghost use Rattle.q_logic.specs.Formulas.{Clause, IsIn};
+ghost use Rattle.q_logic.specs.Formulas.{IsIn};
 ghost use Rattle.q_logic.specs.Limits.{standard};
 ghost use Rattle.q_logic.specs.InLimits.{IsInLimits};
 ghost use Rattle.q_logic.specs.Parts.{ArePairs};
-ghost use Rattle.q_logic.specs.Numbered.{slot};
 ghost use Rattle.q_logic.specs.Targets.{strengthen};
 ghost use Rattle.q_logic.specs.Rules.{Fits};
 ghost use Rattle.q_kernel.specs.Kernels.{slots, formula_in};
 ghost use Rattle.q_rule.specs.Becoming.{CanChange, IsChanged};
-ghost use Rattle.q_subsume.specs.Looks.{AreTwo, IsTurnedWithin};
+ghost use Rattle.q_subsume.specs.Looks.{IsTurnedWithin};
 
 use crate::missing::first_missing;
 use crate::subsumed::are_two;

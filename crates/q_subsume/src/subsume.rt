@@ -1,3 +1,5 @@
+//! The calls of this crate. A target is tested once; where it applies, room is reserved for its steps and the sweep after
+//! them, and then no step can fail.
 ghost use Rattle.std.specs.Prelude.{◌≡◌, ◌↔◌, ◌≤◌, Some, None, OnOk, OnErr, IfOk, IsTrue};
 ghost use Rattle.q_logic.specs.declared.rule_bounds.Bounds.{Bounds};
 ghost use Rattle.q_logic.specs.Targets.{place};
@@ -13,9 +15,8 @@ ghost use Rattle.q_rule.specs.Becoming.{CanChange, IsChanged, HasResult};
 
 use crate::finding::find_from;
 use crate::search::Search;
-use crate::strengthen;
-use crate::subsumed;
 use crate::target::Target;
+use crate::{strengthen, subsumed};
 use q_kernel::{Kernel, Need, Taken};
 use q_logic::{Bounds, NoMemory};
 use std::alloc::Global;

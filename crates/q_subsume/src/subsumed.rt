@@ -7,15 +7,13 @@
 //! The condition stands in q_logic's `specs/Rules.antt` at `subsumed`, the law in its `proofs/PlainRuns.antt`
 //! (`subsumed-run`): d is implied by c, since the negations of d's literals leave c nothing. Both clauses are in order, so a
 //! test is one walk over the two side by side. Targets are found from c (`finding.rt`). Taking one may leave a literal pure.
-ghost use Rattle.std.specs.Prelude.{◌≡◌, ◌↔◌, ◌≢◌, Some, IsTrue};
+ghost use Rattle.std.specs.Prelude.{◌↔◌, IsTrue};
 ghost use Rattle.q_logic.specs.declared.rule_bounds.Bounds.{Bounds};
 ghost use Rattle.q_logic.specs.Literals.{IsBelow};
-ghost use Rattle.q_logic.specs.Formulas.{Clause};
 ghost use Rattle.q_logic.specs.Limits.{standard};
 ghost use Rattle.q_logic.specs.InLimits.{IsInLimits};
 ghost use Rattle.q_logic.specs.Parts.{ArePairs};
 ghost use Rattle.q_logic.specs.Sets.{IsSubset};
-ghost use Rattle.q_logic.specs.Numbered.{slot};
 ghost use Rattle.q_logic.specs.Targets.{subsumed};
 ghost use Rattle.q_logic.specs.Rules.{Fits};
 ghost use Rattle.q_kernel.specs.Kernels.{slots, formula_in};

@@ -1,7 +1,6 @@
 use Rattle.std.proofs.Common.{◌≡◌, ◌<◌, ◌∙◌, Some, None, refl, sym, subst, length, arith, true≢false}
 use Rattle.q_logic.specs.Literals.{Literal}
-use Rattle.q_kernel.specs.Kernels.{slots}
-use Rattle.q_subsume.specs.declared.target.Target.TheVariants.{Subsumed, Strengthen}
+use Rattle.q_subsume.specs.declared.target.Target.TheVariants.{Subsumed}
 use Rattle.q_subsume.specs.Looks.{IsTurnedWithin}
 use Rattle.q_subsume.specs.Searches.{IsBetween}
 use Rattle.q_subsume.proofs.Searching.{found-one, found-none, longer-none, missing-none}

@@ -1,7 +1,7 @@
-use Rattle.std.proofs.Common.{◌≡◌, ◌∙◌, ◌++◌, ◌∷◌, [], ℕ, List, Option, Some, None, get_or, refl, sym, ap, subst}
+use Rattle.std.proofs.Common.{◌≡◌, ◌∙◌, ◌++◌, ◌∷◌, [], ℕ, List, Option, None, get_or, sym, ap, subst}
 use Rattle.q_arena.specs.Rings.{Has}
 use Rattle.q_occ.specs.Places.{places_of}
-use Rattle.q_kernel.specs.Kernels.{slots, HoldsLiteral}
+use Rattle.q_kernel.specs.Kernels.{HoldsLiteral}
 use Rattle.q_kernel.proofs.Following.{passed, passed-none}
 use Rattle.q_rule.proofs.Places.{passed-step, passed-falls}
 use Rattle.q_subsume.proofs.Searching.{AreSeen, IsSeen, seen-begun, seen-more, seen-all, found-among, none-is}

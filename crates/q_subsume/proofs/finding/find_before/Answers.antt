@@ -1,5 +1,5 @@
-use Rattle.std.proofs.Common.{◌≡◌, ◌∙◌, arith, sym}
-use Rattle.q_subsume.specs.Searches.{IsBy, IsBefore, IsFound}
+use Rattle.std.proofs.Common.{◌∙◌, arith, sym}
+use Rattle.q_subsume.specs.Searches.{IsBy, IsBefore}
 use Rattle.q_subsume.proofs.Searching.{found-more}
 use Rattle.q_subsume.proofs.finding.find_before.Goals as goal
 

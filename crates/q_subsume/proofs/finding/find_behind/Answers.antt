@@ -1,7 +1,7 @@
 use Rattle.std.proofs.Common.{◌≡◌, ◌≤◌, ◌∙◌, ◌+◌, ℕ, None, Option, arith, refl, sym, subst}
 use Rattle.q_subsume.specs.declared.target.Target.{Target}
 use Rattle.q_subsume.specs.Searches.{IsBy, IsBehind, IsFound}
-use Rattle.q_subsume.proofs.Searching.{ArePassed, passed-begun, passed-more, passed-behind, found-more, none-is}
+use Rattle.q_subsume.proofs.Searching.{ArePassed, passed-more, found-more, none-is}
 use Rattle.q_subsume.proofs.finding.find_behind.Goals as goal
 
 pub returns-then-is_some : goal.returns-then-is_some

@@ -1,4 +1,4 @@
-use Rattle.std.proofs.Common.{◌≡◌, ◌≤◌, Some, Option, refl, subst}
+use Rattle.std.proofs.Common.{◌≤◌, Some, Option, refl, subst}
 use Rattle.q_logic.specs.Targets.{place}
 use Rattle.q_subsume.specs.declared.target.Target.{Target}
 use Rattle.q_subsume.specs.Targets.{target_of}

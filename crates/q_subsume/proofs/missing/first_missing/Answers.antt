@@ -1,4 +1,4 @@
-use Rattle.std.proofs.Common.{◌≡◌, ◌≤◌, Some, sym, subst, inl, inr, arith, refl, drop}
+use Rattle.std.proofs.Common.{◌≡◌, ◌≤◌, Some, sym, subst, inl, inr, arith}
 use Rattle.q_logic.specs.Literals.{Literal, pack}
 use Rattle.q_logic.specs.Formulas.{Clause, IsIn}
 use Rattle.q_rule.proofs.Members.{item-in, taken-cases, taken-all}

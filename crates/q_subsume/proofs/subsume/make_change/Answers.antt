@@ -1,7 +1,6 @@
-use Rattle.std.proofs.Common.{sym, subst}
+use Rattle.std.proofs.Common.{subst}
 use Rattle.q_logic.specs.Rules.{Fits}
 use Rattle.q_kernel.specs.Kernels.{slots}
-use Rattle.q_rule.specs.Becoming.{IsChanged}
 use Rattle.q_subsume.specs.declared.target.Target.{Target}
 use Rattle.q_subsume.specs.Targets.{target_of}
 use Rattle.q_subsume.proofs.subsume.make_change.Goals as goal
