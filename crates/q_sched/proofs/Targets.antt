@@ -11,6 +11,12 @@ use Rattle.q_reduce.specs.Targets as plain
 use Rattle.q_subsume.specs.declared.target.Target.{Target as TheSubsume}
 use Rattle.q_subsume.specs.declared.target.Target.TheVariants as subsume_target
 use Rattle.q_subsume.specs.Targets as subsume
+use Rattle.q_equiv.specs.declared.target.Target.{Target as TheMerge}
+use Rattle.q_equiv.specs.declared.target.Target.TheVariants as equiv_target
+use Rattle.q_equiv.specs.Targets as equiv
+use Rattle.q_blocked.specs.declared.target.Target.{Target as TheBlock}
+use Rattle.q_blocked.specs.declared.target.Target.TheVariants as blocked_target
+use Rattle.q_blocked.specs.Targets as blocked
 use Rattle.q_sched.specs.declared.moves.Move.{Move}
 use Rattle.q_sched.specs.declared.moves.Move.TheVariants as move
 use Rattle.q_sched.specs.Moves.{rank_of, rules, target_of}
@@ -44,6 +50,34 @@ none-subsume B k from h (cover c) i p a = absurd (omega arith)
 none-subsume B k from h (eliminate x) i p a = absurd (omega arith)
 none-subsume B k from h (expand_universal u) i p a = absurd (omega arith)
 
+pub none-equiv : (B : Bounds) (k : Seen) (from : ℕ) → ((s : TheMerge) → from ≤ place (equiv.target_of s) → Applies B k (equiv.target_of s) → ⊥) → (t : Target) → rank_of t ≡ 2 → from ≤ place t → Applies B k t → ⊥
+none-equiv B k from h (tautology c) i p a = absurd (omega arith)
+none-equiv B k from h (unit c) i p a = absurd (omega arith)
+none-equiv B k from h (cut c l) i p a = absurd (omega arith)
+none-equiv B k from h (pure l) i p a = absurd (omega arith)
+none-equiv B k from h (subsumed c d) i p a = absurd (omega arith)
+none-equiv B k from h (strengthen c d l) i p a = absurd (omega arith)
+none-equiv B k from h (merge keep gone) i p a = h (equiv_target.Merge keep gone) p a
+none-equiv B k from h (blocked c l) i p a = absurd (omega arith)
+none-equiv B k from h (blocked_forall c l) i p a = absurd (omega arith)
+none-equiv B k from h (cover c) i p a = absurd (omega arith)
+none-equiv B k from h (eliminate x) i p a = absurd (omega arith)
+none-equiv B k from h (expand_universal u) i p a = absurd (omega arith)
+
+pub none-blocked : (B : Bounds) (k : Seen) (from : ℕ) → ((s : TheBlock) → from ≤ place (blocked.target_of s) → Applies B k (blocked.target_of s) → ⊥) → (t : Target) → rank_of t ≡ 3 → from ≤ place t → Applies B k t → ⊥
+none-blocked B k from h (tautology c) i p a = absurd (omega arith)
+none-blocked B k from h (unit c) i p a = absurd (omega arith)
+none-blocked B k from h (cut c l) i p a = absurd (omega arith)
+none-blocked B k from h (pure l) i p a = absurd (omega arith)
+none-blocked B k from h (subsumed c d) i p a = absurd (omega arith)
+none-blocked B k from h (strengthen c d l) i p a = absurd (omega arith)
+none-blocked B k from h (merge keep gone) i p a = absurd (omega arith)
+none-blocked B k from h (blocked c l) i p a = h (blocked_target.Blocked c l) p a
+none-blocked B k from h (blocked_forall c l) i p a = h (blocked_target.BlockedForall c l) p a
+none-blocked B k from h (cover c) i p a = h (blocked_target.Cover c) p a
+none-blocked B k from h (eliminate x) i p a = absurd (omega arith)
+none-blocked B k from h (expand_universal u) i p a = absurd (omega arith)
+
 -- each target of the code has one of the rules
 pub has-plain : (t : TheReduce) → HasRule (plain.target_of t)
 has-plain (plain_target.Tautology a) = omega arith
@@ -55,9 +89,19 @@ pub has-subsume : (t : TheSubsume) → HasRule (subsume.target_of t)
 has-subsume (subsume_target.Subsumed a b) = omega arith
 has-subsume (subsume_target.Strengthen a b c) = omega arith
 
+pub has-equiv : (t : TheMerge) → HasRule (equiv.target_of t)
+has-equiv (equiv_target.Merge a b) = omega arith
+
+pub has-blocked : (t : TheBlock) → HasRule (blocked.target_of t)
+has-blocked (blocked_target.Blocked a b) = omega arith
+has-blocked (blocked_target.BlockedForall a b) = omega arith
+has-blocked (blocked_target.Cover a) = omega arith
+
 pub has_rule : (m : Move) → HasRule (target_of m)
 has_rule (move.Reduce t) = has-plain t
 has_rule (move.Subsume t) = has-subsume t
+has_rule (move.Merge t) = has-equiv t
+has_rule (move.Block t) = has-blocked t
 
 -- so where one applies, something is left to do
 pub some-not_done : (B : Bounds) (k : Seen) (m : Move) → Applies B k (target_of m) → IsDone B k → ⊥

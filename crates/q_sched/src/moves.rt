@@ -8,10 +8,12 @@ ghost use Rattle.q_sched.specs.Moves.{target_of, rank, rank_of, rules};
 pub enum Rule {
     Reduce,
     Subsume,
+    Merge,
+    Block,
 }
 
 /// So many rules there are.
-pub const RULES: u32 = 2;
+pub const RULES: u32 = 4;
 
 impl Rule {
     /// The rule at a place of the order.
@@ -21,7 +23,9 @@ impl Rule {
     {
         match place {
             0 => Rule::Reduce,
-            _ => Rule::Subsume,
+            1 => Rule::Subsume,
+            2 => Rule::Merge,
+            _ => Rule::Block,
         }
     }
 
@@ -32,6 +36,8 @@ impl Rule {
         match self {
             Rule::Reduce => 0,
             Rule::Subsume => 1,
+            Rule::Merge => 2,
+            Rule::Block => 3,
         }
     }
 }
@@ -41,6 +47,8 @@ impl Rule {
 pub enum Move {
     Reduce(q_reduce::Target),
     Subsume(q_subsume::Target),
+    Merge(q_equiv::Target),
+    Block(q_blocked::Target),
 }
 
 impl Move {
@@ -55,6 +63,10 @@ impl Move {
             Move::Reduce(q_reduce::Target::Pure { .. }) => Rule::Reduce,
             Move::Subsume(q_subsume::Target::Subsumed { .. }) => Rule::Subsume,
             Move::Subsume(q_subsume::Target::Strengthen { .. }) => Rule::Subsume,
+            Move::Merge(q_equiv::Target::Merge { .. }) => Rule::Merge,
+            Move::Block(q_blocked::Target::Blocked { .. }) => Rule::Block,
+            Move::Block(q_blocked::Target::BlockedForall { .. }) => Rule::Block,
+            Move::Block(q_blocked::Target::Cover { .. }) => Rule::Block,
         }
     }
 
@@ -69,6 +81,10 @@ impl Move {
             Move::Reduce(q_reduce::Target::Pure { l }) => l.var(),
             Move::Subsume(q_subsume::Target::Subsumed { d, .. }) => *d,
             Move::Subsume(q_subsume::Target::Strengthen { d, .. }) => *d,
+            Move::Merge(q_equiv::Target::Merge { gone, .. }) => gone.var(),
+            Move::Block(q_blocked::Target::Blocked { c, .. }) => *c,
+            Move::Block(q_blocked::Target::BlockedForall { c, .. }) => *c,
+            Move::Block(q_blocked::Target::Cover { c }) => *c,
         }
     }
 }

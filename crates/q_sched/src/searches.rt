@@ -21,6 +21,8 @@ use std::marker::Model;
 pub struct Searches {
     plain: q_reduce::Search,
     subsume: q_subsume::Search,
+    equiv: q_equiv::Search,
+    blocked: q_blocked::Search,
 }
 
 impl Model for Searches {
@@ -39,6 +41,8 @@ impl Searches {
         Searches {
             plain: q_reduce::Search::new(alloc),
             subsume: q_subsume::Search::new(alloc),
+            equiv: q_equiv::Search::new(alloc),
+            blocked: q_blocked::Search::new(alloc),
         }
     }
 
@@ -58,6 +62,8 @@ impl Searches {
         match target {
             Move::Reduce(t) => q_reduce::applies(kernel, &mut self.plain, t, bounds),
             Move::Subsume(t) => q_subsume::applies(kernel, &mut self.subsume, t, bounds),
+            Move::Merge(t) => q_equiv::applies(kernel, &mut self.equiv, t, bounds),
+            Move::Block(t) => q_blocked::applies(kernel, &mut self.blocked, t, bounds),
         }
     }
 
@@ -83,6 +89,14 @@ impl Searches {
                 self.plain.forget();
                 q_subsume::try_with(kernel, &mut self.subsume, t, bounds)
             }
+            Move::Merge(t) => {
+                self.plain.forget();
+                q_equiv::try_with(kernel, &mut self.equiv, t, bounds)
+            }
+            Move::Block(t) => {
+                self.plain.forget();
+                q_blocked::try_with(kernel, &mut self.blocked, t, bounds)
+            }
         }
     }
 
@@ -104,6 +118,8 @@ impl Searches {
         match rule {
             Rule::Reduce => self.find_plain(kernel, bounds, from),
             Rule::Subsume => self.find_subsume(kernel, bounds, from),
+            Rule::Merge => self.find_equiv(kernel, bounds, from),
+            Rule::Block => self.find_blocked(kernel, bounds, from),
         }
     }
 
@@ -161,5 +177,43 @@ impl Searches {
             return Ok(None);
         };
         Ok(Some(Move::Subsume(target)))
+    }
+
+    fn find_equiv(
+        &mut self,
+        kernel: &Kernel,
+        bounds: &Bounds,
+        from: u32,
+    ) -> Result<Option<Move>, NoMemory>
+        requires ready { IsReady kernel.now }
+        requires bounds { AreModest bounds.now }
+        requires fit { IsFitFor kernel.now self.old }
+        ensures some { IfOk result (λ o. (m : MoveValue) → o ≡ Some m → HasRule (target_of m) × Applies bounds.now kernel.now (target_of m)) }
+        ensures none { IfOk result (λ o. o ≡ None → (t : TheoryTarget) → rank_of t ≡ 2 → from ≤ place t → Applies bounds.now kernel.now t → ⊥) }
+        ensures fit { IsFitFor kernel.now self.new }
+    {
+        let Some(target) = q_equiv::find_with(kernel, &mut self.equiv, bounds, from)? else {
+            return Ok(None);
+        };
+        Ok(Some(Move::Merge(target)))
+    }
+
+    fn find_blocked(
+        &mut self,
+        kernel: &Kernel,
+        bounds: &Bounds,
+        from: u32,
+    ) -> Result<Option<Move>, NoMemory>
+        requires ready { IsReady kernel.now }
+        requires bounds { AreModest bounds.now }
+        requires fit { IsFitFor kernel.now self.old }
+        ensures some { IfOk result (λ o. (m : MoveValue) → o ≡ Some m → HasRule (target_of m) × Applies bounds.now kernel.now (target_of m)) }
+        ensures none { IfOk result (λ o. o ≡ None → (t : TheoryTarget) → rank_of t ≡ 3 → from ≤ place t → Applies bounds.now kernel.now t → ⊥) }
+        ensures fit { IsFitFor kernel.now self.new }
+    {
+        let Some(target) = q_blocked::find_with(kernel, &mut self.blocked, bounds, from)? else {
+            return Ok(None);
+        };
+        Ok(Some(Move::Block(target)))
     }
 }

@@ -109,6 +109,12 @@ impl Agenda {
             Move::Subsume(q_subsume::Target::Strengthen { d, l, .. }) => {
                 self.note_unit_left(kernel, *d, *l)
             }
+            Move::Block(q_blocked::Target::Blocked { c, .. }) => self.note_clause(kernel, *c),
+            Move::Block(q_blocked::Target::BlockedForall { c, l }) => {
+                self.note_unit_left(kernel, *c, *l)
+            }
+            Move::Block(q_blocked::Target::Cover { c }) => self.note_clause(kernel, *c),
+            Move::Merge(_) => Ok(()),
         }
     }
 

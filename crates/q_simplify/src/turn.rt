@@ -82,6 +82,14 @@ fn target_behind(
     Ok(None)
 }
 
+// Where the search of the target's rule goes on. The search for subsumed clauses keeps its own place.
+fn cursor_at(target: &Move) -> u32 {
+    match target {
+        Move::Subsume(_) => 0,
+        _ => target.place(),
+    }
+}
+
 // The target to be taken next: one that is noted, or else what the searches find from the cursor on. They begin anew
 // before they say that there is none.
 fn next_target(
@@ -101,13 +109,13 @@ fn next_target(
         return Ok(Some(target));
     }
     if let Some(target) = target_behind(kernel, searches, agenda, bounds)? {
-        agenda.go_to(target.rule().rank(), target.place());
+        agenda.go_to(target.rule().rank(), cursor_at(&target));
         return Ok(Some(target));
     }
     let Some(target) = searches.find_any(kernel, bounds)? else {
         return Ok(None);
     };
-    agenda.go_to(target.rule().rank(), target.place());
+    agenda.go_to(target.rule().rank(), cursor_at(&target));
     Ok(Some(target))
 }
 

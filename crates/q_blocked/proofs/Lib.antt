@@ -1,0 +1,16 @@
+pub mod Members
+pub mod Passing
+pub mod Clashes
+pub mod Stepping
+pub mod Seeking
+pub mod Results
+pub mod Replacing
+pub mod Fronts
+pub mod Staging
+pub mod Sifting
+pub mod Hiding
+pub mod Narrowing
+pub mod Reaching
+pub mod Growing
+pub mod Passes
+pub mod Planning

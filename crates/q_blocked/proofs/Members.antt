@@ -1,0 +1,18 @@
+-- Beginnings of a list, and members by places.
+use Rattle.std.proofs.Common.{◌≡◌, ℕ, zero, suc, ◌+◌, ◌<◌, List, [], ◌∷◌, ◌++◌, take, slice_get, Some, get_or, length, inl, inr, refl}
+use Rattle.std.proofs.lemmas.List.{take_more}
+use Rattle.q_logic.specs.Formulas.{IsIn}
+
+module _ {X : Type 0} where
+  pub taken : (xs : List X) (n : ℕ) (y : X) → n < length xs → y ≡ get_or xs n y → take (n + 1) xs ≡ take n xs ++ y ∷ []
+  taken xs n y h e = let t = take_more xs n y h in rw (t, ← e) refl
+
+  pub place-member : (xs : List X) (j : ℕ) (k : X) → slice_get xs j ≡ Some k → IsIn k xs
+  place-member [] j k e = absurd (cc)
+  place-member (x ∷ xs) zero k e = inl (cc)
+  place-member (x ∷ xs) (suc j) k e = inr (place-member xs j k e)
+
+  pub place-get : (xs : List X) (j : ℕ) (k : X) → slice_get xs j ≡ Some k → k ≡ get_or xs j k
+  place-get [] j k e = absurd (cc)
+  place-get (x ∷ xs) zero k e = cc
+  place-get (x ∷ xs) (suc j) k e = place-get xs j k e

@@ -1,0 +1,10 @@
+use Rattle.q_kernel.specs.Kernels.{slots}
+use Rattle.q_blocked.specs.Units.{AreRight}
+use Rattle.q_blocked.specs.Growths.{Growing}
+use Rattle.q_blocked.proofs.cover.covers.Given as goal
+
+abbrev pub invariant-loop-round : goal.invariant-loop-round
+invariant-loop-round l = record {
+  growing : Growing l.kernel l.c l.growth;
+  units : AreRight (slots l.kernel) l.units;
+}

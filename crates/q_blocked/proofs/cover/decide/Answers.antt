@@ -1,0 +1,41 @@
+use Rattle.std.proofs.Common.{◌≡◌, ℕ, List, [], None, length, sym, subst}
+use Rattle.q_logic.specs.Formulas.{Clause}
+use Rattle.q_logic.specs.Numbered.{others}
+use Rattle.q_kernel.specs.Kernels.{slots}
+use Rattle.q_rule.proofs.Members.{test-false}
+use Rattle.q_blocked.specs.declared.plan.Stage.{Stage}
+use Rattle.q_blocked.specs.Growths.{IsGrowing, IsCovered}
+use Rattle.q_blocked.proofs.Reaching.{reached-begun, covered-tautology}
+use Rattle.q_blocked.proofs.Growing.{growing-begun}
+use Rattle.q_blocked.proofs.cover.decide.Goals as goal
+
+pub returns-then-is_tautology-clause-decided : goal.returns-then-is_tautology-clause-decided
+returns-then-is_tautology-clause-decided c =
+    let P = c.args.kernel.now.prefix in
+    let X = others c.args.c (slots c.args.kernel.now) in
+    let C : Clause = c.clause_of-clause.result.now in
+    let g = c.begin.new.self in
+    let e = c.in_ok-begin.ensures in (
+      C,
+      c.clause_of-clause.ensures.clause,
+      subst (λ (S : Clause). IsCovered P X C S g.plan.stages.items g.base None) (sym e.set)
+          (subst (λ (ss : List Stage). IsCovered P X C C ss g.base None) (sym e.stages)
+          (subst (λ (n : ℕ). IsCovered P X C C [] n None) (sym e.base)
+          (covered-tautology P X C C [] (length C) (reached-begun P X C c.clause_of-clause.ensures.within) (c.is_tautology.ensures.0 c.if-is_tautology.true)))),
+    )
+
+pub covers-requires-clause-growing : goal.covers-requires-clause-growing
+covers-requires-clause-growing c =
+    let P = c.args.kernel.now.prefix in
+    let X = others c.args.c (slots c.args.kernel.now) in
+    let C : Clause = c.clause_of-clause.result.now in
+    let g = c.begin.new.self in
+    let e = c.in_ok-begin.ensures in (
+      C,
+      c.clause_of-clause.ensures.clause,
+      subst (λ (S : Clause). IsGrowing P X C S g.plan.stages.items g.base g.worked) (sym e.set)
+          (subst (λ (ss : List Stage). IsGrowing P X C C ss g.base g.worked) (sym e.stages)
+          (subst (λ (n : ℕ). IsGrowing P X C C [] n g.worked) (sym e.base)
+          (subst (λ (n : ℕ). IsGrowing P X C C [] (length C) n) (sym e.worked)
+          (growing-begun P X C c.clause_of-clause.ensures.within (test-false c.is_tautology.result c.is_tautology.ensures c.if-is_tautology.false))))),
+    )

@@ -1,0 +1,7 @@
+pub mod Targets
+pub mod Walks
+pub mod Units
+pub mod Outcomes
+pub mod Plans
+pub mod Growths
+pub mod Searches

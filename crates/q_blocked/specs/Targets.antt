@@ -1,0 +1,20 @@
+-- The targets of this crate, as targets of the theory.
+use Rattle.std.specs.Prelude.{◌≡◌, ℕ, []}
+use Rattle.q_logic.specs.Formulas.{Prefix}
+use Rattle.q_logic.specs.Numbered.{Slots}
+use Rattle.q_logic.specs.Targets as theory
+use Rattle.q_blocked.specs.declared.target.Target.{Target}
+use Rattle.q_blocked.specs.declared.target.Target.TheVariants.{Blocked, BlockedForall, Cover}
+use Rattle.q_blocked.specs.declared.plan.Plan.{Plan}
+use Rattle.q_blocked.specs.Plans.{IsPlanFor}
+
+abbrev pub target_of : Target → theory.Target
+target_of (Blocked c l) = theory.blocked c l
+target_of (BlockedForall c l) = theory.blocked_forall c l
+target_of (Cover c) = theory.cover c
+
+-- the plan has what a target takes beside its one step
+abbrev pub HasPlan : Prefix → Slots → Target → Plan → Type 0
+HasPlan P N (Blocked c l) p = p.stages.items ≡ []
+HasPlan P N (BlockedForall c l) p = p.stages.items ≡ []
+HasPlan P N (Cover c) p = IsPlanFor P N c p

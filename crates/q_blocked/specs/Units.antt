@@ -1,0 +1,22 @@
+-- Clauses of one literal.
+use Rattle.std.specs.Prelude.{◌≡◌, ◌<◌, ℕ, true, List, Some}
+use Rattle.q_logic.specs.Literals.{Literal}
+use Rattle.q_logic.specs.Formulas.{Clause, IsIn}
+use Rattle.q_logic.specs.Numbered.{Slots, slot}
+use Rattle.q_blocked.specs.declared.units.Units.{Units}
+
+-- the clause is of one literal
+abbrev pub IsSingle : Clause → Type 0
+IsSingle D = (j : Literal) × IsIn j D × ((i : Literal) → IsIn i D → i ≡ j)
+
+-- the ids of all clauses of one literal are in the list
+abbrev pub HasUnits : Slots → List ℕ → Type 0
+HasUnits N ids = (d : ℕ) (D : Clause) → slot N d ≡ Some D → IsSingle D → IsIn d ids
+
+-- of all such clauses below an id
+abbrev pub HasUnitsBelow : Slots → ℕ → List ℕ → Type 0
+HasUnitsBelow N upto ids = (d : ℕ) (D : Clause) → d < upto → slot N d ≡ Some D → IsSingle D → IsIn d ids
+
+-- what is known is right
+abbrev pub AreRight : Slots → Units → Type 0
+AreRight N u = u.known ≡ true → HasUnits N u.ids.items

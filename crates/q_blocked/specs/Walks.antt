@@ -1,0 +1,50 @@
+-- Walks over the other clauses.
+use Rattle.std.specs.Prelude.{◌≡◌, ◌≢◌, ◌↔◌, ◌⊎◌, ℕ, Bool, true, false, List, Some}
+use Rattle.q_logic.specs.Literals.{Literal, negation}
+use Rattle.q_logic.specs.Formulas.{Clause, Matrix, Prefix, IsIn}
+use Rattle.q_logic.specs.Pivots.{keeps}
+use Rattle.q_logic.specs.Numbered.{Slots, slot}
+use Rattle.q_logic.specs.Blocking.{Clashes, AllClash}
+use Rattle.q_logic.specs.Covering.{InEach}
+
+-- the clause of the id d, which is not c
+abbrev pub IsBeside : Slots → ℕ → ℕ → Clause → Type 0
+IsBeside N c d E = (d ≢ c) × (slot N d ≡ Some E)
+
+-- where all literals of D but one are in H, the negation of that one is in S
+abbrev pub IsCalmAt : Clause → Clause → Clause → Type 0
+IsCalmAt H S D = (new : Literal) → IsIn (negation new) D → ((j : Literal) → IsIn j D → j ≢ negation new → IsIn j H) → IsIn new S
+
+-- the clause D gives S no hidden literal
+abbrev pub IsCalm : Clause → Clause → Type 0
+IsCalm S D = IsCalmAt S S D
+
+-- the clause D gives S the hidden literal
+pub record Gives (S D : Clause) (new : Literal) : Type 0 where
+  pub negated : IsIn (negation new) D
+  pub others_in : (j : Literal) → IsIn j D → j ≢ negation new → IsIn j S
+  pub is_new : IsIn new S → ⊥
+
+-- some clause with not l does not clash with S on l
+abbrev pub IsOpen : Prefix → Matrix → Literal → Clause → Type 0
+IsOpen P X l S = (D : Clause) × IsIn D X × IsIn (negation l) D × (Clashes P l S D → ⊥)
+
+-- what a clause of the list of not l does to the covered literals that are found so far
+pub record IsCutBy (P : Prefix) (N : Slots) (c d : ℕ) (l : Literal) (S : Clause) (was : Bool) (old : List Literal) (now : Bool) (new : List Literal) : Type 0 where
+  pub opened : now ≡ true
+  pub by : Clause
+  pub beside : IsBeside N c d by
+  pub holds : IsIn (negation l) by
+  pub clear : Clashes P l S by → ⊥
+  pub first : was ≡ false → (k : Literal) → IsIn k new ↔ (IsIn k by × (keeps P (negation l) k ≡ true) × (IsIn k S → ⊥))
+  pub next : was ≡ true → (k : Literal) → IsIn k new ↔ (IsIn k old × IsIn k by)
+
+abbrev pub IsNarrowed : Prefix → Slots → ℕ → ℕ → Literal → Clause → Bool → List Literal → Bool → List Literal → Type 0
+IsNarrowed P N c d l S was old now new =
+    (((D : Clause) → IsBeside N c d D → Clashes P l S D) × (now ≡ was) × (new ≡ old))
+    ⊎ IsCutBy P N c d l S was old now new
+
+-- all clauses with not l clash, or the covered literals that are not in S are found
+abbrev pub IsLooked : Prefix → Matrix → Literal → Clause → List Literal → Bool → Type 0
+IsLooked P X l S K false = AllClash P X l S
+IsLooked P X l S K true = IsOpen P X l S × ((k : Literal) → IsIn k K ↔ (InEach P X l S k × (IsIn k S → ⊥)))

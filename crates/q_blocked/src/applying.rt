@@ -1,0 +1,37 @@
+//! Whether a target applies.
+ghost use Rattle.std.specs.Prelude.{◌↔◌, IfOk, IsTrue};
+ghost use Rattle.q_logic.specs.declared.rule_bounds.Bounds.{Bounds};
+ghost use Rattle.q_logic.specs.Rules.{Fits};
+ghost use Rattle.q_kernel.specs.Kernels.{slots};
+ghost use Rattle.q_blocked.specs.Targets.{target_of, HasPlan};
+
+use crate::blocked::{fits_blocked, fits_blocked_forall};
+use crate::cover::fits_cover;
+use crate::search::Search;
+use crate::target::Target;
+use q_kernel::Kernel;
+use q_logic::NoMemory;
+
+/// Whether the conditions of a target hold. Of a covered clause the search has the steps then.
+pub fn fits(kernel: &Kernel, search: &mut Search, target: &Target) -> Result<bool, NoMemory>
+    ensures fits { IfOk result (λ yes. (B : Bounds) → IsTrue yes ↔ Fits B kernel.now.prefix (slots kernel.now) (target_of target.now)) }
+    ensures plan { IfOk result (λ yes. IsTrue yes → HasPlan kernel.now.prefix (slots kernel.now) target.now search.new.growth.plan) }
+{
+    match *target {
+        Target::Blocked { c, l } => {
+            let yes = fits_blocked(kernel, &mut search.growth.set, c, l)?;
+            search.growth.plan.stages.clear();
+            Ok(yes)
+        }
+        Target::BlockedForall { c, l } => {
+            let yes = fits_blocked_forall(kernel, &mut search.growth.set, c, l)?;
+            search.growth.plan.stages.clear();
+            Ok(yes)
+        }
+        Target::Cover { c } => {
+            search.units.forget();
+            let yes = fits_cover(kernel, &mut search.growth, &mut search.units, c)?;
+            Ok(yes)
+        }
+    }
+}

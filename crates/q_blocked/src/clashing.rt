@@ -1,0 +1,88 @@
+//! Clauses that clash with a set of literals.
+ghost use Rattle.std.specs.Prelude.{◌≡◌, ◌↔◌, true, OnOk, IsTrue};
+ghost use Rattle.q_logic.specs.Literals.{negation};
+ghost use Rattle.q_logic.specs.Formulas.{Clause, IsIn};
+ghost use Rattle.q_logic.specs.Prefixes.{is_bound};
+ghost use Rattle.q_logic.specs.Pivots.{keeps};
+ghost use Rattle.q_logic.specs.Steps.{Within};
+ghost use Rattle.q_logic.specs.Numbered.{others};
+ghost use Rattle.q_logic.specs.Blocking.{Clashes, AllClash};
+ghost use Rattle.q_kernel.specs.Kernels.{slots, HoldsLiteral};
+ghost use Rattle.q_blocked.specs.Walks.{IsBeside};
+
+use q_arena::ClauseId;
+use q_kernel::Kernel;
+use q_logic::{Lit, NoMemory};
+use q_rule::{Queue, clause_of};
+
+/// Makes the set that of the literals of a clause.
+pub fn fill(set: &mut Queue, clause: &[Lit]) -> Result<(), NoMemory>
+    ensures { OnOk result (set.new ≡ clause.now) }
+{
+    set.clear();
+    for k in clause {
+        set.push(*k)?;
+    }
+    Ok(())
+}
+
+/// Whether k is in the outer clause, on the literal m, of a clause that holds it.
+pub fn is_kept(kernel: &Kernel, m: Lit, k: Lit) -> bool
+    requires here { is_bound kernel.now.prefix m.var ≡ true }
+    requires there { is_bound kernel.now.prefix k.var ≡ true }
+    ensures { result ≡ keeps kernel.now.prefix m k }
+{
+    !k.is(m) && kernel.prefix().outer_or_same(k.var(), m.var())
+}
+
+// Whether the literal k of a clause is in its outer clause on m, and its negation in the set. The marks of the set are
+// asked first: they cost less, and mostly answer no.
+fn hits(kernel: &Kernel, set: &Queue, m: Lit, k: Lit) -> bool
+    requires here { is_bound kernel.now.prefix m.var ≡ true }
+    requires there { is_bound kernel.now.prefix k.var ≡ true }
+    ensures { IsTrue result ↔ ((keeps kernel.now.prefix m k ≡ true) × IsIn (negation k) set.now) }
+{
+    set.has(k.negated()) && is_kept(kernel, m, k)
+}
+
+/// Whether a clause clashes with the set on a literal whose negation it holds.
+pub fn clashes(kernel: &Kernel, set: &Queue, clause: &[Lit], l: Lit) -> bool
+    requires within { Within kernel.now.prefix clause.now }
+    requires bound { is_bound kernel.now.prefix l.var ≡ true }
+    ensures { IsTrue result ↔ Clashes kernel.now.prefix l set.now clause.now }
+{
+    let m = l.negated();
+    for k in clause {
+        if hits(kernel, set, m, *k) {
+            return true;
+        }
+    }
+    false
+}
+
+// The same for the clause of an id. Of the clause c itself nothing is asked.
+fn passes(kernel: &Kernel, set: &Queue, c: ClauseId, d: ClauseId, l: Lit) -> bool
+    requires { HoldsLiteral kernel.now d (negation l) }
+    ensures { IsTrue result ↔ ((D : Clause) → IsBeside (slots kernel.now) c d D → Clashes kernel.now.prefix l set.now D) }
+{
+    if d == c {
+        return true;
+    }
+    clashes(kernel, set, clause_of(kernel, d), l)
+}
+
+/// Whether each clause but c that holds the negation of a literal clashes with the set on it. It stops at the first
+/// one that does not.
+pub fn all_clash(kernel: &Kernel, set: &Queue, c: ClauseId, l: Lit) -> bool
+    ensures { IsTrue result ↔ AllClash kernel.now.prefix (others c (slots kernel.now)) l set.now }
+{
+    kernel.sound();
+    let mut at = kernel.first(l.negated());
+    while let Some(place) = at {
+        if !passes(kernel, set, c, kernel.owner(place), l) {
+            return false;
+        }
+        at = kernel.next(place);
+    }
+    true
+}

@@ -1,0 +1,256 @@
+//! Covered clauses.
+//!
+//! **The idea.** A clause may have further literals without a change of what the formula says. A *hidden* literal: all
+//! literals of another clause but one are in it, and the negation of that one comes. *Covered* literals: on an
+//! existential literal l of it, all literals come that are in the outer part of each clause with `not l` that does not
+//! clash with it. Where the clause has grown to a tautology, or is blocked, it goes.
+//!
+//! **Source.** Marijn Heule, Matti Järvisalo and Armin Biere, "Covered Clause Elimination" (LPAR 2010) and "Clause
+//! Elimination for SAT and QSAT" (JAIR 2015). (The conditions on the prefix are this project's own.)
+//!
+//! **Condition and law.** `Covers` (`q_logic/specs/Covering.antt`). No is right because of `stuck-covers_none`
+//! (`q_logic/proofs/CoverRun.antt`): what stops one order of growing stops every order.
+//!
+//! **How it is found.** The set is a list with marks. The list of each literal is walked once for hidden literals,
+//! when its turn comes; then each literal is looked at for covered ones, until a pass over the set finds none. The
+//! clauses of one literal come last, since no list leads to them, and only where nothing else ended the growth.
+//!
+//! **The steps** (`plan.rt`, `covering.rt`). A stage is a larger clause that comes, after which the smaller one goes.
+//! Hidden literals need none of their own: the smaller clause is implied by the larger one through all of them, and a
+//! pivot of it is as good. So there is a stage for each covered growth, and one before it only where its literal has
+//! come since the last one. The last clause goes by its pivot, or because it is implied.
+//!
+//! **Cost.** The lists of the set's literals and of their negations, as often as covered literals come. The text of
+//! the steps grows with the stages times the set. Finding the clauses of one literal is a pass over the formula,
+//! once in a search and once in a trial that says No.
+//!
+//! **What it may make applicable.** A clause goes: its literals may become pure, and the clauses with their negations
+//! blocked or covered.
+ghost use Rattle.std.specs.Prelude.{◌≡◌, ◌↔◌, ℕ, ◌++◌, ◌<◌, ◌≤◌, true, length, slice_get, Some, None, OnOk, IfOk, IsTrue};
+ghost use Rattle.q_logic.specs.declared.rule_bounds.Bounds.{Bounds};
+ghost use Rattle.q_logic.specs.Literals.{Literal, negation};
+ghost use Rattle.q_logic.specs.Formulas.{Clause, IsIn};
+ghost use Rattle.q_logic.specs.Numbered.{slot, others};
+ghost use Rattle.q_logic.specs.Targets.{cover};
+ghost use Rattle.q_logic.specs.Rules.{Fits};
+ghost use Rattle.q_kernel.specs.Kernels.{Seen, slots};
+ghost use Rattle.q_blocked.specs.Growths.{Growing, CoveredBy, HasCovered, HasLooked, HasTurned, HasDecided};
+ghost use Rattle.q_blocked.specs.Units.{AreRight};
+ghost use Rattle.q_blocked.specs.Plans.{IsPlanFor};
+
+use crate::covered::{covered_at, is_bare};
+use crate::growth::Growth;
+use crate::hidden::{close, use_units};
+use crate::outcome::Outcome;
+use crate::units::Units;
+use q_arena::ClauseId;
+use q_kernel::Kernel;
+use q_logic::{Lit, NoMemory};
+use q_rule::{Queue, clause_of, is_existential, is_tautology};
+
+fn push_all(set: &mut Queue, lits: &[Lit]) -> Result<(), NoMemory>
+    ensures { OnOk result (set.new ≡ set.old ++ lits.now) }
+{
+    for k in lits {
+        set.push(*k)?;
+    }
+    Ok(())
+}
+
+// Whether the set holds the negation of one of the literals.
+fn opposes(set: &Queue, lits: &[Lit]) -> bool
+    ensures { IsTrue result ↔ ((k : Literal) × IsIn k lits.now × IsIn (negation k) set.now) }
+{
+    for k in lits {
+        if set.has(k.negated()) {
+            return true;
+        }
+    }
+    false
+}
+
+// Makes the literal at a place one of the last stage.
+fn settle(growth: &mut Growth, place: usize) -> Result<(), NoMemory>
+    requires { place < length growth.old.set }
+    ensures growing { OnOk result ((k : Seen) (c : ℕ) → Growing k c growth.old → Growing k c growth.new) }
+    ensures settled { OnOk result (place < growth.new.base) }
+    ensures set { growth.new.set ≡ growth.old.set }
+    ensures found { growth.new.found ≡ growth.old.found }
+{
+    if growth.base <= place {
+        growth.note(None)?;
+    }
+    Ok(())
+}
+
+// Grows by the covered literals that were found on the literal at a place of the last stage.
+fn cover_by(
+    kernel: &Kernel,
+    growth: &mut Growth,
+    c: ClauseId,
+    place: usize,
+) -> Result<Outcome, NoMemory>
+    requires growing { Growing kernel.now c growth.old }
+    requires settled { place < growth.old.base }
+    requires found { (l : Literal) → slice_get growth.old.set place ≡ Some l → CoveredBy kernel.now.prefix (others c (slots kernel.now)) growth.old.set growth.old.found.items l }
+    ensures { IfOk result (HasCovered kernel.now c growth.new) }
+{
+    kernel.sound();
+    let l = growth.set.at(place);
+    push_all(&mut growth.set, &growth.found)?;
+    if opposes(&growth.set, &growth.found) {
+        growth.plan.last = Some(l);
+        return Ok(Outcome::Ended);
+    }
+    growth.note(Some(l))?;
+    Ok(Outcome::Grown)
+}
+
+// Grows by the covered literals on the literal at a place of the set.
+fn cover_at(
+    kernel: &Kernel,
+    growth: &mut Growth,
+    c: ClauseId,
+    place: usize,
+) -> Result<Outcome, NoMemory>
+    requires growing { Growing kernel.now c growth.old }
+    requires there { place < length growth.old.set }
+    ensures { IfOk result (HasLooked kernel.now c (λ l. slice_get growth.old.set place ≡ Some l) growth.old growth.new) }
+{
+    let l = growth.set.at(place);
+    if !is_existential(kernel, l.var()) {
+        return Ok(Outcome::Calm);
+    }
+    if !covered_at(
+        kernel,
+        &growth.set,
+        &mut growth.found,
+        &mut growth.spare,
+        c,
+        l,
+    )? {
+        settle(growth, place)?;
+        growth.plan.last = Some(l);
+        return Ok(Outcome::Ended);
+    }
+    if is_bare(&growth.found) {
+        return Ok(Outcome::Calm);
+    }
+    settle(growth, place)?;
+    cover_by(kernel, growth, c, place)
+}
+
+// Grows by the covered literals on each literal of the set, those that come included.
+fn pass(kernel: &Kernel, growth: &mut Growth, c: ClauseId) -> Result<Outcome, NoMemory>
+    requires growing { Growing kernel.now c growth.old }
+    ensures { IfOk result (HasLooked kernel.now c (λ l. IsIn l growth.old.set) growth.old growth.new) }
+{
+    let mut grew = false;
+    for place in 0..usize::MAX {
+        if place >= growth.set.len() {
+            if grew {
+                return Ok(Outcome::Grown);
+            }
+            return Ok(Outcome::Calm);
+        }
+        let outcome = cover_at(kernel, growth, c, place)?;
+        if outcome.is_ended() {
+            return Ok(Outcome::Ended);
+        }
+        grew = grew || outcome.is_grown();
+    }
+    // a set that large has no place in memory
+    Err(NoMemory)
+}
+
+// Grows by all that is known without the clauses of one literal, and then by these.
+fn round(
+    kernel: &Kernel,
+    growth: &mut Growth,
+    units: &mut Units,
+    c: ClauseId,
+) -> Result<Outcome, NoMemory>
+    requires growing { Growing kernel.now c growth.old }
+    requires units { AreRight (slots kernel.now) units.old }
+    ensures turned { IfOk result (HasTurned kernel.now c growth.new) }
+    ensures units { AreRight (slots kernel.now) units.new }
+{
+    if close(kernel, growth, c)? {
+        return Ok(Outcome::Ended);
+    }
+    let outcome = pass(kernel, growth, c)?;
+    if outcome.is_ended() || outcome.is_grown() {
+        return Ok(outcome);
+    }
+    units.learn(kernel)?;
+    let last = use_units(kernel, growth, c, &units.ids)?;
+    Ok(last)
+}
+
+// Whether some growth of the set ends.
+fn covers(
+    kernel: &Kernel,
+    growth: &mut Growth,
+    units: &mut Units,
+    c: ClauseId,
+) -> Result<bool, NoMemory>
+    requires growing { Growing kernel.now c growth.old }
+    requires units { AreRight (slots kernel.now) units.old }
+    ensures decided { IfOk result (HasDecided kernel.now c growth.new) }
+    ensures units { AreRight (slots kernel.now) units.new }
+{
+    for _round in 0..usize::MAX {
+        let outcome = round(kernel, growth, units, c)?;
+        if outcome.is_ended() {
+            return Ok(true);
+        }
+        if !outcome.is_grown() {
+            return Ok(false);
+        }
+    }
+    // a set that large has no place in memory
+    Err(NoMemory)
+}
+
+/// Whether some growth of a clause ends; the steps by which the clause goes then.
+pub fn fits_cover(
+    kernel: &Kernel,
+    growth: &mut Growth,
+    units: &mut Units,
+    c: ClauseId,
+) -> Result<bool, NoMemory>
+    requires { AreRight (slots kernel.now) units.old }
+    ensures fits { IfOk result (λ yes. (B : Bounds) → IsTrue yes ↔ Fits B kernel.now.prefix (slots kernel.now) (cover c)) }
+    ensures plan { IfOk result (λ yes. IsTrue yes → IsPlanFor kernel.now.prefix (slots kernel.now) c growth.new.plan) }
+    ensures units { AreRight (slots kernel.now) units.new }
+{
+    if !kernel.live(c) {
+        return Ok(false);
+    }
+    kernel.sound();
+    let yes = decide(kernel, growth, units, c)?;
+    if yes {
+        growth.write()?;
+    }
+    Ok(yes)
+}
+
+fn decide(
+    kernel: &Kernel,
+    growth: &mut Growth,
+    units: &mut Units,
+    c: ClauseId,
+) -> Result<bool, NoMemory>
+    requires live { (C : Clause) × (slot (slots kernel.now) c ≡ Some C) }
+    requires units { AreRight (slots kernel.now) units.old }
+    ensures decided { IfOk result (HasDecided kernel.now c growth.new) }
+    ensures units { AreRight (slots kernel.now) units.new }
+{
+    let clause = clause_of(kernel, c);
+    growth.begin(clause)?;
+    if is_tautology(clause) {
+        growth.plan.last = None;
+        return Ok(true);
+    }
+    covers(kernel, growth, units, c)
+}

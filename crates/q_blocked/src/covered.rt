@@ -1,0 +1,133 @@
+//! Covered literals.
+ghost use Rattle.std.specs.Prelude.{◌≡◌, ◌↔◌, ◌++◌, ◌∷◌, [], true, false, cond, OnOk, IfOk, IsTrue};
+ghost use Rattle.q_logic.specs.Literals.{Literal, negation};
+ghost use Rattle.q_logic.specs.Formulas.{IsIn};
+ghost use Rattle.q_logic.specs.Prefixes.{is_bound};
+ghost use Rattle.q_logic.specs.Pivots.{keeps};
+ghost use Rattle.q_logic.specs.Steps.{Within};
+ghost use Rattle.q_logic.specs.Numbered.{others};
+ghost use Rattle.q_kernel.specs.Kernels.{slots, HoldsLiteral};
+ghost use Rattle.q_blocked.specs.Walks.{IsNarrowed, IsLooked};
+
+use crate::clashing::{clashes, is_kept};
+use q_arena::ClauseId;
+use q_kernel::Kernel;
+use q_logic::{Lit, NoMemory};
+use q_rule::{Queue, clause_of, holds};
+
+fn put_if(lits: &mut Vec<Lit>, k: Lit, wanted: bool) -> Result<(), NoMemory>
+    ensures { OnOk result (lits.new.items ≡ cond wanted (lits.old.items ++ k ∷ []) lits.old.items) }
+{
+    if wanted {
+        lits.push(k)?;
+    }
+    Ok(())
+}
+
+// Whether the literal k of a clause is in its outer clause on m, and not in the set.
+fn is_fresh(kernel: &Kernel, set: &Queue, m: Lit, k: Lit) -> bool
+    requires here { is_bound kernel.now.prefix m.var ≡ true }
+    requires there { is_bound kernel.now.prefix k.var ≡ true }
+    ensures { IsTrue result ↔ ((keeps kernel.now.prefix m k ≡ true) × (IsIn k set.now → ⊥)) }
+{
+    is_kept(kernel, m, k) && !set.has(k)
+}
+
+// The literals of the outer clause that are not in the set.
+fn begin(
+    kernel: &Kernel,
+    set: &Queue,
+    clause: &[Lit],
+    m: Lit,
+    found: &mut Vec<Lit>,
+) -> Result<(), NoMemory>
+    requires within { Within kernel.now.prefix clause.now }
+    requires bound { is_bound kernel.now.prefix m.var ≡ true }
+    ensures { OnOk result ((k : Literal) → IsIn k found.new.items ↔ (IsIn k clause.now × (keeps kernel.now.prefix m k ≡ true) × (IsIn k set.now → ⊥))) }
+{
+    found.clear();
+    for k in clause {
+        put_if(found, *k, is_fresh(kernel, set, m, *k))?;
+    }
+    Ok(())
+}
+
+// The literals that are in the clause too.
+fn sift(old: &[Lit], clause: &[Lit], kept: &mut Vec<Lit>) -> Result<(), NoMemory>
+    ensures { OnOk result ((k : Literal) → IsIn k kept.new.items ↔ (IsIn k old.now × IsIn k clause.now)) }
+{
+    kept.clear();
+    for k in old {
+        put_if(kept, *k, holds(clause, *k))?;
+    }
+    Ok(())
+}
+
+fn keep(found: &mut Vec<Lit>, clause: &[Lit], spare: &mut Vec<Lit>) -> Result<(), NoMemory>
+    ensures { OnOk result ((k : Literal) → IsIn k found.new.items ↔ (IsIn k found.old.items × IsIn k clause.now)) }
+{
+    sift(found, clause, spare)?;
+    std::mem::swap(found, spare);
+    Ok(())
+}
+
+// Takes a clause with the negation of l into account; whether some clause was open.
+fn narrow(
+    kernel: &Kernel,
+    set: &Queue,
+    found: &mut Vec<Lit>,
+    spare: &mut Vec<Lit>,
+    c: ClauseId,
+    d: ClauseId,
+    l: Lit,
+    was: bool,
+) -> Result<bool, NoMemory>
+    requires { HoldsLiteral kernel.now d (negation l) }
+    ensures { IfOk result (λ yes. IsNarrowed kernel.now.prefix (slots kernel.now) c d l set.now was found.old.items yes found.new.items) }
+{
+    if d == c {
+        return Ok(was);
+    }
+    let clause = clause_of(kernel, d);
+    if clashes(kernel, set, clause, l) {
+        return Ok(was);
+    }
+    if was {
+        keep(found, clause, spare)?;
+        return Ok(true);
+    }
+    begin(kernel, set, clause, l.negated(), found)?;
+    Ok(true)
+}
+
+/// Whether some clause with the negation of l is open; the covered literals that are not in the set then.
+pub fn covered_at(
+    kernel: &Kernel,
+    set: &Queue,
+    found: &mut Vec<Lit>,
+    spare: &mut Vec<Lit>,
+    c: ClauseId,
+    l: Lit,
+) -> Result<bool, NoMemory>
+    ensures { IfOk result (λ yes. IsLooked kernel.now.prefix (others c (slots kernel.now)) l set.now found.new.items yes) }
+{
+    kernel.sound();
+    let mut met = false;
+    let mut at = kernel.first(l.negated());
+    while let Some(place) = at {
+        met = narrow(kernel, set, found, spare, c, kernel.owner(place), l, met)?;
+        if met && is_bare(found) {
+            return Ok(true);
+        }
+        at = kernel.next(place);
+    }
+    Ok(met)
+}
+
+/// Whether there is no literal.
+pub fn is_bare(lits: &[Lit]) -> bool
+    ensures none { result ≡ true → (k : Literal) → IsIn k lits.now → ⊥ }
+    ensures some { result ≡ false → (k : Literal) × IsIn k lits.now }
+{
+    lits.is_empty()
+}

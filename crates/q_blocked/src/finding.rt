@@ -1,0 +1,92 @@
+//! The search for a target, clause by clause.
+ghost use Rattle.std.specs.Prelude.{◌≡◌, ◌≤◌, Some, IfOk};
+ghost use Rattle.q_logic.specs.Formulas.{Clause, IsIn};
+ghost use Rattle.q_logic.specs.Numbered.{slot};
+ghost use Rattle.q_logic.specs.Targets.{place};
+ghost use Rattle.q_kernel.specs.Kernels.{slots};
+ghost use Rattle.q_blocked.specs.Targets.{target_of};
+ghost use Rattle.q_blocked.specs.Units.{AreRight};
+ghost use Rattle.q_blocked.specs.Searches.{IsAt, IsPivotOf, IsOn, IsFound};
+
+use crate::blocked::may_drop;
+use crate::clashing::{all_clash, fill};
+use crate::cover::fits_cover;
+use crate::search::Search;
+use crate::target::Target;
+use q_arena::ClauseId;
+use q_kernel::Kernel;
+use q_logic::{Lit, NoMemory};
+use q_rule::{Queue, is_existential};
+
+/// A target that fits, of the first clause from a number on that has one.
+pub fn find_from(
+    kernel: &Kernel,
+    search: &mut Search,
+    from: u32,
+) -> Result<Option<Target>, NoMemory>
+    ensures { IfOk result (IsFound kernel.now (λ t. from ≤ place (target_of t))) }
+{
+    search.units.forget();
+    let mut at = from;
+    while let Some(c) = kernel.next_live(at) {
+        let found = find_at(kernel, search, c)?;
+        if found.is_some() {
+            return Ok(found);
+        }
+        let Some(after) = c.checked_add(1) else {
+            // so many clauses have no place in memory
+            return Err(NoMemory);
+        };
+        at = after;
+    }
+    Ok(None)
+}
+
+// A target of a clause: of one of its literals, or else of all.
+fn find_at(kernel: &Kernel, search: &mut Search, c: ClauseId) -> Result<Option<Target>, NoMemory>
+    requires live { (C : Clause) × (slot (slots kernel.now) c ≡ Some C) }
+    requires units { AreRight (slots kernel.now) search.old.units }
+    ensures found { IfOk result (IsFound kernel.now (IsAt c)) }
+    ensures units { AreRight (slots kernel.now) search.new.units }
+{
+    let found = find_pivot(kernel, &mut search.growth.set, c)?;
+    if found.is_some() {
+        return Ok(found);
+    }
+    if fits_cover(kernel, &mut search.growth, &mut search.units, c)? {
+        return Ok(Some(Target::Cover { c }));
+    }
+    Ok(None)
+}
+
+// A target of a literal of a clause. The literals of the clause are marked once for all of them.
+fn find_pivot(kernel: &Kernel, set: &mut Queue, c: ClauseId) -> Result<Option<Target>, NoMemory>
+    requires { (C : Clause) × (slot (slots kernel.now) c ≡ Some C) }
+    ensures { IfOk result (IsFound kernel.now (IsPivotOf c)) }
+{
+    let clause = kernel.lits(c);
+    fill(set, clause)?;
+    for l in clause {
+        let found = target_on(kernel, set, c, *l);
+        if found.is_some() {
+            return Ok(found);
+        }
+    }
+    Ok(None)
+}
+
+// The target of a literal of a clause, whose literals are the set.
+fn target_on(kernel: &Kernel, set: &Queue, c: ClauseId, l: Lit) -> Option<Target>
+    requires { (slot (slots kernel.now) c ≡ Some set.now) × IsIn l set.now }
+    ensures { IsFound kernel.now (IsOn c l) result }
+{
+    kernel.sound();
+    if is_existential(kernel, l.var()) {
+        if all_clash(kernel, set, c, l) {
+            return Some(Target::Blocked { c, l });
+        }
+    } else if may_drop(kernel, set, c, l) {
+        return Some(Target::BlockedForall { c, l });
+    }
+    None
+}

@@ -1,0 +1,23 @@
+//! Blocked and covered clauses, and universal literals on which a clause is blocked.
+#![tactic(auto)]
+
+mod applying;
+mod blocked;
+mod calls;
+mod changing;
+mod clashing;
+mod cover;
+mod covered;
+mod covering;
+mod finding;
+mod growth;
+mod hidden;
+mod outcome;
+mod plan;
+mod search;
+mod target;
+mod units;
+
+pub use calls::{applies, find, find_with, try_one, try_with};
+pub use search::Search;
+pub use target::Target;

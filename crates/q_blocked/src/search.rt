@@ -1,0 +1,26 @@
+//! What searches lend each other.
+use crate::growth::Growth;
+use crate::units::Units;
+use q_logic::Lit;
+use std::alloc::Global;
+
+/// Room for searches. It serves for any kernel.
+#[derive(Drop)]
+pub struct Search {
+    /// The literals of the clause that is tested, and those that it may have as well.
+    pub(crate) growth: Growth,
+    /// The clauses of one literal.
+    pub(crate) units: Units,
+    /// Room for the larger clauses of a plan.
+    pub(crate) larger: Vec<Lit>,
+}
+
+impl Search {
+    pub fn new(alloc: Global) -> Search {
+        Search {
+            growth: Growth::new(alloc),
+            units: Units::new(alloc),
+            larger: Vec::new(alloc),
+        }
+    }
+}

@@ -1,0 +1,73 @@
+-- Levels that never rise.
+use Rattle.std.proofs.Common.{◌≡◌, ◌≢◌, ◌≤◌, ◌<◌, ◌+◌, ◌⊎◌, ℕ, zero, suc, List, [], ◌∷◌, get_or, length, Option, Some, None, refl, sym, ◌∙◌, ap, subst, inl, inr, arith}
+use Rattle.q_logic.specs.Literals.{Literal, IsBelow, negation}
+use Rattle.q_logic.specs.Formulas.{Clause, Matrix, IsIn}
+use Rattle.q_logic.specs.Parts.{ArePairs}
+use Rattle.q_logic.specs.Numbered.{Slots, slot, live}
+use Rattle.q_logic.specs.Merging.{Binary}
+use Rattle.q_logic.proofs.Implying.{negation-negation}
+use Rattle.q_kernel.proofs.Slotting.{IsIn-slot}
+use Rattle.q_equiv.specs.Walks.{level_of, NeverRise}
+use Rattle.q_equiv.proofs.Pairs.{binary-own, pair-other}
+
+pub other-falls : (levels : List ℕ) (C : Clause) → ArePairs IsBelow C → length C ≢ 2 → NeverRise levels (C ∷ [])
+other-falls levels C o n x y b = absurd (pair-other C x y o n b)
+
+pub pair-falls : (levels : List ℕ) (C : Clause) (a b : Literal) → length C ≡ 2 → a ≡ get_or C 0 a → b ≡ get_or C 1 b → level_of levels b ≤ level_of levels (negation a) → level_of levels a ≤ level_of levels (negation b) → NeverRise levels (C ∷ [])
+pair-falls levels [] a b n e f g h x y w = absurd (omega arith)
+pair-falls levels (i ∷ []) a b n e f g h x y w = absurd (omega arith)
+pair-falls levels (i ∷ j ∷ k ∷ C) a b n e f g h x y w = absurd (omega arith)
+pair-falls levels (i ∷ j ∷ []) a b n e f g h x y w = elim w.there [
+  | inl q ↦ go (subst (λ (D : Clause). IsIn (negation x) D) q w.first) (subst (λ (D : Clause). IsIn y D) q w.second)
+  | inr z ↦ absurd z
+]
+  where
+    -- from the negation of one to the other
+    step : (k l : Literal) → negation x ≡ k → y ≡ l → level_of levels l ≤ level_of levels (negation k) → level_of levels y ≤ level_of levels x
+    step k l p q r =
+        let s : level_of levels (negation k) ≡ level_of levels x = ap (level_of levels) (sym (ap negation p) ∙ negation-negation x) in
+        let t : level_of levels y ≡ level_of levels l = ap (level_of levels) q in
+        omega arith
+
+    go : IsIn (negation x) (i ∷ j ∷ []) → IsIn y (i ∷ j ∷ []) → level_of levels y ≤ level_of levels x
+    go (inl p) (inl q) = absurd (w.two (p ∙ sym q))
+    go (inl p) (inr (inl q)) = step a b (p ∙ sym e) (q ∙ sym f) g
+    go (inr (inl p)) (inl q) = step b a (p ∙ sym f) (q ∙ sym e) h
+    go (inr (inl p)) (inr (inl q)) = absurd (w.two (p ∙ sym q))
+    go (inl p) (inr (inr z)) = absurd z
+    go (inr (inl p)) (inr (inr z)) = absurd z
+    go (inr (inr z)) m = absurd z
+
+pub all-fall : (levels : List ℕ) (N : Slots) → ((c : ℕ) (D : Clause) → slot N c ≡ Some D → NeverRise levels (D ∷ [])) → NeverRise levels (live N)
+all-fall levels N h x y b = let d = IsIn-slot N b.clause b.there in h d.0 b.clause d.1 x y (binary-own (live N) x y b)
+
+pub none-rise : (X : Matrix) → NeverRise [] X
+none-rise X x y b = omega arith
+
+-- Clause by clause, by ascending number.
+same : (C D : Clause) → Some C ≡ Some D → C ≡ D
+same C D e = cc
+
+none : (D : Clause) → (let o : Option Clause = None in o ≡ Some D) → ⊥
+none D e = cc
+
+pub fallen-more : (levels : List ℕ) (N : Slots) (from id : ℕ) (C : Clause) → ((c : ℕ) (D : Clause) → c < from → slot N c ≡ Some D → NeverRise levels (D ∷ [])) → ((c : ℕ) → from ≤ c → c < id → slot N c ≡ None) → slot N id ≡ Some C → NeverRise levels (C ∷ []) → (next : ℕ) → next ≡ id + 1 → (c : ℕ) (D : Clause) → c < next → slot N c ≡ Some D → NeverRise levels (D ∷ [])
+fallen-more levels N from id C before between here f next e c D l s = go (place c from id (omega arith))
+  where
+    place : (c from id : ℕ) → c < id + 1 → (c < from) ⊎ (((from ≤ c) × (c < id)) ⊎ (c ≡ id))
+    place c from id l = grind arith
+
+    go : (c < from) ⊎ (((from ≤ c) × (c < id)) ⊎ (c ≡ id)) → NeverRise levels (D ∷ [])
+    go (inl a) = before c D a s
+    go (inr (inl a)) = absurd (none D (sym (between c a.0 a.1) ∙ s))
+    go (inr (inr a)) = subst (λ (E : Clause). NeverRise levels (E ∷ [])) (same C D (sym here ∙ (ap (slot N) (sym a) ∙ s))) f
+
+pub fallen-all : (levels : List ℕ) (N : Slots) (from : ℕ) → ((c : ℕ) (D : Clause) → c < from → slot N c ≡ Some D → NeverRise levels (D ∷ [])) → ((c : ℕ) → from ≤ c → slot N c ≡ None) → NeverRise levels (live N)
+fallen-all levels N from before rest = all-fall levels N (λ c D s. go c D s (place c from))
+  where
+    place : (c from : ℕ) → (c < from) ⊎ (from ≤ c)
+    place c from = grind arith
+
+    go : (c : ℕ) (D : Clause) → slot N c ≡ Some D → (c < from) ⊎ (from ≤ c) → NeverRise levels (D ∷ [])
+    go c D s (inl a) = before c D a s
+    go c D s (inr a) = absurd (none D (sym (rest c a) ∙ s))

@@ -1,0 +1,10 @@
+pub mod Pairs
+pub mod Walks
+pub mod Totals
+pub mod Rooms
+pub mod Replacing
+pub mod Merging
+pub mod Turning
+pub mod Bridging
+pub mod Falling
+pub mod Turned

@@ -1,0 +1,65 @@
+-- Both literals of a variable may go, or neither.
+use Rattle.std.proofs.Common.{◌≡◌, ◌≤◌, ℕ, Bool, true, false, not, [], ◌∷◌, refl, sym, ◌∙◌, ap, subst, inl, inr, arith}
+use Rattle.q_logic.specs.Literals.{Literal, negation}
+use Rattle.q_logic.specs.Formulas.{Clause, Matrix, Prefix, IsIn}
+use Rattle.q_logic.specs.Merging.{Binary, Joined, Mergeable}
+use Rattle.q_logic.specs.Targets.{merge, place}
+use Rattle.q_logic.specs.Rules.{Fits}
+use Rattle.q_logic.specs.Numbered.{live}
+use Rattle.q_logic.specs.InLimits.{greatest}
+use Rattle.q_logic.specs.declared.rule_bounds.Bounds.{Bounds}
+use Rattle.q_logic.proofs.Order.{existential-is_bound}
+use Rattle.q_logic.proofs.Ordering.{is_bound-greatest}
+use Rattle.q_logic.specs.Limits.{standard}
+use Rattle.q_logic.specs.InLimits.{IsInLimits}
+use Rattle.q_kernel.specs.Kernels.{Seen, slots, formula_in}
+use Rattle.q_kernel.specs.Taking.{Applies}
+use Rattle.q_equiv.proofs.Bridging.{merge-applies}
+use Rattle.q_equiv.specs.declared.target.Target.{Target}
+use Rattle.q_equiv.specs.declared.target.Target.TheVariants.{Merge}
+use Rattle.q_equiv.specs.Targets.{target_of, keep_of, gone_of}
+use Rattle.q_logic.proofs.Implying.{negation-negation}
+use Rattle.q_logic.proofs.Searching.{joined-further}
+
+binary-turned : (X : Matrix) (x y : Literal) → Binary X x y → Binary X (negation y) (negation x)
+binary-turned X x y h = record {
+  clause = h.clause;
+  there = h.there;
+  two = λ e. h.two (sym (sym (negation-negation y) ∙ e));
+  first = subst (λ (z : Literal). IsIn z h.clause) (sym (negation-negation y)) h.second;
+  second = h.first;
+  only = λ k m. elim (h.only k m) [ inl e ↦ inr e | inr e ↦ inl (e ∙ sym (negation-negation y)) ];
+}
+
+joined-turned : (X : Matrix) (q p : Literal) → Joined X q p → Joined X (negation p) (negation q)
+joined-turned X q p Joined.here = Joined.here
+joined-turned X q p (Joined.on {y = y} w h j) = joined-further X (negation y) (negation p) (negation q) (joined-turned X q y j) (binary-turned X p y h)
+
+pub merge-turned : (P : Prefix) (X : Matrix) (keep gone : Literal) → Mergeable P X keep gone → Mergeable P X (negation keep) (negation gone)
+merge-turned P X keep gone h = record { different = h.different; existential = h.existential; kept_outer = h.kept_outer; to_gone = joined-turned X keep gone h.to_keep; to_keep = joined-turned X gone keep h.to_gone }
+
+-- A target of this crate is a merge.
+pub target-merge : (t : Target) → target_of t ≡ merge (keep_of t) (gone_of t)
+target-merge (Merge keep gone) = refl
+
+pub merge-target : (t : Target) (k g : Literal) → k ≡ keep_of t → g ≡ gone_of t → merge k g ≡ target_of t
+merge-target (Merge keep gone) k g e f = ap (λ (x : Literal). merge x g) e ∙ ap (merge keep) f
+
+-- Where the positive literal of a variable may not go, no literal of it may.
+pub none-at : (k : Seen) (v : ℕ) (gone : Literal) → gone ≡ record { var = v; negative = false } → ((keep : Literal) → Mergeable k.prefix (live (slots k)) keep gone → ⊥) → (t : Target) → place (target_of t) ≡ v → (B : Bounds) → Fits B k.prefix (slots k) (target_of t) → ⊥
+none-at k v gone e h (Merge keep g) p B f = go g.negative refl
+  where
+    go : (b : Bool) → g.negative ≡ b → ⊥
+    go false q =
+        let s : g ≡ gone = (λ i. record { var = p i; negative = q i }) ∙ sym e in
+        h keep (subst (λ (x : Literal). Mergeable k.prefix (live (slots k)) keep x) s f)
+    go true q =
+        let n : negation g ≡ gone = (λ i. record { var = p i; negative = ap not q i }) ∙ sym e in
+        h (negation keep) (subst (λ (x : Literal). Mergeable k.prefix (live (slots k)) (negation keep) x) n (merge-turned k.prefix (live (slots k)) keep g f))
+
+-- The variable of a target is in the prefix.
+pub place-bound : (k : Seen) (t : Target) (B : Bounds) → Fits B k.prefix (slots k) (target_of t) → place (target_of t) ≤ greatest k.prefix
+place-bound k (Merge keep gone) B f = is_bound-greatest k.prefix gone.var (existential-is_bound k.prefix gone.var f.existential)
+
+pub target-applies : (B : Bounds) (k : Seen) (t : Target) → IsInLimits standard (formula_in k) → Fits B k.prefix (slots k) (target_of t) → Applies B k (target_of t)
+target-applies B k (Merge keep gone) h f = merge-applies B k keep gone h f

@@ -1,0 +1,16 @@
+use Rattle.std.proofs.Common.{◌≤◌, ◌<◌}
+use Rattle.q_logic.specs.declared.rule_bounds.Bounds.{Bounds}
+use Rattle.q_logic.specs.Numbered.{live}
+use Rattle.q_logic.specs.Targets.{place}
+use Rattle.q_logic.specs.Rules.{Fits}
+use Rattle.q_kernel.specs.Kernels.{slots}
+use Rattle.q_equiv.specs.declared.target.Target.{Target}
+use Rattle.q_equiv.specs.Targets.{target_of}
+use Rattle.q_equiv.specs.Walks.{NeverRise}
+use Rattle.q_equiv.proofs.finding.find_from.Given as goal
+
+abbrev pub invariant-loop-var : goal.invariant-loop-var
+invariant-loop-var l = record {
+  falling : NeverRise l.walks.levels.items (live (slots l.kernel));
+  none : (t : Target) → l.from ≤ place (target_of t) → place (target_of t) < l.var → (B : Bounds) → Fits B l.kernel.prefix (slots l.kernel) (target_of t) → ⊥;
+}

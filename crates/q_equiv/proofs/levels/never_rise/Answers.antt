@@ -1,0 +1,14 @@
+use Rattle.std.proofs.Common.{◌≡◌, ◌<◌, ◌≤◌, ◌∷◌, [], ℕ, Some, None, refl, sym, ◌∙◌, ap, subst, arith}
+use Rattle.q_logic.specs.Formulas.{Clause}
+use Rattle.q_logic.specs.Numbered.{slot}
+use Rattle.q_kernel.specs.Kernels.{slots}
+use Rattle.q_equiv.specs.Walks.{NeverRise}
+use Rattle.q_equiv.proofs.Falling.{all-fall, fallen-more, fallen-all}
+use Rattle.q_equiv.proofs.levels.never_rise.Goals as goal
+
+pub loop-id-preserved : goal.loop-id-preserved
+loop-id-preserved c =
+    fallen-more c.args.levels.now (slots c.args.kernel.now) c.loop-id.from c.in-Some.id c.lits.result.now c.loop-id.invariant (λ d low high. c.in-Some.ensures.least c.in-Some.id d refl low high) c.lits.ensures.clause (c.rises.ensures c.if-rises.false) c.in-Some-checked_add.next c.in-Some-checked_add.ensures.1
+
+pub returns : goal.returns
+returns c t = fallen-all c.args.levels.now (slots c.args.kernel.now) c.loop-id.from c.loop-id.invariant (c.in_default.ensures.none refl)

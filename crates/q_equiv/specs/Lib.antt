@@ -1,0 +1,4 @@
+pub mod Walks
+pub mod Changing
+pub mod Targets
+pub mod Searches

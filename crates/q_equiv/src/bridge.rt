@@ -1,0 +1,56 @@
+//! The two clauses that join a literal to its equivalent one while it takes its place.
+ghost use Rattle.std.specs.Prelude.{◌≡◌, ◌≢◌, ◌⊎◌, ◌∷◌, [], ℕ, true, None, Some};
+ghost use Rattle.q_logic.specs.Formulas.{Clause};
+ghost use Rattle.q_logic.specs.Clauses.{insert};
+ghost use Rattle.q_logic.specs.Sweep.{has_variable};
+ghost use Rattle.q_logic.specs.Numbered.{slot};
+ghost use Rattle.q_kernel.specs.Kernels.{slots, HoldsLiteral};
+
+use q_arena::ClauseId;
+use q_kernel::Kernel;
+use q_logic::Lit;
+
+/// The ids of two clauses: of the one by which a literal gives another one, and of the one by which it is given back.
+#[derive(Clone, Copy, Debug, PartialEq, Eq)]
+pub struct Bridge {
+    pub over: ClauseId,
+    pub back: ClauseId,
+}
+
+/// A clause of two literals.
+pub fn two_lits(a: Lit, b: Lit) -> [Lit; 2]
+    requires { a.var ≢ b.var }
+    ensures { result ≡ insert a (b ∷ []) }
+{
+    if a.index() < b.index() { [a, b] } else { [b, a] }
+}
+
+/// A clause with the variable of the literal, beside the bridge.
+pub fn next_clause(kernel: &Kernel, gone: Lit, bridge: Bridge) -> Option<ClauseId>
+    ensures some { (id : ℕ) → result ≡ Some id → (id ≢ bridge.over) × (id ≢ bridge.back) × (C : Clause) × (slot (slots kernel.now) id ≡ Some C) × (has_variable gone.var C ≡ true) }
+    ensures none { result ≡ None → (c : ℕ) (C : Clause) → slot (slots kernel.now) c ≡ Some C → has_variable gone.var C ≡ true → (c ≡ bridge.over) ⊎ (c ≡ bridge.back) }
+{
+    let found = clause_beside(kernel, gone, bridge);
+    if found.is_some() {
+        return found;
+    }
+    let negated = clause_beside(kernel, gone.negated(), bridge);
+    negated
+}
+
+// A clause with the literal, beside the bridge.
+fn clause_beside(kernel: &Kernel, lit: Lit, bridge: Bridge) -> Option<ClauseId>
+    ensures some { (id : ℕ) → result ≡ Some id → (id ≢ bridge.over) × (id ≢ bridge.back) × HoldsLiteral kernel.now id lit }
+    ensures none { result ≡ None → (c : ℕ) → HoldsLiteral kernel.now c lit → (c ≡ bridge.over) ⊎ (c ≡ bridge.back) }
+{
+    kernel.sound();
+    let mut at = kernel.first(lit);
+    while let Some(place) = at {
+        let id = kernel.owner(place);
+        if id != bridge.over && id != bridge.back {
+            return Some(id);
+        }
+        at = kernel.next(place);
+    }
+    None
+}

@@ -1,0 +1,174 @@
+//! The components of the implications between literals: the literals of one component are joined each to the other. They
+//! are found by Tarjan's search (SIAM Journal on Computing 1972), without recursion. Nothing is proved of them here: the
+//! levels that they give are verified in one pass (`levels.rt`).
+use q_logic::{Lit, NoMemory};
+use std::alloc::Global;
+
+// An implication, and the number of the next one from the same literal.
+#[derive(Clone, Copy)]
+struct Edge {
+    to: usize,
+    next: usize,
+}
+
+/// Implications, and rows for the search. Literals go by their places in a row; numbers begin at 1, and 0 is none.
+#[derive(Drop)]
+pub struct Components {
+    edges: Vec<Edge>,
+    // the implication of each literal that is looked at next
+    first: Vec<usize>,
+    // the order in which the search met the literals, and the least that is reached from each
+    order: Vec<u32>,
+    least: Vec<u32>,
+    // the literals that the search is in, and those that are in no component yet
+    path: Vec<usize>,
+    open: Vec<usize>,
+    met: u32,
+    closed: u32,
+}
+
+impl Components {
+    pub fn new(alloc: Global) -> Components {
+        Components {
+            edges: Vec::new(alloc),
+            first: Vec::new(alloc),
+            order: Vec::new(alloc),
+            least: Vec::new(alloc),
+            path: Vec::new(alloc),
+            open: Vec::new(alloc),
+            met: 0,
+            closed: 0,
+        }
+    }
+
+    /// Begins anew, with so many literals and no implication.
+    pub fn begin(&mut self, literals: usize) -> Result<(), NoMemory> {
+        self.edges.clear();
+        self.path.clear();
+        self.open.clear();
+        self.first.clear();
+        self.first.resize(literals, 0)?;
+        self.order.clear();
+        self.order.resize(literals, 0)?;
+        self.least.clear();
+        self.least.resize(literals, 0)?;
+        self.met = 0;
+        self.closed = 0;
+        Ok(())
+    }
+
+    /// Notes the two implications of a clause of two literals.
+    pub fn note(&mut self, a: Lit, b: Lit) -> Result<(), NoMemory> {
+        self.add_edge(a.negated().index(), b.index())?;
+        self.add_edge(b.negated().index(), a.index())
+    }
+
+    fn add_edge(&mut self, from: usize, to: usize) -> Result<(), NoMemory> {
+        let next = entry(&self.first, from);
+        self.edges.push(Edge { to, next })?;
+        put(&mut self.first, from, self.edges.len());
+        Ok(())
+    }
+
+    /// Gives each literal the number of its component: no implication leads to a greater number.
+    pub fn number(&mut self, levels: &mut Vec<u32>) -> Result<(), NoMemory> {
+        levels.clear();
+        levels.resize(self.first.len(), 0)?;
+        for root in 0..self.first.len() {
+            if entry(&self.first, root) != 0 && mark(&self.order, root) == 0 {
+                self.search_from(root, levels)?;
+            }
+        }
+        Ok(())
+    }
+
+    fn search_from(&mut self, root: usize, levels: &mut [u32]) -> Result<(), NoMemory> {
+        self.enter(root)?;
+        for _ in 0..usize::MAX {
+            let Some(at) = self.path.last().copied() else {
+                break;
+            };
+            match self.next_from(at) {
+                Some(to) => self.go_on(at, to, levels)?,
+                None => self.leave(at, levels),
+            }
+        }
+        Ok(())
+    }
+
+    fn enter(&mut self, at: usize) -> Result<(), NoMemory> {
+        self.met = self.met.saturating_add(1);
+        put_mark(&mut self.order, at, self.met);
+        put_mark(&mut self.least, at, self.met);
+        self.open.push(at)?;
+        self.path.push(at)?;
+        Ok(())
+    }
+
+    // The next literal to which an implication leads.
+    fn next_from(&mut self, at: usize) -> Option<usize> {
+        let number = entry(&self.first, at);
+        let edge = self.edges.get(number.saturating_sub(1)).copied()?;
+        if number == 0 {
+            return None;
+        }
+        put(&mut self.first, at, edge.next);
+        Some(edge.to)
+    }
+
+    fn go_on(&mut self, at: usize, to: usize, levels: &[u32]) -> Result<(), NoMemory> {
+        let order = mark(&self.order, to);
+        if order == 0 {
+            return self.enter(to);
+        }
+        if mark(levels, to) == 0 {
+            let least = mark(&self.least, at).min(order);
+            put_mark(&mut self.least, at, least);
+        }
+        Ok(())
+    }
+
+    // All implications of a literal were followed.
+    fn leave(&mut self, at: usize, levels: &mut [u32]) {
+        let _ = self.path.pop();
+        let least = mark(&self.least, at);
+        if let Some(before) = self.path.last().copied() {
+            let lower = mark(&self.least, before).min(least);
+            put_mark(&mut self.least, before, lower);
+        }
+        if least == mark(&self.order, at) {
+            self.close(at, levels);
+        }
+    }
+
+    // The open literals down to this one are a component.
+    fn close(&mut self, at: usize, levels: &mut [u32]) {
+        self.closed = self.closed.saturating_add(1);
+        while let Some(lit) = self.open.pop() {
+            put_mark(levels, lit, self.closed);
+            if lit == at {
+                break;
+            }
+        }
+    }
+}
+
+fn entry(row: &[usize], at: usize) -> usize {
+    row.get(at).copied().unwrap_or(0)
+}
+
+fn put(row: &mut [usize], at: usize, value: usize) {
+    if at < row.len() {
+        row[at] = value;
+    }
+}
+
+fn mark(row: &[u32], at: usize) -> u32 {
+    row.get(at).copied().unwrap_or(0)
+}
+
+fn put_mark(row: &mut [u32], at: usize, value: u32) {
+    if at < row.len() {
+        row[at] = value;
+    }
+}

@@ -1,0 +1,126 @@
+//! Whether clauses of two literals lead from one literal to another.
+ghost use Rattle.std.specs.Prelude.{◌≡◌, ◌↔◌, ◌∷◌, [], Some, OnOk, IfOk, IsTrue};
+ghost use Rattle.q_logic.specs.Literals.{Literal, IsBelow, negation};
+ghost use Rattle.q_logic.specs.Formulas.{Clause, IsIn};
+ghost use Rattle.q_logic.specs.Parts.{ArePairs};
+ghost use Rattle.q_logic.specs.Numbered.{slot, live};
+ghost use Rattle.q_logic.specs.Merging.{Binary, Joined};
+ghost use Rattle.q_kernel.specs.Kernels.{slots, HoldsLiteral};
+ghost use Rattle.q_equiv.specs.Walks.{level_of, NeverRise, IsSpread, IsGathered};
+
+use q_arena::ClauseId;
+use q_kernel::Kernel;
+use q_logic::{Lit, NoMemory};
+use q_rule::{Queue, clause_of};
+
+/// Whether clauses of two literals lead from a literal to another one of its level. The walk stays on that level, expands
+/// each literal once, and stops where it meets the other one.
+pub fn is_joined(
+    kernel: &Kernel,
+    queue: &mut Queue,
+    levels: &[u32],
+    from: Lit,
+    to: Lit,
+) -> Result<bool, NoMemory>
+    requires falling { NeverRise levels.now (live (slots kernel.now)) }
+    requires same { level_of levels.now to ≡ level_of levels.now from }
+    ensures { IfOk result (λ yes. IsTrue yes ↔ Joined (live (slots kernel.now)) to from) }
+{
+    queue.clear();
+    queue.push(from)?;
+    for head in 0..usize::MAX {
+        if queue.has(to) {
+            return Ok(true);
+        }
+        if head >= queue.len() {
+            return Ok(false);
+        }
+        spread(kernel, queue, levels, queue.at(head))?;
+    }
+    // a queue that long has no place in memory
+    Err(NoMemory)
+}
+
+/// Gathers the literals to which clauses of two literals lead from a literal on its level; how many clauses were looked at.
+pub fn gather(
+    kernel: &Kernel,
+    queue: &mut Queue,
+    levels: &[u32],
+    from: Lit,
+) -> Result<usize, NoMemory>
+    ensures { OnOk result (IsGathered levels.now (live (slots kernel.now)) from queue.new) }
+{
+    queue.clear();
+    queue.push(from)?;
+    let mut looks = 0usize;
+    for head in 0..usize::MAX {
+        if head >= queue.len() {
+            return Ok(looks);
+        }
+        let next = queue.at(head);
+        looks = looks.saturating_add(kernel.count(next.negated()) as usize);
+        spread(kernel, queue, levels, next)?;
+    }
+    // a queue that long has no place in memory
+    Err(NoMemory)
+}
+
+// Puts all literals of its level into the queue to which a clause of two literals leads from the literal.
+fn spread(
+    kernel: &Kernel,
+    queue: &mut Queue,
+    levels: &[u32],
+    lit: Lit,
+) -> Result<(), NoMemory>
+    ensures { OnOk result (IsSpread levels.now (live (slots kernel.now)) lit queue.old queue.new) }
+{
+    kernel.sound();
+    let mut at = kernel.first(lit.negated());
+    while let Some(place) = at {
+        follow(kernel, queue, levels, kernel.owner(place), lit)?;
+        at = kernel.next(place);
+    }
+    Ok(())
+}
+
+// Puts the literal into the queue to which one clause leads from the literal, if there is one on its level.
+fn follow(
+    kernel: &Kernel,
+    queue: &mut Queue,
+    levels: &[u32],
+    id: ClauseId,
+    lit: Lit,
+) -> Result<(), NoMemory>
+    requires { HoldsLiteral kernel.now id (negation lit) }
+    ensures { OnOk result ((D : Clause) → slot (slots kernel.now) id ≡ Some D → IsSpread levels.now (D ∷ []) lit queue.old queue.new) }
+{
+    if let Some(next) = partner(clause_of(kernel, id), lit) {
+        if level(levels, next) == level(levels, lit) && !queue.has(next) {
+            queue.push(next)?;
+        }
+    }
+    Ok(())
+}
+
+/// The level of a literal: 0 where the row has none.
+pub fn level(levels: &[u32], lit: Lit) -> u32
+    ensures { result ≡ level_of levels.now lit }
+{
+    levels.get(lit.index()).copied().unwrap_or(0)
+}
+
+/// The literal to which a clause leads from a literal whose negation it holds: the other one of two.
+pub fn partner(clause: &[Lit], lit: Lit) -> Option<Lit>
+    requires ordered { ArePairs IsBelow clause.now }
+    requires held { IsIn (negation lit) clause.now }
+    ensures { (y : Literal) → (result ≡ Some y) ↔ Binary (clause.now ∷ []) lit y }
+{
+    if clause.len() != 2 {
+        return None;
+    }
+    if clause[0].is(lit.negated()) {
+        Some(clause[1])
+    } else {
+        Some(clause[0])
+    }
+}

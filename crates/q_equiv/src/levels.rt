@@ -1,0 +1,75 @@
+//! Levels of literals that never rise along a clause of two literals. So literals of different levels are not joined each
+//! to the other. The levels are the numbers of components; they are verified in one pass, and forgotten if that fails.
+ghost use Rattle.std.specs.Prelude.{◌≡◌, ◌≤◌, ◌∷◌, [], false, OnOk, IsTrue};
+ghost use Rattle.q_logic.specs.Literals.{Literal, IsBelow};
+ghost use Rattle.q_logic.specs.Parts.{ArePairs};
+ghost use Rattle.q_logic.specs.Numbered.{live};
+ghost use Rattle.q_kernel.specs.Kernels.{slots};
+ghost use Rattle.q_equiv.specs.Walks.{NeverRise};
+
+use crate::components::Components;
+use crate::joined::level;
+use q_kernel::Kernel;
+use q_logic::{Lit, NoMemory};
+
+/// Makes levels for the clauses of a kernel.
+pub fn make_levels(
+    kernel: &Kernel,
+    components: &mut Components,
+    levels: &mut Vec<u32>,
+) -> Result<(), NoMemory>
+    ensures { OnOk result (NeverRise levels.new.items (live (slots kernel.now))) }
+{
+    note_all(kernel, components)?;
+    components.number(levels)?;
+    if !never_rise(kernel, levels) {
+        levels.clear();
+    }
+    Ok(())
+}
+
+// Notes all clauses of two literals.
+fn note_all(kernel: &Kernel, components: &mut Components) -> Result<(), NoMemory> {
+    components.begin((kernel.greatest_var() as usize + 1) * 2)?;
+    let mut from = 0;
+    while let Some(id) = kernel.next_live(from) {
+        let clause = kernel.lits(id);
+        if clause.len() == 2 {
+            components.note(clause[0], clause[1])?;
+        }
+        let Some(next) = id.checked_add(1) else {
+            break;
+        };
+        from = next;
+    }
+    Ok(())
+}
+
+// Whether no clause of two literals leads to a higher level.
+fn never_rise(kernel: &Kernel, levels: &[u32]) -> bool
+    ensures { IsTrue result → NeverRise levels.now (live (slots kernel.now)) }
+{
+    let mut from = 0;
+    while let Some(id) = kernel.next_live(from) {
+        if rises(kernel.lits(id), levels) {
+            return false;
+        }
+        let Some(next) = id.checked_add(1) else {
+            return false;
+        };
+        from = next;
+    }
+    true
+}
+
+// Whether a clause of two literals leads to a higher level.
+fn rises(clause: &[Lit], levels: &[u32]) -> bool
+    requires { ArePairs IsBelow clause.now }
+    ensures { result ≡ false → NeverRise levels.now (clause.now ∷ []) }
+{
+    if clause.len() != 2 {
+        return false;
+    }
+    let (a, b) = (clause[0], clause[1]);
+    level(levels, a.negated()) < level(levels, b) || level(levels, b.negated()) < level(levels, a)
+}

@@ -1,0 +1,18 @@
+//! Equivalent literals: one takes the place of the other.
+#![tactic(auto)]
+
+mod bridge;
+mod components;
+mod equiv;
+mod finding;
+mod joined;
+mod levels;
+mod merge;
+mod renaming;
+mod room;
+mod search;
+mod target;
+
+pub use equiv::{applies, find, find_with, try_one, try_with};
+pub use search::Search;
+pub use target::Target;

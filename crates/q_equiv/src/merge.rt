@@ -1,0 +1,117 @@
+//! Equivalent literals.
+ghost use Rattle.std.specs.Prelude.{◌≡◌, ◌↔◌, ◌≤◌, ◌+◌, length, IfOk, IsTrue, vec_capacity};
+ghost use Rattle.q_logic.specs.Limits.{standard};
+ghost use Rattle.q_logic.specs.InLimits.{IsInLimits};
+ghost use Rattle.q_logic.specs.Numbered.{live};
+ghost use Rattle.q_logic.specs.Merging.{Mergeable};
+ghost use Rattle.q_logic.specs.Targets.{merge};
+ghost use Rattle.q_kernel.specs.Kernels.{slots, formula_in};
+ghost use Rattle.q_rule.specs.Becoming.{HasResult, IsChanged};
+ghost use Rattle.q_equiv.specs.Changing.{CanStandFor, total_with, HasRoomFor, IsBuilt, IsBridged, IsRenamed, HasRenamingRoom, MayReplace, IsReplaced};
+
+use crate::bridge::{Bridge, next_clause, two_lits};
+use crate::joined::is_joined;
+use crate::renaming::rename;
+use q_arena::ClauseId;
+use q_kernel::Kernel;
+use q_logic::{Lit, NoMemory};
+use q_rule::{Queue, is_existential, is_tautology};
+
+/// Whether each literal is joined to the other, and keep may take the place of gone.
+pub fn is_mergeable(
+    kernel: &Kernel,
+    queue: &mut Queue,
+    keep: Lit,
+    gone: Lit,
+) -> Result<bool, NoMemory>
+    ensures { IfOk result (λ yes. IsTrue yes ↔ Mergeable kernel.now.prefix (live (slots kernel.now)) keep gone) }
+{
+    if !can_stand_for(kernel, keep, gone) || !is_joined(kernel, queue, &[], keep, gone)? {
+        return Ok(false);
+    }
+    let back = is_joined(kernel, queue, &[], gone, keep)?;
+    Ok(back)
+}
+
+/// Whether the literals have different variables, of which that of gone is existential and that of keep is not inner to it.
+pub fn can_stand_for(kernel: &Kernel, keep: Lit, gone: Lit) -> bool
+    ensures { IsTrue result ↔ CanStandFor kernel.now.prefix keep gone }
+{
+    if keep.var() == gone.var() || !is_existential(kernel, gone.var()) {
+        return false;
+    }
+    if !kernel.prefix().contains(keep.var()) {
+        return false;
+    }
+    kernel.prefix().outer_or_same(keep.var(), gone.var())
+}
+
+/// Puts keep in the place of gone in all clauses, and sweeps.
+pub fn take(kernel: &mut Kernel, buffer: &mut Vec<Lit>, keep: Lit, gone: Lit)
+    requires fits { Mergeable kernel.old.prefix (live (slots kernel.old)) keep gone }
+    requires limits { IsInLimits standard (formula_in kernel.old) }
+    requires room { HasRoomFor kernel.old gone.var }
+    requires buffer { total_with length gone.var (live (slots kernel.old)) + 8 ≤ vec_capacity buffer.old }
+    ensures { HasResult kernel.old kernel.new (merge keep gone) }
+{
+    put_in_place(kernel, buffer, keep, gone);
+    kernel.sweep_now();
+}
+
+fn put_in_place(kernel: &mut Kernel, buffer: &mut Vec<Lit>, keep: Lit, gone: Lit)
+    requires fits { Mergeable kernel.old.prefix (live (slots kernel.old)) keep gone }
+    requires limits { IsInLimits standard (formula_in kernel.old) }
+    requires room { HasRoomFor kernel.old gone.var }
+    requires buffer { total_with length gone.var (live (slots kernel.old)) + 8 ≤ vec_capacity buffer.old }
+    ensures { IsChanged kernel.old kernel.new (merge keep gone) }
+{
+    let bridge = build(kernel, keep, gone);
+    rename_all(kernel, buffer, keep, gone, bridge);
+    kernel.sound();
+    kernel.delete_pivot(bridge.over, gone);
+    kernel.sound();
+    kernel.delete_pivot(bridge.back, gone.negated());
+}
+
+// Adds the two clauses that join keep and gone.
+fn build(kernel: &mut Kernel, keep: Lit, gone: Lit) -> Bridge
+    requires fits { Mergeable kernel.old.prefix (live (slots kernel.old)) keep gone }
+    requires limits { IsInLimits standard (formula_in kernel.old) }
+    requires room { HasRoomFor kernel.old gone.var }
+    ensures { IsBuilt keep gone kernel.old kernel.new result }
+{
+    kernel.sound();
+    let over = kernel.add_implied(&two_lits(keep.negated(), gone));
+    kernel.sound();
+    let back = kernel.add_implied(&two_lits(keep, gone.negated()));
+    Bridge { over, back }
+}
+
+// Puts keep in the place of gone in all clauses but the two of the bridge.
+fn rename_all(kernel: &mut Kernel, buffer: &mut Vec<Lit>, keep: Lit, gone: Lit, bridge: Bridge)
+    requires stands { CanStandFor kernel.old.prefix keep gone }
+    requires bridge { IsBridged keep gone kernel.old bridge }
+    requires room { HasRenamingRoom kernel.old gone.var }
+    requires buffer { total_with length gone.var (live (slots kernel.old)) ≤ vec_capacity buffer.old }
+    ensures { IsRenamed keep gone kernel.old kernel.new bridge }
+{
+    while let Some(id) = next_clause(kernel, gone, bridge) {
+        kernel.sound();
+        rename(buffer, kernel.lits(id), keep, gone);
+        replace(kernel, id, buffer);
+    }
+}
+
+// Puts another clause in the place of one, or nothing where the other one is a tautology.
+fn replace(kernel: &mut Kernel, id: ClauseId, clause: &[Lit])
+    requires { MayReplace kernel.old id clause.now }
+    ensures { IsReplaced kernel.old kernel.new id clause.now }
+{
+    kernel.sound();
+    if is_tautology(clause) {
+        kernel.delete_implied(id);
+        return;
+    }
+    kernel.add_implied(clause);
+    kernel.delete_implied(id);
+}

@@ -1,0 +1,24 @@
+//! What searches lend each other.
+use crate::finding::Walks;
+use q_logic::Lit;
+use q_rule::Queue;
+use std::alloc::Global;
+
+/// Room that searches lend each other. Nothing in it has to agree with a kernel.
+#[derive(Drop)]
+pub struct Search {
+    pub(crate) queue: Queue,
+    pub(crate) clause: Vec<Lit>,
+    pub(crate) walks: Walks,
+}
+
+impl Search {
+    /// It takes no memory.
+    pub fn new(alloc: Global) -> Search {
+        Search {
+            queue: Queue::new(alloc),
+            clause: Vec::new(alloc),
+            walks: Walks::new(alloc),
+        }
+    }
+}
