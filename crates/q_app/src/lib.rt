@@ -19,8 +19,3 @@ pub use outcome::{Outcome, Role};
 pub use simplified::Simplified;
 pub use status::Status;
 pub use top::run;
-
-#[cfg(test)]
-mod simplify_tests;
-#[cfg(test)]
-mod tests;

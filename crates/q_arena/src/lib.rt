@@ -9,6 +9,3 @@ mod slots;
 
 pub use arena::{Arena, ClauseId};
 pub use rings::Rings;
-
-#[cfg(test)]
-mod tests;

@@ -17,6 +17,3 @@ mod undo;
 pub use checker::{Checker, Verified};
 pub use error::CheckError;
 pub use undo::{Clauses, Undo, Undos};
-
-#[cfg(test)]
-mod tests;

@@ -17,6 +17,3 @@ pub use memory::{Call, Fault, MemFiles};
 pub use real::{DiskFiles, StdSink};
 pub use sinks::{MemSink, SteadySink};
 pub use steady::SteadyFiles;
-
-#[cfg(test)]
-mod tests;

@@ -16,4 +16,3 @@ pub mod Logging
 pub mod Stepping
 pub mod Reserving
 pub mod Following
-pub mod Evident

@@ -5,4 +5,3 @@ pub mod Uses
 pub mod Linking
 pub mod Listing
 pub mod Invariant
-pub mod Conditions

@@ -14,8 +14,3 @@ mod variables;
 pub use kernel::Kernel;
 pub use need::Need;
 pub use taken::Taken;
-
-#[cfg(test)]
-mod conditions;
-#[cfg(test)]
-mod tests;

@@ -12,6 +12,3 @@ pub use error::LogError;
 pub use law::texts_are_read;
 pub use reader::LogReader;
 pub use text::{push_step, step_len, write_shorter, write_step};
-
-#[cfg(test)]
-mod tests;

@@ -5,6 +5,3 @@ mod linking;
 mod occ;
 
 pub use occ::Occ;
-
-#[cfg(test)]
-mod tests;

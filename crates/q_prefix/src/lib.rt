@@ -6,6 +6,3 @@ mod marks;
 mod prefix;
 
 pub use prefix::Prefix;
-
-#[cfg(test)]
-mod tests;

@@ -20,6 +20,3 @@ mod watches;
 pub use plain::implied_plainly;
 pub use store::Store;
 pub use trail::Trail;
-
-#[cfg(test)]
-mod tests;

@@ -13,7 +13,7 @@ use std::alloc::Global;
 /// there is none; so nothing rests on what is noted.
 #[derive(Drop)]
 pub(crate) struct Agenda {
-    targets: Vec<Move>,
+    targets: Vec<Target>,
     /// The place in the order of rules, and of the formula, where the last target was found.
     pub rule: u32,
     pub cursor: u32,
@@ -84,11 +84,12 @@ impl Agenda {
 
     /// The target that was noted last.
     pub(crate) fn pop(&mut self) -> Option<Move> {
-        self.targets.pop()
+        let target = self.targets.pop()?;
+        Some(Move::Reduce(target))
     }
 
     fn push(&mut self, target: Target) -> Result<(), NoMemory> {
-        self.targets.push(Move::Reduce(target))?;
+        self.targets.push(target)?;
         Ok(())
     }
 

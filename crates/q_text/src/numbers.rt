@@ -45,31 +45,3 @@ fn put(text: &mut Vec<u8>, bytes: &[u8]) -> Result<(), NoMemory>
         Err(_) => Err(NoMemory),
     }
 }
-
-#[cfg(test)]
-mod tests {
-    use super::*;
-    use std::test::Fail;
-
-    #[test]
-    fn decimal_texts(rt: HostRuntime) -> Result<(), Fail> {
-        let cases = [
-            (0, "0"),
-            (-1, "-1"),
-            (16_777_215, "16777215"),
-            (-2_147_483_647, "-2147483647"),
-            (i64::MAX, "9223372036854775807"),
-            (i64::MIN, "-9223372036854775808"),
-        ];
-        for (number, expected) in cases {
-            let mut text = Vec::new(rt.alloc());
-            put_number(&mut text, number).expect(&rt, "memory");
-            assert_eq!(rt; text.as_slice(), expected.as_bytes());
-            assert_eq!(rt; digits(number), expected.len());
-        }
-        let mut text = Vec::new(rt.alloc());
-        put_count(&mut text, usize::MAX).expect(&rt, "memory");
-        assert_eq!(rt; text.as_slice(), b"18446744073709551615".as_slice());
-        Ok(())
-    }
-}
