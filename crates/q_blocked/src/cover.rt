@@ -5,8 +5,9 @@
 //! existential literal l of it, all literals come that are in the outer part of each clause with `not l` that does not
 //! clash with it. Where the clause has grown to a tautology, or is blocked, it goes.
 //!
-//! **Source.** Marijn Heule, Matti Järvisalo and Armin Biere, "Covered Clause Elimination" (LPAR 2010) and "Clause
-//! Elimination for SAT and QSAT" (JAIR 2015). (The conditions on the prefix are this project's own.)
+//! **Source.** Marijn Heule, Matti Järvisalo and Armin Biere, "Covered Clause Elimination" (LPAR 2010); with Florian
+//! Lonsing and Martina Seidl, "Clause Elimination for SAT and QSAT" (JAIR 53, 2015). (The conditions on the prefix are
+//! this project's own.)
 //!
 //! **Condition and law.** `Covers` (`q_logic/specs/Covering.antt`). No is right because of `stuck-covers_none`
 //! (`q_logic/proofs/CoverRun.antt`): what stops one order of growing stops every order.

@@ -1,4 +1,5 @@
-//! Covered literals.
+//! Covered literals: what the outer parts of all clauses with the negation of a literal, on which the set may be blocked,
+//! have in common.
 ghost use Rattle.std.specs.Prelude.{◌≡◌, ◌↔◌, ◌++◌, ◌∷◌, [], true, false, cond, OnOk, IfOk, IsTrue};
 ghost use Rattle.q_logic.specs.Literals.{Literal, negation};
 ghost use Rattle.q_logic.specs.Formulas.{IsIn};
@@ -9,11 +10,31 @@ ghost use Rattle.q_logic.specs.Numbered.{others};
 ghost use Rattle.q_kernel.specs.Kernels.{slots, HoldsLiteral};
 ghost use Rattle.q_blocked.specs.Walks.{IsNarrowed, IsLooked};
 
-use crate::clashing::{clashes, is_kept};
+use crate::clashing::{clashes, fill, is_kept};
 use q_arena::ClauseId;
 use q_kernel::Kernel;
 use q_logic::{Lit, NoMemory};
 use q_rule::{Queue, clause_of, holds};
+use std::alloc::Global;
+
+// So many literals are looked for in a clause one by one.
+const FEW: usize = 4;
+
+/// Room for the covered literals that are left beside one more clause.
+#[derive(Drop)]
+pub struct Spare {
+    pub lits: Vec<Lit>,
+    pub marks: Queue,
+}
+
+impl Spare {
+    pub fn new(alloc: Global) -> Spare {
+        Spare {
+            lits: Vec::new(alloc),
+            marks: Queue::new(alloc),
+        }
+    }
+}
 
 fn put_if(lits: &mut Vec<Lit>, k: Lit, wanted: bool) -> Result<(), NoMemory>
     ensures { OnOk result (lits.new.items ≡ cond wanted (lits.old.items ++ k ∷ []) lits.old.items) }
@@ -63,11 +84,38 @@ fn sift(old: &[Lit], clause: &[Lit], kept: &mut Vec<Lit>) -> Result<(), NoMemory
     Ok(())
 }
 
-fn keep(found: &mut Vec<Lit>, clause: &[Lit], spare: &mut Vec<Lit>) -> Result<(), NoMemory>
+// The same by marks: one walk over the clause for all literals.
+fn sift_marked(
+    old: &[Lit],
+    clause: &[Lit],
+    marks: &mut Queue,
+    kept: &mut Vec<Lit>,
+) -> Result<(), NoMemory>
+    ensures { OnOk result ((k : Literal) → IsIn k kept.new.items ↔ (IsIn k old.now × IsIn k clause.now)) }
+{
+    fill(marks, clause)?;
+    kept.clear();
+    for k in old {
+        put_if(kept, *k, marks.has(*k))?;
+    }
+    Ok(())
+}
+
+// The same, by the way that costs less.
+fn meet(old: &[Lit], clause: &[Lit], spare: &mut Spare) -> Result<(), NoMemory>
+    ensures { OnOk result ((k : Literal) → IsIn k spare.new.lits.items ↔ (IsIn k old.now × IsIn k clause.now)) }
+{
+    if old.len() < FEW {
+        return sift(old, clause, &mut spare.lits);
+    }
+    sift_marked(old, clause, &mut spare.marks, &mut spare.lits)
+}
+
+fn keep(found: &mut Vec<Lit>, clause: &[Lit], spare: &mut Spare) -> Result<(), NoMemory>
     ensures { OnOk result ((k : Literal) → IsIn k found.new.items ↔ (IsIn k found.old.items × IsIn k clause.now)) }
 {
-    sift(found, clause, spare)?;
-    std::mem::swap(found, spare);
+    meet(found, clause, spare)?;
+    std::mem::swap(found, &mut spare.lits);
     Ok(())
 }
 
@@ -76,7 +124,7 @@ fn narrow(
     kernel: &Kernel,
     set: &Queue,
     found: &mut Vec<Lit>,
-    spare: &mut Vec<Lit>,
+    spare: &mut Spare,
     c: ClauseId,
     d: ClauseId,
     l: Lit,
@@ -105,7 +153,7 @@ pub fn covered_at(
     kernel: &Kernel,
     set: &Queue,
     found: &mut Vec<Lit>,
-    spare: &mut Vec<Lit>,
+    spare: &mut Spare,
     c: ClauseId,
     l: Lit,
 ) -> Result<bool, NoMemory>

@@ -2,6 +2,7 @@
 ghost use Rattle.std.specs.Prelude.{◌≡◌, ◌<◌, ◌∷◌, ◌++◌, [], length, OnOk};
 
 use crate::clashing::fill;
+use crate::covered::Spare;
 use crate::plan::{Plan, Stage};
 use q_logic::{Lit, NoMemory};
 use q_rule::Queue;
@@ -22,7 +23,7 @@ pub struct Growth {
     /// The covered literals that were found last.
     pub found: Vec<Lit>,
     /// Room for fewer of them.
-    pub spare: Vec<Lit>,
+    pub spare: Spare,
 }
 
 impl Growth {
@@ -33,7 +34,7 @@ impl Growth {
             base: 0,
             worked: 0,
             found: Vec::new(alloc),
-            spare: Vec::new(alloc),
+            spare: Spare::new(alloc),
         }
     }
 

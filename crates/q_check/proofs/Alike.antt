@@ -4,11 +4,12 @@ use Rattle.q_logic.specs.declared.limits.Limits.{Limits}
 use Rattle.q_logic.specs.Literals.{Literal, negation}
 use Rattle.q_logic.specs.Formulas.{Clause, Matrix, Prefix, IsIn, PrenexFormula}
 use Rattle.q_logic.specs.Propagation.{Implied}
-use Rattle.q_logic.specs.Pivots.{outer, ExistsPivot, ForallPivot, OutersOf, without}
+use Rattle.q_logic.specs.Pivots.{outer, ExistsPivot, ForallPivot, without}
 use Rattle.q_logic.specs.Reach.{Reached, Reducible}
 use Rattle.q_logic.specs.Steps.{ProofStep, add, delete, drop_literal, fresh, remove_variable, Valid, after, one_less, IsWarranted, IsDroppable, KeepsLimits, IsWrong, Cause, literals_in}
-use Rattle.q_logic.specs.Undos.{UndoEntry, Entries}
+use Rattle.q_logic.specs.Undos.{UndoEntry, Entries, OutersOf}
 use Rattle.q_logic.proofs.Propagation.{implied-same}
+use Rattle.q_logic.proofs.Outers.{every_outer-same}
 use Rattle.q_check.specs.Alike.{AreAlike}
 use Rattle.q_check.proofs.Copies.{SameClauses, IsIn-same, same-swapped, same-more, one_less-same, same-sizes}
 
@@ -43,8 +44,8 @@ pub droppable-within : (P : Prefix) (X Y : Matrix) (C : Clause) (l : Literal) �
 droppable-within P X Y C l f g (inl h) = inl (forall_pivot-within P X Y C l f g h)
 droppable-within P X Y C l f g (inr h) = inr (reducible-within P X Y C l g h)
 
-pub outers-within : (P : Prefix) (X Y : Matrix) (m : Literal) (os : List Clause) → Within X Y → Within Y X → OutersOf P X m os → OutersOf P Y m os
-outers-within P X Y m os f g h = record { all_there = λ D d n. h.all_there D (g D d) n; no_other = λ O i. let r : (D : Clause) × IsIn D X × IsIn m D × (O ≡ outer P m D) = h.no_other O i in (r.0, f r.0 r.1, r.2, r.3) }
+pub outers-same : (P : Prefix) (X Y : Matrix) (m : Literal) (os : List Clause) → SameClauses X Y → OutersOf P X m os → OutersOf P Y m os
+outers-same P X Y m os s h O = h O ∙ every_outer-same P m X Y s O
 
 module _ (P : Prefix) (X Y : Matrix) (s : SameClauses X Y) where
   here : Within X Y
@@ -79,7 +80,7 @@ module _ (P : Prefix) (X Y : Matrix) (s : SameClauses X Y) where
   same_entries : (s : ProofStep) (us : List UndoEntry) → Entries (of P X) s us → Entries (of P Y) s us
   same_entries (add p C) us e = e
   same_entries (delete p C) us (inl e) = inl (implied-within (one_less C X) (one_less C Y) C (less C) e.0, e.1)
-  same_entries (delete p C) us (inr (n, (l, os, f, o, g))) = inr ((λ i. n (implied-within (one_less C Y) (one_less C X) C (less_back C) i)), (l, os, f, outers-within P (one_less C X) (one_less C Y) (negation l) os (less C) (less_back C) o, g))
+  same_entries (delete p C) us (inr (n, (l, os, f, o, g))) = inr ((λ i. n (implied-within (one_less C Y) (one_less C X) C (less_back C) i)), (l, os, f, outers-same P (one_less C X) (one_less C Y) (negation l) os (one_less-same C X Y s) o, g))
   same_entries (drop_literal l C) us e = e
   same_entries (fresh v w) us e = e
   same_entries (remove_variable v) us e = e

@@ -23,7 +23,7 @@ use Rattle.q_check.specs.Entries.{IsPivotEntry, entries_of}
 use Rattle.q_check.specs.Warrants.{IsWarrant}
 use Rattle.q_check.proofs.Copies.{SameClauses, IsIn-same, same-swapped, one_less-same_first}
 use Rattle.q_check.proofs.Slots.{held-in, in-held, put-same, put-sizes, left-same, left-sizes, emptied-same}
-use Rattle.q_check.proofs.Alike.{Within as IsWithin, warranted-within, droppable-within, implied-within, outers-within}
+use Rattle.q_check.proofs.Alike.{Within as IsWithin, warranted-within, droppable-within, implied-within, outers-same}
 
 abbrev pub of : Prefix → Matrix → PrenexFormula
 of P X = record { prefix = P; matrix = X }
@@ -108,7 +108,7 @@ module _ (P : Prefix) (s : Slots) (n : ℕ) (C : Clause) (h : Holds s n C) where
   delete-entry true p Missing u o v e = absurd (o refl)
   delete-entry true p Pivot u o (i, (l, f, q)) e =
       let r = e l f in
-      inr ((λ j. i (implied-within (one_less C (filled s)) (filled (without_slot s (Some n))) C back j)), (l, r.0, f, outers-within P (filled (without_slot s (Some n))) (one_less C (filled s)) (negation l) r.0 there back r.1, r.2))
+      inr ((λ j. i (implied-within (one_less C (filled s)) (filled (without_slot s (Some n))) C back j)), (l, r.0, f, outers-same P (filled (without_slot s (Some n))) (one_less C (filled s)) (negation l) r.0 (left-same s n C h) r.1, r.2))
 
 pub add-after : (P : Prefix) (s t : Slots) (n : ℕ) (p : Option Literal) (C : Clause) → IsPut s n C t → AreAlike (after (of P (filled s)) (add p C)) (of P (filled t))
 add-after P s t n p C h = record { prefix = refl; clauses = same-swapped (filled t) (C ∷ filled s) (put-same s t n C h) }

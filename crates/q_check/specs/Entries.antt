@@ -2,8 +2,7 @@
 use Rattle.std.specs.Prelude.{◌≡◌, Bool, true, false, List, [], ◌∷◌, Option, None, Some}
 use Rattle.q_logic.specs.Literals.{Literal, negation}
 use Rattle.q_logic.specs.Formulas.{Clause, Matrix, Prefix}
-use Rattle.q_logic.specs.Pivots.{OutersOf}
-use Rattle.q_logic.specs.Undos.{UndoEntry, pivot, removed, freshened}
+use Rattle.q_logic.specs.Undos.{UndoEntry, OutersOf, pivot, removed, freshened}
 use Rattle.q_check.specs.declared.pivots.Warrant.{Warrant}
 use Rattle.q_check.specs.declared.pivots.Warrant.TheVariants.{Propagation, Missing}
 use Rattle.q_check.specs.declared.pivots.Warrant.TheVariants.{Pivot as ByPivot}

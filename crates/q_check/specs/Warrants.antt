@@ -6,13 +6,15 @@ use Rattle.q_logic.specs.Propagation.{Implied}
 use Rattle.q_logic.specs.Pivots.{outer}
 use Rattle.q_logic.specs.Steps.{FirstPivot}
 use Rattle.q_prop.specs.Slots.{Slots, Holds}
+use Rattle.q_prop.specs.Lists.{IsDistinct}
 use Rattle.q_check.specs.declared.pivots.Warrant.{Warrant}
 use Rattle.q_check.specs.declared.pivots.Warrant.TheVariants.{Propagation, Pivot, Missing}
 
--- the slots whose clauses hold the literal
+-- the slots whose clauses hold the literal, each once
 pub record AreHolders (s : Slots) (m : Literal) (slots : List ℕ) : Type 0 where
   pub all_there : (at : ℕ) (D : Clause) → Holds s at D → IsIn m D → Contains slots at
   pub no_other : (at : ℕ) → Contains slots at → (D : Clause) × Holds s at D × IsIn m D
+  pub once : IsDistinct slots
 
 -- with each clause that holds m the literals, joined with its outer clause, are implied
 abbrev pub Resolves : Prefix → Matrix → List Literal → Literal → Type 0

@@ -2,7 +2,7 @@
 ghost use Rattle.std.specs.Prelude.{◌≡◌, ◌<◌, length, map, slice_get, Some, IfOk, true, ℕ, Contains};
 ghost use Rattle.q_logic.specs.Parts.{AreEnds, clauses_between, start_of};
 ghost use Rattle.q_logic.specs.Prefixes.{Closed, is_bound};
-ghost use Rattle.q_logic.specs.Pivots.{OutersOf};
+ghost use Rattle.q_logic.specs.Undos.{OutersOf};
 ghost use Rattle.q_prop.specs.Slots.{filled, without};
 ghost use Rattle.q_check.specs.Warrants.{AreHolders};
 ghost use Rattle.std.specs.Prelude.{◌≤◌, slice_index};

@@ -1,20 +1,19 @@
 -- The two clauses of the bridge come, and go.
-use Rattle.std.proofs.Common.{◌≡◌, ◌≢◌, ◌≤◌, ◌<◌, ◌+◌, ◌*◌, ◌⊎◌, ℕ, suc, Bool, true, false, cond, eqb, not, ◌&&◌, [], ◌∷◌, ◌++◌, inl, inr, arith, refl, sym, ap, ◌∙◌, subst, Option, Some, None, length, true≢false}
-use Rattle.q_logic.specs.Literals.{Literal, IsBelow, negation, literal_eq}
-use Rattle.q_logic.specs.Formulas.{Clause, Matrix, Prefix, PrenexFormula, IsIn}
-use Rattle.q_logic.specs.Clauses.{insert}
+use Rattle.std.proofs.Common.{◌≡◌, ◌≤◌, ◌<◌, ◌+◌, ◌*◌, ℕ, Bool, true, false, cond, eqb, [], ◌∷◌, ◌++◌, inl, inr, arith, refl, sym, ap, ◌∙◌, subst, Option, Some, None, length}
+use Rattle.q_logic.specs.Literals.{Literal, IsBelow, negation}
+use Rattle.q_logic.specs.Formulas.{Clause, Matrix, Prefix, IsIn}
 use Rattle.q_logic.specs.Parts.{ArePairs}
-use Rattle.q_logic.specs.Prefixes.{is_bound, is_existential, outer_or_same}
+use Rattle.q_logic.specs.Prefixes.{is_bound, outer_or_same}
 use Rattle.q_logic.specs.Pivots.{keeps, outer, ExistsPivot}
 use Rattle.q_logic.specs.Propagation.{Implied}
 use Rattle.q_logic.specs.Limits.{standard}
 use Rattle.q_logic.specs.InLimits.{IsInLimits}
 use Rattle.q_logic.specs.Measure.{size_of}
 use Rattle.q_logic.specs.Sweep.{has_variable}
-use Rattle.q_logic.specs.Steps.{add, delete, one_less, literals_in, Within}
+use Rattle.q_logic.specs.Steps.{add, delete, one_less, Within}
 use Rattle.q_logic.specs.StepForms.{first_of}
 use Rattle.q_logic.specs.Sets.{is_tautology, put_unless_tautology}
-use Rattle.q_logic.specs.Numbered.{Slots, slot, set_slot, live, others, formula_of}
+use Rattle.q_logic.specs.Numbered.{Slots, slot, live, others, formula_of}
 use Rattle.q_logic.specs.Targets.{merge}
 use Rattle.q_logic.specs.Merging.{Mergeable, merged, renamed}
 use Rattle.q_logic.proofs.Clauses.{IsIn-append_left}
@@ -23,23 +22,23 @@ use Rattle.q_logic.proofs.Slots.{live-slot, slot-alike}
 use Rattle.q_logic.proofs.Sets.{insert-length, IsIn-outer_in, IsIn-put_unless}
 use Rattle.q_logic.proofs.Ordering.{Ordered, insert-ordered, ordered-pairs}
 use Rattle.q_logic.proofs.Order.{existential-is_bound}
-use Rattle.q_logic.proofs.Implying.{implied-tautology, implied-more_clauses, negation-negation}
+use Rattle.q_logic.proofs.Implying.{implied-tautology, implied-more_clauses}
 use Rattle.q_logic.proofs.PlainRuns.{pure-pivot}
-use Rattle.q_logic.proofs.Reaching.{SameClauses, IsIn-alike, alike-refl, alike-sym, alike-trans, alike-cons, alike-uncons, alike-swap, one_less-first, one_less-same, exists_pivot-fewer}
+use Rattle.q_logic.proofs.Reaching.{SameClauses, IsIn-alike, alike-sym, alike-trans, alike-cons, alike-uncons, alike-swap, one_less-first, one_less-same, exists_pivot-fewer}
 use Rattle.q_logic.proofs.MergeRun.{joined-implied, outer_or_same-is_bound, has_var-IsIn, renamed-free, renamed-length}
 use Rattle.q_log.specs.Texts.{step_text}
 use Rattle.q_kernel.specs.Kernels.{Seen, slots, formula_in, IsSound}
 use Rattle.q_kernel.specs.Taking.{Applies}
 use Rattle.q_logic.specs.declared.rule_bounds.Bounds.{Bounds}
-use Rattle.q_kernel.specs.Changes.{AreAlike, MayAdd, IsAdded, MayDelete, IsDeleted, IsLed}
+use Rattle.q_kernel.specs.Changes.{MayAdd, IsAdded, MayDelete, IsDeleted, IsLed}
 use Rattle.q_kernel.proofs.Slotting.{length-set_slot, slot-below, slot-set_other, live-gone, alike-added, size-gone, size-parts}
 use Rattle.q_kernel.proofs.Leading.{led-through, sizes-alike}
-use Rattle.q_kernel.proofs.Costs.{first-first, cost-add, cost-delete, within-small, proper-small, proper-in_order}
+use Rattle.q_kernel.proofs.Costs.{first-first, cost-add, cost-delete, within-small, proper-small}
 use Rattle.q_rule.specs.Becoming.{IsChanged}
 use Rattle.q_rule.proofs.Results.{IsLess, less-limits}
 use Rattle.q_rule.proofs.Clearing.{size-deleted, bytes-deleted}
 use Rattle.q_equiv.specs.declared.bridge.Bridge.{Bridge}
-use Rattle.q_equiv.specs.Changing.{CanStandFor, over_clause, back_clause, total_with, one, size, HasRoomFor, HasRenamingRoom, IsBridged, IsBuilt, IsRenamed}
+use Rattle.q_equiv.specs.Changing.{CanStandFor, over_clause, back_clause, total_with, one, size, HasRoomFor, IsBridged, IsBuilt}
 use Rattle.q_equiv.proofs.Totals.{total-alike}
 use Rattle.q_equiv.proofs.Merging.{over-cases, over-first, over-second, back-cases, back-first, back-second, bridge-apart}
 
@@ -130,8 +129,8 @@ module _ (keep gone : Literal) (k : Seen) (fits : Mergeable k.prefix (live (slot
             valid = (
               (λ j n. mid_bound j (back_within j n)),
               inl (implied-more_clauses (live (slots k)) (live (slots mid)) (back_clause keep gone)
-              (λ D n. IsIn-alike (over_clause keep gone ∷ live (slots k)) (live (slots mid)) (alike-sym (live (slots mid)) (over_clause keep gone ∷ live (slots k)) mid_clauses) D (inr n))
-              (joined-implied (live (slots k)) keep gone fits.to_keep (back_clause keep gone) (back-second keep gone) (back-first keep gone))),
+                  (λ D n. IsIn-alike (over_clause keep gone ∷ live (slots k)) (live (slots mid)) (alike-sym (live (slots mid)) (over_clause keep gone ∷ live (slots k)) mid_clauses) D (inr n))
+                  (joined-implied (live (slots k)) keep gone fits.to_keep (back_clause keep gone) (back-second keep gone) (back-first keep gone))),
               record { clauses = let n = limits.clauses in omega (arith, e.0); lits = let n = limits.lits in omega (arith, e.1) },
             );
             bytes = let c = over_cost in let d = back_cost in let b = room.bytes in let n = a.logged.bytes in omega arith;

@@ -1,10 +1,9 @@
 -- Levels that never rise.
-use Rattle.std.proofs.Common.{◌≡◌, ◌≢◌, ◌≤◌, ◌<◌, ◌+◌, ◌⊎◌, ℕ, zero, suc, List, [], ◌∷◌, get_or, length, Option, Some, None, refl, sym, ◌∙◌, ap, subst, inl, inr, arith}
+use Rattle.std.proofs.Common.{◌≡◌, ◌≢◌, ◌≤◌, ◌<◌, ◌+◌, ◌⊎◌, ℕ, List, [], ◌∷◌, get_or, length, Option, Some, None, sym, ◌∙◌, ap, subst, inl, inr, arith}
 use Rattle.q_logic.specs.Literals.{Literal, IsBelow, negation}
 use Rattle.q_logic.specs.Formulas.{Clause, Matrix, IsIn}
 use Rattle.q_logic.specs.Parts.{ArePairs}
 use Rattle.q_logic.specs.Numbered.{Slots, slot, live}
-use Rattle.q_logic.specs.Merging.{Binary}
 use Rattle.q_logic.proofs.Implying.{negation-negation}
 use Rattle.q_kernel.proofs.Slotting.{IsIn-slot}
 use Rattle.q_equiv.specs.Walks.{level_of, NeverRise}

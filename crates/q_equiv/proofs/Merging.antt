@@ -1,33 +1,24 @@
 -- Turn by turn keep takes the place of gone.
-use Rattle.std.proofs.Common.{◌≡◌, ◌≢◌, ◌≤◌, ◌<◌, ◌+◌, ◌*◌, ◌⊎◌, ℕ, suc, Bool, true, false, cond, eqb, [], ◌∷◌, inl, inr, arith, refl, sym, ap, ◌∙◌, subst, Option, Some, None, length, true≢false}
-use Rattle.q_logic.specs.Literals.{Literal, IsBelow, negation, literal_eq}
-use Rattle.q_logic.specs.Formulas.{Clause, Matrix, Prefix, PrenexFormula, IsIn}
-use Rattle.q_logic.specs.Clauses.{insert}
-use Rattle.q_logic.specs.Prefixes.{is_bound}
-use Rattle.q_logic.specs.Propagation.{Implied}
-use Rattle.q_logic.specs.Limits.{standard}
-use Rattle.q_logic.specs.Measure.{size_of}
+use Rattle.std.proofs.Common.{◌≡◌, ◌≢◌, ◌≤◌, ◌⊎◌, ℕ, Bool, true, false, cond, eqb, [], ◌∷◌, inl, inr, arith, refl, sym, ap, ◌∙◌, subst, Option, Some, None, true≢false}
+use Rattle.q_logic.specs.Literals.{Literal, negation, literal_eq}
+use Rattle.q_logic.specs.Formulas.{Clause, Matrix, IsIn}
 use Rattle.q_logic.specs.Sweep.{has_variable}
-use Rattle.q_logic.specs.Steps.{one_less, clause_eq, literals_in, Within, KeepsLimits}
-use Rattle.q_logic.specs.Sets.{is_tautology, IsTautology, put_unless_tautology}
-use Rattle.q_logic.specs.Numbered.{Slots, slot, set_slot, live, others, formula_of}
-use Rattle.q_logic.specs.Merging.{merged, merged_one, renamed, renamed_literal}
+use Rattle.q_logic.specs.Steps.{one_less, clause_eq}
+use Rattle.q_logic.specs.Sets.{is_tautology, put_unless_tautology}
+use Rattle.q_logic.specs.Numbered.{Slots, slot, set_slot, live, others}
+use Rattle.q_logic.specs.Merging.{merged, merged_one, renamed}
 use Rattle.q_logic.proofs.Clauses.{literal_eq-itself, literal_eq-negation}
-use Rattle.q_logic.proofs.Slots.{live-slot, others-slot, slot-alike}
-use Rattle.q_logic.proofs.Sets.{insert-IsIn, IsIn-insert, put_unless-IsIn, put_unless-more}
-use Rattle.q_logic.proofs.Ordering.{ordered-pairs, renamed-ordered}
+use Rattle.q_logic.proofs.Slots.{slot-alike}
+use Rattle.q_logic.proofs.Sets.{insert-IsIn, IsIn-insert}
 use Rattle.q_logic.proofs.Runs.{clause_eq-sound}
 use Rattle.q_logic.proofs.Reaching.{SameClauses, clause_eq-itself, IsIn-alike, IsIn-copies, alike-refl, alike-sym, alike-trans, alike-cons, alike-uncons, alike-swap, one_less-alike}
 use Rattle.q_logic.specs.Runs.{copies}
-use Rattle.q_logic.proofs.MergeRun.{Linked, renamed_literal-cases, renamed-implied, implied-by_renamed, renamed-free, renamed-length, outer_or_same-is_bound}
-use Rattle.q_kernel.specs.Kernels.{Seen, slots, formula_in, IsSound}
-use Rattle.q_kernel.specs.Changes.{IsLed}
-use Rattle.q_kernel.proofs.Slotting.{slot-set_other, live-gone, alike-others, IsIn-slot, size-parts}
-use Rattle.q_kernel.proofs.Leading.{led-through, led-itself, sizes-alike}
+use Rattle.q_logic.proofs.MergeRun.{renamed-free}
+use Rattle.q_kernel.specs.Kernels.{Seen, slots}
+use Rattle.q_kernel.proofs.Slotting.{slot-set_other, live-gone, IsIn-slot}
 use Rattle.q_rule.proofs.Results.{slot-none}
 use Rattle.q_equiv.specs.declared.bridge.Bridge.{Bridge}
-use Rattle.q_equiv.specs.Changing.{CanStandFor, over_clause, back_clause, total_with, one, size, HasRenamingRoom, IsBridged, IsRenamed, MayReplace, IsReplaced}
-use Rattle.q_equiv.proofs.Totals.{total-alike}
+use Rattle.q_equiv.specs.Changing.{over_clause, back_clause, IsBridged}
 
 -- Merging does not look at the order of clauses.
 pub put-alike : (R : Clause) (X Y : Matrix) → SameClauses X Y → SameClauses (put_unless_tautology R X) (put_unless_tautology R Y)

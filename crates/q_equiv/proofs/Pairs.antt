@@ -1,5 +1,5 @@
 -- Clauses of two literals.
-use Rattle.std.proofs.Common.{◌≡◌, ◌≢◌, ◌⊎◌, ◌↔◌, ℕ, zero, suc, ◌+◌, ◌<◌, ◌≤◌, Bool, true, false, List, [], ◌∷◌, ◌++◌, get_or, length, Some, None, Option, refl, sym, ◌∙◌, ap, subst, inl, inr, arith}
+use Rattle.std.proofs.Common.{◌≡◌, ◌≢◌, ◌⊎◌, ◌↔◌, suc, [], ◌∷◌, get_or, length, Some, None, Option, refl, sym, ◌∙◌, subst, inl, inr, arith}
 use Rattle.q_logic.specs.Literals.{Literal, IsBelow, negation}
 use Rattle.q_logic.specs.Formulas.{Clause, Matrix, IsIn}
 use Rattle.q_logic.specs.Parts.{ArePairs}

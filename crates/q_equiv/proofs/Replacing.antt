@@ -1,22 +1,20 @@
 -- A clause in the place of another one.
-use Rattle.std.proofs.Common.{◌≡◌, ◌≢◌, ◌≤◌, ◌<◌, ◌+◌, ◌*◌, ◌⊎◌, ℕ, suc, Bool, true, false, cond, ◌||◌, [], ◌∷◌, inl, inr, arith, refl, sym, ap, ◌∙◌, subst, Option, Some, None, length, true≢false}
-use Rattle.q_logic.specs.Literals.{Literal, IsBelow, negation, literal_eq}
-use Rattle.q_logic.specs.Formulas.{Clause, Matrix, Prefix, PrenexFormula, IsIn}
-use Rattle.q_logic.specs.Parts.{ArePairs}
+use Rattle.std.proofs.Common.{◌≡◌, ◌≢◌, ◌≤◌, ◌<◌, ◌+◌, ◌*◌, ℕ, Bool, true, false, ◌||◌, [], ◌∷◌, inl, inr, arith, refl, sym, ap, ◌∙◌, subst, Option, Some, None, length, true≢false}
+use Rattle.q_logic.specs.Literals.{Literal, negation, literal_eq}
+use Rattle.q_logic.specs.Formulas.{Clause, Matrix, Prefix, IsIn}
 use Rattle.q_logic.specs.Propagation.{Implied}
-use Rattle.q_logic.specs.Limits.{standard}
-use Rattle.q_logic.specs.Steps.{add, delete, one_less, Within, KeepsLimits}
+use Rattle.q_logic.specs.Steps.{add, delete, one_less}
 use Rattle.q_logic.specs.StepForms.{first_of}
-use Rattle.q_logic.specs.Sets.{has, is_tautology, IsTautology, put_unless_tautology}
-use Rattle.q_logic.specs.Numbered.{Slots, slot, set_slot, live, others, formula_of}
+use Rattle.q_logic.specs.Sets.{has, is_tautology, IsTautology}
+use Rattle.q_logic.specs.Numbered.{Slots, slot, live, others}
 use Rattle.q_logic.proofs.Clauses.{literal_eq-itself, literal_eq-negation}
-use Rattle.q_logic.proofs.Slots.{IsIn-has, live-slot, others-slot, slot-alike}
+use Rattle.q_logic.proofs.Slots.{IsIn-has, live-slot, slot-alike}
 use Rattle.q_logic.proofs.Implying.{implied-more_clauses, negation-negation}
 use Rattle.q_logic.proofs.Reaching.{SameClauses, IsIn-alike, alike-refl, alike-sym, alike-trans, alike-cons, alike-uncons, alike-swap}
 use Rattle.q_log.specs.Texts.{step_text}
-use Rattle.q_kernel.specs.Kernels.{Seen, slots, formula_in, IsSound, KeepsRoom}
-use Rattle.q_kernel.specs.Changes.{MayAdd, IsAdded, MayDelete, IsDeleted, IsLed}
-use Rattle.q_kernel.proofs.Slotting.{length-set_slot, slot-below, slot-set_other, live-gone, alike-added, alike-others, IsIn-slot}
+use Rattle.q_kernel.specs.Kernels.{Seen, slots, formula_in, IsSound}
+use Rattle.q_kernel.specs.Changes.{MayAdd, IsAdded, MayDelete, IsDeleted}
+use Rattle.q_kernel.proofs.Slotting.{length-set_slot, slot-below, slot-set_other, live-gone, alike-added, alike-others}
 use Rattle.q_kernel.proofs.Leading.{led-through}
 use Rattle.q_kernel.proofs.Costs.{first-first, cost-add, cost-delete, within-small, proper-small, proper-in_order}
 use Rattle.q_equiv.specs.Changing.{MayReplace, IsReplaced}
@@ -137,7 +135,7 @@ module _ (old : Seen) (id : ℕ) (R : Clause) (h : MayReplace old id R) (s : IsS
               (λ k m. subst (λ (P : Prefix). Rattle.q_logic.specs.Prefixes.is_bound P k.var ≡ true) (sym a.prefix) (s.proper.formula.closed C inside k m)),
               live-slot M id C still,
               inl (implied-more_clauses (R ∷ others id (slots old)) (one_less C (live M)) C
-              (λ D m. IsIn-alike (others id M) (one_less C (live M)) (alike-others M id C still) D (IsIn-alike (R ∷ others id (slots old)) (others id M) (alike-sym (others id M) (R ∷ others id (slots old)) beside) D m)) g),
+                  (λ D m. IsIn-alike (others id M) (one_less C (live M)) (alike-others M id C still) D (IsIn-alike (R ∷ others id (slots old)) (others id M) (alike-sym (others id M) (R ∷ others id (slots old)) beside) D m)) g),
             );
             bytes = let c = cost in let n = cost_new in let b = h.bytes in let l = a.logged.bytes in omega arith;
           };

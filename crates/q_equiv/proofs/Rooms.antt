@@ -1,7 +1,7 @@
 -- That enough is reserved.
-use Rattle.std.proofs.Common.{◌≡◌, ◌≤◌, ◌+◌, ◌*◌, ℕ, length, arith, sym, ap, subst}
+use Rattle.std.proofs.Common.{◌≡◌, ◌≤◌, ◌+◌, ◌*◌, ℕ, length, arith, ap}
 use Rattle.q_logic.specs.Literals.{Literal, negation}
-use Rattle.q_logic.specs.Formulas.{Clause, Matrix, Prefix, PrenexFormula}
+use Rattle.q_logic.specs.Formulas.{Clause, Prefix, PrenexFormula}
 use Rattle.q_logic.specs.Measure.{size_of}
 use Rattle.q_logic.specs.Numbered.{live}
 use Rattle.q_logic.specs.Sets.{with_literal}
@@ -24,7 +24,7 @@ listed : (k : Seen) (l : Literal) → IsSound k → weight one (with_literal l (
 listed k l s =
     let owner : ℕ → ℕ = λ q. get_or k.lists.owners q 0 in
     let w : weight one (with_literal l (live (slots k))) ≤ total_at one (slots k) owner (places_of k.lists l) =
-        weight-listed one l (slots k) owner (places_of k.lists l) (λ d D e m. s.owned d l (D, e, m)) in
+    weight-listed one l (slots k) owner (places_of k.lists l) (λ d D e m. s.owned d l (D, e, m)) in
     let t = total_at-one (slots k) owner (places_of k.lists l) in
     omega arith
 

@@ -1,5 +1,5 @@
 -- Numbers of clauses, all together.
-use Rattle.std.proofs.Common.{◌≡◌, ◌≢◌, ◌≤◌, ◌+◌, ◌⊎◌, ℕ, zero, suc, Bool, true, false, cond, eqb, not, ◌||◌, List, [], ◌∷◌, ◌++◌, inl, inr, arith, refl, sym, ap, ◌∙◌, subst, Option, Some, None, length}
+use Rattle.std.proofs.Common.{◌≡◌, ◌≤◌, ◌+◌, ◌⊎◌, ℕ, zero, suc, Bool, true, false, cond, eqb, not, ◌||◌, List, [], ◌∷◌, ◌++◌, inl, inr, arith, refl, sym, ap, ◌∙◌, subst, Option, Some, None, length}
 use Rattle.q_logic.specs.Literals.{Literal, negation}
 use Rattle.q_logic.specs.Formulas.{Clause, Matrix, IsIn}
 use Rattle.q_logic.specs.Sweep.{has_variable}
@@ -7,7 +7,7 @@ use Rattle.q_logic.specs.Sets.{has, with_literal}
 use Rattle.q_logic.specs.Steps.{one_less, clause_eq}
 use Rattle.q_logic.specs.Runs.{copies}
 use Rattle.q_logic.proofs.Runs.{clause_eq-sound}
-use Rattle.q_logic.specs.Numbered.{Slots, slot, set_slot, live, put_first}
+use Rattle.q_logic.specs.Numbered.{Slots, slot, set_slot, live}
 use Rattle.q_logic.proofs.Heights.{weight}
 use Rattle.q_logic.proofs.Slots.{IsIn-has}
 use Rattle.q_logic.proofs.Reaching.{SameClauses, clause_eq-itself, IsIn-alike, IsIn-copies, alike-trans, alike-uncons, one_less-alike}

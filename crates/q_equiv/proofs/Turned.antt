@@ -1,7 +1,7 @@
 -- Both literals of a variable may go, or neither.
-use Rattle.std.proofs.Common.{◌≡◌, ◌≤◌, ℕ, Bool, true, false, not, [], ◌∷◌, refl, sym, ◌∙◌, ap, subst, inl, inr, arith}
+use Rattle.std.proofs.Common.{◌≡◌, ◌≤◌, ℕ, Bool, true, false, not, List, refl, sym, ◌∙◌, ap, subst, inl, inr, arith}
 use Rattle.q_logic.specs.Literals.{Literal, negation}
-use Rattle.q_logic.specs.Formulas.{Clause, Matrix, Prefix, IsIn}
+use Rattle.q_logic.specs.Formulas.{Matrix, Prefix, IsIn}
 use Rattle.q_logic.specs.Merging.{Binary, Joined, Mergeable}
 use Rattle.q_logic.specs.Targets.{merge, place}
 use Rattle.q_logic.specs.Rules.{Fits}
@@ -15,6 +15,8 @@ use Rattle.q_logic.specs.InLimits.{IsInLimits}
 use Rattle.q_kernel.specs.Kernels.{Seen, slots, formula_in}
 use Rattle.q_kernel.specs.Taking.{Applies}
 use Rattle.q_equiv.proofs.Bridging.{merge-applies}
+use Rattle.q_equiv.specs.Walks.{level_of, NeverRise, IsGathered}
+use Rattle.q_equiv.proofs.Walks.{joined-level}
 use Rattle.q_equiv.specs.declared.target.Target.{Target}
 use Rattle.q_equiv.specs.declared.target.Target.TheVariants.{Merge}
 use Rattle.q_equiv.specs.Targets.{target_of, keep_of, gone_of}
@@ -63,3 +65,17 @@ place-bound k (Merge keep gone) B f = is_bound-greatest k.prefix gone.var (exist
 
 pub target-applies : (B : Bounds) (k : Seen) (t : Target) → IsInLimits standard (formula_in k) → Fits B k.prefix (slots k) (target_of t) → Applies B k (target_of t)
 target-applies B k (Merge keep gone) h f = merge-applies B k keep gone h f
+
+-- Where the negation of gone leads to that of keep, keep leads to gone.
+pub back-way : (X : Matrix) (keep gone : Literal) → Joined X (negation keep) (negation gone) → Joined X gone keep
+back-way X keep gone j = subst (λ (x : Literal). Joined X x keep) (negation-negation gone) (subst (λ (x : Literal). Joined X (negation (negation gone)) x) (negation-negation keep) (joined-turned X (negation keep) (negation gone) j))
+
+-- What may take the place of gone was gathered both ways.
+pub both-gathered : (levels : List ℕ) (P : Prefix) (X : Matrix) (keep gone : Literal) (there back : List Literal) → NeverRise levels X → IsGathered levels X gone there → IsGathered levels X (negation gone) back → Mergeable P X keep gone → IsIn keep there × IsIn (negation keep) back
+both-gathered levels P X keep gone there back f g h m = (
+  g.all_there f keep (level keep gone m.to_keep m.to_gone) m.to_keep,
+  h.all_there f (negation keep) (level (negation keep) (negation gone) (joined-turned X gone keep m.to_gone) (joined-turned X keep gone m.to_keep)) (joined-turned X gone keep m.to_gone),
+)
+  where
+    level : (x y : Literal) → Joined X x y → Joined X y x → level_of levels x ≡ level_of levels y
+    level x y i j = let a = joined-level levels X x y f i in let b = joined-level levels X y x f j in omega arith

@@ -1,13 +1,11 @@
 -- One turn: a clause is renamed. And what is left at the end.
-use Rattle.std.proofs.Common.{◌≡◌, ◌≢◌, ◌≤◌, ◌<◌, ◌+◌, ◌*◌, ◌⊎◌, ℕ, suc, Bool, true, false, cond, eqb, [], ◌∷◌, inl, inr, arith, refl, sym, ap, ◌∙◌, subst, Option, Some, None, length, true≢false}
+use Rattle.std.proofs.Common.{◌≡◌, ◌≢◌, ◌≤◌, ◌+◌, ◌*◌, ◌⊎◌, ℕ, Bool, true, false, cond, [], ◌∷◌, inl, inr, arith, refl, sym, ap, ◌∙◌, subst, Some, None, length}
 use Rattle.q_logic.specs.Literals.{Literal, negation}
 use Rattle.q_logic.specs.Formulas.{Clause, Matrix, Prefix, IsIn}
 use Rattle.q_logic.specs.Prefixes.{is_bound}
-use Rattle.q_logic.specs.Propagation.{Implied}
-use Rattle.q_logic.specs.Measure.{size_of}
 use Rattle.q_logic.specs.Sweep.{has_variable}
 use Rattle.q_logic.specs.Steps.{literals_in, Within}
-use Rattle.q_logic.specs.Sets.{is_tautology, IsTautology, put_unless_tautology}
+use Rattle.q_logic.specs.Sets.{is_tautology, put_unless_tautology}
 use Rattle.q_logic.specs.Numbered.{Slots, slot, set_slot, live, others}
 use Rattle.q_logic.specs.Merging.{merged, renamed, renamed_literal}
 use Rattle.q_logic.proofs.Slots.{live-slot, others-slot, slot-alike}
@@ -182,16 +180,16 @@ module _ (keep gone : Literal) (b : Bridge) (now : Seen) (stands : CanStandFor n
         let S : Matrix = live (set_slot b.back None (set_slot b.over None (set_slot id None (slots now)))) in
         let N = slots now in
         let front : SameClauses (A ∷ B ∷ Y) (A ∷ B ∷ C ∷ S) =
-            alike-trans (A ∷ B ∷ Y) (live N) (A ∷ B ∷ C ∷ S) (alike-sym (live N) (A ∷ B ∷ Y) w)
-            (alike-trans (live N) (C ∷ others id N) (A ∷ B ∷ C ∷ S) (slot-alike N id C there)
-            (alike-trans (C ∷ others id N) (C ∷ A ∷ B ∷ S) (A ∷ B ∷ C ∷ S) (alike-cons C (others id N) (A ∷ B ∷ S) parted)
-            (alike-trans (C ∷ A ∷ B ∷ S) (A ∷ C ∷ B ∷ S) (A ∷ B ∷ C ∷ S) (alike-swap C A (B ∷ S)) (alike-cons A (C ∷ B ∷ S) (B ∷ C ∷ S) (alike-swap C B S))))) in
+        alike-trans (A ∷ B ∷ Y) (live N) (A ∷ B ∷ C ∷ S) (alike-sym (live N) (A ∷ B ∷ Y) w)
+        (alike-trans (live N) (C ∷ others id N) (A ∷ B ∷ C ∷ S) (slot-alike N id C there)
+        (alike-trans (C ∷ others id N) (C ∷ A ∷ B ∷ S) (A ∷ B ∷ C ∷ S) (alike-cons C (others id N) (A ∷ B ∷ S) parted)
+        (alike-trans (C ∷ A ∷ B ∷ S) (A ∷ C ∷ B ∷ S) (A ∷ B ∷ C ∷ S) (alike-swap C A (B ∷ S)) (alike-cons A (C ∷ B ∷ S) (B ∷ C ∷ S) (alike-swap C B S))))) in
         let before : SameClauses Y (C ∷ S) = alike-uncons B Y (C ∷ S) (alike-uncons A (B ∷ Y) (B ∷ C ∷ S) front) in
         let Z : Matrix = put_unless_tautology (renamed keep gone C) S in
         let after : SameClauses (live (slots new)) (A ∷ B ∷ Z) =
-            alike-trans (live (slots new)) (put_unless_tautology (renamed keep gone C) (others id N)) (A ∷ B ∷ Z) h.clauses
-            (alike-trans (put_unless_tautology (renamed keep gone C) (others id N)) (put_unless_tautology (renamed keep gone C) (A ∷ B ∷ S)) (A ∷ B ∷ Z) (put-alike (renamed keep gone C) (others id N) (A ∷ B ∷ S) parted)
-            (alike-trans (put_unless_tautology (renamed keep gone C) (A ∷ B ∷ S)) (A ∷ put_unless_tautology (renamed keep gone C) (B ∷ S)) (A ∷ B ∷ Z) (put-swap (renamed keep gone C) A (B ∷ S)) (alike-cons A (put_unless_tautology (renamed keep gone C) (B ∷ S)) (B ∷ Z) (put-swap (renamed keep gone C) B S)))) in
+        alike-trans (live (slots new)) (put_unless_tautology (renamed keep gone C) (others id N)) (A ∷ B ∷ Z) h.clauses
+        (alike-trans (put_unless_tautology (renamed keep gone C) (others id N)) (put_unless_tautology (renamed keep gone C) (A ∷ B ∷ S)) (A ∷ B ∷ Z) (put-alike (renamed keep gone C) (others id N) (A ∷ B ∷ S) parted)
+        (alike-trans (put_unless_tautology (renamed keep gone C) (A ∷ B ∷ S)) (A ∷ put_unless_tautology (renamed keep gone C) (B ∷ S)) (A ∷ B ∷ Z) (put-swap (renamed keep gone C) A (B ∷ S)) (alike-cons A (put_unless_tautology (renamed keep gone C) (B ∷ S)) (B ∷ Z) (put-swap (renamed keep gone C) B S)))) in
         (Z, after, subst (λ (X : Matrix). SameClauses X (merged keep gone Y)) (sym (merged-put keep gone C S stands.different held)) (merged-same keep gone (C ∷ S) Y (alike-sym Y (C ∷ S) before)))
 
     pub renaming-more : (old : Seen) → IsRenaming keep gone b old now → IsRenaming keep gone b old new

@@ -1,5 +1,5 @@
 -- Walks along clauses of two literals.
-use Rattle.std.proofs.Common.{◌≡◌, ◌≢◌, ◌⊎◌, ℕ, zero, suc, ◌+◌, ◌<◌, ◌≤◌, None, true, false, List, [], ◌∷◌, ◌++◌, slice_get, length, Some, Option, refl, sym, ◌∙◌, ap, subst, inl, inr, arith, append-nil, append_assoc}
+use Rattle.std.proofs.Common.{◌≡◌, ◌⊎◌, ℕ, zero, suc, ◌+◌, ◌<◌, ◌≤◌, List, [], ◌∷◌, ◌++◌, slice_get, length, Some, refl, sym, ◌∙◌, ap, subst, inl, inr, arith, append-nil, append_assoc}
 use Rattle.q_logic.specs.Literals.{Literal, negation}
 use Rattle.q_logic.specs.Formulas.{Clause, Matrix, IsIn}
 use Rattle.q_logic.specs.Numbered.{Slots, slot, live}
@@ -7,7 +7,7 @@ use Rattle.q_logic.specs.Merging.{Binary, Joined}
 use Rattle.q_logic.proofs.Slots.{live-slot}
 use Rattle.q_logic.proofs.Clauses.{IsIn-append_left, IsIn-append}
 use Rattle.q_logic.proofs.Implying.{IsIn-append_right}
-use Rattle.q_logic.proofs.Searching.{joined-in, joined-further}
+use Rattle.q_logic.proofs.Searching.{joined-further}
 use Rattle.q_arena.specs.Rings.{Has}
 use Rattle.q_kernel.proofs.Slotting.{IsIn-slot}
 use Rattle.q_kernel.proofs.Following.{Has-last}

@@ -1,5 +1,5 @@
 -- How a literal takes the place of an equivalent one, step by step.
-use Rattle.std.specs.Prelude.{◌≡◌, ◌≢◌, ◌≤◌, ◌+◌, ◌*◌, ℕ, true, false, cond, eqb, [], ◌∷◌, length, Some, None}
+use Rattle.std.specs.Prelude.{◌≡◌, ◌≢◌, ◌≤◌, ◌+◌, ◌*◌, ℕ, true, false, cond, eqb, [], ◌∷◌, length, Some}
 use Rattle.q_logic.specs.Literals.{Literal, IsBelow, negation}
 use Rattle.q_logic.specs.Formulas.{Clause, Matrix, Prefix}
 use Rattle.q_logic.specs.Clauses.{insert}

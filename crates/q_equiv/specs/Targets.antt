@@ -1,6 +1,8 @@
 -- The targets of this crate, as targets of the theory.
 use Rattle.q_logic.specs.Literals.{Literal}
+use Rattle.q_logic.specs.Formulas.{Prefix}
 use Rattle.q_logic.specs.Targets as theory
+use Rattle.q_equiv.specs.Changing.{CanStandFor}
 use Rattle.q_equiv.specs.declared.target.Target.{Target}
 use Rattle.q_equiv.specs.declared.target.Target.TheVariants.{Merge}
 
@@ -13,3 +15,7 @@ keep_of (Merge keep gone) = keep
 
 abbrev pub gone_of : Target → Literal
 gone_of (Merge keep gone) = gone
+
+-- its literals have different variables, that of gone is existential, and that of keep is not inner to it
+abbrev pub MayStand : Prefix → Target → Type 0
+MayStand P (Merge keep gone) = CanStandFor P keep gone

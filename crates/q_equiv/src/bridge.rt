@@ -1,4 +1,5 @@
-//! The two clauses that join a literal to its equivalent one while it takes its place.
+//! The two clauses that join a literal to its equivalent one while it takes its place, and the clauses that are still to
+//! be renamed beside them.
 ghost use Rattle.std.specs.Prelude.{◌≡◌, ◌≢◌, ◌⊎◌, ◌∷◌, [], ℕ, true, None, Some};
 ghost use Rattle.q_logic.specs.Formulas.{Clause};
 ghost use Rattle.q_logic.specs.Clauses.{insert};
@@ -22,7 +23,11 @@ pub fn two_lits(a: Lit, b: Lit) -> [Lit; 2]
     requires { a.var ≢ b.var }
     ensures { result ≡ insert a (b ∷ []) }
 {
-    if a.index() < b.index() { [a, b] } else { [b, a] }
+    if a.index() < b.index() {
+        [a, b]
+    } else {
+        [b, a]
+    }
 }
 
 /// A clause with the variable of the literal, beside the bridge.

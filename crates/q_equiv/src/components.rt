@@ -23,6 +23,9 @@ pub struct Components {
     // the literals that the search is in, and those that are in no component yet
     path: Vec<usize>,
     open: Vec<usize>,
+    // the literals of the components, one component after the other, and where each ends
+    parts: Vec<Lit>,
+    ends: Vec<usize>,
     met: u32,
     closed: u32,
 }
@@ -36,6 +39,8 @@ impl Components {
             least: Vec::new(alloc),
             path: Vec::new(alloc),
             open: Vec::new(alloc),
+            parts: Vec::new(alloc),
+            ends: Vec::new(alloc),
             met: 0,
             closed: 0,
         }
@@ -46,6 +51,8 @@ impl Components {
         self.edges.clear();
         self.path.clear();
         self.open.clear();
+        self.parts.clear();
+        self.ends.clear();
         self.first.clear();
         self.first.resize(literals, 0)?;
         self.order.clear();
@@ -90,7 +97,7 @@ impl Components {
             };
             match self.next_from(at) {
                 Some(to) => self.go_on(at, to, levels)?,
-                None => self.leave(at, levels),
+                None => self.leave(at, levels)?,
             }
         }
         Ok(())
@@ -129,7 +136,7 @@ impl Components {
     }
 
     // All implications of a literal were followed.
-    fn leave(&mut self, at: usize, levels: &mut [u32]) {
+    fn leave(&mut self, at: usize, levels: &mut [u32]) -> Result<(), NoMemory> {
         let _ = self.path.pop();
         let least = mark(&self.least, at);
         if let Some(before) = self.path.last().copied() {
@@ -137,20 +144,55 @@ impl Components {
             put_mark(&mut self.least, before, lower);
         }
         if least == mark(&self.order, at) {
-            self.close(at, levels);
+            self.close(at, levels)?;
         }
+        Ok(())
     }
 
     // The open literals down to this one are a component.
-    fn close(&mut self, at: usize, levels: &mut [u32]) {
+    fn close(&mut self, at: usize, levels: &mut [u32]) -> Result<(), NoMemory> {
         self.closed = self.closed.saturating_add(1);
-        while let Some(lit) = self.open.pop() {
-            put_mark(levels, lit, self.closed);
-            if lit == at {
+        while let Some(place) = self.open.pop() {
+            put_mark(levels, place, self.closed);
+            if let Some(lit) = lit_at(place) {
+                self.parts.push(lit)?;
+            }
+            if place == at {
                 break;
             }
         }
+        self.ends.push(self.parts.len())?;
+        Ok(())
     }
+
+    /// How many components there are.
+    pub fn count(&self) -> usize {
+        self.ends.len()
+    }
+
+    /// The literals of a component, in the order in which the search left them.
+    pub fn part(&self, number: usize) -> &[Lit] {
+        let end = entry(&self.ends, number);
+        let start = if number == 0 {
+            0
+        } else {
+            entry(&self.ends, number - 1)
+        };
+        if start <= end && end <= self.parts.len() {
+            &self.parts[start..end]
+        } else {
+            &[]
+        }
+    }
+}
+
+// The literal of a place in a row.
+fn lit_at(place: usize) -> Option<Lit> {
+    let var = u32::try_from(place / 2).ok()?;
+    if var == 0 || var >= 0x8000_0000 {
+        return None;
+    }
+    Some(Lit::new(var, place % 2 == 0))
 }
 
 fn entry(row: &[usize], at: usize) -> usize {

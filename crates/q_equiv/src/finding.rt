@@ -1,20 +1,24 @@
 //! The search for a target, variable by variable.
-ghost use Rattle.std.specs.Prelude.{◌≡◌, ◌≤◌, ◌<◌, ◌^◌, true, false, None, Some, IfOk, OnOk};
-ghost use Rattle.q_logic.specs.Literals.{Literal};
+//!
+//! At an existential variable two sets are gathered: what its positive literal leads to, and what its negative one leads to.
+//! A literal of the first set whose negation is in the second leads back, so the two are equivalent; the first one that may
+//! stand for the literal is the answer. The negative literal needs no look, since it has the negated partners.
+//!
+//! What this costs: on a chain of implications each variable leads to all that come after it. So once these walks have
+//! looked at more than the formula holds, levels are made (`levels.rt`), and walks stay on their level. On a level all is
+//! joined each to the other, and of a component at most one variable finds no partner: the one that is outer to all others.
+//! So all searches of a call together cost at most a few times the formula.
+ghost use Rattle.std.specs.Prelude.{◌≡◌, ◌≤◌, ℕ, List, None, Some, IfOk, OnOk};
+ghost use Rattle.q_logic.specs.Literals.{Literal, negation};
 ghost use Rattle.q_logic.specs.Limits.{standard};
 ghost use Rattle.q_logic.specs.InLimits.{IsInLimits};
-ghost use Rattle.q_logic.specs.Prefixes.{is_existential};
 ghost use Rattle.q_logic.specs.Numbered.{live};
-ghost use Rattle.q_logic.specs.Merging.{Mergeable};
-ghost use Rattle.q_logic.specs.Targets.{place};
 ghost use Rattle.q_kernel.specs.Kernels.{slots, formula_in};
-ghost use Rattle.q_equiv.specs.declared.target.Target.{Target as TargetValue};
-ghost use Rattle.q_equiv.specs.Targets.{target_of};
 ghost use Rattle.q_equiv.specs.Walks.{NeverRise, IsGathered};
 ghost use Rattle.q_equiv.specs.Searches.{IsKept, IsFound, IsFoundAt};
 
 use crate::components::Components;
-use crate::joined::{gather, is_joined};
+use crate::joined::gather;
 use crate::levels::make_levels;
 use crate::merge::can_stand_for;
 use crate::target::Target;
@@ -28,8 +32,8 @@ use std::alloc::Global;
 pub struct Walks {
     there: Queue,
     back: Queue,
-    levels: Vec<u32>,
-    components: Components,
+    pub(crate) levels: Vec<u32>,
+    pub(crate) components: Components,
     // how many clauses were looked at without levels
     looks: usize,
 }
@@ -86,30 +90,25 @@ fn find_keep(kernel: &Kernel, walks: &mut Walks, gone: Lit) -> Result<Option<Lit
     ensures falling { OnOk result (NeverRise walks.new.levels.items (live (slots kernel.now))) }
 {
     level_off(kernel, walks)?;
-    let looks = gather(kernel, &mut walks.there, &walks.levels, gone)?;
-    walks.looks = walks.looks.saturating_add(looks);
-    pick(kernel, &walks.there, &mut walks.back, &walks.levels, gone)
+    let there = gather(kernel, &mut walks.there, &walks.levels, gone)?;
+    let back = gather(kernel, &mut walks.back, &walks.levels, gone.negated())?;
+    walks.looks = walks.looks.saturating_add(there).saturating_add(back);
+    Ok(pick(kernel, &walks.there, &walks.back, gone))
 }
 
-// Of the literals to which gone leads on its level one that leads back and may take its place.
-fn pick(
-    kernel: &Kernel,
-    known: &Queue,
-    back: &mut Queue,
-    levels: &[u32],
-    gone: Lit,
-) -> Result<Option<Lit>, NoMemory>
-    requires falling { NeverRise levels.now (live (slots kernel.now)) }
-    requires gathered { IsGathered levels.now (live (slots kernel.now)) gone known.now }
-    ensures { IfOk result (IsKept kernel.now gone) }
+// Of the literals to which gone leads one that may take its place and leads back: then the negation of gone leads to its
+// negation.
+fn pick(kernel: &Kernel, there: &Queue, back: &Queue, gone: Lit) -> Option<Lit>
+    requires { (levels : List ℕ) × NeverRise levels (live (slots kernel.now)) × IsGathered levels (live (slots kernel.now)) gone there.now × IsGathered levels (live (slots kernel.now)) (negation gone) back.now }
+    ensures { IsKept kernel.now gone result }
 {
-    for place in 0..known.len() {
-        let keep = known.at(place);
-        if can_stand_for(kernel, keep, gone) && is_joined(kernel, back, levels, keep, gone)? {
-            return Ok(Some(keep));
+    for place in 0..there.len() {
+        let keep = there.at(place);
+        if back.has(keep.negated()) && can_stand_for(kernel, keep, gone) {
+            return Some(keep);
         }
     }
-    Ok(None)
+    None
 }
 
 // Makes levels once walks without them have looked at more than the formula holds.
@@ -118,6 +117,7 @@ fn level_off(kernel: &Kernel, walks: &mut Walks) -> Result<(), NoMemory>
     ensures { OnOk result (NeverRise walks.new.levels.items (live (slots kernel.now))) }
 {
     if walks.levels.is_empty() && walks.looks > kernel.size() {
+        walks.looks = 0;
         make_levels(kernel, &mut walks.components, &mut walks.levels)?;
     }
     Ok(())

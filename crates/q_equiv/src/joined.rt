@@ -1,4 +1,13 @@
-//! Whether clauses of two literals lead from one literal to another.
+//! Walks along the clauses of two literals.
+//!
+//! A clause of two literals, not x and y, leads from x to y. So the clauses that lead on from x are those of two literals in
+//! the occurrence list of its negation. A walk keeps the literals that it has met as marks and a list, and works the list
+//! off. It may stay on the level of its first literal (`levels.rt`): literals that lead to each other have one level, so it
+//! misses none of those.
+//!
+//! What is joined: `Joined` and `Binary` in `q_logic/specs/Merging.antt`; that a list which is closed under such clauses has
+//! all that is joined: `joined-in` in `q_logic/proofs/Searching.antt`. A walk costs the occurrence lists of the negations
+//! of the literals that it meets.
 ghost use Rattle.std.specs.Prelude.{◌≡◌, ◌↔◌, ◌∷◌, [], Some, OnOk, IfOk, IsTrue};
 ghost use Rattle.q_logic.specs.Literals.{Literal, IsBelow, negation};
 ghost use Rattle.q_logic.specs.Formulas.{Clause, IsIn};
@@ -6,24 +15,16 @@ ghost use Rattle.q_logic.specs.Parts.{ArePairs};
 ghost use Rattle.q_logic.specs.Numbered.{slot, live};
 ghost use Rattle.q_logic.specs.Merging.{Binary, Joined};
 ghost use Rattle.q_kernel.specs.Kernels.{slots, HoldsLiteral};
-ghost use Rattle.q_equiv.specs.Walks.{level_of, NeverRise, IsSpread, IsGathered};
+ghost use Rattle.q_equiv.specs.Walks.{level_of, IsSpread, IsGathered};
 
 use q_arena::ClauseId;
 use q_kernel::Kernel;
 use q_logic::{Lit, NoMemory};
 use q_rule::{Queue, clause_of};
 
-/// Whether clauses of two literals lead from a literal to another one of its level. The walk stays on that level, expands
-/// each literal once, and stops where it meets the other one.
-pub fn is_joined(
-    kernel: &Kernel,
-    queue: &mut Queue,
-    levels: &[u32],
-    from: Lit,
-    to: Lit,
-) -> Result<bool, NoMemory>
-    requires falling { NeverRise levels.now (live (slots kernel.now)) }
-    requires same { level_of levels.now to ≡ level_of levels.now from }
+/// Whether clauses of two literals lead from a literal to another one. The walk expands each literal once, and stops where
+/// it meets the other one.
+pub fn is_joined(kernel: &Kernel, queue: &mut Queue, from: Lit, to: Lit) -> Result<bool, NoMemory>
     ensures { IfOk result (λ yes. IsTrue yes ↔ Joined (live (slots kernel.now)) to from) }
 {
     queue.clear();
@@ -35,7 +36,7 @@ pub fn is_joined(
         if head >= queue.len() {
             return Ok(false);
         }
-        spread(kernel, queue, levels, queue.at(head))?;
+        spread(kernel, queue, &[], queue.at(head))?;
     }
     // a queue that long has no place in memory
     Err(NoMemory)
@@ -66,12 +67,7 @@ pub fn gather(
 }
 
 // Puts all literals of its level into the queue to which a clause of two literals leads from the literal.
-fn spread(
-    kernel: &Kernel,
-    queue: &mut Queue,
-    levels: &[u32],
-    lit: Lit,
-) -> Result<(), NoMemory>
+fn spread(kernel: &Kernel, queue: &mut Queue, levels: &[u32], lit: Lit) -> Result<(), NoMemory>
     ensures { OnOk result (IsSpread levels.now (live (slots kernel.now)) lit queue.old queue.new) }
 {
     kernel.sound();

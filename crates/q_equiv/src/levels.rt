@@ -28,8 +28,8 @@ pub fn make_levels(
     Ok(())
 }
 
-// Notes all clauses of two literals.
-fn note_all(kernel: &Kernel, components: &mut Components) -> Result<(), NoMemory> {
+/// Notes all clauses of two literals.
+pub fn note_all(kernel: &Kernel, components: &mut Components) -> Result<(), NoMemory> {
     components.begin((kernel.greatest_var() as usize + 1) * 2)?;
     let mut from = 0;
     while let Some(id) = kernel.next_live(from) {

@@ -1,4 +1,4 @@
-//! Equivalent literals: one takes the place of the other.
+//! Equivalent literals: one takes the place of the other (`merge.rt`).
 #![tactic(auto)]
 
 mod bridge;
@@ -8,11 +8,13 @@ mod finding;
 mod joined;
 mod levels;
 mod merge;
+mod proposing;
 mod renaming;
 mod room;
 mod search;
 mod target;
 
 pub use equiv::{applies, find, find_with, try_one, try_with};
+pub use proposing::candidates;
 pub use search::Search;
 pub use target::Target;

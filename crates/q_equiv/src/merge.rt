@@ -1,4 +1,23 @@
-//! Equivalent literals.
+//! Equivalent literals: keep takes the place of gone.
+//!
+//! The idea: where clauses of two literals lead from keep to gone and from gone back to keep, the two are equal in each
+//! assignment that satisfies the formula. If gone is existential and keep is not inner to it, keep, or its negation, can
+//! take the place of gone, or of its negation, in all clauses. What becomes a tautology goes.
+//!
+//! Source: Brafman, on formulas with many clauses of two literals (IJCAI 2001); for quantified formulas Samulowitz and
+//! Bacchus (SAT 2006). The exact condition is this project's own.
+//!
+//! Condition and change: `Mergeable` and `merged` in `q_logic/specs/Merging.antt`. Law: `merge-run` in
+//! `q_logic/proofs/MergeRun.antt`; that the measure falls: `q_logic/proofs/Falling.antt`. The formula never grows, so the
+//! limits hold after it (`merge-applies` in `proofs/Bridging.antt`).
+//!
+//! Steps: the two clauses that join keep and gone come, both implied by the ways; each other clause with the variable is
+//! replaced by the renamed one, implied over the two; then the two go, the one that holds gone by that pivot, since it
+//! clashes with the other one on keep, and the other one by the pivot not gone, which then is pure.
+//!
+//! Found: `finding.rt`. Cost: the test is two walks, which stop where they meet their aim; the change is the literals of the
+//! clauses with the variable. What it touches: the renamed clauses, and so their literals of keep's variable. It may make
+//! applicable: unit clauses (where both literals stood in a clause of two), pure literals, subsumption.
 ghost use Rattle.std.specs.Prelude.{◌≡◌, ◌↔◌, ◌≤◌, ◌+◌, length, IfOk, IsTrue, vec_capacity};
 ghost use Rattle.q_logic.specs.Limits.{standard};
 ghost use Rattle.q_logic.specs.InLimits.{IsInLimits};
@@ -26,10 +45,10 @@ pub fn is_mergeable(
 ) -> Result<bool, NoMemory>
     ensures { IfOk result (λ yes. IsTrue yes ↔ Mergeable kernel.now.prefix (live (slots kernel.now)) keep gone) }
 {
-    if !can_stand_for(kernel, keep, gone) || !is_joined(kernel, queue, &[], keep, gone)? {
+    if !can_stand_for(kernel, keep, gone) || !is_joined(kernel, queue, keep, gone)? {
         return Ok(false);
     }
-    let back = is_joined(kernel, queue, &[], gone, keep)?;
+    let back = is_joined(kernel, queue, gone, keep)?;
     Ok(back)
 }
 

@@ -1,4 +1,5 @@
-//! What taking an equivalent literal away may need.
+//! What it takes to put another literal in the place of one. Words and ids are those of the clauses with the variable, by a
+//! walk along their two lists; log bytes are bounded by the formula's size, since the kernel keeps that room.
 ghost use Rattle.std.specs.Prelude.{◌≡◌, ◌≤◌, ◌+◌, length, OnOk, IfOk, vec_capacity};
 ghost use Rattle.q_logic.specs.Literals.{negation};
 ghost use Rattle.q_logic.specs.Limits.{standard};

@@ -1,5 +1,6 @@
 //! What searches lend each other.
 use crate::finding::Walks;
+use crate::proposing::Halves;
 use q_logic::Lit;
 use q_rule::Queue;
 use std::alloc::Global;
@@ -10,6 +11,7 @@ pub struct Search {
     pub(crate) queue: Queue,
     pub(crate) clause: Vec<Lit>,
     pub(crate) walks: Walks,
+    pub(crate) halves: Halves,
 }
 
 impl Search {
@@ -19,6 +21,7 @@ impl Search {
             queue: Queue::new(alloc),
             clause: Vec::new(alloc),
             walks: Walks::new(alloc),
+            halves: Halves::new(alloc),
         }
     }
 }

@@ -10,6 +10,7 @@ pub mod UniversalPivot
 pub mod Reduction
 pub mod Prefixes
 pub mod Runs
+pub mod Outers
 pub mod Soundness
 pub mod Blocks
 pub mod Places

@@ -6,7 +6,7 @@ use Rattle.q_logic.specs.Prefixes.{is_existential, universal_before, outer_or_sa
 use Rattle.q_logic.specs.Truth.{Assignment, LiteralTrue, ClauseTrue, MatrixTrue, signed}
 use Rattle.q_logic.specs.Circuits.{Circuit, value_of, Reads}
 use Rattle.q_logic.specs.Skolems.{Strategy, circuit_of, or_input, given, outcome, Skolem, Lawful}
-use Rattle.q_logic.specs.Pivots.{keeps, outer, ExistsPivot, OutersOf}
+use Rattle.q_logic.specs.Pivots.{keeps, outer, ExistsPivot}
 use Rattle.q_logic.specs.Undos.{raised, all_of, pivoted}
 use Rattle.q_logic.proofs.Clauses.{literal_eq-sound, IsIn-append, IsIn-outer, all_of-true, all_of-false, Reads-all_of, circuit_of-none}
 use Rattle.q_logic.proofs.Order.{outer_or_same-is_bound, outer_universal-before, outer_existential-before}
@@ -16,7 +16,12 @@ use Rattle.q_logic.proofs.Propagation.{implied-true}
 abbrev pub Near : Prefix → ℕ → List Clause → Type 0
 Near P v Os = (O : Clause) → IsIn O Os → (k : Literal) → IsIn k O → outer_or_same P k.var v ≡ true
 
-pub outers-near : (P : Prefix) (X : Matrix) (m : Literal) (Os : List Clause) → OutersOf P X m Os →
+-- The list has the outer clauses of the clauses that hold m, and no other ones.
+pub record AreOuters (P : Prefix) (X : Matrix) (m : Literal) (Os : List Clause) : Type 0 where
+  pub all_there : (D : Clause) → IsIn D X → IsIn m D → IsIn (outer P m D) Os
+  pub no_other : (O : Clause) → IsIn O Os → (D : Clause) × IsIn D X × IsIn m D × (O ≡ outer P m D)
+
+pub outers-near : (P : Prefix) (X : Matrix) (m : Literal) (Os : List Clause) → AreOuters P X m Os →
     Near P m.var Os
 outers-near P X m Os os O inOs k inO =
     let d : (D : Clause) × IsIn D X × IsIn m D × (O ≡ outer P m D) = os.no_other O inOs in
@@ -104,7 +109,7 @@ pivot-lawful P l Os c he near sk = record { trees = trees; reads = reading }
         go false o h = h
 
 pub pivot-keeps : (P : Prefix) (X : Matrix) (C : Clause) (l : Literal) (Os : List Clause) (c : Strategy) →
-    ExistsPivot P X C l → OutersOf P X (negation l) Os → Skolem P X c → Skolem P (C ∷ X) (pivoted l Os c)
+    ExistsPivot P X C l → AreOuters P X (negation l) Os → Skolem P X c → Skolem P (C ∷ X) (pivoted l Os c)
 pivot-keeps P X C l Os c pv os sk =
     record {
       lawful = pivot-lawful P l Os c pv.existential_pivot

@@ -12,7 +12,8 @@ use Rattle.q_logic.proofs.Clauses.{literal_eq-sound, circuit_of-none}
 use Rattle.q_logic.proofs.Order.{universal-not_existential}
 use Rattle.q_logic.proofs.Propagation.{Holds-negation}
 use Rattle.q_logic.proofs.Trees.{value_of-replaced, Reads-replaced, value_of-agree}
-use Rattle.q_logic.proofs.UniversalPivot.{has, has-IsIn, IsIn-has, IsIn-without, outer_kept}
+use Rattle.q_logic.specs.Sets.{has}
+use Rattle.q_logic.proofs.UniversalPivot.{has-IsIn, IsIn-has, IsIn-without, outer_kept}
 
 by_variable-reached : (P : Prefix) (X : Matrix) (C : Clause) (l : Literal) (D : Clause) →
     Reached P X C l D → ReachedByVariable P X C l.var D

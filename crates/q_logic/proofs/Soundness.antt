@@ -8,15 +8,16 @@ use Rattle.q_logic.specs.Truth.{Holds}
 use Rattle.q_logic.specs.Circuits.{constant}
 use Rattle.q_logic.specs.Skolems.{Strategy, outcome, Skolem, Lawful, SkolemOf}
 use Rattle.q_logic.specs.Propagation.{Implied}
-use Rattle.q_logic.specs.Pivots.{ExistsPivot, OutersOf, without}
+use Rattle.q_logic.specs.Pivots.{ExistsPivot, without}
 use Rattle.q_logic.specs.Steps.{one_less, insert_after, ProofStep, add, delete, drop_literal, fresh, remove_variable, FirstPivot, after}
 use Rattle.q_logic.specs.Runs.{SameFormula}
-use Rattle.q_logic.specs.Undos.{all_of, pivoted, UndoEntry, removed, freshened, with_circuit, taken_back, Back, Entries, Undos}
+use Rattle.q_logic.specs.Undos.{all_of, every_outer, pivoted, UndoEntry, removed, freshened, with_circuit, taken_back, Back, Entries, Undos}
 use Rattle.q_logic.proofs.Deciding.{true_decided}
 use Rattle.q_logic.proofs.Blocks.{skolem-same, lawful-same, Same-sym}
 use Rattle.q_logic.proofs.Propagation.{implied-true}
-use Rattle.q_logic.proofs.Pivot.{pivot-keeps, pivot-lawful, outers-near}
-use Rattle.q_logic.proofs.UniversalPivot.{without-IsIn, forall_pivot-keeps, reread, lowered, every_outer, every_outers}
+use Rattle.q_logic.proofs.Pivot.{AreOuters, pivot-keeps, pivot-lawful, outers-near}
+use Rattle.q_logic.proofs.Outers.{outers-members}
+use Rattle.q_logic.proofs.UniversalPivot.{without-IsIn, forall_pivot-keeps, reread, lowered, every_outers}
 use Rattle.q_logic.proofs.Reduction.{reduction-keeps, some_reached, reduced}
 use Rattle.q_logic.proofs.Truth.{true_has-skolem, skolem_makes-true}
 use Rattle.q_logic.proofs.Prefixes.{insert-distinct, insert-is_bound, insert-itself, removed-is_bound, removed-distinct}
@@ -60,7 +61,7 @@ after-formula F (remove_variable v) f h =
 
 -- Skolem functions of what is left give those of what was there.
 pivot_back : (P : Prefix) (X : Matrix) (C : Clause) (l : Literal) (Os : List Clause) (c : Strategy) →
-    ExistsPivot P (one_less C X) C l → OutersOf P (one_less C X) (negation l) Os →
+    ExistsPivot P (one_less C X) C l → AreOuters P (one_less C X) (negation l) Os →
     Skolem P (one_less C X) c → Skolem P X (pivoted l Os c)
 pivot_back P X C l Os c pv os sk =
     Skolem-fewer P (C ∷ one_less C X) X (pivoted l Os c) (IsIn-one_less C X)
@@ -90,7 +91,7 @@ step-back F (delete p C) us c f v (inr (n, (l, Os, is, os, e))) sk =
     go (inl i) = absurd (n i)
     go (inr (m, is1, pv)) =
         pivot_back F.prefix F.matrix C l Os c (subst (ExistsPivot F.prefix (one_less C F.matrix) C)
-        (same_first p m l is1 is) pv) os sk
+        (same_first p m l is1 is) pv) (outers-members F.prefix (one_less C F.matrix) (negation l) Os os) sk
 step-back F (drop_literal l C) us c f v e sk =
     subst (λ us. SkolemOf F (Back us c)) (sym e) (Skolem-fewer F.prefix (C ∷ one_less C F.matrix) F.matrix c
     (IsIn-one_less C F.matrix) (Skolem-longer F.prefix (one_less C F.matrix) l C c sk))
@@ -217,7 +218,8 @@ step-lawful F (delete p C) us c f v (inr (n, (l, Os, is, os, e))) sk =
     go (inr (m, is1, pv)) =
         pivot-lawful F.prefix l Os c (subst (λ k. is_existential F.prefix k.var ≡ true)
         (same_first p m l is1 is) pv.existential_pivot)
-        (outers-near F.prefix (one_less C F.matrix) (negation l) Os os) sk
+        (outers-near F.prefix (one_less C F.matrix) (negation l) Os
+        (outers-members F.prefix (one_less C F.matrix) (negation l) Os os)) sk
 step-lawful F (drop_literal l C) us c f v e sk = subst (λ us. Lawful F.prefix (Back us c)) (sym e) sk
 step-lawful F (fresh v w) us c f h e sk =
     subst (λ us. Lawful F.prefix (Back us c)) (sym e) (fresh-lawful F.prefix v w c h.0 sk)

@@ -6,18 +6,14 @@ use Rattle.q_logic.specs.Prefixes.{is_existential, is_universal, universal_befor
 use Rattle.q_logic.specs.Truth.{Assignment, LiteralTrue, ClauseTrue, MatrixTrue, signed, with_value}
 use Rattle.q_logic.specs.Circuits.{Circuit, input, inverter, conjunction, disjunction, value_of, Reads, replaced}
 use Rattle.q_logic.specs.Skolems.{Strategy, circuit_of, or_input, given, outcome, Skolem, Lawful}
-use Rattle.q_logic.specs.Pivots.{keeps, outer, ForallPivot, OutersOf, without}
-use Rattle.q_logic.specs.Undos.{all_of}
+use Rattle.q_logic.specs.Pivots.{keeps, outer, ForallPivot, without}
+use Rattle.q_logic.specs.Sets.{has}
+use Rattle.q_logic.specs.Undos.{all_of, every_outer}
 use Rattle.q_logic.proofs.Clauses.{literal_eq-sound, literal_eq-itself, IsIn-append, IsIn-outer, all_of-true, all_of-false, Reads-all_of, circuit_of-none}
 use Rattle.q_logic.proofs.Order.{outer_or_same-is_bound, outer_existential-free, before_outer_existential-before, outer_universal-before_inner, universal-not_existential}
-use Rattle.q_logic.proofs.Pivot.{Near, outers-near}
+use Rattle.q_logic.proofs.Pivot.{Near, AreOuters, outers-near}
 use Rattle.q_logic.proofs.Propagation.{implied-true}
 use Rattle.q_logic.proofs.Trees.{value_of-replaced, Reads-replaced, value_of-agree}
-
--- Whether a clause has a literal.
-abbrev pub has : Literal → Clause → Bool
-has l [] = false
-has l (k ∷ D) = literal_eq k l || has l D
 
 pub has-IsIn : (l : Literal) (D : Clause) → has l D ≡ true → IsIn l D
 has-IsIn l [] h = grind arith
@@ -58,12 +54,8 @@ without-IsIn l (j ∷ C) k m = go (literal_eq j l) m (without-IsIn l C k)
     go false (inl s) ih = inl s
     go false (inr m) ih = inr (ih m)
 
--- The outer clauses of all clauses that hold m.
-abbrev pub every_outer : Prefix → Literal → Matrix → List Clause
-every_outer P m [] = []
-every_outer P m (D ∷ X) = cond (has m D) (outer P m D ∷ every_outer P m X) (every_outer P m X)
-
-every_outer-there : (P : Prefix) (m : Literal) (X : Matrix) (D : Clause) → IsIn D X → IsIn m D →
+-- The outer clauses of the clauses that hold m are all there.
+pub every_outer-there : (P : Prefix) (m : Literal) (X : Matrix) (D : Clause) → IsIn D X → IsIn m D →
     IsIn (outer P m D) (every_outer P m X)
 every_outer-there P m [] D inX inD = inX
 every_outer-there P m (E ∷ X) D inX inD = go (has m E) refl inX (λ r. every_outer-there P m X D r inD)
@@ -77,7 +69,7 @@ every_outer-there P m (E ∷ X) D inX inD = go (has m E) refl inX (λ r. every_o
         let a : has m E ≡ true = subst (λ z. has m z ≡ true) s (IsIn-has m D inD) in absurd (grind arith)
     go false e (inr r) ih = ih r
 
-every_outer-from : (P : Prefix) (m : Literal) (X : Matrix) (O : Clause) → IsIn O (every_outer P m X) →
+pub every_outer-from : (P : Prefix) (m : Literal) (X : Matrix) (O : Clause) → IsIn O (every_outer P m X) →
     (D : Clause) × IsIn D X × IsIn m D × (O ≡ outer P m D)
 every_outer-from P m [] O h = elim h [ ]
 every_outer-from P m (E ∷ X) O h = go (has m E) refl h (every_outer-from P m X O)
@@ -91,7 +83,7 @@ every_outer-from P m (E ∷ X) O h = go (has m E) refl h (every_outer-from P m X
     go false e r ih =
         let d : (D : Clause) × IsIn D X × IsIn m D × (O ≡ outer P m D) = ih r in (d.0, inr d.1, d.2, d.3)
 
-pub every_outers : (P : Prefix) (X : Matrix) (m : Literal) → OutersOf P X m (every_outer P m X)
+pub every_outers : (P : Prefix) (X : Matrix) (m : Literal) → AreOuters P X m (every_outer P m X)
 every_outers P X m = record { all_there = every_outer-there P m X; no_other = every_outer-from P m X }
 
 -- Each tree reads the universal u by the tree s.

@@ -23,12 +23,6 @@ pub record ExistsPivot (P : Prefix) (X : Matrix) (C : Clause) (l : Literal) : Ty
   pub implied : (D : Clause) → IsIn D X → IsIn (negation l) D →
       Implied X (C ++ outer P (negation l) D)
 
--- the outer clauses of the clauses that hold m
-pub record OutersOf (P : Prefix) (X : Matrix) (m : Literal) (outers : List Clause) : Type 0 where
-  pub all_there : (D : Clause) → IsIn D X → IsIn m D → IsIn (outer P m D) outers
-  pub no_other : (O : Clause) → IsIn O outers → (D : Clause) × IsIn D X × IsIn m D ×
-      (O ≡ outer P m D)
-
 -- the clause with no copy of the literal l
 abbrev pub without : Literal → Clause → Clause
 without l [] = []

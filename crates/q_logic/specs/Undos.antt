@@ -2,12 +2,14 @@
 -- Extraction for QBF Preprocessing", Journal of Automated Reasoning 58, 2017.)
 use Rattle.std.specs.Prelude.{◌≡◌, ℕ, Bool, true, false, cond, eqb, List, [], ◌∷◌, ◌++◌, ◌⊎◌, Option, Some, None}
 use Rattle.q_logic.specs.Literals.{Literal, negation}
-use Rattle.q_logic.specs.Formulas.{Clause, PrenexFormula}
+use Rattle.q_logic.specs.Formulas.{Clause, Matrix, Prefix, PrenexFormula}
 use Rattle.q_logic.specs.Prefixes.{is_existential}
 use Rattle.q_logic.specs.Circuits.{Circuit, disjunction, constant, inverter, conjunction}
 use Rattle.q_logic.specs.Skolems.{Strategy, circuit_of}
 use Rattle.q_logic.specs.Propagation.{Implied}
-use Rattle.q_logic.specs.Pivots.{OutersOf}
+use Rattle.q_logic.specs.Pivots.{outer}
+use Rattle.q_logic.specs.Sets.{has}
+use Rattle.q_logic.specs.Runs.{copies}
 use Rattle.q_logic.specs.Steps.{ProofStep, add, delete, drop_literal, fresh, remove_variable, one_less, after}
 
 -- the circuit of a literal
@@ -54,6 +56,15 @@ taken_back (freshened v) c = with_circuit v None c
 abbrev pub Back : List UndoEntry → Strategy → Strategy
 Back [] c = c
 Back (u ∷ us) c = taken_back u (Back us c)
+
+-- the outer clauses on m of the clauses that hold it, one for each of these
+abbrev pub every_outer : Prefix → Literal → Matrix → List Clause
+every_outer P m [] = []
+every_outer P m (D ∷ X) = cond (has m D) (outer P m D ∷ every_outer P m X) (every_outer P m X)
+
+-- the same ones in any order, each as often
+abbrev pub OutersOf : Prefix → Matrix → Literal → List Clause → Type 0
+OutersOf P X m outers = (O : Clause) → copies O outers ≡ copies O (every_outer P m X)
 
 -- the entry of a deletion by its first literal
 abbrev pub PivotEntry : PrenexFormula → Option Literal → Clause → List UndoEntry → Type 0

@@ -10,10 +10,11 @@ pub enum Rule {
     Subsume,
     Merge,
     Block,
+    Eliminate,
 }
 
 /// So many rules there are.
-pub const RULES: u32 = 4;
+pub const RULES: u32 = 5;
 
 impl Rule {
     /// The rule at a place of the order.
@@ -25,7 +26,8 @@ impl Rule {
             0 => Rule::Reduce,
             1 => Rule::Subsume,
             2 => Rule::Merge,
-            _ => Rule::Block,
+            3 => Rule::Block,
+            _ => Rule::Eliminate,
         }
     }
 
@@ -38,6 +40,7 @@ impl Rule {
             Rule::Subsume => 1,
             Rule::Merge => 2,
             Rule::Block => 3,
+            Rule::Eliminate => 4,
         }
     }
 }
@@ -49,6 +52,7 @@ pub enum Move {
     Subsume(q_subsume::Target),
     Merge(q_equiv::Target),
     Block(q_blocked::Target),
+    Eliminate(q_eliminate::Target),
 }
 
 impl Move {
@@ -67,6 +71,7 @@ impl Move {
             Move::Block(q_blocked::Target::Blocked { .. }) => Rule::Block,
             Move::Block(q_blocked::Target::BlockedForall { .. }) => Rule::Block,
             Move::Block(q_blocked::Target::Cover { .. }) => Rule::Block,
+            Move::Eliminate(q_eliminate::Target::Eliminate { .. }) => Rule::Eliminate,
         }
     }
 
@@ -85,6 +90,7 @@ impl Move {
             Move::Block(q_blocked::Target::Blocked { c, .. }) => *c,
             Move::Block(q_blocked::Target::BlockedForall { c, .. }) => *c,
             Move::Block(q_blocked::Target::Cover { c }) => *c,
+            Move::Eliminate(q_eliminate::Target::Eliminate { x }) => *x,
         }
     }
 }

@@ -23,6 +23,7 @@ pub struct Searches {
     subsume: q_subsume::Search,
     equiv: q_equiv::Search,
     blocked: q_blocked::Search,
+    eliminate: q_eliminate::Search,
 }
 
 impl Model for Searches {
@@ -43,6 +44,7 @@ impl Searches {
             subsume: q_subsume::Search::new(alloc),
             equiv: q_equiv::Search::new(alloc),
             blocked: q_blocked::Search::new(alloc),
+            eliminate: q_eliminate::Search::new(alloc),
         }
     }
 
@@ -64,6 +66,7 @@ impl Searches {
             Move::Subsume(t) => q_subsume::applies(kernel, &mut self.subsume, t, bounds),
             Move::Merge(t) => q_equiv::applies(kernel, &mut self.equiv, t, bounds),
             Move::Block(t) => q_blocked::applies(kernel, &mut self.blocked, t, bounds),
+            Move::Eliminate(t) => q_eliminate::applies(kernel, &mut self.eliminate, t, bounds),
         }
     }
 
@@ -97,6 +100,10 @@ impl Searches {
                 self.plain.forget();
                 q_blocked::try_with(kernel, &mut self.blocked, t, bounds)
             }
+            Move::Eliminate(t) => {
+                self.plain.forget();
+                q_eliminate::try_with(kernel, &mut self.eliminate, t, bounds)
+            }
         }
     }
 
@@ -120,6 +127,7 @@ impl Searches {
             Rule::Subsume => self.find_subsume(kernel, bounds, from),
             Rule::Merge => self.find_equiv(kernel, bounds, from),
             Rule::Block => self.find_blocked(kernel, bounds, from),
+            Rule::Eliminate => self.find_eliminate(kernel, bounds, from),
         }
     }
 
@@ -215,5 +223,24 @@ impl Searches {
             return Ok(None);
         };
         Ok(Some(Move::Block(target)))
+    }
+
+    fn find_eliminate(
+        &mut self,
+        kernel: &Kernel,
+        bounds: &Bounds,
+        from: u32,
+    ) -> Result<Option<Move>, NoMemory>
+        requires ready { IsReady kernel.now }
+        requires bounds { AreModest bounds.now }
+        requires fit { IsFitFor kernel.now self.old }
+        ensures some { IfOk result (λ o. (m : MoveValue) → o ≡ Some m → HasRule (target_of m) × Applies bounds.now kernel.now (target_of m)) }
+        ensures none { IfOk result (λ o. o ≡ None → (t : TheoryTarget) → rank_of t ≡ 4 → from ≤ place t → Applies bounds.now kernel.now t → ⊥) }
+        ensures fit { IsFitFor kernel.now self.new }
+    {
+        let Some(target) = q_eliminate::find_with(kernel, &mut self.eliminate, bounds, from)? else {
+            return Ok(None);
+        };
+        Ok(Some(Move::Eliminate(target)))
     }
 }

@@ -116,6 +116,7 @@ impl Agenda {
             }
             Move::Block(q_blocked::Target::Cover { c }) => self.note_clause(kernel, *c),
             Move::Merge(_) => Ok(()),
+            Move::Eliminate(_) => Ok(()),
         }
     }
 

@@ -6,6 +6,7 @@ use Rattle.q_logic.specs.Formulas.{IsIn}
 use Rattle.q_logic.specs.Steps.{IsAbsent}
 use Rattle.q_prop.specs.Slots.{Slots, filled}
 use Rattle.q_prop.specs.Holders.{IsHolder}
+use Rattle.q_prop.specs.Lists.{IsDistinct}
 use Rattle.q_logic.proofs.Membership.{IsIn-Contains, Contains-IsIn}
 use Rattle.q_check.specs.Warrants.{AreHolders}
 use Rattle.q_check.proofs.Slots.{held-in, in-held}
@@ -51,16 +52,17 @@ nonempty n e = grind (arith, nat_tests)
 empty : (n : ℕ) → (n == 0) ≡ true → n ≡ 0
 empty n e = grind (arith, nat_tests)
 
-listed : (s : Slots) (m : Literal) (slots : List ℕ) → ((n : ℕ) → (Contains slots n → IsHolder s n m) × (IsHolder s n m → Contains slots n)) → AreHolders s m slots
-listed s m slots h = record {
+listed : (s : Slots) (m : Literal) (slots : List ℕ) → ((n : ℕ) → (Contains slots n → IsHolder s n m) × (IsHolder s n m → Contains slots n)) → IsDistinct slots → AreHolders s m slots
+listed s m slots h o = record {
   all_there = λ n D e i. (h n).1 (D, e, IsIn-Contains m D i);
   no_other = λ n i. let r = (h n).0 i in (r.0, r.1, Contains-IsIn m r.0 r.2);
+  once = o;
 }
 
 pub returns-then-not-is_empty : goal.returns-then-not-is_empty
 returns-then-not-is_empty c =
     let n = nonempty (length c.holders.result.now) (sym c.is_empty.ensures ∙ c.if-not-is_empty.true) in
-    let h = subst (λ (m : Literal). AreHolders c.args.store.now m c.holders.result.now) c.new.ensures (listed c.args.store.now c.new.result c.holders.result.now c.holders.ensures.members) in (
+    let h = subst (λ (m : Literal). AreHolders c.args.store.now m c.holders.result.now) c.new.ensures (listed c.args.store.now c.new.result c.holders.result.now c.holders.ensures.members c.holders.ensures.once) in (
       (λ t. absurd (true≢false (sym t))),
       (λ a. absurd (some-there c.args.store.now c.args.var true c.holders.result.now h n a)),
     )
@@ -68,8 +70,8 @@ returns-then-not-is_empty c =
 pub returns : goal.returns
 returns c =
     let e = empty (length c.holders.result.now) (sym c.is_empty.ensures ∙ c.if-not-is_empty.false) in
-    let h = subst (λ (m : Literal). AreHolders c.args.store.now m c.holders.result.now) c.new.ensures (listed c.args.store.now c.new.result c.holders.result.now c.holders.ensures.members) in
-    let g = subst (λ (m : Literal). AreHolders c.args.store.now m c.holders-2.result.now) c.new-2.ensures (listed c.args.store.now c.new-2.result c.holders-2.result.now c.holders-2.ensures.members) in
+    let h = subst (λ (m : Literal). AreHolders c.args.store.now m c.holders.result.now) c.new.ensures (listed c.args.store.now c.new.result c.holders.result.now c.holders.ensures.members c.holders.ensures.once) in
+    let g = subst (λ (m : Literal). AreHolders c.args.store.now m c.holders-2.result.now) c.new-2.ensures (listed c.args.store.now c.new-2.result c.holders-2.result.now c.holders-2.ensures.members c.holders-2.ensures.once) in
     go c.is_empty-2.result refl e h g
   where
     go : (b : Bool) → c.is_empty-2.result ≡ b → length c.holders.result.now ≡ 0 → AreHolders c.args.store.now (signed c.args.var true) c.holders.result.now → AreHolders c.args.store.now (signed c.args.var false) c.holders-2.result.now → (b ≡ true → IsAbsent (filled c.args.store.now) c.args.var) × (IsAbsent (filled c.args.store.now) c.args.var → b ≡ true)

@@ -46,5 +46,6 @@ loop-at-preserved c =
 
 pub returns : goal.returns
 returns c =
-    let v = rw (take-past c.args.slots.now c.loop-at.at-index c.loop-at-test.false) at c.loop-at.invariant.1 in
+    let e = take-past c.args.slots.now c.loop-at.at-index c.loop-at-test.false in
+    let v = rw e at c.loop-at.invariant.1 in
     collected-outers c.args.scope.now c.args.store.now c.args.skip c.args.m c.args.slots.now (clauses_between c.loop-at.lits.items 0 c.loop-at.ends.items) c.requires.holders v

@@ -1,4 +1,4 @@
-use Rattle.std.proofs.Common.{◌≡◌, ◌≢◌, ◌⊎◌, ◌++◌, ◌∷◌, [], ℕ, List, Option, Some, get_or, sym, ◌∙◌, ap, subst, inl, inr, arith}
+use Rattle.std.proofs.Common.{◌≡◌, ◌++◌, ◌∷◌, [], ℕ, List, Option, Some, get_or, sym, ◌∙◌, ap, subst, inl, inr}
 use Rattle.q_arena.specs.Rings.{Has}
 use Rattle.q_occ.specs.Places.{places_of}
 use Rattle.q_kernel.specs.Kernels.{HoldsLiteral}

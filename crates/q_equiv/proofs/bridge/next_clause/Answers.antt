@@ -1,7 +1,6 @@
-use Rattle.std.proofs.Common.{◌≡◌, ◌⊎◌, ℕ, Bool, true, false, Option, None, Some, sym, ◌∙◌, inl, inr, refl}
+use Rattle.std.proofs.Common.{◌≡◌, ℕ, true, false, Option, None, Some, inl, inr, refl}
 use Rattle.std.specs.Option.{is_some}
-use Rattle.q_logic.specs.Formulas.{Clause, IsIn}
-use Rattle.q_logic.specs.Literals.{Literal, negation}
+use Rattle.q_logic.specs.Literals.{negation}
 use Rattle.q_kernel.specs.Kernels.{HoldsLiteral}
 use Rattle.q_equiv.proofs.Totals.{variable-literal, literal-variable}
 use Rattle.q_equiv.proofs.bridge.next_clause.Goals as goal

@@ -1,4 +1,4 @@
-use Rattle.std.proofs.Common.{◌≡◌, true, sym, ◌∙◌, refl}
+use Rattle.std.proofs.Common.{◌≡◌, true, sym, ◌∙◌}
 use Rattle.q_logic.specs.Prefixes.{is_bound}
 use Rattle.q_logic.proofs.Order.{existential-is_bound}
 use Rattle.q_kernel.specs.Kernels.{formula_in}

@@ -1,43 +1,62 @@
-use Rattle.std.proofs.Common.{◌≡◌, ◌≤◌, ◌<◌, Some, length, refl, sym, subst, arith}
-use Rattle.q_logic.specs.Literals.{Literal}
+use Rattle.std.proofs.Common.{◌≡◌, ◌<◌, ◌+◌, ◌⊎◌, ℕ, Some, slice_get, sym, ◌∙◌, ap, subst, inl, inr, arith}
+use Rattle.q_logic.specs.Literals.{Literal, negation}
+use Rattle.q_logic.specs.Formulas.{IsIn}
 use Rattle.q_logic.specs.Numbered.{live}
 use Rattle.q_logic.specs.Merging.{Mergeable}
 use Rattle.q_kernel.specs.Kernels.{slots}
-use Rattle.q_equiv.specs.Walks.{level_of}
-use Rattle.q_equiv.proofs.Walks.{place-member, member-place, joined-level}
+use Rattle.q_rule.proofs.Members.{test-false}
+use Rattle.q_equiv.proofs.Walks.{place-member, member-place}
+use Rattle.q_equiv.proofs.Turned.{back-way, both-gathered}
 use Rattle.q_equiv.proofs.finding.pick.Goals as goal
+use Rattle.q_equiv.proofs.finding.pick.Goals.{else-has-via-then-has+else-can_stand_for, else-has-via-else-has}
 
 one : (k l : Literal) → Some k ≡ Some l → k ≡ l
 one k l e = cc
 
-pub is_joined-requires-clause-same : goal.is_joined-requires-clause-same
-is_joined-requires-clause-same c = sym (c.requires.gathered.level c.at-keep.result (place-member c.args.known.now c.loop-place.place c.at-keep.result c.at-keep.ensures))
+last_or : (j v : ℕ) → j < v + 1 → (j < v) ⊎ (j ≡ v)
+last_or j v h = grind arith
 
-pub returns-then-branch : goal.returns-then-branch
-returns-then-branch c =
+pub returns-then-can_stand_for : goal.returns-then-can_stand_for
+returns-then-can_stand_for c =
     let k = c.args.kernel.now in
+    let X = live (slots k) in
+    let keep = c.at-keep.result in
     let s = c.can_stand_for.ensures.0 c.if-can_stand_for.true in
-    let m : Mergeable k.prefix (live (slots k)) c.at-keep.result c.args.gone = record {
+    let b : IsIn (negation keep) c.args.back.now = subst (λ (x : Literal). IsIn x c.args.back.now) c.negated.ensures (c.has.ensures.0 c.if-has.true) in
+    let m : Mergeable k.prefix X keep c.args.gone = record {
       different = s.different;
       existential = s.existential;
       kept_outer = s.kept_outer;
-      to_gone = c.in_ok-is_joined.ensures.0 c.if-branch.true;
-      to_keep = c.requires.gathered.linked c.at-keep.result (place-member c.args.known.now c.loop-place.place c.at-keep.result c.at-keep.ensures);
+      to_gone = back-way X keep c.args.gone (c.requires.3.linked (negation keep) b);
+      to_keep = c.requires.2.linked keep (place-member c.args.there.now c.loop-place.place keep c.at-keep.ensures);
     } in
     record {
-      some = λ keep e. subst (λ (x : Literal). Mergeable k.prefix (live (slots k)) x c.args.gone) (one c.at-keep.result keep e) m;
+      some = λ x e. subst (λ (y : Literal). Mergeable k.prefix X y c.args.gone) (one keep x e) m;
       none = λ e. absurd (cc);
     }
+
+pub loop-place-preserved : goal.loop-place-preserved
+loop-place-preserved c j x low e m = elim (last_or j c.loop-place.place low) [
+  | inl l ↦ c.loop-place.invariant j x l e m
+  | inr q ↦
+      let k = c.args.kernel.now in
+      let X = live (slots k) in
+      let keep = c.at-keep.result in
+      let s : x ≡ keep = one x keep (sym e ∙ (ap (slice_get c.args.there.now) q ∙ c.at-keep.ensures)) in
+      let n : Mergeable k.prefix X keep c.args.gone = subst (λ (y : Literal). Mergeable k.prefix X y c.args.gone) s m in
+      let both = both-gathered c.requires.0 k.prefix X keep c.args.gone c.args.there.now c.args.back.now c.requires.1 c.requires.2 c.requires.3 n in
+      elim c.else-has.branch [
+        | else-has-via-then-has+else-can_stand_for w ↦ test-false w.can_stand_for.result w.can_stand_for.ensures w.if-can_stand_for.false (record { different = n.different; existential = n.existential; kept_outer = n.kept_outer })
+        | else-has-via-else-has w ↦ test-false c.has.result c.has.ensures w.if-has.false (subst (λ (y : Literal). IsIn y c.args.back.now) (sym c.negated.ensures) both.1)
+      ]
+]
 
 pub returns : goal.returns
 returns c = record {
   some = λ keep e. absurd (cc);
   none = λ e keep m.
-      let X = live (slots c.args.kernel.now) in
-      let levels = c.args.levels.now in
-      let a = joined-level levels X keep c.args.gone c.requires.falling m.to_keep in
-      let b = joined-level levels X c.args.gone keep c.requires.falling m.to_gone in
-      let s : level_of levels keep ≡ level_of levels c.args.gone = omega arith in
-      let r = member-place c.args.known.now keep (c.requires.gathered.all_there c.requires.falling keep s m.to_keep) in
+      let k = c.args.kernel.now in
+      let both = both-gathered c.requires.0 k.prefix (live (slots k)) keep c.args.gone c.args.there.now c.args.back.now c.requires.1 c.requires.2 c.requires.3 m in
+      let r = member-place c.args.there.now keep both.0 in
       c.loop-place.invariant r.0 keep (let l = r.1 in omega arith) r.2 m;
 }

@@ -1,7 +1,6 @@
 use Rattle.std.proofs.Common.{◌≡◌, ◌∷◌, ◌++◌, [], Some, sym, ◌∙◌, subst, refl, inl, inr}
 use Rattle.q_logic.specs.Literals.{Literal}
 use Rattle.q_logic.specs.Formulas.{Clause}
-use Rattle.q_logic.specs.Merging.{Binary}
 use Rattle.q_equiv.specs.Walks.{IsSpread}
 use Rattle.q_equiv.proofs.Walks.{spread-none, spread-there, spread-pushed}
 use Rattle.q_equiv.proofs.joined.follow.Goals as goal

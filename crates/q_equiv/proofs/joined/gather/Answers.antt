@@ -1,4 +1,4 @@
-use Rattle.std.proofs.Common.{◌≡◌, ◌≤◌, ◌<◌, ◌++◌, ◌∷◌, [], length, arith}
+use Rattle.std.proofs.Common.{◌≡◌, ◌≤◌, ◌<◌, ◌∷◌, [], length, arith}
 use Rattle.q_logic.specs.Numbered.{live}
 use Rattle.q_kernel.specs.Kernels.{slots}
 use Rattle.q_equiv.proofs.Walks.{walk-begun, walk-more, walk-ended}

@@ -1,7 +1,8 @@
+use Rattle.std.proofs.Common.{[]}
 use Rattle.q_logic.specs.Numbered.{live}
 use Rattle.q_kernel.specs.Kernels.{slots}
 use Rattle.q_equiv.proofs.Walks.{IsWalk}
 use Rattle.q_equiv.proofs.joined.is_joined.Given as goal
 
 abbrev pub invariant-loop-head : goal.invariant-loop-head
-invariant-loop-head l = IsWalk l.levels (live (slots l.kernel)) l.fn.from l.head l.queue
+invariant-loop-head l = IsWalk [] (live (slots l.kernel)) l.fn.from l.head l.queue

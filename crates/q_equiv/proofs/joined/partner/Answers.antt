@@ -1,7 +1,7 @@
 use Rattle.std.proofs.Common.{◌≡◌, ◌≢◌, ◌∙◌, [], ◌∷◌, get_or, length, sym, arith}
 use Rattle.q_logic.specs.Literals.{Literal}
 use Rattle.q_logic.specs.Formulas.{Clause}
-use Rattle.q_equiv.proofs.Pairs.{partner-none, partner-second, partner-first}
+use Rattle.q_equiv.proofs.Pairs.{partner-none, partner-second}
 use Rattle.q_rule.proofs.Members.{test-false}
 use Rattle.q_equiv.proofs.joined.partner.Goals as goal
 

@@ -1,6 +1,6 @@
 use Rattle.std.proofs.Common.{◌≡◌, ◌++◌, ◌∷◌, [], ℕ, List, Option, Some, get_or, sym, ◌∙◌, ap, subst}
 use Rattle.q_logic.specs.Literals.{negation}
-use Rattle.q_logic.specs.Numbered.{slot, live}
+use Rattle.q_logic.specs.Numbered.{slot}
 use Rattle.q_arena.specs.Rings.{Has}
 use Rattle.q_occ.specs.Places.{places_of}
 use Rattle.q_kernel.specs.Kernels.{slots, HoldsLiteral}

@@ -1,8 +1,7 @@
-use Rattle.std.proofs.Common.{◌≡◌, List, ℕ, sym, subst}
+use Rattle.std.proofs.Common.{List, ℕ, subst}
 use Rattle.q_logic.specs.Numbered.{live}
 use Rattle.q_kernel.specs.Kernels.{slots}
 use Rattle.q_equiv.specs.Walks.{NeverRise}
-use Rattle.q_equiv.proofs.Falling.{none-rise}
 use Rattle.q_equiv.proofs.levels.make_levels.Goals as goal
 
 pub returns-else-not-never_rise : goal.returns-else-not-never_rise

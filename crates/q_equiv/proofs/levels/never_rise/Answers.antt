@@ -1,9 +1,6 @@
-use Rattle.std.proofs.Common.{◌≡◌, ◌<◌, ◌≤◌, ◌∷◌, [], ℕ, Some, None, refl, sym, ◌∙◌, ap, subst, arith}
-use Rattle.q_logic.specs.Formulas.{Clause}
-use Rattle.q_logic.specs.Numbered.{slot}
+use Rattle.std.proofs.Common.{refl}
 use Rattle.q_kernel.specs.Kernels.{slots}
-use Rattle.q_equiv.specs.Walks.{NeverRise}
-use Rattle.q_equiv.proofs.Falling.{all-fall, fallen-more, fallen-all}
+use Rattle.q_equiv.proofs.Falling.{fallen-more, fallen-all}
 use Rattle.q_equiv.proofs.levels.never_rise.Goals as goal
 
 pub loop-id-preserved : goal.loop-id-preserved

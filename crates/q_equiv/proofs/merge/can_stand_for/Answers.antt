@@ -1,9 +1,8 @@
-use Rattle.std.proofs.Common.{◌≡◌, ℕ, Bool, true, false, sym, ◌∙◌, true≢false}
+use Rattle.std.proofs.Common.{◌≡◌, ℕ, Bool, true, sym, ◌∙◌, true≢false}
 use Rattle.q_logic.specs.Formulas.{Prefix}
-use Rattle.q_logic.specs.Prefixes.{is_bound, is_existential}
+use Rattle.q_logic.specs.Prefixes.{is_existential}
 use Rattle.q_logic.proofs.Order.{existential-is_bound}
 use Rattle.q_logic.proofs.MergeRun.{outer_or_same-is_bound}
-use Rattle.q_equiv.specs.Changing.{CanStandFor}
 use Rattle.q_equiv.proofs.merge.can_stand_for.Goals as goal
 
 told : (b : Bool) (P : Prefix) (v : ℕ) → b ≡ is_existential P v → b ≡ true → is_existential P v ≡ true

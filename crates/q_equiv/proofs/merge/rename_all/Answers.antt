@@ -1,8 +1,7 @@
-use Rattle.std.proofs.Common.{◌≡◌, ◌≤◌, ◌+◌, ℕ, Some, length, refl, sym, ◌∙◌, ap, subst, arith}
+use Rattle.std.proofs.Common.{◌≡◌, Some, length, refl, sym, ◌∙◌, ap, subst, arith}
 use Rattle.q_logic.specs.Formulas.{Clause, Prefix}
-use Rattle.q_logic.specs.Numbered.{live}
 use Rattle.q_logic.specs.Merging.{renamed}
-use Rattle.q_kernel.specs.Kernels.{Seen, slots}
+use Rattle.q_kernel.specs.Kernels.{slots}
 use Rattle.q_equiv.specs.Changing.{CanStandFor, size, MayReplace, IsReplaced}
 use Rattle.q_equiv.proofs.Turning.{total-slot, renaming-begun, may-rename, total-renamed, renaming-more, renaming-done}
 use Rattle.q_equiv.proofs.merge.rename_all.Goals as goal
@@ -45,7 +44,7 @@ loop-id-smaller c =
     let i = c.loop-id.invariant.renaming in
     let q = same r.2 c.lits.result.now (sym r.3 ∙ c.lits.ensures.clause) in
     let h : IsReplaced k c.replace.new.kernel c.in-Some.id (renamed c.args.keep c.args.gone r.2) =
-        subst (λ (D : Clause). IsReplaced k c.replace.new.kernel c.in-Some.id D) (c.deref.ensures.value ∙ c.rename.ensures.clause ∙ sym (ap (renamed c.args.keep c.args.gone) q)) c.replace.ensures in
+    subst (λ (D : Clause). IsReplaced k c.replace.new.kernel c.in-Some.id D) (c.deref.ensures.value ∙ c.rename.ensures.clause ∙ sym (ap (renamed c.args.keep c.args.gone) q)) c.replace.ensures in
     let t = total-renamed c.args.keep c.args.gone c.args.bridge k (standing c.args.kernel.now.prefix k.prefix c.args.keep c.args.gone i.prefix c.requires.stands) i.bridge i.room c.in-Some.id r.2 r.0 r.1 r.3 r.4 c.replace.new.kernel h size in
     omega (arith, t)
 
@@ -56,7 +55,7 @@ loop-id-preserved c =
     let i = c.loop-id.invariant.renaming in
     let q = same r.2 c.lits.result.now (sym r.3 ∙ c.lits.ensures.clause) in
     let h : IsReplaced k c.replace.new.kernel c.in-Some.id (renamed c.args.keep c.args.gone r.2) =
-        subst (λ (D : Clause). IsReplaced k c.replace.new.kernel c.in-Some.id D) (c.deref.ensures.value ∙ c.rename.ensures.clause ∙ sym (ap (renamed c.args.keep c.args.gone) q)) c.replace.ensures in
+    subst (λ (D : Clause). IsReplaced k c.replace.new.kernel c.in-Some.id D) (c.deref.ensures.value ∙ c.rename.ensures.clause ∙ sym (ap (renamed c.args.keep c.args.gone) q)) c.replace.ensures in
     let s = standing c.args.kernel.now.prefix k.prefix c.args.keep c.args.gone i.prefix c.requires.stands in
     let t = total-renamed c.args.keep c.args.gone c.args.bridge k s i.bridge i.room c.in-Some.id r.2 r.0 r.1 r.3 r.4 c.replace.new.kernel h length in
     record {

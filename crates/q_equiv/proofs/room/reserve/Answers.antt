@@ -1,9 +1,6 @@
-use Rattle.std.proofs.Common.{◌≡◌, ◌≤◌, ◌+◌, length, sym, ◌∙◌, subst, arith}
-use Rattle.q_logic.specs.Literals.{negation}
-use Rattle.q_logic.specs.Numbered.{live}
+use Rattle.std.proofs.Common.{length, arith}
 use Rattle.q_kernel.specs.Kernels.{slots}
 use Rattle.q_kernel.proofs.Slotting.{live_in-length}
-use Rattle.q_equiv.specs.Changing.{total_with, one}
 use Rattle.q_equiv.proofs.Rooms.{count-enough, weigh-enough, room-made, same-total}
 use Rattle.q_equiv.proofs.room.reserve.Goals as goal
 

@@ -1,4 +1,4 @@
-use Rattle.std.proofs.Common.{◌≡◌, ◌≤◌, ◌+◌, ◌++◌, ◌∷◌, [], ℕ, List, Option, Some, length, get_or, sym, ◌∙◌, ap, subst, arith}
+use Rattle.std.proofs.Common.{◌≡◌, ◌≤◌, ◌++◌, ◌∷◌, [], ℕ, List, Option, length, get_or, sym, ◌∙◌, ap, subst, arith}
 use Rattle.q_logic.specs.Numbered.{slot, live}
 use Rattle.q_logic.specs.Sets.{with_literal}
 use Rattle.q_logic.proofs.Heights.{weight, weight-length}
@@ -61,6 +61,6 @@ returns c =
     let owner : ℕ → ℕ = λ q. get_or k.lists.owners q 0 in
     let w : total_at length (slots k) owner ys ≤ c.loop-at.words = rw c.in_default.is at c.loop-at.invariant.weighed in
     let b : weight length (with_literal c.args.lit (live (slots k))) ≤ total_at length (slots k) owner ys =
-        weight-listed length c.args.lit (slots k) owner ys (λ d D e m. c.sound.ensures.owned d c.args.lit (D, e, m)) in
+    weight-listed length c.args.lit (slots k) owner ys (λ d D e m. c.sound.ensures.owned d c.args.lit (D, e, m)) in
     let l = weight-length (with_literal c.args.lit (live (slots k))) in
     omega arith

@@ -1,0 +1,20 @@
+//! Circuits as text, in the format ASCII AIGER: an exact reader, and the canonical text.
+#![tactic(auto)]
+
+mod body;
+mod cones;
+mod cycles;
+mod error;
+mod header;
+mod items;
+mod lines;
+mod making;
+mod operands;
+mod reader;
+mod sorting;
+mod symbols;
+mod writer;
+
+pub use error::AigerError;
+pub use reader::read;
+pub use writer::write;

@@ -1,0 +1,170 @@
+//! Circuits of a whole file.
+ghost use Rattle.std.specs.Prelude.{◌≡◌, ◌<◌, ◌≤◌, ◌+◌, ◌^◌, length, take, IfOk, IfErr, Ok, true};
+ghost use Rattle.q_aiger.specs.Lines.{lines_of};
+ghost use Rattle.q_aiger.specs.Headers.{header_view};
+ghost use Rattle.q_aiger.specs.Items.{IsOnTheWay};
+ghost use Rattle.q_aiger.specs.Symbols.{all_named};
+ghost use Rattle.q_aiger.specs.Circuits.{parse, items_in, circuits_of, AreCircuits, FailsWith};
+ghost use Rattle.q_aiger.specs.Standing.{Answers};
+ghost use Rattle.q_aiger.specs.Modest.{IsModest};
+ghost use Rattle.q_aiger.specs.Written.{written_view, IsWritten};
+
+use crate::body::{read_items, read_names};
+use crate::cycles::first_cycle;
+use crate::error::{AigerError, BAD_HEADER, CYCLE, LIMIT};
+use crate::header::{Header, read_header};
+use crate::items::Items;
+use crate::lines::{last_line, next_line};
+use crate::making::make;
+use crate::operands::{Gate, Operand, resolve_gates, resolve_outputs};
+use crate::sorting::sort_gates;
+use crate::symbols::Names;
+use q_aig::Certificate;
+use std::alloc::Global;
+
+// So many bytes a file may have.
+const MOST_BYTES: usize = 1_099_511_627_776;
+
+/// What a file says, with the gates in the order of their lines.
+#[derive(Drop)]
+pub struct Written {
+    inputs: Names,
+    names: Names,
+    gates: Vec<Gate>,
+    outputs: Vec<Operand>,
+}
+
+/// Reads the circuits of a file.
+pub fn read(alloc: Global, bytes: &[u8]) -> Result<Certificate, AigerError>
+    ensures ok { IfOk result (AreCircuits bytes.now) }
+    ensures err { IfErr result (FailsWith bytes.now) }
+{
+    match read_lines(alloc, bytes) {
+        Ok(written) => sorted(alloc, bytes, &written),
+        Err(error) => Err(error),
+    }
+}
+
+// The circuits, with the gates in an order in which operands come first.
+fn sorted(alloc: Global, _bytes: &[u8], written: &Written) -> Result<Certificate, AigerError>
+    requires parsed { parse _bytes.now ≡ Ok (written_view written.now) }
+    requires lawful { IsWritten written.now }
+    ensures ok { IfOk result (AreCircuits _bytes.now) }
+    ensures err { IfErr result (FailsWith _bytes.now) }
+{
+    match sort_gates(alloc, &written.gates)? {
+        Some(order) => {
+            let certificate = make(
+                alloc,
+                written.inputs.as_slice(),
+                &written.gates,
+                &order,
+                written.names.as_slice(),
+                &written.outputs,
+            )?;
+            Ok(certificate)
+        }
+        None => Err(cyclic(alloc, _bytes, written)),
+    }
+}
+
+// The first gate that depends on itself, where some gate does.
+fn cyclic(alloc: Global, _bytes: &[u8], written: &Written) -> AigerError
+    requires parsed { parse _bytes.now ≡ Ok (written_view written.now) }
+    requires lawful { IsWritten written.now }
+    ensures { FailsWith _bytes.now result }
+{
+    let inputs = written.inputs.as_slice().len();
+    let outputs = written.names.as_slice().len();
+    match first_cycle(alloc, &written.gates) {
+        Ok(Some(gate)) => AigerError::Refused {
+            line: (2 + inputs + outputs + gate) as u64,
+            cause: CYCLE,
+        },
+        _ => AigerError::NoMemory,
+    }
+}
+
+// What the lines say.
+fn read_lines(alloc: Global, bytes: &[u8]) -> Result<Written, AigerError>
+    ensures answer { Answers result (parse bytes.now) written_view }
+    ensures lawful { IfOk result IsWritten }
+{
+    let Some((first, rest)) = next_line(bytes) else {
+        return Err(refused(1, BAD_HEADER));
+    };
+    let header = match read_header(first) {
+        Ok(header) => header,
+        Err(cause) => return Err(refused(1, cause)),
+    };
+    if bytes.len() > MOST_BYTES {
+        return Err(refused(last_line(front(bytes, MOST_BYTES)), LIMIT));
+    }
+    read_body(alloc, header, rest, last_line(bytes))
+}
+
+// The first bytes.
+fn front(bytes: &[u8], len: usize) -> &[u8]
+    requires { len ≤ length bytes.now }
+    ensures { result.now ≡ take len bytes.now }
+{
+    &bytes[..len]
+}
+
+fn refused(line: u64, cause: u8) -> AigerError
+    ensures { result ≡ AigerError.Refused line cause }
+{
+    AigerError::Refused { line, cause }
+}
+
+// What the lines behind the header say.
+fn read_body(alloc: Global, header: Header, text: &[u8], last: u64) -> Result<Written, AigerError>
+    requires modest { IsModest header }
+    requires few { length (lines_of text.now) < 2 ^ 62 }
+    ensures answer { Answers result (items_in last (lines_of text.now) (header_view header)) written_view }
+    ensures lawful { IfOk result IsWritten }
+{
+    let behind = match read_items(alloc, header, text, last) {
+        Ok(behind) => behind,
+        Err(error) => return Err(error),
+    };
+    let mut inputs = Names::new(alloc, header.inputs as usize)?;
+    let mut names = Names::new(alloc, header.outputs as usize)?;
+    match read_names(behind.rest, behind.line, last, &mut inputs, &mut names) {
+        Ok(()) => resolve(alloc, header, &behind.items, inputs, names),
+        Err(error) => Err(error),
+    }
+}
+
+// What the literals of the file stand for.
+fn resolve(
+    alloc: Global,
+    header: Header,
+    items: &Items,
+    inputs: Names,
+    names: Names,
+) -> Result<Written, AigerError>
+    requires modest { IsModest header }
+    requires counts { IsOnTheWay (header_view header) items.now 0 }
+    requires inputs { length inputs ≡ header.inputs }
+    requires names { length names ≡ header.outputs }
+    requires inputs_named { all_named inputs ≡ true }
+    requires names_named { all_named names ≡ true }
+    ensures answer { Answers result (circuits_of (header_view header) items.now (record { inputs = inputs; outputs = names })) written_view }
+    ensures lawful { IfOk result IsWritten }
+{
+    let first = header.inputs as u32;
+    let outputs = match resolve_outputs(alloc, items, first, 2 + header.inputs) {
+        Ok(outputs) => outputs,
+        Err(error) => return Err(error),
+    };
+    match resolve_gates(alloc, items, first, 2 + header.inputs + header.outputs) {
+        Ok(gates) => Ok(Written {
+            inputs,
+            names,
+            gates,
+            outputs,
+        }),
+        Err(error) => Err(error),
+    }
+}

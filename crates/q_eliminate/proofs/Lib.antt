@@ -1,0 +1,13 @@
+pub mod Picking
+pub mod Along
+pub mod Joining
+pub mod Gaining
+pub mod Flattening
+pub mod Splitting
+pub mod Applying
+pub mod Merging
+pub mod Coming
+pub mod Going
+pub mod Eliminated
+pub mod Taking
+pub mod Passing

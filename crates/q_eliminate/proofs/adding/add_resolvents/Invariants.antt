@@ -1,0 +1,13 @@
+use Rattle.std.proofs.Common.{◌≡◌, drop}
+use Rattle.std.specs.Vec.{vec_capacity}
+use Rattle.q_logic.specs.Eliminating.{resolve_all}
+use Rattle.q_kernel.specs.Kernels.{slots}
+use Rattle.q_eliminate.specs.Sides.{clauses_at}
+use Rattle.q_eliminate.proofs.Coming.{IsGrowing}
+use Rattle.q_eliminate.proofs.adding.add_resolvents.Given as goal
+
+abbrev pub invariant-loop-c : goal.invariant-loop-c
+invariant-loop-c l = record {
+  growing : IsGrowing l.fn.kernel l.kernel (resolve_all l.fn.lit (clauses_at (slots l.fn.kernel) l.ids) (clauses_at (slots l.fn.kernel) l.others)) (resolve_all l.fn.lit (clauses_at (slots l.fn.kernel) (drop l.c-index l.ids)) (clauses_at (slots l.fn.kernel) l.others));
+  buffer : vec_capacity l.buffer ≡ vec_capacity l.fn.buffer;
+}

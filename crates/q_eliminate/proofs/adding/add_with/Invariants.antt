@@ -1,0 +1,13 @@
+use Rattle.std.proofs.Common.{◌≡◌, drop}
+use Rattle.std.specs.Vec.{vec_capacity}
+use Rattle.q_logic.specs.Eliminating.{resolve_one}
+use Rattle.q_kernel.specs.Kernels.{slots}
+use Rattle.q_eliminate.specs.Sides.{clause_in, clauses_at}
+use Rattle.q_eliminate.proofs.Coming.{IsGrowing}
+use Rattle.q_eliminate.proofs.adding.add_with.Given as goal
+
+abbrev pub invariant-loop-d : goal.invariant-loop-d
+invariant-loop-d l = record {
+  growing : IsGrowing l.fn.kernel l.kernel (resolve_one l.fn.lit (clause_in (slots l.fn.kernel) l.fn.c) (clauses_at (slots l.fn.kernel) l.others)) (resolve_one l.fn.lit (clause_in (slots l.fn.kernel) l.fn.c) (clauses_at (slots l.fn.kernel) (drop l.d-index l.others)));
+  buffer : vec_capacity l.buffer ≡ vec_capacity l.fn.buffer;
+}

@@ -1,0 +1,11 @@
+use Rattle.q_logic.specs.Measure.{size_of}
+use Rattle.q_logic.specs.Numbered.{live}
+use Rattle.q_kernel.specs.Kernels.{slots}
+use Rattle.q_eliminate.proofs.Going.{IsShrinking}
+use Rattle.q_eliminate.proofs.removing.delete_with.Given as goal
+
+abbrev pub invariant-loop-id : goal.invariant-loop-id
+invariant-loop-id l = IsShrinking l.lit l.fn.kernel l.kernel
+
+abbrev pub decreases-loop-id : goal.decreases-loop-id
+decreases-loop-id l = size_of (live (slots l.kernel))

@@ -1,0 +1,8 @@
+use Rattle.std.proofs.Common.{◌≡◌, ◌+◌, drop}
+use Rattle.q_logic.specs.Measure.{size_of}
+use Rattle.q_kernel.specs.Kernels.{slots}
+use Rattle.q_eliminate.specs.Sides.{clauses_at}
+use Rattle.q_eliminate.proofs.sides.weight.Given as goal
+
+abbrev pub invariant-loop-id : goal.invariant-loop-id
+invariant-loop-id l = l.sum + size_of (clauses_at (slots l.kernel) (drop l.id-index l.ids)) ≡ size_of (clauses_at (slots l.kernel) l.ids)

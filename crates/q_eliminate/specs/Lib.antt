@@ -1,0 +1,5 @@
+pub mod Targets
+pub mod Sides
+pub mod Gains
+pub mod Plans
+pub mod Growing

@@ -1,0 +1,204 @@
+//! Elimination of an existential variable x by resolution.
+//!
+//! Idea: a resolvent on x of a clause with x and a clause with its negation says what both say of the other variables.
+//! Where all literals beside x on one side are outer or same to x, the resolvents say all that there is to say, so they
+//! come in place of the clauses of x. This is done where they are no larger than these clauses and the bound `grow`.
+//!
+//! Source: elimination by clause distribution goes back to Davis and Putnam (1960); bounded as here: Een and Biere
+//! (SAT 2005); for quantified formulas: Biere (SAT 2004), and Heule, Seidl and Biere (IJCAR 2014), whose proof system the
+//! steps are of. That one side alone has to be outer is this project's own condition.
+//!
+//! Condition and change: `Eliminable` in q_logic/specs/Eliminating.antt, `Fits` and `change` in q_logic/specs/Rules.antt.
+//! Law: `targets_run` and `targets_lower` of q_logic. Steps: each resolvent comes as implied by its parents. Then the
+//! clauses of the inner sign go by it as pivot, since a resolvent stands for each clash with the outer side, and last the
+//! others, whose pivot is pure by then.
+//!
+//! Search: variables in ascending order. The ids of both sides are gathered from their lists. The outer side is looked for
+//! on the shorter one first. Resolvents are measured one after the other, by marks of one parent, and given up as soon as
+//! they pass the bound; none is made before all are known to fit. Nothing is kept from one variable to the next.
+//!
+//! Cost: what the clauses of x are, and for each pair of them the length of the one that is not marked. A target that
+//! applies is measured once and made once.
+//!
+//! It may make applicable: any rule on the resolvents, above all subsumption, and elimination of other variables, whose
+//! lists got shorter.
+ghost use Rattle.std.specs.Prelude.{◌≡◌, ◌↔◌, ◌≤◌, Some, None, OnOk, OnErr, IfOk, IsTrue, vec_capacity};
+ghost use Rattle.q_logic.specs.declared.rule_bounds.Bounds.{Bounds as BoundsValue};
+ghost use Rattle.q_logic.specs.Literals.{negation};
+ghost use Rattle.q_logic.specs.StepForms.{positive};
+ghost use Rattle.q_logic.specs.Limits.{standard};
+ghost use Rattle.q_logic.specs.InLimits.{IsInLimits};
+ghost use Rattle.q_logic.specs.Targets as theory;
+ghost use Rattle.q_logic.specs.Targets.{place};
+ghost use Rattle.q_kernel.specs.declared.taken.Taken.TheVariants.{Yes, No};
+ghost use Rattle.q_kernel.specs.Kernels.{SameView, formula_in, HasSweepBytes};
+ghost use Rattle.q_kernel.specs.Taking.{AreModest, IsReady, Applies, IsTaken};
+ghost use Rattle.q_rule.specs.Becoming.{HasResult};
+ghost use Rattle.q_eliminate.specs.declared.target.Target.{Target as TargetValue};
+ghost use Rattle.q_eliminate.specs.Targets.{target_of};
+ghost use Rattle.q_eliminate.specs.Sides.{AreSidesOf};
+ghost use Rattle.q_eliminate.specs.Plans.{IsPlanOf, HasRoomFor};
+ghost use Rattle.q_eliminate.specs.Growing.{MayGoBy, MayGoByLater, HasLost};
+
+use crate::adding::add_resolvents;
+use crate::plan::{Plan, make_plan};
+use crate::removing::delete_with;
+use crate::search::Search;
+use crate::target::Target;
+use q_kernel::{Kernel, Need, Taken};
+use q_logic::{Bounds, Lit, NoMemory};
+use std::alloc::Global;
+
+/// Takes a target exactly where it applies.
+pub fn try_one(
+    alloc: Global,
+    kernel: &mut Kernel,
+    target: &Target,
+    bounds: &Bounds,
+) -> Result<Taken, NoMemory>
+    requires ready { IsReady kernel.old }
+    requires bounds { AreModest bounds.now }
+    ensures applies { IfOk result (λ r. (r ≡ Yes) ↔ Applies bounds.now kernel.old (target_of target.now)) }
+    ensures yes { IfOk result (λ r. r ≡ Yes → IsTaken bounds.now kernel.old kernel.new (target_of target.now)) }
+    ensures no { IfOk result (λ r. r ≡ No → SameView kernel.old kernel.new) }
+    ensures err { OnErr result (SameView kernel.old kernel.new) }
+{
+    let mut search = Search::new(alloc);
+    try_with(kernel, &mut search, target, bounds)
+}
+
+/// The same, with a search that is lent.
+pub fn try_with(
+    kernel: &mut Kernel,
+    search: &mut Search,
+    target: &Target,
+    bounds: &Bounds,
+) -> Result<Taken, NoMemory>
+    requires ready { IsReady kernel.old }
+    requires bounds { AreModest bounds.now }
+    ensures applies { IfOk result (λ r. (r ≡ Yes) ↔ Applies bounds.now kernel.old (target_of target.now)) }
+    ensures yes { IfOk result (λ r. r ≡ Yes → IsTaken bounds.now kernel.old kernel.new (target_of target.now)) }
+    ensures no { IfOk result (λ r. r ≡ No → SameView kernel.old kernel.new) }
+    ensures err { OnErr result (SameView kernel.old kernel.new) }
+{
+    let x = target.variable();
+    let Some(plan) = make_plan(kernel, search, x, bounds)? else {
+        return Ok(Taken::No);
+    };
+    reserve(kernel, &mut search.resolvent, &plan)?;
+    take(kernel, search, x, &plan);
+    Ok(Taken::Yes)
+}
+
+/// Whether a target applies, with a search that is lent.
+pub fn applies(
+    kernel: &Kernel,
+    search: &mut Search,
+    target: &Target,
+    bounds: &Bounds,
+) -> Result<bool, NoMemory>
+    requires ready { IsReady kernel.now }
+    requires bounds { AreModest bounds.now }
+    ensures { IfOk result (λ yes. IsTrue yes ↔ Applies bounds.now kernel.now (target_of target.now)) }
+{
+    let x = target.variable();
+    let found = make_plan(kernel, search, x, bounds)?;
+    Ok(found.is_some())
+}
+
+/// A target whose place is at least a number; none exactly where no target from that place on applies. The place of a
+/// target is its variable.
+pub fn find(
+    alloc: Global,
+    kernel: &Kernel,
+    bounds: &Bounds,
+    from: u32,
+) -> Result<Option<Target>, NoMemory>
+    requires ready { IsReady kernel.now }
+    requires bounds { AreModest bounds.now }
+    ensures some { IfOk result (λ o. (t : TargetValue) → o ≡ Some t → Applies bounds.now kernel.now (target_of t) × (from ≤ place (target_of t))) }
+    ensures none { IfOk result (λ o. o ≡ None → (t : TargetValue) → from ≤ place (target_of t) → Applies bounds.now kernel.now (target_of t) → ⊥) }
+{
+    let mut search = Search::new(alloc);
+    find_with(kernel, &mut search, bounds, from)
+}
+
+/// The same, with a search that is lent.
+pub fn find_with(
+    kernel: &Kernel,
+    search: &mut Search,
+    bounds: &Bounds,
+    from: u32,
+) -> Result<Option<Target>, NoMemory>
+    requires ready { IsReady kernel.now }
+    requires bounds { AreModest bounds.now }
+    ensures some { IfOk result (λ o. (t : TargetValue) → o ≡ Some t → Applies bounds.now kernel.now (target_of t) × (from ≤ place (target_of t))) }
+    ensures none { IfOk result (λ o. o ≡ None → (t : TargetValue) → from ≤ place (target_of t) → Applies bounds.now kernel.now (target_of t) → ⊥) }
+{
+    let end = kernel.greatest_var() + 1;
+    for x in from..end {
+        let target = Target::Eliminate { x };
+        if applies(kernel, search, &target, bounds)? {
+            return Ok(Some(target));
+        }
+    }
+    Ok(None)
+}
+
+// Room for the steps of a plan, and for the sweep after them.
+fn reserve(kernel: &mut Kernel, buffer: &mut Vec<Lit>, plan: &Plan) -> Result<(), NoMemory>
+    requires limits { IsInLimits standard (formula_in kernel.old) }
+    requires clauses { plan.now.gain.clauses ≤ 33554432 }
+    requires lits { plan.now.gain.lits ≤ 134217728 }
+    ensures view { SameView kernel.old kernel.new }
+    ensures room { OnOk result (HasRoomFor kernel.new plan.now) }
+    ensures buffer { OnOk result (plan.now.size ≤ vec_capacity buffer.new) }
+{
+    buffer.clear();
+    buffer.reserve(plan.size)?;
+    kernel.sound();
+    let gain = plan.gain;
+    let need = Need {
+        words: gain.lits,
+        ids: gain.clauses,
+        vars: 0,
+        greatest: 0,
+        log_bytes: 16 * (2 * (gain.clauses + gain.lits) + kernel.size() + kernel.prefix().len()),
+    };
+    kernel.reserve(need)
+}
+
+// Adds the resolvents, deletes the clauses of the variable, and sweeps.
+fn take(kernel: &mut Kernel, search: &mut Search, x: u32, plan: &Plan)
+    requires applies { (B : BoundsValue) × Applies B kernel.old (theory.eliminate x) }
+    requires limits { IsInLimits standard (formula_in kernel.old) }
+    requires plan { IsPlanOf kernel.old (positive x) plan.now }
+    requires sides { AreSidesOf kernel.old (positive x) search.old.sides }
+    requires room { HasRoomFor kernel.old plan.now }
+    requires buffer { plan.now.size ≤ vec_capacity search.old.resolvent }
+    ensures { HasResult kernel.old kernel.new (theory.eliminate x) }
+{
+    kernel.sound();
+    let lit = Lit::new(x, false);
+    let sides = &search.sides;
+    add_resolvents(
+        kernel,
+        &mut search.resolvent,
+        lit,
+        &sides.positive,
+        &sides.negative,
+    );
+    delete_sides(kernel, plan.outer);
+    kernel.sweep_now();
+}
+
+// Deletes the clauses of a variable. Those of the outer sign go last: before that its negation is a pivot of the others.
+fn delete_sides(kernel: &mut Kernel, outer: Lit)
+    requires first { MayGoBy kernel.old (negation outer) }
+    requires second { MayGoByLater kernel.old outer }
+    requires bytes { HasSweepBytes kernel.old }
+    ensures { HasLost kernel.old kernel.new outer }
+{
+    delete_with(kernel, outer.negated());
+    delete_with(kernel, outer);
+}

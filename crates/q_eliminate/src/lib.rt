@@ -1,0 +1,17 @@
+//! Variable elimination by resolution (`eliminate.rt`).
+#![tactic(auto)]
+
+mod adding;
+mod conditions;
+mod counting;
+mod eliminate;
+mod plan;
+mod removing;
+mod resolving;
+mod search;
+mod sides;
+mod target;
+
+pub use eliminate::{applies, find, find_with, try_one, try_with};
+pub use search::Search;
+pub use target::Target;

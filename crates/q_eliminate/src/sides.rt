@@ -1,0 +1,61 @@
+//! The clauses of a variable.
+ghost use Rattle.std.specs.Prelude.{◌≡◌, ◌<◌, OnOk};
+ghost use Rattle.q_logic.specs.Measure.{size_of};
+ghost use Rattle.q_kernel.specs.Kernels.{slots};
+ghost use Rattle.q_eliminate.specs.Sides.{clauses_at, AreIdsOf, AreLive, AreSidesOf};
+
+use q_arena::ClauseId;
+use q_kernel::Kernel;
+use q_logic::{Lit, NoMemory};
+use std::alloc::Global;
+
+/// The ids of the clauses that hold a literal, and of those that hold its negation.
+#[derive(Drop)]
+pub struct Sides {
+    pub positive: Vec<ClauseId>,
+    pub negative: Vec<ClauseId>,
+}
+
+impl Sides {
+    pub fn new(alloc: Global) -> Sides {
+        Sides {
+            positive: Vec::new(alloc),
+            negative: Vec::new(alloc),
+        }
+    }
+
+    /// Makes them those of a literal.
+    pub fn gather(&mut self, kernel: &Kernel, lit: Lit) -> Result<(), NoMemory>
+        ensures { OnOk result (AreSidesOf kernel.now lit self.new) }
+    {
+        collect(kernel, lit, &mut self.positive)?;
+        collect(kernel, lit.negated(), &mut self.negative)
+    }
+}
+
+// The ids of the clauses that hold a literal.
+fn collect(kernel: &Kernel, lit: Lit, ids: &mut Vec<ClauseId>) -> Result<(), NoMemory>
+    ensures { OnOk result (AreIdsOf kernel.now lit ids.new.items) }
+{
+    kernel.sound();
+    ids.clear();
+    let mut at = kernel.first(lit);
+    while let Some(place) = at {
+        ids.push(kernel.owner(place))?;
+        at = kernel.next(place);
+    }
+    Ok(())
+}
+
+/// The number of literals and clauses.
+pub fn weight(kernel: &Kernel, ids: &[ClauseId]) -> usize
+    requires live { AreLive (slots kernel.now) ids.now }
+    requires small { size_of (clauses_at (slots kernel.now) ids.now) < 8589934592 }
+    ensures { result ≡ size_of (clauses_at (slots kernel.now) ids.now) }
+{
+    let mut sum = 0;
+    for id in ids {
+        sum += kernel.lits(*id).len() + 1;
+    }
+    sum
+}

@@ -1,0 +1,168 @@
+//! All merges that are worth a try, in one pass: for each component of the implications pairs of a literal that stays and
+//! one that goes. They are meant for a guide, which proposes them one by one; each is tested when it is taken.
+//!
+//! The order: where a component's literals are existentials of one block, its two halves are parted by a merge of their
+//! first literals, then each half in turn. On a ring of implications each merge makes two rings of one, so the ways that
+//! a test walks halve as well, and a ring of n literals costs about n log n. Elsewhere the outermost literal stays, and
+//! all others go.
+ghost use Rattle.std.specs.Prelude.{All, OnOk};
+ghost use Rattle.q_equiv.specs.Targets.{MayStand};
+
+use crate::levels::note_all;
+use crate::merge::can_stand_for;
+use crate::search::Search;
+use crate::target::Target;
+use q_kernel::Kernel;
+use q_logic::{Lit, NoMemory};
+use q_rule::is_existential;
+use std::alloc::Global;
+
+/// The literals of a component, and the pieces of it that are still to be halved.
+#[derive(Drop)]
+pub struct Halves {
+    lits: Vec<Lit>,
+    pieces: Vec<(usize, usize)>,
+}
+
+impl Halves {
+    pub fn new(alloc: Global) -> Halves {
+        Halves {
+            lits: Vec::new(alloc),
+            pieces: Vec::new(alloc),
+        }
+    }
+}
+
+/// Gathers merges that probably apply, and go on to apply while they are taken in their order. In each of them keep may
+/// stand for gone; whether the two are joined is not promised.
+pub fn candidates(
+    kernel: &Kernel,
+    search: &mut Search,
+    targets: &mut Vec<Target>,
+) -> Result<(), NoMemory>
+    ensures { OnOk result (All (MayStand kernel.now.prefix) targets.new.items) }
+{
+    targets.clear();
+    let walks = &mut search.walks;
+    note_all(kernel, &mut walks.components)?;
+    walks.components.number(&mut walks.levels)?;
+    for number in 0..walks.components.count() {
+        let part = walks.components.part(number);
+        pair_up(kernel, part, &mut search.halves, targets)?;
+    }
+    Ok(())
+}
+
+// Pairs of the literals of a component. The component of their negations has the same pairs: one of the two is enough.
+fn pair_up(
+    kernel: &Kernel,
+    part: &[Lit],
+    halves: &mut Halves,
+    targets: &mut Vec<Target>,
+) -> Result<(), NoMemory>
+    requires { All (MayStand kernel.now.prefix) targets.old.items }
+    ensures { OnOk result (All (MayStand kernel.now.prefix) targets.new.items) }
+{
+    if part.len() < 2 || is_mirrored(part) {
+        return Ok(());
+    }
+    let keep = outermost(kernel, part, part[0]);
+    if is_flat(kernel, part, keep) {
+        return halve(kernel, part, halves, targets);
+    }
+    for gone in part {
+        add(kernel, keep, *gone, targets)?;
+    }
+    Ok(())
+}
+
+// Whether the literal of the least variable is negative.
+fn is_mirrored(part: &[Lit]) -> bool {
+    match part.iter().copied().min() {
+        Some(lit) => lit.negative(),
+        None => false,
+    }
+}
+
+// A literal whose variable is not inner to that of any other.
+fn outermost(kernel: &Kernel, part: &[Lit], first: Lit) -> Lit {
+    let mut best = first;
+    for lit in part {
+        if !lies_outside(kernel, best, *lit) {
+            best = *lit;
+        }
+    }
+    best
+}
+
+fn lies_outside(kernel: &Kernel, a: Lit, b: Lit) -> bool {
+    let prefix = kernel.prefix();
+    prefix.contains(a.var()) && prefix.contains(b.var()) && prefix.outer_or_same(a.var(), b.var())
+}
+
+// Whether all literals are existential, and of the block of one.
+fn is_flat(kernel: &Kernel, part: &[Lit], keep: Lit) -> bool {
+    for lit in part {
+        if !is_existential(kernel, lit.var()) || !lies_outside(kernel, *lit, keep) {
+            return false;
+        }
+    }
+    true
+}
+
+// Pairs by halves.
+fn halve(
+    kernel: &Kernel,
+    part: &[Lit],
+    halves: &mut Halves,
+    targets: &mut Vec<Target>,
+) -> Result<(), NoMemory>
+    requires { All (MayStand kernel.now.prefix) targets.old.items }
+    ensures { OnOk result (All (MayStand kernel.now.prefix) targets.new.items) }
+{
+    halves.lits.clear();
+    halves.lits.extend_from_slice(part)?;
+    halves.pieces.clear();
+    halves.pieces.push((0, part.len()))?;
+    for _ in 0..usize::MAX {
+        let Some((start, end)) = halves.pieces.pop() else {
+            break;
+        };
+        part_piece(kernel, halves, start, end, targets)?;
+    }
+    Ok(())
+}
+
+// The first literal of the lower half stays, that of the upper half goes; from then on the one stands for the other.
+fn part_piece(
+    kernel: &Kernel,
+    halves: &mut Halves,
+    start: usize,
+    end: usize,
+    targets: &mut Vec<Target>,
+) -> Result<(), NoMemory>
+    requires { All (MayStand kernel.now.prefix) targets.old.items }
+    ensures { OnOk result (All (MayStand kernel.now.prefix) targets.new.items) }
+{
+    let middle = start.saturating_add(end.saturating_sub(start) / 2);
+    if middle <= start || middle >= halves.lits.len() {
+        return Ok(());
+    }
+    let keep = halves.lits[start];
+    add(kernel, keep, halves.lits[middle], targets)?;
+    halves.lits[middle] = keep;
+    halves.pieces.push((middle, end))?;
+    halves.pieces.push((start, middle))?;
+    Ok(())
+}
+
+// One more target, where keep may stand for gone.
+fn add(kernel: &Kernel, keep: Lit, gone: Lit, targets: &mut Vec<Target>) -> Result<(), NoMemory>
+    requires { All (MayStand kernel.now.prefix) targets.old.items }
+    ensures { OnOk result (All (MayStand kernel.now.prefix) targets.new.items) }
+{
+    if can_stand_for(kernel, keep, gone) {
+        targets.push(Target::Merge { keep, gone })?;
+    }
+    Ok(())
+}

@@ -1,0 +1,13 @@
+pub mod Covering
+pub mod Folds
+pub mod Lists
+pub mod Rows
+pub mod Building
+pub mod Copies
+pub mod Counting
+pub mod Opening
+pub mod Rebuilding
+pub mod Tabling
+pub mod Reading
+pub mod Allowing
+pub mod Denying

@@ -1,0 +1,9 @@
+pub mod Covered
+pub mod Standing
+pub mod Growing
+pub mod Undone
+pub mod Copied
+pub mod Rebuilt
+pub mod Made
+pub mod Refusals
+pub mod Tabled

@@ -1,0 +1,11 @@
+//! Laws on the definitions: each is the contract of a function that does nothing.
+ghost use Rattle.q_logic.specs.Formulas.{PrenexFormula};
+ghost use Rattle.q_logic.specs.Prefixes.{IsFormula};
+ghost use Rattle.q_logic.specs.Certificates.{CertificateView, trees_of};
+ghost use Rattle.q_logic.specs.Skolems.{SkolemOf};
+ghost use Rattle.q_rebuild.specs.Refusals.{IsAccepted};
+
+/// Skolem functions of a formula are never refused as its circuits.
+pub fn skolem_functions_are_accepted()
+    ensures { (G : PrenexFormula) → (c : CertificateView) → IsFormula G → SkolemOf G (trees_of c) → IsAccepted G c }
+{}
