@@ -3,13 +3,14 @@
 # chain of unit clauses in order and in mixed order, universal literals that are cut in one connected component, and
 # universal literals that lead to their negations half way round a ring.
 # The time should grow no worse than n log n. Usage: bench/simplify.sh [random|units|mixed|cuts|ring ..]
+# With -f FAMILY SIZE FILE it only writes a formula.
 set -eu
 cd "$(dirname "$0")/.."
 work=$(mktemp -d)
 trap 'rm -rf "$work"' EXIT
 
 formula() {
-    python3 - "$work/in" "$@" <<'PYTHON'
+    python3 - "$@" <<'PYTHON'
 import random, sys
 
 name, family, n = sys.argv[1], sys.argv[2], int(sys.argv[3])
@@ -58,8 +59,13 @@ else:
 PYTHON
 }
 
+if [ "${1-}" = -f ]; then
+    formula "$4" "$2" "$3"
+    exit
+fi
+
 measured() {
-    formula "$1" "$2"
+    formula "$work/in" "$1" "$2"
     /usr/bin/time -f "$1 $2: %e s, %M KiB" ./celdrinn simplify "$work/in" "$work/out" "$work/log" || true
     head -n 1 "$work/out"
     wc -lc <"$work/log" | awk '{ print "log: " $1 " steps, " $2 " bytes" }'

@@ -1,0 +1,23 @@
+#!/bin/sh
+# Remakes dist/: the program, proved and built from the sources as they are, and their hash beside it.
+set -u
+cd "$(dirname "$0")/.." || exit 1
+program=crates/q_main/out/q_main
+
+is_built() {
+    [ -x "$program" ] &&
+        [ -z "$(find crates.txt crates/*/src crates/*/specs crates/*/proofs -newer "$program" -print -quit 2>/dev/null)" ]
+}
+
+before=$(bench/sources.sh)
+if ! is_built; then
+    (cd crates/q_main && rt run) || exit 1
+fi
+if [ "$(bench/sources.sh)" != "$before" ]; then
+    echo "release: the sources changed meanwhile" >&2
+    exit 1
+fi
+mkdir -p dist
+cp "$program" dist/celdrinn-x86_64-linux
+chmod 755 dist/celdrinn-x86_64-linux
+echo "$before" >dist/SOURCES

@@ -1,0 +1,18 @@
+# Completion of celdrinn's words in bash. Load it by: source completion/celdrinn.bash
+_celdrinn() {
+    local word=${COMP_WORDS[COMP_CWORD]}
+    local command=${COMP_WORDS[1]-}
+    COMPREPLY=()
+    if [ "$COMP_CWORD" -eq 1 ]; then
+        mapfile -t COMPREPLY < <(compgen -W "simplify check help --help --version" -- "$word")
+    elif [ "$command" = help ]; then
+        [ "$COMP_CWORD" -eq 2 ] && mapfile -t COMPREPLY < <(compgen -W "simplify check" -- "$word")
+    elif [ "$COMP_CWORD" -le 4 ]; then
+        compopt -o filenames
+        mapfile -t COMPREPLY < <(compgen -f -- "$word")
+    elif [ "$command" = simplify ] && [[ $word != = && ${COMP_WORDS[COMP_CWORD - 1]} != = ]]; then
+        compopt -o nospace
+        mapfile -t COMPREPLY < <(compgen -W "--budget= --grow= --expand=" -- "$word")
+    fi
+}
+complete -F _celdrinn celdrinn ./celdrinn

@@ -1,0 +1,115 @@
+// Files by name, and commands over them.
+use crate::notation::compare;
+use crate::trickle::Trickle;
+use crate::trouble::Trouble;
+use q_app::{Status, run};
+use q_io::{Call, Fault, MemFiles, MemSink, SteadyFiles, SteadySink};
+use std::alloc::Global;
+
+/// What a command ended with, and what it put.
+#[derive(Drop)]
+pub struct Said {
+    pub status: Status,
+    pub line: Vec<u8>,
+}
+
+/// The same files on three devices: memory with planned faults, memory that never fails, and files that give one byte at a
+/// time. Where a fault is planned, the first one alone serves.
+#[derive(Drop)]
+pub struct Desk {
+    alloc: Global,
+    memory: MemFiles,
+    steady: SteadyFiles,
+    trickle: Trickle,
+    failing_puts: Vec<u64>,
+    is_alone: bool,
+}
+
+impl Desk {
+    pub fn new(alloc: Global) -> Desk {
+        Desk {
+            alloc,
+            memory: MemFiles::new(alloc),
+            steady: SteadyFiles::new(alloc),
+            trickle: Trickle {
+                files: MemFiles::new(alloc),
+            },
+            failing_puts: Vec::new(alloc),
+            is_alone: false,
+        }
+    }
+
+    pub fn put(&mut self, name: &str, bytes: &[u8]) -> Result<(), Trouble> {
+        self.memory.put_file(name, bytes)?;
+        self.steady.put_file(name, bytes)?;
+        self.trickle.files.put_file(name, bytes)?;
+        Ok(())
+    }
+
+    pub fn file(&self, name: &str) -> Option<&[u8]> {
+        self.memory.file(name)
+    }
+
+    /// No device but the first serves from now on.
+    pub fn stand_alone(&mut self) {
+        self.is_alone = true;
+    }
+
+    pub fn plan(&mut self, call: Call, nth: u64, part: usize) -> Result<(), Trouble> {
+        self.is_alone = true;
+        self.memory.fail_at(Fault { call, nth, part })?;
+        Ok(())
+    }
+
+    pub fn plan_put(&mut self, nth: u64) -> Result<(), Trouble> {
+        self.is_alone = true;
+        self.failing_puts.push(nth)?;
+        Ok(())
+    }
+
+    /// Runs a command on each device that serves; all say the same.
+    pub fn run(&mut self, words: &[String]) -> Result<Said, Trouble> {
+        let said = self.run_in_memory(words)?;
+        if !self.is_alone {
+            self.run_steadily(words, &said)?;
+            self.run_trickling(words, &said)?;
+        }
+        Ok(said)
+    }
+
+    fn run_in_memory(&mut self, words: &[String]) -> Result<Said, Trouble> {
+        let mut out = MemSink::new(self.alloc);
+        for nth in &self.failing_puts {
+            out.fail_at(*nth)?;
+        }
+        let status = run(self.alloc, words, &mut self.memory, &mut out);
+        let line = Vec::from_slice(self.alloc, out.bytes())?;
+        Ok(Said { status, line })
+    }
+
+    fn run_steadily(&mut self, words: &[String], said: &Said) -> Result<(), Trouble> {
+        let mut out = SteadySink::new(self.alloc);
+        let status = run(self.alloc, words, &mut self.steady, &mut out);
+        compare(self.alloc, &said.line, out.bytes())?;
+        compare(self.alloc, &[said.status.code()], &[status.code()])
+    }
+
+    fn run_trickling(&mut self, words: &[String], said: &Said) -> Result<(), Trouble> {
+        let mut out = MemSink::new(self.alloc);
+        let status = run(self.alloc, words, &mut self.trickle, &mut out);
+        compare(self.alloc, &said.line, out.bytes())?;
+        compare(self.alloc, &[said.status.code()], &[status.code()])
+    }
+
+    /// Each device that serves holds the same under a name.
+    pub fn agree(&self, name: &str) -> Result<(), Trouble> {
+        if self.is_alone {
+            return Ok(());
+        }
+        let held = self.memory.file(name);
+        if self.steady.file(name) != held || self.trickle.files.file(name) != held {
+            return Err(Trouble::Unreadable("devices that hold the same"));
+        }
+        Ok(())
+    }
+}

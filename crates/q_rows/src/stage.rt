@@ -1,0 +1,300 @@
+// One row: its files, formula, limits and bounds, and its lines one after the other.
+ghost use Rattle.std.specs.Prelude.{IfOk};
+ghost use Rattle.q_logic.specs.Limits.{AreModerate};
+ghost use Rattle.q_kernel.specs.Taking.{AreModest};
+
+use crate::aims::aim_of;
+use crate::checking::{answers, undo_list};
+use crate::desk::{Desk, Said};
+use crate::formulas::{formula_of, formula_text};
+use crate::implying::implied;
+use crate::logging::log_answer;
+use crate::notation::{bytes_of, compare};
+use crate::reading::answer;
+use crate::taking::{figures, found, outcome};
+use crate::trouble::Trouble;
+use q_io::Call;
+use q_logic::{Bounds, Formula, Limits};
+use std::alloc::Global;
+
+/// What the lines of a row so far have set up.
+#[derive(Drop)]
+pub struct Stage {
+    alloc: Global,
+    desk: Desk,
+    formula: Formula,
+    limits: Limits,
+    bounds: Bounds,
+}
+
+impl Stage {
+    pub fn new(alloc: Global) -> Result<Stage, Trouble> {
+        Ok(Stage {
+            alloc,
+            desk: Desk::new(alloc),
+            formula: formula_of(alloc, "nothing")?,
+            limits: Limits::standard(),
+            bounds: Bounds {
+                grow: 0,
+                expand: 16,
+            },
+        })
+    }
+
+    /// Does what a line says, and compares what comes with what it wants.
+    pub fn play(&mut self, line: &str) -> Result<(), Trouble> {
+        match line.split_once(" =>") {
+            None => self.give(line),
+            Some((doing, wanted)) => {
+                let (verb, rest) = doing.split_once(' ').unwrap_or((doing, ""));
+                self.act(verb, rest, wanted.strip_prefix(' ').unwrap_or(wanted))
+            }
+        }
+    }
+
+    // A line that sets something up.
+    fn give(&mut self, line: &str) -> Result<(), Trouble> {
+        let (first, rest) = line.split_once(' ').unwrap_or((line, ""));
+        match first {
+            "formula" => self.formula = formula_of(self.alloc, rest)?,
+            "limits" => self.limits = limits_of(rest)?,
+            "bounds" => self.bounds = bounds_of(rest)?,
+            "fault" => self.plan(rest)?,
+            "memory" => self.desk.stand_alone(),
+            _ => self.put(first, rest)?,
+        }
+        Ok(())
+    }
+
+    // `NAME: TEXT` gives a file its bytes, and `NAME + TEXT` gives it more.
+    fn put(&mut self, first: &str, rest: &str) -> Result<(), Trouble> {
+        if let Some(name) = first.strip_suffix(':') {
+            let bytes = self.text(rest)?;
+            return self.desk.put(name, &bytes);
+        }
+        let Some(more) = rest.strip_prefix("+ ") else {
+            return Err(Trouble::Unreadable("a line"));
+        };
+        let more = self.text(more)?;
+        let mut bytes = self.held(first)?;
+        bytes.extend_from_slice(&more)?;
+        self.desk.put(first, &bytes)
+    }
+
+    // The bytes of a text: `same as NAME`, `N times TEXT`, or lines.
+    fn text(&self, text: &str) -> Result<Vec<u8>, Trouble> {
+        if let Some(name) = text.strip_prefix("same as ") {
+            return self.held(name);
+        }
+        let Some((count, once)) = text.split_once(" times ") else {
+            return bytes_of(self.alloc, text);
+        };
+        let once = bytes_of(self.alloc, once)?;
+        let mut bytes = Vec::new(self.alloc);
+        for _ in 0..number(count)? {
+            bytes.extend_from_slice(&once)?;
+        }
+        Ok(bytes)
+    }
+
+    fn held(&self, name: &str) -> Result<Vec<u8>, Trouble> {
+        match self.desk.file(name) {
+            Some(bytes) => Ok(Vec::from_slice(self.alloc, bytes)?),
+            None => Err(Trouble::Unreadable("a file that is held")),
+        }
+    }
+
+    // `read 2`, `create 1`, `append 1 part 3` or `put 1`: that call of its kind fails.
+    fn plan(&mut self, fault: &str) -> Result<(), Trouble> {
+        let (kind, rest) = fault.split_once(' ').unwrap_or((fault, ""));
+        let (nth, part) = rest.split_once(" part ").unwrap_or((rest, "0"));
+        let nth = u64::from(number(nth)?);
+        let part = number(part)? as usize;
+        match kind {
+            "read" => self.desk.plan(Call::Read, nth, part),
+            "create" => self.desk.plan(Call::Create, nth, part),
+            "append" => self.desk.plan(Call::Append, nth, part),
+            _ => self.desk.plan_put(nth),
+        }
+    }
+
+    fn act(&mut self, verb: &str, rest: &str, wanted: &str) -> Result<(), Trouble> {
+        match verb {
+            "run" => self.run(rest, wanted),
+            "show" => self.show(rest, wanted),
+            "read" | "log" => self.read(verb, rest, wanted),
+            "steps" | "undo" => self.check(verb, rest, wanted),
+            _ => self.apply(verb, rest, wanted),
+        }
+    }
+
+    // A command: its words, and wanted its status and the line that it puts.
+    fn run(&mut self, words: &str, wanted: &str) -> Result<(), Trouble> {
+        let words = words_of(self.alloc, words)?;
+        let said = self.desk.run(&words)?;
+        let (code, line) = wanted.split_once(' ').unwrap_or((wanted, ""));
+        let got = said.status.code();
+        let status = format!(in self.alloc; "{got}")?;
+        self.compare_lines(line, &said)?;
+        compare(self.alloc, code.as_bytes(), status.as_bytes())
+    }
+
+    // A line that ends with ` ..` is wanted as far as it goes.
+    fn compare_lines(&self, line: &str, said: &Said) -> Result<(), Trouble> {
+        match line.strip_suffix(" ..") {
+            Some(front) if said.line.starts_with(front.as_bytes()) => Ok(()),
+            _ => {
+                let wanted = bytes_of(self.alloc, line)?;
+                compare(self.alloc, &wanted, &said.line)
+            }
+        }
+    }
+
+    // What a file holds, on each device; `not held` where there is no such file.
+    fn show(&mut self, name: &str, wanted: &str) -> Result<(), Trouble> {
+        self.desk.agree(name)?;
+        if wanted == "not held" {
+            return match self.desk.file(name) {
+                None => Ok(()),
+                Some(_) => Err(Trouble::Unreadable("a file that is not held")),
+            };
+        }
+        let wanted = self.text(wanted)?;
+        let got = self.held(name)?;
+        compare(self.alloc, &wanted, &got)
+    }
+
+    fn read(&mut self, verb: &str, text: &str, wanted: &str) -> Result<(), Trouble> {
+        let bytes = self.text(text)?;
+        let wanted = self.text(wanted)?;
+        let got = self.reading_of(verb, &bytes)?;
+        compare(self.alloc, &wanted, &got)
+    }
+
+    fn reading_of(&self, verb: &str, bytes: &[u8]) -> Result<Vec<u8>, Trouble> {
+        let limits = moderate(self.limits)?;
+        match verb {
+            "read" => answer(self.alloc, limits, bytes),
+            _ => log_answer(self.alloc, limits.bytes, bytes),
+        }
+    }
+
+    // Steps on the formula, and wanted the answer to each, or the undo list of a run to `nothing`.
+    fn check(&mut self, verb: &str, steps: &str, wanted: &str) -> Result<(), Trouble> {
+        let log = self.text(steps)?;
+        let wanted = self.text(wanted)?;
+        let got = self.checked(verb, &log)?;
+        compare(self.alloc, &wanted, &got)
+    }
+
+    fn checked(&self, verb: &str, log: &[u8]) -> Result<Vec<u8>, Trouble> {
+        match verb {
+            "steps" => answers(self.alloc, &self.formula, moderate(self.limits)?, log),
+            _ => undo_list(self.alloc, &self.formula, log),
+        }
+    }
+
+    fn apply(&mut self, verb: &str, rest: &str, wanted: &str) -> Result<(), Trouble> {
+        let got = self.applied(verb, rest)?;
+        let wanted = same_order(self.alloc, wanted)?;
+        compare(self.alloc, wanted.as_bytes(), got.as_bytes())
+    }
+
+    fn applied(&self, verb: &str, rest: &str) -> Result<String, Trouble> {
+        let bounds = modest(self.bounds)?;
+        match verb {
+            "take" => self.take(rest, &bounds),
+            "find" => self.find(rest, &bounds),
+            "figures" => figures(self.alloc, &self.formula, &bounds),
+            "implied" => implied(self.alloc, &self.formula, rest),
+            _ => Err(Trouble::Unreadable("a verb")),
+        }
+    }
+
+    fn take(&self, target: &str, bounds: &Bounds) -> Result<String, Trouble>
+        requires { AreModest bounds.now }
+    {
+        let aim = aim_of(target)?;
+        outcome(self.alloc, &self.formula, bounds, &aim)
+    }
+
+    fn find(&self, from: &str, bounds: &Bounds) -> Result<String, Trouble>
+        requires { AreModest bounds.now }
+    {
+        let (name, from) = from.split_once(" from ").unwrap_or((from, "0"));
+        let from = number(from)?;
+        found(self.alloc, &self.formula, bounds, name, from)
+    }
+}
+
+// `yes FORMULA`, its clauses brought into order.
+fn same_order(alloc: Global, wanted: &str) -> Result<String, Trouble> {
+    let Some(text) = wanted.strip_prefix("yes ") else {
+        return Ok(String::from_str(alloc, wanted)?);
+    };
+    let formula = formula_of(alloc, text)?;
+    let text = formula_text(alloc, &formula)?;
+    Ok(format!(in alloc; "yes {text}")?)
+}
+
+fn number(text: &str) -> Result<u32, Trouble> {
+    match text.parse::<u32>() {
+        Ok(number) => Ok(number),
+        Err(_) => Err(Trouble::Unreadable("a number")),
+    }
+}
+
+// The words of a command, divided by spaces.
+fn words_of(alloc: Global, text: &str) -> Result<Vec<String>, Trouble> {
+    let mut words = Vec::new(alloc);
+    for word in text.split_whitespace() {
+        words.push(String::from_str(alloc, word)?)?;
+    }
+    Ok(words)
+}
+
+// The greatest variable, and the numbers of clauses, literals and bytes.
+fn limits_of(text: &str) -> Result<Limits, Trouble> {
+    let mut numbers = [0u32; 4];
+    for (given, word) in numbers.iter_mut().zip(text.split(' ')) {
+        *given = number(word)?;
+    }
+    let [vars, clauses, lits, bytes] = numbers;
+    Ok(Limits {
+        vars,
+        clauses: u64::from(clauses),
+        lits: u64::from(lits),
+        bytes: u64::from(bytes),
+    })
+}
+
+// `grow N expand N`
+fn bounds_of(text: &str) -> Result<Bounds, Trouble> {
+    let Some((grow, expand)) = text.split_once(" expand ") else {
+        return Err(Trouble::Unreadable("bounds"));
+    };
+    let grow = number(grow.strip_prefix("grow ").unwrap_or(grow))?;
+    Ok(Bounds {
+        grow,
+        expand: number(expand)?,
+    })
+}
+
+fn moderate(limits: Limits) -> Result<Limits, Trouble>
+    ensures { IfOk result (λ l. AreModerate l) }
+{
+    let is_small = limits.vars <= 16_777_215 && limits.bytes <= 1_099_511_627_776;
+    if is_small && limits.clauses <= 4_294_967_295 && limits.lits <= 4_294_967_295 {
+        return Ok(limits);
+    }
+    Err(Trouble::Unreadable("small limits"))
+}
+
+fn modest(bounds: Bounds) -> Result<Bounds, Trouble>
+    ensures { IfOk result (λ b. AreModest b) }
+{
+    if bounds.grow <= 10_000 && bounds.expand <= 10_000 {
+        return Ok(bounds);
+    }
+    Err(Trouble::Unreadable("small bounds"))
+}

@@ -1,0 +1,158 @@
+// One target of a rule on a formula.
+ghost use Rattle.std.specs.Prelude.{IfOk};
+ghost use Rattle.q_kernel.specs.Taking.{AreModest, IsReady};
+
+use crate::aims::{Aim, find};
+use crate::checking::audit;
+use crate::formulas::formula_text;
+use crate::trouble::Trouble;
+use q_kernel::{Kernel, Taken};
+use q_logic::{Bounds, Formula};
+use std::alloc::Global;
+use std::fmt;
+
+// A kernel that is swept and within the limits.
+fn kernel_of(alloc: Global, formula: &Formula) -> Result<Kernel, Trouble>
+    ensures { IfOk result (λ k. IsReady k) }
+{
+    if formula.clauses() > 1000 {
+        return Err(Trouble::Unreadable("a formula of few clauses"));
+    }
+    let mut kernel = Kernel::start(alloc, formula)?;
+    kernel.sweep()?;
+    if kernel.greatest_var() > 1000 || kernel.clauses() > 1000 || kernel.size() > 10_000 {
+        return Err(Trouble::Unreadable("a small formula"));
+    }
+    Ok(kernel)
+}
+
+/// What becomes of a target: `no`, and the formula is as it was, or `yes` and the formula then. The log is a run there, and the
+/// rule's search finds something where the answer is yes.
+pub fn outcome(
+    alloc: Global,
+    formula: &Formula,
+    bounds: &Bounds,
+    aim: &Aim,
+) -> Result<String, Trouble>
+    requires { AreModest bounds.now }
+{
+    let mut kernel = kernel_of(alloc, formula)?;
+    let is_found = find(alloc, aim.rules(), &kernel, bounds, 0)?.is_some();
+    let said = tried(alloc, formula, &mut kernel, bounds, aim)?;
+    if !is_found && said.as_str() != "no" {
+        return Err(Trouble::Unreadable("a target that is found"));
+    }
+    Ok(said)
+}
+
+fn tried(
+    alloc: Global,
+    formula: &Formula,
+    kernel: &mut Kernel,
+    bounds: &Bounds,
+    aim: &Aim,
+) -> Result<String, Trouble>
+    requires ready { IsReady kernel.old }
+    requires bounds { AreModest bounds.now }
+{
+    let before = held(alloc, formula, kernel)?;
+    let taken = aim.try_one(alloc, kernel, bounds)?;
+    let after = compacted(alloc, formula, kernel)?;
+    told(alloc, taken, &before, &after)
+}
+
+fn told(alloc: Global, taken: Taken, before: &str, after: &str) -> Result<String, Trouble> {
+    let mut said = String::new(alloc);
+    match taken {
+        Taken::Yes => {
+            said.push_str("yes ")?;
+            said.push_str(after)?;
+        }
+        Taken::No => {
+            if before != after {
+                return Err(Trouble::Unreadable("a formula that stays"));
+            }
+            said.push_str("no")?;
+        }
+    }
+    Ok(said)
+}
+
+// The formula that the kernel holds; its log leads there.
+fn held(alloc: Global, formula: &Formula, kernel: &Kernel) -> Result<String, Trouble> {
+    let now = kernel.formula(alloc)?;
+    audit(alloc, formula, kernel.log(), &now)?;
+    formula_text(alloc, &now)
+}
+
+// The same, before and after all dead words went.
+fn compacted(alloc: Global, formula: &Formula, kernel: &mut Kernel) -> Result<String, Trouble> {
+    let before = held(alloc, formula, kernel)?;
+    kernel.compact();
+    let after = held(alloc, formula, kernel)?;
+    if before != after || kernel.dead() != 0 {
+        return Err(Trouble::Unreadable("a formula without dead words"));
+    }
+    Ok(after)
+}
+
+/// What a crate of rules finds from a place on: a target, or `none`.
+pub fn found(
+    alloc: Global,
+    formula: &Formula,
+    bounds: &Bounds,
+    rules: &str,
+    from: u32,
+) -> Result<String, Trouble>
+    requires { AreModest bounds.now }
+{
+    let kernel = kernel_of(alloc, formula)?;
+    let aim = find(alloc, rules, &kernel, bounds, from)?;
+    name_of(alloc, aim)
+}
+
+fn name_of(alloc: Global, aim: Option<Aim>) -> Result<String, Trouble> {
+    match aim {
+        Some(aim) => Ok(format!(in alloc; "{aim}")?),
+        None => Ok(String::from_str(alloc, "none")?),
+    }
+}
+
+/// What the kernel counts.
+#[derive(Drop)]
+struct Counts {
+    clauses: usize,
+    size: usize,
+    greatest: u32,
+    measure: u64,
+}
+
+impl fmt::Display for Counts {
+    fn fmt<W: fmt::Write>(&self, f: &mut fmt::Formatter<W>) -> fmt::Result {
+        write!(f, "{} clauses, size {}", self.clauses, self.size)?;
+        write!(f, ", greatest {}, measure {}", self.greatest, self.measure)
+    }
+}
+
+fn counts_of(kernel: &Kernel, bounds: &Bounds) -> Counts
+    requires { AreModest bounds.now }
+{
+    Counts {
+        clauses: kernel.clauses(),
+        size: kernel.size(),
+        greatest: kernel.greatest_var(),
+        measure: kernel.measure(bounds),
+    }
+}
+
+/// The figures of a formula as it stands.
+pub fn figures(alloc: Global, formula: &Formula, bounds: &Bounds) -> Result<String, Trouble>
+    requires { AreModest bounds.now }
+{
+    if formula.clauses() > 1000 {
+        return Err(Trouble::Unreadable("a formula of few clauses"));
+    }
+    let kernel = Kernel::start(alloc, formula)?;
+    let counts = counts_of(&kernel, bounds);
+    Ok(format!(in alloc; "{counts}")?)
+}

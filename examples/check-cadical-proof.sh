@@ -1,0 +1,34 @@
+#!/usr/bin/env bash
+# Checks CaDiCaL's proof that a CNF is unsatisfiable, as a log from the CNF to the empty clause.
+# Usage: examples/check-cadical-proof.sh [CNF]
+set -u
+here=$(cd "$(dirname "$0")" && pwd)
+celdrinn=$here/../celdrinn
+in=${1:-$here/pigeons.cnf}
+command -v cadical >/dev/null || {
+    echo "skipped: cadical is not installed (on Debian: apt-get install cadical)"
+    exit 0
+}
+work=$(mktemp -d)
+trap 'rm -rf "$work"' EXIT
+
+cadical -q --no-binary "$in" "$work/proof" >"$work/answer"
+case $? in
+    20) ;;
+    10) echo "$in is satisfiable: there is no proof to check" && exit 0 ;;
+    *) echo "cadical gave no answer" && exit 1 ;;
+esac
+
+# The clauses that the solver deletes stay: celdrinn wants a reason for each deletion. Once the empty clause is there, it is
+# the reason for all of them, so at the end all other clauses and all variables go.
+{
+    grep -v '^d' "$work/proof"
+    grep -v -h -E '^(d|p|c|0$)' "$in" "$work/proof" | sed 's/^/d /'
+    grep -v -E '^(p|c)' "$in" | tr -s ' \t-' '\n' | grep -v -E '^0?$' | sort -nu | sed 's/.*/r & 0/'
+} >"$work/log"
+printf 'p cnf 0 1\n0\n' >"$work/out"
+if "$celdrinn" check "$in" "$work/out" "$work/log"; then
+    echo "$in is unsatisfiable: cadical's proof is right"
+else
+    exit 1
+fi
