@@ -1,13 +1,14 @@
 #!/usr/bin/env bash
 # Times `check` on logs of pivot deletions and drops over formulas of one long chain of clauses, from
 # 50,000 to 400,000 steps, two deletions for each drop. The time should grow no worse than n log n.
+# With -f STEPS FOLDER it only writes the files in, out and log.
 set -eu
 cd "$(dirname "$0")/.."
 work=$(mktemp -d)
 trap 'rm -rf "$work"' EXIT
 
-for steps in 50000 100000 200000 300000 400000; do
-    python3 - "$work" "$steps" <<'PYTHON'
+files() {
+    python3 - "$@" <<'PYTHON'
 import os, sys
 
 work, steps = sys.argv[1], int(sys.argv[2])
@@ -36,5 +37,14 @@ with open(os.path.join(work, "log"), "w") as out:
         out.write(f"u {chain + i} {i} 0\n")
 write("out", ends + [(i,) for i in range(1, drops + 1)])
 PYTHON
+}
+
+if [ "${1-}" = -f ]; then
+    files "$3" "$2"
+    exit
+fi
+
+for steps in 50000 100000 200000 300000 400000; do
+    files "$work" "$steps"
     /usr/bin/time -f "$steps steps: %e s, %M KiB" ./celdrinn check "$work/in" "$work/out" "$work/log"
 done

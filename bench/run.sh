@@ -2,7 +2,9 @@
 # Runs the families of bench/ at small sizes, and writes a table of time and memory to TABLE.tsv, and a plot beside it where
 # gnuplot or matplotlib is installed. Sizes are clauses or variables of a family. Where DepQBF is installed, it gets the
 # formula before and after, for ten seconds each. Usage: bench/run.sh [-s SCALE] [-o TABLE.tsv] [FAMILY ..]
-# With -s 10 all sizes are ten times as large. FAMILY is random, units, mixed, cuts or ring; all by default.
+# With -s 10 all sizes are ten times as large. FAMILY is random, units, mixed, cuts or ring (bench/simplify.sh), or chains
+# (bench/chains.sh, which has a log of its own, so it is only checked); all by default. bench/read.sh and bench/proofs.sh
+# have one size, or sizes of another kind, and stand alone.
 set -eu
 cd "$(dirname "$0")/.."
 scale=1
@@ -15,7 +17,7 @@ while getopts s:o: option; do
     esac
 done
 shift $((OPTIND - 1))
-[ $# -gt 0 ] || set -- random units mixed cuts ring
+[ $# -gt 0 ] || set -- random units mixed cuts ring chains
 mkdir -p "$(dirname "$table")"
 
 work=$(mktemp -d)
@@ -39,8 +41,13 @@ printf 'family\tsize\ttool\tseconds\tMiB\tstatus\n' | tee "$table"
 for family in "$@"; do
     for base in 1000 2000 4000 8000; do
         size=$((base * scale))
-        bench/simplify.sh -f "$family" "$size" "$work/in"
         row() { printf '%s\t%s\t%s\t%s\n' "$family" "$size" "$1" "$(shift && measured "$@")" | tee -a "$table"; }
+        if [ "$family" = chains ]; then
+            bench/chains.sh -f "$size" "$work"
+            row check ./celdrinn check "$work/in" "$work/out" "$work/log"
+            continue
+        fi
+        bench/simplify.sh -f "$family" "$size" "$work/in"
         row simplify ./celdrinn simplify "$work/in" "$work/out" "$work/log"
         row check ./celdrinn check "$work/in" "$work/out" "$work/log"
         if command -v depqbf >/dev/null; then
@@ -53,18 +60,20 @@ done
 plot=${table%.tsv}.png
 if command -v gnuplot >/dev/null; then
     gnuplot <<GNUPLOT
-set terminal pngcairo size 1000,500
+set terminal pngcairo size 1500,500
 set output "$plot"
-set multiplot layout 1,2
+set multiplot layout 1,3
 set logscale xy
 set key left top
 set xlabel "size"
 families = "$*"
-set title "simplify (lines), check (dashes): seconds"
-plot for [f in families] "< awk '\$1 == \"".f."\" && \$3 == \"simplify\"' $table" using 2:4 with linespoints title f, \
-     for [f in families] "< awk '\$1 == \"".f."\" && \$3 == \"check\"' $table" using 2:4 with lines dashtype 2 notitle
+of(f, tool) = "< awk '\$1 == \"".f."\" && \$3 == \"".tool."\"' $table"
+set title "simplify: seconds"
+plot for [f in families] of(f, "simplify") using 2:4 with linespoints title f
+set title "check: seconds"
+plot for [f in families] of(f, "check") using 2:4 with linespoints title f
 set title "simplify: MiB"
-plot for [f in families] "< awk '\$1 == \"".f."\" && \$3 == \"simplify\"' $table" using 2:5 with linespoints title f
+plot for [f in families] of(f, "simplify") using 2:5 with linespoints title f
 GNUPLOT
     echo "plot: $plot"
 elif python3 -c "import matplotlib" 2>/dev/null; then

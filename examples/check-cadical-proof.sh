@@ -1,6 +1,6 @@
 #!/usr/bin/env bash
 # Checks CaDiCaL's proof that a CNF is unsatisfiable, as a log from the CNF to the empty clause.
-# Usage: examples/check-cadical-proof.sh [CNF]
+# The CNF has to have one clause a line. Usage: examples/check-cadical-proof.sh [CNF]
 set -u
 here=$(cd "$(dirname "$0")" && pwd)
 celdrinn=$here/../celdrinn

@@ -3,9 +3,13 @@
 ghost use Rattle.q_kernel.specs.Taking.{AreModest, IsReady};
 
 use crate::trouble::Trouble;
+use q_blocked::Target as Block;
+use q_eliminate::Target as Eliminate;
+use q_equiv::Target as Merge;
 use q_kernel::{Kernel, Taken};
 use q_logic::{Bounds, Lit};
 use q_reduce::Target as Reduce;
+use q_subsume::Target as Subsume;
 use std::alloc::Global;
 use std::fmt;
 
@@ -13,6 +17,10 @@ use std::fmt;
 #[derive(Clone, Copy)]
 pub enum Aim {
     Reduce(Reduce),
+    Subsume(Subsume),
+    Merge(Merge),
+    Block(Block),
+    Eliminate(Eliminate),
 }
 
 impl Aim {
@@ -20,6 +28,10 @@ impl Aim {
     pub fn rules(&self) -> &'static str {
         match self {
             Aim::Reduce(_) => "reduce",
+            Aim::Subsume(_) => "subsume",
+            Aim::Merge(_) => "equiv",
+            Aim::Block(_) => "blocked",
+            Aim::Eliminate(_) => "eliminate",
         }
     }
 
@@ -35,6 +47,10 @@ impl Aim {
     {
         let taken = match self {
             Aim::Reduce(target) => q_reduce::try_one(alloc, kernel, target, bounds),
+            Aim::Subsume(target) => q_subsume::try_one(alloc, kernel, target, bounds),
+            Aim::Merge(target) => q_equiv::try_one(alloc, kernel, target, bounds),
+            Aim::Block(target) => q_blocked::try_one(alloc, kernel, target, bounds),
+            Aim::Eliminate(target) => q_eliminate::try_one(alloc, kernel, target, bounds),
         };
         Ok(taken?)
     }
@@ -53,6 +69,10 @@ pub fn find(
 {
     match rules {
         "reduce" => Ok(q_reduce::find(alloc, kernel, bounds, from)?.map(Aim::Reduce)),
+        "subsume" => Ok(q_subsume::find(alloc, kernel, bounds, from)?.map(Aim::Subsume)),
+        "equiv" => Ok(q_equiv::find(alloc, kernel, bounds, from)?.map(Aim::Merge)),
+        "blocked" => Ok(q_blocked::find(alloc, kernel, bounds, from)?.map(Aim::Block)),
+        "eliminate" => Ok(q_eliminate::find(alloc, kernel, bounds, from)?.map(Aim::Eliminate)),
         _ => Err(Trouble::Unreadable("a crate of rules")),
     }
 }
@@ -64,7 +84,46 @@ pub fn aim_of(text: &str) -> Result<Aim, Trouble> {
     if let Some(target) = reduce_of(kind, numbers)? {
         return Ok(Aim::Reduce(target));
     }
-    Err(Trouble::Unreadable("a target"))
+    pair_of(kind, numbers)
+}
+
+// A target of one of the other rules.
+fn pair_of(kind: &str, numbers: [i32; 3]) -> Result<Aim, Trouble> {
+    let [first, second, third] = numbers;
+    let aim = match kind {
+        "subsumed" => Aim::Subsume(Subsume::Subsumed {
+            c: id(first),
+            d: id(second),
+        }),
+        "strengthen" => Aim::Subsume(Subsume::Strengthen {
+            c: id(first),
+            d: id(second),
+            l: lit(third)?,
+        }),
+        "merge" => Aim::Merge(Merge::Merge {
+            keep: lit(first)?,
+            gone: lit(second)?,
+        }),
+        "eliminate" => Aim::Eliminate(Eliminate::Eliminate { x: id(first) }),
+        _ => return block_of(kind, first, second),
+    };
+    Ok(aim)
+}
+
+fn block_of(kind: &str, first: i32, second: i32) -> Result<Aim, Trouble> {
+    let target = match kind {
+        "blocked" => Block::Blocked {
+            c: id(first),
+            l: lit(second)?,
+        },
+        "blocked-forall" => Block::BlockedForall {
+            c: id(first),
+            l: lit(second)?,
+        },
+        "cover" => Block::Cover { c: id(first) },
+        _ => return Err(Trouble::Unreadable("a target")),
+    };
+    Ok(Aim::Block(target))
 }
 
 fn reduce_of(kind: &str, numbers: [i32; 3]) -> Result<Option<Reduce>, Trouble> {
@@ -114,6 +173,19 @@ impl fmt::Display for Aim {
             Aim::Reduce(Reduce::Unit { c }) => write!(f, "unit {c}"),
             Aim::Reduce(Reduce::Cut { c, l }) => write!(f, "cut {c} {}", l.number()),
             Aim::Reduce(Reduce::Pure { l }) => write!(f, "pure {}", l.number()),
+            Aim::Subsume(Subsume::Subsumed { c, d }) => write!(f, "subsumed {c} {d}"),
+            Aim::Subsume(Subsume::Strengthen { c, d, l }) => {
+                write!(f, "strengthen {c} {d} {}", l.number())
+            }
+            Aim::Merge(Merge::Merge { keep, gone }) => {
+                write!(f, "merge {} {}", keep.number(), gone.number())
+            }
+            Aim::Block(Block::Blocked { c, l }) => write!(f, "blocked {c} {}", l.number()),
+            Aim::Block(Block::BlockedForall { c, l }) => {
+                write!(f, "blocked-forall {c} {}", l.number())
+            }
+            Aim::Block(Block::Cover { c }) => write!(f, "cover {c}"),
+            Aim::Eliminate(Eliminate::Eliminate { x }) => write!(f, "eliminate {x}"),
         }
     }
 }
