@@ -1,5 +1,5 @@
 -- The clause of the literals before a place.
-use Rattle.std.proofs.Common.{◌≡◌, ◌≤◌, ◌<◌, ◌+◌, ◌⊎◌, ℕ, zero, suc, List, [], ◌∷◌, ◌++◌, slice_get, Some, take, drop, length, get_or, Bool, true, false, ◌==◌, cond, inl, inr, arith, refl, sym, ap, ◌∙◌, subst}
+use Rattle.std.proofs.Common.{◌≡◌, ◌≤◌, ◌<◌, ◌+◌, ℕ, zero, suc, List, [], ◌∷◌, slice_get, Some, take, length, Bool, true, false, ◌==◌, cond, inl, inr, arith}
 use Rattle.std.specs.Prelude.{nat_lt}
 use Rattle.q_logic.specs.Literals.{Literal, pack}
 use Rattle.q_logic.specs.Formulas.{Clause, Prefix, IsIn}

@@ -1,13 +1,13 @@
 -- Growing a set until it ends or is stuck.
-use Rattle.std.proofs.Common.{◌≡◌, ◌≢◌, ◌⊎◌, ◌↔◌, ℕ, Bool, true, false, List, [], ◌∷◌, ◌++◌, ◌+◌, ◌<◌, ◌≤◌, take, length, get_or, slice_get, Some, None, inl, inr, refl, sym, ap, ◌∙◌, subst, arith, true≢false, length-append}
+use Rattle.std.proofs.Common.{◌≡◌, ◌⊎◌, ℕ, true, List, [], ◌∷◌, ◌++◌, ◌+◌, ◌<◌, ◌≤◌, take, length, slice_get, Some, None, inl, inr, refl, sym, ap, ◌∙◌, subst, arith, length-append}
 use Rattle.std.proofs.lemmas.List.{take-append-le, append_assoc}
 use Rattle.q_logic.specs.Literals.{Literal, negation}
 use Rattle.q_logic.specs.Formulas.{Clause, Matrix, Prefix, IsIn}
-use Rattle.q_logic.specs.Prefixes.{is_bound, is_existential}
+use Rattle.q_logic.specs.Prefixes.{is_bound}
 use Rattle.q_logic.specs.Sets.{IsSubset, IsTautology}
 use Rattle.q_logic.specs.Steps.{Within}
-use Rattle.q_logic.specs.Numbered.{Slots, slot, others}
-use Rattle.q_logic.specs.Covering.{Hidden, Covered, Grows, Ends, Covers}
+use Rattle.q_logic.specs.Numbered.{Slots, others}
+use Rattle.q_logic.specs.Covering.{Covered, Grows, Ends, Covers}
 use Rattle.q_logic.proofs.CoverRun.{stuck-covers_none, in_or_not}
 use Rattle.q_logic.proofs.Clauses.{IsIn-append, IsIn-append_left}
 use Rattle.q_logic.proofs.Implying.{IsIn-append_right}
@@ -17,13 +17,13 @@ use Rattle.q_kernel.specs.Kernels.{Seen, slots, IsSound}
 use Rattle.q_rule.proofs.Members.{taken-cases, taken-all}
 use Rattle.q_blocked.specs.declared.growth.Growth.{Growth}
 use Rattle.q_blocked.specs.declared.plan.Stage.{Stage}
-use Rattle.q_blocked.specs.Units.{IsSingle, HasUnits}
+use Rattle.q_blocked.specs.Units.{HasUnits}
 use Rattle.q_blocked.specs.Walks.{IsBeside, IsCalm, IsCalmAt, Gives}
 use Rattle.q_blocked.specs.Growths.{IsGrowing, IsPushed, IsPassive, AreUnitsCalm}
-use Rattle.q_blocked.proofs.Passing.{others-find, one}
-use Rattle.q_blocked.proofs.Members.{place-member, place-get}
+use Rattle.q_blocked.proofs.Passing.{others-find}
+use Rattle.q_blocked.proofs.Members.{place-get}
 use Rattle.q_blocked.proofs.Hiding.{other_or, same_or, twice}
-use Rattle.q_blocked.proofs.Fronts.{take-in, take-less}
+use Rattle.q_blocked.proofs.Fronts.{take-in}
 use Rattle.q_blocked.proofs.Reaching.{reached-begun, reached-hidden, reached-settled, reached-covered}
 
 -- S is stuck where all its literals have been looked at

@@ -1,6 +1,6 @@
 -- Hidden literals of one clause.
-use Rattle.std.proofs.Common.{◌≡◌, ◌≢◌, ◌⊎◌, ◌↔◌, Bool, true, false, not, [], ◌∷◌, ◌++◌, inl, inr, refl, sym, subst, arith}
-use Rattle.q_logic.specs.Literals.{Literal, negation, literal_eq}
+use Rattle.std.proofs.Common.{◌≡◌, ◌≢◌, ◌⊎◌, Bool, true, false, not, [], ◌∷◌, ◌++◌, inl, inr, refl, sym, subst}
+use Rattle.q_logic.specs.Literals.{Literal, negation}
 use Rattle.q_logic.specs.Formulas.{Clause, Matrix, IsIn}
 use Rattle.q_logic.specs.Sets.{IsSubset, IsTautology}
 use Rattle.q_logic.specs.Covering.{Hidden}

@@ -1,11 +1,11 @@
 -- Covered literals, clause by clause.
-use Rattle.std.proofs.Common.{◌≡◌, ◌≢◌, ◌⊎◌, ◌↔◌, ℕ, Bool, true, false, List, [], ◌∷◌, ◌++◌, Some, inl, inr, refl, sym, ◌∙◌, subst, true≢false}
+use Rattle.std.proofs.Common.{◌≡◌, ◌⊎◌, ℕ, Bool, true, false, List, [], ◌∷◌, ◌++◌, Some, inl, inr, refl, sym, ◌∙◌, subst, true≢false}
 use Rattle.q_logic.specs.Literals.{Literal, negation}
 use Rattle.q_logic.specs.Formulas.{Clause, Matrix, Prefix, IsIn}
 use Rattle.q_logic.specs.Prefixes.{is_existential}
 use Rattle.q_logic.specs.Pivots.{keeps, outer}
 use Rattle.q_logic.specs.Numbered.{Slots, slot, others}
-use Rattle.q_logic.specs.Blocking.{Clashes, AllClash}
+use Rattle.q_logic.specs.Blocking.{Clashes}
 use Rattle.q_logic.specs.Covering.{InEach, Covered}
 use Rattle.q_logic.proofs.Slots.{others-slot}
 use Rattle.q_logic.proofs.Clauses.{IsIn-outer, IsIn-append, IsIn-append_left}
@@ -13,7 +13,7 @@ use Rattle.q_logic.proofs.Implying.{IsIn-append_right}
 use Rattle.q_logic.proofs.Sets.{IsIn-outer_in}
 use Rattle.q_logic.proofs.CoverRun.{in_or_not}
 use Rattle.q_arena.specs.Rings.{Has}
-use Rattle.q_blocked.specs.Walks.{IsBeside, IsOpen, IsCutBy, IsNarrowed, IsLooked}
+use Rattle.q_blocked.specs.Walks.{IsOpen, IsCutBy, IsNarrowed, IsLooked}
 use Rattle.q_blocked.proofs.Passing.{HasPassed, passed-begun, passed-one, passed-map, passed-all, one}
 
 -- what the literals that are found so far keep to of a clause

@@ -1,8 +1,8 @@
 -- A pass over the literals of a set, in search of covered ones.
 use Rattle.std.proofs.Common.{◌≡◌, ◌⊎◌, ◌+◌, ◌<◌, ◌≤◌, ℕ, Bool, true, false, take, length, slice_get, Some, inl, inr, refl, sym, ◌∙◌, subst, true≢false}
 use Rattle.q_logic.specs.Literals.{Literal}
-use Rattle.q_logic.specs.Formulas.{Clause, Matrix, Prefix, IsIn}
-use Rattle.q_logic.specs.Numbered.{Slots, slot, others}
+use Rattle.q_logic.specs.Formulas.{Clause, IsIn}
+use Rattle.q_logic.specs.Numbered.{others}
 use Rattle.q_logic.specs.Covering.{Covers}
 use Rattle.q_kernel.specs.Kernels.{Seen, slots}
 use Rattle.q_rule.proofs.Members.{taken-cases, taken-all}
@@ -10,8 +10,8 @@ use Rattle.q_blocked.specs.declared.growth.Growth.{Growth}
 use Rattle.q_blocked.specs.declared.outcome.Outcome.{Outcome}
 use Rattle.q_blocked.specs.declared.outcome.Outcome.TheVariants.{Ended, Grown, Calm}
 use Rattle.q_blocked.specs.Outcomes.{is_ended, is_grown}
-use Rattle.q_blocked.specs.Growths.{Growing, Covered, IsPassive, HasLooked, HasTurned, HasUsedUnits, HasDecided, AreUnitsCalm}
-use Rattle.q_blocked.proofs.Members.{place-member, place-get}
+use Rattle.q_blocked.specs.Growths.{Growing, Covered, IsPassive, HasLooked, HasTurned, HasUsedUnits, HasDecided}
+use Rattle.q_blocked.proofs.Members.{place-get}
 use Rattle.q_blocked.proofs.Growing.{growing-stuck}
 
 -- it has looked at the literals before a place

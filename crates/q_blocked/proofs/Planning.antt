@@ -1,12 +1,11 @@
 -- What a decision tells: whether the target fits, and its plan.
-use Rattle.std.proofs.Common.{◌≡◌, ◌∙◌, ◌↔◌, Bool, true, false, ℕ, Some, Option, List, length, take, refl, sym, ap, subst, true≢false, IsTrue}
+use Rattle.std.proofs.Common.{◌≡◌, ◌∙◌, ◌↔◌, Bool, true, false, ℕ, Some, Option, List, length, refl, sym, ap, subst, true≢false, IsTrue}
 use Rattle.q_logic.specs.declared.rule_bounds.Bounds.{Bounds}
 use Rattle.q_logic.specs.Literals.{Literal, IsBelow}
 use Rattle.q_logic.specs.Formulas.{Clause}
 use Rattle.q_logic.specs.Parts.{ArePairs}
 use Rattle.q_logic.specs.Clauses.{clause_of}
-use Rattle.q_logic.specs.Numbered.{slot, others}
-use Rattle.q_logic.specs.Covering.{Covers}
+use Rattle.q_logic.specs.Numbered.{others}
 use Rattle.q_logic.specs.Targets.{cover}
 use Rattle.q_logic.specs.Rules.{Fits}
 use Rattle.q_logic.proofs.ClauseSets.{clause_of-ordered_clause}
@@ -16,7 +15,7 @@ use Rattle.q_kernel.proofs.Costs.{proper-in_order}
 use Rattle.q_blocked.specs.declared.growth.Growth.{Growth}
 use Rattle.q_blocked.specs.declared.plan.Plan.{Plan}
 use Rattle.q_blocked.specs.declared.plan.Stage.{Stage}
-use Rattle.q_blocked.specs.Plans.{front, MayGo, IsWay, IsPlan, IsPlanFor}
+use Rattle.q_blocked.specs.Plans.{front, MayGo, IsWay, IsPlanFor}
 use Rattle.q_blocked.specs.Growths.{Covered, HasDecided}
 
 same : (C D : Clause) → Some C ≡ Some D → C ≡ D

@@ -1,5 +1,5 @@
 -- Sets that are reached by stages and hidden literals.
-use Rattle.std.proofs.Common.{◌≡◌, ◌≢◌, ◌≤◌, ◌<◌, ◌+◌, ◌⊎◌, ◌↔◌, ℕ, true, List, [], ◌∷◌, ◌++◌, take, length, inl, inr, arith, refl, sym, ap, ◌∙◌, subst, Some, None, Option, length-append}
+use Rattle.std.proofs.Common.{◌≡◌, ◌≤◌, ◌⊎◌, ℕ, true, List, [], ◌∷◌, ◌++◌, take, length, inl, inr, arith, refl, sym, ◌∙◌, subst, Some, None, length-append}
 use Rattle.std.proofs.lemmas.List.{take-append-le}
 use Rattle.q_logic.specs.Literals.{Literal, negation, literal_eq}
 use Rattle.q_logic.specs.Formulas.{Clause, Matrix, Prefix, IsIn}
@@ -9,7 +9,7 @@ use Rattle.q_logic.specs.Pivots.{keeps, outer, ExistsPivot}
 use Rattle.q_logic.specs.Sets.{IsSubset, IsTautology}
 use Rattle.q_logic.specs.Steps.{Within}
 use Rattle.q_logic.specs.Blocking.{Clashes, AllClash}
-use Rattle.q_logic.specs.Covering.{Hidden, Covered, InEach, Covers, Ends}
+use Rattle.q_logic.specs.Covering.{Covered, InEach, Covers}
 use Rattle.q_logic.proofs.Clauses.{literal_eq-itself, IsIn-append, IsIn-append_left, IsIn-outer}
 use Rattle.q_logic.proofs.Implying.{IsIn-append_right, implied-longer, implied-subsumed, implied-tautology, implied-hidden_new}
 use Rattle.q_logic.proofs.CoverRun.{clash_or_not}

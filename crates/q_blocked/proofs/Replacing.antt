@@ -1,9 +1,8 @@
 -- A clause comes in the place of a smaller one, and a clause goes.
-use Rattle.std.proofs.Common.{◌≡◌, ◌≢◌, ◌≤◌, ◌+◌, ◌*◌, ◌<◌, ◌⊎◌, ◌∙◌, ℕ, None, inl, inr, arith, refl, sym, ap, subst, Some, Option, length, [], ◌∷◌, ◌++◌}
+use Rattle.std.proofs.Common.{◌≡◌, ◌≢◌, ◌≤◌, ◌+◌, ◌*◌, ◌∙◌, ℕ, None, inl, inr, arith, refl, sym, subst, Some, Option, length, ◌∷◌, ◌++◌}
 use Rattle.q_arena.proofs.Numbers.{ℕ-cases}
-use Rattle.q_logic.specs.Literals.{Literal, IsBelow, negation}
+use Rattle.q_logic.specs.Literals.{Literal, negation}
 use Rattle.q_logic.specs.Formulas.{Clause, Matrix, Prefix, IsIn}
-use Rattle.q_logic.specs.Parts.{ArePairs}
 use Rattle.q_logic.specs.Propagation.{Implied}
 use Rattle.q_logic.specs.Pivots.{outer, ExistsPivot}
 use Rattle.q_logic.specs.Steps.{add, delete, one_less}
@@ -16,12 +15,12 @@ use Rattle.q_logic.proofs.Looping.{live-without}
 use Rattle.q_log.specs.Texts.{step_text}
 use Rattle.q_kernel.specs.Kernels.{Seen, slots, formula_in, IsSound}
 use Rattle.q_kernel.specs.Changes.{MayAdd, MayDelete, IsAdded, IsDeleted}
-use Rattle.q_kernel.proofs.Slotting.{alike-others, slot-set_same, slot-set_other, slot-below, length-set_slot, live-same}
+use Rattle.q_kernel.proofs.Slotting.{alike-others, slot-set_other, live-same}
 use Rattle.q_kernel.proofs.Leading.{led-through}
 use Rattle.q_kernel.proofs.Costs.{AreSmall, first-first, cost-add, within-small}
 use Rattle.q_rule.proofs.Steps.{clause-in, clause-within, delete-cost, implied-cost}
 use Rattle.q_blocked.specs.Plans.{MayGo, MayReplace, IsReplaced, MayLeave, HasLeft}
-use Rattle.q_blocked.proofs.Passing.{others-find, one}
+use Rattle.q_blocked.proofs.Passing.{others-find}
 
 -- the clauses beside the smaller one, once the larger one T has come under the id e
 module _ (N : Slots) (c e : ℕ) (S T : Clause) (free : slot N e ≡ None) (there : slot N c ≡ Some S) (M : Slots) (came : M ≡ set_slot e (Some T) N) (new : slot M e ≡ Some T) where

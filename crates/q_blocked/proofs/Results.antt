@@ -1,5 +1,5 @@
 -- The targets of this crate: their changes keep the limits, and what steps make of them.
-use Rattle.std.proofs.Common.{◌≡◌, ◌≤◌, ◌+◌, ◌*◌, ℕ, ◌∷◌, arith, sym, ap, ◌∙◌, subst, Some, length}
+use Rattle.std.proofs.Common.{◌≡◌, ◌≤◌, ◌+◌, ◌*◌, ℕ, ◌∷◌, sym, ap, ◌∙◌, subst, Some, length}
 use Rattle.q_logic.specs.declared.rule_bounds.Bounds.{Bounds}
 use Rattle.q_logic.specs.Literals.{Literal}
 use Rattle.q_logic.specs.Formulas.{Clause, Matrix, Prefix, IsIn}

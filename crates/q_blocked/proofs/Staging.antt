@@ -1,29 +1,28 @@
 -- A covered clause goes, stage by stage.
 use Rattle.std.proofs.Common.{◌≡◌, ◌≤◌, ◌<◌, ◌+◌, ◌*◌, ◌^◌, ℕ, zero, suc, List, [], ◌∷◌, drop, length, get_or, arith, refl, sym, ap, ◌∙◌, subst, Some, None, Option, add-one}
 use Rattle.std.proofs.Math.Seq.{drop-cons}
-use Rattle.q_logic.specs.Literals.{Literal, IsBelow}
-use Rattle.q_logic.specs.Formulas.{Clause, Matrix, Prefix, IsIn}
-use Rattle.q_logic.specs.Parts.{ArePairs}
+use Rattle.q_logic.specs.Literals.{Literal}
+use Rattle.q_logic.specs.Formulas.{Clause, Matrix, Prefix}
 use Rattle.q_logic.specs.Limits.{standard}
 use Rattle.q_logic.specs.InLimits.{IsInLimits, greatest}
 use Rattle.q_logic.specs.Measure.{size_of}
-use Rattle.q_logic.specs.Steps.{Within, KeepsLimits, literals_in}
-use Rattle.q_logic.specs.Numbered.{Slots, slot, set_slot, live, others, formula_of}
+use Rattle.q_logic.specs.Steps.{Within, literals_in}
+use Rattle.q_logic.specs.Numbered.{slot, live, others, formula_of}
 use Rattle.q_logic.specs.Targets as theory
 use Rattle.q_logic.proofs.ClauseSets.{clause_of-ordered}
 use Rattle.q_logic.proofs.Ordering.{pairs-ordered, bounded-length}
 use Rattle.q_logic.proofs.Reaching.{SameClauses, alike-refl}
 use Rattle.q_logic.proofs.Looping.{live-without}
-use Rattle.q_kernel.specs.Kernels.{Seen, slots, formula_in, HasSweepBytes}
-use Rattle.q_kernel.specs.Changes.{IsLed, AreAlike}
+use Rattle.q_kernel.specs.Kernels.{Seen, slots, formula_in}
+use Rattle.q_kernel.specs.Changes.{IsLed}
 use Rattle.q_kernel.proofs.Slotting.{length-others, literals-others, size-others}
 use Rattle.q_kernel.proofs.Leading.{led-itself, led-through}
 use Rattle.q_rule.specs.Becoming.{IsChanged}
 use Rattle.q_rule.proofs.Results.{less-limits, others-less}
 use Rattle.q_blocked.specs.declared.plan.Stage.{Stage}
 use Rattle.q_blocked.specs.declared.plan.Plan.{Plan}
-use Rattle.q_blocked.specs.Plans.{front, MayGo, IsWay, IsPlan, IsPlanFor, HasRoomFor, words_of, MayReplace, IsReplaced, MayLeave, HasLeft}
-use Rattle.q_blocked.proofs.Fronts.{take-in, front-short, front-larger, front-within}
+use Rattle.q_blocked.specs.Plans.{front, MayGo, IsWay, IsPlanFor, HasRoomFor, words_of, MayReplace, IsReplaced, MayLeave, HasLeft}
+use Rattle.q_blocked.proofs.Fronts.{front-short, front-larger, front-within}
 
 -- so many stages were taken
 pub record IsStaged (old now : Seen) (c id : ℕ) (p : Plan) (i : ℕ) : Type 0 where

@@ -1,7 +1,7 @@
 -- When the steps of blocked clauses are valid.
 use Rattle.std.proofs.Common.{◌≡◌, ◌≤◌, ◌+◌, ◌*◌, ℕ, true, inl, inr, arith, refl, Some, length}
 use Rattle.q_logic.specs.Literals.{Literal, negation}
-use Rattle.q_logic.specs.Formulas.{Clause, Matrix, Prefix, IsIn}
+use Rattle.q_logic.specs.Formulas.{Clause, IsIn}
 use Rattle.q_logic.specs.Prefixes.{is_existential, is_universal}
 use Rattle.q_logic.specs.Blocking.{AllClash}
 use Rattle.q_logic.specs.Steps.{delete, drop_literal, one_less}

@@ -1,12 +1,12 @@
 -- Sets that grow.
-use Rattle.std.specs.Prelude.{◌≡◌, ◌≤◌, ◌<◌, ℕ, Bool, true, false, List, ◌++◌, length, take, Option, Some}
+use Rattle.std.specs.Prelude.{◌≡◌, ◌≤◌, ℕ, Bool, true, false, List, ◌++◌, length, take, Option, Some}
 use Rattle.q_logic.specs.Literals.{Literal}
 use Rattle.q_logic.specs.Formulas.{Clause, Matrix, Prefix, IsIn}
 use Rattle.q_logic.specs.Prefixes.{is_existential}
 use Rattle.q_logic.specs.Propagation.{Implied}
 use Rattle.q_logic.specs.Sets.{IsSubset, IsTautology}
 use Rattle.q_logic.specs.Steps.{Within}
-use Rattle.q_logic.specs.Numbered.{Slots, slot, others}
+use Rattle.q_logic.specs.Numbered.{slot, others}
 use Rattle.q_logic.specs.Covering.{InEach, Covers}
 use Rattle.q_kernel.specs.Kernels.{Seen, slots}
 use Rattle.q_blocked.specs.declared.growth.Growth.{Growth}
@@ -15,7 +15,7 @@ use Rattle.q_blocked.specs.declared.outcome.Outcome.TheVariants.{Ended, Grown, C
 use Rattle.q_blocked.specs.declared.plan.Stage.{Stage}
 use Rattle.q_blocked.specs.Plans.{front, MayGo, IsWay}
 use Rattle.q_blocked.specs.Units.{IsSingle}
-use Rattle.q_blocked.specs.Walks.{IsBeside, IsCalm, IsCalmAt, IsOpen, IsLooked}
+use Rattle.q_blocked.specs.Walks.{IsCalm, IsCalmAt, IsOpen, IsLooked}
 
 -- where the literals of A are false, propagation makes those of S false: what is implied with those of S is implied without
 abbrev pub Falls : Matrix → Clause → Clause → Type 0

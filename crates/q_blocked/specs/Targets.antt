@@ -1,5 +1,5 @@
 -- The targets of this crate, as targets of the theory.
-use Rattle.std.specs.Prelude.{◌≡◌, ℕ, []}
+use Rattle.std.specs.Prelude.{◌≡◌, []}
 use Rattle.q_logic.specs.Formulas.{Prefix}
 use Rattle.q_logic.specs.Numbered.{Slots}
 use Rattle.q_logic.specs.Targets as theory

@@ -1,5 +1,4 @@
 use Rattle.std.proofs.Common.{◌↔◌, sym, subst, IsTrue}
-use Rattle.q_logic.specs.declared.rule_bounds.Bounds.{Bounds}
 use Rattle.q_logic.specs.Rules.{Fits}
 use Rattle.q_kernel.specs.Kernels.{slots}
 use Rattle.q_blocked.specs.declared.target.Target.{Target}

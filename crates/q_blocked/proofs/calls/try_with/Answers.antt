@@ -1,5 +1,4 @@
 use Rattle.std.proofs.Common.{◌∙◌, refl, sym, true≢false}
-use Rattle.q_kernel.specs.Kernels.{slots}
 use Rattle.q_rule.proofs.Results.{fits-view, taken}
 use Rattle.q_blocked.specs.Targets.{target_of}
 use Rattle.q_blocked.proofs.Results.{fits-applies, plan-view}

@@ -1,13 +1,12 @@
-use Rattle.std.proofs.Common.{◌≡◌, sym, subst}
+use Rattle.std.proofs.Common.{◌≡◌, subst}
 use Rattle.q_logic.specs.declared.rule_bounds.Bounds.{Bounds}
 use Rattle.q_logic.specs.Formulas.{Prefix}
 use Rattle.q_logic.specs.Numbered.{Slots}
 use Rattle.q_logic.specs.Rules.{Fits}
 use Rattle.q_kernel.specs.Kernels.{slots}
 use Rattle.q_blocked.specs.declared.target.Target.{Target}
-use Rattle.q_blocked.specs.declared.target.Target.TheVariants.{Blocked, BlockedForall, Cover}
+use Rattle.q_blocked.specs.declared.target.Target.TheVariants.{Blocked, BlockedForall}
 use Rattle.q_blocked.specs.Targets.{target_of, HasPlan}
-use Rattle.q_rule.specs.Becoming.{IsChanged}
 use Rattle.q_blocked.proofs.changing.make_change.Goals as goal
 
 at : (P : Prefix) (N : Slots) (t u : Target) → t ≡ u → ((B : Bounds) → Fits B P N (target_of t)) → (B : Bounds) → Fits B P N (target_of u)

@@ -1,7 +1,7 @@
-use Rattle.std.proofs.Common.{◌≡◌, ◌≢◌, ◌↔◌, ◌∙◌, ◌++◌, ◌∷◌, [], ℕ, List, Option, Some, true, get_or, sym, ap, subst, refl, true≢false}
+use Rattle.std.proofs.Common.{◌≡◌, ◌∙◌, ◌++◌, ◌∷◌, [], ℕ, List, Option, get_or, sym, ap, subst, refl, true≢false}
 use Rattle.q_logic.specs.Literals.{negation}
 use Rattle.q_logic.specs.Formulas.{Clause, IsIn}
-use Rattle.q_logic.specs.Numbered.{slot, others}
+use Rattle.q_logic.specs.Numbered.{others}
 use Rattle.q_logic.specs.Blocking.{Clashes, AllClash}
 use Rattle.q_logic.proofs.Slots.{others-slot}
 use Rattle.q_arena.specs.Rings.{Has}

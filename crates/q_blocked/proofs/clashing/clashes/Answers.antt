@@ -1,4 +1,4 @@
-use Rattle.std.proofs.Common.{◌≡◌, ◌↔◌, ◌∙◌, ◌⊎◌, inl, inr, true, sym, refl, subst, true≢false}
+use Rattle.std.proofs.Common.{◌≡◌, ◌↔◌, inl, inr, true, sym, refl, subst, true≢false}
 use Rattle.q_logic.specs.Literals.{Literal, negation}
 use Rattle.q_logic.specs.Formulas.{Clause, IsIn}
 use Rattle.q_logic.specs.Pivots.{keeps}

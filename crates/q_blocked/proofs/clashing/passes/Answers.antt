@@ -1,4 +1,4 @@
-use Rattle.std.proofs.Common.{◌≡◌, ◌↔◌, true, refl, sym, subst}
+use Rattle.std.proofs.Common.{refl, subst}
 use Rattle.q_logic.specs.Formulas.{Clause, IsIn}
 use Rattle.q_logic.specs.Literals.{negation}
 use Rattle.q_logic.specs.Blocking.{Clashes}

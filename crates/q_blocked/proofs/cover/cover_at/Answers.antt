@@ -3,7 +3,6 @@ use Rattle.q_logic.specs.Literals.{Literal}
 use Rattle.q_logic.specs.Formulas.{Clause, Matrix, Prefix, IsIn}
 use Rattle.q_logic.specs.Prefixes.{is_existential}
 use Rattle.q_logic.specs.Numbered.{others}
-use Rattle.q_logic.specs.Covering.{InEach}
 use Rattle.q_logic.specs.Blocking.{AllClash}
 use Rattle.q_logic.proofs.CoverRun.{in_or_not}
 use Rattle.q_kernel.specs.Kernels.{slots}

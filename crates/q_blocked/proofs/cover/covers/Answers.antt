@@ -1,5 +1,5 @@
-use Rattle.std.proofs.Common.{◌≡◌, ◌∙◌, sym}
-use Rattle.q_blocked.proofs.Passes.{turned-ended, turned-grown, turned-calm}
+use Rattle.std.proofs.Common.{◌∙◌, sym}
+use Rattle.q_blocked.proofs.Passes.{turned-ended, turned-calm}
 use Rattle.q_blocked.proofs.cover.covers.Goals as goal
 
 pub returns-then-is_ended-clause-decided : goal.returns-then-is_ended-clause-decided

@@ -1,14 +1,7 @@
-use Rattle.std.proofs.Common.{◌≡◌, ◌∙◌, ◌↔◌, List, Bool, true, false, Some, Option, length, sym, ap, subst, true≢false, IsTrue}
-use Rattle.q_logic.specs.declared.rule_bounds.Bounds.{Bounds}
-use Rattle.q_logic.specs.Literals.{Literal}
-use Rattle.q_logic.specs.Formulas.{Clause}
-use Rattle.q_logic.specs.Numbered.{slot, others}
-use Rattle.q_logic.specs.Covering.{Covers}
-use Rattle.q_kernel.specs.Kernels.{slots}
+use Rattle.std.proofs.Common.{Bool, true, sym, subst, true≢false}
 use Rattle.q_rule.proofs.Members.{test-false}
 use Rattle.q_blocked.specs.Growths.{HasDecided}
-use Rattle.q_blocked.specs.Plans.{IsPlanFor}
-use Rattle.q_blocked.proofs.Planning.{planned, decided-fits}
+use Rattle.q_blocked.proofs.Planning.{planned}
 use Rattle.q_blocked.proofs.cover.fits_cover.Goals as goal
 
 pub returns-then-not-live-clause-fits : goal.returns-then-not-live-clause-fits

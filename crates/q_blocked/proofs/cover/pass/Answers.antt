@@ -1,9 +1,8 @@
-use Rattle.std.proofs.Common.{◌≡◌, ◌∙◌, ◌<◌, ◌≤◌, ℕ, zero, suc, [], ◌∷◌, slice_get, Some, true, false, length, sym, refl, subst, arith, true≢false}
-use Rattle.q_logic.specs.Formulas.{Clause, IsIn}
+use Rattle.std.proofs.Common.{◌≡◌, ◌∙◌, ◌<◌, ℕ, zero, suc, [], ◌∷◌, slice_get, Some, false, length, sym, refl, arith, true≢false}
+use Rattle.q_logic.specs.Formulas.{Clause}
 use Rattle.q_logic.specs.Literals.{Literal}
-use Rattle.q_blocked.specs.Outcomes.{is_ended, is_grown}
-use Rattle.q_blocked.specs.Growths.{HasLooked}
-use Rattle.q_blocked.proofs.Passes.{IsPassing, passing-begun, passing-more, passing-done, looked-ended}
+use Rattle.q_blocked.specs.Outcomes.{is_grown}
+use Rattle.q_blocked.proofs.Passes.{passing-begun, passing-more}
 use Rattle.q_blocked.proofs.cover.pass.Goals as goal
 use Rattle.q_blocked.proofs.cover.pass.Goals.{then-grew-2, else-grew-2}
 

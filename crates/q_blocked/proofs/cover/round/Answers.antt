@@ -1,4 +1,4 @@
-use Rattle.std.proofs.Common.{◌≡◌, ◌∙◌, ◌≤◌, Bool, false, length, sym, subst}
+use Rattle.std.proofs.Common.{◌∙◌, Bool, false, sym, subst}
 use Rattle.q_logic.specs.Formulas.{IsIn}
 use Rattle.q_blocked.specs.Growths.{HasClosed}
 use Rattle.q_blocked.proofs.Passes.{looked-calm, units-turned}

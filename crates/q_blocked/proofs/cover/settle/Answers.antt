@@ -1,4 +1,4 @@
-use Rattle.std.proofs.Common.{◌≡◌, ◌∷◌, ◌++◌, [], ℕ, List, None, length, sym, subst}
+use Rattle.std.proofs.Common.{◌∷◌, ◌++◌, [], ℕ, List, None, length, sym, subst}
 use Rattle.q_logic.specs.Formulas.{Clause}
 use Rattle.q_logic.specs.Numbered.{others}
 use Rattle.q_kernel.specs.Kernels.{slots}

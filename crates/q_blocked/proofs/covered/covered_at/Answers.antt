@@ -1,14 +1,10 @@
-use Rattle.std.proofs.Common.{◌≡◌, ◌≢◌, ◌↔◌, ◌∙◌, ◌++◌, ◌∷◌, [], ℕ, List, Option, Some, true, false, get_or, sym, ap, subst, refl, true≢false}
-use Rattle.q_logic.specs.Literals.{Literal, negation}
-use Rattle.q_logic.specs.Formulas.{Clause, IsIn}
-use Rattle.q_logic.specs.Numbered.{slot, others}
-use Rattle.q_logic.proofs.Slots.{others-slot}
+use Rattle.std.proofs.Common.{◌≡◌, ◌∙◌, ◌++◌, ◌∷◌, [], ℕ, List, Option, false, get_or, sym, ap, subst}
+use Rattle.q_logic.specs.Literals.{negation}
 use Rattle.q_arena.specs.Rings.{Has}
 use Rattle.q_occ.specs.Places.{places_of}
-use Rattle.q_kernel.specs.Kernels.{slots, HoldsLiteral}
+use Rattle.q_kernel.specs.Kernels.{slots}
 use Rattle.q_kernel.proofs.Following.{passed, passed-none}
 use Rattle.q_blocked.specs.Walks.{IsNarrowed}
-use Rattle.q_rule.proofs.Members.{test-false}
 use Rattle.q_rule.proofs.Places.{passed-step, passed-falls}
 use Rattle.q_blocked.proofs.Narrowing.{IsCut, cut-begun, cut-more, cut-empty, cut-done}
 use Rattle.q_blocked.proofs.covered.covered_at.Goals as goal

@@ -1,8 +1,7 @@
-use Rattle.std.proofs.Common.{◌≡◌, ◌↔◌, ◌∙◌, true, false, refl, sym, inr, inl, subst, true≢false}
-use Rattle.q_logic.specs.Literals.{Literal, negation}
+use Rattle.std.proofs.Common.{◌∙◌, refl, sym, inr, inl, subst, true≢false}
+use Rattle.q_logic.specs.Literals.{negation}
 use Rattle.q_logic.specs.Formulas.{Clause, IsIn}
 use Rattle.q_logic.specs.Blocking.{Clashes}
-use Rattle.q_logic.specs.Pivots.{keeps}
 use Rattle.q_kernel.specs.Kernels.{slots}
 use Rattle.q_blocked.proofs.Passing.{one}
 use Rattle.q_rule.proofs.Members.{test-false}

@@ -1,4 +1,4 @@
-use Rattle.std.proofs.Common.{◌≡◌, ◌↔◌, ◌+◌, take, [], sym, subst}
+use Rattle.std.proofs.Common.{◌↔◌, ◌+◌, take, subst}
 use Rattle.q_logic.specs.Literals.{Literal}
 use Rattle.q_logic.specs.Formulas.{Clause, IsIn}
 use Rattle.q_rule.proofs.Members.{taken-cases, taken-more, taken-last, taken-all}

@@ -1,4 +1,4 @@
-use Rattle.std.proofs.Common.{◌≡◌, Some, None, Option, sym, subst}
+use Rattle.std.proofs.Common.{Some, Option, subst}
 use Rattle.q_logic.specs.Literals.{Literal}
 use Rattle.q_logic.specs.Numbered.{others}
 use Rattle.q_logic.specs.StepForms.{first_of}

@@ -1,10 +1,10 @@
-use Rattle.std.proofs.Common.{◌≡◌, ◌≤◌, ◌<◌, ◌∙◌, List, sym, ap, subst, length, get_or, take, vec_capacity, arith}
+use Rattle.std.proofs.Common.{◌≡◌, ◌≤◌, ◌<◌, ◌∙◌, List, sym, ap, subst, length, get_or, take, arith}
 use Rattle.q_logic.specs.Literals.{Literal}
 use Rattle.q_logic.specs.Formulas.{Clause}
 use Rattle.q_logic.specs.Clauses.{clause_of}
 use Rattle.q_blocked.specs.declared.plan.Stage.{Stage}
 use Rattle.q_blocked.specs.Plans.{front, MayReplace, IsReplaced}
-use Rattle.q_blocked.proofs.Staging.{staged-begun, stage-near, may-replace, staged-more, may-leave_last, changed-cover}
+use Rattle.q_blocked.proofs.Staging.{staged-begun, may-replace, staged-more, may-leave_last, changed-cover}
 use Rattle.q_blocked.proofs.covering.delete_covered.Goals as goal
 
 pub loop-stage-init : goal.loop-stage-init

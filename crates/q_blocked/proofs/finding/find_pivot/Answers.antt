@@ -1,8 +1,7 @@
-use Rattle.std.proofs.Common.{◌≡◌, ◌∙◌, sym, refl, ap, subst, None, Some, Option, inl, inr}
+use Rattle.std.proofs.Common.{◌≡◌, ◌∙◌, sym, ap, subst, Some, inl, inr}
 use Rattle.q_logic.specs.Literals.{Literal}
 use Rattle.q_logic.specs.Formulas.{Clause, IsIn}
-use Rattle.q_blocked.specs.declared.target.Target.{Target}
-use Rattle.q_blocked.specs.Searches.{IsOn, IsFound}
+use Rattle.q_blocked.specs.Searches.{IsOn}
 use Rattle.q_rule.proofs.Members.{item-in, taken-cases, taken-all}
 use Rattle.q_blocked.proofs.Seeking.{AreNone, found-on, found-pivot, none-is}
 use Rattle.q_blocked.proofs.finding.find_pivot.Goals as goal

@@ -1,6 +1,5 @@
-use Rattle.std.proofs.Common.{◌≡◌, ◌∙◌, true, false, sym, refl, subst, true≢false}
-use Rattle.q_logic.specs.Formulas.{IsIn}
-use Rattle.q_logic.specs.Prefixes.{is_bound, is_existential, is_universal}
+use Rattle.std.proofs.Common.{◌≡◌, ◌∙◌, true, false, sym, refl}
+use Rattle.q_logic.specs.Prefixes.{is_bound, is_existential}
 use Rattle.q_logic.proofs.Slots.{live-slot}
 use Rattle.q_kernel.specs.Kernels.{slots}
 use Rattle.q_rule.proofs.Members.{test-false}

@@ -1,4 +1,4 @@
-use Rattle.std.proofs.Common.{◌≡◌, ◌∙◌, ◌++◌, ◌∷◌, [], ◌<◌, ◌≤◌, length, sym, ap, arith}
+use Rattle.std.proofs.Common.{◌∙◌, ◌++◌, ◌∷◌, [], ◌<◌, length, sym, ap, arith}
 use Rattle.q_logic.specs.Formulas.{Clause}
 use Rattle.q_rule.proofs.Members.{taken-all}
 use Rattle.q_blocked.proofs.Members.{taken, place-get}

@@ -1,4 +1,4 @@
-use Rattle.std.proofs.Common.{◌≡◌, ◌∙◌, ◌<◌, ◌+◌, ◌++◌, ℕ, Bool, false, true, Some, slice_get, length, sym, ap, subst, arith}
+use Rattle.std.proofs.Common.{◌≡◌, ◌<◌, ◌+◌, ◌++◌, ℕ, Bool, false, Some, slice_get, length, sym, subst, arith}
 use Rattle.q_logic.specs.Formulas.{Clause, IsIn}
 use Rattle.q_logic.specs.Numbered.{others}
 use Rattle.q_kernel.specs.Kernels.{slots}

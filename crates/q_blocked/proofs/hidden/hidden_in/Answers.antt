@@ -1,8 +1,8 @@
-use Rattle.std.proofs.Common.{◌≡◌, ◌↔◌, ◌∙◌, ◌<◌, ◌==◌, true, false, Some, None, refl, sym, subst, length, arith}
+use Rattle.std.proofs.Common.{◌≡◌, ◌↔◌, ◌∙◌, ◌<◌, ◌==◌, true, false, Some, refl, sym, subst, length, arith}
 use Rattle.std.proofs.lemmas.Bool.Decides.{nat_tests}
 use Rattle.q_logic.specs.Literals.{Literal, negation}
 use Rattle.q_logic.specs.Formulas.{Clause, IsIn}
-use Rattle.q_blocked.specs.Walks.{IsCalm, Gives}
+use Rattle.q_blocked.specs.Walks.{Gives}
 use Rattle.q_rule.proofs.Members.{item-in, test-false}
 use Rattle.q_blocked.proofs.Hiding.{gives-only, gives-first, calm-another, calm-there}
 use Rattle.q_blocked.proofs.hidden.hidden_in.Goals as goal

@@ -1,4 +1,4 @@
-use Rattle.std.proofs.Common.{◌≡◌, ◌≢◌, Some, subst, sym, inl, inr, refl, true≢false}
+use Rattle.std.proofs.Common.{◌≢◌, subst, sym, inl, inr, refl, true≢false}
 use Rattle.q_logic.specs.Literals.{Literal}
 use Rattle.q_logic.specs.Formulas.{Clause, IsIn}
 use Rattle.q_logic.proofs.CoverRun.{in_or_not}

@@ -2,7 +2,6 @@ use Rattle.std.proofs.Common.{◌≡◌, Some, subst, sym, inl, inr}
 use Rattle.q_logic.specs.Literals.{Literal}
 use Rattle.q_logic.specs.Formulas.{Clause, IsIn}
 use Rattle.q_logic.specs.Sets.{IsSubset}
-use Rattle.q_logic.proofs.CoverRun.{in_or_not}
 use Rattle.q_rule.proofs.Members.{item-in, taken-cases, taken-all, test-false}
 use Rattle.q_blocked.proofs.hidden.outside.Goals as goal
 

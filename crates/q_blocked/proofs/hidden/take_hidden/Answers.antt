@@ -1,14 +1,14 @@
-use Rattle.std.proofs.Common.{◌≡◌, ◌↔◌, ◌++◌, ◌∷◌, [], true, Some, None, refl, sym, subst, inl}
+use Rattle.std.proofs.Common.{◌≡◌, ◌++◌, ◌∷◌, [], true, None, refl, sym, subst, inl}
 use Rattle.q_logic.specs.Literals.{Literal, negation}
 use Rattle.q_logic.specs.Formulas.{Clause, IsIn}
 use Rattle.q_logic.specs.Prefixes.{is_bound}
-use Rattle.q_logic.specs.Numbered.{slot, others}
+use Rattle.q_logic.specs.Numbered.{others}
 use Rattle.q_logic.proofs.Slots.{live-slot, others-slot}
 use Rattle.q_logic.proofs.Implying.{IsIn-append_right}
 use Rattle.q_kernel.specs.Kernels.{slots}
 use Rattle.q_rule.proofs.Members.{test-false}
-use Rattle.q_blocked.specs.Walks.{IsBeside, IsCalmAt, Gives}
-use Rattle.q_blocked.specs.Growths.{IsGrowing, IsCovered, IsPushed}
+use Rattle.q_blocked.specs.Walks.{IsCalmAt}
+use Rattle.q_blocked.specs.Growths.{IsGrowing, IsCovered}
 use Rattle.q_blocked.proofs.Passing.{one}
 use Rattle.q_blocked.proofs.Reaching.{reached-hidden, covered-tautology}
 use Rattle.q_blocked.proofs.Growing.{growing-hidden, calm-given}

@@ -1,6 +1,5 @@
-use Rattle.std.proofs.Common.{◌≡◌, ◌∙◌, ◌≤◌, ◌<◌, ℕ, zero, suc, [], ◌∷◌, get_or, List, Bool, true, false, length, take, sym, ap, subst, refl, inl, inr, arith}
+use Rattle.std.proofs.Common.{◌≡◌, ◌<◌, ℕ, zero, suc, [], ◌∷◌, get_or, List, Bool, false, length, sym, subst, refl, inl, inr, arith}
 use Rattle.q_logic.specs.Formulas.{Clause, IsIn}
-use Rattle.q_logic.specs.Numbered.{others}
 use Rattle.q_kernel.specs.Kernels.{slots}
 use Rattle.q_rule.proofs.Members.{taken-cases, taken-all}
 use Rattle.q_blocked.specs.Walks.{IsBeside, IsCalmAt}

@@ -2,7 +2,6 @@ use Rattle.std.proofs.Common.{◌≡◌, ◌≤◌, ◌<◌, ◌⊎◌, ◌+◌,
 use Rattle.q_logic.specs.Formulas.{Clause, IsIn}
 use Rattle.q_logic.specs.Numbered.{slot}
 use Rattle.q_kernel.specs.Kernels.{slots}
-use Rattle.q_blocked.specs.Units.{IsSingle, HasUnitsBelow}
 use Rattle.q_blocked.proofs.units.find_units.Goals as goal
 
 cases : (d a b : ℕ) → d < b + 1 → (d < a) ⊎ (((a ≤ d) × (d < b)) ⊎ (d ≡ b))

@@ -1,4 +1,4 @@
-use Rattle.std.proofs.Common.{◌≡◌, ◌<◌, ◌∙◌, length, sym, arith}
+use Rattle.std.proofs.Common.{◌<◌, ◌∙◌, length, sym, arith}
 use Rattle.q_rule.proofs.Members.{item-in, test-false}
 use Rattle.q_blocked.proofs.units.is_single.Goals as goal
 

@@ -1,0 +1,8 @@
+use Rattle.std.proofs.Common.{◌≡◌, ◌∷◌, take, vec_capacity}
+use Rattle.q_expand.proofs.splitting.put_with.Given as goal
+
+abbrev pub invariant-loop-k : goal.invariant-loop-k
+invariant-loop-k l = record {
+  items : l.spare.items ≡ l.fn.u ∷ take l.k-index l.clause;
+  room : vec_capacity l.spare ≡ vec_capacity l.fn.spare;
+}
