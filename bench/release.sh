@@ -10,8 +10,11 @@ is_built() {
 }
 
 before=$(bench/sources.sh)
+# (without words the program only says how it is used; nothing is built that is not proved)
 if ! is_built; then
-    (cd crates/q_main && rt run) || exit 1
+    rm -f "$program"
+    (cd crates/q_main && rt run </dev/null)
+    [ -x "$program" ] || exit 1
 fi
 if [ "$(bench/sources.sh)" != "$before" ]; then
     echo "release: the sources changed meanwhile" >&2
