@@ -1,8 +1,10 @@
 #!/usr/bin/env bash
-# Times `simplify`, and `check` over what it wrote, on five families of formulas: random clauses of three literals, a
-# chain of unit clauses in order and in mixed order, universal literals that are cut in one connected component, and
-# universal literals that lead to their negations half way round a ring.
-# The time should grow no worse than n log n. Usage: bench/simplify.sh [random|units|mixed|cuts|ring ..]
+# Times `simplify`, and `check` over what it wrote, on families of formulas: random clauses of three literals with
+# universals, a chain of unit clauses in order and in mixed order, universal literals that are cut in one connected component,
+# universal literals that lead to their negations half way round a ring; random clauses without universals (sat), the same
+# where a tenth of the clauses lies around another one or around one with a literal turned (subsumed), a chain and a cycle of
+# implications (chain, cycle), and a circuit of gates (gates).
+# The time should grow no worse than n log n. Usage: bench/simplify.sh [random|units|mixed|cuts|ring|sat|subsumed|chain|cycle|gates ..]
 # With -f FAMILY SIZE FILE it only writes a formula.
 set -eu
 cd "$(dirname "$0")/.."
@@ -44,6 +46,34 @@ elif family in ("units", "mixed"):
     if family == "mixed":
         random.shuffle(clauses)
     write([("e", range(1, n + 1))], clauses)
+elif family in ("sat", "subsumed"):
+    # three clauses for each variable; then around each tenth clause one with a literal more, every other one of them with a
+    # literal turned
+    variables = range(1, n // 3 + 1)
+    clauses = [signed(random.sample(variables, 3)) for _ in range(n)]
+    if family == "subsumed":
+        for i in range(0, n // 10, 2):
+            around, turned = clauses[random.randrange(n)], list(clauses[random.randrange(n)])
+            clauses[random.randrange(n)] = around + [random.choice(variables)]
+            turned[0] = -turned[0]
+            clauses[random.randrange(n)] = turned + [random.choice(variables)]
+    write([("e", variables)], clauses)
+elif family in ("chain", "cycle"):
+    # x implies the next one; beside each stands a universal, so that no literal is pure
+    x, u = range(1, n + 1), range(n + 1, 2 * n + 1)
+    clauses = [[-x[i - 1], x[i]] for i in range(1 if family == "chain" else 0, n)]
+    clauses += [[x[i], u[i]] for i in range(0, n, 2)] + [[-x[i], -u[i]] for i in range(1, n, 2)]
+    write([("a", u), ("e", x)], clauses)
+elif family == "gates":
+    # n conjunctions, each of two inputs or earlier gates; the last one is asked for
+    inputs = n // 10 + 2
+    clauses, last = [], inputs
+    for gate in range(inputs + 1, inputs + n + 1):
+        a, b = signed(random.sample(range(max(1, gate - inputs), gate), 2))
+        clauses += [[-gate, a], [-gate, b], [gate, -a, -b]]
+        last = gate
+    clauses.append([last, last - 1])
+    write([("e", range(1, inputs + n + 1))], clauses)
 elif family == "ring":
     # each x implies the next one; each universal stands positive at one place of the ring and negative at the opposite one
     x, u = range(1, n + 1), range(n + 1, 2 * n + 1)
@@ -72,11 +102,13 @@ measured() {
     /usr/bin/time -f "check: %e s, %M KiB" ./celdrinn check "$work/in" "$work/out" "$work/log"
 }
 
-for family in "${@:-random units mixed cuts ring}"; do
+for family in "${@:-random units mixed cuts ring sat subsumed chain cycle gates}"; do
     for f in $family; do
         case $f in
         random) for n in 125000 250000 500000 1000000; do measured "$f" "$n"; done ;;
         units | mixed) for n in 50000 100000 200000 400000; do measured "$f" "$n"; done ;;
+        sat | subsumed) for n in 10000 30000 100000 1000000; do measured "$f" "$n"; done ;;
+        chain | cycle | gates) for n in 1000 4000 16000 100000; do measured "$f" "$n"; done ;;
         cuts | ring) for n in 25000 50000 100000 200000; do measured "$f" "$n"; done ;;
         esac
     done
