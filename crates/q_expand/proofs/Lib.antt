@@ -19,3 +19,9 @@ pub mod Losing
 pub mod Facts
 pub mod Origins
 pub mod Ending
+pub mod Flattened
+pub mod Course
+pub mod Budgets
+pub mod Finishing
+pub mod Taking
+pub mod Viewing

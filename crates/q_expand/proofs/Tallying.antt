@@ -22,7 +22,7 @@ weight-gone w (Some C ∷ N) zero = refl
 weight-gone w (None ∷ N) (suc c) = weight-gone w N c
 weight-gone w (Some C ∷ N) (suc c) = let i = weight-gone w N c in omega arith
 
-tally-without : (w : Clause → ℕ) (N : Slots) (c : ℕ) (cs : List ℕ) → Misses c cs → tally w (set_slot c None N) cs ≡ tally w N cs
+pub tally-without : (w : Clause → ℕ) (N : Slots) (c : ℕ) (cs : List ℕ) → Misses c cs → tally w (set_slot c None N) cs ≡ tally w N cs
 tally-without w N c [] m = refl
 tally-without w N c (d ∷ cs) m =
     let e : slot (set_slot c None N) d ≡ slot N d = slot-set_other c d None N (λ z. m.0 (sym z)) in
@@ -42,7 +42,7 @@ none-weighs : (w : Clause → ℕ) (X : Matrix) → ((C : Clause) → IsIn C X �
 none-weighs w [] h = refl
 none-weighs w (C ∷ X) h = let i = none-weighs w X (λ D m. h D (inr m)) in let e = h C (inl refl) in omega arith
 
-slot-fewer : (c d : ℕ) (N : Slots) (C : Clause) → slot (set_slot c None N) d ≡ Some C → (d ≡ c → ⊥) × (slot N d ≡ Some C)
+pub slot-fewer : (c d : ℕ) (N : Slots) (C : Clause) → slot (set_slot c None N) d ≡ Some C → (d ≡ c → ⊥) × (slot N d ≡ Some C)
 slot-fewer c d N C e = elim (Rattle.q_arena.proofs.Numbers.ℕ-cases d c) [
   | inl f ↦ absurd (none_some C (sym (subst (λ (x : ℕ). slot (set_slot c None N) x ≡ None) (sym f) (slot-none c N)) ∙ e))
   | inr n ↦ (n, sym (slot-set_other c d None N n) ∙ e)

@@ -4,3 +4,4 @@ pub mod Regions
 pub mod Tracks
 pub mod Steps
 pub mod Apart
+pub mod Rooms

@@ -62,6 +62,10 @@ abbrev pub clauses_at : Slots → List ℕ → Matrix
 clauses_at N [] = []
 clauses_at N (c ∷ cs) = put_first (slot N c) (clauses_at N cs)
 
+-- all steps before u leaves its clauses, of which these are split
+abbrev pub course : ℕ → List ℕ → ℕ → Matrix → List ProofStep
+course u V t W = each_with copy_step V t ++ (each_with (link_steps u) V t ++ (all_split u V t W ++ each_with (unlink_steps u) V t))
+
 -- the literals are the variables of the list
 abbrev pub AreVars : List Literal → List ℕ → Type 0
 AreVars ls V = (v : ℕ) → IsIn (positive v) ls ↔ (in_list v V ≡ true)

@@ -1,8 +1,9 @@
-//! The expansion of universal variables: where it applies, the search for such a variable, and the loops of its steps.
+//! The expansion of universal variables: where it applies, the search for such a variable, and its steps (`testing.rt` tells the idea).
 #![tactic(auto)]
 
 mod changing;
 mod dropping;
+mod expand;
 mod finding;
 mod ids;
 mod ordering;
@@ -12,6 +13,7 @@ mod splitting;
 mod target;
 mod testing;
 
+pub use expand::{try_one, try_with};
 pub use finding::{applies, find, find_with};
 pub use search::Search;
 pub use target::Target;

@@ -6,6 +6,7 @@ use crate::trouble::Trouble;
 use q_blocked::Target as Block;
 use q_eliminate::Target as Eliminate;
 use q_equiv::Target as Merge;
+use q_expand::Target as Expand;
 use q_kernel::{Kernel, Taken};
 use q_logic::{Bounds, Lit};
 use q_reduce::Target as Reduce;
@@ -21,6 +22,7 @@ pub enum Aim {
     Merge(Merge),
     Block(Block),
     Eliminate(Eliminate),
+    Expand(Expand),
 }
 
 impl Aim {
@@ -32,6 +34,7 @@ impl Aim {
             Aim::Merge(_) => "equiv",
             Aim::Block(_) => "blocked",
             Aim::Eliminate(_) => "eliminate",
+            Aim::Expand(_) => "expand",
         }
     }
 
@@ -51,6 +54,7 @@ impl Aim {
             Aim::Merge(target) => q_equiv::try_one(alloc, kernel, target, bounds),
             Aim::Block(target) => q_blocked::try_one(alloc, kernel, target, bounds),
             Aim::Eliminate(target) => q_eliminate::try_one(alloc, kernel, target, bounds),
+            Aim::Expand(target) => q_expand::try_one(alloc, kernel, target, bounds),
         };
         Ok(taken?)
     }
@@ -73,6 +77,7 @@ pub fn find(
         "equiv" => Ok(q_equiv::find(alloc, kernel, bounds, from)?.map(Aim::Merge)),
         "blocked" => Ok(q_blocked::find(alloc, kernel, bounds, from)?.map(Aim::Block)),
         "eliminate" => Ok(q_eliminate::find(alloc, kernel, bounds, from)?.map(Aim::Eliminate)),
+        "expand" => Ok(q_expand::find(alloc, kernel, bounds, from)?.map(Aim::Expand)),
         _ => Err(Trouble::Unreadable("a crate of rules")),
     }
 }
@@ -105,6 +110,7 @@ fn pair_of(kind: &str, numbers: [i32; 3]) -> Result<Aim, Trouble> {
             gone: lit(second)?,
         }),
         "eliminate" => Aim::Eliminate(Eliminate::Eliminate { x: id(first) }),
+        "expand" => Aim::Expand(Expand::Expand { u: id(first) }),
         _ => return block_of(kind, first, second),
     };
     Ok(aim)
@@ -186,6 +192,7 @@ impl fmt::Display for Aim {
             }
             Aim::Block(Block::Cover { c }) => write!(f, "cover {c}"),
             Aim::Eliminate(Eliminate::Eliminate { x }) => write!(f, "eliminate {x}"),
+            Aim::Expand(Expand::Expand { u }) => write!(f, "expand {u}"),
         }
     }
 }

@@ -20,6 +20,9 @@ use Rattle.q_blocked.specs.Targets as blocked
 use Rattle.q_eliminate.specs.declared.target.Target.{Target as TheEliminate}
 use Rattle.q_eliminate.specs.declared.target.Target.TheVariants as eliminate_target
 use Rattle.q_eliminate.specs.Targets as eliminate
+use Rattle.q_expand.specs.declared.target.Target.{Target as TheExpand}
+use Rattle.q_expand.specs.declared.target.Target.TheVariants as expand_target
+use Rattle.q_expand.specs.Targets as expand
 use Rattle.q_sched.specs.declared.moves.Move.{Move}
 use Rattle.q_sched.specs.declared.moves.Move.TheVariants as move
 use Rattle.q_sched.specs.Moves.{rank_of, rules, target_of}
@@ -95,6 +98,20 @@ none-eliminate B k from h (cover c) i p a = absurd (omega arith)
 none-eliminate B k from h (eliminate x) i p a = h (eliminate_target.Eliminate x) p a
 none-eliminate B k from h (expand_universal u) i p a = absurd (omega arith)
 
+pub none-expand : (B : Bounds) (k : Seen) (from : ℕ) → ((s : TheExpand) → from ≤ place (expand.target_of s) → Applies B k (expand.target_of s) → ⊥) → (t : Target) → rank_of t ≡ 5 → from ≤ place t → Applies B k t → ⊥
+none-expand B k from h (tautology c) i p a = absurd (omega arith)
+none-expand B k from h (unit c) i p a = absurd (omega arith)
+none-expand B k from h (cut c l) i p a = absurd (omega arith)
+none-expand B k from h (pure l) i p a = absurd (omega arith)
+none-expand B k from h (subsumed c d) i p a = absurd (omega arith)
+none-expand B k from h (strengthen c d l) i p a = absurd (omega arith)
+none-expand B k from h (merge keep gone) i p a = absurd (omega arith)
+none-expand B k from h (blocked c l) i p a = absurd (omega arith)
+none-expand B k from h (blocked_forall c l) i p a = absurd (omega arith)
+none-expand B k from h (cover c) i p a = absurd (omega arith)
+none-expand B k from h (eliminate x) i p a = absurd (omega arith)
+none-expand B k from h (expand_universal u) i p a = h (expand_target.Expand u) p a
+
 -- each target of the code has one of the rules
 pub has-plain : (t : TheReduce) → HasRule (plain.target_of t)
 has-plain (plain_target.Tautology a) = omega arith
@@ -117,12 +134,16 @@ has-blocked (blocked_target.Cover a) = omega arith
 pub has-eliminate : (t : TheEliminate) → HasRule (eliminate.target_of t)
 has-eliminate (eliminate_target.Eliminate a) = omega arith
 
+pub has-expand : (t : TheExpand) → HasRule (expand.target_of t)
+has-expand (expand_target.Expand a) = omega arith
+
 pub has_rule : (m : Move) → HasRule (target_of m)
 has_rule (move.Reduce t) = has-plain t
 has_rule (move.Subsume t) = has-subsume t
 has_rule (move.Merge t) = has-equiv t
 has_rule (move.Block t) = has-blocked t
 has_rule (move.Eliminate t) = has-eliminate t
+has_rule (move.Expand t) = has-expand t
 
 -- so where one applies, something is left to do
 pub some-not_done : (B : Bounds) (k : Seen) (m : Move) → Applies B k (target_of m) → IsDone B k → ⊥

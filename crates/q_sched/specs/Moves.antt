@@ -7,6 +7,7 @@ use Rattle.q_subsume.specs.Targets as subsume
 use Rattle.q_equiv.specs.Targets as equiv
 use Rattle.q_blocked.specs.Targets as blocked
 use Rattle.q_eliminate.specs.Targets as eliminate
+use Rattle.q_expand.specs.Targets as expand
 use Rattle.q_sched.specs.declared.moves.Rule.{Rule}
 use Rattle.q_sched.specs.declared.moves.Rule.TheVariants as rule
 use Rattle.q_sched.specs.declared.moves.Move.{Move}
@@ -18,6 +19,7 @@ target_of (move.Subsume t) = subsume.target_of t
 target_of (move.Merge t) = equiv.target_of t
 target_of (move.Block t) = blocked.target_of t
 target_of (move.Eliminate t) = eliminate.target_of t
+target_of (move.Expand t) = expand.target_of t
 
 -- the rules in the order in which they are searched
 abbrev pub rank : Rule → ℕ
@@ -26,10 +28,11 @@ rank rule.Subsume = 1
 rank rule.Merge = 2
 rank rule.Block = 3
 rank rule.Eliminate = 4
+rank rule.Expand = 5
 
 -- how many of them there are
 abbrev pub rules : ℕ
-rules = 5
+rules = 6
 
 -- the place of a target's rule in that order
 abbrev pub rank_of : theory.Target → ℕ

@@ -1,8 +1,17 @@
-//! All rules as one: what a target of any rule is, how it is tested, taken and searched, and when nothing applies.
+//! All rules as one: what a target of any rule is, how it is tested, taken and searched, and when nothing applies; and a
+//! drive that asks guides which target is next, and searches the rules once no guide is left.
 #![tactic(auto)]
 
+mod asking;
+mod drive;
+mod guide;
 mod moves;
 mod searches;
+mod searching;
+mod turns;
 
+pub use drive::Drive;
+pub use guide::{Guide, Proposal};
 pub use moves::{Move, RULES, Rule};
 pub use searches::Searches;
+pub use turns::Turn;

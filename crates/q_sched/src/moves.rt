@@ -11,10 +11,11 @@ pub enum Rule {
     Merge,
     Block,
     Eliminate,
+    Expand,
 }
 
 /// So many rules there are.
-pub const RULES: u32 = 5;
+pub const RULES: u32 = 6;
 
 impl Rule {
     /// The rule at a place of the order.
@@ -27,7 +28,8 @@ impl Rule {
             1 => Rule::Subsume,
             2 => Rule::Merge,
             3 => Rule::Block,
-            _ => Rule::Eliminate,
+            4 => Rule::Eliminate,
+            _ => Rule::Expand,
         }
     }
 
@@ -41,6 +43,7 @@ impl Rule {
             Rule::Merge => 2,
             Rule::Block => 3,
             Rule::Eliminate => 4,
+            Rule::Expand => 5,
         }
     }
 }
@@ -53,6 +56,7 @@ pub enum Move {
     Merge(q_equiv::Target),
     Block(q_blocked::Target),
     Eliminate(q_eliminate::Target),
+    Expand(q_expand::Target),
 }
 
 impl Move {
@@ -72,6 +76,7 @@ impl Move {
             Move::Block(q_blocked::Target::BlockedForall { .. }) => Rule::Block,
             Move::Block(q_blocked::Target::Cover { .. }) => Rule::Block,
             Move::Eliminate(q_eliminate::Target::Eliminate { .. }) => Rule::Eliminate,
+            Move::Expand(q_expand::Target::Expand { .. }) => Rule::Expand,
         }
     }
 
@@ -91,6 +96,7 @@ impl Move {
             Move::Block(q_blocked::Target::BlockedForall { c, .. }) => *c,
             Move::Block(q_blocked::Target::Cover { c }) => *c,
             Move::Eliminate(q_eliminate::Target::Eliminate { x }) => *x,
+            Move::Expand(q_expand::Target::Expand { u }) => *u,
         }
     }
 }

@@ -24,6 +24,7 @@ pub struct Searches {
     equiv: q_equiv::Search,
     blocked: q_blocked::Search,
     eliminate: q_eliminate::Search,
+    expand: q_expand::Search,
 }
 
 impl Model for Searches {
@@ -45,6 +46,7 @@ impl Searches {
             equiv: q_equiv::Search::new(alloc),
             blocked: q_blocked::Search::new(alloc),
             eliminate: q_eliminate::Search::new(alloc),
+            expand: q_expand::Search::new(alloc),
         }
     }
 
@@ -67,6 +69,7 @@ impl Searches {
             Move::Merge(t) => q_equiv::applies(kernel, &mut self.equiv, t, bounds),
             Move::Block(t) => q_blocked::applies(kernel, &mut self.blocked, t, bounds),
             Move::Eliminate(t) => q_eliminate::applies(kernel, &mut self.eliminate, t, bounds),
+            Move::Expand(t) => q_expand::applies(kernel, &mut self.expand, t, bounds),
         }
     }
 
@@ -104,6 +107,10 @@ impl Searches {
                 self.plain.forget();
                 q_eliminate::try_with(kernel, &mut self.eliminate, t, bounds)
             }
+            Move::Expand(t) => {
+                self.plain.forget();
+                q_expand::try_with(kernel, &mut self.expand, t, bounds)
+            }
         }
     }
 
@@ -128,6 +135,7 @@ impl Searches {
             Rule::Merge => self.find_equiv(kernel, bounds, from),
             Rule::Block => self.find_blocked(kernel, bounds, from),
             Rule::Eliminate => self.find_eliminate(kernel, bounds, from),
+            Rule::Expand => self.find_expand(kernel, bounds, from),
         }
     }
 
@@ -242,5 +250,24 @@ impl Searches {
             return Ok(None);
         };
         Ok(Some(Move::Eliminate(target)))
+    }
+
+    fn find_expand(
+        &mut self,
+        kernel: &Kernel,
+        bounds: &Bounds,
+        from: u32,
+    ) -> Result<Option<Move>, NoMemory>
+        requires ready { IsReady kernel.now }
+        requires bounds { AreModest bounds.now }
+        requires fit { IsFitFor kernel.now self.old }
+        ensures some { IfOk result (λ o. (m : MoveValue) → o ≡ Some m → HasRule (target_of m) × Applies bounds.now kernel.now (target_of m)) }
+        ensures none { IfOk result (λ o. o ≡ None → (t : TheoryTarget) → rank_of t ≡ 5 → from ≤ place t → Applies bounds.now kernel.now t → ⊥) }
+        ensures fit { IsFitFor kernel.now self.new }
+    {
+        let Some(target) = q_expand::find_with(kernel, &mut self.expand, bounds, from)? else {
+            return Ok(None);
+        };
+        Ok(Some(Move::Expand(target)))
     }
 }

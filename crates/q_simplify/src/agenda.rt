@@ -106,17 +106,30 @@ impl Agenda {
     pub(crate) fn note(&mut self, kernel: &Kernel, target: &Move) -> Result<(), NoMemory> {
         match target {
             Move::Reduce(target) => self.note_plain(kernel, target),
-            Move::Subsume(q_subsume::Target::Subsumed { d, .. }) => self.note_clause(kernel, *d),
-            Move::Subsume(q_subsume::Target::Strengthen { d, l, .. }) => {
-                self.note_unit_left(kernel, *d, *l)
-            }
-            Move::Block(q_blocked::Target::Blocked { c, .. }) => self.note_clause(kernel, *c),
-            Move::Block(q_blocked::Target::BlockedForall { c, l }) => {
-                self.note_unit_left(kernel, *c, *l)
-            }
-            Move::Block(q_blocked::Target::Cover { c }) => self.note_clause(kernel, *c),
+            Move::Subsume(target) => self.note_subsume(kernel, target),
+            Move::Block(target) => self.note_block(kernel, target),
             Move::Merge(_) => Ok(()),
             Move::Eliminate(_) => Ok(()),
+            Move::Expand(_) => Ok(()),
+        }
+    }
+
+    fn note_subsume(
+        &mut self,
+        kernel: &Kernel,
+        target: &q_subsume::Target,
+    ) -> Result<(), NoMemory> {
+        match *target {
+            q_subsume::Target::Subsumed { d, .. } => self.note_clause(kernel, d),
+            q_subsume::Target::Strengthen { d, l, .. } => self.note_unit_left(kernel, d, l),
+        }
+    }
+
+    fn note_block(&mut self, kernel: &Kernel, target: &q_blocked::Target) -> Result<(), NoMemory> {
+        match *target {
+            q_blocked::Target::Blocked { c, .. } => self.note_clause(kernel, c),
+            q_blocked::Target::BlockedForall { c, l } => self.note_unit_left(kernel, c, l),
+            q_blocked::Target::Cover { c } => self.note_clause(kernel, c),
         }
     }
 

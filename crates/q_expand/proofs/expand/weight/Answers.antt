@@ -1,0 +1,29 @@
+use Rattle.std.proofs.Common.{◌≡◌, ◌+◌, drop, arith}
+use Rattle.q_kernel.specs.Kernels.{slots}
+use Rattle.q_expand.specs.Regions.{tally}
+use Rattle.q_expand.proofs.Barring.{long}
+use Rattle.q_expand.proofs.Budgets.{weight-size}
+use Rattle.q_expand.proofs.Tallying.{tally-most}
+use Rattle.q_expand.proofs.Taking.{weighed-more}
+use Rattle.q_expand.proofs.Waiting.{waits-in}
+use Rattle.q_expand.proofs.expand.weight.Goals as goal
+
+pub lits-requires : goal.lits-requires
+lits-requires c = let p = c.requires.region.connected c.clause.result (waits-in c.args.region.now.met c.loop-i.i c.clause.result c.clause.ensures) in (p.0, p.1)
+
+pub overflow_add-sum-in-loop-i : goal.overflow_add-sum-in-loop-i
+overflow_add-sum-in-loop-i c =
+    let N = slots c.args.kernel.now in
+    let a = weighed-more long N c.args.region.now.met c.loop-i.i c.clause.result c.lits.result.now c.clause.ensures c.lits.ensures.clause in
+    let b = tally-most long c.args.region.now.met N c.requires.region.apart in
+    let d = Rattle.q_expand.proofs.Budgets.weight-size (Rattle.q_logic.specs.Numbered.live N) in
+    let e = c.sound.ensures.size in
+    let f : c.loop-i.sum + tally long N (drop c.loop-i.i c.args.region.now.met) ≡ tally long N c.args.region.now.met = c.loop-i.invariant in
+    omega arith
+
+pub loop-i-preserved : goal.loop-i-preserved
+loop-i-preserved c =
+    let N = slots c.args.kernel.now in
+    let a = weighed-more long N c.args.region.now.met c.loop-i.i c.clause.result c.lits.result.now c.clause.ensures c.lits.ensures.clause in
+    let f : c.loop-i.sum + tally long N (drop c.loop-i.i c.args.region.now.met) ≡ tally long N c.args.region.now.met = c.loop-i.invariant in
+    omega arith

@@ -1,0 +1,129 @@
+-- What a drive is seen as.
+use Rattle.std.specs.Prelude.{ℕ, Bool, true, false, List, [], ◌∷◌, Option, Some, None, length, ◌≡◌, ◌≤◌, ◌<◌, ◌+◌, ◌-◌, ◌*◌, cond, ◌⊎◌}
+use Rattle.q_logic.specs.declared.rule_bounds.Bounds.{Bounds}
+use Rattle.q_logic.specs.Measure.{measure_of}
+use Rattle.q_logic.specs.Targets.{Target}
+use Rattle.q_kernel.specs.Kernels.{Seen, SameView, formula_in}
+use Rattle.q_kernel.specs.Taking.{IsTaken, Applies}
+use Rattle.q_sched.specs.Moves.{target_of}
+use Rattle.q_sched.specs.declared.turns.Turn.{Turn}
+use Rattle.q_sched.specs.declared.turns.Turn.TheVariants as turn
+use Rattle.q_sched.specs.declared.guide.Proposal.{Proposal}
+use Rattle.q_sched.specs.declared.guide.Proposal.TheVariants.{Take, Done}
+use Rattle.q_sched.specs.Rises.{Rose}
+use Rattle.q_sched.specs.Settled.{HasRule, IsDone}
+
+-- a guide by its meanings
+pub record Meaning : Type 0 where
+  pub asked : ℕ
+  pub last : Proposal
+
+pub record Driving : Type 0 where
+  pub bounds : Bounds
+  pub budget : Option ℕ
+  pub first_measure : ℕ
+  pub guides : List Meaning
+  pub refused : ℕ
+  pub over : Bool
+
+-- how many turns with `Asked` may still come
+abbrev pub left_at : List Meaning → Bool → ℕ → ℕ
+left_at [] over refused = 0
+left_at (first ∷ rest) over refused = cond over 1 (1025 - refused) + 1025 * length rest
+
+abbrev pub left_of : Driving → ℕ
+left_of d = left_at d.guides d.over d.refused
+
+-- a turn after which there may be others lowers the measure, or what is left
+abbrev pub Lowers : Turn → ℕ → ℕ → ℕ → ℕ → Type 0
+Lowers turn.Moved left measure left2 measure2 = (left2 ≤ left) × (measure2 < measure)
+Lowers turn.Asked left measure left2 measure2 = (left2 < left) × (measure2 ≡ measure)
+Lowers turn.Settled left measure left2 measure2 = (left2 ≡ left) × (measure2 ≡ measure)
+Lowers turn.Spent left measure left2 measure2 = (left2 ≡ left) × (measure2 ≡ measure)
+
+-- a budget is given, and the measure is at least the budget below the first one
+abbrev pub IsSpentAt : Option ℕ → ℕ → ℕ → Type 0
+IsSpentAt None first now = ⊥
+IsSpentAt (Some budget) first now = now + budget ≤ first
+
+abbrev pub IsSpent : Driving → Seen → Type 0
+IsSpent d k = IsSpentAt d.budget d.first_measure (measure_of d.bounds (formula_in k))
+
+-- what no turn changes
+pub record SameFrame (before after : Driving) : Type 0 where
+  pub bounds : after.bounds ≡ before.bounds
+  pub budget : after.budget ≡ before.budget
+  pub first_measure : after.first_measure ≡ before.first_measure
+
+-- the first guide is over, or was refused 1,024 times
+abbrev pub IsFinished : Driving → Type 0
+IsFinished d = (d.over ≡ true) ⊎ (d.refused ≡ 1024)
+
+-- the first guide is dropped
+pub record Drops (before after : Driving) : Type 0 where
+  pub first : Meaning
+  pub guides : before.guides ≡ first ∷ after.guides
+  pub refused : after.refused ≡ 0
+  pub over : after.over ≡ false
+
+-- the target is taken exactly where it applies
+abbrev pub Follows : Target → Driving → Seen → Turn → Driving → Seen → Type 0
+Follows t before old answer after new =
+    (after.over ≡ false)
+    × (Applies before.bounds old t → (after.refused ≡ before.refused) × (answer ≡ turn.Moved) × IsTaken before.bounds old new t)
+    × ((Applies before.bounds old t → ⊥) → (after.refused ≡ before.refused + 1) × (answer ≡ turn.Asked) × SameView old new)
+
+-- what follows from the first guide's answer
+abbrev pub Decides : Proposal → Driving → Seen → Turn → Driving → Seen → Type 0
+Decides Done before old answer after new =
+    (after.over ≡ true) × (after.refused ≡ before.refused) × (answer ≡ turn.Asked) × (new ≡ old)
+Decides (Take m) before old answer after new = Follows (target_of m) before old answer after new
+
+-- the first guide was asked, and the others are as before
+pub record AsksOne (before after : List Meaning) (P : Meaning → Type 0) : Type 0 where
+  pub first : Meaning
+  pub then : Meaning
+  pub rest : List Meaning
+  pub was : before ≡ first ∷ rest
+  pub is : after ≡ then ∷ rest
+  pub rises : Rose first.asked then.asked
+  pub holds : P then
+
+-- a turn asks the first guide, and nothing else in the list changes
+abbrev pub Asks : Driving → Seen → Turn → Driving → Seen → Type 0
+Asks before old answer after new = AsksOne before.guides after.guides (λ then. Decides then.last before old answer after new)
+
+-- a turn searches
+abbrev pub Searched : Bounds → Seen → Turn → Seen → Type 0
+Searched B old turn.Moved new = (t : Target) × HasRule t × IsTaken B old new t
+Searched B old turn.Asked new = ⊥
+Searched B old turn.Settled new = IsDone B old × (new ≡ old)
+Searched B old turn.Spent new = ⊥
+
+-- a turn at a spent budget
+abbrev pub Closes : Bounds → Seen → Turn → Type 0
+Closes B k turn.Moved = ⊥
+Closes B k turn.Asked = ⊥
+Closes B k turn.Settled = IsDone B k
+Closes B k turn.Spent = IsDone B k → ⊥
+
+-- a turn that answers want of memory: the first guide may have been asked
+pub record Stays (before after : Driving) : Type 0 where
+  pub frame : SameFrame before after
+  pub refused : after.refused ≡ before.refused
+  pub over : after.over ≡ before.over
+  pub guides : (after.guides ≡ before.guides) ⊎ AsksOne before.guides after.guides (λ then. Unit {0})
+
+-- what an answer says by itself
+abbrev pub Ends : Turn → Driving → Seen → Seen → Type 0
+Ends turn.Moved d old new = (¬ IsSpent d old) × (t : Target) × HasRule t × IsTaken d.bounds old new t
+Ends turn.Asked d old new = (¬ IsSpent d old) × SameView old new
+Ends turn.Settled d old new = IsDone d.bounds old × (new ≡ old)
+Ends turn.Spent d old new = IsSpent d old × (¬ IsDone d.bounds old) × (new ≡ old)
+
+-- what an answer of a guide says by itself
+abbrev pub Answers : Turn → Bounds → Seen → Seen → Type 0
+Answers turn.Moved B old new = (t : Target) × HasRule t × IsTaken B old new t
+Answers turn.Asked B old new = SameView old new
+Answers turn.Settled B old new = ⊥
+Answers turn.Spent B old new = ⊥

@@ -1,0 +1,174 @@
+//! A drive asks its guides in turn.
+//!
+//! Each turn looks at the budget first. Where it is spent, one round of searches decides between `Settled` and `Spent`. Else
+//! the first guide is asked, or dropped once it is over or was refused often enough; where none is left, the rules are searched
+//! in their order. Each turn but the last lowers the formula's measure, or what `left` says, so turns come to an end whatever
+//! the guides do.
+ghost use Rattle.std.specs.Prelude.{◌≡◌, ◌≢◌, ◌≤◌, ◌<◌, ◌^◌, [], take, IfOk, OnErr, vec_len, IsTrue, ◌↔◌, false};
+ghost use Rattle.q_logic.specs.Measure.{measure_of};
+ghost use Rattle.q_kernel.specs.Kernels.{SameView, formula_in};
+ghost use Rattle.q_kernel.specs.Taking.{AreModest, IsReady};
+ghost use Rattle.q_reduce.specs.Lent.{IsFitFor, nothing_learned};
+ghost use Rattle.q_sched.specs.declared.turns.Turn.TheVariants.{Asked};
+
+use crate::asking::{Outcome, ask_last};
+use crate::guide::Guide;
+use crate::searches::Searches;
+use crate::searching::{close, search};
+use crate::turns::Turn;
+use q_kernel::Kernel;
+use q_logic::{Bounds, NoMemory};
+
+// At most so many guides are asked.
+const MOST_GUIDES: usize = 1_000_000;
+
+// A guide is dropped after so many refusals.
+const MOST_REFUSALS: u64 = 1_024;
+
+/// Asks guides, and searches once none is left. The guides stand in reverse, so the first of them is the last of `waiting`.
+#[derive(Drop)]
+pub struct Drive {
+    bounds: Bounds,
+    limit: Option<u64>,
+    from: u64,
+    waiting: Vec<Box<dyn Guide>>,
+    refusals: u64,
+    is_over: bool,
+    searches: Searches,
+    ghost few_guides: { vec_len waiting ≤ 1000000 },
+    ghost few_refusals: { refusals ≤ 1024 },
+    ghost modest: { AreModest bounds },
+}
+
+impl Drive {
+    ghost use Rattle.q_sched.specs.Drives.{Driving, left_of, Lowers, SameFrame, IsSpent, IsFinished, Drops, Asks, Searched, Closes, Stays, IsSpentAt, Ends, Answers};
+    ghost use Rattle.q_sched.specs.Meanings.{meanings};
+    ghost use Rattle.q_sched.specs.Seen.{seen, lent};
+
+    /// Begins with these guides, the first of them asked first; those past `MOST_GUIDES` are dropped unasked. It takes no memory.
+    pub fn start(
+        guides: Vec<Box<dyn Guide>>,
+        bounds: Bounds,
+        budget: Option<u64>,
+        first_measure: u64,
+    ) -> Drive
+        requires first { first_measure ≤ 2 ^ 60 }
+        requires bounds { AreModest bounds }
+        ensures seen { seen (λ b. asked b) (λ b. last b) result ≡ record { bounds = bounds; budget = budget; first_measure = first_measure; guides = meanings (λ b. asked b) (λ b. last b) (take 1000000 guides.items); refused = 0; over = false } }
+        ensures lent { lent result ≡ nothing_learned }
+    {
+        let searches = Searches::new(*guides.allocator());
+        let mut waiting = guides;
+        waiting.truncate(MOST_GUIDES);
+        waiting.reverse();
+        Drive {
+            bounds,
+            limit: budget,
+            from: first_measure,
+            waiting,
+            refusals: 0,
+            is_over: false,
+            searches,
+        }
+    }
+
+    /// How many turns with `Asked` may still come.
+    pub fn left(&self) -> u64
+        ensures { result ≡ left_of (seen (λ b. asked b) (λ b. last b) self.now) }
+    {
+        let guides = self.waiting.len() as u64;
+        if guides == 0 {
+            return 0;
+        }
+        let first = if self.is_over {
+            1
+        } else {
+            1025 - self.refusals
+        };
+        first + 1025 * (guides - 1)
+    }
+
+    fn is_spent(&self, measure: u64) -> bool
+        ensures { IsTrue result ↔ IsSpentAt (seen (λ b. asked b) (λ b. last b) self.now).budget (seen (λ b. asked b) (λ b. last b) self.now).first_measure measure }
+    {
+        match self.limit {
+            None => false,
+            Some(budget) => budget <= self.from && measure <= self.from - budget,
+        }
+    }
+
+    fn drop_first(&mut self)
+        requires some { (seen (λ b. asked b) (λ b. last b) self.old).guides ≢ [] }
+        ensures frame { SameFrame (seen (λ b. asked b) (λ b. last b) self.old) (seen (λ b. asked b) (λ b. last b) self.new) }
+        ensures left { IsFinished (seen (λ b. asked b) (λ b. last b) self.old) → left_of (seen (λ b. asked b) (λ b. last b) self.new) < left_of (seen (λ b. asked b) (λ b. last b) self.old) }
+        ensures dropped { Drops (seen (λ b. asked b) (λ b. last b) self.old) (seen (λ b. asked b) (λ b. last b) self.new) }
+        ensures lent { lent self.new ≡ lent self.old }
+    {
+        self.waiting.pop();
+        self.refusals = 0;
+        self.is_over = false;
+    }
+
+    fn ask_first(&mut self, kernel: &mut Kernel) -> Result<Turn, NoMemory>
+        requires some { (seen (λ b. asked b) (λ b. last b) self.old).guides ≢ [] }
+        requires unfinished { IsFinished (seen (λ b. asked b) (λ b. last b) self.old) → ⊥ }
+        requires ready { IsReady kernel.old }
+        requires fit { IsFitFor kernel.old (lent self.old) }
+        ensures frame { SameFrame (seen (λ b. asked b) (λ b. last b) self.old) (seen (λ b. asked b) (λ b. last b) self.new) }
+        ensures answers { IfOk result (λ turn. Answers turn (seen (λ b. asked b) (λ b. last b) self.old).bounds kernel.old kernel.new) }
+        ensures asks { IfOk result (λ turn. Asks (seen (λ b. asked b) (λ b. last b) self.old) kernel.old turn (seen (λ b. asked b) (λ b. last b) self.new) kernel.new) }
+        ensures left { IfOk result (λ turn. Lowers turn (left_of (seen (λ b. asked b) (λ b. last b) self.old)) (measure_of (seen (λ b. asked b) (λ b. last b) self.old).bounds (formula_in kernel.old)) (left_of (seen (λ b. asked b) (λ b. last b) self.new)) (measure_of (seen (λ b. asked b) (λ b. last b) self.old).bounds (formula_in kernel.new))) }
+        ensures ready { IsReady kernel.new }
+        ensures fit { IsFitFor kernel.new (lent self.new) }
+        ensures err { OnErr result (SameView kernel.old kernel.new) }
+        ensures err_drive { OnErr result (Stays (seen (λ b. asked b) (λ b. last b) self.old) (seen (λ b. asked b) (λ b. last b) self.new)) }
+    {
+        match ask_last(&mut self.waiting, kernel, &mut self.searches, &self.bounds)? {
+            Outcome::Over => {
+                self.is_over = true;
+                Ok(Turn::Asked)
+            }
+            Outcome::Taken => Ok(Turn::Moved),
+            Outcome::Refused => {
+                self.refusals += 1;
+                Ok(Turn::Asked)
+            }
+        }
+    }
+
+    /// One turn. The kernel is as before but where a target is taken.
+    pub fn turn(&mut self, kernel: &mut Kernel) -> Result<Turn, NoMemory>
+        requires ready { IsReady kernel.old }
+        requires fit { IsFitFor kernel.old (lent self.old) }
+
+        // What a turn does: at a spent budget one round of searches decides. Otherwise the first guide is dropped where
+        // it is finished, or else asked and followed; the rules are searched where no guide is left.
+        ensures spent { IfOk result (λ turn. IsSpent (seen (λ b. asked b) (λ b. last b) self.old) kernel.old → Closes (seen (λ b. asked b) (λ b. last b) self.old).bounds kernel.old turn × ((seen (λ b. asked b) (λ b. last b) self.new) ≡ (seen (λ b. asked b) (λ b. last b) self.old)) × (kernel.new ≡ kernel.old)) }
+        ensures dropped { IfOk result (λ turn. (¬ IsSpent (seen (λ b. asked b) (λ b. last b) self.old) kernel.old) → (seen (λ b. asked b) (λ b. last b) self.old).guides ≢ [] → IsFinished (seen (λ b. asked b) (λ b. last b) self.old) → Drops (seen (λ b. asked b) (λ b. last b) self.old) (seen (λ b. asked b) (λ b. last b) self.new) × (turn ≡ Asked) × (kernel.new ≡ kernel.old)) }
+        ensures asks { IfOk result (λ turn. (¬ IsSpent (seen (λ b. asked b) (λ b. last b) self.old) kernel.old) → (seen (λ b. asked b) (λ b. last b) self.old).guides ≢ [] → (¬ IsFinished (seen (λ b. asked b) (λ b. last b) self.old)) → Asks (seen (λ b. asked b) (λ b. last b) self.old) kernel.old turn (seen (λ b. asked b) (λ b. last b) self.new) kernel.new) }
+        ensures searches { IfOk result (λ turn. (¬ IsSpent (seen (λ b. asked b) (λ b. last b) self.old) kernel.old) → (seen (λ b. asked b) (λ b. last b) self.old).guides ≡ [] → Searched (seen (λ b. asked b) (λ b. last b) self.old).bounds kernel.old turn kernel.new × ((seen (λ b. asked b) (λ b. last b) self.new) ≡ (seen (λ b. asked b) (λ b. last b) self.old))) }
+
+        // Each turn lowers the measure, or what is left, or ends.
+        ensures left { IfOk result (λ turn. Lowers turn (left_of (seen (λ b. asked b) (λ b. last b) self.old)) (measure_of (seen (λ b. asked b) (λ b. last b) self.old).bounds (formula_in kernel.old)) (left_of (seen (λ b. asked b) (λ b. last b) self.new)) (measure_of (seen (λ b. asked b) (λ b. last b) self.old).bounds (formula_in kernel.new))) }
+        ensures ends { IfOk result (λ turn. Ends turn (seen (λ b. asked b) (λ b. last b) self.old) kernel.old kernel.new) }
+
+        // What stays.
+        ensures frame { SameFrame (seen (λ b. asked b) (λ b. last b) self.old) (seen (λ b. asked b) (λ b. last b) self.new) }
+        ensures ready { IsReady kernel.new }
+        ensures fit { IsFitFor kernel.new (lent self.new) }
+        ensures err { OnErr result (SameView kernel.old kernel.new) }
+        ensures err_drive { OnErr result (Stays (seen (λ b. asked b) (λ b. last b) self.old) (seen (λ b. asked b) (λ b. last b) self.new)) }
+    {
+        if self.is_spent(kernel.measure(&self.bounds)) {
+            return close(kernel, &mut self.searches, &self.bounds);
+        }
+        if self.waiting.is_empty() {
+            return search(kernel, &mut self.searches, &self.bounds);
+        }
+        if self.is_over || self.refusals == MOST_REFUSALS {
+            self.drop_first();
+            return Ok(Turn::Asked);
+        }
+        self.ask_first(kernel)
+    }
+}

@@ -1,0 +1,40 @@
+//! What a guide is asked.
+//!
+//! A guide says which target is tried next. A drive tests each proposal before it takes it, so nothing rests on what a guide
+//! says: it may propose what it likes, and how fast the formula shrinks is all that depends on it.
+ghost use Rattle.std.specs.Prelude.{◌≡◌, ℕ};
+ghost use Rattle.q_kernel.specs.Taking.{IsReady};
+ghost use Rattle.q_sched.specs.Rises.{Rose};
+ghost use Rattle.q_sched.specs.declared.guide.Proposal.{Proposal};
+
+use crate::moves::Move;
+use q_kernel::Kernel;
+
+/// What a guide proposes to do next.
+#[derive(Clone, Copy, Debug, PartialEq, Eq)]
+pub enum Proposal {
+    /// To take this target.
+    Take(Move),
+    /// Nothing more.
+    Done,
+}
+
+/// Says which target is tried next.
+pub trait Guide: Drop {
+    /// How often it was asked.
+    ghost asked: { Self → ℕ };
+
+    /// Its last answer.
+    ghost last: { Self → Proposal };
+
+    /// What to try next.
+    fn propose(&mut self, kernel: &Kernel) -> Proposal
+        requires ready { IsReady kernel.now }
+        ensures answer { last self.new ≡ result }
+        ensures rises { Rose (asked self.old) (asked self.new) };
+
+    /// Whether its last proposal was taken.
+    fn told(&mut self, taken: bool)
+        ensures asked { asked self.new ≡ asked self.old }
+        ensures last { last self.new ≡ last self.old };
+}
