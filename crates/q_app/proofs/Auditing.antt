@@ -1,5 +1,5 @@
 -- Steps that are tried while a log is read.
-use Rattle.std.proofs.Common.{◌≡◌, ◌⊎◌, inl, inr, ◌≤◌, ◌<◌, ◌+◌, ◌-◌, ◌==◌, ◌∙◌, refl, sym, ap, subst, arith, ℕ, Bool, true, false, List, [], ◌∷◌, ◌++◌, length, take, drop, if◌then◌else◌, Option, Some, None, Ok, Err, append_assoc, length-append, length-drop, get_or}
+use Rattle.std.proofs.Common.{◌≡◌, ◌⊎◌, inl, inr, ◌≤◌, ◌<◌, ◌+◌, ◌-◌, ◌==◌, ◌∙◌, refl, sym, ap, subst, arith, ℕ, Bool, true, false, List, [], ◌∷◌, ◌++◌, length, take, drop, if◌then◌else◌, Option, Some, None, Result, Ok, Err, IfOk, OnOk, append-nil, append_assoc, length-append, length-drop, get_or}
 use Rattle.std.proofs.lemmas.List.{take-append-drop, drop_more}
 use Rattle.std.proofs.Math.Seq.{take-add, take-length}
 use Rattle.std.proofs.lemmas.Bool.Decides.{nat_tests}
@@ -17,17 +17,19 @@ use Rattle.q_log.specs.Logs as logs
 use Rattle.q_log.specs.Reading.{LogState, Turn, turn, turn_unless, open_turn, token_turn, moved, Answers, to_come}
 use Rattle.q_log.specs.Reading as reading
 use Rattle.q_check.specs.Alike.{AreAlike, Leads}
-use Rattle.q_check.proofs.Alike.{alike_swapped, alike_cause}
+use Rattle.q_logic.specs.Undos.{UndoEntry, Undos}
+use Rattle.q_check.proofs.Alike.{alike_swapped, alike_cause, alike_entries}
 use Rattle.q_check.proofs.Runs.{leads_begin, leads_more}
 use Rattle.q_app.specs.Logs.{Entry, steps_of, IsRefusedAt}
 use Rattle.q_check.specs.declared.error.CheckError.{CheckError}
 use Rattle.q_check.specs.declared.error.CheckError.TheVariants as check
-use Rattle.q_check.specs.Checked.{Checked, IsRefusal}
+use Rattle.q_check.specs.Checked.{Checked, HasGrown, IsRefusal}
 use Rattle.q_app.specs.declared.audit.Audit.{Audit}
+use Rattle.q_app.specs.declared.audit.Passed.{Passed}
 use Rattle.q_app.specs.declared.outcome.Outcome.{Outcome}
 use Rattle.q_app.specs.declared.outcome.Outcome.TheVariants.{Verified, RefusedLine, RefusedEnd, RefusedInput, ReadFault, NoMemory, Usage}
 use Rattle.q_app.specs.Refusals.{step_refused}
-use Rattle.q_app.specs.Audits.{behind, IsOpen, Advances, Refuses, HasTaken, EndsAs, EndsWith, Concludes}
+use Rattle.q_app.specs.Audits.{behind, IsOpen, Advances, Refuses, HasTaken, HasUndone, EndsAs, EndsWith, Passes, Concludes}
 
 -- a byte that is taken leaves one byte fewer to take
 abbrev OneFewer : LogState → Turn → Type 0
@@ -84,12 +86,35 @@ pub valid-joined : (F E G : PrenexFormula) (xs ys : List Entry) → ValidSteps s
 valid-joined F E G [] ys v w = subst (λ (H : PrenexFormula). ValidSteps standard H (steps_of ys) G) (sym v) w
 valid-joined F E G (e ∷ xs) ys v w = (v.0, valid-joined (after F e.1) E G xs ys v.1 w)
 
+-- undo lists of steps that follow one another
+undos-joined : (F E : PrenexFormula) (xs ys : List Entry) (us vs : List UndoEntry) → ValidSteps standard F (steps_of xs) E → Undos F (steps_of xs) us → Undos E (steps_of ys) vs → Undos F (steps_of (xs ++ ys)) (us ++ vs)
+undos-joined F E [] ys us vs v u w =
+    let z : us ≡ [] = u in
+    subst (λ (ws : List UndoEntry). Undos F (steps_of ys) (ws ++ vs)) (sym z) (subst (λ (G : PrenexFormula). Undos G (steps_of ys) vs) (sym v) w)
+undos-joined F E (e ∷ xs) ys us vs v (es, rest, h, r, q) w =
+    (es, rest ++ vs, h, undos-joined (after F e.1) E xs ys rest vs v.1 r w, ap (λ (ws : List UndoEntry). ws ++ vs) q ∙ append_assoc es rest vs)
+
+undone-none : (keep : Bool) (F : PrenexFormula) (us : List UndoEntry) → HasUndone keep F [] us us
+undone-none keep F us k = ([], refl, sym (append-nil us))
+
+undone-step : (keep : Bool) (F G : PrenexFormula) (n : ℕ) (s : ProofStep) (old new : List UndoEntry) → AreAlike F G → HasGrown keep G s old new → HasUndone keep F (steps_of ((n, s) ∷ [])) old new
+undone-step true F G n s old new a h k = (h.0, (h.0, [], alike_entries G F s h.0 (alike_swapped F G a) h.1, refl, sym (append-nil h.0)), h.2)
+undone-step false F G n s old new a h k = cc
+
+pub undone-joined : (keep : Bool) (F E : PrenexFormula) (xs ys : List Entry) (a b c : List UndoEntry) → ValidSteps standard F (steps_of xs) E → HasUndone keep F (steps_of xs) a b → HasUndone keep E (steps_of ys) b c → HasUndone keep F (steps_of (xs ++ ys)) a c
+undone-joined keep F E xs ys a b c v f g k =
+    let p = f k in
+    let q = g k in
+    (p.0 ++ q.0, undos-joined F E xs ys p.0 q.0 v p.1 q.1, q.2 ∙ (ap (λ (ws : List UndoEntry). ws ++ q.0) p.2 ∙ append_assoc a p.0 q.0))
+
 pub advances_begin : (a : Audit) → IsOpen a → Advances a a []
 advances_begin a o =
     record {
       entries = [];
       log = λ rest. refl;
       tried = λ F s. leads_begin standard F a.checker.formula s;
+      undone = λ F s. undone-none a.checker.keeps F a.checker.undo;
+      keeps = refl;
       few = omega arith;
       counted = omega arith;
       left = omega arith;
@@ -103,6 +128,8 @@ advances_nothing old new b o same steps next left =
       entries = [];
       log = next;
       tried = λ F s. leads_begin standard F new.checker.formula (subst (λ (k : Checked). AreAlike F k.formula) (sym same) s);
+      undone = λ F s. subst (λ (us : List UndoEntry). HasUndone old.checker.keeps F [] old.checker.undo us) (ap (λ (k : Checked). k.undo) (sym same)) (undone-none old.checker.keeps F old.checker.undo);
+      keeps = ap (λ (k : Checked). k.keeps) same;
       few = omega arith;
       counted = omega (arith, steps);
       left = left;
@@ -110,12 +137,14 @@ advances_nothing old new b o same steps next left =
     }
 
 -- a byte that ends a valid step
-pub advances_step : (old new : Audit) (b n : ℕ) (s : ProofStep) → IsOpen old → new.checker.limits ≡ old.checker.limits → new.steps ≡ old.steps + 1 → ((rest : List ℕ) → to_come old.reader (b ∷ rest) ≡ logs.onto (n, s) (to_come new.reader rest)) → new.reader.left + 1 ≡ old.reader.left → Valid old.checker.limits old.checker.formula s → AreAlike (after old.checker.formula s) new.checker.formula → Advances old new (b ∷ [])
-advances_step old new b n s o same steps next left v a =
+pub advances_step : (old new : Audit) (b n : ℕ) (s : ProofStep) → IsOpen old → new.checker.limits ≡ old.checker.limits → new.checker.keeps ≡ old.checker.keeps → HasGrown old.checker.keeps old.checker.formula s old.checker.undo new.checker.undo → new.steps ≡ old.steps + 1 → ((rest : List ℕ) → to_come old.reader (b ∷ rest) ≡ logs.onto (n, s) (to_come new.reader rest)) → new.reader.left + 1 ≡ old.reader.left → Valid old.checker.limits old.checker.formula s → AreAlike (after old.checker.formula s) new.checker.formula → Advances old new (b ∷ [])
+advances_step old new b n s o same keeps grown steps next left v a =
     record {
       entries = (n, s) ∷ [];
       log = next;
       tried = λ F h. leads_more standard F [] old.checker.formula new.checker.formula s (leads_begin standard F old.checker.formula h) (subst (λ m. Valid m old.checker.formula s) o.limits v) a;
+      undone = λ F h. undone-step old.checker.keeps F old.checker.formula n s old.checker.undo new.checker.undo h grown;
+      keeps = keeps;
       few = omega arith;
       counted = steps;
       left = left;
@@ -128,6 +157,8 @@ advances_more a b c xs ys f g =
       entries = f.entries ++ g.entries;
       log = λ rest. ap (to_come a.reader) (append_assoc xs ys rest) ∙ (f.log (ys ++ rest) ∙ (ap (behind f.entries) (g.log rest) ∙ behind-behind f.entries g.entries (to_come c.reader rest)));
       tried = λ F h. tries F (f.tried F h);
+      undone = λ F h. undoes F (f.tried F h) (f.undone F h);
+      keeps = g.keeps ∙ f.keeps;
       few = omega (arith, f.few, g.few, length-append f.entries g.entries, length-append xs ys);
       counted = omega (arith, f.counted, g.counted, length-append f.entries g.entries);
       left = omega (arith, f.left, g.left, length-append xs ys);
@@ -138,6 +169,14 @@ advances_more a b c xs ys f g =
     tries F l =
         let m : Leads standard l.last (steps_of g.entries) c.checker.formula = g.tried l.last l.alike in
         record { last = m.last; steps = valid-joined F l.last m.last f.entries g.entries l.steps m.steps; alike = m.alike }
+
+    undoes : (F : PrenexFormula) → Leads standard F (steps_of f.entries) b.checker.formula → HasUndone a.checker.keeps F (steps_of f.entries) a.checker.undo b.checker.undo → HasUndone a.checker.keeps F (steps_of (f.entries ++ g.entries)) a.checker.undo c.checker.undo
+    undoes F l u =
+        undone-joined a.checker.keeps F l.last f.entries g.entries a.checker.undo b.checker.undo c.checker.undo l.steps u
+        (subst (λ (k : Bool). HasUndone k l.last (steps_of g.entries) b.checker.undo c.checker.undo) f.keeps (g.undone l.last l.alike))
+
+pub advances_through : (a b c : Audit) → ((xs : List ℕ) × Advances a b xs) → ((ys : List ℕ) × Advances b c ys) → (zs : List ℕ) × Advances a c zs
+advances_through a b c (xs, f) (ys, g) = (xs ++ ys, advances_more a b c xs ys f g)
 
 -- a step that is refused
 pub refuses_step : (old : Audit) (b n : ℕ) (s : ProofStep) (e : CheckError) (w : Outcome) (next : List ℕ → logs.Outcome) → IsOpen old → w ≡ step_refused n e → IsRefusal old.checker.limits old.checker.formula s e → ((rest : List ℕ) → to_come old.reader (b ∷ rest) ≡ logs.onto (n, s) (next rest)) → (rest : List ℕ) → Refuses w old (b ∷ rest)
@@ -204,29 +243,50 @@ same_last E f G a s =
     }
 
 -- what is said at the end, where all steps of the log were tried
-pub concludes : (a : Audit) (es : List Entry) (f G : PrenexFormula) (steps : ℕ) (w : Outcome) → ((F : PrenexFormula) → AreAlike F a.checker.formula → Leads standard F (steps_of es) f) → to_come a.reader [] ≡ record { steps = es; refused = None } → steps ≡ a.steps + length es → EndsAs w f steps G → Concludes w a G
-concludes a es f G steps (Verified n) l t k (s, e) = λ F h. (es, (l F h).last, record { log = t; steps = (l F h).steps }, same_last (l F h).last f G (l F h).alike s, e ∙ k)
-concludes a es f G steps (RefusedLine n c) l t k h = elim h [ ]
-concludes a es f G steps (RefusedEnd c) l t k r = λ F h. ended (l F h)
+concludes : (a : Audit) (es : List Entry) (f G : PrenexFormula) (w : Outcome) → ((F : PrenexFormula) → AreAlike F a.checker.formula → Leads standard F (steps_of es) f) → to_come a.reader [] ≡ record { steps = es; refused = None } → EndsAs w f G → Concludes w a G
+concludes a es f G (Verified n) l t h = elim h [ ]
+concludes a es f G (RefusedLine n c) l t h = elim h [ ]
+concludes a es f G (RefusedEnd c) l t r = λ F h. ended (l F h)
   where
     ended : {F : PrenexFormula} → (m : Leads standard F (steps_of es) f) → (xs : List Entry) × (last : PrenexFormula) × EndsWith a xs F last × (¬ SameFormula last G) × (((c ≡ 9) × ¬ SameBlocks (blocks last.prefix) (blocks G.prefix)) ⊎ ((c ≡ 10) × SameBlocks (blocks last.prefix) (blocks G.prefix)))
     ended m = elim r [
       | inl (nine, apart) ↦ (es, m.last, record { log = t; steps = m.steps }, (λ s. apart (subst (λ (P : Prefix). SameBlocks (blocks P) (blocks G.prefix)) m.alike.prefix s.same_blocks)), inl (nine, λ s. apart (subst (λ (P : Prefix). SameBlocks (blocks P) (blocks G.prefix)) m.alike.prefix s)))
       | inr (ten, same, apart) ↦ (es, m.last, record { log = t; steps = m.steps }, (λ s. apart (λ C. sym (m.alike.clauses C) ∙ s.same_clauses C)), inr (ten, subst (λ (P : Prefix). SameBlocks (blocks P) (blocks G.prefix)) (sym m.alike.prefix) same))
     ]
-concludes a es f G steps (RefusedInput r n c) l t k h = elim h [ ]
-concludes a es f G steps ReadFault l t k h = elim h [ ]
-concludes a es f G steps NoMemory l t k h = tt
-concludes a es f G steps Usage l t k h = elim h [ ]
+concludes a es f G (RefusedInput r n c) l t h = elim h [ ]
+concludes a es f G ReadFault l t h = elim h [ ]
+concludes a es f G NoMemory l t h = tt
+concludes a es f G Usage l t h = elim h [ ]
+
+-- the log is a run
+passes : (a : Audit) (es : List Entry) (f G : PrenexFormula) (n : ℕ) (us : List UndoEntry) → ((F : PrenexFormula) → AreAlike F a.checker.formula → Leads standard F (steps_of es) f) → ((F : PrenexFormula) → AreAlike F a.checker.formula → HasUndone a.checker.keeps F (steps_of es) a.checker.undo us) → to_come a.reader [] ≡ record { steps = es; refused = None } → n ≡ a.steps + length es → SameFormula f G → Passes a G n us
+passes a es f G n us l u t k s F h = (es, (l F h).last, record { log = t; steps = (l F h).steps }, same_last (l F h).last f G (l F h).alike s, k, u F h)
 
 -- the log ends without a step more
-pub concludes_now : (a : Audit) (G : PrenexFormula) (w : Outcome) → to_come a.reader [] ≡ logs.finished → EndsAs w a.checker.formula a.steps G → Concludes w a G
-concludes_now a G w t e = concludes a [] a.checker.formula G a.steps w (λ F h. leads_begin standard F a.checker.formula h) t (omega arith) e
+pub concludes_now : (a : Audit) (G : PrenexFormula) (w : Outcome) → to_come a.reader [] ≡ logs.finished → EndsAs w a.checker.formula G → Concludes w a G
+concludes_now a G w t e = concludes a [] a.checker.formula G w (λ F h. leads_begin standard F a.checker.formula h) t e
+
+pub passes_now : (a : Audit) (G : PrenexFormula) (n : ℕ) (us : List UndoEntry) → to_come a.reader [] ≡ logs.finished → n ≡ a.steps → us ≡ a.checker.undo → SameFormula a.checker.formula G → Passes a G n us
+passes_now a G n us t k u s =
+    passes a [] a.checker.formula G n us (λ F h. leads_begin standard F a.checker.formula h)
+    (λ F h. subst (λ (ws : List UndoEntry). HasUndone a.checker.keeps F [] a.checker.undo ws) (sym u) (undone-none a.checker.keeps F a.checker.undo)) t (omega (arith, k)) s
 
 -- the end makes a last step whole
-pub concludes_step : (a : Audit) (n : ℕ) (s : ProofStep) (f G : PrenexFormula) (w : Outcome) → IsOpen a → to_come a.reader [] ≡ logs.onto (n, s) logs.finished → Valid a.checker.limits a.checker.formula s → AreAlike (after a.checker.formula s) f → EndsAs w f (a.steps + 1) G → Concludes w a G
-concludes_step a n s f G w o t v h e =
-    concludes a ((n, s) ∷ []) f G (a.steps + 1) w (λ F k. leads_more standard F [] a.checker.formula f s (leads_begin standard F a.checker.formula k) (subst (λ m. Valid m a.checker.formula s) o.limits v) h) t (omega arith) e
+leads_step : (a : Audit) (s : ProofStep) (f : PrenexFormula) → IsOpen a → Valid a.checker.limits a.checker.formula s → AreAlike (after a.checker.formula s) f → (F : PrenexFormula) → AreAlike F a.checker.formula → Leads standard F (s ∷ []) f
+leads_step a s f o v h F k = leads_more standard F [] a.checker.formula f s (leads_begin standard F a.checker.formula k) (subst (λ m. Valid m a.checker.formula s) o.limits v) h
+
+pub concludes_step : (a : Audit) (n : ℕ) (s : ProofStep) (f G : PrenexFormula) (w : Outcome) → IsOpen a → to_come a.reader [] ≡ logs.onto (n, s) logs.finished → Valid a.checker.limits a.checker.formula s → AreAlike (after a.checker.formula s) f → EndsAs w f G → Concludes w a G
+concludes_step a n s f G w o t v h e = concludes a ((n, s) ∷ []) f G w (leads_step a s f o v h) t e
+
+pub passes_step : (a : Audit) (n : ℕ) (s : ProofStep) (f G : PrenexFormula) (k : ℕ) (mid us : List UndoEntry) → IsOpen a → to_come a.reader [] ≡ logs.onto (n, s) logs.finished → Valid a.checker.limits a.checker.formula s → AreAlike (after a.checker.formula s) f → HasGrown a.checker.keeps a.checker.formula s a.checker.undo mid → k ≡ a.steps + 1 → us ≡ mid → SameFormula f G → Passes a G k us
+passes_step a n s f G k mid us o t v h g e u same =
+    passes a ((n, s) ∷ []) f G k us (leads_step a s f o v h)
+    (λ F l. subst (λ (ws : List UndoEntry). HasUndone a.checker.keeps F (s ∷ []) a.checker.undo ws) (sym u) (undone-step a.checker.keeps F a.checker.formula n s a.checker.undo mid l g)) t (omega (arith, e)) same
+
+-- what the end of the checker leaves
+pub ends_passed : (a : Audit) (f G : PrenexFormula) (k : ℕ) (us : List UndoEntry) (r : Result Passed Outcome) → OnOk r (SameFormula f G) → IfOk r (λ p. p.steps ≡ k) → IfOk r (λ p. p.undo ≡ us) → ((n : ℕ) (vs : List UndoEntry) → n ≡ k → vs ≡ us → SameFormula f G → Passes a G n vs) → IfOk r (λ p. Passes a G p.steps p.undo)
+ends_passed a f G k us (Ok p) s e u h = h p.steps p.undo e u s
+ends_passed a f G k us (Err w) s e u h = tt
 
 pub concludes_refused : (a : Audit) (n : ℕ) (s : ProofStep) (e : CheckError) (G : PrenexFormula) (w : Outcome) → IsOpen a → w ≡ step_refused n e → IsRefusal a.checker.limits a.checker.formula s e → to_come a.reader [] ≡ logs.onto (n, s) logs.finished → Concludes w a G
 concludes_refused a n s (check.Refused c) G w o q h t =

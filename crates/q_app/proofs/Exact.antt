@@ -1,5 +1,5 @@
 -- When each status comes.
-use Rattle.std.proofs.Common.{◌≡◌, ◌⊎◌, ◌↔◌, inl, inr, ◌∙◌, refl, sym, subst, ℕ, List, [], ◌∷◌, Option, Some, None, Ok, Err, IfSome}
+use Rattle.std.proofs.Common.{◌≡◌, ◌⊎◌, ◌↔◌, inl, inr, ◌∙◌, refl, sym, subst, ℕ, Bool, List, [], ◌∷◌, Option, Some, None, Ok, Err, IfSome}
 use Rattle.q_logic.specs.Formulas.{PrenexFormula}
 use Rattle.q_logic.specs.Prefixes.{IsFormula}
 use Rattle.q_logic.specs.Limits.{standard}
@@ -16,12 +16,13 @@ use Rattle.q_log.specs.declared.error.LogError.{LogError}
 use Rattle.q_log.specs.Logs as logs
 use Rattle.q_app.specs.Logs.{Entry, steps_of, IsFirstBad}
 use Rattle.q_app.specs.Statuses.{status_of}
+use Rattle.q_app.specs.declared.check.Checked.{Checked}
 use Rattle.q_app.specs.declared.outcome.Role.TheVariants.{In, Out}
 use Rattle.q_app.specs.declared.outcome.Outcome.{Outcome}
 use Rattle.q_app.specs.declared.outcome.Outcome.TheVariants.{Verified, RefusedLine, RefusedEnd, RefusedInput, ReadFault, NoMemory, Usage}
 use Rattle.q_app.specs.declared.status.Status.{Status}
 use Rattle.q_app.specs.declared.status.Status.TheVariants as status
-use Rattle.q_app.specs.Checks.{IsFileOf, IsNoFormula, OfFormulas, LeadsTo, EndsElsewhere, LogSays, Checks, IsVerified, IsNoRun, HaveOneTruth, IfVerified, MayCome, AnswersExactly}
+use Rattle.q_app.specs.Checks.{IsFileOf, IsNoFormula, FilesPass, OfFormulas, LeadsTo, EndsElsewhere, LogSays, Checks, IsVerified, IsNoRun, HaveOneTruth, IfVerified, IsUnverified, MayCome, AnswersExactly}
 
 -- a file has one formula, or an offence
 pub one_formula : (bytes : List ℕ) (F G : PrenexFormula) → IsFileOf bytes F → IsFileOf bytes G → F ≡ G
@@ -131,15 +132,46 @@ one_truth : (i o : List ℕ) (F G : PrenexFormula) → IsFileOf i F → IsFileOf
 one_truth i o F G f g t A B a b =
     subst (λ (H : PrenexFormula). Holds H ↔ Holds B) (one_formula i F A f a) (subst (λ (H : PrenexFormula). Holds F ↔ Holds H) (one_formula o G B g b) t)
 
-pub truth_log : {D : Type 0} (due : Outcome) (h : Option D) (i o l : D → List ℕ) (F G : PrenexFormula) → IsFormula F → IfSome h (λ d. IsFileOf (i d) F) → IfSome h (λ d. IsFileOf (o d) G) → IfSome h (λ d. LogSays due F G (l d)) → IfVerified due (IfSome h (λ d. HaveOneTruth (i d) (o d)))
-truth_log (Verified n) None i o l F G p f g s = tt
-truth_log (Verified n) (Some d) i o l F G p f g (es, r, k) = one_truth (i d) (o d) F G f g (run-true_to F (steps_of es) G p (Run-justified F (steps_of es) G r.run))
-truth_log (RefusedLine n c) h i o l F G p f g s = tt
-truth_log (RefusedEnd c) h i o l F G p f g s = tt
-truth_log (RefusedInput r n c) h i o l F G p f g s = tt
-truth_log ReadFault h i o l F G p f g s = tt
-truth_log NoMemory h i o l F G p f g s = tt
-truth_log Usage h i o l F G p f g s = tt
+pub truth_files : {D : Type 0} (keep : Bool) (h : Option D) (i o l : D → List ℕ) (c : Checked) → IsFormula c.from → IfSome h (λ d. FilesPass keep (i d) (o d) (l d) c) → IfSome h (λ d. HaveOneTruth (i d) (o d))
+truth_files keep None i o l c f p = tt
+truth_files keep (Some d) i o l c f p =
+    one_truth (i d) (o d) c.from c.to p.is_input p.is_output
+    (run-true_to c.from (steps_of p.log.entries) c.to f (Run-justified c.from (steps_of p.log.entries) c.to p.log.leads.run))
 
 pub at_some : {X : Type 0} (P : X → Type 0) (o : Option X) (p : X) → Some p ≡ o → P p → IfSome o P
 at_some P o p e h = subst (λ x. IfSome x P) e h
+
+-- where the log is verified, neither it nor a formula is refused
+pub verified-run : (i o l : List ℕ) → IsVerified i o l → IsNoRun i o l → ⊥
+verified-run i o l v r = r.holds (carried i o _ _ r v)
+
+pub verified-formulas : (i o l : List ℕ) → IsVerified i o l → IsNoFormula i ⊎ IsNoFormula o → ⊥
+verified-formulas i o l v (inl z) = z v.from v.is_input
+verified-formulas i o l v (inr z) = z v.to v.is_output
+
+pub unverified-truth : (w : Outcome) (i o : List ℕ) → IsUnverified w → IfVerified w (HaveOneTruth i o)
+unverified-truth (Verified n) i o h = absurd h
+unverified-truth (RefusedLine n c) i o h = tt
+unverified-truth (RefusedEnd c) i o h = tt
+unverified-truth (RefusedInput r n c) i o h = tt
+unverified-truth ReadFault i o h = tt
+unverified-truth NoMemory i o h = tt
+unverified-truth Usage i o h = tt
+
+pub unverified-not_done : (w : Outcome) (answer : Status) → IsUnverified w → answer ≡ status_of w → answer ≡ status.Done → ⊥
+unverified-not_done (Verified n) answer h e x = h
+unverified-not_done (RefusedLine n c) answer h e x = cc
+unverified-not_done (RefusedEnd c) answer h e x = cc
+unverified-not_done (RefusedInput r n c) answer h e x = cc
+unverified-not_done ReadFault answer h e x = cc
+unverified-not_done NoMemory answer h e x = cc
+unverified-not_done Usage answer h e x = cc
+
+pub unverified-not_circuits : (w : Outcome) (answer : Status) → answer ≡ status_of w → answer ≡ status.CircuitsRefused → ⊥
+unverified-not_circuits (Verified n) answer e x = cc
+unverified-not_circuits (RefusedLine n c) answer e x = cc
+unverified-not_circuits (RefusedEnd c) answer e x = cc
+unverified-not_circuits (RefusedInput r n c) answer e x = cc
+unverified-not_circuits ReadFault answer e x = cc
+unverified-not_circuits NoMemory answer e x = cc
+unverified-not_circuits Usage answer e x = cc

@@ -88,3 +88,20 @@ ends_refused o file place n old new (Err w) z h p e = if_some_2 o h p (λ d a b.
 pub ends_limits : {k : ℕ} (r : Result PrenexFormula InputError) (s : Scan) → IsReading k s → IfOk r (λ f. (bytes : List ℕ) → HasRead standard bytes s → IsInLimits standard f) → IfOk r (λ f. IsInLimits standard f)
 ends_limits (Ok f) s i h = h i.bytes i.has_read
 ends_limits (Err w) s i h = tt
+
+-- what holds of a result goes on to what the files hold
+pub ok_goes : {T E D : Type 0} {P : T → Type 0} (Q : T → D → Type 0) (r : Result T E) (o : Option D) → IfOk r P → ((t : T) → P t → IfSome o (Q t)) → IfOk r (λ t. IfSome o (Q t))
+ok_goes Q (Ok t) o p h = h t p
+ok_goes Q (Err e) o p h = tt
+
+pub err_goes : {T E D : Type 0} {P : E → Type 0} (Q : E → D → Type 0) (r : Result T E) (o : Option D) → IfErr r P → ((e : E) → P e → IfSome o (Q e)) → IfErr r (λ e. IfSome o (Q e))
+err_goes Q (Ok t) o p h = tt
+err_goes Q (Err e) o p h = h e p
+
+pub ok_then : {T E : Type 0} {P Q : T → Type 0} (r : Result T E) → IfOk r P → ((t : T) → P t → Q t) → IfOk r Q
+ok_then (Ok t) p h = h t p
+ok_then (Err e) p h = tt
+
+pub err_then : {T E : Type 0} {P Q : E → Type 0} (r : Result T E) → IfErr r P → ((e : E) → P e → Q e) → IfErr r Q
+err_then (Ok t) p h = tt
+err_then (Err e) p h = h e p

@@ -8,3 +8,7 @@ pub mod Wording
 pub mod Answering
 pub mod Verifying
 pub mod Running
+pub mod WholeFiles
+pub mod Certifying
+pub mod Deciding
+pub mod RebuildWording

@@ -1,9 +1,11 @@
 -- A log that is tried while it is read: what some bytes of it do, and what its end says.
-use Rattle.std.specs.Prelude.{◌≡◌, ◌⊎◌, ◌+◌, ◌≤◌, ℕ, List, [], ◌++◌, length, take, drop, None}
+use Rattle.std.specs.Prelude.{◌≡◌, ◌⊎◌, ◌+◌, ◌≤◌, ℕ, Bool, true, List, [], ◌++◌, length, take, drop, None}
 use Rattle.q_logic.specs.Formulas.{PrenexFormula}
 use Rattle.q_logic.specs.Limits.{standard}
 use Rattle.q_logic.specs.Prefixes.{blocks, SameBlocks}
+use Rattle.q_logic.specs.Steps.{ProofStep}
 use Rattle.q_logic.specs.Runs.{ValidSteps, SameFormula}
+use Rattle.q_logic.specs.Undos.{UndoEntry, Undos}
 use Rattle.q_log.specs.Logs as logs
 use Rattle.q_log.specs.Reading.{to_come}
 use Rattle.q_check.specs.declared.error.CheckError.TheVariants as check
@@ -23,11 +25,17 @@ pub record IsOpen (a : Audit) : Type 0 where
   pub limits : a.checker.limits ≡ standard
   pub room : a.steps + a.reader.left ≤ 1099511627776
 
+-- where an undo list is kept, it has grown by that of the steps
+abbrev pub HasUndone : Bool → PrenexFormula → List ProofStep → List UndoEntry → List UndoEntry → Type 0
+HasUndone keep F ss old new = keep ≡ true → (us : List UndoEntry) × Undos F ss us × (new ≡ old ++ us)
+
 -- the bytes handed out valid steps
 pub record Advances (old new : Audit) (bytes : List ℕ) : Type 0 where
   pub entries : List Entry
   pub log : (rest : List ℕ) → to_come old.reader (bytes ++ rest) ≡ behind entries (to_come new.reader rest)
   pub tried : (F : PrenexFormula) → AreAlike F old.checker.formula → Leads standard F (steps_of entries) new.checker.formula
+  pub undone : (F : PrenexFormula) → AreAlike F old.checker.formula → HasUndone old.checker.keeps F (steps_of entries) old.checker.undo new.checker.undo
+  pub keeps : new.checker.keeps ≡ old.checker.keeps
   pub few : length entries ≤ length bytes
   pub counted : new.steps ≡ old.steps + length entries
   pub left : new.reader.left + length bytes ≡ old.reader.left
@@ -49,26 +57,31 @@ pub record HasTaken (file : List ℕ) (place n : ℕ) (old new : Audit) : Type 0
   pub left : n ≤ length (drop place file)
   pub end : n ≡ 0 → length file ≤ place
 
--- what the end of the checker says, behind so many steps
-abbrev pub EndsAs : Outcome → PrenexFormula → ℕ → PrenexFormula → Type 0
-EndsAs (Verified n) F steps G = SameFormula F G × (n ≡ steps)
-EndsAs (RefusedLine n c) F steps G = ⊥
-EndsAs (RefusedEnd c) F steps G = IsEndRefusal F G (check.Refused c)
-EndsAs (RefusedInput r n c) F steps G = ⊥
-EndsAs ReadFault F steps G = ⊥
-EndsAs NoMemory F steps G = Unit {0}
-EndsAs Usage F steps G = ⊥
+-- what a refusal at the end of the checker says
+abbrev pub EndsAs : Outcome → PrenexFormula → PrenexFormula → Type 0
+EndsAs (Verified n) F G = ⊥
+EndsAs (RefusedLine n c) F G = ⊥
+EndsAs (RefusedEnd c) F G = IsEndRefusal F G (check.Refused c)
+EndsAs (RefusedInput r n c) F G = ⊥
+EndsAs ReadFault F G = ⊥
+EndsAs NoMemory F G = Unit {0}
+EndsAs Usage F G = ⊥
 
 -- the log has come to its end behind these steps
 pub record EndsWith (a : Audit) (es : List Entry) (F last : PrenexFormula) : Type 0 where
   pub log : to_come a.reader [] ≡ record { steps = es; refused = None }
   pub steps : ValidSteps standard F (steps_of es) last
 
--- what is said at the end, where the output is G
-abbrev pub Concludes : Outcome → Audit → PrenexFormula → Type 0
-Concludes (Verified n) a G =
+-- the log ends in the output G, with so many steps and this undo list
+abbrev pub Passes : Audit → PrenexFormula → ℕ → List UndoEntry → Type 0
+Passes a G n us =
     (F : PrenexFormula) → AreAlike F a.checker.formula →
     (es : List Entry) × (last : PrenexFormula) × EndsWith a es F last × SameFormula last G × (n ≡ a.steps + length es)
+    × HasUndone a.checker.keeps F (steps_of es) a.checker.undo us
+
+-- what is said at the end, where the log does not end in the output G
+abbrev pub Concludes : Outcome → Audit → PrenexFormula → Type 0
+Concludes (Verified n) a G = ⊥
 Concludes (RefusedLine n c) a G = (F : PrenexFormula) → AreAlike F a.checker.formula → IsRefusedAt F (to_come a.reader []) n c
 Concludes (RefusedEnd c) a G =
     (F : PrenexFormula) → AreAlike F a.checker.formula →
@@ -79,10 +92,12 @@ Concludes ReadFault a G = ⊥
 Concludes NoMemory a G = Unit {0}
 Concludes Usage a G = ⊥
 
--- nothing is read yet, and the checker has the formula
-pub record IsStarted (a : Audit) (F : PrenexFormula) : Type 0 where
+-- nothing is read yet, the checker has the formula, and it is told whether to keep an undo list
+pub record IsStarted (a : Audit) (keep : Bool) (F : PrenexFormula) : Type 0 where
   pub log : (bytes : List ℕ) → to_come a.reader bytes ≡ logs.read standard.bytes bytes
   pub alike : AreAlike F a.checker.formula
+  pub undo : a.checker.undo ≡ []
+  pub keeps : a.checker.keeps ≡ keep
   pub steps : a.steps ≡ 0
   pub left : a.reader.left ≡ 1099511627776
   pub goes_on : IsOpen a

@@ -1,14 +1,17 @@
 -- What `check` answers over the bytes of its three files.
-use Rattle.std.specs.Prelude.{◌≡◌, ◌⊎◌, ◌↔◌, ℕ, List, length, Some}
+use Rattle.std.specs.Prelude.{◌≡◌, ◌⊎◌, ◌↔◌, ℕ, Bool, true, List, length, Some}
 use Rattle.q_logic.specs.Formulas.{PrenexFormula}
 use Rattle.q_logic.specs.Limits.{standard}
 use Rattle.q_logic.specs.Prefixes.{blocks, SameBlocks}
+use Rattle.q_logic.specs.Steps.{ProofStep}
 use Rattle.q_logic.specs.Runs.{ValidSteps, SameFormula, Run}
 use Rattle.q_logic.specs.Truth.{Holds}
+use Rattle.q_logic.specs.Undos.{UndoEntry, Undos}
 use Rattle.q_dimacs.specs.Dimacs.{Dimacs}
 use Rattle.q_dimacs.specs.Offences.{Offence}
 use Rattle.q_log.specs.Logs.{Steps, read}
 use Rattle.q_app.specs.Logs.{Entry, steps_of, IsRefusedAt}
+use Rattle.q_app.specs.declared.check.Checked.{Checked}
 use Rattle.q_app.specs.declared.outcome.Role.{Role}
 use Rattle.q_app.specs.declared.outcome.Role.TheVariants.{In, Out}
 use Rattle.q_app.specs.declared.outcome.Outcome.{Outcome}
@@ -53,6 +56,23 @@ pub record EndsElsewhere (log : List ℕ) (F G : PrenexFormula) (cause : ℕ) : 
       ((cause ≡ 9) × ¬ SameBlocks (blocks last.prefix) (blocks G.prefix))
       ⊎ ((cause ≡ 10) × SameBlocks (blocks last.prefix) (blocks G.prefix))
 
+-- the log leads from F to G by so many steps, and where an undo list is kept, this is theirs
+pub record LogPasses (keep : Bool) (log : List ℕ) (F G : PrenexFormula) (n : ℕ) (us : List UndoEntry) : Type 0 where
+  pub entries : List Entry
+  pub leads : IsRunLog log F G entries
+  pub count : n ≡ length entries
+  pub undone : keep ≡ true → Undos F (steps_of entries) us
+
+-- some steps lead from F to G, and where an undo list is kept, this is theirs
+abbrev pub LeadsBack : Bool → PrenexFormula → PrenexFormula → List UndoEntry → Type 0
+LeadsBack keep F G us = (ss : List ProofStep) × Run F ss G × (keep ≡ true → Undos F ss us)
+
+-- the files hold these formulas, and the log passes
+pub record FilesPass (keep : Bool) (i o l : List ℕ) (c : Checked) : Type 0 where
+  pub is_input : IsFileOf i c.from
+  pub is_output : IsFileOf o c.to
+  pub log : LogPasses keep l c.from c.to c.steps c.undo
+
 -- what the outcome says of a log, from the formula F to G
 abbrev pub LogSays : Outcome → PrenexFormula → PrenexFormula → List ℕ → Type 0
 LogSays (Verified n) F G log = (entries : List Entry) × IsRunLog log F G entries × (n ≡ length entries)
@@ -88,6 +108,16 @@ IsInputRefusal r (RefusedInput s n c) bytes = (s ≡ r) × Offence standard byte
 IsInputRefusal r ReadFault bytes = Unit {0}
 IsInputRefusal r NoMemory bytes = Unit {0}
 IsInputRefusal r Usage bytes = ⊥
+
+-- no log was verified
+abbrev pub IsUnverified : Outcome → Type 0
+IsUnverified (Verified n) = ⊥
+IsUnverified (RefusedLine n c) = Unit {0}
+IsUnverified (RefusedEnd c) = Unit {0}
+IsUnverified (RefusedInput s n c) = Unit {0}
+IsUnverified ReadFault = Unit {0}
+IsUnverified NoMemory = Unit {0}
+IsUnverified Usage = Unit {0}
 
 -- an outcome that comes before the log is looked at
 abbrev pub IsEarly : Outcome → Type 0

@@ -8,3 +8,7 @@ pub mod Audits
 pub mod Checks
 pub mod Simplifying
 pub mod Says
+pub mod RebuiltLines
+pub mod Rebuilds
+pub mod SaysRebuilt
+pub mod RebuildWords

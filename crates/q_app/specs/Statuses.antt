@@ -17,6 +17,7 @@ code_of status.InputRefused = 3
 code_of status.ReadFault = 4
 code_of status.WriteFault = 5
 code_of status.NoMemory = 6
+code_of status.CircuitsRefused = 7
 code_of status.True = 10
 code_of status.False = 20
 code_of status.Usage = 64

@@ -2,15 +2,24 @@
 ghost use Rattle.std.specs.Prelude.{◌≡◌, ◌≤◌, ◌<◌, ◌+◌, List, ℕ, length, IfOk, IfErr, OnOk, IfSome, IsErrOf, [], ◌∷◌, ◌++◌, drop};
 ghost use Rattle.q_logic.specs.Limits.{standard};
 ghost use Rattle.q_io.specs.Files.{Rose, bytes_at};
-ghost use Rattle.q_app.specs.Audits.{IsOpen, Advances, Refuses, Concludes, IsStarted, HasTaken, EndsAs};
+ghost use Rattle.q_logic.specs.Runs.{SameFormula};
+ghost use Rattle.q_app.specs.Checks.{IsUnverified};
+ghost use Rattle.q_app.specs.Audits.{IsOpen, Advances, Refuses, Passes, Concludes, IsStarted, HasTaken, EndsAs};
 
 use crate::outcome::Outcome;
 use crate::refusals::{log_refusal, step_refusal};
-use q_check::{CheckError, Checker};
+use q_check::{CheckError, Checker, Undos};
 use q_io::{DeviceError, Files};
 use q_log::LogReader;
 use q_logic::{Formula, Limits, NoMemory};
 use std::alloc::Global;
+
+/// What is left of a log whose steps are a run.
+#[derive(Drop)]
+pub(crate) struct Passed {
+    pub steps: u64,
+    pub undo: Undos,
+}
 
 /// The reader of a log, the checker over the steps so far, and their number.
 #[derive(Drop)]
@@ -22,14 +31,14 @@ pub(crate) struct Audit {
 
 impl Audit {
     /// Nothing is read, and the checker has the formula.
-    pub fn start(alloc: Global, formula: &Formula) -> Result<Audit, NoMemory>
-        ensures { IfOk result (λ a. IsStarted a formula.now) }
+    pub fn start(alloc: Global, formula: &Formula, keep_undo: bool) -> Result<Audit, NoMemory>
+        ensures { IfOk result (λ a. IsStarted a keep_undo formula.now) }
     {
         let limits = Limits::standard();
         let Ok(reader) = LogReader::new(alloc, limits.bytes) else {
             return Err(NoMemory);
         };
-        let Ok(checker) = Checker::start(alloc, formula, limits, false) else {
+        let Ok(checker) = Checker::start(alloc, formula, limits, keep_undo) else {
             return Err(NoMemory);
         };
         Ok(Audit {
@@ -44,6 +53,7 @@ impl Audit {
         requires { IsOpen self.old }
         ensures ok { OnOk result (Advances self.old self.new (byte ∷ [])) }
         ensures refused { IfErr result (λ o. (rest : List ℕ) → Refuses o self.old (byte ∷ rest)) }
+        ensures unverified { IfErr result IsUnverified }
         ensures usage { IsErrOf result Outcome.Usage → ⊥ }
         ensures fault { IsErrOf result Outcome.ReadFault → ⊥ }
     {
@@ -67,6 +77,7 @@ impl Audit {
         ensures ok { OnOk result (Advances self.old self.new piece.now) }
         ensures refused { IfErr result (λ o. (rest : List ℕ) →
             Refuses o self.old (piece.now ++ rest)) }
+        ensures unverified { IfErr result IsUnverified }
         ensures usage { IsErrOf result Outcome.Usage → ⊥ }
         ensures fault { IsErrOf result Outcome.ReadFault → ⊥ }
     {
@@ -90,16 +101,19 @@ impl Audit {
         requires room { 0 < length buffer.old }
         requires goes_on { IsOpen self.old }
         ensures goes_on { OnOk result (IsOpen self.new) }
+        ensures advances { OnOk result ((bytes : List ℕ) × Advances self.old self.new bytes) }
         ensures left { IfOk result (λ n. self.new.reader.left + n ≡ self.old.reader.left) }
         ensures taken { IfOk result (λ n. IfSome (F.held files.old)
             (λ disk. HasTaken (bytes_at disk name.now) at n self.old self.new)) }
         ensures refused { IfErr result (λ o. IfSome (F.held files.old)
             (λ disk. Refuses o self.old (drop at (bytes_at disk name.now)))) }
+        ensures unverified { IfErr result IsUnverified }
         ensures usage { IsErrOf result Outcome.Usage → ⊥ }
         ensures fault { IsErrOf result Outcome.ReadFault → Rose
             (F.read_faults files.old name.now) (F.read_faults files.new name.now) }
         ensures held { F.held files.new ≡ F.held files.old }
         ensures read_later { (q : List ℕ) → F.read_faults files.old q ≤ F.read_faults files.new q }
+        ensures write_later { (q : List ℕ) → F.write_faults files.old q ≤ F.write_faults files.new q }
     {
         let count = match files.read(name, at, buffer) {
             Ok(count) => count,
@@ -112,12 +126,14 @@ impl Audit {
         }
     }
 
-    /// The outcome, where the log has come to its end.
-    pub fn finish(self, output: &Formula) -> Outcome
+    /// What is left where the log has come to its end, or what there is to say of it.
+    pub fn finish(self, output: &Formula) -> Result<Passed, Outcome>
         requires { IsOpen self }
-        ensures says { Concludes result self output.now }
-        ensures usage { result ≡ Outcome.Usage → ⊥ }
-        ensures fault { result ≡ Outcome.ReadFault → ⊥ }
+        ensures passed { IfOk result (λ p. Passes self output.now p.steps p.undo) }
+        ensures refused { IfErr result (λ o. Concludes o self output.now) }
+        ensures unverified { IfErr result IsUnverified }
+        ensures usage { IsErrOf result Outcome.Usage → ⊥ }
+        ensures fault { IsErrOf result Outcome.ReadFault → ⊥ }
     {
         let Audit {
             reader,
@@ -128,20 +144,27 @@ impl Audit {
             Ok(None) => end(checker, steps, output),
             Ok(Some((line, step))) => match checker.step(&step) {
                 Ok(()) => end(checker, steps + 1, output),
-                Err(error) => step_refusal(line, error),
+                Err(error) => Err(step_refusal(line, error)),
             },
-            Err(error) => log_refusal(error),
+            Err(error) => Err(log_refusal(error)),
         }
     }
 }
 
-// The outcome, where all steps are valid.
-fn end(checker: Checker, steps: u64, output: &Formula) -> Outcome
-    ensures { EndsAs result checker.formula steps output.now }
+// What is left where all steps are valid.
+fn end(checker: Checker, steps: u64, output: &Formula) -> Result<Passed, Outcome>
+    ensures same { OnOk result (SameFormula checker.formula output.now) }
+    ensures steps { IfOk result (λ p. p.steps ≡ steps) }
+    ensures undo { IfOk result (λ p. p.undo ≡ checker.undo) }
+    ensures refused { IfErr result (λ o. EndsAs o checker.formula output.now) }
+    ensures unverified { IfErr result IsUnverified }
 {
     match checker.finish(output) {
-        Ok(_) => Outcome::Verified { steps },
-        Err(CheckError::Refused { cause }) => Outcome::RefusedEnd { cause },
-        Err(CheckError::NoMemory) => Outcome::NoMemory,
+        Ok(verified) => Ok(Passed {
+            steps,
+            undo: verified.undo,
+        }),
+        Err(CheckError::Refused { cause }) => Err(Outcome::RefusedEnd { cause }),
+        Err(CheckError::NoMemory) => Err(Outcome::NoMemory),
     }
 }

@@ -2,11 +2,13 @@
 ghost use Rattle.std.specs.Prelude.{◌≡◌, ◌≤◌, ◌<◌, ◌⊎◌, List, ℕ, length, IfOk, IfErr, IfSome, IsErrOf};
 ghost use Rattle.q_logic.specs.Parts.{IsProper};
 ghost use Rattle.q_io.specs.Files.{Rose, bytes_at};
-ghost use Rattle.q_app.specs.Checks.{Checks, HaveOneTruth, IfVerified, IsEarly, IsFileOf, IsInputRefusal, LogSays, input_refused};
+ghost use Rattle.q_logic.specs.Prefixes.{IsFormula};
+ghost use Rattle.q_app.specs.Checks.{Checks, FilesPass, HaveOneTruth, IfVerified, IsEarly, IsFileOf, IsInputRefusal, IsUnverified, LeadsBack, LogPasses, LogSays, input_refused};
 
-use crate::audit::Audit;
+use crate::audit::{Audit, Passed};
 use crate::input::{InputError, PIECE, read_formula};
 use crate::outcome::{Outcome, Role};
+use q_check::Undos;
 use q_io::Files;
 use q_logic::Formula;
 use std::alloc::Global;
@@ -40,6 +42,7 @@ fn read_operand<F: Files>(
         Rose (F.read_faults files.old name.now) (F.read_faults files.new name.now) }
     ensures held { F.held files.new ≡ F.held files.old }
     ensures read_later { (q : List ℕ) → F.read_faults files.old q ≤ F.read_faults files.new q }
+    ensures write_later { (q : List ℕ) → F.write_faults files.old q ≤ F.write_faults files.new q }
 {
     match read_formula(alloc, files, name, buffer) {
         Ok(formula) => Ok(formula),
@@ -55,30 +58,46 @@ fn check_log<F: Files>(
     buffer: &mut [u8],
     input: &Formula,
     output: &Formula,
-) -> Outcome
+    keep_undo: bool,
+) -> Result<Passed, Outcome>
     requires room { 0 < length buffer.old }
-    ensures says { IfSome (F.held files.old)
-        (λ disk. LogSays result input.now output.now (bytes_at disk name.now)) }
-    ensures usage { result ≡ Outcome.Usage → ⊥ }
-    ensures fault { result ≡ Outcome.ReadFault →
+    ensures passes { IfOk result (λ p. IfSome (F.held files.old)
+        (λ disk. LogPasses keep_undo (bytes_at disk name.now) input.now output.now p.steps p.undo)) }
+    ensures run { IfOk result (λ p. LeadsBack keep_undo input.now output.now p.undo) }
+    ensures says { IfErr result (λ o. IfSome (F.held files.old)
+        (λ disk. LogSays o input.now output.now (bytes_at disk name.now))) }
+    ensures unverified { IfErr result IsUnverified }
+    ensures usage { IsErrOf result Outcome.Usage → ⊥ }
+    ensures fault { IsErrOf result Outcome.ReadFault →
         Rose (F.read_faults files.old name.now) (F.read_faults files.new name.now) }
     ensures held { F.held files.new ≡ F.held files.old }
     ensures read_later { (q : List ℕ) → F.read_faults files.old q ≤ F.read_faults files.new q }
+    ensures write_later { (q : List ℕ) → F.write_faults files.old q ≤ F.write_faults files.new q }
 {
-    let Ok(mut audit) = Audit::start(alloc, input) else {
-        return Outcome::NoMemory;
+    let Ok(mut audit) = Audit::start(alloc, input, keep_undo) else {
+        return Err(Outcome::NoMemory);
     };
     let mut at = 0u64;
     loop {
         match audit.read_piece(files, name, at, buffer) {
             Ok(0) => return audit.finish(output),
             Ok(count) => at += count as u64,
-            Err(outcome) => return outcome,
+            Err(outcome) => return Err(outcome),
         }
     }
 }
 
-// The outcome over the files of these names, read through the buffer.
+/// The formulas of IN and OUT, where the log leads from the one to the other: its number of steps, and what they
+/// leave to undo.
+#[derive(Drop)]
+pub(crate) struct Checked {
+    pub from: Formula,
+    pub to: Formula,
+    pub steps: u64,
+    pub undo: Undos,
+}
+
+// What the files of these names hold, read through the buffer.
 fn check_files<F: Files>(
     alloc: Global,
     files: &mut F,
@@ -86,28 +105,78 @@ fn check_files<F: Files>(
     output: &str,
     log: &str,
     buffer: &mut [u8],
-) -> Outcome
+    keep_undo: bool,
+) -> Result<Checked, Outcome>
     requires room { 0 < length buffer.old }
-    ensures checks { IfSome (F.held files.old) (λ disk.
-        Checks result (bytes_at disk input.now) (bytes_at disk output.now) (bytes_at disk log.now)) }
-    ensures truth { IfVerified result (IfSome (F.held files.old)
-        (λ disk. HaveOneTruth (bytes_at disk input.now) (bytes_at disk output.now))) }
-    ensures usage { result ≡ Outcome.Usage → ⊥ }
-    ensures fault { result ≡ Outcome.ReadFault →
+    ensures passes { IfOk result (λ c. IfSome (F.held files.old) (λ disk.
+        FilesPass keep_undo (bytes_at disk input.now) (bytes_at disk output.now) (bytes_at disk log.now) c)) }
+    ensures run { IfOk result (λ c. LeadsBack keep_undo c.from c.to c.undo) }
+    ensures proper { IfOk result (λ c. IsFormula c.from) }
+    ensures checks { IfErr result (λ o. IfSome (F.held files.old) (λ disk.
+        Checks o (bytes_at disk input.now) (bytes_at disk output.now) (bytes_at disk log.now))) }
+    ensures unverified { IfErr result IsUnverified }
+    ensures usage { IsErrOf result Outcome.Usage → ⊥ }
+    ensures fault { IsErrOf result Outcome.ReadFault →
         Rose (F.read_faults files.old input.now) (F.read_faults files.new input.now)
         ⊎ Rose (F.read_faults files.old output.now) (F.read_faults files.new output.now)
         ⊎ Rose (F.read_faults files.old log.now) (F.read_faults files.new log.now) }
     ensures held { F.held files.new ≡ F.held files.old }
+    ensures read_later { (q : List ℕ) → F.read_faults files.old q ≤ F.read_faults files.new q }
+    ensures write_later { (q : List ℕ) → F.write_faults files.old q ≤ F.write_faults files.new q }
 {
     let from = match read_operand(alloc, files, Role::In, input, buffer) {
         Ok(formula) => formula,
-        Err(outcome) => return outcome,
+        Err(outcome) => return Err(outcome),
     };
     let to = match read_operand(alloc, files, Role::Out, output, buffer) {
         Ok(formula) => formula,
-        Err(outcome) => return outcome,
+        Err(outcome) => return Err(outcome),
     };
-    check_log(alloc, files, log, buffer, &from, &to)
+    match check_log(alloc, files, log, buffer, &from, &to, keep_undo) {
+        Ok(Passed { steps, undo }) => Ok(Checked {
+            from,
+            to,
+            steps,
+            undo,
+        }),
+        Err(outcome) => Err(outcome),
+    }
+}
+
+/// Checks the log of these names; on demand the undo list of its steps is kept.
+pub(crate) fn verify<F: Files>(
+    alloc: Global,
+    files: &mut F,
+    input: &str,
+    output: &str,
+    log: &str,
+    keep_undo: bool,
+) -> Result<Checked, Outcome>
+    ensures passes { IfOk result (λ c. IfSome (F.held files.old) (λ disk.
+        FilesPass keep_undo (bytes_at disk input.now) (bytes_at disk output.now) (bytes_at disk log.now) c)) }
+    ensures run { IfOk result (λ c. LeadsBack keep_undo c.from c.to c.undo) }
+    ensures proper { IfOk result (λ c. IsFormula c.from) }
+    ensures checks { IfErr result (λ o. IfSome (F.held files.old) (λ disk.
+        Checks o (bytes_at disk input.now) (bytes_at disk output.now) (bytes_at disk log.now))) }
+    ensures unverified { IfErr result IsUnverified }
+    ensures usage { IsErrOf result Outcome.Usage → ⊥ }
+    ensures fault { IsErrOf result Outcome.ReadFault →
+        Rose (F.read_faults files.old input.now) (F.read_faults files.new input.now)
+        ⊎ Rose (F.read_faults files.old output.now) (F.read_faults files.new output.now)
+        ⊎ Rose (F.read_faults files.old log.now) (F.read_faults files.new log.now) }
+    ensures held { F.held files.new ≡ F.held files.old }
+    ensures read_later { (q : List ℕ) → F.read_faults files.old q ≤ F.read_faults files.new q }
+    ensures write_later { (q : List ℕ) → F.write_faults files.old q ≤ F.write_faults files.new q }
+{
+    match vec![in alloc; 0u8; PIECE] {
+        Ok(mut room) => {
+            match check_files(alloc, files, input, output, log, &mut room, keep_undo) {
+                Ok(checked) => Ok(checked),
+                Err(outcome) => Err(outcome),
+            }
+        }
+        Err(_) => Err(Outcome::NoMemory),
+    }
 }
 
 /// The outcome of `check` over the files of these names.
@@ -129,8 +198,10 @@ pub(crate) fn check<F: Files>(
         ⊎ Rose (F.read_faults files.old log.now) (F.read_faults files.new log.now) }
     ensures held { F.held files.new ≡ F.held files.old }
 {
-    match vec![in alloc; 0u8; PIECE] {
-        Ok(mut room) => check_files(alloc, files, input, output, log, &mut room),
-        Err(_) => Outcome::NoMemory,
+    match verify(alloc, files, input, output, log, false) {
+        Ok(checked) => Outcome::Verified {
+            steps: checked.steps,
+        },
+        Err(outcome) => outcome,
     }
 }

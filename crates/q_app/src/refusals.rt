@@ -1,5 +1,6 @@
 // What is said of a log that is refused.
 ghost use Rattle.std.specs.Prelude.{◌≡◌};
+ghost use Rattle.q_app.specs.Checks.{IsUnverified};
 ghost use Rattle.q_app.specs.Refusals.{log_refused, step_refused};
 
 use crate::outcome::Outcome;
@@ -7,7 +8,8 @@ use q_check::CheckError;
 use q_log::LogError;
 
 pub(crate) fn log_refusal(error: LogError) -> Outcome
-    ensures { result ≡ log_refused error }
+    ensures is { result ≡ log_refused error }
+    ensures unverified { IsUnverified result }
 {
     match error {
         LogError::BadLine { line } => Outcome::RefusedLine { line, cause: 1 },
@@ -17,7 +19,8 @@ pub(crate) fn log_refusal(error: LogError) -> Outcome
 }
 
 pub(crate) fn step_refusal(line: u64, error: CheckError) -> Outcome
-    ensures { result ≡ step_refused line error }
+    ensures is { result ≡ step_refused line error }
+    ensures unverified { IsUnverified result }
 {
     match error {
         CheckError::Refused { cause } => Outcome::RefusedLine { line, cause },

@@ -13,6 +13,7 @@ pub enum Status {
     ReadFault,
     WriteFault,
     NoMemory,
+    CircuitsRefused,
     Usage,
 }
 
@@ -31,6 +32,7 @@ impl Status {
             Status::ReadFault => 4,
             Status::WriteFault => 5,
             Status::NoMemory => 6,
+            Status::CircuitsRefused => 7,
             Status::Usage => 64,
         }
     }

@@ -1,5 +1,5 @@
 // The top call.
-ghost use Rattle.std.specs.Prelude.{◌≡◌, ◌≢◌, ◌⊎◌, List, ℕ, map, string_bytes, IfSome, None};
+ghost use Rattle.std.specs.Prelude.{◌≡◌, ◌≢◌, ◌⊎◌, List, ℕ, map, string_bytes, IfSome, IfNone, None};
 ghost use Rattle.q_io.specs.Files.{Rose, bytes_at};
 ghost use Rattle.q_kernel.specs.Taking.{AreModest};
 ghost use Rattle.q_app.specs.Statuses.{status_of, status_of_simplified};
@@ -7,30 +7,23 @@ ghost use Rattle.q_app.specs.Words.{command};
 ghost use Rattle.q_app.specs.Checks.{AnswersExactly, Checks};
 ghost use Rattle.q_app.specs.Simplifying.{Ends, SimplifiesExactly};
 ghost use Rattle.q_app.specs.Lines.{line_of, line_of_simplified};
+ghost use Rattle.q_app.specs.RebuildWords.{rebuild_names};
+ghost use Rattle.q_app.specs.Rebuilds.{Rebuilds, RebuildsExactly};
+ghost use Rattle.q_app.specs.SaysRebuilt.{SaysRebuilt, RoseForRebuild, RoseForCert};
 ghost use Rattle.q_app.specs.Says.{Says, SaysOf, SaysSome, SaysSimplified, IsDue, RoseForReads, RoseForWrites, IfReading, IfCheck, IfSimplify, IsSomeAnd};
 
 use crate::check::check;
+use crate::line::put;
 use crate::outcome::Outcome;
+use crate::rebuild_words::parse_rebuild;
+use crate::run_rebuild::run_rebuild;
 use crate::simplified::Simplified;
 use crate::simplify::simplify_file;
 use crate::status::Status;
 use crate::words::{Task, parse};
-use q_io::{DeviceError, Files, Sink};
+use q_io::{Files, Sink};
 use q_simplify::Options;
 use std::alloc::Global;
-
-// Puts a line. The answer is the status that is due, or why the line could not be put.
-fn put<S: Sink>(out: &mut S, due: Status, line: &[u8]) -> Status
-    ensures says { IfSome (S.written out.old) (λ before.
-        Says before line.now due result (S.written out.new)) }
-    ensures answer { IsDue due result (S.faults out.old) (S.faults out.new) }
-{
-    match out.put(line) {
-        Ok(()) => due,
-        Err(DeviceError::Failed) => Status::WriteFault,
-        Err(DeviceError::NoMemory) => Status::NoMemory,
-    }
-}
 
 fn say<S: Sink>(alloc: Global, out: &mut S, outcome: Outcome) -> Status
     ensures says { IfSome (S.written out.old) (λ before.
@@ -113,33 +106,28 @@ fn run_simplify<F: Files, S: Sink>(
     say_simplified(alloc, out, outcome)
 }
 
-/// Does all that the program does: `check IN OUT LOG`, or `simplify IN OUT LOG` with its options, over these files,
-/// with one line put into the sink. Main hands in the disk, standard output and the words after the program's name.
-pub fn run<F: Files, S: Sink>(alloc: Global, words: &[String], files: &mut F, out: &mut S) -> Status
-    // Where the words are no command, that is said and nothing else is done.
+// `check` or `simplify`, or words that are no command.
+fn run_command<F: Files, S: Sink>(
+    alloc: Global,
+    words: &[String],
+    files: &mut F,
+    out: &mut S,
+) -> Status
     ensures usage { result ≡ Status.Usage → command (map (λ w. string_bytes w) words.now) ≡ None }
     ensures no_command { command (map (λ w. string_bytes w) words.now) ≡ None →
         (result ≡ Status.Usage) ⊎ (result ≡ Status.WriteFault) ⊎ (result ≡ Status.NoMemory) }
-
-    // When each status of `check` comes, over the bytes that the files hold; after Done the two formulas have one
-    // truth value.
     ensures check { IfCheck (command (map (λ w. string_bytes w) words.now)) (λ c.
         IfSome (F.held files.old) (λ disk.
         AnswersExactly result (bytes_at disk c.input) (bytes_at disk c.output) (bytes_at disk c.log))) }
-
-    // When each status of `simplify` comes, and what the files hold then.
     ensures simplify { IfSimplify (command (map (λ w. string_bytes w) words.now)) (λ c o.
         IfSome (F.held files.old) (λ disk.
         SimplifiesExactly result o c.input c.output c.log disk (F.held files.new))) }
-
     ensures read_fault { result ≡ Status.ReadFault →
         IfSome (command (map (λ w. string_bytes w) words.now)) (λ c.
         RoseForReads (F.read_faults files.old) (F.read_faults files.new) c c.task) }
     ensures write_fault { result ≡ Status.WriteFault → Rose (S.faults out.old) (S.faults out.new)
         ⊎ IsSomeAnd (command (map (λ w. string_bytes w) words.now)) (λ c.
         RoseForWrites (F.write_faults files.old) (F.write_faults files.new) c c.task) }
-
-    // Only `simplify` changes files, and the line that is put is the one of the outcome.
     ensures unchanged { IfReading (command (map (λ w. string_bytes w) words.now))
         (F.held files.new ≡ F.held files.old) }
     ensures line { IfSome (S.written out.old) (λ before.
@@ -167,5 +155,75 @@ pub fn run<F: Files, S: Sink>(alloc: Global, words: &[String], files: &mut F, ou
                 &options,
             ),
         },
+    }
+}
+
+/// Does all that the program does: `check IN OUT LOG`, `simplify IN OUT LOG` with its options, or
+/// `rebuild IN OUT LOG SKOLEM CERT`, over these files, with one line put into the sink. Main hands in the disk,
+/// standard output and the words after the program's name.
+pub fn run<F: Files, S: Sink>(alloc: Global, words: &[String], files: &mut F, out: &mut S) -> Status
+    // No words are two commands.
+    ensures one { IfSome (rebuild_names (map (λ w. string_bytes w) words.now))
+        (λ n. command (map (λ w. string_bytes w) words.now) ≡ None) }
+
+    // Where the words are no command, that is said and nothing else is done.
+    ensures usage { result ≡ Status.Usage → (command (map (λ w. string_bytes w) words.now) ≡ None)
+        × (rebuild_names (map (λ w. string_bytes w) words.now) ≡ None) }
+    ensures no_command { command (map (λ w. string_bytes w) words.now) ≡ None →
+        rebuild_names (map (λ w. string_bytes w) words.now) ≡ None →
+        (result ≡ Status.Usage) ⊎ (result ≡ Status.WriteFault) ⊎ (result ≡ Status.NoMemory) }
+
+    // When each status of `check` comes, over the bytes that the files hold; after Done the two formulas have one
+    // truth value.
+    ensures check { IfCheck (command (map (λ w. string_bytes w) words.now)) (λ c.
+        IfSome (F.held files.old) (λ disk.
+        AnswersExactly result (bytes_at disk c.input) (bytes_at disk c.output) (bytes_at disk c.log))) }
+
+    // When each status of `simplify` comes, and what the files hold then.
+    ensures simplify { IfSimplify (command (map (λ w. string_bytes w) words.now)) (λ c o.
+        IfSome (F.held files.old) (λ disk.
+        SimplifiesExactly result o c.input c.output c.log disk (F.held files.new))) }
+
+    // When each status of `rebuild` comes, and what CERT holds then.
+    ensures rebuild { IfSome (rebuild_names (map (λ w. string_bytes w) words.now)) (λ n.
+        IfSome (F.held files.old) (λ disk. RebuildsExactly result n disk (F.held files.new))) }
+
+    ensures read_fault { result ≡ Status.ReadFault →
+        IfSome (command (map (λ w. string_bytes w) words.now)) (λ c.
+        RoseForReads (F.read_faults files.old) (F.read_faults files.new) c c.task) }
+    ensures rebuild_read_fault { result ≡ Status.ReadFault →
+        IfSome (rebuild_names (map (λ w. string_bytes w) words.now))
+        (RoseForRebuild (F.read_faults files.old) (F.read_faults files.new)) }
+    ensures write_fault { IfNone (rebuild_names (map (λ w. string_bytes w) words.now))
+        (result ≡ Status.WriteFault → Rose (S.faults out.old) (S.faults out.new)
+        ⊎ IsSomeAnd (command (map (λ w. string_bytes w) words.now)) (λ c.
+        RoseForWrites (F.write_faults files.old) (F.write_faults files.new) c c.task)) }
+    ensures rebuild_write_fault { IfSome (rebuild_names (map (λ w. string_bytes w) words.now)) (λ n.
+        result ≡ Status.WriteFault → Rose (S.faults out.old) (S.faults out.new)
+        ⊎ RoseForCert (F.write_faults files.old) (F.write_faults files.new) n) }
+
+    // Only `simplify` and `rebuild` change files, and the line that is put is the one of the outcome.
+    ensures unchanged { IfNone (rebuild_names (map (λ w. string_bytes w) words.now))
+        (IfReading (command (map (λ w. string_bytes w) words.now)) (F.held files.new ≡ F.held files.old)) }
+    ensures line { IfNone (rebuild_names (map (λ w. string_bytes w) words.now))
+        (IfSome (S.written out.old) (λ before.
+        SaysOf (command (map (λ w. string_bytes w) words.now)) (F.held files.old) (F.held files.new)
+        before result (S.written out.new))) }
+    ensures rebuild_line { IfSome (rebuild_names (map (λ w. string_bytes w) words.now)) (λ n.
+        IfSome (S.written out.old) (λ before. IfSome (F.held files.old) (λ disk.
+        SaysRebuilt (λ due. Rebuilds due n disk (F.held files.new)) before result (S.written out.new)))) }
+{
+    match parse_rebuild(words) {
+        Some(names) => run_rebuild(
+            alloc,
+            files,
+            out,
+            names.input,
+            names.output,
+            names.log,
+            names.skolem,
+            names.cert,
+        ),
+        None => run_command(alloc, words, files, out),
     }
 }

@@ -1,39 +1,63 @@
-use Rattle.std.proofs.Common.{◌∙◌, refl, arith}
+use Rattle.std.proofs.Common.{◌∙◌, [], refl, arith}
 use Rattle.q_io.specs.Files.{bytes_at}
-use Rattle.q_app.proofs.Feeding.{if_some, if_some_2, at_same}
-use Rattle.q_app.proofs.Auditing.{tries_begin, tries_more, tries_end, refuses_whole}
-use Rattle.q_app.proofs.Concluding.{log_says, log_refuses}
+use Rattle.q_app.proofs.Feeding.{if_some, if_some_2, at_same, err_goes, ok_goes, ok_then}
+use Rattle.q_app.proofs.Auditing.{advances_begin, advances_through, tries_begin, tries_more, tries_end, refuses_whole}
+use Rattle.q_app.proofs.Concluding.{leads_back, log_passes, log_says, log_refuses}
 use Rattle.q_app.proofs.check.check_log.Goals as goal
 
 pub loop-audit-init : goal.loop-audit-init
 loop-audit-init g c =
     record {
       goes_on = c.in-Ok.ensures.goes_on;
+      advanced = ([], advances_begin c.in-Ok.audit c.in-Ok.ensures.goes_on);
       left = omega (arith, c.in-Ok.ensures.left);
       front = if_some (g.F.Files.held c.args.files.now) (λ disk. tries_begin (bytes_at disk c.args.name.now) c.in-Ok.audit c.in-Ok.ensures.goes_on);
       held = refl;
       read_later = λ q. omega arith;
+      write_later = λ q. omega arith;
     }
 
 pub returns-in-Ok-eq0-clause-says : goal.returns-in-Ok-eq0-clause-says
 returns-in-Ok-eq0-clause-says g c =
     let taken = at_same _ _ _ c.loop-audit.invariant.held c.in-Ok-eq0.ensures.taken in
-    if_some_2 (g.F.Files.held c.args.files.now) c.loop-audit.invariant.front taken
-    (λ disk f p. log_says c.in-Ok.audit c.read_piece.new.self c.args.input.now c.args.output.now (bytes_at disk c.args.name.now) c.finish.result c.in-Ok.ensures (tries_end _ _ _ _ _ _ c.in-Ok-eq0.field-0-test f p) c.finish.ensures.says)
+    err_goes _ c.finish.result (g.F.Files.held c.args.files.now) c.finish.ensures.refused
+    (λ w h. if_some_2 (g.F.Files.held c.args.files.now) c.loop-audit.invariant.front taken
+    (λ disk f p. log_says c.in-Ok.audit c.read_piece.new.self c.args.keep_undo c.args.input.now c.args.output.now (bytes_at disk c.args.name.now) w c.in-Ok.ensures (tries_end _ _ _ _ _ _ c.in-Ok-eq0.field-0-test f p) h))
+
+pub returns-in-Ok-eq0-clause-run : goal.returns-in-Ok-eq0-clause-run
+returns-in-Ok-eq0-clause-run g c =
+    let all = advances_through _ _ _ c.loop-audit.invariant.advanced c.in-Ok-eq0.ensures.advances in
+    ok_then c.finish.result c.finish.ensures.passed
+    (λ p h. leads_back c.in-Ok.audit c.read_piece.new.self c.args.keep_undo c.args.input.now c.args.output.now p.steps p.undo c.in-Ok.ensures all h)
+
+pub returns-in-Ok-eq0-clause-passes : goal.returns-in-Ok-eq0-clause-passes
+returns-in-Ok-eq0-clause-passes g c =
+    let taken = at_same _ _ _ c.loop-audit.invariant.held c.in-Ok-eq0.ensures.taken in
+    ok_goes _ c.finish.result (g.F.Files.held c.args.files.now) c.finish.ensures.passed
+    (λ p h. if_some_2 (g.F.Files.held c.args.files.now) c.loop-audit.invariant.front taken
+    (λ disk f q. log_passes c.in-Ok.audit c.read_piece.new.self c.args.keep_undo c.args.input.now c.args.output.now (bytes_at disk c.args.name.now) p.steps p.undo c.in-Ok.ensures (tries_end _ _ _ _ _ _ c.in-Ok-eq0.field-0-test f q) h))
 
 pub loop-audit-preserved : goal.loop-audit-preserved
 loop-audit-preserved g c =
     let taken = at_same _ _ _ c.loop-audit.invariant.held c.in-Ok-read_piece.ensures.taken in
     record {
       goes_on = c.in-Ok-read_piece.ensures.goes_on;
+      advanced = advances_through _ _ _ c.loop-audit.invariant.advanced c.in-Ok-read_piece.ensures.advances;
       left = omega (arith, c.in-Ok-read_piece.ensures.left, c.loop-audit.invariant.left);
       front = if_some_2 (g.F.Files.held c.args.files.now) c.loop-audit.invariant.front taken (λ disk f p. tries_more _ _ _ _ _ _ f p);
       held = c.read_piece.ensures.held ∙ c.loop-audit.invariant.held;
       read_later = λ q. omega (arith, c.loop-audit.invariant.read_later q, c.read_piece.ensures.read_later q);
+      write_later = λ q. omega (arith, c.loop-audit.invariant.write_later q, c.read_piece.ensures.write_later q);
     }
 
 pub returns-in-Err-clause-says : goal.returns-in-Err-clause-says
 returns-in-Err-clause-says g c =
     let refused = at_same _ _ _ c.loop-audit.invariant.held c.in-Err.ensures.refused in
     if_some_2 (g.F.Files.held c.args.files.now) c.loop-audit.invariant.front refused
-    (λ disk f r. log_refuses c.in-Ok.audit c.args.input.now c.args.output.now (bytes_at disk c.args.name.now) c.in-Err.outcome c.in-Ok.ensures (refuses_whole _ _ _ _ _ f r))
+    (λ disk f r. log_refuses c.in-Ok.audit c.args.keep_undo c.args.input.now c.args.output.now (bytes_at disk c.args.name.now) c.in-Err.outcome c.in-Ok.ensures (refuses_whole _ _ _ _ _ f r))
+
+pub returns-in-Err-clause-read_later : goal.returns-in-Err-clause-read_later
+returns-in-Err-clause-read_later g c = λ q. omega (arith, c.loop-audit.invariant.read_later q, c.read_piece.ensures.read_later q)
+
+pub returns-in-Err-clause-write_later : goal.returns-in-Err-clause-write_later
+returns-in-Err-clause-write_later g c = λ q. omega (arith, c.loop-audit.invariant.write_later q, c.read_piece.ensures.write_later q)

@@ -1,6 +1,6 @@
 use Rattle.std.proofs.Common.{◌+◌, ◌-◌, ◌≡◌, ◌≤◌, List, ℕ, IfSome}
 use Rattle.q_io.specs.Files.{bytes_at}
-use Rattle.q_app.specs.Audits.{IsOpen}
+use Rattle.q_app.specs.Audits.{IsOpen, Advances}
 use Rattle.q_app.proofs.Auditing.{HasTried}
 use Rattle.q_app.proofs.check.check_log.Given as goal
 
@@ -8,10 +8,12 @@ abbrev pub invariant-loop-audit : goal.invariant-loop-audit
 invariant-loop-audit g l =
     record {
       goes_on : IsOpen l.audit;
+      advanced : (bytes : List ℕ) × Advances l.initial.audit l.audit bytes;
       left : l.audit.reader.left + l.at ≡ 1099511627776;
       front : IfSome (g.F.Files.held l.fn.files) (λ disk. HasTried (bytes_at disk l.name) l.at l.initial.audit l.audit);
       held : g.F.Files.held l.files ≡ g.F.Files.held l.fn.files;
       read_later : (q : List ℕ) → g.F.Files.read_faults l.fn.files q ≤ g.F.Files.read_faults l.files q;
+      write_later : (q : List ℕ) → g.F.Files.write_faults l.fn.files q ≤ g.F.Files.write_faults l.files q;
     }
 
 abbrev pub decreases-loop-audit : goal.decreases-loop-audit

@@ -12,6 +12,8 @@ returns c =
     record {
       log = λ text. c.in-Ok.ensures.log text ∙ ap (λ (k : ℕ). read k text) bytes;
       alike = all.0;
+      undo = all.1;
+      keeps = all.3;
       steps = refl;
       left = left;
       goes_on = record { limits = all.2 ∙ c.standard-limits.ensures; room = omega (arith, left) };

@@ -1,0 +1,173 @@
+-- When each status of `rebuild` comes.
+use Rattle.std.proofs.Common.{◌≡◌, ◌⊎◌, inl, inr, ◌∙◌, refl, sym, ap, ℕ, List, [], length, unwrap_or, Option, Some, None}
+use Rattle.std.proofs.Math.Seq.{take-length}
+use Rattle.q_logic.specs.Formulas.{PrenexFormula}
+use Rattle.q_logic.specs.Undos.{UndoEntry}
+use Rattle.q_logic.specs.Certificates.{CertificateView}
+use Rattle.q_io.specs.Files.{Disk, bytes_at}
+use Rattle.q_rebuild.specs.Refusals.{IsRefused, IsAccepted}
+use Rattle.q_rebuild.specs.declared.error.RebuildError.{RebuildError}
+use Rattle.q_rebuild.specs.declared.error.RebuildError.TheVariants as refusal
+use Rattle.q_rebuild.proofs.Denying.{refused-not_accepted}
+use Rattle.q_app.specs.Checks.{Checks, IsUnverified, IsVerified, MayCome, AnswersExactly}
+use Rattle.q_app.specs.RebuiltLines.{status_of_rebuilt}
+use Rattle.q_app.specs.Says.{IsDue}
+use Rattle.q_app.specs.Statuses.{status_of}
+use Rattle.q_app.specs.Rebuilds.{FiveNames, OfCircuits, IsWhole, IsPart, AreRefused, Rebuilds, AreNoCircuits, AreFitting, IsUntouched, RebuildsExactly}
+use Rattle.q_app.specs.declared.outcome.Outcome.{Outcome}
+use Rattle.q_app.specs.declared.status.Status.{Status}
+use Rattle.q_app.specs.declared.status.Status.TheVariants as status
+use Rattle.q_app.specs.declared.rebuilt.Rebuilt.{Rebuilt}
+use Rattle.q_app.specs.declared.rebuilt.Rebuilt.TheVariants.{Written, Unverified, RefusedText, MissingOutput, StrangeOutput, StrangeInput, Reads, FalseOutput, ReadFault, WriteFault, NoMemory}
+use Rattle.q_app.proofs.Exact.{answers, unverified-truth, unverified-not_done, unverified-not_circuits, verified-run, verified-formulas}
+
+module _ (answer : Status) (n : FiveNames) (before : Disk) (after : Option Disk) where
+  abbrev Result : Type 0
+  Result = RebuildsExactly answer n before after
+
+  abbrev Verified : Type 0
+  Verified = IsVerified (bytes_at before n.input) (bytes_at before n.output) (bytes_at before n.log)
+
+  brings-verified : {P : PrenexFormula → PrenexFormula → List UndoEntry → CertificateView → Type 0} → OfCircuits n before P → Verified
+  brings-verified x = record { from = x.from; to = x.to; is_input = x.brings.is_input; is_output = x.brings.is_output; holds = (x.brings.log.entries, x.brings.log.leads) }
+
+  whole : (g : ℕ) → IsWhole g n before after → answer ≡ status.Done → Result
+  whole g h e =
+      let v : Verified = brings-verified h in
+      record {
+        done = λ x. (g, h);
+        complete = λ f. inl e;
+        log_refused = ((λ x. absurd (let w : status.Done ≡ status.LogRefused = sym e ∙ x in cc)), (λ r. absurd (verified-run _ _ _ v r)));
+        input_refused = ((λ x. absurd (let w : status.Done ≡ status.InputRefused = sym e ∙ x in cc)), (λ r. absurd (verified-formulas _ _ _ v r)));
+        circuits_refused = λ x. absurd (let w : status.Done ≡ status.CircuitsRefused = sym e ∙ x in cc);
+        untouched = λ x. absurd (elim x [
+          | inl a ↦ (let w : status.Done ≡ status.LogRefused = sym e ∙ a in cc)
+          | inr b ↦ elim b [
+            | inl a ↦ (let w : status.Done ≡ status.InputRefused = sym e ∙ a in cc)
+            | inr d ↦ elim d [
+              | inl a ↦ (let w : status.Done ≡ status.CircuitsRefused = sym e ∙ a in cc)
+              | inr a ↦ (let w : status.Done ≡ status.ReadFault = sym e ∙ a in cc)
+            ]
+          ]
+        ]);
+        left = λ x. absurd (elim x [ inl a ↦ (let w : status.Done ≡ status.WriteFault = sym e ∙ a in cc) | inr a ↦ (let w : status.Done ≡ status.NoMemory = sym e ∙ a in cc) ]);
+      }
+
+  -- circuits that are refused
+  refused : Verified → AreNoCircuits n before → (AreFitting n before → ⊥) → after ≡ Some before → answer ≡ status.CircuitsRefused → Result
+  refused v h k same e =
+      record {
+        done = λ x. absurd (let w : status.CircuitsRefused ≡ status.Done = sym e ∙ x in cc);
+        complete = λ f. absurd (k f);
+        log_refused = ((λ x. absurd (let w : status.CircuitsRefused ≡ status.LogRefused = sym e ∙ x in cc)), (λ r. absurd (verified-run _ _ _ v r)));
+        input_refused = ((λ x. absurd (let w : status.CircuitsRefused ≡ status.InputRefused = sym e ∙ x in cc)), (λ r. absurd (verified-formulas _ _ _ v r)));
+        circuits_refused = λ x. (v, h);
+        untouched = λ x. same;
+        left = λ x. absurd (elim x [ inl a ↦ (let w : status.CircuitsRefused ≡ status.WriteFault = sym e ∙ a in cc) | inr a ↦ (let w : status.CircuitsRefused ≡ status.NoMemory = sym e ∙ a in cc) ]);
+      }
+
+  refused-cause : (c : RebuildError) → (c ≡ refusal.NoMemory → ⊥) → AreRefused c n before → after ≡ Some before → answer ≡ status.CircuitsRefused → Result
+  refused-cause c d x same e =
+      let no = refused-not_accepted x.to x.given c d x.holds in
+      refused (brings-verified x) (inr (record { from = x.from; to = x.to; undo = x.undo; given = x.given; brings = x.brings; holds = no }))
+      (λ f. no (f.accepted x.to x.brings.is_output x.given x.brings.circuits)) same e
+
+  -- faults and want of memory
+  faulty : MayCome answer → (answer ≡ status.ReadFault → after ≡ Some before) → ((answer ≡ status.WriteFault) ⊎ (answer ≡ status.NoMemory) → (after ≡ Some before) ⊎ IsPart n before after) → Result
+  faulty m same l =
+      record {
+        done = λ x. absurd (come m x);
+        complete = λ f. inr m;
+        log_refused = ((λ x. absurd (come-log m x)), (λ r. inr m));
+        input_refused = ((λ x. absurd (come-input m x)), (λ r. inr m));
+        circuits_refused = λ x. absurd (come-circuits m x);
+        untouched = λ x. elim x [
+          | inl a ↦ absurd (come-log m a)
+          | inr b ↦ elim b [ inl a ↦ absurd (come-input m a) | inr d ↦ elim d [ inl a ↦ absurd (come-circuits m a) | inr a ↦ same a ] ]
+        ];
+        left = l;
+      }
+    where
+      come : MayCome answer → answer ≡ status.Done → ⊥
+      come (inl a) x = cc
+      come (inr (inl a)) x = cc
+      come (inr (inr a)) x = cc
+
+      come-log : MayCome answer → answer ≡ status.LogRefused → ⊥
+      come-log (inl a) x = cc
+      come-log (inr (inl a)) x = cc
+      come-log (inr (inr a)) x = cc
+
+      come-input : MayCome answer → answer ≡ status.InputRefused → ⊥
+      come-input (inl a) x = cc
+      come-input (inr (inl a)) x = cc
+      come-input (inr (inr a)) x = cc
+
+      come-circuits : MayCome answer → answer ≡ status.CircuitsRefused → ⊥
+      come-circuits (inl a) x = cc
+      come-circuits (inr (inl a)) x = cc
+      come-circuits (inr (inr a)) x = cc
+
+  unverified : (w : Outcome) → IsUnverified w → Checks w (bytes_at before n.input) (bytes_at before n.output) (bytes_at before n.log) → after ≡ Some before → answer ≡ status_of w → Result
+  unverified w u h same e =
+      let all : AnswersExactly answer (bytes_at before n.input) (bytes_at before n.output) (bytes_at before n.log) = answers {A = Unit {0}} w answer _ _ _ h (unverified-truth w _ _ u) (inl e) in
+      record {
+        done = λ x. absurd (unverified-not_done w answer u e x);
+        complete = λ f. all.verified.1 f.verified;
+        log_refused = all.log_refused;
+        input_refused = all.input_refused;
+        circuits_refused = λ x. absurd (unverified-not_circuits w answer e x);
+        untouched = λ x. same;
+        left = λ x. inl same;
+      }
+
+  -- what stands where the line could not be put
+  stands : (due : Rebuilt) → Rebuilds due n before after → (after ≡ Some before) ⊎ IsPart n before after
+  stands (Written g) h =
+      let w = h.holds.1 in
+      inr (record {
+        from = h.from;
+        to = h.to;
+        undo = h.undo;
+        given = h.given;
+        brings = h.brings;
+        holds = (
+          g,
+          w.0,
+          w.1,
+          record {
+            disk = w.2.disk;
+            told = w.2.told;
+            part = inr (length w.0, ap (λ b. unwrap_or b []) w.2.bytes_are ∙ sym (take-length w.0));
+            others = w.2.others;
+          },
+        );
+      })
+  stands (Unverified o) h = inl h.2
+  stands (RefusedText k c) h = inl h.2
+  stands (MissingOutput v) h = inl h.1
+  stands (StrangeOutput v) h = inl h.1
+  stands (StrangeInput v) h = inl h.1
+  stands (Reads v u) h = inl h.1
+  stands FalseOutput h = inl h.1
+  stands ReadFault h = inl h
+  stands WriteFault h = inr h
+  stands NoMemory h = h
+
+  due-answers : (due : Rebuilt) → Rebuilds due n before after → answer ≡ status_of_rebuilt due → Result
+  due-answers (Written g) h e = whole g h e
+  due-answers (Unverified o) h e = unverified o h.0 h.1 h.2 e
+  due-answers (RefusedText k c) h e = refused h.0 (inl (k, c, h.1)) (λ f. f.text k c h.1) h.2 e
+  due-answers (MissingOutput v) h e = refused-cause (refusal.MissingOutput v) (λ x. cc) h.0 h.1 e
+  due-answers (StrangeOutput v) h e = refused-cause (refusal.StrangeOutput v) (λ x. cc) h.0 h.1 e
+  due-answers (StrangeInput v) h e = refused-cause (refusal.StrangeInput v) (λ x. cc) h.0 h.1 e
+  due-answers (Reads v u) h e = refused-cause (refusal.Reads v u) (λ x. cc) h.0 h.1 e
+  due-answers FalseOutput h e = refused-cause refusal.FalseOutput (λ x. cc) h.0 h.1 e
+  due-answers ReadFault h e = faulty (inl e) (λ x. h) (λ x. inl h)
+  due-answers WriteFault h e = faulty (inr (inl e)) (λ x. let w : status.WriteFault ≡ status.ReadFault = sym e ∙ x in cc) (λ x. inr h)
+  due-answers NoMemory h e = faulty (inr (inr e)) (λ x. let w : status.NoMemory ≡ status.ReadFault = sym e ∙ x in cc) (λ x. h)
+
+  pub rebuild-answers : (due : Rebuilt) (faults now : ℕ) → Rebuilds due n before after → IsDue (status_of_rebuilt due) answer faults now → Result
+  rebuild-answers due faults now h (inl e) = due-answers due h e
+  rebuild-answers due faults now h (inr (inl e)) = faulty (inr (inl e.0)) (λ x. let w : status.WriteFault ≡ status.ReadFault = sym e.0 ∙ x in cc) (λ x. stands due h)
+  rebuild-answers due faults now h (inr (inr e)) = faulty (inr (inr e)) (λ x. let w : status.NoMemory ≡ status.ReadFault = sym e ∙ x in cc) (λ x. stands due h)

@@ -1,0 +1,9 @@
+use Rattle.q_app.specs.Rebuilds.{five}
+use Rattle.q_app.proofs.Feeding.{if_some_1}
+use Rattle.q_app.proofs.Deciding.{rebuild-answers}
+use Rattle.q_app.proofs.run_rebuild.run_rebuild.Goals as goal
+
+pub returns-clause-exact : goal.returns-clause-exact
+returns-clause-exact g c =
+    if_some_1 (g.F.Files.held c.args.files.now) c.rebuild_files-outcome.ensures.rebuilds
+    (λ disk h. rebuild-answers c.say_rebuilt.result (five c.args.input.now c.args.output.now c.args.log.now c.args.skolem.now c.args.cert.now) disk _ c.rebuild_files-outcome.result _ _ h c.say_rebuilt.ensures.answer)

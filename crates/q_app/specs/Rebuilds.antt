@@ -1,0 +1,240 @@
+-- What `rebuild` says and leaves, over the files before and after.
+use Rattle.std.specs.Prelude.{◌≡◌, ◌⊎◌, ◌≤◌, ℕ, List, ◌++◌, length, take, drop, Option, Some, true}
+use Rattle.std.specs.FinMap as map
+use Rattle.q_logic.specs.Formulas.{PrenexFormula}
+use Rattle.q_logic.specs.Certificates.{CertificateView}
+use Rattle.q_logic.specs.Undos.{UndoEntry}
+use Rattle.q_io.specs.Files.{Disk, OthersStay, bytes_at}
+use Rattle.q_aiger.specs.Circuits.{AreCircuits, Offence}
+use Rattle.q_aiger.specs.Writing.{IsCanonical}
+use Rattle.q_rebuild.specs.Rebuilt.{IsRebuilt}
+use Rattle.q_rebuild.specs.Refusals.{IsRefused, IsAccepted}
+use Rattle.q_io.specs.declared.error.DeviceError.{DeviceError}
+use Rattle.q_io.specs.declared.error.DeviceError.TheVariants as device
+use Rattle.q_aiger.specs.declared.error.AigerError.{AigerError}
+use Rattle.q_aiger.specs.declared.error.AigerError.TheVariants as aiger
+use Rattle.q_rebuild.specs.declared.error.RebuildError.{RebuildError}
+use Rattle.q_rebuild.specs.declared.error.RebuildError.TheVariants as refusal
+use Rattle.q_app.specs.Checks.{Checks, IsFileOf, IsNoFormula, IsNoRun, IsUnverified, IsVerified, LogPasses, Exactly, MayCome}
+use Rattle.q_app.specs.declared.check.Checked.{Checked}
+use Rattle.q_app.specs.declared.outcome.Outcome.TheVariants as outcome
+use Rattle.q_app.specs.declared.status.Status.{Status}
+use Rattle.q_app.specs.declared.status.Status.TheVariants as status
+use Rattle.q_app.specs.declared.rebuilt.Rebuilt.{Rebuilt}
+use Rattle.q_app.specs.declared.rebuilt.Rebuilt.TheVariants.{Written, Unverified, RefusedText, MissingOutput, StrangeOutput, StrangeInput, Reads, FalseOutput, ReadFault, WriteFault, NoMemory}
+
+-- the names of the five files
+pub record FiveNames : Type 0 where
+  pub input : List ℕ
+  pub output : List ℕ
+  pub log : List ℕ
+  pub skolem : List ℕ
+  pub cert : List ℕ
+
+-- the file holds these bytes, and all others are as before
+pub record HoldsBytes (name bytes : List ℕ) (before : Disk) (after : Option Disk) : Type 0 where
+  pub disk : Disk
+  pub told : after ≡ Some disk
+  pub bytes_are : map.get disk name ≡ Some bytes
+  pub others : OthersStay name before disk
+
+-- the file is as before, or holds a front of these bytes
+pub record HoldsFront (name bytes : List ℕ) (before : Disk) (after : Option Disk) : Type 0 where
+  pub disk : Disk
+  pub told : after ≡ Some disk
+  pub part : (map.get disk name ≡ map.get before name) ⊎ ((n : ℕ) × (bytes_at disk name ≡ take n bytes))
+  pub others : OthersStay name before disk
+
+-- the log of the three files is verified, and leaves this undo list; the fourth file holds these circuits
+pub record Brings (n : FiveNames) (disk : Disk) (F G : PrenexFormula) (us : List UndoEntry) (given : CertificateView) : Type 0 where
+  pub is_input : IsFileOf (bytes_at disk n.input) F
+  pub is_output : IsFileOf (bytes_at disk n.output) G
+  pub steps : ℕ
+  pub log : LogPasses true (bytes_at disk n.log) F G steps us
+  pub circuits : AreCircuits (bytes_at disk n.skolem) given
+
+-- of all that the four files hold this is true
+pub record OfCircuits (n : FiveNames) (disk : Disk) (P : PrenexFormula → PrenexFormula → List UndoEntry → CertificateView → Type 0) : Type 0 where
+  pub from : PrenexFormula
+  pub to : PrenexFormula
+  pub undo : List UndoEntry
+  pub given : CertificateView
+  pub brings : Brings n disk from to undo given
+  pub holds : P from to undo given
+
+-- the circuits that are written, with so many gates: they have the stated values, are lawful and small, and are Skolem
+-- functions of the formula of IN where the given ones are of that of OUT
+pub record IsCertificate (n : FiveNames) (gates : ℕ) (F G : PrenexFormula) (us : List UndoEntry) (given : CertificateView) (text : List ℕ) : Type 0 where
+  pub made : CertificateView
+  pub rebuilt : IsRebuilt F G us given made
+  pub canonical : IsCanonical made gates text
+
+-- the certificate is written whole
+abbrev pub IsWhole : ℕ → FiveNames → Disk → Option Disk → Type 0
+IsWhole gates n before after =
+    OfCircuits n before (λ F G us given. IsAccepted G given ×
+    ((text : List ℕ) × IsCertificate n gates F G us given text × HoldsBytes n.cert text before after))
+
+-- a fault or want of memory while it was written
+abbrev pub IsPart : FiveNames → Disk → Option Disk → Type 0
+IsPart n before after =
+    OfCircuits n before (λ F G us given. (gates : ℕ) × (text : List ℕ) × IsCertificate n gates F G us given text × HoldsFront n.cert text before after)
+
+-- the circuits are refused for this cause
+abbrev pub AreRefused : RebuildError → FiveNames → Disk → Type 0
+AreRefused e n before = OfCircuits n before (λ F G us given. IsRefused G given e)
+
+-- what there is to say, and what the files hold then
+abbrev pub Rebuilds : Rebuilt → FiveNames → Disk → Option Disk → Type 0
+Rebuilds (Written g) n before after = IsWhole g n before after
+Rebuilds (Unverified o) n before after =
+    IsUnverified o × Checks o (bytes_at before n.input) (bytes_at before n.output) (bytes_at before n.log) × (after ≡ Some before)
+Rebuilds (RefusedText k c) n before after =
+    IsVerified (bytes_at before n.input) (bytes_at before n.output) (bytes_at before n.log) × Offence (bytes_at before n.skolem) k c × (after ≡ Some before)
+Rebuilds (MissingOutput v) n before after = AreRefused (refusal.MissingOutput v) n before × (after ≡ Some before)
+Rebuilds (StrangeOutput v) n before after = AreRefused (refusal.StrangeOutput v) n before × (after ≡ Some before)
+Rebuilds (StrangeInput v) n before after = AreRefused (refusal.StrangeInput v) n before × (after ≡ Some before)
+Rebuilds (Reads v u) n before after = AreRefused (refusal.Reads v u) n before × (after ≡ Some before)
+Rebuilds FalseOutput n before after = AreRefused refusal.FalseOutput n before × (after ≡ Some before)
+Rebuilds ReadFault n before after = after ≡ Some before
+Rebuilds WriteFault n before after = IsPart n before after
+Rebuilds NoMemory n before after = (after ≡ Some before) ⊎ IsPart n before after
+
+abbrev pub five : List ℕ → List ℕ → List ℕ → List ℕ → List ℕ → FiveNames
+five i o l s c = record { input = i; output = o; log = l; skolem = s; cert = c }
+
+-- reading failed
+abbrev pub FaultsReading : Rebuilt → Type 0
+FaultsReading r = (r ≡ ReadFault) ⊎ (r ≡ Unverified outcome.ReadFault)
+
+-- an unknown command is no outcome
+abbrev pub MayBeSaid : Rebuilt → Type 0
+MayBeSaid r = r ≡ Unverified outcome.Usage → ⊥
+
+-- the front of a file that was read
+pub record IsFront (file : List ℕ) (place : ℕ) (text : List ℕ) : Type 0 where
+  pub is : text ≡ take place file
+  pub within : place ≤ length file
+
+-- n bytes of the file were put behind the text
+pub record HasAppended (file : List ℕ) (place n : ℕ) (old new : List ℕ) : Type 0 where
+  pub is : new ≡ old ++ take n (drop place file)
+  pub within : n ≤ length (drop place file)
+  pub end : n ≡ 0 → length file ≤ place
+
+-- why a file gives no circuits
+abbrev pub TextFails : Rebuilt → List ℕ → Type 0
+TextFails (Written g) bytes = ⊥
+TextFails (Unverified o) bytes = ⊥
+TextFails (RefusedText k c) bytes = Offence bytes k c
+TextFails (MissingOutput v) bytes = ⊥
+TextFails (StrangeOutput v) bytes = ⊥
+TextFails (StrangeInput v) bytes = ⊥
+TextFails (Reads v u) bytes = ⊥
+TextFails FalseOutput bytes = ⊥
+TextFails ReadFault bytes = Unit {0}
+TextFails WriteFault bytes = ⊥
+TextFails NoMemory bytes = Unit {0}
+
+-- an outcome of reading circuits or of carrying them back
+abbrev pub IsOfCircuits : Rebuilt → Type 0
+IsOfCircuits (Written g) = ⊥
+IsOfCircuits (Unverified o) = ⊥
+IsOfCircuits (RefusedText k c) = Unit {0}
+IsOfCircuits (MissingOutput v) = Unit {0}
+IsOfCircuits (StrangeOutput v) = Unit {0}
+IsOfCircuits (StrangeInput v) = Unit {0}
+IsOfCircuits (Reads v u) = Unit {0}
+IsOfCircuits FalseOutput = Unit {0}
+IsOfCircuits ReadFault = Unit {0}
+IsOfCircuits WriteFault = ⊥
+IsOfCircuits NoMemory = Unit {0}
+
+-- the circuits of a file are refused as those of G
+abbrev pub Fails : RebuildError → PrenexFormula → List ℕ → Type 0
+Fails e G bytes = (given : CertificateView) × AreCircuits bytes given × IsRefused G given e
+
+-- why the circuits of a file are not carried back
+abbrev pub CircuitsFail : Rebuilt → PrenexFormula → List ℕ → Type 0
+CircuitsFail (Written g) G bytes = ⊥
+CircuitsFail (Unverified o) G bytes = ⊥
+CircuitsFail (RefusedText k c) G bytes = Offence bytes k c
+CircuitsFail (MissingOutput v) G bytes = Fails (refusal.MissingOutput v) G bytes
+CircuitsFail (StrangeOutput v) G bytes = Fails (refusal.StrangeOutput v) G bytes
+CircuitsFail (StrangeInput v) G bytes = Fails (refusal.StrangeInput v) G bytes
+CircuitsFail (Reads v u) G bytes = Fails (refusal.Reads v u) G bytes
+CircuitsFail FalseOutput G bytes = Fails refusal.FalseOutput G bytes
+CircuitsFail ReadFault G bytes = Unit {0}
+CircuitsFail WriteFault G bytes = ⊥
+CircuitsFail NoMemory G bytes = Unit {0}
+
+abbrev pub refused_text : AigerError → Rebuilt
+refused_text (aiger.Refused k c) = RefusedText k c
+refused_text aiger.NoMemory = NoMemory
+
+abbrev pub refused_circuits : RebuildError → Rebuilt
+refused_circuits (refusal.MissingOutput v) = MissingOutput v
+refused_circuits (refusal.StrangeOutput v) = StrangeOutput v
+refused_circuits (refusal.StrangeInput v) = StrangeInput v
+refused_circuits (refusal.Reads v u) = Reads v u
+refused_circuits refusal.FalseOutput = FalseOutput
+refused_circuits refusal.NoMemory = NoMemory
+
+abbrev pub failed_read : DeviceError → Rebuilt
+failed_read device.Failed = ReadFault
+failed_read device.NoMemory = NoMemory
+
+abbrev pub failed_write : DeviceError → Rebuilt
+failed_write device.Failed = WriteFault
+failed_write device.NoMemory = NoMemory
+
+-- the circuits of a file, carried back
+abbrev pub AreCarried : Checked → List ℕ → CertificateView → Type 0
+AreCarried k bytes made =
+    (given : CertificateView) × AreCircuits bytes given × IsAccepted k.to given × IsRebuilt k.from k.to k.undo given made
+
+-- a front of the text of the certificate, or what was there
+abbrev pub PutsPart : CertificateView → List ℕ → Disk → Option Disk → Type 0
+PutsPart made name before after =
+    (gates : ℕ) × (text : List ℕ) × IsCanonical made gates text × HoldsFront name text before after
+
+-- what writing the certificate leaves
+abbrev pub Puts : Rebuilt → CertificateView → List ℕ → Disk → Option Disk → Type 0
+Puts (Written g) made name before after = (text : List ℕ) × IsCanonical made g text × HoldsBytes name text before after
+Puts (Unverified o) made name before after = ⊥
+Puts (RefusedText k c) made name before after = ⊥
+Puts (MissingOutput v) made name before after = ⊥
+Puts (StrangeOutput v) made name before after = ⊥
+Puts (StrangeInput v) made name before after = ⊥
+Puts (Reads v u) made name before after = ⊥
+Puts FalseOutput made name before after = ⊥
+Puts ReadFault made name before after = ⊥
+Puts WriteFault made name before after = PutsPart made name before after
+Puts NoMemory made name before after = (after ≡ Some before) ⊎ PutsPart made name before after
+
+-- the circuits are refused: the file is no text of circuits, or they are none for the formula of OUT
+abbrev pub AreNoCircuits : FiveNames → Disk → Type 0
+AreNoCircuits n disk =
+    ((k : ℕ) × (c : ℕ) × Offence (bytes_at disk n.skolem) k c)
+    ⊎ OfCircuits n disk (λ F G us given. ¬ IsAccepted G given)
+
+-- however the gates of the file are ordered, its circuits are such as the formula of OUT may have
+pub record AreFitting (n : FiveNames) (disk : Disk) : Type 0 where
+  pub verified : IsVerified (bytes_at disk n.input) (bytes_at disk n.output) (bytes_at disk n.log)
+  pub text : (k c : ℕ) → ¬ Offence (bytes_at disk n.skolem) k c
+  pub accepted : (G : PrenexFormula) → IsFileOf (bytes_at disk n.output) G → (given : CertificateView) → AreCircuits (bytes_at disk n.skolem) given → IsAccepted G given
+
+-- the refusals and faults after which no file has changed
+abbrev pub IsUntouched : Status → Type 0
+IsUntouched s = (s ≡ status.LogRefused) ⊎ (s ≡ status.InputRefused) ⊎ (s ≡ status.CircuitsRefused) ⊎ (s ≡ status.ReadFault)
+
+-- when each status of `rebuild` comes, and what CERT holds then
+pub record RebuildsExactly (answer : Status) (n : FiveNames) (before : Disk) (after : Option Disk) : Type 0 where
+  pub done : answer ≡ status.Done → (gates : ℕ) × IsWhole gates n before after
+  pub complete : AreFitting n before → (answer ≡ status.Done) ⊎ MayCome answer
+  pub log_refused : Exactly answer status.LogRefused (IsNoRun (bytes_at before n.input) (bytes_at before n.output) (bytes_at before n.log))
+  pub input_refused : Exactly answer status.InputRefused (IsNoFormula (bytes_at before n.input) ⊎ IsNoFormula (bytes_at before n.output))
+  pub circuits_refused : answer ≡ status.CircuitsRefused →
+      IsVerified (bytes_at before n.input) (bytes_at before n.output) (bytes_at before n.log) × AreNoCircuits n before
+  pub untouched : IsUntouched answer → after ≡ Some before
+  pub left : (answer ≡ status.WriteFault) ⊎ (answer ≡ status.NoMemory) → (after ≡ Some before) ⊎ IsPart n before after

@@ -1,0 +1,165 @@
+// `rebuild`: the log is checked as by `check`, with what it leaves to undo; then the circuits of OUT are read and
+// carried back, and the circuits of IN are written. Nothing is created before all refusals are past.
+ghost use Rattle.std.specs.Prelude.{◌≡◌, ◌≤◌, ◌⊎◌, List, ℕ, IfOk, IfErr, IfSome, IsErrOf, true};
+ghost use Rattle.q_logic.specs.Formulas.{PrenexFormula};
+ghost use Rattle.q_io.specs.Files.{Rose, bytes_at};
+ghost use Rattle.q_aiger.specs.Circuits.{AreCircuits};
+ghost use Rattle.q_app.specs.Checks.{LeadsBack};
+ghost use Rattle.q_app.specs.Rebuilds.{AreCarried, CircuitsFail, FaultsReading, IsOfCircuits, MayBeSaid, Puts, Rebuilds, TextFails, failed_read, failed_write as write_failed, five, refused_circuits as circuits_refused, refused_text as text_refused};
+
+use crate::check::{Checked, verify};
+use crate::rebuilt::Rebuilt;
+use crate::whole_file::{read_whole, write_whole};
+use q_aig::Certificate;
+use q_aiger::{AigerError, read, write};
+use q_io::{DeviceError, Files};
+use q_rebuild::{RebuildError, rebuild};
+use std::alloc::Global;
+
+fn refused_text(error: AigerError) -> Rebuilt
+    ensures is { result ≡ text_refused error }
+    ensures of_circuits { IsOfCircuits result }
+{
+    match error {
+        AigerError::Refused { line, cause } => Rebuilt::RefusedText { line, cause },
+        AigerError::NoMemory => Rebuilt::NoMemory,
+    }
+}
+
+fn refused_circuits(error: RebuildError) -> Rebuilt
+    ensures is { result ≡ circuits_refused error }
+    ensures of_circuits { IsOfCircuits result }
+{
+    match error {
+        RebuildError::MissingOutput { var } => Rebuilt::MissingOutput { var },
+        RebuildError::StrangeOutput { var } => Rebuilt::StrangeOutput { var },
+        RebuildError::StrangeInput { var } => Rebuilt::StrangeInput { var },
+        RebuildError::Reads { var, universal } => Rebuilt::Reads { var, universal },
+        RebuildError::FalseOutput => Rebuilt::FalseOutput,
+        RebuildError::NoMemory => Rebuilt::NoMemory,
+    }
+}
+
+fn unread(error: DeviceError) -> Rebuilt
+    ensures is { result ≡ failed_read error }
+    ensures of_circuits { IsOfCircuits result }
+{
+    match error {
+        DeviceError::Failed => Rebuilt::ReadFault,
+        DeviceError::NoMemory => Rebuilt::NoMemory,
+    }
+}
+
+fn unwritten(error: DeviceError) -> Rebuilt
+    ensures is { result ≡ write_failed error }
+    ensures writing { FaultsReading result → ⊥ }
+    ensures told { MayBeSaid result }
+{
+    match error {
+        DeviceError::Failed => Rebuilt::WriteFault,
+        DeviceError::NoMemory => Rebuilt::NoMemory,
+    }
+}
+
+// The circuits of a file.
+fn read_circuits<F: Files>(alloc: Global, files: &mut F, name: &str) -> Result<Certificate, Rebuilt>
+    ensures circuits { IfOk result (λ given. IfSome (F.held files.old)
+        (λ disk. AreCircuits (bytes_at disk name.now) given)) }
+    ensures refused { IfErr result (λ o. IfSome (F.held files.old)
+        (λ disk. TextFails o (bytes_at disk name.now))) }
+    ensures of_circuits { IfErr result IsOfCircuits }
+    ensures fault { IsErrOf result Rebuilt.ReadFault →
+        Rose (F.read_faults files.old name.now) (F.read_faults files.new name.now) }
+    ensures held { F.held files.new ≡ F.held files.old }
+    ensures read_later { (q : List ℕ) → F.read_faults files.old q ≤ F.read_faults files.new q }
+    ensures write_later { (q : List ℕ) → F.write_faults files.old q ≤ F.write_faults files.new q }
+{
+    let text = match read_whole(alloc, files, name) {
+        Ok(text) => text,
+        Err(error) => return Err(unread(error)),
+    };
+    match read(alloc, &text) {
+        Ok(given) => Ok(given),
+        Err(error) => Err(refused_text(error)),
+    }
+}
+
+// The circuits of OUT, carried back to IN.
+fn carry_back<F: Files>(
+    alloc: Global,
+    files: &mut F,
+    skolem: &str,
+    checked: &Checked,
+) -> Result<Certificate, Rebuilt>
+    requires run { LeadsBack true checked.now.from checked.now.to checked.now.undo }
+    ensures carried { IfOk result (λ made. IfSome (F.held files.old)
+        (λ disk. AreCarried checked.now (bytes_at disk skolem.now) made)) }
+    ensures refused { IfErr result (λ o. IfSome (F.held files.old)
+        (λ disk. CircuitsFail o checked.now.to (bytes_at disk skolem.now))) }
+    ensures of_circuits { IfErr result IsOfCircuits }
+    ensures fault { IsErrOf result Rebuilt.ReadFault →
+        Rose (F.read_faults files.old skolem.now) (F.read_faults files.new skolem.now) }
+    ensures held { F.held files.new ≡ F.held files.old }
+    ensures read_later { (q : List ℕ) → F.read_faults files.old q ≤ F.read_faults files.new q }
+    ensures write_later { (q : List ℕ) → F.write_faults files.old q ≤ F.write_faults files.new q }
+{
+    let mut given = match read_circuits(alloc, files, skolem) {
+        Ok(given) => given,
+        Err(outcome) => return Err(outcome),
+    };
+    match rebuild(alloc, &checked.from, &checked.to, &checked.undo, &mut given) {
+        Ok(made) => Ok(made),
+        Err(error) => Err(refused_circuits(error)),
+    }
+}
+
+// Creates CERT with the text of the circuits.
+fn write_circuits<F: Files>(alloc: Global, files: &mut F, cert: &str, made: &Certificate) -> Rebuilt
+    ensures puts { IfSome (F.held files.old)
+        (λ disk. Puts result made.now cert.now disk (F.held files.new)) }
+    ensures writing { FaultsReading result → ⊥ }
+    ensures told { MayBeSaid result }
+    ensures cause { result ≡ Rebuilt.WriteFault →
+        Rose (F.write_faults files.old cert.now) (F.write_faults files.new cert.now) }
+{
+    let mut text = Vec::new(alloc);
+    let gates = match write(made, &mut text) {
+        Ok(gates) => gates,
+        Err(_) => return Rebuilt::NoMemory,
+    };
+    match write_whole(files, cert, &text) {
+        Ok(()) => Rebuilt::Written { gates },
+        Err(error) => unwritten(error),
+    }
+}
+
+/// What there is to say of `rebuild` over the files of these names.
+pub(crate) fn rebuild_files<F: Files>(
+    alloc: Global,
+    files: &mut F,
+    input: &str,
+    output: &str,
+    log: &str,
+    skolem: &str,
+    cert: &str,
+) -> Rebuilt
+    ensures rebuilds { IfSome (F.held files.old) (λ disk.
+        Rebuilds result (five input.now output.now log.now skolem.now cert.now) disk (F.held files.new)) }
+    ensures told { MayBeSaid result }
+    ensures read_fault { FaultsReading result →
+        Rose (F.read_faults files.old input.now) (F.read_faults files.new input.now)
+        ⊎ Rose (F.read_faults files.old output.now) (F.read_faults files.new output.now)
+        ⊎ Rose (F.read_faults files.old log.now) (F.read_faults files.new log.now)
+        ⊎ Rose (F.read_faults files.old skolem.now) (F.read_faults files.new skolem.now) }
+    ensures write_fault { result ≡ Rebuilt.WriteFault →
+        Rose (F.write_faults files.old cert.now) (F.write_faults files.new cert.now) }
+{
+    let checked = match verify(alloc, files, input, output, log, true) {
+        Ok(checked) => checked,
+        Err(why) => return Rebuilt::Unverified { why },
+    };
+    match carry_back(alloc, files, skolem, &checked) {
+        Ok(made) => write_circuits(alloc, files, cert, &made),
+        Err(outcome) => outcome,
+    }
+}

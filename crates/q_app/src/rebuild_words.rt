@@ -1,0 +1,70 @@
+ghost use Rattle.std.specs.Prelude.{◌≡◌, ◌&&◌, codes, map, option_map, string_bytes, IfSome, None};
+ghost use Rattle.std.specs.Str.{bytes_eq};
+ghost use Rattle.q_app.specs.Rebuilds.{five};
+ghost use Rattle.q_app.specs.Words.{command};
+ghost use Rattle.q_app.specs.RebuildWords.{are_four as spec_are_four, is_new as spec_is_new, rebuild_names};
+
+/// The names of the five files of `rebuild`.
+#[derive(Clone, Copy)]
+pub(crate) struct RebuildNames<'a> {
+    pub input: &'a str,
+    pub output: &'a str,
+    pub log: &'a str,
+    pub skolem: &'a str,
+    pub cert: &'a str,
+}
+
+/// The names of the five files, if the words are `rebuild` with these; then they are no other command.
+pub(crate) fn parse_rebuild(words: &[String]) -> Option<RebuildNames>
+    ensures names { option_map
+        (λ o. five o.input.now o.output.now o.log.now o.skolem.now o.cert.now) result
+        ≡ rebuild_names (map (λ w. string_bytes w) words.now) }
+    ensures one { IfSome result (λ o. command (map (λ w. string_bytes w) words.now) ≡ None) }
+{
+    if words.len() != 6 {
+        return None;
+    }
+    let verb = words[0].as_str();
+    let input = words[1].as_str();
+    let output = words[2].as_str();
+    let log = words[3].as_str();
+    let skolem = words[4].as_str();
+    let cert = words[5].as_str();
+    if !is_rebuild(verb) {
+        return None;
+    }
+    if !are_apart(input, output, log, skolem, cert) {
+        return None;
+    }
+    Some(RebuildNames {
+        input,
+        output,
+        log,
+        skolem,
+        cert,
+    })
+}
+
+fn is_rebuild(verb: &str) -> bool
+    ensures { result ≡ bytes_eq verb.now (codes "rebuild") }
+{
+    verb == "rebuild"
+}
+
+fn is_new(a: &str, b: &str, c: &str, d: &str, e: &str) -> bool
+    ensures { result ≡ spec_is_new a.now b.now c.now d.now e.now }
+{
+    a != b && a != c && a != d && a != e
+}
+
+fn are_four(a: &str, b: &str, c: &str, d: &str) -> bool
+    ensures { result ≡ spec_are_four a.now b.now c.now d.now }
+{
+    a != b && a != c && a != d && b != c && b != d && c != d
+}
+
+fn are_apart(a: &str, b: &str, c: &str, d: &str, e: &str) -> bool
+    ensures { result ≡ (spec_is_new a.now b.now c.now d.now e.now && spec_are_four b.now c.now d.now e.now) }
+{
+    is_new(a, b, c, d, e) && are_four(b, c, d, e)
+}

@@ -1,0 +1,117 @@
+// Files that are read whole, and files that are written whole.
+ghost use Rattle.std.specs.Prelude.{◌≡◌, ◌≤◌, ◌<◌, List, ℕ, length, IfOk, OnOk, OnErr, IfSome, IsErrOf};
+ghost use Rattle.q_io.specs.Files.{Rose, bytes_at};
+ghost use Rattle.q_app.specs.Rebuilds.{HasAppended, HoldsBytes, HoldsFront};
+
+use crate::input::PIECE;
+use q_io::{DeviceError, Files};
+use std::alloc::Global;
+
+// No byte behind this place is asked for.
+const LAST_PLACE: u64 = 1_099_511_627_776;
+
+// Puts the next piece of a file behind the text.
+fn append_piece<F: Files>(
+    files: &mut F,
+    name: &str,
+    at: u64,
+    buffer: &mut [u8],
+    text: &mut Vec<u8>,
+) -> Result<usize, DeviceError>
+    requires room { 0 < length buffer.old }
+    ensures place { OnOk result (at ≤ 1099511627776) }
+    ensures count { IfOk result (λ n. n ≤ length buffer.old) }
+    ensures appended { IfOk result (λ n. IfSome (F.held files.old)
+        (λ disk. HasAppended (bytes_at disk name.now) at n text.old.items text.new.items)) }
+    ensures fault { IsErrOf result DeviceError.Failed →
+        Rose (F.read_faults files.old name.now) (F.read_faults files.new name.now) }
+    ensures held { F.held files.new ≡ F.held files.old }
+    ensures read_later { (q : List ℕ) → F.read_faults files.old q ≤ F.read_faults files.new q }
+    ensures write_later { (q : List ℕ) → F.write_faults files.old q ≤ F.write_faults files.new q }
+{
+    if at > LAST_PLACE {
+        return Err(DeviceError::NoMemory);
+    }
+    let count = match files.read(name, at, buffer) {
+        Ok(count) => count,
+        Err(error) => return Err(error),
+    };
+    match text.extend_from_slice(&buffer[..count]) {
+        Ok(()) => Ok(count),
+        Err(_) => Err(DeviceError::NoMemory),
+    }
+}
+
+// All bytes of a file, read through the buffer.
+fn read_through<F: Files>(
+    alloc: Global,
+    files: &mut F,
+    name: &str,
+    buffer: &mut [u8],
+) -> Result<Vec<u8>, DeviceError>
+    requires room { 0 < length buffer.old }
+    requires small { length buffer.old ≤ 65536 }
+    ensures bytes { IfOk result (λ text. IfSome (F.held files.old)
+        (λ disk. text.items ≡ bytes_at disk name.now)) }
+    ensures fault { IsErrOf result DeviceError.Failed →
+        Rose (F.read_faults files.old name.now) (F.read_faults files.new name.now) }
+    ensures held { F.held files.new ≡ F.held files.old }
+    ensures read_later { (q : List ℕ) → F.read_faults files.old q ≤ F.read_faults files.new q }
+    ensures write_later { (q : List ℕ) → F.write_faults files.old q ≤ F.write_faults files.new q }
+{
+    let mut text = Vec::new(alloc);
+    let mut at = 0u64;
+    loop {
+        match append_piece(files, name, at, buffer, &mut text) {
+            Ok(0) => return Ok(text),
+            Ok(count) => at += count as u64,
+            Err(error) => return Err(error),
+        }
+    }
+}
+
+/// All bytes of a file. One that is longer than any file may be finds no memory.
+pub(crate) fn read_whole<F: Files>(
+    alloc: Global,
+    files: &mut F,
+    name: &str,
+) -> Result<Vec<u8>, DeviceError>
+    ensures bytes { IfOk result (λ text. IfSome (F.held files.old)
+        (λ disk. text.items ≡ bytes_at disk name.now)) }
+    ensures fault { IsErrOf result DeviceError.Failed →
+        Rose (F.read_faults files.old name.now) (F.read_faults files.new name.now) }
+    ensures held { F.held files.new ≡ F.held files.old }
+    ensures read_later { (q : List ℕ) → F.read_faults files.old q ≤ F.read_faults files.new q }
+    ensures write_later { (q : List ℕ) → F.write_faults files.old q ≤ F.write_faults files.new q }
+{
+    match vec![in alloc; 0u8; PIECE] {
+        Ok(mut room) => match read_through(alloc, files, name, &mut room) {
+            Ok(text) => Ok(text),
+            Err(error) => Err(error),
+        },
+        Err(_) => Err(DeviceError::NoMemory),
+    }
+}
+
+/// Creates the file with these bytes.
+pub(crate) fn write_whole<F: Files>(
+    files: &mut F,
+    name: &str,
+    text: &[u8],
+) -> Result<(), DeviceError>
+    ensures whole { OnOk result (IfSome (F.held files.old)
+        (λ disk. HoldsBytes name.now text.now disk (F.held files.new))) }
+    ensures part { OnErr result (IfSome (F.held files.old)
+        (λ disk. HoldsFront name.now text.now disk (F.held files.new))) }
+    ensures cause { IsErrOf result DeviceError.Failed →
+        Rose (F.write_faults files.old name.now) (F.write_faults files.new name.now) }
+    ensures write_later { (q : List ℕ) → F.write_faults files.old q ≤ F.write_faults files.new q }
+{
+    if let Err(error) = files.create(name) {
+        return Err(error);
+    }
+    match files.append(name, text) {
+        Ok(()) => Ok(()),
+        Err(error) => Err(error),
+    }
+}
