@@ -4,10 +4,10 @@ _celdrinn() {
     local command=${COMP_WORDS[1]-}
     COMPREPLY=()
     if [ "$COMP_CWORD" -eq 1 ]; then
-        mapfile -t COMPREPLY < <(compgen -W "simplify check help --help --version" -- "$word")
+        mapfile -t COMPREPLY < <(compgen -W "simplify check rebuild help --help --version" -- "$word")
     elif [ "$command" = help ]; then
-        [ "$COMP_CWORD" -eq 2 ] && mapfile -t COMPREPLY < <(compgen -W "simplify check" -- "$word")
-    elif [ "$COMP_CWORD" -le 4 ]; then
+        [ "$COMP_CWORD" -eq 2 ] && mapfile -t COMPREPLY < <(compgen -W "simplify check rebuild" -- "$word")
+    elif [ "$COMP_CWORD" -le 4 ] || { [ "$command" = rebuild ] && [ "$COMP_CWORD" -le 6 ]; }; then
         compopt -o filenames
         mapfile -t COMPREPLY < <(compgen -f -- "$word")
     elif [ "$command" = simplify ] && [[ $word != = && ${COMP_WORDS[COMP_CWORD - 1]} != = ]]; then
