@@ -25,7 +25,8 @@ use Rattle.q_kernel.specs.Uses.{Groups, AreUses, with_occurring}
 use Rattle.q_kernel.specs.Listing.{is_listed, with_clause, without_clause}
 use Rattle.q_kernel.specs.Linking.{AreLinked, HasLists}
 use Rattle.q_kernel.specs.Invariant.{IsRoomy, IsCounted, IsKernel, empty_ones}
-use Rattle.q_kernel.proofs.Slotting.{set_slot-set, length-set_slot, slot-below, slot-set_same, slot-set_other, IsIn-slot, slot-IsIn, alike-added, alike-replaced, live-same, live-gone, length-added, size-added, length-gone, size-gone, length-replaced, size-replaced}
+use Rattle.q_kernel.specs.Singles.{unit_ones}
+use Rattle.q_kernel.proofs.Slotting.{set_slot-set, length-set_slot, slot-below, slot-set_same, slot-set_other, IsIn-slot, slot-IsIn, alike-added, alike-replaced, live-same, live-gone, length-added, size-added, units-added, length-gone, size-gone, units-gone, length-replaced, size-replaced, units-replaced}
 use Rattle.q_kernel.proofs.Occurring.{place-occurs, clause-place, occurs-added, occurs-replaced, occurs-beside, has_variable-without}
 use Rattle.q_kernel.proofs.Listing.{has-listed, listed-has}
 use Rattle.q_kernel.proofs.Using.{uses-same, occurring-here, occurring-other}
@@ -153,41 +154,56 @@ copies-first : (D : Clause) (X : Matrix) → copies [] (D ∷ X) ≡ empty_ones 
 copies-first [] X = omega arith
 copies-first (k ∷ D) X = omega arith
 
-pub counted-added : (N : Slots) (id : ℕ) (C : Clause) (c s e : ℕ) → slot N id ≡ None → id < length N → IsCounted (live N) c s e → IsCounted (live (set_slot id (Some C) N)) (c + 1) (s + (length C + 1)) (e + empty_ones C)
-counted-added N id C c s e n h k = record {
+pub counted-added : (N : Slots) (id : ℕ) (C : Clause) (c s e u : ℕ) → slot N id ≡ None → id < length N → IsCounted (live N) c s e u
+    → IsCounted (live (set_slot id (Some C) N)) (c + 1) (s + (length C + 1)) (e + empty_ones C) (u + unit_ones C)
+counted-added N id C c s e u n h k = record {
   count = let l = length-added N id C n h in omega (arith, k.count);
   size = let l = size-added N id C n h in omega (arith, k.size);
   empties = let f = copies-first C (live N) in let g : copies [] (live (set_slot id (Some C) N)) ≡ copies [] (C ∷ live N) = alike-added N id C n h [] in omega (arith, k.empties);
+  units = let l = units-added N id C n h in omega (arith, k.units);
 }
 
 copies-gone : (N : Slots) (id : ℕ) (C : Clause) → slot N id ≡ Some C → copies [] (live N) ≡ empty_ones C + copies [] (others id N)
 copies-gone N id C e = slot-alike N id C e [] ∙ copies-first C (others id N)
 
 -- what a clause is counted as
-pub counted-bounds : (N : Slots) (id : ℕ) (C : Clause) (n s e : ℕ) → slot N id ≡ Some C → IsCounted (live N) n s e → (1 ≤ n) × (length C + 1 ≤ s) × (empty_ones C ≤ e)
-counted-bounds N id C n s e h k =
+pub counted-bounds : (N : Slots) (id : ℕ) (C : Clause) (n s e u : ℕ) → slot N id ≡ Some C → IsCounted (live N) n s e u → (1 ≤ n) × (length C + 1 ≤ s) × (empty_ones C ≤ e) × (unit_ones C ≤ u)
+counted-bounds N id C n s e u h k =
     let l = length-gone N id C h in
     let m = size-gone N id C h in
     let q = copies-gone N id C h in
-    (omega (arith, k.count), omega (arith, k.size), omega (arith, k.empties))
+    let o = units-gone N id C h in
+    (omega (arith, k.count), omega (arith, k.size), omega (arith, k.empties), omega (arith, k.units))
 
-pub counted-gone : (N : Slots) (id : ℕ) (C : Clause) (n s e : ℕ) → slot N id ≡ Some C → IsCounted (live N) n s e → IsCounted (live (set_slot id None N)) (n - 1) (s - (length C + 1)) (e - empty_ones C)
-counted-gone N id C n s e h k = record {
+pub counted-gone : (N : Slots) (id : ℕ) (C : Clause) (n s e u : ℕ) → slot N id ≡ Some C → IsCounted (live N) n s e u
+    → IsCounted (live (set_slot id None N)) (n - 1) (s - (length C + 1)) (e - empty_ones C) (u - unit_ones C)
+counted-gone N id C n s e u h k = record {
   count = let l = length-gone N id C h in omega (arith, k.count);
   size = let l = size-gone N id C h in omega (arith, k.size);
   empties = let l = copies-gone N id C h in let m : copies [] (live (set_slot id None N)) ≡ copies [] (others id N) = ap (copies []) (live-gone N id) in omega (arith, k.empties);
+  units = let l = units-gone N id C h in omega (arith, k.units);
 }
 
-pub counted-shorter : (N : Slots) (id : ℕ) (C D : Clause) (n s e : ℕ) → slot N id ≡ Some C → length C ≡ length D + 1 → IsCounted (live N) n s e → IsCounted (live (set_slot id (Some D) N)) n (s - 1) (e + empty_ones D)
-counted-shorter N id C D n s e h f k = record {
+-- a unit clause becomes an empty one
+pub unit-shorter : (C D : Clause) → length C ≡ length D + 1 → unit_ones C ≡ empty_ones D
+unit-shorter [] D f = absurd (omega arith)
+unit-shorter (j ∷ []) [] f = refl
+unit-shorter (j ∷ []) (k ∷ D) f = absurd (omega arith)
+unit-shorter (j ∷ k ∷ C) [] f = absurd (omega arith)
+unit-shorter (j ∷ k ∷ C) (l ∷ D) f = refl
+
+pub counted-shorter : (N : Slots) (id : ℕ) (C D : Clause) (n s e u : ℕ) → slot N id ≡ Some C → length C ≡ length D + 1 → IsCounted (live N) n s e u
+    → IsCounted (live (set_slot id (Some D) N)) n (s - 1) (e + empty_ones D) (u + unit_ones D - empty_ones D)
+counted-shorter N id C D n s e u h f k = record {
   count = let l = length-replaced N id C D h in omega (arith, k.count);
-  size = let l = size-replaced N id C D h in let b = counted-bounds N id C n s e h k in omega (arith, k.size);
+  size = let l = size-replaced N id C D h in let b = counted-bounds N id C n s e u h k in omega (arith, k.size);
   empties =
       let l = copies-gone N id C h in
       let m : copies [] (live (set_slot id (Some D) N)) ≡ copies [] (D ∷ others id N) = alike-replaced N id C D h [] in
       let i = copies-first D (others id N) in
       let z : empty_ones C ≡ 0 = not_empty C f in
       omega (arith, k.empties);
+  units = let l = units-replaced N id C D h in let z = unit-shorter C D f in omega (arith, k.units);
 }
   where
     not_empty : (C : Clause) → length C ≡ length D + 1 → empty_ones C ≡ 0
@@ -201,9 +217,9 @@ length-shorter l C o m = let e = in_front-length l C o m in omega arith
 pub same-listed : (o q : Chains) (a b : Clauses) → AreLinked o a → AreLinked q b → ((c : ℕ) → slot b.clauses c ≡ slot a.clauses c) → (v : ℕ) → is_listed q v ≡ is_listed o v
 same-listed o q a b x y s v = listed-occurs q b y v ∙ ap (occurs v) (live-same b.clauses a.clauses s) ∙ sym (listed-occurs o a x v)
 
-module _ (P : FlatPrefix) (a : Clauses) (o : Chains) (g : Groups) (n s e t most : ℕ) (k : IsKernel P a o g n s e t most) where
+module _ (P : FlatPrefix) (a : Clauses) (o : Chains) (g : Groups) (n s e u t most : ℕ) (k : IsKernel P a o g n s e u t most) where
   -- the same clauses at other places
-  pub kernel-moved : (b : Clauses) (q : Chains) → ((c : ℕ) → slot b.clauses c ≡ slot a.clauses c) → b.room ≤ length q.owners → AreLinked q b → length o.lists ≤ length q.lists → IsKernel P b q g n s e t most
+  pub kernel-moved : (b : Clauses) (q : Chains) → ((c : ℕ) → slot b.clauses c ≡ slot a.clauses c) → b.room ≤ length q.owners → AreLinked q b → length o.lists ≤ length q.lists → IsKernel P b q g n s e u t most
   kernel-moved b q same room y lists =
       let l : live b.clauses ≡ live a.clauses = live-same b.clauses a.clauses same in
       record {
@@ -211,7 +227,7 @@ module _ (P : FlatPrefix) (a : Clauses) (o : Chains) (g : Groups) (n s e t most 
         linked = y;
         roomy = record { places = room; lists = omega (arith, k.roomy.lists); rows = k.roomy.rows; marks = k.roomy.marks; vars = k.roomy.vars };
         grouped = uses-same g P.bounds (is_listed o) (is_listed q) (λ v _. same-listed o q a b k.linked y same v) k.grouped;
-        counted = subst (λ (X : Matrix). IsCounted X n s e) (sym l) k.counted;
+        counted = subst (λ (X : Matrix). IsCounted X n s e u) (sym l) k.counted;
         top = k.top;
       }
 
@@ -226,34 +242,34 @@ module _ (P : FlatPrefix) (a : Clauses) (o : Chains) (g : Groups) (n s e t most 
     }
 
     pub kernel-put : (C : Clause) → slot a.clauses id ≡ None → id < length a.clauses → b.clauses ≡ set a.clauses id (Some C) → ArePairs IsBelow C → Within P.bounds C
-        → ((f : ℕ → Bool) → AreUses g P.bounds f → AreUses h P.bounds (with_clause C f)) → IsKernel P b q h (n + 1) (s + (length C + 1)) (e + empty_ones C) t most
-    kernel-put C z il ec ord win u =
+        → ((f : ℕ → Bool) → AreUses g P.bounds f → AreUses h P.bounds (with_clause C f)) → IsKernel P b q h (n + 1) (s + (length C + 1)) (e + empty_ones C) (u + unit_ones C) t most
+    kernel-put C z il ec ord win us =
         let es : b.clauses ≡ set_slot id (Some C) a.clauses = changed-slots a b id (Some C) ec in
         record {
           proper = subst (λ (N : Slots). IsProper (formula_of P.bounds (live N))) (sym es) (proper-set P.bounds a.clauses id (Some C) k.proper (λ D d. subst (λ (E : Clause). ArePairs IsBelow E × Within P.bounds E) (Some-same C D d) (ord, win)));
           linked = y;
           roomy = changed-roomy;
-          grouped = grouped-added h P.bounds o q a b k.linked y id C z il es (u (is_listed o) k.grouped);
-          counted = subst (λ (N : Slots). IsCounted (live N) (n + 1) (s + (length C + 1)) (e + empty_ones C)) (sym es) (counted-added a.clauses id C n s e z il k.counted);
+          grouped = grouped-added h P.bounds o q a b k.linked y id C z il es (us (is_listed o) k.grouped);
+          counted = subst (λ (N : Slots). IsCounted (live N) (n + 1) (s + (length C + 1)) (e + empty_ones C) (u + unit_ones C)) (sym es) (counted-added a.clauses id C n s e u z il k.counted);
           top = k.top;
         }
 
     pub kernel-gone : (C : Clause) → slot a.clauses id ≡ Some C → b.clauses ≡ set a.clauses id None
-        → ((f : ℕ → Bool) → AreUses g P.bounds f → AreUses h P.bounds (without_clause C q f)) → IsKernel P b q h (n - 1) (s - (length C + 1)) (e - empty_ones C) t most
-    kernel-gone C z ec u =
+        → ((f : ℕ → Bool) → AreUses g P.bounds f → AreUses h P.bounds (without_clause C q f)) → IsKernel P b q h (n - 1) (s - (length C + 1)) (e - empty_ones C) (u - unit_ones C) t most
+    kernel-gone C z ec us =
         let es : b.clauses ≡ set_slot id None a.clauses = changed-slots a b id None ec in
         record {
           proper = subst (λ (N : Slots). IsProper (formula_of P.bounds (live N))) (sym es) (proper-set P.bounds a.clauses id None k.proper (λ D d. absurd (none-some D d)));
           linked = y;
           roomy = changed-roomy;
-          grouped = grouped-gone h P.bounds o q a b k.linked y id C z es (u (is_listed o) k.grouped);
-          counted = subst (λ (N : Slots). IsCounted (live N) (n - 1) (s - (length C + 1)) (e - empty_ones C)) (sym es) (counted-gone a.clauses id C n s e z k.counted);
+          grouped = grouped-gone h P.bounds o q a b k.linked y id C z es (us (is_listed o) k.grouped);
+          counted = subst (λ (N : Slots). IsCounted (live N) (n - 1) (s - (length C + 1)) (e - empty_ones C) (u - unit_ones C)) (sym es) (counted-gone a.clauses id C n s e u z k.counted);
           top = k.top;
         }
 
     pub kernel-shorter : (C : Clause) (l : Literal) → IsIn l C → slot a.clauses id ≡ Some C → b.clauses ≡ set a.clauses id (Some (without l C))
-        → ((f : ℕ → Bool) → AreUses g P.bounds f → AreUses h P.bounds (with_occurring l.var (f l.var && is_listed q l.var) f)) → IsKernel P b q h n (s - 1) (e + empty_ones (without l C)) t most
-    kernel-shorter C l m z ec u =
+        → ((f : ℕ → Bool) → AreUses g P.bounds f → AreUses h P.bounds (with_occurring l.var (f l.var && is_listed q l.var) f)) → IsKernel P b q h n (s - 1) (e + empty_ones (without l C)) (u + unit_ones (without l C) - empty_ones (without l C)) t most
+    kernel-shorter C l m z ec us =
         let D : Clause = without l C in
         let es : b.clauses ≡ set_slot id (Some D) a.clauses = changed-slots a b id (Some D) ec in
         let w = clause-proper P.bounds (live a.clauses) C k.proper (slot-IsIn a.clauses id C z) in
@@ -261,7 +277,7 @@ module _ (P : FlatPrefix) (a : Clauses) (o : Chains) (g : Groups) (n s e t most 
           proper = subst (λ (N : Slots). IsProper (formula_of P.bounds (live N))) (sym es) (proper-set P.bounds a.clauses id (Some D) k.proper (λ E d. subst (λ (F : Clause). ArePairs IsBelow F × Within P.bounds F) (Some-same D E d) (without-in_order l C w.0, λ j i. w.1 j (without-IsIn l C j i))));
           linked = y;
           roomy = changed-roomy;
-          grouped = grouped-shorter h P.bounds o q a b k.linked y id C l m z es (u (is_listed o) k.grouped);
-          counted = subst (λ (N : Slots). IsCounted (live N) n (s - 1) (e + empty_ones D)) (sym es) (counted-shorter a.clauses id C D n s e z (length-shorter l C w.0 m) k.counted);
+          grouped = grouped-shorter h P.bounds o q a b k.linked y id C l m z es (us (is_listed o) k.grouped);
+          counted = subst (λ (N : Slots). IsCounted (live N) n (s - 1) (e + empty_ones D) (u + unit_ones D - empty_ones D)) (sym es) (counted-shorter a.clauses id C D n s e u z (length-shorter l C w.0 m) k.counted);
           top = k.top;
         }

@@ -10,6 +10,7 @@ use Rattle.q_logic.specs.Runs.{copies}
 use Rattle.q_arena.specs.Seen.{Clauses, clause_at, start_at, IsEnd, live_in, words_in, IsLive}
 use Rattle.q_logic.specs.Steps.{clause_eq}
 use Rattle.q_kernel.specs.Invariant.{IsCounted}
+use Rattle.q_kernel.specs.Singles.{unit_ones, units_in}
 use Rattle.q_kernel.proofs.Slotting.{live_in-length, size-parts, slot-get}
 
 words-literals : (N : Slots) → words_in N ≡ literals_in (live N)
@@ -55,11 +56,22 @@ length-few : (X : Matrix) → length X ≤ size_of X
 length-few [] = omega arith
 length-few (C ∷ X) = let h = length-few X in omega arith
 
-pub counts-small : (X : Matrix) (n s e : ℕ) → IsCounted X n s e → (n ≤ s) × (e ≤ s)
-counts-small X n s e k =
+-- no more unit clauses either
+unit-one : (C : Clause) → unit_ones C ≤ 1
+unit-one [] = omega arith
+unit-one (l ∷ []) = omega arith
+unit-one (l ∷ k ∷ C) = omega arith
+
+units-few : (X : Matrix) → units_in X ≤ length X
+units-few [] = omega arith
+units-few (C ∷ X) = let h = units-few X in let o = unit-one C in omega arith
+
+pub counts-small : (X : Matrix) (n s e u : ℕ) → IsCounted X n s e u → (n ≤ s) × (e ≤ s) × (u ≤ s)
+counts-small X n s e u k =
     let l = length-few X in
     let m = copies-few [] X in
-    (omega (arith, k.count, k.size), omega (arith, k.size, k.empties))
+    let o = units-few X in
+    (omega (arith, k.count, k.size), omega (arith, k.size, k.empties), omega (arith, k.size, k.units))
 
 -- The measure fits.
 larger-product : (a b c d : ℕ) → a ≤ b → c ≤ d → a * c ≤ b * d

@@ -1,11 +1,13 @@
 -- Numbered clauses as std's lists, and what a change at one number does to them.
-use Rattle.std.proofs.Common.{◌≡◌, ◌≢◌, ◌<◌, ◌+◌, ℕ, zero, suc, Bool, true, false, [], ◌∷◌, inl, inr, arith, refl, sym, ap, ◌∙◌, subst, Option, Some, None, length, set, get_or, le_of_suc-le-suc, not-suc-le-zero}
+use Rattle.std.proofs.Common.{◌≡◌, ◌≢◌, ◌≤◌, ◌<◌, ◌+◌, ℕ, zero, suc, Bool, true, false, [], ◌∷◌, inl, inr, arith, refl, sym, ap, ◌∙◌, subst, Option, Some, None, length, set, get_or, le_of_suc-le-suc, not-suc-le-zero}
 use Rattle.q_logic.specs.Formulas.{Clause, Matrix, IsIn}
+use Rattle.q_logic.specs.Literals.{Literal}
 use Rattle.q_logic.specs.Numbered.{Slots, slot, set_slot, live, others, put_first, numbered}
 use Rattle.q_logic.specs.Measure.{size_of}
 use Rattle.q_logic.specs.Steps.{literals_in, one_less}
 use Rattle.q_logic.specs.Sweep.{has_empty}
 use Rattle.q_arena.specs.Seen.{live_in}
+use Rattle.q_kernel.specs.Singles.{unit_ones, units_in}
 use Rattle.q_logic.proofs.Slots.{slot-alike, live-slot}
 use Rattle.q_logic.proofs.Looping.{live-without}
 use Rattle.q_logic.proofs.Reaching.{SameClauses, alike-sym, alike-trans, alike-cons, alike-uncons, one_less-alike, IsIn-alike}
@@ -128,6 +130,12 @@ literals-others (o ∷ N) zero C h = subst (λ (q : Option Clause). literals_in 
 literals-others (None ∷ N) (suc c) C h = literals-others N c C h
 literals-others (Some D ∷ N) (suc c) C h = let i : literals_in (live N) ≡ literals_in (others c N) + length C = literals-others N c C h in grind arith
 
+pub units-others : (N : Slots) (c : ℕ) (C : Clause) → slot N c ≡ Some C → units_in (live N) ≡ units_in (others c N) + unit_ones C
+units-others [] c C h = grind arith
+units-others (o ∷ N) zero C h = subst (λ (q : Option Clause). units_in (put_first q (live N)) ≡ units_in (live N) + unit_ones C) (sym h) (omega arith)
+units-others (None ∷ N) (suc c) C h = units-others N c C h
+units-others (Some D ∷ N) (suc c) C h = let i : units_in (live N) ≡ units_in (others c N) + unit_ones C = units-others N c C h in omega arith
+
 pub size-others : (N : Slots) (c : ℕ) (C : Clause) → slot N c ≡ Some C → size_of (live N) ≡ size_of (others c N) + (length C + 1)
 size-others N c C h =
     let a : size_of (live N) ≡ literals_in (live N) + length (live N) = size-parts (live N) in
@@ -153,6 +161,9 @@ module _ (N : Slots) (c : ℕ) (D : Clause) (h : c < length N) where
   pub literals-set : literals_in (live (set_slot c (Some D) N)) ≡ literals_in (others c N) + length D
   literals-set = subst (λ (X : Matrix). literals_in (live (set_slot c (Some D) N)) ≡ literals_in X + length D) beside (literals-others (set_slot c (Some D) N) c D there)
 
+  pub units-set : units_in (live (set_slot c (Some D) N)) ≡ units_in (others c N) + unit_ones D
+  units-set = subst (λ (X : Matrix). units_in (live (set_slot c (Some D) N)) ≡ units_in X + unit_ones D) beside (units-others (set_slot c (Some D) N) c D there)
+
   pub size-set : size_of (live (set_slot c (Some D) N)) ≡ size_of (others c N) + (length D + 1)
   size-set = subst (λ (X : Matrix). size_of (live (set_slot c (Some D) N)) ≡ size_of X + (length D + 1)) beside (size-others (set_slot c (Some D) N) c D there)
 
@@ -160,11 +171,17 @@ module _ (N : Slots) (c : ℕ) (D : Clause) (h : c < length N) where
 pub size-added : (N : Slots) (c : ℕ) (D : Clause) → slot N c ≡ None → c < length N → size_of (live (set_slot c (Some D) N)) ≡ size_of (live N) + (length D + 1)
 size-added N c D h b = subst (λ (X : Matrix). size_of (live (set_slot c (Some D) N)) ≡ size_of X + (length D + 1)) (others-none N c h) (size-set N c D b)
 
+pub units-added : (N : Slots) (c : ℕ) (D : Clause) → slot N c ≡ None → c < length N → units_in (live (set_slot c (Some D) N)) ≡ units_in (live N) + unit_ones D
+units-added N c D h b = subst (λ (X : Matrix). units_in (live (set_slot c (Some D) N)) ≡ units_in X + unit_ones D) (others-none N c h) (units-set N c D b)
+
 pub length-added : (N : Slots) (c : ℕ) (D : Clause) → slot N c ≡ None → c < length N → length (live (set_slot c (Some D) N)) ≡ length (live N) + 1
 length-added N c D h b = subst (λ (X : Matrix). length (live (set_slot c (Some D) N)) ≡ length X + 1) (others-none N c h) (length-set N c D b)
 
 pub size-gone : (N : Slots) (c : ℕ) (C : Clause) → slot N c ≡ Some C → size_of (live N) ≡ size_of (live (set_slot c None N)) + (length C + 1)
 size-gone N c C h = subst (λ (X : Matrix). size_of (live N) ≡ size_of X + (length C + 1)) (sym (live-gone N c)) (size-others N c C h)
+
+pub units-gone : (N : Slots) (c : ℕ) (C : Clause) → slot N c ≡ Some C → units_in (live N) ≡ units_in (live (set_slot c None N)) + unit_ones C
+units-gone N c C h = subst (λ (X : Matrix). units_in (live N) ≡ units_in X + unit_ones C) (sym (live-gone N c)) (units-others N c C h)
 
 pub length-gone : (N : Slots) (c : ℕ) (C : Clause) → slot N c ≡ Some C → length (live N) ≡ length (live (set_slot c None N)) + 1
 length-gone N c C h = subst (λ (X : Matrix). length (live N) ≡ length X + 1) (sym (live-gone N c)) (length-others N c C h)
@@ -186,6 +203,25 @@ length-replaced N c C D h = length-set N c D (slot-below N c C h) ∙ sym (lengt
 
 pub literals-replaced : (N : Slots) (c : ℕ) (C D : Clause) → slot N c ≡ Some C → literals_in (live (set_slot c (Some D) N)) + length C ≡ literals_in (live N) + length D
 literals-replaced N c C D h = swap_sums (literals_in (live N)) (literals_in (live (set_slot c (Some D) N))) (literals_in (others c N)) (length C) (length D) (literals-others N c C h) (literals-set N c D (slot-below N c C h))
+
+pub units-replaced : (N : Slots) (c : ℕ) (C D : Clause) → slot N c ≡ Some C → units_in (live (set_slot c (Some D) N)) + unit_ones C ≡ units_in (live N) + unit_ones D
+units-replaced N c C D h = swap_sums (units_in (live N)) (units_in (live (set_slot c (Some D) N))) (units_in (others c N)) (unit_ones C) (unit_ones D) (units-others N c C h) (units-set N c D (slot-below N c C h))
+
+-- Unit clauses.
+pub units-none : (N : Slots) → units_in (live N) ≡ 0 → (c : ℕ) (l : Literal) → slot N c ≡ Some (l ∷ []) → ⊥
+units-none N e c l h = let k : units_in (live N) ≡ units_in (others c N) + 1 = units-others N c (l ∷ []) h in absurd (omega arith)
+
+units-find : (X : Matrix) → 1 ≤ units_in X → (l : Literal) × IsIn (l ∷ []) X
+units-find [] h = absurd (omega arith)
+units-find ([] ∷ X) h = let i : (l : Literal) × IsIn (l ∷ []) X = units-find X (omega arith) in (i.0, inr i.1)
+units-find ((l ∷ []) ∷ X) h = (l, inl refl)
+units-find ((l ∷ k ∷ C) ∷ X) h = let i : (j : Literal) × IsIn (j ∷ []) X = units-find X (omega arith) in (i.0, inr i.1)
+
+pub units-some : (N : Slots) → 1 ≤ units_in (live N) → (c : ℕ) × (l : Literal) × (slot N c ≡ Some (l ∷ []))
+units-some N h =
+    let i : (l : Literal) × IsIn (l ∷ []) (live N) = units-find (live N) h in
+    let j : (c : ℕ) × (slot N c ≡ Some (i.0 ∷ [])) = IsIn-slot N (i.0 ∷ []) i.1 in
+    (j.0, i.0, j.1)
 
 -- The empty clause.
 pub has_empty-IsIn : (X : Matrix) → has_empty X ≡ true → IsIn [] X

@@ -207,9 +207,9 @@ absent-occurs X v a = go (occurs v X) refl
         clash : (m n : ℕ) → m ≡ n → eqb m n ≡ false → ⊥
         clash m n e t = grind (arith, nat_tests)
 
-module _ (P Q : FlatPrefix) (a : Clauses) (o : Chains) (g h : Groups) (n s e t most : ℕ) (k : IsKernel P a o g n s e t most) (rows : h.room ≡ g.room) (marks : Q.greatest ≡ P.greatest) where
+module _ (P Q : FlatPrefix) (a : Clauses) (o : Chains) (g h : Groups) (n s e u t most : ℕ) (k : IsKernel P a o g n s e u t most) (rows : h.room ≡ g.room) (marks : Q.greatest ≡ P.greatest) where
   pub kernel-freshened : (v w : ℕ) → Valid standard (formula_of P.bounds (live a.clauses)) (fresh v w) → v ≤ most → Q.bounds ≡ insert_after w v P.bounds
-      → h.idle ≡ v ∷ g.idle → h.existentials ≡ g.existentials → h.universals ≡ g.universals → (top : ℕ) → top ≡ larger_of t v → IsKernel Q a o h n s e top most
+      → h.idle ≡ v ∷ g.idle → h.existentials ≡ g.existentials → h.universals ≡ g.universals → (top : ℕ) → top ≡ larger_of t v → IsKernel Q a o h n s e u top most
   kernel-freshened v w f low eq ei ee eu top et = record {
     proper = subst (λ (R : Prefix). IsProper (formula_of R (live a.clauses))) (sym eq) (after-proper (formula_of P.bounds (live a.clauses)) (fresh v w) k.proper f tt);
     linked = k.linked;
@@ -232,7 +232,7 @@ module _ (P Q : FlatPrefix) (a : Clauses) (o : Chains) (g h : Groups) (n s e t m
       different x d = grind (arith, nat_tests)
 
   pub kernel-removed : (v : ℕ) → Valid standard (formula_of P.bounds (live a.clauses)) (remove_variable v) → Q.bounds ≡ removed_from v P.bounds
-      → (Has g.idle v) → h.idle ≡ gone v g.idle → h.existentials ≡ g.existentials → h.universals ≡ g.universals → (top : ℕ) → top ≡ greatest Q.bounds → IsKernel Q a o h n s e top most
+      → (Has g.idle v) → h.idle ≡ gone v g.idle → h.existentials ≡ g.existentials → h.universals ≡ g.universals → (top : ℕ) → top ≡ greatest Q.bounds → IsKernel Q a o h n s e u top most
   kernel-removed v f eq there ei ee eu top et = record {
     proper = subst (λ (R : Prefix). IsProper (formula_of R (live a.clauses))) (sym eq) (after-proper (formula_of P.bounds (live a.clauses)) (remove_variable v) k.proper f tt);
     linked = k.linked;

@@ -16,6 +16,7 @@ use Rattle.q_kernel.proofs.Counting.{greatest-bound}
 use Rattle.q_kernel.specs.Linking.{AreLinked}
 use Rattle.q_kernel.specs.Listing.{is_listed}
 use Rattle.q_kernel.specs.Invariant.{IsKernel}
+use Rattle.q_kernel.specs.Singles.{units_in}
 use Rattle.q_kernel.proofs.Keeping.{listed-occurs}
 use Rattle.q_kernel.proofs.Using.{uses-same}
 use Rattle.q_logic.proofs.Ordering.{is_bound-greatest}
@@ -147,7 +148,7 @@ idle-more g n P k d b h e i ei ee eu = record {
 
 -- A kernel without clauses.
 pub kernel-bare : (P : FlatPrefix) (a : Clauses) (o : Chains) (g : Groups) (most : ℕ) → IsProper (formula_of P.bounds []) → a.clauses ≡ [] → a.room ≡ 0 → ((h p : ℕ) → Has (list_at o h) p → ⊥) → 2 * most + 2 ≤ length o.lists
-    → most < g.room → most ≤ P.greatest → AreUses g P.bounds (λ v. false) → most ≡ greatest P.bounds → IsKernel P a o g 0 0 0 most most
+    → most < g.room → most ≤ P.greatest → AreUses g P.bounds (λ v. false) → most ≡ greatest P.bounds → IsKernel P a o g 0 0 0 0 most most
 kernel-bare P a o g most proper clauses room empty lists rows marks uses top =
     let none : live a.clauses ≡ [] = ap live clauses in
     let linked : AreLinked o a = record {
@@ -159,7 +160,7 @@ kernel-bare P a o g most proper clauses room empty lists rows marks uses top =
       linked = linked;
       roomy = record { places = omega arith; lists = lists; rows = rows; marks = marks; vars = λ v b. let l = is_bound-greatest P.bounds v b in omega arith };
       grouped = uses-same g P.bounds (λ v. false) (is_listed o) (λ v b. listed-occurs o a linked v ∙ ap (occurs v) none) uses;
-      counted = record { count = ap length (sym none); size = ap size_of (sym none); empties = ap (copies []) (sym none) };
+      counted = record { count = ap length (sym none); size = ap size_of (sym none); empties = ap (copies []) (sym none); units = ap units_in (sym none) };
       top = top;
     }
 

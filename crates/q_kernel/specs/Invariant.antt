@@ -14,6 +14,7 @@ use Rattle.q_arena.specs.Seen.{Clauses}
 use Rattle.q_prefix.specs.Order.{FlatPrefix}
 use Rattle.q_kernel.specs.Uses.{Groups, AreUses}
 use Rattle.q_kernel.specs.Listing.{is_listed}
+use Rattle.q_kernel.specs.Singles.{units_in}
 use Rattle.q_kernel.specs.Linking.{AreLinked}
 use Rattle.q_kernel.specs.Kernels.{Seen, slots, KeepsRoom, HasSweepBytes}
 use Rattle.q_kernel.specs.Changes.{IsLed}
@@ -26,23 +27,24 @@ pub record IsRoomy (P : FlatPrefix) (a : Clauses) (o : Chains) (g : Groups) (mos
   pub marks : most ≤ P.greatest
   pub vars : (v : ℕ) → is_bound P.bounds v ≡ true → v ≤ most
 
--- the number of clauses, the number of literals and clauses, and the number of empty clauses
-pub record IsCounted (X : Matrix) (n s e : ℕ) : Type 0 where
+-- the number of clauses, the number of literals and clauses, and the numbers of empty clauses and of unit clauses
+pub record IsCounted (X : Matrix) (n s e u : ℕ) : Type 0 where
   pub count : n ≡ length X
   pub size : s ≡ size_of X
   pub empties : e ≡ copies [] X
+  pub units : u ≡ units_in X
 
 -- 1 for an empty clause
 abbrev pub empty_ones : Clause → ℕ
 empty_ones [] = 1
 empty_ones (l ∷ C) = 0
 
-pub record IsKernel (P : FlatPrefix) (a : Clauses) (o : Chains) (g : Groups) (n s e t most : ℕ) : Type 0 where
+pub record IsKernel (P : FlatPrefix) (a : Clauses) (o : Chains) (g : Groups) (n s e u t most : ℕ) : Type 0 where
   pub proper : IsProper (formula_of P.bounds (live a.clauses))
   pub linked : AreLinked o a
   pub roomy : IsRoomy P a o g most
   pub grouped : AreUses g P.bounds (is_listed o)
-  pub counted : IsCounted (live a.clauses) n s e
+  pub counted : IsCounted (live a.clauses) n s e u
   pub top : t ≡ greatest P.bounds
 
 -- what is not of the clauses is the same

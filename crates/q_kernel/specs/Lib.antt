@@ -4,4 +4,5 @@ pub mod Taking
 pub mod Uses
 pub mod Linking
 pub mod Listing
+pub mod Singles
 pub mod Invariant

@@ -16,12 +16,14 @@ ghost use Rattle.q_kernel.specs.Kernels.{slots, formula_in, SameView, KeepsRoom,
 ghost use Rattle.q_kernel.specs.Changes.{IsLed, MayAdd, IsAdded, MayDelete, IsDeleted, MayDrop, IsDropped, MayShrink, IsShrunk, MayFresh, IsFreshened, MayStep, IsRemoved};
 ghost use Rattle.q_kernel.specs.Taking.{AreModest};
 ghost use Rattle.q_logic.specs.Steps.{remove_variable, Within};
+ghost use Rattle.q_kernel.specs.Singles.{units_in};
 ghost use Rattle.q_kernel.specs.Invariant.{IsPut, IsTakenOut, IsShortened, IsSweeping};
 
+use crate::journal::{Journal, Touch};
 use crate::links;
 use crate::need::Need;
 use crate::parts::{
-    bounds_of, empty_ones, first_of, greatest_of, idle_uses, room_for, top_of, words_of,
+    bounds_of, empty_ones, first_of, greatest_of, idle_uses, room_for, top_of, unit_ones, words_of,
 };
 use crate::pending::Pending;
 use crate::uses::Uses;
@@ -42,9 +44,11 @@ pub struct Kernel {
     occ: Occ,
     uses: Uses,
     pending: Pending,
-    // the live clauses, the empty ones of them, and the number of literals and clauses
+    journal: Journal,
+    // the live clauses, the empty ones and the unit ones of them, and the number of literals and clauses
     count: usize,
     empties: usize,
+    units: usize,
     size: usize,
     // the greatest variable of the prefix
     top: u32,
@@ -60,7 +64,7 @@ impl Model for Kernel {
 
     ghost view = { λ k. record { prefix = k.prefix.bounds; arena = k.arena; lists = k.occ; text = k.pending.text; spare_vars = k.prefix.spare; greatest = k.greatest; spare_bytes = k.pending.spare } };
 
-    ghost invariant = { λ k. IsKernel k.prefix k.arena k.occ k.uses k.count k.size k.empties k.top k.greatest };
+    ghost invariant = { λ k. IsKernel k.prefix k.arena k.occ k.uses k.count k.size k.empties k.units k.top k.greatest };
 }
 
 impl Kernel {
@@ -114,8 +118,10 @@ impl Kernel {
             occ,
             uses,
             pending: Pending::new(alloc),
+            journal: Journal::new(alloc),
             count: 0,
             empties: 0,
+            units: 0,
             size: 0,
             top: greatest,
             greatest,
@@ -138,6 +144,7 @@ impl Kernel {
         self.count += 1;
         self.size += lits.len() + 1;
         self.empties += empty_ones(lits);
+        self.units += unit_ones(lits);
     }
 
     // Takes a clause out, without a step.
@@ -148,9 +155,11 @@ impl Kernel {
         links::unlink(&self.arena, &mut self.occ, id);
         let lits = self.arena.lits(id);
         vanish_all(&mut self.uses, &self.prefix, &self.occ, lits);
+        self.journal.note_gone(lits);
         self.count -= 1;
         self.size -= lits.len() + 1;
         self.empties -= empty_ones(lits);
+        self.units -= unit_ones(lits);
         links::delete(&mut self.arena, &self.occ, id);
     }
 
@@ -161,8 +170,14 @@ impl Kernel {
     {
         links::shorten(&mut self.arena, &mut self.occ, id, lit);
         vanish(&mut self.uses, &self.prefix, &self.occ, lit);
+        self.journal.note(Touch::Literal(lit));
+        self.journal.note(Touch::Clause(id));
+        let lits = self.arena.lits(id);
+        let empty = empty_ones(lits);
         self.size -= 1;
-        self.empties += empty_ones(self.arena.lits(id));
+        self.empties += empty;
+        self.units += unit_ones(lits);
+        self.units -= empty;
     }
 
     /// What holds of a kernel at all times, for callers' proofs.
@@ -253,6 +268,15 @@ impl Kernel {
         self.size
     }
 
+    /// The number of live clauses of exactly one literal.
+    pub fn units(&self) -> usize
+        ensures value { result ≡ units_in (live (slots self.now)) }
+        ensures none { result ≡ 0 → (c : ℕ) (l : Literal) → slot (slots self.now) c ≡ Some (l ∷ []) → ⊥ }
+        ensures some { 1 ≤ result → (c : ℕ) × (l : Literal) × (slot (slots self.now) c ≡ Some (l ∷ [])) }
+    {
+        self.units
+    }
+
     /// The greatest variable of the prefix, 0 where there is none.
     pub fn greatest_var(&self) -> u32
         ensures { result ≡ greatest self.now.prefix }
@@ -288,6 +312,7 @@ impl Kernel {
         let greatest = self.greatest.max(need.greatest);
         self.reserve_clauses(need.words, need.ids, greatest)?;
         self.reserve_vars(need.vars, greatest)?;
+        self.journal.reserve(self.size.saturating_add(need.words));
         self.pending.reserve(need.log_bytes)?;
         Ok(())
     }
@@ -356,6 +381,7 @@ impl Kernel {
     {
         self.pending.append(Kind::Add, first, lits);
         let id = self.arena.free_id();
+        self.journal.note(Touch::Clause(id));
         self.put_at(id, lits);
         id
     }
@@ -433,6 +459,7 @@ impl Kernel {
         self.pending.append(Kind::Fresh, Some(Lit::new(v, false)), &[Lit::new(w, false)]);
         self.prefix.insert_after(v, w);
         self.uses.insert(v);
+        self.journal.note(Touch::Variable(v));
         self.top = self.top.max(v);
     }
 
@@ -582,6 +609,22 @@ impl Kernel {
         ensures kept { KeepsSpare self.old self.new }
     {
         self.pending.clear();
+    }
+
+    /// How many touches the steps have noted so far.
+    pub fn touches(&self) -> u64 {
+        self.journal.count()
+    }
+
+    /// The touch of this number, counted from 0. None where it is forgotten or never came: a reader that meets a
+    /// forgotten one takes everything as touched.
+    pub fn touch(&self, number: u64) -> Option<Touch> {
+        self.journal.get(number)
+    }
+
+    /// The allocator that the kernel was made with.
+    pub fn allocator(&self) -> Global {
+        self.pending.allocator()
     }
 
     /// The formula now, its clauses by ascending id.

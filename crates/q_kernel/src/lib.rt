@@ -2,6 +2,7 @@
 //! without memory after a reservation, and logged at once.
 #![tactic(auto)]
 
+mod journal;
 mod kernel;
 mod links;
 mod need;
@@ -11,6 +12,7 @@ mod taken;
 mod uses;
 mod variables;
 
+pub use journal::Touch;
 pub use kernel::Kernel;
 pub use need::Need;
 pub use taken::Taken;

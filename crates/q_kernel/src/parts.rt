@@ -6,6 +6,7 @@ ghost use Rattle.q_logic.specs.InLimits.{greatest};
 ghost use Rattle.q_logic.specs.Steps.{literals_in};
 ghost use Rattle.q_kernel.specs.Uses.{AreUses};
 ghost use Rattle.q_kernel.specs.Invariant.{empty_ones};
+ghost use Rattle.q_kernel.specs.Singles.{unit_ones};
 
 use crate::uses::Uses;
 use q_arena::Arena;
@@ -110,4 +111,15 @@ pub(crate) fn empty_ones(lits: &[Lit]) -> usize
     ensures small { result ≤ 1 }
 {
     if lits.is_empty() { 1 } else { 0 }
+}
+
+/// 1 for a clause of exactly one literal.
+pub(crate) fn unit_ones(lits: &[Lit]) -> usize
+    ensures value { result ≡ unit_ones lits.now }
+    ensures small { result ≤ 1 }
+{
+    match lits {
+        [_] => 1,
+        _ => 0,
+    }
 }

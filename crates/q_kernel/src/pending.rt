@@ -36,6 +36,10 @@ impl Pending {
         }
     }
 
+    pub(crate) fn allocator(&self) -> Global {
+        *self.text.allocator()
+    }
+
     pub(crate) fn text(&self) -> &[u8]
         ensures { result.now ≡ self.now.text }
     {

@@ -12,7 +12,7 @@ use Rattle.q_kernel.proofs.kernel.Kernel.formula.Goals as goal
 pub overflow_sub-self-inside : goal.overflow_sub-self-inside
 overflow_sub-self-inside c =
     let k = c.self.inside in
-    (counts-small (live k.arena.clauses) k.count k.size k.empties c.self.invariant.counted).0
+    (counts-small (live k.arena.clauses) k.count k.size k.empties k.units c.self.invariant.counted).0
 
 pub overflow_add-from : goal.overflow_add-from
 overflow_add-from c =

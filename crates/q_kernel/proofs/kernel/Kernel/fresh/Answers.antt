@@ -51,7 +51,7 @@ invariant_of-self c =
     let k = c.self.inside in
     let m = rw (← c.self.view_is) at c.requires in
     let q = c.insert_after.ensures.bounds Exists (quant-exists k.prefix.bounds c.args.w m.step.valid.behind) ∙ with_after-inserted c.args.v c.args.w k.prefix.bounds in
-    kernel-freshened k.prefix c.insert_after.new.self k.arena k.occ k.uses c.insert.new.self k.count k.size k.empties k.top k.greatest c.self.invariant c.insert.ensures.room c.insert_after.ensures.greatest
+    kernel-freshened k.prefix c.insert_after.new.self k.arena k.occ k.uses c.insert.new.self k.count k.size k.empties k.units k.top k.greatest c.self.invariant c.insert.ensures.room c.insert_after.ensures.greatest
     c.args.v c.args.w m.step.valid m.reserved q c.insert.ensures.idle c.insert.ensures.existentials c.insert.ensures.universals _ (omega (arith, c.max-self-inside.ensures))
 
 pub returns : goal.returns

@@ -23,7 +23,7 @@ pub remove-requires : goal.remove-requires
 remove-requires c =
     let k = c.self.inside in
     let m = rw (← c.self.view_is) at c.requires in
-    removed-idle k.prefix k.prefix k.arena k.occ k.uses k.uses k.count k.size k.empties k.top k.greatest c.self.invariant refl refl c.args.v m.valid
+    removed-idle k.prefix k.prefix k.arena k.occ k.uses k.uses k.count k.size k.empties k.units k.top k.greatest c.self.invariant refl refl c.args.v m.valid
 
 pub top_of-self-inside-requires : goal.top_of-self-inside-requires
 top_of-self-inside-requires c =
@@ -35,8 +35,8 @@ pub invariant_of-self : goal.invariant_of-self
 invariant_of-self c =
     let k = c.self.inside in
     let m = rw (← c.self.view_is) at c.requires in
-    let i = removed-idle k.prefix k.prefix k.arena k.occ k.uses k.uses k.count k.size k.empties k.top k.greatest c.self.invariant refl refl c.args.v m.valid in
-    kernel-removed k.prefix c.remove-2.new.self k.arena k.occ k.uses c.remove.new.self k.count k.size k.empties k.top k.greatest c.self.invariant c.remove.ensures.room c.remove-2.ensures.greatest
+    let i = removed-idle k.prefix k.prefix k.arena k.occ k.uses k.uses k.count k.size k.empties k.units k.top k.greatest c.self.invariant refl refl c.args.v m.valid in
+    kernel-removed k.prefix c.remove-2.new.self k.arena k.occ k.uses c.remove.new.self k.count k.size k.empties k.units k.top k.greatest c.self.invariant c.remove.ensures.room c.remove-2.ensures.greatest
     c.args.v m.valid c.remove-2.ensures.bounds i c.remove.ensures.idle c.remove.ensures.existentials c.remove.ensures.universals _ c.top_of-self-inside.ensures
 
 pub returns : goal.returns

@@ -8,14 +8,14 @@ pub invariant_of-self : goal.invariant_of-self
 invariant_of-self c =
     let k = c.self.inside in
     let i = c.self.invariant in
-    kernel-moved k.prefix k.arena k.occ k.uses k.count k.size k.empties k.top k.greatest c.self.invariant k.arena c.reserve.new.self (λ j. refl) (omega (arith, i.roomy.places, c.reserve.ensures.kept.places))
+    kernel-moved k.prefix k.arena k.occ k.uses k.count k.size k.empties k.units k.top k.greatest c.self.invariant k.arena c.reserve.new.self (λ j. refl) (omega (arith, i.roomy.places, c.reserve.ensures.kept.places))
     (lists-same k.occ c.reserve.new.self k.arena c.reserve.ensures.lists c.reserve.ensures.owners i.linked) c.reserve.ensures.kept.lists
 
 pub invariant_of-self-in_err-reserve-2 : goal.invariant_of-self-in_err-reserve-2
 invariant_of-self-in_err-reserve-2 c =
     let k = c.self.inside in
     let i = c.self.invariant in
-    kernel-moved k.prefix k.arena k.occ k.uses k.count k.size k.empties k.top k.greatest c.self.invariant c.reserve-2.new.self c.reserve.new.self (same-slots k.arena c.reserve-2.new.self c.reserve-2.ensures.same)
+    kernel-moved k.prefix k.arena k.occ k.uses k.count k.size k.empties k.units k.top k.greatest c.self.invariant c.reserve-2.new.self c.reserve.new.self (same-slots k.arena c.reserve-2.new.self c.reserve-2.ensures.same)
     (omega (arith, c.reserve-2.ensures.grown, c.in_ok-room.ensures, c.in_ok-reserve.ensures.words))
     (clauses-kept c.reserve.new.self k.arena c.reserve-2.new.self c.reserve-2.ensures.same (lists-same k.occ c.reserve.new.self k.arena c.reserve.ensures.lists c.reserve.ensures.owners i.linked)) c.reserve.ensures.kept.lists
 
@@ -26,7 +26,7 @@ pub invariant_of-self-2 : goal.invariant_of-self-2
 invariant_of-self-2 c =
     let k = c.self.inside in
     let i = c.self.invariant in
-    kernel-moved k.prefix k.arena k.occ k.uses k.count k.size k.empties k.top k.greatest c.self.invariant c.reserve-2.new.self c.reserve.new.self (same-slots k.arena c.reserve-2.new.self c.reserve-2.ensures.same)
+    kernel-moved k.prefix k.arena k.occ k.uses k.count k.size k.empties k.units k.top k.greatest c.self.invariant c.reserve-2.new.self c.reserve.new.self (same-slots k.arena c.reserve-2.new.self c.reserve-2.ensures.same)
     (omega (arith, c.reserve-2.ensures.grown, c.in_ok-room.ensures, c.in_ok-reserve.ensures.words))
     (clauses-kept c.reserve.new.self k.arena c.reserve-2.new.self c.reserve-2.ensures.same (lists-same k.occ c.reserve.new.self k.arena c.reserve.ensures.lists c.reserve.ensures.owners i.linked)) c.reserve.ensures.kept.lists
 

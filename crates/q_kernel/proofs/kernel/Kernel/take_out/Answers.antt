@@ -25,29 +25,36 @@ pub overflow_sub-self : goal.overflow_sub-self
 overflow_sub-self c =
     let k = c.self.inside in
     let C = c.lits-lits.result.now in
-    let b = counted-bounds k.arena.clauses c.args.id C k.count k.size k.empties (slot-live k.arena c.args.id C c.lits-lits.ensures.clause) c.self.invariant.counted in
+    let b = counted-bounds k.arena.clauses c.args.id C k.count k.size k.empties k.units (slot-live k.arena c.args.id C c.lits-lits.ensures.clause) c.self.invariant.counted in
     omega (arith, b.0)
 
 pub overflow_sub-self-2 : goal.overflow_sub-self-2
 overflow_sub-self-2 c =
     let k = c.self.inside in
     let C = c.lits-lits.result.now in
-    let b = counted-bounds k.arena.clauses c.args.id C k.count k.size k.empties (slot-live k.arena c.args.id C c.lits-lits.ensures.clause) c.self.invariant.counted in
+    let b = counted-bounds k.arena.clauses c.args.id C k.count k.size k.empties k.units (slot-live k.arena c.args.id C c.lits-lits.ensures.clause) c.self.invariant.counted in
     omega (arith, b.1)
 
 pub overflow_sub-self-3 : goal.overflow_sub-self-3
 overflow_sub-self-3 c =
     let k = c.self.inside in
     let C = c.lits-lits.result.now in
-    let b = counted-bounds k.arena.clauses c.args.id C k.count k.size k.empties (slot-live k.arena c.args.id C c.lits-lits.ensures.clause) c.self.invariant.counted in
+    let b = counted-bounds k.arena.clauses c.args.id C k.count k.size k.empties k.units (slot-live k.arena c.args.id C c.lits-lits.ensures.clause) c.self.invariant.counted in
     omega (arith, b.2, c.empty_ones.ensures.value)
+
+pub overflow_sub-self-4 : goal.overflow_sub-self-4
+overflow_sub-self-4 c =
+    let k = c.self.inside in
+    let C = c.lits-lits.result.now in
+    let b = counted-bounds k.arena.clauses c.args.id C k.count k.size k.empties k.units (slot-live k.arena c.args.id C c.lits-lits.ensures.clause) c.self.invariant.counted in
+    omega (arith, b.3, c.unit_ones.ensures.value)
 
 pub invariant_of-self : goal.invariant_of-self
 invariant_of-self c =
     let k = c.self.inside in
     let C = c.lits-lits.result.now in
-    rw c.empty_ones.ensures.value
-    (kernel-gone k.prefix k.arena k.occ k.uses k.count k.size k.empties k.top k.greatest c.self.invariant c.delete.new.arena c.unlink.new.occ c.vanish_all.new.uses c.args.id
+    rw (c.empty_ones.ensures.value, c.unit_ones.ensures.value)
+    (kernel-gone k.prefix k.arena k.occ k.uses k.count k.size k.empties k.units k.top k.greatest c.self.invariant c.delete.new.arena c.unlink.new.occ c.vanish_all.new.uses c.args.id
     c.delete.ensures.linked c.delete.ensures.room c.unlink.ensures.kept c.vanish_all.ensures.room C (slot-live k.arena c.args.id C c.lits-lits.ensures.clause) c.delete.ensures.clauses c.vanish_all.ensures.occurring)
 
 pub returns : goal.returns
