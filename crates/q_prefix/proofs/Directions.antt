@@ -164,7 +164,7 @@ following-preceding (u ∷ us) x y a e = elim (ℕ-cases u x) [
     ]
 
 -- the neighbours of a variable that goes stand side by side
-preceding-has : (v u x : ℕ) (us : List ℕ) → preceding_from v u us ≡ Some x → Has (u ∷ us) x
+pub preceding-has : (v u x : ℕ) (us : List ℕ) → preceding_from v u us ≡ Some x → Has (u ∷ us) x
 preceding-has v u x [] e = absurd (none-some x e)
 preceding-has v u x (c ∷ cs) e = elim (ℕ-cases c v) [
   | inl q ↦ inl (same-number x u (sym e ∙ preceding-here v u c cs q))

@@ -6,3 +6,4 @@ pub mod Directions
 pub mod Renaming
 pub mod Joining
 pub mod Filling
+pub mod Backwards

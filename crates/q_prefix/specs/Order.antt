@@ -24,6 +24,16 @@ abbrev pub bound_after : List Bound → ℕ → Option Bound
 bound_after [] v = None
 bound_after (b ∷ p) v = cond (eqb b.var v) (slice_get p 0) (bound_after p v)
 
+-- what stands directly before a variable, behind a first bound
+abbrev pub bound_before_from : Bound → List Bound → ℕ → Option Bound
+bound_before_from b [] v = None
+bound_before_from b (c ∷ p) v = cond (eqb c.var v) (Some b) (bound_before_from c p v)
+
+-- what stands directly before a variable
+abbrev pub bound_before : List Bound → ℕ → Option Bound
+bound_before [] v = None
+bound_before (b ∷ p) v = bound_before_from b p v
+
 -- a bound directly after a variable
 abbrev pub with_after : Bound → ℕ → List Bound → List Bound
 with_after n w [] = []

@@ -5,7 +5,7 @@ ghost use Rattle.q_logic.specs.declared.formulas.Quant.{Quant as Quantifier};
 ghost use Rattle.q_logic.specs.declared.formulas.Bound.{Bound as BoundValue};
 ghost use Rattle.q_arena.specs.Rings.{Has};
 ghost use Rattle.q_arena.specs.Chains.{list_at};
-ghost use Rattle.q_prefix.specs.Order.{FlatPrefix, quant_of, bound_after, with_after, mark_at};
+ghost use Rattle.q_prefix.specs.Order.{FlatPrefix, quant_of, bound_after, bound_before, with_after, mark_at};
 
 use crate::blocks::{fill, join_blocks};
 use crate::marks::{Mark, grow_marks, mark_of};
@@ -123,6 +123,18 @@ impl Prefix {
     {
         match self.order.next(var as usize) {
             Some(next) => Some(self.bound(next)),
+            None => None,
+        }
+    }
+
+    /// What stands directly before a variable.
+    pub fn before(&self, var: u32) -> Option<Bound>
+        requires { is_bound self.now.bounds var ≡ true }
+        ensures value { result ≡ bound_before self.now.bounds var }
+        ensures there { (b : BoundValue) → result ≡ Some b → is_bound self.now.bounds b.var ≡ true }
+    {
+        match self.order.prev(var as usize) {
+            Some(before) => Some(self.bound(before)),
             None => None,
         }
     }

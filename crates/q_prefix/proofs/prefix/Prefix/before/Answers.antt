@@ -1,0 +1,49 @@
+use Rattle.std.proofs.Common.{◌≡◌, sym, ◌∙◌, ap, subst, true, Some}
+use Rattle.q_logic.specs.declared.formulas.Bound.{Bound}
+use Rattle.q_logic.specs.Prefixes.{is_bound}
+use Rattle.q_arena.specs.Chains.{list_at, preceding}
+use Rattle.q_prefix.specs.Order.{FlatPrefix}
+use Rattle.q_prefix.proofs.Bounds.{has-bound, bound-has}
+use Rattle.q_prefix.proofs.Backwards.{before-some, before-none, before-has}
+use Rattle.q_prefix.proofs.Walks.{bound-is, some-same}
+use Rattle.q_prefix.proofs.prefix.Prefix.before.Goals as goal
+
+pub prev-requires : goal.prev-requires
+prev-requires c =
+    let marks = c.self.inside.marks.items in
+    let vars = list_at c.self.inside.order 0 in
+    (0, has-bound marks vars c.args.var (subst (λ (p : FlatPrefix). is_bound p.bounds c.args.var ≡ true) (sym c.self.view_is) c.requires))
+
+pub bound-requires : goal.bound-requires
+bound-requires c =
+    let marks = c.self.inside.marks.items in
+    let vars = list_at c.self.inside.order 0 in
+    let there = has-bound marks vars c.args.var (subst (λ (p : FlatPrefix). is_bound p.bounds c.args.var ≡ true) (sym c.self.view_is) c.requires) in
+    rw (← c.self.view_is) (bound-has marks vars c.in-Some.before (before-has vars c.args.var c.in-Some.before (sym (c.prev.ensures 0 there) ∙ c.in-Some.is)))
+
+pub returns-in-Some-clause-value : goal.returns-in-Some-clause-value
+returns-in-Some-clause-value c =
+    let marks = c.self.inside.marks.items in
+    let vars = list_at c.self.inside.order 0 in
+    let there = has-bound marks vars c.args.var (subst (λ (p : FlatPrefix). is_bound p.bounds c.args.var ≡ true) (sym c.self.view_is) c.requires) in
+    let before : preceding c.args.var vars ≡ Some c.in-Some.before = sym (c.prev.ensures 0 there) ∙ c.in-Some.is in
+    let q = rw (← c.self.view_is) at c.bound.ensures.quant in
+    let b = bound-is marks vars c.in-Some.before c.bound.result (before-has vars c.args.var c.in-Some.before before) c.bound.ensures.var q in
+    rw (← c.self.view_is) (ap (λ (x : Bound). Some x) b ∙ sym (before-some marks vars c.args.var c.in-Some.before before))
+
+pub returns-in-Some-clause-there : goal.returns-in-Some-clause-there
+returns-in-Some-clause-there c b e =
+    let marks = c.self.inside.marks.items in
+    let vars = list_at c.self.inside.order 0 in
+    let there = has-bound marks vars c.args.var (subst (λ (p : FlatPrefix). is_bound p.bounds c.args.var ≡ true) (sym c.self.view_is) c.requires) in
+    let before : preceding c.args.var vars ≡ Some c.in-Some.before = sym (c.prev.ensures 0 there) ∙ c.in-Some.is in
+    let q = c.bound.ensures.var in
+    let same = some-same c.bound.result b e in
+    rw (← c.self.view_is) (rw (← same, q) (bound-has marks vars c.in-Some.before (before-has vars c.args.var c.in-Some.before before)))
+
+pub returns-in-None-clause-value : goal.returns-in-None-clause-value
+returns-in-None-clause-value c =
+    let marks = c.self.inside.marks.items in
+    let vars = list_at c.self.inside.order 0 in
+    let there = has-bound marks vars c.args.var (subst (λ (p : FlatPrefix). is_bound p.bounds c.args.var ≡ true) (sym c.self.view_is) c.requires) in
+    rw (← c.self.view_is) (sym (before-none marks vars c.args.var (sym (c.prev.ensures 0 there) ∙ c.in-None.is)))
