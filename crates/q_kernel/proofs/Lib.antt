@@ -16,3 +16,4 @@ pub mod Logging
 pub mod Stepping
 pub mod Reserving
 pub mod Following
+pub mod Neighbours

@@ -15,7 +15,8 @@ pub enum Touch {
     Clause(ClauseId),
     /// The literal stands in one clause less: a clause with it went, or lost it.
     Literal(Lit),
-    /// The variable is fresh.
+    /// The variable's block became one with a block further in, or the variable is fresh. Of a large block that meets a smaller
+    /// one only the variables that share a clause with the inner one are noted.
     Variable(u32),
 }
 

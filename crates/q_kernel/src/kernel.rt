@@ -19,6 +19,7 @@ ghost use Rattle.q_logic.specs.Steps.{remove_variable, Within};
 ghost use Rattle.q_kernel.specs.Singles.{units_in};
 ghost use Rattle.q_kernel.specs.Invariant.{IsPut, IsTakenOut, IsShortened, IsSweeping};
 
+use crate::joining::note_joining;
 use crate::journal::{Journal, Touch};
 use crate::links;
 use crate::need::Need;
@@ -468,6 +469,15 @@ impl Kernel {
         requires { MayStep self.old (remove_variable v) }
         ensures { IsRemoved self.old self.new v }
     {
+        note_joining(self, v);
+        self.unbind(v);
+    }
+
+    // The same, without a note.
+    fn unbind(&mut self, v: u32)
+        requires { MayStep self.old (remove_variable v) }
+        ensures { IsRemoved self.old self.new v }
+    {
         self.pending
             .append(Kind::Remove, Some(Lit::new(v, false)), &[]);
         self.uses.remove(v);
@@ -609,6 +619,13 @@ impl Kernel {
         ensures kept { KeepsSpare self.old self.new }
     {
         self.pending.clear();
+    }
+
+    /// Notes a touch.
+    pub(crate) fn note(&mut self, touch: Touch)
+        ensures { self.new ≡ self.old }
+    {
+        self.journal.note(touch);
     }
 
     /// How many touches the steps have noted so far.

@@ -2,6 +2,7 @@
 //! without memory after a reservation, and logged at once.
 #![tactic(auto)]
 
+mod joining;
 mod journal;
 mod kernel;
 mod links;

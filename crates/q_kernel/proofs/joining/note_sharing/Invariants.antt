@@ -1,0 +1,9 @@
+use Rattle.std.proofs.Common.{◌≡◌, ℕ, true, Some}
+use Rattle.q_logic.specs.Prefixes.{is_bound}
+use Rattle.q_kernel.proofs.joining.note_sharing.Given as goal
+
+abbrev pub invariant-loop : goal.invariant-loop
+invariant-loop l = record {
+  same : l.kernel ≡ l.fn.kernel;
+  bound : (w : ℕ) → l.at ≡ Some w → is_bound l.fn.kernel.prefix w ≡ true;
+}
