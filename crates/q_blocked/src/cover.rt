@@ -22,8 +22,8 @@
 //! come since the last one. The last clause goes by its pivot, or because it is implied.
 //!
 //! **Cost.** The lists of the set's literals and of their negations, as often as covered literals come. The text of
-//! the steps grows with the stages times the set. Finding the clauses of one literal is a pass over the formula,
-//! once in a search and once in a trial that says No.
+//! the steps grows with the stages times the set. Where there are clauses of one literal, finding them is a pass over the
+//! formula, once in a search and once in a trial that says No.
 //!
 //! **What it may make applicable.** A clause goes: its literals may become pure, and the clauses with their negations
 //! blocked or covered.

@@ -26,7 +26,7 @@ impl Units {
         }
     }
 
-    /// Looks for them by a pass over the formula, unless they are known.
+    /// Looks for them, unless they are known: by a pass over the formula, where the kernel counts any.
     pub fn learn(&mut self, kernel: &Kernel) -> Result<(), NoMemory>
         requires { AreRight (slots kernel.now) self.old }
         ensures right { AreRight (slots kernel.now) self.new }
@@ -74,6 +74,10 @@ fn find_units(kernel: &Kernel, units: &mut Vec<ClauseId>) -> Result<(), NoMemory
     ensures { OnOk result (HasUnits (slots kernel.now) units.new.items) }
 {
     units.clear();
+    kernel.sound();
+    if kernel.units() == 0 {
+        return Ok(());
+    }
     let mut from = 0;
     while let Some(id) = kernel.next_live(from) {
         put_unit(kernel, units, id)?;

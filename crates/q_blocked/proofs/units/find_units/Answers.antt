@@ -1,8 +1,25 @@
-use Rattle.std.proofs.Common.{◌≡◌, ◌≤◌, ◌<◌, ◌⊎◌, ◌+◌, ◌∙◌, ℕ, None, Some, inl, inr, refl, sym, subst, arith}
+use Rattle.std.proofs.Common.{◌≡◌, ◌≤◌, ◌<◌, ◌⊎◌, ◌+◌, ◌∙◌, ℕ, [], ◌∷◌, None, Some, inl, inr, refl, sym, ap, subst, arith, true≢false}
+use Rattle.q_logic.specs.Literals.{Literal, IsBelow}
 use Rattle.q_logic.specs.Formulas.{Clause, IsIn}
-use Rattle.q_logic.specs.Numbered.{slot}
+use Rattle.q_logic.specs.Numbered.{slot, live}
+use Rattle.q_logic.specs.Parts.{ArePairs}
+use Rattle.q_logic.proofs.Parts.{AllByRecursion-IsIn}
 use Rattle.q_kernel.specs.Kernels.{slots}
+use Rattle.q_kernel.proofs.Slotting.{slot-IsIn}
+use Rattle.q_blocked.specs.Units.{IsSingle}
 use Rattle.q_blocked.proofs.units.find_units.Goals as goal
+
+not-below : (i j : Literal) → i ≡ j → IsBelow i j → ⊥
+not-below i j e b = elim b [
+  | inl h ↦ let v : i.var ≡ j.var = ap (λ (l : Literal). l.var) e in absurd (omega arith)
+  | inr h ↦ true≢false (sym h.1 ∙ ap (λ (l : Literal). l.negative) e ∙ h.2)
+]
+
+-- an ordered clause of one literal is just that
+single-one : (D : Clause) (s : IsSingle D) → ArePairs IsBelow D → D ≡ s.0 ∷ []
+single-one [] s o = absurd s.1
+single-one (i ∷ []) s o = ap (λ (j : Literal). j ∷ []) (s.2 i (inl refl))
+single-one (i ∷ j ∷ D) s o = absurd (not-below i j (s.2 i (inl refl) ∙ sym (s.2 j (inr (inl refl)))) o.0.0)
 
 cases : (d a b : ℕ) → d < b + 1 → (d < a) ⊎ (((a ≤ d) × (d < b)) ⊎ (d ≡ b))
 cases d a b h = grind arith
@@ -32,3 +49,9 @@ returns c d D e s = elim (side d c.loop-id.from) [
   | inl a ↦ c.loop-id.invariant d D a e s
   | inr b ↦ absurd (not_both D (sym (c.in_default.ensures.none refl d b) ∙ e))
 ]
+
+pub returns-then-units-eq0 : goal.returns-then-units-eq0
+returns-then-units-eq0 c d D e s =
+    let k = c.args.kernel.now in
+    let one = single-one D s (AllByRecursion-IsIn (ArePairs IsBelow) (live (slots k)) D c.sound.ensures.proper.ordered (slot-IsIn (slots k) d D e)) in
+    absurd (c.units.ensures.none (omega (arith, c.if-units-eq0.true)) d s.0 (e ∙ ap (λ (C : Clause). Some C) one))
