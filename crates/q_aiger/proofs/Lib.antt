@@ -4,8 +4,6 @@ pub mod Cutting
 pub mod Digits
 pub mod Indexes
 pub mod Naming
-pub mod Walks
-pub mod Spreads
 pub mod Placing
 pub mod Counts
 pub mod There

@@ -1,5 +1,5 @@
 -- Marking what outputs are made of, and gathering what is marked.
-use Rattle.std.proofs.Common.{◌≡◌, ◌≢◌, ◌⊎◌, ℕ, zero, suc, ◌+◌, ◌-◌, ◌<◌, ◌≤◌, Bool, true, false, List, [], ◌∷◌, ◌++◌, length, get_or, set, refl, sym, ap, ◌∙◌, subst, inl, inr, arith, slice_get, Some, map, Result, Ok, Err, IfOk}
+use Rattle.std.proofs.Common.{◌≡◌, ◌⊎◌, ℕ, zero, suc, ◌+◌, ◌-◌, ◌<◌, ◌≤◌, Bool, true, false, List, [], ◌∷◌, ◌++◌, length, get_or, set, refl, sym, ap, ◌∙◌, subst, inl, inr, arith, slice_get, Some, map, Result, Ok, Err, IfOk}
 use Rattle.std.proofs.lemmas.List.{length-set, get_or-set_same, get_or-set_other, get_or_past, length_push, get_or_append_left, get_or_push, length-map, get_or-map, get_or_default, get_or_read}
 use Rattle.std.proofs.lemmas.Bool.{cases_lt, both_ways}
 use Rattle.std.proofs.lemmas.Option.{get_or_from_slice_get}
@@ -7,16 +7,9 @@ use Rattle.q_logic.specs.Certificates.{GateNode, falsum, input_at, gate_at, Gate
 use Rattle.q_aig.specs.Nets.{Net, operand_of, gate_of}
 use Rattle.q_aig.specs.Outputs.{output_of, net_of, AreOutputs, no_output as unnamed}
 use Rattle.q_aig.specs.declared.output.Output.{Output}
-use Rattle.q_aiger.specs.Cones.{no_gate, no_output, IsPart, output, left, right, AreCones, place_in, with_mark, IsMarked, IsMarking, ArePlaced, HasCones}
-
-pub ℕ-cases : (m n : ℕ) → (m ≡ n) ⊎ (m ≢ n)
-ℕ-cases m n = elim (cases_lt m n) [
-  | inl a ↦ inr (λ e. absurd (omega arith))
-  | inr a ↦ elim (cases_lt n m) [
-    | inl b ↦ inr (λ e. absurd (omega arith))
-    | inr b ↦ inl (omega arith)
-  ]
-]
+use Rattle.q_gates.specs.Gates.{no_gate}
+use Rattle.q_gates.proofs.Cases.{ℕ-cases}
+use Rattle.q_aiger.specs.Cones.{no_output, IsPart, output, left, right, AreCones, place_in, with_mark, IsMarked, IsMarking, ArePlaced, HasCones}
 
 pub set-kept : (ms : List Bool) (g x : ℕ) → get_or ms x false ≡ true → get_or (set ms g true) x false ≡ true
 set-kept ms g x e = elim (ℕ-cases x g) [

@@ -6,7 +6,7 @@ use Rattle.std.specs.List.{list_any}
 use Rattle.std.specs.HashSet.{HashSet, contains}
 use Rattle.q_aiger.specs.Symbols.{is_used, is_free_name, AreApart}
 use Rattle.q_aiger.specs.Naming.{AreUsed}
-use Rattle.q_aiger.proofs.Marking.{ℕ-cases}
+use Rattle.q_gates.proofs.Cases.{ℕ-cases}
 
 pub unused-none : (n v : ℕ) → 1 ≤ v → is_used (replicate n 0) v ≡ false
 unused-none zero v h = refl

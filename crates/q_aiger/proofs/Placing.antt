@@ -5,16 +5,18 @@ use Rattle.std.proofs.lemmas.List.{length-map, get_or-map, get_or-take, length-t
 use Rattle.std.proofs.lemmas.Bool.{cases_lt}
 use Rattle.q_logic.specs.Certificates.{GateNode, falsum, input_at, gate_at, Operand, Gate, NamedOutput, CertificateView, IsThere}
 use Rattle.q_aig.specs.Nets.{operand_of}
-use Rattle.q_aiger.specs.Cones.{no_gate, place_in}
-use Rattle.q_aiger.specs.Uses.{part_of, IsFullOrder}
+use Rattle.q_gates.specs.Gates.{no_gate}
+use Rattle.q_aiger.specs.Cones.{place_in}
+use Rattle.q_gates.specs.Uses.{part_of, IsFullOrder}
 use Rattle.q_aiger.specs.Circuits.{moved_node, moved, moved_gate, moved_output, with_names, sorted_circuits}
 use Rattle.q_aiger.specs.Symbols.{AreApart}
 use Rattle.q_aiger.specs.Making.{plain, node_through, signed_through, through, gate_through, output_through, IsInputRow, IsGateRow, first_gates, AreVariables, AreGatesThere, AreOperandsThere}
 use Rattle.q_aig.proofs.Nets.{IsThere-more}
-use Rattle.q_aiger.specs.declared.operands.Gate.{Gate as GateCode}
-use Rattle.q_aiger.specs.declared.operands.Operand.{Operand as OperandCode}
-use Rattle.q_aiger.specs.Standing.{operand_view, operands_view, gate_view, gates_view}
-use Rattle.q_aiger.proofs.Marking.{ℕ-cases}
+use Rattle.q_gates.specs.declared.gate.Gate.{Gate as GateCode}
+use Rattle.q_gates.specs.declared.gate.Operand.{Operand as OperandCode}
+use Rattle.q_gates.specs.Gates.{operand_view, gate_view, gates_view}
+use Rattle.q_aiger.specs.Standing.{operands_view}
+use Rattle.q_gates.proofs.Cases.{ℕ-cases}
 
 abbrev Once : List ℕ → Type 0
 Once xs = (i j : ℕ) → i < length xs → j < length xs → get_or xs i 0 ≡ get_or xs j 0 → i ≡ j

@@ -3,7 +3,8 @@ use Rattle.std.proofs.Common.{◌≡◌, ℕ, zero, suc, ◌+◌, ◌-◌, ◌*�
 use Rattle.q_logic.specs.Certificates.{NamedOutput, Gate}
 use Rattle.q_aig.specs.Outputs.{output_of}
 use Rattle.q_aig.specs.declared.output.Output.{Output}
-use Rattle.q_aiger.specs.Cones.{no_gate, no_output}
+use Rattle.q_gates.specs.Gates.{no_gate}
+use Rattle.q_aiger.specs.Cones.{no_output}
 use Rattle.q_aiger.specs.Writing.{number_line, input_lines, output_lines, literal_of, gate_line, gate_text, gate_lines, symbol_line, symbol_lines, names_of, Extends}
 
 pub extends-self : (a : List ℕ) → Extends a a

@@ -3,18 +3,19 @@ use Rattle.std.proofs.Common.{◌≡◌, inl, inr, ℕ, suc, ◌+◌, ◌-◌, �
 use Rattle.std.proofs.lemmas.List.{length_push, get_or_append_left, get_or_push, length-map}
 use Rattle.std.proofs.lemmas.Bool.{both_ways, cases_lt}
 use Rattle.q_logic.specs.Certificates.{GateNode, falsum, input_at, gate_at, Operand, Gate, CertificateView, IsThere}
-use Rattle.q_aiger.specs.Cones.{no_gate}
+use Rattle.q_gates.specs.Gates.{no_gate}
 use Rattle.q_aiger.specs.Items.{place_of, raised}
 use Rattle.q_aiger.specs.Symbols.{is_used, all_named}
 use Rattle.q_aiger.specs.Operands.{node_at, node_in, signed, operand_in, follow_operand, outputs_from, gate_with, follow_gate, gates_from}
 use Rattle.q_aiger.specs.Making.{plain, AreVariables, AreOperandsThere}
 use Rattle.q_text.specs.Texts.{lines, onto_first}
 use Rattle.q_aiger.specs.Lines.{ended, lines_of}
-use Rattle.q_aiger.specs.declared.operands.Operand.{Operand as OperandCode}
-use Rattle.q_aiger.specs.Standing.{operand_view, operands_view, FailsAs}
+use Rattle.q_gates.specs.declared.gate.Operand.{Operand as OperandCode}
+use Rattle.q_gates.specs.Gates.{operand_view}
+use Rattle.q_aiger.specs.Standing.{operands_view, FailsAs}
 use Rattle.q_aiger.specs.declared.error.AigerError.{AigerError}
 use Rattle.q_aiger.specs.declared.error.AigerError.TheVariants.{Refused, NoMemory}
-use Rattle.q_aiger.specs.Uses.{IsFirstCycle}
+use Rattle.q_gates.specs.Uses.{IsFirstCycle}
 use Rattle.q_aiger.specs.Circuits.{parse, with_names, Offence, refused, cyclic, FailsWith}
 use Rattle.q_aiger.proofs.Naming.{used-at}
 

@@ -4,13 +4,14 @@ use Rattle.q_logic.specs.Certificates.{GateNode, falsum, input_at, gate_at, Oper
 use Rattle.q_text.specs.Texts.{line_after}
 use Rattle.q_aiger.specs.declared.error.AigerError.{AigerError}
 use Rattle.q_aiger.specs.declared.error.AigerError.TheVariants.{Refused, NoMemory}
-use Rattle.q_aiger.specs.Cones.{no_gate, place_in}
+use Rattle.q_gates.specs.Gates.{no_gate}
+use Rattle.q_aiger.specs.Cones.{place_in}
 use Rattle.q_aiger.specs.Lines.{lines_of}
 use Rattle.q_aiger.specs.Headers.{Header, header_of, limit}
 use Rattle.q_aiger.specs.Items.{Items, items_of}
 use Rattle.q_aiger.specs.Symbols.{Names, names_from, no_names}
 use Rattle.q_aiger.specs.Operands.{outputs_from, gates_from}
-use Rattle.q_aiger.specs.Uses.{IsFullOrder, IsFirstCycle}
+use Rattle.q_gates.specs.Uses.{IsFullOrder, IsFirstCycle}
 
 abbrev pub first_line : List (List ℕ) → List ℕ
 first_line [] = []

@@ -10,9 +10,6 @@ pub mod Operands
 pub mod Standing
 pub mod Bodies
 pub mod Circuits
-pub mod Uses
-pub mod Sorting
-pub mod Spreading
 pub mod Making
 pub mod Modest
 pub mod Written

@@ -2,7 +2,7 @@
 use Rattle.std.specs.Prelude.{◌≡◌, ◌≤◌, ◌<◌, ℕ, Bool, false, not, List, length, map, take, if◌then◌else◌, slice_index_or}
 use Rattle.q_logic.specs.Certificates.{GateNode, falsum, input_at, gate_at, Operand, Gate, NamedOutput, IsThere}
 use Rattle.q_aig.specs.Nets.{Net, operand_of}
-use Rattle.q_aiger.specs.Cones.{no_gate}
+use Rattle.q_gates.specs.Gates.{no_gate}
 use Rattle.q_aiger.specs.Circuits.{moved_gate}
 
 abbrev pub plain : GateNode → Operand

@@ -3,7 +3,8 @@
 use Rattle.std.specs.Prelude.{◌≡◌, ℕ, zero, suc, ◌+◌, ◌*◌, List, [], ◌∷◌, ◌++◌, length, map, max, min, if◌then◌else◌, slice_index_or}
 use Rattle.std.specs.Fmt.{decimal}
 use Rattle.q_logic.specs.Certificates.{GateNode, falsum, input_at, gate_at, Operand, Gate, NamedOutput, CertificateView}
-use Rattle.q_aiger.specs.Cones.{no_gate, AreCones, place_in}
+use Rattle.q_gates.specs.Gates.{no_gate}
+use Rattle.q_aiger.specs.Cones.{AreCones, place_in}
 
 -- the inputs have the numbers from 1 on, the gates the numbers behind these
 abbrev pub number_of : ℕ → List ℕ → GateNode → ℕ

@@ -3,7 +3,8 @@ use Rattle.std.specs.Prelude.{◌≡◌, ◌<◌, ◌^◌, ◌+◌, length}
 use Rattle.q_logic.specs.Certificates.{CertificateView}
 use Rattle.q_aiger.specs.declared.reader.Written.{Written}
 use Rattle.q_aiger.specs.Circuits.{with_names}
-use Rattle.q_aiger.specs.Standing.{operands_view, gates_view}
+use Rattle.q_gates.specs.Gates.{gates_view}
+use Rattle.q_aiger.specs.Standing.{operands_view}
 use Rattle.q_aiger.specs.Making.{AreVariables, AreGatesThere, AreOperandsThere}
 
 abbrev pub written_view : Written → CertificateView

@@ -3,7 +3,6 @@
 
 mod body;
 mod cones;
-mod cycles;
 mod error;
 mod header;
 mod items;
@@ -11,7 +10,6 @@ mod lines;
 mod making;
 mod operands;
 mod reader;
-mod sorting;
 mod symbols;
 mod writer;
 

@@ -4,13 +4,14 @@ ghost use Rattle.q_logic.specs.Certificates.{IsThere, gate_at};
 ghost use Rattle.q_aig.specs.Nets.{operand_of};
 ghost use Rattle.q_aig.specs.Outputs.{net_of};
 ghost use Rattle.q_aiger.specs.Symbols.{AreApart};
-ghost use Rattle.q_aiger.specs.Uses.{IsFullOrder};
+ghost use Rattle.q_gates.specs.Uses.{IsFullOrder};
 ghost use Rattle.q_aiger.specs.Circuits.{with_names, moved_output, sorted_circuits};
-ghost use Rattle.q_aiger.specs.Standing.{operand_view, operands_view, gate_view, gates_view};
+ghost use Rattle.q_gates.specs.Gates.{operand_view, gate_view, gates_view};
+ghost use Rattle.q_aiger.specs.Standing.{operands_view};
 ghost use Rattle.q_aiger.specs.Making.{plain, output_through, AreLiterals, through, gate_through, IsInputRow, IsGateRow, first_gates, AreVariables, AreGatesThere, AreOperandsThere};
 
-use crate::operands::{Gate, Operand, Source};
 use q_aig::{Aig, Certificate, constant, negate};
+use q_gates::{Gate, Operand, Source};
 use q_logic::NoMemory;
 use std::alloc::Global;
 

@@ -1,33 +1,13 @@
 //! What the literals of a file stand for.
 ghost use Rattle.std.specs.Prelude.{◌≡◌, ◌<◌, ◌+◌, ◌^◌, [], length};
 ghost use Rattle.q_aiger.specs.Operands.{node_in, operand_in, outputs_from, gate_with, gates_from};
-ghost use Rattle.q_aiger.specs.Standing.{source_some, operand_some, operands_view, gate_some, gates_view, Answers};
+ghost use Rattle.q_gates.specs.Gates.{gates_view};
+ghost use Rattle.q_aiger.specs.Standing.{source_some, operand_some, operands_view, gate_some, Answers};
 
 use crate::error::{AigerError, UNDEFINED};
 use crate::items::Items;
+use q_gates::{Gate, Operand, Source};
 use std::alloc::Global;
-
-/// What a literal stands for when its negation is left out: gates by the order of their lines.
-#[derive(Clone, Copy)]
-pub enum Source {
-    Constant,
-    Input(u32),
-    Gate(u32),
-}
-
-/// A source or its negation.
-#[derive(Clone, Copy)]
-pub struct Operand {
-    pub source: Source,
-    pub negated: bool,
-}
-
-/// A conjunction.
-#[derive(Clone, Copy)]
-pub struct Gate {
-    pub left: Operand,
-    pub right: Operand,
-}
 
 // The operand of a literal, if its variable is defined.
 fn operand_of(items: &Items, inputs: u32, lit: u32) -> Option<Operand>

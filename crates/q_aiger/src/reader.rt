@@ -1,5 +1,6 @@
 //! Circuits of a whole file.
 ghost use Rattle.std.specs.Prelude.{◌≡◌, ◌<◌, ◌≤◌, ◌+◌, ◌^◌, length, take, IfOk, IfErr, Ok, true};
+ghost use Rattle.q_gates.specs.Uses.{IsFirstCycle};
 ghost use Rattle.q_aiger.specs.Lines.{lines_of};
 ghost use Rattle.q_aiger.specs.Headers.{header_view};
 ghost use Rattle.q_aiger.specs.Items.{IsOnTheWay};
@@ -10,16 +11,15 @@ ghost use Rattle.q_aiger.specs.Modest.{IsModest};
 ghost use Rattle.q_aiger.specs.Written.{written_view, IsWritten};
 
 use crate::body::{read_items, read_names};
-use crate::cycles::first_cycle;
 use crate::error::{AigerError, BAD_HEADER, CYCLE, LIMIT};
 use crate::header::{Header, read_header};
 use crate::items::Items;
 use crate::lines::{last_line, next_line};
 use crate::making::make;
-use crate::operands::{Gate, Operand, resolve_gates, resolve_outputs};
-use crate::sorting::sort_gates;
+use crate::operands::{resolve_gates, resolve_outputs};
 use crate::symbols::Names;
 use q_aig::Certificate;
+use q_gates::{Gate, Operand, Sorted, sort_gates};
 use std::alloc::Global;
 
 // So many bytes a file may have.
@@ -53,7 +53,7 @@ fn sorted(alloc: Global, _bytes: &[u8], written: &Written) -> Result<Certificate
     ensures err { IfErr result (FailsWith _bytes.now) }
 {
     match sort_gates(alloc, &written.gates)? {
-        Some(order) => {
+        Sorted::Order(order) => {
             let certificate = make(
                 alloc,
                 written.inputs.as_slice(),
@@ -64,24 +64,22 @@ fn sorted(alloc: Global, _bytes: &[u8], written: &Written) -> Result<Certificate
             )?;
             Ok(certificate)
         }
-        None => Err(cyclic(alloc, _bytes, written)),
+        Sorted::Cycle(gate) => Err(cyclic(_bytes, written, gate)),
     }
 }
 
-// The first gate that depends on itself, where some gate does.
-fn cyclic(alloc: Global, _bytes: &[u8], written: &Written) -> AigerError
+// The refusal for the first gate that depends on itself.
+fn cyclic(_bytes: &[u8], written: &Written, gate: usize) -> AigerError
     requires parsed { parse _bytes.now ≡ Ok (written_view written.now) }
     requires lawful { IsWritten written.now }
+    requires first { IsFirstCycle (written_view written.now).gates gate }
     ensures { FailsWith _bytes.now result }
 {
     let inputs = written.inputs.as_slice().len();
     let outputs = written.names.as_slice().len();
-    match first_cycle(alloc, &written.gates) {
-        Ok(Some(gate)) => AigerError::Refused {
-            line: (2 + inputs + outputs + gate) as u64,
-            cause: CYCLE,
-        },
-        _ => AigerError::NoMemory,
+    AigerError::Refused {
+        line: (2 + inputs + outputs + gate) as u64,
+        cause: CYCLE,
     }
 }
 

@@ -1,8 +1,8 @@
 use Rattle.std.proofs.Common.{◌≡◌, ◌∙◌, ◌<◌, ◌++◌, ◌∷◌, [], ap, sym, length, Vec, Global, ℕ, List, arith, false, get_or}
 use Rattle.std.proofs.lemmas.List.{length-map, length-set}
 use Rattle.q_logic.specs.Certificates.{Gate, gate_at}
-use Rattle.q_aiger.specs.declared.operands.Source.TheVariants.{Constant}
-use Rattle.q_aiger.specs.Standing.{gate_view, gates_view}
+use Rattle.q_gates.specs.declared.gate.Source.TheVariants.{Constant}
+use Rattle.q_gates.specs.Gates.{gate_view, gates_view}
 use Rattle.q_aiger.specs.Making.{plain, first_gates, gate_through}
 use Rattle.q_aiger.proofs.Placing.{gates-turn, first-more, row-more, length-first}
 use Rattle.q_aiger.proofs.making.add_gates.Goals as goal

@@ -1,5 +1,5 @@
 use Rattle.std.proofs.Common.{◌≡◌, length}
-use Rattle.q_aiger.specs.Standing.{gates_view}
+use Rattle.q_gates.specs.Gates.{gates_view}
 use Rattle.q_aiger.specs.Making.{IsGateRow, first_gates}
 use Rattle.q_aiger.proofs.making.add_gates.Given as goal
 

@@ -4,9 +4,10 @@ use Rattle.std.proofs.lemmas.List.{get_or-take, length-take-le, length-map}
 use Rattle.q_logic.specs.Certificates.{NamedOutput, Operand, IsThere}
 use Rattle.q_aig.specs.Nets.{operand_of}
 use Rattle.q_aig.specs.Outputs.{output_of, no_output}
-use Rattle.q_aiger.specs.declared.operands.Source.TheVariants.{Constant}
+use Rattle.q_gates.specs.declared.gate.Source.TheVariants.{Constant}
 use Rattle.q_aiger.specs.Circuits.{with_names}
-use Rattle.q_aiger.specs.Standing.{operand_view, operands_view}
+use Rattle.q_gates.specs.Gates.{operand_view}
+use Rattle.q_aiger.specs.Standing.{operands_view}
 use Rattle.q_aiger.specs.Making.{through, output_through}
 use Rattle.q_aiger.proofs.Placing.{named, output-at, outputs-length, take-all, operand-there}
 use Rattle.q_aiger.proofs.making.name_outputs.Goals as goal

@@ -1,6 +1,6 @@
 use Rattle.std.proofs.Common.{◌≡◌, ◌+◌, drop, []}
 use Rattle.q_aiger.specs.Operands.{gates_from}
-use Rattle.q_aiger.specs.Standing.{gates_view}
+use Rattle.q_gates.specs.Gates.{gates_view}
 use Rattle.q_aiger.proofs.operands.resolve_gates.Given as goal
 
 abbrev pub invariant-loop-at : goal.invariant-loop-at

@@ -1,7 +1,8 @@
 use Rattle.std.proofs.Common.{◌≡◌, ◌≤◌, ◌+◌, ◌-◌, sym, subst, length, ℕ, arith, []}
 use Rattle.std.proofs.lemmas.List.{length-map}
 use Rattle.q_aiger.specs.Headers.{header_view}
-use Rattle.q_aiger.specs.Standing.{operand_view, operands_view, gate_view, gates_view}
+use Rattle.q_gates.specs.Gates.{operand_view, gate_view, gates_view}
+use Rattle.q_aiger.specs.Standing.{operands_view}
 use Rattle.q_aiger.specs.Making.{AreOperandsThere}
 use Rattle.q_aiger.proofs.Counts.{counted}
 use Rattle.q_aiger.proofs.There.{AreAmong, variables, outputs-there, gates-there}

@@ -1,0 +1,4 @@
+pub mod Cases
+pub mod Walks
+pub mod Spreads
+pub mod Falling
