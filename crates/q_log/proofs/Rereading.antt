@@ -55,7 +55,7 @@ step-form (remove_variable v) = (refl, (refl, tt))
 abbrev IsSmall : Literal → Type 0
 IsSmall l = (1 ≤ l.var) × (l.var < 2 ^ 31)
 
-number-taken : (o : OpenStep) (v : ℕ) (b : Bool) → 1 ≤ v → v < 2 ^ 31 → has_room o.kind o.lits b ≡ true →
+pub number-taken : (o : OpenStep) (v : ℕ) (b : Bool) → 1 ≤ v → v < 2 ^ 31 → has_room o.kind o.lits b ≡ true →
     with_number o (number_of (record { var = v; negative = b })) ≡ goes_on (record { line = o.line; kind = o.kind; lits = o.lits ++ record { var = v; negative = b } ∷ [] })
 number-taken o zero b p h r = absurd (omega arith)
 number-taken o (suc v) false p h r =
@@ -74,14 +74,14 @@ middle P (k ∷ ls) ms l (h, hs) = middle P ls ms l hs
 below-length : (ls ms : List Literal) (l : Literal) (n : ℕ) → length (ls ++ l ∷ ms) ≡ n → nat_lt (length ls) n ≡ true
 below-length ls ms l n e = let f = length-append ls (l ∷ ms) in grind (arith, nat_tests)
 
-room-left : (k : Kind) (ls ms : List Literal) (l : Literal) → IsStepForm k (ls ++ l ∷ ms) → has_room k ls l.negative ≡ true
+pub room-left : (k : Kind) (ls ms : List Literal) (l : Literal) → IsStepForm k (ls ++ l ∷ ms) → has_room k ls l.negative ≡ true
 room-left Add ls ms l f = refl
 room-left Delete ls ms l f = refl
 room-left Drop ls ms l f = refl
 room-left Fresh ls ms l (e, a) = ap (has_room Fresh ls) (middle (λ l. l.negative ≡ false) ls ms l a) ∙ below-length ls ms l 2 e
 room-left Remove ls ms l (e, a) = ap (has_room Remove ls) (middle (λ l. l.negative ≡ false) ls ms l a) ∙ below-length ls ms l 1 e
 
-whole-taken : (k : Kind) (ls : List Literal) → IsStepForm k ls → is_whole k ls ≡ true
+pub whole-taken : (k : Kind) (ls : List Literal) → IsStepForm k ls → is_whole k ls ≡ true
 whole-taken Add ls f = refl
 whole-taken Delete ls f = refl
 whole-taken Drop ls f = grind (arith, nat_tests)

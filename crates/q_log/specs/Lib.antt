@@ -1,4 +1,5 @@
 pub mod Grammar
 pub mod Logs
 pub mod Reading
+pub mod Spelled
 pub mod Texts
