@@ -9,3 +9,5 @@ pub mod Spreads
 pub mod Placing
 pub mod Counts
 pub mod There
+pub mod Alike
+pub mod Fronts

@@ -16,3 +16,4 @@ pub mod Spreading
 pub mod Making
 pub mod Modest
 pub mod Written
+pub mod Alike

@@ -7,6 +7,7 @@ mod cycles;
 mod error;
 mod header;
 mod items;
+mod laws;
 mod lines;
 mod making;
 mod operands;
@@ -16,5 +17,6 @@ mod symbols;
 mod writer;
 
 pub use error::AigerError;
+pub use laws::{an_offence_leaves_no_circuits, one_text_has_one_meaning};
 pub use reader::read;
 pub use writer::write;
