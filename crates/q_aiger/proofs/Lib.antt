@@ -7,3 +7,5 @@ pub mod Naming
 pub mod Placing
 pub mod Counts
 pub mod There
+pub mod Alike
+pub mod Fronts

@@ -13,3 +13,4 @@ pub mod Circuits
 pub mod Making
 pub mod Modest
 pub mod Written
+pub mod Alike

@@ -6,6 +6,7 @@ mod cones;
 mod error;
 mod header;
 mod items;
+mod laws;
 mod lines;
 mod making;
 mod operands;
@@ -14,5 +15,6 @@ mod symbols;
 mod writer;
 
 pub use error::AigerError;
+pub use laws::{an_offence_leaves_no_circuits, one_text_has_one_meaning};
 pub use reader::read;
 pub use writer::write;

@@ -1,0 +1,16 @@
+//! Laws on the definitions: each is the contract of a function that does nothing.
+ghost use Rattle.std.specs.Prelude.{ℕ, List};
+ghost use Rattle.q_logic.specs.Certificates.{CertificateView};
+ghost use Rattle.q_aiger.specs.Circuits.{AreCircuits, Offence};
+ghost use Rattle.q_aiger.specs.Alike.{AreAlike, IsNoCircuits};
+
+/// In whatever order the gates of a file are put, the circuits have the same inputs, names and trees.
+pub fn one_text_has_one_meaning()
+    ensures { (bytes : List ℕ) → (c : CertificateView) → (d : CertificateView) → AreCircuits bytes c
+        → AreCircuits bytes d → AreAlike c d }
+{}
+
+/// A text with an offence holds no circuits.
+pub fn an_offence_leaves_no_circuits()
+    ensures { (bytes : List ℕ) → (line : ℕ) → (cause : ℕ) → Offence bytes line cause → IsNoCircuits bytes }
+{}
