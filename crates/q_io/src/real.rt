@@ -4,18 +4,39 @@ use crate::error::DeviceError;
 use crate::files::{Files, Sink};
 use std::fs::{File, OpenOptions};
 use std::io;
-use std::io::{Print, Read, Seek, SeekFrom, Write};
+use std::io::{ErrorKind, Print, Read, Seek, SeekFrom, Write};
 use std::marker::Model;
 
-/// The files of the real disk. It tells no content.
+// A file that is open, under its name.
 #[derive(Drop)]
-pub struct DiskFiles<'a, R: std::rt::Files> {
+struct Open<F: Drop> {
+    name: String,
+    file: F,
+    // where it goes on
+    place: u64,
+}
+
+impl<F: Drop> Open<F> {
+    // Whether this is the file of that name, and goes on at that place.
+    fn stands_at(&self, name: &str, place: u64) -> bool {
+        self.place == place && self.name.as_str() == name
+    }
+}
+
+/// The files of the real disk. It tells no content.
+///
+/// The file that was read last stays open, and is read on where it stands: a file whose pieces are asked for in their order is
+/// never sought, so it may be a pipe. The file that was created or extended last stays open too.
+#[derive(Drop)]
+pub struct DiskFiles<'a, R: std::rt::Files + AllocGlobal> {
     rt: &'a R,
+    reading: Option<Open<R::File>>,
+    writing: Option<Open<R::File>>,
     read_failures: u64,
     write_failures: u64,
 }
 
-impl<'a, R: std::rt::Files> Model for DiskFiles<'a, R> {
+impl<'a, R: std::rt::Files + AllocGlobal> Model for DiskFiles<'a, R> {
     ghost use Rattle.q_io.specs.Files.{FaultCounts};
 
     ghost Value = { FaultCounts };
@@ -23,29 +44,131 @@ impl<'a, R: std::rt::Files> Model for DiskFiles<'a, R> {
     ghost view = { λ d. record { read = d.read_failures; write = d.write_failures } };
 }
 
-impl<'a, R: std::rt::Files> DiskFiles<'a, R> {
+impl<'a, R: std::rt::Files + AllocGlobal> DiskFiles<'a, R> {
     pub fn new(rt: &'a R) -> DiskFiles<'a, R>
         ensures { result ≡ record { read = 0; write = 0 } }
     {
         DiskFiles {
             rt,
+            reading: None,
+            writing: None,
             read_failures: 0,
             write_failures: 0,
         }
     }
 }
 
-fn read_at<R: std::rt::Files>(rt: &R, name: &str, at: u64, buf: &mut [u8]) -> io::Result<usize>
-    ensures { IfOk result (λ n. n ≤ length buf.old) }
-{
+// Opens a file to be read from a place on. The first place needs no seeking.
+fn open_at<R: std::rt::Files + AllocGlobal>(
+    rt: &R,
+    name: &str,
+    place: u64,
+) -> io::Result<Open<R::File>> {
+    let held = String::from_str(rt.alloc(), name)?;
     let mut file = File::open(rt, name)?;
-    file.seek(SeekFrom::Start(at))?;
-    file.read(buf)
+    if place > 0 {
+        file.seek(SeekFrom::Start(place))?;
+    }
+    Ok(Open {
+        name: held,
+        file,
+        place,
+    })
 }
 
-fn append_to<R: std::rt::Files>(rt: &R, name: &str, bytes: &[u8]) -> io::Result<bool> {
-    let mut file = OpenOptions::new().append(true).create(true).open(rt, name)?;
-    write_whole(&mut file, bytes)
+// Takes the file that is open, where it goes on at the place, or opens it.
+fn take_at<R: std::rt::Files + AllocGlobal>(
+    rt: &R,
+    slot: &mut Option<Open<R::File>>,
+    name: &str,
+    place: u64,
+) -> io::Result<Open<R::File>> {
+    match slot.take() {
+        Some(open) => {
+            if open.stands_at(name, place) {
+                Ok(open)
+            } else {
+                open_at(rt, name, place)
+            }
+        }
+        None => open_at(rt, name, place),
+    }
+}
+
+// Reads bytes of a file, which stays open behind them. After an error no file is open.
+fn read_on<R: std::rt::Files + AllocGlobal>(
+    rt: &R,
+    slot: &mut Option<Open<R::File>>,
+    name: &str,
+    at: u64,
+    buf: &mut [u8],
+) -> io::Result<usize>
+    ensures { IfOk result (λ n. n ≤ length buf.old) }
+{
+    let mut open = take_at(rt, slot, name, at)?;
+    let count = open.file.read(buf)?;
+    open.place = at.saturating_add(count as u64);
+    *slot = Some(open);
+    Ok(count)
+}
+
+// Makes or empties a file, which stays open.
+fn create_anew<R: std::rt::Files + AllocGlobal>(
+    rt: &R,
+    slot: &mut Option<Open<R::File>>,
+    name: &str,
+) -> io::Result<()> {
+    *slot = None;
+    let held = String::from_str(rt.alloc(), name)?;
+    let file = File::create(rt, name)?;
+    *slot = Some(Open {
+        name: held,
+        file,
+        place: 0,
+    });
+    Ok(())
+}
+
+// Opens a file to be extended.
+fn open_end<R: std::rt::Files + AllocGlobal>(rt: &R, name: &str) -> io::Result<Open<R::File>> {
+    let held = String::from_str(rt.alloc(), name)?;
+    let file = OpenOptions::new().append(true).create(true).open(rt, name)?;
+    Ok(Open {
+        name: held,
+        file,
+        place: 0,
+    })
+}
+
+// Takes the file that is open for writing, or opens it.
+fn take_end<R: std::rt::Files + AllocGlobal>(
+    rt: &R,
+    slot: &mut Option<Open<R::File>>,
+    name: &str,
+) -> io::Result<Open<R::File>> {
+    match slot.take() {
+        Some(open) => {
+            if open.name.as_str() == name {
+                Ok(open)
+            } else {
+                open_end(rt, name)
+            }
+        }
+        None => open_end(rt, name),
+    }
+}
+
+// Puts bytes behind a file's, which stays open. Says whether all of them were taken.
+fn append_on<R: std::rt::Files + AllocGlobal>(
+    rt: &R,
+    slot: &mut Option<Open<R::File>>,
+    name: &str,
+    bytes: &[u8],
+) -> io::Result<bool> {
+    let mut open = take_end(rt, slot, name)?;
+    let all = write_whole(&mut open.file, bytes)?;
+    *slot = Some(open);
+    Ok(all)
 }
 
 // Writes all the bytes, or says that a write took none of those that were left.
@@ -61,7 +184,12 @@ fn write_whole<W: Write>(out: &mut W, bytes: &[u8]) -> io::Result<bool> {
     Ok(true)
 }
 
-impl<'a, R: std::rt::Files> Files for DiskFiles<'a, R> {
+// Memory may be wanting for a name, or in the system.
+fn is_want_of_memory(error: &io::Error) -> bool {
+    error.kind() == ErrorKind::OutOfMemory
+}
+
+impl<'a, R: std::rt::Files + AllocGlobal> Files for DiskFiles<'a, R> {
     ghost held = { λ _. None };
 
     ghost read_faults = { λ d _. d.read };
@@ -69,8 +197,9 @@ impl<'a, R: std::rt::Files> Files for DiskFiles<'a, R> {
     ghost write_faults = { λ d _. d.write };
 
     fn read(&mut self, name: &str, at: u64, buf: &mut [u8]) -> Result<usize, DeviceError> {
-        match read_at(self.rt, name, at, buf) {
+        match read_on(self.rt, &mut self.reading, name, at, buf) {
             Ok(count) => Ok(count),
+            Err(error) if is_want_of_memory(&error) => Err(DeviceError::NoMemory),
             Err(_) => {
                 self.read_failures = self.read_failures.saturating_add(1);
                 Err(DeviceError::Failed)
@@ -79,8 +208,9 @@ impl<'a, R: std::rt::Files> Files for DiskFiles<'a, R> {
     }
 
     fn create(&mut self, name: &str) -> Result<(), DeviceError> {
-        match File::create(self.rt, name) {
-            Ok(_) => Ok(()),
+        match create_anew(self.rt, &mut self.writing, name) {
+            Ok(()) => Ok(()),
+            Err(error) if is_want_of_memory(&error) => Err(DeviceError::NoMemory),
             Err(_) => {
                 self.write_failures = self.write_failures.saturating_add(1);
                 Err(DeviceError::Failed)
@@ -89,8 +219,9 @@ impl<'a, R: std::rt::Files> Files for DiskFiles<'a, R> {
     }
 
     fn append(&mut self, name: &str, bytes: &[u8]) -> Result<(), DeviceError> {
-        match append_to(self.rt, name, bytes) {
+        match append_on(self.rt, &mut self.writing, name, bytes) {
             Ok(true) => Ok(()),
+            Err(error) if is_want_of_memory(&error) => Err(DeviceError::NoMemory),
             _ => {
                 self.write_failures = self.write_failures.saturating_add(1);
                 Err(DeviceError::Failed)
