@@ -7,3 +7,13 @@ pub mod Naming
 pub mod Placing
 pub mod Counts
 pub mod There
+pub mod Numbers
+pub mod Defining
+pub mod ItemLines
+pub mod ItemRows
+pub mod Labels
+pub mod SymbolLines
+pub mod Meaning
+pub mod Heads
+pub mod Grammar
+pub mod Offending

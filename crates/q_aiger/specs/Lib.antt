@@ -10,6 +10,7 @@ pub mod Operands
 pub mod Standing
 pub mod Bodies
 pub mod Circuits
+pub mod Grammar
 pub mod Making
 pub mod Modest
 pub mod Written

@@ -6,6 +6,7 @@ mod cones;
 mod error;
 mod header;
 mod items;
+mod laws;
 mod lines;
 mod making;
 mod operands;
@@ -14,5 +15,6 @@ mod symbols;
 mod writer;
 
 pub use error::AigerError;
+pub use laws::{grammar_has_no_offence, grammar_is_read};
 pub use reader::read;
 pub use writer::write;
