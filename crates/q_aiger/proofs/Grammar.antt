@@ -1,5 +1,5 @@
 -- A text is in the grammar exactly where the reader's definition gives its circuits.
-use Rattle.std.proofs.Common.{◌≡◌, ℕ, ◌+◌, ◌<◌, ◌≤◌, ◌*◌, suc, Some, cond, Bool, true, false, nat_le, List, [], ◌∷◌, ◌++◌, length, map, take, replicate, refl, ap, sym, ◌∙◌, arith, subst, Result, Ok, Err, length-append}
+use Rattle.std.proofs.Common.{◌≡◌, ℕ, ◌+◌, ◌≤◌, ◌*◌, suc, Some, cond, Bool, true, false, nat_le, List, [], ◌∷◌, ◌++◌, length, map, take, refl, ap, sym, ◌∙◌, arith, subst, Result, Ok, Err, length-append}
 use Rattle.std.specs.List.{AllByRecursion, AllZip}
 use Rattle.std.proofs.lemmas.List.{length-map, length-replicate}
 use Rattle.std.proofs.lemmas.Bool.Decides.{nat_tests}
@@ -10,8 +10,8 @@ use Rattle.q_aiger.specs.Headers.{Header, header_of}
 use Rattle.q_aiger.specs.Items.{Items, Behind, items_of}
 use Rattle.q_aiger.specs.Symbols.{Names, names_from, no_names}
 use Rattle.q_aiger.specs.Operands.{operand_in, outputs_from, gates_from}
-use Rattle.q_aiger.specs.Circuits.{first_line, other_lines, on_line, and_then, few_bytes, with_names, circuits_of, items_in, parse, sorted_circuits, AreCircuits}
-use Rattle.q_aiger.specs.Grammar.{Definition, Label, Text, AreNumbers, IsHeader, IsLine, input_numbers, output_numbers, gate_numbers, Says, IsEnd, IsSpelled, IsDefinition, IsLawful, variables, AreOnce, IsOperand, IsGate, input_labels, output_labels, AreNames, Means, IsFile, Circuits}
+use Rattle.q_aiger.specs.Circuits.{first_line, other_lines, on_line, and_then, few_bytes, with_names, circuits_of, items_in, parse, AreCircuits}
+use Rattle.q_aiger.specs.Grammar.{Definition, Text, AreNumbers, IsLine, input_numbers, output_numbers, gate_numbers, Says, IsEnd, IsDefinition, IsLawful, variables, IsOperand, IsGate, input_labels, output_labels, AreNames, Means, IsFile, Circuits}
 use Rattle.q_aiger.proofs.Defining.{once-front}
 use Rattle.q_aiger.proofs.ItemLines.{st}
 use Rattle.q_aiger.proofs.ItemRows.{vars_of, pairs_of, InputsRead, inputs-read, OutputsRead, outputs-read, GatesRead, gates-read, read-inputs, read-outputs, read-gates}

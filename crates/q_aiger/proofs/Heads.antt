@@ -1,5 +1,5 @@
 -- The header, as the reader and the grammar have it.
-use Rattle.std.proofs.Common.{◌≡◌, ℕ, ◌+◌, ◌<◌, ◌≤◌, ◌==◌, ◌&&◌, cond, Bool, true, false, eqb, nat_lt, List, [], ◌∷◌, length, refl, ap, sym, ◌∙◌, arith, subst, Option, Some, None, Result, Ok, Err}
+use Rattle.std.proofs.Common.{◌≡◌, ℕ, ◌+◌, ◌≤◌, ◌==◌, cond, Bool, true, false, eqb, nat_lt, List, [], ◌∷◌, refl, ap, sym, ◌∙◌, arith, subst, Option, Some, None, Result, Ok, Err}
 use Rattle.std.proofs.lemmas.Bool.Decides.{nat_tests}
 use Rattle.q_text.specs.Words.{digits}
 use Rattle.q_aiger.specs.Lines.{clipped, words}

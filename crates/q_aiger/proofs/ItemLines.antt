@@ -1,15 +1,12 @@
 -- The lines of inputs, outputs and gates: what the reader takes of them is what the grammar has.
-use Rattle.std.proofs.Common.{◌≡◌, ◌≢◌, ℕ, zero, suc, ◌+◌, ◌*◌, ◌/◌, ◌%◌, ◌<◌, ◌≤◌, ◌==◌, ◌&&◌, Bool, true, false, cond, nat_lt, nat_le, is_some, List, [], ◌∷◌, ◌++◌, length, map, get_or, refl, ap, sym, ◌∙◌, arith, subst, Option, Some, None, Result, Ok, Err, append-nil, append_assoc}
-use Rattle.std.specs.List.{AllByRecursion, AllZip}
-use Rattle.std.proofs.lemmas.List.{length_push}
+use Rattle.std.proofs.Common.{◌≡◌, ◌≢◌, ℕ, ◌+◌, ◌*◌, ◌/◌, ◌%◌, ◌<◌, ◌≤◌, ◌==◌, ◌&&◌, Bool, true, false, cond, nat_lt, nat_le, is_some, List, [], ◌∷◌, ◌++◌, length, get_or, refl, ap, sym, ◌∙◌, arith, subst, Option, Some, None, Ok, Err}
 use Rattle.std.proofs.lemmas.Bool.Decides.{nat_tests}
 use Rattle.q_aiger.specs.Headers.{Header}
-use Rattle.q_aiger.specs.Lines.{words}
-use Rattle.q_aiger.specs.Items.{Items, Behind, place_of, is_left, is_right, one_number, three_numbers, with_input, with_output, with_gate, with_line, follow, items_from}
-use Rattle.q_aiger.specs.Grammar.{Definition, AreNumbers, IsLine, input_numbers, output_numbers, gate_numbers, IsVar, IsLiteral, IsDefinition, AreOnce}
+use Rattle.q_aiger.specs.Items.{Items, place_of, is_left, is_right, one_number, three_numbers, with_input, with_output, with_gate, with_line}
+use Rattle.q_aiger.specs.Grammar.{Definition, AreNumbers, IsVar, IsLiteral, IsDefinition}
 use Rattle.q_aiger.proofs.Numbers.{one-line, line-one, three-line, line-three}
 use Rattle.q_aiger.proofs.Naming.{and-left, and-right}
-use Rattle.q_aiger.proofs.Defining.{none-there, place-none, fresh, once-push, once-front, once-fresh}
+use Rattle.q_aiger.proofs.Defining.{none-there, place-none, fresh}
 
 abbrev pub st : List ℕ → List ℕ → List (ℕ × ℕ) → Items
 st ds os ps = record { defined = ds; outputs = os; operands = ps }

@@ -1,12 +1,12 @@
 -- All lines of inputs, of outputs and of gates.
-use Rattle.std.proofs.Common.{◌≡◌, ℕ, zero, suc, ◌+◌, ◌<◌, ◌≤◌, Bool, true, false, nat_lt, List, [], ◌∷◌, ◌++◌, length, map, refl, ap, sym, ◌∙◌, arith, subst, Result, Ok, Err, append-nil, append_assoc}
+use Rattle.std.proofs.Common.{◌≡◌, ℕ, zero, suc, ◌+◌, ◌≤◌, List, [], ◌∷◌, ◌++◌, length, map, refl, ap, sym, ◌∙◌, arith, subst, Result, Ok, Err, append-nil, append_assoc}
 use Rattle.std.specs.List.{AllByRecursion, AllZip}
 use Rattle.std.proofs.lemmas.List.{length_push}
 use Rattle.q_aiger.specs.Headers.{Header}
 use Rattle.q_aiger.specs.Lines.{words}
 use Rattle.q_aiger.specs.Items.{Items, Behind, one_number, three_numbers, with_input, with_output, with_gate, with_line, follow, items_from}
 use Rattle.q_aiger.specs.Grammar.{Definition, IsLine, input_numbers, output_numbers, gate_numbers, IsVar, IsLiteral, IsDefinition, AreOnce}
-use Rattle.q_aiger.proofs.Defining.{once-push, once-front, once-fresh}
+use Rattle.q_aiger.proofs.Defining.{once-push, once-fresh}
 use Rattle.q_aiger.proofs.ItemLines.{st, lt-true, lt-false, line-input, line-output, line-gate, InputTaken, input-taken, input-takes, OutputTaken, output-taken, output-takes, GateTaken, gate-taken, gate-takes}
 
 abbrev pub vars_of : List Definition → List ℕ

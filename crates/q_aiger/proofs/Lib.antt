@@ -17,3 +17,8 @@ pub mod Meaning
 pub mod Heads
 pub mod Grammar
 pub mod Offending
+pub mod Alike
+pub mod Fronts
+pub mod Spelling
+pub mod Rows
+pub mod Canonical

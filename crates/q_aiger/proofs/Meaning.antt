@@ -1,16 +1,15 @@
 -- What the literals of a text stand for.
-use Rattle.std.proofs.Common.{◌≡◌, ◌⊎◌, ℕ, zero, suc, ◌+◌, ◌-◌, ◌*◌, ◌/◌, ◌%◌, ◌<◌, ◌≤◌, ◌==◌, cond, Bool, true, false, eqb, nat_lt, List, [], ◌∷◌, ◌++◌, length, map, get_or, refl, ap, sym, ◌∙◌, arith, subst, Option, Some, None, Result, Ok, Err, append-nil, append_assoc, length-append}
+use Rattle.std.proofs.Common.{◌≡◌, ℕ, zero, suc, ◌+◌, ◌-◌, ◌*◌, ◌/◌, ◌<◌, ◌≤◌, cond, Bool, true, false, eqb, nat_lt, List, [], ◌∷◌, ◌++◌, length, map, get_or, refl, ap, sym, ◌∙◌, arith, subst, Option, Some, None, Result, Ok, Err, append-nil, append_assoc, length-append}
 use Rattle.std.specs.List.{AllByRecursion, AllZip}
 use Rattle.std.proofs.lemmas.List.{length-map, get_or_append_left, get_or-append_right, get_or-append-add}
-use Rattle.std.proofs.lemmas.Bool.{cases_lt}
 use Rattle.std.proofs.lemmas.Bool.Decides.{nat_tests}
 use Rattle.q_logic.specs.Certificates.{GateNode, falsum, input_at, gate_at, Operand, Gate, NamedOutput}
 use Rattle.q_aiger.specs.Items.{place_of}
 use Rattle.q_aiger.specs.Operands.{node_at, node_in, signed, operand_in, follow_operand, outputs_from, gate_with, follow_gate, gates_from}
 use Rattle.q_aiger.specs.Circuits.{with_names}
-use Rattle.q_aiger.specs.Grammar.{Definition, no_definition, Text, variables, AreOnce, IsVar, Stands, constant, input, gate, IsOperand, IsGate, IsLawful}
+use Rattle.q_aiger.specs.Grammar.{Definition, no_definition, Text, variables, IsVar, Stands, constant, input, gate, IsOperand, IsLawful}
 use Rattle.q_aiger.proofs.Defining.{place-some, place-is}
-use Rattle.q_aiger.proofs.ItemRows.{vars_of, pairs_of}
+use Rattle.q_aiger.proofs.ItemRows.{vars_of}
 
 var-at : (gs : List Definition) (g : ℕ) → get_or (vars_of gs) g 0 ≡ (get_or gs g no_definition).var
 var-at [] g = refl

@@ -1,5 +1,5 @@
 -- Lines of numbers, as the reader and the grammar have them.
-use Rattle.std.proofs.Common.{◌≡◌, ℕ, ◌<◌, min, List, [], ◌∷◌, refl, ap, sym, ◌∙◌, arith, Option, Some, None}
+use Rattle.std.proofs.Common.{◌≡◌, ℕ, ◌<◌, List, [], ◌∷◌, refl, ap, sym, ◌∙◌, arith, Option, Some, None}
 use Rattle.q_text.specs.Words.{digits}
 use Rattle.q_aiger.specs.Lines.{clipped, clipped_some, number}
 use Rattle.q_aiger.specs.Items.{one_number, triple, three_numbers}

@@ -1,7 +1,7 @@
 -- A text in the grammar has no offence.
-use Rattle.std.proofs.Common.{◌≡◌, ℕ, List, Ok, Err, Result, sym, ◌∙◌, ap, subst}
+use Rattle.std.proofs.Common.{◌≡◌, ℕ, List, Ok, Err, Result, sym, subst}
 use Rattle.q_logic.specs.Certificates.{CertificateView}
-use Rattle.q_gates.specs.Uses.{IsFirstCycle, DependsOn}
+use Rattle.q_gates.specs.Uses.{DependsOn}
 use Rattle.q_gates.proofs.Walks.{sorted-acyclic}
 use Rattle.q_aiger.specs.declared.error.AigerError.{AigerError}
 use Rattle.q_aiger.specs.declared.error.AigerError.TheVariants.{Refused, NoMemory}

@@ -1,11 +1,10 @@
 -- Symbol lines: what the reader takes of them is what the grammar has.
-use Rattle.std.proofs.Common.{◌≡◌, ℕ, ◌+◌, ◌<◌, ◌≤◌, ◌==◌, ◌&&◌, cond, Bool, true, false, eqb, List, [], ◌∷◌, ◌++◌, length, set, refl, ap, sym, ◌∙◌, arith, subst, Option, Some, None, Result, Ok, Err}
+use Rattle.std.proofs.Common.{◌≡◌, ℕ, ◌+◌, ◌<◌, ◌≤◌, ◌==◌, ◌&&◌, cond, Bool, true, false, eqb, List, [], ◌∷◌, ◌++◌, length, refl, ap, sym, ◌∙◌, arith, subst, Option, Some, None, Result, Ok, Err}
 use Rattle.std.specs.List.{AllZip}
 use Rattle.std.proofs.lemmas.List.{length-set}
-use Rattle.q_text.specs.Words.{digits}
 use Rattle.q_aiger.specs.Lines.{words, number}
 use Rattle.q_aiger.specs.Items.{follow}
-use Rattle.q_aiger.specs.Symbols.{Symbol, nothing, comment, input_name, output_name, strange, input_symbol, output_symbol, named_symbol, is_c, lone_symbol, symbol_of, Names, with_name, all_named, names_at_end, with_inputs, with_outputs, symbol_turn, names_from}
+use Rattle.q_aiger.specs.Symbols.{Symbol, nothing, comment, input_name, output_name, strange, input_symbol, output_symbol, is_c, symbol_of, Names, with_name, all_named, names_at_end, with_inputs, with_outputs, symbol_turn, names_from}
 use Rattle.q_aiger.specs.Grammar.{Label, blank, of_input, of_output, IsSymbol, Says, IsEnd, input_labels, output_labels}
 use Rattle.q_aiger.proofs.Naming.{and-left, and-right}
 use Rattle.q_aiger.proofs.Numbers.{number-digits, digits-number}

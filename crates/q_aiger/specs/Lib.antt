@@ -11,6 +11,8 @@ pub mod Standing
 pub mod Bodies
 pub mod Circuits
 pub mod Grammar
+pub mod RoundTrip
 pub mod Making
 pub mod Modest
 pub mod Written
+pub mod Alike

@@ -3,6 +3,7 @@ ghost use Rattle.std.specs.Prelude.{◌↔◌, ℕ, List};
 ghost use Rattle.q_logic.specs.Certificates.{CertificateView};
 ghost use Rattle.q_aiger.specs.Circuits.{AreCircuits, Offence};
 ghost use Rattle.q_aiger.specs.Grammar.{Circuits};
+ghost use Rattle.q_aiger.specs.Alike.{AreAlike, IsNoCircuits};
 
 /// A text is in the grammar exactly where its lines have no offence, and its circuits are those of the grammar.
 pub fn grammar_is_read()
@@ -10,8 +11,13 @@ pub fn grammar_is_read()
         → Circuits bytes circuits ↔ AreCircuits bytes circuits }
 {}
 
-/// A text in the grammar has no offence.
-pub fn grammar_has_no_offence()
-    ensures { (bytes : List ℕ) → (circuits : CertificateView) → (line : ℕ) → (cause : ℕ)
-        → Circuits bytes circuits → Offence bytes line cause → ⊥ }
+/// In whatever order the gates of a file are put, the circuits have the same inputs, names and trees.
+pub fn one_text_has_one_meaning()
+    ensures { (bytes : List ℕ) → (c : CertificateView) → (d : CertificateView) → AreCircuits bytes c
+        → AreCircuits bytes d → AreAlike c d }
+{}
+
+/// A text with an offence holds no circuits.
+pub fn an_offence_leaves_no_circuits()
+    ensures { (bytes : List ℕ) → (line : ℕ) → (cause : ℕ) → Offence bytes line cause → IsNoCircuits bytes }
 {}
