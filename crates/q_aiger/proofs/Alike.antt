@@ -5,8 +5,9 @@ use Rattle.std.proofs.lemmas.Bool.{cases_lt}
 use Rattle.q_logic.specs.Circuits.{Circuit}
 use Rattle.q_logic.specs.Certificates.{GateNode, falsum, input_at, gate_at, Operand, Gate, NamedOutput, CertificateView, node_tree, operand_tree, gate_tree, gate_trees, output_named, tree_of_some}
 use Rattle.q_logic.proofs.CertificateTrees.{length-gate_trees}
-use Rattle.q_aiger.specs.Cones.{no_gate, place_in}
-use Rattle.q_aiger.specs.Uses.{Parts, part_of, parts_of, part_at, Uses, DependsOn, direct, further, IsOrder, IsFullOrder}
+use Rattle.q_gates.specs.Gates.{no_gate}
+use Rattle.q_aiger.specs.Cones.{place_in}
+use Rattle.q_gates.specs.Uses.{Parts, part_of, parts_of, part_at, Uses, DependsOn, direct, further, IsOrder, IsFullOrder}
 use Rattle.q_aiger.specs.Writing.{names_of}
 use Rattle.q_aiger.specs.Circuits.{parse, moved_node, moved, moved_gate, moved_output, sorted_circuits, AreCircuits, Offence, refused, cyclic}
 use Rattle.q_aiger.specs.Alike.{AreAlike, IsNoCircuits}

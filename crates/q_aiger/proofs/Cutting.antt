@@ -27,7 +27,7 @@ ended-onto : (l : List ℕ) (b : ℕ) (ls : List (List ℕ)) → ended (l ∷ on
 ended-onto l b [] = refl
 ended-onto l b (m ∷ ls) = refl
 
-ended-more : (l bs : List ℕ) → ended (l ∷ lines bs) ≡ without_return l ∷ ended (lines bs)
+pub ended-more : (l bs : List ℕ) → ended (l ∷ lines bs) ≡ without_return l ∷ ended (lines bs)
 ended-more l [] = refl
 ended-more l (b ∷ bs) = go (eqb b 10)
   where

@@ -12,7 +12,7 @@ pub unused-none : (n v : ℕ) → 1 ≤ v → is_used (replicate n 0) v ≡ fals
 unused-none zero v h = refl
 unused-none (suc n) v h = let e : eqb 0 v ≡ false = grind arith in ap (λ b. b || is_used (replicate n 0) v) e ∙ unused-none n v h
 
-zero-at : (n i : ℕ) → ◌≡◌ {A = ℕ} (get_or (replicate n 0) i 0) 0
+pub zero-at : (n i : ℕ) → ◌≡◌ {A = ℕ} (get_or (replicate n 0) i 0) 0
 zero-at zero i = refl
 zero-at (suc n) zero = refl
 zero-at (suc n) (suc i) = zero-at n i
@@ -68,11 +68,11 @@ pub on-ok : {X E : Type 0} {P : Type 0} (r : Result X E) → is_err r ≡ false 
 on-ok (Ok x) e h = h
 on-ok (Err x) e h = absurd (both_ways true e refl)
 
-and-left : (a b : Bool) → a && b ≡ true → a ≡ true
+pub and-left : (a b : Bool) → a && b ≡ true → a ≡ true
 and-left true b e = refl
 and-left false b e = absurd (both_ways false refl e)
 
-and-right : (a b : Bool) → a && b ≡ true → b ≡ true
+pub and-right : (a b : Bool) → a && b ≡ true → b ≡ true
 and-right true b e = e
 and-right false b e = absurd (both_ways false refl e)
 
@@ -80,23 +80,26 @@ not-is : (a : Bool) → not a ≡ true → a ≡ false
 not-is true e = absurd (both_ways false refl e)
 not-is false e = refl
 
-record IsFree (names : List ℕ) (i v : ℕ) : Type 0 where
-  there : i < length names
-  variable : 1 ≤ v
-  unnamed : get_or names i 0 ≡ 0
-  unused : is_used names v ≡ false
+pub record IsFree (names : List ℕ) (i v : ℕ) : Type 0 where
+  pub there : i < length names
+  pub variable : 1 ≤ v
+  pub most : v ≤ 16777215
+  pub unnamed : get_or names i 0 ≡ 0
+  pub unused : is_used names v ≡ false
 
-free : (names : List ℕ) (i v : ℕ) → is_free_name names i v ≡ true → IsFree names i v
+pub free : (names : List ℕ) (i v : ℕ) → is_free_name names i v ≡ true → IsFree names i v
 free names i v e =
     let a : nat_lt i (length names) ≡ true = and-left _ _ e in
     let e1 = and-right (nat_lt i (length names)) _ e in
     let b : nat_le 1 v ≡ true = and-left _ _ e1 in
     let e2 = and-right (nat_le 1 v) _ e1 in
+    let m : nat_le v 16777215 ≡ true = and-left _ _ e2 in
     let e3 = and-right (nat_le v 16777215) _ e2 in
     let d : eqb (get_or names i 0) 0 ≡ true = and-left _ _ e3 in
     record {
       there = grind arith;
       variable = grind arith;
+      most = grind arith;
       unnamed = grind arith;
       unused = not-is (is_used names v) (and-right (eqb (get_or names i 0) 0) _ e3);
     }

@@ -10,6 +10,8 @@ pub mod Operands
 pub mod Standing
 pub mod Bodies
 pub mod Circuits
+pub mod Grammar
+pub mod RoundTrip
 pub mod Making
 pub mod Modest
 pub mod Written

@@ -1,8 +1,15 @@
 //! Laws on the definitions: each is the contract of a function that does nothing.
-ghost use Rattle.std.specs.Prelude.{ℕ, List};
+ghost use Rattle.std.specs.Prelude.{◌↔◌, ℕ, List};
 ghost use Rattle.q_logic.specs.Certificates.{CertificateView};
 ghost use Rattle.q_aiger.specs.Circuits.{AreCircuits, Offence};
+ghost use Rattle.q_aiger.specs.Grammar.{Circuits};
 ghost use Rattle.q_aiger.specs.Alike.{AreAlike, IsNoCircuits};
+
+/// A text is in the grammar exactly where its lines have no offence, and its circuits are those of the grammar.
+pub fn grammar_is_read()
+    ensures { (bytes : List ℕ) → (circuits : CertificateView)
+        → Circuits bytes circuits ↔ AreCircuits bytes circuits }
+{}
 
 /// In whatever order the gates of a file are put, the circuits have the same inputs, names and trees.
 pub fn one_text_has_one_meaning()

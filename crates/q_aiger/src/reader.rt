@@ -6,6 +6,7 @@ ghost use Rattle.q_aiger.specs.Headers.{header_view};
 ghost use Rattle.q_aiger.specs.Items.{IsOnTheWay};
 ghost use Rattle.q_aiger.specs.Symbols.{all_named};
 ghost use Rattle.q_aiger.specs.Circuits.{parse, items_in, circuits_of, AreCircuits, FailsWith};
+ghost use Rattle.q_aiger.specs.Grammar.{Circuits, IsNoFile};
 ghost use Rattle.q_aiger.specs.Standing.{Answers};
 ghost use Rattle.q_aiger.specs.Modest.{IsModest};
 ghost use Rattle.q_aiger.specs.Written.{written_view, IsWritten};
@@ -34,8 +35,22 @@ pub struct Written {
     outputs: Vec<Operand>,
 }
 
-/// Reads the circuits of a file.
+/// Reads the circuits of a file. They are given exactly where the bytes are in the grammar, and a refusal is the first
+/// offence.
 pub fn read(alloc: Global, bytes: &[u8]) -> Result<Certificate, AigerError>
+    ensures ok { IfOk result (AreCircuits bytes.now) }
+    ensures grammar { IfOk result (Circuits bytes.now) }
+    ensures err { IfErr result (FailsWith bytes.now) }
+    ensures no_file { IfErr result (IsNoFile bytes.now) }
+{
+    match read_circuits(alloc, bytes) {
+        Ok(circuits) => Ok(circuits),
+        Err(error) => Err(error),
+    }
+}
+
+// The circuits of a file, or its first offence.
+fn read_circuits(alloc: Global, bytes: &[u8]) -> Result<Certificate, AigerError>
     ensures ok { IfOk result (AreCircuits bytes.now) }
     ensures err { IfErr result (FailsWith bytes.now) }
 {
