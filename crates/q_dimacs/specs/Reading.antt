@@ -6,36 +6,38 @@ use Rattle.q_logic.specs.declared.formulas.Quant.TheVariants.{Exists, Forall}
 use Rattle.q_logic.specs.Literals.{Literal}
 use Rattle.q_text.specs.declared.tokens.TokenKind.{TokenKind}
 use Rattle.q_text.specs.declared.tokens.TokenKind.TheVariants.{Number, P, Cnf, E, A}
+use Rattle.q_dimacs.specs.declared.error.Cause.TheVariants.{BadHeader, BadToken, AboveHeader, BoundTwice, LateQuantifier, ClauseCount, Unended, Limit}
 use Rattle.q_dimacs.specs.declared.builder.Place.{Place}
 use Rattle.q_dimacs.specs.declared.builder.Place.TheVariants.{Problem, Format, Vars, Count, Outside, InSet, InClause}
 use Rattle.q_dimacs.specs.declared.builder.Builder.{Builder}
 use Rattle.q_dimacs.specs.Building.{Built}
+use Rattle.q_dimacs.specs.Causes.{cause_number}
 use Rattle.q_logic.specs.Clauses.{clause_of}
 use Rattle.q_logic.specs.Prefixes.{is_bound}
 
 abbrev pub bad_header : ℕ
-bad_header = 1
+bad_header = cause_number BadHeader
 
 abbrev pub bad_token : ℕ
-bad_token = 2
+bad_token = cause_number BadToken
 
 abbrev pub above_header : ℕ
-above_header = 3
+above_header = cause_number AboveHeader
 
 abbrev pub bound_twice : ℕ
-bound_twice = 4
+bound_twice = cause_number BoundTwice
 
 abbrev pub late_quantifier : ℕ
-late_quantifier = 5
+late_quantifier = cause_number LateQuantifier
 
 abbrev pub clause_count : ℕ
-clause_count = 6
+clause_count = cause_number ClauseCount
 
 abbrev pub unended : ℕ
-unended = 7
+unended = cause_number Unended
 
 abbrev pub limit : ℕ
-limit = 8
+limit = cause_number Limit
 
 -- the header
 abbrev pub problem : Builder → TokenKind → Result Builder ℕ

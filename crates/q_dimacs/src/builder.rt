@@ -1,10 +1,9 @@
 ghost use Rattle.std.specs.Prelude.{◌≡◌, ℕ, ◌≤◌, ◌<◌, ◌^◌, ◌++◌, [], ◌∷◌, length, MatchResult, Ok, Err, ℤ};
+ghost use Rattle.q_dimacs.specs.Causes.{cause_numbers};
 ghost use Rattle.q_dimacs.specs.Reading.{problem, format, vars_of, count_of, begin_set, outside, in_clause, number, in_set, end_of, step_of, nothing_read};
 ghost use Rattle.q_dimacs.specs.Steps.{Steps};
 
-use crate::error::{
-    ABOVE_HEADER, BAD_HEADER, BAD_TOKEN, BOUND_TWICE, CLAUSE_COUNT, LATE_QUANTIFIER, LIMIT, UNENDED,
-};
+use crate::error::Cause;
 use crate::parts::Parts;
 use q_logic::{Limits, Lit, NoMemory, Quant};
 use q_text::TokenKind;
@@ -25,7 +24,7 @@ pub enum Place {
 /// Why a token was not taken.
 #[derive(Clone, Copy)]
 pub enum Fault {
-    Cause(u8),
+    Refused(Cause),
     NoMemory,
 }
 
@@ -90,7 +89,7 @@ impl Builder {
                 self.place = Place::Format;
                 Ok(())
             }
-            _ => Err(Fault::Cause(BAD_HEADER)),
+            _ => Err(Fault::Refused(Cause::BadHeader)),
         }
     }
 
@@ -104,7 +103,7 @@ impl Builder {
                 self.place = Place::Vars;
                 Ok(())
             }
-            _ => Err(Fault::Cause(BAD_HEADER)),
+            _ => Err(Fault::Refused(Cause::BadHeader)),
         }
     }
 
@@ -117,16 +116,16 @@ impl Builder {
         match kind {
             TokenKind::Number(n) => {
                 if n < 0 {
-                    return Err(Fault::Cause(BAD_HEADER));
+                    return Err(Fault::Refused(Cause::BadHeader));
                 }
                 if n > limits.vars as i64 {
-                    return Err(Fault::Cause(LIMIT));
+                    return Err(Fault::Refused(Cause::Limit));
                 }
                 self.vars = n as u32;
                 self.place = Place::Count;
                 Ok(())
             }
-            _ => Err(Fault::Cause(BAD_HEADER)),
+            _ => Err(Fault::Refused(Cause::BadHeader)),
         }
     }
 
@@ -139,16 +138,16 @@ impl Builder {
         match kind {
             TokenKind::Number(n) => {
                 if n < 0 {
-                    return Err(Fault::Cause(BAD_HEADER));
+                    return Err(Fault::Refused(Cause::BadHeader));
                 }
                 if n as u64 > limits.clauses {
-                    return Err(Fault::Cause(LIMIT));
+                    return Err(Fault::Refused(Cause::Limit));
                 }
                 self.count = n as u64;
                 self.place = Place::Outside;
                 Ok(())
             }
-            _ => Err(Fault::Cause(BAD_HEADER)),
+            _ => Err(Fault::Refused(Cause::BadHeader)),
         }
     }
 
@@ -158,7 +157,7 @@ impl Builder {
         ensures kept { self.new.vars < 2 ^ 31 }
     {
         if self.parts.clauses() > 0 {
-            return Err(Fault::Cause(LATE_QUANTIFIER));
+            return Err(Fault::Refused(Cause::LateQuantifier));
         }
         self.place = Place::InSet(quant);
         Ok(())
@@ -174,13 +173,13 @@ impl Builder {
         match kind {
             TokenKind::Number(n) => {
                 if self.parts.clauses() as u64 >= self.count {
-                    return Err(Fault::Cause(CLAUSE_COUNT));
+                    return Err(Fault::Refused(Cause::ClauseCount));
                 }
                 self.number(limits, n)
             }
             TokenKind::E => self.begin_set(Quant::Exists),
             TokenKind::A => self.begin_set(Quant::Forall),
-            _ => Err(Fault::Cause(BAD_TOKEN)),
+            _ => Err(Fault::Refused(Cause::BadToken)),
         }
     }
 
@@ -193,7 +192,7 @@ impl Builder {
     {
         match kind {
             TokenKind::Number(n) => self.number(limits, n),
-            _ => Err(Fault::Cause(BAD_TOKEN)),
+            _ => Err(Fault::Refused(Cause::BadToken)),
         }
     }
 
@@ -212,10 +211,10 @@ impl Builder {
         }
         let magnitude = n.unsigned_abs();
         if magnitude > self.vars as u64 {
-            return Err(Fault::Cause(ABOVE_HEADER));
+            return Err(Fault::Refused(Cause::AboveHeader));
         }
         if self.lits >= limits.lits {
-            return Err(Fault::Cause(LIMIT));
+            return Err(Fault::Refused(Cause::Limit));
         }
         self.parts.add(Lit::new(magnitude as u32, n < 0))?;
         self.lits += 1;
@@ -232,41 +231,41 @@ impl Builder {
         match kind {
             TokenKind::Number(n) => {
                 if n < 0 {
-                    return Err(Fault::Cause(BAD_TOKEN));
+                    return Err(Fault::Refused(Cause::BadToken));
                 }
                 if n == 0 {
                     self.place = Place::Outside;
                     return Ok(());
                 }
                 if n as u64 > self.vars as u64 {
-                    return Err(Fault::Cause(ABOVE_HEADER));
+                    return Err(Fault::Refused(Cause::AboveHeader));
                 }
                 let var = n as u32;
                 if self.parts.is_bound(var) {
-                    return Err(Fault::Cause(BOUND_TWICE));
+                    return Err(Fault::Refused(Cause::BoundTwice));
                 }
                 self.parts.bind(quant, var)?;
                 Ok(())
             }
-            _ => Err(Fault::Cause(BAD_TOKEN)),
+            _ => Err(Fault::Refused(Cause::BadToken)),
         }
     }
 
     // The cause at the end, if there is one.
-    pub fn end(&self) -> Option<u8>
-        ensures { result ≡ end_of self.now }
+    pub fn end(&self) -> Option<Cause>
+        ensures { cause_numbers result ≡ end_of self.now }
     {
         match self.place {
             Place::Outside => {
                 if (self.parts.clauses() as u64) < self.count {
-                    Some(CLAUSE_COUNT)
+                    Some(Cause::ClauseCount)
                 } else {
                     None
                 }
             }
-            Place::InSet(_) => Some(UNENDED),
-            Place::InClause => Some(UNENDED),
-            _ => Some(BAD_HEADER),
+            Place::InSet(_) => Some(Cause::Unended),
+            Place::InClause => Some(Cause::Unended),
+            _ => Some(Cause::BadHeader),
         }
     }
 }

@@ -1,3 +1,6 @@
+ghost use Rattle.std.specs.Prelude.{◌≡◌};
+ghost use Rattle.q_dimacs.specs.Causes.{cause_number};
+
 use thiserror::Error;
 
 /// Why no formula was read.
@@ -11,26 +14,41 @@ pub enum ReadError {
     NoMemory,
 }
 
-/// One of the first four tokens is not that of a header, or the end comes before the fourth.
-pub const BAD_HEADER: u8 = 1;
+/// Why a text is no formula file.
+#[derive(Clone, Copy, Debug, PartialEq, Eq)]
+pub enum Cause {
+    /// One of the first four tokens is not that of a header, or the end comes before the fourth.
+    BadHeader,
+    /// A token that can't stand where it stands.
+    BadToken,
+    /// A variable above the header's number.
+    AboveHeader,
+    /// A variable that an earlier place of a set has.
+    BoundTwice,
+    /// A set behind a clause.
+    LateQuantifier,
+    /// More clauses than the header says, or fewer.
+    ClauseCount,
+    /// The end inside a set or a clause.
+    Unended,
+    /// A limit is passed.
+    Limit,
+}
 
-/// A token that can't stand where it stands.
-pub const BAD_TOKEN: u8 = 2;
-
-/// A variable above the header's number.
-pub const ABOVE_HEADER: u8 = 3;
-
-/// A variable that an earlier place of a set has.
-pub const BOUND_TWICE: u8 = 4;
-
-/// A set behind a clause.
-pub const LATE_QUANTIFIER: u8 = 5;
-
-/// More clauses than the header says, or fewer.
-pub const CLAUSE_COUNT: u8 = 6;
-
-/// The end inside a set or a clause.
-pub const UNENDED: u8 = 7;
-
-/// A limit is passed.
-pub const LIMIT: u8 = 8;
+impl Cause {
+    /// The number by which lines and documents name it.
+    pub fn number(self) -> u8
+        ensures { result ≡ cause_number self }
+    {
+        match self {
+            Cause::BadHeader => 1,
+            Cause::BadToken => 2,
+            Cause::AboveHeader => 3,
+            Cause::BoundTwice => 4,
+            Cause::LateQuantifier => 5,
+            Cause::ClauseCount => 6,
+            Cause::Unended => 7,
+            Cause::Limit => 8,
+        }
+    }
+}

@@ -8,7 +8,7 @@ ghost use Rattle.q_dimacs.specs.Offences.{Offence, ReadsOn, RefusesAll, RefusesB
 ghost use Rattle.q_dimacs.specs.Reading.{end_of, IsSettled};
 
 use crate::builder::{Builder, Fault};
-use crate::error::{LIMIT, ReadError};
+use crate::error::{Cause, ReadError};
 use q_logic::{Formula, Limits};
 use q_text::{Token, Tokens};
 use std::alloc::Global;
@@ -132,7 +132,8 @@ impl Reader {
     {
         if self.taken >= self.limits.bytes {
             let line = self.tokens.line();
-            return self.stop(ReadError::Refused { line, cause: LIMIT });
+            let cause = Cause::Limit.number();
+            return self.stop(ReadError::Refused { line, cause });
         }
         self.taken += 1;
         match self.tokens.push(byte) {
@@ -148,10 +149,10 @@ impl Reader {
     {
         match self.builder.step(self.limits, token.kind) {
             Ok(()) => Ok(()),
-            Err(Fault::Cause(cause)) => {
+            Err(Fault::Refused(cause)) => {
                 let error = ReadError::Refused {
                     line: token.line,
-                    cause,
+                    cause: cause.number(),
                 };
                 self.standing = Standing::Stopped(error);
                 Err(error)
@@ -235,9 +236,9 @@ fn formula_with(
     let mut builder = builder;
     match builder.step(limits, token.kind) {
         Ok(()) => formula_of(alloc, builder, line),
-        Err(Fault::Cause(cause)) => Err(ReadError::Refused {
+        Err(Fault::Refused(cause)) => Err(ReadError::Refused {
             line: token.line,
-            cause,
+            cause: cause.number(),
         }),
         Err(Fault::NoMemory) => Err(ReadError::NoMemory),
     }
@@ -249,7 +250,10 @@ fn formula_of(alloc: Global, builder: Builder, line: u64) -> Result<Formula, Rea
     ensures proper { IfOk result IsProper }
 {
     if let Some(cause) = builder.end() {
-        return Err(ReadError::Refused { line, cause });
+        return Err(ReadError::Refused {
+            line,
+            cause: cause.number(),
+        });
     }
     let Builder {
         place: _,

@@ -3,6 +3,8 @@ mod Reading
 mod Rereading
 mod Spelling
 mod Parsing
+mod Tidying
+mod Orders
 pub mod Texts
 pub mod Lengths
 pub mod Outcomes

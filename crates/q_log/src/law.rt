@@ -1,6 +1,16 @@
 ghost use Rattle.std.specs.Prelude.{◌≡◌, ◌↔◌, ◌≤◌, ℕ, List, Some, length};
 ghost use Rattle.std.specs.List.{AllByRecursion};
+ghost use Rattle.q_logic.specs.declared.rule_bounds.Bounds.{Bounds};
+ghost use Rattle.q_logic.specs.Formulas.{Prefix, PrenexFormula};
+ghost use Rattle.q_logic.specs.InLimits.{IsInLimits};
+ghost use Rattle.q_logic.specs.Limits.{standard};
+ghost use Rattle.q_logic.specs.Numbered.{Slots, live, formula_of};
+ghost use Rattle.q_logic.specs.Parts.{IsProper};
+ghost use Rattle.q_logic.specs.Rules.{Applicable, result_of};
+ghost use Rattle.q_logic.specs.Runs.{Run};
 ghost use Rattle.q_logic.specs.Steps.{ProofStep};
+ghost use Rattle.q_logic.specs.Sweep.{swept};
+ghost use Rattle.q_logic.specs.Targets.{Target};
 ghost use Rattle.q_log.specs.Logs.{Steps};
 ghost use Rattle.q_log.specs.Spelled.{Log};
 ghost use Rattle.q_log.specs.Texts.{IsLogged, on_lines, steps_text};
@@ -16,4 +26,23 @@ pub fn texts_are_read()
     ensures { (limit : ℕ) → (steps : List ProofStep) → AllByRecursion IsLogged steps →
         length (steps_text steps) ≤ limit →
         Steps limit (steps_text steps) ≡ Some (on_lines 1 steps) }
+{}
+
+/// Where a run leads from a formula that the code may hold to another one, a run of steps that a log can hold does.
+pub fn runs_can_be_logged()
+    ensures { (F G : PrenexFormula) → (ss : List ProofStep) → IsProper F → IsProper G → Run F ss G →
+        (ts : List ProofStep) × Run F ts G × AllByRecursion IsLogged ts }
+{}
+
+/// The run to the result of an applicable target may be one of steps that a log can hold.
+pub fn targets_can_be_logged()
+    ensures { (B : Bounds) → (P : Prefix) → (N : Slots) → (t : Target) →
+        IsProper (formula_of P (live N)) → IsInLimits standard (formula_of P (live N)) → Applicable B P N t →
+        (ss : List ProofStep) × Run (formula_of P (live N)) ss (result_of P N t) × AllByRecursion IsLogged ss }
+{}
+
+/// The run that sweeps a formula may be one of steps that a log can hold.
+pub fn sweeping_can_be_logged()
+    ensures { (F : PrenexFormula) → IsProper F → IsInLimits standard F →
+        (ss : List ProofStep) × Run F ss (swept F) × AllByRecursion IsLogged ss }
 {}

@@ -1,0 +1,16 @@
+use Rattle.std.proofs.Common.{List}
+use Rattle.q_logic.specs.Literals.{IsBelow}
+use Rattle.q_logic.specs.Parts.{ArePairs}
+use Rattle.q_logic.specs.Steps.{ProofStep}
+use Rattle.q_logic.specs.Runs.{Run}
+use Rattle.q_logic.specs.Sweep.{swept}
+use Rattle.q_logic.proofs.Parts.{AllByRecursion-IsIn}
+use Rattle.q_logic.proofs.Settling.{sweep-run}
+use Rattle.q_log.proofs.Tidying.{run-logged}
+use Rattle.q_log.proofs.Orders.{swept-order}
+use Rattle.q_log.proofs.law.sweeping_can_be_logged.Goals as goal
+
+pub returns : goal.returns
+returns c = λ F p l.
+    let r : (ss : List ProofStep) × Run F ss (swept F) = sweep-run F p.formula l in
+    run-logged F (swept F) r.0 p (swept-order F (λ D m. AllByRecursion-IsIn (ArePairs IsBelow) F.matrix D p.ordered m)) r.1
