@@ -1,16 +1,16 @@
 -- Walks, literal by literal and clause by clause.
-use Rattle.std.proofs.Common.{◌≡◌, ◌≢◌, ◌⊎◌, ℕ, zero, suc, None, true, false, List, [], ◌∷◌, ◌++◌, Some, sym, ◌∙◌, ap, subst, inl, inr, arith, append-nil, append_assoc}
+use Rattle.std.proofs.Common.{◌≡◌, ◌≢◌, ◌⊎◌, ℕ, Bool, zero, suc, None, true, false, List, [], ◌∷◌, ◌++◌, Some, sym, ◌∙◌, ap, subst, inl, inr, arith, append-nil, append_assoc}
 use Rattle.q_logic.specs.Literals.{Literal, negation}
 use Rattle.q_logic.specs.Formulas.{Clause, Prefix, IsIn}
 use Rattle.q_logic.specs.Expanding.{inner_existential}
-use Rattle.q_logic.specs.Numbered.{Slots, slot, others}
+use Rattle.q_logic.specs.Numbered.{Slots, slot, live, others}
 use Rattle.q_logic.proofs.Slots.{others-slot}
 use Rattle.q_arena.specs.Rings.{Has}
-use Rattle.q_kernel.proofs.Slotting.{IsIn-slot}
+use Rattle.q_kernel.proofs.Slotting.{IsIn-slot, slot-IsIn}
 use Rattle.q_kernel.proofs.Following.{Has-last}
 use Rattle.q_logic.proofs.Clauses.{IsIn-append_left, IsIn-append}
 use Rattle.q_logic.proofs.Implying.{IsIn-append_right}
-use Rattle.q_reduce.specs.Walks.{IsWidened, IsSettled, IsGrown, IsBeside, IsFollowed, IsVisited}
+use Rattle.q_reduce.specs.Walks.{IsWidened, IsSettled, IsGrown, Stands, IsFollowed, IsVisited}
 
 pub IsIn-grown : (old new added : List Literal) (k : Literal) → new ≡ old ++ added → IsIn k old → IsIn k new
 IsIn-grown old new added k e m = rw e (IsIn-append_left k old added m)
@@ -63,19 +63,16 @@ module _ (P : Prefix) (u : Literal) where
   pub grown-same : (Q : Clause → Type 0) (old : List Literal) → IsGrown P u Q old old
   grown-same Q old = record { added = []; is = sym (append-nil old); from = λ k m. inl m }
 
-  pub followed-own : (N : Slots) (c d : ℕ) (old : List Literal) → d ≡ c → IsFollowed P N c u d old old true
-  followed-own N c d old e = (grown-same (IsBeside N c d) old, λ E b. absurd (b.0 e))
+  pub followed-held : (N : Slots) (d : ℕ) (C : Clause) (old : List Literal) → slot N d ≡ Some C → IsIn u C → IsFollowed P N u d old old true
+  followed-held N d C old h m = (grown-same (Stands N d) old, λ E b. inl (subst (λ (x : Clause). IsIn u x) (one N d C E h b) m))
 
-  pub followed-held : (N : Slots) (c d : ℕ) (C : Clause) (old : List Literal) → slot N d ≡ Some C → IsIn u C → IsFollowed P N c u d old old true
-  followed-held N c d C old h m = (grown-same (IsBeside N c d) old, λ E b. inl (subst (λ (x : Clause). IsIn u x) (one N d C E h b.1) m))
+  pub grown-widened : (N : Slots) (d : ℕ) (C : Clause) (old new : List Literal) → slot N d ≡ Some C → (IsIn u C → ⊥) → IsWidened P u C old new → IsGrown P u (Stands N d) old new
+  grown-widened N d C old new h a w = record { added = w.added; is = w.is; from = λ k m. elim (w.no_other k m) [ inl x ↦ inl x | inr x ↦ inr (C, h, a, x.0, x.1) ] }
 
-  pub grown-widened : (N : Slots) (c d : ℕ) (C : Clause) (old new : List Literal) → d ≢ c → slot N d ≡ Some C → (IsIn u C → ⊥) → IsWidened P u C old new → IsGrown P u (IsBeside N c d) old new
-  grown-widened N c d C old new n h a w = record { added = w.added; is = w.is; from = λ k m. elim (w.no_other k m) [ inl x ↦ inl x | inr x ↦ inr (C, (n, h), a, x.0, x.1) ] }
-
-  pub followed-widened : (N : Slots) (c d : ℕ) (C : Clause) (old new : List Literal) → d ≢ c → slot N d ≡ Some C → (IsIn u C → ⊥) → (IsIn (negation u) C → ⊥) → IsWidened P u C old new → IsFollowed P N c u d old new true
-  followed-widened N c d C old new n h a b w = (
-    grown-widened N c d C old new n h a w,
-    (λ E s. let q = one N d C E h s.1 in inr ((λ m. b (subst (λ (x : Clause). IsIn (negation u) x) (sym q) m)), (λ k m t. w.all_there k (subst (λ (x : Clause). IsIn k x) (sym q) m) t))),
+  pub followed-widened : (N : Slots) (d : ℕ) (C : Clause) (old new : List Literal) → slot N d ≡ Some C → (IsIn u C → ⊥) → (IsIn (negation u) C → ⊥) → IsWidened P u C old new → IsFollowed P N u d old new true
+  followed-widened N d C old new h a b w = (
+    grown-widened N d C old new h a w,
+    (λ E s. let q = one N d C E h s in inr ((λ m. b (subst (λ (x : Clause). IsIn (negation u) x) (sym q) m)), (λ k m t. w.all_there k (subst (λ (x : Clause). IsIn k x) (sym q) m) t))),
   )
 
   pub settled-more : (old new added : List Literal) (E : Clause) → new ≡ old ++ added → IsSettled P u old E → IsSettled P u new E
@@ -93,47 +90,68 @@ module _ (P : Prefix) (u : Literal) where
   grown-wider Q R old new f g = record { added = g.added; is = g.is; from = λ k m. elim (g.from k m) [ inl a ↦ inl a | inr a ↦ inr (a.0, f a.0 a.1, a.2, a.3, a.4) ] }
 
   -- the clauses that own places which a walk has passed were followed
-  pub record IsFollowing (N : Slots) (c : ℕ) (owner : ℕ → ℕ) (Q : Clause → Type 0) (places : List ℕ) (old new : List Literal) : Type 0 where
+  pub record IsFollowing (N : Slots) (owner : ℕ → ℕ) (Q : Clause → Type 0) (places : List ℕ) (old new : List Literal) : Type 0 where
     pub grown : IsGrown P u Q old new
-    pub settled : (p : ℕ) (E : Clause) → Has places p → IsBeside N c (owner p) E → IsSettled P u new E
+    pub settled : (p : ℕ) (E : Clause) → Has places p → Stands N (owner p) E → IsSettled P u new E
 
-  pub following-begun : (N : Slots) (c : ℕ) (owner : ℕ → ℕ) (Q : Clause → Type 0) (old : List Literal) → IsFollowing N c owner Q [] old old
-  following-begun N c owner Q old = record { grown = grown-same Q old; settled = λ p E h b. absurd h }
+  pub following-begun : (N : Slots) (owner : ℕ → ℕ) (Q : Clause → Type 0) (old : List Literal) → IsFollowing N owner Q [] old old
+  following-begun N owner Q old = record { grown = grown-same Q old; settled = λ p E h b. absurd h }
 
-  pub following-more : (N : Slots) (c : ℕ) (owner : ℕ → ℕ) (Q : Clause → Type 0) (places : List ℕ) (p : ℕ) (old mid new : List Literal) → ((E : Clause) → IsBeside N c (owner p) E → Q E) → IsFollowing N c owner Q places old mid → IsFollowed P N c u (owner p) mid new true → IsFollowing N c owner Q (places ++ p ∷ []) old new
-  following-more N c owner Q places p old mid new q f h = record {
-    grown = grown-through Q (IsBeside N c (owner p)) old mid new q f.grown h.0;
+  pub following-more : (N : Slots) (owner : ℕ → ℕ) (Q : Clause → Type 0) (places : List ℕ) (p : ℕ) (old mid new : List Literal) → ((E : Clause) → Stands N (owner p) E → Q E) → IsFollowing N owner Q places old mid → IsFollowed P N u (owner p) mid new true → IsFollowing N owner Q (places ++ p ∷ []) old new
+  following-more N owner Q places p old mid new q f h = record {
+    grown = grown-through Q (Stands N (owner p)) old mid new q f.grown h.0;
     settled = λ r E m b. elim (Has-last p r places m) [
       | inl a ↦ settled-more mid new h.0.added E h.0.is (f.settled r E a b)
-      | inr e ↦ h.1 E (subst (λ (x : ℕ). IsBeside N c (owner x) E) e b)
+      | inr e ↦ h.1 E (subst (λ (x : ℕ). Stands N (owner x) E) e b)
     ];
   }
 
   -- what the walk asks of the lists: each clause with the literal owns a place
-  pub following-visited : (N : Slots) (c : ℕ) (owner : ℕ → ℕ) (k : Literal) (places : List ℕ) (old new : List Literal) → ((d : ℕ) (E : Clause) → slot N d ≡ Some E → IsIn (negation k) E → (p : ℕ) × Has places p × (owner p ≡ d)) → IsFollowing N c owner (λ E. IsIn E (others c N) × IsIn (negation k) E) places old new → IsVisited P (others c N) u k old new true
-  following-visited N c owner k places old new own f = (
+  pub following-visited : (N : Slots) (owner : ℕ → ℕ) (k : Literal) (places : List ℕ) (old new : List Literal) → ((d : ℕ) (E : Clause) → slot N d ≡ Some E → IsIn (negation k) E → (p : ℕ) × Has places p × (owner p ≡ d)) → IsFollowing N owner (λ E. IsIn E (live N) × IsIn (negation k) E) places old new → IsVisited P (live N) u k old new true
+  following-visited N owner k places old new own f = (
     f.grown,
     (λ E m i.
-        let d = others-find N c E m in
-        let p = own d.0 E d.2 i in
-        f.settled p.0 E p.1 (subst (λ (x : ℕ). IsBeside N c x E) (sym p.2) (d.1, d.2))),
+        let d = IsIn-slot N E m in
+        let p = own d.0 E d.1 i in
+        f.settled p.0 E p.1 (subst (λ (x : ℕ). Stands N x E) (sym p.2) d.1)),
   )
 
   -- a clause that was followed and holds the negation of u
-  pub visited-not : (N : Slots) (c d : ℕ) (k : Literal) (D : Clause) (old mid new : List Literal) → slot N d ≡ Some D → IsIn (negation k) D → IsFollowed P N c u d mid new false → IsVisited P (others c N) u k old new false
-  visited-not N c d k D old mid new h m f = (
+  pub visited-not : (N : Slots) (d : ℕ) (k : Literal) (D : Clause) (old mid new : List Literal) → slot N d ≡ Some D → IsIn (negation k) D → IsFollowed P N u d mid new false → IsVisited P (live N) u k old new false
+  visited-not N d k D old mid new h m f = (
     f.0,
-    others-slot N d c f.0 f.1.0 f.1.1,
-    subst (λ (x : Clause). IsIn (negation k) x) (one N d D f.0 h f.1.1) m,
+    slot-IsIn N d f.0 f.1,
+    subst (λ (x : Clause). IsIn (negation k) x) (one N d D f.0 h f.1) m,
     f.2,
     f.3,
   )
 
-  pub beside-in : (N : Slots) (c d : ℕ) (l : Literal) (D E : Clause) → slot N d ≡ Some D → IsIn l D → IsBeside N c d E → IsIn E (others c N) × IsIn l E
-  beside-in N c d l D E h m b = (others-slot N d c E b.0 b.1, subst (λ (x : Clause). IsIn l x) (one N d D E h b.1) m)
+  pub stands-held : (N : Slots) (d : ℕ) (l : Literal) (D E : Clause) → slot N d ≡ Some D → IsIn l D → Stands N d E → IsIn E (live N) × IsIn l E
+  stands-held N d l D E h m b = (slot-IsIn N d E b, subst (λ (x : Clause). IsIn l x) (one N d D E h b) m)
 
-  pub beside-held : (N : Slots) (c d : ℕ) (k : Literal) (D E : Clause) → slot N d ≡ Some D → IsIn (negation k) D → IsBeside N c d E → IsIn E (others c N) × IsIn (negation k) E
-  beside-held N c d k D E h m b = beside-in N c d (negation k) D E h m b
+  -- A clause that lacks u stands beside one that holds it.
+  lacking-beside : (N : Slots) (c : ℕ) (C E : Clause) → slot N c ≡ Some C → IsIn u C → IsIn E (live N) → (IsIn u E → ⊥) → IsIn E (others c N)
+  lacking-beside N c C E h m i n =
+      let d = IsIn-slot N E i in
+      others-slot N d.0 c E (λ e. n (subst (λ (x : Clause). IsIn u x) (one N c C E h (subst (λ (x : ℕ). slot N x ≡ Some E) e d.1)) m)) d.1
 
-  pub grown-held : (N : Slots) (c d : ℕ) (l : Literal) (D : Clause) (old mid new : List Literal) → slot N d ≡ Some D → IsIn l D → IsGrown P u (λ E. IsIn E (others c N) × IsIn l E) old mid → IsGrown P u (IsBeside N c d) mid new → IsGrown P u (λ E. IsIn E (others c N) × IsIn l E) old new
-  grown-held N c d l D old mid new h m f g = grown-through (λ E. IsIn E (others c N) × IsIn l E) (IsBeside N c d) old mid new (λ E b. beside-in N c d l D E h m b) f g
+  others-live : (N : Slots) (c : ℕ) (E : Clause) → IsIn E (others c N) → IsIn E (live N)
+  others-live N c E i = let r = others-find N c E i in slot-IsIn N r.0 E r.2
+
+  -- So what a walk meets, it meets beside the clause that is asked about.
+  pub visited-beside : (N : Slots) (c : ℕ) (C : Clause) (k : Literal) (old new : List Literal) (b : Bool) → slot N c ≡ Some C → IsIn u C → IsVisited P (live N) u k old new b → IsVisited P (others c N) u k old new b
+  visited-beside N c C k old new true h m v = (
+    record { added = v.0.added; is = v.0.is; from = λ j i. elim (v.0.from j i) [ inl a ↦ inl a | inr a ↦ inr (a.0, (lacking-beside N c C a.0 h m a.1.0 a.2, a.1.1), a.2, a.3, a.4) ] },
+    (λ E i n. v.1 E (others-live N c E i) n),
+  )
+  visited-beside N c C k old new false h m v = (v.0, lacking-beside N c C v.0 h m v.1 v.3, v.2, v.3, v.4)
+
+  pub grown-held : (N : Slots) (c d : ℕ) (l : Literal) (C D : Clause) (old mid new : List Literal) → slot N c ≡ Some C → IsIn u C → slot N d ≡ Some D → IsIn l D → IsGrown P u (λ E. IsIn E (others c N) × IsIn l E) old mid → IsGrown P u (Stands N d) mid new → IsGrown P u (λ E. IsIn E (others c N) × IsIn l E) old new
+  grown-held N c d l C D old mid new o i h m f g = record {
+    added = f.added ++ g.added;
+    is = g.is ∙ ap (λ (xs : List Literal). xs ++ g.added) f.is ∙ append_assoc old f.added g.added;
+    from = λ k n. elim (g.from k n) [
+      | inl x ↦ f.from k x
+      | inr x ↦ let b = stands-held N d l D x.0 h m x.1 in inr (x.0, (lacking-beside N c C x.0 o i b.0 x.2, b.1), x.2, x.3, x.4)
+    ];
+  }

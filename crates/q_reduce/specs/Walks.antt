@@ -1,5 +1,5 @@
 -- A walk over the clauses that are reached from one, literal by literal.
-use Rattle.std.specs.Prelude.{◌≡◌, ◌⊎◌, ◌≢◌, ℕ, Bool, true, false, List, ◌++◌, Some}
+use Rattle.std.specs.Prelude.{◌≡◌, ◌⊎◌, ℕ, Bool, true, false, List, ◌++◌, Some}
 use Rattle.q_logic.specs.Literals.{Literal, negation}
 use Rattle.q_logic.specs.Formulas.{Clause, Matrix, Prefix, IsIn}
 use Rattle.q_logic.specs.Numbered.{Slots, slot}
@@ -24,16 +24,16 @@ pub record IsGrown (P : Prefix) (u : Literal) (Q : Clause → Type 0) (old new :
   pub is : new ≡ old ++ added
   pub from : (k : Literal) → IsIn k new → IsIn k old ⊎ ((E : Clause) × Q E × (IsIn u E → ⊥) × IsIn k E × (inner_existential P u.var k.var ≡ true))
 
--- the clause of the id d, which is not c
-abbrev pub IsBeside : Slots → ℕ → ℕ → Clause → Type 0
-IsBeside N c d E = (d ≢ c) × (slot N d ≡ Some E)
+-- the clause of an id
+abbrev pub Stands : Slots → ℕ → Clause → Type 0
+Stands N d E = slot N d ≡ Some E
 
--- the clause of an id was followed, unless it is c
-abbrev pub IsFollowed : Prefix → Slots → ℕ → Literal → ℕ → List Literal → List Literal → Bool → Type 0
-IsFollowed P N c u d old new true =
-    IsGrown P u (IsBeside N c d) old new × ((E : Clause) → IsBeside N c d E → IsSettled P u new E)
-IsFollowed P N c u d old new false =
-    (E : Clause) × IsBeside N c d E × (IsIn u E → ⊥) × IsIn (negation u) E
+-- the clause of an id was followed
+abbrev pub IsFollowed : Prefix → Slots → Literal → ℕ → List Literal → List Literal → Bool → Type 0
+IsFollowed P N u d old new true =
+    IsGrown P u (Stands N d) old new × ((E : Clause) → Stands N d E → IsSettled P u new E)
+IsFollowed P N u d old new false =
+    (E : Clause) × Stands N d E × (IsIn u E → ⊥) × IsIn (negation u) E
 
 -- the clauses with the negation of a literal were followed
 abbrev pub IsVisited : Prefix → Matrix → Literal → Literal → List Literal → List Literal → Bool → Type 0

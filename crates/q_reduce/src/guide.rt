@@ -9,7 +9,7 @@ ghost use Rattle.q_logic.specs.Formulas.{Clause, IsIn};
 ghost use Rattle.q_logic.specs.Prefixes.{is_bound, is_universal, outer_or_same};
 ghost use Rattle.q_logic.specs.Numbered.{slot, live, others};
 ghost use Rattle.q_kernel.specs.Kernels.{slots};
-ghost use Rattle.q_reduce.specs.Walks.{IsBeside, IsGrown};
+ghost use Rattle.q_reduce.specs.Walks.{Stands, IsGrown};
 ghost use Rattle.q_reduce.specs.Hops.{IsMet, IsExit, LeadsBack, HoldsUniversal, AreSure, no_rows, AreHopsOf, AreLoosened, IsTouched};
 
 use crate::asked::Asked;
@@ -128,7 +128,7 @@ impl Guide {
         self.trees.opens(u, root, self.block)
     }
 
-    // Puts the inner literals of some clauses that hold a literal into the queue, but of c and of those that hold u, until
+    // Puts the inner literals of some clauses that hold a literal into the queue, but of those that hold u, as c does, until
     // hops lead from the root to the negation of one; whether they do.
     fn probe(
         &self,
@@ -150,7 +150,7 @@ impl Guide {
                 return Ok(false);
             };
             let known = queue.len();
-            gather_from(kernel, queue, c, u, kernel.owner(place))?;
+            gather_from(kernel, queue, u, kernel.owner(place))?;
             if self.leads_back(kernel, queue, known, c, u, root) {
                 return Ok(true);
             }
@@ -301,20 +301,14 @@ fn climbs(kernel: &Kernel, toward: &Tree, c: ClauseId, u: Lit, from: Lit, root: 
     false
 }
 
-// Puts the inner literals of the clause d into the queue, unless it is c or holds u.
-fn gather_from(
-    kernel: &Kernel,
-    queue: &mut Queue,
-    c: ClauseId,
-    u: Lit,
-    d: ClauseId,
-) -> Result<(), NoMemory>
+// Puts the inner literals of a clause into the queue, unless it holds u.
+fn gather_from(kernel: &Kernel, queue: &mut Queue, u: Lit, d: ClauseId) -> Result<(), NoMemory>
     requires bound { is_bound kernel.now.prefix u.var ≡ true }
     requires live { (D : Clause) × (slot (slots kernel.now) d ≡ Some D) }
-    ensures { OnOk result (IsGrown kernel.now.prefix u (IsBeside (slots kernel.now) c d) queue.old queue.new) }
+    ensures { OnOk result (IsGrown kernel.now.prefix u (Stands (slots kernel.now) d) queue.old queue.new) }
 {
     let clause = clause_of(kernel, d);
-    if d == c || holds(clause, u) {
+    if holds(clause, u) {
         return Ok(());
     }
     push_inner(kernel, queue, clause, u)?;

@@ -6,7 +6,7 @@ ghost use Rattle.q_logic.specs.Prefixes.{is_bound, is_existential, is_universal}
 ghost use Rattle.q_logic.specs.Expanding.{inner_existential};
 ghost use Rattle.q_logic.specs.Steps.{Within};
 ghost use Rattle.q_logic.specs.Reach.{Reducible};
-ghost use Rattle.q_logic.specs.Numbered.{slot, others};
+ghost use Rattle.q_logic.specs.Numbered.{slot, live, others};
 ghost use Rattle.q_kernel.specs.Kernels.{slots};
 ghost use Rattle.q_rule.specs.Quants.{is_some_exists, is_some_forall};
 ghost use Rattle.q_reduce.specs.Hops.{AreHopsOf};
@@ -50,7 +50,7 @@ pub fn is_reducible(
             return Ok(false);
         }
         *looks = looks.saturating_add(kernel.count(next.negated()) as usize);
-        if !visit(kernel, queue, c, next, lit)? {
+        if !visit(kernel, queue, next, lit)? {
             return Ok(false);
         }
     }
@@ -58,22 +58,16 @@ pub fn is_reducible(
     Err(NoMemory)
 }
 
-// Follows the clauses, but one, that hold the negation of a literal; whether none that lacks u holds the
-// negation of u.
-fn visit(
-    kernel: &Kernel,
-    queue: &mut Queue,
-    c: ClauseId,
-    lit: Lit,
-    u: Lit,
-) -> Result<bool, NoMemory>
+// Follows the clauses that hold the negation of a literal; whether none that lacks u holds the negation of u. The clause that
+// is asked about holds u, so the walk passes it by without knowing it.
+fn visit(kernel: &Kernel, queue: &mut Queue, lit: Lit, u: Lit) -> Result<bool, NoMemory>
     requires { is_bound kernel.now.prefix u.var ≡ true }
-    ensures { IfOk result (λ yes. IsVisited kernel.now.prefix (others c (slots kernel.now)) u lit queue.old queue.new yes) }
+    ensures { IfOk result (λ yes. IsVisited kernel.now.prefix (live (slots kernel.now)) u lit queue.old queue.new yes) }
 {
     kernel.sound();
     let mut at = kernel.first(lit.negated());
     while let Some(place) = at {
-        if !follow(kernel, queue, c, kernel.owner(place), u)? {
+        if !follow(kernel, queue, kernel.owner(place), u)? {
             return Ok(false);
         }
         at = kernel.next(place);
@@ -81,22 +75,12 @@ fn visit(
     Ok(true)
 }
 
-// Puts the inner literals of the clause d into the queue, unless it is c or holds u; whether it does not
-// hold the negation of u then.
-fn follow(
-    kernel: &Kernel,
-    queue: &mut Queue,
-    c: ClauseId,
-    d: ClauseId,
-    u: Lit,
-) -> Result<bool, NoMemory>
+// Puts the inner literals of a clause into the queue, unless it holds u; whether it does not hold the negation of u then.
+fn follow(kernel: &Kernel, queue: &mut Queue, d: ClauseId, u: Lit) -> Result<bool, NoMemory>
     requires bound { is_bound kernel.now.prefix u.var ≡ true }
     requires live { (D : Clause) × (slot (slots kernel.now) d ≡ Some D) }
-    ensures { IfOk result (λ yes. IsFollowed kernel.now.prefix (slots kernel.now) c u d queue.old queue.new yes) }
+    ensures { IfOk result (λ yes. IsFollowed kernel.now.prefix (slots kernel.now) u d queue.old queue.new yes) }
 {
-    if d == c {
-        return Ok(true);
-    }
     let clause = clause_of(kernel, d);
     if holds(clause, u) {
         return Ok(true);

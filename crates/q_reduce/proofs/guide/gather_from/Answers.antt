@@ -5,5 +5,5 @@ use Rattle.q_reduce.proofs.guide.gather_from.Goals as goal
 
 pub returns : goal.returns
 returns c =
-    grown-widened c.args.kernel.now.prefix c.args.u (slots c.args.kernel.now) c.args.c c.args.d c.clause_of-clause.result.now c.args.queue.now c.push_inner.new.queue c.if-d-c.false c.clause_of-clause.ensures.clause
+    grown-widened c.args.kernel.now.prefix c.args.u (slots c.args.kernel.now) c.args.d c.clause_of-clause.result.now c.args.queue.now c.push_inner.new.queue c.clause_of-clause.ensures.clause
     (test-false c.holds.result c.holds.ensures c.if-holds.false) c.in_ok-push_inner.ensures

@@ -1,9 +1,10 @@
-use Rattle.std.proofs.Common.{◌≡◌, ◌∙◌, ◌<◌, ◌≤◌, Some, [], length, sym, subst, arith, refl, true≢false}
+use Rattle.std.proofs.Common.{◌≡◌, ◌∙◌, ◌<◌, ◌≤◌, true, false, Some, [], length, sym, subst, arith, refl, true≢false}
 use Rattle.q_logic.specs.Literals.{negation}
 use Rattle.q_logic.specs.Formulas.{Clause, IsIn}
 use Rattle.q_logic.specs.Numbered.{slot, others}
 use Rattle.q_kernel.specs.Kernels.{slots}
 use Rattle.q_reduce.specs.Walks.{IsWidened}
+use Rattle.q_reduce.proofs.Walks.{visited-beside}
 use Rattle.q_reduce.proofs.Reaching.{IsWalk, place-member, walk-begun, walk-more, walk-refuted, walk-ended}
 use Rattle.q_reduce.proofs.reach.is_reducible.Goals as goal
 use Rattle.q_reduce.proofs.reach.is_reducible.Goals.{else-head-lt-GUIDED-via-then-head-lt-GUIDED+else-leads_out, else-head-lt-GUIDED-via-else-head-lt-GUIDED}
@@ -33,14 +34,16 @@ returns-then-head-len-clause-yes c C e =
 pub returns-then-not-branch-clause-yes : goal.returns-then-not-branch-clause-yes
 returns-then-not-branch-clause-yes c C e =
     let k = c.args.kernel.now in
-    let v = rw c.if-not-branch.true at c.in_ok-visit.ensures in
+    let f = rw c.if-not-branch.true at c.in_ok-visit.ensures in
+    let v = visited-beside k.prefix c.args.lit (slots k) c.args.c c.requires.live.0 c.at-next.result c.loop-head.queue c.visit.new.queue false c.requires.live.1 c.requires.live.2 f in
     ((λ t. absurd (true≢false (sym t))), (λ r. absurd (walk-refuted k.prefix (others c.args.c (slots k)) C c.args.lit c.loop-head.head c.at-next.result c.loop-head.queue c.visit.new.queue (c.loop-head.invariant.walk C e) c.at-next.ensures v r)))
 
 pub loop-head-preserved : goal.loop-head-preserved
 loop-head-preserved c = record {
   walk = λ C e.
       let k = c.args.kernel.now in
-      let v = rw c.if-not-branch.false at c.in_ok-visit.ensures in
+      let f = rw c.if-not-branch.false at c.in_ok-visit.ensures in
+    let v = visited-beside k.prefix c.args.lit (slots k) c.args.c c.requires.live.0 c.at-next.result c.loop-head.queue c.visit.new.queue true c.requires.live.1 c.requires.live.2 f in
       let room : c.loop-head.head < length c.loop-head.queue = omega (arith, c.if-head-len.false, c.len.ensures) in
       walk-more k.prefix (others c.args.c (slots k)) C c.args.lit c.loop-head.head c.at-next.result c.loop-head.queue c.visit.new.queue (c.loop-head.invariant.walk C e) room c.at-next.ensures v;
   same = elim c.else-head-lt-GUIDED.branch [

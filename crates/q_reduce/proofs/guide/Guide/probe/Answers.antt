@@ -31,7 +31,7 @@ loop-preserved c =
     let h = c.owner.ensures.holds c.args.lit there in
     record {
       listed = λ p e. c.next-at.ensures.there c.args.lit p there e;
-      grown = grown-held k.prefix c.args.u (slots k) c.args.c c.owner.result c.args.lit h.0 c.args.queue.now c.loop.queue c.gather_from.new.queue h.1 h.2 c.loop.invariant.grown c.in_ok-gather_from.ensures;
+      grown = grown-held k.prefix c.args.u (slots k) c.args.c c.owner.result c.args.lit c.requires.universal.0 h.0 c.args.queue.now c.loop.queue c.gather_from.new.queue c.requires.universal.1 c.requires.universal.2 h.1 h.2 c.loop.invariant.grown c.in_ok-gather_from.ensures;
     }
 
 pub returns-clause-grown : goal.returns-clause-grown
@@ -41,7 +41,7 @@ pub returns-then-leads_back-clause-grown : goal.returns-then-leads_back-clause-g
 returns-then-leads_back-clause-grown c =
     let k = c.args.kernel.now in
     let h = c.owner.ensures.holds c.args.lit (c.loop.invariant.listed c.in-Some.place c.in-Some.is) in
-    grown-held k.prefix c.args.u (slots k) c.args.c c.owner.result c.args.lit h.0 c.args.queue.now c.loop.queue c.gather_from.new.queue h.1 h.2 c.loop.invariant.grown c.in_ok-gather_from.ensures
+    grown-held k.prefix c.args.u (slots k) c.args.c c.owner.result c.args.lit c.requires.universal.0 h.0 c.args.queue.now c.loop.queue c.gather_from.new.queue c.requires.universal.1 c.requires.universal.2 h.1 h.2 c.loop.invariant.grown c.in_ok-gather_from.ensures
 
 pub gather_from-requires-clause-bound : goal.gather_from-requires-clause-bound
 gather_from-requires-clause-bound c = asked-bound c.args.kernel.now.prefix (slots c.args.kernel.now) c.args.c c.args.u c.requires.universal
