@@ -1,7 +1,8 @@
 -- The command that the words are.
 use Rattle.std.specs.Prelude.{ℕ, List, Option, Some, None}
+use Rattle.q_logic.specs.declared.rule_bounds.Bounds.{Bounds}
 use Rattle.q_app.specs.Rebuilds.{FiveNames, five}
-use Rattle.q_app.specs.Words.{ThreeNames, three, Command, checking, simplifying, rebuilding, three_files}
+use Rattle.q_app.specs.Words.{ThreeNames, three, Command, checking, simplifying, rebuilding, three_files, nothing_set, options_of}
 use Rattle.q_app.specs.RebuildWords.{rebuild_names}
 use Rattle.q_app.specs.declared.words.Names.{Names}
 use Rattle.q_app.specs.declared.rebuild_words.RebuildNames.{RebuildNames}
@@ -32,3 +33,10 @@ abbrev pub command_of : Parsed → Command
 command_of (parsed.Check n) = checking (three_of n)
 command_of (parsed.Simplify n p) = simplifying (three_of n) p
 command_of (parsed.Rebuild n) = rebuilding (five_of n)
+
+-- the bounds of a simplification, and the defaults of all else
+abbrev pub bounds_in : Option Command → Bounds
+bounds_in None = (options_of nothing_set).bounds
+bounds_in (Some (checking n)) = (options_of nothing_set).bounds
+bounds_in (Some (simplifying n p)) = p.bounds
+bounds_in (Some (rebuilding n)) = (options_of nothing_set).bounds

@@ -28,3 +28,4 @@ pub use rebuilt::Rebuilt;
 pub use simplified::Simplified;
 pub use status::Status;
 pub use top::run;
+pub use words::bounds_of;

@@ -14,6 +14,7 @@ use crate::simplify::simplify_file;
 use crate::status::Status;
 use crate::words::{Command, parse};
 use q_io::{Files, Sink};
+use q_sched::Guide;
 use q_simplify::Options;
 use std::alloc::Global;
 
@@ -47,6 +48,7 @@ fn run_simplify<F: Files, S: Sink>(
     output: &str,
     log: &str,
     options: &Options,
+    guides: Vec<Box<dyn Guide>>,
 ) -> Status
     requires bounds { AreModest options.now.bounds }
     requires names { output.now ≢ log.now }
@@ -60,7 +62,7 @@ fn run_simplify<F: Files, S: Sink>(
     ensures line { Puts (MaySay (Some (simplifying (three input.now output.now log.now) options.now)) (F.held files.old) (F.held files.new))
         (S.written out.old) result (S.faults out.old) (S.faults out.new) (S.written out.new) }
 {
-    let outcome = simplify_file(alloc, files, input, output, log, options);
+    let outcome = simplify_file(alloc, files, input, output, log, options, guides);
     say(out, Answer::Simplify(outcome))
 }
 
@@ -76,8 +78,15 @@ fn run_nothing<S: Sink>(out: &mut S) -> Status
 
 /// Does all that the program does: `check IN OUT LOG`, `simplify IN OUT LOG` with its options, or
 /// `rebuild IN OUT LOG SKOLEM CERT`, over these files, with one line put into the sink. Main hands in the disk,
-/// standard output and the words after the program's name.
-pub fn run<F: Files, S: Sink>(alloc: Global, words: &[String], files: &mut F, out: &mut S) -> Status
+/// standard output and the words after the program's name. The guides serve `simplify`: they are asked which target is
+/// tried next, and what is proved holds for every list of them.
+pub fn run<F: Files, S: Sink>(
+    alloc: Global,
+    words: &[String],
+    files: &mut F,
+    out: &mut S,
+    guides: Vec<Box<dyn Guide>>,
+) -> Status
     // Where the words are no command, that is said and nothing else is done.
     ensures usage { result ≡ Status.Usage → command (map (λ w. string_bytes w) words.now) ≡ None }
     ensures no_command { command (map (λ w. string_bytes w) words.now) ≡ None →
@@ -115,6 +124,7 @@ pub fn run<F: Files, S: Sink>(alloc: Global, words: &[String], files: &mut F, ou
             names.output,
             names.log,
             &options,
+            guides,
         ),
         Some(Command::Rebuild { names }) => run_rebuild(
             alloc,

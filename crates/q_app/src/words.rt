@@ -1,10 +1,11 @@
 ghost use Rattle.std.specs.Prelude.{◌≡◌, ◌≢◌, map, option_map, string_bytes, IfSome, Some, None};
 ghost use Rattle.q_app.specs.Words.{IsFit, are_different as spec_are_different, task_of, three_files, with_task as spec_with_task};
 ghost use Rattle.q_app.specs.RebuildWords.{rebuild_names};
-ghost use Rattle.q_app.specs.Commands.{command, command_of};
+ghost use Rattle.q_app.specs.Commands.{bounds_in, command, command_of};
 
 use crate::rebuild_words::{RebuildNames, parse_rebuild};
 use crate::settings::Settings;
+use q_logic::Bounds;
 use q_simplify::Options;
 
 /// The names of IN, OUT and LOG.
@@ -99,5 +100,16 @@ fn parse_task(verb: &str, words: &[String]) -> Option<Task>
             options: settings.options(),
         }),
         None => None,
+    }
+}
+
+/// The bounds of the simplification that the words ask for, and the defaults where they ask for none: what a guide has to know
+/// before the words are read.
+pub fn bounds_of(words: &[String]) -> Bounds
+    ensures { result ≡ bounds_in (command (map (λ w. string_bytes w) words.now)) }
+{
+    match parse(words) {
+        Some(Command::Simplify { options, .. }) => options.bounds,
+        _ => Settings::none().options().bounds,
     }
 }
