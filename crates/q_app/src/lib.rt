@@ -1,6 +1,7 @@
 //! The top call: all that the program does, over files and a sink.
 #![tactic(auto)]
 
+mod answer;
 mod audit;
 mod check;
 mod input;
@@ -20,9 +21,11 @@ mod top;
 mod whole_file;
 mod words;
 
+pub use answer::Answer;
 pub use laws::simplified_is_verified;
 pub use outcome::{Outcome, Role};
 pub use rebuilt::Rebuilt;
 pub use simplified::Simplified;
 pub use status::Status;
 pub use top::run;
+pub use words::bounds_of;

@@ -110,15 +110,22 @@ impl Settings {
         }
     }
 
+    /// Nothing is set.
+    pub fn none() -> Settings
+        ensures { result ≡ nothing_set }
+    {
+        Settings {
+            grow: None,
+            expand: None,
+            budget: None,
+        }
+    }
+
     /// The settings of these words.
     pub fn of(words: &[String]) -> Option<Settings>
         ensures { result ≡ with_words (Some nothing_set) (map (λ w. string_bytes w) words.now) }
     {
-        let mut settings = Settings {
-            grow: None,
-            expand: None,
-            budget: None,
-        };
+        let mut settings = Settings::none();
         for word in words {
             match settings.with_word(word.as_str()) {
                 Some(next) => settings = next,

@@ -14,6 +14,7 @@ use crate::input::{InputError, PIECE, read_formula};
 use crate::simplified::Simplified;
 use q_io::{DeviceError, Files};
 use q_logic::Formula;
+use q_sched::Guide;
 use q_simplify::{Options, simplify};
 use std::alloc::Global;
 
@@ -59,7 +60,7 @@ fn failed(error: DeviceError) -> Simplified
     }
 }
 
-/// What there is to say of `simplify` over the files of these names.
+/// What there is to say of `simplify` over the files of these names. The guides are asked which target is tried next.
 pub(crate) fn simplify_file<F: Files>(
     alloc: Global,
     files: &mut F,
@@ -67,6 +68,7 @@ pub(crate) fn simplify_file<F: Files>(
     output: &str,
     log: &str,
     options: &Options,
+    guides: Vec<Box<dyn Guide>>,
 ) -> Simplified
     requires bounds { AreModest options.now.bounds }
     requires names { output.now ≢ log.now }
@@ -82,7 +84,7 @@ pub(crate) fn simplify_file<F: Files>(
         Ok(formula) => formula,
         Err(error) => return refused(error),
     };
-    match simplify(alloc, files, &formula, output, log, options) {
+    match simplify(alloc, files, &formula, output, log, options, guides) {
         Ok(report) => Simplified::Written { report },
         Err(error) => failed(error),
     }

@@ -29,7 +29,13 @@ fn main(rt: HostRuntime) -> ExitCode {
         Ok(words) => {
             let mut files = DiskFiles::new(&rt);
             let mut out = StdSink::new(&rt);
-            run(rt.alloc(), &words, &mut files, &mut out)
+            run(
+                rt.alloc(),
+                &words,
+                &mut files,
+                &mut out,
+                Vec::new(rt.alloc()),
+            )
         }
         Err(error) => without_words(error),
     };

@@ -82,21 +82,39 @@ impl Desk {
         for nth in &self.failing_puts {
             out.fail_at(*nth)?;
         }
-        let status = run(self.alloc, words, &mut self.memory, &mut out);
+        let status = run(
+            self.alloc,
+            words,
+            &mut self.memory,
+            &mut out,
+            Vec::new(self.alloc),
+        );
         let line = Vec::from_slice(self.alloc, out.bytes())?;
         Ok(Said { status, line })
     }
 
     fn run_steadily(&mut self, words: &[String], said: &Said) -> Result<(), Trouble> {
         let mut out = SteadySink::new(self.alloc);
-        let status = run(self.alloc, words, &mut self.steady, &mut out);
+        let status = run(
+            self.alloc,
+            words,
+            &mut self.steady,
+            &mut out,
+            Vec::new(self.alloc),
+        );
         compare(self.alloc, &said.line, out.bytes())?;
         compare(self.alloc, &[said.status.code()], &[status.code()])
     }
 
     fn run_trickling(&mut self, words: &[String], said: &Said) -> Result<(), Trouble> {
         let mut out = MemSink::new(self.alloc);
-        let status = run(self.alloc, words, &mut self.trickle, &mut out);
+        let status = run(
+            self.alloc,
+            words,
+            &mut self.trickle,
+            &mut out,
+            Vec::new(self.alloc),
+        );
         compare(self.alloc, &said.line, out.bytes())?;
         compare(self.alloc, &[said.status.code()], &[status.code()])
     }

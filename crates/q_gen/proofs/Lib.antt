@@ -1,0 +1,5 @@
+pub mod Blocks
+pub mod Drawing
+pub mod Words
+pub mod Rows
+pub mod Files

@@ -1,0 +1,10 @@
+//! Random formulas, the same at each call: a formula is determined by its seed and its size.
+#![tactic(auto)]
+
+mod clauses;
+mod formula;
+mod output;
+mod prefix;
+
+pub use formula::generate;
+pub use output::write_generated;

@@ -1,0 +1,42 @@
+ghost use Rattle.std.specs.Prelude.{◌≡◌, ◌≤◌, List, ℕ, OnOk, OnErr, IsErrOf, IfSome};
+ghost use Rattle.q_io.specs.Files.{Rose};
+ghost use Rattle.q_gen.specs.Outputs.{HoldsGenerated, HoldsGeneratedPart};
+
+use crate::formula::generate;
+use q_dimacs::write;
+use q_io::{DeviceError, Files};
+use std::alloc::Global;
+
+/// Creates the file with the canonical text of the formula of this seed and this size.
+pub fn write_generated<F: Files>(
+    alloc: Global,
+    files: &mut F,
+    name: &str,
+    seed: u64,
+    size: u32,
+) -> Result<(), DeviceError>
+    requires { size ≤ 100000 }
+    ensures whole { OnOk result (IfSome (F.held files.old)
+        (λ disk. HoldsGenerated name.now seed size disk (F.held files.new))) }
+    ensures part { OnErr result (IfSome (F.held files.old)
+        (λ disk. HoldsGeneratedPart name.now seed size disk (F.held files.new))) }
+    ensures cause { IsErrOf result DeviceError.Failed →
+        Rose (F.write_faults files.old name.now) (F.write_faults files.new name.now) }
+    ensures read_later { (q : List ℕ) → F.read_faults files.old q ≤ F.read_faults files.new q }
+    ensures write_later { (q : List ℕ) → F.write_faults files.old q ≤ F.write_faults files.new q }
+{
+    let Ok(formula) = generate(alloc, seed, size) else {
+        return Err(DeviceError::NoMemory);
+    };
+    let mut text = Vec::new(alloc);
+    let Ok(()) = write(&formula, &mut text) else {
+        return Err(DeviceError::NoMemory);
+    };
+    if let Err(error) = files.create(name) {
+        return Err(error);
+    }
+    match files.append(name, &text) {
+        Ok(()) => Ok(()),
+        Err(error) => Err(error),
+    }
+}
