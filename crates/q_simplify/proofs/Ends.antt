@@ -6,11 +6,11 @@ use Rattle.q_logic.specs.Sweep.{IsSwept, swept, falsity}
 use Rattle.q_logic.specs.Measure.{measure_of}
 use Rattle.q_kernel.specs.Kernels.{Seen, slots, formula_in}
 use Rattle.q_simplify.specs.declared.options.Options.{Options}
-use Rattle.q_simplify.specs.declared.turn.Turn.{Turn}
-use Rattle.q_simplify.specs.declared.turn.Turn.TheVariants.{Moved, Settled, Spent}
-use Rattle.q_sched.specs.Settled.{IsSettled}
-use Rattle.q_sched.specs.Settled.{IsDone}
-use Rattle.q_simplify.specs.Turns.{IsSpent, Stops}
+use Rattle.q_simplify.specs.declared.stop.Stop.{Stop}
+use Rattle.q_simplify.specs.declared.stop.Stop.TheVariants.{Settled, Spent}
+use Rattle.q_sched.specs.Settled.{IsSettled, IsDone}
+use Rattle.q_sched.specs.Drives.{IsSpentAt}
+use Rattle.q_simplify.specs.Stops.{Stops}
 use Rattle.q_simplify.specs.Results.{EndsAs, ends_as, by_clauses}
 use Rattle.q_simplify.proofs.Renumbering.{none-numbered, numbered-none}
 
@@ -29,10 +29,9 @@ by-clauses o F G ([] ∷ X) e s = (s, sym s.swept ∙ only-empty G X e)
 by-clauses o F G ((k ∷ C) ∷ X) e s = (s, (λ n. let f : (k ∷ C) ∷ X ≡ [] = sym e ∙ n in cc), (λ n. let f : (k ∷ C) ∷ X ≡ [] ∷ [] = sym e ∙ ap (λ (H : PrenexFormula). H.matrix) n in cc))
 
 -- the kernel may have gone on to another state with the same formula
-pub ends : (last : Turn) (o : Options) (first : ℕ) (F G : PrenexFormula) (k : Seen) → first ≡ measure_of o.bounds F → G ≡ formula_in k → IsSwept (formula_in k) → Stops last o.bounds o.budget first k → EndsAs (ends_as last G) o F G
-ends Moved o first F G k m g s h = elim h [ ]
+pub ends : (last : Stop) (o : Options) (first : ℕ) (F G : PrenexFormula) (k : Seen) → first ≡ measure_of o.bounds F → G ≡ formula_in k → IsSwept (formula_in k) → Stops last o.bounds o.budget first k → EndsAs (ends_as last G) o F G
 ends Settled o first F G k m g s h = by-clauses o F G G.matrix refl (subst (λ (H : PrenexFormula). IsSettled o.bounds H) (sym g) (done-settled o.bounds k s h))
 ends Spent o first F G k m g s h = (
   (λ n. h.1 (settled-done o.bounds k (subst (λ (H : PrenexFormula). IsSettled o.bounds H) g n))),
-  subst (λ (f : ℕ). IsSpent o.budget f (measure_of o.bounds G)) m (subst (λ (H : PrenexFormula). IsSpent o.budget first (measure_of o.bounds H)) (sym g) h.0),
+  subst (λ (f : ℕ). IsSpentAt o.budget f (measure_of o.bounds G)) m (subst (λ (H : PrenexFormula). IsSpentAt o.budget first (measure_of o.bounds H)) (sym g) h.0),
 )

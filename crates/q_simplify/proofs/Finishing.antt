@@ -20,7 +20,7 @@ use Rattle.q_logic.specs.Sweep.{occurring, swept}
 use Rattle.q_logic.proofs.Settling.{settled-nothing}
 use Rattle.q_dimacs.specs.Writing.{formula_text}
 use Rattle.q_sched.specs.Settled.{IsSettled, NoneApplies}
-use Rattle.q_simplify.specs.Turns.{IsSpent}
+use Rattle.q_sched.specs.Drives.{IsSpentAt}
 use Rattle.q_simplify.specs.declared.report.Ending.{Ending}
 use Rattle.q_simplify.specs.declared.report.Ending.TheVariants as ending
 use Rattle.q_simplify.proofs.Logging.{at_some, take-front}
@@ -120,10 +120,10 @@ small-nothing (C ∷ X) h = absurd (omega arith)
 -- a budget that the measure does not pass is not spent
 pub never-spent : (o : Options) (F G : PrenexFormula) (r : Report) → IsReport o F r G → r.ending ≡ ending.Spent → IsEnoughFor o.budget (measure_of o.bounds F) → ⊥
 never-spent o F G r i e n =
-    let s : (¬ IsSettled o.bounds G) × IsSpent o.budget (measure_of o.bounds F) (measure_of o.bounds G) = subst (λ (x : Ending). EndsAs x o F G) e i.ending in
+    let s : (¬ IsSettled o.bounds G) × IsSpentAt o.budget (measure_of o.bounds F) (measure_of o.bounds G) = subst (λ (x : Ending). EndsAs x o F G) e i.ending in
     go o.budget n s.1 s.0
   where
-    go : (b : Option ℕ) → IsEnoughFor b (measure_of o.bounds F) → IsSpent b (measure_of o.bounds F) (measure_of o.bounds G) → (¬ IsSettled o.bounds G) → ⊥
+    go : (b : Option ℕ) → IsEnoughFor b (measure_of o.bounds F) → IsSpentAt b (measure_of o.bounds F) (measure_of o.bounds G) → (¬ IsSettled o.bounds G) → ⊥
     go None n s t = s
     go (Some b) n s t =
         let z : size_of G.matrix ≤ 0 = grind arith in

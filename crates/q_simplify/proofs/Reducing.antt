@@ -13,10 +13,10 @@ use Rattle.q_kernel.specs.Kernels.{Seen, slots, formula_in, IsSound}
 use Rattle.q_kernel.specs.Changes.{IsLed}
 use Rattle.q_kernel.specs.Taking.{IsReady}
 use Rattle.q_simplify.specs.declared.options.Options.{Options}
-use Rattle.q_simplify.specs.declared.turn.Turn.{Turn}
+use Rattle.q_simplify.specs.declared.stop.Stop.{Stop}
 use Rattle.q_simplify.specs.declared.report.Report.{Report}
 use Rattle.q_simplify.specs.declared.report.Ending.{Ending}
-use Rattle.q_simplify.specs.Turns.{Stops}
+use Rattle.q_simplify.specs.Stops.{Stops}
 use Rattle.q_simplify.specs.Logs.{HasLog, LeavesLog}
 use Rattle.q_simplify.specs.Results.{IsReport, EndsAs, ends_as}
 use Rattle.q_simplify.proofs.Logging.{has_log-begin, has_log-led, has_log-left, same-formula}
@@ -43,7 +43,7 @@ no_bytes [] h = refl
 no_bytes (x ∷ xs) h = absurd (omega arith)
 
 -- the report, where the kernel k is that of the end of the turns and m that of the flushed log
-pub reports : (o : Options) (F G : PrenexFormula) (k m : Seen) (last : Turn) (r : Report) → IsReady k → Stops last o.bounds o.budget r.before k → m.prefix ≡ k.prefix → slots m ≡ slots k → IsSound m → G ≡ formula_in m → r.before ≡ measure_of o.bounds F → r.after ≡ measure_of o.bounds (formula_in m) → r.ending ≡ ends_as last G → IsReport o F r G
+pub reports : (o : Options) (F G : PrenexFormula) (k m : Seen) (last : Stop) (r : Report) → IsReady k → Stops last o.bounds o.budget r.before k → m.prefix ≡ k.prefix → slots m ≡ slots k → IsSound m → G ≡ formula_in m → r.before ≡ measure_of o.bounds F → r.after ≡ measure_of o.bounds (formula_in m) → r.ending ≡ ends_as last G → IsReport o F r G
 reports o F G k m last r d s p q w g b a e =
     let f : formula_in m ≡ formula_in k = same-formula k m p q in
     let gk : G ≡ formula_in k = g ∙ f in

@@ -20,7 +20,7 @@ use Rattle.q_logic.specs.InLimits.{greatest}
 use Rattle.q_logic.proofs.Slots.{others-slot}
 use Rattle.q_reduce.proofs.Walks.{others-find}
 use Rattle.q_sched.specs.Moves.{rank_of, rules}
-use Rattle.q_sched.specs.Settled.{HasRule, NoneApplies}
+use Rattle.q_sched.specs.Settled.{NoneApplies}
 
 pub live-numbered : (X : Matrix) → live (numbered X) ≡ X
 live-numbered [] = refl

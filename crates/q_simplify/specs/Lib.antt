@@ -1,4 +1,4 @@
-pub mod Turns
+pub mod Stops
 pub mod Logs
 pub mod Outputs
 pub mod Results

@@ -17,10 +17,10 @@ use Rattle.q_simplify.specs.declared.options.Options.{Options}
 use Rattle.q_simplify.specs.declared.report.Report.{Report}
 use Rattle.q_simplify.specs.declared.report.Ending.{Ending}
 use Rattle.q_simplify.specs.declared.report.Ending.TheVariants as ending
-use Rattle.q_simplify.specs.declared.turn.Turn.{Turn}
-use Rattle.q_simplify.specs.declared.turn.Turn.TheVariants as turn
+use Rattle.q_simplify.specs.declared.stop.Stop.{Stop}
+use Rattle.q_simplify.specs.declared.stop.Stop.TheVariants as stop
 use Rattle.q_sched.specs.Settled.{IsSettled}
-use Rattle.q_simplify.specs.Turns.{IsSpent}
+use Rattle.q_sched.specs.Drives.{IsSpentAt}
 use Rattle.q_simplify.specs.Logs.{MayHoldSteps}
 
 -- how it ends, by why no further turn comes and by the clauses that are left
@@ -29,17 +29,16 @@ by_clauses [] = ending.True
 by_clauses ([] ∷ X) = ending.False
 by_clauses ((k ∷ C) ∷ X) = ending.Settled
 
-abbrev pub ends_as : Turn → PrenexFormula → Ending
-ends_as turn.Spent G = ending.Spent
-ends_as turn.Settled G = by_clauses G.matrix
-ends_as turn.Moved G = by_clauses G.matrix
+abbrev pub ends_as : Stop → PrenexFormula → Ending
+ends_as stop.Spent G = ending.Spent
+ends_as stop.Settled G = by_clauses G.matrix
 
 -- how it ended, from F to G: settled, with no clause, with the empty clause or with others; or with the budget spent
 abbrev pub EndsAs : Ending → Options → PrenexFormula → PrenexFormula → Type 0
 EndsAs ending.Settled o F G = IsSettled o.bounds G × (G.matrix ≢ []) × (G ≢ falsity)
 EndsAs ending.True o F G = IsSettled o.bounds G × (G.matrix ≡ [])
 EndsAs ending.False o F G = IsSettled o.bounds G × (G ≡ falsity)
-EndsAs ending.Spent o F G = (¬ IsSettled o.bounds G) × IsSpent o.budget (measure_of o.bounds F) (measure_of o.bounds G)
+EndsAs ending.Spent o F G = (¬ IsSettled o.bounds G) × IsSpentAt o.budget (measure_of o.bounds F) (measure_of o.bounds G)
 
 -- the report is that of F and of the swept G, and G is the formula of its text
 pub record IsReport (o : Options) (F : PrenexFormula) (r : Report) (G : PrenexFormula) : Type 0 where

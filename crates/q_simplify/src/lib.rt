@@ -1,12 +1,12 @@
 //! A formula is simplified by the rules that there are, and each change goes into a log.
 #![tactic(auto)]
 
-mod agenda;
+mod driving;
 mod log_file;
 mod options;
 mod output;
 mod report;
-mod turn;
+mod stop;
 mod work;
 
 pub use options::Options;

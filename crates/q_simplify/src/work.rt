@@ -1,5 +1,5 @@
 // Simplification from the formula read to the files written.
-ghost use Rattle.std.specs.Prelude.{◌≡◌, ◌≢◌, ◌≤◌, ◌⊎◌, [], List, ℕ, IfOk, OnOk, OnErr, IfSome, IsErrOf};
+ghost use Rattle.std.specs.Prelude.{◌≡◌, ◌≢◌, ◌≤◌, ◌^◌, ◌⊎◌, [], List, ℕ, IfOk, OnOk, OnErr, IfSome, IsErrOf};
 ghost use Rattle.q_logic.specs.Formulas.{PrenexFormula};
 ghost use Rattle.q_logic.specs.Limits.{standard};
 ghost use Rattle.q_logic.specs.InLimits.{IsInLimits};
@@ -8,74 +8,28 @@ ghost use Rattle.q_logic.specs.Measure.{measure_of};
 ghost use Rattle.q_io.specs.Files.{Disk, Empties, Rose};
 ghost use Rattle.q_kernel.specs.Kernels.{formula_in};
 ghost use Rattle.q_kernel.specs.Taking.{AreModest, IsReady};
-ghost use Rattle.q_simplify.specs.Turns.{Stops};
-ghost use Rattle.q_simplify.specs.Logs.{HasLog, LeavesLog};
+ghost use Rattle.q_simplify.specs.Logs.{LeavesLog};
 ghost use Rattle.q_simplify.specs.Results.{IsReport, Leaves, LeadsTo, Simplifies, ends_as};
 
-use crate::agenda::Agenda;
+use crate::driving::follow;
 use crate::log_file::flush;
 use crate::options::Options;
 use crate::output::write_output;
 use crate::report::{Ending, Report};
-use crate::turn::{Turn, take_turn};
+use crate::stop::Stop;
 use q_io::{DeviceError, Files};
 use q_kernel::Kernel;
-use q_logic::Formula;
-use q_sched::Searches;
+use q_logic::{Bounds, Formula};
+use q_sched::Guide;
 use std::alloc::Global;
 
-// So many bytes of the log are pending before they are written.
-const PENDING: usize = 65_536;
-
-// Takes targets until there is none or the budget is spent.
-fn drive<F: Files>(
-    alloc: Global,
-    files: &mut F,
-    log: &str,
-    kernel: &mut Kernel,
-    options: &Options,
-    first: u64,
-) -> Result<Turn, DeviceError>
-    requires ready { IsReady kernel.old }
-    requires bounds { AreModest options.now.bounds }
-    ensures ready { IsReady kernel.new }
-    ensures stops { IfOk result (λ t. Stops t options.now.bounds options.now.budget first kernel.new) }
-    ensures log { (G : PrenexFormula) → (before : Disk) →
-        HasLog G log.now before kernel.old (F.held files.old) →
-        OnOk result (HasLog G log.now before kernel.new (F.held files.new)) }
-    ensures log_left { (G : PrenexFormula) → (before : Disk) →
-        HasLog G log.now before kernel.old (F.held files.old) →
-        OnErr result (LeavesLog G log.now before (F.held files.new)) }
-    ensures cause { IsErrOf result DeviceError.Failed →
-        Rose (F.write_faults files.old log.now) (F.write_faults files.new log.now) }
-    ensures read_later { (q : List ℕ) → F.read_faults files.old q ≤ F.read_faults files.new q }
-    ensures write_later { (q : List ℕ) → F.write_faults files.old q ≤ F.write_faults files.new q }
-{
-    let mut searches = Searches::new(alloc);
-    let Ok(mut agenda) = Agenda::start(alloc, kernel) else {
-        return Err(DeviceError::NoMemory);
-    };
-    loop {
-        match take_turn(kernel, &mut searches, &mut agenda, options, first) {
-            Ok(Turn::Moved) => {
-                if let Err(error) = flush(files, log, kernel, PENDING) {
-                    return Err(error);
-                }
-            }
-            Ok(Turn::Settled) => return Ok(Turn::Settled),
-            Ok(Turn::Spent) => return Ok(Turn::Spent),
-            Err(_) => return Err(DeviceError::NoMemory),
-        }
-    }
-}
-
 // How it ended, by the clauses that are left.
-fn ending_of(last: Turn, formula: &Formula) -> Ending
+fn ending_of(last: Stop, formula: &Formula) -> Ending
     ensures { result ≡ ends_as last formula.now }
 {
     match last {
-        Turn::Spent => Ending::Spent,
-        _ => {
+        Stop::Spent => Ending::Spent,
+        Stop::Settled => {
             if formula.clauses() == 0 {
                 Ending::True
             } else if formula.clause(0).is_empty() {
@@ -85,6 +39,16 @@ fn ending_of(last: Turn, formula: &Formula) -> Ending
             }
         }
     }
+}
+
+// The measure of the formula as it came.
+fn first_measure(kernel: &Kernel, bounds: &Bounds) -> u64
+    requires { AreModest bounds.now }
+    ensures value { result ≡ measure_of bounds.now (formula_in kernel.now) }
+    ensures small { result ≤ 2 ^ 60 }
+{
+    kernel.sound();
+    kernel.measure(bounds)
 }
 
 // The formula that is left, and what there is to say of it.
@@ -101,6 +65,7 @@ fn reduce<F: Files>(
     log: &str,
     kernel: &mut Kernel,
     options: &Options,
+    guides: Vec<Box<dyn Guide>>,
 ) -> Result<Reduced, DeviceError>
     requires limits { IsInLimits standard (formula_in kernel.old) }
     requires text { kernel.old.text ≡ [] }
@@ -115,11 +80,11 @@ fn reduce<F: Files>(
     ensures read_later { (q : List ℕ) → F.read_faults files.old q ≤ F.read_faults files.new q }
     ensures write_later { (q : List ℕ) → F.write_faults files.old q ≤ F.write_faults files.new q }
 {
-    let before = kernel.measure(&options.bounds);
+    let before = first_measure(kernel, &options.bounds);
     let Ok(()) = kernel.sweep() else {
         return Err(DeviceError::NoMemory);
     };
-    let last = match drive(alloc, files, log, kernel, options, before) {
+    let last = match follow(files, log, kernel, options, before, guides) {
         Ok(last) => last,
         Err(error) => return Err(error),
     };
@@ -147,6 +112,7 @@ fn reduce_formula<F: Files>(
     log: &str,
     formula: &Formula,
     options: &Options,
+    guides: Vec<Box<dyn Guide>>,
 ) -> Result<Reduced, DeviceError>
     requires limits { IsInLimits standard formula.now }
     requires bounds { AreModest options.now.bounds }
@@ -163,7 +129,7 @@ fn reduce_formula<F: Files>(
     let Ok(mut kernel) = Kernel::start(alloc, formula) else {
         return Err(DeviceError::NoMemory);
     };
-    match reduce(alloc, files, log, &mut kernel, options) {
+    match reduce(alloc, files, log, &mut kernel, options, guides) {
         Ok(reduced) => Ok(reduced),
         Err(error) => Err(error),
     }
@@ -179,6 +145,7 @@ pub fn simplify<F: Files>(
     output: &str,
     log: &str,
     options: &Options,
+    guides: Vec<Box<dyn Guide>>,
 ) -> Result<Report, DeviceError>
     requires proper { IsProper formula.now }
     requires limits { IsInLimits standard formula.now }
@@ -197,7 +164,7 @@ pub fn simplify<F: Files>(
     if let Err(error) = files.create(log) {
         return Err(error);
     }
-    let reduced = match reduce_formula(alloc, files, log, formula, options) {
+    let reduced = match reduce_formula(alloc, files, log, formula, options, guides) {
         Ok(reduced) => reduced,
         Err(error) => return Err(error),
     };

@@ -1,0 +1,26 @@
+use Rattle.std.proofs.Common.{◌≤◌, ◌+◌, List, ℕ}
+use Rattle.q_logic.specs.Formulas.{PrenexFormula}
+use Rattle.q_logic.specs.Measure.{measure_of}
+use Rattle.q_io.specs.Files.{Disk}
+use Rattle.q_kernel.specs.Kernels.{formula_in}
+use Rattle.q_kernel.specs.Taking.{IsReady}
+use Rattle.q_reduce.specs.Lent.{IsFitFor}
+use Rattle.q_sched.specs.Drives.{left_of, SameFrame}
+use Rattle.q_sched.specs.Seen.{seen, lent}
+use Rattle.q_simplify.specs.Logs.{HasLog}
+use Rattle.q_simplify.proofs.driving.take_turns.Given as goal
+
+abbrev pub invariant-loop-files : goal.invariant-loop-files
+invariant-loop-files g l =
+    record {
+      frame : SameFrame (seen (λ b. (goal.Guide-dyn g (b.vtable, b.value)).asked b.value) (λ b. (goal.Guide-dyn g (b.vtable, b.value)).last b.value) l.fn.drive) (seen (λ b. (goal.Guide-dyn g (b.vtable, b.value)).asked b.value) (λ b. (goal.Guide-dyn g (b.vtable, b.value)).last b.value) l.drive);
+      ready : IsReady l.kernel;
+      fit : IsFitFor l.kernel (lent l.drive);
+      log : (G : PrenexFormula) → (before : Disk) → HasLog G l.log before l.fn.kernel (g.F.Files.held l.fn.files) → HasLog G l.log before l.kernel (g.F.Files.held l.files);
+      read_later : (q : List ℕ) → g.F.Files.read_faults l.fn.files q ≤ g.F.Files.read_faults l.files q;
+      write_later : (q : List ℕ) → g.F.Files.write_faults l.fn.files q ≤ g.F.Files.write_faults l.files q;
+    }
+
+abbrev pub decreases-loop-files : goal.decreases-loop-files
+decreases-loop-files g l =
+    measure_of (seen (λ b. (goal.Guide-dyn g (b.vtable, b.value)).asked b.value) (λ b. (goal.Guide-dyn g (b.vtable, b.value)).last b.value) l.fn.drive).bounds (formula_in l.kernel) + left_of (seen (λ b. (goal.Guide-dyn g (b.vtable, b.value)).asked b.value) (λ b. (goal.Guide-dyn g (b.vtable, b.value)).last b.value) l.drive)
