@@ -3,7 +3,8 @@ ghost use Rattle.std.specs.Prelude.{◌≡◌, ◌↔◌, ℕ, List, Ok};
 ghost use Rattle.q_logic.specs.declared.limits.Limits.{Limits};
 ghost use Rattle.q_logic.specs.Formulas.{PrenexFormula};
 ghost use Rattle.q_dimacs.specs.Dimacs.{Dimacs, AreWithin};
-ghost use Rattle.q_logic.specs.Limits.{AreModerate};
+ghost use Rattle.q_logic.specs.InLimits.{IsInLimits};
+ghost use Rattle.q_logic.specs.Limits.{AreModerate, standard};
 ghost use Rattle.q_logic.specs.Parts.{IsProper};
 ghost use Rattle.q_dimacs.specs.Writing.{formula_text, KeepsLimits};
 ghost use Rattle.q_dimacs.specs.Offences.{parse};
@@ -25,4 +26,10 @@ pub fn written_is_read()
     ensures { (limits : Limits) → (formula : PrenexFormula)
         → AreModerate limits → IsProper formula → KeepsLimits limits formula
         → Dimacs limits (formula_text formula) formula }
+{}
+
+/// The canonical text of a formula within the limits of the program is read as this formula.
+pub fn written_within_limits_is_read()
+    ensures { (formula : PrenexFormula) → IsProper formula → IsInLimits standard formula
+        → Dimacs standard (formula_text formula) formula }
 {}
