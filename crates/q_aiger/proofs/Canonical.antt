@@ -85,11 +85,11 @@ odd-of k true = let z : (2 * k + 1) % 2 ≡ 1 = omega arith in ap (λ (j : ℕ).
 odd-of k false = let z : (2 * k + 0) % 2 ≡ 0 = omega arith in ap (λ (j : ℕ). j == 1) (sym z)
 
 -- The variables.
-length-vars : (i n : ℕ) → length (vars_from i n) ≡ n
+pub length-vars : (i n : ℕ) → length (vars_from i n) ≡ n
 length-vars i zero = refl
 length-vars i (suc n) = ap suc (length-vars (i + 1) n)
 
-vars-at : (i n k : ℕ) → k < n → get_or (vars_from i n) k 0 ≡ i + k
+pub vars-at : (i n k : ℕ) → k < n → get_or (vars_from i n) k 0 ≡ i + k
 vars-at i zero k lt = absurd (omega arith)
 vars-at i (suc n) zero lt = omega arith
 vars-at i (suc n) (suc k) lt = let h = vars-at (i + 1) n k (omega arith) in omega arith
@@ -206,7 +206,7 @@ all-by-index : {X : Type 0} (P : X → Type 0) (d : X) (xs : List X) → ((i : �
 all-by-index P d [] f = tt
 all-by-index P d (x ∷ xs) f = (f 0 (omega arith), all-by-index P d xs (λ i lt. f (suc i) (omega arith)))
 
-gates-there : (n b : ℕ) (gs : List Gate) (k : ℕ) → AreGates n b gs → k < length gs → IsThere n (b + k) (get_or gs k no_gate).left.node × IsThere n (b + k) (get_or gs k no_gate).right.node
+pub gates-there : (n b : ℕ) (gs : List Gate) (k : ℕ) → AreGates n b gs → k < length gs → IsThere n (b + k) (get_or gs k no_gate).left.node × IsThere n (b + k) (get_or gs k no_gate).right.node
 gates-there n b [] k h lt = absurd (omega arith)
 gates-there n b (g ∷ gs) zero h lt = let z : b + 0 ≡ b = omega arith in subst (λ (m : ℕ). IsThere n m g.left.node × IsThere n m g.right.node) (sym z) (h.0, h.1)
 gates-there n b (g ∷ gs) (suc k) h lt = let z : b + suc k ≡ b + 1 + k = omega arith in subst (λ (m : ℕ). IsThere n m (get_or gs k no_gate).left.node × IsThere n m (get_or gs k no_gate).right.node) (sym z) (gates-there n (b + 1) gs k h.2 (omega arith))

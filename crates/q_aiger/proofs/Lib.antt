@@ -22,3 +22,5 @@ pub mod Fronts
 pub mod Spelling
 pub mod Rows
 pub mod Canonical
+pub mod Values
+pub mod RoundTrip

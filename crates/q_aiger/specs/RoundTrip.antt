@@ -5,6 +5,7 @@ use Rattle.q_logic.specs.Circuits.{value_of}
 use Rattle.q_logic.specs.Certificates.{CertificateView, IsThere, AreGates, tree_of}
 use Rattle.q_aiger.specs.Cones.{no_output}
 use Rattle.q_aiger.specs.Symbols.{AreApart}
+use Rattle.q_aiger.specs.Grammar.{Circuits}
 use Rattle.q_aiger.specs.Writing.{names_of}
 
 -- each name is a variable, and none is above the limit or stands twice
@@ -26,3 +27,9 @@ pub record HaveSameValues (c d : CertificateView) : Type 0 where
   pub inputs : d.inputs ≡ c.inputs
   pub names : names_of d.outputs ≡ names_of c.outputs
   pub values : (i : ℕ) → i < length c.outputs → (A : Assignment) → value_of (tree_of d (slice_index_or d.outputs i no_output).operand) A ≡ value_of (tree_of c (slice_index_or c.outputs i no_output).operand) A
+
+-- the text is in the grammar, and whatever circuits it has have the values of the certificate
+pub record IsReadAs (c : CertificateView) (text : List ℕ) : Type 0 where
+  pub circuits : CertificateView
+  pub file : Circuits text circuits
+  pub same : (d : CertificateView) → Circuits text d → HaveSameValues c d

@@ -3,6 +3,8 @@ ghost use Rattle.std.specs.Prelude.{◌↔◌, ℕ, List};
 ghost use Rattle.q_logic.specs.Certificates.{CertificateView};
 ghost use Rattle.q_aiger.specs.Circuits.{AreCircuits, Offence};
 ghost use Rattle.q_aiger.specs.Grammar.{Circuits};
+ghost use Rattle.q_aiger.specs.Writing.{IsCanonical};
+ghost use Rattle.q_aiger.specs.RoundTrip.{IsSpellable, IsReadAs};
 ghost use Rattle.q_aiger.specs.Alike.{AreAlike, IsNoCircuits};
 
 /// A text is in the grammar exactly where its lines have no offence, and its circuits are those of the grammar.
@@ -20,4 +22,11 @@ pub fn one_text_has_one_meaning()
 /// A text with an offence holds no circuits.
 pub fn an_offence_leaves_no_circuits()
     ensures { (bytes : List ℕ) → (line : ℕ) → (cause : ℕ) → Offence bytes line cause → IsNoCircuits bytes }
+{}
+
+/// The canonical text of a certificate that keeps the limits is read as circuits of the same inputs, names and values.
+pub fn written_is_read()
+    ensures { (certificate : CertificateView) → (gates : ℕ) → (text : List ℕ)
+        → IsCanonical certificate gates text → IsSpellable certificate gates text
+        → IsReadAs certificate text }
 {}

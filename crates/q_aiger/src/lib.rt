@@ -15,6 +15,8 @@ mod symbols;
 mod writer;
 
 pub use error::AigerError;
-pub use laws::{an_offence_leaves_no_circuits, grammar_is_read, one_text_has_one_meaning};
+pub use laws::{
+    an_offence_leaves_no_circuits, grammar_is_read, one_text_has_one_meaning, written_is_read,
+};
 pub use reader::read;
 pub use writer::write;
