@@ -3,8 +3,10 @@
 
 mod clauses;
 mod formula;
+mod laws;
 mod output;
 mod prefix;
 
 pub use formula::generate;
+pub use laws::generated_is_read;
 pub use output::write_generated;
