@@ -1,101 +1,106 @@
 #!/usr/bin/env bash
-# Runs the families of bench/ at small sizes, and writes a table of time and memory to TABLE.tsv, and a plot beside it where
-# gnuplot or matplotlib is installed. Sizes are clauses or variables of a family. Where DepQBF is installed, it gets the
-# formula before and after, for ten seconds each. Usage: bench/run.sh [-s SCALE] [-o TABLE.tsv] [FAMILY ..]
-# With -s 10 all sizes are ten times as large. FAMILY is random, units, mixed, cuts or ring (bench/simplify.sh), or chains
-# (bench/chains.sh, which has a log of its own, so it is only checked); all by default. bench/read.sh and bench/proofs.sh
-# have one size, or sizes of another kind, and stand alone.
+# Measures families of formulas from small to large, and writes a table of time and memory, and plots of both against size.
+#
+#   bench/run.sh [-r RUNGS] [-t SECONDS] [-w NAME=PROGRAM] [-o TABLE.tsv] [FAMILY ..]
+#
+# FAMILY is one of bench/families.py (its `list` says what they are) or `chains`, which has a log of its own and is only
+# checked; all of them by default. The sizes give about 1,000, 4,000, 16,000, 64,000, 256,000 and 1,000,000 clauses; RUNGS
+# says how many of them are run, 3 by default. SECONDS is the time that each run gets, 20 by default.
+#
+# Beside `simplify` and `check` stand, where they are installed: MiniSat and CaDiCaL as preprocessors, for families without
+# universals; DepQBF on the formula before and after, for those with some. PROGRAM is another build of Celdrinn, or any program
+# with its words for `simplify`.
+#
+# Time is that of the processor. A dash means that the time was up. The family `others` stands for the scripts beside this
+# one, with their own sizes and words: reading, proofs of a SAT solver, circuits; what they say goes into files beside the table.
 set -eu
 cd "$(dirname "$0")/.."
-scale=1
+rungs=3
+limit=20
+beside=
 table=bench/out/table.tsv
-while getopts s:o: option; do
+while getopts r:t:w:o: option; do
     case $option in
-        s) scale=$OPTARG ;;
+        r) rungs=$OPTARG ;;
+        t) limit=$OPTARG ;;
+        w) beside=$OPTARG ;;
         o) table=$OPTARG ;;
         *) exit 64 ;;
     esac
 done
 shift $((OPTIND - 1))
-[ $# -gt 0 ] || set -- random units mixed cuts ring chains
+# shellcheck disable=SC2046
+[ $# -gt 0 ] || set -- $(bench/families.py list | sed -n 's/^\([a-z]\+\) .*/\1/p') chains
 mkdir -p "$(dirname "$table")"
-
 work=$(mktemp -d)
 trap 'rm -rf "$work"' EXIT
+./celdrinn --version >/dev/null
+./celdrinn >/dev/null || true
 
-# Runs a command without its output; puts its time, peak and status, with a dash where it was stopped.
-measured() {
-    python3 - "$@" <<'PYTHON'
-import os, subprocess, sys, time
+has() { command -v "$1" >/dev/null; }
 
-begun = time.monotonic()
-process = subprocess.Popen(sys.argv[1:], stdout=subprocess.DEVNULL, stderr=subprocess.DEVNULL)
-_, status, usage = os.wait4(process.pid, 0)
-seconds = time.monotonic() - begun
-code = os.waitstatus_to_exitcode(status)
-print("-\t-\t-" if code == 124 else f"{seconds:.3f}\t{usage.ru_maxrss // 1024}\t{code}")
-PYTHON
+# Runs a tool, and puts a line of the table: seconds, MiB, exit status, and what it said first.
+row() {
+    local tool=$1 taken
+    shift
+    /usr/bin/time -q -f '%U %S %M %x' -o "$work/taken" timeout "$limit" "$@" >"$work/said" 2>/dev/null || true
+    taken=$(tail -n 1 "$work/taken" | awk '{
+        if ($4 == 124) print "-\t-\t-"
+        else printf "%.2f\t%.1f\t%d", $1 + $2, $3 / 1024, $4 }')
+    printf '%s\t%s\t%s\t%s\t%s\t%s\n' "$family" "$size" "$clauses" "$tool" "$taken" \
+        "$(grep -v -e '^c' -e '^WARNING' "$work/said" | head -n 1 | cut -c 1-60)" | tee -a "$table"
 }
 
-printf 'family\tsize\ttool\tseconds\tMiB\tstatus\n' | tee "$table"
-for family in "$@"; do
-    for base in 1000 2000 4000 8000; do
-        size=$((base * scale))
-        row() { printf '%s\t%s\t%s\t%s\n' "$family" "$size" "$1" "$(shift && measured "$@")" | tee -a "$table"; }
-        if [ "$family" = chains ]; then
-            bench/chains.sh -f "$size" "$work"
-            row check ./celdrinn check "$work/in" "$work/out" "$work/log"
-            continue
-        fi
-        bench/simplify.sh -f "$family" "$size" "$work/in"
-        row simplify ./celdrinn simplify "$work/in" "$work/out" "$work/log"
+# The tools of others, on $work/in and what is left of it.
+others() {
+    if ! grep -q '^a' "$work/in"; then
+        # SAT solvers read no quantifiers
+        grep -v '^e' "$work/in" >"$work/cnf"
+        ! has minisat || row minisat minisat -verb=0 -dimacs="$work/left" "$work/cnf"
+        ! has cadical || row cadical cadical -q -P3 -c 0 -o "$work/left" "$work/cnf"
+    elif has depqbf; then
+        row depqbf-before depqbf "$work/in"
+        [ ! -s "$work/out" ] || row depqbf-after depqbf "$work/out"
+    fi
+}
+
+measure() {
+    family=$1
+    size=$2
+    rm -f "$work/out"
+    if [ "$family" = chains ]; then
+        bench/chains.sh -f "$size" "$work"
+        clauses=$size
         row check ./celdrinn check "$work/in" "$work/out" "$work/log"
-        if command -v depqbf >/dev/null; then
-            row depqbf-before timeout 10 depqbf "$work/in"
-            row depqbf-after timeout 10 depqbf "$work/out"
-        fi
+        return
+    fi
+    bench/families.py "$family" "$size" "$work/in"
+    clauses=$(sed -n '1s/.* //p' "$work/in")
+    row simplify ./celdrinn simplify "$work/in" "$work/out" "$work/log"
+    [ ! -s "$work/out" ] || row check ./celdrinn check "$work/in" "$work/out" "$work/log"
+    [ -z "$beside" ] || row "${beside%%=*}" "${beside#*=}" simplify "$work/in" "$work/left" "$work/left-log"
+    others
+}
+
+sizes() {
+    if [ "$1" = chains ]; then
+        echo 1000 4000 16000 64000 256000 1000000
+    else
+        bench/families.py list | sed -n "/^$1 /{n;p;}"
+    fi | tr -s ' ' '\n' | sed '/^$/d' | head -n "$rungs"
+}
+
+printf 'family\tsize\tclauses\ttool\tseconds\tMiB\tstatus\tline\n' | tee "$table"
+for name in "$@"; do
+    if [ "$name" = others ]; then
+        for script in read proofs circuits; do
+            [ ! -x "bench/$script.sh" ] || "bench/$script.sh" 2>&1 | tee "${table%.tsv}-$script.txt"
+        done
+        continue
+    fi
+    for size in $(sizes "$name"); do
+        measure "$name" "$size"
     done
 done
-
-plot=${table%.tsv}.png
-if command -v gnuplot >/dev/null; then
-    gnuplot <<GNUPLOT
-set terminal pngcairo size 1500,500
-set output "$plot"
-set multiplot layout 1,3
-set logscale xy
-set key left top
-set xlabel "size"
-families = "$*"
-of(f, tool) = "< awk '\$1 == \"".f."\" && \$3 == \"".tool."\"' $table"
-set title "simplify: seconds"
-plot for [f in families] of(f, "simplify") using 2:4 with linespoints title f
-set title "check: seconds"
-plot for [f in families] of(f, "check") using 2:4 with linespoints title f
-set title "simplify: MiB"
-plot for [f in families] of(f, "simplify") using 2:5 with linespoints title f
-GNUPLOT
-    echo "plot: $plot"
-elif python3 -c "import matplotlib" 2>/dev/null; then
-    python3 - "$table" "$plot" <<'PYTHON'
-import csv, sys
-import matplotlib
-
-matplotlib.use("Agg")
-import matplotlib.pyplot as plot
-
-rows = [row for row in csv.DictReader(open(sys.argv[1]), delimiter="\t") if row["tool"] == "simplify"]
-figure, axes = plot.subplots(1, 2, figsize=(10, 5))
-for axis, column in zip(axes, ("seconds", "MiB")):
-    for family in dict.fromkeys(row["family"] for row in rows):
-        points = [(int(row["size"]), float(row[column])) for row in rows if row["family"] == family]
-        axis.loglog(*zip(*points), marker="o", label=family)
-    axis.set(title="simplify: " + column, xlabel="size")
-    axis.legend()
-figure.savefig(sys.argv[2])
-PYTHON
-    echo "plot: $plot"
-else
-    echo "no plot: neither gnuplot nor matplotlib is installed"
-fi
 echo "table: $table"
+bench/plot.sh "$table"
