@@ -1,0 +1,5 @@
+use Rattle.q_reduce.specs.Lent.{IsFitFor}
+use Rattle.q_touched.proofs.cutting.collect_from.Given as goal
+
+abbrev pub invariant-loop-l : goal.invariant-loop-l
+invariant-loop-l l = IsFitFor l.kernel l.search

@@ -1,0 +1,105 @@
+//! Blocked clauses, and universal literals on which a clause is blocked.
+//!
+//! A clause can become blocked on a literal only where a clause with the negation goes, or loses a literal that clashed. So the literals wait whose negation
+//! stands in one clause less, and the clauses of one of them are tested one by one.
+ghost use Rattle.q_kernel.specs.Taking.{AreModest, IsReady};
+
+use crate::lists::gather;
+use crate::lits::Lits;
+use q_arena::ClauseId;
+use q_blocked::{Search, Target, applies};
+use q_kernel::Kernel;
+use q_logic::{Bounds, Lit, NoMemory};
+use q_rule::is_existential;
+use std::alloc::Global;
+
+#[derive(Drop)]
+pub(crate) struct Blocking {
+    waiting: Lits,
+    // the literal that is looked at, and its clauses that are still to be tested
+    on: Option<Lit>,
+    ids: Vec<ClauseId>,
+    search: Search,
+}
+
+impl Blocking {
+    /// It takes no memory.
+    pub(crate) fn new(alloc: Global) -> Blocking {
+        Blocking {
+            waiting: Lits::new(alloc),
+            on: None,
+            ids: Vec::new(alloc),
+            search: Search::new(alloc),
+        }
+    }
+
+    /// Some clause with the negation of the literal went.
+    pub(crate) fn touch(&mut self, index: u32) -> Result<(), NoMemory> {
+        self.waiting.push(index)
+    }
+
+    /// Literals with long lists wait with the others again.
+    pub(crate) fn release(&mut self) -> Result<(), NoMemory> {
+        self.waiting.release()
+    }
+
+    /// A target that applies, of a literal that stands in at most so many clauses.
+    pub(crate) fn next(
+        &mut self,
+        kernel: &Kernel,
+        bounds: &Bounds,
+        limit: u32,
+    ) -> Result<Option<Target>, NoMemory>
+        requires ready { IsReady kernel.now }
+        requires bounds { AreModest bounds.now }
+    {
+        for _ in 0..u64::MAX {
+            let found = self.next_in_list(kernel, bounds)?;
+            if found.is_some() {
+                return Ok(found);
+            }
+            if !self.take_list(kernel, limit)? {
+                return Ok(None);
+            }
+        }
+        Ok(None)
+    }
+
+    // Goes on to the next literal, if there is one.
+    fn take_list(&mut self, kernel: &Kernel, limit: u32) -> Result<bool, NoMemory> {
+        let Some(lit) = self.waiting.next(kernel, limit)? else {
+            return Ok(false);
+        };
+        self.on = Some(lit);
+        self.ids.clear();
+        gather(kernel, lit, &mut self.ids)?;
+        Ok(true)
+    }
+
+    fn next_in_list(&mut self, kernel: &Kernel, bounds: &Bounds) -> Result<Option<Target>, NoMemory>
+        requires ready { IsReady kernel.now }
+        requires bounds { AreModest bounds.now }
+    {
+        let Some(lit) = self.on else {
+            return Ok(None);
+        };
+        for _ in 0..self.ids.len() {
+            let Some(c) = self.ids.pop() else {
+                return Ok(None);
+            };
+            let target = target_on(kernel, c, lit);
+            if applies(kernel, &mut self.search, &target, bounds)? {
+                return Ok(Some(target));
+            }
+        }
+        Ok(None)
+    }
+}
+
+fn target_on(kernel: &Kernel, c: ClauseId, l: Lit) -> Target {
+    if is_existential(kernel, l.var()) {
+        Target::Blocked { c, l }
+    } else {
+        Target::BlockedForall { c, l }
+    }
+}

@@ -1,0 +1,107 @@
+//! Covered clauses.
+//!
+//! Such a test costs more than any other, so it comes after the other rules, and only clauses near a change are tested:
+//! those with a literal whose negation stands in one clause less, or that stands in a clause that came or became shorter. They are gathered
+//! at once and tested one by one, short ones first.
+ghost use Rattle.q_kernel.specs.Taking.{AreModest, IsReady};
+
+use crate::lists::{gather, lits_of};
+use crate::lits::Lits;
+use crate::marked::Marked;
+use q_arena::ClauseId;
+use q_blocked::{Search, Target, applies};
+use q_kernel::Kernel;
+use q_logic::{Bounds, NoMemory};
+use std::alloc::Global;
+
+#[derive(Drop)]
+pub(crate) struct Covering {
+    waiting: Lits,
+    // the clauses that are to be tested, by length and id, the first one last
+    batch: Vec<(u32, ClauseId)>,
+    gathered: Marked,
+    ids: Vec<ClauseId>,
+    search: Search,
+}
+
+impl Covering {
+    /// It takes no memory.
+    pub(crate) fn new(alloc: Global) -> Covering {
+        Covering {
+            waiting: Lits::new(alloc),
+            batch: Vec::new(alloc),
+            gathered: Marked::new(alloc),
+            ids: Vec::new(alloc),
+            search: Search::new(alloc),
+        }
+    }
+
+    /// The literal stands near a change.
+    pub(crate) fn touch(&mut self, index: u32) -> Result<(), NoMemory> {
+        self.waiting.push(index)
+    }
+
+    /// Literals with long lists wait with the others again.
+    pub(crate) fn release(&mut self) -> Result<(), NoMemory> {
+        self.waiting.release()
+    }
+
+    /// Gathers the clauses of all literals that wait and stand in at most so many clauses.
+    pub(crate) fn collect(&mut self, kernel: &Kernel, limit: u32) -> Result<(), NoMemory> {
+        self.batch.clear();
+        self.gather_ids(kernel, limit)?;
+        for _ in 0..self.gathered.len() {
+            let Some(c) = self.gathered.pop() else {
+                return Ok(());
+            };
+            let len = u32::try_from(lits_of(kernel, c).len()).unwrap_or(u32::MAX);
+            self.batch.push((len, c))?;
+        }
+        self.batch.sort_unstable();
+        self.batch.reverse();
+        Ok(())
+    }
+
+    fn gather_ids(&mut self, kernel: &Kernel, limit: u32) -> Result<(), NoMemory> {
+        for _ in 0..u64::MAX {
+            let Some(lit) = self.waiting.next(kernel, limit)? else {
+                return Ok(());
+            };
+            self.ids.clear();
+            gather(kernel, lit, &mut self.ids)?;
+            self.mark_ids()?;
+        }
+        Ok(())
+    }
+
+    fn mark_ids(&mut self) -> Result<(), NoMemory> {
+        for _ in 0..self.ids.len() {
+            let Some(c) = self.ids.pop() else {
+                return Ok(());
+            };
+            self.gathered.push(c)?;
+        }
+        Ok(())
+    }
+
+    /// A target that applies, among the clauses that were gathered.
+    pub(crate) fn next(
+        &mut self,
+        kernel: &Kernel,
+        bounds: &Bounds,
+    ) -> Result<Option<Target>, NoMemory>
+        requires ready { IsReady kernel.now }
+        requires bounds { AreModest bounds.now }
+    {
+        for _ in 0..self.batch.len() {
+            let Some((_, c)) = self.batch.pop() else {
+                return Ok(None);
+            };
+            let target = Target::Cover { c };
+            if applies(kernel, &mut self.search, &target, bounds)? {
+                return Ok(Some(target));
+            }
+        }
+        Ok(None)
+    }
+}

@@ -1,0 +1,115 @@
+//! Universal reduction over all places, in one batch.
+//!
+//! What a search learns of a formula holds for the kernel that it was lent, and a guide can't carry it from call to call. So
+//! one call gathers all cuts, and the next ones hand them out. A cut takes away a literal and nothing else, so those that were
+//! found with it go on to apply.
+ghost use Rattle.q_kernel.specs.Taking.{AreModest, IsReady};
+ghost use Rattle.q_reduce.specs.Lent.{IsFitFor};
+
+use crate::lists::lits_of;
+use q_arena::ClauseId;
+use q_kernel::Kernel;
+use q_logic::{Bounds, Lit, NoMemory};
+use q_reduce::{Search, Target, applies};
+use q_rule::{holds, is_universal};
+use std::alloc::Global;
+
+#[derive(Drop)]
+pub(crate) struct Cutting {
+    // clauses and the literals that may leave them, the first one last
+    batch: Vec<(ClauseId, Lit)>,
+    search: Search,
+}
+
+impl Cutting {
+    /// It takes no memory.
+    pub(crate) fn new(alloc: Global) -> Cutting {
+        Cutting {
+            batch: Vec::new(alloc),
+            search: Search::new(alloc),
+        }
+    }
+
+    /// Gathers all cuts that apply.
+    pub(crate) fn collect(&mut self, kernel: &Kernel, bounds: &Bounds) -> Result<(), NoMemory>
+        requires ready { IsReady kernel.now }
+        requires bounds { AreModest bounds.now }
+    {
+        self.batch.clear();
+        self.search.forget();
+        collect_all(kernel, bounds, &mut self.search, &mut self.batch)?;
+        self.batch.reverse();
+        Ok(())
+    }
+
+    /// The next one that still stands.
+    pub(crate) fn hand_out(&mut self, kernel: &Kernel) -> Option<Target> {
+        for _ in 0..self.batch.len() {
+            let (c, l) = self.batch.pop()?;
+            if holds(lits_of(kernel, c), l) {
+                return Some(Target::Cut { c, l });
+            }
+        }
+        None
+    }
+}
+
+fn collect_all(
+    kernel: &Kernel,
+    bounds: &Bounds,
+    search: &mut Search,
+    batch: &mut Vec<(ClauseId, Lit)>,
+) -> Result<(), NoMemory>
+    requires ready { IsReady kernel.now }
+    requires bounds { AreModest bounds.now }
+    requires fit { IsFitFor kernel.now search.old }
+{
+    let mut at = 0;
+    while let Some(c) = kernel.next_live(at) {
+        collect_from(kernel, bounds, search, batch, c)?;
+        let Some(after) = c.checked_add(1) else {
+            return Ok(());
+        };
+        at = after;
+    }
+    Ok(())
+}
+
+fn collect_from(
+    kernel: &Kernel,
+    bounds: &Bounds,
+    search: &mut Search,
+    batch: &mut Vec<(ClauseId, Lit)>,
+    c: ClauseId,
+) -> Result<(), NoMemory>
+    requires ready { IsReady kernel.now }
+    requires bounds { AreModest bounds.now }
+    requires fit { IsFitFor kernel.now search.old }
+    ensures fit { IsFitFor kernel.now search.new }
+{
+    for l in lits_of(kernel, c) {
+        if may_leave(kernel, bounds, search, c, *l)? {
+            batch.push((c, *l))?;
+        }
+    }
+    Ok(())
+}
+
+// Whether a literal is universal and may leave its clause.
+fn may_leave(
+    kernel: &Kernel,
+    bounds: &Bounds,
+    search: &mut Search,
+    c: ClauseId,
+    l: Lit,
+) -> Result<bool, NoMemory>
+    requires ready { IsReady kernel.now }
+    requires bounds { AreModest bounds.now }
+    requires fit { IsFitFor kernel.now search.old }
+    ensures fit { IsFitFor kernel.now search.new }
+{
+    if !is_universal(kernel, l.var()) {
+        return Ok(false);
+    }
+    applies(kernel, search, &Target::Cut { c, l }, bounds)
+}

@@ -1,0 +1,50 @@
+//! Expansion of the touched universal variables.
+ghost use Rattle.q_kernel.specs.Taking.{AreModest, IsReady};
+
+use crate::marked::Marked;
+use q_expand::{Search, Target, applies};
+use q_kernel::Kernel;
+use q_logic::{Bounds, NoMemory};
+use std::alloc::Global;
+
+#[derive(Drop)]
+pub(crate) struct Expanding {
+    waiting: Marked,
+    search: Search,
+}
+
+impl Expanding {
+    /// It takes no memory.
+    pub(crate) fn new(alloc: Global) -> Expanding {
+        Expanding {
+            waiting: Marked::new(alloc),
+            search: Search::new(alloc),
+        }
+    }
+
+    /// The universal variable is touched.
+    pub(crate) fn touch(&mut self, var: u32) -> Result<(), NoMemory> {
+        self.waiting.push(var)
+    }
+
+    /// A target that applies.
+    pub(crate) fn next(
+        &mut self,
+        kernel: &Kernel,
+        bounds: &Bounds,
+    ) -> Result<Option<Target>, NoMemory>
+        requires ready { IsReady kernel.now }
+        requires bounds { AreModest bounds.now }
+    {
+        for _ in 0..self.waiting.len() {
+            let Some(u) = self.waiting.pop() else {
+                return Ok(None);
+            };
+            let target = Target::Expand { u };
+            if applies(kernel, &mut self.search, &target, bounds)? {
+                return Ok(Some(target));
+            }
+        }
+        Ok(None)
+    }
+}

@@ -1,0 +1,22 @@
+//! The guide of `simplify`. It looks where something changed, so nearly every move is found without a pass over the formula
+//! (`strategy.rt`). What it proposes is tested again before it is taken, so nothing rests on it but how fast a formula
+//! becomes small.
+#![tactic(auto)]
+
+mod blocking;
+mod covering;
+mod cutting;
+mod eliminating;
+mod expanding;
+mod hooks;
+mod lists;
+mod lits;
+mod marked;
+mod merging;
+mod parts;
+mod settling;
+mod strategy;
+mod subsuming;
+mod touched;
+
+pub use touched::Touched;

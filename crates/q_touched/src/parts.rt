@@ -1,0 +1,123 @@
+//! What waits for each rule, and how it comes to wait: by what the kernel notes of its changes.
+//!
+//! | What was touched | What may apply now |
+//! |---|---|
+//! | a clause came, or lost a literal | a unit clause or a cut; it may be subsumed, or subsume others; merges by it where it has two literals; elimination and expansion of its variables; covering near its literals |
+//! | a literal stands in one clause less | its negation is pure, or clauses with the negation are blocked or covered; elimination and expansion of its variable |
+//! | a variable is fresh, or its block is one with a further one | all that concerns the variable |
+
+use crate::blocking::Blocking;
+use crate::covering::Covering;
+use crate::cutting::Cutting;
+use crate::eliminating::Eliminating;
+use crate::expanding::Expanding;
+use crate::lists::{index_of, lit_at, lits_of};
+use crate::merging::Merging;
+use crate::settling::Settling;
+use crate::subsuming::Subsuming;
+use q_arena::ClauseId;
+use q_kernel::{Kernel, Touch};
+use q_logic::{Lit, NoMemory, Quant};
+use std::alloc::Global;
+
+#[derive(Drop)]
+pub(crate) struct Parts {
+    pub settling: Settling,
+    pub subsuming: Subsuming,
+    pub merging: Merging,
+    pub eliminating: Eliminating,
+    pub blocking: Blocking,
+    pub expanding: Expanding,
+    pub covering: Covering,
+    pub cutting: Cutting,
+}
+
+impl Parts {
+    /// It takes no memory.
+    pub(crate) fn new(alloc: Global) -> Parts {
+        Parts {
+            settling: Settling::new(alloc),
+            subsuming: Subsuming::new(alloc),
+            merging: Merging::new(alloc),
+            eliminating: Eliminating::new(alloc),
+            blocking: Blocking::new(alloc),
+            expanding: Expanding::new(alloc),
+            covering: Covering::new(alloc),
+            cutting: Cutting::new(alloc),
+        }
+    }
+
+    /// Notes what a touch makes worth a look.
+    pub(crate) fn note(&mut self, kernel: &Kernel, touch: Touch) -> Result<(), NoMemory> {
+        match touch {
+            Touch::Clause(c) => self.note_clause(kernel, c),
+            Touch::Literal(l) => self.note_loss(kernel, l),
+            Touch::Variable(var) => self.note_variable(kernel, var),
+        }
+    }
+
+    /// Takes everything as touched.
+    pub(crate) fn note_all(&mut self, kernel: &Kernel) -> Result<(), NoMemory> {
+        self.note_clauses(kernel)?;
+        for var in 1..=kernel.greatest_var() {
+            self.note_variable(kernel, var)?;
+        }
+        Ok(())
+    }
+
+    fn note_clauses(&mut self, kernel: &Kernel) -> Result<(), NoMemory> {
+        self.subsuming.restart();
+        let mut at = 0;
+        while let Some(c) = kernel.next_live(at) {
+            self.settling.touch(kernel, c)?;
+            self.subsuming.hang(kernel, c)?;
+            let Some(after) = c.checked_add(1) else {
+                return Ok(());
+            };
+            at = after;
+        }
+        Ok(())
+    }
+
+    fn note_clause(&mut self, kernel: &Kernel, c: ClauseId) -> Result<(), NoMemory> {
+        let clause = lits_of(kernel, c);
+        if clause.len() == 2 {
+            self.merging.touch();
+        }
+        self.settling.touch(kernel, c)?;
+        self.subsuming.touch(kernel, c)?;
+        for l in clause {
+            self.touch_variable(kernel, l.var())?;
+            self.covering.touch(index_of(*l))?;
+        }
+        Ok(())
+    }
+
+    fn note_loss(&mut self, kernel: &Kernel, lit: Lit) -> Result<(), NoMemory> {
+        let negated = lit.negated();
+        self.settling.suspect(kernel, negated)?;
+        self.touch_variable(kernel, lit.var())?;
+        self.blocking.touch(index_of(negated))?;
+        self.covering.touch(index_of(negated))
+    }
+
+    fn note_variable(&mut self, kernel: &Kernel, var: u32) -> Result<(), NoMemory> {
+        let Some(lit) = lit_at(var.saturating_mul(2)) else {
+            return Ok(());
+        };
+        if !kernel.prefix().contains(var) {
+            return Ok(());
+        }
+        self.merging.touch();
+        self.note_loss(kernel, lit)?;
+        self.note_loss(kernel, lit.negated())
+    }
+
+    fn touch_variable(&mut self, kernel: &Kernel, var: u32) -> Result<(), NoMemory> {
+        match kernel.prefix().quant(var) {
+            Some(Quant::Exists) => self.eliminating.touch(kernel, var),
+            Some(Quant::Forall) => self.expanding.touch(var),
+            None => Ok(()),
+        }
+    }
+}

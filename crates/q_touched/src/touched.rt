@@ -1,0 +1,62 @@
+//! The guide.
+ghost use Rattle.std.specs.Prelude.{◌≡◌};
+ghost use Rattle.q_sched.specs.Rises.{Rose};
+
+use crate::strategy::Strategy;
+use q_kernel::Kernel;
+use q_logic::{Bounds, NoMemory};
+use q_sched::{Guide, Move, Proposal};
+use std::alloc::Global;
+
+// The greatest bound that an option can set.
+const MOST: u32 = 10_000;
+
+/// Proposes what may apply by the last changes, and answers `Done` where nothing is left, or where memory is wanting. All that
+/// it keeps is its own.
+#[derive(Drop)]
+pub struct Touched {
+    strategy: Strategy,
+    asked: u64,
+    last: Proposal,
+}
+
+impl Touched {
+    /// It takes no memory. The bounds should be those of the drive: by others it would propose targets that are refused, or
+    /// pass over some.
+    pub fn new(alloc: Global, bounds: Bounds) -> Touched {
+        let modest = Bounds {
+            grow: bounds.grow.min(MOST),
+            expand: bounds.expand.min(MOST),
+        };
+        Touched {
+            strategy: Strategy::new(alloc, modest),
+            asked: 0,
+            last: Proposal::Done,
+        }
+    }
+}
+
+fn answer_of(found: Result<Option<Move>, NoMemory>) -> Proposal {
+    match found {
+        Ok(Some(target)) => Proposal::Take(target),
+        _ => Proposal::Done,
+    }
+}
+
+impl Guide for Touched {
+    ghost asked = { λ g. g.asked };
+
+    ghost last = { λ g. g.last };
+
+    fn propose(&mut self, kernel: &Kernel) -> Proposal {
+        self.asked = self.asked.saturating_add(1);
+        self.last = answer_of(self.strategy.next(kernel));
+        self.last
+    }
+
+    fn told(&mut self, taken: bool) {
+        if taken {
+            self.strategy.moved();
+        }
+    }
+}
