@@ -1,17 +1,17 @@
 -- The words of the command line.
-use Rattle.std.proofs.Common.{◌≡◌, ◌≤◌, ◌<◌, ℕ, suc, Bool, true, false, not, ◌&&◌, cond, if◌then◌else◌, nat_le, is_some, unwrap_or, List, [], ◌∷◌, refl, sym, ap, ◌∙◌, subst, arith, length, get_or, drop, map, Option, Some, None, codes, String, string_bytes, drop-cons, take, ◌-◌, length-drop}
+use Rattle.std.proofs.Common.{◌≡◌, ◌≢◌, ◌≤◌, ◌<◌, ℕ, zero, suc, Bool, true, false, not, ◌&&◌, cond, if◌then◌else◌, nat_le, is_some, unwrap_or, List, [], ◌∷◌, refl, sym, ap, ◌∙◌, subst, arith, length, get_or, drop, map, Option, Some, None, codes, String, string_bytes, drop-cons, take, ◌-◌, length-drop}
+use Rattle.std.proofs.lemmas.List.{length-map}
 use Rattle.std.proofs.Math.Seq.{take-length}
 use Rattle.std.proofs.lemmas.Slice.Eq.{bytes_eq-Decides}
 use Rattle.std.specs.declared.alloc.Global.{Global}
 use Rattle.std.specs.Str.{bytes_eq}
 use Rattle.q_text.specs.Words.{digits}
 use Rattle.q_kernel.specs.Taking.{AreModest}
-use Rattle.q_app.specs.declared.words.Task.{Task}
-use Rattle.q_app.specs.declared.words.Task.TheVariants.{Check, Simplify}
 use Rattle.q_app.specs.declared.settings.Setting.{Setting}
 use Rattle.q_app.specs.declared.settings.Setting.TheVariants as setting
 use Rattle.q_app.specs.declared.settings.Settings.{Settings}
-use Rattle.q_app.specs.Words.{Command, IsModest, are_different, up_to, number_of, behind, set, setting_by, setting_of, with_setting, with_word, with_words, nothing_set, options_of, check_task, simplify_task, task_of, with_task, three_files, three, Command, IsFit}
+use Rattle.q_app.specs.Words.{Request, ThreeNames, three, are_different, up_to, number_of, behind, set, setting_by, setting_of, with_setting, with_word, with_words, nothing_set, options_of, three_names, just_three, scale_of, scale_by, generate_to, generate_of, demo_by, demo_of}
+use Rattle.q_app.specs.Commands.{by_verb, request}
 
 pub none-stays : (ws : List (List ℕ)) → None ≡ with_words None ws
 none-stays [] = refl
@@ -93,66 +93,102 @@ small-words : (o : Option Settings) (ws : List (List ℕ)) → MaySmall o → Ma
 small-words o [] h = h
 small-words o (w ∷ ws) h = small-words (with_word o w) ws (small-word o w h)
 
-abbrev MayModest : Option Task → Type 0
-MayModest None = Unit {0}
-MayModest (Some t) = IsModest t
+-- the bounds of settings are modest
+pub modest-options : (ws : List (List ℕ)) (s : Settings) → Some s ≡ with_words (Some nothing_set) ws → AreModest (options_of s).bounds
+modest-options ws s e =
+    let h : MaySmall (Some s) = subst MaySmall (sym e) (small-words (Some nothing_set) ws (record { grow = omega arith; expand = omega arith })) in
+    record { grow = h.grow; expand = h.expand }
 
-modest-simplify : (o : Option Settings) → MaySmall o → MayModest (simplify_task o)
-modest-simplify None h = tt
-modest-simplify (Some s) h = record { grow = h.grow; expand = h.expand }
+-- a word at a place
+word_at : (ws : List (String Global)) (i : ℕ) (w : String Global) (v : List ℕ) → i < length ws → w ≡ get_or ws i w → v ≡ string_bytes w → texts (drop i ws) ≡ v ∷ texts (drop (suc i) ws)
+word_at ws i w v h e q =
+    let d : drop i ws ≡ get_or ws i w ∷ drop (suc i) ws = drop-cons ws i w h in
+    ap texts d ∙ (ap (λ (x : String Global). string_bytes x ∷ texts (drop (suc i) ws)) (sym e) ∙ ap (λ (x : List ℕ). x ∷ texts (drop (suc i) ws)) (sym q))
 
-modest-check : (ws : List (List ℕ)) → MayModest (check_task ws)
-modest-check [] = tt
-modest-check (w ∷ ws) = tt
+pub one_word : (ws : List (String Global)) (a : String Global) (v : List ℕ) → 1 ≤ length ws → a ≡ get_or ws 0 a → v ≡ string_bytes a → texts ws ≡ v ∷ texts (drop 1 ws)
+one_word ws a v h p x = word_at ws 0 a v (omega arith) p x
 
-modest-task : (v : List ℕ) (ws : List (List ℕ)) → MayModest (task_of v ws)
-modest-task v ws = go (bytes_eq v (codes "check")) (bytes_eq v (codes "simplify"))
-  where
-    go : (s t : Bool) → MayModest (cond s (check_task ws) (cond t (simplify_task (with_words (Some nothing_set) ws)) None))
-    go true t = modest-check ws
-    go false true = modest-simplify (with_words (Some nothing_set) ws) (small-words (Some nothing_set) ws (record { grow = omega arith; expand = omega arith }))
-    go false false = tt
+pub two_words : (ws : List (String Global)) (a b : String Global) (v w : List ℕ) → 2 ≤ length ws → a ≡ get_or ws 0 a → b ≡ get_or ws 1 b → v ≡ string_bytes a → w ≡ string_bytes b → texts ws ≡ v ∷ w ∷ texts (drop 2 ws)
+two_words ws a b v w h p q x y = one_word ws a v (omega arith) p x ∙ ap (λ (t : List (List ℕ)). v ∷ t) (word_at ws 1 b w (omega arith) q y)
 
-pub task-modest : (v : List ℕ) (ws : List (List ℕ)) (t : Task) → Some t ≡ task_of v ws → IsModest t
-task-modest v ws t e = let h : MayModest (task_of v ws) = modest-task v ws in subst MayModest (sym e) h
+pub three_words : (ws : List (String Global)) (a b c : String Global) (i o l : List ℕ) → 3 ≤ length ws → a ≡ get_or ws 0 a → b ≡ get_or ws 1 b → c ≡ get_or ws 2 c → i ≡ string_bytes a → o ≡ string_bytes b → l ≡ string_bytes c → texts ws ≡ i ∷ o ∷ l ∷ texts (drop 3 ws)
+three_words ws a b c i o l h p q r x y z = two_words ws a b i o (omega arith) p q x y ∙ ap (λ (t : List (List ℕ)). i ∷ o ∷ t) (word_at ws 2 c l (omega arith) r z)
 
-abbrev MayFit : Option Command → Type 0
-MayFit None = Unit {0}
-MayFit (Some c) = IsFit c
+none_left : (vs : List (String Global)) (n : ℕ) → length vs ≡ n → drop n vs ≡ []
+none_left [] zero e = refl
+none_left [] (suc n) e = cc
+none_left (v ∷ vs) zero e = cc
+none_left (v ∷ vs) (suc n) e = none_left vs n (omega arith)
 
--- the first four words
-pub few : (ws : List (List ℕ)) → length ws < 4 → None ≡ three_files ws
-unfolding three_files
-few [] h = refl
-few (a ∷ []) h = refl
-few (a ∷ b ∷ []) h = refl
-few (a ∷ b ∷ c ∷ []) h = refl
-few (a ∷ b ∷ c ∷ d ∷ ws) h = absurd (omega arith)
+pub all_three : (ws : List (String Global)) (a b c : String Global) (i o l : List ℕ) → length ws ≡ 3 → a ≡ get_or ws 0 a → b ≡ get_or ws 1 b → c ≡ get_or ws 2 c → i ≡ string_bytes a → o ≡ string_bytes b → l ≡ string_bytes c → texts ws ≡ i ∷ o ∷ l ∷ []
+all_three ws a b c i o l h p q r x y z = three_words ws a b c i o l (omega arith) p q r x y z ∙ ap (λ (t : List (String Global)). i ∷ o ∷ l ∷ texts t) (none_left ws 3 h)
 
-four : {X : Type 0} (xs : List X) (a b c d : X) → 4 ≤ length xs → a ≡ get_or xs 0 a → b ≡ get_or xs 1 b → c ≡ get_or xs 2 c → d ≡ get_or xs 3 d → xs ≡ a ∷ b ∷ c ∷ d ∷ drop 4 xs
-four [] a b c d l p q r s = absurd (omega arith)
-four (x ∷ []) a b c d l p q r s = absurd (omega arith)
-four (x ∷ y ∷ []) a b c d l p q r s = absurd (omega arith)
-four (x ∷ y ∷ z ∷ []) a b c d l p q r s = absurd (omega arith)
-four (x ∷ y ∷ z ∷ w ∷ xs) a b c d l p q r s = cc (p, q, r, s)
+pub all_five : (ws : List (String Global)) (a b c d e : String Global) (i o l s t : List ℕ) → length ws ≡ 5 → a ≡ get_or ws 0 a → b ≡ get_or ws 1 b → c ≡ get_or ws 2 c → d ≡ get_or ws 3 d → e ≡ get_or ws 4 e →
+    i ≡ string_bytes a → o ≡ string_bytes b → l ≡ string_bytes c → s ≡ string_bytes d → t ≡ string_bytes e → texts ws ≡ i ∷ o ∷ l ∷ s ∷ t ∷ []
+all_five ws a b c d e i o l s t h p q r u v x y z f g =
+    three_words ws a b c i o l (omega arith) p q r x y z ∙ (ap (λ (k : List (List ℕ)). i ∷ o ∷ l ∷ k) (word_at ws 3 d s (omega arith) u f)
+    ∙ (ap (λ (k : List (List ℕ)). i ∷ o ∷ l ∷ s ∷ k) (word_at ws 4 e t (omega arith) v g) ∙ ap (λ (k : List (String Global)). i ∷ o ∷ l ∷ s ∷ t ∷ texts k) (none_left ws 5 h)))
 
-pub words_are : (ws : List (String Global)) (a b c d : String Global) (v i o l : List ℕ) → 4 ≤ length ws → a ≡ get_or ws 0 a → b ≡ get_or ws 1 b → c ≡ get_or ws 2 c → d ≡ get_or ws 3 d → v ≡ string_bytes a → i ≡ string_bytes b → o ≡ string_bytes c → l ≡ string_bytes d → v ∷ i ∷ o ∷ l ∷ texts (drop 4 ws) ≡ texts ws
-words_are ws a b c d v i o l n p q r s x y z w =
-    let e : ws ≡ a ∷ b ∷ c ∷ d ∷ drop 4 ws = four ws a b c d n p q r s in
-    let g : v ∷ i ∷ o ∷ l ∷ texts (drop 4 ws) ≡ string_bytes a ∷ string_bytes b ∷ string_bytes c ∷ string_bytes d ∷ texts (drop 4 ws) = cc in
-    g ∙ sym (ap texts e)
+pub texts-length : (ws : List (String Global)) → length (texts ws) ≡ length ws
+texts-length ws = length-map ws _
 
-pub same_names : (v i o l : List ℕ) (ws : List (List ℕ)) → are_different i o l ≡ false → None ≡ three_files (v ∷ i ∷ o ∷ l ∷ ws)
-unfolding three_files
-same_names v i o l ws e = rw e refl
+-- the words behind a place
+pub rest_of : (ws : List (String Global)) (n : ℕ) → texts (take (length ws - n) (drop n ws)) ≡ texts (drop n ws)
+rest_of ws n = ap texts (subst (λ k. take k (drop n ws) ≡ drop n ws) (length-drop n ws) (take-length (drop n ws)))
 
-pub other_names : (v i o l : List ℕ) (ws : List (List ℕ)) → are_different i o l ≡ true → with_task i o l (task_of v ws) ≡ three_files (v ∷ i ∷ o ∷ l ∷ ws)
-unfolding three_files
-other_names v i o l ws e = rw e refl
+-- too few words, or too many
+pub no_words : (ws : List (List ℕ)) → length ws ≡ 0 → None ≡ request ws
+unfolding request
+no_words [] h = refl
+no_words (w ∷ ws) h = absurd (omega arith)
 
--- the words behind the names
-pub rest_of : (ws : List (String Global)) → texts (take (length ws - 4) (drop 4 ws)) ≡ texts (drop 4 ws)
-rest_of ws = ap texts (subst (λ n. take n (drop 4 ws) ≡ drop 4 ws) (length-drop 4 ws) (take-length (drop 4 ws)))
+pub few_names : (ws : List (List ℕ)) → length ws < 3 → None ≡ three_names ws
+unfolding three_names
+few_names [] h = refl
+few_names (a ∷ []) h = refl
+few_names (a ∷ b ∷ []) h = refl
+few_names (a ∷ b ∷ c ∷ ws) h = absurd (omega arith)
+
+pub not_three : (ws : List (List ℕ)) → length ws ≢ 3 → None ≡ generate_of ws
+unfolding generate_of
+not_three [] h = refl
+not_three (a ∷ []) h = refl
+not_three (a ∷ b ∷ []) h = refl
+not_three (a ∷ b ∷ c ∷ []) h = absurd (h refl)
+not_three (a ∷ b ∷ c ∷ d ∷ ws) h = refl
+
+pub few_for_demo : (ws : List (List ℕ)) → length ws < 2 → None ≡ demo_of ws
+unfolding demo_of
+few_for_demo [] h = refl
+few_for_demo (a ∷ []) h = refl
+few_for_demo (a ∷ b ∷ ws) h = absurd (omega arith)
+
+-- what the words ask for
+pub request-is : (v : List ℕ) (ws : List (List ℕ)) → by_verb v ws ≡ request (v ∷ ws)
+unfolding request
+request-is v ws = refl
+
+pub same_names : (i o l : List ℕ) (ws : List (List ℕ)) → are_different i o l ≡ false → None ≡ three_names (i ∷ o ∷ l ∷ ws)
+unfolding three_names
+same_names i o l ws e = rw e refl
+
+pub other_names : (i o l : List ℕ) (ws : List (List ℕ)) → are_different i o l ≡ true → Some (three i o l, ws) ≡ three_names (i ∷ o ∷ l ∷ ws)
+unfolding three_names
+other_names i o l ws e = rw e refl
+
+pub generate-is : (seed size o : List ℕ) → generate_to o (scale_of seed size) ≡ generate_of (seed ∷ size ∷ o ∷ [])
+unfolding generate_of
+generate-is seed size o = refl
+
+pub generate-none : (seed size : List ℕ) (ws : List (List ℕ)) → None ≡ scale_of seed size → None ≡ generate_of (seed ∷ size ∷ ws)
+unfolding generate_of
+generate-none seed size [] e = refl
+generate-none seed size (o ∷ []) e = ap (generate_to o) e
+generate-none seed size (o ∷ w ∷ ws) e = refl
+
+pub demo-is : (seed size : List ℕ) (ws : List (List ℕ)) → demo_by (scale_of seed size) (just_three (three_names ws)) ≡ demo_of (seed ∷ size ∷ ws)
+unfolding demo_of
+demo-is seed size ws = refl
 
 last_not : (a b c : Bool) → c ≡ true → not a && not b && not c ≡ true → ⊥
 last_not true b c e f = cc
@@ -163,8 +199,3 @@ last_not false false false e f = cc
 -- names that differ are not equal
 pub differ : (i o l : List ℕ) → are_different i o l ≡ true → o ≡ l → ⊥
 differ i o l h e = last_not (bytes_eq i o) (bytes_eq i l) (bytes_eq o l) ((bytes_eq-Decides o l).1 e) h
-
--- a command of a modest task is fit
-pub fit-task : (c : Command) (i o l : List ℕ) (t : Task) → Some c ≡ with_task i o l (Some t) → IsModest t → (o ≡ l → ⊥) → IsFit c
-fit-task c i o l Check e m d = let s : MayFit (Some c) = subst MayFit (sym e) tt in s
-fit-task c i o l (Simplify p) e m d = let s : MayFit (Some c) = subst MayFit (sym e) (m, d) in s

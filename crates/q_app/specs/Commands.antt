@@ -1,26 +1,28 @@
--- The command that the words are.
-use Rattle.std.specs.Prelude.{ℕ, List, Option, Some, None}
+-- What the words ask for.
+use Rattle.std.specs.Prelude.{◌≢◌, ◌≤◌, ℕ, cond, List, [], ◌∷◌, Option, Some, None, codes}
+use Rattle.std.specs.Str.{bytes_eq}
 use Rattle.q_logic.specs.declared.rule_bounds.Bounds.{Bounds}
+use Rattle.q_kernel.specs.Taking.{AreModest}
 use Rattle.q_app.specs.Rebuilds.{FiveNames, five}
-use Rattle.q_app.specs.Words.{ThreeNames, three, Command, checking, simplifying, rebuilding, three_files, nothing_set, options_of}
+use Rattle.q_app.specs.Words.{ThreeNames, three, Command, checking, simplifying, rebuilding, generating, Request, alone, three_names, just_three, check_of, simplify_of, rebuild_of, generate_of, demo, demo_of, nothing_set, options_of}
 use Rattle.q_app.specs.RebuildWords.{rebuild_names}
-use Rattle.q_app.specs.declared.words.Names.{Names}
 use Rattle.q_app.specs.declared.rebuild_words.RebuildNames.{RebuildNames}
+use Rattle.q_app.specs.declared.words.Names.{Names}
 use Rattle.q_app.specs.declared.words.Command.{Command as Parsed}
-use Rattle.q_app.specs.declared.words.Command.TheVariants as parsed
+use Rattle.q_app.specs.declared.words.Command.TheVariants.{Check, Simplify, Rebuild, Generate, Demo}
 
-abbrev pub rebuilds : Option FiveNames → Option Command
-rebuilds None = None
-rebuilds (Some n) = Some (rebuilding n)
+-- by the verb and its operands; all else is no command
+abbrev pub by_verb : List ℕ → List (List ℕ) → Request
+by_verb verb operands =
+    cond (bytes_eq verb (codes "check")) (check_of (just_three (three_names operands)))
+    (cond (bytes_eq verb (codes "simplify")) (simplify_of (three_names operands))
+    (cond (bytes_eq verb (codes "rebuild")) (rebuild_of (rebuild_names operands))
+    (cond (bytes_eq verb (codes "gen")) (generate_of operands)
+    (cond (bytes_eq verb (codes "demo")) (demo_of operands) None))))
 
--- the first that there is
-abbrev pub first : Option Command → Option Command → Option Command
-first None c = c
-first (Some b) c = Some b
-
--- no words are two commands, since their verbs differ; all else is no command
-unfoldable pub command : List (List ℕ) → Option Command
-command words = first (rebuilds (rebuild_names words)) (three_files words)
+unfoldable pub request : List (List ℕ) → Request
+request [] = None
+request (verb ∷ operands) = by_verb verb operands
 
 abbrev pub three_of : Names → ThreeNames
 three_of n = three n.input.now n.output.now n.log.now
@@ -28,15 +30,30 @@ three_of n = three n.input.now n.output.now n.log.now
 abbrev pub five_of : RebuildNames → FiveNames
 five_of n = five n.input.now n.output.now n.log.now n.skolem.now n.cert.now
 
--- a command by the names that were read
-abbrev pub command_of : Parsed → Command
-command_of (parsed.Check n) = checking (three_of n)
-command_of (parsed.Simplify n p) = simplifying (three_of n) p
-command_of (parsed.Rebuild n) = rebuilding (five_of n)
+-- the commands by the names that were read
+abbrev pub commands_of : Parsed → List Command
+commands_of (Check n) = checking (three_of n) ∷ []
+commands_of (Simplify n p) = simplifying (three_of n) p ∷ []
+commands_of (Rebuild n) = rebuilding (five_of n) ∷ []
+commands_of (Generate k o) = generating k o.now ∷ []
+commands_of (Demo k n) = demo k (three_of n)
 
--- the bounds of a simplification, and the defaults of all else
-abbrev pub bounds_in : Option Command → Bounds
+-- such a command can be done: its numbers are within their limits, and what is written has two names
+abbrev pub IsFit : Parsed → Type 0
+IsFit (Check n) = Unit {0}
+IsFit (Simplify n p) = AreModest p.bounds × (n.output.now ≢ n.log.now)
+IsFit (Rebuild n) = Unit {0}
+IsFit (Generate k o) = k.size ≤ 100000
+IsFit (Demo k n) = (k.size ≤ 100000) × (n.output.now ≢ n.log.now)
+
+-- the bounds of the first simplification, and without one the defaults
+abbrev pub first_bounds : List Command → Bounds
+first_bounds [] = (options_of nothing_set).bounds
+first_bounds (checking n ∷ cs) = first_bounds cs
+first_bounds (simplifying n p ∷ cs) = p.bounds
+first_bounds (rebuilding n ∷ cs) = first_bounds cs
+first_bounds (generating k o ∷ cs) = first_bounds cs
+
+abbrev pub bounds_in : Request → Bounds
 bounds_in None = (options_of nothing_set).bounds
-bounds_in (Some (checking n)) = (options_of nothing_set).bounds
-bounds_in (Some (simplifying n p)) = p.bounds
-bounds_in (Some (rebuilding n)) = (options_of nothing_set).bounds
+bounds_in (Some cs) = first_bounds cs

@@ -11,6 +11,7 @@ pub mod RebuiltLines
 pub mod Rebuilds
 pub mod SaysRebuilt
 pub mod RebuildWords
+pub mod Generating
 pub mod Commands
 pub mod Answers
 pub mod Says

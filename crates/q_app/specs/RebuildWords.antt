@@ -1,5 +1,5 @@
 -- The words of `rebuild`.
-use Rattle.std.specs.Prelude.{ℕ, Bool, not, ◌&&◌, cond, List, [], ◌∷◌, Option, Some, None, codes}
+use Rattle.std.specs.Prelude.{ℕ, Bool, not, ◌&&◌, cond, List, [], ◌∷◌, Option, Some, None}
 use Rattle.std.specs.Str.{bytes_eq}
 use Rattle.q_app.specs.Rebuilds.{FiveNames, five}
 
@@ -18,13 +18,12 @@ abbrev pub apart : FiveNames → Option FiveNames
 apart n =
     cond (is_new n.input n.output n.log n.skolem n.cert && are_four n.output n.log n.skolem n.cert) (Some n) None
 
--- `rebuild IN OUT LOG SKOLEM CERT`, the five names different; all else is no such command
+-- the operands IN OUT LOG SKOLEM CERT, the five names different
 unfoldable pub rebuild_names : List (List ℕ) → Option FiveNames
 rebuild_names [] = None
-rebuild_names (v ∷ []) = None
-rebuild_names (v ∷ i ∷ []) = None
-rebuild_names (v ∷ i ∷ o ∷ []) = None
-rebuild_names (v ∷ i ∷ o ∷ l ∷ []) = None
-rebuild_names (v ∷ i ∷ o ∷ l ∷ s ∷ []) = None
-rebuild_names (v ∷ i ∷ o ∷ l ∷ s ∷ c ∷ []) = cond (bytes_eq v (codes "rebuild")) (apart (five i o l s c)) None
-rebuild_names (v ∷ i ∷ o ∷ l ∷ s ∷ c ∷ w ∷ words) = None
+rebuild_names (i ∷ []) = None
+rebuild_names (i ∷ o ∷ []) = None
+rebuild_names (i ∷ o ∷ l ∷ []) = None
+rebuild_names (i ∷ o ∷ l ∷ s ∷ []) = None
+rebuild_names (i ∷ o ∷ l ∷ s ∷ c ∷ []) = apart (five i o l s c)
+rebuild_names (i ∷ o ∷ l ∷ s ∷ c ∷ w ∷ words) = None

@@ -1,15 +1,18 @@
 -- The line that a run puts, and the faults that it may answer.
-use Rattle.std.specs.Prelude.{◌≡◌, ◌⊎◌, ℕ, List, ◌++◌, take, Option, Some, None, IfSome}
+use Rattle.std.specs.Prelude.{◌≡◌, ◌⊎◌, ℕ, true, false, List, [], ◌∷◌, ◌++◌, take, Option, Some, None, IfSome}
 use Rattle.q_io.specs.Files.{Disk, Rose, bytes_at}
+use Rattle.q_app.specs.Statuses.{passes}
 use Rattle.q_app.specs.Answers.{status_of_answer, line_of_answer}
-use Rattle.q_app.specs.Words.{Command, checking, simplifying, rebuilding}
+use Rattle.q_app.specs.Words.{Command, checking, simplifying, rebuilding, generating, Request}
 use Rattle.q_app.specs.Checks.{AnswersExactly, Checks}
 use Rattle.q_app.specs.Simplifying.{Ends, SimplifiesExactly}
 use Rattle.q_app.specs.Rebuilds.{Rebuilds, RebuildsExactly}
+use Rattle.q_app.specs.Generating.{Generates, GeneratesExactly}
 use Rattle.q_app.specs.SaysRebuilt.{RoseForRebuild, RoseForCert}
 use Rattle.q_app.specs.declared.outcome.Outcome.{Outcome}
 use Rattle.q_app.specs.declared.simplified.Simplified.{Simplified}
 use Rattle.q_app.specs.declared.rebuilt.Rebuilt.{Rebuilt}
+use Rattle.q_app.specs.declared.generated.Generated.{Generated}
 use Rattle.q_app.specs.declared.answer.Answer.{Answer}
 use Rattle.q_app.specs.declared.answer.Answer.TheVariants as answer
 use Rattle.q_app.specs.declared.status.Status.{Status}
@@ -47,6 +50,8 @@ MaySay (Some (simplifying n p)) before after due =
     (o : Simplified) × (due ≡ answer.Simplify o) × IfSome before (λ disk. Ends o p n.input n.output n.log disk after)
 MaySay (Some (rebuilding n)) before after due =
     (o : Rebuilt) × (due ≡ answer.Rebuild o) × IfSome before (λ disk. Rebuilds o n disk after)
+MaySay (Some (generating k name)) before after due =
+    (o : Generated) × (due ≡ answer.Generate o) × IfSome before (λ disk. Generates o k name disk after)
 
 -- when each command gives which status, and what the files hold then
 abbrev pub Gives : Option Command → Status → Disk → Option Disk → Type 0
@@ -55,6 +60,7 @@ Gives (Some (checking n)) given before after =
     AnswersExactly given (bytes_at before n.input) (bytes_at before n.output) (bytes_at before n.log)
 Gives (Some (simplifying n p)) given before after = SimplifiesExactly given p n.input n.output n.log before after
 Gives (Some (rebuilding n)) given before after = RebuildsExactly given n before after
+Gives (Some (generating k name)) given before after = GeneratesExactly given k name before after
 
 -- the count of read faults rose for a file that the command reads
 abbrev pub RoseForReads : Option Command → (List ℕ → ℕ) → (List ℕ → ℕ) → Type 0
@@ -63,6 +69,7 @@ RoseForReads (Some (checking n)) before now =
     Rose (before n.input) (now n.input) ⊎ Rose (before n.output) (now n.output) ⊎ Rose (before n.log) (now n.log)
 RoseForReads (Some (simplifying n p)) before now = Rose (before n.input) (now n.input)
 RoseForReads (Some (rebuilding n)) before now = RoseForRebuild before now n
+RoseForReads (Some (generating k name)) before now = ⊥
 
 -- the count of write faults rose for a file that the command writes
 abbrev pub RoseForWrites : Option Command → (List ℕ → ℕ) → (List ℕ → ℕ) → Type 0
@@ -70,6 +77,7 @@ RoseForWrites None before now = ⊥
 RoseForWrites (Some (checking n)) before now = ⊥
 RoseForWrites (Some (simplifying n p)) before now = Rose (before n.output) (now n.output) ⊎ Rose (before n.log) (now n.log)
 RoseForWrites (Some (rebuilding n)) before now = RoseForCert before now n
+RoseForWrites (Some (generating k name)) before now = Rose (before name) (now name)
 
 -- of a command that changes no file
 abbrev pub IfReading : Option Command → Type 0 → Type 0
@@ -77,6 +85,7 @@ IfReading None P = P
 IfReading (Some (checking n)) P = P
 IfReading (Some (simplifying n p)) P = Unit {0}
 IfReading (Some (rebuilding n)) P = Unit {0}
+IfReading (Some (generating k name)) P = Unit {0}
 
 -- the devices at a moment: what the files and the sink hold, where they tell it, and their counts of faults
 pub record Devices : Type 0 where
@@ -100,3 +109,17 @@ pub record Runs (c : Option Command) (before : Devices) (given : Status) (after 
   pub write_fault : given ≡ status.WriteFault → Rose before.faults after.faults ⊎ RoseForWrites c before.write_faults after.write_faults
   pub unchanged : IfReading c (after.held ≡ before.held)
   pub line : Puts (MaySay c before.held after.held) before.written given before.faults after.faults after.written
+
+-- one command after the other, each over what the one before left; the first that does not pass is the last, and the status
+-- is that of the last
+abbrev pub InTurn : List Command → Devices → Status → Devices → Type 0
+InTurn [] before given after = ⊥
+InTurn (c ∷ []) before given after = Runs (Some c) before given after
+InTurn (c ∷ d ∷ cs) before given after =
+    (first : Status) × (between : Devices) × Runs (Some c) before first between
+    × (((passes first ≡ true) × InTurn (d ∷ cs) between given after) ⊎ ((passes first ≡ false) × (given ≡ first) × (after ≡ between)))
+
+-- what the words ask for is done; where they are not understood, that is said
+abbrev pub Does : Request → Devices → Status → Devices → Type 0
+Does None before given after = Runs None before given after
+Does (Some cs) before given after = InTurn cs before given after

@@ -1,5 +1,5 @@
 -- The exit statuses.
-use Rattle.std.specs.Prelude.{ℕ}
+use Rattle.std.specs.Prelude.{ℕ, Bool, true, false}
 use Rattle.q_app.specs.declared.status.Status.{Status}
 use Rattle.q_app.specs.declared.status.Status.TheVariants as status
 use Rattle.q_simplify.specs.declared.report.Ending.{Ending}
@@ -44,3 +44,17 @@ status_of_simplified (simplified.RefusedInput n c) = status.InputRefused
 status_of_simplified simplified.ReadFault = status.ReadFault
 status_of_simplified simplified.WriteFault = status.WriteFault
 status_of_simplified simplified.NoMemory = status.NoMemory
+
+-- with 0, 10 and 20 the next command is done
+abbrev pub passes : Status → Bool
+passes status.Done = true
+passes status.True = true
+passes status.False = true
+passes status.Spent = false
+passes status.LogRefused = false
+passes status.InputRefused = false
+passes status.ReadFault = false
+passes status.WriteFault = false
+passes status.NoMemory = false
+passes status.CircuitsRefused = false
+passes status.Usage = false

@@ -1,12 +1,11 @@
 -- The words of the command line.
-use Rattle.std.specs.Prelude.{◌≢◌, ℕ, Bool, not, ◌&&◌, ◌==◌, ◌^◌, ◌-◌, nat_le, cond, if◌then◌else◌, is_some, unwrap_or, List, [], ◌∷◌, Option, Some, None, codes}
+use Rattle.std.specs.Prelude.{◌≢◌, ◌≤◌, ℕ, Bool, not, ◌&&◌, ◌==◌, ◌^◌, ◌-◌, nat_le, cond, if◌then◌else◌, is_some, unwrap_or, List, [], ◌∷◌, Option, Some, None, codes}
 use Rattle.std.specs.Str.{bytes_eq}
 use Rattle.q_text.specs.Words.{digits}
 use Rattle.q_kernel.specs.Taking.{AreModest}
 use Rattle.q_simplify.specs.declared.options.Options.{Options}
 use Rattle.q_app.specs.Rebuilds.{FiveNames}
-use Rattle.q_app.specs.declared.words.Task.{Task}
-use Rattle.q_app.specs.declared.words.Task.TheVariants.{Check, Simplify}
+use Rattle.q_app.specs.declared.words.Scale.{Scale}
 use Rattle.q_app.specs.declared.settings.Setting.{Setting}
 use Rattle.q_app.specs.declared.settings.Setting.TheVariants as setting
 use Rattle.q_app.specs.declared.settings.Settings.{Settings}
@@ -17,11 +16,19 @@ pub record ThreeNames : Type 0 where
   pub output : List ℕ
   pub log : List ℕ
 
--- what is to be done, with the names of the files
+-- one thing to be done, with the names of the files
 pub data Command : Type 0 where
   checking : ThreeNames → Command
   simplifying : ThreeNames → Options → Command
   rebuilding : FiveNames → Command
+  generating : Scale → List ℕ → Command
+
+-- what the words ask for: commands that are done one after the other; none where they are not understood
+abbrev pub Request : Type 0
+Request = Option (List Command)
+
+abbrev pub alone : Command → Request
+alone c = Some (c ∷ [])
 
 abbrev pub are_different : List ℕ → List ℕ → List ℕ → Bool
 are_different a b c = not (bytes_eq a b) && not (bytes_eq a c) && not (bytes_eq b c)
@@ -80,44 +87,72 @@ abbrev pub options_of : Settings → Options
 options_of s =
     record { bounds = record { grow = unwrap_or s.grow 0; expand = unwrap_or s.expand 16 }; budget = s.budget }
 
--- `check` takes no options
-abbrev pub check_task : List (List ℕ) → Option Task
-check_task [] = Some Check
-check_task (word ∷ words) = None
-
-abbrev pub simplify_task : Option Settings → Option Task
-simplify_task None = None
-simplify_task (Some s) = Some (Simplify (options_of s))
-
--- the task of a verb with the words behind the three names
-abbrev pub task_of : List ℕ → List (List ℕ) → Option Task
-task_of verb words =
-    cond (bytes_eq verb (codes "check")) (check_task words)
-    (cond (bytes_eq verb (codes "simplify")) (simplify_task (with_words (Some nothing_set) words)) None)
-
 abbrev pub three : List ℕ → List ℕ → List ℕ → ThreeNames
 three i o l = record { input = i; output = o; log = l }
 
-abbrev pub with_task : List ℕ → List ℕ → List ℕ → Option Task → Option Command
-with_task i o l None = None
-with_task i o l (Some Check) = Some (checking (three i o l))
-with_task i o l (Some (Simplify p)) = Some (simplifying (three i o l) p)
+-- the names of three files that the operands begin with, where they differ, and the words behind them
+unfoldable pub three_names : List (List ℕ) → Option (ThreeNames × List (List ℕ))
+three_names [] = None
+three_names (i ∷ []) = None
+three_names (i ∷ o ∷ []) = None
+three_names (i ∷ o ∷ l ∷ rest) = cond (are_different i o l) (Some (three i o l, rest)) None
 
--- `check IN OUT LOG`, or `simplify IN OUT LOG` and options, the three names different
-unfoldable pub three_files : List (List ℕ) → Option Command
-three_files [] = None
-three_files (verb ∷ []) = None
-three_files (verb ∷ i ∷ []) = None
-three_files (verb ∷ i ∷ o ∷ []) = None
-three_files (verb ∷ i ∷ o ∷ l ∷ words) = cond (are_different i o l) (with_task i o l (task_of verb words)) None
+-- the three names, where no word stands behind them
+abbrev pub just_three : Option (ThreeNames × List (List ℕ)) → Option ThreeNames
+just_three None = None
+just_three (Some (n, [])) = Some n
+just_three (Some (n, word ∷ words)) = None
 
--- the bounds are such as the rules allow
-abbrev pub IsModest : Task → Type 0
-IsModest Check = Unit {0}
-IsModest (Simplify p) = AreModest p.bounds
+-- `check IN OUT LOG`
+abbrev pub check_of : Option ThreeNames → Request
+check_of None = None
+check_of (Some n) = alone (checking n)
 
--- such a command can be done: bounds are modest, and what is written has two names
-abbrev pub IsFit : Command → Type 0
-IsFit (checking n) = Unit {0}
-IsFit (simplifying n p) = AreModest p.bounds × (n.output ≢ n.log)
-IsFit (rebuilding n) = Unit {0}
+-- `simplify IN OUT LOG` with options
+abbrev pub with_settings : ThreeNames → Option Settings → Request
+with_settings n None = None
+with_settings n (Some s) = alone (simplifying n (options_of s))
+
+abbrev pub simplify_of : Option (ThreeNames × List (List ℕ)) → Request
+simplify_of None = None
+simplify_of (Some (n, words)) = with_settings n (with_words (Some nothing_set) words)
+
+-- `rebuild IN OUT LOG SKOLEM CERT`
+abbrev pub rebuild_of : Option FiveNames → Request
+rebuild_of None = None
+rebuild_of (Some n) = alone (rebuilding n)
+
+-- a seed of 64 bits, and a size from 1 to 100,000
+abbrev pub scale_by : Option ℕ → Option ℕ → Option Scale
+scale_by None size = None
+scale_by (Some seed) None = None
+scale_by (Some seed) (Some size) = if size == 0 then None else Some (record { seed = seed; size = size })
+
+abbrev pub scale_of : List ℕ → List ℕ → Option Scale
+scale_of seed size = scale_by (number_of (2 ^ 64 - 1) seed) (number_of 100000 size)
+
+-- `gen SEED SIZE OUT`
+abbrev pub generate_to : List ℕ → Option Scale → Request
+generate_to o None = None
+generate_to o (Some k) = alone (generating k o)
+
+unfoldable pub generate_of : List (List ℕ) → Request
+generate_of [] = None
+generate_of (seed ∷ []) = None
+generate_of (seed ∷ size ∷ []) = None
+generate_of (seed ∷ size ∷ o ∷ []) = generate_to o (scale_of seed size)
+generate_of (seed ∷ size ∷ o ∷ word ∷ words) = None
+
+-- `demo SEED SIZE IN OUT LOG`: IN is generated, simplified without options, and the log is checked
+abbrev pub demo : Scale → ThreeNames → List Command
+demo k n = generating k n.input ∷ simplifying n (options_of nothing_set) ∷ checking n ∷ []
+
+abbrev pub demo_by : Option Scale → Option ThreeNames → Request
+demo_by None names = None
+demo_by (Some k) None = None
+demo_by (Some k) (Some n) = Some (demo k n)
+
+unfoldable pub demo_of : List (List ℕ) → Request
+demo_of [] = None
+demo_of (seed ∷ []) = None
+demo_of (seed ∷ size ∷ words) = demo_by (scale_of seed size) (just_three (three_names words))

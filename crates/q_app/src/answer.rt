@@ -2,6 +2,7 @@ ghost use Rattle.std.specs.Prelude.{◌≡◌, IfSome};
 ghost use Rattle.q_app.specs.Answers.{line_of_answer, status_of_answer};
 ghost use Rattle.q_app.specs.Says.{Says, IsDue};
 
+use crate::generated::Generated;
 use crate::line::{Line, put, words_line};
 use crate::outcome::Outcome;
 use crate::rebuilt::Rebuilt;
@@ -17,6 +18,7 @@ pub enum Answer {
     Check(Outcome),
     Simplify(Simplified),
     Rebuild(Rebuilt),
+    Generate(Generated),
 }
 
 impl Answer {
@@ -28,6 +30,7 @@ impl Answer {
             Answer::Check(outcome) => outcome.status(),
             Answer::Simplify(outcome) => outcome.status(),
             Answer::Rebuild(outcome) => outcome.status(),
+            Answer::Generate(outcome) => outcome.status(),
         }
     }
 
@@ -39,6 +42,7 @@ impl Answer {
             Answer::Check(outcome) => outcome.line(),
             Answer::Simplify(outcome) => outcome.line(),
             Answer::Rebuild(outcome) => outcome.line(),
+            Answer::Generate(outcome) => outcome.line(),
         }
     }
 }

@@ -4,6 +4,8 @@
 mod answer;
 mod audit;
 mod check;
+mod generate;
+mod generated;
 mod input;
 mod laws;
 mod line;
@@ -22,6 +24,7 @@ mod whole_file;
 mod words;
 
 pub use answer::Answer;
+pub use generated::Generated;
 pub use laws::simplified_is_verified;
 pub use outcome::{Outcome, Role};
 pub use rebuilt::Rebuilt;

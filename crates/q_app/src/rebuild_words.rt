@@ -1,7 +1,5 @@
-ghost use Rattle.std.specs.Prelude.{◌≡◌, ◌&&◌, codes, map, option_map, string_bytes, IfSome, None};
-ghost use Rattle.std.specs.Str.{bytes_eq};
+ghost use Rattle.std.specs.Prelude.{◌≡◌, ◌&&◌, map, option_map, string_bytes};
 ghost use Rattle.q_app.specs.Rebuilds.{five};
-ghost use Rattle.q_app.specs.Words.{three_files};
 ghost use Rattle.q_app.specs.RebuildWords.{are_four as spec_are_four, is_new as spec_is_new, rebuild_names};
 
 /// The names of the five files of `rebuild`.
@@ -14,25 +12,20 @@ pub(crate) struct RebuildNames<'a> {
     pub cert: &'a str,
 }
 
-/// The names of the five files, if the words are `rebuild` with these; then they are no other command.
-pub(crate) fn parse_rebuild(words: &[String]) -> Option<RebuildNames>
-    ensures names { option_map
+/// The names that the operands are, if they are five and differ.
+pub(crate) fn parse_rebuild(operands: &[String]) -> Option<RebuildNames>
+    ensures { option_map
         (λ o. five o.input.now o.output.now o.log.now o.skolem.now o.cert.now) result
-        ≡ rebuild_names (map (λ w. string_bytes w) words.now) }
-    ensures one { IfSome result (λ o. three_files (map (λ w. string_bytes w) words.now) ≡ None) }
+        ≡ rebuild_names (map (λ w. string_bytes w) operands.now) }
 {
-    if words.len() != 6 {
+    if operands.len() != 5 {
         return None;
     }
-    let verb = words[0].as_str();
-    let input = words[1].as_str();
-    let output = words[2].as_str();
-    let log = words[3].as_str();
-    let skolem = words[4].as_str();
-    let cert = words[5].as_str();
-    if !is_rebuild(verb) {
-        return None;
-    }
+    let input = operands[0].as_str();
+    let output = operands[1].as_str();
+    let log = operands[2].as_str();
+    let skolem = operands[3].as_str();
+    let cert = operands[4].as_str();
     if !are_apart(input, output, log, skolem, cert) {
         return None;
     }
@@ -43,12 +36,6 @@ pub(crate) fn parse_rebuild(words: &[String]) -> Option<RebuildNames>
         skolem,
         cert,
     })
-}
-
-fn is_rebuild(verb: &str) -> bool
-    ensures { result ≡ bytes_eq verb.now (codes "rebuild") }
-{
-    verb == "rebuild"
 }
 
 fn is_new(a: &str, b: &str, c: &str, d: &str, e: &str) -> bool

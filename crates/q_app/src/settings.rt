@@ -24,8 +24,8 @@ pub(crate) struct Settings {
 // The greatest bound that can be set.
 const MOST: u64 = 10_000;
 
-// The number of a text of digits, where it is not too large.
-fn number(text: &[u8], most: u64) -> Option<u64>
+/// The number of a text of digits, where it is not too large.
+pub(crate) fn number(text: &[u8], most: u64) -> Option<u64>
     ensures { result ≡ number_of most text.now }
 {
     if text.is_empty() {
@@ -110,7 +110,6 @@ impl Settings {
         }
     }
 
-    /// Nothing is set.
     pub fn none() -> Settings
         ensures { result ≡ nothing_set }
     {

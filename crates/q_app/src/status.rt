@@ -1,5 +1,5 @@
 ghost use Rattle.std.specs.Prelude.{◌≡◌};
-ghost use Rattle.q_app.specs.Statuses.{code_of};
+ghost use Rattle.q_app.specs.Statuses.{code_of, passes as spec_passes};
 
 /// How a run ends.
 #[derive(Clone, Copy, Debug, PartialEq, Eq)]
@@ -34,6 +34,16 @@ impl Status {
             Status::NoMemory => 6,
             Status::CircuitsRefused => 7,
             Status::Usage => 64,
+        }
+    }
+
+    /// Whether the command that follows is done.
+    pub(crate) fn passes(&self) -> bool
+        ensures { result ≡ spec_passes self.now }
+    {
+        match self {
+            Status::Done | Status::True | Status::False => true,
+            _ => false,
         }
     }
 }

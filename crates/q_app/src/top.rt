@@ -1,18 +1,19 @@
 // The top call.
-ghost use Rattle.std.specs.Prelude.{◌≡◌, ◌≢◌, ◌⊎◌, List, ℕ, map, string_bytes, IfSome, Some, None};
+ghost use Rattle.std.specs.Prelude.{◌≡◌, ◌≢◌, ◌≤◌, ◌⊎◌, List, ℕ, map, string_bytes, IfSome, Some, None};
 ghost use Rattle.q_io.specs.Files.{Rose, bytes_at};
 ghost use Rattle.q_kernel.specs.Taking.{AreModest};
-ghost use Rattle.q_app.specs.Words.{checking, simplifying, three, three_files};
-ghost use Rattle.q_app.specs.RebuildWords.{rebuild_names};
-ghost use Rattle.q_app.specs.Commands.{command};
-ghost use Rattle.q_app.specs.Says.{Gives, IfReading, MaySay, Puts, RoseForReads, RoseForWrites};
+ghost use Rattle.q_app.specs.Words.{checking, demo, generating, simplifying, three};
+ghost use Rattle.q_app.specs.Commands.{IsFit, commands_of, request, three_of};
+ghost use Rattle.q_app.specs.Says.{Does, Gives, InTurn, MaySay, Puts, RoseForReads, RoseForWrites, devices};
 
 use crate::answer::{Answer, say};
 use crate::check::check;
+use crate::generate::generate_file;
 use crate::run_rebuild::run_rebuild;
+use crate::settings::Settings;
 use crate::simplify::simplify_file;
 use crate::status::Status;
-use crate::words::{Command, parse};
+use crate::words::{Command, Names, Scale, parse};
 use q_io::{Files, Sink};
 use q_sched::Guide;
 use q_simplify::Options;
@@ -66,6 +67,63 @@ fn run_simplify<F: Files, S: Sink>(
     say(out, Answer::Simplify(outcome))
 }
 
+fn run_generate<F: Files, S: Sink>(
+    alloc: Global,
+    files: &mut F,
+    out: &mut S,
+    scale: Scale,
+    output: &str,
+) -> Status
+    requires { scale.size ≤ 100000 }
+    ensures usage { result ≢ Status.Usage }
+    ensures gives { IfSome (F.held files.old) (λ disk. Gives (Some (generating scale output.now)) result disk (F.held files.new)) }
+    ensures read_fault { result ≢ Status.ReadFault }
+    ensures write_fault { result ≡ Status.WriteFault → Rose (S.faults out.old) (S.faults out.new)
+        ⊎ RoseForWrites (Some (generating scale output.now)) (F.write_faults files.old) (F.write_faults files.new) }
+    ensures line { Puts (MaySay (Some (generating scale output.now)) (F.held files.old) (F.held files.new))
+        (S.written out.old) result (S.faults out.old) (S.faults out.new) (S.written out.new) }
+{
+    let outcome = generate_file(alloc, files, scale, output);
+    say(out, Answer::Generate(outcome))
+}
+
+// `gen`, `simplify` and `check` one after the other, up to the first that does not pass.
+fn run_demo<F: Files, S: Sink>(
+    alloc: Global,
+    files: &mut F,
+    out: &mut S,
+    scale: Scale,
+    names: Names,
+    guides: Vec<Box<dyn Guide>>,
+) -> Status
+    requires small { scale.size ≤ 100000 }
+    requires names { names.output.now ≢ names.log.now }
+    ensures usage { result ≢ Status.Usage }
+    ensures demo { InTurn (demo scale (three_of names.entry))
+        (devices (F.held files.old) (F.read_faults files.old) (F.write_faults files.old) (S.written out.old) (S.faults out.old)) result
+        (devices (F.held files.new) (F.read_faults files.new) (F.write_faults files.new) (S.written out.new) (S.faults out.new)) }
+{
+    let made = run_generate(alloc, files, out, scale, names.input);
+    if !made.passes() {
+        return made;
+    }
+    let options = Settings::none().options();
+    let simplified = run_simplify(
+        alloc,
+        files,
+        out,
+        names.input,
+        names.output,
+        names.log,
+        &options,
+        guides,
+    );
+    if !simplified.passes() {
+        return simplified;
+    }
+    run_check(alloc, files, out, names.input, names.output, names.log)
+}
+
 // Words that are no command.
 fn run_nothing<S: Sink>(out: &mut S) -> Status
     ensures usage { (result ≡ Status.Usage) ⊎ (result ≡ Status.WriteFault) ⊎ (result ≡ Status.NoMemory) }
@@ -76,47 +134,24 @@ fn run_nothing<S: Sink>(out: &mut S) -> Status
     say(out, Answer::Usage)
 }
 
-/// Does all that the program does: `check IN OUT LOG`, `simplify IN OUT LOG` with its options, or
-/// `rebuild IN OUT LOG SKOLEM CERT`, over these files, with one line put into the sink. Main hands in the disk,
-/// standard output and the words after the program's name. The guides serve `simplify`: they are asked which target is
-/// tried next, and what is proved holds for every list of them.
-pub fn run<F: Files, S: Sink>(
+fn run_command<F: Files, S: Sink>(
     alloc: Global,
-    words: &[String],
     files: &mut F,
     out: &mut S,
+    command: Command,
     guides: Vec<Box<dyn Guide>>,
 ) -> Status
-    // Where the words are no command, that is said and nothing else is done.
-    ensures usage { result ≡ Status.Usage → command (map (λ w. string_bytes w) words.now) ≡ None }
-    ensures no_command { command (map (λ w. string_bytes w) words.now) ≡ None →
-        (result ≡ Status.Usage) ⊎ (result ≡ Status.WriteFault) ⊎ (result ≡ Status.NoMemory) }
-    ensures one { IfSome (rebuild_names (map (λ w. string_bytes w) words.now))
-        (λ n. three_files (map (λ w. string_bytes w) words.now) ≡ None) }
-
-    // When each status comes, over the bytes that the files hold, and what they hold then.
-    ensures gives { IfSome (F.held files.old) (λ disk.
-        Gives (command (map (λ w. string_bytes w) words.now)) result disk (F.held files.new)) }
-
-    // A fault comes only where a count of faults rose, of a file that the command reads, or writes, or of the sink.
-    ensures read_fault { result ≡ Status.ReadFault →
-        RoseForReads (command (map (λ w. string_bytes w) words.now)) (F.read_faults files.old) (F.read_faults files.new) }
-    ensures write_fault { result ≡ Status.WriteFault → Rose (S.faults out.old) (S.faults out.new)
-        ⊎ RoseForWrites (command (map (λ w. string_bytes w) words.now)) (F.write_faults files.old) (F.write_faults files.new) }
-
-    // Files that are only read stay as they are, also where they don't tell what they hold.
-    ensures unchanged { IfReading (command (map (λ w. string_bytes w) words.now)) (F.held files.new ≡ F.held files.old) }
-
-    // One line is put, and it says what is so: all of it, but where the sink's own call failed.
-    ensures line { Puts (MaySay (command (map (λ w. string_bytes w) words.now)) (F.held files.old) (F.held files.new))
-        (S.written out.old) result (S.faults out.old) (S.faults out.new) (S.written out.new) }
+    requires { IsFit command }
+    ensures usage { result ≢ Status.Usage }
+    ensures does { InTurn (commands_of command.entry)
+        (devices (F.held files.old) (F.read_faults files.old) (F.write_faults files.old) (S.written out.old) (S.faults out.old)) result
+        (devices (F.held files.new) (F.read_faults files.new) (F.write_faults files.new) (S.written out.new) (S.faults out.new)) }
 {
-    match parse(words) {
-        None => run_nothing(out),
-        Some(Command::Check { names }) => {
+    match command {
+        Command::Check { names } => {
             run_check(alloc, files, out, names.input, names.output, names.log)
         }
-        Some(Command::Simplify { names, options }) => run_simplify(
+        Command::Simplify { names, options } => run_simplify(
             alloc,
             files,
             out,
@@ -126,7 +161,7 @@ pub fn run<F: Files, S: Sink>(
             &options,
             guides,
         ),
-        Some(Command::Rebuild { names }) => run_rebuild(
+        Command::Rebuild { names } => run_rebuild(
             alloc,
             files,
             out,
@@ -136,5 +171,34 @@ pub fn run<F: Files, S: Sink>(
             names.skolem,
             names.cert,
         ),
+        Command::Generate { scale, output } => run_generate(alloc, files, out, scale, output),
+        Command::Demo { scale, names } => run_demo(alloc, files, out, scale, names, guides),
+    }
+}
+
+/// Does all that the program does: `simplify`, `check`, `rebuild`, `gen` or `demo`, as the words ask, over these files, with
+/// one line for each command put into the sink. Main hands in the disk, standard output and the words after the
+/// program's name. The guides serve `simplify`: they are asked which target is tried next, and what is proved holds for
+/// every list of them.
+pub fn run<F: Files, S: Sink>(
+    alloc: Global,
+    words: &[String],
+    files: &mut F,
+    out: &mut S,
+    guides: Vec<Box<dyn Guide>>,
+) -> Status
+    // `Usage` comes exactly where the words ask for nothing, but for a sink that fails.
+    ensures usage { result ≡ Status.Usage → request (map (λ w. string_bytes w) words.now) ≡ None }
+    ensures no_command { request (map (λ w. string_bytes w) words.now) ≡ None →
+        (result ≡ Status.Usage) ⊎ (result ≡ Status.WriteFault) ⊎ (result ≡ Status.NoMemory) }
+
+    // When each status comes, what the files hold then, which faults are answered and which lines are put.
+    ensures does { Does (request (map (λ w. string_bytes w) words.now))
+        (devices (F.held files.old) (F.read_faults files.old) (F.write_faults files.old) (S.written out.old) (S.faults out.old)) result
+        (devices (F.held files.new) (F.read_faults files.new) (F.write_faults files.new) (S.written out.new) (S.faults out.new)) }
+{
+    match parse(words) {
+        Some(command) => run_command(alloc, files, out, command, guides),
+        None => run_nothing(out),
     }
 }

@@ -1,10 +1,10 @@
-ghost use Rattle.std.specs.Prelude.{◌≡◌, ◌≢◌, map, option_map, string_bytes, IfSome, Some, None};
-ghost use Rattle.q_app.specs.Words.{IsFit, are_different as spec_are_different, task_of, three_files, with_task as spec_with_task};
-ghost use Rattle.q_app.specs.RebuildWords.{rebuild_names};
-ghost use Rattle.q_app.specs.Commands.{bounds_in, command, command_of};
+// The words of the command line.
+ghost use Rattle.std.specs.Prelude.{◌≡◌, ◌≢◌, ◌≤◌, map, option_map, string_bytes, IfSome, Some};
+ghost use Rattle.q_app.specs.Words.{are_different as spec_are_different, check_of, demo_by, demo_of, generate_of, just_three, scale_of as spec_scale_of, simplify_of, three_names as spec_three_names};
+ghost use Rattle.q_app.specs.Commands.{IsFit, bounds_in, by_verb as spec_by_verb, commands_of, request, three_of};
 
 use crate::rebuild_words::{RebuildNames, parse_rebuild};
-use crate::settings::Settings;
+use crate::settings::{Settings, number};
 use q_logic::Bounds;
 use q_simplify::Options;
 
@@ -16,63 +16,58 @@ pub(crate) struct Names<'a> {
     pub log: &'a str,
 }
 
+/// What formula is generated: the seed of its random numbers, and the number of its clauses by hundredths.
+#[derive(Clone, Copy, Debug, PartialEq, Eq)]
+pub(crate) struct Scale {
+    pub seed: u64,
+    pub size: u32,
+}
+
 /// What is to be done, with the names of the files.
 #[derive(Clone, Copy)]
 pub(crate) enum Command<'a> {
     Check { names: Names<'a> },
     Simplify { names: Names<'a>, options: Options },
     Rebuild { names: RebuildNames<'a> },
+    Generate { scale: Scale, output: &'a str },
+    Demo { scale: Scale, names: Names<'a> },
 }
 
 /// The command that the words are, if they are one.
 pub(crate) fn parse(words: &[String]) -> Option<Command>
-    ensures command { option_map (λ o. command_of o) result ≡ command (map (λ w. string_bytes w) words.now) }
-    ensures fit { IfSome result (λ o. IsFit (command_of o)) }
-    ensures one { IfSome (rebuild_names (map (λ w. string_bytes w) words.now))
-        (λ n. three_files (map (λ w. string_bytes w) words.now) ≡ None) }
+    ensures request { option_map (λ o. commands_of o) result ≡ request (map (λ w. string_bytes w) words.now) }
+    ensures fit { IfSome result IsFit }
 {
-    match parse_rebuild(words) {
-        Some(names) => Some(Command::Rebuild { names }),
-        None => parse_three(words),
-    }
-}
-
-/// What is to be done with three files.
-#[derive(Clone, Copy, Debug, PartialEq, Eq)]
-pub(crate) enum Task {
-    Check,
-    Simplify { options: Options },
-}
-
-fn with_task(names: Names, task: Task) -> Command
-    ensures { Some (command_of result) ≡ spec_with_task names.entry.input.now names.entry.output.now names.entry.log.now (Some task) }
-{
-    match task {
-        Task::Check => Command::Check { names },
-        Task::Simplify { options } => Command::Simplify { names, options },
-    }
-}
-
-// `check` or `simplify`, where the words are one of them and the names differ.
-fn parse_three(words: &[String]) -> Option<Command>
-    ensures command { option_map (λ o. command_of o) result ≡ three_files (map (λ w. string_bytes w) words.now) }
-    ensures fit { IfSome result (λ o. IsFit (command_of o)) }
-{
-    if words.len() < 4 {
+    if words.len() == 0 {
         return None;
     }
-    let verb = words[0].as_str();
-    let input = words[1].as_str();
-    let output = words[2].as_str();
-    let log = words[3].as_str();
-    if !are_different(input, output, log) {
-        return None;
+    by_verb(words[0].as_str(), &words[1..])
+}
+
+fn by_verb<'a>(verb: &str, operands: &'a [String]) -> Option<Command<'a>>
+    ensures request { option_map (λ o. commands_of o) result
+        ≡ spec_by_verb verb.now (map (λ w. string_bytes w) operands.now) }
+    ensures fit { IfSome result IsFit }
+{
+    if verb == "check" {
+        return parse_check(operands);
     }
-    let names = Names { input, output, log };
-    match parse_task(verb, &words[4..]) {
-        Some(task) => Some(with_task(names, task)),
-        None => None,
+    if verb == "simplify" {
+        return parse_simplify(operands);
     }
+    if verb == "rebuild" {
+        return match parse_rebuild(operands) {
+            Some(names) => Some(Command::Rebuild { names }),
+            None => None,
+        };
+    }
+    if verb == "gen" {
+        return parse_generate(operands);
+    }
+    if verb == "demo" {
+        return parse_demo(operands);
+    }
+    None
 }
 
 fn are_different(a: &str, b: &str, c: &str) -> bool
@@ -81,32 +76,138 @@ fn are_different(a: &str, b: &str, c: &str) -> bool
     a != b && a != c && b != c
 }
 
-// The task of a verb, with the words behind the names.
-fn parse_task(verb: &str, words: &[String]) -> Option<Task>
-    ensures { result ≡ task_of verb.now (map (λ w. string_bytes w) words.now) }
+// The names that the operands begin with, and the words behind them.
+#[derive(Clone, Copy)]
+struct Begun<'a> {
+    names: Names<'a>,
+    rest: &'a [String],
+}
+
+fn three_names(operands: &[String]) -> Option<Begun>
+    ensures names { option_map (λ o. (three_of o.names, map (λ w. string_bytes w) o.rest.now)) result
+        ≡ spec_three_names (map (λ w. string_bytes w) operands.now) }
+    ensures apart { IfSome result (λ o. o.names.output.now ≢ o.names.log.now) }
 {
-    if verb == "check" {
-        return if words.is_empty() {
-            Some(Task::Check)
-        } else {
-            None
-        };
-    }
-    if verb != "simplify" {
+    if operands.len() < 3 {
         return None;
     }
-    match Settings::of(words) {
-        Some(settings) => Some(Task::Simplify {
+    let input = operands[0].as_str();
+    let output = operands[1].as_str();
+    let log = operands[2].as_str();
+    if !are_different(input, output, log) {
+        return None;
+    }
+    Some(Begun {
+        names: Names { input, output, log },
+        rest: &operands[3..],
+    })
+}
+
+// The three names that the operands are.
+fn only_names(operands: &[String]) -> Option<Names>
+    ensures names { option_map (λ o. three_of o) result
+        ≡ just_three (spec_three_names (map (λ w. string_bytes w) operands.now)) }
+    ensures apart { IfSome result (λ o. o.output.now ≢ o.log.now) }
+{
+    let Some(begun) = three_names(operands) else {
+        return None;
+    };
+    if !begun.rest.is_empty() {
+        return None;
+    }
+    Some(begun.names)
+}
+
+fn parse_check(operands: &[String]) -> Option<Command>
+    ensures request { option_map (λ o. commands_of o) result
+        ≡ check_of (just_three (spec_three_names (map (λ w. string_bytes w) operands.now))) }
+    ensures fit { IfSome result IsFit }
+{
+    match only_names(operands) {
+        Some(names) => Some(Command::Check { names }),
+        None => None,
+    }
+}
+
+fn parse_simplify(operands: &[String]) -> Option<Command>
+    ensures request { option_map (λ o. commands_of o) result ≡ simplify_of (spec_three_names (map (λ w. string_bytes w) operands.now)) }
+    ensures fit { IfSome result IsFit }
+{
+    let Some(begun) = three_names(operands) else {
+        return None;
+    };
+    match Settings::of(begun.rest) {
+        Some(settings) => Some(Command::Simplify {
+            names: begun.names,
             options: settings.options(),
         }),
         None => None,
     }
 }
 
-/// The bounds of the simplification that the words ask for, and the defaults where they ask for none: what a guide has to know
-/// before the words are read.
+fn scale_of(seed: &str, size: &str) -> Option<Scale>
+    ensures scale { result ≡ spec_scale_of seed.now size.now }
+    ensures small { IfSome result (λ k. k.size ≤ 100000) }
+{
+    let Some(seed) = number(seed.as_bytes(), u64::MAX) else {
+        return None;
+    };
+    let Some(size) = number(size.as_bytes(), 100_000) else {
+        return None;
+    };
+    if size == 0 {
+        return None;
+    }
+    Some(Scale {
+        seed,
+        size: size as u32,
+    })
+}
+
+fn parse_generate(operands: &[String]) -> Option<Command>
+    ensures request { option_map (λ o. commands_of o) result ≡ generate_of (map (λ w. string_bytes w) operands.now) }
+    ensures fit { IfSome result IsFit }
+{
+    if operands.len() != 3 {
+        return None;
+    }
+    match scale_of(operands[0].as_str(), operands[1].as_str()) {
+        Some(scale) => Some(Command::Generate {
+            scale,
+            output: operands[2].as_str(),
+        }),
+        None => None,
+    }
+}
+
+fn demo_over(scale: Scale, operands: &[String]) -> Option<Command>
+    requires { scale.size ≤ 100000 }
+    ensures request { option_map (λ o. commands_of o) result
+        ≡ demo_by (Some scale) (just_three (spec_three_names (map (λ w. string_bytes w) operands.now))) }
+    ensures fit { IfSome result IsFit }
+{
+    match only_names(operands) {
+        Some(names) => Some(Command::Demo { scale, names }),
+        None => None,
+    }
+}
+
+fn parse_demo(operands: &[String]) -> Option<Command>
+    ensures request { option_map (λ o. commands_of o) result ≡ demo_of (map (λ w. string_bytes w) operands.now) }
+    ensures fit { IfSome result IsFit }
+{
+    if operands.len() < 2 {
+        return None;
+    }
+    match scale_of(operands[0].as_str(), operands[1].as_str()) {
+        Some(scale) => demo_over(scale, &operands[2..]),
+        None => None,
+    }
+}
+
+/// The bounds of the simplification that the words ask for, and the defaults where they ask for none.
 pub fn bounds_of(words: &[String]) -> Bounds
-    ensures { result ≡ bounds_in (command (map (λ w. string_bytes w) words.now)) }
+    ensures { result ≡ bounds_in (request (map (λ w. string_bytes w) words.now)) }
 {
     match parse(words) {
         Some(Command::Simplify { options, .. }) => options.bounds,
