@@ -27,7 +27,7 @@ use Rattle.q_check.specs.Checked.{Checked, HasGrown, IsRefusal}
 use Rattle.q_app.specs.declared.audit.Audit.{Audit}
 use Rattle.q_app.specs.declared.audit.Passed.{Passed}
 use Rattle.q_app.specs.declared.outcome.Outcome.{Outcome}
-use Rattle.q_app.specs.declared.outcome.Outcome.TheVariants.{Verified, RefusedLine, RefusedEnd, RefusedInput, ReadFault, NoMemory, Usage}
+use Rattle.q_app.specs.declared.outcome.Outcome.TheVariants.{Verified, RefusedLine, RefusedEnd, RefusedInput, ReadFault, NoMemory}
 use Rattle.q_app.specs.Refusals.{step_refused}
 use Rattle.q_app.specs.Audits.{behind, IsOpen, Advances, Refuses, HasTaken, HasUndone, EndsAs, EndsWith, Passes, Concludes}
 
@@ -195,7 +195,6 @@ refuses_later a b xs ys (RefusedEnd c) f h = h
 refuses_later a b xs ys (RefusedInput r n c) f h = h
 refuses_later a b xs ys ReadFault f h = h
 refuses_later a b xs ys NoMemory f h = h
-refuses_later a b xs ys Usage f h = h
 
 -- a byte of a piece is refused, behind the bytes before it
 pub refuses_from : (a b : Audit) (piece : List ℕ) (i d : ℕ) (w : Outcome) → i < length piece → Advances a b (take i piece) → ((rest : List ℕ) → Refuses w b (get_or piece i d ∷ rest)) → (rest : List ℕ) → Refuses w a (piece ++ rest)
@@ -256,7 +255,6 @@ concludes a es f G (RefusedEnd c) l t r = λ F h. ended (l F h)
 concludes a es f G (RefusedInput r n c) l t h = elim h [ ]
 concludes a es f G ReadFault l t h = elim h [ ]
 concludes a es f G NoMemory l t h = tt
-concludes a es f G Usage l t h = elim h [ ]
 
 -- the log is a run
 passes : (a : Audit) (es : List Entry) (f G : PrenexFormula) (n : ℕ) (us : List UndoEntry) → ((F : PrenexFormula) → AreAlike F a.checker.formula → Leads standard F (steps_of es) f) → ((F : PrenexFormula) → AreAlike F a.checker.formula → HasUndone a.checker.keeps F (steps_of es) a.checker.undo us) → to_come a.reader [] ≡ record { steps = es; refused = None } → n ≡ a.steps + length es → SameFormula f G → Passes a G n us

@@ -9,7 +9,7 @@ use Rattle.q_check.specs.Alike.{Leads}
 use Rattle.q_app.specs.Logs.{Entry, steps_of, IsRefusedAt}
 use Rattle.q_app.specs.declared.audit.Audit.{Audit}
 use Rattle.q_app.specs.declared.outcome.Outcome.{Outcome}
-use Rattle.q_app.specs.declared.outcome.Outcome.TheVariants.{Verified, RefusedLine, RefusedEnd, RefusedInput, ReadFault, NoMemory, Usage}
+use Rattle.q_app.specs.declared.outcome.Outcome.TheVariants.{Verified, RefusedLine, RefusedEnd, RefusedInput, ReadFault, NoMemory}
 use Rattle.q_logic.specs.Undos.{UndoEntry, Undos}
 use Rattle.q_app.specs.Audits.{behind, Advances, Refuses, HasUndone, EndsWith, Passes, Concludes, IsStarted}
 use Rattle.q_app.specs.Checks.{EndsElsewhere, LeadsBack, IsEarly, IsUnverified, LogPasses, LogSays}
@@ -67,7 +67,6 @@ log_says first last keep F G file (RefusedEnd c) s a h = go (a.tried F s.alike)
 log_says first last keep F G file (RefusedInput r n c) s a h = elim h [ ]
 log_says first last keep F G file ReadFault s a h = tt
 log_says first last keep F G file NoMemory s a h = tt
-log_says first last keep F G file Usage s a h = elim h [ ]
 
 pub log_refuses : (first : Audit) (keep : Bool) (F G : PrenexFormula) (file : List ℕ) (w : Outcome) → IsStarted first keep F → Refuses w first file → LogSays w F G file
 log_refuses first keep F G file (Verified n) s h = elim h [ ]
@@ -76,7 +75,6 @@ log_refuses first keep F G file (RefusedEnd c) s h = elim h [ ]
 log_refuses first keep F G file (RefusedInput r n c) s h = elim h [ ]
 log_refuses first keep F G file ReadFault s h = tt
 log_refuses first keep F G file NoMemory s h = tt
-log_refuses first keep F G file Usage s h = elim h [ ]
 
 pub early-unverified : (w : Outcome) → IsEarly w → IsUnverified w
 early-unverified (Verified n) h = h
@@ -85,4 +83,3 @@ early-unverified (RefusedEnd c) h = tt
 early-unverified (RefusedInput r n c) h = tt
 early-unverified ReadFault h = tt
 early-unverified NoMemory h = tt
-early-unverified Usage h = tt

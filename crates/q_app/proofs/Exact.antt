@@ -19,7 +19,7 @@ use Rattle.q_app.specs.Statuses.{status_of}
 use Rattle.q_app.specs.declared.check.Checked.{Checked}
 use Rattle.q_app.specs.declared.outcome.Role.TheVariants.{In, Out}
 use Rattle.q_app.specs.declared.outcome.Outcome.{Outcome}
-use Rattle.q_app.specs.declared.outcome.Outcome.TheVariants.{Verified, RefusedLine, RefusedEnd, RefusedInput, ReadFault, NoMemory, Usage}
+use Rattle.q_app.specs.declared.outcome.Outcome.TheVariants.{Verified, RefusedLine, RefusedEnd, RefusedInput, ReadFault, NoMemory}
 use Rattle.q_app.specs.declared.status.Status.{Status}
 use Rattle.q_app.specs.declared.status.Status.TheVariants as status
 use Rattle.q_app.specs.Checks.{IsFileOf, IsNoFormula, FilesPass, OfFormulas, LeadsTo, EndsElsewhere, LogSays, Checks, IsVerified, IsNoRun, HaveOneTruth, IfVerified, IsUnverified, MayCome, AnswersExactly}
@@ -111,7 +111,6 @@ answers (RefusedInput In n c) answer i o l h t (inl e) = no_formula answer i o l
 answers (RefusedInput Out n c) answer i o l h t (inl e) = no_formula answer i o l e (inr (λ F f. no_offence o F n c h.2 f))
 answers ReadFault answer i o l h t (inl e) = may_come answer i o l (inl e) (λ x. cc) (λ x. cc) (λ x. cc)
 answers NoMemory answer i o l h t (inl e) = may_come answer i o l (inr (inr e)) (λ x. cc) (λ x. cc) (λ x. cc)
-answers Usage answer i o l h t (inl e) = absurd h
 
 pub if_verified-some : {D : Type 0} (due : Outcome) (o : Option D) (P : D → Type 0) → IfVerified due (IfSome o P) → IfSome o (λ d. IfVerified due (P d))
 if_verified-some (Verified n) o P h = h
@@ -125,8 +124,6 @@ if_verified-some ReadFault None P h = tt
 if_verified-some ReadFault (Some d) P h = tt
 if_verified-some NoMemory None P h = tt
 if_verified-some NoMemory (Some d) P h = tt
-if_verified-some Usage None P h = tt
-if_verified-some Usage (Some d) P h = tt
 
 one_truth : (i o : List ℕ) (F G : PrenexFormula) → IsFileOf i F → IsFileOf o G → Holds F ↔ Holds G → HaveOneTruth i o
 one_truth i o F G f g t A B a b =
@@ -156,7 +153,6 @@ unverified-truth (RefusedEnd c) i o h = tt
 unverified-truth (RefusedInput r n c) i o h = tt
 unverified-truth ReadFault i o h = tt
 unverified-truth NoMemory i o h = tt
-unverified-truth Usage i o h = tt
 
 pub unverified-not_done : (w : Outcome) (answer : Status) → IsUnverified w → answer ≡ status_of w → answer ≡ status.Done → ⊥
 unverified-not_done (Verified n) answer h e x = h
@@ -165,7 +161,6 @@ unverified-not_done (RefusedEnd c) answer h e x = cc
 unverified-not_done (RefusedInput r n c) answer h e x = cc
 unverified-not_done ReadFault answer h e x = cc
 unverified-not_done NoMemory answer h e x = cc
-unverified-not_done Usage answer h e x = cc
 
 pub unverified-not_circuits : (w : Outcome) (answer : Status) → answer ≡ status_of w → answer ≡ status.CircuitsRefused → ⊥
 unverified-not_circuits (Verified n) answer e x = cc
@@ -174,4 +169,3 @@ unverified-not_circuits (RefusedEnd c) answer e x = cc
 unverified-not_circuits (RefusedInput r n c) answer e x = cc
 unverified-not_circuits ReadFault answer e x = cc
 unverified-not_circuits NoMemory answer e x = cc
-unverified-not_circuits Usage answer e x = cc

@@ -7,7 +7,6 @@ pub mod Limits
 pub mod Wording
 pub mod Answering
 pub mod Verifying
-pub mod Running
 pub mod WholeFiles
 pub mod Certifying
 pub mod Deciding

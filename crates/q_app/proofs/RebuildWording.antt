@@ -3,8 +3,9 @@ use Rattle.std.proofs.Common.{◌≡◌, ◌≢◌, ℕ, Bool, true, false, ◌&
 use Rattle.std.specs.declared.alloc.Global.{Global}
 use Rattle.std.specs.Str.{bytes_eq}
 use Rattle.std.proofs.lemmas.Slice.Eq.{bytes_eq-Decides}
-use Rattle.q_app.specs.Words.{are_different, command}
-use Rattle.q_app.specs.Rebuilds.{five}
+use Rattle.q_app.specs.Words.{are_different, three_files, rebuilding}
+use Rattle.q_app.specs.Rebuilds.{FiveNames, five}
+use Rattle.q_app.specs.Commands.{command, first, rebuilds}
 use Rattle.q_app.specs.RebuildWords.{is_new, are_four, apart, rebuild_names}
 
 abbrev pub texts_of : List (String Global) → List (List ℕ)
@@ -57,8 +58,17 @@ neither true x = refl
 neither false x = refl
 
 -- words that are `rebuild` are no other command
-pub no_command : (v i o l s t : List ℕ) → bytes_eq v (codes "rebuild") ≡ true → command (v ∷ i ∷ o ∷ l ∷ s ∷ t ∷ []) ≡ None
-unfolding command
+pub no_command : (v i o l s t : List ℕ) → bytes_eq v (codes "rebuild") ≡ true → three_files (v ∷ i ∷ o ∷ l ∷ s ∷ t ∷ []) ≡ None
+unfolding three_files
 no_command v i o l s t e =
     let w : v ≡ codes "rebuild" = (bytes_eq-Decides v (codes "rebuild")).0 e in
-    subst (λ (u : List ℕ). command (u ∷ i ∷ o ∷ l ∷ s ∷ t ∷ []) ≡ None) (sym w) (neither (are_different i o l) None)
+    subst (λ (u : List ℕ). three_files (u ∷ i ∷ o ∷ l ∷ s ∷ t ∷ []) ≡ None) (sym w) (neither (are_different i o l) None)
+
+-- what the words are, by whether they are `rebuild`
+pub command-rebuild : (ws : List (List ℕ)) (n : FiveNames) → Some n ≡ rebuild_names ws → Some (rebuilding n) ≡ command ws
+unfolding command
+command-rebuild ws n e = ap (λ (o : Option FiveNames). first (rebuilds o) (three_files ws)) e
+
+pub command-three : (ws : List (List ℕ)) → None ≡ rebuild_names ws → three_files ws ≡ command ws
+unfolding command
+command-three ws e = ap (λ (o : Option FiveNames). first (rebuilds o) (three_files ws)) e

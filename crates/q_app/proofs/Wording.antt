@@ -11,7 +11,7 @@ use Rattle.q_app.specs.declared.words.Task.TheVariants.{Check, Simplify}
 use Rattle.q_app.specs.declared.settings.Setting.{Setting}
 use Rattle.q_app.specs.declared.settings.Setting.TheVariants as setting
 use Rattle.q_app.specs.declared.settings.Settings.{Settings}
-use Rattle.q_app.specs.Words.{Command, IsModest, are_different, up_to, number_of, behind, set, setting_by, setting_of, with_setting, with_word, with_words, nothing_set, options_of, check_task, simplify_task, task_of, with_task, command}
+use Rattle.q_app.specs.Words.{Command, IsModest, are_different, up_to, number_of, behind, set, setting_by, setting_of, with_setting, with_word, with_words, nothing_set, options_of, check_task, simplify_task, task_of, with_task, three_files, three, Command, IsFit}
 
 pub none-stays : (ws : List (List ℕ)) → None ≡ with_words None ws
 none-stays [] = refl
@@ -116,9 +116,13 @@ modest-task v ws = go (bytes_eq v (codes "check")) (bytes_eq v (codes "simplify"
 pub task-modest : (v : List ℕ) (ws : List (List ℕ)) (t : Task) → Some t ≡ task_of v ws → IsModest t
 task-modest v ws t e = let h : MayModest (task_of v ws) = modest-task v ws in subst MayModest (sym e) h
 
+abbrev MayFit : Option Command → Type 0
+MayFit None = Unit {0}
+MayFit (Some c) = IsFit c
+
 -- the first four words
-pub few : (ws : List (List ℕ)) → length ws < 4 → None ≡ command ws
-unfolding command
+pub few : (ws : List (List ℕ)) → length ws < 4 → None ≡ three_files ws
+unfolding three_files
 few [] h = refl
 few (a ∷ []) h = refl
 few (a ∷ b ∷ []) h = refl
@@ -138,12 +142,12 @@ words_are ws a b c d v i o l n p q r s x y z w =
     let g : v ∷ i ∷ o ∷ l ∷ texts (drop 4 ws) ≡ string_bytes a ∷ string_bytes b ∷ string_bytes c ∷ string_bytes d ∷ texts (drop 4 ws) = cc in
     g ∙ sym (ap texts e)
 
-pub same_names : (v i o l : List ℕ) (ws : List (List ℕ)) → are_different i o l ≡ false → None ≡ command (v ∷ i ∷ o ∷ l ∷ ws)
-unfolding command
+pub same_names : (v i o l : List ℕ) (ws : List (List ℕ)) → are_different i o l ≡ false → None ≡ three_files (v ∷ i ∷ o ∷ l ∷ ws)
+unfolding three_files
 same_names v i o l ws e = rw e refl
 
-pub other_names : (v i o l : List ℕ) (ws : List (List ℕ)) → are_different i o l ≡ true → with_task i o l (task_of v ws) ≡ command (v ∷ i ∷ o ∷ l ∷ ws)
-unfolding command
+pub other_names : (v i o l : List ℕ) (ws : List (List ℕ)) → are_different i o l ≡ true → with_task i o l (task_of v ws) ≡ three_files (v ∷ i ∷ o ∷ l ∷ ws)
+unfolding three_files
 other_names v i o l ws e = rw e refl
 
 -- the words behind the names
@@ -159,3 +163,8 @@ last_not false false false e f = cc
 -- names that differ are not equal
 pub differ : (i o l : List ℕ) → are_different i o l ≡ true → o ≡ l → ⊥
 differ i o l h e = last_not (bytes_eq i o) (bytes_eq i l) (bytes_eq o l) ((bytes_eq-Decides o l).1 e) h
+
+-- a command of a modest task is fit
+pub fit-task : (c : Command) (i o l : List ℕ) (t : Task) → Some c ≡ with_task i o l (Some t) → IsModest t → (o ≡ l → ⊥) → IsFit c
+fit-task c i o l Check e m d = let s : MayFit (Some c) = subst MayFit (sym e) tt in s
+fit-task c i o l (Simplify p) e m d = let s : MayFit (Some c) = subst MayFit (sym e) (m, d) in s

@@ -14,7 +14,7 @@ use Rattle.q_check.specs.Alike.{AreAlike, Leads}
 use Rattle.q_app.specs.Logs.{Entry, steps_of, IsRefusedAt}
 use Rattle.q_app.specs.declared.audit.Audit.{Audit}
 use Rattle.q_app.specs.declared.outcome.Outcome.{Outcome}
-use Rattle.q_app.specs.declared.outcome.Outcome.TheVariants.{Verified, RefusedLine, RefusedEnd, RefusedInput, ReadFault, NoMemory, Usage}
+use Rattle.q_app.specs.declared.outcome.Outcome.TheVariants.{Verified, RefusedLine, RefusedEnd, RefusedInput, ReadFault, NoMemory}
 
 -- steps in front of what is to come
 abbrev pub behind : List Entry → logs.Outcome → logs.Outcome
@@ -49,7 +49,6 @@ Refuses (RefusedEnd c) a bytes = ⊥
 Refuses (RefusedInput r n c) a bytes = ⊥
 Refuses ReadFault a bytes = Unit {0}
 Refuses NoMemory a bytes = Unit {0}
-Refuses Usage a bytes = ⊥
 
 -- n bytes of the file were tried, from a place on
 pub record HasTaken (file : List ℕ) (place n : ℕ) (old new : Audit) : Type 0 where
@@ -65,7 +64,6 @@ EndsAs (RefusedEnd c) F G = IsEndRefusal F G (check.Refused c)
 EndsAs (RefusedInput r n c) F G = ⊥
 EndsAs ReadFault F G = ⊥
 EndsAs NoMemory F G = Unit {0}
-EndsAs Usage F G = ⊥
 
 -- the log has come to its end behind these steps
 pub record EndsWith (a : Audit) (es : List Entry) (F last : PrenexFormula) : Type 0 where
@@ -90,7 +88,6 @@ Concludes (RefusedEnd c) a G =
 Concludes (RefusedInput r n c) a G = ⊥
 Concludes ReadFault a G = ⊥
 Concludes NoMemory a G = Unit {0}
-Concludes Usage a G = ⊥
 
 -- nothing is read yet, the checker has the formula, and it is told whether to keep an undo list
 pub record IsStarted (a : Audit) (keep : Bool) (F : PrenexFormula) : Type 0 where

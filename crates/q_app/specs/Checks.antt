@@ -15,7 +15,7 @@ use Rattle.q_app.specs.declared.check.Checked.{Checked}
 use Rattle.q_app.specs.declared.outcome.Role.{Role}
 use Rattle.q_app.specs.declared.outcome.Role.TheVariants.{In, Out}
 use Rattle.q_app.specs.declared.outcome.Outcome.{Outcome}
-use Rattle.q_app.specs.declared.outcome.Outcome.TheVariants.{Verified, RefusedLine, RefusedEnd, RefusedInput, ReadFault, NoMemory, Usage}
+use Rattle.q_app.specs.declared.outcome.Outcome.TheVariants.{Verified, RefusedLine, RefusedEnd, RefusedInput, ReadFault, NoMemory}
 use Rattle.q_app.specs.declared.input.InputError.{InputError}
 use Rattle.q_app.specs.declared.input.InputError.TheVariants as reading
 use Rattle.q_app.specs.declared.status.Status.{Status}
@@ -81,7 +81,6 @@ LogSays (RefusedEnd c) F G log = EndsElsewhere log F G c
 LogSays (RefusedInput r n c) F G log = ⊥
 LogSays ReadFault F G log = Unit {0}
 LogSays NoMemory F G log = Unit {0}
-LogSays Usage F G log = ⊥
 
 -- what the outcome says of the three files
 abbrev pub Checks : Outcome → List ℕ → List ℕ → List ℕ → Type 0
@@ -92,7 +91,6 @@ Checks (RefusedInput In n c) i o l = Offence standard i n c
 Checks (RefusedInput Out n c) i o l = (F : PrenexFormula) × IsFileOf i F × Offence standard o n c
 Checks ReadFault i o l = Unit {0}
 Checks NoMemory i o l = Unit {0}
-Checks Usage i o l = ⊥
 
 abbrev pub input_refused : Role → InputError → Outcome
 input_refused r (reading.Refused n c) = RefusedInput r n c
@@ -107,7 +105,6 @@ IsInputRefusal r (RefusedEnd c) bytes = ⊥
 IsInputRefusal r (RefusedInput s n c) bytes = (s ≡ r) × Offence standard bytes n c
 IsInputRefusal r ReadFault bytes = Unit {0}
 IsInputRefusal r NoMemory bytes = Unit {0}
-IsInputRefusal r Usage bytes = ⊥
 
 -- no log was verified
 abbrev pub IsUnverified : Outcome → Type 0
@@ -117,7 +114,6 @@ IsUnverified (RefusedEnd c) = Unit {0}
 IsUnverified (RefusedInput s n c) = Unit {0}
 IsUnverified ReadFault = Unit {0}
 IsUnverified NoMemory = Unit {0}
-IsUnverified Usage = Unit {0}
 
 -- an outcome that comes before the log is looked at
 abbrev pub IsEarly : Outcome → Type 0
@@ -127,7 +123,6 @@ IsEarly (RefusedEnd c) = ⊥
 IsEarly (RefusedInput s n c) = Unit {0}
 IsEarly ReadFault = Unit {0}
 IsEarly NoMemory = Unit {0}
-IsEarly Usage = ⊥
 
 -- the log leads from the formula of IN to that of OUT
 abbrev pub IsVerified : List ℕ → List ℕ → List ℕ → Type 0
@@ -148,7 +143,6 @@ IfVerified (RefusedEnd c) P = Unit {0}
 IfVerified (RefusedInput r n c) P = Unit {0}
 IfVerified ReadFault P = Unit {0}
 IfVerified NoMemory P = Unit {0}
-IfVerified Usage P = Unit {0}
 
 -- faults and want of memory may come in place of any answer
 abbrev pub MayCome : Status → Type 0

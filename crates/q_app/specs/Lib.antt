@@ -7,8 +7,10 @@ pub mod Refusals
 pub mod Audits
 pub mod Checks
 pub mod Simplifying
-pub mod Says
 pub mod RebuiltLines
 pub mod Rebuilds
 pub mod SaysRebuilt
 pub mod RebuildWords
+pub mod Commands
+pub mod Answers
+pub mod Says

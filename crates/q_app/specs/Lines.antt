@@ -7,7 +7,7 @@ use Rattle.q_simplify.specs.declared.report.Ending.TheVariants as ending
 use Rattle.q_app.specs.declared.simplified.Simplified.{Simplified}
 use Rattle.q_app.specs.declared.simplified.Simplified.TheVariants as simplified
 use Rattle.q_app.specs.declared.outcome.Outcome.{Outcome}
-use Rattle.q_app.specs.declared.outcome.Outcome.TheVariants.{Verified, RefusedLine, RefusedEnd, RefusedInput, ReadFault, NoMemory, Usage}
+use Rattle.q_app.specs.declared.outcome.Outcome.TheVariants.{Verified, RefusedLine, RefusedEnd, RefusedInput, ReadFault, NoMemory}
 
 abbrev pub line_of : Outcome → List ℕ
 line_of (Verified n) = codes "verified " ++ decimal n ++ codes "\n"
@@ -17,7 +17,6 @@ line_of (RefusedInput In n c) = codes "input IN line " ++ decimal n ++ codes " c
 line_of (RefusedInput Out n c) = codes "input OUT line " ++ decimal n ++ codes " cause " ++ decimal c ++ codes "\n"
 line_of ReadFault = codes "read fault\n"
 line_of NoMemory = codes "no memory\n"
-line_of Usage = codes "usage\n"
 
 abbrev pub word_of : Ending → List ℕ
 word_of ending.Settled = codes "settled "

@@ -107,10 +107,6 @@ five i o l s c = record { input = i; output = o; log = l; skolem = s; cert = c }
 abbrev pub FaultsReading : Rebuilt → Type 0
 FaultsReading r = (r ≡ ReadFault) ⊎ (r ≡ Unverified outcome.ReadFault)
 
--- an unknown command is no outcome
-abbrev pub MayBeSaid : Rebuilt → Type 0
-MayBeSaid r = r ≡ Unverified outcome.Usage → ⊥
-
 -- the front of a file that was read
 pub record IsFront (file : List ℕ) (place : ℕ) (text : List ℕ) : Type 0 where
   pub is : text ≡ take place file

@@ -1,88 +1,102 @@
--- The line that a run puts.
+-- The line that a run puts, and the faults that it may answer.
 use Rattle.std.specs.Prelude.{◌≡◌, ◌⊎◌, ℕ, List, ◌++◌, take, Option, Some, None, IfSome}
 use Rattle.q_io.specs.Files.{Disk, Rose, bytes_at}
-use Rattle.q_simplify.specs.declared.options.Options.{Options}
-use Rattle.q_app.specs.Statuses.{status_of, status_of_simplified}
-use Rattle.q_app.specs.Lines.{line_of, line_of_simplified}
-use Rattle.q_app.specs.Words.{Command}
-use Rattle.q_app.specs.Checks.{Checks}
-use Rattle.q_app.specs.Simplifying.{Ends}
-use Rattle.q_app.specs.declared.words.Task.{Task}
-use Rattle.q_app.specs.declared.words.Task.TheVariants.{Check, Simplify}
-use Rattle.q_app.specs.declared.simplified.Simplified.{Simplified}
+use Rattle.q_app.specs.Answers.{status_of_answer, line_of_answer}
+use Rattle.q_app.specs.Words.{Command, checking, simplifying, rebuilding}
+use Rattle.q_app.specs.Checks.{AnswersExactly, Checks}
+use Rattle.q_app.specs.Simplifying.{Ends, SimplifiesExactly}
+use Rattle.q_app.specs.Rebuilds.{Rebuilds, RebuildsExactly}
+use Rattle.q_app.specs.SaysRebuilt.{RoseForRebuild, RoseForCert}
 use Rattle.q_app.specs.declared.outcome.Outcome.{Outcome}
-use Rattle.q_app.specs.declared.outcome.Outcome.TheVariants.{Usage}
+use Rattle.q_app.specs.declared.simplified.Simplified.{Simplified}
+use Rattle.q_app.specs.declared.rebuilt.Rebuilt.{Rebuilt}
+use Rattle.q_app.specs.declared.answer.Answer.{Answer}
+use Rattle.q_app.specs.declared.answer.Answer.TheVariants as answer
 use Rattle.q_app.specs.declared.status.Status.{Status}
 use Rattle.q_app.specs.declared.status.Status.TheVariants as status
 
--- a front of the line, where putting it failed
-pub record SaysPart (before line : List ℕ) (answer : Status) (after : Option (List ℕ)) : Type 0 where
+-- a front of the line, where the sink's own call failed: its count of faults rose, or it found no memory
+pub record SaysPart (before line : List ℕ) (given : Status) (faults now : ℕ) (after : Option (List ℕ)) : Type 0 where
   pub part : ℕ
   pub text : after ≡ Some (before ++ take part line)
-  pub failed : (answer ≡ status.WriteFault) ⊎ (answer ≡ status.NoMemory)
+  pub failed : ((given ≡ status.WriteFault) × Rose faults now) ⊎ (given ≡ status.NoMemory)
 
 -- the line stands behind what was there, with the status that is due
-abbrev pub Says : List ℕ → List ℕ → Status → Status → Option (List ℕ) → Type 0
-Says before line due answer after =
-    ((answer ≡ due) × (after ≡ Some (before ++ line))) ⊎ SaysPart before line answer after
+abbrev pub Says : List ℕ → List ℕ → Status → Status → ℕ → ℕ → Option (List ℕ) → Type 0
+Says before line due given faults now after =
+    ((given ≡ due) × (after ≡ Some (before ++ line))) ⊎ SaysPart before line given faults now after
 
 -- the status is the one that is due, or the line could not be put
 abbrev pub IsDue : Status → Status → ℕ → ℕ → Type 0
-IsDue due answer faults now =
-    (answer ≡ due) ⊎ ((answer ≡ status.WriteFault) × Rose faults now) ⊎ (answer ≡ status.NoMemory)
+IsDue due given faults now =
+    (given ≡ due) ⊎ ((given ≡ status.WriteFault) × Rose faults now) ⊎ (given ≡ status.NoMemory)
 
--- an outcome of which this holds is said
-abbrev pub SaysSome : (Outcome → Type 0) → List ℕ → Status → Option (List ℕ) → Type 0
-SaysSome P before answer after = (due : Outcome) × P due × Says before (line_of due) (status_of due) answer after
+-- an answer of which this holds is due; its line is put, where the sink tells, and its status is given
+pub record Puts (P : Answer → Type 0) (before : Option (List ℕ)) (given : Status) (faults now : ℕ) (after : Option (List ℕ)) : Type 0 where
+  pub due : Answer
+  pub is : P due
+  pub given_is : IsDue (status_of_answer due) given faults now
+  pub says : IfSome before (λ text. Says text (line_of_answer due) (status_of_answer due) given faults now after)
 
-abbrev pub SaysSimplified : (Simplified → Type 0) → List ℕ → Status → Option (List ℕ) → Type 0
-SaysSimplified P before answer after =
-    (due : Simplified) × P due × Says before (line_of_simplified due) (status_of_simplified due) answer after
+-- what each command may answer, and that it is so where the files tell what they hold
+abbrev pub MaySay : Option Command → Option Disk → Option Disk → Answer → Type 0
+MaySay None before after due = due ≡ answer.Usage
+MaySay (Some (checking n)) before after due =
+    (o : Outcome) × (due ≡ answer.Check o) × IfSome before (λ disk. Checks o (bytes_at disk n.input) (bytes_at disk n.output) (bytes_at disk n.log))
+MaySay (Some (simplifying n p)) before after due =
+    (o : Simplified) × (due ≡ answer.Simplify o) × IfSome before (λ disk. Ends o p n.input n.output n.log disk after)
+MaySay (Some (rebuilding n)) before after due =
+    (o : Rebuilt) × (due ≡ answer.Rebuild o) × IfSome before (λ disk. Rebuilds o n disk after)
 
--- what is said, by the words and the files before and after
-abbrev pub SaysTask : Task → Command → Disk → Option Disk → List ℕ → Status → Option (List ℕ) → Type 0
-SaysTask Check c disk after =
-    SaysSome (λ due. Checks due (bytes_at disk c.input) (bytes_at disk c.output) (bytes_at disk c.log))
-SaysTask (Simplify o) c disk after = SaysSimplified (λ due. Ends due o c.input c.output c.log disk after)
-
-abbrev pub SaysOf : Option Command → Option Disk → Option Disk → List ℕ → Status → Option (List ℕ) → Type 0
-SaysOf None disk after before answer text = SaysSome (λ due. due ≡ Usage) before answer text
-SaysOf (Some c) disk after before answer text = IfSome disk (λ d. SaysTask c.task c d after before answer text)
+-- when each command gives which status, and what the files hold then
+abbrev pub Gives : Option Command → Status → Disk → Option Disk → Type 0
+Gives None given before after = Unit {0}
+Gives (Some (checking n)) given before after =
+    AnswersExactly given (bytes_at before n.input) (bytes_at before n.output) (bytes_at before n.log)
+Gives (Some (simplifying n p)) given before after = SimplifiesExactly given p n.input n.output n.log before after
+Gives (Some (rebuilding n)) given before after = RebuildsExactly given n before after
 
 -- the count of read faults rose for a file that the command reads
-abbrev pub RoseForReads : (List ℕ → ℕ) → (List ℕ → ℕ) → Command → Task → Type 0
-RoseForReads before now c Check =
-    Rose (before c.input) (now c.input) ⊎ Rose (before c.output) (now c.output) ⊎ Rose (before c.log) (now c.log)
-RoseForReads before now c (Simplify o) = Rose (before c.input) (now c.input)
+abbrev pub RoseForReads : Option Command → (List ℕ → ℕ) → (List ℕ → ℕ) → Type 0
+RoseForReads None before now = ⊥
+RoseForReads (Some (checking n)) before now =
+    Rose (before n.input) (now n.input) ⊎ Rose (before n.output) (now n.output) ⊎ Rose (before n.log) (now n.log)
+RoseForReads (Some (simplifying n p)) before now = Rose (before n.input) (now n.input)
+RoseForReads (Some (rebuilding n)) before now = RoseForRebuild before now n
 
 -- the count of write faults rose for a file that the command writes
-abbrev pub RoseForWrites : (List ℕ → ℕ) → (List ℕ → ℕ) → Command → Task → Type 0
-RoseForWrites before now c Check = ⊥
-RoseForWrites before now c (Simplify o) = Rose (before c.output) (now c.output) ⊎ Rose (before c.log) (now c.log)
-
-abbrev pub if_check : Task → Type 0 → Type 0
-if_check Check P = P
-if_check (Simplify o) P = Unit {0}
-
-abbrev pub if_simplify : Task → (Options → Type 0) → Type 0
-if_simplify Check P = Unit {0}
-if_simplify (Simplify o) P = P o
-
--- there is a command, and this holds of it
-abbrev pub IsSomeAnd : Option Command → (Command → Type 0) → Type 0
-IsSomeAnd None P = ⊥
-IsSomeAnd (Some c) P = P c
+abbrev pub RoseForWrites : Option Command → (List ℕ → ℕ) → (List ℕ → ℕ) → Type 0
+RoseForWrites None before now = ⊥
+RoseForWrites (Some (checking n)) before now = ⊥
+RoseForWrites (Some (simplifying n p)) before now = Rose (before n.output) (now n.output) ⊎ Rose (before n.log) (now n.log)
+RoseForWrites (Some (rebuilding n)) before now = RoseForCert before now n
 
 -- of a command that changes no file
 abbrev pub IfReading : Option Command → Type 0 → Type 0
 IfReading None P = P
-IfReading (Some c) P = if_check c.task P
+IfReading (Some (checking n)) P = P
+IfReading (Some (simplifying n p)) P = Unit {0}
+IfReading (Some (rebuilding n)) P = Unit {0}
 
--- of `check`, and of `simplify`
-abbrev pub IfCheck : Option Command → (Command → Type 0) → Type 0
-IfCheck None P = Unit {0}
-IfCheck (Some c) P = if_check c.task (P c)
+-- the devices at a moment: what the files and the sink hold, where they tell it, and their counts of faults
+pub record Devices : Type 0 where
+  pub held : Option Disk
+  pub read_faults : List ℕ → ℕ
+  pub write_faults : List ℕ → ℕ
+  pub written : Option (List ℕ)
+  pub faults : ℕ
 
-abbrev pub IfSimplify : Option Command → (Command → Options → Type 0) → Type 0
-IfSimplify None P = Unit {0}
-IfSimplify (Some c) P = if_simplify c.task (P c)
+abbrev pub devices : Option Disk → (List ℕ → ℕ) → (List ℕ → ℕ) → Option (List ℕ) → ℕ → Devices
+devices held reads writes written faults =
+    record { held = held; read_faults = reads; write_faults = writes; written = written; faults = faults }
+
+-- what a command does: the status that it gives and what the files hold then; a fault is given only where a count of faults
+-- rose, of a file that it reads or writes or of the sink; files that are only read stay, also where they don't tell what
+-- they hold; one line is put, and it says what is so
+pub record Runs (c : Option Command) (before : Devices) (given : Status) (after : Devices) : Type 0 where
+  pub gives : IfSome before.held (λ disk. Gives c given disk after.held)
+  pub usage : given ≡ status.Usage → c ≡ None
+  pub read_fault : given ≡ status.ReadFault → RoseForReads c before.read_faults after.read_faults
+  pub write_fault : given ≡ status.WriteFault → Rose before.faults after.faults ⊎ RoseForWrites c before.write_faults after.write_faults
+  pub unchanged : IfReading c (after.held ≡ before.held)
+  pub line : Puts (MaySay c before.held after.held) before.written given before.faults after.faults after.written

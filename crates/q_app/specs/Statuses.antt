@@ -7,7 +7,7 @@ use Rattle.q_simplify.specs.declared.report.Ending.TheVariants as ending
 use Rattle.q_app.specs.declared.simplified.Simplified.{Simplified}
 use Rattle.q_app.specs.declared.simplified.Simplified.TheVariants as simplified
 use Rattle.q_app.specs.declared.outcome.Outcome.{Outcome}
-use Rattle.q_app.specs.declared.outcome.Outcome.TheVariants.{Verified, RefusedLine, RefusedEnd, RefusedInput, ReadFault, NoMemory, Usage}
+use Rattle.q_app.specs.declared.outcome.Outcome.TheVariants.{Verified, RefusedLine, RefusedEnd, RefusedInput, ReadFault, NoMemory}
 
 abbrev pub code_of : Status → ℕ
 code_of status.Done = 0
@@ -30,7 +30,6 @@ status_of (RefusedEnd c) = status.LogRefused
 status_of (RefusedInput r n c) = status.InputRefused
 status_of ReadFault = status.ReadFault
 status_of NoMemory = status.NoMemory
-status_of Usage = status.Usage
 
 -- the status of a formula that was simplified
 abbrev pub status_of_ending : Ending → Status

@@ -1,21 +1,27 @@
 -- The words of the command line.
-use Rattle.std.specs.Prelude.{ℕ, Bool, not, ◌&&◌, ◌==◌, ◌^◌, ◌-◌, nat_le, cond, if◌then◌else◌, is_some, unwrap_or, List, [], ◌∷◌, Option, Some, None, codes}
+use Rattle.std.specs.Prelude.{◌≢◌, ℕ, Bool, not, ◌&&◌, ◌==◌, ◌^◌, ◌-◌, nat_le, cond, if◌then◌else◌, is_some, unwrap_or, List, [], ◌∷◌, Option, Some, None, codes}
 use Rattle.std.specs.Str.{bytes_eq}
 use Rattle.q_text.specs.Words.{digits}
 use Rattle.q_kernel.specs.Taking.{AreModest}
 use Rattle.q_simplify.specs.declared.options.Options.{Options}
+use Rattle.q_app.specs.Rebuilds.{FiveNames}
 use Rattle.q_app.specs.declared.words.Task.{Task}
 use Rattle.q_app.specs.declared.words.Task.TheVariants.{Check, Simplify}
 use Rattle.q_app.specs.declared.settings.Setting.{Setting}
 use Rattle.q_app.specs.declared.settings.Setting.TheVariants as setting
 use Rattle.q_app.specs.declared.settings.Settings.{Settings}
 
--- the names of three files, and what is to be done with them
-pub record Command : Type 0 where
+-- the names of IN, OUT and LOG
+pub record ThreeNames : Type 0 where
   pub input : List ℕ
   pub output : List ℕ
   pub log : List ℕ
-  pub task : Task
+
+-- what is to be done, with the names of the files
+pub data Command : Type 0 where
+  checking : ThreeNames → Command
+  simplifying : ThreeNames → Options → Command
+  rebuilding : FiveNames → Command
 
 abbrev pub are_different : List ℕ → List ℕ → List ℕ → Bool
 are_different a b c = not (bytes_eq a b) && not (bytes_eq a c) && not (bytes_eq b c)
@@ -89,19 +95,29 @@ task_of verb words =
     cond (bytes_eq verb (codes "check")) (check_task words)
     (cond (bytes_eq verb (codes "simplify")) (simplify_task (with_words (Some nothing_set) words)) None)
 
+abbrev pub three : List ℕ → List ℕ → List ℕ → ThreeNames
+three i o l = record { input = i; output = o; log = l }
+
 abbrev pub with_task : List ℕ → List ℕ → List ℕ → Option Task → Option Command
 with_task i o l None = None
-with_task i o l (Some t) = Some (record { input = i; output = o; log = l; task = t })
+with_task i o l (Some Check) = Some (checking (three i o l))
+with_task i o l (Some (Simplify p)) = Some (simplifying (three i o l) p)
 
--- `check IN OUT LOG`, or `simplify IN OUT LOG` and options, the three names different; all else is no command
-unfoldable pub command : List (List ℕ) → Option Command
-command [] = None
-command (verb ∷ []) = None
-command (verb ∷ i ∷ []) = None
-command (verb ∷ i ∷ o ∷ []) = None
-command (verb ∷ i ∷ o ∷ l ∷ words) = cond (are_different i o l) (with_task i o l (task_of verb words)) None
+-- `check IN OUT LOG`, or `simplify IN OUT LOG` and options, the three names different
+unfoldable pub three_files : List (List ℕ) → Option Command
+three_files [] = None
+three_files (verb ∷ []) = None
+three_files (verb ∷ i ∷ []) = None
+three_files (verb ∷ i ∷ o ∷ []) = None
+three_files (verb ∷ i ∷ o ∷ l ∷ words) = cond (are_different i o l) (with_task i o l (task_of verb words)) None
 
 -- the bounds are such as the rules allow
 abbrev pub IsModest : Task → Type 0
 IsModest Check = Unit {0}
-IsModest (Simplify o) = AreModest o.bounds
+IsModest (Simplify p) = AreModest p.bounds
+
+-- such a command can be done: bounds are modest, and what is written has two names
+abbrev pub IsFit : Command → Type 0
+IsFit (checking n) = Unit {0}
+IsFit (simplifying n p) = AreModest p.bounds × (n.output ≢ n.log)
+IsFit (rebuilding n) = Unit {0}

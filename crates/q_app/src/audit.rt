@@ -54,7 +54,6 @@ impl Audit {
         ensures ok { OnOk result (Advances self.old self.new (byte ∷ [])) }
         ensures refused { IfErr result (λ o. (rest : List ℕ) → Refuses o self.old (byte ∷ rest)) }
         ensures unverified { IfErr result IsUnverified }
-        ensures usage { IsErrOf result Outcome.Usage → ⊥ }
         ensures fault { IsErrOf result Outcome.ReadFault → ⊥ }
     {
         match self.reader.push(byte) {
@@ -78,7 +77,6 @@ impl Audit {
         ensures refused { IfErr result (λ o. (rest : List ℕ) →
             Refuses o self.old (piece.now ++ rest)) }
         ensures unverified { IfErr result IsUnverified }
-        ensures usage { IsErrOf result Outcome.Usage → ⊥ }
         ensures fault { IsErrOf result Outcome.ReadFault → ⊥ }
     {
         for byte in piece {
@@ -108,7 +106,6 @@ impl Audit {
         ensures refused { IfErr result (λ o. IfSome (F.held files.old)
             (λ disk. Refuses o self.old (drop at (bytes_at disk name.now)))) }
         ensures unverified { IfErr result IsUnverified }
-        ensures usage { IsErrOf result Outcome.Usage → ⊥ }
         ensures fault { IsErrOf result Outcome.ReadFault → Rose
             (F.read_faults files.old name.now) (F.read_faults files.new name.now) }
         ensures held { F.held files.new ≡ F.held files.old }
@@ -132,7 +129,6 @@ impl Audit {
         ensures passed { IfOk result (λ p. Passes self output.now p.steps p.undo) }
         ensures refused { IfErr result (λ o. Concludes o self output.now) }
         ensures unverified { IfErr result IsUnverified }
-        ensures usage { IsErrOf result Outcome.Usage → ⊥ }
         ensures fault { IsErrOf result Outcome.ReadFault → ⊥ }
     {
         let Audit {

@@ -67,7 +67,6 @@ fn check_log<F: Files>(
     ensures says { IfErr result (λ o. IfSome (F.held files.old)
         (λ disk. LogSays o input.now output.now (bytes_at disk name.now))) }
     ensures unverified { IfErr result IsUnverified }
-    ensures usage { IsErrOf result Outcome.Usage → ⊥ }
     ensures fault { IsErrOf result Outcome.ReadFault →
         Rose (F.read_faults files.old name.now) (F.read_faults files.new name.now) }
     ensures held { F.held files.new ≡ F.held files.old }
@@ -115,7 +114,6 @@ fn check_files<F: Files>(
     ensures checks { IfErr result (λ o. IfSome (F.held files.old) (λ disk.
         Checks o (bytes_at disk input.now) (bytes_at disk output.now) (bytes_at disk log.now))) }
     ensures unverified { IfErr result IsUnverified }
-    ensures usage { IsErrOf result Outcome.Usage → ⊥ }
     ensures fault { IsErrOf result Outcome.ReadFault →
         Rose (F.read_faults files.old input.now) (F.read_faults files.new input.now)
         ⊎ Rose (F.read_faults files.old output.now) (F.read_faults files.new output.now)
@@ -159,7 +157,6 @@ pub(crate) fn verify<F: Files>(
     ensures checks { IfErr result (λ o. IfSome (F.held files.old) (λ disk.
         Checks o (bytes_at disk input.now) (bytes_at disk output.now) (bytes_at disk log.now))) }
     ensures unverified { IfErr result IsUnverified }
-    ensures usage { IsErrOf result Outcome.Usage → ⊥ }
     ensures fault { IsErrOf result Outcome.ReadFault →
         Rose (F.read_faults files.old input.now) (F.read_faults files.new input.now)
         ⊎ Rose (F.read_faults files.old output.now) (F.read_faults files.new output.now)
@@ -191,7 +188,6 @@ pub(crate) fn check<F: Files>(
         Checks result (bytes_at disk input.now) (bytes_at disk output.now) (bytes_at disk log.now)) }
     ensures truth { IfVerified result (IfSome (F.held files.old)
         (λ disk. HaveOneTruth (bytes_at disk input.now) (bytes_at disk output.now))) }
-    ensures usage { result ≡ Outcome.Usage → ⊥ }
     ensures fault { result ≡ Outcome.ReadFault →
         Rose (F.read_faults files.old input.now) (F.read_faults files.new input.now)
         ⊎ Rose (F.read_faults files.old output.now) (F.read_faults files.new output.now)

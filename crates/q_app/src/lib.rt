@@ -1,6 +1,7 @@
 //! The top call: all that the program does, over files and a sink.
 #![tactic(auto)]
 
+mod answer;
 mod audit;
 mod check;
 mod input;
@@ -20,6 +21,7 @@ mod top;
 mod whole_file;
 mod words;
 
+pub use answer::Answer;
 pub use laws::simplified_is_verified;
 pub use outcome::{Outcome, Role};
 pub use rebuilt::Rebuilt;

@@ -1,14 +1,63 @@
-// A line is put.
-ghost use Rattle.std.specs.Prelude.{◌≡◌, IfSome};
+// Lines: made on the stack, so none wants memory, and put.
+ghost use Rattle.std.specs.Prelude.{◌≡◌, ◌≤◌, ◌+◌, ◌++◌, length, codes, decimal, IfSome};
 ghost use Rattle.q_app.specs.Says.{Says, IsDue};
 
 use crate::status::Status;
+use arrayvec::ArrayString;
+use itoa::Buffer;
 use q_io::{DeviceError, Sink};
+
+/// The text of a line, LF included.
+pub(crate) type Line = ArrayString<96>;
+
+fn push_number(line: &mut Line, number: u64)
+    requires { length line.old.bytes + 20 ≤ 96 }
+    ensures bytes { line.new.bytes ≡ line.old.bytes ++ decimal number }
+    ensures short { length line.new.bytes ≤ length line.old.bytes + 20 }
+{
+    let mut buffer = Buffer::new();
+    line.push_str(buffer.format(number));
+}
+
+/// A line of words alone.
+pub(crate) fn words_line(words: &str) -> Line
+    requires { length words.now ≤ 96 }
+    ensures { result.bytes ≡ words.now }
+{
+    let mut line = Line::new();
+    line.push_str(words);
+    line
+}
+
+/// Words, and a number behind them.
+pub(crate) fn number_line(words: &str, number: u64) -> Line
+    requires { length words.now ≤ 32 }
+    ensures { result.bytes ≡ words.now ++ decimal number ++ codes "\n" }
+{
+    let mut line = words_line(words);
+    push_number(&mut line, number);
+    line.push_str("\n");
+    line
+}
+
+/// Words with a number behind them, and further words with a number.
+pub(crate) fn numbers_line(words: &str, number: u64, further: &str, last: u64) -> Line
+    requires words { length words.now ≤ 32 }
+    requires further { length further.now ≤ 16 }
+    ensures { result.bytes ≡ words.now ++ decimal number ++ further.now ++ decimal last ++ codes "\n" }
+{
+    let mut line = words_line(words);
+    push_number(&mut line, number);
+    line.push_str(further);
+    push_number(&mut line, last);
+    line.push_str("\n");
+    line
+}
 
 /// Puts a line. The answer is the status that is due, or why the line could not be put.
 pub(crate) fn put<S: Sink>(out: &mut S, due: Status, line: &[u8]) -> Status
     ensures says { IfSome (S.written out.old) (λ before.
-        Says before line.now due result (S.written out.new)) }
+        Says before line.now due result (S.faults out.old) (S.faults out.new) (S.written out.new)) }
     ensures answer { IsDue due result (S.faults out.old) (S.faults out.new) }
 {
     match out.put(line) {

@@ -5,7 +5,7 @@ ghost use Rattle.q_logic.specs.Formulas.{PrenexFormula};
 ghost use Rattle.q_io.specs.Files.{Rose, bytes_at};
 ghost use Rattle.q_aiger.specs.Circuits.{AreCircuits};
 ghost use Rattle.q_app.specs.Checks.{LeadsBack};
-ghost use Rattle.q_app.specs.Rebuilds.{AreCarried, CircuitsFail, FaultsReading, IsOfCircuits, MayBeSaid, Puts, Rebuilds, TextFails, failed_read, failed_write as write_failed, five, refused_circuits as circuits_refused, refused_text as text_refused};
+ghost use Rattle.q_app.specs.Rebuilds.{AreCarried, CircuitsFail, FaultsReading, IsOfCircuits, Puts, Rebuilds, TextFails, failed_read, failed_write as write_failed, five, refused_circuits as circuits_refused, refused_text as text_refused};
 
 use crate::check::{Checked, verify};
 use crate::rebuilt::Rebuilt;
@@ -53,7 +53,6 @@ fn unread(error: DeviceError) -> Rebuilt
 fn unwritten(error: DeviceError) -> Rebuilt
     ensures is { result ≡ write_failed error }
     ensures writing { FaultsReading result → ⊥ }
-    ensures told { MayBeSaid result }
 {
     match error {
         DeviceError::Failed => Rebuilt::WriteFault,
@@ -118,7 +117,6 @@ fn write_circuits<F: Files>(alloc: Global, files: &mut F, cert: &str, made: &Cer
     ensures puts { IfSome (F.held files.old)
         (λ disk. Puts result made.now cert.now disk (F.held files.new)) }
     ensures writing { FaultsReading result → ⊥ }
-    ensures told { MayBeSaid result }
     ensures cause { result ≡ Rebuilt.WriteFault →
         Rose (F.write_faults files.old cert.now) (F.write_faults files.new cert.now) }
 {
@@ -145,7 +143,6 @@ pub(crate) fn rebuild_files<F: Files>(
 ) -> Rebuilt
     ensures rebuilds { IfSome (F.held files.old) (λ disk.
         Rebuilds result (five input.now output.now log.now skolem.now cert.now) disk (F.held files.new)) }
-    ensures told { MayBeSaid result }
     ensures read_fault { FaultsReading result →
         Rose (F.read_faults files.old input.now) (F.read_faults files.new input.now)
         ⊎ Rose (F.read_faults files.old output.now) (F.read_faults files.new output.now)

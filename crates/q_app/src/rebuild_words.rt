@@ -1,7 +1,7 @@
 ghost use Rattle.std.specs.Prelude.{◌≡◌, ◌&&◌, codes, map, option_map, string_bytes, IfSome, None};
 ghost use Rattle.std.specs.Str.{bytes_eq};
 ghost use Rattle.q_app.specs.Rebuilds.{five};
-ghost use Rattle.q_app.specs.Words.{command};
+ghost use Rattle.q_app.specs.Words.{three_files};
 ghost use Rattle.q_app.specs.RebuildWords.{are_four as spec_are_four, is_new as spec_is_new, rebuild_names};
 
 /// The names of the five files of `rebuild`.
@@ -19,7 +19,7 @@ pub(crate) fn parse_rebuild(words: &[String]) -> Option<RebuildNames>
     ensures names { option_map
         (λ o. five o.input.now o.output.now o.log.now o.skolem.now o.cert.now) result
         ≡ rebuild_names (map (λ w. string_bytes w) words.now) }
-    ensures one { IfSome result (λ o. command (map (λ w. string_bytes w) words.now) ≡ None) }
+    ensures one { IfSome result (λ o. three_files (map (λ w. string_bytes w) words.now) ≡ None) }
 {
     if words.len() != 6 {
         return None;

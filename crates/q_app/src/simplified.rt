@@ -1,12 +1,11 @@
-ghost use Rattle.std.specs.Prelude.{◌≡◌, ◌++◌, IfOk, codes, decimal};
+ghost use Rattle.std.specs.Prelude.{◌≡◌};
 ghost use Rattle.q_app.specs.Statuses.{status_of_ending, status_of_simplified};
-ghost use Rattle.q_app.specs.Lines.{line_of_report, line_of_simplified, word_of};
+ghost use Rattle.q_app.specs.Lines.{line_of_report, line_of_simplified};
 
-use crate::outcome::{place, put_decimal, words};
+use crate::line::{Line, numbers_line, words_line};
+use crate::outcome::place;
 use crate::status::Status;
-use q_logic::NoMemory;
 use q_simplify::{Ending, Report};
-use std::alloc::Global;
 
 /// What there is to say at the end of `simplify`.
 #[derive(Clone, Copy, Debug, PartialEq, Eq)]
@@ -44,40 +43,26 @@ impl Simplified {
         }
     }
 
-    /// The line that says it, ended by LF.
-    pub fn line(&self, alloc: Global) -> Result<Vec<u8>, NoMemory>
-        ensures { IfOk result (λ text. text.items ≡ line_of_simplified self.now) }
+    pub(crate) fn line(&self) -> Line
+        ensures { result.bytes ≡ line_of_simplified self.now }
     {
         match *self {
-            Simplified::Written { report } => measures(alloc, report),
-            Simplified::RefusedInput { line, cause } => {
-                place(alloc, b"input IN line ", line, cause)
-            }
-            Simplified::ReadFault => words(alloc, b"read fault\n"),
-            Simplified::WriteFault => words(alloc, b"write fault\n"),
-            Simplified::NoMemory => words(alloc, b"no memory\n"),
+            Simplified::Written { report } => measures(report),
+            Simplified::RefusedInput { line, cause } => place("input IN line ", line, cause),
+            Simplified::ReadFault => words_line("read fault\n"),
+            Simplified::WriteFault => words_line("write fault\n"),
+            Simplified::NoMemory => words_line("no memory\n"),
         }
     }
 }
 
-fn ending_word(alloc: Global, ending: Ending) -> Result<Vec<u8>, NoMemory>
-    ensures { IfOk result (λ text. text.items ≡ word_of ending) }
+fn measures(report: Report) -> Line
+    ensures { result.bytes ≡ line_of_report report }
 {
-    match ending {
-        Ending::Settled => words(alloc, b"settled "),
-        Ending::True => words(alloc, b"true "),
-        Ending::False => words(alloc, b"false "),
-        Ending::Spent => words(alloc, b"spent "),
+    match report.ending {
+        Ending::Settled => numbers_line("settled ", report.before, " ", report.after),
+        Ending::True => numbers_line("true ", report.before, " ", report.after),
+        Ending::False => numbers_line("false ", report.before, " ", report.after),
+        Ending::Spent => numbers_line("spent ", report.before, " ", report.after),
     }
-}
-
-fn measures(alloc: Global, report: Report) -> Result<Vec<u8>, NoMemory>
-    ensures { IfOk result (λ text. text.items ≡ line_of_report report) }
-{
-    let mut text = ending_word(alloc, report.ending)?;
-    put_decimal(&mut text, report.before)?;
-    text.push(b' ')?;
-    put_decimal(&mut text, report.after)?;
-    text.push(b'\n')?;
-    Ok(text)
 }

@@ -1,8 +1,40 @@
-ghost use Rattle.std.specs.Prelude.{◌≡◌, ◌≢◌, map, option_map, string_bytes, IfSome};
-ghost use Rattle.q_app.specs.Words.{IsModest, are_different as spec_are_different, command, task_of};
+ghost use Rattle.std.specs.Prelude.{◌≡◌, ◌≢◌, map, option_map, string_bytes, IfSome, Some, None};
+ghost use Rattle.q_app.specs.Words.{IsFit, are_different as spec_are_different, task_of, three_files, with_task as spec_with_task};
+ghost use Rattle.q_app.specs.RebuildWords.{rebuild_names};
+ghost use Rattle.q_app.specs.Commands.{command, command_of};
 
+use crate::rebuild_words::{RebuildNames, parse_rebuild};
 use crate::settings::Settings;
 use q_simplify::Options;
+
+/// The names of IN, OUT and LOG.
+#[derive(Clone, Copy)]
+pub(crate) struct Names<'a> {
+    pub input: &'a str,
+    pub output: &'a str,
+    pub log: &'a str,
+}
+
+/// What is to be done, with the names of the files.
+#[derive(Clone, Copy)]
+pub(crate) enum Command<'a> {
+    Check { names: Names<'a> },
+    Simplify { names: Names<'a>, options: Options },
+    Rebuild { names: RebuildNames<'a> },
+}
+
+/// The command that the words are, if they are one.
+pub(crate) fn parse(words: &[String]) -> Option<Command>
+    ensures command { option_map (λ o. command_of o) result ≡ command (map (λ w. string_bytes w) words.now) }
+    ensures fit { IfSome result (λ o. IsFit (command_of o)) }
+    ensures one { IfSome (rebuild_names (map (λ w. string_bytes w) words.now))
+        (λ n. three_files (map (λ w. string_bytes w) words.now) ≡ None) }
+{
+    match parse_rebuild(words) {
+        Some(names) => Some(Command::Rebuild { names }),
+        None => parse_three(words),
+    }
+}
 
 /// What is to be done with three files.
 #[derive(Clone, Copy, Debug, PartialEq, Eq)]
@@ -11,22 +43,19 @@ pub(crate) enum Task {
     Simplify { options: Options },
 }
 
-/// The names of the files, and what is to be done with them.
-#[derive(Clone, Copy)]
-pub(crate) struct Command<'a> {
-    pub input: &'a str,
-    pub output: &'a str,
-    pub log: &'a str,
-    pub task: Task,
+fn with_task(names: Names, task: Task) -> Command
+    ensures { Some (command_of result) ≡ spec_with_task names.entry.input.now names.entry.output.now names.entry.log.now (Some task) }
+{
+    match task {
+        Task::Check => Command::Check { names },
+        Task::Simplify { options } => Command::Simplify { names, options },
+    }
 }
 
-/// The command that the words are, if they are one and the names differ.
-pub(crate) fn parse(words: &[String]) -> Option<Command>
-    ensures command { option_map
-        (λ o. record { input = o.input.now; output = o.output.now; log = o.log.now; task = o.task }) result
-        ≡ command (map (λ w. string_bytes w) words.now) }
-    ensures modest { IfSome result (λ o. IsModest o.task) }
-    ensures names { IfSome result (λ o. o.output.now ≢ o.log.now) }
+// `check` or `simplify`, where the words are one of them and the names differ.
+fn parse_three(words: &[String]) -> Option<Command>
+    ensures command { option_map (λ o. command_of o) result ≡ three_files (map (λ w. string_bytes w) words.now) }
+    ensures fit { IfSome result (λ o. IsFit (command_of o)) }
 {
     if words.len() < 4 {
         return None;
@@ -38,13 +67,9 @@ pub(crate) fn parse(words: &[String]) -> Option<Command>
     if !are_different(input, output, log) {
         return None;
     }
+    let names = Names { input, output, log };
     match parse_task(verb, &words[4..]) {
-        Some(task) => Some(Command {
-            input,
-            output,
-            log,
-            task,
-        }),
+        Some(task) => Some(with_task(names, task)),
         None => None,
     }
 }

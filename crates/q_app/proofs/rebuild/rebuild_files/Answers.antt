@@ -24,6 +24,3 @@ returns-clause-read_fault g c =
 
 pub returns-clause-write_fault : goal.returns-clause-write_fault
 returns-clause-write_fault g c = λ e. absurd (circuits-not_write c.in-Err-carry_back.outcome c.in-Err-carry_back.ensures.of_circuits e)
-
-pub returns-in-Ok-carry_back-clause-told : goal.returns-in-Ok-carry_back-clause-told
-returns-in-Ok-carry_back-clause-told g c = c.write_circuits.ensures.told

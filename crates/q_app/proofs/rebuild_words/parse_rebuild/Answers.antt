@@ -1,5 +1,5 @@
 use Rattle.std.proofs.Common.{◌∙◌, sym, ap, arith, length}
-use Rattle.q_app.specs.Words.{command}
+use Rattle.q_app.specs.Words.{three_files}
 use Rattle.q_app.specs.RebuildWords.{rebuild_names}
 use Rattle.q_app.proofs.RebuildWording.{not_six, six_words, other_verb, equal_names, five_names, no_command}
 use Rattle.q_app.proofs.rebuild_words.parse_rebuild.Goals as goal
@@ -25,4 +25,4 @@ returns-clause-names c =
 pub returns-clause-one : goal.returns-clause-one
 returns-clause-one c =
     let words = six_words c.args.words.now c.index-words-0.result c.index-words-1.result c.index-words-2.result c.index-words-3.result c.index-words-4.result c.index-words-5.result c.as_str-verb.result.now c.as_str-input.result.now c.as_str-output.result.now c.as_str-log.result.now c.as_str-skolem.result.now c.as_str-cert.result.now c.if-words-ne6.false c.index-words-0.is c.index-words-1.is c.index-words-2.is c.index-words-3.is c.index-words-4.is c.index-words-5.is c.as_str-verb.ensures.value c.as_str-input.ensures.value c.as_str-output.ensures.value c.as_str-log.ensures.value c.as_str-skolem.ensures.value c.as_str-cert.ensures.value in
-    sym (ap command words) ∙ no_command c.as_str-verb.result.now c.as_str-input.result.now c.as_str-output.result.now c.as_str-log.result.now c.as_str-skolem.result.now c.as_str-cert.result.now (sym c.is_rebuild.ensures ∙ c.if-not-is_rebuild.false)
+    sym (ap three_files words) ∙ no_command c.as_str-verb.result.now c.as_str-input.result.now c.as_str-output.result.now c.as_str-log.result.now c.as_str-skolem.result.now c.as_str-cert.result.now (sym c.is_rebuild.ensures ∙ c.if-not-is_rebuild.false)

@@ -1,0 +1,22 @@
+-- The line and the status of each command's answer.
+use Rattle.std.specs.Prelude.{ℕ, List, codes}
+use Rattle.q_app.specs.Statuses.{status_of, status_of_simplified}
+use Rattle.q_app.specs.Lines.{line_of, line_of_simplified}
+use Rattle.q_app.specs.RebuiltLines.{status_of_rebuilt, line_of_rebuilt}
+use Rattle.q_app.specs.declared.answer.Answer.{Answer}
+use Rattle.q_app.specs.declared.answer.Answer.TheVariants.{Usage, Check, Simplify, Rebuild}
+use Rattle.q_app.specs.declared.status.Status.{Status}
+use Rattle.q_app.specs.declared.status.Status.TheVariants as status
+
+-- the status of an answer whose line was put
+abbrev pub status_of_answer : Answer → Status
+status_of_answer Usage = status.Usage
+status_of_answer (Check o) = status_of o
+status_of_answer (Simplify o) = status_of_simplified o
+status_of_answer (Rebuild o) = status_of_rebuilt o
+
+abbrev pub line_of_answer : Answer → List ℕ
+line_of_answer Usage = codes "usage\n"
+line_of_answer (Check o) = line_of o
+line_of_answer (Simplify o) = line_of_simplified o
+line_of_answer (Rebuild o) = line_of_rebuilt o
