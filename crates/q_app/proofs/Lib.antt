@@ -11,3 +11,5 @@ pub mod WholeFiles
 pub mod Certifying
 pub mod Deciding
 pub mod RebuildWording
+pub mod Formulas
+pub mod Together

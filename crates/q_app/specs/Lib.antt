@@ -14,3 +14,4 @@ pub mod RebuildWords
 pub mod Commands
 pub mod Answers
 pub mod Says
+pub mod Headline

@@ -22,7 +22,7 @@ mod whole_file;
 mod words;
 
 pub use answer::Answer;
-pub use laws::simplified_is_verified;
+pub use laws::{headline, simplified_is_verified};
 pub use outcome::{Outcome, Role};
 pub use rebuilt::Rebuilt;
 pub use simplified::Simplified;
