@@ -13,3 +13,5 @@ pub mod Deciding
 pub mod RebuildWording
 pub mod Generating
 pub mod Turns
+pub mod Formulas
+pub mod Together

@@ -15,3 +15,4 @@ pub mod Generating
 pub mod Commands
 pub mod Answers
 pub mod Says
+pub mod Headline

@@ -1,11 +1,13 @@
 -- What `rebuild` says and leaves, over the files before and after.
-use Rattle.std.specs.Prelude.{◌≡◌, ◌⊎◌, ◌≤◌, ℕ, List, ◌++◌, length, take, drop, Option, Some, true}
+use Rattle.std.specs.Prelude.{◌≡◌, ◌≢◌, ◌⊎◌, ◌<◌, ◌≤◌, ℕ, List, ◌++◌, length, take, drop, Option, Some, true, slice_index}
 use Rattle.std.specs.FinMap as map
 use Rattle.q_logic.specs.Formulas.{PrenexFormula}
-use Rattle.q_logic.specs.Certificates.{CertificateView}
+use Rattle.q_logic.specs.Certificates.{CertificateView, trees_of}
+use Rattle.q_logic.specs.Skolems.{SkolemOf}
 use Rattle.q_logic.specs.Undos.{UndoEntry}
 use Rattle.q_io.specs.Files.{Disk, OthersStay, bytes_at}
 use Rattle.q_aiger.specs.Circuits.{AreCircuits, Offence}
+use Rattle.q_aiger.specs.Alike.{IsNoCircuits}
 use Rattle.q_aiger.specs.Writing.{IsCanonical}
 use Rattle.q_rebuild.specs.Rebuilt.{IsRebuilt}
 use Rattle.q_rebuild.specs.Refusals.{IsRefused, IsAccepted}
@@ -112,6 +114,23 @@ pub record IsFront (file : List ℕ) (place : ℕ) (text : List ℕ) : Type 0 wh
   pub is : text ≡ take place file
   pub within : place ≤ length file
 
+-- some line ends in the text
+pub record HasLineEnd (text : List ℕ) : Type 0 where
+  pub place : ℕ
+  pub within : place < length text
+  pub lf : slice_index text place ≡ 10
+
+-- a front of a file, longer than any file may be, in which the first line ends
+pub record IsLongFront (file text : List ℕ) : Type 0 where
+  pub rest : List ℕ
+  pub is : file ≡ text ++ rest
+  pub long : 1099511627776 < length text
+  pub end : HasLineEnd text
+
+-- the bytes of a file, or so many of them that the others do not matter
+abbrev pub IsTextOf : List ℕ → List ℕ → Type 0
+IsTextOf file text = (text ≡ file) ⊎ IsLongFront file text
+
 -- n bytes of the file were put behind the text
 pub record HasAppended (file : List ℕ) (place n : ℕ) (old new : List ℕ) : Type 0 where
   pub is : new ≡ old ++ take n (drop place file)
@@ -208,17 +227,32 @@ Puts ReadFault made name before after = ⊥
 Puts WriteFault made name before after = PutsPart made name before after
 Puts NoMemory made name before after = (after ≡ Some before) ⊎ PutsPart made name before after
 
--- the circuits are refused: the file is no text of circuits, or they are none for the formula of OUT
+-- the log is verified, SKOLEM holds circuits, and of the formula of OUT and of these circuits this is true
+pub record OfVerified (n : FiveNames) (disk : Disk) (P : PrenexFormula → CertificateView → Type 0) : Type 0 where
+  pub verified : IsVerified (bytes_at disk n.input) (bytes_at disk n.output) (bytes_at disk n.log)
+  pub to : PrenexFormula
+  pub is_output : IsFileOf (bytes_at disk n.output) to
+  pub given : CertificateView
+  pub circuits : AreCircuits (bytes_at disk n.skolem) given
+  pub holds : P to given
+
+-- the circuits are such as the formula of OUT may have
+abbrev pub AreFitting : FiveNames → Disk → Type 0
+AreFitting n disk = OfVerified n disk IsAccepted
+
+-- their trees are Skolem functions of the formula of OUT
+abbrev pub AreSkolem : FiveNames → Disk → Type 0
+AreSkolem n disk = OfVerified n disk (λ G given. SkolemOf G (trees_of given))
+
+-- one of the five refusals applies
+abbrev pub IsUnfit : PrenexFormula → CertificateView → Type 0
+IsUnfit G given = (e : RebuildError) × (e ≢ refusal.NoMemory) × IsRefused G given e
+
+-- the log is verified, and SKOLEM is no text of circuits, or its circuits are refused
 abbrev pub AreNoCircuits : FiveNames → Disk → Type 0
 AreNoCircuits n disk =
-    ((k : ℕ) × (c : ℕ) × Offence (bytes_at disk n.skolem) k c)
-    ⊎ OfCircuits n disk (λ F G us given. ¬ IsAccepted G given)
-
--- however the gates of the file are ordered, its circuits are such as the formula of OUT may have
-pub record AreFitting (n : FiveNames) (disk : Disk) : Type 0 where
-  pub verified : IsVerified (bytes_at disk n.input) (bytes_at disk n.output) (bytes_at disk n.log)
-  pub text : (k c : ℕ) → ¬ Offence (bytes_at disk n.skolem) k c
-  pub accepted : (G : PrenexFormula) → IsFileOf (bytes_at disk n.output) G → (given : CertificateView) → AreCircuits (bytes_at disk n.skolem) given → IsAccepted G given
+    (IsVerified (bytes_at disk n.input) (bytes_at disk n.output) (bytes_at disk n.log) × IsNoCircuits (bytes_at disk n.skolem))
+    ⊎ OfVerified n disk IsUnfit
 
 -- the refusals and faults after which no file has changed
 abbrev pub IsUntouched : Status → Type 0
@@ -226,11 +260,11 @@ IsUntouched s = (s ≡ status.LogRefused) ⊎ (s ≡ status.InputRefused) ⊎ (s
 
 -- when each status of `rebuild` comes, and what CERT holds then
 pub record RebuildsExactly (answer : Status) (n : FiveNames) (before : Disk) (after : Option Disk) : Type 0 where
-  pub done : answer ≡ status.Done → (gates : ℕ) × IsWhole gates n before after
-  pub complete : AreFitting n before → (answer ≡ status.Done) ⊎ MayCome answer
+  pub done : Exactly answer status.Done (AreFitting n before)
+  pub written : answer ≡ status.Done → (gates : ℕ) × IsWhole gates n before after
+  pub skolem : AreSkolem n before → (answer ≡ status.Done) ⊎ MayCome answer
   pub log_refused : Exactly answer status.LogRefused (IsNoRun (bytes_at before n.input) (bytes_at before n.output) (bytes_at before n.log))
   pub input_refused : Exactly answer status.InputRefused (IsNoFormula (bytes_at before n.input) ⊎ IsNoFormula (bytes_at before n.output))
-  pub circuits_refused : answer ≡ status.CircuitsRefused →
-      IsVerified (bytes_at before n.input) (bytes_at before n.output) (bytes_at before n.log) × AreNoCircuits n before
+  pub circuits_refused : Exactly answer status.CircuitsRefused (AreNoCircuits n before)
   pub untouched : IsUntouched answer → after ≡ Some before
   pub left : (answer ≡ status.WriteFault) ⊎ (answer ≡ status.NoMemory) → (after ≡ Some before) ⊎ IsPart n before after

@@ -6,6 +6,7 @@ ghost use Rattle.q_simplify.specs.declared.options.Options.{Options};
 ghost use Rattle.q_simplify.specs.declared.report.Report.{Report};
 ghost use Rattle.q_simplify.specs.Results.{Simplifies};
 ghost use Rattle.q_app.specs.Checks.{IsFileOf, IsVerified};
+ghost use Rattle.q_app.specs.Headline.{Headline};
 
 use q_log::texts_are_read;
 
@@ -16,6 +17,13 @@ pub fn simplified_is_verified()
         (before after : Disk) → input ≢ output → input ≢ log → IsFileOf (bytes_at before input) F →
         Simplifies o F r output log before (Some after) → length (bytes_at after log) ≤ 1099511627776 →
         IsVerified (bytes_at after input) (bytes_at after output) (bytes_at after log) }
+{
+    texts_are_read();
+}
+
+/// The three commands are right together.
+pub fn headline()
+    ensures { Headline }
 {
     texts_are_read();
 }

@@ -25,7 +25,7 @@ mod words;
 
 pub use answer::Answer;
 pub use generated::Generated;
-pub use laws::simplified_is_verified;
+pub use laws::{headline, simplified_is_verified};
 pub use outcome::{Outcome, Role};
 pub use rebuilt::Rebuilt;
 pub use simplified::Simplified;

@@ -1,7 +1,7 @@
 // Files that are read whole, and files that are written whole.
-ghost use Rattle.std.specs.Prelude.{◌≡◌, ◌≤◌, ◌<◌, List, ℕ, length, IfOk, OnOk, OnErr, IfSome, IsErrOf};
+ghost use Rattle.std.specs.Prelude.{◌≡◌, ◌≤◌, ◌<◌, List, ℕ, length, true, IfOk, OnOk, OnErr, IfSome, IsErrOf};
 ghost use Rattle.q_io.specs.Files.{Rose, bytes_at};
-ghost use Rattle.q_app.specs.Rebuilds.{HasAppended, HoldsBytes, HoldsFront};
+ghost use Rattle.q_app.specs.Rebuilds.{HasAppended, HasLineEnd, HoldsBytes, HoldsFront, IsTextOf};
 
 use crate::input::PIECE;
 use q_io::{DeviceError, Files};
@@ -19,7 +19,7 @@ fn append_piece<F: Files>(
     text: &mut Vec<u8>,
 ) -> Result<usize, DeviceError>
     requires room { 0 < length buffer.old }
-    ensures place { OnOk result (at ≤ 1099511627776) }
+    requires place { at ≤ 1099511627776 }
     ensures count { IfOk result (λ n. n ≤ length buffer.old) }
     ensures appended { IfOk result (λ n. IfSome (F.held files.old)
         (λ disk. HasAppended (bytes_at disk name.now) at n text.old.items text.new.items)) }
@@ -29,9 +29,6 @@ fn append_piece<F: Files>(
     ensures read_later { (q : List ℕ) → F.read_faults files.old q ≤ F.read_faults files.new q }
     ensures write_later { (q : List ℕ) → F.write_faults files.old q ≤ F.write_faults files.new q }
 {
-    if at > LAST_PLACE {
-        return Err(DeviceError::NoMemory);
-    }
     let count = match files.read(name, at, buffer) {
         Ok(count) => count,
         Err(error) => return Err(error),
@@ -42,7 +39,30 @@ fn append_piece<F: Files>(
     }
 }
 
-// All bytes of a file, read through the buffer.
+fn has_line_end(text: &[u8]) -> bool
+    ensures { result ≡ true → HasLineEnd text.now }
+{
+    for i in 0..text.len() {
+        if text[i] == b'\n' {
+            return true;
+        }
+    }
+    false
+}
+
+// The front of a file that is longer than any file may be. Where its first line does not end in it, what that line
+// says is not known.
+fn long_front(text: Vec<u8>) -> Result<Vec<u8>, DeviceError>
+    ensures front { IfOk result (λ front. (front.items ≡ text.items) × HasLineEnd text.items) }
+    ensures fault { IsErrOf result DeviceError.Failed → ⊥ }
+{
+    if has_line_end(&text) {
+        return Ok(text);
+    }
+    Err(DeviceError::NoMemory)
+}
+
+// What there is of a file, read through the buffer.
 fn read_through<F: Files>(
     alloc: Global,
     files: &mut F,
@@ -52,7 +72,7 @@ fn read_through<F: Files>(
     requires room { 0 < length buffer.old }
     requires small { length buffer.old ≤ 65536 }
     ensures bytes { IfOk result (λ text. IfSome (F.held files.old)
-        (λ disk. text.items ≡ bytes_at disk name.now)) }
+        (λ disk. IsTextOf (bytes_at disk name.now) text.items)) }
     ensures fault { IsErrOf result DeviceError.Failed →
         Rose (F.read_faults files.old name.now) (F.read_faults files.new name.now) }
     ensures held { F.held files.new ≡ F.held files.old }
@@ -61,23 +81,24 @@ fn read_through<F: Files>(
 {
     let mut text = Vec::new(alloc);
     let mut at = 0u64;
-    loop {
+    while at <= LAST_PLACE {
         match append_piece(files, name, at, buffer, &mut text) {
             Ok(0) => return Ok(text),
             Ok(count) => at += count as u64,
             Err(error) => return Err(error),
         }
     }
+    long_front(text)
 }
 
-/// All bytes of a file. One that is longer than any file may be finds no memory.
+/// All bytes of a file; of one that is longer than any file may be so many that its length is told by them.
 pub(crate) fn read_whole<F: Files>(
     alloc: Global,
     files: &mut F,
     name: &str,
 ) -> Result<Vec<u8>, DeviceError>
     ensures bytes { IfOk result (λ text. IfSome (F.held files.old)
-        (λ disk. text.items ≡ bytes_at disk name.now)) }
+        (λ disk. IsTextOf (bytes_at disk name.now) text.items)) }
     ensures fault { IsErrOf result DeviceError.Failed →
         Rose (F.read_faults files.old name.now) (F.read_faults files.new name.now) }
     ensures held { F.held files.new ≡ F.held files.old }

@@ -11,3 +11,4 @@ pub mod Tabling
 pub mod Reading
 pub mod Allowing
 pub mod Denying
+pub mod Alike

@@ -18,5 +18,5 @@ mod tables;
 mod whole;
 
 pub use error::RebuildError;
-pub use laws::skolem_functions_are_accepted;
+pub use laws::{alike_circuits_are_accepted_alike, skolem_functions_are_accepted};
 pub use whole::rebuild;

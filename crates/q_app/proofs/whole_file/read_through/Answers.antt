@@ -1,20 +1,27 @@
-use Rattle.std.proofs.Common.{◌∙◌, arith}
-use Rattle.q_app.proofs.Feeding.{if_some_2, at_same}
-use Rattle.q_app.proofs.WholeFiles.{front-more, front-end}
+use Rattle.std.proofs.Common.{◌∙◌, arith, inl}
+use Rattle.q_io.specs.Files.{bytes_at}
+use Rattle.q_app.specs.Rebuilds.{IsTextOf}
+use Rattle.q_app.proofs.Feeding.{if_some_1, if_some_2, at_same, ok_goes}
+use Rattle.q_app.proofs.WholeFiles.{front-more, front-end, front-long}
 use Rattle.q_app.proofs.whole_file.read_through.Goals as goal
 
-pub loop-text-preserved : goal.loop-text-preserved
-loop-text-preserved g c =
-    let taken = at_same _ _ _ c.loop-text.invariant.held c.in-Ok.ensures.appended in
+pub loop-at-preserved : goal.loop-at-preserved
+loop-at-preserved g c =
+    let taken = at_same _ _ _ c.loop-at.invariant.held c.in-Ok.ensures.appended in
     record {
-      front = if_some_2 (g.F.Files.held c.args.files.now) c.loop-text.invariant.front taken (λ disk f p. front-more _ _ _ _ _ f p);
-      bound = omega (arith, c.in-Ok.ensures.place, c.in-Ok.ensures.count);
-      held = c.append_piece.ensures.held ∙ c.loop-text.invariant.held;
-      read_later = λ q. omega (arith, c.loop-text.invariant.read_later q, c.append_piece.ensures.read_later q);
-      write_later = λ q. omega (arith, c.loop-text.invariant.write_later q, c.append_piece.ensures.write_later q);
+      front = if_some_2 (g.F.Files.held c.args.files.now) c.loop-at.invariant.front taken (λ disk f p. front-more _ _ _ _ _ f p);
+      bound = omega (arith, c.loop-at-test.true, c.in-Ok.ensures.count);
+      held = c.append_piece.ensures.held ∙ c.loop-at.invariant.held;
+      read_later = λ q. omega (arith, c.loop-at.invariant.read_later q, c.append_piece.ensures.read_later q);
+      write_later = λ q. omega (arith, c.loop-at.invariant.write_later q, c.append_piece.ensures.write_later q);
     }
 
 pub returns-in-Ok-eq0-clause-bytes : goal.returns-in-Ok-eq0-clause-bytes
 returns-in-Ok-eq0-clause-bytes g c =
-    let taken = at_same _ _ _ c.loop-text.invariant.held c.in-Ok-eq0.ensures.appended in
-    if_some_2 (g.F.Files.held c.args.files.now) c.loop-text.invariant.front taken (λ disk f p. front-end _ _ _ _ _ c.in-Ok-eq0.field-0-test f p)
+    let taken = at_same _ _ _ c.loop-at.invariant.held c.in-Ok-eq0.ensures.appended in
+    if_some_2 (g.F.Files.held c.args.files.now) c.loop-at.invariant.front taken (λ disk f p. inl (front-end _ _ _ _ _ c.in-Ok-eq0.field-0-test f p))
+
+pub returns-clause-bytes : goal.returns-clause-bytes
+returns-clause-bytes g c =
+    ok_goes (λ t disk. IsTextOf (bytes_at disk c.args.name.now) t.items) c.long_front.result (g.F.Files.held c.args.files.now) c.long_front.ensures.front
+    (λ t p. if_some_1 (g.F.Files.held c.args.files.now) c.loop-at.invariant.front (λ disk f. front-long _ _ _ _ c.loop-at-test.false f p.0 p.1))

@@ -3,8 +3,8 @@ use Rattle.q_io.specs.Files.{bytes_at}
 use Rattle.q_app.specs.Rebuilds.{IsFront}
 use Rattle.q_app.proofs.whole_file.read_through.Given as goal
 
-abbrev pub invariant-loop-text : goal.invariant-loop-text
-invariant-loop-text g l =
+abbrev pub invariant-loop-at : goal.invariant-loop-at
+invariant-loop-at g l =
     record {
       front : IfSome (g.F.Files.held l.fn.files) (λ disk. IsFront (bytes_at disk l.name) l.at l.text.items);
       bound : l.at ≤ 1099511627776 + 65536;
@@ -13,5 +13,5 @@ invariant-loop-text g l =
       write_later : (q : List ℕ) → g.F.Files.write_faults l.fn.files q ≤ g.F.Files.write_faults l.files q;
     }
 
-abbrev pub decreases-loop-text : goal.decreases-loop-text
-decreases-loop-text g l = 1099511627777 - l.at
+abbrev pub decreases-loop-at : goal.decreases-loop-at
+decreases-loop-at g l = 1099511627777 - l.at
