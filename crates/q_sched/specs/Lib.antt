@@ -3,5 +3,6 @@ pub mod Settled
 pub mod Rises
 pub mod Drives
 pub mod Outcomes
+pub mod Kinds
 pub mod Meanings
 pub mod Seen

@@ -2,16 +2,21 @@
 //! drive that asks guides which target is next, and searches the rules once no guide is left.
 #![tactic(auto)]
 
+mod ascending;
 mod asking;
 mod drive;
+mod fewest;
 mod guide;
 mod moves;
 mod searches;
 mod searching;
+mod shortest;
 mod turns;
 
 pub use drive::Drive;
+pub use fewest::FewestFirst;
 pub use guide::{Guide, Proposal};
 pub use moves::{Move, RULES, Rule};
 pub use searches::Searches;
+pub use shortest::ShortestFirst;
 pub use turns::Turn;
