@@ -58,3 +58,4 @@ pub mod AllDecided
 pub mod RuleRows
 pub mod Repeated
 pub mod CertificateTrees
+mod ByVariable

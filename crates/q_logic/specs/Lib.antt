@@ -31,3 +31,4 @@ pub mod Rules
 pub mod Settled
 pub mod Deciding
 pub mod CarelessRules
+pub mod ByVariable

@@ -2,6 +2,7 @@
 //! steps, and the laws on them. Every other crate stands on this one.
 #![tactic(auto)]
 
+mod by_variable;
 mod careless_rules;
 mod examples;
 mod formulas;
@@ -14,6 +15,7 @@ mod rule_bounds;
 mod rules;
 mod steps;
 
+pub use by_variable::valid_by_variable;
 pub use careless_rules::{
     careless_blocking_is_wrong, careless_elimination_is_wrong, careless_expansion_is_wrong,
 };
