@@ -1,4 +1,4 @@
--- The line that a run puts, and the faults that it may answer.
+-- What a run does: the status that it gives, what the files hold then, the faults that it may answer, the lines that it puts.
 use Rattle.std.specs.Prelude.{◌≡◌, ◌⊎◌, ℕ, true, false, List, [], ◌∷◌, ◌++◌, take, Option, Some, None, IfSome}
 use Rattle.q_io.specs.Files.{Disk, Rose, bytes_at}
 use Rattle.q_app.specs.Statuses.{passes}

@@ -122,7 +122,7 @@ abbrev pub rebuild_of : Option FiveNames → Request
 rebuild_of None = None
 rebuild_of (Some n) = alone (rebuilding n)
 
--- a seed of 64 bits, and a size from 1 to 100,000
+-- a seed of 64 bits, and a number of clauses from 1 to 100,000
 abbrev pub scale_by : Option ℕ → Option ℕ → Option Scale
 scale_by None size = None
 scale_by (Some seed) None = None

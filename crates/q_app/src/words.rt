@@ -16,7 +16,7 @@ pub(crate) struct Names<'a> {
     pub log: &'a str,
 }
 
-/// What formula is generated: the seed of its random numbers, and the number of its clauses by hundredths.
+/// What formula is generated: by the seed of its random numbers, and with so many clauses.
 #[derive(Clone, Copy, Debug, PartialEq, Eq)]
 pub(crate) struct Scale {
     pub seed: u64,
