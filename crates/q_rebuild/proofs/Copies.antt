@@ -91,7 +91,7 @@ plain-there names n ins row (gate_at g) li lr = lr g
 pub copy-there : (names : List ℕ) (n : Net) (ins : List (Option ℕ)) (row : List ℕ) (l : ℕ) (o : Operand) → operand_of l ≡ copied_operand names ins row o → AreLiterals n ins → ((g : ℕ) → IsLiteral n (get_or row g 0)) → IsLiteral n l
 copy-there names n ins row l o e li lr = operand-there n (copied_plain names ins row o.node) l o.negated e (plain-there names n ins row o.node li lr)
 
-gate-is : (old : Net) (g : ℕ) (x : Gate) → AreGates (length old.inputs) 0 old.gates → slice_get old.gates g ≡ Some x → tree_of_gate old g ≡ gate_tree old.inputs (gate_trees old.inputs [] old.gates) x
+pub gate-is : (old : Net) (g : ℕ) (x : Gate) → AreGates (length old.inputs) 0 old.gates → slice_get old.gates g ≡ Some x → tree_of_gate old g ≡ gate_tree old.inputs (gate_trees old.inputs [] old.gates) x
 gate-is old g x o e =
     let t : get_or (gate_trees old.inputs [] old.gates) (0 + g) (Circuit.constant false) ≡ gate_tree old.inputs (gate_trees old.inputs [] old.gates) (get_or old.gates g x) = tree-at-gate old.inputs [] old.gates g x o (slice_get-below old.gates g x e) in
     let z : 0 + g ≡ g = omega arith in

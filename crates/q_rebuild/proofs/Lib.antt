@@ -12,3 +12,4 @@ pub mod Reading
 pub mod Allowing
 pub mod Denying
 pub mod Alike
+pub mod Weighing

@@ -23,10 +23,10 @@ use Rattle.q_rebuild.proofs.Tabling.{before-take}
 
 -- the circuit of x is the tree of a literal
 module _ (c : CertificateView) (x l : ℕ) (e : trees_of c x ≡ Some (tree_at (net_of c) l)) where
-  to-input : (i : ℕ) → ReadsAt (net_of c) l i → ReadsInput c x i
+  pub to-input : (i : ℕ) → ReadsAt (net_of c) l i → ReadsInput c x i
   to-input i r = (ap given e, r.0, subst (λ (o : Option Circuit). Reads (or_input x o) (get_or c.inputs i 0)) (sym e) r.1)
 
-  from-input : (i : ℕ) → ReadsInput c x i → ReadsAt (net_of c) l i
+  pub from-input : (i : ℕ) → ReadsInput c x i → ReadsAt (net_of c) l i
   from-input i r = (r.1, subst (λ (o : Option Circuit). Reads (or_input x o) (get_or c.inputs i 0)) e r.2)
 
 pub first-in : (c : CertificateView) (x l : ℕ) (allowed : List Bool) (f : Option ℕ) → trees_of c x ≡ Some (tree_at (net_of c) l) → IsRead (net_of c) l allowed f → IsFirstIn c x allowed f

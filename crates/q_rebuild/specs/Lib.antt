@@ -7,3 +7,4 @@ pub mod Rebuilt
 pub mod Made
 pub mod Refusals
 pub mod Tabled
+pub mod Peaks

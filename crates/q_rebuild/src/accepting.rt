@@ -1,5 +1,6 @@
-//! Whether circuits can be circuits of a formula: the five refusals, in their order. What reads a universal is looked up
-//! output by output, so shared gates are walked once for each output that needs them.
+//! Whether circuits can be circuits of a formula: the five refusals, in their order. Strange inputs are found by one pass
+//! over the gates. What reads a universal is looked up output by output, so shared gates are walked once for each
+//! output that needs them.
 ghost use Rattle.std.specs.Prelude.{◌≡◌, ◌<◌, ◌↔◌, ◌&&◌, ℕ, [], List, true, cond, not, eqb, length, IfOk, IfErr, OnOk, IsTrue, false, slice_index_or, MatchOption, Some, None, Option};
 ghost use Rattle.q_logic.specs.Formulas.{IsIn, Prefix};
 ghost use Rattle.q_logic.specs.Prefixes.{Distinct, is_exists};
@@ -9,11 +10,13 @@ ghost use Rattle.q_logic.specs.Certificates.{CertificateView, trees_of};
 ghost use Rattle.q_aig.specs.Nets.{AreDistinct, IsLiteral, tree_at};
 ghost use Rattle.q_aig.specs.Outputs.{AreOutputs, net_of, output_of};
 ghost use Rattle.q_rebuild.specs.Copied.{strategy_of};
+ghost use Rattle.q_rebuild.specs.Peaks.{IsTop};
 ghost use Rattle.q_rebuild.specs.Tabled.{AreCircuits, ArePlaces, AreExistentials, AreAllowedBy};
 ghost use Rattle.q_rebuild.specs.Refusals.{first_missing as first_missing_spec, first_strange as first_strange_spec, IsStrangeInput, NoStrangeInput, IsTooInner, AllOuter, IsRefused, IsAccepted, name_at, least_of, IsFirstIn, IsFirstOver, IsNameRefusal, IsInputRefusal, IsReadRefusal};
 ghost use Rattle.std.specs.Prelude.{map};
 
 use crate::error::RebuildError;
+use crate::peaks::{greater, peak_of, peaks, strange_weights};
 use crate::tables::{look, put};
 use q_aig::{Aig, Certificate, Output};
 use q_logic::{Bound, Formula, NoMemory, Quant};
@@ -148,19 +151,36 @@ fn least(found: Option<usize>, more: Option<usize>) -> Option<usize>
     }
 }
 
-// The first input that some circuit reads and that is not allowed.
-fn first_strange_input(given: &mut Certificate, allowed: &[bool]) -> Option<usize>
-    requires { length allowed.now ≡ length given.old.inputs }
-    ensures unchanged { given.new ≡ given.old }
-    ensures found { IsFirstOver given.old (length given.old.outputs) allowed.now result }
+// The greatest weight of the inputs that the circuits read.
+fn top_peak(alloc: Global, given: &Certificate, weights: &[usize]) -> Result<usize, NoMemory>
+    requires weights { length weights.now ≡ length given.now.inputs }
+    ensures { IfOk result (IsTop given.now (length given.now.outputs) weights.now) }
 {
-    let mut found = None;
+    let row = peaks(alloc, given.aig(), weights)?;
+    let mut top = 0;
     for k in 0..given.outputs().len() {
         let lit = literal_at(given, k);
-        let more = given.reads(lit, allowed);
-        found = least(found, more);
+        let peak = peak_of(given.aig(), weights, &row, lit);
+        top = greater(top, peak);
     }
-    found
+    Ok(top)
+}
+
+// The first input that some circuit reads and that is not allowed.
+fn first_strange_input(
+    alloc: Global,
+    given: &Certificate,
+    allowed: &[bool],
+) -> Result<Option<usize>, NoMemory>
+    requires { length allowed.now ≡ length given.now.inputs }
+    ensures { IfOk result (IsFirstOver given.now (length given.now.outputs) allowed.now) }
+{
+    let weights = strange_weights(alloc, allowed)?;
+    let top = top_peak(alloc, given, &weights)?;
+    if top == 0 {
+        return Ok(None);
+    }
+    Ok(Some(allowed.len() - top))
 }
 
 // The first input that the circuit of a variable reads and that is not allowed.
@@ -253,7 +273,8 @@ fn test_inputs(
     ensures refused { IfErr result (IsInputRefusal prefix.now given.old) }
 {
     let allowed = universals_in(alloc, prefix, given, places)?;
-    if let Some(place) = first_strange_input(given, &allowed) {
+    let found = first_strange_input(alloc, given, &allowed)?;
+    if let Some(place) = found {
         return Err(RebuildError::StrangeInput {
             var: given.aig().inputs()[place],
         });

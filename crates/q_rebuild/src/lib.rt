@@ -14,6 +14,7 @@ mod entries;
 mod error;
 mod laws;
 mod making;
+mod peaks;
 mod tables;
 mod whole;
 
