@@ -1,8 +1,12 @@
 //! The program: the words of the command line, the real disk and standard output.
 #![tactic(auto)]
 
-use q_app::{Status, run};
+use q_app::{Status, bounds_of, run};
 use q_io::{DiskFiles, StdSink};
+use q_logic::NoMemory;
+use q_sched::{FewestFirst, Guide, ShortestFirst};
+use q_touched::Touched;
+use std::alloc::Global;
 use std::process::ExitCode;
 use std::{env, io};
 
@@ -24,19 +28,29 @@ fn without_words(error: io::Error) -> Status {
     }
 }
 
+// Who is asked which target is tried next: first the guide that looks where something changed, which finds nearly all of
+// them, and then the two plain ones.
+fn guides(alloc: Global, words: &[String]) -> Result<Vec<Box<dyn Guide>>, NoMemory> {
+    let mut guides: Vec<Box<dyn Guide>> = Vec::new(alloc);
+    let touched = Touched::new(alloc, bounds_of(words));
+    guides.push(Box::new(alloc, touched)?)?;
+    guides.push(Box::new(alloc, FewestFirst::new())?)?;
+    guides.push(Box::new(alloc, ShortestFirst::new())?)?;
+    Ok(guides)
+}
+
+fn run_words<R: std::rt::Files + Print + AllocGlobal>(rt: &R, words: &[String]) -> Status {
+    let Ok(guides) = guides(rt.alloc(), words) else {
+        return Status::NoMemory;
+    };
+    let mut files = DiskFiles::new(rt);
+    let mut out = StdSink::new(rt);
+    run(rt.alloc(), words, &mut files, &mut out, guides)
+}
+
 fn main(rt: HostRuntime) -> ExitCode {
     let status = match words(&rt) {
-        Ok(words) => {
-            let mut files = DiskFiles::new(&rt);
-            let mut out = StdSink::new(&rt);
-            run(
-                rt.alloc(),
-                &words,
-                &mut files,
-                &mut out,
-                Vec::new(rt.alloc()),
-            )
-        }
+        Ok(words) => run_words(&rt, &words),
         Err(error) => without_words(error),
     };
     ExitCode::from(status.code())
