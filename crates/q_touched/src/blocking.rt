@@ -1,6 +1,6 @@
 //! Blocked clauses, and universal literals on which a clause is blocked.
 //!
-//! A clause can become blocked on a literal only where a clause with the negation goes, or loses a literal that clashed. So the literals wait whose negation
+//! A clause can become blocked on a literal where a clause with the negation goes. So the literals wait whose negation
 //! stands in one clause less, and the clauses of one of them are tested one by one.
 ghost use Rattle.q_kernel.specs.Taking.{AreModest, IsReady};
 

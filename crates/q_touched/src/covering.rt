@@ -1,8 +1,8 @@
 //! Covered clauses.
 //!
 //! Such a test costs more than any other, so it comes after the other rules, and only clauses near a change are tested:
-//! those with a literal whose negation stands in one clause less, or that stands in a clause that came or became shorter. They are gathered
-//! at once and tested one by one, short ones first.
+//! those with a literal whose negation stands in one clause less, or that stands in a clause that came or became shorter.
+//! They are gathered at once and tested one by one, short ones first.
 ghost use Rattle.q_kernel.specs.Taking.{AreModest, IsReady};
 
 use crate::lists::{gather, lits_of};

@@ -1,5 +1,5 @@
-//! Elimination of the touched existential variables, those with the fewest places first. (By increasing occurrence: S. Subbarayan
-//! and D. Pradhan, "NiVER", SAT 2004; N. Eén and A. Biere, SAT 2005.)
+//! Elimination of the touched existential variables, those with the fewest places first. (S. Subbarayan and D. Pradhan,
+//! "NiVER", SAT 2004; N. Eén and A. Biere, SAT 2005.)
 //!
 //! A variable waits in a heap by the number of its places when it was put in. Where the number has changed since, it is put
 //! in again once it is met.

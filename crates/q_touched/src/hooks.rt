@@ -1,8 +1,9 @@
 //! An index of clauses for subsumption: each clause hangs at one of its literals, the one that occurs least.
 //!
 //! What lies within a clause d hangs at a literal of d, and what does so with one literal turned hangs at a literal of d or
-//! at its negation. So few clauses are looked at, and a signature of variables rules most of these out. (The watch of one literal: L. Zhang, "On subsumption removal
-//! and on-the-fly CNF simplification", SAT 2005; signatures: N. Eén and A. Biere, SAT 2005.)
+//! at its negation. So few clauses are looked at, and a signature of variables rules most of these out. (One literal a
+//! clause: L. Zhang, "On subsumption removal and on-the-fly CNF simplification", SAT 2005; signatures: N. Eén and A. Biere,
+//! SAT 2005.)
 //!
 //! The clauses of a literal are a list, linked by their ids. Nothing here has to agree with the kernel.
 

@@ -2,8 +2,8 @@
 //!
 //! | What was touched | What may apply now |
 //! |---|---|
-//! | a clause came, or lost a literal | a unit clause or a cut; it may be subsumed, or subsume others; merges by it where it has two literals; elimination and expansion of its variables; covering near its literals |
-//! | a literal stands in one clause less | its negation is pure, or clauses with the negation are blocked or covered; elimination and expansion of its variable |
+//! | a clause came, or lost a literal | settling, subsumption, merges, elimination, expansion, covered clauses near it |
+//! | a literal stands in one clause less | its negation as pure; blocked and covered clauses with it; its variable |
 //! | a variable is fresh, or its block is one with a further one | all that concerns the variable |
 
 use crate::blocking::Blocking;
