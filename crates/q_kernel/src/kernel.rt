@@ -8,7 +8,7 @@ ghost use Rattle.q_logic.specs.InLimits.{greatest};
 ghost use Rattle.q_logic.specs.Measure.{size_of, measure_of};
 ghost use Rattle.q_logic.specs.Sweep.{swept, has_empty, occurs, occurring};
 ghost use Rattle.q_logic.specs.Prefixes.{is_bound};
-ghost use Rattle.q_arena.specs.Seen.{live_in, IsFree};
+ghost use Rattle.q_arena.specs.Seen.{live_in, words_in, IsFree, IsEnd};
 ghost use Rattle.q_arena.specs.Rings.{Has};
 ghost use Rattle.q_arena.specs.Chains.{following};
 ghost use Rattle.q_occ.specs.Places.{places_of};
@@ -593,13 +593,16 @@ impl Kernel {
         ensures view { SameView self.old self.new }
         ensures kept { KeepsSpare self.old self.new }
         ensures dead { self.new.arena.dead ≡ 0 }
+        ensures meaning { (last : ℕ) × IsEnd self.new.arena last × (words_in self.new.arena.clauses ≡ last) }
     {
         links::compact(&mut self.arena, &mut self.occ);
+        let _ = self.arena.dead();
     }
 
     /// The words before the end of the last clause that no clause has.
     pub fn dead(&self) -> usize
-        ensures { result ≡ self.now.arena.dead }
+        ensures value { result ≡ self.now.arena.dead }
+        ensures meaning { (last : ℕ) × IsEnd self.now.arena last × (result + words_in self.now.arena.clauses ≡ last) }
     {
         self.arena.dead()
     }

@@ -37,6 +37,7 @@ whole-front : (F G : PrenexFormula) (ln : List ℕ) (d : Disk) → HoldsRun F G 
 whole-front F G ln d h =
     record {
       steps = h.steps;
+      logged = h.logged;
       last = h.run.last;
       valid = h.run.steps;
       part = length (steps_text h.steps);
@@ -63,7 +64,7 @@ leaves-not_created F on ln before after n m =
     record {
       disk = m.disk;
       told = m.told;
-      log = elim m.bytes [ inl e ↦ inl e | inr e ↦ inr (record { steps = []; last = F; valid = refl; part = 0; bytes = ap (λ o. unwrap_or o []) e }) ];
+      log = elim m.bytes [ inl e ↦ inl e | inr e ↦ inr (record { steps = []; logged = tt; last = F; valid = refl; part = 0; bytes = ap (λ o. unwrap_or o []) e }) ];
       output = inl (m.others on n);
       others = λ q a b. m.others q b;
     }

@@ -104,7 +104,7 @@ has_log-left F name before k after h =
     record {
       disk = h.disk;
       told = h.told;
-      log = inr (record { steps = h.steps; last = h.last; valid = h.valid; part = length h.bytes; bytes = e ∙ (sym (take-front h.bytes k.text) ∙ ap (λ t. take (length h.bytes) t) h.text) });
+      log = inr (record { steps = h.steps; logged = h.logged; last = h.last; valid = h.valid; part = length h.bytes; bytes = e ∙ (sym (take-front h.bytes k.text) ∙ ap (λ t. take (length h.bytes) t) h.text) });
       others = h.others;
     }
 
@@ -116,7 +116,7 @@ has_log-part F name before k bytes mid after h w b =
     record {
       disk = a.disk;
       told = a.told;
-      log = inr (record { steps = h.steps; last = h.last; valid = h.valid; part = length h.bytes + a.part; bytes = a.bytes ∙ (ap (λ b. b ++ take a.part k.text) e ∙ (sym (take-front_more h.bytes k.text a.part) ∙ ap (λ t. take (length h.bytes + a.part) t) h.text)) });
+      log = inr (record { steps = h.steps; logged = h.logged; last = h.last; valid = h.valid; part = length h.bytes + a.part; bytes = a.bytes ∙ (ap (λ b. b ++ take a.part k.text) e ∙ (sym (take-front_more h.bytes k.text a.part) ∙ ap (λ t. take (length h.bytes + a.part) t) h.text)) });
       others = others-through name before h.disk a.disk h.others a.others;
     }
 

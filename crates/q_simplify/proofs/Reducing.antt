@@ -60,4 +60,4 @@ started F k p m = ap (λ (X : Matrix). formula_of k.prefix X) m ∙ ap (λ (P : 
 
 pub begin-formula_left : (F : PrenexFormula) (name : List ℕ) (before : Disk) (held : Option Disk) → Empties name before held → LeavesLog F name before held
 begin-formula_left F name before held e =
-    record { disk = e.disk; told = e.told; log = inr (record { steps = []; last = F; valid = refl; part = 0; bytes = ap (λ o. unwrap_or o []) e.bytes }); others = e.others }
+    record { disk = e.disk; told = e.told; log = inr (record { steps = []; logged = tt; last = F; valid = refl; part = 0; bytes = ap (λ o. unwrap_or o []) e.bytes }); others = e.others }

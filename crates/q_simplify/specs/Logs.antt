@@ -26,9 +26,10 @@ pub record HasLog (F : PrenexFormula) (name : List ℕ) (before : Disk) (k : See
   pub alike : AreAlike last (formula_in k)
   pub others : OthersStay name before disk
 
--- the file holds a front of the text of steps that are valid from F on
+-- the file holds a front of the text of steps that a log can hold, and that are valid from F on
 pub record HoldsFront (F : PrenexFormula) (name : List ℕ) (disk : Disk) : Type 0 where
   pub steps : List ProofStep
+  pub logged : AllByRecursion IsLogged steps
   pub last : PrenexFormula
   pub valid : ValidSteps standard F steps last
   pub part : ℕ
