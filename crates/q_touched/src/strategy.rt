@@ -10,9 +10,8 @@
 //! 7. Universal reduction over all places; where something was taken, again from 2.
 //! 8. Covered clauses over long lists; where one was taken, again from 2.
 //!
-//! Then nothing is proposed any more. Each call goes on where the last one stopped. (The order of the rules is that of
-//! A. Biere, F. Lonsing and M. Seidl, "Blocked Clause Elimination for QBF", CADE 2011, as far as it has them; queues of
-//! what was touched are those of N. Eén and A. Biere, SAT 2005.)
+//! Then nothing is proposed any more. Each call goes on where the last one stopped. (Queues of what was touched: N. Eén and
+//! A. Biere, "Effective preprocessing in SAT through variable and clause elimination", SAT 2005.)
 ghost use Rattle.q_kernel.specs.Taking.{AreModest, IsReady};
 
 use crate::parts::Parts;
