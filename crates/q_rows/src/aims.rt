@@ -1,5 +1,5 @@
-// The targets of the rules, as rows write them. A crate of rules is added here: a case of `Aim`, and an arm for it in each
-// `match` below.
+// The targets of the rules, as rows write them. A crate of rules is added here: an arm in each `match` on a target below, and
+// two functions, each of which calls that crate alone.
 ghost use Rattle.q_kernel.specs.Taking.{AreModest, IsReady};
 
 use crate::trouble::Trouble;
@@ -10,31 +10,27 @@ use q_expand::Target as Expand;
 use q_kernel::{Kernel, Taken};
 use q_logic::{Bounds, Lit};
 use q_reduce::Target as Reduce;
+use q_sched::Move;
 use q_subsume::Target as Subsume;
 use std::alloc::Global;
 use std::fmt;
 
 /// A target of one of the rules.
 #[derive(Clone, Copy)]
-pub enum Aim {
-    Reduce(Reduce),
-    Subsume(Subsume),
-    Merge(Merge),
-    Block(Block),
-    Eliminate(Eliminate),
-    Expand(Expand),
+pub struct Aim {
+    pub target: Move,
 }
 
 impl Aim {
     /// The name of the crate whose target this is.
     pub fn rules(&self) -> &'static str {
-        match self {
-            Aim::Reduce(_) => "reduce",
-            Aim::Subsume(_) => "subsume",
-            Aim::Merge(_) => "equiv",
-            Aim::Block(_) => "blocked",
-            Aim::Eliminate(_) => "eliminate",
-            Aim::Expand(_) => "expand",
+        match self.target {
+            Move::Reduce(_) => "reduce",
+            Move::Subsume(_) => "subsume",
+            Move::Merge(_) => "equiv",
+            Move::Block(_) => "blocked",
+            Move::Eliminate(_) => "eliminate",
+            Move::Expand(_) => "expand",
         }
     }
 
@@ -48,15 +44,104 @@ impl Aim {
         requires ready { IsReady kernel.old }
         requires bounds { AreModest bounds.now }
     {
-        let taken = match self {
-            Aim::Reduce(target) => q_reduce::try_one(alloc, kernel, target, bounds),
-            Aim::Subsume(target) => q_subsume::try_one(alloc, kernel, target, bounds),
-            Aim::Merge(target) => q_equiv::try_one(alloc, kernel, target, bounds),
-            Aim::Block(target) => q_blocked::try_one(alloc, kernel, target, bounds),
-            Aim::Eliminate(target) => q_eliminate::try_one(alloc, kernel, target, bounds),
-            Aim::Expand(target) => q_expand::try_one(alloc, kernel, target, bounds),
-        };
-        Ok(taken?)
+        match &self.target {
+            Move::Reduce(target) => try_reduce(alloc, kernel, target, bounds),
+            Move::Subsume(target) => try_subsume(alloc, kernel, target, bounds),
+            Move::Merge(target) => try_merge(alloc, kernel, target, bounds),
+            Move::Block(target) => try_block(alloc, kernel, target, bounds),
+            Move::Eliminate(target) => try_eliminate(alloc, kernel, target, bounds),
+            Move::Expand(target) => try_expand(alloc, kernel, target, bounds),
+        }
+    }
+}
+
+fn try_reduce(
+    alloc: Global,
+    kernel: &mut Kernel,
+    target: &Reduce,
+    bounds: &Bounds,
+) -> Result<Taken, Trouble>
+    requires ready { IsReady kernel.old }
+    requires bounds { AreModest bounds.now }
+{
+    match q_reduce::try_one(alloc, kernel, target, bounds) {
+        Ok(taken) => Ok(taken),
+        Err(_) => Err(Trouble::NoMemory),
+    }
+}
+
+fn try_subsume(
+    alloc: Global,
+    kernel: &mut Kernel,
+    target: &Subsume,
+    bounds: &Bounds,
+) -> Result<Taken, Trouble>
+    requires ready { IsReady kernel.old }
+    requires bounds { AreModest bounds.now }
+{
+    match q_subsume::try_one(alloc, kernel, target, bounds) {
+        Ok(taken) => Ok(taken),
+        Err(_) => Err(Trouble::NoMemory),
+    }
+}
+
+fn try_merge(
+    alloc: Global,
+    kernel: &mut Kernel,
+    target: &Merge,
+    bounds: &Bounds,
+) -> Result<Taken, Trouble>
+    requires ready { IsReady kernel.old }
+    requires bounds { AreModest bounds.now }
+{
+    match q_equiv::try_one(alloc, kernel, target, bounds) {
+        Ok(taken) => Ok(taken),
+        Err(_) => Err(Trouble::NoMemory),
+    }
+}
+
+fn try_block(
+    alloc: Global,
+    kernel: &mut Kernel,
+    target: &Block,
+    bounds: &Bounds,
+) -> Result<Taken, Trouble>
+    requires ready { IsReady kernel.old }
+    requires bounds { AreModest bounds.now }
+{
+    match q_blocked::try_one(alloc, kernel, target, bounds) {
+        Ok(taken) => Ok(taken),
+        Err(_) => Err(Trouble::NoMemory),
+    }
+}
+
+fn try_eliminate(
+    alloc: Global,
+    kernel: &mut Kernel,
+    target: &Eliminate,
+    bounds: &Bounds,
+) -> Result<Taken, Trouble>
+    requires ready { IsReady kernel.old }
+    requires bounds { AreModest bounds.now }
+{
+    match q_eliminate::try_one(alloc, kernel, target, bounds) {
+        Ok(taken) => Ok(taken),
+        Err(_) => Err(Trouble::NoMemory),
+    }
+}
+
+fn try_expand(
+    alloc: Global,
+    kernel: &mut Kernel,
+    target: &Expand,
+    bounds: &Bounds,
+) -> Result<Taken, Trouble>
+    requires ready { IsReady kernel.old }
+    requires bounds { AreModest bounds.now }
+{
+    match q_expand::try_one(alloc, kernel, target, bounds) {
+        Ok(taken) => Ok(taken),
+        Err(_) => Err(Trouble::NoMemory),
     }
 }
 
@@ -72,13 +157,121 @@ pub fn find(
     requires bounds { AreModest bounds.now }
 {
     match rules {
-        "reduce" => Ok(q_reduce::find(alloc, kernel, bounds, from)?.map(Aim::Reduce)),
-        "subsume" => Ok(q_subsume::find(alloc, kernel, bounds, from)?.map(Aim::Subsume)),
-        "equiv" => Ok(q_equiv::find(alloc, kernel, bounds, from)?.map(Aim::Merge)),
-        "blocked" => Ok(q_blocked::find(alloc, kernel, bounds, from)?.map(Aim::Block)),
-        "eliminate" => Ok(q_eliminate::find(alloc, kernel, bounds, from)?.map(Aim::Eliminate)),
-        "expand" => Ok(q_expand::find(alloc, kernel, bounds, from)?.map(Aim::Expand)),
+        "reduce" => find_reduce(alloc, kernel, bounds, from),
+        "subsume" => find_subsume(alloc, kernel, bounds, from),
+        "equiv" => find_merge(alloc, kernel, bounds, from),
+        "blocked" => find_block(alloc, kernel, bounds, from),
+        "eliminate" => find_eliminate(alloc, kernel, bounds, from),
+        "expand" => find_expand(alloc, kernel, bounds, from),
         _ => Err(Trouble::Unreadable("a crate of rules")),
+    }
+}
+
+fn find_reduce(
+    alloc: Global,
+    kernel: &Kernel,
+    bounds: &Bounds,
+    from: u32,
+) -> Result<Option<Aim>, Trouble>
+    requires ready { IsReady kernel.now }
+    requires bounds { AreModest bounds.now }
+{
+    match q_reduce::find(alloc, kernel, bounds, from) {
+        Ok(Some(target)) => Ok(Some(Aim {
+            target: Move::Reduce(target),
+        })),
+        Ok(None) => Ok(None),
+        Err(_) => Err(Trouble::NoMemory),
+    }
+}
+
+fn find_subsume(
+    alloc: Global,
+    kernel: &Kernel,
+    bounds: &Bounds,
+    from: u32,
+) -> Result<Option<Aim>, Trouble>
+    requires ready { IsReady kernel.now }
+    requires bounds { AreModest bounds.now }
+{
+    match q_subsume::find(alloc, kernel, bounds, from) {
+        Ok(Some(target)) => Ok(Some(Aim {
+            target: Move::Subsume(target),
+        })),
+        Ok(None) => Ok(None),
+        Err(_) => Err(Trouble::NoMemory),
+    }
+}
+
+fn find_merge(
+    alloc: Global,
+    kernel: &Kernel,
+    bounds: &Bounds,
+    from: u32,
+) -> Result<Option<Aim>, Trouble>
+    requires ready { IsReady kernel.now }
+    requires bounds { AreModest bounds.now }
+{
+    match q_equiv::find(alloc, kernel, bounds, from) {
+        Ok(Some(target)) => Ok(Some(Aim {
+            target: Move::Merge(target),
+        })),
+        Ok(None) => Ok(None),
+        Err(_) => Err(Trouble::NoMemory),
+    }
+}
+
+fn find_block(
+    alloc: Global,
+    kernel: &Kernel,
+    bounds: &Bounds,
+    from: u32,
+) -> Result<Option<Aim>, Trouble>
+    requires ready { IsReady kernel.now }
+    requires bounds { AreModest bounds.now }
+{
+    match q_blocked::find(alloc, kernel, bounds, from) {
+        Ok(Some(target)) => Ok(Some(Aim {
+            target: Move::Block(target),
+        })),
+        Ok(None) => Ok(None),
+        Err(_) => Err(Trouble::NoMemory),
+    }
+}
+
+fn find_eliminate(
+    alloc: Global,
+    kernel: &Kernel,
+    bounds: &Bounds,
+    from: u32,
+) -> Result<Option<Aim>, Trouble>
+    requires ready { IsReady kernel.now }
+    requires bounds { AreModest bounds.now }
+{
+    match q_eliminate::find(alloc, kernel, bounds, from) {
+        Ok(Some(target)) => Ok(Some(Aim {
+            target: Move::Eliminate(target),
+        })),
+        Ok(None) => Ok(None),
+        Err(_) => Err(Trouble::NoMemory),
+    }
+}
+
+fn find_expand(
+    alloc: Global,
+    kernel: &Kernel,
+    bounds: &Bounds,
+    from: u32,
+) -> Result<Option<Aim>, Trouble>
+    requires ready { IsReady kernel.now }
+    requires bounds { AreModest bounds.now }
+{
+    match q_expand::find(alloc, kernel, bounds, from) {
+        Ok(Some(target)) => Ok(Some(Aim {
+            target: Move::Expand(target),
+        })),
+        Ok(None) => Ok(None),
+        Err(_) => Err(Trouble::NoMemory),
     }
 }
 
@@ -87,36 +280,39 @@ pub fn aim_of(text: &str) -> Result<Aim, Trouble> {
     let (kind, rest) = text.split_once(' ').unwrap_or((text, ""));
     let numbers = numbers_of(rest)?;
     if let Some(target) = reduce_of(kind, numbers)? {
-        return Ok(Aim::Reduce(target));
+        return Ok(Aim {
+            target: Move::Reduce(target),
+        });
     }
-    pair_of(kind, numbers)
+    let target = pair_of(kind, numbers)?;
+    Ok(Aim { target })
 }
 
 // A target of one of the other rules.
-fn pair_of(kind: &str, numbers: [i32; 3]) -> Result<Aim, Trouble> {
+fn pair_of(kind: &str, numbers: [i64; 3]) -> Result<Move, Trouble> {
     let [first, second, third] = numbers;
-    let aim = match kind {
-        "subsumed" => Aim::Subsume(Subsume::Subsumed {
+    let target = match kind {
+        "subsumed" => Move::Subsume(Subsume::Subsumed {
             c: id(first),
             d: id(second),
         }),
-        "strengthen" => Aim::Subsume(Subsume::Strengthen {
+        "strengthen" => Move::Subsume(Subsume::Strengthen {
             c: id(first),
             d: id(second),
             l: lit(third)?,
         }),
-        "merge" => Aim::Merge(Merge::Merge {
+        "merge" => Move::Merge(Merge::Merge {
             keep: lit(first)?,
             gone: lit(second)?,
         }),
-        "eliminate" => Aim::Eliminate(Eliminate::Eliminate { x: id(first) }),
-        "expand" => Aim::Expand(Expand::Expand { u: id(first) }),
+        "eliminate" => Move::Eliminate(Eliminate::Eliminate { x: id(first) }),
+        "expand" => Move::Expand(Expand::Expand { u: id(first) }),
         _ => return block_of(kind, first, second),
     };
-    Ok(aim)
+    Ok(target)
 }
 
-fn block_of(kind: &str, first: i32, second: i32) -> Result<Aim, Trouble> {
+fn block_of(kind: &str, first: i64, second: i64) -> Result<Move, Trouble> {
     let target = match kind {
         "blocked" => Block::Blocked {
             c: id(first),
@@ -129,10 +325,10 @@ fn block_of(kind: &str, first: i32, second: i32) -> Result<Aim, Trouble> {
         "cover" => Block::Cover { c: id(first) },
         _ => return Err(Trouble::Unreadable("a target")),
     };
-    Ok(Aim::Block(target))
+    Ok(Move::Block(target))
 }
 
-fn reduce_of(kind: &str, numbers: [i32; 3]) -> Result<Option<Reduce>, Trouble> {
+fn reduce_of(kind: &str, numbers: [i64; 3]) -> Result<Option<Reduce>, Trouble> {
     let [first, second, _] = numbers;
     let target = match kind {
         "tautology" => Reduce::Tautology { c: id(first) },
@@ -148,10 +344,10 @@ fn reduce_of(kind: &str, numbers: [i32; 3]) -> Result<Option<Reduce>, Trouble> {
 }
 
 // At most three numbers; those that are not written are 0.
-fn numbers_of(text: &str) -> Result<[i32; 3], Trouble> {
+fn numbers_of(text: &str) -> Result<[i64; 3], Trouble> {
     let mut numbers = [0; 3];
     for (number, word) in numbers.iter_mut().zip(text.split(' ')) {
-        match word.parse::<i32>() {
+        match word.parse::<i64>() {
             Ok(given) => *number = given,
             Err(_) => return Err(Trouble::Unreadable("a number of a target")),
         }
@@ -159,40 +355,40 @@ fn numbers_of(text: &str) -> Result<[i32; 3], Trouble> {
     Ok(numbers)
 }
 
-fn id(number: i32) -> u32 {
-    number.unsigned_abs()
+// An id or a variable, whatever it is.
+fn id(number: i64) -> u32 {
+    u32::try_from(number.unsigned_abs()).unwrap_or(u32::MAX)
 }
 
 /// The literal of a number.
-pub fn lit(number: i32) -> Result<Lit, Trouble> {
-    let var = number.unsigned_abs();
-    if var == 0 || var > 2_147_483_647 {
-        return Err(Trouble::Unreadable("a literal"));
+pub fn lit(number: i64) -> Result<Lit, Trouble> {
+    match u32::try_from(number.unsigned_abs()) {
+        Ok(var) if 1 <= var && var <= 2_147_483_647 => Ok(Lit::new(var, number < 0)),
+        _ => Err(Trouble::Unreadable("a literal")),
     }
-    Ok(Lit::new(var, number < 0))
 }
 
 impl fmt::Display for Aim {
     fn fmt<W: fmt::Write>(&self, f: &mut fmt::Formatter<W>) -> fmt::Result {
-        match self {
-            Aim::Reduce(Reduce::Tautology { c }) => write!(f, "tautology {c}"),
-            Aim::Reduce(Reduce::Unit { c }) => write!(f, "unit {c}"),
-            Aim::Reduce(Reduce::Cut { c, l }) => write!(f, "cut {c} {}", l.number()),
-            Aim::Reduce(Reduce::Pure { l }) => write!(f, "pure {}", l.number()),
-            Aim::Subsume(Subsume::Subsumed { c, d }) => write!(f, "subsumed {c} {d}"),
-            Aim::Subsume(Subsume::Strengthen { c, d, l }) => {
+        match &self.target {
+            Move::Reduce(Reduce::Tautology { c }) => write!(f, "tautology {c}"),
+            Move::Reduce(Reduce::Unit { c }) => write!(f, "unit {c}"),
+            Move::Reduce(Reduce::Cut { c, l }) => write!(f, "cut {c} {}", l.number()),
+            Move::Reduce(Reduce::Pure { l }) => write!(f, "pure {}", l.number()),
+            Move::Subsume(Subsume::Subsumed { c, d }) => write!(f, "subsumed {c} {d}"),
+            Move::Subsume(Subsume::Strengthen { c, d, l }) => {
                 write!(f, "strengthen {c} {d} {}", l.number())
             }
-            Aim::Merge(Merge::Merge { keep, gone }) => {
+            Move::Merge(Merge::Merge { keep, gone }) => {
                 write!(f, "merge {} {}", keep.number(), gone.number())
             }
-            Aim::Block(Block::Blocked { c, l }) => write!(f, "blocked {c} {}", l.number()),
-            Aim::Block(Block::BlockedForall { c, l }) => {
+            Move::Block(Block::Blocked { c, l }) => write!(f, "blocked {c} {}", l.number()),
+            Move::Block(Block::BlockedForall { c, l }) => {
                 write!(f, "blocked-forall {c} {}", l.number())
             }
-            Aim::Block(Block::Cover { c }) => write!(f, "cover {c}"),
-            Aim::Eliminate(Eliminate::Eliminate { x }) => write!(f, "eliminate {x}"),
-            Aim::Expand(Expand::Expand { u }) => write!(f, "expand {u}"),
+            Move::Block(Block::Cover { c }) => write!(f, "cover {c}"),
+            Move::Eliminate(Eliminate::Eliminate { x }) => write!(f, "eliminate {x}"),
+            Move::Expand(Expand::Expand { u }) => write!(f, "expand {u}"),
         }
     }
 }

@@ -1,9 +1,11 @@
 // Files by name, and commands over them.
+use crate::guides::guide_of;
 use crate::notation::compare;
 use crate::trickle::Trickle;
 use crate::trouble::Trouble;
 use q_app::{Status, run};
-use q_io::{Call, Fault, MemFiles, MemSink, SteadyFiles, SteadySink};
+use q_io::{Call, Fault, Files, MemFiles, MemSink, Sink, SteadyFiles, SteadySink};
+use q_sched::Guide;
 use std::alloc::Global;
 
 /// What a command ended with, and what it put.
@@ -23,6 +25,7 @@ pub struct Desk {
     trickle: Trickle,
     failing_puts: Vec<u64>,
     is_alone: bool,
+    guides: Vec<String>,
 }
 
 impl Desk {
@@ -36,6 +39,7 @@ impl Desk {
             },
             failing_puts: Vec::new(alloc),
             is_alone: false,
+            guides: Vec::new(alloc),
         }
     }
 
@@ -67,6 +71,14 @@ impl Desk {
         Ok(())
     }
 
+    /// From now on commands are handed so many more such guides.
+    pub fn guide(&mut self, count: u32, guide: &str) -> Result<(), Trouble> {
+        for _ in 0..count {
+            self.guides.push(String::from_str(self.alloc, guide)?)?;
+        }
+        Ok(())
+    }
+
     /// Runs a command on each device that serves; all say the same.
     pub fn run(&mut self, words: &[String]) -> Result<Said, Trouble> {
         let said = self.run_in_memory(words)?;
@@ -82,39 +94,21 @@ impl Desk {
         for nth in &self.failing_puts {
             out.fail_at(*nth)?;
         }
-        let status = run(
-            self.alloc,
-            words,
-            &mut self.memory,
-            &mut out,
-            Vec::new(self.alloc),
-        );
+        let status = guided(self.alloc, words, &self.guides, &mut self.memory, &mut out)?;
         let line = Vec::from_slice(self.alloc, out.bytes())?;
         Ok(Said { status, line })
     }
 
     fn run_steadily(&mut self, words: &[String], said: &Said) -> Result<(), Trouble> {
         let mut out = SteadySink::new(self.alloc);
-        let status = run(
-            self.alloc,
-            words,
-            &mut self.steady,
-            &mut out,
-            Vec::new(self.alloc),
-        );
+        let status = guided(self.alloc, words, &self.guides, &mut self.steady, &mut out)?;
         compare(self.alloc, &said.line, out.bytes())?;
         compare(self.alloc, &[said.status.code()], &[status.code()])
     }
 
     fn run_trickling(&mut self, words: &[String], said: &Said) -> Result<(), Trouble> {
         let mut out = MemSink::new(self.alloc);
-        let status = run(
-            self.alloc,
-            words,
-            &mut self.trickle,
-            &mut out,
-            Vec::new(self.alloc),
-        );
+        let status = guided(self.alloc, words, &self.guides, &mut self.trickle, &mut out)?;
         compare(self.alloc, &said.line, out.bytes())?;
         compare(self.alloc, &[said.status.code()], &[status.code()])
     }
@@ -130,4 +124,20 @@ impl Desk {
         }
         Ok(())
     }
+}
+
+// Runs a command with guides that are made for it.
+fn guided<F: Files, S: Sink>(
+    alloc: Global,
+    words: &[String],
+    guides: &[String],
+    files: &mut F,
+    out: &mut S,
+) -> Result<Status, Trouble> {
+    let mut boxes: Vec<Box<dyn Guide>> = Vec::new(alloc);
+    for guide in guides {
+        let boxed: Box<dyn Guide> = Box::new(alloc, guide_of(alloc, guide.as_str())?)?;
+        boxes.push(boxed)?;
+    }
+    Ok(run(alloc, words, files, out, boxes))
 }

@@ -53,7 +53,7 @@ fn store_of(alloc: Global, formula: &Formula) -> Result<Store, Trouble> {
 fn lits_of(alloc: Global, text: &str) -> Result<Vec<Lit>, Trouble> {
     let mut lits = Vec::new(alloc);
     for word in text.split(' ') {
-        match word.parse::<i32>() {
+        match word.parse::<i64>() {
             Ok(number) => lits.push(lit(number)?)?,
             Err(_) => return Err(Trouble::Unreadable("a literal")),
         }

@@ -9,6 +9,7 @@ mod aims;
 mod checking;
 mod desk;
 mod formulas;
+mod guides;
 mod implying;
 mod logging;
 mod notation;

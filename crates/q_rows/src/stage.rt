@@ -11,7 +11,7 @@ use crate::implying::implied;
 use crate::logging::log_answer;
 use crate::notation::{bytes_of, compare};
 use crate::reading::answer;
-use crate::taking::{figures, found, outcome};
+use crate::taking::{figures, found, outcome, proposals};
 use crate::trouble::Trouble;
 use q_io::Call;
 use q_logic::{Bounds, Formula, Limits};
@@ -61,6 +61,8 @@ impl Stage {
             "bounds" => self.bounds = bounds_of(rest)?,
             "fault" => self.plan(rest)?,
             "memory" => self.desk.stand_alone(),
+            "guide" => self.desk.guide(1, rest)?,
+            "guides" => self.guides(rest)?,
             _ => self.put(first, rest)?,
         }
         Ok(())
@@ -116,6 +118,12 @@ impl Stage {
             "append" => self.desk.plan(Call::Append, nth, part),
             _ => self.desk.plan_put(nth),
         }
+    }
+
+    // `COUNT GUIDE`
+    fn guides(&mut self, text: &str) -> Result<(), Trouble> {
+        let (count, guide) = text.split_once(' ').unwrap_or((text, ""));
+        self.desk.guide(number(count)?, guide)
     }
 
     fn act(&mut self, verb: &str, rest: &str, wanted: &str) -> Result<(), Trouble> {
@@ -207,6 +215,7 @@ impl Stage {
             "find" => self.find(rest, &bounds),
             "figures" => figures(self.alloc, &self.formula, &bounds),
             "implied" => implied(self.alloc, &self.formula, rest),
+            "ask" => proposals(self.alloc, &self.formula, rest),
             _ => Err(Trouble::Unreadable("a verb")),
         }
     }

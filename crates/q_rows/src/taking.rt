@@ -5,9 +5,11 @@ ghost use Rattle.q_kernel.specs.Taking.{AreModest, IsReady};
 use crate::aims::{Aim, find};
 use crate::checking::audit;
 use crate::formulas::formula_text;
+use crate::guides::{RowGuide, guide_of};
 use crate::trouble::Trouble;
 use q_kernel::{Kernel, Taken};
 use q_logic::{Bounds, Formula};
+use q_sched::{Guide, Move, Proposal};
 use std::alloc::Global;
 use std::fmt;
 
@@ -116,6 +118,35 @@ fn name_of(alloc: Global, aim: Option<Aim>) -> Result<String, Trouble> {
         Some(aim) => Ok(format!(in alloc; "{aim}")?),
         None => Ok(String::from_str(alloc, "none")?),
     }
+}
+
+/// What a guide proposes for a formula, one proposal after the other, each of which is told as refused.
+pub fn proposals(alloc: Global, formula: &Formula, guide: &str) -> Result<String, Trouble> {
+    let kernel = kernel_of(alloc, formula)?;
+    let mut guide = guide_of(alloc, guide)?;
+    proposed(alloc, &kernel, &mut guide)
+}
+
+fn proposed(alloc: Global, kernel: &Kernel, guide: &mut RowGuide) -> Result<String, Trouble>
+    requires { IsReady kernel.now }
+{
+    let mut text = String::new(alloc);
+    for _ in 0..1000u32 {
+        match guide.propose(kernel) {
+            Proposal::Take(target) => push_target(&mut text, target)?,
+            Proposal::Done => {
+                text.push_str("done")?;
+                return Ok(text);
+            }
+        }
+        guide.told(false);
+    }
+    Err(Trouble::Unreadable("a guide that comes to an end"))
+}
+
+fn push_target(text: &mut String, target: Move) -> Result<(), Trouble> {
+    write!(text, "{}, ", Aim { target })?;
+    Ok(())
 }
 
 /// What the kernel counts.
