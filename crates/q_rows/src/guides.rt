@@ -8,9 +8,17 @@ use crate::aims::{Aim, aim_of};
 use crate::trouble::Trouble;
 use q_arena::ClauseId;
 use q_kernel::Kernel;
+use q_logic::Bounds;
 use q_reduce::Target as Reduce;
-use q_sched::{Guide, Move, Proposal};
+use q_sched::{FewestFirst, Guide, Move, Proposal, ShortestFirst};
+use q_touched::Touched;
 use std::alloc::Global;
+
+// The bounds of a command without options.
+const DEFAULTS: Bounds = Bounds {
+    grow: 0,
+    expand: 16,
+};
 
 /// After which answer to the proposal before a part of a script is due.
 #[derive(Clone, Copy, PartialEq, Eq)]
@@ -69,6 +77,9 @@ enum Plan {
     Script(Script),
     /// Proposes the clause that it met first as a unit clause for ever, also once this clause is gone.
     Remembering(Option<ClauseId>),
+    Fewest(FewestFirst),
+    Shortest(ShortestFirst),
+    Touched(Touched),
 }
 
 impl Plan {
@@ -78,6 +89,9 @@ impl Plan {
         match self {
             Plan::Script(script) => script.next(),
             Plan::Remembering(id) => remembered(id, kernel),
+            Plan::Fewest(guide) => guide.propose(kernel),
+            Plan::Shortest(guide) => guide.propose(kernel),
+            Plan::Touched(guide) => guide.propose(kernel),
         }
     }
 
@@ -85,6 +99,9 @@ impl Plan {
         match self {
             Plan::Script(script) => script.was_taken = taken,
             Plan::Remembering(_) => {}
+            Plan::Fewest(guide) => guide.told(taken),
+            Plan::Shortest(guide) => guide.told(taken),
+            Plan::Touched(guide) => guide.told(taken),
         }
     }
 }
@@ -127,6 +144,9 @@ impl Guide for RowGuide {
 pub fn guide_of(alloc: Global, text: &str) -> Result<RowGuide, Trouble> {
     let plan = match text {
         "remembering" => Plan::Remembering(None),
+        "fewest" => Plan::Fewest(FewestFirst::new()),
+        "shortest" => Plan::Shortest(ShortestFirst::new()),
+        "touched" => Plan::Touched(Touched::new(alloc, DEFAULTS)),
         _ => Plan::Script(script_of(alloc, text)?),
     };
     Ok(RowGuide {

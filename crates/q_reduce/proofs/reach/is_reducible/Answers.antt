@@ -43,7 +43,7 @@ loop-head-preserved c = record {
   walk = λ C e.
       let k = c.args.kernel.now in
       let f = rw c.if-not-branch.false at c.in_ok-visit.ensures in
-    let v = visited-beside k.prefix c.args.lit (slots k) c.args.c c.requires.live.0 c.at-next.result c.loop-head.queue c.visit.new.queue true c.requires.live.1 c.requires.live.2 f in
+      let v = visited-beside k.prefix c.args.lit (slots k) c.args.c c.requires.live.0 c.at-next.result c.loop-head.queue c.visit.new.queue true c.requires.live.1 c.requires.live.2 f in
       let room : c.loop-head.head < length c.loop-head.queue = omega (arith, c.if-head-len.false, c.len.ensures) in
       walk-more k.prefix (others c.args.c (slots k)) C c.args.lit c.loop-head.head c.at-next.result c.loop-head.queue c.visit.new.queue (c.loop-head.invariant.walk C e) room c.at-next.ensures v;
   same = elim c.else-head-lt-GUIDED.branch [
