@@ -28,14 +28,28 @@ fn without_words(error: io::Error) -> Status {
     }
 }
 
+fn touched(alloc: Global, words: &[String]) -> Result<Box<dyn Guide>, NoMemory> {
+    let guide: Box<dyn Guide> = Box::new(alloc, Touched::new(alloc, bounds_of(words)))?;
+    Ok(guide)
+}
+
+fn fewest_first(alloc: Global) -> Result<Box<dyn Guide>, NoMemory> {
+    let guide: Box<dyn Guide> = Box::new(alloc, FewestFirst::new())?;
+    Ok(guide)
+}
+
+fn shortest_first(alloc: Global) -> Result<Box<dyn Guide>, NoMemory> {
+    let guide: Box<dyn Guide> = Box::new(alloc, ShortestFirst::new())?;
+    Ok(guide)
+}
+
 // Who is asked which target is tried next: first the guide that looks where something changed, which finds nearly all of
 // them, and then the two plain ones.
 fn guides(alloc: Global, words: &[String]) -> Result<Vec<Box<dyn Guide>>, NoMemory> {
     let mut guides: Vec<Box<dyn Guide>> = Vec::new(alloc);
-    let touched = Touched::new(alloc, bounds_of(words));
-    guides.push(Box::new(alloc, touched)?)?;
-    guides.push(Box::new(alloc, FewestFirst::new())?)?;
-    guides.push(Box::new(alloc, ShortestFirst::new())?)?;
+    guides.push(touched(alloc, words)?)?;
+    guides.push(fewest_first(alloc)?)?;
+    guides.push(shortest_first(alloc)?)?;
     Ok(guides)
 }
 
