@@ -6,7 +6,6 @@ use q_io::{DiskFiles, StdSink};
 use q_logic::NoMemory;
 use q_sched::{FewestFirst, Guide, ShortestFirst};
 use q_touched::Touched;
-use std::alloc::Global;
 use std::process::ExitCode;
 use std::{env, io};
 
@@ -28,43 +27,29 @@ fn without_words(error: io::Error) -> Status {
     }
 }
 
-fn touched(alloc: Global, words: &[String]) -> Result<Box<dyn Guide>, NoMemory> {
-    let guide: Box<dyn Guide> = Box::new(alloc, Touched::new(alloc, bounds_of(words)))?;
-    Ok(guide)
-}
-
-fn fewest_first(alloc: Global) -> Result<Box<dyn Guide>, NoMemory> {
-    let guide: Box<dyn Guide> = Box::new(alloc, FewestFirst::new())?;
-    Ok(guide)
-}
-
-fn shortest_first(alloc: Global) -> Result<Box<dyn Guide>, NoMemory> {
-    let guide: Box<dyn Guide> = Box::new(alloc, ShortestFirst::new())?;
-    Ok(guide)
-}
-
-// Who is asked which target is tried next: first the guide that looks where something changed, which finds nearly all of
-// them, and then the two plain ones.
-fn guides(alloc: Global, words: &[String]) -> Result<Vec<Box<dyn Guide>>, NoMemory> {
+// Runs a command. Three guides are asked which target is tried next: first the one that looks where something changed, which
+// finds nearly all of them, and then the two plain ones. They are made here, where they are handed on, since a function that
+// makes a boxed guide and answers with it proves less than it seems to.
+fn run_words<R: std::rt::Files + Print + AllocGlobal>(
+    rt: &R,
+    words: &[String],
+) -> Result<Status, NoMemory> {
+    let alloc = rt.alloc();
     let mut guides: Vec<Box<dyn Guide>> = Vec::new(alloc);
-    guides.push(touched(alloc, words)?)?;
-    guides.push(fewest_first(alloc)?)?;
-    guides.push(shortest_first(alloc)?)?;
-    Ok(guides)
-}
-
-fn run_words<R: std::rt::Files + Print + AllocGlobal>(rt: &R, words: &[String]) -> Status {
-    let Ok(guides) = guides(rt.alloc(), words) else {
-        return Status::NoMemory;
-    };
+    guides.push(Box::new(alloc, Touched::new(alloc, bounds_of(words)))?)?;
+    guides.push(Box::new(alloc, FewestFirst::new())?)?;
+    guides.push(Box::new(alloc, ShortestFirst::new())?)?;
     let mut files = DiskFiles::new(rt);
     let mut out = StdSink::new(rt);
-    run(rt.alloc(), words, &mut files, &mut out, guides)
+    Ok(run(alloc, words, &mut files, &mut out, guides))
 }
 
 fn main(rt: HostRuntime) -> ExitCode {
     let status = match words(&rt) {
-        Ok(words) => run_words(&rt, &words),
+        Ok(words) => match run_words(&rt, &words) {
+            Ok(status) => status,
+            Err(NoMemory) => Status::NoMemory,
+        },
         Err(error) => without_words(error),
     };
     ExitCode::from(status.code())
