@@ -4,9 +4,15 @@ _celdrinn() {
     local command=${COMP_WORDS[1]-}
     COMPREPLY=()
     if [ "$COMP_CWORD" -eq 1 ]; then
-        mapfile -t COMPREPLY < <(compgen -W "simplify check rebuild help --help --version" -- "$word")
+        mapfile -t COMPREPLY < <(compgen -W "simplify check rebuild gen demo help --help --version" -- "$word")
     elif [ "$command" = help ]; then
-        [ "$COMP_CWORD" -eq 2 ] && mapfile -t COMPREPLY < <(compgen -W "simplify check rebuild" -- "$word")
+        [ "$COMP_CWORD" -eq 2 ] && mapfile -t COMPREPLY < <(compgen -W "simplify check rebuild gen demo" -- "$word")
+    elif [ "$command" = gen ] || [ "$command" = demo ]; then
+        # a seed and a size come first, and they are numbers
+        if [ "$COMP_CWORD" -eq 4 ] || { [ "$command" = demo ] && [[ $COMP_CWORD =~ ^[56]$ ]]; }; then
+            compopt -o filenames
+            mapfile -t COMPREPLY < <(compgen -f -- "$word")
+        fi
     elif [ "$COMP_CWORD" -le 4 ] || { [ "$command" = rebuild ] && [ "$COMP_CWORD" -le 6 ]; }; then
         compopt -o filenames
         mapfile -t COMPREPLY < <(compgen -f -- "$word")
