@@ -1,0 +1,45 @@
+#!/usr/bin/env bash
+# Refuses each allocation of some runs in turn, in the built program, and says what it answers then: `no memory` with status
+# 6, or what it answers with all its memory (where only a guide or the kernel's journal went without). Anything else is a
+# fault, and is listed. Needs a C compiler. Usage: bench/refused.sh [PROGRAM]
+set -u
+cd "$(dirname "$0")/.."
+program=$(realpath "${1:-dist/celdrinn-x86_64-linux}")
+examples=$(realpath examples)
+work=$(mktemp -d)
+trap 'rm -rf "$work"' EXIT
+cc -shared -fPIC -O1 -o "$work/refuse.so" bench/refuse.c -ldl || exit 1
+cd "$work" || exit 1
+
+bad=0
+refuse() {
+    REFUSE_OUT=$work/count LD_PRELOAD=$work/refuse.so "$program" "$@" >wanted 2>/dev/null
+    local status=$? count no=0 same=0
+    count=$(cat count)
+    for n in $(seq 1 "$count"); do
+        REFUSE=$n LD_PRELOAD=$work/refuse.so "$program" "$@" >got 2>/dev/null
+        local now=$?
+        if [ "$now" = 6 ]; then
+            # before the words and the guides are made nothing is put
+            if [ -s got ] && [ "$(cat got)" != "no memory" ]; then
+                echo "$1, allocation $n: status 6 and $(cat got)"
+                bad=1
+            fi
+            no=$((no + 1))
+        elif [ "$now" = "$status" ] && cmp -s got wanted; then
+            same=$((same + 1))
+        else
+            echo "$1, allocation $n: status $now and $(cat got)"
+            bad=1
+        fi
+    done
+    echo "$* : $count allocations, $no times no memory, $same times as without"
+}
+
+refuse simplify "$examples/equivalence.qdimacs" out log
+refuse simplify "$examples/false.qdimacs" out log
+refuse check "$examples/equivalence.qdimacs" "$examples/equivalence-out.qdimacs" "$examples/equivalence.qrat"
+refuse rebuild "$examples/equivalence.qdimacs" "$examples/equivalence-out.qdimacs" "$examples/equivalence.qrat" \
+    "$examples/equivalence-out.aag" cert
+refuse gen 7 5 formula
+exit "$bad"
