@@ -9,7 +9,7 @@ use Rattle.q_logic.specs.Undos.{UndoEntry, Undos}
 use Rattle.q_log.specs.Logs as logs
 use Rattle.q_log.specs.Reading.{to_come}
 use Rattle.q_check.specs.declared.error.CheckError.TheVariants as check
-use Rattle.q_check.specs.Checked.{IsEndRefusal}
+use Rattle.q_check.specs.Checked.{Checked, IsEndRefusal}
 use Rattle.q_check.specs.Alike.{AreAlike, Leads}
 use Rattle.q_app.specs.Logs.{Entry, steps_of, IsRefusedAt}
 use Rattle.q_app.specs.declared.audit.Audit.{Audit}
@@ -88,6 +88,11 @@ Concludes (RefusedEnd c) a G =
 Concludes (RefusedInput r n c) a G = ⊥
 Concludes ReadFault a G = ⊥
 Concludes NoMemory a G = Unit {0}
+
+-- the log has come to its end behind so many steps, and this checker has what is left: what it leaves or says there is so of the log
+pub record EndsLog (a : Audit) (last : Checked) (n : ℕ) : Type 0 where
+  pub passes : (G : PrenexFormula) → SameFormula last.formula G → Passes a G n last.undo
+  pub concludes : (o : Outcome) (G : PrenexFormula) → EndsAs o last.formula G → Concludes o a G
 
 -- nothing is read yet, the checker has the formula, and it is told whether to keep an undo list
 pub record IsStarted (a : Audit) (keep : Bool) (F : PrenexFormula) : Type 0 where

@@ -2,9 +2,10 @@
 ghost use Rattle.std.specs.Prelude.{◌≡◌, ◌≤◌, ◌<◌, ◌+◌, List, ℕ, length, IfOk, IfErr, OnOk, IfSome, IsErrOf, [], ◌∷◌, ◌++◌, drop};
 ghost use Rattle.q_logic.specs.Limits.{standard};
 ghost use Rattle.q_io.specs.Files.{Rose, bytes_at};
+ghost use Rattle.q_logic.specs.Formulas.{PrenexFormula};
 ghost use Rattle.q_logic.specs.Runs.{SameFormula};
 ghost use Rattle.q_app.specs.Checks.{IsUnverified};
-ghost use Rattle.q_app.specs.Audits.{IsOpen, Advances, Refuses, Passes, Concludes, IsStarted, HasTaken, EndsAs};
+ghost use Rattle.q_app.specs.Audits.{IsOpen, Advances, Refuses, Passes, Concludes, IsStarted, HasTaken, EndsAs, EndsLog};
 
 use crate::outcome::Outcome;
 use crate::refusals::{log_refusal, step_refusal};
@@ -136,14 +137,29 @@ impl Audit {
             mut checker,
             steps,
         } = self;
-        match reader.finish() {
-            Ok(None) => end(checker, steps, output),
-            Ok(Some((line, step))) => match checker.step(&step) {
-                Ok(()) => end(checker, steps + 1, output),
-                Err(error) => Err(step_refusal(line, error)),
-            },
-            Err(error) => Err(log_refusal(error)),
+        match take_last(reader, &mut checker, steps) {
+            Ok(steps) => end(checker, steps, output),
+            Err(outcome) => Err(outcome),
         }
+    }
+}
+
+// Tries the step that the end of the log makes whole, if there is one; how many steps there are then.
+fn take_last(reader: LogReader, checker: &mut Checker, steps: u64) -> Result<u64, Outcome>
+    requires { IsOpen (record { reader = reader; checker = checker.old; steps = steps }) }
+    ensures ends { IfOk result (λ n. EndsLog (record { reader = reader; checker = checker.old; steps = steps }) checker.new n) }
+    ensures refused { IfErr result (λ o. (G : PrenexFormula) →
+        Concludes o (record { reader = reader; checker = checker.old; steps = steps }) G) }
+    ensures unverified { IfErr result IsUnverified }
+    ensures fault { IsErrOf result Outcome.ReadFault → ⊥ }
+{
+    match reader.finish() {
+        Ok(None) => Ok(steps),
+        Ok(Some((line, step))) => match checker.step(&step) {
+            Ok(()) => Ok(steps + 1),
+            Err(error) => Err(step_refusal(line, error)),
+        },
+        Err(error) => Err(log_refusal(error)),
     }
 }
 
