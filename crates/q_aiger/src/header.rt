@@ -72,12 +72,8 @@ fn six_words(line: &[u8]) -> Option<Words>
     ensures { MatchOption result (length (words line.now) ≢ 6)
         (λ r. words line.now ≡ r.tag.now ∷ r.max.now ∷ r.inputs.now ∷ r.latches.now ∷ r.outputs.now ∷ r.gates.now ∷ []) }
 {
-    let (tag, rest) = next_word(line)?;
-    let (max, rest) = next_word(rest)?;
-    let (inputs, rest) = next_word(rest)?;
-    let (latches, rest) = next_word(rest)?;
-    let (outputs, rest) = next_word(rest)?;
-    let (gates, rest) = next_word(rest)?;
+    let (tag, max, inputs, rest) = three_words(line)?;
+    let (latches, outputs, gates, rest) = three_words(rest)?;
     if next_word(rest).is_some() {
         return None;
     }
@@ -89,6 +85,16 @@ fn six_words(line: &[u8]) -> Option<Words>
         outputs,
         gates,
     })
+}
+
+// The first three words of a line, and what stands behind them; None where there are fewer.
+fn three_words(line: &[u8]) -> Option<(&[u8], &[u8], &[u8], &[u8])>
+    ensures { MatchOption result (length (words line.now) < 3) (λ r. words line.now ≡ r.0.now ∷ r.1.now ∷ r.2.now ∷ words r.3.now) }
+{
+    let (first, rest) = next_word(line)?;
+    let (second, rest) = next_word(rest)?;
+    let (third, rest) = next_word(rest)?;
+    Some((first, second, third, rest))
 }
 
 fn is_aag(word: &[u8]) -> bool

@@ -231,14 +231,36 @@ impl Book {
         ensures same { OnOk result (SameFormula self output.now) }
         ensures refused { IfErr result (IsEndRefusal self output.now) }
     {
-        if !self.scope.has_blocks_of(self.alloc, output.prefix())? {
-            return Err(CheckError::Refused { cause: 9 });
-        }
-        if !takes_all(&mut self.store, self.clauses, output) {
-            return Err(CheckError::Refused { cause: 10 });
-        }
-        Ok(())
+        compare(
+            self.alloc,
+            &self.scope,
+            &mut self.store,
+            self.clauses,
+            output,
+        )
     }
+}
+
+// Whether a prefix and the clauses of a store are those of the output up to order; what is the first difference. Apart from
+// `Book::finish`, which lets the book go.
+fn compare(
+    alloc: Global,
+    scope: &Scope,
+    store: &mut Store,
+    clauses: u64,
+    output: &Formula,
+) -> Result<(), CheckError>
+    requires { clauses ≡ length (filled store.old) }
+    ensures same { OnOk result (SameFormula (record { prefix = scope.now; matrix = filled store.old }) output.now) }
+    ensures refused { IfErr result (IsEndRefusal (record { prefix = scope.now; matrix = filled store.old }) output.now) }
+{
+    if !scope.has_blocks_of(alloc, output.prefix())? {
+        return Err(CheckError::Refused { cause: 9 });
+    }
+    if !takes_all(store, clauses, output) {
+        return Err(CheckError::Refused { cause: 10 });
+    }
+    Ok(())
 }
 
 // Whether each variable of the clause is in the prefix.

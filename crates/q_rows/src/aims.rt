@@ -1,5 +1,4 @@
-// The targets of the rules, as rows write them. A crate of rules is added here: an arm in each `match` on a target below, and
-// two functions, each of which calls that crate alone.
+// The targets of the rules, as rows write them. A crate of rules is added here alone: an arm in each `match` below.
 ghost use Rattle.q_kernel.specs.Taking.{AreModest, IsReady};
 
 use crate::trouble::Trouble;
@@ -8,9 +7,9 @@ use q_eliminate::Target as Eliminate;
 use q_equiv::Target as Merge;
 use q_expand::Target as Expand;
 use q_kernel::{Kernel, Taken};
-use q_logic::{Bounds, Lit};
+use q_logic::{Bounds, Lit, NoMemory};
 use q_reduce::Target as Reduce;
-use q_sched::Move;
+use q_sched::{Move, Rule};
 use q_subsume::Target as Subsume;
 use std::alloc::Global;
 use std::fmt;
@@ -22,257 +21,60 @@ pub struct Aim {
 }
 
 impl Aim {
-    /// The name of the crate whose target this is.
-    pub fn rules(&self) -> &'static str {
-        match self.target {
-            Move::Reduce(_) => "reduce",
-            Move::Subsume(_) => "subsume",
-            Move::Merge(_) => "equiv",
-            Move::Block(_) => "blocked",
-            Move::Eliminate(_) => "eliminate",
-            Move::Expand(_) => "expand",
-        }
-    }
-
     /// Tries the target.
     pub fn try_one(
         &self,
         alloc: Global,
         kernel: &mut Kernel,
         bounds: &Bounds,
-    ) -> Result<Taken, Trouble>
+    ) -> Result<Taken, NoMemory>
         requires ready { IsReady kernel.old }
         requires bounds { AreModest bounds.now }
     {
         match &self.target {
-            Move::Reduce(target) => try_reduce(alloc, kernel, target, bounds),
-            Move::Subsume(target) => try_subsume(alloc, kernel, target, bounds),
-            Move::Merge(target) => try_merge(alloc, kernel, target, bounds),
-            Move::Block(target) => try_block(alloc, kernel, target, bounds),
-            Move::Eliminate(target) => try_eliminate(alloc, kernel, target, bounds),
-            Move::Expand(target) => try_expand(alloc, kernel, target, bounds),
+            Move::Reduce(target) => q_reduce::try_one(alloc, kernel, target, bounds),
+            Move::Subsume(target) => q_subsume::try_one(alloc, kernel, target, bounds),
+            Move::Merge(target) => q_equiv::try_one(alloc, kernel, target, bounds),
+            Move::Block(target) => q_blocked::try_one(alloc, kernel, target, bounds),
+            Move::Eliminate(target) => q_eliminate::try_one(alloc, kernel, target, bounds),
+            Move::Expand(target) => q_expand::try_one(alloc, kernel, target, bounds),
         }
     }
 }
 
-fn try_reduce(
-    alloc: Global,
-    kernel: &mut Kernel,
-    target: &Reduce,
-    bounds: &Bounds,
-) -> Result<Taken, Trouble>
-    requires ready { IsReady kernel.old }
-    requires bounds { AreModest bounds.now }
-{
-    match q_reduce::try_one(alloc, kernel, target, bounds) {
-        Ok(taken) => Ok(taken),
-        Err(_) => Err(Trouble::NoMemory),
-    }
-}
-
-fn try_subsume(
-    alloc: Global,
-    kernel: &mut Kernel,
-    target: &Subsume,
-    bounds: &Bounds,
-) -> Result<Taken, Trouble>
-    requires ready { IsReady kernel.old }
-    requires bounds { AreModest bounds.now }
-{
-    match q_subsume::try_one(alloc, kernel, target, bounds) {
-        Ok(taken) => Ok(taken),
-        Err(_) => Err(Trouble::NoMemory),
-    }
-}
-
-fn try_merge(
-    alloc: Global,
-    kernel: &mut Kernel,
-    target: &Merge,
-    bounds: &Bounds,
-) -> Result<Taken, Trouble>
-    requires ready { IsReady kernel.old }
-    requires bounds { AreModest bounds.now }
-{
-    match q_equiv::try_one(alloc, kernel, target, bounds) {
-        Ok(taken) => Ok(taken),
-        Err(_) => Err(Trouble::NoMemory),
-    }
-}
-
-fn try_block(
-    alloc: Global,
-    kernel: &mut Kernel,
-    target: &Block,
-    bounds: &Bounds,
-) -> Result<Taken, Trouble>
-    requires ready { IsReady kernel.old }
-    requires bounds { AreModest bounds.now }
-{
-    match q_blocked::try_one(alloc, kernel, target, bounds) {
-        Ok(taken) => Ok(taken),
-        Err(_) => Err(Trouble::NoMemory),
-    }
-}
-
-fn try_eliminate(
-    alloc: Global,
-    kernel: &mut Kernel,
-    target: &Eliminate,
-    bounds: &Bounds,
-) -> Result<Taken, Trouble>
-    requires ready { IsReady kernel.old }
-    requires bounds { AreModest bounds.now }
-{
-    match q_eliminate::try_one(alloc, kernel, target, bounds) {
-        Ok(taken) => Ok(taken),
-        Err(_) => Err(Trouble::NoMemory),
-    }
-}
-
-fn try_expand(
-    alloc: Global,
-    kernel: &mut Kernel,
-    target: &Expand,
-    bounds: &Bounds,
-) -> Result<Taken, Trouble>
-    requires ready { IsReady kernel.old }
-    requires bounds { AreModest bounds.now }
-{
-    match q_expand::try_one(alloc, kernel, target, bounds) {
-        Ok(taken) => Ok(taken),
-        Err(_) => Err(Trouble::NoMemory),
+/// The crate of rules that a row names.
+pub fn rule_of(name: &str) -> Result<Rule, Trouble> {
+    match name {
+        "reduce" => Ok(Rule::Reduce),
+        "subsume" => Ok(Rule::Subsume),
+        "equiv" => Ok(Rule::Merge),
+        "blocked" => Ok(Rule::Block),
+        "eliminate" => Ok(Rule::Eliminate),
+        "expand" => Ok(Rule::Expand),
+        _ => Err(Trouble::Unreadable("a crate of rules")),
     }
 }
 
 /// What a crate of rules finds from a place on.
 pub fn find(
     alloc: Global,
-    rules: &str,
+    rule: Rule,
     kernel: &Kernel,
     bounds: &Bounds,
     from: u32,
-) -> Result<Option<Aim>, Trouble>
+) -> Result<Option<Aim>, NoMemory>
     requires ready { IsReady kernel.now }
     requires bounds { AreModest bounds.now }
 {
-    match rules {
-        "reduce" => find_reduce(alloc, kernel, bounds, from),
-        "subsume" => find_subsume(alloc, kernel, bounds, from),
-        "equiv" => find_merge(alloc, kernel, bounds, from),
-        "blocked" => find_block(alloc, kernel, bounds, from),
-        "eliminate" => find_eliminate(alloc, kernel, bounds, from),
-        "expand" => find_expand(alloc, kernel, bounds, from),
-        _ => Err(Trouble::Unreadable("a crate of rules")),
-    }
-}
-
-fn find_reduce(
-    alloc: Global,
-    kernel: &Kernel,
-    bounds: &Bounds,
-    from: u32,
-) -> Result<Option<Aim>, Trouble>
-    requires ready { IsReady kernel.now }
-    requires bounds { AreModest bounds.now }
-{
-    match q_reduce::find(alloc, kernel, bounds, from) {
-        Ok(Some(target)) => Ok(Some(Aim {
-            target: Move::Reduce(target),
-        })),
-        Ok(None) => Ok(None),
-        Err(_) => Err(Trouble::NoMemory),
-    }
-}
-
-fn find_subsume(
-    alloc: Global,
-    kernel: &Kernel,
-    bounds: &Bounds,
-    from: u32,
-) -> Result<Option<Aim>, Trouble>
-    requires ready { IsReady kernel.now }
-    requires bounds { AreModest bounds.now }
-{
-    match q_subsume::find(alloc, kernel, bounds, from) {
-        Ok(Some(target)) => Ok(Some(Aim {
-            target: Move::Subsume(target),
-        })),
-        Ok(None) => Ok(None),
-        Err(_) => Err(Trouble::NoMemory),
-    }
-}
-
-fn find_merge(
-    alloc: Global,
-    kernel: &Kernel,
-    bounds: &Bounds,
-    from: u32,
-) -> Result<Option<Aim>, Trouble>
-    requires ready { IsReady kernel.now }
-    requires bounds { AreModest bounds.now }
-{
-    match q_equiv::find(alloc, kernel, bounds, from) {
-        Ok(Some(target)) => Ok(Some(Aim {
-            target: Move::Merge(target),
-        })),
-        Ok(None) => Ok(None),
-        Err(_) => Err(Trouble::NoMemory),
-    }
-}
-
-fn find_block(
-    alloc: Global,
-    kernel: &Kernel,
-    bounds: &Bounds,
-    from: u32,
-) -> Result<Option<Aim>, Trouble>
-    requires ready { IsReady kernel.now }
-    requires bounds { AreModest bounds.now }
-{
-    match q_blocked::find(alloc, kernel, bounds, from) {
-        Ok(Some(target)) => Ok(Some(Aim {
-            target: Move::Block(target),
-        })),
-        Ok(None) => Ok(None),
-        Err(_) => Err(Trouble::NoMemory),
-    }
-}
-
-fn find_eliminate(
-    alloc: Global,
-    kernel: &Kernel,
-    bounds: &Bounds,
-    from: u32,
-) -> Result<Option<Aim>, Trouble>
-    requires ready { IsReady kernel.now }
-    requires bounds { AreModest bounds.now }
-{
-    match q_eliminate::find(alloc, kernel, bounds, from) {
-        Ok(Some(target)) => Ok(Some(Aim {
-            target: Move::Eliminate(target),
-        })),
-        Ok(None) => Ok(None),
-        Err(_) => Err(Trouble::NoMemory),
-    }
-}
-
-fn find_expand(
-    alloc: Global,
-    kernel: &Kernel,
-    bounds: &Bounds,
-    from: u32,
-) -> Result<Option<Aim>, Trouble>
-    requires ready { IsReady kernel.now }
-    requires bounds { AreModest bounds.now }
-{
-    match q_expand::find(alloc, kernel, bounds, from) {
-        Ok(Some(target)) => Ok(Some(Aim {
-            target: Move::Expand(target),
-        })),
-        Ok(None) => Ok(None),
-        Err(_) => Err(Trouble::NoMemory),
-    }
+    let found = match rule {
+        Rule::Reduce => q_reduce::find(alloc, kernel, bounds, from)?.map(Move::Reduce),
+        Rule::Subsume => q_subsume::find(alloc, kernel, bounds, from)?.map(Move::Subsume),
+        Rule::Merge => q_equiv::find(alloc, kernel, bounds, from)?.map(Move::Merge),
+        Rule::Block => q_blocked::find(alloc, kernel, bounds, from)?.map(Move::Block),
+        Rule::Eliminate => q_eliminate::find(alloc, kernel, bounds, from)?.map(Move::Eliminate),
+        Rule::Expand => q_expand::find(alloc, kernel, bounds, from)?.map(Move::Expand),
+    };
+    Ok(found.map(|target| Aim { target }))
 }
 
 /// The target that a row writes: its kind, then ids of clauses, literals or variables, in the order of its fields.
