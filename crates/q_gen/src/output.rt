@@ -1,5 +1,5 @@
-ghost use Rattle.std.specs.Prelude.{◌≡◌, ◌≤◌, List, ℕ, OnOk, OnErr, IsErrOf, IfSome};
-ghost use Rattle.q_io.specs.Files.{Rose};
+ghost use Rattle.std.specs.Prelude.{◌≡◌, ◌≤◌, OnOk, OnErr, IsErrOf, IfSome};
+ghost use Rattle.q_io.specs.Files.{Later, RoseFor};
 ghost use Rattle.q_gen.specs.Outputs.{HoldsGenerated, HoldsGeneratedPart};
 
 use crate::formula::generate;
@@ -20,10 +20,8 @@ pub fn write_generated<F: Files>(
         (λ disk. HoldsGenerated name.now seed size disk (F.held files.new))) }
     ensures part { OnErr result (IfSome (F.held files.old)
         (λ disk. HoldsGeneratedPart name.now seed size disk (F.held files.new))) }
-    ensures cause { IsErrOf result DeviceError.Failed →
-        Rose (F.write_faults files.old name.now) (F.write_faults files.new name.now) }
-    ensures read_later { (q : List ℕ) → F.read_faults files.old q ≤ F.read_faults files.new q }
-    ensures write_later { (q : List ℕ) → F.write_faults files.old q ≤ F.write_faults files.new q }
+    ensures cause { IsErrOf result DeviceError.Failed → RoseFor F.write_faults name.now files.old files.new }
+    ensures later { Later F.read_faults F.write_faults files.old files.new }
 {
     let Ok(formula) = generate(alloc, seed, size) else {
         return Err(DeviceError::NoMemory);

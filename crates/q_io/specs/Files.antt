@@ -1,5 +1,5 @@
 -- What the calls of a store of named files do, and those of a sink.
-use Rattle.std.specs.Prelude.{◌≡◌, ◌≢◌, ◌⊎◌, ◌<◌, ◌≤◌, ◌+◌, ◌-◌, ◌^◌, ℕ, min, List, [], ◌++◌, length, take, drop, Option, Some, unwrap_or}
+use Rattle.std.specs.Prelude.{◌≡◌, ◌≢◌, ◌⊎◌, ◌<◌, ◌≤◌, ◌+◌, ◌-◌, ◌^◌, ℕ, min, List, [], ◌∷◌, ◌++◌, length, take, drop, Option, Some, unwrap_or}
 use Rattle.std.specs.Ordering.{nat_cmp}
 use Rattle.std.specs.Cmp.Lexicographic.{slice_cmp}
 use Rattle.std.specs.FinMap as map
@@ -19,6 +19,22 @@ OthersStay name before after = (q : List ℕ) → q ≢ name → map.get after q
 -- a count rose in a call, or stands at its end
 abbrev pub Rose : ℕ → ℕ → Type 0
 Rose before now = min (before + 1) (2 ^ 64 - 1) ≤ now
+
+-- the count of faults of a name rose in a call
+abbrev pub RoseFor : {X : Type 0} → (X → List ℕ → ℕ) → List ℕ → X → X → Type 0
+RoseFor faults name before after = Rose (faults before name) (faults after name)
+
+-- the count of faults of some of these names rose in a call
+abbrev pub RoseAmong : {X : Type 0} → (X → List ℕ → ℕ) → List (List ℕ) → X → X → Type 0
+RoseAmong faults [] before after = ⊥
+RoseAmong faults (name ∷ []) before after = RoseFor faults name before after
+RoseAmong faults (name ∷ other ∷ names) before after =
+    RoseFor faults name before after ⊎ RoseAmong faults (other ∷ names) before after
+
+-- no count of faults fell, for any name
+pub record Later {X : Type 0} (read_faults write_faults : X → List ℕ → ℕ) (before after : X) : Type 0 where
+  pub read : (q : List ℕ) → read_faults before q ≤ read_faults after q
+  pub write : (q : List ℕ) → write_faults before q ≤ write_faults after q
 
 -- how often reading has failed, and how often creating or appending
 pub record FaultCounts : Type 0 where

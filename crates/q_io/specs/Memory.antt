@@ -23,7 +23,13 @@ abbrev pub mem_code : Coded MemDisk
 mem_code =
     code_by (Disk × (ℕ × ℕ)) (coded× (fin.code (coded_list coded_ℕ) (coded_list coded_ℕ)) (coded× coded_ℕ coded_ℕ)) (λ m. (m.disk, (m.read_faults, m.write_faults))) (λ p. record { disk = p.0; read_faults = p.1.0; write_faults = p.1.1 }) (λ _. refl)
 
--- a sink in memory: what was put, and its count of faults
+-- a sink in memory: what was put, and its counts of faults and of wants of memory
 pub record MemText : Type 0 where
   pub text : List ℕ
   pub faults : ℕ
+  pub wants : ℕ
+
+-- a sink in memory that never fails: what was put, and its count of wants of memory
+pub record SteadyText : Type 0 where
+  pub text : List ℕ
+  pub wants : ℕ

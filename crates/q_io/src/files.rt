@@ -1,5 +1,5 @@
 ghost use Rattle.std.specs.Prelude.{◌≡◌, ◌≤◌, ◌++◌, List, ℕ, Option, length, is_some, IfOk, OnOk, OnErr, IfSome, IsErrOf};
-ghost use Rattle.q_io.specs.Files.{Disk, Rose, Reads, Empties, MayEmpty, Appends, AppendsPart, GrowsBy, GrowsByPart};
+ghost use Rattle.q_io.specs.Files.{Disk, Later, Rose, RoseFor, Reads, Empties, MayEmpty, Appends, AppendsPart, GrowsBy, GrowsByPart};
 
 use crate::error::DeviceError;
 
@@ -24,20 +24,16 @@ pub trait Files {
         ensures within { IfOk result (λ n. n ≤ length buf.old) }
         ensures bytes { IfOk result (λ n. IfSome (held self.old) (λ disk. Reads disk name.now at buf.old buf.new n)) }
         ensures held { held self.new ≡ held self.old }
-        ensures cause { IsErrOf result DeviceError.Failed →
-            Rose (read_faults self.old name.now) (read_faults self.new name.now) }
-        ensures read_later { (q : List ℕ) → read_faults self.old q ≤ read_faults self.new q }
-        ensures write_later { (q : List ℕ) → write_faults self.old q ≤ write_faults self.new q };
+        ensures cause { IsErrOf result DeviceError.Failed → RoseFor read_faults name.now self.old self.new }
+        ensures later { Later read_faults write_faults self.old self.new };
 
     /// Makes the file, or empties it.
     fn create(&mut self, name: &str) -> Result<(), DeviceError>
         ensures told { is_some (held self.new) ≡ is_some (held self.old) }
         ensures empty { OnOk result (IfSome (held self.old) (λ disk. Empties name.now disk (held self.new))) }
         ensures err { OnErr result (IfSome (held self.old) (λ disk. MayEmpty name.now disk (held self.new))) }
-        ensures cause { IsErrOf result DeviceError.Failed →
-            Rose (write_faults self.old name.now) (write_faults self.new name.now) }
-        ensures read_later { (q : List ℕ) → read_faults self.old q ≤ read_faults self.new q }
-        ensures write_later { (q : List ℕ) → write_faults self.old q ≤ write_faults self.new q };
+        ensures cause { IsErrOf result DeviceError.Failed → RoseFor write_faults name.now self.old self.new }
+        ensures later { Later read_faults write_faults self.old self.new };
 
     /// Puts all the bytes at the file's end. A name that is not held counts as an empty file.
     fn append(&mut self, name: &str, bytes: &[u8]) -> Result<(), DeviceError>
@@ -45,19 +41,21 @@ pub trait Files {
         ensures all { OnOk result (IfSome (held self.old) (λ disk. Appends name.now bytes.now disk (held self.new))) }
         ensures err { OnErr result
             (IfSome (held self.old) (λ disk. AppendsPart name.now bytes.now disk (held self.new))) }
-        ensures cause { IsErrOf result DeviceError.Failed →
-            Rose (write_faults self.old name.now) (write_faults self.new name.now) }
-        ensures read_later { (q : List ℕ) → read_faults self.old q ≤ read_faults self.new q }
-        ensures write_later { (q : List ℕ) → write_faults self.old q ≤ write_faults self.new q };
+        ensures cause { IsErrOf result DeviceError.Failed → RoseFor write_faults name.now self.old self.new }
+        ensures later { Later read_faults write_faults self.old self.new };
 }
 
-/// A place where lines go.
+/// A place where lines go. A call fails only where the count of faults rose in it, and finds no memory only where the count of
+/// wants did, or where that count stands at the last number that a u64 has; neither count ever falls.
 pub trait Sink {
     /// What was put, where the sink tells.
     ghost written: { Self → Option (List ℕ) };
 
     /// How often putting has failed.
     ghost faults: { Self → ℕ };
+
+    /// How often memory was wanting for a put.
+    ghost wants: { Self → ℕ };
 
     /// Puts all the bytes at the end.
     fn put(&mut self, bytes: &[u8]) -> Result<(), DeviceError>
@@ -66,5 +64,6 @@ pub trait Sink {
         ensures err { OnErr result
             (IfSome (written self.old) (λ text. GrowsByPart bytes.now text (written self.new))) }
         ensures cause { IsErrOf result DeviceError.Failed → Rose (faults self.old) (faults self.new) }
-        ensures later { faults self.old ≤ faults self.new };
+        ensures want { IsErrOf result DeviceError.NoMemory → Rose (wants self.old) (wants self.new) }
+        ensures later { (faults self.old ≤ faults self.new) × (wants self.old ≤ wants self.new) };
 }

@@ -121,8 +121,8 @@ impl Files for MemFiles {
         ensures bytes { IfOk result (λ n. Reads self.old.disk name.now at buf.old buf.new n) }
         ensures held { self.new.disk ≡ self.old.disk }
         ensures cause { IsErrOf result DeviceError.Failed → Rose self.old.read_faults self.new.read_faults }
-        ensures read_later { self.old.read_faults ≤ self.new.read_faults }
-        ensures write_later { self.new.write_faults ≡ self.old.write_faults }
+        ensures later { (self.old.read_faults ≤ self.new.read_faults)
+            × (self.new.write_faults ≡ self.old.write_faults) }
     {
         self.reads = self.reads.saturating_add(1);
         if planned_part(&self.planned, Call::Read, self.reads).is_some() {

@@ -258,6 +258,8 @@ impl<'a, R: Print> Sink for StdSink<'a, R> {
 
     ghost faults = { λ s. s };
 
+    ghost wants = { λ _. 0 };
+
     fn put(&mut self, bytes: &[u8]) -> Result<(), DeviceError> {
         match write_whole(&mut io::writer(self.rt), bytes) {
             Ok(true) => Ok(()),

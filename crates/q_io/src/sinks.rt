@@ -14,6 +14,7 @@ pub struct MemSink {
     planned: Vec<u64>,
     puts: u64,
     failures: u64,
+    wants: u64,
 }
 
 impl Model for MemSink {
@@ -21,19 +22,20 @@ impl Model for MemSink {
 
     ghost Value = { MemText };
 
-    ghost view = { λ s. record { text = s.written.items; faults = s.failures } };
+    ghost view = { λ s. record { text = s.written.items; faults = s.failures; wants = s.wants } };
 }
 
 impl MemSink {
     pub fn new(alloc: Global) -> MemSink
         ensures empty { result.text ≡ [] }
-        ensures faults { result.faults ≡ 0 }
+        ensures counts { (result.faults ≡ 0) × (result.wants ≡ 0) }
     {
         MemSink {
             written: Vec::new(alloc),
             planned: Vec::new(alloc),
             puts: 0,
             failures: 0,
+            wants: 0,
         }
     }
 
@@ -57,13 +59,18 @@ impl Sink for MemSink {
 
     ghost faults = { λ s. s.faults };
 
+    ghost wants = { λ s. s.wants };
+
     fn put(&mut self, bytes: &[u8]) -> Result<(), DeviceError> {
         self.puts = self.puts.saturating_add(1);
         if self.planned.contains(&self.puts) {
             self.failures = self.failures.saturating_add(1);
             return Err(DeviceError::Failed);
         }
-        self.written.extend_from_slice(bytes)?;
+        if self.written.extend_from_slice(bytes).is_err() {
+            self.wants = self.wants.saturating_add(1);
+            return Err(DeviceError::NoMemory);
+        }
         Ok(())
     }
 }
@@ -72,39 +79,46 @@ impl Sink for MemSink {
 #[derive(Drop)]
 pub struct SteadySink {
     written: Vec<u8>,
+    wants: u64,
 }
 
 impl Model for SteadySink {
-    ghost use Rattle.std.specs.Prelude.{List, ℕ};
+    ghost use Rattle.q_io.specs.Memory.{SteadyText};
 
-    ghost Value = { List ℕ };
+    ghost Value = { SteadyText };
 
-    ghost view = { λ s. s.written.items };
+    ghost view = { λ s. record { text = s.written.items; wants = s.wants } };
 }
 
 impl SteadySink {
     pub fn new(alloc: Global) -> SteadySink
-        ensures { result ≡ [] }
+        ensures { result ≡ record { text = []; wants = 0 } }
     {
         SteadySink {
             written: Vec::new(alloc),
+            wants: 0,
         }
     }
 
     pub fn bytes(&self) -> &[u8]
-        ensures { result.now ≡ self.now }
+        ensures { result.now ≡ self.now.text }
     {
         &self.written
     }
 }
 
 impl Sink for SteadySink {
-    ghost written = { λ s. Some s };
+    ghost written = { λ s. Some s.text };
 
     ghost faults = { λ _. 0 };
 
+    ghost wants = { λ s. s.wants };
+
     fn put(&mut self, bytes: &[u8]) -> Result<(), DeviceError> {
-        self.written.extend_from_slice(bytes)?;
+        if self.written.extend_from_slice(bytes).is_err() {
+            self.wants = self.wants.saturating_add(1);
+            return Err(DeviceError::NoMemory);
+        }
         Ok(())
     }
 }

@@ -1,7 +1,7 @@
 // Turns until there is no further one, and the log of each.
-ghost use Rattle.std.specs.Prelude.{◌≡◌, ◌≤◌, ◌^◌, List, ℕ, IfOk, OnOk, OnErr, IsErrOf};
+ghost use Rattle.std.specs.Prelude.{◌≡◌, ◌≤◌, ◌^◌, IfOk, OnOk, OnErr, IsErrOf};
 ghost use Rattle.q_logic.specs.Formulas.{PrenexFormula};
-ghost use Rattle.q_io.specs.Files.{Disk, Rose};
+ghost use Rattle.q_io.specs.Files.{Disk, Later, RoseFor};
 ghost use Rattle.q_kernel.specs.Taking.{AreModest, IsReady};
 ghost use Rattle.q_reduce.specs.Lent.{IsFitFor};
 ghost use Rattle.q_sched.specs.Seen.{seen, lent};
@@ -35,10 +35,8 @@ pub(crate) fn take_turns<F: Files>(
     ensures log_left { (G : PrenexFormula) → (before : Disk) →
         HasLog G log.now before kernel.old (F.held files.old) →
         OnErr result (LeavesLog G log.now before (F.held files.new)) }
-    ensures cause { IsErrOf result DeviceError.Failed →
-        Rose (F.write_faults files.old log.now) (F.write_faults files.new log.now) }
-    ensures read_later { (q : List ℕ) → F.read_faults files.old q ≤ F.read_faults files.new q }
-    ensures write_later { (q : List ℕ) → F.write_faults files.old q ≤ F.write_faults files.new q }
+    ensures cause { IsErrOf result DeviceError.Failed → RoseFor F.write_faults log.now files.old files.new }
+    ensures later { Later F.read_faults F.write_faults files.old files.new }
 {
     loop {
         match drive.turn(kernel) {
@@ -75,10 +73,8 @@ pub(crate) fn follow<F: Files>(
     ensures log_left { (G : PrenexFormula) → (before : Disk) →
         HasLog G log.now before kernel.old (F.held files.old) →
         OnErr result (LeavesLog G log.now before (F.held files.new)) }
-    ensures cause { IsErrOf result DeviceError.Failed →
-        Rose (F.write_faults files.old log.now) (F.write_faults files.new log.now) }
-    ensures read_later { (q : List ℕ) → F.read_faults files.old q ≤ F.read_faults files.new q }
-    ensures write_later { (q : List ℕ) → F.write_faults files.old q ≤ F.write_faults files.new q }
+    ensures cause { IsErrOf result DeviceError.Failed → RoseFor F.write_faults log.now files.old files.new }
+    ensures later { Later F.read_faults F.write_faults files.old files.new }
 {
     let mut drive = Drive::start(guides, options.bounds, options.budget, first);
     take_turns(files, log, kernel, &mut drive)

@@ -1,7 +1,7 @@
 // The pending log goes into its file.
-ghost use Rattle.std.specs.Prelude.{◌≡◌, ◌≤◌, ◌<◌, List, ℕ, length, OnOk, OnErr, IsErrOf};
+ghost use Rattle.std.specs.Prelude.{◌≡◌, ◌≤◌, ◌<◌, length, OnOk, OnErr, IsErrOf};
 ghost use Rattle.q_logic.specs.Formulas.{PrenexFormula};
-ghost use Rattle.q_io.specs.Files.{Disk, Rose};
+ghost use Rattle.q_io.specs.Files.{Disk, Later, RoseFor};
 ghost use Rattle.q_kernel.specs.Kernels.{slots, formula_in};
 ghost use Rattle.q_simplify.specs.Logs.{HasLog, LeavesLog};
 
@@ -25,10 +25,8 @@ pub(crate) fn flush<F: Files>(
     ensures log_left { (G : PrenexFormula) → (before : Disk) →
         HasLog G name.now before kernel.old (F.held files.old) →
         OnErr result (LeavesLog G name.now before (F.held files.new)) }
-    ensures cause { IsErrOf result DeviceError.Failed →
-        Rose (F.write_faults files.old name.now) (F.write_faults files.new name.now) }
-    ensures read_later { (q : List ℕ) → F.read_faults files.old q ≤ F.read_faults files.new q }
-    ensures write_later { (q : List ℕ) → F.write_faults files.old q ≤ F.write_faults files.new q }
+    ensures cause { IsErrOf result DeviceError.Failed → RoseFor F.write_faults name.now files.old files.new }
+    ensures later { Later F.read_faults F.write_faults files.old files.new }
 {
     if kernel.log().len() < least {
         return Ok(());

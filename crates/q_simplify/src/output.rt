@@ -1,6 +1,6 @@
 // The result goes into its file.
-ghost use Rattle.std.specs.Prelude.{◌≡◌, ◌≤◌, List, ℕ, OnOk, OnErr, IsErrOf, IfSome};
-ghost use Rattle.q_io.specs.Files.{Rose};
+ghost use Rattle.std.specs.Prelude.{◌≡◌, OnOk, OnErr, IsErrOf, IfSome};
+ghost use Rattle.q_io.specs.Files.{Later, RoseFor};
 ghost use Rattle.q_simplify.specs.Outputs.{HoldsText, HoldsTextPart};
 
 use q_dimacs::write;
@@ -19,10 +19,8 @@ pub(crate) fn write_output<F: Files>(
         (λ disk. HoldsText name.now formula.now disk (F.held files.new))) }
     ensures part { OnErr result (IfSome (F.held files.old)
         (λ disk. HoldsTextPart name.now formula.now disk (F.held files.new))) }
-    ensures cause { IsErrOf result DeviceError.Failed →
-        Rose (F.write_faults files.old name.now) (F.write_faults files.new name.now) }
-    ensures read_later { (q : List ℕ) → F.read_faults files.old q ≤ F.read_faults files.new q }
-    ensures write_later { (q : List ℕ) → F.write_faults files.old q ≤ F.write_faults files.new q }
+    ensures cause { IsErrOf result DeviceError.Failed → RoseFor F.write_faults name.now files.old files.new }
+    ensures later { Later F.read_faults F.write_faults files.old files.new }
 {
     let mut text = Vec::new(alloc);
     let Ok(()) = write(formula, &mut text) else {

@@ -1,11 +1,11 @@
 // Simplification from the formula read to the files written.
-ghost use Rattle.std.specs.Prelude.{◌≡◌, ◌≢◌, ◌≤◌, ◌^◌, ◌⊎◌, [], List, ℕ, IfOk, OnOk, OnErr, IfSome, IsErrOf};
+ghost use Rattle.std.specs.Prelude.{◌≡◌, ◌≢◌, ◌≤◌, ◌^◌, [], IfOk, OnOk, OnErr, IfSome, IsErrOf, ◌∷◌};
 ghost use Rattle.q_logic.specs.Formulas.{PrenexFormula};
 ghost use Rattle.q_logic.specs.Limits.{standard};
 ghost use Rattle.q_logic.specs.InLimits.{IsInLimits};
 ghost use Rattle.q_logic.specs.Parts.{IsProper};
 ghost use Rattle.q_logic.specs.Measure.{measure_of};
-ghost use Rattle.q_io.specs.Files.{Disk, Empties, Rose};
+ghost use Rattle.q_io.specs.Files.{Disk, Empties, Later, RoseAmong, RoseFor};
 ghost use Rattle.q_kernel.specs.Kernels.{formula_in};
 ghost use Rattle.q_kernel.specs.Taking.{AreModest, IsReady};
 ghost use Rattle.q_simplify.specs.Logs.{LeavesLog};
@@ -75,10 +75,8 @@ fn reduce<F: Files>(
         LeadsTo (formula_in kernel.old) r.formula log.now before (F.held files.new)) }
     ensures log_left { OnErr result ((before : Disk) → Empties log.now before (F.held files.old) →
         LeavesLog (formula_in kernel.old) log.now before (F.held files.new)) }
-    ensures cause { IsErrOf result DeviceError.Failed →
-        Rose (F.write_faults files.old log.now) (F.write_faults files.new log.now) }
-    ensures read_later { (q : List ℕ) → F.read_faults files.old q ≤ F.read_faults files.new q }
-    ensures write_later { (q : List ℕ) → F.write_faults files.old q ≤ F.write_faults files.new q }
+    ensures cause { IsErrOf result DeviceError.Failed → RoseFor F.write_faults log.now files.old files.new }
+    ensures later { Later F.read_faults F.write_faults files.old files.new }
 {
     let before = first_measure(kernel, &options.bounds);
     let Ok(()) = kernel.sweep() else {
@@ -121,10 +119,8 @@ fn reduce_formula<F: Files>(
         LeadsTo formula.now r.formula log.now before (F.held files.new)) }
     ensures log_left { OnErr result ((before : Disk) → Empties log.now before (F.held files.old) →
         LeavesLog formula.now log.now before (F.held files.new)) }
-    ensures cause { IsErrOf result DeviceError.Failed →
-        Rose (F.write_faults files.old log.now) (F.write_faults files.new log.now) }
-    ensures read_later { (q : List ℕ) → F.read_faults files.old q ≤ F.read_faults files.new q }
-    ensures write_later { (q : List ℕ) → F.write_faults files.old q ≤ F.write_faults files.new q }
+    ensures cause { IsErrOf result DeviceError.Failed → RoseFor F.write_faults log.now files.old files.new }
+    ensures later { Later F.read_faults F.write_faults files.old files.new }
 {
     let Ok(mut kernel) = Kernel::start(alloc, formula) else {
         return Err(DeviceError::NoMemory);
@@ -156,10 +152,8 @@ pub fn simplify<F: Files>(
     ensures left { OnErr result (IfSome (F.held files.old) (λ before.
         Leaves formula.now output.now log.now before (F.held files.new))) }
     ensures cause { IsErrOf result DeviceError.Failed →
-        Rose (F.write_faults files.old output.now) (F.write_faults files.new output.now)
-        ⊎ Rose (F.write_faults files.old log.now) (F.write_faults files.new log.now) }
-    ensures read_later { (q : List ℕ) → F.read_faults files.old q ≤ F.read_faults files.new q }
-    ensures write_later { (q : List ℕ) → F.write_faults files.old q ≤ F.write_faults files.new q }
+        RoseAmong F.write_faults (output.now ∷ log.now ∷ []) files.old files.new }
+    ensures later { Later F.read_faults F.write_faults files.old files.new }
 {
     if let Err(error) = files.create(log) {
         return Err(error);

@@ -1,4 +1,5 @@
 use Rattle.std.proofs.Common.{◌∙◌, arith}
+use Rattle.q_io.proofs.Counts.{later_still}
 use Rattle.q_simplify.proofs.Logging.{has_log-left}
 use Rattle.q_simplify.proofs.Turned.{has_log-turned, ready-flushed, fit-flushed}
 use Rattle.q_simplify.proofs.driving.take_turns.Goals as goal
@@ -18,8 +19,7 @@ loop-files-preserved-in_default g c =
       ready = ready-flushed c.turn.new.kernel c.flush.new.kernel c.flush.ensures.prefix c.flush.ensures.clauses c.turn.ensures.ready;
       fit = fit-flushed c.turn.new.kernel c.flush.new.kernel _ c.flush.ensures.prefix c.flush.ensures.clauses c.turn.ensures.fit;
       log = λ G before h. c.in_default.ensures.log G before (has_log-turned c.in-Ok-Moved.field-0 _ G c.args.log.now before c.loop-files.kernel c.turn.new.kernel (g.F.Files.held c.loop-files.files) c.in-Ok-Moved.ensures.ends (c.loop-files.invariant.log G before h));
-      read_later = λ q. omega (arith, c.loop-files.invariant.read_later q, c.flush.ensures.read_later q);
-      write_later = λ q. omega (arith, c.loop-files.invariant.write_later q, c.flush.ensures.write_later q);
+      later = later_still _ _ _ _ _ c.loop-files.invariant.later c.flush.ensures.later;
     }
 
 pub loop-files-preserved : goal.loop-files-preserved
@@ -33,8 +33,7 @@ loop-files-preserved g c =
       ready = c.turn.ensures.ready;
       fit = c.turn.ensures.fit;
       log = λ G before h. has_log-turned c.in-Ok-Asked.field-0 _ G c.args.log.now before c.loop-files.kernel c.turn.new.kernel (g.F.Files.held c.loop-files.files) c.in-Ok-Asked.ensures.ends (c.loop-files.invariant.log G before h);
-      read_later = c.loop-files.invariant.read_later;
-      write_later = c.loop-files.invariant.write_later;
+      later = c.loop-files.invariant.later;
     }
 
 pub returns-in-Ok-Settled-clause-log : goal.returns-in-Ok-Settled-clause-log

@@ -1,7 +1,7 @@
-use Rattle.std.proofs.Common.{◌≤◌, ◌+◌, List, ℕ}
+use Rattle.std.proofs.Common.{◌+◌}
 use Rattle.q_logic.specs.Formulas.{PrenexFormula}
 use Rattle.q_logic.specs.Measure.{measure_of}
-use Rattle.q_io.specs.Files.{Disk}
+use Rattle.q_io.specs.Files.{Disk, Later}
 use Rattle.q_kernel.specs.Kernels.{formula_in}
 use Rattle.q_kernel.specs.Taking.{IsReady}
 use Rattle.q_reduce.specs.Lent.{IsFitFor}
@@ -17,8 +17,7 @@ invariant-loop-files g l =
       ready : IsReady l.kernel;
       fit : IsFitFor l.kernel (lent l.drive);
       log : (G : PrenexFormula) → (before : Disk) → HasLog G l.log before l.fn.kernel (g.F.Files.held l.fn.files) → HasLog G l.log before l.kernel (g.F.Files.held l.files);
-      read_later : (q : List ℕ) → g.F.Files.read_faults l.fn.files q ≤ g.F.Files.read_faults l.files q;
-      write_later : (q : List ℕ) → g.F.Files.write_faults l.fn.files q ≤ g.F.Files.write_faults l.files q;
+      later : Later g.F.Files.read_faults g.F.Files.write_faults l.fn.files l.files;
     }
 
 abbrev pub decreases-loop-files : goal.decreases-loop-files
