@@ -58,7 +58,7 @@ impl Book {
         ensures { IfOk result (λ b. AreAlike formula.now b) }
     {
         let scope = Scope::start(alloc, formula.prefix())?;
-        let mut store = Store::new(alloc, formula.clauses());
+        let mut store = Store::with_buckets(alloc, formula.clauses());
         let mut lits: u64 = 0;
         for at in 0..formula.clauses() {
             let clause = formula.clause(at);

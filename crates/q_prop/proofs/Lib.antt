@@ -16,9 +16,6 @@ pub mod Putting
 pub mod Members
 pub mod Literals
 pub mod Chains
-pub mod Fixpoint
-pub mod Statuses
 pub mod Missing
 pub mod Definition
-pub mod PlainLemmas
 pub mod Ordered

@@ -5,7 +5,7 @@ use Rattle.q_logic.specs.Literals.{Literal, negation}
 use Rattle.q_logic.specs.Formulas.{Clause}
 use Rattle.q_prop.specs.Chains.{IsUnit, IsDerived, HasOpposites, HasFalsified}
 use Rattle.q_prop.proofs.Members.{Contains-take}
-use Rattle.q_prop.proofs.Fixpoint.{no_opposites-push}
+use Rattle.q_prop.proofs.Chains.{no_opposites-push}
 use Rattle.q_prop.specs.declared.watches.Pair.{Pair}
 use Rattle.q_prop.specs.Slots.{Slots, Holds, filled, IsPut, IsPlaced}
 use Rattle.q_prop.specs.Watches.{IsWatched, AllWatched, IsShort}

@@ -4,10 +4,9 @@ use Rattle.q_logic.specs.Literals.{Literal, negation}
 use Rattle.q_logic.specs.Formulas.{Clause, Matrix}
 use Rattle.q_prop.specs.Chains.{HasOpposites}
 use Rattle.q_prop.proofs.Literals.{Literal-cases}
-use Rattle.q_prop.specs.Search.{IsSearch, IsSettled, AllSettled}
+use Rattle.q_prop.specs.Search.{IsSettled, AllSettled}
 use Rattle.std.proofs.lemmas.List.Elements.{Contains-append_left}
 use Rattle.q_prop.proofs.Missing.{missing, missing-lt}
-use Rattle.q_prop.proofs.Fixpoint.{IsSearch-push}
 use Rattle.q_prop.specs.declared.watches.Pair.{Pair}
 use Rattle.q_prop.specs.Watches.{IsWatched, AllWatched}
 use Rattle.q_prop.specs.Slots.{Slots, Holds, filled, without}
@@ -45,14 +44,6 @@ IsReached-trans x a b c r s = record {
   is = s.is ∙ ap (λ (ks : List Literal). ks ++ s.added) r.is ∙ append_assoc a r.added s.added;
   each = AreNew-append x a r.added s.added r.each (let h = s.each in rw r.is at h);
 }
-
-search_along : (x : Matrix) (start known added : List Literal) → IsSearch x start known → AreNew x known added → IsSearch x start (known ++ added)
-search_along x start known [] s n = rw append-nil s
-search_along x start known (l ∷ added) s n =
-    rw append_assoc at (search_along x start (known ++ l ∷ []) added (IsSearch-push x start known l s n.0.0 n.0.2) n.1)
-
-pub IsReached-search : (x : Matrix) (start old new : List Literal) → IsSearch x start old → IsReached x old new → IsSearch x start new
-IsReached-search x start old new s r = rw r.is (search_along x start old r.added s r.each)
 
 -- what is missing and what is known do not grow together
 budget : Matrix → List Literal → ℕ

@@ -10,7 +10,7 @@ use Rattle.q_prop.specs.Chains.{IsChain, IsDerived, HasOpposites, HasFalsified, 
 use Rattle.q_prop.proofs.Members.{Contains-along, Contains-nil, Contains-take, Contains-map, Contains-map_cases}
 use Rattle.q_prop.proofs.Literals.{negation-negation, ℕ-cases}
 use Rattle.q_prop.specs.Search.{AllSettled}
-use Rattle.q_prop.proofs.Fixpoint.{no_opposites-push}
+use Rattle.q_prop.proofs.Chains.{no_opposites-push}
 use Rattle.q_prop.specs.declared.watches.Pair.{Pair}
 use Rattle.q_prop.specs.Slots.{Slots, Holds, filled}
 use Rattle.q_prop.specs.Watches.{IsShort, IsSingle}

@@ -1,5 +1,5 @@
 -- Lists by places, and slots.
-use Rattle.std.proofs.Common.{◌≡◌, ◌≢◌, ◌⊎◌, ℕ, zero, suc, ◌<◌, ◌≤◌, List, [], ◌∷◌, ◌++◌, Option, None, Some, Contains, slice_get, take, set, get_or, map, Result, Ok, Err, OnOk, OnErr, length, refl, sym, ◌∙◌, ap, inl, inr, zero-le, suc-le-suc, le_of_suc-le-suc, not-suc-le-zero}
+use Rattle.std.proofs.Common.{◌≡◌, ◌≢◌, ◌⊎◌, ℕ, zero, suc, ◌<◌, ◌≤◌, List, [], ◌∷◌, ◌++◌, Option, None, Some, Contains, slice_get, take, set, get_or, map, Result, Ok, Err, OnOk, OnErr, length, refl, sym, ◌∙◌, ap, inl, inr, zero-le, suc-le-suc, le_of_suc-le-suc, not-suc-le-zero, Bool, false, IsTrue, ◌↔◌, true≢false}
 use Rattle.q_logic.specs.Formulas.{Clause}
 use Rattle.q_prop.proofs.Members.{Contains-here, Contains-there, Contains-nil, Contains-cons_cases, Contains-along}
 use Rattle.q_prop.proofs.Literals.{ℕ-cases}
@@ -142,3 +142,7 @@ on_err (Err e) p = p
 pub on_ok : {T E P : Type 0} (r : Result T E) → P → OnOk r P
 on_ok (Ok x) p = p
 on_ok (Err e) p = tt
+
+-- what a test denies
+pub test_fails : (r : Bool) (P : Type 0) → (IsTrue r ↔ P) → r ≡ false → P → ⊥
+test_fails r P e f p = true≢false (sym (e.1 p) ∙ f)

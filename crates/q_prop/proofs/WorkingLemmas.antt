@@ -16,7 +16,7 @@ use Rattle.q_prop.specs.Working.{IsCovered, IsWorking, IsOther, IsKept, WatchesN
 use Rattle.q_prop.proofs.SlotLemmas.{slice_get-in, slice_get-append, take-slice_get, take-front, same_slice_get, slice_get-set_same, slice_get-set_other, Contains-slice_get, filled-in}
 use Rattle.q_prop.proofs.RowLemmas.{HasEntry-pushed, HasEntry-removed, HasEntry-same, IsFrom-end}
 use Rattle.q_prop.proofs.WatchLemmas.{IsWithin, IsWatched-more, IsWatched-apart, IsWatched-true, IsWatched-move, IsWatched-less, IsWatched-floor, pair_of, IsOther-to, IsOther-from}
-use Rattle.q_prop.proofs.Fixpoint.{no_opposites-push}
+use Rattle.q_prop.proofs.Chains.{no_opposites-push}
 
 -- what is unvisited stays so, but for the slot that is visited
 abbrev pub IsPast : List Entry → ℕ → ℕ → List Entry → ℕ → Type 0

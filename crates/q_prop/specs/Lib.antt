@@ -11,4 +11,3 @@ pub mod Working
 pub mod Chains
 pub mod Search
 pub mod Roles
-pub mod Plain

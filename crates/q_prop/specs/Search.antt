@@ -1,8 +1,8 @@
--- What the parts of the search for a conflict answer.
-use Rattle.std.specs.Prelude.{◌≡◌, ◌≢◌, ◌++◌, List, Option, None, Some, Contains}
+-- What a clause is under the known literals.
+use Rattle.std.specs.Prelude.{◌≢◌, List, Contains}
 use Rattle.q_logic.specs.Literals.{Literal, negation}
 use Rattle.q_logic.specs.Formulas.{Clause, Matrix}
-use Rattle.q_prop.specs.Chains.{IsFalsified, IsUnit, IsChain, HasOpposites}
+use Rattle.q_prop.specs.Chains.{IsFalsified, IsUnit}
 
 -- two literals of the clause are not false
 pub record IsOpen (known : List Literal) (c : Clause) : Type 0 where
@@ -21,15 +21,3 @@ pub record IsSettled (known : List Literal) (c : Clause) : Type 0 where
 
 abbrev pub AllSettled : List Literal → Matrix → Type 0
 AllSettled known x = (c : Clause) → Contains x c → IsSettled known c
-
--- what the literals seen so far are, by the one that is left
-abbrev pub IsLeft : List Literal → Clause → Option Literal → Type 0
-IsLeft known seen None = IsFalsified known seen
-IsLeft known seen (Some l) = Contains seen l × (Contains known (negation l) → ⊥) × IsUnit known seen l
-
--- the known literals are a chain without opposites
-pub record IsSearch (x : Matrix) (start known : List Literal) : Type 0 where
-  pub added : List Literal
-  pub is : known ≡ start ++ added
-  pub chain : IsChain x start added
-  pub consistent : HasOpposites known → ⊥

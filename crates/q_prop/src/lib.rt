@@ -7,7 +7,6 @@ mod clauses;
 mod holders;
 mod lists;
 mod places;
-mod plain;
 mod propagation;
 mod propagator;
 mod roles;
@@ -17,6 +16,5 @@ mod store;
 mod trail;
 mod watches;
 
-pub use plain::implied_plainly;
 pub use store::Store;
 pub use trail::Trail;

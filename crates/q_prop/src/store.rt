@@ -42,8 +42,14 @@ impl Model for Store {
 }
 
 impl Store {
-    /// An empty store, in which so many clauses are looked for at once.
-    pub fn new(alloc: Global, clauses: usize) -> Store
+    pub fn new(alloc: Global) -> Store
+        ensures { result ≡ [] }
+    {
+        Store::with_buckets(alloc, 0)
+    }
+
+    /// An empty store, with so many buckets at first: as many as there will be clauses, if that is known.
+    pub fn with_buckets(alloc: Global, count: usize) -> Store
         ensures { result ≡ [] }
     {
         Store {
@@ -52,7 +58,7 @@ impl Store {
             holders: Lists::new(alloc),
             buckets: Lists::new(alloc),
             spots: Spots::new(alloc),
-            count: clauses.max(1),
+            count: count.max(1),
         }
     }
 

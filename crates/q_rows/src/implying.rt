@@ -1,18 +1,17 @@
 // What propagation shows over the clauses of a formula.
 use crate::aims::lit;
 use crate::trouble::Trouble;
-use q_logic::{Formula, Lit, NoMemory};
-use q_prop::{Store, implied_plainly};
+use q_logic::{Formula, Lit};
+use q_prop::Store;
 use std::alloc::Global;
 
-/// Whether literals are implied over the clauses of a formula, but for one; the store and the plain program of the definition
-/// say the same.
+/// Whether literals are implied over the clauses of a formula, but for one.
 pub fn implied(alloc: Global, formula: &Formula, asked: &str) -> Result<String, Trouble> {
     let (lits, skip) = parts_of(asked);
     let lits = lits_of(alloc, lits)?;
     let mut store = store_of(alloc, formula)?;
-    let answers = ask_twice(alloc, &mut store, &lits, skip)?;
-    told(alloc, answers)
+    let answer = store.implied(&lits, skip)?;
+    Ok(String::from_str(alloc, told(answer))?)
 }
 
 fn parts_of(asked: &str) -> (&str, Option<usize>) {
@@ -22,28 +21,12 @@ fn parts_of(asked: &str) -> (&str, Option<usize>) {
     }
 }
 
-fn told(alloc: Global, answers: (bool, bool)) -> Result<String, Trouble> {
-    match answers {
-        (true, true) => Ok(String::from_str(alloc, "yes")?),
-        (false, false) => Ok(String::from_str(alloc, "no")?),
-        _ => Err(Trouble::Unreadable("what the definition says too")),
-    }
-}
-
-// The answers of the store and of the plain program.
-fn ask_twice(
-    alloc: Global,
-    store: &mut Store,
-    lits: &[Lit],
-    skip: Option<usize>,
-) -> Result<(bool, bool), NoMemory> {
-    let watched = store.implied(lits, skip)?;
-    let plain = implied_plainly(alloc, store, lits, skip)?;
-    Ok((watched, plain))
+fn told(answer: bool) -> &'static str {
+    if answer { "yes" } else { "no" }
 }
 
 fn store_of(alloc: Global, formula: &Formula) -> Result<Store, Trouble> {
-    let mut store = Store::new(alloc, formula.clauses());
+    let mut store = Store::new(alloc);
     for at in 0..formula.clauses() {
         store.add(formula.clause(at))?;
     }

@@ -1,6 +1,6 @@
 use Rattle.std.proofs.Common.{◌∷◌, [], ◌++◌, Contains, ap, ◌∙◌}
 use Rattle.q_logic.specs.Literals.{Literal, negation}
-use Rattle.q_prop.proofs.Statuses.{test_fails}
+use Rattle.q_prop.proofs.SlotLemmas.{test_fails}
 use Rattle.q_prop.proofs.Settling.{assumed_clash, assumed_same, assumed_push, longer_push}
 use Rattle.q_prop.proofs.propagation.assume.Goals as goal
 use Rattle.q_prop.proofs.propagation.assume.Goals.{then-not-has+in_ok-push, else-not-has}

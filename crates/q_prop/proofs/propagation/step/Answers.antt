@@ -4,7 +4,7 @@ use Rattle.q_prop.specs.Slots.{without}
 use Rattle.q_prop.specs.Rows.{row_of}
 use Rattle.q_prop.proofs.SlotLemmas.{slice_get-in, without-le}
 use Rattle.q_prop.proofs.WorkingLemmas.{covered_stale, covered_same, IsWorking-blocked, IsWorking-stale, IsWorking-empty, IsWorking-keep, IsWorking-force, IsWorking-move, covered_move, row_move, shorter, IsKept-move, IsForced-other, HasFalsified-other}
-use Rattle.q_prop.proofs.Statuses.{test_fails}
+use Rattle.q_prop.proofs.SlotLemmas.{test_fails}
 use Rattle.q_prop.proofs.propagation.step.Goals as goal
 
 pub returns-in_default-clause-covered : goal.returns-in_default-clause-covered

@@ -1,6 +1,6 @@
 use Rattle.std.proofs.Common.{Contains, sym, inr}
 use Rattle.q_prop.specs.Slots.{without}
-use Rattle.q_prop.proofs.Statuses.{test_fails}
+use Rattle.q_prop.proofs.SlotLemmas.{test_fails}
 use Rattle.std.proofs.lemmas.List.Elements.{Contains-push}
 use Rattle.q_prop.proofs.SlotLemmas.{filled-in, Contains-slice_get}
 use Rattle.q_prop.proofs.Settling.{single_falsified, single_new, single_true, empty_none}
