@@ -1,5 +1,5 @@
 -- Growing a set until it ends or is stuck.
-use Rattle.std.proofs.Common.{◌≡◌, ◌⊎◌, ℕ, true, List, [], ◌∷◌, ◌++◌, ◌+◌, ◌<◌, ◌≤◌, take, length, slice_get, Some, None, inl, inr, refl, sym, ap, ◌∙◌, subst, arith, length-append}
+use Rattle.std.proofs.Common.{◌≡◌, ◌⊎◌, ℕ, Bool, true, false, List, [], ◌∷◌, ◌++◌, ◌+◌, ◌<◌, ◌≤◌, take, length, slice_get, Some, None, inl, inr, refl, sym, ap, ◌∙◌, subst, arith, length-append}
 use Rattle.std.proofs.lemmas.List.{take-append-le, append_assoc}
 use Rattle.q_logic.specs.Literals.{Literal, negation}
 use Rattle.q_logic.specs.Formulas.{Clause, Matrix, Prefix, IsIn}
@@ -19,7 +19,7 @@ use Rattle.q_blocked.specs.declared.growth.Growth.{Growth}
 use Rattle.q_blocked.specs.declared.plan.Stage.{Stage}
 use Rattle.q_blocked.specs.Units.{HasUnits}
 use Rattle.q_blocked.specs.Walks.{IsBeside, IsCalm, IsCalmAt, Gives}
-use Rattle.q_blocked.specs.Growths.{IsGrowing, IsPushed, IsPassive, AreUnitsCalm}
+use Rattle.q_blocked.specs.Growths.{IsGrowing, IsPushed, IsPassive, AreUnitsCalm, Growing, HasSpread}
 use Rattle.q_blocked.proofs.Passing.{others-find}
 use Rattle.q_blocked.proofs.Members.{place-get}
 use Rattle.q_blocked.proofs.Hiding.{other_or, same_or, twice}
@@ -114,6 +114,23 @@ append-none (k ∷ S) = ap (λ (T : Clause). k ∷ T) (append-none S)
 
 pub pushed-none : (g : Growth) → IsPushed g g
 pushed-none g = record { added = []; set = sym (append-none g.set); stages = refl; base = refl; worked = refl }
+
+-- a clause that gives nothing leaves all as it is
+pub spread-none : (k : Seen) (c : ℕ) (Q : Clause → Type 0) (old new : Growth) → new.set ≡ old.set → new.plan.stages.items ≡ old.plan.stages.items → new.base ≡ old.base → new.worked ≡ old.worked → Growing k c new → ((E : Clause) → Q E → IsCalm old.set E) → HasSpread k c Q old new false
+spread-none k c Q old new e f g h r q = (
+  r,
+  record { added = []; set = e ∙ sym (append-none old.set); stages = f; base = g; worked = h },
+  λ E x. subst (λ (S : Clause). IsCalmAt old.set S E) (sym e) (q E x),
+)
+
+-- what a growth spreads from one that differs in hints alone
+pub spread-hinted : (k : Seen) (c : ℕ) (Q : Clause → Type 0) (old mid new : Growth) (b : Bool) → mid.set ≡ old.set → mid.plan.stages.items ≡ old.plan.stages.items → mid.base ≡ old.base → mid.worked ≡ old.worked → HasSpread k c Q mid new b → HasSpread k c Q old new b
+spread-hinted k c Q old mid new true e f g h r = r
+spread-hinted k c Q old mid new false e f g h r = (
+  r.0,
+  record { added = r.1.added; set = r.1.set ∙ ap (λ (S : Clause). S ++ r.1.added) e; stages = r.1.stages ∙ f; base = r.1.base ∙ g; worked = r.1.worked ∙ h },
+  λ E x. subst (λ (S : Clause). IsCalmAt S new.set E) e (r.2 E x),
+)
 
 pub pushed-on : (a b c : Growth) → IsPushed a b → IsPushed b c → IsPushed a c
 pushed-on a b c f g = record {

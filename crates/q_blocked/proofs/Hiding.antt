@@ -47,6 +47,14 @@ calm-there S D k m n t new i h =
     let r : IsIn (negation (negation new)) S = subst (λ (x : Literal). IsIn (negation x) S) e t in
     subst (λ (x : Literal). IsIn x S) (twice new) r
 
+-- a literal whose negation is in a set that holds no literal beside its negation
+pub calm-opposed : (S D : Clause) (k : Literal) → IsIn k D → (IsTautology S → ⊥) → IsIn (negation k) S → IsCalm S D
+calm-opposed S D k m t n = calm-there S D k m (λ i. t (k, i, n)) n
+
+-- two literals outside
+pub calm-two : (S D : Clause) (k j : Literal) → IsIn k D → (IsIn k S → ⊥) → IsIn j D → (IsIn j S → ⊥) → (j ≡ k → ⊥) → IsCalm S D
+calm-two S D k j m n i o d = calm-another S D k m n (λ h. o (h j i d))
+
 -- the set grows by it
 pub hidden-growth : (X : Matrix) (S D : Clause) (new : Literal) → IsIn D X → Gives S D new → Hidden X S (S ++ new ∷ [])
 hidden-growth X S D new m g = record {

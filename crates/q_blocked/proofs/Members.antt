@@ -1,5 +1,5 @@
 -- Beginnings of a list, and members by places.
-use Rattle.std.proofs.Common.{◌≡◌, ℕ, zero, suc, ◌+◌, ◌<◌, List, [], ◌∷◌, ◌++◌, take, slice_get, Some, get_or, length, inl, inr, refl}
+use Rattle.std.proofs.Common.{◌≡◌, ℕ, zero, suc, ◌+◌, ◌<◌, List, [], ◌∷◌, ◌++◌, take, slice_get, Some, get_or, length, inl, inr, refl, sym, ap, arith}
 use Rattle.std.proofs.lemmas.List.{take_more}
 use Rattle.q_logic.specs.Formulas.{IsIn}
 
@@ -11,6 +11,11 @@ module _ {X : Type 0} where
   place-member [] j k e = absurd (cc)
   place-member (x ∷ xs) zero k e = inl (cc)
   place-member (x ∷ xs) (suc j) k e = inr (place-member xs j k e)
+
+  pub get-place : (xs : List X) (j : ℕ) (k : X) → j < length xs → k ≡ get_or xs j k → slice_get xs j ≡ Some k
+  get-place [] j k h e = absurd (omega arith)
+  get-place (x ∷ xs) zero k h e = ap Some (sym e)
+  get-place (x ∷ xs) (suc j) k h e = get-place xs j k (omega arith) e
 
   pub place-get : (xs : List X) (j : ℕ) (k : X) → slice_get xs j ≡ Some k → k ≡ get_or xs j k
   place-get [] j k e = absurd (cc)

@@ -13,7 +13,7 @@ use Rattle.q_logic.proofs.Implying.{IsIn-append_right}
 use Rattle.q_logic.proofs.Sets.{IsIn-outer_in}
 use Rattle.q_logic.proofs.CoverRun.{in_or_not}
 use Rattle.q_arena.specs.Rings.{Has}
-use Rattle.q_blocked.specs.Walks.{IsOpen, IsCutBy, IsNarrowed, IsLooked}
+use Rattle.q_blocked.specs.Walks.{IsOpen, IsOpenAt, IsStuck, IsCutBy, IsNarrowed, IsLooked}
 use Rattle.q_blocked.proofs.Passing.{HasPassed, passed-begun, passed-one, passed-map, passed-all, one}
 
 -- what the literals that are found so far keep to of a clause
@@ -78,6 +78,16 @@ cut-done P N c owner places l S true K own s = (
     (λ m. ((λ D i h n. elim (passed-all N c owner (negation l) places (λ E. IsMet P l S K E) own (s.each refl) D i h) [ inl x ↦ absurd (n x) | inr f ↦ f k m ]), (s.kept refl k m).1)),
     λ m. s.has refl k m.0 m.1,
   ),
+)
+
+-- two clauses that have nothing in common beyond the set
+pub stuck-parted : (P : Prefix) (N : Slots) (c : ℕ) (l : Literal) (S : Clause) (d e : ℕ) → IsOpenAt P N c d l S → IsOpenAt P N c e l S → ((C D : Clause) → slot N d ≡ Some C → slot N e ≡ Some D → (k : Literal) → IsIn k C → keeps P (negation l) k ≡ true → IsIn k D → (IsIn k S → ⊥) → ⊥) → IsStuck P (others c N) l S
+stuck-parted P N c l S d e a b h = (
+  (a.0, others-slot N d c a.0 a.1.0 a.1.1, a.2, a.3),
+  λ k i.
+      let r = IsIn-outer P (negation l) a.0 k (i a.0 (others-slot N d c a.0 a.1.0 a.1.1) a.2 a.3) in
+      let s = IsIn-outer P (negation l) b.0 k (i b.0 (others-slot N e c b.0 b.1.0 b.1.1) b.2 b.3) in
+      elim (in_or_not k S) [ inl m ↦ m | inr n ↦ absurd (h a.0 b.0 a.1.1 b.1.1 k r.0 r.1 s.0 n) ],
 )
 
 -- the set grows by them

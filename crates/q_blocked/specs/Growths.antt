@@ -7,7 +7,7 @@ use Rattle.q_logic.specs.Propagation.{Implied}
 use Rattle.q_logic.specs.Sets.{IsSubset, IsTautology}
 use Rattle.q_logic.specs.Steps.{Within}
 use Rattle.q_logic.specs.Numbered.{slot, others}
-use Rattle.q_logic.specs.Covering.{InEach, Covers}
+use Rattle.q_logic.specs.Covering.{Covers}
 use Rattle.q_kernel.specs.Kernels.{Seen, slots}
 use Rattle.q_blocked.specs.declared.growth.Growth.{Growth}
 use Rattle.q_blocked.specs.declared.outcome.Outcome.{Outcome}
@@ -15,7 +15,7 @@ use Rattle.q_blocked.specs.declared.outcome.Outcome.TheVariants.{Ended, Grown, C
 use Rattle.q_blocked.specs.declared.plan.Stage.{Stage}
 use Rattle.q_blocked.specs.Plans.{front, MayGo, IsWay}
 use Rattle.q_blocked.specs.Units.{IsSingle}
-use Rattle.q_blocked.specs.Walks.{IsCalm, IsCalmAt, IsOpen, IsLooked}
+use Rattle.q_blocked.specs.Walks.{IsCalm, IsCalmAt, IsStuck, IsLooked}
 
 -- where the literals of A are false, propagation makes those of S false: what is implied with those of S is implied without
 abbrev pub Falls : Matrix → Clause → Clause → Type 0
@@ -73,7 +73,7 @@ HasClosed k c new false = Growing k c new × (length new.set ≤ new.worked)
 
 -- S is not blocked on an existential l, and has all covered literals
 abbrev pub IsPassive : Prefix → Matrix → Clause → Literal → Type 0
-IsPassive P X S l = is_existential P l.var ≡ true → IsOpen P X l S × ((j : Literal) → InEach P X l S j → IsIn j S)
+IsPassive P X S l = is_existential P l.var ≡ true → IsStuck P X l S
 
 -- what a look at some literals for covered ones has made of a growth
 abbrev pub HasLooked : Seen → ℕ → (Literal → Type 0) → Growth → Growth → Outcome → Type 0

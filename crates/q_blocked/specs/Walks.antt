@@ -29,6 +29,14 @@ pub record Gives (S D : Clause) (new : Literal) : Type 0 where
 abbrev pub IsOpen : Prefix → Matrix → Literal → Clause → Type 0
 IsOpen P X l S = (D : Clause) × IsIn D X × IsIn (negation l) D × (Clashes P l S D → ⊥)
 
+-- so the clause of the id d, which is not c
+abbrev pub IsOpenAt : Prefix → Slots → ℕ → ℕ → Literal → Clause → Type 0
+IsOpenAt P N c d l S = (D : Clause) × IsBeside N c d D × IsIn (negation l) D × (Clashes P l S D → ⊥)
+
+-- S has all covered literals, and some clause with not l does not clash with it
+abbrev pub IsStuck : Prefix → Matrix → Literal → Clause → Type 0
+IsStuck P X l S = IsOpen P X l S × ((k : Literal) → InEach P X l S k → IsIn k S)
+
 -- what a clause of the list of not l does to the covered literals that are found so far
 pub record IsCutBy (P : Prefix) (N : Slots) (c d : ℕ) (l : Literal) (S : Clause) (was : Bool) (old : List Literal) (now : Bool) (new : List Literal) : Type 0 where
   pub opened : now ≡ true

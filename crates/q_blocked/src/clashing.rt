@@ -35,6 +35,15 @@ pub fn is_kept(kernel: &Kernel, m: Lit, k: Lit) -> bool
     !k.is(m) && kernel.prefix().outer_or_same(k.var(), m.var())
 }
 
+/// Whether the literal k of a clause is in its outer clause on m, and not in the set.
+pub fn is_fresh(kernel: &Kernel, set: &Queue, m: Lit, k: Lit) -> bool
+    requires here { is_bound kernel.now.prefix m.var ≡ true }
+    requires there { is_bound kernel.now.prefix k.var ≡ true }
+    ensures { IsTrue result ↔ ((keeps kernel.now.prefix m k ≡ true) × (IsIn k set.now → ⊥)) }
+{
+    !set.has(k) && is_kept(kernel, m, k)
+}
+
 // Whether the literal k of a clause is in its outer clause on m, and its negation in the set. The marks of the set are
 // asked first: they cost less, and mostly answer no.
 fn hits(kernel: &Kernel, set: &Queue, m: Lit, k: Lit) -> bool

@@ -43,6 +43,7 @@ use crate::covered::{covered_at, is_bare};
 use crate::growth::Growth;
 use crate::hidden::{close, use_units};
 use crate::outcome::Outcome;
+use crate::stuck::is_stuck;
 use crate::units::Units;
 use q_arena::ClauseId;
 use q_kernel::Kernel;
@@ -122,6 +123,9 @@ fn cover_at(
     if !is_existential(kernel, l.var()) {
         return Ok(Outcome::Calm);
     }
+    if is_stuck(kernel, &growth.set, &growth.pairs, c, l) {
+        return Ok(Outcome::Calm);
+    }
     if !covered_at(
         kernel,
         &growth.set,
@@ -135,6 +139,7 @@ fn cover_at(
         return Ok(Outcome::Ended);
     }
     if is_bare(&growth.found) {
+        growth.pairs.note(l, growth.spare.pair)?;
         return Ok(Outcome::Calm);
     }
     settle(growth, place)?;

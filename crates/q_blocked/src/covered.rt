@@ -10,7 +10,8 @@ ghost use Rattle.q_logic.specs.Numbered.{others};
 ghost use Rattle.q_kernel.specs.Kernels.{slots, HoldsLiteral};
 ghost use Rattle.q_blocked.specs.Walks.{IsNarrowed, IsLooked};
 
-use crate::clashing::{clashes, fill, is_kept};
+use crate::clashing::{clashes, fill, is_fresh};
+use crate::stuck::{NO_PAIR, Pair};
 use q_arena::ClauseId;
 use q_kernel::Kernel;
 use q_logic::{Lit, NoMemory};
@@ -20,11 +21,13 @@ use std::alloc::Global;
 // So many literals are looked for in a clause one by one.
 const FEW: usize = 4;
 
-/// Room for the covered literals that are left beside one more clause.
+/// Room for the covered literals that are left beside one more clause; the first clause and the last one that were
+/// taken into account.
 #[derive(Drop)]
 pub struct Spare {
     pub lits: Vec<Lit>,
     pub marks: Queue,
+    pub pair: Pair,
 }
 
 impl Spare {
@@ -32,6 +35,7 @@ impl Spare {
         Spare {
             lits: Vec::new(alloc),
             marks: Queue::new(alloc),
+            pair: NO_PAIR,
         }
     }
 }
@@ -43,15 +47,6 @@ fn put_if(lits: &mut Vec<Lit>, k: Lit, wanted: bool) -> Result<(), NoMemory>
         lits.push(k)?;
     }
     Ok(())
-}
-
-// Whether the literal k of a clause is in its outer clause on m, and not in the set.
-fn is_fresh(kernel: &Kernel, set: &Queue, m: Lit, k: Lit) -> bool
-    requires here { is_bound kernel.now.prefix m.var ≡ true }
-    requires there { is_bound kernel.now.prefix k.var ≡ true }
-    ensures { IsTrue result ↔ ((keeps kernel.now.prefix m k ≡ true) × (IsIn k set.now → ⊥)) }
-{
-    is_kept(kernel, m, k) && !set.has(k)
 }
 
 // The literals of the outer clause that are not in the set.
@@ -140,10 +135,12 @@ fn narrow(
     if clashes(kernel, set, clause, l) {
         return Ok(was);
     }
+    spare.pair.second = d;
     if was {
         keep(found, clause, spare)?;
         return Ok(true);
     }
+    spare.pair.first = d;
     begin(kernel, set, clause, l.negated(), found)?;
     Ok(true)
 }

@@ -1,9 +1,11 @@
 //! A set of literals that grows, and the stages at which its clause is made larger.
 ghost use Rattle.std.specs.Prelude.{◌≡◌, ◌<◌, ◌∷◌, ◌++◌, [], length, OnOk};
 
+use crate::calm::Hints;
 use crate::clashing::fill;
 use crate::covered::Spare;
 use crate::plan::{Plan, Stage};
+use crate::stuck::Pairs;
 use q_logic::{Lit, NoMemory};
 use q_rule::Queue;
 use std::alloc::Global;
@@ -24,6 +26,10 @@ pub struct Growth {
     pub found: Vec<Lit>,
     /// Room for fewer of them.
     pub spare: Spare,
+    /// Clauses that showed, at a clause before or at this one, that nothing is covered.
+    pub pairs: Pairs,
+    /// Literals that showed so that nothing is hidden.
+    pub hints: Hints,
 }
 
 impl Growth {
@@ -35,6 +41,8 @@ impl Growth {
             worked: 0,
             found: Vec::new(alloc),
             spare: Spare::new(alloc),
+            pairs: Pairs::new(alloc),
+            hints: Hints::new(alloc),
         }
     }
 

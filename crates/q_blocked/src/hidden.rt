@@ -9,6 +9,7 @@ ghost use Rattle.q_blocked.specs.Walks.{IsBeside, IsCalm, Gives};
 ghost use Rattle.q_blocked.specs.Units.{HasUnits};
 ghost use Rattle.q_blocked.specs.Growths.{Growing, HasSpread, HasClosed, HasUsedUnits};
 
+use crate::calm::is_calm;
 use crate::growth::Growth;
 use crate::outcome::Outcome;
 use q_arena::ClauseId;
@@ -84,12 +85,7 @@ fn hidden_by(kernel: &Kernel, set: &Queue, c: ClauseId, d: ClauseId) -> Option<L
 }
 
 // Grows by the hidden literal that the clause of an id gives. Yes where a literal and its negation are in the set then.
-fn take_hidden(
-    kernel: &Kernel,
-    growth: &mut Growth,
-    c: ClauseId,
-    d: ClauseId,
-) -> Result<bool, NoMemory>
+fn grow_by(kernel: &Kernel, growth: &mut Growth, c: ClauseId, d: ClauseId) -> Result<bool, NoMemory>
     requires { Growing kernel.now c growth.old }
     ensures { IfOk result (HasSpread kernel.now c (IsBeside (slots kernel.now) c d) growth.old growth.new) }
 {
@@ -103,6 +99,24 @@ fn take_hidden(
         return Ok(true);
     }
     Ok(false)
+}
+
+// The same, with a short look first: most clauses give nothing.
+#[inline(always)]
+fn take_hidden(
+    kernel: &Kernel,
+    growth: &mut Growth,
+    c: ClauseId,
+    d: ClauseId,
+) -> Result<bool, NoMemory>
+    requires { Growing kernel.now c growth.old }
+    ensures { IfOk result (HasSpread kernel.now c (IsBeside (slots kernel.now) c d) growth.old growth.new) }
+{
+    if is_calm(kernel, &growth.set, &mut growth.hints, c, d)? {
+        return Ok(false);
+    }
+    let ended = grow_by(kernel, growth, c, d)?;
+    Ok(ended)
 }
 
 // Grows by the hidden literals that the clauses with a literal of the set give.

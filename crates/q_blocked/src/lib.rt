@@ -4,6 +4,7 @@
 mod applying;
 mod blocked;
 mod calls;
+mod calm;
 mod changing;
 mod clashing;
 mod cover;
@@ -15,6 +16,7 @@ mod hidden;
 mod outcome;
 mod plan;
 mod search;
+mod stuck;
 mod target;
 mod units;
 

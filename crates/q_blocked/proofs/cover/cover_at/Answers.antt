@@ -6,7 +6,7 @@ use Rattle.q_logic.specs.Numbered.{others}
 use Rattle.q_logic.specs.Blocking.{AllClash}
 use Rattle.q_logic.proofs.CoverRun.{in_or_not}
 use Rattle.q_kernel.specs.Kernels.{slots}
-use Rattle.q_blocked.specs.Walks.{IsLooked}
+use Rattle.q_blocked.specs.Walks.{IsLooked, IsStuck}
 use Rattle.q_blocked.specs.Growths.{IsPassive, CoveredBy}
 use Rattle.q_blocked.proofs.Fronts.{place-front}
 use Rattle.q_blocked.proofs.Reaching.{covered-blocked}
@@ -44,6 +44,18 @@ returns-then-is_bare c =
       Rattle.std.proofs.Common.refl,
       Rattle.std.proofs.Common.refl,
       λ l e. subst (λ (j : Literal). IsPassive k.prefix X S j) (same c.at-l.result l (sym c.at-l.ensures ∙ e)) (passive k.prefix X S K c.at-l.result n h),
+    )
+
+pub returns-then-is_stuck : goal.returns-then-is_stuck
+returns-then-is_stuck c =
+    let k = c.args.kernel.now in
+    let X = others c.args.c (slots k) in
+    let S : Clause = c.args.growth.now.set in
+    let h : IsStuck k.prefix X c.at-l.result S = c.is_stuck.ensures c.if-is_stuck.true in (
+      c.requires.growing,
+      Rattle.std.proofs.Common.refl,
+      Rattle.std.proofs.Common.refl,
+      λ l e. subst (λ (j : Literal). IsPassive k.prefix X S j) (same c.at-l.result l (sym c.at-l.ensures ∙ e)) (λ x. h),
     )
 
 pub cover_by-requires-clause-found : goal.cover_by-requires-clause-found

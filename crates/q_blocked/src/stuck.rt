@@ -1,0 +1,123 @@
+//! Literals on which nothing is covered, as two clauses show.
+ghost use Rattle.std.specs.Prelude.{◌≡◌, ◌↔◌, true, Some, IsTrue};
+ghost use Rattle.q_logic.specs.Literals.{Literal, negation};
+ghost use Rattle.q_logic.specs.Formulas.{Clause, IsIn};
+ghost use Rattle.q_logic.specs.Prefixes.{is_bound};
+ghost use Rattle.q_logic.specs.Pivots.{keeps};
+ghost use Rattle.q_logic.specs.Steps.{Within};
+ghost use Rattle.q_logic.specs.Numbered.{slot, others};
+ghost use Rattle.q_kernel.specs.Kernels.{slots};
+ghost use Rattle.q_blocked.specs.Walks.{IsOpenAt, IsStuck};
+
+use crate::clashing::{clashes, is_fresh};
+use q_arena::ClauseId;
+use q_kernel::Kernel;
+use q_logic::{Lit, NoMemory};
+use q_rule::{Queue, clause_of, holds};
+use std::alloc::Global;
+
+/// Two clauses.
+#[derive(Clone, Copy, Debug)]
+pub struct Pair {
+    pub first: ClauseId,
+    pub second: ClauseId,
+}
+
+/// No clauses.
+pub const NO_PAIR: Pair = Pair {
+    first: u32::MAX,
+    second: u32::MAX,
+};
+
+/// For each literal two clauses with its negation that had nothing in common beyond a set. They may be out of date: they
+/// are tested where they are used.
+#[derive(Drop)]
+pub struct Pairs {
+    pairs: Vec<Pair>,
+}
+
+impl Pairs {
+    pub fn new(alloc: Global) -> Pairs {
+        Pairs {
+            pairs: Vec::new(alloc),
+        }
+    }
+
+    fn of(&self, l: Lit) -> Pair {
+        self.pairs.get(l.index()).copied().unwrap_or(NO_PAIR)
+    }
+
+    pub fn note(&mut self, l: Lit, pair: Pair) -> Result<(), NoMemory> {
+        let end = l.index() + 1;
+        if self.pairs.len() < end {
+            self.pairs.resize(end, NO_PAIR)?;
+        }
+        self.pairs[l.index()] = pair;
+        Ok(())
+    }
+}
+
+// Whether the clause of an id is not c, holds the negation of l, and does not clash with the set.
+fn is_open(kernel: &Kernel, set: &Queue, c: ClauseId, d: ClauseId, l: Lit) -> bool
+    ensures { result ≡ true → IsOpenAt kernel.now.prefix (slots kernel.now) c d l set.now }
+{
+    if d == c {
+        return false;
+    }
+    if !kernel.live(d) {
+        return false;
+    }
+    let clause = clause_of(kernel, d);
+    if !holds(clause, l.negated()) {
+        return false;
+    }
+    !clashes(kernel, set, clause, l)
+}
+
+// Whether the literal k of a clause is in its outer clause on m, not in the set, and in a second clause.
+fn is_shared(kernel: &Kernel, set: &Queue, m: Lit, k: Lit, second: &[Lit]) -> bool
+    requires here { is_bound kernel.now.prefix m.var ≡ true }
+    requires there { is_bound kernel.now.prefix k.var ≡ true }
+    ensures { IsTrue result ↔ ((keeps kernel.now.prefix m k ≡ true) × (IsIn k set.now → ⊥) × IsIn k second.now) }
+{
+    is_fresh(kernel, set, m, k) && holds(second, k)
+}
+
+// Whether there is no such literal.
+fn share_nothing(kernel: &Kernel, set: &Queue, m: Lit, first: &[Lit], second: &[Lit]) -> bool
+    requires within { Within kernel.now.prefix first.now }
+    requires bound { is_bound kernel.now.prefix m.var ≡ true }
+    ensures { result ≡ true → (k : Literal) → IsIn k first.now → keeps kernel.now.prefix m k ≡ true → IsIn k second.now → (IsIn k set.now → ⊥) → ⊥ }
+{
+    for k in first {
+        if is_shared(kernel, set, m, *k, second) {
+            return false;
+        }
+    }
+    true
+}
+
+// Whether two clauses with the negation of l have nothing in common beyond the set.
+fn do_part(kernel: &Kernel, set: &Queue, pair: Pair, l: Lit) -> bool
+    requires first { (C : Clause) × (slot (slots kernel.now) pair.first ≡ Some C) × IsIn (negation l) C }
+    requires second { (C : Clause) × (slot (slots kernel.now) pair.second ≡ Some C) }
+    ensures { result ≡ true → (C D : Clause) → slot (slots kernel.now) pair.first ≡ Some C → slot (slots kernel.now) pair.second ≡ Some D → (k : Literal) → IsIn k C → keeps kernel.now.prefix (negation l) k ≡ true → IsIn k D → (IsIn k set.now → ⊥) → ⊥ }
+{
+    let first = clause_of(kernel, pair.first);
+    let second = clause_of(kernel, pair.second);
+    share_nothing(kernel, set, l.negated(), first, second)
+}
+
+/// Whether the clauses that were noted for a literal show that the set has all that is covered on it.
+pub fn is_stuck(kernel: &Kernel, set: &Queue, pairs: &Pairs, c: ClauseId, l: Lit) -> bool
+    ensures { result ≡ true → IsStuck kernel.now.prefix (others c (slots kernel.now)) l set.now }
+{
+    let pair = pairs.of(l);
+    if !is_open(kernel, set, c, pair.first, l) {
+        return false;
+    }
+    if !is_open(kernel, set, c, pair.second, l) {
+        return false;
+    }
+    do_part(kernel, set, pair, l)
+}
