@@ -7,7 +7,7 @@ ghost use Rattle.q_aiger.specs.Symbols.{symbol_of, names_from, names_at_end, all
 ghost use Rattle.q_aiger.specs.Standing.{Answers};
 ghost use Rattle.q_aiger.specs.Bodies.{behind_view, TakesLine, TakesSymbol, ReadsNames};
 
-use crate::error::{AigerError, BAD_SYMBOL, UNENDED};
+use crate::error::{AigerError, Cause};
 use crate::header::Header;
 use crate::items::Items;
 use crate::lines::next_line;
@@ -68,7 +68,7 @@ fn take_line<'a>(
         }
         None => Err(AigerError::Refused {
             line: last,
-            cause: UNENDED,
+            cause: Cause::Unended as u8,
         }),
     }
 }
@@ -113,7 +113,7 @@ fn end_names(last: u64, inputs: &Names, outputs: &Names) -> Result<(), AigerErro
     }
     Err(AigerError::Refused {
         line: last,
-        cause: BAD_SYMBOL,
+        cause: Cause::BadSymbol as u8,
     })
 }
 
@@ -141,7 +141,7 @@ fn take_symbol(
         },
         Symbol::Strange => Err(AigerError::Refused {
             line: at,
-            cause: BAD_SYMBOL,
+            cause: Cause::BadSymbol as u8,
         }),
     }
 }

@@ -14,6 +14,29 @@ pub enum AigerError {
     NoMemory,
 }
 
+/// Why a text is no circuit file, by its number in lines and documents.
+#[derive(Clone, Copy, Debug, PartialEq, Eq)]
+pub enum Cause {
+    /// The first line is no header, or says too little.
+    BadHeader = 1,
+    /// A line of an input, an output or a gate is not of its form.
+    BadToken = 2,
+    /// There are latches.
+    BadLatch = 3,
+    /// A variable that an earlier line defines.
+    DefinedTwice = 4,
+    /// A variable that no line defines.
+    Undefined = 5,
+    /// A gate that depends on itself.
+    Cycle = 6,
+    /// A symbol line breaks its rules, or a symbol is missing.
+    BadSymbol = 7,
+    /// The end before all lines of inputs, outputs and gates.
+    Unended = 8,
+    /// A limit is passed.
+    Limit = 9,
+}
+
 impl From<NoMemory> for AigerError {
     ghost use Rattle.q_aiger.specs.declared.error.AigerError.TheVariants.{NoMemory as wanting};
 
@@ -43,30 +66,3 @@ impl<T: Drop> From<AllocFailed<T>> for AigerError {
         AigerError::NoMemory
     }
 }
-
-/// The first line is no header, or says too little.
-pub const BAD_HEADER: u8 = 1;
-
-/// A line of an input, an output or a gate is not of its form.
-pub const BAD_TOKEN: u8 = 2;
-
-/// There are latches.
-pub const BAD_LATCH: u8 = 3;
-
-/// A variable that an earlier line defines.
-pub const DEFINED_TWICE: u8 = 4;
-
-/// A variable that no line defines.
-pub const UNDEFINED: u8 = 5;
-
-/// A gate that depends on itself.
-pub const CYCLE: u8 = 6;
-
-/// A symbol line breaks its rules, or a symbol is missing.
-pub const BAD_SYMBOL: u8 = 7;
-
-/// The end before all lines of inputs, outputs and gates.
-pub const UNENDED: u8 = 8;
-
-/// A limit is passed.
-pub const LIMIT: u8 = 9;

@@ -4,7 +4,7 @@ ghost use Rattle.q_aiger.specs.Lines.{words, clipped};
 ghost use Rattle.q_aiger.specs.Modest.{IsModest};
 ghost use Rattle.q_aiger.specs.Headers.{is_aag as aag, header_of, header_with, header_view, counts_in, value, IsNumber, padded, IsSpare, IsSmall, AreNumbers};
 
-use crate::error::{BAD_HEADER, BAD_LATCH, LIMIT};
+use crate::error::Cause;
 use crate::lines::{next_word, number};
 
 /// What a file says that it has: the greatest variable, and how many lines of each kind.
@@ -37,7 +37,7 @@ pub fn read_header(line: &[u8]) -> Result<Header, u8>
 {
     match six_words(line) {
         Some(words) => counted(words),
-        None => Err(BAD_HEADER),
+        None => Err(Cause::BadHeader as u8),
     }
 }
 
@@ -46,19 +46,19 @@ fn counted(words: Words) -> Result<Header, u8>
     ensures modest { IfOk result IsModest }
 {
     if !is_aag(words.tag) {
-        return Err(BAD_HEADER);
+        return Err(Cause::BadHeader as u8);
     }
     if !are_numbers(words) {
-        return Err(BAD_HEADER);
+        return Err(Cause::BadHeader as u8);
     }
     if is_below(words.max, words.inputs, words.latches, words.gates) {
-        return Err(BAD_HEADER);
+        return Err(Cause::BadHeader as u8);
     }
     if count(words.latches) > 0 {
-        return Err(BAD_LATCH);
+        return Err(Cause::BadLatch as u8);
     }
     if count(words.max) > MOST {
-        return Err(LIMIT);
+        return Err(Cause::Limit as u8);
     }
     Ok(Header {
         max: count(words.max),

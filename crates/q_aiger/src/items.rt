@@ -5,7 +5,7 @@ ghost use Rattle.q_aiger.specs.Headers.{header_view};
 ghost use Rattle.q_aiger.specs.Items.{no_items, place_of, is_left as left, is_right as right, one_number as one, three_numbers as three, with_input, with_output, with_gate, with_line};
 ghost use Rattle.q_aiger.specs.Taking.{Takes};
 
-use crate::error::{AigerError, BAD_TOKEN, DEFINED_TWICE};
+use crate::error::{AigerError, Cause};
 use crate::header::Header;
 use crate::lines::{next_word, number};
 use q_logic::NoMemory;
@@ -184,7 +184,7 @@ fn bad_token(line: u64) -> AigerError
 {
     AigerError::Refused {
         line,
-        cause: BAD_TOKEN,
+        cause: Cause::BadToken as u8,
     }
 }
 
@@ -193,7 +193,7 @@ fn defined_twice(line: u64) -> AigerError
 {
     AigerError::Refused {
         line,
-        cause: DEFINED_TWICE,
+        cause: Cause::DefinedTwice as u8,
     }
 }
 

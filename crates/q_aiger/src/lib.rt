@@ -14,7 +14,7 @@ mod reader;
 mod symbols;
 mod writer;
 
-pub use error::AigerError;
+pub use error::{AigerError, Cause};
 pub use laws::{
     an_offence_leaves_no_circuits, grammar_is_read, one_text_has_one_meaning, written_is_read,
 };

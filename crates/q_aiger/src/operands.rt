@@ -4,7 +4,7 @@ ghost use Rattle.q_aiger.specs.Operands.{node_in, operand_in, outputs_from, gate
 ghost use Rattle.q_gates.specs.Gates.{gates_view};
 ghost use Rattle.q_aiger.specs.Standing.{source_some, operand_some, operands_view, gate_some, Answers};
 
-use crate::error::{AigerError, UNDEFINED};
+use crate::error::{AigerError, Cause};
 use crate::items::Items;
 use q_gates::{Gate, Operand, Source};
 use std::alloc::Global;
@@ -47,7 +47,7 @@ fn undefined(line: u64) -> AigerError
 {
     AigerError::Refused {
         line,
-        cause: UNDEFINED,
+        cause: Cause::Undefined as u8,
     }
 }
 

@@ -12,7 +12,7 @@ ghost use Rattle.q_aiger.specs.Modest.{IsModest};
 ghost use Rattle.q_aiger.specs.Written.{written_view, IsWritten};
 
 use crate::body::{read_items, read_names};
-use crate::error::{AigerError, BAD_HEADER, CYCLE, LIMIT};
+use crate::error::{AigerError, Cause};
 use crate::header::{Header, read_header};
 use crate::items::Items;
 use crate::lines::{last_line, next_line};
@@ -94,7 +94,7 @@ fn cyclic(_bytes: &[u8], written: &Written, gate: usize) -> AigerError
     let outputs = written.names.as_slice().len();
     AigerError::Refused {
         line: (2 + inputs + outputs + gate) as u64,
-        cause: CYCLE,
+        cause: Cause::Cycle as u8,
     }
 }
 
@@ -104,14 +104,14 @@ fn read_lines(alloc: Global, bytes: &[u8]) -> Result<Written, AigerError>
     ensures lawful { IfOk result IsWritten }
 {
     let Some((first, rest)) = next_line(bytes) else {
-        return Err(refused(1, BAD_HEADER));
+        return Err(refused(1, Cause::BadHeader as u8));
     };
     let header = match read_header(first) {
         Ok(header) => header,
         Err(cause) => return Err(refused(1, cause)),
     };
     if bytes.len() > MOST_BYTES {
-        return Err(refused(last_line(front(bytes, MOST_BYTES)), LIMIT));
+        return Err(refused(last_line(front(bytes, MOST_BYTES)), Cause::Limit as u8));
     }
     read_body(alloc, header, rest, last_line(bytes))
 }

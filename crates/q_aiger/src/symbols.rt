@@ -5,7 +5,7 @@ ghost use Rattle.q_aiger.specs.Symbols.{is_free_name, with_name, all_named, name
 ghost use Rattle.q_aiger.specs.Naming.{symbol_view};
 ghost use Rattle.q_aiger.specs.Taking.{Takes};
 
-use crate::error::{AigerError, BAD_SYMBOL};
+use crate::error::{AigerError, Cause};
 use crate::lines::{next_word, number};
 use q_logic::NoMemory;
 use std::alloc::Global;
@@ -55,7 +55,7 @@ impl Names {
         if !self.is_free(place, name) {
             return Err(AigerError::Refused {
                 line: at,
-                cause: BAD_SYMBOL,
+                cause: Cause::BadSymbol as u8,
             });
         }
         if self.used.insert(name as u32).is_err() {

@@ -21,5 +21,7 @@ mod target;
 mod units;
 
 pub use calls::{applies, find, find_with, try_one, try_with};
+pub use q_kernel::Taken;
+pub use q_logic::Bounds;
 pub use search::Search;
 pub use target::Target;

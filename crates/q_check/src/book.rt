@@ -17,7 +17,7 @@ ghost use Rattle.q_check.specs.Alike.{AreAlike};
 ghost use Rattle.q_check.specs.Checked.{IsTried, IsEndRefusal};
 ghost use Rattle.q_check.specs.Entries.{entries_of, IsPivotEntry};
 
-use crate::error::CheckError;
+use crate::error::{Cause, CheckError};
 use crate::maps::Maps;
 use crate::pivots::{Buffers, Warrant, slots_of, warrant_of};
 use crate::reach::is_droppable;
@@ -88,7 +88,9 @@ impl Book {
         ensures { (keep : Bool) → IsTried keep limits self.old (add first clause.now) self.new result }
     {
         if !binds_all(&self.scope, clause) {
-            return Err(CheckError::Refused { cause: 2 });
+            return Err(CheckError::Refused {
+                cause: Cause::Unbound as u8,
+            });
         }
         let warrant = warrant_of(
             &mut self.store,
@@ -99,10 +101,14 @@ impl Book {
             first,
         )?;
         if warrant.is_missing() {
-            return Err(CheckError::Refused { cause: 4 });
+            return Err(CheckError::Refused {
+                cause: Cause::Unwarranted as u8,
+            });
         }
         if !has_room(limits, self.clauses, self.lits, clause) {
-            return Err(CheckError::Refused { cause: 8 });
+            return Err(CheckError::Refused {
+                cause: Cause::Limit as u8,
+            });
         }
         self.maps.take(&self.scope, clause);
         self.store.add(clause)?;
@@ -122,10 +128,14 @@ impl Book {
         ensures { (m : AnyLimits) → IsTried keep m self.old (delete (first_of lits.now) clause.now) self.new result }
     {
         if !binds_all(&self.scope, clause) {
-            return Err(CheckError::Refused { cause: 2 });
+            return Err(CheckError::Refused {
+                cause: Cause::Unbound as u8,
+            });
         }
         let Some(at) = self.store.find(clause) else {
-            return Err(CheckError::Refused { cause: 3 });
+            return Err(CheckError::Refused {
+                cause: Cause::NoClause as u8,
+            });
         };
         let reason = warrant_of(
             &mut self.store,
@@ -136,7 +146,9 @@ impl Book {
             first_lit(lits),
         )?;
         if reason.is_missing() {
-            return Err(CheckError::Refused { cause: 4 });
+            return Err(CheckError::Refused {
+                cause: Cause::Unwarranted as u8,
+            });
         }
         let alloc = self.alloc;
         let entry = pivot_entry(
@@ -167,10 +179,14 @@ impl Book {
         ensures { (keep : Bool) → (m : AnyLimits) → IsTried keep m self.old (drop_literal lit clause.now) self.new result }
     {
         if !binds_all(&self.scope, clause) {
-            return Err(CheckError::Refused { cause: 2 });
+            return Err(CheckError::Refused {
+                cause: Cause::Unbound as u8,
+            });
         }
         let Some(at) = self.store.find(clause) else {
-            return Err(CheckError::Refused { cause: 3 });
+            return Err(CheckError::Refused {
+                cause: Cause::NoClause as u8,
+            });
         };
         let droppable = is_droppable(
             &mut self.store,
@@ -183,7 +199,9 @@ impl Book {
             lit,
         )?;
         if !droppable {
-            return Err(CheckError::Refused { cause: 5 });
+            return Err(CheckError::Refused {
+                cause: Cause::NotDroppable as u8,
+            });
         }
         self.store.add(rest)?;
         self.store.delete(at);
@@ -202,7 +220,9 @@ impl Book {
         ensures { IsTried keep limits self.old (fresh v w) self.new result }
     {
         if !takes_fresh(&self.scope, limits, v, w) {
-            return Err(CheckError::Refused { cause: 6 });
+            return Err(CheckError::Refused {
+                cause: Cause::BadFresh as u8,
+            });
         }
         self.maps.inherit(v, w)?;
         self.scope.insert_after(w, v)?;
@@ -215,10 +235,14 @@ impl Book {
         ensures { (m : AnyLimits) → IsTried keep m self.old (remove_variable var) self.new result }
     {
         if !self.scope.binds(var) {
-            return Err(CheckError::Refused { cause: 2 });
+            return Err(CheckError::Refused {
+                cause: Cause::Unbound as u8,
+            });
         }
         if !is_absent(&self.store, var) {
-            return Err(CheckError::Refused { cause: 7 });
+            return Err(CheckError::Refused {
+                cause: Cause::Occurs as u8,
+            });
         }
         let existential = self.scope.is_existential(var);
         self.maps.leave(&self.scope, var);
@@ -255,10 +279,14 @@ fn compare(
     ensures refused { IfErr result (IsEndRefusal (record { prefix = scope.now; matrix = filled store.old }) output.now) }
 {
     if !scope.has_blocks_of(alloc, output.prefix())? {
-        return Err(CheckError::Refused { cause: 9 });
+        return Err(CheckError::Refused {
+            cause: Cause::OtherBlocks as u8,
+        });
     }
     if !takes_all(store, clauses, output) {
-        return Err(CheckError::Refused { cause: 10 });
+        return Err(CheckError::Refused {
+            cause: Cause::OtherClauses as u8,
+        });
     }
     Ok(())
 }

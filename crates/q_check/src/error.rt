@@ -3,12 +3,30 @@ ghost use Rattle.std.specs.Prelude.{◌≡◌};
 use q_logic::NoMemory as MemoryMissing;
 use std::alloc::AllocError;
 
-/// Why a step or an output is not taken.
-///
-/// The causes are: 2 for a variable that is not in the prefix, 3 for a clause that is not there, 4 for a
-/// clause that is neither implied nor has its first literal as a pivot, 5 for a literal that may not be
-/// dropped, 6 for a fresh variable in the wrong place, 7 for a removed variable that occurs, 8 for too
-/// many clauses or literals; at the end 9 for blocks and 10 for clauses that differ.
+/// Why a step or an output is refused, by its number in lines and documents.
+#[derive(Clone, Copy, Debug, PartialEq, Eq)]
+pub enum Cause {
+    /// A variable that is not in the prefix.
+    Unbound = 2,
+    /// A clause that is not there.
+    NoClause = 3,
+    /// A clause that is neither implied nor has its first literal as a pivot.
+    Unwarranted = 4,
+    /// A literal that may not be dropped.
+    NotDroppable = 5,
+    /// A fresh variable in the wrong place.
+    BadFresh = 6,
+    /// A removed variable that occurs.
+    Occurs = 7,
+    /// Too many clauses or literals.
+    Limit = 8,
+    /// At the end, other blocks than the output's.
+    OtherBlocks = 9,
+    /// At the end, other clauses than the output's.
+    OtherClauses = 10,
+}
+
+/// Why a step or an output is not taken; a refusal with the number of its `Cause`.
 #[derive(Clone, Copy, Debug, PartialEq, Eq, thiserror::Error)]
 pub enum CheckError {
     #[error("refused with cause {cause}")]

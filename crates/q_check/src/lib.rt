@@ -15,5 +15,5 @@ mod seats;
 mod undo;
 
 pub use checker::{Checker, Verified};
-pub use error::CheckError;
+pub use error::{Cause, CheckError};
 pub use undo::{Clauses, Undo, Undos};

@@ -13,5 +13,7 @@ mod sides;
 mod target;
 
 pub use eliminate::{applies, find, find_with, try_one, try_with};
+pub use q_kernel::Taken;
+pub use q_logic::Bounds;
 pub use search::Search;
 pub use target::Target;

@@ -16,5 +16,7 @@ mod target;
 
 pub use equiv::{applies, find, find_with, try_one, try_with};
 pub use proposing::candidates;
+pub use q_kernel::Taken;
+pub use q_logic::Bounds;
 pub use search::Search;
 pub use target::Target;

@@ -15,5 +15,7 @@ mod testing;
 
 pub use expand::{try_one, try_with};
 pub use finding::{applies, find, find_with};
+pub use q_kernel::Taken;
+pub use q_logic::Bounds;
 pub use search::Search;
 pub use target::Target;

@@ -16,4 +16,5 @@ mod variables;
 pub use journal::Touch;
 pub use kernel::Kernel;
 pub use need::Need;
+pub use q_logic::Bounds;
 pub use taken::Taken;

@@ -22,6 +22,8 @@ mod tree;
 mod trees;
 mod unit;
 
+pub use q_kernel::Taken;
+pub use q_logic::Bounds;
 pub use reduce::{applies, find, find_with, try_one, try_with};
 pub use search::Search;
 pub use target::Target;

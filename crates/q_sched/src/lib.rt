@@ -17,6 +17,8 @@ pub use drive::Drive;
 pub use fewest::FewestFirst;
 pub use guide::{Guide, Proposal};
 pub use moves::{Move, RULES, Rule};
+pub use q_kernel::Taken;
+pub use q_logic::Bounds;
 pub use searches::Searches;
 pub use shortest::ShortestFirst;
 pub use turns::Turn;

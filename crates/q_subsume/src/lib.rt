@@ -9,6 +9,8 @@ mod subsume;
 mod subsumed;
 mod target;
 
+pub use q_kernel::Taken;
+pub use q_logic::Bounds;
 pub use search::Search;
 pub use subsume::{applies, find, find_with, try_one, try_with};
 pub use target::Target;
