@@ -173,24 +173,38 @@ pub fn lit(number: i64) -> Result<Lit, Trouble> {
 impl fmt::Display for Aim {
     fn fmt<W: fmt::Write>(&self, f: &mut fmt::Formatter<W>) -> fmt::Result {
         match &self.target {
-            Move::Reduce(Reduce::Tautology { c }) => write!(f, "tautology {c}"),
-            Move::Reduce(Reduce::Unit { c }) => write!(f, "unit {c}"),
-            Move::Reduce(Reduce::Cut { c, l }) => write!(f, "cut {c} {}", l.number()),
-            Move::Reduce(Reduce::Pure { l }) => write!(f, "pure {}", l.number()),
-            Move::Subsume(Subsume::Subsumed { c, d }) => write!(f, "subsumed {c} {d}"),
-            Move::Subsume(Subsume::Strengthen { c, d, l }) => {
-                write!(f, "strengthen {c} {d} {}", l.number())
-            }
+            Move::Reduce(target) => show_reduce(f, target),
+            Move::Subsume(target) => show_subsume(f, target),
             Move::Merge(Merge::Merge { keep, gone }) => {
                 write!(f, "merge {} {}", keep.number(), gone.number())
             }
-            Move::Block(Block::Blocked { c, l }) => write!(f, "blocked {c} {}", l.number()),
-            Move::Block(Block::BlockedForall { c, l }) => {
-                write!(f, "blocked-forall {c} {}", l.number())
-            }
-            Move::Block(Block::Cover { c }) => write!(f, "cover {c}"),
+            Move::Block(target) => show_block(f, target),
             Move::Eliminate(Eliminate::Eliminate { x }) => write!(f, "eliminate {x}"),
             Move::Expand(Expand::Expand { u }) => write!(f, "expand {u}"),
         }
+    }
+}
+
+fn show_reduce<W: fmt::Write>(f: &mut fmt::Formatter<W>, target: &Reduce) -> fmt::Result {
+    match target {
+        Reduce::Tautology { c } => write!(f, "tautology {c}"),
+        Reduce::Unit { c } => write!(f, "unit {c}"),
+        Reduce::Cut { c, l } => write!(f, "cut {c} {}", l.number()),
+        Reduce::Pure { l } => write!(f, "pure {}", l.number()),
+    }
+}
+
+fn show_subsume<W: fmt::Write>(f: &mut fmt::Formatter<W>, target: &Subsume) -> fmt::Result {
+    match target {
+        Subsume::Subsumed { c, d } => write!(f, "subsumed {c} {d}"),
+        Subsume::Strengthen { c, d, l } => write!(f, "strengthen {c} {d} {}", l.number()),
+    }
+}
+
+fn show_block<W: fmt::Write>(f: &mut fmt::Formatter<W>, target: &Block) -> fmt::Result {
+    match target {
+        Block::Blocked { c, l } => write!(f, "blocked {c} {}", l.number()),
+        Block::BlockedForall { c, l } => write!(f, "blocked-forall {c} {}", l.number()),
+        Block::Cover { c } => write!(f, "cover {c}"),
     }
 }

@@ -36,17 +36,16 @@ pub fn answers(
 {
     let steps = steps_of(alloc, log)?;
     let mut checker = begin(alloc, formula, limits)?;
-    let text = answers_to(alloc, &mut checker, &steps)?;
-    Ok(text.into_bytes())
+    answers_to(alloc, &mut checker, &steps)
 }
 
-fn answers_to(alloc: Global, checker: &mut Checker, steps: &[Step]) -> Result<String, Trouble> {
+fn answers_to(alloc: Global, checker: &mut Checker, steps: &[Step]) -> Result<Vec<u8>, Trouble> {
     let mut text = String::new(alloc);
     for step in steps {
         let answer = attempt(checker, step);
         push_answer(&mut text, answer)?;
     }
-    Ok(text)
+    Ok(text.into_bytes())
 }
 
 fn begin(alloc: Global, formula: &Formula, limits: Limits) -> Result<Checker, Trouble>

@@ -1,7 +1,7 @@
 // What propagation shows over the clauses of a formula.
 use crate::aims::lit;
 use crate::trouble::Trouble;
-use q_logic::{Formula, Lit};
+use q_logic::{Formula, Lit, NoMemory};
 use q_prop::Store;
 use std::alloc::Global;
 
@@ -10,8 +10,7 @@ pub fn implied(alloc: Global, formula: &Formula, asked: &str) -> Result<String, 
     let (lits, skip) = parts_of(asked);
     let lits = lits_of(alloc, lits)?;
     let mut store = store_of(alloc, formula)?;
-    let answer = store.implied(&lits, skip)?;
-    Ok(String::from_str(alloc, told(answer))?)
+    told(alloc, store.implied(&lits, skip))
 }
 
 fn parts_of(asked: &str) -> (&str, Option<usize>) {
@@ -21,8 +20,9 @@ fn parts_of(asked: &str) -> (&str, Option<usize>) {
     }
 }
 
-fn told(answer: bool) -> &'static str {
-    if answer { "yes" } else { "no" }
+fn told(alloc: Global, answer: Result<bool, NoMemory>) -> Result<String, Trouble> {
+    let word = if answer? { "yes" } else { "no" };
+    Ok(String::from_str(alloc, word)?)
 }
 
 fn store_of(alloc: Global, formula: &Formula) -> Result<Store, Trouble> {
