@@ -4,6 +4,7 @@ pub mod RowLemmas
 pub mod WatchLemmas
 pub mod WorkingLemmas
 pub mod Reaching
+pub mod Advancing
 pub mod Settling
 pub mod Rooting
 pub mod Taking

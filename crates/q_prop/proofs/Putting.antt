@@ -12,7 +12,7 @@ use Rattle.q_prop.specs.Watches.{IsWatched, AllWatched, IsShort}
 use Rattle.q_prop.specs.declared.rows.Entry.{Entry}
 use Rattle.q_prop.specs.Rows.{row_of, HasEntry, entry_of, IsPushed}
 use Rattle.q_prop.proofs.RowLemmas.{HasEntry-pushed, IsFrom-end}
-use Rattle.q_prop.specs.Working.{IsCovered, AreListed, AreTrue, IsRooted, AreStanding}
+use Rattle.q_prop.specs.Working.{AreInRows, AreListed, AreTrue, IsRooted, AreStanding}
 use Rattle.q_prop.proofs.SlotLemmas.{filled-in, filled-cases, slice_get-push_cases, take-front, Contains-slice_get}
 use Rattle.q_prop.proofs.WatchLemmas.{IsWithin, IsWatched-none, IsWatched-more, IsWatched-less}
 use Rattle.q_prop.proofs.Settling.{derived_over, derived_append, AreTrue-more}
@@ -20,7 +20,7 @@ use Rattle.q_prop.proofs.Rooting.{covered_pushed}
 use Rattle.q_prop.proofs.Placing.{placed-cases, placed-longer, placed-within, placed-same_length, put-placed, put-vacant, put-cases, put-here, put-other}
 
 -- the new pair stands in its two rows
-pub covered_put : (s : Slots) (n : ℕ) (d : Clause) (s' : Slots) → IsPut s n d s' → (pairs pairs' : List (Option Pair)) (rows rows1 rows2 : List (List Entry)) (p : Pair) → Contains d p.first → Contains d p.second → IsPlaced pairs n (Some p) pairs' → IsPushed rows rows1 p.first (entry_of n p.second) → IsPushed rows1 rows2 p.second (entry_of n p.first) → IsCovered s pairs rows → IsCovered s' pairs' rows2
+pub covered_put : (s : Slots) (n : ℕ) (d : Clause) (s' : Slots) → IsPut s n d s' → (pairs pairs' : List (Option Pair)) (rows rows1 rows2 : List (List Entry)) (p : Pair) → Contains d p.first → Contains d p.second → IsPlaced pairs n (Some p) pairs' → IsPushed rows rows1 p.first (entry_of n p.second) → IsPushed rows1 rows2 p.second (entry_of n p.first) → AreInRows s pairs rows → AreInRows s' pairs' rows2
 covered_put s n d s' put pairs pairs' rows rows1 rows2 p first_in second_in placed one two covered' b c q h e =
     elim (placed-cases pairs n (Some p) pairs' placed b (Some q) e) [
       | inl f ↦
@@ -35,7 +35,7 @@ covered_put s n d s' put pairs pairs' rows rows1 rows2 p first_in second_in plac
     ]
 
 -- a clause without a pair needs no entry
-pub covered_short : (s : Slots) (n : ℕ) (d : Clause) (s' : Slots) → IsPut s n d s' → (pairs pairs' : List (Option Pair)) (rows : List (List Entry)) → IsPlaced pairs n None pairs' → IsCovered s pairs rows → IsCovered s' pairs' rows
+pub covered_short : (s : Slots) (n : ℕ) (d : Clause) (s' : Slots) → IsPut s n d s' → (pairs pairs' : List (Option Pair)) (rows : List (List Entry)) → IsPlaced pairs n None pairs' → AreInRows s pairs rows → AreInRows s' pairs' rows
 covered_short s n d s' put pairs pairs' rows placed covered' b c q h e =
     elim (placed-cases pairs n None pairs' placed b (Some q) e) [
       | inl f ↦

@@ -12,7 +12,7 @@ use Rattle.q_prop.specs.Watches.{IsWatched, AllWatched}
 use Rattle.q_prop.specs.Slots.{Slots, Holds, filled, without}
 use Rattle.q_prop.specs.declared.rows.Entry.{Entry}
 use Rattle.q_prop.specs.Rows.{row_of, HasEntry, entry_of}
-use Rattle.q_prop.specs.Working.{IsWorking, IsGrown, IsNew, AreNew, IsReached, IsReady, IsCovered, IsKept, AreListed, AreTrue}
+use Rattle.q_prop.specs.Working.{IsWorking, IsGrown, IsNew, AreNew, IsReached, IsReady, AreInRows, IsKept, AreListed, AreTrue}
 use Rattle.q_prop.proofs.WatchLemmas.{IsWithin, IsWatched-apart, IsWatched-settled, IsSingle-settled}
 use Rattle.q_prop.proofs.SlotLemmas.{take-slice_get, slice_get-in, slice_get-there, without-le, filled-cases, slice_get-Contains}
 
@@ -90,7 +90,7 @@ IsKept-trans s known more a b c w k l = record {
 pub kept_watched : (s : Slots) (few known : List Literal) (a b : List (Option Pair)) → IsWithin few known → IsKept s known a b → AllWatched few few s a → AllWatched few few s b
 kept_watched s few known a b w k all n c p e f = k.floors few w n c e (λ q g. all n c q e g) p f
 
-start_watch : (t : Slots) (head : ℕ) (lit : Literal) (known : List Literal) (pairs : List (Option Pair)) (rows : List (List Entry)) → IsCovered t pairs rows → slice_get known head ≡ Some lit → (at' : ℕ) (c : Clause) (p : Pair) → Holds t at' c → slice_get pairs at' ≡ Some (Some p) → IsWatched (take head known) known c p → IsWatched (take (suc head) known) known c p ⊎ (HasEntry (row_of rows (negation lit)) 0 at' c × IsWatched (take head known) known c p)
+start_watch : (t : Slots) (head : ℕ) (lit : Literal) (known : List Literal) (pairs : List (Option Pair)) (rows : List (List Entry)) → AreInRows t pairs rows → slice_get known head ≡ Some lit → (at' : ℕ) (c : Clause) (p : Pair) → Holds t at' c → slice_get pairs at' ≡ Some (Some p) → IsWatched (take head known) known c p → IsWatched (take (suc head) known) known c p ⊎ (HasEntry (row_of rows (negation lit)) 0 at' c × IsWatched (take head known) known c p)
 start_watch t head lit known pairs rows covered' h at' c p d e g =
     let covered = covered' at' c p d e in
     elim (Literal-cases p.first (negation lit)) [
@@ -101,7 +101,7 @@ start_watch t head lit known pairs rows covered' h at' c p d e g =
       ]
     ]
 
-pub IsReady-start : (t : Slots) (skip : Option ℕ) (head : ℕ) (lit : Literal) (known : List Literal) (pairs : List (Option Pair)) (rows : List (List Entry)) → IsReady (without t skip) head known pairs → IsCovered t pairs rows → slice_get known head ≡ Some lit → IsWorking (without t skip) head lit 0 known pairs rows
+pub IsReady-start : (t : Slots) (skip : Option ℕ) (head : ℕ) (lit : Literal) (known : List Literal) (pairs : List (Option Pair)) (rows : List (List Entry)) → IsReady (without t skip) head known pairs → AreInRows t pairs rows → slice_get known head ≡ Some lit → IsWorking (without t skip) head lit 0 known pairs rows
 IsReady-start t skip head lit known pairs rows r covered' h = record {
   is_head = h;
   consistent = r.consistent;

@@ -1,5 +1,5 @@
 -- The root between calls: what a call, a deletion and an addition leave of it.
-use Rattle.std.proofs.Common.{◌≡◌, ◌≢◌, ◌↔◌, ℕ, List, [], ◌∷◌, ◌++◌, Option, None, Some, Contains, set, take, length, refl, sym, ◌∙◌, inl, inr, arith, append_assoc, take_all, not-suc-le-zero, subst}
+use Rattle.std.proofs.Common.{◌≡◌, ◌≢◌, ◌↔◌, ℕ, List, [], ◌∷◌, ◌++◌, Option, None, Some, Contains, set, take, length, refl, sym, ◌∙◌, inl, inr, arith, append_assoc, take_all, not-suc-le-zero}
 use Rattle.std.proofs.lemmas.List.Elements.{Contains-append_left}
 use Rattle.std.proofs.lemmas.List.{length-set}
 use Rattle.q_logic.specs.Literals.{Literal, negation}
@@ -15,7 +15,7 @@ use Rattle.q_prop.specs.declared.rows.Entry.{Entry}
 use Rattle.q_prop.specs.Rows.{IsPushed}
 use Rattle.q_prop.proofs.RowLemmas.{HasEntry-pushed}
 use Rattle.q_prop.specs.Lists.{AreTaken}
-use Rattle.q_prop.specs.Working.{IsCovered, IsKept, AreListed, IsRooted, AreStanding}
+use Rattle.q_prop.specs.Working.{AreInRows, IsKept, AreListed, IsRooted, AreStanding}
 use Rattle.q_prop.proofs.SlotLemmas.{filled-in, filled-cases, without-le, without-here, without-other, slice_get-set_other, slice_get-set_here}
 use Rattle.q_prop.proofs.WatchLemmas.{IsWithin, IsWatched-none}
 use Rattle.q_prop.proofs.Reaching.{kept_watched}
@@ -206,13 +206,13 @@ rooted_cleared s at' pairs singles done root head r = record {
     none_pair p e = cc
 
 -- a row has grown
-pub covered_pushed : (t : Slots) (pairs : List (Option Pair)) (rows rows' : List (List Entry)) (l : Literal) (e : Entry) → IsPushed rows rows' l e → IsCovered t pairs rows → IsCovered t pairs rows'
+pub covered_pushed : (t : Slots) (pairs : List (Option Pair)) (rows rows' : List (List Entry)) (l : Literal) (e : Entry) → IsPushed rows rows' l e → AreInRows t pairs rows → AreInRows t pairs rows'
 covered_pushed t pairs rows rows' l e p covered' b c q h g =
     let old = covered' b c q h g in
     (HasEntry-pushed rows rows' l e p q.first 0 b c old.0, HasEntry-pushed rows rows' l e p q.second 0 b c old.1)
 
 -- an empty slot needs no entry
-pub covered_cleared : (t : Slots) (n : ℕ) (pairs : List (Option Pair)) (rows : List (List Entry)) → IsCovered t pairs rows → IsCovered (without t (Some n)) (set pairs n None) rows
+pub covered_cleared : (t : Slots) (n : ℕ) (pairs : List (Option Pair)) (rows : List (List Entry)) → AreInRows t pairs rows → AreInRows (without t (Some n)) (set pairs n None) rows
 covered_cleared t n pairs rows covered' b c q h g = elim (ℕ-cases b n) [
   | inl s ↦ absurd (without-here t n c (rw s at h))
   | inr d ↦ covered' b c q (without-le t (Some n) b c h) (sym (slice_get-set_other pairs n b None d) ∙ g)

@@ -17,7 +17,7 @@ use Rattle.q_prop.specs.Watches.{IsShort, IsSingle}
 use Rattle.q_prop.specs.Working.{IsNew, AreNew, IsReached, IsReady, IsKept, AreListed, AreTrue, IsLonger, Clashes, IsAssumed}
 use Rattle.q_prop.proofs.SlotLemmas.{filled-in, same_slice_get, take-front}
 use Rattle.q_prop.proofs.WatchLemmas.{IsWithin, IsWatched-more}
-use Rattle.q_prop.proofs.Reaching.{IsReached-within, IsKept-refl, IsKept-trans, settled_store}
+use Rattle.q_prop.proofs.Reaching.{IsReached-within, settled_store}
 
 module _ (s : Slots) (at' : ℕ) (c : Clause) (l : Literal) (known : List Literal) (holds : Holds s at' c) (short : IsShort c) (in' : Contains c l) where
   pub single_falsified : Contains known (negation l) → HasFalsified (filled s) known
@@ -274,6 +274,9 @@ longer_push old known l h = (h.0 ++ l ∷ [], ap (λ (ks : List Literal). ks ++ 
 pub reached_longer : (x : Matrix) (old new : List Literal) → IsReached x old new → IsLonger old new
 reached_longer x old new r = (r.added, r.is)
 
+pub longer_trans : (a b c : List Literal) → IsLonger a b → IsLonger b c → IsLonger a c
+longer_trans a b c x y = (x.0 ++ y.0, y.1 ∙ ap (λ (ks : List Literal). ks ++ y.0) x.1 ∙ append_assoc a x.0 y.0)
+
 pub longer_within : (old new : List Literal) → IsLonger old new → IsWithin old new
 longer_within old new h l m = rw h.1 (Contains-append_left old h.0 l m)
 
@@ -285,9 +288,6 @@ ready_longer s head old new pairs r h long c = record {
       let same : take head new ≡ take head old = rw long.1 (take-front old long.0 head h) in
       rw same (IsWatched-more (take head old) old new d p (longer_within old new long) (r.watched b d p e f));
 }
-
-pub IsKept-fewer : (s : Slots) (few more : List Literal) (a b : List (Option Pair)) → IsWithin few more → IsKept s more a b → IsKept s few a b
-IsKept-fewer s few more a b w k = IsKept-trans s few more a a b w (IsKept-refl s few a) k
 
 pub finish : {E A B I : Type 0} (r : Result Bool E) → IfOk r (λ b. MatchBool b A B) → (A → I) → (B → I → ⊥) → IfOk r (λ b. IsTrue b ↔ I)
 finish (Ok true) a f g = (λ _. f a, λ _. refl)

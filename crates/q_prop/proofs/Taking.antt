@@ -1,5 +1,5 @@
 -- A root literal that hangs on one clause alone is taken off, and put back.
-use Rattle.std.proofs.Common.{◌≡◌, ◌≢◌, ◌↔◌, ℕ, Bool, IsTrue, false, true≢false, List, [], ◌∷◌, ◌++◌, Option, None, Some, Contains, take, set, slice_get, length, min, sym, ◌∙◌, ap, inl, inr, arith, append_assoc, take_all}
+use Rattle.std.proofs.Common.{◌≡◌, ◌≢◌, ◌↔◌, ℕ, Bool, IsTrue, false, true≢false, List, [], ◌∷◌, ◌++◌, Option, None, Some, Contains, take, set, length, min, sym, ◌∙◌, ap, inl, inr, arith, append_assoc, take_all}
 use Rattle.std.proofs.Math.Nat.{min-eq_left, min-eq_right}
 use Rattle.std.proofs.lemmas.List.Elements.{Contains-append_left, Contains-push, Contains-push_cases}
 use Rattle.q_logic.specs.Literals.{Literal, negation}

@@ -11,10 +11,10 @@ use Rattle.q_prop.specs.declared.watches.Pair.{Pair}
 use Rattle.q_prop.specs.Slots.{Slots, Holds, filled}
 use Rattle.q_prop.specs.Watches.{IsWatched}
 use Rattle.q_prop.specs.declared.rows.Entry.{Entry}
-use Rattle.q_prop.specs.Rows.{row_of, HasEntry, entry_of, IsPushed, IsRemoved, AreSameRows}
-use Rattle.q_prop.specs.Working.{IsCovered, IsWorking, IsOther, IsKept, WatchesNot}
+use Rattle.q_prop.specs.Rows.{row_of, HasEntry, entry_of, IsPushed, IsReplaced, IsRemoved, AreSameRows}
+use Rattle.q_prop.specs.Working.{AreInRows, IsWorking, IsOther, IsKept, WatchesNot}
 use Rattle.q_prop.proofs.SlotLemmas.{slice_get-in, slice_get-append, take-slice_get, take-front, same_slice_get, slice_get-set_same, slice_get-set_other, Contains-slice_get, filled-in}
-use Rattle.q_prop.proofs.RowLemmas.{HasEntry-pushed, HasEntry-removed, HasEntry-same, IsFrom-end}
+use Rattle.q_prop.proofs.RowLemmas.{HasEntry-pushed, HasEntry-blocker, HasEntry-removed, HasEntry-same, IsFrom-end}
 use Rattle.q_prop.proofs.WatchLemmas.{IsWithin, IsWatched-more, IsWatched-apart, IsWatched-true, IsWatched-move, IsWatched-less, IsWatched-floor, pair_of, IsOther-to, IsOther-from}
 use Rattle.q_prop.proofs.Chains.{no_opposites-push}
 
@@ -36,6 +36,10 @@ IsPast-removed old new l i e here r b c n f =
       | inl q ↦ absurd (n (ap (λ (x : Entry). x.slot) (same_slice_get (row_of old l) i (entry_of b f.0) e q here)))
       | inr g ↦ (f.0, f.1, g)
     ]
+
+pub IsPast-blocker : (rows rows' : List (List Entry)) (l : Literal) (i : ℕ) (e : Entry) (b : Literal) → IsReplaced rows rows' l i (entry_of e.slot b) → slice_get (row_of rows l) i ≡ Some e → IsPast (row_of rows l) i e.slot (row_of rows' l) (i + 1)
+IsPast-blocker rows rows' l i e b r here n c d f =
+    HasEntry-blocker rows rows' l i e b r here l (i + 1) n c (λ s. absurd (d s)) (IsPast-next (row_of rows l) i e here n c d f)
 
 pub IsWorking-next : (s : Slots) (head : ℕ) (lit : Literal) (i k at' : ℕ) (known more : List Literal) (pairs pairs' : List (Option Pair)) (rows rows' : List (List Entry))
     → IsWorking s head lit i known pairs rows
@@ -108,6 +112,15 @@ module _ (s : Slots) (head : ℕ) (lit : Literal) (i at' : ℕ) (blocker' : Lite
   IsWorking-empty none =
       IsWorking-next s head lit i (i + 1) at' known known pairs pairs rows rows w (IsPast-next (row_of rows (negation lit)) i (entry_of at' blocker') here) (λ l h. h) refl refl w.is_head w.consistent (λ b m. refl) (λ c p e f. absurd (none c e))
 
+  -- a literal of the clause is true, and the blocker now
+  pub IsWorking-true : (b : Literal) (rows' : List (List Entry)) → IsReplaced rows rows' (negation lit) i (entry_of at' b) → ((c : Clause) → Holds s at' c → Contains c b) → Contains known b → IsWorking s head lit (i + 1) known pairs rows'
+  IsWorking-true b rows' r in' t =
+      IsWorking-next s head lit i (i + 1) at' known known pairs pairs rows rows' w (IsPast-blocker rows rows' (negation lit) i (entry_of at' blocker') b r here) (λ l h. h) refl refl w.is_head w.consistent (λ n m. refl)
+      (λ c p e f. elim (w.watched at' c p e f) [
+        | inl d ↦ d
+        | inr x ↦ IsWatched-true (take head known) (take (suc head) known) known c p (b, in' c e, t) x.1
+      ])
+
   module _ (p : Pair) (o : Literal) (is_pair : slice_get pairs at' ≡ Some (Some p)) (is_other : IsOther p (negation lit) (Some o)) where
     pub watch_before : (c : Clause) → Holds s at' c → IsWatched (take head known) known c (pair_of (negation lit) o)
     watch_before c e =
@@ -119,14 +132,6 @@ module _ (s : Slots) (head : ℕ) (lit : Literal) (i at' : ℕ) (blocker' : Lite
 
     the_pair : (q : Pair) → slice_get pairs at' ≡ Some (Some q) → p ≡ q
     the_pair q f = let g : Some p ≡ Some q = same_slice_get pairs at' (Some p) (Some q) is_pair f in cc
-
-    -- the other literal is true
-    pub IsWorking-keep : Contains known o → IsWorking s head lit (i + 1) known pairs rows
-    IsWorking-keep t =
-        IsWorking-next s head lit i (i + 1) at' known known pairs pairs rows rows w (IsPast-next (row_of rows (negation lit)) i (entry_of at' blocker') here) (λ l h. h) refl refl w.is_head w.consistent (λ b m. refl)
-        (λ c q e f. rw (← the_pair q f, done_is)
-        (IsOther-from (take head known ++ lit ∷ []) known c p (negation lit) o is_other
-        (IsWatched-true (take head known) (take head known ++ lit ∷ []) known c (pair_of (negation lit) o) (o, (watch_before c e).second_in, t) (watch_before c e))))
 
     -- the other literal is forced
     pub IsForced-other : (c : Clause) → Holds s at' c → IsUnit known c o → IsForced (filled s) known o
@@ -175,7 +180,7 @@ module _ (s : Slots) (head : ℕ) (lit : Literal) (i at' : ℕ) (blocker' : Lite
 
       module _ (rows'' : List (List Entry)) (removed : IsRemoved rows' rows'' (negation lit) i) where
         -- the new pair is covered; t is the store with all its slots
-        pub covered_move : (t : Slots) → Holds t at' c → IsCovered t pairs rows → IsCovered t (set pairs at' (Some (pair_of l o))) rows''
+        pub covered_move : (t : Slots) → Holds t at' c → AreInRows t pairs rows → AreInRows t (set pairs at' (Some (pair_of l o))) rows''
         covered_move t there covered' b d q h e =
             elim (ℕ-cases b at') [
               | inl m ↦
@@ -212,11 +217,8 @@ module _ (s : Slots) (head : ℕ) (lit : Literal) (i at' : ℕ) (blocker' : Lite
             let new : pair_of l o ≡ q = let h : Some (pair_of l o) ≡ Some q = same_slice_get (set pairs at' (Some (pair_of l o))) at' (Some (pair_of l o)) (Some q) (slice_get-set_same pairs at' (Some p) (Some (pair_of l o)) is_pair) g in cc in
             rw (← same, ← new, done_is) (IsWatched-move (take head known) known lit c (pair_of (negation lit) o) done_known l in' differ' open' refl (watch_before c holds)))
 
-        shorter_move : length (row_of rows'' (negation lit)) + 1 ≡ length (row_of rows (negation lit))
+        pub shorter_move : length (row_of rows'' (negation lit)) + 1 ≡ length (row_of rows (negation lit))
         shorter_move = rw row_move at removed.shorter
-
-        pub shorter : length (row_of rows'' (negation lit)) + i + 1 ≡ length (row_of rows (negation lit)) + i
-        shorter = let h = shorter_move in omega (arith, h)
 
       -- what was watched under few literals still is; t is the store with all its slots
       pub IsKept-move : (t : Slots) → Holds t at' c → IsKept t known pairs (set pairs at' (Some (pair_of l o)))
@@ -240,7 +242,7 @@ module _ (s : Slots) (head : ℕ) (lit : Literal) (i at' : ℕ) (blocker' : Lite
       }
 
 -- an entry goes whose clause doesn't watch the literal
-pub covered_stale : (t : Slots) (pairs : List (Option Pair)) (rows rows' : List (List Entry)) (f : Literal) (i : ℕ) (e : Entry) → slice_get (row_of rows f) i ≡ Some e → IsCovered t pairs rows → WatchesNot pairs e.slot f → IsRemoved rows rows' f i → IsCovered t pairs rows'
+pub covered_stale : (t : Slots) (pairs : List (Option Pair)) (rows rows' : List (List Entry)) (f : Literal) (i : ℕ) (e : Entry) → slice_get (row_of rows f) i ≡ Some e → AreInRows t pairs rows → WatchesNot pairs e.slot f → IsRemoved rows rows' f i → AreInRows t pairs rows'
 covered_stale t pairs rows rows' f i e here covered' n r b c q h g =
     let old = covered' b c q h g in
     elim (ℕ-cases b e.slot) [
@@ -253,7 +255,16 @@ covered_stale t pairs rows rows' f i e here covered' n r b c q h g =
       )
     ]
 
-pub covered_same : (t : Slots) (pairs : List (Option Pair)) (rows rows' : List (List Entry)) → AreSameRows rows rows' → IsCovered t pairs rows → IsCovered t pairs rows'
+-- an entry has another blocker, of its slot's clause
+pub covered_blocker : (t : Slots) (pairs : List (Option Pair)) (rows rows' : List (List Entry)) (f : Literal) (i : ℕ) (e : Entry) (b : Literal) → slice_get (row_of rows f) i ≡ Some e → IsReplaced rows rows' f i (entry_of e.slot b) → ((c : Clause) → Holds t e.slot c → Contains c b) → AreInRows t pairs rows → AreInRows t pairs rows'
+covered_blocker t pairs rows rows' f i e b here r in' covered' n c q h g =
+    let old = covered' n c q h g in
+    let has : n ≡ e.slot → Contains c b = λ s. in' c (rw s at h) in (
+      HasEntry-blocker rows rows' f i e b r here q.first 0 n c has old.0,
+      HasEntry-blocker rows rows' f i e b r here q.second 0 n c has old.1,
+    )
+
+pub covered_same : (t : Slots) (pairs : List (Option Pair)) (rows rows' : List (List Entry)) → AreSameRows rows rows' → AreInRows t pairs rows → AreInRows t pairs rows'
 covered_same t pairs rows rows' same covered' b c q h g =
     let old = covered' b c q h g in
     (HasEntry-same rows rows' same q.first 0 b c old.0, HasEntry-same rows rows' same q.second 0 b c old.1)

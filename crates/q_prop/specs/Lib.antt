@@ -6,8 +6,10 @@ pub mod Lists
 pub mod Spots
 pub mod Holders
 pub mod Buckets
+pub mod Indexes
 pub mod Watches
 pub mod Working
+pub mod Watched
 pub mod Chains
 pub mod Search
 pub mod Roles

@@ -11,8 +11,8 @@ use Rattle.q_prop.specs.declared.rows.Entry.{Entry}
 use Rattle.q_prop.specs.Rows.{row_of, HasEntry}
 
 -- each clause with a pair stands in the rows of its pair's literals
-abbrev pub IsCovered : Slots → List (Option Pair) → List (List Entry) → Type 0
-IsCovered s pairs rows = (at' : ℕ) (c : Clause) (p : Pair) → Holds s at' c → slice_get pairs at' ≡ Some (Some p) → HasEntry (row_of rows p.first) 0 at' c × HasEntry (row_of rows p.second) 0 at' c
+abbrev pub AreInRows : Slots → List (Option Pair) → List (List Entry) → Type 0
+AreInRows s pairs rows = (at' : ℕ) (c : Clause) (p : Pair) → Holds s at' c → slice_get pairs at' ≡ Some (Some p) → HasEntry (row_of rows p.first) 0 at' c × HasEntry (row_of rows p.second) 0 at' c
 
 -- each clause is watched with the literal worked off, or stands in the rest of the row
 pub record IsWorking (s : Slots) (head : ℕ) (lit : Literal) (i : ℕ) (known : List Literal) (pairs : List (Option Pair)) (rows : List (List Entry)) : Type 0 where

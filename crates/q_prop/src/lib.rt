@@ -10,10 +10,12 @@ mod places;
 mod propagation;
 mod propagator;
 mod roles;
+mod root;
 mod rows;
 mod spots;
 mod store;
 mod trail;
+mod watched;
 mod watches;
 
 pub use store::Store;

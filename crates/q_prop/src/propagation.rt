@@ -1,4 +1,4 @@
-ghost use Rattle.std.specs.Prelude.{◌≡◌, ◌↔◌, ◌<◌, ◌≤◌, ◌+◌, ◌-◌, [], length, None, Some, Contains, IsTrue, ℕ, Option, false, MatchOption, MatchBool, IfOk, OnOk};
+ghost use Rattle.std.specs.Prelude.{◌≡◌, ◌↔◌, ◌<◌, ◌≤◌, ◌+◌, [], length, None, Some, Contains, IsTrue, ℕ, MatchBool, IfOk, OnOk};
 ghost use Rattle.q_logic.specs.Formulas.{Clause};
 ghost use Rattle.q_logic.specs.Literals.{negation};
 ghost use Rattle.q_prop.specs.Chains.{HasFalsified, HasOpposites, IsDerived};
@@ -6,141 +6,127 @@ ghost use Rattle.q_logic.specs.Propagation.{Implied};
 ghost use Rattle.q_prop.specs.Roles.{IsAlone};
 ghost use Rattle.q_prop.specs.Rows.{row_of};
 ghost use Rattle.q_prop.specs.Slots.{filled, without, Holds};
+ghost use Rattle.q_prop.specs.Watched.{IsCovered, IsWorkingAt, IsReadyAt, IsFalsifiedIn, IsRootOf, IsMoved, IsAdvanced, IsTurn};
 ghost use Rattle.q_prop.specs.Watches.{IsShort, AllWatched, IsSingle};
-ghost use Rattle.q_prop.specs.Working.{IsWorking, IsGrown, IsReached, IsReady, IsCovered, IsKept, AreListed, IsRooted, AreTrue, IsLonger, Clashes, IsAssumed};
+ghost use Rattle.q_prop.specs.Working.{IsGrown, IsReached, AreListed, IsRooted, AreTrue, IsLonger, Clashes, IsAssumed};
 
 use crate::clauses::{Clauses, clause_at};
-use crate::rows::{Entry, Rows};
 use crate::trail::Trail;
-use crate::watches::{Pair, Visit, visit_of, watch_at};
+use crate::watched::Watched;
+use crate::watches::{Pair, Turn, Visit, visit_of, watch_at};
 use q_logic::{Lit, NoMemory};
-use std::alloc::Global;
 
-// Visits the clause at a place of the row, and answers the place of the next, or None where the
-// clause is falsified.
-pub fn step(
-    alloc: Global,
-    clauses: &Clauses,
+// Visits the clause of an entry in the row of the negation of a literal.
+fn visit(
+    watched: &mut Watched,
     skip: Option<usize>,
-    pairs: &mut Vec<Option<Pair>>,
-    rows: &mut Rows,
     trail: &mut Trail,
     head: usize,
     lit: Lit,
     i: usize,
-    count: usize,
-) -> Result<Option<usize>, NoMemory>
-    requires working { IsWorking (without clauses.now skip) head lit i trail.old pairs.old.items rows.old }
-    requires covered { IsCovered clauses.now pairs.old.items rows.old }
-    requires i { i < count }
-    requires count { count ≡ length (row_of rows.old (negation lit)) }
-    ensures grown { IsGrown (filled (without clauses.now skip)) trail.old trail.new }
-    ensures kept { IsKept clauses.now trail.old pairs.old.items pairs.new.items }
-    ensures covered { IsCovered clauses.now pairs.new.items rows.new }
-    ensures going { IfOk result (λ next.
-        MatchOption next (HasFalsified (filled (without clauses.now skip)) trail.new) (λ k.
-        IsWorking (without clauses.now skip) head lit k trail.new pairs.new.items rows.new ×
-        (length (row_of rows.new (negation lit)) + i + 1 ≡ length
-        (row_of rows.old (negation lit)) + k)
-        × (k ≤ i + 1))) }
+) -> Result<Turn, NoMemory>
+    requires working { IsWorkingAt watched.old skip head lit i trail.old }
+    requires covered { IsCovered watched.old }
+    requires i { i < length (row_of watched.old.rows (negation lit)) }
+    ensures advanced { IsAdvanced skip watched.old trail.old watched.new trail.new }
+    ensures turn { IfOk result (IsTurn watched.old watched.new skip head lit i trail.new) }
 {
     let false_lit = lit.negated();
-    let entry = rows.at(false_lit, i);
-    if trail.has(entry.blocker) {
-        return Ok(Some(i + 1));
-    }
+    let entry = watched.rows.at(false_lit, i);
     let at = entry.slot as usize;
-    let Some(other) = watch_at(pairs, at, false_lit) else {
-        rows.remove(false_lit, i);
-        return Ok(Some(i));
+    if trail.has(entry.blocker) {
+        return Ok(Turn::Next);
+    }
+    if is_left_out(skip, at) {
+        return Ok(Turn::Next);
+    }
+    let Some(other) = watch_at(&watched.pairs, at, false_lit) else {
+        watched.rows.remove(false_lit, i);
+        return Ok(Turn::Again);
     };
     if trail.has(other) {
-        return Ok(Some(i + 1));
+        watched.rows.replace(false_lit, i, entry.slot, other);
+        return Ok(Turn::Next);
     }
-    let Some(clause) = clause_at(clauses, skip, at) else {
-        return Ok(Some(i + 1));
+    let Some(clause) = watched.clauses.get(at) else {
+        return Ok(Turn::Next);
     };
     match visit_of(clause, other, trail) {
+        Visit::True(l) => {
+            watched.rows.replace(false_lit, i, entry.slot, l);
+            Ok(Turn::Next)
+        }
         Visit::Move(l) => {
-            let moved = Entry {
-                slot: entry.slot,
-                blocker: other,
-            };
-            rows.push(alloc, l, moved)?;
-            rows.remove(false_lit, i);
-            pairs[at] = Some(Pair {
+            watched.rows.push(l, entry.slot, other)?;
+            watched.rows.remove(false_lit, i);
+            watched.pairs[at] = Some(Pair {
                 first: l,
                 second: other,
             });
-            Ok(Some(i))
+            Ok(Turn::Again)
         }
         Visit::Force => {
             trail.push(other)?;
-            Ok(Some(i + 1))
+            Ok(Turn::Next)
         }
-        Visit::Conflict => Ok(None),
+        Visit::Conflict => Ok(Turn::Conflict),
     }
 }
 
-// Visits each clause that watches the negation of the literal, and answers whether one is falsified.
-pub fn work_off(
-    alloc: Global,
-    clauses: &Clauses,
+fn is_left_out(skip: Option<usize>, at: usize) -> bool
+    ensures { IsTrue result ↔ (skip ≡ Some at) }
+{
+    match skip {
+        Some(left_out) => left_out == at,
+        None => false,
+    }
+}
+
+// Visits each clause that watches the negation of the literal at the head, and answers whether one is falsified.
+fn work_off(
+    watched: &mut Watched,
     skip: Option<usize>,
-    pairs: &mut Vec<Option<Pair>>,
-    rows: &mut Rows,
     trail: &mut Trail,
     head: usize,
     lit: Lit,
 ) -> Result<bool, NoMemory>
-    requires working { IsWorking (without clauses.now skip) head lit 0 trail.old pairs.old.items rows.old }
-    requires covered { IsCovered clauses.now pairs.old.items rows.old }
-    ensures reached { IsReached (filled (without clauses.now skip)) trail.old trail.new }
-    ensures kept { IsKept clauses.now trail.old pairs.old.items pairs.new.items }
-    ensures covered { IsCovered clauses.now pairs.new.items rows.new }
-    ensures going { IfOk result (λ conflict.
-        MatchBool conflict (HasFalsified (filled (without clauses.now skip)) trail.new)
-        (IsReady (without clauses.now skip) (head + 1) trail.new pairs.new.items)) }
+    requires working { IsWorkingAt watched.old skip head lit 0 trail.old }
+    requires covered { IsCovered watched.old }
+    ensures advanced { IsAdvanced skip watched.old trail.old watched.new trail.new }
+    ensures ends { IfOk result (λ conflict.
+        MatchBool conflict (IsFalsifiedIn watched.new skip trail.new)
+        (IsReadyAt watched.new skip (head + 1) trail.new)) }
 {
-    let false_lit = lit.negated();
     let mut i = 0;
-    while i < rows.count(false_lit) {
-        let count = rows.count(false_lit);
-        let Some(next) = step(
-            alloc, clauses, skip, pairs, rows, trail, head, lit, i, count,
-        )?
-        else {
-            return Ok(true);
-        };
-        i = next;
+    while i < watched.rows.count(lit.negated()) {
+        match visit(watched, skip, trail, head, lit, i)? {
+            Turn::Next => i += 1,
+            Turn::Again => {}
+            Turn::Conflict => return Ok(true),
+        }
     }
     Ok(false)
 }
 
-// Works off each literal from the head on, and answers whether a clause is falsified.
+/// Works off each literal from the head on, and answers whether a clause is falsified.
 pub fn propagate(
-    alloc: Global,
-    clauses: &Clauses,
+    watched: &mut Watched,
     skip: Option<usize>,
-    pairs: &mut Vec<Option<Pair>>,
-    rows: &mut Rows,
     trail: &mut Trail,
     from: usize,
 ) -> Result<bool, NoMemory>
     requires from { from ≤ length trail.old }
-    requires ready { IsReady (without clauses.now skip) from trail.old pairs.old.items }
-    requires covered { IsCovered clauses.now pairs.old.items rows.old }
-    ensures reached { IsReached (filled (without clauses.now skip)) trail.old trail.new }
-    ensures kept { IsKept clauses.now trail.old pairs.old.items pairs.new.items }
-    ensures covered { IsCovered clauses.now pairs.new.items rows.new }
+    requires ready { IsReadyAt watched.old skip from trail.old }
+    requires covered { IsCovered watched.old }
+    ensures advanced { IsAdvanced skip watched.old trail.old watched.new trail.new }
     ensures ends { IfOk result (λ conflict.
-        MatchBool conflict (HasFalsified (filled (without clauses.now skip)) trail.new)
-        (IsReady (without clauses.now skip) (length trail.new) trail.new pairs.new.items)) }
+        MatchBool conflict (IsFalsifiedIn watched.new skip trail.new)
+        (IsReadyAt watched.new skip (length trail.new) trail.new)) }
 {
     let mut head = from;
     while head < trail.len() {
         let lit = trail.at(head);
-        if work_off(alloc, clauses, skip, pairs, rows, trail, head, lit)? {
+        if work_off(watched, skip, trail, head, lit)? {
             return Ok(true);
         }
         head += 1;
@@ -207,31 +193,25 @@ pub fn take_singles(
 
 // Brings the root to its fixed point, and answers whether a clause is falsified.
 pub fn settle(
-    alloc: Global,
-    clauses: &Clauses,
+    watched: &mut Watched,
     skip: Option<usize>,
-    pairs: &mut Vec<Option<Pair>>,
-    rows: &mut Rows,
-    singles: &[u32],
-    done: usize,
     trail: &mut Trail,
     head: usize,
+    singles: &[u32],
+    done: usize,
 ) -> Result<bool, NoMemory>
-    requires rooted { IsRooted (without clauses.now skip) pairs.old.items singles.now done trail.old head }
+    requires rooted { IsRooted (without watched.old.clauses skip) watched.old.pairs.items singles.now done trail.old head }
     requires done { done ≤ length singles.now }
-    requires covered { IsCovered clauses.now pairs.old.items rows.old }
-    ensures reached { IsReached (filled (without clauses.now skip)) trail.old trail.new }
-    ensures kept { IsKept clauses.now trail.old pairs.old.items pairs.new.items }
-    ensures covered { IsCovered clauses.now pairs.new.items rows.new }
+    requires covered { IsCovered watched.old }
+    ensures advanced { IsAdvanced skip watched.old trail.old watched.new trail.new }
     ensures ends { IfOk result (λ conflict.
-        MatchBool conflict (HasFalsified (filled (without clauses.now skip)) trail.new)
-        (IsRooted (without clauses.now skip) pairs.new.items singles.now
-        (length singles.now) trail.new (length trail.new))) }
+        MatchBool conflict (IsFalsifiedIn watched.new skip trail.new)
+        (IsRootOf watched.new skip singles.now trail.new)) }
 {
-    if take_singles(clauses, skip, singles, done, trail)? {
+    if take_singles(&watched.clauses, skip, singles, done, trail)? {
         return Ok(true);
     }
-    propagate(alloc, clauses, skip, pairs, rows, trail, head)
+    propagate(watched, skip, trail, head)
 }
 
 // Makes the negations of the literals known, and answers whether one of the literals is true or two
@@ -254,112 +234,91 @@ pub fn assume(trail: &mut Trail, lits: &[Lit]) -> Result<bool, NoMemory>
 }
 
 // Whether the literals are implied, with their negations left on the trail.
-pub fn search(
-    alloc: Global,
-    clauses: &Clauses,
+fn search(
+    watched: &mut Watched,
     skip: Option<usize>,
-    pairs: &mut Vec<Option<Pair>>,
-    rows: &mut Rows,
     trail: &mut Trail,
     lits: &[Lit],
     singles: &[u32],
 ) -> Result<bool, NoMemory>
-    requires rooted { IsRooted (without clauses.now skip) pairs.old.items singles.now
-        (length singles.now) trail.old (length trail.old) }
-    requires covered { IsCovered clauses.now pairs.old.items rows.old }
+    requires rooted { IsRootOf watched.old skip singles.now trail.old }
+    requires covered { IsCovered watched.old }
     ensures longer { IsLonger trail.old trail.new }
-    ensures kept { IsKept clauses.now trail.old pairs.old.items pairs.new.items }
-    ensures covered { IsCovered clauses.now pairs.new.items rows.new }
-    ensures exact { IfOk result (λ yes. IsTrue yes ↔ Implied (filled (without clauses.now skip)) lits.now) }
+    ensures moved { IsMoved trail.old watched.old watched.new }
+    ensures exact { IfOk result (λ yes. IsTrue yes ↔ Implied (filled (without watched.old.clauses skip)) lits.now) }
 {
     let base = trail.len();
     if assume(trail, lits)? {
         return Ok(true);
     }
-    propagate(alloc, clauses, skip, pairs, rows, trail, base)
+    propagate(watched, skip, trail, base)
 }
 
 // Whether the literals are implied.
 pub fn query(
-    alloc: Global,
-    clauses: &Clauses,
+    watched: &mut Watched,
     skip: Option<usize>,
-    pairs: &mut Vec<Option<Pair>>,
-    rows: &mut Rows,
     trail: &mut Trail,
     lits: &[Lit],
     singles: &[u32],
 ) -> Result<bool, NoMemory>
-    requires rooted { IsRooted (without clauses.now skip) pairs.old.items singles.now
-        (length singles.now) trail.old (length trail.old) }
-    requires covered { IsCovered clauses.now pairs.old.items rows.old }
+    requires rooted { IsRootOf watched.old skip singles.now trail.old }
+    requires covered { IsCovered watched.old }
     ensures same { trail.new ≡ trail.old }
-    ensures kept { IsKept clauses.now trail.old pairs.old.items pairs.new.items }
-    ensures covered { IsCovered clauses.now pairs.new.items rows.new }
-    ensures exact { IfOk result (λ yes. IsTrue yes ↔ Implied (filled (without clauses.now skip)) lits.now) }
+    ensures moved { IsMoved trail.old watched.old watched.new }
+    ensures exact { IfOk result (λ yes. IsTrue yes ↔ Implied (filled (without watched.old.clauses skip)) lits.now) }
 {
     let base = trail.len();
-    let result = search(alloc, clauses, skip, pairs, rows, trail, lits, singles);
+    let result = search(watched, skip, trail, lits, singles);
     trail.truncate(base);
     result
 }
 
 // Whether the literals are implied without a slot that the root may need: the root is found anew.
 pub fn query_anew(
-    alloc: Global,
-    clauses: &Clauses,
+    watched: &mut Watched,
     skip: Option<usize>,
-    pairs: &mut Vec<Option<Pair>>,
-    rows: &mut Rows,
     trail: &mut Trail,
     lits: &[Lit],
     singles: &[u32],
 ) -> Result<bool, NoMemory>
-    requires listed { AreListed clauses.now pairs.old.items singles.now }
-    requires covered { IsCovered clauses.now pairs.old.items rows.old }
-    requires watched { AllWatched [] [] clauses.now pairs.old.items }
-    ensures derived { IsDerived (filled (without clauses.now skip)) trail.new }
+    requires listed { AreListed watched.old.clauses watched.old.pairs.items singles.now }
+    requires covered { IsCovered watched.old }
+    requires watched { AllWatched [] [] watched.old.clauses watched.old.pairs.items }
+    ensures derived { IsDerived (filled (without watched.old.clauses skip)) trail.new }
     ensures consistent { HasOpposites trail.new → ⊥ }
-    ensures kept { IsKept clauses.now [] pairs.old.items pairs.new.items }
-    ensures covered { IsCovered clauses.now pairs.new.items rows.new }
-    ensures exact { IfOk result (λ yes. IsTrue yes ↔ Implied (filled (without clauses.now skip)) lits.now) }
+    ensures moved { IsMoved [] watched.old watched.new }
+    ensures exact { IfOk result (λ yes. IsTrue yes ↔ Implied (filled (without watched.old.clauses skip)) lits.now) }
 {
     trail.truncate(0);
-    if settle(alloc, clauses, skip, pairs, rows, singles, 0, trail, 0)? {
+    if settle(watched, skip, trail, 0, singles, 0)? {
         return Ok(true);
     }
-    query(alloc, clauses, skip, pairs, rows, trail, lits, singles)
+    query(watched, skip, trail, lits, singles)
 }
 
 // Whether the literals are implied without a slot on which a root literal hangs that no other clause
 // holds: it is taken off, and put back at the end.
 pub fn query_beside(
-    alloc: Global,
-    clauses: &Clauses,
+    watched: &mut Watched,
     skip: Option<usize>,
-    pairs: &mut Vec<Option<Pair>>,
-    rows: &mut Rows,
     trail: &mut Trail,
     lits: &[Lit],
     singles: &[u32],
     lit: Lit,
 ) -> Result<bool, NoMemory>
-    requires alone { (at : ℕ) × (skip ≡ Some at) × IsAlone clauses.now at lit }
+    requires alone { (at : ℕ) × (skip ≡ Some at) × IsAlone watched.old.clauses at lit }
     requires known { Contains trail.old lit }
-    requires rooted { IsRooted clauses.now pairs.old.items singles.now (length singles.now) trail.old
-        (length trail.old) }
-    requires covered { IsCovered clauses.now pairs.old.items rows.old }
-    ensures derived { IsDerived (filled clauses.now) trail.new }
+    requires rooted { IsRootOf watched.old None singles.now trail.old }
+    requires covered { IsCovered watched.old }
+    ensures derived { IsDerived (filled watched.old.clauses) trail.new }
     ensures consistent { HasOpposites trail.new → ⊥ }
-    ensures kept { IsKept clauses.now [] pairs.old.items pairs.new.items }
-    ensures covered { IsCovered clauses.now pairs.new.items rows.new }
-    ensures rooted { OnOk result
-        (IsRooted clauses.now pairs.new.items singles.now (length singles.now) trail.new
-        (length trail.new)) }
-    ensures exact { IfOk result (λ yes. IsTrue yes ↔ Implied (filled (without clauses.now skip)) lits.now) }
+    ensures moved { IsMoved [] watched.old watched.new }
+    ensures rooted { OnOk result (IsRootOf watched.new None singles.now trail.new) }
+    ensures exact { IfOk result (λ yes. IsTrue yes ↔ Implied (filled (without watched.old.clauses skip)) lits.now) }
 {
     trail.remove(lit);
-    let result = query(alloc, clauses, skip, pairs, rows, trail, lits, singles);
+    let result = query(watched, skip, trail, lits, singles);
     trail.push(lit)?;
     result
 }

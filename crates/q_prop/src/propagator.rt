@@ -1,19 +1,19 @@
-ghost use Rattle.std.specs.Prelude.{◌≡◌, ◌↔◌, ◌<◌, ◌+◌, ◌-◌, ◌⊎◌, ◌++◌, ◌∷◌, [], length, slice_set, OnOk, OnErr, None, Some, Contains, IsTrue, Option, MatchOption, MatchBool, IfOk, ℕ, false, ◌≢◌, ◌≤◌, vec_len, vec_capacity, slice_get};
+ghost use Rattle.std.specs.Prelude.{◌≡◌, ◌↔◌, ◌<◌, ◌⊎◌, ◌++◌, ◌∷◌, [], length, slice_set, OnOk, OnErr, None, Some, Contains, IsTrue, MatchOption, IfOk, ℕ, ◌≤◌, slice_get};
 ghost use Rattle.q_logic.specs.Formulas.{Clause};
 ghost use Rattle.q_logic.specs.Propagation.{Implied};
-ghost use Rattle.q_prop.specs.Slots.{filled, without, Holds, IsPut, IsPlaced, IsVacant};
-ghost use Rattle.q_prop.specs.Working.{IsCovered};
+ghost use Rattle.q_prop.specs.Slots.{filled, without, Holds, IsPut, IsVacant};
 ghost use Rattle.q_prop.specs.Lists.{IsLost, AreTaken};
 ghost use Rattle.q_prop.specs.Roles.{IsRole, IsAlone, IsLoosened};
 
 use crate::clauses::Clauses;
 use crate::lists::{Lists, place_of};
-use crate::places::place;
 use crate::propagation::{query, query_anew, query_beside, settle};
 use crate::roles::Role;
-use crate::rows::{Entry, Rows};
+use crate::root::Root;
+use crate::rows::Rows;
 use crate::spots::{Spots, renote};
 use crate::trail::Trail;
+use crate::watched::{Watched, put, put_short};
 use crate::watches::{Pair, Pick, choose, is_free, left_in, stands};
 use q_logic::{Lit, NoMemory};
 use std::alloc::Global;
@@ -22,30 +22,19 @@ use std::marker::Model;
 /// The clauses, with what propagation shows of them kept from call to call.
 #[derive(Drop)]
 pub struct Propagator {
-    alloc: Global,
-    clauses: Clauses,
-    pairs: Vec<Option<Pair>>,
-    rows: Rows,
-    singles: Vec<u32>,
-    spots: Spots,
-    trail: Trail,
-    head: usize,
-    done: usize,
-    conflict: bool,
+    watched: Watched,
+    root: Root,
 }
 
 impl Model for Propagator {
-    ghost use Rattle.q_prop.specs.Slots.{Slots, filled};
-    ghost use Rattle.q_prop.specs.Chains.{HasFalsified};
-    ghost use Rattle.q_prop.specs.Working.{IsRooted, IsCovered, AreStanding};
-    ghost use Rattle.q_prop.specs.Lists.{IsDistinct};
-    ghost use Rattle.std.specs.Prelude.{◌≤◌, length, IsTrue};
+    ghost use Rattle.q_prop.specs.Slots.{Slots};
+    ghost use Rattle.q_prop.specs.Watched.{IsPropagated};
 
     ghost Value = { Slots };
 
-    ghost view = { λ r. r.clauses };
+    ghost view = { λ r. r.watched.clauses };
 
-    ghost invariant = { λ r. IsRooted r.clauses r.pairs.items r.singles.items r.done r.trail r.head × (r.done ≤ length r.singles.items) × AreStanding r.clauses r.singles.items × IsDistinct r.singles.items × IsCovered r.clauses r.pairs.items r.rows × (IsTrue r.conflict → HasFalsified (filled r.clauses) r.trail) };
+    ghost invariant = { λ r. IsPropagated r.watched r.root };
 }
 
 impl Propagator {
@@ -53,30 +42,33 @@ impl Propagator {
         ensures { result ≡ [] }
     {
         Propagator {
-            alloc,
-            clauses: Clauses::new(alloc),
-            pairs: Vec::new(alloc),
-            rows: Rows::new(alloc),
-            singles: Vec::new(alloc),
-            spots: Spots::new(alloc),
-            trail: Trail::new(alloc),
-            head: 0,
-            done: 0,
-            conflict: false,
+            watched: Watched {
+                clauses: Clauses::new(alloc),
+                pairs: Vec::new(alloc),
+                rows: Rows::new(alloc),
+            },
+            root: Root {
+                trail: Trail::new(alloc),
+                head: 0,
+                singles: Vec::new(alloc),
+                spots: Spots::new(alloc),
+                done: 0,
+                conflict: false,
+            },
         }
     }
 
     pub fn slots(&self) -> usize
         ensures { result ≡ length self.now }
     {
-        self.clauses.len()
+        self.watched.clauses.len()
     }
 
     pub fn slot(&self, at: usize) -> Option<&[Lit]>
         ensures { MatchOption result ((c : Clause) → Holds self.now at c → ⊥) (λ r.
             Holds self.now at r.now) }
     {
-        self.clauses.get(at)
+        self.watched.clauses.get(at)
     }
 
     /// Empties a slot. Takes no memory.
@@ -86,74 +78,65 @@ impl Propagator {
         ensures { self.new ≡ slice_set self.old slot None }
     {
         let at = slot as usize;
-        let settled = is_settled(
-            &self.trail,
-            self.head,
-            &self.singles,
-            self.done,
-            self.conflict,
+        let settled = self.root.is_settled();
+        let rest = loosen(
+            &self.watched.clauses,
+            at,
+            &mut self.root.trail,
+            role,
+            settled,
         );
-        let rest = loosen(&self.clauses, at, &mut self.trail, role, settled);
         let done = unlist(
-            &self.pairs,
-            &mut self.singles,
-            &mut self.spots,
+            &self.watched.pairs,
+            &mut self.root.singles,
+            &mut self.root.spots,
             slot,
-            self.done,
+            self.root.done,
         );
         if rest {
-            self.head = self.head.min(self.trail.len());
-            self.done = done;
+            self.root.head = self.root.head.min(self.root.trail.len());
+            self.root.done = done;
         } else {
-            self.trail.truncate(0);
-            self.head = 0;
-            self.done = 0;
-            self.conflict = false;
+            self.root.trail.truncate(0);
+            self.root.head = 0;
+            self.root.done = 0;
+            self.root.conflict = false;
         }
-        self.clauses.clear(at);
-        self.pairs[at] = None;
+        self.watched.clauses.clear(at);
+        self.watched.pairs[at] = None;
     }
 
     /// Brings the root to its fixed point, or to a conflict.
     pub fn settle(&mut self) -> Result<(), NoMemory>
         ensures { self.new ≡ self.old }
     {
-        if self.conflict {
+        if self.root.conflict {
             return Ok(());
         }
-        let (head, done) = (self.head, self.done);
-        self.head = 0;
-        self.done = 0;
+        let (head, done) = (self.root.head, self.root.done);
+        self.root.head = 0;
+        self.root.done = 0;
         let conflict = settle(
-            self.alloc,
-            &self.clauses,
+            &mut self.watched,
             None,
-            &mut self.pairs,
-            &mut self.rows,
-            &self.singles,
-            done,
-            &mut self.trail,
+            &mut self.root.trail,
             head,
+            &self.root.singles,
+            done,
         )?;
         if conflict {
-            self.conflict = true;
+            self.root.conflict = true;
         } else {
-            self.head = self.trail.len();
-            self.done = self.singles.len();
+            self.root.head = self.root.trail.len();
+            self.root.done = self.root.singles.len();
         }
         Ok(())
     }
 
     /// The literal of a slot's clause that alone is not false, where the root is found.
     pub(crate) fn left_in(&self, at: usize) -> Option<Lit> {
-        if is_settled(
-            &self.trail,
-            self.head,
-            &self.singles,
-            self.done,
-            self.conflict,
-        ) {
-            left_in(&self.clauses, at, &self.trail)
+        if self.root.is_settled() {
+            left_in(&self.watched.clauses, at, &self.root.trail)
         } else {
             None
         }
@@ -174,30 +157,21 @@ impl Propagator {
         if let Role::Alone(lit) = role {
             return self.implied_beside(lits, skip, lit);
         }
-        if !stands(&self.clauses, skip, &self.trail, role) {
+        if !stands(&self.watched.clauses, skip, &self.root.trail, role) {
             return self.implied_anew(lits, skip);
         }
-        if self.conflict {
+        if self.root.conflict {
             return Ok(true);
         }
-        if !is_settled(
-            &self.trail,
-            self.head,
-            &self.singles,
-            self.done,
-            self.conflict,
-        ) {
+        if !self.root.is_settled() {
             return self.implied_anew(lits, skip);
         }
         query(
-            self.alloc,
-            &self.clauses,
+            &mut self.watched,
             skip,
-            &mut self.pairs,
-            &mut self.rows,
-            &mut self.trail,
+            &mut self.root.trail,
             lits,
-            &self.singles,
+            &self.root.singles,
         )
     }
 
@@ -212,31 +186,22 @@ impl Propagator {
         ensures same { self.new ≡ self.old }
         ensures exact { IfOk result (λ yes. IsTrue yes ↔ Implied (filled (without self.old skip)) lits.now) }
     {
-        let settled = is_settled(
-            &self.trail,
-            self.head,
-            &self.singles,
-            self.done,
-            self.conflict,
-        );
-        if !settled || !self.trail.has(lit) {
+        let settled = self.root.is_settled();
+        if !settled || !self.root.trail.has(lit) {
             return self.implied_anew(lits, skip);
         }
-        self.head = 0;
-        self.done = 0;
+        self.root.head = 0;
+        self.root.done = 0;
         let answer = query_beside(
-            self.alloc,
-            &self.clauses,
+            &mut self.watched,
             skip,
-            &mut self.pairs,
-            &mut self.rows,
-            &mut self.trail,
+            &mut self.root.trail,
             lits,
-            &self.singles,
+            &self.root.singles,
             lit,
         )?;
-        self.head = self.trail.len();
-        self.done = self.singles.len();
+        self.root.head = self.root.trail.len();
+        self.root.done = self.root.singles.len();
         Ok(answer)
     }
 
@@ -245,18 +210,15 @@ impl Propagator {
         ensures same { self.new ≡ self.old }
         ensures exact { IfOk result (λ yes. IsTrue yes ↔ Implied (filled (without self.old skip)) lits.now) }
     {
-        self.head = 0;
-        self.done = 0;
-        self.conflict = false;
+        self.root.head = 0;
+        self.root.done = 0;
+        self.root.conflict = false;
         query_anew(
-            self.alloc,
-            &self.clauses,
+            &mut self.watched,
             skip,
-            &mut self.pairs,
-            &mut self.rows,
-            &mut self.trail,
+            &mut self.root.trail,
             lits,
-            &self.singles,
+            &self.root.singles,
         )
     }
 
@@ -264,28 +226,28 @@ impl Propagator {
     pub fn place_in(&self, list: &[u32], slot: u32, nth: usize) -> Option<usize>
         ensures { MatchOption result (Contains list.now slot → ⊥) (λ place. slice_get list.now place ≡ Some slot) }
     {
-        self.clauses.place_in(list, slot, nth)
+        self.watched.clauses.place_in(list, slot, nth)
     }
 
     /// Notes where the slot stands in the list of those that hold a literal of its clause.
     pub fn note(&mut self, at: usize, nth: usize, place: usize)
         ensures { self.new ≡ self.old }
     {
-        self.clauses.note(at, nth, place);
+        self.watched.clauses.note(at, nth, place);
     }
 
     /// Notes the places of those that have come where a slot stood in the lists.
     pub fn renote(&mut self, at: usize, lists: &Lists)
         ensures { self.new ≡ self.old }
     {
-        self.clauses.renote(at, lists);
+        self.watched.clauses.renote(at, lists);
     }
 
     /// An empty slot, or the next new one.
     pub fn vacant(&self) -> usize
         ensures { IsVacant self.now result }
     {
-        self.clauses.vacant()
+        self.watched.clauses.vacant()
     }
 
     /// Puts a clause into an empty slot, or into the next new one.
@@ -294,76 +256,31 @@ impl Propagator {
         ensures ok { OnOk result (IsPut self.old at lits.now self.new) }
         ensures err { OnErr result (self.new ≡ self.old) }
     {
-        let alloc = self.alloc;
-        match choose(lits, &self.trail) {
+        match choose(lits, &self.root.trail) {
             Pick::Short => {
                 put_short(
-                    &mut self.clauses,
-                    &mut self.pairs,
-                    &mut self.singles,
-                    &mut self.spots,
+                    &mut self.watched,
+                    &mut self.root.singles,
+                    &mut self.root.spots,
                     at,
                     lits,
                 )?;
             }
             Pick::Open(pair) => {
-                put(
-                    alloc,
-                    &mut self.clauses,
-                    &mut self.pairs,
-                    &mut self.rows,
-                    at,
-                    lits,
-                    pair,
-                )?;
+                put(&mut self.watched, at, lits, pair)?;
             }
             Pick::OneLeft(pair) => {
-                let (first, head) = (pair.first, self.head);
-                put(
-                    alloc,
-                    &mut self.clauses,
-                    &mut self.pairs,
-                    &mut self.rows,
-                    at,
-                    lits,
-                    pair,
-                )?;
-                self.head = push_forced(&mut self.trail, first, head);
+                let (first, head) = (pair.first, self.root.head);
+                put(&mut self.watched, at, lits, pair)?;
+                self.root.head = push_forced(&mut self.root.trail, first, head);
             }
             Pick::AllFalse(pair) => {
-                put(
-                    alloc,
-                    &mut self.clauses,
-                    &mut self.pairs,
-                    &mut self.rows,
-                    at,
-                    lits,
-                    pair,
-                )?;
-                self.head = 0;
+                put(&mut self.watched, at, lits, pair)?;
+                self.root.head = 0;
             }
         }
         Ok(())
     }
-}
-
-// Puts a literal on the trail, if there is memory, and answers up to where the trail is then worked off.
-fn push_forced(trail: &mut Trail, lit: Lit, head: usize) -> usize
-    requires { Contains trail.old lit → ⊥ }
-    ensures { ((trail.new ≡ trail.old ++ lit ∷ []) × (result ≡ head)) ⊎
-        ((trail.new ≡ trail.old) × (result ≡ 0)) }
-{
-    match trail.push(lit) {
-        Ok(_) => head,
-        Err(_) => 0,
-    }
-}
-
-// Whether all of the root is found, without a conflict.
-fn is_settled(trail: &Trail, head: usize, singles: &[u32], done: usize, conflict: bool) -> bool
-    ensures { IsTrue result → (head ≡ length trail.now) × (done ≡ length singles.now) × (conflict ≡ false) }
-{
-    !conflict && head == trail.len() && done == singles.len()
 }
 
 // Takes off the trail what hangs on the slot alone, where all of the root is found, and answers
@@ -411,66 +328,14 @@ fn unlist(
     }
 }
 
-// Puts a clause and its pair into a slot.
-fn put(
-    alloc: Global,
-    clauses: &mut Clauses,
-    pairs: &mut Vec<Option<Pair>>,
-    rows: &mut Rows,
-    at: u32,
-    lits: &[Lit],
-    pair: Pair,
-) -> Result<(), NoMemory>
-    requires length { length pairs.old.items ≡ length clauses.old }
-    requires vacant { IsVacant clauses.old at }
-    requires covered { IsCovered clauses.old pairs.old.items rows.old }
-    requires inside { Contains lits.now pair.first × Contains lits.now pair.second }
-    ensures ok { OnOk result
-        (IsPut clauses.old at lits.now clauses.new × IsPlaced pairs.old.items at (Some pair)
-        pairs.new.items) }
-    ensures err { OnErr result ((clauses.new ≡ clauses.old) × (pairs.new.items ≡ pairs.old.items)) }
-    ensures covered { IsCovered clauses.new pairs.new.items rows.new }
+// Puts a literal on the trail, if there is memory, and answers up to where the trail is then worked off.
+fn push_forced(trail: &mut Trail, lit: Lit, head: usize) -> usize
+    requires { Contains trail.old lit → ⊥ }
+    ensures { ((trail.new ≡ trail.old ++ lit ∷ []) × (result ≡ head)) ⊎
+        ((trail.new ≡ trail.old) × (result ≡ 0)) }
 {
-    pairs.reserve(1)?;
-    let first = Entry {
-        slot: at,
-        blocker: pair.second,
-    };
-    rows.push(alloc, pair.first, first)?;
-    let second = Entry {
-        slot: at,
-        blocker: pair.first,
-    };
-    rows.push(alloc, pair.second, second)?;
-    clauses.fill(at as usize, lits)?;
-    place(pairs, at as usize, Some(pair));
-    Ok(())
-}
-
-// Puts a clause of at most one literal into a slot, and lists it.
-fn put_short(
-    clauses: &mut Clauses,
-    pairs: &mut Vec<Option<Pair>>,
-    singles: &mut Vec<u32>,
-    spots: &mut Spots,
-    at: u32,
-    lits: &[Lit],
-) -> Result<(), NoMemory>
-    requires length { length pairs.old.items ≡ length clauses.old }
-    requires vacant { IsVacant clauses.old at }
-    ensures ok { OnOk result
-        (IsPut clauses.old at lits.now clauses.new × IsPlaced pairs.old.items at None
-        pairs.new.items × (singles.new.items ≡ singles.old.items ++ at ∷ [])) }
-    ensures err { OnErr result
-        ((clauses.new ≡ clauses.old) × (pairs.new.items ≡ pairs.old.items) ×
-        (singles.new.items ≡ singles.old.items)) }
-{
-    pairs.reserve(1)?;
-    singles.reserve(1)?;
-    spots.grow((at as usize).saturating_add(1))?;
-    clauses.fill(at as usize, lits)?;
-    place(pairs, at as usize, None);
-    spots.set(at as usize, singles.len());
-    singles.push_reserved(at);
-    Ok(())
+    match trail.push(lit) {
+        Ok(_) => head,
+        Err(_) => 0,
+    }
 }

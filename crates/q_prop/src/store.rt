@@ -29,16 +29,14 @@ pub struct Store {
 }
 
 impl Model for Store {
-    ghost use Rattle.std.specs.Prelude.{◌≤◌, ◌^◌, length};
-    ghost use Rattle.q_prop.specs.Slots.{Slots, AreOrdered};
-    ghost use Rattle.q_prop.specs.Holders.{AreHolders};
-    ghost use Rattle.q_prop.specs.Buckets.{AreHashed};
+    ghost use Rattle.q_prop.specs.Slots.{Slots};
+    ghost use Rattle.q_prop.specs.Indexes.{IsIndexed};
 
     ghost Value = { Slots };
 
     ghost view = { λ r. r.propagator };
 
-    ghost invariant = { λ r. AreHolders r.propagator r.holders × (length r.propagator ≤ 2 ^ 32) × AreOrdered r.propagator × AreHashed r.propagator r.count r.buckets × (1 ≤ r.count) };
+    ghost invariant = { λ r. IsIndexed r.propagator r.holders r.buckets r.count };
 }
 
 impl Store {

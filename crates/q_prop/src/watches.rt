@@ -20,19 +20,40 @@ pub struct Pair {
     pub second: Lit,
 }
 
+/// What a visit of a clause finds, whose other watched literal is not true.
 #[derive(Clone, Copy)]
 pub enum Visit {
+    /// This literal is true.
+    True(Lit),
+    /// This one is not false, and can be watched.
     Move(Lit),
+    /// The other watched literal alone is not false.
     Force,
     Conflict,
 }
 
-// What to do with a clause one of whose watched literals became false, where the other is not true.
+/// What is left of a row after a visit of an entry.
+#[derive(Clone, Copy)]
+pub enum Turn {
+    /// The next entry stands at the next place.
+    Next,
+    /// It stands at the same place.
+    Again,
+    Conflict,
+}
+
+// What the clause is one of whose watched literals became false, where the other is not true.
 pub fn visit_of(clause: &[Lit], other: Lit, trail: &Trail) -> Visit
     ensures { IsVisit trail.now clause.now other result }
 {
     match find_open(clause, other, trail) {
-        Some(l) => Visit::Move(l),
+        Some(l) => {
+            if trail.has(l) {
+                Visit::True(l)
+            } else {
+                Visit::Move(l)
+            }
+        }
         None => {
             if trail.has(other.negated()) {
                 Visit::Conflict

@@ -1,4 +1,4 @@
-use Rattle.std.proofs.Common.{◌≡◌, length, arith, refl}
+use Rattle.std.proofs.Common.{length, arith, refl, ◌∙◌}
 use Rattle.q_prop.specs.Slots.{filled, without}
 use Rattle.q_prop.proofs.Settling.{root_implied}
 use Rattle.q_prop.proofs.Rooting.{rooted_kept, rooted_free, derived_skip, falsified_skip}
@@ -6,43 +6,46 @@ use Rattle.q_prop.proofs.propagator.Propagator.implied.Goals as goal
 
 pub returns-then-self : goal.returns-then-self
 returns-then-self c =
-    let i = c.self.inside in
+    let w = c.self.inside.watched in
+    let r = c.self.inside.root in
     let v = c.self.invariant in
     let free = c.stands.ensures c.if-not-stands.false in
-    let derived = derived_skip i.clauses c.args.skip i.trail free v.0.derived in
-    let falsified = falsified_skip i.clauses c.args.skip i.trail free (v.5 c.if-self.true) in
+    let derived = derived_skip w.clauses c.args.skip r.trail free v.rooted.derived in
+    let falsified = falsified_skip w.clauses c.args.skip r.trail free (v.falsified c.if-self.true) in
     record {
       same = refl;
-      exact = rw (← c.self.view_is) (λ _. root_implied (filled (without i.clauses c.args.skip)) i.trail c.args.lits.now derived falsified, λ _. refl);
+      exact = rw (← c.self.view_is) (λ _. root_implied (filled (without w.clauses c.args.skip)) r.trail c.args.lits.now derived falsified, λ _. refl);
     }
 
 pub query-requires : goal.query-requires
 query-requires c =
-    let i = c.self.inside in
+    let w = c.self.inside.watched in
+    let r = c.self.inside.root in
     let v = c.self.invariant in
     let free = c.stands.ensures c.if-not-stands.false in
     let settled = c.is_settled.ensures c.if-not-is_settled.false in
-    let whole = rw (settled.0, rw c.deref.ensures.value at settled.1) at v.0 in
+    let whole = rw (settled.0, settled.1) at v.rooted in
     record {
-      rooted = rw c.deref-2.ensures.value (rooted_free i.clauses c.args.skip i.pairs.items i.singles.items (length i.singles.items) i.trail (length i.trail) free whole);
-      covered = v.4;
+      rooted = rw c.deref.ensures.value (rooted_free w.clauses c.args.skip w.pairs.items r.singles.items (length r.singles.items) r.trail (length r.trail) free whole);
+      covered = v.covered;
     }
 
 pub invariant_of-self : goal.invariant_of-self
 invariant_of-self c =
-    let i = c.self.inside in
+    let w = c.self.inside.watched in
+    let r = c.self.inside.root in
     let v = c.self.invariant in
+    let m = c.query.ensures.moved in
     let settled = c.is_settled.ensures c.if-not-is_settled.false in
-    let done : i.done ≡ length i.singles.items = rw c.deref.ensures.value at settled.1 in
-    let whole = rw (settled.0, done) at v.0 in
-    rw (c.query.ensures.same, settled.0, done) (
-      rooted_kept i.clauses i.pairs.items c.query.new.pairs.items i.singles.items (length i.singles.items) i.trail whole c.query.ensures.kept,
-      omega arith,
-      v.2,
-      v.3,
-      c.query.ensures.covered,
-      v.5,
-    )
+    let whole = rw (settled.0, settled.1) at v.rooted in
+    rw (c.query.ensures.same, settled.0, settled.1) (record {
+      covered = m.covered;
+      rooted = rw m.same (rooted_kept w.clauses w.pairs.items c.query.new.watched.pairs.items r.singles.items (length r.singles.items) r.trail whole m.kept);
+      done_in = omega arith;
+      standing = rw m.same v.standing;
+      once = v.once;
+      falsified = rw m.same v.falsified;
+    })
 
 pub returns : goal.returns
-returns c = record { same = c.self.view_is; exact = rw (← c.self.view_is) c.query.ensures.exact }
+returns c = record { same = c.query.ensures.moved.same ∙ c.self.view_is; exact = rw (← c.self.view_is) c.query.ensures.exact }

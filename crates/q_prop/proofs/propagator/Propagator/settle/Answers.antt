@@ -1,36 +1,57 @@
-use Rattle.std.proofs.Common.{[], take, arith, true≢false, sym, ◌∙◌}
+use Rattle.std.proofs.Common.{◌≡◌, [], length, take, arith, true≢false, sym, ◌∙◌}
 use Rattle.q_prop.specs.Slots.{filled}
 use Rattle.q_prop.proofs.Members.{Contains-nil}
-use Rattle.q_prop.proofs.Settling.{reached_derived, reached_consistent, IsKept-fewer}
+use Rattle.q_prop.proofs.Advancing.{moved-fewer}
+use Rattle.q_prop.proofs.Settling.{reached_derived, reached_consistent}
 use Rattle.q_prop.proofs.Rooting.{rooted_zero, none_watched}
 use Rattle.q_prop.proofs.propagator.Propagator.settle.Goals as goal
 
 pub invariant_of-self : goal.invariant_of-self
 invariant_of-self c =
-    let i = c.self.inside in
+    let w = c.self.inside.watched in
+    let r = c.self.inside.root in
     let v = c.self.invariant in
-    let r = v.0 in
-    let e = c.settle.ensures in
-    let first = IsKept-fewer i.clauses [] i.trail i.pairs.items c.settle.new.pairs.items (λ l h. absurd (Contains-nil l h)) e.kept in (
-      rooted_zero i.clauses i.pairs.items c.settle.new.pairs.items i.singles.items c.settle.new.trail r.listed (none_watched (take i.head i.trail) i.trail i.clauses i.pairs.items r.ready.watched) (reached_derived (filled i.clauses) i.trail c.settle.new.trail r.derived e.reached) (reached_consistent (filled i.clauses) i.trail c.settle.new.trail r.ready.consistent e.reached) first,
-      omega arith,
-      v.2,
-      v.3,
-      e.covered,
-      λ h. absurd (true≢false (sym h ∙ c.if-self.false)),
-    )
+    let a = c.settle.ensures.advanced in
+    let root = c.settle.new.trail in
+    let first = (moved-fewer [] r.trail w c.settle.new.watched (λ l h. absurd (Contains-nil l h)) a.moved).kept in
+    record {
+      covered = a.moved.covered;
+      rooted = rw a.moved.same (rooted_zero w.clauses w.pairs.items c.settle.new.watched.pairs.items r.singles.items root v.rooted.listed (none_watched (take r.head r.trail) r.trail w.clauses w.pairs.items v.rooted.ready.watched) (reached_derived (filled w.clauses) r.trail root v.rooted.derived a.reached) (reached_consistent (filled w.clauses) r.trail root v.rooted.ready.consistent a.reached) first);
+      done_in = omega arith;
+      standing = rw a.moved.same v.standing;
+      once = v.once;
+      falsified = λ h. absurd (true≢false (sym h ∙ c.if-self.false));
+    }
 
 pub invariant_of-self-then-conflict : goal.invariant_of-self-then-conflict
 invariant_of-self-then-conflict c =
-    let i = c.self.inside in
+    let w = c.self.inside.watched in
+    let r = c.self.inside.root in
     let v = c.self.invariant in
-    let r = v.0 in
-    let e = c.settle.ensures in
-    let first = IsKept-fewer i.clauses [] i.trail i.pairs.items c.settle.new.pairs.items (λ l h. absurd (Contains-nil l h)) e.kept in (
-      rooted_zero i.clauses i.pairs.items c.settle.new.pairs.items i.singles.items c.settle.new.trail r.listed (none_watched (take i.head i.trail) i.trail i.clauses i.pairs.items r.ready.watched) (reached_derived (filled i.clauses) i.trail c.settle.new.trail r.derived e.reached) (reached_consistent (filled i.clauses) i.trail c.settle.new.trail r.ready.consistent e.reached) first,
-      omega arith,
-      v.2,
-      v.3,
-      e.covered,
-      λ h. rw c.if-conflict.true at c.in_ok-conflict.ensures.ends,
-    )
+    let a = c.settle.ensures.advanced in
+    let root = c.settle.new.trail in
+    let first = (moved-fewer [] r.trail w c.settle.new.watched (λ l h. absurd (Contains-nil l h)) a.moved).kept in
+    record {
+      covered = a.moved.covered;
+      rooted = rw a.moved.same (rooted_zero w.clauses w.pairs.items c.settle.new.watched.pairs.items r.singles.items root v.rooted.listed (none_watched (take r.head r.trail) r.trail w.clauses w.pairs.items v.rooted.ready.watched) (reached_derived (filled w.clauses) r.trail root v.rooted.derived a.reached) (reached_consistent (filled w.clauses) r.trail root v.rooted.ready.consistent a.reached) first);
+      done_in = omega arith;
+      standing = rw a.moved.same v.standing;
+      once = v.once;
+      falsified = λ h. rw c.if-conflict.true at c.in_ok-conflict.ensures.ends;
+    }
+
+pub invariant_of-self-else-conflict : goal.invariant_of-self-else-conflict
+invariant_of-self-else-conflict c =
+    let r = c.self.inside.root in
+    let v = c.self.invariant in
+    let m = c.settle.ensures.advanced.moved in
+    let whole = rw (c.if-conflict.false, c.deref.ensures.value) at c.in_ok-conflict.ensures.ends in
+    let all : c.len-self-inside-else-conflict.result ≡ length r.singles.items = omega (arith, c.len-self-inside-else-conflict.ensures, r.singles.ok.0) in
+    record {
+      covered = m.covered;
+      rooted = rw (c.len-self-inside.ensures, all) whole;
+      done_in = omega (arith, all);
+      standing = rw m.same v.standing;
+      once = v.once;
+      falsified = λ h. absurd (true≢false (sym h ∙ c.if-self.false));
+    }
