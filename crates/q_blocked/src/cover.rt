@@ -16,14 +16,21 @@
 //! when its turn comes; then each literal is looked at for covered ones, until a pass over the set finds none. The
 //! clauses of one literal come last, since no list leads to them, and only where nothing else ended the growth.
 //!
+//! Most looks find nothing, and for the reason of the last look, at this clause or at one before. So it is noted and
+//! asked first: two clauses with `not l` that have nothing in common beyond the set (`stuck.rt`), the place in a long
+//! clause of a literal whose negation is in the set (`calm.rt`). What is noted is tested each time, so it may be out of
+//! date.
+//!
 //! **The steps** (`plan.rt`, `covering.rt`). A stage is a larger clause that comes, after which the smaller one goes.
 //! Hidden literals need none of their own: the smaller clause is implied by the larger one through all of them, and a
 //! pivot of it is as good. So there is a stage for each covered growth, and one before it only where its literal has
 //! come since the last one. The last clause goes by its pivot, or because it is implied.
 //!
-//! **Cost.** The lists of the set's literals and of their negations, as often as covered literals come. The text of
-//! the steps grows with the stages times the set. Where there are clauses of one literal, finding them is a pass over the
-//! formula, once in a search and once in a trial that says No.
+//! **Cost.** For hidden literals the lists of the set's literals once, of each clause mostly one or two literals. For
+//! covered ones two clauses for each literal of the set, as often as covered literals come, and the list of the
+//! negation of a literal where what was noted for it holds no more. The text of the steps grows with the stages times
+//! the set. Where there are clauses of one literal, finding them is a pass over the formula, once in a search and once
+//! in a trial that says No.
 //!
 //! **What it may make applicable.** A clause goes: its literals may become pure, and the clauses with their negations
 //! blocked or covered.

@@ -1,4 +1,4 @@
-use Rattle.std.proofs.Common.{◌≡◌, true, take, subst, sym, inl, inr, true≢false}
+use Rattle.std.proofs.Common.{◌≡◌, true, subst, inl, inr}
 use Rattle.q_logic.specs.Literals.{Literal}
 use Rattle.q_logic.specs.Formulas.{Clause, IsIn}
 use Rattle.q_logic.specs.Pivots.{keeps}
