@@ -20,6 +20,7 @@ use Rattle.q_equiv.proofs.Walks.{joined-level}
 use Rattle.q_equiv.specs.declared.target.Target.{Target}
 use Rattle.q_equiv.specs.declared.target.Target.TheVariants.{Merge}
 use Rattle.q_equiv.specs.Targets.{target_of, keep_of, gone_of}
+use Rattle.q_equiv.specs.Changing.{CanStandFor}
 use Rattle.q_logic.proofs.Implying.{negation-negation}
 use Rattle.q_logic.proofs.Searching.{joined-further}
 
@@ -33,7 +34,7 @@ binary-turned X x y h = record {
   only = λ k m. elim (h.only k m) [ inl e ↦ inr e | inr e ↦ inl (e ∙ sym (negation-negation y)) ];
 }
 
-joined-turned : (X : Matrix) (q p : Literal) → Joined X q p → Joined X (negation p) (negation q)
+pub joined-turned : (X : Matrix) (q p : Literal) → Joined X q p → Joined X (negation p) (negation q)
 joined-turned X q p Joined.here = Joined.here
 joined-turned X q p (Joined.on {y = y} w h j) = joined-further X (negation y) (negation p) (negation q) (joined-turned X q y j) (binary-turned X p y h)
 
@@ -79,3 +80,10 @@ both-gathered levels P X keep gone there back f g h m = (
   where
     level : (x y : Literal) → Joined X x y → Joined X y x → level_of levels x ≡ level_of levels y
     level x y i j = let a = joined-level levels X x y f i in let b = joined-level levels X y x f j in omega arith
+
+-- Where gone leads to keep, the two may be merged exactly where the negation of gone leads to that of keep.
+pub turned-mergeable : (P : Prefix) (X : Matrix) (keep gone : Literal) → CanStandFor P keep gone → Joined X keep gone → (Joined X (negation keep) (negation gone) → Mergeable P X keep gone) × (Mergeable P X keep gone → Joined X (negation keep) (negation gone))
+turned-mergeable P X keep gone s j = (
+  λ t. record { different = s.different; existential = s.existential; kept_outer = s.kept_outer; to_gone = back-way X keep gone t; to_keep = j },
+  λ m. joined-turned X gone keep m.to_gone,
+)

@@ -15,9 +15,9 @@
 //! replaced by the renamed one, implied over the two; then the two go, the one that holds gone by that pivot, since it
 //! clashes with the other one on keep, and the other one by the pivot not gone, which then is pure.
 //!
-//! Found: `finding.rt`. Cost: the test is two walks, which stop where they meet their aim; the change is the literals of the
-//! clauses with the variable. What it touches: the renamed clauses, and so their literals of keep's variable. It may make
-//! applicable: unit clauses (where both literals stood in a clause of two), pure literals, subsumption.
+//! Found: `finding.rt`. Cost: the test is two walks from gone, which stop where they meet their aim; the change is the literals
+//! of the clauses with the variable. What it touches: the renamed clauses, and so their literals of keep's variable. It may
+//! make applicable: unit clauses (where both literals stood in a clause of two), pure literals, subsumption.
 ghost use Rattle.std.specs.Prelude.{◌≡◌, ◌↔◌, ◌≤◌, ◌+◌, length, IfOk, IsTrue, vec_capacity};
 ghost use Rattle.q_logic.specs.Limits.{standard};
 ghost use Rattle.q_logic.specs.InLimits.{IsInLimits};
@@ -36,7 +36,8 @@ use q_kernel::Kernel;
 use q_logic::{Lit, NoMemory};
 use q_rule::{Queue, is_existential, is_tautology};
 
-/// Whether each literal is joined to the other, and keep may take the place of gone.
+/// Whether each literal is joined to the other, and keep may take the place of gone. Both walks begin at gone: clauses of
+/// all that keep has taken the place of hang at keep, so a walk from there would go many ways.
 pub fn is_mergeable(
     kernel: &Kernel,
     queue: &mut Queue,
@@ -45,11 +46,11 @@ pub fn is_mergeable(
 ) -> Result<bool, NoMemory>
     ensures { IfOk result (λ yes. IsTrue yes ↔ Mergeable kernel.now.prefix (live (slots kernel.now)) keep gone) }
 {
-    if !can_stand_for(kernel, keep, gone) || !is_joined(kernel, queue, keep, gone)? {
+    if !can_stand_for(kernel, keep, gone) || !is_joined(kernel, queue, gone, keep)? {
         return Ok(false);
     }
-    let back = is_joined(kernel, queue, gone, keep)?;
-    Ok(back)
+    let turned = is_joined(kernel, queue, gone.negated(), keep.negated())?;
+    Ok(turned)
 }
 
 /// Whether the literals have different variables, of which that of gone is existential and that of keep is not inner to it.

@@ -1,10 +1,10 @@
 //! All merges that are worth a try, in one pass: for each component of the implications pairs of a literal that stays and
 //! one that goes. They are meant for a guide, which proposes them one by one; each is tested when it is taken.
 //!
-//! The order: where a component's literals are existentials of one block, its two halves are parted by a merge of their
-//! first literals, then each half in turn. On a ring of implications each merge makes two rings of one, so the ways that
-//! a test walks halve as well, and a ring of n literals costs about n log n. Elsewhere the outermost literal stays, and
-//! all others go.
+//! The order: the existential literals of a component's innermost block are parted by a merge of the first literals of
+//! their two halves, then each half in turn. On a ring of implications each merge makes two rings of one, so the ways that
+//! a test walks halve as well, and a ring of n literals costs about n log n. Then the outermost literal stays, and the one
+//! that is left of that block goes, and all others.
 ghost use Rattle.std.specs.Prelude.{All, OnOk};
 ghost use Rattle.q_equiv.specs.Targets.{MayStand};
 
@@ -66,12 +66,27 @@ fn pair_up(
     if part.len() < 2 || is_mirrored(part) {
         return Ok(());
     }
-    let keep = outermost(kernel, part, part[0]);
-    if is_flat(kernel, part, keep) {
-        return halve(kernel, part, halves, targets);
-    }
+    let inner = innermost(kernel, part, part[0]);
+    gather_beside(kernel, part, inner, &mut halves.lits)?;
+    halve(kernel, halves, targets)?;
+    pair_with(kernel, outermost(kernel, part, inner), part, inner, targets)
+}
+
+// Pairs of one literal with the others of a component, but of a block only with one of it.
+fn pair_with(
+    kernel: &Kernel,
+    keep: Lit,
+    part: &[Lit],
+    inner: Lit,
+    targets: &mut Vec<Target>,
+) -> Result<(), NoMemory>
+    requires { All (MayStand kernel.now.prefix) targets.old.items }
+    ensures { OnOk result (All (MayStand kernel.now.prefix) targets.new.items) }
+{
     for gone in part {
-        add(kernel, keep, *gone, targets)?;
+        if gone.is(inner) || !lies_beside(kernel, *gone, inner) {
+            add(kernel, keep, *gone, targets)?;
+        }
     }
     Ok(())
 }
@@ -100,30 +115,45 @@ fn lies_outside(kernel: &Kernel, a: Lit, b: Lit) -> bool {
     prefix.contains(a.var()) && prefix.contains(b.var()) && prefix.outer_or_same(a.var(), b.var())
 }
 
-// Whether all literals are existential, and of the block of one.
-fn is_flat(kernel: &Kernel, part: &[Lit], keep: Lit) -> bool {
+// The first existential literal whose variable is not outer to that of any other one; the given one where there is none.
+fn innermost(kernel: &Kernel, part: &[Lit], first: Lit) -> Lit {
+    let mut best = first;
     for lit in part {
-        if !is_existential(kernel, lit.var()) || !lies_outside(kernel, *lit, keep) {
-            return false;
+        if is_existential(kernel, lit.var()) && !lies_outside(kernel, *lit, best) {
+            best = *lit;
         }
     }
-    true
+    best
+}
+
+// Whether two variables are of one block.
+fn lies_beside(kernel: &Kernel, a: Lit, b: Lit) -> bool {
+    lies_outside(kernel, a, b) && lies_outside(kernel, b, a)
+}
+
+// The literals of a component that are of the block of one, in their order.
+fn gather_beside(
+    kernel: &Kernel,
+    part: &[Lit],
+    inner: Lit,
+    lits: &mut Vec<Lit>,
+) -> Result<(), NoMemory> {
+    lits.clear();
+    for lit in part {
+        if lies_beside(kernel, *lit, inner) {
+            lits.push(*lit)?;
+        }
+    }
+    Ok(())
 }
 
 // Pairs by halves.
-fn halve(
-    kernel: &Kernel,
-    part: &[Lit],
-    halves: &mut Halves,
-    targets: &mut Vec<Target>,
-) -> Result<(), NoMemory>
+fn halve(kernel: &Kernel, halves: &mut Halves, targets: &mut Vec<Target>) -> Result<(), NoMemory>
     requires { All (MayStand kernel.now.prefix) targets.old.items }
     ensures { OnOk result (All (MayStand kernel.now.prefix) targets.new.items) }
 {
-    halves.lits.clear();
-    halves.lits.extend_from_slice(part)?;
     halves.pieces.clear();
-    halves.pieces.push((0, part.len()))?;
+    halves.pieces.push((0, halves.lits.len()))?;
     for _ in 0..usize::MAX {
         let Some((start, end)) = halves.pieces.pop() else {
             break;

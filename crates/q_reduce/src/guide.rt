@@ -40,6 +40,8 @@ pub struct Guide {
     block: u32,
     trees: Trees,
     asked: Asked,
+    // the universal literals for which no exit was found since the hops were made; nothing rests on that
+    barred: Queue,
     // so many clauses were looked at by walks since
     debt: usize,
 }
@@ -61,6 +63,7 @@ impl Guide {
             block: 0,
             trees: Trees::new(alloc),
             asked: Asked::new(alloc),
+            barred: Queue::new(alloc),
             debt: 0,
         }
     }
@@ -80,7 +83,7 @@ impl Guide {
     }
 
     /// The root, where hops lead from it to a literal near the negation of u: a walk that meets the root need not go on.
-    /// The queue may hold anything before and after.
+    /// Where they don't, that is remembered until there are other hops. The queue may hold anything before and after.
     pub fn exit(
         &mut self,
         kernel: &Kernel,
@@ -99,20 +102,43 @@ impl Guide {
         if self.opens(kernel, c, u, root) {
             return Ok(Some(root));
         }
+        if self.barred.has(u) {
+            return Ok(None);
+        }
+        if self.is_near(kernel, queue, c, u, root)? {
+            return Ok(Some(root));
+        }
+        self.barred.push(u)?;
+        Ok(None)
+    }
+
+    // Whether hops lead from the root to a literal near the negation of u.
+    fn is_near(
+        &self,
+        kernel: &Kernel,
+        queue: &mut Queue,
+        c: ClauseId,
+        u: Lit,
+        root: Lit,
+    ) -> Result<bool, NoMemory>
+        requires universal { HoldsUniversal kernel.now.prefix (slots kernel.now) c u }
+        requires hops { AreHopsOf kernel.now self.now }
+        ensures { IfOk result (λ yes. IsTrue yes → IsExit kernel.now.prefix (others c (slots kernel.now)) u root) }
+    {
         queue.clear();
         if self.probe(kernel, queue, c, u, u.negated(), root)? {
-            return Ok(Some(root));
+            return Ok(true);
         }
         for head in 0..NEAR {
             if head >= queue.len() || queue.len() >= NEAR {
-                return Ok(None);
+                return Ok(false);
             }
             let back = queue.at(head).negated();
             if self.probe(kernel, queue, c, u, back, root)? {
-                return Ok(Some(root));
+                return Ok(true);
             }
         }
-        Ok(None)
+        Ok(false)
     }
 
     // Whether core hops lead from the root to a literal beside the negation of u.
@@ -242,6 +268,7 @@ impl Guide {
         self.trees.grow(kernel, queue, root, universals)?;
         self.root = Some(root);
         self.block = inmost.var();
+        self.barred.clear();
         self.debt = 0;
         Ok(())
     }

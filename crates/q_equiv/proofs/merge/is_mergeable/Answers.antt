@@ -1,0 +1,13 @@
+use Rattle.q_logic.specs.Numbered.{live}
+use Rattle.q_kernel.specs.Kernels.{slots}
+use Rattle.q_equiv.proofs.Turned.{turned-mergeable}
+use Rattle.q_equiv.proofs.merge.is_mergeable.Goals as goal
+
+pub returns : goal.returns
+returns c =
+    let k = c.args.kernel.now in
+    let s = c.can_stand_for.ensures.0 c.if-not-can_stand_for.false in
+    let there = c.in_ok-is_joined.ensures.0 c.if-not-branch.false in
+    let turned = rw c.negated-2.ensures at (rw c.negated.ensures at c.in_ok-turned.ensures) in
+    let both = turned-mergeable k.prefix (live (slots k)) c.args.keep c.args.gone s there in
+    ((λ t. both.0 (turned.0 t)), (λ m. turned.1 (both.1 m)))
