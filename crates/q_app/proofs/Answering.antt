@@ -13,7 +13,7 @@ use Rattle.q_simplify.specs.Results.{IsEnoughFor, Simplifies, Leaves}
 use Rattle.q_simplify.proofs.Finishing.{leaves-whole, never-spent}
 use Rattle.q_app.specs.Checks.{IsFileOf, IsNoFormula, MayCome}
 use Rattle.q_app.specs.Statuses.{status_of_ending, status_of_simplified}
-use Rattle.q_app.specs.Says.{IsDue}
+use Rattle.q_app.specs.Says.{SinkView, IsDue}
 use Rattle.q_app.specs.Simplifying.{IsWritten, IsLeft, Ends, IsEnded, SimplifiesExactly}
 use Rattle.q_app.specs.declared.status.Status.{Status}
 use Rattle.q_app.specs.declared.status.Status.TheVariants as status
@@ -132,7 +132,7 @@ module _ (answer : Status) (o : Options) (i on ln : List ℕ) (before : Disk) (a
   due-answers WriteFault h e = write-fault (inr h) e
   due-answers NoMemory h e = no-memory h e
 
-  pub simplify-answers : (due : Simplified) (faults now : ℕ) → Ends due o i on ln before after → IsDue (status_of_simplified due) answer faults now → Result
-  simplify-answers due faults now h (inl e) = due-answers due h e
-  simplify-answers due faults now h (inr (inl e)) = write-fault (stands due h) e.0
-  simplify-answers due faults now h (inr (inr e)) = no-memory (stands due h) e
+  pub simplify-answers : (due : Simplified) (old new : SinkView) → Ends due o i on ln before after → IsDue (status_of_simplified due) answer old new → Result
+  simplify-answers due old new h (inl e) = due-answers due h e
+  simplify-answers due old new h (inr (inl e)) = write-fault (stands due h) e.0
+  simplify-answers due old new h (inr (inr e)) = no-memory (stands due h) e.0

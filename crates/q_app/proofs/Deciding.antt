@@ -19,7 +19,7 @@ use Rattle.q_rebuild.proofs.Allowing.{skolem-accepted}
 use Rattle.q_rebuild.proofs.Denying.{refused-not_accepted}
 use Rattle.q_app.specs.Checks.{Checks, IsFileOf, IsUnverified, IsVerified, MayCome, AnswersExactly}
 use Rattle.q_app.specs.RebuiltLines.{status_of_rebuilt}
-use Rattle.q_app.specs.Says.{IsDue}
+use Rattle.q_app.specs.Says.{SinkView, IsDue}
 use Rattle.q_app.specs.Statuses.{status_of}
 use Rattle.q_app.specs.Rebuilds.{FiveNames, OfCircuits, IsWhole, IsPart, AreRefused, OfVerified, Rebuilds, AreNoCircuits, IsUnfit, AreFitting, AreSkolem, IsUntouched, RebuildsExactly}
 use Rattle.q_app.specs.declared.outcome.Outcome.{Outcome}
@@ -150,7 +150,7 @@ module _ (answer : Status) (n : FiveNames) (before : Disk) (after : Option Disk)
 
   unverified : (w : Outcome) → IsUnverified w → Checks w (bytes_at before n.input) (bytes_at before n.output) (bytes_at before n.log) → after ≡ Some before → answer ≡ status_of w → Result
   unverified w u h same e =
-      let all : AnswersExactly answer (bytes_at before n.input) (bytes_at before n.output) (bytes_at before n.log) = answers {A = Unit {0}} w answer _ _ _ h (unverified-truth w _ _ u) (inl e) in
+      let all : AnswersExactly answer (bytes_at before n.input) (bytes_at before n.output) (bytes_at before n.log) = answers {A = Unit {0}} {B = Unit {0}} w answer _ _ _ h (unverified-truth w _ _ u) (inl e) in
       record {
         done = ((λ x. absurd (unverified-not_done w answer u e x)), (λ f. all.verified.1 f.verified));
         written = λ x. absurd (unverified-not_done w answer u e x);
@@ -212,7 +212,7 @@ module _ (answer : Status) (n : FiveNames) (before : Disk) (after : Option Disk)
   due-answers WriteFault h e = faulty (inr (inl e)) (λ x. let w : status.WriteFault ≡ status.ReadFault = sym e ∙ x in cc) (λ x. inr h)
   due-answers NoMemory h e = faulty (inr (inr e)) (λ x. let w : status.NoMemory ≡ status.ReadFault = sym e ∙ x in cc) (λ x. h)
 
-  pub rebuild-answers : (due : Rebuilt) (faults now : ℕ) → Rebuilds due n before after → IsDue (status_of_rebuilt due) answer faults now → Result
-  rebuild-answers due faults now h (inl e) = due-answers due h e
-  rebuild-answers due faults now h (inr (inl e)) = faulty (inr (inl e.0)) (λ x. let w : status.WriteFault ≡ status.ReadFault = sym e.0 ∙ x in cc) (λ x. stands due h)
-  rebuild-answers due faults now h (inr (inr e)) = faulty (inr (inr e)) (λ x. let w : status.NoMemory ≡ status.ReadFault = sym e ∙ x in cc) (λ x. stands due h)
+  pub rebuild-answers : (due : Rebuilt) (old new : SinkView) → Rebuilds due n before after → IsDue (status_of_rebuilt due) answer old new → Result
+  rebuild-answers due old new h (inl e) = due-answers due h e
+  rebuild-answers due old new h (inr (inl e)) = faulty (inr (inl e.0)) (λ x. let w : status.WriteFault ≡ status.ReadFault = sym e.0 ∙ x in cc) (λ x. stands due h)
+  rebuild-answers due old new h (inr (inr e)) = faulty (inr (inr e.0)) (λ x. let w : status.NoMemory ≡ status.ReadFault = sym e.0 ∙ x in cc) (λ x. stands due h)

@@ -92,9 +92,9 @@ no_formula answer i o l e h =
     }
 
 -- an answer is that of its outcome, or may come at any time
-pub answers : {A : Type 0} (due : Outcome) (answer : Status) (i o l : List ℕ) → Checks due i o l → IfVerified due (HaveOneTruth i o) → (answer ≡ status_of due) ⊎ ((answer ≡ status.WriteFault) × A) ⊎ (answer ≡ status.NoMemory) → AnswersExactly answer i o l
+pub answers : {A B : Type 0} (due : Outcome) (answer : Status) (i o l : List ℕ) → Checks due i o l → IfVerified due (HaveOneTruth i o) → (answer ≡ status_of due) ⊎ ((answer ≡ status.WriteFault) × A) ⊎ ((answer ≡ status.NoMemory) × B) → AnswersExactly answer i o l
 answers due answer i o l h t (inr (inl e)) = may_come answer i o l (inr (inl e.0)) (λ x. cc) (λ x. cc) (λ x. cc)
-answers due answer i o l h t (inr (inr e)) = may_come answer i o l (inr (inr e)) (λ x. cc) (λ x. cc) (λ x. cc)
+answers due answer i o l h t (inr (inr e)) = may_come answer i o l (inr (inr e.0)) (λ x. cc) (λ x. cc) (λ x. cc)
 answers (Verified n) answer i o l h t (inl e) =
     record {
       verified = ((λ x. accepted), (λ x. inl e));

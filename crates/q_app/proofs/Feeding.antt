@@ -5,7 +5,6 @@ use Rattle.std.proofs.lemmas.List.{take-append-drop}
 use Rattle.q_logic.specs.Limits.{standard}
 use Rattle.q_logic.specs.InLimits.{IsInLimits}
 use Rattle.q_logic.specs.Formulas.{PrenexFormula}
-use Rattle.q_io.specs.Files.{Rose}
 use Rattle.q_dimacs.specs.declared.error.ReadError.{ReadError}
 use Rattle.q_dimacs.specs.declared.error.ReadError.TheVariants as reading
 use Rattle.q_dimacs.specs.Dimacs.{Dimacs}
@@ -28,10 +27,6 @@ if_some_2 (Some d) p q h = h d p q
 
 pub at_same : {D : Type 0} (P : D → Type 0) (o p : Option D) → o ≡ p → IfSome o P → IfSome p P
 at_same P o p e h = subst (λ x. IfSome x P) e h
-
--- a count that rose later rose
-pub rises : (before mid now : ℕ) → before ≤ mid → Rose mid now → Rose before now
-rises before mid now h r = grind (arith, r, h)
 
 -- an error says the same in place of another value
 pub err_of : {S T E : Type 0} (w v : E) → IsErrOf {T = S} {E = E} (Err w) v → IsErrOf {T = T} {E = E} (Err w) v

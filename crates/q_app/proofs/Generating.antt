@@ -6,7 +6,7 @@ use Rattle.q_dimacs.specs.Writing.{formula_text}
 use Rattle.q_gen.specs.Generated as gen
 use Rattle.q_gen.specs.Outputs.{HoldsGenerated, HoldsGeneratedPart}
 use Rattle.q_app.specs.Generating.{status_of_generated, Generates, GeneratesExactly}
-use Rattle.q_app.specs.Says.{IsDue}
+use Rattle.q_app.specs.Says.{SinkView, IsDue}
 use Rattle.q_app.specs.declared.words.Scale.{Scale}
 use Rattle.q_app.specs.declared.generated.Generated.{Generated}
 use Rattle.q_app.specs.declared.generated.Generated.TheVariants.{Written, WriteFault, NoMemory}
@@ -39,7 +39,7 @@ module _ (given : Status) (k : Scale) (name : List ℕ) (before : Disk) (after :
   due-answers WriteFault h e = failed (inl e) h
   due-answers NoMemory h e = failed (inr e) h
 
-  pub generate-answers : (due : Generated) (faults now : ℕ) → Generates due k name before after → IsDue (status_of_generated due) given faults now → GeneratesExactly given k name before after
-  generate-answers due faults now h (inl e) = due-answers due h e
-  generate-answers due faults now h (inr (inl e)) = failed (inl e.0) (stands due h)
-  generate-answers due faults now h (inr (inr e)) = failed (inr e) (stands due h)
+  pub generate-answers : (due : Generated) (old new : SinkView) → Generates due k name before after → IsDue (status_of_generated due) given old new → GeneratesExactly given k name before after
+  generate-answers due old new h (inl e) = due-answers due h e
+  generate-answers due old new h (inr (inl e)) = failed (inl e.0) (stands due h)
+  generate-answers due old new h (inr (inr e)) = failed (inr e.0) (stands due h)

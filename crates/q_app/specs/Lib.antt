@@ -9,7 +9,6 @@ pub mod Checks
 pub mod Simplifying
 pub mod RebuiltLines
 pub mod Rebuilds
-pub mod SaysRebuilt
 pub mod RebuildWords
 pub mod Generating
 pub mod Commands

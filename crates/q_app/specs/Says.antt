@@ -1,6 +1,6 @@
 -- What a run does: the status that it gives, what the files hold then, the faults that it may answer, the lines that it puts.
 use Rattle.std.specs.Prelude.{◌≡◌, ◌⊎◌, ℕ, true, false, List, [], ◌∷◌, ◌++◌, take, Option, Some, None, IfSome}
-use Rattle.q_io.specs.Files.{Disk, Rose, bytes_at}
+use Rattle.q_io.specs.Files.{Disk, Rose, RoseAmong, bytes_at}
 use Rattle.q_app.specs.Statuses.{passes}
 use Rattle.q_app.specs.Answers.{status_of_answer, line_of_answer}
 use Rattle.q_app.specs.Words.{Command, checking, simplifying, rebuilding, generating, Request}
@@ -8,7 +8,6 @@ use Rattle.q_app.specs.Checks.{AnswersExactly, Checks}
 use Rattle.q_app.specs.Simplifying.{Ends, SimplifiesExactly}
 use Rattle.q_app.specs.Rebuilds.{Rebuilds, RebuildsExactly}
 use Rattle.q_app.specs.Generating.{Generates, GeneratesExactly}
-use Rattle.q_app.specs.SaysRebuilt.{RoseForRebuild, RoseForCert}
 use Rattle.q_app.specs.declared.outcome.Outcome.{Outcome}
 use Rattle.q_app.specs.declared.simplified.Simplified.{Simplified}
 use Rattle.q_app.specs.declared.rebuilt.Rebuilt.{Rebuilt}
@@ -18,28 +17,42 @@ use Rattle.q_app.specs.declared.answer.Answer.TheVariants as answer
 use Rattle.q_app.specs.declared.status.Status.{Status}
 use Rattle.q_app.specs.declared.status.Status.TheVariants as status
 
--- a front of the line, where the sink's own call failed: its count of faults rose, or it found no memory
-pub record SaysPart (before line : List ℕ) (given : Status) (faults now : ℕ) (after : Option (List ℕ)) : Type 0 where
-  pub part : ℕ
-  pub text : after ≡ Some (before ++ take part line)
-  pub failed : ((given ≡ status.WriteFault) × Rose faults now) ⊎ (given ≡ status.NoMemory)
+-- a sink at a moment: what was put, where it tells, and how often putting has failed, and memory was wanting for it
+pub record SinkView : Type 0 where
+  pub written : Option (List ℕ)
+  pub faults : ℕ
+  pub wants : ℕ
 
--- the line stands behind what was there, with the status that is due
-abbrev pub Says : List ℕ → List ℕ → Status → Status → ℕ → ℕ → Option (List ℕ) → Type 0
-Says before line due given faults now after =
-    ((given ≡ due) × (after ≡ Some (before ++ line))) ⊎ SaysPart before line given faults now after
+abbrev pub view_sink : {S : Type 0} → (S → Option (List ℕ)) → (S → ℕ) → (S → ℕ) → S → SinkView
+view_sink written faults wants out = record { written = written out; faults = faults out; wants = wants out }
+
+-- the sink's own call failed, or it found no memory: that count rose, and the status says so
+abbrev pub SinkFails : Status → SinkView → SinkView → Type 0
+SinkFails given before after =
+    ((given ≡ status.WriteFault) × Rose before.faults after.faults)
+    ⊎ ((given ≡ status.NoMemory) × Rose before.wants after.wants)
+
+-- a front of the line, where the sink failed
+pub record SaysPart (text line : List ℕ) (given : Status) (before after : SinkView) : Type 0 where
+  pub part : ℕ
+  pub put : after.written ≡ Some (text ++ take part line)
+  pub failed : SinkFails given before after
+
+-- the line stands behind the text that was there, with the status that is due
+abbrev pub Says : List ℕ → List ℕ → Status → Status → SinkView → SinkView → Type 0
+Says text line due given before after =
+    ((given ≡ due) × (after.written ≡ Some (text ++ line))) ⊎ SaysPart text line given before after
 
 -- the status is the one that is due, or the line could not be put
-abbrev pub IsDue : Status → Status → ℕ → ℕ → Type 0
-IsDue due given faults now =
-    (given ≡ due) ⊎ ((given ≡ status.WriteFault) × Rose faults now) ⊎ (given ≡ status.NoMemory)
+abbrev pub IsDue : Status → Status → SinkView → SinkView → Type 0
+IsDue due given before after = (given ≡ due) ⊎ SinkFails given before after
 
 -- an answer of which this holds is due; its line is put, where the sink tells, and its status is given
-pub record Puts (P : Answer → Type 0) (before : Option (List ℕ)) (given : Status) (faults now : ℕ) (after : Option (List ℕ)) : Type 0 where
+pub record Puts (P : Answer → Type 0) (before : SinkView) (given : Status) (after : SinkView) : Type 0 where
   pub due : Answer
   pub is : P due
-  pub given_is : IsDue (status_of_answer due) given faults now
-  pub says : IfSome before (λ text. Says text (line_of_answer due) (status_of_answer due) given faults now after)
+  pub given_is : IsDue (status_of_answer due) given before after
+  pub says : IfSome before.written (λ text. Says text (line_of_answer due) (status_of_answer due) given before after)
 
 -- what each command may answer, and that it is so where the files tell what they hold
 abbrev pub MaySay : Option Command → Option Disk → Option Disk → Answer → Type 0
@@ -62,22 +75,21 @@ Gives (Some (simplifying n p)) given before after = SimplifiesExactly given p n.
 Gives (Some (rebuilding n)) given before after = RebuildsExactly given n before after
 Gives (Some (generating k name)) given before after = GeneratesExactly given k name before after
 
--- the count of read faults rose for a file that the command reads
-abbrev pub RoseForReads : Option Command → (List ℕ → ℕ) → (List ℕ → ℕ) → Type 0
-RoseForReads None before now = ⊥
-RoseForReads (Some (checking n)) before now =
-    Rose (before n.input) (now n.input) ⊎ Rose (before n.output) (now n.output) ⊎ Rose (before n.log) (now n.log)
-RoseForReads (Some (simplifying n p)) before now = Rose (before n.input) (now n.input)
-RoseForReads (Some (rebuilding n)) before now = RoseForRebuild before now n
-RoseForReads (Some (generating k name)) before now = ⊥
+-- the names of the files that a command reads
+abbrev pub names_read : Option Command → List (List ℕ)
+names_read None = []
+names_read (Some (checking n)) = n.input ∷ n.output ∷ n.log ∷ []
+names_read (Some (simplifying n p)) = n.input ∷ []
+names_read (Some (rebuilding n)) = n.input ∷ n.output ∷ n.log ∷ n.skolem ∷ []
+names_read (Some (generating k name)) = []
 
--- the count of write faults rose for a file that the command writes
-abbrev pub RoseForWrites : Option Command → (List ℕ → ℕ) → (List ℕ → ℕ) → Type 0
-RoseForWrites None before now = ⊥
-RoseForWrites (Some (checking n)) before now = ⊥
-RoseForWrites (Some (simplifying n p)) before now = Rose (before n.output) (now n.output) ⊎ Rose (before n.log) (now n.log)
-RoseForWrites (Some (rebuilding n)) before now = RoseForCert before now n
-RoseForWrites (Some (generating k name)) before now = Rose (before name) (now name)
+-- the names of the files that a command writes
+abbrev pub names_written : Option Command → List (List ℕ)
+names_written None = []
+names_written (Some (checking n)) = []
+names_written (Some (simplifying n p)) = n.output ∷ n.log ∷ []
+names_written (Some (rebuilding n)) = n.cert ∷ []
+names_written (Some (generating k name)) = name ∷ []
 
 -- of a command that changes no file
 abbrev pub IfReading : Option Command → Type 0 → Type 0
@@ -87,17 +99,16 @@ IfReading (Some (simplifying n p)) P = Unit {0}
 IfReading (Some (rebuilding n)) P = Unit {0}
 IfReading (Some (generating k name)) P = Unit {0}
 
--- the devices at a moment: what the files and the sink hold, where they tell it, and their counts of faults
+-- the devices at a moment: what the files hold, where they tell it, their counts of faults, and the sink
 pub record Devices : Type 0 where
   pub held : Option Disk
   pub read_faults : List ℕ → ℕ
   pub write_faults : List ℕ → ℕ
-  pub written : Option (List ℕ)
-  pub faults : ℕ
+  pub sink : SinkView
 
-abbrev pub devices : Option Disk → (List ℕ → ℕ) → (List ℕ → ℕ) → Option (List ℕ) → ℕ → Devices
-devices held reads writes written faults =
-    record { held = held; read_faults = reads; write_faults = writes; written = written; faults = faults }
+abbrev pub devices : {F : Type 0} → (F → Option Disk) → (F → List ℕ → ℕ) → (F → List ℕ → ℕ) → F → SinkView → Devices
+devices held reads writes files sink =
+    record { held = held files; read_faults = reads files; write_faults = writes files; sink = sink }
 
 -- what a command does: the status that it gives and what the files hold then; a fault is given only where a count of faults
 -- rose, of a file that it reads or writes or of the sink; files that are only read stay, also where they don't tell what
@@ -105,10 +116,11 @@ devices held reads writes written faults =
 pub record Runs (c : Option Command) (before : Devices) (given : Status) (after : Devices) : Type 0 where
   pub gives : IfSome before.held (λ disk. Gives c given disk after.held)
   pub usage : given ≡ status.Usage → c ≡ None
-  pub read_fault : given ≡ status.ReadFault → RoseForReads c before.read_faults after.read_faults
-  pub write_fault : given ≡ status.WriteFault → Rose before.faults after.faults ⊎ RoseForWrites c before.write_faults after.write_faults
+  pub read_fault : given ≡ status.ReadFault → RoseAmong (λ (d : Devices). d.read_faults) (names_read c) before after
+  pub write_fault : given ≡ status.WriteFault →
+      Rose before.sink.faults after.sink.faults ⊎ RoseAmong (λ (d : Devices). d.write_faults) (names_written c) before after
   pub unchanged : IfReading c (after.held ≡ before.held)
-  pub line : Puts (MaySay c before.held after.held) before.written given before.faults after.faults after.written
+  pub line : Puts (MaySay c before.held after.held) before.sink given after.sink
 
 -- one command after the other, each over what the one before left; the first that does not pass is the last, and the status
 -- is that of the last

@@ -1,6 +1,6 @@
 ghost use Rattle.std.specs.Prelude.{◌≡◌, IfSome};
 ghost use Rattle.q_app.specs.Answers.{line_of_answer, status_of_answer};
-ghost use Rattle.q_app.specs.Says.{Says, IsDue};
+ghost use Rattle.q_app.specs.Says.{Says, IsDue, view_sink};
 
 use crate::generated::Generated;
 use crate::line::{Line, put, words_line};
@@ -49,10 +49,10 @@ impl Answer {
 
 /// Puts the line of an answer.
 pub(crate) fn say<S: Sink>(out: &mut S, answer: Answer) -> Status
-    ensures says { IfSome (S.written out.old) (λ before.
-        Says before (line_of_answer answer) (status_of_answer answer) result
-        (S.faults out.old) (S.faults out.new) (S.written out.new)) }
-    ensures answer { IsDue (status_of_answer answer) result (S.faults out.old) (S.faults out.new) }
+    ensures says { IfSome (S.written out.old) (λ text. Says text (line_of_answer answer) (status_of_answer answer) result
+        (view_sink S.written S.faults S.wants out.old) (view_sink S.written S.faults S.wants out.new)) }
+    ensures answer { IsDue (status_of_answer answer) result
+        (view_sink S.written S.faults S.wants out.old) (view_sink S.written S.faults S.wants out.new) }
 {
     put(out, answer.status(), answer.line().as_str().as_bytes())
 }

@@ -1,7 +1,7 @@
 // `check`: IN and OUT are read whole, and each step of LOG is tried as it is read.
-ghost use Rattle.std.specs.Prelude.{◌≡◌, ◌≤◌, ◌<◌, ◌⊎◌, List, ℕ, length, IfOk, IfErr, IfSome, IsErrOf};
+ghost use Rattle.std.specs.Prelude.{◌≡◌, ◌<◌, length, IfOk, IfErr, IfSome, IsErrOf, [], ◌∷◌};
 ghost use Rattle.q_logic.specs.Parts.{IsProper};
-ghost use Rattle.q_io.specs.Files.{Rose, bytes_at};
+ghost use Rattle.q_io.specs.Files.{Later, RoseAmong, RoseFor, bytes_at};
 ghost use Rattle.q_logic.specs.Prefixes.{IsFormula};
 ghost use Rattle.q_app.specs.Checks.{Checks, FilesPass, HaveOneTruth, IfVerified, IsEarly, IsFileOf, IsInputRefusal, IsUnverified, LeadsBack, LogPasses, LogSays, input_refused};
 
@@ -38,11 +38,9 @@ fn read_operand<F: Files>(
     ensures refused { IfErr result (λ o. IfSome (F.held files.old)
         (λ disk. IsInputRefusal role o (bytes_at disk name.now))) }
     ensures early { IfErr result IsEarly }
-    ensures fault { IsErrOf result Outcome.ReadFault →
-        Rose (F.read_faults files.old name.now) (F.read_faults files.new name.now) }
+    ensures fault { IsErrOf result Outcome.ReadFault → RoseFor F.read_faults name.now files.old files.new }
     ensures held { F.held files.new ≡ F.held files.old }
-    ensures read_later { (q : List ℕ) → F.read_faults files.old q ≤ F.read_faults files.new q }
-    ensures write_later { (q : List ℕ) → F.write_faults files.old q ≤ F.write_faults files.new q }
+    ensures later { Later F.read_faults F.write_faults files.old files.new }
 {
     match read_formula(alloc, files, name, buffer) {
         Ok(formula) => Ok(formula),
@@ -67,11 +65,9 @@ fn check_log<F: Files>(
     ensures says { IfErr result (λ o. IfSome (F.held files.old)
         (λ disk. LogSays o input.now output.now (bytes_at disk name.now))) }
     ensures unverified { IfErr result IsUnverified }
-    ensures fault { IsErrOf result Outcome.ReadFault →
-        Rose (F.read_faults files.old name.now) (F.read_faults files.new name.now) }
+    ensures fault { IsErrOf result Outcome.ReadFault → RoseFor F.read_faults name.now files.old files.new }
     ensures held { F.held files.new ≡ F.held files.old }
-    ensures read_later { (q : List ℕ) → F.read_faults files.old q ≤ F.read_faults files.new q }
-    ensures write_later { (q : List ℕ) → F.write_faults files.old q ≤ F.write_faults files.new q }
+    ensures later { Later F.read_faults F.write_faults files.old files.new }
 {
     let Ok(mut audit) = Audit::start(alloc, input, keep_undo) else {
         return Err(Outcome::NoMemory);
@@ -115,12 +111,9 @@ fn check_files<F: Files>(
         Checks o (bytes_at disk input.now) (bytes_at disk output.now) (bytes_at disk log.now))) }
     ensures unverified { IfErr result IsUnverified }
     ensures fault { IsErrOf result Outcome.ReadFault →
-        Rose (F.read_faults files.old input.now) (F.read_faults files.new input.now)
-        ⊎ Rose (F.read_faults files.old output.now) (F.read_faults files.new output.now)
-        ⊎ Rose (F.read_faults files.old log.now) (F.read_faults files.new log.now) }
+        RoseAmong F.read_faults (input.now ∷ output.now ∷ log.now ∷ []) files.old files.new }
     ensures held { F.held files.new ≡ F.held files.old }
-    ensures read_later { (q : List ℕ) → F.read_faults files.old q ≤ F.read_faults files.new q }
-    ensures write_later { (q : List ℕ) → F.write_faults files.old q ≤ F.write_faults files.new q }
+    ensures later { Later F.read_faults F.write_faults files.old files.new }
 {
     let from = match read_operand(alloc, files, Role::In, input, buffer) {
         Ok(formula) => formula,
@@ -158,12 +151,9 @@ pub(crate) fn verify<F: Files>(
         Checks o (bytes_at disk input.now) (bytes_at disk output.now) (bytes_at disk log.now))) }
     ensures unverified { IfErr result IsUnverified }
     ensures fault { IsErrOf result Outcome.ReadFault →
-        Rose (F.read_faults files.old input.now) (F.read_faults files.new input.now)
-        ⊎ Rose (F.read_faults files.old output.now) (F.read_faults files.new output.now)
-        ⊎ Rose (F.read_faults files.old log.now) (F.read_faults files.new log.now) }
+        RoseAmong F.read_faults (input.now ∷ output.now ∷ log.now ∷ []) files.old files.new }
     ensures held { F.held files.new ≡ F.held files.old }
-    ensures read_later { (q : List ℕ) → F.read_faults files.old q ≤ F.read_faults files.new q }
-    ensures write_later { (q : List ℕ) → F.write_faults files.old q ≤ F.write_faults files.new q }
+    ensures later { Later F.read_faults F.write_faults files.old files.new }
 {
     match vec![in alloc; 0u8; PIECE] {
         Ok(mut room) => {
@@ -189,9 +179,7 @@ pub(crate) fn check<F: Files>(
     ensures truth { IfVerified result (IfSome (F.held files.old)
         (λ disk. HaveOneTruth (bytes_at disk input.now) (bytes_at disk output.now))) }
     ensures fault { result ≡ Outcome.ReadFault →
-        Rose (F.read_faults files.old input.now) (F.read_faults files.new input.now)
-        ⊎ Rose (F.read_faults files.old output.now) (F.read_faults files.new output.now)
-        ⊎ Rose (F.read_faults files.old log.now) (F.read_faults files.new log.now) }
+        RoseAmong F.read_faults (input.now ∷ output.now ∷ log.now ∷ []) files.old files.new }
     ensures held { F.held files.new ≡ F.held files.old }
 {
     match verify(alloc, files, input, output, log, false) {

@@ -1,6 +1,6 @@
 // Lines: made on the stack, so none wants memory, and put.
 ghost use Rattle.std.specs.Prelude.{◌≡◌, ◌≤◌, ◌+◌, ◌++◌, length, codes, decimal, IfSome};
-ghost use Rattle.q_app.specs.Says.{Says, IsDue};
+ghost use Rattle.q_app.specs.Says.{Says, IsDue, view_sink};
 
 use crate::status::Status;
 use arrayvec::ArrayString;
@@ -56,9 +56,10 @@ pub(crate) fn numbers_line(words: &str, number: u64, further: &str, last: u64) -
 
 /// Puts a line. The answer is the status that is due, or why the line could not be put.
 pub(crate) fn put<S: Sink>(out: &mut S, due: Status, line: &[u8]) -> Status
-    ensures says { IfSome (S.written out.old) (λ before.
-        Says before line.now due result (S.faults out.old) (S.faults out.new) (S.written out.new)) }
-    ensures answer { IsDue due result (S.faults out.old) (S.faults out.new) }
+    ensures says { IfSome (S.written out.old) (λ text. Says text line.now due result
+        (view_sink S.written S.faults S.wants out.old) (view_sink S.written S.faults S.wants out.new)) }
+    ensures answer { IsDue due result
+        (view_sink S.written S.faults S.wants out.old) (view_sink S.written S.faults S.wants out.new) }
 {
     match out.put(line) {
         Ok(()) => due,

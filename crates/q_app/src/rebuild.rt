@@ -1,8 +1,8 @@
 // `rebuild`: the log is checked as by `check`, with what it leaves to undo; then the circuits of OUT are read and
 // carried back, and the circuits of IN are written. Nothing is created before all refusals are past.
-ghost use Rattle.std.specs.Prelude.{◌≡◌, ◌≤◌, ◌⊎◌, List, ℕ, IfOk, IfErr, IfSome, IsErrOf, true};
+ghost use Rattle.std.specs.Prelude.{◌≡◌, IfOk, IfErr, IfSome, IsErrOf, true, [], ◌∷◌};
 ghost use Rattle.q_logic.specs.Formulas.{PrenexFormula};
-ghost use Rattle.q_io.specs.Files.{Rose, bytes_at};
+ghost use Rattle.q_io.specs.Files.{Later, RoseAmong, RoseFor, bytes_at};
 ghost use Rattle.q_aiger.specs.Circuits.{AreCircuits};
 ghost use Rattle.q_app.specs.Checks.{LeadsBack};
 ghost use Rattle.q_app.specs.Rebuilds.{AreCarried, CircuitsFail, FaultsReading, IsOfCircuits, Puts, Rebuilds, TextFails, failed_read, failed_write as write_failed, five, refused_circuits as circuits_refused, refused_text as text_refused};
@@ -67,11 +67,9 @@ fn read_circuits<F: Files>(alloc: Global, files: &mut F, name: &str) -> Result<C
     ensures refused { IfErr result (λ o. IfSome (F.held files.old)
         (λ disk. TextFails o (bytes_at disk name.now))) }
     ensures of_circuits { IfErr result IsOfCircuits }
-    ensures fault { IsErrOf result Rebuilt.ReadFault →
-        Rose (F.read_faults files.old name.now) (F.read_faults files.new name.now) }
+    ensures fault { IsErrOf result Rebuilt.ReadFault → RoseFor F.read_faults name.now files.old files.new }
     ensures held { F.held files.new ≡ F.held files.old }
-    ensures read_later { (q : List ℕ) → F.read_faults files.old q ≤ F.read_faults files.new q }
-    ensures write_later { (q : List ℕ) → F.write_faults files.old q ≤ F.write_faults files.new q }
+    ensures later { Later F.read_faults F.write_faults files.old files.new }
 {
     let text = match read_whole(alloc, files, name) {
         Ok(text) => text,
@@ -96,11 +94,9 @@ fn carry_back<F: Files>(
     ensures refused { IfErr result (λ o. IfSome (F.held files.old)
         (λ disk. CircuitsFail o checked.now.to (bytes_at disk skolem.now))) }
     ensures of_circuits { IfErr result IsOfCircuits }
-    ensures fault { IsErrOf result Rebuilt.ReadFault →
-        Rose (F.read_faults files.old skolem.now) (F.read_faults files.new skolem.now) }
+    ensures fault { IsErrOf result Rebuilt.ReadFault → RoseFor F.read_faults skolem.now files.old files.new }
     ensures held { F.held files.new ≡ F.held files.old }
-    ensures read_later { (q : List ℕ) → F.read_faults files.old q ≤ F.read_faults files.new q }
-    ensures write_later { (q : List ℕ) → F.write_faults files.old q ≤ F.write_faults files.new q }
+    ensures later { Later F.read_faults F.write_faults files.old files.new }
 {
     let mut given = match read_circuits(alloc, files, skolem) {
         Ok(given) => given,
@@ -117,8 +113,7 @@ fn write_circuits<F: Files>(alloc: Global, files: &mut F, cert: &str, made: &Cer
     ensures puts { IfSome (F.held files.old)
         (λ disk. Puts result made.now cert.now disk (F.held files.new)) }
     ensures writing { FaultsReading result → ⊥ }
-    ensures cause { result ≡ Rebuilt.WriteFault →
-        Rose (F.write_faults files.old cert.now) (F.write_faults files.new cert.now) }
+    ensures cause { result ≡ Rebuilt.WriteFault → RoseFor F.write_faults cert.now files.old files.new }
 {
     let mut text = Vec::new(alloc);
     let gates = match write(made, &mut text) {
@@ -144,12 +139,8 @@ pub(crate) fn rebuild_files<F: Files>(
     ensures rebuilds { IfSome (F.held files.old) (λ disk.
         Rebuilds result (five input.now output.now log.now skolem.now cert.now) disk (F.held files.new)) }
     ensures read_fault { FaultsReading result →
-        Rose (F.read_faults files.old input.now) (F.read_faults files.new input.now)
-        ⊎ Rose (F.read_faults files.old output.now) (F.read_faults files.new output.now)
-        ⊎ Rose (F.read_faults files.old log.now) (F.read_faults files.new log.now)
-        ⊎ Rose (F.read_faults files.old skolem.now) (F.read_faults files.new skolem.now) }
-    ensures write_fault { result ≡ Rebuilt.WriteFault →
-        Rose (F.write_faults files.old cert.now) (F.write_faults files.new cert.now) }
+        RoseAmong F.read_faults (input.now ∷ output.now ∷ log.now ∷ skolem.now ∷ []) files.old files.new }
+    ensures write_fault { result ≡ Rebuilt.WriteFault → RoseFor F.write_faults cert.now files.old files.new }
 {
     let checked = match verify(alloc, files, input, output, log, true) {
         Ok(checked) => checked,

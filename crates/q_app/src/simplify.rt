@@ -1,9 +1,9 @@
 // `simplify`: IN is read whole, then the formula is simplified into OUT and LOG.
-ghost use Rattle.std.specs.Prelude.{◌≡◌, ◌≢◌, ◌≤◌, ◌⊎◌, List, ℕ, IfOk, IfErr, IfSome, IsErrOf};
+ghost use Rattle.std.specs.Prelude.{◌≡◌, ◌≢◌, IfOk, IfErr, IfSome, IsErrOf, [], ◌∷◌};
 ghost use Rattle.q_logic.specs.Limits.{standard};
 ghost use Rattle.q_logic.specs.InLimits.{IsInLimits};
 ghost use Rattle.q_logic.specs.Parts.{IsProper};
-ghost use Rattle.q_io.specs.Files.{Rose, bytes_at};
+ghost use Rattle.q_io.specs.Files.{Later, RoseAmong, RoseFor, bytes_at};
 ghost use Rattle.q_dimacs.specs.Dimacs.{Dimacs};
 ghost use Rattle.q_app.specs.Inputs.{IsRefused};
 ghost use Rattle.q_app.specs.Refusals.{failure_of, refusal_of};
@@ -26,11 +26,9 @@ fn read_input<F: Files>(alloc: Global, files: &mut F, input: &str) -> Result<For
     ensures limits { IfOk result (λ f. IsInLimits standard f) }
     ensures refused { IfErr result (λ e. IfSome (F.held files.old)
         (λ disk. IsRefused e (bytes_at disk input.now))) }
-    ensures fault { IsErrOf result InputError.Fault →
-        Rose (F.read_faults files.old input.now) (F.read_faults files.new input.now) }
+    ensures fault { IsErrOf result InputError.Fault → RoseFor F.read_faults input.now files.old files.new }
     ensures held { F.held files.new ≡ F.held files.old }
-    ensures read_later { (q : List ℕ) → F.read_faults files.old q ≤ F.read_faults files.new q }
-    ensures write_later { (q : List ℕ) → F.write_faults files.old q ≤ F.write_faults files.new q }
+    ensures later { Later F.read_faults F.write_faults files.old files.new }
 {
     match vec![in alloc; 0u8; PIECE] {
         Ok(mut room) => match read_formula(alloc, files, input, &mut room) {
@@ -74,11 +72,9 @@ pub(crate) fn simplify_file<F: Files>(
     requires names { output.now ≢ log.now }
     ensures ends { IfSome (F.held files.old) (λ disk.
         Ends result options.now input.now output.now log.now disk (F.held files.new)) }
-    ensures read_fault { result ≡ Simplified.ReadFault →
-        Rose (F.read_faults files.old input.now) (F.read_faults files.new input.now) }
+    ensures read_fault { result ≡ Simplified.ReadFault → RoseFor F.read_faults input.now files.old files.new }
     ensures write_fault { result ≡ Simplified.WriteFault →
-        Rose (F.write_faults files.old output.now) (F.write_faults files.new output.now)
-        ⊎ Rose (F.write_faults files.old log.now) (F.write_faults files.new log.now) }
+        RoseAmong F.write_faults (output.now ∷ log.now ∷ []) files.old files.new }
 {
     let formula = match read_input(alloc, files, input) {
         Ok(formula) => formula,

@@ -1,10 +1,10 @@
 // The top call.
-ghost use Rattle.std.specs.Prelude.{◌≡◌, ◌≢◌, ◌≤◌, ◌⊎◌, List, ℕ, map, string_bytes, IfSome, Some, None};
-ghost use Rattle.q_io.specs.Files.{Rose, bytes_at};
+ghost use Rattle.std.specs.Prelude.{◌≡◌, ◌≢◌, ◌≤◌, ◌⊎◌, map, string_bytes, IfSome, Some, None};
+ghost use Rattle.q_io.specs.Files.{Rose, RoseAmong};
 ghost use Rattle.q_kernel.specs.Taking.{AreModest};
 ghost use Rattle.q_app.specs.Words.{checking, demo, generating, simplifying, three};
 ghost use Rattle.q_app.specs.Commands.{IsFit, commands_of, request, three_of};
-ghost use Rattle.q_app.specs.Says.{Does, Gives, InTurn, MaySay, Puts, RoseForReads, RoseForWrites, devices};
+ghost use Rattle.q_app.specs.Says.{Does, Gives, InTurn, MaySay, Puts, devices, names_read, names_written, view_sink};
 
 use crate::answer::{Answer, say};
 use crate::check::check;
@@ -31,11 +31,11 @@ fn run_check<F: Files, S: Sink>(
     ensures gives { IfSome (F.held files.old) (λ disk.
         Gives (Some (checking (three input.now output.now log.now))) result disk (F.held files.new)) }
     ensures read_fault { result ≡ Status.ReadFault →
-        RoseForReads (Some (checking (three input.now output.now log.now))) (F.read_faults files.old) (F.read_faults files.new) }
+        RoseAmong F.read_faults (names_read (Some (checking (three input.now output.now log.now)))) files.old files.new }
     ensures write_fault { result ≡ Status.WriteFault → Rose (S.faults out.old) (S.faults out.new) }
     ensures unchanged { F.held files.new ≡ F.held files.old }
     ensures line { Puts (MaySay (Some (checking (three input.now output.now log.now))) (F.held files.old) (F.held files.new))
-        (S.written out.old) result (S.faults out.old) (S.faults out.new) (S.written out.new) }
+        (view_sink S.written S.faults S.wants out.old) result (view_sink S.written S.faults S.wants out.new) }
 {
     let outcome = check(alloc, files, input, output, log);
     say(out, Answer::Check(outcome))
@@ -57,11 +57,11 @@ fn run_simplify<F: Files, S: Sink>(
     ensures gives { IfSome (F.held files.old) (λ disk.
         Gives (Some (simplifying (three input.now output.now log.now) options.now)) result disk (F.held files.new)) }
     ensures read_fault { result ≡ Status.ReadFault →
-        RoseForReads (Some (simplifying (three input.now output.now log.now) options.now)) (F.read_faults files.old) (F.read_faults files.new) }
+        RoseAmong F.read_faults (names_read (Some (simplifying (three input.now output.now log.now) options.now))) files.old files.new }
     ensures write_fault { result ≡ Status.WriteFault → Rose (S.faults out.old) (S.faults out.new)
-        ⊎ RoseForWrites (Some (simplifying (three input.now output.now log.now) options.now)) (F.write_faults files.old) (F.write_faults files.new) }
+        ⊎ RoseAmong F.write_faults (names_written (Some (simplifying (three input.now output.now log.now) options.now))) files.old files.new }
     ensures line { Puts (MaySay (Some (simplifying (three input.now output.now log.now) options.now)) (F.held files.old) (F.held files.new))
-        (S.written out.old) result (S.faults out.old) (S.faults out.new) (S.written out.new) }
+        (view_sink S.written S.faults S.wants out.old) result (view_sink S.written S.faults S.wants out.new) }
 {
     let outcome = simplify_file(alloc, files, input, output, log, options, guides);
     say(out, Answer::Simplify(outcome))
@@ -79,9 +79,9 @@ fn run_generate<F: Files, S: Sink>(
     ensures gives { IfSome (F.held files.old) (λ disk. Gives (Some (generating scale output.now)) result disk (F.held files.new)) }
     ensures read_fault { result ≢ Status.ReadFault }
     ensures write_fault { result ≡ Status.WriteFault → Rose (S.faults out.old) (S.faults out.new)
-        ⊎ RoseForWrites (Some (generating scale output.now)) (F.write_faults files.old) (F.write_faults files.new) }
+        ⊎ RoseAmong F.write_faults (names_written (Some (generating scale output.now))) files.old files.new }
     ensures line { Puts (MaySay (Some (generating scale output.now)) (F.held files.old) (F.held files.new))
-        (S.written out.old) result (S.faults out.old) (S.faults out.new) (S.written out.new) }
+        (view_sink S.written S.faults S.wants out.old) result (view_sink S.written S.faults S.wants out.new) }
 {
     let outcome = generate_file(alloc, files, scale, output);
     say(out, Answer::Generate(outcome))
@@ -100,8 +100,8 @@ fn run_demo<F: Files, S: Sink>(
     requires names { names.output.now ≢ names.log.now }
     ensures usage { result ≢ Status.Usage }
     ensures demo { InTurn (demo scale (three_of names.entry))
-        (devices (F.held files.old) (F.read_faults files.old) (F.write_faults files.old) (S.written out.old) (S.faults out.old)) result
-        (devices (F.held files.new) (F.read_faults files.new) (F.write_faults files.new) (S.written out.new) (S.faults out.new)) }
+        (devices F.held F.read_faults F.write_faults files.old (view_sink S.written S.faults S.wants out.old)) result
+        (devices F.held F.read_faults F.write_faults files.new (view_sink S.written S.faults S.wants out.new)) }
 {
     let made = run_generate(alloc, files, out, scale, names.input);
     if !made.passes() {
@@ -129,7 +129,7 @@ fn run_nothing<S: Sink>(out: &mut S) -> Status
     ensures usage { (result ≡ Status.Usage) ⊎ (result ≡ Status.WriteFault) ⊎ (result ≡ Status.NoMemory) }
     ensures write_fault { result ≡ Status.WriteFault → Rose (S.faults out.old) (S.faults out.new) }
     ensures line { Puts (λ due. due ≡ Answer.Usage)
-        (S.written out.old) result (S.faults out.old) (S.faults out.new) (S.written out.new) }
+        (view_sink S.written S.faults S.wants out.old) result (view_sink S.written S.faults S.wants out.new) }
 {
     say(out, Answer::Usage)
 }
@@ -144,8 +144,8 @@ fn run_command<F: Files, S: Sink>(
     requires { IsFit command }
     ensures usage { result ≢ Status.Usage }
     ensures does { InTurn (commands_of command.entry)
-        (devices (F.held files.old) (F.read_faults files.old) (F.write_faults files.old) (S.written out.old) (S.faults out.old)) result
-        (devices (F.held files.new) (F.read_faults files.new) (F.write_faults files.new) (S.written out.new) (S.faults out.new)) }
+        (devices F.held F.read_faults F.write_faults files.old (view_sink S.written S.faults S.wants out.old)) result
+        (devices F.held F.read_faults F.write_faults files.new (view_sink S.written S.faults S.wants out.new)) }
 {
     match command {
         Command::Check { names } => {
@@ -194,8 +194,8 @@ pub fn run<F: Files, S: Sink>(
 
     // When each status comes, what the files hold then, which faults are answered and which lines are put.
     ensures does { Does (request (map (λ w. string_bytes w) words.now))
-        (devices (F.held files.old) (F.read_faults files.old) (F.write_faults files.old) (S.written out.old) (S.faults out.old)) result
-        (devices (F.held files.new) (F.read_faults files.new) (F.write_faults files.new) (S.written out.new) (S.faults out.new)) }
+        (devices F.held F.read_faults F.write_faults files.old (view_sink S.written S.faults S.wants out.old)) result
+        (devices F.held F.read_faults F.write_faults files.new (view_sink S.written S.faults S.wants out.new)) }
 {
     match parse(words) {
         Some(command) => run_command(alloc, files, out, command, guides),

@@ -1,6 +1,6 @@
 // Files that are read whole, and files that are written whole.
-ghost use Rattle.std.specs.Prelude.{◌≡◌, ◌≤◌, ◌<◌, List, ℕ, length, true, IfOk, OnOk, OnErr, IfSome, IsErrOf};
-ghost use Rattle.q_io.specs.Files.{Rose, bytes_at};
+ghost use Rattle.std.specs.Prelude.{◌≡◌, ◌≤◌, ◌<◌, length, true, IfOk, OnOk, OnErr, IfSome, IsErrOf};
+ghost use Rattle.q_io.specs.Files.{Later, RoseFor, bytes_at};
 ghost use Rattle.q_app.specs.Rebuilds.{HasAppended, HasLineEnd, HoldsBytes, HoldsFront, IsTextOf};
 
 use crate::input::PIECE;
@@ -23,11 +23,9 @@ fn append_piece<F: Files>(
     ensures count { IfOk result (λ n. n ≤ length buffer.old) }
     ensures appended { IfOk result (λ n. IfSome (F.held files.old)
         (λ disk. HasAppended (bytes_at disk name.now) at n text.old.items text.new.items)) }
-    ensures fault { IsErrOf result DeviceError.Failed →
-        Rose (F.read_faults files.old name.now) (F.read_faults files.new name.now) }
+    ensures fault { IsErrOf result DeviceError.Failed → RoseFor F.read_faults name.now files.old files.new }
     ensures held { F.held files.new ≡ F.held files.old }
-    ensures read_later { (q : List ℕ) → F.read_faults files.old q ≤ F.read_faults files.new q }
-    ensures write_later { (q : List ℕ) → F.write_faults files.old q ≤ F.write_faults files.new q }
+    ensures later { Later F.read_faults F.write_faults files.old files.new }
 {
     let count = match files.read(name, at, buffer) {
         Ok(count) => count,
@@ -73,11 +71,9 @@ fn read_through<F: Files>(
     requires small { length buffer.old ≤ 65536 }
     ensures bytes { IfOk result (λ text. IfSome (F.held files.old)
         (λ disk. IsTextOf (bytes_at disk name.now) text.items)) }
-    ensures fault { IsErrOf result DeviceError.Failed →
-        Rose (F.read_faults files.old name.now) (F.read_faults files.new name.now) }
+    ensures fault { IsErrOf result DeviceError.Failed → RoseFor F.read_faults name.now files.old files.new }
     ensures held { F.held files.new ≡ F.held files.old }
-    ensures read_later { (q : List ℕ) → F.read_faults files.old q ≤ F.read_faults files.new q }
-    ensures write_later { (q : List ℕ) → F.write_faults files.old q ≤ F.write_faults files.new q }
+    ensures later { Later F.read_faults F.write_faults files.old files.new }
 {
     let mut text = Vec::new(alloc);
     let mut at = 0u64;
@@ -99,11 +95,9 @@ pub(crate) fn read_whole<F: Files>(
 ) -> Result<Vec<u8>, DeviceError>
     ensures bytes { IfOk result (λ text. IfSome (F.held files.old)
         (λ disk. IsTextOf (bytes_at disk name.now) text.items)) }
-    ensures fault { IsErrOf result DeviceError.Failed →
-        Rose (F.read_faults files.old name.now) (F.read_faults files.new name.now) }
+    ensures fault { IsErrOf result DeviceError.Failed → RoseFor F.read_faults name.now files.old files.new }
     ensures held { F.held files.new ≡ F.held files.old }
-    ensures read_later { (q : List ℕ) → F.read_faults files.old q ≤ F.read_faults files.new q }
-    ensures write_later { (q : List ℕ) → F.write_faults files.old q ≤ F.write_faults files.new q }
+    ensures later { Later F.read_faults F.write_faults files.old files.new }
 {
     match vec![in alloc; 0u8; PIECE] {
         Ok(mut room) => match read_through(alloc, files, name, &mut room) {
@@ -124,9 +118,8 @@ pub(crate) fn write_whole<F: Files>(
         (λ disk. HoldsBytes name.now text.now disk (F.held files.new))) }
     ensures part { OnErr result (IfSome (F.held files.old)
         (λ disk. HoldsFront name.now text.now disk (F.held files.new))) }
-    ensures cause { IsErrOf result DeviceError.Failed →
-        Rose (F.write_faults files.old name.now) (F.write_faults files.new name.now) }
-    ensures write_later { (q : List ℕ) → F.write_faults files.old q ≤ F.write_faults files.new q }
+    ensures cause { IsErrOf result DeviceError.Failed → RoseFor F.write_faults name.now files.old files.new }
+    ensures later { Later F.read_faults F.write_faults files.old files.new }
 {
     if let Err(error) = files.create(name) {
         return Err(error);

@@ -1,6 +1,7 @@
 use Rattle.std.proofs.Common.{◌∙◌, [], refl, arith}
 use Rattle.q_io.specs.Files.{bytes_at}
-use Rattle.q_app.proofs.Feeding.{if_some, if_some_2, at_same, err_goes, ok_goes, ok_then}
+use Rattle.q_io.proofs.Counts.{later_at_once, later_still, rose_later}
+use Rattle.q_app.proofs.Feeding.{if_some, if_some_2, at_same, err_of, err_goes, ok_goes, ok_then}
 use Rattle.q_app.proofs.Auditing.{advances_begin, advances_through, tries_begin, tries_more, tries_end, refuses_whole}
 use Rattle.q_app.proofs.Concluding.{leads_back, log_passes, log_says, log_refuses}
 use Rattle.q_app.proofs.check.check_log.Goals as goal
@@ -13,8 +14,7 @@ loop-audit-init g c =
       left = omega (arith, c.in-Ok.ensures.left);
       front = if_some (g.F.Files.held c.args.files.now) (λ disk. tries_begin (bytes_at disk c.args.name.now) c.in-Ok.audit c.in-Ok.ensures.goes_on);
       held = refl;
-      read_later = λ q. omega arith;
-      write_later = λ q. omega arith;
+      later = later_at_once _ _ _;
     }
 
 pub returns-in-Ok-eq0-clause-says : goal.returns-in-Ok-eq0-clause-says
@@ -46,8 +46,7 @@ loop-audit-preserved g c =
       left = omega (arith, c.in-Ok-read_piece.ensures.left, c.loop-audit.invariant.left);
       front = if_some_2 (g.F.Files.held c.args.files.now) c.loop-audit.invariant.front taken (λ disk f p. tries_more _ _ _ _ _ _ f p);
       held = c.read_piece.ensures.held ∙ c.loop-audit.invariant.held;
-      read_later = λ q. omega (arith, c.loop-audit.invariant.read_later q, c.read_piece.ensures.read_later q);
-      write_later = λ q. omega (arith, c.loop-audit.invariant.write_later q, c.read_piece.ensures.write_later q);
+      later = later_still _ _ _ _ _ c.loop-audit.invariant.later c.read_piece.ensures.later;
     }
 
 pub returns-in-Err-clause-says : goal.returns-in-Err-clause-says
@@ -56,8 +55,12 @@ returns-in-Err-clause-says g c =
     if_some_2 (g.F.Files.held c.args.files.now) c.loop-audit.invariant.front refused
     (λ disk f r. log_refuses c.in-Ok.audit c.args.keep_undo c.args.input.now c.args.output.now (bytes_at disk c.args.name.now) c.in-Err.outcome c.in-Ok.ensures (refuses_whole _ _ _ _ _ f r))
 
-pub returns-in-Err-clause-read_later : goal.returns-in-Err-clause-read_later
-returns-in-Err-clause-read_later g c = λ q. omega (arith, c.loop-audit.invariant.read_later q, c.read_piece.ensures.read_later q)
+pub returns-in-Ok-eq0-clause-later : goal.returns-in-Ok-eq0-clause-later
+returns-in-Ok-eq0-clause-later g c = later_still _ _ _ _ _ c.loop-audit.invariant.later c.read_piece.ensures.later
 
-pub returns-in-Err-clause-write_later : goal.returns-in-Err-clause-write_later
-returns-in-Err-clause-write_later g c = λ q. omega (arith, c.loop-audit.invariant.write_later q, c.read_piece.ensures.write_later q)
+pub returns-in-Err-clause-fault : goal.returns-in-Err-clause-fault
+returns-in-Err-clause-fault g c =
+    λ e. rose_later _ _ _ (c.loop-audit.invariant.later.read c.args.name.now) (c.in-Err.ensures.fault (err_of _ _ e))
+
+pub returns-in-Err-clause-later : goal.returns-in-Err-clause-later
+returns-in-Err-clause-later g c = later_still _ _ _ _ _ c.loop-audit.invariant.later c.read_piece.ensures.later

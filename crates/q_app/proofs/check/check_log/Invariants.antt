@@ -1,5 +1,5 @@
-use Rattle.std.proofs.Common.{◌+◌, ◌-◌, ◌≡◌, ◌≤◌, List, ℕ, IfSome}
-use Rattle.q_io.specs.Files.{bytes_at}
+use Rattle.std.proofs.Common.{◌+◌, ◌-◌, ◌≡◌, List, ℕ, IfSome}
+use Rattle.q_io.specs.Files.{Later, bytes_at}
 use Rattle.q_app.specs.Audits.{IsOpen, Advances}
 use Rattle.q_app.proofs.Auditing.{HasTried}
 use Rattle.q_app.proofs.check.check_log.Given as goal
@@ -12,8 +12,7 @@ invariant-loop-audit g l =
       left : l.audit.reader.left + l.at ≡ 1099511627776;
       front : IfSome (g.F.Files.held l.fn.files) (λ disk. HasTried (bytes_at disk l.name) l.at l.initial.audit l.audit);
       held : g.F.Files.held l.files ≡ g.F.Files.held l.fn.files;
-      read_later : (q : List ℕ) → g.F.Files.read_faults l.fn.files q ≤ g.F.Files.read_faults l.files q;
-      write_later : (q : List ℕ) → g.F.Files.write_faults l.fn.files q ≤ g.F.Files.write_faults l.files q;
+      later : Later g.F.Files.read_faults g.F.Files.write_faults l.fn.files l.files;
     }
 
 abbrev pub decreases-loop-audit : goal.decreases-loop-audit

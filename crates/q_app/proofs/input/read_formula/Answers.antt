@@ -1,7 +1,8 @@
 use Rattle.std.proofs.Common.{◌∙◌, refl, subst, arith, []}
 use Rattle.q_io.specs.Files.{bytes_at}
+use Rattle.q_io.proofs.Counts.{later_at_once, later_still, rose_later}
 use Rattle.q_dimacs.specs.Scanning.{HasRead}
-use Rattle.q_app.proofs.Feeding.{if_some, if_some_2, at_same, begins, starts, ends_formula, ends_refused, ends_limits, rises, err_of}
+use Rattle.q_app.proofs.Feeding.{if_some, if_some_2, at_same, begins, starts, ends_formula, ends_refused, ends_limits, err_of}
 use Rattle.q_app.proofs.input.read_formula.Goals as goal
 
 pub loop-reader-init : goal.loop-reader-init
@@ -10,8 +11,7 @@ loop-reader-init g c =
       reading = starts _ (subst (λ m. HasRead m [] c.in-Ok.reader) c.standard.ensures c.in-Ok.ensures.start);
       front = if_some (g.F.Files.held c.args.files.now) (λ d. begins _ _ (subst (λ m. HasRead m [] c.in-Ok.reader) c.standard.ensures c.in-Ok.ensures.start));
       held = refl;
-      read_later = λ q. omega arith;
-      write_later = λ q. omega arith;
+      later = later_at_once _ _ _;
     }
 
 pub feed_piece-requires-clause-place : goal.feed_piece-requires-clause-place
@@ -33,8 +33,8 @@ returns-in-Ok-eq0-clause-refused g c =
 pub returns-in-Ok-eq0-clause-held : goal.returns-in-Ok-eq0-clause-held
 returns-in-Ok-eq0-clause-held g c = c.feed_piece.ensures.held ∙ c.loop-reader.invariant.held
 
-pub returns-in-Ok-eq0-clause-read_later : goal.returns-in-Ok-eq0-clause-read_later
-returns-in-Ok-eq0-clause-read_later g c = λ q. omega (arith, c.loop-reader.invariant.read_later q, c.feed_piece.ensures.read_later q)
+pub returns-in-Ok-eq0-clause-later : goal.returns-in-Ok-eq0-clause-later
+returns-in-Ok-eq0-clause-later g c = later_still _ _ _ _ _ c.loop-reader.invariant.later c.feed_piece.ensures.later
 
 pub loop-reader-smaller : goal.loop-reader-smaller
 loop-reader-smaller g c =
@@ -47,8 +47,7 @@ loop-reader-preserved g c =
       reading = c.in-Ok-feed_piece.ensures.reading;
       front = if_some_2 (g.F.Files.held c.args.files.now) c.loop-reader.invariant.front fed (λ d f p. p.further f);
       held = c.feed_piece.ensures.held ∙ c.loop-reader.invariant.held;
-      read_later = λ q. omega (arith, c.loop-reader.invariant.read_later q, c.feed_piece.ensures.read_later q);
-      write_later = λ q. omega (arith, c.loop-reader.invariant.write_later q, c.feed_piece.ensures.write_later q);
+      later = later_still _ _ _ _ _ c.loop-reader.invariant.later c.feed_piece.ensures.later;
     }
 
 pub returns-in-Err-feed_piece-clause-refused : goal.returns-in-Err-feed_piece-clause-refused
@@ -58,19 +57,13 @@ returns-in-Err-feed_piece-clause-refused g c =
 
 pub returns-in-Err-feed_piece-clause-fault : goal.returns-in-Err-feed_piece-clause-fault
 returns-in-Err-feed_piece-clause-fault g c =
-    λ e. rises _ _ _ (c.loop-reader.invariant.read_later c.args.name.now) (c.in-Err-feed_piece.ensures.fault (err_of _ _ e))
+    λ e. rose_later _ _ _ (c.loop-reader.invariant.later.read c.args.name.now) (c.in-Err-feed_piece.ensures.fault (err_of _ _ e))
 
 pub returns-in-Err-feed_piece-clause-held : goal.returns-in-Err-feed_piece-clause-held
 returns-in-Err-feed_piece-clause-held g c = c.feed_piece.ensures.held ∙ c.loop-reader.invariant.held
 
-pub returns-in-Err-feed_piece-clause-read_later : goal.returns-in-Err-feed_piece-clause-read_later
-returns-in-Err-feed_piece-clause-read_later g c = λ q. omega (arith, c.loop-reader.invariant.read_later q, c.feed_piece.ensures.read_later q)
+pub returns-in-Err-feed_piece-clause-later : goal.returns-in-Err-feed_piece-clause-later
+returns-in-Err-feed_piece-clause-later g c = later_still _ _ _ _ _ c.loop-reader.invariant.later c.feed_piece.ensures.later
 
 pub returns-in-Ok-eq0-clause-limits : goal.returns-in-Ok-eq0-clause-limits
 returns-in-Ok-eq0-clause-limits g c = ends_limits c.finish.result c.feed_piece.new.reader c.in-Ok-eq0.ensures.reading c.finish.ensures.limits
-
-pub returns-in-Ok-eq0-clause-write_later : goal.returns-in-Ok-eq0-clause-write_later
-returns-in-Ok-eq0-clause-write_later g c = λ q. omega (arith, c.loop-reader.invariant.write_later q, c.feed_piece.ensures.write_later q)
-
-pub returns-in-Err-feed_piece-clause-write_later : goal.returns-in-Err-feed_piece-clause-write_later
-returns-in-Err-feed_piece-clause-write_later g c = λ q. omega (arith, c.loop-reader.invariant.write_later q, c.feed_piece.ensures.write_later q)

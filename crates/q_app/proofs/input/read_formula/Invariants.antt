@@ -1,5 +1,5 @@
-use Rattle.std.proofs.Common.{◌-◌, ◌≡◌, ◌≤◌, List, ℕ, IfSome}
-use Rattle.q_io.specs.Files.{bytes_at}
+use Rattle.std.proofs.Common.{◌-◌, ◌≡◌, IfSome}
+use Rattle.q_io.specs.Files.{Later, bytes_at}
 use Rattle.q_app.specs.Inputs.{IsReading, HasFront}
 use Rattle.q_app.proofs.input.read_formula.Given as goal
 
@@ -9,8 +9,7 @@ invariant-loop-reader g l =
       reading : IsReading l.at l.reader;
       front : IfSome (g.F.Files.held l.fn.files) (λ disk. HasFront (bytes_at disk l.name) l.at l.reader);
       held : g.F.Files.held l.files ≡ g.F.Files.held l.fn.files;
-      read_later : (q : List ℕ) → g.F.Files.read_faults l.fn.files q ≤ g.F.Files.read_faults l.files q;
-      write_later : (q : List ℕ) → g.F.Files.write_faults l.fn.files q ≤ g.F.Files.write_faults l.files q;
+      later : Later g.F.Files.read_faults g.F.Files.write_faults l.fn.files l.files;
     }
 
 abbrev pub decreases-loop-reader : goal.decreases-loop-reader

@@ -1,5 +1,6 @@
 use Rattle.std.proofs.Common.{◌∙◌, ap, Err}
-use Rattle.q_app.proofs.Feeding.{at_same, rises}
+use Rattle.q_io.proofs.Counts.{rose_later}
+use Rattle.q_app.proofs.Feeding.{at_same}
 use Rattle.q_app.proofs.Certifying.{circuits-not_write, circuits-reading, joined}
 use Rattle.q_app.proofs.rebuild.rebuild_files.Goals as goal
 
@@ -14,13 +15,13 @@ returns-in-Ok-carry_back-clause-read_fault g c = λ f. absurd (c.write_circuits.
 
 pub returns-in-Ok-carry_back-clause-write_fault : goal.returns-in-Ok-carry_back-clause-write_fault
 returns-in-Ok-carry_back-clause-write_fault g c = λ e.
-    rises (g.F.Files.write_faults c.args.files.now c.args.cert.now) (g.F.Files.write_faults c.verify.new.files c.args.cert.now) (g.F.Files.write_faults c.write_circuits.new.files c.args.cert.now) (c.in-Ok.ensures.write_later c.args.cert.now)
-    (rises (g.F.Files.write_faults c.verify.new.files c.args.cert.now) (g.F.Files.write_faults c.carry_back.new.files c.args.cert.now) (g.F.Files.write_faults c.write_circuits.new.files c.args.cert.now) (c.in-Ok-carry_back.ensures.write_later c.args.cert.now) (c.write_circuits.ensures.cause e))
+    rose_later (g.F.Files.write_faults c.args.files.now c.args.cert.now) (g.F.Files.write_faults c.verify.new.files c.args.cert.now) (g.F.Files.write_faults c.write_circuits.new.files c.args.cert.now) (c.in-Ok.ensures.later.write c.args.cert.now)
+    (rose_later (g.F.Files.write_faults c.verify.new.files c.args.cert.now) (g.F.Files.write_faults c.carry_back.new.files c.args.cert.now) (g.F.Files.write_faults c.write_circuits.new.files c.args.cert.now) (c.in-Ok-carry_back.ensures.later.write c.args.cert.now) (c.write_circuits.ensures.cause e))
 
 pub returns-clause-read_fault : goal.returns-clause-read_fault
 returns-clause-read_fault g c =
     circuits-reading c.in-Err-carry_back.outcome c.in-Err-carry_back.ensures.of_circuits
-    (λ e. rises (g.F.Files.read_faults c.args.files.now c.args.skolem.now) (g.F.Files.read_faults c.verify.new.files c.args.skolem.now) (g.F.Files.read_faults c.carry_back.new.files c.args.skolem.now) (c.in-Ok.ensures.read_later c.args.skolem.now) (c.in-Err-carry_back.ensures.fault (ap Err e)))
+    (λ e. rose_later (g.F.Files.read_faults c.args.files.now c.args.skolem.now) (g.F.Files.read_faults c.verify.new.files c.args.skolem.now) (g.F.Files.read_faults c.carry_back.new.files c.args.skolem.now) (c.in-Ok.ensures.later.read c.args.skolem.now) (c.in-Err-carry_back.ensures.fault (ap Err e)))
 
 pub returns-clause-write_fault : goal.returns-clause-write_fault
 returns-clause-write_fault g c = λ e. absurd (circuits-not_write c.in-Err-carry_back.outcome c.in-Err-carry_back.ensures.of_circuits e)

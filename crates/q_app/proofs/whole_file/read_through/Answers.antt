@@ -1,5 +1,6 @@
 use Rattle.std.proofs.Common.{◌∙◌, arith, inl}
 use Rattle.q_io.specs.Files.{bytes_at}
+use Rattle.q_io.proofs.Counts.{later_still}
 use Rattle.q_app.specs.Rebuilds.{IsTextOf}
 use Rattle.q_app.proofs.Feeding.{if_some_1, if_some_2, at_same, ok_goes}
 use Rattle.q_app.proofs.WholeFiles.{front-more, front-end, front-long}
@@ -12,8 +13,7 @@ loop-at-preserved g c =
       front = if_some_2 (g.F.Files.held c.args.files.now) c.loop-at.invariant.front taken (λ disk f p. front-more _ _ _ _ _ f p);
       bound = omega (arith, c.loop-at-test.true, c.in-Ok.ensures.count);
       held = c.append_piece.ensures.held ∙ c.loop-at.invariant.held;
-      read_later = λ q. omega (arith, c.loop-at.invariant.read_later q, c.append_piece.ensures.read_later q);
-      write_later = λ q. omega (arith, c.loop-at.invariant.write_later q, c.append_piece.ensures.write_later q);
+      later = later_still _ _ _ _ _ c.loop-at.invariant.later c.append_piece.ensures.later;
     }
 
 pub returns-in-Ok-eq0-clause-bytes : goal.returns-in-Ok-eq0-clause-bytes
