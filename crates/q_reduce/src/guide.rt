@@ -312,6 +312,9 @@ fn climbs(kernel: &Kernel, toward: &Tree, c: ClauseId, u: Lit, from: Lit, root: 
     requires sure { AreSure kernel.now.prefix (live (slots kernel.now)) toward.now }
     ensures { IsTrue result → (C : Clause) → IsMet kernel.now.prefix (others c (slots kernel.now)) C u from → IsMet kernel.now.prefix (others c (slots kernel.now)) C u root }
 {
+    if toward.depth(from.negated()) > HOPS {
+        return false;
+    }
     let mut at = from;
     for _ in 0..HOPS {
         if at.is(root) {
@@ -348,6 +351,9 @@ fn descends(kernel: &Kernel, onward: &Tree, c: ClauseId, u: Lit, root: Lit, to: 
     requires sure { AreSure kernel.now.prefix (live (slots kernel.now)) onward.now }
     ensures { IsTrue result → (C : Clause) → IsMet kernel.now.prefix (others c (slots kernel.now)) C u root → IsMet kernel.now.prefix (others c (slots kernel.now)) C u to }
 {
+    if onward.depth(to) > HOPS {
+        return false;
+    }
     let mut at = to;
     for _ in 0..HOPS {
         if at.is(root) {

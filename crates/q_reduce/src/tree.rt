@@ -31,6 +31,8 @@ const LONGEST: usize = 16;
 #[derive(Drop)]
 pub struct Tree {
     hops: Vec<Hop>,
+    // how many hops lead from the root to each literal; nothing rests on that
+    depths: Vec<u8>,
     known: Known,
 }
 
@@ -52,6 +54,7 @@ impl Tree {
     {
         Tree {
             hops: Vec::new(alloc),
+            depths: Vec::new(alloc),
             known: Known::new(alloc),
         }
     }
@@ -87,6 +90,11 @@ impl Tree {
                 }
             }
         }
+    }
+
+    /// How many hops lead from the root to a literal, at most 255. Some of them may have gone.
+    pub fn depth(&self, lit: Lit) -> usize {
+        usize::from(self.depths.get(lit.index()).copied().unwrap_or(0))
     }
 
     /// Whether core hops of a block lead from a literal to a goal, each from the negation of the literal before.
@@ -152,6 +160,8 @@ impl Tree {
     {
         self.known.forget_all();
         self.hops.clear();
+        self.depths.clear();
+        self.depths.resize(places, 0)?;
         self.hops.resize(places, Hop::Nothing)?;
         Ok(())
     }
@@ -263,10 +273,32 @@ impl Tree {
             if !queue.has(*k) && lies_inside(kernel, *k, u) {
                 queue.push(*k)?;
                 let hop = hop_by(kernel, clause, lits, mate, u);
-                self.set(*k, &hop);
+                self.put(*k, mate, &hop);
             }
         }
         Ok(())
+    }
+
+    // The hop by which a walk came to a literal.
+    fn put(&mut self, lit: Lit, mate: Lit, hop: &Hop)
+        ensures { self.new ≡ slice_set self.old (pack lit) hop.now }
+    {
+        self.set_depth(lit, mate);
+        self.set(lit, hop);
+    }
+
+    // One hop more leads to a literal than to the negation of the one beside it.
+    fn set_depth(&mut self, lit: Lit, mate: Lit)
+        ensures { self.new ≡ self.old }
+    {
+        let depth = self
+            .depths
+            .get(mate.negated().index())
+            .copied()
+            .unwrap_or(0);
+        if lit.index() < self.depths.len() {
+            self.depths[lit.index()] = depth.saturating_add(1);
+        }
     }
 
     // Another hop at a literal. What leads by a core hop that was there is not known any more.

@@ -17,7 +17,7 @@ returns-then-is c t C m =
 pub loop-preserved : goal.loop-preserved
 loop-preserved c C m =
     let k = c.args.kernel.now in
-    let joined = rw c.negated.ensures at c.in-Some.ensures c.in-Some.next refl in
+    let joined = rw c.negated-in-loop.ensures at c.in-Some.ensures c.in-Some.next refl in
     met-mate k.prefix (others c.args.c (slots k)) c.args.u C c.loop.at c.in-Some.next joined (sym c.lies_inside.ensures ∙ c.if-not-lies_inside.false) (c.loop.invariant C m)
 
 pub lies_inside-requires : goal.lies_inside-requires

@@ -19,7 +19,7 @@ loop-k-preserved c = elim c.if-not-has.branch [
       let l : Literal = c.k-item.result in
       let C : Clause = c.clause_of-lits.result.now in
       let e = same c.requires.live.0 C (sym c.requires.live.1 ∙ c.clause_of-lits.ensures.clause) in
-      rw (w.self-is, w.set.ensures) (sure-set k.prefix (live (slots k)) c.loop-k.self l w.hop_by-hop.result
+      rw (w.self-is, w.put.ensures) (sure-set k.prefix (live (slots k)) c.loop-k.self l w.hop_by-hop.result
       (λ j g.
       let h = w.hop_by-hop.ensures l j (sym w.lies_inside.ensures ∙ w.if-lies_inside.true) g in (
         C,
