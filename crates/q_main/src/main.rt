@@ -1,13 +1,25 @@
 //! The program: the words of the command line, the real disk and standard output.
 #![tactic(auto)]
 
+mod board;
+mod progress;
+mod rules;
+mod watched;
+mod wiped;
+
+use board::Board;
+use progress::Progress;
 use q_app::{Status, bounds_of, run};
-use q_io::{DiskFiles, StdSink};
+use q_io::{DiskFiles, Files, Sink, StdSink};
 use q_logic::NoMemory;
 use q_sched::{FewestFirst, Guide, ShortestFirst};
 use q_touched::Touched;
+use std::alloc::Global;
 use std::process::ExitCode;
+use std::rc::Rc;
 use std::{env, io};
+use watched::Watched;
+use wiped::Wiped;
 
 // The words after the program's name.
 fn words<R: std::rt::Env + AllocGlobal>(rt: &R) -> io::Result<Vec<String>> {
@@ -27,21 +39,44 @@ fn without_words(error: io::Error) -> Status {
     }
 }
 
+// One share of the board for each guide.
+type Shares = (Rc<Board>, Rc<Board>, Rc<Board>);
+
+fn shares_of(board: &Rc<Board>) -> Result<Shares, NoMemory> {
+    let first = board.clone()?;
+    let second = board.clone()?;
+    let third = board.clone()?;
+    Ok((first, second, third))
+}
+
 // Runs a command. Three guides are asked which target is tried next: first the one that looks where something changed, which
 // finds nearly all of them, and then the two plain ones. They are made here, where they are handed on, since a function that
 // makes a boxed guide and answers with it proves less than it seems to.
-fn run_words<R: std::rt::Files + Print + AllocGlobal>(
-    rt: &R,
+fn run_guided<F: Files, S: Sink>(
+    alloc: Global,
     words: &[String],
+    files: &mut F,
+    out: &mut S,
+    shares: Shares,
 ) -> Result<Status, NoMemory> {
-    let alloc = rt.alloc();
+    let (first, second, third) = shares;
+    let touched = Touched::new(alloc, bounds_of(words));
     let mut guides: Vec<Box<dyn Guide>> = Vec::new(alloc);
-    guides.push(Box::new(alloc, Touched::new(alloc, bounds_of(words)))?)?;
-    guides.push(Box::new(alloc, FewestFirst::new())?)?;
-    guides.push(Box::new(alloc, ShortestFirst::new())?)?;
-    let mut files = DiskFiles::new(rt);
-    let mut out = StdSink::new(rt);
-    Ok(run(alloc, words, &mut files, &mut out, guides))
+    guides.push(Box::new(alloc, Progress::new(touched, first))?)?;
+    guides.push(Box::new(alloc, Progress::new(FewestFirst::new(), second))?)?;
+    guides.push(Box::new(alloc, Progress::new(ShortestFirst::new(), third))?)?;
+    Ok(run(alloc, words, files, out, guides))
+}
+
+fn run_words(rt: &HostRuntime, words: &[String]) -> Result<Status, NoMemory> {
+    let board = Rc::new(rt.alloc(), Board::new(*rt))?;
+    let shares = shares_of(&board)?;
+    let mut files = Watched::new(DiskFiles::new(rt), &board);
+    let wiped = Wiped::new(rt, &board);
+    let mut out = StdSink::new(&wiped);
+    let status = run_guided(rt.alloc(), words, &mut files, &mut out, shares);
+    board.finish();
+    status
 }
 
 fn main(rt: HostRuntime) -> ExitCode {

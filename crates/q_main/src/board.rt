@@ -1,0 +1,204 @@
+//! What a run has done so far. A long run says it on standard error, about once a second.
+
+use crate::rules::{NAMES, RULES, rule_of};
+use q_sched::Move;
+use std::cell::{Cell, RefCell};
+use std::env;
+use std::io::IsTerminal;
+use std::time::Instant;
+
+/// The formula in the middle of a run.
+#[derive(Clone, Copy)]
+pub(crate) struct Stage {
+    pub clauses: usize,
+    pub variables: usize,
+    // bytes of the log that are not in its file yet
+    pub pending: usize,
+}
+
+/// The counts of a run, shared by those who do the work.
+#[derive(Drop)]
+pub(crate) struct Board {
+    rt: HostRuntime,
+    // None where nothing is said
+    start: Option<Instant>,
+    // a short run too says how often each rule was taken
+    is_wanted: bool,
+    // each line stands in the place of the one before
+    is_terminal: bool,
+    // the second of the last line, 0 before the first
+    last_second: Cell<u64>,
+    // bytes of the file that was made last
+    written: Cell<u64>,
+    stage: Cell<Option<Stage>>,
+    taken: RefCell<[u64; RULES]>,
+}
+
+// A longer name would not leave a line its place.
+const LONGEST_NAME: usize = 40;
+
+// What the environment says: Some(false) where nothing is to be said, Some(true) where it is wanted.
+fn wish(rt: &HostRuntime) -> Option<bool> {
+    let Ok(word) = env::var(rt, "CELDRINN_PROGRESS") else {
+        return None;
+    };
+    match word.as_str() {
+        "0" => Some(false),
+        "1" => Some(true),
+        _ => None,
+    }
+}
+
+impl Board {
+    pub fn new(rt: HostRuntime) -> Board {
+        let is_terminal = rt.stderr().is_terminal();
+        let wish = wish(&rt);
+        let start = if wish.unwrap_or(is_terminal) {
+            Instant::now(&rt).ok()
+        } else {
+            None
+        };
+        Board {
+            rt,
+            start,
+            is_wanted: wish == Some(true),
+            is_terminal,
+            last_second: Cell::new(0),
+            written: Cell::new(0),
+            stage: Cell::new(None),
+            taken: RefCell::new([0; RULES]),
+        }
+    }
+
+    /// Whether anything is said.
+    pub fn is_on(&self) -> bool {
+        self.start.is_some()
+    }
+
+    // The seconds since the start.
+    fn second(&self) -> Option<u64> {
+        let start = self.start?;
+        match start.elapsed(&self.rt) {
+            Ok(passed) => Some(passed.as_secs()),
+            Err(_) => None,
+        }
+    }
+
+    // The second of the line that is due, where one is.
+    fn due(&self) -> Option<u64> {
+        let second = self.second()?;
+        if second <= self.last_second.get() {
+            return None;
+        }
+        self.last_second.set(second);
+        Some(second)
+    }
+
+    // What stands before and behind a line.
+    fn edges(&self) -> (&'static str, &'static str) {
+        if self.is_terminal {
+            ("\r", "\x1b[K")
+        } else {
+            ("", "\n")
+        }
+    }
+
+    /// A file was read up to this place.
+    pub fn note_read(&self, name: &str, place: u64) {
+        let Some(second) = self.due() else {
+            return;
+        };
+        let (front, end) = self.edges();
+        let kilobytes = place / 1000;
+        let short = if name.len() <= LONGEST_NAME {
+            name
+        } else {
+            "a file"
+        };
+        let _ = eprint!(self.rt; "{front}{second} s: reading {short}, {kilobytes} kB{end}");
+    }
+
+    /// A file was made.
+    pub fn note_made(&self) {
+        self.written.set(0);
+        self.stage.set(None);
+    }
+
+    /// So many bytes were put behind it.
+    pub fn note_written(&self, count: usize) {
+        self.written
+            .set(self.written.get().saturating_add(count as u64));
+        if let Some(stage) = self.stage.get() {
+            self.note_stage(Stage {
+                pending: 0,
+                ..stage
+            });
+        }
+    }
+
+    /// The formula is so far simplified.
+    pub fn note_stage(&self, stage: Stage) {
+        self.stage.set(Some(stage));
+        let Some(second) = self.due() else {
+            return;
+        };
+        let (front, end) = self.edges();
+        let Stage {
+            clauses,
+            variables,
+            pending,
+        } = stage;
+        let moves = self.moves();
+        let kilobytes = self.written.get().saturating_add(pending as u64) / 1000;
+        let _ = eprint!(self.rt;
+            "{front}{second} s: {clauses} clauses, {variables} variables, {moves} moves, {kilobytes} kB of log{end}"
+        );
+    }
+
+    /// A target was taken.
+    pub fn note_taken(&self, target: &Move) {
+        if let Ok(mut taken) = self.taken.try_borrow_mut() {
+            let rule = rule_of(target);
+            taken[rule] = taken[rule].saturating_add(1);
+        }
+    }
+
+    // How often each rule was taken.
+    fn counts(&self) -> [u64; RULES] {
+        match self.taken.try_borrow() {
+            Ok(taken) => *taken,
+            Err(_) => [0; RULES],
+        }
+    }
+
+    // How many targets were taken.
+    fn moves(&self) -> u64 {
+        let mut moves = 0u64;
+        for count in self.counts() {
+            moves = moves.saturating_add(count);
+        }
+        moves
+    }
+
+    /// Takes the line away that stands on the terminal.
+    pub fn wipe(&self) {
+        if self.is_terminal && self.last_second.get() > 0 {
+            let _ = eprint!(self.rt; "\r\x1b[K");
+        }
+    }
+
+    /// Says how often each rule was taken.
+    pub fn finish(&self) {
+        let moves = self.moves();
+        if moves == 0 || (self.last_second.get() == 0 && !self.is_wanted) {
+            return;
+        }
+        let _ = eprintln!(self.rt; "{moves} moves proposed and taken");
+        let counts = self.counts();
+        for rule in 0..RULES {
+            let count = counts[rule];
+            let name = NAMES[rule];
+            let _ = eprintln!(self.rt; "{count:>10} {name}");
+        }
+    }
+}
