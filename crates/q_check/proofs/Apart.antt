@@ -13,20 +13,20 @@ use Rattle.q_logic.proofs.Membership.{IsIn-Contains, Contains-IsIn}
 use Rattle.q_logic.proofs.UniversalPivot.{without-IsIn}
 use Rattle.q_prop.specs.Slots.{Slots, filled, Holds, IsPut}
 use Rattle.q_prop.proofs.SlotLemmas.{slice_get-in, slice_get-there, slice_get-set_here, slice_get-set_other, slice_get-Contains, Contains-slice_get}
-use Rattle.q_check.specs.Regions.{region_of, IsCoarser, Known, IsRegional, AreRegions, AreRegionsOf}
+use Rattle.q_check.specs.Regions.{region_of, IsCoarser, RegionMap, IsRegional, AreRegions, AreRegionsOf}
 use Rattle.q_check.proofs.Copies.{IsIn-same}
 use Rattle.q_check.proofs.Slots.{held-in, left-in, put-same}
 use Rattle.q_check.proofs.Nesting.{inner-nested, inserted-inner, inserted-universal, removed-inner, removed-universal}
 
 -- One region is right.
-pub regions-one : (P : Prefix) (X : Matrix) (R : Known) → ((v : ℕ) → region_of R.labels v ≡ 0) → AreRegions P X R
+pub regions-one : (P : Prefix) (X : Matrix) (R : RegionMap) → ((v : ℕ) → region_of R.labels v ≡ 0) → AreRegions P X R
 regions-one P X R h t D m j k a b s r = h j.var ∙ sym (h k.var)
 
-pub regional-of : (P : Prefix) (R : Known) (r : ℕ) (D : Clause) → ((k : Literal) → IsIn k D → inner_existential P R.var k.var ≡ true → region_of R.labels k.var ≡ r) → IsRegional P R D
+pub regional-of : (P : Prefix) (R : RegionMap) (r : ℕ) (D : Clause) → ((k : Literal) → IsIn k D → inner_existential P R.var k.var ≡ true → region_of R.labels k.var ≡ r) → IsRegional P R D
 regional-of P R r D h j k a b s t = h j a s ∙ sym (h k b t)
 
 -- What is reached from a clause whose inner literals lie in a region has its own there.
-module _ (P : Prefix) (X : Matrix) (R : Known) (C : Clause) (l : Literal) (r : ℕ) (all : AreRegions P X R) (t : is_universal P R.var ≡ true) (u : is_universal P l.var ≡ true) (o : outer_or_same P R.var l.var ≡ true) (one : (k : Literal) → IsIn k C → inner_existential P l.var k.var ≡ true → region_of R.labels k.var ≡ r) where
+module _ (P : Prefix) (X : Matrix) (R : RegionMap) (C : Clause) (l : Literal) (r : ℕ) (all : AreRegions P X R) (t : is_universal P R.var ≡ true) (u : is_universal P l.var ≡ true) (o : outer_or_same P R.var l.var ≡ true) (one : (k : Literal) → IsIn k C → inner_existential P l.var k.var ≡ true → region_of R.labels k.var ≡ r) where
   wider : (k : Literal) → inner_existential P l.var k.var ≡ true → inner_existential P R.var k.var ≡ true
   wider k h = inner-nested P R.var l.var k.var (bound_of_u P R.var t) (bound_of_u P l.var u) o h
 
@@ -47,21 +47,21 @@ module _ (P : Prefix) (X : Matrix) (R : Known) (C : Clause) (l : Literal) (r : �
 abbrev pub IsPartOf : Matrix → Matrix → Type 0
 IsPartOf Y X = (D : Clause) → IsIn D Y → (E : Clause) × IsIn E X × ((k : Literal) → IsIn k D → IsIn k E)
 
-pub regions-part : (P : Prefix) (X Y : Matrix) (R : Known) → IsPartOf Y X → AreRegions P X R → AreRegions P Y R
+pub regions-part : (P : Prefix) (X Y : Matrix) (R : RegionMap) → IsPartOf Y X → AreRegions P X R → AreRegions P Y R
 regions-part P X Y R f all t D m j k a b = let e = f D m in all t e.0 e.1 j k (e.2 j a) (e.2 k b)
 
 -- A clause comes.
-pub regions-more : (P : Prefix) (X : Matrix) (R : Known) (C : Clause) → (is_universal P R.var ≡ true → IsRegional P R C) → AreRegions P X R → AreRegions P (C ∷ X) R
+pub regions-more : (P : Prefix) (X : Matrix) (R : RegionMap) (C : Clause) → (is_universal P R.var ≡ true → IsRegional P R C) → AreRegions P X R → AreRegions P (C ∷ X) R
 regions-more P X R C h all t D (inl e) = subst (λ (E : Clause). IsRegional P R E) (sym e) (h t)
 regions-more P X R C h all t D (inr m) = all t D m
 
 -- Regions become one.
-pub regions-coarser : (P : Prefix) (X : Matrix) (R S : Known) → S.var ≡ R.var → IsCoarser R.labels S.labels → AreRegions P X R → AreRegions P X S
+pub regions-coarser : (P : Prefix) (X : Matrix) (R S : RegionMap) → S.var ≡ R.var → IsCoarser R.labels S.labels → AreRegions P X R → AreRegions P X S
 regions-coarser P X R S e f all t D m j k a b s r =
     f j.var k.var (all (subst (λ (v : ℕ). is_universal P v ≡ true) e t) D m j k a b (subst (λ (v : ℕ). inner_existential P v j.var ≡ true) e s) (subst (λ (v : ℕ). inner_existential P v k.var ≡ true) e r))
 
 -- Regions for a variable serve what it is outer or same to.
-pub regions-nested : (P : Prefix) (X : Matrix) (R : Known) (w : ℕ) → is_universal P R.var ≡ true → outer_or_same P R.var w ≡ true → AreRegions P X R → AreRegions P X (record { var = w; labels = R.labels })
+pub regions-nested : (P : Prefix) (X : Matrix) (R : RegionMap) (w : ℕ) → is_universal P R.var ≡ true → outer_or_same P R.var w ≡ true → AreRegions P X R → AreRegions P X (record { var = w; labels = R.labels })
 regions-nested P X R w t o all u D m j k a b s r =
     let v = bound_of_u P R.var t in
     let x = bound_of_u P w u in
@@ -74,7 +74,7 @@ unlike P X v h n D m k a e = true≢false (sym (h D m k a) ∙ ap (is_bound P) e
 unlike-eqb : (a b : ℕ) → (a ≡ b → ⊥) → eqb a b ≡ false
 unlike-eqb a b n = grind arith
 
-module _ (P : Prefix) (X : Matrix) (R S : Known) (v : ℕ) (closed : Closed P X) (absent : is_bound P v ≡ false) (e : S.var ≡ R.var) (same : (x : ℕ) → (x ≡ v → ⊥) → region_of S.labels x ≡ region_of R.labels x) (all : AreRegions P X R) where
+module _ (P : Prefix) (X : Matrix) (R S : RegionMap) (v : ℕ) (closed : Closed P X) (absent : is_bound P v ≡ false) (e : S.var ≡ R.var) (same : (x : ℕ) → (x ≡ v → ⊥) → region_of S.labels x ≡ region_of R.labels x) (all : AreRegions P X R) where
   alike : (D : Clause) → IsIn D X → (k : Literal) → IsIn k D → region_of S.labels k.var ≡ region_of R.labels k.var
   alike D m k a = same k.var (unlike P X v closed absent D m k a)
 
@@ -84,13 +84,13 @@ module _ (P : Prefix) (X : Matrix) (R S : Known) (v : ℕ) (closed : Closed P X)
       all (subst (λ (x : ℕ). is_universal P x ≡ true) e t) D m j k a b (subst (λ (x : ℕ). inner_existential P x j.var ≡ true) e s) (subst (λ (x : ℕ). inner_existential P x k.var ≡ true) e r) ∙
       sym (alike D m k b)
 
-pub regions-inserted : (P : Prefix) (X : Matrix) (R : Known) (w v : ℕ) → is_existential P w ≡ true → Closed P X → is_bound P v ≡ false → AreRegions P X R → AreRegions (insert_after w v P) X R
+pub regions-inserted : (P : Prefix) (X : Matrix) (R : RegionMap) (w v : ℕ) → is_existential P w ≡ true → Closed P X → is_bound P v ≡ false → AreRegions P X R → AreRegions (insert_after w v P) X R
 regions-inserted P X R w v e closed n all t D m j k a b s r =
     let u = inserted-universal w v P R.var n t in
     let other : (i : Literal) → IsIn i D → eqb i.var v ≡ false = λ i h. unlike-eqb i.var v (unlike P X v closed n D m i h) in
     all u.1 D m j k a b (inserted-inner w v P e R.var j.var u.0 (other j a) s) (inserted-inner w v P e R.var k.var u.0 (other k b) r)
 
-pub regions-removed : (P : Prefix) (X : Matrix) (R : Known) (v : ℕ) → Distinct P → IsAbsent X v → AreRegions P X R → AreRegions (removed_from v P) X R
+pub regions-removed : (P : Prefix) (X : Matrix) (R : RegionMap) (v : ℕ) → Distinct P → IsAbsent X v → AreRegions P X R → AreRegions (removed_from v P) X R
 regions-removed P X R v d absent all t D m j k a b s r =
     let u = removed-universal v P R.var d t in
     all u.1 D m j k a b (removed-inner v P R.var j.var u.0 (absent D m j a) s) (removed-inner v P R.var k.var u.0 (absent D m k b) r)
@@ -99,7 +99,7 @@ same-place : (i n : ℕ) → (i ≡ n) ⊎ (i ≡ n → ⊥)
 same-place i n = grind arith
 
 -- What a step leaves of the regions of several variables.
-module _ (P : Prefix) (Rs : List Known) where
+module _ (P : Prefix) (Rs : List RegionMap) where
   all-part : (X Y : Matrix) → IsPartOf Y X → AreRegionsOf P X Rs → AreRegionsOf P Y Rs
   all-part X Y f all R m = regions-part P X Y R f (all R m)
 
@@ -128,7 +128,7 @@ module _ (P : Prefix) (Rs : List Known) where
   all-removed X v d absent all R m = regions-removed P X R v d absent (all R m)
 
 -- One of several regions becomes another one.
-pub regions-set : (Q : Known → Type 0) (Rs : List Known) (n : ℕ) (R' : Known) → n < length Rs → ((R : Known) → IsIn R Rs → Q R) → (((R : Known) → slice_get Rs n ≡ Some R → Q R) → Q R') → (R : Known) → IsIn R (set Rs n R') → Q R
+pub regions-set : (Q : RegionMap → Type 0) (Rs : List RegionMap) (n : ℕ) (R' : RegionMap) → n < length Rs → ((R : RegionMap) → IsIn R Rs → Q R) → (((R : RegionMap) → slice_get Rs n ≡ Some R → Q R) → Q R') → (R : RegionMap) → IsIn R (set Rs n R') → Q R
 regions-set Q Rs n R' l h f R m =
     let p = slice_get-Contains (set Rs n R') R (IsIn-Contains R (set Rs n R') m) in
     elim (same-place p.0 n) [
@@ -141,14 +141,14 @@ regions-set Q Rs n R' l h f R m =
     ]
 
 -- Of a list of regions those before a place have become right for more.
-abbrev pub AreHalf : (Known → Type 0) → (Known → Type 0) → ℕ → List Known → Type 0
-AreHalf Q S n Rs = (i : ℕ) (R : Known) → slice_get Rs i ≡ Some R → (i < n → S R) × (n ≤ i → Q R)
+abbrev pub AreHalf : (RegionMap → Type 0) → (RegionMap → Type 0) → ℕ → List RegionMap → Type 0
+AreHalf Q S n Rs = (i : ℕ) (R : RegionMap) → slice_get Rs i ≡ Some R → (i < n → S R) × (n ≤ i → Q R)
 
-module _ (Q S : Known → Type 0) where
-  pub half-begun : (Rs : List Known) → ((R : Known) → IsIn R Rs → Q R) → AreHalf Q S 0 Rs
+module _ (Q S : RegionMap → Type 0) where
+  pub half-begun : (Rs : List RegionMap) → ((R : RegionMap) → IsIn R Rs → Q R) → AreHalf Q S 0 Rs
   half-begun Rs h i R e = ((λ l. absurd (omega arith)), (λ l. h R (Contains-IsIn R Rs (Contains-slice_get Rs i R e))))
 
-  pub half-more : (n : ℕ) (Rs : List Known) (R' : Known) → n < length Rs → ((R : Known) → slice_get Rs n ≡ Some R → Q R → S R') → AreHalf Q S n Rs → AreHalf Q S (n + 1) (set Rs n R')
+  pub half-more : (n : ℕ) (Rs : List RegionMap) (R' : RegionMap) → n < length Rs → ((R : RegionMap) → slice_get Rs n ≡ Some R → Q R → S R') → AreHalf Q S n Rs → AreHalf Q S (n + 1) (set Rs n R')
   half-more n Rs R' l f h i R e = elim (same-place i n) [
     | inl q ↦
         let there = slice_get-there Rs n l in
@@ -160,7 +160,7 @@ module _ (Q S : Known → Type 0) where
         ((λ k. (h i R was).0 (omega arith)), (λ k. (h i R was).1 (omega arith)))
   ]
 
-  pub half-ended : (n : ℕ) (Rs : List Known) → length Rs ≤ n → AreHalf Q S n Rs → (R : Known) → IsIn R Rs → S R
+  pub half-ended : (n : ℕ) (Rs : List RegionMap) → length Rs ≤ n → AreHalf Q S n Rs → (R : RegionMap) → IsIn R Rs → S R
   half-ended n Rs l h R m =
       let p = slice_get-Contains Rs R (IsIn-Contains R Rs m) in
       let b = slice_get-in Rs p.0 R p.1 in

@@ -22,20 +22,20 @@ abbrev pub IsCoarser : Labelled → Labelled → Type 0
 IsCoarser old new = (a b : ℕ) → region_of old a ≡ region_of old b → region_of new a ≡ region_of new b
 
 -- regions for the literals that are inner to a variable
-pub record Known : Type 0 where
+pub record RegionMap : Type 0 where
   pub var : ℕ
   pub labels : Labelled
 
 -- the clause has its inner literals in one region
-abbrev pub IsRegional : Prefix → Known → Clause → Type 0
+abbrev pub IsRegional : Prefix → RegionMap → Clause → Type 0
 IsRegional P R D =
     (j k : Literal) → IsIn j D → IsIn k D → inner_existential P R.var j.var ≡ true →
     inner_existential P R.var k.var ≡ true → region_of R.labels j.var ≡ region_of R.labels k.var
 
 -- so has each clause, as long as the variable is universal
-abbrev pub AreRegions : Prefix → Matrix → Known → Type 0
+abbrev pub AreRegions : Prefix → Matrix → RegionMap → Type 0
 AreRegions P X R = is_universal P R.var ≡ true → (D : Clause) → IsIn D X → IsRegional P R D
 
 -- the regions of several variables are right
-abbrev pub AreRegionsOf : Prefix → Matrix → List Known → Type 0
-AreRegionsOf P X Rs = (R : Known) → IsIn R Rs → AreRegions P X R
+abbrev pub AreRegionsOf : Prefix → Matrix → List RegionMap → Type 0
+AreRegionsOf P X Rs = (R : RegionMap) → IsIn R Rs → AreRegions P X R

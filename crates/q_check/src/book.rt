@@ -18,9 +18,9 @@ ghost use Rattle.q_check.specs.Checked.{IsTried, IsEndRefusal};
 ghost use Rattle.q_check.specs.Entries.{entries_of, IsPivotEntry};
 
 use crate::error::{Cause, CheckError};
-use crate::maps::Maps;
 use crate::pivots::{Buffers, Warrant, slots_of, warrant_of};
 use crate::reach::is_droppable;
+use crate::recent::RecentRegions;
 use crate::scope::Scope;
 use crate::undo::{Undo, collect_outers};
 use q_logic::{Formula, Limits, Lit, NoMemory};
@@ -37,7 +37,7 @@ pub struct Book {
     clauses: u64,
     lits: u64,
     buffers: Buffers,
-    maps: Maps,
+    recent: RecentRegions,
 }
 
 impl Model for Book {
@@ -50,7 +50,7 @@ impl Model for Book {
 
     ghost view = { λ b. record { prefix = b.scope; matrix = filled b.store } };
 
-    ghost invariant = { λ b. IsCounted (record { prefix = b.scope; matrix = filled b.store }) b.clauses b.lits × AreRegionsOf b.scope (filled b.store) b.maps };
+    ghost invariant = { λ b. IsCounted (record { prefix = b.scope; matrix = filled b.store }) b.clauses b.lits × AreRegionsOf b.scope (filled b.store) b.recent };
 }
 
 impl Book {
@@ -72,7 +72,7 @@ impl Book {
             clauses: formula.clauses() as u64,
             lits,
             buffers: Buffers::new(alloc),
-            maps: Maps::new(alloc),
+            recent: RecentRegions::new(alloc),
         })
     }
 
@@ -110,7 +110,7 @@ impl Book {
                 cause: Cause::Limit as u8,
             });
         }
-        self.maps.take(&self.scope, clause);
+        self.recent.take(&self.scope, clause);
         self.store.add(clause)?;
         self.clauses += 1;
         self.lits += clause.len() as u64;
@@ -191,7 +191,7 @@ impl Book {
         let droppable = is_droppable(
             &mut self.store,
             &self.scope,
-            &mut self.maps,
+            &mut self.recent,
             &mut self.buffers,
             Some(at),
             clause,
@@ -224,7 +224,7 @@ impl Book {
                 cause: Cause::BadFresh as u8,
             });
         }
-        self.maps.inherit(v, w)?;
+        self.recent.inherit(v, w)?;
         self.scope.insert_after(w, v)?;
         Ok(fresh_entry(keep, v))
     }
@@ -245,7 +245,7 @@ impl Book {
             });
         }
         let existential = self.scope.is_existential(var);
-        self.maps.leave(&self.scope, var);
+        self.recent.leave(&self.scope, var);
         self.scope.remove(var);
         Ok(removed_entry(keep, existential, var))
     }

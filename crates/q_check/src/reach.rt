@@ -11,8 +11,8 @@ ghost use Rattle.q_prop.specs.Slots.{without as without_slot};
 ghost use Rattle.q_check.specs.Regions.{AreRegionsOf};
 ghost use Rattle.q_check.specs.Walks.{is_inner, IsWidened, IsFollowed, IsVisited};
 
-use crate::maps::Maps;
 use crate::pivots::{Buffers, clause_at, holds, resolves, slots_of};
+use crate::recent::RecentRegions;
 use crate::scope::Scope;
 use q_logic::{Lit, NoMemory};
 use q_prop::{Store, Trail};
@@ -22,7 +22,7 @@ use q_prop::{Store, Trail};
 pub fn is_droppable(
     store: &mut Store,
     scope: &Scope,
-    maps: &mut Maps,
+    recent: &mut RecentRegions,
     buffers: &mut Buffers,
     skip: Option<usize>,
     clause: &[Lit],
@@ -33,9 +33,9 @@ pub fn is_droppable(
     requires within { Within scope.now clause.now }
     requires held { IsIn lit clause.now }
     requires rest { rest.now ≡ without lit clause.now }
-    requires regions { AreRegionsOf scope.now (filled store.old) maps.old }
+    requires regions { AreRegionsOf scope.now (filled store.old) recent.old }
     ensures same { store.new ≡ store.old }
-    ensures regions { AreRegionsOf scope.now (filled store.old) maps.new }
+    ensures regions { AreRegionsOf scope.now (filled store.old) recent.new }
     ensures exact { IfOk result (λ yes. IsTrue yes ↔ IsDroppable scope.now (filled (without_slot store.old skip)) clause.now lit) }
 {
     if !scope.is_universal(lit.var()) {
@@ -48,9 +48,9 @@ pub fn is_droppable(
         return Ok(true);
     }
     let trail = &mut buffers.trail;
-    let reducible = is_reducible(store, scope, maps, trail, skip, clause, lit)?;
+    let reducible = is_reducible(store, scope, recent, trail, skip, clause, lit)?;
     if reducible {
-        maps.learn(store, scope, buffers, lit.var())?;
+        recent.learn(store, scope, buffers, lit.var())?;
     }
     Ok(reducible)
 }
@@ -60,7 +60,7 @@ pub fn is_droppable(
 fn is_reducible(
     store: &Store,
     scope: &Scope,
-    maps: &Maps,
+    recent: &RecentRegions,
     trail: &mut Trail,
     skip: Option<usize>,
     clause: &[Lit],
@@ -71,7 +71,7 @@ fn is_reducible(
     requires held { IsIn lit clause.now }
     requires universal { is_universal scope.now lit.var ≡ true }
     requires not_negated { IsIn (negation lit) clause.now → ⊥ }
-    requires regions { AreRegionsOf scope.now (filled store.now) maps.now }
+    requires regions { AreRegionsOf scope.now (filled store.now) recent.now }
     ensures { IfOk result (λ yes. IsTrue yes ↔ Reducible scope.now (filled (without_slot store.now skip)) clause.now lit) }
 {
     trail.truncate(0);
@@ -81,7 +81,7 @@ fn is_reducible(
         if head >= trail.len() {
             return Ok(true);
         }
-        if head == opposite && maps.separate(store, scope, clause, lit) {
+        if head == opposite && recent.separate(store, scope, clause, lit) {
             return Ok(true);
         }
         if !visit(store, scope, trail, skip, head, lit)? {

@@ -25,9 +25,9 @@ pub struct Regions {
 }
 
 impl Model for Regions {
-    ghost use Rattle.q_check.specs.Regions.{Known};
+    ghost use Rattle.q_check.specs.Regions.{RegionMap};
 
-    ghost Value = { Known };
+    ghost Value = { RegionMap };
 
     ghost view = { λ r. record { var = r.var; labels = r.labels } };
 }

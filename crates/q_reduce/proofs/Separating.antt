@@ -25,7 +25,7 @@ use Rattle.q_kernel.specs.Taking.{IsTaken}
 use Rattle.q_reduce.specs.declared.target.Target.{Target}
 use Rattle.q_reduce.specs.declared.target.Target.TheVariants.{Tautology, Unit, Cut, Pure}
 use Rattle.q_reduce.specs.Targets.{target_of}
-use Rattle.q_reduce.specs.Regions.{Known, region_of, is_covered, key_of, IsRegional, AreRegions, AreRegionsOf}
+use Rattle.q_reduce.specs.Regions.{RegionMap, region_of, is_covered, key_of, IsRegional, AreRegions, AreRegionsOf}
 use Rattle.q_reduce.proofs.Walks.{others-find}
 use Rattle.q_rule.proofs.Outer.{inner-through, occurring-universal, occurring-inner}
 
@@ -58,24 +58,24 @@ found-member xs x (Err i) up h =
     )
 
 -- Regions for w serve what w is outer or same to.
-pub regional-inside : (P : Prefix) (R : Known) (w u : ℕ) (D : Clause) → outer_or_same P w u ≡ true → IsRegional P R w D → IsRegional P R u D
+pub regional-inside : (P : Prefix) (R : RegionMap) (w u : ℕ) (D : Clause) → outer_or_same P w u ≡ true → IsRegional P R w D → IsRegional P R u D
 regional-inside P R w u D o h = record {
   one = λ j k m n s t. h.one j k m n (inner-through P w u j.var o s) (inner-through P w u k.var o t);
   noted = λ l k m c n t. h.noted l k m c n (inner-through P w u k.var o t);
 }
 
 -- A clause in the region, and one without inner literals.
-pub regional-of : (P : Prefix) (R : Known) (w r : ℕ) (D : Clause) → ((k : Literal) → IsIn k D → inner_existential P w k.var ≡ true → region_of R k.var ≡ r) → ((l : Literal) → IsIn l D → is_covered R l.var ≡ true → IsIn (key_of l r) R.keys) → IsRegional P R w D
+pub regional-of : (P : Prefix) (R : RegionMap) (w r : ℕ) (D : Clause) → ((k : Literal) → IsIn k D → inner_existential P w k.var ≡ true → region_of R k.var ≡ r) → ((l : Literal) → IsIn l D → is_covered R l.var ≡ true → IsIn (key_of l r) R.keys) → IsRegional P R w D
 regional-of P R w r D f g = record {
   one = λ j k m n s t. f j m s ∙ sym (f k n t);
   noted = λ l k m c n t. subst (λ (x : ℕ). IsIn (key_of l x) R.keys) (sym (f k n t)) (g l m c);
 }
 
-pub regional-none : (P : Prefix) (R : Known) (w : ℕ) (D : Clause) → ((k : Literal) → IsIn k D → inner_existential P w k.var ≡ true → ⊥) → IsRegional P R w D
+pub regional-none : (P : Prefix) (R : RegionMap) (w : ℕ) (D : Clause) → ((k : Literal) → IsIn k D → inner_existential P w k.var ≡ true → ⊥) → IsRegional P R w D
 regional-none P R w D h = record { one = λ j k m n s t. absurd (h j m s); noted = λ l k m c n t. absurd (h k n t) }
 
 -- What is reached from a clause in a region lies in it.
-module _ (P : Prefix) (N : Slots) (R : Known) (c : ℕ) (C : Clause) (l : Literal) (t : is_universal P l.var ≡ true) (there : slot N c ≡ Some C) (held : IsIn l C) (lacks : IsIn (negation l) C → ⊥) where
+module _ (P : Prefix) (N : Slots) (R : RegionMap) (c : ℕ) (C : Clause) (l : Literal) (t : is_universal P l.var ≡ true) (there : slot N c ≡ Some C) (held : IsIn l C) (lacks : IsIn (negation l) C → ⊥) where
   pub reducible-none : ((k : Literal) → IsIn k C → inner_existential P l.var k.var ≡ true → ⊥) → Reducible P (others c N) C l
   reducible-none h = record { universal_literal = t; in_clause = held; no_negation = λ D r m. lacks (subst (λ (x : Clause). IsIn (negation l) x) (only D r) m) }
     where
@@ -106,13 +106,13 @@ module _ (P : Prefix) (N : Slots) (R : Known) (c : ℕ) (C : Clause) (l : Litera
 pub record IsPartOf (Y X : Matrix) : Type 0 where
   pub of : (D : Clause) → IsIn D Y → (E : Clause) × IsIn E X × IsSubset D E
 
-pub regions-part : (P : Prefix) (X Y : Matrix) (R : Known) → IsPartOf Y X → AreRegions P X R → AreRegions P Y R
+pub regions-part : (P : Prefix) (X Y : Matrix) (R : RegionMap) → IsPartOf Y X → AreRegions P X R → AreRegions P Y R
 regions-part P X Y R h all u t c D m =
     let e = h.of D m in
     let r = all u t c e.0 e.1 in
     record { one = λ j k a b. r.one j k (e.2 j a) (e.2 k b); noted = λ l k a v b. r.noted l k (e.2 l a) v (e.2 k b) }
 
-regions-occurring : (P : Prefix) (X : Matrix) (R : Known) → AreRegions P X R → AreRegions (occurring P X) X R
+regions-occurring : (P : Prefix) (X : Matrix) (R : RegionMap) → AreRegions P X R → AreRegions (occurring P X) X R
 regions-occurring P X R all u t c D m =
     let r = all u (occurring-universal X P u t) c D m in
     record {
@@ -120,7 +120,7 @@ regions-occurring P X R all u t c D m =
       noted = λ l k a v b s. r.noted l k a v b (occurring-inner X P u k.var t s);
     }
 
-regions-swept : (F : PrenexFormula) (R : Known) → AreRegions F.prefix F.matrix R → AreRegions (swept F).prefix (swept F).matrix R
+regions-swept : (F : PrenexFormula) (R : RegionMap) → AreRegions F.prefix F.matrix R → AreRegions (swept F).prefix (swept F).matrix R
 regions-swept F R all = go (has_empty F.matrix)
   where
     go : (b : Bool) → let G : PrenexFormula = cond b falsity (record { prefix = occurring F.prefix F.matrix; matrix = F.matrix }) in AreRegions G.prefix G.matrix R
@@ -128,7 +128,7 @@ regions-swept F R all = go (has_empty F.matrix)
     go false = regions-occurring F.prefix F.matrix R all
 
 -- The formula is the same.
-pub regions-view : (old new : Seen) (Rs : List Known) → SameView old new → AreRegionsOf old Rs → AreRegionsOf new Rs
+pub regions-view : (old new : Seen) (Rs : List RegionMap) → SameView old new → AreRegionsOf old Rs → AreRegionsOf new Rs
 regions-view old new Rs v h R m = subst (λ (F : PrenexFormula). AreRegions F.prefix F.matrix R) (sym v.formula) (h R m)
 
 -- What the targets of this crate leave of the clauses.
@@ -168,17 +168,17 @@ part-pure : (b : Bool) (l : Literal) (X : Matrix) → IsPartOf (cond b (without_
 part-pure true l X = part-without_literal l X
 part-pure false l X = part-each_without l X
 
-regions-change : (P : Prefix) (N : Slots) (R : Known) (t : Target) → AreRegions P (live N) R → AreRegions (change P N (target_of t)).prefix (change P N (target_of t)).matrix R
+regions-change : (P : Prefix) (N : Slots) (R : RegionMap) (t : Target) → AreRegions P (live N) R → AreRegions (change P N (target_of t)).prefix (change P N (target_of t)).matrix R
 regions-change P N R (Tautology c) h = regions-part P (live N) (others c N) R (part-others c N) h
 regions-change P N R (Unit c) h = regions-part P (live N) (assigned (head_of (slot N c)) (live N)) R (part-assigned (head_of (slot N c)) (live N)) h
 regions-change P N R (Cut c l) h = regions-part P (live N) (shortened l (slot N c) (others c N)) R (part-shortened l c N (slot N c) refl) h
 regions-change P N R (Pure l) h = regions-part P (live N) (cond (is_existential P l.var) (without_literal l (live N)) (each_without l (live N))) R (part-pure (is_existential P l.var) l (live N)) h
 
-regions-alike : (F G : PrenexFormula) (R : Known) → AreAlike F G → AreRegions F.prefix F.matrix R → AreRegions G.prefix G.matrix R
+regions-alike : (F G : PrenexFormula) (R : RegionMap) → AreAlike F G → AreRegions F.prefix F.matrix R → AreRegions G.prefix G.matrix R
 regions-alike F G R a h u t c D m =
     subst (λ (P : Prefix). IsRegional P R u D) a.prefix
     (h u (subst (λ (P : Prefix). is_universal P u ≡ true) (sym a.prefix) t) c D (IsIn-alike G.matrix F.matrix (alike-sym F.matrix G.matrix a.clauses) D m))
 
 -- Regions stay right when a target is taken.
-pub regions-taken : (B : Bounds) (old new : Seen) (Rs : List Known) (t : Target) → IsTaken B old new (target_of t) → AreRegionsOf old Rs → AreRegionsOf new Rs
+pub regions-taken : (B : Bounds) (old new : Seen) (Rs : List RegionMap) (t : Target) → IsTaken B old new (target_of t) → AreRegionsOf old Rs → AreRegionsOf new Rs
 regions-taken B old new Rs t h all R m = regions-alike (swept (change old.prefix (slots old) (target_of t))) (formula_in new) R h.result (regions-swept (change old.prefix (slots old) (target_of t)) R (regions-change old.prefix (slots old) R t (all R m)))

@@ -1,11 +1,11 @@
 -- What a search has learned of a formula, and lends to the next one.
 use Rattle.std.specs.Prelude.{[], List}
 use Rattle.q_kernel.specs.Kernels.{Seen}
-use Rattle.q_reduce.specs.Regions.{Known, AreRegionsOf}
+use Rattle.q_reduce.specs.Regions.{RegionMap, AreRegionsOf}
 use Rattle.q_reduce.specs.Hops.{Rows, no_rows, AreHopsOf}
 
 pub record Learned : Type 0 where
-  pub regions : List Known
+  pub regions : List RegionMap
   pub hops : Rows
 
 abbrev pub nothing_learned : Learned

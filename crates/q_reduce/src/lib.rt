@@ -1,17 +1,17 @@
 //! The plain rules: tautologies, unit clauses, universal reduction and pure literals.
 #![tactic(auto)]
 
+mod arriving;
 mod asked;
 mod cut;
 mod finding;
 mod guide;
 mod hop;
 mod joining;
-mod known;
 mod lists;
-mod maps;
 mod pure;
 mod reach;
+mod recent;
 mod reduce;
 mod regions;
 mod search;

@@ -31,9 +31,9 @@ pub struct Regions {
 
 impl Model for Regions {
     ghost use Rattle.std.specs.Prelude.{◌≤◌, ◌<◌, ℕ, length, slice_index_or};
-    ghost use Rattle.q_reduce.specs.Regions.{Known};
+    ghost use Rattle.q_reduce.specs.Regions.{RegionMap};
 
-    ghost Value = { Known };
+    ghost Value = { RegionMap };
 
     ghost view = { λ r. record { labels = r.labels.items; covered = r.covered.items; keys = r.keys.items } };
 

@@ -11,8 +11,8 @@ ghost use Rattle.q_reduce.specs.Hops.{no_rows, AreLoosened, IsTouched};
 ghost use Rattle.q_reduce.specs.Lent.{nothing_learned, IsFitFor};
 
 use crate::guide::Guide;
-use crate::maps::Maps;
 use crate::reach::is_reducible;
+use crate::recent::RecentRegions;
 use crate::target::Target;
 use q_arena::ClauseId;
 use q_kernel::Kernel;
@@ -27,7 +27,7 @@ use std::marker::Model;
 pub struct Search {
     queue: Queue,
     guide: Guide,
-    maps: Maps,
+    recent: RecentRegions,
 }
 
 impl Model for Search {
@@ -35,7 +35,7 @@ impl Model for Search {
 
     ghost Value = { Learned };
 
-    ghost view = { λ s. record { regions = s.maps; hops = s.guide } };
+    ghost view = { λ s. record { regions = s.recent; hops = s.guide } };
 }
 
 impl Search {
@@ -45,7 +45,7 @@ impl Search {
         Search {
             queue: Queue::new(alloc),
             guide: Guide::new(alloc),
-            maps: Maps::new(alloc),
+            recent: RecentRegions::new(alloc),
         }
     }
 
@@ -53,7 +53,7 @@ impl Search {
     pub fn forget(&mut self)
         ensures { self.new ≡ nothing_learned }
     {
-        self.maps.forget();
+        self.recent.forget();
         self.guide.forget();
     }
 
@@ -91,13 +91,13 @@ impl Search {
         if kernel.count(lit.negated()) == 0 {
             return Ok(true);
         }
-        if self.maps.separate(kernel, c, lit) {
+        if self.recent.separate(kernel, c, lit) {
             return Ok(true);
         }
         let mut looks = 0;
         let reducible = is_reducible(kernel, &mut self.queue, &mut self.guide, c, lit, &mut looks)?;
         if reducible {
-            self.maps.learn(kernel, lit.var(), looks)?;
+            self.recent.learn(kernel, lit.var(), looks)?;
         }
         self.guide.learn(kernel, &mut self.queue, lit, looks)?;
         Ok(reducible)

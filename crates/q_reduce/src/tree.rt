@@ -14,8 +14,8 @@ ghost use Rattle.q_reduce.specs.declared.hop.Hop.TheVariants.{Core, Sure};
 ghost use Rattle.q_reduce.specs.Hops.{Joins, HoldsUniversal, IsLone, IsBare, GoesTo, Tells, hop_at, AreSure, IsLoosened};
 ghost use Rattle.q_reduce.specs.Leading.{Leads};
 
+use crate::arriving::Arriving;
 use crate::hop::{Hop, hop_at};
-use crate::known::Known;
 use crate::reach::lies_inside;
 use q_arena::ClauseId;
 use q_kernel::Kernel;
@@ -33,7 +33,7 @@ pub struct Tree {
     hops: Vec<Hop>,
     // how many hops lead from the root to each literal; nothing rests on that
     depths: Vec<u8>,
-    known: Known,
+    known: Arriving,
 }
 
 impl Model for Tree {
@@ -55,7 +55,7 @@ impl Tree {
         Tree {
             hops: Vec::new(alloc),
             depths: Vec::new(alloc),
-            known: Known::new(alloc),
+            known: Arriving::new(alloc),
         }
     }
 

@@ -74,7 +74,7 @@ invariant_of-self-2 c =
         clauses_are = omega (arith, z.0, c.self.invariant.0.clauses_are);
         lits_are = omega (arith, z.1, c.self.invariant.0.lits_are);
       },
-      all-left P i.maps s n c.self.invariant.1,
+      all-left P i.recent s n c.self.invariant.1,
     )
 
 pub returns : goal.returns

@@ -80,7 +80,7 @@ invariant_of-self-2 c =
         clauses_are = omega (arith, z.0, c.self.invariant.0.clauses_are);
         lits_are = omega (arith, z.1, l, c.self.invariant.0.lits_are);
       },
-      all-shrunk P c.is_droppable.new.maps s t n k c.args.lit C c.in-Some.ensures p c.in_ok-droppable.ensures.regions,
+      all-shrunk P c.is_droppable.new.recent s t n k c.args.lit C c.in-Some.ensures p c.in_ok-droppable.ensures.regions,
     )
 
 pub returns : goal.returns

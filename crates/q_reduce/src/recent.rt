@@ -1,0 +1,102 @@
+//! Regions of several blocks.
+ghost use Rattle.std.specs.Prelude.{◌≡◌, [], true, Some, IsTrue};
+ghost use Rattle.q_logic.specs.Literals.{negation};
+ghost use Rattle.q_logic.specs.Formulas.{Clause, IsIn};
+ghost use Rattle.q_logic.specs.Prefixes.{is_universal, is_bound};
+ghost use Rattle.q_logic.specs.Reach.{Reducible};
+ghost use Rattle.q_logic.specs.Numbered.{slot, others};
+ghost use Rattle.q_kernel.specs.Kernels.{slots};
+ghost use Rattle.q_reduce.specs.Regions.{AreRegionsOf};
+
+use crate::regions::Regions;
+use q_arena::ClauseId;
+use q_kernel::Kernel;
+use q_logic::{Lit, NoMemory};
+use std::alloc::Global;
+use std::marker::Model;
+
+// So many blocks have regions at a time.
+const BLOCKS: usize = 4;
+
+/// Regions of the blocks that walks asked about last.
+#[derive(Drop)]
+pub struct RecentRegions {
+    alloc: Global,
+    regions: Vec<Regions>,
+    // how many clauses were looked at by walks that found nothing, since regions were last made
+    debt: usize,
+}
+
+impl Model for RecentRegions {
+    ghost use Rattle.std.specs.Prelude.{List};
+    ghost use Rattle.q_reduce.specs.Regions.{RegionMap};
+
+    ghost Value = { List RegionMap };
+
+    ghost view = { λ m. m.regions.items };
+}
+
+impl RecentRegions {
+    pub fn new(alloc: Global) -> RecentRegions
+        ensures { result ≡ [] }
+    {
+        RecentRegions {
+            alloc,
+            regions: Vec::new(alloc),
+            debt: 0,
+        }
+    }
+
+    pub fn forget(&mut self)
+        ensures { self.new ≡ [] }
+    {
+        self.regions.clear();
+    }
+
+    /// Whether regions tell that a literal is reducible in its clause.
+    pub fn separate(&self, kernel: &Kernel, c: ClauseId, lit: Lit) -> bool
+        requires live { (C : Clause) × (slot (slots kernel.now) c ≡ Some C) × IsIn lit C × (IsIn (negation lit) C → ⊥) }
+        requires universal { is_universal kernel.now.prefix lit.var ≡ true }
+        requires regions { AreRegionsOf kernel.now self.now }
+        ensures { IsTrue result → (C : Clause) → slot (slots kernel.now) c ≡ Some C → Reducible kernel.now.prefix (others c (slots kernel.now)) C lit }
+    {
+        for regions in &self.regions {
+            if regions.separates(kernel, c, lit) {
+                return true;
+            }
+        }
+        false
+    }
+
+    /// Learns of a walk that found nothing and looked at so many clauses. Once such walks have cost more than to go
+    /// through the clauses and the variables, regions are made for the block of the variable: so that never costs more
+    /// than the walks did.
+    pub fn learn(&mut self, kernel: &Kernel, var: u32, looks: usize) -> Result<(), NoMemory>
+        requires bound { is_bound kernel.now.prefix var ≡ true }
+        requires regions { AreRegionsOf kernel.now self.old }
+        ensures { AreRegionsOf kernel.now self.new }
+    {
+        kernel.sound();
+        self.debt = self.debt.saturating_add(looks);
+        if self.debt > kernel.size() + kernel.greatest_var() as usize {
+            self.debt = 0;
+            self.make(kernel, var)?;
+        }
+        Ok(())
+    }
+
+    // Makes regions for the block of a variable. Where there is no room for them, the oldest go.
+    fn make(&mut self, kernel: &Kernel, var: u32) -> Result<(), NoMemory>
+        requires bound { is_bound kernel.now.prefix var ≡ true }
+        requires regions { AreRegionsOf kernel.now self.old }
+        ensures { AreRegionsOf kernel.now self.new }
+    {
+        if self.regions.len() >= BLOCKS {
+            let _ = self.regions.remove(0);
+        }
+        let mut regions = Regions::new(self.alloc);
+        regions.build(kernel, var)?;
+        self.regions.push(regions)?;
+        Ok(())
+    }
+}
