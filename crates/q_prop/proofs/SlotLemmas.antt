@@ -151,10 +151,6 @@ without-kept s (Some m) n c d h = without-other s m n (λ e. d (ap (λ (x : ℕ)
 pub without-none : (s : Slots) (skip : Option ℕ) (n : ℕ) (c : Clause) → skip ≡ Some n → Holds (without s skip) n c → ⊥
 without-none s skip n c e h = without-here s n c (rw e at h)
 
--- a slot has one clause
-pub holds-once : (s : Slots) (n : ℕ) (c d : Clause) → Holds s n c → Holds s n d → c ≡ d
-holds-once s n c d h g = let e : Some c ≡ Some d = same_slice_get s n (Some c) (Some d) h g in cc
-
 -- what a test denies
 pub test_fails : (r : Bool) (P : Type 0) → (IsTrue r ↔ P) → r ≡ false → P → ⊥
 test_fails r P e f p = true≢false (sym (e.1 p) ∙ f)

@@ -6,7 +6,7 @@ use Rattle.q_prop.specs.Chains.{IsUnit}
 use Rattle.q_prop.specs.Slots.{Slots, Holds}
 use Rattle.q_prop.specs.declared.watches.Pair.{Pair}
 use Rattle.q_prop.specs.declared.watches.Visit.{Visit}
-use Rattle.q_prop.specs.declared.watches.Visit.TheVariants.{True, Move, Force, Conflict}
+use Rattle.q_prop.specs.declared.watches.Visit.TheVariants.{Move, Force, Conflict}
 use Rattle.q_prop.specs.declared.watches.Pick.{Pick}
 use Rattle.q_prop.specs.declared.watches.Pick.TheVariants.{Short, Open, OneLeft, AllFalse}
 
@@ -38,7 +38,6 @@ pub record IsSingle (known : List Literal) (c : Clause) : Type 0 where
 
 -- what a visit of a clause finds, whose other watched literal is o and not true
 abbrev pub IsVisit : List Literal → Clause → Literal → Visit → Type 0
-IsVisit known c o (True w) = Contains c w × Contains known w
 IsVisit known c o (Move w) = Contains c w × w ≢ o × (Contains known (negation w) → ⊥)
 IsVisit known c o Force = IsUnit known c o × (Contains known (negation o) → ⊥)
 IsVisit known c o Conflict = IsUnit known c o × Contains known (negation o)

@@ -52,10 +52,6 @@ fn visit(
         return Ok(Turn::Next);
     };
     match visit_of(clause, other, trail) {
-        Visit::True(l) => {
-            watched.rows.replace(false_lit, i, entry.slot, l);
-            Ok(Turn::Next)
-        }
         Visit::Move(l) => {
             watched.rows.push(l, entry.slot, other)?;
             watched.rows.remove(false_lit, i);

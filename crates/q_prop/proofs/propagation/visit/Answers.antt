@@ -2,7 +2,7 @@ use Rattle.std.proofs.Common.{◌≡◌, ◌<◌, Some, length, Contains, inr, a
 use Rattle.q_logic.specs.Literals.{negation}
 use Rattle.q_logic.specs.Formulas.{Clause}
 use Rattle.q_prop.specs.Slots.{Holds, without, filled}
-use Rattle.q_prop.proofs.SlotLemmas.{slice_get-in, without-le, without-kept, without-none, holds-once, test_fails}
+use Rattle.q_prop.proofs.SlotLemmas.{slice_get-in, without-le, without-kept, without-none, test_fails}
 use Rattle.q_prop.proofs.RowLemmas.{replaced-length}
 use Rattle.q_prop.specs.Rows.{entry_of}
 use Rattle.q_prop.proofs.Reaching.{IsReached-refl}
@@ -84,26 +84,6 @@ returns-in_default-get-clause-turn c =
     let f = c.negated-false_lit.ensures in
     let here = rw f at c.at-entry.ensures in
     (IsWorking-empty (without w.clauses c.args.skip) c.args.head c.args.lit c.args.i c.at-entry.result.slot c.at-entry.result.blocker c.args.trail.now w.pairs.items w.rows c.requires.working here (λ d e. c.in_default-get.ensures d (without-le w.clauses c.args.skip c.at-entry.result.slot d e)), refl)
-
-pub returns-in-True-clause-advanced : goal.returns-in-True-clause-advanced
-returns-in-True-clause-advanced c =
-    let w = c.args.watched.now in
-    let f = c.negated-false_lit.ensures in
-    let here = rw f at c.at-entry.ensures in
-    let r = rw f at c.replace-in-True.ensures in
-    let v = c.in-True.ensures in
-    let in' : (d : Clause) → Holds w.clauses c.at-entry.result.slot d → Contains d c.in-True.l = λ d e. rw (holds-once w.clauses c.at-entry.result.slot c.in-Some-get.clause.now d c.in-Some-get.ensures e) at v.0 in
-    advanced-rows c.args.skip w _ c.args.trail.now refl refl (covered_blocker w.clauses w.pairs.items w.rows c.replace-in-True.new.self (negation c.args.lit) c.args.i c.at-entry.result c.in-True.l here r in' c.requires.covered)
-
-pub returns-in-True-clause-turn : goal.returns-in-True-clause-turn
-returns-in-True-clause-turn c =
-    let w = c.args.watched.now in
-    let f = c.negated-false_lit.ensures in
-    let here = rw f at c.at-entry.ensures in
-    let r = rw f at c.replace-in-True.ensures in
-    let v = c.in-True.ensures in
-    let in' : (d : Clause) → Holds w.clauses c.at-entry.result.slot d → Contains d c.in-True.l = λ d e. rw (holds-once w.clauses c.at-entry.result.slot c.in-Some-get.clause.now d c.in-Some-get.ensures e) at v.0 in
-    (IsWorking-true (without w.clauses c.args.skip) c.args.head c.args.lit c.args.i c.at-entry.result.slot c.at-entry.result.blocker c.args.trail.now w.pairs.items w.rows c.requires.working here c.in-True.l c.replace-in-True.new.self r (λ d e. in' d (without-le w.clauses c.args.skip c.at-entry.result.slot d e)) v.1, replaced-length w.rows c.replace-in-True.new.self (negation c.args.lit) c.args.i (entry_of c.at-entry.result.slot c.in-True.l) r)
 
 pub returns-in_err-push-in-Move-clause-advanced : goal.returns-in_err-push-in-Move-clause-advanced
 returns-in_err-push-in-Move-clause-advanced c =
