@@ -4,7 +4,7 @@ use crate::rules::{NAMES, RULES, rule_of};
 use q_sched::Move;
 use std::cell::{Cell, RefCell};
 use std::env;
-use std::io::IsTerminal;
+use std::io::{IsTerminal, Write};
 use std::time::Instant;
 
 /// The formula in the middle of a run.
@@ -51,9 +51,12 @@ fn wish(rt: &HostRuntime) -> Option<bool> {
 
 impl Board {
     pub fn new(rt: HostRuntime) -> Board {
-        let is_terminal = rt.stderr().is_terminal();
+        let mut stderr = rt.stderr();
+        let is_terminal = stderr.is_terminal();
+        // where it is closed, a file that is opened later may get its number
+        let is_open = stderr.write(b"").is_ok();
         let wish = wish(&rt);
-        let start = if wish.unwrap_or(is_terminal) {
+        let start = if is_open && wish.unwrap_or(is_terminal) {
             Instant::now(&rt).ok()
         } else {
             None
