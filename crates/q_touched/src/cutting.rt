@@ -30,14 +30,19 @@ impl Cutting {
         }
     }
 
-    /// Gathers all cuts that apply.
-    pub(crate) fn collect(&mut self, kernel: &Kernel, bounds: &Bounds) -> Result<(), NoMemory>
+    /// Gathers all cuts that apply, or those before the place where so many more literals stay than may go.
+    pub(crate) fn collect(
+        &mut self,
+        kernel: &Kernel,
+        bounds: &Bounds,
+        patience: usize,
+    ) -> Result<(), NoMemory>
         requires ready { IsReady kernel.now }
         requires bounds { AreModest bounds.now }
     {
         self.batch.clear();
         self.search.forget();
-        collect_all(kernel, bounds, &mut self.search, &mut self.batch)?;
+        collect_all(kernel, bounds, &mut self.search, &mut self.batch, patience)?;
         self.batch.reverse();
         Ok(())
     }
@@ -59,14 +64,19 @@ fn collect_all(
     bounds: &Bounds,
     search: &mut Search,
     batch: &mut Vec<(ClauseId, Lit)>,
+    patience: usize,
 ) -> Result<(), NoMemory>
     requires ready { IsReady kernel.now }
     requires bounds { AreModest bounds.now }
     requires fit { IsFitFor kernel.now search.old }
 {
+    let mut stay = 0usize;
     let mut at = 0;
     while let Some(c) = kernel.next_live(at) {
-        collect_from(kernel, bounds, search, batch, c)?;
+        stay = stay.saturating_add(collect_from(kernel, bounds, search, batch, c)?);
+        if stay > patience.saturating_add(batch.len()) {
+            return Ok(());
+        }
         let Some(after) = c.checked_add(1) else {
             return Ok(());
         };
@@ -75,41 +85,46 @@ fn collect_all(
     Ok(())
 }
 
+// Gathers the cuts of a clause; how many of its universal literals stay.
 fn collect_from(
     kernel: &Kernel,
     bounds: &Bounds,
     search: &mut Search,
     batch: &mut Vec<(ClauseId, Lit)>,
     c: ClauseId,
-) -> Result<(), NoMemory>
+) -> Result<usize, NoMemory>
     requires ready { IsReady kernel.now }
     requires bounds { AreModest bounds.now }
     requires fit { IsFitFor kernel.now search.old }
     ensures fit { IsFitFor kernel.now search.new }
 {
+    let mut stay = 0usize;
     for l in lits_of(kernel, c) {
-        if may_leave(kernel, bounds, search, c, *l)? {
-            batch.push((c, *l))?;
+        match may_leave(kernel, bounds, search, c, *l)? {
+            Some(true) => batch.push((c, *l))?,
+            Some(false) => stay = stay.saturating_add(1),
+            None => {}
         }
     }
-    Ok(())
+    Ok(stay)
 }
 
-// Whether a literal is universal and may leave its clause.
+// Whether a universal literal may leave its clause; None of an existential one.
 fn may_leave(
     kernel: &Kernel,
     bounds: &Bounds,
     search: &mut Search,
     c: ClauseId,
     l: Lit,
-) -> Result<bool, NoMemory>
+) -> Result<Option<bool>, NoMemory>
     requires ready { IsReady kernel.now }
     requires bounds { AreModest bounds.now }
     requires fit { IsFitFor kernel.now search.old }
     ensures fit { IsFitFor kernel.now search.new }
 {
     if !is_universal(kernel, l.var()) {
-        return Ok(false);
+        return Ok(None);
     }
-    applies(kernel, search, &Target::Cut { c, l }, bounds)
+    let leaves = applies(kernel, search, &Target::Cut { c, l }, bounds)?;
+    Ok(Some(leaves))
 }

@@ -10,6 +10,9 @@
 //! 7. Universal reduction over all places; where something was taken, again from 2.
 //! 8. Covered clauses over long lists; where one was taken, again from 2.
 //!
+//! Before all of 2 to 8 comes universal reduction over the places in their order, as long as about half of the literals that
+//! it looks at may go: what goes then makes no clause long that elimination builds.
+//!
 //! Then nothing is proposed any more. Each call goes on where the last one stopped. (Queues of what was touched: N. Eén and
 //! A. Biere, "Effective preprocessing in SAT through variable and clause elimination", SAT 2005.)
 ghost use Rattle.q_kernel.specs.Taking.{AreModest, IsReady};
@@ -26,9 +29,13 @@ const SHORT_BLOCKED: u32 = 16;
 /// Covered clauses are looked for over lists of at most this length first.
 const SHORT_COVERED: u32 = 32;
 
+/// The first universal reduction ends where so many more literals stay than may go.
+const EARLY_PATIENCE: usize = 64;
+
 // Which rule comes next, once all is settled.
 #[derive(Clone, Copy, PartialEq, Eq)]
 enum Phase {
+    CutEarly,
     Merge,
     Eliminate,
     Block,
@@ -63,7 +70,7 @@ impl Strategy {
         Strategy {
             bounds,
             parts: Parts::new(alloc),
-            phase: Phase::Merge,
+            phase: Phase::CutEarly,
             is_fresh: true,
             has_moved: false,
             has_eliminated: false,
@@ -157,12 +164,13 @@ impl Strategy {
         let is_fresh = self.is_fresh;
         self.is_fresh = false;
         match self.phase {
+            Phase::CutEarly => self.cut(kernel, is_fresh, EARLY_PATIENCE),
             Phase::Merge => self.merge(kernel),
             Phase::Eliminate => self.eliminate(kernel),
             Phase::Block => self.block(kernel, is_fresh),
             Phase::Expand => self.expand(kernel),
             Phase::CoverShort => self.cover(kernel, is_fresh, SHORT_COVERED),
-            Phase::Cut => self.cut(kernel, is_fresh),
+            Phase::Cut => self.cut(kernel, is_fresh, usize::MAX),
             Phase::CoverLong => self.cover(kernel, is_fresh, u32::MAX),
             Phase::Over => Ok(None),
         }
@@ -242,11 +250,16 @@ impl Strategy {
         }
     }
 
-    fn cut(&mut self, kernel: &Kernel, is_fresh: bool) -> Result<Option<Move>, NoMemory>
+    fn cut(
+        &mut self,
+        kernel: &Kernel,
+        is_fresh: bool,
+        patience: usize,
+    ) -> Result<Option<Move>, NoMemory>
         requires { IsReady kernel.now }
     {
         if is_fresh {
-            self.parts.cutting.collect(kernel, &self.bounds)?;
+            self.parts.cutting.collect(kernel, &self.bounds, patience)?;
         }
         match self.parts.cutting.hand_out(kernel) {
             Some(target) => Ok(Some(Move::Reduce(target))),
@@ -257,6 +270,7 @@ impl Strategy {
     // This phase has nothing more.
     fn go_on(&mut self) {
         let next = match self.phase {
+            Phase::CutEarly => Phase::Merge,
             Phase::Merge => Phase::Eliminate,
             Phase::Eliminate => Phase::Block,
             Phase::Block => Phase::Expand,
