@@ -13,6 +13,7 @@ mod guides;
 mod implying;
 mod logging;
 mod notation;
+mod places;
 mod reading;
 mod stage;
 mod table;

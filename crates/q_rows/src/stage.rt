@@ -10,6 +10,7 @@ use crate::formulas::{formula_of, formula_text};
 use crate::implying::implied;
 use crate::logging::log_answer;
 use crate::notation::{bytes_of, compare};
+use crate::places::lists;
 use crate::reading::answer;
 use crate::taking::{figures, found, outcome, proposals};
 use crate::trouble::Trouble;
@@ -213,6 +214,7 @@ impl Stage {
         match verb {
             "take" => self.take(rest, &bounds),
             "find" => self.find(rest, &bounds),
+            "lists" => lists(self.alloc, &self.formula, &bounds, &aim_of(rest)?),
             "figures" => figures(self.alloc, &self.formula, &bounds),
             "implied" => implied(self.alloc, &self.formula, rest),
             "ask" => proposals(self.alloc, &self.formula, rest),

@@ -13,8 +13,8 @@ use q_sched::{Guide, Move, Proposal};
 use std::alloc::Global;
 use std::fmt;
 
-// A kernel that is swept and within the limits.
-fn kernel_of(alloc: Global, formula: &Formula) -> Result<Kernel, Trouble>
+/// A kernel that is swept and within the limits.
+pub fn kernel_of(alloc: Global, formula: &Formula) -> Result<Kernel, Trouble>
     ensures { IfOk result (λ k. IsReady k) }
 {
     if formula.clauses() > 1000 {

@@ -1,0 +1,73 @@
+// Where the literals of a kernel stand once its dead words are gone.
+ghost use Rattle.q_kernel.specs.Taking.{AreModest};
+
+use crate::aims::Aim;
+use crate::formulas::push_lit;
+use crate::taking::kernel_of;
+use crate::trouble::Trouble;
+use q_arena::ClauseId;
+use q_kernel::Kernel;
+use q_logic::{Bounds, Formula, Lit};
+use std::alloc::Global;
+
+// No formula of a row has a greater variable.
+const MOST: u32 = 1000;
+
+/// Takes a target, compacts, and tells for each literal the clauses that own its places, and the number of dead words:
+/// `-1 in 2, 3 in 0 2, 0 dead`.
+pub fn lists(
+    alloc: Global,
+    formula: &Formula,
+    bounds: &Bounds,
+    aim: &Aim,
+) -> Result<String, Trouble>
+    requires { AreModest bounds.now }
+{
+    let mut kernel = kernel_of(alloc, formula)?;
+    let _ = aim.try_one(alloc, &mut kernel, bounds)?;
+    kernel.compact();
+    told(alloc, &kernel)
+}
+
+fn told(alloc: Global, kernel: &Kernel) -> Result<String, Trouble> {
+    let mut text = String::new(alloc);
+    for var in 1..=MOST {
+        push_list(&mut text, kernel, Lit::new(var, true))?;
+        push_list(&mut text, kernel, Lit::new(var, false))?;
+    }
+    let dead = kernel.dead();
+    write!(text, "{dead} dead")?;
+    Ok(text)
+}
+
+fn push_list(text: &mut String, kernel: &Kernel, lit: Lit) -> Result<(), Trouble> {
+    let owners = owners_of(*text.allocator(), kernel, lit)?;
+    if owners.is_empty() {
+        return Ok(());
+    }
+    push_lit(text, lit)?;
+    text.push_str(" in")?;
+    for id in owners {
+        write!(text, " {id}")?;
+    }
+    text.push_str(", ")?;
+    Ok(())
+}
+
+// The clauses that own the places of a literal, in ascending order.
+fn owners_of(alloc: Global, kernel: &Kernel, lit: Lit) -> Result<Vec<ClauseId>, Trouble> {
+    let mut owners = Vec::new(alloc);
+    gather(kernel, lit, &mut owners)?;
+    owners.sort()?;
+    Ok(owners)
+}
+
+fn gather(kernel: &Kernel, lit: Lit, owners: &mut Vec<ClauseId>) -> Result<(), Trouble> {
+    let mut at = kernel.first(lit);
+    for _ in 0..kernel.count(lit) {
+        let Some(place) = at else { return Ok(()) };
+        owners.push(kernel.owner(place))?;
+        at = kernel.next(place);
+    }
+    Ok(())
+}
