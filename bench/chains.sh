@@ -3,6 +3,7 @@
 # 50,000 to 400,000 steps, two deletions for each drop. The time should grow no worse than n log n.
 # With -f STEPS FOLDER it only writes the files in, out and log.
 set -eu
+export CELDRINN_PROGRESS=0
 cd "$(dirname "$0")/.."
 work=$(mktemp -d)
 trap 'rm -rf "$work"' EXIT

@@ -7,6 +7,7 @@
 # two depend on each other. The fourth has the last gate as its output, so all gates are copied and written again. The peak is
 # at least that of the measuring script, about 10 MiB.
 set -eu
+export CELDRINN_PROGRESS=0
 cd "$(dirname "$0")/.."
 work=$(mktemp -d)
 trap 'rm -rf "$work"' EXIT

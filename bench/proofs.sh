@@ -3,6 +3,7 @@
 # checker. CaDiCaL keeps its clauses (--plain --reduce=0), so that both do the same work. Deletions are
 # left out of the log, and OUT is IN with the added clauses. Usage: bench/proofs.sh [VARIABLES ..]
 set -eu
+export CELDRINN_PROGRESS=0
 cd "$(dirname "$0")/.."
 command -v cadical >/dev/null || { apt-get update && apt-get install -y cadical; } >/dev/null
 work=$(mktemp -d)

@@ -6,6 +6,7 @@
 # comparison of the two. The log adds a clause that follows and deletes it, again and again, so its time
 # includes the checking of the steps. The peak is at least that of the measuring script, about 10 MiB.
 set -eu
+export CELDRINN_PROGRESS=0
 cd "$(dirname "$0")/.."
 work=$(mktemp -d)
 trap 'rm -rf "$work"' EXIT

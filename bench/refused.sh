@@ -3,6 +3,7 @@
 # 6, or what it answers with all its memory (where only a guide or the kernel's journal went without). Anything else is a
 # fault, and is listed. Needs a C compiler. Usage: bench/refused.sh [PROGRAM]
 set -u
+export CELDRINN_PROGRESS=0
 cd "$(dirname "$0")/.."
 program=$(realpath "${1:-dist/celdrinn-x86_64-linux}")
 examples=$(realpath examples)

@@ -14,6 +14,7 @@
 # Time is that of the processor. A dash means that the time was up. The family `others` stands for the scripts beside this
 # one, with their own sizes and words: reading, proofs of a SAT solver, circuits; what they say goes into files beside the table.
 set -eu
+export CELDRINN_PROGRESS=0
 cd "$(dirname "$0")/.."
 rungs=3
 limit=20
