@@ -1,4 +1,5 @@
-// The targets of the rules, as rows write them. A crate of rules is added here alone: an arm in each `match` below.
+// The targets of the rules, as rows write them. A crate of rules is added here alone: an arm in each `match` below, and a
+// function that calls its `find`.
 ghost use Rattle.q_kernel.specs.Taking.{AreModest, IsReady};
 
 use crate::trouble::Trouble;
@@ -62,19 +63,126 @@ pub fn find(
     kernel: &Kernel,
     bounds: &Bounds,
     from: u32,
-) -> Result<Option<Aim>, NoMemory>
+) -> Result<Option<Aim>, Trouble>
     requires ready { IsReady kernel.now }
     requires bounds { AreModest bounds.now }
 {
-    let found = match rule {
-        Rule::Reduce => q_reduce::find(alloc, kernel, bounds, from)?.map(Move::Reduce),
-        Rule::Subsume => q_subsume::find(alloc, kernel, bounds, from)?.map(Move::Subsume),
-        Rule::Merge => q_equiv::find(alloc, kernel, bounds, from)?.map(Move::Merge),
-        Rule::Block => q_blocked::find(alloc, kernel, bounds, from)?.map(Move::Block),
-        Rule::Eliminate => q_eliminate::find(alloc, kernel, bounds, from)?.map(Move::Eliminate),
-        Rule::Expand => q_expand::find(alloc, kernel, bounds, from)?.map(Move::Expand),
-    };
-    Ok(found.map(|target| Aim { target }))
+    match rule {
+        Rule::Reduce => find_reduce(alloc, kernel, bounds, from),
+        Rule::Subsume => find_subsume(alloc, kernel, bounds, from),
+        Rule::Merge => find_merge(alloc, kernel, bounds, from),
+        Rule::Block => find_block(alloc, kernel, bounds, from),
+        Rule::Eliminate => find_eliminate(alloc, kernel, bounds, from),
+        Rule::Expand => find_expand(alloc, kernel, bounds, from),
+    }
+}
+
+fn find_reduce(
+    alloc: Global,
+    kernel: &Kernel,
+    bounds: &Bounds,
+    from: u32,
+) -> Result<Option<Aim>, Trouble>
+    requires ready { IsReady kernel.now }
+    requires bounds { AreModest bounds.now }
+{
+    match q_reduce::find(alloc, kernel, bounds, from) {
+        Ok(Some(target)) => Ok(Some(Aim {
+            target: Move::Reduce(target),
+        })),
+        Ok(None) => Ok(None),
+        Err(_) => Err(Trouble::NoMemory),
+    }
+}
+
+fn find_subsume(
+    alloc: Global,
+    kernel: &Kernel,
+    bounds: &Bounds,
+    from: u32,
+) -> Result<Option<Aim>, Trouble>
+    requires ready { IsReady kernel.now }
+    requires bounds { AreModest bounds.now }
+{
+    match q_subsume::find(alloc, kernel, bounds, from) {
+        Ok(Some(target)) => Ok(Some(Aim {
+            target: Move::Subsume(target),
+        })),
+        Ok(None) => Ok(None),
+        Err(_) => Err(Trouble::NoMemory),
+    }
+}
+
+fn find_merge(
+    alloc: Global,
+    kernel: &Kernel,
+    bounds: &Bounds,
+    from: u32,
+) -> Result<Option<Aim>, Trouble>
+    requires ready { IsReady kernel.now }
+    requires bounds { AreModest bounds.now }
+{
+    match q_equiv::find(alloc, kernel, bounds, from) {
+        Ok(Some(target)) => Ok(Some(Aim {
+            target: Move::Merge(target),
+        })),
+        Ok(None) => Ok(None),
+        Err(_) => Err(Trouble::NoMemory),
+    }
+}
+
+fn find_block(
+    alloc: Global,
+    kernel: &Kernel,
+    bounds: &Bounds,
+    from: u32,
+) -> Result<Option<Aim>, Trouble>
+    requires ready { IsReady kernel.now }
+    requires bounds { AreModest bounds.now }
+{
+    match q_blocked::find(alloc, kernel, bounds, from) {
+        Ok(Some(target)) => Ok(Some(Aim {
+            target: Move::Block(target),
+        })),
+        Ok(None) => Ok(None),
+        Err(_) => Err(Trouble::NoMemory),
+    }
+}
+
+fn find_eliminate(
+    alloc: Global,
+    kernel: &Kernel,
+    bounds: &Bounds,
+    from: u32,
+) -> Result<Option<Aim>, Trouble>
+    requires ready { IsReady kernel.now }
+    requires bounds { AreModest bounds.now }
+{
+    match q_eliminate::find(alloc, kernel, bounds, from) {
+        Ok(Some(target)) => Ok(Some(Aim {
+            target: Move::Eliminate(target),
+        })),
+        Ok(None) => Ok(None),
+        Err(_) => Err(Trouble::NoMemory),
+    }
+}
+
+fn find_expand(
+    alloc: Global,
+    kernel: &Kernel,
+    bounds: &Bounds,
+    from: u32,
+) -> Result<Option<Aim>, Trouble>
+    requires ready { IsReady kernel.now }
+    requires bounds { AreModest bounds.now }
+{
+    match q_expand::find(alloc, kernel, bounds, from) {
+        Ok(Some(target)) => Ok(Some(Aim {
+            target: Move::Expand(target),
+        })),
+        Ok(None) => Ok(None),
+        Err(_) => Err(Trouble::NoMemory),
+    }
 }
 
 /// The target that a row writes: its kind, then ids of clauses, literals or variables, in the order of its fields.
