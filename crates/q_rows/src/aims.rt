@@ -10,7 +10,7 @@ use q_expand::Target as Expand;
 use q_kernel::{Kernel, Taken};
 use q_logic::{Bounds, Lit, NoMemory};
 use q_reduce::Target as Reduce;
-use q_sched::{Move, Rule};
+use q_sched::Move;
 use q_subsume::Target as Subsume;
 use std::alloc::Global;
 use std::fmt;
@@ -22,6 +22,18 @@ pub struct Aim {
 }
 
 impl Aim {
+    /// The name of the crate whose target this is.
+    pub fn rules(&self) -> &'static str {
+        match self.target {
+            Move::Reduce(_) => "reduce",
+            Move::Subsume(_) => "subsume",
+            Move::Merge(_) => "equiv",
+            Move::Block(_) => "blocked",
+            Move::Eliminate(_) => "eliminate",
+            Move::Expand(_) => "expand",
+        }
+    }
+
     /// Tries the target.
     pub fn try_one(
         &self,
@@ -43,23 +55,10 @@ impl Aim {
     }
 }
 
-/// The crate of rules that a row names.
-pub fn rule_of(name: &str) -> Result<Rule, Trouble> {
-    match name {
-        "reduce" => Ok(Rule::Reduce),
-        "subsume" => Ok(Rule::Subsume),
-        "equiv" => Ok(Rule::Merge),
-        "blocked" => Ok(Rule::Block),
-        "eliminate" => Ok(Rule::Eliminate),
-        "expand" => Ok(Rule::Expand),
-        _ => Err(Trouble::Unreadable("a crate of rules")),
-    }
-}
-
 /// What a crate of rules finds from a place on.
 pub fn find(
     alloc: Global,
-    rule: Rule,
+    rules: &str,
     kernel: &Kernel,
     bounds: &Bounds,
     from: u32,
@@ -67,13 +66,14 @@ pub fn find(
     requires ready { IsReady kernel.now }
     requires bounds { AreModest bounds.now }
 {
-    match rule {
-        Rule::Reduce => find_reduce(alloc, kernel, bounds, from),
-        Rule::Subsume => find_subsume(alloc, kernel, bounds, from),
-        Rule::Merge => find_merge(alloc, kernel, bounds, from),
-        Rule::Block => find_block(alloc, kernel, bounds, from),
-        Rule::Eliminate => find_eliminate(alloc, kernel, bounds, from),
-        Rule::Expand => find_expand(alloc, kernel, bounds, from),
+    match rules {
+        "reduce" => find_reduce(alloc, kernel, bounds, from),
+        "subsume" => find_subsume(alloc, kernel, bounds, from),
+        "equiv" => find_merge(alloc, kernel, bounds, from),
+        "blocked" => find_block(alloc, kernel, bounds, from),
+        "eliminate" => find_eliminate(alloc, kernel, bounds, from),
+        "expand" => find_expand(alloc, kernel, bounds, from),
+        _ => Err(Trouble::Unreadable("a crate of rules")),
     }
 }
 

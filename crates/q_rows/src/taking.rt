@@ -2,7 +2,7 @@
 ghost use Rattle.std.specs.Prelude.{IfOk};
 ghost use Rattle.q_kernel.specs.Taking.{AreModest, IsReady};
 
-use crate::aims::{Aim, find, rule_of};
+use crate::aims::{Aim, find};
 use crate::checking::audit;
 use crate::formulas::formula_text;
 use crate::guides::{RowGuide, guide_of};
@@ -39,7 +39,7 @@ pub fn outcome(
     requires { AreModest bounds.now }
 {
     let mut kernel = kernel_of(alloc, formula)?;
-    let is_found = find(alloc, aim.target.rule(), &kernel, bounds, 0)?.is_some();
+    let is_found = find(alloc, aim.rules(), &kernel, bounds, 0)?.is_some();
     let said = tried(alloc, formula, &mut kernel, bounds, aim)?;
     if !is_found && said.as_str() != "no" {
         return Err(Trouble::Unreadable("a target that is found"));
@@ -109,7 +109,7 @@ pub fn found(
     requires { AreModest bounds.now }
 {
     let kernel = kernel_of(alloc, formula)?;
-    let aim = find(alloc, rule_of(rules)?, &kernel, bounds, from)?;
+    let aim = find(alloc, rules, &kernel, bounds, from)?;
     name_of(alloc, aim)
 }
 
