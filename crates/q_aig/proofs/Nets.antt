@@ -110,7 +110,7 @@ keeps-input a b v o ei eg l h =
     (rw (ei, eg) there, rw (ei, eg) (operand-more_inputs a.inputs v a.gates (operand_of l) o h))
 
 -- the trees of later gates come behind
-trees-front : (ins : List ℕ) (ts : List Circuit) (gs : List Gate) → (later : List Circuit) × (gate_trees ins ts gs ≡ ts ++ later)
+pub trees-front : (ins : List ℕ) (ts : List Circuit) (gs : List Gate) → (later : List Circuit) × (gate_trees ins ts gs ≡ ts ++ later)
 trees-front ins ts [] = ([], sym (append-nil ts))
 trees-front ins ts (g ∷ gs) =
     let t : Circuit = gate_tree ins ts g in

@@ -40,7 +40,7 @@ count-none [] h = refl
 count-none (true ∷ ms) h = absurd (both_ways true (h 0) refl)
 count-none (false ∷ ms) h = count-none ms (λ g. h (suc g))
 
-set-kept : (ms : List Bool) (g x : ℕ) → get_or ms x false ≡ true → get_or (set ms g true) x false ≡ true
+pub set-kept : (ms : List Bool) (g x : ℕ) → get_or ms x false ≡ true → get_or (set ms g true) x false ≡ true
 set-kept ms g x e = elim (ℕ-cases x g) [
   | inl q ↦ elim (cases_lt g (length ms)) [
     | inl a ↦ subst (λ (y : ℕ). get_or (set ms g true) y false ≡ true) (sym q) (get_or-set_same ms g true false a)

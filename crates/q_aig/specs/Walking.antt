@@ -6,6 +6,12 @@ use Rattle.q_aig.specs.Nets.{operand_of}
 abbrev pub pair_at : List (ℕ × ℕ) → ℕ → ℕ × ℕ
 pair_at gates g = slice_index_or gates g (0, 0)
 
+-- a gate is marked; what is no gate needs no mark
+abbrev pub IsMarked : List Bool → GateNode → Type 0
+IsMarked marks falsum = Unit {0}
+IsMarked marks (input_at i) = Unit {0}
+IsMarked marks (gate_at g) = slice_index_or marks g false ≡ true
+
 -- what a literal is made of
 pub data IsInCone (gates : List (ℕ × ℕ)) (l : ℕ) : GateNode → Type 0 where
   root : IsInCone gates l (operand_of l).node

@@ -5,7 +5,9 @@ use Rattle.std.proofs.lemmas.Bool.{cases_lt}
 use Rattle.q_logic.specs.Circuits.{Circuit}
 use Rattle.q_logic.specs.Certificates.{GateNode, falsum, input_at, gate_at, Operand, Gate, NamedOutput, CertificateView, node_tree, operand_tree, gate_tree, gate_trees, output_named, tree_of_some}
 use Rattle.q_logic.proofs.CertificateTrees.{length-gate_trees}
+use Rattle.q_aig.proofs.Nets.{trees-front}
 use Rattle.q_gates.specs.Gates.{no_gate}
+use Rattle.q_gates.proofs.Walks.{sorted-acyclic}
 use Rattle.q_aiger.specs.Cones.{place_in}
 use Rattle.q_gates.specs.Uses.{Parts, part_of, parts_of, part_at, Uses, DependsOn, direct, further, IsOrder, IsFullOrder}
 use Rattle.q_aiger.specs.Writing.{names_of}
@@ -19,14 +21,6 @@ Early n x = (h : ℕ) → part_of x ≡ Some h → h < n
 
 abbrev EarlyGate : ℕ → Gate → Type 0
 EarlyGate n g = Early n g.left.node × Early n g.right.node
-
--- trees of later gates come behind
-trees-front : (ins : List ℕ) (ts : List Circuit) (gs : List Gate) → (later : List Circuit) × (gate_trees ins ts gs ≡ ts ++ later)
-trees-front ins ts [] = ([], sym (append-nil ts))
-trees-front ins ts (g ∷ gs) =
-    let t : Circuit = gate_tree ins ts g in
-    let r = trees-front ins (ts ++ t ∷ []) gs in
-    (t ∷ r.0, r.1 ∙ append_assoc ts (t ∷ []) r.0)
 
 node-front : (ins : List ℕ) (ts later : List Circuit) (x : GateNode) → Early (length ts) x → node_tree ins (ts ++ later) x ≡ node_tree ins ts x
 node-front ins ts later falsum e = refl
@@ -219,45 +213,12 @@ one-meaning bytes c d p q =
     let all : AreAlike (sorted_circuits p.order p.written) (sorted_circuits q.order p.written) = sorted-alike p.written p.order q.order p.full full in
     subst (λ (x : CertificateView). AreAlike x d) (sym p.sorted) (subst (AreAlike (sorted_circuits p.order p.written)) (sym e) all)
 
--- gates in an order do not depend on themselves
-depends-there : (ps : Parts) (g h : ℕ) → DependsOn ps g h → g < length ps
-depends-there ps g h (direct k u) = go (cases_lt g (length ps))
-  where
-    go : (g < length ps) ⊎ (length ps ≤ g) → g < length ps
-    go (inl b) = b
-    go (inr b) = absurd (elim u [
-      | inl q ↦ let n : (part_at ps g).0 ≡ None = ap (λ (p : Gate). (parts_of p).0) (get_or_past ps g no_gate b) in none-some _ k n q
-      | inr q ↦ let n : (part_at ps g).1 ≡ None = ap (λ (p : Gate). (parts_of p).1) (get_or_past ps g no_gate b) in none-some _ k n q
-    ])
-      where
-        none-some : (m : Option ℕ) (k : ℕ) → m ≡ None → m ≡ Some k → ⊥
-        none-some m k a b = cc
-depends-there ps g h (further m k d u) = depends-there ps g m d
-
-depends-earlier : (ps : Parts) (order : List ℕ) → IsOrder ps order → (i : ℕ) → i < length order → (g : ℕ) → g ≡ get_or order i 0 → (h : ℕ) → DependsOn ps g h → (j : ℕ) × (j < i) × (get_or order j 0 ≡ h)
-depends-earlier ps order o i lt g e h (direct k u) = o.earlier i k lt (subst (λ (x : ℕ). Uses ps x k) e u)
-depends-earlier ps order o i lt g e h (further m k d u) =
-    let r = depends-earlier ps order o i lt g e m d in
-    let rl : r.0 < i = r.1 in
-    let s = o.earlier r.0 k (omega arith) (subst (λ (x : ℕ). Uses ps x k) (sym r.2) u) in
-    let sl : s.0 < r.0 = s.1 in
-    (s.0, omega arith, s.2)
-
-acyclic : (ps : Parts) (order : List ℕ) → IsFullOrder ps order → (g : ℕ) → DependsOn ps g g → ⊥
-acyclic ps order o g d =
-    let r = o.all g (depends-there ps g g d) in
-    let s = depends-earlier ps order o.sorted r.0 r.1 g (sym r.2) g d in
-    let sl : s.0 < r.0 = s.1 in
-    let sr : r.0 < length order = r.1 in
-    let e : s.0 ≡ r.0 = o.sorted.once s.0 r.0 (omega arith) r.1 (s.2 ∙ sym r.2) in
-    omega arith
-
 -- a file of circuits has no offence
 pub no-offence : (bytes : List ℕ) (c : CertificateView) (line cause : ℕ) → AreCircuits bytes c → Offence bytes line cause → ⊥
 no-offence bytes c line cause p (refused l k e) = no-parse (parse bytes) (l, k) p.written e p.parsed
 no-offence bytes c line cause p (cyclic f g e first) =
     let same : f ≡ p.written = one-parse (parse bytes) f p.written e p.parsed in
-    acyclic p.written.gates p.order p.full g (subst (λ (w : CertificateView). DependsOn w.gates g g) same first.cycle)
+    sorted-acyclic p.written.gates p.order p.full g (subst (λ (w : CertificateView). DependsOn w.gates g g) same first.cycle)
 
 pub offence-none : (bytes : List ℕ) (line cause : ℕ) → Offence bytes line cause → IsNoCircuits bytes
 offence-none bytes line cause o c p = no-offence bytes c line cause p o

@@ -9,16 +9,9 @@ use Rattle.q_aig.specs.Outputs.{output_of, net_of, AreOutputs, no_output as unna
 use Rattle.q_aig.specs.declared.output.Output.{Output}
 use Rattle.q_gates.specs.Gates.{no_gate}
 use Rattle.q_gates.proofs.Cases.{ℕ-cases}
-use Rattle.q_aiger.specs.Cones.{no_output, IsPart, output, left, right, AreCones, place_in, with_mark, IsMarked, IsMarking, ArePlaced, HasCones}
-
-pub set-kept : (ms : List Bool) (g x : ℕ) → get_or ms x false ≡ true → get_or (set ms g true) x false ≡ true
-set-kept ms g x e = elim (ℕ-cases x g) [
-  | inl q ↦ elim (cases_lt g (length ms)) [
-    | inl a ↦ subst (λ (y : ℕ). get_or (set ms g true) y false ≡ true) (sym q) (get_or-set_same ms g true false a)
-    | inr a ↦ absurd (both_ways (get_or ms x false) (get_or_past ms x false (omega arith)) e)
-  ]
-  | inr n ↦ get_or-set_other ms g x true false n ∙ e
-]
+use Rattle.q_aig.specs.Walking.{IsMarked}
+use Rattle.q_aig.proofs.Walking.{set-kept}
+use Rattle.q_aiger.specs.Cones.{no_output, IsPart, output, left, right, AreCones, place_in, with_mark, IsMarking, ArePlaced, HasCones}
 
 pub length-mark : (ms : List Bool) (n : GateNode) → length (with_mark ms n) ≡ length ms
 length-mark ms falsum = refl

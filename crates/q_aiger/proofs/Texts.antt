@@ -5,20 +5,11 @@ use Rattle.q_aig.specs.Outputs.{output_of}
 use Rattle.q_aig.specs.declared.output.Output.{Output}
 use Rattle.q_gates.specs.Gates.{no_gate}
 use Rattle.q_aiger.specs.Cones.{no_output}
-use Rattle.q_aiger.specs.Writing.{number_line, input_lines, output_lines, literal_of, gate_line, gate_text, gate_lines, symbol_line, symbol_lines, names_of, Extends}
-
-pub extends-self : (a : List ℕ) → Extends a a
-extends-self a = record { rest = []; is = sym (append-nil a) }
-
-pub extends-more : (a b c : List ℕ) → Extends a b → Extends b c → Extends a c
-extends-more a b c h k = record { rest = h.rest ++ k.rest; is = k.is ∙ (ap (λ x. x ++ k.rest) h.is ∙ append_assoc a h.rest k.rest) }
+use Rattle.q_aiger.specs.Writing.{number_line, input_lines, output_lines, literal_of, gate_line, gate_text, gate_lines, symbol_line, symbol_lines, names_of}
+use Rattle.q_text.specs.Texts.{Extends}
 
 pub extends-append : (a b c d : List ℕ) → Extends a b → d ≡ b ++ c → Extends a d
 extends-append a b c d h e = record { rest = h.rest ++ c; is = e ∙ (ap (λ x. x ++ c) h.is ∙ append_assoc a h.rest c) }
-
-pub on-err : {X E : Type 0} {P : Type 0} (r : Result X E) → P → OnErr r P
-on-err (Ok x) p = tt
-on-err (Err e) p = p
 
 -- one more part is written of what was left
 pub written-more : (now next start part left later : List ℕ) → next ≡ now ++ part → left ≡ part ++ later → now ++ left ≡ start → next ++ later ≡ start

@@ -1,5 +1,6 @@
 -- The gates that the outputs of a certificate are made of.
 use Rattle.std.specs.Prelude.{◌≡◌, ◌<◌, ◌≤◌, ℕ, ◌+◌, Bool, true, false, List, [], ◌∷◌, length, slice_index_or, slice_set, eqb, if◌then◌else◌}
+use Rattle.q_aig.specs.Walking.{IsMarked}
 use Rattle.q_gates.specs.Gates.{no_operand, no_gate}
 use Rattle.q_logic.specs.Certificates.{GateNode, falsum, input_at, gate_at, NamedOutput, CertificateView}
 
@@ -29,12 +30,6 @@ abbrev pub with_mark : List Bool → GateNode → List Bool
 with_mark marks falsum = marks
 with_mark marks (input_at i) = marks
 with_mark marks (gate_at g) = slice_set marks g true
-
--- a gate is marked; what is no gate needs no mark
-abbrev pub IsMarked : List Bool → GateNode → Type 0
-IsMarked marks falsum = Unit {0}
-IsMarked marks (input_at i) = Unit {0}
-IsMarked marks (gate_at g) = slice_index_or marks g false ≡ true
 
 -- what is marked is a part; the first outputs are marked, and the operands of marked gates from here on
 pub record IsMarking (c : CertificateView) (marks : List Bool) (outputs from : ℕ) : Type 0 where

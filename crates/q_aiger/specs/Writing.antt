@@ -84,8 +84,3 @@ pub record IsCanonicalBehind (c : CertificateView) (gates : ℕ) (old new : List
   pub text : List ℕ
   pub canonical : IsCanonical c gates text
   pub behind : new ≡ old ++ text
-
--- what stood in the text still stands at its front
-pub record Extends (old new : List ℕ) : Type 0 where
-  pub rest : List ℕ
-  pub is : new ≡ old ++ rest

@@ -39,10 +39,7 @@ pub fn read_items<'a>(
     let mut line = 2;
     let mut rest = text;
     for _ in 0..header.inputs + header.outputs + header.gates {
-        match take_line(&mut items, header, rest, line, last) {
-            Ok(behind) => rest = behind,
-            Err(error) => return Err(error),
-        }
+        rest = take_line(&mut items, header, rest, line, last)?;
         line += 1;
     }
     Ok(Behind { items, line, rest })
@@ -59,18 +56,14 @@ fn take_line<'a>(
     requires { header.max ≤ 268435456 }
     ensures { TakesLine result (header_view header) last line items.old (lines_of text.now) items.new }
 {
-    match next_line(text) {
-        Some((first, rest)) => {
-            if let Err(error) = items.take(header, first, line) {
-                return Err(error);
-            }
-            Ok(rest)
-        }
-        None => Err(AigerError::Refused {
+    let Some((first, rest)) = next_line(text) else {
+        return Err(AigerError::Refused {
             line: last,
             cause: Cause::Unended as u8,
-        }),
-    }
+        });
+    };
+    items.take(header, first, line)?;
+    Ok(rest)
 }
 
 /// Reads the symbols, of which the first may stand on this line; the file ends on line `last`.
@@ -91,10 +84,8 @@ pub fn read_names(
     let mut at = line;
     let mut rest = text;
     while let Some((first, behind)) = next_line(rest) {
-        match take_symbol(first, at, inputs, outputs) {
-            Ok(true) => {}
-            Ok(false) => return end_names(last, inputs, outputs),
-            Err(error) => return Err(error),
+        if !take_symbol(first, at, inputs, outputs)? {
+            return end_names(last, inputs, outputs);
         }
         rest = behind;
         at += 1;
@@ -131,14 +122,14 @@ fn take_symbol(
     match read_symbol(line) {
         Symbol::Nothing => Ok(true),
         Symbol::Comment => Ok(false),
-        Symbol::Input(place, name) => match inputs.give(place, name, at) {
-            Ok(()) => Ok(true),
-            Err(error) => Err(error),
-        },
-        Symbol::Output(place, name) => match outputs.give(place, name, at) {
-            Ok(()) => Ok(true),
-            Err(error) => Err(error),
-        },
+        Symbol::Input(place, name) => {
+            inputs.give(place, name, at)?;
+            Ok(true)
+        }
+        Symbol::Output(place, name) => {
+            outputs.give(place, name, at)?;
+            Ok(true)
+        }
         Symbol::Strange => Err(AigerError::Refused {
             line: at,
             cause: Cause::BadSymbol as u8,

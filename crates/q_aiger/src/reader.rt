@@ -43,10 +43,7 @@ pub fn read(alloc: Global, bytes: &[u8]) -> Result<Certificate, AigerError>
     ensures err { IfErr result (FailsWith bytes.now) }
     ensures no_file { IfErr result (IsNoFile bytes.now) }
 {
-    match read_circuits(alloc, bytes) {
-        Ok(circuits) => Ok(circuits),
-        Err(error) => Err(error),
-    }
+    read_circuits(alloc, bytes)
 }
 
 // The circuits of a file, or its first offence.
@@ -54,10 +51,8 @@ fn read_circuits(alloc: Global, bytes: &[u8]) -> Result<Certificate, AigerError>
     ensures ok { IfOk result (AreCircuits bytes.now) }
     ensures err { IfErr result (FailsWith bytes.now) }
 {
-    match read_lines(alloc, bytes) {
-        Ok(written) => sorted(alloc, bytes, &written),
-        Err(error) => Err(error),
-    }
+    let written = read_lines(alloc, bytes)?;
+    sorted(alloc, bytes, &written)
 }
 
 // The circuits, with the gates in an order in which operands come first.
@@ -68,17 +63,14 @@ fn sorted(alloc: Global, _bytes: &[u8], written: &Written) -> Result<Certificate
     ensures err { IfErr result (FailsWith _bytes.now) }
 {
     match sort_gates(alloc, &written.gates)? {
-        Sorted::Order(order) => {
-            let certificate = make(
-                alloc,
-                written.inputs.as_slice(),
-                &written.gates,
-                &order,
-                written.names.as_slice(),
-                &written.outputs,
-            )?;
-            Ok(certificate)
-        }
+        Sorted::Order(order) => Ok(make(
+            alloc,
+            written.inputs.as_slice(),
+            &written.gates,
+            &order,
+            written.names.as_slice(),
+            &written.outputs,
+        )?),
         Sorted::Cycle(gate) => Err(cyclic(_bytes, written, gate)),
     }
 }
@@ -137,16 +129,11 @@ fn read_body(alloc: Global, header: Header, text: &[u8], last: u64) -> Result<Wr
     ensures answer { Answers result (items_in last (lines_of text.now) (header_view header)) written_view }
     ensures lawful { IfOk result IsWritten }
 {
-    let behind = match read_items(alloc, header, text, last) {
-        Ok(behind) => behind,
-        Err(error) => return Err(error),
-    };
+    let behind = read_items(alloc, header, text, last)?;
     let mut inputs = Names::new(alloc, header.inputs as usize)?;
     let mut names = Names::new(alloc, header.outputs as usize)?;
-    match read_names(behind.rest, behind.line, last, &mut inputs, &mut names) {
-        Ok(()) => resolve(alloc, header, &behind.items, inputs, names),
-        Err(error) => Err(error),
-    }
+    read_names(behind.rest, behind.line, last, &mut inputs, &mut names)?;
+    resolve(alloc, header, &behind.items, inputs, names)
 }
 
 // What the literals of the file stand for.
@@ -167,17 +154,12 @@ fn resolve(
     ensures lawful { IfOk result IsWritten }
 {
     let first = header.inputs as u32;
-    let outputs = match resolve_outputs(alloc, items, first, 2 + header.inputs) {
-        Ok(outputs) => outputs,
-        Err(error) => return Err(error),
-    };
-    match resolve_gates(alloc, items, first, 2 + header.inputs + header.outputs) {
-        Ok(gates) => Ok(Written {
-            inputs,
-            names,
-            gates,
-            outputs,
-        }),
-        Err(error) => Err(error),
-    }
+    let outputs = resolve_outputs(alloc, items, first, 2 + header.inputs)?;
+    let gates = resolve_gates(alloc, items, first, 2 + header.inputs + header.outputs)?;
+    Ok(Written {
+        inputs,
+        names,
+        gates,
+        outputs,
+    })
 }

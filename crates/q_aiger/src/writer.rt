@@ -6,7 +6,8 @@ ghost use Rattle.q_aig.specs.Nets.{operand_of, IsLiteral};
 ghost use Rattle.q_aig.specs.Outputs.{net_of, output_of};
 ghost use Rattle.q_gates.specs.Gates.{no_gate};
 ghost use Rattle.q_aiger.specs.Cones.{HasCones, IsPart};
-ghost use Rattle.q_aiger.specs.Writing.{number_word, number_line, header_line, input_lines, output_lines, gate_line, gate_lines, symbol_line, symbol_lines, names_of, literal_of, circuit_text, IsCanonicalBehind, Extends};
+ghost use Rattle.q_aiger.specs.Writing.{number_word, number_line, header_line, input_lines, output_lines, gate_line, gate_lines, symbol_line, symbol_lines, names_of, literal_of, circuit_text, IsCanonicalBehind};
+ghost use Rattle.q_text.specs.Texts.{Extends};
 
 use crate::cones::{Cones, cones_of};
 use q_aig::{Certificate, Node, Output};

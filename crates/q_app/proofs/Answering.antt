@@ -1,5 +1,5 @@
 -- When each status of `simplify` comes.
-use Rattle.std.proofs.Common.{◌≡◌, ◌≢◌, ◌⊎◌, inl, inr, ◌∙◌, refl, sym, subst, ℕ, List, Option, Some, None}
+use Rattle.std.proofs.Common.{◌≡◌, ◌≢◌, ◌⊎◌, inl, inr, ◌∙◌, refl, sym, subst, ℕ, List, Option, Some}
 use Rattle.q_logic.specs.Formulas.{PrenexFormula}
 use Rattle.q_logic.specs.Limits.{standard}
 use Rattle.q_logic.specs.Measure.{measure_of}
@@ -9,9 +9,8 @@ use Rattle.q_simplify.specs.declared.options.Options.{Options}
 use Rattle.q_simplify.specs.declared.report.Report.{Report}
 use Rattle.q_simplify.specs.declared.report.Ending.{Ending}
 use Rattle.q_simplify.specs.declared.report.Ending.TheVariants as ending
-use Rattle.q_simplify.specs.Results.{IsEnoughFor, Simplifies, Leaves}
+use Rattle.q_simplify.specs.Results.{IsEnoughFor}
 use Rattle.q_simplify.proofs.Finishing.{leaves-whole, never-spent}
-use Rattle.q_app.specs.Checks.{IsFileOf, IsNoFormula, MayCome}
 use Rattle.q_app.specs.Statuses.{status_of_ending, status_of_simplified}
 use Rattle.q_app.specs.Says.{SinkView, IsDue}
 use Rattle.q_app.specs.Simplifying.{IsWritten, IsLeft, Ends, IsEnded, SimplifiesExactly}

@@ -7,7 +7,7 @@ use Rattle.q_logic.specs.Formulas.{PrenexFormula, Prefix}
 use Rattle.q_logic.specs.Prefixes.{SameBlocks, blocks}
 use Rattle.q_logic.specs.Limits.{standard}
 use Rattle.q_logic.specs.Steps.{ProofStep, Valid, Cause, after}
-use Rattle.q_logic.specs.Runs.{ValidSteps, SameFormula}
+use Rattle.q_logic.specs.Runs.{ValidSteps, SameFormula, AreAlike}
 use Rattle.q_text.specs.declared.tokens.Token.{Token}
 use Rattle.q_text.specs.Tokens as tokens
 use Rattle.q_log.specs.declared.error.LogError.{LogError}
@@ -16,7 +16,7 @@ use Rattle.q_log.specs.Grammar.{Move, ends_step, goes_on, unfit, move}
 use Rattle.q_log.specs.Logs as logs
 use Rattle.q_log.specs.Reading.{LogState, Turn, turn, turn_unless, open_turn, token_turn, moved, Answers, to_come}
 use Rattle.q_log.specs.Reading as reading
-use Rattle.q_check.specs.Alike.{AreAlike, Leads}
+use Rattle.q_check.specs.Alike.{Leads}
 use Rattle.q_logic.specs.Undos.{UndoEntry, Undos}
 use Rattle.q_check.proofs.Alike.{alike_swapped, alike_cause, alike_entries}
 use Rattle.q_check.proofs.Runs.{leads_begin, leads_more}

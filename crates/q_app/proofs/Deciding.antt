@@ -183,7 +183,7 @@ module _ (answer : Status) (n : FiveNames) (before : Disk) (after : Option Disk)
           record {
             disk = w.2.disk;
             told = w.2.told;
-            part = inr (length w.0, ap (λ b. unwrap_or b []) w.2.bytes_are ∙ sym (take-length w.0));
+            bytes = inr (length w.0, ap (λ b. unwrap_or b []) w.2.bytes ∙ sym (take-length w.0));
             others = w.2.others;
           },
         );

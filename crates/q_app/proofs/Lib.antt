@@ -15,3 +15,4 @@ pub mod Generating
 pub mod Turns
 pub mod Formulas
 pub mod Together
+pub mod Saying

@@ -1,14 +1,13 @@
 -- A formula that is read keeps the limits.
-use Rattle.std.proofs.Common.{◌≡◌, ◌≤◌, ◌<◌, ◌+◌, ◌-◌, ◌==◌, nat_lt, ℕ, zero, suc, max, Bool, true, false, if◌then◌else◌, List, [], ◌∷◌, ◌++◌, refl, sym, ap, ◌∙◌, subst, arith, length, map}
+use Rattle.std.proofs.Common.{◌≡◌, ◌≤◌, ◌+◌, ◌==◌, nat_lt, ℕ, zero, suc, Bool, true, false, if◌then◌else◌, List, [], ◌∷◌, ◌++◌, refl, sym, ap, subst, arith, length, map}
 use Rattle.std.specs.List.{AllByRecursion}
 use Rattle.q_logic.specs.declared.limits.Limits.{Limits}
-use Rattle.q_logic.specs.declared.formulas.Bound.{Bound}
 use Rattle.q_logic.specs.declared.formulas.Quant.TheVariants.{Exists}
 use Rattle.q_logic.specs.Literals.{Literal, pack}
 use Rattle.q_logic.specs.Formulas.{Clause, Matrix, Prefix, PrenexFormula}
 use Rattle.q_logic.specs.Clauses.{insert, clause_of}
 use Rattle.q_logic.specs.Steps.{literals_in}
-use Rattle.q_logic.specs.InLimits.{IsInLimits, greatest, larger_of}
+use Rattle.q_logic.specs.InLimits.{IsInLimits, greatest}
 use Rattle.q_dimacs.specs.Dimacs.{Dimacs, IsVar, total, sets_bounds, text_formula}
 use Rattle.q_dimacs.specs.Building as building
 use Rattle.q_dimacs.specs.Building.{bounds_from, is_free, greatest_in}

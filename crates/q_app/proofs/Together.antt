@@ -49,7 +49,7 @@ held n before after gates h k F f =
     let from : h.from ≡ F = one_formula (bytes_at before n.input) h.from F h.brings.is_input f in
     let given : SkolemOf h.to (trees_of h.given) = subst (λ (G : PrenexFormula). SkolemOf G (trees_of h.given)) to (skolem-alike k.given h.given same.inputs same.names same.trees k.to k.holds) in
     let d : w.2.disk ≡ after = cc in
-    let bytes : bytes_at after n.cert ≡ w.0 = ap (λ (x : Disk). bytes_at x n.cert) (sym d) ∙ ap (λ b. unwrap_or b []) w.2.bytes_are in
+    let bytes : bytes_at after n.cert ≡ w.0 = ap (λ (x : Disk). bytes_at x n.cert) (sym d) ∙ ap (λ b. unwrap_or b []) w.2.bytes in
     record {
       made = w.1.made;
       gates = gates;

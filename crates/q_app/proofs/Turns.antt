@@ -1,7 +1,8 @@
 -- Commands in turn.
-use Rattle.std.proofs.Common.{◌≡◌, ◌⊎◌, ◌∙◌, inl, inr, refl, sym, true, false, List, ◌∷◌, Some}
+use Rattle.std.proofs.Common.{◌≡◌, ◌∙◌, inl, inr, refl, sym, true, false, List, [], ◌∷◌, Some, None, subst}
 use Rattle.q_app.specs.Statuses.{passes}
-use Rattle.q_app.specs.Words.{Command}
+use Rattle.q_simplify.specs.declared.options.Options.{Options}
+use Rattle.q_app.specs.Words.{Command, ThreeNames, simplifying}
 use Rattle.q_app.specs.Says.{Devices, Runs, InTurn}
 use Rattle.q_app.specs.declared.status.Status.{Status}
 use Rattle.q_app.specs.declared.status.Status.TheVariants as status
@@ -12,8 +13,13 @@ stops c d cs before between given r p = (given, between, r, inr (p, refl, refl))
 pub goes_on : (c d : Command) (cs : List Command) (before between after : Devices) (first given : Status) → Runs (Some c) before first between → passes first ≡ true → InTurn (d ∷ cs) between given after → InTurn (c ∷ d ∷ cs) before given after
 goes_on c d cs before between after first given r p rest = (first, between, r, inl (p, rest))
 
--- words that ask for nothing read no file
-pub not-read : (given : Status) → (given ≡ status.Usage) ⊎ (given ≡ status.WriteFault) ⊎ (given ≡ status.NoMemory) → given ≡ status.ReadFault → ⊥
-not-read given (inl e) x = let w : status.Usage ≡ status.ReadFault = sym e ∙ x in cc
-not-read given (inr (inl e)) x = let w : status.WriteFault ≡ status.ReadFault = sym e ∙ x in cc
-not-read given (inr (inr e)) x = let w : status.NoMemory ≡ status.ReadFault = sym e ∙ x in cc
+-- no command answers that the words are none
+pub in_turn-usage : (cs : List Command) (before after : Devices) (given : Status) → InTurn cs before given after → given ≡ status.Usage → ⊥
+in_turn-usage [] before after given h e = h
+in_turn-usage (c ∷ []) before after given h e = let w : Some c ≡ None = h.usage e in cc
+in_turn-usage (c ∷ d ∷ cs) before after given (first, between, r, inl (p, rest)) e = in_turn-usage (d ∷ cs) between after given rest e
+in_turn-usage (c ∷ d ∷ cs) before after given (first, between, r, inr (p, q, s)) e = let w : Some c ≡ None = r.usage (sym q ∙ e) in cc
+
+-- a simplification with the same options
+pub options-same : (n : ThreeNames) (p q : Options) (before after : Devices) (given : Status) → p ≡ q → Runs (Some (simplifying n p)) before given after → Runs (Some (simplifying n q)) before given after
+options-same n p q before after given e r = subst (λ (o : Options). Runs (Some (simplifying n o)) before given after) e r

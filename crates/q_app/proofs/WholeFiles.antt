@@ -1,14 +1,13 @@
--- Files that are read whole, and files that are written whole.
+-- Files that are read whole.
 use Rattle.std.proofs.Common.{◌≡◌, ◌+◌, ◌<◌, inl, inr, ℕ, List, [], ◌++◌, refl, sym, ap, ◌∙◌, subst, arith, length, take, drop, Option, Some, None, unwrap_or, IfSome, length-drop}
 use Rattle.std.proofs.Math.Seq.{take-add, take-length}
-use Rattle.q_io.specs.Files.{Disk, OthersStay, bytes_at, Empties, MayEmpty, Appends, AppendsPart}
 use Rattle.std.proofs.lemmas.List.{take-append-drop, length-take-le}
 use Rattle.q_logic.specs.Certificates.{CertificateView}
 use Rattle.q_aiger.specs.Circuits.{parse, AreCircuits, FailsWith}
 use Rattle.q_aiger.specs.declared.error.AigerError.{AigerError}
 use Rattle.q_aiger.specs.declared.error.AigerError.TheVariants as aiger
 use Rattle.q_aiger.proofs.Fronts.{front-parse, same-circuits, same-offence}
-use Rattle.q_app.specs.Rebuilds.{HoldsBytes, HoldsFront, IsFront, HasAppended, HasLineEnd, IsLongFront, IsTextOf, TextFails, refused_text}
+use Rattle.q_app.specs.Rebuilds.{IsFront, HasAppended, HasLineEnd, IsLongFront, IsTextOf, TextFails, refused_text}
 use Rattle.q_app.specs.declared.rebuilt.Rebuilt.{Rebuilt}
 use Rattle.q_app.specs.declared.rebuilt.Rebuilt.TheVariants.{Written, Unverified, RefusedText, MissingOutput, StrangeOutput, StrangeInput, Reads, FalseOutput, ReadFault, WriteFault, NoMemory}
 
@@ -70,38 +69,3 @@ fails-as aiger.NoMemory text h = tt
 pub refused-fails : (file text now : List ℕ) (e : AigerError) (o : Rebuilt) → now ≡ text → o ≡ refused_text e → FailsWith now e → IsTextOf file text → TextFails o file
 refused-fails file text now e o q r h t =
     subst (λ (x : Rebuilt). TextFails x file) (sym r) (text-fails file text (refused_text e) t (fails-as e text (subst (λ (xs : List ℕ). FailsWith xs e) q h)))
-
-at_some : {D : Type 0} (P : D → Type 0) (o : Option D) → IfSome o P → (d : D) → o ≡ Some d → P d
-at_some P o h d e = subst (λ x. IfSome x P) e h
-
-others-through : (name : List ℕ) (a b c : Disk) → OthersStay name a b → OthersStay name b c → OthersStay name a c
-others-through name a b c f g q n = g q n ∙ f q n
-
-pub not_created : (name bytes : List ℕ) (held after : Option Disk) → IfSome held (λ disk. MayEmpty name disk after) → IfSome held (λ disk. HoldsFront name bytes disk after)
-not_created name bytes None after h = tt
-not_created name bytes (Some d) after h =
-    record { disk = h.disk; told = h.told; part = elim h.bytes [ inl e ↦ inl e | inr e ↦ inr (0, ap (λ o. unwrap_or o []) e) ]; others = h.others }
-
-pub written_whole : (name bytes : List ℕ) (held mid after : Option Disk) → IfSome held (λ disk. Empties name disk mid) → IfSome mid (λ disk. Appends name bytes disk after) → IfSome held (λ disk. HoldsBytes name bytes disk after)
-written_whole name bytes None mid after h w = tt
-written_whole name bytes (Some d) mid after h w =
-    let a : Appends name bytes h.disk after = at_some _ mid w h.disk h.told in
-    let e : bytes_at h.disk name ≡ [] = ap (λ o. unwrap_or o []) h.bytes in
-    record {
-      disk = a.disk;
-      told = a.told;
-      bytes_are = a.bytes ∙ ap (λ (xs : List ℕ). Some (xs ++ bytes)) e;
-      others = others-through name d h.disk a.disk h.others a.others;
-    }
-
-pub written_part : (name bytes : List ℕ) (held mid after : Option Disk) → IfSome held (λ disk. Empties name disk mid) → IfSome mid (λ disk. AppendsPart name bytes disk after) → IfSome held (λ disk. HoldsFront name bytes disk after)
-written_part name bytes None mid after h w = tt
-written_part name bytes (Some d) mid after h w =
-    let a : AppendsPart name bytes h.disk after = at_some _ mid w h.disk h.told in
-    let e : bytes_at h.disk name ≡ [] = ap (λ o. unwrap_or o []) h.bytes in
-    record {
-      disk = a.disk;
-      told = a.told;
-      part = inr (a.part, a.bytes ∙ ap (λ (xs : List ℕ). xs ++ take a.part bytes) e);
-      others = others-through name d h.disk a.disk h.others a.others;
-    }

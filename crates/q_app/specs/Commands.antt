@@ -1,10 +1,10 @@
 -- What the words ask for.
-use Rattle.std.specs.Prelude.{◌≢◌, ◌≤◌, ℕ, cond, List, [], ◌∷◌, Option, Some, None, codes}
+use Rattle.std.specs.Prelude.{◌≢◌, ◌≤◌, ℕ, cond, List, [], ◌∷◌, Some, None, codes}
 use Rattle.std.specs.Str.{bytes_eq}
 use Rattle.q_logic.specs.declared.rule_bounds.Bounds.{Bounds}
 use Rattle.q_kernel.specs.Taking.{AreModest}
 use Rattle.q_app.specs.Rebuilds.{FiveNames, five}
-use Rattle.q_app.specs.Words.{ThreeNames, three, Command, checking, simplifying, rebuilding, generating, Request, alone, three_names, just_three, check_of, simplify_of, rebuild_of, generate_of, demo, demo_of, nothing_set, options_of}
+use Rattle.q_app.specs.Words.{ThreeNames, three, Command, checking, simplifying, rebuilding, generating, Request, three_names, just_three, check_of, simplify_of, rebuild_of, generate_of, demo, demo_of, nothing_set, options_of}
 use Rattle.q_app.specs.RebuildWords.{rebuild_names}
 use Rattle.q_app.specs.declared.rebuild_words.RebuildNames.{RebuildNames}
 use Rattle.q_app.specs.declared.words.Names.{Names}

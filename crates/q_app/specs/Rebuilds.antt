@@ -1,11 +1,10 @@
 -- What `rebuild` says and leaves, over the files before and after.
 use Rattle.std.specs.Prelude.{◌≡◌, ◌≢◌, ◌⊎◌, ◌<◌, ◌≤◌, ℕ, List, ◌++◌, length, take, drop, Option, Some, true, slice_index}
-use Rattle.std.specs.FinMap as map
 use Rattle.q_logic.specs.Formulas.{PrenexFormula}
 use Rattle.q_logic.specs.Certificates.{CertificateView, trees_of}
 use Rattle.q_logic.specs.Skolems.{SkolemOf}
 use Rattle.q_logic.specs.Undos.{UndoEntry}
-use Rattle.q_io.specs.Files.{Disk, OthersStay, bytes_at}
+use Rattle.q_io.specs.Files.{Disk, HoldsBytes, MayHoldFront, bytes_at}
 use Rattle.q_aiger.specs.Circuits.{AreCircuits, Offence}
 use Rattle.q_aiger.specs.Alike.{IsNoCircuits}
 use Rattle.q_aiger.specs.Writing.{IsCanonical}
@@ -32,20 +31,6 @@ pub record FiveNames : Type 0 where
   pub log : List ℕ
   pub skolem : List ℕ
   pub cert : List ℕ
-
--- the file holds these bytes, and all others are as before
-pub record HoldsBytes (name bytes : List ℕ) (before : Disk) (after : Option Disk) : Type 0 where
-  pub disk : Disk
-  pub told : after ≡ Some disk
-  pub bytes_are : map.get disk name ≡ Some bytes
-  pub others : OthersStay name before disk
-
--- the file is as before, or holds a front of these bytes
-pub record HoldsFront (name bytes : List ℕ) (before : Disk) (after : Option Disk) : Type 0 where
-  pub disk : Disk
-  pub told : after ≡ Some disk
-  pub part : (map.get disk name ≡ map.get before name) ⊎ ((n : ℕ) × (bytes_at disk name ≡ take n bytes))
-  pub others : OthersStay name before disk
 
 -- the log of the three files is verified, and leaves this undo list; the fourth file holds these circuits
 pub record Brings (n : FiveNames) (disk : Disk) (F G : PrenexFormula) (us : List UndoEntry) (given : CertificateView) : Type 0 where
@@ -80,7 +65,7 @@ IsWhole gates n before after =
 -- a fault or want of memory while it was written
 abbrev pub IsPart : FiveNames → Disk → Option Disk → Type 0
 IsPart n before after =
-    OfCircuits n before (λ F G us given. (gates : ℕ) × (text : List ℕ) × IsCertificate n gates F G us given text × HoldsFront n.cert text before after)
+    OfCircuits n before (λ F G us given. (gates : ℕ) × (text : List ℕ) × IsCertificate n gates F G us given text × MayHoldFront n.cert text before after)
 
 -- the circuits are refused for this cause
 abbrev pub AreRefused : RebuildError → FiveNames → Disk → Type 0
@@ -211,7 +196,7 @@ AreCarried k bytes made =
 -- a front of the text of the certificate, or what was there
 abbrev pub PutsPart : CertificateView → List ℕ → Disk → Option Disk → Type 0
 PutsPart made name before after =
-    (gates : ℕ) × (text : List ℕ) × IsCanonical made gates text × HoldsFront name text before after
+    (gates : ℕ) × (text : List ℕ) × IsCanonical made gates text × MayHoldFront name text before after
 
 -- what writing the certificate leaves
 abbrev pub Puts : Rebuilt → CertificateView → List ℕ → Disk → Option Disk → Type 0

@@ -1,8 +1,7 @@
 -- The words of the command line.
-use Rattle.std.specs.Prelude.{◌≢◌, ◌≤◌, ℕ, Bool, not, ◌&&◌, ◌==◌, ◌^◌, ◌-◌, nat_le, cond, if◌then◌else◌, is_some, unwrap_or, List, [], ◌∷◌, Option, Some, None, codes}
+use Rattle.std.specs.Prelude.{ℕ, Bool, not, ◌&&◌, ◌==◌, ◌^◌, ◌-◌, nat_le, cond, if◌then◌else◌, is_some, unwrap_or, List, [], ◌∷◌, Option, Some, None, codes}
 use Rattle.std.specs.Str.{bytes_eq}
 use Rattle.q_text.specs.Words.{digits}
-use Rattle.q_kernel.specs.Taking.{AreModest}
 use Rattle.q_simplify.specs.declared.options.Options.{Options}
 use Rattle.q_app.specs.Rebuilds.{FiveNames}
 use Rattle.q_app.specs.declared.words.Scale.{Scale}

@@ -1,7 +1,7 @@
 // A log is tried step by step, while it is read.
 ghost use Rattle.std.specs.Prelude.{◌≡◌, ◌≤◌, ◌<◌, ◌+◌, List, ℕ, length, IfOk, IfErr, OnOk, IfSome, IsErrOf, [], ◌∷◌, ◌++◌, drop};
 ghost use Rattle.q_logic.specs.Limits.{standard};
-ghost use Rattle.q_io.specs.Files.{Later, RoseFor, bytes_at};
+ghost use Rattle.q_io.specs.Files.{OnlyReads, RoseFor, bytes_at};
 ghost use Rattle.q_logic.specs.Formulas.{PrenexFormula};
 ghost use Rattle.q_logic.specs.Runs.{SameFormula};
 ghost use Rattle.q_app.specs.Checks.{IsUnverified};
@@ -108,8 +108,7 @@ impl Audit {
             (λ disk. Refuses o self.old (drop at (bytes_at disk name.now)))) }
         ensures unverified { IfErr result IsUnverified }
         ensures fault { IsErrOf result Outcome.ReadFault → RoseFor F.read_faults name.now files.old files.new }
-        ensures held { F.held files.new ≡ F.held files.old }
-        ensures later { Later F.read_faults F.write_faults files.old files.new }
+        ensures only_reads { OnlyReads F.held F.read_faults F.write_faults files.old files.new }
     {
         let count = match files.read(name, at, buffer) {
             Ok(count) => count,

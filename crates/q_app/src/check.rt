@@ -1,13 +1,14 @@
 // `check`: IN and OUT are read whole, and each step of LOG is tried as it is read.
 ghost use Rattle.std.specs.Prelude.{◌≡◌, ◌<◌, length, IfOk, IfErr, IfSome, IsErrOf, [], ◌∷◌};
 ghost use Rattle.q_logic.specs.Parts.{IsProper};
-ghost use Rattle.q_io.specs.Files.{Later, RoseAmong, RoseFor, bytes_at};
+ghost use Rattle.q_io.specs.Files.{OnlyReads, RoseAmong, RoseFor, bytes_at};
 ghost use Rattle.q_logic.specs.Prefixes.{IsFormula};
 ghost use Rattle.q_app.specs.Checks.{Checks, FilesPass, HaveOneTruth, IfVerified, IsEarly, IsFileOf, IsInputRefusal, IsUnverified, LeadsBack, LogPasses, LogSays, input_refused};
 
 use crate::audit::{Audit, Passed};
 use crate::input::{InputError, PIECE, read_formula};
 use crate::outcome::{Outcome, Role};
+use crate::words::Names;
 use q_check::Undos;
 use q_io::Files;
 use q_logic::Formula;
@@ -39,8 +40,7 @@ fn read_operand<F: Files>(
         (λ disk. IsInputRefusal role o (bytes_at disk name.now))) }
     ensures early { IfErr result IsEarly }
     ensures fault { IsErrOf result Outcome.ReadFault → RoseFor F.read_faults name.now files.old files.new }
-    ensures held { F.held files.new ≡ F.held files.old }
-    ensures later { Later F.read_faults F.write_faults files.old files.new }
+    ensures only_reads { OnlyReads F.held F.read_faults F.write_faults files.old files.new }
 {
     match read_formula(alloc, files, name, buffer) {
         Ok(formula) => Ok(formula),
@@ -66,8 +66,7 @@ fn check_log<F: Files>(
         (λ disk. LogSays o input.now output.now (bytes_at disk name.now))) }
     ensures unverified { IfErr result IsUnverified }
     ensures fault { IsErrOf result Outcome.ReadFault → RoseFor F.read_faults name.now files.old files.new }
-    ensures held { F.held files.new ≡ F.held files.old }
-    ensures later { Later F.read_faults F.write_faults files.old files.new }
+    ensures only_reads { OnlyReads F.held F.read_faults F.write_faults files.old files.new }
 {
     let Ok(mut audit) = Audit::start(alloc, input, keep_undo) else {
         return Err(Outcome::NoMemory);
@@ -96,34 +95,31 @@ pub(crate) struct Checked {
 fn check_files<F: Files>(
     alloc: Global,
     files: &mut F,
-    input: &str,
-    output: &str,
-    log: &str,
+    names: Names,
     buffer: &mut [u8],
     keep_undo: bool,
 ) -> Result<Checked, Outcome>
     requires room { 0 < length buffer.old }
     ensures passes { IfOk result (λ c. IfSome (F.held files.old) (λ disk.
-        FilesPass keep_undo (bytes_at disk input.now) (bytes_at disk output.now) (bytes_at disk log.now) c)) }
+        FilesPass keep_undo (bytes_at disk names.entry.input.now) (bytes_at disk names.entry.output.now) (bytes_at disk names.entry.log.now) c)) }
     ensures run { IfOk result (λ c. LeadsBack keep_undo c.from c.to c.undo) }
     ensures proper { IfOk result (λ c. IsFormula c.from) }
     ensures checks { IfErr result (λ o. IfSome (F.held files.old) (λ disk.
-        Checks o (bytes_at disk input.now) (bytes_at disk output.now) (bytes_at disk log.now))) }
+        Checks o (bytes_at disk names.entry.input.now) (bytes_at disk names.entry.output.now) (bytes_at disk names.entry.log.now))) }
     ensures unverified { IfErr result IsUnverified }
     ensures fault { IsErrOf result Outcome.ReadFault →
-        RoseAmong F.read_faults (input.now ∷ output.now ∷ log.now ∷ []) files.old files.new }
-    ensures held { F.held files.new ≡ F.held files.old }
-    ensures later { Later F.read_faults F.write_faults files.old files.new }
+        RoseAmong F.read_faults (names.entry.input.now ∷ names.entry.output.now ∷ names.entry.log.now ∷ []) files.old files.new }
+    ensures only_reads { OnlyReads F.held F.read_faults F.write_faults files.old files.new }
 {
-    let from = match read_operand(alloc, files, Role::In, input, buffer) {
+    let from = match read_operand(alloc, files, Role::In, names.input, buffer) {
         Ok(formula) => formula,
         Err(outcome) => return Err(outcome),
     };
-    let to = match read_operand(alloc, files, Role::Out, output, buffer) {
+    let to = match read_operand(alloc, files, Role::Out, names.output, buffer) {
         Ok(formula) => formula,
         Err(outcome) => return Err(outcome),
     };
-    match check_log(alloc, files, log, buffer, &from, &to, keep_undo) {
+    match check_log(alloc, files, names.log, buffer, &from, &to, keep_undo) {
         Ok(Passed { steps, undo }) => Ok(Checked {
             from,
             to,
@@ -138,51 +134,37 @@ fn check_files<F: Files>(
 pub(crate) fn verify<F: Files>(
     alloc: Global,
     files: &mut F,
-    input: &str,
-    output: &str,
-    log: &str,
+    names: Names,
     keep_undo: bool,
 ) -> Result<Checked, Outcome>
     ensures passes { IfOk result (λ c. IfSome (F.held files.old) (λ disk.
-        FilesPass keep_undo (bytes_at disk input.now) (bytes_at disk output.now) (bytes_at disk log.now) c)) }
+        FilesPass keep_undo (bytes_at disk names.entry.input.now) (bytes_at disk names.entry.output.now) (bytes_at disk names.entry.log.now) c)) }
     ensures run { IfOk result (λ c. LeadsBack keep_undo c.from c.to c.undo) }
     ensures proper { IfOk result (λ c. IsFormula c.from) }
     ensures checks { IfErr result (λ o. IfSome (F.held files.old) (λ disk.
-        Checks o (bytes_at disk input.now) (bytes_at disk output.now) (bytes_at disk log.now))) }
+        Checks o (bytes_at disk names.entry.input.now) (bytes_at disk names.entry.output.now) (bytes_at disk names.entry.log.now))) }
     ensures unverified { IfErr result IsUnverified }
     ensures fault { IsErrOf result Outcome.ReadFault →
-        RoseAmong F.read_faults (input.now ∷ output.now ∷ log.now ∷ []) files.old files.new }
-    ensures held { F.held files.new ≡ F.held files.old }
-    ensures later { Later F.read_faults F.write_faults files.old files.new }
+        RoseAmong F.read_faults (names.entry.input.now ∷ names.entry.output.now ∷ names.entry.log.now ∷ []) files.old files.new }
+    ensures only_reads { OnlyReads F.held F.read_faults F.write_faults files.old files.new }
 {
     match vec![in alloc; 0u8; PIECE] {
-        Ok(mut room) => {
-            match check_files(alloc, files, input, output, log, &mut room, keep_undo) {
-                Ok(checked) => Ok(checked),
-                Err(outcome) => Err(outcome),
-            }
-        }
+        Ok(mut room) => check_files(alloc, files, names, &mut room, keep_undo),
         Err(_) => Err(Outcome::NoMemory),
     }
 }
 
 /// The outcome of `check` over the files of these names.
-pub(crate) fn check<F: Files>(
-    alloc: Global,
-    files: &mut F,
-    input: &str,
-    output: &str,
-    log: &str,
-) -> Outcome
+pub(crate) fn check<F: Files>(alloc: Global, files: &mut F, names: Names) -> Outcome
     ensures checks { IfSome (F.held files.old) (λ disk.
-        Checks result (bytes_at disk input.now) (bytes_at disk output.now) (bytes_at disk log.now)) }
+        Checks result (bytes_at disk names.entry.input.now) (bytes_at disk names.entry.output.now) (bytes_at disk names.entry.log.now)) }
     ensures truth { IfVerified result (IfSome (F.held files.old)
-        (λ disk. HaveOneTruth (bytes_at disk input.now) (bytes_at disk output.now))) }
+        (λ disk. HaveOneTruth (bytes_at disk names.entry.input.now) (bytes_at disk names.entry.output.now))) }
     ensures fault { result ≡ Outcome.ReadFault →
-        RoseAmong F.read_faults (input.now ∷ output.now ∷ log.now ∷ []) files.old files.new }
+        RoseAmong F.read_faults (names.entry.input.now ∷ names.entry.output.now ∷ names.entry.log.now ∷ []) files.old files.new }
     ensures held { F.held files.new ≡ F.held files.old }
 {
-    match verify(alloc, files, input, output, log, false) {
+    match verify(alloc, files, names, false) {
         Ok(checked) => Outcome::Verified {
             steps: checked.steps,
         },

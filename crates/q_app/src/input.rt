@@ -3,7 +3,7 @@ ghost use Rattle.std.specs.Prelude.{◌≡◌, ◌≤◌, ◌<◌, ◌+◌, List
 ghost use Rattle.q_logic.specs.Limits.{standard};
 ghost use Rattle.q_logic.specs.InLimits.{IsInLimits};
 ghost use Rattle.q_logic.specs.Parts.{IsProper};
-ghost use Rattle.q_io.specs.Files.{Later, RoseFor, bytes_at};
+ghost use Rattle.q_io.specs.Files.{OnlyReads, RoseFor, bytes_at};
 ghost use Rattle.q_dimacs.specs.Dimacs.{Dimacs};
 ghost use Rattle.q_dimacs.specs.Scanning.{HasRead};
 ghost use Rattle.q_app.specs.Inputs.{HasFed, HasFront, IsReading, IsRefused, device_error, read_error};
@@ -60,8 +60,7 @@ fn feed_piece<F: Files>(
         (λ disk. HasFront (bytes_at disk name.now) at reader.old →
         IsRefused e (bytes_at disk name.now))) }
     ensures fault { IsErrOf result InputError.Fault → RoseFor F.read_faults name.now files.old files.new }
-    ensures held { F.held files.new ≡ F.held files.old }
-    ensures later { Later F.read_faults F.write_faults files.old files.new }
+    ensures only_reads { OnlyReads F.held F.read_faults F.write_faults files.old files.new }
 {
     let count = match files.read(name, at, buffer) {
         Ok(count) => count,
@@ -104,8 +103,7 @@ pub(crate) fn read_formula<F: Files>(
     ensures refused { IfErr result (λ e. IfSome (F.held files.old)
         (λ disk. IsRefused e (bytes_at disk name.now))) }
     ensures fault { IsErrOf result InputError.Fault → RoseFor F.read_faults name.now files.old files.new }
-    ensures held { F.held files.new ≡ F.held files.old }
-    ensures later { Later F.read_faults F.write_faults files.old files.new }
+    ensures only_reads { OnlyReads F.held F.read_faults F.write_faults files.old files.new }
 {
     let mut reader = match Reader::new(alloc, Limits::standard()) {
         Ok(reader) => reader,

@@ -14,7 +14,6 @@ mod rebuild;
 mod rebuild_words;
 mod rebuilt;
 mod refusals;
-mod run_rebuild;
 mod settings;
 mod simplified;
 mod simplify;

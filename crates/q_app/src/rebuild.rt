@@ -2,17 +2,20 @@
 // carried back, and the circuits of IN are written. Nothing is created before all refusals are past.
 ghost use Rattle.std.specs.Prelude.{◌≡◌, IfOk, IfErr, IfSome, IsErrOf, true, [], ◌∷◌};
 ghost use Rattle.q_logic.specs.Formulas.{PrenexFormula};
-ghost use Rattle.q_io.specs.Files.{Later, RoseAmong, RoseFor, bytes_at};
+ghost use Rattle.q_io.specs.Files.{OnlyReads, RoseAmong, RoseFor, bytes_at};
 ghost use Rattle.q_aiger.specs.Circuits.{AreCircuits};
 ghost use Rattle.q_app.specs.Checks.{LeadsBack};
-ghost use Rattle.q_app.specs.Rebuilds.{AreCarried, CircuitsFail, FaultsReading, IsOfCircuits, Puts, Rebuilds, TextFails, failed_read, failed_write as write_failed, five, refused_circuits as circuits_refused, refused_text as text_refused};
+ghost use Rattle.q_app.specs.Commands.{five_of};
+ghost use Rattle.q_app.specs.Rebuilds.{AreCarried, CircuitsFail, FaultsReading, IsOfCircuits, Puts, Rebuilds, TextFails, failed_read, failed_write as write_failed, refused_circuits as circuits_refused, refused_text as text_refused};
 
 use crate::check::{Checked, verify};
+use crate::rebuild_words::RebuildNames;
 use crate::rebuilt::Rebuilt;
-use crate::whole_file::{read_whole, write_whole};
+use crate::whole_file::read_whole;
+use crate::words::Names;
 use q_aig::Certificate;
 use q_aiger::{AigerError, read, write};
-use q_io::{DeviceError, Files};
+use q_io::{DeviceError, Files, write_whole};
 use q_rebuild::{RebuildError, rebuild};
 use std::alloc::Global;
 
@@ -68,8 +71,7 @@ fn read_circuits<F: Files>(alloc: Global, files: &mut F, name: &str) -> Result<C
         (λ disk. TextFails o (bytes_at disk name.now))) }
     ensures of_circuits { IfErr result IsOfCircuits }
     ensures fault { IsErrOf result Rebuilt.ReadFault → RoseFor F.read_faults name.now files.old files.new }
-    ensures held { F.held files.new ≡ F.held files.old }
-    ensures later { Later F.read_faults F.write_faults files.old files.new }
+    ensures only_reads { OnlyReads F.held F.read_faults F.write_faults files.old files.new }
 {
     let text = match read_whole(alloc, files, name) {
         Ok(text) => text,
@@ -95,8 +97,7 @@ fn carry_back<F: Files>(
         (λ disk. CircuitsFail o checked.now.to (bytes_at disk skolem.now))) }
     ensures of_circuits { IfErr result IsOfCircuits }
     ensures fault { IsErrOf result Rebuilt.ReadFault → RoseFor F.read_faults skolem.now files.old files.new }
-    ensures held { F.held files.new ≡ F.held files.old }
-    ensures later { Later F.read_faults F.write_faults files.old files.new }
+    ensures only_reads { OnlyReads F.held F.read_faults F.write_faults files.old files.new }
 {
     let mut given = match read_circuits(alloc, files, skolem) {
         Ok(given) => given,
@@ -127,27 +128,24 @@ fn write_circuits<F: Files>(alloc: Global, files: &mut F, cert: &str, made: &Cer
 }
 
 /// What there is to say of `rebuild` over the files of these names.
-pub(crate) fn rebuild_files<F: Files>(
-    alloc: Global,
-    files: &mut F,
-    input: &str,
-    output: &str,
-    log: &str,
-    skolem: &str,
-    cert: &str,
-) -> Rebuilt
+pub(crate) fn rebuild_files<F: Files>(alloc: Global, files: &mut F, names: RebuildNames) -> Rebuilt
     ensures rebuilds { IfSome (F.held files.old) (λ disk.
-        Rebuilds result (five input.now output.now log.now skolem.now cert.now) disk (F.held files.new)) }
+        Rebuilds result (five_of names.entry) disk (F.held files.new)) }
     ensures read_fault { FaultsReading result →
-        RoseAmong F.read_faults (input.now ∷ output.now ∷ log.now ∷ skolem.now ∷ []) files.old files.new }
-    ensures write_fault { result ≡ Rebuilt.WriteFault → RoseFor F.write_faults cert.now files.old files.new }
+        RoseAmong F.read_faults (names.entry.input.now ∷ names.entry.output.now ∷ names.entry.log.now ∷ names.entry.skolem.now ∷ []) files.old files.new }
+    ensures write_fault { result ≡ Rebuilt.WriteFault → RoseFor F.write_faults names.entry.cert.now files.old files.new }
 {
-    let checked = match verify(alloc, files, input, output, log, true) {
+    let three = Names {
+        input: names.input,
+        output: names.output,
+        log: names.log,
+    };
+    let checked = match verify(alloc, files, three, true) {
         Ok(checked) => checked,
         Err(why) => return Rebuilt::Unverified { why },
     };
-    match carry_back(alloc, files, skolem, &checked) {
-        Ok(made) => write_circuits(alloc, files, cert, &made),
+    match carry_back(alloc, files, names.skolem, &checked) {
+        Ok(made) => write_circuits(alloc, files, names.cert, &made),
         Err(outcome) => outcome,
     }
 }

@@ -3,7 +3,7 @@ ghost use Rattle.std.specs.Prelude.{◌≡◌, ◌≢◌, IfOk, IfErr, IfSome, I
 ghost use Rattle.q_logic.specs.Limits.{standard};
 ghost use Rattle.q_logic.specs.InLimits.{IsInLimits};
 ghost use Rattle.q_logic.specs.Parts.{IsProper};
-ghost use Rattle.q_io.specs.Files.{Later, RoseAmong, RoseFor, bytes_at};
+ghost use Rattle.q_io.specs.Files.{OnlyReads, RoseAmong, RoseFor, bytes_at};
 ghost use Rattle.q_dimacs.specs.Dimacs.{Dimacs};
 ghost use Rattle.q_app.specs.Inputs.{IsRefused};
 ghost use Rattle.q_app.specs.Refusals.{failure_of, refusal_of};
@@ -12,6 +12,7 @@ ghost use Rattle.q_app.specs.Simplifying.{Ends};
 
 use crate::input::{InputError, PIECE, read_formula};
 use crate::simplified::Simplified;
+use crate::words::Names;
 use q_io::{DeviceError, Files};
 use q_logic::Formula;
 use q_sched::Guide;
@@ -27,14 +28,10 @@ fn read_input<F: Files>(alloc: Global, files: &mut F, input: &str) -> Result<For
     ensures refused { IfErr result (λ e. IfSome (F.held files.old)
         (λ disk. IsRefused e (bytes_at disk input.now))) }
     ensures fault { IsErrOf result InputError.Fault → RoseFor F.read_faults input.now files.old files.new }
-    ensures held { F.held files.new ≡ F.held files.old }
-    ensures later { Later F.read_faults F.write_faults files.old files.new }
+    ensures only_reads { OnlyReads F.held F.read_faults F.write_faults files.old files.new }
 {
     match vec![in alloc; 0u8; PIECE] {
-        Ok(mut room) => match read_formula(alloc, files, input, &mut room) {
-            Ok(formula) => Ok(formula),
-            Err(error) => Err(error),
-        },
+        Ok(mut room) => read_formula(alloc, files, input, &mut room),
         Err(_) => Err(InputError::NoMemory),
     }
 }
@@ -62,25 +59,31 @@ fn failed(error: DeviceError) -> Simplified
 pub(crate) fn simplify_file<F: Files>(
     alloc: Global,
     files: &mut F,
-    input: &str,
-    output: &str,
-    log: &str,
+    names: Names,
     options: &Options,
     guides: Vec<Box<dyn Guide>>,
 ) -> Simplified
     requires bounds { AreModest options.now.bounds }
-    requires names { output.now ≢ log.now }
+    requires names { names.output.now ≢ names.log.now }
     ensures ends { IfSome (F.held files.old) (λ disk.
-        Ends result options.now input.now output.now log.now disk (F.held files.new)) }
-    ensures read_fault { result ≡ Simplified.ReadFault → RoseFor F.read_faults input.now files.old files.new }
+        Ends result options.now names.entry.input.now names.entry.output.now names.entry.log.now disk (F.held files.new)) }
+    ensures read_fault { result ≡ Simplified.ReadFault → RoseFor F.read_faults names.entry.input.now files.old files.new }
     ensures write_fault { result ≡ Simplified.WriteFault →
-        RoseAmong F.write_faults (output.now ∷ log.now ∷ []) files.old files.new }
+        RoseAmong F.write_faults (names.entry.output.now ∷ names.entry.log.now ∷ []) files.old files.new }
 {
-    let formula = match read_input(alloc, files, input) {
+    let formula = match read_input(alloc, files, names.input) {
         Ok(formula) => formula,
         Err(error) => return refused(error),
     };
-    match simplify(alloc, files, &formula, output, log, options, guides) {
+    match simplify(
+        alloc,
+        files,
+        &formula,
+        names.output,
+        names.log,
+        options,
+        guides,
+    ) {
         Ok(report) => Simplified::Written { report },
         Err(error) => failed(error),
     }

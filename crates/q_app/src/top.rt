@@ -1,15 +1,15 @@
 // The top call.
-ghost use Rattle.std.specs.Prelude.{◌≡◌, ◌≢◌, ◌≤◌, ◌⊎◌, map, string_bytes, IfSome, Some, None};
-ghost use Rattle.q_io.specs.Files.{Rose, RoseAmong};
+ghost use Rattle.std.specs.Prelude.{◌≡◌, ◌≢◌, ◌≤◌, ◌⊎◌, map, string_bytes, Some, None};
 ghost use Rattle.q_kernel.specs.Taking.{AreModest};
-ghost use Rattle.q_app.specs.Words.{checking, demo, generating, simplifying, three};
-ghost use Rattle.q_app.specs.Commands.{IsFit, commands_of, request, three_of};
-ghost use Rattle.q_app.specs.Says.{Does, Gives, InTurn, MaySay, Puts, devices, names_read, names_written, view_sink};
+ghost use Rattle.q_app.specs.Words.{checking, demo, generating, rebuilding, simplifying};
+ghost use Rattle.q_app.specs.Commands.{IsFit, commands_of, five_of, request, three_of};
+ghost use Rattle.q_app.specs.Says.{Does, InTurn, Runs, devices, view_sink};
 
 use crate::answer::{Answer, say};
 use crate::check::check;
 use crate::generate::generate_file;
-use crate::run_rebuild::run_rebuild;
+use crate::rebuild::rebuild_files;
+use crate::rebuild_words::RebuildNames;
 use crate::settings::Settings;
 use crate::simplify::simplify_file;
 use crate::status::Status;
@@ -19,25 +19,14 @@ use q_sched::Guide;
 use q_simplify::Options;
 use std::alloc::Global;
 
-fn run_check<F: Files, S: Sink>(
-    alloc: Global,
-    files: &mut F,
-    out: &mut S,
-    input: &str,
-    output: &str,
-    log: &str,
-) -> Status
-    ensures usage { result ≢ Status.Usage }
-    ensures gives { IfSome (F.held files.old) (λ disk.
-        Gives (Some (checking (three input.now output.now log.now))) result disk (F.held files.new)) }
-    ensures read_fault { result ≡ Status.ReadFault →
-        RoseAmong F.read_faults (names_read (Some (checking (three input.now output.now log.now)))) files.old files.new }
-    ensures write_fault { result ≡ Status.WriteFault → Rose (S.faults out.old) (S.faults out.new) }
-    ensures unchanged { F.held files.new ≡ F.held files.old }
-    ensures line { Puts (MaySay (Some (checking (three input.now output.now log.now))) (F.held files.old) (F.held files.new))
-        (view_sink S.written S.faults S.wants out.old) result (view_sink S.written S.faults S.wants out.new) }
+// The commands one by one: what each does, and then its line.
+
+fn run_check<F: Files, S: Sink>(alloc: Global, files: &mut F, out: &mut S, names: Names) -> Status
+    ensures { Runs (Some (checking (three_of names.entry)))
+        (devices F.held F.read_faults F.write_faults files.old (view_sink S.written S.faults S.wants out.old)) result
+        (devices F.held F.read_faults F.write_faults files.new (view_sink S.written S.faults S.wants out.new)) }
 {
-    let outcome = check(alloc, files, input, output, log);
+    let outcome = check(alloc, files, names);
     say(out, Answer::Check(outcome))
 }
 
@@ -45,26 +34,32 @@ fn run_simplify<F: Files, S: Sink>(
     alloc: Global,
     files: &mut F,
     out: &mut S,
-    input: &str,
-    output: &str,
-    log: &str,
+    names: Names,
     options: &Options,
     guides: Vec<Box<dyn Guide>>,
 ) -> Status
     requires bounds { AreModest options.now.bounds }
-    requires names { output.now ≢ log.now }
-    ensures usage { result ≢ Status.Usage }
-    ensures gives { IfSome (F.held files.old) (λ disk.
-        Gives (Some (simplifying (three input.now output.now log.now) options.now)) result disk (F.held files.new)) }
-    ensures read_fault { result ≡ Status.ReadFault →
-        RoseAmong F.read_faults (names_read (Some (simplifying (three input.now output.now log.now) options.now))) files.old files.new }
-    ensures write_fault { result ≡ Status.WriteFault → Rose (S.faults out.old) (S.faults out.new)
-        ⊎ RoseAmong F.write_faults (names_written (Some (simplifying (three input.now output.now log.now) options.now))) files.old files.new }
-    ensures line { Puts (MaySay (Some (simplifying (three input.now output.now log.now) options.now)) (F.held files.old) (F.held files.new))
-        (view_sink S.written S.faults S.wants out.old) result (view_sink S.written S.faults S.wants out.new) }
+    requires names { names.output.now ≢ names.log.now }
+    ensures { Runs (Some (simplifying (three_of names.entry) options.now))
+        (devices F.held F.read_faults F.write_faults files.old (view_sink S.written S.faults S.wants out.old)) result
+        (devices F.held F.read_faults F.write_faults files.new (view_sink S.written S.faults S.wants out.new)) }
 {
-    let outcome = simplify_file(alloc, files, input, output, log, options, guides);
+    let outcome = simplify_file(alloc, files, names, options, guides);
     say(out, Answer::Simplify(outcome))
+}
+
+fn run_rebuild<F: Files, S: Sink>(
+    alloc: Global,
+    files: &mut F,
+    out: &mut S,
+    names: RebuildNames,
+) -> Status
+    ensures { Runs (Some (rebuilding (five_of names.entry)))
+        (devices F.held F.read_faults F.write_faults files.old (view_sink S.written S.faults S.wants out.old)) result
+        (devices F.held F.read_faults F.write_faults files.new (view_sink S.written S.faults S.wants out.new)) }
+{
+    let outcome = rebuild_files(alloc, files, names);
+    say(out, Answer::Rebuild(outcome))
 }
 
 fn run_generate<F: Files, S: Sink>(
@@ -75,13 +70,9 @@ fn run_generate<F: Files, S: Sink>(
     output: &str,
 ) -> Status
     requires { scale.size ≤ 100000 }
-    ensures usage { result ≢ Status.Usage }
-    ensures gives { IfSome (F.held files.old) (λ disk. Gives (Some (generating scale output.now)) result disk (F.held files.new)) }
-    ensures read_fault { result ≢ Status.ReadFault }
-    ensures write_fault { result ≡ Status.WriteFault → Rose (S.faults out.old) (S.faults out.new)
-        ⊎ RoseAmong F.write_faults (names_written (Some (generating scale output.now))) files.old files.new }
-    ensures line { Puts (MaySay (Some (generating scale output.now)) (F.held files.old) (F.held files.new))
-        (view_sink S.written S.faults S.wants out.old) result (view_sink S.written S.faults S.wants out.new) }
+    ensures { Runs (Some (generating scale output.now))
+        (devices F.held F.read_faults F.write_faults files.old (view_sink S.written S.faults S.wants out.old)) result
+        (devices F.held F.read_faults F.write_faults files.new (view_sink S.written S.faults S.wants out.new)) }
 {
     let outcome = generate_file(alloc, files, scale, output);
     say(out, Answer::Generate(outcome))
@@ -98,8 +89,7 @@ fn run_demo<F: Files, S: Sink>(
 ) -> Status
     requires small { scale.size ≤ 100000 }
     requires names { names.output.now ≢ names.log.now }
-    ensures usage { result ≢ Status.Usage }
-    ensures demo { InTurn (demo scale (three_of names.entry))
+    ensures { InTurn (demo scale (three_of names.entry))
         (devices F.held F.read_faults F.write_faults files.old (view_sink S.written S.faults S.wants out.old)) result
         (devices F.held F.read_faults F.write_faults files.new (view_sink S.written S.faults S.wants out.new)) }
 {
@@ -108,30 +98,11 @@ fn run_demo<F: Files, S: Sink>(
         return made;
     }
     let options = Settings::none().options();
-    let simplified = run_simplify(
-        alloc,
-        files,
-        out,
-        names.input,
-        names.output,
-        names.log,
-        &options,
-        guides,
-    );
+    let simplified = run_simplify(alloc, files, out, names, &options, guides);
     if !simplified.passes() {
         return simplified;
     }
-    run_check(alloc, files, out, names.input, names.output, names.log)
-}
-
-// Words that are no command.
-fn run_nothing<S: Sink>(out: &mut S) -> Status
-    ensures usage { (result ≡ Status.Usage) ⊎ (result ≡ Status.WriteFault) ⊎ (result ≡ Status.NoMemory) }
-    ensures write_fault { result ≡ Status.WriteFault → Rose (S.faults out.old) (S.faults out.new) }
-    ensures line { Puts (λ due. due ≡ Answer.Usage)
-        (view_sink S.written S.faults S.wants out.old) result (view_sink S.written S.faults S.wants out.new) }
-{
-    say(out, Answer::Usage)
+    run_check(alloc, files, out, names)
 }
 
 fn run_command<F: Files, S: Sink>(
@@ -142,35 +113,16 @@ fn run_command<F: Files, S: Sink>(
     guides: Vec<Box<dyn Guide>>,
 ) -> Status
     requires { IsFit command }
-    ensures usage { result ≢ Status.Usage }
-    ensures does { InTurn (commands_of command.entry)
+    ensures { InTurn (commands_of command.entry)
         (devices F.held F.read_faults F.write_faults files.old (view_sink S.written S.faults S.wants out.old)) result
         (devices F.held F.read_faults F.write_faults files.new (view_sink S.written S.faults S.wants out.new)) }
 {
     match command {
-        Command::Check { names } => {
-            run_check(alloc, files, out, names.input, names.output, names.log)
+        Command::Check { names } => run_check(alloc, files, out, names),
+        Command::Simplify { names, options } => {
+            run_simplify(alloc, files, out, names, &options, guides)
         }
-        Command::Simplify { names, options } => run_simplify(
-            alloc,
-            files,
-            out,
-            names.input,
-            names.output,
-            names.log,
-            &options,
-            guides,
-        ),
-        Command::Rebuild { names } => run_rebuild(
-            alloc,
-            files,
-            out,
-            names.input,
-            names.output,
-            names.log,
-            names.skolem,
-            names.cert,
-        ),
+        Command::Rebuild { names } => run_rebuild(alloc, files, out, names),
         Command::Generate { scale, output } => run_generate(alloc, files, out, scale, output),
         Command::Demo { scale, names } => run_demo(alloc, files, out, scale, names, guides),
     }
@@ -199,6 +151,6 @@ pub fn run<F: Files, S: Sink>(
 {
     match parse(words) {
         Some(command) => run_command(alloc, files, out, command, guides),
-        None => run_nothing(out),
+        None => say(out, Answer::Usage),
     }
 }

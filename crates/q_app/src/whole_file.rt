@@ -1,14 +1,11 @@
-// Files that are read whole, and files that are written whole.
-ghost use Rattle.std.specs.Prelude.{◌≡◌, ◌≤◌, ◌<◌, length, true, IfOk, OnOk, OnErr, IfSome, IsErrOf};
-ghost use Rattle.q_io.specs.Files.{Later, RoseFor, bytes_at};
-ghost use Rattle.q_app.specs.Rebuilds.{HasAppended, HasLineEnd, HoldsBytes, HoldsFront, IsTextOf};
+// Files that are read whole.
+ghost use Rattle.std.specs.Prelude.{◌≡◌, ◌≤◌, ◌<◌, length, true, IfOk, IfSome, IsErrOf};
+ghost use Rattle.q_io.specs.Files.{OnlyReads, RoseFor, bytes_at};
+ghost use Rattle.q_app.specs.Rebuilds.{HasAppended, HasLineEnd, IsTextOf};
 
 use crate::input::PIECE;
-use q_io::{DeviceError, Files};
+use q_io::{DeviceError, Files, LAST_PLACE};
 use std::alloc::Global;
-
-// No byte behind this place is asked for.
-const LAST_PLACE: u64 = 1_099_511_627_776;
 
 // Puts the next piece of a file behind the text.
 fn append_piece<F: Files>(
@@ -24,17 +21,11 @@ fn append_piece<F: Files>(
     ensures appended { IfOk result (λ n. IfSome (F.held files.old)
         (λ disk. HasAppended (bytes_at disk name.now) at n text.old.items text.new.items)) }
     ensures fault { IsErrOf result DeviceError.Failed → RoseFor F.read_faults name.now files.old files.new }
-    ensures held { F.held files.new ≡ F.held files.old }
-    ensures later { Later F.read_faults F.write_faults files.old files.new }
+    ensures only_reads { OnlyReads F.held F.read_faults F.write_faults files.old files.new }
 {
-    let count = match files.read(name, at, buffer) {
-        Ok(count) => count,
-        Err(error) => return Err(error),
-    };
-    match text.extend_from_slice(&buffer[..count]) {
-        Ok(()) => Ok(count),
-        Err(_) => Err(DeviceError::NoMemory),
-    }
+    let count = files.read(name, at, buffer)?;
+    text.extend_from_slice(&buffer[..count])?;
+    Ok(count)
 }
 
 fn has_line_end(text: &[u8]) -> bool
@@ -72,8 +63,7 @@ fn read_through<F: Files>(
     ensures bytes { IfOk result (λ text. IfSome (F.held files.old)
         (λ disk. IsTextOf (bytes_at disk name.now) text.items)) }
     ensures fault { IsErrOf result DeviceError.Failed → RoseFor F.read_faults name.now files.old files.new }
-    ensures held { F.held files.new ≡ F.held files.old }
-    ensures later { Later F.read_faults F.write_faults files.old files.new }
+    ensures only_reads { OnlyReads F.held F.read_faults F.write_faults files.old files.new }
 {
     let mut text = Vec::new(alloc);
     let mut at = 0u64;
@@ -96,36 +86,8 @@ pub(crate) fn read_whole<F: Files>(
     ensures bytes { IfOk result (λ text. IfSome (F.held files.old)
         (λ disk. IsTextOf (bytes_at disk name.now) text.items)) }
     ensures fault { IsErrOf result DeviceError.Failed → RoseFor F.read_faults name.now files.old files.new }
-    ensures held { F.held files.new ≡ F.held files.old }
-    ensures later { Later F.read_faults F.write_faults files.old files.new }
+    ensures only_reads { OnlyReads F.held F.read_faults F.write_faults files.old files.new }
 {
-    match vec![in alloc; 0u8; PIECE] {
-        Ok(mut room) => match read_through(alloc, files, name, &mut room) {
-            Ok(text) => Ok(text),
-            Err(error) => Err(error),
-        },
-        Err(_) => Err(DeviceError::NoMemory),
-    }
-}
-
-/// Creates the file with these bytes.
-pub(crate) fn write_whole<F: Files>(
-    files: &mut F,
-    name: &str,
-    text: &[u8],
-) -> Result<(), DeviceError>
-    ensures whole { OnOk result (IfSome (F.held files.old)
-        (λ disk. HoldsBytes name.now text.now disk (F.held files.new))) }
-    ensures part { OnErr result (IfSome (F.held files.old)
-        (λ disk. HoldsFront name.now text.now disk (F.held files.new))) }
-    ensures cause { IsErrOf result DeviceError.Failed → RoseFor F.write_faults name.now files.old files.new }
-    ensures later { Later F.read_faults F.write_faults files.old files.new }
-{
-    if let Err(error) = files.create(name) {
-        return Err(error);
-    }
-    match files.append(name, text) {
-        Ok(()) => Ok(()),
-        Err(error) => Err(error),
-    }
+    let mut room = vec![in alloc; 0u8; PIECE]?;
+    read_through(alloc, files, name, &mut room)
 }

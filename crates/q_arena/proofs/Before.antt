@@ -1,8 +1,9 @@
 -- The place before one of a list.
-use Rattle.std.proofs.Common.{◌≡◌, ◌≢◌, ℕ, ◌+◌, ◌<◌, ◌≤◌, List, [], ◌∷◌, length, get_or, None, Some, refl, sym, ◌∙◌, ap, subst, inl, inr, arith}
+use Rattle.std.proofs.Common.{◌≡◌, ℕ, ◌+◌, ◌<◌, ◌≤◌, List, [], ◌∷◌, length, get_or, None, Some, sym, ◌∙◌, ap, subst, inl, inr, arith}
 use Rattle.std.specs.Prelude.{if◌then◌else◌, nat_lt}
 use Rattle.std.proofs.lemmas.Bool.Decides.{nat_tests}
 use Rattle.q_arena.proofs.Numbers.{ℕ-cases}
+use Rattle.q_arena.proofs.Following.{preceding-here, preceding-later, preceding-none}
 use Rattle.q_arena.specs.declared.rings.Link.{Link}
 use Rattle.q_arena.specs.Nodes.{node_at, base, blank}
 use Rattle.q_arena.specs.Rings.{IsPath, Has, Misses, AreApart, AreBelow, IsRing, AreSound, rings_of}
@@ -11,21 +12,11 @@ use Rattle.q_arena.proofs.Paths.{prev_in}
 use Rattle.q_arena.proofs.RingLemmas.{Has-below}
 use Rattle.q_arena.proofs.Seen.{node_at-place, list-is, Has-head, place-in}
 
-from-here : (p j k : ℕ) (ks : List ℕ) → k ≡ p → preceding_from p j (k ∷ ks) ≡ Some j
-from-here p j k ks e = grind (arith, nat_tests)
-
-from-later : (p j k : ℕ) (ks : List ℕ) → k ≢ p → preceding_from p j (k ∷ ks) ≡ preceding_from p k ks
-from-later p j k ks e = grind (arith, nat_tests)
-
-from-none : (p j : ℕ) (ks : List ℕ) → Misses p ks → preceding_from p j ks ≡ None
-from-none p j [] m = refl
-from-none p j (k ∷ ks) m = from-later p j k ks (λ e. m.0 (sym e)) ∙ from-none p k ks m.1
-
 from-prev : (s : ℕ → Link) (p j : ℕ) (ys : List ℕ) (z : ℕ) → IsPath s j ys z → Has ys p → preceding_from p j ys ≡ Some (s p).prev
 from-prev s p j [] z w h = absurd h
 from-prev s p j (k ∷ ks) z w h = elim (ℕ-cases k p) [
-  | inl e ↦ from-here p j k ks e ∙ ap (λ (x : ℕ). Some x) (sym w.1 ∙ ap (λ (x : ℕ). (s x).prev) e)
-  | inr n ↦ from-later p j k ks n ∙ elim h [
+  | inl e ↦ preceding-here p j k ks e ∙ ap (λ (x : ℕ). Some x) (sym w.1 ∙ ap (λ (x : ℕ). (s x).prev) e)
+  | inr n ↦ preceding-later p j k ks n ∙ elim h [
     | inl e ↦ absurd (n (sym e))
     | inr g ↦ from-prev s p k ks z w.2 g
   ]
@@ -42,7 +33,7 @@ preceding-of s b room x [] z p rb bx w a h k = absurd h
 preceding-of s b room x (y ∷ ys) z p rb bx w a h k =
     let first : p ≡ y → preceding p (y ∷ ys) ≡ (if nat_lt (s p).prev b then Some (s p).prev else None) = λ e.
     let v : (s p).prev ≡ x = ap (λ (q : ℕ). (s q).prev) e ∙ k.1 in
-    from-none p y ys (subst (λ (q : ℕ). Misses q ys) (sym e) a.0) ∙ None-if b (s p).prev (omega arith) in
+    preceding-none p y ys (subst (λ (q : ℕ). Misses q ys) (sym e) a.0) ∙ None-if b (s p).prev (omega arith) in
     elim (ℕ-cases p y) [
       | inl e ↦ first e
       | inr n ↦ elim h [

@@ -4,7 +4,7 @@ use Rattle.std.specs.List.{AllByRecursion}
 use Rattle.q_logic.specs.Literals.{Literal, IsBelow, literal_eq}
 use Rattle.q_logic.specs.Parts.{ArePairs}
 use Rattle.q_logic.specs.Pivots.{without}
-use Rattle.q_logic.proofs.Clauses.{literal_eq-itself}
+use Rattle.q_logic.proofs.ClauseLemmas.{literal_eq-itself}
 
 above-differs : (k l : Literal) → IsBelow k l → literal_eq l k ≡ false
 above-differs k l h = grind arith

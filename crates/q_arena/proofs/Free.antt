@@ -5,11 +5,11 @@ use Rattle.q_arena.specs.declared.slots.Slot.{Slot}
 use Rattle.q_arena.specs.Rings.{Has, Misses, AreApart, AreBelow}
 use Rattle.q_arena.specs.Layout.{no_slot, slot_at, Order, AreLaid}
 use Rattle.q_arena.specs.Seen.{clause_in}
-use Rattle.q_arena.proofs.Numbers.{ℕ-cases}
+use Rattle.q_arena.proofs.Numbers.{ℕ-cases, none-some}
 use Rattle.q_arena.proofs.RingLemmas.{length-below}
 use Rattle.q_arena.proofs.Layouts.{live-below}
 use Rattle.q_arena.proofs.Seen.{length-mapped}
-use Rattle.q_arena.proofs.Pieces.{clause-live, none-some}
+use Rattle.q_arena.proofs.Pieces.{clause-live}
 
 is-there : (n : ℕ) (ys : List ℕ) → Has ys n ⊎ Misses n ys
 is-there n [] = inr tt

@@ -3,11 +3,12 @@ use Rattle.std.proofs.Common.{◌≡◌, ◌≢◌, ◌⊎◌, ℕ, ◌+◌, ◌
 use Rattle.std.specs.Prelude.{nat_lt}
 use Rattle.std.proofs.lemmas.Bool.Decides.{nat_tests}
 use Rattle.std.proofs.lemmas.Bool.{cases_lt}
-use Rattle.q_arena.proofs.Numbers.{ℕ-cases}
+use Rattle.q_arena.proofs.Numbers.{ℕ-cases, none-some}
+use Rattle.q_arena.proofs.Following.{preceding-none, preceding-first}
 use Rattle.q_arena.specs.declared.slots.Slot.{Slot}
 use Rattle.q_arena.specs.Layout.{top_of, IsStack, size_of, below}
 use Rattle.q_arena.specs.Gaps.{or_else, when, first_gap, gap_past, gap_gone}
-use Rattle.q_arena.specs.Chains.{preceding_from as above_from, preceding as above}
+use Rattle.q_arena.specs.Chains.{preceding as above}
 use Rattle.q_arena.specs.Rings.{Has, Misses, AreApart, without}
 use Rattle.q_arena.proofs.Paths.{Misses-not, without-first, without-later}
 use Rattle.q_arena.proofs.Layouts.{size-same, size-without, size-top, stack-in, without-gone, below-here, below-later}
@@ -28,41 +29,6 @@ past-up s g i up h = grind (arith, nat_tests)
 past-stays : (s : ℕ → Slot) (g i : ℕ) (up : Option ℕ) → (s g).start ≤ (s i).start → gap_past s (Some g) i up ≡ Some g
 past-stays s g i up h = grind (arith, nat_tests)
 
-above-here : (i j k : ℕ) (is : List ℕ) → k ≡ i → above_from i j (k ∷ is) ≡ Some j
-above-here i j k is e = grind (arith, nat_tests)
-
-above-later : (i j k : ℕ) (is : List ℕ) → k ≢ i → above_from i j (k ∷ is) ≡ above_from i k is
-above-later i j k is e = grind (arith, nat_tests)
-
-above-none : (i j : ℕ) (is : List ℕ) → Misses i is → above_from i j is ≡ None
-above-none i j [] m = refl
-above-none i j (k ∷ is) m = above-later i j k is (λ e. m.0 (sym e)) ∙ above-none i k is m.1
-
-above-some : (i j : ℕ) (is : List ℕ) → Has is i → (x : ℕ) × (above_from i j is ≡ Some x)
-above-some i j [] h = absurd h
-above-some i j (k ∷ is) h = elim (ℕ-cases k i) [
-  | inl e ↦ (j, above-here i j k is e)
-  | inr n ↦ elim h [
-    | inl e ↦ absurd (n (sym e))
-    | inr g ↦ let r = above-some i k is g in (r.0, above-later i j k is n ∙ r.1)
-  ]
-]
-
--- one more clause on top
-above-more : (i j : ℕ) (js : List ℕ) → Has js i → AreApart js → or_else (above i js) (Some j) ≡ above i (j ∷ js)
-above-more i j [] h a = absurd h
-above-more i j (k ∷ ks) h a = elim (ℕ-cases k i) [
-  | inl e ↦
-      let none : above i (k ∷ ks) ≡ None = above-none i k ks (subst (λ (x : ℕ). Misses x ks) e a.0) in
-      ap (λ (o : Option ℕ). or_else o (Some j)) none ∙ sym (above-here i j k ks e)
-  | inr n ↦ elim h [
-    | inl e ↦ absurd (n (sym e))
-    | inr g ↦
-        let r = above-some i k ks g in
-        ap (λ (o : Option ℕ). or_else o (Some j)) r.1 ∙ sym r.1 ∙ sym (above-later i j k ks n)
-  ]
-]
-
 or_else-none : (o : Option ℕ) → or_else o None ≡ o
 or_else-none None = refl
 or_else-none (Some i) = refl
@@ -70,24 +36,18 @@ or_else-none (Some i) = refl
 module _ (s : ℕ → Slot) where
   pub gap-in : (is : List ℕ) (g : ℕ) → first_gap s is ≡ Some g → Has is g
   gap-in [] g e = let d : None ≡ Some g = e in absurd (none-some g d)
-    where
-      none-some : (g : ℕ) → None ≡ Some g → ⊥
-      none-some g d = cc
   gap-in (i ∷ is) g e = elim (Option-cases (first_gap s is)) [
     | inl n ↦
         let d : when (nat_lt (size_of s is) (s i).start) i ≡ Some g = ap (λ (o : Option ℕ). or_else o (when (nat_lt (size_of s is) (s i).start) i)) (sym n) ∙ e in
         elim (cases_lt (size_of s is) (s i).start) [
           | inl l ↦ let f : Some i ≡ Some g = sym (when-lt (size_of s is) (s i).start i l) ∙ d in inl (cc)
-          | inr l ↦ let f : None ≡ Some g = sym (when-ge (size_of s is) (s i).start i l) ∙ d in absurd (clash g f)
+          | inr l ↦ let f : None ≡ Some g = sym (when-ge (size_of s is) (s i).start i l) ∙ d in absurd (none-some g f)
         ]
     | inr x ↦
         let f : Some x.0 ≡ Some g = ap (λ (o : Option ℕ). or_else o (when (nat_lt (size_of s is) (s i).start) i)) (sym x.1) ∙ e in
         let q : x.0 ≡ g = cc in
         inr (subst (λ (k : ℕ). Has is k) q (gap-in is x.0 x.1))
   ]
-    where
-      clash : (g : ℕ) → None ≡ Some g → ⊥
-      clash g d = cc
 
   -- with no gap the clauses fill the row
   pub gap-none : (is : List ℕ) → IsStack s is → first_gap s is ≡ None → size_of s is ≡ top_of s is
@@ -99,21 +59,15 @@ module _ (s : ℕ → Slot) where
             let d : when (nat_lt (size_of s is) (s i).start) i ≡ None = ap (λ (o : Option ℕ). or_else o (when (nat_lt (size_of s is) (s i).start) i)) (sym n) ∙ e in
             let full = gap-none is k.1 n in
             elim (cases_lt (size_of s is) (s i).start) [
-              | inl l ↦ let f : Some i ≡ None = sym (when-lt (size_of s is) (s i).start i l) ∙ d in absurd (clash i f)
+              | inl l ↦ let f : Some i ≡ None = sym (when-lt (size_of s is) (s i).start i l) ∙ d in absurd (none-some i (sym f))
               | inr l ↦ omega arith
             ]
-        | inr x ↦ let f : Some x.0 ≡ None = ap (λ (o : Option ℕ). or_else o (when (nat_lt (size_of s is) (s i).start) i)) (sym x.1) ∙ e in absurd (clash x.0 f)
+        | inr x ↦ let f : Some x.0 ≡ None = ap (λ (o : Option ℕ). or_else o (when (nat_lt (size_of s is) (s i).start) i)) (sym x.1) ∙ e in absurd (none-some x.0 (sym f))
       ]
-    where
-      clash : (g : ℕ) → Some g ≡ None → ⊥
-      clash g d = cc
 
   -- with a gap they do not
   pub gap-some : (is : List ℕ) (g : ℕ) → IsStack s is → first_gap s is ≡ Some g → size_of s is < top_of s is
   gap-some [] g k e = let d : None ≡ Some g = e in absurd (none-some g d)
-    where
-      none-some : (g : ℕ) → None ≡ Some g → ⊥
-      none-some g d = cc
   gap-some (i ∷ is) g k e =
       let le : top_of s is ≤ (s i).start = k.0 in
       let st = size-top s is k.1 in
@@ -122,13 +76,10 @@ module _ (s : ℕ → Slot) where
             let d : when (nat_lt (size_of s is) (s i).start) i ≡ Some g = ap (λ (o : Option ℕ). or_else o (when (nat_lt (size_of s is) (s i).start) i)) (sym n) ∙ e in
             elim (cases_lt (size_of s is) (s i).start) [
               | inl l ↦ omega arith
-              | inr l ↦ let f : None ≡ Some g = sym (when-ge (size_of s is) (s i).start i l) ∙ d in absurd (clash g f)
+              | inr l ↦ let f : None ≡ Some g = sym (when-ge (size_of s is) (s i).start i l) ∙ d in absurd (none-some g f)
             ]
         | inr x ↦ let r = gap-some is x.0 k.1 x.1 in omega arith
       ]
-    where
-      clash : (g : ℕ) → None ≡ Some g → ⊥
-      clash g d = cc
 
   -- a clause at the end of the row makes no gap
   pub gap-add : (i : ℕ) (is : List ℕ) → IsStack s is → (s i).start ≡ top_of s is → first_gap s (i ∷ is) ≡ first_gap s is
@@ -168,7 +119,7 @@ module _ (s t : ℕ → Slot) where
       let z = size-same s t js same in
       let sj : (t j).start ≡ (s j).start = ap (λ (x : ℕ). (t x).start) q ∙ es ∙ ap (λ (x : ℕ). (s x).start) (sym q) in
       let lhs : first_gap t (j ∷ js) ≡ first_gap s (j ∷ js) = rw (d, z, sj) refl in
-      let up : above i (j ∷ js) ≡ None = above-none i j js m in
+      let up : above i (j ∷ js) ≡ None = preceding-none i j js m in
       elim (Option-cases (first_gap s (j ∷ js))) [
         | inl n ↦ lhs ∙ n ∙ sym up ∙ ap (λ (o : Option ℕ). gap_past s o i (above i (j ∷ js))) (sym n)
         | inr x ↦
@@ -190,7 +141,7 @@ module _ (s t : ℕ → Slot) where
               let inside = stack-in s js i k.1 g in
               let lt : size_of t js < (t j).start = omega arith in
               let lhs : first_gap t (j ∷ js) ≡ or_else (first_gap t js) (Some j) = ap (λ (o : Option ℕ). or_else (first_gap t js) o) (when-lt (size_of t js) (t j).start j lt) in
-              let more = above-more i j js g a.1 in
+              let more = sym (preceding-first i j js a.1 g) in
               elim (Option-cases (first_gap s js)) [
                 | inl none ↦
                     let i1 : first_gap t js ≡ above i js = ih ∙ ap (λ (o : Option ℕ). gap_past s o i (above i js)) none in
@@ -233,9 +184,9 @@ module _ (s t : ℕ → Slot) where
             ] in
             let full = gap-none s js k.1 none in
             let z = size-same s t js same in
-            let sj : (t j).start ≡ top_of s js = ap (λ (x : ℕ). (t x).start) q ∙ es ∙ ap (λ (xs : List ℕ). top_of s xs) (below-first i j js q) in
+            let sj : (t j).start ≡ top_of s js = ap (λ (x : ℕ). (t x).start) q ∙ es ∙ ap (λ (xs : List ℕ). top_of s xs) (below-here i j js q) in
             ap (λ (o : Option ℕ). or_else o (when (nat_lt (size_of t js) (t j).start) j)) (gap-same js same ∙ none)
-            ∙ when-ge (size_of t js) (t j).start j (omega arith) ∙ sym (above-none i j js m)
+            ∙ when-ge (size_of t js) (t j).start j (omega arith) ∙ sym (preceding-none i j js m)
         | inr n ↦
             let deep : first_gap s js ≡ Some i = elim (Option-cases (first_gap s js)) [
               | inl none ↦ elim (gap-in s (j ∷ js) i e) [
@@ -244,28 +195,19 @@ module _ (s t : ℕ → Slot) where
                     let w : when (nat_lt (size_of s js) (s j).start) j ≡ Some i = ap (λ (o : Option ℕ). or_else o (when (nat_lt (size_of s js) (s j).start) j)) (sym none) ∙ e in
                     elim (cases_lt (size_of s js) (s j).start) [
                       | inl l ↦ let v : Some j ≡ Some i = sym (when-lt (size_of s js) (s j).start j l) ∙ w in absurd (n (cc))
-                      | inr l ↦ let v : None ≡ Some i = sym (when-ge (size_of s js) (s j).start j l) ∙ w in absurd (clash i v)
+                      | inr l ↦ let v : None ≡ Some i = sym (when-ge (size_of s js) (s j).start j l) ∙ w in absurd (none-some i v)
                     ]
               ]
               | inr x ↦ x.1 ∙ ap (λ (o : Option ℕ). or_else o (when (nat_lt (size_of s js) (s j).start) j)) (sym x.1) ∙ e
             ] in
             let g = gap-in s js i deep in
-            let ih = gap-slide i js k.1 a.1 deep f (es ∙ ap (λ (xs : List ℕ). top_of s xs) (below-next i j js n)) el in
+            let ih = gap-slide i js k.1 a.1 deep f (es ∙ ap (λ (xs : List ℕ). top_of s xs) (below-later i j js n)) el in
             let ch = size-changed i js g a.1 f in
             let room = gap-some s js i k.1 deep in
             let sj : (t j).start ≡ (s j).start = ap (λ (x : Slot). x.start) (f j n) in
             ap (λ (o : Option ℕ). or_else (first_gap t js) o) (when-lt (size_of t js) (t j).start j (omega arith))
-            ∙ ap (λ (o : Option ℕ). or_else o (Some j)) ih ∙ above-more i j js g a.1
+            ∙ ap (λ (o : Option ℕ). or_else o (Some j)) ih ∙ sym (preceding-first i j js a.1 g)
       ]
-    where
-      below-first : (i j : ℕ) (js : List ℕ) → j ≡ i → below i (j ∷ js) ≡ js
-      below-first i j js q = grind (arith, nat_tests)
-
-      below-next : (i j : ℕ) (js : List ℕ) → j ≢ i → below i (j ∷ js) ≡ below i js
-      below-next i j js q = grind (arith, nat_tests)
-
-      clash : (g : ℕ) → None ≡ Some g → ⊥
-      clash g d = cc
 
 gone-none : (s : ℕ → Slot) (i : ℕ) → gap_gone s None i None ≡ None
 gone-none s i = grind (arith, nat_tests)
@@ -299,7 +241,7 @@ module _ (s : ℕ → Slot) where
       let up : Option ℕ = above i (j ∷ js) in
       let here : j ≡ i → first_gap s (without i (j ∷ js)) ≡ gap_gone s (first_gap s (j ∷ js)) i up = λ q.
       let m : Misses i js = subst (λ (x : ℕ). Misses x js) q a.0 in
-      let un : up ≡ None = above-none i j js m in
+      let un : up ≡ None = preceding-none i j js m in
       let lhs : first_gap s (without i (j ∷ js)) ≡ first_gap s js = ap (λ (xs : List ℕ). first_gap s xs) (without-first i j js q) in
       elim (Option-cases (first_gap s js)) [
         | inl n ↦
@@ -324,7 +266,7 @@ module _ (s : ℕ → Slot) where
               let ih = gap-delete i js k.1 a.1 g in
               let ch = size-without s i js g in
               let inside = stack-in s js i k.1 g in
-              let more = above-more i j js g a.1 in
+              let more = sym (preceding-first i j js a.1 g) in
               let lhs : first_gap s (without i (j ∷ js)) ≡ or_else (first_gap s (without i js)) (when (nat_lt (size_of s (without i js)) (s j).start) j) = ap (λ (xs : List ℕ). first_gap s xs) (without-later i j js n) in
               -- the next clause has a gap where words died below it
               let rise : size_of s (without i js) < (s j).start → first_gap s (without i js) ≡ above i js → first_gap s (without i (j ∷ js)) ≡ up = λ l e.
@@ -382,7 +324,7 @@ module _ (s : ℕ → Slot) where
               let v : Some j ≡ Some i = sym (when-lt (size_of s js) (s j).start j l) ∙ w in
               let q : j ≡ i = cc in
               rw (below-here i j js q) (gap-none s js k.1 none)
-          | inr l ↦ let v : None ≡ Some i = sym (when-ge (size_of s js) (s j).start j l) ∙ w in absurd (clash i v)
+          | inr l ↦ let v : None ≡ Some i = sym (when-ge (size_of s js) (s j).start j l) ∙ w in absurd (none-some i v)
         ]
     | inr x ↦
         let w : Some x.0 ≡ Some i = ap (λ (o : Option ℕ). or_else o (when (nat_lt (size_of s js) (s j).start) j)) (sym x.1) ∙ e in
@@ -391,9 +333,6 @@ module _ (s : ℕ → Slot) where
         let n : j ≢ i = λ r. Misses-not j i js a.0 (gap-in s js i deep) r in
         rw (below-later i j js n) (gap-full i js k.1 a.1 deep)
   ]
-    where
-      clash : (g : ℕ) → None ≡ Some g → ⊥
-      clash g d = cc
 
   -- there is room below the first clause with a gap
   pub gap-low : (i : ℕ) (is : List ℕ) → IsStack s is → AreApart is → first_gap s is ≡ Some i → top_of s (below i is) < (s i).start
@@ -406,22 +345,13 @@ module _ (s : ℕ → Slot) where
           | inl l ↦
               let v : Some j ≡ Some i = sym (when-lt (size_of s js) (s j).start j l) ∙ w in
               let q : j ≡ i = cc in
-              rw (below-first i j js q, ← q) (omega arith)
-          | inr l ↦ let v : None ≡ Some i = sym (when-ge (size_of s js) (s j).start j l) ∙ w in absurd (clash i v)
+              rw (below-here i j js q, ← q) (omega arith)
+          | inr l ↦ let v : None ≡ Some i = sym (when-ge (size_of s js) (s j).start j l) ∙ w in absurd (none-some i v)
         ]
     | inr x ↦
         let w : Some x.0 ≡ Some i = ap (λ (o : Option ℕ). or_else o (when (nat_lt (size_of s js) (s j).start) j)) (sym x.1) ∙ e in
         let q : x.0 ≡ i = cc in
         let deep : first_gap s js ≡ Some i = x.1 ∙ w in
         let n : j ≢ i = λ r. Misses-not j i js a.0 (gap-in s js i deep) r in
-        rw (below-next i j js n) (gap-low i js k.1 a.1 deep)
+        rw (below-later i j js n) (gap-low i js k.1 a.1 deep)
   ]
-    where
-      below-first : (i j : ℕ) (js : List ℕ) → j ≡ i → below i (j ∷ js) ≡ js
-      below-first i j js q = grind (arith, nat_tests)
-
-      below-next : (i j : ℕ) (js : List ℕ) → j ≢ i → below i (j ∷ js) ≡ below i js
-      below-next i j js q = grind (arith, nat_tests)
-
-      clash : (g : ℕ) → None ≡ Some g → ⊥
-      clash g d = cc

@@ -4,8 +4,9 @@ use Rattle.std.proofs.lemmas.List.{get_or-set_same, get_or-set_other, get_or_pas
 use Rattle.std.proofs.lemmas.Bool.Decides.{nat_tests}
 use Rattle.std.proofs.lemmas.Bool.{cases_lt}
 use Rattle.q_arena.proofs.Numbers.{ℕ-cases}
+use Rattle.q_arena.proofs.Following.{following-here, following-later}
 use Rattle.q_arena.specs.declared.slots.Slot.{Slot}
-use Rattle.q_arena.specs.Layout.{no_slot, slot_at, top_of, below, IsStack, size_of, Order, AreLaid}
+use Rattle.q_arena.specs.Layout.{end_in, no_slot, slot_at, top_of, below, IsStack, size_of, Order, AreLaid}
 use Rattle.q_arena.specs.Chains.{following}
 use Rattle.q_arena.specs.Rings.{Has, AreApart, without}
 use Rattle.q_arena.proofs.Paths.{Misses-not, Misses-from, without-first, without-later}
@@ -117,16 +118,9 @@ module _ (s : ℕ → Slot) where
         ]
       ]
 
-  pub top-first : (is : List ℕ) (i : ℕ) → slice_get is 0 ≡ Some i → top_of s is ≡ (s i).start + (s i).len
-  top-first [] i e = let n : (slice_get is' 0 ≡ Some i) → ⊥ = λ q. (cc) in absurd (n e)
-    where
-      is' : List ℕ
-      is' = []
-  top-first (j ∷ is) i e = let d : Some j ≡ Some i = e in let f : j ≡ i = cc in rw f refl
-
-  pub top-none : (is : List ℕ) → slice_get is 0 ≡ None → top_of s is ≡ 0
-  top-none [] e = refl
-  top-none (j ∷ is) e = let d : Some j ≡ None = e in absurd (cc)
+  pub top-end : (is : List ℕ) → top_of s is ≡ end_in s (slice_get is 0)
+  top-end [] = refl
+  top-end (i ∷ is) = refl
 
 pub slot-set_here : (slots : List Slot) (i : ℕ) (x : Slot) → i < length slots → slot_at (set slots i x) i ≡ x
 slot-set_here slots i x h = get_or-set_same slots i x no_slot h
@@ -139,10 +133,6 @@ live-below slots i e = elim (cases_lt i (length slots)) [
   | inl a ↦ a
   | inr b ↦ let d = get_or_past slots i no_slot b in absurd (true≢false (sym e ∙ ap (λ (x : Slot). x.live) d))
 ]
-
-pub first-has : (is : List ℕ) (i : ℕ) → slice_get is 0 ≡ Some i → Has is i
-first-has [] i e = let d : None ≡ Some i = e in absurd (cc)
-first-has (j ∷ is) i e = let d : Some j ≡ Some i = e in inl (cc)
 
 pub first-none : (is : List ℕ) → slice_get is 0 ≡ None → 1 ≤ length is → ⊥
 first-none [] e h = omega arith
@@ -262,12 +252,6 @@ Has-below' i j (k ∷ is) h = elim (ℕ-cases k i) [
   | inl e ↦ inr (subst (λ (xs : List ℕ). Has xs j) (below-here i k is e) h)
   | inr n ↦ inr (Has-below' i j is (subst (λ (xs : List ℕ). Has xs j) (below-later i k is n) h))
 ]
-
-following-here : (p y : ℕ) (ys : List ℕ) → y ≡ p → following p (y ∷ ys) ≡ slice_get ys 0
-following-here p y ys e = grind (arith, nat_tests)
-
-following-later : (p y : ℕ) (ys : List ℕ) → y ≢ p → following p (y ∷ ys) ≡ following p ys
-following-later p y ys e = grind (arith, nat_tests)
 
 pub following-below : (i : ℕ) (is : List ℕ) → Has is i → following i is ≡ slice_get (below i is) 0
 following-below i [] h = absurd h

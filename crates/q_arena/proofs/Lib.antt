@@ -1,4 +1,5 @@
 pub mod Numbers
+pub mod Following
 pub mod Joins
 pub mod Paths
 pub mod RingLemmas
@@ -8,6 +9,7 @@ pub mod Growth
 pub mod Before
 pub mod Layouts
 pub mod Pieces
+pub mod Moving
 pub mod GapLemmas
 pub mod Totals
 pub mod More

@@ -1,7 +1,11 @@
-use Rattle.std.proofs.Common.{◌≡◌, ◌≢◌, ◌⊎◌, ℕ, Some, arith}
+-- Two numbers, and two optional values.
+use Rattle.std.proofs.Common.{◌≡◌, ◌≢◌, ◌⊎◌, ℕ, None, Some, arith}
 
 pub ℕ-cases : (a b : ℕ) → (a ≡ b) ⊎ (a ≢ b)
 ℕ-cases a b = grind arith
 
-pub same-number : (a b : ℕ) → Some a ≡ Some b → a ≡ b
-same-number a b e = cc
+pub none-some : {X : Type 0} (x : X) → None ≡ Some x → ⊥
+none-some x e = cc
+
+pub some-same : {X : Type 0} (x y : X) → Some x ≡ Some y → x ≡ y
+some-same x y e = cc

@@ -2,7 +2,7 @@
 use Rattle.std.proofs.Common.{◌≡◌, ◌≢◌, ◌⊎◌, ℕ, zero, suc, ◌+◌, ◌-◌, ◌<◌, ◌≤◌, Bool, true, false, List, [], ◌∷◌, ◌++◌, length, map, set, get_or, take, drop, Option, None, Some, refl, sym, ◌∙◌, ap, subst, inl, inr, arith, length-drop, length-append}
 use Rattle.std.proofs.lemmas.List.{ext_get_or, get_or-set_same, get_or-set_other, get_or_past, get_or-take, get_or-drop, length-take-le, get_or_append_left, get_or-append_right}
 use Rattle.std.proofs.lemmas.Bool.{cases_lt}
-use Rattle.q_arena.proofs.Numbers.{ℕ-cases}
+use Rattle.q_arena.proofs.Numbers.{ℕ-cases, none-some, some-same}
 use Rattle.q_logic.specs.Literals.{Literal, IsBelow}
 use Rattle.q_logic.specs.Parts.{ArePairs}
 use Rattle.std.specs.List.{AllByRecursion}
@@ -130,14 +130,11 @@ piece-without v w s n k sn vw kn moved below =
     ])
 
 -- each other piece is as before where one place of words was written
-pub Some-same : (a b : List Literal) → Some a ≡ Some b → a ≡ b
-Some-same a b e = cc
-
 module _ (w : List Literal) (slots : List Slot) (ids : Order) (end total : ℕ) (a : AreLaid (length w) slots ids end total) where
   pub clause-length : (i : ℕ) (c : List Literal) → get_or (map (clause_in w) slots) i None ≡ Some c → length c ≡ (slot_at slots i).len
   clause-length i c e =
       let l = live-of w slots i c e in
-      let same = Some-same (piece w (slot_at slots i).start (slot_at slots i).len) c (sym (clause-live w slots i l) ∙ e) in
+      let same = some-same (piece w (slot_at slots i).start (slot_at slots i).len) c (sym (clause-live w slots i l) ∙ e) in
       ap length (sym same) ∙ length-piece w (slot_at slots i).start (slot_at slots i).len (live-room (length w) slots ids end total i a l)
 
   pub clause-within : (i : ℕ) (c : List Literal) → get_or (map (clause_in w) slots) i None ≡ Some c → get_or (map (λ (s : Slot). s.start) slots) i 0 + length c ≤ length w
@@ -160,9 +157,6 @@ module _ (w : List Literal) (slots : List Slot) (ids : Order) (end total : ℕ) 
       ]
 
 -- literal order
-
-pub none-some : (c : List Literal) → None ≡ Some c → ⊥
-none-some c e = cc
 
 pub ordered-same : (xs ys : List (Option (List Literal))) → xs ≡ ys → AreOrdered ys → AreOrdered xs
 ordered-same xs ys e o = rw e o

@@ -83,6 +83,9 @@ AreRings-tagged s t base room heads L a n r g ab = record {
   one = r.one;
 }
 
+pub tag-kept : (s t : ℕ → Link) (base l n k : ℕ) → IsTagged s t (base + l) n → k < base → (t k).tag ≡ (s k).tag
+tag-kept s t base l n k g h = let e = g.tag k in grind (arith, nat_tests)
+
 pub tag_here : (s t : ℕ → Link) (a n : ℕ) → IsTagged s t a n → (t a).tag ≡ n
 tag_here s t a n g = let e = g.tag a in grind (arith, nat_tests)
 

@@ -1,15 +1,16 @@
 -- What a caller sees, after a change of the rows.
-use Rattle.std.proofs.Common.{◌≡◌, ◌≢◌, ℕ, zero, suc, ◌+◌, ◌<◌, ◌≤◌, List, [], ◌∷◌, length, map, set, get_or, slice_get, None, Some, refl, sym, ◌∙◌, ap, subst, inl, inr, arith, le_of_suc-le-suc, not-suc-le-zero}
+use Rattle.std.proofs.Common.{◌≡◌, ℕ, zero, suc, ◌+◌, ◌<◌, ◌≤◌, List, [], ◌∷◌, length, map, set, get_or, slice_get, None, Some, refl, sym, ◌∙◌, ap, subst, inl, inr, arith, le_of_suc-le-suc, not-suc-le-zero}
 use Rattle.std.specs.Prelude.{if◌then◌else◌, nat_lt}
 use Rattle.std.proofs.lemmas.List.{ext_get_or, get_or-set_same, get_or-set_other, get_or_past}
 use Rattle.std.proofs.lemmas.Bool.Decides.{nat_tests}
 use Rattle.std.proofs.lemmas.Bool.{cases_lt}
 use Rattle.q_arena.proofs.Numbers.{ℕ-cases}
+use Rattle.q_arena.proofs.Following.{following-here, following-later}
 use Rattle.q_arena.specs.declared.rings.Link.{Link}
 use Rattle.q_arena.specs.Nodes.{node_at, base, blank, IsTagged}
-use Rattle.q_arena.specs.Rings.{IsPath, walk, Has, AreApart, AreBelow, IsRing, AreRings, AreSound, rings_of, with_list}
+use Rattle.q_arena.specs.Rings.{IsRelisted, IsPath, walk, Has, AreApart, AreBelow, IsRing, AreRings, AreSound, rings_of, with_list}
 use Rattle.q_arena.specs.Chains.{lists_of, tags_of, following}
-use Rattle.q_arena.proofs.RingLemmas.{Has-below, AreRings-own, ring-is, with_list-here, with_list-other}
+use Rattle.q_arena.proofs.RingLemmas.{AreRings-tagged, Has-below, AreRings-own, ring-is, with_list-here, with_list-other}
 
 pub node_at-head : (places heads : List Link) (l : ℕ) → node_at places heads (base + l) ≡ get_or heads l blank
 node_at-head places heads l = grind (arith, nat_tests)
@@ -103,6 +104,33 @@ AreSound-with p h q g L s e e' r = record {
   few_heads = rw e' s.few_heads;
 }
 
+-- one list is another one; then a place may have got an owner
+module _ {p h q g : List Link} {l : ℕ} {ys : List ℕ} (s : AreSound p h) (m : IsRelisted p h q g l ys) where
+  pub relisted-sound : AreSound q g
+  relisted-sound = AreSound-with p h q g (with_list (rings_of (node_at p h) base) l ys) s m.places m.heads m.rings
+
+  pub relisted-lists : l < length h → lists_of q g ≡ set (lists_of p h) l ys
+  relisted-lists lh = lists-with p h q g (length p) l ys m.heads lh m.rings
+
+  pub relisted-owners : tags_of q ≡ tags_of p
+  relisted-owners = tags-same p h q g m.places s.few_places m.tags
+
+  module _ (r f : List Link) {a n : ℕ} (t : IsTagged (node_at q g) (node_at r f) a n) (er : length r ≡ length q) (ef : length f ≡ length g) (al : a < length (tags_of p)) where
+    place : a < length p
+    place = let e = length-tags p in omega arith
+
+    owned : AreRings (node_at r f) base (length p) (length h) (with_list (rings_of (node_at p h) base) l ys)
+    owned = AreRings-tagged (node_at q g) (node_at r f) base (length p) (length h) (with_list (rings_of (node_at p h) base) l ys) a n m.rings t (let i = place in let few : length p ≤ base = s.few_places in omega arith)
+
+    pub owned-sound : AreSound r f
+    owned-sound = AreSound-with p h r f (with_list (rings_of (node_at p h) base) l ys) s (er ∙ m.places) (ef ∙ m.heads) owned
+
+    pub owned-lists : l < length h → lists_of r f ≡ set (lists_of p h) l ys
+    owned-lists lh = lists-with p h r f (length p) l ys (ef ∙ m.heads) lh owned
+
+    pub owned-owners : tags_of r ≡ set (tags_of p) a n
+    owned-owners = tags-set p h q g r f a n m.places (er ∙ m.places) s.few_places place m.tags t
+
 -- a place of a list is below the room, and its head is one
 pub Has-head : (places heads : List Link) (l p : ℕ) → Has (get_or (lists_of places heads) l []) p → l < length heads
 Has-head places heads l p h = elim (cases_lt l (length heads)) [
@@ -129,12 +157,6 @@ following-of s b room x (y ∷ ys) z p rb bz w a h k =
         | inr i ↦ following-later p y ys n ∙ following-of s b room y ys z p rb bz w.1 a.1 i k.2
       ]
     ]
-  where
-    following-here : (p y : ℕ) (ys : List ℕ) → y ≡ p → following p (y ∷ ys) ≡ slice_get ys 0
-    following-here p y ys e = grind (arith, nat_tests)
-
-    following-later : (p y : ℕ) (ys : List ℕ) → y ≢ p → following p (y ∷ ys) ≡ following p ys
-    following-later p y ys e = grind (arith, nat_tests)
 
 module _ (places heads : List Link) (s : AreSound places heads) where
   few : length places ≤ base

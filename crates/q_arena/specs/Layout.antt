@@ -1,5 +1,5 @@
 -- Where the clauses stand in the row of words.
-use Rattle.std.specs.Prelude.{◌≡◌, ◌⊎◌, ℕ, ◌+◌, ◌≤◌, ◌<◌, true, false, if◌then◌else◌, ◌==◌, List, [], ◌∷◌, length, slice_index_or}
+use Rattle.std.specs.Prelude.{◌≡◌, ◌⊎◌, ℕ, ◌+◌, ◌≤◌, ◌<◌, true, false, if◌then◌else◌, ◌==◌, List, [], ◌∷◌, length, slice_index_or, Option, None, Some}
 use Rattle.q_arena.specs.declared.slots.Slot.{Slot}
 use Rattle.q_arena.specs.Rings.{Has, AreApart}
 use Rattle.q_arena.specs.Chains.{Chains, list_at}
@@ -9,6 +9,11 @@ no_slot = record { start = 0; len = 0; live = false }
 
 abbrev pub slot_at : List Slot → ℕ → Slot
 slot_at slots i = slice_index_or slots i no_slot
+
+-- the end of a clause, 0 where there is none
+abbrev pub end_in : (ℕ → Slot) → Option ℕ → ℕ
+end_in s None = 0
+end_in s (Some i) = (s i).start + (s i).len
 
 -- the end of the first clause of a list
 abbrev pub top_of : (ℕ → Slot) → List ℕ → ℕ

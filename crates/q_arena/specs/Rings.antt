@@ -70,3 +70,10 @@ pub record AreSound (places heads : List Link) : Type 0 where
   pub rings : AreRings (node_at places heads) base (length places) (length heads) (rings_of (node_at places heads) base)
   pub few_places : length places ≤ base
   pub few_heads : length heads ≤ base
+
+-- one list changed in the rows, and no tag of a place
+pub record IsRelisted (p h q g : List Link) (l : ℕ) (ys : List ℕ) : Type 0 where
+  pub rings : AreRings (node_at q g) base (length p) (length h) (with_list (rings_of (node_at p h) base) l ys)
+  pub places : length q ≡ length p
+  pub heads : length g ≡ length h
+  pub tags : (k : ℕ) → k < base → (node_at q g k).tag ≡ (node_at p h k).tag

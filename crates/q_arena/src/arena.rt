@@ -111,10 +111,8 @@ impl Arena {
         ensures none { result ≡ None → self.now.dead ≡ 0 }
         ensures some { (id : ℕ) → result ≡ Some id → (0 < self.now.dead) × IsFirstPastDead self.now id }
     {
-        match self.gap {
-            Some(id) => Some(id as ClauseId),
-            None => None,
-        }
+        let id = self.gap?;
+        Some(id as ClauseId)
     }
 
     /// How many words before the end of the last clause no clause has.

@@ -1,6 +1,6 @@
 ghost use Rattle.std.specs.Prelude.{◌≡◌, ◌≤◌, ◌<◌, ◌+◌, ◌-◌, ◌^◌, ◌++◌, ◌∷◌, [], ℕ, length, slice_index_or, slice_set, MatchOption, OnOk, OnErr, List, Contains, ◌⊎◌, vec_len, None, Some, if◌then◌else◌, nat_lt, slice_get, slice_index};
 ghost use Rattle.q_arena.specs.Nodes.{node_at, IsNode, IsPut, IsJoined, IsTagged, blank, base};
-ghost use Rattle.q_arena.specs.Rings.{AreRings, AreSound, AreApart, Has, without, with_next, rings_of, with_list};
+ghost use Rattle.q_arena.specs.Rings.{IsRelisted, AreSound, AreApart, Has, without, with_next, rings_of};
 ghost use Rattle.q_arena.specs.Chains.{Chains, list_at, following, preceding, HasSameLists, HasSameOwners, lists_of};
 
 use q_logic::NoMemory;
@@ -84,10 +84,7 @@ fn put_front(places: &mut Vec<Link>, heads: &mut Vec<Link>, head: u32, place: u3
     requires place { place < length places.old.items }
     requires sound { AreSound places.old.items heads.old.items }
     requires fresh { (m : ℕ) → m < length heads.old.items → Has (rings_of (node_at places.old.items heads.old.items) base m) place → ⊥ }
-    ensures rings { AreRings (node_at places.new.items heads.new.items) base (length places.old.items) (length heads.old.items) (with_list (rings_of (node_at places.old.items heads.old.items) base) head (place ∷ rings_of (node_at places.old.items heads.old.items) base head)) }
-    ensures places { length places.new.items ≡ length places.old.items }
-    ensures heads { length heads.new.items ≡ length heads.old.items }
-    ensures tags { (k : ℕ) → k < base → (node_at places.new.items heads.new.items k).tag ≡ (node_at places.old.items heads.old.items k).tag }
+    ensures { IsRelisted places.old.items heads.old.items places.new.items heads.new.items head (place ∷ rings_of (node_at places.old.items heads.old.items) base head) }
 {
     let link = node(places, heads, HEADS + head);
     join(places, heads, HEADS + head, place);
@@ -102,10 +99,7 @@ fn put_after(places: &mut Vec<Link>, heads: &mut Vec<Link>, head: u32, after: u3
     requires sound { AreSound places.old.items heads.old.items }
     requires there { Has (rings_of (node_at places.old.items heads.old.items) base head) after }
     requires fresh { (m : ℕ) → m < length heads.old.items → Has (rings_of (node_at places.old.items heads.old.items) base m) place → ⊥ }
-    ensures rings { AreRings (node_at places.new.items heads.new.items) base (length places.old.items) (length heads.old.items) (with_list (rings_of (node_at places.old.items heads.old.items) base) head (with_next after place (rings_of (node_at places.old.items heads.old.items) base head))) }
-    ensures places { length places.new.items ≡ length places.old.items }
-    ensures heads { length heads.new.items ≡ length heads.old.items }
-    ensures tags { (k : ℕ) → k < base → (node_at places.new.items heads.new.items k).tag ≡ (node_at places.old.items heads.old.items k).tag }
+    ensures { IsRelisted places.old.items heads.old.items places.new.items heads.new.items head (with_next after place (rings_of (node_at places.old.items heads.old.items) base head)) }
 {
     let count = node(places, heads, HEADS + head).tag;
     let link = node(places, heads, after);
@@ -119,10 +113,7 @@ fn take_out(places: &mut Vec<Link>, heads: &mut Vec<Link>, head: u32, place: u32
     requires head { head < length heads.old.items }
     requires sound { AreSound places.old.items heads.old.items }
     requires there { Has (rings_of (node_at places.old.items heads.old.items) base head) place }
-    ensures rings { AreRings (node_at places.new.items heads.new.items) base (length places.old.items) (length heads.old.items) (with_list (rings_of (node_at places.old.items heads.old.items) base) head (without place (rings_of (node_at places.old.items heads.old.items) base head))) }
-    ensures places { length places.new.items ≡ length places.old.items }
-    ensures heads { length heads.new.items ≡ length heads.old.items }
-    ensures tags { (k : ℕ) → k < base → (node_at places.new.items heads.new.items k).tag ≡ (node_at places.old.items heads.old.items k).tag }
+    ensures { IsRelisted places.old.items heads.old.items places.new.items heads.new.items head (without place (rings_of (node_at places.old.items heads.old.items) base head)) }
 {
     let count = node(places, heads, HEADS + head).tag;
     let link = node(places, heads, place);

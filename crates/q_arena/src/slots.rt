@@ -1,7 +1,7 @@
 ghost use Rattle.std.specs.Prelude.{◌≡◌, ◌≢◌, ◌⊎◌, ◌≤◌, ◌<◌, ◌+◌, ◌-◌, ◌∷◌, [], ℕ, length, slice_index_or, OnOk, OnErr, None, Some};
 ghost use Rattle.q_logic.specs.Literals.{Literal};
 ghost use Rattle.q_arena.specs.Rings.{Has, AreApart};
-ghost use Rattle.q_arena.specs.Layout.{top_of, slot_at, below, Order, AreMore};
+ghost use Rattle.q_arena.specs.Layout.{end_in, top_of, slot_at, below, Order, AreMore};
 ghost use Rattle.q_arena.specs.Gaps.{gap_past, gap_gone};
 ghost use Rattle.q_arena.specs.Seen.{piece};
 
@@ -35,13 +35,7 @@ pub fn end_of(slots: &Vec<Slot>, ids: &Ids) -> usize
     requires fits { top_of (slot_at slots.now.items) ids.now.used < 18446744073709551616 }
     ensures { result ≡ top_of (slot_at slots.now.items) ids.now.used }
 {
-    match ids.last() {
-        Some(last) => {
-            let slot = slots[last];
-            slot.start as usize + slot.len as usize
-        }
-        None => 0,
-    }
+    end_at(slots, ids.last())
 }
 
 /// The words from a place on.
@@ -76,9 +70,18 @@ pub fn end_below(slots: &Vec<Slot>, ids: &Ids, at: usize) -> usize
     requires fits { top_of (slot_at slots.now.items) (below at ids.now.used) < 18446744073709551616 }
     ensures { result ≡ top_of (slot_at slots.now.items) (below at ids.now.used) }
 {
-    match ids.before(at) {
-        Some(last) => {
-            let slot = slot_of(slots, last);
+    end_at(slots, ids.before(at))
+}
+
+// The end of a clause, 0 where there is none.
+fn end_at(slots: &Vec<Slot>, id: Option<usize>) -> usize
+    requires there { (i : ℕ) → id ≡ Some i → i < length slots.now.items }
+    requires fits { end_in (slot_at slots.now.items) id < 18446744073709551616 }
+    ensures { result ≡ end_in (slot_at slots.now.items) id }
+{
+    match id {
+        Some(id) => {
+            let slot = slots[id];
             slot.start as usize + slot.len as usize
         }
         None => 0,
@@ -127,22 +130,10 @@ pub fn gap_after_delete(
 ) -> Option<usize>
     ensures { result ≡ gap_gone (slot_at slots.now.items) gap at up }
 {
-    let slot = slot_of(slots, at);
     match gap {
-        None => { if slot.len == 0 { None } else { up } }
-        Some(next) => {
-            if next == at {
-                return up;
-            }
-            if slot.len == 0 {
-                return Some(next);
-            }
-            if slot.start < slot_of(slots, next).start {
-                up
-            } else {
-                Some(next)
-            }
-        }
+        Some(next) if next == at => up,
+        _ if slot_of(slots, at).len == 0 => gap,
+        _ => gap_after_drop(slots, gap, at, up),
     }
 }
 

@@ -1,11 +1,11 @@
 -- The clause of the literals before a place.
-use Rattle.std.proofs.Common.{◌≡◌, ◌≤◌, ◌<◌, ◌+◌, ℕ, zero, suc, List, [], ◌∷◌, slice_get, Some, take, length, Bool, true, false, ◌==◌, cond, inl, inr, arith}
-use Rattle.std.specs.Prelude.{nat_lt}
-use Rattle.q_logic.specs.Literals.{Literal, pack}
-use Rattle.q_logic.specs.Formulas.{Clause, Prefix, IsIn}
-use Rattle.q_logic.specs.Clauses.{insert, clause_of}
+use Rattle.std.proofs.Common.{◌≡◌, ◌≤◌, ◌<◌, ℕ, zero, suc, List, [], ◌∷◌, slice_get, Some, take, length, inl, inr, arith}
+use Rattle.q_logic.specs.Literals.{Literal}
+use Rattle.q_logic.specs.Formulas.{Prefix, IsIn}
+use Rattle.q_logic.specs.Clauses.{clause_of}
 use Rattle.q_logic.specs.Sets.{IsSubset}
 use Rattle.q_logic.specs.Steps.{Within}
+use Rattle.q_logic.proofs.Sets.{insert-length}
 use Rattle.q_logic.proofs.ClauseSets.{IsIn-clause_of, clause_of-IsIn}
 use Rattle.q_blocked.specs.Plans.{front}
 
@@ -32,18 +32,9 @@ take-short [] (suc n) = omega arith
 take-short (x ∷ xs) zero = omega arith
 take-short (x ∷ xs) (suc n) = let i = take-short xs n in omega arith
 
-insert-short : (l : Literal) (C : Clause) → length (insert l C) ≤ length C + 1
-insert-short l [] = omega arith
-insert-short l (k ∷ C) = go (nat_lt (pack l) (pack k)) (pack l == pack k) (insert-short l C)
-  where
-    go : (a b : Bool) → length (insert l C) ≤ length C + 1 → length (cond a (l ∷ k ∷ C) (cond b (k ∷ C) (k ∷ insert l C))) ≤ length (k ∷ C) + 1
-    go true b i = omega arith
-    go false true i = omega arith
-    go false false i = omega arith
-
 clause_of-short : (ls : List Literal) → length (clause_of ls) ≤ length ls
 clause_of-short [] = omega arith
-clause_of-short (l ∷ ls) = let i = clause_of-short ls in let j = insert-short l (clause_of ls) in omega arith
+clause_of-short (l ∷ ls) = let i = clause_of-short ls in let j = insert-length l (clause_of ls) in omega arith
 
 pub front-short : (S : List Literal) (n : ℕ) → length (front S n) ≤ n
 front-short S n = let i = clause_of-short (take n S) in let j = take-short S n in omega arith

@@ -9,22 +9,23 @@ use Rattle.q_logic.specs.Steps.{Within}
 use Rattle.q_logic.specs.Numbered.{Slots, others}
 use Rattle.q_logic.specs.Covering.{Covered, Grows, Ends, Covers}
 use Rattle.q_logic.proofs.CoverRun.{stuck-covers_none, in_or_not}
-use Rattle.q_logic.proofs.Clauses.{IsIn-append, IsIn-append_left}
+use Rattle.q_logic.proofs.ClauseLemmas.{IsIn-append, IsIn-append_left}
 use Rattle.q_logic.proofs.Implying.{IsIn-append_right}
 use Rattle.q_logic.proofs.Slots.{live-slot}
 use Rattle.q_logic.proofs.CoverOrder.{covers-more}
+use Rattle.q_logic.proofs.Implying.{negation-negation}
 use Rattle.q_kernel.specs.Kernels.{Seen, slots, IsSound}
-use Rattle.q_rule.proofs.Members.{taken-cases, taken-all}
+use Rattle.q_logic.proofs.Members.{taken-cases, taken-all}
 use Rattle.q_blocked.specs.declared.growth.Growth.{Growth}
 use Rattle.q_blocked.specs.declared.plan.Stage.{Stage}
 use Rattle.q_blocked.specs.Units.{HasUnits}
 use Rattle.q_blocked.specs.Walks.{IsBeside, IsCalm, IsCalmAt, Gives}
 use Rattle.q_blocked.specs.Growths.{IsGrowing, IsPushed, IsPassive, AreUnitsCalm, Growing, HasSpread}
-use Rattle.q_blocked.proofs.Passing.{others-find}
+use Rattle.q_rule.proofs.Slots.{others-find}
 use Rattle.q_blocked.proofs.Members.{place-get}
-use Rattle.q_blocked.proofs.Hiding.{other_or, same_or, twice}
+use Rattle.q_blocked.proofs.Hiding.{other_or, same_or}
 use Rattle.q_blocked.proofs.Fronts.{take-in}
-use Rattle.q_blocked.proofs.Reaching.{reached-begun, reached-hidden, reached-settled, reached-covered}
+use Rattle.q_blocked.proofs.Reaching.{reached-begun, reached-hidden, reached-staged, reached-covered}
 
 -- S is stuck where all its literals have been looked at
 pub stuck : (P : Prefix) (X : Matrix) (S : Clause) → (IsTautology S → ⊥) → AreUnitsCalm X S → ((D : Clause) → IsIn D X → (k : Literal) → IsIn k S → IsIn k D → IsCalm S D) → ((k : Literal) → IsIn k S → IsPassive P X S k) → Covers P X S → ⊥
@@ -47,7 +48,7 @@ opposed S K n f (k, a, b) = elim (IsIn-append k S K a) [
   | inr x ↦ f k x b
   | inl x ↦ elim (IsIn-append (negation k) S K b) [
     | inl y ↦ n (k, x, y)
-    | inr y ↦ f (negation k) y (subst (λ (z : Literal). IsIn z (S ++ K)) (sym (twice k)) a)
+    | inr y ↦ f (negation k) y (subst (λ (z : Literal). IsIn z (S ++ K)) (sym (negation-negation k)) a)
   ]
 ]
 
@@ -62,7 +63,7 @@ calm-less H G S D w f new m h = f new m (λ j i d. w j (h j i d))
 pub calm-given : (S D : Clause) (new : Literal) → Gives S D new → (IsIn (negation new) (S ++ new ∷ []) → ⊥) → IsCalmAt S (S ++ new ∷ []) D
 calm-given S D new g n k m h = elim (same_or k new) [
   | inl e ↦ IsIn-append_right k S (new ∷ []) (inl e)
-  | inr d ↦ absurd (n (IsIn-append_left (negation new) S (new ∷ []) (h (negation new) g.negated (λ e. d (sym (twice k) ∙ (ap negation (sym e) ∙ twice new))))))
+  | inr d ↦ absurd (n (IsIn-append_left (negation new) S (new ∷ []) (h (negation new) g.negated (λ e. d (sym (negation-negation k) ∙ (ap negation (sym e) ∙ negation-negation new))))))
 ]
 
 -- A hidden literal comes.
@@ -160,8 +161,8 @@ units-calm N c ids S h f D m s = let r = others-find N c D m in f r.0 (h r.0 D r
 
 -- The clause of the set comes, or covered literals do.
 module _ (P : Prefix) (X : Matrix) (C S : Clause) (ss : List Stage) (base worked : ℕ) (g : IsGrowing P X C S ss base worked) where
-  pub growing-settled : IsGrowing P X C S (ss ++ record { to = length S; on = None } ∷ []) (length S) worked
-  growing-settled = record { reached = reached-settled P X C S ss base g.reached; consistent = g.consistent; walked = g.walked; calm = g.calm }
+  pub growing-staged : IsGrowing P X C S (ss ++ record { to = length S; on = None } ∷ []) (length S) worked
+  growing-staged = record { reached = reached-staged P X C S ss base g.reached; consistent = g.consistent; walked = g.walked; calm = g.calm }
 
   pub growing-covered : (K : Clause) (h : Covered P X S (S ++ K)) → IsIn h.on (take base S) → ((D : Clause) → IsIn D X → Within P D) → ((k : Literal) → IsIn k K → IsIn (negation k) (S ++ K) → ⊥) → IsGrowing P X C (S ++ K) (ss ++ record { to = length (S ++ K); on = Some h.on } ∷ []) (length (S ++ K)) worked
   growing-covered K h m closed n = record {

@@ -1,26 +1,19 @@
 -- Hidden literals of one clause.
-use Rattle.std.proofs.Common.{◌≡◌, ◌≢◌, ◌⊎◌, Bool, true, false, not, [], ◌∷◌, ◌++◌, inl, inr, refl, sym, subst}
+use Rattle.std.proofs.Common.{◌≡◌, ◌≢◌, ◌⊎◌, [], ◌∷◌, ◌++◌, inl, inr, refl, sym, subst}
 use Rattle.q_logic.specs.Literals.{Literal, negation}
 use Rattle.q_logic.specs.Formulas.{Clause, Matrix, IsIn}
 use Rattle.q_logic.specs.Sets.{IsSubset, IsTautology}
 use Rattle.q_logic.specs.Covering.{Hidden}
 use Rattle.q_logic.proofs.CoverRun.{in_or_not}
-use Rattle.q_logic.proofs.Clauses.{IsIn-append, IsIn-append_left}
-use Rattle.q_logic.proofs.Implying.{IsIn-append_right}
+use Rattle.q_logic.proofs.ClauseLemmas.{IsIn-append, IsIn-append_left}
+use Rattle.q_logic.proofs.Implying.{IsIn-append_right, negation-negation}
 use Rattle.q_blocked.specs.Walks.{IsCalm, Gives}
-
-not-not : (b : Bool) → not (not b) ≡ b
-not-not true = refl
-not-not false = refl
-
-pub twice : (k : Literal) → negation (negation k) ≡ k
-twice k = rw (not-not k.negative) refl
 
 -- by its only literal outside
 pub gives-only : (S D : Clause) (k : Literal) → IsIn k D → ((j : Literal) → IsIn j D → j ≢ k → IsIn j S) → (IsIn (negation k) S → ⊥) → Gives S D (negation k)
 gives-only S D k m h n = record {
-  negated = subst (λ (x : Literal). IsIn x D) (sym (twice k)) m;
-  others_in = λ j i d. h j i (λ e. d (subst (λ (x : Literal). j ≡ x) (sym (twice k)) e));
+  negated = subst (λ (x : Literal). IsIn x D) (sym (negation-negation k)) m;
+  others_in = λ j i d. h j i (λ e. d (subst (λ (x : Literal). j ≡ x) (sym (negation-negation k)) e));
   is_new = n;
 }
 
@@ -45,7 +38,7 @@ pub calm-there : (S D : Clause) (k : Literal) → IsIn k D → (IsIn k S → ⊥
 calm-there S D k m n t new i h =
     let e = only S D k new m n h in
     let r : IsIn (negation (negation new)) S = subst (λ (x : Literal). IsIn (negation x) S) e t in
-    subst (λ (x : Literal). IsIn x S) (twice new) r
+    subst (λ (x : Literal). IsIn x S) (negation-negation new) r
 
 -- a literal whose negation is in a set that holds no literal beside its negation
 pub calm-opposed : (S D : Clause) (k : Literal) → IsIn k D → (IsTautology S → ⊥) → IsIn (negation k) S → IsCalm S D

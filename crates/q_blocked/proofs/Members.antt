@@ -1,16 +1,10 @@
 -- Beginnings of a list, and members by places.
-use Rattle.std.proofs.Common.{◌≡◌, ℕ, zero, suc, ◌+◌, ◌<◌, List, [], ◌∷◌, ◌++◌, take, slice_get, Some, get_or, length, inl, inr, refl, sym, ap, arith}
+use Rattle.std.proofs.Common.{◌≡◌, ℕ, zero, suc, ◌+◌, ◌<◌, List, [], ◌∷◌, ◌++◌, take, slice_get, Some, get_or, length, refl, sym, ap, arith}
 use Rattle.std.proofs.lemmas.List.{take_more}
-use Rattle.q_logic.specs.Formulas.{IsIn}
 
 module _ {X : Type 0} where
   pub taken : (xs : List X) (n : ℕ) (y : X) → n < length xs → y ≡ get_or xs n y → take (n + 1) xs ≡ take n xs ++ y ∷ []
   taken xs n y h e = let t = take_more xs n y h in rw (t, ← e) refl
-
-  pub place-member : (xs : List X) (j : ℕ) (k : X) → slice_get xs j ≡ Some k → IsIn k xs
-  place-member [] j k e = absurd (cc)
-  place-member (x ∷ xs) zero k e = inl (cc)
-  place-member (x ∷ xs) (suc j) k e = inr (place-member xs j k e)
 
   pub get-place : (xs : List X) (j : ℕ) (k : X) → j < length xs → k ≡ get_or xs j k → slice_get xs j ≡ Some k
   get-place [] j k h e = absurd (omega arith)

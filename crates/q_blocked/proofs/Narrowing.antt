@@ -8,13 +8,14 @@ use Rattle.q_logic.specs.Numbered.{Slots, slot, others}
 use Rattle.q_logic.specs.Blocking.{Clashes}
 use Rattle.q_logic.specs.Covering.{InEach, Covered}
 use Rattle.q_logic.proofs.Slots.{others-slot}
-use Rattle.q_logic.proofs.Clauses.{IsIn-outer, IsIn-append, IsIn-append_left}
+use Rattle.q_logic.proofs.ClauseLemmas.{IsIn-outer, IsIn-append, IsIn-append_left}
 use Rattle.q_logic.proofs.Implying.{IsIn-append_right}
 use Rattle.q_logic.proofs.Sets.{IsIn-outer_in}
 use Rattle.q_logic.proofs.CoverRun.{in_or_not}
 use Rattle.q_arena.specs.Rings.{Has}
 use Rattle.q_blocked.specs.Walks.{IsOpen, IsOpenAt, IsStuck, IsCutBy, IsNarrowed, IsLooked}
-use Rattle.q_blocked.proofs.Passing.{HasPassed, passed-begun, passed-one, passed-map, passed-all, one}
+use Rattle.q_rule.proofs.Slots.{slot-one}
+use Rattle.q_blocked.proofs.Passing.{HasPassed, passed-begun, passed-one, passed-map, passed-all}
 
 -- what the literals that are found so far keep to of a clause
 abbrev pub IsMet : Prefix → Literal → Clause → List Literal → Clause → Type 0
@@ -41,7 +42,7 @@ cut-by P N c owner places p l S was now old new h s false e = record {
   none = λ q. absurd (true≢false (sym h.opened ∙ q));
   some = λ q. (h.by, others-slot N (owner p) c h.by h.beside.0 h.beside.1, h.holds, h.clear);
   each = λ q. passed-one N c owner places p (λ D. IsMet P l S new D)
-      (λ D b. inr (λ k m. let r = (h.first e k).0 m in subst (λ (x : Clause). IsIn k (outer P (negation l) x)) (one N (owner p) h.by D h.beside.1 b.1) (IsIn-outer_in P (negation l) h.by k r.0 r.1)))
+      (λ D b. inr (λ k m. let r = (h.first e k).0 m in subst (λ (x : Clause). IsIn k (outer P (negation l) x)) (slot-one N (owner p) h.by D h.beside.1 b.1) (IsIn-outer_in P (negation l) h.by k r.0 r.1)))
       (passed-map N c owner places (λ D. Clashes P l S D) (λ D. IsMet P l S new D) (λ D m. inl m) (s.none e));
   kept = λ q k m. let r = (h.first e k).0 m in (r.1, r.2);
   has = λ q k i n. let r = IsIn-outer P (negation l) h.by k (i h.by (others-slot N (owner p) c h.by h.beside.0 h.beside.1) h.holds h.clear) in (h.first e k).1 (r.0, r.1, n);
@@ -50,7 +51,7 @@ cut-by P N c owner places p l S was now old new h s true e = record {
   none = λ q. absurd (true≢false (sym h.opened ∙ q));
   some = λ q. s.some e;
   each = λ q. passed-one N c owner places p (λ D. IsMet P l S new D)
-      (λ D b. inr (λ k m. let r = (h.next e k).0 m in subst (λ (x : Clause). IsIn k (outer P (negation l) x)) (one N (owner p) h.by D h.beside.1 b.1) (IsIn-outer_in P (negation l) h.by k r.1 (s.kept e k r.0).0)))
+      (λ D b. inr (λ k m. let r = (h.next e k).0 m in subst (λ (x : Clause). IsIn k (outer P (negation l) x)) (slot-one N (owner p) h.by D h.beside.1 b.1) (IsIn-outer_in P (negation l) h.by k r.1 (s.kept e k r.0).0)))
       (passed-map N c owner places (λ D. IsMet P l S old D) (λ D. IsMet P l S new D) (λ D m. elim m [ inl x ↦ inl x | inr f ↦ inr (λ k i. f k ((h.next e k).0 i).0) ]) (s.each e));
   kept = λ q k m. s.kept e k ((h.next e k).0 m).0;
   has = λ q k i n. let r = IsIn-outer P (negation l) h.by k (i h.by (others-slot N (owner p) c h.by h.beside.0 h.beside.1) h.holds h.clear) in (h.next e k).1 (s.has e k i n, r.0);

@@ -5,7 +5,8 @@ use Rattle.q_logic.specs.Formulas.{Clause, IsIn}
 use Rattle.q_logic.specs.Numbered.{others}
 use Rattle.q_logic.specs.Covering.{Covers}
 use Rattle.q_kernel.specs.Kernels.{Seen, slots}
-use Rattle.q_rule.proofs.Members.{taken-cases, taken-all}
+use Rattle.q_logic.proofs.Members.{taken-cases}
+use Rattle.q_arena.proofs.Numbers.{some-same}
 use Rattle.q_blocked.specs.declared.growth.Growth.{Growth}
 use Rattle.q_blocked.specs.declared.outcome.Outcome.{Outcome}
 use Rattle.q_blocked.specs.declared.outcome.Outcome.TheVariants.{Ended, Grown, Calm}
@@ -36,33 +37,11 @@ passing-more k c old now next place grew more l Calm h e x f (g, s, w, p) t = re
       ];
 }
 
-pub passing-done : (k : Seen) (c : ℕ) (old now : Growth) (place : ℕ) → length now.set ≤ place → IsPassing k c old now place false → HasLooked k c (λ l. IsIn l old.set) old now Calm
-passing-done k c old now place h t = (
-  t.growing,
-  (t.same refl).0,
-  (t.same refl).1,
-  λ l m. t.passive refl l (subst (λ (S : Clause). IsIn l S) (sym (taken-all old.set place (subst (λ (S : Clause). length S ≤ place) (t.same refl).0 h))) m),
-)
-
 -- What an outcome tells.
-pub looked-ended : (k : Seen) (c : ℕ) (Q : Literal → Type 0) (old new : Growth) (o : Outcome) → is_ended o ≡ true → HasLooked k c Q old new o → Covered k c new
-looked-ended k c Q old new Ended e h = h
-looked-ended k c Q old new Grown e h = absurd (true≢false (sym e))
-looked-ended k c Q old new Calm e h = absurd (true≢false (sym e))
-
-pub looked-turned : (k : Seen) (c : ℕ) (Q : Literal → Type 0) (old new : Growth) (o : Outcome) → (is_ended o ≡ true) ⊎ (is_grown o ≡ true) → HasLooked k c Q old new o → HasTurned k c new o
-looked-turned k c Q old new Ended e h = h
-looked-turned k c Q old new Grown e h = h
-looked-turned k c Q old new Calm (inl e) h = absurd (true≢false (sym e))
-looked-turned k c Q old new Calm (inr e) h = absurd (true≢false (sym e))
-
 pub looked-calm : (k : Seen) (c : ℕ) (Q : Literal → Type 0) (old new : Growth) (o : Outcome) → is_ended o ≡ false → is_grown o ≡ false → HasLooked k c Q old new o → HasLooked k c Q old new Calm
 looked-calm k c Q old new Ended e f h = absurd (true≢false e)
 looked-calm k c Q old new Grown e f h = absurd (true≢false f)
 looked-calm k c Q old new Calm e f h = h
-
-same_clause : (C D : Clause) → Some C ≡ Some D → C ≡ D
-same_clause C D e = cc
 
 -- all lists are walked, all literals passive: what the clauses of one literal give is all that is left
 pub units-turned : (k : Seen) (c : ℕ) (old now new : Growth) (o : Outcome) → length old.set ≤ old.worked → HasLooked k c (λ l. IsIn l old.set) old now Calm → HasUsedUnits k c now new o → HasTurned k c new o
@@ -70,7 +49,7 @@ units-turned k c old now new Ended w h u = u
 units-turned k c old now new Grown w h u = u
 units-turned k c old now new Calm w h u =
     let p : Growing k c now × (now.set ≡ old.set) × (now.worked ≡ old.worked) × ((l : Literal) → IsIn l old.set → IsPassive k.prefix (others c (slots k)) old.set l) = h in
-    λ D f. subst (λ (E : Clause). Covers k.prefix (others c (slots k)) E → ⊥) (same_clause p.0.0 D (sym p.0.1 ∙ f))
+    λ D f. subst (λ (E : Clause). Covers k.prefix (others c (slots k)) E → ⊥) (some-same p.0.0 D (sym p.0.1 ∙ f))
     (growing-stuck k c p.0.0 now.set now.plan.stages.items now.base now.worked p.0.2
     (subst (λ (n : ℕ). length now.set ≤ n) (sym p.2) (subst (λ (S : Clause). length S ≤ old.worked) (sym p.1) w))
     u.1
@@ -80,11 +59,6 @@ pub turned-ended : (k : Seen) (c : ℕ) (new : Growth) (o : Outcome) → is_ende
 turned-ended k c new Ended e h = h
 turned-ended k c new Grown e h = absurd (true≢false (sym e))
 turned-ended k c new Calm e h = absurd (true≢false (sym e))
-
-pub turned-grown : (k : Seen) (c : ℕ) (new : Growth) (o : Outcome) → is_grown o ≡ true → HasTurned k c new o → Growing k c new
-turned-grown k c new Ended e h = absurd (true≢false (sym e))
-turned-grown k c new Grown e h = h
-turned-grown k c new Calm e h = absurd (true≢false (sym e))
 
 pub turned-calm : (k : Seen) (c : ℕ) (new : Growth) (o : Outcome) → is_ended o ≡ false → is_grown o ≡ false → HasTurned k c new o → HasDecided k c new false
 turned-calm k c new Ended e f h = absurd (true≢false e)

@@ -1,23 +1,12 @@
 -- Clauses that a walk along the list of a literal has passed.
-use Rattle.std.proofs.Common.{◌≡◌, ◌≢◌, ℕ, zero, suc, None, List, [], ◌∷◌, ◌++◌, Some, sym, ◌∙◌, ap, subst, inl, inr, arith}
+use Rattle.std.proofs.Common.{◌≡◌, ℕ, List, [], ◌∷◌, ◌++◌, Some, sym, subst, inl, inr}
 use Rattle.q_logic.specs.Literals.{Literal}
 use Rattle.q_logic.specs.Formulas.{Clause, IsIn}
 use Rattle.q_logic.specs.Numbered.{Slots, slot, others}
 use Rattle.q_arena.specs.Rings.{Has}
+use Rattle.q_rule.proofs.Slots.{others-find}
 use Rattle.q_blocked.specs.Walks.{IsBeside}
-use Rattle.q_kernel.proofs.Slotting.{IsIn-slot}
 use Rattle.q_kernel.proofs.Following.{Has-last}
-
--- A clause beside that of a number stands at another number.
-pub others-find : (N : Slots) (c : ℕ) (E : Clause) → IsIn E (others c N) → (d : ℕ) × (d ≢ c) × (slot N d ≡ Some E)
-others-find [] c E m = absurd m
-others-find (o ∷ N) zero E m = let r = IsIn-slot N E m in (suc r.0, (λ e. omega arith), r.1)
-others-find (None ∷ N) (suc c) E m = let r = others-find N c E m in (suc r.0, (λ e. r.1 (omega arith)), r.2)
-others-find (Some D ∷ N) (suc c) E (inl e) = (0, (λ z. omega arith), ap Some (sym e))
-others-find (Some D ∷ N) (suc c) E (inr m) = let r = others-find N c E m in (suc r.0, (λ e. r.1 (omega arith)), r.2)
-
-pub one : (N : Slots) (n : ℕ) (C D : Clause) → slot N n ≡ Some C → slot N n ≡ Some D → C ≡ D
-one N n C D e f = let g : Some C ≡ Some D = sym e ∙ f in cc
 
 -- each clause that owns a place, but c, is so
 pub record HasPassed (N : Slots) (c : ℕ) (owner : ℕ → ℕ) (places : List ℕ) (Q : Clause → Type 0) : Type 0 where

@@ -1,5 +1,5 @@
 -- What a decision tells: whether the target fits, and its plan.
-use Rattle.std.proofs.Common.{◌≡◌, ◌∙◌, ◌↔◌, Bool, true, false, ℕ, Some, Option, List, length, refl, sym, ap, subst, true≢false, IsTrue}
+use Rattle.std.proofs.Common.{◌≡◌, ◌∙◌, ◌↔◌, Bool, true, false, ℕ, Option, List, length, refl, sym, ap, subst, true≢false, IsTrue}
 use Rattle.q_logic.specs.declared.rule_bounds.Bounds.{Bounds}
 use Rattle.q_logic.specs.Literals.{Literal, IsBelow}
 use Rattle.q_logic.specs.Formulas.{Clause}
@@ -17,9 +17,6 @@ use Rattle.q_blocked.specs.declared.plan.Plan.{Plan}
 use Rattle.q_blocked.specs.declared.plan.Stage.{Stage}
 use Rattle.q_blocked.specs.Plans.{front, MayGo, IsWay, IsPlanFor}
 use Rattle.q_blocked.specs.Growths.{Covered, HasDecided}
-
-same : (C D : Clause) → Some C ≡ Some D → C ≡ D
-same C D e = cc
 
 pub decided-fits : (k : Seen) (c : ℕ) (g : Growth) (yes : Bool) → HasDecided k c g yes → (B : Bounds) → IsTrue yes ↔ Fits B k.prefix (slots k) (cover c)
 decided-fits k c g true h B = ((λ t. (h.0, h.1, h.2.covers)), (λ f. refl))

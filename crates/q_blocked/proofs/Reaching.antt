@@ -10,10 +10,10 @@ use Rattle.q_logic.specs.Sets.{IsSubset, IsTautology}
 use Rattle.q_logic.specs.Steps.{Within}
 use Rattle.q_logic.specs.Blocking.{Clashes, AllClash}
 use Rattle.q_logic.specs.Covering.{Covered, InEach, Covers}
-use Rattle.q_logic.proofs.Clauses.{literal_eq-itself, IsIn-append, IsIn-append_left, IsIn-outer}
+use Rattle.q_logic.proofs.ClauseLemmas.{literal_eq-itself, IsIn-append, IsIn-append_left, IsIn-outer}
 use Rattle.q_logic.proofs.Implying.{IsIn-append_right, implied-longer, implied-subsumed, implied-tautology, implied-hidden_new}
 use Rattle.q_logic.proofs.CoverRun.{clash_or_not}
-use Rattle.q_rule.proofs.Members.{taken-all}
+use Rattle.q_logic.proofs.Members.{taken-all}
 use Rattle.q_blocked.specs.declared.plan.Stage.{Stage}
 use Rattle.q_blocked.specs.Plans.{front, MayGo, IsWay}
 use Rattle.q_blocked.specs.Growths.{Falls, IsReached, IsCovered}
@@ -99,8 +99,8 @@ module _ (P : Prefix) (X : Matrix) (C S : Clause) (ss : List Stage) (base : ℕ)
   }
 
   -- the clause of the set comes
-  pub reached-settled : IsReached P X C S (ss ++ record { to = length S; on = None } ∷ []) (length S)
-  reached-settled = record {
+  pub reached-staged : IsReached P X C S (ss ++ record { to = length S; on = None } ∷ []) (length S)
+  reached-staged = record {
     back = r.back;
     begins = r.begins;
     within = r.within;

@@ -1,16 +1,16 @@
 -- A clause comes in the place of a smaller one, and a clause goes.
-use Rattle.std.proofs.Common.{◌≡◌, ◌≢◌, ◌≤◌, ◌+◌, ◌*◌, ◌∙◌, ℕ, None, inl, inr, arith, refl, sym, subst, Some, Option, length, ◌∷◌, ◌++◌}
-use Rattle.q_arena.proofs.Numbers.{ℕ-cases}
-use Rattle.q_logic.specs.Literals.{Literal, negation}
-use Rattle.q_logic.specs.Formulas.{Clause, Matrix, Prefix, IsIn}
+use Rattle.std.proofs.Common.{◌≡◌, ◌≢◌, ◌≤◌, ◌+◌, ◌*◌, ◌∙◌, ℕ, None, inl, inr, arith, refl, sym, subst, Some, Option, length, ◌∷◌}
+use Rattle.q_arena.proofs.Numbers.{ℕ-cases, some-same}
+use Rattle.q_logic.specs.Literals.{Literal}
+use Rattle.q_logic.specs.Formulas.{Clause, Prefix, IsIn}
 use Rattle.q_logic.specs.Propagation.{Implied}
-use Rattle.q_logic.specs.Pivots.{outer, ExistsPivot}
+use Rattle.q_logic.specs.Pivots.{ExistsPivot}
 use Rattle.q_logic.specs.Steps.{add, delete, one_less}
 use Rattle.q_logic.specs.StepForms.{first_of}
 use Rattle.q_logic.specs.Numbered.{Slots, slot, set_slot, live, others}
 use Rattle.q_logic.proofs.Slots.{live-slot, others-slot}
 use Rattle.q_logic.proofs.Implying.{implied-subsumed, implied-more_clauses}
-use Rattle.q_logic.proofs.Reaching.{IsIn-alike, alike-sym}
+use Rattle.q_logic.proofs.Reaching.{IsIn-alike, alike-sym, exists_pivot-fewer}
 use Rattle.q_logic.proofs.Looping.{live-without}
 use Rattle.q_log.specs.Texts.{step_text}
 use Rattle.q_kernel.specs.Kernels.{Seen, slots, formula_in, IsSound}
@@ -20,7 +20,7 @@ use Rattle.q_kernel.proofs.Leading.{led-through}
 use Rattle.q_kernel.proofs.Costs.{AreSmall, first-first, cost-add, within-small}
 use Rattle.q_rule.proofs.Steps.{clause-in, clause-within, delete-cost, implied-cost}
 use Rattle.q_blocked.specs.Plans.{MayGo, MayReplace, IsReplaced, MayLeave, HasLeft}
-use Rattle.q_blocked.proofs.Passing.{others-find}
+use Rattle.q_rule.proofs.Slots.{others-find}
 
 -- the clauses beside the smaller one, once the larger one T has come under the id e
 module _ (N : Slots) (c e : ℕ) (S T : Clause) (free : slot N e ≡ None) (there : slot N c ≡ Some S) (M : Slots) (came : M ≡ set_slot e (Some T) N) (new : slot M e ≡ Some T) where
@@ -46,13 +46,6 @@ module _ (N : Slots) (c e : ℕ) (S T : Clause) (free : slot N e ≡ None) (ther
     | inl q ↦ others-slot M e c D (λ z. apart (sym z)) (subst (λ (x : Clause). slot M e ≡ Some x) (sym q) new)
     | inr i ↦ let r = others-find N c D i in others-slot M r.0 c D r.1 (stays r.0 (λ q. let z : None ≡ Some D = sym free ∙ subst (λ (x : ℕ). slot N x ≡ Some D) q r.2 in absurd (cc)) ∙ r.2)
   ]
-
-pivot-alike : (P : Prefix) (X Y : Matrix) (S : Clause) (l : Literal) → ((D : Clause) → IsIn D X → IsIn D Y) → ((D : Clause) → IsIn D Y → IsIn D X) → ExistsPivot P X S l → ExistsPivot P Y S l
-pivot-alike P X Y S l f g h = record {
-  existential_pivot = h.existential_pivot;
-  in_clause = h.in_clause;
-  implied = λ D m n. implied-more_clauses X Y (S ++ outer P (negation l) D) f (h.implied D (g D m) n);
-}
 
 enough : (a b c : ℕ) → a ≤ b → b ≤ c → a ≤ c
 enough a b c h i = omega arith
@@ -82,13 +75,10 @@ module _ (k : Seen) (c : ℕ) (C : Clause) (s : IsSound k) (there : slot (slots 
     there = there;
     first = p.in_clause;
     step = record {
-      valid = (clause-within k c C s there, clause-in k c C s there, inr (l, refl, pivot-alike k.prefix (others c (slots k)) (one_less C (live (slots k))) C l other-left left-other p));
+      valid = (clause-within k c C s there, clause-in k c C s there, inr (l, refl, exists_pivot-fewer k.prefix (others c (slots k)) (one_less C (live (slots k))) C l other-left left-other p));
       bytes = enough (length (step_text (delete (Some l) C))) (16 * (length C + 1)) k.spare_bytes (delete-cost k c C s there l p.in_clause) b;
     };
   }
-
-same : (C D : Clause) → Some C ≡ Some D → C ≡ D
-same C D e = cc
 
 pub left-by : (old new : Seen) (c : ℕ) (p : Clause → Option Literal) (C : Clause) → slot (slots old) c ≡ Some C → length (step_text (delete (p C) C)) ≤ 16 * (length C + 1) → IsDeleted old new c p → HasLeft old new c
 left-by old new c p C there cost d = record {
@@ -96,11 +86,11 @@ left-by old new c p C there cost d = record {
   led = d.logged.led;
   prefix = d.prefix;
   room = d.room;
-  bytes = λ S e. total S (same S C (sym e ∙ there));
+  bytes = λ S e. total S (some-same S C (sym e ∙ there));
 }
   where
     is : d.clause ≡ C
-    is = same d.clause C (sym d.was ∙ there)
+    is = some-same d.clause C (sym d.was ∙ there)
 
     count : (a b cost n : ℕ) → a ≡ b + cost → cost ≤ 16 * (n + 1) → a ≤ b + 16 * (n + 1)
     count a b cost n e h = omega arith
@@ -141,7 +131,7 @@ module _ (k m : Seen) (c e : ℕ) (T : Clause) (on : Option Literal) (s : IsSoun
 
   goes : (o : Option Literal) → MayGo k.prefix (T ∷ others c (slots k)) h.smaller o → MayGo m.prefix (others c (slots m)) h.smaller o
   goes None i = implied-more_clauses (T ∷ others c (slots k)) (others c (slots m)) h.smaller left-has i
-  goes (Some l) p = subst (λ (P : Prefix). ExistsPivot P (others c (slots m)) h.smaller l) (sym a.prefix) (pivot-alike k.prefix (T ∷ others c (slots k)) (others c (slots m)) h.smaller l left-has left-is p)
+  goes (Some l) p = subst (λ (P : Prefix). ExistsPivot P (others c (slots m)) h.smaller l) (sym a.prefix) (exists_pivot-fewer k.prefix (T ∷ others c (slots k)) (others c (slots m)) h.smaller l left-has left-is p)
 
   left-over : (s t b left cost : ℕ) → 16 * (t + 1) + 16 * (s + 1) ≤ b → b ≡ left + cost → cost ≤ 16 * (t + 1) → 16 * (s + 1) ≤ left
   left-over s t b left cost h e f = omega arith
@@ -163,7 +153,7 @@ module _ (k m : Seen) (c e : ℕ) (T : Clause) (on : Option Literal) (s : IsSoun
     prefix = d.prefix ∙ a.prefix;
     words = let x = a.words in let y = d.room.words in omega arith;
     ids = let x = a.ids in let y = d.room.ids in omega arith;
-    bytes = λ S q. let z : S ≡ h.smaller = same S h.smaller (sym q ∙ h.there) in
+    bytes = λ S q. let z : S ≡ h.smaller = some-same S h.smaller (sym q ∙ h.there) in
         total (length T) (length S) k.spare_bytes m.spare_bytes n.spare_bytes (length (step_text (add (first_of T) T))) a.logged.bytes came-cost
         (d.bytes S (subst (λ (x : Clause). slot (slots m) c ≡ Some x) (sym z) (smaller-there (slots k) c e h.smaller T a.free h.there (slots m) a.change a.there)));
   }

@@ -75,9 +75,6 @@ module _ (old now : Seen) (c id : ℕ) (p : Plan) (i : ℕ) (s : Stage) (more : 
   step : (h.from ≤ s.to) × (s.to ≤ length S) × MayGo old.prefix (front S s.to ∷ X) (front S h.from) s.on × IsWay old.prefix X S s.to rest h.to
   step = subst (λ (ss : List Stage). IsWay old.prefix X S h.from ss h.to) split h.way
 
-  pub stage-near : s.to ≤ length S
-  stage-near = step.1
-
   some-words : s.to + words_of rest ≤ now.arena.spare_words
   some-words = subst (λ (ss : List Stage). words_of ss ≤ now.arena.spare_words) split h.words
 

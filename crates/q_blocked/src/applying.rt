@@ -30,7 +30,7 @@ pub fn fits(kernel: &Kernel, search: &mut Search, target: &Target) -> Result<boo
         }
         Target::Cover { c } => {
             search.units.forget();
-            let yes = fits_cover(kernel, &mut search.growth, &mut search.units, c)?;
+            let yes = fits_cover(kernel, search, c)?;
             Ok(yes)
         }
     }

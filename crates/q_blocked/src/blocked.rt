@@ -36,8 +36,8 @@ ghost use Rattle.q_rule.specs.Becoming.{CanChange, IsChanged};
 use crate::clashing::{all_clash, fill};
 use q_arena::ClauseId;
 use q_kernel::Kernel;
-use q_logic::{Lit, NoMemory};
-use q_rule::{Queue, holds, is_existential, is_universal};
+use q_logic::{Lit, NoMemory, holds};
+use q_rule::{Queue, is_existential, is_universal};
 
 /// Whether a clause is blocked on an existential literal.
 pub fn fits_blocked(kernel: &Kernel, set: &mut Queue, c: ClauseId, l: Lit) -> Result<bool, NoMemory>

@@ -1,23 +1,26 @@
-ghost use Rattle.std.specs.Prelude.{◌≡◌, ◌↔◌, ◌≤◌, Some, None, OnOk, OnErr, IfOk, IsTrue, length, vec_capacity};
-ghost use Rattle.q_logic.specs.Targets.{place};
-ghost use Rattle.q_kernel.specs.declared.taken.Taken.TheVariants.{Yes, No};
+//! The calls of this crate. A target is tested once; where it applies, room is reserved for its steps and the sweep after
+//! them, and then no step can fail.
+ghost use Rattle.std.specs.Prelude.{◌≤◌, OnOk, OnErr, IfOk, length, vec_capacity};
 ghost use Rattle.q_logic.specs.Limits.{standard};
 ghost use Rattle.q_logic.specs.InLimits.{IsInLimits};
 ghost use Rattle.q_kernel.specs.Kernels.{SameView, formula_in};
-ghost use Rattle.q_kernel.specs.Taking.{AreModest, IsReady, Applies, IsTaken};
-ghost use Rattle.q_blocked.specs.declared.target.Target.{Target as TargetValue};
+ghost use Rattle.q_kernel.specs.Taking.{AreModest, IsReady};
 ghost use Rattle.q_blocked.specs.Targets.{target_of};
 ghost use Rattle.q_blocked.specs.Plans.{HasRoomFor};
 ghost use Rattle.q_rule.specs.Becoming.{CanChange};
+ghost use Rattle.q_rule.specs.Searching.{Tries, Finds};
 
 use crate::applying::fits;
 use crate::changing::take;
 use crate::finding::find_from;
+use crate::growth::Growth;
 use crate::plan::Plan;
 use crate::search::Search;
 use crate::target::Target;
+use crate::units::Units;
 use q_kernel::{Kernel, Need, Taken};
 use q_logic::{Bounds, Lit, NoMemory};
+use q_rule::Rules;
 use std::alloc::Global;
 
 /// Takes a target exactly where it applies.
@@ -29,56 +32,14 @@ pub fn try_one(
 ) -> Result<Taken, NoMemory>
     requires ready { IsReady kernel.old }
     requires bounds { AreModest bounds.now }
-    ensures applies { IfOk result (λ r. (r ≡ Yes) ↔ Applies bounds.now kernel.old (target_of target.now)) }
-    ensures yes { IfOk result (λ r. r ≡ Yes → IsTaken bounds.now kernel.old kernel.new (target_of target.now)) }
-    ensures no { IfOk result (λ r. r ≡ No → SameView kernel.old kernel.new) }
+    ensures tries { IfOk result (Tries bounds.now kernel.old kernel.new (target_of target.now)) }
     ensures err { OnErr result (SameView kernel.old kernel.new) }
 {
-    let mut search = Search::new(alloc);
-    try_with(kernel, &mut search, target, bounds)
-}
-
-/// The same, with a search that is lent.
-pub fn try_with(
-    kernel: &mut Kernel,
-    search: &mut Search,
-    target: &Target,
-    bounds: &Bounds,
-) -> Result<Taken, NoMemory>
-    requires ready { IsReady kernel.old }
-    requires bounds { AreModest bounds.now }
-    ensures applies { IfOk result (λ r. (r ≡ Yes) ↔ Applies bounds.now kernel.old (target_of target.now)) }
-    ensures yes { IfOk result (λ r. r ≡ Yes → IsTaken bounds.now kernel.old kernel.new (target_of target.now)) }
-    ensures no { IfOk result (λ r. r ≡ No → SameView kernel.old kernel.new) }
-    ensures err { OnErr result (SameView kernel.old kernel.new) }
-{
-    let _ = bounds;
-    if !fits(kernel, search, target)? {
-        return Ok(Taken::No);
-    }
-    reserve(kernel, &search.growth.plan, &mut search.larger)?;
-    take(kernel, search, target);
-    Ok(Taken::Yes)
-}
-
-/// Whether a target applies, with a search that is lent.
-pub fn applies(
-    kernel: &Kernel,
-    search: &mut Search,
-    target: &Target,
-    bounds: &Bounds,
-) -> Result<bool, NoMemory>
-    requires ready { IsReady kernel.now }
-    requires bounds { AreModest bounds.now }
-    ensures yes { IfOk result (λ yes. IsTrue yes ↔ Applies bounds.now kernel.now (target_of target.now)) }
-{
-    let _ = bounds;
-    let yes = fits(kernel, search, target)?;
-    Ok(yes)
+    Search::new(alloc).take(kernel, target, bounds)
 }
 
 /// A target whose place is at least a number; none exactly where no target from that place on applies. The
-/// place of a target is its clause's id, or its variable.
+/// place of a target is its clause's id.
 pub fn find(
     alloc: Global,
     kernel: &Kernel,
@@ -87,28 +48,60 @@ pub fn find(
 ) -> Result<Option<Target>, NoMemory>
     requires ready { IsReady kernel.now }
     requires bounds { AreModest bounds.now }
-    ensures some { IfOk result (λ o. (t : TargetValue) → o ≡ Some t → Applies bounds.now kernel.now (target_of t) × (from ≤ place (target_of t))) }
-    ensures none { IfOk result (λ o. o ≡ None → (t : TargetValue) → from ≤ place (target_of t) → Applies bounds.now kernel.now (target_of t) → ⊥) }
+    ensures finds { IfOk result (Finds target_of bounds.now kernel.now from) }
 {
-    let mut search = Search::new(alloc);
-    find_with(kernel, &mut search, bounds, from)
+    Search::new(alloc).find(kernel, bounds, from)
 }
 
-/// The same, with a search that is lent.
-pub fn find_with(
-    kernel: &Kernel,
-    search: &mut Search,
-    bounds: &Bounds,
-    from: u32,
-) -> Result<Option<Target>, NoMemory>
-    requires ready { IsReady kernel.now }
-    requires bounds { AreModest bounds.now }
-    ensures some { IfOk result (λ o. (t : TargetValue) → o ≡ Some t → Applies bounds.now kernel.now (target_of t) × (from ≤ place (target_of t))) }
-    ensures none { IfOk result (λ o. o ≡ None → (t : TargetValue) → from ≤ place (target_of t) → Applies bounds.now kernel.now (target_of t) → ⊥) }
-{
-    let _ = bounds;
-    let found = find_from(kernel, search, from)?;
-    Ok(found)
+impl Rules for Search {
+    type Target = Target;
+
+    ghost target_of = { target_of };
+
+    ghost IsFitFor = { λ k s. Unit {0} };
+
+    fn new(alloc: Global) -> Search {
+        Search {
+            growth: Growth::new(alloc),
+            units: Units::new(alloc),
+            larger: Vec::new(alloc),
+        }
+    }
+
+    fn applies(
+        &mut self,
+        kernel: &Kernel,
+        target: &Target,
+        bounds: &Bounds,
+    ) -> Result<bool, NoMemory> {
+        let _ = bounds;
+        fits(kernel, self, target)
+    }
+
+    fn take(
+        &mut self,
+        kernel: &mut Kernel,
+        target: &Target,
+        bounds: &Bounds,
+    ) -> Result<Taken, NoMemory> {
+        let _ = bounds;
+        if !fits(kernel, self, target)? {
+            return Ok(Taken::No);
+        }
+        reserve(kernel, &self.growth.plan, &mut self.larger)?;
+        take(kernel, self, target);
+        Ok(Taken::Yes)
+    }
+
+    fn find(
+        &mut self,
+        kernel: &Kernel,
+        bounds: &Bounds,
+        from: u32,
+    ) -> Result<Option<Target>, NoMemory> {
+        let _ = bounds;
+        find_from(kernel, self, from)
+    }
 }
 
 // Room for the steps of a target, and for the sweep after them.

@@ -23,7 +23,7 @@ pub struct Hints {
 }
 
 impl Hints {
-    pub fn new(alloc: Global) -> Hints {
+    pub(crate) fn new(alloc: Global) -> Hints {
         Hints {
             places: Vec::new(alloc),
         }

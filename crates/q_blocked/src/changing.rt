@@ -1,13 +1,7 @@
 //! The change of a target.
-ghost use Rattle.q_logic.specs.declared.rule_bounds.Bounds.{Bounds};
-ghost use Rattle.q_logic.specs.Limits.{standard};
-ghost use Rattle.q_logic.specs.InLimits.{IsInLimits};
-ghost use Rattle.q_logic.specs.Rules.{Fits};
-ghost use Rattle.q_kernel.specs.Kernels.{slots, formula_in};
-ghost use Rattle.q_rule.specs.Becoming.{CanChange, IsChanged, HasResult};
-ghost use Rattle.q_blocked.specs.Targets.{target_of, HasPlan};
-ghost use Rattle.q_blocked.specs.Plans.{HasRoomFor};
-ghost use Rattle.std.specs.Prelude.{◌≤◌, length, vec_capacity};
+ghost use Rattle.q_rule.specs.Becoming.{IsChanged, HasResult};
+ghost use Rattle.q_rule.specs.Searching.{MayTake};
+ghost use Rattle.q_blocked.specs.Targets.{target_of, HasSteps};
 
 use crate::blocked::{delete_blocked, drop_blocked};
 use crate::covering::delete_covered;
@@ -17,12 +11,8 @@ use q_kernel::Kernel;
 
 /// Makes the change of a target, and sweeps.
 pub fn take(kernel: &mut Kernel, search: &mut Search, target: &Target)
-    requires fits { (B : Bounds) → Fits B kernel.old.prefix (slots kernel.old) (target_of target.now) }
-    requires limits { IsInLimits standard (formula_in kernel.old) }
-    requires bytes { CanChange kernel.old }
-    requires plan { HasPlan kernel.old.prefix (slots kernel.old) target.now search.old.growth.plan }
-    requires room { HasRoomFor kernel.old search.old.growth.plan.stages.items }
-    requires capacity { length search.old.growth.plan.lits.items ≤ vec_capacity search.old.larger }
+    requires may { MayTake kernel.old (target_of target.now) }
+    requires steps { HasSteps kernel.old search.old target.now }
     ensures { HasResult kernel.old kernel.new (target_of target.now) }
 {
     make_change(kernel, search, target);
@@ -30,12 +20,8 @@ pub fn take(kernel: &mut Kernel, search: &mut Search, target: &Target)
 }
 
 fn make_change(kernel: &mut Kernel, search: &mut Search, target: &Target)
-    requires fits { (B : Bounds) → Fits B kernel.old.prefix (slots kernel.old) (target_of target.now) }
-    requires limits { IsInLimits standard (formula_in kernel.old) }
-    requires bytes { CanChange kernel.old }
-    requires plan { HasPlan kernel.old.prefix (slots kernel.old) target.now search.old.growth.plan }
-    requires room { HasRoomFor kernel.old search.old.growth.plan.stages.items }
-    requires capacity { length search.old.growth.plan.lits.items ≤ vec_capacity search.old.larger }
+    requires may { MayTake kernel.old (target_of target.now) }
+    requires steps { HasSteps kernel.old search.old target.now }
     ensures { IsChanged kernel.old kernel.new (target_of target.now) }
 {
     match *target {

@@ -50,8 +50,8 @@ use crate::covered::{covered_at, is_bare};
 use crate::growth::Growth;
 use crate::hidden::{close, use_units};
 use crate::outcome::Outcome;
+use crate::search::Search;
 use crate::stuck::is_stuck;
-use crate::units::Units;
 use q_arena::ClauseId;
 use q_kernel::Kernel;
 use q_logic::{Lit, NoMemory};
@@ -79,10 +79,10 @@ fn opposes(set: &Queue, lits: &[Lit]) -> bool
 }
 
 // Makes the literal at a place one of the last stage.
-fn settle(growth: &mut Growth, place: usize) -> Result<(), NoMemory>
+fn end_stage(growth: &mut Growth, place: usize) -> Result<(), NoMemory>
     requires { place < length growth.old.set }
     ensures growing { OnOk result ((k : Seen) (c : ℕ) → Growing k c growth.old → Growing k c growth.new) }
-    ensures settled { OnOk result (place < growth.new.base) }
+    ensures staged { OnOk result (place < growth.new.base) }
     ensures set { growth.new.set ≡ growth.old.set }
     ensures found { growth.new.found ≡ growth.old.found }
 {
@@ -100,7 +100,7 @@ fn cover_by(
     place: usize,
 ) -> Result<Outcome, NoMemory>
     requires growing { Growing kernel.now c growth.old }
-    requires settled { place < growth.old.base }
+    requires staged { place < growth.old.base }
     requires found { (l : Literal) → slice_get growth.old.set place ≡ Some l → CoveredBy kernel.now.prefix (others c (slots kernel.now)) growth.old.set growth.old.found.items l }
     ensures { IfOk result (HasCovered kernel.now c growth.new) }
 {
@@ -141,7 +141,7 @@ fn cover_at(
         c,
         l,
     )? {
-        settle(growth, place)?;
+        end_stage(growth, place)?;
         growth.plan.last = Some(l);
         return Ok(Outcome::Ended);
     }
@@ -149,7 +149,7 @@ fn cover_at(
         growth.pairs.note(l, growth.spare.pair)?;
         return Ok(Outcome::Calm);
     }
-    settle(growth, place)?;
+    end_stage(growth, place)?;
     cover_by(kernel, growth, c, place)
 }
 
@@ -177,43 +177,33 @@ fn pass(kernel: &Kernel, growth: &mut Growth, c: ClauseId) -> Result<Outcome, No
 }
 
 // Grows by all that is known without the clauses of one literal, and then by these.
-fn round(
-    kernel: &Kernel,
-    growth: &mut Growth,
-    units: &mut Units,
-    c: ClauseId,
-) -> Result<Outcome, NoMemory>
-    requires growing { Growing kernel.now c growth.old }
-    requires units { AreRight (slots kernel.now) units.old }
-    ensures turned { IfOk result (HasTurned kernel.now c growth.new) }
-    ensures units { AreRight (slots kernel.now) units.new }
+fn round(kernel: &Kernel, search: &mut Search, c: ClauseId) -> Result<Outcome, NoMemory>
+    requires growing { Growing kernel.now c search.old.growth }
+    requires units { AreRight (slots kernel.now) search.old.units }
+    ensures turned { IfOk result (HasTurned kernel.now c search.new.growth) }
+    ensures units { AreRight (slots kernel.now) search.new.units }
 {
-    if close(kernel, growth, c)? {
+    if close(kernel, &mut search.growth, c)? {
         return Ok(Outcome::Ended);
     }
-    let outcome = pass(kernel, growth, c)?;
+    let outcome = pass(kernel, &mut search.growth, c)?;
     if outcome.is_ended() || outcome.is_grown() {
         return Ok(outcome);
     }
-    units.learn(kernel)?;
-    let last = use_units(kernel, growth, c, &units.ids)?;
+    search.units.learn(kernel)?;
+    let last = use_units(kernel, &mut search.growth, c, &search.units.ids)?;
     Ok(last)
 }
 
 // Whether some growth of the set ends.
-fn covers(
-    kernel: &Kernel,
-    growth: &mut Growth,
-    units: &mut Units,
-    c: ClauseId,
-) -> Result<bool, NoMemory>
-    requires growing { Growing kernel.now c growth.old }
-    requires units { AreRight (slots kernel.now) units.old }
-    ensures decided { IfOk result (HasDecided kernel.now c growth.new) }
-    ensures units { AreRight (slots kernel.now) units.new }
+fn covers(kernel: &Kernel, search: &mut Search, c: ClauseId) -> Result<bool, NoMemory>
+    requires growing { Growing kernel.now c search.old.growth }
+    requires units { AreRight (slots kernel.now) search.old.units }
+    ensures decided { IfOk result (HasDecided kernel.now c search.new.growth) }
+    ensures units { AreRight (slots kernel.now) search.new.units }
 {
     for _round in 0..usize::MAX {
-        let outcome = round(kernel, growth, units, c)?;
+        let outcome = round(kernel, search, c)?;
         if outcome.is_ended() {
             return Ok(true);
         }
@@ -226,44 +216,34 @@ fn covers(
 }
 
 /// Whether some growth of a clause ends; the steps by which the clause goes then.
-pub fn fits_cover(
-    kernel: &Kernel,
-    growth: &mut Growth,
-    units: &mut Units,
-    c: ClauseId,
-) -> Result<bool, NoMemory>
-    requires { AreRight (slots kernel.now) units.old }
+pub fn fits_cover(kernel: &Kernel, search: &mut Search, c: ClauseId) -> Result<bool, NoMemory>
+    requires { AreRight (slots kernel.now) search.old.units }
     ensures fits { IfOk result (λ yes. (B : Bounds) → IsTrue yes ↔ Fits B kernel.now.prefix (slots kernel.now) (cover c)) }
-    ensures plan { IfOk result (λ yes. IsTrue yes → IsPlanFor kernel.now.prefix (slots kernel.now) c growth.new.plan) }
-    ensures units { AreRight (slots kernel.now) units.new }
+    ensures plan { IfOk result (λ yes. IsTrue yes → IsPlanFor kernel.now.prefix (slots kernel.now) c search.new.growth.plan) }
+    ensures units { AreRight (slots kernel.now) search.new.units }
 {
     if !kernel.live(c) {
         return Ok(false);
     }
     kernel.sound();
-    let yes = decide(kernel, growth, units, c)?;
+    let yes = decide(kernel, search, c)?;
     if yes {
-        growth.write()?;
+        search.growth.write()?;
     }
     Ok(yes)
 }
 
-fn decide(
-    kernel: &Kernel,
-    growth: &mut Growth,
-    units: &mut Units,
-    c: ClauseId,
-) -> Result<bool, NoMemory>
+fn decide(kernel: &Kernel, search: &mut Search, c: ClauseId) -> Result<bool, NoMemory>
     requires live { (C : Clause) × (slot (slots kernel.now) c ≡ Some C) }
-    requires units { AreRight (slots kernel.now) units.old }
-    ensures decided { IfOk result (HasDecided kernel.now c growth.new) }
-    ensures units { AreRight (slots kernel.now) units.new }
+    requires units { AreRight (slots kernel.now) search.old.units }
+    ensures decided { IfOk result (HasDecided kernel.now c search.new.growth) }
+    ensures units { AreRight (slots kernel.now) search.new.units }
 {
     let clause = clause_of(kernel, c);
-    growth.begin(clause)?;
+    search.growth.begin(clause)?;
     if is_tautology(clause) {
-        growth.plan.last = None;
+        search.growth.plan.last = None;
         return Ok(true);
     }
-    covers(kernel, growth, units, c)
+    covers(kernel, search, c)
 }

@@ -14,8 +14,8 @@ use crate::clashing::{clashes, fill, is_fresh};
 use crate::stuck::{NO_PAIR, Pair};
 use q_arena::ClauseId;
 use q_kernel::Kernel;
-use q_logic::{Lit, NoMemory};
-use q_rule::{Queue, clause_of, holds};
+use q_logic::{Lit, NoMemory, holds};
+use q_rule::{Queue, clause_of};
 use std::alloc::Global;
 
 // So many literals are looked for in a clause one by one.
@@ -31,7 +31,10 @@ pub struct Spare {
 }
 
 impl Spare {
-    pub fn new(alloc: Global) -> Spare {
+    pub fn new(alloc: Global) -> Spare
+        ensures lits { result.lits.items ≡ [] }
+        ensures marks { result.marks ≡ [] }
+    {
         Spare {
             lits: Vec::new(alloc),
             marks: Queue::new(alloc),

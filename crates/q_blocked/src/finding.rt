@@ -6,7 +6,8 @@ ghost use Rattle.q_logic.specs.Targets.{place};
 ghost use Rattle.q_kernel.specs.Kernels.{slots};
 ghost use Rattle.q_blocked.specs.Targets.{target_of};
 ghost use Rattle.q_blocked.specs.Units.{AreRight};
-ghost use Rattle.q_blocked.specs.Searches.{IsAt, IsPivotOf, IsOn, IsFound};
+ghost use Rattle.q_rule.specs.Searching.{IsFound, IsAt};
+ghost use Rattle.q_blocked.specs.Searches.{IsPivotOf, IsOn};
 
 use crate::blocked::may_drop;
 use crate::clashing::{all_clash, fill};
@@ -24,7 +25,7 @@ pub fn find_from(
     search: &mut Search,
     from: u32,
 ) -> Result<Option<Target>, NoMemory>
-    ensures { IfOk result (IsFound kernel.now (λ t. from ≤ place (target_of t))) }
+    ensures { IfOk result (IsFound target_of kernel.now (λ t. from ≤ place (target_of t))) }
 {
     search.units.forget();
     let mut at = from;
@@ -46,14 +47,14 @@ pub fn find_from(
 fn find_at(kernel: &Kernel, search: &mut Search, c: ClauseId) -> Result<Option<Target>, NoMemory>
     requires live { (C : Clause) × (slot (slots kernel.now) c ≡ Some C) }
     requires units { AreRight (slots kernel.now) search.old.units }
-    ensures found { IfOk result (IsFound kernel.now (IsAt c)) }
+    ensures found { IfOk result (IsFound target_of kernel.now (IsAt target_of c)) }
     ensures units { AreRight (slots kernel.now) search.new.units }
 {
     let found = find_pivot(kernel, &mut search.growth.set, c)?;
     if found.is_some() {
         return Ok(found);
     }
-    if fits_cover(kernel, &mut search.growth, &mut search.units, c)? {
+    if fits_cover(kernel, search, c)? {
         return Ok(Some(Target::Cover { c }));
     }
     Ok(None)
@@ -62,7 +63,7 @@ fn find_at(kernel: &Kernel, search: &mut Search, c: ClauseId) -> Result<Option<T
 // A target of a literal of a clause. The literals of the clause are marked once for all of them.
 fn find_pivot(kernel: &Kernel, set: &mut Queue, c: ClauseId) -> Result<Option<Target>, NoMemory>
     requires { (C : Clause) × (slot (slots kernel.now) c ≡ Some C) }
-    ensures { IfOk result (IsFound kernel.now (IsPivotOf c)) }
+    ensures { IfOk result (IsFound target_of kernel.now (IsPivotOf c)) }
 {
     let clause = kernel.lits(c);
     fill(set, clause)?;
@@ -78,7 +79,7 @@ fn find_pivot(kernel: &Kernel, set: &mut Queue, c: ClauseId) -> Result<Option<Ta
 // The target of a literal of a clause, whose literals are the set.
 fn target_on(kernel: &Kernel, set: &Queue, c: ClauseId, l: Lit) -> Option<Target>
     requires { (slot (slots kernel.now) c ≡ Some set.now) × IsIn l set.now }
-    ensures { IsFound kernel.now (IsOn c l) result }
+    ensures { IsFound target_of kernel.now (IsOn c l) result }
 {
     kernel.sound();
     if is_existential(kernel, l.var()) {

@@ -33,7 +33,10 @@ pub struct Growth {
 }
 
 impl Growth {
-    pub fn new(alloc: Global) -> Growth {
+    pub fn new(alloc: Global) -> Growth
+        ensures set { result.set ≡ [] }
+        ensures stages { result.plan.stages.items ≡ [] }
+    {
         Growth {
             set: Queue::new(alloc),
             plan: Plan::new(alloc),

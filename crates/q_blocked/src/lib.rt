@@ -20,7 +20,7 @@ mod stuck;
 mod target;
 mod units;
 
-pub use calls::{applies, find, find_with, try_one, try_with};
+pub use calls::{find, try_one};
 pub use q_kernel::Taken;
 pub use q_logic::Bounds;
 pub use search::Search;

@@ -1,5 +1,5 @@
 //! The steps by which a covered clause goes.
-ghost use Rattle.std.specs.Prelude.{◌≡◌, ◌≤◌, IfOk, length};
+ghost use Rattle.std.specs.Prelude.{◌≡◌, ◌≤◌, [], IfOk, length};
 ghost use Rattle.q_blocked.specs.Plans.{words_of};
 
 use q_logic::{Lit, NoMemory};
@@ -27,7 +27,9 @@ pub struct Plan {
 }
 
 impl Plan {
-    pub fn new(alloc: Global) -> Plan {
+    pub fn new(alloc: Global) -> Plan
+        ensures { result.stages.items ≡ [] }
+    {
         Plan {
             lits: Vec::new(alloc),
             stages: Vec::new(alloc),

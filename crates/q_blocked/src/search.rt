@@ -2,7 +2,6 @@
 use crate::growth::Growth;
 use crate::units::Units;
 use q_logic::Lit;
-use std::alloc::Global;
 
 /// Room for searches. It serves for any kernel.
 #[derive(Drop)]
@@ -13,14 +12,4 @@ pub struct Search {
     pub(crate) units: Units,
     /// Room for the larger clauses of a plan.
     pub(crate) larger: Vec<Lit>,
-}
-
-impl Search {
-    pub fn new(alloc: Global) -> Search {
-        Search {
-            growth: Growth::new(alloc),
-            units: Units::new(alloc),
-            larger: Vec::new(alloc),
-        }
-    }
 }

@@ -12,8 +12,8 @@ ghost use Rattle.q_blocked.specs.Walks.{IsOpenAt, IsStuck};
 use crate::clashing::{clashes, is_fresh};
 use q_arena::ClauseId;
 use q_kernel::Kernel;
-use q_logic::{Lit, NoMemory};
-use q_rule::{Queue, clause_of, holds};
+use q_logic::{Lit, NoMemory, holds};
+use q_rule::{Queue, clause_of};
 use std::alloc::Global;
 
 /// Two clauses.
@@ -37,7 +37,7 @@ pub struct Pairs {
 }
 
 impl Pairs {
-    pub fn new(alloc: Global) -> Pairs {
+    pub(crate) fn new(alloc: Global) -> Pairs {
         Pairs {
             pairs: Vec::new(alloc),
         }
@@ -47,7 +47,7 @@ impl Pairs {
         self.pairs.get(l.index()).copied().unwrap_or(NO_PAIR)
     }
 
-    pub fn note(&mut self, l: Lit, pair: Pair) -> Result<(), NoMemory> {
+    pub(crate) fn note(&mut self, l: Lit, pair: Pair) -> Result<(), NoMemory> {
         let end = l.index() + 1;
         if self.pairs.len() < end {
             self.pairs.resize(end, NO_PAIR)?;

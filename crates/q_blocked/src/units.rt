@@ -19,7 +19,9 @@ pub struct Units {
 }
 
 impl Units {
-    pub fn new(alloc: Global) -> Units {
+    pub fn new(alloc: Global) -> Units
+        ensures { result.known ≡ false }
+    {
         Units {
             ids: Vec::new(alloc),
             known: false,

@@ -10,8 +10,9 @@ use Rattle.q_logic.specs.Steps.{ProofStep, add, delete, drop_literal, fresh, rem
 use Rattle.q_logic.specs.Undos.{UndoEntry, Entries, OutersOf}
 use Rattle.q_logic.proofs.Propagation.{implied-same}
 use Rattle.q_logic.proofs.Outers.{every_outer-same}
-use Rattle.q_check.specs.Alike.{AreAlike}
-use Rattle.q_check.proofs.Copies.{SameClauses, IsIn-same, same-swapped, same-more, one_less-same, same-sizes}
+use Rattle.q_logic.specs.Runs.{AreAlike}
+use Rattle.q_check.proofs.Copies.{one_less-same, same-sizes}
+use Rattle.q_logic.proofs.Reaching.{SameClauses, IsIn-alike, alike-sym, alike-cons}
 
 abbrev of : Prefix → Matrix → PrenexFormula
 of P X = record { prefix = P; matrix = X }
@@ -49,19 +50,19 @@ outers-same P X Y m os s h O = h O ∙ every_outer-same P m X Y s O
 
 module _ (P : Prefix) (X Y : Matrix) (s : SameClauses X Y) where
   here : Within X Y
-  here = IsIn-same X Y s
+  here = IsIn-alike X Y s
 
   back : Within Y X
-  back = IsIn-same Y X (same-swapped X Y s)
+  back = IsIn-alike Y X (alike-sym X Y s)
 
   less : (C : Clause) → Within (one_less C X) (one_less C Y)
-  less C = IsIn-same (one_less C X) (one_less C Y) (one_less-same C X Y s)
+  less C = IsIn-alike (one_less C X) (one_less C Y) (one_less-same C X Y s)
 
   less_back : (C : Clause) → Within (one_less C Y) (one_less C X)
-  less_back C = IsIn-same (one_less C Y) (one_less C X) (same-swapped (one_less C X) (one_less C Y) (one_less-same C X Y s))
+  less_back C = IsIn-alike (one_less C Y) (one_less C X) (alike-sym (one_less C X) (one_less C Y) (one_less-same C X Y s))
 
   more_limits : (C : Clause) (m : Limits) → KeepsLimits m (C ∷ X) → KeepsLimits m (C ∷ Y)
-  more_limits C m h = let z : (length (C ∷ X) ≡ length (C ∷ Y)) × (literals_in (C ∷ X) ≡ literals_in (C ∷ Y)) = same-sizes (C ∷ X) (C ∷ Y) (same-more C X Y s) in record { clauses = subst (λ n. n ≤ 4 * m.clauses) z.0 h.clauses; lits = subst (λ n. n ≤ 4 * m.lits) z.1 h.lits }
+  more_limits C m h = let z : (length (C ∷ X) ≡ length (C ∷ Y)) × (literals_in (C ∷ X) ≡ literals_in (C ∷ Y)) = same-sizes (C ∷ X) (C ∷ Y) (alike-cons C X Y s) in record { clauses = subst (λ n. n ≤ 4 * m.clauses) z.0 h.clauses; lits = subst (λ n. n ≤ 4 * m.lits) z.1 h.lits }
 
   same_valid : (m : Limits) (s : ProofStep) → Valid m (of P X) s → Valid m (of P Y) s
   same_valid m (add p C) v = (v.0, warranted-within P X Y C p here back v.1, more_limits C m v.2)
@@ -71,9 +72,9 @@ module _ (P : Prefix) (X Y : Matrix) (s : SameClauses X Y) where
   same_valid m (remove_variable v) h = (h.0, λ D d. h.1 D (back D d))
 
   same_after : (s : ProofStep) → AreAlike (after (of P X) s) (after (of P Y) s)
-  same_after (add p C) = record { prefix = refl; clauses = same-more C X Y s }
+  same_after (add p C) = record { prefix = refl; clauses = alike-cons C X Y s }
   same_after (delete p C) = record { prefix = refl; clauses = one_less-same C X Y s }
-  same_after (drop_literal l C) = record { prefix = refl; clauses = same-more (without l C) (one_less C X) (one_less C Y) (one_less-same C X Y s) }
+  same_after (drop_literal l C) = record { prefix = refl; clauses = alike-cons (without l C) (one_less C X) (one_less C Y) (one_less-same C X Y s) }
   same_after (fresh v w) = record { prefix = refl; clauses = s }
   same_after (remove_variable v) = record { prefix = refl; clauses = s }
 
@@ -87,7 +88,7 @@ module _ (P : Prefix) (X Y : Matrix) (s : SameClauses X Y) where
 
 module _ (P : Prefix) (X Y : Matrix) (s : SameClauses X Y) where
   swapped : SameClauses Y X
-  swapped = same-swapped X Y s
+  swapped = alike-sym X Y s
 
   -- what is wrong over one matrix is wrong over the other
   same_wrong : (m : Limits) (t : ProofStep) (n : ℕ) → IsWrong m (of P X) t n → IsWrong m (of P Y) t n

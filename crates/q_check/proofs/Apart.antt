@@ -11,10 +11,11 @@ use Rattle.q_logic.proofs.ExpandClosure.{bound_of_u}
 use Rattle.q_logic.proofs.ExpandRun.{inner_of}
 use Rattle.q_logic.proofs.Membership.{IsIn-Contains, Contains-IsIn}
 use Rattle.q_logic.proofs.UniversalPivot.{without-IsIn}
-use Rattle.q_prop.specs.Slots.{Slots, filled, Holds, IsPut}
+use Rattle.q_prop.specs.Slots.{filled, Holds, IsPut}
+use Rattle.q_logic.specs.Numbered.{Slots}
 use Rattle.q_prop.proofs.SlotLemmas.{slice_get-in, slice_get-there, slice_get-set_here, slice_get-set_other, slice_get-Contains, Contains-slice_get}
 use Rattle.q_check.specs.Regions.{region_of, IsCoarser, RegionMap, IsRegional, AreRegions, AreRegionsOf}
-use Rattle.q_check.proofs.Copies.{IsIn-same}
+use Rattle.q_logic.proofs.Reaching.{IsIn-alike}
 use Rattle.q_check.proofs.Slots.{held-in, left-in, put-same}
 use Rattle.q_check.proofs.Nesting.{inner-nested, inserted-inner, inserted-universal, removed-inner, removed-universal}
 
@@ -107,7 +108,7 @@ module _ (P : Prefix) (Rs : List RegionMap) where
   all-rest X C all = all-part (C ∷ X) X (λ D m. (D, inr m, λ k i. i)) all
 
   pub all-put : (s t : Slots) (n : ℕ) (C : Clause) → IsPut s n C t → AreRegionsOf P (C ∷ filled s) Rs → AreRegionsOf P (filled t) Rs
-  all-put s t n C p all = all-part (C ∷ filled s) (filled t) (λ D m. (D, IsIn-same (filled t) (C ∷ filled s) (put-same s t n C p) D m, λ k i. i)) all
+  all-put s t n C p all = all-part (C ∷ filled s) (filled t) (λ D m. (D, IsIn-alike (filled t) (C ∷ filled s) (put-same s t n C p) D m, λ k i. i)) all
 
   pub all-left : (s : Slots) (n : ℕ) → AreRegionsOf P (filled s) Rs → AreRegionsOf P (filled (set s n None)) Rs
   all-left s n all = all-part (filled s) (filled (set s n None)) (λ D m. (D, left-in s (Some n) D m, λ k i. i)) all
@@ -116,7 +117,7 @@ module _ (P : Prefix) (Rs : List RegionMap) where
   all-shrunk s t n k l C h p all = all-part (filled s) (filled (set t n None)) part all
     where
       part : IsPartOf (filled (set t n None)) (filled s)
-      part D m = elim (IsIn-same (filled t) (without l C ∷ filled s) (put-same s t k (without l C) p) D (left-in t (Some n) D m)) [
+      part D m = elim (IsIn-alike (filled t) (without l C ∷ filled s) (put-same s t k (without l C) p) D (left-in t (Some n) D m)) [
         | inl e ↦ (C, held-in s n C h, λ i a. without-IsIn l C i (subst (λ (E : Clause). IsIn i E) e a))
         | inr b ↦ (D, b, λ i a. a)
       ]

@@ -27,17 +27,6 @@ universal-not (b ∷ P) v h = go (eqb b.var v) refl h (universal-not P v)
     go true e j ih = refl
     go false e j ih = ih j
 
-pub unbound-existential : (P : Prefix) (v : ℕ) → is_bound P v ≡ false → is_existential P v ≡ false
-unbound-existential [] v h = refl
-unbound-existential (b ∷ P) v h = grind (arith, nat_tests, unbound-existential P v)
-
-pub existential-bound : (P : Prefix) (v : ℕ) → is_existential P v ≡ true → is_bound P v ≡ true
-existential-bound P v h = go (is_bound P v) refl
-  where
-    go : (b : Bool) → is_bound P v ≡ b → b ≡ true
-    go true e = refl
-    go false e = absurd (true≢false (sym h ∙ unbound-existential P v e))
-
 pub unbound-universal : (P : Prefix) (v : ℕ) → is_bound P v ≡ false → is_universal P v ≡ false
 unbound-universal [] v h = refl
 unbound-universal (b ∷ P) v h = grind (arith, nat_tests, unbound-universal P v)

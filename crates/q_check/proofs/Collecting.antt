@@ -1,9 +1,8 @@
--- Outer clauses that are put into one row.
-use Rattle.std.proofs.Common.{◌≡◌, ◌⊎◌, ℕ, zero, suc, ◌+◌, ◌-◌, ◌≤◌, Bool, true, false, cond, List, [], ◌∷◌, ◌++◌, append-nil, append_assoc, take, drop, length, refl, sym, ◌∙◌, ap, subst, inl, inr, arith, Option, None, Some}
-use Rattle.std.specs.Prelude.{slice_get, slice_range}
+-- Outer clauses that are collected, slot by slot.
+use Rattle.std.proofs.Common.{◌≡◌, ℕ, suc, Bool, true, false, cond, List, [], ◌∷◌, ◌++◌, append-nil, append_assoc, refl, sym, ◌∙◌, ap, subst, inl, inr, arith, Option, None, Some}
+use Rattle.std.specs.Prelude.{slice_get}
 use Rattle.q_logic.specs.Literals.{Literal}
 use Rattle.q_logic.specs.Formulas.{Clause, Prefix, IsIn}
-use Rattle.q_logic.specs.Parts.{AreEnds, clauses_between}
 use Rattle.q_logic.specs.Pivots.{outer}
 use Rattle.q_logic.specs.Sets.{has}
 use Rattle.q_logic.specs.Runs.{copies}
@@ -11,68 +10,13 @@ use Rattle.q_logic.specs.Undos.{every_outer, OutersOf}
 use Rattle.q_logic.proofs.UniversalPivot.{has-IsIn, IsIn-has}
 use Rattle.q_logic.proofs.Outers.{every_outer-count, every_outer-same}
 use Rattle.q_logic.proofs.Membership.{IsIn-Contains, Contains-IsIn}
-use Rattle.q_prop.specs.Slots.{Slots, Holds, filled, without}
+use Rattle.q_prop.specs.Slots.{Holds, filled, without}
+use Rattle.q_logic.specs.Numbered.{Slots}
 use Rattle.q_prop.specs.Lists.{IsDistinct}
 use Rattle.q_prop.proofs.SlotLemmas.{without-le, without-here, without-other, slice_get-Contains}
 use Rattle.q_check.specs.Warrants.{AreHolders}
-use Rattle.q_check.proofs.Copies.{copies-append}
-use Rattle.q_check.proofs.Slots.{in-held, emptied-same}
-
-ends-low : (from : ℕ) (ends : List ℕ) (n : ℕ) → AreEnds from ends n → from ≤ n
-ends-low from [] n h = let z : from ≡ n = h in omega arith
-ends-low from (e ∷ ends) n h = let i : e ≤ n = ends-low e ends n h.1 in let k : from ≤ e = h.0 in omega arith
-
-pub ends-push : (from : ℕ) (ends : List ℕ) (n m : ℕ) → AreEnds from ends n → n ≤ m → AreEnds from (ends ++ m ∷ []) m
-ends-push from [] n m h k = let z : from ≡ n = h in (omega arith, refl)
-ends-push from (e ∷ ends) n m h k = (h.0, ends-push e ends n m h.1 k)
-
-take-front : {X : Type 0} (xs ys : List X) (n : ℕ) → n ≤ length xs → take n (xs ++ ys) ≡ take n xs
-take-front xs ys zero h = refl
-take-front [] ys (suc n) h = absurd (omega arith)
-take-front (x ∷ xs) ys (suc n) h = ap (λ (zs : List _). x ∷ zs) (take-front xs ys n (omega arith))
-
-take-all : {X : Type 0} (xs : List X) → take (length xs) xs ≡ xs
-take-all [] = refl
-take-all (x ∷ xs) = ap (λ (zs : List _). x ∷ zs) (take-all xs)
-
-drop-front : {X : Type 0} (xs ys : List X) → drop (length xs) (xs ++ ys) ≡ ys
-drop-front [] ys = refl
-drop-front (x ∷ xs) ys = drop-front xs ys
-
-length-append : {X : Type 0} (xs ys : List X) → length (xs ++ ys) ≡ length xs + length ys
-length-append [] ys = omega arith
-length-append (x ∷ xs) ys = let i : length (xs ++ ys) ≡ length xs + length ys = length-append xs ys in omega arith
-
-pub length-longer : (xs ys : List Literal) → length xs ≤ length (xs ++ ys)
-length-longer xs ys = let e = length-append xs ys in omega (arith, e)
-
-last-range : (lits more : List Literal) → slice_range (lits ++ more) (length lits) (length (lits ++ more)) ≡ more
-last-range lits more = let n : length (lits ++ more) - length lits ≡ length more = (let e = length-append lits more in omega (arith, e)) in rw (n, drop-front lits more) (take-all more)
-
-early : (xs ys : List Literal) (i n : ℕ) → (n ≡ 0) ⊎ (i + n ≤ length xs) → take n (drop i (xs ++ ys)) ≡ take n (drop i xs)
-early xs ys i n (inl e) = rw e refl
-early xs ys zero n (inr h) = take-front xs ys n (omega arith)
-early [] ys (suc i) n (inr h) = absurd (omega arith)
-early (x ∷ xs) ys (suc i) n (inr h) = early xs ys i n (inr (omega arith))
-
-small : (n i j : ℕ) → j ≤ n → (j - i ≡ 0) ⊎ (i + (j - i) ≤ n)
-small n zero j h = inr (omega arith)
-small n (suc i) zero h = inl (omega arith)
-small zero (suc i) (suc j) h = absurd (omega arith)
-small (suc n) (suc i) (suc j) h = elim (small n i j (omega arith)) [
-  | inl e ↦ inl (omega arith)
-  | inr k ↦ inr (omega arith)
-]
-
-early-range : (lits more : List Literal) (i j : ℕ) → j ≤ length lits → slice_range (lits ++ more) i j ≡ slice_range lits i j
-early-range lits more i j h = early lits more i (j - i) (small (length lits) i j h)
-
-pub clauses-push : (lits more : List Literal) (from : ℕ) (ends : List ℕ) → AreEnds from ends (length lits) → clauses_between (lits ++ more) from (ends ++ length (lits ++ more) ∷ []) ≡ clauses_between lits from ends ++ more ∷ []
-clauses-push lits more from [] h = let e : from ≡ length lits = h in rw e (ap (λ (C : Clause). C ∷ []) (last-range lits more))
-clauses-push lits more from (e ∷ ends) h =
-    let r = early-range lits more from e (ends-low e ends (length lits) h.1) in
-    let i = clauses-push lits more e ends h.1 in
-    rw (r, i) refl
+use Rattle.q_logic.proofs.Reaching.{copies-append}
+use Rattle.q_check.proofs.Slots.{in-held, one_clause, emptied-same}
 
 -- the outer clause of what stands in a slot
 abbrev pub outer_at : Prefix → Literal → Option (Option Clause) → List Clause
@@ -176,12 +120,9 @@ pub collected-outers : (P : Prefix) (s : Slots) (skip : Option ℕ) (m : Literal
 collected-outers P s skip m slots os h v O =
     ap (λ (xs : List Clause). copies O xs) v ∙ collected-counts P m slots (without s skip) held O
   where
-    one : (n : ℕ) (C D : Clause) → Holds s n C → Holds s n D → C ≡ D
-    one n C D e f = let g : Some (Some C) ≡ Some (Some D) = sym e ∙ f in cc
-
     held : AreSlotsOf (without s skip) m slots
     held = record {
       once = h.once;
       all_there = λ n D e i. Contains-IsIn n slots (h.all_there n D (without-le s skip n D e) i);
-      no_other = λ n D i e. let r = h.no_other n (IsIn-Contains n slots i) in subst (λ (E : Clause). IsIn m E) (one n r.0 D r.1 (without-le s skip n D e)) r.2;
+      no_other = λ n D i e. let r = h.no_other n (IsIn-Contains n slots i) in subst (λ (E : Clause). IsIn m E) (one_clause s n r.0 D r.1 (without-le s skip n D e)) r.2;
     }

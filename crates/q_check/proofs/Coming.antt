@@ -11,7 +11,8 @@ use Rattle.q_logic.specs.Steps.{insert_after}
 use Rattle.q_logic.proofs.Prefixes.{insert-distinct}
 use Rattle.q_check.specs.declared.seats.Seat.{Seat}
 use Rattle.q_check.specs.Scopes.{seat_at, rank_at, rank_in, first_or, last_or, var_of, AreLinked, AreRanked, in_block, AreSeated, with_after, with_before, is_there}
-use Rattle.q_check.proofs.Binding.{equal-or, unequal, bound-cases, bound-here, bound-later, bound-left, bound-right, bound-either, existential-bound, few-below, IsSplit, split-at, inserted-split, distinct-apart, distinct-right}
+use Rattle.q_check.proofs.Binding.{equal-or, unequal, bound-cases, bound-here, bound-later, bound-left, bound-right, bound-either, few-below, IsSplit, split-at, inserted-split, distinct-apart, distinct-right}
+use Rattle.q_logic.proofs.Order.{existential-is_bound}
 use Rattle.q_check.proofs.Linking.{linked-left, linked-right, linked-join, linked-same, linked-before}
 use Rattle.q_check.proofs.Ranking.{ranked-left, ranked-right, ranked-join, ranked-same, ranked-like, in_block-same, in_block-append, in_block-one}
 use Rattle.q_check.proofs.Joining.{linked-room, in_block-few}
@@ -31,7 +32,7 @@ exists-is Forall e = absurd (true≢false (sym e))
 
 module _ (P : Prefix) (first : Option ℕ) (seats : List (Option Seat)) (counts : List ℕ) (a : AreSeated P first seats counts) (w v : ℕ) (absent : is_bound P v ≡ false) (there : is_existential P w ≡ true) (s : Seat) (e : seat_at seats w ≡ Some s) where
   abbrev sp : IsSplit P w
-  sp = split-at P w (existential-bound P w there)
+  sp = split-at P w (existential-is_bound P w there)
 
   a' : AreSeated (sp.outer ++ sp.bound ∷ sp.inner) first seats counts
   a' = subst (λ (Q : Prefix). AreSeated Q first seats counts) sp.whole a

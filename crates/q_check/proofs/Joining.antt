@@ -4,9 +4,9 @@ use Rattle.std.proofs.lemmas.Bool.Decides.{nat_tests}
 use Rattle.std.proofs.lemmas.List.{length-set, get_or-set_same, get_or-set_other}
 use Rattle.q_logic.specs.declared.formulas.Bound.{Bound}
 use Rattle.q_logic.specs.Formulas.{Prefix}
-use Rattle.q_logic.specs.Prefixes.{is_bound, same_quant, Distinct}
+use Rattle.q_logic.specs.Prefixes.{is_bound, same_quant, Distinct, IsNext}
 use Rattle.q_check.specs.declared.seats.Seat.{Seat}
-use Rattle.q_check.specs.Scopes.{seat_at, rank_at, rank_in, first_or, last_or, var_of, AreLinked, IsSeatOf, AreRanked, Follows, IsNext, in_block, AreSeated, renumbered, with_rank, is_among, IsRun, IsMovable, IsMoved, HaveRoom}
+use Rattle.q_check.specs.Scopes.{seat_at, rank_at, rank_in, first_or, last_or, var_of, AreLinked, IsSeatOf, AreRanked, Follows, in_block, AreSeated, renumbered, with_rank, is_among, IsRun, IsMovable, IsMoved, HaveRoom}
 use Rattle.q_check.proofs.Binding.{equal-or, unequal, bound-cases, bound-here, bound-later, bound-left, bound-right, bound-either, distinct-left, distinct-right, few-below, last-bound}
 use Rattle.q_check.proofs.Linking.{linked-left, linked-right, seat-in}
 use Rattle.q_check.proofs.Ranking.{ranked-rises, ranked-last, ranked-join, in_block-append, some-in_block, in_block-one}

@@ -16,7 +16,6 @@ pub mod SameBlocks
 pub mod Comparing
 pub mod Slots
 pub mod Outers
-pub mod Members
 pub mod Collecting
 pub mod Walks
 pub mod Reaching

@@ -5,8 +5,8 @@ use Rattle.q_logic.specs.declared.formulas.Quant.{Quant}
 use Rattle.q_logic.specs.declared.formulas.Quant.TheVariants.{Exists, Forall}
 use Rattle.q_logic.specs.declared.formulas.Bound.{Bound}
 use Rattle.q_logic.specs.Formulas.{Prefix}
-use Rattle.q_logic.specs.Prefixes.{is_bound, same_quant, run_to, outer_or_same}
-use Rattle.q_check.specs.Scopes.{last_or, IsNext, Follows, AreRanked, in_block, IsNumbered, next_rank}
+use Rattle.q_logic.specs.Prefixes.{is_bound, same_quant, run_to, outer_or_same, IsNext}
+use Rattle.q_check.specs.Scopes.{last_or, Follows, AreRanked, in_block, IsNumbered, next_rank}
 use Rattle.q_check.proofs.Binding.{bound-cases, bound-here, bound-later}
 
 pub same_quant-sound : (p q : Quant) → same_quant p q ≡ true → p ≡ q

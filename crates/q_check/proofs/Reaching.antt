@@ -1,12 +1,12 @@
 -- A walk that ends tells which literals may go.
-use Rattle.std.proofs.Common.{◌≡◌, ◌⊎◌, ℕ, zero, suc, ◌+◌, ◌<◌, ◌≤◌, Bool, true, false, List, [], ◌∷◌, ◌++◌, Contains, slice_get, Some, length, refl, sym, ◌∙◌, ap, subst, inl, inr, arith, true≢false}
+use Rattle.std.proofs.Common.{◌≡◌, ℕ, zero, suc, ◌+◌, ◌<◌, ◌≤◌, Bool, true, false, List, [], ◌∷◌, ◌++◌, Contains, slice_get, Some, length, refl, sym, ◌∙◌, ap, subst, inl, inr, arith, true≢false}
 use Rattle.q_logic.specs.Literals.{Literal, negation}
 use Rattle.q_logic.specs.Formulas.{Clause, Matrix, Prefix, IsIn}
 use Rattle.q_logic.specs.Prefixes.{is_existential, is_universal, outer_or_same}
 use Rattle.q_logic.specs.Reach.{Reached, Reducible}
 use Rattle.q_prop.proofs.SlotLemmas.{slice_get-in, slice_get-Contains, Contains-slice_get}
-use Rattle.q_check.specs.Walks.{is_inner, IsWidened, IsSettled, IsVisited}
-use Rattle.q_check.proofs.Walks.{Contains-grown, settled-more}
+use Rattle.q_check.specs.Walks.{is_inner, IsWidened, IsWorkedOff, IsVisited}
+use Rattle.q_check.proofs.Walks.{Contains-grown, earlier, settled-more}
 
 module _ (P : Prefix) (X : Matrix) (C : Clause) (u : Literal) where
   -- an inner literal of a clause that is reached
@@ -17,7 +17,7 @@ module _ (P : Prefix) (X : Matrix) (C : Clause) (u : Literal) where
   pub record IsWalk (head : ℕ) (known : List Literal) : Type 0 where
     pub begun : (k : Literal) → IsIn k C → is_inner P u k ≡ true → Contains known k
     pub linked : (k : Literal) → Contains known k → IsLinked k
-    pub visited : (j : ℕ) (k : Literal) → j < head → slice_get known j ≡ Some k → (E : Clause) → IsIn E X → IsIn (negation k) E → IsSettled P u known E
+    pub visited : (j : ℕ) (k : Literal) → j < head → slice_get known j ≡ Some k → (E : Clause) → IsIn E X → IsIn (negation k) E → IsWorkedOff P u known E
 
   pub walk-begun : (known : List Literal) → IsWidened P u C [] known → IsWalk 0 known
   walk-begun known w = record {
@@ -42,9 +42,6 @@ module _ (P : Prefix) (X : Matrix) (C : Clause) (u : Literal) where
 
   in-linked : (old : List Literal) (k : Literal) (head : ℕ) → IsWalk head old → Contains old k → IsLinked k
   in-linked old k head w m = w.linked k m
-
-  earlier : (n i : ℕ) → n < i + 1 → (n < i) ⊎ (n ≡ i)
-  earlier n i h = grind arith
 
   same_some : (n k : Literal) → Some n ≡ Some k → n ≡ k
   same_some n k e = cc

@@ -7,7 +7,8 @@ use Rattle.q_logic.specs.Formulas.{Prefix}
 use Rattle.q_logic.specs.Prefixes.{is_bound, is_existential, is_universal, is_exists, outer_or_same}
 use Rattle.q_check.specs.declared.seats.Seat.{Seat}
 use Rattle.q_check.specs.Scopes.{seat_at, rank_at, AreLinked, AreSeated}
-use Rattle.q_check.proofs.Binding.{universal-not, unbound-existential, unbound-universal}
+use Rattle.q_check.proofs.Binding.{universal-not, unbound-universal}
+use Rattle.q_logic.proofs.Truth.{none_bound}
 use Rattle.q_check.proofs.Linking.{seat-in}
 use Rattle.q_check.proofs.Ranking.{ranked-outer}
 use Rattle.q_check.proofs.Leaving.{same_seat}
@@ -48,7 +49,7 @@ module _ (P : Prefix) (first : Option ℕ) (seats : List (Option Seat)) (counts 
   seat-universal v s e = universal-not P v (seat-bound v s e) ∙ ap not (seat-existential v s e)
 
   pub no_seat-existential : (v : ℕ) → seat_at seats v ≡ None → is_existential P v ≡ false
-  no_seat-existential v e = unbound-existential P v (no_seat-unbound v e)
+  no_seat-existential v e = none_bound P v (no_seat-unbound v e)
 
   pub no_seat-universal : (v : ℕ) → seat_at seats v ≡ None → is_universal P v ≡ false
   no_seat-universal v e = unbound-universal P v (no_seat-unbound v e)

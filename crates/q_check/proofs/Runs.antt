@@ -5,9 +5,9 @@ use Rattle.q_logic.specs.Formulas.{PrenexFormula, Prefix}
 use Rattle.q_logic.specs.Prefixes.{SameBlocks, blocks}
 use Rattle.q_logic.specs.Limits.{standard}
 use Rattle.q_logic.specs.Steps.{ProofStep, Valid, after}
-use Rattle.q_logic.specs.Runs.{ValidSteps, SameFormula, Run}
+use Rattle.q_logic.specs.Runs.{ValidSteps, SameFormula, Run, AreAlike}
 use Rattle.q_logic.specs.Undos.{UndoEntry, Entries, Undos}
-use Rattle.q_check.specs.Alike.{AreAlike, Leads}
+use Rattle.q_check.specs.Alike.{Leads}
 use Rattle.q_check.proofs.Alike.{alike_swapped, alike_through, alike_valid, alike_after, alike_entries}
 
 valid_more : (m : Limits) (F : PrenexFormula) (ss : List ProofStep) (E : PrenexFormula) (s : ProofStep) → ValidSteps m F ss E → Valid m E s → ValidSteps m F (ss ++ s ∷ []) (after E s)

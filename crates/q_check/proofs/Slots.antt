@@ -1,18 +1,24 @@
 -- The clauses in slots as a collection.
-use Rattle.std.proofs.Common.{◌≡◌, ℕ, zero, suc, ◌+◌, [], ◌∷◌, ◌++◌, Option, None, Some, slice_get, set, length, refl, ◌∙◌, ap, inl, inr, arith}
+use Rattle.std.proofs.Common.{◌≡◌, ℕ, zero, suc, ◌+◌, [], ◌∷◌, ◌++◌, Option, None, Some, slice_get, set, length, refl, sym, ◌∙◌, ap, inl, inr, arith}
 use Rattle.q_logic.specs.Formulas.{Clause, Matrix, IsIn}
 use Rattle.q_logic.specs.Steps.{one_less, literals_in}
 use Rattle.q_logic.specs.Runs.{copies}
 use Rattle.q_logic.proofs.Membership.{IsIn-Contains, Contains-IsIn}
-use Rattle.q_prop.specs.Slots.{Slots, filled, without, Holds, IsPut}
+use Rattle.q_prop.specs.Slots.{filled, without, Holds, IsPut}
+use Rattle.q_logic.specs.Numbered.{Slots}
 use Rattle.q_prop.proofs.SlotLemmas.{filled-in, filled-cases, without-le}
-use Rattle.q_check.proofs.Copies.{SameClauses, same-swapped, same-through, same-fewer, same-sizes, copies-append, one_less-same_first}
+use Rattle.q_check.proofs.Copies.{same-sizes}
+use Rattle.q_logic.proofs.Reaching.{SameClauses, alike-sym, alike-trans, copies-append, alike-uncons, one_less-alike}
 
 pub held-in : (s : Slots) (n : ℕ) (C : Clause) → Holds s n C → IsIn C (filled s)
 held-in s n C h = Contains-IsIn C (filled s) (filled-in s n C h)
 
 pub in-held : (s : Slots) (C : Clause) → IsIn C (filled s) → (n : ℕ) × Holds s n C
 in-held s C m = filled-cases s C (IsIn-Contains C (filled s) m)
+
+-- a slot has one clause
+pub one_clause : (s : Slots) (n : ℕ) (C D : Clause) → Holds s n C → Holds s n D → C ≡ D
+one_clause s n C D e f = let g : Some (Some C) ≡ Some (Some D) = sym e ∙ f in cc
 
 filled-append : (s t : Slots) → filled (s ++ t) ≡ filled s ++ filled t
 filled-append [] t = refl
@@ -44,8 +50,8 @@ put-same s t n C (inr h) D = ap (λ (u : Slots). copies D (filled u)) h.1 ∙ fi
 
 -- what is left without a slot is one copy less
 pub left-same : (s : Slots) (n : ℕ) (C : Clause) → Holds s n C → SameClauses (filled (without s (Some n))) (one_less C (filled s))
-left-same s n C h = same-fewer C (filled (set s n None)) (one_less C (filled s))
-    (same-through (C ∷ filled (set s n None)) (filled s) (C ∷ one_less C (filled s)) (same-swapped (filled s) (C ∷ filled (set s n None)) (emptied-same s n C h)) (one_less-same_first C (filled s) (held-in s n C h)))
+left-same s n C h = alike-uncons C (filled (set s n None)) (one_less C (filled s))
+    (alike-trans (C ∷ filled (set s n None)) (filled s) (C ∷ one_less C (filled s)) (alike-sym (filled s) (C ∷ filled (set s n None)) (emptied-same s n C h)) (one_less-alike C (filled s) (held-in s n C h)))
 
 pub left-sizes : (s : Slots) (n : ℕ) (C : Clause) → Holds s n C → (length (filled s) ≡ length (filled (set s n None)) + 1) × (literals_in (filled s) ≡ length C + literals_in (filled (set s n None)))
 left-sizes s n C h = let z : (length (filled s) ≡ length (C ∷ filled (set s n None))) × (literals_in (filled s) ≡ literals_in (C ∷ filled (set s n None))) = same-sizes (filled s) (C ∷ filled (set s n None)) (emptied-same s n C h) in (omega (arith, z.0), omega (arith, z.1))

@@ -1,21 +1,20 @@
 -- Walks, literal by literal and clause by clause.
 use Rattle.std.proofs.Common.{◌≡◌, ◌⊎◌, ℕ, ◌+◌, ◌<◌, ◌≤◌, true, false, List, [], ◌∷◌, ◌++◌, Contains, slice_get, Some, Option, length, sym, ◌∙◌, ap, subst, inl, inr, arith, append-nil, append_assoc}
+use Rattle.std.proofs.lemmas.List.Elements.{Contains-append_left, Contains-push, Contains-push_cases}
 use Rattle.q_logic.specs.Literals.{Literal, negation}
 use Rattle.q_logic.specs.Formulas.{Clause, Prefix, IsIn}
-use Rattle.q_prop.specs.Slots.{Slots, Holds, filled, without}
+use Rattle.q_prop.specs.Slots.{Holds, filled, without}
+use Rattle.q_logic.specs.Numbered.{Slots}
 use Rattle.q_prop.proofs.SlotLemmas.{without-le, slice_get-in, slice_get-Contains, Contains-slice_get}
 use Rattle.q_check.specs.Warrants.{AreHolders}
-use Rattle.q_check.proofs.Slots.{held-in, in-held}
-use Rattle.q_logic.proofs.Clauses.{IsIn-append_left}
-use Rattle.q_logic.proofs.Membership.{IsIn-Contains, Contains-IsIn}
-use Rattle.q_check.specs.Walks.{is_inner, IsWidened, IsSettled, IsGrown, IsFollowed, IsVisited}
-use Rattle.q_check.proofs.Members.{Contains-push, Contains-last, Contains-push_cases}
-
-Contains-append : {X : Type 0} (xs ys : List X) (k : X) → Contains xs k → Contains (xs ++ ys) k
-Contains-append xs ys k m = IsIn-Contains k (xs ++ ys) (IsIn-append_left k xs ys (Contains-IsIn k xs m))
+use Rattle.q_check.proofs.Slots.{held-in, in-held, one_clause}
+use Rattle.q_check.specs.Walks.{is_inner, IsWidened, IsWorkedOff, IsGrown, IsFollowed, IsVisited}
 
 pub Contains-grown : (old new added : List Literal) (k : Literal) → new ≡ old ++ added → Contains old k → Contains new k
-Contains-grown old new added k e m = rw e (Contains-append old added k m)
+Contains-grown old new added k e m = rw e (Contains-append_left old added k m)
+
+pub earlier : (n i : ℕ) → n < i + 1 → (n < i) ⊎ (n ≡ i)
+earlier n i h = grind arith
 
 module _ (P : Prefix) (u : Literal) where
   pub widened-begun : (old : List Literal) → IsWidened P u [] old old
@@ -38,17 +37,14 @@ module _ (P : Prefix) (u : Literal) where
     added = w.added ++ j ∷ [];
     is = ap (λ (xs : List Literal). xs ++ j ∷ []) w.is ∙ append_assoc old w.added (j ∷ []);
     all_there = λ k m q. elim (f k m) [
-      | inl a ↦ Contains-push new j k (w.all_there k a q)
-      | inr a ↦ subst (λ (x : Literal). Contains (new ++ j ∷ []) x) (sym a) (Contains-last new j)
+      | inl a ↦ Contains-append_left new (j ∷ []) k (w.all_there k a q)
+      | inr a ↦ subst (λ (x : Literal). Contains (new ++ j ∷ []) x) (sym a) (Contains-push new j)
     ];
     no_other = λ k m. elim (Contains-push_cases new j k m) [
       | inl a ↦ elim (w.no_other k a) [ inl b ↦ inl b | inr b ↦ inr (g k b.0, b.1) ]
-      | inr a ↦ inr (subst (λ (x : Literal). IsIn x D) (sym a) i, subst (λ (x : Literal). is_inner P u x ≡ true) (sym a) t)
+      | inr a ↦ inr (subst (λ (x : Literal). IsIn x D) a i, subst (λ (x : Literal). is_inner P u x ≡ true) a t)
     ];
   }
-
-  one : (s : Slots) (n : ℕ) (C D : Clause) → Holds s n C → Holds s n D → C ≡ D
-  one s n C D e f = let g : Some (Some C) ≡ Some (Some D) = sym e ∙ f in cc
 
   grown-same : (Q : Clause → Type 0) (old : List Literal) → IsGrown P u Q old old
   grown-same Q old = record { added = []; is = sym (append-nil old); from = λ k m. inl m }
@@ -57,15 +53,15 @@ module _ (P : Prefix) (u : Literal) where
   followed-none s n old h = (grown-same (Holds s n) old, λ E e. absurd (h E e))
 
   pub followed-held : (s : Slots) (n : ℕ) (C : Clause) (old : List Literal) → Holds s n C → IsIn u C → IsFollowed P s u n old old true
-  followed-held s n C old h m = (grown-same (Holds s n) old, λ E e. inl (subst (λ (x : Clause). IsIn u x) (one s n C E h e) m))
+  followed-held s n C old h m = (grown-same (Holds s n) old, λ E e. inl (subst (λ (x : Clause). IsIn u x) (one_clause s n C E h e) m))
 
   pub followed-widened : (s : Slots) (n : ℕ) (C : Clause) (old new : List Literal) → Holds s n C → (IsIn u C → ⊥) → (IsIn (negation u) C → ⊥) → IsWidened P u C old new → IsFollowed P s u n old new true
   followed-widened s n C old new h a b w = (
     record { added = w.added; is = w.is; from = λ k m. elim (w.no_other k m) [ inl x ↦ inl x | inr x ↦ inr (C, h, a, x.0, x.1) ] },
-    (λ E e. let q = one s n C E h e in inr ((λ m. b (subst (λ (x : Clause). IsIn (negation u) x) (sym q) m)), (λ k m t. w.all_there k (subst (λ (x : Clause). IsIn k x) (sym q) m) t))),
+    (λ E e. let q = one_clause s n C E h e in inr ((λ m. b (subst (λ (x : Clause). IsIn (negation u) x) (sym q) m)), (λ k m t. w.all_there k (subst (λ (x : Clause). IsIn k x) (sym q) m) t))),
   )
 
-  pub settled-more : (old new added : List Literal) (E : Clause) → new ≡ old ++ added → IsSettled P u old E → IsSettled P u new E
+  pub settled-more : (old new added : List Literal) (E : Clause) → new ≡ old ++ added → IsWorkedOff P u old E → IsWorkedOff P u new E
   settled-more old new added E e (inl m) = inl m
   settled-more old new added E e (inr (n, h)) = inr (n, λ k m t. Contains-grown old new added k e (h k m t))
 
@@ -76,19 +72,13 @@ module _ (P : Prefix) (u : Literal) where
     from = λ k m. elim (h.from k m) [ inl x ↦ g.from k x | inr x ↦ inr (x.0, f x.0 x.1, x.2, x.3, x.4) ];
   }
 
-  pub grown-begun : (Q : Clause → Type 0) (old : List Literal) → IsGrown P u Q old old
-  grown-begun Q old = grown-same Q old
-
   -- the slots before the i-th were followed
   pub record IsFollowing (s : Slots) (slots : List ℕ) (i : ℕ) (old new : List Literal) : Type 0 where
     pub grown : IsGrown P u (λ E. (j : ℕ) × (n : ℕ) × (j < i) × (slice_get slots j ≡ Some n) × Holds s n E) old new
-    pub settled : (j n : ℕ) (E : Clause) → j < i → slice_get slots j ≡ Some n → Holds s n E → IsSettled P u new E
+    pub settled : (j n : ℕ) (E : Clause) → j < i → slice_get slots j ≡ Some n → Holds s n E → IsWorkedOff P u new E
 
   pub following-begun : (s : Slots) (slots : List ℕ) (old : List Literal) → IsFollowing s slots 0 old old
-  following-begun s slots old = record { grown = grown-begun (λ E. (j : ℕ) × (n : ℕ) × (j < 0) × (slice_get slots j ≡ Some n) × Holds s n E) old; settled = λ j n E l e h. absurd (omega arith) }
-
-  earlier : (n i : ℕ) → n < i + 1 → (n < i) ⊎ (n ≡ i)
-  earlier n i h = grind arith
+  following-begun s slots old = record { grown = grown-same (λ E. (j : ℕ) × (n : ℕ) × (j < 0) × (slice_get slots j ≡ Some n) × Holds s n E) old; settled = λ j n E l e h. absurd (omega arith) }
 
   same_some : (n k : ℕ) → Some n ≡ Some k → n ≡ k
   same_some n k e = cc
@@ -113,7 +103,7 @@ module _ (P : Prefix) (u : Literal) where
         | inr a ↦
             let n = a.1.1 in
             let o = h.no_other n (Contains-slice_get slots a.1.0 n a.1.3) in
-            inr (a.0, (held-in (without t skip) n a.0 a.1.4, subst (λ (x : Clause). IsIn (negation k) x) (one t n o.0 a.0 o.1 (without-le t skip n a.0 a.1.4)) o.2), a.2, a.3, a.4)
+            inr (a.0, (held-in (without t skip) n a.0 a.1.4, subst (λ (x : Clause). IsIn (negation k) x) (one_clause t n o.0 a.0 o.1 (without-le t skip n a.0 a.1.4)) o.2), a.2, a.3, a.4)
       ];
     },
     (λ E d m.
@@ -126,4 +116,4 @@ module _ (P : Prefix) (u : Literal) where
   pub visited-not : (t : Slots) (skip : Option ℕ) (k : Literal) (slots : List ℕ) (i n : ℕ) (old mid new : List Literal) → AreHolders t (negation k) slots → slice_get slots i ≡ Some n → IsFollowed P (without t skip) u n mid new false → IsVisited P (filled (without t skip)) u k old new false
   visited-not t skip k slots i n old mid new h e f =
       let o = h.no_other n (Contains-slice_get slots i n e) in
-      (f.0, held-in (without t skip) n f.0 f.1, subst (λ (x : Clause). IsIn (negation k) x) (one t n o.0 f.0 o.1 (without-le t skip n f.0 f.1)) o.2, f.2, f.3)
+      (f.0, held-in (without t skip) n f.0 f.1, subst (λ (x : Clause). IsIn (negation k) x) (one_clause t n o.0 f.0 o.1 (without-le t skip n f.0 f.1)) o.2, f.2, f.3)

@@ -1,14 +1,9 @@
 -- Formulas that differ in the order of their clauses alone.
-use Rattle.std.specs.Prelude.{◌≡◌, List}
-use Rattle.q_logic.specs.Formulas.{Clause, PrenexFormula}
+use Rattle.std.specs.Prelude.{List}
+use Rattle.q_logic.specs.Formulas.{PrenexFormula}
 use Rattle.q_logic.specs.declared.limits.Limits.{Limits}
 use Rattle.q_logic.specs.Steps.{ProofStep}
-use Rattle.q_logic.specs.Runs.{copies, ValidSteps}
-
--- one prefix, and each clause as often
-pub record AreAlike (F G : PrenexFormula) : Type 0 where
-  pub prefix : F.prefix ≡ G.prefix
-  pub clauses : (C : Clause) → copies C F.matrix ≡ copies C G.matrix
+use Rattle.q_logic.specs.Runs.{AreAlike, ValidSteps}
 
 -- valid steps lead from F to G, up to the order of clauses
 pub record Leads (m : Limits) (F : PrenexFormula) (ss : List ProofStep) (G : PrenexFormula) : Type 0 where

@@ -4,12 +4,11 @@ use Rattle.q_logic.specs.declared.limits.Limits.{Limits}
 use Rattle.q_logic.specs.Formulas.{Clause, PrenexFormula}
 use Rattle.q_logic.specs.Prefixes.{IsFormula, blocks, SameBlocks}
 use Rattle.q_logic.specs.Steps.{ProofStep, Valid, Cause, after, literals_in}
-use Rattle.q_logic.specs.Runs.{copies}
+use Rattle.q_logic.specs.Runs.{copies, AreAlike}
 use Rattle.q_logic.specs.Undos.{UndoEntry, Entries}
 use Rattle.q_check.specs.declared.undo.Undo.{Undo}
 use Rattle.q_check.specs.declared.error.CheckError.{CheckError}
 use Rattle.q_check.specs.declared.error.CheckError.TheVariants.{Refused, NoMemory}
-use Rattle.q_check.specs.Alike.{AreAlike}
 use Rattle.q_check.specs.Entries.{entries_of}
 
 pub record Checked : Type 0 where

@@ -4,7 +4,7 @@ use Rattle.q_logic.specs.Literals.{Literal, negation}
 use Rattle.q_logic.specs.Formulas.{Clause, Matrix, Prefix}
 use Rattle.q_logic.specs.Undos.{UndoEntry, OutersOf, pivot, removed, freshened}
 use Rattle.q_check.specs.declared.pivots.Warrant.{Warrant}
-use Rattle.q_check.specs.declared.pivots.Warrant.TheVariants.{Propagation, Missing}
+use Rattle.q_check.specs.declared.pivots.Warrant.TheVariants.{Propagation}
 use Rattle.q_check.specs.declared.pivots.Warrant.TheVariants.{Pivot as ByPivot}
 use Rattle.q_check.specs.declared.undo.Undo.{Undo}
 use Rattle.q_check.specs.declared.undo.Undo.TheVariants.{Pivot, Removed, Fresh}
@@ -19,9 +19,13 @@ abbrev pub entries_of : Option Undo → List UndoEntry
 entries_of None = []
 entries_of (Some u) = entry_of u ∷ []
 
--- a clause that goes by its pivot leaves its outer clauses, where they are kept
-abbrev pub IsPivotEntry : Bool → Prefix → Matrix → Option Literal → Warrant → Option Undo → Type 0
-IsPivotEntry false P X p w u = u ≡ None
-IsPivotEntry true P X p Propagation u = u ≡ None
-IsPivotEntry true P X p Missing u = u ≡ None
-IsPivotEntry true P X p ByPivot u = (l : Literal) → p ≡ Some l → (outers : List Clause) × OutersOf P X (negation l) outers × (entries_of u ≡ pivot l outers ∷ [])
+-- the pivot by which a clause goes, where the undo list is kept
+abbrev pub kept_pivot : Bool → Warrant → Option Literal → Option Literal
+kept_pivot false w p = None
+kept_pivot true Propagation p = None
+kept_pivot true ByPivot p = p
+
+-- a clause that goes by its pivot leaves its outer clauses
+abbrev pub IsPivotEntry : Prefix → Matrix → Option Literal → Option Undo → Type 0
+IsPivotEntry P X None u = u ≡ None
+IsPivotEntry P X (Some l) u = (outers : List Clause) × OutersOf P X (negation l) outers × (entries_of u ≡ pivot l outers ∷ [])

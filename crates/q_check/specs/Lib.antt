@@ -5,3 +5,4 @@ pub mod Entries
 pub mod Checked
 pub mod Walks
 pub mod Regions
+pub mod Causes

@@ -1,11 +1,11 @@
 -- A prefix of quantified variables (QDIMACS 1.1), and where each variable is seated: the number of its
 -- block, and its neighbours.
-use Rattle.std.specs.Prelude.{◌≡◌, ◌≢◌, ◌^◌, ◌⊎◌, ℕ, zero, suc, ◌+◌, ◌<◌, ◌&&◌, Bool, true, false, cond, eqb, List, [], ◌∷◌, Option, None, Some, slice_index_or, set, length}
+use Rattle.std.specs.Prelude.{◌≡◌, ◌≢◌, ◌^◌, ℕ, zero, suc, ◌+◌, ◌<◌, ◌&&◌, Bool, true, false, cond, eqb, List, [], ◌∷◌, Option, None, Some, slice_index_or, set, length}
 use Rattle.q_logic.specs.declared.formulas.Quant.{Quant}
 use Rattle.q_logic.specs.declared.formulas.Bound.{Bound}
 use Rattle.q_logic.specs.Literals.{bool_eq}
 use Rattle.q_logic.specs.Formulas.{Prefix}
-use Rattle.q_logic.specs.Prefixes.{Distinct, is_bound, same_quant, is_exists}
+use Rattle.q_logic.specs.Prefixes.{IsNext, Distinct, is_bound, same_quant, is_exists}
 use Rattle.q_check.specs.declared.seats.Seat.{Seat}
 
 -- the seat of a variable
@@ -50,10 +50,6 @@ pub record IsSeatOf (f : ℕ → Option Seat) (o : Option Bound) (b : Bound) (n 
 abbrev pub AreLinked : (ℕ → Option Seat) → Option Bound → Prefix → Option ℕ → Type 0
 AreLinked f o [] n = Unit {0}
 AreLinked f o (b ∷ P) n = IsSeatOf f o b (first_or P n) × AreLinked f (Some b) P n
-
--- neighbours of one quantifier have one number, others rising numbers
-abbrev pub IsNext : (ℕ → ℕ) → Bound → Bound → Type 0
-IsNext rank b c = ((same_quant b.quant c.quant ≡ true) × (rank b.var ≡ rank c.var)) ⊎ ((same_quant b.quant c.quant ≡ false) × (rank b.var < rank c.var))
 
 abbrev pub Follows : (ℕ → ℕ) → Option Bound → Bound → Type 0
 Follows rank None c = Unit {0}

@@ -4,7 +4,8 @@ use Rattle.std.specs.Prelude.{◌≡◌, ◌⊎◌, ℕ, Bool, true, false, not,
 use Rattle.q_logic.specs.Literals.{Literal, negation}
 use Rattle.q_logic.specs.Formulas.{Clause, Matrix, Prefix, IsIn}
 use Rattle.q_logic.specs.Prefixes.{is_existential, outer_or_same}
-use Rattle.q_prop.specs.Slots.{Slots, Holds}
+use Rattle.q_prop.specs.Slots.{Holds}
+use Rattle.q_logic.specs.Numbered.{Slots}
 
 -- the literal is existential, and inner to u
 abbrev pub is_inner : Prefix → Literal → Literal → Bool
@@ -18,8 +19,8 @@ pub record IsWidened (P : Prefix) (u : Literal) (C : Clause) (old new : List Lit
   pub no_other : (k : Literal) → Contains new k → Contains old k ⊎ (IsIn k C × (is_inner P u k ≡ true))
 
 -- the clause holds u, or else not its negation, and the list has its inner literals
-abbrev pub IsSettled : Prefix → Literal → List Literal → Clause → Type 0
-IsSettled P u known E = IsIn u E ⊎ ((IsIn (negation u) E → ⊥) × ((k : Literal) → IsIn k E → is_inner P u k ≡ true → Contains known k))
+abbrev pub IsWorkedOff : Prefix → Literal → List Literal → Clause → Type 0
+IsWorkedOff P u known E = IsIn u E ⊎ ((IsIn (negation u) E → ⊥) × ((k : Literal) → IsIn k E → is_inner P u k ≡ true → Contains known k))
 
 -- where the list's literals come from
 pub record IsGrown (P : Prefix) (u : Literal) (Q : Clause → Type 0) (old new : List Literal) : Type 0 where
@@ -29,10 +30,10 @@ pub record IsGrown (P : Prefix) (u : Literal) (Q : Clause → Type 0) (old new :
 
 -- the clause in a slot was followed
 abbrev pub IsFollowed : Prefix → Slots → Literal → ℕ → List Literal → List Literal → Bool → Type 0
-IsFollowed P s u at' old new true = IsGrown P u (Holds s at') old new × ((E : Clause) → Holds s at' E → IsSettled P u new E)
+IsFollowed P s u at' old new true = IsGrown P u (Holds s at') old new × ((E : Clause) → Holds s at' E → IsWorkedOff P u new E)
 IsFollowed P s u at' old new false = (E : Clause) × Holds s at' E × (IsIn u E → ⊥) × IsIn (negation u) E
 
 -- the clauses with the negation of a literal were followed
 abbrev pub IsVisited : Prefix → Matrix → Literal → Literal → List Literal → List Literal → Bool → Type 0
-IsVisited P X u k old new true = IsGrown P u (λ E. IsIn E X × IsIn (negation k) E) old new × ((E : Clause) → IsIn E X → IsIn (negation k) E → IsSettled P u new E)
+IsVisited P X u k old new true = IsGrown P u (λ E. IsIn E X × IsIn (negation k) E) old new × ((E : Clause) → IsIn E X → IsIn (negation k) E → IsWorkedOff P u new E)
 IsVisited P X u k old new false = (E : Clause) × IsIn E X × IsIn (negation k) E × (IsIn u E → ⊥) × IsIn (negation u) E

@@ -6,19 +6,19 @@ ghost use Rattle.q_logic.specs.Limits.{AreModerate};
 ghost use Rattle.q_logic.specs.Parts.{ArePairs};
 ghost use Rattle.q_logic.specs.Pivots.{without};
 ghost use Rattle.q_logic.specs.Prefixes.{Closed, is_bound};
-ghost use Rattle.q_logic.specs.Runs.{SameFormula, copies};
+ghost use Rattle.q_logic.specs.Runs.{SameFormula, copies, AreAlike};
 ghost use Rattle.q_logic.specs.StepForms.{IsFirst, first_of};
 ghost use Rattle.q_logic.specs.Steps.{Within, IsAbsent, IsFresh, add, delete, drop_literal, fresh, remove_variable};
 ghost use Rattle.q_logic.specs.Undos.{freshened, removed};
 ghost use Rattle.q_logic.specs.declared.limits.Limits.{Limits as AnyLimits};
 ghost use Rattle.q_prop.specs.Slots.{filled};
 ghost use Rattle.q_prop.specs.Slots.{without as without_slot};
-ghost use Rattle.q_check.specs.Alike.{AreAlike};
 ghost use Rattle.q_check.specs.Checked.{IsTried, IsEndRefusal};
-ghost use Rattle.q_check.specs.Entries.{entries_of, IsPivotEntry};
+ghost use Rattle.q_check.specs.Entries.{entries_of, IsPivotEntry, kept_pivot as pivot_kept};
+ghost use Rattle.q_check.specs.Warrants.{IsSlotOf};
 
 use crate::error::{Cause, CheckError};
-use crate::pivots::{Buffers, Warrant, slots_of, warrant_of};
+use crate::pivots::{Buffers, Warrant, warrant_of};
 use crate::reach::is_droppable;
 use crate::recent::RecentRegions;
 use crate::scope::Scope;
@@ -88,11 +88,9 @@ impl Book {
         ensures { (keep : Bool) → IsTried keep limits self.old (add first clause.now) self.new result }
     {
         if !binds_all(&self.scope, clause) {
-            return Err(CheckError::Refused {
-                cause: Cause::Unbound as u8,
-            });
+            return Err(Cause::Unbound.refusal());
         }
-        let warrant = warrant_of(
+        warrant_of(
             &mut self.store,
             &self.scope,
             &mut self.buffers,
@@ -100,15 +98,8 @@ impl Book {
             clause,
             first,
         )?;
-        if warrant.is_missing() {
-            return Err(CheckError::Refused {
-                cause: Cause::Unwarranted as u8,
-            });
-        }
         if !has_room(limits, self.clauses, self.lits, clause) {
-            return Err(CheckError::Refused {
-                cause: Cause::Limit as u8,
-            });
+            return Err(Cause::Limit.refusal());
         }
         self.recent.take(&self.scope, clause);
         self.store.add(clause)?;
@@ -127,17 +118,8 @@ impl Book {
         requires { IsFirst (first_of lits.now) clause.now }
         ensures { (m : AnyLimits) → IsTried keep m self.old (delete (first_of lits.now) clause.now) self.new result }
     {
-        if !binds_all(&self.scope, clause) {
-            return Err(CheckError::Refused {
-                cause: Cause::Unbound as u8,
-            });
-        }
-        let Some(at) = self.store.find(clause) else {
-            return Err(CheckError::Refused {
-                cause: Cause::NoClause as u8,
-            });
-        };
-        let reason = warrant_of(
+        let at = slot_of(&self.scope, &self.store, clause)?;
+        let warrant = warrant_of(
             &mut self.store,
             &self.scope,
             &mut self.buffers,
@@ -145,20 +127,15 @@ impl Book {
             clause,
             first_lit(lits),
         )?;
-        if reason.is_missing() {
-            return Err(CheckError::Refused {
-                cause: Cause::Unwarranted as u8,
-            });
-        }
+        let pivot = kept_pivot(keep, warrant, first_lit(lits));
         let alloc = self.alloc;
         let entry = pivot_entry(
             alloc,
+            &mut self.buffers.joined,
             &self.store,
             &self.scope,
             at,
-            reason,
-            first_lit(lits),
-            keep,
+            pivot,
         )?;
         self.store.delete(at);
         self.clauses -= 1;
@@ -178,16 +155,7 @@ impl Book {
         requires rest { rest.now ≡ without lit clause.now }
         ensures { (keep : Bool) → (m : AnyLimits) → IsTried keep m self.old (drop_literal lit clause.now) self.new result }
     {
-        if !binds_all(&self.scope, clause) {
-            return Err(CheckError::Refused {
-                cause: Cause::Unbound as u8,
-            });
-        }
-        let Some(at) = self.store.find(clause) else {
-            return Err(CheckError::Refused {
-                cause: Cause::NoClause as u8,
-            });
-        };
+        let at = slot_of(&self.scope, &self.store, clause)?;
         let droppable = is_droppable(
             &mut self.store,
             &self.scope,
@@ -199,9 +167,7 @@ impl Book {
             lit,
         )?;
         if !droppable {
-            return Err(CheckError::Refused {
-                cause: Cause::NotDroppable as u8,
-            });
+            return Err(Cause::NotDroppable.refusal());
         }
         self.store.add(rest)?;
         self.store.delete(at);
@@ -220,9 +186,7 @@ impl Book {
         ensures { IsTried keep limits self.old (fresh v w) self.new result }
     {
         if !takes_fresh(&self.scope, limits, v, w) {
-            return Err(CheckError::Refused {
-                cause: Cause::BadFresh as u8,
-            });
+            return Err(Cause::BadFresh.refusal());
         }
         self.recent.inherit(v, w)?;
         self.scope.insert_after(w, v)?;
@@ -235,14 +199,10 @@ impl Book {
         ensures { (m : AnyLimits) → IsTried keep m self.old (remove_variable var) self.new result }
     {
         if !self.scope.binds(var) {
-            return Err(CheckError::Refused {
-                cause: Cause::Unbound as u8,
-            });
+            return Err(Cause::Unbound.refusal());
         }
         if !is_absent(&self.store, var) {
-            return Err(CheckError::Refused {
-                cause: Cause::Occurs as u8,
-            });
+            return Err(Cause::Occurs.refusal());
         }
         let existential = self.scope.is_existential(var);
         self.recent.leave(&self.scope, var);
@@ -279,16 +239,22 @@ fn compare(
     ensures refused { IfErr result (IsEndRefusal (record { prefix = scope.now; matrix = filled store.old }) output.now) }
 {
     if !scope.has_blocks_of(alloc, output.prefix())? {
-        return Err(CheckError::Refused {
-            cause: Cause::OtherBlocks as u8,
-        });
+        return Err(Cause::OtherBlocks.refusal());
     }
     if !takes_all(store, clauses, output) {
-        return Err(CheckError::Refused {
-            cause: Cause::OtherClauses as u8,
-        });
+        return Err(Cause::OtherClauses.refusal());
     }
     Ok(())
+}
+
+// The slot of a clause, each of whose variables is in the prefix.
+fn slot_of(scope: &Scope, store: &Store, clause: &[Lit]) -> Result<usize, CheckError>
+    ensures { IsSlotOf scope.now store.now clause.now result }
+{
+    if !binds_all(scope, clause) {
+        return Err(Cause::Unbound.refusal());
+    }
+    store.find(clause).ok_or(Cause::NoClause.refusal())
 }
 
 // Whether each variable of the clause is in the prefix.
@@ -307,10 +273,7 @@ fn binds_all(scope: &Scope, clause: &[Lit]) -> bool
 fn sum_of(lits: u64, clause: &[Lit]) -> Result<u64, NoMemory>
     ensures { IfOk result (λ n. n ≡ lits + length clause.now) }
 {
-    match lits.checked_add(clause.len() as u64) {
-        Some(sum) => Ok(sum),
-        None => Err(NoMemory),
-    }
+    lits.checked_add(clause.len() as u64).ok_or(NoMemory)
 }
 
 // Whether one more clause keeps the checker's limits, four times those of a file.
@@ -342,28 +305,33 @@ fn is_absent(store: &Store, var: u32) -> bool
     store.holders(Lit::new(var, false)).is_empty()
 }
 
-// What a deletion leaves: nothing where the clause is implied.
+// The pivot whose outer clauses a deletion leaves: none where the undo list is not kept or the clause is implied.
+fn kept_pivot(keep: bool, warrant: Warrant, first: Option<Lit>) -> Option<Lit>
+    ensures { result ≡ pivot_kept keep warrant first }
+{
+    match warrant {
+        Warrant::Pivot if keep => first,
+        Warrant::Pivot | Warrant::Propagation => None,
+    }
+}
+
+// What a deletion by the pivot leaves.
 fn pivot_entry(
     alloc: Global,
+    joined: &mut Vec<Lit>,
     store: &Store,
     scope: &Scope,
     at: usize,
-    warrant: Warrant,
-    first: Option<Lit>,
-    keep: bool,
+    pivot: Option<Lit>,
 ) -> Result<Option<Undo>, NoMemory>
     requires closed { Closed scope.now (filled store.now) }
-    requires bound { (l : Literal) → first ≡ Some l → is_bound scope.now l.var ≡ true }
-    ensures { IfOk result (λ u. IsPivotEntry keep scope.now (filled (without_slot store.now (Some at))) first warrant u) }
+    requires bound { (l : Literal) → pivot ≡ Some l → is_bound scope.now l.var ≡ true }
+    ensures { IfOk result (λ u. IsPivotEntry scope.now (filled (without_slot store.now (Some at))) pivot u) }
 {
-    if !keep || !warrant.is_pivot() {
-        return Ok(None);
-    }
-    let Some(pivot) = first else {
+    let Some(pivot) = pivot else {
         return Ok(None);
     };
-    let slots = slots_of(store, pivot.negated());
-    let outer = collect_outers(alloc, store, scope, slots, Some(at), pivot.negated())?;
+    let outer = collect_outers(alloc, joined, store, scope, Some(at), pivot.negated())?;
     Ok(Some(Undo::Pivot { pivot, outer }))
 }
 

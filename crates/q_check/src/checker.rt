@@ -2,10 +2,9 @@
 ghost use Rattle.std.specs.Prelude.{◌≡◌, ◌∷◌, ◌++◌, [], length, drop, ◌<◌, IfOk, IfErr, OnOk, OnErr};
 ghost use Rattle.q_logic.specs.Clauses.{clause_of};
 ghost use Rattle.q_logic.specs.Limits.{AreModerate};
-ghost use Rattle.q_logic.specs.Runs.{SameFormula};
+ghost use Rattle.q_logic.specs.Runs.{SameFormula, AreAlike};
 ghost use Rattle.q_logic.specs.Steps.{Valid, after};
 ghost use Rattle.q_check.specs.declared.error.CheckError.TheVariants.{NoMemory as MemoryError};
-ghost use Rattle.q_check.specs.Alike.{AreAlike};
 ghost use Rattle.q_check.specs.Checked.{HasGrown, IsRefusal, IsEndRefusal, IsTried};
 
 use crate::book::{Book, first_lit};
@@ -56,10 +55,7 @@ impl Checker {
         ensures started { IfOk result (λ c. AreAlike formula.now c.formula × (c.undo ≡ []) × (c.limits ≡ limits) × (c.keeps ≡ keep_undo)) }
         ensures only_memory { IfErr result (λ e. e ≡ MemoryError) }
     {
-        let book = match Book::start(alloc, formula) {
-            Ok(book) => book,
-            Err(_) => return Err(CheckError::NoMemory),
-        };
+        let book = Book::start(alloc, formula)?;
         Ok(Checker {
             book,
             undo: Vec::new(alloc),

@@ -1,4 +1,6 @@
 ghost use Rattle.std.specs.Prelude.{◌≡◌};
+ghost use Rattle.q_check.specs.Causes.{number};
+ghost use Rattle.q_check.specs.declared.error.CheckError.TheVariants.{Refused as refused};
 
 use q_logic::NoMemory as MemoryMissing;
 use std::alloc::AllocError;
@@ -33,6 +35,15 @@ pub enum CheckError {
     Refused { cause: u8 },
     #[error("out of memory")]
     NoMemory,
+}
+
+impl Cause {
+    /// The refusal for this cause.
+    pub fn refusal(self) -> CheckError
+        ensures { result ≡ refused (number self) }
+    {
+        CheckError::Refused { cause: self as u8 }
+    }
 }
 
 impl From<MemoryMissing> for CheckError {

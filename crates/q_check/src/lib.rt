@@ -16,4 +16,5 @@ mod undo;
 
 pub use checker::{Checker, Verified};
 pub use error::{Cause, CheckError};
-pub use undo::{Clauses, Undo, Undos};
+pub use q_logic::Clauses;
+pub use undo::{Undo, Undos};

@@ -1,16 +1,15 @@
 //! Whether a clause may come or go: implied, or by a pivot.
-ghost use Rattle.std.specs.Prelude.{◌≡◌, ◌↔◌, ◌++◌, [], ℕ, List, true, length, None, Some, Option, OnOk, IfOk, IsTrue, MatchOption};
-ghost use Rattle.q_logic.specs.Literals.{Literal};
-ghost use Rattle.q_logic.specs.Formulas.{Clause, IsIn};
-ghost use Rattle.q_logic.specs.Prefixes.{Closed, is_bound, is_existential};
+ghost use Rattle.std.specs.Prelude.{◌≡◌, ◌↔◌, ◌++◌, [], true, OnOk, IfOk, IsTrue, MatchOption};
+ghost use Rattle.q_logic.specs.Formulas.{Clause};
+ghost use Rattle.q_logic.specs.Prefixes.{Closed, is_bound};
 ghost use Rattle.q_logic.specs.Propagation.{Implied};
 ghost use Rattle.q_logic.specs.Pivots.{keeps, outer};
 ghost use Rattle.q_logic.specs.Steps.{Within};
 ghost use Rattle.q_logic.specs.StepForms.{IsFirst};
 ghost use Rattle.q_prop.specs.Slots.{Holds, filled, without};
-ghost use Rattle.q_check.specs.declared.pivots.Warrant.TheVariants.{Missing, Pivot};
-ghost use Rattle.q_check.specs.Warrants.{AreHolders, IsWarrant, Resolves};
+ghost use Rattle.q_check.specs.Warrants.{AreHolders, IsAnswered, Resolves};
 
+use crate::error::{Cause, CheckError};
 use crate::scope::Scope;
 use q_logic::{Lit, NoMemory};
 use q_prop::{Store, Trail};
@@ -21,27 +20,6 @@ use std::alloc::Global;
 pub enum Warrant {
     Propagation,
     Pivot,
-    Missing,
-}
-
-impl Warrant {
-    pub fn is_missing(self) -> bool
-        ensures { IsTrue result ↔ (self ≡ Missing) }
-    {
-        match self {
-            Warrant::Missing => true,
-            Warrant::Propagation | Warrant::Pivot => false,
-        }
-    }
-
-    pub fn is_pivot(self) -> bool
-        ensures { IsTrue result ↔ (self ≡ Pivot) }
-    {
-        match self {
-            Warrant::Pivot => true,
-            Warrant::Propagation | Warrant::Missing => false,
-        }
-    }
 }
 
 /// Rows that are used again from step to step.
@@ -64,17 +42,6 @@ impl Buffers {
             trail: Trail::new(alloc),
         }
     }
-}
-
-pub fn holds(clause: &[Lit], lit: Lit) -> bool
-    ensures { IsTrue result ↔ IsIn lit clause.now }
-{
-    for k in clause {
-        if k.is(lit) {
-            return true;
-        }
-    }
-    false
 }
 
 /// The slots whose clauses hold the literal.
@@ -182,7 +149,7 @@ pub fn resolves(
     Ok(true)
 }
 
-/// Why the clause may come or go, over the slots but one.
+/// Why the clause may come or go, over the slots but one; refused where nothing speaks for it.
 pub fn warrant_of(
     store: &mut Store,
     scope: &Scope,
@@ -190,24 +157,24 @@ pub fn warrant_of(
     skip: Option<usize>,
     clause: &[Lit],
     first: Option<Lit>,
-) -> Result<Warrant, NoMemory>
+) -> Result<Warrant, CheckError>
     requires closed { Closed scope.now (filled store.old) }
     requires within { Within scope.now clause.now }
     requires first { IsFirst first clause.now }
     ensures same { store.new ≡ store.old }
-    ensures exact { IfOk result (λ w. IsWarrant scope.now (filled (without store.old skip)) clause.now first w) }
+    ensures exact { IsAnswered scope.now (filled (without store.old skip)) clause.now first result }
 {
     if store.implied(clause, skip)? {
         return Ok(Warrant::Propagation);
     }
     let Some(pivot) = first else {
-        return Ok(Warrant::Missing);
+        return Err(Cause::Unwarranted.refusal());
     };
     if !scope.is_existential(pivot.var()) {
-        return Ok(Warrant::Missing);
+        return Err(Cause::Unwarranted.refusal());
     }
-    if resolves(store, scope, buffers, skip, clause, pivot.negated())? {
-        return Ok(Warrant::Pivot);
+    if !resolves(store, scope, buffers, skip, clause, pivot.negated())? {
+        return Err(Cause::Unwarranted.refusal());
     }
-    Ok(Warrant::Missing)
+    Ok(Warrant::Pivot)
 }

@@ -11,10 +11,10 @@ ghost use Rattle.q_prop.specs.Slots.{without as without_slot};
 ghost use Rattle.q_check.specs.Regions.{AreRegionsOf};
 ghost use Rattle.q_check.specs.Walks.{is_inner, IsWidened, IsFollowed, IsVisited};
 
-use crate::pivots::{Buffers, clause_at, holds, resolves, slots_of};
+use crate::pivots::{Buffers, clause_at, resolves, slots_of};
 use crate::recent::RecentRegions;
 use crate::scope::Scope;
-use q_logic::{Lit, NoMemory};
+use q_logic::{Lit, NoMemory, holds};
 use q_prop::{Store, Trail};
 
 /// Whether the literal may go from the clause, beside the slots but its own. `rest` is the clause

@@ -162,10 +162,7 @@ impl Scope {
 fn first_of(prefix: &[Bound]) -> Option<u32>
     ensures { result ≡ first_or prefix.now None }
 {
-    match prefix.first() {
-        Some(bound) => Some(bound.var),
-        None => None,
-    }
+    Some(prefix.first()?.var)
 }
 
 // Appends a variable that is seated; what stands behind it comes next.

@@ -160,10 +160,7 @@ fn seat_all(prefix: &[Bound], seats: &mut Vec<Option<Seat>>, counts: &mut Vec<us
 fn var_at(prefix: &[Bound], at: usize) -> Option<u32>
     ensures { result ≡ var_of (slice_get prefix.now at) }
 {
-    match prefix.get(at) {
-        Some(bound) => Some(bound.var),
-        None => None,
-    }
+    Some(prefix.get(at)?.var)
 }
 
 // Seats a variable behind the last one.

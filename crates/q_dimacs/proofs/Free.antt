@@ -1,13 +1,12 @@
 -- The free variables of a formula.
-use Rattle.std.proofs.Common.{◌≡◌, ◌≢◌, ◌⊎◌, ℕ, zero, suc, ◌+◌, ◌<◌, ◌≤◌, ◌==◌, ◌||◌, Bool, true, false, cond, List, [], ◌∷◌, ◌++◌, length, refl, ap, sym, ◌∙◌, arith, add-zero, add-one, append-nil, slice_range, drop, subst, inl, inr, eq-eqb}
-use Rattle.std.proofs.lemmas.List.Folds.{drop_split}
+use Rattle.std.proofs.Common.{◌≡◌, ◌≢◌, ◌⊎◌, ℕ, zero, suc, ◌+◌, ◌<◌, ◌≤◌, ◌==◌, ◌||◌, Bool, true, false, cond, List, [], ◌∷◌, ◌++◌, refl, ap, sym, ◌∙◌, arith, add-zero, add-one, append-nil, subst, inl, inr, eq-eqb}
 use Rattle.std.specs.List.{AllByRecursion}
 use Rattle.q_logic.specs.Literals.{Literal}
-use Rattle.q_logic.specs.Parts.{ArePairs, IsBound, AreEnds, clauses_between}
+use Rattle.q_logic.specs.Parts.{ArePairs, IsBound}
 use Rattle.std.proofs.lemmas.Bool.Decides.{nat_tests, eqb_tells}
 use Rattle.q_logic.specs.declared.formulas.Bound.{Bound}
 use Rattle.q_logic.specs.declared.formulas.Quant.TheVariants.{Exists}
-use Rattle.q_logic.specs.Formulas.{Prefix, Matrix}
+use Rattle.q_logic.specs.Formulas.{Clause, IsIn, Prefix, Matrix}
 use Rattle.q_dimacs.specs.Building.{bounds_from, occurs, occurs_in, greatest, greatest_in}
 use Rattle.q_logic.specs.Prefixes.{is_bound}
 
@@ -87,14 +86,6 @@ pub none-above : (x : Matrix) (k : ℕ) → greatest x < k → occurs x k ≡ fa
 none-above [] k h = refl
 none-above (c ∷ x) k h = rw (none-above-in c k (omega arith)) (none-above x k (omega arith))
 
--- each literal of the row occurs
-occurs-self : (ls : List Literal) (f : ℕ → Bool) → ((v : ℕ) → occurs_in ls v ≡ true → f v ≡ true) → AllByRecursion (λ l. f l.var ≡ true) ls
-occurs-self [] f h = tt
-occurs-self (l ∷ ls) f h = (h l.var (let e : (l.var == l.var) ≡ true = eq-eqb l.var l.var refl in rw e refl), occurs-self ls f (λ v e. h v (or-yes (l.var == v) (occurs_in ls v) e))) where
-  or-yes : (a b : Bool) → b ≡ true → (a || b) ≡ true
-  or-yes true b e = refl
-  or-yes false b e = e
-
 or-one : (a b : Bool) → a ≡ true → (a || b) ≡ true
 or-one true b e = refl
 or-one false b e = cc
@@ -103,24 +94,20 @@ or-two : (a b : Bool) → b ≡ true → (a || b) ≡ true
 or-two true b e = refl
 or-two false b e = e
 
-occurs-own : (x : Matrix) (f : ℕ → Bool) → ((v : ℕ) → occurs x v ≡ true → f v ≡ true) → AllByRecursion (λ c. AllByRecursion (λ l. f l.var ≡ true) c) x
-occurs-own [] f h = tt
-occurs-own (c ∷ x) f h = (occurs-self c f (λ v e. h v (or-one (occurs_in c v) (occurs x v) e)), occurs-own x f (λ v e. h v (or-two (occurs_in c v) (occurs x v) e)))
+-- the variable of each literal of a clause occurs
+occurs_in-IsIn : (C : Clause) (k : Literal) → IsIn k C → occurs_in C k.var ≡ true
+occurs_in-IsIn [] k m = elim m [ ]
+occurs_in-IsIn (l ∷ C) k (inl e) = let f : (l.var == k.var) ≡ true = eq-eqb l.var k.var (ap (λ (x : Literal). x.var) (sym e)) in rw f refl
+occurs_in-IsIn (l ∷ C) k (inr m) = or-two (l.var == k.var) (occurs_in C k.var) (occurs_in-IsIn C k m)
 
-all-append : {X : Type 0} (P : X → Type 0) (xs ys : List X) → AllByRecursion P xs → AllByRecursion P ys → AllByRecursion P (xs ++ ys)
+pub occurs-IsIn : (X : Matrix) (D : Clause) (k : Literal) → IsIn D X → IsIn k D → occurs X k.var ≡ true
+occurs-IsIn [] D k m n = elim m [ ]
+occurs-IsIn (C ∷ X) D k (inl e) n = or-one (occurs_in C k.var) (occurs X k.var) (occurs_in-IsIn C k (subst (λ (x : Clause). IsIn k x) e n))
+occurs-IsIn (C ∷ X) D k (inr m) n = or-two (occurs_in C k.var) (occurs X k.var) (occurs-IsIn X D k m n)
+
+pub all-append : {X : Type 0} (P : X → Type 0) (xs ys : List X) → AllByRecursion P xs → AllByRecursion P ys → AllByRecursion P (xs ++ ys)
 all-append P [] ys h k = k
 all-append P (x ∷ xs) ys h k = (h.0, all-append P xs ys h.1 k)
-
-drop-all : (lits : List Literal) → drop (length lits) lits ≡ []
-drop-all [] = refl
-drop-all (l ∷ lits) = drop-all lits
-
-row : (P : Literal → Type 0) (lits : List Literal) (from : ℕ) (ends : List ℕ) → AreEnds from ends (length lits) → AllByRecursion (λ c. AllByRecursion P c) (clauses_between lits from ends) → AllByRecursion P (drop from lits)
-row P lits from [] e h = subst (λ n. AllByRecursion P (drop n lits)) (sym e) (subst (AllByRecursion P) (sym (drop-all lits)) tt)
-row P lits from (n ∷ ends) e h = subst (AllByRecursion P) (sym (drop_split lits from n e.0)) (all-append P (slice_range lits from n) (drop n lits) h.0 (row P lits n ends e.1 h.1))
-
-pub row-occurs : (lits : List Literal) (ends : List ℕ) → AreEnds 0 ends (length lits) → AllByRecursion (λ l. occurs (clauses_between lits 0 ends) l.var ≡ true) lits
-row-occurs lits ends e = row (λ l. occurs (clauses_between lits 0 ends) l.var ≡ true) lits 0 ends e (occurs-own (clauses_between lits 0 ends) (occurs (clauses_between lits 0 ends)) (λ v h. h))
 
 pub pairs-append : {X : Type 0} (R : X → X → Type 0) (xs ys : List X) → ArePairs R xs → ArePairs R ys → AllByRecursion (λ x. AllByRecursion (R x) ys) xs → ArePairs R (xs ++ ys)
 pairs-append R [] ys h k a = k

@@ -13,26 +13,26 @@ use Rattle.q_text.specs.declared.tokens.TokenKind.{TokenKind}
 use Rattle.q_text.specs.declared.tokens.TokenKind.TheVariants.{Number}
 use Rattle.q_dimacs.specs.declared.builder.Place.{Place}
 use Rattle.q_dimacs.specs.declared.builder.Place.TheVariants.{Vars, Count, Outside, InSet, InClause}
-use Rattle.q_dimacs.specs.declared.builder.Builder.{Builder}
 use Rattle.q_dimacs.specs.declared.error.ReadError.{ReadError}
 use Rattle.q_logic.specs.Clauses.{clause_of}
 use Rattle.q_logic.specs.Prefixes.{is_bound}
-use Rattle.q_dimacs.specs.Reading.{step_of, number, nothing_read}
+use Rattle.q_dimacs.specs.Reading.{Gathered, step_of, number, nothing_read}
 use Rattle.q_dimacs.specs.Offences.{tokens_read, at_line, at_last, past_limit, parse}
 use Rattle.q_text.specs.Texts.{tokens_of, tokens_ended, line_after}
 use Rattle.q_logic.specs.Parts.{ArePairs}
-use Rattle.q_dimacs.specs.Dimacs.{Text, vars_kinds, sets_kinds, clause_kinds, clauses_kinds, letter, spelled, vars_bounds, sets_bounds, total, IsVar, IsLawful, Dimacs, text_formula}
+use Rattle.q_dimacs.specs.Dimacs.{Text, vars_kinds, sets_kinds, clauses_kinds, letter, spelled, vars_bounds, sets_bounds, total, IsVar, IsLawful, Dimacs, text_formula}
+use Rattle.q_text.specs.Tokens.{literals_kinds}
 use Rattle.q_logic.specs.Prefixes.{Block}
 
-abbrev kind_step : Limits → Result Builder ℕ → TokenKind → Result Builder ℕ
+abbrev kind_step : Limits → Result Gathered ℕ → TokenKind → Result Gathered ℕ
 kind_step m (Ok b) k = step_of m b k
 kind_step m (Err c) k = Err c
 
-abbrev pub kinds_read : Limits → Result Builder ℕ → List TokenKind → Result Builder ℕ
+abbrev pub kinds_read : Limits → Result Gathered ℕ → List TokenKind → Result Gathered ℕ
 kinds_read m r [] = r
 kinds_read m r (k ∷ ks) = kinds_read m (kind_step m r k) ks
 
-kinds-append : (m : Limits) (r : Result Builder ℕ) (xs ys : List TokenKind) → kinds_read m r (xs ++ ys) ≡ kinds_read m (kinds_read m r xs) ys
+kinds-append : (m : Limits) (r : Result Gathered ℕ) (xs ys : List TokenKind) → kinds_read m r (xs ++ ys) ≡ kinds_read m (kinds_read m r xs) ys
 kinds-append m r [] ys = refl
 kinds-append m r (x ∷ xs) ys = kinds-append m (kind_step m r x) xs ys
 
@@ -41,17 +41,17 @@ kinds-err m c [] = refl
 kinds-err m c (k ∷ ks) = kinds-err m c ks
 
 -- lines don't matter where there is no offence
-pub without-lines : (m : Limits) (b d : Builder) (ts : List Token) → kinds_read m (Ok b) (map (λ t. t.kind) ts) ≡ Ok d → tokens_read m (Ok b) ts ≡ Ok d
+pub without-lines : (m : Limits) (b d : Gathered) (ts : List Token) → kinds_read m (Ok b) (map (λ t. t.kind) ts) ≡ Ok d → tokens_read m (Ok b) ts ≡ Ok d
 without-lines m b d [] e = ap keep e where
-  keep : Result Builder ℕ → Result Builder ReadError
+  keep : Result Gathered ℕ → Result Gathered ReadError
   keep (Ok x) = Ok x
   keep (Err c) = Ok b
 without-lines m b d (t ∷ ts) e = go (step_of m b t.kind) e (λ c. without-lines m c d ts) where
-  go : (r : Result Builder ℕ) → kinds_read m r (map (λ t. t.kind) ts) ≡ Ok d → ((c : Builder) → kinds_read m (Ok c) (map (λ t. t.kind) ts) ≡ Ok d → tokens_read m (Ok c) ts ≡ Ok d) → tokens_read m (at_line t.line r) ts ≡ Ok d
+  go : (r : Result Gathered ℕ) → kinds_read m r (map (λ t. t.kind) ts) ≡ Ok d → ((c : Gathered) → kinds_read m (Ok c) (map (λ t. t.kind) ts) ≡ Ok d → tokens_read m (Ok c) ts ≡ Ok d) → tokens_read m (at_line t.line r) ts ≡ Ok d
   go (Ok c) e f = f c e
   go (Err c) e f = let g = kinds-err m c (map (λ t. t.kind) ts) in cc
 
-abbrev pub inside : Place → ℕ → ℕ → ℕ → Prefix → Matrix → List Literal → Builder
+abbrev pub inside : Place → ℕ → ℕ → ℕ → Prefix → Matrix → List Literal → Gathered
 inside at v c n p x ls = record { place = at; vars = v; count = c; lits = n; parts = record { bounds = p; clauses = x; pending = ls } }
 
 not-above : (n v : ℕ) → n ≤ v → nat_lt v n ≡ false
@@ -75,25 +75,25 @@ read-literal m at v c n p x ls l h k = go l.var l.negative h where
   go (suc w) false h = rw (not-zero (suc w) h.0, not-above (suc w) v h.1, not-full n m.lits k) refl
 
 read-rest : (m : Limits) (v c n : ℕ) (p : Prefix) (x : Matrix) (ls ms : List Literal) → AllByRecursion (λ l. IsVar v l.var) ms → n + length ms ≤ m.lits
-    → kinds_read m (Ok (inside InClause v c n p x ls)) (clause_kinds ms) ≡ Ok (inside Outside v c (n + length ms) p (x ++ clause_of (ls ++ ms) ∷ []) [])
+    → kinds_read m (Ok (inside InClause v c n p x ls)) (literals_kinds ms) ≡ Ok (inside Outside v c (n + length ms) p (x ++ clause_of (ls ++ ms) ∷ []) [])
 read-rest m v c n p x ls [] h k = rw (add-zero, append-nil) refl
 read-rest m v c n p x ls (l ∷ ms) h k =
     let one = read-literal m InClause v c n p x ls l h.0 (omega arith) in
     let g : (n + 1) + length ms ≤ m.lits = omega arith in
     let e : (n + 1) + length ms ≡ n + suc (length ms) = omega arith in
     let a = append_assoc ls (l ∷ []) ms in
-    ap (λ r. kinds_read m r (clause_kinds ms)) one ∙ (read-rest m v c (n + 1) p x (ls ++ l ∷ []) ms h.1 g ∙ rw (e, a) refl)
+    ap (λ r. kinds_read m r (literals_kinds ms)) one ∙ (read-rest m v c (n + 1) p x (ls ++ l ∷ []) ms h.1 g ∙ rw (e, a) refl)
 
 read-clause : (m : Limits) (v c n : ℕ) (p : Prefix) (x : Matrix) (ls : List Literal) → AllByRecursion (λ l. IsVar v l.var) ls → n + length ls ≤ m.lits → length x < c
-    → kinds_read m (Ok (inside Outside v c n p x [])) (clause_kinds ls) ≡ Ok (inside Outside v c (n + length ls) p (x ++ clause_of ls ∷ []) [])
+    → kinds_read m (Ok (inside Outside v c n p x [])) (literals_kinds ls) ≡ Ok (inside Outside v c (n + length ls) p (x ++ clause_of ls ∷ []) [])
 read-clause m v c n p x [] h k l = rw (not-full (length x) c l, add-zero) refl
 read-clause m v c n p x (a ∷ ls) h k l =
     let one = read-literal m Outside v c n p x [] a h.0 (omega arith) in
     let g : (n + 1) + length ls ≤ m.lits = omega arith in
     let e : (n + 1) + length ls ≡ n + suc (length ls) = omega arith in
-    ap (λ r. kinds_read m r (clause_kinds ls)) (open-clause (nat_le c (length x)) (not-full (length x) c l) (number m (inside Outside v c n p x []) (number_of a)) ∙ one)
+    ap (λ r. kinds_read m r (literals_kinds ls)) (open-clause (nat_le c (length x)) (not-full (length x) c l) (number m (inside Outside v c n p x []) (number_of a)) ∙ one)
     ∙ (read-rest m v c (n + 1) p x (a ∷ []) ls h.1 g ∙ ap (λ y. Ok (inside Outside v c y p (x ++ clause_of (a ∷ ls) ∷ []) [])) e) where
-      open-clause : (t : Bool) → t ≡ false → (r : Result Builder ℕ) → (if t then Err 6 else r) ≡ r
+      open-clause : (t : Bool) → t ≡ false → (r : Result Gathered ℕ) → (if t then Err 6 else r) ≡ r
       open-clause true e r = cc
       open-clause false e r = refl
 
@@ -106,7 +106,7 @@ read-clauses m v c n p x (d ∷ cs) h k l =
     let e : (n + length d) + total cs ≡ n + (length d + total cs) = omega arith in
     let j : length (x ++ clause_of d ∷ []) + length cs ≤ c = rw length-append (omega arith) in
     let a = append_assoc x (clause_of d ∷ []) (map clause_of cs) in
-    kinds-append m (Ok (inside Outside v c n p x [])) (clause_kinds d) (clauses_kinds cs)
+    kinds-append m (Ok (inside Outside v c n p x [])) (literals_kinds d) (clauses_kinds cs)
     ∙ (ap (λ r. kinds_read m r (clauses_kinds cs)) one
     ∙ (read-clauses m v c (n + length d) p (x ++ clause_of d ∷ []) cs h.1 g j ∙ rw (e, a) refl))
 

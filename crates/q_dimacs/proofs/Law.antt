@@ -12,16 +12,15 @@ use Rattle.std.proofs.lemmas.List.{take-append-drop}
 use Rattle.q_text.specs.Texts.{tokens_of, tokens_ended, line_after, line_from}
 use Rattle.q_text.specs.Tokens.{handed, after, token_in, kind_in, begun, after_blank, grown, to_come, listed, all_handed}
 use Rattle.q_text.proofs.Law.{from_start, handed-ended}
-use Rattle.q_dimacs.specs.declared.builder.Builder.{Builder}
 use Rattle.q_dimacs.specs.declared.error.ReadError.{ReadError}
 use Rattle.q_dimacs.specs.declared.error.ReadError.TheVariants.{Refused}
 use Rattle.q_dimacs.specs.declared.reader.Standing.TheVariants.{Reading, Stopped}
-use Rattle.q_dimacs.specs.Reading.{step_of, end_of, nothing_read, limit}
+use Rattle.q_dimacs.specs.Reading.{Gathered, step_of, end_of, nothing_read, limit}
 use Rattle.q_dimacs.specs.Scanning.{Scan, stepped, token_step, fed, start, whole, ended, outcome, outcome_at}
 use Rattle.q_dimacs.specs.Offences.{at_end, at_line, tokens_read, at_last, past_limit, parse}
 use Rattle.q_dimacs.proofs.Feeding.{fed-stopped}
 
-abbrev scan : Limits → Tokens → ℕ → Builder → Scan
+abbrev scan : Limits → Tokens → ℕ → Gathered → Scan
 scan m t n b = record { limits = m; tokens = t; taken = n; builder = b; standing = Reading }
 
 pub tokens_read-err : (m : Limits) (e : ReadError) (ts : List Token) → tokens_read m (Err e) ts ≡ Err e
@@ -35,16 +34,16 @@ pub outcome-fed-stopped : (s : Scan) (e : ReadError) (bs : List ℕ) → s.stand
 outcome-fed-stopped s e bs h = rw (fed-stopped s e bs h) (outcome-stopped s e h)
 
 -- the end
-whole-is : (m : Limits) (t : Tokens) (n : ℕ) (b : Builder) → ended (scan m t n b) ≡ at_end t.line b (end_of b)
+whole-is : (m : Limits) (t : Tokens) (n : ℕ) (b : Gathered) → ended (scan m t n b) ≡ at_end t.line b (end_of b)
 whole-is m t n b = go (end_of b) where
   go : (o : Option ℕ) → whole (scan m t n b) o ≡ at_end t.line b o
   go None = refl
   go (Some c) = refl
 
-at_end-is : (m : Limits) (t : Tokens) (n : ℕ) (b : Builder) (o : Option Token) → ended (token_step (scan m t n b) o) ≡ at_last t.line (tokens_read m (Ok b) (listed o))
+at_end-is : (m : Limits) (t : Tokens) (n : ℕ) (b : Gathered) (o : Option Token) → ended (token_step (scan m t n b) o) ≡ at_last t.line (tokens_read m (Ok b) (listed o))
 at_end-is m t n b None = whole-is m t n b
 at_end-is m t n b (Some k) = go (step_of m b k.kind) where
-  go : (r : Result Builder ℕ) → ended (stepped (scan m t n b) k.line r) ≡ at_last t.line (at_line k.line r)
+  go : (r : Result Gathered ℕ) → ended (stepped (scan m t n b) k.line r) ≡ at_last t.line (at_line k.line r)
   go (Ok c) = whole-is m t n c
   go (Err c) = refl
 
@@ -55,15 +54,15 @@ line-next t b = go (b == 10) (is_separator b) where
   go false true = refl
   go false false = refl
 
-module _ (last : ℕ → Result Builder ReadError → Result PrenexFormula ReadError) (passes : (n : ℕ) (e : ReadError) → last n (Err e) ≡ Err e) where
-  after-step : (m : Limits) (t : Tokens) (n k line : ℕ) (bs : List ℕ) (ts : List Token) (r : Result Builder ℕ) (b : Builder) → ((c : Builder) → outcome (fed (scan m t n c) bs) ≡ last line (tokens_read m (Ok c) ts))
+module _ (last : ℕ → Result Gathered ReadError → Result PrenexFormula ReadError) (passes : (n : ℕ) (e : ReadError) → last n (Err e) ≡ Err e) where
+  after-step : (m : Limits) (t : Tokens) (n k line : ℕ) (bs : List ℕ) (ts : List Token) (r : Result Gathered ℕ) (b : Gathered) → ((c : Gathered) → outcome (fed (scan m t n c) bs) ≡ last line (tokens_read m (Ok c) ts))
       → outcome (fed (stepped (scan m t n b) k r) bs) ≡ last line (tokens_read m (at_line k r) ts)
   after-step m t n k line bs ts (Ok c) b ih = ih c
   after-step m t n k line bs ts (Err c) b ih =
       outcome-fed-stopped (record { limits = m; tokens = t; taken = n; builder = b; standing = Stopped (Refused k c) }) (Refused k c) bs refl
       ∙ sym (ap (last line) (tokens_read-err m (Refused k c) ts) ∙ passes line (Refused k c))
 
-  after-handed : (m : Limits) (t : Tokens) (n line : ℕ) (bs : List ℕ) (ts : List Token) (o : Option Token) (b : Builder) → ((c : Builder) → outcome (fed (scan m t n c) bs) ≡ last line (tokens_read m (Ok c) ts))
+  after-handed : (m : Limits) (t : Tokens) (n line : ℕ) (bs : List ℕ) (ts : List Token) (o : Option Token) (b : Gathered) → ((c : Gathered) → outcome (fed (scan m t n c) bs) ≡ last line (tokens_read m (Ok c) ts))
       → outcome (fed (token_step (scan m t n b) o) bs) ≡ last line (tokens_read m (Ok b) (listed o ++ ts))
   after-handed m t n line bs ts None b ih = ih b
   after-handed m t n line bs ts (Some k) b ih = after-step m t n k.line line bs ts (step_of m b k.kind) b ih
@@ -88,11 +87,11 @@ cond-yes : (u : Bool) (x y : Scan) → u ≡ true → (if u then x else y) ≡ x
 cond-yes true x y e = refl
 cond-yes false x y e = cc
 
-abbrev refused : Limits → Tokens → ℕ → Builder → Scan
+abbrev refused : Limits → Tokens → ℕ → Gathered → Scan
 refused m t n b = record { limits = m; tokens = t; taken = n; builder = b; standing = Stopped (Refused t.line limit) }
 
 -- within the limit
-within : (m : Limits) (t : Tokens) (n : ℕ) (b : Builder) (bs : List ℕ) → n + length bs ≤ m.bytes →
+within : (m : Limits) (t : Tokens) (n : ℕ) (b : Gathered) (bs : List ℕ) → n + length bs ≤ m.bytes →
     outcome (fed (scan m t n b) bs) ≡ at_last (line_from t.line bs) (tokens_read m (Ok b) (to_come t bs))
 within m t n b [] h = at_end-is m t n b (token_in (kind_in t.shape) t.line)
 within m t n b (x ∷ bs) h =
@@ -103,7 +102,7 @@ within m t n b (x ∷ bs) h =
     ∙ ap (λ l. at_last (line_from l bs) (tokens_read m (Ok b) (to_come t (x ∷ bs)))) (line-next t x))
 
 -- past the limit
-past : (m : Limits) (t : Tokens) (n : ℕ) (b : Builder) (bs : List ℕ) (x : ℕ) (xs : List ℕ) → n + length bs ≡ m.bytes →
+past : (m : Limits) (t : Tokens) (n : ℕ) (b : Gathered) (bs : List ℕ) (x : ℕ) (xs : List ℕ) → n + length bs ≡ m.bytes →
     outcome (fed (scan m t n b) (bs ++ x ∷ xs)) ≡ past_limit (line_from t.line bs) (tokens_read m (Ok b) (all_handed t bs))
 past m t n b [] x xs h =
     ap (λ s. outcome (fed s xs)) (cond-yes (nat_le m.bytes n) (refused m t n b) (token_step (scan m (after t x) (n + 1) b) (handed t x)) (at-limit n m.bytes h))

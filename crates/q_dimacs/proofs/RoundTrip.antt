@@ -19,13 +19,13 @@ use Rattle.q_text.specs.declared.tokens.TokenKind.{TokenKind}
 use Rattle.q_text.specs.declared.tokens.TokenKind.TheVariants.{Number, P, Cnf}
 use Rattle.q_text.specs.declared.shape.Shape.TheVariants.{Start, Between}
 use Rattle.q_text.specs.Texts.{tokens_of}
-use Rattle.q_text.specs.Tokens.{to_come}
+use Rattle.q_text.specs.Tokens.{to_come, literals_kinds}
 use Rattle.q_text.specs.Numbers.{number_text, numbers_text, line_end}
 use Rattle.q_text.proofs.Law.{at, from_start}
 use Rattle.q_text.proofs.Spelling.{opens-start, opens-between}
 use Rattle.q_text.proofs.Decimals.{IsShown, token_of, number-space, count-line, numbers-line}
 use Rattle.q_dimacs.specs.Building.{occurs, occurs_in, is_free, greatest, formula_of}
-use Rattle.q_dimacs.specs.Dimacs.{Text, letter, vars_kinds, sets_kinds, clause_kinds, clauses_kinds, spelled, vars_bounds, sets_bounds, IsVar, text_formula, Dimacs}
+use Rattle.q_dimacs.specs.Dimacs.{Text, letter, vars_kinds, sets_kinds, clauses_kinds, spelled, vars_bounds, sets_bounds, IsVar, text_formula, Dimacs}
 use Rattle.q_dimacs.specs.Writing.{block_text, blocks_text, clause_text, matrix_text, greatest_bound, header_text, formula_text, KeepsLimits}
 use Rattle.q_dimacs.proofs.Free.{bounds-none, apart}
 
@@ -41,7 +41,7 @@ kinds-vars : (n : ℕ) (vs : List ℕ) (rest : List Token) → kinds (map (token
 kinds-vars n [] rest = refl
 kinds-vars n (v ∷ vs) rest = ap (λ ks. Number (pos v) ∷ ks) (kinds-vars n vs rest)
 
-kinds-literals : (n : ℕ) (ls : List Literal) (rest : List Token) → kinds (map (token_of n) (map number_of ls) ++ token_of n (pos 0) ∷ rest) ≡ clause_kinds ls ++ kinds rest
+kinds-literals : (n : ℕ) (ls : List Literal) (rest : List Token) → kinds (map (token_of n) (map number_of ls) ++ token_of n (pos 0) ∷ rest) ≡ literals_kinds ls ++ kinds rest
 kinds-literals n [] rest = refl
 kinds-literals n (l ∷ ls) rest = ap (λ ks. Number (number_of l) ∷ ks) (kinds-literals n ls rest)
 
@@ -94,7 +94,7 @@ blocks-kinds n T (B ∷ Bs) rest s h =
     ∙ sym (append_assoc (vars_kinds B.vars) (sets_kinds Bs) (kinds (to_come (at (lines_past (n + 1) Bs) Start) rest)))))
 
 clause-kinds : (n T : ℕ) (C : Clause) (rest : List ℕ) → T < 2 ^ 31 → AllByRecursion (λ l. IsVar T l.var) C
-    → kinds (to_come (at n Start) (clause_text C ++ rest)) ≡ clause_kinds C ++ kinds (to_come (at (n + 1) Start) rest)
+    → kinds (to_come (at n Start) (clause_text C ++ rest)) ≡ literals_kinds C ++ kinds (to_come (at (n + 1) Start) rest)
 clause-kinds n T C rest s h =
     ap (λ x. kinds (to_come (at n Start) x)) (append_assoc (numbers_text (map number_of C)) line_end rest)
     ∙ (ap kinds (numbers-line n Start (map number_of C) rest opens-start (literals-shown T C s h)) ∙ kinds-literals n C (to_come (at (n + 1) Start) rest))
@@ -103,7 +103,7 @@ matrix-kinds : (n T : ℕ) (X : Matrix) → T < 2 ^ 31 → AllByRecursion (λ C.
     → kinds (to_come (at n Start) (matrix_text X)) ≡ clauses_kinds X
 matrix-kinds n T [] s h = refl
 matrix-kinds n T (C ∷ X) s h =
-    clause-kinds n T C (matrix_text X) s h.0 ∙ ap (λ ks. clause_kinds C ++ ks) (matrix-kinds (n + 1) T X s h.1)
+    clause-kinds n T C (matrix_text X) s h.0 ∙ ap (λ ks. literals_kinds C ++ ks) (matrix-kinds (n + 1) T X s h.1)
 
 header-kinds : (T c : ℕ) (rest : List ℕ) → T ≤ 4611686018427387904 → c ≤ 4611686018427387904
     → kinds (to_come (at 1 Start) (header_text T c ++ rest)) ≡ P ∷ Cnf ∷ Number (pos T) ∷ Number (pos c) ∷ kinds (to_come (at 2 Start) rest)

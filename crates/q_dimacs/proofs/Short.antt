@@ -15,26 +15,12 @@ use Rattle.q_logic.specs.Limits.{standard, AreModerate}
 use Rattle.q_logic.specs.InLimits.{IsInLimits, greatest}
 use Rattle.q_logic.proofs.Prefixes.{removed-is_bound, removed-unbound, removed-distinct}
 use Rattle.q_logic.proofs.Ordering.{is_bound-greatest}
+use Rattle.q_text.proofs.Short.{literal-short}
 use Rattle.q_text.specs.Numbers.{number_text, numbers_text, line_end}
 use Rattle.q_dimacs.specs.Dimacs.{Dimacs, total}
 use Rattle.q_dimacs.specs.Writing.{formula_text, header_text, blocks_text, matrix_text, clause_text, quant_text, opening, bounds_text, greatest_bound}
 use Rattle.q_dimacs.proofs.Writing.{blocks-bounds}
 use Rattle.q_dimacs.proofs.RoundTrip.{written_is_read}
-
--- a literal of such a variable takes at most twelve bytes
-
-number-short : (z : ℤ) → mag z < 2 ^ 31 → length (number_text z) ≤ 12
-number-short z h =
-    let e = length_signed_le 10 z (omega arith) (omega arith) in
-    rw (length-append (signed_decimal z) (32 ∷ [])) (omega arith)
-
-literal_short : (v : ℕ) (b : Bool) → v < 2 ^ 31 → length (number_text (number_of (record { var = v; negative = b }))) ≤ 12
-literal_short v false h = number-short (pos v) h
-literal_short zero true h = number-short (pos 0) h
-literal_short (suc v) true h = number-short (negsuc v) (omega arith)
-
-literal-short : (l : Literal) → l.var < 2 ^ 31 → length (number_text (number_of l)) ≤ 12
-literal-short l h = literal_short l.var l.negative h
 
 -- a prefix has no more variables than its greatest one says
 
@@ -46,7 +32,7 @@ removed-length v (b ∷ P) = go (eqb b.var v) (removed-length v P)
     go true h = omega arith
     go false h = omega arith
 
-few-bound : (n : ℕ) (P : Prefix) → Distinct P → ((v : ℕ) → is_bound P v ≡ true → (1 ≤ v) × (v ≤ n)) → length P ≤ n
+pub few-bound : (n : ℕ) (P : Prefix) → Distinct P → ((v : ℕ) → is_bound P v ≡ true → (1 ≤ v) × (v ≤ n)) → length P ≤ n
 few-bound n [] d h = omega arith
 few-bound zero (b ∷ P) d h =
     let r : (1 ≤ b.var) × (b.var ≤ 0) = h b.var (grind arith) in
@@ -73,18 +59,18 @@ few-bound (suc n) (b ∷ P) d h =
 
 -- texts
 
-abbrev InRange : Prefix → Type 0
+abbrev pub InRange : Prefix → Type 0
 InRange P = AllByRecursion (λ q. (1 ≤ q.var) × (q.var < 2 ^ 31)) P
 
-greatest-same : (P : Prefix) → greatest_bound P ≤ greatest P
+pub greatest-same : (P : Prefix) → greatest_bound P ≤ greatest P
 greatest-same [] = omega arith
 greatest-same (b ∷ P) = let i : greatest_bound P ≤ greatest P = greatest-same P in omega arith
 
-total-same : (X : Matrix) → total X ≡ literals_in X
+pub total-same : (X : Matrix) → total X ≡ literals_in X
 total-same [] = refl
 total-same (C ∷ X) = ap (λ n. length C + n) (total-same X)
 
-bound-range : (P : Prefix) (v : ℕ) → InRange P → is_bound P v ≡ true → (1 ≤ v) × (v < 2 ^ 31)
+pub bound-range : (P : Prefix) (v : ℕ) → InRange P → is_bound P v ≡ true → (1 ≤ v) × (v < 2 ^ 31)
 bound-range [] v h e = absurd (cc)
 bound-range (b ∷ P) v h e = go (eqb b.var v) refl e (bound-range P v h.1)
   where
@@ -92,7 +78,7 @@ bound-range (b ∷ P) v h e = go (eqb b.var v) refl e (bound-range P v h.1)
     go true q f ih = let z : b.var ≡ v = grind arith in subst (λ (n : ℕ). (1 ≤ n) × (n < 2 ^ 31)) z h.0
     go false q f ih = ih f
 
-numbers-short : (C : Clause) → ((k : Literal) → IsIn k C → k.var < 2 ^ 31) → length (numbers_text (map number_of C)) ≤ 12 * length C
+pub numbers-short : (C : Clause) → ((k : Literal) → IsIn k C → k.var < 2 ^ 31) → length (numbers_text (map number_of C)) ≤ 12 * length C
 numbers-short [] h = omega arith
 numbers-short (k ∷ C) h =
     let e : length (number_text (number_of k)) ≤ 12 = literal-short k (h k (inl refl)) in
@@ -100,7 +86,7 @@ numbers-short (k ∷ C) h =
     let a : length (number_text (number_of k) ++ numbers_text (map number_of C)) ≡ length (number_text (number_of k)) + length (numbers_text (map number_of C)) = length-append (number_text (number_of k)) (numbers_text (map number_of C)) in
     omega arith
 
-matrix-short : (X : Matrix) → ((D : Clause) → IsIn D X → (k : Literal) → IsIn k D → k.var < 2 ^ 31) → length (matrix_text X) ≤ 12 * literals_in X + 2 * length X
+pub matrix-short : (X : Matrix) → ((D : Clause) → IsIn D X → (k : Literal) → IsIn k D → k.var < 2 ^ 31) → length (matrix_text X) ≤ 12 * literals_in X + 2 * length X
 matrix-short [] h = omega arith
 matrix-short (C ∷ X) h =
     let e : length (numbers_text (map number_of C)) ≤ 12 * length C = numbers-short C (h C (inl refl)) in
@@ -114,7 +100,7 @@ quant-short : (q : Quant) → length (quant_text q) ≡ 2
 quant-short Exists = refl
 quant-short Forall = refl
 
-opening-short : (o : Option Quant) (q : Quant) → length (opening o q) ≤ 4
+pub opening-short : (o : Option Quant) (q : Quant) → length (opening o q) ≤ 4
 opening-short None q = let e : length (quant_text q) ≡ 2 = quant-short q in omega arith
 opening-short (Some p) q = go (same_quant p q)
   where
@@ -122,7 +108,7 @@ opening-short (Some p) q = go (same_quant p q)
     go true = omega arith
     go false = let e : length (quant_text q) ≡ 2 = quant-short q in omega arith
 
-bounds-short : (o : Option Quant) (P : Prefix) → InRange P → length (bounds_text o P) ≤ 16 * length P + 2
+pub bounds-short : (o : Option Quant) (P : Prefix) → InRange P → length (bounds_text o P) ≤ 16 * length P + 2
 bounds-short None [] h = omega arith
 bounds-short (Some q) [] h = omega arith
 bounds-short o (b ∷ P) h =
@@ -133,7 +119,7 @@ bounds-short o (b ∷ P) h =
     let c : length ((opening o b.quant ++ number_text (pos b.var)) ++ bounds_text (Some b.quant) P) ≡ length (opening o b.quant ++ number_text (pos b.var)) + length (bounds_text (Some b.quant) P) = length-append (opening o b.quant ++ number_text (pos b.var)) (bounds_text (Some b.quant) P) in
     omega arith
 
-header-short : (v c : ℕ) → v < 10 ^ 10 → c < 10 ^ 10 → length (header_text v c) ≤ 28
+pub header-short : (v c : ℕ) → v < 10 ^ 10 → c < 10 ^ 10 → length (header_text v c) ≤ 28
 header-short v c p q =
     let a : length (decimal v) ≤ 10 = length-decimal-le 10 v (omega arith) p (omega arith) in
     let b : length (decimal c) ≤ 10 = length-decimal-le 10 c (omega arith) q (omega arith) in

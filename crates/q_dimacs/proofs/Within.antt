@@ -4,20 +4,19 @@ use Rattle.std.proofs.lemmas.Bool.Decides.{nat_tests}
 use Rattle.q_logic.specs.declared.limits.Limits.{Limits}
 use Rattle.q_text.specs.declared.tokens.Token.{Token}
 use Rattle.q_text.specs.Tokens.{after, handed}
-use Rattle.q_dimacs.specs.declared.builder.Builder.{Builder}
 use Rattle.q_dimacs.specs.declared.error.ReadError.{ReadError}
 use Rattle.q_dimacs.specs.declared.error.ReadError.TheVariants.{Refused}
 use Rattle.q_dimacs.specs.declared.reader.Standing.{Standing}
 use Rattle.q_dimacs.specs.declared.reader.Standing.TheVariants.{Reading, Stopped}
-use Rattle.q_dimacs.specs.Reading.{step_of, limit}
+use Rattle.q_dimacs.specs.Reading.{Gathered, step_of, limit}
 use Rattle.q_dimacs.specs.Scanning.{Scan, fed, byte_at, token_step, stepped, start, HasRead, Feeds}
 use Rattle.q_dimacs.proofs.Feeding.{fed-stopped, fed-more}
 
-stepped-taken : (s : Scan) (n : ℕ) (r : Result Builder ℕ) → (stepped s n r).taken ≡ s.taken
+stepped-taken : (s : Scan) (n : ℕ) (r : Result Gathered ℕ) → (stepped s n r).taken ≡ s.taken
 stepped-taken s n (Ok b) = refl
 stepped-taken s n (Err c) = refl
 
-stepped-limits : (s : Scan) (n : ℕ) (r : Result Builder ℕ) → (stepped s n r).limits ≡ s.limits
+stepped-limits : (s : Scan) (n : ℕ) (r : Result Gathered ℕ) → (stepped s n r).limits ≡ s.limits
 stepped-limits s n (Ok b) = refl
 stepped-limits s n (Err c) = refl
 

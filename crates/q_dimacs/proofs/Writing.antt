@@ -7,20 +7,11 @@ use Rattle.q_logic.specs.Literals.{Literal, number_of}
 use Rattle.q_logic.specs.Formulas.{Clause, Matrix, Prefix}
 use Rattle.q_logic.specs.Prefixes.{Block, blocks, push_block}
 use Rattle.q_text.specs.Numbers.{number_text, numbers_text, line_end}
-use Rattle.q_dimacs.specs.Writing.{quant_text, blocks_text, clause_text, matrix_text, bound_text, closing, bounds_text, Extends}
-
-pub extends-self : (a : List ℕ) → Extends a a
-extends-self a = record { rest = []; is = sym (append-nil a) }
-
-pub extends-more : (a b c : List ℕ) → Extends a b → Extends b c → Extends a c
-extends-more a b c h k = record { rest = h.rest ++ k.rest; is = k.is ∙ (ap (λ x. x ++ k.rest) h.is ∙ append_assoc a h.rest k.rest) }
+use Rattle.q_dimacs.specs.Writing.{quant_text, blocks_text, clause_text, matrix_text, bound_text, closing, bounds_text}
+use Rattle.q_text.specs.Texts.{Extends}
 
 pub extends-append : (a b c : List ℕ) → Extends a b → Extends a (b ++ c)
 extends-append a b c h = record { rest = h.rest ++ c; is = ap (λ x. x ++ c) h.is ∙ append_assoc a h.rest c }
-
-pub on-err : {X E : Type 0} {P : Type 0} (r : Result X E) → P → OnErr r P
-on-err (Ok x) p = tt
-on-err (Err e) p = p
 
 -- what is written next fits where all that is left fits
 pub next-fits : (a r b w x y : List ℕ) → a ++ r ≡ b ++ w → r ≡ x ++ y → length a + length x ≤ length b + length w

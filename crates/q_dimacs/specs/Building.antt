@@ -1,11 +1,11 @@
 -- What has been read of a formula, and what becomes of it.
-use Rattle.std.specs.Prelude.{◌≡◌, ◌≢◌, ℕ, ◌+◌, ◌<◌, ◌≤◌, ◌^◌, ◌==◌, ◌&&◌, ◌||◌, not, Bool, false, List, [], ◌∷◌, ◌++◌, length, if◌then◌else◌, slice_index_or, suc, zero, max}
+use Rattle.std.specs.Prelude.{◌≡◌, ◌≢◌, ℕ, ◌+◌, ◌<◌, ◌≤◌, ◌^◌, ◌==◌, ◌&&◌, ◌||◌, not, Bool, false, List, [], ◌∷◌, ◌++◌, length, if◌then◌else◌, slice_index_or, suc, zero, max, Result, OnOk}
 use Rattle.std.specs.List.{AllByRecursion}
 use Rattle.q_logic.specs.declared.formulas.Quant.TheVariants.{Exists}
 use Rattle.q_logic.specs.Literals.{IsBelow, Literal}
 use Rattle.q_logic.specs.Formulas.{Matrix, Prefix, PrenexFormula}
 use Rattle.q_logic.specs.Prefixes.{is_bound}
-use Rattle.q_logic.specs.Parts.{AreEnds, ArePairs, clauses_between}
+use Rattle.q_logic.specs.Parts.{ArePairs}
 
 -- the sets so far, the clauses that have ended, and the literals of the next, as they were written
 pub record Built : Type 0 where
@@ -43,16 +43,22 @@ is_free p x v = occurs x v && not (is_bound p v)
 abbrev pub formula_of : Prefix → Matrix → PrenexFormula
 formula_of p x = record { prefix = bounds_from (is_free p x) 1 (greatest x) ++ p; matrix = x }
 
-pub record AreParts (prefix : Prefix) (bound : List Bool) (lits : List Literal) (ends : List ℕ) (used : List Bool) (pending : List Literal) : Type 0 where
+-- what the marks say of the sets and the clauses
+pub record AreParts (prefix : Prefix) (bound : List Bool) (matrix : Matrix) (used : List Bool) (pending : List Literal) : Type 0 where
   pub distinct : ArePairs (λ q r. q.var ≢ r.var) prefix
   pub ranges : AllByRecursion (λ q. (1 ≤ q.var) × (q.var < 2 ^ 31)) prefix
-  pub in_order : AreEnds 0 ends (length lits)
-  pub ordered : AllByRecursion (ArePairs IsBelow) (clauses_between lits 0 ends)
+  pub ordered : AllByRecursion (ArePairs IsBelow) matrix
   pub short : length used ≤ 2 ^ 31
   pub never : slice_index_or used 0 false ≡ false
   pub bounds : (v : ℕ) → slice_index_or bound v false ≡ is_bound prefix v
-  pub uses : (v : ℕ) → slice_index_or used v false ≡ (occurs (clauses_between lits 0 ends) v || occurs_in pending v)
+  pub uses : (v : ℕ) → slice_index_or used v false ≡ (occurs matrix v || occurs_in pending v)
 
 -- the same by marks
 abbrev pub is_marked_free : List Bool → List Bool → ℕ → Bool
 is_marked_free bound used v = slice_index_or used v false && not (slice_index_or bound v false)
+
+-- the marks reach the variable, unless memory runs out, and say the same as before
+pub record Reaches {X E : Type 0} (r : Result X E) (old new : List Bool) (var : ℕ) : Type 0 where
+  pub reached : OnOk r (var < length new)
+  pub same : (v : ℕ) → slice_index_or new v false ≡ slice_index_or old v false
+  pub short : length old ≤ 2 ^ 31 → length new ≤ 2 ^ 31

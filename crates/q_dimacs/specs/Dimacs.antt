@@ -8,6 +8,7 @@ use Rattle.q_logic.specs.Literals.{Literal, number_of}
 use Rattle.q_logic.specs.Formulas.{Prefix, PrenexFormula}
 use Rattle.q_logic.specs.Prefixes.{Block}
 use Rattle.q_logic.specs.Parts.{ArePairs}
+use Rattle.q_text.specs.Tokens.{literals_kinds}
 use Rattle.q_text.specs.declared.tokens.TokenKind.{TokenKind}
 use Rattle.q_text.specs.declared.tokens.TokenKind.TheVariants.{Number, P, Cnf, E, A}
 use Rattle.q_text.specs.Texts.{tokens_of}
@@ -34,13 +35,9 @@ abbrev pub sets_kinds : List Block → List TokenKind
 sets_kinds [] = []
 sets_kinds (s ∷ ss) = letter s.quant ∷ vars_kinds s.vars ++ sets_kinds ss
 
-abbrev pub clause_kinds : List Literal → List TokenKind
-clause_kinds [] = Number (pos 0) ∷ []
-clause_kinds (l ∷ ls) = Number (number_of l) ∷ clause_kinds ls
-
 abbrev pub clauses_kinds : List (List Literal) → List TokenKind
 clauses_kinds [] = []
-clauses_kinds (c ∷ cs) = clause_kinds c ++ clauses_kinds cs
+clauses_kinds (c ∷ cs) = literals_kinds c ++ clauses_kinds cs
 
 -- 1. p, cnf, V and C; 2. the sets; 3. the clauses
 abbrev pub spelled : Text → List TokenKind
@@ -81,13 +78,6 @@ pub record Dimacs (m : Limits) (bytes : List ℕ) (f : PrenexFormula) : Type 0 w
   pub tokens : map (λ t. t.kind) (tokens_of bytes) ≡ spelled text
   pub lawful : IsLawful m text
   pub formula : f ≡ text_formula text
-
--- no limit of the first is above that of the second
-pub record AreWithin (small large : Limits) : Type 0 where
-  pub vars : small.vars ≤ large.vars
-  pub clauses : small.clauses ≤ large.clauses
-  pub lits : small.lits ≤ large.lits
-  pub bytes : small.bytes ≤ large.bytes
 
 -- what the reader has read is a formula file, and this is its formula
 abbrev pub FormulaOf : Scan → PrenexFormula → Type 0

@@ -5,22 +5,21 @@ use Rattle.q_logic.specs.Formulas.{PrenexFormula}
 use Rattle.q_text.specs.declared.tokens.Token.{Token}
 use Rattle.q_text.specs.declared.tokens.Tokens.{Tokens}
 use Rattle.q_text.specs.Tokens.{handed, after, token_in, kind_in, begun}
-use Rattle.q_dimacs.specs.declared.builder.Builder.{Builder}
 use Rattle.q_dimacs.specs.declared.error.ReadError.{ReadError}
 use Rattle.q_dimacs.specs.declared.error.ReadError.TheVariants.{Refused, NoMemory}
 use Rattle.q_dimacs.specs.declared.reader.Standing.{Standing}
 use Rattle.q_dimacs.specs.declared.reader.Standing.TheVariants.{Reading, Stopped}
 use Rattle.q_dimacs.specs.Building.{formula_of}
-use Rattle.q_dimacs.specs.Reading.{step_of, end_of, nothing_read, limit, IsSettled}
+use Rattle.q_dimacs.specs.Reading.{Gathered, step_of, end_of, nothing_read, limit, NoneWaits}
 
 pub record Scan : Type 0 where
   pub limits : Limits
   pub tokens : Tokens
   pub taken : ℕ
-  pub builder : Builder
+  pub builder : Gathered
   pub standing : Standing
 
-abbrev pub stepped : Scan → ℕ → Result Builder ℕ → Scan
+abbrev pub stepped : Scan → ℕ → Result Gathered ℕ → Scan
 stepped s n (Ok b) = record s { builder = b }
 stepped s n (Err c) = record s { standing = Stopped (Refused n c) }
 
@@ -86,14 +85,13 @@ abbrev pub Feeds : {X : Type 0} → Result X ReadError → Scan → Scan → Typ
 Feeds (Ok x) all new = (new ≡ all) × (all.standing ≡ Reading)
 Feeds (Err e) all new = FeedFails e all new
 
-abbrev pub IsSettledIn : Standing → Builder → Type 0
-IsSettledIn Reading b = IsSettled b.place b.parts.pending
-IsSettledIn (Stopped e) b = Unit {0}
+abbrev pub NoneWaitsIn : Standing → Gathered → Type 0
+NoneWaitsIn Reading b = NoneWaits b.place b.parts.pending
+NoneWaitsIn (Stopped e) b = Unit {0}
 
 pub record IsSound (s : Scan) : Type 0 where
-  pub small : s.builder.vars < 2 ^ 31
   pub bounded : s.limits.vars < 2 ^ 31
   pub bytes : s.limits.bytes ≤ 2 ^ 62
   pub taken : s.taken ≤ s.limits.bytes
   pub line : s.tokens.line ≤ s.taken + 1
-  pub settled : IsSettledIn s.standing s.builder
+  pub none_waits : NoneWaitsIn s.standing s.builder

@@ -65,8 +65,3 @@ closing (Some q) = line_end
 abbrev pub bounds_text : Option Quant → Prefix → List ℕ
 bounds_text o [] = closing o
 bounds_text o (b ∷ P) = bound_text o b ++ bounds_text (Some b.quant) P
-
--- what stood in the text still stands at its front
-pub record Extends (old new : List ℕ) : Type 0 where
-  pub rest : List ℕ
-  pub is : new ≡ old ++ rest

@@ -1,13 +1,16 @@
-ghost use Rattle.std.specs.Prelude.{◌≡◌, ℕ, ◌≤◌, ◌<◌, ◌^◌, ◌++◌, [], ◌∷◌, length, MatchResult, Ok, Err, ℤ};
+ghost use Rattle.std.specs.Prelude.{◌≡◌, ℕ, ◌≤◌, ◌<◌, ◌^◌, [], IfOk};
+ghost use Rattle.q_logic.specs.Parts.{IsProper};
+ghost use Rattle.q_dimacs.specs.Building.{formula_of};
 ghost use Rattle.q_dimacs.specs.Causes.{cause_numbers};
-ghost use Rattle.q_dimacs.specs.Reading.{problem, format, vars_of, count_of, begin_set, outside, in_clause, number, in_set, end_of, step_of, nothing_read};
-ghost use Rattle.q_dimacs.specs.Steps.{Steps};
+ghost use Rattle.q_dimacs.specs.Reading.{problem, format, header_number, vars_of, count_of, begin_set, outside, in_clause, number, in_set, end_of, step_of, nothing_read};
+ghost use Rattle.q_dimacs.specs.Steps.{IsNumber, Steps, error_at};
 
-use crate::error::Cause;
+use crate::error::{Cause, ReadError};
 use crate::parts::Parts;
-use q_logic::{Limits, Lit, NoMemory, Quant};
+use q_logic::{Formula, Limits, Lit, NoMemory, Quant};
 use q_text::TokenKind;
 use std::alloc::Global;
+use std::marker::Model;
 
 /// What stands next.
 #[derive(Clone, Copy)]
@@ -28,6 +31,21 @@ pub enum Fault {
     NoMemory,
 }
 
+impl Fault {
+    /// The error of the fault in a line.
+    pub fn at(self, line: u64) -> ReadError
+        ensures { result ≡ error_at line self }
+    {
+        match self {
+            Fault::Refused(cause) => ReadError::Refused {
+                line,
+                cause: cause.number(),
+            },
+            Fault::NoMemory => ReadError::NoMemory,
+        }
+    }
+}
+
 impl From<NoMemory> for Fault {
     ghost use Rattle.q_dimacs.specs.declared.builder.Fault.TheVariants.{NoMemory as gone};
 
@@ -41,16 +59,33 @@ impl From<NoMemory> for Fault {
 /// What the tokens so far have given.
 #[derive(Drop)]
 pub struct Builder {
-    pub place: Place,
-    pub vars: u32,
-    pub count: u64,
-    pub lits: u64,
-    pub parts: Parts,
+    place: Place,
+    vars: u32,
+    count: u64,
+    lits: u64,
+    parts: Parts,
+}
+
+impl Model for Builder {
+    ghost use Rattle.std.specs.Prelude.{◌<◌, ◌^◌};
+    ghost use Rattle.q_dimacs.specs.Reading.{Gathered};
+
+    ghost Value = { Gathered };
+
+    ghost view = { λ b. record {
+      place = b.place;
+      vars = b.vars;
+      count = b.count;
+      lits = b.lits;
+      parts = b.parts;
+    } };
+
+    ghost invariant = { λ b. b.vars < 2 ^ 31 };
 }
 
 impl Builder {
     pub fn new(alloc: Global) -> Builder
-        ensures start { result ≡ nothing_read }
+        ensures { result ≡ nothing_read }
     {
         Builder {
             place: Place::Problem,
@@ -63,10 +98,8 @@ impl Builder {
 
     #[inline(always)]
     pub fn step(&mut self, limits: Limits, kind: TokenKind) -> Result<(), Fault>
-        requires small { self.old.vars < 2 ^ 31 }
-        requires bounded { limits.vars < 2 ^ 31 }
-        ensures exact { Steps result (step_of limits self.old kind) self.new }
-        ensures kept { self.new.vars < 2 ^ 31 }
+        requires { limits.vars < 2 ^ 31 }
+        ensures { Steps result (step_of limits self.old kind) self.new }
     {
         match self.place {
             Place::InClause => self.in_clause(limits, kind),
@@ -80,9 +113,7 @@ impl Builder {
     }
 
     fn problem(&mut self, kind: TokenKind) -> Result<(), Fault>
-        requires small { self.old.vars < 2 ^ 31 }
-        ensures exact { Steps result (problem self.old kind) self.new }
-        ensures kept { self.new.vars < 2 ^ 31 }
+        ensures { Steps result (problem self.old kind) self.new }
     {
         match kind {
             TokenKind::P => {
@@ -94,9 +125,7 @@ impl Builder {
     }
 
     fn format(&mut self, kind: TokenKind) -> Result<(), Fault>
-        requires small { self.old.vars < 2 ^ 31 }
-        ensures exact { Steps result (format self.old kind) self.new }
-        ensures kept { self.new.vars < 2 ^ 31 }
+        ensures { Steps result (format self.old kind) self.new }
     {
         match kind {
             TokenKind::Cnf => {
@@ -108,53 +137,24 @@ impl Builder {
     }
 
     fn vars(&mut self, limits: Limits, kind: TokenKind) -> Result<(), Fault>
-        requires small { self.old.vars < 2 ^ 31 }
-        requires bounded { limits.vars < 2 ^ 31 }
-        ensures exact { Steps result (vars_of limits self.old kind) self.new }
-        ensures kept { self.new.vars < 2 ^ 31 }
+        requires { limits.vars < 2 ^ 31 }
+        ensures { Steps result (vars_of limits self.old kind) self.new }
     {
-        match kind {
-            TokenKind::Number(n) => {
-                if n < 0 {
-                    return Err(Fault::Refused(Cause::BadHeader));
-                }
-                if n > limits.vars as i64 {
-                    return Err(Fault::Refused(Cause::Limit));
-                }
-                self.vars = n as u32;
-                self.place = Place::Count;
-                Ok(())
-            }
-            _ => Err(Fault::Refused(Cause::BadHeader)),
-        }
+        self.vars = header_number(u64::from(limits.vars), kind)? as u32;
+        self.place = Place::Count;
+        Ok(())
     }
 
     fn count(&mut self, limits: Limits, kind: TokenKind) -> Result<(), Fault>
-        requires small { self.old.vars < 2 ^ 31 }
-        requires bounded { limits.vars < 2 ^ 31 }
-        ensures exact { Steps result (count_of limits self.old kind) self.new }
-        ensures kept { self.new.vars < 2 ^ 31 }
+        ensures { Steps result (count_of limits self.old kind) self.new }
     {
-        match kind {
-            TokenKind::Number(n) => {
-                if n < 0 {
-                    return Err(Fault::Refused(Cause::BadHeader));
-                }
-                if n as u64 > limits.clauses {
-                    return Err(Fault::Refused(Cause::Limit));
-                }
-                self.count = n as u64;
-                self.place = Place::Outside;
-                Ok(())
-            }
-            _ => Err(Fault::Refused(Cause::BadHeader)),
-        }
+        self.count = header_number(limits.clauses, kind)?;
+        self.place = Place::Outside;
+        Ok(())
     }
 
     fn begin_set(&mut self, quant: Quant) -> Result<(), Fault>
-        requires small { self.old.vars < 2 ^ 31 }
-        ensures exact { Steps result (begin_set quant self.old) self.new }
-        ensures kept { self.new.vars < 2 ^ 31 }
+        ensures { Steps result (begin_set quant self.old) self.new }
     {
         if self.parts.clauses() > 0 {
             return Err(Fault::Refused(Cause::LateQuantifier));
@@ -165,10 +165,7 @@ impl Builder {
 
     #[inline(always)]
     fn outside(&mut self, limits: Limits, kind: TokenKind) -> Result<(), Fault>
-        requires small { self.old.vars < 2 ^ 31 }
-        requires bounded { limits.vars < 2 ^ 31 }
-        ensures exact { Steps result (outside limits self.old kind) self.new }
-        ensures kept { self.new.vars < 2 ^ 31 }
+        ensures { Steps result (outside limits self.old kind) self.new }
     {
         match kind {
             TokenKind::Number(n) => {
@@ -185,10 +182,7 @@ impl Builder {
 
     #[inline(always)]
     fn in_clause(&mut self, limits: Limits, kind: TokenKind) -> Result<(), Fault>
-        requires small { self.old.vars < 2 ^ 31 }
-        requires bounded { limits.vars < 2 ^ 31 }
-        ensures exact { Steps result (in_clause limits self.old kind) self.new }
-        ensures kept { self.new.vars < 2 ^ 31 }
+        ensures { Steps result (in_clause limits self.old kind) self.new }
     {
         match kind {
             TokenKind::Number(n) => self.number(limits, n),
@@ -199,10 +193,7 @@ impl Builder {
     // A number of a clause.
     #[inline(always)]
     fn number(&mut self, limits: Limits, n: i64) -> Result<(), Fault>
-        requires small { self.old.vars < 2 ^ 31 }
-        requires bounded { limits.vars < 2 ^ 31 }
-        ensures exact { Steps result (number limits self.old n) self.new }
-        ensures kept { self.new.vars < 2 ^ 31 }
+        ensures { Steps result (number limits self.old n) self.new }
     {
         if n == 0 {
             self.parts.end_clause()?;
@@ -224,9 +215,7 @@ impl Builder {
 
     #[inline(always)]
     fn in_set(&mut self, quant: Quant, kind: TokenKind) -> Result<(), Fault>
-        requires small { self.old.vars < 2 ^ 31 }
-        ensures exact { Steps result (in_set quant self.old kind) self.new }
-        ensures kept { self.new.vars < 2 ^ 31 }
+        ensures { Steps result (in_set quant self.old kind) self.new }
     {
         match kind {
             TokenKind::Number(n) => {
@@ -268,4 +257,30 @@ impl Builder {
             _ => Some(Cause::BadHeader),
         }
     }
+
+    // The formula of the parts.
+    pub fn finish(self, alloc: Global) -> Result<Formula, NoMemory>
+        requires { self.parts.pending ≡ [] }
+        ensures value { IfOk result (λ f. f ≡ formula_of self.parts.bounds self.parts.clauses) }
+        ensures proper { IfOk result IsProper }
+    {
+        self.parts.finish(alloc)
+    }
+}
+
+// A number of the header, which is `most` at most.
+fn header_number(most: u64, kind: TokenKind) -> Result<u64, Fault>
+    ensures number { IsNumber result (header_number most kind) }
+    ensures within { IfOk result (λ number. number ≤ most) }
+{
+    let TokenKind::Number(number) = kind else {
+        return Err(Fault::Refused(Cause::BadHeader));
+    };
+    if number < 0 {
+        return Err(Fault::Refused(Cause::BadHeader));
+    }
+    if number as u64 > most {
+        return Err(Fault::Refused(Cause::Limit));
+    }
+    Ok(number as u64)
 }

@@ -5,7 +5,7 @@ ghost use Rattle.q_logic.specs.Limits.{AreModerate};
 ghost use Rattle.q_dimacs.specs.Scanning.{Feeds, Answers, HasRead, byte_step, fed, outcome, start, token_step};
 ghost use Rattle.q_dimacs.specs.Dimacs.{Dimacs, FormulaOf};
 ghost use Rattle.q_dimacs.specs.Offences.{Offence, ReadsOn, RefusesAll, RefusesBehind, StaysWithin, at_end, closed_with};
-ghost use Rattle.q_dimacs.specs.Reading.{end_of, IsSettled};
+ghost use Rattle.q_dimacs.specs.Reading.{end_of, NoneWaits};
 
 use crate::builder::{Builder, Fault};
 use crate::error::{Cause, ReadError};
@@ -117,10 +117,7 @@ impl Reader {
         ensures { Feeds result (fed self.old piece.now) self.new }
     {
         for byte in piece {
-            match self.push(*byte) {
-                Ok(()) => {}
-                Err(error) => return Err(error),
-            }
+            self.push(*byte)?;
         }
         Ok(())
     }
@@ -149,17 +146,10 @@ impl Reader {
     {
         match self.builder.step(self.limits, token.kind) {
             Ok(()) => Ok(()),
-            Err(Fault::Refused(cause)) => {
-                let error = ReadError::Refused {
-                    line: token.line,
-                    cause: cause.number(),
-                };
+            Err(fault) => {
+                let error = fault.at(token.line);
                 self.standing = Standing::Stopped(error);
                 Err(error)
-            }
-            Err(Fault::NoMemory) => {
-                self.standing = Standing::Stopped(ReadError::NoMemory);
-                Err(ReadError::NoMemory)
             }
         }
     }
@@ -213,10 +203,8 @@ pub fn read(alloc: Global, limits: Limits, bytes: &[u8]) -> Result<Formula, Read
     ensures proper { IfOk result IsProper }
 {
     let mut reader = Reader::new(alloc, limits)?;
-    match reader.feed(bytes) {
-        Ok(()) => reader.finish(),
-        Err(error) => Err(error),
-    }
+    reader.feed(bytes)?;
+    reader.finish()
 }
 
 // The formula where the last token has still to be taken.
@@ -227,42 +215,27 @@ fn formula_with(
     token: Token,
     line: u64,
 ) -> Result<Formula, ReadError>
-    requires small { builder.vars < 2 ^ 31 }
     requires bounded { limits.vars < 2 ^ 31 }
-    requires settled { IsSettled builder.place builder.parts.pending }
+    requires none_waits { NoneWaits builder.place builder.parts.pending }
     ensures exact { Answers result (closed_with limits builder token line) }
     ensures proper { IfOk result IsProper }
 {
     let mut builder = builder;
     match builder.step(limits, token.kind) {
         Ok(()) => formula_of(alloc, builder, line),
-        Err(Fault::Refused(cause)) => Err(ReadError::Refused {
-            line: token.line,
-            cause: cause.number(),
-        }),
-        Err(Fault::NoMemory) => Err(ReadError::NoMemory),
+        Err(fault) => Err(fault.at(token.line)),
     }
 }
 
 fn formula_of(alloc: Global, builder: Builder, line: u64) -> Result<Formula, ReadError>
-    requires { IsSettled builder.place builder.parts.pending }
+    requires { NoneWaits builder.place builder.parts.pending }
     ensures exact { Answers result (at_end line builder (end_of builder)) }
     ensures proper { IfOk result IsProper }
 {
     if let Some(cause) = builder.end() {
-        return Err(ReadError::Refused {
-            line,
-            cause: cause.number(),
-        });
+        return Err(Fault::Refused(cause).at(line));
     }
-    let Builder {
-        place: _,
-        vars: _,
-        count: _,
-        lits: _,
-        parts,
-    } = builder;
-    match parts.finish(alloc) {
+    match builder.finish(alloc) {
         Ok(formula) => Ok(formula),
         Err(_) => Err(ReadError::NoMemory),
     }

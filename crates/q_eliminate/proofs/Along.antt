@@ -4,9 +4,9 @@ use Rattle.std.specs.List.{AllByRecursion}
 use Rattle.q_logic.specs.Literals.{Literal, literal_eq}
 use Rattle.q_logic.specs.Formulas.{Clause, Matrix, IsIn}
 use Rattle.q_logic.specs.Pivots.{without}
-use Rattle.q_logic.proofs.Clauses.{literal_eq-sound, literal_eq-itself}
-use Rattle.q_logic.specs.Numbered.{Slots, slot, put_first}
-use Rattle.q_eliminate.specs.Sides.{clauses_at, AreLive}
+use Rattle.q_logic.proofs.ClauseLemmas.{literal_eq-sound, literal_eq-itself}
+use Rattle.q_logic.specs.Numbered.{Slots, slot, put_first, clauses_at}
+use Rattle.q_eliminate.specs.Sides.{AreLive}
 
 pub id-in : (ids : List ℕ) (i : ℕ) → i < length ids → IsIn (get_or ids i 0) ids
 id-in [] i h = absurd (omega arith)

@@ -6,7 +6,7 @@ use Rattle.q_logic.specs.Formulas.{Clause, Matrix, Prefix, IsIn}
 use Rattle.q_logic.specs.Parts.{ArePairs}
 use Rattle.q_logic.specs.Pivots.{without}
 use Rattle.q_logic.specs.Measure.{size_of}
-use Rattle.q_logic.specs.Numbered.{Slots, slot, live, put_first}
+use Rattle.q_logic.specs.Numbered.{Slots, slot, live, put_first, clauses_at}
 use Rattle.q_logic.specs.Sets.{IsTautology, put_unless_tautology}
 use Rattle.q_logic.specs.Steps.{Within}
 use Rattle.q_logic.specs.StepForms.{first_of}
@@ -26,10 +26,10 @@ use Rattle.q_rule.proofs.Steps.{clause-within}
 use Rattle.q_eliminate.specs.Growing.{CanGrow, HasGrown}
 use Rattle.q_eliminate.proofs.Gaining.{literals-append, put-plain, put-tautology}
 use Rattle.q_eliminate.proofs.Joining.{tautology-told, plain-told}
-use Rattle.q_eliminate.specs.Sides.{clause_or_none, clause_in, clauses_at, IsParent, AreParents}
+use Rattle.q_eliminate.specs.Sides.{clause_or_none, clause_in, IsParent, AreParents}
 use Rattle.q_eliminate.proofs.Along.{id-in, at-next, at-member}
 use Rattle.q_eliminate.proofs.Flattening.{put-apart}
-use Rattle.q_eliminate.proofs.Splitting.{size-append}
+use Rattle.q_logic.proofs.Falling.{size-append}
 
 -- the literals of a resolvent are bound
 pub resolvent-within : (P : Prefix) (l : Literal) (C D : Clause) → Within P C → Within P D → Within P (resolvent l C D)

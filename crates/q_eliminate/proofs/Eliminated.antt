@@ -6,7 +6,7 @@ use Rattle.q_logic.specs.Prefixes.{is_existential}
 use Rattle.q_logic.specs.Pivots.{ExistsPivot, without}
 use Rattle.q_logic.specs.Sets.{has, IsTautology, with_literal, without_literal}
 use Rattle.q_logic.specs.Eliminating.{AllOuter, resolvent}
-use Rattle.q_logic.proofs.Clauses.{literal_eq-itself, IsIn-append, IsIn-append_left}
+use Rattle.q_logic.proofs.ClauseLemmas.{literal_eq-itself, IsIn-append, IsIn-append_left}
 use Rattle.q_logic.proofs.EliminateRun.{Resolves, eliminated-pivot, resolve_all-IsIn, resolve_all-in}
 use Rattle.q_logic.proofs.Implying.{negation-negation}
 use Rattle.q_logic.proofs.PlainRuns.{pure-pivot}

@@ -2,7 +2,7 @@
 use Rattle.std.proofs.Common.{◌≡◌, ◌<◌, ◌≤◌, ◌+◌, ◌++◌, ℕ, Bool, true, false, cond, List, [], ◌∷◌, length, drop, get_or, None, Some, arith, refl, ap, ◌∙◌, subst, length-append}
 use Rattle.q_logic.specs.Literals.{Literal, IsBelow, negation}
 use Rattle.q_logic.specs.Parts.{ArePairs}
-use Rattle.q_logic.specs.Numbered.{Slots, slot, live}
+use Rattle.q_logic.specs.Numbered.{Slots, slot, live, clauses_at}
 use Rattle.q_logic.specs.Formulas.{Clause, Matrix}
 use Rattle.q_logic.specs.Pivots.{without}
 use Rattle.q_logic.specs.Measure.{size_of}
@@ -16,7 +16,6 @@ use Rattle.q_kernel.proofs.Slotting.{size-parts, size-gone}
 use Rattle.q_eliminate.specs.declared.counting.Gain.{Gain}
 use Rattle.q_eliminate.specs.Gains.{joined, joined_length, IsGain}
 use Rattle.q_eliminate.specs.Plans.{IsPlain}
-use Rattle.q_eliminate.specs.Sides.{clauses_at}
 use Rattle.q_eliminate.proofs.Along.{at-next}
 use Rattle.q_eliminate.proofs.Joining.{joined-none, joined-some, joined-length}
 

@@ -6,7 +6,7 @@ use Rattle.q_logic.specs.Literals.{Literal, IsBelow, literal_eq, pack}
 use Rattle.q_logic.specs.Formulas.{Clause, IsIn}
 use Rattle.q_logic.specs.Pivots.{without}
 use Rattle.q_logic.specs.Sets.{union}
-use Rattle.q_logic.proofs.Clauses.{literal_eq-sound}
+use Rattle.q_logic.proofs.ClauseLemmas.{literal_eq-sound}
 use Rattle.q_logic.proofs.Ordering.{Ordered, Before, without-ordered}
 use Rattle.q_logic.proofs.UniversalPivot.{without-IsIn}
 use Rattle.q_rule.proofs.Marking.{pack-apart}

@@ -1,13 +1,15 @@
 -- The clauses of some ids, and the ids of the clauses with a literal.
 use Rattle.std.proofs.Common.{◌≡◌, ◌≢◌, ◌<◌, ◌+◌, ◌++◌, ℕ, zero, suc, Bool, true, false, cond, List, [], ◌∷◌, length, get_or, Option, None, Some, inl, inr, arith, refl, sym, ap, ◌∙◌, subst}
+use Rattle.std.proofs.lemmas.Option.{same_Some}
 use Rattle.std.specs.List.{AllByRecursion}
+use Rattle.q_kernel.proofs.Occurring.{get-IsIn}
 use Rattle.q_logic.specs.Literals.{Literal, IsBelow}
 use Rattle.q_logic.specs.Formulas.{Clause, Matrix, IsIn}
 use Rattle.q_logic.specs.Parts.{ArePairs}
 use Rattle.q_logic.specs.Steps.{clause_eq}
 use Rattle.q_logic.specs.Runs.{copies}
 use Rattle.q_logic.specs.Sets.{has, with_literal, without_literal, OccursIn}
-use Rattle.q_logic.specs.Numbered.{Slots, slot, set_slot, live, others, put_first}
+use Rattle.q_logic.specs.Numbered.{Slots, slot, set_slot, live, others, put_first, clauses_at}
 use Rattle.q_logic.proofs.ClauseSets.{not_itself_below}
 use Rattle.q_logic.proofs.Reaching.{SameClauses, alike-refl, alike-trans, alike-sym, alike-cons}
 use Rattle.q_logic.proofs.Runs.{clause_eq-sound}
@@ -20,7 +22,7 @@ use Rattle.q_kernel.specs.Kernels.{Seen, slots, formula_in, IsSound, HoldsLitera
 use Rattle.q_kernel.proofs.Slotting.{slot-get, slot-set_other, live-gone, IsIn-slot}
 use Rattle.q_kernel.proofs.Costs.{proper-in_order}
 use Rattle.q_rule.proofs.Results.{slot-none}
-use Rattle.q_eliminate.specs.Sides.{clauses_at, AreIdsOf}
+use Rattle.q_eliminate.specs.Sides.{AreIdsOf}
 
 -- Clauses with and without a literal, as collections.
 copies-with : (l : Literal) (X : Matrix) (C : Clause) → copies C (with_literal l X) ≡ cond (has l C) (copies C X) 0
@@ -126,11 +128,6 @@ owners-apart : (os ps : List ℕ) → AreApart ps → ((p q : ℕ) → Has ps p 
 owners-apart os [] a h = tt
 owners-apart os (p ∷ ps) a h = (owners-miss os ps p (λ q m e. misses-not p ps a.0 (subst (λ (x : ℕ). Has ps x) (sym (h p q (inl refl) (inr m) e)) m)), owners-apart os ps a.1 (λ r s m n. h r s (inr m) (inr n)))
 
-item-in : (C : Clause) (i : ℕ) → i < length C → IsIn (get_or C i no_lit) C
-item-in [] i h = absurd (omega arith)
-item-in (x ∷ C) zero h = inl refl
-item-in (x ∷ C) (suc i) h = inr (item-in C i (omega arith))
-
 below-member : (x : Literal) (C : Clause) (j : Literal) → AllByRecursion (IsBelow x) C → IsIn j C → IsBelow x j
 below-member x C j a m = Rattle.q_logic.proofs.ClauseSets.IsIn-below x j C a m
 
@@ -138,12 +135,9 @@ below-member x C j a m = Rattle.q_logic.proofs.ClauseSets.IsIn-below x j C a m
 index-once : (C : Clause) (i j : ℕ) → ArePairs IsBelow C → i < length C → j < length C → get_or C i no_lit ≡ get_or C j no_lit → i ≡ j
 index-once [] i j o h g e = absurd (omega arith)
 index-once (x ∷ C) zero zero o h g e = refl
-index-once (x ∷ C) zero (suc j) o h g e = absurd (not_itself_below x (get_or C j no_lit) e (below-member x C (get_or C j no_lit) o.0 (item-in C j (omega arith))))
-index-once (x ∷ C) (suc i) zero o h g e = absurd (not_itself_below x (get_or C i no_lit) (sym e) (below-member x C (get_or C i no_lit) o.0 (item-in C i (omega arith))))
+index-once (x ∷ C) zero (suc j) o h g e = absurd (not_itself_below x (get_or C j no_lit) e (below-member x C (get_or C j no_lit) o.0 (get-IsIn C j no_lit (omega arith))))
+index-once (x ∷ C) (suc i) zero o h g e = absurd (not_itself_below x (get_or C i no_lit) (sym e) (below-member x C (get_or C i no_lit) o.0 (get-IsIn C i no_lit (omega arith))))
 index-once (x ∷ C) (suc i) (suc j) o h g e = ap suc (index-once C i j o.1 (omega arith) (omega arith) e)
-
-some-same : (C D : Clause) → Some C ≡ Some D → C ≡ D
-some-same C D e = cc
 
 module _ (k : Seen) (l : Literal) (s : IsSound k) where
   one-place : (p q : ℕ) → Has (places_of k.lists l) p → Has (places_of k.lists l) q → get_or k.lists.owners p 0 ≡ get_or k.lists.owners q 0 → p ≡ q
@@ -156,7 +150,7 @@ module _ (k : Seen) (l : Literal) (s : IsSound k) where
       same : (c d : ℕ) → IsPlaceIn k.arena c l p → IsPlaceIn k.arena d l q → c ≡ d → p ≡ q
       same c d f g e =
           let there : clause_at k.arena c ≡ Some g.clause = subst (λ (x : ℕ). clause_at k.arena x ≡ Some g.clause) (sym e) g.live in
-          let one : f.clause ≡ g.clause = some-same f.clause g.clause (sym f.live ∙ there) in
+          let one : f.clause ≡ g.clause = same_Some f.clause g.clause (sym f.live ∙ there) in
           let o : ArePairs IsBelow g.clause = proper-in_order (formula_in k) g.clause s.proper (live-slot (slots k) c g.clause (slot-get (slots k) c ∙ there)) in
           let i : f.at_index ≡ g.at_index = index-once g.clause f.at_index g.at_index o (subst (λ (x : Clause). f.at_index < length x) one f.in_range) g.in_range (subst (λ (x : Clause). get_or x f.at_index no_lit ≡ l) one f.of ∙ sym g.of) in
           f.is ∙ (ap (λ (x : ℕ). start_at k.arena x + f.at_index) e ∙ (ap (λ (x : ℕ). start_at k.arena d + x) i ∙ sym g.is))
@@ -166,7 +160,7 @@ module _ (k : Seen) (l : Literal) (s : IsSound k) where
       let r = owner-of k.lists.owners (places_of k.lists l) c h in
       let a = s.linked.listed l r.0 r.1 in
       let e : a.0 ≡ c = sym a.3 ∙ sym r.2 in
-      subst (λ (x : ℕ). HoldsLiteral k x l) e (a.2.clause, slot-get (slots k) a.0 ∙ a.2.live, subst (λ (x : Literal). IsIn x a.2.clause) a.2.of (item-in a.2.clause a.2.at_index a.2.in_range))
+      subst (λ (x : ℕ). HoldsLiteral k x l) e (a.2.clause, slot-get (slots k) a.0 ∙ a.2.live, subst (λ (x : Literal). IsIn x a.2.clause) a.2.of (get-IsIn a.2.clause a.2.at_index no_lit a.2.in_range))
 
   pub collected : (ids : List ℕ) → ids ≡ owners_at k.lists.owners (places_of k.lists l) → AreIdsOf k l ids
   collected ids e = subst (λ (xs : List ℕ). AreIdsOf k l xs) (sym e) (record {

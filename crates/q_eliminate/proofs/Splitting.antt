@@ -1,10 +1,13 @@
 -- The clauses of a variable, by ids and as parts of the matrix.
 use Rattle.std.proofs.Common.{◌≡◌, ◌↔◌, ◌≤◌, ◌<◌, ◌+◌, ◌++◌, ◌⊎◌, ℕ, Bool, true, false, cond, List, [], ◌∷◌, length, Option, None, Some, inl, inr, arith, refl, sym, ap, ◌∙◌, subst, length-append, eqb, true≢false}
+use Rattle.std.proofs.lemmas.Option.{same_Some}
 use Rattle.std.specs.List.{AllByRecursion}
+use Rattle.q_logic.proofs.Measuring.{size-alike}
+use Rattle.q_logic.proofs.Falling.{size-append}
 use Rattle.q_logic.specs.Literals.{Literal, negation}
 use Rattle.q_logic.specs.Formulas.{Clause, Matrix, Prefix, IsIn}
 use Rattle.q_logic.specs.Measure.{size_of}
-use Rattle.q_logic.specs.Numbered.{Slots, live, put_first, formula_of}
+use Rattle.q_logic.specs.Numbered.{Slots, live, put_first, formula_of, clauses_at}
 use Rattle.q_logic.specs.Steps.{literals_in}
 use Rattle.q_logic.specs.Sets.{has, with_literal, without_literal, OccursIn}
 use Rattle.q_logic.specs.Limits.{standard}
@@ -16,7 +19,7 @@ use Rattle.q_kernel.specs.Kernels.{Seen, slots, formula_in}
 use Rattle.q_kernel.proofs.Slotting.{size-parts}
 use Rattle.q_kernel.proofs.Leading.{sizes-alike}
 use Rattle.q_rule.proofs.Turns.{with-less}
-use Rattle.q_eliminate.specs.Sides.{clauses_at, AreLive, AreIdsOf}
+use Rattle.q_eliminate.specs.Sides.{AreLive, AreIdsOf}
 use Rattle.q_eliminate.specs.declared.counting.Gain.{Gain}
 use Rattle.q_eliminate.specs.Gains.{no_gain, IsGain}
 use Rattle.q_eliminate.specs.Plans.{IsPlain, IsOuter, IsSplit, AreFew, MayGo, IsPlanOf, resolvents_on, others_on}
@@ -24,13 +27,6 @@ use Rattle.q_eliminate.specs.declared.plan.Plan.{Plan}
 use Rattle.q_eliminate.proofs.Along.{all-member, all-members}
 use Rattle.q_eliminate.proofs.Gaining.{literals-append}
 use Rattle.q_eliminate.proofs.Flattening.{resolve-same}
-
-pub size-alike : (X Y : Matrix) → SameClauses X Y → size_of X ≡ size_of Y
-size-alike X Y s = let e = sizes-alike X Y s in let a = e.0 in let b = e.1 in let x = size-parts X in let y = size-parts Y in omega arith
-
-pub size-append : (X Y : Matrix) → size_of (X ++ Y) ≡ size_of X + size_of Y
-size-append [] Y = omega arith
-size-append (C ∷ X) Y = let i = size-append X Y in omega arith
 
 pub live-ids : (k : Seen) (l : Literal) (ids : List ℕ) → AreIdsOf k l ids → AreLive (slots k) ids
 live-ids k l ids a c m = let h = a.held c m in (h.0, h.1)
@@ -81,18 +77,15 @@ pub split-apart : (P : Prefix) (X : Matrix) (l : Literal) → IsSplit P X l → 
 split-apart P X l s D m a b = s.no_tautology D m (inl a) (l, a, b)
 
 -- The sign whose clauses hold only outer or same literals.
-same-literal : (j m : Literal) → Some j ≡ Some m → j ≡ m
-same-literal j m e = cc
-
 pub sign-first : (k : Seen) (l : Literal) (ids : List ℕ) (x : ℕ) → AreIdsOf k l ids → x ≡ l.var → AllByRecursion (IsOuter k.prefix x) (clauses_at (slots k) ids) → (m : Literal) → Some l ≡ Some m → ((m ≡ l) ⊎ (m ≡ negation l)) × AllOuter k.prefix m (live (slots k))
 sign-first k l ids x a e h m f =
-    let q = same-literal l m f in
+    let q = same_Some l m f in
     let o : AllOuter k.prefix l (live (slots k)) = outer-side k l ids a (subst (λ (v : ℕ). AllByRecursion (IsOuter k.prefix v) (clauses_at (slots k) ids)) e h) in
     (inl (sym q), subst (λ (j : Literal). AllOuter k.prefix j (live (slots k))) q o)
 
 pub sign-second : (k : Seen) (l n : Literal) (ids : List ℕ) (x : ℕ) → AreIdsOf k (negation l) ids → n ≡ negation l → x ≡ l.var → AllByRecursion (IsOuter k.prefix x) (clauses_at (slots k) ids) → (m : Literal) → Some n ≡ Some m → ((m ≡ l) ⊎ (m ≡ negation l)) × AllOuter k.prefix m (live (slots k))
 sign-second k l n ids x a e f h m g =
-    let q : m ≡ negation l = sym (same-literal n m g) ∙ e in
+    let q : m ≡ negation l = sym (same_Some n m g) ∙ e in
     let o : AllOuter k.prefix (negation l) (live (slots k)) = outer-side k (negation l) ids a (subst (λ (v : ℕ). AllByRecursion (IsOuter k.prefix v) (clauses_at (slots k) ids)) f h) in
     (inr q, subst (λ (j : Literal). AllOuter k.prefix j (live (slots k))) (sym q) o)
 

@@ -9,7 +9,7 @@ use Rattle.q_logic.specs.Pivots.{ExistsPivot}
 use Rattle.q_logic.specs.Limits.{standard}
 use Rattle.q_logic.specs.InLimits.{IsInLimits, greatest}
 use Rattle.q_logic.specs.Measure.{size_of}
-use Rattle.q_logic.specs.Numbered.{Slots, slot, live, formula_of}
+use Rattle.q_logic.specs.Numbered.{Slots, slot, live, formula_of, clauses_at}
 use Rattle.q_logic.specs.Steps.{literals_in}
 use Rattle.q_logic.specs.Sets.{with_literal}
 use Rattle.q_logic.specs.Eliminating.{AllOuter, resolve_all}
@@ -26,11 +26,13 @@ use Rattle.q_eliminate.specs.declared.plan.Plan.{Plan}
 use Rattle.q_eliminate.specs.declared.sides.Sides.{Sides}
 use Rattle.q_eliminate.specs.Growing.{CanGrow, HasGrown, MayGoBy, MayGoByLater, HasLost}
 use Rattle.q_eliminate.specs.Plans.{IsSplit, IsPlanOf, HasRoomFor, resolvents_on, others_on}
-use Rattle.q_eliminate.specs.Sides.{clauses_at, AreIdsOf, AreSidesOf, AreParents}
+use Rattle.q_eliminate.specs.Sides.{AreIdsOf, AreSidesOf, AreParents}
 use Rattle.q_eliminate.proofs.Applying.{apply-may}
 use Rattle.q_eliminate.proofs.Eliminated.{first-goes, second-goes, eliminated-rest}
 use Rattle.q_eliminate.proofs.Gaining.{literals-append}
-use Rattle.q_eliminate.proofs.Splitting.{size-alike, size-append, sides-size, sides-resolvents}
+use Rattle.q_logic.proofs.Measuring.{size-alike}
+use Rattle.q_logic.proofs.Falling.{size-append}
+use Rattle.q_eliminate.proofs.Splitting.{sides-size, sides-resolvents}
 
 module _ (B : Bounds) (k : Seen) (x : ℕ) (p : Plan) (s : Sides) (a : Applies B k (theory.eliminate x)) (h : IsPlanOf k (positive x) p) (d : AreSidesOf k (positive x) s) where
   split : IsSplit k.prefix (live (slots k)) (positive x)

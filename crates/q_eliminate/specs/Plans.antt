@@ -1,5 +1,5 @@
 -- The conditions of an elimination, told by a literal of the variable, and what the test tells the steps.
-use Rattle.std.specs.Prelude.{◌≡◌, ◌≤◌, ◌+◌, ◌*◌, ◌++◌, ◌⊎◌, ℕ, true, length}
+use Rattle.std.specs.Prelude.{◌≡◌, ◌≤◌, ◌+◌, ◌*◌, ◌++◌, ◌⊎◌, ℕ, true, length, Option, None, Some}
 use Rattle.q_logic.specs.Literals.{Literal, negation}
 use Rattle.q_logic.specs.Formulas.{Clause, Matrix, Prefix, IsIn}
 use Rattle.q_logic.specs.Prefixes.{outer_or_same}
@@ -33,6 +33,11 @@ pub record IsSplit (P : Prefix) (X : Matrix) (l : Literal) : Type 0 where
   pub occurs : OccursIn l X ⊎ OccursIn (negation l) X
   pub no_tautology : (D : Clause) → IsIn D X → IsIn l D ⊎ IsIn (negation l) D → IsPlain D
   pub outer_side : AllOuter P l X ⊎ AllOuter P (negation l) X
+
+-- a sign whose clauses hold only outer or same literals; none exactly where neither sign is so
+pub record IsOuterSign (P : Prefix) (X : Matrix) (l : Literal) (answer : Option Literal) : Type 0 where
+  pub some : (m : Literal) → answer ≡ Some m → ((m ≡ l) ⊎ (m ≡ negation l)) × AllOuter P m X
+  pub none : answer ≡ None → AllOuter P l X ⊎ AllOuter P (negation l) X → ⊥
 
 -- the resolvents are no larger than the clauses of the variable and the bound
 abbrev pub AreFew : ℕ → Matrix → Literal → Type 0

@@ -1,16 +1,12 @@
 -- The clauses of some ids.
-use Rattle.std.specs.Prelude.{◌≡◌, ℕ, List, [], ◌∷◌, Option, None, Some}
+use Rattle.std.specs.Prelude.{◌≡◌, ℕ, List, [], Option, None, Some}
 use Rattle.q_logic.specs.Literals.{Literal, negation}
-use Rattle.q_logic.specs.Formulas.{Clause, Matrix, IsIn}
-use Rattle.q_logic.specs.Numbered.{Slots, slot, put_first, live}
+use Rattle.q_logic.specs.Formulas.{Clause, IsIn}
+use Rattle.q_logic.specs.Numbered.{clauses_at, Slots, slot, live}
 use Rattle.q_logic.specs.Runs.{copies}
 use Rattle.q_logic.specs.Sets.{with_literal}
 use Rattle.q_kernel.specs.Kernels.{Seen, slots, HoldsLiteral}
 use Rattle.q_eliminate.specs.declared.sides.Sides.{Sides}
-
-abbrev pub clauses_at : Slots → List ℕ → Matrix
-clauses_at N [] = []
-clauses_at N (c ∷ cs) = put_first (slot N c) (clauses_at N cs)
 
 -- the clause of an id, and no literal where it has none
 abbrev pub clause_or_none : Option Clause → Clause

@@ -5,7 +5,8 @@ ghost use Rattle.q_logic.specs.Measure.{size_of};
 ghost use Rattle.q_logic.specs.Sets.{put_unless_tautology};
 ghost use Rattle.q_logic.specs.Eliminating.{resolvent, resolve_one, resolve_all};
 ghost use Rattle.q_kernel.specs.Kernels.{slots};
-ghost use Rattle.q_eliminate.specs.Sides.{clause_in, clauses_at, IsParent, AreParents};
+ghost use Rattle.q_eliminate.specs.Sides.{clause_in, IsParent, AreParents};
+ghost use Rattle.q_logic.specs.Numbered.{clauses_at};
 ghost use Rattle.q_eliminate.specs.Growing.{CanGrow, HasGrown};
 
 use crate::resolving::resolve;

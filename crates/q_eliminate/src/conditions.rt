@@ -3,12 +3,12 @@ ghost use Rattle.std.specs.Prelude.{◌≡◌, ◌↔◌, ◌⊎◌, true, None,
 ghost use Rattle.std.specs.List.{AllByRecursion};
 ghost use Rattle.q_logic.specs.Literals.{Literal, negation};
 ghost use Rattle.q_logic.specs.Prefixes.{is_bound};
-ghost use Rattle.q_logic.specs.Numbered.{live};
+ghost use Rattle.q_logic.specs.Numbered.{live, clauses_at};
 ghost use Rattle.q_logic.specs.Eliminating.{AllOuter};
 ghost use Rattle.q_logic.specs.Steps.{Within};
 ghost use Rattle.q_kernel.specs.Kernels.{slots};
-ghost use Rattle.q_eliminate.specs.Sides.{clauses_at, AreLive, AreIdsOf};
-ghost use Rattle.q_eliminate.specs.Plans.{IsOuter, IsPlain, IsSplit};
+ghost use Rattle.q_eliminate.specs.Sides.{AreLive, AreIdsOf};
+ghost use Rattle.q_eliminate.specs.Plans.{IsOuter, IsPlain, IsSplit, IsOuterSign};
 
 use q_arena::ClauseId;
 use q_kernel::Kernel;
@@ -41,8 +41,7 @@ fn outer_sign(kernel: &Kernel, lit: Lit, ids: &[ClauseId], others: &[ClauseId]) 
     requires ids { AreIdsOf kernel.now lit ids.now }
     requires others { AreIdsOf kernel.now (negation lit) others.now }
     requires bound { is_bound kernel.now.prefix lit.var ≡ true }
-    ensures some { (l : Literal) → result ≡ Some l → ((l ≡ lit) ⊎ (l ≡ negation lit)) × AllOuter kernel.now.prefix l (live (slots kernel.now)) }
-    ensures none { result ≡ None → AllOuter kernel.now.prefix lit (live (slots kernel.now)) ⊎ AllOuter kernel.now.prefix (negation lit) (live (slots kernel.now)) → ⊥ }
+    ensures { IsOuterSign kernel.now.prefix (live (slots kernel.now)) lit result }
 {
     if ids.len() <= others.len() {
         outer_side(kernel, lit, ids, others)
@@ -56,8 +55,7 @@ fn outer_side(kernel: &Kernel, lit: Lit, ids: &[ClauseId], others: &[ClauseId]) 
     requires ids { AreIdsOf kernel.now lit ids.now }
     requires others { AreIdsOf kernel.now (negation lit) others.now }
     requires bound { is_bound kernel.now.prefix lit.var ≡ true }
-    ensures some { (l : Literal) → result ≡ Some l → ((l ≡ lit) ⊎ (l ≡ negation lit)) × AllOuter kernel.now.prefix l (live (slots kernel.now)) }
-    ensures none { result ≡ None → AllOuter kernel.now.prefix lit (live (slots kernel.now)) ⊎ AllOuter kernel.now.prefix (negation lit) (live (slots kernel.now)) → ⊥ }
+    ensures { IsOuterSign kernel.now.prefix (live (slots kernel.now)) lit result }
 {
     if are_outer(kernel, ids, lit.var()) {
         Some(lit)

@@ -6,7 +6,8 @@ ghost use Rattle.q_logic.specs.Parts.{ArePairs};
 ghost use Rattle.q_logic.specs.Pivots.{without};
 ghost use Rattle.q_logic.specs.Eliminating.{resolve_all};
 ghost use Rattle.q_kernel.specs.Kernels.{slots};
-ghost use Rattle.q_eliminate.specs.Sides.{clauses_at, AreLive};
+ghost use Rattle.q_eliminate.specs.Sides.{AreLive};
+ghost use Rattle.q_logic.specs.Numbered.{clauses_at};
 ghost use Rattle.q_eliminate.specs.Gains.{no_gain, joined, joined_length, IsGain};
 ghost use Rattle.q_eliminate.specs.Plans.{IsPlain};
 

@@ -22,19 +22,17 @@
 //!
 //! It may make applicable: any rule on the resolvents, above all subsumption, and elimination of other variables, whose
 //! lists got shorter.
-ghost use Rattle.std.specs.Prelude.{◌≡◌, ◌↔◌, ◌≤◌, Some, None, OnOk, OnErr, IfOk, IsTrue, vec_capacity};
+ghost use Rattle.std.specs.Prelude.{◌≤◌, OnOk, OnErr, IfOk, vec_capacity};
 ghost use Rattle.q_logic.specs.declared.rule_bounds.Bounds.{Bounds as BoundsValue};
 ghost use Rattle.q_logic.specs.Literals.{negation};
 ghost use Rattle.q_logic.specs.StepForms.{positive};
 ghost use Rattle.q_logic.specs.Limits.{standard};
 ghost use Rattle.q_logic.specs.InLimits.{IsInLimits};
 ghost use Rattle.q_logic.specs.Targets as theory;
-ghost use Rattle.q_logic.specs.Targets.{place};
-ghost use Rattle.q_kernel.specs.declared.taken.Taken.TheVariants.{Yes, No};
 ghost use Rattle.q_kernel.specs.Kernels.{SameView, formula_in, HasSweepBytes};
-ghost use Rattle.q_kernel.specs.Taking.{AreModest, IsReady, Applies, IsTaken};
+ghost use Rattle.q_kernel.specs.Taking.{AreModest, IsReady, Applies};
 ghost use Rattle.q_rule.specs.Becoming.{HasResult};
-ghost use Rattle.q_eliminate.specs.declared.target.Target.{Target as TargetValue};
+ghost use Rattle.q_rule.specs.Searching.{Tries, Finds};
 ghost use Rattle.q_eliminate.specs.Targets.{target_of};
 ghost use Rattle.q_eliminate.specs.Sides.{AreSidesOf};
 ghost use Rattle.q_eliminate.specs.Plans.{IsPlanOf, HasRoomFor};
@@ -44,9 +42,11 @@ use crate::adding::add_resolvents;
 use crate::plan::{Plan, make_plan};
 use crate::removing::delete_with;
 use crate::search::Search;
+use crate::sides::Sides;
 use crate::target::Target;
 use q_kernel::{Kernel, Need, Taken};
 use q_logic::{Bounds, Lit, NoMemory};
+use q_rule::{Queue, Rules};
 use std::alloc::Global;
 
 /// Takes a target exactly where it applies.
@@ -58,52 +58,10 @@ pub fn try_one(
 ) -> Result<Taken, NoMemory>
     requires ready { IsReady kernel.old }
     requires bounds { AreModest bounds.now }
-    ensures applies { IfOk result (λ r. (r ≡ Yes) ↔ Applies bounds.now kernel.old (target_of target.now)) }
-    ensures yes { IfOk result (λ r. r ≡ Yes → IsTaken bounds.now kernel.old kernel.new (target_of target.now)) }
-    ensures no { IfOk result (λ r. r ≡ No → SameView kernel.old kernel.new) }
+    ensures tries { IfOk result (Tries bounds.now kernel.old kernel.new (target_of target.now)) }
     ensures err { OnErr result (SameView kernel.old kernel.new) }
 {
-    let mut search = Search::new(alloc);
-    try_with(kernel, &mut search, target, bounds)
-}
-
-/// The same, with a search that is lent.
-pub fn try_with(
-    kernel: &mut Kernel,
-    search: &mut Search,
-    target: &Target,
-    bounds: &Bounds,
-) -> Result<Taken, NoMemory>
-    requires ready { IsReady kernel.old }
-    requires bounds { AreModest bounds.now }
-    ensures applies { IfOk result (λ r. (r ≡ Yes) ↔ Applies bounds.now kernel.old (target_of target.now)) }
-    ensures yes { IfOk result (λ r. r ≡ Yes → IsTaken bounds.now kernel.old kernel.new (target_of target.now)) }
-    ensures no { IfOk result (λ r. r ≡ No → SameView kernel.old kernel.new) }
-    ensures err { OnErr result (SameView kernel.old kernel.new) }
-{
-    let x = target.variable();
-    let Some(plan) = make_plan(kernel, search, x, bounds)? else {
-        return Ok(Taken::No);
-    };
-    reserve(kernel, &mut search.resolvent, &plan)?;
-    take(kernel, search, x, &plan);
-    Ok(Taken::Yes)
-}
-
-/// Whether a target applies, with a search that is lent.
-pub fn applies(
-    kernel: &Kernel,
-    search: &mut Search,
-    target: &Target,
-    bounds: &Bounds,
-) -> Result<bool, NoMemory>
-    requires ready { IsReady kernel.now }
-    requires bounds { AreModest bounds.now }
-    ensures { IfOk result (λ yes. IsTrue yes ↔ Applies bounds.now kernel.now (target_of target.now)) }
-{
-    let x = target.variable();
-    let found = make_plan(kernel, search, x, bounds)?;
-    Ok(found.is_some())
+    Search::new(alloc).take(kernel, target, bounds)
 }
 
 /// A target whose place is at least a number; none exactly where no target from that place on applies. The place of a
@@ -116,33 +74,66 @@ pub fn find(
 ) -> Result<Option<Target>, NoMemory>
     requires ready { IsReady kernel.now }
     requires bounds { AreModest bounds.now }
-    ensures some { IfOk result (λ o. (t : TargetValue) → o ≡ Some t → Applies bounds.now kernel.now (target_of t) × (from ≤ place (target_of t))) }
-    ensures none { IfOk result (λ o. o ≡ None → (t : TargetValue) → from ≤ place (target_of t) → Applies bounds.now kernel.now (target_of t) → ⊥) }
+    ensures finds { IfOk result (Finds target_of bounds.now kernel.now from) }
 {
-    let mut search = Search::new(alloc);
-    find_with(kernel, &mut search, bounds, from)
+    Search::new(alloc).find(kernel, bounds, from)
 }
 
-/// The same, with a search that is lent.
-pub fn find_with(
-    kernel: &Kernel,
-    search: &mut Search,
-    bounds: &Bounds,
-    from: u32,
-) -> Result<Option<Target>, NoMemory>
-    requires ready { IsReady kernel.now }
-    requires bounds { AreModest bounds.now }
-    ensures some { IfOk result (λ o. (t : TargetValue) → o ≡ Some t → Applies bounds.now kernel.now (target_of t) × (from ≤ place (target_of t))) }
-    ensures none { IfOk result (λ o. o ≡ None → (t : TargetValue) → from ≤ place (target_of t) → Applies bounds.now kernel.now (target_of t) → ⊥) }
-{
-    let end = kernel.greatest_var() + 1;
-    for x in from..end {
-        let target = Target::Eliminate { x };
-        if applies(kernel, search, &target, bounds)? {
-            return Ok(Some(target));
+impl Rules for Search {
+    type Target = Target;
+
+    ghost target_of = { target_of };
+
+    ghost IsFitFor = { λ k s. Unit {0} };
+
+    fn new(alloc: Global) -> Search {
+        Search {
+            sides: Sides::new(alloc),
+            marks: Queue::new(alloc),
+            resolvent: Vec::new(alloc),
         }
     }
-    Ok(None)
+
+    fn applies(
+        &mut self,
+        kernel: &Kernel,
+        target: &Target,
+        bounds: &Bounds,
+    ) -> Result<bool, NoMemory> {
+        let found = make_plan(kernel, self, target.variable(), bounds)?;
+        Ok(found.is_some())
+    }
+
+    fn take(
+        &mut self,
+        kernel: &mut Kernel,
+        target: &Target,
+        bounds: &Bounds,
+    ) -> Result<Taken, NoMemory> {
+        let x = target.variable();
+        let Some(plan) = make_plan(kernel, self, x, bounds)? else {
+            return Ok(Taken::No);
+        };
+        reserve(kernel, &mut self.resolvent, &plan)?;
+        take(kernel, self, x, &plan);
+        Ok(Taken::Yes)
+    }
+
+    fn find(
+        &mut self,
+        kernel: &Kernel,
+        bounds: &Bounds,
+        from: u32,
+    ) -> Result<Option<Target>, NoMemory> {
+        let end = kernel.greatest_var() + 1;
+        for x in from..end {
+            let target = Target::Eliminate { x };
+            if self.applies(kernel, &target, bounds)? {
+                return Ok(Some(target));
+            }
+        }
+        Ok(None)
+    }
 }
 
 // Room for the steps of a plan, and for the sweep after them.

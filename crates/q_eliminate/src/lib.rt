@@ -12,7 +12,7 @@ mod search;
 mod sides;
 mod target;
 
-pub use eliminate::{applies, find, find_with, try_one, try_with};
+pub use eliminate::{find, try_one};
 pub use q_kernel::Taken;
 pub use q_logic::Bounds;
 pub use search::Search;

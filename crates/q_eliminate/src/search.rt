@@ -2,7 +2,6 @@
 use crate::sides::Sides;
 use q_logic::Lit;
 use q_rule::Queue;
-use std::alloc::Global;
 
 /// Room that searches and changes share: the clauses of a variable, the literals of one of them, and a resolvent. It may
 /// hold anything before and after a call.
@@ -11,14 +10,4 @@ pub struct Search {
     pub(crate) sides: Sides,
     pub(crate) marks: Queue,
     pub(crate) resolvent: Vec<Lit>,
-}
-
-impl Search {
-    pub fn new(alloc: Global) -> Search {
-        Search {
-            sides: Sides::new(alloc),
-            marks: Queue::new(alloc),
-            resolvent: Vec::new(alloc),
-        }
-    }
 }

@@ -2,7 +2,8 @@
 ghost use Rattle.std.specs.Prelude.{◌≡◌, ◌<◌, OnOk};
 ghost use Rattle.q_logic.specs.Measure.{size_of};
 ghost use Rattle.q_kernel.specs.Kernels.{slots};
-ghost use Rattle.q_eliminate.specs.Sides.{clauses_at, AreIdsOf, AreLive, AreSidesOf};
+ghost use Rattle.q_eliminate.specs.Sides.{AreIdsOf, AreLive, AreSidesOf};
+ghost use Rattle.q_logic.specs.Numbered.{clauses_at};
 
 use q_arena::ClauseId;
 use q_kernel::Kernel;
@@ -17,7 +18,7 @@ pub struct Sides {
 }
 
 impl Sides {
-    pub fn new(alloc: Global) -> Sides {
+    pub(crate) fn new(alloc: Global) -> Sides {
         Sides {
             positive: Vec::new(alloc),
             negative: Vec::new(alloc),

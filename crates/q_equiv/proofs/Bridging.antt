@@ -16,7 +16,7 @@ use Rattle.q_logic.specs.Sets.{is_tautology, put_unless_tautology}
 use Rattle.q_logic.specs.Numbered.{Slots, slot, live, others, formula_of}
 use Rattle.q_logic.specs.Targets.{merge}
 use Rattle.q_logic.specs.Merging.{Mergeable, merged, renamed}
-use Rattle.q_logic.proofs.Clauses.{IsIn-append_left}
+use Rattle.q_logic.proofs.ClauseLemmas.{IsIn-append_left}
 use Rattle.q_logic.proofs.Building.{IsIn-right}
 use Rattle.q_logic.proofs.Slots.{live-slot, slot-alike}
 use Rattle.q_logic.proofs.Sets.{insert-length, IsIn-outer_in, IsIn-put_unless}

@@ -1,5 +1,6 @@
 -- Levels that never rise.
 use Rattle.std.proofs.Common.{◌≡◌, ◌≢◌, ◌≤◌, ◌<◌, ◌+◌, ◌⊎◌, ℕ, List, [], ◌∷◌, get_or, length, Option, Some, None, sym, ◌∙◌, ap, subst, inl, inr, arith}
+use Rattle.std.proofs.lemmas.Option.{same_Some}
 use Rattle.q_logic.specs.Literals.{Literal, IsBelow, negation}
 use Rattle.q_logic.specs.Formulas.{Clause, Matrix, IsIn}
 use Rattle.q_logic.specs.Parts.{ArePairs}
@@ -44,9 +45,6 @@ pub none-rise : (X : Matrix) → NeverRise [] X
 none-rise X x y b = omega arith
 
 -- Clause by clause, by ascending number.
-same : (C D : Clause) → Some C ≡ Some D → C ≡ D
-same C D e = cc
-
 none : (D : Clause) → (let o : Option Clause = None in o ≡ Some D) → ⊥
 none D e = cc
 
@@ -59,7 +57,7 @@ fallen-more levels N from id C before between here f next e c D l s = go (place 
     go : (c < from) ⊎ (((from ≤ c) × (c < id)) ⊎ (c ≡ id)) → NeverRise levels (D ∷ [])
     go (inl a) = before c D a s
     go (inr (inl a)) = absurd (none D (sym (between c a.0 a.1) ∙ s))
-    go (inr (inr a)) = subst (λ (E : Clause). NeverRise levels (E ∷ [])) (same C D (sym here ∙ (ap (slot N) (sym a) ∙ s))) f
+    go (inr (inr a)) = subst (λ (E : Clause). NeverRise levels (E ∷ [])) (same_Some C D (sym here ∙ (ap (slot N) (sym a) ∙ s))) f
 
 pub fallen-all : (levels : List ℕ) (N : Slots) (from : ℕ) → ((c : ℕ) (D : Clause) → c < from → slot N c ≡ Some D → NeverRise levels (D ∷ [])) → ((c : ℕ) → from ≤ c → slot N c ≡ None) → NeverRise levels (live N)
 fallen-all levels N from before rest = all-fall levels N (λ c D s. go c D s (place c from))

@@ -7,7 +7,7 @@ use Rattle.q_logic.specs.Steps.{one_less, clause_eq}
 use Rattle.q_logic.specs.Sets.{is_tautology, put_unless_tautology}
 use Rattle.q_logic.specs.Numbered.{Slots, slot, set_slot, live, others}
 use Rattle.q_logic.specs.Merging.{merged, merged_one, renamed}
-use Rattle.q_logic.proofs.Clauses.{literal_eq-itself, literal_eq-negation}
+use Rattle.q_logic.proofs.ClauseLemmas.{literal_eq-itself, literal_eq-negation}
 use Rattle.q_logic.proofs.Slots.{slot-alike}
 use Rattle.q_logic.proofs.Sets.{insert-IsIn, IsIn-insert}
 use Rattle.q_logic.proofs.Runs.{clause_eq-sound}

@@ -1,5 +1,6 @@
 -- A clause in the place of another one.
 use Rattle.std.proofs.Common.{◌≡◌, ◌≢◌, ◌≤◌, ◌<◌, ◌+◌, ◌*◌, ℕ, Bool, true, false, ◌||◌, [], ◌∷◌, inl, inr, arith, refl, sym, ap, ◌∙◌, subst, Option, Some, None, length, true≢false}
+use Rattle.std.proofs.lemmas.Option.{same_Some}
 use Rattle.q_logic.specs.Literals.{Literal, negation, literal_eq}
 use Rattle.q_logic.specs.Formulas.{Clause, Matrix, Prefix, IsIn}
 use Rattle.q_logic.specs.Propagation.{Implied}
@@ -7,7 +8,7 @@ use Rattle.q_logic.specs.Steps.{add, delete, one_less}
 use Rattle.q_logic.specs.StepForms.{first_of}
 use Rattle.q_logic.specs.Sets.{has, is_tautology, IsTautology}
 use Rattle.q_logic.specs.Numbered.{Slots, slot, live, others}
-use Rattle.q_logic.proofs.Clauses.{literal_eq-itself, literal_eq-negation}
+use Rattle.q_logic.proofs.ClauseLemmas.{literal_eq-itself, literal_eq-negation}
 use Rattle.q_logic.proofs.Slots.{IsIn-has, live-slot, slot-alike}
 use Rattle.q_logic.proofs.Implying.{implied-more_clauses, negation-negation}
 use Rattle.q_logic.proofs.Reaching.{SameClauses, IsIn-alike, alike-refl, alike-sym, alike-trans, alike-cons, alike-uncons, alike-swap}
@@ -43,9 +44,6 @@ not_tautology C h = go (is_tautology C) refl
 
 none : (C : Clause) → (let o : Option Clause = None in o ≡ Some C) → ⊥
 none C e = cc
-
-one : (C D : Clause) → Some C ≡ Some D → C ≡ D
-one C D e = cc
 
 module _ (old : Seen) (id : ℕ) (R : Clause) (h : MayReplace old id R) (s : IsSound old) where
   inside : IsIn h.clause (live (slots old))
@@ -83,7 +81,7 @@ module _ (old : Seen) (id : ℕ) (R : Clause) (h : MayReplace old id R) (s : IsS
     kept = λ c D n e. subst (λ (N : Slots). slot N c ≡ Some D) (sym d.change) (slot-set_other id c None (slots old) n ∙ e);
     words = let w = d.room.words in omega arith;
     ids = let w = d.room.ids in omega arith;
-    bytes = let c : length (step_text (delete (first_of d.clause) d.clause)) ≤ 16 * (length h.clause + 1) = subst (λ (x : Clause). length (step_text (delete (first_of x) x)) ≤ 16 * (length h.clause + 1)) (one h.clause d.clause (sym h.there ∙ d.was)) cost in let b = d.logged.bytes in omega arith;
+    bytes = let c : length (step_text (delete (first_of d.clause) d.clause)) ≤ 16 * (length h.clause + 1) = subst (λ (x : Clause). length (step_text (delete (first_of x) x)) ≤ 16 * (length h.clause + 1)) (same_Some h.clause d.clause (sym h.there ∙ d.was)) cost in let b = d.logged.bytes in omega arith;
   }
 
   -- or it comes
@@ -152,6 +150,6 @@ module _ (old : Seen) (id : ℕ) (R : Clause) (h : MayReplace old id R) (s : IsS
       words = let w = d.room.words in let v = a.words in omega arith;
       ids = let w = d.room.ids in let v = a.ids in omega arith;
       bytes =
-          let c : length (step_text (delete (first_of d.clause) d.clause)) ≤ 16 * (length h.clause + 1) = subst (λ (x : Clause). length (step_text (delete (first_of x) x)) ≤ 16 * (length h.clause + 1)) (one h.clause d.clause (sym still ∙ d.was)) cost in
+          let c : length (step_text (delete (first_of d.clause) d.clause)) ≤ 16 * (length h.clause + 1) = subst (λ (x : Clause). length (step_text (delete (first_of x) x)) ≤ 16 * (length h.clause + 1)) (same_Some h.clause d.clause (sym still ∙ d.was)) cost in
           let n = cost_new in let b = d.logged.bytes in let l = a.logged.bytes in omega arith;
     }

@@ -5,7 +5,7 @@ use Rattle.q_logic.specs.Formulas.{Clause, Matrix, IsIn}
 use Rattle.q_logic.specs.Numbered.{Slots, slot, live}
 use Rattle.q_logic.specs.Merging.{Binary, Joined}
 use Rattle.q_logic.proofs.Slots.{live-slot}
-use Rattle.q_logic.proofs.Clauses.{IsIn-append_left, IsIn-append}
+use Rattle.q_logic.proofs.ClauseLemmas.{IsIn-append_left, IsIn-append}
 use Rattle.q_logic.proofs.Implying.{IsIn-append_right}
 use Rattle.q_logic.proofs.Searching.{joined-further}
 use Rattle.q_arena.specs.Rings.{Has}
@@ -100,7 +100,7 @@ place-member [] j k e = absurd (cc)
 place-member (x ∷ xs) zero k e = inl (cc)
 place-member (x ∷ xs) (suc j) k e = inr (place-member xs j k e)
 
-earlier : (n i : ℕ) → n < i + 1 → (n < i) ⊎ (n ≡ i)
+pub earlier : (n i : ℕ) → n < i + 1 → (n < i) ⊎ (n ≡ i)
 earlier n i h = grind arith
 
 before_growth : (xs ys : List Literal) (j : ℕ) (k : Literal) → j < length xs → slice_get (xs ++ ys) j ≡ Some k → slice_get xs j ≡ Some k

@@ -39,8 +39,7 @@ pub fn next_clause(kernel: &Kernel, gone: Lit, bridge: Bridge) -> Option<ClauseI
     if found.is_some() {
         return found;
     }
-    let negated = clause_beside(kernel, gone.negated(), bridge);
-    negated
+    clause_beside(kernel, gone.negated(), bridge)
 }
 
 // A clause with the literal, beside the bridge.

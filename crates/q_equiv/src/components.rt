@@ -31,7 +31,7 @@ pub struct Components {
 }
 
 impl Components {
-    pub fn new(alloc: Global) -> Components {
+    pub(crate) fn new(alloc: Global) -> Components {
         Components {
             edges: Vec::new(alloc),
             first: Vec::new(alloc),
@@ -47,7 +47,7 @@ impl Components {
     }
 
     /// Begins anew, with so many literals and no implication.
-    pub fn begin(&mut self, literals: usize) -> Result<(), NoMemory> {
+    pub(crate) fn begin(&mut self, literals: usize) -> Result<(), NoMemory> {
         self.edges.clear();
         self.path.clear();
         self.open.clear();
@@ -65,7 +65,7 @@ impl Components {
     }
 
     /// Notes the two implications of a clause of two literals.
-    pub fn note(&mut self, a: Lit, b: Lit) -> Result<(), NoMemory> {
+    pub(crate) fn note(&mut self, a: Lit, b: Lit) -> Result<(), NoMemory> {
         self.add_edge(a.negated().index(), b.index())?;
         self.add_edge(b.negated().index(), a.index())
     }
@@ -78,7 +78,7 @@ impl Components {
     }
 
     /// Gives each literal the number of its component: no implication leads to a greater number.
-    pub fn number(&mut self, levels: &mut Vec<u32>) -> Result<(), NoMemory> {
+    pub(crate) fn number(&mut self, levels: &mut Vec<u32>) -> Result<(), NoMemory> {
         levels.clear();
         levels.resize(self.first.len(), 0)?;
         for root in 0..self.first.len() {
@@ -166,12 +166,12 @@ impl Components {
     }
 
     /// How many components there are.
-    pub fn count(&self) -> usize {
+    pub(crate) fn count(&self) -> usize {
         self.ends.len()
     }
 
     /// The literals of a component, in the order in which the search left them.
-    pub fn part(&self, number: usize) -> &[Lit] {
+    pub(crate) fn part(&self, number: usize) -> &[Lit] {
         let end = entry(&self.ends, number);
         let start = if number == 0 {
             0

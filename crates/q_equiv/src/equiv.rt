@@ -1,18 +1,18 @@
-ghost use Rattle.std.specs.Prelude.{◌≡◌, ◌↔◌, ◌≤◌, Some, None, OnErr, IfOk, IsTrue};
-ghost use Rattle.q_logic.specs.Targets.{place};
-ghost use Rattle.q_kernel.specs.declared.taken.Taken.TheVariants.{Yes, No};
+ghost use Rattle.std.specs.Prelude.{OnErr, IfOk};
 ghost use Rattle.q_kernel.specs.Kernels.{SameView};
-ghost use Rattle.q_kernel.specs.Taking.{AreModest, IsReady, Applies, IsTaken};
-ghost use Rattle.q_equiv.specs.declared.target.Target.{Target as TargetValue};
+ghost use Rattle.q_kernel.specs.Taking.{AreModest, IsReady};
+ghost use Rattle.q_rule.specs.Searching.{Tries, Finds};
 ghost use Rattle.q_equiv.specs.Targets.{target_of};
 
-use crate::finding::find_from;
+use crate::finding::{Walks, find_from};
 use crate::merge::{is_mergeable, take};
+use crate::proposing::Halves;
 use crate::room::reserve;
 use crate::search::Search;
 use crate::target::Target;
 use q_kernel::{Kernel, Taken};
 use q_logic::{Bounds, NoMemory};
+use q_rule::{Queue, Rules};
 use std::alloc::Global;
 
 /// Takes a target exactly where it applies.
@@ -24,53 +24,10 @@ pub fn try_one(
 ) -> Result<Taken, NoMemory>
     requires ready { IsReady kernel.old }
     requires bounds { AreModest bounds.now }
-    ensures applies { IfOk result (λ r. (r ≡ Yes) ↔ Applies bounds.now kernel.old (target_of target.now)) }
-    ensures yes { IfOk result (λ r. r ≡ Yes → IsTaken bounds.now kernel.old kernel.new (target_of target.now)) }
-    ensures no { IfOk result (λ r. r ≡ No → SameView kernel.old kernel.new) }
+    ensures tries { IfOk result (Tries bounds.now kernel.old kernel.new (target_of target.now)) }
     ensures err { OnErr result (SameView kernel.old kernel.new) }
 {
-    let mut search = Search::new(alloc);
-    try_with(kernel, &mut search, target, bounds)
-}
-
-/// The same, with a search that is lent.
-pub fn try_with(
-    kernel: &mut Kernel,
-    search: &mut Search,
-    target: &Target,
-    bounds: &Bounds,
-) -> Result<Taken, NoMemory>
-    requires ready { IsReady kernel.old }
-    requires bounds { AreModest bounds.now }
-    ensures applies { IfOk result (λ r. (r ≡ Yes) ↔ Applies bounds.now kernel.old (target_of target.now)) }
-    ensures yes { IfOk result (λ r. r ≡ Yes → IsTaken bounds.now kernel.old kernel.new (target_of target.now)) }
-    ensures no { IfOk result (λ r. r ≡ No → SameView kernel.old kernel.new) }
-    ensures err { OnErr result (SameView kernel.old kernel.new) }
-{
-    let _ = bounds;
-    let (keep, gone) = (target.keep(), target.gone());
-    if !is_mergeable(kernel, &mut search.queue, keep, gone)? {
-        return Ok(Taken::No);
-    }
-    reserve(kernel, &mut search.clause, gone)?;
-    take(kernel, &mut search.clause, keep, gone);
-    Ok(Taken::Yes)
-}
-
-/// Whether a target applies, with a search that is lent.
-pub fn applies(
-    kernel: &Kernel,
-    search: &mut Search,
-    target: &Target,
-    bounds: &Bounds,
-) -> Result<bool, NoMemory>
-    requires ready { IsReady kernel.now }
-    requires bounds { AreModest bounds.now }
-    ensures yes { IfOk result (λ yes. IsTrue yes ↔ Applies bounds.now kernel.now (target_of target.now)) }
-{
-    let _ = bounds;
-    let yes = is_mergeable(kernel, &mut search.queue, target.keep(), target.gone())?;
-    Ok(yes)
+    Search::new(alloc).take(kernel, target, bounds)
 }
 
 /// A target whose place is at least a number; none exactly where no target from that place on applies. The place of a
@@ -83,26 +40,60 @@ pub fn find(
 ) -> Result<Option<Target>, NoMemory>
     requires ready { IsReady kernel.now }
     requires bounds { AreModest bounds.now }
-    ensures some { IfOk result (λ o. (t : TargetValue) → o ≡ Some t → Applies bounds.now kernel.now (target_of t) × (from ≤ place (target_of t))) }
-    ensures none { IfOk result (λ o. o ≡ None → (t : TargetValue) → from ≤ place (target_of t) → Applies bounds.now kernel.now (target_of t) → ⊥) }
+    ensures finds { IfOk result (Finds target_of bounds.now kernel.now from) }
 {
-    let mut search = Search::new(alloc);
-    find_with(kernel, &mut search, bounds, from)
+    Search::new(alloc).find(kernel, bounds, from)
 }
 
-/// The same, with a search that is lent.
-pub fn find_with(
-    kernel: &Kernel,
-    search: &mut Search,
-    bounds: &Bounds,
-    from: u32,
-) -> Result<Option<Target>, NoMemory>
-    requires ready { IsReady kernel.now }
-    requires bounds { AreModest bounds.now }
-    ensures some { IfOk result (λ o. (t : TargetValue) → o ≡ Some t → Applies bounds.now kernel.now (target_of t) × (from ≤ place (target_of t))) }
-    ensures none { IfOk result (λ o. o ≡ None → (t : TargetValue) → from ≤ place (target_of t) → Applies bounds.now kernel.now (target_of t) → ⊥) }
-{
-    let _ = bounds;
-    let found = find_from(kernel, &mut search.walks, from)?;
-    Ok(found)
+impl Rules for Search {
+    type Target = Target;
+
+    ghost target_of = { target_of };
+
+    ghost IsFitFor = { λ k s. Unit {0} };
+
+    fn new(alloc: Global) -> Search {
+        Search {
+            queue: Queue::new(alloc),
+            clause: Vec::new(alloc),
+            walks: Walks::new(alloc),
+            halves: Halves::new(alloc),
+        }
+    }
+
+    fn applies(
+        &mut self,
+        kernel: &Kernel,
+        target: &Target,
+        bounds: &Bounds,
+    ) -> Result<bool, NoMemory> {
+        let _ = bounds;
+        is_mergeable(kernel, &mut self.queue, target.keep(), target.gone())
+    }
+
+    fn take(
+        &mut self,
+        kernel: &mut Kernel,
+        target: &Target,
+        bounds: &Bounds,
+    ) -> Result<Taken, NoMemory> {
+        let _ = bounds;
+        let (keep, gone) = (target.keep(), target.gone());
+        if !is_mergeable(kernel, &mut self.queue, keep, gone)? {
+            return Ok(Taken::No);
+        }
+        reserve(kernel, &mut self.clause, gone)?;
+        take(kernel, &mut self.clause, keep, gone);
+        Ok(Taken::Yes)
+    }
+
+    fn find(
+        &mut self,
+        kernel: &Kernel,
+        bounds: &Bounds,
+        from: u32,
+    ) -> Result<Option<Target>, NoMemory> {
+        let _ = bounds;
+        find_from(kernel, &mut self.walks, from)
+    }
 }

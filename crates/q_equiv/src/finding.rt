@@ -13,9 +13,12 @@ ghost use Rattle.q_logic.specs.Literals.{Literal, negation};
 ghost use Rattle.q_logic.specs.Limits.{standard};
 ghost use Rattle.q_logic.specs.InLimits.{IsInLimits};
 ghost use Rattle.q_logic.specs.Numbered.{live};
+ghost use Rattle.q_logic.specs.Targets.{place};
 ghost use Rattle.q_kernel.specs.Kernels.{slots, formula_in};
 ghost use Rattle.q_equiv.specs.Walks.{NeverRise, IsGathered};
-ghost use Rattle.q_equiv.specs.Searches.{IsKept, IsFound, IsFoundAt};
+ghost use Rattle.q_rule.specs.Searching.{IsFound};
+ghost use Rattle.q_equiv.specs.Targets.{target_of};
+ghost use Rattle.q_equiv.specs.Searches.{IsKept};
 
 use crate::components::Components;
 use crate::joined::gather;
@@ -39,7 +42,7 @@ pub struct Walks {
 }
 
 impl Walks {
-    pub fn new(alloc: Global) -> Walks {
+    pub(crate) fn new(alloc: Global) -> Walks {
         Walks {
             there: Queue::new(alloc),
             back: Queue::new(alloc),
@@ -53,7 +56,7 @@ impl Walks {
 /// A target at the first variable from a number on at which one applies.
 pub fn find_from(kernel: &Kernel, walks: &mut Walks, from: u32) -> Result<Option<Target>, NoMemory>
     requires { IsInLimits standard (formula_in kernel.now) }
-    ensures { IfOk result (IsFound kernel.now from) }
+    ensures { IfOk result (IsFound target_of kernel.now (λ t. from ≤ place (target_of t))) }
 {
     walks.levels.clear();
     walks.looks = 0;
@@ -69,7 +72,7 @@ pub fn find_from(kernel: &Kernel, walks: &mut Walks, from: u32) -> Result<Option
 // A target at a variable. The other literal of the variable needs no look: what keeps its negation keeps it.
 fn find_at(kernel: &Kernel, walks: &mut Walks, var: u32) -> Result<Option<Target>, NoMemory>
     requires { NeverRise walks.old.levels.items (live (slots kernel.now)) }
-    ensures found { IfOk result (IsFoundAt kernel.now var) }
+    ensures found { IfOk result (IsFound target_of kernel.now (λ t. place (target_of t) ≡ var)) }
     ensures falling { OnOk result (NeverRise walks.new.levels.items (live (slots kernel.now))) }
 {
     if !is_existential(kernel, var) {

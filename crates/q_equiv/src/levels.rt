@@ -29,7 +29,7 @@ pub fn make_levels(
 }
 
 /// Notes all clauses of two literals.
-pub fn note_all(kernel: &Kernel, components: &mut Components) -> Result<(), NoMemory> {
+pub(crate) fn note_all(kernel: &Kernel, components: &mut Components) -> Result<(), NoMemory> {
     components.begin((kernel.greatest_var() as usize + 1) * 2)?;
     let mut from = 0;
     while let Some(id) = kernel.next_live(from) {

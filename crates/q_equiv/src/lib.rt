@@ -14,7 +14,7 @@ mod room;
 mod search;
 mod target;
 
-pub use equiv::{applies, find, find_with, try_one, try_with};
+pub use equiv::{find, try_one};
 pub use proposing::candidates;
 pub use q_kernel::Taken;
 pub use q_logic::Bounds;

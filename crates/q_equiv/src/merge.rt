@@ -49,8 +49,7 @@ pub fn is_mergeable(
     if !can_stand_for(kernel, keep, gone) || !is_joined(kernel, queue, gone, keep)? {
         return Ok(false);
     }
-    let turned = is_joined(kernel, queue, gone.negated(), keep.negated())?;
-    Ok(turned)
+    is_joined(kernel, queue, gone.negated(), keep.negated())
 }
 
 /// Whether the literals have different variables, of which that of gone is existential and that of keep is not inner to it.

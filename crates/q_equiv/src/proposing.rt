@@ -25,7 +25,7 @@ pub struct Halves {
 }
 
 impl Halves {
-    pub fn new(alloc: Global) -> Halves {
+    pub(crate) fn new(alloc: Global) -> Halves {
         Halves {
             lits: Vec::new(alloc),
             pieces: Vec::new(alloc),
@@ -93,10 +93,7 @@ fn pair_with(
 
 // Whether the literal of the least variable is negative.
 fn is_mirrored(part: &[Lit]) -> bool {
-    match part.iter().copied().min() {
-        Some(lit) => lit.negative(),
-        None => false,
-    }
+    part.iter().min().is_some_and(|lit| lit.negative())
 }
 
 // A literal whose variable is not inner to that of any other.

@@ -72,8 +72,5 @@ fn weigh(kernel: &Kernel, lit: Lit) -> Result<usize, NoMemory>
 fn sum(a: usize, b: usize) -> Result<usize, NoMemory>
     ensures { IfOk result (λ n. n ≡ a + b) }
 {
-    match a.checked_add(b) {
-        Some(n) => Ok(n),
-        None => Err(NoMemory),
-    }
+    a.checked_add(b).ok_or(NoMemory)
 }

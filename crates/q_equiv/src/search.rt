@@ -3,7 +3,6 @@ use crate::finding::Walks;
 use crate::proposing::Halves;
 use q_logic::Lit;
 use q_rule::Queue;
-use std::alloc::Global;
 
 /// Room that searches lend each other. Nothing in it has to agree with a kernel.
 #[derive(Drop)]
@@ -12,16 +11,4 @@ pub struct Search {
     pub(crate) clause: Vec<Lit>,
     pub(crate) walks: Walks,
     pub(crate) halves: Halves,
-}
-
-impl Search {
-    /// It takes no memory.
-    pub fn new(alloc: Global) -> Search {
-        Search {
-            queue: Queue::new(alloc),
-            clause: Vec::new(alloc),
-            walks: Walks::new(alloc),
-            halves: Halves::new(alloc),
-        }
-    }
 }

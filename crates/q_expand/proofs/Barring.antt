@@ -1,5 +1,6 @@
 -- What a walk has met is part of what the conditions of an expansion bound.
-use Rattle.std.proofs.Common.{◌≡◌, ◌⊎◌, ◌≤◌, ◌<◌, ◌+◌, ℕ, suc, Bool, true, false, not, cond, eqb, ◌&&◌, ◌||◌, List, [], ◌∷◌, length, Some, refl, sym, ◌∙◌, ap, subst, inl, inr, arith, true≢false}
+use Rattle.std.proofs.Common.{◌≡◌, ◌⊎◌, ◌≤◌, ◌<◌, ◌+◌, ℕ, suc, Bool, true, false, not, cond, eqb, ◌&&◌, ◌||◌, List, [], ◌∷◌, length, refl, sym, ◌∙◌, ap, subst, inl, inr, arith, true≢false}
+use Rattle.std.proofs.lemmas.Option.{same_Some}
 use Rattle.std.proofs.lemmas.Bool.Decides.{nat_tests}
 use Rattle.q_logic.specs.Literals.{Literal}
 use Rattle.q_logic.specs.Formulas.{Clause, Matrix, Prefix, IsIn}
@@ -141,10 +142,7 @@ module _ (k : Seen) (u : ℕ) (r : Walked) (h : IsRegion k u r) where
 
   pub tally-neither : (w : Clause → ℕ) → tally (λ C. cond (has_variable u C) 0 (w C)) (slots k) r.met ≡ tally (if_neither w u (expansion_vars k.prefix (live (slots k)) u)) (slots k) r.met
   tally-neither w = tally-same (λ C. cond (has_variable u C) 0 (w C)) (if_neither w u (expansion_vars k.prefix (live (slots k)) u)) r.met (slots k)
-      (λ c C m e. beside-neither w C (let q = h.connected c m in subst (IsConnected k.prefix (live (slots k)) u) (same q.0 C (sym q.1 ∙ e)) q.2))
-    where
-      same : (C D : Clause) → Some C ≡ Some D → C ≡ D
-      same C D e = cc
+      (λ c C m e. beside-neither w C (let q = h.connected c m in subst (IsConnected k.prefix (live (slots k)) u) (same_Some q.0 C (sym q.1 ∙ e)) q.2))
 
   pub size-within : r.size ≤ size_of (touched_neither u (expansion_vars k.prefix (live (slots k)) u) (live (slots k)))
   size-within =

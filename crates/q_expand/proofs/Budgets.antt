@@ -1,5 +1,6 @@
 -- What the steps of an expansion take: words, ids, variables and bytes of the log.
 use Rattle.std.proofs.Common.{◌≡◌, ◌≤◌, ◌+◌, ◌*◌, ℕ, Bool, true, false, cond, List, [], ◌∷◌, ◌++◌, length, refl, arith}
+use Rattle.q_logic.proofs.Falling.{size-append}
 use Rattle.q_logic.specs.Literals.{Literal}
 use Rattle.q_logic.specs.Formulas.{Clause, Matrix}
 use Rattle.q_logic.specs.Clauses.{insert}
@@ -246,10 +247,6 @@ fresh-reserved m (fresh v x ∷ ss) f = (f.1, fresh-reserved m ss f.2)
 fresh-reserved m (remove_variable v ∷ ss) f = (tt, fresh-reserved m ss f)
 
 -- What comes of the clauses is at most four times as large.
-size-append : (X Y : Matrix) → size_of (X ++ Y) ≡ size_of X + size_of Y
-size-append [] Y = omega arith
-size-append (C ∷ X) Y = let i = size-append X Y in omega arith
-
 pub parted-size : (u : ℕ) (V : List ℕ) (t : ℕ) (X : Matrix) → size_of (parted u V t X) ≤ 4 * size_of X
 parted-size u V t [] = omega arith
 parted-size u V t (D ∷ X) =

@@ -1,6 +1,7 @@
 -- A clause over copies is as long as the clause.
 use Rattle.std.proofs.Common.{◌≡◌, ◌⊎◌, ◌≤◌, ◌<◌, ◌+◌, ℕ, Bool, true, false, cond, eqb, ◌==◌, ◌||◌, nat_lt, List, [], ◌∷◌, length, refl, sym, ◌∙◌, ap, subst, inl, inr, arith, true≢false}
 use Rattle.std.proofs.lemmas.Bool.Decides.{nat_tests}
+use Rattle.q_logic.proofs.ExpandPrefix.{copy_of-out}
 use Rattle.q_logic.specs.Literals.{Literal, IsBelow, pack}
 use Rattle.q_logic.specs.Formulas.{Clause, IsIn}
 use Rattle.q_logic.specs.Clauses.{insert}
@@ -19,21 +20,13 @@ copy-above (y ∷ V) t x h = go (eqb y x) refl h (copy-above V (t + 1) x)
     go true e h i = omega arith
     go false e h i = let z = i h in omega arith
 
-copy-other : (V : List ℕ) (t x : ℕ) → in_list x V ≡ false → copy_of V t x ≡ x
-copy-other [] t x h = refl
-copy-other (y ∷ V) t x h = go (eqb y x) refl h (copy-other V (t + 1) x)
-  where
-    go : (b : Bool) → eqb y x ≡ b → (b || in_list x V) ≡ false → (in_list x V ≡ false → copy_of V (t + 1) x ≡ x) → cond b t (copy_of V (t + 1) x) ≡ x
-    go true e h i = absurd (true≢false h)
-    go false e h i = i h
-
 -- a copy is above a number, or the variable itself
 copy-cases : (V : List ℕ) (t x : ℕ) → (t ≤ copy_of V t x) ⊎ (copy_of V t x ≡ x)
 copy-cases V t x = go (in_list x V) refl
   where
     go : (b : Bool) → in_list x V ≡ b → (t ≤ copy_of V t x) ⊎ (copy_of V t x ≡ x)
     go true e = inl (copy-above V t x e)
-    go false e = inr (copy-other V t x e)
+    go false e = inr (copy_of-out V t x e)
 
 pub copy-apart : (V : List ℕ) (t s x y : ℕ) → s ≤ t → x < s → y < s → copy_of V t x ≡ copy_of V t y → x ≡ y
 copy-apart [] t s x y l a b e = e

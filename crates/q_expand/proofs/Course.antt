@@ -4,7 +4,7 @@ use Rattle.q_logic.specs.Formulas.{Clause, Matrix, Prefix, IsIn}
 use Rattle.q_logic.specs.Runs.{copies}
 use Rattle.q_logic.specs.Steps.{ProofStep}
 use Rattle.q_logic.specs.InLimits.{greatest}
-use Rattle.q_logic.specs.Numbered.{Slots, slot, live, put_first, formula_of}
+use Rattle.q_logic.specs.Numbered.{Slots, slot, live, put_first, formula_of, clauses_at}
 use Rattle.q_logic.specs.Expanding.{shares, expansion_vars, insert_all, Expandable}
 use Rattle.q_logic.proofs.Slots.{live-slot}
 use Rattle.q_logic.proofs.Reaching.{SameClauses, Reaches, copies-append, reaches-alike, reaches-append, reaches-end}
@@ -15,7 +15,7 @@ use Rattle.q_logic.proofs.ExpandClosure.{above-greatest}
 use Rattle.q_logic.proofs.ExpandRun.{Expansion}
 use Rattle.q_kernel.specs.Kernels.{Seen, slots, IsSound}
 use Rattle.q_expand.specs.Regions.{Walked, IsWhole}
-use Rattle.q_expand.specs.Steps.{each_with, copy_step, link_steps, unlink_steps, all_split, clauses_at, course}
+use Rattle.q_expand.specs.Steps.{each_with, copy_step, link_steps, unlink_steps, all_split, course}
 use Rattle.q_expand.proofs.Barring.{shares-connected}
 use Rattle.q_expand.proofs.Facts.{expansion-facts}
 use Rattle.q_expand.proofs.Flattened.{apart_from, clauses-beside, beside-from, parted-same, parted-append, parted-stays}

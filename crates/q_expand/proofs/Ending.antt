@@ -8,7 +8,7 @@ use Rattle.q_logic.specs.Sets.{has, each_without}
 use Rattle.q_logic.specs.StepForms.{positive}
 use Rattle.q_logic.specs.Pivots.{without}
 use Rattle.q_logic.specs.Expanding.{in_list, shares, copy_of, copied, copied_literal, expanded}
-use Rattle.q_logic.proofs.Clauses.{literal_eq-itself}
+use Rattle.q_logic.proofs.ClauseLemmas.{literal_eq-itself}
 use Rattle.q_logic.proofs.ClauseSets.{clause_of-ordered_clause}
 use Rattle.q_logic.proofs.Slots.{IsIn-has_not, without-same}
 use Rattle.q_logic.proofs.UniversalPivot.{without-IsIn}
@@ -82,7 +82,7 @@ module _ (Q : Prefix) (X : Matrix) (u : ℕ) (V : List ℕ) (t : ℕ) (x : Expan
   others l D h j a = go (literal_eq j l) refl
     where
       go : (b : Bool) → literal_eq j l ≡ b → literal_eq j l ≡ false
-      go true q = absurd (IsIn-has_not l D h (subst (λ (y : Literal). IsIn y D) (Rattle.q_logic.proofs.Clauses.literal_eq-sound j l q) a))
+      go true q = absurd (IsIn-has_not l D h (subst (λ (y : Literal). IsIn y D) (Rattle.q_logic.proofs.ClauseLemmas.literal_eq-sound j l q) a))
       go false q = q
 
   over-done : (D : Clause) → has (positive u) D ≡ false → without (minus u) (without (positive u) (over_copies u V t D)) ≡ copied V t (without (minus u) D)

@@ -1,5 +1,6 @@
 -- Equal clauses, literal by literal.
-use Rattle.std.proofs.Common.{◌≡◌, ◌⊎◌, ◌≤◌, ◌<◌, ◌+◌, ℕ, zero, suc, [], ◌∷◌, length, get_or, refl, sym, ◌∙◌, subst, inl, inr, arith}
+use Rattle.std.proofs.Common.{◌≡◌, ◌≤◌, ◌<◌, ◌+◌, ℕ, zero, suc, [], ◌∷◌, length, get_or, refl, sym, ◌∙◌, subst, inl, inr, arith}
+use Rattle.q_expand.proofs.Growing.{earlier}
 use Rattle.q_logic.specs.Literals.{Literal}
 use Rattle.q_logic.specs.Formulas.{Clause}
 
@@ -9,9 +10,6 @@ pub record AreSame (C D : Clause) (i : ℕ) : Type 0 where
 
 pub same-begun : (C D : Clause) → AreSame C D 0
 same-begun C D = record { same = λ j k h e. absurd (omega arith) }
-
-earlier : (n i : ℕ) → n < i + 1 → (n < i) ⊎ (n ≡ i)
-earlier n i h = grind arith
 
 item-one : (C : Clause) (n : ℕ) (j k : Literal) → n < length C → j ≡ get_or C n j → k ≡ get_or C n k → j ≡ k
 item-one [] n j k h e f = absurd (omega arith)

@@ -1,11 +1,13 @@
 -- The steps of an expansion are still to come where there is room, and what they lead to.
 use Rattle.std.proofs.Common.{◌≡◌, ◌≤◌, ◌+◌, ◌*◌, ℕ, Bool, true, false, cond, eqb, List, [], ◌∷◌, length, sym, ◌∙◌, ap, subst, arith, Some, None, Option}
+use Rattle.q_logic.proofs.Measuring.{size-alike}
+use Rattle.q_rule.proofs.Turns.{with-less}
 use Rattle.q_logic.specs.declared.formulas.Quant.TheVariants.{Exists}
 use Rattle.q_logic.specs.declared.rule_bounds.Bounds.{Bounds}
 use Rattle.q_logic.specs.Literals.{Literal}
 use Rattle.q_logic.specs.Formulas.{Clause, Matrix, Prefix, IsIn, PrenexFormula}
 use Rattle.q_logic.specs.Prefixes.{is_universal}
-use Rattle.q_logic.specs.Runs.{copies}
+use Rattle.q_logic.specs.Runs.{copies, AreAlike}
 use Rattle.q_logic.specs.Reach.{Reached}
 use Rattle.q_logic.specs.Measure.{size_of}
 use Rattle.q_logic.specs.Sets.{with_literal, each_without}
@@ -13,7 +15,7 @@ use Rattle.q_logic.specs.StepForms.{positive}
 use Rattle.q_logic.specs.Steps.{insert_after, literals_in}
 use Rattle.q_logic.specs.Limits.{standard}
 use Rattle.q_logic.specs.InLimits.{greatest, IsInLimits}
-use Rattle.q_logic.specs.Numbered.{Slots, slot, live, put_first, formula_of}
+use Rattle.q_logic.specs.Numbered.{Slots, slot, live, put_first, formula_of, clauses_at}
 use Rattle.q_logic.specs.Expanding.{insert_all, expanded}
 use Rattle.q_logic.specs.Targets.{expand_universal}
 use Rattle.q_logic.proofs.Heights.{one, weight, rise, weight-with, reaches-valid}
@@ -21,7 +23,7 @@ use Rattle.q_logic.proofs.Reaching.{SameClauses, IsIn-alike}
 use Rattle.q_logic.proofs.ExpandLinks.{minus}
 use Rattle.q_logic.proofs.ExpandRun.{Expansion}
 use Rattle.q_kernel.specs.Kernels.{Seen, slots, formula_in, IsSound}
-use Rattle.q_kernel.specs.Changes.{AreAlike, IsLed}
+use Rattle.q_kernel.specs.Changes.{IsLed}
 use Rattle.q_kernel.specs.Taking.{AreModest, Applies}
 use Rattle.q_kernel.proofs.Costs.{proper-in_order}
 use Rattle.q_kernel.proofs.Leading.{sizes-alike, led-through}
@@ -31,7 +33,7 @@ use Rattle.q_rule.proofs.Results.{each_without-less}
 use Rattle.q_expand.specs.Apart.{MayLose, HasLost}
 use Rattle.q_expand.specs.Regions.{Walked, IsWhole, tally}
 use Rattle.q_expand.specs.Rooms.{HasRoom}
-use Rattle.q_expand.specs.Steps.{clauses_at, course}
+use Rattle.q_expand.specs.Steps.{course}
 use Rattle.q_expand.specs.Tracks.{words_for, ids_for, total, IsOnTrack}
 use Rattle.q_expand.proofs.Barring.{long}
 use Rattle.q_expand.proofs.Budgets.{weight-size, course-price, course-words, course-ids, course-vars, rise-ids, rise-words, course-fresh, fresh-reserved, parted-size}
@@ -66,9 +68,6 @@ length-all : (V : List ℕ) (t : ℕ) (P : Prefix) → length (insert_all V t P)
 length-all [] t P = omega arith
 length-all (x ∷ V) t P = let i = length-all V (t + 1) (insert_after x t P) in let j = length-after x t P in omega arith
 
-with-size : (l : Literal) (X : Matrix) → size_of (with_literal l X) ≤ size_of X
-with-size l X = let a = weight-with long l X in let b = weight-size X in let c = weight-size (with_literal l X) in omega arith
-
 without-size : (l : Literal) (X : Matrix) → size_of (each_without l X) ≤ size_of X
 without-size l X =
     let h = each_without-less l X in
@@ -77,9 +76,6 @@ without-size l X =
     let c = size-parts X in
     let d = size-parts (each_without l X) in
     omega arith
-
-same-size : (X Y : Matrix) → SameClauses X Y → size_of X ≡ size_of Y
-same-size X Y s = let h = sizes-alike X Y s in let a = h.0 in let b = h.1 in let c = size-parts X in let d = size-parts Y in omega arith
 
 -- bytes for what comes after the steps
 abbrev pub later_of : Seen → ℕ → ℕ
@@ -186,10 +182,10 @@ module _ (B : Bounds) (k : Seen) (u : ℕ) (r : Walked) (s : IsSound k) (w : IsW
     }
 
     small : size_of (live (slots n)) ≤ 4 * size_of (live (slots k))
-    small = let e = same-size (live (slots n)) (parted_in k u) parted-there.clauses in let i = parted-size u V t X in omega arith
+    small = let e = size-alike (live (slots n)) (parted_in k u) parted-there.clauses in let i = parted-size u V t X in omega arith
 
     pub bytes-first : 16 * size_of (with_literal (positive u) (live (slots n))) ≤ n.spare_bytes
-    bytes-first = let i = with-size (positive u) (live (slots n)) in let j = small in let b = h.bytes in omega arith
+    bytes-first = let i = with-less (positive u) (live (slots n)) in let j = small in let b = h.bytes in omega arith
 
     module _ (p : Seen) (g : HasLost n p (positive u)) where
       pub may-second : MayLose p (minus u)
@@ -203,10 +199,10 @@ module _ (B : Bounds) (k : Seen) (u : ℕ) (r : Walked) (s : IsSound k) (w : IsW
       less-second = let i = small in let j = without-size (positive u) (live (slots n)) in subst (λ (Y : Matrix). size_of Y ≤ 4 * size_of (live (slots k))) (sym g.matrix) (omega arith)
 
       later-second : 16 * (8 * size_of (live (slots k)) + (length k.prefix + length r.vars)) ≤ p.spare_bytes
-      later-second = g.bytes (16 * (8 * size_of (live (slots k)) + (length k.prefix + length r.vars))) (let i = with-size (positive u) (live (slots n)) in let j = small in let b = h.bytes in omega arith)
+      later-second = g.bytes (16 * (8 * size_of (live (slots k)) + (length k.prefix + length r.vars))) (let i = with-less (positive u) (live (slots n)) in let j = small in let b = h.bytes in omega arith)
 
       pub bytes-second : 16 * size_of (with_literal (minus u) (live (slots p))) ≤ p.spare_bytes
-      bytes-second = let i = with-size (minus u) (live (slots p)) in let j = less-second in let b = later-second in omega arith
+      bytes-second = let i = with-less (minus u) (live (slots p)) in let j = less-second in let b = later-second in omega arith
 
       pub changed : (f : Seen) → HasLost p f (minus u) → IsLed k n → IsChanged k f (expand_universal u)
       changed f e l = record {
@@ -236,7 +232,7 @@ module _ (B : Bounds) (k : Seen) (u : ℕ) (r : Walked) (s : IsSound k) (w : IsW
           sizes = sizes-alike (expanded u (vars_in k u) (first_in k) (live (slots k))) (live (slots f)) same
 
           left : 16 * (4 * size_of (live (slots k)) + (length k.prefix + length r.vars)) ≤ f.spare_bytes
-          left = e.bytes (16 * (4 * size_of (live (slots k)) + (length k.prefix + length r.vars))) (let i = with-size (minus u) (live (slots p)) in let j = less-second in let b = later-second in omega arith)
+          left = e.bytes (16 * (4 * size_of (live (slots k)) + (length k.prefix + length r.vars))) (let i = with-less (minus u) (live (slots p)) in let j = less-second in let b = later-second in omega arith)
 
           less : size_of (live (slots f)) ≤ 4 * size_of (live (slots k))
           less = let i = less-second in let j = without-size (minus u) (live (slots p)) in subst (λ (Y : Matrix). size_of Y ≤ 4 * size_of (live (slots k))) (sym e.matrix) (omega arith)

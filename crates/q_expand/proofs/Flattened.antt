@@ -7,7 +7,7 @@ use Rattle.q_logic.specs.Runs.{copies}
 use Rattle.q_logic.specs.Sets.{has, each_without}
 use Rattle.q_logic.specs.StepForms.{positive}
 use Rattle.q_logic.specs.Steps.{clause_eq, one_less}
-use Rattle.q_logic.specs.Numbered.{Slots, slot, set_slot, live, put_first}
+use Rattle.q_logic.specs.Numbered.{Slots, slot, set_slot, live, put_first, clauses_at}
 use Rattle.q_logic.specs.Expanding.{shares}
 use Rattle.q_logic.proofs.Runs.{clause_eq-sound}
 use Rattle.q_logic.proofs.Heights.{weight}
@@ -15,7 +15,6 @@ use Rattle.q_logic.proofs.Reaching.{SameClauses, clause_eq-itself, IsIn-copies, 
 use Rattle.q_arena.specs.Rings.{Has, AreApart}
 use Rattle.q_kernel.proofs.Slotting.{IsIn-slot}
 use Rattle.q_expand.specs.Regions.{weigh, tally}
-use Rattle.q_expand.specs.Steps.{clauses_at}
 use Rattle.q_expand.proofs.Tallying.{weight-gone, tally-without, slot-fewer}
 use Rattle.q_expand.proofs.Running.{parted_one, parted}
 

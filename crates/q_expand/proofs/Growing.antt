@@ -1,5 +1,6 @@
 -- A walk that ends has met all that is connected.
 use Rattle.std.proofs.Common.{◌≡◌, ◌⊎◌, ℕ, zero, suc, ◌+◌, ◌<◌, ◌≤◌, Bool, true, false, not, List, [], ◌∷◌, ◌++◌, slice_get, Some, length, refl, sym, ◌∙◌, ap, subst, inl, inr, arith, length-append}
+use Rattle.std.proofs.lemmas.Option.{same_Some}
 use Rattle.q_logic.specs.Literals.{Literal, negation}
 use Rattle.q_logic.specs.Formulas.{Clause, IsIn}
 use Rattle.q_logic.specs.StepForms.{positive}
@@ -22,11 +23,8 @@ place-member [] j k e = absurd (cc)
 place-member (x ∷ xs) zero k e = inl (cc)
 place-member (x ∷ xs) (suc j) k e = inr (place-member xs j k e)
 
-earlier : (n i : ℕ) → n < i + 1 → (n < i) ⊎ (n ≡ i)
+pub earlier : (n i : ℕ) → n < i + 1 → (n < i) ⊎ (n ≡ i)
 earlier n i h = grind arith
-
-same_some : (n k : Literal) → Some n ≡ Some k → n ≡ k
-same_some n k e = cc
 
 before_growth : (xs ys : List Literal) (j : ℕ) (k : Literal) → j < length xs → slice_get (xs ++ ys) j ≡ Some k → slice_get xs j ≡ Some k
 before_growth [] ys j k l e = absurd (omega arith)
@@ -74,7 +72,7 @@ module _ (k : Seen) (u : ℕ) where
       was j i h f = before_growth old.vars v.larger.added j i h (subst (λ (xs : List Literal). slice_get xs j ≡ Some i) v.larger.vars f)
 
       here : (j : ℕ) (i : Literal) → j ≡ head → slice_get new.vars j ≡ Some i → i ≡ l
-      here j i a f = same_some i l (sym (was j i (omega arith) f) ∙ (ap (slice_get old.vars) a ∙ e))
+      here j i a f = same_Some i l (sym (was j i (omega arith) f) ∙ (ap (slice_get old.vars) a ∙ e))
 
   pub walk-ended : (head : ℕ) (r : Walked) → IsWalk head r → length r.vars ≤ head → IsWhole k u r
   walk-ended head r w past = record { region = w.region; all_met = all; all_vars = closed }

@@ -10,6 +10,7 @@ pub mod Sizing
 pub mod Wholes
 pub mod Tracking
 pub mod Turning
+pub mod Linking
 pub mod Equality
 pub mod Parts
 pub mod Waiting

@@ -7,7 +7,7 @@ use Rattle.q_logic.specs.Sweep.{has_variable}
 use Rattle.q_logic.specs.StepForms.{positive}
 use Rattle.q_logic.specs.Numbered.{Slots, slot, live}
 use Rattle.q_logic.specs.Expanding.{inner_existential, Spread}
-use Rattle.q_logic.proofs.Clauses.{IsIn-append_left}
+use Rattle.q_logic.proofs.ClauseLemmas.{IsIn-append_left}
 use Rattle.q_logic.proofs.ExpandClosure.{has_variable-IsIn}
 use Rattle.q_logic.proofs.Falling.{var_is}
 use Rattle.q_arena.specs.Rings.{Has}

@@ -8,7 +8,7 @@ use Rattle.q_logic.specs.Sets.{has}
 use Rattle.q_logic.specs.StepForms.{positive}
 use Rattle.q_logic.specs.Pivots.{without}
 use Rattle.q_logic.specs.Expanding.{in_list, shares, inner_existential, copy_of, copied, copied_literal}
-use Rattle.q_logic.proofs.Clauses.{IsIn-append, literal_eq-sound, literal_eq-itself}
+use Rattle.q_logic.proofs.ClauseLemmas.{IsIn-append, literal_eq-sound, literal_eq-itself}
 use Rattle.q_logic.proofs.Order.{universal-not_existential}
 use Rattle.q_logic.proofs.Sets.{insert-IsIn, IsIn-insert}
 use Rattle.q_logic.proofs.UniversalPivot.{without-IsIn}

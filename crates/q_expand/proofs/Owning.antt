@@ -1,5 +1,6 @@
 -- A literal has as many places as clauses hold it.
 use Rattle.std.proofs.Common.{◌≡◌, ◌<◌, ◌+◌, ℕ, zero, suc, Bool, true, false, cond, List, [], ◌∷◌, length, get_or, Some, refl, sym, ◌∙◌, ap, subst, inl, inr, arith, true≢false}
+use Rattle.std.proofs.lemmas.Option.{same_Some}
 use Rattle.std.specs.List.{AllByRecursion}
 use Rattle.q_logic.specs.Literals.{Literal, IsBelow}
 use Rattle.q_logic.specs.Formulas.{Clause, Matrix, IsIn}
@@ -109,9 +110,6 @@ places-counted k l s =
         let e : slot (slots k) (get_or k.lists.owners p 0) ≡ Some c.0 = subst (λ (x : ℕ). slot (slots k) x ≡ Some c.0) (sym r.3) c.1 in
         ap (weigh (ones l)) e ∙ ap pick (IsIn-has l c.0 c.2)
 
-    same : (C D : Clause) → Some C ≡ Some D → C ≡ D
-    same C D e = cc
-
     apart : (p q : ℕ) → Has (places_of k.lists l) p → Has (places_of k.lists l) q → (owner_in k) p ≡ (owner_in k) q → p ≡ q
     apart p q h g e =
         let r = s.linked.listed l p h in
@@ -122,7 +120,7 @@ places-counted k l s =
         two : (i j : ℕ) → i ≡ j → IsPlaceIn k.arena i l p → IsPlaceIn k.arena j l q → p ≡ q
         two i j z a b =
             let c : IsPlaceIn k.arena i l q = subst (λ (x : ℕ). IsPlaceIn k.arena x l q) (sym z) b in
-            let d : a.clause ≡ c.clause = same a.clause c.clause (sym a.live ∙ c.live) in
+            let d : a.clause ≡ c.clause = same_Some a.clause c.clause (sym a.live ∙ c.live) in
             let o : ArePairs IsBelow a.clause = proper-in_order (Rattle.q_kernel.specs.Kernels.formula_in k) a.clause s.proper (slot-IsIn (slots k) i a.clause (slot-live k.arena i a.clause a.live)) in
             let n : a.at_index ≡ c.at_index = one_place a.clause a.at_index c.at_index l o a.in_range (subst (λ (C : Clause). c.at_index < length C) (sym d) c.in_range) a.of (subst (λ (C : Clause). get_or C c.at_index no_lit ≡ l) (sym d) c.of) in
             a.is ∙ (ap (λ (x : ℕ). Rattle.q_arena.specs.Seen.start_at k.arena i + x) n ∙ sym c.is)

@@ -8,12 +8,12 @@ use Rattle.q_logic.specs.StepForms.{positive}
 use Rattle.q_logic.specs.Steps.{ProofStep}
 use Rattle.q_logic.specs.Pivots.{without}
 use Rattle.q_logic.specs.Parts.{ArePairs}
-use Rattle.q_logic.specs.Numbered.{Slots, slot, put_first}
+use Rattle.q_logic.specs.Numbered.{Slots, slot, put_first, clauses_at}
 use Rattle.q_logic.specs.Expanding.{shares, copied, copied_literal}
 use Rattle.q_logic.proofs.Slots.{IsIn-has}
 use Rattle.q_logic.proofs.ExpandRun.{has_none}
 use Rattle.q_expand.specs.declared.splitting.Part.TheVariants.{Turns, Splits}
-use Rattle.q_expand.specs.Steps.{over_copies, split_steps, steps_for, all_split, clauses_at}
+use Rattle.q_expand.specs.Steps.{over_copies, split_steps, steps_for, all_split}
 
 -- the test of a literal tells the same as the test of the clause
 pub has-told : (l : Literal) (C : Clause) (b : Bool) → (b ≡ true → IsIn l C) → (IsIn l C → b ≡ true) → has l C ≡ b
@@ -87,7 +87,7 @@ over-left l V t C n k h e q =
     ap (λ (D : Clause). imaged V t (without l D)) (taken C n k h e) ∙ (ap (imaged V t) (without-append l (take n C) (k ∷ [])) ∙ ap (λ (b : Bool). imaged V t (without l (take n C) ++ cond b [] (k ∷ []))) s ∙ ap (imaged V t) (append-nil (without l (take n C))))
   where
     literal-same : (k l : Literal) → k ≡ l → literal_eq k l ≡ true
-    literal-same k l q = subst (λ (x : Literal). literal_eq k x ≡ true) q (Rattle.q_logic.proofs.Clauses.literal_eq-itself k)
+    literal-same k l q = subst (λ (x : Literal). literal_eq k x ≡ true) q (Rattle.q_logic.proofs.ClauseLemmas.literal_eq-itself k)
 
 pub over-put : (l : Literal) (V : List ℕ) (t : ℕ) (C : Clause) (n : ℕ) (k : Literal) → n < length C → k ≡ get_or C n k → (k ≡ l → ⊥) → imaged V t (without l (take (n + 1) C)) ≡ imaged V t (without l (take n C)) ++ copied_literal V t k ∷ []
 over-put l V t C n k h e d =
@@ -95,7 +95,7 @@ over-put l V t C n k h e d =
     ap (λ (D : Clause). imaged V t (without l D)) (taken C n k h e) ∙ (ap (imaged V t) (without-append l (take n C) (k ∷ [])) ∙ ap (λ (b : Bool). imaged V t (without l (take n C) ++ cond b [] (k ∷ []))) s ∙ imaged-append V t (without l (take n C)) (k ∷ []))
   where
     literal-other : (b : Bool) → literal_eq k l ≡ b → literal_eq k l ≡ false
-    literal-other true q = absurd (d (Rattle.q_logic.proofs.Clauses.literal_eq-sound k l q))
+    literal-other true q = absurd (d (Rattle.q_logic.proofs.ClauseLemmas.literal_eq-sound k l q))
     literal-other false q = q
 
 pub over-room : (l : Literal) (V : List ℕ) (t : ℕ) (C : Clause) (n : ℕ) → n ≤ length C → length (imaged V t (without l (take n C))) ≤ n

@@ -1,12 +1,14 @@
 -- What the functions that take an expansion ask for.
-use Rattle.std.proofs.Common.{◌≡◌, ◌≢◌, ◌≤◌, ◌<◌, ◌+◌, ℕ, zero, suc, true, List, [], ◌∷◌, ◌++◌, length, drop, slice_get, refl, sym, ◌∙◌, ap, subst, inl, inr, arith, Some, None, append-nil, true≢false, add-one}
+use Rattle.std.proofs.Common.{◌≡◌, ◌≤◌, ◌<◌, ◌+◌, ℕ, zero, suc, true, false, List, [], ◌∷◌, ◌++◌, length, drop, slice_get, refl, sym, ◌∙◌, ap, subst, inl, inr, arith, Some, None, append-nil, true≢false, add-one}
+use Rattle.std.proofs.lemmas.Option.{same_Some}
 use Rattle.q_logic.specs.declared.rule_bounds.Bounds.{Bounds}
+use Rattle.q_logic.specs.Literals.{Literal}
 use Rattle.q_logic.specs.Formulas.{Clause, Prefix}
 use Rattle.q_logic.specs.Prefixes.{is_bound, is_existential}
 use Rattle.q_logic.specs.Steps.{ProofStep}
 use Rattle.q_logic.specs.Limits.{standard}
 use Rattle.q_logic.specs.InLimits.{greatest, IsInLimits}
-use Rattle.q_logic.specs.Numbered.{Slots, slot, put_first, formula_of}
+use Rattle.q_logic.specs.Numbered.{Slots, slot, put_first, formula_of, clauses_at}
 use Rattle.q_logic.specs.Targets.{expand_universal}
 use Rattle.q_logic.proofs.Order.{existential-is_bound, universal-not_existential}
 use Rattle.q_logic.proofs.ExpandPrefix.{AllE, below}
@@ -17,7 +19,7 @@ use Rattle.q_kernel.specs.Taking.{AreModest, Applies}
 use Rattle.q_kernel.proofs.Costs.{proper-var}
 use Rattle.q_expand.specs.Regions.{Walked, IsWhole, tally, weigh}
 use Rattle.q_expand.specs.Rooms.{weight_of, HasRoom}
-use Rattle.q_expand.specs.Steps.{clauses_at, course}
+use Rattle.q_expand.specs.Steps.{course, HaveCopies}
 use Rattle.q_expand.specs.Tracks.{CanTake, HasTaken, IsOnTrack}
 use Rattle.q_expand.proofs.Barring.{long}
 use Rattle.q_expand.proofs.Course.{vars_in, first_in, prefix_in, parted_in}
@@ -48,11 +50,8 @@ weighed-begun w N (x ∷ xs) = omega arith
 weighed-one : (w : Clause → ℕ) (N : Slots) (xs : List ℕ) (i c : ℕ) (C : Clause) → slice_get xs i ≡ Some c → slot N c ≡ Some C → tally w N (drop i xs) ≡ w C + tally w N (drop (suc i) xs)
 weighed-one w N [] i c C e s = absurd (let z : None ≡ Some c = e in cc)
 weighed-one w N (x ∷ xs) zero c C e s =
-    let q : x ≡ c = same x c e in
+    let q : x ≡ c = same_Some x c e in
     ap (λ (n : ℕ). n + tally w N xs) (ap (λ (y : ℕ). weigh w (slot N y)) q ∙ ap (weigh w) s)
-  where
-    same : (x c : ℕ) → Some x ≡ Some c → x ≡ c
-    same x c e = cc
 weighed-one w N (x ∷ xs) (suc i) c C e s = weighed-one w N xs i c C e s
 
 pub weighed-more : (w : Clause → ℕ) (N : Slots) (xs : List ℕ) (i c : ℕ) (C : Clause) → slice_get xs i ≡ Some c → slot N c ≡ Some C → tally w N (drop i xs) ≡ w C + tally w N (drop (i + 1) xs)
@@ -66,10 +65,7 @@ weighed-all w N xs i n h e =
 
 vars-place : (P : Prefix) (V : List ℕ) → AllE P V → (i x : ℕ) → slice_get V i ≡ Some x → is_existential P x ≡ true
 vars-place P [] a i x e = absurd (let z : None ≡ Some x = e in cc)
-vars-place P (y ∷ V) a zero x e = subst (λ (z : ℕ). is_existential P z ≡ true) (same y x e) a.0
-  where
-    same : (x c : ℕ) → Some x ≡ Some c → x ≡ c
-    same x c e = cc
+vars-place P (y ∷ V) a zero x e = subst (λ (z : ℕ). is_existential P z ≡ true) (same_Some y x e) a.0
 vars-place P (y ∷ V) a (suc i) x e = vars-place P V a.1 i x e
 
 module _ (B : Bounds) (k : Seen) (u : ℕ) (r : Walked) (s : IsSound k) (w : IsWhole k u r) (m : AreModest B) (a : Applies B k (expand_universal u)) where
@@ -80,22 +76,17 @@ module _ (B : Bounds) (k : Seen) (u : ℕ) (r : Walked) (s : IsSound k) (w : IsW
   u-range = proper-var (formula_in k) u s.proper u-bound
 
   module _ (v : ℕ) (xs : List ℕ) (f : ℕ) (e : v ≡ u) (o : xs ≡ vars_in k u) (g : f ≡ greatest k.prefix) where
-    pub part-small : (1 ≤ f + 1) × (f + 1 + length xs ≤ 16777216)
-    part-small =
-        let n = vars-number k u r s w in
-        let l = ap length o in
-        let h = (limits-told k u r s w a.in_limits).0 in
-        (omega arith, omega arith)
-
-    pub part-below : v < f + 1
-    part-below = let b = below k.prefix (greatest k.prefix + 1) u (above-greatest k.prefix) u-bound in omega arith
-
-    pub part-others : (i x : ℕ) → slice_get xs i ≡ Some x → (1 ≤ x) × (x < f + 1) × (x ≢ v)
-    part-others i x h =
-        let q = vars-place k.prefix (vars_in k u) (vars-existential k u r s w) i x (subst (λ (ys : List ℕ). slice_get ys i ≡ Some x) o h) in
-        let d = existential-is_bound k.prefix x q in
-        let b = below k.prefix (greatest k.prefix + 1) x (above-greatest k.prefix) d in
-        ((proper-var (formula_in k) x s.proper d).0, omega arith, (λ j. true≢false (sym (subst (λ (y : ℕ). is_existential k.prefix y ≡ true) (j ∙ e) q) ∙ universal-not_existential k.prefix u a.fits.universal)))
+    pub part-copies : (l : Literal) → l.negative ≡ false → l.var ≡ v → HaveCopies l xs (f + 1)
+    part-copies l sign same = record {
+      sign = sign;
+      small = (let n = vars-number k u r s w in let q = ap length o in let h = (limits-told k u r s w a.in_limits).0 in omega arith);
+      u_below = (let b = below k.prefix (greatest k.prefix + 1) u (above-greatest k.prefix) u-bound in omega arith);
+      others = λ i x h.
+          let q = vars-place k.prefix (vars_in k u) (vars-existential k u r s w) i x (subst (λ (ys : List ℕ). slice_get ys i ≡ Some x) o h) in
+          let d = existential-is_bound k.prefix x q in
+          let b = below k.prefix (greatest k.prefix + 1) x (above-greatest k.prefix) d in
+          ((proper-var (formula_in k) x s.proper d).0, omega arith, (λ j. true≢false (sym (subst (λ (y : ℕ). is_existential k.prefix y ≡ true) (j ∙ (same ∙ e)) q) ∙ universal-not_existential k.prefix u a.fits.universal)));
+    }
 
     same-course : course u (vars_in k u) (first_in k) (clauses_at (slots k) r.met) ≡ course v xs (f + 1) (clauses_at (slots k) r.met) ++ []
     same-course =

@@ -11,7 +11,8 @@ use Rattle.q_logic.proofs.Order.{existential-is_bound}
 use Rattle.q_log.specs.Texts.{step_text}
 use Rattle.q_arena.proofs.Numbers.{ℕ-cases}
 use Rattle.q_kernel.specs.Kernels.{Seen, slots, formula_in, IsSound}
-use Rattle.q_kernel.specs.Changes.{AreAlike, MayAdd, IsAdded, MayDelete, IsDeleted, MayFresh, IsFreshened}
+use Rattle.q_kernel.specs.Changes.{MayAdd, IsAdded, MayDelete, IsDeleted, MayFresh, IsFreshened}
+use Rattle.q_logic.specs.Runs.{AreAlike}
 use Rattle.q_kernel.proofs.Costs.{cost-add, cost-delete, cost-fresh, proper-var, within-small, proper-in_order}
 use Rattle.q_kernel.proofs.Leading.{steps-same, alike-through, alike-turned, alike-after_add, alike-after_delete, alike-after_fresh, led-through, led-itself}
 use Rattle.q_kernel.proofs.Slotting.{slot-set_other, slot-IsIn}

@@ -2,7 +2,7 @@
 use Rattle.std.proofs.Common.{◌≡◌, ◌≤◌, ◌<◌, ◌+◌, ℕ, zero, suc, List, [], ◌∷◌, ◌++◌, take, drop, get_or, length, sym, ◌∙◌, ap, subst, arith, append_assoc, append-nil, add-one, add-zero}
 use Rattle.q_logic.specs.Steps.{ProofStep}
 use Rattle.q_kernel.specs.Kernels.{Seen}
-use Rattle.q_rule.proofs.Members.{taken-all}
+use Rattle.q_logic.proofs.Members.{taken-all}
 use Rattle.q_expand.specs.Tracks.{CanTake, HasTaken}
 use Rattle.q_expand.specs.Steps.{each_with}
 use Rattle.q_expand.proofs.Tracking.{took-through, took-same, can-rest, can-first, can-same}

@@ -1,32 +1,21 @@
 -- Clauses that wait for their turn.
 use Rattle.std.proofs.Common.{◌≡◌, ◌≢◌, ◌+◌, ℕ, zero, suc, List, [], ◌∷◌, ◌++◌, take, drop, slice_get, Some, None, Option, refl, sym, ◌∙◌, ap, subst, inl, inr, add-one, append-nil}
+use Rattle.std.proofs.lemmas.Option.{same_Some}
 use Rattle.q_logic.specs.Formulas.{Clause, Matrix}
 use Rattle.q_logic.specs.Steps.{ProofStep}
-use Rattle.q_logic.specs.Numbered.{Slots, slot, put_first}
+use Rattle.q_logic.specs.Numbered.{Slots, slot, put_first, clauses_at}
 use Rattle.q_arena.specs.Rings.{Has, AreApart}
 use Rattle.q_arena.proofs.Paths.{Misses-not}
 use Rattle.q_kernel.specs.Kernels.{Seen}
 use Rattle.q_expand.specs.Tracks.{CanTake, HasTaken}
-use Rattle.q_expand.specs.Steps.{split_steps, all_split, clauses_at}
+use Rattle.q_expand.specs.Steps.{split_steps, all_split}
 use Rattle.q_expand.proofs.Parts.{all_split-append}
 use Rattle.q_expand.proofs.Tracking.{took-through, took-same, can-rest, can-first, can-same}
 
-same : (x c : ℕ) → Some x ≡ Some c → x ≡ c
-same x c e = cc
-
 pub waits : (xs : List ℕ) (i c : ℕ) → slice_get xs i ≡ Some c → Has (drop i xs) c
 waits [] i c e = absurd (let z : None ≡ Some c = e in cc)
-waits (x ∷ xs) zero c e = inl (sym (same x c e))
+waits (x ∷ xs) zero c e = inl (sym (same_Some x c e))
 waits (x ∷ xs) (suc i) c e = waits xs i c e
-
-waits_there : (xs : List ℕ) (i c : ℕ) → Has (drop i xs) c → Has xs c
-waits_there [] zero c h = h
-waits_there [] (suc i) c h = h
-waits_there (x ∷ xs) zero c h = h
-waits_there (x ∷ xs) (suc i) c h = inr (waits_there xs i c h)
-
-pub waits-in : (xs : List ℕ) (i c : ℕ) → slice_get xs i ≡ Some c → Has xs c
-waits-in xs i c e = waits_there xs i c (waits xs i c e)
 
 sooner : (xs : List ℕ) (i d : ℕ) → Has (drop (suc i) xs) d → Has (drop i xs) d
 sooner [] zero d h = h
@@ -39,7 +28,7 @@ waits-sooner xs i d h = sooner xs i d (subst (λ (n : ℕ). Has (drop n xs) d) (
 
 apart : (xs : List ℕ) (i c d : ℕ) → AreApart xs → slice_get xs i ≡ Some c → Has (drop (suc i) xs) d → d ≢ c
 apart [] i c d a e h = absurd h
-apart (x ∷ xs) zero c d a e h = λ f. Misses-not x d xs a.0 h (same x c e ∙ sym f)
+apart (x ∷ xs) zero c d a e h = λ f. Misses-not x d xs a.0 h (same_Some x c e ∙ sym f)
 apart (x ∷ xs) (suc i) c d a e h = apart xs i c d a.1 e h
 
 pub waits-apart : (xs : List ℕ) (i c d : ℕ) → AreApart xs → slice_get xs i ≡ Some c → Has (drop (i + 1) xs) d → d ≢ c
@@ -51,12 +40,12 @@ put-append (Some C) X Y = refl
 
 clauses-split : (N : Slots) (cs : List ℕ) (i c : ℕ) (C : Clause) → slice_get cs i ≡ Some c → slot N c ≡ Some C → clauses_at N cs ≡ clauses_at N (take i cs) ++ (C ∷ clauses_at N (drop (suc i) cs))
 clauses-split N [] i c C e s = absurd (let z : None ≡ Some c = e in cc)
-clauses-split N (x ∷ cs) zero c C e s = ap (λ o. put_first o (clauses_at N cs)) (ap (slot N) (same x c e) ∙ s)
+clauses-split N (x ∷ cs) zero c C e s = ap (λ o. put_first o (clauses_at N cs)) (ap (slot N) (same_Some x c e) ∙ s)
 clauses-split N (x ∷ cs) (suc i) c C e s = ap (put_first (slot N x)) (clauses-split N cs i c C e s) ∙ put-append (slot N x) (clauses_at N (take i cs)) (C ∷ clauses_at N (drop (suc i) cs))
 
 clauses-more : (N : Slots) (cs : List ℕ) (i c : ℕ) (C : Clause) → slice_get cs i ≡ Some c → slot N c ≡ Some C → clauses_at N (take (suc i) cs) ≡ clauses_at N (take i cs) ++ (C ∷ [])
 clauses-more N [] i c C e s = absurd (let z : None ≡ Some c = e in cc)
-clauses-more N (x ∷ cs) zero c C e s = ap (λ o. put_first o []) (ap (slot N) (same x c e) ∙ s)
+clauses-more N (x ∷ cs) zero c C e s = ap (λ o. put_first o []) (ap (slot N) (same_Some x c e) ∙ s)
 clauses-more N (x ∷ cs) (suc i) c C e s = ap (put_first (slot N x)) (clauses-more N cs i c C e s) ∙ put-append (slot N x) (clauses_at N (take i cs)) (C ∷ [])
 
 module _ (u : ℕ) (V : List ℕ) (t : ℕ) (N : Slots) (cs : List ℕ) (i c : ℕ) (C : Clause) (e : slice_get cs i ≡ Some c) (s : slot N c ≡ Some C) where

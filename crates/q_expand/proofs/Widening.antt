@@ -4,7 +4,7 @@ use Rattle.q_logic.specs.Literals.{Literal}
 use Rattle.q_logic.specs.Formulas.{Clause, Prefix, IsIn}
 use Rattle.q_logic.specs.StepForms.{positive}
 use Rattle.q_logic.specs.Expanding.{inner_existential}
-use Rattle.q_logic.proofs.Clauses.{IsIn-append_left, IsIn-append}
+use Rattle.q_logic.proofs.ClauseLemmas.{IsIn-append_left, IsIn-append}
 use Rattle.q_logic.proofs.Implying.{IsIn-append_right}
 use Rattle.q_expand.specs.Regions.{IsWidened, Lone}
 

@@ -2,9 +2,11 @@
 use Rattle.std.specs.Prelude.{◌≡◌, ◌≤◌, ◌+◌, ℕ, true, false, cond, List, [], ◌∷◌, ◌++◌, ◌⊎◌, length, Option, Some, None}
 use Rattle.q_logic.specs.Literals.{Literal, negation}
 use Rattle.q_logic.specs.Formulas.{Clause, Matrix, Prefix, IsIn}
+use Rattle.q_logic.specs.Prefixes.{is_bound}
 use Rattle.q_logic.specs.Sweep.{has_variable}
 use Rattle.q_logic.specs.StepForms.{positive}
 use Rattle.q_logic.specs.Numbered.{Slots, slot, live}
+use Rattle.q_logic.specs.Eliminating.{clauses_of}
 use Rattle.q_logic.specs.Expanding.{inner_existential, Spread}
 use Rattle.q_arena.specs.Rings.{Has, AreApart}
 use Rattle.q_kernel.specs.Kernels.{Seen, slots}
@@ -97,6 +99,15 @@ pub record IsMet (k : Seen) (u c : ℕ) (old new : Walked) : Type 0 where
   pub region : IsRegion k u new
   pub larger : IsLarger old new
   pub there : Has new.met c
+
+-- the clauses with a literal may be met: its variable is u, which is bound, or connected to it, and the room is for u
+pub record MayVisit (k : Seen) (u : Literal) (room : Room) (l : Literal) (r : Walked) : Type 0 where
+  pub sign : u.negative ≡ false
+  pub bound : is_bound k.prefix u.var ≡ true
+  pub room_for : room.size ≡ room.vars + length (clauses_of u.var (live (slots k)))
+  pub linked : (l.var ≡ u.var) ⊎ Spread k.prefix (live (slots k)) u.var l.var
+  pub region : IsRegion k u.var r
+  pub within : IsWithin room r
 
 -- the clauses with a literal were met
 pub record IsVisited (k : Seen) (u : ℕ) (room : Room) (l : Literal) (old new : Walked) : Type 0 where

@@ -1,5 +1,5 @@
 -- The steps of an expansion.
-use Rattle.std.specs.Prelude.{◌≡◌, ◌↔◌, ℕ, ◌+◌, Bool, true, false, cond, List, [], ◌∷◌, ◌++◌, Some}
+use Rattle.std.specs.Prelude.{◌≡◌, ◌↔◌, ℕ, ◌+◌, Bool, true, false, cond, List, [], ◌∷◌, ◌++◌, Some, ◌≢◌, ◌≤◌, ◌<◌, length, slice_get}
 use Rattle.q_logic.specs.Clauses.{insert}
 use Rattle.q_logic.specs.StepForms.{positive, first_of}
 use Rattle.q_logic.specs.Literals.{Literal, negation}
@@ -7,7 +7,6 @@ use Rattle.q_logic.specs.Formulas.{Clause, Matrix, IsIn}
 use Rattle.q_logic.specs.Pivots.{without}
 use Rattle.q_logic.specs.Steps.{ProofStep, add, delete, fresh}
 use Rattle.q_logic.specs.Sets.{has}
-use Rattle.q_logic.specs.Numbered.{Slots, slot, put_first}
 use Rattle.q_logic.specs.Expanding.{shares, in_list, copied}
 use Rattle.q_expand.specs.declared.splitting.Part.{Part}
 use Rattle.q_expand.specs.declared.splitting.Part.TheVariants.{Stays, Turns, Splits}
@@ -38,6 +37,28 @@ unlink_steps u x c =
     delete (Some (of_sign x true)) (linked u (of_sign c false) (of_sign x true)) ∷
     delete (Some (of_sign x false)) (linked u (of_sign c true) (of_sign x false)) ∷ []
 
+-- u is positive, and a clause of a, not u and b has its greatest variable at a
+pub record AreLinkable (u a b : Literal) : Type 0 where
+  pub sign : u.negative ≡ false
+  pub u_below : u.var < a.var
+  pub b_below : b.var < a.var
+  pub other : b.var ≢ u.var
+
+-- u is positive, and a variable beside it has the copy t, which is greater than both
+pub record HasCopy (u : Literal) (x t : ℕ) : Type 0 where
+  pub sign : u.negative ≡ false
+  pub small : t < 16777216
+  pub u_below : u.var < t
+  pub x_below : (1 ≤ x) × (x < t)
+  pub other : x ≢ u.var
+
+-- u is positive, and variables beside it have the copies from t on, which are greater than all of them
+pub record HaveCopies (u : Literal) (V : List ℕ) (t : ℕ) : Type 0 where
+  pub sign : u.negative ≡ false
+  pub small : t + length V ≤ 16777216
+  pub u_below : u.var < t
+  pub others : (i x : ℕ) → slice_get V i ≡ Some x → (1 ≤ x) × (x < t) × (x ≢ u.var)
+
 -- the clause over the copies, with not u
 abbrev pub over_copies : ℕ → List ℕ → ℕ → Clause → Clause
 over_copies u V t D = insert (negation (positive u)) (copied V t (without (negation (positive u)) D))
@@ -56,11 +77,6 @@ split_steps u V t D =
 abbrev pub all_split : ℕ → List ℕ → ℕ → Matrix → List ProofStep
 all_split u V t [] = []
 all_split u V t (D ∷ X) = split_steps u V t D ++ all_split u V t X
-
--- the clauses of some ids
-abbrev pub clauses_at : Slots → List ℕ → Matrix
-clauses_at N [] = []
-clauses_at N (c ∷ cs) = put_first (slot N c) (clauses_at N cs)
 
 -- all steps before u leaves its clauses, of which these are split
 abbrev pub course : ℕ → List ℕ → ℕ → Matrix → List ProofStep

@@ -4,9 +4,9 @@ use Rattle.q_logic.specs.Formulas.{Clause, PrenexFormula}
 use Rattle.q_logic.specs.Steps.{ProofStep, add, delete, drop_literal, fresh, remove_variable}
 use Rattle.q_logic.specs.Limits.{standard}
 use Rattle.q_logic.specs.Numbered.{slot}
-use Rattle.q_logic.specs.Runs.{ValidSteps}
+use Rattle.q_logic.specs.Runs.{ValidSteps, AreAlike}
 use Rattle.q_kernel.specs.Kernels.{Seen, slots, formula_in}
-use Rattle.q_kernel.specs.Changes.{AreAlike, IsLed}
+use Rattle.q_kernel.specs.Changes.{IsLed}
 
 -- bytes that suffice for the text of the steps
 abbrev pub price : ProofStep → ℕ

@@ -7,7 +7,7 @@ ghost use Rattle.q_logic.specs.Steps.{fresh, add, delete};
 ghost use Rattle.q_logic.specs.Numbered.{slot, live};
 ghost use Rattle.q_kernel.specs.Kernels.{slots};
 ghost use Rattle.q_expand.specs.Tracks.{CanTake, HasTaken, KeepsClauses};
-ghost use Rattle.q_expand.specs.Steps.{each_with, copy_step, of_sign, linked, link_steps, unlink_steps};
+ghost use Rattle.q_expand.specs.Steps.{each_with, copy_step, of_sign, linked, link_steps, unlink_steps, AreLinkable, HasCopy, HaveCopies};
 
 use q_arena::ClauseId;
 use q_kernel::Kernel;
@@ -37,10 +37,7 @@ fn put_copy(kernel: &mut Kernel, x: u32, copy: u32)
 
 /// Makes each copy equal to its original where u is true.
 pub(crate) fn link_all(kernel: &mut Kernel, u: Lit, order: &[u32], first: u32)
-    requires small { first + length order.now ≤ 16777216 }
-    requires sign { u.negative ≡ false }
-    requires below { u.var < first }
-    requires others { (i x : ℕ) → slice_get order.now i ≡ Some x → (1 ≤ x) × (x < first) × (x ≢ u.var) }
+    requires copies { HaveCopies u order.now first }
     requires steps { CanTake kernel.old (each_with (link_steps u.var) order.now first) }
     ensures taken { HasTaken kernel.old kernel.new (each_with (link_steps u.var) order.now first) }
     ensures keeps { KeepsClauses kernel.old kernel.new }
@@ -52,9 +49,7 @@ pub(crate) fn link_all(kernel: &mut Kernel, u: Lit, order: &[u32], first: u32)
 
 // The same for one variable.
 fn link(kernel: &mut Kernel, u: Lit, x: u32, copy: u32)
-    requires sign { u.negative ≡ false }
-    requires small { copy < 16777216 }
-    requires below { (u.var < copy) × (1 ≤ x) × (x < copy) × (x ≢ u.var) }
+    requires copies { HasCopy u x copy }
     requires steps { CanTake kernel.old (link_steps u.var x copy) }
     ensures taken { HasTaken kernel.old kernel.new (link_steps u.var x copy) }
     ensures keeps { KeepsClauses kernel.old kernel.new }
@@ -67,8 +62,7 @@ fn link(kernel: &mut Kernel, u: Lit, x: u32, copy: u32)
 
 // Adds the clause of a, not u and b by the pivot a.
 fn add_link(kernel: &mut Kernel, u: Lit, a: Lit, b: Lit)
-    requires sign { u.negative ≡ false }
-    requires below { (u.var < a.var) × (b.var < a.var) × (b.var ≢ u.var) }
+    requires linkable { AreLinkable u a b }
     requires steps { CanTake kernel.old (add (Some a) (linked u.var a b) ∷ []) }
     ensures taken { HasTaken kernel.old kernel.new (add (Some a) (linked u.var a b) ∷ []) }
     ensures keeps { KeepsClauses kernel.old kernel.new }
@@ -80,8 +74,7 @@ fn add_link(kernel: &mut Kernel, u: Lit, a: Lit, b: Lit)
 
 // The literals a, not u and b, of which a has the greatest variable.
 fn link_clause(u: Lit, a: Lit, b: Lit) -> [Lit; 3]
-    requires sign { u.negative ≡ false }
-    requires below { (u.var < a.var) × (b.var < a.var) × (b.var ≢ u.var) }
+    requires linkable { AreLinkable u a b }
     ensures clause { result ≡ linked u.var a b }
     ensures ordered { ArePairs IsBelow (linked u.var a b) }
     ensures first { IsIn a (linked u.var a b) }
@@ -96,10 +89,7 @@ fn link_clause(u: Lit, a: Lit, b: Lit) -> [Lit; 3]
 
 /// Takes the equalities away again.
 pub(crate) fn unlink_all(kernel: &mut Kernel, u: Lit, order: &[u32], first: u32)
-    requires small { first + length order.now ≤ 16777216 }
-    requires sign { u.negative ≡ false }
-    requires below { u.var < first }
-    requires others { (i x : ℕ) → slice_get order.now i ≡ Some x → (1 ≤ x) × (x < first) × (x ≢ u.var) }
+    requires copies { HaveCopies u order.now first }
     requires steps { CanTake kernel.old (each_with (unlink_steps u.var) order.now first) }
     ensures taken { HasTaken kernel.old kernel.new (each_with (unlink_steps u.var) order.now first) }
 {
@@ -110,9 +100,7 @@ pub(crate) fn unlink_all(kernel: &mut Kernel, u: Lit, order: &[u32], first: u32)
 
 // The same for one variable.
 fn unlink(kernel: &mut Kernel, u: Lit, x: u32, copy: u32)
-    requires sign { u.negative ≡ false }
-    requires small { copy < 16777216 }
-    requires below { (u.var < copy) × (1 ≤ x) × (x < copy) × (x ≢ u.var) }
+    requires copies { HasCopy u x copy }
     requires steps { CanTake kernel.old (unlink_steps u.var x copy) }
     ensures taken { HasTaken kernel.old kernel.new (unlink_steps u.var x copy) }
 {
@@ -124,8 +112,7 @@ fn unlink(kernel: &mut Kernel, u: Lit, x: u32, copy: u32)
 
 // Deletes the clause of a, not u and b by the pivot b.
 fn delete_link(kernel: &mut Kernel, u: Lit, a: Lit, b: Lit)
-    requires sign { u.negative ≡ false }
-    requires below { (u.var < a.var) × (b.var < a.var) × (b.var ≢ u.var) }
+    requires linkable { AreLinkable u a b }
     requires steps { CanTake kernel.old (delete (Some b) (linked u.var a b) ∷ []) }
     ensures { HasTaken kernel.old kernel.new (delete (Some b) (linked u.var a b) ∷ []) }
 {

@@ -1,21 +1,21 @@
 //! The expansion of a universal variable, step by step; `testing.rt` tells the idea, the source and the condition.
-ghost use Rattle.std.specs.Prelude.{◌≡◌, ◌≢◌, ◌↔◌, ◌≤◌, ◌<◌, ◌+◌, ℕ, length, true, false, Some, OnOk, OnErr, IfOk, vec_capacity, slice_get};
+ghost use Rattle.std.specs.Prelude.{◌≡◌, ◌≢◌, ◌≤◌, ◌<◌, ◌+◌, ℕ, length, false, Some, OnOk, OnErr, IfOk, vec_capacity, slice_get};
 ghost use Rattle.q_logic.specs.declared.rule_bounds.Bounds.{Bounds as BoundsValue};
 ghost use Rattle.q_logic.specs.Formulas.{Clause};
 ghost use Rattle.q_logic.specs.Limits.{standard};
 ghost use Rattle.q_logic.specs.InLimits.{IsInLimits};
-ghost use Rattle.q_logic.specs.Numbered.{slot, live};
+ghost use Rattle.q_logic.specs.Numbered.{slot, live, clauses_at};
 ghost use Rattle.q_logic.specs.Expanding.{expansion_vars};
 ghost use Rattle.q_logic.specs.Targets.{expand_universal};
 ghost use Rattle.q_arena.specs.Rings.{Has, AreApart};
-ghost use Rattle.q_kernel.specs.declared.taken.Taken.TheVariants.{Yes, No};
 ghost use Rattle.q_kernel.specs.Kernels.{SameView, slots, formula_in};
-ghost use Rattle.q_kernel.specs.Taking.{AreModest, IsReady, Applies, IsTaken};
+ghost use Rattle.q_kernel.specs.Taking.{AreModest, IsReady, Applies};
 ghost use Rattle.q_rule.specs.Becoming.{HasResult};
+ghost use Rattle.q_rule.specs.Searching.{Tries, Finds};
 ghost use Rattle.q_expand.specs.Targets.{target_of};
 ghost use Rattle.q_expand.specs.Regions.{IsWhole};
 ghost use Rattle.q_expand.specs.Rooms.{weight_of, HasRoom};
-ghost use Rattle.q_expand.specs.Steps.{clauses_at, course};
+ghost use Rattle.q_expand.specs.Steps.{course, HaveCopies};
 ghost use Rattle.q_expand.specs.Tracks.{CanTake, HasTaken};
 
 use crate::changing::{link_all, put_copies, unlink_all};
@@ -28,6 +28,7 @@ use crate::target::Target;
 use crate::testing::fits;
 use q_kernel::{Kernel, Need, Taken};
 use q_logic::{Bounds, Lit, NoMemory};
+use q_rule::Rules;
 use std::alloc::Global;
 
 /// Takes a target exactly where it applies.
@@ -39,55 +40,80 @@ pub fn try_one(
 ) -> Result<Taken, NoMemory>
     requires ready { IsReady kernel.old }
     requires bounds { AreModest bounds.now }
-    ensures applies { IfOk result (λ r. (r ≡ Yes) ↔ Applies bounds.now kernel.old (target_of target.now)) }
-    ensures yes { IfOk result (λ r. r ≡ Yes → IsTaken bounds.now kernel.old kernel.new (target_of target.now)) }
-    ensures no { IfOk result (λ r. r ≡ No → SameView kernel.old kernel.new) }
+    ensures tries { IfOk result (Tries bounds.now kernel.old kernel.new (target_of target.now)) }
     ensures err { OnErr result (SameView kernel.old kernel.new) }
 {
-    let mut search = Search::new(alloc);
-    try_with(kernel, &mut search, target, bounds)
+    Search::new(alloc).take(kernel, target, bounds)
 }
 
-/// The same, with a search that is lent.
-pub fn try_with(
-    kernel: &mut Kernel,
-    search: &mut Search,
-    target: &Target,
+/// A target whose place is at least a number; none exactly where no target from that place on applies. The place of a
+/// target is its variable.
+pub fn find(
+    alloc: Global,
+    kernel: &Kernel,
     bounds: &Bounds,
-) -> Result<Taken, NoMemory>
-    requires ready { IsReady kernel.old }
+    from: u32,
+) -> Result<Option<Target>, NoMemory>
+    requires ready { IsReady kernel.now }
     requires bounds { AreModest bounds.now }
-    ensures applies { IfOk result (λ r. (r ≡ Yes) ↔ Applies bounds.now kernel.old (target_of target.now)) }
-    ensures yes { IfOk result (λ r. r ≡ Yes → IsTaken bounds.now kernel.old kernel.new (target_of target.now)) }
-    ensures no { IfOk result (λ r. r ≡ No → SameView kernel.old kernel.new) }
-    ensures err { OnErr result (SameView kernel.old kernel.new) }
+    ensures finds { IfOk result (Finds target_of bounds.now kernel.now from) }
 {
-    match *target {
-        Target::Expand { u } => try_expand(kernel, search, u, bounds),
-    }
+    Search::new(alloc).find(kernel, bounds, from)
 }
 
-// Expands a universal variable exactly where that applies.
-fn try_expand(
-    kernel: &mut Kernel,
-    search: &mut Search,
-    u: u32,
-    bounds: &Bounds,
-) -> Result<Taken, NoMemory>
-    requires ready { IsReady kernel.old }
-    requires bounds { AreModest bounds.now }
-    ensures applies { IfOk result (λ r. (r ≡ Yes) ↔ Applies bounds.now kernel.old (expand_universal u)) }
-    ensures yes { IfOk result (λ r. r ≡ Yes → IsTaken bounds.now kernel.old kernel.new (expand_universal u)) }
-    ensures no { IfOk result (λ r. r ≡ No → SameView kernel.old kernel.new) }
-    ensures err { OnErr result (SameView kernel.old kernel.new) }
-{
-    if !fits(kernel, &mut search.region, u, bounds)? {
-        return Ok(Taken::No);
+impl Rules for Search {
+    type Target = Target;
+
+    ghost target_of = { target_of };
+
+    ghost IsFitFor = { λ k s. Unit {0} };
+
+    fn new(alloc: Global) -> Search {
+        Search {
+            region: Region::new(alloc),
+            order: Vec::new(alloc),
+            spare: Vec::new(alloc),
+        }
     }
-    reserve(kernel, &search.region, &mut search.spare, u)?;
-    read_order(kernel, &search.region, &mut search.order)?;
-    take(kernel, &search.region, &search.order, &mut search.spare, u);
-    Ok(Taken::Yes)
+
+    fn applies(
+        &mut self,
+        kernel: &Kernel,
+        target: &Target,
+        bounds: &Bounds,
+    ) -> Result<bool, NoMemory> {
+        fits(kernel, &mut self.region, target.variable(), bounds)
+    }
+
+    fn take(
+        &mut self,
+        kernel: &mut Kernel,
+        target: &Target,
+        bounds: &Bounds,
+    ) -> Result<Taken, NoMemory> {
+        let u = target.variable();
+        if !fits(kernel, &mut self.region, u, bounds)? {
+            return Ok(Taken::No);
+        }
+        reserve(kernel, &self.region, &mut self.spare, u)?;
+        read_order(kernel, &self.region, &mut self.order)?;
+        take(kernel, &self.region, &self.order, &mut self.spare, u);
+        Ok(Taken::Yes)
+    }
+
+    fn find(
+        &mut self,
+        kernel: &Kernel,
+        bounds: &Bounds,
+        from: u32,
+    ) -> Result<Option<Target>, NoMemory> {
+        for u in from..kernel.greatest_var() + 1 {
+            if fits(kernel, &mut self.region, u, bounds)? {
+                return Ok(Some(Target::Expand { u }));
+            }
+        }
+        Ok(None)
+    }
 }
 
 // Room for the steps, and for the sweep after them.
@@ -159,10 +185,7 @@ fn part(
     first: u32,
     spare: &mut Vec<Lit>,
 )
-    requires sign { u.negative ≡ false }
-    requires small { (1 ≤ first) × (first + length order.now ≤ 16777216) }
-    requires below { u.var < first }
-    requires others { (i x : ℕ) → slice_get order.now i ≡ Some x → (1 ≤ x) × (x < first) × (x ≢ u.var) }
+    requires copies { HaveCopies u order.now first }
     requires apart { AreApart region.now.met }
     requires room { (c : ℕ) → Has region.now.met c → (C : Clause) × (slot (slots kernel.old) c ≡ Some C) × (length C + 1 ≤ vec_capacity spare.old) }
     requires steps { CanTake kernel.old (course u.var order.now first (clauses_at (slots kernel.old) region.now.met)) }

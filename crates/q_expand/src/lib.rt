@@ -4,7 +4,6 @@
 mod changing;
 mod dropping;
 mod expand;
-mod finding;
 mod ids;
 mod ordering;
 mod region;
@@ -13,8 +12,7 @@ mod splitting;
 mod target;
 mod testing;
 
-pub use expand::{try_one, try_with};
-pub use finding::{applies, find, find_with};
+pub use expand::{find, try_one};
 pub use q_kernel::Taken;
 pub use q_logic::Bounds;
 pub use search::Search;

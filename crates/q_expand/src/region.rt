@@ -12,13 +12,13 @@ ghost use Rattle.q_logic.specs.Expanding.{Spread, Expandable};
 ghost use Rattle.q_logic.specs.Eliminating.{clauses_of};
 ghost use Rattle.q_arena.specs.Rings.{Has};
 ghost use Rattle.q_kernel.specs.Kernels.{slots};
-ghost use Rattle.q_expand.specs.Regions.{IsConnected, IsRegion, IsLarger, HasMet, IsWhole, IsWidened, IsMet, IsVisited, IsWithin, nothing_met};
+ghost use Rattle.q_expand.specs.Regions.{IsConnected, IsRegion, IsLarger, HasMet, IsWhole, IsWidened, IsMet, IsVisited, IsWithin, MayVisit, nothing_met};
 
 use crate::ids::Ids;
 use q_arena::ClauseId;
 use q_kernel::Kernel;
-use q_logic::{Lit, NoMemory};
-use q_rule::{Queue, clause_of, holds, is_inner};
+use q_logic::{Lit, NoMemory, holds};
+use q_rule::{Queue, clause_of, is_inner};
 use std::alloc::Global;
 use std::marker::Model;
 
@@ -148,12 +148,7 @@ impl Region {
         u: Lit,
         room: Room,
     ) -> Result<bool, NoMemory>
-        requires sign { u.negative ≡ false }
-        requires bound { is_bound kernel.now.prefix u.var ≡ true }
-        requires room { room.size ≡ room.vars + length (clauses_of u.var (live (slots kernel.now))) }
-        requires linked { (lit.var ≡ u.var) ⊎ Spread kernel.now.prefix (live (slots kernel.now)) u.var lit.var }
-        requires region { IsRegion kernel.now u.var self.old }
-        requires within { IsWithin room self.old }
+        requires { MayVisit kernel.now u room lit self.old }
         ensures met { IfOk result (λ yes. yes ≡ true → IsVisited kernel.now u.var room lit self.old self.new × HasMet kernel.now self.new (negation lit)) }
         ensures barred { IfOk result (λ yes. yes ≡ false → Expandable room.vars kernel.now.prefix (live (slots kernel.now)) u.var → ⊥) }
     {
@@ -166,12 +161,7 @@ impl Region {
 
     // Meets the clauses with a literal; whether the room suffices.
     fn visit(&mut self, kernel: &Kernel, lit: Lit, u: Lit, room: Room) -> Result<bool, NoMemory>
-        requires sign { u.negative ≡ false }
-        requires bound { is_bound kernel.now.prefix u.var ≡ true }
-        requires room { room.size ≡ room.vars + length (clauses_of u.var (live (slots kernel.now))) }
-        requires linked { (lit.var ≡ u.var) ⊎ Spread kernel.now.prefix (live (slots kernel.now)) u.var lit.var }
-        requires region { IsRegion kernel.now u.var self.old }
-        requires within { IsWithin room self.old }
+        requires { MayVisit kernel.now u room lit self.old }
         ensures met { IfOk result (λ yes. yes ≡ true → IsVisited kernel.now u.var room lit self.old self.new) }
         ensures barred { IfOk result (λ yes. yes ≡ false → Expandable room.vars kernel.now.prefix (live (slots kernel.now)) u.var → ⊥) }
     {
@@ -231,8 +221,7 @@ pub(crate) fn holds_one(clause: &[Lit], u: Lit) -> bool
     if holds(clause, u) {
         return true;
     }
-    let negative = holds(clause, u.negated());
-    negative
+    holds(clause, u.negated())
 }
 
 // Whether the clause holds u and its negation.
@@ -244,8 +233,7 @@ fn holds_both(clause: &[Lit], u: Lit) -> bool
     if !holds(clause, u) {
         return false;
     }
-    let negative = holds(clause, u.negated());
-    negative
+    holds(clause, u.negated())
 }
 
 // Puts the existential variables of the clause that are inner to u into the queue, each once.

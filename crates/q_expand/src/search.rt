@@ -1,6 +1,5 @@
 use crate::region::Region;
 use q_logic::Lit;
-use std::alloc::Global;
 
 /// What searches and changes lend each other: room for walks, for the variables of a region in the order of the
 /// prefix, and for a clause.
@@ -9,15 +8,4 @@ pub struct Search {
     pub(crate) region: Region,
     pub(crate) order: Vec<u32>,
     pub(crate) spare: Vec<Lit>,
-}
-
-impl Search {
-    /// It takes no memory.
-    pub fn new(alloc: Global) -> Search {
-        Search {
-            region: Region::new(alloc),
-            order: Vec::new(alloc),
-            spare: Vec::new(alloc),
-        }
-    }
 }

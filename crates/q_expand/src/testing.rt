@@ -63,8 +63,7 @@ pub(crate) fn fits(
     if !region.grow(kernel, lit, room)? {
         return Ok(false);
     }
-    let within = keeps_limits(kernel, region, lit, own);
-    Ok(within)
+    Ok(keeps_limits(kernel, region, lit, own))
 }
 
 // The number of clauses with u or its negation.

@@ -4,7 +4,7 @@ use Rattle.std.proofs.lemmas.List.{length-set, get_or-set_other, length_push, ge
 use Rattle.std.proofs.lemmas.Bool.{cases_lt, both_ways}
 use Rattle.q_gates.specs.Uses.{Parts, Uses, DependsOn, direct, further, AreDefined}
 use Rattle.q_gates.specs.Sorting.{is_marked}
-use Rattle.q_gates.specs.Spreading.{IsSpent, IsSpread, IsSettled}
+use Rattle.q_gates.specs.Spreading.{IsSpent, IsSpread, IsStacked}
 use Rattle.std.specs.Option.{option_to_list}
 use Rattle.q_gates.proofs.Cases.{ℕ-cases}
 use Rattle.q_gates.proofs.Walks.{set-kept, set-same, defined, popped-same}
@@ -38,8 +38,8 @@ spread-mark ps k marks stack stack2 g h s from u lt e =
       ];
     })
 
-pub spread-settled : (ps : Parts) (k : ℕ) (marks : List Bool) (stack : List ℕ) (g : ℕ) → IsSpread ps k marks stack g → IsSpent ps marks g → IsSettled ps k marks stack
-spread-settled ps k marks stack g s d = record {
+pub spread-stacked : (ps : Parts) (k : ℕ) (marks : List Bool) (stack : List ℕ) (g : ℕ) → IsSpread ps k marks stack g → IsSpent ps marks g → IsStacked ps k marks stack
+spread-stacked ps k marks stack g s d = record {
   room = s.room;
   reached = s.reached;
   stacked = s.stacked;
@@ -57,9 +57,9 @@ spread-none ps k marks l un = record {
   spent = λ x m. inr (inl (elim m [ inl q ↦ q | inr b ↦ absurd (both_ways (is_marked marks x) (un x) b) ]));
 }
 
-pub settled-pop : (ps : Parts) (k : ℕ) (marks : List Bool) (stack stack2 : List ℕ) (t : ℕ) → IsSettled ps k marks stack → stack ≡ stack2 ++ t ∷ [] → IsSpread ps k marks stack2 t × DependsOn ps k t
-settled-pop ps k marks stack stack2 t s e =
-    let s2 : IsSettled ps k marks (stack2 ++ t ∷ []) = subst (IsSettled ps k marks) e s in
+pub stacked-pop : (ps : Parts) (k : ℕ) (marks : List Bool) (stack stack2 : List ℕ) (t : ℕ) → IsStacked ps k marks stack → stack ≡ stack2 ++ t ∷ [] → IsSpread ps k marks stack2 t × DependsOn ps k t
+stacked-pop ps k marks stack stack2 t s e =
+    let s2 : IsStacked ps k marks (stack2 ++ t ∷ []) = subst (IsStacked ps k marks) e s in
     let len = length_push stack2 t in
     let top : get_or (stack2 ++ t ∷ []) (length stack2) 0 ≡ t = get_or_push stack2 t 0 (length stack2) refl in (
       record {
@@ -80,13 +80,13 @@ settled-pop ps k marks stack stack2 t s e =
     )
 
 -- all that k depends on was marked
-pub settled-all : (ps : Parts) (k : ℕ) (marks : List Bool) → IsSettled ps k marks [] → (h : ℕ) → DependsOn ps k h → is_marked marks h ≡ true
-settled-all ps k marks s h (direct j u) = elim (s.spent k (inl refl)) [
+pub stacked-all : (ps : Parts) (k : ℕ) (marks : List Bool) → IsStacked ps k marks [] → (h : ℕ) → DependsOn ps k h → is_marked marks h ≡ true
+stacked-all ps k marks s h (direct j u) = elim (s.spent k (inl refl)) [
   | inl a ↦ absurd (let al : a.0 < 0 = a.1 in omega arith)
   | inr a ↦ a j u
 ]
-settled-all ps k marks s h (further m j d u) =
-    let r : is_marked marks m ≡ true = settled-all ps k marks s m d in
+stacked-all ps k marks s h (further m j d u) =
+    let r : is_marked marks m ≡ true = stacked-all ps k marks s m d in
     elim (s.spent m (inr r)) [
       | inl a ↦ absurd (let al : a.0 < 0 = a.1 in omega arith)
       | inr a ↦ a j u
@@ -96,13 +96,13 @@ pub target-there : (ps : Parts) → AreDefined ps → (g h : ℕ) → DependsOn 
 target-there ps a g h (direct k u) = a g k (defined ps g k (direct k u)) u
 target-there ps a g h (further m k d u) = a m k (target-there ps a g m d) u
 
-pub pop-spread : (ps : Parts) (k : ℕ) (marks marks2 : List Bool) (stack stack2 : List ℕ) (t : ℕ) (r : Option ℕ) → IsSettled ps k marks stack → marks2 ≡ marks → (j : ℕ) × (j + 1 ≡ length stack) × (get_or stack j 0 ≡ t) → stack ≡ stack2 ++ option_to_list r → ((j : ℕ) → j + 1 ≡ length stack → r ≡ Some (get_or stack j 0)) → IsSpread ps k marks2 stack2 t × DependsOn ps k t
+pub pop-spread : (ps : Parts) (k : ℕ) (marks marks2 : List Bool) (stack stack2 : List ℕ) (t : ℕ) (r : Option ℕ) → IsStacked ps k marks stack → marks2 ≡ marks → (j : ℕ) × (j + 1 ≡ length stack) × (get_or stack j 0 ≡ t) → stack ≡ stack2 ++ option_to_list r → ((j : ℕ) → j + 1 ≡ length stack → r ≡ Some (get_or stack j 0)) → IsSpread ps k marks2 stack2 t × DependsOn ps k t
 pop-spread ps k marks marks2 stack stack2 t r s em j e q =
     let st : stack ≡ stack2 ++ t ∷ [] = popped-same stack2 r stack j.0 t e j.1 j.2 (q j.0 j.1) in
-    let p = settled-pop ps k marks stack stack2 t s st in
+    let p = stacked-pop ps k marks stack stack2 t s st in
     (subst (λ (m : List Bool). IsSpread ps k m stack2 t) (sym em) p.0, p.1)
 
-pub top-depends : (ps : Parts) (k : ℕ) (marks : List Bool) (stack : List ℕ) (t : ℕ) → IsSettled ps k marks stack → (j : ℕ) × (j + 1 ≡ length stack) × (get_or stack j 0 ≡ t) → DependsOn ps k t
+pub top-depends : (ps : Parts) (k : ℕ) (marks : List Bool) (stack : List ℕ) (t : ℕ) → IsStacked ps k marks stack → (j : ℕ) × (j + 1 ≡ length stack) × (get_or stack j 0 ≡ t) → DependsOn ps k t
 top-depends ps k marks stack t s j = let e : j.0 + 1 ≡ length stack = j.1 in s.reached t (subst (λ (x : ℕ). is_marked marks x ≡ true) j.2 (s.stacked j.0 (omega arith)))
 
 pub nothing-left : (stack : List ℕ) (n : ℕ) (b : Bool) → n ≡ length stack → b ≡ eqb n 0 → b ≡ true → stack ≡ []

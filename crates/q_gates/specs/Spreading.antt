@@ -15,7 +15,7 @@ pub record IsSpread (ps : Parts) (k : ℕ) (marks : List Bool) (stack : List ℕ
   pub spent : (x : ℕ) → (x ≡ k) ⊎ (is_marked marks x ≡ true) → ((i : ℕ) × (i < length stack) × (slice_index_or stack i 0 ≡ x)) ⊎ ((x ≡ g) ⊎ IsSpent ps marks x)
 
 -- the same, with nothing left but the stack
-pub record IsSettled (ps : Parts) (k : ℕ) (marks : List Bool) (stack : List ℕ) : Type 0 where
+pub record IsStacked (ps : Parts) (k : ℕ) (marks : List Bool) (stack : List ℕ) : Type 0 where
   pub room : length marks ≡ length ps
   pub reached : (x : ℕ) → is_marked marks x ≡ true → DependsOn ps k x
   pub stacked : (i : ℕ) → i < length stack → is_marked marks (slice_index_or stack i 0) ≡ true

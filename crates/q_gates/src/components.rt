@@ -24,7 +24,7 @@ struct Search {
 }
 
 /// Gives each gate the number of its component: no gate uses one of a greater number.
-pub fn number(alloc: Global, gates: &[Gate]) -> Result<Vec<u32>, NoMemory> {
+pub(crate) fn number(alloc: Global, gates: &[Gate]) -> Result<Vec<u32>, NoMemory> {
     let mut search = begin(alloc, gates.len())?;
     for root in 0..gates.len() {
         if mark(&search.order, root) == 0 {

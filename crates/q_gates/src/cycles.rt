@@ -4,7 +4,7 @@ ghost use Rattle.q_gates.specs.Uses.{Uses, DependsOn, AreDefined, IsFirstCycle};
 ghost use Rattle.q_gates.specs.Gates.{gates_view};
 ghost use Rattle.q_gates.specs.Sorting.{is_marked, unmarked_count};
 ghost use Rattle.q_gates.specs.Levels.{NeverRise};
-ghost use Rattle.q_gates.specs.Spreading.{IsSpread, IsSettled};
+ghost use Rattle.q_gates.specs.Spreading.{IsSpread, IsStacked};
 
 use crate::gate::Gate;
 use crate::levels::{falls, make_levels};
@@ -50,7 +50,7 @@ fn spread(
     requires there { g < length (gates_view parts.now) }
     requires spread { IsSpread (gates_view parts.now) start marks.old stack.old.items g }
     requires from { (g ≡ start) ⊎ DependsOn (gates_view parts.now) start g }
-    ensures settled { IfOk result (λ _. IsSettled (gates_view parts.now) start marks.new stack.new.items) }
+    ensures whole { IfOk result (λ _. IsStacked (gates_view parts.now) start marks.new stack.new.items) }
     ensures less { IfOk result (λ _. 2 * unmarked_count marks.new + length stack.new.items ≤ 2 * unmarked_count marks.old + length stack.old.items) }
 {
     let (left, right) = parts_at(parts, g);

@@ -1,5 +1,5 @@
--- The clauses of a generated formula in one row of literals: those so far, and those that are still to come.
-use Rattle.std.proofs.Common.{◌≡◌, ◌≤◌, ◌<◌, ◌+◌, ◌-◌, ◌*◌, ◌/◌, ℕ, suc, List, [], ◌∷◌, ◌++◌, refl, sym, ap, ◌∙◌, subst, arith, length, length-append, append_assoc, append-nil}
+-- The clauses of a generated formula: those so far, and those that are still to come.
+use Rattle.std.proofs.Common.{◌≡◌, ◌≤◌, ◌<◌, ◌+◌, ◌-◌, ◌*◌, ◌/◌, ℕ, suc, List, [], ◌∷◌, ◌++◌, refl, sym, ap, ◌∙◌, subst, arith, length, append_assoc, append-nil}
 use Rattle.rand_core.specs.Steps.{first_words}
 use Rattle.rand_core.specs.Pcg32Seed.{pcg32_seed}
 use Rattle.rand_pcg.specs.Lcg.{Lcg}
@@ -11,7 +11,6 @@ use Rattle.q_logic.specs.Formulas.{Clause, Matrix, Prefix}
 use Rattle.q_logic.specs.Clauses.{clause_of}
 use Rattle.q_logic.specs.Parts.{AreEnds, AreLawful, IsProper, clauses_between}
 use Rattle.q_logic.proofs.Parts.{proper-lawful}
-use Rattle.q_dimacs.proofs.Ends.{ends-push, clauses-push}
 use Rattle.q_gen.specs.Generated.{block_from, literal_of, drawn_by, clauses_by, prefix_of, words_of, Generated}
 use Rattle.q_gen.proofs.Words.{four-words}
 use Rattle.q_gen.proofs.Drawing.{generated-proper}
@@ -40,60 +39,43 @@ draws width k g0 g1 g2 g3 g4 a b c d p q r s e f g h i j l m =
     same : (p ∷ q ∷ r ∷ s ∷ []) ≡ drawn_by width a b c d
     same = rw (i, j, l, m) refl
 
--- one clause more in the row
-pub sealed : (lits : List Literal) (ends : List ℕ) (clause new : List Literal) (new_ends : List ℕ) (n : ℕ) →
-    AreEnds 0 ends (length lits) → new ≡ lits ++ clause → n ≡ length new → new_ends ≡ ends ++ n ∷ [] →
-    AreEnds 0 new_ends (length new) × (clauses_between new 0 new_ends ≡ clauses_between lits 0 ends ++ clause ∷ [])
-sealed lits ends clause new new_ends n h e f g =
-    rw (g, f, e) (ends-push 0 ends (length lits) (length (lits ++ clause)) h (rw length-append (omega arith)), clauses-push lits clause 0 ends h)
+-- the words that are still to come make the clauses behind those that were drawn
+abbrev pub AreDrawn : ℕ → ℕ → ℕ → ℕ → Lcg → Matrix → Type 0
+AreDrawn seed size width i words X = X ++ clauses_by width (first_words pcg32 (4 * (size - i)) words) ≡ clauses_by width (words_of seed (4 * size))
 
--- the row holds the first clauses; the words that are still to come make the others
-pub record AreDrawn (seed size width i : ℕ) (words : Lcg) (lits : List Literal) (ends : List ℕ) : Type 0 where
-  pub in_order : AreEnds 0 ends (length lits)
-  pub clauses : clauses_between lits 0 ends ++ clauses_by width (first_words pcg32 (4 * (size - i)) words) ≡ clauses_by width (words_of seed (4 * size))
-
-pub drawn-none : (seed size width : ℕ) (words : Lcg) → words ≡ pcg32_of_seed (pcg32_seed 16 seed) → AreDrawn seed size width 0 words [] []
+pub drawn-none : (seed size width : ℕ) (words : Lcg) → words ≡ pcg32_of_seed (pcg32_seed 16 seed) → AreDrawn seed size width 0 words []
 drawn-none seed size width words e =
     let z : size - 0 ≡ size = omega arith in
-    record {
-      in_order = refl;
-      clauses = ap (λ (n : ℕ). clauses_by width (first_words pcg32 (4 * n) words)) z
-          ∙ ap (λ (g : Lcg). clauses_by width (first_words pcg32 (4 * size) g)) e;
-    }
+    ap (λ (n : ℕ). clauses_by width (first_words pcg32 (4 * n) words)) z
+    ∙ ap (λ (g : Lcg). clauses_by width (first_words pcg32 (4 * size) g)) e
 
-pub drawn-one : (seed size width i : ℕ) (old new : Lcg) (lits later : List Literal) (ends later_ends : List ℕ) (C : Clause) → i < size →
-    AreDrawn seed size width i old lits ends →
+pub drawn-one : (seed size width i : ℕ) (old new : Lcg) (X Y : Matrix) (C : Clause) → i < size → AreDrawn seed size width i old X →
     ((k : ℕ) → clauses_by width (first_words pcg32 (suc (suc (suc (suc k)))) old) ≡ C ∷ clauses_by width (first_words pcg32 k new)) →
-    AreEnds 0 later_ends (length later) → clauses_between later 0 later_ends ≡ clauses_between lits 0 ends ++ C ∷ [] →
-    AreDrawn seed size width (i + 1) new later later_ends
-drawn-one seed size width i old new lits later ends later_ends C h d e f g =
+    Y ≡ X ++ C ∷ [] → AreDrawn seed size width (i + 1) new Y
+drawn-one seed size width i old new X Y C h d e g =
     let n : 4 * (size - i) ≡ suc (suc (suc (suc (4 * (size - (i + 1)))))) = omega arith in
     let rest : Matrix = clauses_by width (first_words pcg32 (4 * (size - (i + 1))) new) in
-    record {
-      in_order = f;
-      clauses = ap (λ (X : Matrix). X ++ rest) g
-          ∙ (append_assoc (clauses_between lits 0 ends) (C ∷ []) rest
-          ∙ (ap (λ (X : Matrix). clauses_between lits 0 ends ++ X) (sym (ap (λ (k : ℕ). clauses_by width (first_words pcg32 k old)) n ∙ e (4 * (size - (i + 1)))))
-          ∙ d.clauses));
-    }
+    ap (λ (Z : Matrix). Z ++ rest) g
+    ∙ (append_assoc X (C ∷ []) rest
+    ∙ (ap (λ (Z : Matrix). X ++ Z) (sym (ap (λ (k : ℕ). clauses_by width (first_words pcg32 k old)) n ∙ e (4 * (size - (i + 1)))))
+    ∙ d))
 
 no-words : (g : Lcg) → first_words pcg32 0 g ≡ []
 unfolding first_words
 no-words g = refl
 
-pub drawn-all : (seed size width i : ℕ) (words : Lcg) (lits : List Literal) (ends : List ℕ) → AreDrawn seed size width i words lits ends → size ≤ i →
-    clauses_between lits 0 ends ≡ clauses_by width (words_of seed (4 * size))
-drawn-all seed size width i words lits ends d h =
+drawn-all : (seed size width i : ℕ) (words : Lcg) (X : Matrix) → AreDrawn seed size width i words X → size ≤ i → X ≡ clauses_by width (words_of seed (4 * size))
+drawn-all seed size width i words X d h =
     let n : 4 * (size - i) ≡ 0 = omega arith in
-    sym (append-nil (clauses_between lits 0 ends))
-    ∙ (ap (λ (X : Matrix). clauses_between lits 0 ends ++ X) (sym (ap (λ (k : ℕ). clauses_by width (first_words pcg32 k words)) n ∙ ap (clauses_by width) (no-words words)))
-    ∙ d.clauses)
+    sym (append-nil X)
+    ∙ (ap (λ (Z : Matrix). X ++ Z) (sym (ap (λ (k : ℕ). clauses_by width (first_words pcg32 k words)) n ∙ ap (clauses_by width) (no-words words)))
+    ∙ d)
 
-pub drawn-formula : (seed size width i : ℕ) (words : Lcg) (P : Prefix) (lits : List Literal) (ends : List ℕ) → AreDrawn seed size width i words lits ends → size ≤ i →
-    P ≡ prefix_of width → width ≡ 1 + size / 5 → record { prefix = P; matrix = clauses_between lits 0 ends } ≡ Generated seed size
-drawn-formula seed size width i words P lits ends d h e w = rw (e, drawn-all seed size width i words lits ends d h, w) refl
+pub drawn-formula : (seed size width i : ℕ) (words : Lcg) (P : Prefix) (X Y : Matrix) → AreDrawn seed size width i words X → size ≤ i →
+    P ≡ prefix_of width → width ≡ 1 + size / 5 → Y ≡ X → record { prefix = P; matrix = Y } ≡ Generated seed size
+drawn-formula seed size width i words P X Y d h e w y = rw (e, y, drawn-all seed size width i words X d h, w) refl
 
-pub drawn-lawful : (seed size width i : ℕ) (words : Lcg) (P : Prefix) (lits : List Literal) (ends : List ℕ) → AreDrawn seed size width i words lits ends → size ≤ i →
-    P ≡ prefix_of width → width ≡ 1 + size / 5 → size ≤ 100000 → AreLawful P lits ends
-drawn-lawful seed size width i words P lits ends d h e w s =
-    proper-lawful P lits ends d.in_order (subst IsProper (sym (drawn-formula seed size width i words P lits ends d h e w)) (generated-proper seed size s))
+pub drawn-lawful : (seed size width i : ℕ) (words : Lcg) (P : Prefix) (X : Matrix) (lits : List Literal) (ends : List ℕ) → AreDrawn seed size width i words X → size ≤ i →
+    P ≡ prefix_of width → width ≡ 1 + size / 5 → size ≤ 100000 → AreEnds 0 ends (length lits) → clauses_between lits 0 ends ≡ X → AreLawful P lits ends
+drawn-lawful seed size width i words P X lits ends d h e w s n c =
+    proper-lawful P lits ends n (subst IsProper (sym (drawn-formula seed size width i words P X (clauses_between lits 0 ends) d h e w c)) (generated-proper seed size s))

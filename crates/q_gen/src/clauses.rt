@@ -1,11 +1,10 @@
-ghost use Rattle.std.specs.Prelude.{◌≡◌, ◌≤◌, ◌<◌, ◌+◌, ◌^◌, ℕ, suc, ◌++◌, [], ◌∷◌, length, OnOk};
+ghost use Rattle.std.specs.Prelude.{◌≡◌, ◌≤◌, ◌<◌, ◌+◌, ◌^◌, ℕ, suc, ◌++◌, [], ◌∷◌, OnOk};
 ghost use Rattle.rand_core.specs.Steps.{first_words};
 ghost use Rattle.rand_pcg.specs.Pcg.{pcg32};
 ghost use Rattle.q_logic.specs.Clauses.{clause_of};
-ghost use Rattle.q_logic.specs.Parts.{AreEnds, clauses_between};
 ghost use Rattle.q_gen.specs.Generated.{literal_of, clauses_by};
 
-use q_logic::{Lit, NoMemory, sort_clause};
+use q_logic::{Clauses, Lit, NoMemory, sort_clause};
 use rand_core::utils::NextWord;
 use rand_pcg::Lcg64Xsh32;
 
@@ -43,20 +42,14 @@ pub(crate) fn draw(words: &mut Lcg64Xsh32, width: u32) -> [Lit; 4]
 
 /// Puts the clause of these literals behind the others; `clause` is lent for its memory.
 pub(crate) fn put_clause(
-    lits: &mut Vec<Lit>,
-    ends: &mut Vec<usize>,
+    clauses: &mut Clauses,
     clause: &mut Vec<Lit>,
     drawn: [Lit; 4],
 ) -> Result<(), NoMemory>
-    requires { AreEnds 0 ends.old.items (length lits.old.items) }
-    ensures ends { OnOk result (AreEnds 0 ends.new.items (length lits.new.items)) }
-    ensures clauses { OnOk result (clauses_between lits.new.items 0 ends.new.items
-        ≡ clauses_between lits.old.items 0 ends.old.items ++ clause_of drawn ∷ []) }
+    ensures { OnOk result (clauses.new ≡ clauses.old ++ clause_of drawn ∷ []) }
 {
     clause.clear();
     clause.extend_from_slice(&drawn)?;
     sort_clause(clause);
-    lits.extend_from_slice(clause)?;
-    ends.push(lits.len())?;
-    Ok(())
+    clauses.push(clause)
 }

@@ -6,7 +6,7 @@ ghost use Rattle.q_gen.specs.Generated.{Generated};
 
 use crate::clauses::{draw, put_clause};
 use crate::prefix::prefix_of;
-use q_logic::{Formula, NoMemory};
+use q_logic::{Clauses, Formula, NoMemory};
 use rand_core::SeedableRng;
 use rand_pcg::Lcg64Xsh32;
 use std::alloc::Global;
@@ -21,11 +21,11 @@ pub fn generate(alloc: Global, seed: u64, size: u32) -> Result<Formula, NoMemory
     let width = 1 + size / 5;
     let prefix = prefix_of(alloc, width)?;
     let mut words = Lcg64Xsh32::seed_from_u64(seed);
-    let mut lits = Vec::new(alloc);
-    let mut ends = Vec::new(alloc);
+    let mut clauses = Clauses::new(alloc);
     let mut clause = Vec::new(alloc);
     for _ in 0..size {
-        put_clause(&mut lits, &mut ends, &mut clause, draw(&mut words, width))?;
+        put_clause(&mut clauses, &mut clause, draw(&mut words, width))?;
     }
+    let (lits, ends) = clauses.into_parts();
     Ok(Formula::from_parts(prefix, lits, ends))
 }

@@ -30,11 +30,6 @@ pub fn write_generated<F: Files>(
     let Ok(()) = write(&formula, &mut text) else {
         return Err(DeviceError::NoMemory);
     };
-    if let Err(error) = files.create(name) {
-        return Err(error);
-    }
-    match files.append(name, &text) {
-        Ok(()) => Ok(()),
-        Err(error) => Err(error),
-    }
+    files.create(name)?;
+    files.append(name, &text)
 }

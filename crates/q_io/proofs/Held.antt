@@ -1,5 +1,5 @@
 -- What a store in memory holds at a name, read off its map.
-use Rattle.std.proofs.Common.{◌≡◌, ◌-◌, min, arith, ℕ, Bool, true, false, cond, List, [], ◌∷◌, ◌++◌, length, take, drop, refl, sym, ap, subst, ◌∙◌, Option, Some, None, option_map, is_some, unwrap_or, string_bytes, String, Vec, Result, Ok, Err, OnErr, inl, length-drop, append-nil}
+use Rattle.std.proofs.Common.{◌≡◌, ◌-◌, min, arith, ℕ, zero, suc, Bool, true, false, cond, List, [], ◌∷◌, ◌++◌, length, take, drop, refl, sym, ap, subst, ◌∙◌, Option, Some, None, option_map, is_some, unwrap_or, string_bytes, String, Vec, Result, Ok, Err, OnErr, inl, length-drop, append-nil}
 use Rattle.std.specs.Ordering.{nat_cmp, is_eq}
 use Rattle.std.specs.Cmp.Lexicographic.{slice_cmp, nat_list_cmp_total}
 use Rattle.std.specs.FinMap as fin
@@ -54,8 +54,21 @@ emptied name before after e o = record { disk = after; told = refl; bytes = e; o
 pub appended : (name more : List ℕ) (before after : Disk) → fin.get after name ≡ Some (bytes_at before name ++ more) → OthersStay name before after → Appends name more before (Some after)
 appended name more before after e o = record { disk = after; told = refl; bytes = e; others = o }
 
-pub appended_part : (name more : List ℕ) (k : ℕ) (before after : Disk) → fin.get after name ≡ Some (bytes_at before name ++ take k more) → OthersStay name before after → AppendsPart name more before (Some after)
-appended_part name more k before after e o = record { disk = after; told = refl; part = k; bytes = ap (λ o. unwrap_or o []) e; others = o }
+take-front : (p k : ℕ) (xs : List ℕ) → (n : ℕ) × (take p (take k xs) ≡ take n xs)
+take-front zero k xs = (0, refl)
+take-front (suc p) zero xs = (0, refl)
+take-front (suc p) (suc k) [] = (0, refl)
+take-front (suc p) (suc k) (x ∷ xs) = let r : (n : ℕ) × (take p (take k xs) ≡ take n xs) = take-front p k xs in (suc r.0, ap (λ ys. x ∷ ys) r.1)
+
+-- where only a front of the bytes was to be appended
+pub appended_front : (name more : List ℕ) (k : ℕ) (before : Disk) (after : Option Disk) → Appends name (take k more) before after → AppendsPart name more before after
+appended_front name more k before after h =
+    record { disk = h.disk; told = h.told; part = k; bytes = ap (λ o. unwrap_or o []) h.bytes; others = h.others }
+
+pub part_of_front : (name more : List ℕ) (k : ℕ) (before : Disk) (after : Option Disk) → AppendsPart name (take k more) before after → AppendsPart name more before after
+part_of_front name more k before after h =
+    let r : (n : ℕ) × (take h.part (take k more) ≡ take n more) = take-front h.part k more in
+    record { disk = h.disk; told = h.told; part = r.0; bytes = h.bytes ∙ ap (λ xs. bytes_at before name ++ xs) r.1; others = h.others }
 
 -- a read of n bytes, where the name is held
 pub read_held : (disk : Disk) (name bytes : List ℕ) (place : ℕ) (old new : List ℕ) (n : ℕ) → fin.get disk name ≡ Some bytes → n ≡ min (length old) (length bytes - place) → take n new ≡ take n (drop place bytes) → Reads disk name place old new n
@@ -66,6 +79,16 @@ read_held disk name bytes place old new n held count copied =
       left = rw (at, length-drop) (omega arith);
       end = λ z p. rw at (omega arith);
     }
+
+pub count_held : (disk : Disk) (name bytes : List ℕ) (place : ℕ) (old : List ℕ) (n : ℕ) → fin.get disk name ≡ Some bytes → n ≡ min (length old) (length bytes - place) → n ≡ min (length old) (length (bytes_at disk name) - place)
+count_held disk name bytes place old n held count =
+    let at : bytes_at disk name ≡ bytes = ap (λ o. unwrap_or o []) held in
+    rw at count
+
+pub count_missing : (disk : Disk) (name : List ℕ) (place : ℕ) (old : List ℕ) → fin.get disk name ≡ None → 0 ≡ min (length old) (length (bytes_at disk name) - place)
+count_missing disk name place old missing =
+    let at : bytes_at disk name ≡ [] = ap (λ o. unwrap_or o []) missing in
+    rw at (omega arith)
 
 -- after a write through the reference that a look-up gave
 pub extended : (bs more : List ℕ) (m n : BTreeMap (String Global) (Vec ℕ Global)) (v w : Vec ℕ Global) → Some v ≡ tree.get_by_text m bs → w.items ≡ v.items ++ more → tree.UpdatesBy string_cmp (λ k. slice_cmp nat_cmp bs (string_bytes k)) m n (Some w) → fin.get (disk_of n) bs ≡ Some (bytes_at (disk_of m) bs ++ more)

@@ -1,8 +1,9 @@
 -- What the calls of a store of named files do, and those of a sink.
-use Rattle.std.specs.Prelude.{◌≡◌, ◌≢◌, ◌⊎◌, ◌<◌, ◌≤◌, ◌+◌, ◌-◌, ◌^◌, ℕ, min, List, [], ◌∷◌, ◌++◌, length, take, drop, Option, Some, unwrap_or}
+use Rattle.std.specs.Prelude.{◌≡◌, ◌≢◌, ◌⊎◌, ◌<◌, ◌≤◌, ℕ, List, [], ◌∷◌, ◌++◌, length, take, drop, Option, Some, unwrap_or}
 use Rattle.std.specs.Ordering.{nat_cmp}
 use Rattle.std.specs.Cmp.Lexicographic.{slice_cmp}
 use Rattle.std.specs.FinMap as map
+use Rattle.q_logic.specs.Counts.{Rose}
 
 -- a finite map from names, as bytes, to bytes
 abbrev pub Disk : Type 0
@@ -15,10 +16,6 @@ bytes_at disk name = unwrap_or (map.get disk name) []
 -- each other name is as before
 abbrev pub OthersStay : List ℕ → Disk → Disk → Type 0
 OthersStay name before after = (q : List ℕ) → q ≢ name → map.get after q ≡ map.get before q
-
--- a count rose in a call, or stands at its end
-abbrev pub Rose : ℕ → ℕ → Type 0
-Rose before now = min (before + 1) (2 ^ 64 - 1) ≤ now
 
 -- the count of faults of a name rose in a call
 abbrev pub RoseFor : {X : Type 0} → (X → List ℕ → ℕ) → List ℕ → X → X → Type 0
@@ -35,6 +32,11 @@ RoseAmong faults (name ∷ other ∷ names) before after =
 pub record Later {X : Type 0} (read_faults write_faults : X → List ℕ → ℕ) (before after : X) : Type 0 where
   pub read : (q : List ℕ) → read_faults before q ≤ read_faults after q
   pub write : (q : List ℕ) → write_faults before q ≤ write_faults after q
+
+-- a call that only reads: what the files hold is as before, and no count of faults fell
+pub record OnlyReads {X : Type 0} (held : X → Option Disk) (read_faults write_faults : X → List ℕ → ℕ) (before after : X) : Type 0 where
+  pub same : held after ≡ held before
+  pub later : Later read_faults write_faults before after
 
 -- how often reading has failed, and how often creating or appending
 pub record FaultCounts : Type 0 where
@@ -74,6 +76,20 @@ pub record AppendsPart (name more : List ℕ) (before : Disk) (after : Option Di
   pub told : after ≡ Some disk
   pub part : ℕ
   pub bytes : bytes_at disk name ≡ bytes_at before name ++ take part more
+  pub others : OthersStay name before disk
+
+-- the file holds this text, and all others are as before
+pub record HoldsBytes (name text : List ℕ) (before : Disk) (after : Option Disk) : Type 0 where
+  pub disk : Disk
+  pub told : after ≡ Some disk
+  pub bytes : map.get disk name ≡ Some text
+  pub others : OthersStay name before disk
+
+-- the file is as before, or holds a front of this text
+pub record MayHoldFront (name text : List ℕ) (before : Disk) (after : Option Disk) : Type 0 where
+  pub disk : Disk
+  pub told : after ≡ Some disk
+  pub bytes : (map.get disk name ≡ map.get before name) ⊎ ((part : ℕ) × (bytes_at disk name ≡ take part text))
   pub others : OthersStay name before disk
 
 -- after a put

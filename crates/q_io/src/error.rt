@@ -1,5 +1,6 @@
 ghost use Rattle.std.specs.Prelude.{◌≡◌};
 
+use q_logic::NoMemory;
 use std::alloc::{AllocError, AllocFailed};
 use thiserror::Error;
 
@@ -28,6 +29,16 @@ impl<T: Drop> From<AllocFailed<T>> for DeviceError {
     ghost from_gives = { λ _ e. e ≡ NoMemory };
 
     fn from(_: AllocFailed<T>) -> DeviceError {
+        DeviceError::NoMemory
+    }
+}
+
+impl From<NoMemory> for DeviceError {
+    ghost use Rattle.q_io.specs.declared.error.DeviceError.TheVariants.{NoMemory};
+
+    ghost from_gives = { λ _ e. e ≡ NoMemory };
+
+    fn from(_: NoMemory) -> DeviceError {
         DeviceError::NoMemory
     }
 }

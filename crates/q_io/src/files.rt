@@ -1,5 +1,6 @@
 ghost use Rattle.std.specs.Prelude.{◌≡◌, ◌≤◌, ◌++◌, List, ℕ, Option, length, is_some, IfOk, OnOk, OnErr, IfSome, IsErrOf};
-ghost use Rattle.q_io.specs.Files.{Disk, Later, Rose, RoseFor, Reads, Empties, MayEmpty, Appends, AppendsPart, GrowsBy, GrowsByPart};
+ghost use Rattle.q_io.specs.Files.{Disk, Later, OnlyReads, RoseFor, Reads, Empties, MayEmpty, Appends, AppendsPart, GrowsBy, GrowsByPart};
+ghost use Rattle.q_logic.specs.Counts.{Rose};
 
 use crate::error::DeviceError;
 
@@ -23,9 +24,8 @@ pub trait Files {
         requires { at ≤ LAST_PLACE }
         ensures within { IfOk result (λ n. n ≤ length buf.old) }
         ensures bytes { IfOk result (λ n. IfSome (held self.old) (λ disk. Reads disk name.now at buf.old buf.new n)) }
-        ensures held { held self.new ≡ held self.old }
         ensures cause { IsErrOf result DeviceError.Failed → RoseFor read_faults name.now self.old self.new }
-        ensures later { Later read_faults write_faults self.old self.new };
+        ensures only_reads { OnlyReads held read_faults write_faults self.old self.new };
 
     /// Makes the file, or empties it.
     fn create(&mut self, name: &str) -> Result<(), DeviceError>

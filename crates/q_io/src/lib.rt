@@ -10,6 +10,7 @@ mod names;
 mod real;
 mod sinks;
 mod steady;
+mod whole;
 
 pub use error::DeviceError;
 pub use files::{Files, LAST_PLACE, Sink};
@@ -17,3 +18,4 @@ pub use memory::{Call, Fault, MemFiles};
 pub use real::{DiskFiles, StdSink};
 pub use sinks::{MemSink, SteadySink};
 pub use steady::SteadyFiles;
+pub use whole::write_whole;

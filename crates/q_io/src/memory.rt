@@ -1,13 +1,13 @@
 ghost use Rattle.std.specs.Prelude.{◌≡◌, ◌≤◌, ◌-◌, length, min, option_copied, IfOk, IsErrOf, OnOk, OnErr, Some};
 ghost use Rattle.std.specs.FinMap as map;
-ghost use Rattle.q_io.specs.Files.{OthersStay, Reads, Rose, bytes_at};
+ghost use Rattle.q_io.specs.Files.{OthersStay, Reads, bytes_at};
+ghost use Rattle.q_logic.specs.Counts.{Rose};
 
 use crate::error::DeviceError;
 use crate::files::Files;
-use crate::names::{Names, copy_from, extend, store};
+use crate::steady::SteadyFiles;
 use q_logic::NoMemory;
 use std::alloc::Global;
-use std::collections::BTreeMap;
 use std::marker::Model;
 
 /// The kinds of call that a fault can be planned for.
@@ -30,8 +30,7 @@ pub struct Fault {
 /// Files in memory, with planned faults. A read of a name that is not held fails too.
 #[derive(Drop)]
 pub struct MemFiles {
-    alloc: Global,
-    names: Names,
+    files: SteadyFiles,
     planned: Vec<Fault>,
     reads: u64,
     creates: u64,
@@ -41,14 +40,14 @@ pub struct MemFiles {
 }
 
 impl Model for MemFiles {
-    ghost use Rattle.q_io.specs.Memory.{MemDisk, mem_code, disk_of};
+    ghost use Rattle.q_io.specs.Memory.{MemDisk, mem_code};
 
     ghost Value = { MemDisk };
 
     ghost coded = { mem_code };
 
     ghost view = { λ m. record {
-      disk = disk_of m.names;
+      disk = m.files;
       read_faults = m.read_failures;
       write_faults = m.write_failures;
     } };
@@ -68,8 +67,7 @@ impl MemFiles {
         ensures faults { (result.read_faults ≡ 0) × (result.write_faults ≡ 0) }
     {
         MemFiles {
-            alloc,
-            names: BTreeMap::new(alloc),
+            files: SteadyFiles::new(alloc),
             planned: Vec::new(alloc),
             reads: 0,
             creates: 0,
@@ -86,17 +84,13 @@ impl MemFiles {
         ensures faults { (self.new.read_faults ≡ self.old.read_faults)
             × (self.new.write_faults ≡ self.old.write_faults) }
     {
-        store(self.alloc, &mut self.names, name, bytes)?;
-        Ok(())
+        self.files.put_file(name, bytes)
     }
 
     pub fn file(&self, name: &str) -> Option<&[u8]>
         ensures { option_copied result ≡ map.get self.now.disk name.now }
     {
-        match self.names.get(name) {
-            Some(bytes) => Some(bytes.as_slice()),
-            None => None,
-        }
+        self.files.file(name)
     }
 
     /// Plans one more fault.
@@ -125,17 +119,12 @@ impl Files for MemFiles {
             × (self.new.write_faults ≡ self.old.write_faults) }
     {
         self.reads = self.reads.saturating_add(1);
-        if planned_part(&self.planned, Call::Read, self.reads).is_some() {
+        let is_planned = planned_part(&self.planned, Call::Read, self.reads).is_some();
+        if is_planned || self.files.file(name).is_none() {
             self.read_failures = self.read_failures.saturating_add(1);
             return Err(DeviceError::Failed);
         }
-        match self.names.get(name) {
-            Some(bytes) => Ok(copy_from(bytes, at, buf)),
-            None => {
-                self.read_failures = self.read_failures.saturating_add(1);
-                Err(DeviceError::Failed)
-            }
-        }
+        self.files.read(name, at, buf)
     }
 
     fn create(&mut self, name: &str) -> Result<(), DeviceError> {
@@ -144,8 +133,7 @@ impl Files for MemFiles {
             self.write_failures = self.write_failures.saturating_add(1);
             return Err(DeviceError::Failed);
         }
-        store(self.alloc, &mut self.names, name, &[])?;
-        Ok(())
+        self.files.create(name)
     }
 
     fn append(&mut self, name: &str, bytes: &[u8]) -> Result<(), DeviceError> {
@@ -153,14 +141,11 @@ impl Files for MemFiles {
         match planned_part(&self.planned, Call::Append, self.appends) {
             Some(part) => {
                 let stored = part.min(bytes.len());
-                extend(self.alloc, &mut self.names, name, &bytes[..stored])?;
+                self.files.append(name, &bytes[..stored])?;
                 self.write_failures = self.write_failures.saturating_add(1);
                 Err(DeviceError::Failed)
             }
-            None => {
-                extend(self.alloc, &mut self.names, name, bytes)?;
-                Ok(())
-            }
+            None => self.files.append(name, bytes),
         }
     }
 }

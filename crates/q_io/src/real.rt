@@ -1,4 +1,5 @@
 ghost use Rattle.std.specs.Prelude.{◌≡◌, ◌≤◌, List, ℕ, None, IfOk, length};
+ghost use Rattle.q_logic.specs.Counts.{Rose};
 
 use crate::error::DeviceError;
 use crate::files::{Files, Sink};
@@ -12,7 +13,7 @@ use std::marker::Model;
 struct Open<F: Drop> {
     name: String,
     file: F,
-    // where it goes on
+    // where it goes on; 0 for a file that is written, which goes on at its end
     place: u64,
 }
 
@@ -76,22 +77,11 @@ fn open_at<R: std::rt::Files + AllocGlobal>(
     })
 }
 
-// Takes the file that is open, where it goes on at the place, or opens it.
-fn take_at<R: std::rt::Files + AllocGlobal>(
-    rt: &R,
-    slot: &mut Option<Open<R::File>>,
-    name: &str,
-    place: u64,
-) -> io::Result<Open<R::File>> {
+// Takes the file that is open, if it is the one of that name and goes on at that place.
+fn take_open<F: Drop>(slot: &mut Option<Open<F>>, name: &str, place: u64) -> Option<Open<F>> {
     match slot.take() {
-        Some(open) => {
-            if open.stands_at(name, place) {
-                Ok(open)
-            } else {
-                open_at(rt, name, place)
-            }
-        }
-        None => open_at(rt, name, place),
+        Some(open) if open.stands_at(name, place) => Some(open),
+        _ => None,
     }
 }
 
@@ -105,7 +95,10 @@ fn read_on<R: std::rt::Files + AllocGlobal>(
 ) -> io::Result<usize>
     ensures { IfOk result (λ n. n ≤ length buf.old) }
 {
-    let mut open = take_at(rt, slot, name, at)?;
+    let mut open = match take_open(slot, name, at) {
+        Some(open) => open,
+        None => open_at(rt, name, at)?,
+    };
     let count = open.file.read(buf)?;
     open.place = at.saturating_add(count as u64);
     *slot = Some(open);
@@ -140,53 +133,45 @@ fn open_end<R: std::rt::Files + AllocGlobal>(rt: &R, name: &str) -> io::Result<O
     })
 }
 
-// Takes the file that is open for writing, or opens it.
-fn take_end<R: std::rt::Files + AllocGlobal>(
-    rt: &R,
-    slot: &mut Option<Open<R::File>>,
-    name: &str,
-) -> io::Result<Open<R::File>> {
-    match slot.take() {
-        Some(open) => {
-            if open.name.as_str() == name {
-                Ok(open)
-            } else {
-                open_end(rt, name)
-            }
-        }
-        None => open_end(rt, name),
-    }
-}
-
-// Puts bytes behind a file's, which stays open. Says whether all of them were taken.
+// Puts bytes behind a file's, which stays open.
 fn append_on<R: std::rt::Files + AllocGlobal>(
     rt: &R,
     slot: &mut Option<Open<R::File>>,
     name: &str,
     bytes: &[u8],
-) -> io::Result<bool> {
-    let mut open = take_end(rt, slot, name)?;
-    let all = write_whole(&mut open.file, bytes)?;
+) -> io::Result<()> {
+    let mut open = match take_open(slot, name, 0) {
+        Some(open) => open,
+        None => open_end(rt, name)?,
+    };
+    write_all(&mut open.file, bytes)?;
     *slot = Some(open);
-    Ok(all)
+    Ok(())
 }
 
-// Writes all the bytes, or says that a write took none of those that were left.
-fn write_whole<W: Write>(out: &mut W, bytes: &[u8]) -> io::Result<bool> {
+// Writes all the bytes. A write that takes none of those that are left is an error.
+fn write_all<W: Write>(out: &mut W, bytes: &[u8]) -> io::Result<()> {
     let mut rest = bytes;
     while !rest.is_empty() {
         let count = out.write(rest)?;
         if count == 0 {
-            return Ok(false);
+            return Err(io::Error::from(ErrorKind::WriteZero));
         }
         rest = &rest[count..];
     }
-    Ok(true)
+    Ok(())
 }
 
-// Memory may be wanting for a name, or in the system.
-fn is_want_of_memory(error: &io::Error) -> bool {
-    error.kind() == ErrorKind::OutOfMemory
+// What a call answers for an error: memory may be wanting for a name, or in the system; all else is counted as a failure.
+fn counted(error: &io::Error, failures: &mut u64) -> DeviceError
+    ensures cause { result ≡ DeviceError.Failed → Rose failures.old failures.new }
+    ensures later { failures.old ≤ failures.new }
+{
+    if error.kind() == ErrorKind::OutOfMemory {
+        return DeviceError::NoMemory;
+    }
+    *failures = failures.saturating_add(1);
+    DeviceError::Failed
 }
 
 impl<'a, R: std::rt::Files + AllocGlobal> Files for DiskFiles<'a, R> {
@@ -199,33 +184,21 @@ impl<'a, R: std::rt::Files + AllocGlobal> Files for DiskFiles<'a, R> {
     fn read(&mut self, name: &str, at: u64, buf: &mut [u8]) -> Result<usize, DeviceError> {
         match read_on(self.rt, &mut self.reading, name, at, buf) {
             Ok(count) => Ok(count),
-            Err(error) if is_want_of_memory(&error) => Err(DeviceError::NoMemory),
-            Err(_) => {
-                self.read_failures = self.read_failures.saturating_add(1);
-                Err(DeviceError::Failed)
-            }
+            Err(error) => Err(counted(&error, &mut self.read_failures)),
         }
     }
 
     fn create(&mut self, name: &str) -> Result<(), DeviceError> {
         match create_anew(self.rt, &mut self.writing, name) {
             Ok(()) => Ok(()),
-            Err(error) if is_want_of_memory(&error) => Err(DeviceError::NoMemory),
-            Err(_) => {
-                self.write_failures = self.write_failures.saturating_add(1);
-                Err(DeviceError::Failed)
-            }
+            Err(error) => Err(counted(&error, &mut self.write_failures)),
         }
     }
 
     fn append(&mut self, name: &str, bytes: &[u8]) -> Result<(), DeviceError> {
         match append_on(self.rt, &mut self.writing, name, bytes) {
-            Ok(true) => Ok(()),
-            Err(error) if is_want_of_memory(&error) => Err(DeviceError::NoMemory),
-            _ => {
-                self.write_failures = self.write_failures.saturating_add(1);
-                Err(DeviceError::Failed)
-            }
+            Ok(()) => Ok(()),
+            Err(error) => Err(counted(&error, &mut self.write_failures)),
         }
     }
 }
@@ -261,9 +234,9 @@ impl<'a, R: Print> Sink for StdSink<'a, R> {
     ghost wants = { λ _. 0 };
 
     fn put(&mut self, bytes: &[u8]) -> Result<(), DeviceError> {
-        match write_whole(&mut io::writer(self.rt), bytes) {
-            Ok(true) => Ok(()),
-            _ => {
+        match write_all(&mut io::writer(self.rt), bytes) {
+            Ok(()) => Ok(()),
+            Err(_) => {
                 self.failures = self.failures.saturating_add(1);
                 Err(DeviceError::Failed)
             }

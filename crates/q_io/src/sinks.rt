@@ -7,74 +7,6 @@ use q_logic::NoMemory;
 use std::alloc::Global;
 use std::marker::Model;
 
-/// A sink in memory, with planned faults.
-#[derive(Drop)]
-pub struct MemSink {
-    written: Vec<u8>,
-    planned: Vec<u64>,
-    puts: u64,
-    failures: u64,
-    wants: u64,
-}
-
-impl Model for MemSink {
-    ghost use Rattle.q_io.specs.Memory.{MemText};
-
-    ghost Value = { MemText };
-
-    ghost view = { λ s. record { text = s.written.items; faults = s.failures; wants = s.wants } };
-}
-
-impl MemSink {
-    pub fn new(alloc: Global) -> MemSink
-        ensures empty { result.text ≡ [] }
-        ensures counts { (result.faults ≡ 0) × (result.wants ≡ 0) }
-    {
-        MemSink {
-            written: Vec::new(alloc),
-            planned: Vec::new(alloc),
-            puts: 0,
-            failures: 0,
-            wants: 0,
-        }
-    }
-
-    /// The `nth` put fails, counted from 1, and puts nothing.
-    pub fn fail_at(&mut self, nth: u64) -> Result<(), NoMemory>
-        ensures { self.new ≡ self.old }
-    {
-        self.planned.push(nth)?;
-        Ok(())
-    }
-
-    pub fn bytes(&self) -> &[u8]
-        ensures { result.now ≡ self.now.text }
-    {
-        &self.written
-    }
-}
-
-impl Sink for MemSink {
-    ghost written = { λ s. Some s.text };
-
-    ghost faults = { λ s. s.faults };
-
-    ghost wants = { λ s. s.wants };
-
-    fn put(&mut self, bytes: &[u8]) -> Result<(), DeviceError> {
-        self.puts = self.puts.saturating_add(1);
-        if self.planned.contains(&self.puts) {
-            self.failures = self.failures.saturating_add(1);
-            return Err(DeviceError::Failed);
-        }
-        if self.written.extend_from_slice(bytes).is_err() {
-            self.wants = self.wants.saturating_add(1);
-            return Err(DeviceError::NoMemory);
-        }
-        Ok(())
-    }
-}
-
 /// A sink in memory that never fails.
 #[derive(Drop)]
 pub struct SteadySink {
@@ -120,5 +52,67 @@ impl Sink for SteadySink {
             return Err(DeviceError::NoMemory);
         }
         Ok(())
+    }
+}
+
+/// A sink in memory, with planned faults.
+#[derive(Drop)]
+pub struct MemSink {
+    sink: SteadySink,
+    planned: Vec<u64>,
+    puts: u64,
+    failures: u64,
+}
+
+impl Model for MemSink {
+    ghost use Rattle.q_io.specs.Memory.{MemText};
+
+    ghost Value = { MemText };
+
+    ghost view = { λ s. record { text = s.sink.text; faults = s.failures; wants = s.sink.wants } };
+}
+
+impl MemSink {
+    pub fn new(alloc: Global) -> MemSink
+        ensures empty { result.text ≡ [] }
+        ensures counts { (result.faults ≡ 0) × (result.wants ≡ 0) }
+    {
+        MemSink {
+            sink: SteadySink::new(alloc),
+            planned: Vec::new(alloc),
+            puts: 0,
+            failures: 0,
+        }
+    }
+
+    /// The `nth` put fails, counted from 1, and puts nothing.
+    pub fn fail_at(&mut self, nth: u64) -> Result<(), NoMemory>
+        ensures { self.new ≡ self.old }
+    {
+        self.planned.push(nth)?;
+        Ok(())
+    }
+
+    pub fn bytes(&self) -> &[u8]
+        ensures { result.now ≡ self.now.text }
+    {
+        self.sink.bytes()
+    }
+}
+
+impl Sink for MemSink {
+    ghost written = { λ s. Some s.text };
+
+    ghost faults = { λ s. s.faults };
+
+    ghost wants = { λ s. s.wants };
+
+    fn put(&mut self, bytes: &[u8]) -> Result<(), DeviceError> {
+        self.puts = self.puts.saturating_add(1);
+        if self.planned.contains(&self.puts) {
+            self.failures = self.failures.saturating_add(1);
+            return Err(DeviceError::Failed);
+        }
+        self.sink.put(bytes)
     }
 }

@@ -1,6 +1,6 @@
-ghost use Rattle.std.specs.Prelude.{◌≡◌, List, ℕ, option_copied, OnOk, OnErr, Some};
+ghost use Rattle.std.specs.Prelude.{◌≡◌, ◌-◌, List, ℕ, length, min, option_copied, IfOk, OnOk, OnErr, Ok, Some};
 ghost use Rattle.std.specs.FinMap as map;
-ghost use Rattle.q_io.specs.Files.{Disk, OthersStay};
+ghost use Rattle.q_io.specs.Files.{Disk, OthersStay, Reads, bytes_at};
 
 use crate::error::DeviceError;
 use crate::files::Files;
@@ -66,7 +66,11 @@ impl Files for SteadyFiles {
 
     ghost write_faults = { λ _ _. 0 };
 
-    fn read(&mut self, name: &str, at: u64, buf: &mut [u8]) -> Result<usize, DeviceError> {
+    fn read(&mut self, name: &str, at: u64, buf: &mut [u8]) -> Result<usize, DeviceError>
+        ensures count { result ≡ Ok (min (length buf.old) (length (bytes_at self.old name.now) - at)) }
+        ensures bytes { IfOk result (λ n. Reads self.old name.now at buf.old buf.new n) }
+        ensures held { self.new ≡ self.old }
+    {
         let Some(bytes) = self.names.get(name) else {
             return Ok(0);
         };

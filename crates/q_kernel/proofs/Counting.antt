@@ -12,6 +12,7 @@ use Rattle.q_logic.specs.Steps.{insert_after, removed_from}
 use Rattle.q_logic.specs.Sweep.{occurs, occurring}
 use Rattle.q_logic.specs.Measure.{one_if, existentials_in, universals_in}
 use Rattle.q_logic.specs.InLimits.{greatest, larger_of}
+use Rattle.q_logic.proofs.Decided.{and-parts, and-both}
 use Rattle.q_arena.specs.Rings.{Has, AreApart, AreBelow, without}
 use Rattle.q_arena.proofs.Numbers.{ℕ-cases}
 use Rattle.q_arena.proofs.Paths.{Misses-not, Misses-from}
@@ -75,14 +76,6 @@ of_quant q (b ∷ P) v = cond (eqb b.var v) (q b.quant) (of_quant q P v)
 abbrev picked : (Quant → Bool) → (ℕ → Bool) → Bound → Bool
 picked q occ b = q b.quant && occ b.var
 
-and-both : (a b : Bool) → (a && b) ≡ true → (a ≡ true) × (b ≡ true)
-and-both true b h = (refl, h)
-and-both false b h = grind arith
-
-both-and : (a b : Bool) → a ≡ true → b ≡ true → (a && b) ≡ true
-both-and true b h k = k
-both-and false b h k = grind arith
-
 of_quant-bound : (q : Quant → Bool) (P : Prefix) (v : ℕ) → of_quant q P v ≡ true → is_bound P v ≡ true
 of_quant-bound q [] v h = grind arith
 of_quant-bound q (b ∷ P) v h = go (eqb b.var v) h (of_quant-bound q P v)
@@ -105,14 +98,14 @@ chosen-members q occ (b ∷ P) d v = go (picked q occ b) refl (chosen-members q 
     later r = (ap (λ (t : Bool). cond t (q b.quant) (of_quant q P v)) (other (of_quant-bound q P v r.0)) ∙ r.0, r.1)
 
     here : v ≡ b.var → picked q occ b ≡ true → (of_quant q (b ∷ P) v ≡ true) × (occ v ≡ true)
-    here e p = let r : (q b.quant ≡ true) × (occ b.var ≡ true) = and-both (q b.quant) (occ b.var) p in
+    here e p = let r : (q b.quant ≡ true) × (occ b.var ≡ true) = and-parts (q b.quant) (occ b.var) p in
         let t : eqb b.var v ≡ true = grind (arith, nat_tests) in
         (ap (λ (t : Bool). cond t (q b.quant) (of_quant q P v)) t ∙ r.0, ap occ e ∙ r.1)
 
     back : (of_quant q (b ∷ P) v ≡ true) × (occ v ≡ true) → ((v ≡ b.var) × (picked q occ b ≡ true)) ⊎ ((of_quant q P v ≡ true) × (occ v ≡ true))
     back r = elim (ℕ-cases b.var v) [
       | inl e ↦ let t : eqb b.var v ≡ true = grind (arith, nat_tests) in
-          inl (sym e, both-and (q b.quant) (occ b.var) (sym (ap (λ (t : Bool). cond t (q b.quant) (of_quant q P v)) t) ∙ r.0) (ap occ e ∙ r.1))
+          inl (sym e, and-both (q b.quant) (occ b.var) (sym (ap (λ (t : Bool). cond t (q b.quant) (of_quant q P v)) t) ∙ r.0) (ap occ e ∙ r.1))
       | inr n ↦ let t : eqb b.var v ≡ false = grind (arith, nat_tests) in
           inr (sym (ap (λ (t : Bool). cond t (q b.quant) (of_quant q P v)) t) ∙ r.0, r.1)
     ]

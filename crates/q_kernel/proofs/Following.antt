@@ -1,5 +1,5 @@
 -- Walks along the list of a literal, from its first place by the next one; and who owns a place.
-use Rattle.std.proofs.Common.{◌≡◌, ◌≢◌, ◌⊎◌, ℕ, suc, ◌+◌, ◌≤◌, ◌<◌, true, get_or, if◌then◌else◌, ◌==◌, List, [], ◌∷◌, ◌++◌, length, slice_get, Option, None, Some, refl, sym, ◌∙◌, ap, subst, inl, inr, arith}
+use Rattle.std.proofs.Common.{◌≡◌, ◌≢◌, ◌⊎◌, ℕ, ◌+◌, ◌≤◌, ◌<◌, true, get_or, if◌then◌else◌, ◌==◌, List, [], ◌∷◌, ◌++◌, length, slice_get, Option, None, Some, refl, sym, ◌∙◌, ap, subst, inl, inr, arith}
 use Rattle.std.proofs.lemmas.Bool.Decides.{nat_tests}
 use Rattle.q_logic.specs.Literals.{Literal}
 use Rattle.q_logic.specs.Formulas.{Clause, IsIn}
@@ -10,8 +10,9 @@ use Rattle.q_arena.specs.Chains.{Chains, following}
 use Rattle.q_occ.specs.Places.{AreExact, IsPlaceIn, places_of, no_lit}
 use Rattle.q_arena.proofs.Numbers.{ℕ-cases}
 use Rattle.q_arena.proofs.Paths.{Misses-not}
-use Rattle.q_occ.proofs.Walks.{following-has}
+use Rattle.q_arena.proofs.Following.{following-here, following-later, following-has}
 use Rattle.q_kernel.proofs.Slotting.{slot-get}
+use Rattle.q_kernel.proofs.Occurring.{IsIn-get}
 
 -- the places before one
 abbrev pub upto : ℕ → List ℕ → List ℕ
@@ -28,12 +29,6 @@ upto-here p y ys e = grind (arith, nat_tests)
 
 upto-later : (p y : ℕ) (ys : List ℕ) → y ≢ p → upto p (y ∷ ys) ≡ y ∷ upto p ys
 upto-later p y ys n = grind (arith, nat_tests)
-
-following-here : (p y : ℕ) (ys : List ℕ) → y ≡ p → following p (y ∷ ys) ≡ slice_get ys 0
-following-here p y ys e = grind (arith, nat_tests)
-
-following-later : (p y : ℕ) (ys : List ℕ) → y ≢ p → following p (y ∷ ys) ≡ following p ys
-following-later p y ys n = grind (arith, nat_tests)
 
 pub passed-none : (ys : List ℕ) → passed (slice_get ys 0) ys ≡ []
 passed-none [] = refl
@@ -76,16 +71,10 @@ Has-last p q [] h = elim h [ inl e ↦ inr e | inr n ↦ absurd n ]
 Has-last p q (y ∷ ys) (inl e) = inl (inl e)
 Has-last p q (y ∷ ys) (inr h) = elim (Has-last p q ys h) [ inl a ↦ inl (inr a) | inr e ↦ inr e ]
 
--- Where a literal stands in its clause.
-literal-place : (C : Clause) (l : Literal) → IsIn l C → (k : ℕ) × (k < length C) × (get_or C k no_lit ≡ l)
-literal-place [] l m = absurd m
-literal-place (j ∷ C) l (inl e) = (0, omega arith, sym e)
-literal-place (j ∷ C) l (inr m) = let r = literal-place C l m in (suc r.0, (let h = r.1 in omega arith), r.2)
-
 -- Clauses that stand apart share no place, so each owns the places of its literals.
 pub owned-place : (o : Chains) (a : Clauses) → AreExact o a (λ c. true) → ((i j : ℕ) (c d : Clause) → clause_at a i ≡ Some c → clause_at a j ≡ Some d → i ≢ j → (start_at a i + length c ≤ start_at a j) ⊎ (start_at a j + length d ≤ start_at a i)) → (id : ℕ) (l : Literal) (C : Clause) → slot a.clauses id ≡ Some C → IsIn l C → (p : ℕ) × Has (places_of o l) p × (get_or o.owners p 0 ≡ id)
 owned-place o a exact apart id l C e m =
-    let k = literal-place C l m in
+    let k = IsIn-get C l no_lit m in
     let p = start_at a id + k.0 in
     let there : clause_at a id ≡ Some C = sym (slot-get a.clauses id) ∙ e in
     let here : IsPlaceIn a id l p = record { clause = C; live = there; at_index = k.0; in_range = k.1; is = refl; of = k.2 } in

@@ -1,9 +1,6 @@
 -- Clauses that are put under the ids 0, 1, 2 and so on, and clauses that are gathered by ascending id.
-use Rattle.std.proofs.Common.{◌≡◌, ◌≢◌, ◌⊎◌, ◌≤◌, ◌<◌, ◌+◌, ◌-◌, ℕ, zero, suc, List, [], ◌∷◌, ◌++◌, length, take, drop, get_or, inl, inr, arith, refl, sym, ap, ◌∙◌, subst, Option, Some, None, add-one, not-suc-le-zero, le_of_suc-le-suc}
-use Rattle.std.specs.Prelude.{slice_range}
-use Rattle.q_logic.specs.Literals.{Literal}
+use Rattle.std.proofs.Common.{◌≡◌, ◌≢◌, ◌⊎◌, ◌≤◌, ◌<◌, ◌+◌, ℕ, zero, suc, [], ◌∷◌, ◌++◌, length, take, get_or, inl, inr, arith, refl, sym, ap, ◌∙◌, subst, Option, Some, None, add-one, not-suc-le-zero, le_of_suc-le-suc}
 use Rattle.q_logic.specs.Formulas.{Clause, Matrix}
-use Rattle.q_logic.specs.Parts.{AreEnds, clauses_between}
 use Rattle.q_logic.specs.Numbered.{Slots, slot, set_slot, live, numbered, put_first}
 use Rattle.q_arena.proofs.Numbers.{ℕ-cases}
 use Rattle.q_kernel.proofs.Slotting.{slot-set_same, slot-set_other, live-same, live-numbered}
@@ -93,69 +90,3 @@ gathered-all N zero n = gathered-none N ∙ sym (live-no N (λ c. n c (omega ari
     live-no N h = live-same N [] h
 gathered-all [] (suc from) n = refl
 gathered-all (o ∷ N) (suc from) n = ap (put_first o) (gathered-all N from (λ c h. n (suc c) (omega arith)))
-
--- One clause more at the end of the parts of a formula.
-ends-low : (from : ℕ) (ends : List ℕ) (n : ℕ) → AreEnds from ends n → from ≤ n
-ends-low from [] n h = let z : from ≡ n = h in omega arith
-ends-low from (e ∷ ends) n h = let i : e ≤ n = ends-low e ends n h.1 in let k : from ≤ e = h.0 in omega arith
-
-pub ends-push : (from : ℕ) (ends : List ℕ) (n m : ℕ) → AreEnds from ends n → n ≤ m → AreEnds from (ends ++ m ∷ []) m
-ends-push from [] n m h k = let z : from ≡ n = h in (omega arith, refl)
-ends-push from (e ∷ ends) n m h k = (h.0, ends-push e ends n m h.1 k)
-
-take-front : {X : Type 0} (xs ys : List X) (n : ℕ) → n ≤ length xs → take n (xs ++ ys) ≡ take n xs
-take-front xs ys zero h = refl
-take-front [] ys (suc n) h = absurd (omega arith)
-take-front (x ∷ xs) ys (suc n) h = ap (λ (zs : List _). x ∷ zs) (take-front xs ys n (omega arith))
-
-take-all : {X : Type 0} (xs : List X) → take (length xs) xs ≡ xs
-take-all [] = refl
-take-all (x ∷ xs) = ap (λ (zs : List _). x ∷ zs) (take-all xs)
-
-drop-front : {X : Type 0} (xs ys : List X) → drop (length xs) (xs ++ ys) ≡ ys
-drop-front [] ys = refl
-drop-front (x ∷ xs) ys = drop-front xs ys
-
-pub length-both : {X : Type 0} (xs ys : List X) → length (xs ++ ys) ≡ length xs + length ys
-length-both [] ys = omega arith
-length-both (x ∷ xs) ys = let i : length (xs ++ ys) ≡ length xs + length ys = length-both xs ys in omega arith
-
-last-range : (lits more : List Literal) → slice_range (lits ++ more) (length lits) (length (lits ++ more)) ≡ more
-last-range lits more = let n : length (lits ++ more) - length lits ≡ length more = (let e = length-both lits more in omega (arith, e)) in rw (n, drop-front lits more) (take-all more)
-
-early : (xs ys : List Literal) (i n : ℕ) → (n ≡ 0) ⊎ (i + n ≤ length xs) → take n (drop i (xs ++ ys)) ≡ take n (drop i xs)
-early xs ys i n (inl e) = rw e refl
-early xs ys zero n (inr h) = take-front xs ys n (omega arith)
-early [] ys (suc i) n (inr h) = absurd (omega arith)
-early (x ∷ xs) ys (suc i) n (inr h) = early xs ys i n (inr (omega arith))
-
-within : (n i j : ℕ) → j ≤ n → (j - i ≡ 0) ⊎ (i + (j - i) ≤ n)
-within n zero j h = inr (omega arith)
-within n (suc i) zero h = inl (omega arith)
-within zero (suc i) (suc j) h = absurd (omega arith)
-within (suc n) (suc i) (suc j) h = elim (within n i j (omega arith)) [
-  | inl e ↦ inl (omega arith)
-  | inr k ↦ inr (omega arith)
-]
-
-pub clauses-push : (lits more : List Literal) (from : ℕ) (ends : List ℕ) → AreEnds from ends (length lits) → clauses_between (lits ++ more) from (ends ++ length (lits ++ more) ∷ []) ≡ clauses_between lits from ends ++ more ∷ []
-clauses-push lits more from [] h = let e : from ≡ length lits = h in rw e (ap (λ (C : Clause). C ∷ []) (last-range lits more))
-clauses-push lits more from (e ∷ ends) h =
-    let r : slice_range (lits ++ more) from e ≡ slice_range lits from e = early lits more from (e - from) (within (length lits) from e (ends-low e ends (length lits) h.1)) in
-    let i = clauses-push lits more e ends h.1 in
-    rw (r, i) refl
-
--- the parts so far, and one clause more
-pub record AreGathered (N : Slots) (from : ℕ) (lits : List Literal) (ends : List ℕ) : Type 0 where
-  pub in_order : AreEnds 0 ends (length lits)
-  pub clauses : clauses_between lits 0 ends ≡ live (take from N)
-
-pub gathered-push : (N : Slots) (from id : ℕ) (C : Clause) (lits more : List Literal) (ends last : List ℕ) (n : ℕ) → AreGathered N from lits ends → from ≤ id → ((c : ℕ) → from ≤ c → c < id → slot N c ≡ None) → slot N id ≡ Some C
-    → more ≡ lits ++ C → n ≡ length more → last ≡ ends ++ n ∷ [] → AreGathered N (id + 1) more last
-gathered-push N from id C lits more ends last n g f none e em en el =
-    let e' : last ≡ ends ++ length (lits ++ C) ∷ [] = el ∙ ap (λ (m : ℕ). ends ++ m ∷ []) (en ∙ ap length em) in
-    let long : length lits ≤ length (lits ++ C) = let b = length-both lits C in omega arith in
-    record {
-      in_order = subst (λ (es : List ℕ). AreEnds 0 es (length more)) (sym e') (subst (λ (ls : List Literal). AreEnds 0 (ends ++ length (lits ++ C) ∷ []) (length ls)) (sym em) (ends-push 0 ends (length lits) (length (lits ++ C)) g.in_order long));
-      clauses = ap (λ (ls : List Literal). clauses_between ls 0 last) em ∙ ap (clauses_between (lits ++ C) 0) e' ∙ clauses-push lits C 0 ends g.in_order ∙ ap (λ (X : Matrix). X ++ C ∷ []) g.clauses ∙ sym (gathered-more N from id C f none e);
-    }

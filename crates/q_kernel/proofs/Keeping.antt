@@ -1,6 +1,5 @@
 -- What holds of a kernel stays when a clause comes, goes or is shortened.
 use Rattle.std.proofs.Common.{◌≡◌, ◌≢◌, ◌⊎◌, ◌≤◌, ◌<◌, ◌+◌, ◌-◌, ◌*◌, ℕ, Bool, true, false, ◌&&◌, ◌||◌, if◌then◌else◌, [], ◌∷◌, length, set, inl, inr, arith, refl, sym, ap, ◌∙◌, subst, Option, Some, None, true≢false}
-use Rattle.std.specs.List.{AllByRecursion}
 use Rattle.q_logic.specs.Literals.{Literal, IsBelow, pack}
 use Rattle.q_logic.specs.Formulas.{Clause, Matrix, Prefix, IsIn}
 use Rattle.q_logic.specs.Parts.{ArePairs, IsProper}
@@ -17,8 +16,7 @@ use Rattle.q_logic.proofs.Slots.{slot-alike}
 use Rattle.q_arena.specs.Chains.{Chains}
 use Rattle.q_arena.specs.Rings.{Has}
 use Rattle.q_arena.specs.Seen.{Clauses}
-use Rattle.q_arena.proofs.Numbers.{ℕ-cases}
-use Rattle.q_arena.proofs.Pieces.{none-some, Some-same}
+use Rattle.q_arena.proofs.Numbers.{ℕ-cases, some-same, none-some}
 use Rattle.q_occ.specs.Places.{places_of, KeepsRoom}
 use Rattle.q_prefix.specs.Order.{FlatPrefix}
 use Rattle.q_kernel.specs.Uses.{Groups, AreUses, with_occurring}
@@ -26,19 +24,13 @@ use Rattle.q_kernel.specs.Listing.{is_listed, with_clause, without_clause}
 use Rattle.q_kernel.specs.Linking.{AreLinked, HasLists}
 use Rattle.q_kernel.specs.Invariant.{IsRoomy, IsCounted, IsKernel, empty_ones}
 use Rattle.q_kernel.specs.Singles.{unit_ones}
-use Rattle.q_kernel.proofs.Slotting.{set_slot-set, length-set_slot, slot-below, slot-set_same, slot-set_other, IsIn-slot, slot-IsIn, alike-added, alike-replaced, live-same, live-gone, length-added, size-added, units-added, length-gone, size-gone, units-gone, length-replaced, size-replaced, units-replaced}
+use Rattle.q_kernel.proofs.Slotting.{same-bool, set_slot-set, length-set_slot, slot-below, slot-set_same, slot-set_other, IsIn-slot, slot-IsIn, alike-added, alike-replaced, live-same, live-gone, length-added, size-added, units-added, length-gone, size-gone, units-gone, length-replaced, size-replaced, units-replaced}
 use Rattle.q_kernel.proofs.Occurring.{place-occurs, clause-place, occurs-added, occurs-replaced, occurs-beside, has_variable-without}
 use Rattle.q_kernel.proofs.Listing.{has-listed, listed-has}
 use Rattle.q_kernel.proofs.Using.{uses-same, occurring-here, occurring-other}
-use Rattle.q_kernel.proofs.Leading.{without-in_order}
+use Rattle.q_kernel.proofs.Leading.{all-members, without-in_order}
 
 -- The lists tell which variables occur.
-same-bool : (a b : Bool) → (a ≡ true → b ≡ true) → (b ≡ true → a ≡ true) → a ≡ b
-same-bool true true f g = refl
-same-bool false false f g = refl
-same-bool true false f g = sym (f refl)
-same-bool false true f g = g refl
-
 pub listed-occurs : (o : Chains) (a : Clauses) → AreLinked o a → (v : ℕ) → is_listed o v ≡ occurs v (live a.clauses)
 listed-occurs o a x v = same-bool (is_listed o v) (occurs v (live a.clauses)) over back
   where
@@ -71,15 +63,11 @@ member-cases N id d D m =
     ]
 
 -- The formula stays a proper one.
-each-in : (R : Clause → Type 0) (X : Matrix) → ((D : Clause) → IsIn D X → R D) → AllByRecursion R X
-each-in R [] f = tt
-each-in R (D ∷ X) f = (f D (inl refl), each-in R X (λ E m. f E (inr m)))
-
 pub proper-clauses : (P : Prefix) (X Y : Matrix) → IsProper (formula_of P X) → ((D : Clause) → IsIn D Y → ArePairs IsBelow D × Within P D) → IsProper (formula_of P Y)
 proper-clauses P X Y p f = record {
   formula = record { distinct = p.formula.distinct; closed = λ D m k i. (f D m).1 k i };
   ranges = p.ranges;
-  ordered = each-in (ArePairs IsBelow) Y (λ D m. (f D m).0);
+  ordered = all-members (ArePairs IsBelow) Y (λ D m. (f D m).0);
 }
 
 pub clause-proper : (P : Prefix) (X : Matrix) (D : Clause) → IsProper (formula_of P X) → IsIn D X → ArePairs IsBelow D × Within P D
@@ -246,7 +234,7 @@ module _ (P : FlatPrefix) (a : Clauses) (o : Chains) (g : Groups) (n s e u t mos
     kernel-put C z il ec ord win us =
         let es : b.clauses ≡ set_slot id (Some C) a.clauses = changed-slots a b id (Some C) ec in
         record {
-          proper = subst (λ (N : Slots). IsProper (formula_of P.bounds (live N))) (sym es) (proper-set P.bounds a.clauses id (Some C) k.proper (λ D d. subst (λ (E : Clause). ArePairs IsBelow E × Within P.bounds E) (Some-same C D d) (ord, win)));
+          proper = subst (λ (N : Slots). IsProper (formula_of P.bounds (live N))) (sym es) (proper-set P.bounds a.clauses id (Some C) k.proper (λ D d. subst (λ (E : Clause). ArePairs IsBelow E × Within P.bounds E) (some-same C D d) (ord, win)));
           linked = y;
           roomy = changed-roomy;
           grouped = grouped-added h P.bounds o q a b k.linked y id C z il es (us (is_listed o) k.grouped);
@@ -274,7 +262,7 @@ module _ (P : FlatPrefix) (a : Clauses) (o : Chains) (g : Groups) (n s e u t mos
         let es : b.clauses ≡ set_slot id (Some D) a.clauses = changed-slots a b id (Some D) ec in
         let w = clause-proper P.bounds (live a.clauses) C k.proper (slot-IsIn a.clauses id C z) in
         record {
-          proper = subst (λ (N : Slots). IsProper (formula_of P.bounds (live N))) (sym es) (proper-set P.bounds a.clauses id (Some D) k.proper (λ E d. subst (λ (F : Clause). ArePairs IsBelow F × Within P.bounds F) (Some-same D E d) (without-in_order l C w.0, λ j i. w.1 j (without-IsIn l C j i))));
+          proper = subst (λ (N : Slots). IsProper (formula_of P.bounds (live N))) (sym es) (proper-set P.bounds a.clauses id (Some D) k.proper (λ E d. subst (λ (F : Clause). ArePairs IsBelow F × Within P.bounds F) (some-same D E d) (without-in_order l C w.0, λ j i. w.1 j (without-IsIn l C j i))));
           linked = y;
           roomy = changed-roomy;
           grouped = grouped-shorter h P.bounds o q a b k.linked y id C l m z es (us (is_listed o) k.grouped);

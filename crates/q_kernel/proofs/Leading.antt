@@ -13,7 +13,7 @@ use Rattle.q_logic.specs.Prefixes.{IsFormula}
 use Rattle.q_logic.specs.Propagation.{Implied}
 use Rattle.q_logic.specs.Limits.{standard}
 use Rattle.q_logic.specs.Steps.{ProofStep, add, delete, drop_literal, fresh, remove_variable, Valid, after, KeepsLimits, clause_eq, one_less, insert_after, removed_from, literals_in}
-use Rattle.q_logic.specs.Runs.{ValidSteps, copies}
+use Rattle.q_logic.specs.Runs.{ValidSteps, copies, AreAlike}
 use Rattle.q_logic.specs.Numbered.{Slots, slot, set_slot, live, formula_of}
 use Rattle.q_logic.proofs.Justified.{Justified, Valid-justified}
 use Rattle.q_logic.proofs.Reaching.{SameClauses, alike-refl, alike-sym, alike-trans, alike-cons, one_less-same, one_less-alike, IsIn-alike, IsIn-copies, valid-alike, alike-uncons}
@@ -23,12 +23,12 @@ use Rattle.q_logic.proofs.Parts.{AllByRecursion-IsIn}
 use Rattle.q_logic.proofs.Ordering.{pairs-ordered, ordered-pairs, without-ordered}
 use Rattle.q_logic.proofs.Implying.{implied-subsumed}
 use Rattle.q_logic.proofs.Sets.{without-other}
-use Rattle.q_logic.proofs.Clauses.{literal_eq-itself}
+use Rattle.q_logic.proofs.ClauseLemmas.{literal_eq-itself}
 use Rattle.q_logic.proofs.UniversalPivot.{without-IsIn}
 use Rattle.q_logic.proofs.Heights.{length-one_less, literals-one_less}
 use Rattle.q_log.specs.Texts.{IsLogged, step_text, steps_text}
 use Rattle.q_kernel.specs.Kernels.{Seen, slots, formula_in, SameView}
-use Rattle.q_kernel.specs.Changes.{AreAlike, IsLed}
+use Rattle.q_kernel.specs.Changes.{IsLed}
 use Rattle.q_kernel.proofs.Slotting.{slot-below, slot-IsIn, alike-added, alike-deleted, alike-changed, length-set_slot}
 
 -- Alike formulas.
@@ -229,7 +229,7 @@ IsOrderedStep (drop_literal l C) = Unit {0}
 IsOrderedStep (fresh v w) = Unit {0}
 IsOrderedStep (remove_variable v) = Unit {0}
 
-all-members : {X : Type 0} (R : X → Type 0) (xs : List X) → ((x : X) → IsIn x xs → R x) → AllByRecursion R xs
+pub all-members : {X : Type 0} (R : X → Type 0) (xs : List X) → ((x : X) → IsIn x xs → R x) → AllByRecursion R xs
 all-members R [] h = tt
 all-members R (x ∷ xs) h = (h x (inl refl), all-members R xs (λ y m. h y (inr m)))
 

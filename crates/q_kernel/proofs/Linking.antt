@@ -1,5 +1,5 @@
 -- The lists stay exact while a clause comes, goes or moves.
-use Rattle.std.proofs.Common.{◌≡◌, ◌≢◌, ◌⊎◌, ℕ, zero, suc, ◌+◌, ◌<◌, ◌≤◌, Bool, true, false, cond, List, [], ◌∷◌, length, get_or, set, Option, None, Some, refl, sym, ◌∙◌, ap, subst, inl, inr, arith, true≢false}
+use Rattle.std.proofs.Common.{◌≡◌, ◌≢◌, ◌⊎◌, ℕ, suc, ◌+◌, ◌<◌, ◌≤◌, Bool, true, false, cond, List, [], ◌∷◌, length, get_or, set, Option, None, Some, refl, sym, ◌∙◌, ap, subst, inl, inr, arith, true≢false}
 use Rattle.std.proofs.lemmas.List.{get_or-set_same, get_or-set_other, get_or_past}
 use Rattle.std.proofs.lemmas.Bool.{cases_lt}
 use Rattle.std.proofs.lemmas.Bool.Decides.{nat_tests}
@@ -12,10 +12,10 @@ use Rattle.q_logic.proofs.Codes.{pack_unpack}
 use Rattle.q_arena.specs.Chains.{Chains, list_at, HasSameLists, HasSameOwners}
 use Rattle.q_arena.specs.Rings.{Has}
 use Rattle.q_arena.specs.Seen.{Clauses, clause_at, start_at, AreSameClauses}
-use Rattle.q_arena.proofs.Numbers.{ℕ-cases}
-use Rattle.q_arena.proofs.Pieces.{none-some, Some-same}
+use Rattle.q_arena.proofs.Numbers.{ℕ-cases, some-same, none-some}
 use Rattle.q_occ.specs.Places.{places_of, no_lit, IsPlaceIn, AreExact, with_linked, IsUnlinked, IsLinked, IsReserved, KeepsRoom}
 use Rattle.q_kernel.specs.Linking.{AreLinked, AreLinkedBut, HasLists}
+use Rattle.q_kernel.proofs.Occurring.{get-IsIn}
 
 -- Which clauses are linked.
 but-here : (id i : ℕ) → i ≡ id → with_linked id false (λ j. true) i ≡ false
@@ -74,11 +74,6 @@ IsIn-index l [] m = elim m [ ]
 IsIn-index l (k ∷ C) (inl e) = (0, omega arith, sym e)
 IsIn-index l (k ∷ C) (inr m) = let r : (i : ℕ) × (i < length C) × (get_or C i no_lit ≡ l) = IsIn-index l C m in (suc r.0, omega (arith, r.1), r.2)
 
-pub index-IsIn : (C : Clause) (k : ℕ) → k < length C → IsIn (get_or C k no_lit) C
-index-IsIn [] k h = absurd (omega arith)
-index-IsIn (l ∷ C) zero h = inl refl
-index-IsIn (l ∷ C) (suc k) h = inr (index-IsIn C k (omega arith))
-
 pub has-list : (o : Chains) (l : Literal) (p : ℕ) → Has (places_of o l) p → pack l < length o.lists
 has-list o l p h = elim (cases_lt (pack l) (length o.lists)) [
   | inl lt ↦ lt
@@ -92,8 +87,8 @@ clause-place a id C l e m =
 
 pub place-IsIn : (a : Clauses) (id : ℕ) (C : Clause) (l : Literal) (p : ℕ) → clause_at a id ≡ Some C → IsPlaceIn a id l p → IsIn l C
 place-IsIn a id C l p e w =
-    let s : w.clause ≡ C = Some-same w.clause C (sym w.live ∙ e) in
-    subst (λ (D : Clause). IsIn l D) s (subst (λ (k : Literal). IsIn k w.clause) w.of (index-IsIn w.clause w.at_index w.in_range))
+    let s : w.clause ≡ C = some-same w.clause C (sym w.live ∙ e) in
+    subst (λ (D : Clause). IsIn l D) s (subst (λ (k : Literal). IsIn k w.clause) w.of (get-IsIn w.clause w.at_index no_lit w.in_range))
 
 pub has-lists : (o : Chains) (a : Clauses) (id : ℕ) (C : Clause) → AreLinked o a → clause_at a id ≡ Some C → HasLists o C
 has-lists o a id C x e l m =

@@ -14,7 +14,7 @@ use Rattle.q_arena.specs.Rings.{Has}
 use Rattle.q_arena.specs.Chains.{Chains}
 use Rattle.q_arena.specs.Seen.{Clauses, start_at}
 use Rattle.q_occ.specs.Places.{no_lit, places_of, IsPlaceIn, AreExact}
-use Rattle.q_kernel.proofs.Slotting.{slot-get, IsIn-slot, slot-IsIn, alike-added, alike-replaced}
+use Rattle.q_kernel.proofs.Slotting.{same-bool, slot-get, IsIn-slot, slot-IsIn, alike-added, alike-replaced}
 
 -- A literal at a place of a clause is one of its literals, and the other way round.
 pub get-IsIn : (C : Clause) (i : ℕ) (d : Literal) → i < length C → IsIn (get_or C i d) C
@@ -74,17 +74,11 @@ module _ (o : Chains) (a : Clauses) (x : AreAll o a) where
 
 -- Variables occur by the clauses alone, and not by their order.
 pub occurs-alike : (v : ℕ) (X Y : Matrix) → SameClauses X Y → occurs v X ≡ occurs v Y
-occurs-alike v X Y s = go (occurs v X) refl (occurs v Y) refl
+occurs-alike v X Y s = same-bool (occurs v X) (occurs v Y) (over X Y s) (over Y X (alike-sym X Y s))
   where
     over : (A B : Matrix) → SameClauses A B → occurs v A ≡ true → occurs v B ≡ true
     over A B t h = let r : (D : Clause) × (k : Literal) × IsIn D A × IsIn k D × (k.var ≡ v) = occurs_var-find v A h in
         subst (λ (w : ℕ). occurs w B ≡ true) r.4 (occurs_var-IsIn B r.0 r.1 (IsIn-alike A B t r.0 r.2) r.3)
-
-    go : (b : Bool) → occurs v X ≡ b → (c : Bool) → occurs v Y ≡ c → b ≡ c
-    go true p true q = refl
-    go false p false q = refl
-    go true p false q = absurd (true≢false (sym (over X Y s p) ∙ q))
-    go false p true q = absurd (true≢false (sym (over Y X (alike-sym X Y s) q) ∙ p))
 
 pub occurs-added : (v : ℕ) (N : Slots) (c : ℕ) (D : Clause) → slot N c ≡ None → c < length N → occurs v (live (set_slot c (Some D) N)) ≡ (has_variable v D || occurs v (live N))
 occurs-added v N c D h b = occurs-alike v (live (set_slot c (Some D) N)) (D ∷ live N) (alike-added N c D h b)
@@ -113,7 +107,7 @@ other-literal : (k l : Literal) → k.var ≢ l.var → literal_eq k l ≡ false
 other-literal k l n = let e : eqb k.var l.var ≡ false = grind (arith, nat_tests) in ap (λ (b : Bool). b && bool_eq k.negative l.negative) e
 
 pub has_variable-without : (v : ℕ) (l : Literal) (C : Clause) → v ≢ l.var → has_variable v (without l C) ≡ has_variable v C
-has_variable-without v l C n = go (has_variable v (without l C)) refl (has_variable v C) refl
+has_variable-without v l C n = same-bool (has_variable v (without l C)) (has_variable v C) back over
   where
     over : has_variable v C ≡ true → has_variable v (without l C) ≡ true
     over h = let r : (k : Literal) × IsIn k C × (k.var ≡ v) = has_variable-find v C h in
@@ -123,9 +117,3 @@ has_variable-without v l C n = go (has_variable v (without l C)) refl (has_varia
     back : has_variable v (without l C) ≡ true → has_variable v C ≡ true
     back h = let r : (k : Literal) × IsIn k (without l C) × (k.var ≡ v) = has_variable-find v (without l C) h in
         subst (λ (w : ℕ). has_variable w C ≡ true) r.2 (has_variable-IsIn C r.0 (without-IsIn l C r.0 r.1))
-
-    go : (a : Bool) → has_variable v (without l C) ≡ a → (b : Bool) → has_variable v C ≡ b → a ≡ b
-    go true p true q = refl
-    go false p false q = refl
-    go true p false q = absurd (true≢false (sym (back p) ∙ q))
-    go false p true q = absurd (true≢false (sym (over q) ∙ p))

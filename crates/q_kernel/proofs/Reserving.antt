@@ -9,8 +9,7 @@ use Rattle.q_logic.specs.StepForms.{first_of}
 use Rattle.q_logic.specs.Measure.{size_of}
 use Rattle.q_logic.specs.Sweep.{swept, has_empty, occurs, occurring, falsity}
 use Rattle.q_logic.specs.Numbered.{Slots, slot, set_slot, live, formula_of}
-use Rattle.q_arena.proofs.Numbers.{ℕ-cases}
-use Rattle.q_arena.proofs.Pieces.{none-some, Some-same}
+use Rattle.q_arena.proofs.Numbers.{ℕ-cases, some-same, none-some}
 use Rattle.q_kernel.specs.Changes.{IsDeleted, IsRemoved}
 use Rattle.q_kernel.specs.Invariant.{IsSweeping}
 use Rattle.q_kernel.proofs.Leading.{led-itself, led-through}
@@ -137,7 +136,7 @@ pub not-empty-more : (N : Slots) (from id : ℕ) (C : Clause) → ((c : ℕ) →
 not-empty-more N from id C f none e n c l q = elim (split c l) [
   | inl a ↦ f c a q
   | inr (inl b) ↦ none-some [] (sym (none c b.0 b.1) ∙ q)
-  | inr (inr i) ↦ let same : C ≡ [] = Some-same C [] (sym e ∙ subst (λ (j : ℕ). slot N j ≡ Some []) i q) in n (ap length same)
+  | inr (inr i) ↦ let same : C ≡ [] = some-same C [] (sym e ∙ subst (λ (j : ℕ). slot N j ≡ Some []) i q) in n (ap length same)
 ]
   where
     split : (c : ℕ) → c < id + 1 → (c < from) ⊎ ((from ≤ c) × (c < id)) ⊎ (c ≡ id)

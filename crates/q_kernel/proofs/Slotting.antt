@@ -235,11 +235,13 @@ IsIn-has_empty ([] ∷ X) m = refl
 IsIn-has_empty ((k ∷ C) ∷ X) (inl e) = grind arith
 IsIn-has_empty ((k ∷ C) ∷ X) (inr m) = IsIn-has_empty X m
 
+pub same-bool : (a b : Bool) → (a ≡ true → b ≡ true) → (b ≡ true → a ≡ true) → a ≡ b
+same-bool true true f g = refl
+same-bool false false f g = refl
+same-bool true false f g = sym (f refl)
+same-bool false true f g = g refl
+
 pub has_empty-alike : (X Y : Matrix) → SameClauses X Y → has_empty X ≡ has_empty Y
-has_empty-alike X Y s = go (has_empty X) refl (has_empty Y) refl
-  where
-    go : (a : Bool) → has_empty X ≡ a → (b : Bool) → has_empty Y ≡ b → a ≡ b
-    go true p true q = refl
-    go false p false q = refl
-    go true p false q = let z : has_empty Y ≡ true = IsIn-has_empty Y (IsIn-alike X Y s [] (has_empty-IsIn X p)) in grind arith
-    go false p true q = let z : has_empty X ≡ true = IsIn-has_empty X (IsIn-alike Y X (alike-sym X Y s) [] (has_empty-IsIn Y q)) in grind arith
+has_empty-alike X Y s = same-bool (has_empty X) (has_empty Y)
+    (λ h. IsIn-has_empty Y (IsIn-alike X Y s [] (has_empty-IsIn X h)))
+    (λ h. IsIn-has_empty X (IsIn-alike Y X (alike-sym X Y s) [] (has_empty-IsIn Y h)))

@@ -20,8 +20,7 @@ use Rattle.q_log.specs.Texts.{step_text}
 use Rattle.q_arena.specs.Chains.{Chains}
 use Rattle.q_arena.specs.Rings.{Has, without as gone}
 use Rattle.q_arena.specs.Seen.{Clauses}
-use Rattle.q_arena.proofs.Numbers.{ℕ-cases}
-use Rattle.q_arena.proofs.Pieces.{Some-same}
+use Rattle.q_arena.proofs.Numbers.{ℕ-cases, some-same}
 use Rattle.q_prefix.specs.Order.{FlatPrefix, quant_of, with_after}
 use Rattle.q_kernel.specs.Kernels.{Seen, slots, formula_in}
 use Rattle.q_kernel.specs.Changes.{MayStep, HasLogged, MayAdd, IsAdded, MayDelete, IsDeleted, MayDrop, IsDropped, MayShrink, IsShrunk}
@@ -69,7 +68,7 @@ is-added old mid new p C id proper m z h k =
 
 -- what a caller promised of a clause holds of the one that stands there
 pub may-delete-there : (k : Seen) (id : ℕ) (p : Clause → Option Literal) (C : Clause) → MayDelete k id p → slot (slots k) id ≡ Some C → MayStep k (delete (p C) C)
-may-delete-there k id p C m e = subst (λ (D : Clause). MayStep k (delete (p D) D)) (Some-same m.clause C (sym m.there ∙ e)) m.step
+may-delete-there k id p C m e = subst (λ (D : Clause). MayStep k (delete (p D) D)) (some-same m.clause C (sym m.there ∙ e)) m.step
 
 pub is-deleted : (old mid new : Seen) (id : ℕ) (p : Clause → Option Literal) (C : Clause) → IsProper (formula_in old) → IsFirst (p C) C → Valid standard (formula_in old) (delete (p C) C) → slot (slots old) id ≡ Some C → HasText old mid (step_text (delete (p C) C)) → IsTakenOut mid new id → IsDeleted old new id p
 is-deleted old mid new id p C proper f v e h k =
@@ -89,7 +88,7 @@ is-deleted old mid new id p C proper f v e h k =
 
 pub deleted-as : (old new : Seen) (id : ℕ) (p : Option Literal) (q : Clause → Option Literal) (C : Clause) → slot (slots old) id ≡ Some C → p ≡ q C → IsDeleted old new id (λ D. p) → IsDeleted old new id q
 deleted-as old new id p q C e f d =
-    let same : p ≡ q d.clause = subst (λ (D : Clause). p ≡ q D) (Some-same C d.clause (sym e ∙ d.was)) f in
+    let same : p ≡ q d.clause = subst (λ (D : Clause). p ≡ q D) (some-same C d.clause (sym e ∙ d.was)) f in
     record {
       clause = d.clause;
       was = d.was;
@@ -101,10 +100,10 @@ deleted-as old new id p q C e f d =
 
 -- the first literal that a caller promised
 pub may-delete-first : (k : Seen) (id : ℕ) (p : Clause → Option Literal) (C : Clause) → MayDelete k id p → slot (slots k) id ≡ Some C → IsFirst (p C) C
-may-delete-first k id p C m e = subst (λ (D : Clause). IsFirst (p D) D) (Some-same m.clause C (sym m.there ∙ e)) m.first
+may-delete-first k id p C m e = subst (λ (D : Clause). IsFirst (p D) D) (some-same m.clause C (sym m.there ∙ e)) m.first
 
 pub may-drop-there : (k : Seen) (id : ℕ) (l : Literal) (C : Clause) → MayDrop k id l → slot (slots k) id ≡ Some C → MayStep k (drop_literal l C)
-may-drop-there k id l C m e = subst (λ (D : Clause). MayStep k (drop_literal l D)) (Some-same m.clause C (sym m.there ∙ e)) m.step
+may-drop-there k id l C m e = subst (λ (D : Clause). MayStep k (drop_literal l D)) (some-same m.clause C (sym m.there ∙ e)) m.step
 
 pub dropped-held : (k : Seen) (id : ℕ) (l : Literal) (C : Clause) → MayStep k (drop_literal l C) → IsIn l C
 dropped-held k id l C m = elim m.valid.2 [
@@ -142,7 +141,7 @@ pub record MayShorten (k : Seen) (l : Literal) (C : Clause) : Type 0 where
   pub bytes : length (shorter_text l C) + length (longer_text C) ≤ k.spare_bytes
 
 pub may-shrink-there : (k : Seen) (id : ℕ) (l : Literal) (C : Clause) → MayShrink k id l → slot (slots k) id ≡ Some C → MayShorten k l C
-may-shrink-there k id l C m e = subst (λ (D : Clause). MayShorten k l D) (Some-same m.clause C (sym m.there ∙ e)) (record { held = m.held; valid = m.valid; bytes = m.bytes })
+may-shrink-there k id l C m e = subst (λ (D : Clause). MayShorten k l D) (some-same m.clause C (sym m.there ∙ e)) (record { held = m.held; valid = m.valid; bytes = m.bytes })
 
 pub is-shrunk : (old mid new : Seen) (id : ℕ) (l : Literal) (C : Clause) → IsProper (formula_in old) → MayShorten old l C → slot (slots old) id ≡ Some C → mid.prefix ≡ old.prefix → mid.arena ≡ old.arena → mid.spare_vars ≡ old.spare_vars → mid.greatest ≡ old.greatest
     → mid.text ≡ (old.text ++ shorter_text l C) ++ longer_text C → old.spare_bytes ≡ mid.spare_bytes + (length (shorter_text l C) + length (longer_text C)) → IsShortened mid new id l → IsShrunk old new id l

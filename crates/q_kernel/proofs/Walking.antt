@@ -8,8 +8,7 @@ use Rattle.q_logic.specs.Prefixes.{is_bound, Distinct}
 use Rattle.q_logic.specs.Steps.{literals_in}
 use Rattle.q_logic.specs.InLimits.{greatest}
 use Rattle.q_arena.specs.Rings.{Has}
-use Rattle.q_arena.proofs.Numbers.{ℕ-cases}
-use Rattle.q_arena.proofs.Pieces.{Some-same, none-some}
+use Rattle.q_arena.proofs.Numbers.{ℕ-cases, some-same, none-some}
 use Rattle.q_prefix.specs.Order.{FlatPrefix, bound_after}
 use Rattle.q_kernel.specs.Uses.{Groups, AreUses, IsGrouped}
 use Rattle.q_kernel.proofs.Counting.{greatest-bound}
@@ -32,7 +31,7 @@ use Rattle.q_arena.specs.Seen.{Clauses}
 -- The number of literals, from the front.
 literals-suc : (X : Matrix) (k : ℕ) (C : Clause) → slice_get X k ≡ Some C → literals_in (drop k X) ≡ length C + literals_in (drop (suc k) X)
 literals-suc [] k C e = absurd (let z : None ≡ Some C = e in cc)
-literals-suc (D ∷ X) zero C e = let q : D ≡ C = Some-same D C e in ap (λ (E : Clause). length E + literals_in X) q
+literals-suc (D ∷ X) zero C e = let q : D ≡ C = some-same D C e in ap (λ (E : Clause). length E + literals_in X) q
 literals-suc (D ∷ X) (suc k) C e = literals-suc X k C e
 
 pub literals-next : (X : Matrix) (k : ℕ) (C : Clause) → slice_get X k ≡ Some C → literals_in (drop k X) ≡ length C + literals_in (drop (k + 1) X)
@@ -167,5 +166,5 @@ kernel-bare P a o g most proper clauses room empty lists rows marks uses top =
 -- A clause at a place.
 pub slice-item : (X : Matrix) (k : ℕ) (d C : Clause) → slice_get X k ≡ Some C → get_or X k d ≡ C
 slice-item [] k d C e = absurd (let z : None ≡ Some C = e in cc)
-slice-item (D ∷ X) zero d C e = Some-same D C e
+slice-item (D ∷ X) zero d C e = some-same D C e
 slice-item (D ∷ X) (suc k) d C e = slice-item X k d C e

@@ -8,15 +8,10 @@ use Rattle.q_logic.specs.Pivots.{without}
 use Rattle.q_logic.specs.Limits.{standard}
 use Rattle.q_logic.specs.Steps.{ProofStep, add, delete, drop_literal, fresh, remove_variable, Valid, insert_after, removed_from}
 use Rattle.q_logic.specs.StepForms.{first_of, IsFirst}
-use Rattle.q_logic.specs.Runs.{ValidSteps, copies}
+use Rattle.q_logic.specs.Runs.{ValidSteps, AreAlike}
 use Rattle.q_logic.specs.Numbered.{slot, set_slot}
 use Rattle.q_log.specs.Texts.{IsLogged, step_text, steps_text}
 use Rattle.q_kernel.specs.Kernels.{Seen, slots, formula_in, KeepsRoom}
-
--- one prefix, and each clause as often
-pub record AreAlike (F G : PrenexFormula) : Type 0 where
-  pub prefix : F.prefix ≡ G.prefix
-  pub clauses : (C : Clause) → copies C F.matrix ≡ copies C G.matrix
 
 -- valid steps lead from one formula to the other, up to the order of clauses, and their text has come behind the log;
 -- the steps are such that this text is read as them

@@ -8,7 +8,8 @@ use Rattle.q_logic.specs.InLimits.{IsInLimits}
 use Rattle.q_logic.specs.Targets.{Target}
 use Rattle.q_logic.specs.Rules.{Applicable, result_of}
 use Rattle.q_kernel.specs.Kernels.{Seen, slots, formula_in}
-use Rattle.q_kernel.specs.Changes.{AreAlike, IsLed}
+use Rattle.q_kernel.specs.Changes.{IsLed}
+use Rattle.q_logic.specs.Runs.{AreAlike}
 
 -- how far the rules may go
 pub record AreModest (B : Bounds) : Type 0 where

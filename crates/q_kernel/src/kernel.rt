@@ -24,15 +24,15 @@ use crate::journal::{Journal, Touch};
 use crate::links;
 use crate::need::Need;
 use crate::parts::{
-    bounds_of, empty_ones, first_of, greatest_of, idle_uses, room_for, top_of, unit_ones, words_of,
+    bounds_of, empty_ones, first_of, idle_uses, room_for, top_of, unit_ones, words_of,
 };
 use crate::pending::Pending;
 use crate::uses::Uses;
 use crate::variables::{occur_all, vanish, vanish_all};
 use q_arena::{Arena, ClauseId};
-use q_logic::{Bound, Bounds, Formula, Kind, Lit, NoMemory};
+use q_logic::{Bound, Bounds, Clauses, Formula, Kind, Lit, NoMemory};
 use q_occ::Occ;
-use q_prefix::Prefix;
+use q_prefix::{Prefix, greatest_of};
 use std::alloc::Global;
 use std::marker::Model;
 
@@ -653,14 +653,13 @@ impl Kernel {
     {
         self.ids();
         let prefix = bounds_of(alloc, &self.prefix)?;
-        let mut lits = Vec::with_capacity(alloc, self.size - self.count)?;
-        let mut ends = Vec::with_capacity(alloc, self.count)?;
+        let mut clauses = Clauses::with_capacity(alloc, self.count, self.size - self.count)?;
         let mut from = 0;
         while let Some(id) = self.next_live(from) {
-            lits.extend_from_slice(self.lits(id))?;
-            ends.push(lits.len())?;
+            clauses.push(self.lits(id))?;
             from = id + 1;
         }
+        let (lits, ends) = clauses.into_parts();
         Ok(Formula::from_parts(prefix, lits, ends))
     }
 }

@@ -34,10 +34,7 @@ pub(crate) fn words_of(formula: &Formula) -> Result<usize, NoMemory>
 {
     let mut words: usize = 0;
     for at in 0..formula.clauses() {
-        match words.checked_add(formula.clause(at).len()) {
-            Some(more) => words = more,
-            None => return Err(NoMemory),
-        }
+        words = words.checked_add(formula.clause(at).len()).ok_or(NoMemory)?;
     }
     Ok(words)
 }
@@ -50,10 +47,7 @@ pub(crate) fn room_for(arena: &Arena, words: usize) -> Result<usize, NoMemory>
     if words <= spare {
         return Ok(arena.room());
     }
-    match arena.room().checked_add(words - spare) {
-        Some(room) => Ok(room),
-        None => Err(NoMemory),
-    }
+    arena.room().checked_add(words - spare).ok_or(NoMemory)
 }
 
 /// All variables as idle ones.
@@ -70,17 +64,6 @@ pub(crate) fn idle_uses(alloc: Global, bounds: &[Bound], most: u32) -> Result<Us
     }
     uses.distinct();
     Ok(uses)
-}
-
-/// The greatest variable.
-pub(crate) fn greatest_of(bounds: &[Bound]) -> u32
-    ensures { result ≡ greatest bounds.now }
-{
-    let mut greatest = 0;
-    for bound in bounds {
-        greatest = bound.var.max(greatest);
-    }
-    greatest
 }
 
 /// The greatest variable of a prefix, from a number on downwards.

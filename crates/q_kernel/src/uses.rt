@@ -123,10 +123,8 @@ impl Uses {
         ensures first { result ≡ slice_get self.now.idle 0 }
         ensures there { (v : ℕ) → result ≡ Some v → Has self.now.idle v }
     {
-        match self.rings.first(0) {
-            Some(var) => Some(var as u32),
-            None => None,
-        }
+        let var = self.rings.first(0)?;
+        Some(var as u32)
     }
 
     /// The number of existential variables that some clause holds.

@@ -6,7 +6,7 @@ use Rattle.q_logic.specs.Formulas.{Clause}
 use Rattle.q_logic.specs.Parts.{ArePairs}
 use Rattle.q_logic.specs.Pivots.{without}
 use Rattle.q_logic.specs.StepForms.{first_of, in_front}
-use Rattle.q_logic.proofs.Clauses.{literal_eq-sound, literal_eq-itself}
+use Rattle.q_logic.proofs.ClauseLemmas.{literal_eq-sound, literal_eq-itself}
 use Rattle.q_logic.proofs.ClauseSets.{not_itself_below}
 
 without-above : (l : Literal) (C : Clause) → AllByRecursion (IsBelow l) C → without l C ≡ C

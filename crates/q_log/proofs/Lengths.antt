@@ -9,11 +9,11 @@ use Rattle.q_logic.specs.Parts.{ArePairs}
 use Rattle.q_logic.specs.Pivots.{without}
 use Rattle.q_logic.specs.Steps.{ProofStep}
 use Rattle.q_logic.specs.StepForms.{kind_of, literals_of}
-use Rattle.q_logic.proofs.Clauses.{literal_eq-sound, literal_eq-itself}
+use Rattle.q_logic.proofs.ClauseLemmas.{literal_eq-sound, literal_eq-itself}
 use Rattle.q_logic.proofs.ClauseSets.{not_itself_below}
 use Rattle.q_text.specs.Numbers.{number_text, line_end}
 use Rattle.q_log.specs.Texts.{letter_text, literals_text, step_text}
-use Rattle.q_log.proofs.Texts.{literal-short}
+use Rattle.q_text.proofs.Short.{literal-short}
 
 -- the text of a step is short
 literals-short : (ls : List Literal) → AllByRecursion (λ l. l.var < 2 ^ 31) ls → length (literals_text ls) ≤ 12 * length ls

@@ -15,7 +15,7 @@ use Rattle.q_logic.specs.Eliminating.{resolvent, resolve_one, resolve_all, resol
 use Rattle.q_logic.specs.Expanding.{shares, copied, expanded, expansion_vars}
 use Rattle.q_logic.specs.InLimits.{greatest}
 use Rattle.q_logic.specs.Rules.{shortened, head_of, assigned, change, result_of}
-use Rattle.q_logic.proofs.Clauses.{IsIn-append}
+use Rattle.q_logic.proofs.ClauseLemmas.{IsIn-append}
 use Rattle.q_logic.proofs.Slots.{live-slot, IsIn-with, IsIn-without_literal}
 use Rattle.q_logic.proofs.Ordering.{pairs-ordered, ordered-pairs, without-ordered, union-ordered, copied-ordered, renamed-ordered}
 use Rattle.q_log.proofs.Tidying.{AreInOrder}

@@ -15,7 +15,8 @@ use Rattle.q_log.specs.declared.error.LogError.{LogError}
 use Rattle.q_log.specs.declared.error.LogError.TheVariants.{BadLine, Limit}
 use Rattle.q_log.specs.Grammar.{OpenStep, Move, ends_step, goes_on, unfit, move, next_move, first_move, with_zero, with_number, with_literal, if_small, is_whole, has_room, empty_step}
 use Rattle.q_log.specs.Logs.{Outcome, follow, outcome, at_end, past_limit, read, Steps, all_or_none}
-use Rattle.q_log.specs.Spelled.{StepText, letter_kinds, literals_kinds, IsSpelled, first_line, step_in, tokens_in, Log}
+use Rattle.q_log.specs.Spelled.{StepText, letter_kinds, IsSpelled, first_line, step_in, tokens_in, Log}
+use Rattle.q_text.specs.Tokens.{literals_kinds}
 use Rattle.q_log.proofs.Spelling.{IsSmall, kinds_of}
 
 abbrev Stepped : Type 0

@@ -14,7 +14,8 @@ use Rattle.q_text.specs.Texts.{line_after}
 use Rattle.q_log.specs.declared.error.LogError.{LogError}
 use Rattle.q_log.specs.Grammar.{OpenStep, goes_on, next_move, first_move, empty_step}
 use Rattle.q_log.specs.Logs.{onto, follow, outcome, at_end, read, Steps}
-use Rattle.q_log.specs.Spelled.{StepText, letter_kinds, literals_kinds, IsSpelled, first_line, step_in, tokens_in, Log}
+use Rattle.q_log.specs.Spelled.{StepText, letter_kinds, IsSpelled, first_line, step_in, tokens_in, Log}
+use Rattle.q_text.specs.Tokens.{literals_kinds}
 use Rattle.q_log.proofs.Rereading.{number-taken, room-left, whole-taken}
 
 abbrev pub IsSmall : Literal → Type 0

@@ -12,6 +12,7 @@ use Rattle.q_logic.specs.Pivots.{without}
 use Rattle.q_logic.specs.Steps.{ProofStep, add, delete, drop_literal, fresh, remove_variable}
 use Rattle.q_logic.specs.StepForms.{IsStep, IsFirst, in_front, literals_of}
 use Rattle.q_text.specs.Numbers.{number_text}
+pub use Rattle.q_text.proofs.Short.{literal-short}
 use Rattle.q_log.specs.Texts.{literals_text}
 
 next : (ls : List Literal) (i : ℕ) (d : Literal) → i < length ls → literals_text (drop i ls) ≡ number_text (number_of (get_or ls i d)) ++ literals_text (drop (suc i) ls)
@@ -48,20 +49,6 @@ without-left_out ls l i d h e = rw add-one (ap literals_text (left_out ls l i d 
 pub without-done : (ls : List Literal) (l : Literal) → literals_text (without l (drop (length ls) ls)) ≡ []
 without-done [] l = refl
 without-done (k ∷ ls) l = without-done ls l
-
--- the number of a literal is short
-number-short : (z : ℤ) → mag z < 2 ^ 31 → length (number_text z) ≤ 12
-number-short z h =
-    let e = length_signed_le 10 z (omega arith) (omega arith) in
-    rw (length-append (signed_decimal z) (32 ∷ [])) (omega arith)
-
-literal_short : (v : ℕ) (b : Bool) → v < 2 ^ 31 → length (number_text (number_of (record { var = v; negative = b }))) ≤ 12
-literal_short v false h = number-short (pos v) h
-literal_short zero true h = number-short (pos 0) h
-literal_short (suc v) true h = number-short (negsuc v) (omega arith)
-
-pub literal-short : (l : Literal) → l.var < 2 ^ 31 → length (number_text (number_of l)) ≤ 12
-literal-short l h = literal_short l.var l.negative h
 
 -- of literals in order, one at a later place has a greater code, so that there are few
 below-pack : (k l : Literal) → IsBelow k l → pack k < pack l

@@ -17,7 +17,7 @@ use Rattle.q_logic.specs.StepForms.{IsFirst, first_of, in_front}
 use Rattle.q_logic.specs.Runs.{copies, ValidSteps, Run}
 use Rattle.q_logic.specs.Limits.{standard}
 use Rattle.q_logic.specs.Numbered.{formula_of}
-use Rattle.q_logic.proofs.Clauses.{IsIn-append, IsIn-append_left, IsIn-outer}
+use Rattle.q_logic.proofs.ClauseLemmas.{IsIn-append, IsIn-append_left, IsIn-outer}
 use Rattle.q_logic.proofs.Implying.{IsIn-append_right}
 use Rattle.q_logic.proofs.Sets.{IsIn-outer_in, without-other}
 use Rattle.q_logic.proofs.Slots.{has-IsIn, IsIn-has}
@@ -28,6 +28,7 @@ use Rattle.q_logic.proofs.UniversalPivot.{IsIn-without, without-IsIn}
 use Rattle.q_logic.proofs.Runs.{clause_eq-sound}
 use Rattle.q_logic.proofs.Heights.{length-one_less, literals-one_less}
 use Rattle.q_logic.proofs.Reaching.{SameClauses, IsIn-copies, IsIn-alike, alike-refl, alike-sym, alike-trans, alike-cons, alike-uncons, alike-swap, one_less-alike, SameBlocks-refl}
+use Rattle.q_logic.proofs.Parts.{AllByRecursion-IsIn}
 use Rattle.q_log.specs.Texts.{IsLogged}
 
 -- clauses with the same literals
@@ -398,14 +399,9 @@ tidied-steps m F G (s ∷ ss) E b r p a v =
       clauses = i.clauses;
     }
 
-all-IsIn : {X : Type 0} (R : X → Type 0) (xs : List X) (x : X) → AllByRecursion R xs → IsIn x xs → R x
-all-IsIn R [] x a m = elim m [ ]
-all-IsIn R (y ∷ xs) x a (inl e) = subst R (sym e) a.0
-all-IsIn R (y ∷ xs) x a (inr m) = all-IsIn R xs x a.1 m
-
 pub run-logged : (F G : PrenexFormula) (ss : List ProofStep) → IsProper F → AreInOrder G.matrix → Run F ss G → (ts : List ProofStep) × Run F ts G × AllByRecursion IsLogged ts
 run-logged F G ss p o r =
-    let first : tidy F.matrix ≡ F.matrix = tidy-same F.matrix (λ D m. all-IsIn (ArePairs IsBelow) F.matrix D p.ordered m) in
+    let first : tidy F.matrix ≡ F.matrix = tidy-same F.matrix (λ D m. AllByRecursion-IsIn (ArePairs IsBelow) F.matrix D p.ordered m) in
     let t : Tidied standard F (map tidied ss) r.last = tidied-steps standard F F ss r.last (omega arith) p.ranges refl (subst (SameClauses F.matrix) (sym first) (alike-refl F.matrix)) r.steps in
     let end : SameClauses (tidy r.last.matrix) G.matrix = subst (SameClauses (tidy r.last.matrix)) (tidy-same G.matrix o) (tidy-alike r.last.matrix G.matrix r.same.same_clauses) in (
       map tidied ss,

@@ -1,3 +1,4 @@
+pub mod Causes
 pub mod Grammar
 pub mod Logs
 pub mod Reading

@@ -8,6 +8,7 @@ use Rattle.q_logic.specs.declared.steps.Kind.TheVariants.{Add, Delete, Drop, Fre
 use Rattle.q_logic.specs.Literals.{Literal, number_of}
 use Rattle.q_logic.specs.Steps.{ProofStep}
 use Rattle.q_logic.specs.StepForms.{IsStepForm, step_of}
+use Rattle.q_text.specs.Tokens.{literals_kinds}
 use Rattle.q_text.specs.declared.tokens.Token.{Token}
 use Rattle.q_text.specs.declared.tokens.TokenKind.{TokenKind}
 use Rattle.q_text.specs.declared.tokens.TokenKind.TheVariants.{Number, E, D, U, R}
@@ -26,11 +27,6 @@ letter_kinds Delete = D ∷ []
 letter_kinds Drop = U ∷ []
 letter_kinds Fresh = E ∷ []
 letter_kinds Remove = R ∷ []
-
--- the literals, and 0
-abbrev pub literals_kinds : List Literal → List TokenKind
-literals_kinds [] = Number (pos 0) ∷ []
-literals_kinds (l ∷ ls) = Number (number_of l) ∷ literals_kinds ls
 
 -- the tokens spell the step: its literals are those that its kind takes, of variables from 1 to 2147483647
 pub record IsSpelled (t : StepText) : Type 0 where

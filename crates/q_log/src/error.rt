@@ -1,4 +1,5 @@
 ghost use Rattle.std.specs.Prelude.{◌≡◌};
+ghost use Rattle.q_log.specs.Causes.{cause_number};
 
 use q_logic::NoMemory;
 use thiserror::Error;
@@ -14,6 +15,19 @@ pub enum LogError {
     Limit { line: u64 },
     #[error("no memory")]
     NoMemory,
+}
+
+impl LogError {
+    /// The number by which lines and documents name its cause; 0 where memory ran out, which is no fault of the log.
+    pub fn cause(&self) -> u8
+        ensures { result ≡ cause_number self.now }
+    {
+        match self {
+            LogError::NoMemory => 0,
+            LogError::BadLine { .. } => 1,
+            LogError::Limit { .. } => 8,
+        }
+    }
 }
 
 impl From<NoMemory> for LogError {

@@ -7,7 +7,7 @@ use Rattle.q_logic.specs.Prefixes.{is_exists, is_existential, is_bound, universa
 use Rattle.q_logic.specs.Skolems.{Strategy, Lawful, SkolemOf}
 use Rattle.q_logic.specs.Steps.{clause_eq}
 use Rattle.q_logic.specs.Runs.{copies, SameFormula}
-use Rattle.q_logic.proofs.Clauses.{literal_eq-itself}
+use Rattle.q_logic.proofs.ClauseLemmas.{literal_eq-itself}
 use Rattle.q_logic.proofs.Runs.{clause_eq-sound}
 
 abbrev pub among : ℕ → List ℕ → Bool

@@ -10,7 +10,7 @@ use Rattle.q_logic.specs.Steps.{ProofStep, add, delete, drop_literal, FirstPivot
 use Rattle.q_logic.specs.Runs.{copies}
 use Rattle.q_logic.specs.Numbered.{formula_of}
 use Rattle.q_logic.proofs.Reaching.{SameClauses, Reaches}
-use Rattle.q_logic.proofs.Clauses.{IsIn-append_left, IsIn-append}
+use Rattle.q_logic.proofs.ClauseLemmas.{IsIn-append_left, IsIn-append}
 use Rattle.q_logic.proofs.Reaching.{one_less-first, alike-refl, reaches-alike, alike-trans, alike-sym, alike-swap, alike-cons, reaches-end}
 
 abbrev pub Each : {X : Type 0} → (X → Type 0) → List X → Type 0

@@ -14,7 +14,7 @@ use Rattle.q_logic.specs.Blocking.{Clashes, AllClash}
 use Rattle.q_logic.specs.Covering.{Hidden, Covered, InEach, Grows, Ends, Covers}
 use Rattle.q_logic.specs.Rules.{Fits, change}
 use Rattle.q_logic.proofs.Reaching.{SameClauses, Reaches}
-use Rattle.q_logic.proofs.Clauses.{literal_eq-itself, IsIn-append_left, IsIn-outer}
+use Rattle.q_logic.proofs.ClauseLemmas.{literal_eq-itself, IsIn-append_left, IsIn-outer}
 use Rattle.q_logic.proofs.Reaching.{alike-refl, alike-sym, alike-swap, reaches-alike, IsIn-alike}
 use Rattle.q_logic.proofs.Implying.{implied-subsumed, implied-tautology, implied-hidden_new}
 use Rattle.q_logic.proofs.Building.{least, IsIn-right, reaches-delete, step-first}

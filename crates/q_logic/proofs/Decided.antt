@@ -16,7 +16,7 @@ use Rattle.q_logic.specs.Eliminating.{AllOuter, resolvents, clauses_of, all_oute
 use Rattle.q_logic.specs.Expanding.{expansion_vars, touched_neither, no_both}
 use Rattle.q_logic.specs.Rules.{Fits}
 use Rattle.q_logic.specs.Deciding.{fits, if_some, is_unit, strengthens}
-use Rattle.q_logic.proofs.Clauses.{literal_eq-sound, literal_eq-itself}
+use Rattle.q_logic.proofs.ClauseLemmas.{literal_eq-sound, literal_eq-itself}
 use Rattle.q_logic.proofs.Slots.{has-IsIn, IsIn-has}
 use Rattle.q_logic.proofs.Sets.{is_tautology-sound}
 use Rattle.q_logic.proofs.Measuring.{occurs_var-find, occurs_var-IsIn}
@@ -58,7 +58,7 @@ is_tautology-whole [] t = elim t.1 [ ]
 is_tautology-whole (j ∷ C) (k, inl e, inl f) = absurd (no k (e ∙ sym f))
   where
     no : (k : Literal) → k ≡ negation k → ⊥
-    no k e = let z : literal_eq k k ≡ true = literal_eq-itself k in let y : literal_eq k (negation k) ≡ true = subst (λ x. literal_eq k x ≡ true) e z in let w : literal_eq k (negation k) ≡ false = Rattle.q_logic.proofs.Clauses.literal_eq-negation k in grind arith
+    no k e = let z : literal_eq k k ≡ true = literal_eq-itself k in let y : literal_eq k (negation k) ≡ true = subst (λ x. literal_eq k x ≡ true) e z in let w : literal_eq k (negation k) ≡ false = Rattle.q_logic.proofs.ClauseLemmas.literal_eq-negation k in grind arith
 is_tautology-whole (j ∷ C) (k, inl e, inr n) = or-either (has (negation j) C) (is_tautology C) (inl (IsIn-has (negation j) C (subst (λ y. IsIn (negation y) C) e n)))
 is_tautology-whole (j ∷ C) (k, inr m, inl f) = or-either (has (negation j) C) (is_tautology C) (inl (IsIn-has (negation j) C (subst (λ y. IsIn y C) (sym (Rattle.q_logic.proofs.Implying.negation-negation k) ∙ ap negation f) m)))
 is_tautology-whole (j ∷ C) (k, inr m, inr n) = or-either (has (negation j) C) (is_tautology C) (inr (is_tautology-whole C (k, m, n)))

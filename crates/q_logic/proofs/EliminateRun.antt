@@ -15,7 +15,7 @@ use Rattle.q_logic.specs.Targets.{eliminate}
 use Rattle.q_logic.specs.Eliminating.{AllOuter, Eliminable, resolvent, resolve_one, resolve_all, resolvents, clauses_not_of}
 use Rattle.q_logic.specs.Rules.{Fits, change}
 use Rattle.q_logic.proofs.Reaching.{SameClauses, Reaches}
-use Rattle.q_logic.proofs.Clauses.{literal_eq-sound, literal_eq-itself, IsIn-append_left, IsIn-append}
+use Rattle.q_logic.proofs.ClauseLemmas.{literal_eq-sound, literal_eq-itself, IsIn-append_left, IsIn-append}
 use Rattle.q_logic.proofs.UniversalPivot.{IsIn-without, without-IsIn}
 use Rattle.q_logic.proofs.Reaching.{alike-sym, copies-append, reaches-alike, reaches-append}
 use Rattle.q_logic.proofs.Implying.{implied-subsumed, implied-tautology, implied-hidden, same_or_not}

@@ -11,7 +11,7 @@ use Rattle.q_logic.specs.Steps.{ProofStep, add, delete}
 use Rattle.q_logic.specs.Numbered.{formula_of}
 use Rattle.q_logic.specs.Expanding.{in_list, copied_literal, copied}
 use Rattle.q_logic.proofs.Reaching.{SameClauses, Reaches}
-use Rattle.q_logic.proofs.Clauses.{literal_eq-sound, IsIn-append_left, IsIn-append}
+use Rattle.q_logic.proofs.ClauseLemmas.{literal_eq-sound, IsIn-append_left, IsIn-append}
 use Rattle.q_logic.proofs.Order.{existential-is_bound}
 use Rattle.q_logic.proofs.UniversalPivot.{IsIn-without}
 use Rattle.q_logic.proofs.Reaching.{alike-refl, alike-trans, alike-cons, alike-swap, reaches-end}

@@ -9,7 +9,7 @@ use Rattle.q_logic.specs.Pivots.{without}
 use Rattle.q_logic.specs.Runs.{copies}
 use Rattle.q_logic.specs.Sets.{has}
 use Rattle.q_logic.specs.Expanding.{shares, copied, expanded}
-use Rattle.q_logic.proofs.Clauses.{literal_eq-itself}
+use Rattle.q_logic.proofs.ClauseLemmas.{literal_eq-itself}
 use Rattle.q_logic.proofs.Building.{mapped}
 use Rattle.q_logic.proofs.Slots.{without-same}
 use Rattle.q_logic.proofs.ExpandLinks.{minus}

@@ -14,7 +14,7 @@ use Rattle.q_logic.specs.Sets.{has}
 use Rattle.q_logic.specs.Numbered.{formula_of}
 use Rattle.q_logic.specs.Expanding.{in_list, shares, inner_existential, copy_of, copied_literal, copied, expanded}
 use Rattle.q_logic.proofs.Reaching.{SameClauses, Reaches}
-use Rattle.q_logic.proofs.Clauses.{literal_eq-sound, literal_eq-itself, IsIn-append_left, IsIn-append}
+use Rattle.q_logic.proofs.ClauseLemmas.{literal_eq-sound, literal_eq-itself, IsIn-append_left, IsIn-append}
 use Rattle.q_logic.proofs.Order.{existential-is_bound, universal-not_existential}
 use Rattle.q_logic.proofs.UniversalPivot.{without-IsIn}
 use Rattle.q_logic.proofs.Reaching.{alike-sym, copies-append, reaches-alike, reaches-append, reaches-end}

@@ -14,7 +14,7 @@ use Rattle.q_logic.specs.Eliminating.{resolvent, resolvents, clauses_of, clauses
 use Rattle.q_logic.specs.Sweep.{has_variable, occurs}
 use Rattle.q_logic.specs.Rules.{shortened}
 use Rattle.q_logic.proofs.Reaching.{SameClauses}
-use Rattle.q_logic.proofs.Clauses.{literal_eq-itself, IsIn-append}
+use Rattle.q_logic.proofs.ClauseLemmas.{literal_eq-itself, IsIn-append}
 use Rattle.q_logic.proofs.UniversalPivot.{without-IsIn}
 use Rattle.q_logic.proofs.Reaching.{IsIn-alike, alike-sym}
 use Rattle.q_logic.proofs.Slots.{slot-alike, with-alike, has-IsIn, IsIn-has, IsIn-with, IsIn-without_literal}

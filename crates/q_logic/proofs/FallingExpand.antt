@@ -18,7 +18,7 @@ use Rattle.q_logic.specs.Measure.{measure_of, size_of, one_if, existentials_in, 
 use Rattle.q_logic.specs.Eliminating.{clauses_of}
 use Rattle.q_logic.specs.Expanding.{in_list, shares, copied, copied_literal, copy_of, expanded, touched_neither, insert_all, expansion_vars, Expandable}
 use Rattle.q_logic.specs.InLimits.{greatest}
-use Rattle.q_logic.proofs.Clauses.{literal_eq-itself}
+use Rattle.q_logic.proofs.ClauseLemmas.{literal_eq-itself}
 use Rattle.q_logic.proofs.UniversalPivot.{without-IsIn}
 use Rattle.q_logic.proofs.Slots.{has-IsIn, IsIn-has_not, without-same}
 use Rattle.q_logic.proofs.Sets.{without-other, insert-length}

@@ -4,7 +4,7 @@ use Rattle.q_logic.specs.Literals.{Literal, negation, literal_eq}
 use Rattle.q_logic.specs.Formulas.{Clause, Matrix, IsIn}
 use Rattle.q_logic.specs.Propagation.{Chain, begin, more, negations, Implied}
 use Rattle.q_logic.specs.Sets.{IsSubset, IsTautology}
-use Rattle.q_logic.proofs.Clauses.{literal_eq-sound, literal_eq-itself}
+use Rattle.q_logic.proofs.ClauseLemmas.{literal_eq-sound, literal_eq-itself}
 use Rattle.q_logic.proofs.Propagation.{implied-same}
 
 pub negation-negation : (k : Literal) → negation (negation k) ≡ k

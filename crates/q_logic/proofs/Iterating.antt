@@ -5,7 +5,7 @@ use Rattle.q_logic.specs.Formulas.{Clause, Matrix, IsIn}
 use Rattle.q_logic.specs.Pivots.{without}
 use Rattle.q_logic.specs.Sets.{IsSubset}
 use Rattle.q_logic.specs.Measure.{size_of}
-use Rattle.q_logic.proofs.Clauses.{literal_eq-sound}
+use Rattle.q_logic.proofs.ClauseLemmas.{literal_eq-sound}
 use Rattle.q_logic.proofs.UniversalPivot.{IsIn-without}
 use Rattle.q_logic.proofs.Slots.{IsIn-has}
 use Rattle.q_logic.proofs.CoverRun.{in_or_not}

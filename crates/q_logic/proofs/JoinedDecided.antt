@@ -6,7 +6,7 @@ use Rattle.q_logic.specs.Sets.{IsSubset, has}
 use Rattle.q_logic.specs.Merging.{Joined, Binary, pair_from, join_once, join_often, joined}
 use Rattle.q_logic.specs.Measure.{size_of}
 use Rattle.q_logic.specs.Literals.{IsBelow}
-use Rattle.q_logic.proofs.Clauses.{IsIn-append_left}
+use Rattle.q_logic.proofs.ClauseLemmas.{IsIn-append_left}
 use Rattle.q_logic.proofs.Slots.{has-IsIn, IsIn-has}
 use Rattle.q_logic.proofs.Sets.{union-IsIn, IsIn-union}
 use Rattle.q_logic.proofs.Building.{IsIn-right}

@@ -1,7 +1,7 @@
 pub mod Justified
 pub mod Codes
 pub mod Order
-pub mod Clauses
+pub mod ClauseLemmas
 pub mod Propagation
 pub mod Pivot
 pub mod Trees
@@ -17,6 +17,7 @@ pub mod Places
 pub mod SmallFormulas
 pub mod Pieces
 pub mod Membership
+pub mod Members
 pub mod ClauseSets
 pub mod Sorting
 pub mod StepForms

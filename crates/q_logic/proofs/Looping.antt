@@ -53,7 +53,7 @@ pub turn-pure : (l : Literal) (N : Slots) (c : ℕ) (C : Clause) → slot N c �
 turn-pure l N c C s h = without_literal-folded l (live (set_slot c None N)) ∙ (folded-set (drop_with l) N c C None s (λ X. rw h refl) ∙ sym (without_literal-folded l (live N)))
 
 has_not-without : (l : Literal) (C : Clause) → has l (without l C) ≡ false
-has_not-without l C = has_none l (without l C) (λ m. let a : literal_eq l l ≡ false = without-other l C l m in let b : literal_eq l l ≡ true = Rattle.q_logic.proofs.Clauses.literal_eq-itself l in grind arith)
+has_not-without l C = has_none l (without l C) (λ m. let a : literal_eq l l ≡ false = without-other l C l m in let b : literal_eq l l ≡ true = Rattle.q_logic.proofs.ClauseLemmas.literal_eq-itself l in grind arith)
 
 -- A turn of Unit: a clause loses not l, or goes.
 abbrev pub assign_one : Literal → Clause → Matrix → Matrix

@@ -16,7 +16,7 @@ use Rattle.q_logic.specs.Targets.{merge}
 use Rattle.q_logic.specs.Merging.{Joined, Mergeable, renamed_literal, renamed, merged}
 use Rattle.q_logic.specs.Rules.{Fits, change}
 use Rattle.q_logic.proofs.Reaching.{SameClauses, Reaches}
-use Rattle.q_logic.proofs.Clauses.{literal_eq-sound, IsIn-append_left, IsIn-append}
+use Rattle.q_logic.proofs.ClauseLemmas.{literal_eq-sound, IsIn-append_left, IsIn-append}
 use Rattle.q_logic.proofs.Order.{existential-is_bound}
 use Rattle.q_logic.proofs.Reaching.{alike-refl, alike-trans, alike-sym, alike-cons, alike-swap, reaches-alike, reaches-append, reaches-end}
 use Rattle.q_logic.proofs.Implying.{implied-subsumed, implied-tautology, implied-hidden, implied-hidden_new, implied-longer, negation-negation}

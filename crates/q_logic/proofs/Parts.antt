@@ -3,7 +3,7 @@ use Rattle.std.proofs.Common.{◌≡◌, ◌≢◌, ◌⊎◌, ℕ, zero, suc, B
 use Rattle.std.proofs.lemmas.List.{drop-drop, take-append-drop}
 use Rattle.std.proofs.Math.Seq.{drop-length}
 use Rattle.std.specs.List.{AllByRecursion}
-use Rattle.q_logic.proofs.Clauses.{IsIn-append}
+use Rattle.q_logic.proofs.ClauseLemmas.{IsIn-append}
 use Rattle.q_logic.specs.declared.formulas.Bound.{Bound}
 use Rattle.q_logic.specs.Literals.{Literal, IsBelow}
 use Rattle.q_logic.specs.Formulas.{Clause, Prefix, IsIn, PrenexFormula}

@@ -8,7 +8,7 @@ use Rattle.q_logic.specs.Circuits.{Circuit, value_of, Reads}
 use Rattle.q_logic.specs.Skolems.{Strategy, circuit_of, or_input, given, outcome, Skolem, Lawful}
 use Rattle.q_logic.specs.Pivots.{keeps, outer, ExistsPivot}
 use Rattle.q_logic.specs.Undos.{raised, all_of, pivoted}
-use Rattle.q_logic.proofs.Clauses.{literal_eq-sound, IsIn-append, IsIn-outer, all_of-true, all_of-false, Reads-all_of, circuit_of-none}
+use Rattle.q_logic.proofs.ClauseLemmas.{literal_eq-sound, IsIn-append, IsIn-outer, all_of-true, all_of-false, Reads-all_of, circuit_of-none}
 use Rattle.q_logic.proofs.Order.{outer_or_same-is_bound, outer_universal-before, outer_existential-before}
 use Rattle.q_logic.proofs.Propagation.{implied-true}
 

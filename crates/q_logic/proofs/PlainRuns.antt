@@ -14,7 +14,7 @@ use Rattle.q_logic.specs.Targets.{Target, tautology, unit, cut, pure, subsumed, 
 use Rattle.q_logic.specs.Blocking.{Clashes, AllClash}
 use Rattle.q_logic.specs.Rules.{Fits, change, assigned, head_of, shortened}
 use Rattle.q_logic.proofs.Reaching.{SameClauses, Reaches}
-use Rattle.q_logic.proofs.Clauses.{literal_eq-sound, literal_eq-itself, IsIn-append_left, IsIn-append, IsIn-outer}
+use Rattle.q_logic.proofs.ClauseLemmas.{literal_eq-sound, literal_eq-itself, IsIn-append_left, IsIn-append, IsIn-outer}
 use Rattle.q_logic.proofs.UniversalPivot.{IsIn-without, without-IsIn}
 use Rattle.q_logic.proofs.Order.{is_bound-universal}
 use Rattle.q_logic.proofs.Reaching.{alike-refl, alike-trans, alike-sym, alike-cons, IsIn-alike, reaches-append, reaches-alike, reaches-end}

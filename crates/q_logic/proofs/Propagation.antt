@@ -4,7 +4,7 @@ use Rattle.q_logic.specs.Literals.{Literal, negation, literal_eq}
 use Rattle.q_logic.specs.Formulas.{Clause, Matrix, IsIn}
 use Rattle.q_logic.specs.Truth.{Assignment, LiteralTrue, ClauseTrue, MatrixTrue, signed}
 use Rattle.q_logic.specs.Propagation.{Chain, begin, more, Conflicts, negations, Implied, IsSaturated}
-use Rattle.q_logic.proofs.Clauses.{literal_eq-sound, literal_eq-itself}
+use Rattle.q_logic.proofs.ClauseLemmas.{literal_eq-sound, literal_eq-itself}
 
 pub Holds-negation : (A : Assignment) (k : Literal) → LiteralTrue A k → LiteralTrue A (negation k) → ⊥
 Holds-negation A k h n = go k.negative (A k.var) h n

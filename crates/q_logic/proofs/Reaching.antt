@@ -10,7 +10,7 @@ use Rattle.q_logic.specs.Steps.{ProofStep, add, delete, drop_literal, fresh, rem
 use Rattle.q_logic.specs.Runs.{copies}
 use Rattle.q_logic.specs.Numbered.{formula_of}
 use Rattle.q_logic.proofs.Justified.{Justified, JustifiedSteps, JustifiedRun}
-use Rattle.q_logic.proofs.Clauses.{literal_eq-itself}
+use Rattle.q_logic.proofs.ClauseLemmas.{literal_eq-itself}
 use Rattle.q_logic.proofs.Propagation.{implied-same}
 use Rattle.q_logic.proofs.Runs.{clause_eq-sound}
 

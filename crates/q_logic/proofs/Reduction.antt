@@ -8,7 +8,7 @@ use Rattle.q_logic.specs.Circuits.{Circuit, constant, input, conjunction, disjun
 use Rattle.q_logic.specs.Skolems.{Strategy, circuit_of, or_input, given, outcome, Skolem}
 use Rattle.q_logic.specs.Pivots.{without}
 use Rattle.q_logic.specs.Reach.{Reached, Reducible, ReachedByVariable, ReducibleByVariable}
-use Rattle.q_logic.proofs.Clauses.{literal_eq-sound, circuit_of-none}
+use Rattle.q_logic.proofs.ClauseLemmas.{literal_eq-sound, circuit_of-none}
 use Rattle.q_logic.proofs.Order.{universal-not_existential}
 use Rattle.q_logic.proofs.Propagation.{Holds-negation}
 use Rattle.q_logic.proofs.Trees.{value_of-replaced, Reads-replaced, value_of-agree}

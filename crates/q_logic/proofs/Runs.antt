@@ -9,7 +9,7 @@ use Rattle.q_logic.specs.Skolems.{Strategy, circuit_of, or_input, given, outcome
 use Rattle.q_logic.specs.Pivots.{without}
 use Rattle.q_logic.specs.Steps.{clause_eq, one_less, insert_after, removed_from}
 use Rattle.q_logic.specs.Undos.{with_circuit}
-use Rattle.q_logic.proofs.Clauses.{literal_eq-sound}
+use Rattle.q_logic.proofs.ClauseLemmas.{literal_eq-sound}
 use Rattle.q_logic.proofs.UniversalPivot.{without-IsIn, reread, given-reread, outcome-reread, map_circuit}
 use Rattle.q_logic.proofs.Truth.{none_bound, universal_before-is_bound}
 use Rattle.q_logic.proofs.Trees.{Reads-replaced}

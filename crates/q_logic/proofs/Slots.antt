@@ -6,7 +6,7 @@ use Rattle.q_logic.specs.Pivots.{without}
 use Rattle.q_logic.specs.Sets.{has, with_literal, without_literal, each_without}
 use Rattle.q_logic.specs.Numbered.{Slots, slot, live, others, put_first}
 use Rattle.q_logic.proofs.Reaching.{SameClauses}
-use Rattle.q_logic.proofs.Clauses.{literal_eq-sound, literal_eq-itself}
+use Rattle.q_logic.proofs.ClauseLemmas.{literal_eq-sound, literal_eq-itself}
 use Rattle.q_logic.proofs.Reaching.{alike-refl, alike-trans, alike-sym, alike-cons, alike-swap, IsIn-alike}
 use Rattle.q_logic.proofs.Building.{mapped, alike-turned}
 

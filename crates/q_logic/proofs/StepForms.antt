@@ -11,7 +11,7 @@ use Rattle.q_logic.specs.Parts.{ArePairs}
 use Rattle.q_logic.specs.Pivots.{without}
 use Rattle.q_logic.specs.Steps.{ProofStep}
 use Rattle.q_logic.specs.StepForms.{IsStepForm, IsStep, IsFirst, AreStepParts, step_of, in_front, first_of, arranged}
-use Rattle.q_logic.proofs.Clauses.{literal_eq-sound, literal_eq-itself}
+use Rattle.q_logic.proofs.ClauseLemmas.{literal_eq-sound, literal_eq-itself}
 use Rattle.q_logic.proofs.UniversalPivot.{without-IsIn}
 use Rattle.q_logic.proofs.ClauseSets.{is_clause_of, clause_of-ordered, clause_of-IsIn, not_itself_below}
 

@@ -9,7 +9,7 @@ use Rattle.q_logic.specs.Skolems.{Strategy, circuit_of, or_input, given, outcome
 use Rattle.q_logic.specs.Pivots.{keeps, outer, ForallPivot, without}
 use Rattle.q_logic.specs.Sets.{has}
 use Rattle.q_logic.specs.Undos.{all_of, every_outer}
-use Rattle.q_logic.proofs.Clauses.{literal_eq-sound, literal_eq-itself, IsIn-append, IsIn-outer, all_of-true, all_of-false, Reads-all_of, circuit_of-none}
+use Rattle.q_logic.proofs.ClauseLemmas.{literal_eq-sound, literal_eq-itself, IsIn-append, IsIn-outer, all_of-true, all_of-false, Reads-all_of, circuit_of-none}
 use Rattle.q_logic.proofs.Order.{outer_or_same-is_bound, outer_existential-free, before_outer_existential-before, outer_universal-before_inner, universal-not_existential}
 use Rattle.q_logic.proofs.Pivot.{Near, AreOuters, outers-near}
 use Rattle.q_logic.proofs.Propagation.{implied-true}

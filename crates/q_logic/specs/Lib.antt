@@ -32,3 +32,4 @@ pub mod Settled
 pub mod Deciding
 pub mod CarelessRules
 pub mod ByVariable
+pub mod Counts

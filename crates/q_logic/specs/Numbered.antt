@@ -41,3 +41,8 @@ formula_of P X = record { prefix = P; matrix = X }
 abbrev pub numbered : Matrix → Slots
 numbered [] = []
 numbered (C ∷ X) = Some C ∷ numbered X
+
+-- the clauses of some ids
+abbrev pub clauses_at : Slots → List ℕ → Matrix
+clauses_at N [] = []
+clauses_at N (c ∷ cs) = put_first (slot N c) (clauses_at N cs)

@@ -1,5 +1,5 @@
 -- The order of a prefix. (QDIMACS 1.1; neighbours of one quantifier form one block.)
-use Rattle.std.specs.Prelude.{◌≡◌, ◌↔◌, ℕ, Bool, true, false, cond, not, ◌&&◌, eqb, List, [], ◌∷◌, ◌⊎◌, ◌≤◌, zero, suc}
+use Rattle.std.specs.Prelude.{◌≡◌, ◌↔◌, ℕ, Bool, true, false, cond, not, ◌&&◌, eqb, List, [], ◌∷◌, ◌⊎◌, ◌≤◌, ◌<◌, zero, suc}
 use Rattle.q_logic.specs.declared.formulas.Quant.{Quant}
 use Rattle.q_logic.specs.declared.formulas.Bound.{Bound}
 use Rattle.q_logic.specs.declared.formulas.Quant.TheVariants.{Exists, Forall}
@@ -104,3 +104,7 @@ SameBlocks [] (C ∷ Cs) = ⊥
 SameBlocks (B ∷ Bs) [] = ⊥
 SameBlocks (B ∷ Bs) (C ∷ Cs) =
     (B.quant ≡ C.quant) × ((x : ℕ) → IsIn x B.vars ↔ IsIn x C.vars) × SameBlocks Bs Cs
+
+-- neighbours of one quantifier have one number, others rising numbers
+abbrev pub IsNext : (ℕ → ℕ) → Bound → Bound → Type 0
+IsNext rank b c = ((same_quant b.quant c.quant ≡ true) × (rank b.var ≡ rank c.var)) ⊎ ((same_quant b.quant c.quant ≡ false) × (rank b.var < rank c.var))

@@ -16,6 +16,11 @@ abbrev pub copies : Clause → Matrix → ℕ
 copies C [] = 0
 copies C (D ∷ X) = cond (clause_eq D C) (copies C X + 1) (copies C X)
 
+-- one prefix, and each clause as often: two formulas that differ in the order of their clauses alone
+pub record AreAlike (F G : PrenexFormula) : Type 0 where
+  pub prefix : F.prefix ≡ G.prefix
+  pub clauses : (C : Clause) → copies C F.matrix ≡ copies C G.matrix
+
 -- the same blocks, and the same clauses with as many copies
 pub record SameFormula (F G : PrenexFormula) : Type 0 where
   pub same_blocks : SameBlocks (blocks F.prefix) (blocks G.prefix)

@@ -4,6 +4,7 @@
 
 mod by_variable;
 mod careless_rules;
+mod clause_row;
 mod examples;
 mod formulas;
 mod laws;
@@ -19,6 +20,7 @@ pub use by_variable::valid_by_variable;
 pub use careless_rules::{
     careless_blocking_is_wrong, careless_elimination_is_wrong, careless_expansion_is_wrong,
 };
+pub use clause_row::Clauses;
 pub use examples::{
     careless_pivot_is_wrong, careless_reduction_is_wrong, fresh_place_matters,
     order_matters_to_outer_clauses, order_matters_to_truth,
@@ -31,7 +33,7 @@ pub use laws::{
 };
 pub use limits::Limits;
 pub use literals::Lit;
-pub use lits::{Lits, sort_clause};
+pub use lits::{Lits, holds, sort_clause};
 pub use memory::NoMemory;
 pub use rule_bounds::Bounds;
 pub use rules::{

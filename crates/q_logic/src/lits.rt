@@ -1,5 +1,6 @@
-ghost use Rattle.std.specs.Prelude.{◌≡◌, ◌++◌, List, [], ◌∷◌, length, OnOk, OnErr};
+ghost use Rattle.std.specs.Prelude.{◌≡◌, ◌↔◌, ◌++◌, List, [], ◌∷◌, length, OnOk, OnErr, IsTrue};
 ghost use Rattle.q_logic.specs.Clauses.{clause_of};
+ghost use Rattle.q_logic.specs.Formulas.{IsIn};
 
 use crate::literals::Lit;
 use crate::memory::NoMemory;
@@ -73,4 +74,16 @@ pub fn sort_clause(lits: &mut Vec<Lit>)
 {
     lits.sort_unstable();
     lits.dedup();
+}
+
+/// Whether the clause holds the literal.
+pub fn holds(clause: &[Lit], lit: Lit) -> bool
+    ensures { IsTrue result ↔ IsIn lit clause.now }
+{
+    for k in clause {
+        if k.is(lit) {
+            return true;
+        }
+    }
+    false
 }

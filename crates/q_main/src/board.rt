@@ -50,7 +50,7 @@ fn wish(rt: &HostRuntime) -> Option<bool> {
 }
 
 impl Board {
-    pub fn new(rt: HostRuntime) -> Board {
+    pub(crate) fn new(rt: HostRuntime) -> Board {
         let mut stderr = rt.stderr();
         let is_terminal = stderr.is_terminal();
         // where it is closed, a file that is opened later may get its number
@@ -74,7 +74,7 @@ impl Board {
     }
 
     /// Whether anything is said.
-    pub fn is_on(&self) -> bool {
+    pub(crate) fn is_on(&self) -> bool {
         self.start.is_some()
     }
 
@@ -107,7 +107,7 @@ impl Board {
     }
 
     /// A file was read up to this place.
-    pub fn note_read(&self, name: &str, place: u64) {
+    pub(crate) fn note_read(&self, name: &str, place: u64) {
         let Some(second) = self.due() else {
             return;
         };
@@ -122,13 +122,13 @@ impl Board {
     }
 
     /// A file was made.
-    pub fn note_made(&self) {
+    pub(crate) fn note_made(&self) {
         self.written.set(0);
         self.stage.set(None);
     }
 
     /// So many bytes were put behind it.
-    pub fn note_written(&self, count: usize) {
+    pub(crate) fn note_written(&self, count: usize) {
         self.written
             .set(self.written.get().saturating_add(count as u64));
         if let Some(stage) = self.stage.get() {
@@ -140,7 +140,7 @@ impl Board {
     }
 
     /// The formula is so far simplified.
-    pub fn note_stage(&self, stage: Stage) {
+    pub(crate) fn note_stage(&self, stage: Stage) {
         self.stage.set(Some(stage));
         let Some(second) = self.due() else {
             return;
@@ -159,7 +159,7 @@ impl Board {
     }
 
     /// A target was taken.
-    pub fn note_taken(&self, target: &Move) {
+    pub(crate) fn note_taken(&self, target: &Move) {
         if let Ok(mut taken) = self.taken.try_borrow_mut() {
             let rule = rule_of(target);
             taken[rule] = taken[rule].saturating_add(1);
@@ -184,14 +184,14 @@ impl Board {
     }
 
     /// Takes the line away that stands on the terminal.
-    pub fn wipe(&self) {
+    pub(crate) fn wipe(&self) {
         if self.is_terminal && self.last_second.get() > 0 {
             let _ = eprint!(self.rt; "\r\x1b[K");
         }
     }
 
     /// Says how often each rule was taken.
-    pub fn finish(&self) {
+    pub(crate) fn finish(&self) {
         let moves = self.moves();
         if moves == 0 || (self.last_second.get() == 0 && !self.is_wanted) {
             return;

@@ -28,7 +28,9 @@ fn target_of(proposal: &Proposal) -> Option<Move> {
 }
 
 impl<G: Guide> Progress<G> {
-    pub fn new(guide: G, board: Rc<Board>) -> Progress<G> {
+    pub(crate) fn new(guide: G, board: Rc<Board>) -> Progress<G>
+        ensures { result.guide ≡ guide }
+    {
         Progress {
             guide,
             board,

@@ -1,4 +1,5 @@
 //! Files whose bytes are counted on a board.
+ghost use Rattle.std.specs.Prelude.{◌≡◌};
 
 use crate::board::Board;
 use q_io::{DeviceError, Files};
@@ -11,7 +12,9 @@ pub(crate) struct Watched<'a, F: Files + Drop> {
 }
 
 impl<'a, F: Files + Drop> Watched<'a, F> {
-    pub fn new(files: F, board: &'a Board) -> Watched<'a, F> {
+    pub(crate) fn new(files: F, board: &'a Board) -> Watched<'a, F>
+        ensures { result.files ≡ files }
+    {
         Watched { files, board }
     }
 }

@@ -12,7 +12,7 @@ pub(crate) struct Wiped<'a> {
 }
 
 impl<'a> Wiped<'a> {
-    pub fn new(rt: &'a HostRuntime, board: &'a Board) -> Wiped<'a> {
+    pub(crate) fn new(rt: &'a HostRuntime, board: &'a Board) -> Wiped<'a> {
         Wiped { rt, board }
     }
 }

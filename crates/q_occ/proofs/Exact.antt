@@ -7,8 +7,7 @@ use Rattle.q_logic.proofs.Codes.{unpack_pack}
 use Rattle.q_arena.specs.Rings.{Has}
 use Rattle.q_arena.specs.Chains.{Chains, list_at}
 use Rattle.q_arena.specs.Seen.{Clauses, clause_at, start_at}
-use Rattle.q_arena.proofs.Numbers.{ℕ-cases}
-use Rattle.q_arena.proofs.Pieces.{Some-same}
+use Rattle.q_arena.proofs.Numbers.{ℕ-cases, some-same}
 use Rattle.q_occ.specs.Places.{no_lit, IsPlaceUpto, IsLinkedUpto, IsUnlinkedUpto, AreOwnedUpto, IsPlaceIn, AreExact, with_linked, IsUnlinked, IsLinked, IsReserved, IsLinking, IsUnlinking}
 
 pack-same : (l m : Literal) → pack l ≡ pack m → l ≡ m
@@ -33,7 +32,7 @@ module _ (a : Clauses) (id : ℕ) (lits : List Literal) (start : ℕ) (e : claus
 
   from : (l : Literal) (p : ℕ) → IsPlaceIn a id l p → IsPlaceUpto lits start (length lits) (pack l) p
   from l p h =
-      let same : h.clause ≡ lits = Some-same h.clause lits (sym h.live ∙ e) in
+      let same : h.clause ≡ lits = some-same h.clause lits (sym h.live ∙ e) in
       record {
         at_index = h.at_index;
         in_range = subst (λ (c : List Literal). h.at_index < length c) same h.in_range;

@@ -2,12 +2,12 @@
 use Rattle.std.proofs.Common.{◌≡◌, ℕ, List, [], ◌∷◌, None, Some, refl, sym, ◌∙◌, ap, inl, inr}
 use Rattle.q_arena.specs.Rings.{Has}
 use Rattle.q_arena.specs.Chains.{preceding, preceding_from}
-use Rattle.q_arena.proofs.Numbers.{ℕ-cases}
+use Rattle.q_arena.proofs.Numbers.{ℕ-cases, none-some, some-same}
 use Rattle.q_prefix.specs.declared.marks.Mark.{Mark}
 use Rattle.q_prefix.specs.Order.{bound_of, bounds_of, bound_before, bound_before_from}
 use Rattle.q_prefix.proofs.Bounds.{cond-same, cond-other}
-use Rattle.q_prefix.proofs.Walks.{none-some, some-same}
-use Rattle.q_prefix.proofs.Directions.{preceding-here, preceding-later, preceding-has}
+use Rattle.q_prefix.proofs.Directions.{preceding-has}
+use Rattle.q_arena.proofs.Following.{preceding-here, preceding-later}
 
 module _ (marks : List Mark) where
   before_from-some : (u : ℕ) (L : List ℕ) (v x : ℕ) → preceding_from v u L ≡ Some x → bound_before_from (bound_of marks u) (bounds_of marks L) v ≡ Some (bound_of marks x)

@@ -1,6 +1,5 @@
 -- The bounds of a list of variables.
 use Rattle.std.proofs.Common.{◌≡◌, ◌≢◌, ℕ, ◌<◌, Bool, true, false, true≢false, cond, eqb, List, [], ◌∷◌, slice_get, None, Some, refl, sym, ◌∙◌, ap, inl, inr, arith}
-use Rattle.std.proofs.lemmas.Bool.Decides.{nat_tests}
 use Rattle.q_logic.specs.declared.formulas.Quant.{Quant}
 use Rattle.q_logic.specs.declared.formulas.Bound.{Bound}
 use Rattle.q_logic.specs.Formulas.{IsIn}
@@ -9,6 +8,7 @@ use Rattle.q_logic.specs.Steps.{removed_from}
 use Rattle.q_arena.specs.Rings.{Has, without, with_next}
 use Rattle.q_arena.specs.Chains.{following}
 use Rattle.q_arena.proofs.Numbers.{ℕ-cases}
+use Rattle.q_arena.proofs.Following.{following-here, following-later}
 use Rattle.q_arena.proofs.Paths.{without-first, without-later}
 use Rattle.q_arena.proofs.After.{with_next-here, with_next-later}
 use Rattle.q_prefix.specs.declared.marks.Mark.{Mark}
@@ -78,12 +78,6 @@ module _ (marks : List Mark) where
     | inl q ↦ cond-same u v (slice_get (bounds_of marks L) 0) (bound_after (bounds_of marks L) v) q ∙ first-none L (sym (following-here v u L q) ∙ e)
     | inr n ↦ cond-other u v (slice_get (bounds_of marks L) 0) (bound_after (bounds_of marks L) v) n ∙ after-none L v (sym (following-later v u L n) ∙ e)
   ]
-    where
-      following-here : (p y : ℕ) (ys : List ℕ) → y ≡ p → following p (y ∷ ys) ≡ slice_get ys 0
-      following-here p y ys q = grind (arith, nat_tests)
-
-      following-later : (p y : ℕ) (ys : List ℕ) → y ≢ p → following p (y ∷ ys) ≡ following p ys
-      following-later p y ys q = grind (arith, nat_tests)
 
   pub after-some : (L : List ℕ) (v u : ℕ) → following v L ≡ Some u → bound_after (bounds_of marks L) v ≡ Some (bound_of marks u)
   after-some [] v u e = let d : None ≡ Some u = e in absurd (cc)
@@ -91,12 +85,6 @@ module _ (marks : List Mark) where
     | inl q ↦ cond-same x v (slice_get (bounds_of marks L) 0) (bound_after (bounds_of marks L) v) q ∙ first-some L u (sym (following-here v x L q) ∙ e)
     | inr n ↦ cond-other x v (slice_get (bounds_of marks L) 0) (bound_after (bounds_of marks L) v) n ∙ after-some L v u (sym (following-later v x L n) ∙ e)
   ]
-    where
-      following-here : (p y : ℕ) (ys : List ℕ) → y ≡ p → following p (y ∷ ys) ≡ slice_get ys 0
-      following-here p y ys q = grind (arith, nat_tests)
-
-      following-later : (p y : ℕ) (ys : List ℕ) → y ≢ p → following p (y ∷ ys) ≡ following p ys
-      following-later p y ys q = grind (arith, nat_tests)
 
   pub bounds-without : (L : List ℕ) (v : ℕ) → bounds_of marks (without v L) ≡ removed_from v (bounds_of marks L)
   bounds-without [] v = refl

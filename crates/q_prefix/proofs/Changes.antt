@@ -9,7 +9,7 @@ use Rattle.q_logic.specs.Prefixes.{same_quant}
 use Rattle.q_logic.specs.Steps.{removed_from}
 use Rattle.q_arena.specs.Rings.{Has, Misses, AreApart, without, with_next}
 use Rattle.q_arena.specs.Chains.{Chains, HasSameLists, list_at, following, preceding, preceding_from}
-use Rattle.q_arena.proofs.Numbers.{ℕ-cases, same-number}
+use Rattle.q_arena.proofs.Numbers.{ℕ-cases, some-same, none-some}
 use Rattle.q_arena.proofs.Paths.{without-first, without-later}
 use Rattle.q_arena.proofs.RingLemmas.{Has-without}
 use Rattle.q_arena.proofs.Layouts.{without-gone, Has-kept}
@@ -18,8 +18,7 @@ use Rattle.q_arena.proofs.After.{with_next-here, with_next-later, Has-with_next}
 use Rattle.q_prefix.specs.declared.marks.Mark.{Mark}
 use Rattle.q_prefix.specs.Order.{Binds, with_after, IsRankedFrom, IsRanked, IsRankBefore, no_mark, mark_at, bound_of, rank_of, bounds_of, IsPrefix, IsParted}
 use Rattle.q_prefix.proofs.Ranks.{IsBetween, StartsWith, IsJoint, next-le, quant-self, ranked-gone, ranked-merged, ranked-joined}
-use Rattle.q_prefix.proofs.Walks.{following-here, following-later, none-some}
-use Rattle.q_prefix.proofs.Directions.{preceding-here, preceding-later, preceding-none}
+use Rattle.q_arena.proofs.Following.{following-here, following-later, preceding-here, preceding-later, preceding-none}
 use Rattle.q_prefix.proofs.Bounds.{bounds-without, bounds-with, in-bounds, bounds-same, ranked-same, has-binds}
 
 pub mark-set_here : (marks : List Mark) (v : ℕ) (m : Mark) → v < length marks → mark_at (set marks v m) v ≡ m
@@ -121,14 +120,14 @@ module _ (marks : List Mark) (v : ℕ) where
   beside-between u [] x y e f = absurd (none-some x e)
   beside-between u (c ∷ cs) x y e f = elim (ℕ-cases c v) [
     | inl q ↦
-        let ux : u ≡ x = same-number u x (sym (preceding-here v u c cs q) ∙ e) in
+        let ux : u ≡ x = some-same u x (sym (preceding-here v u c cs q) ∙ e) in
         inl (ap (bound_of marks) ux, q, starts cs (sym (following-here v c cs q) ∙ f))
     | inr n ↦ inr (n, beside-between c cs x y (sym (preceding-later v u c cs n) ∙ e) (sym (following-later v c cs n) ∙ f))
   ]
     where
       starts : (cs : List ℕ) → slice_get cs 0 ≡ Some y → StartsWith (bound_of marks y) (bounds_of marks cs)
       starts [] h = absurd (none-some y h)
-      starts (d ∷ ds) h = ap (bound_of marks) (same-number d y h)
+      starts (d ∷ ds) h = ap (bound_of marks) (some-same d y h)
 
 between-rises : (rank : ℕ → ℕ) (x : Bound) (v : ℕ) (y b : Bound) (p : List Bound) → IsRankedFrom rank b p → IsBetween x v y b p → rank x.var ≤ rank y.var
 between-rises rank x v y b [] r k = absurd k
@@ -292,9 +291,13 @@ module _ (o n : Chains) (marks : List Mark) (b : Bound) (rank : ℕ) (p : IsPref
       ranked'
 
 -- more room
-pub prefix-reserved : (o n : Chains) (marks more : List Mark) → IsPrefix o marks → HasSameLists o n → length o.lists ≤ length n.lists → length o.owners ≤ length n.owners
-    → ((v : ℕ) → mark_at more v ≡ mark_at marks v) → length marks ≤ length more → length more ≤ length n.owners → length more < 4294967296 → IsPrefix n more
-prefix-reserved o n marks more p lists heads owners same least room few =
+pub prefix-reserved : (o n : Chains) (marks more : List Mark) (room : ℕ) → IsPrefix o marks → HasSameLists o n → length o.lists ≤ length n.lists → length o.owners ≤ length n.owners
+    → ((v : ℕ) → mark_at more v ≡ mark_at marks v) → length marks ≤ length more → (length more ≡ length marks) ⊎ (length more ≡ room) → room ≤ length n.owners → room < 4294967296 → IsPrefix n more
+prefix-reserved o n marks more room p lists heads owners same least exact fits small =
+    let within : (length more ≤ length n.owners) × (length more < 4294967296) = elim exact [
+      | inl e ↦ (omega (arith, e, p.room, owners), omega (arith, e, p.few))
+      | inr e ↦ (omega (arith, e, fits), omega (arith, e, small))
+    ] in
     let list0 : list_at n 0 ≡ list_at o 0 = lists 0 in
     let q : (v : ℕ) → Has (list_at o 0) v → (mark_at more v).quant ≡ (mark_at marks v).quant = λ v h. ap (λ (m : Mark). m.quant) (same v) in
     record {
@@ -302,9 +305,9 @@ prefix-reserved o n marks more p lists heads owners same least room few =
       others = λ m g. lists m ∙ p.others m g;
       bound = λ v h. ap (λ (m : Mark). m.bound) (same v) ∙ p.bound v (subst (λ (xs : List ℕ). Has xs v) list0 h);
       bounds = λ v h. subst (λ (xs : List ℕ). Has xs v) (sym list0) (p.bounds v (sym (ap (λ (m : Mark). m.bound) (same v)) ∙ h));
-      room = room;
+      room = within.0;
       some = let a = p.some in omega (arith, least, a);
-      few = few;
+      few = within.1;
       ranked = rw (list0, bounds-same marks more (list_at o 0) q)
           (ranked-same (rank_of marks) (rank_of more) (bounds_of marks (list_at o 0)) (λ v b. ap (λ (m : Mark). m.rank) (same v)) p.ranked);
     }
@@ -366,4 +369,4 @@ parted o n marks v p lists apart there before after e f = record {
 
 -- what holds of the two neighbours
 pub at-beside : (P : ℕ → ℕ → Type 0) (before after : Option ℕ) (a b : ℕ) → before ≡ Some a → after ≡ Some b → P a b → (x y : ℕ) → before ≡ Some x → after ≡ Some y → P x y
-at-beside P before after a b e f p x y g h = subst (λ (k : ℕ). P k y) (same-number a x (sym e ∙ g)) (subst (P a) (same-number b y (sym f ∙ h)) p)
+at-beside P before after a b e f p x y g h = subst (λ (k : ℕ). P k y) (some-same a x (sym e ∙ g)) (subst (P a) (some-same b y (sym f ∙ h)) p)

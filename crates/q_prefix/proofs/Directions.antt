@@ -1,34 +1,14 @@
 -- Lists read from the front and from the back.
-use Rattle.std.proofs.Common.{◌≡◌, ◌≢◌, ◌⊎◌, ℕ, List, [], ◌∷◌, ◌++◌, slice_get, Option, None, Some, refl, sym, ◌∙◌, ap, subst, inl, inr, arith}
+use Rattle.std.proofs.Common.{◌≡◌, ◌≢◌, ◌⊎◌, ℕ, List, [], ◌∷◌, ◌++◌, slice_get, Option, None, Some, refl, sym, ◌∙◌, ap, subst, inl, inr}
 use Rattle.std.specs.Prelude.{reverse}
 use Rattle.std.proofs.lemmas.Grind.{reverse_onto}
-use Rattle.std.proofs.lemmas.Bool.Decides.{nat_tests}
 use Rattle.q_arena.specs.Rings.{Has, Misses, AreApart, without}
 use Rattle.q_arena.specs.Chains.{following, preceding, preceding_from}
-use Rattle.q_arena.proofs.Numbers.{ℕ-cases, same-number}
+use Rattle.q_arena.specs.Gaps.{or_else}
+use Rattle.q_arena.proofs.Numbers.{ℕ-cases, some-same, none-some}
 use Rattle.q_arena.proofs.Paths.{Misses-not, Misses-from, without-first, without-later}
 use Rattle.q_arena.proofs.RingLemmas.{Has-without}
-use Rattle.q_prefix.proofs.Walks.{following-here, following-later, none-some}
-
-pub preceding-here : (v u c : ℕ) (cs : List ℕ) → c ≡ v → preceding_from v u (c ∷ cs) ≡ Some u
-preceding-here v u c cs e = grind (arith, nat_tests)
-
-pub preceding-later : (v u c : ℕ) (cs : List ℕ) → c ≢ v → preceding_from v u (c ∷ cs) ≡ preceding_from v c cs
-preceding-later v u c cs n = grind (arith, nat_tests)
-
-pub preceding-none : (v u : ℕ) (us : List ℕ) → Misses v us → preceding_from v u us ≡ None
-preceding-none v u [] m = refl
-preceding-none v u (c ∷ cs) m = preceding-later v u c cs (λ e. m.0 (sym e)) ∙ preceding-none v c cs m.1
-
-preceding-some : (v u : ℕ) (us : List ℕ) → Has us v → preceding_from v u us ≡ None → ⊥
-preceding-some v u [] h e = h
-preceding-some v u (c ∷ cs) h e = elim (ℕ-cases c v) [
-  | inl q ↦ none-some u (sym e ∙ preceding-here v u c cs q)
-  | inr n ↦ elim h [
-    | inl q ↦ n (sym q)
-    | inr i ↦ preceding-some v c cs i (sym (preceding-later v u c cs n) ∙ e)
-  ]
-]
+use Rattle.q_arena.proofs.Following.{following-here, following-later, preceding-here, preceding-later, preceding-none, preceding-first}
 
 has-append : (xs : List ℕ) (j v : ℕ) → Has (xs ++ (j ∷ [])) v → Has xs v ⊎ (v ≡ j)
 has-append [] j v h = elim h [ inl e ↦ inr e | inr i ↦ absurd i ]
@@ -92,46 +72,23 @@ ordered-apart (u ∷ vars) o = (Misses-from u vars (λ h. o.0 u h refl), ordered
 pub apart-reverse : (vars : List ℕ) → AreApart vars → AreApart (reverse vars)
 apart-reverse vars a = ordered-apart (reverse vars) (ordered-reverse (λ u v. u ≢ v) vars (apart-ordered vars a))
 
--- what comes from the first one or from a second one
-or_some : Option ℕ → ℕ → Option ℕ
-or_some None j = Some j
-or_some (Some w) j = Some w
-
-following-append : (v j : ℕ) (xs : List ℕ) → Has xs v → following v (xs ++ (j ∷ [])) ≡ or_some (following v xs) j
-unfolding or_some
+following-append : (v j : ℕ) (xs : List ℕ) → Has xs v → following v (xs ++ (j ∷ [])) ≡ or_else (following v xs) (Some j)
 following-append v j [] h = absurd h
 following-append v j (x ∷ xs) h = elim (ℕ-cases x v) [
-  | inl e ↦ following-here v x (xs ++ (j ∷ [])) e ∙ first xs ∙ ap (λ (o : Option ℕ). or_some o j) (sym (following-here v x xs e))
+  | inl e ↦ following-here v x (xs ++ (j ∷ [])) e ∙ first xs ∙ ap (λ (o : Option ℕ). or_else o (Some j)) (sym (following-here v x xs e))
   | inr n ↦ elim h [
     | inl e ↦ absurd (n (sym e))
-    | inr i ↦ following-later v x (xs ++ (j ∷ [])) n ∙ following-append v j xs i ∙ ap (λ (o : Option ℕ). or_some o j) (sym (following-later v x xs n))
+    | inr i ↦ following-later v x (xs ++ (j ∷ [])) n ∙ following-append v j xs i ∙ ap (λ (o : Option ℕ). or_else o (Some j)) (sym (following-later v x xs n))
   ]
 ]
   where
-    first : (xs : List ℕ) → slice_get (xs ++ (j ∷ [])) 0 ≡ or_some (slice_get xs 0) j
+    first : (xs : List ℕ) → slice_get (xs ++ (j ∷ [])) 0 ≡ or_else (slice_get xs 0) (Some j)
     first [] = refl
     first (y ∷ ys) = refl
 
 following-last : (v : ℕ) (xs : List ℕ) → (Has xs v → ⊥) → following v (xs ++ (v ∷ [])) ≡ None
 following-last v [] f = following-here v v [] refl
 following-last v (x ∷ xs) f = following-later v x (xs ++ (v ∷ [])) (λ e. f (inl (sym e))) ∙ following-last v xs (λ h. f (inr h))
-
-preceding-first : (v j : ℕ) (js : List ℕ) → AreApart js → Has js v → preceding_from v j js ≡ or_some (preceding v js) j
-unfolding or_some
-preceding-first v j [] a h = absurd h
-preceding-first v j (k ∷ ks) a h = elim (ℕ-cases k v) [
-  | inl e ↦
-      let none : preceding_from v k ks ≡ None = preceding-none v k ks (subst (λ (n : ℕ). Misses n ks) e a.0) in
-      preceding-here v j k ks e ∙ ap (λ (o : Option ℕ). or_some o j) (sym none)
-  | inr n ↦ elim h [
-    | inl e ↦ absurd (n (sym e))
-    | inr i ↦ preceding-later v j k ks n ∙ found (preceding_from v k ks) (preceding-some v k ks i)
-  ]
-]
-  where
-    found : (o : Option ℕ) → (o ≡ None → ⊥) → o ≡ or_some o j
-    found None f = absurd (f refl)
-    found (Some w) f = refl
 
 -- what precedes a variable follows it from the back
 pub preceding-reverse : (vars : List ℕ) (v : ℕ) → AreApart vars → Has vars v → preceding v vars ≡ following v (reverse vars)
@@ -141,7 +98,7 @@ preceding-reverse (j ∷ js) v a h = elim h [
       let miss : Misses v js = subst (λ (n : ℕ). Misses n js) (sym e) a.0 in
       let f : Has (reverse js) v → ⊥ = λ i. Misses-not v v js miss (reverse-has js v i) refl in
       preceding-none v j js miss ∙ sym (following-last v (reverse js) f) ∙ ap (λ (k : ℕ). following v (reverse js ++ (k ∷ []))) e ∙ ap (following v) (sym (reverse_onto js j []))
-  | inr i ↦ preceding-first v j js a.1 i ∙ ap (λ (o : Option ℕ). or_some o j) (preceding-reverse js v a.1 i) ∙ sym (following-append v j (reverse js) (has-reverse js v i)) ∙ ap (following v) (sym (reverse_onto js j []))
+  | inr i ↦ preceding-first v j js a.1 i ∙ ap (λ (o : Option ℕ). or_else o (Some j)) (preceding-reverse js v a.1 i) ∙ sym (following-append v j (reverse js) (has-reverse js v i)) ∙ ap (following v) (sym (reverse_onto js j []))
 ]
 
 -- a variable precedes what follows it
@@ -154,7 +111,7 @@ following-preceding (u ∷ us) x y a e = elim (ℕ-cases u x) [
   where
     first : (us : List ℕ) → slice_get us 0 ≡ Some y → preceding_from y u us ≡ Some u
     first [] e = absurd (none-some y e)
-    first (c ∷ cs) e = preceding-here y u c cs (same-number c y e)
+    first (c ∷ cs) e = preceding-here y u c cs (some-same c y e)
 
     later : (us : List ℕ) → preceding y us ≡ Some x → AreApart us → preceding_from y u us ≡ Some x
     later [] e a = absurd (none-some x e)
@@ -167,7 +124,7 @@ following-preceding (u ∷ us) x y a e = elim (ℕ-cases u x) [
 pub preceding-has : (v u x : ℕ) (us : List ℕ) → preceding_from v u us ≡ Some x → Has (u ∷ us) x
 preceding-has v u x [] e = absurd (none-some x e)
 preceding-has v u x (c ∷ cs) e = elim (ℕ-cases c v) [
-  | inl q ↦ inl (same-number x u (sym e ∙ preceding-here v u c cs q))
+  | inl q ↦ inl (some-same x u (sym e ∙ preceding-here v u c cs q))
   | inr n ↦ inr (preceding-has v c x cs (sym (preceding-later v u c cs n) ∙ e))
 ]
 
@@ -175,7 +132,7 @@ meeting : (gone u : ℕ) (us : List ℕ) (x y : ℕ) → AreApart (u ∷ us) →
 meeting gone u [] x y a p f = absurd (none-some x p)
 meeting gone u (c ∷ cs) x y a p f = elim (ℕ-cases c gone) [
   | inl q ↦
-      let ux : u ≡ x = same-number u x (sym (preceding-here gone u c cs q) ∙ p) in
+      let ux : u ≡ x = some-same u x (sym (preceding-here gone u c cs q) ∙ p) in
       rw (without-first gone c cs q) (following-here x u cs ux ∙ sym (following-here gone c cs q) ∙ f)
   | inr n ↦
       let p' : preceding_from gone c cs ≡ Some x = sym (preceding-later gone u c cs n) ∙ p in

@@ -3,6 +3,13 @@ use Rattle.std.proofs.Common.{◌≡◌, ◌⊎◌, ℕ, zero, suc, ◌+◌, ◌
 use Rattle.q_logic.specs.declared.formulas.Bound.{Bound}
 use Rattle.q_logic.specs.Prefixes.{same_quant, Distinct}
 use Rattle.q_prefix.specs.Order.{IsRankBefore, IsFirstRank}
+use Rattle.q_logic.specs.InLimits.{greatest}
+use Rattle.q_arena.proofs.Numbers.{none-some, some-same}
+
+pub greatest-least : (B : List Bound) (k : ℕ) (b : Bound) → slice_get B k ≡ Some b → b.var ≤ greatest B
+greatest-least [] k b e = absurd (none-some b e)
+greatest-least (c ∷ B) zero b e = let v = ap (λ (x : Bound). x.var) (some-same c b e) in omega arith
+greatest-least (c ∷ B) (suc k) b e = let i = greatest-least B k b e in omega arith
 
 pub drop-at : (B : List Bound) (k : ℕ) (d : Bound) → k < length B → drop k B ≡ get_or B k d ∷ drop (k + 1) B
 drop-at [] k d h = absurd (not-suc-le-zero h)

@@ -11,7 +11,7 @@ use Rattle.q_prefix.specs.Blocks.{onward, block_from}
 use Rattle.q_prefix.proofs.Ranks.{rank-rises, renamed, renamed-at, renamed-off}
 use Rattle.q_prefix.proofs.Bounds.{binds-has}
 use Rattle.q_prefix.proofs.Changes.{ranked-tail}
-use Rattle.q_prefix.proofs.Walks.{following-has, followed-has}
+use Rattle.q_arena.proofs.Following.{following-has, followed-has}
 use Rattle.q_prefix.proofs.Directions.{AreOrdered, has-reverse, ordered-without, ordered-reverse, preceding-reverse, following-preceding, meet-beside}
 use Rattle.q_prefix.proofs.Renaming.{front-rank, covered}
 

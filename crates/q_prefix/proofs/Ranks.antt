@@ -6,10 +6,10 @@ use Rattle.q_arena.proofs.Numbers.{ℕ-cases}
 use Rattle.q_logic.specs.declared.formulas.Quant.{Quant}
 use Rattle.q_logic.specs.declared.formulas.Quant.TheVariants.{Exists, Forall}
 use Rattle.q_logic.specs.declared.formulas.Bound.{Bound}
-use Rattle.q_logic.specs.Prefixes.{same_quant, run_to, outer_or_same}
+use Rattle.q_logic.specs.Prefixes.{same_quant, run_to, outer_or_same, IsNext}
 use Rattle.q_logic.specs.Formulas.{IsIn}
 use Rattle.q_logic.specs.Steps.{removed_from}
-use Rattle.q_prefix.specs.Order.{Binds, IsNext, IsRankedFrom, IsRanked, with_after}
+use Rattle.q_prefix.specs.Order.{Binds, IsRankedFrom, IsRanked, with_after}
 
 pub same_quant-trans : (a b c : Quant) → same_quant a b ≡ true → same_quant a c ≡ same_quant b c
 same_quant-trans Exists Exists c e = refl

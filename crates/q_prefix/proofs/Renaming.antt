@@ -3,10 +3,10 @@ use Rattle.std.proofs.Common.{◌≡◌, ◌≢◌, ◌⊎◌, ℕ, suc, ◌<◌
 use Rattle.std.proofs.lemmas.Bool.Decides.{nat_tests}
 use Rattle.q_arena.specs.Rings.{Has, AreApart}
 use Rattle.q_arena.specs.Chains.{following}
-use Rattle.q_arena.proofs.Numbers.{ℕ-cases, same-number}
+use Rattle.q_arena.proofs.Numbers.{ℕ-cases, some-same, none-some}
 use Rattle.q_arena.proofs.Paths.{Misses-not}
 use Rattle.q_prefix.specs.Blocks.{ahead, onward, in_front, block_from, of_rank, mate_of}
-use Rattle.q_prefix.proofs.Walks.{following-here, following-later, following-has, followed-has, none-some}
+use Rattle.q_arena.proofs.Following.{following-here, following-later, following-has, followed-has}
 use Rattle.q_prefix.proofs.Directions.{AreOrdered, apart-reverse, has-reverse, reverse-has}
 
 pub apart-ahead : (forward : Bool) (vars : List ℕ) → AreApart vars → AreApart (ahead forward vars)
@@ -153,7 +153,7 @@ pub record IsRenaming (vars : List ℕ) (old now : ℕ → ℕ) (start : ℕ) (a
 
 pub renaming-begun : (vars : List ℕ) (old : ℕ → ℕ) (start to : ℕ) → Has vars start → IsRenaming vars old old start (Some start) to
 renaming-begun vars old start to h = record {
-  there = λ v e. subst (Has vars) (same-number start v e) h;
+  there = λ v e. subst (Has vars) (some-same start v e) h;
   within = λ v i. i;
   block = λ v i. inl i;
   others = λ v f. refl;
@@ -222,7 +222,7 @@ module _ (rank : ℕ → ℕ) (R : ℕ → ℕ → Type 0) (r : ℕ) (mid : (u v
     where
       first : (vars : List ℕ) → slice_get vars 0 ≡ Some y → Has vars y
       first [] e = absurd (none-some y e)
-      first (w ∷ ws) e = inl (sym (same-number w y e))
+      first (w ∷ ws) e = inl (sym (some-same w y e))
 
   -- and from their first one on a walk meets them all
   pub covered : (vars : List ℕ) (x y v : ℕ) → AreOrdered R vars → following x vars ≡ Some y → rank x ≢ r → rank y ≡ r → Has vars v → rank v ≡ r → Has (in_front rank r (onward y vars)) v
@@ -244,5 +244,5 @@ module _ (rank : ℕ → ℕ) (R : ℕ → ℕ → Type 0) (r : ℕ) (mid : (u v
       first : (vars : List ℕ) → AreOrdered R vars → slice_get vars 0 ≡ Some y → Has vars v → Has (in_front rank r (onward y vars)) v
       first [] o s i = absurd i
       first (w ∷ ws) o s i =
-          let wy : w ≡ y = same-number w y s in
+          let wy : w ≡ y = some-same w y s in
           rw (onward-here y w ws wy) (covered-from w ws v o (ap rank wy ∙ e) i q)

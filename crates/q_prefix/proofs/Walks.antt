@@ -1,46 +1,14 @@
 -- Walks along the list of variables.
-use Rattle.std.proofs.Common.{◌≡◌, ◌≢◌, ℕ, zero, suc, ◌+◌, ◌<◌, List, [], ◌∷◌, length, slice_get, None, Some, refl, sym, ◌∙◌, ap, subst, inl, inr, arith, not-suc-le-zero}
-use Rattle.std.proofs.lemmas.Bool.Decides.{nat_tests}
+use Rattle.std.proofs.Common.{◌≡◌, ℕ, zero, suc, ◌+◌, ◌<◌, List, [], ◌∷◌, length, slice_get, None, Some, refl, sym, ◌∙◌, ap, subst, arith, not-suc-le-zero}
 use Rattle.q_logic.specs.declared.formulas.Bound.{Bound}
 use Rattle.q_arena.specs.Rings.{Has, AreApart}
 use Rattle.q_arena.specs.Chains.{following}
-use Rattle.q_arena.proofs.Numbers.{ℕ-cases}
+use Rattle.q_arena.proofs.Numbers.{none-some, some-same}
 use Rattle.q_arena.proofs.Paths.{Misses-not}
-use Rattle.q_arena.proofs.Layouts.{first-has}
+use Rattle.q_arena.proofs.Following.{get-has, following-here, following-later}
 use Rattle.q_prefix.specs.declared.marks.Mark.{Mark}
 use Rattle.q_prefix.specs.Order.{quant_of, mark_at, bound_of, bounds_of}
 use Rattle.q_prefix.proofs.Bounds.{quant-has}
-
-pub none-some : {X : Type 0} (x : X) → None ≡ Some x → ⊥
-none-some x e = cc
-
-pub some-same : {X : Type 0} (x y : X) → Some x ≡ Some y → x ≡ y
-some-same x y e = cc
-
-pub following-here : (p y : ℕ) (ys : List ℕ) → y ≡ p → following p (y ∷ ys) ≡ slice_get ys 0
-following-here p y ys f = grind (arith, nat_tests)
-
-pub following-later : (p y : ℕ) (ys : List ℕ) → y ≢ p → following p (y ∷ ys) ≡ following p ys
-following-later p y ys n = grind (arith, nat_tests)
-
-pub following-has : (p q : ℕ) (ys : List ℕ) → following p ys ≡ Some q → Has ys q
-following-has p q [] e = absurd (none-some q e)
-following-has p q (y ∷ ys) e = elim (ℕ-cases y p) [
-  | inl f ↦ inr (first-has ys q (sym (following-here p y ys f) ∙ e))
-  | inr n ↦ inr (following-has p q ys (sym (following-later p y ys n) ∙ e))
-]
-
-pub followed-has : (p q : ℕ) (ys : List ℕ) → following p ys ≡ Some q → Has ys p
-followed-has p q [] e = absurd (none-some q e)
-followed-has p q (y ∷ ys) e = elim (ℕ-cases y p) [
-  | inl f ↦ inl (sym f)
-  | inr n ↦ inr (followed-has p q ys (sym (following-later p y ys n) ∙ e))
-]
-
-pub get-has : (L : List ℕ) (i v : ℕ) → slice_get L i ≡ Some v → Has L v
-get-has [] i v e = absurd (none-some v e)
-get-has (u ∷ L) zero v e = inl (sym (some-same u v e))
-get-has (u ∷ L) (suc i) v e = inr (get-has L i v e)
 
 next-of : (L : List ℕ) (i v : ℕ) → AreApart L → slice_get L i ≡ Some v → following v L ≡ slice_get L (suc i)
 next-of [] i v a e = absurd (none-some v e)

@@ -3,7 +3,7 @@ use Rattle.std.specs.Prelude.{◌≡◌, ◌⊎◌, ◌≤◌, ◌<◌, ℕ, tru
 use Rattle.q_logic.specs.declared.formulas.Quant.{Quant}
 use Rattle.q_logic.specs.declared.formulas.Quant.TheVariants.{Exists}
 use Rattle.q_logic.specs.declared.formulas.Bound.{Bound}
-use Rattle.q_logic.specs.Prefixes.{same_quant}
+use Rattle.q_logic.specs.Prefixes.{IsNext, same_quant}
 use Rattle.q_arena.specs.Rings.{Has, AreApart, without}
 use Rattle.q_arena.specs.Chains.{Chains, list_at, following, preceding}
 use Rattle.q_prefix.specs.declared.marks.Mark.{Mark}
@@ -42,10 +42,6 @@ with_after n w (b ∷ p) = cond (eqb b.var w) (b ∷ n ∷ p) (b ∷ with_after 
 abbrev pub Binds : List Bound → ℕ → Type 0
 Binds [] v = ⊥
 Binds (b ∷ p) v = (v ≡ b.var) ⊎ Binds p v
-
--- neighbours of one quantifier have one rank, others rising ranks
-abbrev pub IsNext : (ℕ → ℕ) → Bound → Bound → Type 0
-IsNext rank b c = ((same_quant b.quant c.quant ≡ true) × (rank b.var ≡ rank c.var)) ⊎ ((same_quant b.quant c.quant ≡ false) × (rank b.var < rank c.var))
 
 abbrev pub IsRankedFrom : (ℕ → ℕ) → Bound → List Bound → Type 0
 IsRankedFrom rank b [] = Unit {0}

@@ -5,4 +5,4 @@ mod blocks;
 mod marks;
 mod prefix;
 
-pub use prefix::Prefix;
+pub use prefix::{Prefix, greatest_of};

@@ -1,4 +1,5 @@
 ghost use Rattle.std.specs.Prelude.{◌≡◌, ◌≤◌, ◌<◌, ◌+◌, ◌⊎◌, ◌≢◌, ℕ, Bool, true, false, length, slice_get, OnOk, IfOk, Some, None};
+ghost use Rattle.q_logic.specs.InLimits.{greatest};
 ghost use Rattle.q_logic.specs.Prefixes.{is_bound, outer_or_same, Distinct};
 ghost use Rattle.q_logic.specs.Steps.{removed_from};
 ghost use Rattle.q_logic.specs.declared.formulas.Quant.{Quant as Quantifier};
@@ -110,10 +111,8 @@ impl Prefix {
     pub fn first(&self) -> Option<Bound>
         ensures { result ≡ slice_get self.now.bounds 0 }
     {
-        match self.order.first(0) {
-            Some(var) => Some(self.bound(var)),
-            None => None,
-        }
+        let var = self.order.first(0)?;
+        Some(self.bound(var))
     }
 
     /// What stands directly after a variable.
@@ -121,10 +120,8 @@ impl Prefix {
         requires { is_bound self.now.bounds var ≡ true }
         ensures { result ≡ bound_after self.now.bounds var }
     {
-        match self.order.next(var as usize) {
-            Some(next) => Some(self.bound(next)),
-            None => None,
-        }
+        let next = self.order.next(var as usize)?;
+        Some(self.bound(next))
     }
 
     /// What stands directly before a variable.
@@ -133,10 +130,8 @@ impl Prefix {
         ensures value { result ≡ bound_before self.now.bounds var }
         ensures there { (b : BoundValue) → result ≡ Some b → is_bound self.now.bounds b.var ≡ true }
     {
-        match self.order.prev(var as usize) {
-            Some(before) => Some(self.bound(before)),
-            None => None,
-        }
+        let before = self.order.prev(var as usize)?;
+        Some(self.bound(before))
     }
 
     // A variable with its quantifier.
@@ -165,9 +160,7 @@ impl Prefix {
         let room = greatest as usize + 1;
         self.order.reserve(room, 1)?;
         grow_marks(&mut self.marks, room)?;
-        if self.spare < more {
-            self.spare = more;
-        }
+        self.spare = self.spare.max(more);
         Ok(())
     }
 
@@ -210,22 +203,17 @@ fn next_of(order: &Rings, at: Option<usize>) -> Option<usize>
     ensures { (i : ℕ) → at ≡ slice_get (list_at order.now 0) i → result ≡ slice_get (list_at order.now 0) (i + 1) }
 {
     order.distinct();
-    match at {
-        Some(var) => order.next(var),
-        None => None,
-    }
+    let var = at?;
+    order.next(var)
 }
 
-// The greatest variable.
-fn greatest_of(bounds: &[Bound]) -> u32
-    ensures { (k : ℕ) (b : BoundValue) → slice_get bounds.now k ≡ Some b → b.var ≤ result }
+/// The greatest variable.
+pub fn greatest_of(bounds: &[Bound]) -> u32
+    ensures { result ≡ greatest bounds.now }
 {
     let mut greatest = 0;
-    for k in 0..bounds.len() {
-        let var = bounds[k].var;
-        if greatest < var {
-            greatest = var;
-        }
+    for bound in bounds {
+        greatest = bound.var.max(greatest);
     }
     greatest
 }

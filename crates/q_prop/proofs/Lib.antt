@@ -5,7 +5,7 @@ pub mod WatchLemmas
 pub mod WorkingLemmas
 pub mod Reaching
 pub mod Advancing
-pub mod Settling
+pub mod Completing
 pub mod Rooting
 pub mod Taking
 pub mod Placing

@@ -188,7 +188,7 @@ pub fn take_singles(
 }
 
 // Brings the root to its fixed point, and answers whether a clause is falsified.
-pub fn settle(
+pub fn complete(
     watched: &mut Watched,
     skip: Option<usize>,
     trail: &mut Trail,
@@ -287,7 +287,7 @@ pub fn query_anew(
     ensures exact { IfOk result (λ yes. IsTrue yes ↔ Implied (filled (without watched.old.clauses skip)) lits.now) }
 {
     trail.truncate(0);
-    if settle(watched, skip, trail, 0, singles, 0)? {
+    if complete(watched, skip, trail, 0, singles, 0)? {
         return Ok(true);
     }
     query(watched, skip, trail, lits, singles)

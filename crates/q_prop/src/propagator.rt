@@ -7,7 +7,7 @@ ghost use Rattle.q_prop.specs.Roles.{IsRole, IsAlone, IsLoosened};
 
 use crate::clauses::Clauses;
 use crate::lists::{Lists, place_of};
-use crate::propagation::{query, query_anew, query_beside, settle};
+use crate::propagation::{complete, query, query_anew, query_beside};
 use crate::roles::Role;
 use crate::root::Root;
 use crate::rows::Rows;
@@ -27,7 +27,7 @@ pub struct Propagator {
 }
 
 impl Model for Propagator {
-    ghost use Rattle.q_prop.specs.Slots.{Slots};
+    ghost use Rattle.q_logic.specs.Numbered.{Slots};
     ghost use Rattle.q_prop.specs.Watched.{IsPropagated};
 
     ghost Value = { Slots };
@@ -78,13 +78,13 @@ impl Propagator {
         ensures { self.new ≡ slice_set self.old slot None }
     {
         let at = slot as usize;
-        let settled = self.root.is_settled();
+        let complete = self.root.is_complete();
         let rest = loosen(
             &self.watched.clauses,
             at,
             &mut self.root.trail,
             role,
-            settled,
+            complete,
         );
         let done = unlist(
             &self.watched.pairs,
@@ -107,7 +107,7 @@ impl Propagator {
     }
 
     /// Brings the root to its fixed point, or to a conflict.
-    pub fn settle(&mut self) -> Result<(), NoMemory>
+    pub fn complete(&mut self) -> Result<(), NoMemory>
         ensures { self.new ≡ self.old }
     {
         if self.root.conflict {
@@ -116,7 +116,7 @@ impl Propagator {
         let (head, done) = (self.root.head, self.root.done);
         self.root.head = 0;
         self.root.done = 0;
-        let conflict = settle(
+        let conflict = complete(
             &mut self.watched,
             None,
             &mut self.root.trail,
@@ -135,7 +135,7 @@ impl Propagator {
 
     /// The literal of a slot's clause that alone is not false, where the root is found.
     pub(crate) fn left_in(&self, at: usize) -> Option<Lit> {
-        if self.root.is_settled() {
+        if self.root.is_complete() {
             left_in(&self.watched.clauses, at, &self.root.trail)
         } else {
             None
@@ -163,7 +163,7 @@ impl Propagator {
         if self.root.conflict {
             return Ok(true);
         }
-        if !self.root.is_settled() {
+        if !self.root.is_complete() {
             return self.implied_anew(lits, skip);
         }
         query(
@@ -186,8 +186,8 @@ impl Propagator {
         ensures same { self.new ≡ self.old }
         ensures exact { IfOk result (λ yes. IsTrue yes ↔ Implied (filled (without self.old skip)) lits.now) }
     {
-        let settled = self.root.is_settled();
-        if !settled || !self.root.trail.has(lit) {
+        let complete = self.root.is_complete();
+        if !complete || !self.root.trail.has(lit) {
             return self.implied_anew(lits, skip);
         }
         self.root.head = 0;
@@ -285,12 +285,12 @@ impl Propagator {
 
 // Takes off the trail what hangs on the slot alone, where all of the root is found, and answers
 // whether the rest stands without the slot.
-fn loosen(clauses: &Clauses, at: usize, trail: &mut Trail, role: Role, settled: bool) -> bool
+fn loosen(clauses: &Clauses, at: usize, trail: &mut Trail, role: Role, complete: bool) -> bool
     requires { IsRole clauses.now (Some at) role }
-    ensures { IsTrue result → IsLoosened clauses.now at trail.old trail.new settled }
+    ensures { IsTrue result → IsLoosened clauses.now at trail.old trail.new complete }
 {
     if let Role::Alone(lit) = role {
-        if settled && trail.has(lit) {
+        if complete && trail.has(lit) {
             trail.remove(lit);
             return true;
         }

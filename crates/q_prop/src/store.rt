@@ -29,7 +29,7 @@ pub struct Store {
 }
 
 impl Model for Store {
-    ghost use Rattle.q_prop.specs.Slots.{Slots};
+    ghost use Rattle.q_logic.specs.Numbered.{Slots};
     ghost use Rattle.q_prop.specs.Indexes.{IsIndexed};
 
     ghost Value = { Slots };
@@ -151,7 +151,7 @@ impl Store {
         ensures same { self.new ≡ self.old }
         ensures exact { IfOk result (λ yes. IsTrue yes ↔ Implied (filled (without self.old skip)) lits.now) }
     {
-        self.propagator.settle()?;
+        self.propagator.complete()?;
         let role = self.role(skip);
         self.propagator.implied(lits, skip, role)
     }

@@ -15,7 +15,8 @@ use Rattle.q_rebuild.specs.Covered.{OutersCovered, weight, weights}
 use Rattle.q_rebuild.specs.Standing.{look_at, AreLiterals, literal_operand, Stands, IsAt}
 use Rattle.q_rebuild.specs.Growing.{IsGrown, IsDisjunction, IsRaised, IsSomeOf, IsAllOf}
 use Rattle.q_rebuild.specs.Undone.{IsUndone, AreUndone}
-use Rattle.q_rebuild.proofs.Folds.{serves-disjunction, some_of-last, all_of-last, literals-last, IsIn-front, IsIn-last}
+use Rattle.q_rebuild.proofs.Folds.{serves-disjunction, some_of-last, all_of-last, literals-last, IsIn-last}
+use Rattle.q_logic.proofs.ClauseLemmas.{IsIn-append_left}
 use Rattle.q_rebuild.proofs.Rows.{literals-kept, at-kept, literal-serves, stands-put, literals-put}
 
 pub keeps-then : (a b c : Net) → Keeps a b → Keeps b c → Keeps a c
@@ -81,7 +82,7 @@ some-more old now new ins tb O k l m r li lt s e d =
       there = d.there;
       serves = λ U c h v.
           let g = at-kept old now ins tb U c s.grown.kept li lt h in
-          let a = s.serves U c h (λ j i. v j (IsIn-front j O (k ∷ []) i)) in
+          let a = s.serves U c h (λ j i. v j (IsIn-append_left j O (k ∷ []) i)) in
           let b = literal-serves now ins tb U c k m e g (v k (IsIn-last k O)) in
           serves-then _ _ _ d.serves (serves-then _ _ _ (serves-disjunction _ _ _ _ a b) (some_of-last c O k));
     }
@@ -122,7 +123,7 @@ all-more old now mid new ins tb Os O l p r li lt s t c free =
       constant = λ e. absurd (omega arith);
       serves = λ U d h v.
           let g = at-kept old now ins tb U d s.grown.kept li lt h in
-          let a = s.serves U d h (λ N i. v N (IsIn-front N Os (O ∷ []) i)) in
+          let a = s.serves U d h (λ N i. v N (IsIn-append_left N Os (O ∷ []) i)) in
           let a2 : Serves (tree_at mid l) (all_of d Os) = serves-then _ _ _ (serves-same _ _ (t.grown.kept l s.there).1) a in
           let b = t.serves U d g (v O (IsIn-last O Os)) in
           serves-then _ _ _ c.serves (serves-then _ _ _ (serves-conjunction _ _ _ _ a2 b) (all_of-last d Os O));

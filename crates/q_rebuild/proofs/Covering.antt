@@ -9,7 +9,7 @@ use Rattle.q_logic.specs.Steps.{ProofStep, add, delete, drop_literal, fresh, rem
 use Rattle.q_logic.specs.Runs.{SameFormula}
 use Rattle.q_logic.specs.Undos.{UndoEntry, pivot, removed, freshened, Back, Entries, OutersOf, Undos}
 use Rattle.q_logic.proofs.Justified.{JustifiedSteps, JustifiedRun}
-use Rattle.q_logic.proofs.Clauses.{IsIn-outer}
+use Rattle.q_logic.proofs.ClauseLemmas.{IsIn-outer}
 use Rattle.q_logic.proofs.Runs.{one_less-IsIn, at_or_other}
 use Rattle.q_logic.proofs.Order.{is_bound-universal}
 use Rattle.q_logic.proofs.Prefixes.{removed-unbound}

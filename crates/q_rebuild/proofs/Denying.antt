@@ -1,9 +1,9 @@
 -- What is refused is not accepted.
-use Rattle.std.proofs.Common.{◌≡◌, ℕ, refl, true, false, sym, ap, ◌∙◌, subst, Option, Some, None}
+use Rattle.std.proofs.Common.{◌≡◌, ℕ, refl, true, false, sym, ap, ◌∙◌, subst, Some, None}
 use Rattle.q_logic.specs.Formulas.{PrenexFormula}
 use Rattle.q_logic.specs.Prefixes.{is_universal, universal_before}
 use Rattle.q_logic.specs.Certificates.{CertificateView}
-use Rattle.q_rebuild.specs.Refusals.{first_missing, first_strange, input_name, ReadsInput, IsRefused, IsAccepted}
+use Rattle.q_rebuild.specs.Refusals.{input_name, ReadsInput, IsRefused, IsAccepted}
 use Rattle.q_rebuild.specs.declared.error.RebuildError.{RebuildError}
 use Rattle.q_rebuild.specs.declared.error.RebuildError.TheVariants as refusal
 

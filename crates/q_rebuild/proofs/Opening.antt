@@ -11,23 +11,19 @@ use Rattle.q_logic.specs.Circuits.{input}
 use Rattle.q_logic.specs.Certificates.{NamedOutput, CertificateView}
 use Rattle.q_aig.specs.Nets.{Net, IsLiteral, tree_at, operand_of, IsNew, Keeps}
 use Rattle.q_aig.specs.Outputs.{net_of, IsNewName}
+use Rattle.q_check.proofs.Seating.{get-bound}
 use Rattle.q_rebuild.specs.Standing.{look_at, AreLiterals}
 use Rattle.q_rebuild.specs.Copied.{or_zero}
 use Rattle.q_rebuild.specs.Rebuilt.{universals, outputs_for}
 use Rattle.q_rebuild.specs.Made.{IsOpened, IsNamed}
 use Rattle.q_rebuild.proofs.Rows.{literals-kept, inputs-kept, literals-put}
 
-at-bound : (P : Prefix) (i : ℕ) (d : Bound) → i < length P → is_bound P (get_or P i d).var ≡ true
-at-bound [] i d h = absurd (omega arith)
-at-bound (b ∷ P) zero d h = grind arith
-at-bound (b ∷ P) (suc i) d h = let r : is_bound P (get_or P i d).var ≡ true = at-bound P i d (omega arith) in grind arith
-
 pub distinct-at : (P : Prefix) (i : ℕ) (d : Bound) → Distinct P → i < length P → is_bound (take i P) (get_or P i d).var ≡ false
 distinct-at [] i d di h = absurd (omega arith)
 distinct-at (b ∷ P) zero d di h = refl
 distinct-at (b ∷ P) (suc i) d di h =
     let r : is_bound (take i P) (get_or P i d).var ≡ false = distinct-at P i d di.1 (omega arith) in
-    let a : is_bound P (get_or P i d).var ≡ true = at-bound P i d (omega arith) in
+    let a : is_bound P (get_or P i d).var ≡ true = get-bound P i d (omega arith) in
     let n : is_bound P b.var ≡ false = di.0 in
     go (eqb b.var (get_or P i d).var) refl r a n
   where

@@ -18,6 +18,7 @@ use Rattle.q_aig.specs.declared.output.Output.{Output}
 use Rattle.q_aig.specs.Nets.{Net, tree_at, operand_of}
 use Rattle.q_aig.specs.Outputs.{no_output, output_of, net_of, AreOutputs}
 use Rattle.q_aig.specs.Serving.{Serves}
+use Rattle.q_logic.proofs.Truth.{none_bound}
 use Rattle.q_rebuild.specs.Covered.{weights}
 use Rattle.q_rebuild.specs.Standing.{look_at, Stands, IsAt}
 use Rattle.q_rebuild.specs.Copied.{or_zero, marked_upto, AreMarked, AreCopied, ArePlaced, OutputsReadOnly, strategy_of}
@@ -65,10 +66,6 @@ existentials-named tb (b ∷ P) = go (is_exists b.quant) (existentials-named tb 
     go true h = ap (λ (xs : List ℕ). b.var ∷ xs) h
     go false h = h
 
-unbound-existential : (P : Prefix) (x : ℕ) → is_bound P x ≡ false → is_existential P x ≡ false
-unbound-existential [] x h = refl
-unbound-existential (b ∷ P) x h = grind (arith, unbound-existential P x)
-
 output-for : (tb : List (Option ℕ)) (P : Prefix) → Distinct P → (x : ℕ) → output_named x (outputs_for tb P) ≡ cond (is_existential P x) (Some (operand_of (or_zero (look_at tb x)))) None
 output-for tb [] d x = refl
 output-for tb (b ∷ P) d x = go (eqb b.var x) refl (is_exists b.quant) (output-for tb P d.1 x)
@@ -81,7 +78,7 @@ output-for tb (b ∷ P) d x = go (eqb b.var x) refl (is_exists b.quant) (output-
     go true e false h =
         let s : b.var ≡ x = grind arith in
         let n : is_bound P x ≡ false = subst (λ (v : ℕ). is_bound P v ≡ false) s d.0 in
-        h ∙ ap (λ (c : Bool). cond c (Some (operand_of (or_zero (look_at tb x)))) None) (unbound-existential P x n)
+        h ∙ ap (λ (c : Bool). cond c (Some (operand_of (or_zero (look_at tb x)))) None) (none_bound P x n)
     go false e true h = ap (λ (c : Bool). cond c (Some (operand_of (or_zero (look_at tb b.var)))) (output_named x (outputs_for tb P))) e ∙ h
     go false e false h = h
 

@@ -11,6 +11,9 @@ use Rattle.q_logic.specs.Circuits.{Circuit}
 use Rattle.q_logic.specs.Certificates.{CertificateView, trees_of}
 use Rattle.q_logic.specs.Skolems.{given}
 use Rattle.q_aig.specs.Nets.{Net, AreDistinct}
+use Rattle.q_logic.proofs.Truth.{none_bound}
+use Rattle.q_check.proofs.Binding.{unbound-universal}
+use Rattle.q_check.proofs.Seating.{get-bound}
 use Rattle.q_rebuild.specs.Standing.{look_at}
 use Rattle.q_rebuild.specs.Tabled.{Matches, ArePlacesUpto, ArePlaces, is_there, AreExistentials, AreAllowedBy}
 use Rattle.q_rebuild.specs.Refusals.{first_missing}
@@ -42,14 +45,6 @@ is_universal-last2 (a ∷ Q) b x h = go (eqb a.var x) refl (eqb a.var b.var) ref
     go true e false f h ih = let g : eqb x b.var ≡ false = grind arith in ap (λ (c : Bool). cond c (not (is_exists b.quant)) (not (is_exists a.quant))) (sym g)
     go false e false f h ih = ih h
 
-universal-unbound : (P : Prefix) (x : ℕ) → is_bound P x ≡ false → is_universal P x ≡ false
-universal-unbound [] x h = refl
-universal-unbound (b ∷ P) x h = grind (arith, universal-unbound P x)
-
-existential-unbound : (P : Prefix) (x : ℕ) → is_bound P x ≡ false → is_existential P x ≡ false
-existential-unbound [] x h = refl
-existential-unbound (b ∷ P) x h = grind (arith, existential-unbound P x)
-
 at-var : (P : Prefix) (i : ℕ) → Prefix → Bound
 at-var P i Q = get_or P i no_bound
 
@@ -74,7 +69,7 @@ existentials-forall P i tb d lt q h x =
     h x ∙ go (eqb x (get_or P i no_bound).var) refl n ∙ sym m
   where
     go : (t : Bool) → eqb x (get_or P i no_bound).var ≡ t → is_bound (take i P) (get_or P i no_bound).var ≡ false → is_existential (take i P) x ≡ cond t false (is_existential (take i P) x)
-    go true s n = let g : (get_or P i no_bound).var ≡ x = grind arith in existential-unbound (take i P) x (subst (λ (v : ℕ). is_bound (take i P) v ≡ false) g n)
+    go true s n = let g : (get_or P i no_bound).var ≡ x = grind arith in none_bound (take i P) x (subst (λ (v : ℕ). is_bound (take i P) v ≡ false) g n)
     go false s n = refl
 
 pub places-more : (names : List ℕ) (i : ℕ) (tb tb2 : List (Option ℕ)) → AreDistinct names → i < length names → ArePlacesUpto names i tb → ((x : ℕ) → look_at tb2 x ≡ cond (eqb x (get_or names i 0)) (Some i) (look_at tb x)) → ArePlacesUpto names (i + 1) tb2
@@ -152,16 +147,11 @@ before-take [] p u d lt = absurd (omega arith)
 before-take (b ∷ P) zero u d lt = let e : eqb b.var b.var ≡ true = grind arith in ap (λ (t : Bool). cond t false (cond (eqb b.var u) (not (is_exists b.quant) && is_bound P b.var) (universal_before P u b.var))) e
 before-take (b ∷ P) (suc p) u d lt =
     let r = before-take P p u d.1 (omega arith) in
-    let bd : is_bound P (get_or P p no_bound).var ≡ true = at-bound P p (omega arith) in
+    let bd : is_bound P (get_or P p no_bound).var ≡ true = get-bound P p no_bound (omega arith) in
     let n : is_bound P b.var ≡ false = d.0 in
     let e : eqb b.var (get_or P p no_bound).var ≡ false = differ bd n in
     ap (λ (t : Bool). cond t false (cond (eqb b.var u) (not (is_exists b.quant) && is_bound P (get_or P p no_bound).var) (universal_before P u (get_or P p no_bound).var))) e ∙ go (eqb b.var u) bd r
   where
-    at-bound : (P : Prefix) (i : ℕ) → i < length P → is_bound P (get_or P i no_bound).var ≡ true
-    at-bound [] i h = absurd (omega arith)
-    at-bound (b ∷ P) zero h = grind arith
-    at-bound (b ∷ P) (suc i) h = let r : is_bound P (get_or P i no_bound).var ≡ true = at-bound P i (omega arith) in grind arith
-
     differ : is_bound P (get_or P p no_bound).var ≡ true → is_bound P b.var ≡ false → eqb b.var (get_or P p no_bound).var ≡ false
     differ bd n = elim (cases_Bool (eqb b.var (get_or P p no_bound).var)) [
       | inl e ↦ absurd (let s : (get_or P p no_bound).var ≡ b.var = grind arith in both_ways (is_bound P b.var) n (subst (λ (v : ℕ). is_bound P v ≡ true) s bd))
@@ -186,7 +176,7 @@ allowed-exists P i names al d lt q h k hk =
     h k hk ∙ go (eqb (get_or names k 0) (get_or P i no_bound).var) refl n ∙ sym m
   where
     go : (t : Bool) → eqb (get_or names k 0) (get_or P i no_bound).var ≡ t → is_bound (take i P) (get_or P i no_bound).var ≡ false → is_universal (take i P) (get_or names k 0) ≡ cond t false (is_universal (take i P) (get_or names k 0))
-    go true s n = let g : (get_or P i no_bound).var ≡ get_or names k 0 = grind arith in universal-unbound (take i P) (get_or names k 0) (subst (λ (v : ℕ). is_bound (take i P) v ≡ false) g n)
+    go true s n = let g : (get_or P i no_bound).var ≡ get_or names k 0 = grind arith in unbound-universal (take i P) (get_or names k 0) (subst (λ (v : ℕ). is_bound (take i P) v ≡ false) g n)
     go false s n = refl
 
 pub allowed-forall : (P : Prefix) (i : ℕ) (names : List ℕ) (al al2 : List Bool) → Distinct P → i < length P → (get_or P i no_bound).quant ≡ Forall → AreAllowedBy (take i P) names al → ((k : ℕ) → k < length names → get_or al2 k false ≡ cond (eqb (get_or names k 0) (get_or P i no_bound).var) true (get_or al k false)) → AreAllowedBy (take (i + 1) P) names al2

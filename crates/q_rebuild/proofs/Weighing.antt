@@ -1,9 +1,9 @@
 -- The greatest weight of the inputs that circuits read, gate by gate.
-use Rattle.std.proofs.Common.{◌≡◌, ◌⊎◌, ℕ, ◌+◌, ◌-◌, ◌<◌, ◌≤◌, Bool, true, false, cond, max, List, [], ◌∷◌, ◌++◌, length, get_or, slice_get, inl, inr, arith, refl, sym, ap, ◌∙◌, subst, Some}
+use Rattle.std.proofs.Common.{◌≡◌, ◌⊎◌, ℕ, ◌+◌, ◌<◌, ◌≤◌, Bool, true, false, cond, max, List, [], ◌∷◌, ◌++◌, length, get_or, slice_get, inl, inr, arith, refl, sym, ◌∙◌, subst, Some}
 use Rattle.std.proofs.lemmas.Bool.{cases_lt}
 use Rattle.std.proofs.lemmas.List.{length_push, get_or_append_left, get_or_push}
 use Rattle.q_logic.specs.Circuits.{Circuit, Reads, conjunction, inverter}
-use Rattle.q_logic.specs.Certificates.{GateNode, falsum, input_at, gate_at, Operand, Gate, IsThere, node_tree, operand_tree, gate_tree, gate_trees}
+use Rattle.q_logic.specs.Certificates.{GateNode, falsum, input_at, gate_at, node_tree, gate_trees}
 use Rattle.q_aig.specs.Nets.{Net, operand_of, gate_of, tree_at, AreDistinct, IsNet}
 use Rattle.q_rebuild.specs.Copied.{tree_of_gate}
 use Rattle.q_rebuild.specs.Peaks.{IsPeak, ArePeaks, IsTop}

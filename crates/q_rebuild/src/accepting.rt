@@ -195,10 +195,7 @@ fn reads_of(
     ensures unchanged { given.new ≡ given.old }
     ensures found { IsFirstIn given.old var allowed.now result }
 {
-    match look(table, var) {
-        Some(lit) => given.reads(lit, allowed),
-        None => None,
-    }
+    given.reads(look(table, var)?, allowed)
 }
 
 // The first existential whose circuit reads what does not stand before it, and what it reads.

@@ -1,5 +1,5 @@
 -- Sure hops: what they tell, and that they stay right.
-use Rattle.std.proofs.Common.{◌≡◌, ◌≢◌, ◌≤◌, ◌<◌, ◌+◌, ◌⊎◌, ℕ, zero, suc, Bool, true, false, cond, get_or, set, replicate, take, length, List, [], ◌∷◌, ◌++◌, Option, Some, None, refl, sym, ◌∙◌, ap, subst, inl, inr, arith}
+use Rattle.std.proofs.Common.{◌≡◌, ◌≢◌, ◌≤◌, ◌<◌, ◌+◌, ◌⊎◌, ℕ, zero, suc, Bool, true, false, cond, get_or, set, take, length, List, [], ◌∷◌, ◌++◌, Option, Some, None, refl, sym, ◌∙◌, ap, subst, inl, inr, arith}
 use Rattle.q_logic.specs.declared.rule_bounds.Bounds.{Bounds}
 use Rattle.q_logic.specs.Literals.{Literal, negation, pack}
 use Rattle.q_logic.specs.Formulas.{Clause, Matrix, Prefix, PrenexFormula, IsIn}
@@ -18,10 +18,11 @@ use Rattle.q_logic.proofs.Reaching.{IsIn-alike}
 use Rattle.q_logic.proofs.Searching.{hit-reached}
 use Rattle.q_arena.specs.Rings.{Has}
 use Rattle.q_kernel.specs.Kernels.{Seen, slots, formula_in, SameView}
-use Rattle.q_kernel.specs.Changes.{AreAlike}
+use Rattle.q_logic.specs.Runs.{AreAlike}
 use Rattle.q_kernel.specs.Taking.{IsTaken}
 use Rattle.q_kernel.proofs.Slotting.{IsIn-slot}
 use Rattle.q_kernel.proofs.Following.{Has-last}
+use Rattle.q_arena.proofs.Numbers.{some-same}
 use Rattle.q_reduce.specs.declared.hop.Hop.{Hop}
 use Rattle.q_reduce.specs.declared.hop.Hop.TheVariants.{Nothing, Core, Sure, Hint}
 use Rattle.q_reduce.specs.declared.target.Target.{Target}
@@ -29,16 +30,11 @@ use Rattle.q_reduce.specs.declared.target.Target.TheVariants.{Tautology, Unit, C
 use Rattle.q_reduce.specs.Targets.{target_of}
 use Rattle.q_reduce.specs.Hops.{Joins, IsMet, HoldsUniversal, GoesTo, Tells, hop_at, IsBridge, AreSure, IsLoosened, Rows, no_rows, AreHopsOf, AreLoosened, IsAssigned, IsTouched}
 use Rattle.q_rule.proofs.Marking.{pack-apart}
-use Rattle.q_rule.proofs.Members.{taken-cases, taken-all}
+use Rattle.q_logic.proofs.Members.{taken-cases, taken-all}
 use Rattle.q_rule.proofs.Outer.{occurring-universal, occurring-stays}
 use Rattle.q_rule.proofs.Quantifiers.{bound-universal}
 
 -- Rows of hops.
-blank : (n i : ℕ) → get_or (replicate n Nothing) i Nothing ≡ Nothing
-blank zero i = refl
-blank (suc n) zero = refl
-blank (suc n) (suc i) = blank n i
-
 set-cases : (row : List Hop) (i n : ℕ) (h : Hop) (j : Literal) → GoesTo (get_or (set row i h) n Nothing) j → ((n ≡ i) × (get_or (set row i h) n Nothing ≡ h)) ⊎ ((n ≢ i) × (get_or (set row i h) n Nothing ≡ get_or row n Nothing))
 set-cases [] i n h j g = absurd g
 set-cases (x ∷ row) zero zero h j g = inl (refl, refl)
@@ -60,9 +56,6 @@ module _ (P : Prefix) (X : Matrix) where
   pub sure-none : AreSure P X []
   sure-none k j g = absurd g
 
-  pub sure-blank : (n : ℕ) → AreSure P X (replicate n Nothing)
-  sure-blank n k j g = absurd (along (hop_at (replicate n Nothing) k) Nothing j (blank n (pack k)) g)
-
   pub sure-set : (row : List Hop) (k : Literal) (h : Hop) → ((j : Literal) → GoesTo h j → Spans k j h) → AreSure P X row → AreSure P X (set row (pack k) h)
   sure-set row k h f all i j g = elim (set-cases row (pack k) (pack i) h j g) [
     | inl a ↦ subst (λ (x : Literal). Spans x j (hop_at (set row (pack k) h) i)) (sym (pack-apart i k a.0))
@@ -75,14 +68,11 @@ module _ (P : Prefix) (X : Matrix) where
   sure-span row k j h all e g = subst (λ (y : Hop). Spans k j y) e (all k j (along h (hop_at row k) j (sym e) g))
 
 -- A bridge serves where it is not the clause of the question.
-one : (C D : Clause) → Some C ≡ Some D → C ≡ D
-one C D e = cc
-
 pub bridge-joins : (P : Prefix) (N : Slots) (c : ℕ) (u k j : Literal) (E : Clause) → HoldsUniversal P N c u → IsIn E (live N) → (IsIn u E → ⊥) → IsIn k E → IsIn j E → Joins (others c N) u k j
 bridge-joins P N c u k j E q m lacks a b =
     let d = IsIn-slot N E m in (
       E,
-      others-slot N d.0 c E (λ e. lacks (subst (λ (x : Clause). IsIn u x) (one q.0 E (sym q.1 ∙ (ap (slot N) (sym e) ∙ d.1))) q.2)) d.1,
+      others-slot N d.0 c E (λ e. lacks (subst (λ (x : Clause). IsIn u x) (some-same q.0 E (sym q.1 ∙ (ap (slot N) (sym e) ∙ d.1))) q.2)) d.1,
       lacks,
       a,
       b,
@@ -165,7 +155,7 @@ pub owned-more : (N : Slots) (owner : ℕ → ℕ) (places : List ℕ) (p : ℕ)
 owned-more N owner places p C old mid new h f g = loosened-through (IsOwned N owner places) (λ D. D ≡ C) (IsOwned N owner (places ++ p ∷ [])) old mid new
     (λ D t. elim (Has-last p t.0 places t.1) [
       | inl a ↦ inl (t.0, a, t.2)
-      | inr e ↦ inr (one D C (sym t.2 ∙ (ap (λ (q : ℕ). slot N (owner q)) e ∙ h)))
+      | inr e ↦ inr (some-same D C (sym t.2 ∙ (ap (λ (q : ℕ). slot N (owner q)) e ∙ h)))
     ]) f g
 
 pub owned-ended : (N : Slots) (owner : ℕ → ℕ) (places : List ℕ) (l : Literal) (old new : List Hop) → ((d : ℕ) (D : Clause) → slot N d ≡ Some D → IsIn l D → (p : ℕ) × Has places p × (owner p ≡ d)) → IsLoosened (IsOwned N owner places) old new → IsLoosened (λ D. IsIn D (live N) × IsIn l D) old new

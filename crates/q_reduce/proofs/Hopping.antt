@@ -11,7 +11,7 @@ use Rattle.q_logic.proofs.Implying.{negation-negation}
 use Rattle.q_logic.proofs.Searching.{hit-reached, hit-not_reducible}
 use Rattle.q_reduce.specs.Walks.{IsGrown}
 use Rattle.q_reduce.specs.Hops.{LeadsBack, IsExit}
-use Rattle.q_reduce.proofs.Walks.{others-find}
+use Rattle.q_rule.proofs.Slots.{others-find}
 
 module _ (P : Prefix) (X : Matrix) (u : Literal) where
   -- by a clause with the negation of u, or with the negation of a literal before an exit, whoever enters it

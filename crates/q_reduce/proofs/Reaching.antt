@@ -6,31 +6,11 @@ use Rattle.q_logic.specs.Prefixes.{is_universal}
 use Rattle.q_logic.specs.Expanding.{inner_existential}
 use Rattle.q_logic.specs.Reach.{Reached, Reducible}
 use Rattle.q_logic.proofs.Searching.{closed-reducible, Reaching, hit-reached, hit-not_reducible}
-use Rattle.q_reduce.specs.Walks.{IsWidened, IsSettled, IsVisited}
-use Rattle.q_reduce.proofs.Walks.{IsIn-grown, settled-more}
-
--- members and places
-pub member-place : (xs : List Literal) (k : Literal) → IsIn k xs → (j : ℕ) × (j < length xs) × (slice_get xs j ≡ Some k)
-member-place [] k m = absurd m
-member-place (x ∷ xs) k (inl e) = (0, omega arith, ap Some (sym e))
-member-place (x ∷ xs) k (inr m) = let r = member-place xs k m in (suc r.0, (let h = r.1 in omega arith), r.2)
-
-pub place-member : (xs : List Literal) (j : ℕ) (k : Literal) → slice_get xs j ≡ Some k → IsIn k xs
-place-member [] j k e = absurd (cc)
-place-member (x ∷ xs) zero k e = inl (cc)
-place-member (x ∷ xs) (suc j) k e = inr (place-member xs j k e)
-
-earlier : (n i : ℕ) → n < i + 1 → (n < i) ⊎ (n ≡ i)
-earlier n i h = grind arith
-
-same_some : (n k : Literal) → Some n ≡ Some k → n ≡ k
-same_some n k e = cc
-
--- a place of the longer list that lies in the shorter one
-before_growth : (xs ys : List Literal) (j : ℕ) (k : Literal) → j < length xs → slice_get (xs ++ ys) j ≡ Some k → slice_get xs j ≡ Some k
-before_growth [] ys j k l e = absurd (omega arith)
-before_growth (x ∷ xs) ys zero k l e = e
-before_growth (x ∷ xs) ys (suc j) k l e = before_growth xs ys j k (omega arith) e
+use Rattle.q_arena.proofs.Numbers.{some-same}
+use Rattle.q_rule.proofs.Searching.{before_or_at}
+use Rattle.q_rule.proofs.Members.{member-place, place-member, before_growth, IsIn-grown}
+use Rattle.q_reduce.specs.Walks.{IsWidened, IsWorkedOff, IsVisited}
+use Rattle.q_reduce.proofs.Walks.{worked_off-more}
 
 module _ (P : Prefix) (X : Matrix) (C : Clause) (u : Literal) where
   -- the literals before the head were visited
@@ -38,7 +18,7 @@ module _ (P : Prefix) (X : Matrix) (C : Clause) (u : Literal) where
     pub within : head ≤ length known
     pub begun : (k : Literal) → IsIn k C → inner_existential P u.var k.var ≡ true → IsIn k known
     pub linked : (k : Literal) → IsIn k known → Reaching P X C u k
-    pub visited : (j : ℕ) (k : Literal) → j < head → slice_get known j ≡ Some k → (E : Clause) → IsIn E X → IsIn (negation k) E → IsSettled P u known E
+    pub visited : (j : ℕ) (k : Literal) → j < head → slice_get known j ≡ Some k → (E : Clause) → IsIn E X → IsIn (negation k) E → IsWorkedOff P u known E
 
   pub walk-begun : (known : List Literal) → IsWidened P u C [] known → IsWalk 0 known
   walk-begun known w = record {
@@ -56,8 +36,8 @@ module _ (P : Prefix) (X : Matrix) (C : Clause) (u : Literal) where
       | inl a ↦ w.linked j a
       | inr a ↦ (a.0, hit-reached P X C u a.0 k (w.linked k (place-member old head k e)) a.1.0 a.2 a.1.1, a.3, a.4)
     ];
-    visited = λ j i l f E d m. elim (earlier j head l) [
-      | inl b ↦ settled-more P u old new v.0.added E v.0.is (w.visited j i b (was j i (omega arith) f) E d m)
+    visited = λ j i l f E d m. elim (before_or_at j head l) [
+      | inl b ↦ worked_off-more P u old new v.0.added E v.0.is (w.visited j i b (was j i (omega arith) f) E d m)
       | inr b ↦ v.1 E d (subst (λ (x : Literal). IsIn (negation x) E) (here j i b f) m)
     ];
   }
@@ -69,7 +49,7 @@ module _ (P : Prefix) (X : Matrix) (C : Clause) (u : Literal) where
       was j i l f = before_growth old v.0.added j i l (subst (λ (xs : List Literal). slice_get xs j ≡ Some i) v.0.is f)
 
       here : (j : ℕ) (i : Literal) → j ≡ head → slice_get new j ≡ Some i → i ≡ k
-      here j i b f = same_some i k (sym (was j i (omega arith) f) ∙ (ap (slice_get old) b ∙ e))
+      here j i b f = some-same i k (sym (was j i (omega arith) f) ∙ (ap (slice_get old) b ∙ e))
 
   pub walk-refuted : (head : ℕ) (k : Literal) (old new : List Literal) → IsWalk head old → slice_get old head ≡ Some k → IsVisited P X u k old new false → Reducible P X C u → ⊥
   walk-refuted head k old new w e v = hit-not_reducible P X C u v.0 k (w.linked k (place-member old head k e)) v.1 v.3 v.2 v.4
@@ -77,8 +57,8 @@ module _ (P : Prefix) (X : Matrix) (C : Clause) (u : Literal) where
   -- once all literals were visited, they are closed
   pub walk-ended : (head : ℕ) (known : List Literal) → IsWalk head known → length known ≤ head → is_universal P u.var ≡ true → IsIn u C → (IsIn (negation u) C → ⊥) → Reducible P X C u
   walk-ended head known w past t m n = closed-reducible P X C u known t m n
-      (record { of_first = w.begun; of_hit = λ E d f k i h j o q. elim (settled k i E d h) [ inl a ↦ absurd (f a) | inr a ↦ a.1 j o q ] })
-      (record { none = λ E d f k i h o. elim (settled k i E d h) [ inl a ↦ f a | inr a ↦ a.0 o ] })
+      (record { of_first = w.begun; of_hit = λ E d f k i h j o q. elim (worked_off k i E d h) [ inl a ↦ absurd (f a) | inr a ↦ a.1 j o q ] })
+      (record { none = λ E d f k i h o. elim (worked_off k i E d h) [ inl a ↦ f a | inr a ↦ a.0 o ] })
     where
-      settled : (k : Literal) → IsIn k known → (E : Clause) → IsIn E X → IsIn (negation k) E → IsSettled P u known E
-      settled k i E d h = let j = member-place known k i in w.visited j.0 k (let z = j.1 in omega arith) j.2 E d h
+      worked_off : (k : Literal) → IsIn k known → (E : Clause) → IsIn E X → IsIn (negation k) E → IsWorkedOff P u known E
+      worked_off k i E d h = let j = member-place known k i in w.visited j.0 k (let z = j.1 in omega arith) j.2 E d h

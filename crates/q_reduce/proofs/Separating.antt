@@ -20,13 +20,13 @@ use Rattle.q_logic.proofs.Slots.{live-slot, IsIn-without_literal}
 use Rattle.q_logic.proofs.UniversalPivot.{without-IsIn}
 use Rattle.q_logic.proofs.Reaching.{IsIn-alike, alike-sym}
 use Rattle.q_kernel.specs.Kernels.{Seen, slots, formula_in, SameView}
-use Rattle.q_kernel.specs.Changes.{AreAlike}
+use Rattle.q_logic.specs.Runs.{AreAlike}
 use Rattle.q_kernel.specs.Taking.{IsTaken}
 use Rattle.q_reduce.specs.declared.target.Target.{Target}
 use Rattle.q_reduce.specs.declared.target.Target.TheVariants.{Tautology, Unit, Cut, Pure}
 use Rattle.q_reduce.specs.Targets.{target_of}
 use Rattle.q_reduce.specs.Regions.{RegionMap, region_of, is_covered, key_of, IsRegional, AreRegions, AreRegionsOf}
-use Rattle.q_reduce.proofs.Walks.{others-find}
+use Rattle.q_rule.proofs.Slots.{others-find}
 use Rattle.q_rule.proofs.Outer.{inner-through, occurring-universal, occurring-inner}
 
 -- What a search among ascending numbers tells.
@@ -64,15 +64,12 @@ regional-inside P R w u D o h = record {
   noted = λ l k m c n t. h.noted l k m c n (inner-through P w u k.var o t);
 }
 
--- A clause in the region, and one without inner literals.
+-- A clause in the region.
 pub regional-of : (P : Prefix) (R : RegionMap) (w r : ℕ) (D : Clause) → ((k : Literal) → IsIn k D → inner_existential P w k.var ≡ true → region_of R k.var ≡ r) → ((l : Literal) → IsIn l D → is_covered R l.var ≡ true → IsIn (key_of l r) R.keys) → IsRegional P R w D
 regional-of P R w r D f g = record {
   one = λ j k m n s t. f j m s ∙ sym (f k n t);
   noted = λ l k m c n t. subst (λ (x : ℕ). IsIn (key_of l x) R.keys) (sym (f k n t)) (g l m c);
 }
-
-pub regional-none : (P : Prefix) (R : RegionMap) (w : ℕ) (D : Clause) → ((k : Literal) → IsIn k D → inner_existential P w k.var ≡ true → ⊥) → IsRegional P R w D
-regional-none P R w D h = record { one = λ j k m n s t. absurd (h j m s); noted = λ l k m c n t. absurd (h k n t) }
 
 -- What is reached from a clause in a region lies in it.
 module _ (P : Prefix) (N : Slots) (R : RegionMap) (c : ℕ) (C : Clause) (l : Literal) (t : is_universal P l.var ≡ true) (there : slot N c ≡ Some C) (held : IsIn l C) (lacks : IsIn (negation l) C → ⊥) where

@@ -1,5 +1,5 @@
 -- Walks, literal by literal and clause by clause.
-use Rattle.std.proofs.Common.{◌≡◌, ◌≢◌, ◌⊎◌, ℕ, Bool, zero, suc, None, true, false, List, [], ◌∷◌, ◌++◌, Some, sym, ◌∙◌, ap, subst, inl, inr, arith, append-nil, append_assoc}
+use Rattle.std.proofs.Common.{◌≡◌, ◌⊎◌, ℕ, Bool, true, false, List, [], ◌∷◌, ◌++◌, Some, sym, ◌∙◌, ap, subst, inl, inr, append-nil, append_assoc}
 use Rattle.q_logic.specs.Literals.{Literal, negation}
 use Rattle.q_logic.specs.Formulas.{Clause, Prefix, IsIn}
 use Rattle.q_logic.specs.Expanding.{inner_existential}
@@ -8,26 +8,17 @@ use Rattle.q_logic.proofs.Slots.{others-slot}
 use Rattle.q_arena.specs.Rings.{Has}
 use Rattle.q_kernel.proofs.Slotting.{IsIn-slot, slot-IsIn}
 use Rattle.q_kernel.proofs.Following.{Has-last}
-use Rattle.q_logic.proofs.Clauses.{IsIn-append_left, IsIn-append}
+use Rattle.q_logic.proofs.ClauseLemmas.{IsIn-append_left, IsIn-append}
 use Rattle.q_logic.proofs.Implying.{IsIn-append_right}
-use Rattle.q_reduce.specs.Walks.{IsWidened, IsSettled, IsGrown, Stands, IsFollowed, IsVisited}
-
-pub IsIn-grown : (old new added : List Literal) (k : Literal) → new ≡ old ++ added → IsIn k old → IsIn k new
-IsIn-grown old new added k e m = rw e (IsIn-append_left k old added m)
-
--- A clause beside that of a number stands at another number.
-pub others-find : (N : Slots) (c : ℕ) (E : Clause) → IsIn E (others c N) → (d : ℕ) × (d ≢ c) × (slot N d ≡ Some E)
-others-find [] c E m = absurd m
-others-find (o ∷ N) zero E m = let r = IsIn-slot N E m in (suc r.0, (λ e. omega arith), r.1)
-others-find (None ∷ N) (suc c) E m = let r = others-find N c E m in (suc r.0, (λ e. r.1 (omega arith)), r.2)
-others-find (Some D ∷ N) (suc c) E (inl e) = (0, (λ z. omega arith), ap Some (sym e))
-others-find (Some D ∷ N) (suc c) E (inr m) = let r = others-find N c E m in (suc r.0, (λ e. r.1 (omega arith)), r.2)
+use Rattle.q_rule.proofs.Members.{IsIn-grown}
+use Rattle.q_rule.proofs.Slots.{slot-one, others-live}
+use Rattle.q_reduce.specs.Walks.{IsWidened, IsWorkedOff, IsGrown, Stands, IsFollowed, IsVisited}
 
 module _ (P : Prefix) (u : Literal) where
   pub widened-begun : (old : List Literal) → IsWidened P u [] old old
   widened-begun old = record { added = []; is = sym (append-nil old); all_there = λ k i t. absurd i; no_other = λ k m. inl m }
 
-  -- one more literal of the clause, which is not inner or there already
+  -- slot-one more literal of the clause, which is not inner or there already
   pub widened-left : (C D : Clause) (j : Literal) (old new : List Literal) → ((k : Literal) → IsIn k D → IsIn k C ⊎ (k ≡ j)) → ((k : Literal) → IsIn k C → IsIn k D) → (inner_existential P u.var j.var ≡ true → IsIn j new) → IsWidened P u C old new → IsWidened P u D old new
   widened-left C D j old new f g h w = record {
     added = w.added;
@@ -57,14 +48,11 @@ module _ (P : Prefix) (u : Literal) where
     ];
   }
 
-  one : (N : Slots) (n : ℕ) (C D : Clause) → slot N n ≡ Some C → slot N n ≡ Some D → C ≡ D
-  one N n C D e f = let g : Some C ≡ Some D = sym e ∙ f in cc
-
   pub grown-same : (Q : Clause → Type 0) (old : List Literal) → IsGrown P u Q old old
   grown-same Q old = record { added = []; is = sym (append-nil old); from = λ k m. inl m }
 
   pub followed-held : (N : Slots) (d : ℕ) (C : Clause) (old : List Literal) → slot N d ≡ Some C → IsIn u C → IsFollowed P N u d old old true
-  followed-held N d C old h m = (grown-same (Stands N d) old, λ E b. inl (subst (λ (x : Clause). IsIn u x) (one N d C E h b) m))
+  followed-held N d C old h m = (grown-same (Stands N d) old, λ E b. inl (subst (λ (x : Clause). IsIn u x) (slot-one N d C E h b) m))
 
   pub grown-widened : (N : Slots) (d : ℕ) (C : Clause) (old new : List Literal) → slot N d ≡ Some C → (IsIn u C → ⊥) → IsWidened P u C old new → IsGrown P u (Stands N d) old new
   grown-widened N d C old new h a w = record { added = w.added; is = w.is; from = λ k m. elim (w.no_other k m) [ inl x ↦ inl x | inr x ↦ inr (C, h, a, x.0, x.1) ] }
@@ -72,12 +60,12 @@ module _ (P : Prefix) (u : Literal) where
   pub followed-widened : (N : Slots) (d : ℕ) (C : Clause) (old new : List Literal) → slot N d ≡ Some C → (IsIn u C → ⊥) → (IsIn (negation u) C → ⊥) → IsWidened P u C old new → IsFollowed P N u d old new true
   followed-widened N d C old new h a b w = (
     grown-widened N d C old new h a w,
-    (λ E s. let q = one N d C E h s in inr ((λ m. b (subst (λ (x : Clause). IsIn (negation u) x) (sym q) m)), (λ k m t. w.all_there k (subst (λ (x : Clause). IsIn k x) (sym q) m) t))),
+    (λ E s. let q = slot-one N d C E h s in inr ((λ m. b (subst (λ (x : Clause). IsIn (negation u) x) (sym q) m)), (λ k m t. w.all_there k (subst (λ (x : Clause). IsIn k x) (sym q) m) t))),
   )
 
-  pub settled-more : (old new added : List Literal) (E : Clause) → new ≡ old ++ added → IsSettled P u old E → IsSettled P u new E
-  settled-more old new added E e (inl m) = inl m
-  settled-more old new added E e (inr (n, h)) = inr (n, λ k m t. IsIn-grown old new added k e (h k m t))
+  pub worked_off-more : (old new added : List Literal) (E : Clause) → new ≡ old ++ added → IsWorkedOff P u old E → IsWorkedOff P u new E
+  worked_off-more old new added E e (inl m) = inl m
+  worked_off-more old new added E e (inr (n, h)) = inr (n, λ k m t. IsIn-grown old new added k e (h k m t))
 
   pub grown-through : (Q R : Clause → Type 0) (old mid new : List Literal) → ((E : Clause) → R E → Q E) → IsGrown P u Q old mid → IsGrown P u R mid new → IsGrown P u Q old new
   grown-through Q R old mid new f g h = record {
@@ -86,22 +74,19 @@ module _ (P : Prefix) (u : Literal) where
     from = λ k m. elim (h.from k m) [ inl x ↦ g.from k x | inr x ↦ inr (x.0, f x.0 x.1, x.2, x.3, x.4) ];
   }
 
-  pub grown-wider : (Q R : Clause → Type 0) (old new : List Literal) → ((E : Clause) → Q E → R E) → IsGrown P u Q old new → IsGrown P u R old new
-  grown-wider Q R old new f g = record { added = g.added; is = g.is; from = λ k m. elim (g.from k m) [ inl a ↦ inl a | inr a ↦ inr (a.0, f a.0 a.1, a.2, a.3, a.4) ] }
-
   -- the clauses that own places which a walk has passed were followed
   pub record IsFollowing (N : Slots) (owner : ℕ → ℕ) (Q : Clause → Type 0) (places : List ℕ) (old new : List Literal) : Type 0 where
     pub grown : IsGrown P u Q old new
-    pub settled : (p : ℕ) (E : Clause) → Has places p → Stands N (owner p) E → IsSettled P u new E
+    pub worked_off : (p : ℕ) (E : Clause) → Has places p → Stands N (owner p) E → IsWorkedOff P u new E
 
   pub following-begun : (N : Slots) (owner : ℕ → ℕ) (Q : Clause → Type 0) (old : List Literal) → IsFollowing N owner Q [] old old
-  following-begun N owner Q old = record { grown = grown-same Q old; settled = λ p E h b. absurd h }
+  following-begun N owner Q old = record { grown = grown-same Q old; worked_off = λ p E h b. absurd h }
 
   pub following-more : (N : Slots) (owner : ℕ → ℕ) (Q : Clause → Type 0) (places : List ℕ) (p : ℕ) (old mid new : List Literal) → ((E : Clause) → Stands N (owner p) E → Q E) → IsFollowing N owner Q places old mid → IsFollowed P N u (owner p) mid new true → IsFollowing N owner Q (places ++ p ∷ []) old new
   following-more N owner Q places p old mid new q f h = record {
     grown = grown-through Q (Stands N (owner p)) old mid new q f.grown h.0;
-    settled = λ r E m b. elim (Has-last p r places m) [
-      | inl a ↦ settled-more mid new h.0.added E h.0.is (f.settled r E a b)
+    worked_off = λ r E m b. elim (Has-last p r places m) [
+      | inl a ↦ worked_off-more mid new h.0.added E h.0.is (f.worked_off r E a b)
       | inr e ↦ h.1 E (subst (λ (x : ℕ). Stands N (owner x) E) e b)
     ];
   }
@@ -113,7 +98,7 @@ module _ (P : Prefix) (u : Literal) where
     (λ E m i.
         let d = IsIn-slot N E m in
         let p = own d.0 E d.1 i in
-        f.settled p.0 E p.1 (subst (λ (x : ℕ). Stands N x E) (sym p.2) d.1)),
+        f.worked_off p.0 E p.1 (subst (λ (x : ℕ). Stands N x E) (sym p.2) d.1)),
   )
 
   -- a clause that was followed and holds the negation of u
@@ -121,22 +106,19 @@ module _ (P : Prefix) (u : Literal) where
   visited-not N d k D old mid new h m f = (
     f.0,
     slot-IsIn N d f.0 f.1,
-    subst (λ (x : Clause). IsIn (negation k) x) (one N d D f.0 h f.1) m,
+    subst (λ (x : Clause). IsIn (negation k) x) (slot-one N d D f.0 h f.1) m,
     f.2,
     f.3,
   )
 
   pub stands-held : (N : Slots) (d : ℕ) (l : Literal) (D E : Clause) → slot N d ≡ Some D → IsIn l D → Stands N d E → IsIn E (live N) × IsIn l E
-  stands-held N d l D E h m b = (slot-IsIn N d E b, subst (λ (x : Clause). IsIn l x) (one N d D E h b) m)
+  stands-held N d l D E h m b = (slot-IsIn N d E b, subst (λ (x : Clause). IsIn l x) (slot-one N d D E h b) m)
 
-  -- A clause that lacks u stands beside one that holds it.
+  -- A clause that lacks u stands beside slot-one that holds it.
   lacking-beside : (N : Slots) (c : ℕ) (C E : Clause) → slot N c ≡ Some C → IsIn u C → IsIn E (live N) → (IsIn u E → ⊥) → IsIn E (others c N)
   lacking-beside N c C E h m i n =
       let d = IsIn-slot N E i in
-      others-slot N d.0 c E (λ e. n (subst (λ (x : Clause). IsIn u x) (one N c C E h (subst (λ (x : ℕ). slot N x ≡ Some E) e d.1)) m)) d.1
-
-  others-live : (N : Slots) (c : ℕ) (E : Clause) → IsIn E (others c N) → IsIn E (live N)
-  others-live N c E i = let r = others-find N c E i in slot-IsIn N r.0 E r.2
+      others-slot N d.0 c E (λ e. n (subst (λ (x : Clause). IsIn u x) (slot-one N c C E h (subst (λ (x : ℕ). slot N x ≡ Some E) e d.1)) m)) d.1
 
   -- So what a walk meets, it meets beside the clause that is asked about.
   pub visited-beside : (N : Slots) (c : ℕ) (C : Clause) (k : Literal) (old new : List Literal) (b : Bool) → slot N c ≡ Some C → IsIn u C → IsVisited P (live N) u k old new b → IsVisited P (others c N) u k old new b

@@ -13,8 +13,8 @@ pub record IsWidened (P : Prefix) (u : Literal) (C : Clause) (old new : List Lit
   pub no_other : (k : Literal) → IsIn k new → IsIn k old ⊎ (IsIn k C × (inner_existential P u.var k.var ≡ true))
 
 -- the clause holds u, or else not its negation, and the list has its inner literals
-abbrev pub IsSettled : Prefix → Literal → List Literal → Clause → Type 0
-IsSettled P u known E =
+abbrev pub IsWorkedOff : Prefix → Literal → List Literal → Clause → Type 0
+IsWorkedOff P u known E =
     IsIn u E ⊎ ((IsIn (negation u) E → ⊥)
     × ((k : Literal) → IsIn k E → inner_existential P u.var k.var ≡ true → IsIn k known))
 
@@ -31,7 +31,7 @@ Stands N d E = slot N d ≡ Some E
 -- the clause of an id was followed
 abbrev pub IsFollowed : Prefix → Slots → Literal → ℕ → List Literal → List Literal → Bool → Type 0
 IsFollowed P N u d old new true =
-    IsGrown P u (Stands N d) old new × ((E : Clause) → Stands N d E → IsSettled P u new E)
+    IsGrown P u (Stands N d) old new × ((E : Clause) → Stands N d E → IsWorkedOff P u new E)
 IsFollowed P N u d old new false =
     (E : Clause) × Stands N d E × (IsIn u E → ⊥) × IsIn (negation u) E
 
@@ -39,6 +39,6 @@ IsFollowed P N u d old new false =
 abbrev pub IsVisited : Prefix → Matrix → Literal → Literal → List Literal → List Literal → Bool → Type 0
 IsVisited P X u k old new true =
     IsGrown P u (λ E. IsIn E X × IsIn (negation k) E) old new
-    × ((E : Clause) → IsIn E X → IsIn (negation k) E → IsSettled P u new E)
+    × ((E : Clause) → IsIn E X → IsIn (negation k) E → IsWorkedOff P u new E)
 IsVisited P X u k old new false =
     (E : Clause) × IsIn E X × IsIn (negation k) E × (IsIn u E → ⊥) × IsIn (negation u) E

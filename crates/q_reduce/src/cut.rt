@@ -17,8 +17,8 @@ ghost use Rattle.q_reduce.specs.Lent.{IsFitFor};
 use crate::search::Search;
 use q_arena::ClauseId;
 use q_kernel::Kernel;
-use q_logic::{Lit, NoMemory};
-use q_rule::{holds, is_universal};
+use q_logic::{Lit, NoMemory, holds};
+use q_rule::is_universal;
 
 /// Whether the literal is universal and reducible in the clause of an id.
 pub fn fits_cut(kernel: &Kernel, search: &mut Search, c: ClauseId, l: Lit) -> Result<bool, NoMemory>

@@ -9,7 +9,8 @@ ghost use Rattle.q_kernel.specs.Kernels.{slots};
 ghost use Rattle.q_reduce.specs.declared.target.Target.{Target as TargetValue};
 ghost use Rattle.q_reduce.specs.Targets.{target_of};
 ghost use Rattle.q_reduce.specs.Lent.{IsFitFor};
-ghost use Rattle.q_reduce.specs.Searches.{IsCutOf, IsOfClause, IsOfVariable, IsAt, IsFound};
+ghost use Rattle.q_rule.specs.Searching.{IsFound, IsAt};
+ghost use Rattle.q_reduce.specs.Searches.{IsCutOf, IsOfClause, IsOfVariable};
 
 use crate::search::Search;
 use crate::taking::fits;
@@ -25,7 +26,7 @@ pub fn find_from(
     from: u32,
 ) -> Result<Option<Target>, NoMemory>
     requires { IsFitFor kernel.now search.old }
-    ensures found { IfOk result (IsFound kernel.now (λ t. from ≤ place (target_of t))) }
+    ensures found { IfOk result (IsFound target_of kernel.now (λ t. from ≤ place (target_of t))) }
     ensures fit { IsFitFor kernel.now search.new }
 {
     let mut at = from;
@@ -59,7 +60,7 @@ fn next_place(kernel: &Kernel, at: u32) -> Option<u32>
 // A target at a place: of its clause, or else of its variable.
 fn find_at(kernel: &Kernel, search: &mut Search, place: u32) -> Result<Option<Target>, NoMemory>
     requires { IsFitFor kernel.now search.old }
-    ensures found { IfOk result (IsFound kernel.now (IsAt place)) }
+    ensures found { IfOk result (IsFound target_of kernel.now (IsAt target_of place)) }
     ensures fit { IsFitFor kernel.now search.new }
 {
     let found = find_in(kernel, search, place)?;
@@ -73,7 +74,7 @@ fn find_at(kernel: &Kernel, search: &mut Search, place: u32) -> Result<Option<Ta
 // A target of a clause.
 fn find_in(kernel: &Kernel, search: &mut Search, c: ClauseId) -> Result<Option<Target>, NoMemory>
     requires { IsFitFor kernel.now search.old }
-    ensures found { IfOk result (IsFound kernel.now (IsOfClause c)) }
+    ensures found { IfOk result (IsFound target_of kernel.now (IsOfClause c)) }
     ensures fit { IsFitFor kernel.now search.new }
 {
     if !kernel.live(c) {
@@ -95,7 +96,7 @@ fn find_in(kernel: &Kernel, search: &mut Search, c: ClauseId) -> Result<Option<T
 fn find_cut(kernel: &Kernel, search: &mut Search, c: ClauseId) -> Result<Option<Target>, NoMemory>
     requires live { (C : Clause) × (slot (slots kernel.now) c ≡ Some C) }
     requires fit { IsFitFor kernel.now search.old }
-    ensures found { IfOk result (IsFound kernel.now (IsCutOf c)) }
+    ensures found { IfOk result (IsFound target_of kernel.now (IsCutOf c)) }
     ensures fit { IsFitFor kernel.now search.new }
 {
     for l in kernel.lits(c) {
@@ -110,7 +111,7 @@ fn find_cut(kernel: &Kernel, search: &mut Search, c: ClauseId) -> Result<Option<
 // A pure literal of a variable.
 fn find_pure(kernel: &Kernel, search: &mut Search, var: u32) -> Result<Option<Target>, NoMemory>
     requires { IsFitFor kernel.now search.old }
-    ensures found { IfOk result (IsFound kernel.now (IsOfVariable var)) }
+    ensures found { IfOk result (IsFound target_of kernel.now (IsOfVariable var)) }
     ensures fit { IsFitFor kernel.now search.new }
 {
     kernel.sound();

@@ -19,8 +19,8 @@ use crate::tree::Tree;
 use crate::trees::Trees;
 use q_arena::ClauseId;
 use q_kernel::Kernel;
-use q_logic::{Lit, NoMemory};
-use q_rule::{Queue, clause_of, holds, is_universal};
+use q_logic::{Lit, NoMemory, holds};
+use q_rule::{Queue, clause_of, is_universal};
 use std::alloc::Global;
 use std::marker::Model;
 

@@ -77,7 +77,7 @@ pub fn join_all(labels: &mut Vec<u32>, kernel: &Kernel)
 }
 
 /// Gives each variable the label to which its own leads. It leads to a less variable, which has its label before.
-pub fn settle(labels: &mut Vec<u32>)
+pub fn flatten(labels: &mut Vec<u32>)
     ensures { vec_len labels.new ≡ vec_len labels.old }
 {
     for at in 0..labels.len() {

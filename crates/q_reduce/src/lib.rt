@@ -24,6 +24,6 @@ mod unit;
 
 pub use q_kernel::Taken;
 pub use q_logic::Bounds;
-pub use reduce::{applies, find, find_with, try_one, try_with};
+pub use reduce::{find, try_one};
 pub use search::Search;
 pub use target::Target;

@@ -30,7 +30,7 @@ pub fn fits_pure(kernel: &Kernel, l: Lit) -> bool
 }
 
 /// Makes a pure literal true where it is existential, and false where it is universal.
-pub fn settle(kernel: &mut Kernel, l: Lit)
+pub fn take_pure(kernel: &mut Kernel, l: Lit)
     requires bound { is_bound kernel.old.prefix l.var ≡ true }
     requires pure { OccursIn (negation l) (live (slots kernel.old)) → ⊥ }
     requires limits { IsInLimits standard (formula_in kernel.old) }

@@ -15,8 +15,8 @@ ghost use Rattle.q_reduce.specs.Walks.{IsWidened, IsFollowed, IsVisited};
 use crate::guide::Guide;
 use q_arena::ClauseId;
 use q_kernel::Kernel;
-use q_logic::{Lit, NoMemory, Quant};
-use q_rule::{Queue, clause_of, holds, is_inner};
+use q_logic::{Lit, NoMemory, Quant, holds};
+use q_rule::{Queue, clause_of, is_inner};
 
 // The guide is asked at so many literals of a walk.
 const GUIDED: usize = 64;

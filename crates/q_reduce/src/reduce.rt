@@ -1,21 +1,21 @@
-ghost use Rattle.std.specs.Prelude.{◌≡◌, ◌↔◌, ◌≤◌, Some, None, OnOk, OnErr, IfOk, IsTrue};
-ghost use Rattle.q_logic.specs.Targets.{place};
-ghost use Rattle.q_kernel.specs.declared.taken.Taken.TheVariants.{Yes, No};
-ghost use Rattle.q_logic.specs.Limits.{standard};
-ghost use Rattle.q_logic.specs.InLimits.{IsInLimits};
-ghost use Rattle.q_kernel.specs.Kernels.{SameView, formula_in};
-ghost use Rattle.q_kernel.specs.Taking.{AreModest, IsReady, Applies, IsTaken};
-ghost use Rattle.q_reduce.specs.declared.target.Target.{Target as TargetValue};
+//! The calls of this crate. A target is tested once; where it applies, room is reserved for its steps and the sweep after
+//! them, and then no step can fail.
+ghost use Rattle.std.specs.Prelude.{◌≡◌, OnErr, IfOk};
+ghost use Rattle.q_kernel.specs.Kernels.{Seen, SameView};
+ghost use Rattle.q_kernel.specs.Taking.{AreModest, IsReady};
 ghost use Rattle.q_reduce.specs.Targets.{target_of};
-ghost use Rattle.q_rule.specs.Becoming.{CanChange};
-ghost use Rattle.q_reduce.specs.Lent.{IsFitFor};
+ghost use Rattle.q_reduce.specs.Lent.{nothing_learned, IsFitFor};
+ghost use Rattle.q_rule.specs.Searching.{Tries, Finds};
 
 use crate::finding::find_from;
+use crate::guide::Guide;
+use crate::recent::RecentRegions;
 use crate::search::Search;
 use crate::taking::{fits, take};
 use crate::target::Target;
-use q_kernel::{Kernel, Need, Taken};
+use q_kernel::{Kernel, Taken};
 use q_logic::{Bounds, NoMemory};
+use q_rule::{Queue, Rules, reserve_log};
 use std::alloc::Global;
 
 /// Takes a target exactly where it applies.
@@ -27,58 +27,10 @@ pub fn try_one(
 ) -> Result<Taken, NoMemory>
     requires ready { IsReady kernel.old }
     requires bounds { AreModest bounds.now }
-    ensures applies { IfOk result (λ r. (r ≡ Yes) ↔ Applies bounds.now kernel.old (target_of target.now)) }
-    ensures yes { IfOk result (λ r. r ≡ Yes → IsTaken bounds.now kernel.old kernel.new (target_of target.now)) }
-    ensures no { IfOk result (λ r. r ≡ No → SameView kernel.old kernel.new) }
+    ensures tries { IfOk result (Tries bounds.now kernel.old kernel.new (target_of target.now)) }
     ensures err { OnErr result (SameView kernel.old kernel.new) }
 {
-    let mut search = Search::new(alloc);
-    try_with(kernel, &mut search, target, bounds)
-}
-
-/// The same, with a search that is lent.
-pub fn try_with(
-    kernel: &mut Kernel,
-    search: &mut Search,
-    target: &Target,
-    bounds: &Bounds,
-) -> Result<Taken, NoMemory>
-    requires ready { IsReady kernel.old }
-    requires bounds { AreModest bounds.now }
-    requires fit { IsFitFor kernel.old search.old }
-    ensures applies { IfOk result (λ r. (r ≡ Yes) ↔ Applies bounds.now kernel.old (target_of target.now)) }
-    ensures yes { IfOk result (λ r. r ≡ Yes → IsTaken bounds.now kernel.old kernel.new (target_of target.now)) }
-    ensures no { IfOk result (λ r. r ≡ No → SameView kernel.old kernel.new) }
-    ensures err { OnErr result (SameView kernel.old kernel.new) }
-    ensures fit { IsFitFor kernel.new search.new }
-{
-    let _ = bounds;
-    if !fits(kernel, search, target)? {
-        return Ok(Taken::No);
-    }
-    search.loosen(kernel, target);
-    reserve(kernel)?;
-    take(kernel, target);
-    search.settle(kernel);
-    Ok(Taken::Yes)
-}
-
-/// Whether a target applies, with a search that is lent.
-pub fn applies(
-    kernel: &Kernel,
-    search: &mut Search,
-    target: &Target,
-    bounds: &Bounds,
-) -> Result<bool, NoMemory>
-    requires ready { IsReady kernel.now }
-    requires bounds { AreModest bounds.now }
-    requires fit { IsFitFor kernel.now search.old }
-    ensures yes { IfOk result (λ yes. IsTrue yes ↔ Applies bounds.now kernel.now (target_of target.now)) }
-    ensures fit { IsFitFor kernel.now search.new }
-{
-    let _ = bounds;
-    let yes = fits(kernel, search, target)?;
-    Ok(yes)
+    Search::new(alloc).take(kernel, target, bounds)
 }
 
 /// A target whose place is at least a number; none exactly where no target from that place on applies. The
@@ -91,45 +43,63 @@ pub fn find(
 ) -> Result<Option<Target>, NoMemory>
     requires ready { IsReady kernel.now }
     requires bounds { AreModest bounds.now }
-    ensures some { IfOk result (λ o. (t : TargetValue) → o ≡ Some t → Applies bounds.now kernel.now (target_of t) × (from ≤ place (target_of t))) }
-    ensures none { IfOk result (λ o. o ≡ None → (t : TargetValue) → from ≤ place (target_of t) → Applies bounds.now kernel.now (target_of t) → ⊥) }
+    ensures finds { IfOk result (Finds target_of bounds.now kernel.now from) }
 {
-    let mut search = Search::new(alloc);
-    find_with(kernel, &mut search, bounds, from)
+    Search::new(alloc).find(kernel, bounds, from)
 }
 
-/// The same, with a search that is lent.
-pub fn find_with(
-    kernel: &Kernel,
-    search: &mut Search,
-    bounds: &Bounds,
-    from: u32,
-) -> Result<Option<Target>, NoMemory>
-    requires ready { IsReady kernel.now }
-    requires bounds { AreModest bounds.now }
-    requires fit { IsFitFor kernel.now search.old }
-    ensures some { IfOk result (λ o. (t : TargetValue) → o ≡ Some t → Applies bounds.now kernel.now (target_of t) × (from ≤ place (target_of t))) }
-    ensures none { IfOk result (λ o. o ≡ None → (t : TargetValue) → from ≤ place (target_of t) → Applies bounds.now kernel.now (target_of t) → ⊥) }
-    ensures fit { IsFitFor kernel.now search.new }
-{
-    let _ = bounds;
-    let found = find_from(kernel, search, from)?;
-    Ok(found)
-}
+impl Rules for Search {
+    type Target = Target;
 
-// Log bytes for the change of any target, and for the sweep after it.
-fn reserve(kernel: &mut Kernel) -> Result<(), NoMemory>
-    requires { IsInLimits standard (formula_in kernel.old) }
-    ensures view { SameView kernel.old kernel.new }
-    ensures bytes { OnOk result (CanChange kernel.new) }
-{
-    kernel.sound();
-    let need = Need {
-        words: 0,
-        ids: 0,
-        vars: 0,
-        greatest: 0,
-        log_bytes: 16 * (3 * kernel.size() + kernel.prefix().len()),
-    };
-    kernel.reserve(need)
+    ghost target_of = { target_of };
+
+    ghost IsFitFor = { IsFitFor };
+
+    fn new(alloc: Global) -> Search
+        ensures nothing { result ≡ nothing_learned }
+        ensures fit { (k : Seen) → IsFitFor k result }
+    {
+        Search {
+            queue: Queue::new(alloc),
+            guide: Guide::new(alloc),
+            recent: RecentRegions::new(alloc),
+        }
+    }
+
+    fn applies(
+        &mut self,
+        kernel: &Kernel,
+        target: &Target,
+        bounds: &Bounds,
+    ) -> Result<bool, NoMemory> {
+        let _ = bounds;
+        fits(kernel, self, target)
+    }
+
+    fn take(
+        &mut self,
+        kernel: &mut Kernel,
+        target: &Target,
+        bounds: &Bounds,
+    ) -> Result<Taken, NoMemory> {
+        let _ = bounds;
+        if !fits(kernel, self, target)? {
+            return Ok(Taken::No);
+        }
+        self.loosen(kernel, target);
+        reserve_log(kernel)?;
+        take(kernel, target);
+        self.forget_if_empty(kernel);
+        Ok(Taken::Yes)
+    }
+
+    fn find(
+        &mut self,
+        kernel: &Kernel,
+        bounds: &Bounds,
+        from: u32,
+    ) -> Result<Option<Target>, NoMemory> {
+        let _ = bounds;
+        find_from(kernel, self, from)
+    }
 }

@@ -9,7 +9,7 @@ ghost use Rattle.q_logic.specs.Numbered.{slot, live, others};
 ghost use Rattle.q_kernel.specs.Kernels.{slots};
 ghost use Rattle.q_reduce.specs.Regions.{no_regions, region_of, is_covered, key_of, IsRegional, AreRegions};
 
-use crate::joining::{join_all, label_at, settle};
+use crate::joining::{flatten, join_all, label_at};
 use q_arena::ClauseId;
 use q_kernel::Kernel;
 use q_logic::{Lit, NoMemory};
@@ -191,7 +191,7 @@ impl Regions {
         self.forget();
         self.start(kernel, w)?;
         join_all(&mut self.labels, kernel);
-        settle(&mut self.labels);
+        flatten(&mut self.labels);
         let noted = note_all(&mut self.keys, &self.labels, &self.covered, kernel);
         self.keys.sort_unstable();
         noted

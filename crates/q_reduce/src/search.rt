@@ -18,16 +18,15 @@ use q_arena::ClauseId;
 use q_kernel::Kernel;
 use q_logic::{Lit, NoMemory};
 use q_rule::Queue;
-use std::alloc::Global;
 use std::marker::Model;
 
 /// What searches lend each other: room for walks, and regions and hops, which have to be those of the kernel. They stay
 /// so while the targets of this crate are taken; where a kernel is changed in another way, the search has to forget them.
 #[derive(Drop)]
 pub struct Search {
-    queue: Queue,
-    guide: Guide,
-    recent: RecentRegions,
+    pub(crate) queue: Queue,
+    pub(crate) guide: Guide,
+    pub(crate) recent: RecentRegions,
 }
 
 impl Model for Search {
@@ -39,16 +38,6 @@ impl Model for Search {
 }
 
 impl Search {
-    pub fn new(alloc: Global) -> Search
-        ensures { result ≡ nothing_learned }
-    {
-        Search {
-            queue: Queue::new(alloc),
-            guide: Guide::new(alloc),
-            recent: RecentRegions::new(alloc),
-        }
-    }
-
     /// Makes the search fit for any kernel.
     pub fn forget(&mut self)
         ensures { self.new ≡ nothing_learned }
@@ -66,7 +55,7 @@ impl Search {
     }
 
     /// Forgets all hops where no literal is left.
-    pub(crate) fn settle(&mut self, kernel: &Kernel)
+    pub(crate) fn forget_if_empty(&mut self, kernel: &Kernel)
         ensures regions { self.new.regions ≡ self.old.regions }
         ensures hops { (self.new.hops ≡ no_rows) ⊎ ((1 < size_of (live (slots kernel.now))) × (self.new.hops ≡ self.old.hops)) }
     {

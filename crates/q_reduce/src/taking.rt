@@ -1,16 +1,15 @@
 //! A target of any of the rules: whether it applies, and its steps.
 ghost use Rattle.std.specs.Prelude.{◌↔◌, IfOk, IsTrue};
 ghost use Rattle.q_logic.specs.declared.rule_bounds.Bounds.{Bounds};
-ghost use Rattle.q_logic.specs.Limits.{standard};
-ghost use Rattle.q_logic.specs.InLimits.{IsInLimits};
 ghost use Rattle.q_logic.specs.Rules.{Fits};
-ghost use Rattle.q_kernel.specs.Kernels.{slots, formula_in};
-ghost use Rattle.q_rule.specs.Becoming.{CanChange, IsChanged, HasResult};
+ghost use Rattle.q_kernel.specs.Kernels.{slots};
+ghost use Rattle.q_rule.specs.Becoming.{IsChanged, HasResult};
+ghost use Rattle.q_rule.specs.Searching.{MayTake};
 ghost use Rattle.q_reduce.specs.Targets.{target_of};
 ghost use Rattle.q_reduce.specs.Lent.{IsFitFor};
 
 use crate::cut::fits_cut;
-use crate::pure::{fits_pure, settle};
+use crate::pure::{fits_pure, take_pure};
 use crate::search::Search;
 use crate::target::Target;
 use crate::tautology::fits_tautology;
@@ -34,9 +33,7 @@ pub fn fits(kernel: &Kernel, search: &mut Search, target: &Target) -> Result<boo
 
 /// Makes the change of a target, and sweeps.
 pub fn take(kernel: &mut Kernel, target: &Target)
-    requires fits { (B : Bounds) → Fits B kernel.old.prefix (slots kernel.old) (target_of target.now) }
-    requires limits { IsInLimits standard (formula_in kernel.old) }
-    requires bytes { CanChange kernel.old }
+    requires { MayTake kernel.old (target_of target.now) }
     ensures { HasResult kernel.old kernel.new (target_of target.now) }
 {
     make_change(kernel, target);
@@ -44,9 +41,7 @@ pub fn take(kernel: &mut Kernel, target: &Target)
 }
 
 fn make_change(kernel: &mut Kernel, target: &Target)
-    requires fits { (B : Bounds) → Fits B kernel.old.prefix (slots kernel.old) (target_of target.now) }
-    requires limits { IsInLimits standard (formula_in kernel.old) }
-    requires bytes { CanChange kernel.old }
+    requires { MayTake kernel.old (target_of target.now) }
     ensures { IsChanged kernel.old kernel.new (target_of target.now) }
 {
     kernel.sound();
@@ -54,6 +49,6 @@ fn make_change(kernel: &mut Kernel, target: &Target)
         Target::Tautology { c } => kernel.delete_implied(c),
         Target::Unit { c } => assign(kernel, c),
         Target::Cut { c, l } => kernel.drop_reach(c, l),
-        Target::Pure { l } => settle(kernel, l),
+        Target::Pure { l } => take_pure(kernel, l),
     }
 }

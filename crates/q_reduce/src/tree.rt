@@ -19,8 +19,8 @@ use crate::hop::{Hop, hop_at};
 use crate::reach::lies_inside;
 use q_arena::ClauseId;
 use q_kernel::Kernel;
-use q_logic::{Lit, NoMemory};
-use q_rule::{Queue, clause_of, holds, is_universal};
+use q_logic::{Lit, NoMemory, holds};
+use q_rule::{Queue, clause_of, is_universal};
 use std::alloc::Global;
 use std::marker::Model;
 
@@ -93,7 +93,9 @@ impl Tree {
     }
 
     /// How many hops lead from the root to a literal, at most 255. Some of them may have gone.
-    pub fn depth(&self, lit: Lit) -> usize {
+    pub(crate) fn depth(&self, lit: Lit) -> usize
+        ensures { result ≤ 255 }
+    {
         usize::from(self.depths.get(lit.index()).copied().unwrap_or(0))
     }
 

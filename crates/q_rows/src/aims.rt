@@ -23,7 +23,7 @@ pub struct Aim {
 
 impl Aim {
     /// The name of the crate whose target this is.
-    pub fn rules(&self) -> &'static str {
+    pub(crate) fn rules(&self) -> &'static str {
         match self.target {
             Move::Reduce(_) => "reduce",
             Move::Subsume(_) => "subsume",
@@ -35,7 +35,7 @@ impl Aim {
     }
 
     /// Tries the target.
-    pub fn try_one(
+    pub(crate) fn try_one(
         &self,
         alloc: Global,
         kernel: &mut Kernel,
@@ -56,7 +56,7 @@ impl Aim {
 }
 
 /// What a crate of rules finds from a place on.
-pub fn find(
+pub(crate) fn find(
     alloc: Global,
     rules: &str,
     kernel: &Kernel,
@@ -186,7 +186,7 @@ fn find_expand(
 }
 
 /// The target that a row writes: its kind, then ids of clauses, literals or variables, in the order of its fields.
-pub fn aim_of(text: &str) -> Result<Aim, Trouble> {
+pub(crate) fn aim_of(text: &str) -> Result<Aim, Trouble> {
     let (kind, rest) = text.split_once(' ').unwrap_or((text, ""));
     let numbers = numbers_of(rest)?;
     if let Some(target) = reduce_of(kind, numbers)? {
@@ -271,7 +271,7 @@ fn id(number: i64) -> u32 {
 }
 
 /// The literal of a number.
-pub fn lit(number: i64) -> Result<Lit, Trouble> {
+pub(crate) fn lit(number: i64) -> Result<Lit, Trouble> {
     match u32::try_from(number.unsigned_abs()) {
         Ok(var) if 1 <= var && var <= 2_147_483_647 => Ok(Lit::new(var, number < 0)),
         _ => Err(Trouble::Unreadable("a literal")),

@@ -10,7 +10,7 @@ use q_logic::{Formula, Limits, Step};
 use std::alloc::Global;
 
 /// The steps of a log that is none but steps.
-pub fn steps_of(alloc: Global, log: &[u8]) -> Result<Vec<Step>, Trouble> {
+pub(crate) fn steps_of(alloc: Global, log: &[u8]) -> Result<Vec<Step>, Trouble> {
     let mut steps = Vec::new(alloc);
     let Ok(mut reader) = LogReader::new(alloc, 1_000_000_000) else {
         return Err(Trouble::NoMemory);
@@ -26,7 +26,7 @@ pub fn steps_of(alloc: Global, log: &[u8]) -> Result<Vec<Step>, Trouble> {
 }
 
 /// The answer to each step, one a line: taken, or the cause of its refusal.
-pub fn answers(
+pub(crate) fn answers(
     alloc: Global,
     formula: &Formula,
     limits: Limits,
@@ -71,7 +71,7 @@ fn push_answer(text: &mut String, answer: Result<(), CheckError>) -> Result<(), 
 }
 
 /// Takes the steps of a run, which all are valid and end in a formula.
-pub fn audit(
+pub(crate) fn audit(
     alloc: Global,
     formula: &Formula,
     log: &[u8],
@@ -106,7 +106,7 @@ fn end(checker: Checker, output: &Formula) -> Result<Verified, Trouble> {
 
 /// The undo list of a run to the formula without clauses and prefix, one entry a line: `pivot 2 {-1} {3}`, `removed 2` or
 /// `fresh 3`.
-pub fn undo_list(alloc: Global, formula: &Formula, log: &[u8]) -> Result<Vec<u8>, Trouble> {
+pub(crate) fn undo_list(alloc: Global, formula: &Formula, log: &[u8]) -> Result<Vec<u8>, Trouble> {
     let output = formula_of(alloc, "nothing")?;
     let verified = verified(alloc, formula, log, &output)?;
     entries(alloc, verified.undo.as_slice())

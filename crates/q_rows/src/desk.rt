@@ -29,7 +29,7 @@ pub struct Desk {
 }
 
 impl Desk {
-    pub fn new(alloc: Global) -> Desk {
+    pub(crate) fn new(alloc: Global) -> Desk {
         Desk {
             alloc,
             memory: MemFiles::new(alloc),
@@ -43,36 +43,36 @@ impl Desk {
         }
     }
 
-    pub fn put(&mut self, name: &str, bytes: &[u8]) -> Result<(), Trouble> {
+    pub(crate) fn put(&mut self, name: &str, bytes: &[u8]) -> Result<(), Trouble> {
         self.memory.put_file(name, bytes)?;
         self.steady.put_file(name, bytes)?;
         self.trickle.files.put_file(name, bytes)?;
         Ok(())
     }
 
-    pub fn file(&self, name: &str) -> Option<&[u8]> {
+    pub(crate) fn file(&self, name: &str) -> Option<&[u8]> {
         self.memory.file(name)
     }
 
     /// No device but the first serves from now on.
-    pub fn stand_alone(&mut self) {
+    pub(crate) fn stand_alone(&mut self) {
         self.is_alone = true;
     }
 
-    pub fn plan(&mut self, call: Call, nth: u64, part: usize) -> Result<(), Trouble> {
+    pub(crate) fn plan(&mut self, call: Call, nth: u64, part: usize) -> Result<(), Trouble> {
         self.is_alone = true;
         self.memory.fail_at(Fault { call, nth, part })?;
         Ok(())
     }
 
-    pub fn plan_put(&mut self, nth: u64) -> Result<(), Trouble> {
+    pub(crate) fn plan_put(&mut self, nth: u64) -> Result<(), Trouble> {
         self.is_alone = true;
         self.failing_puts.push(nth)?;
         Ok(())
     }
 
     /// From now on commands are handed so many more such guides.
-    pub fn guide(&mut self, count: u32, guide: &str) -> Result<(), Trouble> {
+    pub(crate) fn guide(&mut self, count: u32, guide: &str) -> Result<(), Trouble> {
         for _ in 0..count {
             self.guides.push(String::from_str(self.alloc, guide)?)?;
         }
@@ -80,7 +80,7 @@ impl Desk {
     }
 
     /// Runs a command on each device that serves; all say the same.
-    pub fn run(&mut self, words: &[String]) -> Result<Said, Trouble> {
+    pub(crate) fn run(&mut self, words: &[String]) -> Result<Said, Trouble> {
         let said = self.run_in_memory(words)?;
         if !self.is_alone {
             self.run_steadily(words, &said)?;
@@ -114,7 +114,7 @@ impl Desk {
     }
 
     /// Each device that serves holds the same under a name.
-    pub fn agree(&self, name: &str) -> Result<(), Trouble> {
+    pub(crate) fn agree(&self, name: &str) -> Result<(), Trouble> {
         if self.is_alone {
             return Ok(());
         }

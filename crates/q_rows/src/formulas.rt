@@ -6,7 +6,7 @@ use q_logic::{Bound, Formula, Limits, Lit, Quant};
 use std::alloc::Global;
 
 /// The formula that a row writes.
-pub fn formula_of(alloc: Global, text: &str) -> Result<Formula, Trouble> {
+pub(crate) fn formula_of(alloc: Global, text: &str) -> Result<Formula, Trouble> {
     let dimacs = dimacs_of(alloc, text)?;
     match read(alloc, Limits::standard(), dimacs.as_bytes()) {
         Ok(formula) => Ok(formula),
@@ -52,7 +52,7 @@ fn push_clauses(dimacs: &mut String, clauses: &str) -> Result<(), Trouble> {
 }
 
 /// How a row writes the formula, its clauses in ascending order.
-pub fn formula_text(alloc: Global, formula: &Formula) -> Result<String, Trouble> {
+pub(crate) fn formula_text(alloc: Global, formula: &Formula) -> Result<String, Trouble> {
     let mut text = String::new(alloc);
     if formula.prefix().is_empty() && formula.clauses() == 0 {
         text.push_str("nothing")?;
@@ -106,7 +106,7 @@ fn push_matrix(alloc: Global, text: &mut String, formula: &Formula) -> Result<()
 }
 
 /// A clause in braces.
-pub fn push_clause(text: &mut String, clause: &[Lit]) -> Result<(), Trouble> {
+pub(crate) fn push_clause(text: &mut String, clause: &[Lit]) -> Result<(), Trouble> {
     let mut is_first = true;
     text.push_str("{")?;
     for lit in clause {
@@ -121,7 +121,7 @@ pub fn push_clause(text: &mut String, clause: &[Lit]) -> Result<(), Trouble> {
 }
 
 /// A literal as it is written in a clause.
-pub fn push_lit(text: &mut String, lit: Lit) -> Result<(), Trouble> {
+pub(crate) fn push_lit(text: &mut String, lit: Lit) -> Result<(), Trouble> {
     write!(text, "{}", lit.number())?;
     Ok(())
 }

@@ -2,7 +2,7 @@
 // its end is done.
 ghost use Rattle.std.specs.Prelude.{◌≡◌};
 ghost use Rattle.q_kernel.specs.Taking.{IsReady};
-ghost use Rattle.q_sched.specs.Rises.{Rose};
+ghost use Rattle.q_logic.specs.Counts.{Rose};
 
 use crate::aims::{Aim, aim_of};
 use crate::trouble::Trouble;
@@ -141,7 +141,7 @@ impl Guide for RowGuide {
 }
 
 /// The guide that a row writes.
-pub fn guide_of(alloc: Global, text: &str) -> Result<RowGuide, Trouble> {
+pub(crate) fn guide_of(alloc: Global, text: &str) -> Result<RowGuide, Trouble> {
     let plan = match text {
         "remembering" => Plan::Remembering(None),
         "fewest" => Plan::Fewest(FewestFirst::new()),

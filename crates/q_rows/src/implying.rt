@@ -6,7 +6,7 @@ use q_prop::Store;
 use std::alloc::Global;
 
 /// Whether literals are implied over the clauses of a formula, but for one.
-pub fn implied(alloc: Global, formula: &Formula, asked: &str) -> Result<String, Trouble> {
+pub(crate) fn implied(alloc: Global, formula: &Formula, asked: &str) -> Result<String, Trouble> {
     let (lits, skip) = parts_of(asked);
     let lits = lits_of(alloc, lits)?;
     let mut store = store_of(alloc, formula)?;

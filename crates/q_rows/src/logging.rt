@@ -63,7 +63,7 @@ impl Told {
 }
 
 /// What reading a log answers.
-pub fn log_answer(alloc: Global, limit: u64, log: &[u8]) -> Result<Vec<u8>, Trouble>
+pub(crate) fn log_answer(alloc: Global, limit: u64, log: &[u8]) -> Result<Vec<u8>, Trouble>
     requires { limit ≤ 2 ^ 62 }
 {
     let mut told = Told {

@@ -5,7 +5,7 @@ use crate::trouble::Trouble;
 use std::alloc::Global;
 
 /// The bytes that a text of a row stands for.
-pub fn bytes_of(alloc: Global, text: &str) -> Result<Vec<u8>, Trouble> {
+pub(crate) fn bytes_of(alloc: Global, text: &str) -> Result<Vec<u8>, Trouble> {
     let mut bytes = Vec::new(alloc);
     if text.is_empty() {
         return Ok(bytes);
@@ -58,7 +58,7 @@ fn digit(byte: u8) -> u8 {
 }
 
 /// A text for a reader, close to what a row would write for these bytes.
-pub fn shown(alloc: Global, bytes: &[u8]) -> Result<String, Trouble> {
+pub(crate) fn shown(alloc: Global, bytes: &[u8]) -> Result<String, Trouble> {
     let mut text = String::new(alloc);
     for byte in bytes {
         push_shown(&mut text, *byte)?;
@@ -77,7 +77,7 @@ fn push_shown(text: &mut String, byte: u8) -> Result<(), Trouble> {
 }
 
 /// Compares bytes that came with those that are wanted.
-pub fn compare(alloc: Global, wanted: &[u8], got: &[u8]) -> Result<(), Trouble> {
+pub(crate) fn compare(alloc: Global, wanted: &[u8], got: &[u8]) -> Result<(), Trouble> {
     if wanted == got {
         return Ok(());
     }

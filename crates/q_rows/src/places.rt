@@ -15,7 +15,7 @@ const MOST: u32 = 1000;
 
 /// Takes a target, compacts, and tells for each literal the clauses that own its places, and the number of dead words:
 /// `-1 in 2, 3 in 0 2, 0 dead`.
-pub fn lists(
+pub(crate) fn lists(
     alloc: Global,
     formula: &Formula,
     bounds: &Bounds,

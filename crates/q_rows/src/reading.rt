@@ -9,7 +9,7 @@ use q_logic::{Formula, Limits};
 use std::alloc::Global;
 
 /// What reading a text answers: the canonical text of the formula, or a line that names the refusal.
-pub fn answer(alloc: Global, limits: Limits, text: &[u8]) -> Result<Vec<u8>, Trouble>
+pub(crate) fn answer(alloc: Global, limits: Limits, text: &[u8]) -> Result<Vec<u8>, Trouble>
     requires { AreModerate limits }
 {
     let whole = told(alloc, read(alloc, limits, text))?;

@@ -29,7 +29,7 @@ pub struct Stage {
 }
 
 impl Stage {
-    pub fn new(alloc: Global) -> Result<Stage, Trouble> {
+    pub(crate) fn new(alloc: Global) -> Result<Stage, Trouble> {
         Ok(Stage {
             alloc,
             desk: Desk::new(alloc),
@@ -43,7 +43,7 @@ impl Stage {
     }
 
     /// Does what a line says, and compares what comes with what it wants.
-    pub fn play(&mut self, line: &str) -> Result<(), Trouble> {
+    pub(crate) fn play(&mut self, line: &str) -> Result<(), Trouble> {
         match line.split_once(" =>") {
             None => self.give(line),
             Some((doing, wanted)) => {

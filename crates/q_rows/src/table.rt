@@ -11,7 +11,7 @@ pub struct Row<'a> {
 }
 
 /// The rows of a table.
-pub fn rows_of<'a>(alloc: Global, table: &'a str) -> Result<Vec<Row<'a>>, Trouble> {
+pub(crate) fn rows_of<'a>(alloc: Global, table: &'a str) -> Result<Vec<Row<'a>>, Trouble> {
     let mut rows = Vec::new(alloc);
     for (at, line) in table.lines().enumerate() {
         if let Some(name) = line.strip_prefix("row ") {
@@ -48,7 +48,7 @@ impl Row<'_> {
     }
 
     /// Plays the row: whether it passes, and the line or lines that say so.
-    pub fn play(&self, alloc: Global) -> Result<(bool, String), AllocError> {
+    pub(crate) fn play(&self, alloc: Global) -> Result<(bool, String), AllocError> {
         let name = self.name;
         let Some((at, trouble)) = self.first_miss(alloc) else {
             return Ok((true, format!(in alloc; "ok {name}\n")?));

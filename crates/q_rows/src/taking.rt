@@ -14,7 +14,7 @@ use std::alloc::Global;
 use std::fmt;
 
 /// A kernel that is swept and within the limits.
-pub fn kernel_of(alloc: Global, formula: &Formula) -> Result<Kernel, Trouble>
+pub(crate) fn kernel_of(alloc: Global, formula: &Formula) -> Result<Kernel, Trouble>
     ensures { IfOk result (λ k. IsReady k) }
 {
     if formula.clauses() > 1000 {
@@ -30,7 +30,7 @@ pub fn kernel_of(alloc: Global, formula: &Formula) -> Result<Kernel, Trouble>
 
 /// What becomes of a target: `no`, and the formula is as it was, or `yes` and the formula then. The log is a run there, and the
 /// rule's search finds something where the answer is yes.
-pub fn outcome(
+pub(crate) fn outcome(
     alloc: Global,
     formula: &Formula,
     bounds: &Bounds,
@@ -99,7 +99,7 @@ fn compacted(alloc: Global, formula: &Formula, kernel: &mut Kernel) -> Result<St
 }
 
 /// What a crate of rules finds from a place on: a target, or `none`.
-pub fn found(
+pub(crate) fn found(
     alloc: Global,
     formula: &Formula,
     bounds: &Bounds,
@@ -121,7 +121,7 @@ fn name_of(alloc: Global, aim: Option<Aim>) -> Result<String, Trouble> {
 }
 
 /// What a guide proposes for a formula, one proposal after the other, each of which is told as refused.
-pub fn proposals(alloc: Global, formula: &Formula, guide: &str) -> Result<String, Trouble> {
+pub(crate) fn proposals(alloc: Global, formula: &Formula, guide: &str) -> Result<String, Trouble> {
     let kernel = kernel_of(alloc, formula)?;
     let mut guide = guide_of(alloc, guide)?;
     proposed(alloc, &kernel, &mut guide)
@@ -177,7 +177,7 @@ fn counts_of(kernel: &Kernel, bounds: &Bounds) -> Counts
 }
 
 /// The figures of a formula as it stands.
-pub fn figures(alloc: Global, formula: &Formula, bounds: &Bounds) -> Result<String, Trouble>
+pub(crate) fn figures(alloc: Global, formula: &Formula, bounds: &Bounds) -> Result<String, Trouble>
     requires { AreModest bounds.now }
 {
     if formula.clauses() > 1000 {

@@ -19,7 +19,8 @@ use Rattle.q_logic.proofs.Settling.{sweep-twice, swept-in_limits}
 use Rattle.q_logic.proofs.Looping.{live-without}
 use Rattle.q_log.specs.Texts.{step_text}
 use Rattle.q_kernel.specs.Kernels.{Seen, slots, formula_in, IsSound, HasSweepBytes}
-use Rattle.q_kernel.specs.Changes.{AreAlike, IsLed, IsDeleted, IsDropped}
+use Rattle.q_kernel.specs.Changes.{IsLed, IsDeleted, IsDropped}
+use Rattle.q_logic.specs.Runs.{AreAlike}
 use Rattle.q_kernel.proofs.Slotting.{has_empty-alike, alike-replaced, size-replaced}
 use Rattle.q_kernel.proofs.Leading.{alike-itself, led-through}
 use Rattle.q_rule.specs.Becoming.{CanChange, HasBecome, IsChanged, HasResult}

@@ -9,7 +9,7 @@ use Rattle.q_logic.specs.Measure.{size_of}
 use Rattle.q_logic.specs.Steps.{delete, literals_in}
 use Rattle.q_logic.specs.Sets.{with_literal, without_literal, each_without, OccursIn}
 use Rattle.q_logic.specs.Numbered.{Slots, slot, set_slot, live}
-use Rattle.q_logic.proofs.Clauses.{literal_eq-itself, literal_eq-negation}
+use Rattle.q_logic.proofs.ClauseLemmas.{literal_eq-itself, literal_eq-negation}
 use Rattle.q_logic.proofs.Slots.{IsIn-has}
 use Rattle.q_logic.proofs.Sets.{without-shorter}
 use Rattle.q_logic.proofs.Looping.{turn-pure}

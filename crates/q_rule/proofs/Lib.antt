@@ -1,5 +1,4 @@
 pub mod Marking
-pub mod Members
 pub mod Neighbours
 pub mod Quantifiers
 pub mod Places
@@ -9,3 +8,7 @@ pub mod Steps
 pub mod Clearing
 pub mod Becoming
 pub mod Results
+pub mod Searching
+pub mod Answering
+pub mod Members
+pub mod Slots

@@ -4,7 +4,7 @@ use Rattle.std.proofs.lemmas.Bool.Decides.{nat_tests}
 use Rattle.q_arena.proofs.Numbers.{ℕ-cases}
 use Rattle.q_logic.specs.Literals.{Literal, pack}
 use Rattle.q_logic.specs.Formulas.{IsIn}
-use Rattle.q_logic.proofs.Clauses.{IsIn-append, IsIn-append_left}
+use Rattle.q_logic.proofs.ClauseLemmas.{IsIn-append, IsIn-append_left}
 use Rattle.q_logic.proofs.Implying.{IsIn-append_right}
 use Rattle.q_logic.proofs.Membership.{IsIn-drop_next, IsIn-drop_within}
 use Rattle.q_rule.specs.Marks.{IsMarked}

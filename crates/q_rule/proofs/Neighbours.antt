@@ -5,8 +5,8 @@ use Rattle.q_logic.specs.Literals.{Literal, IsBelow, negation, literal_eq}
 use Rattle.q_logic.specs.Formulas.{Clause, IsIn}
 use Rattle.q_logic.specs.Parts.{ArePairs}
 use Rattle.q_logic.specs.Sets.{IsTautology}
-use Rattle.q_logic.proofs.Clauses.{literal_eq-itself, literal_eq-negation}
-use Rattle.q_rule.proofs.Members.{item-in}
+use Rattle.q_logic.proofs.ClauseLemmas.{literal_eq-itself, literal_eq-negation}
+use Rattle.q_logic.proofs.Members.{item-in}
 
 -- no two neighbours before a place have one variable
 pub record AreOther (C : Clause) (upto : ℕ) : Type 0 where

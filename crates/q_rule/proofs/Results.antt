@@ -27,7 +27,7 @@ use Rattle.q_logic.proofs.TargetRuns.{target-falls}
 use Rattle.q_logic.proofs.Looping.{live-without}
 use Rattle.q_arena.proofs.Numbers.{ℕ-cases}
 use Rattle.q_kernel.specs.Kernels.{Seen, slots, formula_in, SameView}
-use Rattle.q_kernel.specs.Changes.{AreAlike}
+use Rattle.q_logic.specs.Runs.{AreAlike}
 use Rattle.q_kernel.specs.Taking.{IsReady, IsTaken}
 use Rattle.q_kernel.proofs.Slotting.{length-others, literals-others, live-same, slot-set_other}
 use Rattle.q_kernel.proofs.Leading.{led-through, led-view}

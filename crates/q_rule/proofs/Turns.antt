@@ -7,7 +7,7 @@ use Rattle.q_logic.specs.Propagation.{Implied}
 use Rattle.q_logic.specs.Sets.{has, with_literal, without_literal, each_without, OccursIn}
 use Rattle.q_logic.specs.Numbered.{Slots, slot, set_slot, live, others, put_first}
 use Rattle.q_logic.specs.Measure.{size_of}
-use Rattle.q_logic.proofs.Clauses.{literal_eq-sound, literal_eq-itself, literal_eq-negation}
+use Rattle.q_logic.proofs.ClauseLemmas.{literal_eq-sound, literal_eq-itself, literal_eq-negation}
 use Rattle.q_logic.proofs.Slots.{without-same, has-IsIn, IsIn-has, live-slot}
 use Rattle.q_logic.proofs.Sets.{without-other}
 use Rattle.q_logic.proofs.UniversalPivot.{IsIn-without, without-IsIn}

@@ -8,7 +8,8 @@ use Rattle.q_logic.specs.Numbered.{live}
 use Rattle.q_logic.specs.Targets.{Target}
 use Rattle.q_logic.specs.Rules.{change, result_of}
 use Rattle.q_kernel.specs.Kernels.{Seen, slots, formula_in, HasSweepBytes}
-use Rattle.q_kernel.specs.Changes.{AreAlike, IsLed}
+use Rattle.q_kernel.specs.Changes.{IsLed}
+use Rattle.q_logic.specs.Runs.{AreAlike}
 use Rattle.q_kernel.specs.Taking.{IsReady}
 
 -- the bytes that a sweep may take are spare, and twice as many for each literal and clause beside

@@ -1,3 +1,4 @@
 pub mod Marks
 pub mod Quants
 pub mod Becoming
+pub mod Searching

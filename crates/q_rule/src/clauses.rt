@@ -7,18 +7,6 @@ ghost use Rattle.q_logic.specs.Sets.{IsTautology};
 
 use q_logic::Lit;
 
-/// Whether the clause holds the literal.
-pub fn holds(clause: &[Lit], lit: Lit) -> bool
-    ensures { IsTrue result ↔ IsIn lit clause.now }
-{
-    for k in clause {
-        if k.is(lit) {
-            return true;
-        }
-    }
-    false
-}
-
 /// Whether the clause holds a literal and its negation: these are neighbours.
 pub fn is_tautology(clause: &[Lit]) -> bool
     requires { ArePairs IsBelow clause.now }

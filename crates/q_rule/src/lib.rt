@@ -4,8 +4,12 @@
 
 mod clauses;
 mod queue;
+mod room;
+mod rules;
 mod variables;
 
-pub use clauses::{holds, is_tautology, only_literal};
+pub use clauses::{is_tautology, only_literal};
 pub use queue::Queue;
+pub use room::reserve_log;
+pub use rules::Rules;
 pub use variables::{clause_of, is_existential, is_inner, is_universal};

@@ -4,7 +4,7 @@ use Rattle.std.proofs.lemmas.List.{take-append-drop, length-take-le, reverse-app
 use Rattle.std.proofs.Math.Seq.{set-append_seam}
 use Rattle.std.proofs.Math.ListN.{drop_of_length-le}
 use Rattle.q_sched.specs.declared.guide.Proposal.{Proposal}
-use Rattle.q_sched.specs.Rises.{Rose}
+use Rattle.q_logic.specs.Counts.{Rose}
 use Rattle.q_sched.specs.Drives.{Meaning, AsksOne}
 use Rattle.q_sched.specs.Meanings.{meanings}
 

@@ -1,5 +1,5 @@
 -- What a drive is seen as.
-use Rattle.std.specs.Prelude.{ℕ, Bool, true, false, List, [], ◌∷◌, Option, Some, None, length, ◌≡◌, ◌≤◌, ◌<◌, ◌+◌, ◌-◌, ◌*◌, cond, ◌⊎◌}
+use Rattle.std.specs.Prelude.{ℕ, Bool, true, false, List, [], ◌∷◌, Option, Some, None, length, ◌≡◌, ◌≢◌, ◌≤◌, ◌<◌, ◌+◌, ◌-◌, ◌*◌, cond, ◌⊎◌}
 use Rattle.q_logic.specs.declared.rule_bounds.Bounds.{Bounds}
 use Rattle.q_logic.specs.Measure.{measure_of}
 use Rattle.q_logic.specs.Targets.{Target}
@@ -10,7 +10,7 @@ use Rattle.q_sched.specs.declared.turns.Turn.{Turn}
 use Rattle.q_sched.specs.declared.turns.Turn.TheVariants as turn
 use Rattle.q_sched.specs.declared.guide.Proposal.{Proposal}
 use Rattle.q_sched.specs.declared.guide.Proposal.TheVariants.{Take, Done}
-use Rattle.q_sched.specs.Rises.{Rose}
+use Rattle.q_logic.specs.Counts.{Rose}
 use Rattle.q_sched.specs.Settled.{HasRule, IsDone}
 
 -- a guide by its meanings
@@ -41,6 +41,11 @@ Lowers turn.Asked left measure left2 measure2 = (left2 < left) × (measure2 ≡ 
 Lowers turn.Settled left measure left2 measure2 = (left2 ≡ left) × (measure2 ≡ measure)
 Lowers turn.Spent left measure left2 measure2 = (left2 ≡ left) × (measure2 ≡ measure)
 
+-- the same over a drive and a kernel
+abbrev pub Falls : Turn → Driving → Seen → Driving → Seen → Type 0
+Falls answer before old after new =
+    Lowers answer (left_of before) (measure_of before.bounds (formula_in old)) (left_of after) (measure_of before.bounds (formula_in new))
+
 -- a budget is given, and the measure is at least the budget below the first one
 abbrev pub IsSpentAt : Option ℕ → ℕ → ℕ → Type 0
 IsSpentAt None first now = ⊥
@@ -61,6 +66,7 @@ IsFinished d = (d.over ≡ true) ⊎ (d.refused ≡ 1024)
 
 -- the first guide is dropped
 pub record Drops (before after : Driving) : Type 0 where
+  pub frame : SameFrame before after
   pub first : Meaning
   pub guides : before.guides ≡ first ∷ after.guides
   pub refused : after.refused ≡ 0
@@ -108,7 +114,8 @@ Closes B k turn.Settled = IsDone B k
 Closes B k turn.Spent = IsDone B k → ⊥
 
 -- a turn that answers want of memory: the first guide may have been asked
-pub record Stays (before after : Driving) : Type 0 where
+pub record Stays (before : Driving) (old : Seen) (after : Driving) (new : Seen) : Type 0 where
+  pub view : SameView old new
   pub frame : SameFrame before after
   pub refused : after.refused ≡ before.refused
   pub over : after.over ≡ before.over
@@ -127,3 +134,27 @@ Answers turn.Moved B old new = (t : Target) × HasRule t × IsTaken B old new t
 Answers turn.Asked B old new = SameView old new
 Answers turn.Settled B old new = ⊥
 Answers turn.Spent B old new = ⊥
+
+-- the first guide is asked, and what it proposes is tried
+pub record AsksFirst (before : Driving) (old : Seen) (answer : Turn) (after : Driving) (new : Seen) : Type 0 where
+  pub frame : SameFrame before after
+  pub asks : Asks before old answer after new
+  pub falls : Falls answer before old after new
+  pub answers : Answers answer before.bounds old new
+
+-- what a turn does
+pub record Turned (before : Driving) (old : Seen) (answer : Turn) (after : Driving) (new : Seen) : Type 0 where
+  -- at a spent budget one round of searches decides
+  pub spent : IsSpent before old → Closes before.bounds old answer × (after ≡ before) × (new ≡ old)
+  -- else a first guide that is finished is dropped
+  pub dropped : (¬ IsSpent before old) → before.guides ≢ [] → IsFinished before → Drops before after × (answer ≡ turn.Asked) × (new ≡ old)
+  -- another first guide is asked and followed
+  pub asks : (¬ IsSpent before old) → before.guides ≢ [] → (¬ IsFinished before) → Asks before old answer after new
+  -- where no guide is left, the rules are searched
+  pub searches : (¬ IsSpent before old) → before.guides ≡ [] → Searched before.bounds old answer new × (after ≡ before)
+  -- the measure falls, or what is left, or the turns end
+  pub falls : Falls answer before old after new
+  -- what the answer says by itself
+  pub ends : Ends answer before old new
+  -- bounds and budget stay
+  pub frame : SameFrame before after

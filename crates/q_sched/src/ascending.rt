@@ -43,8 +43,11 @@ impl Ascending {
         }
     }
 
-    /// Puts a key in.
-    pub(crate) fn put(&mut self, key: Key) -> Result<(), NoMemory> {
+    /// Puts a key in, where there is one.
+    pub(crate) fn put(&mut self, key: Option<Key>) -> Result<(), NoMemory> {
+        let Some(key) = key else {
+            return Ok(());
+        };
         if self.is_passed(key) {
             self.passed.push(key)?;
         } else {

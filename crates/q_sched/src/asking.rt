@@ -3,7 +3,7 @@ ghost use Rattle.std.specs.Prelude.{◌≡◌, ◌<◌, IfOk, OnErr, vec_len, re
 ghost use Rattle.q_kernel.specs.Kernels.{SameView};
 ghost use Rattle.q_kernel.specs.Taking.{AreModest, IsReady};
 ghost use Rattle.q_reduce.specs.Lent.{IsFitFor};
-ghost use Rattle.q_sched.specs.Rises.{Rose};
+ghost use Rattle.q_logic.specs.Counts.{Rose};
 ghost use Rattle.q_sched.specs.Drives.{AsksOne};
 ghost use Rattle.q_sched.specs.Moves.{target_of};
 ghost use Rattle.q_sched.specs.Outcomes.{Outcomes, Tried};

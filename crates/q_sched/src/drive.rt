@@ -5,11 +5,8 @@
 //! in their order. Each turn but the last lowers the formula's measure, or what `left` says, so turns come to an end whatever
 //! the guides do.
 ghost use Rattle.std.specs.Prelude.{◌≡◌, ◌≢◌, ◌≤◌, ◌<◌, ◌^◌, [], take, IfOk, OnErr, vec_len, IsTrue, ◌↔◌, false};
-ghost use Rattle.q_logic.specs.Measure.{measure_of};
-ghost use Rattle.q_kernel.specs.Kernels.{SameView, formula_in};
 ghost use Rattle.q_kernel.specs.Taking.{AreModest, IsReady};
 ghost use Rattle.q_reduce.specs.Lent.{IsFitFor, nothing_learned};
-ghost use Rattle.q_sched.specs.declared.turns.Turn.TheVariants.{Asked};
 
 use crate::asking::{Outcome, ask_last};
 use crate::guide::Guide;
@@ -41,7 +38,7 @@ pub struct Drive {
 }
 
 impl Drive {
-    ghost use Rattle.q_sched.specs.Drives.{Driving, left_of, Lowers, SameFrame, IsSpent, IsFinished, Drops, Asks, Searched, Closes, Stays, IsSpentAt, Ends, Answers};
+    ghost use Rattle.q_sched.specs.Drives.{Driving, left_of, IsSpentAt, IsFinished, Drops, AsksFirst, Turned, Stays};
     ghost use Rattle.q_sched.specs.Meanings.{meanings};
     ghost use Rattle.q_sched.specs.Seen.{seen, lent};
 
@@ -99,9 +96,8 @@ impl Drive {
 
     fn drop_first(&mut self)
         requires some { (seen (λ b. asked b) (λ b. last b) self.old).guides ≢ [] }
-        ensures frame { SameFrame (seen (λ b. asked b) (λ b. last b) self.old) (seen (λ b. asked b) (λ b. last b) self.new) }
+        ensures drops { Drops (seen (λ b. asked b) (λ b. last b) self.old) (seen (λ b. asked b) (λ b. last b) self.new) }
         ensures left { IsFinished (seen (λ b. asked b) (λ b. last b) self.old) → left_of (seen (λ b. asked b) (λ b. last b) self.new) < left_of (seen (λ b. asked b) (λ b. last b) self.old) }
-        ensures dropped { Drops (seen (λ b. asked b) (λ b. last b) self.old) (seen (λ b. asked b) (λ b. last b) self.new) }
         ensures lent { lent self.new ≡ lent self.old }
     {
         self.waiting.pop();
@@ -111,17 +107,13 @@ impl Drive {
 
     fn ask_first(&mut self, kernel: &mut Kernel) -> Result<Turn, NoMemory>
         requires some { (seen (λ b. asked b) (λ b. last b) self.old).guides ≢ [] }
-        requires unfinished { IsFinished (seen (λ b. asked b) (λ b. last b) self.old) → ⊥ }
+        requires unfinished { ¬ IsFinished (seen (λ b. asked b) (λ b. last b) self.old) }
         requires ready { IsReady kernel.old }
         requires fit { IsFitFor kernel.old (lent self.old) }
-        ensures frame { SameFrame (seen (λ b. asked b) (λ b. last b) self.old) (seen (λ b. asked b) (λ b. last b) self.new) }
-        ensures answers { IfOk result (λ turn. Answers turn (seen (λ b. asked b) (λ b. last b) self.old).bounds kernel.old kernel.new) }
-        ensures asks { IfOk result (λ turn. Asks (seen (λ b. asked b) (λ b. last b) self.old) kernel.old turn (seen (λ b. asked b) (λ b. last b) self.new) kernel.new) }
-        ensures left { IfOk result (λ turn. Lowers turn (left_of (seen (λ b. asked b) (λ b. last b) self.old)) (measure_of (seen (λ b. asked b) (λ b. last b) self.old).bounds (formula_in kernel.old)) (left_of (seen (λ b. asked b) (λ b. last b) self.new)) (measure_of (seen (λ b. asked b) (λ b. last b) self.old).bounds (formula_in kernel.new))) }
+        ensures asks { IfOk result (λ turn. AsksFirst (seen (λ b. asked b) (λ b. last b) self.old) kernel.old turn (seen (λ b. asked b) (λ b. last b) self.new) kernel.new) }
+        ensures err { OnErr result (Stays (seen (λ b. asked b) (λ b. last b) self.old) kernel.old (seen (λ b. asked b) (λ b. last b) self.new) kernel.new) }
         ensures ready { IsReady kernel.new }
         ensures fit { IsFitFor kernel.new (lent self.new) }
-        ensures err { OnErr result (SameView kernel.old kernel.new) }
-        ensures err_drive { OnErr result (Stays (seen (λ b. asked b) (λ b. last b) self.old) (seen (λ b. asked b) (λ b. last b) self.new)) }
     {
         match ask_last(&mut self.waiting, kernel, &mut self.searches, &self.bounds)? {
             Outcome::Over => {
@@ -140,24 +132,10 @@ impl Drive {
     pub fn turn(&mut self, kernel: &mut Kernel) -> Result<Turn, NoMemory>
         requires ready { IsReady kernel.old }
         requires fit { IsFitFor kernel.old (lent self.old) }
-
-        // What a turn does: at a spent budget one round of searches decides. Otherwise the first guide is dropped where
-        // it is finished, or else asked and followed; the rules are searched where no guide is left.
-        ensures spent { IfOk result (λ turn. IsSpent (seen (λ b. asked b) (λ b. last b) self.old) kernel.old → Closes (seen (λ b. asked b) (λ b. last b) self.old).bounds kernel.old turn × ((seen (λ b. asked b) (λ b. last b) self.new) ≡ (seen (λ b. asked b) (λ b. last b) self.old)) × (kernel.new ≡ kernel.old)) }
-        ensures dropped { IfOk result (λ turn. (¬ IsSpent (seen (λ b. asked b) (λ b. last b) self.old) kernel.old) → (seen (λ b. asked b) (λ b. last b) self.old).guides ≢ [] → IsFinished (seen (λ b. asked b) (λ b. last b) self.old) → Drops (seen (λ b. asked b) (λ b. last b) self.old) (seen (λ b. asked b) (λ b. last b) self.new) × (turn ≡ Asked) × (kernel.new ≡ kernel.old)) }
-        ensures asks { IfOk result (λ turn. (¬ IsSpent (seen (λ b. asked b) (λ b. last b) self.old) kernel.old) → (seen (λ b. asked b) (λ b. last b) self.old).guides ≢ [] → (¬ IsFinished (seen (λ b. asked b) (λ b. last b) self.old)) → Asks (seen (λ b. asked b) (λ b. last b) self.old) kernel.old turn (seen (λ b. asked b) (λ b. last b) self.new) kernel.new) }
-        ensures searches { IfOk result (λ turn. (¬ IsSpent (seen (λ b. asked b) (λ b. last b) self.old) kernel.old) → (seen (λ b. asked b) (λ b. last b) self.old).guides ≡ [] → Searched (seen (λ b. asked b) (λ b. last b) self.old).bounds kernel.old turn kernel.new × ((seen (λ b. asked b) (λ b. last b) self.new) ≡ (seen (λ b. asked b) (λ b. last b) self.old))) }
-
-        // Each turn lowers the measure, or what is left, or ends.
-        ensures left { IfOk result (λ turn. Lowers turn (left_of (seen (λ b. asked b) (λ b. last b) self.old)) (measure_of (seen (λ b. asked b) (λ b. last b) self.old).bounds (formula_in kernel.old)) (left_of (seen (λ b. asked b) (λ b. last b) self.new)) (measure_of (seen (λ b. asked b) (λ b. last b) self.old).bounds (formula_in kernel.new))) }
-        ensures ends { IfOk result (λ turn. Ends turn (seen (λ b. asked b) (λ b. last b) self.old) kernel.old kernel.new) }
-
-        // What stays.
-        ensures frame { SameFrame (seen (λ b. asked b) (λ b. last b) self.old) (seen (λ b. asked b) (λ b. last b) self.new) }
+        ensures turned { IfOk result (λ turn. Turned (seen (λ b. asked b) (λ b. last b) self.old) kernel.old turn (seen (λ b. asked b) (λ b. last b) self.new) kernel.new) }
+        ensures err { OnErr result (Stays (seen (λ b. asked b) (λ b. last b) self.old) kernel.old (seen (λ b. asked b) (λ b. last b) self.new) kernel.new) }
         ensures ready { IsReady kernel.new }
         ensures fit { IsFitFor kernel.new (lent self.new) }
-        ensures err { OnErr result (SameView kernel.old kernel.new) }
-        ensures err_drive { OnErr result (Stays (seen (λ b. asked b) (λ b. last b) self.old) (seen (λ b. asked b) (λ b. last b) self.new)) }
     {
         if self.is_spent(kernel.measure(&self.bounds)) {
             return close(kernel, &mut self.searches, &self.bounds);

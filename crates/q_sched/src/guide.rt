@@ -4,7 +4,7 @@
 //! says: it may propose what it likes, and how fast the formula shrinks is all that depends on it.
 ghost use Rattle.std.specs.Prelude.{◌≡◌, ℕ};
 ghost use Rattle.q_kernel.specs.Taking.{IsReady};
-ghost use Rattle.q_sched.specs.Rises.{Rose};
+ghost use Rattle.q_logic.specs.Counts.{Rose};
 ghost use Rattle.q_sched.specs.declared.guide.Proposal.{Proposal};
 
 use crate::moves::Move;

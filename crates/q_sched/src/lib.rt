@@ -8,6 +8,7 @@ mod drive;
 mod fewest;
 mod guide;
 mod moves;
+mod rounds;
 mod searches;
 mod searching;
 mod shortest;

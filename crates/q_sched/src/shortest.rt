@@ -6,104 +6,46 @@
 //! **Source.** Marijn Heule, Matti Järvisalo and Armin Biere, "Covered Clause Elimination" (LPAR 2010); the order is that of
 //! Armin Biere, Florian Lonsing and Martina Seidl, "Blocked clause elimination for QBF" (CADE 2011, Bloqqer).
 //!
-//! **How it is found.** A heap of pairs of length and id. Where the kernel's journal tells that a clause came or lost a
-//! literal, its pair of now is put in; pairs that no longer hold are dropped when they are met. So nothing is scanned but
-//! once, at the start, or where the journal has forgotten.
+//! **How it is found.** By a heap of pairs of length and id (`rounds.rt`).
 ghost use Rattle.std.specs.Prelude.{◌≡◌};
 ghost use Rattle.q_kernel.specs.Taking.{IsReady};
 ghost use Rattle.q_sched.specs.Kinds.{IsCovering};
-ghost use Rattle.q_sched.specs.Rises.{Rose};
+ghost use Rattle.q_sched.specs.declared.guide.Proposal.TheVariants.{Done};
+ghost use Rattle.q_logic.specs.Counts.{Rose};
 
 use crate::ascending::{Ascending, Key};
 use crate::guide::{Guide, Proposal};
 use crate::moves::Move;
+use crate::rounds::{Keyed, Rounds};
 use q_arena::ClauseId;
 use q_kernel::{Kernel, Touch};
 use q_logic::NoMemory;
 
-// The clauses by length, and how many touches of the kernel were read.
+// The clauses by length.
 #[derive(Drop)]
-struct Clauses {
-    keys: Ascending,
-    read: u64,
-}
+struct Clauses;
 
-// The length of a clause; None unless it is live.
-fn key_of(kernel: &Kernel, id: ClauseId) -> Option<Key> {
-    if !kernel.live(id) {
-        return None;
-    }
-    match u32::try_from(kernel.lits(id).len()) {
-        Ok(length) => Some((length, id)),
-        Err(_) => None,
-    }
-}
-
-impl Clauses {
-    fn new(kernel: &Kernel) -> Result<Clauses, NoMemory> {
-        let mut clauses = Clauses {
-            keys: Ascending::new(kernel.allocator()),
-            read: 0,
-        };
-        clauses.fill(kernel)?;
-        Ok(clauses)
-    }
-
-    // Puts all clauses in anew.
-    fn fill(&mut self, kernel: &Kernel) -> Result<(), NoMemory> {
-        self.keys.clear();
-        self.read = kernel.touches();
-        let mut from = 0;
-        for _ in 0..kernel.clauses() {
-            let Some(id) = kernel.next_live(from) else {
-                return Ok(());
-            };
-            self.put(kernel, id)?;
-            from = id.saturating_add(1);
+impl Keyed for Clauses {
+    fn key_of(kernel: &Kernel, id: ClauseId) -> Option<Key> {
+        if !kernel.live(id) {
+            return None;
         }
-        Ok(())
-    }
-
-    fn put(&mut self, kernel: &Kernel, id: ClauseId) -> Result<(), NoMemory> {
-        match key_of(kernel, id) {
-            Some(key) => self.keys.put(key),
-            None => Ok(()),
+        match u32::try_from(kernel.lits(id).len()) {
+            Ok(length) => Some((length, id)),
+            Err(_) => None,
         }
     }
 
-    fn put_touched(&mut self, kernel: &Kernel, touch: Touch) -> Result<(), NoMemory> {
+    fn next_item(kernel: &Kernel, from: ClauseId) -> Option<ClauseId> {
+        kernel.next_live(from)
+    }
+
+    fn put_touched(keys: &mut Ascending, kernel: &Kernel, touch: Touch) -> Result<(), NoMemory> {
         match touch {
-            Touch::Clause(id) => self.put(kernel, id),
+            Touch::Clause(id) => keys.put(Self::key_of(kernel, id)),
             Touch::Literal(_) => Ok(()),
             Touch::Variable(_) => Ok(()),
         }
-    }
-
-    // Puts in what was touched since the last call.
-    fn catch_up(&mut self, kernel: &Kernel) -> Result<(), NoMemory> {
-        for number in self.read..kernel.touches() {
-            match kernel.touch(number) {
-                Some(touch) => self.put_touched(kernel, touch)?,
-                None => return self.fill(kernel),
-            }
-        }
-        self.read = kernel.touches();
-        Ok(())
-    }
-
-    // The clause with the least key above the cursor.
-    fn next(&mut self, kernel: &Kernel) -> Result<Option<ClauseId>, NoMemory> {
-        self.catch_up(kernel)?;
-        for _ in 0..self.keys.len() {
-            let Some(key) = self.keys.pop() else {
-                return Ok(None);
-            };
-            if key_of(kernel, key.1) == Some(key) {
-                self.keys.pass(key)?;
-                return Ok(Some(key.1));
-            }
-        }
-        Ok(None)
     }
 }
 
@@ -111,37 +53,21 @@ impl Clauses {
 /// taken. Where memory is wanting it is done.
 #[derive(Drop)]
 pub struct ShortestFirst {
-    clauses: Option<Clauses>,
-    starts_again: bool,
+    rounds: Rounds<Clauses>,
     asked: u64,
     last: Proposal,
 }
 
 impl ShortestFirst {
-    pub fn new() -> ShortestFirst {
+    pub fn new() -> ShortestFirst
+        ensures asked { ⟦<ShortestFirst as Guide>⟧.asked result ≡ 0 }
+        ensures last { ⟦<ShortestFirst as Guide>⟧.last result ≡ Done }
+    {
         ShortestFirst {
-            clauses: None,
-            starts_again: false,
+            rounds: Rounds::new(),
             asked: 0,
             last: Proposal::Done,
         }
-    }
-
-    // The next clause. Where memory is wanting all is made anew at the next call.
-    fn next(&mut self, kernel: &Kernel) -> Result<Option<ClauseId>, NoMemory>
-        ensures { self.new.asked ≡ self.old.asked }
-    {
-        let mut clauses = match self.clauses.take() {
-            Some(clauses) => clauses,
-            None => Clauses::new(kernel)?,
-        };
-        if self.starts_again {
-            clauses.keys.start_again()?;
-            self.starts_again = false;
-        }
-        let next = clauses.next(kernel)?;
-        self.clauses = Some(clauses);
-        Ok(next)
     }
 }
 
@@ -157,15 +83,14 @@ impl Guide for ShortestFirst {
         ensures kind { IsCovering result }
     {
         self.asked = self.asked.saturating_add(1);
-        self.last = match self.next(kernel) {
-            Ok(Some(c)) => Proposal::Take(Move::Block(q_blocked::Target::Cover { c })),
-            Ok(None) => Proposal::Done,
-            Err(_) => Proposal::Done,
+        self.last = match self.rounds.next(kernel) {
+            Some(c) => Proposal::Take(Move::Block(q_blocked::Target::Cover { c })),
+            None => Proposal::Done,
         };
         self.last
     }
 
     fn told(&mut self, taken: bool) {
-        self.starts_again = self.starts_again || taken;
+        self.rounds.told(taken);
     }
 }

@@ -5,12 +5,11 @@ use Rattle.q_logic.specs.Formulas.{PrenexFormula}
 use Rattle.q_logic.specs.Parts.{IsProper}
 use Rattle.q_logic.proofs.Justified.{Run-justified}
 use Rattle.q_logic.proofs.Repeated.{run-true_to}
-use Rattle.q_io.specs.Files.{Disk, MayEmpty}
+use Rattle.q_io.specs.Files.{Disk, HoldsBytes, MayEmpty, MayHoldFront}
 use Rattle.q_log.specs.Texts.{steps_text}
 use Rattle.q_simplify.specs.declared.options.Options.{Options}
 use Rattle.q_simplify.specs.declared.report.Report.{Report}
 use Rattle.q_simplify.specs.Logs.{HoldsFront, LeavesLog}
-use Rattle.q_simplify.specs.Outputs.{HoldsText, HoldsTextPart}
 use Rattle.q_simplify.specs.Results.{IsReport, IsEnoughFor, EndsAs, HoldsRun, LeadsTo, Simplifies, Leaves}
 use Rattle.q_logic.specs.declared.rule_bounds.Bounds.{Bounds}
 use Rattle.q_logic.specs.Formulas.{Matrix, Prefix}
@@ -23,11 +22,8 @@ use Rattle.q_sched.specs.Settled.{IsSettled, NoneApplies}
 use Rattle.q_sched.specs.Drives.{IsSpentAt}
 use Rattle.q_simplify.specs.declared.report.Ending.{Ending}
 use Rattle.q_simplify.specs.declared.report.Ending.TheVariants as ending
-use Rattle.q_simplify.proofs.Logging.{at_some, take-front}
-
-pub each_some : {D : Type 0} {P Q : D → Type 0} (o : Option D) → IfSome o P → ((d : D) → P d → Q d) → IfSome o Q
-each_some None p h = tt
-each_some (Some d) p h = h d p
+use Rattle.q_io.proofs.Disks.{at_some}
+use Rattle.q_simplify.proofs.Logging.{take-front}
 
 -- the log stays where another file is written
 kept-run : (F G : PrenexFormula) (ln : List ℕ) (c d : Disk) → map.get d ln ≡ map.get c ln → HoldsRun F G ln c → HoldsRun F G ln d
@@ -44,9 +40,9 @@ whole-front F G ln d h =
       bytes = ap (λ o. unwrap_or o []) h.bytes ∙ (sym (take-front (steps_text h.steps) []) ∙ ap (λ xs. take (length (steps_text h.steps)) xs) (append-nil (steps_text h.steps)));
     }
 
-pub simplifies : (o : Options) (F G : PrenexFormula) (r : Report) (on ln : List ℕ) (before : Disk) (mid after : Option Disk) → on ≢ ln → IsProper F → IsReport o F r G → LeadsTo F G ln before mid → IfSome mid (λ disk. HoldsText on G disk after) → Simplifies o F r on ln before after
+pub simplifies : (o : Options) (F G : PrenexFormula) (r : Report) (on ln : List ℕ) (before : Disk) (mid after : Option Disk) → on ≢ ln → IsProper F → IsReport o F r G → LeadsTo F G ln before mid → IfSome mid (λ disk. HoldsBytes on (formula_text G) disk after) → Simplifies o F r on ln before after
 simplifies o F G r on ln before mid after n p i l w =
-    let t : HoldsText on G l.disk after = at_some _ mid w l.disk l.told in
+    let t : HoldsBytes on (formula_text G) l.disk after = at_some _ mid w l.disk l.told in
     record {
       disk = t.disk;
       told = t.told;
@@ -73,9 +69,9 @@ pub leaves-log : (F : PrenexFormula) (on ln : List ℕ) (before : Disk) (after :
 leaves-log F on ln before after n l =
     record { disk = l.disk; told = l.told; log = l.log; output = inl (l.others on n); others = λ q a b. l.others q b }
 
-pub leaves-part : (F G : PrenexFormula) (on ln : List ℕ) (before : Disk) (mid after : Option Disk) → on ≢ ln → LeadsTo F G ln before mid → IfSome mid (λ disk. HoldsTextPart on G disk after) → Leaves F on ln before after
+pub leaves-part : (F G : PrenexFormula) (on ln : List ℕ) (before : Disk) (mid after : Option Disk) → on ≢ ln → LeadsTo F G ln before mid → IfSome mid (λ disk. MayHoldFront on (formula_text G) disk after) → Leaves F on ln before after
 leaves-part F G on ln before mid after n l w =
-    let t : HoldsTextPart on G l.disk after = at_some _ mid w l.disk l.told in
+    let t : MayHoldFront on (formula_text G) l.disk after = at_some _ mid w l.disk l.told in
     let run : HoldsRun F G ln t.disk = kept-run F G ln l.disk t.disk (t.others ln (λ e. n (sym e))) l.log in
     record {
       disk = t.disk;

@@ -1,9 +1,6 @@
-pub mod Steps
 pub mod Logging
-pub mod Outputting
 pub mod Turned
 pub mod Renumbering
-pub mod Readable
 pub mod Ends
 pub mod Reducing
 pub mod Finishing

@@ -1,17 +1,30 @@
 -- What the file of the log and the kernel say together, through the changes of both.
-use Rattle.std.proofs.Common.{◌≡◌, inr, ℕ, suc, ◌+◌, List, [], ◌∷◌, ◌++◌, refl, sym, ap, ◌∙◌, subst, arith, length, take, append_assoc, append-nil, Option, Some, unwrap_or, IfSome}
-use Rattle.q_logic.specs.Formulas.{PrenexFormula}
+use Rattle.std.proofs.Common.{◌≡◌, inr, ℕ, suc, ◌+◌, List, [], ◌∷◌, ◌++◌, refl, sym, ap, ◌∙◌, subst, arith, length, take, append_assoc, append-nil, Option, Some, unwrap_or, IfSome, Result, Err}
+use Rattle.std.specs.List.{AllByRecursion}
+use Rattle.q_logic.specs.Formulas.{Prefix, PrenexFormula}
+use Rattle.q_logic.specs.Prefixes.{blocks, SameBlocks}
+use Rattle.q_logic.specs.Steps.{ProofStep}
 use Rattle.q_logic.specs.Limits.{standard}
-use Rattle.q_io.specs.Files.{Disk, OthersStay, bytes_at, Empties, Appends, AppendsPart}
-use Rattle.q_log.specs.Texts.{steps_text}
+use Rattle.q_io.specs.Files.{Disk, Later, RoseFor, bytes_at, Empties, Appends, AppendsPart}
+use Rattle.q_io.specs.declared.error.DeviceError.{DeviceError}
+use Rattle.q_io.specs.declared.error.DeviceError.TheVariants.{Failed}
+use Rattle.q_log.specs.Texts.{IsLogged, steps_text}
 use Rattle.q_kernel.specs.Kernels.{Seen, slots, formula_in, SameView}
-use Rattle.q_kernel.specs.Changes.{AreAlike, IsLed}
-use Rattle.q_simplify.specs.Logs.{HasLog, LeavesLog}
+use Rattle.q_kernel.specs.Changes.{IsLed}
+use Rattle.q_logic.specs.Runs.{AreAlike, SameFormula, ValidSteps}
+use Rattle.q_logic.proofs.Reaching.{SameBlocks-refl}
+use Rattle.q_simplify.specs.Logs.{HasLog, LeavesLog, LogGoesOn}
 use Rattle.q_simplify.specs.Results.{LeadsTo}
-use Rattle.q_simplify.proofs.Steps.{Lead, lead-append, text-append, logged-append, alike-itself, alike-same}
+use Rattle.q_io.proofs.Disks.{at_some, others-through}
+use Rattle.q_kernel.proofs.Leading.{alike-itself, alike-through, alike-turned, steps-same, steps-append, steps_text-append}
 
-pub at_some : {D : Type 0} (P : D → Type 0) (o : Option D) → IfSome o P → (d : D) → o ≡ Some d → P d
-at_some P o h d e = let k : IfSome (Some d) P = subst (λ x. IfSome x P) e h in k
+logged-append : (ss ts : List ProofStep) → AllByRecursion IsLogged ss → AllByRecursion IsLogged ts → AllByRecursion IsLogged (ss ++ ts)
+logged-append [] ts h k = k
+logged-append (s ∷ ss) ts h k = (h.0, logged-append ss ts h.1 k)
+
+-- alike formulas are the same for the end of a run
+alike-same : (E G : PrenexFormula) → AreAlike E G → SameFormula E G
+alike-same E G a = record { same_blocks = subst (λ (P : Prefix). SameBlocks (blocks E.prefix) (blocks P)) a.prefix (SameBlocks-refl (blocks E.prefix)); same_clauses = a.clauses }
 
 pub has_log-begin : (F : PrenexFormula) (name : List ℕ) (before : Disk) (k : Seen) (after : Option Disk) → Empties name before after → formula_in k ≡ F → k.text ≡ [] → HasLog F name before k after
 has_log-begin F name before k after e f t =
@@ -31,9 +44,9 @@ has_log-begin F name before k after e f t =
 
 pub has_log-led : (F : PrenexFormula) (name : List ℕ) (before : Disk) (j k : Seen) (after : Option Disk) → HasLog F name before j after → IsLed j k → HasLog F name before k after
 has_log-led F name before j k after h d =
-    let l : Lead standard F (h.steps ++ d.steps) (formula_in k) = lead-append standard F h.steps d.steps h.last (formula_in j) d.last (formula_in k) h.valid h.alike d.valid d.alike in
+    let i : (H : PrenexFormula) × ValidSteps standard h.last d.steps H × AreAlike d.last H = steps-same standard (formula_in j) h.last d.steps d.last (alike-turned h.last (formula_in j) h.alike) d.valid in
     let text : h.bytes ++ k.text ≡ steps_text (h.steps ++ d.steps) =
-    ap (λ t. h.bytes ++ t) d.text ∙ (sym (append_assoc h.bytes j.text (steps_text d.steps)) ∙ (ap (λ t. t ++ steps_text d.steps) h.text ∙ sym (text-append h.steps d.steps))) in
+    ap (λ t. h.bytes ++ t) d.text ∙ (sym (append_assoc h.bytes j.text (steps_text d.steps)) ∙ (ap (λ t. t ++ steps_text d.steps) h.text ∙ sym (steps_text-append h.steps d.steps))) in
     record {
       disk = h.disk;
       told = h.told;
@@ -42,9 +55,9 @@ has_log-led F name before j k after h d =
       steps = h.steps ++ d.steps;
       logged = logged-append h.steps d.steps h.logged d.logged;
       text = text;
-      last = l.last;
-      valid = l.valid;
-      alike = l.alike;
+      last = i.0;
+      valid = steps-append standard F h.steps h.last d.steps i.0 h.valid i.1;
+      alike = alike-through i.0 d.last (formula_in k) (alike-turned d.last i.0 i.2) d.alike;
       others = h.others;
     }
 
@@ -66,9 +79,6 @@ has_log-same F name before j k after h v =
 
 pub same-formula : (j k : Seen) → k.prefix ≡ j.prefix → slots k ≡ slots j → formula_in k ≡ formula_in j
 same-formula j k p s = cc
-
-pub others-through : (name : List ℕ) (a b c : Disk) → OthersStay name a b → OthersStay name b c → OthersStay name a c
-others-through name a b c f g q n = g q n ∙ f q n
 
 -- the pending bytes have come behind those of the file
 pub has_log-written : (F : PrenexFormula) (name : List ℕ) (before : Disk) (j k : Seen) (bytes : List ℕ) (mid after : Option Disk) → HasLog F name before j mid → IfSome mid (λ disk. Appends name bytes disk after) → bytes ≡ j.text → k.text ≡ [] → k.prefix ≡ j.prefix → slots k ≡ slots j → HasLog F name before k after
@@ -135,3 +145,10 @@ has_log-whole F G name before k after h t g =
       };
       others = h.others;
     }
+
+-- a call that stopped with an error
+pub stopped : {T X : Type 0} (held : X → Option Disk) (r w : X → List ℕ → ℕ) (name : List ℕ) (result : Result T DeviceError) (j k : Seen) (before after : X) (y d : DeviceError) → result ≡ Err y → y ≡ d →
+    ((F : PrenexFormula) → (first : Disk) → HasLog F name first j (held before) → LeavesLog F name first (held after)) → (d ≡ Failed → RoseFor w name before after) → Later r w before after → LogGoesOn held r w name result j k before after
+stopped held r w name result j k before after y d e q left cause later =
+    let s : result ≡ Err d = e ∙ ap (λ (x : DeviceError). Err x) q in
+    rw s (record { log = λ F first h. tt; left = left; cause = λ z. cause (cc); later = later })

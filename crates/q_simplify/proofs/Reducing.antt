@@ -5,7 +5,7 @@ use Rattle.q_logic.specs.Limits.{standard}
 use Rattle.q_logic.specs.InLimits.{IsInLimits}
 use Rattle.q_logic.specs.Parts.{IsProper}
 use Rattle.q_logic.specs.Numbered.{live, formula_of}
-use Rattle.q_logic.specs.Measure.{measure_of, size_of}
+use Rattle.q_logic.specs.Measure.{measure_of}
 use Rattle.q_logic.specs.Sweep.{IsSwept, swept}
 use Rattle.q_logic.proofs.Settling.{sweep-twice, swept-in_limits}
 use Rattle.q_io.specs.Files.{Disk, Empties}
@@ -20,7 +20,8 @@ use Rattle.q_simplify.specs.Stops.{Stops}
 use Rattle.q_simplify.specs.Logs.{HasLog, LeavesLog}
 use Rattle.q_simplify.specs.Results.{IsReport, EndsAs, ends_as}
 use Rattle.q_simplify.proofs.Logging.{has_log-begin, has_log-led, has_log-left, same-formula}
-use Rattle.q_simplify.proofs.Readable.{reads_back}
+use Rattle.q_dimacs.specs.Dimacs.{Dimacs}
+use Rattle.q_dimacs.specs.Writing.{formula_text}
 use Rattle.q_simplify.proofs.Ends.{ends}
 
 pub swept-ready : (j k : Seen) → formula_in k ≡ swept (formula_in j) → IsInLimits standard (formula_in j) → IsReady k
@@ -43,8 +44,8 @@ no_bytes [] h = refl
 no_bytes (x ∷ xs) h = absurd (omega arith)
 
 -- the report, where the kernel k is that of the end of the turns and m that of the flushed log
-pub reports : (o : Options) (F G : PrenexFormula) (k m : Seen) (last : Stop) (r : Report) → IsReady k → Stops last o.bounds o.budget r.before k → m.prefix ≡ k.prefix → slots m ≡ slots k → IsSound m → G ≡ formula_in m → r.before ≡ measure_of o.bounds F → r.after ≡ measure_of o.bounds (formula_in m) → r.ending ≡ ends_as last G → IsReport o F r G
-reports o F G k m last r d s p q w g b a e =
+pub reports : ((H : PrenexFormula) → IsProper H → IsInLimits standard H → Dimacs standard (formula_text H) H) → (o : Options) (F G : PrenexFormula) (k m : Seen) (last : Stop) (r : Report) → IsReady k → Stops last o.bounds o.budget r.before k → m.prefix ≡ k.prefix → slots m ≡ slots k → IsSound m → G ≡ formula_in m → r.before ≡ measure_of o.bounds F → r.after ≡ measure_of o.bounds (formula_in m) → r.ending ≡ ends_as last G → IsReport o F r G
+reports read o F G k m last r d s p q w g b a e =
     let f : formula_in m ≡ formula_in k = same-formula k m p q in
     let gk : G ≡ formula_in k = g ∙ f in
     record {
@@ -52,7 +53,7 @@ reports o F G k m last r d s p q w g b a e =
       before = b;
       after = a ∙ ap (λ (H : PrenexFormula). measure_of o.bounds H) (sym g);
       ending = subst (λ (x : Ending). EndsAs x o F G) (sym e) (ends last o r.before F G k b gk d.swept s);
-      readable = reads_back G (subst (λ (H : PrenexFormula). IsProper H) (sym g) w.proper) (subst (λ (H : PrenexFormula). IsInLimits standard H) (sym gk) d.limits) (subst (λ (H : PrenexFormula). size_of H.matrix < 8589934592) (sym g) w.size) (subst (λ (H : PrenexFormula). length H.prefix < 4294967296) (sym g) w.vars);
+      readable = read G (subst (λ (H : PrenexFormula). IsProper H) (sym g) w.proper) (subst (λ (H : PrenexFormula). IsInLimits standard H) (sym gk) d.limits);
     }
 
 pub started : (F : PrenexFormula) (k : Seen) → k.prefix ≡ F.prefix → live (slots k) ≡ F.matrix → formula_in k ≡ F

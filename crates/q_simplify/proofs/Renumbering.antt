@@ -18,7 +18,7 @@ use Rattle.q_logic.specs.Eliminating.{resolvents, clauses_not_of, Eliminable}
 use Rattle.q_logic.specs.Expanding.{expansion_vars, insert_all, expanded, Expandable}
 use Rattle.q_logic.specs.InLimits.{greatest}
 use Rattle.q_logic.proofs.Slots.{others-slot}
-use Rattle.q_reduce.proofs.Walks.{others-find}
+use Rattle.q_rule.proofs.Slots.{others-find}
 use Rattle.q_sched.specs.Moves.{rank_of, rules}
 use Rattle.q_sched.specs.Settled.{NoneApplies}
 

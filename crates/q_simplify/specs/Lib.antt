@@ -1,4 +1,3 @@
 pub mod Stops
 pub mod Logs
-pub mod Outputs
 pub mod Results

@@ -1,15 +1,16 @@
 -- What the file of the log holds while a formula is simplified.
-use Rattle.std.specs.Prelude.{◌≡◌, ◌⊎◌, ℕ, List, ◌++◌, take, Option, Some}
+use Rattle.std.specs.Prelude.{◌≡◌, ◌⊎◌, ℕ, List, ◌++◌, take, Option, Some, Result, OnOk, OnErr, IsErrOf}
 use Rattle.std.specs.List.{AllByRecursion}
 use Rattle.std.specs.FinMap as map
 use Rattle.q_logic.specs.Formulas.{PrenexFormula}
 use Rattle.q_logic.specs.Limits.{standard}
 use Rattle.q_logic.specs.Steps.{ProofStep}
-use Rattle.q_logic.specs.Runs.{ValidSteps}
-use Rattle.q_io.specs.Files.{Disk, OthersStay, bytes_at}
+use Rattle.q_logic.specs.Runs.{ValidSteps, AreAlike}
+use Rattle.q_io.specs.Files.{Disk, Later, OthersStay, RoseFor, bytes_at}
+use Rattle.q_io.specs.declared.error.DeviceError.{DeviceError}
+use Rattle.q_io.specs.declared.error.DeviceError.TheVariants.{Failed}
 use Rattle.q_log.specs.Texts.{IsLogged, steps_text}
 use Rattle.q_kernel.specs.Kernels.{Seen, formula_in}
-use Rattle.q_kernel.specs.Changes.{AreAlike}
 
 -- valid steps lead from F to the kernel's formula; the file holds the text of the first of them, and that of the rest is
 -- pending
@@ -45,3 +46,11 @@ pub record LeavesLog (F : PrenexFormula) (name : List ℕ) (before : Disk) (afte
   pub told : after ≡ Some disk
   pub log : MayHoldSteps F name before disk
   pub others : OthersStay name before disk
+
+-- a call in which the log goes on, over the kernels and the files before and after: whatever formula it leads from, it leads
+-- on after Ok, and a front of it is left after an error; the device failed only where writing the file did
+pub record LogGoesOn {T X : Type 0} (held : X → Option Disk) (read_faults write_faults : X → List ℕ → ℕ) (name : List ℕ) (result : Result T DeviceError) (j k : Seen) (before after : X) : Type 0 where
+  pub log : (F : PrenexFormula) → (first : Disk) → HasLog F name first j (held before) → OnOk result (HasLog F name first k (held after))
+  pub left : (F : PrenexFormula) → (first : Disk) → HasLog F name first j (held before) → OnErr result (LeavesLog F name first (held after))
+  pub cause : IsErrOf result Failed → RoseFor write_faults name before after
+  pub later : Later read_faults write_faults before after

@@ -17,6 +17,7 @@ use crate::options::Options;
 use crate::output::write_output;
 use crate::report::{Ending, Report};
 use crate::stop::Stop;
+use q_dimacs::written_within_limits_is_read;
 use q_io::{DeviceError, Files};
 use q_kernel::Kernel;
 use q_logic::{Bounds, Formula};
@@ -79,28 +80,18 @@ fn reduce<F: Files>(
     ensures later { Later F.read_faults F.write_faults files.old files.new }
 {
     let before = first_measure(kernel, &options.bounds);
-    let Ok(()) = kernel.sweep() else {
-        return Err(DeviceError::NoMemory);
+    kernel.sweep()?;
+    let last = follow(files, log, kernel, options, before, guides)?;
+    flush(files, log, kernel, 1)?;
+    let formula = kernel.formula(alloc)?;
+    kernel.sound();
+    written_within_limits_is_read();
+    let report = Report {
+        ending: ending_of(last, &formula),
+        before,
+        after: kernel.measure(&options.bounds),
     };
-    let last = match follow(files, log, kernel, options, before, guides) {
-        Ok(last) => last,
-        Err(error) => return Err(error),
-    };
-    if let Err(error) = flush(files, log, kernel, 1) {
-        return Err(error);
-    }
-    match kernel.formula(alloc) {
-        Ok(formula) => {
-            kernel.sound();
-            let report = Report {
-                ending: ending_of(last, &formula),
-                before,
-                after: kernel.measure(&options.bounds),
-            };
-            Ok(Reduced { formula, report })
-        }
-        Err(_) => Err(DeviceError::NoMemory),
-    }
+    Ok(Reduced { formula, report })
 }
 
 // The same for a formula.
@@ -122,13 +113,8 @@ fn reduce_formula<F: Files>(
     ensures cause { IsErrOf result DeviceError.Failed → RoseFor F.write_faults log.now files.old files.new }
     ensures later { Later F.read_faults F.write_faults files.old files.new }
 {
-    let Ok(mut kernel) = Kernel::start(alloc, formula) else {
-        return Err(DeviceError::NoMemory);
-    };
-    match reduce(alloc, files, log, &mut kernel, options, guides) {
-        Ok(reduced) => Ok(reduced),
-        Err(error) => Err(error),
-    }
+    let mut kernel = Kernel::start(alloc, formula)?;
+    reduce(alloc, files, log, &mut kernel, options, guides)
 }
 
 /// Simplifies the formula by the rules that there are: sweeps it, and takes one target after another until none
@@ -155,15 +141,8 @@ pub fn simplify<F: Files>(
         RoseAmong F.write_faults (output.now ∷ log.now ∷ []) files.old files.new }
     ensures later { Later F.read_faults F.write_faults files.old files.new }
 {
-    if let Err(error) = files.create(log) {
-        return Err(error);
-    }
-    let reduced = match reduce_formula(alloc, files, log, formula, options, guides) {
-        Ok(reduced) => reduced,
-        Err(error) => return Err(error),
-    };
-    match write_output(alloc, files, output, &reduced.formula) {
-        Ok(()) => Ok(reduced.report),
-        Err(error) => Err(error),
-    }
+    files.create(log)?;
+    let reduced = reduce_formula(alloc, files, log, formula, options, guides)?;
+    write_output(alloc, files, output, &reduced.formula)?;
+    Ok(reduced.report)
 }

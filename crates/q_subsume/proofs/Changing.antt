@@ -13,7 +13,7 @@ use Rattle.q_logic.specs.Sets.{IsSubset}
 use Rattle.q_logic.specs.Numbered.{Slots, slot, set_slot, live, others, formula_of}
 use Rattle.q_logic.specs.Targets as theory
 use Rattle.q_logic.specs.Rules.{shortened}
-use Rattle.q_logic.proofs.Clauses.{literal_eq-sound}
+use Rattle.q_logic.proofs.ClauseLemmas.{literal_eq-sound}
 use Rattle.q_logic.proofs.Slots.{others-slot, live-slot}
 use Rattle.q_logic.proofs.Sets.{without-shorter}
 use Rattle.q_logic.proofs.UniversalPivot.{IsIn-without, without-IsIn}
@@ -21,7 +21,8 @@ use Rattle.q_logic.proofs.Implying.{implied-subsumed, implied-hidden_new}
 use Rattle.q_logic.proofs.Reaching.{SameClauses, IsIn-alike, alike-sym}
 use Rattle.q_log.specs.Texts.{step_text}
 use Rattle.q_kernel.specs.Kernels.{Seen, slots, formula_in, IsSound}
-use Rattle.q_kernel.specs.Changes.{AreAlike, MayDelete, MayShrink, IsDeleted, IsShrunk}
+use Rattle.q_kernel.specs.Changes.{MayDelete, MayShrink, IsDeleted, IsShrunk}
+use Rattle.q_logic.specs.Runs.{AreAlike}
 use Rattle.q_kernel.proofs.Slotting.{alike-others, alike-replaced, literals-others, size-replaced, size-gone}
 use Rattle.q_kernel.proofs.Costs.{first-first}
 use Rattle.q_rule.specs.Becoming.{CanChange, IsChanged}

@@ -8,7 +8,7 @@ use Rattle.q_logic.specs.Sets.{IsSubset}
 use Rattle.q_logic.specs.Numbered.{Slots, slot}
 use Rattle.q_logic.specs.Targets.{subsumed, strengthen}
 use Rattle.q_logic.specs.Rules.{Fits}
-use Rattle.q_logic.proofs.Clauses.{literal_eq-itself, literal_eq-negation}
+use Rattle.q_logic.proofs.ClauseLemmas.{literal_eq-itself, literal_eq-negation}
 use Rattle.q_subsume.specs.Looks.{AreTwo, IsTurnedWithin}
 
 pub not-negation : (l : Literal) → l ≡ negation l → ⊥

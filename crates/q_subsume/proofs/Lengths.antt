@@ -5,7 +5,7 @@ use Rattle.q_logic.specs.Formulas.{Clause, IsIn}
 use Rattle.q_logic.specs.Parts.{ArePairs}
 use Rattle.q_logic.specs.Pivots.{without}
 use Rattle.q_logic.specs.Sets.{IsSubset}
-use Rattle.q_logic.proofs.Clauses.{literal_eq-sound, literal_eq-itself}
+use Rattle.q_logic.proofs.ClauseLemmas.{literal_eq-sound, literal_eq-itself}
 use Rattle.q_logic.proofs.Implying.{same_or_not}
 use Rattle.q_logic.proofs.Sets.{without-other}
 use Rattle.q_logic.proofs.UniversalPivot.{IsIn-without, without-IsIn}

@@ -20,38 +20,10 @@ use Rattle.q_subsume.specs.declared.target.Target.{Target}
 use Rattle.q_subsume.specs.declared.target.Target.TheVariants.{Subsumed, Strengthen}
 use Rattle.q_subsume.specs.Targets.{target_of, inner_of}
 use Rattle.q_subsume.specs.Looks.{IsTurnedWithin}
-use Rattle.q_subsume.specs.Searches.{IsBetween, IsBy, IsBehind, IsBefore, IsAmong, IsFound}
+use Rattle.q_subsume.specs.Searches.{IsBetween, IsBy, IsBehind, IsBefore, IsAmong}
+use Rattle.q_rule.specs.Searching.{IsFound}
+use Rattle.q_rule.proofs.Searching.{found-none, is_some-not}
 use Rattle.q_subsume.proofs.Lengths.{within-length, turned-length}
-
-pub found-one : (k : Seen) (Q : Target → Type 0) (u : Target) → Q u → ((B : Bounds) → Fits B k.prefix (slots k) (target_of u)) → IsFound k Q (Some u)
-found-one k Q u q f = record {
-  some = λ t e. let s : u ≡ t = same u t e in (subst Q s q, λ B. subst (λ (x : Target). Fits B k.prefix (slots k) (target_of x)) s (f B));
-  none = λ e. absurd (other u e);
-}
-  where
-    same : (u t : Target) → Some u ≡ Some t → u ≡ t
-    same u t e = cc
-
-    other : (u : Target) → Some u ≡ None → ⊥
-    other u e = cc
-
-pub found-none : (k : Seen) (Q : Target → Type 0) → ((t : Target) → Q t → (B : Bounds) → Fits B k.prefix (slots k) (target_of t) → ⊥) → IsFound k Q None
-found-none k Q h = record { some = λ t e. absurd (other t e); none = λ e. h }
-  where
-    other : (t : Target) → None ≡ Some t → ⊥
-    other t e = cc
-
-is_some-not : (o : Option Target) → is_some o ≡ true → o ≡ None → ⊥
-is_some-not None h e = true≢false (sym h)
-is_some-not (Some t) h e = let z : Some t ≡ None = e in cc
-
-pub none-is : (o : Option Target) → is_some o ≡ false → o ≡ None
-none-is None h = refl
-none-is (Some t) h = absurd (true≢false h)
-
--- A target that was found is one of another kind as well.
-pub found-more : (k : Seen) (P Q : Target → Type 0) (o : Option Target) → is_some o ≡ true → ((t : Target) → P t → Q t) → IsFound k P o → IsFound k Q o
-found-more k P Q o s f h = record { some = λ t e. let r = h.some t e in (f t r.0, r.1); none = λ e. absurd (is_some-not o s e) }
 
 -- Two clauses.
 pub one : (N : Slots) (n : ℕ) (C D : Clause) → slot N n ≡ Some C → slot N n ≡ Some D → C ≡ D
@@ -114,12 +86,12 @@ seen-begun k c from owner = record { each = λ p h. absurd h }
 pub seen-more : (k : Seen) (c from : ℕ) (owner : ℕ → ℕ) (places : List ℕ) (p : ℕ) → IsSeen k c from (owner p) → AreSeen k c from owner places → AreSeen k c from owner (places ++ p ∷ [])
 seen-more k c from owner places p s h = record { each = λ q m. elim (Has-last p q places m) [ inl a ↦ h.each q a | inr e ↦ subst (λ (x : ℕ). IsSeen k c from (owner x)) (sym e) s ] }
 
-pub seen-all : (k : Seen) (c from : ℕ) (owner : ℕ → ℕ) (places : List ℕ) (l : Literal) → ((d : ℕ) → HoldsLiteral k d l → (p : ℕ) × Has places p × (owner p ≡ d)) → AreSeen k c from owner places → IsFound k (IsAmong k c from l) None
-seen-all k c from owner places l own h = found-none k (IsAmong k c from l) (λ t q B f.
+pub seen-all : (k : Seen) (c from : ℕ) (owner : ℕ → ℕ) (places : List ℕ) (l : Literal) → ((d : ℕ) → HoldsLiteral k d l → (p : ℕ) × Has places p × (owner p ≡ d)) → AreSeen k c from owner places → IsFound target_of k (IsAmong k c from l) None
+seen-all k c from owner places l own h = found-none target_of k (IsAmong k c from l) (λ t q B f.
     let r = own (place (target_of t)) q.holds in
     (h.each r.0 r.1).none (subst (λ (x : ℕ). from ≤ x) (sym r.2) q.by_clause.order) t (record { inner = q.by_clause.inner; other = sym r.2 }) B f)
 
-pub found-among : (k : Seen) (c from d : ℕ) (l : Literal) (o : Option Target) → is_some o ≡ true → HoldsLiteral k d l → ((t : Target) → o ≡ Some t → IsBetween c d t × (from ≤ d) × ((B : Bounds) → Fits B k.prefix (slots k) (target_of t))) → IsFound k (IsAmong k c from l) o
+pub found-among : (k : Seen) (c from d : ℕ) (l : Literal) (o : Option Target) → is_some o ≡ true → HoldsLiteral k d l → ((t : Target) → o ≡ Some t → IsBetween c d t × (from ≤ d) × ((B : Bounds) → Fits B k.prefix (slots k) (target_of t))) → IsFound target_of k (IsAmong k c from l) o
 found-among k c from d l o s held h = record {
   some = λ t e. let r = h t e in (record { by_clause = record { inner = r.0.inner; order = subst (λ (x : ℕ). from ≤ x) (sym r.0.other) r.1 }; holds = subst (λ (x : ℕ). HoldsLiteral k x l) (sym r.0.other) held }, r.2);
   none = λ e. absurd (is_some-not o s e);
@@ -137,7 +109,7 @@ either B k c C m (Strengthen a b l) e i q (E, G, n, g, j, inD, inC, w) =
       | inr d ↦ inl (G, j, (w m (subst (λ (x : Clause). IsIn m x) u i) d).0)
     ]
 
-pub found-by : (k : Seen) (c from : ℕ) (C : Clause) (m : Literal) (o : Option Target) → slot (slots k) c ≡ Some C → IsIn m C → IsFound k (IsAmong k c from m) None → IsFound k (IsAmong k c from (negation m)) o → IsFound k (IsBy c from) o
+pub found-by : (k : Seen) (c from : ℕ) (C : Clause) (m : Literal) (o : Option Target) → slot (slots k) c ≡ Some C → IsIn m C → IsFound target_of k (IsAmong k c from m) None → IsFound target_of k (IsAmong k c from (negation m)) o → IsFound target_of k (IsBy c from) o
 found-by k c from C m o e i a b = record {
   some = λ t f. let r = b.some t f in (r.0.by_clause, r.1);
   none = λ f t q B g. elim (either B k c C m t e i q.inner g) [
@@ -198,7 +170,7 @@ pub dead-none : (k : Seen) (c from : ℕ) → (((C : Clause) × (slot (slots k) 
 dead-none k c from n (Subsumed a b) q B f = n (f.0, subst (λ (x : ℕ). slot (slots k) x ≡ Some f.0) q.inner f.3)
 dead-none k c from n (Strengthen a b l) q B f = n (f.0, subst (λ (x : ℕ). slot (slots k) x ≡ Some f.0) q.inner f.3)
 
-pub passed-more : (k : Seen) (start from at' c : ℕ) → at' ≤ c → ((d : ℕ) → at' ≤ d → d < c → slot (slots k) d ≡ None) → IsFound k (IsBy c from) None → ArePassed k start from at' → ArePassed k start from (c + 1)
+pub passed-more : (k : Seen) (start from at' c : ℕ) → at' ≤ c → ((d : ℕ) → at' ≤ d → d < c → slot (slots k) d ≡ None) → IsFound target_of k (IsBy c from) None → ArePassed k start from at' → ArePassed k start from (c + 1)
 passed-more k start from at' c up between h d = record {
   order = let z = d.order in omega arith;
   none = λ t s n m B f. elim (before_or_at (inner_of t) c n) [
@@ -210,18 +182,18 @@ passed-more k start from at' c up between h d = record {
   ];
 }
 
-pub passed-behind : (k : Seen) (start from at' : ℕ) → ((d : ℕ) → at' ≤ d → slot (slots k) d ≡ None) → ArePassed k start from at' → IsFound k (IsBehind start from) None
-passed-behind k start from at' rest d = found-none k (IsBehind start from) (λ t q B f. elim (below_or_not (inner_of t) at') [
+pub passed-behind : (k : Seen) (start from at' : ℕ) → ((d : ℕ) → at' ≤ d → slot (slots k) d ≡ None) → ArePassed k start from at' → IsFound target_of k (IsBehind start from) None
+passed-behind k start from at' rest d = found-none target_of k (IsBehind start from) (λ t q B f. elim (below_or_not (inner_of t) at') [
   | inl low ↦ d.none t q.behind low q.order B f
   | inr high ↦ inner-none B k t (rest (inner_of t) high) f
 ])
 
-pub passed-before : (k : Seen) (end from at' : ℕ) → end ≤ at' → ArePassed k 0 from at' → IsFound k (IsBefore end from) None
-passed-before k end from at' l d = found-none k (IsBefore end from) (λ t q B f. d.none t (omega arith) (let h = q.before in omega arith) q.order B f)
+pub passed-before : (k : Seen) (end from at' : ℕ) → end ≤ at' → ArePassed k 0 from at' → IsFound target_of k (IsBefore end from) None
+passed-before k end from at' l d = found-none target_of k (IsBefore end from) (λ t q B f. d.none t (omega arith) (let h = q.before in omega arith) q.order B f)
 
 -- Once round all clauses.
-pub passed-round : (k : Seen) (start from : ℕ) → IsFound k (IsBehind start from) None → IsFound k (IsBefore start from) None → IsFound k (λ t. from ≤ place (target_of t)) None
-passed-round k start from a b = found-none k (λ t. from ≤ place (target_of t)) (λ t m B f. elim (below_or_not (inner_of t) start) [
+pub passed-round : (k : Seen) (start from : ℕ) → IsFound target_of k (IsBehind start from) None → IsFound target_of k (IsBefore start from) None → IsFound target_of k (λ t. from ≤ place (target_of t)) None
+passed-round k start from a b = found-none target_of k (λ t. from ≤ place (target_of t)) (λ t m B f. elim (below_or_not (inner_of t) start) [
   | inl low ↦ b.none refl t (record { before = low; order = m }) B f
   | inr high ↦ a.none refl t (record { behind = high; order = m }) B f
 ])

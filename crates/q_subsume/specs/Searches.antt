@@ -1,10 +1,8 @@
 -- What a search for targets answers.
-use Rattle.std.specs.Prelude.{◌≡◌, ◌≤◌, ◌<◌, ℕ, Option, None, Some}
-use Rattle.q_logic.specs.declared.rule_bounds.Bounds.{Bounds}
+use Rattle.std.specs.Prelude.{◌≡◌, ◌≤◌, ◌<◌, ℕ}
 use Rattle.q_logic.specs.Literals.{Literal}
 use Rattle.q_logic.specs.Targets.{place}
-use Rattle.q_logic.specs.Rules.{Fits}
-use Rattle.q_kernel.specs.Kernels.{Seen, slots, HoldsLiteral}
+use Rattle.q_kernel.specs.Kernels.{Seen, HoldsLiteral}
 use Rattle.q_subsume.specs.declared.target.Target.{Target}
 use Rattle.q_subsume.specs.Targets.{target_of, inner_of}
 
@@ -31,8 +29,3 @@ pub record IsBefore (end from : ℕ) (t : Target) : Type 0 where
 pub record IsAmong (k : Seen) (c from : ℕ) (l : Literal) (t : Target) : Type 0 where
   pub by_clause : IsBy c from t
   pub holds : HoldsLiteral k (place (target_of t)) l
-
--- a target of some kind that fits, and none exactly where none of that kind does
-pub record IsFound (k : Seen) (Q : Target → Type 0) (o : Option Target) : Type 0 where
-  pub some : (t : Target) → o ≡ Some t → Q t × ((B : Bounds) → Fits B k.prefix (slots k) (target_of t))
-  pub none : o ≡ None → (t : Target) → Q t → (B : Bounds) → Fits B k.prefix (slots k) (target_of t) → ⊥

@@ -20,7 +20,8 @@ ghost use Rattle.q_kernel.specs.Kernels.{slots, formula_in};
 ghost use Rattle.q_subsume.specs.declared.target.Target.{Target as TargetValue};
 ghost use Rattle.q_subsume.specs.Targets.{target_of};
 ghost use Rattle.q_subsume.specs.Looks.{AreTwo};
-ghost use Rattle.q_subsume.specs.Searches.{IsBetween, IsBy, IsBehind, IsBefore, IsAmong, IsFound};
+ghost use Rattle.q_subsume.specs.Searches.{IsBetween, IsBy, IsBehind, IsBefore, IsAmong};
+ghost use Rattle.q_rule.specs.Searching.{IsFound};
 
 use crate::missing::first_missing;
 use crate::search::Search;
@@ -38,7 +39,7 @@ pub fn find_from(
     from: u32,
 ) -> Result<Option<Target>, NoMemory>
     requires { IsSwept (formula_in kernel.now) }
-    ensures { IfOk result (IsFound kernel.now (λ t. from ≤ place (target_of t))) }
+    ensures { IfOk result (IsFound target_of kernel.now (λ t. from ≤ place (target_of t))) }
 {
     let start = search.start();
     if let Some(target) = find_behind(kernel, start, from)? {
@@ -55,7 +56,7 @@ pub fn find_from(
 // A target by which a clause from a number on changes another one.
 fn find_behind(kernel: &Kernel, start: ClauseId, from: u32) -> Result<Option<Target>, NoMemory>
     requires { IsSwept (formula_in kernel.now) }
-    ensures { IfOk result (IsFound kernel.now (IsBehind start from)) }
+    ensures { IfOk result (IsFound target_of kernel.now (IsBehind start from)) }
 {
     let mut at = start;
     while let Some(c) = kernel.next_live(at) {
@@ -75,7 +76,7 @@ fn find_behind(kernel: &Kernel, start: ClauseId, from: u32) -> Result<Option<Tar
 // A target by which a clause before a number changes another one.
 fn find_before(kernel: &Kernel, end: ClauseId, from: u32) -> Option<Target>
     requires { IsSwept (formula_in kernel.now) }
-    ensures { IsFound kernel.now (IsBefore end from) result }
+    ensures { IsFound target_of kernel.now (IsBefore end from) result }
 {
     for c in 0..end {
         let found = find_if_live(kernel, c, from);
@@ -89,7 +90,7 @@ fn find_before(kernel: &Kernel, end: ClauseId, from: u32) -> Option<Target>
 // A target by which the clause of an id, if there is one, changes another one.
 fn find_if_live(kernel: &Kernel, c: ClauseId, from: u32) -> Option<Target>
     requires { IsSwept (formula_in kernel.now) }
-    ensures { IsFound kernel.now (IsBy c from) result }
+    ensures { IsFound target_of kernel.now (IsBy c from) result }
 {
     if !kernel.live(c) {
         return None;
@@ -101,7 +102,7 @@ fn find_if_live(kernel: &Kernel, c: ClauseId, from: u32) -> Option<Target>
 pub fn find_by(kernel: &Kernel, c: ClauseId, from: u32) -> Option<Target>
     requires live { (C : Clause) × (slot (slots kernel.now) c ≡ Some C) }
     requires swept { IsSwept (formula_in kernel.now) }
-    ensures { IsFound kernel.now (IsBy c from) result }
+    ensures { IsFound target_of kernel.now (IsBy c from) result }
 {
     let Some(k) = rarest(kernel, clause_of(kernel, c)) else {
         return None;
@@ -141,7 +142,7 @@ fn places_of(kernel: &Kernel, lit: Lit) -> u64 {
 // A target by which the clause c changes one that holds a literal.
 fn find_among(kernel: &Kernel, c: ClauseId, lit: Lit, from: u32) -> Option<Target>
     requires { (C : Clause) × (slot (slots kernel.now) c ≡ Some C) }
-    ensures { IsFound kernel.now (IsAmong kernel.now c from lit) result }
+    ensures { IsFound target_of kernel.now (IsAmong kernel.now c from lit) result }
 {
     kernel.sound();
     let mut at = kernel.first(lit);
@@ -174,7 +175,7 @@ fn look(kernel: &Kernel, c: ClauseId, d: ClauseId, from: u32) -> Option<Target>
 // Whether the clause c lies within the clause d, as it is or with one literal turned.
 fn between(kernel: &Kernel, c: ClauseId, d: ClauseId) -> Option<Target>
     requires { AreTwo (slots kernel.now) c d }
-    ensures { IsFound kernel.now (IsBetween c d) result }
+    ensures { IsFound target_of kernel.now (IsBetween c d) result }
 {
     let clause = clause_of(kernel, c);
     let other = clause_of(kernel, d);

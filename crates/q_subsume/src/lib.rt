@@ -12,5 +12,5 @@ mod target;
 pub use q_kernel::Taken;
 pub use q_logic::Bounds;
 pub use search::Search;
-pub use subsume::{applies, find, find_with, try_one, try_with};
+pub use subsume::{find, try_one};
 pub use target::Target;

@@ -1,20 +1,14 @@
 use crate::target::Target;
 use q_arena::ClauseId;
-use std::alloc::Global;
 
 /// What searches lend each other: the clause by which the last target was found. The next search begins there, so that one
 /// target after the other is found in one pass over the clauses. It may be any number, whatever the kernel.
 #[derive(Drop)]
 pub struct Search {
-    start: ClauseId,
+    pub(crate) start: ClauseId,
 }
 
 impl Search {
-    pub fn new(alloc: Global) -> Search {
-        let _ = alloc;
-        Search { start: 0 }
-    }
-
     /// Where the next search begins.
     pub(crate) fn start(&self) -> ClauseId {
         self.start

@@ -25,8 +25,8 @@ use crate::missing::first_missing;
 use crate::subsumed::are_two;
 use q_arena::ClauseId;
 use q_kernel::Kernel;
-use q_logic::Lit;
-use q_rule::{clause_of, holds};
+use q_logic::{Lit, holds};
+use q_rule::clause_of;
 
 /// Whether the clause c, which holds the negation of l, lies within the clause d once that literal is turned into l.
 pub fn is_turned_within(c: &[Lit], d: &[Lit], l: Lit) -> bool

@@ -1,5 +1,5 @@
 -- The tokens of a whole text: line by line, word by word.
-use Rattle.std.specs.Prelude.{ℕ, ◌+◌, ◌==◌, Bool, false, List, [], ◌∷◌, ◌++◌, map, if◌then◌else◌, ◌||◌}
+use Rattle.std.specs.Prelude.{◌≡◌, ℕ, ◌+◌, ◌==◌, Bool, false, List, [], ◌∷◌, ◌++◌, map, if◌then◌else◌, ◌||◌}
 use Rattle.q_text.specs.declared.tokens.Token.{Token}
 use Rattle.q_text.specs.Words.{is_separator, kind_of}
 
@@ -64,3 +64,8 @@ up_to_separator (b ∷ bs) = if has_separator (b ∷ bs) then b ∷ up_to_separa
 -- the tokens that end in these bytes
 abbrev pub tokens_ended : List ℕ → List Token
 tokens_ended bytes = tokens_of (up_to_separator bytes)
+
+-- what stood in the text still stands at its front
+pub record Extends (old new : List ℕ) : Type 0 where
+  pub rest : List ℕ
+  pub is : new ≡ old ++ rest

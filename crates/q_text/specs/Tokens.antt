@@ -6,6 +6,7 @@ use Rattle.q_text.specs.declared.shape.Shape.{Shape}
 use Rattle.q_text.specs.declared.shape.Shape.TheVariants.{Start, Comment, Between, Minus, Digits, C, Cn, Word}
 use Rattle.q_text.specs.declared.tokens.Token.{Token}
 use Rattle.q_text.specs.declared.tokens.Tokens.{Tokens}
+use Rattle.q_logic.specs.Literals.{Literal, number_of}
 use Rattle.q_text.specs.Words.{is_separator, is_digit, clipped}
 
 -- the shape of a word of one byte
@@ -94,3 +95,8 @@ begun = record { line = 1; shape = Start }
 abbrev pub all_handed : Tokens → List ℕ → List Token
 all_handed t [] = []
 all_handed t (b ∷ bs) = listed (handed t b) ++ all_handed (after t b) bs
+
+-- the literals, and 0
+abbrev pub literals_kinds : List Literal → List TokenKind
+literals_kinds [] = Number (pos 0) ∷ []
+literals_kinds (l ∷ ls) = Number (number_of l) ∷ literals_kinds ls

@@ -7,10 +7,10 @@ ghost use Rattle.q_kernel.specs.Taking.{AreModest, IsReady};
 use crate::lists::gather;
 use crate::lits::Lits;
 use q_arena::ClauseId;
-use q_blocked::{Search, Target, applies};
+use q_blocked::{Search, Target};
 use q_kernel::Kernel;
 use q_logic::{Bounds, Lit, NoMemory};
-use q_rule::is_existential;
+use q_rule::{Rules, is_existential};
 use std::alloc::Global;
 
 #[derive(Drop)]
@@ -88,7 +88,7 @@ impl Blocking {
                 return Ok(None);
             };
             let target = target_on(kernel, c, lit);
-            if applies(kernel, &mut self.search, &target, bounds)? {
+            if self.search.applies(kernel, &target, bounds)? {
                 return Ok(Some(target));
             }
         }

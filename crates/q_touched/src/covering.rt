@@ -9,9 +9,10 @@ use crate::lists::{gather, lits_of};
 use crate::lits::Lits;
 use crate::marked::Marked;
 use q_arena::ClauseId;
-use q_blocked::{Search, Target, applies};
+use q_blocked::{Search, Target};
 use q_kernel::Kernel;
 use q_logic::{Bounds, NoMemory};
+use q_rule::Rules;
 use std::alloc::Global;
 
 #[derive(Drop)]
@@ -98,7 +99,7 @@ impl Covering {
                 return Ok(None);
             };
             let target = Target::Cover { c };
-            if applies(kernel, &mut self.search, &target, bounds)? {
+            if self.search.applies(kernel, &target, bounds)? {
                 return Ok(Some(target));
             }
         }

@@ -9,9 +9,9 @@ ghost use Rattle.q_reduce.specs.Lent.{IsFitFor};
 use crate::lists::lits_of;
 use q_arena::ClauseId;
 use q_kernel::Kernel;
-use q_logic::{Bounds, Lit, NoMemory};
-use q_reduce::{Search, Target, applies};
-use q_rule::{holds, is_universal};
+use q_logic::{Bounds, Lit, NoMemory, holds};
+use q_reduce::{Search, Target};
+use q_rule::{Rules, is_universal};
 use std::alloc::Global;
 
 #[derive(Drop)]
@@ -125,6 +125,6 @@ fn may_leave(
     if !is_universal(kernel, l.var()) {
         return Ok(None);
     }
-    let leaves = applies(kernel, search, &Target::Cut { c, l }, bounds)?;
+    let leaves = search.applies(kernel, &Target::Cut { c, l }, bounds)?;
     Ok(Some(leaves))
 }

@@ -7,9 +7,10 @@ ghost use Rattle.q_kernel.specs.Taking.{AreModest, IsReady};
 
 use crate::lists::{lit_at, places_of};
 use crate::marked::Marked;
-use q_eliminate::{Search, Target, applies};
+use q_eliminate::{Search, Target};
 use q_kernel::Kernel;
 use q_logic::{Bounds, NoMemory};
+use q_rule::Rules;
 use std::alloc::Global;
 use std::cmp::Reverse;
 use std::collections::BinaryHeap;
@@ -67,7 +68,8 @@ impl Eliminating {
         requires bounds { AreModest bounds.now }
     {
         self.marks.unmark(x);
-        applies(kernel, &mut self.search, &Target::Eliminate { x }, bounds)
+        self.search
+            .applies(kernel, &Target::Eliminate { x }, bounds)
     }
 }
 

@@ -2,9 +2,10 @@
 ghost use Rattle.q_kernel.specs.Taking.{AreModest, IsReady};
 
 use crate::marked::Marked;
-use q_expand::{Search, Target, applies};
+use q_expand::{Search, Target};
 use q_kernel::Kernel;
 use q_logic::{Bounds, NoMemory};
+use q_rule::Rules;
 use std::alloc::Global;
 
 #[derive(Drop)]
@@ -41,7 +42,7 @@ impl Expanding {
                 return Ok(None);
             };
             let target = Target::Expand { u };
-            if applies(kernel, &mut self.search, &target, bounds)? {
+            if self.search.applies(kernel, &target, bounds)? {
                 return Ok(Some(target));
             }
         }

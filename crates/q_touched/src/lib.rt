@@ -14,7 +14,7 @@ mod lits;
 mod marked;
 mod merging;
 mod parts;
-mod settling;
+mod plain;
 mod strategy;
 mod subsuming;
 mod touched;

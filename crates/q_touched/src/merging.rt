@@ -4,6 +4,7 @@
 use q_equiv::{Search, Target, candidates};
 use q_kernel::Kernel;
 use q_logic::NoMemory;
+use q_rule::Rules;
 use std::alloc::Global;
 
 #[derive(Drop)]

@@ -2,7 +2,7 @@
 //!
 //! | What was touched | What may apply now |
 //! |---|---|
-//! | a clause came, or lost a literal | settling, subsumption, merges, elimination, expansion, covered clauses near it |
+//! | a clause came, or lost a literal | plain rules, subsumption, merges, elimination, expansion, covered clauses near it |
 //! | a literal stands in one clause less | its negation as pure; blocked and covered clauses with it; its variable |
 //! | a variable is fresh, or its block is one with a further one | all that concerns the variable |
 
@@ -13,7 +13,7 @@ use crate::eliminating::Eliminating;
 use crate::expanding::Expanding;
 use crate::lists::{index_of, lit_at, lits_of};
 use crate::merging::Merging;
-use crate::settling::Settling;
+use crate::plain::Plain;
 use crate::subsuming::Subsuming;
 use q_arena::ClauseId;
 use q_kernel::{Kernel, Touch};
@@ -22,7 +22,7 @@ use std::alloc::Global;
 
 #[derive(Drop)]
 pub(crate) struct Parts {
-    pub settling: Settling,
+    pub plain: Plain,
     pub subsuming: Subsuming,
     pub merging: Merging,
     pub eliminating: Eliminating,
@@ -36,7 +36,7 @@ impl Parts {
     /// It takes no memory.
     pub(crate) fn new(alloc: Global) -> Parts {
         Parts {
-            settling: Settling::new(alloc),
+            plain: Plain::new(alloc),
             subsuming: Subsuming::new(alloc),
             merging: Merging::new(alloc),
             eliminating: Eliminating::new(alloc),
@@ -69,7 +69,7 @@ impl Parts {
         self.subsuming.restart();
         let mut at = 0;
         while let Some(c) = kernel.next_live(at) {
-            self.settling.touch(kernel, c)?;
+            self.plain.touch(kernel, c)?;
             self.subsuming.hang(kernel, c)?;
             let Some(after) = c.checked_add(1) else {
                 return Ok(());
@@ -84,7 +84,7 @@ impl Parts {
         if clause.len() == 2 {
             self.merging.touch();
         }
-        self.settling.touch(kernel, c)?;
+        self.plain.touch(kernel, c)?;
         self.subsuming.touch(kernel, c)?;
         for l in clause {
             self.touch_variable(kernel, l.var())?;
@@ -95,7 +95,7 @@ impl Parts {
 
     fn note_loss(&mut self, kernel: &Kernel, lit: Lit) -> Result<(), NoMemory> {
         let negated = lit.negated();
-        self.settling.suspect(kernel, negated)?;
+        self.plain.suspect(kernel, negated)?;
         self.touch_variable(kernel, lit.var())?;
         self.blocking.touch(index_of(negated))?;
         self.covering.touch(index_of(negated))

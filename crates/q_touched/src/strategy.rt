@@ -1,6 +1,6 @@
 //! The strategy: cheap rules first, and each rule only where something changed.
 //!
-//! 1. Settle: unit clauses, pure literals and cheap cuts, then subsumption, each to its end. This comes before each step of
+//! 1. Unit clauses, pure literals and cheap cuts, then subsumption, each to its end. This comes before each step of
 //!    the phases below.
 //! 2. Merges, where a clause of two literals came.
 //! 3. Elimination, the variable with the fewest places first; after each one blocked clauses over short lists.
@@ -32,7 +32,7 @@ const SHORT_COVERED: u32 = 32;
 /// The first universal reduction ends where so many more literals stay than may go.
 const EARLY_PATIENCE: usize = 64;
 
-// Which rule comes next, once all is settled.
+// Which rule comes next, once nothing that was touched is left.
 #[derive(Clone, Copy, PartialEq, Eq)]
 enum Phase {
     CutEarly,
@@ -123,9 +123,9 @@ impl Strategy {
         if batched.is_some() {
             return Ok(batched);
         }
-        let settling = self.settle(kernel)?;
-        if settling.is_some() {
-            return Ok(settling);
+        let touched = self.look_at_touched(kernel)?;
+        if touched.is_some() {
+            return Ok(touched);
         }
         self.look_in_phase(kernel)
     }
@@ -146,10 +146,10 @@ impl Strategy {
         }
     }
 
-    fn settle(&mut self, kernel: &Kernel) -> Result<Option<Move>, NoMemory>
+    fn look_at_touched(&mut self, kernel: &Kernel) -> Result<Option<Move>, NoMemory>
         requires { IsReady kernel.now }
     {
-        if let Some(target) = self.parts.settling.next(kernel) {
+        if let Some(target) = self.parts.plain.next(kernel) {
             return Ok(Some(Move::Reduce(target)));
         }
         match self.parts.subsuming.next(kernel, &self.bounds)? {

@@ -11,8 +11,8 @@ use crate::marked::Marked;
 use q_arena::ClauseId;
 use q_kernel::Kernel;
 use q_logic::{Bounds, Lit, NoMemory};
-use q_rule::Queue;
-use q_subsume::{Search, Target, applies};
+use q_rule::{Queue, Rules};
+use q_subsume::{Search, Target};
 use std::alloc::Global;
 
 #[derive(Drop)]
@@ -80,7 +80,7 @@ impl Subsuming {
             let Some(target) = self.batch.pop() else {
                 return Ok(None);
             };
-            if applies(kernel, &mut self.search, &target, bounds)? {
+            if self.search.applies(kernel, &target, bounds)? {
                 return Ok(Some(target));
             }
         }
@@ -166,7 +166,7 @@ impl Subsuming {
         let Some(target) = self.find(kernel, d)? else {
             return Ok(None);
         };
-        if applies(kernel, &mut self.search, &target, bounds)? {
+        if self.search.applies(kernel, &target, bounds)? {
             return Ok(Some(target));
         }
         Ok(None)

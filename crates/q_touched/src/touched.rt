@@ -1,6 +1,7 @@
 //! The guide.
 ghost use Rattle.std.specs.Prelude.{◌≡◌};
-ghost use Rattle.q_sched.specs.Rises.{Rose};
+ghost use Rattle.q_logic.specs.Counts.{Rose};
+ghost use Rattle.q_sched.specs.declared.guide.Proposal.TheVariants.{Done};
 
 use crate::strategy::Strategy;
 use q_kernel::Kernel;
@@ -23,7 +24,10 @@ pub struct Touched {
 impl Touched {
     /// It takes no memory. The bounds should be those of the drive: by others it would propose targets that are refused, or
     /// pass over some.
-    pub fn new(alloc: Global, bounds: Bounds) -> Touched {
+    pub fn new(alloc: Global, bounds: Bounds) -> Touched
+        ensures asked { ⟦<Touched as Guide>⟧.asked result ≡ 0 }
+        ensures last { ⟦<Touched as Guide>⟧.last result ≡ Done }
+    {
         let modest = Bounds {
             grow: bounds.grow.min(MOST),
             expand: bounds.expand.min(MOST),

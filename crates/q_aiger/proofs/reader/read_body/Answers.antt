@@ -7,9 +7,9 @@ use Rattle.q_aiger.proofs.reader.read_body.Goals as goal
 
 pub read_names-requires : goal.read_names-requires
 read_names-requires c =
-    let n = items-counted (header_view c.args.header) c.args.last (lines_of c.args.text.now) (behind_view c.in-Ok.behind) c.in-Ok.ensures.answer in
-    let l : c.in-Ok.behind.line + length (lines_of c.in-Ok.behind.rest.now) ≡ 2 + length (lines_of c.args.text.now) = n.1 in
+    let n = items-counted (header_view c.args.header) c.args.last (lines_of c.args.text.now) (behind_view c.in_ok-behind.behind) c.in_ok-behind.ensures.answer in
+    let l : c.in_ok-behind.behind.line + length (lines_of c.in_ok-behind.behind.rest.now) ≡ 2 + length (lines_of c.args.text.now) = n.1 in
     omega arith
 
 pub resolve-requires-clause-counts : goal.resolve-requires-clause-counts
-resolve-requires-clause-counts c = (items-counted (header_view c.args.header) c.args.last (lines_of c.args.text.now) (behind_view c.in-Ok.behind) c.in-Ok.ensures.answer).0
+resolve-requires-clause-counts c = (items-counted (header_view c.args.header) c.args.last (lines_of c.args.text.now) (behind_view c.in_ok-behind.behind) c.in_ok-behind.ensures.answer).0

@@ -1,5 +1,6 @@
 use Rattle.std.proofs.Common.{◌≡◌, ◌++◌, drop, length}
-use Rattle.q_aiger.specs.Writing.{gate_lines, Extends}
+use Rattle.q_aiger.specs.Writing.{gate_lines}
+use Rattle.q_text.specs.Texts.{Extends}
 use Rattle.q_aiger.proofs.writer.put_gates.Given as goal
 
 abbrev pub invariant-loop-place : goal.invariant-loop-place

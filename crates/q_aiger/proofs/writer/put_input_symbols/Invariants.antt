@@ -1,5 +1,6 @@
 use Rattle.std.proofs.Common.{◌≡◌, ◌++◌, drop}
-use Rattle.q_aiger.specs.Writing.{symbol_lines, Extends}
+use Rattle.q_aiger.specs.Writing.{symbol_lines}
+use Rattle.q_text.specs.Texts.{Extends}
 use Rattle.q_aiger.proofs.writer.put_input_symbols.Given as goal
 
 abbrev pub invariant-loop-place : goal.invariant-loop-place

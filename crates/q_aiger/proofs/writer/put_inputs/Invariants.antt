@@ -1,5 +1,6 @@
 use Rattle.std.proofs.Common.{◌≡◌, ◌++◌, ◌-◌}
-use Rattle.q_aiger.specs.Writing.{input_lines, Extends}
+use Rattle.q_aiger.specs.Writing.{input_lines}
+use Rattle.q_text.specs.Texts.{Extends}
 use Rattle.q_aiger.proofs.writer.put_inputs.Given as goal
 
 abbrev pub invariant-loop-input : goal.invariant-loop-input

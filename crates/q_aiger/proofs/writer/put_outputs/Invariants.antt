@@ -1,5 +1,6 @@
 use Rattle.std.proofs.Common.{◌≡◌, ◌++◌, drop, length}
-use Rattle.q_aiger.specs.Writing.{output_lines, Extends}
+use Rattle.q_aiger.specs.Writing.{output_lines}
+use Rattle.q_text.specs.Texts.{Extends}
 use Rattle.q_aiger.proofs.writer.put_outputs.Given as goal
 
 abbrev pub invariant-loop-output : goal.invariant-loop-output

@@ -5,5 +5,5 @@ use Rattle.q_app.proofs.check.check.Goals as goal
 
 pub returns-in-Ok-clause-truth : goal.returns-in-Ok-clause-truth
 returns-in-Ok-clause-truth g c =
-    truth_files false (g.F.Files.held c.args.files.now) (λ disk. bytes_at disk c.args.input.now) (λ disk. bytes_at disk c.args.output.now) (λ disk. bytes_at disk c.args.log.now)
+    truth_files false (g.F.Files.held c.args.files.now) (λ disk. bytes_at disk c.args.names.input.now) (λ disk. bytes_at disk c.args.names.output.now) (λ disk. bytes_at disk c.args.names.log.now)
     c.in-Ok.checked c.in-Ok.ensures.proper c.in-Ok.ensures.passes

@@ -1,5 +1,5 @@
 use Rattle.std.proofs.Common.{◌+◌, ◌-◌, ◌≡◌, List, ℕ, IfSome}
-use Rattle.q_io.specs.Files.{Later, bytes_at}
+use Rattle.q_io.specs.Files.{OnlyReads, bytes_at}
 use Rattle.q_app.specs.Audits.{IsOpen, Advances}
 use Rattle.q_app.proofs.Auditing.{HasTried}
 use Rattle.q_app.proofs.check.check_log.Given as goal
@@ -11,8 +11,7 @@ invariant-loop-audit g l =
       advanced : (bytes : List ℕ) × Advances l.initial.audit l.audit bytes;
       left : l.audit.reader.left + l.at ≡ 1099511627776;
       front : IfSome (g.F.Files.held l.fn.files) (λ disk. HasTried (bytes_at disk l.name) l.at l.initial.audit l.audit);
-      held : g.F.Files.held l.files ≡ g.F.Files.held l.fn.files;
-      later : Later g.F.Files.read_faults g.F.Files.write_faults l.fn.files l.files;
+      only_reads : OnlyReads g.F.Files.held g.F.Files.read_faults g.F.Files.write_faults l.fn.files l.files;
     }
 
 abbrev pub decreases-loop-audit : goal.decreases-loop-audit

@@ -1,5 +1,5 @@
-use Rattle.std.proofs.Common.{◌-◌, ◌≡◌, IfSome}
-use Rattle.q_io.specs.Files.{Later, bytes_at}
+use Rattle.std.proofs.Common.{◌-◌, IfSome}
+use Rattle.q_io.specs.Files.{OnlyReads, bytes_at}
 use Rattle.q_app.specs.Inputs.{IsReading, HasFront}
 use Rattle.q_app.proofs.input.read_formula.Given as goal
 
@@ -8,8 +8,7 @@ invariant-loop-reader g l =
     record {
       reading : IsReading l.at l.reader;
       front : IfSome (g.F.Files.held l.fn.files) (λ disk. HasFront (bytes_at disk l.name) l.at l.reader);
-      held : g.F.Files.held l.files ≡ g.F.Files.held l.fn.files;
-      later : Later g.F.Files.read_faults g.F.Files.write_faults l.fn.files l.files;
+      only_reads : OnlyReads g.F.Files.held g.F.Files.read_faults g.F.Files.write_faults l.fn.files l.files;
     }
 
 abbrev pub decreases-loop-reader : goal.decreases-loop-reader

@@ -6,22 +6,22 @@ use Rattle.q_app.proofs.rebuild.rebuild_files.Goals as goal
 
 pub returns-in-Ok-carry_back-clause-rebuilds : goal.returns-in-Ok-carry_back-clause-rebuilds
 returns-in-Ok-carry_back-clause-rebuilds g c =
-    let carried = at_same _ _ _ c.in-Ok.ensures.held c.in-Ok-carry_back.ensures.carried in
-    let puts = at_same _ _ _ (c.in-Ok-carry_back.ensures.held ∙ c.in-Ok.ensures.held) c.write_circuits.ensures.puts in
-    joined (g.F.Files.held c.args.files.now) _ c.args.input.now c.args.output.now c.args.log.now c.args.skolem.now c.args.cert.now c.in-Ok.checked c.in-Ok-carry_back.made c.write_circuits.result c.in-Ok.ensures.passes carried puts
+    let carried = at_same _ _ _ c.in-Ok.ensures.only_reads.same c.in-Ok-carry_back.ensures.carried in
+    let puts = at_same _ _ _ (c.in-Ok-carry_back.ensures.only_reads.same ∙ c.in-Ok.ensures.only_reads.same) c.write_circuits.ensures.puts in
+    joined (g.F.Files.held c.args.files.now) _ c.args.names.input.now c.args.names.output.now c.args.names.log.now c.args.names.skolem.now c.args.names.cert.now c.in-Ok.checked c.in-Ok-carry_back.made c.write_circuits.result c.in-Ok.ensures.passes carried puts
 
 pub returns-in-Ok-carry_back-clause-read_fault : goal.returns-in-Ok-carry_back-clause-read_fault
 returns-in-Ok-carry_back-clause-read_fault g c = λ f. absurd (c.write_circuits.ensures.writing f)
 
 pub returns-in-Ok-carry_back-clause-write_fault : goal.returns-in-Ok-carry_back-clause-write_fault
 returns-in-Ok-carry_back-clause-write_fault g c = λ e.
-    rose_later (g.F.Files.write_faults c.args.files.now c.args.cert.now) (g.F.Files.write_faults c.verify.new.files c.args.cert.now) (g.F.Files.write_faults c.write_circuits.new.files c.args.cert.now) (c.in-Ok.ensures.later.write c.args.cert.now)
-    (rose_later (g.F.Files.write_faults c.verify.new.files c.args.cert.now) (g.F.Files.write_faults c.carry_back.new.files c.args.cert.now) (g.F.Files.write_faults c.write_circuits.new.files c.args.cert.now) (c.in-Ok-carry_back.ensures.later.write c.args.cert.now) (c.write_circuits.ensures.cause e))
+    rose_later (g.F.Files.write_faults c.args.files.now c.args.names.cert.now) (g.F.Files.write_faults c.verify.new.files c.args.names.cert.now) (g.F.Files.write_faults c.write_circuits.new.files c.args.names.cert.now) (c.in-Ok.ensures.only_reads.later.write c.args.names.cert.now)
+    (rose_later (g.F.Files.write_faults c.verify.new.files c.args.names.cert.now) (g.F.Files.write_faults c.carry_back.new.files c.args.names.cert.now) (g.F.Files.write_faults c.write_circuits.new.files c.args.names.cert.now) (c.in-Ok-carry_back.ensures.only_reads.later.write c.args.names.cert.now) (c.write_circuits.ensures.cause e))
 
 pub returns-clause-read_fault : goal.returns-clause-read_fault
 returns-clause-read_fault g c =
     circuits-reading c.in-Err-carry_back.outcome c.in-Err-carry_back.ensures.of_circuits
-    (λ e. rose_later (g.F.Files.read_faults c.args.files.now c.args.skolem.now) (g.F.Files.read_faults c.verify.new.files c.args.skolem.now) (g.F.Files.read_faults c.carry_back.new.files c.args.skolem.now) (c.in-Ok.ensures.later.read c.args.skolem.now) (c.in-Err-carry_back.ensures.fault (ap Err e)))
+    (λ e. rose_later (g.F.Files.read_faults c.args.files.now c.args.names.skolem.now) (g.F.Files.read_faults c.verify.new.files c.args.names.skolem.now) (g.F.Files.read_faults c.carry_back.new.files c.args.names.skolem.now) (c.in-Ok.ensures.only_reads.later.read c.args.names.skolem.now) (c.in-Err-carry_back.ensures.fault (ap Err e)))
 
 pub returns-clause-write_fault : goal.returns-clause-write_fault
 returns-clause-write_fault g c = λ e. absurd (circuits-not_write c.in-Err-carry_back.outcome c.in-Err-carry_back.ensures.of_circuits e)

@@ -1,24 +1,20 @@
-use Rattle.std.proofs.Common.{subst, inl, refl, None}
+use Rattle.std.proofs.Common.{subst, sym, ◌∙◌, refl, inl, None}
 use Rattle.q_app.specs.Words.{Request}
-use Rattle.q_app.specs.Says.{Does, Runs, devices, view_sink}
-use Rattle.q_app.proofs.Feeding.{if_some}
-use Rattle.q_app.proofs.Turns.{not-read}
+use Rattle.q_app.specs.Says.{Does, devices, view_sink}
+use Rattle.q_app.specs.declared.answer.Answer.TheVariants as answer
+use Rattle.q_app.proofs.Turns.{in_turn-usage}
+use Rattle.q_app.proofs.Saying.{said-usage}
 use Rattle.q_app.proofs.top.run.Goals as goal
+
+pub returns-in-Some-clause-usage : goal.returns-in-Some-clause-usage
+returns-in-Some-clause-usage g c = λ e. absurd (in_turn-usage _ _ _ _ c.run_command.ensures e)
 
 pub returns-in-Some-clause-does : goal.returns-in-Some-clause-does
 returns-in-Some-clause-does g c =
     subst (λ (r : Request). Does r (devices g.F.Files.held g.F.Files.read_faults g.F.Files.write_faults c.args.files.now (view_sink g.S.Sink.written g.S.Sink.faults g.S.Sink.wants c.args.out.now)) c.run_command.result (devices g.F.Files.held g.F.Files.read_faults g.F.Files.write_faults c.run_command.new.files (view_sink g.S.Sink.written g.S.Sink.faults g.S.Sink.wants c.run_command.new.out)))
-    c.in-Some.ensures.request c.run_command.ensures.does
+    c.in-Some.ensures.request c.run_command.ensures
 
 pub returns-in-None-clause-does : goal.returns-in-None-clause-does
 returns-in-None-clause-does g c =
-    let run : Runs None (devices g.F.Files.held g.F.Files.read_faults g.F.Files.write_faults c.args.files.now (view_sink g.S.Sink.written g.S.Sink.faults g.S.Sink.wants c.args.out.now)) c.run_nothing.result (devices g.F.Files.held g.F.Files.read_faults g.F.Files.write_faults c.args.files.now (view_sink g.S.Sink.written g.S.Sink.faults g.S.Sink.wants c.run_nothing.new.out)) =
-    record {
-      gives = if_some (g.F.Files.held c.args.files.now) (λ disk. tt);
-      usage = λ e. refl;
-      read_fault = λ e. not-read c.run_nothing.result c.run_nothing.ensures.usage e;
-      write_fault = λ e. inl (c.run_nothing.ensures.write_fault e);
-      unchanged = refl;
-      line = c.run_nothing.ensures.line;
-    } in
-    subst (λ (r : Request). Does r (devices g.F.Files.held g.F.Files.read_faults g.F.Files.write_faults c.args.files.now (view_sink g.S.Sink.written g.S.Sink.faults g.S.Sink.wants c.args.out.now)) c.run_nothing.result (devices g.F.Files.held g.F.Files.read_faults g.F.Files.write_faults c.args.files.now (view_sink g.S.Sink.written g.S.Sink.faults g.S.Sink.wants c.run_nothing.new.out))) c.in-None.ensures.request run
+    subst (λ (r : Request). Does r (devices g.F.Files.held g.F.Files.read_faults g.F.Files.write_faults c.args.files.now (view_sink g.S.Sink.written g.S.Sink.faults g.S.Sink.wants c.args.out.now)) c.say.result (devices g.F.Files.held g.F.Files.read_faults g.F.Files.write_faults c.args.files.now (view_sink g.S.Sink.written g.S.Sink.faults g.S.Sink.wants c.say.new.out))) c.in-None.ensures.request
+    (said-usage (devices g.F.Files.held g.F.Files.read_faults g.F.Files.write_faults c.args.files.now (view_sink g.S.Sink.written g.S.Sink.faults g.S.Sink.wants c.args.out.now)) (devices g.F.Files.held g.F.Files.read_faults g.F.Files.write_faults c.args.files.now (view_sink g.S.Sink.written g.S.Sink.faults g.S.Sink.wants c.say.new.out)) c.say.result refl c.say.ensures.answer c.say.ensures.says)

@@ -1,14 +1,20 @@
 use Rattle.std.proofs.Common.{refl}
+use Rattle.q_app.specs.Words.{checking}
+use Rattle.q_app.specs.Commands.{three_of}
+use Rattle.q_app.specs.Says.{devices, view_sink}
 use Rattle.q_app.specs.declared.answer.Answer.TheVariants as answer
 use Rattle.q_app.proofs.Feeding.{if_some_2}
 use Rattle.q_app.proofs.Exact.{answers, if_verified-some}
+use Rattle.q_app.proofs.Saying.{said, check-usage, check-read, check-write}
 use Rattle.q_app.proofs.top.run_check.Goals as goal
 
-pub returns-clause-gives : goal.returns-clause-gives
-returns-clause-gives g c =
-    if_some_2 (g.F.Files.held c.args.files.now) c.check-outcome.ensures.checks (if_verified-some c.check-outcome.result (g.F.Files.held c.args.files.now) _ c.check-outcome.ensures.truth)
-    (λ disk h t. answers _ _ _ _ _ h t c.say.ensures.answer)
-
-pub returns-clause-line : goal.returns-clause-line
-returns-clause-line g c =
-    record { due = answer.Check c.check-outcome.result; is = (c.check-outcome.result, refl, c.check-outcome.ensures.checks); given_is = c.say.ensures.answer; says = c.say.ensures.says }
+pub returns : goal.returns
+returns g c =
+    let o = c.check-outcome.result in
+    said (checking (three_of c.args.names)) (answer.Check c.check-outcome.result)
+    (devices g.F.Files.held g.F.Files.read_faults g.F.Files.write_faults c.args.files.now (view_sink g.S.Sink.written g.S.Sink.faults g.S.Sink.wants c.args.out.now))
+    (devices g.F.Files.held g.F.Files.read_faults g.F.Files.write_faults c.check-outcome.new.files (view_sink g.S.Sink.written g.S.Sink.faults g.S.Sink.wants c.say.new.out))
+    c.say.result (o, refl, c.check-outcome.ensures.checks) c.say.ensures.answer c.say.ensures.says
+    (if_some_2 (g.F.Files.held c.args.files.now) c.check-outcome.ensures.checks (if_verified-some c.check-outcome.result (g.F.Files.held c.args.files.now) _ c.check-outcome.ensures.truth)
+    (λ disk h t. answers _ _ _ _ _ h t c.say.ensures.answer))
+    (check-usage o) (λ e. c.check-outcome.ensures.fault (check-read o e)) (λ e. absurd (check-write o e)) c.check-outcome.ensures.held

@@ -1,15 +1,19 @@
 use Rattle.std.proofs.Common.{refl}
-use Rattle.q_app.specs.Says.{view_sink}
+use Rattle.std.proofs.lemmas.Option.{IfSome_then}
+use Rattle.q_app.specs.Words.{generating}
+use Rattle.q_app.specs.Says.{devices, view_sink}
 use Rattle.q_app.specs.declared.answer.Answer.TheVariants as answer
-use Rattle.q_app.proofs.Feeding.{if_some_1}
 use Rattle.q_app.proofs.Generating.{generate-answers}
+use Rattle.q_app.proofs.Saying.{said, generate-usage, generate-read, generate-write}
 use Rattle.q_app.proofs.top.run_generate.Goals as goal
 
-pub returns-clause-gives : goal.returns-clause-gives
-returns-clause-gives g c =
-    if_some_1 (g.F.Files.held c.args.files.now) c.generate_file-outcome.ensures.generates
-    (λ disk h. generate-answers c.say.result c.args.scale c.args.output.now disk _ c.generate_file-outcome.result (view_sink g.S.Sink.written g.S.Sink.faults g.S.Sink.wants c.args.out.now) (view_sink g.S.Sink.written g.S.Sink.faults g.S.Sink.wants c.say.new.out) h c.say.ensures.answer)
-
-pub returns-clause-line : goal.returns-clause-line
-returns-clause-line g c =
-    record { due = answer.Generate c.generate_file-outcome.result; is = (c.generate_file-outcome.result, refl, c.generate_file-outcome.ensures.generates); given_is = c.say.ensures.answer; says = c.say.ensures.says }
+pub returns : goal.returns
+returns g c =
+    let o = c.generate_file-outcome.result in
+    said (generating c.args.scale c.args.output.now) (answer.Generate c.generate_file-outcome.result)
+    (devices g.F.Files.held g.F.Files.read_faults g.F.Files.write_faults c.args.files.now (view_sink g.S.Sink.written g.S.Sink.faults g.S.Sink.wants c.args.out.now))
+    (devices g.F.Files.held g.F.Files.read_faults g.F.Files.write_faults c.generate_file-outcome.new.files (view_sink g.S.Sink.written g.S.Sink.faults g.S.Sink.wants c.say.new.out))
+    c.say.result (o, refl, c.generate_file-outcome.ensures.generates) c.say.ensures.answer c.say.ensures.says
+    (IfSome_then (g.F.Files.held c.args.files.now) c.generate_file-outcome.ensures.generates
+    (λ disk h. generate-answers c.say.result c.args.scale c.args.output.now disk _ c.generate_file-outcome.result (view_sink g.S.Sink.written g.S.Sink.faults g.S.Sink.wants c.args.out.now) (view_sink g.S.Sink.written g.S.Sink.faults g.S.Sink.wants c.say.new.out) h c.say.ensures.answer))
+    (generate-usage o) (λ e. absurd (generate-read o e)) (λ e. c.generate_file-outcome.ensures.write_fault (generate-write o e)) tt

@@ -1,15 +1,20 @@
 use Rattle.std.proofs.Common.{refl}
-use Rattle.q_app.specs.Says.{view_sink}
+use Rattle.std.proofs.lemmas.Option.{IfSome_then}
+use Rattle.q_app.specs.Words.{simplifying}
+use Rattle.q_app.specs.Commands.{three_of}
+use Rattle.q_app.specs.Says.{devices, view_sink}
 use Rattle.q_app.specs.declared.answer.Answer.TheVariants as answer
-use Rattle.q_app.proofs.Feeding.{if_some_1}
 use Rattle.q_app.proofs.Answering.{simplify-answers}
+use Rattle.q_app.proofs.Saying.{said, simplify-usage, simplify-read, simplify-write}
 use Rattle.q_app.proofs.top.run_simplify.Goals as goal
 
-pub returns-clause-gives : goal.returns-clause-gives
-returns-clause-gives g c =
-    if_some_1 (g.F.Files.held c.args.files.now) c.simplify_file-outcome.ensures.ends
-    (λ disk h. simplify-answers c.say.result c.args.options.now c.args.input.now c.args.output.now c.args.log.now disk _ c.simplify_file-outcome.result (view_sink g.S.Sink.written g.S.Sink.faults g.S.Sink.wants c.args.out.now) (view_sink g.S.Sink.written g.S.Sink.faults g.S.Sink.wants c.say.new.out) h c.say.ensures.answer)
-
-pub returns-clause-line : goal.returns-clause-line
-returns-clause-line g c =
-    record { due = answer.Simplify c.simplify_file-outcome.result; is = (c.simplify_file-outcome.result, refl, c.simplify_file-outcome.ensures.ends); given_is = c.say.ensures.answer; says = c.say.ensures.says }
+pub returns : goal.returns
+returns g c =
+    let o = c.simplify_file-outcome.result in
+    said (simplifying (three_of c.args.names) c.args.options.now) (answer.Simplify c.simplify_file-outcome.result)
+    (devices g.F.Files.held g.F.Files.read_faults g.F.Files.write_faults c.args.files.now (view_sink g.S.Sink.written g.S.Sink.faults g.S.Sink.wants c.args.out.now))
+    (devices g.F.Files.held g.F.Files.read_faults g.F.Files.write_faults c.simplify_file-outcome.new.files (view_sink g.S.Sink.written g.S.Sink.faults g.S.Sink.wants c.say.new.out))
+    c.say.result (o, refl, c.simplify_file-outcome.ensures.ends) c.say.ensures.answer c.say.ensures.says
+    (IfSome_then (g.F.Files.held c.args.files.now) c.simplify_file-outcome.ensures.ends
+    (λ disk h. simplify-answers c.say.result c.args.options.now c.args.names.input.now c.args.names.output.now c.args.names.log.now disk _ c.simplify_file-outcome.result (view_sink g.S.Sink.written g.S.Sink.faults g.S.Sink.wants c.args.out.now) (view_sink g.S.Sink.written g.S.Sink.faults g.S.Sink.wants c.say.new.out) h c.say.ensures.answer))
+    (simplify-usage o) (λ e. c.simplify_file-outcome.ensures.read_fault (simplify-read o e)) (λ e. c.simplify_file-outcome.ensures.write_fault (simplify-write o e)) tt

@@ -1,6 +1,6 @@
-use Rattle.std.proofs.Common.{◌∙◌, arith, inl}
+use Rattle.std.proofs.Common.{arith, inl}
 use Rattle.q_io.specs.Files.{bytes_at}
-use Rattle.q_io.proofs.Counts.{later_still}
+use Rattle.q_io.proofs.Counts.{reads_still}
 use Rattle.q_app.specs.Rebuilds.{IsTextOf}
 use Rattle.q_app.proofs.Feeding.{if_some_1, if_some_2, at_same, ok_goes}
 use Rattle.q_app.proofs.WholeFiles.{front-more, front-end, front-long}
@@ -8,17 +8,16 @@ use Rattle.q_app.proofs.whole_file.read_through.Goals as goal
 
 pub loop-at-preserved : goal.loop-at-preserved
 loop-at-preserved g c =
-    let taken = at_same _ _ _ c.loop-at.invariant.held c.in-Ok.ensures.appended in
+    let taken = at_same _ _ _ c.loop-at.invariant.only_reads.same c.in-Ok.ensures.appended in
     record {
       front = if_some_2 (g.F.Files.held c.args.files.now) c.loop-at.invariant.front taken (λ disk f p. front-more _ _ _ _ _ f p);
       bound = omega (arith, c.loop-at-test.true, c.in-Ok.ensures.count);
-      held = c.append_piece.ensures.held ∙ c.loop-at.invariant.held;
-      later = later_still _ _ _ _ _ c.loop-at.invariant.later c.append_piece.ensures.later;
+      only_reads = reads_still _ _ _ _ _ _ c.loop-at.invariant.only_reads c.append_piece.ensures.only_reads;
     }
 
 pub returns-in-Ok-eq0-clause-bytes : goal.returns-in-Ok-eq0-clause-bytes
 returns-in-Ok-eq0-clause-bytes g c =
-    let taken = at_same _ _ _ c.loop-at.invariant.held c.in-Ok-eq0.ensures.appended in
+    let taken = at_same _ _ _ c.loop-at.invariant.only_reads.same c.in-Ok-eq0.ensures.appended in
     if_some_2 (g.F.Files.held c.args.files.now) c.loop-at.invariant.front taken (λ disk f p. inl (front-end _ _ _ _ _ c.in-Ok-eq0.field-0-test f p))
 
 pub returns-clause-bytes : goal.returns-clause-bytes

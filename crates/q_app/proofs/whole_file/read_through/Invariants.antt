@@ -1,5 +1,5 @@
-use Rattle.std.proofs.Common.{◌+◌, ◌-◌, ◌≡◌, ◌≤◌, IfSome}
-use Rattle.q_io.specs.Files.{Later, bytes_at}
+use Rattle.std.proofs.Common.{◌+◌, ◌-◌, ◌≤◌, IfSome}
+use Rattle.q_io.specs.Files.{OnlyReads, bytes_at}
 use Rattle.q_app.specs.Rebuilds.{IsFront}
 use Rattle.q_app.proofs.whole_file.read_through.Given as goal
 
@@ -8,8 +8,7 @@ invariant-loop-at g l =
     record {
       front : IfSome (g.F.Files.held l.fn.files) (λ disk. IsFront (bytes_at disk l.name) l.at l.text.items);
       bound : l.at ≤ 1099511627776 + 65536;
-      held : g.F.Files.held l.files ≡ g.F.Files.held l.fn.files;
-      later : Later g.F.Files.read_faults g.F.Files.write_faults l.fn.files l.files;
+      only_reads : OnlyReads g.F.Files.held g.F.Files.read_faults g.F.Files.write_faults l.fn.files l.files;
     }
 
 abbrev pub decreases-loop-at : goal.decreases-loop-at

@@ -1,4 +1,4 @@
-use Rattle.std.proofs.Common.{◌≡◌, ◌∙◌, sym, ap, arith, List, ℕ, drop}
+use Rattle.std.proofs.Common.{◌∙◌, sym, ap, arith, drop}
 use Rattle.q_app.specs.Commands.{by_verb, request}
 use Rattle.q_app.proofs.Wording.{texts, texts-length, one_word, no_words, rest_of, request-is}
 use Rattle.q_app.proofs.words.parse.Goals as goal

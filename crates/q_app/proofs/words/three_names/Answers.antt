@@ -1,4 +1,4 @@
-use Rattle.std.proofs.Common.{◌≡◌, ◌∙◌, sym, ap, Some, List, ℕ, ◌∷◌, arith, drop}
+use Rattle.std.proofs.Common.{◌∙◌, sym, ap, Some, List, ℕ, arith, drop}
 use Rattle.q_app.specs.Words.{three, three_names}
 use Rattle.q_app.proofs.Wording.{texts, texts-length, three_words, few_names, same_names, other_names, rest_of, differ}
 use Rattle.q_app.proofs.words.three_names.Goals as goal

@@ -1,7 +1,7 @@
-use Rattle.std.proofs.Common.{◌≡◌, ◌+◌, ◌-◌, ◌≤◌, arith, ap, length}
+use Rattle.std.proofs.Common.{◌≡◌, ◌∙◌, ◌+◌, ◌-◌, ◌≤◌, arith, ap, length}
 use Rattle.q_arena.specs.Nodes.{node_at, base}
 use Rattle.q_arena.specs.Rings.{rings_of}
-use Rattle.q_arena.proofs.RingLemmas.{AreRings-without}
+use Rattle.q_arena.proofs.RingLemmas.{tag-kept, AreRings-without}
 use Rattle.q_arena.proofs.Sound.{IsNode-place, IsNode-before, IsNode-after, count-positive}
 use Rattle.q_arena.proofs.rings.take_out.Goals as goal
 
@@ -17,16 +17,21 @@ join-requires-clause-b c = rw c.node-link.ensures (IsNode-after c.args.places.no
 pub overflow_sub-count : goal.overflow_sub-count
 overflow_sub-count c = count-positive c.args.places.now.items c.args.heads.now.items c.requires.sound c.args.head c.requires.head c.args.place c.requires.there c.node-count.result.tag (ap (λ k. k.tag) c.node-count.ensures)
 
-pub returns-clause-rings : goal.returns-clause-rings
-returns-clause-rings c =
+pub returns : goal.returns
+returns c =
     let s = node_at c.args.places.now.items c.args.heads.now.items in
     let t = node_at c.join.new.places.items c.join.new.heads.items in
     let v = node_at c.set_tag.new.places.items c.set_tag.new.heads.items in
     let few : length c.args.places.now.items ≤ base = c.requires.sound.few_places in
     let positive = count-positive c.args.places.now.items c.args.heads.now.items c.requires.sound c.args.head c.requires.head c.args.place c.requires.there c.node-count.result.tag (ap (λ k. k.tag) c.node-count.ensures) in
     let count : (s (base + c.args.head)).tag ≡ (c.node-count.result.tag - 1) + 1 = rw (← c.node-count.ensures) (omega arith) in
-    AreRings-without s t v base (length c.args.places.now.items) (length c.args.heads.now.items) (rings_of s base) c.args.head c.args.place (c.node-count.result.tag - 1)
-    c.requires.sound.rings few c.requires.head c.requires.there
-    (rw (← c.node-link.ensures) c.join.ensures.joined)
-    count
-    c.set_tag.ensures.tagged
+    record {
+      rings = AreRings-without s t v base (length c.args.places.now.items) (length c.args.heads.now.items) (rings_of s base) c.args.head c.args.place (c.node-count.result.tag - 1)
+          c.requires.sound.rings few c.requires.head c.requires.there
+          (rw (← c.node-link.ensures) c.join.ensures.joined)
+          count
+          c.set_tag.ensures.tagged;
+      places = c.set_tag.ensures.places ∙ c.join.ensures.places;
+      heads = c.set_tag.ensures.heads ∙ c.join.ensures.heads;
+      tags = λ i ib. tag-kept t v base c.args.head _ i c.set_tag.ensures.tagged ib ∙ c.join.ensures.joined.tag i;
+    }

@@ -1,25 +1,19 @@
-use Rattle.std.proofs.Common.{sym, ◌∙◌, ap, arith}
-use Rattle.q_arena.specs.Layout.{slot_at, below}
-use Rattle.q_arena.proofs.Layouts.{top-first, top-none, following-below}
+use Rattle.std.proofs.Common.{sym, ◌∙◌, ap}
+use Rattle.q_arena.specs.Layout.{slot_at, below, end_in}
+use Rattle.q_arena.proofs.Layouts.{top-end, following-below, Has-below'}
+use Rattle.q_arena.proofs.Following.{get-has}
 use Rattle.q_arena.proofs.slots.end_below.Goals as goal
 
-pub overflow_add-result : goal.overflow_add-result
-overflow_add-result c =
-    let f = sym (following-below c.args.at c.args.ids.now.used c.requires.at) ∙ sym c.before-2.ensures ∙ c.in-Some.is in
-    let t = top-first (slot_at c.args.slots.now.items) (below c.args.at c.args.ids.now.used) c.in-Some.last f in
-    let a = ap (λ k. k.start) c.slot_of-slot.ensures in
-    let b = ap (λ k. k.len) c.slot_of-slot.ensures in
-    omega (arith, a, b, t, c.requires.fits)
+pub end_at-requires-clause-there : goal.end_at-requires-clause-there
+end_at-requires-clause-there c = λ i e.
+    let f = sym (following-below c.args.at c.args.ids.now.used c.requires.at) ∙ sym c.before-2.ensures ∙ e in
+    c.requires.used i (Has-below' c.args.at i c.args.ids.now.used (get-has _ 0 i f))
 
-pub returns-in-Some : goal.returns-in-Some
-returns-in-Some c =
-    let f = sym (following-below c.args.at c.args.ids.now.used c.requires.at) ∙ sym c.before-2.ensures ∙ c.in-Some.is in
-    let t = top-first (slot_at c.args.slots.now.items) (below c.args.at c.args.ids.now.used) c.in-Some.last f in
-    let a = ap (λ k. k.start) c.slot_of-slot.ensures in
-    let b = ap (λ k. k.len) c.slot_of-slot.ensures in
-    omega (arith, a, b, t)
+pub end_at-requires-clause-fits : goal.end_at-requires-clause-fits
+end_at-requires-clause-fits c =
+    rw (c.before-2.ensures, following-below c.args.at c.args.ids.now.used c.requires.at, ← top-end (slot_at c.args.slots.now.items) (below c.args.at c.args.ids.now.used)) c.requires.fits
 
-pub returns-in-None : goal.returns-in-None
-returns-in-None c =
-    let f = sym (following-below c.args.at c.args.ids.now.used c.requires.at) ∙ sym c.before-2.ensures ∙ c.in-None.is in
-    sym (top-none (slot_at c.args.slots.now.items) (below c.args.at c.args.ids.now.used) f)
+pub returns : goal.returns
+returns c =
+    let s = slot_at c.args.slots.now.items in
+    c.end_at.ensures ∙ ap (end_in s) (c.before-2.ensures ∙ following-below c.args.at c.args.ids.now.used c.requires.at) ∙ sym (top-end s (below c.args.at c.args.ids.now.used))

@@ -1,6 +1,7 @@
-use Rattle.std.proofs.Common.{◌≡◌, ◌∙◌, Some, sym, subst}
+use Rattle.std.proofs.Common.{◌∙◌, sym, subst}
 use Rattle.q_logic.specs.declared.rule_bounds.Bounds.{Bounds}
 use Rattle.q_logic.specs.Formulas.{Clause, IsIn}
+use Rattle.q_arena.proofs.Numbers.{some-same}
 use Rattle.q_rule.proofs.Becoming.{change-clause}
 use Rattle.q_blocked.proofs.Stepping.{may-go_blocked}
 use Rattle.q_blocked.proofs.Results.{changed-blocked}
@@ -8,9 +9,6 @@ use Rattle.q_blocked.proofs.blocked.delete_blocked.Goals as goal
 
 any : Bounds
 any = record { grow = 0; expand = 0 }
-
-same : (C D : Clause) → Some C ≡ Some D → C ≡ D
-same C D e = cc
 
 pub delete_pivot-requires : goal.delete_pivot-requires
 delete_pivot-requires c =
@@ -22,4 +20,4 @@ pub returns : goal.returns
 returns c =
     let f = c.requires.fits any in
     changed-blocked c.args.kernel.now c.delete_pivot.new.self c.args.c c.args.l c.sound.ensures c.requires.limits c.requires.bytes
-    (λ C e. subst (λ (x : Clause). IsIn c.args.l x) (same f.0 C (sym f.1 ∙ e)) f.2) c.delete_pivot.ensures
+    (λ C e. subst (λ (x : Clause). IsIn c.args.l x) (some-same f.0 C (sym f.1 ∙ e)) f.2) c.delete_pivot.ensures

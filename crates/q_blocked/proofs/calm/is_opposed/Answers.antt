@@ -1,7 +1,7 @@
 use Rattle.std.proofs.Common.{◌≡◌, ◌↔◌, ◌<◌, true, length, arith}
 use Rattle.q_logic.specs.Literals.{negation}
 use Rattle.q_logic.specs.Formulas.{IsIn}
-use Rattle.q_rule.proofs.Members.{item-in}
+use Rattle.q_logic.proofs.Members.{item-in}
 use Rattle.q_blocked.proofs.Hiding.{calm-opposed}
 use Rattle.q_blocked.proofs.calm.is_opposed.Goals as goal
 

@@ -1,7 +1,7 @@
 use Rattle.std.proofs.Common.{◌≡◌, ◌↔◌, true, refl}
 use Rattle.q_logic.specs.Literals.{negation}
 use Rattle.q_logic.specs.Formulas.{IsIn}
-use Rattle.q_rule.proofs.Members.{item-in, test-not}
+use Rattle.q_logic.proofs.Members.{item-in, test-not}
 use Rattle.q_blocked.proofs.Members.{get-place}
 use Rattle.q_blocked.proofs.Hiding.{calm-there, calm-two}
 use Rattle.q_blocked.proofs.calm.shows_calm.Goals as goal

@@ -15,14 +15,14 @@ at P N t u e f B = subst (λ (x : Target). Fits B P N (target_of x)) e (f B)
 pub delete_blocked-requires-clause-fits : goal.delete_blocked-requires-clause-fits
 delete_blocked-requires-clause-fits c =
     let k = c.args.kernel.now in
-    at k.prefix (slots k) c.args.target.now (Blocked c.in-Blocked.c c.in-Blocked.l) c.in-Blocked.is c.requires.fits
+    at k.prefix (slots k) c.args.target.now (Blocked c.in-Blocked.c c.in-Blocked.l) c.in-Blocked.is c.requires.may.fits
 
 pub drop_blocked-requires-clause-fits : goal.drop_blocked-requires-clause-fits
 drop_blocked-requires-clause-fits c =
     let k = c.args.kernel.now in
-    at k.prefix (slots k) c.args.target.now (BlockedForall c.in-BlockedForall.c c.in-BlockedForall.l) c.in-BlockedForall.is c.requires.fits
+    at k.prefix (slots k) c.args.target.now (BlockedForall c.in-BlockedForall.c c.in-BlockedForall.l) c.in-BlockedForall.is c.requires.may.fits
 
 pub delete_covered-requires-clause-plan : goal.delete_covered-requires-clause-plan
 delete_covered-requires-clause-plan c =
     let k = c.args.kernel.now in
-    subst (λ (t : Target). HasPlan k.prefix (slots k) t c.args.search.now.growth.plan) c.in-Cover.is c.requires.plan
+    subst (λ (t : Target). HasPlan k.prefix (slots k) t c.args.search.now.growth.plan) c.in-Cover.is c.requires.steps.plan

@@ -9,9 +9,10 @@ use Rattle.q_occ.specs.Places.{places_of}
 use Rattle.q_kernel.specs.Kernels.{slots, HoldsLiteral}
 use Rattle.q_kernel.proofs.Following.{passed, passed-none}
 use Rattle.q_blocked.specs.Walks.{IsBeside}
-use Rattle.q_rule.proofs.Members.{test-false}
+use Rattle.q_logic.proofs.Members.{test-false}
 use Rattle.q_rule.proofs.Places.{passed-step, passed-falls}
-use Rattle.q_blocked.proofs.Passing.{HasPassed, passed-begun, passed-one, passed-all, one}
+use Rattle.q_rule.proofs.Slots.{slot-one}
+use Rattle.q_blocked.proofs.Passing.{HasPassed, passed-begun, passed-one, passed-all}
 use Rattle.q_blocked.proofs.clashing.all_clash.Goals as goal
 
 pub loop-at-init : goal.loop-at-init
@@ -32,7 +33,7 @@ returns-then-not-passes c =
     let there : Has (places_of k.lists (negation c.args.l)) c.in-Some.place = c.loop-at.invariant.listed c.in-Some.place c.in-Some.is in
     let held : HoldsLiteral k c.owner.result (negation c.args.l) = c.owner.ensures.holds (negation c.args.l) there in (
       (λ t. absurd (true≢false (sym t))),
-      (λ z. absurd (test-false c.passes.result c.passes.ensures c.if-not-passes.true (λ D b. z D (others-slot (slots k) c.owner.result c.args.c D b.0 b.1) (subst (λ (E : Clause). IsIn (negation c.args.l) E) (one (slots k) c.owner.result held.0 D held.1 b.1) held.2)))),
+      (λ z. absurd (test-false c.passes.result c.passes.ensures c.if-not-passes.true (λ D b. z D (others-slot (slots k) c.owner.result c.args.c D b.0 b.1) (subst (λ (E : Clause). IsIn (negation c.args.l) E) (slot-one (slots k) c.owner.result held.0 D held.1 b.1) held.2)))),
     )
 
 pub loop-at-smaller : goal.loop-at-smaller

@@ -2,7 +2,7 @@ use Rattle.std.proofs.Common.{◌≡◌, ◌↔◌, inl, inr, true, sym, refl, s
 use Rattle.q_logic.specs.Literals.{Literal, negation}
 use Rattle.q_logic.specs.Formulas.{Clause, IsIn}
 use Rattle.q_logic.specs.Pivots.{keeps}
-use Rattle.q_rule.proofs.Members.{item-in, taken-cases, taken-all, test-false}
+use Rattle.q_logic.proofs.Members.{item-in, taken-cases, taken-all, test-false}
 use Rattle.q_blocked.proofs.Clashes.{IsClear, clear-none, clash-met}
 use Rattle.q_blocked.proofs.clashing.clashes.Goals as goal
 

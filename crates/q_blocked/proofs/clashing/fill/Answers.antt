@@ -1,6 +1,6 @@
 use Rattle.std.proofs.Common.{◌∙◌, ◌++◌, ◌∷◌, [], sym, ap}
 use Rattle.q_logic.specs.Formulas.{Clause}
-use Rattle.q_rule.proofs.Members.{taken-all}
+use Rattle.q_logic.proofs.Members.{taken-all}
 use Rattle.q_blocked.proofs.Members.{taken}
 use Rattle.q_blocked.proofs.clashing.fill.Goals as goal
 

@@ -3,12 +3,12 @@ use Rattle.q_logic.specs.Formulas.{Clause, IsIn}
 use Rattle.q_logic.specs.Literals.{negation}
 use Rattle.q_logic.specs.Blocking.{Clashes}
 use Rattle.q_kernel.specs.Kernels.{slots}
-use Rattle.q_blocked.proofs.Passing.{one}
+use Rattle.q_rule.proofs.Slots.{slot-one}
 use Rattle.q_blocked.proofs.clashing.passes.Goals as goal
 
 pub clashes-requires-clause-bound : goal.clashes-requires-clause-bound
 clashes-requires-clause-bound c =
-    let q = one (slots c.args.kernel.now) c.args.d c.requires.0 c.clause_of.result.now c.requires.1 c.clause_of.ensures.clause in
+    let q = slot-one (slots c.args.kernel.now) c.args.d c.requires.0 c.clause_of.result.now c.requires.1 c.clause_of.ensures.clause in
     c.clause_of.ensures.within (negation c.args.l) (subst (λ (D : Clause). IsIn (negation c.args.l) D) q c.requires.2)
 
 pub returns-then-d-c : goal.returns-then-d-c
@@ -16,6 +16,6 @@ returns-then-d-c c = ((λ t D b. absurd (b.0 c.if-d-c.true)), (λ z. refl))
 
 pub returns : goal.returns
 returns c = (
-  (λ t D b. subst (λ (E : Clause). Clashes c.args.kernel.now.prefix c.args.l c.args.set.now E) (one (slots c.args.kernel.now) c.args.d c.clause_of.result.now D c.clause_of.ensures.clause b.1) (c.clashes.ensures.0 t)),
+  (λ t D b. subst (λ (E : Clause). Clashes c.args.kernel.now.prefix c.args.l c.args.set.now E) (slot-one (slots c.args.kernel.now) c.args.d c.clause_of.result.now D c.clause_of.ensures.clause b.1) (c.clashes.ensures.0 t)),
   (λ z. c.clashes.ensures.1 (z c.clause_of.result.now (c.if-d-c.false, c.clause_of.ensures.clause))),
 )

@@ -6,25 +6,23 @@ use Rattle.q_logic.specs.Numbered.{others}
 use Rattle.q_logic.specs.Blocking.{AllClash}
 use Rattle.q_logic.proofs.CoverRun.{in_or_not}
 use Rattle.q_kernel.specs.Kernels.{slots}
+use Rattle.q_arena.proofs.Numbers.{some-same}
 use Rattle.q_blocked.specs.Walks.{IsLooked, IsStuck}
 use Rattle.q_blocked.specs.Growths.{IsPassive, CoveredBy}
 use Rattle.q_blocked.proofs.Fronts.{place-front}
 use Rattle.q_blocked.proofs.Reaching.{covered-blocked}
 use Rattle.q_blocked.proofs.cover.cover_at.Goals as goal
 
-same : (j k : Literal) → Some j ≡ Some k → j ≡ k
-same j k e = cc
-
 pub returns-then-not-branch : goal.returns-then-not-branch
 returns-then-not-branch c =
     let k = c.args.kernel.now in
     let X = others c.args.c (slots k) in
     let l = c.at-l.result in
-    let new = c.settle.new.growth in
+    let new = c.end_stage.new.growth in
     let S : Clause = c.args.growth.now.set in
-    let r = c.in_ok-settle.ensures.growing k c.args.c c.requires.growing in
-    let q : new.set ≡ S = c.settle.ensures.set in
-    let m : IsIn l (take new.base new.set) = place-front new.set c.args.place new.base l (subst (λ (T : Clause). slice_get T c.args.place ≡ Some l) (sym q) c.at-l.ensures) c.in_ok-settle.ensures.settled in
+    let r = c.in_ok-end_stage.ensures.growing k c.args.c c.requires.growing in
+    let q : new.set ≡ S = c.end_stage.ensures.set in
+    let m : IsIn l (take new.base new.set) = place-front new.set c.args.place new.base l (subst (λ (T : Clause). slice_get T c.args.place ≡ Some l) (sym q) c.at-l.ensures) c.in_ok-end_stage.ensures.staged in
     let e : is_existential k.prefix l.var ≡ true = rw c.var.ensures.value at (sym c.is_existential.ensures ∙ c.if-not-is_existential.false) in
     let a : AllClash k.prefix X l S = subst (λ (b : Bool). IsLooked k.prefix X l S c.covered_at.new.found.items b) c.if-not-branch.true c.in_ok-covered_at.ensures in
     (r.0, r.1, covered-blocked k.prefix X r.0 new.set new.plan.stages.items new.base r.2.reached l m e (subst (λ (T : Clause). AllClash k.prefix X l T) (sym q) a))
@@ -43,7 +41,7 @@ returns-then-is_bare c =
       c.requires.growing,
       Rattle.std.proofs.Common.refl,
       Rattle.std.proofs.Common.refl,
-      λ l e. subst (λ (j : Literal). IsPassive k.prefix X S j) (same c.at-l.result l (sym c.at-l.ensures ∙ e)) (passive k.prefix X S K c.at-l.result n h),
+      λ l e. subst (λ (j : Literal). IsPassive k.prefix X S j) (some-same c.at-l.result l (sym c.at-l.ensures ∙ e)) (passive k.prefix X S K c.at-l.result n h),
     )
 
 pub returns-then-is_stuck : goal.returns-then-is_stuck
@@ -55,7 +53,7 @@ returns-then-is_stuck c =
       c.requires.growing,
       Rattle.std.proofs.Common.refl,
       Rattle.std.proofs.Common.refl,
-      λ l e. subst (λ (j : Literal). IsPassive k.prefix X S j) (same c.at-l.result l (sym c.at-l.ensures ∙ e)) (λ x. h),
+      λ l e. subst (λ (j : Literal). IsPassive k.prefix X S j) (some-same c.at-l.result l (sym c.at-l.ensures ∙ e)) (λ x. h),
     )
 
 pub cover_by-requires-clause-found : goal.cover_by-requires-clause-found
@@ -64,10 +62,10 @@ cover_by-requires-clause-found c l e =
     let X = others c.args.c (slots k) in
     let S : Clause = c.args.growth.now.set in
     let K : List Literal = c.covered_at.new.found.items in
-    let new = c.settle-2.new.growth in
-    let q : new.set ≡ S = c.settle-2.ensures.set in
-    let f : new.found.items ≡ K = ap (λ v. v.items) c.settle-2.ensures.found in
-    let i : c.at-l.result ≡ l = same c.at-l.result l (sym c.at-l.ensures ∙ subst (λ (T : Clause). slice_get T c.args.place ≡ Some l) q e) in
+    let new = c.end_stage-2.new.growth in
+    let q : new.set ≡ S = c.end_stage-2.ensures.set in
+    let f : new.found.items ≡ K = ap (λ v. v.items) c.end_stage-2.ensures.found in
+    let i : c.at-l.result ≡ l = some-same c.at-l.result l (sym c.at-l.ensures ∙ subst (λ (T : Clause). slice_get T c.args.place ≡ Some l) q e) in
     let x : is_existential k.prefix c.at-l.result.var ≡ true = rw c.var.ensures.value at (sym c.is_existential.ensures ∙ c.if-not-is_existential.false) in
     let h : IsLooked k.prefix X c.at-l.result S K true = subst (λ (b : Bool). IsLooked k.prefix X c.at-l.result S K b) c.if-not-branch.false c.in_ok-covered_at.ensures in
     let s = c.is_bare.ensures.some c.if-is_bare.false in

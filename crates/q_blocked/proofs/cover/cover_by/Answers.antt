@@ -5,7 +5,7 @@ use Rattle.q_logic.specs.Sets.{IsTautology}
 use Rattle.q_logic.specs.Numbered.{others}
 use Rattle.q_logic.proofs.Implying.{IsIn-append_right}
 use Rattle.q_kernel.specs.Kernels.{slots}
-use Rattle.q_rule.proofs.Members.{test-false}
+use Rattle.q_logic.proofs.Members.{test-false}
 use Rattle.q_blocked.specs.declared.plan.Stage.{Stage}
 use Rattle.q_blocked.specs.Growths.{IsGrowing, IsCovered}
 use Rattle.q_blocked.proofs.Fronts.{take-in, place-front}
@@ -23,7 +23,7 @@ returns-then-opposes c =
     let X = others c.args.c (slots k) in
     let l : Literal = c.at-l.result in
     let r = c.requires.growing in
-    let m : IsIn l (take g.base S) = place-front S c.args.place g.base l c.at-l.ensures c.requires.settled in
+    let m : IsIn l (take g.base S) = place-front S c.args.place g.base l c.at-l.ensures c.requires.staged in
     let q = c.requires.found l c.at-l.ensures in
     let e : c.push_all.new.set ≡ S ++ K = c.in_ok-push_all.ensures ∙ ap (λ (L : Clause). S ++ L) c.deref.ensures.value in
     let o = c.opposes.ensures.0 c.if-opposes.true in
@@ -45,7 +45,7 @@ returns c =
     let X = others c.args.c (slots k) in
     let l : Literal = c.at-l.result in
     let r = c.requires.growing in
-    let m : IsIn l (take g.base S) = place-front S c.args.place g.base l c.at-l.ensures c.requires.settled in
+    let m : IsIn l (take g.base S) = place-front S c.args.place g.base l c.at-l.ensures c.requires.staged in
     let q = c.requires.found l c.at-l.ensures in
     let e : c.push_all.new.set ≡ S ++ K = c.in_ok-push_all.ensures ∙ ap (λ (L : Clause). S ++ L) c.deref.ensures.value in
     let n : (j : Literal) → IsIn j K → IsIn (negation j) (S ++ K) → ⊥ = λ j i x. test-false c.opposes.result c.opposes.ensures c.if-opposes.false (j, subst (λ (L : Clause). IsIn j L) (sym c.deref-2.ensures.value) i, subst (λ (T : Clause). IsIn (negation j) T) (sym e) x) in

@@ -5,6 +5,6 @@ use Rattle.q_blocked.proofs.cover.covers.Given as goal
 
 abbrev pub invariant-loop-round : goal.invariant-loop-round
 invariant-loop-round l = record {
-  growing : Growing l.kernel l.c l.growth;
-  units : AreRight (slots l.kernel) l.units;
+  growing : Growing l.kernel l.c l.search.growth;
+  units : AreRight (slots l.kernel) l.search.units;
 }

@@ -2,7 +2,7 @@ use Rattle.std.proofs.Common.{ℕ, List, [], None, length, sym, subst}
 use Rattle.q_logic.specs.Formulas.{Clause}
 use Rattle.q_logic.specs.Numbered.{others}
 use Rattle.q_kernel.specs.Kernels.{slots}
-use Rattle.q_rule.proofs.Members.{test-false}
+use Rattle.q_logic.proofs.Members.{test-false}
 use Rattle.q_blocked.specs.declared.plan.Stage.{Stage}
 use Rattle.q_blocked.specs.Growths.{IsGrowing, IsCovered}
 use Rattle.q_blocked.proofs.Reaching.{reached-begun, covered-tautology}

@@ -1,7 +1,7 @@
 use Rattle.std.proofs.Common.{◌≡◌, ◌↔◌, true, refl, sym, subst, inl, inr, true≢false}
 use Rattle.q_logic.specs.Literals.{Literal, negation}
 use Rattle.q_logic.specs.Formulas.{Clause, IsIn}
-use Rattle.q_rule.proofs.Members.{item-in, taken-cases, taken-all, test-false}
+use Rattle.q_logic.proofs.Members.{item-in, taken-cases, taken-all, test-false}
 use Rattle.q_blocked.proofs.cover.opposes.Goals as goal
 
 pub loop-k-init : goal.loop-k-init

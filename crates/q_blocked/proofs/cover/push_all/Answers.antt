@@ -1,6 +1,6 @@
 use Rattle.std.proofs.Common.{◌∙◌, ◌++◌, ◌∷◌, [], sym, ap, take, append_assoc, append-nil}
 use Rattle.q_logic.specs.Formulas.{Clause}
-use Rattle.q_rule.proofs.Members.{taken-all}
+use Rattle.q_logic.proofs.Members.{taken-all}
 use Rattle.q_blocked.proofs.Members.{taken}
 use Rattle.q_blocked.proofs.cover.push_all.Goals as goal
 

@@ -2,7 +2,7 @@ use Rattle.std.proofs.Common.{◌≡◌, true, ◌+◌, take, subst}
 use Rattle.q_logic.specs.Literals.{Literal}
 use Rattle.q_logic.specs.Formulas.{Clause, IsIn}
 use Rattle.q_logic.specs.Pivots.{keeps}
-use Rattle.q_rule.proofs.Members.{item-in, taken-cases, taken-more, taken-last, taken-all}
+use Rattle.q_logic.proofs.Members.{item-in, taken-cases, taken-more, taken-last, taken-all}
 use Rattle.q_blocked.proofs.Sifting.{IsSifted, sifted-begun, sifted-more}
 use Rattle.q_blocked.proofs.covered.begin.Goals as goal
 

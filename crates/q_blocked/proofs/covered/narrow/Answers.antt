@@ -3,30 +3,30 @@ use Rattle.q_logic.specs.Literals.{negation}
 use Rattle.q_logic.specs.Formulas.{Clause, IsIn}
 use Rattle.q_logic.specs.Blocking.{Clashes}
 use Rattle.q_kernel.specs.Kernels.{slots}
-use Rattle.q_blocked.proofs.Passing.{one}
-use Rattle.q_rule.proofs.Members.{test-false}
+use Rattle.q_rule.proofs.Slots.{slot-one}
+use Rattle.q_logic.proofs.Members.{test-false}
 use Rattle.q_blocked.proofs.covered.narrow.Goals as goal
 
 pub clashes-requires-clause-bound : goal.clashes-requires-clause-bound
 clashes-requires-clause-bound c =
-    let q = one (slots c.args.kernel.now) c.args.d c.requires.0 c.clause_of-clause.result.now c.requires.1 c.clause_of-clause.ensures.clause in
+    let q = slot-one (slots c.args.kernel.now) c.args.d c.requires.0 c.clause_of-clause.result.now c.requires.1 c.clause_of-clause.ensures.clause in
     c.clause_of-clause.ensures.within (negation c.args.l) (subst (λ (D : Clause). IsIn (negation c.args.l) D) q c.requires.2)
 
 pub begin-requires-clause-bound : goal.begin-requires-clause-bound
 begin-requires-clause-bound c =
-    let q = one (slots c.args.kernel.now) c.args.d c.requires.0 c.clause_of-clause.result.now c.requires.1 c.clause_of-clause.ensures.clause in
+    let q = slot-one (slots c.args.kernel.now) c.args.d c.requires.0 c.clause_of-clause.result.now c.requires.1 c.clause_of-clause.ensures.clause in
     rw c.negated.ensures (c.clause_of-clause.ensures.within (negation c.args.l) (subst (λ (D : Clause). IsIn (negation c.args.l) D) q c.requires.2))
 
 pub returns-then-clashes : goal.returns-then-clashes
 returns-then-clashes c = inl (
-  (λ D b. subst (λ (E : Clause). Clashes c.args.kernel.now.prefix c.args.l c.args.set.now E) (one (slots c.args.kernel.now) c.args.d c.clause_of-clause.result.now D c.clause_of-clause.ensures.clause b.1) (c.clashes.ensures.0 c.if-clashes.true)),
+  (λ D b. subst (λ (E : Clause). Clashes c.args.kernel.now.prefix c.args.l c.args.set.now E) (slot-one (slots c.args.kernel.now) c.args.d c.clause_of-clause.result.now D c.clause_of-clause.ensures.clause b.1) (c.clashes.ensures.0 c.if-clashes.true)),
   refl,
   refl,
 )
 
 pub returns-then-was : goal.returns-then-was
 returns-then-was c =
-    let q = one (slots c.args.kernel.now) c.args.d c.requires.0 c.clause_of-clause.result.now c.requires.1 c.clause_of-clause.ensures.clause in
+    let q = slot-one (slots c.args.kernel.now) c.args.d c.requires.0 c.clause_of-clause.result.now c.requires.1 c.clause_of-clause.ensures.clause in
     inr (record {
       opened = refl;
       by = c.clause_of-clause.result.now;
@@ -39,7 +39,7 @@ returns-then-was c =
 
 pub returns : goal.returns
 returns c =
-    let q = one (slots c.args.kernel.now) c.args.d c.requires.0 c.clause_of-clause.result.now c.requires.1 c.clause_of-clause.ensures.clause in
+    let q = slot-one (slots c.args.kernel.now) c.args.d c.requires.0 c.clause_of-clause.result.now c.requires.1 c.clause_of-clause.ensures.clause in
     inr (record {
       opened = refl;
       by = c.clause_of-clause.result.now;

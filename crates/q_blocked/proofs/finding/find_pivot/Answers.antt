@@ -2,8 +2,9 @@ use Rattle.std.proofs.Common.{◌≡◌, ◌∙◌, sym, ap, subst, Some, inl, i
 use Rattle.q_logic.specs.Literals.{Literal}
 use Rattle.q_logic.specs.Formulas.{Clause, IsIn}
 use Rattle.q_blocked.specs.Searches.{IsOn}
-use Rattle.q_rule.proofs.Members.{item-in, taken-cases, taken-all}
-use Rattle.q_blocked.proofs.Seeking.{AreNone, found-on, found-pivot, none-is}
+use Rattle.q_logic.proofs.Members.{item-in, taken-cases, taken-all}
+use Rattle.q_rule.proofs.Searching.{none-is}
+use Rattle.q_blocked.proofs.Seeking.{AreNone, found-on, found-pivot}
 use Rattle.q_blocked.proofs.finding.find_pivot.Goals as goal
 
 pub target_on-found-requires : goal.target_on-found-requires

@@ -1,11 +1,14 @@
 use Rattle.std.proofs.Common.{◌≡◌, ◌∙◌, true, false, sym, refl}
 use Rattle.q_logic.specs.Prefixes.{is_bound, is_existential}
 use Rattle.q_logic.proofs.Slots.{live-slot}
+use Rattle.q_logic.proofs.Order.{is_bound-universal}
 use Rattle.q_kernel.specs.Kernels.{slots}
-use Rattle.q_rule.proofs.Members.{test-false}
+use Rattle.q_logic.proofs.Members.{test-false}
+use Rattle.q_blocked.specs.Targets.{target_of}
 use Rattle.q_blocked.specs.declared.target.Target.TheVariants.{Blocked, BlockedForall}
 use Rattle.q_blocked.specs.Searches.{IsOn}
-use Rattle.q_blocked.proofs.Seeking.{found-one, none-existential, none-universal, bound-universal}
+use Rattle.q_rule.proofs.Searching.{found-one}
+use Rattle.q_blocked.proofs.Seeking.{none-existential, none-universal}
 use Rattle.q_blocked.proofs.finding.target_on.Goals as goal
 use Rattle.q_blocked.proofs.finding.target_on.Goals.{then-is_existential+else-all_clash, else-is_existential+else-may_drop}
 
@@ -13,7 +16,7 @@ pub returns-then-all_clash : goal.returns-then-all_clash
 returns-then-all_clash c =
     let k = c.args.kernel.now in
     let e : is_existential k.prefix c.args.l.var ≡ true = rw c.var.ensures.value at (sym c.is_existential.ensures ∙ c.if-is_existential.true) in
-    found-one k (IsOn c.args.c c.args.l) (Blocked c.args.c c.args.l) (refl, refl) (λ B. (c.args.set.now, c.requires.0, c.requires.1, e, c.all_clash.ensures.0 c.if-all_clash.true))
+    found-one target_of k (IsOn c.args.c c.args.l) (Blocked c.args.c c.args.l) (refl, refl) (λ B. (c.args.set.now, c.requires.0, c.requires.1, e, c.all_clash.ensures.0 c.if-all_clash.true))
 
 pub returns-then-may_drop : goal.returns-then-may_drop
 returns-then-may_drop c =
@@ -21,7 +24,7 @@ returns-then-may_drop c =
     let e : is_existential k.prefix c.args.l.var ≡ false = rw c.var.ensures.value at (sym c.is_existential.ensures ∙ c.if-is_existential.false) in
     let b : is_bound k.prefix c.args.l.var ≡ true = c.sound.ensures.proper.formula.closed c.args.set.now (live-slot (slots k) c.args.c c.args.set.now c.requires.0) c.args.l c.requires.1 in
     let r = c.may_drop.ensures.0 c.if-may_drop.true in
-    found-one k (IsOn c.args.c c.args.l) (BlockedForall c.args.c c.args.l) (refl, refl) (λ B. (c.args.set.now, c.requires.0, c.requires.1, bound-universal k.prefix c.args.l.var b e, r.0, r.1))
+    found-one target_of k (IsOn c.args.c c.args.l) (BlockedForall c.args.c c.args.l) (refl, refl) (λ B. (c.args.set.now, c.requires.0, c.requires.1, is_bound-universal k.prefix c.args.l.var b e, r.0, r.1))
 
 pub returns : goal.returns
 returns c =

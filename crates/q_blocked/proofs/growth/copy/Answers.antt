@@ -1,6 +1,6 @@
 use Rattle.std.proofs.Common.{◌∙◌, ◌++◌, ◌∷◌, [], ◌<◌, length, sym, ap, arith}
 use Rattle.q_logic.specs.Formulas.{Clause}
-use Rattle.q_rule.proofs.Members.{taken-all}
+use Rattle.q_logic.proofs.Members.{taken-all}
 use Rattle.q_blocked.proofs.Members.{taken, place-get}
 use Rattle.q_blocked.proofs.growth.copy.Goals as goal
 

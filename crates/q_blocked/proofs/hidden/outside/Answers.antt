@@ -1,19 +1,17 @@
-use Rattle.std.proofs.Common.{◌≡◌, Some, subst, sym, inl, inr}
+use Rattle.std.proofs.Common.{subst, sym, inl, inr}
 use Rattle.q_logic.specs.Literals.{Literal}
 use Rattle.q_logic.specs.Formulas.{Clause, IsIn}
 use Rattle.q_logic.specs.Sets.{IsSubset}
-use Rattle.q_rule.proofs.Members.{item-in, taken-cases, taken-all, test-false}
+use Rattle.q_logic.proofs.Members.{item-in, taken-cases, taken-all, test-false}
+use Rattle.q_arena.proofs.Numbers.{some-same}
 use Rattle.q_blocked.proofs.hidden.outside.Goals as goal
-
-same : (j k : Literal) → Some j ≡ Some k → j ≡ k
-same j k e = cc
 
 pub loop-k-init : goal.loop-k-init
 loop-k-init c k m = absurd m
 
 pub returns-then-not-has-clause-some : goal.returns-then-not-has-clause-some
 returns-then-not-has-clause-some c k e =
-    let q = same c.k-item.result k e in
+    let q = some-same c.k-item.result k e in
     let m = item-in c.args.clause.now c.loop-k.k-index c.k-item.result c.loop-k-test.true c.k-item.is in
     (subst (λ (x : Literal). IsIn x c.args.clause.now) q m, λ i. test-false c.has.result c.has.ensures c.if-not-has.true (subst (λ (x : Literal). IsIn x c.args.set.now) (sym q) i))
 

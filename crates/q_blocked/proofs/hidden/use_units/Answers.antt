@@ -1,7 +1,7 @@
 use Rattle.std.proofs.Common.{◌≡◌, ◌<◌, ℕ, zero, suc, [], ◌∷◌, get_or, List, Bool, false, length, sym, subst, refl, inl, inr, arith}
 use Rattle.q_logic.specs.Formulas.{Clause, IsIn}
 use Rattle.q_kernel.specs.Kernels.{slots}
-use Rattle.q_rule.proofs.Members.{taken-cases, taken-all}
+use Rattle.q_logic.proofs.Members.{taken-cases, taken-all}
 use Rattle.q_blocked.specs.Walks.{IsBeside, IsCalmAt}
 use Rattle.q_blocked.specs.Growths.{HasSpread}
 use Rattle.q_blocked.proofs.Growing.{pushed-none, pushed-on, pushed-calm, pushed-less, pushed-same, units-calm}

@@ -2,7 +2,7 @@ use Rattle.std.proofs.Common.{◌≡◌, true, subst, inl, inr}
 use Rattle.q_logic.specs.Literals.{Literal}
 use Rattle.q_logic.specs.Formulas.{Clause, IsIn}
 use Rattle.q_logic.specs.Pivots.{keeps}
-use Rattle.q_rule.proofs.Members.{item-in, taken-cases, taken-all, test-false}
+use Rattle.q_logic.proofs.Members.{item-in, taken-cases, taken-all, test-false}
 use Rattle.q_blocked.proofs.stuck.share_nothing.Goals as goal
 
 pub is_shared-requires-clause-there : goal.is_shared-requires-clause-there

@@ -1,25 +1,20 @@
-use Rattle.std.proofs.Common.{◌≡◌, ◌≤◌, ◌<◌, ◌⊎◌, ◌+◌, ◌∙◌, ℕ, [], ◌∷◌, None, Some, inl, inr, refl, sym, ap, subst, arith, true≢false}
+use Rattle.std.proofs.Common.{◌≡◌, ◌≤◌, ◌<◌, ◌⊎◌, ◌+◌, ◌∙◌, ℕ, [], ◌∷◌, None, Some, inl, inr, refl, sym, ap, subst, arith}
 use Rattle.q_logic.specs.Literals.{Literal, IsBelow}
 use Rattle.q_logic.specs.Formulas.{Clause, IsIn}
 use Rattle.q_logic.specs.Numbered.{slot, live}
 use Rattle.q_logic.specs.Parts.{ArePairs}
 use Rattle.q_logic.proofs.Parts.{AllByRecursion-IsIn}
+use Rattle.q_logic.proofs.ClauseSets.{not_itself_below}
 use Rattle.q_kernel.specs.Kernels.{slots}
 use Rattle.q_kernel.proofs.Slotting.{slot-IsIn}
 use Rattle.q_blocked.specs.Units.{IsSingle}
 use Rattle.q_blocked.proofs.units.find_units.Goals as goal
 
-not-below : (i j : Literal) → i ≡ j → IsBelow i j → ⊥
-not-below i j e b = elim b [
-  | inl h ↦ let v : i.var ≡ j.var = ap (λ (l : Literal). l.var) e in absurd (omega arith)
-  | inr h ↦ true≢false (sym h.1 ∙ ap (λ (l : Literal). l.negative) e ∙ h.2)
-]
-
 -- an ordered clause of one literal is just that
 single-one : (D : Clause) (s : IsSingle D) → ArePairs IsBelow D → D ≡ s.0 ∷ []
 single-one [] s o = absurd s.1
 single-one (i ∷ []) s o = ap (λ (j : Literal). j ∷ []) (s.2 i (inl refl))
-single-one (i ∷ j ∷ D) s o = absurd (not-below i j (s.2 i (inl refl) ∙ sym (s.2 j (inr (inl refl)))) o.0.0)
+single-one (i ∷ j ∷ D) s o = absurd (not_itself_below i j (s.2 i (inl refl) ∙ sym (s.2 j (inr (inl refl)))) o.0.0)
 
 cases : (d a b : ℕ) → d < b + 1 → (d < a) ⊎ (((a ≤ d) × (d < b)) ⊎ (d ≡ b))
 cases d a b h = grind arith

@@ -1,7 +1,7 @@
 use Rattle.std.proofs.Common.{◌≡◌, ◌≤◌, sym, ◌∙◌, refl, subst, inl, inr, take, List, ℕ, zero, suc, [], ◌∷◌, ap, arith, length, true, true≢false}
 use Rattle.q_logic.specs.Literals.{Literal}
 use Rattle.q_logic.specs.Prefixes.{is_bound}
-use Rattle.q_check.proofs.Members.{item-in, IsIn-take_cases}
+use Rattle.q_logic.proofs.Members.{item-in, taken-cases}
 use Rattle.q_check.proofs.book.binds_all.Goals as goal
 
 take-past : (xs : List Literal) (i : ℕ) → length xs ≤ i → take i xs ≡ xs
@@ -17,7 +17,7 @@ returns-then-not-binds c =
     ((λ t. absurd (true≢false (sym t))), (λ w. absurd (true≢false (sym (w c.k-item.result m) ∙ sym e ∙ c.if-not-binds.true))))
 
 pub loop-k-preserved : goal.loop-k-preserved
-loop-k-preserved c j m = elim (IsIn-take_cases c.args.clause.now c.loop-k.k-index c.k-item.result j c.loop-k-test.true c.k-item.is m) [
+loop-k-preserved c j m = elim (taken-cases c.args.clause.now c.loop-k.k-index c.k-item.result j c.loop-k-test.true c.k-item.is m) [
   | inl a ↦ c.loop-k.invariant j a
   | inr e ↦ let b = rw c.var.ensures.value at c.binds.ensures in subst (λ (k : Literal). is_bound c.args.scope.now k.var ≡ true) (sym e) (sym b ∙ c.if-not-binds.false)
 ]

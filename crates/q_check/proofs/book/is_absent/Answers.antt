@@ -4,7 +4,8 @@ use Rattle.std.proofs.lemmas.Bool.Decides.{nat_tests}
 use Rattle.q_logic.specs.Literals.{Literal}
 use Rattle.q_logic.specs.Formulas.{IsIn}
 use Rattle.q_logic.specs.Steps.{IsAbsent}
-use Rattle.q_prop.specs.Slots.{Slots, filled}
+use Rattle.q_prop.specs.Slots.{filled}
+use Rattle.q_logic.specs.Numbered.{Slots}
 use Rattle.q_prop.specs.Holders.{IsHolder}
 use Rattle.q_prop.specs.Lists.{IsDistinct}
 use Rattle.q_logic.proofs.Membership.{IsIn-Contains, Contains-IsIn}

@@ -2,9 +2,11 @@ use Rattle.std.proofs.Common.{◌≡◌, ◌≤◌, ◌+◌, ℕ, zero, suc, tru
 use Rattle.q_logic.specs.Formulas.{Clause, Matrix, IsIn}
 use Rattle.q_logic.specs.Steps.{clause_eq}
 use Rattle.q_logic.specs.Runs.{copies}
-use Rattle.q_prop.specs.Slots.{Slots, filled}
+use Rattle.q_prop.specs.Slots.{filled}
+use Rattle.q_logic.specs.Numbered.{Slots}
 use Rattle.q_prop.proofs.SlotLemmas.{slice_get-in, take-slice_get}
-use Rattle.q_check.proofs.Copies.{copies-append, copies-IsIn, same-sizes, clause_eq-itself}
+use Rattle.q_check.proofs.Copies.{same-sizes}
+use Rattle.q_logic.proofs.Reaching.{clause_eq-itself, copies-IsIn, copies-append}
 use Rattle.q_check.proofs.Slots.{emptied-same, left-sizes, in-held}
 use Rattle.q_check.proofs.book.takes_all.Goals as goal
 

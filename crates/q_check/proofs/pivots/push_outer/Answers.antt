@@ -1,6 +1,6 @@
 use Rattle.std.proofs.Common.{take, sym, ◌∙◌}
 use Rattle.std.proofs.lemmas.List.{take_more}
-use Rattle.q_check.proofs.Members.{item-in}
+use Rattle.q_logic.proofs.Members.{item-in}
 use Rattle.q_check.proofs.Outers.{outer_kept, outer_left}
 use Rattle.q_check.proofs.pivots.push_outer.Goals as goal
 use Rattle.q_check.proofs.pivots.push_outer.Goals.{then-is_outer+in_ok-push, else-is_outer}

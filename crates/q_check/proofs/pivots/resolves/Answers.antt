@@ -1,12 +1,10 @@
-use Rattle.std.proofs.Common.{◌≡◌, ◌⊎◌, ◌<◌, ◌+◌, ℕ, length, arith, refl, sym, ap, ◌∙◌, Some, true≢false, subst, inl, inr, List, slice_get, get_or}
+use Rattle.std.proofs.Common.{◌≡◌, ◌<◌, ℕ, length, arith, refl, sym, ap, ◌∙◌, Some, true≢false, subst, inl, inr, List, slice_get, get_or}
 use Rattle.q_logic.specs.Formulas.{Clause, IsIn}
-use Rattle.q_prop.specs.Slots.{Slots, Holds, without}
+use Rattle.q_prop.specs.Slots.{Holds, without}
 use Rattle.q_prop.proofs.SlotLemmas.{without-le, slice_get-in, slice_get-at, slice_get-Contains, Contains-slice_get}
-use Rattle.q_check.proofs.Slots.{held-in, in-held}
+use Rattle.q_check.proofs.Slots.{held-in, in-held, one_clause}
+use Rattle.q_check.proofs.Walks.{earlier}
 use Rattle.q_check.proofs.pivots.resolves.Goals as goal
-
-earlier : (n i : ℕ) → n < i + 1 → (n < i) ⊎ (n ≡ i)
-earlier n i h = grind arith
 
 there : (xs : List ℕ) (i n : ℕ) → i < length xs → n ≡ get_or xs i n → slice_get xs i ≡ Some n
 there xs i n h e = slice_get-at xs i n h ∙ ap (λ (k : ℕ). Some k) (sym e)
@@ -22,12 +20,9 @@ returns-then-not-branch-clause-exact c =
     let h = c.in_ok-collect_holders.ensures.no_other c.index.result.now (Contains-slice_get c.collect_holders.new.slots.items c.loop-i.i c.index.result.now g) in (
       (λ e. absurd (true≢false (sym e))),
       (λ r.
-          let y = x.1 (λ D k. let o = one c.args.store.now c.index.result.now D h.0 (without-le c.args.store.now c.args.skip c.index.result.now D k) h.1 in r D (held-in s c.index.result.now D k) (subst (λ (E : Clause). IsIn c.args.m E) (sym o) h.2)) in
+          let y = x.1 (λ D k. let o = one_clause c.args.store.now c.index.result.now D h.0 (without-le c.args.store.now c.args.skip c.index.result.now D k) h.1 in r D (held-in s c.index.result.now D k) (subst (λ (E : Clause). IsIn c.args.m E) (sym o) h.2)) in
           absurd (true≢false (sym y ∙ c.if-not-branch.true))),
     )
-  where
-    one : (s : Slots) (n : ℕ) (C D : Clause) → Holds s n C → Holds s n D → C ≡ D
-    one s n C D e f = let g : Some (Some C) ≡ Some (Some D) = sym e ∙ f in cc
 
 pub loop-i-preserved : goal.loop-i-preserved
 loop-i-preserved c =

@@ -1,16 +1,26 @@
-use Rattle.std.proofs.Common.{◌≡◌, ◌∙◌, sym, subst, Some}
+use Rattle.std.proofs.Common.{◌≡◌, ◌∙◌, Option, Some, inl, inr, refl, sym, subst}
 use Rattle.q_logic.specs.Literals.{Literal, negation}
+use Rattle.q_logic.specs.Formulas.{Clause, Matrix, Prefix}
+use Rattle.q_logic.specs.Propagation.{Implied}
+use Rattle.q_logic.specs.Steps.{IsWarranted}
+use Rattle.q_logic.proofs.Members.{test-false}
 use Rattle.q_prop.specs.Slots.{filled, without}
 use Rattle.q_check.specs.Warrants.{Resolves}
-use Rattle.q_check.proofs.Members.{test_is}
 use Rattle.q_check.proofs.pivots.warrant_of.Goals as goal
 
 same : (k l : Literal) → Some k ≡ Some l → k ≡ l
 same k l e = cc
 
-pub returns-clause-exact : goal.returns-clause-exact
-returns-clause-exact c =
-    let x = rw (c.in_ok-implied.ensures.same, c.negated.ensures) at c.in_ok-resolves.ensures.exact in (
-      test_is c.in_ok-implied.field-0 c.in_ok-implied.ensures.exact c.if-branch.false,
-      (λ h. test_is c.in_ok-resolves.field-0 x c.if-branch-2.false (subst (λ (k : Literal). Resolves c.args.scope.now (filled (without c.args.store.now c.args.skip)) c.args.clause.now (negation k)) (same h.0 c.in-Some.pivot (sym h.1 ∙ c.in-Some.is)) h.2.implied)),
+-- a clause that is not implied and does not resolve on its first literal has no warrant
+unresolved : (P : Prefix) (X : Matrix) (C : Clause) (p : Option Literal) (k : Literal) → p ≡ Some k → (Resolves P X C (negation k) → ⊥) → (Implied X C → ⊥) → IsWarranted P X C p → ⊥
+unresolved P X C p k e f i (inl h) = i h
+unresolved P X C p k e f i (inr (l, g, h)) = f (subst (λ (j : Literal). Resolves P X C (negation j)) (sym (same k l (sym e ∙ g))) h.implied)
+
+pub returns-then-not-branch-clause-exact : goal.returns-then-not-branch-clause-exact
+returns-then-not-branch-clause-exact c =
+    let x = rw (c.in_ok-implied.ensures.same, c.negated.ensures) at c.in_ok-resolves.ensures.exact in
+    let X = filled (without c.args.store.now c.args.skip) in
+    rw c.refusal-then-not-branch.ensures (
+      refl,
+      unresolved c.args.scope.now X c.args.clause.now c.args.first c.in-Some.pivot c.in-Some.is (test-false c.in_ok-resolves.field-0 x c.if-not-branch.true) (test-false c.in_ok-implied.field-0 c.in_ok-implied.ensures.exact c.if-branch.false),
     )

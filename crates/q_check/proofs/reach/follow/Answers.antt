@@ -1,5 +1,5 @@
 use Rattle.q_prop.specs.Slots.{without}
-use Rattle.q_check.proofs.Members.{test_is}
+use Rattle.q_logic.proofs.Members.{test-false}
 use Rattle.q_check.proofs.Slots.{held-in, left-in}
 use Rattle.q_check.proofs.Walks.{followed-none, followed-held, followed-widened}
 use Rattle.q_check.proofs.reach.follow.Goals as goal
@@ -13,7 +13,7 @@ returns-then-holds c = followed-held c.args.scope.now c.args.u (without c.args.s
 pub returns-then-holds-2 : goal.returns-then-holds-2
 returns-then-holds-2 c =
     let h = rw c.negated.ensures at c.holds-2.ensures in
-    (c.in-Some.clause.now, c.in-Some.ensures, test_is c.holds.result c.holds.ensures c.if-holds.false, h.0 c.if-holds-2.true)
+    (c.in-Some.clause.now, c.in-Some.ensures, test-false c.holds.result c.holds.ensures c.if-holds.false, h.0 c.if-holds-2.true)
 
 pub push_inner-requires-clause-within : goal.push_inner-requires-clause-within
 push_inner-requires-clause-within c k m = c.requires.closed c.in-Some.clause.now (left-in c.args.store.now c.args.skip c.in-Some.clause.now (held-in (without c.args.store.now c.args.skip) c.args.at c.in-Some.clause.now c.in-Some.ensures)) k m
@@ -21,4 +21,4 @@ push_inner-requires-clause-within c k m = c.requires.closed c.in-Some.clause.now
 pub returns : goal.returns
 returns c =
     let h = rw c.negated.ensures at c.holds-2.ensures in
-    followed-widened c.args.scope.now c.args.u (without c.args.store.now c.args.skip) c.args.at c.in-Some.clause.now c.args.trail.now c.push_inner.new.trail c.in-Some.ensures (test_is c.holds.result c.holds.ensures c.if-holds.false) (test_is c.holds-2.result h c.if-holds-2.false) c.in_ok-push_inner.ensures
+    followed-widened c.args.scope.now c.args.u (without c.args.store.now c.args.skip) c.args.at c.in-Some.clause.now c.args.trail.now c.push_inner.new.trail c.in-Some.ensures (test-false c.holds.result c.holds.ensures c.if-holds.false) (test-false c.holds-2.result h c.if-holds-2.false) c.in_ok-push_inner.ensures

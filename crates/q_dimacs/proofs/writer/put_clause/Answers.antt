@@ -1,7 +1,8 @@
 use Rattle.std.proofs.Common.{◌+◌, ◌≤◌, arith, map, length, length-append}
 use Rattle.q_logic.specs.Literals.{number_of}
 use Rattle.q_text.specs.Numbers.{number_text, numbers_text, line_end}
-use Rattle.q_dimacs.proofs.Writing.{extends-more, on-err, literal-next, next-fits}
+use Rattle.q_dimacs.proofs.Writing.{literal-next, next-fits}
+use Rattle.q_text.proofs.Extending.{extends-more, on-err}
 use Rattle.q_dimacs.proofs.writer.put_clause.Goals as goal
 
 pub returns-in_err-put_literal-clause-err : goal.returns-in_err-put_literal-clause-err

@@ -1,5 +1,6 @@
 use Rattle.std.proofs.Common.{◌≡◌, ◌++◌, ◌≤◌, vec_capacity, drop}
-use Rattle.q_dimacs.specs.Writing.{matrix_text, Extends}
+use Rattle.q_dimacs.specs.Writing.{matrix_text}
+use Rattle.q_text.specs.Texts.{Extends}
 use Rattle.q_dimacs.proofs.writer.put_matrix.Given as goal
 
 abbrev pub invariant-loop-at : goal.invariant-loop-at

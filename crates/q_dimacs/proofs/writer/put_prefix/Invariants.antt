@@ -1,5 +1,6 @@
 use Rattle.std.proofs.Common.{◌≡◌, ◌++◌, ◌≤◌, vec_capacity, drop, None}
-use Rattle.q_dimacs.specs.Writing.{bounds_text, Extends}
+use Rattle.q_dimacs.specs.Writing.{bounds_text}
+use Rattle.q_text.specs.Texts.{Extends}
 use Rattle.q_dimacs.proofs.writer.put_prefix.Given as goal
 
 abbrev pub invariant-loop-bound : goal.invariant-loop-bound

@@ -1,4 +1,5 @@
-use Rattle.std.proofs.Common.{◌≡◌, ◌∙◌, ◌∷◌, [], true≢false, sym, ap, subst}
+use Rattle.std.proofs.Common.{◌∙◌, true≢false, sym, subst}
+use Rattle.std.proofs.lemmas.Option.{same_Some}
 use Rattle.q_logic.specs.Literals.{IsBelow, negation}
 use Rattle.q_logic.specs.Formulas.{Clause, Matrix, IsIn}
 use Rattle.q_logic.specs.Parts.{ArePairs}
@@ -14,9 +15,6 @@ use Rattle.q_eliminate.proofs.adding.add_one.Goals as goal
 pub is_tautology-requires : goal.is_tautology-requires
 is_tautology-requires c = subst (λ (U : Clause). ArePairs IsBelow U) (sym (c.deref.ensures.value ∙ c.resolve.ensures.resolvent)) (resolvent-ordered c.args.lit c.lits.result.now c.lits-2.result.now c.lits-2.ensures.ordered)
 
-same : (C D : Clause) → Rattle.std.proofs.Common.Some C ≡ Rattle.std.proofs.Common.Some D → C ≡ D
-same C D e = cc
-
 pub add_implied-requires : goal.add_implied-requires
 add_implied-requires c =
     let k = c.args.kernel.now in
@@ -24,7 +22,7 @@ add_implied-requires c =
     let D = c.lits-2.result.now in
     let l = c.args.lit in
     let e = told-plain (slots k) l c.args.c c.args.d C D c.lits.ensures.clause c.lits-2.ensures.clause c.deref.result.now (c.deref.ensures.value ∙ c.resolve.ensures.resolvent) (λ t. true≢false (sym (c.is_tautology.ensures.1 t) ∙ c.if-not-is_tautology.true)) in
-    let n : IsIn (negation l) D = subst (λ (X : Clause). IsIn (negation l) X) (same c.requires.other.clause D (sym c.requires.other.there ∙ c.lits-2.ensures.clause)) c.requires.other.held in
+    let n : IsIn (negation l) D = subst (λ (X : Clause). IsIn (negation l) X) (same_Some c.requires.other.clause D (sym c.requires.other.there ∙ c.lits-2.ensures.clause)) c.requires.other.held in
     subst (λ (U : Clause). MayAdd k (first_of U) U) (sym (c.deref-then-not-is_tautology.ensures.value ∙ c.resolve.ensures.resolvent))
     (may-come k l c.args.c c.args.d C D c.sound.ensures c.lits.ensures.clause c.lits-2.ensures.clause c.lits-2.ensures.ordered n (subst (λ (V : Matrix). CanGrow k V) e c.requires.room))
 

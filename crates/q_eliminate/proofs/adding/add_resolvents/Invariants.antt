@@ -2,7 +2,7 @@ use Rattle.std.proofs.Common.{◌≡◌, drop}
 use Rattle.std.specs.Vec.{vec_capacity}
 use Rattle.q_logic.specs.Eliminating.{resolve_all}
 use Rattle.q_kernel.specs.Kernels.{slots}
-use Rattle.q_eliminate.specs.Sides.{clauses_at}
+use Rattle.q_logic.specs.Numbered.{clauses_at}
 use Rattle.q_eliminate.proofs.Coming.{IsGrowing}
 use Rattle.q_eliminate.proofs.adding.add_resolvents.Given as goal
 

@@ -5,7 +5,8 @@ use Rattle.q_logic.specs.Eliminating.{resolvent, resolve_one}
 use Rattle.q_logic.specs.Sets.{put_unless_tautology}
 use Rattle.q_kernel.specs.Kernels.{slots}
 use Rattle.q_eliminate.specs.Growing.{CanGrow, HasGrown}
-use Rattle.q_eliminate.specs.Sides.{clause_in, clauses_at}
+use Rattle.q_eliminate.specs.Sides.{clause_in}
+use Rattle.q_logic.specs.Numbered.{clauses_at}
 use Rattle.q_eliminate.proofs.Along.{id-in}
 use Rattle.q_eliminate.proofs.Coming.{growing-same, growing-more, can-part, parent-kept, in-kept, next-resolvent, short-at}
 use Rattle.q_eliminate.proofs.adding.add_with.Goals as goal

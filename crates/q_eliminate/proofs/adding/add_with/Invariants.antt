@@ -2,7 +2,8 @@ use Rattle.std.proofs.Common.{◌≡◌, drop}
 use Rattle.std.specs.Vec.{vec_capacity}
 use Rattle.q_logic.specs.Eliminating.{resolve_one}
 use Rattle.q_kernel.specs.Kernels.{slots}
-use Rattle.q_eliminate.specs.Sides.{clause_in, clauses_at}
+use Rattle.q_eliminate.specs.Sides.{clause_in}
+use Rattle.q_logic.specs.Numbered.{clauses_at}
 use Rattle.q_eliminate.proofs.Coming.{IsGrowing}
 use Rattle.q_eliminate.proofs.adding.add_with.Given as goal
 

@@ -2,7 +2,7 @@ use Rattle.std.proofs.Common.{◌≡◌, ◌∙◌, Bool, ◌<◌, ◌≤◌, �
 use Rattle.q_logic.specs.Literals.{Literal}
 use Rattle.q_logic.specs.Formulas.{Clause, Prefix}
 use Rattle.q_logic.specs.Prefixes.{is_bound, outer_or_same}
-use Rattle.q_rule.proofs.Members.{item-in}
+use Rattle.q_logic.proofs.Members.{item-in}
 use Rattle.q_eliminate.specs.Plans.{IsOuter}
 use Rattle.q_eliminate.proofs.conditions.is_outer.Goals as goal
 

@@ -9,14 +9,23 @@ are_outer-requires-clause-live c = live-ids c.args.kernel.now c.args.lit c.args.
 pub are_outer-requires-else-are_outer-clause-live : goal.are_outer-requires-else-are_outer-clause-live
 are_outer-requires-else-are_outer-clause-live c = live-ids c.args.kernel.now (negation c.args.lit) c.args.others.now c.requires.others
 
-pub returns-then-are_outer-clause-some : goal.returns-then-are_outer-clause-some
-returns-then-are_outer-clause-some c = sign-first c.args.kernel.now c.args.lit c.args.ids.now c.var.result c.requires.ids c.var.ensures.value (c.are_outer.ensures.0 c.if-are_outer.true)
+pub returns-then-are_outer : goal.returns-then-are_outer
+returns-then-are_outer c = record {
+  some = sign-first c.args.kernel.now c.args.lit c.args.ids.now c.var.result c.requires.ids c.var.ensures.value (c.are_outer.ensures.0 c.if-are_outer.true);
+  none = λ e. absurd (cc);
+}
 
-pub returns-then-are_outer-2-clause-some : goal.returns-then-are_outer-2-clause-some
-returns-then-are_outer-2-clause-some c = sign-second c.args.kernel.now c.args.lit c.negated.result c.args.others.now c.var-else-are_outer.result c.requires.others c.negated.ensures c.var-else-are_outer.ensures.value (c.are_outer-else-are_outer.ensures.0 c.if-are_outer-2.true)
+pub returns-then-are_outer-2 : goal.returns-then-are_outer-2
+returns-then-are_outer-2 c = record {
+  some = sign-second c.args.kernel.now c.args.lit c.negated.result c.args.others.now c.var-else-are_outer.result c.requires.others c.negated.ensures c.var-else-are_outer.ensures.value (c.are_outer-else-are_outer.ensures.0 c.if-are_outer-2.true);
+  none = λ e. absurd (cc);
+}
 
-pub returns-else-are_outer-2-clause-none : goal.returns-else-are_outer-2-clause-none
-returns-else-are_outer-2-clause-none c e o = elim o [
-  | inl a ↦ true≢false (sym (c.are_outer.ensures.1 (outer-test c.args.kernel.now c.args.lit c.args.ids.now c.var.result c.requires.ids c.var.ensures.value a)) ∙ c.if-are_outer.false)
-  | inr a ↦ true≢false (sym (c.are_outer-else-are_outer.ensures.1 (outer-test c.args.kernel.now (negation c.args.lit) c.args.others.now c.var-else-are_outer.result c.requires.others c.var-else-are_outer.ensures.value a)) ∙ c.if-are_outer-2.false)
-]
+pub returns-else-are_outer-2 : goal.returns-else-are_outer-2
+returns-else-are_outer-2 c = record {
+  some = λ m e. absurd (cc);
+  none = λ e o. elim o [
+    | inl a ↦ true≢false (sym (c.are_outer.ensures.1 (outer-test c.args.kernel.now c.args.lit c.args.ids.now c.var.result c.requires.ids c.var.ensures.value a)) ∙ c.if-are_outer.false)
+    | inr a ↦ true≢false (sym (c.are_outer-else-are_outer.ensures.1 (outer-test c.args.kernel.now (negation c.args.lit) c.args.others.now c.var-else-are_outer.result c.requires.others c.var-else-are_outer.ensures.value a)) ∙ c.if-are_outer-2.false)
+  ];
+}

@@ -10,7 +10,7 @@ use Rattle.q_kernel.proofs.Leading.{without-in_order}
 use Rattle.q_eliminate.specs.declared.counting.Gain.{Gain}
 use Rattle.q_eliminate.specs.Gains.{no_gain, joined, IsGain}
 use Rattle.q_eliminate.specs.Plans.{IsPlain}
-use Rattle.q_eliminate.specs.Sides.{clauses_at}
+use Rattle.q_logic.specs.Numbered.{clauses_at}
 use Rattle.q_eliminate.proofs.Along.{live-at, all-at, at-next}
 use Rattle.q_eliminate.proofs.Gaining.{IsGaining, gaining-part, gaining-part_passed, gain-none, joined-resolve, clause-short, plain-without}
 use Rattle.q_eliminate.proofs.counting.gain_of.Goals as goal

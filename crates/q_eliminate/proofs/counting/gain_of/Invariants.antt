@@ -1,7 +1,7 @@
 use Rattle.std.proofs.Common.{drop}
 use Rattle.q_logic.specs.Eliminating.{resolve_all}
 use Rattle.q_kernel.specs.Kernels.{slots}
-use Rattle.q_eliminate.specs.Sides.{clauses_at}
+use Rattle.q_logic.specs.Numbered.{clauses_at}
 use Rattle.q_eliminate.specs.Gains.{no_gain}
 use Rattle.q_eliminate.proofs.Gaining.{IsGaining}
 use Rattle.q_eliminate.proofs.counting.gain_of.Given as goal

@@ -9,7 +9,8 @@ use Rattle.q_kernel.specs.Kernels.{slots, formula_in}
 use Rattle.q_kernel.proofs.Costs.{proper-var}
 use Rattle.q_rule.proofs.Becoming.{swept-result}
 use Rattle.q_eliminate.specs.Growing.{CanGrow, HasGrown}
-use Rattle.q_eliminate.specs.Sides.{clauses_at, AreParents}
+use Rattle.q_eliminate.specs.Sides.{AreParents}
+use Rattle.q_logic.specs.Numbered.{clauses_at}
 use Rattle.q_eliminate.proofs.Taking.{plan-bound, plan-parents, plan-others, plan-size, plan-room, plan-first, plan-second, plan-sweep, plan-changed}
 use Rattle.q_eliminate.proofs.eliminate.take.Goals as goal
 

@@ -1,11 +1,9 @@
-use Rattle.std.proofs.Common.{◌≡◌, ◌+◌, ◌∙◌, inl, inr, Option, refl, sym, subst, arith, true≢false}
-use Rattle.q_logic.specs.Literals.{negation}
+use Rattle.std.proofs.Common.{◌≡◌, ◌≤◌, ◌+◌, ◌∙◌, ℕ, List, length, inl, inr, refl, sym, arith, true≢false}
+use Rattle.q_logic.specs.Literals.{Literal, negation}
 use Rattle.q_logic.specs.Measure.{size_of}
-use Rattle.q_kernel.specs.Kernels.{slots}
-use Rattle.q_logic.specs.Eliminating.{resolve_all}
-use Rattle.q_eliminate.specs.declared.counting.Gain.{Gain}
-use Rattle.q_eliminate.specs.Gains.{no_gain, IsGain}
-use Rattle.q_eliminate.specs.Sides.{clauses_at}
+use Rattle.q_logic.specs.Numbered.{clauses_at}
+use Rattle.q_kernel.specs.Kernels.{Seen, slots, IsSound}
+use Rattle.q_eliminate.specs.Sides.{AreIdsOf}
 use Rattle.q_eliminate.proofs.Splitting.{live-ids, plain-side, ids-small, gain-told, gain-passed, planned, unplanned}
 use Rattle.q_eliminate.proofs.plan.plan_on.Goals as goal
 
@@ -21,49 +19,49 @@ weight-requires-2-clause-live c = live-ids c.args.kernel.now (negation c.args.li
 pub weight-requires-2-clause-small : goal.weight-requires-2-clause-small
 weight-requires-2-clause-small c = let s = (ids-small c.args.kernel.now (negation c.args.lit) c.args.others.now c.requires.others).0 in let z = c.sound.ensures.size in omega arith
 
+-- the ids of both sides and what their clauses weigh
+record AreCounted (ids others : List ℕ) (x y : ℕ) : Type 0 where
+  one : length ids ≤ 8589934592
+  other : length others ≤ 8589934592
+  first : x ≤ 8589934592
+  second : y ≤ 8589934592
+
+counted : (k : Seen) (l : Literal) (ids others : List ℕ) (x y : ℕ) → IsSound k → AreIdsOf k l ids → AreIdsOf k (negation l) others → x ≡ size_of (clauses_at (slots k) ids) → y ≡ size_of (clauses_at (slots k) others) → AreCounted ids others x y
+counted k l ids others x y s a b e f =
+    let p = ids-small k l ids a in
+    let q = ids-small k (negation l) others b in
+    let p0 = p.0 in let p1 = p.1 in let q0 = q.0 in let q1 = q.1 in
+    let z = s.size in
+    record { one = omega arith; other = omega arith; first = omega arith; second = omega arith }
+
 pub overflow_add-size : goal.overflow_add-size
 overflow_add-size c =
-    let a = ids-small c.args.kernel.now c.args.lit c.args.ids.now c.requires.ids in
-    let b = ids-small c.args.kernel.now (negation c.args.lit) c.args.others.now c.requires.others in
-    let a0 = a.0 in let a1 = a.1 in let b0 = b.0 in let b1 = b.1 in
-    let x = c.weight.ensures in let y = c.weight-2.ensures in
-    let z = c.sound.ensures.size in let g = c.requires.bounds.grow in
+    let n = counted c.args.kernel.now c.args.lit c.args.ids.now c.args.others.now c.weight.result c.weight-2.result c.sound.ensures c.requires.ids c.requires.others c.weight.ensures c.weight-2.ensures in
+    let g = c.requires.bounds.grow in
     omega arith
 
 pub overflow_add-bound : goal.overflow_add-bound
 overflow_add-bound c =
-    let a = ids-small c.args.kernel.now c.args.lit c.args.ids.now c.requires.ids in
-    let b = ids-small c.args.kernel.now (negation c.args.lit) c.args.others.now c.requires.others in
-    let a0 = a.0 in let a1 = a.1 in let b0 = b.0 in let b1 = b.1 in
-    let x = c.weight.ensures in let y = c.weight-2.ensures in
-    let z = c.sound.ensures.size in let g = c.requires.bounds.grow in
+    let n = counted c.args.kernel.now c.args.lit c.args.ids.now c.args.others.now c.weight.result c.weight-2.result c.sound.ensures c.requires.ids c.requires.others c.weight.ensures c.weight-2.ensures in
+    let g = c.requires.bounds.grow in
     omega arith
 
 pub gain_of-requires-clause-small : goal.gain_of-requires-clause-small
 gain_of-requires-clause-small c =
-    let a = ids-small c.args.kernel.now c.args.lit c.args.ids.now c.requires.ids in
-    let b = ids-small c.args.kernel.now (negation c.args.lit) c.args.others.now c.requires.others in
-    let a0 = a.0 in let a1 = a.1 in let b0 = b.0 in let b1 = b.1 in
-    let x = c.weight.ensures in let y = c.weight-2.ensures in
-    let z = c.sound.ensures.size in let g = c.requires.bounds.grow in
+    let n = counted c.args.kernel.now c.args.lit c.args.ids.now c.args.others.now c.weight.result c.weight-2.result c.sound.ensures c.requires.ids c.requires.others c.weight.ensures c.weight-2.ensures in
+    let g = c.requires.bounds.grow in
     omega arith
 
 pub keeps_limits-requires-clause-count : goal.keeps_limits-requires-clause-count
 keeps_limits-requires-clause-count c =
-    let a = ids-small c.args.kernel.now c.args.lit c.args.ids.now c.requires.ids in
-    let b = ids-small c.args.kernel.now (negation c.args.lit) c.args.others.now c.requires.others in
-    let a0 = a.0 in let a1 = a.1 in let b0 = b.0 in let b1 = b.1 in
-    let x = c.weight.ensures in let y = c.weight-2.ensures in
-    let z = c.sound.ensures.size in let g = c.requires.bounds.grow in
+    let n = counted c.args.kernel.now c.args.lit c.args.ids.now c.args.others.now c.weight.result c.weight-2.result c.sound.ensures c.requires.ids c.requires.others c.weight.ensures c.weight-2.ensures in
+    let g = c.requires.bounds.grow in
     omega arith
 
 pub keeps_limits-requires-clause-size : goal.keeps_limits-requires-clause-size
 keeps_limits-requires-clause-size c =
-    let a = ids-small c.args.kernel.now c.args.lit c.args.ids.now c.requires.ids in
-    let b = ids-small c.args.kernel.now (negation c.args.lit) c.args.others.now c.requires.others in
-    let a0 = a.0 in let a1 = a.1 in let b0 = b.0 in let b1 = b.1 in
-    let x = c.weight.ensures in let y = c.weight-2.ensures in
-    let z = c.sound.ensures.size in let g = c.requires.bounds.grow in
+    let n = counted c.args.kernel.now c.args.lit c.args.ids.now c.args.others.now c.weight.result c.weight-2.result c.sound.ensures c.requires.ids c.requires.others c.weight.ensures c.weight-2.ensures in
+    let g = c.requires.bounds.grow in
     omega arith
 
 pub gain_of-requires-clause-live : goal.gain_of-requires-clause-live
@@ -86,40 +84,28 @@ gain_of-requires-clause-plain_others c =
 
 pub keeps_limits-requires-clause-gain : goal.keeps_limits-requires-clause-gain
 keeps_limits-requires-clause-gain c =
-    let a = ids-small c.args.kernel.now c.args.lit c.args.ids.now c.requires.ids in
-    let b = ids-small c.args.kernel.now (negation c.args.lit) c.args.others.now c.requires.others in
-    let a0 = a.0 in let a1 = a.1 in let b0 = b.0 in let b1 = b.1 in
-    let x = c.weight.ensures in let y = c.weight-2.ensures in
-    let z = c.sound.ensures.size in let gr = c.requires.bounds.grow in
-    let k = c.args.kernel.now in
-    let V = resolve_all c.args.lit (clauses_at (slots k) c.args.ids.now) (clauses_at (slots k) c.args.others.now) in
-    let e : c.weight.result + c.weight-2.result ≡ size_of (clauses_at (slots k) c.args.ids.now) + size_of (clauses_at (slots k) c.args.others.now) = (let x = c.weight.ensures in let y = c.weight-2.ensures in omega arith) in
-    let i = subst (λ (o : Option Gain). IsGain no_gain V (c.weight.result + c.weight-2.result + c.args.bounds.now.grow) o) c.in-Some-2.is c.in_ok-gain.ensures in
-    let r = (gain-told k c.args.lit c.args.ids.now c.args.others.now c.requires.ids c.requires.others (c.weight.result + c.weight-2.result + c.args.bounds.now.grow) c.in-Some-2.gain i).2 in
+    let n = counted c.args.kernel.now c.args.lit c.args.ids.now c.args.others.now c.weight.result c.weight-2.result c.sound.ensures c.requires.ids c.requires.others c.weight.ensures c.weight-2.ensures in
+    let g = c.requires.bounds.grow in
+    let i = rw c.in-Some-2.is at c.in_ok-gain.ensures in
+    let r = (gain-told c.args.kernel.now c.args.lit c.args.ids.now c.args.others.now c.requires.ids c.requires.others (c.weight.result + c.weight-2.result + c.args.bounds.now.grow) c.in-Some-2.gain i).2 in
     omega arith
 
 pub returns-in_default-2-clause-none : goal.returns-in_default-2-clause-none
 returns-in_default-2-clause-none c f m =
     let k = c.args.kernel.now in
-    let V = resolve_all c.args.lit (clauses_at (slots k) c.args.ids.now) (clauses_at (slots k) c.args.others.now) in
-    let bound = c.weight.result + c.weight-2.result + c.args.bounds.now.grow in
-    let e : bound ≡ size_of (clauses_at (slots k) c.args.ids.now) + size_of (clauses_at (slots k) c.args.others.now) + c.args.bounds.now.grow = (let x = c.weight.ensures in let y = c.weight-2.ensures in omega arith) in
-    let i = subst (λ (o : Option Gain). IsGain no_gain V bound o) c.in_default-2.is c.in_ok-gain.ensures in
-    gain-passed k c.args.lit c.args.ids.now c.args.others.now c.requires.ids c.requires.others bound c.args.bounds.now.grow e i m.small
+    let grow = c.args.bounds.now.grow in
+    let bound = c.weight.result + c.weight-2.result + grow in
+    let e : bound ≡ size_of (clauses_at (slots k) c.args.ids.now) + size_of (clauses_at (slots k) c.args.others.now) + grow = (λ j. c.weight.ensures j + c.weight-2.ensures j + grow) in
+    let i = rw c.in_default-2.is at c.in_ok-gain.ensures in
+    gain-passed k c.args.lit c.args.ids.now c.args.others.now c.requires.ids c.requires.others bound grow e i m.small
 
 pub returns-then-keeps_limits-clause-some : goal.returns-then-keeps_limits-clause-some
 returns-then-keeps_limits-clause-some c p q =
-    let k = c.args.kernel.now in
-    let V = resolve_all c.args.lit (clauses_at (slots k) c.args.ids.now) (clauses_at (slots k) c.args.others.now) in
-    let e : c.weight.result + c.weight-2.result ≡ size_of (clauses_at (slots k) c.args.ids.now) + size_of (clauses_at (slots k) c.args.others.now) = (let x = c.weight.ensures in let y = c.weight-2.ensures in omega arith) in
-    let i = subst (λ (o : Option Gain). IsGain no_gain V (c.weight.result + c.weight-2.result + c.args.bounds.now.grow) o) c.in-Some-2.is c.in_ok-gain.ensures in
-    planned k c.args.lit c.args.ids.now c.args.others.now c.requires.ids c.requires.others c.args.bounds.now.grow (c.weight.result + c.weight-2.result) c.in-Some.outer c.in-Some-2.gain e c.requires.limits
+    let i = rw c.in-Some-2.is at c.in_ok-gain.ensures in
+    planned c.args.kernel.now c.args.lit c.args.ids.now c.args.others.now c.requires.ids c.requires.others c.args.bounds.now.grow (c.weight.result + c.weight-2.result) c.in-Some.outer c.in-Some-2.gain (λ j. c.weight.ensures j + c.weight-2.ensures j) c.requires.limits
     (c.in-Some.ensures.split c.in-Some.outer refl) (c.in-Some.ensures.sign c.in-Some.outer refl) i (c.keeps_limits.ensures.0 c.if-keeps_limits.true) p q
 
 pub returns-else-keeps_limits-clause-none : goal.returns-else-keeps_limits-clause-none
 returns-else-keeps_limits-clause-none c f m =
-    let k = c.args.kernel.now in
-    let V = resolve_all c.args.lit (clauses_at (slots k) c.args.ids.now) (clauses_at (slots k) c.args.others.now) in
-    let e : c.weight.result + c.weight-2.result ≡ size_of (clauses_at (slots k) c.args.ids.now) + size_of (clauses_at (slots k) c.args.others.now) = (let x = c.weight.ensures in let y = c.weight-2.ensures in omega arith) in
-    let i = subst (λ (o : Option Gain). IsGain no_gain V (c.weight.result + c.weight-2.result + c.args.bounds.now.grow) o) c.in-Some-2.is c.in_ok-gain.ensures in
-    true≢false (sym (c.keeps_limits.ensures.1 (unplanned k c.args.lit c.args.ids.now c.args.others.now c.requires.ids c.requires.others c.args.bounds.now.grow (c.weight.result + c.weight-2.result) c.in-Some-2.gain e i m)) ∙ c.if-keeps_limits.false)
+    let i = rw c.in-Some-2.is at c.in_ok-gain.ensures in
+    true≢false (sym (c.keeps_limits.ensures.1 (unplanned c.args.kernel.now c.args.lit c.args.ids.now c.args.others.now c.requires.ids c.requires.others c.args.bounds.now.grow (c.weight.result + c.weight-2.result) c.in-Some-2.gain (λ j. c.weight.ensures j + c.weight-2.ensures j) i m)) ∙ c.if-keeps_limits.false)

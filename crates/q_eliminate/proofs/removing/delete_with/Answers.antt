@@ -1,12 +1,10 @@
-use Rattle.std.proofs.Common.{◌≡◌, ◌∙◌, Some, refl, sym, subst, arith}
+use Rattle.std.proofs.Common.{◌∙◌, refl, sym, subst, arith}
+use Rattle.std.proofs.lemmas.Option.{same_Some}
 use Rattle.q_logic.specs.Formulas.{Clause, IsIn}
 use Rattle.q_kernel.specs.Kernels.{HoldsLiteral}
 use Rattle.q_rule.proofs.Clearing.{size-deleted}
 use Rattle.q_eliminate.proofs.Going.{shrinking-begun, may-shrink, shrinking-more, shrinking-done}
 use Rattle.q_eliminate.proofs.removing.delete_with.Goals as goal
-
-same : (C D : Clause) → Some C ≡ Some D → C ≡ D
-same C D e = cc
 
 pub loop-id-init : goal.loop-id-init
 loop-id-init c = shrinking-begun c.args.lit c.args.kernel.now c.requires.bytes
@@ -28,7 +26,7 @@ loop-id-preserved c =
     let k = c.loop-id.kernel in
     let held : HoldsLiteral k c.in-Some.id c.args.lit = c.in-Some.ensures.some c.in-Some.id refl in
     shrinking-more c.args.lit c.args.kernel.now k c.delete_pivot.new.self c.in-Some.id c.sound.ensures
-    (λ C e. subst (λ (x : Clause). IsIn c.args.lit x) (same held.0 C (sym held.1 ∙ e)) held.2)
+    (λ C e. subst (λ (x : Clause). IsIn c.args.lit x) (same_Some held.0 C (sym held.1 ∙ e)) held.2)
     c.loop-id.invariant c.delete_pivot.ensures
 
 pub returns : goal.returns

@@ -1,8 +1,9 @@
-use Rattle.std.proofs.Common.{◌≡◌, ◌≤◌, ◌<◌, ◌+◌, ◌++◌, ◌∷◌, [], ◌⊎◌, ◌∙◌, length, drop, inl, inr, sym, ap, arith, append_assoc}
+use Rattle.std.proofs.Common.{◌≡◌, ◌≤◌, ◌<◌, ◌+◌, ◌++◌, ◌∷◌, [], ◌⊎◌, ◌∙◌, ℕ, length, drop, inl, inr, sym, ap, arith, append_assoc}
 use Rattle.q_logic.specs.Literals.{Literal, negation, pack}
 use Rattle.q_logic.specs.Formulas.{Clause}
 use Rattle.q_logic.specs.Pivots.{without}
 use Rattle.q_logic.specs.Sets.{union}
+use Rattle.q_logic.specs.Eliminating.{resolvent}
 use Rattle.q_logic.proofs.Ordering.{pairs-ordered}
 use Rattle.q_eliminate.proofs.Merging.{next-first, next-second, next-both, merged-end}
 use Rattle.q_eliminate.proofs.resolving.resolve.Goals as goal
@@ -12,77 +13,59 @@ use Rattle.q_eliminate.proofs.resolving.resolve.Goals.{then-loop-i-test+else-j-s
 moved : (old new P U V R : Clause) → new ≡ old ++ P → U ≡ P ++ V → old ++ U ≡ R → new ++ V ≡ R
 moved old new P U V R e f g = ap (λ (X : Clause). X ++ V) e ∙ (append_assoc old P V ∙ (ap (λ (X : Clause). old ++ X) (sym f) ∙ g))
 
+-- what is left of both clauses, from two places on
+abbrev left : Literal → Clause → Clause → ℕ → ℕ → Clause
+left l C D i j = union (without l (drop i C)) (without (negation l) (drop j D))
+
 pub loop-i-preserved-then-index : goal.loop-i-preserved-then-index
 loop-i-preserved-then-index c =
-    let C = c.args.first.now in
-    let D = c.args.second.now in
-    let l = c.args.lit in
-    let i = c.loop-i.i in
-    let j = c.loop-i.j in
-    let a = c.index-first-i.result in
-    let b = c.index-second-j.result in
+    let C = c.args.first.now in let D = c.args.second.now in let l = c.args.lit in
+    let i = c.loop-i.i in let j = c.loop-i.j in
+    let a = c.index-first-i.result in let b = c.index-second-j.result in
     let below : pack a < pack b = (let x = c.index.ensures in let y = c.index-in-loop-i.ensures in let z = c.if-index.true in omega arith) in
-    let inv = c.loop-i.invariant in
-    let inv1 = inv.first in let inv2 = inv.second in let inv3 = inv.room in let inv4 = inv.same in
-    let t1 = c.loop-i-test.true in let t2 = c.if-j-second.true in
-    let p = c.push_but.ensures.len in let q = c.push_but.ensures.room in
+    let inv = c.loop-i.invariant in let new = c.push_but.ensures in
     record {
-      items = moved c.loop-i.into.items c.push_but.new.into.items (without l (a ∷ [])) (union (without l (drop i C)) (without (negation l) (drop j D))) (union (without l (drop (i + 1) C)) (without (negation l) (drop j D)))
-          (Rattle.q_logic.specs.Eliminating.resolvent l C D) c.push_but.ensures.items
-          (next-first l (negation l) C D i j a b (pairs-ordered C c.requires.first) (pairs-ordered D c.requires.second) t1 t2 c.index-first-i.is c.index-second-j.is below) inv.items;
+      items = moved c.loop-i.into.items c.push_but.new.into.items (without l (a ∷ [])) (left l C D i j) (left l C D (i + 1) j) (resolvent l C D) new.items
+          (next-first l (negation l) C D i j a b (pairs-ordered C c.requires.first) (pairs-ordered D c.requires.second) c.loop-i-test.true c.if-j-second.true c.index-first-i.is c.index-second-j.is below) inv.items;
       first = omega arith;
       second = inv.second;
       room = omega arith;
-      same = q ∙ inv.same;
+      same = new.room ∙ inv.same;
     }
 
 pub loop-i-preserved-then-index-2 : goal.loop-i-preserved-then-index-2
 loop-i-preserved-then-index-2 c =
-    let C = c.args.first.now in
-    let D = c.args.second.now in
-    let l = c.args.lit in
-    let i = c.loop-i.i in
-    let j = c.loop-i.j in
-    let a = c.index-first-i.result in
-    let b = c.index-second-j.result in
+    let C = c.args.first.now in let D = c.args.second.now in let l = c.args.lit in
+    let i = c.loop-i.i in let j = c.loop-i.j in
+    let a = c.index-first-i.result in let b = c.index-second-j.result in
     let below : pack b < pack a = (let x = c.index-else-index.ensures in let y = c.index-else-index-2.ensures in let z = c.if-index-2.true in omega arith) in
-    let inv = c.loop-i.invariant in
-    let inv1 = inv.first in let inv2 = inv.second in let inv3 = inv.room in let inv4 = inv.same in
-    let t1 = c.loop-i-test.true in let t2 = c.if-j-second.true in
-    let p = c.push_but-then-index-2.ensures.len in let q = c.push_but-then-index-2.ensures.room in
+    let inv = c.loop-i.invariant in let new = c.push_but-then-index-2.ensures in
     record {
-      items = moved c.loop-i.into.items c.push_but-then-index-2.new.into.items (without (negation l) (b ∷ [])) (union (without l (drop i C)) (without (negation l) (drop j D))) (union (without l (drop i C)) (without (negation l) (drop (j + 1) D)))
-          (Rattle.q_logic.specs.Eliminating.resolvent l C D) (c.push_but-then-index-2.ensures.items ∙ ap (λ (n : Literal). c.loop-i.into.items ++ without n (b ∷ [])) c.negated-own.ensures)
-          (next-second l (negation l) C D i j a b (pairs-ordered C c.requires.first) (pairs-ordered D c.requires.second) t1 t2 c.index-first-i.is c.index-second-j.is below) inv.items;
+      items = moved c.loop-i.into.items c.push_but-then-index-2.new.into.items (without (negation l) (b ∷ [])) (left l C D i j) (left l C D i (j + 1)) (resolvent l C D)
+          (new.items ∙ ap (λ (n : Literal). c.loop-i.into.items ++ without n (b ∷ [])) c.negated-own.ensures)
+          (next-second l (negation l) C D i j a b (pairs-ordered C c.requires.first) (pairs-ordered D c.requires.second) c.loop-i-test.true c.if-j-second.true c.index-first-i.is c.index-second-j.is below) inv.items;
       first = inv.first;
       second = omega arith;
       room = omega arith;
-      same = q ∙ inv.same;
+      same = new.room ∙ inv.same;
     }
 
 pub loop-i-preserved : goal.loop-i-preserved
 loop-i-preserved c =
-    let C = c.args.first.now in
-    let D = c.args.second.now in
-    let l = c.args.lit in
-    let i = c.loop-i.i in
-    let j = c.loop-i.j in
-    let a = c.index-first-i.result in
-    let b = c.index-second-j.result in
+    let C = c.args.first.now in let D = c.args.second.now in let l = c.args.lit in
+    let i = c.loop-i.i in let j = c.loop-i.j in
+    let a = c.index-first-i.result in let b = c.index-second-j.result in
     let not_above : pack a ≤ pack b = (let x = c.index-else-index.ensures in let y = c.index-else-index-2.ensures in let z = c.if-index-2.false in omega arith) in
     let not_below : pack b ≤ pack a = (let x = c.index.ensures in let y = c.index-in-loop-i.ensures in let z = c.if-index.false in omega arith) in
-    let inv = c.loop-i.invariant in
-    let inv1 = inv.first in let inv2 = inv.second in let inv3 = inv.room in let inv4 = inv.same in
-    let t1 = c.loop-i-test.true in let t2 = c.if-j-second.true in
-    let p = c.push_but-else-index-2.ensures.len in let q = c.push_but-else-index-2.ensures.room in
+    let inv = c.loop-i.invariant in let new = c.push_but-else-index-2.ensures in
     record {
-      items = moved c.loop-i.into.items c.push_but-else-index-2.new.into.items (without (negation l) (b ∷ [])) (union (without l (drop i C)) (without (negation l) (drop j D))) (union (without l (drop (i + 1) C)) (without (negation l) (drop (j + 1) D)))
-          (Rattle.q_logic.specs.Eliminating.resolvent l C D) (c.push_but-else-index-2.ensures.items ∙ ap (λ (n : Literal). c.loop-i.into.items ++ without n (b ∷ [])) c.negated-own.ensures)
-          (next-both l (negation l) C D i j a b (pairs-ordered C c.requires.first) (pairs-ordered D c.requires.second) t1 t2 c.index-first-i.is c.index-second-j.is not_above not_below c.requires.no_negation c.requires.no_literal) inv.items;
+      items = moved c.loop-i.into.items c.push_but-else-index-2.new.into.items (without (negation l) (b ∷ [])) (left l C D i j) (left l C D (i + 1) (j + 1)) (resolvent l C D)
+          (new.items ∙ ap (λ (n : Literal). c.loop-i.into.items ++ without n (b ∷ [])) c.negated-own.ensures)
+          (next-both l (negation l) C D i j a b (pairs-ordered C c.requires.first) (pairs-ordered D c.requires.second) c.loop-i-test.true c.if-j-second.true c.index-first-i.is c.index-second-j.is not_above not_below c.requires.no_negation c.requires.no_literal) inv.items;
       first = omega arith;
       second = omega arith;
       room = omega arith;
-      same = q ∙ inv.same;
+      same = new.room ∙ inv.same;
     }
 
 pub returns-clause-resolvent : goal.returns-clause-resolvent

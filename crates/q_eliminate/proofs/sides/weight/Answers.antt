@@ -1,9 +1,8 @@
 use Rattle.std.proofs.Common.{◌≡◌, ◌+◌, ◌<◌, ℕ, ap, arith, drop, length, get_or, List}
 use Rattle.q_logic.specs.Formulas.{Clause}
-use Rattle.q_logic.specs.Numbered.{Slots, slot}
+use Rattle.q_logic.specs.Numbered.{Slots, slot, clauses_at}
 use Rattle.q_logic.specs.Measure.{size_of}
 use Rattle.q_kernel.specs.Kernels.{slots}
-use Rattle.q_eliminate.specs.Sides.{clauses_at}
 use Rattle.q_eliminate.proofs.Along.{at-next, at-end, live-at}
 use Rattle.q_eliminate.proofs.sides.weight.Goals as goal
 

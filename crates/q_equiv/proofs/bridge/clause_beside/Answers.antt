@@ -1,13 +1,11 @@
-use Rattle.std.proofs.Common.{◌≡◌, ◌++◌, ◌∷◌, [], ℕ, List, Option, Some, get_or, sym, ◌∙◌, ap, subst, inl, inr}
+use Rattle.std.proofs.Common.{◌≡◌, ◌++◌, ◌∷◌, [], ℕ, List, Option, get_or, sym, ◌∙◌, ap, subst, inl, inr}
+use Rattle.std.proofs.lemmas.Option.{same_Some}
 use Rattle.q_arena.specs.Rings.{Has}
 use Rattle.q_occ.specs.Places.{places_of}
 use Rattle.q_kernel.specs.Kernels.{HoldsLiteral}
 use Rattle.q_kernel.proofs.Following.{passed, passed-none, Has-last}
 use Rattle.q_rule.proofs.Places.{passed-step, passed-falls}
 use Rattle.q_equiv.proofs.bridge.clause_beside.Goals as goal
-
-one : (a b : ℕ) → Some a ≡ Some b → a ≡ b
-one a b e = cc
 
 pub owner-id-requires : goal.owner-id-requires
 owner-id-requires c = (c.args.lit, c.loop-at.invariant.listed c.in-Some.place c.in-Some.is)
@@ -51,7 +49,7 @@ loop-at-preserved c =
 
 pub returns-then-id-bridge-2-clause-some : goal.returns-then-id-bridge-2-clause-some
 returns-then-id-bridge-2-clause-some c id e =
-    let q : c.owner-id.result ≡ id = one c.owner-id.result id e in
+    let q : c.owner-id.result ≡ id = same_Some c.owner-id.result id e in
     let there : Has (places_of c.args.kernel.now.lists c.args.lit) c.in-Some.place = c.loop-at.invariant.listed c.in-Some.place c.in-Some.is in
     let held : HoldsLiteral c.args.kernel.now id c.args.lit = subst (λ (x : ℕ). HoldsLiteral c.args.kernel.now x c.args.lit) q (c.owner-id.ensures.holds c.args.lit there) in
     (λ f. c.if-id-bridge.true (q ∙ f), λ f. c.if-id-bridge-2.true (q ∙ f), held)

@@ -1,20 +1,15 @@
-use Rattle.std.proofs.Common.{◌≡◌, ◌<◌, ◌+◌, ◌⊎◌, ℕ, Some, slice_get, sym, ◌∙◌, ap, subst, inl, inr, arith}
+use Rattle.std.proofs.Common.{◌≡◌, slice_get, sym, ◌∙◌, ap, subst, inl, inr, arith}
+use Rattle.std.proofs.lemmas.Option.{same_Some}
 use Rattle.q_logic.specs.Literals.{Literal, negation}
 use Rattle.q_logic.specs.Formulas.{IsIn}
 use Rattle.q_logic.specs.Numbered.{live}
 use Rattle.q_logic.specs.Merging.{Mergeable}
 use Rattle.q_kernel.specs.Kernels.{slots}
-use Rattle.q_rule.proofs.Members.{test-false}
-use Rattle.q_equiv.proofs.Walks.{place-member, member-place}
+use Rattle.q_logic.proofs.Members.{test-false}
+use Rattle.q_equiv.proofs.Walks.{earlier, place-member, member-place}
 use Rattle.q_equiv.proofs.Turned.{back-way, both-gathered}
 use Rattle.q_equiv.proofs.finding.pick.Goals as goal
 use Rattle.q_equiv.proofs.finding.pick.Goals.{else-has-via-then-has+else-can_stand_for, else-has-via-else-has}
-
-one : (k l : Literal) → Some k ≡ Some l → k ≡ l
-one k l e = cc
-
-last_or : (j v : ℕ) → j < v + 1 → (j < v) ⊎ (j ≡ v)
-last_or j v h = grind arith
 
 pub returns-then-can_stand_for : goal.returns-then-can_stand_for
 returns-then-can_stand_for c =
@@ -31,18 +26,18 @@ returns-then-can_stand_for c =
       to_keep = c.requires.2.linked keep (place-member c.args.there.now c.loop-place.place keep c.at-keep.ensures);
     } in
     record {
-      some = λ x e. subst (λ (y : Literal). Mergeable k.prefix X y c.args.gone) (one keep x e) m;
+      some = λ x e. subst (λ (y : Literal). Mergeable k.prefix X y c.args.gone) (same_Some keep x e) m;
       none = λ e. absurd (cc);
     }
 
 pub loop-place-preserved : goal.loop-place-preserved
-loop-place-preserved c j x low e m = elim (last_or j c.loop-place.place low) [
+loop-place-preserved c j x low e m = elim (earlier j c.loop-place.place low) [
   | inl l ↦ c.loop-place.invariant j x l e m
   | inr q ↦
       let k = c.args.kernel.now in
       let X = live (slots k) in
       let keep = c.at-keep.result in
-      let s : x ≡ keep = one x keep (sym e ∙ (ap (slice_get c.args.there.now) q ∙ c.at-keep.ensures)) in
+      let s : x ≡ keep = same_Some x keep (sym e ∙ (ap (slice_get c.args.there.now) q ∙ c.at-keep.ensures)) in
       let n : Mergeable k.prefix X keep c.args.gone = subst (λ (y : Literal). Mergeable k.prefix X y c.args.gone) s m in
       let both = both-gathered c.requires.0 k.prefix X keep c.args.gone c.args.there.now c.args.back.now c.requires.1 c.requires.2 c.requires.3 n in
       elim c.else-has.branch [

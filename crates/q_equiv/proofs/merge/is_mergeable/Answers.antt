@@ -1,6 +1,7 @@
 use Rattle.q_logic.specs.Numbered.{live}
+use Rattle.q_logic.specs.Merging.{Mergeable}
 use Rattle.q_kernel.specs.Kernels.{slots}
-use Rattle.q_equiv.proofs.Turned.{turned-mergeable}
+use Rattle.q_equiv.proofs.Turned.{turned-mergeable, same-test}
 use Rattle.q_equiv.proofs.merge.is_mergeable.Goals as goal
 
 pub returns : goal.returns
@@ -8,6 +9,5 @@ returns c =
     let k = c.args.kernel.now in
     let s = c.can_stand_for.ensures.0 c.if-not-can_stand_for.false in
     let there = c.in_ok-is_joined.ensures.0 c.if-not-branch.false in
-    let turned = rw c.negated-2.ensures at (rw c.negated.ensures at c.in_ok-turned.ensures) in
-    let both = turned-mergeable k.prefix (live (slots k)) c.args.keep c.args.gone s there in
-    ((λ t. both.0 (turned.0 t)), (λ m. turned.1 (both.1 m)))
+    let turned = rw c.negated-2.ensures at (rw c.negated.ensures at c.is_joined-2.ensures) in
+    same-test _ (Mergeable k.prefix (live (slots k)) c.args.keep c.args.gone) c.is_joined-2.result (turned-mergeable k.prefix (live (slots k)) c.args.keep c.args.gone s there) turned

@@ -1,5 +1,5 @@
 use Rattle.std.proofs.Common.{◌≡◌, ◌∙◌, ◌++◌, ◌∷◌, [], ℕ, List, Option, Some, get_or, sym, ap, subst, inl, inr}
-use Rattle.q_logic.specs.Formulas.{Clause}
+use Rattle.std.proofs.lemmas.Option.{same_Some}
 use Rattle.q_logic.specs.Numbered.{slot}
 use Rattle.q_arena.specs.Rings.{Has}
 use Rattle.q_occ.specs.Places.{places_of}
@@ -7,7 +7,7 @@ use Rattle.q_kernel.specs.Kernels.{slots, HoldsLiteral}
 use Rattle.q_kernel.proofs.Following.{passed, passed-none, Has-last}
 use Rattle.q_kernel.proofs.Slotting.{IsIn-slot}
 use Rattle.q_rule.proofs.Places.{passed-step, passed-falls}
-use Rattle.q_rule.proofs.Members.{test-false}
+use Rattle.q_logic.proofs.Members.{test-false}
 use Rattle.q_expand.proofs.changing.find_clause.Goals as goal
 
 pub loop-at-init : goal.loop-at-init
@@ -36,9 +36,6 @@ loop-at-smaller c =
     let there : Has ys p = c.loop-at.invariant.listed p c.in-Some.is in
     passed-falls p c.loop-at.at c.next-at.result ys (c.sound.ensures.apart c.args.lit) c.in-Some.is there (c.next-at.ensures.next c.args.lit there)
 
-same : (C D : Clause) → Some C ≡ Some D → C ≡ D
-same C D e = cc
-
 pub loop-at-preserved : goal.loop-at-preserved
 loop-at-preserved c =
     let k = c.args.kernel.now in
@@ -52,7 +49,7 @@ loop-at-preserved c =
         | inl a ↦ c.loop-at.invariant.other q a
         | inr e ↦ (λ f.
             let o : slot (slots k) c.owner-id.result ≡ Some c.args.clause.now = ap (slot (slots k)) (c.owner-id.ensures.value ∙ ap (λ (x : ℕ). get_or k.lists.owners x 0) (sym e)) ∙ f in
-            test-false c.is_same.result c.is_same.ensures c.if-is_same.false (same c.lits.result.now c.args.clause.now (sym c.lits.ensures.clause ∙ o)))
+            test-false c.is_same.result c.is_same.ensures c.if-is_same.false (same_Some c.lits.result.now c.args.clause.now (sym c.lits.ensures.clause ∙ o)))
       ];
     }
 

@@ -1,12 +1,10 @@
-use Rattle.std.proofs.Common.{◌≡◌, ◌∙◌, Some, sym, subst, refl}
-use Rattle.q_logic.specs.Formulas.{Clause, IsIn}
+use Rattle.std.proofs.Common.{◌∙◌, sym, subst, refl}
+use Rattle.std.proofs.lemmas.Option.{same_Some}
+use Rattle.q_logic.specs.Formulas.{IsIn}
 use Rattle.q_kernel.specs.Kernels.{HoldsLiteral}
 use Rattle.q_rule.proofs.Clearing.{with-falls}
 use Rattle.q_expand.proofs.Losing.{losing-begun, may-lose, losing-room, losing-more, losing-done}
 use Rattle.q_expand.proofs.dropping.drop_all.Goals as goal
-
-same : (C D : Clause) → Some C ≡ Some D → C ≡ D
-same C D e = cc
 
 pub loop-place-init : goal.loop-place-init
 loop-place-init c = losing-begun c.args.lit c.args.kernel.now c.requires.apart
@@ -25,13 +23,13 @@ loop-place-smaller c =
     let k = c.loop-place.kernel in
     let held : HoldsLiteral k c.owner-id.result c.args.lit = c.owner-id.ensures.holds c.args.lit (c.in-Some.ensures.there c.in-Some.place refl) in
     let d = c.drop_reach.ensures in
-    with-falls c.args.lit k c.drop_reach.new.self c.owner-id.result d.clause d.was (subst (IsIn c.args.lit) (same held.0 d.clause (sym held.1 ∙ d.was)) held.2) d.change
+    with-falls c.args.lit k c.drop_reach.new.self c.owner-id.result d.clause d.was (subst (IsIn c.args.lit) (same_Some held.0 d.clause (sym held.1 ∙ d.was)) held.2) d.change
 
 pub loop-place-preserved : goal.loop-place-preserved
 loop-place-preserved c =
     let k = c.loop-place.kernel in
     let held : HoldsLiteral k c.owner-id.result c.args.lit = c.owner-id.ensures.holds c.args.lit (c.in-Some.ensures.there c.in-Some.place refl) in
-    losing-more c.args.lit c.args.kernel.now k c.drop_reach.new.self c.owner-id.result c.sound.ensures (λ C e. subst (IsIn c.args.lit) (same held.0 C (sym held.1 ∙ e)) held.2) c.loop-place.invariant c.drop_reach.ensures
+    losing-more c.args.lit c.args.kernel.now k c.drop_reach.new.self c.owner-id.result c.sound.ensures (λ C e. subst (IsIn c.args.lit) (same_Some held.0 C (sym held.1 ∙ e)) held.2) c.loop-place.invariant c.drop_reach.ensures
 
 pub returns : goal.returns
 returns c = losing-done c.args.lit c.args.kernel.now c.loop-place.kernel (c.first.ensures.none c.in_default.is) c.loop-place.invariant

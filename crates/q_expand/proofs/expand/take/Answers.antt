@@ -1,4 +1,4 @@
-use Rattle.std.proofs.Common.{◌≤◌, ◌*◌, ◌∙◌, sym, subst, ap}
+use Rattle.std.proofs.Common.{◌≤◌, ◌*◌, ◌∙◌, refl, sym, subst, ap}
 use Rattle.std.specs.Vec.{vec_capacity}
 use Rattle.q_logic.specs.Literals.{Literal, negation}
 use Rattle.q_logic.specs.Measure.{size_of}
@@ -9,7 +9,7 @@ use Rattle.q_kernel.specs.Kernels.{slots}
 use Rattle.q_rule.proofs.Becoming.{swept-result}
 use Rattle.q_expand.specs.Apart.{MayLose, HasLost}
 use Rattle.q_expand.proofs.Finishing.{may-first, bytes-first, may-second, bytes-second, changed}
-use Rattle.q_expand.proofs.Taking.{u-range, part-small, part-below, part-others, room-for, can-part, arrived}
+use Rattle.q_expand.proofs.Taking.{u-range, part-copies, room-for, can-part, arrived}
 use Rattle.q_expand.proofs.expand.take.Goals as goal
 
 pub new-lit-requires-clause-positive : goal.new-lit-requires-clause-positive
@@ -20,17 +20,9 @@ pub new-lit-requires-clause-small : goal.new-lit-requires-clause-small
 new-lit-requires-clause-small c =
     (u-range c.requires.applies.0 c.args.kernel.now c.args.u c.args.region.now c.sound.ensures c.requires.whole c.requires.applies.1 c.requires.applies.2).1
 
-pub part-requires-clause-small : goal.part-requires-clause-small
-part-requires-clause-small c =
-    part-small c.requires.applies.0 c.args.kernel.now c.args.u c.args.region.now c.sound.ensures c.requires.whole c.requires.applies.1 c.requires.applies.2 c.new-lit.result.var c.args.order.now c.greatest_var.result (ap (λ (l : Literal). l.var) c.new-lit.ensures) c.requires.order c.greatest_var.ensures
-
-pub part-requires-clause-below : goal.part-requires-clause-below
-part-requires-clause-below c =
-    part-below c.requires.applies.0 c.args.kernel.now c.args.u c.args.region.now c.sound.ensures c.requires.whole c.requires.applies.1 c.requires.applies.2 c.new-lit.result.var c.args.order.now c.greatest_var.result (ap (λ (l : Literal). l.var) c.new-lit.ensures) c.requires.order c.greatest_var.ensures
-
-pub part-requires-clause-others : goal.part-requires-clause-others
-part-requires-clause-others c =
-    part-others c.requires.applies.0 c.args.kernel.now c.args.u c.args.region.now c.sound.ensures c.requires.whole c.requires.applies.1 c.requires.applies.2 c.new-lit.result.var c.args.order.now c.greatest_var.result (ap (λ (l : Literal). l.var) c.new-lit.ensures) c.requires.order c.greatest_var.ensures
+pub part-requires-clause-copies : goal.part-requires-clause-copies
+part-requires-clause-copies c =
+    part-copies c.requires.applies.0 c.args.kernel.now c.args.u c.args.region.now c.sound.ensures c.requires.whole c.requires.applies.1 c.requires.applies.2 c.new-lit.result.var c.args.order.now c.greatest_var.result (ap (λ (l : Literal). l.var) c.new-lit.ensures) c.requires.order c.greatest_var.ensures c.new-lit.result (ap (λ (l : Literal). l.negative) c.new-lit.ensures) refl
 
 pub part-requires-clause-room : goal.part-requires-clause-room
 part-requires-clause-room c =

@@ -1,15 +1,15 @@
 use Rattle.std.proofs.Common.{◌≡◌, ◌+◌, drop, arith}
+use Rattle.q_arena.proofs.Following.{get-has}
 use Rattle.q_kernel.specs.Kernels.{slots}
 use Rattle.q_expand.specs.Regions.{tally}
 use Rattle.q_expand.proofs.Barring.{long}
 use Rattle.q_expand.proofs.Budgets.{weight-size}
 use Rattle.q_expand.proofs.Tallying.{tally-most}
 use Rattle.q_expand.proofs.Taking.{weighed-more}
-use Rattle.q_expand.proofs.Waiting.{waits-in}
 use Rattle.q_expand.proofs.expand.weight.Goals as goal
 
 pub lits-requires : goal.lits-requires
-lits-requires c = let p = c.requires.region.connected c.clause.result (waits-in c.args.region.now.met c.loop-i.i c.clause.result c.clause.ensures) in (p.0, p.1)
+lits-requires c = let p = c.requires.region.connected c.clause.result (get-has c.args.region.now.met c.loop-i.i c.clause.result c.clause.ensures) in (p.0, p.1)
 
 pub overflow_add-sum-in-loop-i : goal.overflow_add-sum-in-loop-i
 overflow_add-sum-in-loop-i c =

@@ -2,7 +2,7 @@ use Rattle.std.proofs.Common.{◌≡◌, ◌∙◌, ◌≤◌, true, length, sli
 use Rattle.q_logic.specs.Formulas.{Prefix}
 use Rattle.q_logic.specs.Prefixes.{is_bound}
 use Rattle.q_prefix.specs.Order.{bound_after}
-use Rattle.q_rule.proofs.Members.{test-false, taken-all}
+use Rattle.q_logic.proofs.Members.{test-false, taken-all}
 use Rattle.q_expand.proofs.Marks.{marked_vars, here-bound, here-after, read-more, read-past, read-all}
 use Rattle.q_expand.proofs.ordering.read_order.Goals as goal
 use Rattle.q_expand.proofs.ordering.read_order.Goals.{then-has+in_ok-push, else-has}

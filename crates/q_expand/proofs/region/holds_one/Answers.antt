@@ -1,4 +1,4 @@
-use Rattle.q_rule.proofs.Members.{test-false}
+use Rattle.q_logic.proofs.Members.{test-false}
 use Rattle.q_expand.proofs.Meeting.{held-first, held-second}
 use Rattle.q_expand.proofs.region.holds_one.Goals as goal
 
@@ -7,5 +7,5 @@ returns-then-holds c = held-first c.args.u c.args.clause.now (c.holds.ensures.0 
 
 pub returns : goal.returns
 returns c =
-    let e = rw c.negated.ensures at c.holds-negative.ensures in
-    held-second c.args.u c.args.clause.now c.holds-negative.result c.requires (test-false c.holds.result c.holds.ensures c.if-holds.false) e.0 e.1
+    let e = rw c.negated.ensures at c.holds-2.ensures in
+    held-second c.args.u c.args.clause.now c.holds-2.result c.requires (test-false c.holds.result c.holds.ensures c.if-holds.false) e.0 e.1

@@ -3,7 +3,7 @@ use Rattle.q_logic.specs.Literals.{Literal}
 use Rattle.q_logic.specs.Formulas.{IsIn}
 use Rattle.q_logic.specs.StepForms.{positive}
 use Rattle.q_logic.specs.Expanding.{inner_existential}
-use Rattle.q_rule.proofs.Members.{taken-cases, taken-more, taken-last, taken-all}
+use Rattle.q_logic.proofs.Members.{taken-cases, taken-more, taken-last, taken-all}
 use Rattle.q_expand.specs.Regions.{IsWidened}
 use Rattle.q_expand.proofs.Widening.{widened-begun, widened-left, widened-pushed}
 use Rattle.q_expand.proofs.region.push_inner.Goals as goal

@@ -1,4 +1,5 @@
 use Rattle.std.proofs.Common.{◌≡◌, ◌≤◌, ◌∙◌, ◌+◌, Some, ap, sym, subst, ◌∷◌, [], length}
+use Rattle.std.proofs.lemmas.Option.{same_Some}
 use Rattle.q_logic.specs.Formulas.{Clause}
 use Rattle.q_logic.specs.StepForms.{first_of}
 use Rattle.q_logic.specs.Steps.{add}
@@ -10,12 +11,9 @@ use Rattle.q_expand.proofs.Tracking.{add-may, add-took, add-keeps}
 use Rattle.q_expand.proofs.Parts.{over-ordered}
 use Rattle.q_expand.proofs.splitting.add_over.Goals as goal
 
-same : (C D : Clause) → Some C ≡ Some D → C ≡ D
-same C D e = cc
-
 pub put_over-requires-clause-room : goal.put_over-requires-clause-room
 put_over-requires-clause-room c =
-    let e = same c.requires.room.0 c.lits.result.now (sym c.requires.room.1 ∙ c.lits.ensures.clause) in
+    let e = same_Some c.requires.room.0 c.lits.result.now (sym c.requires.room.1 ∙ c.lits.ensures.clause) in
     subst (λ (D : Clause). length D + 1 ≤ Rattle.std.proofs.Common.vec_capacity c.args.spare.now) e c.requires.room.2
 
 pub add_implied-requires : goal.add_implied-requires
@@ -28,7 +26,7 @@ add_implied-requires c =
 pub returns-clause-taken : goal.returns-clause-taken
 returns-clause-taken c C e =
     let D = c.lits.result.now in
-    let q = same D C (sym c.lits.ensures.clause ∙ e) in
+    let q = same_Some D C (sym c.lits.ensures.clause ∙ e) in
     let W : Clause = over_copies c.args.u.var c.args.order.now c.args.first D in
     let v : c.deref.result.now ≡ W = c.deref.ensures.value ∙ c.put_over.ensures.items in
     subst (λ (x : Clause). HasTaken c.args.kernel.now c.add_implied.new.self (add (first_of (over_copies c.args.u.var c.args.order.now c.args.first x)) (over_copies c.args.u.var c.args.order.now c.args.first x) ∷ [])) q

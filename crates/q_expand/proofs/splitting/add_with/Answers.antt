@@ -1,4 +1,5 @@
 use Rattle.std.proofs.Common.{◌≡◌, ◌≤◌, ◌∙◌, ◌+◌, Some, ap, sym, subst, ◌∷◌, [], length}
+use Rattle.std.proofs.lemmas.Option.{same_Some}
 use Rattle.q_logic.specs.Formulas.{Clause}
 use Rattle.q_logic.specs.Literals.{Literal}
 use Rattle.q_logic.specs.Clauses.{insert}
@@ -11,12 +12,9 @@ use Rattle.q_expand.proofs.Tracking.{add-may, add-took, add-keeps}
 use Rattle.q_expand.proofs.Parts.{positive-of}
 use Rattle.q_expand.proofs.splitting.add_with.Goals as goal
 
-same : (C D : Clause) → Some C ≡ Some D → C ≡ D
-same C D e = cc
-
 pub put_with-requires-clause-room : goal.put_with-requires-clause-room
 put_with-requires-clause-room c =
-    let e = same c.requires.room.0 c.lits.result.now (sym c.requires.room.1 ∙ c.lits.ensures.clause) in
+    let e = same_Some c.requires.room.0 c.lits.result.now (sym c.requires.room.1 ∙ c.lits.ensures.clause) in
     subst (λ (D : Clause). length D + 1 ≤ Rattle.std.proofs.Common.vec_capacity c.args.spare.now) e c.requires.room.2
 
 pub add_implied-requires : goal.add_implied-requires
@@ -29,7 +27,7 @@ add_implied-requires c =
 pub returns-clause-taken : goal.returns-clause-taken
 returns-clause-taken c C e =
     let D = c.lits.result.now in
-    let q = same D C (sym c.lits.ensures.clause ∙ e) in
+    let q = same_Some D C (sym c.lits.ensures.clause ∙ e) in
     let W : Clause = insert (positive c.args.u.var) D in
     let v : c.deref.result.now ≡ W = c.deref.ensures.value ∙ (c.put_with.ensures.items ∙ ap (λ (l : Literal). insert l D) (positive-of c.args.u c.requires.sign)) in
     subst (λ (x : Clause). HasTaken c.args.kernel.now c.add_implied.new.self (add (first_of (insert (positive c.args.u.var) x)) (insert (positive c.args.u.var) x) ∷ [])) q

@@ -3,7 +3,7 @@ use Rattle.q_logic.specs.Literals.{Literal, negation}
 use Rattle.q_logic.specs.Clauses.{clause_of}
 use Rattle.q_logic.specs.Pivots.{without}
 use Rattle.q_logic.specs.StepForms.{positive}
-use Rattle.q_rule.proofs.Members.{test-false, taken-all}
+use Rattle.q_logic.proofs.Members.{test-false, taken-all}
 use Rattle.q_expand.proofs.Parts.{imaged, positive-of, over-left, over-put, over-room, over-done}
 use Rattle.q_logic.specs.Formulas.{Clause}
 use Rattle.q_expand.proofs.splitting.put_over.Goals as goal

@@ -3,7 +3,7 @@ use Rattle.std.proofs.lemmas.List.{length-take-le}
 use Rattle.q_logic.specs.Literals.{Literal}
 use Rattle.q_logic.specs.Clauses.{clause_of, insert}
 use Rattle.q_logic.proofs.ClauseSets.{clause_of-ordered_clause}
-use Rattle.q_rule.proofs.Members.{taken-all}
+use Rattle.q_logic.proofs.Members.{taken-all}
 use Rattle.q_expand.proofs.Parts.{taken}
 use Rattle.q_expand.proofs.splitting.put_with.Goals as goal
 

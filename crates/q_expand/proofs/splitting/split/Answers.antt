@@ -1,4 +1,5 @@
-use Rattle.std.proofs.Common.{◌≡◌, ◌∙◌, ◌∷◌, [], ℕ, List, Some, sym, ap, subst}
+use Rattle.std.proofs.Common.{◌≡◌, ◌∙◌, ◌∷◌, [], ℕ, List, sym, ap, subst}
+use Rattle.std.proofs.lemmas.Option.{same_Some}
 use Rattle.q_logic.specs.Formulas.{Clause}
 use Rattle.q_logic.specs.Clauses.{insert}
 use Rattle.q_logic.specs.StepForms.{positive, first_of}
@@ -9,9 +10,6 @@ use Rattle.q_expand.specs.Tracks.{CanTake, HasTaken}
 use Rattle.q_expand.specs.Steps.{over_copies, split_steps, steps_for}
 use Rattle.q_expand.proofs.Tracking.{took-through, took-same, can-rest, can-first, can-same}
 use Rattle.q_expand.proofs.splitting.split.Goals as goal
-
-same : (C D : Clause) → Some C ≡ Some D → C ≡ D
-same C D e = cc
 
 -- the steps of a clause, one by one
 abbrev over : ℕ → List ℕ → ℕ → Clause → ProofStep
@@ -30,7 +28,7 @@ pub remove-requires-clause-steps : goal.remove-requires-clause-steps
 remove-requires-clause-steps c C e =
     let k = c.args.kernel.now in
     let D = c.lits.result.now in
-    let q : D ≡ C = same D C (sym (c.add_over.ensures.keeps c.args.c D c.lits.ensures.clause) ∙ e) in
+    let q : D ≡ C = same_Some D C (sym (c.add_over.ensures.keeps c.args.c D c.lits.ensures.clause) ∙ e) in
     let t = can-same k (split_steps c.args.u.var c.args.order.now c.args.first D) (steps_for Turns c.args.u.var c.args.order.now c.args.first D) (c.in-Turns.ensures c.args.first) (c.requires.steps D c.lits.ensures.clause) in
     subst (λ (x : Clause). CanTake c.add_over.new.kernel (gone x ∷ [])) q
     (can-rest k c.add_over.new.kernel (over c.args.u.var c.args.order.now c.args.first D ∷ []) (gone D ∷ []) (c.add_over.ensures.taken D c.lits.ensures.clause) t)
@@ -40,7 +38,7 @@ add_with-requires-clause-steps c C e =
     let k = c.args.kernel.now in
     let m = c.add_over-in-Splits.new.kernel in
     let D = c.lits.result.now in
-    let q : D ≡ C = same D C (sym (c.add_over-in-Splits.ensures.keeps c.args.c D c.lits.ensures.clause) ∙ e) in
+    let q : D ≡ C = same_Some D C (sym (c.add_over-in-Splits.ensures.keeps c.args.c D c.lits.ensures.clause) ∙ e) in
     let t = can-same k (split_steps c.args.u.var c.args.order.now c.args.first D) (steps_for Splits c.args.u.var c.args.order.now c.args.first D) (c.in-Splits.ensures c.args.first) (c.requires.steps D c.lits.ensures.clause) in
     subst (λ (x : Clause). CanTake m (with_u c.args.u.var x ∷ [])) q
     (can-first m (with_u c.args.u.var D ∷ []) (gone D ∷ []) (can-rest k m (over c.args.u.var c.args.order.now c.args.first D ∷ []) (with_u c.args.u.var D ∷ gone D ∷ []) (c.add_over-in-Splits.ensures.taken D c.lits.ensures.clause) t))
@@ -57,7 +55,7 @@ remove-requires-in-Splits-clause-steps c C e =
     let n = c.add_with.new.kernel in
     let D = c.lits.result.now in
     let h = c.add_over-in-Splits.ensures.keeps c.args.c D c.lits.ensures.clause in
-    let q : D ≡ C = same D C (sym (c.add_with.ensures.keeps c.args.c D h) ∙ e) in
+    let q : D ≡ C = same_Some D C (sym (c.add_with.ensures.keeps c.args.c D h) ∙ e) in
     let t = can-same k (split_steps c.args.u.var c.args.order.now c.args.first D) (steps_for Splits c.args.u.var c.args.order.now c.args.first D) (c.in-Splits.ensures c.args.first) (c.requires.steps D c.lits.ensures.clause) in
     let two = took-through k m n (over c.args.u.var c.args.order.now c.args.first D ∷ []) (with_u c.args.u.var D ∷ []) (c.add_over-in-Splits.ensures.taken D c.lits.ensures.clause) (c.add_with.ensures.taken D h) in
     subst (λ (x : Clause). CanTake n (gone x ∷ [])) q
@@ -69,7 +67,7 @@ returns-in-Turns-clause-taken c C e =
     let m = c.add_over.new.kernel in
     let n = c.remove.new.kernel in
     let D = c.lits.result.now in
-    let q : D ≡ C = same D C (sym c.lits.ensures.clause ∙ e) in
+    let q : D ≡ C = same_Some D C (sym c.lits.ensures.clause ∙ e) in
     let h = c.add_over.ensures.keeps c.args.c D c.lits.ensures.clause in
     subst (λ (x : Clause). HasTaken k n (split_steps c.args.u.var c.args.order.now c.args.first x)) q
     (took-same k n (steps_for Turns c.args.u.var c.args.order.now c.args.first D) (split_steps c.args.u.var c.args.order.now c.args.first D) (sym (c.in-Turns.ensures c.args.first))
@@ -82,7 +80,7 @@ returns-in-Splits-clause-taken c C e =
     let o = c.add_with.new.kernel in
     let n = c.remove-in-Splits.new.kernel in
     let D = c.lits.result.now in
-    let q : D ≡ C = same D C (sym c.lits.ensures.clause ∙ e) in
+    let q : D ≡ C = same_Some D C (sym c.lits.ensures.clause ∙ e) in
     let h = c.add_over-in-Splits.ensures.keeps c.args.c D c.lits.ensures.clause in
     let g = c.add_with.ensures.keeps c.args.c D h in
     let two = took-through k m o (over c.args.u.var c.args.order.now c.args.first D ∷ []) (with_u c.args.u.var D ∷ []) (c.add_over-in-Splits.ensures.taken D c.lits.ensures.clause) (c.add_with.ensures.taken D h) in

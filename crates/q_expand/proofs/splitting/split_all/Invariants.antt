@@ -1,10 +1,10 @@
 use Rattle.std.proofs.Common.{◌≡◌, ℕ, Some, take, drop, vec_capacity}
 use Rattle.q_logic.specs.Formulas.{Clause}
-use Rattle.q_logic.specs.Numbered.{slot}
+use Rattle.q_logic.specs.Numbered.{slot, clauses_at}
 use Rattle.q_arena.specs.Rings.{Has}
 use Rattle.q_kernel.specs.Kernels.{slots}
 use Rattle.q_expand.specs.Tracks.{HasTaken}
-use Rattle.q_expand.specs.Steps.{all_split, clauses_at}
+use Rattle.q_expand.specs.Steps.{all_split}
 use Rattle.q_expand.proofs.splitting.split_all.Given as goal
 
 abbrev pub invariant-loop-i : goal.invariant-loop-i

@@ -32,7 +32,7 @@ returns-clause-applies c =
     let g = c.in_ok-grow.ensures.whole c.if-not-branch.false in
     let w : IsWhole k u c.grow.new.self = subst (λ (l : Literal). IsWhole k l.var c.grow.new.self) c.new-lit.ensures g.0 in
     let some : 1 ≤ length (clauses_of u (live (slots k))) = omega (arith, n, c.if-own-eq0.false) in
-    let l = rw c.new-lit.ensures at c.keeps_limits-within.ensures in (
+    let l = rw c.new-lit.ensures at c.keeps_limits.ensures in (
       (λ t. record {
         fits = whole-expandable k u c.grow.new.self c.sound.ensures w c.args.bounds.now.expand (sym c.is_universal.ensures ∙ c.if-not-is_universal.false) some g.1.vars (let s = g.1.size in omega (arith, s, n));
         in_limits = l.0 t;

@@ -1,8 +1,8 @@
 use Rattle.std.proofs.Common.{◌≡◌, ◌<◌, ℕ, ◌-◌, length, get_or, false, sym, ap, ◌∙◌, subst, arith, vec_len, Some}
-use Rattle.q_gates.specs.Spreading.{IsSettled}
+use Rattle.q_gates.specs.Spreading.{IsStacked}
 use Rattle.q_gates.specs.Gates.{gates_view}
 use Rattle.q_gates.proofs.Walks.{top-is}
-use Rattle.q_gates.proofs.Spreads.{target-there, pop-spread, top-depends, settled-all, nothing-left}
+use Rattle.q_gates.proofs.Spreads.{target-there, pop-spread, top-depends, stacked-all, nothing-left}
 use Rattle.std.proofs.lemmas.List.{get_or_read}
 use Rattle.q_gates.proofs.cycles.depends_on_itself.Goals as goal
 
@@ -19,8 +19,8 @@ spread-requires-in-loop-stack-clause-spread c =
 pub returns : goal.returns
 returns c =
     let n = nothing-left c.loop-stack.stack.items (vec_len c.loop-stack.stack) c.is_empty.result (omega arith) c.is_empty.ensures c.loop-stack-test.false in
-    let s = subst (IsSettled (gates_view c.args.parts.now) c.args.start c.loop-stack.marks.items) n c.loop-stack.invariant in
+    let s = subst (IsStacked (gates_view c.args.parts.now) c.args.start c.loop-stack.marks.items) n c.loop-stack.invariant in
     let r : length c.loop-stack.marks.items ≡ length (gates_view c.args.parts.now) = c.loop-stack.invariant.room in
     let lt : c.args.start < length (gates_view c.args.parts.now) = c.requires.there in
     let e : c.index.result.now ≡ get_or c.loop-stack.marks.items c.args.start false = get_or_read c.loop-stack.marks.items c.args.start c.index.result.now (omega arith) c.index.ensures false in
-    (λ t. s.reached c.args.start (sym e ∙ t), λ d. e ∙ settled-all (gates_view c.args.parts.now) c.args.start c.loop-stack.marks.items s c.args.start d)
+    (λ t. s.reached c.args.start (sym e ∙ t), λ d. e ∙ stacked-all (gates_view c.args.parts.now) c.args.start c.loop-stack.marks.items s c.args.start d)

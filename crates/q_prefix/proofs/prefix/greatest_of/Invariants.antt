@@ -1,6 +1,6 @@
-use Rattle.std.proofs.Common.{◌≡◌, ◌<◌, ◌≤◌, ℕ, slice_get, Some}
-use Rattle.q_logic.specs.declared.formulas.Bound.{Bound}
+use Rattle.std.proofs.Common.{◌≡◌, drop}
+use Rattle.q_logic.specs.InLimits.{greatest, larger_of}
 use Rattle.q_prefix.proofs.prefix.greatest_of.Given as goal
 
-abbrev pub invariant-loop-k : goal.invariant-loop-k
-invariant-loop-k l = (k : ℕ) (b : Bound) → k < l.k → slice_get l.bounds k ≡ Some b → b.var ≤ l.greatest
+abbrev pub invariant-loop-bound : goal.invariant-loop-bound
+invariant-loop-bound l = larger_of l.greatest (greatest (drop l.bound-index l.bounds)) ≡ greatest l.bounds

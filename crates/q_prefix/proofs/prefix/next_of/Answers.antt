@@ -1,13 +1,14 @@
 use Rattle.std.proofs.Common.{◌≡◌, sym, ◌∙◌, slice_get, Some}
 use Rattle.q_arena.specs.Chains.{list_at}
-use Rattle.q_prefix.proofs.Walks.{get-has, get-next, get-none}
+use Rattle.q_prefix.proofs.Walks.{get-next, get-none}
+use Rattle.q_arena.proofs.Following.{get-has}
 use Rattle.q_prefix.proofs.prefix.next_of.Goals as goal
 
-pub returns-in-Some : goal.returns-in-Some
-returns-in-Some c = λ i e.
+pub returns : goal.returns
+returns c = λ i e.
     let vars = list_at c.args.order.now 0 in
-    let at' : slice_get vars i ≡ Some c.in-Some.var = sym e ∙ c.in-Some.is in
-    c.next.ensures 0 (get-has vars i c.in-Some.var at') ∙ get-next vars i c.in-Some.var (c.distinct.ensures.apart 0) at'
+    let at' : slice_get vars i ≡ Some c.in_ok-var.var = sym e ∙ c.in_ok-var.was in
+    c.next.ensures 0 (get-has vars i c.in_ok-var.var at') ∙ get-next vars i c.in_ok-var.var (c.distinct.ensures.apart 0) at'
 
-pub returns-in-None : goal.returns-in-None
-returns-in-None c = λ i e. sym (get-none (list_at c.args.order.now 0) i (sym e ∙ c.in-None.is))
+pub returns-in_err-var : goal.returns-in_err-var
+returns-in_err-var c = λ i e. c.from_residual.ensures ∙ sym (get-none (list_at c.args.order.now 0) i (sym e ∙ c.in_err-var.was))

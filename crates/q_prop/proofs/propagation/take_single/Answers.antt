@@ -3,7 +3,7 @@ use Rattle.q_prop.specs.Slots.{without}
 use Rattle.q_prop.proofs.SlotLemmas.{test_fails}
 use Rattle.std.proofs.lemmas.List.Elements.{Contains-push}
 use Rattle.q_prop.proofs.SlotLemmas.{filled-in, Contains-slice_get}
-use Rattle.q_prop.proofs.Settling.{single_falsified, single_new, single_true, empty_none}
+use Rattle.q_prop.proofs.Completing.{single_falsified, single_new, single_true, empty_none}
 use Rattle.q_prop.proofs.propagation.take_single.Goals as goal
 
 pub returns-in_default-first-clause-ends : goal.returns-in_default-first-clause-ends

@@ -1,4 +1,4 @@
-use Rattle.std.proofs.Common.{◌≡◌, ℕ, List, Option, Some, None, length, sym, subst, ap, ◌∙◌, get_or}
+use Rattle.std.proofs.Common.{◌≡◌, ℕ, List, Some, None, length, sym, subst, ap, ◌∙◌, get_or}
 use Rattle.q_aig.specs.Nets.{Net}
 use Rattle.q_rebuild.specs.Refusals.{IsStrangeInput, IsFirstOver, input_name}
 use Rattle.q_rebuild.proofs.Reading.{some-strange, no-strange}

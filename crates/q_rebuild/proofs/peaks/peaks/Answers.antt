@@ -1,6 +1,5 @@
-use Rattle.std.proofs.Common.{◌≡◌, ℕ, ◌∷◌, ◌++◌, [], List, max, length, length-append, Some, slice_get, subst, sym, arith}
+use Rattle.std.proofs.Common.{◌≡◌, ℕ, ◌∷◌, ◌++◌, [], length, Some, slice_get, subst, sym, arith}
 use Rattle.std.proofs.lemmas.List.{length_push}
-use Rattle.q_logic.specs.Certificates.{Gate}
 use Rattle.q_aig.specs.Nets.{gate_of}
 use Rattle.q_rebuild.proofs.Weighing.{peaks-more}
 use Rattle.q_rebuild.proofs.peaks.peaks.Goals as goal

@@ -1,19 +1,17 @@
-use Rattle.std.proofs.Common.{◌≡◌, ◌∙◌, Some, sym, subst, true≢false}
+use Rattle.std.proofs.Common.{◌≡◌, ◌∙◌, sym, subst, true≢false}
 use Rattle.q_logic.specs.Literals.{negation}
 use Rattle.q_logic.specs.Formulas.{Clause, IsIn}
 use Rattle.q_logic.specs.Reach.{Reached}
-use Rattle.q_rule.proofs.Members.{test-false}
+use Rattle.q_logic.proofs.Members.{test-false}
+use Rattle.q_arena.proofs.Numbers.{some-same}
 use Rattle.q_reduce.proofs.cut.fits_cut.Goals as goal
 use Rattle.q_reduce.proofs.cut.fits_cut.Goals.{then-not-holds-via-then-not-holds, then-not-holds-via-else-not-holds+then-holds}
-
-same : (C D : Clause) → Some C ≡ Some D → C ≡ D
-same C D e = cc
 
 pub returns-then-not-holds-clause-fits : goal.returns-then-not-holds-clause-fits
 returns-then-not-holds-clause-fits c = (
   λ t. absurd (true≢false (sym t)),
   λ (C, e, r).
-      let q : c.lits-clause.result.now ≡ C = same c.lits-clause.result.now C (sym c.lits-clause.ensures.clause ∙ e) in
+      let q : c.lits-clause.result.now ≡ C = some-same c.lits-clause.result.now C (sym c.lits-clause.ensures.clause ∙ e) in
       absurd (elim c.then-not-holds.branch [
         | then-not-holds-via-then-not-holds w ↦ test-false c.holds.result c.holds.ensures w.if-not-holds.true (subst (λ (x : Clause). IsIn c.args.l x) (sym q) r.in_clause)
         | then-not-holds-via-else-not-holds+then-holds w ↦

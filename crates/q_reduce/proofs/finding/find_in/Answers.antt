@@ -8,9 +8,10 @@ use Rattle.q_kernel.specs.Kernels.{Seen, slots}
 use Rattle.q_reduce.specs.declared.target.Target.{Target}
 use Rattle.q_reduce.specs.declared.target.Target.TheVariants.{Tautology, Unit, Cut, Pure}
 use Rattle.q_reduce.specs.Targets.{target_of}
-use Rattle.q_reduce.specs.Searches.{IsOfClause, IsCutOf, IsFound}
-use Rattle.q_rule.proofs.Members.{test-false}
-use Rattle.q_reduce.proofs.Passing.{found-one, found-none}
+use Rattle.q_rule.specs.Searching.{IsFound}
+use Rattle.q_reduce.specs.Searches.{IsOfClause, IsCutOf}
+use Rattle.q_logic.proofs.Members.{test-false}
+use Rattle.q_rule.proofs.Searching.{found-one, found-none}
 use Rattle.q_reduce.proofs.finding.find_in.Goals as goal
 
 stale : (k : Seen) (c : ℕ) → (((C : Clause) × (slot (slots k) c ≡ Some C)) → ⊥) → (t : Target) → IsOfClause c t → (B : Bounds) → Fits B k.prefix (slots k) (target_of t) → ⊥
@@ -20,15 +21,15 @@ stale k c n (Cut d l) q B f = let g : Fits B k.prefix (slots k) (theory.cut c l)
 stale k c n (Pure l) q B f = q
 
 pub returns-then-not-live-clause-found : goal.returns-then-not-live-clause-found
-returns-then-not-live-clause-found c = found-none c.args.kernel.now (IsOfClause c.args.c) (stale c.args.kernel.now c.args.c (test-false c.live.result c.live.ensures c.if-not-live.true))
+returns-then-not-live-clause-found c = found-none target_of c.args.kernel.now (IsOfClause c.args.c) (stale c.args.kernel.now c.args.c (test-false c.live.result c.live.ensures c.if-not-live.true))
 
 pub returns-then-branch-clause-found : goal.returns-then-branch-clause-found
-returns-then-branch-clause-found c = found-one c.args.kernel.now (IsOfClause c.args.c) (Tautology c.args.c) refl (λ B. (c.in_ok-fits.ensures.fits B).0 c.if-branch.true)
+returns-then-branch-clause-found c = found-one target_of c.args.kernel.now (IsOfClause c.args.c) (Tautology c.args.c) refl (λ B. (c.in_ok-fits.ensures.fits B).0 c.if-branch.true)
 
 pub returns-then-branch-2-clause-found : goal.returns-then-branch-2-clause-found
-returns-then-branch-2-clause-found c = found-one c.args.kernel.now (IsOfClause c.args.c) (Unit c.args.c) refl (λ B. (c.in_ok-fits-2.ensures.fits B).0 c.if-branch-2.true)
+returns-then-branch-2-clause-found c = found-one target_of c.args.kernel.now (IsOfClause c.args.c) (Unit c.args.c) refl (λ B. (c.in_ok-fits-2.ensures.fits B).0 c.if-branch-2.true)
 
-all : (k : Seen) (c : ℕ) (o : Option Target) → ((B : Bounds) → Fits B k.prefix (slots k) (theory.tautology c) → ⊥) → ((B : Bounds) → Fits B k.prefix (slots k) (theory.unit c) → ⊥) → IsFound k (IsCutOf c) o → IsFound k (IsOfClause c) o
+all : (k : Seen) (c : ℕ) (o : Option Target) → ((B : Bounds) → Fits B k.prefix (slots k) (theory.tautology c) → ⊥) → ((B : Bounds) → Fits B k.prefix (slots k) (theory.unit c) → ⊥) → IsFound target_of k (IsCutOf c) o → IsFound target_of k (IsOfClause c) o
 all k c o a b h = record {
   some = λ t e. let r = h.some t e in (cut t r.0, r.1);
   none = λ e t q B f. neither e t q B f;

@@ -10,14 +10,14 @@ use Rattle.q_reduce.specs.declared.target.Target.{Target}
 use Rattle.q_reduce.specs.declared.target.Target.TheVariants.{Tautology, Unit, Cut, Pure}
 use Rattle.q_reduce.specs.Targets.{target_of}
 use Rattle.q_reduce.specs.Searches.{IsOfVariable}
-use Rattle.q_reduce.proofs.Passing.{found-one, found-none}
+use Rattle.q_rule.proofs.Searching.{found-one, found-none}
 use Rattle.q_reduce.proofs.finding.find_pure.Goals as goal
 
 pub returns-then-not-contains-clause-found : goal.returns-then-not-contains-clause-found
 returns-then-not-contains-clause-found c =
     let k = c.args.kernel.now in
     let e : is_bound k.prefix c.args.var ≡ false = sym (rw c.prefix.ensures at c.contains.ensures) ∙ c.if-not-contains.true in
-    found-none k (IsOfVariable c.args.var) (absent k c.args.var e)
+    found-none target_of k (IsOfVariable c.args.var) (absent k c.args.var e)
   where
     absent : (k : Seen) (v : ℕ) → is_bound k.prefix v ≡ false → (t : Target) → IsOfVariable v t → (B : Bounds) → Fits B k.prefix (slots k) (target_of t) → ⊥
     absent k v e (Tautology d) q B f = q
@@ -40,17 +40,17 @@ new-requires-clause-small c =
 pub returns-then-branch-clause-found : goal.returns-then-branch-clause-found
 returns-then-branch-clause-found c =
     let k = c.args.kernel.now in
-    found-one k (IsOfVariable c.args.var) (Pure c.new.result) (ap (λ (l : Literal). l.var) c.new.ensures) (λ B. (c.in_ok-fits.ensures.fits B).0 c.if-branch.true)
+    found-one target_of k (IsOfVariable c.args.var) (Pure c.new.result) (ap (λ (l : Literal). l.var) c.new.ensures) (λ B. (c.in_ok-fits.ensures.fits B).0 c.if-branch.true)
 
 pub returns-then-branch-2-clause-found : goal.returns-then-branch-2-clause-found
 returns-then-branch-2-clause-found c =
     let k = c.args.kernel.now in
-    found-one k (IsOfVariable c.args.var) (Pure c.new-2.result) (ap (λ (l : Literal). l.var) c.new-2.ensures) (λ B. (c.in_ok-fits-2.ensures.fits B).0 c.if-branch-2.true)
+    found-one target_of k (IsOfVariable c.args.var) (Pure c.new-2.result) (ap (λ (l : Literal). l.var) c.new-2.ensures) (λ B. (c.in_ok-fits-2.ensures.fits B).0 c.if-branch-2.true)
 
 pub returns-clause-found : goal.returns-clause-found
 returns-clause-found c =
     let k = c.args.kernel.now in
-    found-none k (IsOfVariable c.args.var) (neither k c.args.var
+    found-none target_of k (IsOfVariable c.args.var) (neither k c.args.var
     (λ B f. let g = subst (λ (l : Literal). Fits B k.prefix (slots k) (theory.pure l)) (sym c.new.ensures) f in true≢false (sym ((c.in_ok-fits.ensures.fits B).1 g) ∙ c.if-branch.false))
     (λ B f. let g = subst (λ (l : Literal). Fits B k.prefix (slots k) (theory.pure l)) (sym c.new-2.ensures) f in true≢false (sym ((c.in_ok-fits-2.ensures.fits B).1 g) ∙ c.if-branch-2.false)))
   where

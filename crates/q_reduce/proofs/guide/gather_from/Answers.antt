@@ -1,5 +1,5 @@
 use Rattle.q_kernel.specs.Kernels.{slots}
-use Rattle.q_rule.proofs.Members.{test-false}
+use Rattle.q_logic.proofs.Members.{test-false}
 use Rattle.q_reduce.proofs.Walks.{grown-widened}
 use Rattle.q_reduce.proofs.guide.gather_from.Goals as goal
 

@@ -1,13 +1,11 @@
-use Rattle.std.proofs.Common.{◌≡◌, true, Some, sym, ◌∙◌, refl, subst, arith}
+use Rattle.std.proofs.Common.{◌≡◌, true, sym, ◌∙◌, refl, subst, arith}
 use Rattle.q_logic.specs.Formulas.{Clause, IsIn}
 use Rattle.q_logic.specs.Prefixes.{is_existential}
 use Rattle.q_kernel.specs.Kernels.{HoldsLiteral}
+use Rattle.q_arena.proofs.Numbers.{some-same}
 use Rattle.q_rule.proofs.Steps.{may-go_pure}
 use Rattle.q_rule.proofs.Clearing.{deleting-more, deleting-done, size-deleted, clause-bytes}
 use Rattle.q_reduce.proofs.lists.delete_all.Goals as goal
-
-same : (C D : Clause) → Some C ≡ Some D → C ≡ D
-same C D e = cc
 
 pub loop-id-init : goal.loop-id-init
 loop-id-init c = record {
@@ -38,7 +36,7 @@ loop-id-preserved c =
     let k = c.loop-id.kernel in
     let held : HoldsLiteral k c.in-Some.id c.args.l = c.in-Some.ensures.some c.in-Some.id refl in
     deleting-more c.args.l c.args.kernel.now k c.delete_pivot.new.self c.in-Some.id c.sound.ensures
-    (λ C e. subst (λ (x : Clause). IsIn c.args.l x) (same held.0 C (sym held.1 ∙ e)) held.2)
+    (λ C e. subst (λ (x : Clause). IsIn c.args.l x) (some-same held.0 C (sym held.1 ∙ e)) held.2)
     c.loop-id.invariant c.delete_pivot.ensures
 
 pub returns : goal.returns

@@ -1,4 +1,4 @@
-use Rattle.std.proofs.Common.{◌≡◌, true, Some, sym, ◌∙◌, refl, subst}
+use Rattle.std.proofs.Common.{◌≡◌, true, sym, ◌∙◌, refl, subst}
 use Rattle.q_logic.specs.Literals.{negation}
 use Rattle.q_logic.specs.Formulas.{Clause, IsIn}
 use Rattle.q_logic.specs.Prefixes.{is_universal}
@@ -9,13 +9,11 @@ use Rattle.q_logic.specs.Steps.{drop_literal}
 use Rattle.std.proofs.Common.{length}
 use Rattle.q_kernel.specs.Kernels.{slots, HoldsLiteral}
 use Rattle.q_kernel.proofs.Leading.{led-itself}
+use Rattle.q_arena.proofs.Numbers.{some-same}
 use Rattle.q_rule.proofs.Steps.{may-drop_pure, drop-cost}
 use Rattle.q_rule.proofs.Turns.{shorter-in}
 use Rattle.q_rule.proofs.Clearing.{clearing-bytes, clearing-more, clearing-done, with-falls}
 use Rattle.q_reduce.proofs.pure.drop_all.Goals as goal
-
-same : (C D : Clause) → Some C ≡ Some D → C ≡ D
-same C D e = cc
 
 pub loop-id-init : goal.loop-id-init
 loop-id-init c = record {
@@ -36,14 +34,14 @@ loop-id-smaller c =
     let k = c.loop-id.kernel in
     let held : HoldsLiteral k c.in-Some.id c.args.l = c.in-Some.ensures.some c.in-Some.id refl in
     let d = c.drop_reach.ensures in
-    with-falls c.args.l k c.drop_reach.new.self c.in-Some.id d.clause d.was (subst (λ (x : Clause). IsIn c.args.l x) (same held.0 d.clause (sym held.1 ∙ d.was)) held.2) d.change
+    with-falls c.args.l k c.drop_reach.new.self c.in-Some.id d.clause d.was (subst (λ (x : Clause). IsIn c.args.l x) (some-same held.0 d.clause (sym held.1 ∙ d.was)) held.2) d.change
 
 pub loop-id-preserved : goal.loop-id-preserved
 loop-id-preserved c =
     let k = c.loop-id.kernel in
     let held : HoldsLiteral k c.in-Some.id c.args.l = c.in-Some.ensures.some c.in-Some.id refl in
     let d = c.drop_reach.ensures in
-    let m : IsIn c.args.l d.clause = subst (λ (x : Clause). IsIn c.args.l x) (same held.0 d.clause (sym held.1 ∙ d.was)) held.2 in
+    let m : IsIn c.args.l d.clause = subst (λ (x : Clause). IsIn c.args.l x) (some-same held.0 d.clause (sym held.1 ∙ d.was)) held.2 in
     record {
       clearing = clearing-more 16 c.args.l c.args.kernel.now k c.drop_reach.new.self c.in-Some.id (length (step_text (drop_literal c.args.l d.clause))) d.clause d.was m d.change d.prefix d.logged.led d.logged.bytes
           (drop-cost k c.in-Some.id d.clause c.sound.ensures d.was c.args.l m) c.loop-id.invariant.clearing;

@@ -3,14 +3,13 @@ use Rattle.q_logic.specs.Literals.{negation}
 use Rattle.q_logic.specs.Formulas.{Clause, IsIn}
 use Rattle.q_logic.specs.Numbered.{slot, others}
 use Rattle.q_kernel.specs.Kernels.{slots}
+use Rattle.q_arena.proofs.Numbers.{some-same}
 use Rattle.q_reduce.specs.Walks.{IsWidened}
 use Rattle.q_reduce.proofs.Walks.{visited-beside}
-use Rattle.q_reduce.proofs.Reaching.{IsWalk, place-member, walk-begun, walk-more, walk-refuted, walk-ended}
+use Rattle.q_rule.proofs.Members.{place-member}
+use Rattle.q_reduce.proofs.Reaching.{IsWalk, walk-begun, walk-more, walk-refuted, walk-ended}
 use Rattle.q_reduce.proofs.reach.is_reducible.Goals as goal
 use Rattle.q_reduce.proofs.reach.is_reducible.Goals.{else-head-lt-GUIDED-via-then-head-lt-GUIDED+else-leads_out, else-head-lt-GUIDED-via-else-head-lt-GUIDED}
-
-same : (C D : Clause) → Some C ≡ Some D → C ≡ D
-same C D e = cc
 
 pub loop-head-init : goal.loop-head-init
 loop-head-init c = record { walk = begun; same = c.exit.ensures.same }
@@ -19,13 +18,13 @@ loop-head-init c = record { walk = begun; same = c.exit.ensures.same }
     begun C e =
         let k = c.args.kernel.now in
         let w = rw c.clear.ensures at c.in_ok-push_inner.ensures in
-        let q = same c.clause_of.result.now C (sym c.clause_of.ensures.clause ∙ e) in
+        let q = some-same c.clause_of.result.now C (sym c.clause_of.ensures.clause ∙ e) in
         walk-begun k.prefix (others c.args.c (slots k)) C c.args.lit c.push_inner.new.queue (subst (λ (x : Clause). IsWidened k.prefix c.args.lit x [] c.push_inner.new.queue) q w)
 
 pub returns-then-head-len-clause-yes : goal.returns-then-head-len-clause-yes
 returns-then-head-len-clause-yes c C e =
     let k = c.args.kernel.now in
-    let q = same c.requires.live.0 C (sym c.requires.live.1 ∙ e) in
+    let q = some-same c.requires.live.0 C (sym c.requires.live.1 ∙ e) in
     let m : IsIn c.args.lit C = subst (λ (x : Clause). IsIn c.args.lit x) q c.requires.live.2 in
     let past : length c.loop-head.queue ≤ c.loop-head.head = omega (arith, c.if-head-len.true, c.len.ensures) in
     let r = walk-ended k.prefix (others c.args.c (slots k)) C c.args.lit c.loop-head.head c.loop-head.queue (c.loop-head.invariant.walk C e) past c.requires.universal m (λ n. c.requires.live.3 (subst (λ (x : Clause). IsIn (negation c.args.lit) x) (sym q) n)) in

@@ -1,9 +1,10 @@
-use Rattle.std.proofs.Common.{◌≡◌, ◌∙◌, Some, sym, subst}
+use Rattle.std.proofs.Common.{◌≡◌, ◌∙◌, sym, subst}
 use Rattle.q_logic.specs.declared.rule_bounds.Bounds.{Bounds}
 use Rattle.q_logic.specs.Formulas.{Clause, Prefix, IsIn}
 use Rattle.q_logic.specs.Numbered.{Slots}
 use Rattle.q_logic.specs.Rules.{Fits}
 use Rattle.q_kernel.specs.Kernels.{slots}
+use Rattle.q_arena.proofs.Numbers.{some-same}
 use Rattle.q_reduce.specs.declared.target.Target.{Target}
 use Rattle.q_reduce.specs.declared.target.Target.TheVariants.{Tautology, Unit, Cut, Pure}
 use Rattle.q_reduce.specs.Targets.{target_of}
@@ -17,9 +18,6 @@ none = record { grow = 0; expand = 0 }
 
 at : (P : Prefix) (N : Slots) (t u : Target) → t ≡ u → ((B : Bounds) → Fits B P N (target_of t)) → Fits none P N (target_of u)
 at P N t u e f = subst (λ (x : Target). Fits none P N (target_of x)) e (f none)
-
-same : (C D : Clause) → Some C ≡ Some D → C ≡ D
-same C D e = cc
 
 pub delete_implied-requires : goal.delete_implied-requires
 delete_implied-requires c =
@@ -38,13 +36,13 @@ drop_reach-requires c =
     let f = at k.prefix (slots k) c.args.target.now (Cut c.in-Cut.c c.in-Cut.l) c.in-Cut.is c.requires.fits in
     may-drop_reducible k c.in-Cut.c f.0 c.sound.ensures f.1 c.in-Cut.l f.2 (change-clause k c.in-Cut.c f.0 f.1 c.requires.bytes)
 
-pub settle-requires-clause-bound : goal.settle-requires-clause-bound
-settle-requires-clause-bound c =
+pub take_pure-requires-clause-bound : goal.take_pure-requires-clause-bound
+take_pure-requires-clause-bound c =
     let k = c.args.kernel.now in
     let f = at k.prefix (slots k) c.args.target.now (Pure c.in-Pure.l) c.in-Pure.is c.requires.fits in f.0
 
-pub settle-requires-clause-pure : goal.settle-requires-clause-pure
-settle-requires-clause-pure c =
+pub take_pure-requires-clause-pure : goal.take_pure-requires-clause-pure
+take_pure-requires-clause-pure c =
     let k = c.args.kernel.now in
     let f = at k.prefix (slots k) c.args.target.now (Pure c.in-Pure.l) c.in-Pure.is c.requires.fits in f.2
 
@@ -67,4 +65,4 @@ returns-in-Cut c =
     let f = at k.prefix (slots k) c.args.target.now (Cut c.in-Cut.c c.in-Cut.l) c.in-Cut.is c.requires.fits in
     subst (λ (t : Target). IsChanged k c.drop_reach.new.self (target_of t)) (sym c.in-Cut.is)
     (changed-cut k c.drop_reach.new.self c.in-Cut.c c.in-Cut.l c.sound.ensures c.requires.limits c.requires.bytes
-    (λ C e. subst (λ (x : Clause). IsIn c.in-Cut.l x) (same f.0 C (sym f.1 ∙ e)) f.2.in_clause) c.drop_reach.ensures)
+    (λ C e. subst (λ (x : Clause). IsIn c.in-Cut.l x) (some-same f.0 C (sym f.1 ∙ e)) f.2.in_clause) c.drop_reach.ensures)

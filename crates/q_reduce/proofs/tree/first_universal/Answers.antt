@@ -1,16 +1,14 @@
-use Rattle.std.proofs.Common.{◌≡◌, ◌∙◌, true, Some, sym, ap, subst, inl, inr, true≢false}
+use Rattle.std.proofs.Common.{◌≡◌, ◌∙◌, true, sym, ap, subst, inl, inr, true≢false}
 use Rattle.q_logic.specs.Literals.{Literal}
 use Rattle.q_logic.specs.Formulas.{IsIn}
 use Rattle.q_logic.specs.Prefixes.{is_universal}
-use Rattle.q_rule.proofs.Members.{item-in, taken-cases}
+use Rattle.q_logic.proofs.Members.{item-in, taken-cases}
+use Rattle.q_arena.proofs.Numbers.{some-same}
 use Rattle.q_reduce.proofs.tree.first_universal.Goals as goal
-
-same : (j k : Literal) → Some j ≡ Some k → j ≡ k
-same j k e = cc
 
 pub returns-then-is_universal-clause-some : goal.returns-then-is_universal-clause-some
 returns-then-is_universal-clause-some c k e =
-    subst (λ (x : Literal). IsIn x c.args.clause.now) (same c.k-item.result k e) (item-in c.args.clause.now c.loop-k.k-index c.k-item.result c.loop-k-test.true c.k-item.is)
+    subst (λ (x : Literal). IsIn x c.args.clause.now) (some-same c.k-item.result k e) (item-in c.args.clause.now c.loop-k.k-index c.k-item.result c.loop-k-test.true c.k-item.is)
 
 pub loop-k-preserved : goal.loop-k-preserved
 loop-k-preserved c i m t = elim (taken-cases c.args.clause.now c.loop-k.k-index c.k-item.result i c.loop-k-test.true c.k-item.is m) [

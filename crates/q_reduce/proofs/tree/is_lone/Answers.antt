@@ -1,7 +1,7 @@
 use Rattle.std.proofs.Common.{◌≡◌, ◌∙◌, true, sym, ap, subst, inl, inr, true≢false}
 use Rattle.q_logic.specs.Literals.{Literal}
 use Rattle.q_logic.specs.Prefixes.{is_universal}
-use Rattle.q_rule.proofs.Members.{taken-cases}
+use Rattle.q_logic.proofs.Members.{taken-cases}
 use Rattle.q_reduce.proofs.tree.is_lone.Goals as goal
 use Rattle.q_reduce.proofs.tree.is_lone.Goals.{else-is_universal-via-then-is_universal+else-not-is, else-is_universal-via-else-is_universal}
 

@@ -1,6 +1,6 @@
 use Rattle.q_logic.proofs.Slots.{others-slot}
 use Rattle.q_kernel.specs.Kernels.{slots}
-use Rattle.q_rule.proofs.Members.{test-false}
+use Rattle.q_logic.proofs.Members.{test-false}
 use Rattle.q_reduce.proofs.tree.joins.Goals as goal
 
 pub returns : goal.returns

@@ -1,49 +1,68 @@
-use Rattle.std.proofs.Common.{◌∙◌, arith}
-use Rattle.q_io.proofs.Counts.{later_still}
-use Rattle.q_simplify.proofs.Logging.{has_log-left}
+use Rattle.std.proofs.Common.{◌∙◌, ap, Err}
+use Rattle.std.proofs.lemmas.Result.{err_from_is_err_and}
+use Rattle.q_io.specs.declared.error.DeviceError.TheVariants.{NoMemory}
+use Rattle.q_io.proofs.Counts.{later_still, rose_later}
+use Rattle.q_simplify.proofs.Logging.{has_log-left, stopped}
 use Rattle.q_simplify.proofs.Turned.{has_log-turned, ready-flushed, fit-flushed}
 use Rattle.q_simplify.proofs.driving.take_turns.Goals as goal
 
-pub returns-in-Err-flush-clause-log_left : goal.returns-in-Err-flush-clause-log_left
-returns-in-Err-flush-clause-log_left g c =
-    λ G before h. c.in-Err-flush.ensures.log_left G before (has_log-turned c.in-Ok-Moved.field-0 _ G c.args.log.now before c.loop-files.kernel c.turn.new.kernel (g.F.Files.held c.loop-files.files) c.in-Ok-Moved.ensures.ends (c.loop-files.invariant.log G before h))
+pub returns-in_err-turn-clause-goes_on : goal.returns-in_err-turn-clause-goes_on
+returns-in_err-turn-clause-goes_on g c =
+    let p = err_from_is_err_and c.from_residual.result c.from_residual.ensures.1 in
+    stopped _ _ _ _ _ _ _ _ _ p.0 NoMemory p.1 p.2
+    (λ G first h. has_log-left G c.args.log.now first c.loop-files.kernel (g.F.Files.held c.loop-files.files) (c.loop-files.invariant.log G first h))
+    (λ e. cc) c.loop-files.invariant.later
 
-pub loop-files-preserved-in_default : goal.loop-files-preserved-in_default
-loop-files-preserved-in_default g c =
+pub returns-in_err-flush-in-Moved-clause-goes_on : goal.returns-in_err-flush-in-Moved-clause-goes_on
+returns-in_err-flush-in-Moved-clause-goes_on g c =
+    let p = err_from_is_err_and c.from_residual-in_err-flush-in-Moved.result c.from_residual-in_err-flush-in-Moved.ensures.1 in
+    stopped _ _ _ _ _ _ _ _ _ p.0 _ p.1 p.2
+    (λ G first h. c.in_err-flush-in-Moved.ensures.goes_on.left G first (has_log-turned c.in_ok-turn.field-0 _ G c.args.log.now first c.loop-files.kernel c.turn.new.kernel (g.F.Files.held c.loop-files.files) c.in_ok-turn.ensures.turned.ends (c.loop-files.invariant.log G first h)))
+    (λ e. rose_later _ _ _ (c.loop-files.invariant.later.write c.args.log.now) (c.in_err-flush-in-Moved.ensures.goes_on.cause (ap Err e)))
+    (later_still _ _ _ _ _ c.loop-files.invariant.later c.in_err-flush-in-Moved.ensures.goes_on.later)
+
+pub loop-files-preserved-in-Continue-branch-3 : goal.loop-files-preserved-in-Continue-branch-3
+loop-files-preserved-in-Continue-branch-3 g c =
     record {
       frame = record {
-        bounds = c.turn.ensures.frame.bounds ∙ c.loop-files.invariant.frame.bounds;
-        budget = c.turn.ensures.frame.budget ∙ c.loop-files.invariant.frame.budget;
-        first_measure = c.turn.ensures.frame.first_measure ∙ c.loop-files.invariant.frame.first_measure;
+        bounds = c.in_ok-turn.ensures.turned.frame.bounds ∙ c.loop-files.invariant.frame.bounds;
+        budget = c.in_ok-turn.ensures.turned.frame.budget ∙ c.loop-files.invariant.frame.budget;
+        first_measure = c.in_ok-turn.ensures.turned.frame.first_measure ∙ c.loop-files.invariant.frame.first_measure;
       };
       ready = ready-flushed c.turn.new.kernel c.flush.new.kernel c.flush.ensures.prefix c.flush.ensures.clauses c.turn.ensures.ready;
       fit = fit-flushed c.turn.new.kernel c.flush.new.kernel _ c.flush.ensures.prefix c.flush.ensures.clauses c.turn.ensures.fit;
-      log = λ G before h. c.in_default.ensures.log G before (has_log-turned c.in-Ok-Moved.field-0 _ G c.args.log.now before c.loop-files.kernel c.turn.new.kernel (g.F.Files.held c.loop-files.files) c.in-Ok-Moved.ensures.ends (c.loop-files.invariant.log G before h));
-      later = later_still _ _ _ _ _ c.loop-files.invariant.later c.flush.ensures.later;
+      log = λ G first h. c.in_ok-flush-in-Moved.ensures.goes_on.log G first (has_log-turned c.in_ok-turn.field-0 _ G c.args.log.now first c.loop-files.kernel c.turn.new.kernel (g.F.Files.held c.loop-files.files) c.in_ok-turn.ensures.turned.ends (c.loop-files.invariant.log G first h));
+      later = later_still _ _ _ _ _ c.loop-files.invariant.later c.in_ok-flush-in-Moved.ensures.goes_on.later;
     }
 
 pub loop-files-preserved : goal.loop-files-preserved
 loop-files-preserved g c =
     record {
       frame = record {
-        bounds = c.turn.ensures.frame.bounds ∙ c.loop-files.invariant.frame.bounds;
-        budget = c.turn.ensures.frame.budget ∙ c.loop-files.invariant.frame.budget;
-        first_measure = c.turn.ensures.frame.first_measure ∙ c.loop-files.invariant.frame.first_measure;
+        bounds = c.in_ok-turn.ensures.turned.frame.bounds ∙ c.loop-files.invariant.frame.bounds;
+        budget = c.in_ok-turn.ensures.turned.frame.budget ∙ c.loop-files.invariant.frame.budget;
+        first_measure = c.in_ok-turn.ensures.turned.frame.first_measure ∙ c.loop-files.invariant.frame.first_measure;
       };
       ready = c.turn.ensures.ready;
       fit = c.turn.ensures.fit;
-      log = λ G before h. has_log-turned c.in-Ok-Asked.field-0 _ G c.args.log.now before c.loop-files.kernel c.turn.new.kernel (g.F.Files.held c.loop-files.files) c.in-Ok-Asked.ensures.ends (c.loop-files.invariant.log G before h);
+      log = λ G first h. has_log-turned c.in_ok-turn.field-0 _ G c.args.log.now first c.loop-files.kernel c.turn.new.kernel (g.F.Files.held c.loop-files.files) c.in_ok-turn.ensures.turned.ends (c.loop-files.invariant.log G first h);
       later = c.loop-files.invariant.later;
     }
 
-pub returns-in-Ok-Settled-clause-log : goal.returns-in-Ok-Settled-clause-log
-returns-in-Ok-Settled-clause-log g c =
-    λ G before h. has_log-turned c.in-Ok-Settled.field-0 _ G c.args.log.now before c.loop-files.kernel c.turn.new.kernel (g.F.Files.held c.loop-files.files) c.in-Ok-Settled.ensures.ends (c.loop-files.invariant.log G before h)
+pub returns-in-Settled-clause-goes_on : goal.returns-in-Settled-clause-goes_on
+returns-in-Settled-clause-goes_on g c =
+    record {
+      log = λ G first h. has_log-turned c.in_ok-turn.field-0 _ G c.args.log.now first c.loop-files.kernel c.turn.new.kernel (g.F.Files.held c.loop-files.files) c.in_ok-turn.ensures.turned.ends (c.loop-files.invariant.log G first h);
+      left = λ G first h. tt;
+      cause = λ e. cc;
+      later = c.loop-files.invariant.later;
+    }
 
-pub returns-in-Ok-Spent-clause-log : goal.returns-in-Ok-Spent-clause-log
-returns-in-Ok-Spent-clause-log g c =
-    λ G before h. has_log-turned c.in-Ok-Spent.field-0 _ G c.args.log.now before c.loop-files.kernel c.turn.new.kernel (g.F.Files.held c.loop-files.files) c.in-Ok-Spent.ensures.ends (c.loop-files.invariant.log G before h)
-
-pub returns-in-Err-clause-log_left : goal.returns-in-Err-clause-log_left
-returns-in-Err-clause-log_left g c =
-    λ G before h. has_log-left G c.args.log.now before c.loop-files.kernel (g.F.Files.held c.loop-files.files) (c.loop-files.invariant.log G before h)
+pub returns-in-Spent-clause-goes_on : goal.returns-in-Spent-clause-goes_on
+returns-in-Spent-clause-goes_on g c =
+    record {
+      log = λ G first h. has_log-turned c.in_ok-turn.field-0 _ G c.args.log.now first c.loop-files.kernel c.turn.new.kernel (g.F.Files.held c.loop-files.files) c.in_ok-turn.ensures.turned.ends (c.loop-files.invariant.log G first h);
+      left = λ G first h. tt;
+      cause = λ e. cc;
+      later = c.loop-files.invariant.later;
+    }

@@ -4,7 +4,8 @@ use Rattle.q_occ.specs.Places.{places_of}
 use Rattle.q_kernel.specs.Kernels.{HoldsLiteral}
 use Rattle.q_kernel.proofs.Following.{passed, passed-none}
 use Rattle.q_rule.proofs.Places.{passed-step, passed-falls}
-use Rattle.q_subsume.proofs.Searching.{AreSeen, IsSeen, seen-begun, seen-more, seen-all, found-among, none-is}
+use Rattle.q_subsume.proofs.Searching.{AreSeen, IsSeen, seen-begun, seen-more, seen-all, found-among}
+use Rattle.q_rule.proofs.Searching.{none-is}
 use Rattle.q_subsume.proofs.finding.find_among.Goals as goal
 
 pub loop-at-init : goal.loop-at-init

@@ -1,7 +1,7 @@
 use Rattle.std.proofs.Common.{sym, subst}
 use Rattle.q_logic.specs.Literals.{Literal}
 use Rattle.q_logic.specs.Formulas.{IsIn}
-use Rattle.q_rule.proofs.Members.{item-in}
+use Rattle.q_logic.proofs.Members.{item-in}
 use Rattle.q_subsume.proofs.finding.rarest.Goals as goal
 use Rattle.q_subsume.proofs.finding.rarest.Goals.{then-places-least, else-places-least}
 

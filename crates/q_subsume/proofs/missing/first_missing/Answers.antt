@@ -1,7 +1,7 @@
 use Rattle.std.proofs.Common.{◌≡◌, ◌≤◌, Some, sym, subst, inl, inr, arith}
 use Rattle.q_logic.specs.Literals.{Literal, pack}
 use Rattle.q_logic.specs.Formulas.{Clause, IsIn}
-use Rattle.q_rule.proofs.Members.{item-in, taken-cases, taken-all}
+use Rattle.q_logic.proofs.Members.{item-in, taken-cases, taken-all}
 use Rattle.q_subsume.proofs.Ordered.{at-place, after-place, dropped-in, dropped-more}
 use Rattle.q_subsume.proofs.missing.first_missing.Goals as goal
 

@@ -1,8 +1,7 @@
-use Rattle.std.proofs.Common.{arith, sym, subst, length, ◌≤◌, ℕ, List}
-use Rattle.q_arena.specs.Nodes.{base, node_at}
-use Rattle.q_arena.specs.Rings.{Has, rings_of, with_list, without}
+use Rattle.std.proofs.Common.{arith, sym, subst, ℕ, List}
+use Rattle.q_arena.specs.Rings.{Has}
 use Rattle.q_arena.specs.Chains.{Chains, list_at}
-use Rattle.q_arena.proofs.Seen.{list-is, lists-with, tags-same, AreSound-with, Has-head}
+use Rattle.q_arena.proofs.Seen.{list-is, relisted-sound, relisted-lists, relisted-owners, Has-head}
 use Rattle.q_arena.proofs.Sound.{place-below}
 use Rattle.q_arena.proofs.rings.Rings.remove.Goals as goal
 
@@ -26,25 +25,14 @@ take_out-requires-clause-there c =
     (subst (λ (v : Chains). Has (list_at v c.args.head) c.args.place) (sym c.self.view_is) c.requires)
 
 pub invariant_of-self : goal.invariant_of-self
-invariant_of-self c =
-    let p = c.self.inside.places.items in
-    let h = c.self.inside.heads.items in
-    let L = with_list (rings_of (node_at p h) base) c.args.head (without c.args.place (rings_of (node_at p h) base c.args.head)) in
-    AreSound-with p h c.take_out.new.places.items c.take_out.new.heads.items L c.self.invariant c.take_out.ensures.places c.take_out.ensures.heads c.take_out.ensures.rings
+invariant_of-self c = relisted-sound c.self.invariant c.take_out.ensures
 
 pub returns-clause-lists : goal.returns-clause-lists
 returns-clause-lists c =
     let p = c.self.inside.places.items in
     let h = c.self.inside.heads.items in
-    let head = Has-head p h c.args.head c.args.place
-    (subst (λ (v : Chains). Has (list_at v c.args.head) c.args.place) (sym c.self.view_is) c.requires) in
-    rw (← c.self.view_is)
-    (rw (list-is p h c.args.head)
-    (lists-with p h c.take_out.new.places.items c.take_out.new.heads.items (length p) c.args.head (without c.args.place (rings_of (node_at p h) base c.args.head)) c.take_out.ensures.heads head c.take_out.ensures.rings))
+    let head = Has-head p h c.args.head c.args.place (rw (← c.self.view_is) at c.requires) in
+    rw (← c.self.view_is) (rw (list-is p h c.args.head) (relisted-lists c.self.invariant c.take_out.ensures head))
 
 pub returns-clause-owners : goal.returns-clause-owners
-returns-clause-owners c =
-    let p = c.self.inside.places.items in
-    let few : length p ≤ base = omega (arith, c.self.invariant.few_places) in
-    rw (← c.self.view_is)
-    (tags-same p c.self.inside.heads.items c.take_out.new.places.items c.take_out.new.heads.items c.take_out.ensures.places few c.take_out.ensures.tags)
+returns-clause-owners c = rw (← c.self.view_is) (relisted-owners c.self.invariant c.take_out.ensures)

@@ -1,5 +1,5 @@
 use Rattle.std.proofs.Common.{◌≡◌, ◌∙◌, ◌+◌, ◌<◌, ◌≤◌, ◌++◌, ◌∷◌, [], List, length, take, get_or, sym, ap, subst, arith}
-use Rattle.q_rule.proofs.Members.{taken-all}
+use Rattle.q_logic.proofs.Members.{taken-all}
 use Rattle.q_blocked.specs.declared.plan.Stage.{Stage}
 use Rattle.q_blocked.specs.Plans.{words_of}
 use Rattle.q_blocked.proofs.Members.{taken}

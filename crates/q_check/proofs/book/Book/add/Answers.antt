@@ -1,11 +1,14 @@
-use Rattle.std.proofs.Common.{refl, arith}
+use Rattle.std.proofs.Common.{Err, refl, sym, subst, arith}
 use Rattle.std.proofs.lemmas.Result.{err_from_is_err_and}
+use Rattle.q_logic.specs.Formulas.{PrenexFormula}
+use Rattle.q_logic.specs.Numbered.{Slots}
 use Rattle.q_logic.specs.Steps.{add}
 use Rattle.q_prop.specs.Slots.{filled}
-use Rattle.q_check.proofs.Members.{test_is}
+use Rattle.q_check.specs.Checked.{IsTried}
+use Rattle.q_logic.proofs.Members.{test-false}
 use Rattle.q_check.proofs.Slots.{put-sizes}
 use Rattle.q_check.proofs.Apart.{all-put}
-use Rattle.q_check.proofs.Trying.{of, add-unbound, add-unwarranted, add-full, add-valid, add-after, add-entry, warranted, valid-formula}
+use Rattle.q_check.proofs.Trying.{of, add-unbound, add-refused, add-full, add-valid, add-after, add-entry, warranted, valid-formula}
 use Rattle.q_check.proofs.book.Book.add.Goals as goal
 
 pub returns-then-not-binds_all : goal.returns-then-not-binds_all
@@ -14,19 +17,19 @@ returns-then-not-binds_all c keep =
     let P = i.scope in
     let s = i.store in
     let C = c.args.clause.now in
-    rw (← c.self.view_is) (refl, add-unbound c.args.limits P (filled s) c.args.first C (test_is c.binds_all.result c.binds_all.ensures c.if-not-binds_all.true))
+    rw (c.refusal.ensures, ← c.self.view_is) (refl, add-unbound c.args.limits P (filled s) c.args.first C (test-false c.binds_all.result c.binds_all.ensures c.if-not-binds_all.true))
 
-pub returns-in_err-warrant : goal.returns-in_err-warrant
-returns-in_err-warrant c keep = let r = err_from_is_err_and c.from_residual.result c.from_residual.ensures.1 in rw (r.1, r.2, ← c.self.view_is, c.in_err-warrant.ensures.same) refl
-
-pub returns-then-is_missing : goal.returns-then-is_missing
-returns-then-is_missing c keep =
-    let i = c.self.inside in
-    let P = i.scope in
-    let s = i.store in
+pub returns-in_err-warrant_of : goal.returns-in_err-warrant_of
+returns-in_err-warrant_of c keep =
+    let P = c.self.inside.scope in
+    let s = c.self.inside.store in
+    let p = c.args.first in
     let C = c.args.clause.now in
-    let x = rw (c.is_missing.ensures.0 c.if-is_missing.true) at c.in_ok-warrant.ensures.exact in
-    rw (← c.self.view_is, c.in_ok-warrant.ensures.same) (refl, add-unwarranted c.args.limits P (filled s) c.args.first C (c.binds_all.ensures.0 c.if-not-binds_all.false) x)
+    let e = c.in_err-warrant_of.field-0.0 in
+    let r = err_from_is_err_and c.from_residual.result c.from_residual.ensures.1 in
+    let h = add-refused keep c.args.limits P (filled s) p C e (c.binds_all.ensures.0 c.if-not-binds_all.false) c.in_err-warrant_of.ensures.exact in
+    let before = subst (λ (F : PrenexFormula). IsTried keep c.args.limits F (add p C) (of P (filled s)) (Err e)) c.self.view_is h in
+    rw (r.1, r.2) (subst (λ (t : Slots). IsTried keep c.args.limits c.args.self.now (add p C) (of P (filled t)) (Err e)) (sym c.in_err-warrant_of.ensures.same) before)
 
 pub returns-then-not-has_room : goal.returns-then-not-has_room
 returns-then-not-has_room c keep =
@@ -35,11 +38,11 @@ returns-then-not-has_room c keep =
     let s = i.store in
     let C = c.args.clause.now in
     let w = c.binds_all.ensures.0 c.if-not-binds_all.false in
-    let v = warranted P (filled s) c.args.first C c.in_ok-warrant.warrant (test_is c.is_missing.result c.is_missing.ensures c.if-is_missing.false) c.in_ok-warrant.ensures.exact in
-    rw (← c.self.view_is, c.in_ok-warrant.ensures.same) (refl, add-full c.args.limits P (filled s) c.args.first C i.clauses i.lits c.self.invariant.0 w v (test_is c.has_room.result c.has_room.ensures c.if-not-has_room.true))
+    let v = warranted P (filled s) c.args.first C c.in_ok-warrant_of.field-0 c.in_ok-warrant_of.ensures.exact in
+    rw (c.refusal-then-not-has_room.ensures, ← c.self.view_is, c.in_ok-warrant_of.ensures.same) (refl, add-full c.args.limits P (filled s) c.args.first C i.clauses i.lits c.self.invariant.0 w v (test-false c.has_room.result c.has_room.ensures c.if-not-has_room.true))
 
 pub returns-in_err-add : goal.returns-in_err-add
-returns-in_err-add c keep = let r = err_from_is_err_and c.from_residual-in_err-add.result c.from_residual-in_err-add.ensures.1 in rw (r.1, r.2, ← c.self.view_is, c.in_err-add.ensures.err, c.in_ok-warrant.ensures.same) refl
+returns-in_err-add c keep = let r = err_from_is_err_and c.from_residual-in_err-add.result c.from_residual-in_err-add.ensures.1 in rw (r.1, r.2, ← c.self.view_is, c.in_err-add.ensures.err, c.in_ok-warrant_of.ensures.same) refl
 
 pub overflow_add-self : goal.overflow_add-self
 overflow_add-self c = let r = c.has_room.ensures.0 c.if-not-has_room.false in omega (arith, r.0, c.requires.limits.clauses)
@@ -54,9 +57,9 @@ invariant_of-self-2 c =
     let s = i.store in
     let C = c.args.clause.now in
     let w = c.binds_all.ensures.0 c.if-not-binds_all.false in
-    let v = warranted P (filled s) c.args.first C c.in_ok-warrant.warrant (test_is c.is_missing.result c.is_missing.ensures c.if-is_missing.false) c.in_ok-warrant.ensures.exact in
+    let v = warranted P (filled s) c.args.first C c.in_ok-warrant_of.field-0 c.in_ok-warrant_of.ensures.exact in
     let a = add-valid c.args.limits P (filled s) c.args.first C i.clauses i.lits c.self.invariant.0 w v (c.has_room.ensures.0 c.if-not-has_room.false) in
-    let p = rw c.in_ok-warrant.ensures.same at c.in_ok-add.ensures.ok in
+    let p = rw c.in_ok-warrant_of.ensures.same at c.in_ok-add.ensures.ok in
     let t = c.add.new.self in
     let z = put-sizes s t c.in_ok-add.field-0 C p in (
       record {
@@ -74,7 +77,7 @@ returns c keep =
     let s = i.store in
     let C = c.args.clause.now in
     let w = c.binds_all.ensures.0 c.if-not-binds_all.false in
-    let v = warranted P (filled s) c.args.first C c.in_ok-warrant.warrant (test_is c.is_missing.result c.is_missing.ensures c.if-is_missing.false) c.in_ok-warrant.ensures.exact in
+    let v = warranted P (filled s) c.args.first C c.in_ok-warrant_of.field-0 c.in_ok-warrant_of.ensures.exact in
     let a = add-valid c.args.limits P (filled s) c.args.first C i.clauses i.lits c.self.invariant.0 w v (c.has_room.ensures.0 c.if-not-has_room.false) in
-    let p = rw c.in_ok-warrant.ensures.same at c.in_ok-add.ensures.ok in
+    let p = rw c.in_ok-warrant_of.ensures.same at c.in_ok-add.ensures.ok in
     rw (← c.self.view_is) (a, add-after P s c.add.new.self c.in_ok-add.field-0 c.args.first C p, add-entry keep (of P (filled s)) c.args.first C)

@@ -2,7 +2,7 @@ use Rattle.std.proofs.Common.{refl}
 use Rattle.std.proofs.lemmas.Result.{err_from_is_err_and}
 use Rattle.q_logic.specs.Steps.{fresh, insert_after}
 use Rattle.q_prop.specs.Slots.{filled}
-use Rattle.q_check.proofs.Members.{test_is}
+use Rattle.q_logic.proofs.Members.{test-false}
 use Rattle.q_check.proofs.Alike.{alike_itself}
 use Rattle.q_check.proofs.Apart.{all-inserted}
 use Rattle.q_check.proofs.Trying.{of, fresh-refused, fresh-entry, valid-formula}
@@ -13,7 +13,7 @@ returns-then-not-takes_fresh c =
     let i = c.self.inside in
     let P = i.scope in
     let s = i.store in
-    rw (← c.self.view_is) (refl, fresh-refused c.args.limits P (filled s) c.args.v c.args.w (test_is c.takes_fresh.result c.takes_fresh.ensures c.if-not-takes_fresh.true))
+    rw (c.refusal.ensures, ← c.self.view_is) (refl, fresh-refused c.args.limits P (filled s) c.args.v c.args.w (test-false c.takes_fresh.result c.takes_fresh.ensures c.if-not-takes_fresh.true))
 
 pub insert_after-requires-clause-absent : goal.insert_after-requires-clause-absent
 insert_after-requires-clause-absent c = (c.takes_fresh.ensures.0 c.if-not-takes_fresh.false).absent

@@ -3,7 +3,7 @@ use Rattle.q_logic.specs.Limits.{standard}
 use Rattle.q_logic.specs.Prefixes.{is_bound}
 use Rattle.q_logic.specs.Steps.{remove_variable, removed_from, IsAbsent}
 use Rattle.q_prop.specs.Slots.{filled}
-use Rattle.q_check.proofs.Members.{test_is}
+use Rattle.q_logic.proofs.Members.{test-false}
 use Rattle.q_check.proofs.Alike.{alike_itself}
 use Rattle.q_check.proofs.Apart.{all-removed}
 use Rattle.q_check.proofs.Trying.{of, remove-unbound, remove-occurring, removed-entry, valid-formula}
@@ -14,14 +14,14 @@ returns-then-not-binds c m =
     let i = c.self.inside in
     let P = i.scope in
     let s = i.store in
-    rw (← c.self.view_is) (refl, remove-unbound m P (filled s) c.args.var (sym c.binds.ensures ∙ c.if-not-binds.true))
+    rw (c.refusal.ensures, ← c.self.view_is) (refl, remove-unbound m P (filled s) c.args.var (sym c.binds.ensures ∙ c.if-not-binds.true))
 
 pub returns-then-not-is_absent : goal.returns-then-not-is_absent
 returns-then-not-is_absent c m =
     let i = c.self.inside in
     let P = i.scope in
     let s = i.store in
-    rw (← c.self.view_is) (refl, remove-occurring m P (filled s) c.args.var (sym c.binds.ensures ∙ c.if-not-binds.false) (test_is c.is_absent.result c.is_absent.ensures c.if-not-is_absent.true))
+    rw (c.refusal-then-not-is_absent.ensures, ← c.self.view_is) (refl, remove-occurring m P (filled s) c.args.var (sym c.binds.ensures ∙ c.if-not-binds.false) (test-false c.is_absent.result c.is_absent.ensures c.if-not-is_absent.true))
 
 pub remove-requires : goal.remove-requires
 remove-requires c = sym c.binds.ensures ∙ c.if-not-binds.false

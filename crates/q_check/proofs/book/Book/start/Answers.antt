@@ -1,13 +1,15 @@
-use Rattle.std.proofs.Common.{◌≡◌, ◌≤◌, ◌+◌, ◌∙◌, ℕ, Some, refl, sym, ap, arith, length, take, [], ◌∷◌, zero, suc, add-one}
+use Rattle.std.proofs.Common.{◌≡◌, ◌≤◌, ◌+◌, ◌∙◌, ℕ, Some, sym, ap, arith, length, take, [], ◌∷◌, add-one}
 use Rattle.q_logic.specs.Formulas.{PrenexFormula, Prefix, Matrix, Clause}
 use Rattle.q_logic.specs.Steps.{literals_in}
-use Rattle.q_logic.specs.Runs.{copies}
-use Rattle.q_prop.specs.Slots.{filled, Slots}
+use Rattle.q_logic.specs.Runs.{copies, AreAlike}
+use Rattle.q_prop.specs.Slots.{filled}
+use Rattle.q_logic.specs.Numbered.{Slots}
 use Rattle.std.proofs.Common.{◌++◌, slice_get}
+use Rattle.q_logic.proofs.Members.{taken-all}
 use Rattle.q_prop.specs.Slots.{IsPut}
 use Rattle.q_prop.proofs.SlotLemmas.{take-slice_get}
-use Rattle.q_check.specs.Alike.{AreAlike}
-use Rattle.q_check.proofs.Copies.{copies-append, same-sizes}
+use Rattle.q_check.proofs.Copies.{same-sizes}
+use Rattle.q_logic.proofs.Reaching.{copies-append}
 use Rattle.q_check.proofs.Slots.{put-same}
 use Rattle.q_check.proofs.Trying.{of, alike-formula}
 use Rattle.q_check.proofs.book.Book.start.Goals as goal
@@ -22,12 +24,6 @@ copies-more M i C D e = rw (add-one, take-slice_get M i C e) (copies-append D (t
 literals-more : (M : Matrix) (i : ℕ) (C : Clause) → slice_get M i ≡ Some C → literals_in (take (i + 1) M) ≡ literals_in (take i M) + length C
 literals-more M i C e = rw (add-one, take-slice_get M i C e) (literals-append (take i M) C)
 
-take-past : (X : Matrix) (i : ℕ) → length X ≤ i → take i X ≡ X
-take-past [] zero h = refl
-take-past [] (suc i) h = refl
-take-past (C ∷ X) zero h = absurd (omega arith)
-take-past (C ∷ X) (suc i) h = ap (λ (Y : Matrix). C ∷ Y) (take-past X i (omega arith))
-
 put-copies : (s t : Slots) (n : ℕ) (C D : Clause) (x : ℕ) → IsPut s n C t → copies D (filled s) ≡ x → copies D (filled t) ≡ x + copies D (C ∷ [])
 put-copies s t n C D x p e = let a : copies D (filled t) ≡ copies D (C ∷ filled s) = put-same s t n C p D in grind arith
 
@@ -41,7 +37,7 @@ loop-at-preserved c =
     )
 
 whole : (F : PrenexFormula) (P Q : Prefix) (s : Slots) (n i : ℕ) → P ≡ Q → Q ≡ F.prefix → n ≡ length F.matrix → n ≤ i → ((D : Clause) → copies D (filled s) ≡ copies D (take i F.matrix)) → AreAlike F (of P (filled s))
-whole F P Q s n i e f g h k = record { prefix = sym (e ∙ f); clauses = λ D. sym (k D ∙ ap (copies D) (take-past F.matrix i (omega arith))) }
+whole F P Q s n i e f g h k = record { prefix = sym (e ∙ f); clauses = λ D. sym (k D ∙ ap (copies D) (taken-all F.matrix i (omega arith))) }
 
 pub invariant_of-result : goal.invariant_of-result
 invariant_of-result c =
@@ -51,7 +47,7 @@ invariant_of-result c =
       record {
         formula = alike-formula F (of c.in_ok-scope.scope (filled c.loop-at.store)) a c.prefix.ensures.proper.formula;
         clauses_are = c.clauses-2.ensures.value ∙ z.0;
-        lits_are = c.loop-at.invariant.1 ∙ ap literals_in (take-past F.matrix c.loop-at.at (omega (arith, c.loop-at-test.false, c.clauses-at-end.ensures.value))) ∙ z.1;
+        lits_are = c.loop-at.invariant.1 ∙ ap literals_in (taken-all F.matrix c.loop-at.at (omega (arith, c.loop-at-test.false, c.clauses-at-end.ensures.value))) ∙ z.1;
       },
       rw c.new-2.ensures (λ R m. absurd m),
     )

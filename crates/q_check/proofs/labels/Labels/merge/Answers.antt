@@ -3,7 +3,7 @@ use Rattle.std.proofs.lemmas.Bool.Decides.{nat_tests}
 use Rattle.q_logic.specs.Literals.{Literal}
 use Rattle.q_logic.specs.Formulas.{IsIn}
 use Rattle.q_check.specs.Regions.{region_of}
-use Rattle.q_check.proofs.Members.{IsIn-take_cases, take-all}
+use Rattle.q_logic.proofs.Members.{taken-cases, taken-all}
 use Rattle.q_check.proofs.labels.Labels.merge.Goals as goal
 
 -- the region that goes, and another one
@@ -26,7 +26,7 @@ loop-k-init c = ((λ k m. absurd m), (λ a b e. e))
 pub loop-k-preserved : goal.loop-k-preserved
 loop-k-preserved c =
     let r = c.region_of-region.result in (
-      (λ k m. elim (IsIn-take_cases c.args.clause.now c.loop-k.k-index c.k-item.result k c.loop-k-test.true c.k-item.is m) [
+      (λ k m. elim (taken-cases c.args.clause.now c.loop-k.k-index c.k-item.result k c.loop-k-test.true c.k-item.is m) [
         | inl a ↦ c.melt.ensures k.var ∙ ap (melted r) (c.loop-k.invariant.0 k a) ∙ melted-none r
         | inr e ↦ c.melt.ensures k.var ∙ melted-itself r (region_of c.loop-k.self k.var) (c.region_of-region.ensures ∙ ap (region_of c.loop-k.self) (c.var.ensures.value ∙ sym (ap (λ (j : Literal). j.var) e)))
       ]),
@@ -34,7 +34,7 @@ loop-k-preserved c =
     )
 
 pub returns-clause-one : goal.returns-clause-one
-returns-clause-one c k m = c.loop-k.invariant.0 k (subst (λ xs. IsIn k xs) (sym (take-all c.args.clause.now c.loop-k.k-index c.loop-k-test.false)) m)
+returns-clause-one c k m = c.loop-k.invariant.0 k (subst (λ xs. IsIn k xs) (sym (taken-all c.args.clause.now c.loop-k.k-index c.loop-k-test.false)) m)
 
 pub returns-clause-coarser : goal.returns-clause-coarser
 returns-clause-coarser c = c.loop-k.invariant.1

@@ -1,7 +1,7 @@
 use Rattle.std.proofs.Common.{List, subst}
 use Rattle.q_logic.specs.Formulas.{IsIn}
 use Rattle.q_check.specs.Regions.{RegionMap}
-use Rattle.q_check.proofs.Members.{item-in}
+use Rattle.q_logic.proofs.Members.{item-in}
 use Rattle.q_check.proofs.recent.RecentRegions.separate.Goals as goal
 
 pub separate-requires-clause-regions : goal.separate-requires-clause-regions

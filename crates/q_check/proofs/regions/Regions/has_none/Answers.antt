@@ -3,7 +3,7 @@ use Rattle.q_logic.specs.Literals.{Literal}
 use Rattle.q_logic.specs.Formulas.{IsIn}
 use Rattle.q_logic.specs.Expanding.{inner_existential}
 use Rattle.q_check.specs.Regions.{region_of}
-use Rattle.q_check.proofs.Members.{IsIn-take_cases, take-all}
+use Rattle.q_logic.proofs.Members.{taken-cases, taken-all}
 use Rattle.q_check.proofs.regions.Regions.has_none.Goals as goal
 use Rattle.q_check.proofs.regions.Regions.has_none.Goals.{else-is_inner-via-then-is_inner+else-region_of-region, else-is_inner-via-else-is_inner}
 
@@ -11,7 +11,7 @@ pub loop-k-init : goal.loop-k-init
 loop-k-init c k m = absurd m
 
 pub loop-k-preserved : goal.loop-k-preserved
-loop-k-preserved c k m t r = elim (IsIn-take_cases c.args.clause.now c.loop-k.k-index c.k-item.result k c.loop-k-test.true c.k-item.is m) [
+loop-k-preserved c k m t r = elim (taken-cases c.args.clause.now c.loop-k.k-index c.k-item.result k c.loop-k-test.true c.k-item.is m) [
   | inl a ↦ c.loop-k.invariant k a t r
   | inr e ↦
       let v = ap (λ (j : Literal). j.var) e ∙ sym c.var.ensures.value in
@@ -24,4 +24,4 @@ loop-k-preserved c k m t r = elim (IsIn-take_cases c.args.clause.now c.loop-k.k-
 ]
 
 pub returns : goal.returns
-returns c t k m = c.loop-k.invariant k (subst (λ xs. IsIn k xs) (sym (take-all c.args.clause.now c.loop-k.k-index c.loop-k-test.false)) m)
+returns c t k m = c.loop-k.invariant k (subst (λ xs. IsIn k xs) (sym (taken-all c.args.clause.now c.loop-k.k-index c.loop-k-test.false)) m)

@@ -1,15 +1,12 @@
-use Rattle.std.proofs.Common.{◌≡◌, ◌∙◌, ℕ, true, Some, List, [], ◌∷◌, zero, suc, ◌<◌, length, get_or, refl, sym, subst, inl, inr, arith}
+use Rattle.std.proofs.Common.{◌≡◌, ℕ, true, List, [], ◌∷◌, zero, suc, ◌<◌, length, get_or, refl, sym, subst, inl, inr, arith}
 use Rattle.q_logic.specs.Formulas.{Clause, IsIn}
 use Rattle.q_logic.specs.Expanding.{inner_existential}
 use Rattle.q_logic.proofs.Membership.{Contains-IsIn}
-use Rattle.q_prop.specs.Slots.{Slots, Holds}
-use Rattle.q_check.proofs.Members.{IsIn-take_cases, take-all}
-use Rattle.q_check.proofs.Slots.{in-held}
+use Rattle.q_prop.specs.Slots.{Holds}
+use Rattle.q_logic.proofs.Members.{taken-cases, taken-all}
+use Rattle.q_check.proofs.Slots.{in-held, one_clause}
 use Rattle.q_check.proofs.regions.Regions.part.Goals as goal
 use Rattle.q_check.proofs.regions.Regions.part.Goals.{in-Some+else-not-has_none, in_default}
-
-one : (s : Slots) (n : ℕ) (C D : Clause) → Holds s n C → Holds s n D → C ≡ D
-one s n C D e f = let g : Some (Some C) ≡ Some (Some D) = sym e ∙ f in cc
 
 -- an item does not depend on what stands past the end
 whichever : (xs : List ℕ) (i d e : ℕ) → i < length xs → get_or xs i d ≡ get_or xs i e
@@ -24,13 +21,13 @@ pub loop-at-preserved : goal.loop-at-preserved
 loop-at-preserved c n m D h k a t r =
     let xs = c.slots_of-at-items.result.now in
     let i = c.loop-at.at-index in
-    elim (IsIn-take_cases xs i (get_or xs i 0) n c.loop-at-test.true (whichever xs i 0 (get_or xs i 0) c.loop-at-test.true) m) [
+    elim (taken-cases xs i (get_or xs i 0) n c.loop-at-test.true (whichever xs i 0 (get_or xs i 0) c.loop-at-test.true) m) [
       | inl b ↦ c.loop-at.invariant n b D h k a t r
       | inr q ↦
           let there = subst (λ (x : ℕ). Holds c.args.store.now x D) q h in
           elim c.match-slot.branch [
             | in-Some+else-not-has_none w ↦
-                let e = one c.args.store.now (get_or xs i 0) D w.in-Some.clause.now there w.in-Some.ensures in
+                let e = one_clause c.args.store.now (get_or xs i 0) D w.in-Some.clause.now there w.in-Some.ensures in
                 w.has_none.ensures w.if-not-has_none.false k (subst (λ (E : Clause). IsIn k E) e a) (subst (λ (x : ℕ). inner_existential c.args.scope.now x k.var ≡ true) (sym w.var.ensures.value) t) r
             | in_default w ↦ w.in_default.ensures D there
           ]
@@ -41,4 +38,4 @@ returns c t D d m =
     let xs = c.slots_of-at-items.result.now in
     let n = in-held c.args.store.now D d in
     let l = Contains-IsIn n.0 xs (c.slots_of-at-items.ensures.all_there n.0 D n.1 m) in
-    c.loop-at.invariant n.0 (subst (λ ys. IsIn n.0 ys) (sym (take-all xs c.loop-at.at-index c.loop-at-test.false)) l) D n.1
+    c.loop-at.invariant n.0 (subst (λ ys. IsIn n.0 ys) (sym (taken-all xs c.loop-at.at-index c.loop-at-test.false)) l) D n.1

@@ -14,10 +14,17 @@ returns-then-head-len-clause-whole c t =
     let past : length c.loop-head.self.vars ≤ c.loop-head.head = omega (arith, c.if-head-len.true, c.len.ensures, e) in
     (walk-ended c.args.kernel.now c.args.u.var c.loop-head.head c.loop-head.self c.loop-head.invariant.walk past, c.loop-head.invariant.within)
 
-pub visit_both-requires-in-loop-head-clause-linked : goal.visit_both-requires-in-loop-head-clause-linked
-visit_both-requires-in-loop-head-clause-linked c =
+pub visit_both-requires-in-loop-head : goal.visit_both-requires-in-loop-head
+visit_both-requires-in-loop-head c =
     let i = place-member c.loop-head.self.vars c.loop-head.head c.at-next.result (subst (λ (w : Walked). slice_get w.vars c.loop-head.head ≡ Some c.at-next.result) c.self.view_is c.at-next.ensures) in
-    inr (c.loop-head.invariant.walk.region.linked c.at-next.result i).1
+    record {
+      sign = c.requires.sign;
+      bound = c.requires.bound;
+      room_for = c.requires.room;
+      linked = inr (c.loop-head.invariant.walk.region.linked c.at-next.result i).1;
+      region = c.loop-head.invariant.walk.region;
+      within = c.loop-head.invariant.within;
+    }
 
 pub loop-head-preserved : goal.loop-head-preserved
 loop-head-preserved c =

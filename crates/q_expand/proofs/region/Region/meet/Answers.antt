@@ -1,15 +1,12 @@
-use Rattle.std.proofs.Common.{◌≡◌, ◌≤◌, ◌+◌, Bool, cond, length, arith, sym, ap, subst, ◌∙◌, Some, add-zero}
-use Rattle.q_logic.specs.Formulas.{Clause}
+use Rattle.std.proofs.Common.{◌≤◌, ◌+◌, Bool, cond, length, arith, sym, ap, subst, ◌∙◌, add-zero}
+use Rattle.std.proofs.lemmas.Option.{same_Some}
 use Rattle.q_logic.specs.Measure.{size_of}
 use Rattle.q_logic.specs.Numbered.{live}
 use Rattle.q_kernel.specs.Kernels.{slots}
-use Rattle.q_rule.proofs.Members.{test-false}
+use Rattle.q_logic.proofs.Members.{test-false}
 use Rattle.q_expand.specs.Regions.{Walked, IsRegion, IsConnected, IsMet}
 use Rattle.q_expand.proofs.Meeting.{region-more, size-room, others-room, clause-room}
 use Rattle.q_expand.proofs.region.Region.meet.Goals as goal
-
-same : (C D : Clause) → Some C ≡ Some D → C ≡ D
-same C D e = cc
 
 pub overflow_add-self-then-not-holds_one : goal.overflow_add-self-then-not-holds_one
 overflow_add-self-then-not-holds_one c =
@@ -31,7 +28,7 @@ returns-then-not-holds_one-clause-met c t =
     let k = c.args.kernel.now in
     let u = c.args.u.var in
     let C = c.clause_of-clause.result.now in
-    let e = same c.requires.live.0 C (sym c.requires.live.1 ∙ c.clause_of-clause.ensures.clause) in
+    let e = same_Some c.requires.live.0 C (sym c.requires.live.1 ∙ c.clause_of-clause.ensures.clause) in
     let lacks = sym (c.if-not-holds_one.ensures) in
     subst (λ (o : Walked). IsMet k u c.args.c o (record { vars = c.push_inner.new.vars; met = c.push.new.self; size = c.self.inside.size + (length C + 1); others = c.self.inside.others + 1 })) c.self.view_is
     (region-more k u c.args.c C (record { vars = c.self.inside.vars; met = c.self.inside.met; size = c.self.inside.size; others = c.self.inside.others })
@@ -46,7 +43,7 @@ returns-else-not-holds_one-clause-met c t =
     let k = c.args.kernel.now in
     let u = c.args.u.var in
     let C = c.clause_of-clause.result.now in
-    let e = same c.requires.live.0 C (sym c.requires.live.1 ∙ c.clause_of-clause.ensures.clause) in
+    let e = same_Some c.requires.live.0 C (sym c.requires.live.1 ∙ c.clause_of-clause.ensures.clause) in
     let holds = sym c.if-not-holds_one.ensures in
     subst (λ (o : Walked). IsMet k u c.args.c o (record { vars = c.push_inner.new.vars; met = c.push.new.self; size = c.self.inside.size; others = c.self.inside.others })) c.self.view_is
     (region-more k u c.args.c C (record { vars = c.self.inside.vars; met = c.self.inside.met; size = c.self.inside.size; others = c.self.inside.others })

@@ -45,7 +45,7 @@ pub returns-then-not-fits-clause-barred : goal.returns-then-not-fits-clause-barr
 returns-then-not-fits-clause-barred c t =
     let k = c.args.kernel.now in
     let m = c.in_ok-meet.ensures.met c.if-not-branch.false in
-    region-barred k c.args.u.var c.meet.new.self m.region c.args.room c.sound.ensures.proper.formula.distinct c.requires.room (c.fits.ensures.no c.if-not-fits.true)
+    region-barred k c.args.u.var c.meet.new.self m.region c.args.room c.sound.ensures.proper.formula.distinct c.requires.room_for (c.fits.ensures.no c.if-not-fits.true)
 
 pub loop-at-smaller : goal.loop-at-smaller
 loop-at-smaller c =

@@ -1,17 +1,17 @@
 use Rattle.std.proofs.Common.{◌<◌, sym, ◌∙◌, subst, arith, ℕ}
 use Rattle.q_arena.specs.Rings.{Has}
 use Rattle.q_arena.specs.Chains.{list_at}
-use Rattle.q_arena.proofs.Layouts.{first-has}
-use Rattle.q_arena.proofs.Numbers.{same-number}
+use Rattle.q_arena.proofs.Following.{get-has}
+use Rattle.q_arena.proofs.Numbers.{some-same}
 use Rattle.q_kernel.proofs.uses.Uses.first_idle.Goals as goal
 
 pub overflow_cast-result : goal.overflow_cast-result
 overflow_cast-result c =
-    let there : Has (list_at c.self.inside.rings 0) c.in-Some.var = first-has (list_at c.self.inside.rings 0) c.in-Some.var (sym c.first.ensures ∙ c.in-Some.is) in
-    let small : c.in-Some.var < 4294967296 = c.self.invariant.small 0 c.in-Some.var there in
+    let there : Has (list_at c.self.inside.rings 0) c.in_ok-var.var = get-has (list_at c.self.inside.rings 0) 0 c.in_ok-var.var (sym c.first.ensures ∙ c.in_ok-var.was) in
+    let small : c.in_ok-var.var < 4294967296 = c.self.invariant.small 0 c.in_ok-var.var there in
     omega arith
 
-pub returns-in-Some-clause-there : goal.returns-in-Some-clause-there
-returns-in-Some-clause-there c = λ v e.
-    let there : Has (list_at c.self.inside.rings 0) c.in-Some.var = first-has (list_at c.self.inside.rings 0) c.in-Some.var (sym c.first.ensures ∙ c.in-Some.is) in
-    rw (← c.self.view_is) (subst (λ (k : ℕ). Has (list_at c.self.inside.rings 0) k) (same-number c.in-Some.var v e) there)
+pub returns-clause-there : goal.returns-clause-there
+returns-clause-there c = λ v e.
+    let there : Has (list_at c.self.inside.rings 0) c.in_ok-var.var = get-has (list_at c.self.inside.rings 0) 0 c.in_ok-var.var (sym c.first.ensures ∙ c.in_ok-var.was) in
+    rw (← c.self.view_is) (subst (λ (k : ℕ). Has (list_at c.self.inside.rings 0) k) (some-same c.in_ok-var.var v e) there)

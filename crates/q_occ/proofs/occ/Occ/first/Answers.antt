@@ -1,10 +1,10 @@
 use Rattle.std.proofs.Common.{sym, ◌∙◌, subst, ℕ}
 use Rattle.q_arena.specs.Rings.{Has}
 use Rattle.q_arena.specs.Chains.{list_at}
-use Rattle.q_arena.proofs.Layouts.{first-has}
+use Rattle.q_arena.proofs.Following.{get-has}
 use Rattle.q_occ.proofs.occ.Occ.first.Goals as goal
 
 pub returns-clause-there : goal.returns-clause-there
 returns-clause-there c = λ p e.
     subst (λ (h : ℕ). Has (list_at c.args.self.now h) p) c.index-2.ensures
-    (rw (← c.self.view_is) (first-has _ p (sym c.first.ensures ∙ e)))
+    (rw (← c.self.view_is) (get-has _ 0 p (sym c.first.ensures ∙ e)))

@@ -5,7 +5,8 @@ use Rattle.q_arena.specs.Chains.{list_at, preceding}
 use Rattle.q_prefix.specs.Order.{FlatPrefix}
 use Rattle.q_prefix.proofs.Bounds.{has-bound, bound-has}
 use Rattle.q_prefix.proofs.Backwards.{before-some, before-none, before-has}
-use Rattle.q_prefix.proofs.Walks.{bound-is, some-same}
+use Rattle.q_prefix.proofs.Walks.{bound-is}
+use Rattle.q_arena.proofs.Numbers.{some-same}
 use Rattle.q_prefix.proofs.prefix.Prefix.before.Goals as goal
 
 pub prev-requires : goal.prev-requires
@@ -19,31 +20,31 @@ bound-requires c =
     let marks = c.self.inside.marks.items in
     let vars = list_at c.self.inside.order 0 in
     let there = has-bound marks vars c.args.var (subst (λ (p : FlatPrefix). is_bound p.bounds c.args.var ≡ true) (sym c.self.view_is) c.requires) in
-    rw (← c.self.view_is) (bound-has marks vars c.in-Some.before (before-has vars c.args.var c.in-Some.before (sym (c.prev.ensures 0 there) ∙ c.in-Some.is)))
+    rw (← c.self.view_is) (bound-has marks vars c.in_ok-before.before (before-has vars c.args.var c.in_ok-before.before (sym (c.prev.ensures 0 there) ∙ c.in_ok-before.was)))
 
-pub returns-in-Some-clause-value : goal.returns-in-Some-clause-value
-returns-in-Some-clause-value c =
+pub returns-clause-value : goal.returns-clause-value
+returns-clause-value c =
     let marks = c.self.inside.marks.items in
     let vars = list_at c.self.inside.order 0 in
     let there = has-bound marks vars c.args.var (subst (λ (p : FlatPrefix). is_bound p.bounds c.args.var ≡ true) (sym c.self.view_is) c.requires) in
-    let before : preceding c.args.var vars ≡ Some c.in-Some.before = sym (c.prev.ensures 0 there) ∙ c.in-Some.is in
+    let before : preceding c.args.var vars ≡ Some c.in_ok-before.before = sym (c.prev.ensures 0 there) ∙ c.in_ok-before.was in
     let q = rw (← c.self.view_is) at c.bound.ensures.quant in
-    let b = bound-is marks vars c.in-Some.before c.bound.result (before-has vars c.args.var c.in-Some.before before) c.bound.ensures.var q in
-    rw (← c.self.view_is) (ap (λ (x : Bound). Some x) b ∙ sym (before-some marks vars c.args.var c.in-Some.before before))
+    let b = bound-is marks vars c.in_ok-before.before c.bound.result (before-has vars c.args.var c.in_ok-before.before before) c.bound.ensures.var q in
+    rw (← c.self.view_is) (ap (λ (x : Bound). Some x) b ∙ sym (before-some marks vars c.args.var c.in_ok-before.before before))
 
-pub returns-in-Some-clause-there : goal.returns-in-Some-clause-there
-returns-in-Some-clause-there c b e =
+pub returns-clause-there : goal.returns-clause-there
+returns-clause-there c b e =
     let marks = c.self.inside.marks.items in
     let vars = list_at c.self.inside.order 0 in
     let there = has-bound marks vars c.args.var (subst (λ (p : FlatPrefix). is_bound p.bounds c.args.var ≡ true) (sym c.self.view_is) c.requires) in
-    let before : preceding c.args.var vars ≡ Some c.in-Some.before = sym (c.prev.ensures 0 there) ∙ c.in-Some.is in
+    let before : preceding c.args.var vars ≡ Some c.in_ok-before.before = sym (c.prev.ensures 0 there) ∙ c.in_ok-before.was in
     let q = c.bound.ensures.var in
     let same = some-same c.bound.result b e in
-    rw (← c.self.view_is) (rw (← same, q) (bound-has marks vars c.in-Some.before (before-has vars c.args.var c.in-Some.before before)))
+    rw (← c.self.view_is) (rw (← same, q) (bound-has marks vars c.in_ok-before.before (before-has vars c.args.var c.in_ok-before.before before)))
 
-pub returns-in-None-clause-value : goal.returns-in-None-clause-value
-returns-in-None-clause-value c =
+pub returns-in_err-before-clause-value : goal.returns-in_err-before-clause-value
+returns-in_err-before-clause-value c =
     let marks = c.self.inside.marks.items in
     let vars = list_at c.self.inside.order 0 in
     let there = has-bound marks vars c.args.var (subst (λ (p : FlatPrefix). is_bound p.bounds c.args.var ≡ true) (sym c.self.view_is) c.requires) in
-    rw (← c.self.view_is) (sym (before-none marks vars c.args.var (sym (c.prev.ensures 0 there) ∙ c.in-None.is)))
+    rw (← c.self.view_is) (c.from_residual.ensures ∙ sym (before-none marks vars c.args.var (sym (c.prev.ensures 0 there) ∙ c.in_err-before.was)))

@@ -6,11 +6,10 @@ use Rattle.q_arena.specs.Rings.{Has}
 use Rattle.q_arena.specs.Chains.{list_at}
 use Rattle.q_prefix.specs.declared.marks.Mark.{Mark}
 use Rattle.q_prefix.specs.Order.{FlatPrefix, mark_at, bound_of, bounds_of, with_after}
-use Rattle.q_arena.proofs.Numbers.{ℕ-cases}
+use Rattle.q_arena.proofs.Numbers.{ℕ-cases, some-same}
 use Rattle.q_arena.proofs.Seen.{length-set'}
 use Rattle.q_prefix.proofs.Bounds.{has-bound, bound-has, quant-has}
 use Rattle.q_prefix.proofs.Changes.{prefix-inserted, bounds-inserted, mark-set_here}
-use Rattle.q_prefix.proofs.Walks.{some-same}
 use Rattle.q_prefix.proofs.prefix.Prefix.insert_after.Goals as goal
 
 pub insert_after-requires-clause-after : goal.insert_after-requires-clause-after

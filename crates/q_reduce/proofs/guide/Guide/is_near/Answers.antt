@@ -1,6 +1,6 @@
 use Rattle.q_logic.specs.Numbered.{others}
 use Rattle.q_kernel.specs.Kernels.{slots}
-use Rattle.q_reduce.proofs.Reaching.{place-member}
+use Rattle.q_rule.proofs.Members.{place-member}
 use Rattle.q_reduce.proofs.Hopping.{exits-begun, exits-more, exit-back}
 use Rattle.q_reduce.proofs.guide.Guide.is_near.Goals as goal
 

@@ -1,4 +1,4 @@
-use Rattle.q_reduce.proofs.Reaching.{place-member}
+use Rattle.q_rule.proofs.Members.{place-member}
 use Rattle.q_reduce.proofs.guide.Guide.leads_back.Goals as goal
 
 pub returns-then-descends : goal.returns-then-descends

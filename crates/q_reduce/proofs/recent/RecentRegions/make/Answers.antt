@@ -2,7 +2,7 @@ use Rattle.std.proofs.Common.{List, [], ◌∷◌, sym, subst, inl, inr}
 use Rattle.std.specs.List.{remove}
 use Rattle.q_logic.specs.Formulas.{IsIn}
 use Rattle.q_logic.specs.Numbered.{live}
-use Rattle.q_logic.proofs.Clauses.{IsIn-append}
+use Rattle.q_logic.proofs.ClauseLemmas.{IsIn-append}
 use Rattle.q_kernel.specs.Kernels.{slots}
 use Rattle.q_reduce.specs.Regions.{RegionMap, AreRegions}
 use Rattle.q_reduce.proofs.recent.RecentRegions.make.Goals as goal

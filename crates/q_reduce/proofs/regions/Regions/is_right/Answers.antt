@@ -3,14 +3,12 @@ use Rattle.q_logic.specs.Formulas.{Clause}
 use Rattle.q_logic.specs.Numbered.{slot}
 use Rattle.q_kernel.specs.Kernels.{slots}
 use Rattle.q_kernel.proofs.Slotting.{IsIn-slot}
+use Rattle.q_arena.proofs.Numbers.{some-same}
 use Rattle.q_reduce.specs.Regions.{IsRegional}
 use Rattle.q_reduce.proofs.regions.Regions.is_right.Goals as goal
 
 missing : (D : Clause) → None ≡ Some D → ⊥
 missing D e = cc
-
-same : (C D : Clause) → Some C ≡ Some D → C ≡ D
-same C D e = cc
 
 which : (c from id : ℕ) → c < id + 1 → (c < from) ⊎ ((from ≤ c) × (c < id)) ⊎ (c ≡ id)
 which c from id h = grind arith
@@ -24,7 +22,7 @@ loop-id-preserved c d D l e =
       | inr rest ↦ elim rest [
         | inl between ↦ absurd (missing D (sym (c.in-Some.ensures.least c.in-Some.id d refl between.0 between.1) ∙ e))
         | inr here ↦
-            let q = same c.lits.result.now D (sym c.lits.ensures.clause ∙ subst (λ (x : ℕ). slot (slots k) x ≡ Some D) here e) in
+            let q = some-same c.lits.result.now D (sym c.lits.ensures.clause ∙ subst (λ (x : ℕ). slot (slots k) x ≡ Some D) here e) in
             subst (λ (x : Clause). IsRegional k.prefix c.args.self.now c.args.w x) q (c.fits.ensures c.if-not-fits.false)
       ]
     ]

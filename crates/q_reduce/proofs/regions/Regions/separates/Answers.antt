@@ -1,16 +1,14 @@
-use Rattle.std.proofs.Common.{◌≡◌, ◌∙◌, ℕ, Some, true, refl, sym, ap, subst}
+use Rattle.std.proofs.Common.{◌≡◌, ◌∙◌, ℕ, true, refl, sym, ap, subst}
 use Rattle.q_logic.specs.Literals.{negation}
 use Rattle.q_logic.specs.Formulas.{Clause, IsIn}
 use Rattle.q_logic.specs.Expanding.{inner_existential}
 use Rattle.q_kernel.specs.Kernels.{slots}
+use Rattle.q_arena.proofs.Numbers.{some-same}
 use Rattle.q_reduce.specs.Regions.{is_covered}
-use Rattle.q_rule.proofs.Members.{test-not}
+use Rattle.q_logic.proofs.Members.{test-not}
 use Rattle.q_rule.proofs.Quantifiers.{bound-universal}
 use Rattle.q_reduce.proofs.Separating.{reducible-none, reducible-apart}
 use Rattle.q_reduce.proofs.regions.Regions.separates.Goals as goal
-
-same : (C D : Clause) → Some C ≡ Some D → C ≡ D
-same C D e = cc
 
 pub region_in-requires : goal.region_in-requires
 region_in-requires c = rw c.var.ensures.value (bound-universal c.args.kernel.now.prefix c.args.lit.var c.requires.universal)
@@ -19,11 +17,11 @@ pub returns-then-covers : goal.returns-then-covers
 returns-then-covers c t C e =
     let k = c.args.kernel.now in
     let l = c.args.lit in
-    let q = same c.requires.live.0 C (sym c.requires.live.1 ∙ e) in
+    let q = some-same c.requires.live.0 C (sym c.requires.live.1 ∙ e) in
     let held : IsIn l C = subst (λ (x : Clause). IsIn l x) q c.requires.live.2 in
     let lacks : IsIn (negation l) C → ⊥ = λ m. c.requires.live.3 (subst (λ (x : Clause). IsIn (negation l) x) (sym q) m) in
     let j = c.in-Some.ensures.some c.in-Some.region refl in
-    let m : IsIn j.0 C = subst (λ (x : Clause). IsIn j.0 x) (same c.lits.result.now C (sym c.lits.ensures.clause ∙ e)) j.1 in
+    let m : IsIn j.0 C = subst (λ (x : Clause). IsIn j.0 x) (some-same c.lits.result.now C (sym c.lits.ensures.clause ∙ e)) j.1 in
     let inner : inner_existential k.prefix l.var j.0.var ≡ true = subst (λ (x : ℕ). inner_existential k.prefix x j.0.var ≡ true) c.var.ensures.value j.2 in
     let covered : is_covered c.args.self.now l.var ≡ true = ap (is_covered c.args.self.now) (sym c.var-in-Some.ensures.value) ∙ (sym c.covers.ensures ∙ c.if-covers.true) in
     let noted = rw (c.negated.ensures, ← j.3) at c.has_noted.ensures in
@@ -33,8 +31,8 @@ pub returns-in-None : goal.returns-in-None
 returns-in-None c t C e =
     let k = c.args.kernel.now in
     let l = c.args.lit in
-    let q = same c.requires.live.0 C (sym c.requires.live.1 ∙ e) in
+    let q = some-same c.requires.live.0 C (sym c.requires.live.1 ∙ e) in
     let held : IsIn l C = subst (λ (x : Clause). IsIn l x) q c.requires.live.2 in
     let lacks : IsIn (negation l) C → ⊥ = λ m. c.requires.live.3 (subst (λ (x : Clause). IsIn (negation l) x) (sym q) m) in
     reducible-none k.prefix (slots k) c.args.self.now c.args.c C l c.requires.universal e held lacks
-    (λ j m s. c.in-None.ensures.none refl j (subst (λ (x : Clause). IsIn j x) (sym (same c.lits.result.now C (sym c.lits.ensures.clause ∙ e))) m) (subst (λ (x : ℕ). inner_existential k.prefix x j.var ≡ true) (sym c.var.ensures.value) s))
+    (λ j m s. c.in-None.ensures.none refl j (subst (λ (x : Clause). IsIn j x) (sym (some-same c.lits.result.now C (sym c.lits.ensures.clause ∙ e))) m) (subst (λ (x : ℕ). inner_existential k.prefix x j.var ≡ true) (sym c.var.ensures.value) s))

@@ -1,6 +1,7 @@
-use Rattle.std.proofs.Common.{◌≡◌, ◌∙◌, Some, sym, refl, subst}
+use Rattle.std.proofs.Common.{◌∙◌, sym, refl, subst}
 use Rattle.q_logic.specs.Formulas.{Clause, IsIn}
 use Rattle.q_kernel.specs.Kernels.{slots}
+use Rattle.q_arena.proofs.Numbers.{some-same}
 use Rattle.q_rule.proofs.Quantifiers.{bound-universal}
 use Rattle.q_reduce.proofs.Hopping.{absent-reducible}
 use Rattle.q_reduce.specs.Hops.{Rows, AreHopsOf}
@@ -8,13 +9,10 @@ use Rattle.q_reduce.specs.Lent.{Learned}
 use Rattle.q_reduce.proofs.search.Search.may_drop.Goals as goal
 use Rattle.q_reduce.proofs.search.Search.may_drop.Goals.{then-reducible+in_ok-learn, else-reducible}
 
-same : (C D : Clause) → Some C ≡ Some D → C ≡ D
-same C D e = cc
-
 pub returns-then-count-eq0-clause-yes : goal.returns-then-count-eq0-clause-yes
 returns-then-count-eq0-clause-yes c C e =
     let k = c.args.kernel.now in
-    let q = same c.requires.live.0 C (sym c.requires.live.1 ∙ e) in
+    let q = some-same c.requires.live.0 C (sym c.requires.live.1 ∙ e) in
     let m : IsIn c.args.lit C = subst (λ (x : Clause). IsIn c.args.lit x) q c.requires.live.2 in
     let none = rw c.negated.ensures at c.count.ensures.none in
     ((λ t. absent-reducible k.prefix (slots k) c.args.c C c.args.lit e c.requires.universal m (none c.if-count-eq0.true)), (λ r. refl))

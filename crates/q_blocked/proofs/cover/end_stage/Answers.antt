@@ -1,0 +1,22 @@
+use Rattle.std.proofs.Common.{◌∷◌, ◌++◌, [], ℕ, List, None, length, sym, subst}
+use Rattle.q_logic.specs.Formulas.{Clause}
+use Rattle.q_logic.specs.Numbered.{others}
+use Rattle.q_kernel.specs.Kernels.{slots}
+use Rattle.q_blocked.specs.declared.plan.Stage.{Stage}
+use Rattle.q_blocked.specs.Growths.{IsGrowing}
+use Rattle.q_blocked.proofs.Growing.{growing-staged}
+use Rattle.q_blocked.proofs.cover.end_stage.Goals as goal
+
+pub returns-in_ok-note-clause-growing : goal.returns-in_ok-note-clause-growing
+returns-in_ok-note-clause-growing c k id (C, e, g) =
+    let old = c.args.growth.now in
+    let new = c.note.new.self in
+    let X = others id (slots k) in (
+      C,
+      e,
+      subst (λ (S : Clause). IsGrowing k.prefix X C S new.plan.stages.items new.base new.worked) (sym c.in_ok-note.ensures.set)
+          (subst (λ (ss : List Stage). IsGrowing k.prefix X C old.set ss new.base new.worked) (sym c.in_ok-note.ensures.stages)
+          (subst (λ (n : ℕ). IsGrowing k.prefix X C old.set (old.plan.stages.items ++ record { to = length old.set; on = None } ∷ []) n new.worked) (sym c.in_ok-note.ensures.base)
+          (subst (λ (n : ℕ). IsGrowing k.prefix X C old.set (old.plan.stages.items ++ record { to = length old.set; on = None } ∷ []) (length old.set) n) (sym c.in_ok-note.ensures.worked)
+          (growing-staged k.prefix X C old.set old.plan.stages.items old.base old.worked g)))),
+    )

@@ -1,6 +1,0 @@
-use Rattle.std.proofs.Common.{take}
-use Rattle.q_logic.specs.Formulas.{IsIn}
-use Rattle.q_rule.proofs.clauses.holds.Given as goal
-
-abbrev pub invariant-loop-k : goal.invariant-loop-k
-invariant-loop-k l = IsIn l.lit (take l.k-index l.clause) → ⊥

@@ -1,6 +1,0 @@
-use Rattle.q_sched.proofs.Targets.{none-equiv}
-use Rattle.q_sched.proofs.searches.Searches.find_equiv.Goals as goal
-
-pub returns-in_default-clause-none : goal.returns-in_default-clause-none
-returns-in_default-clause-none c =
-    λ e. none-equiv c.args.bounds.now c.args.kernel.now c.args.from (c.in_ok-target.ensures.none c.in_default.is)
