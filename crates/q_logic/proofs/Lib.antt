@@ -59,4 +59,10 @@ pub mod AllDecided
 pub mod RuleRows
 pub mod Repeated
 pub mod CertificateTrees
+pub mod Exchanged
+pub mod Falsity
+pub mod Turning
+pub mod PlainDrops
+pub mod ForthVariables
+pub mod ForthRuns
 mod ByVariable

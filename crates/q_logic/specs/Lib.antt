@@ -11,6 +11,9 @@ pub mod Reach
 pub mod Steps
 pub mod Runs
 pub mod Undos
+pub mod Exchanging
+pub mod Herbrands
+pub mod Reversals
 pub mod Limits
 pub mod Clauses
 pub mod StepForms

@@ -7,6 +7,7 @@ mod careless_rules;
 mod clause_row;
 mod examples;
 mod formulas;
+mod herbrands;
 mod laws;
 mod limits;
 mod literals;
@@ -26,6 +27,9 @@ pub use examples::{
     order_matters_to_outer_clauses, order_matters_to_truth,
 };
 pub use formulas::{Bound, Formula, Quant};
+pub use herbrands::{
+    falsity_is_herbrand, other_steps_have_reversals, reversals_are_of_plain_runs, runs_refute,
+};
 pub use laws::{
     causes_are_exact, implied_by_more, implied_is_sound, larger_limits_keep_steps, order_by_places,
     reducible_by_variable, runs_keep_truth, runs_rebuild, same_formulas, saturated_conflicts,
