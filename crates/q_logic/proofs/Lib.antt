@@ -60,3 +60,7 @@ pub mod RuleRows
 pub mod Repeated
 pub mod CertificateTrees
 mod ByVariable
+pub mod Rounds
+pub mod MovesBack
+pub mod FirstMoves
+pub mod FirstValues

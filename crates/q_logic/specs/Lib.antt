@@ -33,3 +33,4 @@ pub mod Deciding
 pub mod CarelessRules
 pub mod ByVariable
 pub mod Counts
+pub mod Moves
