@@ -66,3 +66,7 @@ pub mod PlainDrops
 pub mod ForthVariables
 pub mod ForthRuns
 mod ByVariable
+pub mod Rounds
+pub mod MovesBack
+pub mod FirstMoves
+pub mod FirstValues

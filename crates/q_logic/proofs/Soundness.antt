@@ -73,7 +73,7 @@ implied_back P X C c i sk =
     Skolem-fewer P (C ∷ one_less C X) X c (IsIn-one_less C X)
     (Skolem-first P (one_less C X) C c (λ A t. implied-true (outcome c A) (one_less C X) C i t) sk)
 
-same_first : (p : Option Literal) (l m : Literal) → p ≡ Some l → p ≡ Some m → l ≡ m
+pub same_first : (p : Option Literal) (l m : Literal) → p ≡ Some l → p ≡ Some m → l ≡ m
 same_first p l m e f = cc
 
 step-back : (F : PrenexFormula) (s : ProofStep) (us : List UndoEntry) (c : Strategy) → IsFormula F →
@@ -106,7 +106,7 @@ step-back F (remove_variable v) us c f h e sk =
     go true s = s
     go false s = s
 
-Back-append : (us vs : List UndoEntry) (c : Strategy) → Back (us ++ vs) c ≡ Back us (Back vs c)
+pub Back-append : (us vs : List UndoEntry) (c : Strategy) → Back (us ++ vs) c ≡ Back us (Back vs c)
 Back-append [] vs c = refl
 Back-append (u ∷ us) vs c = ap (taken_back u) (Back-append us vs c)
 

@@ -36,3 +36,4 @@ pub mod Deciding
 pub mod CarelessRules
 pub mod ByVariable
 pub mod Counts
+pub mod Moves

@@ -13,6 +13,7 @@ mod limits;
 mod literals;
 mod lits;
 mod memory;
+mod moves;
 mod rule_bounds;
 mod rules;
 mod steps;
@@ -39,6 +40,10 @@ pub use limits::Limits;
 pub use literals::Lit;
 pub use lits::{Lits, holds, sort_clause};
 pub use memory::NoMemory;
+pub use moves::{
+    completions_are_carried_back, first_moves_are_carried_back, first_stands_before_universals,
+    first_values_begin_the_game, moves_are_carried_back, winning_moves_are_carried_back,
+};
 pub use rule_bounds::Bounds;
 pub use rules::{
     growing_keeps, plain_programs_decide, settled_at_once, sweeping_runs, targets_lower,
