@@ -60,3 +60,7 @@ pub mod RuleRows
 pub mod Repeated
 pub mod CertificateTrees
 mod ByVariable
+pub mod Exploring
+pub mod Winning
+pub mod Picking
+pub mod Hitting

@@ -28,6 +28,15 @@ abbrev pub given : Option Circuit → Bool
 given None = false
 given (Some t) = true
 
+-- the circuit where the test holds, and else none
+abbrev pub where_true : Bool → Circuit → Option Circuit
+where_true true t = Some t
+where_true false t = None
+
+-- circuits of all variables, as those of the existentials alone
+abbrev pub strategy_of : Prefix → (ℕ → Circuit) → Strategy
+strategy_of P c x = where_true (is_existential P x) (c x)
+
 -- a circuit for each existential and for no other variable, which reads only universals that stand before
 -- its own variable
 pub record Lawful (P : Prefix) (c : Strategy) : Type 0 where

@@ -14,7 +14,9 @@ mod lits;
 mod memory;
 mod rule_bounds;
 mod rules;
+mod search_laws;
 mod steps;
+mod verdict;
 
 pub use by_variable::valid_by_variable;
 pub use careless_rules::{
@@ -40,4 +42,9 @@ pub use rules::{
     growing_keeps, plain_programs_decide, settled_at_once, sweeping_runs, targets_lower,
     targets_run,
 };
+pub use search_laws::{
+    branches_are_few, circuits_are_skolem, counters_falsify, decisions_are_few, valid_is_skolem,
+    values_are_few, won_is_true,
+};
 pub use steps::{Kind, Step};
+pub use verdict::{Standing, Verdict};
