@@ -70,3 +70,7 @@ pub mod Rounds
 pub mod MovesBack
 pub mod FirstMoves
 pub mod FirstValues
+pub mod Exploring
+pub mod Winning
+pub mod Picking
+pub mod Hitting

@@ -37,3 +37,6 @@ pub mod CarelessRules
 pub mod ByVariable
 pub mod Counts
 pub mod Moves
+pub mod Searching
+pub mod Branches
+pub mod Decisions

@@ -37,6 +37,15 @@ map_circuit f (Some t) = Some (f t)
 abbrev pub reread : ℕ → Circuit → Strategy → Strategy
 reread u s c x = map_circuit (replaced u s) (c x)
 
+-- the circuit where the test holds, and else none
+abbrev pub where_true : Bool → Circuit → Option Circuit
+where_true true t = Some t
+where_true false t = None
+
+-- circuits of all variables, as those of the existentials alone
+abbrev pub strategy_of : Prefix → (ℕ → Circuit) → Strategy
+strategy_of P c x = where_true (is_existential P x) (c x)
+
 -- a circuit for each existential and for no other variable, which reads only universals that stand before
 -- its own variable
 pub record Lawful (P : Prefix) (c : Strategy) : Type 0 where

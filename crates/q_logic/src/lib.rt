@@ -16,7 +16,9 @@ mod memory;
 mod moves;
 mod rule_bounds;
 mod rules;
+mod search_laws;
 mod steps;
+mod verdict;
 
 pub use by_variable::valid_by_variable;
 pub use careless_rules::{
@@ -49,4 +51,9 @@ pub use rules::{
     growing_keeps, plain_programs_decide, settled_at_once, sweeping_runs, targets_lower,
     targets_run,
 };
+pub use search_laws::{
+    branches_are_few, circuits_are_skolem, counters_falsify, decisions_are_few, valid_is_skolem,
+    values_are_few, won_is_true,
+};
 pub use steps::{Kind, Step};
+pub use verdict::{Standing, Verdict};
