@@ -60,3 +60,10 @@ pub mod RuleRows
 pub mod Repeated
 pub mod CertificateTrees
 mod ByVariable
+pub mod Chaining
+pub mod Copies
+pub mod Alike
+pub mod HintedRuns
+pub mod Showing
+pub mod HintedCauses
+pub mod HintGroups

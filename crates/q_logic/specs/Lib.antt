@@ -33,3 +33,6 @@ pub mod Deciding
 pub mod CarelessRules
 pub mod ByVariable
 pub mod Counts
+pub mod Hints
+pub mod Hinted
+pub mod ProofParts

@@ -7,11 +7,13 @@ mod careless_rules;
 mod clause_row;
 mod examples;
 mod formulas;
+mod hints;
 mod laws;
 mod limits;
 mod literals;
 mod lits;
 mod memory;
+mod proof_part;
 mod rule_bounds;
 mod rules;
 mod steps;
@@ -26,6 +28,10 @@ pub use examples::{
     order_matters_to_outer_clauses, order_matters_to_truth,
 };
 pub use formulas::{Bound, Formula, Quant};
+pub use hints::{
+    chained_is_implied, hinted_causes_are_exact, hinted_runs_are_runs, hinted_steps_are_valid,
+    valid_steps_have_hints,
+};
 pub use laws::{
     causes_are_exact, implied_by_more, implied_is_sound, larger_limits_keep_steps, order_by_places,
     reducible_by_variable, runs_keep_truth, runs_rebuild, same_formulas, saturated_conflicts,
@@ -35,6 +41,7 @@ pub use limits::Limits;
 pub use literals::Lit;
 pub use lits::{Lits, holds, sort_clause};
 pub use memory::NoMemory;
+pub use proof_part::{Proof, ProofKind};
 pub use rule_bounds::Bounds;
 pub use rules::{
     growing_keeps, plain_programs_decide, settled_at_once, sweeping_runs, targets_lower,
