@@ -74,3 +74,10 @@ pub mod Exploring
 pub mod Winning
 pub mod Picking
 pub mod Hitting
+pub mod Chaining
+pub mod Copies
+pub mod Alike
+pub mod HintedRuns
+pub mod Showing
+pub mod HintedCauses
+pub mod HintGroups

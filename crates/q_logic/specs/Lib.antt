@@ -40,3 +40,6 @@ pub mod Moves
 pub mod Searching
 pub mod Branches
 pub mod Decisions
+pub mod Hints
+pub mod Hinted
+pub mod ProofParts
