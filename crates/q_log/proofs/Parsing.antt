@@ -9,7 +9,7 @@ use Rattle.q_logic.specs.Steps.{ProofStep}
 use Rattle.q_logic.specs.StepForms.{IsStepForm, step_of}
 use Rattle.q_text.specs.declared.tokens.Token.{Token}
 use Rattle.q_text.specs.declared.tokens.TokenKind.{TokenKind}
-use Rattle.q_text.specs.declared.tokens.TokenKind.TheVariants.{Number, P, Cnf, E, A, D, U, R, Other}
+use Rattle.q_text.specs.declared.tokens.TokenKind.TheVariants.{Number, P, Cnf, Qrat, E, A, D, U, R, Other}
 use Rattle.q_text.specs.Texts.{tokens_of, tokens_ended, line_after}
 use Rattle.q_log.specs.declared.error.LogError.{LogError}
 use Rattle.q_log.specs.declared.error.LogError.TheVariants.{BadLine, Limit}
@@ -159,6 +159,7 @@ later-read : (n : ℕ) (o : OpenStep) (k : TokenKind) (t : Token) (ts : List Tok
 later-read n o (Number z) t ts ss e p ih f = number-read n o z t ts ss e p ih f
 later-read n o P t ts ss e p ih f = absurd (let r : Some (BadLine t.line) ≡ None = ap (λ (o : Outcome). o.refused) f in cc)
 later-read n o Cnf t ts ss e p ih f = absurd (let r : Some (BadLine t.line) ≡ None = ap (λ (o : Outcome). o.refused) f in cc)
+later-read n o Qrat t ts ss e p ih f = absurd (let r : Some (BadLine t.line) ≡ None = ap (λ (o : Outcome). o.refused) f in cc)
 later-read n o E t ts ss e p ih f = absurd (let r : Some (BadLine t.line) ≡ None = ap (λ (o : Outcome). o.refused) f in cc)
 later-read n o A t ts ss e p ih f = absurd (let r : Some (BadLine t.line) ≡ None = ap (λ (o : Outcome). o.refused) f in cc)
 later-read n o D t ts ss e p ih f = absurd (let r : Some (BadLine t.line) ≡ None = ap (λ (o : Outcome). o.refused) f in cc)
@@ -205,6 +206,7 @@ first-read n E t ts ss e ih f = lettered Fresh t ts ss (ap (λ (k : TokenKind). 
 first-read n R t ts ss e ih f = lettered Remove t ts ss (ap (λ (k : TokenKind). k ∷ []) e) (ih (Some (empty_step t.line Remove)) ss f tt)
 first-read n P t ts ss e ih f = absurd (let r : Some (BadLine t.line) ≡ None = ap (λ (o : Outcome). o.refused) f in cc)
 first-read n Cnf t ts ss e ih f = absurd (let r : Some (BadLine t.line) ≡ None = ap (λ (o : Outcome). o.refused) f in cc)
+first-read n Qrat t ts ss e ih f = absurd (let r : Some (BadLine t.line) ≡ None = ap (λ (o : Outcome). o.refused) f in cc)
 first-read n A t ts ss e ih f = absurd (let r : Some (BadLine t.line) ≡ None = ap (λ (o : Outcome). o.refused) f in cc)
 first-read n Other t ts ss e ih f = absurd (let r : Some (BadLine t.line) ≡ None = ap (λ (o : Outcome). o.refused) f in cc)
 
