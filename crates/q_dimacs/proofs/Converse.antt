@@ -10,7 +10,7 @@ use Rattle.q_logic.specs.Literals.{Literal, number_of}
 use Rattle.q_logic.specs.Formulas.{Matrix, Prefix, PrenexFormula}
 use Rattle.q_logic.specs.Parts.{ArePairs}
 use Rattle.q_text.specs.declared.tokens.TokenKind.{TokenKind}
-use Rattle.q_text.specs.declared.tokens.TokenKind.TheVariants.{Number, P, Cnf, E, A, D, U, R, Other}
+use Rattle.q_text.specs.declared.tokens.TokenKind.TheVariants.{Number, P, Cnf, Qrat, E, A, D, U, R, Other}
 use Rattle.q_dimacs.specs.declared.builder.Place.{Place}
 use Rattle.q_dimacs.specs.declared.builder.Place.TheVariants.{Problem, Format, Vars, Count, Outside, InSet, InClause}
 use Rattle.q_dimacs.specs.Building.{formula_of}
@@ -268,6 +268,7 @@ reads_back m d (Cnf ∷ ks) e = record { outside = λ v c n p x h. bad m 2 ks d 
 reads_back m d (D ∷ ks) e = record { outside = λ v c n p x h. bad m 2 ks d h; set = λ q v c n p x l h. bad m 2 ks d h; clause = λ v c n p x ls h. bad m 2 ks d h }
 reads_back m d (U ∷ ks) e = record { outside = λ v c n p x h. bad m 2 ks d h; set = λ q v c n p x l h. bad m 2 ks d h; clause = λ v c n p x ls h. bad m 2 ks d h }
 reads_back m d (R ∷ ks) e = record { outside = λ v c n p x h. bad m 2 ks d h; set = λ q v c n p x l h. bad m 2 ks d h; clause = λ v c n p x ls h. bad m 2 ks d h }
+reads_back m d (Qrat ∷ ks) e = record { outside = λ v c n p x h. bad m 2 ks d h; set = λ q v c n p x l h. bad m 2 ks d h; clause = λ v c n p x ls h. bad m 2 ks d h }
 reads_back m d (Other ∷ ks) e = record { outside = λ v c n p x h. bad m 2 ks d h; set = λ q v c n p x l h. bad m 2 ks d h; clause = λ v c n p x ls h. bad m 2 ks d h }
 
 abbrev pub begin : Gathered
@@ -282,6 +283,7 @@ is-p b A = inr refl
 is-p b D = inr refl
 is-p b U = inr refl
 is-p b R = inr refl
+is-p b Qrat = inr refl
 is-p b Other = inr refl
 
 is-cnf : (b : Gathered) (k : TokenKind) → (k ≡ Cnf) ⊎ (format b k ≡ Err 1)
@@ -293,6 +295,7 @@ is-cnf b A = inr refl
 is-cnf b D = inr refl
 is-cnf b U = inr refl
 is-cnf b R = inr refl
+is-cnf b Qrat = inr refl
 is-cnf b Other = inr refl
 
 abbrev Plain : TokenKind → Type 0
@@ -308,6 +311,7 @@ is-vars m b A = inr refl
 is-vars m b D = inr refl
 is-vars m b U = inr refl
 is-vars m b R = inr refl
+is-vars m b Qrat = inr refl
 is-vars m b Other = inr refl
 
 is-count : (m : Limits) (b : Gathered) (k : TokenKind) → Plain k ⊎ (count_of m b k ≡ Err 1)
@@ -320,6 +324,7 @@ is-count m b A = inr refl
 is-count m b D = inr refl
 is-count m b U = inr refl
 is-count m b R = inr refl
+is-count m b Qrat = inr refl
 is-count m b Other = inr refl
 
 pub record FromStart (m : Limits) (d : Gathered) (ks : List TokenKind) : Type 0 where

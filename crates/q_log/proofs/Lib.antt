@@ -1,8 +1,8 @@
 mod Plain
-mod Reading
-mod Rereading
-mod Spelling
-mod Parsing
+pub mod Reading
+pub mod Rereading
+pub mod Spelling
+pub mod Parsing
 mod Tidying
 mod Orders
 pub mod Texts

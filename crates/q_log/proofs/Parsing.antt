@@ -9,7 +9,7 @@ use Rattle.q_logic.specs.Steps.{ProofStep}
 use Rattle.q_logic.specs.StepForms.{IsStepForm, step_of}
 use Rattle.q_text.specs.declared.tokens.Token.{Token}
 use Rattle.q_text.specs.declared.tokens.TokenKind.{TokenKind}
-use Rattle.q_text.specs.declared.tokens.TokenKind.TheVariants.{Number, P, Cnf, E, A, D, U, R, Other}
+use Rattle.q_text.specs.declared.tokens.TokenKind.TheVariants.{Number, P, Cnf, Qrat, E, A, D, U, R, Other}
 use Rattle.q_text.specs.Texts.{tokens_of, tokens_ended, line_after}
 use Rattle.q_log.specs.declared.error.LogError.{LogError}
 use Rattle.q_log.specs.declared.error.LogError.TheVariants.{BadLine, Limit}
@@ -19,14 +19,14 @@ use Rattle.q_log.specs.Spelled.{StepText, letter_kinds, IsSpelled, first_line, s
 use Rattle.q_text.specs.Tokens.{literals_kinds}
 use Rattle.q_log.proofs.Spelling.{IsSmall, kinds_of}
 
-abbrev Stepped : Type 0
+abbrev pub Stepped : Type 0
 Stepped = List (ℕ × ProofStep)
 
-abbrev all_read : Stepped → Outcome
+abbrev pub all_read : Stepped → Outcome
 all_read ss = record { steps = ss; refused = None }
 
 -- the literals of a step that has begun are such as its kind takes
-abbrev IsPart : Kind → List Literal → Type 0
+abbrev pub IsPart : Kind → List Literal → Type 0
 IsPart Add ls = Unit {0}
 IsPart Delete ls = Unit {0}
 IsPart Drop ls = Unit {0}
@@ -34,7 +34,7 @@ IsPart Fresh ls = AllByRecursion (λ l. l.negative ≡ false) ls
 IsPart Remove ls = AllByRecursion (λ l. l.negative ≡ false) ls
 
 -- behind the beginning of a step its further literals are spelled, and then steps
-record FromOpen (o : OpenStep) (ts : List Token) (ss : Stepped) : Type 0 where
+pub record FromOpen (o : OpenStep) (ts : List Token) (ss : Stepped) : Type 0 where
   pub lits : List Literal
   pub front : List Token
   pub texts : List StepText
@@ -46,18 +46,18 @@ record FromOpen (o : OpenStep) (ts : List Token) (ss : Stepped) : Type 0 where
   pub steps_are : ss ≡ (o.line, step_of o.kind (o.lits ++ lits)) ∷ map step_in texts
 
 -- between steps, steps are spelled
-record FromStart (ts : List Token) (ss : Stepped) : Type 0 where
+pub record FromStart (ts : List Token) (ss : Stepped) : Type 0 where
   pub texts : List StepText
   pub tokens_are : ts ≡ tokens_in texts
   pub spelled : AllByRecursion IsSpelled texts
   pub steps_are : ss ≡ map step_in texts
 
-abbrev From : Option OpenStep → List Token → Stepped → Type 0
+abbrev pub From : Option OpenStep → List Token → Stepped → Type 0
 From None ts ss = FromStart ts ss
 From (Some o) ts ss = IsPart o.kind o.lits → FromOpen o ts ss
 
 -- what the tokens say leads there
-abbrev Reads : ℕ → List Token → Type 0
+abbrev pub Reads : ℕ → List Token → Type 0
 Reads n ts = (b : Option OpenStep) (ss : Stepped) → outcome (at_end n) b ts ≡ all_read ss → From b ts ss
 
 -- a part that is whole is a step
@@ -159,6 +159,7 @@ later-read : (n : ℕ) (o : OpenStep) (k : TokenKind) (t : Token) (ts : List Tok
 later-read n o (Number z) t ts ss e p ih f = number-read n o z t ts ss e p ih f
 later-read n o P t ts ss e p ih f = absurd (let r : Some (BadLine t.line) ≡ None = ap (λ (o : Outcome). o.refused) f in cc)
 later-read n o Cnf t ts ss e p ih f = absurd (let r : Some (BadLine t.line) ≡ None = ap (λ (o : Outcome). o.refused) f in cc)
+later-read n o Qrat t ts ss e p ih f = absurd (let r : Some (BadLine t.line) ≡ None = ap (λ (o : Outcome). o.refused) f in cc)
 later-read n o E t ts ss e p ih f = absurd (let r : Some (BadLine t.line) ≡ None = ap (λ (o : Outcome). o.refused) f in cc)
 later-read n o A t ts ss e p ih f = absurd (let r : Some (BadLine t.line) ≡ None = ap (λ (o : Outcome). o.refused) f in cc)
 later-read n o D t ts ss e p ih f = absurd (let r : Some (BadLine t.line) ≡ None = ap (λ (o : Outcome). o.refused) f in cc)
@@ -205,10 +206,11 @@ first-read n E t ts ss e ih f = lettered Fresh t ts ss (ap (λ (k : TokenKind). 
 first-read n R t ts ss e ih f = lettered Remove t ts ss (ap (λ (k : TokenKind). k ∷ []) e) (ih (Some (empty_step t.line Remove)) ss f tt)
 first-read n P t ts ss e ih f = absurd (let r : Some (BadLine t.line) ≡ None = ap (λ (o : Outcome). o.refused) f in cc)
 first-read n Cnf t ts ss e ih f = absurd (let r : Some (BadLine t.line) ≡ None = ap (λ (o : Outcome). o.refused) f in cc)
+first-read n Qrat t ts ss e ih f = absurd (let r : Some (BadLine t.line) ≡ None = ap (λ (o : Outcome). o.refused) f in cc)
 first-read n A t ts ss e ih f = absurd (let r : Some (BadLine t.line) ≡ None = ap (λ (o : Outcome). o.refused) f in cc)
 first-read n Other t ts ss e ih f = absurd (let r : Some (BadLine t.line) ≡ None = ap (λ (o : Outcome). o.refused) f in cc)
 
-all-from : (n : ℕ) (ts : List Token) → Reads n ts
+pub all-from : (n : ℕ) (ts : List Token) → Reads n ts
 all-from n [] None ss e = record { texts = []; tokens_are = refl; spelled = tt; steps_are = sym (ap (λ (o : Outcome). o.steps) e) }
 all-from n [] (Some o) ss e = λ p. absurd (let r : Some (BadLine n) ≡ None = ap (λ (o : Outcome). o.refused) e in cc)
 all-from n (t ∷ ts) None ss e = first-read n t.kind t ts ss refl (all-from n ts) e

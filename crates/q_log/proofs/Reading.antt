@@ -23,7 +23,7 @@ pub start-reads : (s : LogState) (limit : ℕ) (text : List ℕ) → s.tokens �
 start-reads s limit text t l b = rw (t, l, b, from_start text, handed-ended (take limit text)) refl
 
 -- the line behind a byte
-line-after : (t : Tokens) (b : ℕ) → line_of (after t b) ≡ (if b == 10 then line_of t + 1 else line_of t)
+pub line-after : (t : Tokens) (b : ℕ) → line_of (after t b) ≡ (if b == 10 then line_of t + 1 else line_of t)
 line-after t b = go (b == 10) (is_separator b) Start (after_blank t.shape) (grown t.shape b)
   where
     go : (u v : Bool) (x y z : Shape) →

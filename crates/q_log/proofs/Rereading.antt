@@ -36,14 +36,14 @@ in_front-clause : (p : Option Literal) (C : Clause) → ArePairs IsBelow C → I
 in_front-clause None C o f = rw f refl
 in_front-clause (Some l) C o f = clause_of-in_front l C o f
 
-same-step : (s : ProofStep) → IsStep s → step_of (kind_of s) (literals_of s) ≡ s
+pub same-step : (s : ProofStep) → IsStep s → step_of (kind_of s) (literals_of s) ≡ s
 same-step (add p C) (o, f) = rw (in_front-first p C o f, in_front-clause p C o f) refl
 same-step (delete p C) (o, f) = rw (in_front-first p C o f, in_front-clause p C o f) refl
 same-step (drop_literal l C) (o, f) = rw (clause_of-in_front l C o f) refl
 same-step (fresh v w) h = refl
 same-step (remove_variable v) h = refl
 
-step-form : (s : ProofStep) → IsStepForm (kind_of s) (literals_of s)
+pub step-form : (s : ProofStep) → IsStepForm (kind_of s) (literals_of s)
 step-form (add p C) = tt
 step-form (delete p C) = tt
 step-form (drop_literal l C) = omega arith
@@ -52,7 +52,7 @@ step-form (remove_variable v) = (refl, (refl, tt))
 
 -- a literal that fits is taken in
 
-abbrev IsSmall : Literal → Type 0
+abbrev pub IsSmall : Literal → Type 0
 IsSmall l = (1 ≤ l.var) × (l.var < 2 ^ 31)
 
 pub number-taken : (o : OpenStep) (v : ℕ) (b : Bool) → 1 ≤ v → v < 2 ^ 31 → has_room o.kind o.lits b ≡ true →
@@ -104,14 +104,14 @@ taken-outcome last ts n o (l ∷ ls) (h, hs) f =
     ∙ (ih ∙ ap (λ ms. onto (o.line, step_of o.kind ms) (outcome last None ts)) (append_assoc o.lits (l ∷ []) ls))
 
 -- the token of a step's letter
-abbrev letter_tokens : ℕ → Kind → List Token
+abbrev pub letter_tokens : ℕ → Kind → List Token
 letter_tokens n Add = []
 letter_tokens n Delete = record { kind = D; line = n } ∷ []
 letter_tokens n Drop = record { kind = U; line = n } ∷ []
 letter_tokens n Fresh = record { kind = E; line = n } ∷ []
 letter_tokens n Remove = record { kind = R; line = n } ∷ []
 
-line-outcome : (last : Option OpenStep → Option LogError) (ts : List Token) (n : ℕ) (k : Kind) (ls : List Literal) → AllByRecursion IsSmall ls → IsStepForm k ls →
+pub line-outcome : (last : Option OpenStep → Option LogError) (ts : List Token) (n : ℕ) (k : Kind) (ls : List Literal) → AllByRecursion IsSmall ls → IsStepForm k ls →
     outcome last None (letter_tokens n k ++ (map (token_of n) (map number_of ls) ++ token_of n (pos 0) ∷ ts)) ≡ onto (n, step_of k ls) (outcome last None ts)
 line-outcome last ts n Add [] a f = taken-outcome last ts n (empty_step n Add) [] a f
 line-outcome last ts n Add (l ∷ ls) a f = taken-outcome last ts n (empty_step n Add) (l ∷ ls) a f
@@ -126,7 +126,7 @@ shown v false h = omega arith
 shown zero true h = omega arith
 shown (suc v) true h = omega arith
 
-all-shown : (ls : List Literal) → AllByRecursion IsSmall ls → AllByRecursion IsShown (map number_of ls)
+pub all-shown : (ls : List Literal) → AllByRecursion IsSmall ls → AllByRecursion IsShown (map number_of ls)
 all-shown [] a = tt
 all-shown (l ∷ ls) (h, hs) = (shown l.var l.negative h.1, all-shown ls hs)
 

@@ -54,7 +54,7 @@ lettered : (last : Option OpenStep → Option LogError) (ts : List Token) (x : T
     outcome last None (x ∷ ts) ≡ outcome last (Some (empty_step x.line kind)) ts
 lettered last ts x k kind e f = ap (λ m. follow m x.line (λ b. outcome last b ts)) (ap (first_move x.line) e ∙ f)
 
-step-read : (last : Option OpenStep → Option LogError) (ts : List Token) (k : Kind) (ls : List Literal) (xs : List Token) →
+pub step-read : (last : Option OpenStep → Option LogError) (ts : List Token) (k : Kind) (ls : List Literal) (xs : List Token) →
     kinds_of xs ≡ letter_kinds k ++ literals_kinds ls → AllByRecursion IsSmall ls → IsStepForm k ls →
     outcome last None (xs ++ ts) ≡ onto (first_line xs, step_of k ls) (outcome last None ts)
 step-read last ts Add [] [] e a f = absurd (cc)

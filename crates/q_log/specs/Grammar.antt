@@ -9,7 +9,7 @@ use Rattle.q_logic.specs.Steps.{ProofStep}
 use Rattle.q_logic.specs.StepForms.{step_of}
 use Rattle.q_text.specs.declared.tokens.Token.{Token}
 use Rattle.q_text.specs.declared.tokens.TokenKind.{TokenKind}
-use Rattle.q_text.specs.declared.tokens.TokenKind.TheVariants.{Number, P, Cnf, E, A, D, U, R, Other}
+use Rattle.q_text.specs.declared.tokens.TokenKind.TheVariants.{Number, P, Cnf, Qrat, E, A, D, U, R, Other}
 
 -- a step that has begun: the line of its first token, its kind and its literals so far
 pub record OpenStep : Type 0 where
@@ -70,6 +70,7 @@ first_move n R = goes_on (empty_step n Remove)
 first_move n (Number z) = with_number (empty_step n Add) z
 first_move n P = unfit
 first_move n Cnf = unfit
+first_move n Qrat = unfit
 first_move n A = unfit
 first_move n Other = unfit
 
@@ -78,6 +79,7 @@ abbrev pub next_move : OpenStep → TokenKind → Move
 next_move o (Number z) = with_number o z
 next_move o P = unfit
 next_move o Cnf = unfit
+next_move o Qrat = unfit
 next_move o E = unfit
 next_move o A = unfit
 next_move o D = unfit

@@ -1,3 +1,4 @@
+pub mod Builders
 pub mod Causes
 pub mod Grammar
 pub mod Logs

@@ -21,6 +21,10 @@ letter_text Remove = 114 ∷ 32 ∷ []
 abbrev pub literals_text : List Literal → List ℕ
 literals_text ls = numbers_text (map number_of ls)
 
+-- a step without the 0 and LF behind it
+abbrev pub head_text : ProofStep → List ℕ
+head_text s = letter_text (kind_of s) ++ literals_text (literals_of s)
+
 -- the first literal stands first, then the others in literal order
 abbrev pub step_text : ProofStep → List ℕ
 step_text s = letter_text (kind_of s) ++ (literals_text (literals_of s) ++ line_end)

@@ -1,6 +1,6 @@
 ghost use Rattle.std.specs.Prelude.{◌≡◌, ◌++◌, [], ◌∷◌, true, Some, None, is_some};
-ghost use Rattle.q_log.specs.Grammar.{move, first_move, with_number, with_literal, with_zero, is_whole, has_room, empty_step, goes_on};
-ghost use Rattle.q_log.specs.Reading.{Builds, open_of, opened, are_plain, is_plain};
+ghost use Rattle.q_log.specs.Grammar.{first_move, with_number, with_literal, with_zero, is_whole, has_room, empty_step, goes_on};
+ghost use Rattle.q_log.specs.Reading.{Builds, opened, are_plain, is_plain};
 
 use crate::error::LogError;
 use q_logic::{Kind, Lit, Lits, Step};
@@ -17,7 +17,7 @@ pub struct Begun {
     pub kind: Kind,
 }
 
-/// Makes steps of tokens.
+/// Makes steps of tokens: the part that readers of logs share.
 #[derive(Drop)]
 pub struct StepBuilder {
     alloc: Global,
@@ -51,8 +51,11 @@ fn has_room(kind: Kind, lits: &[Lit], negative: bool) -> bool
 }
 
 impl StepBuilder {
+    ghost use Rattle.q_log.specs.Builders.{open_in, Takes};
+
+    /// A builder of steps of which none has begun.
     pub fn new(alloc: Global) -> StepBuilder
-        ensures { result.begun ≡ None }
+        ensures { open_in result ≡ None }
     {
         StepBuilder {
             alloc,
@@ -64,7 +67,7 @@ impl StepBuilder {
 
     /// The step that the token makes whole.
     pub fn take(&mut self, token: Token) -> Result<Option<(u64, Step)>, LogError>
-        ensures { Builds result (move (open_of self.old.begun self.old.lits) token) self.new.begun self.new.lits token.line }
+        ensures { Takes result self.old token self.new }
     {
         match self.begun {
             None => self.first(token),
@@ -155,15 +158,14 @@ impl StepBuilder {
 
     /// A step has begun and is not whole.
     pub fn is_open(&self) -> bool
-        ensures { result ≡ is_some self.now.begun }
+        ensures { result ≡ is_some (open_in self.now) }
     {
         self.begun.is_some()
     }
 
     /// Keeps the memory of a list of literals for a later step.
     pub fn keep(&mut self, lits: Lits)
-        ensures begun { self.new.begun ≡ self.old.begun }
-        ensures lits { self.new.lits ≡ self.old.lits }
+        ensures { open_in self.new ≡ open_in self.old }
     {
         self.spare = lits;
         self.spare.clear();

@@ -21,14 +21,15 @@ pub struct LogReader {
 impl Model for LogReader {
     ghost use Rattle.std.specs.Prelude.{◌≤◌, ◌+◌, ◌^◌};
     ghost use Rattle.q_text.specs.Tokens.{line_of};
-    ghost use Rattle.q_log.specs.Reading.{LogState, open_of};
+    ghost use Rattle.q_log.specs.Reading.{LogState};
+    ghost use Rattle.q_log.specs.Builders.{open_in};
 
     ghost Value = { LogState };
 
     ghost view = { λ r. record {
       tokens = r.tokens;
       left = r.left;
-      begun = open_of r.builder.begun r.builder.lits;
+      begun = open_in r.builder;
       refused = r.refused;
     } };
 

@@ -4,7 +4,7 @@ ghost use Rattle.q_logic.specs.Parts.{ArePairs};
 ghost use Rattle.q_logic.specs.Pivots.{without};
 ghost use Rattle.q_logic.specs.StepForms.{literals_of};
 ghost use Rattle.q_text.specs.Numbers.{number_text};
-ghost use Rattle.q_log.specs.Texts.{letter_text, literals_text, step_text, written, shorter, IsWritable};
+ghost use Rattle.q_log.specs.Texts.{letter_text, literals_text, head_text, step_text, written, shorter, IsWritable};
 
 use q_logic::{Kind, Lit, NoMemory, Step};
 use q_text::{digits, put_number};
@@ -17,10 +17,19 @@ pub fn push_step(text: &mut Vec<u8>, step: &Step) -> Result<(), NoMemory>
     ensures capacity { vec_capacity text.old ≤ vec_capacity text.new }
 {
     text.reserve(step_len(step))?;
-    put(text, letter(step.kind()));
-    put_lits(text, step.lits());
+    write_head(text, step);
     put(text, END);
     Ok(())
+}
+
+/// Appends the canonical text of a step without the 0 and LF at its end. It takes no memory.
+pub fn write_head(text: &mut Vec<u8>, step: &Step)
+    requires { vec_len text.old + length (head_text step.now) ≤ vec_capacity text.old }
+    ensures items { text.new.items ≡ text.old.items ++ head_text step.now }
+    ensures capacity { vec_capacity text.old ≤ vec_capacity text.new }
+{
+    put(text, letter(step.kind()));
+    put_lits(text, step.lits());
 }
 
 /// The length of the canonical text of a step.

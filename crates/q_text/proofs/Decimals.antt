@@ -15,7 +15,7 @@ use Rattle.q_text.specs.Tokens.{to_come}
 use Rattle.q_text.specs.Numbers.{number_text, numbers_text}
 use Rattle.q_text.proofs.Law.{at}
 use Rattle.q_text.proofs.Spelling.{Opens, opens-between, word-space, word-line}
-use Rattle.q_text.proofs.Words.{digit_no_c, digit_no_minus, no_c_no_cnf}
+use Rattle.q_text.proofs.Words.{digit_no_c, digit_no_minus, digit_no_q, no_c_no_cnf, no_q_no_qrat}
 
 digit-is : (d : ℕ) → d < 10 → is_digit (48 + d) ≡ true
 digit-is d h = grind (arith, nat_tests)
@@ -53,8 +53,9 @@ kind-of-digits k (b ∷ []) e h = letter-digit b (first-digit 0 k b [] e) ∙ ap
 kind-of-digits k (b ∷ c ∷ bs) e h =
     let d = first-digit 0 k b (c ∷ bs) e in
     let n = no_c_no_cnf b c bs (digit_no_c b d) in
+    let q = no_q_no_qrat b c bs (digit_no_q b d) in
     let m = digit_no_minus b d in
-    rw (n, m) (ap plain e)
+    rw (n, q, m) (ap plain e)
 
 not-empty : (n : ℕ) (ds : List ℕ) → digits_behind 0 ds ≡ Some n → 0 < n → ds ≢ []
 not-empty n [] e h f = let s : 0 ≡ n = cc in omega arith

@@ -1,9 +1,9 @@
 -- What comes from the start on are the tokens of the whole text.
 use Rattle.std.proofs.Common.{◌≡◌, ℕ, ◌+◌, ◌-◌, ◌*◌, Bool, true, false, cond, List, [], ◌∷◌, ◌++◌, map, None, refl, ap, sym, ◌∙◌, subst, ◌==◌, ◌||◌, if◌then◌else◌, append_assoc, append-nil, eqb-true}
 use Rattle.q_text.specs.declared.shape.Shape.{Shape}
-use Rattle.q_text.specs.declared.shape.Shape.TheVariants.{Start, Comment, Between, Minus, Digits, C, Cn, Word}
+use Rattle.q_text.specs.declared.shape.Shape.TheVariants.{Start, Comment, Between, Minus, Digits, C, Cn, Q, Qr, Qra, Word}
 use Rattle.q_text.specs.declared.tokens.Token.{Token}
-use Rattle.q_text.specs.declared.tokens.TokenKind.TheVariants.{Other, Cnf}
+use Rattle.q_text.specs.declared.tokens.TokenKind.TheVariants.{Other, Cnf, Qrat}
 use Rattle.q_text.specs.declared.tokens.Tokens.{Tokens}
 use Rattle.q_text.specs.Words.{is_separator, is_digit, clipped}
 use Rattle.q_text.specs.Texts.{lines, onto_first, word_before, words_after, token_at, line_tokens, lines_tokens, tokens_of, has_separator, up_to_separator, tokens_ended}
@@ -79,7 +79,7 @@ first-stays : (b : ℕ) → StaysIn (first_shape b)
 first-stays b =
     stays_if (is_digit b) (record { is = refl }) (stays_if (b == 45) (record { is = refl }) (stays_if (b == 112) (record { is = refl }) (stays_if (b == 101) (record { is = refl })
     (stays_if (b == 97) (record { is = refl }) (stays_if (b == 100) (record { is = refl }) (stays_if (b == 117) (record { is = refl }) (stays_if (b == 114) (record { is = refl })
-    (stays_if (b == 99) (record { is = refl }) (record { is = refl })))))))))
+    (stays_if (b == 99) (record { is = refl }) (stays_if (b == 113) (record { is = refl }) (record { is = refl }))))))))))
 
 first-in_line : (b : ℕ) → after_blank (first_shape b) ≡ Between
 first-in_line b = (first-stays b).is
@@ -92,6 +92,9 @@ grown-in_line Minus b h = split (is_digit b) (Digits true (b - 48)) (Word Other)
 grown-in_line (Digits s m) b h = split (is_digit b) (Digits s (clipped (10 * m + (b - 48)))) (Word Other) refl refl
 grown-in_line C b h = split (b == 110) Cn (Word Other) refl refl
 grown-in_line Cn b h = split (b == 102) (Word Cnf) (Word Other) refl refl
+grown-in_line Q b h = split (b == 114) Qr (Word Other) refl refl
+grown-in_line Qr b h = split (b == 97) Qra (Word Other) refl refl
+grown-in_line Qra b h = split (b == 116) (Word Qrat) (Word Other) refl refl
 grown-in_line (Word k) b h = refl
 
 pub shape-in_line : (s : Shape) (w : List ℕ) → after_blank s ≡ Between → after_blank (shape_after s w) ≡ Between
@@ -158,6 +161,9 @@ none_in-blank Minus = refl
 none_in-blank (Digits s m) = refl
 none_in-blank C = refl
 none_in-blank Cn = refl
+none_in-blank Q = refl
+none_in-blank Qr = refl
+none_in-blank Qra = refl
 none_in-blank (Word k) = refl
 
 nothing-behind : (t : Tokens) (b : ℕ) → is_separator b ≡ true → to_come (after t b) [] ≡ []

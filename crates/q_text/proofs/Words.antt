@@ -2,10 +2,10 @@
 use Rattle.std.proofs.Common.{◌≡◌, ℕ, ◌+◌, ◌-◌, ◌*◌, Bool, true, false, cond, List, [], ◌∷◌, ◌++◌, Some, None, refl, ap, sym, ◌∙◌, arith, ◌==◌, ◌&&◌, if◌then◌else◌, pos, eqb-true, subst}
 use Rattle.std.proofs.lemmas.Bool.Decides.{nat_tests}
 use Rattle.q_text.specs.declared.tokens.TokenKind.{TokenKind}
-use Rattle.q_text.specs.declared.tokens.TokenKind.TheVariants.{Number, P, Cnf, E, A, D, U, R, Other}
+use Rattle.q_text.specs.declared.tokens.TokenKind.TheVariants.{Number, P, Cnf, Qrat, E, A, D, U, R, Other}
 use Rattle.q_text.specs.declared.shape.Shape.{Shape}
-use Rattle.q_text.specs.declared.shape.Shape.TheVariants.{Between, Digits, Cn, Word}
-use Rattle.q_text.specs.Words.{is_digit, clipped, digits_behind, plain, negative, letter, is_cnf, kind_of}
+use Rattle.q_text.specs.declared.shape.Shape.TheVariants.{Between, Digits, Cn, Qr, Qra, Word}
+use Rattle.q_text.specs.Words.{is_digit, clipped, digits_behind, plain, negative, letter, is_cnf, is_done, is_qrat, kind_of}
 use Rattle.q_text.specs.Tokens.{first_shape, grown, kind_in}
 
 abbrev pub shape_after : Shape → List ℕ → Shape
@@ -54,11 +54,11 @@ one_byte b = grind (arith, nat_tests)
 letter_stays : (k : TokenKind) (c : ℕ) (bs : List ℕ) → kind_in (shape_after (Word k) (c ∷ bs)) ≡ Some Other
 letter_stays k c bs = word_stays bs
 
--- behind a byte that is no digit, no minus and no c there is no number
-no_number : (b c : ℕ) (bs : List ℕ) → is_digit b ≡ false → (b == 45) ≡ false → (b == 99) ≡ false → kind_of (b ∷ c ∷ bs) ≡ Other
-no_number b c [] d m e = simp (d, m)
-no_number b c (x ∷ []) d m e = simp (d, m, e)
-no_number b c (x ∷ y ∷ bs) d m e = simp (d, m)
+-- behind a byte that is no digit, no minus, no c and no q there is no number
+no_number : (b c : ℕ) (bs : List ℕ) → is_digit b ≡ false → (b == 45) ≡ false → (b == 99) ≡ false → (b == 113) ≡ false → kind_of (b ∷ c ∷ bs) ≡ Other
+no_number b c [] d m e q = simp (d, m)
+no_number b c (x ∷ []) d m e q = simp (d, m, e)
+no_number b c (x ∷ y ∷ bs) d m e q = simp (d, m, q)
 
 record IsOther (s : Shape) (c : ℕ) (bs : List ℕ) : Type 0 where
   is : kind_in (shape_after s (c ∷ bs)) ≡ Some Other
@@ -71,8 +71,8 @@ other_letters : (b c : ℕ) (bs : List ℕ) → IsOther (if b == 112 then Word P
 other_letters b c bs =
     other_if (b == 112) P (other_if (b == 101) E (other_if (b == 97) A (other_if (b == 100) D (other_if (b == 117) U (other_if (b == 114) R (record { is = letter_stays Other c bs }))))))
 
-no_digit_shape : (b c : ℕ) (bs : List ℕ) → is_digit b ≡ false → (b == 45) ≡ false → (b == 99) ≡ false → kind_in (shape_after (first_shape b) (c ∷ bs)) ≡ Some Other
-no_digit_shape b c bs d m e = simp (d, m, e) ((other_letters b c bs).is)
+no_digit_shape : (b c : ℕ) (bs : List ℕ) → is_digit b ≡ false → (b == 45) ≡ false → (b == 99) ≡ false → (b == 113) ≡ false → kind_in (shape_after (first_shape b) (c ∷ bs)) ≡ Some Other
+no_digit_shape b c bs d m e q = simp (d, m, e, q) ((other_letters b c bs).is)
 
 -- a digit is no c
 pub digit_no_c : (b : ℕ) → is_digit b ≡ true → (b == 99) ≡ false
@@ -86,6 +86,14 @@ no_c_no_cnf b c [] e = refl
 no_c_no_cnf b c (x ∷ []) e = rw e refl
 no_c_no_cnf b c (x ∷ y ∷ bs) e = refl
 
+pub digit_no_q : (b : ℕ) → is_digit b ≡ true → (b == 113) ≡ false
+digit_no_q b d = grind (arith, nat_tests)
+
+pub no_q_no_qrat : (b c : ℕ) (bs : List ℕ) → (b == 113) ≡ false → is_qrat (b ∷ c ∷ bs) ≡ false
+no_q_no_qrat b c [] e = refl
+no_q_no_qrat b c (x ∷ []) e = refl
+no_q_no_qrat b c (x ∷ y ∷ bs) e = rw e refl
+
 digit_small : (b : ℕ) → is_digit b ≡ true → b - 48 ≡ clipped (10 * 0 + (b - 48))
 digit_small b d = grind (arith, nat_tests)
 
@@ -93,7 +101,8 @@ digit_first : (b c : ℕ) (bs : List ℕ) → is_digit b ≡ true → kind_in (s
 digit_first b c bs d =
     let n = no_c_no_cnf b c bs (digit_no_c b d) in
     let m = digit_no_minus b d in
-    simp (d, n, m) (plain_digits (0 + (b - 48)) (b - 48) (c ∷ bs) (digit_small b d))
+    let q = no_q_no_qrat b c bs (digit_no_q b d) in
+    simp (d, n, q, m) (plain_digits (0 + (b - 48)) (b - 48) (c ∷ bs) (digit_small b d))
 
 minus_first : (c : ℕ) (bs : List ℕ) → kind_in (shape_after (first_shape 45) (c ∷ bs)) ≡ Some (kind_of (45 ∷ c ∷ bs))
 minus_first c bs = rw (no_c_no_cnf 45 c bs refl) (go (is_digit c) refl) where
@@ -123,14 +132,43 @@ c_first c (x ∷ y ∷ bs) = go (c == 110) where
   go true = last (x == 102)
   go false = word_stays bs
 
+q_first : (c : ℕ) (bs : List ℕ) → kind_in (shape_after (first_shape 113) (c ∷ bs)) ≡ Some (kind_of (113 ∷ c ∷ bs))
+q_first c [] = go (c == 114) where
+  go : (t : Bool) → kind_in (cond t Qr (Word Other)) ≡ Some Other
+  go true = refl
+  go false = refl
+q_first c (x ∷ []) = go (c == 114) where
+  last : (u : Bool) → kind_in (cond u Qra (Word Other)) ≡ Some Other
+  last true = refl
+  last false = refl
+
+  go : (t : Bool) → kind_in (grown (cond t Qr (Word Other)) x) ≡ Some Other
+  go true = last (x == 97)
+  go false = refl
+q_first c (x ∷ y ∷ bs) = go (c == 114) where
+  whole : (bs : List ℕ) (v : Bool) → kind_in (shape_after (cond v (Word Qrat) (Word Other)) bs) ≡ Some (cond (v && is_done bs) Qrat Other)
+  whole [] true = refl
+  whole [] false = refl
+  whole (z ∷ zs) true = word_stays zs
+  whole (z ∷ zs) false = word_stays zs
+
+  last : (u : Bool) → kind_in (shape_after (grown (cond u Qra (Word Other)) y) bs) ≡ Some (cond (u && (y == 116) && is_done bs) Qrat Other)
+  last true = whole bs (y == 116)
+  last false = word_stays bs
+
+  go : (t : Bool) → kind_in (shape_after (grown (grown (cond t Qr (Word Other)) x) y) bs) ≡ Some (cond (t && (x == 97) && (y == 116) && is_done bs) Qrat Other)
+  go true = last (x == 97)
+  go false = word_stays bs
+
 -- what follows a first byte
 many : (b c : ℕ) (bs : List ℕ) → kind_in (shape_after (first_shape b) (c ∷ bs)) ≡ Some (kind_of (b ∷ c ∷ bs))
-many b c bs = go (is_digit b) (b == 45) (b == 99) refl refl refl where
-  go : (d m e : Bool) → is_digit b ≡ d → (b == 45) ≡ m → (b == 99) ≡ e → kind_in (shape_after (first_shape b) (c ∷ bs)) ≡ Some (kind_of (b ∷ c ∷ bs))
-  go true m e h i j = digit_first b c bs h
-  go false true e h i j = subst (λ x. kind_in (shape_after (first_shape x) (c ∷ bs)) ≡ Some (kind_of (x ∷ c ∷ bs))) (sym (eqb-true b 45 i)) (minus_first c bs)
-  go false false true h i j = subst (λ x. kind_in (shape_after (first_shape x) (c ∷ bs)) ≡ Some (kind_of (x ∷ c ∷ bs))) (sym (eqb-true b 99 j)) (c_first c bs)
-  go false false false h i j = no_digit_shape b c bs h i j ∙ ap Some (sym (no_number b c bs h i j))
+many b c bs = go (is_digit b) (b == 45) (b == 99) (b == 113) refl refl refl refl where
+  go : (d m e q : Bool) → is_digit b ≡ d → (b == 45) ≡ m → (b == 99) ≡ e → (b == 113) ≡ q → kind_in (shape_after (first_shape b) (c ∷ bs)) ≡ Some (kind_of (b ∷ c ∷ bs))
+  go true m e q h i j k = digit_first b c bs h
+  go false true e q h i j k = subst (λ x. kind_in (shape_after (first_shape x) (c ∷ bs)) ≡ Some (kind_of (x ∷ c ∷ bs))) (sym (eqb-true b 45 i)) (minus_first c bs)
+  go false false true q h i j k = subst (λ x. kind_in (shape_after (first_shape x) (c ∷ bs)) ≡ Some (kind_of (x ∷ c ∷ bs))) (sym (eqb-true b 99 j)) (c_first c bs)
+  go false false false true h i j k = subst (λ x. kind_in (shape_after (first_shape x) (c ∷ bs)) ≡ Some (kind_of (x ∷ c ∷ bs))) (sym (eqb-true b 113 k)) (q_first c bs)
+  go false false false false h i j k = no_digit_shape b c bs h i j k ∙ ap Some (sym (no_number b c bs h i j k))
 
 pub shape_of-kind : (b : ℕ) (bs : List ℕ) → kind_in (shape_of (b ∷ bs)) ≡ Some (kind_of (b ∷ bs))
 shape_of-kind b [] = one_byte b

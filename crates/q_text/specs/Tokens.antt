@@ -1,9 +1,9 @@
 -- The tokens that are still to come behind some bytes: what one byte changes, and what it hands out.
 use Rattle.std.specs.Prelude.{ℕ, ◌+◌, ◌-◌, ◌*◌, ◌==◌, true, false, List, [], ◌∷◌, ◌++◌, Option, Some, None, pos, neg_ℤ, if◌then◌else◌}
 use Rattle.q_text.specs.declared.tokens.TokenKind.{TokenKind}
-use Rattle.q_text.specs.declared.tokens.TokenKind.TheVariants.{Number, P, Cnf, E, A, D, U, R, Other}
+use Rattle.q_text.specs.declared.tokens.TokenKind.TheVariants.{Number, P, Cnf, Qrat, E, A, D, U, R, Other}
 use Rattle.q_text.specs.declared.shape.Shape.{Shape}
-use Rattle.q_text.specs.declared.shape.Shape.TheVariants.{Start, Comment, Between, Minus, Digits, C, Cn, Word}
+use Rattle.q_text.specs.declared.shape.Shape.TheVariants.{Start, Comment, Between, Minus, Digits, C, Cn, Q, Qr, Qra, Word}
 use Rattle.q_text.specs.declared.tokens.Token.{Token}
 use Rattle.q_text.specs.declared.tokens.Tokens.{Tokens}
 use Rattle.q_logic.specs.Literals.{Literal, number_of}
@@ -21,7 +21,8 @@ first_shape b =
     else (if b == 117 then Word U
     else (if b == 114 then Word R
     else (if b == 99 then C
-    else Word Other))))))))
+    else (if b == 113 then Q
+    else Word Other)))))))))
 
 -- the shape with one more byte of a word
 abbrev pub grown : Shape → ℕ → Shape
@@ -32,6 +33,9 @@ grown Minus b = if is_digit b then Digits true (b - 48) else Word Other
 grown (Digits s m) b = if is_digit b then Digits s (clipped (10 * m + (b - 48))) else Word Other
 grown C b = if b == 110 then Cn else Word Other
 grown Cn b = if b == 102 then Word Cnf else Word Other
+grown Q b = if b == 114 then Qr else Word Other
+grown Qr b = if b == 97 then Qra else Word Other
+grown Qra b = if b == 116 then Word Qrat else Word Other
 grown (Word k) b = Word Other
 
 -- behind a space, tab or CR
@@ -43,6 +47,9 @@ after_blank Minus = Between
 after_blank (Digits s m) = Between
 after_blank C = Between
 after_blank Cn = Between
+after_blank Q = Between
+after_blank Qr = Between
+after_blank Qra = Between
 after_blank (Word k) = Between
 
 -- the word that ends there
@@ -55,6 +62,9 @@ kind_in (Digits false m) = Some (Number (pos (clipped m)))
 kind_in (Digits true m) = Some (if m == 0 then Other else Number (neg_ℤ (pos (clipped m))))
 kind_in C = Some Other
 kind_in Cn = Some Other
+kind_in Q = Some Other
+kind_in Qr = Some Other
+kind_in Qra = Some Other
 kind_in (Word k) = Some k
 
 abbrev pub token_in : Option TokenKind → ℕ → Option Token

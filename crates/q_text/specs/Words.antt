@@ -1,7 +1,7 @@
--- What a word of the text is: a number, a letter, cnf, or something else.
-use Rattle.std.specs.Prelude.{ℕ, ◌+◌, ◌-◌, ◌*◌, ◌==◌, ◌&&◌, ◌||◌, min, Bool, false, List, [], ◌∷◌, Option, Some, None, pos, neg_ℤ, if◌then◌else◌, nat_le}
+-- What a word of the text is: a number, a letter, cnf, qrat, or something else.
+use Rattle.std.specs.Prelude.{ℕ, ◌+◌, ◌-◌, ◌*◌, ◌==◌, ◌&&◌, ◌||◌, min, Bool, true, false, List, [], ◌∷◌, Option, Some, None, pos, neg_ℤ, if◌then◌else◌, nat_le}
 use Rattle.q_text.specs.declared.tokens.TokenKind.{TokenKind}
-use Rattle.q_text.specs.declared.tokens.TokenKind.TheVariants.{Number, P, Cnf, E, A, D, U, R, Other}
+use Rattle.q_text.specs.declared.tokens.TokenKind.TheVariants.{Number, P, Cnf, Qrat, E, A, D, U, R, Other}
 
 -- space, LF, tab and CR divide words
 abbrev pub is_separator : ℕ → Bool
@@ -56,8 +56,20 @@ is_cnf (a ∷ b ∷ []) = false
 is_cnf (a ∷ b ∷ c ∷ []) = a == 99 && b == 110 && c == 102
 is_cnf (a ∷ b ∷ c ∷ d ∷ bs) = false
 
+-- no byte is left
+abbrev pub is_done : List ℕ → Bool
+is_done [] = true
+is_done (b ∷ bs) = false
+
+abbrev pub is_qrat : List ℕ → Bool
+is_qrat [] = false
+is_qrat (a ∷ []) = false
+is_qrat (a ∷ b ∷ []) = false
+is_qrat (a ∷ b ∷ c ∷ []) = false
+is_qrat (a ∷ b ∷ c ∷ d ∷ bs) = a == 113 && b == 114 && c == 97 && d == 116 && is_done bs
+
 -- the kind of a word
 abbrev pub kind_of : List ℕ → TokenKind
 kind_of [] = Other
 kind_of (b ∷ []) = letter b
-kind_of (b ∷ c ∷ bs) = if is_cnf (b ∷ c ∷ bs) then Cnf else longer b c bs
+kind_of (b ∷ c ∷ bs) = if is_cnf (b ∷ c ∷ bs) then Cnf else (if is_qrat (b ∷ c ∷ bs) then Qrat else longer b c bs)

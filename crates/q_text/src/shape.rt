@@ -15,6 +15,9 @@ pub enum Shape {
     Digits { negative: bool, magnitude: u64 },
     C,
     Cn,
+    Q,
+    Qr,
+    Qra,
     Word(TokenKind),
 }
 
@@ -77,6 +80,27 @@ impl Shape {
                     Shape::Word(TokenKind::Other)
                 }
             }
+            Shape::Q => {
+                if byte == b'r' {
+                    Shape::Qr
+                } else {
+                    Shape::Word(TokenKind::Other)
+                }
+            }
+            Shape::Qr => {
+                if byte == b'a' {
+                    Shape::Qra
+                } else {
+                    Shape::Word(TokenKind::Other)
+                }
+            }
+            Shape::Qra => {
+                if byte == b't' {
+                    Shape::Word(TokenKind::Qrat)
+                } else {
+                    Shape::Word(TokenKind::Other)
+                }
+            }
             Shape::Word(_) => Shape::Word(TokenKind::Other),
         }
     }
@@ -105,6 +129,7 @@ impl Shape {
             } => Some(number(negative, magnitude)),
             Shape::Start | Shape::Comment | Shape::Between => None,
             Shape::Minus | Shape::C | Shape::Cn => Some(TokenKind::Other),
+            Shape::Q | Shape::Qr | Shape::Qra => Some(TokenKind::Other),
             Shape::Word(kind) => Some(kind),
         }
     }
@@ -127,6 +152,7 @@ fn first(byte: u8) -> Shape
         b'u' => Shape::Word(TokenKind::U),
         b'r' => Shape::Word(TokenKind::R),
         b'c' => Shape::C,
+        b'q' => Shape::Q,
         _ => Shape::Word(TokenKind::Other),
     }
 }

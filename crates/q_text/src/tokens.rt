@@ -11,6 +11,7 @@ pub enum TokenKind {
     Number(i64),
     P,
     Cnf,
+    Qrat,
     E,
     A,
     D,

@@ -1,4 +1,4 @@
-use Rattle.std.proofs.Common.{ap, refl, None}
+use Rattle.std.proofs.Common.{refl, None}
 use Rattle.q_log.specs.Reading.{LogState, open_of}
 use Rattle.q_log.proofs.Reading.{start-reads}
 use Rattle.q_log.proofs.reader.LogReader.new.Goals as goal
@@ -12,4 +12,4 @@ returns-clause-log c text =
       refused = None;
     } in
     start-reads s c.args.bytes text c.new.ensures.start refl
-    (ap (λ b. open_of b c.new-2.result.lits) c.new-2.ensures)
+    c.new-2.ensures
