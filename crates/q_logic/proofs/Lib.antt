@@ -62,6 +62,7 @@ pub mod CertificateTrees
 pub mod Exchanged
 pub mod Falsity
 pub mod Turning
+pub mod Neighbours
 pub mod PlainDrops
 pub mod ForthVariables
 pub mod ForthRuns

@@ -46,7 +46,7 @@ pub use laws::{
 };
 pub use limits::Limits;
 pub use literals::Lit;
-pub use lits::{Lits, holds, sort_clause};
+pub use lits::{Lits, holds, is_tautology, sort_clause};
 pub use memory::NoMemory;
 pub use moves::{
     completions_are_carried_back, first_moves_are_carried_back, first_stands_before_universals,

@@ -1,6 +1,9 @@
 ghost use Rattle.std.specs.Prelude.{◌≡◌, ◌↔◌, ◌++◌, List, [], ◌∷◌, length, OnOk, OnErr, IsTrue};
 ghost use Rattle.q_logic.specs.Clauses.{clause_of};
 ghost use Rattle.q_logic.specs.Formulas.{IsIn};
+ghost use Rattle.q_logic.specs.Literals.{IsBelow};
+ghost use Rattle.q_logic.specs.Parts.{ArePairs};
+ghost use Rattle.q_logic.specs.Sets.{IsTautology};
 
 use crate::literals::Lit;
 use crate::memory::NoMemory;
@@ -82,6 +85,19 @@ pub fn holds(clause: &[Lit], lit: Lit) -> bool
 {
     for k in clause {
         if k.is(lit) {
+            return true;
+        }
+    }
+    false
+}
+
+/// Whether the clause holds a literal and its negation: these are neighbours.
+pub fn is_tautology(clause: &[Lit]) -> bool
+    requires { ArePairs IsBelow clause.now }
+    ensures { IsTrue result ↔ IsTautology clause.now }
+{
+    for i in 1..clause.len() {
+        if clause[i - 1].var() == clause[i].var() {
             return true;
         }
     }

@@ -1,5 +1,4 @@
 pub mod Marking
-pub mod Neighbours
 pub mod Quantifiers
 pub mod Places
 pub mod Outer

@@ -8,7 +8,8 @@ mod room;
 mod rules;
 mod variables;
 
-pub use clauses::{is_tautology, only_literal};
+pub use clauses::only_literal;
+pub use q_logic::is_tautology;
 pub use queue::Queue;
 pub use room::reserve_log;
 pub use rules::Rules;

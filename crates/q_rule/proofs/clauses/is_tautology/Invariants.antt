@@ -1,5 +1,0 @@
-use Rattle.q_rule.proofs.Neighbours.{AreOther}
-use Rattle.q_rule.proofs.clauses.is_tautology.Given as goal
-
-abbrev pub invariant-loop-i : goal.invariant-loop-i
-invariant-loop-i l = AreOther l.clause l.i
