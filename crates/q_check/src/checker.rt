@@ -4,12 +4,12 @@ ghost use Rattle.q_logic.specs.Clauses.{clause_of};
 ghost use Rattle.q_logic.specs.Limits.{AreModerate};
 ghost use Rattle.q_logic.specs.Runs.{SameFormula, AreAlike};
 ghost use Rattle.q_logic.specs.Steps.{Valid, after};
-ghost use Rattle.q_check.specs.declared.error.CheckError.TheVariants.{NoMemory as MemoryError};
-ghost use Rattle.q_check.specs.Checked.{HasGrown, IsRefusal, IsEndRefusal, IsTried};
+ghost use Rattle.q_judge.specs.declared.error.CheckError.TheVariants.{NoMemory as MemoryError};
+ghost use Rattle.q_judge.specs.Tried.{IsEndRefusal, IsTried};
+ghost use Rattle.q_check.specs.Checked.{HasGrown, IsRefusal};
 
-use crate::book::{Book, first_lit};
-use crate::error::CheckError;
-use crate::undo::{Undo, Undos};
+use crate::book::Book;
+use q_judge::{CheckError, Undo, Undos, first_lit};
 use q_logic::{Formula, Kind, Limits, Lit, NoMemory, Step, sort_clause};
 use std::alloc::Global;
 use std::marker::Model;
@@ -29,7 +29,7 @@ impl Model for Checker {
     ghost use Rattle.std.specs.Prelude.{map};
     ghost use Rattle.q_logic.specs.Limits.{AreModerate};
     ghost use Rattle.q_check.specs.Checked.{Checked};
-    ghost use Rattle.q_check.specs.Entries.{entry_of};
+    ghost use Rattle.q_judge.specs.Entries.{entry_of};
 
     ghost Value = { Checked };
 

@@ -11,7 +11,7 @@ use Rattle.q_logic.specs.Circuits.{input}
 use Rattle.q_logic.specs.Certificates.{NamedOutput, CertificateView}
 use Rattle.q_aig.specs.Nets.{Net, IsLiteral, tree_at, operand_of, IsNew, Keeps}
 use Rattle.q_aig.specs.Outputs.{net_of, IsNewName}
-use Rattle.q_check.proofs.Seating.{get-bound}
+use Rattle.q_judge.proofs.Seating.{get-bound}
 use Rattle.q_rebuild.specs.Standing.{look_at, AreLiterals}
 use Rattle.q_rebuild.specs.Copied.{or_zero}
 use Rattle.q_rebuild.specs.Rebuilt.{universals, outputs_for}

@@ -12,8 +12,8 @@ use Rattle.q_logic.specs.Certificates.{CertificateView, trees_of}
 use Rattle.q_logic.specs.Skolems.{given}
 use Rattle.q_aig.specs.Nets.{Net, AreDistinct}
 use Rattle.q_logic.proofs.Truth.{none_bound}
-use Rattle.q_check.proofs.Binding.{unbound-universal}
-use Rattle.q_check.proofs.Seating.{get-bound}
+use Rattle.q_judge.proofs.Binding.{unbound-universal}
+use Rattle.q_judge.proofs.Seating.{get-bound}
 use Rattle.q_rebuild.specs.Standing.{look_at}
 use Rattle.q_rebuild.specs.Tabled.{Matches, ArePlacesUpto, ArePlaces, is_there, AreExistentials, AreAllowedBy}
 use Rattle.q_rebuild.specs.Refusals.{first_missing}

@@ -8,7 +8,7 @@ ghost use Rattle.q_aig.specs.Nets.{operand_of, IsLiteral};
 ghost use Rattle.q_rebuild.specs.Standing.{AreLiterals};
 ghost use Rattle.q_rebuild.specs.Growing.{IsDisjunction, IsRaised, IsSomeOf, IsAllOf};
 ghost use Rattle.q_rebuild.specs.Undone.{IsUndone, AreUndone};
-ghost use Rattle.q_check.specs.Entries.{entry_of};
+ghost use Rattle.q_judge.specs.Entries.{entry_of};
 ghost use Rattle.q_logic.specs.Undos.{pivot as pivot_entry};
 
 use crate::tables::{Tables, look, put};
