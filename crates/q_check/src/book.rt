@@ -13,8 +13,8 @@ ghost use Rattle.q_judge.specs.Tried.{IsTried, IsEndRefusal};
 
 use q_judge::{
     Buffers, Cause, CheckError, RecentRegions, Scope, Undo, binds_all, compare, first_lit,
-    fresh_entry, has_room, is_absent, is_droppable, kept_pivot, pivot_entry, removed_entry, slot_of,
-    sum_of, takes_fresh, warrant_of,
+    fresh_entry, has_room, is_absent, is_droppable, kept_pivot, pivot_entry, removed_entry,
+    slot_of, sum_of, takes_fresh, warrant_of,
 };
 use q_logic::{Formula, Limits, Lit, NoMemory};
 use q_prop::Store;

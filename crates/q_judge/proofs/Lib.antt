@@ -1,5 +1,3 @@
-pub mod Copies
-pub mod Alike
 pub mod Binding
 pub mod Linking
 pub mod Ranking

@@ -7,7 +7,7 @@ use Rattle.q_logic.proofs.Membership.{IsIn-Contains, Contains-IsIn}
 use Rattle.q_prop.specs.Slots.{filled, without, Holds, IsPut}
 use Rattle.q_logic.specs.Numbered.{Slots}
 use Rattle.q_prop.proofs.SlotLemmas.{filled-in, filled-cases, without-le}
-use Rattle.q_judge.proofs.Copies.{same-sizes}
+use Rattle.q_logic.proofs.Copies.{same-sizes}
 use Rattle.q_logic.proofs.Reaching.{SameClauses, alike-sym, alike-trans, copies-append, alike-uncons, one_less-alike}
 
 pub held-in : (s : Slots) (n : ℕ) (C : Clause) → Holds s n C → IsIn C (filled s)

@@ -25,7 +25,7 @@ use Rattle.q_judge.specs.Entries.{IsPivotEntry, entries_of, kept_pivot}
 use Rattle.q_judge.specs.Warrants.{IsWarrant, IsAnswered, IsSlotOf}
 use Rattle.q_logic.proofs.Reaching.{SameClauses, IsIn-alike, alike-sym, one_less-alike}
 use Rattle.q_judge.proofs.Slots.{held-in, in-held, put-same, put-sizes, left-same, left-sizes, emptied-same}
-use Rattle.q_judge.proofs.Alike.{Within as IsWithin, warranted-within, droppable-within, implied-within, outers-same}
+use Rattle.q_logic.proofs.Alike.{Within as IsWithin, warranted-within, droppable-within, implied-within, outers-same}
 
 abbrev pub of : Prefix → Matrix → PrenexFormula
 of P X = record { prefix = P; matrix = X }

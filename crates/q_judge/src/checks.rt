@@ -1,6 +1,7 @@
 //! What is asked of a formula, its prefix in a scope and its clauses in slots, before a step is taken and at the end.
 //! Each test is exact, and none changes the formula but the one at the end, which takes the clauses out.
-ghost use Rattle.std.specs.Prelude.{◌≡◌, ◌↔◌, ◌≤◌, ◌<◌, ◌*◌, ◌+◌, ◌^◌, length, OnOk, IfOk, IfErr, IsTrue};
+ghost use Rattle.std.specs.Prelude.{◌≡◌, ◌↔◌, ◌≤◌, ◌<◌, ◌*◌, ◌+◌, ◌^◌, length, drop, OnOk, IfOk, IfErr, IsTrue};
+ghost use Rattle.q_logic.specs.Clauses.{clause_of};
 ghost use Rattle.q_logic.specs.Formulas.{Clause};
 ghost use Rattle.q_logic.specs.Limits.{AreModerate};
 ghost use Rattle.q_logic.specs.Runs.{SameFormula, copies};
@@ -12,7 +13,7 @@ ghost use Rattle.q_judge.specs.Warrants.{IsSlotOf};
 
 use crate::error::{Cause, CheckError};
 use crate::scope::Scope;
-use q_logic::{Formula, Limits, Lit, NoMemory};
+use q_logic::{Formula, Limits, Lit, NoMemory, sort_clause};
 use q_prop::Store;
 use std::alloc::Global;
 
@@ -43,6 +44,26 @@ pub fn first_lit(lits: &[Lit]) -> Option<Lit>
     ensures { result ≡ first_of lits.now }
 {
     lits.first().copied()
+}
+
+/// The clause of the literals.
+pub fn load_clause(clause: &mut Vec<Lit>, lits: &[Lit]) -> Result<(), NoMemory>
+    ensures { OnOk result (clause.new.items ≡ clause_of lits.now) }
+{
+    clause.clear();
+    clause.extend_from_slice(lits)?;
+    sort_clause(clause);
+    Ok(())
+}
+
+/// The literals after the first.
+pub fn load_rest(rest: &mut Vec<Lit>, lits: &[Lit]) -> Result<(), NoMemory>
+    requires { 0 < length lits.now }
+    ensures { OnOk result (rest.new.items ≡ drop 1 lits.now) }
+{
+    rest.clear();
+    rest.extend_from_slice(&lits[1..])?;
+    Ok(())
 }
 
 /// Whether no clause holds the variable.

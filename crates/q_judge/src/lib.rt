@@ -15,7 +15,8 @@ mod seats;
 mod undo;
 
 pub use checks::{
-    binds_all, compare, first_lit, has_room, is_absent, slot_of, sum_of, takes_fresh,
+    binds_all, compare, first_lit, has_room, is_absent, load_clause, load_rest, slot_of, sum_of,
+    takes_fresh,
 };
 pub use error::{Cause, CheckError};
 pub use pivots::{Buffers, Warrant, clause_at, push_outer, resolves, slots_of, warrant_of};

@@ -5,7 +5,7 @@ use Rattle.q_logic.specs.Runs.{copies}
 use Rattle.q_prop.specs.Slots.{filled}
 use Rattle.q_logic.specs.Numbered.{Slots}
 use Rattle.q_prop.proofs.SlotLemmas.{slice_get-in, take-slice_get}
-use Rattle.q_judge.proofs.Copies.{same-sizes}
+use Rattle.q_logic.proofs.Copies.{same-sizes}
 use Rattle.q_logic.proofs.Reaching.{clause_eq-itself, copies-IsIn, copies-append}
 use Rattle.q_judge.proofs.Slots.{emptied-same, left-sizes, in-held}
 use Rattle.q_judge.proofs.checks.takes_all.Goals as goal
