@@ -18,11 +18,11 @@ use Rattle.q_log.specs.Reading.{LogState, Turn, turn, turn_unless, open_turn, to
 use Rattle.q_log.specs.Reading as reading
 use Rattle.q_check.specs.Alike.{Leads}
 use Rattle.q_logic.specs.Undos.{UndoEntry, Undos}
-use Rattle.q_check.proofs.Alike.{alike_swapped, alike_cause, alike_entries}
+use Rattle.q_logic.proofs.Alike.{alike_swapped, alike_cause, alike_entries}
 use Rattle.q_check.proofs.Runs.{leads_begin, leads_more}
 use Rattle.q_app.specs.Logs.{Entry, steps_of, IsRefusedAt}
-use Rattle.q_check.specs.declared.error.CheckError.{CheckError}
-use Rattle.q_check.specs.declared.error.CheckError.TheVariants as check
+use Rattle.q_judge.specs.declared.error.CheckError.{CheckError}
+use Rattle.q_judge.specs.declared.error.CheckError.TheVariants as check
 use Rattle.q_check.specs.Checked.{Checked, HasGrown, IsRefusal}
 use Rattle.q_app.specs.declared.audit.Audit.{Audit}
 use Rattle.q_app.specs.declared.audit.Passed.{Passed}

@@ -8,8 +8,9 @@ use Rattle.q_logic.specs.Runs.{ValidSteps, SameFormula, AreAlike}
 use Rattle.q_logic.specs.Undos.{UndoEntry, Undos}
 use Rattle.q_log.specs.Logs as logs
 use Rattle.q_log.specs.Reading.{to_come}
-use Rattle.q_check.specs.declared.error.CheckError.TheVariants as check
-use Rattle.q_check.specs.Checked.{Checked, IsEndRefusal}
+use Rattle.q_judge.specs.declared.error.CheckError.TheVariants as check
+use Rattle.q_judge.specs.Tried.{IsEndRefusal}
+use Rattle.q_check.specs.Checked.{Checked}
 use Rattle.q_check.specs.Alike.{Leads}
 use Rattle.q_app.specs.Logs.{Entry, steps_of, IsRefusedAt}
 use Rattle.q_app.specs.declared.audit.Audit.{Audit}

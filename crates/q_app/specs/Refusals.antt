@@ -2,8 +2,8 @@
 use Rattle.std.specs.Prelude.{ℕ}
 use Rattle.q_log.specs.declared.error.LogError.{LogError}
 use Rattle.q_log.specs.declared.error.LogError.TheVariants as log
-use Rattle.q_check.specs.declared.error.CheckError.{CheckError}
-use Rattle.q_check.specs.declared.error.CheckError.TheVariants as check
+use Rattle.q_judge.specs.declared.error.CheckError.{CheckError}
+use Rattle.q_judge.specs.declared.error.CheckError.TheVariants as check
 use Rattle.q_io.specs.declared.error.DeviceError.{DeviceError}
 use Rattle.q_io.specs.declared.error.DeviceError.TheVariants as device
 use Rattle.q_app.specs.declared.input.InputError.{InputError}

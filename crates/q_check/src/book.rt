@@ -1,28 +1,21 @@
 //! The formula under check: its prefix, and its clauses in a store.
-ghost use Rattle.std.specs.Prelude.{◌≡◌, ◌↔◌, ◌<◌, ◌≤◌, ◌*◌, ◌+◌, ◌^◌, ◌∷◌, [], ℕ, Bool, true, length, None, Some, IfOk, IfErr, OnOk, IsTrue, if◌then◌else◌, ◌&&◌};
-ghost use Rattle.q_logic.specs.Literals.{Literal, IsBelow};
-ghost use Rattle.q_logic.specs.Formulas.{Clause, IsIn};
+ghost use Rattle.std.specs.Prelude.{◌≡◌, ◌<◌, ◌≤◌, ◌^◌, Bool, IfOk, IfErr, OnOk};
+ghost use Rattle.q_logic.specs.Literals.{IsBelow};
+ghost use Rattle.q_logic.specs.Formulas.{IsIn};
 ghost use Rattle.q_logic.specs.Limits.{AreModerate};
 ghost use Rattle.q_logic.specs.Parts.{ArePairs};
 ghost use Rattle.q_logic.specs.Pivots.{without};
-ghost use Rattle.q_logic.specs.Prefixes.{Closed, is_bound};
-ghost use Rattle.q_logic.specs.Runs.{SameFormula, copies, AreAlike};
+ghost use Rattle.q_logic.specs.Runs.{SameFormula, AreAlike};
 ghost use Rattle.q_logic.specs.StepForms.{IsFirst, first_of};
-ghost use Rattle.q_logic.specs.Steps.{Within, IsAbsent, IsFresh, add, delete, drop_literal, fresh, remove_variable};
-ghost use Rattle.q_logic.specs.Undos.{freshened, removed};
+ghost use Rattle.q_logic.specs.Steps.{add, delete, drop_literal, fresh, remove_variable};
 ghost use Rattle.q_logic.specs.declared.limits.Limits.{Limits as AnyLimits};
-ghost use Rattle.q_prop.specs.Slots.{filled};
-ghost use Rattle.q_prop.specs.Slots.{without as without_slot};
-ghost use Rattle.q_check.specs.Checked.{IsTried, IsEndRefusal};
-ghost use Rattle.q_check.specs.Entries.{entries_of, IsPivotEntry, kept_pivot as pivot_kept};
-ghost use Rattle.q_check.specs.Warrants.{IsSlotOf};
+ghost use Rattle.q_judge.specs.Tried.{IsTried, IsEndRefusal};
 
-use crate::error::{Cause, CheckError};
-use crate::pivots::{Buffers, Warrant, warrant_of};
-use crate::reach::is_droppable;
-use crate::recent::RecentRegions;
-use crate::scope::Scope;
-use crate::undo::{Undo, collect_outers};
+use q_judge::{
+    Buffers, Cause, CheckError, RecentRegions, Scope, Undo, binds_all, compare, first_lit,
+    fresh_entry, has_room, is_absent, is_droppable, kept_pivot, pivot_entry, removed_entry,
+    slot_of, sum_of, takes_fresh, warrant_of,
+};
 use q_logic::{Formula, Limits, Lit, NoMemory};
 use q_prop::Store;
 use std::alloc::Global;
@@ -43,8 +36,8 @@ pub struct Book {
 impl Model for Book {
     ghost use Rattle.q_logic.specs.Formulas.{PrenexFormula};
     ghost use Rattle.q_prop.specs.Slots.{filled};
-    ghost use Rattle.q_check.specs.Checked.{IsCounted};
-    ghost use Rattle.q_check.specs.Regions.{AreRegionsOf};
+    ghost use Rattle.q_judge.specs.Tried.{IsCounted};
+    ghost use Rattle.q_judge.specs.Regions.{AreRegionsOf};
 
     ghost Value = { PrenexFormula };
 
@@ -223,157 +216,4 @@ impl Book {
             output,
         )
     }
-}
-
-// Whether a prefix and the clauses of a store are those of the output up to order; what is the first difference. Apart from
-// `Book::finish`, which lets the book go.
-fn compare(
-    alloc: Global,
-    scope: &Scope,
-    store: &mut Store,
-    clauses: u64,
-    output: &Formula,
-) -> Result<(), CheckError>
-    requires { clauses ≡ length (filled store.old) }
-    ensures same { OnOk result (SameFormula (record { prefix = scope.now; matrix = filled store.old }) output.now) }
-    ensures refused { IfErr result (IsEndRefusal (record { prefix = scope.now; matrix = filled store.old }) output.now) }
-{
-    if !scope.has_blocks_of(alloc, output.prefix())? {
-        return Err(Cause::OtherBlocks.refusal());
-    }
-    if !takes_all(store, clauses, output) {
-        return Err(Cause::OtherClauses.refusal());
-    }
-    Ok(())
-}
-
-// The slot of a clause, each of whose variables is in the prefix.
-fn slot_of(scope: &Scope, store: &Store, clause: &[Lit]) -> Result<usize, CheckError>
-    ensures { IsSlotOf scope.now store.now clause.now result }
-{
-    if !binds_all(scope, clause) {
-        return Err(Cause::Unbound.refusal());
-    }
-    store.find(clause).ok_or(Cause::NoClause.refusal())
-}
-
-// Whether each variable of the clause is in the prefix.
-fn binds_all(scope: &Scope, clause: &[Lit]) -> bool
-    ensures { IsTrue result ↔ Within scope.now clause.now }
-{
-    for k in clause {
-        if !scope.binds(k.var()) {
-            return false;
-        }
-    }
-    true
-}
-
-// More literals than a u64 counts have no place in memory.
-fn sum_of(lits: u64, clause: &[Lit]) -> Result<u64, NoMemory>
-    ensures { IfOk result (λ n. n ≡ lits + length clause.now) }
-{
-    lits.checked_add(clause.len() as u64).ok_or(NoMemory)
-}
-
-// Whether one more clause keeps the checker's limits, four times those of a file.
-fn has_room(limits: Limits, clauses: u64, lits: u64, clause: &[Lit]) -> bool
-    requires { AreModerate limits }
-    ensures { IsTrue result ↔ ((clauses + 1 ≤ 4 * limits.clauses) × (length clause.now + lits ≤ 4 * limits.lits)) }
-{
-    let most = 4 * limits.lits;
-    let more = clause.len() as u64;
-    clauses < 4 * limits.clauses && more <= most && lits <= most - more
-}
-
-fn takes_fresh(scope: &Scope, limits: Limits, v: u32, w: u32) -> bool
-    requires { 1 ≤ v }
-    ensures { IsTrue result ↔ IsFresh limits scope.now v w }
-{
-    !scope.binds(v) && v <= limits.vars && scope.is_existential(w)
-}
-
-// Whether no clause holds the variable.
-fn is_absent(store: &Store, var: u32) -> bool
-    requires positive { 1 ≤ var }
-    requires small { var < 2 ^ 31 }
-    ensures { IsTrue result ↔ IsAbsent (filled store.now) var }
-{
-    if !store.holders(Lit::new(var, true)).is_empty() {
-        return false;
-    }
-    store.holders(Lit::new(var, false)).is_empty()
-}
-
-// The pivot whose outer clauses a deletion leaves: none where the undo list is not kept or the clause is implied.
-fn kept_pivot(keep: bool, warrant: Warrant, first: Option<Lit>) -> Option<Lit>
-    ensures { result ≡ pivot_kept keep warrant first }
-{
-    match warrant {
-        Warrant::Pivot if keep => first,
-        Warrant::Pivot | Warrant::Propagation => None,
-    }
-}
-
-// What a deletion by the pivot leaves.
-fn pivot_entry(
-    alloc: Global,
-    joined: &mut Vec<Lit>,
-    store: &Store,
-    scope: &Scope,
-    at: usize,
-    pivot: Option<Lit>,
-) -> Result<Option<Undo>, NoMemory>
-    requires closed { Closed scope.now (filled store.now) }
-    requires bound { (l : Literal) → pivot ≡ Some l → is_bound scope.now l.var ≡ true }
-    ensures { IfOk result (λ u. IsPivotEntry scope.now (filled (without_slot store.now (Some at))) pivot u) }
-{
-    let Some(pivot) = pivot else {
-        return Ok(None);
-    };
-    let outer = collect_outers(alloc, joined, store, scope, Some(at), pivot.negated())?;
-    Ok(Some(Undo::Pivot { pivot, outer }))
-}
-
-pub fn first_lit(lits: &[Lit]) -> Option<Lit>
-    ensures { result ≡ first_of lits.now }
-{
-    lits.first().copied()
-}
-
-fn fresh_entry(keep: bool, var: u32) -> Option<Undo>
-    ensures { entries_of result ≡ (if keep then freshened var ∷ [] else []) }
-{
-    if keep {
-        Some(Undo::Fresh { var })
-    } else {
-        None
-    }
-}
-
-fn removed_entry(keep: bool, existential: bool, var: u32) -> Option<Undo>
-    ensures { entries_of result ≡ (if keep && existential then removed var ∷ [] else []) }
-{
-    if keep && existential {
-        Some(Undo::Removed { var })
-    } else {
-        None
-    }
-}
-
-// Takes each clause of the formula out of the store; whether all were there and none is left.
-fn takes_all(store: &mut Store, clauses: u64, output: &Formula) -> bool
-    requires { clauses ≡ length (filled store.old) }
-    ensures { IsTrue result ↔ ((C : Clause) → copies C (filled store.old) ≡ copies C output.now.matrix) }
-{
-    if clauses != output.clauses() as u64 {
-        return false;
-    }
-    for at in 0..output.clauses() {
-        match store.find(output.clause(at)) {
-            Some(slot) => store.delete(slot),
-            None => return false,
-        }
-    }
-    true
 }

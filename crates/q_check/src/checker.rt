@@ -1,16 +1,15 @@
 //! The checker: a formula, and what the steps so far leave.
-ghost use Rattle.std.specs.Prelude.{◌≡◌, ◌∷◌, ◌++◌, [], length, drop, ◌<◌, IfOk, IfErr, OnOk, OnErr};
-ghost use Rattle.q_logic.specs.Clauses.{clause_of};
+ghost use Rattle.std.specs.Prelude.{◌≡◌, [], IfOk, IfErr, OnOk, OnErr};
 ghost use Rattle.q_logic.specs.Limits.{AreModerate};
 ghost use Rattle.q_logic.specs.Runs.{SameFormula, AreAlike};
 ghost use Rattle.q_logic.specs.Steps.{Valid, after};
-ghost use Rattle.q_check.specs.declared.error.CheckError.TheVariants.{NoMemory as MemoryError};
-ghost use Rattle.q_check.specs.Checked.{HasGrown, IsRefusal, IsEndRefusal, IsTried};
+ghost use Rattle.q_judge.specs.declared.error.CheckError.TheVariants.{NoMemory as MemoryError};
+ghost use Rattle.q_judge.specs.Tried.{IsEndRefusal, IsTried};
+ghost use Rattle.q_check.specs.Checked.{HasGrown, IsRefusal};
 
-use crate::book::{Book, first_lit};
-use crate::error::CheckError;
-use crate::undo::{Undo, Undos};
-use q_logic::{Formula, Kind, Limits, Lit, NoMemory, Step, sort_clause};
+use crate::book::Book;
+use q_judge::{CheckError, Undo, Undos, first_lit, load_clause, load_rest};
+use q_logic::{Formula, Kind, Limits, Lit, Step};
 use std::alloc::Global;
 use std::marker::Model;
 
@@ -29,7 +28,7 @@ impl Model for Checker {
     ghost use Rattle.std.specs.Prelude.{map};
     ghost use Rattle.q_logic.specs.Limits.{AreModerate};
     ghost use Rattle.q_check.specs.Checked.{Checked};
-    ghost use Rattle.q_check.specs.Entries.{entry_of};
+    ghost use Rattle.q_judge.specs.Entries.{entry_of};
 
     ghost Value = { Checked };
 
@@ -133,24 +132,4 @@ fn try_step(
         Kind::Fresh => book.fresh(limits, lits[0].var(), lits[1].var(), keeps),
         Kind::Remove => book.remove(lits[0].var(), keeps),
     }
-}
-
-// The clause of the literals.
-fn load_clause(clause: &mut Vec<Lit>, lits: &[Lit]) -> Result<(), NoMemory>
-    ensures { OnOk result (clause.new.items ≡ clause_of lits.now) }
-{
-    clause.clear();
-    clause.extend_from_slice(lits)?;
-    sort_clause(clause);
-    Ok(())
-}
-
-// The literals after the first.
-fn load_rest(rest: &mut Vec<Lit>, lits: &[Lit]) -> Result<(), NoMemory>
-    requires { 0 < length lits.now }
-    ensures { OnOk result (rest.new.items ≡ drop 1 lits.now) }
-{
-    rest.clear();
-    rest.extend_from_slice(&lits[1..])?;
-    Ok(())
 }

@@ -5,7 +5,7 @@ use Rattle.q_logic.specs.Literals.{Literal}
 use Rattle.q_logic.specs.Clauses.{clause_of}
 use Rattle.q_logic.specs.StepForms.{step_of, IsStepForm}
 use Rattle.q_logic.specs.Steps.{ProofStep, drop_literal, remove_variable}
-use Rattle.q_check.specs.Checked.{IsTried}
+use Rattle.q_judge.specs.Tried.{IsTried}
 use Rattle.q_check.proofs.checker.try_step.Goals as goal
 
 first-dropped : (ls : List Literal) (x : Literal) → 0 < length ls → x ≡ get_or ls 0 x → step_of Drop ls ≡ drop_literal x (clause_of ls)

@@ -4,11 +4,11 @@ use Rattle.q_logic.specs.Formulas.{PrenexFormula}
 use Rattle.q_logic.specs.Numbered.{Slots}
 use Rattle.q_logic.specs.Steps.{add}
 use Rattle.q_prop.specs.Slots.{filled}
-use Rattle.q_check.specs.Checked.{IsTried}
+use Rattle.q_judge.specs.Tried.{IsTried}
 use Rattle.q_logic.proofs.Members.{test-false}
-use Rattle.q_check.proofs.Slots.{put-sizes}
-use Rattle.q_check.proofs.Apart.{all-put}
-use Rattle.q_check.proofs.Trying.{of, add-unbound, add-refused, add-full, add-valid, add-after, add-entry, warranted, valid-formula}
+use Rattle.q_judge.proofs.Slots.{put-sizes}
+use Rattle.q_judge.proofs.Apart.{all-put}
+use Rattle.q_judge.proofs.Trying.{of, add-unbound, add-refused, add-full, add-valid, add-after, add-entry, warranted, valid-formula}
 use Rattle.q_check.proofs.book.Book.add.Goals as goal
 
 pub returns-then-not-binds_all : goal.returns-then-not-binds_all

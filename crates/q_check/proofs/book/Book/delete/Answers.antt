@@ -7,12 +7,12 @@ use Rattle.q_logic.specs.Numbered.{Slots}
 use Rattle.q_logic.specs.StepForms.{first_of}
 use Rattle.q_logic.specs.Steps.{delete}
 use Rattle.q_prop.specs.Slots.{filled, without}
-use Rattle.q_check.specs.Checked.{IsTried}
-use Rattle.q_check.specs.Warrants.{IsAnswered}
+use Rattle.q_judge.specs.Tried.{IsTried}
+use Rattle.q_judge.specs.Warrants.{IsAnswered}
 use Rattle.q_prop.proofs.SlotLemmas.{slice_get-in}
-use Rattle.q_check.proofs.Slots.{left-sizes}
-use Rattle.q_check.proofs.Apart.{all-left}
-use Rattle.q_check.proofs.Trying.{of, delete-unfound, delete-refused, delete-valid, delete-after, delete-entry, warranted, valid-formula}
+use Rattle.q_judge.proofs.Slots.{left-sizes}
+use Rattle.q_judge.proofs.Apart.{all-left}
+use Rattle.q_judge.proofs.Trying.{of, delete-unfound, delete-refused, delete-valid, delete-after, delete-entry, warranted, valid-formula}
 use Rattle.q_check.proofs.book.Book.delete.Goals as goal
 
 pub returns-in_err-at : goal.returns-in_err-at

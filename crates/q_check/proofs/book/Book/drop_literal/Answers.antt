@@ -10,12 +10,12 @@ use Rattle.q_logic.specs.Pivots.{without}
 use Rattle.q_logic.specs.Steps.{drop_literal}
 use Rattle.q_logic.proofs.Sets.{without-shorter}
 use Rattle.q_prop.specs.Slots.{filled}
-use Rattle.q_check.specs.Checked.{IsTried}
+use Rattle.q_judge.specs.Tried.{IsTried}
 use Rattle.q_prop.proofs.SlotLemmas.{slice_get-in}
 use Rattle.q_logic.proofs.Members.{test-false}
-use Rattle.q_check.proofs.Slots.{left-sizes}
-use Rattle.q_check.proofs.Apart.{all-shrunk}
-use Rattle.q_check.proofs.Trying.{of, drop-unfound, drop-refused, drop-valid, drop-after, drop-sizes, drop-entry, put-holds, valid-formula}
+use Rattle.q_judge.proofs.Slots.{left-sizes}
+use Rattle.q_judge.proofs.Apart.{all-shrunk}
+use Rattle.q_judge.proofs.Trying.{of, drop-unfound, drop-refused, drop-valid, drop-after, drop-sizes, drop-entry, put-holds, valid-formula}
 use Rattle.q_check.proofs.book.Book.drop_literal.Goals as goal
 
 pub returns-in_err-at : goal.returns-in_err-at

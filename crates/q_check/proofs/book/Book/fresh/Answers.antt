@@ -3,9 +3,9 @@ use Rattle.std.proofs.lemmas.Result.{err_from_is_err_and}
 use Rattle.q_logic.specs.Steps.{fresh, insert_after}
 use Rattle.q_prop.specs.Slots.{filled}
 use Rattle.q_logic.proofs.Members.{test-false}
-use Rattle.q_check.proofs.Alike.{alike_itself}
-use Rattle.q_check.proofs.Apart.{all-inserted}
-use Rattle.q_check.proofs.Trying.{of, fresh-refused, fresh-entry, valid-formula}
+use Rattle.q_logic.proofs.Alike.{alike_itself}
+use Rattle.q_judge.proofs.Apart.{all-inserted}
+use Rattle.q_judge.proofs.Trying.{of, fresh-refused, fresh-entry, valid-formula}
 use Rattle.q_check.proofs.book.Book.fresh.Goals as goal
 
 pub returns-then-not-takes_fresh : goal.returns-then-not-takes_fresh

@@ -4,9 +4,9 @@ use Rattle.q_logic.specs.Prefixes.{is_bound}
 use Rattle.q_logic.specs.Steps.{remove_variable, removed_from, IsAbsent}
 use Rattle.q_prop.specs.Slots.{filled}
 use Rattle.q_logic.proofs.Members.{test-false}
-use Rattle.q_check.proofs.Alike.{alike_itself}
-use Rattle.q_check.proofs.Apart.{all-removed}
-use Rattle.q_check.proofs.Trying.{of, remove-unbound, remove-occurring, removed-entry, valid-formula}
+use Rattle.q_logic.proofs.Alike.{alike_itself}
+use Rattle.q_judge.proofs.Apart.{all-removed}
+use Rattle.q_judge.proofs.Trying.{of, remove-unbound, remove-occurring, removed-entry, valid-formula}
 use Rattle.q_check.proofs.book.Book.remove.Goals as goal
 
 pub returns-then-not-binds : goal.returns-then-not-binds

@@ -8,10 +8,10 @@ use Rattle.std.proofs.Common.{◌++◌, slice_get}
 use Rattle.q_logic.proofs.Members.{taken-all}
 use Rattle.q_prop.specs.Slots.{IsPut}
 use Rattle.q_prop.proofs.SlotLemmas.{take-slice_get}
-use Rattle.q_check.proofs.Copies.{same-sizes}
+use Rattle.q_logic.proofs.Copies.{same-sizes}
 use Rattle.q_logic.proofs.Reaching.{copies-append}
-use Rattle.q_check.proofs.Slots.{put-same}
-use Rattle.q_check.proofs.Trying.{of, alike-formula}
+use Rattle.q_judge.proofs.Slots.{put-same}
+use Rattle.q_judge.proofs.Trying.{of, alike-formula}
 use Rattle.q_check.proofs.book.Book.start.Goals as goal
 
 literals-append : (X : Matrix) (C : Clause) → literals_in (X ++ C ∷ []) ≡ literals_in X + length C

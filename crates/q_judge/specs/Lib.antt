@@ -1,0 +1,7 @@
+pub mod Causes
+pub mod Scopes
+pub mod Warrants
+pub mod Entries
+pub mod Tried
+pub mod Walks
+pub mod Regions
