@@ -76,7 +76,7 @@ open-bound (b ∷ P) (w ∷ vs) v h = go (eqb b.var v) h (open-bound P vs v)
     go true h f = absurd (omega arith)
     go false h f = f (omega arith)
 
-open-universal : (P : Prefix) (vs : List Bool) (v : ℕ) → length vs ≤ place P v → is_universal (rest_of P vs) v ≡ is_universal P v
+pub open-universal : (P : Prefix) (vs : List Bool) (v : ℕ) → length vs ≤ place P v → is_universal (rest_of P vs) v ≡ is_universal P v
 open-universal P [] v h = refl
 open-universal [] (w ∷ vs) v h = refl
 open-universal (b ∷ P) (w ∷ vs) v h = go (eqb b.var v) h (open-universal P vs v)
@@ -86,7 +86,7 @@ open-universal (b ∷ P) (w ∷ vs) v h = go (eqb b.var v) h (open-universal P v
     go true h f = absurd (omega arith)
     go false h f = f (omega arith)
 
-place-universal : (P : Prefix) (v : ℕ) (d : Bound) → is_bound P v ≡ true →
+pub place-universal : (P : Prefix) (v : ℕ) (d : Bound) → is_bound P v ≡ true →
     is_universal P v ≡ not (is_exists (get_or P (place P v) d).quant)
 place-universal [] v d h = absurd (cc)
 place-universal (b ∷ P) v d h = go (eqb b.var v) h (place-universal P v d)
