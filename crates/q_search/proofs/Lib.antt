@@ -1,0 +1,4 @@
+pub mod PathLemmas
+pub mod Budgeting
+pub mod Seating
+pub mod Turning

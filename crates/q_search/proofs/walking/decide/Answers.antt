@@ -1,0 +1,114 @@
+use Rattle.std.proofs.Common.{true, false}
+use Rattle.q_logic.specs.declared.verdict.Verdict.TheVariants.{Lost, Won, Open}
+use Rattle.q_search.proofs.Turning.{IsLooked, looked, look-down, look-out, look-next, look-end, going-start, leaf-won, leaf-lost}
+use Rattle.q_search.proofs.walking.decide.Goals as goal
+
+pub loop-left-init : goal.loop-left-init
+loop-left-init g c = record {
+  going = going-start (g.N.Position.seen c.args.node.now) c.args.budget c.requires;
+  kept = g.met.N.Position.keeps_itself c.args.node.now;
+}
+
+pub returns-then-not-pay : goal.returns-then-not-pay
+returns-then-not-pay g c =
+    let seen = g.N.Position.seen in
+    let l : IsLooked (seen c.args.node.now) (seen c.loop-left.node) (seen c.verdict.new.self) c.args.budget c.loop-left.left Open =
+    looked (seen c.args.node.now) (seen c.loop-left.node) (seen c.verdict.new.self) c.args.budget c.loop-left.left
+    _ Open c.loop-left.invariant.going c.in_ok-verdict.ensures.same c.in_ok-verdict.ensures.value c.in-Open.is in
+    let kept = g.met.N.Position.keeps_on c.args.node.now c.loop-left.node c.verdict.new.self c.loop-left.invariant.kept c.in_ok-verdict.ensures.kept in
+    record {
+      ending = look-out (seen c.args.node.now) (seen c.loop-left.node) (seen c.verdict.new.self) c.args.budget c.loop-left.left c.pay.new.left l (c.in_ok-verdict.ensures.open c.in-Open.is) c.if-not-pay.ensures;
+      kept = kept;
+    }
+
+pub loop-left-smaller-in_ok-down-in-Open : goal.loop-left-smaller-in_ok-down-in-Open
+loop-left-smaller-in_ok-down-in-Open g c =
+    let seen = g.N.Position.seen in
+    let l : IsLooked (seen c.args.node.now) (seen c.loop-left.node) (seen c.verdict.new.self) c.args.budget c.loop-left.left Open =
+    looked (seen c.args.node.now) (seen c.loop-left.node) (seen c.verdict.new.self) c.args.budget c.loop-left.left
+    _ Open c.loop-left.invariant.going c.in_ok-verdict.ensures.same c.in_ok-verdict.ensures.value c.in-Open.is in
+    (look-down (seen c.args.node.now) (seen c.loop-left.node) (seen c.verdict.new.self) (seen c.down.new.self) c.args.budget c.loop-left.left c.pay.new.left l
+    (c.in_ok-verdict.ensures.open c.in-Open.is) c.if-not-pay.ensures c.in_ok-down-in-Open.ensures.ok).1
+
+pub loop-left-preserved-in_ok-down-in-Open : goal.loop-left-preserved-in_ok-down-in-Open
+loop-left-preserved-in_ok-down-in-Open g c =
+    let seen = g.N.Position.seen in
+    let l : IsLooked (seen c.args.node.now) (seen c.loop-left.node) (seen c.verdict.new.self) c.args.budget c.loop-left.left Open =
+    looked (seen c.args.node.now) (seen c.loop-left.node) (seen c.verdict.new.self) c.args.budget c.loop-left.left
+    _ Open c.loop-left.invariant.going c.in_ok-verdict.ensures.same c.in_ok-verdict.ensures.value c.in-Open.is in
+    let kept = g.met.N.Position.keeps_on c.args.node.now c.loop-left.node c.verdict.new.self c.loop-left.invariant.kept c.in_ok-verdict.ensures.kept in
+    record {
+      going = (look-down (seen c.args.node.now) (seen c.loop-left.node) (seen c.verdict.new.self) (seen c.down.new.self) c.args.budget c.loop-left.left c.pay.new.left l
+          (c.in_ok-verdict.ensures.open c.in-Open.is) c.if-not-pay.ensures c.in_ok-down-in-Open.ensures.ok).0;
+      kept = g.met.N.Position.keeps_on c.args.node.now c.verdict.new.self c.down.new.self kept c.in_ok-down-in-Open.ensures.kept;
+    }
+
+pub loop-left-smaller-else-not-branch : goal.loop-left-smaller-else-not-branch
+loop-left-smaller-else-not-branch g c =
+    let seen = g.N.Position.seen in
+    let l : IsLooked (seen c.args.node.now) (seen c.loop-left.node) (seen c.verdict.new.self) c.args.budget c.loop-left.left Won =
+    looked (seen c.args.node.now) (seen c.loop-left.node) (seen c.verdict.new.self) c.args.budget c.loop-left.left
+    _ Won c.loop-left.invariant.going c.in_ok-verdict.ensures.same c.in_ok-verdict.ensures.value c.in-Won.is in
+    (look-next (seen c.args.node.now) (seen c.loop-left.node) (seen c.verdict.new.self) (seen c.turn.new.node) c.args.budget c.loop-left.left Won true _ l
+    (leaf-won (seen c.verdict.new.self)) c.in_ok-turn-in-Won.ensures.turned c.if-not-branch.false).1
+
+pub loop-left-preserved-else-not-branch : goal.loop-left-preserved-else-not-branch
+loop-left-preserved-else-not-branch g c =
+    let seen = g.N.Position.seen in
+    let l : IsLooked (seen c.args.node.now) (seen c.loop-left.node) (seen c.verdict.new.self) c.args.budget c.loop-left.left Won =
+    looked (seen c.args.node.now) (seen c.loop-left.node) (seen c.verdict.new.self) c.args.budget c.loop-left.left
+    _ Won c.loop-left.invariant.going c.in_ok-verdict.ensures.same c.in_ok-verdict.ensures.value c.in-Won.is in
+    let kept = g.met.N.Position.keeps_on c.args.node.now c.loop-left.node c.verdict.new.self c.loop-left.invariant.kept c.in_ok-verdict.ensures.kept in
+    record {
+      going = (look-next (seen c.args.node.now) (seen c.loop-left.node) (seen c.verdict.new.self) (seen c.turn.new.node) c.args.budget c.loop-left.left Won true _ l
+          (leaf-won (seen c.verdict.new.self)) c.in_ok-turn-in-Won.ensures.turned c.if-not-branch.false).0;
+      kept = g.met.N.Position.keeps_on c.args.node.now c.verdict.new.self c.turn.new.node kept c.in_ok-turn-in-Won.ensures.kept;
+    }
+
+pub returns-then-not-branch : goal.returns-then-not-branch
+returns-then-not-branch g c =
+    let seen = g.N.Position.seen in
+    let l : IsLooked (seen c.args.node.now) (seen c.loop-left.node) (seen c.verdict.new.self) c.args.budget c.loop-left.left Won =
+    looked (seen c.args.node.now) (seen c.loop-left.node) (seen c.verdict.new.self) c.args.budget c.loop-left.left
+    _ Won c.loop-left.invariant.going c.in_ok-verdict.ensures.same c.in_ok-verdict.ensures.value c.in-Won.is in
+    let kept = g.met.N.Position.keeps_on c.args.node.now c.loop-left.node c.verdict.new.self c.loop-left.invariant.kept c.in_ok-verdict.ensures.kept in
+    record {
+      ending = look-end (seen c.args.node.now) (seen c.loop-left.node) (seen c.verdict.new.self) (seen c.turn.new.node) c.args.budget c.loop-left.left Won true _ l
+          (leaf-won (seen c.verdict.new.self)) c.in_ok-turn-in-Won.ensures.turned c.if-not-branch.true;
+      kept = g.met.N.Position.keeps_on c.args.node.now c.verdict.new.self c.turn.new.node kept c.in_ok-turn-in-Won.ensures.kept;
+    }
+
+pub loop-left-smaller : goal.loop-left-smaller
+loop-left-smaller g c =
+    let seen = g.N.Position.seen in
+    let l : IsLooked (seen c.args.node.now) (seen c.loop-left.node) (seen c.verdict.new.self) c.args.budget c.loop-left.left Lost =
+    looked (seen c.args.node.now) (seen c.loop-left.node) (seen c.verdict.new.self) c.args.budget c.loop-left.left
+    _ Lost c.loop-left.invariant.going c.in_ok-verdict.ensures.same c.in_ok-verdict.ensures.value c.in-Lost.is in
+    (look-next (seen c.args.node.now) (seen c.loop-left.node) (seen c.verdict.new.self) (seen c.turn-in-Lost.new.node) c.args.budget c.loop-left.left Lost false _ l
+    (leaf-lost (seen c.verdict.new.self)) c.in_ok-turn-in-Lost.ensures.turned c.if-not-branch-2.false).1
+
+pub loop-left-preserved : goal.loop-left-preserved
+loop-left-preserved g c =
+    let seen = g.N.Position.seen in
+    let l : IsLooked (seen c.args.node.now) (seen c.loop-left.node) (seen c.verdict.new.self) c.args.budget c.loop-left.left Lost =
+    looked (seen c.args.node.now) (seen c.loop-left.node) (seen c.verdict.new.self) c.args.budget c.loop-left.left
+    _ Lost c.loop-left.invariant.going c.in_ok-verdict.ensures.same c.in_ok-verdict.ensures.value c.in-Lost.is in
+    let kept = g.met.N.Position.keeps_on c.args.node.now c.loop-left.node c.verdict.new.self c.loop-left.invariant.kept c.in_ok-verdict.ensures.kept in
+    record {
+      going = (look-next (seen c.args.node.now) (seen c.loop-left.node) (seen c.verdict.new.self) (seen c.turn-in-Lost.new.node) c.args.budget c.loop-left.left Lost false _ l
+          (leaf-lost (seen c.verdict.new.self)) c.in_ok-turn-in-Lost.ensures.turned c.if-not-branch-2.false).0;
+      kept = g.met.N.Position.keeps_on c.args.node.now c.verdict.new.self c.turn-in-Lost.new.node kept c.in_ok-turn-in-Lost.ensures.kept;
+    }
+
+pub returns-then-not-branch-2 : goal.returns-then-not-branch-2
+returns-then-not-branch-2 g c =
+    let seen = g.N.Position.seen in
+    let l : IsLooked (seen c.args.node.now) (seen c.loop-left.node) (seen c.verdict.new.self) c.args.budget c.loop-left.left Lost =
+    looked (seen c.args.node.now) (seen c.loop-left.node) (seen c.verdict.new.self) c.args.budget c.loop-left.left
+    _ Lost c.loop-left.invariant.going c.in_ok-verdict.ensures.same c.in_ok-verdict.ensures.value c.in-Lost.is in
+    let kept = g.met.N.Position.keeps_on c.args.node.now c.loop-left.node c.verdict.new.self c.loop-left.invariant.kept c.in_ok-verdict.ensures.kept in
+    record {
+      ending = look-end (seen c.args.node.now) (seen c.loop-left.node) (seen c.verdict.new.self) (seen c.turn-in-Lost.new.node) c.args.budget c.loop-left.left Lost false _ l
+          (leaf-lost (seen c.verdict.new.self)) c.in_ok-turn-in-Lost.ensures.turned c.if-not-branch-2.true;
+      kept = g.met.N.Position.keeps_on c.args.node.now c.verdict.new.self c.turn-in-Lost.new.node kept c.in_ok-turn-in-Lost.ensures.kept;
+    }

@@ -1,0 +1,4 @@
+pub mod Paths
+pub mod Budgets
+pub mod Walks
+pub mod Seats
