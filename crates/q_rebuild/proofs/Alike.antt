@@ -1,50 +1,17 @@
 -- Circuits of the same inputs, names and trees are accepted alike.
-use Rattle.std.proofs.Common.{◌≡◌, ℕ, ◌<◌, ◌&&◌, not, cond, List, [], ◌∷◌, length, map, get_or, refl, sym, ap, ◌∙◌, subst, Option, Some}
-use Rattle.q_logic.specs.Formulas.{Prefix, PrenexFormula}
-use Rattle.q_logic.specs.Prefixes.{is_exists, is_existential, is_universal, universal_before}
-use Rattle.q_logic.specs.Circuits.{Circuit, Reads}
-use Rattle.q_logic.specs.Certificates.{NamedOutput, CertificateView, trees_of}
-use Rattle.q_logic.specs.Skolems.{or_input, given, Strategy, SkolemOf}
-use Rattle.q_rebuild.specs.Refusals.{first_missing, first_strange, input_name, ReadsInput, IsAccepted}
-
-first_strange-alike : (P : Prefix) (os ps : List NamedOutput) → map (λ o. o.name) os ≡ map (λ o. o.name) ps → first_strange P os ≡ first_strange P ps
-first_strange-alike P [] [] e = refl
-first_strange-alike P [] (p ∷ ps) e = absurd (cc)
-first_strange-alike P (o ∷ os) [] e = absurd (cc)
-first_strange-alike P (o ∷ os) (p ∷ ps) e =
-    let n : o.name ≡ p.name = cc in
-    let m : map (λ o. o.name) os ≡ map (λ o. o.name) ps = cc in
-    let r = first_strange-alike P os ps m in
-    ap (λ (s : Option ℕ). cond (is_existential P o.name) s (Some o.name)) r ∙ ap (λ (v : ℕ). cond (is_existential P v) (first_strange P ps) (Some v)) n
+use Rattle.std.proofs.Common.{◌≡◌, ℕ, map, subst}
+use Rattle.q_logic.specs.Formulas.{PrenexFormula}
+use Rattle.q_logic.specs.Certificates.{CertificateView, trees_of}
+use Rattle.q_logic.specs.Skolems.{Strategy, SkolemOf}
+use Rattle.q_carry.proofs.Alike.{fits-alike}
+use Rattle.q_rebuild.specs.Refusals.{IsAccepted}
 
 same-strategy : (s t : Strategy) → ((x : ℕ) → s x ≡ t x) → s ≡ t
 same-strategy s t h = λ i x. h x i
 
 module _ (c d : CertificateView) (inputs : c.inputs ≡ d.inputs) (names : map (λ o. o.name) c.outputs ≡ map (λ o. o.name) d.outputs) (trees : (x : ℕ) → trees_of c x ≡ trees_of d x) where
-  first_missing-alike : (P : Prefix) → first_missing P c ≡ first_missing P d
-  first_missing-alike [] = refl
-  first_missing-alike (b ∷ P) =
-      ap (λ (o : Option Circuit). cond (is_exists b.quant && not (given o)) (Some b.var) (first_missing P c)) (trees b.var)
-      ∙ ap (λ (r : Option ℕ). cond (is_exists b.quant && not (given (trees_of d b.var))) (Some b.var) r) (first_missing-alike P)
-
-  input_name-alike : (i : ℕ) → input_name c i ≡ input_name d i
-  input_name-alike i = ap (λ (xs : List ℕ). get_or xs i 0) inputs
-
-  reads-alike : (x i : ℕ) → ReadsInput d x i → ReadsInput c x i
-  reads-alike x i r = (
-    ap given (trees x) ∙ r.0,
-    subst (λ (xs : List ℕ). i < length xs) (sym inputs) r.1,
-    subst (λ (v : ℕ). Reads (or_input x (trees_of c x)) v) (sym (input_name-alike i)) (subst (λ (o : Option Circuit). Reads (or_input x o) (input_name d i)) (sym (trees x)) r.2),
-  )
-
   pub accepted-alike : (G : PrenexFormula) → IsAccepted G c → IsAccepted G d
-  accepted-alike G a = record {
-    none_missing = sym (first_missing-alike G.prefix) ∙ a.none_missing;
-    none_strange = sym (first_strange-alike G.prefix c.outputs d.outputs names) ∙ a.none_strange;
-    inputs = λ i x r. ap (is_universal G.prefix) (sym (input_name-alike i)) ∙ a.inputs i x (reads-alike x i r);
-    outer = λ j b e q i r. ap (λ (v : ℕ). universal_before G.prefix v b.var) (sym (input_name-alike i)) ∙ a.outer j b e q i (reads-alike b.var i r);
-    not_false = a.not_false;
-  }
+  accepted-alike G a = record { fits = fits-alike c d inputs names trees G.prefix a.fits; not_false = a.not_false }
 
   -- what is a Skolem function by its tree
   pub skolem-alike : (G : PrenexFormula) → SkolemOf G (trees_of c) → SkolemOf G (trees_of d)

@@ -13,10 +13,11 @@ use Rattle.q_logic.proofs.ClauseLemmas.{IsIn-outer}
 use Rattle.q_logic.proofs.Runs.{one_less-IsIn, at_or_other}
 use Rattle.q_logic.proofs.Order.{is_bound-universal}
 use Rattle.q_logic.proofs.Prefixes.{removed-unbound}
-use Rattle.q_logic.proofs.Blocks.{lawful-same}
+use Rattle.q_logic.proofs.Blocks.{lawful-same, Same-itself}
 use Rattle.q_logic.proofs.Outers.{outers-members}
 use Rattle.q_logic.proofs.Soundness.{after-formula, rebuilt-lawful}
-use Rattle.q_rebuild.specs.Covered.{IsCovered, OutersCovered, EntryCovered, AreCovered}
+use Rattle.q_carry.specs.Covered.{IsCovered, OutersCovered, EntryCovered}
+use Rattle.q_rebuild.specs.TakenBack.{AreCovered}
 
 universal-is_bound : (P : Prefix) (x : ℕ) → is_universal P x ≡ true → is_bound P x ≡ true
 universal-is_bound [] x h = h
@@ -81,19 +82,12 @@ step-covered F (remove_variable v) us rest c f e l h =
     go true = (tt, h)
     go false = h
 
-SameBlocks-refl : (Bs : List Block) → SameBlocks Bs Bs
-SameBlocks-refl [] = tt
-SameBlocks-refl (B ∷ Bs) = (refl, λ x. (λ h. h, λ h. h), SameBlocks-refl Bs)
-
-Same-refl : (F : PrenexFormula) → SameFormula F F
-Same-refl F = record { same_blocks = SameBlocks-refl (blocks F.prefix); same_clauses = λ C. refl }
-
 steps-covered : (F : PrenexFormula) (ss : List ProofStep) (E : PrenexFormula) (us : List UndoEntry) (c : Strategy) → IsFormula F → JustifiedSteps F ss E → Undos F ss us → Lawful E.prefix c → AreCovered (is_universal F.prefix) us c
 steps-covered F [] E us c f r u l = subst (λ us. AreCovered (is_universal F.prefix) us c) (sym u) tt
 steps-covered F (s ∷ ss) E us c f r (es, rest, e, u, is) l =
     let g : IsFormula (after F s) = after-formula F s f r.0 in
     let below = steps-covered (after F s) ss E rest c g r.1 u l in
-    let lawful : Lawful (after F s).prefix (Back rest c) = rebuilt-lawful (after F s) ss E rest c g (record { last = E; steps = r.1; same = Same-refl E }) u l in
+    let lawful : Lawful (after F s).prefix (Back rest c) = rebuilt-lawful (after F s) ss E rest c g (record { last = E; steps = r.1; same = Same-itself E }) u l in
     subst (λ us. AreCovered (is_universal F.prefix) us c) (sym is)
     (step-covered F s es rest c f e lawful (covered-more (is_universal (after F s).prefix) (is_universal F.prefix) (after-universal F s f) rest c below))
 

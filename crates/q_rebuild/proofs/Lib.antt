@@ -1,15 +1,7 @@
+pub mod TakingBack
 pub mod Covering
-pub mod Folds
-pub mod Lists
-pub mod Rows
-pub mod Building
-pub mod Copies
-pub mod Counting
-pub mod Opening
 pub mod Rebuilding
-pub mod Tabling
-pub mod Reading
+pub mod Emptiness
 pub mod Allowing
 pub mod Denying
 pub mod Alike
-pub mod Weighing

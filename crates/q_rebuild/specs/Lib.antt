@@ -1,10 +1,3 @@
-pub mod Covered
-pub mod Standing
-pub mod Growing
-pub mod Undone
-pub mod Copied
+pub mod TakenBack
 pub mod Rebuilt
-pub mod Made
 pub mod Refusals
-pub mod Tabled
-pub mod Peaks

@@ -8,11 +8,9 @@ ghost use Rattle.q_logic.specs.Runs.{Run};
 ghost use Rattle.q_logic.specs.Undos.{Undos as UndosOf};
 ghost use Rattle.q_rebuild.specs.Rebuilt.{IsRebuilt};
 
-use crate::copying::{copy_gates, mark_cones, place_outputs};
 use crate::entries::take_back;
-use crate::making::{name_outputs, open_inputs};
-use crate::tables::Tables;
 use q_aig::{Aig, Certificate};
+use q_carry::{Tables, copy_gates, mark_cones, name_outputs, open_inputs, place_outputs};
 use q_check::Undos;
 use q_logic::{Formula, NoMemory};
 use std::alloc::Global;

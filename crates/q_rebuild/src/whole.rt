@@ -1,8 +1,5 @@
 //! Circuits of the output, carried back to the input.
 ghost use Rattle.std.specs.Prelude.{◌≡◌, List, IfOk, IfErr, OnOk};
-ghost use Rattle.q_logic.specs.Formulas.{PrenexFormula};
-ghost use Rattle.q_logic.specs.Certificates.{trees_of};
-ghost use Rattle.q_logic.specs.Skolems.{Lawful};
 ghost use Rattle.q_logic.specs.Steps.{ProofStep};
 ghost use Rattle.q_logic.specs.Runs.{Run};
 ghost use Rattle.q_logic.specs.Undos.{Undos as UndosOf};
@@ -13,6 +10,7 @@ use crate::accepting::test;
 use crate::carrying::carry;
 use crate::error::RebuildError;
 use q_aig::Certificate;
+use q_carry::fitting_circuits_are_lawful;
 use q_check::Undos;
 use q_logic::Formula;
 use std::alloc::Global;
@@ -32,15 +30,7 @@ pub fn rebuild(
     ensures refused { IfErr result (IsRefused output.now given.old) }
 {
     test(alloc, output, given)?;
-    lawful(given);
+    fitting_circuits_are_lawful(given);
     let made = carry(alloc, input, undo, given)?;
     Ok(made)
-}
-
-// What is accepted is lawful.
-fn lawful(given: &Certificate)
-    ensures { (G : PrenexFormula) → IsAccepted G given.now → Lawful G.prefix (trees_of given.now) }
-{
-    let _ = given.outputs();
-    let _ = given.aig().inputs();
 }

@@ -1,9 +1,9 @@
 use Rattle.std.proofs.Common.{subst, length}
 use Rattle.q_aig.specs.Nets.{Net}
 use Rattle.q_aig.specs.Outputs.{net_of}
-use Rattle.q_rebuild.specs.Copied.{AreMarked, AreCopied, ArePlaced}
-use Rattle.q_rebuild.specs.Made.{IsOpened, IsNamed}
-use Rattle.q_rebuild.proofs.Rows.{literals-kept}
+use Rattle.q_carry.specs.Copied.{AreMarked, AreCopied, ArePlaced}
+use Rattle.q_carry.specs.Made.{IsOpened, IsNamed}
+use Rattle.q_carry.proofs.Rows.{literals-kept}
 use Rattle.q_rebuild.proofs.Rebuilding.{rebuilt}
 use Rattle.q_rebuild.proofs.carrying.carry.Goals as goal
 

@@ -2,9 +2,10 @@ use Rattle.std.proofs.Common.{◌≡◌, ◌≤◌, ℕ, ◌+◌, ◌-◌, ◌�
 use Rattle.std.proofs.lemmas.List.{length-map}
 use Rattle.q_logic.specs.Undos.{UndoEntry}
 use Rattle.q_check.specs.Entries.{entry_of}
-use Rattle.q_rebuild.specs.Undone.{IsUndone, AreUndone}
-use Rattle.q_rebuild.proofs.Lists.{drop-mapped}
-use Rattle.q_rebuild.proofs.Building.{are-more}
+use Rattle.q_carry.specs.Undone.{IsUndone}
+use Rattle.q_rebuild.specs.TakenBack.{AreUndone}
+use Rattle.q_carry.proofs.Lists.{drop-mapped}
+use Rattle.q_rebuild.proofs.TakingBack.{are-more}
 use Rattle.q_rebuild.proofs.entries.take_back.Goals as goal
 
 pub loop-i-preserved : goal.loop-i-preserved

@@ -10,4 +10,4 @@ returns-clause-rebuilt c =
     let run = c.requires in
     let accepted : IsAccepted c.args.output.now c.test.new.given = subst (λ (g : CertificateView). IsAccepted c.args.output.now g) (sym same) c.in_ok-test.ensures.accepted in
     subst (λ (g : CertificateView). IsRebuilt c.args.input.now c.args.output.now c.args.undo.now g c.in_ok-made.made) same
-    (c.in_ok-made.ensures c.args.output.now run.0 run.1 run.2 (c.lawful.ensures c.args.output.now accepted))
+    (c.in_ok-made.ensures c.args.output.now run.0 run.1 run.2 (c.fitting_circuits_are_lawful.ensures.lawful c.args.output.now.prefix accepted.fits))

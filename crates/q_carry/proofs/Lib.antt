@@ -1,0 +1,15 @@
+pub mod Bound
+pub mod Folds
+pub mod Lists
+pub mod Rows
+pub mod Building
+pub mod Copies
+pub mod Counting
+pub mod Opening
+pub mod Named
+pub mod Tabling
+pub mod Reading
+pub mod Allowing
+pub mod Denying
+pub mod Alike
+pub mod Weighing

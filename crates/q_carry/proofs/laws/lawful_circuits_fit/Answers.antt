@@ -1,0 +1,5 @@
+use Rattle.q_carry.proofs.Allowing.{lawful-fits}
+use Rattle.q_carry.proofs.laws.lawful_circuits_fit.Goals as goal
+
+pub returns : goal.returns
+returns c = lawful-fits

@@ -1,0 +1,12 @@
+pub mod Covered
+pub mod Standing
+pub mod Growing
+pub mod Undone
+pub mod Copied
+pub mod Made
+pub mod Cones
+pub mod Narrowed
+pub mod Refusals
+pub mod Testing
+pub mod Tabled
+pub mod Peaks

@@ -1,0 +1,13 @@
+-- One entry of an undo list, undone.
+use Rattle.std.specs.Prelude.{ℕ, Bool, List, Option}
+use Rattle.q_logic.specs.Skolems.{Strategy}
+use Rattle.q_logic.specs.Undos.{UndoEntry, taken_back}
+use Rattle.q_aig.specs.Nets.{Net}
+use Rattle.q_carry.specs.Covered.{EntryCovered, weight}
+use Rattle.q_carry.specs.Standing.{AreLiterals, IsAt}
+use Rattle.q_carry.specs.Growing.{IsGrown}
+
+pub record IsUndone (old new : Net) (ins tb tb2 : List (Option ℕ)) (u : UndoEntry) : Type 0 where
+  pub grown : IsGrown old new (weight u)
+  pub literals : AreLiterals new tb2
+  pub at : (U : ℕ → Bool) → (c : Strategy) → IsAt old ins tb U c → EntryCovered U u c → IsAt new ins tb2 U (taken_back u c)

@@ -1,5 +1,0 @@
-use Rattle.q_rebuild.proofs.Reading.{tree-of-output}
-use Rattle.q_rebuild.proofs.accepting.literal_at.Goals as goal
-
-pub returns-clause-tree : goal.returns-clause-tree
-returns-clause-tree c = tree-of-output c.args.given.now c.outputs.result.now c.args.k c.outputs.ensures.value c.outputs.ensures.lawful c.requires
