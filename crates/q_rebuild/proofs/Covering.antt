@@ -3,10 +3,9 @@ use Rattle.std.proofs.Common.{◌≡◌, ℕ, Bool, true, false, cond, eqb, List
 use Rattle.std.proofs.lemmas.Bool.{cases_Bool}
 use Rattle.q_logic.specs.Literals.{Literal, negation}
 use Rattle.q_logic.specs.Formulas.{Prefix, Clause, IsIn, PrenexFormula}
-use Rattle.q_logic.specs.Prefixes.{is_existential, is_universal, is_bound, IsFormula, Distinct, blocks, SameBlocks, Block}
+use Rattle.q_logic.specs.Prefixes.{is_existential, is_universal, is_bound, IsFormula, Distinct}
 use Rattle.q_logic.specs.Skolems.{Strategy, Lawful}
 use Rattle.q_logic.specs.Steps.{ProofStep, add, delete, drop_literal, fresh, remove_variable, one_less, insert_after, removed_from, after}
-use Rattle.q_logic.specs.Runs.{SameFormula}
 use Rattle.q_logic.specs.Undos.{UndoEntry, pivot, removed, freshened, Back, Entries, OutersOf, Undos}
 use Rattle.q_logic.proofs.Justified.{JustifiedSteps, JustifiedRun}
 use Rattle.q_logic.proofs.ClauseLemmas.{IsIn-outer}

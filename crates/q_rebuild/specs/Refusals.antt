@@ -1,5 +1,5 @@
 -- Why circuits are refused.
-use Rattle.std.specs.Prelude.{◌≡◌, []}
+use Rattle.std.specs.Prelude.{[]}
 use Rattle.q_logic.specs.Formulas.{PrenexFormula, IsIn}
 use Rattle.q_logic.specs.Certificates.{CertificateView}
 use Rattle.q_carry.specs.declared.error.Misfit.{Misfit}
