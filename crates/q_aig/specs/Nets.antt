@@ -21,6 +21,10 @@ operand_of l = record { node = node_of (l / 2); negated = l % 2 == 1 }
 abbrev pub turned : Operand → Operand
 turned o = record { node = o.node; negated = not o.negated }
 
+-- a literal and its negation
+abbrev pub AreOpposite : ℕ → ℕ → Type 0
+AreOpposite a b = (a / 2 ≡ b / 2) × (a ≢ b)
+
 -- the gate of two literals
 abbrev pub gate_of : ℕ × ℕ → Gate
 gate_of p = record { left = operand_of p.0; right = operand_of p.1 }

@@ -27,7 +27,7 @@ IsIn-among x [] m = elim m [ ]
 IsIn-among x (v ∷ vs) (inl e) = grind arith
 IsIn-among x (v ∷ vs) (inr m) = let z : among x vs ≡ true = IsIn-among x vs m in grind arith
 
-among-same : (x : ℕ) (vs ws : List ℕ) → IsIn x vs ↔ IsIn x ws → among x vs ≡ among x ws
+pub among-same : (x : ℕ) (vs ws : List ℕ) → IsIn x vs ↔ IsIn x ws → among x vs ≡ among x ws
 among-same x vs ws e = go (among x vs) refl (among x ws) refl
   where
     go : (a : Bool) → among x vs ≡ a → (b : Bool) → among x ws ≡ b → among x vs ≡ among x ws
@@ -152,6 +152,12 @@ IsIn-same F G D s m =
     copies-IsIn D G.matrix (let z : 1 ≤ copies D F.matrix = IsIn-copies D F.matrix m in
     subst (λ n. 1 ≤ n) (s.same_clauses D) z)
 
+pub same-is_existential : (F G : PrenexFormula) (x : ℕ) → SameFormula F G →
+    is_existential F.prefix x ≡ is_existential G.prefix x
+same-is_existential F G x s =
+    blocks-existential F.prefix x ∙ (same-existential (blocks F.prefix) (blocks G.prefix) x s.same_blocks ∙
+    sym (blocks-existential G.prefix x))
+
 -- The Skolem functions are the same.
 pub lawful-same : (F G : PrenexFormula) (c : Strategy) → SameFormula F G → Lawful G.prefix c →
     Lawful F.prefix c
@@ -163,9 +169,7 @@ lawful-same F G c s sk =
     }
   where
     e : (x : ℕ) → is_existential F.prefix x ≡ is_existential G.prefix x
-    e x =
-        blocks-existential F.prefix x ∙ (same-existential (blocks F.prefix) (blocks G.prefix) x s.same_blocks ∙
-        sym (blocks-existential G.prefix x))
+    e x = same-is_existential F G x s
 
     before : (x u : ℕ) → is_existential F.prefix x ≡ true →
         universal_before F.prefix u x ≡ universal_before G.prefix u x
@@ -176,6 +180,14 @@ lawful-same F G c s sk =
 pub skolem-same : (F G : PrenexFormula) (c : Strategy) → SameFormula F G → SkolemOf G c → SkolemOf F c
 skolem-same F G c s sk =
     record { lawful = lawful-same F G c s sk.lawful; wins = λ A D m. sk.wins A D (IsIn-same F G D s m) }
+
+-- Each formula is the same as itself.
+pub SameBlocks-itself : (Bs : List Block) → SameBlocks Bs Bs
+SameBlocks-itself [] = tt
+SameBlocks-itself (B ∷ Bs) = (refl, (λ x. ((λ m. m), (λ m. m))), SameBlocks-itself Bs)
+
+pub Same-itself : (F : PrenexFormula) → SameFormula F F
+Same-itself F = record { same_blocks = SameBlocks-itself (blocks F.prefix); same_clauses = λ C. refl }
 
 SameBlocks-sym : (Bs Cs : List Block) → SameBlocks Bs Cs → SameBlocks Cs Bs
 SameBlocks-sym [] [] s = s

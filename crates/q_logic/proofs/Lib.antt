@@ -59,4 +59,25 @@ pub mod AllDecided
 pub mod RuleRows
 pub mod Repeated
 pub mod CertificateTrees
+pub mod Exchanged
+pub mod Falsity
+pub mod Turning
+pub mod PlainDrops
+pub mod ForthVariables
+pub mod ForthRuns
 mod ByVariable
+pub mod Rounds
+pub mod MovesBack
+pub mod FirstMoves
+pub mod FirstValues
+pub mod Exploring
+pub mod Winning
+pub mod Picking
+pub mod Hitting
+pub mod Chaining
+pub mod Copies
+pub mod Alike
+pub mod HintedRuns
+pub mod Showing
+pub mod HintedCauses
+pub mod HintGroups

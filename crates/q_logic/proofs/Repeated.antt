@@ -9,7 +9,7 @@ use Rattle.q_logic.specs.Truth.{Assignment, with_value, by_quant, Game, Holds, M
 use Rattle.q_logic.specs.Steps.{ProofStep}
 use Rattle.q_logic.specs.Runs.{SameFormula}
 use Rattle.q_logic.proofs.Justified.{JustifiedRun}
-use Rattle.q_logic.proofs.Blocks.{among, among-IsIn, block_bound, blocks-is_bound, same-is_bound, IsIn-same, Same-sym}
+use Rattle.q_logic.proofs.Blocks.{among, among-IsIn, block_bound, blocks-is_bound, same-is_bound, IsIn-same, Same-sym, SameBlocks-itself}
 use Rattle.q_logic.proofs.Soundness.{same-true, steps-true, steps-formula}
 
 -- each variable at its last place
@@ -167,10 +167,6 @@ same-apart (B ∷ Bs) (C ∷ Cs) s h =
     ((λ x m. sym (same-is_bound Bs Cs x s.2) ∙ h.0 x ((s.1 x).1 m)), same-apart Bs Cs s.2 h.1)
 
 -- the blocks
-
-SameBlocks-itself : (Bs : List Block) → SameBlocks Bs Bs
-SameBlocks-itself [] = tt
-SameBlocks-itself (B ∷ Bs) = (refl, (λ x. ((λ m. m), (λ m. m))), SameBlocks-itself Bs)
 
 SameBlocks-trans : (Bs Cs Ds : List Block) → SameBlocks Bs Cs → SameBlocks Cs Ds → SameBlocks Bs Ds
 SameBlocks-trans [] [] Ds s t = t

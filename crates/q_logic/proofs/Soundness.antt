@@ -6,7 +6,7 @@ use Rattle.q_logic.specs.Formulas.{Prefix, Clause, Matrix, IsIn, PrenexFormula}
 use Rattle.q_logic.specs.Prefixes.{is_existential, is_bound, IsFormula}
 use Rattle.q_logic.specs.Truth.{Holds}
 use Rattle.q_logic.specs.Circuits.{constant}
-use Rattle.q_logic.specs.Skolems.{Strategy, outcome, Skolem, Lawful, SkolemOf}
+use Rattle.q_logic.specs.Skolems.{Strategy, reread, outcome, Skolem, Lawful, SkolemOf}
 use Rattle.q_logic.specs.Propagation.{Implied}
 use Rattle.q_logic.specs.Pivots.{ExistsPivot, without}
 use Rattle.q_logic.specs.Steps.{one_less, insert_after, ProofStep, add, delete, drop_literal, fresh, remove_variable, FirstPivot, after}
@@ -17,7 +17,7 @@ use Rattle.q_logic.proofs.Blocks.{skolem-same, lawful-same, Same-sym}
 use Rattle.q_logic.proofs.Propagation.{implied-true}
 use Rattle.q_logic.proofs.Pivot.{AreOuters, pivot-keeps, pivot-lawful, outers-near}
 use Rattle.q_logic.proofs.Outers.{outers-members}
-use Rattle.q_logic.proofs.UniversalPivot.{without-IsIn, forall_pivot-keeps, reread, lowered, every_outers}
+use Rattle.q_logic.proofs.UniversalPivot.{without-IsIn, forall_pivot-keeps, lowered, every_outers}
 use Rattle.q_logic.proofs.Reduction.{reduction-keeps, some_reached, reduced}
 use Rattle.q_logic.proofs.Truth.{true_has-skolem, skolem_makes-true}
 use Rattle.q_logic.proofs.Prefixes.{insert-distinct, insert-is_bound, insert-itself, removed-is_bound, removed-distinct}
@@ -73,7 +73,7 @@ implied_back P X C c i sk =
     Skolem-fewer P (C ∷ one_less C X) X c (IsIn-one_less C X)
     (Skolem-first P (one_less C X) C c (λ A t. implied-true (outcome c A) (one_less C X) C i t) sk)
 
-same_first : (p : Option Literal) (l m : Literal) → p ≡ Some l → p ≡ Some m → l ≡ m
+pub same_first : (p : Option Literal) (l m : Literal) → p ≡ Some l → p ≡ Some m → l ≡ m
 same_first p l m e f = cc
 
 step-back : (F : PrenexFormula) (s : ProofStep) (us : List UndoEntry) (c : Strategy) → IsFormula F →
@@ -106,7 +106,7 @@ step-back F (remove_variable v) us c f h e sk =
     go true s = s
     go false s = s
 
-Back-append : (us vs : List UndoEntry) (c : Strategy) → Back (us ++ vs) c ≡ Back us (Back vs c)
+pub Back-append : (us vs : List UndoEntry) (c : Strategy) → Back (us ++ vs) c ≡ Back us (Back vs c)
 Back-append [] vs c = refl
 Back-append (u ∷ us) vs c = ap (taken_back u) (Back-append us vs c)
 

@@ -6,20 +6,20 @@ use Rattle.q_logic.specs.declared.formulas.Quant.TheVariants.{Exists, Forall}
 use Rattle.q_logic.specs.Formulas.{Prefix, Matrix}
 use Rattle.q_logic.specs.Prefixes.{is_existential, universal_before, is_bound, Distinct, Closed}
 use Rattle.q_logic.specs.Truth.{Assignment, ClauseTrue, MatrixTrue, signed, with_value, HoldsUnder, by_quant, Game}
-use Rattle.q_logic.specs.Circuits.{Circuit, constant, input, inverter, conjunction, disjunction, value_of, Reads, replaced}
-use Rattle.q_logic.specs.Skolems.{Skolem, Strategy, circuit_of, or_input, given, outcome, Lawful}
+use Rattle.q_logic.specs.Circuits.{Circuit, constant, choice, value_of, Reads, replaced}
+use Rattle.q_logic.specs.Skolems.{Skolem, Strategy, circuit_of, or_input, given, outcome, Lawful, where_true, strategy_of}
 use Rattle.q_logic.proofs.Trees.{value_of-agree, value_of-replaced, Reads-replaced, MatrixTrue-agree}
 use Rattle.q_logic.proofs.Order.{existential-is_bound}
 
-abbrev play : Prefix → (ℕ → Circuit) → Assignment → Assignment
+abbrev pub play : Prefix → (ℕ → Circuit) → Assignment → Assignment
 play P c A v = cond (is_existential P v) (value_of (c v) A) (A v)
 
 abbrev pub Agrees : (Assignment → Type 0) → Type 0
 Agrees W = (A B : Assignment) → ((x : ℕ) → A x ≡ B x) → W A → W B
 
-record SkolemAt (P : Prefix) (W : Assignment → Type 0) (c : ℕ → Circuit) (A : Assignment) : Type 0 where
-  reads : (x : ℕ) → is_existential P x ≡ true → (u : ℕ) → Reads (c x) u → universal_before P u x ≡ true
-  wins : (B : Assignment) → ((x : ℕ) → is_bound P x ≡ false → B x ≡ A x) → W (play P c B)
+pub record SkolemAt (P : Prefix) (W : Assignment → Type 0) (c : ℕ → Circuit) (A : Assignment) : Type 0 where
+  pub reads : (x : ℕ) → is_existential P x ≡ true → (u : ℕ) → Reads (c x) u → universal_before P u x ≡ true
+  pub wins : (B : Assignment) → ((x : ℕ) → is_bound P x ≡ false → B x ≡ A x) → W (play P c B)
 
 pub universal_before-is_bound : (P : Prefix) (u x : ℕ) → universal_before P u x ≡ true → is_bound P u ≡ true
 universal_before-is_bound [] u x h = h
@@ -30,7 +30,7 @@ universal_before-more : (b : Bound) (P : Prefix) (u x : ℕ) → is_bound P b.va
 universal_before-more b P u x d e h = grind (arith, universal_before-is_bound P u x, existential-is_bound P x)
 
 -- Under an existential with the value w.
-exists_to : (v : ℕ) (P : Prefix) (W : Assignment → Type 0) (ag : Agrees W) (A : Assignment) (w : Bool) →
+pub exists_to : (v : ℕ) (P : Prefix) (W : Assignment → Type 0) (ag : Agrees W) (A : Assignment) (w : Bool) →
     is_bound P v ≡ false → (c : ℕ → Circuit) → SkolemAt P W c (with_value A v w) →
     SkolemAt (record { quant = Exists; var = v } ∷ P) W (λ x. cond (eqb x v) (constant w) (c x)) A
 exists_to v P W ag A w d c sk = record { reads = reading; wins = winning }
@@ -82,10 +82,7 @@ exists_to v P W ag A w d c sk = record { reads = reading; wins = winning }
             go false e = q (grind arith)
 
 -- Under a universal, by the functions for both of its values.
-abbrev choice : ℕ → Circuit → Circuit → Circuit
-choice u t s = disjunction (conjunction (input u) t) (conjunction (inverter (input u)) s)
-
-forall_to : (v : ℕ) (P : Prefix) (W : Assignment → Type 0) (ag : Agrees W) (A : Assignment) →
+pub forall_to : (v : ℕ) (P : Prefix) (W : Assignment → Type 0) (ag : Agrees W) (A : Assignment) →
     is_bound P v ≡ false → (c0 c1 : ℕ → Circuit) → SkolemAt P W c0 (with_value A v false) →
     SkolemAt P W c1 (with_value A v true) → SkolemAt (record { quant = Forall; var = v } ∷ P) W
     (λ x. choice v (c1 x) (c0 x)) A
@@ -313,12 +310,45 @@ MatrixTrue-closed P A B X cl e t D m =
           (sym (e w.0.var (cl D m w.0 w.1))) ∙ w.2,
     )
 
-abbrev chosen : Bool → Circuit → Option Circuit
-chosen true t = Some t
-chosen false t = None
+-- Circuits that win, as those of the existentials alone.
+pub strategy-wins : (P : Prefix) (W : Assignment → Type 0) (c : ℕ → Circuit) →
+    ((A B : Assignment) → ((x : ℕ) → is_bound P x ≡ true → A x ≡ B x) → W A → W B) →
+    SkolemAt P W c (λ x. false) →
+    Lawful P (strategy_of P c) × ((A : Assignment) → W (outcome (strategy_of P c) A))
+strategy-wins P W c agb sk = (record { trees = trees; reads = reading }, winning)
+  where
+    trees : (x : ℕ) → given (strategy_of P c x) ≡ is_existential P x
+    trees x = cases (is_existential P x)
+      where
+        cases : (b : Bool) → given (where_true b (c x)) ≡ b
+        cases true = refl
+        cases false = refl
 
-abbrev strategy : Prefix → (ℕ → Circuit) → Strategy
-strategy P c x = chosen (is_existential P x) (c x)
+    reading : (x : ℕ) → is_existential P x ≡ true → (u : ℕ) → Reads (circuit_of (strategy_of P c) x) u →
+        universal_before P u x ≡ true
+    reading x e u r = sk.reads x e u (subst (λ b. Reads (or_input x (where_true b (c x))) u) e r)
+
+    winning : (A : Assignment) → W (outcome (strategy_of P c) A)
+    winning A = agb (play P c B) (outcome (strategy_of P c) A) same (sk.wins B outside)
+      where
+        B : Assignment
+        B x = cond (is_bound P x) (A x) false
+
+        outside : (x : ℕ) → is_bound P x ≡ false → B x ≡ false
+        outside x h = rw h refl
+
+        inside : (x : ℕ) → is_bound P x ≡ true → B x ≡ A x
+        inside x h = rw h refl
+
+        same : (x : ℕ) → is_bound P x ≡ true → play P c B x ≡ outcome (strategy_of P c) A x
+        same x h = cases (is_existential P x) refl
+          where
+            cases : (b : Bool) → is_existential P x ≡ b →
+                cond b (value_of (c x) B) (B x) ≡ value_of (or_input x (where_true b (c x))) A
+            cases true e =
+                value_of-agree (c x) B A (λ u r. inside u
+                (universal_before-is_bound P u x (sk.reads x e u r)))
+            cases false e = inside x h
 
 pub game_has-strategy : (P : Prefix) → Distinct P → (W : Assignment → Type 0) →
     ((A B : Assignment) → ((x : ℕ) → is_bound P x ≡ true → A x ≡ B x) → W A → W B) → Game P W (λ x. false) →
@@ -327,40 +357,9 @@ game_has-strategy P d W agb t = go (to_skolem P d W (λ A B e. agb A B (λ x h. 
   where
     go : (c : ℕ → Circuit) × SkolemAt P W c (λ x. false) →
         (c : Strategy) × Lawful P c × ((A : Assignment) → W (outcome c A))
-    go (c, sk) = (strategy P c, record { trees = trees; reads = reading }, winning)
-      where
-        trees : (x : ℕ) → given (strategy P c x) ≡ is_existential P x
-        trees x = cases (is_existential P x)
-          where
-            cases : (b : Bool) → given (chosen b (c x)) ≡ b
-            cases true = refl
-            cases false = refl
-
-        reading : (x : ℕ) → is_existential P x ≡ true → (u : ℕ) → Reads (circuit_of (strategy P c) x) u →
-            universal_before P u x ≡ true
-        reading x e u r = sk.reads x e u (subst (λ b. Reads (or_input x (chosen b (c x))) u) e r)
-
-        winning : (A : Assignment) → W (outcome (strategy P c) A)
-        winning A = agb (play P c B) (outcome (strategy P c) A) same (sk.wins B outside)
-          where
-            B : Assignment
-            B x = cond (is_bound P x) (A x) false
-
-            outside : (x : ℕ) → is_bound P x ≡ false → B x ≡ false
-            outside x h = rw h refl
-
-            inside : (x : ℕ) → is_bound P x ≡ true → B x ≡ A x
-            inside x h = rw h refl
-
-            same : (x : ℕ) → is_bound P x ≡ true → play P c B x ≡ outcome (strategy P c) A x
-            same x h = cases (is_existential P x) refl
-              where
-                cases : (b : Bool) → is_existential P x ≡ b →
-                    cond b (value_of (c x) B) (B x) ≡ value_of (or_input x (chosen b (c x))) A
-                cases true e =
-                    value_of-agree (c x) B A (λ u r. inside u
-                    (universal_before-is_bound P u x (sk.reads x e u r)))
-                cases false e = inside x h
+    go (c, sk) =
+        let r : Lawful P (strategy_of P c) × ((A : Assignment) → W (outcome (strategy_of P c) A)) =
+        strategy-wins P W c agb sk in (strategy_of P c, r.0, r.1)
 
 pub strategy_wins-game : (P : Prefix) → Distinct P → (W : Assignment → Type 0) → Agrees W → (c : Strategy) →
     Lawful P c → ((A : Assignment) → W (outcome c A)) → Game P W (λ x. false)

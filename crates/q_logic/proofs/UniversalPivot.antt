@@ -5,7 +5,7 @@ use Rattle.q_logic.specs.Formulas.{Prefix, Clause, Matrix, IsIn}
 use Rattle.q_logic.specs.Prefixes.{is_existential, is_universal, universal_before, outer_or_same}
 use Rattle.q_logic.specs.Truth.{Assignment, LiteralTrue, ClauseTrue, MatrixTrue, signed, with_value}
 use Rattle.q_logic.specs.Circuits.{Circuit, input, inverter, conjunction, disjunction, value_of, Reads, replaced}
-use Rattle.q_logic.specs.Skolems.{Strategy, circuit_of, or_input, given, outcome, Skolem, Lawful}
+use Rattle.q_logic.specs.Skolems.{Strategy, circuit_of, or_input, given, map_circuit, reread, outcome, Skolem, Lawful}
 use Rattle.q_logic.specs.Pivots.{keeps, outer, ForallPivot, without}
 use Rattle.q_logic.specs.Sets.{has}
 use Rattle.q_logic.specs.Undos.{all_of, every_outer}
@@ -87,13 +87,6 @@ pub every_outers : (P : Prefix) (X : Matrix) (m : Literal) → AreOuters P X m (
 every_outers P X m = record { all_there = every_outer-there P m X; no_other = every_outer-from P m X }
 
 -- Each tree reads the universal u by the tree s.
-abbrev pub map_circuit : (Circuit → Circuit) → Option Circuit → Option Circuit
-map_circuit f None = None
-map_circuit f (Some t) = Some (f t)
-
-abbrev pub reread : ℕ → Circuit → Strategy → Strategy
-reread u s c x = map_circuit (replaced u s) (c x)
-
 pub given-reread : (u : ℕ) (s : Circuit) (c : Strategy) (x : ℕ) → given (reread u s c x) ≡ given (c x)
 given-reread u s c x = go (c x)
   where

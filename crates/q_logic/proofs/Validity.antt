@@ -61,10 +61,10 @@ pub Valid-no_cause : (m : Limits) (F : PrenexFormula) (s : ProofStep) (n : ℕ) 
     Cause m F s n → ⊥
 Valid-no_cause m F s n v c = Valid-not_wrong m F s n v c.applies
 
--- There is one cause at most.
-pub Cause-one : (m : Limits) (F : PrenexFormula) (s : ProofStep) (i j : ℕ) → Cause m F s i → Cause m F s j →
+-- The least number for which something holds.
+pub least-one : (W : ℕ → Type 0) (i j : ℕ) → W i → ((k : ℕ) → k < i → ¬ W k) → W j → ((k : ℕ) → k < j → ¬ W k) →
     i ≡ j
-Cause-one m F s i j c d = go (order i j)
+least-one W i j a f b g = go (order i j)
   where
     order : (i j : ℕ) → (i < j) ⊎ ((i ≡ j) ⊎ (j < i))
     order zero zero = inr (inl refl)
@@ -78,16 +78,24 @@ Cause-one m F s i j c d = go (order i j)
         ]
 
     go : (i < j) ⊎ ((i ≡ j) ⊎ (j < i)) → i ≡ j
-    go (inl h) = absurd (d.least i h c.applies)
+    go (inl h) = absurd (g i h a)
     go (inr (inl e)) = e
-    go (inr (inr h)) = absurd (c.least j h d.applies)
+    go (inr (inr h)) = absurd (f j h b)
+
+-- Where there is no least one, there is none.
+pub no_least-none : (W : ℕ → Type 0) → ((n : ℕ) → W n → ((k : ℕ) → k < n → ¬ W k) → ⊥) → (n k : ℕ) → k < n → ¬ W k
+no_least-none W none zero k h w = absurd (not-suc-le-zero h)
+no_least-none W none (suc n) k h w = none k w (λ j g. no_least-none W none n j (omega arith))
+
+-- There is one cause at most.
+pub Cause-one : (m : Limits) (F : PrenexFormula) (s : ProofStep) (i j : ℕ) → Cause m F s i → Cause m F s j →
+    i ≡ j
+Cause-one m F s i j c d = least-one (IsWrong m F s) i j c.applies c.least d.applies d.least
 
 -- Where there is no cause, nothing is wrong.
 no_cause-right : (m : Limits) (F : PrenexFormula) (s : ProofStep) → ((n : ℕ) → ¬ Cause m F s n) → (n : ℕ) →
-    (k : ℕ) → k < n → ¬ IsWrong m F s k
-no_cause-right m F s none zero k h w = absurd (not-suc-le-zero h)
-no_cause-right m F s none (suc n) k h w =
-    none k (record { applies = w; least = λ j g. no_cause-right m F s none n j (omega arith) })
+    ¬ IsWrong m F s n
+no_cause-right m F s none n = no_least-none (IsWrong m F s) (λ i w l. none i (record { applies = w; least = l })) (suc n) n (omega arith)
 
 right-valid : (m : Limits) (F : PrenexFormula) (s : ProofStep) → ((n : ℕ) → ¬ IsWrong m F s n) →
     ¬ (¬ Valid m F s)
@@ -107,4 +115,4 @@ right-valid m F (remove_variable v) r n = go (is_bound F.prefix v) refl
 -- A step that is not valid has a cause.
 pub not_valid-cause : (m : Limits) (F : PrenexFormula) (s : ProofStep) → ¬ Valid m F s →
     ¬ ((n : ℕ) → ¬ Cause m F s n)
-not_valid-cause m F s v none = right-valid m F s (λ n. no_cause-right m F s none (suc n) n (omega arith)) v
+not_valid-cause m F s v none = right-valid m F s (no_cause-right m F s none) v

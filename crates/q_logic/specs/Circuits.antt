@@ -27,6 +27,10 @@ Reads (conjunction s t) u = Reads s u ⊎ Reads t u
 abbrev pub disjunction : Circuit → Circuit → Circuit
 disjunction s t = inverter (conjunction (inverter s) (inverter t))
 
+-- the first where the input is true, and the second where it is false
+abbrev pub choice : ℕ → Circuit → Circuit → Circuit
+choice u s t = disjunction (conjunction (input u) s) (conjunction (inverter (input u)) t)
+
 -- the circuit with s in place of the input u
 abbrev pub replaced : ℕ → Circuit → Circuit → Circuit
 replaced u s (constant b) = constant b

@@ -11,6 +11,9 @@ pub mod Reach
 pub mod Steps
 pub mod Runs
 pub mod Undos
+pub mod Exchanging
+pub mod Herbrands
+pub mod Reversals
 pub mod Limits
 pub mod Clauses
 pub mod StepForms
@@ -33,3 +36,10 @@ pub mod Deciding
 pub mod CarelessRules
 pub mod ByVariable
 pub mod Counts
+pub mod Moves
+pub mod Searching
+pub mod Branches
+pub mod Decisions
+pub mod Hints
+pub mod Hinted
+pub mod ProofParts

@@ -4,7 +4,7 @@ use Rattle.std.specs.Prelude.{◌≡◌, ℕ, Bool, true, false, Option, Some, N
 use Rattle.q_logic.specs.Formulas.{Matrix, Prefix, PrenexFormula}
 use Rattle.q_logic.specs.Prefixes.{is_existential, universal_before}
 use Rattle.q_logic.specs.Truth.{Assignment, MatrixTrue}
-use Rattle.q_logic.specs.Circuits.{Circuit, value_of, Reads, input}
+use Rattle.q_logic.specs.Circuits.{Circuit, value_of, Reads, input, replaced}
 
 -- a circuit or none for each variable
 abbrev pub Strategy : Type 0
@@ -27,6 +27,24 @@ outcome c A x = value_of (circuit_of c x) A
 abbrev pub given : Option Circuit → Bool
 given None = false
 given (Some t) = true
+
+-- the function on the circuit, if there is one
+abbrev pub map_circuit : (Circuit → Circuit) → Option Circuit → Option Circuit
+map_circuit f None = None
+map_circuit f (Some t) = Some (f t)
+
+-- each circuit with s in place of the input u
+abbrev pub reread : ℕ → Circuit → Strategy → Strategy
+reread u s c x = map_circuit (replaced u s) (c x)
+
+-- the circuit where the test holds, and else none
+abbrev pub where_true : Bool → Circuit → Option Circuit
+where_true true t = Some t
+where_true false t = None
+
+-- circuits of all variables, as those of the existentials alone
+abbrev pub strategy_of : Prefix → (ℕ → Circuit) → Strategy
+strategy_of P c x = where_true (is_existential P x) (c x)
 
 -- a circuit for each existential and for no other variable, which reads only universals that stand before
 -- its own variable
