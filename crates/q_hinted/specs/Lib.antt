@@ -1,0 +1,6 @@
+pub mod Builders
+pub mod Filled
+pub mod Grammar
+pub mod Logs
+pub mod Parts
+pub mod Reading
