@@ -3,5 +3,7 @@
 #![tactic(auto)]
 
 mod builder;
+mod reader;
 
-pub use builder::{Entry, EntryBuilder};
+pub use builder::Entry;
+pub use reader::BothReader;
