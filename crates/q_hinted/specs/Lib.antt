@@ -4,3 +4,4 @@ pub mod Grammar
 pub mod Logs
 pub mod Parts
 pub mod Reading
+pub mod Texts

@@ -4,6 +4,8 @@
 
 mod builder;
 mod reader;
+mod text;
 
 pub use builder::Entry;
 pub use reader::BothReader;
+pub use text::{push_header, push_hinted};
