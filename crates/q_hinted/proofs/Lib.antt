@@ -1,3 +1,5 @@
 pub mod Reading
 pub mod Shut
 pub mod Writing
+pub mod Fitting
+pub mod Spelling

@@ -4,4 +4,5 @@ pub mod Grammar
 pub mod Logs
 pub mod Parts
 pub mod Reading
+pub mod Spelled
 pub mod Texts
