@@ -3,3 +3,4 @@ pub mod Shut
 pub mod Writing
 pub mod Fitting
 pub mod Spelling
+pub mod Parsing
