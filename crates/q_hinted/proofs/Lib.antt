@@ -4,3 +4,5 @@ pub mod Writing
 pub mod Fitting
 pub mod Spelling
 pub mod Parsing
+pub mod Profiles
+pub mod Rereading

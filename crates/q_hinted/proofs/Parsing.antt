@@ -22,11 +22,11 @@ use Rattle.q_log.proofs.Parsing.{FromStart, all-from}
 use Rattle.q_hinted.specs.declared.builder.Stage.{Stage}
 use Rattle.q_hinted.specs.declared.builder.Stage.TheVariants as stage
 use Rattle.q_hinted.specs.Grammar.{Place, nowhere, format, version, plain, steps, proving, EntryMove, hands, leads, misfit, place_move, part_move, number_in, small_number, behind_step, in_steps, profile_move, format_move, version_move}
-use Rattle.q_hinted.specs.Logs.{Entry, Entries, onto, follow, outcome, at_end}
+use Rattle.q_hinted.specs.Logs.{Entry, Entries, hinted_entry, onto, follow, outcome, at_end}
 use Rattle.q_hinted.specs.Parts.{no_part, IsPartOf, IsNumber, part_numbers, proof_numbers}
 use Rattle.q_hinted.specs.Spelled.{HintedText, kinds_of, numbers_kinds, IsHintedSpelled, hinted_of, tokens_in}
 use Rattle.q_hinted.proofs.Fitting.{Fits, Back, part-back}
-use Rattle.q_hinted.proofs.Spelling.{one_step, any-line, kind-kept, entry_of}
+use Rattle.q_hinted.proofs.Spelling.{one_step, any-line, kind-kept}
 
 abbrev pub all_read : List Entry → Entries
 all_read es = record { entries = es; refused = None }
@@ -196,7 +196,7 @@ pub record FromSteps (ts : List Token) (es : List Entry) : Type 0 where
   pub texts : List HintedText
   pub tokens_are : ts ≡ tokens_in texts
   pub spelled : AllByRecursion IsHintedSpelled texts
-  pub entries_are : es ≡ map entry_of (map hinted_of texts)
+  pub entries_are : es ≡ map hinted_entry (map hinted_of texts)
 
 -- what is behind the 0 of a step of each kind
 record Behind (n l : ℕ) (s : ProofStep) (k : Kind) (ts : List Token) (es : List Entry) : Type 0 where
@@ -290,7 +290,7 @@ texts-step n ts es e ih = elim (step-parsed n ts None es e) [
           texts = t ∷ r.texts;
           tokens_are = h.split ∙ (ap (λ (xs : List Token). xs ++ h.rest) f.tokens ∙ (ap (λ (xs : List Token). f.text.tokens ++ xs) b.split ∙ ap (λ (xs : List Token). f.text.tokens ++ (b.behind ++ xs)) r.tokens_are));
           spelled = (record { step = f.spelled; kinds = b.kinds; part = b.part }, r.spelled);
-          entries_are = b.entries ∙ (ap (λ (x : ℕ × ProofStep). (x.0, x.1, Some b.proof) ∷ b.later) f.is ∙ ap (λ (xs : List Entry). entry_of (hinted_of t) ∷ xs) r.entries_are);
+          entries_are = b.entries ∙ (ap (λ (x : ℕ × ProofStep). (x.0, x.1, Some b.proof) ∷ b.later) f.is ∙ ap (λ (xs : List Entry). hinted_entry (hinted_of t) ∷ xs) r.entries_are);
         }
 
 -- of at most so many tokens

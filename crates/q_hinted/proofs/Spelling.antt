@@ -23,7 +23,7 @@ use Rattle.q_log.proofs.Spelling.{step-read}
 use Rattle.q_hinted.specs.declared.builder.Stage.{Stage}
 use Rattle.q_hinted.specs.declared.builder.Stage.TheVariants as stage
 use Rattle.q_hinted.specs.Grammar.{Place, nowhere, format, version, steps, proving, EntryMove, hands, leads, misfit, place_move, part_move, number_in, behind_step, in_steps}
-use Rattle.q_hinted.specs.Logs.{Entry, Entries, onto, follow, outcome, at_end, read_entries, hinted_in, HintedSteps}
+use Rattle.q_hinted.specs.Logs.{Entry, Entries, hinted_entry, onto, follow, outcome, at_end, read_entries, hinted_in, HintedSteps}
 use Rattle.q_hinted.specs.Parts.{no_part, IsPartOf, IsNumber, part_numbers, proof_numbers}
 use Rattle.q_hinted.specs.Spelled.{HintedText, kinds_of, numbers_kinds, IsHintedSpelled, hinted_of, tokens_in, HintedLog}
 use Rattle.q_hinted.proofs.Fitting.{Fits, IsProofOf, FitsNumber, Done, Goes, Onward, part-onward, never-over}
@@ -136,12 +136,8 @@ kind-kept Fresh (v ∷ w ∷ ls) = refl
 kind-kept Remove [] = refl
 kind-kept Remove (v ∷ ls) = refl
 
--- the entry of a step with its proof part
-abbrev pub entry_of : ℕ × Hinted → Entry
-entry_of h = (h.0, h.1.step, Some h.1.proof)
-
 text-read : (last : Place → Option LogError) (rest : List Token) (t : HintedText) → IsHintedSpelled t →
-    outcome last (steps None) (t.step.tokens ++ (t.behind ++ rest)) ≡ onto (entry_of (hinted_of t)) (outcome last (steps None) rest)
+    outcome last (steps None) (t.step.tokens ++ (t.behind ++ rest)) ≡ onto (hinted_entry (hinted_of t)) (outcome last (steps None) rest)
 text-read last rest t h =
     let l = first_line t.step.tokens in
     let s = step_of t.step.kind t.step.lits in
@@ -151,13 +147,13 @@ text-read last rest t h =
     ∙ (ap (λ k. follow (behind_step k l s) 0 (λ q. outcome last q (t.behind ++ rest))) (kind-kept t.step.kind t.step.lits)
     ∙ behind-read last rest l s t.step.kind 0 t.behind t.proof h.kinds h.part)
 
-texts-read : (last : Place → Option LogError) (texts : List HintedText) → AllByRecursion IsHintedSpelled texts →
-    outcome last (steps None) (tokens_in texts) ≡ record { entries = map entry_of (map hinted_of texts); refused = last (steps None) }
+pub texts-read : (last : Place → Option LogError) (texts : List HintedText) → AllByRecursion IsHintedSpelled texts →
+    outcome last (steps None) (tokens_in texts) ≡ record { entries = map hinted_entry (map hinted_of texts); refused = last (steps None) }
 texts-read last [] a = refl
-texts-read last (t ∷ texts) (h, hs) = text-read last (tokens_in texts) t h ∙ ap (onto (entry_of (hinted_of t))) (texts-read last texts hs)
+texts-read last (t ∷ texts) (h, hs) = text-read last (tokens_in texts) t h ∙ ap (onto (hinted_entry (hinted_of t))) (texts-read last texts hs)
 
 -- the header
-header-read : (last : Place → Option LogError) (header rest : List Token) → kinds_of header ≡ P ∷ Qrat ∷ Number (pos 2) ∷ [] → outcome last nowhere (header ++ rest) ≡ outcome last (steps None) rest
+pub header-read : (last : Place → Option LogError) (header rest : List Token) → kinds_of header ≡ P ∷ Qrat ∷ Number (pos 2) ∷ [] → outcome last nowhere (header ++ rest) ≡ outcome last (steps None) rest
 header-read last [] rest e = absurd (cc)
 header-read last (a ∷ []) rest e = absurd (cc)
 header-read last (a ∷ b ∷ []) rest e = absurd (cc)
@@ -168,6 +164,6 @@ header-read last (a ∷ b ∷ c ∷ []) rest e =
     let k : c.kind ≡ Number (pos 2) = cc in
     rw (i, j, k) refl
 
-pub all-hinted : (hs : List (ℕ × Hinted)) → hinted_in (map entry_of hs) ≡ hs
+pub all-hinted : (hs : List (ℕ × Hinted)) → hinted_in (map hinted_entry hs) ≡ hs
 all-hinted [] = refl
 all-hinted (h ∷ hs) = ap (λ (xs : List (ℕ × Hinted)). h ∷ xs) (all-hinted hs)

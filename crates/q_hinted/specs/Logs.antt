@@ -1,11 +1,12 @@
 -- What a whole log of either profile says: its steps with their lines and proof parts, or its first offence.
-use Rattle.std.specs.Prelude.{ℕ, ◌==◌, nat_le, List, [], ◌∷◌, ◌++◌, length, take, if◌then◌else◌, Option, Some, None}
+use Rattle.std.specs.Prelude.{ℕ, ◌==◌, nat_le, List, [], ◌∷◌, ◌++◌, length, map, take, if◌then◌else◌, Option, Some, None}
 use Rattle.q_logic.specs.Hinted.{Hinted, ProofPart}
 use Rattle.q_logic.specs.Steps.{ProofStep}
 use Rattle.q_text.specs.declared.tokens.Token.{Token}
 use Rattle.q_text.specs.Texts.{tokens_of, tokens_ended, line_after}
 use Rattle.q_log.specs.declared.error.LogError.{LogError}
 use Rattle.q_log.specs.declared.error.LogError.TheVariants.{BadLine, Limit}
+use Rattle.q_log.specs.Logs.{Outcome}
 use Rattle.q_hinted.specs.Grammar.{Place, nowhere, format, version, plain, steps, proving, EntryMove, hands, leads, misfit, place_move, first_profile}
 
 -- a step with the line of its first token, and with its proof part in the second profile
@@ -22,6 +23,17 @@ stopped e = record { entries = []; refused = Some e }
 
 abbrev pub finished : Entries
 finished = record { entries = []; refused = None }
+
+-- a step of the first profile, and one of the second
+abbrev pub plain_entry : ℕ × ProofStep → Entry
+plain_entry s = (s.0, s.1, None)
+
+abbrev pub hinted_entry : ℕ × Hinted → Entry
+hinted_entry h = (h.0, h.1.step, Some h.1.proof)
+
+-- what a plain log says, as entries
+abbrev pub plain_entries : Outcome → Entries
+plain_entries o = record { entries = map plain_entry o.steps; refused = o.refused }
 
 -- an entry in front
 abbrev pub onto : Entry → Entries → Entries
