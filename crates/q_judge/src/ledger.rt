@@ -1,14 +1,16 @@
 //! A formula under change: its prefix in a scope and its clauses in slots, with all that the tests of steps need.
 //! Whether a step may be taken is asked before; a change asks only for what keeps a formula one.
-ghost use Rattle.std.specs.Prelude.{◌≡◌, ◌↔◌, ◌<◌, ◌+◌, ◌^◌, ◌∷◌, true, false, None, Some, length, slice_set, IfOk, IfErr, OnOk, OnErr, IsTrue};
-ghost use Rattle.q_logic.specs.Formulas.{IsIn};
+ghost use Rattle.std.specs.Prelude.{◌≡◌, ◌↔◌, ◌<◌, ◌+◌, ◌^◌, ◌∷◌, ◌++◌, [], true, false, None, Some, length, slice_set, IfOk, IfErr, OnOk, OnErr, IsTrue, MatchBool};
+ghost use Rattle.q_logic.specs.Formulas.{Clause, IsIn};
+ghost use Rattle.q_logic.specs.Hints.{Chained};
 ghost use Rattle.q_logic.specs.Limits.{AreModerate};
 ghost use Rattle.q_logic.specs.Literals.{Literal, IsBelow};
 ghost use Rattle.q_logic.specs.Numbered.{Slots};
 ghost use Rattle.q_logic.specs.Parts.{ArePairs};
-ghost use Rattle.q_logic.specs.Pivots.{without};
-ghost use Rattle.q_logic.specs.Prefixes.{is_bound, is_existential};
+ghost use Rattle.q_logic.specs.Pivots.{outer, without};
+ghost use Rattle.q_logic.specs.Prefixes.{is_bound, is_existential, is_universal};
 ghost use Rattle.q_logic.specs.Propagation.{Implied};
+ghost use Rattle.q_logic.specs.Reach.{Reducible};
 ghost use Rattle.q_logic.specs.Runs.{SameFormula};
 ghost use Rattle.q_logic.specs.StepForms.{IsFirst};
 ghost use Rattle.q_logic.specs.Steps.{Within, KeepsLimits, IsAbsent, IsDroppable, insert_after, removed_from, literals_in};
@@ -22,8 +24,8 @@ ghost use Rattle.q_judge.specs.Warrants.{IsAnswered, Resolves};
 
 use crate::checks::{compare, has_room, sum_of};
 use crate::error::CheckError;
-use crate::pivots::{Buffers, Warrant, resolves, warrant_of};
-use crate::reach::is_droppable;
+use crate::pivots::{Buffers, Warrant, push_outer, resolves, warrant_of};
+use crate::reach::{is_droppable, reduces};
 use crate::recent::RecentRegions;
 use crate::scope::Scope;
 use crate::undo::{Undo, collect_outers, pivot_entry};
@@ -111,6 +113,54 @@ impl Ledger {
         self.store.implied(lits, skip)
     }
 
+    /// Whether the literals are implied as the hints tell, over the slots but one. Each hint is a slot.
+    pub fn chain(
+        &mut self,
+        lits: &[Lit],
+        skip: Option<usize>,
+        slots: &[usize],
+    ) -> Result<bool, NoMemory>
+        ensures same { self.new ≡ self.old }
+        ensures exact { IfOk result (λ yes. IsTrue yes ↔ Chained (without_slot self.old.slots skip) lits.now slots.now) }
+    {
+        self.store.chain(lits, skip, slots)
+    }
+
+    /// Whether the literals are implied by propagation, over the slots but one, and hints that show it. Each hint is a slot.
+    pub fn explain(
+        &mut self,
+        lits: &[Lit],
+        skip: Option<usize>,
+        slots: &mut Vec<usize>,
+    ) -> Result<bool, NoMemory>
+        ensures same { self.new ≡ self.old }
+        ensures exact { IfOk result (λ yes. IsTrue yes ↔ Implied (filled (without_slot self.old.slots skip)) lits.now) }
+        ensures shown { IfOk result (λ yes.
+            MatchBool yes (Chained (without_slot self.old.slots skip) lits.now slots.new.items) (slots.new.items ≡ [])) }
+    {
+        self.store.explain(lits, skip, slots)
+    }
+
+    /// Joins the literals with the outer clause on m of the clause in a slot.
+    pub fn join(
+        &self,
+        at: usize,
+        base: &[Lit],
+        m: Lit,
+        joined: &mut Vec<Lit>,
+    ) -> Result<(), NoMemory>
+        requires { is_bound self.now.prefix m.var ≡ true }
+        ensures { OnOk result ((C : Clause) → Holds self.now.slots at C → joined.new.items ≡ base.now ++ outer self.now.prefix m C) }
+    {
+        joined.clear();
+        joined.extend_from_slice(base)?;
+        let Some(clause) = self.store.slot(at) else {
+            return Ok(());
+        };
+        push_outer(joined, &self.scope, clause, m)?;
+        Ok(())
+    }
+
     /// Why the clause may come or go, over the slots but one; refused where nothing speaks for it.
     pub fn warrant(
         &mut self,
@@ -171,6 +221,25 @@ impl Ledger {
             Some(at),
             clause,
             rest,
+            lit,
+        )
+    }
+
+    /// Whether the universal literal may go from the clause in a slot by its reach alone.
+    pub fn is_reducible(&mut self, at: usize, clause: &[Lit], lit: Lit) -> Result<bool, NoMemory>
+        requires within { Within self.old.prefix clause.now }
+        requires held { IsIn lit clause.now }
+        requires universal { is_universal self.old.prefix lit.var ≡ true }
+        ensures same { self.new ≡ self.old }
+        ensures exact { IfOk result (λ yes. IsTrue yes ↔ Reducible self.old.prefix (filled (without_slot self.old.slots (Some at))) clause.now lit) }
+    {
+        reduces(
+            &self.store,
+            &self.scope,
+            &mut self.recent,
+            &mut self.buffers,
+            Some(at),
+            clause,
             lit,
         )
     }
