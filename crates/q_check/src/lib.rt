@@ -1,8 +1,8 @@
 //! The checker of proofs: each step is tried on the formula that the steps before it left.
 #![tactic(auto)]
 
-mod book;
 mod checker;
+mod tries;
 
 pub use checker::{Checker, Verified};
 pub use q_judge::{Cause, CheckError, Undo, Undos};

@@ -17,5 +17,7 @@ pub mod Collecting
 pub mod Walks
 pub mod Reaching
 pub mod Trying
+pub mod Keeping
+pub mod Beginning
 pub mod Nesting
 pub mod Apart

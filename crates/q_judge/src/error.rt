@@ -26,6 +26,8 @@ pub enum Cause {
     OtherBlocks = 9,
     /// At the end, other clauses than the output's.
     OtherClauses = 10,
+    /// A proof part that does not show its step.
+    BadHint = 12,
 }
 
 /// Why a step or an output is not taken; a refusal with the number of its `Cause`.

@@ -5,6 +5,7 @@
 mod checks;
 mod error;
 mod labels;
+mod ledger;
 mod links;
 mod pivots;
 mod reach;
@@ -19,8 +20,9 @@ pub use checks::{
     takes_fresh,
 };
 pub use error::{Cause, CheckError};
+pub use ledger::Ledger;
 pub use pivots::{Buffers, Warrant, clause_at, push_outer, resolves, slots_of, warrant_of};
-pub use reach::{is_droppable, is_reducible};
+pub use reach::{is_droppable, reduces};
 pub use recent::RecentRegions;
 pub use scope::Scope;
 pub use undo::{Undo, Undos, collect_outers, fresh_entry, kept_pivot, pivot_entry, removed_entry};

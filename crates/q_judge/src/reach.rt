@@ -47,6 +47,31 @@ pub fn is_droppable(
     if resolves(store, scope, buffers, skip, rest, lit.negated())? {
         return Ok(true);
     }
+    reduces(store, scope, recent, buffers, skip, clause, lit)
+}
+
+/// Whether the universal literal may go from the clause by its reach alone, beside the slots but its own. Regions learn
+/// of it.
+pub fn reduces(
+    store: &Store,
+    scope: &Scope,
+    recent: &mut RecentRegions,
+    buffers: &mut Buffers,
+    skip: Option<usize>,
+    clause: &[Lit],
+    lit: Lit,
+) -> Result<bool, NoMemory>
+    requires closed { Closed scope.now (filled store.now) }
+    requires within { Within scope.now clause.now }
+    requires held { IsIn lit clause.now }
+    requires universal { is_universal scope.now lit.var ≡ true }
+    requires regions { AreRegionsOf scope.now (filled store.now) recent.old }
+    ensures regions { AreRegionsOf scope.now (filled store.now) recent.new }
+    ensures exact { IfOk result (λ yes. IsTrue yes ↔ Reducible scope.now (filled (without_slot store.now skip)) clause.now lit) }
+{
+    if holds(clause, lit.negated()) {
+        return Ok(false);
+    }
     let trail = &mut buffers.trail;
     let reducible = is_reducible(store, scope, recent, trail, skip, clause, lit)?;
     if reducible {
@@ -55,9 +80,9 @@ pub fn is_droppable(
     Ok(reducible)
 }
 
-/// Whether no clause that is reached from the clause holds the literal's negation. Regions are asked once the walk
-/// went on from as many literals as there are clauses with the negation, so that this costs no more than the walk.
-pub fn is_reducible(
+// Whether no clause that is reached from the clause holds the literal's negation. Regions are asked once the walk
+// went on from as many literals as there are clauses with the negation, so that this costs no more than the walk.
+fn is_reducible(
     store: &Store,
     scope: &Scope,
     recent: &RecentRegions,
