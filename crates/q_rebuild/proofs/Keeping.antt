@@ -35,6 +35,7 @@ pub keeps-moves : (F G : PrenexFormula) (ss : List ProofStep) (us : List UndoEnt
     IsFormula F → IsFormula G → Run F ss G → Undos F ss us → Lawful G.prefix (trees_of gave) →
     IsRebuilt F G us gave made → KeepsMoves F G us gave made
 keeps-moves F G ss us gave made f g run u l r = record {
+  lawful = l;
   same = same;
   completed = completed;
   winning = winning;
@@ -43,8 +44,8 @@ keeps-moves F G ss us gave made f g run u l r = record {
     j : JustifiedRun F ss G
     j = Run-justified F ss G run
 
-    lawful : (c : CertificateView) → Lawful G.prefix (trees_of c) → Lawful F.prefix (Back us (trees_of c))
-    lawful c k = rebuilt-lawful F ss G us (trees_of c) f j u k
+    back : (c : CertificateView) → Lawful G.prefix (trees_of c) → Lawful F.prefix (Back us (trees_of c))
+    back c k = rebuilt-lawful F ss G us (trees_of c) f j u k
 
     same : (ts : List ProofStep) (vs : List UndoEntry) (gave2 made2 : CertificateView) (n : ℕ) (A : Assignment) →
         Run F ts G → Undos F ts us → Undos F ts vs → Lawful G.prefix (trees_of gave2) → IsRebuilt F G vs gave2 made2 →
@@ -52,7 +53,7 @@ keeps-moves F G ss us gave made f g run u l r = record {
     same ts vs gave2 made2 n A run2 u2 v2 l2 r2 h =
         let k : JustifiedRun F ts G = Run-justified F ts G run2 in
         Agree-trans F.prefix n (trees_of made) (Back us (trees_of gave)) (trees_of made2) A
-        (made-agrees F G us gave made (lawful gave l) r n A)
+        (made-agrees F G us gave made (back gave l) r n A)
         (Agree-trans F.prefix n (Back us (trees_of gave)) (Back us (trees_of gave2)) (trees_of made2) A
         (run-agree F ts G us n (trees_of gave) (trees_of gave2) A f k u2 (inr (l, l2)) h)
         (Agree-trans F.prefix n (Back us (trees_of gave2)) (Back vs (trees_of gave2)) (trees_of made2) A
@@ -68,7 +69,7 @@ keeps-moves F G ss us gave made f g run u l r = record {
           d,
           sk,
           λ A. Agree-trans F.prefix n (trees_of made) (Back us (trees_of gave)) d A
-              (made-agrees F G us gave made (lawful gave l) r n A) (h A),
+              (made-agrees F G us gave made (back gave l) r n A) (h A),
         )
 
     winning : (A : Assignment) → Wins G (outcome (trees_of gave) A) → Wins F (outcome (trees_of made) A)
