@@ -4,21 +4,32 @@ _celdrinn() {
     local command=${COMP_WORDS[1]-}
     COMPREPLY=()
     if [ "$COMP_CWORD" -eq 1 ]; then
-        mapfile -t COMPREPLY < <(compgen -W "simplify check rebuild gen demo help --help --version" -- "$word")
+        mapfile -t COMPREPLY < <(compgen -W "simplify check rebuild annotate refute validate solve gen demo help --help --version" -- "$word")
     elif [ "$command" = help ]; then
-        [ "$COMP_CWORD" -eq 2 ] && mapfile -t COMPREPLY < <(compgen -W "simplify check rebuild gen demo causes" -- "$word")
+        [ "$COMP_CWORD" -eq 2 ] && mapfile -t COMPREPLY < <(compgen -W "simplify check rebuild annotate refute validate solve gen demo causes" -- "$word")
     elif [ "$command" = gen ] || [ "$command" = demo ]; then
         # a seed and a size come first, and they are numbers
         if [ "$COMP_CWORD" -eq 4 ] || { [ "$command" = demo ] && [[ $COMP_CWORD =~ ^[56]$ ]]; }; then
             compopt -o filenames
             mapfile -t COMPREPLY < <(compgen -f -- "$word")
         fi
-    elif [ "$COMP_CWORD" -le 4 ] || { [ "$command" = rebuild ] && [ "$COMP_CWORD" -le 6 ]; }; then
-        compopt -o filenames
-        mapfile -t COMPREPLY < <(compgen -f -- "$word")
-    elif [ "$command" = simplify ] && [[ $word != = && ${COMP_WORDS[COMP_CWORD - 1]} != = ]]; then
-        compopt -o nospace
-        mapfile -t COMPREPLY < <(compgen -W "--budget= --grow= --expand=" -- "$word")
+    else
+        # so many names come first, and then options
+        local names=3 options=
+        case $command in
+            simplify) options="--budget= --grow= --expand=" ;;
+            rebuild | refute) names=5 ;;
+            annotate) names=4 ;;
+            validate) names=2 options="--budget=" ;;
+            solve) names=4 options="--budget=" ;;
+        esac
+        if [ "$COMP_CWORD" -le $((names + 1)) ]; then
+            compopt -o filenames
+            mapfile -t COMPREPLY < <(compgen -f -- "$word")
+        elif [ -n "$options" ] && [[ $word != = && ${COMP_WORDS[COMP_CWORD - 1]} != = ]]; then
+            compopt -o nospace
+            mapfile -t COMPREPLY < <(compgen -W "$options" -- "$word")
+        fi
     fi
 }
 complete -F _celdrinn celdrinn ./celdrinn
