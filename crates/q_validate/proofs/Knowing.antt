@@ -8,14 +8,12 @@ use Rattle.std.specs.List.{Contains}
 use Rattle.q_logic.specs.Prefixes.{is_bound, place, Distinct}
 use Rattle.q_logic.specs.Circuits.{Circuit, input}
 use Rattle.q_logic.specs.Certificates.{Gate, gate_tree, gate_trees}
-use Rattle.q_aig.specs.Nets.{Net, IsNet, IsLiteral, AreDistinct, gate_of, tree_at}
+use Rattle.q_aig.specs.Nets.{Net, IsNet, AreDistinct, gate_of, tree_at}
 use Rattle.q_aig.proofs.Nets.{tree-at-gate}
 use Rattle.q_logic.specs.Literals.{Literal}
 use Rattle.q_logic.specs.Formulas.{PrenexFormula}
 use Rattle.q_logic.specs.Prefixes.{is_existential}
-use Rattle.q_logic.specs.Certificates.{CertificateView, trees_of}
-use Rattle.q_logic.specs.Skolems.{given, circuit_of, or_input}
-use Rattle.q_aig.specs.Outputs.{net_of}
+use Rattle.q_logic.specs.Certificates.{CertificateView}
 use Rattle.q_logic.specs.Searching.{Node}
 use Rattle.q_search.specs.Paths.{rest_of, node_at}
 use Rattle.q_logic.specs.Truth.{Assignment, with_value}
@@ -26,9 +24,9 @@ use Rattle.q_logic.specs.Formulas.{Prefix}
 use Rattle.q_logic.specs.declared.formulas.Quant.TheVariants.{Forall}
 use Rattle.q_search.proofs.Seating.{set-unbound, set-value, open-bound}
 use Rattle.q_logic.specs.Branches.{known, known_both, known_signed, as_prefix, claim_of, literal_value, search_of, true_literals, counter_at, counter}
-use Rattle.q_validate.specs.Stands.{unset, values, AreKnown, Spot, claim_at, node_of}
-use Rattle.q_carry.specs.Standing.{look_at}
-use Rattle.q_carry.specs.Tabled.{AreCircuits, Matches}
+use Rattle.q_validate.specs.Stands.{unset, values, known_along, nothing_known, AreTold, Spot, claim_at, node_of}
+use Rattle.q_validate.specs.Words.{path_to, Tells}
+use Rattle.q_validate.specs.declared.words.Known.{Known}
 
 tail-distinct : (u : ℕ) (us : List ℕ) → AreDistinct (u ∷ us) → AreDistinct us
 tail-distinct u us d i j h k e = let z : suc i ≡ suc j = d (suc i) (suc j) (omega arith) (omega arith) e in omega arith
@@ -82,17 +80,18 @@ known-input us vs i d h = elim (cases_lt i (length vs)) [
 ]
 
 -- One more gate.
-pub known-more : (a : Net) (path : List Bool) (row more : List (Option Bool)) (l r : ℕ) (x y z : Option Bool) → IsNet a → AreKnown a path row →
+pub told-more : (a : Net) (path : List Bool) (row more : List Known) (l r : ℕ) (z : Known) → IsNet a → AreTold a path row →
     slice_get a.gates (length row) ≡ Some (gate_of (l, r)) →
-    x ≡ known (unset a.inputs path) (values a.inputs path) (tree_at a l) →
-    y ≡ known (unset a.inputs path) (values a.inputs path) (tree_at a r) →
-    z ≡ known_both x y → more ≡ row ++ z ∷ [] → AreKnown a path more
-known-more a path row more l r x y z net k s e f q m g h = elim (cases_lt g (length row)) [
-  | inl w ↦ ap (λ (t : List (Option Bool)). get_or t g None) m ∙ get_or_append_left row (z ∷ []) None g w ∙ k g w
+    Tells z (λ m. known_both (known_along a.inputs (path ++ path_to m) (tree_at a l)) (known_along a.inputs (path ++ path_to m) (tree_at a r))) →
+    more ≡ row ++ z ∷ [] → AreTold a path more
+told-more a path row more l r z net k s q m g h = elim (cases_lt g (length row)) [
+  | inl w ↦
+      subst (λ (v : Known). Tells v (λ n. known_along a.inputs (path ++ path_to n) (get_or (gate_trees a.inputs [] a.gates) g (Circuit.constant false))))
+      (sym (ap (λ (t : List Known). get_or t g nothing_known) m ∙ get_or_append_left row (z ∷ []) nothing_known g w)) (k g w)
   | inr w ↦
       let n : length more ≡ length row + 1 = ap length m ∙ length_push row z in
       let i : length row ≡ g = omega arith in
-      subst (λ (j : ℕ). get_or more j None ≡ known (unset a.inputs path) (values a.inputs path) (get_or (gate_trees a.inputs [] a.gates) j (Circuit.constant false))) i last
+      subst (λ (j : ℕ). Tells (get_or more j nothing_known) (λ n. known_along a.inputs (path ++ path_to n) (get_or (gate_trees a.inputs [] a.gates) j (Circuit.constant false)))) i last
 ]
   where
     d : Gate
@@ -111,14 +110,11 @@ known-more a path row more l r x y z net k s e f q m g h = elim (cases_lt g (len
         subst (λ (j : ℕ). get_or (gate_trees a.inputs [] a.gates) j (Circuit.constant false) ≡ gate_tree a.inputs (gate_trees a.inputs [] a.gates) d) o
         (subst (λ (x : Gate). get_or (gate_trees a.inputs [] a.gates) (0 + length row) (Circuit.constant false) ≡ gate_tree a.inputs (gate_trees a.inputs [] a.gates) x) is t)
 
-    last : get_or more (length row) None ≡ known (unset a.inputs path) (values a.inputs path) (get_or (gate_trees a.inputs [] a.gates) (length row) (Circuit.constant false))
+    last : Tells (get_or more (length row) nothing_known) (λ n. known_along a.inputs (path ++ path_to n) (get_or (gate_trees a.inputs [] a.gates) (length row) (Circuit.constant false)))
     last =
-        ap (λ (t : List (Option Bool)). get_or t (length row) None) m
-        ∙ get_or_push row z None (length row) refl
-        ∙ q
-        ∙ ap (λ (v : Option Bool). known_both v y) e
-        ∙ ap (known_both (known (unset a.inputs path) (values a.inputs path) (tree_at a l))) f
-        ∙ sym (ap (known (unset a.inputs path) (values a.inputs path)) tree)
+        subst (λ (v : Known). Tells v (λ n. known_along a.inputs (path ++ path_to n) (get_or (gate_trees a.inputs [] a.gates) (length row) (Circuit.constant false))))
+        (sym (ap (λ (t : List Known). get_or t (length row) nothing_known) m ∙ get_or_push row z nothing_known (length row) refl))
+        (subst (λ (t : Circuit). Tells z (λ n. known_along a.inputs (path ++ path_to n) t)) (sym tree) q)
 
 -- The name at the place of an input.
 pub name-at : (us : List ℕ) (v : ℕ) → place (as_prefix us) v < length us → (get_or us (place (as_prefix us) v) 0 ≡ v) × (is_bound (as_prefix us) v ≡ true)
@@ -140,30 +136,6 @@ no-name (u ∷ us) v h = go (eqb u v) h (no-name us v)
     go true h f = absurd (omega arith)
     go false h f = f (omega arith)
 
--- A literal by its circuit.
-pub literal-by_circuit : (F : PrenexFormula) (c : CertificateView) (tb : List (Option ℕ)) (path : List Bool) (k : Literal) (l : ℕ) (v : Option Bool) →
-    AreCircuits (net_of c) (trees_of c) tb → ((x : ℕ) → given (trees_of c x) ≡ is_existential F.prefix x) → look_at tb k.var ≡ Some l →
-    v ≡ known (unset c.inputs path) (values c.inputs path) (tree_at (net_of c) l) →
-    known_signed k.negative v ≡ literal_value (claim_of F c) (unset c.inputs path) (values c.inputs path) k
-literal-by_circuit F c tb path k l v m t e h = go (trees_of c k.var) refl (subst (λ (o : Option ℕ). Matches (net_of c) (trees_of c k.var) o) e (m k.var))
-  where
-    go : (o : Option Circuit) → trees_of c k.var ≡ o → Matches (net_of c) o (Some l) →
-        known_signed k.negative v ≡ literal_value (claim_of F c) (unset c.inputs path) (values c.inputs path) k
-    go None q r = absurd r
-    go (Some w) q r =
-        let x : is_existential F.prefix k.var ≡ true = sym (t k.var) ∙ ap given q in
-        let y : circuit_of (trees_of c) k.var ≡ w = ap (or_input k.var) q in
-        rw (x, y) (ap (known_signed k.negative) (h ∙ ap (known (unset c.inputs path) (values c.inputs path)) r.1))
-
-pub none-existential : (F : PrenexFormula) (c : CertificateView) (tb : List (Option ℕ)) (x : ℕ) →
-    AreCircuits (net_of c) (trees_of c) tb → ((x : ℕ) → given (trees_of c x) ≡ is_existential F.prefix x) → look_at tb x ≡ None →
-    is_existential F.prefix x ≡ false
-none-existential F c tb x m t e = go (trees_of c x) refl (subst (λ (o : Option ℕ). Matches (net_of c) (trees_of c x) o) e (m x))
-  where
-    go : (o : Option Circuit) → trees_of c x ≡ o → Matches (net_of c) o None → is_existential F.prefix x ≡ false
-    go None q r = sym (t x) ∙ ap given q
-    go (Some w) q r = absurd r
-
 -- A literal of an input.
 pub literal-by_input : (F : PrenexFormula) (c : CertificateView) (path : List Bool) (k : Literal) (n : ℕ) (v : Option Bool) → AreDistinct c.inputs →
     is_existential F.prefix k.var ≡ false → n ≡ place (as_prefix c.inputs) k.var → n < length c.inputs → v ≡ slice_get path n →
@@ -173,23 +145,6 @@ literal-by_input F c path k n v d x e l h =
     let i : is_bound (as_prefix c.inputs) k.var ≡ true = r.1 in
     let z : get_or c.inputs n 0 ≡ k.var = ap (λ (j : ℕ). get_or c.inputs j 0) e ∙ r.0 in
     rw (x, i) (ap (known_signed k.negative) (h ∙ known-input c.inputs path n d l ∙ ap (λ (u : ℕ). known (unset c.inputs path) (values c.inputs path) (input u)) z))
-
--- A literal of a universal that is no input.
-pub literal-missing : (F : PrenexFormula) (c : CertificateView) (path : List Bool) (k : Literal) (n : ℕ) →
-    is_existential F.prefix k.var ≡ false → n ≡ place (as_prefix c.inputs) k.var → length c.inputs ≤ n →
-    Some false ≡ literal_value (claim_of F c) (unset c.inputs path) (values c.inputs path) k
-literal-missing F c path k n x e l =
-    let i : is_bound (as_prefix c.inputs) k.var ≡ false = no-name c.inputs k.var (omega arith) in
-    rw (x, i) refl
-
-pub some-existential : (F : PrenexFormula) (c : CertificateView) (tb : List (Option ℕ)) (x l : ℕ) →
-    AreCircuits (net_of c) (trees_of c) tb → ((x : ℕ) → given (trees_of c x) ≡ is_existential F.prefix x) → look_at tb x ≡ Some l →
-    (is_existential F.prefix x ≡ true) × IsLiteral (net_of c) l
-some-existential F c tb x l m t e = go (trees_of c x) refl (subst (λ (o : Option ℕ). Matches (net_of c) (trees_of c x) o) e (m x))
-  where
-    go : (o : Option Circuit) → trees_of c x ≡ o → Matches (net_of c) o (Some l) → (is_existential F.prefix x ≡ true) × IsLiteral (net_of c) l
-    go None q r = absurd r
-    go (Some w) q r = (sym (t x) ∙ ap given q, r.0)
 
 pub all-universal : (us : List ℕ) → AreUniversal (as_prefix us)
 all-universal [] = tt

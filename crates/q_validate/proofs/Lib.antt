@@ -1,3 +1,5 @@
 pub mod Knowing
 pub mod Reading
 pub mod Falsifying
+pub mod Bits
+pub mod Telling

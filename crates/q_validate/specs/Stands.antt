@@ -1,21 +1,27 @@
 -- Where the search stands, and the rows that it reads.
-use Rattle.std.specs.Prelude.{◌≡◌, ◌<◌, ◌≤◌, ℕ, Bool, true, false, List, [], length, slice_index_or, Option, Some, None}
-use Rattle.q_logic.specs.Formulas.{Prefix, PrenexFormula}
+use Rattle.std.specs.Prelude.{◌≡◌, ◌<◌, ◌≤◌, ◌++◌, ℕ, Bool, true, false, List, [], length, take, slice_index_or, Option, Some, None}
+use Rattle.q_logic.specs.declared.verdict.Verdict.{Verdict}
+use Rattle.q_logic.specs.Literals.{Literal}
+use Rattle.q_logic.specs.Formulas.{Clause, Prefix, PrenexFormula}
 use Rattle.q_logic.specs.Prefixes.{place, is_bound, is_existential}
 use Rattle.q_logic.specs.Truth.{Assignment}
 use Rattle.q_logic.specs.Circuits.{Circuit}
 use Rattle.q_logic.specs.Certificates.{CertificateView, gate_trees, trees_of}
 use Rattle.q_logic.specs.Skolems.{given}
+use Rattle.q_logic.specs.Searching.{Node, nothing}
+use Rattle.q_logic.specs.Branches.{Claim, claim_of, as_prefix, known, literal_value, clause_verdict, verdict}
 use Rattle.q_aig.specs.Nets.{Net, IsNet}
 use Rattle.q_aig.specs.Outputs.{net_of}
-use Rattle.q_logic.specs.Searching.{Node, nothing}
 use Rattle.q_search.specs.Paths.{along, rest_of}
 use Rattle.q_search.specs.Seats.{Seating, AreSeats}
 use Rattle.q_search.specs.Walks.{Walk}
 use Rattle.q_carry.specs.Tabled.{AreCircuits}
-use Rattle.q_logic.specs.Branches.{Claim, claim_of, as_prefix, known, verdict}
+use Rattle.q_validate.specs.Words.{path_to, Tells, TellsVerdict}
+use Rattle.q_validate.specs.declared.words.Known.{Known}
+use Rattle.q_validate.specs.declared.node.Block.{Block}
 use Rattle.std.proofs.Common.{refl, ◌∙◌}
 
+-- a formula, a certificate, and values of the first inputs
 pub record Spot : Type 0 where
   pub formula : PrenexFormula
   pub certificate : CertificateView
@@ -31,34 +37,56 @@ unset inputs path = rest_of (as_prefix inputs) path
 abbrev pub values : List ℕ → List Bool → Assignment
 values inputs path = along (as_prefix inputs) path nothing
 
+-- the node of the search where the program stands
+abbrev pub node_of : Spot → Node
+node_of s = record { rest = unset s.certificate.inputs s.path; values = values s.certificate.inputs s.path }
+
 abbrev pub walk_of : Spot → Walk
 walk_of s = record { test = verdict (claim_at s) s.formula.matrix; prefix = as_prefix s.certificate.inputs; path = s.path }
 
--- the same at a node
-abbrev pub unset_at : Spot → Prefix
-unset_at s = unset s.certificate.inputs s.path
+-- what is known of a circuit at the end of a path
+abbrev pub known_along : List ℕ → List Bool → Circuit → Option Bool
+known_along inputs path t = known (unset inputs path) (values inputs path) t
 
-abbrev pub values_at : Spot → Assignment
-values_at s = values s.certificate.inputs s.path
+-- what is known of a literal there, and what is said of a clause and of the formula
+abbrev pub literal_along : Claim → List Bool → Literal → Option Bool
+literal_along q path k = literal_value q (unset q.inputs path) (values q.inputs path) k
 
--- what is known of each of the first gates
-abbrev pub AreKnown : Net → List Bool → List (Option Bool) → Type 0
-AreKnown a path row =
+abbrev pub clause_along : Claim → List Bool → Clause → Verdict
+clause_along q path C = clause_verdict q (unset q.inputs path) (values q.inputs path) C
+
+abbrev pub verdict_along : Claim → List Bool → Verdict
+verdict_along q path = verdict q q.formula.matrix (unset q.inputs path) (values q.inputs path)
+
+abbrev pub nothing_known : Known
+nothing_known = record { zero = 0; one = 0 }
+
+-- what is known of each of the first gates, at all nodes below the end of a path
+abbrev pub AreTold : Net → List Bool → List Known → Type 0
+AreTold a path row =
     (g : ℕ) → g < length row →
-    slice_index_or row g None ≡ known (unset a.inputs path) (values a.inputs path) (slice_index_or (gate_trees a.inputs [] a.gates) g (Circuit.constant false))
+    Tells (slice_index_or row g nothing_known)
+    (λ m. known_along a.inputs (path ++ path_to m) (slice_index_or (gate_trees a.inputs [] a.gates) g (Circuit.constant false)))
 
--- what is known of each gate at a node
-pub record IsRow (s : Spot) (row : List (Option Bool)) : Type 0 where
-  pub room : length row ≡ length s.certificate.gates
-  pub known : AreKnown (net_of s.certificate) s.path row
+-- the same of each gate
+pub record IsRow (c : CertificateView) (path : List Bool) (row : List Known) : Type 0 where
+  pub room : length row ≡ length c.gates
+  pub told : AreTold (net_of c) path row
+
+-- what the clauses say of all nodes below the end of a path, if this was found
+abbrev pub IsBlock : Claim → List Bool → Option Block → Type 0
+IsBlock q path None = Unit {0}
+IsBlock q path (Some b) =
+    (b.base ≤ length path) × TellsVerdict b.told (λ m. verdict_along q (take b.base path ++ path_to m))
 
 -- what holds of each node
-pub record IsStand (F : PrenexFormula) (c : CertificateView) (tb : List (Option ℕ)) (seats : Seating) (path : List Bool) : Type 0 where
+pub record IsStand (F : PrenexFormula) (c : CertificateView) (tb : List (Option ℕ)) (seats : Seating) (path : List Bool) (block : Option Block) : Type 0 where
   pub net : IsNet (net_of c)
   pub circuits : AreCircuits (net_of c) (trees_of c) tb
   pub seated : AreSeats (as_prefix c.inputs) seats
   pub trees : (x : ℕ) → given (trees_of c x) ≡ is_existential F.prefix x
   pub within : length path ≤ length c.inputs
+  pub told : IsBlock (claim_of F c) path block
 
 -- formula and certificate stay
 pub record KeepsClaim (s t : Spot) : Type 0 where
@@ -70,10 +98,6 @@ KeepsClaim-itself s = record { formula = refl; certificate = refl }
 
 pub KeepsClaim-on : (s t u : Spot) → KeepsClaim s t → KeepsClaim t u → KeepsClaim s u
 KeepsClaim-on s t u p q = record { formula = q.formula ∙ p.formula; certificate = q.certificate ∙ p.certificate }
-
--- the node of the search where the program stands
-abbrev pub node_of : Spot → Node
-node_of s = record { rest = unset_at s; values = values_at s }
 
 -- the place of an input, or none for what is no input
 abbrev pub IsPlace : List ℕ → ℕ → Option ℕ → Type 0

@@ -1,31 +1,37 @@
-//! What is known of gates while some inputs have values.
-ghost use Rattle.std.specs.Prelude.{◌≡◌, ◌<◌, [], length, IfOk, slice_get};
+//! What is known of gates at all nodes below a node, by one pass over the gates.
+ghost use Rattle.std.specs.Prelude.{◌≡◌, ◌<◌, ◌++◌, [], length, IfOk, OnOk, slice_get};
 ghost use Rattle.q_logic.specs.Certificates.{IsThere, node_tree, gate_trees};
 ghost use Rattle.q_aig.specs.Nets.{operand_of, IsLiteral, IsNet, tree_at};
-ghost use Rattle.q_logic.specs.Branches.{known, known_both, known_signed};
-ghost use Rattle.q_validate.specs.Stands.{unset, values, AreKnown};
+ghost use Rattle.q_validate.specs.Words.{path_to, Tells};
+ghost use Rattle.q_validate.specs.Stands.{known_along, AreTold};
 
+use crate::words::Known;
 use q_aig::{Aig, Node};
 use q_logic::NoMemory;
-use std::alloc::Global;
 
-pub fn both_known(first: Option<bool>, second: Option<bool>) -> Option<bool>
-    ensures { result ≡ known_both first second }
+/// What is known of an input: its value on the path to the root, or else its value on the way to each node.
+pub fn input_known(path: &[bool], input: usize) -> Known
+    ensures { Tells result (λ m. slice_get (path.now ++ path_to m) input) }
 {
-    match (first, second) {
-        (Some(false), _) => Some(false),
-        (Some(true), _) => second,
-        (None, Some(false)) => Some(false),
-        (None, _) => None,
+    if input < path.len() {
+        return Known::value(path[input]);
     }
+    Known::input(input - path.len())
 }
 
-pub fn signed_known(negative: bool, value: Option<bool>) -> Option<bool>
-    ensures { result ≡ known_signed negative value }
+// What is known of the node of a literal.
+fn plain_known(aig: &Aig, path: &[bool], row: &[Known], lit: u64) -> Known
+    requires net { IsNet aig.now }
+    requires lit { IsLiteral aig.now lit }
+    requires there { IsThere (length aig.now.inputs) (length row.now) (operand_of lit).node }
+    requires row { AreTold aig.now path.now row.now }
+    ensures { Tells result (λ m. known_along aig.now.inputs (path.now ++ path_to m)
+        (node_tree aig.now.inputs (gate_trees aig.now.inputs [] aig.now.gates) (operand_of lit).node)) }
 {
-    match value {
-        None => None,
-        Some(b) => Some(if negative { !b } else { b }),
+    match aig.node(lit) {
+        Node::Constant => Known::value(false),
+        Node::Input(input) => input_known(path, input),
+        Node::Gate(gate) => row[gate],
     }
 }
 
@@ -35,59 +41,28 @@ fn is_negated(lit: u64) -> bool
     lit % 2 == 1
 }
 
-pub fn input_value(path: &[bool], input: usize) -> Option<bool>
-    ensures { result ≡ slice_get path.now input }
-{
-    if input < path.len() {
-        Some(path[input])
-    } else {
-        None
-    }
-}
-
-// What is known of the node of a literal.
-fn node_value(aig: &Aig, path: &[bool], row: &[Option<bool>], lit: u64) -> Option<bool>
-    requires net { IsNet aig.now }
-    requires lit { IsLiteral aig.now lit }
-    requires there { IsThere (length aig.now.inputs) (length row.now) (operand_of lit).node }
-    requires row { AreKnown aig.now path.now row.now }
-    ensures { result ≡ known (unset aig.now.inputs path.now) (values aig.now.inputs path.now)
-        (node_tree aig.now.inputs (gate_trees aig.now.inputs [] aig.now.gates) (operand_of lit).node) }
-{
-    match aig.node(lit) {
-        Node::Constant => Some(false),
-        Node::Input(input) => input_value(path, input),
-        Node::Gate(gate) => row[gate],
-    }
-}
-
 /// What is known of a literal.
-pub fn literal_known(aig: &Aig, path: &[bool], row: &[Option<bool>], lit: u64) -> Option<bool>
+pub fn literal_known(aig: &Aig, path: &[bool], row: &[Known], lit: u64) -> Known
     requires net { IsNet aig.now }
     requires lit { IsLiteral aig.now lit }
     requires there { IsThere (length aig.now.inputs) (length row.now) (operand_of lit).node }
-    requires row { AreKnown aig.now path.now row.now }
-    ensures { result ≡ known (unset aig.now.inputs path.now) (values aig.now.inputs path.now) (tree_at aig.now lit) }
+    requires row { AreTold aig.now path.now row.now }
+    ensures { Tells result (λ m. known_along aig.now.inputs (path.now ++ path_to m) (tree_at aig.now lit)) }
 {
-    let plain = node_value(aig, path, row, lit);
-    if is_negated(lit) {
-        return signed_known(true, plain);
-    }
-    plain
+    plain_known(aig, path, row, lit).signed(is_negated(lit))
 }
 
-/// What is known of each gate.
-pub fn table(alloc: Global, aig: &Aig, path: &[bool]) -> Result<Vec<Option<bool>>, NoMemory>
-    ensures room { IfOk result (λ row. length row.items ≡ length aig.now.gates) }
-    ensures known { IfOk result (λ row. AreKnown aig.now path.now row.items) }
-    ensures net { IsNet aig.now }
+/// Fills the row with what is known of each gate.
+pub fn fill(aig: &Aig, path: &[bool], row: &mut Vec<Known>) -> Result<(), NoMemory>
+    ensures room { OnOk result (length row.new.items ≡ length aig.now.gates) }
+    ensures told { OnOk result (AreTold aig.now path.now row.new.items) }
 {
-    let mut row = Vec::new(alloc);
+    row.clear();
     for gate in 0..aig.gates() {
         let (left, right) = aig.operands(gate);
-        let first = literal_known(aig, path, &row, left);
-        let second = literal_known(aig, path, &row, right);
-        row.push(both_known(first, second))?;
+        let first = literal_known(aig, path, row, left);
+        let second = literal_known(aig, path, row, right);
+        row.push(first.and(second))?;
     }
-    Ok(row)
+    Ok(())
 }

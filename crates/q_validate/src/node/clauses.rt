@@ -1,84 +1,66 @@
-//! What clauses say of a node, by the row of gates: each is true, false or open.
-ghost use Rattle.std.specs.Prelude.{◌≡◌, ◌<◌, ◌+◌, ◌||◌, drop, length, false};
-ghost use Rattle.q_logic.specs.declared.verdict.Verdict.TheVariants.{Open};
+//! What clauses say of a node and of those below it, by the row of gates: each is true, false or open.
+ghost use Rattle.std.specs.Prelude.{◌≡◌, ◌<◌, ◌+◌, ◌++◌, ◌||◌, drop, length, false};
 ghost use Rattle.q_logic.specs.Prefixes.{is_existential};
-ghost use Rattle.q_logic.specs.Branches.{known, known_signed, literal_value as literal_value_spec, is_one as is_one_spec, is_zero as is_zero_spec, is_missing as is_missing_spec, has_one as has_one_spec, all_zero as all_zero_spec, both_missing as both_missing_spec, clause_verdict as clause_verdict_spec};
+ghost use Rattle.q_logic.specs.Branches.{known_signed, is_missing as is_missing_spec, has_one, all_zero, both_missing as both_missing_spec};
 ghost use Rattle.q_aig.specs.Nets.{IsLiteral, tree_at};
 ghost use Rattle.q_aig.specs.Outputs.{net_of};
-ghost use Rattle.q_search.specs.Walks.{said_here, IsInner};
-ghost use Rattle.q_validate.specs.Stands.{claim_at, walk_of, unset_at, values_at, IsRow};
+ghost use Rattle.q_validate.specs.Words.{path_to, Marks, Tells, TellsVerdict};
+ghost use Rattle.q_validate.specs.Stands.{claim_at, unset, values, known_along, literal_along, clause_along, verdict_along, IsRow};
 
-use crate::known::{input_value, literal_known, signed_known};
+use crate::known::{input_known, literal_known};
 use crate::node::Node;
+use crate::words::{Known, Told};
 use q_carry::look;
-use q_logic::{Lit, Verdict, holds};
-
-fn is_one(value: Option<bool>) -> bool
-    ensures { result ≡ is_one_spec value }
-{
-    value == Some(true)
-}
-
-fn is_zero(value: Option<bool>) -> bool
-    ensures { result ≡ is_zero_spec value }
-{
-    value == Some(false)
-}
+use q_logic::{Lit, holds};
 
 impl<'a> Node<'a> {
     // What is known of a literal that has no circuit: one of no input counts as 0.
-    fn input_known(&self, lit: Lit) -> Option<bool>
+    fn input_literal(&self, path: &[bool], lit: Lit) -> Known
         requires { is_existential self.now.formula.prefix lit.var ≡ false }
-        ensures { result ≡ literal_value_spec (claim_at self.now) (unset_at self.now) (values_at self.now) lit }
+        ensures { Tells result (λ m. literal_along (claim_at self.now) (path.now ++ path_to m) lit) }
     {
         match self.place(lit.var()) {
-            Some(place) => signed_known(lit.negative(), input_value(&self.path, place)),
-            None => Some(false),
+            Some(place) => input_known(path, place).signed(lit.negative()),
+            None => Known::value(false),
         }
     }
 
     // What is known of a literal by its circuit.
-    fn circuit_known(&self, row: &[Option<bool>], lit: Lit, circuit: u64) -> Option<bool>
-        requires row { IsRow self.now row.now }
+    fn circuit_literal(&self, path: &[bool], row: &[Known], lit: Lit, circuit: u64) -> Known
+        requires row { IsRow self.now.certificate path.now row.now }
         requires there { IsLiteral (net_of self.now.certificate) circuit }
-        ensures { result ≡ known_signed lit.negative (known (unset_at self.now) (values_at self.now) (tree_at (net_of self.now.certificate) circuit)) }
+        ensures { Tells result (λ m. known_signed lit.negative
+            (known_along self.now.certificate.inputs (path.now ++ path_to m) (tree_at (net_of self.now.certificate) circuit))) }
     {
-        let value = literal_known(self.certificate.aig(), &self.path, row, circuit);
-        signed_known(lit.negative(), value)
+        literal_known(self.certificate.aig(), path, row, circuit).signed(lit.negative())
     }
 
-    fn literal_value(&self, row: &[Option<bool>], lit: Lit) -> Option<bool>
-        requires { IsRow self.now row.now }
-        ensures { result ≡ literal_value_spec (claim_at self.now) (unset_at self.now) (values_at self.now) lit }
+    fn literal(&self, path: &[bool], row: &[Known], lit: Lit) -> Known
+        requires { IsRow self.now.certificate path.now row.now }
+        ensures { Tells result (λ m. literal_along (claim_at self.now) (path.now ++ path_to m) lit) }
     {
         match look(&self.circuits, lit.var()) {
-            Some(l) => self.circuit_known(row, lit, l),
-            None => self.input_known(lit),
+            Some(circuit) => self.circuit_literal(path, row, lit, circuit),
+            None => self.input_literal(path, lit),
         }
     }
 
-    fn has_one(&self, row: &[Option<bool>], clause: &[Lit]) -> bool
-        requires { IsRow self.now row.now }
-        ensures { result ≡ has_one_spec (claim_at self.now) (unset_at self.now) (values_at self.now) clause.now }
+    // Where all literals of a clause are 0, and where some literal is 1.
+    fn clause_known(&self, path: &[bool], row: &[Known], clause: &[Lit]) -> Known
+        requires { IsRow self.now.certificate path.now row.now }
+        ensures zeros { Marks result.zero (λ m. all_zero (claim_at self.now) (unset self.now.certificate.inputs (path.now ++ path_to m)) (values self.now.certificate.inputs (path.now ++ path_to m)) clause.now) }
+        ensures ones { Marks result.one (λ m. has_one (claim_at self.now) (unset self.now.certificate.inputs (path.now ++ path_to m)) (values self.now.certificate.inputs (path.now ++ path_to m)) clause.now) }
     {
+        let mut all = Known {
+            zero: u64::MAX,
+            one: 0,
+        };
         for lit in clause {
-            if is_one(self.literal_value(row, *lit)) {
-                return true;
-            }
+            let known = self.literal(path, row, *lit);
+            all.zero &= known.zero;
+            all.one |= known.one;
         }
-        false
-    }
-
-    fn all_zero(&self, row: &[Option<bool>], clause: &[Lit]) -> bool
-        requires { IsRow self.now row.now }
-        ensures { result ≡ all_zero_spec (claim_at self.now) (unset_at self.now) (values_at self.now) clause.now }
-    {
-        for lit in clause {
-            if !is_zero(self.literal_value(row, *lit)) {
-                return false;
-            }
-        }
-        true
+        all
     }
 
     // Whether the variable is a universal that is no input.
@@ -112,29 +94,38 @@ impl<'a> Node<'a> {
         false
     }
 
-    pub fn clause_verdict(&self, row: &[Option<bool>], clause: &[Lit]) -> Verdict
-        requires { IsRow self.now row.now }
-        ensures { result ≡ clause_verdict_spec (claim_at self.now) (unset_at self.now) (values_at self.now) clause.now }
+    /// What is said of a clause.
+    pub fn clause_told(&self, path: &[bool], row: &[Known], clause: &[Lit]) -> Told
+        requires { IsRow self.now.certificate path.now row.now }
+        ensures { TellsVerdict result (λ m. clause_along (claim_at self.now) (path.now ++ path_to m) clause.now) }
     {
-        if self.has_one(row, clause) || self.both_missing(clause) {
-            return Verdict::Won;
+        if self.both_missing(clause) {
+            return Told {
+                lost: 0,
+                won: u64::MAX,
+            };
         }
-        if self.all_zero(row, clause) {
-            return Verdict::Lost;
+        let known = self.clause_known(path, row, clause);
+        Told {
+            lost: known.zero & !known.one,
+            won: known.one,
         }
-        Verdict::Open
     }
 
-    /// What the clauses say of the node.
-    pub fn verdict_by(&self, row: &[Option<bool>]) -> Verdict
-        requires { IsRow self.now row.now }
-        ensures value { result ≡ said_here (walk_of self.now) }
-        ensures open { result ≡ Open → IsInner (walk_of self.now) }
+    /// What is said of the formula.
+    pub fn formula_told(&self, path: &[bool], row: &[Known]) -> Told
+        requires { IsRow self.now.certificate path.now row.now }
+        ensures { TellsVerdict result (λ m. verdict_along (claim_at self.now) (path.now ++ path_to m)) }
     {
-        let mut verdict = Verdict::Won;
+        let mut told = Told {
+            lost: 0,
+            won: u64::MAX,
+        };
         for i in 0..self.formula.clauses() {
-            verdict = verdict.worse(self.clause_verdict(row, self.formula.clause(i)));
+            let more = self.clause_told(path, row, self.formula.clause(i));
+            told.lost |= more.lost;
+            told.won &= more.won;
         }
-        verdict
+        told
     }
 }

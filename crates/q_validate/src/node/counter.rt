@@ -1,17 +1,13 @@
 //! The values of the universals at a node where some clause is false.
 ghost use Rattle.std.specs.Prelude.{◌≡◌, ◌<◌, ◌≤◌, ◌++◌, ◌∷◌, ◌^◌, [], cond, false, IfOk, OnOk, slice_index_or};
 ghost use Rattle.q_logic.specs.Branches.{is_input, true_literals, counter_at, first_false as first_false_spec, denial as denial_spec, is_false as is_false_spec};
-ghost use Rattle.q_validate.specs.Stands.{claim_at, node_of, values_at, IsRow};
+ghost use Rattle.q_validate.specs.Stands.{claim_at, clause_along, node_of, values, IsRow};
 
+use crate::known::fill;
 use crate::node::Node;
-use q_logic::{Bound, Lit, Lits, NoMemory, Quant, Verdict};
+use crate::words::{Known, is_set};
+use q_logic::{Bound, Lit, Lits, NoMemory, Quant};
 use std::alloc::Global;
-
-fn is_false(verdict: Verdict) -> bool
-    ensures { result ≡ is_false_spec verdict }
-{
-    matches!(verdict, Verdict::Lost)
-}
 
 // The value that makes the literal of a variable false.
 fn denial(clause: &[Lit], var: u32) -> bool
@@ -36,14 +32,22 @@ fn value_or_zero(path: &[bool], place: usize) -> bool
 }
 
 impl<'a> Node<'a> {
+    // Whether a clause is false at the node itself.
+    fn is_false(&self, row: &[Known], clause: &[Lit]) -> bool
+        requires { IsRow self.now.certificate self.now.path row.now }
+        ensures { result ≡ is_false_spec (clause_along (claim_at self.now) self.now.path clause.now) }
+    {
+        is_set(self.clause_told(&self.path, row, clause).lost, 1)
+    }
+
     // The first false clause, or the empty one.
-    fn first_false(&self, row: &[Option<bool>]) -> &[Lit]
-        requires { IsRow self.now row.now }
+    fn first_false(&self, row: &[Known]) -> &[Lit]
+        requires { IsRow self.now.certificate self.now.path row.now }
         ensures { result.now ≡ first_false_spec (claim_at self.now) (node_of self.now) self.now.formula.matrix }
     {
         for i in 0..self.formula.clauses() {
             let clause = self.formula.clause(i);
-            if is_false(self.clause_verdict(row, clause)) {
+            if self.is_false(row, clause) {
                 return clause;
             }
         }
@@ -52,7 +56,7 @@ impl<'a> Node<'a> {
 
     // The value of a universal: as an input, or so that the clause is false.
     fn counter_value(&self, clause: &[Lit], var: u32) -> bool
-        ensures { result ≡ cond (is_input (claim_at self.now) var) (values_at self.now var) (denial_spec clause.now var) }
+        ensures { result ≡ cond (is_input (claim_at self.now) var) (values self.now.certificate.inputs self.now.path var) (denial_spec clause.now var) }
     {
         match self.place(var) {
             Some(place) => value_or_zero(&self.path, place),
@@ -64,7 +68,7 @@ impl<'a> Node<'a> {
     fn push_value(&self, lits: &mut Lits, clause: &[Lit], bound: Bound) -> Result<(), NoMemory>
         requires positive { 1 ≤ bound.var }
         requires small { bound.var < 2 ^ 31 }
-        ensures { OnOk result (lits.new ≡ lits.old ++ true_literals (bound ∷ []) (λ v. cond (is_input (claim_at self.now) v) (values_at self.now v) (denial_spec clause.now v))) }
+        ensures { OnOk result (lits.new ≡ lits.old ++ true_literals (bound ∷ []) (λ v. cond (is_input (claim_at self.now) v) (values self.now.certificate.inputs self.now.path v) (denial_spec clause.now v))) }
     {
         match bound.quant {
             Quant::Exists => Ok(()),
@@ -79,7 +83,8 @@ impl<'a> Node<'a> {
     pub fn counter(&self, alloc: Global) -> Result<Lits, NoMemory>
         ensures { IfOk result (λ lits. lits ≡ true_literals self.now.formula.prefix (counter_at (claim_at self.now) (node_of self.now))) }
     {
-        let row = self.row()?;
+        let mut row = Vec::new(alloc);
+        fill(self.certificate.aig(), &self.path, &mut row)?;
         let clause = self.first_false(&row);
         let mut lits = Lits::new(alloc);
         for bound in self.formula.prefix() {

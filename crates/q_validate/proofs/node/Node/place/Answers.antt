@@ -6,8 +6,8 @@ use Rattle.q_validate.specs.Stands.{Spot, IsPlace}
 use Rattle.q_validate.proofs.Knowing.{no-name, name-at}
 use Rattle.q_validate.proofs.node.Node.place.Goals as goal
 
-pub returns-then-place-inputs : goal.returns-then-place-inputs
-returns-then-place-inputs c =
+pub returns-then-place-inputs-clause-place : goal.returns-then-place-inputs-clause-place
+returns-then-place-inputs-clause-place c =
     let us = c.self.inside.certificate.now.inputs in
     let v = c.args.var in
     let n : length c.inputs.result.now ≡ length us = ap (λ (xs : List ℕ). length xs) (c.inputs.ensures.value ∙ ap (λ (a : Net). a.inputs) c.aig.ensures) in
@@ -15,8 +15,8 @@ returns-then-place-inputs c =
     let l : place (as_prefix us) v < length us = omega arith in
     subst (λ (s : Spot). IsPlace s.certificate.inputs v (Some c.place-place.result)) c.self.view_is (e, omega arith, (name-at us v l).1)
 
-pub returns : goal.returns
-returns c =
+pub returns-clause-place : goal.returns-clause-place
+returns-clause-place c =
     let us = c.self.inside.certificate.now.inputs in
     let v = c.args.var in
     let n : length c.inputs.result.now ≡ length us = ap (λ (xs : List ℕ). length xs) (c.inputs.ensures.value ∙ ap (λ (a : Net). a.inputs) c.aig.ensures) in
