@@ -1,5 +1,5 @@
 -- Which numbers may come at each stage of a proof part, and which proof part they make.
-use Rattle.std.proofs.Common.{◌≡◌, ◌≤◌, ◌<◌, ◌+◌, ◌==◌, ◌^◌, ◌⊎◌, inl, inr, ℕ, zero, suc, nat_lt, Bool, true, false, List, [], ◌∷◌, ◌++◌, Option, Some, None, refl, sym, ap, subst, ◌∙◌, arith, append_assoc, append-nil, if◌then◌else◌}
+use Rattle.std.proofs.Common.{◌≡◌, ◌<◌, ◌==◌, ◌^◌, ◌⊎◌, inl, inr, ℕ, zero, suc, Bool, true, false, List, [], ◌∷◌, ◌++◌, Some, None, refl, sym, ap, subst, ◌∙◌, arith, append_assoc, append-nil, if◌then◌else◌}
 use Rattle.std.proofs.lemmas.Bool.Decides.{nat_tests}
 use Rattle.std.specs.List.{AllByRecursion}
 use Rattle.q_logic.specs.declared.proof_part.ProofKind.{ProofKind}
@@ -10,8 +10,7 @@ use Rattle.q_logic.specs.Steps.{ProofStep}
 use Rattle.q_hinted.specs.declared.builder.Stage.{Stage}
 use Rattle.q_hinted.specs.declared.builder.Stage.TheVariants as stage
 use Rattle.q_hinted.specs.Grammar.{steps, proving, EntryMove, hands, leads, misfit, with_zero, with_number, kind_move, part_move}
-use Rattle.q_hinted.specs.Grammar.{Place}
-use Rattle.q_hinted.specs.Parts.{IsNumber, IsGroup, IsOnlyGroup, AreGroups, groups_numbers, first_hints, proof_numbers}
+use Rattle.q_hinted.specs.Parts.{IsNumber, IsGroup, AreGroups, groups_numbers, proof_numbers}
 
 abbrev pub with_hints : List ℕ → ProofPart → ProofPart
 with_hints [] t = t

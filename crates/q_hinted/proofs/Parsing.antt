@@ -1,14 +1,14 @@
 -- What is read as a log of the second profile is a spelled one.
-use Rattle.std.proofs.Common.{◌≡◌, ◌≤◌, ◌<◌, ◌+◌, ◌==◌, ◌^◌, ◌⊎◌, inl, inr, ℕ, zero, suc, nat_le, nat_lt, Bool, true, false, List, [], ◌∷◌, ◌++◌, map, length, length-append, Option, Some, None, refl, sym, ap, subst, ◌∙◌, arith, ℤ, pos, negsuc, append_assoc, append-nil, if◌then◌else◌}
+use Rattle.std.proofs.Common.{◌≡◌, ◌≤◌, ◌<◌, ◌+◌, ◌==◌, ◌^◌, ◌⊎◌, inl, inr, ℕ, zero, suc, nat_lt, Bool, true, false, List, [], ◌∷◌, ◌++◌, map, length, length-append, Option, Some, None, refl, sym, ap, subst, ◌∙◌, arith, ℤ, pos, negsuc, append-nil, if◌then◌else◌}
 use Rattle.std.proofs.lemmas.Bool.Decides.{nat_tests}
 use Rattle.std.specs.List.{AllByRecursion}
 use Rattle.q_logic.specs.declared.proof_part.ProofKind.TheVariants.{Nothing}
 use Rattle.q_logic.specs.declared.steps.Kind.{Kind}
 use Rattle.q_logic.specs.declared.steps.Kind.TheVariants.{Add, Delete, Drop, Fresh, Remove}
-use Rattle.q_logic.specs.Hinted.{Hinted, ProofPart}
+use Rattle.q_logic.specs.Hinted.{ProofPart}
 use Rattle.q_logic.specs.ProofParts.{begun_part}
 use Rattle.q_logic.specs.Steps.{ProofStep}
-use Rattle.q_logic.specs.StepForms.{step_of, kind_of}
+use Rattle.q_logic.specs.StepForms.{kind_of}
 use Rattle.q_text.specs.declared.tokens.Token.{Token}
 use Rattle.q_text.specs.declared.tokens.TokenKind.{TokenKind}
 use Rattle.q_text.specs.declared.tokens.TokenKind.TheVariants.{Number, P, Cnf, Qrat, E, A, D, U, R, Other}
@@ -21,9 +21,9 @@ use Rattle.q_log.specs.Spelled as plain_texts
 use Rattle.q_log.proofs.Parsing.{FromStart, all-from}
 use Rattle.q_hinted.specs.declared.builder.Stage.{Stage}
 use Rattle.q_hinted.specs.declared.builder.Stage.TheVariants as stage
-use Rattle.q_hinted.specs.Grammar.{Place, nowhere, format, version, plain, steps, proving, EntryMove, hands, leads, misfit, place_move, part_move, number_in, small_number, behind_step, in_steps, profile_move, format_move, version_move}
+use Rattle.q_hinted.specs.Grammar.{Place, format, version, steps, proving, EntryMove, hands, leads, misfit, part_move, number_in, behind_step, in_steps, profile_move, format_move, version_move}
 use Rattle.q_hinted.specs.Logs.{Entry, Entries, hinted_entry, onto, follow, outcome, at_end}
-use Rattle.q_hinted.specs.Parts.{no_part, IsPartOf, IsNumber, part_numbers, proof_numbers}
+use Rattle.q_hinted.specs.Parts.{no_part, IsPartOf, IsNumber, part_numbers}
 use Rattle.q_hinted.specs.Spelled.{HintedText, kinds_of, numbers_kinds, IsHintedSpelled, hinted_of, tokens_in}
 use Rattle.q_hinted.proofs.Fitting.{Fits, Back, part-back}
 use Rattle.q_hinted.proofs.Spelling.{one_step, any-line, kind-kept}

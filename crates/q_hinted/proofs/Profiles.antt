@@ -1,9 +1,8 @@
 -- The first token tells the profile: the steps of the first are those of a plain log, and in the second each step has a
 -- proof part.
-use Rattle.std.proofs.Common.{◌≡◌, ◌≤◌, ◌==◌, ◌↔◌, ℕ, nat_le, Bool, true, false, List, [], ◌∷◌, ◌++◌, map, length, take, Option, Some, None, refl, sym, ap, subst, ◌∙◌, arith, ℤ, pos, negsuc, if◌then◌else◌}
+use Rattle.std.proofs.Common.{◌≡◌, ◌≤◌, ◌==◌, ℕ, nat_le, Bool, true, false, List, [], ◌∷◌, ◌++◌, map, length, take, Option, Some, None, refl, sym, ap, ◌∙◌, arith, ℤ, pos, negsuc, if◌then◌else◌}
 use Rattle.std.proofs.lemmas.Bool.Decides.{nat_tests}
-use Rattle.std.specs.List.{AllByRecursion}
-use Rattle.q_logic.specs.declared.proof_part.ProofKind.TheVariants.{Nothing, Implied, Pivot, Reach}
+use Rattle.q_logic.specs.declared.proof_part.ProofKind.TheVariants.{Implied, Pivot, Reach}
 use Rattle.q_logic.specs.declared.steps.Kind.{Kind}
 use Rattle.q_logic.specs.declared.steps.Kind.TheVariants.{Add, Delete, Drop, Fresh, Remove}
 use Rattle.q_logic.specs.Hinted.{Hinted, ProofPart}
@@ -16,12 +15,12 @@ use Rattle.q_text.specs.declared.tokens.TokenKind.TheVariants.{Number, P, Cnf, Q
 use Rattle.q_text.specs.Texts.{tokens_of, tokens_ended, line_after}
 use Rattle.q_log.specs.declared.error.LogError.{LogError}
 use Rattle.q_log.specs.declared.error.LogError.TheVariants.{BadLine, Limit}
-use Rattle.q_log.specs.Grammar.{OpenStep, Move, ends_step, goes_on, unfit, move, first_move}
+use Rattle.q_log.specs.Grammar.{OpenStep, Move, ends_step, goes_on, unfit, move}
 use Rattle.q_log.specs.Logs as plain_logs
 use Rattle.q_hinted.specs.declared.builder.Stage.{Stage}
 use Rattle.q_hinted.specs.declared.builder.Stage.TheVariants as stage
 use Rattle.q_hinted.specs.Grammar.{Place, nowhere, format, version, plain, steps, proving, EntryMove, hands, leads, misfit, place_move, part_move, number_in, behind_step, in_plain, in_steps, with_zero, with_number, kind_move, front_move, format_move, version_move, profile_move, first_profile, profile_at}
-use Rattle.q_hinted.specs.Logs.{Entry, Entries, plain_entry, hinted_entry, plain_entries, onto, follow, outcome, at_end, past_limit, tokens_within, read_entries, profile_of, Profile, if_hinted, hinted_in, all_or_none, HintedSteps}
+use Rattle.q_hinted.specs.Logs.{Entry, Entries, hinted_entry, plain_entries, onto, follow, outcome, at_end, past_limit, read_entries, profile_of, Profile, hinted_in, all_or_none, HintedSteps}
 use Rattle.q_hinted.specs.Spelled.{kinds_of, hinted_of, tokens_in, HintedLog}
 use Rattle.q_hinted.proofs.Spelling.{header-read, texts-read, all-hinted}
 use Rattle.q_hinted.proofs.Parsing.{all_read, Gets, FromFront, front-parsed}

@@ -1,5 +1,5 @@
 -- What was to come is the answer to a byte, and then what is to come behind it.
-use Rattle.std.proofs.Common.{◌≡◌, ℕ, zero, suc, ◌+◌, ◌==◌, nat_le, Bool, true, false, List, ◌∷◌, ◌++◌, length, take, if◌then◌else◌, Result, Ok, Err, Option, Some, None, refl, sym, ap, ◌∙◌, arith, sub-one, subst}
+use Rattle.std.proofs.Common.{◌≡◌, ℕ, zero, suc, ◌==◌, nat_le, Bool, true, false, List, ◌∷◌, ◌++◌, length, take, Result, Ok, Err, Option, Some, None, refl, sym, ap, arith, sub-one, subst}
 use Rattle.std.proofs.lemmas.Bool.Decides.{nat_tests}
 use Rattle.q_text.specs.declared.tokens.Token.{Token}
 use Rattle.q_text.specs.declared.tokens.Tokens.{Tokens}
@@ -10,7 +10,6 @@ use Rattle.q_text.proofs.Law.{from_start, handed-ended}
 use Rattle.q_log.specs.declared.error.LogError.{LogError}
 use Rattle.q_log.specs.declared.error.LogError.TheVariants.{BadLine, Limit, NoMemory}
 use Rattle.q_log.proofs.Reading.{line-after}
-use Rattle.q_hinted.specs.Filled.{Gives}
 use Rattle.q_hinted.specs.Grammar.{Place, nowhere, EntryMove, hands, leads, misfit, place_move}
 use Rattle.q_hinted.specs.Logs.{Entry, Entries, stopped, onto, follow, outcome, at_end, past_limit, read_entries}
 use Rattle.q_hinted.specs.Reading.{BothState, open_to_come, unless_refused, to_come, turn, token_turn, moved, Answers, Leads}

@@ -1,5 +1,5 @@
 -- The canonical text of steps with proof parts is read as these.
-use Rattle.std.proofs.Common.{◌≡◌, ◌≤◌, ◌<◌, ◌+◌, ◌^◌, ℕ, List, [], ◌∷◌, ◌++◌, map, length, Some, refl, sym, ap, ◌∙◌, arith, ℤ, pos, append_assoc}
+use Rattle.std.proofs.Common.{◌≡◌, ◌≤◌, ◌+◌, ℕ, List, [], ◌∷◌, ◌++◌, map, length, Some, refl, sym, ap, ◌∙◌, arith, ℤ, pos, append_assoc}
 use Rattle.std.specs.List.{AllByRecursion}
 use Rattle.q_logic.specs.declared.proof_part.ProofKind.{ProofKind}
 use Rattle.q_logic.specs.declared.proof_part.ProofKind.TheVariants.{Nothing, Implied, Pivot, Reach}
@@ -7,24 +7,23 @@ use Rattle.q_logic.specs.declared.steps.Kind.{Kind}
 use Rattle.q_logic.specs.declared.steps.Kind.TheVariants.{Add, Delete, Drop, Fresh, Remove}
 use Rattle.q_logic.specs.Hinted.{Hinted, HintGroup, ProofPart}
 use Rattle.q_logic.specs.Literals.{Literal, number_of}
-use Rattle.q_logic.specs.StepForms.{kind_of, literals_of, step_of}
+use Rattle.q_logic.specs.StepForms.{kind_of, literals_of}
 use Rattle.q_text.specs.declared.shape.Shape.{Shape}
 use Rattle.q_text.specs.declared.shape.Shape.TheVariants.{Start, Between}
 use Rattle.q_text.specs.declared.tokens.Token.{Token}
 use Rattle.q_text.specs.declared.tokens.TokenKind.{TokenKind}
 use Rattle.q_text.specs.declared.tokens.TokenKind.TheVariants.{Number, P, Qrat}
 use Rattle.q_text.specs.Numbers.{number_text, numbers_text, line_end}
-use Rattle.q_text.specs.Texts.{tokens_of}
 use Rattle.q_text.specs.Tokens.{to_come, literals_kinds}
 use Rattle.q_text.proofs.Decimals.{IsShown, token_of, numbers-line}
 use Rattle.q_text.proofs.Law.{at, from_start}
 use Rattle.q_text.proofs.Spelling.{Opens, opens-start, opens-between, word-space, word-line}
-use Rattle.q_log.specs.Spelled.{StepText, IsSpelled, first_line, letter_kinds}
-use Rattle.q_log.specs.Texts.{letter_text, literals_text, head_text}
+use Rattle.q_log.specs.Spelled.{first_line, letter_kinds}
+use Rattle.q_log.specs.Texts.{letter_text, literals_text}
 use Rattle.q_log.proofs.Rereading.{IsSmall, all-shown, letter_tokens, same-step, step-form}
 use Rattle.q_hinted.specs.Logs.{HintedSteps}
 use Rattle.q_hinted.specs.Parts.{IsNumber, IsGroup, IsPartOf, AreGroups, groups_numbers, proof_numbers, part_numbers, line_numbers}
-use Rattle.q_hinted.specs.Spelled.{HintedText, kinds_of, numbers_kinds, IsHintedSpelled, hinted_of, tokens_in, header_kinds, HintedLog}
+use Rattle.q_hinted.specs.Spelled.{HintedText, kinds_of, numbers_kinds, IsHintedSpelled, hinted_of, tokens_in}
 use Rattle.q_hinted.specs.Texts.{header_text, plain_text, hinted_text, lines_text, log_text, IsWritten, on_lines}
 use Rattle.q_hinted.proofs.Profiles.{hinted-read}
 

@@ -1,5 +1,5 @@
 -- What stands open at the end is refused there, and nothing is open behind a step that is handed out.
-use Rattle.std.proofs.Common.{◌≡◌, ℕ, ◌==◌, Bool, true, false, Option, Some, None, refl, subst, if◌then◌else◌, List, [], ◌∷◌, Ok, ap, ◌∙◌}
+use Rattle.std.proofs.Common.{◌≡◌, ℕ, ◌==◌, Bool, true, false, Option, Some, None, refl, subst, if◌then◌else◌, [], ◌∷◌, Ok, ap, ◌∙◌}
 use Rattle.q_logic.specs.declared.proof_part.ProofKind.TheVariants.{Implied, Pivot, Reach}
 use Rattle.q_logic.specs.declared.steps.Kind.{Kind}
 use Rattle.q_logic.specs.declared.steps.Kind.TheVariants.{Add, Delete, Drop, Fresh, Remove}
@@ -12,12 +12,12 @@ use Rattle.q_text.specs.declared.tokens.TokenKind.{TokenKind}
 use Rattle.q_text.specs.declared.tokens.TokenKind.TheVariants.{Number, P, Cnf, Qrat, E, A, D, U, R, Other}
 use Rattle.std.proofs.Common.{ℤ, pos, negsuc}
 use Rattle.q_log.specs.declared.error.LogError.TheVariants.{BadLine}
-use Rattle.q_log.specs.Grammar.{OpenStep, Move, ends_step, goes_on, unfit, move}
+use Rattle.q_log.specs.Grammar.{Move, ends_step, goes_on, unfit, move}
 use Rattle.q_hinted.specs.declared.builder.Stage.{Stage}
 use Rattle.q_hinted.specs.declared.builder.Stage.TheVariants as stage
 use Rattle.q_hinted.specs.Grammar.{Place, nowhere, format, version, plain, steps, proving, EntryMove, hands, leads, misfit, place_move, is_open_at, in_plain, in_steps, behind_step, with_zero, with_number, kind_move, part_move, number_in, front_move, format_move, version_move, profile_move}
 use Rattle.q_hinted.specs.Filled.{Gives}
-use Rattle.q_hinted.specs.Logs.{Entry, Entries, stopped, follow, outcome, at_end, open_end}
+use Rattle.q_hinted.specs.Logs.{Entry, Entries, stopped, follow, outcome, at_end}
 
 pub open-end : (n : ℕ) (p : Place) → is_open_at p ≡ true → at_end n p ≡ Some (BadLine n)
 open-end n nowhere e = cc

@@ -1,5 +1,5 @@
 -- A spelled log of the second profile is read as its steps with their proof parts.
-use Rattle.std.proofs.Common.{◌≡◌, ◌≤◌, ◌<◌, ◌^◌, ◌⊎◌, inl, inr, ℕ, nat_le, nat_lt, true, false, List, [], ◌∷◌, ◌++◌, map, length, Option, Some, None, refl, sym, ap, subst, ◌∙◌, arith, pos, append_assoc, append-nil}
+use Rattle.std.proofs.Common.{◌≡◌, ◌<◌, ◌^◌, inl, inr, ℕ, nat_lt, true, List, [], ◌∷◌, ◌++◌, map, Option, Some, None, refl, sym, ap, ◌∙◌, arith, pos, append-nil}
 use Rattle.std.proofs.lemmas.Bool.Decides.{nat_tests}
 use Rattle.std.specs.List.{AllByRecursion}
 use Rattle.q_logic.specs.declared.proof_part.ProofKind.TheVariants.{Nothing}
@@ -11,9 +11,7 @@ use Rattle.q_logic.specs.ProofParts.{begun_part}
 use Rattle.q_logic.specs.Steps.{ProofStep}
 use Rattle.q_logic.specs.StepForms.{step_of, kind_of}
 use Rattle.q_text.specs.declared.tokens.Token.{Token}
-use Rattle.q_text.specs.declared.tokens.TokenKind.{TokenKind}
 use Rattle.q_text.specs.declared.tokens.TokenKind.TheVariants.{Number, P, Qrat}
-use Rattle.q_text.specs.Texts.{line_after}
 use Rattle.q_log.specs.declared.error.LogError.{LogError}
 use Rattle.q_log.specs.declared.error.LogError.TheVariants.{BadLine}
 use Rattle.q_log.specs.Grammar.{OpenStep, Move, ends_step, goes_on, unfit, move}
@@ -22,11 +20,11 @@ use Rattle.q_log.specs.Spelled.{first_line}
 use Rattle.q_log.proofs.Spelling.{step-read}
 use Rattle.q_hinted.specs.declared.builder.Stage.{Stage}
 use Rattle.q_hinted.specs.declared.builder.Stage.TheVariants as stage
-use Rattle.q_hinted.specs.Grammar.{Place, nowhere, format, version, steps, proving, EntryMove, hands, leads, misfit, place_move, part_move, number_in, behind_step, in_steps}
-use Rattle.q_hinted.specs.Logs.{Entry, Entries, hinted_entry, onto, follow, outcome, at_end, read_entries, hinted_in, HintedSteps}
-use Rattle.q_hinted.specs.Parts.{no_part, IsPartOf, IsNumber, part_numbers, proof_numbers}
-use Rattle.q_hinted.specs.Spelled.{HintedText, kinds_of, numbers_kinds, IsHintedSpelled, hinted_of, tokens_in, HintedLog}
-use Rattle.q_hinted.proofs.Fitting.{Fits, IsProofOf, FitsNumber, Done, Goes, Onward, part-onward, never-over}
+use Rattle.q_hinted.specs.Grammar.{Place, nowhere, steps, proving, place_move, part_move, number_in, behind_step, in_steps}
+use Rattle.q_hinted.specs.Logs.{Entries, hinted_entry, onto, follow, outcome, hinted_in}
+use Rattle.q_hinted.specs.Parts.{IsPartOf, part_numbers, proof_numbers}
+use Rattle.q_hinted.specs.Spelled.{HintedText, kinds_of, numbers_kinds, IsHintedSpelled, hinted_of, tokens_in}
+use Rattle.q_hinted.proofs.Fitting.{Fits, Onward, part-onward, never-over}
 
 -- a number of a proof part
 pub number-small : (v : ℕ) → v < 2 ^ 62 → number_in (Number (pos v)) ≡ Some v

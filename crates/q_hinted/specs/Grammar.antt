@@ -1,7 +1,6 @@
 -- Logs of either profile, token by token. The steps are those of plain logs; in the second profile a proof part stands
 -- behind the 0 of a step.
-use Rattle.std.specs.Prelude.{ℕ, Bool, true, false, is_some, ◌+◌, ◌==◌, nat_lt, List, [], ◌∷◌, if◌then◌else◌, Option, Some, None, ℤ, pos, negsuc}
-use Rattle.q_logic.specs.declared.proof_part.ProofKind.{ProofKind}
+use Rattle.std.specs.Prelude.{ℕ, Bool, true, false, is_some, ◌==◌, nat_lt, if◌then◌else◌, Option, Some, None, ℤ, pos, negsuc}
 use Rattle.q_logic.specs.declared.proof_part.ProofKind.TheVariants.{Nothing, Implied, Pivot, Reach}
 use Rattle.q_logic.specs.declared.steps.Kind.{Kind}
 use Rattle.q_logic.specs.declared.steps.Kind.TheVariants.{Add, Delete, Drop, Fresh, Remove}

@@ -1,6 +1,5 @@
 -- The canonical text of logs of the second profile: the header, and each step with its proof part on a line.
 use Rattle.std.specs.Prelude.{ℕ, ◌+◌, List, [], ◌∷◌, ◌++◌, map, pos}
-use Rattle.std.specs.List.{AllByRecursion}
 use Rattle.q_logic.specs.Hinted.{Hinted, ProofPart}
 use Rattle.q_logic.specs.StepForms.{kind_of}
 use Rattle.q_logic.specs.Steps.{ProofStep}

@@ -1,4 +1,4 @@
-use Rattle.std.proofs.Common.{◌≡◌, true, Ok, subst, arith}
+use Rattle.std.proofs.Common.{◌≡◌, true, subst, arith}
 use Rattle.std.proofs.lemmas.Grind.{common_steps}
 use Rattle.q_hinted.specs.Builders.{place_of}
 use Rattle.q_hinted.specs.Filled.{Gives}
