@@ -1,2 +1,4 @@
 pub mod Alike
 pub mod Checked
+pub mod Numbers
+pub mod Annotations

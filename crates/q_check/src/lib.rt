@@ -1,9 +1,16 @@
 //! The checker of proofs: each step is tried on the formula that the steps before it left.
 #![tactic(auto)]
 
+mod annotating;
+mod annotator;
 mod checker;
+mod numbered;
+mod numbers;
+mod showing;
 mod tries;
 
+pub use annotator::Annotator;
 pub use checker::{Checker, Verified};
+pub use numbered::NumberedBook;
 pub use q_judge::{Cause, CheckError, Undo, Undos};
 pub use q_logic::Clauses;

@@ -1,4 +1,4 @@
-use Rattle.std.proofs.Common.{Option, Some, None, Err, refl, sym, subst}
+use Rattle.std.proofs.Common.{Option, Some, Err, refl, sym, subst}
 use Rattle.q_logic.specs.Formulas.{Prefix}
 use Rattle.q_logic.specs.Numbered.{Slots}
 use Rattle.std.proofs.lemmas.Result.{err_from_is_err_and}

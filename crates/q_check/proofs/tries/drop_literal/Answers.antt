@@ -1,9 +1,8 @@
-use Rattle.std.proofs.Common.{Some, None, Err, refl, set, subst, sym, ap, ◌≡◌, ◌∙◌}
+use Rattle.std.proofs.Common.{Err, refl, subst}
 use Rattle.q_logic.specs.Formulas.{Prefix}
 use Rattle.q_logic.specs.Numbered.{Slots}
 use Rattle.std.proofs.lemmas.Result.{err_from_is_err_and}
-use Rattle.q_logic.specs.Pivots.{without}
-use Rattle.q_prop.specs.Slots.{filled, IsPut}
+use Rattle.q_prop.specs.Slots.{filled}
 use Rattle.q_judge.specs.Warrants.{IsSlotOf}
 use Rattle.q_logic.proofs.Members.{test-false}
 use Rattle.q_judge.proofs.Trying.{of, drop-unfound, drop-refused, drop-valid, drop-after, drop-entry}

@@ -1,0 +1,19 @@
+use Rattle.std.proofs.Common.{◌≡◌, ◌++◌, take, map, Some}
+use Rattle.q_logic.specs.declared.proof_part.ProofKind.TheVariants.{Pivot}
+use Rattle.q_logic.specs.Formulas.{Clause, IsIn}
+use Rattle.q_logic.specs.Hinted.{HintGroup}
+use Rattle.q_logic.specs.Hints.{Chained}
+use Rattle.q_logic.specs.Numbered.{slot}
+use Rattle.q_logic.specs.Pivots.{outer}
+use Rattle.q_check.specs.Numbers.{left_out}
+use Rattle.q_check.proofs.showing.resolve.Given as goal
+
+abbrev pub invariant-loop-i : goal.invariant-loop-i
+invariant-loop-i l = record {
+  same : l.book ≡ l.fn.book;
+  kind : l.proof.kind ≡ Pivot;
+  number : l.proof.number ≡ l.fn.proof.number;
+  targets : map (λ (g : HintGroup). g.target) l.proof.groups ≡ take l.i l.targets.items;
+  each : (g : HintGroup) → IsIn g l.proof.groups → (D : Clause) → slot (left_out l.skip l.fn.book.slots) g.target ≡ Some D →
+      Chained (left_out l.skip l.fn.book.slots) (l.base ++ outer l.fn.book.prefix l.m D) g.hints;
+}

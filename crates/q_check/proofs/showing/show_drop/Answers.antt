@@ -1,0 +1,14 @@
+use Rattle.std.proofs.Common.{refl, None}
+use Rattle.q_logic.specs.Numbered.{live, set_slot}
+use Rattle.q_logic.specs.Reach.{Reducible}
+use Rattle.q_check.proofs.Grouping.{undroppable, denied}
+use Rattle.q_check.proofs.showing.show_drop.Goals as goal
+
+pub returns-then-not-branch-clause-shown : goal.returns-then-not-branch-clause-shown
+returns-then-not-branch-clause-shown c =
+    let F = c.args.book.now in
+    let N = set_slot c.args.number None F.slots in
+    let apart = denied (Reducible F.prefix (live N) c.args.clause.now c.args.lit) c.in_ok-is_reducible.field-0 c.in_ok-is_reducible.ensures.exact c.if-branch.false in
+    let exact = rw (c.in_ok-is_reducible.ensures.same, c.negated-2.ensures, c.requires.rest) at c.in_ok-resolve.ensures.exact in
+    let none = rw c.if-not-branch.true at exact in
+    rw c.refusal-then-not-branch.ensures (refl, undroppable F.prefix N c.args.clause.now c.args.lit apart none)

@@ -1,0 +1,132 @@
+//! The annotator: it takes the steps that the checker takes, and gives each the proof part that shows it. So a log is
+//! checked once with search, and later by its hints alone.
+ghost use Rattle.std.specs.Prelude.{◌≡◌, ◌<◌, ◌+◌, ◌^◌, IfOk, IfErr, OnOk, OnErr};
+ghost use Rattle.q_logic.specs.Hinted.{begun, plain, HintedValid, hinted_after};
+ghost use Rattle.q_logic.specs.Limits.{AreModerate};
+ghost use Rattle.q_logic.specs.Runs.{SameFormula};
+ghost use Rattle.q_judge.specs.Tried.{IsEndRefusal};
+ghost use Rattle.q_judge.specs.declared.error.CheckError.TheVariants.{NoMemory as MemoryError};
+ghost use Rattle.q_check.specs.Annotations.{HasForm, IsAnnotated};
+ghost use Rattle.q_check.specs.Checked.{IsRefusal};
+
+use crate::annotating::{add, delete, drop_literal, fresh, remove};
+use crate::numbered::NumberedBook;
+use crate::showing::HintRows;
+use q_judge::{CheckError, first_lit, load_clause, load_rest};
+use q_logic::{Formula, Kind, Limits, Lit, Proof, Step};
+use std::alloc::Global;
+use std::marker::Model;
+
+/// Tries the steps of a proof, one after the other, and shows each by hints.
+#[derive(Drop)]
+pub struct Annotator {
+    alloc: Global,
+    book: NumberedBook,
+    limits: Limits,
+    steps: u64,
+    rows: HintRows,
+    clause: Vec<Lit>,
+    rest: Vec<Lit>,
+}
+
+impl Model for Annotator {
+    ghost use Rattle.q_logic.specs.Limits.{AreModerate};
+    ghost use Rattle.q_check.specs.Annotations.{Annotating};
+
+    ghost Value = { Annotating };
+
+    ghost view = { λ a. record { formula = a.book; limits = a.limits; steps = a.steps } };
+
+    ghost invariant = { λ a. AreModerate a.limits };
+}
+
+impl Annotator {
+    pub fn start(alloc: Global, formula: &Formula, limits: Limits) -> Result<Annotator, CheckError>
+        requires { AreModerate limits }
+        ensures started { IfOk result (λ a. a ≡ record { formula = begun formula.now; limits = limits; steps = 0 }) }
+        ensures only_memory { IfErr result (λ e. e ≡ MemoryError) }
+    {
+        let book = NumberedBook::start(alloc, formula)?;
+        Ok(Annotator {
+            alloc,
+            book,
+            limits,
+            steps: 0,
+            rows: HintRows::new(alloc),
+            clause: Vec::new(alloc),
+            rest: Vec::new(alloc),
+        })
+    }
+
+    /// The number of steps that were taken.
+    pub fn steps(&self) -> u64
+        ensures { result ≡ self.now.steps }
+    {
+        self.steps
+    }
+
+    /// Takes the step if it is valid, and answers the proof part that shows it. After an error the annotator is as before.
+    pub fn step(&mut self, step: &Step) -> Result<Proof, CheckError>
+        requires { self.old.steps < 2 ^ 61 }
+        ensures shown { IfOk result (HintedValid self.old.limits self.old.formula step.now) }
+        ensures after { IfOk result (λ t. self.new.formula ≡ hinted_after self.old.formula step.now t) }
+        ensures form { IfOk result (HasForm step.now) }
+        ensures limits { self.new.limits ≡ self.old.limits }
+        ensures steps { OnOk result (self.new.steps ≡ self.old.steps + 1) }
+        ensures refused { IfErr result (IsRefusal self.old.limits (plain self.old.formula) step.now) }
+        ensures unchanged { OnErr result (self.new ≡ self.old) }
+    {
+        let proof = annotate(
+            self.alloc,
+            &mut self.book,
+            &mut self.rows,
+            &mut self.clause,
+            &mut self.rest,
+            self.limits,
+            step,
+        )?;
+        self.steps += 1;
+        Ok(proof)
+    }
+
+    /// Ends the check: blocks and clauses are those of the output, in any order.
+    pub fn finish(self, output: &Formula) -> Result<(), CheckError>
+        ensures same { OnOk result (SameFormula (plain self.formula) output.now) }
+        ensures refused { IfErr result (IsEndRefusal (plain self.formula) output.now) }
+    {
+        self.book.finish(output)
+    }
+}
+
+// Tries the step on the formula, and shows it.
+fn annotate(
+    alloc: Global,
+    book: &mut NumberedBook,
+    rows: &mut HintRows,
+    clause: &mut Vec<Lit>,
+    rest: &mut Vec<Lit>,
+    limits: Limits,
+    step: &Step,
+) -> Result<Proof, CheckError>
+    requires { AreModerate limits }
+    ensures { IsAnnotated limits book.old step.now book.new result }
+{
+    let lits = step.lits();
+    match step.kind() {
+        Kind::Add => {
+            load_clause(clause, lits)?;
+            add(alloc, book, rows, limits, clause, first_lit(lits))
+        }
+        Kind::Delete => {
+            load_clause(clause, lits)?;
+            delete(alloc, book, rows, clause, first_lit(lits))
+        }
+        Kind::Drop => {
+            load_clause(clause, lits)?;
+            load_rest(rest, lits)?;
+            drop_literal(alloc, book, rows, clause, rest, lits[0])
+        }
+        Kind::Fresh => fresh(alloc, book, limits, lits[0].var(), lits[1].var()),
+        Kind::Remove => remove(alloc, book, lits[0].var()),
+    }
+}

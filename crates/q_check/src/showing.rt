@@ -1,0 +1,156 @@
+//! Proof parts for steps: the hints by which a clause is implied, or by which all clauses with the negation of its
+//! first literal resolve. What is shown is tried in the order in which the checker tries it.
+ghost use Rattle.std.specs.Prelude.{◌≡◌, ◌≢◌, ◌+◌, [], true, Some, IfOk, OnOk};
+ghost use Rattle.q_logic.specs.declared.proof_part.ProofKind.TheVariants.{Pivot as ByPivot};
+ghost use Rattle.q_logic.specs.Formulas.{IsIn};
+ghost use Rattle.q_logic.specs.Numbered.{slot};
+ghost use Rattle.q_logic.specs.Pivots.{without};
+ghost use Rattle.q_logic.specs.Prefixes.{is_bound};
+ghost use Rattle.q_logic.specs.StepForms.{IsFirst};
+ghost use Rattle.q_logic.specs.Steps.{Within};
+ghost use Rattle.q_check.specs.Annotations.{with_hints, with_hinted_group, implied_part, number_in, IsResolved, IsShown, IsDropShown};
+ghost use Rattle.q_check.specs.Numbers.{left_out};
+
+use crate::numbered::NumberedBook;
+use q_judge::{Cause, CheckError};
+use q_logic::{Lit, NoMemory, Proof, ProofKind, holds};
+use std::alloc::Global;
+
+/// Rows that are used again from step to step.
+#[derive(Drop)]
+pub struct HintRows {
+    pub targets: Vec<u64>,
+    pub hints: Vec<u64>,
+}
+
+impl HintRows {
+    pub fn new(alloc: Global) -> HintRows {
+        HintRows {
+            targets: Vec::new(alloc),
+            hints: Vec::new(alloc),
+        }
+    }
+}
+
+// Puts hints behind those of the last group.
+fn push_hints(proof: &mut Proof, hints: &[u64]) -> Result<(), NoMemory>
+    requires { proof.old.groups ≢ [] }
+    ensures { OnOk result (proof.new ≡ with_hints hints.now proof.old) }
+{
+    for hint in hints {
+        proof.hint(*hint)?;
+    }
+    Ok(())
+}
+
+// Puts one more group with its hints behind the others.
+fn push_group(proof: &mut Proof, target: u64, hints: &[u64]) -> Result<(), NoMemory>
+    requires { proof.old.kind ≡ ByPivot }
+    ensures { OnOk result (proof.new ≡ with_hinted_group target hints.now proof.old) }
+{
+    proof.begin_group(target)?;
+    push_hints(proof, hints)
+}
+
+// The proof that a clause is implied.
+fn by_hints(alloc: Global, number: u64, hints: &[u64]) -> Result<Proof, NoMemory>
+    ensures { IfOk result (λ t. t ≡ implied_part number hints.now) }
+{
+    let mut proof = Proof::new(alloc, ProofKind::Implied, number);
+    push_hints(&mut proof, hints)?;
+    Ok(proof)
+}
+
+/// Whether the literals, joined with the outer clause of each clause that holds m, are implied; a group for each.
+fn resolve(
+    book: &mut NumberedBook,
+    rows: &mut HintRows,
+    skip: Option<usize>,
+    base: &[Lit],
+    m: Lit,
+    proof: &mut Proof,
+) -> Result<bool, NoMemory>
+    requires bound { is_bound book.old.prefix m.var ≡ true }
+    requires kind { proof.old.kind ≡ ByPivot }
+    requires empty { proof.old.groups ≡ [] }
+    ensures same { book.new ≡ book.old }
+    ensures kind { OnOk result (proof.new.kind ≡ ByPivot) }
+    ensures number { OnOk result (proof.new.number ≡ proof.old.number) }
+    ensures exact { IfOk result (IsResolved book.old.prefix (left_out skip book.old.slots) base.now m proof.new) }
+{
+    let targets = &mut rows.targets;
+    let hints = &mut rows.hints;
+    book.holding(m, skip, targets)?;
+    for i in 0..targets.len() {
+        if !book.explained_with(targets[i] as usize, base, m, skip, hints)? {
+            return Ok(false);
+        }
+        push_group(proof, targets[i], hints)?;
+    }
+    Ok(true)
+}
+
+/// Shows why the clause may come, or why the one with a number may go.
+pub fn show(
+    alloc: Global,
+    book: &mut NumberedBook,
+    rows: &mut HintRows,
+    skip: Option<usize>,
+    clause: &[Lit],
+    first: Option<Lit>,
+) -> Result<Proof, CheckError>
+    requires within { Within book.old.prefix clause.now }
+    requires first { IsFirst first clause.now }
+    ensures same { book.new ≡ book.old }
+    ensures shown { IsShown book.old.prefix (left_out skip book.old.slots) clause.now first (number_in skip) result }
+{
+    let number = skip.unwrap_or(0) as u64;
+    if book.explained(clause, skip, &mut rows.hints)? {
+        let proof = by_hints(alloc, number, &rows.hints)?;
+        return Ok(proof);
+    }
+    let Some(pivot) = first else {
+        return Err(Cause::Unwarranted.refusal());
+    };
+    if !book.scope().is_existential(pivot.var()) {
+        return Err(Cause::Unwarranted.refusal());
+    }
+    let mut proof = Proof::new(alloc, ProofKind::Pivot, number);
+    if !resolve(book, rows, skip, clause, pivot.negated(), &mut proof)? {
+        return Err(Cause::Unwarranted.refusal());
+    }
+    Ok(proof)
+}
+
+/// Shows why the clause with a number may lose a literal. `rest` is the clause without it.
+pub fn show_drop(
+    alloc: Global,
+    book: &mut NumberedBook,
+    rows: &mut HintRows,
+    number: usize,
+    clause: &[Lit],
+    rest: &[Lit],
+    lit: Lit,
+) -> Result<Proof, CheckError>
+    requires there { slot book.old.slots number ≡ Some clause.now }
+    requires within { Within book.old.prefix clause.now }
+    requires held { IsIn lit clause.now }
+    requires rest { rest.now ≡ without lit clause.now }
+    ensures same { book.new ≡ book.old }
+    ensures shown { IsDropShown book.old.prefix (left_out (Some number) book.old.slots) clause.now lit number result }
+{
+    if !book.scope().is_universal(lit.var()) {
+        return Err(Cause::NotDroppable.refusal());
+    }
+    if book.is_reducible(number, clause, lit)? {
+        return Ok(Proof::new(alloc, ProofKind::Reach, number as u64));
+    }
+    if holds(clause, lit.negated()) {
+        return Err(Cause::NotDroppable.refusal());
+    }
+    let mut proof = Proof::new(alloc, ProofKind::Pivot, number as u64);
+    if !resolve(book, rows, Some(number), rest, lit.negated(), &mut proof)? {
+        return Err(Cause::NotDroppable.refusal());
+    }
+    Ok(proof)
+}
