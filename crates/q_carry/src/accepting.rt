@@ -1,9 +1,6 @@
 //! Whether circuits fit a prefix: the four refusals, in their order.
 ghost use Rattle.std.specs.Prelude.{◌≡◌, IfErr, OnOk};
-ghost use Rattle.q_logic.specs.Formulas.{Prefix};
 ghost use Rattle.q_logic.specs.Prefixes.{Distinct};
-ghost use Rattle.q_logic.specs.Certificates.{trees_of};
-ghost use Rattle.q_logic.specs.Skolems.{Lawful, circuit_of, given as given_spec};
 ghost use Rattle.q_carry.specs.Refusals.{Fits, IsMisfit};
 
 use crate::by_variable::{circuits_of, places_of};

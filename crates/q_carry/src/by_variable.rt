@@ -1,7 +1,6 @@
 //! Tables by variable: the circuits of a certificate, the places of its inputs, the existentials of a
 //! prefix.
 ghost use Rattle.std.specs.Prelude.{IfOk};
-ghost use Rattle.q_logic.specs.Formulas.{Prefix};
 ghost use Rattle.q_logic.specs.Prefixes.{Distinct};
 ghost use Rattle.q_logic.specs.Certificates.{trees_of};
 ghost use Rattle.q_aig.specs.Nets.{AreDistinct};
