@@ -2,3 +2,4 @@ pub mod Alike
 pub mod Checked
 pub mod Numbers
 pub mod Annotations
+pub mod HintChecks

@@ -4,6 +4,9 @@
 mod annotating;
 mod annotator;
 mod checker;
+mod hint_checker;
+mod hint_tests;
+mod hinted;
 mod numbered;
 mod numbers;
 mod showing;
@@ -11,6 +14,7 @@ mod tries;
 
 pub use annotator::Annotator;
 pub use checker::{Checker, Verified};
+pub use hint_checker::HintChecker;
 pub use numbered::NumberedBook;
 pub use q_judge::{Cause, CheckError, Undo, Undos};
 pub use q_logic::Clauses;

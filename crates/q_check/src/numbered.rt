@@ -1,6 +1,6 @@
 //! The formula under check with numbered clauses: a ledger, which keeps the clauses in slots, and the slot of each
 //! number. Slots are used again, numbers never are. Hints are asked for by slots and told by numbers.
-ghost use Rattle.std.specs.Prelude.{◌≡◌, ◌↔◌, ◌⊎◌, ◌<◌, ◌≤◌, ◌+◌, ◌^◌, ◌++◌, ◌∷◌, [], ℕ, true, false, None, Some, Contains, length, IsTrue, IfOk, IfErr, OnOk, OnErr, MatchOption};
+ghost use Rattle.std.specs.Prelude.{◌≡◌, ◌↔◌, ◌⊎◌, ◌<◌, ◌≤◌, ◌+◌, ◌^◌, ◌++◌, ◌∷◌, [], ℕ, true, false, None, Some, Contains, length, IsTrue, IfOk, IfErr, OnOk, OnErr, MatchOption, map};
 ghost use Rattle.q_logic.specs.Formulas.{Clause, IsIn};
 ghost use Rattle.q_logic.specs.Hinted.{begun, plain, numbers_with};
 ghost use Rattle.q_logic.specs.Limits.{AreModerate};
@@ -11,12 +11,14 @@ ghost use Rattle.q_logic.specs.Pivots.{outer, without};
 ghost use Rattle.q_logic.specs.Prefixes.{is_bound, is_existential, is_universal};
 ghost use Rattle.q_logic.specs.Reach.{Reducible};
 ghost use Rattle.q_logic.specs.Runs.{SameFormula};
-ghost use Rattle.q_logic.specs.Steps.{Within, KeepsLimits, IsAbsent, insert_after, removed_from, literals_in};
-ghost use Rattle.q_judge.specs.Tried.{IsEndRefusal};
+ghost use Rattle.q_logic.specs.Steps.{Within, KeepsLimits, IsAbsent, insert_after, removed_from, literals_in, IsWarranted, delete};
+ghost use Rattle.q_logic.specs.Hints.{Chained};
+ghost use Rattle.q_judge.specs.Tried.{IsEndRefusal, IsEntry};
 ghost use Rattle.q_check.specs.Numbers.{IsAt, AreNumbersOf, Explains, left_out, place_in, counted, HasNamed, HaveNamed};
+ghost use Rattle.q_check.specs.HintChecks.{place_at};
 
 use crate::numbers::Numbers;
-use q_judge::{CheckError, Ledger, Scope, is_absent};
+use q_judge::{CheckError, Ledger, Scope, Undo, is_absent};
 use q_logic::{Formula, Limits, Lit, NoMemory};
 use std::alloc::Global;
 use std::marker::Model;
@@ -148,6 +150,84 @@ impl NumberedBook {
             .explain(&self.joined, left_out, &mut self.found)?;
         name_all(&self.numbers, &self.found, hints)?;
         Ok(yes)
+    }
+
+    /// Whether the clause has this number.
+    pub fn is_clause(&self, number: usize, clause: &[Lit]) -> bool
+        ensures { IsTrue result ↔ (slot self.now.slots number ≡ Some clause.now) }
+    {
+        let Some(at) = self.numbers.slot_of(number) else {
+            return false;
+        };
+        match self.ledger.store().slot(at) {
+            Some(held) => are_same(held, clause),
+            None => false,
+        }
+    }
+
+    /// Whether the hints show that the literals are implied, over the clauses of all numbers but one.
+    pub fn chained(
+        &mut self,
+        lits: &[Lit],
+        skip: Option<usize>,
+        hints: &[u64],
+    ) -> Result<bool, NoMemory>
+        ensures same { self.new ≡ self.old }
+        ensures exact { IfOk result (λ yes. IsTrue yes ↔ Chained (left_out skip self.old.slots) lits.now hints.now) }
+    {
+        let none = self.ledger.store().slots();
+        place_all(&self.numbers, none, hints, &mut self.found)?;
+        let left_out = skipped_slot(&self.numbers, skip);
+        let yes = self.ledger.chain(lits, left_out, &self.found)?;
+        Ok(yes)
+    }
+
+    /// The same for the literals joined with the outer clause on m of the clause with a number.
+    pub fn chained_with(
+        &mut self,
+        number: usize,
+        base: &[Lit],
+        m: Lit,
+        skip: Option<usize>,
+        hints: &[u64],
+    ) -> Result<bool, NoMemory>
+        requires { is_bound self.old.prefix m.var ≡ true }
+        ensures same { self.new ≡ self.old }
+        ensures exact { IfOk result (λ yes. (D : Clause) → slot self.old.slots number ≡ Some D →
+            IsTrue yes ↔ Chained (left_out skip self.old.slots) (base.now ++ outer self.old.prefix m D) hints.now) }
+    {
+        let Some(at) = self.numbers.slot_of(number) else {
+            return Ok(true);
+        };
+        self.ledger.join(at, base, m, &mut self.joined)?;
+        let none = self.ledger.store().slots();
+        place_all(&self.numbers, none, hints, &mut self.found)?;
+        let left_out = skipped_slot(&self.numbers, skip);
+        let yes = self.ledger.chain(&self.joined, left_out, &self.found)?;
+        Ok(yes)
+    }
+
+    /// What a deletion of the clause with a number leaves where the undo list is kept: nothing where the clause is implied,
+    /// which is searched for.
+    pub fn deletion_entry(
+        &mut self,
+        number: usize,
+        clause: &[Lit],
+        first: Option<Lit>,
+    ) -> Result<Option<Undo>, NoMemory>
+        requires there { slot self.old.slots number ≡ Some clause.now }
+        requires warranted { IsWarranted self.old.prefix (live (left_out (Some number) self.old.slots)) clause.now first }
+        ensures same { self.new ≡ self.old }
+        ensures exact { IfOk result (IsEntry true (plain self.old) (delete first clause.now)) }
+    {
+        let Some(at) = self.numbers.slot_of(number) else {
+            return Ok(None);
+        };
+        if self.ledger.implied(clause, Some(at))? {
+            return Ok(None);
+        }
+        let entry = self.ledger.pivot_entry(at, first)?;
+        Ok(entry)
     }
 
     /// The numbers of the clauses that hold the literal, ascending, without one of them.
@@ -323,4 +403,41 @@ fn is_skipped(skip: Option<usize>, number: usize) -> bool
         Some(other) => other == number,
         None => false,
     }
+}
+
+// The slots of the numbers, and one that is not there for a number without a slot.
+fn place_all(
+    numbers: &Numbers,
+    none: usize,
+    hints: &[u64],
+    slots: &mut Vec<usize>,
+) -> Result<(), NoMemory>
+    ensures { OnOk result (slots.new.items ≡ map (place_at numbers.now none) hints.now) }
+{
+    slots.clear();
+    for hint in hints {
+        slots.push(place_of(numbers, none, *hint))?;
+    }
+    Ok(())
+}
+
+fn place_of(numbers: &Numbers, none: usize, hint: u64) -> usize
+    ensures { result ≡ place_at numbers.now none hint }
+{
+    numbers.slot_of(hint as usize).unwrap_or(none)
+}
+
+// Whether the clauses have the same literals in one order.
+fn are_same(clause: &[Lit], lits: &[Lit]) -> bool
+    ensures { IsTrue result ↔ (clause.now ≡ lits.now) }
+{
+    if clause.len() != lits.len() {
+        return false;
+    }
+    for i in 0..lits.len() {
+        if !clause[i].is(lits[i]) {
+            return false;
+        }
+    }
+    true
 }
