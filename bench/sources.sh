@@ -1,5 +1,7 @@
 #!/bin/sh
 # The hash of the sources that the program is proved and built from: of each file's name and bytes.
 cd "$(dirname "$0")/.." || exit 1
-find crates.txt crates/*/src crates/*/specs crates/*/proofs -type f -print0 2>/dev/null |
-    LC_ALL=C sort -z | xargs -0 sha256sum | sha256sum | cut -d ' ' -f 1
+{
+    printf 'crates.txt\0'
+    find crates/*/src crates/*/specs crates/*/proofs -type f \( -name '*.rt' -o -name '*.antt' \) -print0 2>/dev/null
+} | LC_ALL=C sort -z | xargs -0 sha256sum | sha256sum | cut -d ' ' -f 1

@@ -6,7 +6,7 @@ _celdrinn() {
     if [ "$COMP_CWORD" -eq 1 ]; then
         mapfile -t COMPREPLY < <(compgen -W "simplify check rebuild gen demo help --help --version" -- "$word")
     elif [ "$command" = help ]; then
-        [ "$COMP_CWORD" -eq 2 ] && mapfile -t COMPREPLY < <(compgen -W "simplify check rebuild gen demo" -- "$word")
+        [ "$COMP_CWORD" -eq 2 ] && mapfile -t COMPREPLY < <(compgen -W "simplify check rebuild gen demo causes" -- "$word")
     elif [ "$command" = gen ] || [ "$command" = demo ]; then
         # a seed and a size come first, and they are numbers
         if [ "$COMP_CWORD" -eq 4 ] || { [ "$command" = demo ] && [[ $COMP_CWORD =~ ^[56]$ ]]; }; then

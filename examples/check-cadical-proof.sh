@@ -1,6 +1,6 @@
 #!/usr/bin/env bash
 # Checks CaDiCaL's proof that a CNF is unsatisfiable, as a log from the CNF to the empty clause.
-# The CNF has to have one clause a line. Usage: examples/check-cadical-proof.sh [CNF]
+# Usage: examples/check-cadical-proof.sh [CNF]
 set -u
 here=$(cd "$(dirname "$0")" && pwd)
 celdrinn=$here/../celdrinn
@@ -19,12 +19,25 @@ case $? in
     *) echo "cadical gave no answer" && exit 1 ;;
 esac
 
+# The clauses of a CNF, one a line, however its lines are broken.
+clauses() {
+    awk '/^[ \t\r]*[cp]/ { next }
+        { for (i = 1; i <= NF; i++) {
+            token = $i; sub(/\r$/, "", token)
+            if (token == "") continue
+            if (token == "0") { print clause "0"; clause = "" } else clause = clause token " "
+        } }' "$1"
+}
+
 # The clauses that the solver deletes stay: celdrinn wants a reason for each deletion. Once the empty clause is there, it is
-# the reason for all of them, so at the end all other clauses and all variables go.
+# the reason for all of them, so at the end all other clauses and all variables go, and of empty clauses all but one.
+clauses "$in" >"$work/clauses"
+grep -v '^d' "$work/proof" >"$work/added"
 {
-    grep -v '^d' "$work/proof"
-    grep -v -h -E '^(d|p|c|0$)' "$in" "$work/proof" | sed 's/^/d /'
-    grep -v -E '^(p|c)' "$in" | tr -s ' \t-' '\n' | grep -v -E '^0?$' | sort -nu | sed 's/.*/r & 0/'
+    cat "$work/added"
+    cat "$work/clauses" "$work/added" | grep -v '^0$' | sed 's/^/d /'
+    cat "$work/clauses" "$work/added" | grep '^0$' | sed -e 1d -e 's/^/d /'
+    tr -s ' -' '\n' <"$work/clauses" | grep -v -E '^0?$' | sort -nu | sed 's/.*/r & 0/'
 } >"$work/log"
 printf 'p cnf 0 1\n0\n' >"$work/out"
 if "$celdrinn" check "$in" "$work/out" "$work/log"; then

@@ -12,13 +12,13 @@ use Rattle.q_simplify.specs.declared.report.Ending.TheVariants as ending
 use Rattle.q_simplify.specs.Results.{IsEnoughFor}
 use Rattle.q_simplify.proofs.Finishing.{leaves-whole, never-spent}
 use Rattle.q_app.specs.Statuses.{status_of_ending, status_of_simplified}
-use Rattle.q_app.specs.Says.{SinkView, IsDue}
+use Rattle.q_command.specs.Sinks.{SinkView, IsDue}
 use Rattle.q_app.specs.Simplifying.{IsWritten, IsLeft, Ends, IsEnded, SimplifiesExactly}
-use Rattle.q_app.specs.declared.status.Status.{Status}
-use Rattle.q_app.specs.declared.status.Status.TheVariants as status
+use Rattle.q_command.specs.declared.status.Status.{Status}
+use Rattle.q_command.specs.declared.status.Status.TheVariants as status
 use Rattle.q_app.specs.declared.simplified.Simplified.{Simplified}
 use Rattle.q_app.specs.declared.simplified.Simplified.TheVariants.{Written, RefusedInput, ReadFault, WriteFault, NoMemory}
-use Rattle.q_app.proofs.Exact.{one_formula, no_offence}
+use Rattle.q_command.proofs.Exact.{one_formula, no_offence}
 
 spent_is : (x : Ending) → status.Spent ≡ status_of_ending x → x ≡ ending.Spent
 spent_is ending.Settled e = cc

@@ -1,15 +1,26 @@
 -- What `rebuild` leaves, from its parts.
-use Rattle.std.proofs.Common.{◌≡◌, ◌⊎◌, inl, inr, ℕ, List, true, subst, Option, Some, None, IfSome}
+use Rattle.std.proofs.Common.{◌≡◌, ◌⊎◌, inl, inr, refl, ℕ, List, true, false, subst, Option, Some, None, IfSome}
 use Rattle.q_logic.specs.Certificates.{CertificateView}
 use Rattle.q_io.specs.Files.{Disk, bytes_at}
-use Rattle.q_app.specs.Checks.{FilesPass}
-use Rattle.q_app.specs.Rebuilds.{FiveNames, five, AreCarried, FaultsReading, IsOfCircuits, PutsPart, IsPart, Puts, Rebuilds}
-use Rattle.q_app.specs.declared.check.Checked.{Checked}
+use Rattle.q_command.specs.Checks.{FilesPass}
+use Rattle.q_command.specs.declared.audit.Keep.{Keep}
+use Rattle.q_logic.specs.Formulas.{PrenexFormula}
+use Rattle.q_io.specs.declared.error.DeviceError.{DeviceError}
+use Rattle.q_io.specs.declared.error.DeviceError.TheVariants as device
+use Rattle.q_command.specs.declared.circuits.CircuitsError.{CircuitsError}
+use Rattle.q_command.specs.declared.circuits.CircuitsError.TheVariants as unread
+use Rattle.q_command.specs.Texts.{IsNoText, LeavesCircuits, MayHoldCircuits}
+use Rattle.q_app.specs.Rebuilds.{FiveNames, five, AreCarried, CircuitsFail, FaultsReading, IsOfCircuits, IsPart, Puts, Rebuilds, failed_write, no_circuits}
+use Rattle.q_command.specs.declared.checking.Checked.{Checked}
 use Rattle.q_app.specs.declared.rebuilt.Rebuilt.{Rebuilt}
 use Rattle.q_app.specs.declared.rebuilt.Rebuilt.TheVariants.{Written, Unverified, RefusedText, MissingOutput, StrangeOutput, StrangeInput, Reads, FalseOutput, ReadFault, WriteFault, NoMemory}
 
-module _ (n : FiveNames) (before : Disk) (after : Option Disk) (c : Checked) (made : CertificateView) (p : FilesPass true (bytes_at before n.input) (bytes_at before n.output) (bytes_at before n.log) c) (m : AreCarried c (bytes_at before n.skolem) made) where
-  part : PutsPart made n.cert before after → IsPart n before after
+-- what `rebuild` has kept of the log
+abbrev undo_alone : Keep
+undo_alone = record { undo = true; steps = false }
+
+module _ (n : FiveNames) (before : Disk) (after : Option Disk) (c : Checked) (made : CertificateView) (p : FilesPass undo_alone (bytes_at before n.input) (bytes_at before n.output) (bytes_at before n.log) c) (m : AreCarried c (bytes_at before n.skolem) made) where
+  part : MayHoldCircuits made n.cert before after → IsPart n before after
   part (g, text, canonical, front) = record {
     from = c.from;
     to = c.to;
@@ -48,6 +59,26 @@ pub circuits-reading : {A B C D : Type 0} (r : Rebuilt) → IsOfCircuits r → (
 circuits-reading r h k (inl e) = inr (inr (inr (k e)))
 circuits-reading r h k (inr e) = absurd (subst IsOfCircuits e h)
 
-pub joined : (held after : Option Disk) (i o l s t : List ℕ) (c : Checked) (made : CertificateView) (r : Rebuilt) → IfSome held (λ d. FilesPass true (bytes_at d i) (bytes_at d o) (bytes_at d l) c) → IfSome held (λ d. AreCarried c (bytes_at d s) made) → IfSome held (λ d. Puts r made t d after) → IfSome held (λ d. Rebuilds r (five i o l s t) d after)
+pub joined : (held after : Option Disk) (i o l s t : List ℕ) (c : Checked) (made : CertificateView) (r : Rebuilt) → IfSome held (λ d. FilesPass undo_alone (bytes_at d i) (bytes_at d o) (bytes_at d l) c) → IfSome held (λ d. AreCarried c (bytes_at d s) made) → IfSome held (λ d. Puts r made t d after) → IfSome held (λ d. Rebuilds r (five i o l s t) d after)
 joined None after i o l s t c made r p m q = tt
 joined (Some d) after i o l s t c made r p m q = rebuilds (five i o l s t) d after c made p m r q
+
+-- why there are no circuits, as `rebuild` says it
+pub no_text-fails : (e : CircuitsError) (G : PrenexFormula) (bytes : List ℕ) → IsNoText e bytes → CircuitsFail (no_circuits e) G bytes
+no_text-fails (unread.Refused k c) G bytes h = h
+no_text-fails unread.Fault G bytes h = tt
+no_text-fails unread.NoMemory G bytes h = tt
+
+pub no_circuits-fault : (e : CircuitsError) → no_circuits e ≡ ReadFault → e ≡ unread.Fault
+no_circuits-fault (unread.Refused k c) h = cc
+no_circuits-fault unread.Fault h = refl
+no_circuits-fault unread.NoMemory h = cc
+
+-- what stands where the certificate could not be written
+pub leaves-puts : (e : DeviceError) (made : CertificateView) (name : List ℕ) (before : Disk) (after : Option Disk) → LeavesCircuits e made name before after → Puts (failed_write e) made name before after
+leaves-puts device.Failed made name before after h = h
+leaves-puts device.NoMemory made name before after h = h
+
+pub failed_write-fault : (e : DeviceError) → failed_write e ≡ WriteFault → e ≡ device.Failed
+failed_write-fault device.Failed h = refl
+failed_write-fault device.NoMemory h = cc

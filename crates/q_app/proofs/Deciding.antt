@@ -17,18 +17,18 @@ use Rattle.q_aiger.proofs.Alike.{one-meaning, offence-none}
 use Rattle.q_rebuild.proofs.Alike.{accepted-alike}
 use Rattle.q_rebuild.proofs.Allowing.{skolem-accepted}
 use Rattle.q_rebuild.proofs.Denying.{refused-not_accepted}
-use Rattle.q_app.specs.Checks.{Checks, IsFileOf, IsUnverified, IsVerified, MayCome, AnswersExactly}
+use Rattle.q_command.specs.Checks.{Checks, IsFileOf, IsUnverified, IsVerified, MayCome, AnswersExactly}
 use Rattle.q_app.specs.RebuiltLines.{status_of_rebuilt}
-use Rattle.q_app.specs.Says.{SinkView, IsDue}
-use Rattle.q_app.specs.Statuses.{status_of}
+use Rattle.q_command.specs.Sinks.{SinkView, IsDue}
+use Rattle.q_command.specs.Statuses.{status_of}
 use Rattle.q_app.specs.Rebuilds.{FiveNames, OfCircuits, IsWhole, IsPart, AreRefused, OfVerified, Rebuilds, AreNoCircuits, IsUnfit, AreFitting, AreSkolem, IsUntouched, RebuildsExactly}
-use Rattle.q_app.specs.declared.outcome.Outcome.{Outcome}
-use Rattle.q_app.specs.declared.status.Status.{Status}
-use Rattle.q_app.specs.declared.status.Status.TheVariants as status
+use Rattle.q_command.specs.declared.outcome.Outcome.{Outcome}
+use Rattle.q_command.specs.declared.status.Status.{Status}
+use Rattle.q_command.specs.declared.status.Status.TheVariants as status
 use Rattle.q_app.specs.declared.rebuilt.Rebuilt.{Rebuilt}
 use Rattle.q_app.specs.declared.rebuilt.Rebuilt.TheVariants.{Written, Unverified, RefusedText, MissingOutput, StrangeOutput, StrangeInput, Reads, FalseOutput, ReadFault, WriteFault, NoMemory}
-use Rattle.q_app.proofs.Formulas.{file-formula}
-use Rattle.q_app.proofs.Exact.{answers, one_formula, unverified-truth, unverified-not_done, unverified-not_circuits, verified-run, verified-formulas}
+use Rattle.q_command.proofs.Formulas.{file-formula}
+use Rattle.q_command.proofs.Exact.{answers, one_formula, unverified-truth, unverified-not_done, unverified-not_circuits, verified-run, verified-formulas}
 
 -- circuits of one file are such as a formula of one file may have, or none are
 fits-alike : (file : List ℕ) (skolem : List ℕ) (G H : PrenexFormula) (c d : CertificateView) → IsFileOf file G → IsFileOf file H → AreCircuits skolem c → AreCircuits skolem d → IsAccepted G c → IsAccepted H d

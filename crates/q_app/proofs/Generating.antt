@@ -6,12 +6,12 @@ use Rattle.q_dimacs.specs.Writing.{formula_text}
 use Rattle.q_gen.specs.Generated as gen
 use Rattle.q_gen.specs.Outputs.{HoldsGenerated, HoldsGeneratedPart}
 use Rattle.q_app.specs.Generating.{status_of_generated, Generates, GeneratesExactly}
-use Rattle.q_app.specs.Says.{SinkView, IsDue}
+use Rattle.q_command.specs.Sinks.{SinkView, IsDue}
 use Rattle.q_app.specs.declared.words.Scale.{Scale}
 use Rattle.q_app.specs.declared.generated.Generated.{Generated}
 use Rattle.q_app.specs.declared.generated.Generated.TheVariants.{Written, WriteFault, NoMemory}
-use Rattle.q_app.specs.declared.status.Status.{Status}
-use Rattle.q_app.specs.declared.status.Status.TheVariants as status
+use Rattle.q_command.specs.declared.status.Status.{Status}
+use Rattle.q_command.specs.declared.status.Status.TheVariants as status
 
 module _ (given : Status) (k : Scale) (name : List ℕ) (before : Disk) (after : Option Disk) where
   -- a whole text is a front of itself

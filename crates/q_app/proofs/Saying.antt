@@ -5,19 +5,21 @@ use Rattle.q_logic.specs.Counts.{Rose}
 use Rattle.q_simplify.specs.declared.report.Ending.{Ending}
 use Rattle.q_simplify.specs.declared.report.Ending.TheVariants as ending
 use Rattle.q_app.specs.Answers.{status_of_answer, line_of_answer}
-use Rattle.q_app.specs.Statuses.{status_of, status_of_ending, status_of_simplified}
+use Rattle.q_command.specs.Statuses.{status_of}
+use Rattle.q_app.specs.Statuses.{status_of_ending, status_of_simplified}
 use Rattle.q_app.specs.RebuiltLines.{status_of_rebuilt}
 use Rattle.q_app.specs.Generating.{status_of_generated}
 use Rattle.q_app.specs.Rebuilds.{FaultsReading}
 use Rattle.q_app.specs.Words.{Command}
-use Rattle.q_app.specs.Says.{SinkView, Says, IsDue, MaySay, Gives, IfReading, Devices, Runs, names_read, names_written}
+use Rattle.q_command.specs.Sinks.{SinkView, Says, IsDue}
+use Rattle.q_app.specs.Says.{MaySay, Gives, IfReading, Devices, Runs, names_read, names_written}
 use Rattle.q_app.specs.declared.answer.Answer.{Answer}
 use Rattle.q_app.specs.declared.answer.Answer.TheVariants as answer
-use Rattle.q_app.proofs.Feeding.{if_some}
-use Rattle.q_app.specs.declared.status.Status.{Status}
-use Rattle.q_app.specs.declared.status.Status.TheVariants as status
-use Rattle.q_app.specs.declared.outcome.Outcome.{Outcome}
-use Rattle.q_app.specs.declared.outcome.Outcome.TheVariants as outcome
+use Rattle.q_command.proofs.Feeding.{if_some}
+use Rattle.q_command.proofs.Outcomes.{check-usage, check-read, check-write}
+use Rattle.q_command.specs.declared.status.Status.{Status}
+use Rattle.q_command.specs.declared.status.Status.TheVariants as status
+use Rattle.q_command.specs.declared.outcome.Outcome.TheVariants as outcome
 use Rattle.q_app.specs.declared.simplified.Simplified.{Simplified}
 use Rattle.q_app.specs.declared.simplified.Simplified.TheVariants as simplified
 use Rattle.q_app.specs.declared.rebuilt.Rebuilt.{Rebuilt}
@@ -75,30 +77,6 @@ said-usage before after given same d says =
     }
 
 -- which outcomes have these statuses
-pub check-usage : (o : Outcome) → status_of o ≢ status.Usage
-check-usage (outcome.Verified n) e = cc
-check-usage (outcome.RefusedLine n c) e = cc
-check-usage (outcome.RefusedEnd c) e = cc
-check-usage (outcome.RefusedInput r n c) e = cc
-check-usage outcome.ReadFault e = cc
-check-usage outcome.NoMemory e = cc
-
-pub check-read : (o : Outcome) → status_of o ≡ status.ReadFault → o ≡ outcome.ReadFault
-check-read (outcome.Verified n) e = cc
-check-read (outcome.RefusedLine n c) e = cc
-check-read (outcome.RefusedEnd c) e = cc
-check-read (outcome.RefusedInput r n c) e = cc
-check-read outcome.ReadFault e = refl
-check-read outcome.NoMemory e = cc
-
-pub check-write : (o : Outcome) → status_of o ≢ status.WriteFault
-check-write (outcome.Verified n) e = cc
-check-write (outcome.RefusedLine n c) e = cc
-check-write (outcome.RefusedEnd c) e = cc
-check-write (outcome.RefusedInput r n c) e = cc
-check-write outcome.ReadFault e = cc
-check-write outcome.NoMemory e = cc
-
 ending-not : (x : Ending) (s : Status) → (s ≡ status.Usage) ⊎ (s ≡ status.ReadFault) ⊎ (s ≡ status.WriteFault) → status_of_ending x ≢ s
 ending-not ending.Settled s (inl h) e = cc
 ending-not ending.Settled s (inr (inl h)) e = cc

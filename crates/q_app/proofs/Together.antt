@@ -10,13 +10,13 @@ use Rattle.q_aiger.specs.Alike.{AreAlike}
 use Rattle.q_aiger.proofs.Alike.{one-meaning}
 use Rattle.q_rebuild.proofs.Alike.{skolem-alike}
 use Rattle.q_simplify.specs.declared.options.Options.{Options}
-use Rattle.q_app.specs.Checks.{IsFileOf, IsVerified, AnswersExactly}
+use Rattle.q_command.specs.Checks.{IsFileOf, IsVerified, AnswersExactly}
 use Rattle.q_app.specs.Simplifying.{IsEnded, SimplifiesExactly}
 use Rattle.q_app.specs.Rebuilds.{FiveNames, AreSkolem, IsWhole, RebuildsExactly}
 use Rattle.q_app.specs.Headline.{IsAcceptedByCheck, IsSimplified, HoldsSkolem, IsCarriedBack, Headline}
-use Rattle.q_app.specs.declared.status.Status.{Status}
-use Rattle.q_app.specs.declared.status.Status.TheVariants as status
-use Rattle.q_app.proofs.Exact.{one_formula}
+use Rattle.q_command.specs.declared.status.Status.{Status}
+use Rattle.q_command.specs.declared.status.Status.TheVariants as status
+use Rattle.q_command.proofs.Exact.{one_formula}
 use Rattle.q_app.proofs.Verifying.{AreReread, verified}
 
 accepted-by-check : (input output log : List ℕ) → IsVerified input output log → IsAcceptedByCheck input output log

@@ -1,11 +1,12 @@
 -- Commands in turn.
 use Rattle.std.proofs.Common.{◌≡◌, ◌∙◌, inl, inr, refl, sym, true, false, List, [], ◌∷◌, Some, None, subst}
-use Rattle.q_app.specs.Statuses.{passes}
+use Rattle.q_command.specs.Statuses.{passes}
 use Rattle.q_simplify.specs.declared.options.Options.{Options}
-use Rattle.q_app.specs.Words.{Command, ThreeNames, simplifying}
+use Rattle.q_command.specs.Names.{ThreeNames}
+use Rattle.q_app.specs.Words.{Command, simplifying}
 use Rattle.q_app.specs.Says.{Devices, Runs, InTurn}
-use Rattle.q_app.specs.declared.status.Status.{Status}
-use Rattle.q_app.specs.declared.status.Status.TheVariants as status
+use Rattle.q_command.specs.declared.status.Status.{Status}
+use Rattle.q_command.specs.declared.status.Status.TheVariants as status
 
 pub stops : (c d : Command) (cs : List Command) (before between : Devices) (given : Status) → Runs (Some c) before given between → passes given ≡ false → InTurn (c ∷ d ∷ cs) before given between
 stops c d cs before between given r p = (given, between, r, inr (p, refl, refl))

@@ -12,8 +12,8 @@ use Rattle.q_log.specs.Texts.{IsLogged, on_lines, steps_text}
 use Rattle.q_simplify.specs.declared.options.Options.{Options}
 use Rattle.q_simplify.specs.declared.report.Report.{Report}
 use Rattle.q_simplify.specs.Results.{Simplifies}
-use Rattle.q_app.specs.Logs.{steps_of}
-use Rattle.q_app.specs.Checks.{IsFileOf, IsVerified}
+use Rattle.q_command.specs.Logs.{steps_of}
+use Rattle.q_command.specs.Checks.{IsFileOf, IsVerified}
 
 steps_of-on_lines : (n : ℕ) (ss : List ProofStep) → steps_of (on_lines n ss) ≡ ss
 steps_of-on_lines n [] = refl

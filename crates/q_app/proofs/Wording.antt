@@ -10,7 +10,9 @@ use Rattle.q_kernel.specs.Taking.{AreModest}
 use Rattle.q_app.specs.declared.settings.Setting.{Setting}
 use Rattle.q_app.specs.declared.settings.Setting.TheVariants as setting
 use Rattle.q_app.specs.declared.settings.Settings.{Settings}
-use Rattle.q_app.specs.Words.{Request, ThreeNames, three, are_different, up_to, number_of, behind, set, setting_by, setting_of, with_setting, with_word, with_words, nothing_set, options_of, three_names, just_three, scale_of, scale_by, generate_to, generate_of, demo_by, demo_of}
+use Rattle.q_command.specs.Names.{ThreeNames, three}
+use Rattle.q_app.specs.Words.{Request, up_to, number_of, behind, set, setting_by, setting_of, with_setting, with_word, with_words, nothing_set, options_of, scale_of, scale_by, generate_to, generate_of, demo_by, demo_of}
+use Rattle.q_app.specs.Operands.{DifferFour, are_different, fourth, is_fourth, just_three, three_names, two_names}
 use Rattle.q_app.specs.Commands.{by_verb, request}
 
 pub none-stays : (ws : List (List ℕ)) → None ≡ with_words None ws
@@ -199,3 +201,53 @@ last_not false false false e f = cc
 -- names that differ are not equal
 pub differ : (i o l : List ℕ) → are_different i o l ≡ true → o ≡ l → ⊥
 differ i o l h e = last_not (bytes_eq i o) (bytes_eq i l) (bytes_eq o l) ((bytes_eq-Decides o l).1 e) h
+
+-- two names, and what stands behind them
+pub few_for_two : (ws : List (List ℕ)) → length ws < 2 → None ≡ two_names ws
+unfolding two_names
+few_for_two [] h = refl
+few_for_two (a ∷ []) h = refl
+few_for_two (a ∷ b ∷ ws) h = absurd (omega arith)
+
+pub two-same : (a b : List ℕ) (ws : List (List ℕ)) → bytes_eq a b ≡ true → None ≡ two_names (a ∷ b ∷ ws)
+unfolding two_names
+two-same a b ws e = rw e refl
+
+pub two-other : (a b : List ℕ) (ws : List (List ℕ)) → bytes_eq a b ≡ false → Some (a, b, ws) ≡ two_names (a ∷ b ∷ ws)
+unfolding two_names
+two-other a b ws e = rw e refl
+
+-- a fourth name behind three
+pub fourth-none : None ≡ fourth None
+unfolding fourth
+fourth-none = refl
+
+pub fourth-few : (n : ThreeNames) (ws : List (List ℕ)) → length ws < 1 → None ≡ fourth (Some (n, ws))
+unfolding fourth
+fourth-few n [] h = refl
+fourth-few n (w ∷ ws) h = absurd (omega arith)
+
+pub fourth-same : (n : ThreeNames) (w : List ℕ) (ws : List (List ℕ)) → is_fourth n w ≡ false → None ≡ fourth (Some (n, w ∷ ws))
+unfolding fourth
+fourth-same n w ws e = rw e refl
+
+pub fourth-other : (n : ThreeNames) (w : List ℕ) (ws : List (List ℕ)) → is_fourth n w ≡ true → Some (n, w, ws) ≡ fourth (Some (n, w ∷ ws))
+unfolding fourth
+fourth-other n w ws e = rw e refl
+
+first_not : (a b c : Bool) → a ≡ true → not a && not b && not c ≡ true → ⊥
+first_not true b c e f = cc
+first_not false b c e f = cc
+
+second_not : (a b c : Bool) → b ≡ true → not a && not b && not c ≡ true → ⊥
+second_not true b c e f = cc
+second_not false true c e f = cc
+second_not false false c e f = cc
+
+pub differ-four : (n : ThreeNames) (w : List ℕ) → n.output ≢ n.log → is_fourth n w ≡ true → DifferFour n w
+differ-four n w h e = record {
+  output_log = h;
+  input_last = λ x. first_not (bytes_eq n.input w) (bytes_eq n.output w) (bytes_eq n.log w) ((bytes_eq-Decides n.input w).1 x) e;
+  output_last = λ x. second_not (bytes_eq n.input w) (bytes_eq n.output w) (bytes_eq n.log w) ((bytes_eq-Decides n.output w).1 x) e;
+  log_last = λ x. last_not (bytes_eq n.input w) (bytes_eq n.output w) (bytes_eq n.log w) ((bytes_eq-Decides n.log w).1 x) e;
+}

@@ -1,13 +1,15 @@
 -- The line and the status of each command's answer.
 use Rattle.std.specs.Prelude.{ℕ, List, codes}
-use Rattle.q_app.specs.Statuses.{status_of, status_of_simplified}
-use Rattle.q_app.specs.Lines.{line_of, line_of_simplified}
+use Rattle.q_command.specs.Statuses.{status_of}
+use Rattle.q_command.specs.Lines.{line_of}
+use Rattle.q_app.specs.Statuses.{status_of_simplified}
+use Rattle.q_app.specs.Lines.{line_of_simplified}
 use Rattle.q_app.specs.RebuiltLines.{status_of_rebuilt, line_of_rebuilt}
 use Rattle.q_app.specs.Generating.{status_of_generated, line_of_generated}
 use Rattle.q_app.specs.declared.answer.Answer.{Answer}
 use Rattle.q_app.specs.declared.answer.Answer.TheVariants.{Usage, Check, Simplify, Rebuild, Generate}
-use Rattle.q_app.specs.declared.status.Status.{Status}
-use Rattle.q_app.specs.declared.status.Status.TheVariants as status
+use Rattle.q_command.specs.declared.status.Status.{Status}
+use Rattle.q_command.specs.declared.status.Status.TheVariants as status
 
 -- the status of an answer whose line was put
 abbrev pub status_of_answer : Answer → Status

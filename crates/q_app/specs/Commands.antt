@@ -3,11 +3,12 @@ use Rattle.std.specs.Prelude.{◌≢◌, ◌≤◌, ℕ, cond, List, [], ◌∷�
 use Rattle.std.specs.Str.{bytes_eq}
 use Rattle.q_logic.specs.declared.rule_bounds.Bounds.{Bounds}
 use Rattle.q_kernel.specs.Taking.{AreModest}
+use Rattle.q_command.specs.Names.{three_of}
 use Rattle.q_app.specs.Rebuilds.{FiveNames, five}
-use Rattle.q_app.specs.Words.{ThreeNames, three, Command, checking, simplifying, rebuilding, generating, Request, three_names, just_three, check_of, simplify_of, rebuild_of, generate_of, demo, demo_of, nothing_set, options_of}
+use Rattle.q_app.specs.Words.{Command, checking, simplifying, rebuilding, generating, Request, check_of, simplify_of, rebuild_of, generate_of, demo, demo_of, nothing_set, options_of}
+use Rattle.q_app.specs.Operands.{just_three, three_names}
 use Rattle.q_app.specs.RebuildWords.{rebuild_names}
 use Rattle.q_app.specs.declared.rebuild_words.RebuildNames.{RebuildNames}
-use Rattle.q_app.specs.declared.words.Names.{Names}
 use Rattle.q_app.specs.declared.words.Command.{Command as Parsed}
 use Rattle.q_app.specs.declared.words.Command.TheVariants.{Check, Simplify, Rebuild, Generate, Demo}
 
@@ -23,9 +24,6 @@ by_verb verb operands =
 unfoldable pub request : List (List ℕ) → Request
 request [] = None
 request (verb ∷ operands) = by_verb verb operands
-
-abbrev pub three_of : Names → ThreeNames
-three_of n = three n.input.now n.output.now n.log.now
 
 abbrev pub five_of : RebuildNames → FiveNames
 five_of n = five n.input.now n.output.now n.log.now n.skolem.now n.cert.now

@@ -5,8 +5,8 @@ use Rattle.q_gen.specs.Outputs.{HoldsGenerated, HoldsGeneratedPart}
 use Rattle.q_app.specs.declared.words.Scale.{Scale}
 use Rattle.q_app.specs.declared.generated.Generated.{Generated}
 use Rattle.q_app.specs.declared.generated.Generated.TheVariants.{Written, WriteFault, NoMemory}
-use Rattle.q_app.specs.declared.status.Status.{Status}
-use Rattle.q_app.specs.declared.status.Status.TheVariants as status
+use Rattle.q_command.specs.declared.status.Status.{Status}
+use Rattle.q_command.specs.declared.status.Status.TheVariants as status
 
 abbrev pub status_of_generated : Generated → Status
 status_of_generated (Written n) = status.Done

@@ -10,11 +10,11 @@ use Rattle.q_logic.specs.Skolems.{SkolemOf}
 use Rattle.q_io.specs.Files.{Disk, bytes_at}
 use Rattle.q_aiger.specs.Writing.{IsCanonical}
 use Rattle.q_simplify.specs.declared.options.Options.{Options}
-use Rattle.q_app.specs.Checks.{IsFileOf, HaveOneTruth, MayCome, AnswersExactly}
+use Rattle.q_command.specs.Checks.{IsFileOf, HaveOneTruth, MayCome, AnswersExactly}
 use Rattle.q_app.specs.Simplifying.{IsEnded, SimplifiesExactly}
 use Rattle.q_app.specs.Rebuilds.{FiveNames, AreSkolem, RebuildsExactly}
-use Rattle.q_app.specs.declared.status.Status.{Status}
-use Rattle.q_app.specs.declared.status.Status.TheVariants as status
+use Rattle.q_command.specs.declared.status.Status.{Status}
+use Rattle.q_command.specs.declared.status.Status.TheVariants as status
 
 -- `check` says of these bytes that the log is verified, if no fault and no want of memory comes
 abbrev pub IsAcceptedByCheck : List ℕ → List ℕ → List ℕ → Type 0

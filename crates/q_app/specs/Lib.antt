@@ -1,11 +1,7 @@
 pub mod Statuses
 pub mod Lines
 pub mod Words
-pub mod Inputs
-pub mod Logs
 pub mod Refusals
-pub mod Audits
-pub mod Checks
 pub mod Simplifying
 pub mod RebuiltLines
 pub mod Rebuilds

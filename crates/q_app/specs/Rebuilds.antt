@@ -1,5 +1,5 @@
 -- What `rebuild` says and leaves, over the files before and after.
-use Rattle.std.specs.Prelude.{◌≡◌, ◌≢◌, ◌⊎◌, ◌<◌, ◌≤◌, ℕ, List, ◌++◌, length, take, drop, Option, Some, true, slice_index}
+use Rattle.std.specs.Prelude.{◌≡◌, ◌≢◌, ◌⊎◌, ℕ, List, Option, Some, true}
 use Rattle.q_logic.specs.Formulas.{PrenexFormula}
 use Rattle.q_logic.specs.Certificates.{CertificateView, trees_of}
 use Rattle.q_logic.specs.Skolems.{SkolemOf}
@@ -12,15 +12,16 @@ use Rattle.q_rebuild.specs.Rebuilt.{IsRebuilt}
 use Rattle.q_rebuild.specs.Refusals.{IsRefused, IsAccepted}
 use Rattle.q_io.specs.declared.error.DeviceError.{DeviceError}
 use Rattle.q_io.specs.declared.error.DeviceError.TheVariants as device
-use Rattle.q_aiger.specs.declared.error.AigerError.{AigerError}
-use Rattle.q_aiger.specs.declared.error.AigerError.TheVariants as aiger
+use Rattle.q_command.specs.declared.circuits.CircuitsError.{CircuitsError}
+use Rattle.q_command.specs.declared.circuits.CircuitsError.TheVariants as unread
+use Rattle.q_command.specs.Texts.{HoldsCircuits, MayHoldCircuits}
 use Rattle.q_rebuild.specs.declared.error.RebuildError.{RebuildError}
 use Rattle.q_rebuild.specs.declared.error.RebuildError.TheVariants as refusal
-use Rattle.q_app.specs.Checks.{Checks, IsFileOf, IsNoFormula, IsNoRun, IsUnverified, IsVerified, LogPasses, Exactly, MayCome}
-use Rattle.q_app.specs.declared.check.Checked.{Checked}
-use Rattle.q_app.specs.declared.outcome.Outcome.TheVariants as outcome
-use Rattle.q_app.specs.declared.status.Status.{Status}
-use Rattle.q_app.specs.declared.status.Status.TheVariants as status
+use Rattle.q_command.specs.Checks.{Checks, IsFileOf, IsNoFormula, IsNoRun, IsUnverified, IsVerified, LogPasses, Exactly, MayCome}
+use Rattle.q_command.specs.declared.checking.Checked.{Checked}
+use Rattle.q_command.specs.declared.outcome.Outcome.TheVariants as outcome
+use Rattle.q_command.specs.declared.status.Status.{Status}
+use Rattle.q_command.specs.declared.status.Status.TheVariants as status
 use Rattle.q_app.specs.declared.rebuilt.Rebuilt.{Rebuilt}
 use Rattle.q_app.specs.declared.rebuilt.Rebuilt.TheVariants.{Written, Unverified, RefusedText, MissingOutput, StrangeOutput, StrangeInput, Reads, FalseOutput, ReadFault, WriteFault, NoMemory}
 
@@ -94,48 +95,6 @@ five i o l s c = record { input = i; output = o; log = l; skolem = s; cert = c }
 abbrev pub FaultsReading : Rebuilt → Type 0
 FaultsReading r = (r ≡ ReadFault) ⊎ (r ≡ Unverified outcome.ReadFault)
 
--- the front of a file that was read
-pub record IsFront (file : List ℕ) (place : ℕ) (text : List ℕ) : Type 0 where
-  pub is : text ≡ take place file
-  pub within : place ≤ length file
-
--- some line ends in the text
-pub record HasLineEnd (text : List ℕ) : Type 0 where
-  pub place : ℕ
-  pub within : place < length text
-  pub lf : slice_index text place ≡ 10
-
--- a front of a file, longer than any file may be, in which the first line ends
-pub record IsLongFront (file text : List ℕ) : Type 0 where
-  pub rest : List ℕ
-  pub is : file ≡ text ++ rest
-  pub long : 1099511627776 < length text
-  pub end : HasLineEnd text
-
--- the bytes of a file, or so many of them that the others do not matter
-abbrev pub IsTextOf : List ℕ → List ℕ → Type 0
-IsTextOf file text = (text ≡ file) ⊎ IsLongFront file text
-
--- n bytes of the file were put behind the text
-pub record HasAppended (file : List ℕ) (place n : ℕ) (old new : List ℕ) : Type 0 where
-  pub is : new ≡ old ++ take n (drop place file)
-  pub within : n ≤ length (drop place file)
-  pub end : n ≡ 0 → length file ≤ place
-
--- why a file gives no circuits
-abbrev pub TextFails : Rebuilt → List ℕ → Type 0
-TextFails (Written g) bytes = ⊥
-TextFails (Unverified o) bytes = ⊥
-TextFails (RefusedText k c) bytes = Offence bytes k c
-TextFails (MissingOutput v) bytes = ⊥
-TextFails (StrangeOutput v) bytes = ⊥
-TextFails (StrangeInput v) bytes = ⊥
-TextFails (Reads v u) bytes = ⊥
-TextFails FalseOutput bytes = ⊥
-TextFails ReadFault bytes = Unit {0}
-TextFails WriteFault bytes = ⊥
-TextFails NoMemory bytes = Unit {0}
-
 -- an outcome of reading circuits or of carrying them back
 abbrev pub IsOfCircuits : Rebuilt → Type 0
 IsOfCircuits (Written g) = ⊥
@@ -168,9 +127,10 @@ CircuitsFail ReadFault G bytes = Unit {0}
 CircuitsFail WriteFault G bytes = ⊥
 CircuitsFail NoMemory G bytes = Unit {0}
 
-abbrev pub refused_text : AigerError → Rebuilt
-refused_text (aiger.Refused k c) = RefusedText k c
-refused_text aiger.NoMemory = NoMemory
+abbrev pub no_circuits : CircuitsError → Rebuilt
+no_circuits (unread.Refused k c) = RefusedText k c
+no_circuits unread.Fault = ReadFault
+no_circuits unread.NoMemory = NoMemory
 
 abbrev pub refused_circuits : RebuildError → Rebuilt
 refused_circuits (refusal.MissingOutput v) = MissingOutput v
@@ -179,10 +139,6 @@ refused_circuits (refusal.StrangeInput v) = StrangeInput v
 refused_circuits (refusal.Reads v u) = Reads v u
 refused_circuits refusal.FalseOutput = FalseOutput
 refused_circuits refusal.NoMemory = NoMemory
-
-abbrev pub failed_read : DeviceError → Rebuilt
-failed_read device.Failed = ReadFault
-failed_read device.NoMemory = NoMemory
 
 abbrev pub failed_write : DeviceError → Rebuilt
 failed_write device.Failed = WriteFault
@@ -193,14 +149,9 @@ abbrev pub AreCarried : Checked → List ℕ → CertificateView → Type 0
 AreCarried k bytes made =
     (given : CertificateView) × AreCircuits bytes given × IsAccepted k.to given × IsRebuilt k.from k.to k.undo given made
 
--- a front of the text of the certificate, or what was there
-abbrev pub PutsPart : CertificateView → List ℕ → Disk → Option Disk → Type 0
-PutsPart made name before after =
-    (gates : ℕ) × (text : List ℕ) × IsCanonical made gates text × MayHoldFront name text before after
-
 -- what writing the certificate leaves
 abbrev pub Puts : Rebuilt → CertificateView → List ℕ → Disk → Option Disk → Type 0
-Puts (Written g) made name before after = (text : List ℕ) × IsCanonical made g text × HoldsBytes name text before after
+Puts (Written g) made name before after = HoldsCircuits made g name before after
 Puts (Unverified o) made name before after = ⊥
 Puts (RefusedText k c) made name before after = ⊥
 Puts (MissingOutput v) made name before after = ⊥
@@ -209,8 +160,8 @@ Puts (StrangeInput v) made name before after = ⊥
 Puts (Reads v u) made name before after = ⊥
 Puts FalseOutput made name before after = ⊥
 Puts ReadFault made name before after = ⊥
-Puts WriteFault made name before after = PutsPart made name before after
-Puts NoMemory made name before after = (after ≡ Some before) ⊎ PutsPart made name before after
+Puts WriteFault made name before after = MayHoldCircuits made name before after
+Puts NoMemory made name before after = (after ≡ Some before) ⊎ MayHoldCircuits made name before after
 
 -- the log is verified, SKOLEM holds circuits, and of the formula of OUT and of these circuits this is true
 pub record OfVerified (n : FiveNames) (disk : Disk) (P : PrenexFormula → CertificateView → Type 0) : Type 0 where

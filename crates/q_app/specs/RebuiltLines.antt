@@ -2,10 +2,10 @@
 use Rattle.std.specs.Prelude.{ℕ, List, ◌++◌, codes, decimal}
 use Rattle.q_app.specs.declared.rebuilt.Rebuilt.{Rebuilt}
 use Rattle.q_app.specs.declared.rebuilt.Rebuilt.TheVariants.{Written, Unverified, RefusedText, MissingOutput, StrangeOutput, StrangeInput, Reads, FalseOutput, ReadFault, WriteFault, NoMemory}
-use Rattle.q_app.specs.declared.status.Status.{Status}
-use Rattle.q_app.specs.declared.status.Status.TheVariants as status
-use Rattle.q_app.specs.Statuses.{status_of}
-use Rattle.q_app.specs.Lines.{line_of}
+use Rattle.q_command.specs.declared.status.Status.{Status}
+use Rattle.q_command.specs.declared.status.Status.TheVariants as status
+use Rattle.q_command.specs.Statuses.{status_of}
+use Rattle.q_command.specs.Lines.{line_of}
 
 abbrev pub status_of_rebuilt : Rebuilt → Status
 status_of_rebuilt (Written n) = status.Done

@@ -8,10 +8,10 @@ use Rattle.q_dimacs.specs.Offences.{Offence}
 use Rattle.q_simplify.specs.declared.options.Options.{Options}
 use Rattle.q_simplify.specs.declared.report.Report.{Report}
 use Rattle.q_simplify.specs.Results.{IsEnoughFor, Simplifies, Leaves}
-use Rattle.q_app.specs.Checks.{IsFileOf, IsNoFormula, Exactly, MayCome}
+use Rattle.q_command.specs.Checks.{IsFileOf, IsNoFormula, Exactly, MayCome}
 use Rattle.q_app.specs.Statuses.{status_of_ending}
-use Rattle.q_app.specs.declared.status.Status.{Status}
-use Rattle.q_app.specs.declared.status.Status.TheVariants as status
+use Rattle.q_command.specs.declared.status.Status.{Status}
+use Rattle.q_command.specs.declared.status.Status.TheVariants as status
 use Rattle.q_app.specs.declared.simplified.Simplified.{Simplified}
 use Rattle.q_app.specs.declared.simplified.Simplified.TheVariants.{Written, RefusedInput, ReadFault, WriteFault, NoMemory}
 

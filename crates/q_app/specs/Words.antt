@@ -1,19 +1,14 @@
 -- The words of the command line.
-use Rattle.std.specs.Prelude.{ℕ, Bool, not, ◌&&◌, ◌==◌, ◌^◌, ◌-◌, nat_le, cond, if◌then◌else◌, is_some, unwrap_or, List, [], ◌∷◌, Option, Some, None, codes}
-use Rattle.std.specs.Str.{bytes_eq}
+use Rattle.std.specs.Prelude.{ℕ, ◌||◌, ◌==◌, ◌^◌, ◌-◌, nat_le, if◌then◌else◌, is_some, unwrap_or, List, [], ◌∷◌, Option, Some, None, codes}
 use Rattle.q_text.specs.Words.{digits}
 use Rattle.q_simplify.specs.declared.options.Options.{Options}
+use Rattle.q_command.specs.Names.{ThreeNames}
+use Rattle.q_app.specs.Operands.{just_three, three_names}
 use Rattle.q_app.specs.Rebuilds.{FiveNames}
 use Rattle.q_app.specs.declared.words.Scale.{Scale}
 use Rattle.q_app.specs.declared.settings.Setting.{Setting}
 use Rattle.q_app.specs.declared.settings.Setting.TheVariants as setting
 use Rattle.q_app.specs.declared.settings.Settings.{Settings}
-
--- the names of IN, OUT and LOG
-pub record ThreeNames : Type 0 where
-  pub input : List ℕ
-  pub output : List ℕ
-  pub log : List ℕ
 
 -- one thing to be done, with the names of the files
 pub data Command : Type 0 where
@@ -28,9 +23,6 @@ Request = Option (List Command)
 
 abbrev pub alone : Command → Request
 alone c = Some (c ∷ [])
-
-abbrev pub are_different : List ℕ → List ℕ → List ℕ → Bool
-are_different a b c = not (bytes_eq a b) && not (bytes_eq a c) && not (bytes_eq b c)
 
 -- a number of one or more digits, which is at most so much
 abbrev pub up_to : ℕ → Option ℕ → Option ℕ
@@ -86,21 +78,14 @@ abbrev pub options_of : Settings → Options
 options_of s =
     record { bounds = record { grow = unwrap_or s.grow 0; expand = unwrap_or s.expand 16 }; budget = s.budget }
 
-abbrev pub three : List ℕ → List ℕ → List ℕ → ThreeNames
-three i o l = record { input = i; output = o; log = l }
+-- the budget, where nothing else is set
+abbrev pub only_budget : Option Settings → Option (Option ℕ)
+only_budget None = None
+only_budget (Some s) = if is_some s.grow || is_some s.expand then None else Some s.budget
 
--- the names of three files that the operands begin with, where they differ, and the words behind them
-unfoldable pub three_names : List (List ℕ) → Option (ThreeNames × List (List ℕ))
-three_names [] = None
-three_names (i ∷ []) = None
-three_names (i ∷ o ∷ []) = None
-three_names (i ∷ o ∷ l ∷ rest) = cond (are_different i o l) (Some (three i o l, rest)) None
-
--- the three names, where no word stands behind them
-abbrev pub just_three : Option (ThreeNames × List (List ℕ)) → Option ThreeNames
-just_three None = None
-just_three (Some (n, [])) = Some n
-just_three (Some (n, word ∷ words)) = None
+-- the budget that words set, which set nothing else
+abbrev pub budget_in : List (List ℕ) → Option (Option ℕ)
+budget_in words = only_budget (with_words (Some nothing_set) words)
 
 -- `check IN OUT LOG`
 abbrev pub check_of : Option ThreeNames → Request

@@ -1,8 +1,9 @@
 ghost use Rattle.std.specs.Prelude.{◌≡◌};
+ghost use Rattle.q_command.specs.Sinks.{IsSaid, view_sink};
 ghost use Rattle.q_app.specs.Generating.{line_of_generated, status_of_generated};
 
-use crate::line::{Line, number_line, words_line};
-use crate::status::Status;
+use q_command::{Line, Status, number_line, put, words_line};
+use q_io::Sink;
 
 /// What there is to say at the end of `gen`.
 #[derive(Clone, Copy, Debug, PartialEq, Eq)]
@@ -24,7 +25,7 @@ impl Generated {
         }
     }
 
-    pub(crate) fn line(&self) -> Line
+    fn line(&self) -> Line
         ensures { result.bytes ≡ line_of_generated self.now }
     {
         match *self {
@@ -32,5 +33,13 @@ impl Generated {
             Generated::WriteFault => words_line("write fault\n"),
             Generated::NoMemory => words_line("no memory\n"),
         }
+    }
+
+    /// Puts the line of the outcome.
+    pub(crate) fn say<S: Sink>(&self, out: &mut S) -> Status
+        ensures { IsSaid (line_of_generated self.now) (status_of_generated self.now) result
+            (view_sink S.written S.faults S.wants out.old) (view_sink S.written S.faults S.wants out.new) }
+    {
+        put(out, self.status(), self.line().as_str().as_bytes())
     }
 }

@@ -5,7 +5,7 @@ ghost use Rattle.q_io.specs.Files.{Disk, bytes_at};
 ghost use Rattle.q_simplify.specs.declared.options.Options.{Options};
 ghost use Rattle.q_simplify.specs.declared.report.Report.{Report};
 ghost use Rattle.q_simplify.specs.Results.{Simplifies};
-ghost use Rattle.q_app.specs.Checks.{IsFileOf, IsVerified};
+ghost use Rattle.q_command.specs.Checks.{IsFileOf, IsVerified};
 ghost use Rattle.q_app.specs.Headline.{Headline};
 
 use q_log::texts_are_read;

@@ -3,29 +3,26 @@
 ghost use Rattle.std.specs.Prelude.{◌≡◌, IfOk, IfErr, IfSome, IsErrOf, true, [], ◌∷◌};
 ghost use Rattle.q_logic.specs.Formulas.{PrenexFormula};
 ghost use Rattle.q_io.specs.Files.{OnlyReads, RoseAmong, RoseFor, bytes_at};
-ghost use Rattle.q_aiger.specs.Circuits.{AreCircuits};
-ghost use Rattle.q_app.specs.Checks.{LeadsBack};
+ghost use Rattle.q_command.specs.Checks.{LeadsBack};
 ghost use Rattle.q_app.specs.Commands.{five_of};
-ghost use Rattle.q_app.specs.Rebuilds.{AreCarried, CircuitsFail, FaultsReading, IsOfCircuits, Puts, Rebuilds, TextFails, failed_read, failed_write as write_failed, refused_circuits as circuits_refused, refused_text as text_refused};
+ghost use Rattle.q_app.specs.Rebuilds.{AreCarried, CircuitsFail, FaultsReading, IsOfCircuits, Puts, Rebuilds, failed_write as write_failed, no_circuits, refused_circuits as circuits_refused};
 
-use crate::check::{Checked, verify};
 use crate::rebuild_words::RebuildNames;
 use crate::rebuilt::Rebuilt;
-use crate::whole_file::read_whole;
-use crate::words::Names;
 use q_aig::Certificate;
-use q_aiger::{AigerError, read, write};
-use q_io::{DeviceError, Files, write_whole};
+use q_command::{Checked, CircuitsError, Keep, Names, read_circuits, verify, write_circuits};
+use q_io::{DeviceError, Files};
 use q_rebuild::{RebuildError, rebuild};
 use std::alloc::Global;
 
-fn refused_text(error: AigerError) -> Rebuilt
-    ensures is { result ≡ text_refused error }
+fn unread(error: CircuitsError) -> Rebuilt
+    ensures is { result ≡ no_circuits error }
     ensures of_circuits { IsOfCircuits result }
 {
     match error {
-        AigerError::Refused { line, cause } => Rebuilt::RefusedText { line, cause },
-        AigerError::NoMemory => Rebuilt::NoMemory,
+        CircuitsError::Refused { line, cause } => Rebuilt::RefusedText { line, cause },
+        CircuitsError::Fault => Rebuilt::ReadFault,
+        CircuitsError::NoMemory => Rebuilt::NoMemory,
     }
 }
 
@@ -43,16 +40,6 @@ fn refused_circuits(error: RebuildError) -> Rebuilt
     }
 }
 
-fn unread(error: DeviceError) -> Rebuilt
-    ensures is { result ≡ failed_read error }
-    ensures of_circuits { IsOfCircuits result }
-{
-    match error {
-        DeviceError::Failed => Rebuilt::ReadFault,
-        DeviceError::NoMemory => Rebuilt::NoMemory,
-    }
-}
-
 fn unwritten(error: DeviceError) -> Rebuilt
     ensures is { result ≡ write_failed error }
     ensures writing { FaultsReading result → ⊥ }
@@ -60,26 +47,6 @@ fn unwritten(error: DeviceError) -> Rebuilt
     match error {
         DeviceError::Failed => Rebuilt::WriteFault,
         DeviceError::NoMemory => Rebuilt::NoMemory,
-    }
-}
-
-// The circuits of a file.
-fn read_circuits<F: Files>(alloc: Global, files: &mut F, name: &str) -> Result<Certificate, Rebuilt>
-    ensures circuits { IfOk result (λ given. IfSome (F.held files.old)
-        (λ disk. AreCircuits (bytes_at disk name.now) given)) }
-    ensures refused { IfErr result (λ o. IfSome (F.held files.old)
-        (λ disk. TextFails o (bytes_at disk name.now))) }
-    ensures of_circuits { IfErr result IsOfCircuits }
-    ensures fault { IsErrOf result Rebuilt.ReadFault → RoseFor F.read_faults name.now files.old files.new }
-    ensures only_reads { OnlyReads F.held F.read_faults F.write_faults files.old files.new }
-{
-    let text = match read_whole(alloc, files, name) {
-        Ok(text) => text,
-        Err(error) => return Err(unread(error)),
-    };
-    match read(alloc, &text) {
-        Ok(given) => Ok(given),
-        Err(error) => Err(refused_text(error)),
     }
 }
 
@@ -101,7 +68,7 @@ fn carry_back<F: Files>(
 {
     let mut given = match read_circuits(alloc, files, skolem) {
         Ok(given) => given,
-        Err(outcome) => return Err(outcome),
+        Err(error) => return Err(unread(error)),
     };
     match rebuild(alloc, &checked.from, &checked.to, &checked.undo, &mut given) {
         Ok(made) => Ok(made),
@@ -110,19 +77,19 @@ fn carry_back<F: Files>(
 }
 
 // Creates CERT with the text of the circuits.
-fn write_circuits<F: Files>(alloc: Global, files: &mut F, cert: &str, made: &Certificate) -> Rebuilt
+fn write_certificate<F: Files>(
+    alloc: Global,
+    files: &mut F,
+    cert: &str,
+    made: &Certificate,
+) -> Rebuilt
     ensures puts { IfSome (F.held files.old)
         (λ disk. Puts result made.now cert.now disk (F.held files.new)) }
     ensures writing { FaultsReading result → ⊥ }
     ensures cause { result ≡ Rebuilt.WriteFault → RoseFor F.write_faults cert.now files.old files.new }
 {
-    let mut text = Vec::new(alloc);
-    let gates = match write(made, &mut text) {
-        Ok(gates) => gates,
-        Err(_) => return Rebuilt::NoMemory,
-    };
-    match write_whole(files, cert, &text) {
-        Ok(()) => Rebuilt::Written { gates },
+    match write_circuits(alloc, files, cert, made) {
+        Ok(gates) => Rebuilt::Written { gates },
         Err(error) => unwritten(error),
     }
 }
@@ -140,12 +107,16 @@ pub(crate) fn rebuild_files<F: Files>(alloc: Global, files: &mut F, names: Rebui
         output: names.output,
         log: names.log,
     };
-    let checked = match verify(alloc, files, three, true) {
+    let keep = Keep {
+        undo: true,
+        steps: false,
+    };
+    let checked = match verify(alloc, files, three, keep) {
         Ok(checked) => checked,
         Err(why) => return Rebuilt::Unverified { why },
     };
     match carry_back(alloc, files, names.skolem, &checked) {
-        Ok(made) => write_circuits(alloc, files, names.cert, &made),
+        Ok(made) => write_certificate(alloc, files, names.cert, &made),
         Err(outcome) => outcome,
     }
 }

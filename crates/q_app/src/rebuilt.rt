@@ -1,9 +1,9 @@
 ghost use Rattle.std.specs.Prelude.{◌≡◌};
+ghost use Rattle.q_command.specs.Sinks.{IsSaid, view_sink};
 ghost use Rattle.q_app.specs.RebuiltLines.{line_of_rebuilt, status_of_rebuilt};
 
-use crate::line::{Line, number_line, numbers_line, words_line};
-use crate::outcome::{Outcome, place};
-use crate::status::Status;
+use q_command::{Line, Outcome, Status, number_line, numbers_line, place, put, words_line};
+use q_io::Sink;
 
 /// What there is to say at the end of `rebuild`.
 #[derive(Clone, Copy, Debug, PartialEq, Eq)]
@@ -43,7 +43,7 @@ impl Rebuilt {
         }
     }
 
-    pub(crate) fn line(&self) -> Line
+    fn line(&self) -> Line
         ensures { result.bytes ≡ line_of_rebuilt self.now }
     {
         match *self {
@@ -66,5 +66,13 @@ impl Rebuilt {
             Rebuilt::WriteFault => words_line("write fault\n"),
             Rebuilt::NoMemory => words_line("no memory\n"),
         }
+    }
+
+    /// Puts the line of the outcome.
+    pub(crate) fn say<S: Sink>(&self, out: &mut S) -> Status
+        ensures { IsSaid (line_of_rebuilt self.now) (status_of_rebuilt self.now) result
+            (view_sink S.written S.faults S.wants out.old) (view_sink S.written S.faults S.wants out.new) }
+    {
+        put(out, self.status(), self.line().as_str().as_bytes())
     }
 }

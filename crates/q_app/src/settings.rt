@@ -1,6 +1,6 @@
 // The options of `simplify`.
 ghost use Rattle.std.specs.Prelude.{◌≡◌, ◌≢◌, ◌≤◌, ◌++◌, List, ℕ, map, option_map, string_bytes, Some};
-ghost use Rattle.q_app.specs.Words.{behind, nothing_set, number_of, options_of, setting_of, with_setting, with_word, with_words};
+ghost use Rattle.q_app.specs.Words.{behind, nothing_set, number_of, only_budget, options_of, setting_of, with_setting, with_word, with_words};
 
 use q_logic::Bounds;
 use q_simplify::Options;
@@ -145,5 +145,15 @@ impl Settings {
             },
             budget: self.budget,
         }
+    }
+
+    /// The budget, where nothing else is set.
+    pub fn only_budget(self) -> Option<Option<u64>>
+        ensures { result ≡ only_budget (Some self) }
+    {
+        if self.grow.is_some() || self.expand.is_some() {
+            return None;
+        }
+        Some(self.budget)
     }
 }

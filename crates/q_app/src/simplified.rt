@@ -1,10 +1,10 @@
 ghost use Rattle.std.specs.Prelude.{◌≡◌};
+ghost use Rattle.q_command.specs.Sinks.{IsSaid, view_sink};
 ghost use Rattle.q_app.specs.Statuses.{status_of_ending, status_of_simplified};
 ghost use Rattle.q_app.specs.Lines.{line_of_report, line_of_simplified};
 
-use crate::line::{Line, numbers_line, words_line};
-use crate::outcome::place;
-use crate::status::Status;
+use q_command::{Line, Status, numbers_line, place, put, words_line};
+use q_io::Sink;
 use q_simplify::{Ending, Report};
 
 /// What there is to say at the end of `simplify`.
@@ -43,7 +43,7 @@ impl Simplified {
         }
     }
 
-    pub(crate) fn line(&self) -> Line
+    fn line(&self) -> Line
         ensures { result.bytes ≡ line_of_simplified self.now }
     {
         match *self {
@@ -53,6 +53,14 @@ impl Simplified {
             Simplified::WriteFault => words_line("write fault\n"),
             Simplified::NoMemory => words_line("no memory\n"),
         }
+    }
+
+    /// Puts the line of the outcome.
+    pub(crate) fn say<S: Sink>(&self, out: &mut S) -> Status
+        ensures { IsSaid (line_of_simplified self.now) (status_of_simplified self.now) result
+            (view_sink S.written S.faults S.wants out.old) (view_sink S.written S.faults S.wants out.new) }
+    {
+        put(out, self.status(), self.line().as_str().as_bytes())
     }
 }
 

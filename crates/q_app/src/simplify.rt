@@ -5,36 +5,17 @@ ghost use Rattle.q_logic.specs.InLimits.{IsInLimits};
 ghost use Rattle.q_logic.specs.Parts.{IsProper};
 ghost use Rattle.q_io.specs.Files.{OnlyReads, RoseAmong, RoseFor, bytes_at};
 ghost use Rattle.q_dimacs.specs.Dimacs.{Dimacs};
-ghost use Rattle.q_app.specs.Inputs.{IsRefused};
+ghost use Rattle.q_command.specs.Inputs.{IsRefused};
 ghost use Rattle.q_app.specs.Refusals.{failure_of, refusal_of};
 ghost use Rattle.q_kernel.specs.Taking.{AreModest};
 ghost use Rattle.q_app.specs.Simplifying.{Ends};
 
-use crate::input::{InputError, PIECE, read_formula};
 use crate::simplified::Simplified;
-use crate::words::Names;
+use q_command::{InputError, Names, read_input};
 use q_io::{DeviceError, Files};
-use q_logic::Formula;
 use q_sched::Guide;
 use q_simplify::{Options, simplify};
 use std::alloc::Global;
-
-// The formula of IN, read through a buffer.
-fn read_input<F: Files>(alloc: Global, files: &mut F, input: &str) -> Result<Formula, InputError>
-    ensures formula { IfOk result (λ f. IfSome (F.held files.old)
-        (λ disk. Dimacs standard (bytes_at disk input.now) f)) }
-    ensures proper { IfOk result IsProper }
-    ensures limits { IfOk result (λ f. IsInLimits standard f) }
-    ensures refused { IfErr result (λ e. IfSome (F.held files.old)
-        (λ disk. IsRefused e (bytes_at disk input.now))) }
-    ensures fault { IsErrOf result InputError.Fault → RoseFor F.read_faults input.now files.old files.new }
-    ensures only_reads { OnlyReads F.held F.read_faults F.write_faults files.old files.new }
-{
-    match vec![in alloc; 0u8; PIECE] {
-        Ok(mut room) => read_formula(alloc, files, input, &mut room),
-        Err(_) => Err(InputError::NoMemory),
-    }
-}
 
 fn refused(error: InputError) -> Simplified
     ensures { result ≡ refusal_of error }

@@ -2,18 +2,19 @@
 ghost use Rattle.std.specs.Prelude.{◌≡◌, ◌≢◌, ◌≤◌, ◌⊎◌, map, string_bytes, Some, None};
 ghost use Rattle.q_kernel.specs.Taking.{AreModest};
 ghost use Rattle.q_app.specs.Words.{checking, demo, generating, rebuilding, simplifying};
-ghost use Rattle.q_app.specs.Commands.{IsFit, commands_of, five_of, request, three_of};
-ghost use Rattle.q_app.specs.Says.{Does, InTurn, Runs, devices, view_sink};
+ghost use Rattle.q_command.specs.Names.{three_of};
+ghost use Rattle.q_app.specs.Commands.{IsFit, commands_of, five_of, request};
+ghost use Rattle.q_command.specs.Sinks.{view_sink};
+ghost use Rattle.q_app.specs.Says.{Does, InTurn, Runs, devices};
 
 use crate::answer::{Answer, say};
-use crate::check::check;
 use crate::generate::generate_file;
 use crate::rebuild::rebuild_files;
 use crate::rebuild_words::RebuildNames;
 use crate::settings::Settings;
 use crate::simplify::simplify_file;
-use crate::status::Status;
-use crate::words::{Command, Names, Scale, parse};
+use crate::words::{Command, Scale, parse};
+use q_command::{Names, Status, check};
 use q_io::{Files, Sink};
 use q_sched::Guide;
 use q_simplify::Options;
@@ -27,7 +28,7 @@ fn run_check<F: Files, S: Sink>(alloc: Global, files: &mut F, out: &mut S, names
         (devices F.held F.read_faults F.write_faults files.new (view_sink S.written S.faults S.wants out.new)) }
 {
     let outcome = check(alloc, files, names);
-    say(out, Answer::Check(outcome))
+    say(out, &Answer::Check(outcome))
 }
 
 fn run_simplify<F: Files, S: Sink>(
@@ -45,7 +46,7 @@ fn run_simplify<F: Files, S: Sink>(
         (devices F.held F.read_faults F.write_faults files.new (view_sink S.written S.faults S.wants out.new)) }
 {
     let outcome = simplify_file(alloc, files, names, options, guides);
-    say(out, Answer::Simplify(outcome))
+    say(out, &Answer::Simplify(outcome))
 }
 
 fn run_rebuild<F: Files, S: Sink>(
@@ -59,7 +60,7 @@ fn run_rebuild<F: Files, S: Sink>(
         (devices F.held F.read_faults F.write_faults files.new (view_sink S.written S.faults S.wants out.new)) }
 {
     let outcome = rebuild_files(alloc, files, names);
-    say(out, Answer::Rebuild(outcome))
+    say(out, &Answer::Rebuild(outcome))
 }
 
 fn run_generate<F: Files, S: Sink>(
@@ -75,7 +76,7 @@ fn run_generate<F: Files, S: Sink>(
         (devices F.held F.read_faults F.write_faults files.new (view_sink S.written S.faults S.wants out.new)) }
 {
     let outcome = generate_file(alloc, files, scale, output);
-    say(out, Answer::Generate(outcome))
+    say(out, &Answer::Generate(outcome))
 }
 
 // `gen`, `simplify` and `check` one after the other, up to the first that does not pass.
@@ -151,6 +152,6 @@ pub fn run<F: Files, S: Sink>(
 {
     match parse(words) {
         Some(command) => run_command(alloc, files, out, command, guides),
-        None => say(out, Answer::Usage),
+        None => say(out, &Answer::Usage),
     }
 }

@@ -1,20 +1,16 @@
 // The words of the command line.
 ghost use Rattle.std.specs.Prelude.{◌≡◌, ◌≢◌, ◌≤◌, map, option_map, string_bytes, IfSome, Some};
-ghost use Rattle.q_app.specs.Words.{are_different as spec_are_different, check_of, demo_by, demo_of, generate_of, just_three, scale_of as spec_scale_of, simplify_of, three_names as spec_three_names};
-ghost use Rattle.q_app.specs.Commands.{IsFit, bounds_in, by_verb as spec_by_verb, commands_of, request, three_of};
+ghost use Rattle.q_app.specs.Words.{check_of, demo_by, demo_of, generate_of, scale_of as spec_scale_of, simplify_of};
+ghost use Rattle.q_app.specs.Operands.{just_three, three_names as spec_three_names};
+ghost use Rattle.q_command.specs.Names.{three_of};
+ghost use Rattle.q_app.specs.Commands.{IsFit, bounds_in, by_verb as spec_by_verb, commands_of, request};
 
+use crate::operands::{only_names, three_names};
 use crate::rebuild_words::{RebuildNames, parse_rebuild};
 use crate::settings::{Settings, number};
+use q_command::Names;
 use q_logic::Bounds;
 use q_simplify::Options;
-
-/// The names of IN, OUT and LOG.
-#[derive(Clone, Copy)]
-pub(crate) struct Names<'a> {
-    pub input: &'a str,
-    pub output: &'a str,
-    pub log: &'a str,
-}
 
 /// What formula is generated: by the seed of its random numbers, and with so many clauses.
 #[derive(Clone, Copy, Debug, PartialEq, Eq)]
@@ -68,54 +64,6 @@ fn by_verb<'a>(verb: &str, operands: &'a [String]) -> Option<Command<'a>>
         return parse_demo(operands);
     }
     None
-}
-
-fn are_different(a: &str, b: &str, c: &str) -> bool
-    ensures { result ≡ spec_are_different a.now b.now c.now }
-{
-    a != b && a != c && b != c
-}
-
-// The names that the operands begin with, and the words behind them.
-#[derive(Clone, Copy)]
-struct Begun<'a> {
-    names: Names<'a>,
-    rest: &'a [String],
-}
-
-fn three_names(operands: &[String]) -> Option<Begun>
-    ensures names { option_map (λ o. (three_of o.names, map (λ w. string_bytes w) o.rest.now)) result
-        ≡ spec_three_names (map (λ w. string_bytes w) operands.now) }
-    ensures apart { IfSome result (λ o. o.names.output.now ≢ o.names.log.now) }
-{
-    if operands.len() < 3 {
-        return None;
-    }
-    let input = operands[0].as_str();
-    let output = operands[1].as_str();
-    let log = operands[2].as_str();
-    if !are_different(input, output, log) {
-        return None;
-    }
-    Some(Begun {
-        names: Names { input, output, log },
-        rest: &operands[3..],
-    })
-}
-
-// The three names that the operands are.
-fn only_names(operands: &[String]) -> Option<Names>
-    ensures names { option_map (λ o. three_of o) result
-        ≡ just_three (spec_three_names (map (λ w. string_bytes w) operands.now)) }
-    ensures apart { IfSome result (λ o. o.output.now ≢ o.log.now) }
-{
-    let Some(begun) = three_names(operands) else {
-        return None;
-    };
-    if !begun.rest.is_empty() {
-        return None;
-    }
-    Some(begun.names)
 }
 
 fn parse_check(operands: &[String]) -> Option<Command>

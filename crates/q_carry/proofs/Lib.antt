@@ -13,3 +13,4 @@ pub mod Allowing
 pub mod Denying
 pub mod Alike
 pub mod Weighing
+pub mod Deepening

@@ -31,7 +31,7 @@ is_existential-last (a ∷ Q) b x h = go (eqb a.var x) refl (eqb a.var b.var) re
     go true e false f h ih = let g : eqb x b.var ≡ false = grind arith in ap (λ (c : Bool). cond c (is_exists b.quant) (is_exists a.quant)) (sym g)
     go false e false f h ih = ih h
 
-is_universal-last2 : (Q : Prefix) (b : Bound) (x : ℕ) → is_bound Q b.var ≡ false → is_universal (Q ++ b ∷ []) x ≡ cond (eqb x b.var) (not (is_exists b.quant)) (is_universal Q x)
+pub is_universal-last2 : (Q : Prefix) (b : Bound) (x : ℕ) → is_bound Q b.var ≡ false → is_universal (Q ++ b ∷ []) x ≡ cond (eqb x b.var) (not (is_exists b.quant)) (is_universal Q x)
 is_universal-last2 [] b x h = go (eqb b.var x) refl
   where
     go : (t : Bool) → eqb b.var x ≡ t → cond t (not (is_exists b.quant)) false ≡ cond (eqb x b.var) (not (is_exists b.quant)) false

@@ -1,8 +1,10 @@
 -- The greatest weight of the inputs that circuits read.
-use Rattle.std.specs.Prelude.{◌≡◌, ◌<◌, ◌≤◌, ◌⊎◌, ℕ, ◌-◌, Bool, false, cond, List, length, slice_index_or}
+use Rattle.std.specs.Prelude.{◌≡◌, ◌<◌, ◌≤◌, ◌⊎◌, ℕ, ◌-◌, Bool, true, false, cond, List, length, take, slice_index, slice_index_or}
+use Rattle.q_logic.specs.Formulas.{Prefix}
+use Rattle.q_logic.specs.Prefixes.{is_universal}
 use Rattle.q_logic.specs.Circuits.{Circuit, Reads}
 use Rattle.q_logic.specs.Certificates.{CertificateView}
-use Rattle.q_aig.specs.Nets.{Net}
+use Rattle.q_aig.specs.Nets.{Net, IsNet}
 use Rattle.q_carry.specs.Copied.{tree_of_gate}
 use Rattle.q_carry.specs.Refusals.{ReadsInput}
 use Rattle.q_carry.specs.Testing.{name_at}
@@ -25,3 +27,16 @@ pub record IsTop (c : CertificateView) (n : ℕ) (weights : List ℕ) (m : ℕ) 
 abbrev pub AreStrangeWeights : List Bool → ℕ → List ℕ → Type 0
 AreStrangeWeights allowed n weights =
     (i : ℕ) → i < n → slice_index_or weights i 0 ≡ cond (slice_index_or allowed i false) 0 (length allowed - i)
+
+-- what stands no deeper than a place is a universal before that place
+abbrev pub AreDepths : Prefix → List ℕ → List ℕ → Type 0
+AreDepths P names depths =
+    (k p : ℕ) → k < length names → p < length P → slice_index depths k ≤ p →
+    is_universal (take p P) (slice_index names k) ≡ true
+
+-- how deep each gate reads, where the inputs have these depths
+pub record AreGateDepths (a : Net) (depths row : List ℕ) : Type 0 where
+  pub inputs : length depths ≡ length a.inputs
+  pub gates : length row ≡ length a.gates
+  pub peaks : ArePeaks a depths row
+  pub net : IsNet a

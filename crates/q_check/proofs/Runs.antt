@@ -8,7 +8,7 @@ use Rattle.q_logic.specs.Steps.{ProofStep, Valid, after}
 use Rattle.q_logic.specs.Runs.{ValidSteps, SameFormula, Run, AreAlike}
 use Rattle.q_logic.specs.Undos.{UndoEntry, Entries, Undos}
 use Rattle.q_check.specs.Alike.{Leads}
-use Rattle.q_check.proofs.Alike.{alike_swapped, alike_through, alike_valid, alike_after, alike_entries}
+use Rattle.q_logic.proofs.Alike.{alike_swapped, alike_through, alike_valid, alike_after, alike_entries}
 
 valid_more : (m : Limits) (F : PrenexFormula) (ss : List ProofStep) (E : PrenexFormula) (s : ProofStep) → ValidSteps m F ss E → Valid m E s → ValidSteps m F (ss ++ s ∷ []) (after E s)
 valid_more m F [] E s v w = (subst (λ (G : PrenexFormula). Valid m G s) (sym v) w, ap (λ (G : PrenexFormula). after G s) v)

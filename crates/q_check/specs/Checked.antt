@@ -1,15 +1,11 @@
 -- A checker, and what its calls answer.
-use Rattle.std.specs.Prelude.{◌≡◌, ◌⊎◌, ℕ, Bool, true, false, List, ◌++◌, Option, None, Result, Ok, Err, length}
+use Rattle.std.specs.Prelude.{◌≡◌, Bool, true, false, List, ◌++◌}
 use Rattle.q_logic.specs.declared.limits.Limits.{Limits}
-use Rattle.q_logic.specs.Formulas.{Clause, PrenexFormula}
-use Rattle.q_logic.specs.Prefixes.{IsFormula, blocks, SameBlocks}
-use Rattle.q_logic.specs.Steps.{ProofStep, Valid, Cause, after, literals_in}
-use Rattle.q_logic.specs.Runs.{copies, AreAlike}
+use Rattle.q_logic.specs.Formulas.{PrenexFormula}
+use Rattle.q_logic.specs.Steps.{ProofStep, Cause}
 use Rattle.q_logic.specs.Undos.{UndoEntry, Entries}
-use Rattle.q_check.specs.declared.undo.Undo.{Undo}
-use Rattle.q_check.specs.declared.error.CheckError.{CheckError}
-use Rattle.q_check.specs.declared.error.CheckError.TheVariants.{Refused, NoMemory}
-use Rattle.q_check.specs.Entries.{entries_of}
+use Rattle.q_judge.specs.declared.error.CheckError.{CheckError}
+use Rattle.q_judge.specs.declared.error.CheckError.TheVariants.{Refused, NoMemory}
 
 pub record Checked : Type 0 where
   pub formula : PrenexFormula
@@ -26,27 +22,3 @@ HasGrown true F s old new = (es : List UndoEntry) × Entries F s es × (new ≡ 
 abbrev pub IsRefusal : Limits → PrenexFormula → ProofStep → CheckError → Type 0
 IsRefusal m F s (Refused n) = Cause m F s n
 IsRefusal m F s NoMemory = Unit {0}
-
--- cause 9 where the blocks differ, 10 where the clauses alone do
-abbrev pub IsEndRefusal : PrenexFormula → PrenexFormula → CheckError → Type 0
-IsEndRefusal F G (Refused n) =
-    ((n ≡ 9) × ¬ SameBlocks (blocks F.prefix) (blocks G.prefix))
-    ⊎ ((n ≡ 10) × SameBlocks (blocks F.prefix) (blocks G.prefix) × ¬ ((C : Clause) → copies C F.matrix ≡ copies C G.matrix))
-IsEndRefusal F G NoMemory = Unit {0}
-
--- what a step puts into the undo list, where it is kept
-abbrev pub IsEntry : Bool → PrenexFormula → ProofStep → Option Undo → Type 0
-IsEntry false F s u = u ≡ None
-IsEntry true F s u = Entries F s (entries_of u)
-
--- a step was tried on F, and G is there now
-abbrev pub IsTried : Bool → Limits → PrenexFormula → ProofStep → PrenexFormula → Result (Option Undo) CheckError → Type 0
-IsTried keep m F s G (Ok u) = Valid m F s × AreAlike (after F s) G × IsEntry keep F s u
-IsTried keep m F s G (Err NoMemory) = G ≡ F
-IsTried keep m F s G (Err (Refused n)) = (G ≡ F) × Cause m F s n
-
--- the formula's numbers of clauses and literals are known
-pub record IsCounted (F : PrenexFormula) (clauses lits : ℕ) : Type 0 where
-  pub formula : IsFormula F
-  pub clauses_are : clauses ≡ length F.matrix
-  pub lits_are : lits ≡ literals_in F.matrix

@@ -1,23 +1,23 @@
 //! The checker: a formula, and what the steps so far leave.
-ghost use Rattle.std.specs.Prelude.{◌≡◌, ◌∷◌, ◌++◌, [], length, drop, ◌<◌, IfOk, IfErr, OnOk, OnErr};
-ghost use Rattle.q_logic.specs.Clauses.{clause_of};
+ghost use Rattle.std.specs.Prelude.{◌≡◌, [], IfOk, IfErr, OnOk, OnErr};
 ghost use Rattle.q_logic.specs.Limits.{AreModerate};
 ghost use Rattle.q_logic.specs.Runs.{SameFormula, AreAlike};
 ghost use Rattle.q_logic.specs.Steps.{Valid, after};
-ghost use Rattle.q_check.specs.declared.error.CheckError.TheVariants.{NoMemory as MemoryError};
-ghost use Rattle.q_check.specs.Checked.{HasGrown, IsRefusal, IsEndRefusal, IsTried};
+ghost use Rattle.q_judge.specs.declared.error.CheckError.TheVariants.{NoMemory as MemoryError};
+ghost use Rattle.q_judge.specs.Ledgers.{formula_in};
+ghost use Rattle.q_judge.specs.Tried.{IsEndRefusal, IsTried};
+ghost use Rattle.q_check.specs.Checked.{HasGrown, IsRefusal};
 
-use crate::book::{Book, first_lit};
-use crate::error::CheckError;
-use crate::undo::{Undo, Undos};
-use q_logic::{Formula, Kind, Limits, Lit, NoMemory, Step, sort_clause};
+use crate::tries;
+use q_judge::{CheckError, Ledger, Undo, Undos, first_lit, load_clause, load_rest};
+use q_logic::{Formula, Kind, Limits, Lit, Step};
 use std::alloc::Global;
 use std::marker::Model;
 
 /// Tries the steps of a proof, one after the other.
 #[derive(Drop)]
 pub struct Checker {
-    book: Book,
+    ledger: Ledger,
     undo: Vec<Undo>,
     limits: Limits,
     keeps: bool,
@@ -29,11 +29,12 @@ impl Model for Checker {
     ghost use Rattle.std.specs.Prelude.{map};
     ghost use Rattle.q_logic.specs.Limits.{AreModerate};
     ghost use Rattle.q_check.specs.Checked.{Checked};
-    ghost use Rattle.q_check.specs.Entries.{entry_of};
+    ghost use Rattle.q_judge.specs.Entries.{entry_of};
+    ghost use Rattle.q_judge.specs.Ledgers.{formula_in};
 
     ghost Value = { Checked };
 
-    ghost view = { λ c. record { formula = c.book; undo = map entry_of c.undo.items; limits = c.limits; keeps = c.keeps } };
+    ghost view = { λ c. record { formula = formula_in c.ledger; undo = map entry_of c.undo.items; limits = c.limits; keeps = c.keeps } };
 
     ghost invariant = { λ c. AreModerate c.limits };
 }
@@ -55,9 +56,9 @@ impl Checker {
         ensures started { IfOk result (λ c. AreAlike formula.now c.formula × (c.undo ≡ []) × (c.limits ≡ limits) × (c.keeps ≡ keep_undo)) }
         ensures only_memory { IfErr result (λ e. e ≡ MemoryError) }
     {
-        let book = Book::start(alloc, formula)?;
+        let ledger = Ledger::start(alloc, formula)?;
         Ok(Checker {
-            book,
+            ledger,
             undo: Vec::new(alloc),
             limits,
             keeps: keep_undo,
@@ -77,7 +78,7 @@ impl Checker {
     {
         self.undo.reserve(1)?;
         let entry = try_step(
-            &mut self.book,
+            &mut self.ledger,
             &mut self.clause,
             &mut self.rest,
             self.limits,
@@ -96,7 +97,7 @@ impl Checker {
         ensures undo { IfOk result (λ v. v.undo ≡ self.undo) }
         ensures refused { IfErr result (IsEndRefusal self.formula output.now) }
     {
-        self.book.finish(output)?;
+        self.ledger.finish(output)?;
         Ok(Verified {
             undo: Undos::from_entries(self.undo),
         })
@@ -105,7 +106,7 @@ impl Checker {
 
 // Tries the step on the formula.
 fn try_step(
-    book: &mut Book,
+    ledger: &mut Ledger,
     clause: &mut Vec<Lit>,
     rest: &mut Vec<Lit>,
     limits: Limits,
@@ -113,44 +114,24 @@ fn try_step(
     step: &Step,
 ) -> Result<Option<Undo>, CheckError>
     requires { AreModerate limits }
-    ensures { IsTried keeps limits book.old step.now book.new result }
+    ensures { IsTried keeps limits (formula_in ledger.old) step.now (formula_in ledger.new) result }
 {
     let lits = step.lits();
     match step.kind() {
         Kind::Add => {
             load_clause(clause, lits)?;
-            book.add(limits, clause, first_lit(lits))
+            tries::add(ledger, limits, clause, first_lit(lits))
         }
         Kind::Delete => {
             load_clause(clause, lits)?;
-            book.delete(clause, lits, keeps)
+            tries::delete(ledger, clause, lits, keeps)
         }
         Kind::Drop => {
             load_clause(clause, lits)?;
             load_rest(rest, lits)?;
-            book.drop_literal(clause, rest, lits[0])
+            tries::drop_literal(ledger, clause, rest, lits[0])
         }
-        Kind::Fresh => book.fresh(limits, lits[0].var(), lits[1].var(), keeps),
-        Kind::Remove => book.remove(lits[0].var(), keeps),
+        Kind::Fresh => tries::fresh(ledger, limits, lits[0].var(), lits[1].var(), keeps),
+        Kind::Remove => tries::remove(ledger, lits[0].var(), keeps),
     }
-}
-
-// The clause of the literals.
-fn load_clause(clause: &mut Vec<Lit>, lits: &[Lit]) -> Result<(), NoMemory>
-    ensures { OnOk result (clause.new.items ≡ clause_of lits.now) }
-{
-    clause.clear();
-    clause.extend_from_slice(lits)?;
-    sort_clause(clause);
-    Ok(())
-}
-
-// The literals after the first.
-fn load_rest(rest: &mut Vec<Lit>, lits: &[Lit]) -> Result<(), NoMemory>
-    requires { 0 < length lits.now }
-    ensures { OnOk result (rest.new.items ≡ drop 1 lits.now) }
-{
-    rest.clear();
-    rest.extend_from_slice(&lits[1..])?;
-    Ok(())
 }

@@ -2,6 +2,7 @@
 #![tactic(auto)]
 
 mod board;
+mod explained;
 mod progress;
 mod rules;
 mod watched;
@@ -76,6 +77,7 @@ fn run_words(rt: &HostRuntime, words: &[String]) -> Result<Status, NoMemory> {
     let mut out = StdSink::new(&wiped);
     let status = run_guided(rt.alloc(), words, &mut files, &mut out, shares);
     board.finish();
+    wiped.explain();
     status
 }
 

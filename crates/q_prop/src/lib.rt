@@ -3,10 +3,13 @@
 #![tactic(auto)]
 
 mod buckets;
+mod chain;
 mod clauses;
 mod holders;
 mod lists;
+mod notes;
 mod places;
+mod plain;
 mod propagation;
 mod propagator;
 mod roles;

@@ -7,6 +7,7 @@ ghost use Rattle.q_prop.specs.Roles.{IsRole, IsAlone, IsLoosened};
 
 use crate::clauses::Clauses;
 use crate::lists::{Lists, place_of};
+use crate::notes::Notes;
 use crate::propagation::{complete, query, query_anew, query_beside};
 use crate::roles::Role;
 use crate::root::Root;
@@ -24,6 +25,7 @@ use std::marker::Model;
 pub struct Propagator {
     watched: Watched,
     root: Root,
+    notes: Notes,
 }
 
 impl Model for Propagator {
@@ -55,7 +57,29 @@ impl Propagator {
                 done: 0,
                 conflict: false,
             },
+            notes: Notes::new(alloc),
         }
+    }
+
+    pub fn clauses(&self) -> &Clauses
+        ensures { result.now ≡ self.now }
+    {
+        &self.watched.clauses
+    }
+
+    /// Hints are gathered from now on where an answer is yes, or not. They are at hand for a conflict of the root.
+    pub fn gather_hints(&mut self, wanted: bool)
+        ensures { self.new ≡ self.old }
+    {
+        self.notes.want(wanted);
+        if self.root.conflict {
+            self.notes.gather(&self.watched.clauses, &self.root.trail);
+        }
+    }
+
+    /// Slots that may show the last yes. They are tried before they are used.
+    pub fn hints(&self) -> &[usize] {
+        self.notes.hints()
     }
 
     pub fn slots(&self) -> usize
@@ -142,6 +166,15 @@ impl Propagator {
         }
     }
 
+    /// Notes that a literal follows without the slot, where another one doubles it.
+    pub fn note_doubling(&mut self, skip: Option<usize>, role: &Role)
+        ensures { self.new ≡ self.old }
+    {
+        if let (Some(at), Role::Doubled(lit, other)) = (skip, role) {
+            self.root.trail.change_reason(*lit, at, *other);
+        }
+    }
+
     /// Whether a chain from the negations of the literals conflicts, over the slots but one. Where the
     /// root is not found, it is found anew.
     pub fn implied(
@@ -172,6 +205,7 @@ impl Propagator {
             &mut self.root.trail,
             lits,
             &self.root.singles,
+            &mut self.notes,
         )
     }
 
@@ -199,6 +233,7 @@ impl Propagator {
             lits,
             &self.root.singles,
             lit,
+            &mut self.notes,
         )?;
         self.root.head = self.root.trail.len();
         self.root.done = self.root.singles.len();
@@ -219,6 +254,7 @@ impl Propagator {
             &mut self.root.trail,
             lits,
             &self.root.singles,
+            &mut self.notes,
         )
     }
 
@@ -272,7 +308,7 @@ impl Propagator {
             Pick::OneLeft(pair) => {
                 let (first, head) = (pair.first, self.root.head);
                 put(&mut self.watched, at, lits, pair)?;
-                self.root.head = push_forced(&mut self.root.trail, first, head);
+                self.root.head = push_forced(&mut self.root.trail, first, at, head);
             }
             Pick::AllFalse(pair) => {
                 put(&mut self.watched, at, lits, pair)?;
@@ -329,12 +365,12 @@ fn unlist(
 }
 
 // Puts a literal on the trail, if there is memory, and answers up to where the trail is then worked off.
-fn push_forced(trail: &mut Trail, lit: Lit, head: usize) -> usize
+fn push_forced(trail: &mut Trail, lit: Lit, slot: u32, head: usize) -> usize
     requires { Contains trail.old lit → ⊥ }
     ensures { ((trail.new ≡ trail.old ++ lit ∷ []) × (result ≡ head)) ⊎
         ((trail.new ≡ trail.old) × (result ≡ 0)) }
 {
-    match trail.push(lit) {
+    match trail.force(lit, slot as usize) {
         Ok(_) => head,
         Err(_) => 0,
     }

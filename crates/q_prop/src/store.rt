@@ -1,6 +1,7 @@
-ghost use Rattle.std.specs.Prelude.{◌≡◌, ◌↔◌, ◌<◌, [], length, slice_set, OnErr, None, IsTrue, MatchOption, IfOk, ℕ, Contains, Some, ◌^◌, ◌≤◌};
+ghost use Rattle.std.specs.Prelude.{◌≡◌, ◌↔◌, ◌<◌, [], MatchBool, length, slice_set, OnErr, None, IsTrue, MatchOption, OnSome, IfOk, ℕ, Contains, Some, ◌^◌, ◌≤◌};
 ghost use Rattle.q_logic.specs.Formulas.{Clause};
 ghost use Rattle.q_logic.specs.Propagation.{Implied};
+ghost use Rattle.q_logic.specs.Hints.{Chained};
 ghost use Rattle.q_prop.specs.Slots.{filled, without, Holds, IsPut, IsOrdered};
 ghost use Rattle.q_prop.specs.Holders.{IsHolder, AreHolders};
 ghost use Rattle.q_prop.specs.Buckets.{AreHashed};
@@ -8,11 +9,14 @@ ghost use Rattle.q_prop.specs.Lists.{IsDistinct};
 ghost use Rattle.q_prop.specs.Roles.{IsRole, IsDoubled, IsAlone};
 
 use crate::buckets::{bucket, find_in, put_into, rehashed, take_from};
+use crate::chain::chained;
 use crate::holders::{insert, note, remove};
 use crate::lists::Lists;
+use crate::plain::explain_plainly;
 use crate::propagator::Propagator;
 use crate::roles::{Role, is_only, is_part};
 use crate::spots::Spots;
+use crate::trail::Trail;
 use q_logic::{Lit, NoMemory};
 use std::alloc::Global;
 use std::marker::Model;
@@ -26,6 +30,7 @@ pub struct Store {
     buckets: Lists,
     spots: Spots,
     count: usize,
+    known: Trail,
 }
 
 impl Model for Store {
@@ -57,6 +62,7 @@ impl Store {
             buckets: Lists::new(alloc),
             spots: Spots::new(alloc),
             count: count.max(1),
+            known: Trail::new(alloc),
         }
     }
 
@@ -134,6 +140,7 @@ impl Store {
         ensures { self.new ≡ slice_set self.old at None }
     {
         let role = self.role_of(at);
+        self.propagator.note_doubling(Some(at), &role);
         free(
             &self.propagator,
             &mut self.holders,
@@ -153,7 +160,78 @@ impl Store {
     {
         self.propagator.complete()?;
         let role = self.role(skip);
+        self.propagator.note_doubling(skip, &role);
         self.propagator.implied(lits, skip, role)
+    }
+
+    /// Whether the literals, over the clauses of all slots but one, are implied as the hints tell. Each hint names a
+    /// slot, and is looked at once.
+    pub fn chain(
+        &mut self,
+        lits: &[Lit],
+        skip: Option<usize>,
+        slots: &[usize],
+    ) -> Result<bool, NoMemory>
+        ensures same { self.new ≡ self.old }
+        ensures exact { IfOk result (λ yes. IsTrue yes ↔ Chained (without self.old skip) lits.now slots.now) }
+    {
+        chained(
+            self.propagator.clauses(),
+            skip,
+            lits,
+            slots,
+            &mut self.known,
+        )
+    }
+
+    /// Whether the literals are implied by propagation, over the clauses of all slots but one. Where they are, the
+    /// slots are hints that show it: the clauses on which the conflict rests, as far as the trail's notes go. Else
+    /// there are none.
+    pub fn explain(
+        &mut self,
+        lits: &[Lit],
+        skip: Option<usize>,
+        slots: &mut Vec<usize>,
+    ) -> Result<bool, NoMemory>
+        ensures same { self.new ≡ self.old }
+        ensures exact { IfOk result (λ yes. IsTrue yes ↔ Implied (filled (without self.old skip)) lits.now) }
+        ensures shown { IfOk result (λ yes.
+            MatchBool yes (Chained (without self.old skip) lits.now slots.new.items) (slots.new.items ≡ [])) }
+    {
+        slots.clear();
+        if !self.implied_noted(lits, skip)? {
+            return Ok(false);
+        }
+        slots.extend_from_slice(self.propagator.hints())?;
+        if self.chain(lits, skip, slots)? {
+            return Ok(true);
+        }
+        explain_plainly(
+            self.propagator.clauses(),
+            skip,
+            lits,
+            &mut self.known,
+            slots,
+        )
+    }
+
+    // Whether the literals are implied; where they are, slots that may show it are gathered.
+    fn implied_noted(&mut self, lits: &[Lit], skip: Option<usize>) -> Result<bool, NoMemory>
+        ensures same { self.new ≡ self.old }
+        ensures exact { IfOk result (λ yes. IsTrue yes ↔ Implied (filled (without self.old skip)) lits.now) }
+    {
+        self.note_hints(true)?;
+        let answer = self.implied(lits, skip)?;
+        self.note_hints(false)?;
+        Ok(answer)
+    }
+
+    fn note_hints(&mut self, wanted: bool) -> Result<(), NoMemory>
+        ensures { self.new ≡ self.old }
+    {
+        self.propagator.complete()?;
+        self.propagator.gather_hints(wanted);
+        Ok(())
     }
 
     fn role(&self, skip: Option<usize>) -> Role
@@ -171,8 +249,8 @@ impl Store {
     {
         match self.propagator.left_in(at) {
             Some(lit) => {
-                if self.is_doubled(at, lit) {
-                    Role::Doubled(lit)
+                if let Some(other) = self.doubling(at, lit) {
+                    Role::Doubled(lit, other)
                 } else if self.is_alone(at, lit) {
                     Role::Alone(lit)
                 } else {
@@ -183,23 +261,24 @@ impl Store {
         }
     }
 
-    // Whether the literal alone is a clause of another slot, or one of the last slots that hold it has
-    // a part of this one's clause.
-    fn is_doubled(&self, at: usize, lit: Lit) -> bool
-        ensures { IsTrue result → IsDoubled self.now at lit }
+    // A slot that doubles this one's literal: its clause is the literal alone, or it is one of the last slots that hold
+    // the literal and has a part of this one's clause.
+    fn doubling(&self, at: usize, lit: Lit) -> Option<usize>
+        ensures { OnSome result (IsDoubled self.now at lit) }
     {
         if let Some(other) = self.find(&[lit]) {
             if self.doubles(other, at, lit) {
-                return true;
+                return Some(other);
             }
         }
         let list = self.holders(lit);
         for i in list.len().saturating_sub(4)..list.len() {
-            if self.doubles(list[i] as usize, at, lit) {
-                return true;
+            let other = list[i] as usize;
+            if self.doubles(other, at, lit) {
+                return Some(other);
             }
         }
-        false
+        None
     }
 
     // Whether another slot that holds the literal has a part of this one's clause.

@@ -8,13 +8,18 @@ use std::alloc::Global;
 use std::marker::Model;
 
 /// The literals that are known, in the order in which they came unless one was taken off. Beside the
-/// marks stands where each was put.
+/// marks stands where each was put, and which slot may have forced it.
 #[derive(Drop)]
 pub struct Trail {
     lits: Vec<Lit>,
     marks: Vec<bool>,
     spots: Spots,
+    reasons: Spots,
+    conflict: usize,
 }
+
+/// No slot: the literal is one to begin with.
+pub const NO_SLOT: usize = 4_294_967_295;
 
 impl Model for Trail {
     ghost use Rattle.std.specs.Prelude.{List};
@@ -36,7 +41,36 @@ impl Trail {
             lits: Vec::new(alloc),
             marks: Vec::new(alloc),
             spots: Spots::new(alloc),
+            reasons: Spots::new(alloc),
+            conflict: NO_SLOT,
         }
+    }
+
+    /// The slot whose clause may have forced the literal. It is looked at before it is used: a wrong one costs
+    /// time alone.
+    pub fn reason(&self, lit: Lit) -> usize {
+        self.reasons.get(lit.index())
+    }
+
+    /// Notes another slot as the one that may have forced the literal, in place of this one.
+    pub fn change_reason(&mut self, lit: Lit, old: usize, new: usize)
+        ensures { self.new ≡ self.old }
+    {
+        if self.reasons.get(lit.index()) == old {
+            self.reasons.set(lit.index(), new);
+        }
+    }
+
+    /// Notes the slot whose clause is falsified. This, too, is looked at before it is used.
+    pub fn note_conflict(&mut self, slot: usize)
+        ensures { self.new ≡ self.old }
+    {
+        self.conflict = slot;
+    }
+
+    /// The slot whose clause may be falsified.
+    pub fn conflict(&self) -> usize {
+        self.conflict
     }
 
     pub fn len(&self) -> usize
@@ -63,11 +97,21 @@ impl Trail {
         ensures ok { OnOk result (self.new ≡ self.old ++ lit ∷ []) }
         ensures err { OnErr result (self.new ≡ self.old) }
     {
-        make_room(&mut self.marks, &mut self.spots, lit)?;
+        self.force(lit, NO_SLOT)
+    }
+
+    /// Pushes a literal, and notes the slot whose clause forced it.
+    pub fn force(&mut self, lit: Lit, slot: usize) -> Result<(), NoMemory>
+        requires { Contains self.old lit → ⊥ }
+        ensures ok { OnOk result (self.new ≡ self.old ++ lit ∷ []) }
+        ensures err { OnErr result (self.new ≡ self.old) }
+    {
+        make_room(&mut self.marks, &mut self.spots, &mut self.reasons, lit)?;
         let place = self.lits.len();
         self.lits.push(lit)?;
         self.marks[lit.index()] = true;
         self.spots.set(lit.index(), place);
+        self.reasons.set(lit.index(), slot);
         Ok(())
     }
 
@@ -133,13 +177,19 @@ fn is_marked(marks: &[bool], lit: Lit) -> bool
     marks.get(lit.index()).copied().unwrap_or(false)
 }
 
-fn make_room(marks: &mut Vec<bool>, spots: &mut Spots, lit: Lit) -> Result<(), NoMemory>
+fn make_room(
+    marks: &mut Vec<bool>,
+    spots: &mut Spots,
+    reasons: &mut Spots,
+    lit: Lit,
+) -> Result<(), NoMemory>
     ensures room { OnOk result (pack lit < vec_len marks.new) }
     ensures same { (k : ℕ) → slice_index_or marks.new.items k false ≡ slice_index_or marks.old.items k false }
 {
     let end = lit.index() + 1;
     if marks.len() < end {
         spots.grow(end)?;
+        reasons.grow(end)?;
         marks.resize(end, false)?;
     }
     Ok(())

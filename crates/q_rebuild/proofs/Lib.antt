@@ -5,3 +5,4 @@ pub mod Emptiness
 pub mod Allowing
 pub mod Denying
 pub mod Alike
+pub mod Keeping

@@ -1,3 +1,4 @@
 pub mod TakenBack
 pub mod Rebuilt
 pub mod Refusals
+pub mod Moves

@@ -6,7 +6,7 @@ ghost use Rattle.std.specs.Prelude.{◌≡◌, OnOk};
 ghost use Rattle.q_carry.specs.Standing.{AreLiterals};
 ghost use Rattle.q_carry.specs.Undone.{IsUndone};
 ghost use Rattle.q_rebuild.specs.TakenBack.{AreUndone};
-ghost use Rattle.q_check.specs.Entries.{entry_of};
+ghost use Rattle.q_judge.specs.Entries.{entry_of};
 ghost use Rattle.q_logic.specs.Undos.{pivot as pivot_entry};
 
 use q_aig::{Aig, constant};

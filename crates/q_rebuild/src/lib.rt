@@ -4,7 +4,7 @@
 //! `rebuild` tests the given circuits, copies the gates that they need and no others, and undoes the entries of the
 //! undo list from the last to the first. `specs/Refusals` says which circuits are refused, `specs/Rebuilt` what comes
 //! out: the values of `Back` on trees, lawful circuits, Skolem functions where the given ones are, and how many gates
-//! there are at most. The work is linear in the undo list and in the gates; the tests walk the cone of each output once.
+//! there are at most. The work is linear in the undo list and in the gates.
 #![tactic(auto)]
 
 mod accepting;

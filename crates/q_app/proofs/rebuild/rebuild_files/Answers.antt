@@ -1,22 +1,22 @@
 use Rattle.std.proofs.Common.{◌∙◌, ap, Err}
 use Rattle.q_io.proofs.Counts.{rose_later}
-use Rattle.q_app.proofs.Feeding.{at_same}
+use Rattle.q_command.proofs.Feeding.{at_same}
 use Rattle.q_app.proofs.Certifying.{circuits-not_write, circuits-reading, joined}
 use Rattle.q_app.proofs.rebuild.rebuild_files.Goals as goal
 
 pub returns-in-Ok-carry_back-clause-rebuilds : goal.returns-in-Ok-carry_back-clause-rebuilds
 returns-in-Ok-carry_back-clause-rebuilds g c =
     let carried = at_same _ _ _ c.in-Ok.ensures.only_reads.same c.in-Ok-carry_back.ensures.carried in
-    let puts = at_same _ _ _ (c.in-Ok-carry_back.ensures.only_reads.same ∙ c.in-Ok.ensures.only_reads.same) c.write_circuits.ensures.puts in
-    joined (g.F.Files.held c.args.files.now) _ c.args.names.input.now c.args.names.output.now c.args.names.log.now c.args.names.skolem.now c.args.names.cert.now c.in-Ok.checked c.in-Ok-carry_back.made c.write_circuits.result c.in-Ok.ensures.passes carried puts
+    let puts = at_same _ _ _ (c.in-Ok-carry_back.ensures.only_reads.same ∙ c.in-Ok.ensures.only_reads.same) c.write_certificate.ensures.puts in
+    joined (g.F.Files.held c.args.files.now) _ c.args.names.input.now c.args.names.output.now c.args.names.log.now c.args.names.skolem.now c.args.names.cert.now c.in-Ok.checked c.in-Ok-carry_back.made c.write_certificate.result c.in-Ok.ensures.passes carried puts
 
 pub returns-in-Ok-carry_back-clause-read_fault : goal.returns-in-Ok-carry_back-clause-read_fault
-returns-in-Ok-carry_back-clause-read_fault g c = λ f. absurd (c.write_circuits.ensures.writing f)
+returns-in-Ok-carry_back-clause-read_fault g c = λ f. absurd (c.write_certificate.ensures.writing f)
 
 pub returns-in-Ok-carry_back-clause-write_fault : goal.returns-in-Ok-carry_back-clause-write_fault
 returns-in-Ok-carry_back-clause-write_fault g c = λ e.
-    rose_later (g.F.Files.write_faults c.args.files.now c.args.names.cert.now) (g.F.Files.write_faults c.verify.new.files c.args.names.cert.now) (g.F.Files.write_faults c.write_circuits.new.files c.args.names.cert.now) (c.in-Ok.ensures.only_reads.later.write c.args.names.cert.now)
-    (rose_later (g.F.Files.write_faults c.verify.new.files c.args.names.cert.now) (g.F.Files.write_faults c.carry_back.new.files c.args.names.cert.now) (g.F.Files.write_faults c.write_circuits.new.files c.args.names.cert.now) (c.in-Ok-carry_back.ensures.only_reads.later.write c.args.names.cert.now) (c.write_circuits.ensures.cause e))
+    rose_later (g.F.Files.write_faults c.args.files.now c.args.names.cert.now) (g.F.Files.write_faults c.verify.new.files c.args.names.cert.now) (g.F.Files.write_faults c.write_certificate.new.files c.args.names.cert.now) (c.in-Ok.ensures.only_reads.later.write c.args.names.cert.now)
+    (rose_later (g.F.Files.write_faults c.verify.new.files c.args.names.cert.now) (g.F.Files.write_faults c.carry_back.new.files c.args.names.cert.now) (g.F.Files.write_faults c.write_certificate.new.files c.args.names.cert.now) (c.in-Ok-carry_back.ensures.only_reads.later.write c.args.names.cert.now) (c.write_certificate.ensures.cause e))
 
 pub returns-clause-read_fault : goal.returns-clause-read_fault
 returns-clause-read_fault g c =

@@ -1,6 +1,7 @@
 use Rattle.std.proofs.Common.{subst, sym, ◌∙◌, refl, inl, None}
 use Rattle.q_app.specs.Words.{Request}
-use Rattle.q_app.specs.Says.{Does, devices, view_sink}
+use Rattle.q_command.specs.Sinks.{view_sink}
+use Rattle.q_app.specs.Says.{Does, devices}
 use Rattle.q_app.specs.declared.answer.Answer.TheVariants as answer
 use Rattle.q_app.proofs.Turns.{in_turn-usage}
 use Rattle.q_app.proofs.Saying.{said-usage}

@@ -1,10 +1,11 @@
 use Rattle.std.proofs.Common.{refl}
 use Rattle.q_app.specs.Words.{checking}
-use Rattle.q_app.specs.Commands.{three_of}
-use Rattle.q_app.specs.Says.{devices, view_sink}
+use Rattle.q_command.specs.Names.{three_of}
+use Rattle.q_command.specs.Sinks.{view_sink}
+use Rattle.q_app.specs.Says.{devices}
 use Rattle.q_app.specs.declared.answer.Answer.TheVariants as answer
-use Rattle.q_app.proofs.Feeding.{if_some_2}
-use Rattle.q_app.proofs.Exact.{answers, if_verified-some}
+use Rattle.q_command.proofs.Feeding.{if_some_2}
+use Rattle.q_command.proofs.Exact.{answers, if_verified-some}
 use Rattle.q_app.proofs.Saying.{said, check-usage, check-read, check-write}
 use Rattle.q_app.proofs.top.run_check.Goals as goal
 

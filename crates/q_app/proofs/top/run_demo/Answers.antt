@@ -1,6 +1,6 @@
 use Rattle.std.proofs.Common.{◌≡◌, ◌∙◌, ◌∷◌, [], sym, ap}
 use Rattle.q_app.specs.Words.{checking, simplifying, generating, options_of, nothing_set}
-use Rattle.q_app.specs.Commands.{three_of}
+use Rattle.q_command.specs.Names.{three_of}
 use Rattle.q_app.proofs.Turns.{stops, goes_on, options-same}
 use Rattle.q_app.proofs.top.run_demo.Goals as goal
 

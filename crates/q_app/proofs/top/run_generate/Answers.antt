@@ -1,7 +1,8 @@
 use Rattle.std.proofs.Common.{refl}
 use Rattle.std.proofs.lemmas.Option.{IfSome_then}
 use Rattle.q_app.specs.Words.{generating}
-use Rattle.q_app.specs.Says.{devices, view_sink}
+use Rattle.q_command.specs.Sinks.{view_sink}
+use Rattle.q_app.specs.Says.{devices}
 use Rattle.q_app.specs.declared.answer.Answer.TheVariants as answer
 use Rattle.q_app.proofs.Generating.{generate-answers}
 use Rattle.q_app.proofs.Saying.{said, generate-usage, generate-read, generate-write}

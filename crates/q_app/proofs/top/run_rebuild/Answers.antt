@@ -2,7 +2,8 @@ use Rattle.std.proofs.Common.{refl}
 use Rattle.std.proofs.lemmas.Option.{IfSome_then}
 use Rattle.q_app.specs.Words.{rebuilding}
 use Rattle.q_app.specs.Commands.{five_of}
-use Rattle.q_app.specs.Says.{devices, view_sink}
+use Rattle.q_command.specs.Sinks.{view_sink}
+use Rattle.q_app.specs.Says.{devices}
 use Rattle.q_app.specs.declared.answer.Answer.TheVariants as answer
 use Rattle.q_app.proofs.Deciding.{rebuild-answers}
 use Rattle.q_app.proofs.Saying.{said, rebuild-usage, rebuild-read, rebuild-write}

@@ -1,8 +1,9 @@
 use Rattle.std.proofs.Common.{refl}
 use Rattle.std.proofs.lemmas.Option.{IfSome_then}
 use Rattle.q_app.specs.Words.{simplifying}
-use Rattle.q_app.specs.Commands.{three_of}
-use Rattle.q_app.specs.Says.{devices, view_sink}
+use Rattle.q_command.specs.Names.{three_of}
+use Rattle.q_command.specs.Sinks.{view_sink}
+use Rattle.q_app.specs.Says.{devices}
 use Rattle.q_app.specs.declared.answer.Answer.TheVariants as answer
 use Rattle.q_app.proofs.Answering.{simplify-answers}
 use Rattle.q_app.proofs.Saying.{said, simplify-usage, simplify-read, simplify-write}

@@ -8,11 +8,17 @@ use Rattle.q_carry.proofs.Lists.{slice_get-below}
 use Rattle.q_carry.proofs.Opening.{no_bound}
 use Rattle.q_carry.proofs.Tabling.{allowed-forall, allowed-exists}
 use Rattle.q_carry.proofs.Reading.{too-inner, outer-here, outer-more, outer-skip}
+use Rattle.q_carry.proofs.Deepening.{shallow-allowed}
 use Rattle.q_carry.proofs.reads.first_reading.Goals.{in-Forall, in-Exists+in_default}
 use Rattle.q_carry.proofs.reads.first_reading.Goals as goal
 
 pub allow-requires : goal.allow-requires
 allow-requires c = record { within = λ x i e. let s = c.requires.places.sound x i e in let t : i < length c.args.given.now.inputs = s.0 in let r : length c.args.allowed.now ≡ length c.args.given.now.inputs = c.requires.room in omega arith }
+
+pub reads_of-requires-clause-shallow : goal.reads_of-requires-clause-shallow
+reads_of-requires-clause-shallow c k lt le =
+    shallow-allowed c.args.prefix.now c.loop-i.i c.args.given.now.inputs c.args.depths.now.inputs.items c.loop-i.allowed c.loop-i-test.true c.requires.depths c.loop-i.invariant.allowed k
+    (subst (λ (g : CertificateView). k < length g.inputs) c.loop-i.invariant.same lt) le
 
 pub returns-in-Some-clause-found : goal.returns-in-Some-clause-found
 returns-in-Some-clause-found c =

@@ -1,7 +1,7 @@
 use Rattle.std.proofs.Common.{◌≡◌, ◌≤◌, ℕ, ◌+◌, ◌-◌, ◌∷◌, drop, length, map, sym, subst, ap, ◌∙◌, List, Option, arith}
 use Rattle.std.proofs.lemmas.List.{length-map}
 use Rattle.q_logic.specs.Undos.{UndoEntry}
-use Rattle.q_check.specs.Entries.{entry_of}
+use Rattle.q_judge.specs.Entries.{entry_of}
 use Rattle.q_carry.specs.Undone.{IsUndone}
 use Rattle.q_rebuild.specs.TakenBack.{AreUndone}
 use Rattle.q_carry.proofs.Lists.{drop-mapped}

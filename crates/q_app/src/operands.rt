@@ -1,0 +1,132 @@
+// Operands: names of files, which differ, and what stands behind them.
+ghost use Rattle.std.specs.Prelude.{◌≡◌, ◌≢◌, map, option_map, string_bytes, IfSome};
+ghost use Rattle.q_command.specs.Names.{three_of};
+ghost use Rattle.q_app.specs.Operands.{DifferFour, are_different as spec_are_different, fourth, is_fourth as spec_is_fourth, just_three, three_names as spec_three_names, two_names as spec_two_names};
+ghost use Rattle.q_app.specs.Words.{budget_in};
+
+use crate::settings::Settings;
+use q_command::Names;
+
+fn are_different(a: &str, b: &str, c: &str) -> bool
+    ensures { result ≡ spec_are_different a.now b.now c.now }
+{
+    a != b && a != c && b != c
+}
+
+/// The names of three files that the operands begin with, and the words behind them.
+#[derive(Clone, Copy)]
+pub(crate) struct Begun<'a> {
+    pub names: Names<'a>,
+    pub rest: &'a [String],
+}
+
+/// The names, where they differ.
+pub(crate) fn three_names(operands: &[String]) -> Option<Begun>
+    ensures names { option_map (λ o. (three_of o.names, map (λ w. string_bytes w) o.rest.now)) result
+        ≡ spec_three_names (map (λ w. string_bytes w) operands.now) }
+    ensures apart { IfSome result (λ o. o.names.output.now ≢ o.names.log.now) }
+{
+    if operands.len() < 3 {
+        return None;
+    }
+    let input = operands[0].as_str();
+    let output = operands[1].as_str();
+    let log = operands[2].as_str();
+    if !are_different(input, output, log) {
+        return None;
+    }
+    Some(Begun {
+        names: Names { input, output, log },
+        rest: &operands[3..],
+    })
+}
+
+/// The three names that the operands are.
+pub(crate) fn only_names(operands: &[String]) -> Option<Names>
+    ensures names { option_map (λ o. three_of o) result
+        ≡ just_three (spec_three_names (map (λ w. string_bytes w) operands.now)) }
+    ensures apart { IfSome result (λ o. o.output.now ≢ o.log.now) }
+{
+    let Some(begun) = three_names(operands) else {
+        return None;
+    };
+    if !begun.rest.is_empty() {
+        return None;
+    }
+    Some(begun.names)
+}
+
+/// The names of two files that the operands begin with, and the words behind them.
+#[derive(Clone, Copy)]
+pub(crate) struct Pair<'a> {
+    pub first: &'a str,
+    pub second: &'a str,
+    pub rest: &'a [String],
+}
+
+/// The names, where they differ.
+pub(crate) fn two_names(operands: &[String]) -> Option<Pair>
+    ensures { option_map (λ o. (o.first.now, o.second.now, map (λ w. string_bytes w) o.rest.now)) result
+        ≡ spec_two_names (map (λ w. string_bytes w) operands.now) }
+{
+    if operands.len() < 2 {
+        return None;
+    }
+    let first = operands[0].as_str();
+    let second = operands[1].as_str();
+    if first == second {
+        return None;
+    }
+    Some(Pair {
+        first,
+        second,
+        rest: &operands[2..],
+    })
+}
+
+/// The names of IN, OUT, LOG and one more file that the operands begin with, and the words behind them.
+#[derive(Clone, Copy)]
+pub(crate) struct Four<'a> {
+    pub names: Names<'a>,
+    pub last: &'a str,
+    pub rest: &'a [String],
+}
+
+fn is_fourth(names: Names, last: &str) -> bool
+    ensures { result ≡ spec_is_fourth (three_of names) last.now }
+{
+    names.input != last && names.output != last && names.log != last
+}
+
+/// The names, where they differ.
+pub(crate) fn four_names(operands: &[String]) -> Option<Four>
+    ensures names { option_map (λ o. (three_of o.names, o.last.now, map (λ w. string_bytes w) o.rest.now)) result
+        ≡ fourth (spec_three_names (map (λ w. string_bytes w) operands.now)) }
+    ensures apart { IfSome result (λ o. DifferFour (three_of o.names) o.last.now) }
+{
+    let Some(begun) = three_names(operands) else {
+        return None;
+    };
+    if begun.rest.is_empty() {
+        return None;
+    }
+    let last = begun.rest[0].as_str();
+    if !is_fourth(begun.names, last) {
+        return None;
+    }
+    Some(Four {
+        names: begun.names,
+        last,
+        rest: &begun.rest[1..],
+    })
+}
+
+/// The budget that these words set, if they set nothing else.
+pub(crate) fn budget_of(words: &[String]) -> Option<Option<u64>>
+    ensures { result ≡ budget_in (map (λ w. string_bytes w) words.now) }
+{
+    match Settings::of(words) {
+        Some(settings) => settings.only_budget(),
+        None => None,
+    }
+}

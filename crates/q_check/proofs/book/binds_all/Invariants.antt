@@ -1,8 +1,0 @@
-use Rattle.std.proofs.Common.{◌≡◌, take, true}
-use Rattle.q_logic.specs.Literals.{Literal}
-use Rattle.q_logic.specs.Formulas.{IsIn}
-use Rattle.q_logic.specs.Prefixes.{is_bound}
-use Rattle.q_check.proofs.book.binds_all.Given as goal
-
-abbrev pub invariant-loop-k : goal.invariant-loop-k
-invariant-loop-k l = (j : Literal) → IsIn j (take l.k-index l.clause) → is_bound l.scope j.var ≡ true

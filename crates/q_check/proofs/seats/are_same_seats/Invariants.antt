@@ -1,6 +1,0 @@
-use Rattle.std.proofs.Common.{◌≡◌, ◌<◌, ℕ, true}
-use Rattle.q_check.specs.Scopes.{is_same_seat, seat_at}
-use Rattle.q_check.proofs.seats.are_same_seats.Given as goal
-
-abbrev pub invariant-loop-var : goal.invariant-loop-var
-invariant-loop-var l = (v : ℕ) → v < l.var → is_same_seat (seat_at l.mine v) (seat_at l.others v) ≡ true

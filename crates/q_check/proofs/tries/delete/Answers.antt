@@ -1,0 +1,53 @@
+use Rattle.std.proofs.Common.{Option, Some, None, Err, refl, subst}
+use Rattle.std.proofs.lemmas.Result.{err_from_is_err_and}
+use Rattle.q_logic.specs.Literals.{Literal}
+use Rattle.q_logic.specs.StepForms.{first_of}
+use Rattle.q_prop.specs.Slots.{filled, without}
+use Rattle.q_judge.specs.Warrants.{IsAnswered}
+use Rattle.q_judge.proofs.Trying.{delete-unfound, delete-refused, delete-valid, delete-after, delete-entry, warranted}
+use Rattle.q_check.proofs.tries.delete.Goals as goal
+
+pub returns-in_err-at : goal.returns-in_err-at
+returns-in_err-at c m =
+    let L = c.args.ledger.now in
+    let e = c.in_err-at.field-0.0 in
+    let r = err_from_is_err_and c.from_residual.result c.from_residual.ensures.1 in
+    let h = delete-unfound c.args.keep m L.prefix L.slots (first_of c.args.lits.now) c.args.clause.now e (rw (c.scope.ensures, c.store.ensures) at c.in_err-at.ensures) in
+    rw (r.1, r.2) h
+
+pub warrant-requires : goal.warrant-requires
+warrant-requires c =
+    let f = rw (c.scope.ensures, c.store.ensures) at c.in_ok-at.ensures in
+    record { within = f.0; first = rw c.first_lit.ensures c.requires }
+
+pub returns-in_err-warrant : goal.returns-in_err-warrant
+returns-in_err-warrant c m =
+    let L = c.args.ledger.now in
+    let p = first_of c.args.lits.now in
+    let e = c.in_err-warrant.field-0.0 in
+    let f = rw (c.scope.ensures, c.store.ensures) at c.in_ok-at.ensures in
+    let r = err_from_is_err_and c.from_residual-in_err-warrant.result c.from_residual-in_err-warrant.ensures.1 in
+    let x = rw c.first_lit.ensures at c.in_err-warrant.ensures.exact in
+    rw (r.1, r.2, c.in_err-warrant.ensures.same) (delete-refused L.prefix L.slots c.in_ok-at.at c.args.clause.now f.1 c.args.keep m p e f.0 x)
+
+pub returns-in_err-entry : goal.returns-in_err-entry
+returns-in_err-entry c m =
+    let r = err_from_is_err_and c.from_residual-in_err-entry.result c.from_residual-in_err-entry.ensures.1 in
+    rw (r.1, r.2, c.in_err-entry.ensures.same, c.in_ok-warrant.ensures.same) refl
+
+pub delete-requires : goal.delete-requires
+delete-requires c =
+    let f = rw (c.scope.ensures, c.store.ensures) at c.in_ok-at.ensures in
+    rw (c.in_ok-entry.ensures.same, c.in_ok-warrant.ensures.same) f.1
+
+pub returns : goal.returns
+returns c m =
+    let L = c.args.ledger.now in
+    let p = first_of c.args.lits.now in
+    let C = c.args.clause.now in
+    let n = c.in_ok-at.at in
+    let f = rw (c.scope.ensures, c.store.ensures) at c.in_ok-at.ensures in
+    let x = rw c.first_lit.ensures at c.in_ok-warrant.ensures.exact in
+    let v = delete-valid L.prefix L.slots n C f.1 m p f.0 (warranted L.prefix (filled (without L.slots (Some n))) p C c.in_ok-warrant.warrant x) in
+    let q = rw (c.kept_pivot-pivot.ensures, c.first_lit-2.ensures, c.in_ok-warrant.ensures.same) at c.in_ok-entry.ensures.exact in
+    rw (c.delete.ensures, c.in_ok-entry.ensures.same, c.in_ok-warrant.ensures.same) (v, delete-after L.prefix L.slots n C f.1 p, delete-entry L.prefix L.slots n C f.1 c.args.keep p c.in_ok-warrant.warrant c.in_ok-entry.entry x q)

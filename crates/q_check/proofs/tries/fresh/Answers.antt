@@ -1,0 +1,33 @@
+use Rattle.std.proofs.Common.{refl}
+use Rattle.std.proofs.lemmas.Result.{err_from_is_err_and}
+use Rattle.q_logic.specs.Steps.{insert_after}
+use Rattle.q_prop.specs.Slots.{filled}
+use Rattle.q_logic.proofs.Members.{test-false}
+use Rattle.q_logic.proofs.Alike.{alike_itself}
+use Rattle.q_judge.proofs.Trying.{of, fresh-refused, fresh-entry}
+use Rattle.q_check.proofs.tries.fresh.Goals as goal
+
+pub returns-then-not-takes_fresh : goal.returns-then-not-takes_fresh
+returns-then-not-takes_fresh c =
+    let L = c.args.ledger.now in
+    let t = rw c.scope.ensures at c.takes_fresh.ensures in
+    rw c.refusal.ensures (refl, fresh-refused c.args.limits L.prefix (filled L.slots) c.args.v c.args.w (test-false c.takes_fresh.result t c.if-not-takes_fresh.true))
+
+pub insert-requires : goal.insert-requires
+insert-requires c =
+    let t = rw c.scope.ensures at c.takes_fresh.ensures in
+    let v = t.0 c.if-not-takes_fresh.false in
+    record { absent = v.absent; there = v.behind }
+
+pub returns-in_err-insert : goal.returns-in_err-insert
+returns-in_err-insert c =
+    let r = err_from_is_err_and c.from_residual-in_err-insert.result c.from_residual-in_err-insert.ensures.1 in
+    rw (r.1, r.2, c.in_err-insert.ensures.err) refl
+
+pub returns : goal.returns
+returns c =
+    let L = c.args.ledger.now in
+    let t = rw c.scope.ensures at c.takes_fresh.ensures in
+    let v = t.0 c.if-not-takes_fresh.false in
+    let X = filled L.slots in
+    rw c.in_ok-insert.ensures.ok (v, alike_itself (of (insert_after c.args.w c.args.v L.prefix) X), fresh-entry c.args.keep (of L.prefix X) c.args.v c.args.w c.fresh_entry.result c.fresh_entry.ensures)

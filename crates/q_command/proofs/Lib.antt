@@ -1,0 +1,9 @@
+pub mod Feeding
+pub mod Auditing
+pub mod Concluding
+pub mod Exact
+pub mod Limits
+pub mod WholeFiles
+pub mod Formulas
+pub mod Putting
+pub mod Outcomes

@@ -1,0 +1,7 @@
+use Rattle.std.proofs.Common.{◌∙◌}
+use Rattle.q_command.proofs.Putting.{said-same}
+use Rattle.q_command.proofs.outcome.Outcome.say.Goals as goal
+
+pub returns : goal.returns
+returns g c =
+    said-same c.as_bytes.result.now _ c.status.result _ c.put.result _ _ (c.as_bytes.ensures.value ∙ (c.as_str.ensures.value ∙ c.line.ensures)) c.status.ensures c.put.ensures

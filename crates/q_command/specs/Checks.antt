@@ -1,0 +1,163 @@
+-- What `check` answers over the bytes of its three files.
+use Rattle.std.specs.Prelude.{◌≡◌, ◌⊎◌, ◌↔◌, ℕ, Bool, true, List, length, Some}
+use Rattle.q_logic.specs.Formulas.{PrenexFormula}
+use Rattle.q_logic.specs.Limits.{standard}
+use Rattle.q_logic.specs.Prefixes.{blocks, SameBlocks}
+use Rattle.q_logic.specs.Steps.{ProofStep}
+use Rattle.q_logic.specs.Runs.{ValidSteps, SameFormula, Run}
+use Rattle.q_logic.specs.Truth.{Holds}
+use Rattle.q_logic.specs.Undos.{UndoEntry, Undos}
+use Rattle.q_dimacs.specs.Dimacs.{Dimacs}
+use Rattle.q_dimacs.specs.Offences.{Offence}
+use Rattle.q_log.specs.Logs.{Steps, read}
+use Rattle.q_command.specs.Logs.{Entry, steps_of, IsRefusedAt}
+use Rattle.q_command.specs.Taken.{AreOfLog}
+use Rattle.q_command.specs.declared.audit.Keep.{Keep}
+use Rattle.q_command.specs.declared.checking.Checked.{Checked}
+use Rattle.q_command.specs.declared.outcome.Role.{Role}
+use Rattle.q_command.specs.declared.outcome.Role.TheVariants.{In, Out}
+use Rattle.q_command.specs.declared.outcome.Outcome.{Outcome}
+use Rattle.q_command.specs.declared.outcome.Outcome.TheVariants.{Verified, RefusedLine, RefusedEnd, RefusedInput, ReadFault, NoMemory}
+use Rattle.q_command.specs.declared.input.InputError.{InputError}
+use Rattle.q_command.specs.declared.input.InputError.TheVariants as reading
+use Rattle.q_command.specs.declared.status.Status.{Status}
+use Rattle.q_command.specs.declared.status.Status.TheVariants as status
+
+-- the bytes are the file of a formula
+abbrev pub IsFileOf : List ℕ → PrenexFormula → Type 0
+IsFileOf bytes F = Dimacs standard bytes F
+
+abbrev pub IsNoFormula : List ℕ → Type 0
+IsNoFormula bytes = (F : PrenexFormula) → ¬ IsFileOf bytes F
+
+-- the files hold formulas of which this is true
+pub record OfFormulas (input output : List ℕ) (P : PrenexFormula → PrenexFormula → Type 0) : Type 0 where
+  pub from : PrenexFormula
+  pub to : PrenexFormula
+  pub is_input : IsFileOf input from
+  pub is_output : IsFileOf output to
+  pub holds : P from to
+
+-- the bytes are a log whose steps are a run from F to G
+pub record IsRunLog (log : List ℕ) (F G : PrenexFormula) (entries : List Entry) : Type 0 where
+  pub is_log : Steps standard.bytes log ≡ Some entries
+  pub run : Run F (steps_of entries) G
+
+abbrev pub LeadsTo : List ℕ → PrenexFormula → PrenexFormula → Type 0
+LeadsTo log F G = (entries : List Entry) × IsRunLog log F G entries
+
+-- the steps are valid and end in a formula other than G: cause 9 where the blocks differ, 10 where
+-- only the clauses do
+pub record EndsElsewhere (log : List ℕ) (F G : PrenexFormula) (cause : ℕ) : Type 0 where
+  pub entries : List Entry
+  pub last : PrenexFormula
+  pub is_log : Steps standard.bytes log ≡ Some entries
+  pub steps : ValidSteps standard F (steps_of entries) last
+  pub differ : ¬ SameFormula last G
+  pub why :
+      ((cause ≡ 9) × ¬ SameBlocks (blocks last.prefix) (blocks G.prefix))
+      ⊎ ((cause ≡ 10) × SameBlocks (blocks last.prefix) (blocks G.prefix))
+
+-- the log leads from F to G by so many steps, and where an undo list is kept, this is theirs
+pub record LogPasses (keep : Bool) (log : List ℕ) (F G : PrenexFormula) (n : ℕ) (us : List UndoEntry) : Type 0 where
+  pub entries : List Entry
+  pub leads : IsRunLog log F G entries
+  pub count : n ≡ length entries
+  pub undone : keep ≡ true → Undos F (steps_of entries) us
+
+-- some steps lead from F to G, and where an undo list is kept, this is theirs
+abbrev pub LeadsBack : Bool → PrenexFormula → PrenexFormula → List UndoEntry → Type 0
+LeadsBack keep F G us = (ss : List ProofStep) × Run F ss G × (keep ≡ true → Undos F ss us)
+
+-- the files hold these formulas, the log passes, and where its steps are kept, these are they
+pub record FilesPass (keep : Keep) (i o l : List ℕ) (c : Checked) : Type 0 where
+  pub is_input : IsFileOf i c.from
+  pub is_output : IsFileOf o c.to
+  pub log : LogPasses keep.undo l c.from c.to c.steps c.undo
+  pub taken : AreOfLog keep.steps l c.taken.items
+
+-- what the outcome says of a log, from the formula F to G
+abbrev pub LogSays : Outcome → PrenexFormula → PrenexFormula → List ℕ → Type 0
+LogSays (Verified n) F G log = (entries : List Entry) × IsRunLog log F G entries × (n ≡ length entries)
+LogSays (RefusedLine n c) F G log = IsRefusedAt F (read standard.bytes log) n c
+LogSays (RefusedEnd c) F G log = EndsElsewhere log F G c
+LogSays (RefusedInput r n c) F G log = ⊥
+LogSays ReadFault F G log = Unit {0}
+LogSays NoMemory F G log = Unit {0}
+
+-- what the outcome says of the three files
+abbrev pub Checks : Outcome → List ℕ → List ℕ → List ℕ → Type 0
+Checks (Verified n) i o l = OfFormulas i o (λ F G. LogSays (Verified n) F G l)
+Checks (RefusedLine n c) i o l = OfFormulas i o (λ F G. LogSays (RefusedLine n c) F G l)
+Checks (RefusedEnd c) i o l = OfFormulas i o (λ F G. LogSays (RefusedEnd c) F G l)
+Checks (RefusedInput In n c) i o l = Offence standard i n c
+Checks (RefusedInput Out n c) i o l = (F : PrenexFormula) × IsFileOf i F × Offence standard o n c
+Checks ReadFault i o l = Unit {0}
+Checks NoMemory i o l = Unit {0}
+
+abbrev pub input_refused : Role → InputError → Outcome
+input_refused r (reading.Refused n c) = RefusedInput r n c
+input_refused r reading.Fault = ReadFault
+input_refused r reading.NoMemory = NoMemory
+
+-- why an operand gives no formula
+abbrev pub IsInputRefusal : Role → Outcome → List ℕ → Type 0
+IsInputRefusal r (Verified n) bytes = ⊥
+IsInputRefusal r (RefusedLine n c) bytes = ⊥
+IsInputRefusal r (RefusedEnd c) bytes = ⊥
+IsInputRefusal r (RefusedInput s n c) bytes = (s ≡ r) × Offence standard bytes n c
+IsInputRefusal r ReadFault bytes = Unit {0}
+IsInputRefusal r NoMemory bytes = Unit {0}
+
+-- no log was verified
+abbrev pub IsUnverified : Outcome → Type 0
+IsUnverified (Verified n) = ⊥
+IsUnverified (RefusedLine n c) = Unit {0}
+IsUnverified (RefusedEnd c) = Unit {0}
+IsUnverified (RefusedInput s n c) = Unit {0}
+IsUnverified ReadFault = Unit {0}
+IsUnverified NoMemory = Unit {0}
+
+-- an outcome that comes before the log is looked at
+abbrev pub IsEarly : Outcome → Type 0
+IsEarly (Verified n) = ⊥
+IsEarly (RefusedLine n c) = ⊥
+IsEarly (RefusedEnd c) = ⊥
+IsEarly (RefusedInput s n c) = Unit {0}
+IsEarly ReadFault = Unit {0}
+IsEarly NoMemory = Unit {0}
+
+-- the log leads from the formula of IN to that of OUT
+abbrev pub IsVerified : List ℕ → List ℕ → List ℕ → Type 0
+IsVerified i o l = OfFormulas i o (LeadsTo l)
+
+-- IN and OUT hold formulas, and the log does not lead from one to the other
+abbrev pub IsNoRun : List ℕ → List ℕ → List ℕ → Type 0
+IsNoRun i o l = OfFormulas i o (λ F G. ¬ LeadsTo l F G)
+
+-- the formulas of the two files have one truth value
+abbrev pub HaveOneTruth : List ℕ → List ℕ → Type 0
+HaveOneTruth i o = (F G : PrenexFormula) → IsFileOf i F → IsFileOf o G → Holds F ↔ Holds G
+
+abbrev pub IfVerified : Outcome → Type 0 → Type 0
+IfVerified (Verified n) P = P
+IfVerified (RefusedLine n c) P = Unit {0}
+IfVerified (RefusedEnd c) P = Unit {0}
+IfVerified (RefusedInput r n c) P = Unit {0}
+IfVerified ReadFault P = Unit {0}
+IfVerified NoMemory P = Unit {0}
+
+-- faults and want of memory may come in place of any answer
+abbrev pub MayCome : Status → Type 0
+MayCome s = (s ≡ status.ReadFault) ⊎ (s ≡ status.WriteFault) ⊎ (s ≡ status.NoMemory)
+
+-- the status comes exactly where this holds, but for faults and want of memory
+abbrev pub Exactly : Status → Status → Type 0 → Type 0
+Exactly answer s P = (answer ≡ s → P) × (P → (answer ≡ s) ⊎ MayCome answer)
+
+-- when each status of `check` comes
+pub record AnswersExactly (answer : Status) (i o l : List ℕ) : Type 0 where
+  pub verified : Exactly answer status.Done (IsVerified i o l)
+  pub truth : answer ≡ status.Done → HaveOneTruth i o
+  pub log_refused : Exactly answer status.LogRefused (IsNoRun i o l)
+  pub input_refused : Exactly answer status.InputRefused (IsNoFormula i ⊎ IsNoFormula o)

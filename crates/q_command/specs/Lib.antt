@@ -1,0 +1,11 @@
+pub mod Statuses
+pub mod Lines
+pub mod Sinks
+pub mod Names
+pub mod Inputs
+pub mod Logs
+pub mod Refusals
+pub mod Taken
+pub mod Audits
+pub mod Checks
+pub mod Texts

@@ -1,0 +1,25 @@
+//! What all commands share: statuses and lines, the formulas, circuits and other texts of files, and the check of a log.
+#![tactic(auto)]
+
+mod audit;
+mod checking;
+mod circuits;
+mod input;
+mod line;
+mod names;
+mod outcome;
+mod refusals;
+mod status;
+mod taken;
+mod whole_file;
+
+pub use audit::Keep;
+pub use checking::{Checked, check, verify};
+pub use circuits::{CircuitsError, read_circuits, write_circuits};
+pub use input::{InputError, read_input};
+pub use line::{Line, number_line, numbers_line, place, put, words_line};
+pub use names::Names;
+pub use outcome::{Outcome, Role};
+pub use status::Status;
+pub use taken::TakenStep;
+pub use whole_file::read_whole;

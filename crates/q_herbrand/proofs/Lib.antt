@@ -1,0 +1,11 @@
+pub mod Swapping
+pub mod Shifting
+pub mod Gathering
+pub mod Falsifying
+pub mod Entering
+pub mod Placing
+pub mod Following
+pub mod Along
+pub mod Accepting
+pub mod Dropping
+pub mod Noting

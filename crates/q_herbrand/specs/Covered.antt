@@ -1,0 +1,38 @@
+-- What an entry asks of the circuits, and what it costs.
+use Rattle.std.specs.Prelude.{◌≡◌, ℕ, ◌+◌, Bool, true, List, [], ◌∷◌, length}
+use Rattle.q_logic.specs.Literals.{Literal}
+use Rattle.q_logic.specs.Formulas.{Clause, IsIn}
+use Rattle.q_logic.specs.Circuits.{Reads}
+use Rattle.q_logic.specs.Skolems.{Strategy, circuit_of, given}
+use Rattle.q_logic.specs.Steps.{literals_in}
+use Rattle.q_carry.specs.Covered.{ClauseCovered, OutersCovered}
+use Rattle.q_logic.specs.Reversals.{Reversal, added, turned, plain, freshened, removed, Forth}
+
+-- the circuits of the literals do not read v
+abbrev pub OutersClear : ℕ → Strategy → List Clause → Type 0
+OutersClear v c outers = (O : Clause) → IsIn O outers → (k : Literal) → IsIn k O → given (c k.var) ≡ true →
+    ¬ Reads (circuit_of c k.var) v
+
+abbrev pub EntryCovered : (ℕ → Bool) → Reversal → Strategy → Type 0
+EntryCovered U (added l outers) c = (U l.var ≡ true) × OutersCovered U c outers × OutersClear l.var c outers
+EntryCovered U (turned l outers) c = OutersCovered U c outers
+EntryCovered U (plain l same within) c = ClauseCovered U c same
+EntryCovered U (freshened v) c = U v ≡ true
+EntryCovered U (removed v) c = Unit {0}
+
+-- whenever an entry is taken, what its clauses hold has a circuit or is an input
+abbrev pub AreCovered : (ℕ → Bool) → List Reversal → Strategy → Type 0
+AreCovered U [] c = Unit {0}
+AreCovered U (r ∷ rs) c = EntryCovered U r (Forth rs c) × AreCovered U rs c
+
+-- the literals and the clauses of an entry; a plain one counts as one clause
+abbrev pub weight : Reversal → ℕ
+weight (added l outers) = literals_in outers + length outers
+weight (turned l outers) = literals_in outers + length outers
+weight (plain l same within) = length same + length within + 2
+weight (freshened v) = 0
+weight (removed v) = 0
+
+abbrev pub weights : List Reversal → ℕ
+weights [] = 0
+weights (r ∷ rs) = weight r + weights rs

@@ -1,0 +1,113 @@
+//! The reversals of a run, noted step by step. What an entry needs of the formula is found when its step comes, before
+//! the formula changes.
+ghost use Rattle.std.specs.Prelude.{◌≡◌, ◌++◌, List, [], ◌∷◌, IfOk, IfErr, OnOk, OnErr};
+ghost use Rattle.q_logic.specs.Formulas.{PrenexFormula};
+ghost use Rattle.q_logic.specs.Limits.{standard};
+ghost use Rattle.q_logic.specs.Runs.{AreAlike};
+ghost use Rattle.q_logic.specs.Steps.{ProofStep, Valid, after};
+ghost use Rattle.q_logic.specs.Reversals.{IsExtended, Reversals as ReversalsOf};
+ghost use Rattle.q_herbrand.specs.Trails.{HasGrownBy, HasNoted, IsNoted, IsPassed};
+
+use crate::course::Course;
+use crate::error::TrailError;
+use crate::reversal::{Reversal, Reversals};
+use q_judge::{first_lit, load_clause, load_rest};
+use q_logic::{Formula, Kind, Lit, NoMemory, Step};
+use std::alloc::Global;
+use std::marker::Model;
+
+/// The formula that the steps so far left, and their reversals.
+#[derive(Drop)]
+pub struct Trail {
+    course: Course,
+    entries: Vec<Reversal>,
+    clause: Vec<Lit>,
+    rest: Vec<Lit>,
+}
+
+impl Model for Trail {
+    ghost use Rattle.std.specs.Prelude.{map};
+    ghost use Rattle.q_herbrand.specs.Trails.{Trailed};
+    ghost use Rattle.q_herbrand.specs.Entries.{entry_of};
+
+    ghost Value = { Trailed };
+
+    ghost view = { λ t. record { formula = t.course; reversals = map entry_of t.entries.items } };
+}
+
+impl Trail {
+    /// The trail of no step.
+    pub fn start(alloc: Global, formula: &Formula) -> Result<Trail, NoMemory>
+        ensures formula { IfOk result (λ t. AreAlike formula.now t.formula) }
+        ensures reversals { IfOk result (λ t. t.reversals ≡ []) }
+        ensures noted { IfOk result (HasNoted formula.now []) }
+    {
+        let course = Course::start(alloc, formula)?;
+        Ok(Trail {
+            course,
+            entries: Vec::new(alloc),
+            clause: Vec::new(alloc),
+            rest: Vec::new(alloc),
+        })
+    }
+
+    /// Notes a valid step. An extended drop is refused; after an error the trail is as before.
+    pub fn note(&mut self, step: &Step) -> Result<(), TrailError>
+        requires { Valid standard self.old.formula step.now }
+        ensures formula { OnOk result (AreAlike (after self.old.formula step.now) self.new.formula) }
+        ensures reversals { OnOk result
+            (HasGrownBy self.old.formula step.now self.old.reversals self.new.reversals) }
+        ensures noted { OnOk result ((F : PrenexFormula) → (ss : List ProofStep) →
+            HasNoted F ss self.old → HasNoted F (ss ++ step.now ∷ []) self.new) }
+        ensures plain { OnOk result (¬ IsExtended self.old.formula step.now) }
+        ensures refused { IfErr result (IsNoted self.old.formula step.now) }
+        ensures unchanged { OnErr result (self.new ≡ self.old) }
+    {
+        self.entries.reserve(1)?;
+        let entry = pass(&mut self.course, &mut self.clause, &mut self.rest, step)?;
+        if let Some(entry) = entry {
+            self.entries.push_reserved(entry);
+        }
+        Ok(())
+    }
+
+    /// The reversals of the steps noted, in their order. It takes no memory.
+    pub fn finish(self) -> Reversals
+        ensures value { result ≡ self.reversals }
+        ensures reversals { (F : PrenexFormula) → (ss : List ProofStep) → HasNoted F ss self →
+            ReversalsOf F ss result }
+    {
+        Reversals::from_entries(self.entries)
+    }
+}
+
+// Passes over a step.
+fn pass(
+    course: &mut Course,
+    clause: &mut Vec<Lit>,
+    rest: &mut Vec<Lit>,
+    step: &Step,
+) -> Result<Option<Reversal>, TrailError>
+    requires { Valid standard course.old step.now }
+    ensures { IsPassed course.old step.now course.new result }
+{
+    let lits = step.lits();
+    match step.kind() {
+        Kind::Add => {
+            load_clause(clause, lits)?;
+            course.add(clause, first_lit(lits))
+        }
+        Kind::Delete => {
+            load_clause(clause, lits)?;
+            course.delete(clause);
+            Ok(None)
+        }
+        Kind::Drop => {
+            load_clause(clause, lits)?;
+            load_rest(rest, lits)?;
+            course.drop_literal(clause, rest, lits[0])
+        }
+        Kind::Fresh => course.fresh(lits[0].var(), lits[1].var()),
+        Kind::Remove => Ok(course.remove(lits[0].var())),
+    }
+}

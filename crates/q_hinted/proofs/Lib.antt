@@ -1,0 +1,8 @@
+pub mod Reading
+pub mod Shut
+pub mod Writing
+pub mod Fitting
+pub mod Spelling
+pub mod Parsing
+pub mod Profiles
+pub mod Rereading

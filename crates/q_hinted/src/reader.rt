@@ -1,0 +1,126 @@
+ghost use Rattle.std.specs.Prelude.{◌≡◌, ◌≤◌, ◌^◌, [], ◌∷◌, List, ℕ, Option, Some, None, Ok, Err, IfOk, IfErr};
+ghost use Rattle.q_hinted.specs.Logs.{read_entries};
+ghost use Rattle.q_hinted.specs.Reading.{start, to_come, turn, profile, profile_after, Answers, Leads, Ends};
+
+use crate::builder::{Entry, EntryBuilder};
+use q_log::LogError;
+use q_logic::{Proof, Step};
+use q_text::Tokens;
+use std::alloc::Global;
+use std::marker::Model;
+
+/// Reads a log of either profile byte by byte and hands out its steps, each at the byte that ends it,
+/// in the second profile with its proof part.
+#[derive(Drop)]
+pub struct BothReader {
+    tokens: Tokens,
+    left: u64,
+    builder: EntryBuilder,
+    refused: Option<LogError>,
+}
+
+impl Model for BothReader {
+    ghost use Rattle.std.specs.Prelude.{◌≤◌, ◌+◌, ◌^◌};
+    ghost use Rattle.q_text.specs.Tokens.{line_of};
+    ghost use Rattle.q_hinted.specs.Builders.{place_of};
+    ghost use Rattle.q_hinted.specs.Reading.{BothState};
+
+    ghost Value = { BothState };
+
+    ghost view = { λ r. record {
+      tokens = r.tokens;
+      left = r.left;
+      place = place_of r.builder;
+      refused = r.refused;
+    } };
+
+    ghost invariant = { λ r. line_of r.tokens + r.left ≤ 2 ^ 62 + 1 };
+}
+
+impl BothReader {
+    /// A reader of at most `bytes` bytes.
+    pub fn new(alloc: Global, bytes: u64) -> Result<BothReader, LogError>
+        requires { bytes ≤ 2 ^ 62 }
+        ensures start { IfOk result (λ r. r ≡ start bytes) }
+        ensures log { IfOk result (λ r. (text : List ℕ) → to_come r text ≡ read_entries bytes text) }
+        ensures err { IfErr result (λ e. e ≡ LogError.NoMemory) }
+    {
+        Ok(BothReader {
+            tokens: Tokens::new(),
+            left: bytes,
+            builder: EntryBuilder::new(alloc),
+            refused: None,
+        })
+    }
+
+    /// The step that this byte ends, if it ends one, the line of its first token, and in the second
+    /// profile its proof part. In the second profile a step ends with its proof part.
+    pub fn push(&mut self, byte: u8) -> Result<Option<Entry>, LogError>
+        ensures turn { Answers result self.new (turn self.old byte) }
+        ensures next { (rest : List ℕ) → Leads result (to_come self.old (byte ∷ rest)) (to_come self.new rest) }
+        ensures again { (e : LogError) → self.old.refused ≡ Some e → (result ≡ Err e) × (self.new ≡ self.old) }
+        ensures stops { (e : LogError) → result ≡ Err e → self.new.refused ≡ Some e }
+        ensures profile { profile self.new ≡ profile_after self.old byte }
+    {
+        if let Some(error) = self.refused {
+            return Err(error);
+        }
+        if self.left == 0 {
+            let error = LogError::Limit {
+                line: self.tokens.line(),
+            };
+            self.refused = Some(error);
+            return Err(error);
+        }
+        self.left -= 1;
+        let Some(token) = self.tokens.push(byte) else {
+            return Ok(None);
+        };
+        match self.builder.take(token) {
+            Ok(entry) => Ok(entry),
+            Err(error) => {
+                self.refused = Some(error);
+                Err(error)
+            }
+        }
+    }
+
+    /// The step that the end of the bytes makes whole, if it makes one.
+    pub fn finish(self) -> Result<Option<Entry>, LogError>
+        ensures end { Ends result (to_come self []) }
+        ensures again { (e : LogError) → self.refused ≡ Some e → result ≡ Err e }
+    {
+        if let Some(error) = self.refused {
+            return Err(error);
+        }
+        let BothReader {
+            tokens,
+            left: _,
+            mut builder,
+            refused: _,
+        } = self;
+        let line = tokens.line();
+        let entry = match tokens.finish() {
+            Some(token) => builder.take(token)?,
+            None => None,
+        };
+        if builder.is_open() {
+            return Err(LogError::BadLine { line });
+        }
+        Ok(entry)
+    }
+
+    /// The profile of the log: 2 exactly where its first token is `p`, else 1.
+    pub fn profile(&self) -> u8
+        ensures { result ≡ profile self.now }
+    {
+        self.builder.profile()
+    }
+
+    /// Keeps the memory of a step and a proof part that were handed out for later ones.
+    pub fn keep(&mut self, step: Step, proof: Option<Proof>)
+        ensures { self.new ≡ self.old }
+    {
+        self.builder.keep(step, proof);
+    }
+}

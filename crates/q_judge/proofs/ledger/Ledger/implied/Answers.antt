@@ -1,0 +1,4 @@
+use Rattle.q_judge.proofs.ledger.Ledger.implied.Goals as goal
+
+pub returns-clause-exact : goal.returns-clause-exact
+returns-clause-exact c = rw (← c.self.view_is) c.implied.ensures.exact

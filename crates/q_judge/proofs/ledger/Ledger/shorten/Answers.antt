@@ -1,0 +1,46 @@
+use Rattle.std.proofs.Common.{Some, arith}
+use Rattle.q_logic.specs.Pivots.{without}
+use Rattle.q_logic.proofs.Sets.{without-shorter}
+use Rattle.q_prop.proofs.SlotLemmas.{slice_get-in}
+use Rattle.q_judge.proofs.Apart.{all-shrunk}
+use Rattle.q_judge.proofs.Keeping.{counted-shrunk, ordered-without}
+use Rattle.q_judge.proofs.Slots.{left-sizes}
+use Rattle.q_judge.proofs.Trying.{put-holds}
+use Rattle.q_judge.proofs.ledger.Ledger.shorten.Goals as goal
+
+pub add-requires : goal.add-requires
+add-requires c =
+    let r = c.requires.rest in
+    record { ordered = rw r.1 (ordered-without r.0 c.args.clause.now c.requires.ordered) }
+
+pub delete-requires : goal.delete-requires
+delete-requires c =
+    let s = c.self.inside.store in
+    let C = c.args.clause.now in
+    let r = c.requires.rest in
+    let h = rw (← c.self.view_is) at c.requires.there in
+    let p = rw r.1 at c.in_ok-new.ensures.ok in
+    slice_get-in c.add.new.self c.args.at (Some C) (put-holds s c.add.new.self c.args.at c.in_ok-new.new C (without r.0 C) p h)
+
+pub overflow_sub-self : goal.overflow_sub-self
+overflow_sub-self c = let r = c.requires.rest in rw r.1 (without-shorter r.0 c.args.clause.now)
+
+pub overflow_sub-self-2 : goal.overflow_sub-self-2
+overflow_sub-self-2 c =
+    let h = rw (← c.self.view_is) at c.requires.there in
+    let z = left-sizes c.self.inside.store c.args.at c.args.clause.now h in
+    omega (arith, z.1, c.self.invariant.0.lits_are)
+
+pub invariant_of-self-2 : goal.invariant_of-self-2
+invariant_of-self-2 c =
+    let i = c.self.inside in
+    let C = c.args.clause.now in
+    let r = c.requires.rest in
+    let t = c.add.new.self in
+    let k = c.in_ok-new.new in
+    let h = rw (← c.self.view_is) at c.requires.there in
+    let p = rw r.1 at c.in_ok-new.ensures.ok in
+    rw (c.delete.ensures, r.1) (
+      counted-shrunk i.scope i.store t c.args.at k r.0 C i.clauses i.lits c.self.invariant.0 h p,
+      all-shrunk i.scope i.recent i.store t c.args.at k r.0 C h p c.self.invariant.1,
+    )

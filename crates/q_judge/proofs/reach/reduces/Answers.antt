@@ -1,0 +1,15 @@
+use Rattle.std.proofs.Common.{◌≡◌, sym, true≢false}
+use Rattle.q_logic.specs.Literals.{Literal, negation}
+use Rattle.q_logic.specs.Formulas.{Clause, Matrix, Prefix, IsIn}
+use Rattle.q_logic.specs.Reach.{Reached, Reducible}
+use Rattle.q_prop.specs.Slots.{filled}
+use Rattle.q_prop.specs.Slots.{without as without_slot}
+use Rattle.q_judge.proofs.reach.reduces.Goals as goal
+
+negated : (P : Prefix) (X : Matrix) (C : Clause) (l : Literal) → IsIn (negation l) C → Reducible P X C l → ⊥
+negated P X C l m h = h.no_negation C Reached.first m
+
+pub returns-then-holds-clause-exact : goal.returns-then-holds-clause-exact
+returns-then-holds-clause-exact c =
+    let m = rw c.negated.ensures at c.holds.ensures in
+    ((λ t. absurd (true≢false (sym t))), (λ h. absurd (negated c.args.scope.now (filled (without_slot c.args.store.now c.args.skip)) c.args.clause.now c.args.lit (m.0 c.if-holds.true) h)))

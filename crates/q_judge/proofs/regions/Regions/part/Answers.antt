@@ -1,0 +1,41 @@
+use Rattle.std.proofs.Common.{◌≡◌, ℕ, true, List, [], ◌∷◌, zero, suc, ◌<◌, length, get_or, refl, sym, subst, inl, inr, arith}
+use Rattle.q_logic.specs.Formulas.{Clause, IsIn}
+use Rattle.q_logic.specs.Expanding.{inner_existential}
+use Rattle.q_logic.proofs.Membership.{Contains-IsIn}
+use Rattle.q_prop.specs.Slots.{Holds}
+use Rattle.q_logic.proofs.Members.{taken-cases, taken-all}
+use Rattle.q_judge.proofs.Slots.{in-held, one_clause}
+use Rattle.q_judge.proofs.regions.Regions.part.Goals as goal
+use Rattle.q_judge.proofs.regions.Regions.part.Goals.{in-Some+else-not-has_none, in_default}
+
+-- an item does not depend on what stands past the end
+whichever : (xs : List ℕ) (i d e : ℕ) → i < length xs → get_or xs i d ≡ get_or xs i e
+whichever [] i d e h = absurd (omega arith)
+whichever (x ∷ xs) zero d e h = refl
+whichever (x ∷ xs) (suc i) d e h = whichever xs i d e (omega arith)
+
+pub loop-at-init : goal.loop-at-init
+loop-at-init c n m = absurd m
+
+pub loop-at-preserved : goal.loop-at-preserved
+loop-at-preserved c n m D h k a t r =
+    let xs = c.slots_of-at-items.result.now in
+    let i = c.loop-at.at-index in
+    elim (taken-cases xs i (get_or xs i 0) n c.loop-at-test.true (whichever xs i 0 (get_or xs i 0) c.loop-at-test.true) m) [
+      | inl b ↦ c.loop-at.invariant n b D h k a t r
+      | inr q ↦
+          let there = subst (λ (x : ℕ). Holds c.args.store.now x D) q h in
+          elim c.match-slot.branch [
+            | in-Some+else-not-has_none w ↦
+                let e = one_clause c.args.store.now (get_or xs i 0) D w.in-Some.clause.now there w.in-Some.ensures in
+                w.has_none.ensures w.if-not-has_none.false k (subst (λ (E : Clause). IsIn k E) e a) (subst (λ (x : ℕ). inner_existential c.args.scope.now x k.var ≡ true) (sym w.var.ensures.value) t) r
+            | in_default w ↦ w.in_default.ensures D there
+          ]
+    ]
+
+pub returns : goal.returns
+returns c t D d m =
+    let xs = c.slots_of-at-items.result.now in
+    let n = in-held c.args.store.now D d in
+    let l = Contains-IsIn n.0 xs (c.slots_of-at-items.ensures.all_there n.0 D n.1 m) in
+    c.loop-at.invariant n.0 (subst (λ ys. IsIn n.0 ys) (sym (taken-all xs c.loop-at.at-index c.loop-at-test.false)) l) D n.1

@@ -1,0 +1,127 @@
+use Rattle.std.proofs.Common.{◌∙◌, None, set, length, sym, arith, true≢false}
+use Rattle.std.proofs.lemmas.List.{length-set}
+use Rattle.q_logic.specs.Steps.{removed_from}
+use Rattle.q_judge.specs.Scopes.{bounds_from}
+use Rattle.q_judge.proofs.Readings.{no_seat-unbound}
+use Rattle.q_judge.proofs.Changes.{seated-bounds, seated-view, gone-counts, gone-stays, gone-joined, gone-low, gone-high, unlinked-other, unlinked-gone, count-down}
+use Rattle.q_judge.proofs.scope.Scope.remove.Goals as goal
+
+pub count_down-left-requires-clause-inside : goal.count_down-left-requires-clause-inside
+count_down-left-requires-clause-inside c =
+    let i = c.self.inside in
+    let P = bounds_from i.seats.items i.first (length i.seats.items) in
+    let e = sym (rw c.deref.ensures.value at c.seat_of.ensures) ∙ c.in-Some.is in
+    (gone-counts P i.first i.seats.items i.counts.items c.self.invariant c.args.var c.in-Some.seat e).1
+
+pub count_down-left-requires-clause-some : goal.count_down-left-requires-clause-some
+count_down-left-requires-clause-some c =
+    let i = c.self.inside in
+    let P = bounds_from i.seats.items i.first (length i.seats.items) in
+    let e = sym (rw c.deref.ensures.value at c.seat_of.ensures) ∙ c.in-Some.is in
+    (gone-counts P i.first i.seats.items i.counts.items c.self.invariant c.args.var c.in-Some.seat e).0
+
+pub join_blocks-requires-clause-low : goal.join_blocks-requires-clause-low
+join_blocks-requires-clause-low c x y p q =
+    let i = c.self.inside in
+    let P = bounds_from i.seats.items i.first (length i.seats.items) in
+    let s = c.in-Some.seat in
+    let v = c.args.var in
+    let e = sym (rw c.deref.ensures.value at c.seat_of.ensures) ∙ c.in-Some.is in
+    let n = c.link_before.new.seats in
+    let k = c.count_down-left.ensures.counts in
+    let z = count-down i.counts.items c.count_down-left.new.counts.items s.rank (gone-counts P i.first i.seats.items i.counts.items c.self.invariant v s e).1 k ∙ sym c.count_down-left.ensures.left ∙ c.if-left-eq0.true in
+    gone-low P i.first i.seats.items i.counts.items c.self.invariant v s e (set n.items v None)
+    (unlinked-other i.seats.items c.link_after.new.seats.items n.items v s c.link_after.ensures.seats c.link_before.ensures.seats)
+    (unlinked-gone i.seats.items c.link_after.new.seats.items n.items v s)
+    c.link_after.new.first c.count_down-left.new.counts.items c.link_after.ensures.first k z x y p q
+    (let l = length-set n.items v None in omega (arith, l, n.ok.0, n.ok.1, n.small))
+
+pub join_blocks-requires-clause-high : goal.join_blocks-requires-clause-high
+join_blocks-requires-clause-high c x y p q =
+    let i = c.self.inside in
+    let P = bounds_from i.seats.items i.first (length i.seats.items) in
+    let s = c.in-Some.seat in
+    let v = c.args.var in
+    let e = sym (rw c.deref.ensures.value at c.seat_of.ensures) ∙ c.in-Some.is in
+    let n = c.link_before.new.seats in
+    let k = c.count_down-left.ensures.counts in
+    let z = count-down i.counts.items c.count_down-left.new.counts.items s.rank (gone-counts P i.first i.seats.items i.counts.items c.self.invariant v s e).1 k ∙ sym c.count_down-left.ensures.left ∙ c.if-left-eq0.true in
+    gone-high P i.first i.seats.items i.counts.items c.self.invariant v s e (set n.items v None)
+    (unlinked-other i.seats.items c.link_after.new.seats.items n.items v s c.link_after.ensures.seats c.link_before.ensures.seats)
+    (unlinked-gone i.seats.items c.link_after.new.seats.items n.items v s)
+    c.link_after.new.first c.count_down-left.new.counts.items c.link_after.ensures.first k z x y p q
+    (let l = length-set n.items v None in omega (arith, l, n.ok.0, n.ok.1, n.small))
+
+pub invariant_of-self : goal.invariant_of-self
+invariant_of-self c =
+    let i = c.self.inside in
+    let P = bounds_from i.seats.items i.first (length i.seats.items) in
+    let s = c.in-Some.seat in
+    let v = c.args.var in
+    let e = sym (rw c.deref.ensures.value at c.seat_of.ensures) ∙ c.in-Some.is in
+    let n = c.link_before.new.seats in
+    let k = c.count_down-left.ensures.counts in
+    let z = count-down i.counts.items c.count_down-left.new.counts.items s.rank (gone-counts P i.first i.seats.items i.counts.items c.self.invariant v s e).1 k ∙ sym c.count_down-left.ensures.left ∙ c.if-left-eq0.true in
+    seated-view (removed_from v P) c.link_after.new.first c.join_blocks.new.seats.items c.join_blocks.new.counts.items
+    (gone-joined P i.first i.seats.items i.counts.items c.self.invariant v s e (set n.items v None)
+    (unlinked-other i.seats.items c.link_after.new.seats.items n.items v s c.link_after.ensures.seats c.link_before.ensures.seats)
+    (unlinked-gone i.seats.items c.link_after.new.seats.items n.items v s)
+    c.link_after.new.first c.count_down-left.new.counts.items c.link_after.ensures.first k z
+    c.join_blocks.new.seats.items c.join_blocks.new.counts.items c.join_blocks.ensures.none c.join_blocks.ensures.joined)
+
+pub invariant_of-self-else-left-eq0 : goal.invariant_of-self-else-left-eq0
+invariant_of-self-else-left-eq0 c =
+    let i = c.self.inside in
+    let P = bounds_from i.seats.items i.first (length i.seats.items) in
+    let s = c.in-Some.seat in
+    let v = c.args.var in
+    let e = sym (rw c.deref.ensures.value at c.seat_of.ensures) ∙ c.in-Some.is in
+    let n = c.link_before.new.seats in
+    let k = c.count_down-left.ensures.counts in
+    let z = count-down i.counts.items c.count_down-left.new.counts.items s.rank (gone-counts P i.first i.seats.items i.counts.items c.self.invariant v s e).1 k ∙ sym c.count_down-left.ensures.left in
+    seated-view (removed_from v P) c.link_after.new.first (set n.items v None) c.count_down-left.new.counts.items
+    (gone-stays P i.first i.seats.items i.counts.items c.self.invariant v s e (set n.items v None)
+    (unlinked-other i.seats.items c.link_after.new.seats.items n.items v s c.link_after.ensures.seats c.link_before.ensures.seats)
+    (unlinked-gone i.seats.items c.link_after.new.seats.items n.items v s)
+    c.link_after.new.first c.count_down-left.new.counts.items c.link_after.ensures.first k (λ h. c.if-left-eq0.false (sym z ∙ h)))
+
+pub returns-then-left-eq0 : goal.returns-then-left-eq0
+returns-then-left-eq0 c =
+    let i = c.self.inside in
+    let P = bounds_from i.seats.items i.first (length i.seats.items) in
+    let s = c.in-Some.seat in
+    let v = c.args.var in
+    let e = sym (rw c.deref.ensures.value at c.seat_of.ensures) ∙ c.in-Some.is in
+    let n = c.link_before.new.seats in
+    let k = c.count_down-left.ensures.counts in
+    let z = count-down i.counts.items c.count_down-left.new.counts.items s.rank (gone-counts P i.first i.seats.items i.counts.items c.self.invariant v s e).1 k ∙ sym c.count_down-left.ensures.left ∙ c.if-left-eq0.true in
+    rw (← c.self.view_is) (seated-bounds (removed_from v P) c.link_after.new.first c.join_blocks.new.seats.items c.join_blocks.new.counts.items
+    (gone-joined P i.first i.seats.items i.counts.items c.self.invariant v s e (set n.items v None)
+    (unlinked-other i.seats.items c.link_after.new.seats.items n.items v s c.link_after.ensures.seats c.link_before.ensures.seats)
+    (unlinked-gone i.seats.items c.link_after.new.seats.items n.items v s)
+    c.link_after.new.first c.count_down-left.new.counts.items c.link_after.ensures.first k z
+    c.join_blocks.new.seats.items c.join_blocks.new.counts.items c.join_blocks.ensures.none c.join_blocks.ensures.joined))
+
+pub returns-else-left-eq0 : goal.returns-else-left-eq0
+returns-else-left-eq0 c =
+    let i = c.self.inside in
+    let P = bounds_from i.seats.items i.first (length i.seats.items) in
+    let s = c.in-Some.seat in
+    let v = c.args.var in
+    let e = sym (rw c.deref.ensures.value at c.seat_of.ensures) ∙ c.in-Some.is in
+    let n = c.link_before.new.seats in
+    let k = c.count_down-left.ensures.counts in
+    let z = count-down i.counts.items c.count_down-left.new.counts.items s.rank (gone-counts P i.first i.seats.items i.counts.items c.self.invariant v s e).1 k ∙ sym c.count_down-left.ensures.left in
+    rw (← c.self.view_is) (seated-bounds (removed_from v P) c.link_after.new.first (set n.items v None) c.count_down-left.new.counts.items
+    (gone-stays P i.first i.seats.items i.counts.items c.self.invariant v s e (set n.items v None)
+    (unlinked-other i.seats.items c.link_after.new.seats.items n.items v s c.link_after.ensures.seats c.link_before.ensures.seats)
+    (unlinked-gone i.seats.items c.link_after.new.seats.items n.items v s)
+    c.link_after.new.first c.count_down-left.new.counts.items c.link_after.ensures.first k (λ h. c.if-left-eq0.false (sym z ∙ h))))
+
+pub returns-in_default : goal.returns-in_default
+returns-in_default c =
+    let i = c.self.inside in
+    let P = bounds_from i.seats.items i.first (length i.seats.items) in
+    let h = rw (← c.self.view_is) at c.requires in
+    let e = sym (rw c.deref.ensures.value at c.seat_of.ensures) ∙ c.in_default.is in
+    absurd (true≢false (sym h ∙ no_seat-unbound P i.first i.seats.items i.counts.items c.self.invariant c.args.var e))

@@ -1,0 +1,60 @@
+use Rattle.std.proofs.Common.{◌∙◌, ◌++◌, ◌∷◌, ◌<◌, ◌≤◌, ℕ, List, Option, take, drop, get_or, length, sym, subst, arith, add-one, suc, ◌+◌}
+use Rattle.q_logic.specs.declared.formulas.Quant.TheVariants.{Exists}
+use Rattle.q_logic.specs.declared.formulas.Bound.{Bound}
+use Rattle.q_logic.specs.Formulas.{Prefix}
+use Rattle.q_logic.specs.Prefixes.{Distinct}
+use Rattle.q_judge.specs.declared.seats.Seat.{Seat}
+use Rattle.q_judge.specs.Scopes.{next_rank, AreNumbered}
+use Rattle.q_judge.proofs.Seating.{IsSeating, seating-taken, seating-few, seating-low, seating-done, take-past, drop-past, take-next, drop-here, take-drop, take-size, first-drop, get-bound}
+use Rattle.q_judge.proofs.seats.seat_all.Goals as goal
+
+-- what is to come begins with the next variable
+here : (P : Prefix) (i : ℕ) (d : Bound) → i < length P → (room kinds : ℕ) (seats : List (Option Seat)) (counts : List ℕ) (last : Option Bound) (rank : ℕ) → IsSeating (take i P) (drop i P) room kinds seats counts last rank → IsSeating (take i P) (get_or P i d ∷ drop (suc i) P) room kinds seats counts last rank
+here P i d l room kinds seats counts last rank h = subst (λ (C : Prefix). IsSeating (take i P) C room kinds seats counts last rank) (drop-here P i d l) h
+
+apart : (P : Prefix) (i : ℕ) (d : Bound) → i < length P → Distinct P → Distinct (take i P ++ get_or P i d ∷ drop (suc i) P)
+apart P i d l h = subst (λ (C : Prefix). Distinct (take i P ++ C)) (drop-here P i d l) (subst (λ (Q : Prefix). Distinct Q) (sym (take-drop P i)) h)
+
+less : (i n : ℕ) → i < n → i ≤ n
+less i n h = omega arith
+
+pub take_seat-numbering-requires-clause-room : goal.take_seat-numbering-requires-clause-room
+take_seat-numbering-requires-clause-room c =
+    let d : Bound = record { quant = Exists; var = 0 } in
+    subst (λ (n : ℕ). (get_or c.args.prefix.now c.loop-i.i d).var < n) (sym c.loop-i.invariant.long) (c.requires.room (get_or c.args.prefix.now c.loop-i.i d).var (get-bound c.args.prefix.now c.loop-i.i d c.loop-i-test.true))
+
+pub take_seat-numbering-requires-clause-few : goal.take_seat-numbering-requires-clause-few
+take_seat-numbering-requires-clause-few c =
+    let d : Bound = record { quant = Exists; var = 0 } in
+    let P = c.args.prefix.now in
+    let i = c.loop-i.i in
+    let b = get_or P i d in
+    let s = c.loop-i in
+    let h = here P i d c.loop-i-test.true (length c.args.seats.now.items) (length c.args.counts.now.items) s.seats.items s.counts.items s.numbering.last s.numbering.rank s.invariant in
+    let few = seating-few (take i P) b (drop (suc i) P) (apart P i d c.loop-i-test.true c.requires.distinct) (length c.args.seats.now.items) (length c.args.counts.now.items) s.seats.items s.counts.items s.numbering.last s.numbering.rank h (next_rank s.numbering.last s.numbering.rank b.quant) in
+    let size = take-size P i (less i (length P) c.loop-i-test.true) in
+    let k = s.counts.ok in
+    omega (arith, few, size, c.loop-i-test.true, c.requires.counts, s.invariant.wide, k.0, k.1, s.counts.small)
+
+pub loop-i-preserved : goal.loop-i-preserved
+loop-i-preserved c =
+    let d : Bound = record { quant = Exists; var = 0 } in
+    let P = c.args.prefix.now in
+    let i = c.loop-i.i in
+    let b = get_or P i d in
+    let s = c.loop-i in
+    let h = here P i d c.loop-i-test.true (length c.args.seats.now.items) (length c.args.counts.now.items) s.seats.items s.counts.items s.numbering.last s.numbering.rank s.invariant in
+    let u = apart P i d c.loop-i-test.true c.requires.distinct in
+    let low = seating-low (take i P) b (drop (suc i) P) u (length c.args.seats.now.items) (length c.args.counts.now.items) s.seats.items s.counts.items s.numbering.last s.numbering.rank h in
+    let size = take-size P i (less i (length P) c.loop-i-test.true) in
+    let t = c.take_seat-numbering.ensures in
+    let f = rw add-one at (c.var_at-after.ensures ∙ first-drop P (i + 1)) in
+    rw (t.seats, t.counts, t.numbering, f, add-one, take-next P i d c.loop-i-test.true)
+    (seating-taken (take i P) b (drop (suc i) P) u (length c.args.seats.now.items) (length c.args.counts.now.items) s.seats.items s.counts.items s.numbering.last s.numbering.rank h
+    (c.requires.room b.var (get-bound P i d c.loop-i-test.true)) (omega (arith, low, size, c.requires.counts, c.loop-i-test.true)))
+
+done : (P : Prefix) (i room kinds : ℕ) (seats : List (Option Seat)) (counts : List ℕ) (last : Option Bound) (rank : ℕ) → Distinct P → length P ≤ i → IsSeating (take i P) (drop i P) room kinds seats counts last rank → AreNumbered P seats counts
+done P i room kinds seats counts last rank d l h = seating-done P d room kinds seats counts last rank (subst (λ (C : Prefix). IsSeating P C room kinds seats counts last rank) (drop-past P i l) (subst (λ (A : Prefix). IsSeating A (drop i P) room kinds seats counts last rank) (take-past P i l) h))
+
+pub returns : goal.returns
+returns c = done c.args.prefix.now c.loop-i.i (length c.args.seats.now.items) (length c.args.counts.now.items) c.loop-i.seats.items c.loop-i.counts.items c.loop-i.numbering.last c.loop-i.numbering.rank c.requires.distinct c.loop-i-test.false c.loop-i.invariant

@@ -1,0 +1,212 @@
+//! Labels for the variables that clauses connect.
+ghost use Rattle.std.specs.Prelude.{◌≡◌, ◌<◌, ℕ, true, cond, eqb, length, slice_index_or, OnOk};
+ghost use Rattle.q_logic.specs.Literals.{Literal};
+ghost use Rattle.q_logic.specs.Formulas.{IsIn};
+ghost use Rattle.q_logic.specs.Prefixes.{is_bound};
+ghost use Rattle.q_judge.specs.Regions.{label_of, region_of, IsCoarser};
+
+use crate::scope::Scope;
+use q_logic::{Lit, NoMemory};
+use q_prop::Store;
+use std::alloc::Global;
+use std::marker::Model;
+
+/// A label for each variable, and so its region. Regions can become one, but are never parted.
+#[derive(Drop)]
+pub struct Labels {
+    // 0 for a variable without a label
+    labels: Vec<u32>,
+    // whether a label is a region of its own; the others are the region 0
+    live: Vec<bool>,
+    // the slots whose clauses were met while labels are made
+    met: Vec<bool>,
+}
+
+impl Model for Labels {
+    ghost use Rattle.q_judge.specs.Regions.{Labelled};
+
+    ghost Value = { Labelled };
+
+    ghost view = { λ l. record { labels = l.labels.items; live = l.live.items } };
+}
+
+impl Labels {
+    /// All variables are in one region.
+    pub fn new(alloc: Global) -> Labels
+        ensures { (v : ℕ) → region_of result v ≡ 0 }
+    {
+        Labels {
+            labels: Vec::new(alloc),
+            live: Vec::new(alloc),
+            met: Vec::new(alloc),
+        }
+    }
+
+    /// All variables are in one region again.
+    pub fn forget(&mut self)
+        ensures { (v : ℕ) → region_of self.new v ≡ 0 }
+    {
+        self.labels.clear();
+        self.live.clear();
+    }
+
+    fn label_of(&self, var: u32) -> u32
+        ensures { result ≡ label_of self.now var }
+    {
+        self.labels.get(var as usize).copied().unwrap_or(0)
+    }
+
+    /// The region of a variable.
+    pub fn region_of(&self, var: u32) -> u32
+        ensures { result ≡ region_of self.now var }
+    {
+        let label = self.label_of(var);
+        if self.live.get(label as usize).copied().unwrap_or(false) {
+            label
+        } else {
+            0
+        }
+    }
+
+    /// Lets the variables of a clause be in one region, which is 0.
+    pub fn merge(&mut self, clause: &[Lit])
+        ensures one { (k : Literal) → IsIn k clause.now → region_of self.new k.var ≡ 0 }
+        ensures coarser { IsCoarser self.old self.new }
+    {
+        for k in clause {
+            let region = self.region_of(k.var());
+            self.melt(region);
+        }
+    }
+
+    // Lets a region be one with the region 0.
+    fn melt(&mut self, region: u32)
+        ensures { (v : ℕ) → region_of self.new v ≡ cond (eqb (region_of self.old v) region) 0 (region_of self.old v) }
+    {
+        if let Some(live) = self.live.get_mut(region as usize) {
+            *live = false;
+        }
+    }
+
+    /// Gives the variable v the label of w.
+    pub fn inherit(&mut self, v: u32, w: u32) -> Result<(), NoMemory>
+        ensures { (x : ℕ) → (x ≡ v → ⊥) → region_of self.new x ≡ region_of self.old x }
+    {
+        let label = self.label_of(w);
+        if label == 0 {
+            return Ok(());
+        }
+        self.put(v, label)
+    }
+
+    fn put(&mut self, var: u32, label: u32) -> Result<(), NoMemory>
+        ensures { (x : ℕ) → (x ≡ var → ⊥) → region_of self.new x ≡ region_of self.old x }
+    {
+        make_room(&mut self.labels, var)?;
+        self.labels[var as usize] = label;
+        Ok(())
+    }
+
+    /// Gives a label to each existential variable that is inner to w and occurs, the same one where clauses
+    /// connect them. This costs the size of the formula. Which labels they are is not promised: they are to
+    /// be verified.
+    pub fn make(
+        &mut self,
+        store: &Store,
+        scope: &Scope,
+        queue: &mut Vec<u32>,
+        w: u32,
+    ) -> Result<(), NoMemory>
+        requires { is_bound scope.now w ≡ true }
+    {
+        self.forget();
+        self.met.clear();
+        self.met.resize(store.slots(), false)?;
+        for at in 0..store.slots() {
+            self.spread(store, scope, queue, w, at)?;
+        }
+        self.live.resize(store.slots().saturating_add(1), true)?;
+        Ok(())
+    }
+
+    // Labels what clauses connect to the clause in a slot, unless it was met. The label is the slot's number, counted
+    // from 1.
+    fn spread(
+        &mut self,
+        store: &Store,
+        scope: &Scope,
+        queue: &mut Vec<u32>,
+        w: u32,
+        at: usize,
+    ) -> Result<(), NoMemory>
+        requires { is_bound scope.now w ≡ true }
+    {
+        let Ok(slot) = u32::try_from(at) else {
+            return Ok(());
+        };
+        queue.clear();
+        self.meet(queue, slot)?;
+        for head in 0..usize::MAX {
+            let Some(next) = queue.get(head).copied() else {
+                return Ok(());
+            };
+            self.visit(store, scope, queue, w, next, slot.saturating_add(1))?;
+        }
+        Ok(())
+    }
+
+    // Labels the inner variables of a clause, and puts the clauses with those that had no label into the queue.
+    fn visit(
+        &mut self,
+        store: &Store,
+        scope: &Scope,
+        queue: &mut Vec<u32>,
+        w: u32,
+        slot: u32,
+        label: u32,
+    ) -> Result<(), NoMemory>
+        requires { is_bound scope.now w ≡ true }
+    {
+        let Some(clause) = store.slot(slot as usize) else {
+            return Ok(());
+        };
+        for k in clause {
+            if scope.is_inner(k.var(), w) && self.label_of(k.var()) == 0 {
+                self.put(k.var(), label)?;
+                self.meet_all(queue, store.holders(*k))?;
+                self.meet_all(queue, store.holders(k.negated()))?;
+            }
+        }
+        Ok(())
+    }
+
+    fn meet_all(&mut self, queue: &mut Vec<u32>, slots: &[u32]) -> Result<(), NoMemory> {
+        for slot in slots {
+            self.meet(queue, *slot)?;
+        }
+        Ok(())
+    }
+
+    // Puts a slot into the queue, but only once.
+    fn meet(&mut self, queue: &mut Vec<u32>, slot: u32) -> Result<(), NoMemory> {
+        if let Some(met) = self.met.get_mut(slot as usize) {
+            if !*met {
+                *met = true;
+                queue.push(slot)?;
+            }
+        }
+        Ok(())
+    }
+}
+
+// Variables behind the last one with a label have the label 0.
+fn make_room(labels: &mut Vec<u32>, var: u32) -> Result<(), NoMemory>
+    ensures same { (v : ℕ) → slice_index_or labels.new.items v 0 ≡ slice_index_or labels.old.items v 0 }
+    ensures room { OnOk result (var < length labels.new.items) }
+{
+    let end = var as usize + 1;
+    if labels.len() < end {
+        labels.resize(end, 0)?;
+    }
+    Ok(())
+}

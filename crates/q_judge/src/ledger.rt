@@ -1,0 +1,355 @@
+//! A formula under change: its prefix in a scope and its clauses in slots, with all that the tests of steps need.
+//! Whether a step may be taken is asked before; a change asks only for what keeps a formula one.
+ghost use Rattle.std.specs.Prelude.{◌≡◌, ◌↔◌, ◌<◌, ◌+◌, ◌^◌, ◌∷◌, ◌++◌, [], true, false, None, Some, length, slice_set, IfOk, IfErr, OnOk, OnErr, IsTrue, MatchBool};
+ghost use Rattle.q_logic.specs.Formulas.{Clause, IsIn};
+ghost use Rattle.q_logic.specs.Hints.{Chained};
+ghost use Rattle.q_logic.specs.Limits.{AreModerate};
+ghost use Rattle.q_logic.specs.Literals.{Literal, IsBelow};
+ghost use Rattle.q_logic.specs.Numbered.{Slots};
+ghost use Rattle.q_logic.specs.Parts.{ArePairs};
+ghost use Rattle.q_logic.specs.Pivots.{outer, without};
+ghost use Rattle.q_logic.specs.Prefixes.{is_bound, is_existential, is_universal};
+ghost use Rattle.q_logic.specs.Propagation.{Implied};
+ghost use Rattle.q_logic.specs.Reach.{Reducible};
+ghost use Rattle.q_logic.specs.Runs.{SameFormula};
+ghost use Rattle.q_logic.specs.StepForms.{IsFirst};
+ghost use Rattle.q_logic.specs.Steps.{Within, KeepsLimits, IsAbsent, IsDroppable, insert_after, removed_from, literals_in};
+ghost use Rattle.q_logic.specs.Undos.{OutersOf};
+ghost use Rattle.q_prop.specs.Slots.{filled, Holds, IsPut};
+ghost use Rattle.q_prop.specs.Slots.{without as without_slot};
+ghost use Rattle.q_judge.specs.Entries.{IsPivotEntry};
+ghost use Rattle.q_judge.specs.Ledgers.{slotted, formula_in};
+ghost use Rattle.q_judge.specs.Tried.{IsEndRefusal};
+ghost use Rattle.q_judge.specs.Warrants.{IsAnswered, Resolves};
+
+use crate::checks::{compare, has_room, sum_of};
+use crate::error::CheckError;
+use crate::pivots::{Buffers, Warrant, push_outer, resolves, warrant_of};
+use crate::reach::{is_droppable, reduces};
+use crate::recent::RecentRegions;
+use crate::scope::Scope;
+use crate::undo::{Undo, collect_outers, pivot_entry};
+use q_logic::{Clauses, Formula, Limits, Lit, NoMemory};
+use q_prop::Store;
+use std::alloc::Global;
+use std::marker::Model;
+
+/// A prefix, and clauses in slots. Each clause's variables are in the prefix.
+#[derive(Drop)]
+pub struct Ledger {
+    alloc: Global,
+    scope: Scope,
+    store: Store,
+    clauses: u64,
+    lits: u64,
+    buffers: Buffers,
+    recent: RecentRegions,
+}
+
+impl Model for Ledger {
+    ghost use Rattle.q_prop.specs.Slots.{filled};
+    ghost use Rattle.q_judge.specs.Ledgers.{Slotted};
+    ghost use Rattle.q_judge.specs.Regions.{AreRegionsOf};
+    ghost use Rattle.q_judge.specs.Tried.{IsCounted};
+
+    ghost Value = { Slotted };
+
+    ghost view = { λ b. record { prefix = b.scope; slots = b.store } };
+
+    ghost invariant = { λ b. IsCounted (record { prefix = b.scope; matrix = filled b.store }) b.clauses b.lits × AreRegionsOf b.scope (filled b.store) b.recent };
+}
+
+impl Ledger {
+    /// The clauses stand in the slots from 0 on.
+    pub fn start(alloc: Global, formula: &Formula) -> Result<Ledger, NoMemory>
+        ensures { IfOk result (λ b. b ≡ slotted formula.now) }
+    {
+        let scope = Scope::start(alloc, formula.prefix())?;
+        let mut store = Store::with_buckets(alloc, formula.clauses());
+        let mut lits: u64 = 0;
+        for at in 0..formula.clauses() {
+            let clause = formula.clause(at);
+            lits = sum_of(lits, clause)?;
+            store.add(clause)?;
+        }
+        Ok(Ledger {
+            alloc,
+            scope,
+            store,
+            clauses: formula.clauses() as u64,
+            lits,
+            buffers: Buffers::new(alloc),
+            recent: RecentRegions::new(alloc),
+        })
+    }
+
+    /// The prefix.
+    pub fn scope(&self) -> &Scope
+        ensures { result.now ≡ self.now.prefix }
+    {
+        &self.scope
+    }
+
+    /// The clauses in their slots.
+    pub fn store(&self) -> &Store
+        ensures { result.now ≡ self.now.slots }
+    {
+        &self.store
+    }
+
+    /// Whether one more clause keeps the checker's limits, four times those of a file.
+    pub fn has_room(&self, limits: Limits, clause: &[Lit]) -> bool
+        requires { AreModerate limits }
+        ensures { IsTrue result ↔ KeepsLimits limits (clause.now ∷ filled self.now.slots) }
+    {
+        has_room(limits, self.clauses, self.lits, clause)
+    }
+
+    /// Whether the literals are implied by propagation, over the clauses of all slots but one.
+    pub fn implied(&mut self, lits: &[Lit], skip: Option<usize>) -> Result<bool, NoMemory>
+        ensures same { self.new ≡ self.old }
+        ensures exact { IfOk result (λ yes. IsTrue yes ↔ Implied (filled (without_slot self.old.slots skip)) lits.now) }
+    {
+        self.store.implied(lits, skip)
+    }
+
+    /// Whether the literals are implied as the hints tell, over the slots but one. Each hint is a slot.
+    pub fn chain(
+        &mut self,
+        lits: &[Lit],
+        skip: Option<usize>,
+        slots: &[usize],
+    ) -> Result<bool, NoMemory>
+        ensures same { self.new ≡ self.old }
+        ensures exact { IfOk result (λ yes. IsTrue yes ↔ Chained (without_slot self.old.slots skip) lits.now slots.now) }
+    {
+        self.store.chain(lits, skip, slots)
+    }
+
+    /// Whether the literals are implied by propagation, over the slots but one, and hints that show it. Each hint is a slot.
+    pub fn explain(
+        &mut self,
+        lits: &[Lit],
+        skip: Option<usize>,
+        slots: &mut Vec<usize>,
+    ) -> Result<bool, NoMemory>
+        ensures same { self.new ≡ self.old }
+        ensures exact { IfOk result (λ yes. IsTrue yes ↔ Implied (filled (without_slot self.old.slots skip)) lits.now) }
+        ensures shown { IfOk result (λ yes.
+            MatchBool yes (Chained (without_slot self.old.slots skip) lits.now slots.new.items) (slots.new.items ≡ [])) }
+    {
+        self.store.explain(lits, skip, slots)
+    }
+
+    /// Joins the literals with the outer clause on m of the clause in a slot.
+    pub fn join(
+        &self,
+        at: usize,
+        base: &[Lit],
+        m: Lit,
+        joined: &mut Vec<Lit>,
+    ) -> Result<(), NoMemory>
+        requires { is_bound self.now.prefix m.var ≡ true }
+        ensures { OnOk result ((C : Clause) → Holds self.now.slots at C → joined.new.items ≡ base.now ++ outer self.now.prefix m C) }
+    {
+        joined.clear();
+        joined.extend_from_slice(base)?;
+        let Some(clause) = self.store.slot(at) else {
+            return Ok(());
+        };
+        push_outer(joined, &self.scope, clause, m)?;
+        Ok(())
+    }
+
+    /// Why the clause may come or go, over the slots but one; refused where nothing speaks for it.
+    pub fn warrant(
+        &mut self,
+        skip: Option<usize>,
+        clause: &[Lit],
+        first: Option<Lit>,
+    ) -> Result<Warrant, CheckError>
+        requires within { Within self.old.prefix clause.now }
+        requires first { IsFirst first clause.now }
+        ensures same { self.new ≡ self.old }
+        ensures exact { IsAnswered self.old.prefix (filled (without_slot self.old.slots skip)) clause.now first result }
+    {
+        warrant_of(
+            &mut self.store,
+            &self.scope,
+            &mut self.buffers,
+            skip,
+            clause,
+            first,
+        )
+    }
+
+    /// Whether the literals, joined with the outer clause of each clause that holds m, are implied, over the slots but one.
+    pub fn resolves(&mut self, skip: Option<usize>, base: &[Lit], m: Lit) -> Result<bool, NoMemory>
+        requires { is_bound self.old.prefix m.var ≡ true }
+        ensures same { self.new ≡ self.old }
+        ensures exact { IfOk result (λ yes. IsTrue yes ↔ Resolves self.old.prefix (filled (without_slot self.old.slots skip)) base.now m) }
+    {
+        resolves(
+            &mut self.store,
+            &self.scope,
+            &mut self.buffers,
+            skip,
+            base,
+            m,
+        )
+    }
+
+    /// Whether the literal may go from the clause in a slot. `rest` is the clause without the literal.
+    pub fn is_droppable(
+        &mut self,
+        at: usize,
+        clause: &[Lit],
+        rest: &[Lit],
+        lit: Lit,
+    ) -> Result<bool, NoMemory>
+        requires within { Within self.old.prefix clause.now }
+        requires held { IsIn lit clause.now }
+        requires rest { rest.now ≡ without lit clause.now }
+        ensures same { self.new ≡ self.old }
+        ensures exact { IfOk result (λ yes. IsTrue yes ↔ IsDroppable self.old.prefix (filled (without_slot self.old.slots (Some at))) clause.now lit) }
+    {
+        is_droppable(
+            &mut self.store,
+            &self.scope,
+            &mut self.recent,
+            &mut self.buffers,
+            Some(at),
+            clause,
+            rest,
+            lit,
+        )
+    }
+
+    /// Whether the universal literal may go from the clause in a slot by its reach alone.
+    pub fn is_reducible(&mut self, at: usize, clause: &[Lit], lit: Lit) -> Result<bool, NoMemory>
+        requires within { Within self.old.prefix clause.now }
+        requires held { IsIn lit clause.now }
+        requires universal { is_universal self.old.prefix lit.var ≡ true }
+        ensures same { self.new ≡ self.old }
+        ensures exact { IfOk result (λ yes. IsTrue yes ↔ Reducible self.old.prefix (filled (without_slot self.old.slots (Some at))) clause.now lit) }
+    {
+        reduces(
+            &self.store,
+            &self.scope,
+            &mut self.recent,
+            &mut self.buffers,
+            Some(at),
+            clause,
+            lit,
+        )
+    }
+
+    /// The outer clauses on m of the clauses that hold m, in the slots but one.
+    pub fn outers(&mut self, skip: Option<usize>, m: Lit) -> Result<Clauses, NoMemory>
+        requires { is_bound self.old.prefix m.var ≡ true }
+        ensures same { self.new ≡ self.old }
+        ensures exact { IfOk result (λ c. OutersOf self.old.prefix (filled (without_slot self.old.slots skip)) m c) }
+    {
+        collect_outers(
+            self.alloc,
+            &mut self.buffers.joined,
+            &self.store,
+            &self.scope,
+            skip,
+            m,
+        )
+    }
+
+    /// What a deletion by the pivot leaves.
+    pub fn pivot_entry(&mut self, at: usize, pivot: Option<Lit>) -> Result<Option<Undo>, NoMemory>
+        requires { (l : Literal) → pivot ≡ Some l → is_bound self.old.prefix l.var ≡ true }
+        ensures same { self.new ≡ self.old }
+        ensures exact { IfOk result (λ u. IsPivotEntry self.old.prefix (filled (without_slot self.old.slots (Some at))) pivot u) }
+    {
+        pivot_entry(
+            self.alloc,
+            &mut self.buffers.joined,
+            &self.store,
+            &self.scope,
+            at,
+            pivot,
+        )
+    }
+
+    /// Puts a clause into an empty slot, which may be a new one.
+    pub fn put(&mut self, clause: &[Lit]) -> Result<usize, NoMemory>
+        requires ordered { ArePairs IsBelow clause.now }
+        requires within { Within self.old.prefix clause.now }
+        requires few_clauses { length (filled self.old.slots) < 2 ^ 63 }
+        requires few_lits { length clause.now + literals_in (filled self.old.slots) < 2 ^ 63 }
+        ensures prefix { self.new.prefix ≡ self.old.prefix }
+        ensures ok { IfOk result (λ at. IsPut self.old.slots at clause.now self.new.slots) }
+        ensures err { OnErr result (self.new ≡ self.old) }
+    {
+        self.recent.take(&self.scope, clause);
+        let at = self.store.add(clause)?;
+        self.clauses += 1;
+        self.lits += clause.len() as u64;
+        Ok(at)
+    }
+
+    /// Empties the slot of the clause. Takes no memory.
+    pub fn delete(&mut self, at: usize, clause: &[Lit])
+        requires { Holds self.old.slots at clause.now }
+        ensures { self.new ≡ record { prefix = self.old.prefix; slots = slice_set self.old.slots at None } }
+    {
+        self.store.delete(at);
+        self.clauses -= 1;
+        self.lits -= clause.len() as u64;
+    }
+
+    /// Puts the rest of a clause that loses a literal into another slot, and empties the clause's own.
+    pub fn shorten(&mut self, at: usize, clause: &[Lit], rest: &[Lit]) -> Result<usize, NoMemory>
+        requires there { Holds self.old.slots at clause.now }
+        requires ordered { ArePairs IsBelow clause.now }
+        requires rest { (l : Literal) × (rest.now ≡ without l clause.now) }
+        ensures ok { IfOk result (λ k. (t : Slots) × IsPut self.old.slots k rest.now t × (self.new ≡ record { prefix = self.old.prefix; slots = slice_set t at None })) }
+        ensures err { OnErr result (self.new ≡ self.old) }
+    {
+        let new = self.store.add(rest)?;
+        self.store.delete(at);
+        self.lits -= (clause.len() - rest.len()) as u64;
+        Ok(new)
+    }
+
+    /// Puts the existential v directly after the existential w.
+    pub fn insert(&mut self, v: u32, w: u32) -> Result<(), NoMemory>
+        requires absent { is_bound self.old.prefix v ≡ false }
+        requires there { is_existential self.old.prefix w ≡ true }
+        ensures ok { OnOk result (self.new ≡ record { prefix = insert_after w v self.old.prefix; slots = self.old.slots }) }
+        ensures err { OnErr result (self.new ≡ self.old) }
+    {
+        self.recent.inherit(v, w)?;
+        self.scope.insert_after(w, v)?;
+        Ok(())
+    }
+
+    /// Takes a variable that no clause holds out of the prefix.
+    pub fn remove(&mut self, var: u32)
+        requires bound { is_bound self.old.prefix var ≡ true }
+        requires absent { IsAbsent (filled self.old.slots) var }
+        ensures { self.new ≡ record { prefix = removed_from var self.old.prefix; slots = self.old.slots } }
+    {
+        self.recent.leave(&self.scope, var);
+        self.scope.remove(var);
+    }
+
+    /// Whether the formula is the output up to order.
+    pub fn finish(mut self, output: &Formula) -> Result<(), CheckError>
+        ensures same { OnOk result (SameFormula (formula_in self) output.now) }
+        ensures refused { IfErr result (IsEndRefusal (formula_in self) output.now) }
+    {
+        compare(
+            self.alloc,
+            &self.scope,
+            &mut self.store,
+            self.clauses,
+            output,
+        )
+    }
+}

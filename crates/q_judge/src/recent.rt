@@ -1,0 +1,145 @@
+//! Regions for several variables.
+ghost use Rattle.std.specs.Prelude.{◌≡◌, ◌∷◌, [], true, false, IsTrue};
+ghost use Rattle.q_logic.specs.Literals.{negation};
+ghost use Rattle.q_logic.specs.Formulas.{Matrix, Prefix, IsIn};
+ghost use Rattle.q_logic.specs.Prefixes.{Closed, is_bound, is_universal};
+ghost use Rattle.q_logic.specs.Reach.{Reducible};
+ghost use Rattle.q_prop.specs.Slots.{filled};
+ghost use Rattle.q_judge.specs.Regions.{AreRegionsOf};
+
+use crate::pivots::{Buffers, slots_of};
+use crate::regions::Regions;
+use crate::scope::Scope;
+use q_logic::{Lit, NoMemory};
+use q_prop::{Store, Trail};
+use std::alloc::Global;
+use std::marker::Model;
+
+// So many variables have regions at a time.
+const MOST: usize = 4;
+
+/// Regions for the variables that walks asked about last.
+#[derive(Drop)]
+pub struct RecentRegions {
+    alloc: Global,
+    recent: Vec<Regions>,
+    // how many clauses were looked at by walks that found nothing, since regions were last made
+    debt: usize,
+}
+
+impl Model for RecentRegions {
+    ghost use Rattle.std.specs.Prelude.{List};
+    ghost use Rattle.q_judge.specs.Regions.{RegionMap};
+
+    ghost Value = { List RegionMap };
+
+    ghost view = { λ m. m.recent.items };
+}
+
+impl RecentRegions {
+    pub fn new(alloc: Global) -> RecentRegions
+        ensures { result ≡ [] }
+    {
+        RecentRegions {
+            alloc,
+            recent: Vec::new(alloc),
+            debt: 0,
+        }
+    }
+
+    /// Whether regions tell that a literal is reducible in its clause. This looks at the clauses with the opposite
+    /// literal.
+    pub fn separate(&self, store: &Store, scope: &Scope, clause: &[Lit], lit: Lit) -> bool
+        requires held { IsIn lit clause.now }
+        requires universal { is_universal scope.now lit.var ≡ true }
+        requires not_negated { IsIn (negation lit) clause.now → ⊥ }
+        requires regions { AreRegionsOf scope.now (filled store.now) self.now }
+        ensures { IsTrue result → Reducible scope.now (filled store.now) clause.now lit }
+    {
+        for regions in &self.recent {
+            if regions.separate(store, scope, clause, lit) {
+                return true;
+            }
+        }
+        false
+    }
+
+    /// Keeps the regions right where a clause comes.
+    pub fn take(&mut self, scope: &Scope, clause: &[Lit])
+        ensures { (X : Matrix) → AreRegionsOf scope.now X self.old → AreRegionsOf scope.now (clause.now ∷ X) self.new }
+    {
+        for at in 0..self.recent.len() {
+            self.recent[at].take(scope, clause);
+        }
+    }
+
+    /// Keeps the regions for neighbours of a variable that is about to go.
+    pub fn leave(&mut self, scope: &Scope, var: u32)
+        ensures { (X : Matrix) → AreRegionsOf scope.now X self.old → AreRegionsOf scope.now X self.new }
+    {
+        for at in 0..self.recent.len() {
+            self.recent[at].leave(scope, var);
+        }
+    }
+
+    /// Puts a variable v, which is not in the prefix, into the region of w.
+    pub fn inherit(&mut self, v: u32, w: u32) -> Result<(), NoMemory>
+        ensures { (P : Prefix) (X : Matrix) → is_bound P v ≡ false → Closed P X → AreRegionsOf P X self.old → AreRegionsOf P X self.new }
+    {
+        for at in 0..self.recent.len() {
+            self.recent[at].inherit(v, w)?;
+        }
+        Ok(())
+    }
+
+    /// Learns of a walk for a variable that found nothing, and left what it met on the trail. Once such walks have looked
+    /// at more clauses than there are slots, regions are made for the variable: so that costs no more than the walks.
+    pub fn learn(
+        &mut self,
+        store: &Store,
+        scope: &Scope,
+        buffers: &mut Buffers,
+        var: u32,
+    ) -> Result<(), NoMemory>
+        requires bound { is_bound scope.now var ≡ true }
+        requires regions { AreRegionsOf scope.now (filled store.now) self.old }
+        ensures { AreRegionsOf scope.now (filled store.now) self.new }
+    {
+        self.debt = self.debt.saturating_add(looks(store, &buffers.trail));
+        if self.debt > store.slots() {
+            self.debt = 0;
+            self.make(store, scope, &mut buffers.slots, var)?;
+        }
+        Ok(())
+    }
+
+    // Makes regions for a variable. Where there is no room for them, the oldest go.
+    fn make(
+        &mut self,
+        store: &Store,
+        scope: &Scope,
+        queue: &mut Vec<u32>,
+        var: u32,
+    ) -> Result<(), NoMemory>
+        requires bound { is_bound scope.now var ≡ true }
+        requires regions { AreRegionsOf scope.now (filled store.now) self.old }
+        ensures { AreRegionsOf scope.now (filled store.now) self.new }
+    {
+        if self.recent.len() >= MOST {
+            let _ = self.recent.remove(0);
+        }
+        let mut regions = Regions::new(self.alloc, var);
+        regions.make(store, scope, queue)?;
+        self.recent.push(regions)?;
+        Ok(())
+    }
+}
+
+// How many clauses hold the negations of the literals on the trail.
+fn looks(store: &Store, trail: &Trail) -> usize {
+    let mut sum: usize = 0;
+    for place in 0..trail.len() {
+        sum = sum.saturating_add(slots_of(store, trail.at(place).negated()).len());
+    }
+    sum
+}

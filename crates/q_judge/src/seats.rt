@@ -1,0 +1,198 @@
+//! Where each variable of a prefix stands: its block's number, and its neighbours.
+ghost use Rattle.std.specs.Prelude.{◌≡◌, ◌<◌, ◌≤◌, ◌+◌, ◌^◌, ℕ, List, Bool, true, false, length, None, Some, Option, OnOk, IfOk, slice_get, slice_set, slice_index_or};
+ghost use Rattle.q_logic.specs.Prefixes.{Distinct, is_exists};
+ghost use Rattle.q_logic.specs.declared.formulas.Bound.{Bound as AnyBound};
+ghost use Rattle.q_judge.specs.Scopes.{AreNumbered, HaveRoom, next_rank, first_or, last_or, var_of, is_same_seat, seat_at, rank_at, beside};
+
+use q_logic::{Bound, NoMemory, Quant};
+use std::alloc::Global;
+
+/// The number of a variable's block, its quantifier, and its neighbours.
+#[derive(Clone, Copy)]
+pub struct Seat {
+    pub rank: usize,
+    pub quant: Quant,
+    pub before: Option<u32>,
+    pub after: Option<u32>,
+}
+
+/// The seats of a prefix, and how many variables each block has.
+#[derive(Drop)]
+pub struct Seats {
+    pub seats: Vec<Option<Seat>>,
+    pub counts: Vec<usize>,
+}
+
+pub fn seat_of(seats: &[Option<Seat>], var: u32) -> Option<Seat>
+    ensures { result ≡ seat_at seats.now var }
+{
+    seat_in(seats, var as usize)
+}
+
+fn seat_in(seats: &[Option<Seat>], var: usize) -> Option<Seat>
+    ensures { result ≡ seat_at seats.now var }
+{
+    seats.get(var).copied().unwrap_or(None)
+}
+
+pub fn rank_of(seats: &[Option<Seat>], var: u32) -> usize
+    ensures { result ≡ rank_at seats.now var }
+{
+    match seat_of(seats, var) {
+        Some(seat) => seat.rank,
+        None => 0,
+    }
+}
+
+pub fn is_exists(quant: Quant) -> bool
+    ensures { result ≡ is_exists quant }
+{
+    match quant {
+        Quant::Exists => true,
+        Quant::Forall => false,
+    }
+}
+
+/// Whether the variables have the same seats but for their neighbours.
+pub fn are_same_seats(mine: &[Option<Seat>], others: &[Option<Seat>]) -> bool
+    ensures yes { result ≡ true → (v : ℕ) → is_same_seat (seat_at mine.now v) (seat_at others.now v) ≡ true }
+    ensures no { result ≡ false → (v : ℕ) × (is_same_seat (seat_at mine.now v) (seat_at others.now v) ≡ false) }
+{
+    let end = mine.len().max(others.len());
+    for var in 0..end {
+        if !same_seat(seat_in(mine, var), seat_in(others, var)) {
+            return false;
+        }
+    }
+    true
+}
+
+fn same_seat(a: Option<Seat>, b: Option<Seat>) -> bool
+    ensures { result ≡ is_same_seat a b }
+{
+    match (a, b) {
+        (Some(a), Some(b)) => a.rank == b.rank && is_exists(a.quant) == is_exists(b.quant),
+        (None, None) => true,
+        _ => false,
+    }
+}
+
+/// The seats of a prefix of distinct variables, with its blocks numbered from 0 on.
+pub fn seats_of(alloc: Global, prefix: &[Bound]) -> Result<Seats, NoMemory>
+    requires { Distinct prefix.now }
+    ensures { IfOk result (λ s. AreNumbered prefix.now s.seats.items s.counts.items) }
+{
+    let mut seats = Vec::new(alloc);
+    seat_room(&mut seats, prefix)?;
+    let mut counts = Vec::new(alloc);
+    counts.resize(prefix.len(), 0)?;
+    seat_all(prefix, &mut seats, &mut counts);
+    Ok(Seats { seats, counts })
+}
+
+// A place for each variable.
+fn seat_room(seats: &mut Vec<Option<Seat>>, prefix: &[Bound]) -> Result<(), NoMemory>
+    requires { (v : ℕ) → seat_at seats.old.items v ≡ None }
+    ensures none { (v : ℕ) → seat_at seats.new.items v ≡ None }
+    ensures room { OnOk result (HaveRoom prefix.now (length seats.new.items)) }
+{
+    for bound in prefix {
+        make_room(seats, bound.var)?;
+    }
+    Ok(())
+}
+
+pub fn make_room(seats: &mut Vec<Option<Seat>>, var: u32) -> Result<(), NoMemory>
+    ensures same { (v : ℕ) → seat_at seats.new.items v ≡ seat_at seats.old.items v }
+    ensures longer { length seats.old.items ≤ length seats.new.items }
+    ensures room { OnOk result (var < length seats.new.items) }
+{
+    let end = var as usize + 1;
+    if seats.len() < end {
+        seats.resize(end, None)?;
+    }
+    Ok(())
+}
+
+// Where the numbering of the blocks stands: the last variable, and its block's number.
+#[derive(Clone, Copy)]
+pub struct Numbering {
+    last: Option<Bound>,
+    rank: usize,
+}
+
+// The number of the next variable's block.
+fn rank_after(numbering: Numbering, quant: Quant) -> usize
+    requires { numbering.rank < 2 ^ 63 }
+    ensures { result ≡ next_rank numbering.last numbering.rank quant }
+{
+    match numbering.last {
+        Some(last) => {
+            if is_exists(last.quant) == is_exists(quant) {
+                numbering.rank
+            } else {
+                numbering.rank + 1
+            }
+        }
+        None => numbering.rank,
+    }
+}
+
+// Numbers the blocks, and seats each variable.
+fn seat_all(prefix: &[Bound], seats: &mut Vec<Option<Seat>>, counts: &mut Vec<usize>)
+    requires distinct { Distinct prefix.now }
+    requires room { HaveRoom prefix.now (length seats.old.items) }
+    requires none { (v : ℕ) → seat_at seats.old.items v ≡ None }
+    requires zeros { (r : ℕ) → slice_index_or counts.old.items r 0 ≡ 0 }
+    requires counts { length prefix.now ≤ length counts.old.items }
+    ensures { AreNumbered prefix.now seats.new.items counts.new.items }
+{
+    let mut numbering = Numbering {
+        last: None,
+        rank: 0,
+    };
+    for i in 0..prefix.len() {
+        let after = var_at(prefix, i + 1);
+        numbering = take_seat(seats, counts, numbering, prefix[i], after);
+    }
+}
+
+fn var_at(prefix: &[Bound], at: usize) -> Option<u32>
+    ensures { result ≡ var_of (slice_get prefix.now at) }
+{
+    Some(prefix.get(at)?.var)
+}
+
+// Seats a variable behind the last one.
+fn take_seat(
+    seats: &mut Vec<Option<Seat>>,
+    counts: &mut Vec<usize>,
+    numbering: Numbering,
+    bound: Bound,
+    after: Option<u32>,
+) -> Numbering
+    requires small { numbering.rank < 2 ^ 63 }
+    requires room { bound.var < length seats.old.items }
+    requires counts { next_rank numbering.last numbering.rank bound.quant < length counts.old.items }
+    requires few { slice_index_or counts.old.items (next_rank numbering.last numbering.rank bound.quant) 0 < 2 ^ 63 }
+    ensures seats { seats.new.items ≡ slice_set seats.old.items bound.var (Some (record { rank = next_rank numbering.last numbering.rank bound.quant; quant = bound.quant; before = var_of numbering.last; after = after })) }
+    ensures counts { counts.new.items ≡ slice_set counts.old.items (next_rank numbering.last numbering.rank bound.quant) (slice_index_or counts.old.items (next_rank numbering.last numbering.rank bound.quant) 0 + 1) }
+    ensures numbering { result ≡ record { last = Some bound; rank = next_rank numbering.last numbering.rank bound.quant } }
+{
+    let rank = rank_after(numbering, bound.quant);
+    let before = match numbering.last {
+        Some(last) => Some(last.var),
+        None => None,
+    };
+    seats[bound.var as usize] = Some(Seat {
+        rank,
+        quant: bound.quant,
+        before,
+        after,
+    });
+    counts[rank] += 1;
+    Numbering {
+        last: Some(bound),
+        rank,
+    }
+}
