@@ -1,5 +1,5 @@
 -- Moves of the first rounds are kept.
-use Rattle.std.proofs.Common.{◌≡◌, ℕ, List, inr, sym, ◌∙◌}
+use Rattle.std.proofs.Common.{◌≡◌, ℕ, List, inr, refl, sym, ◌∙◌}
 use Rattle.q_logic.specs.Formulas.{Prefix, PrenexFormula}
 use Rattle.q_logic.specs.Prefixes.{IsFormula}
 use Rattle.q_logic.specs.Truth.{Assignment}
@@ -15,6 +15,7 @@ use Rattle.q_logic.proofs.MovesBack.{run-agree}
 use Rattle.q_logic.proofs.FirstMoves.{completion-back, winning-back, wins-skolem, skolem-wins}
 use Rattle.q_rebuild.specs.Rebuilt.{IsRebuilt}
 use Rattle.q_rebuild.specs.Moves.{KeepsMoves}
+use Rattle.q_rebuild.proofs.UndoLists.{undos-alike}
 
 -- What is made agrees with what is taken back.
 made-agrees : (F G : PrenexFormula) (us : List UndoEntry) (gave made : CertificateView) →
@@ -34,6 +35,7 @@ pub keeps-moves : (F G : PrenexFormula) (ss : List ProofStep) (us : List UndoEnt
     IsFormula F → IsFormula G → Run F ss G → Undos F ss us → Lawful G.prefix (trees_of gave) →
     IsRebuilt F G us gave made → KeepsMoves F G us gave made
 keeps-moves F G ss us gave made f g run u l r = record {
+  lawful = l;
   same = same;
   completed = completed;
   winning = winning;
@@ -42,19 +44,22 @@ keeps-moves F G ss us gave made f g run u l r = record {
     j : JustifiedRun F ss G
     j = Run-justified F ss G run
 
-    lawful : (c : CertificateView) → Lawful G.prefix (trees_of c) → Lawful F.prefix (Back us (trees_of c))
-    lawful c k = rebuilt-lawful F ss G us (trees_of c) f j u k
+    back : (c : CertificateView) → Lawful G.prefix (trees_of c) → Lawful F.prefix (Back us (trees_of c))
+    back c k = rebuilt-lawful F ss G us (trees_of c) f j u k
 
-    same : (n : ℕ) (A : Assignment) (gave2 made2 : CertificateView) → Lawful G.prefix (trees_of gave2) →
-        IsRebuilt F G us gave2 made2 → Agree G.prefix n (trees_of gave) (trees_of gave2) A →
-        Agree F.prefix n (trees_of made) (trees_of made2) A
-    same n A gave2 made2 l2 r2 h =
+    same : (ts : List ProofStep) (vs : List UndoEntry) (gave2 made2 : CertificateView) (n : ℕ) (A : Assignment) →
+        Run F ts G → Undos F ts us → Undos F ts vs → Lawful G.prefix (trees_of gave2) → IsRebuilt F G vs gave2 made2 →
+        Agree G.prefix n (trees_of gave) (trees_of gave2) A → Agree F.prefix n (trees_of made) (trees_of made2) A
+    same ts vs gave2 made2 n A run2 u2 v2 l2 r2 h =
+        let k : JustifiedRun F ts G = Run-justified F ts G run2 in
         Agree-trans F.prefix n (trees_of made) (Back us (trees_of gave)) (trees_of made2) A
-        (made-agrees F G us gave made (lawful gave l) r n A)
+        (made-agrees F G us gave made (back gave l) r n A)
         (Agree-trans F.prefix n (Back us (trees_of gave)) (Back us (trees_of gave2)) (trees_of made2) A
-        (run-agree F ss G us n (trees_of gave) (trees_of gave2) A f j u (inr (l, l2)) h)
-        (Agree-sym F.prefix n (trees_of made2) (Back us (trees_of gave2)) A
-        (made-agrees F G us gave2 made2 (lawful gave2 l2) r2 n A)))
+        (run-agree F ts G us n (trees_of gave) (trees_of gave2) A f k u2 (inr (l, l2)) h)
+        (Agree-trans F.prefix n (Back us (trees_of gave2)) (Back vs (trees_of gave2)) (trees_of made2) A
+        (λ x w. undos-alike F ts us vs (trees_of gave2) (trees_of gave2) A u2 v2 (λ y. (refl, refl)) x)
+        (Agree-sym F.prefix n (trees_of made2) (Back vs (trees_of gave2)) A
+        (made-agrees F G vs gave2 made2 (rebuilt-lawful F ts G vs (trees_of gave2) f k v2 l2) r2 n A))))
 
     completed : (n : ℕ) → CanBeCompleted G n (trees_of gave) → CanBeCompleted F n (trees_of made)
     completed n k = go (completion-back F ss G us n (trees_of gave) f j u (inr l) k)
@@ -64,7 +69,7 @@ keeps-moves F G ss us gave made f g run u l r = record {
           d,
           sk,
           λ A. Agree-trans F.prefix n (trees_of made) (Back us (trees_of gave)) d A
-              (made-agrees F G us gave made (lawful gave l) r n A) (h A),
+              (made-agrees F G us gave made (back gave l) r n A) (h A),
         )
 
     winning : (A : Assignment) → Wins G (outcome (trees_of gave) A) → Wins F (outcome (trees_of made) A)

@@ -5,4 +5,5 @@ pub mod Emptiness
 pub mod Allowing
 pub mod Denying
 pub mod Alike
+pub mod UndoLists
 pub mod Keeping

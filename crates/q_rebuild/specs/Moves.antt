@@ -4,17 +4,20 @@ use Rattle.q_logic.specs.Formulas.{PrenexFormula}
 use Rattle.q_logic.specs.Truth.{Assignment}
 use Rattle.q_logic.specs.Certificates.{CertificateView, trees_of}
 use Rattle.q_logic.specs.Skolems.{Lawful, outcome}
-use Rattle.q_logic.specs.Undos.{UndoEntry}
+use Rattle.q_logic.specs.Steps.{ProofStep}
+use Rattle.q_logic.specs.Runs.{Run}
+use Rattle.q_logic.specs.Undos.{UndoEntry, Undos}
 use Rattle.q_logic.specs.Moves.{Agree, CanBeCompleted, Wins}
 use Rattle.q_rebuild.specs.Rebuilt.{IsRebuilt}
 
--- Outputs behind at most n universal blocks are made from such outputs alone: other circuits with the same values there
--- are made into circuits with the same values there. What some Skolem functions of the output complete is made into what
--- some Skolem functions of the input complete. Under the made values before all universals the input stays true, where
--- under the given ones the output does.
 pub record KeepsMoves (F G : PrenexFormula) (us : List UndoEntry) (gave made : CertificateView) : Type 0 where
-  pub same : (n : ℕ) → (A : Assignment) → (gave2 made2 : CertificateView) → Lawful G.prefix (trees_of gave2) →
-      IsRebuilt F G us gave2 made2 → Agree G.prefix n (trees_of gave) (trees_of gave2) A →
-      Agree F.prefix n (trees_of made) (trees_of made2) A
+  pub lawful : Lawful G.prefix (trees_of gave)
+  -- outputs behind at most n universal blocks are made from such outputs alone: over the same steps, other circuits with the
+  -- same values there are made into circuits with the same values there
+  pub same : (ss : List ProofStep) → (vs : List UndoEntry) → (gave2 made2 : CertificateView) → (n : ℕ) → (A : Assignment) →
+      Run F ss G → Undos F ss us → Undos F ss vs → Lawful G.prefix (trees_of gave2) → IsRebuilt F G vs gave2 made2 →
+      Agree G.prefix n (trees_of gave) (trees_of gave2) A → Agree F.prefix n (trees_of made) (trees_of made2) A
+  -- what some Skolem functions of the output complete is made into what some Skolem functions of the input complete
   pub completed : (n : ℕ) → CanBeCompleted G n (trees_of gave) → CanBeCompleted F n (trees_of made)
+  -- under the made values before all universals the input stays true, where under the given ones the output does
   pub winning : (A : Assignment) → Wins G (outcome (trees_of gave) A) → Wins F (outcome (trees_of made) A)

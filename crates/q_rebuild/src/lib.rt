@@ -15,5 +15,7 @@ mod laws;
 mod whole;
 
 pub use error::RebuildError;
-pub use laws::{alike_circuits_are_accepted_alike, skolem_functions_are_accepted};
+pub use laws::{
+    alike_circuits_are_accepted_alike, skolem_functions_are_accepted, undo_lists_take_back_alike,
+};
 pub use whole::rebuild;

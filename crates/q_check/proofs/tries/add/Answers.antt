@@ -1,6 +1,9 @@
-use Rattle.std.proofs.Common.{Err, refl, arith}
+use Rattle.std.proofs.Common.{Err, refl, sym, subst, arith}
 use Rattle.std.proofs.lemmas.Result.{err_from_is_err_and}
 use Rattle.q_prop.specs.Slots.{filled}
+use Rattle.q_logic.specs.Steps.{add}
+use Rattle.q_judge.specs.Ledgers.{Slotted, formula_in}
+use Rattle.q_judge.specs.Tried.{IsTried}
 use Rattle.q_logic.proofs.Members.{test-false}
 use Rattle.q_judge.proofs.Trying.{of, add-unbound, add-refused, add-roomless, add-after, add-entry, warranted}
 use Rattle.q_check.proofs.tries.add.Goals as goal
@@ -23,7 +26,7 @@ returns-in_err-warrant c keep =
     let r = err_from_is_err_and c.from_residual.result c.from_residual.ensures.1 in
     let b = rw c.scope.ensures at c.binds_all.ensures in
     let h = add-refused keep c.args.limits L.prefix (filled L.slots) c.args.first c.args.clause.now e (b.0 c.if-not-binds_all.false) c.in_err-warrant.ensures.exact in
-    rw (r.1, r.2, c.in_err-warrant.ensures.same) h
+    rw (r.1, r.2) (subst (λ (M : Slotted). IsTried keep c.args.limits (formula_in L) (add c.args.first c.args.clause.now) (formula_in M) (Err e)) (sym c.in_err-warrant.ensures.same) h)
 
 pub returns-then-not-has_room : goal.returns-then-not-has_room
 returns-then-not-has_room c keep =
@@ -61,4 +64,4 @@ returns c keep =
     let k = rw c.in_ok-warrant.ensures.same at (c.has_room.ensures.0 c.if-not-has_room.false) in
     let v = warranted L.prefix X p C c.in_ok-warrant.field-0 c.in_ok-warrant.ensures.exact in
     let put = rw c.in_ok-warrant.ensures.same at c.in_ok-put.ensures.ok in
-    rw (c.in_ok-put.ensures.prefix, c.in_ok-warrant.ensures.same) ((b.0 c.if-not-binds_all.false, v, k), add-after L.prefix L.slots c.put.new.ledger.slots c.in_ok-put.field-0 p C put, add-entry keep (of L.prefix X) p C)
+    rw (c.in_ok-put.ensures.prefix, c.in_ok-warrant.ensures.same) ((b.0 c.if-not-binds_all.false, v, k), add-after L.prefix L.slots c.put.new.self.slots c.in_ok-put.field-0 p C put, add-entry keep (of L.prefix X) p C)

@@ -1,9 +1,14 @@
-use Rattle.std.proofs.Common.{Option, Some, None, Err, refl, subst}
+use Rattle.std.proofs.Common.{Option, Some, None, Err, refl, sym, subst}
+use Rattle.q_logic.specs.Formulas.{Prefix}
+use Rattle.q_logic.specs.Numbered.{Slots}
 use Rattle.std.proofs.lemmas.Result.{err_from_is_err_and}
 use Rattle.q_logic.specs.Literals.{Literal}
 use Rattle.q_logic.specs.StepForms.{first_of}
 use Rattle.q_prop.specs.Slots.{filled, without}
-use Rattle.q_judge.specs.Warrants.{IsAnswered}
+use Rattle.q_logic.specs.Steps.{delete}
+use Rattle.q_judge.specs.Ledgers.{Slotted, formula_in}
+use Rattle.q_judge.specs.Tried.{IsTried}
+use Rattle.q_judge.specs.Warrants.{IsAnswered, IsSlotOf}
 use Rattle.q_judge.proofs.Trying.{delete-unfound, delete-refused, delete-valid, delete-after, delete-entry, warranted}
 use Rattle.q_check.proofs.tries.delete.Goals as goal
 
@@ -12,7 +17,8 @@ returns-in_err-at c m =
     let L = c.args.ledger.now in
     let e = c.in_err-at.field-0.0 in
     let r = err_from_is_err_and c.from_residual.result c.from_residual.ensures.1 in
-    let h = delete-unfound c.args.keep m L.prefix L.slots (first_of c.args.lits.now) c.args.clause.now e (rw (c.scope.ensures, c.store.ensures) at c.in_err-at.ensures) in
+    let f = subst (λ (P : Prefix). IsSlotOf P L.slots c.args.clause.now (Err e)) c.scope.ensures (subst (λ (s : Slots). IsSlotOf c.scope.result.now s c.args.clause.now (Err e)) c.store.ensures c.in_err-at.ensures) in
+    let h = delete-unfound c.args.keep m L.prefix L.slots (first_of c.args.lits.now) c.args.clause.now e f in
     rw (r.1, r.2) h
 
 pub warrant-requires : goal.warrant-requires
@@ -27,8 +33,9 @@ returns-in_err-warrant c m =
     let e = c.in_err-warrant.field-0.0 in
     let f = rw (c.scope.ensures, c.store.ensures) at c.in_ok-at.ensures in
     let r = err_from_is_err_and c.from_residual-in_err-warrant.result c.from_residual-in_err-warrant.ensures.1 in
-    let x = rw c.first_lit.ensures at c.in_err-warrant.ensures.exact in
-    rw (r.1, r.2, c.in_err-warrant.ensures.same) (delete-refused L.prefix L.slots c.in_ok-at.at c.args.clause.now f.1 c.args.keep m p e f.0 x)
+    let x = subst (λ (q : Option Literal). IsAnswered L.prefix (filled (without L.slots (Some c.in_ok-at.at))) c.args.clause.now q (Err e)) c.first_lit.ensures c.in_err-warrant.ensures.exact in
+    let h = delete-refused L.prefix L.slots c.in_ok-at.at c.args.clause.now f.1 c.args.keep m p e f.0 x in
+    rw (r.1, r.2) (subst (λ (M : Slotted). IsTried c.args.keep m (formula_in L) (delete p c.args.clause.now) (formula_in M) (Err e)) (sym c.in_err-warrant.ensures.same) h)
 
 pub returns-in_err-entry : goal.returns-in_err-entry
 returns-in_err-entry c m =

@@ -1,7 +1,10 @@
 use Rattle.std.proofs.Common.{Some, None, Err, refl, set, subst, sym, ap, ◌≡◌, ◌∙◌}
+use Rattle.q_logic.specs.Formulas.{Prefix}
+use Rattle.q_logic.specs.Numbered.{Slots}
 use Rattle.std.proofs.lemmas.Result.{err_from_is_err_and}
 use Rattle.q_logic.specs.Pivots.{without}
 use Rattle.q_prop.specs.Slots.{filled, IsPut}
+use Rattle.q_judge.specs.Warrants.{IsSlotOf}
 use Rattle.q_logic.proofs.Members.{test-false}
 use Rattle.q_judge.proofs.Trying.{of, drop-unfound, drop-refused, drop-valid, drop-after, drop-entry}
 use Rattle.q_check.proofs.tries.drop_literal.Goals as goal
@@ -11,7 +14,8 @@ returns-in_err-at c keep m =
     let L = c.args.ledger.now in
     let e = c.in_err-at.field-0.0 in
     let r = err_from_is_err_and c.from_residual.result c.from_residual.ensures.1 in
-    let h = drop-unfound keep m L.prefix L.slots c.args.lit c.args.clause.now e (rw (c.scope.ensures, c.store.ensures) at c.in_err-at.ensures) in
+    let f = subst (λ (P : Prefix). IsSlotOf P L.slots c.args.clause.now (Err e)) c.scope.ensures (subst (λ (s : Slots). IsSlotOf c.scope.result.now s c.args.clause.now (Err e)) c.store.ensures c.in_err-at.ensures) in
+    let h = drop-unfound keep m L.prefix L.slots c.args.lit c.args.clause.now e f in
     rw (r.1, r.2) h
 
 pub is_droppable-requires-clause-within : goal.is_droppable-requires-clause-within

@@ -21,7 +21,7 @@ insert-requires c =
 
 pub returns-in_err-insert : goal.returns-in_err-insert
 returns-in_err-insert c =
-    let r = err_from_is_err_and c.from_residual-in_err-insert.result c.from_residual-in_err-insert.ensures.1 in
+    let r = err_from_is_err_and c.from_residual.result c.from_residual.ensures.1 in
     rw (r.1, r.2, c.in_err-insert.ensures.err) refl
 
 pub returns : goal.returns

@@ -1,0 +1,9 @@
+pub mod Placing
+pub mod Reading
+pub mod Rowing
+pub mod Merging
+pub mod Waits
+pub mod Leaving
+pub mod Turns
+pub mod Entering
+pub mod Finding
