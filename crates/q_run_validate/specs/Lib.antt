@@ -1,0 +1,2 @@
+pub mod ValidatedLines
+pub mod Validates

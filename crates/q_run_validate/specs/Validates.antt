@@ -1,0 +1,136 @@
+-- What `validate` says of its files.
+use Rattle.std.specs.Prelude.{◌≡◌, ◌≢◌, ◌⊎◌, ℕ, List, Option, Some}
+use Rattle.q_logic.specs.Literals.{Literal}
+use Rattle.q_logic.specs.Limits.{standard}
+use Rattle.q_logic.specs.Formulas.{PrenexFormula}
+use Rattle.q_logic.specs.Certificates.{CertificateView, trees_of}
+use Rattle.q_logic.specs.Skolems.{SkolemOf}
+use Rattle.q_logic.specs.Branches.{claim_of, branches}
+use Rattle.q_io.specs.Files.{Disk, bytes_at}
+use Rattle.q_dimacs.specs.Offences.{Offence}
+use Rattle.q_aiger.specs.Circuits.{AreCircuits, Offence as CircuitsOffence}
+use Rattle.q_aiger.specs.Alike.{IsNoCircuits}
+use Rattle.q_search.specs.Budgets.{IsBelow}
+use Rattle.q_carry.specs.Refusals.{Fits}
+use Rattle.q_validate.specs.Answers.{IsAnswer}
+use Rattle.q_validate.specs.Refusals.{IsRefused}
+use Rattle.q_validate.specs.declared.validating.Answer.{Answer}
+use Rattle.q_validate.specs.declared.validating.Answer.TheVariants as answer
+use Rattle.q_validate.specs.declared.error.ValidateError.{ValidateError}
+use Rattle.q_validate.specs.declared.error.ValidateError.TheVariants as refusal
+use Rattle.q_command.specs.Checks.{IsFileOf, IsNoFormula, Exactly}
+use Rattle.q_command.specs.declared.input.InputError.{InputError}
+use Rattle.q_command.specs.declared.input.InputError.TheVariants as input
+use Rattle.q_command.specs.declared.circuits.CircuitsError.{CircuitsError}
+use Rattle.q_command.specs.declared.circuits.CircuitsError.TheVariants as text
+use Rattle.q_command.specs.declared.status.Status.{Status}
+use Rattle.q_command.specs.declared.status.Status.TheVariants as status
+use Rattle.q_run_validate.specs.declared.names.ValidateNames.{ValidateNames}
+use Rattle.q_run_validate.specs.declared.validated.Validated.{Validated}
+use Rattle.q_run_validate.specs.declared.validated.Validated.TheVariants.{Valid, Invalid, Unknown, RefusedInput, RefusedText, MissingOutput, StrangeOutput, StrangeInput, Reads, ReadFault, NoMemory}
+use Rattle.q_run_validate.specs.ValidatedLines.{invalid_line}
+
+-- the names of the two files
+pub record ValidateFiles : Type 0 where
+  pub input : List ℕ
+  pub cert : List ℕ
+
+abbrev pub files_of : ValidateNames → ValidateFiles
+files_of n = record { input = n.input.now; cert = n.cert.now }
+
+-- the outcome of a failed reading or of a refusal
+abbrev pub refused_input : InputError → Validated
+refused_input (input.Refused k c) = RefusedInput k c
+refused_input input.Fault = ReadFault
+refused_input input.NoMemory = NoMemory
+
+abbrev pub refused_text : CircuitsError → Validated
+refused_text (text.Refused k c) = RefusedText k c
+refused_text text.Fault = ReadFault
+refused_text text.NoMemory = NoMemory
+
+abbrev pub refused_circuits : ValidateError → Validated
+refused_circuits (refusal.MissingOutput v) = MissingOutput v
+refused_circuits (refusal.StrangeOutput v) = StrangeOutput v
+refused_circuits (refusal.StrangeInput v) = StrangeInput v
+refused_circuits (refusal.Reads v u) = Reads v u
+refused_circuits refusal.NoMemory = NoMemory
+
+-- the circuits fit, and this is the answer
+abbrev pub Answers : Answer → PrenexFormula → CertificateView → Option ℕ → Type 0
+Answers a F c budget = Fits F.prefix c × IsAnswer F c budget a
+
+-- what the outcome says of circuits of a formula
+abbrev pub Judges : Validated → PrenexFormula → CertificateView → Option ℕ → Type 0
+Judges Valid F c budget = Answers answer.Valid F c budget
+Judges (Invalid line) F c budget =
+    (lits : List Literal) × Answers (answer.Invalid lits) F c budget × (line.items ≡ invalid_line lits)
+Judges Unknown F c budget = Answers answer.Unknown F c budget
+Judges (RefusedInput k e) F c budget = ⊥
+Judges (RefusedText k e) F c budget = ⊥
+Judges (MissingOutput v) F c budget = IsRefused F c (refusal.MissingOutput v)
+Judges (StrangeOutput v) F c budget = IsRefused F c (refusal.StrangeOutput v)
+Judges (StrangeInput v) F c budget = IsRefused F c (refusal.StrangeInput v)
+Judges (Reads v u) F c budget = IsRefused F c (refusal.Reads v u)
+Judges ReadFault F c budget = ⊥
+Judges NoMemory F c budget = Unit {0}
+
+-- IN holds a formula and CERT circuits of which this is true
+pub record OfFiles (n : ValidateFiles) (disk : Disk) (P : PrenexFormula → CertificateView → Type 0) : Type 0 where
+  pub formula : PrenexFormula
+  pub given : CertificateView
+  pub is_input : IsFileOf (bytes_at disk n.input) formula
+  pub circuits : AreCircuits (bytes_at disk n.cert) given
+  pub holds : P formula given
+
+abbrev pub IsFormulaFile : List ℕ → Type 0
+IsFormulaFile bytes = (F : PrenexFormula) × IsFileOf bytes F
+
+-- what there is to say of the two files; none changes
+abbrev pub Says : Validated → ValidateFiles → Option ℕ → Disk → Type 0
+Says Valid n budget disk = OfFiles n disk (λ F c. Judges Valid F c budget)
+Says (Invalid line) n budget disk = OfFiles n disk (λ F c. Judges (Invalid line) F c budget)
+Says Unknown n budget disk = OfFiles n disk (λ F c. Judges Unknown F c budget)
+Says (RefusedInput k e) n budget disk = Offence standard (bytes_at disk n.input) k e
+Says (RefusedText k e) n budget disk = IsFormulaFile (bytes_at disk n.input) × CircuitsOffence (bytes_at disk n.cert) k e
+Says (MissingOutput v) n budget disk = OfFiles n disk (λ F c. Judges (MissingOutput v) F c budget)
+Says (StrangeOutput v) n budget disk = OfFiles n disk (λ F c. Judges (StrangeOutput v) F c budget)
+Says (StrangeInput v) n budget disk = OfFiles n disk (λ F c. Judges (StrangeInput v) F c budget)
+Says (Reads v u) n budget disk = OfFiles n disk (λ F c. Judges (Reads v u) F c budget)
+Says ReadFault n budget disk = Unit {0}
+Says NoMemory n budget disk = Unit {0}
+
+abbrev pub Validates : Validated → ValidateFiles → Option ℕ → Disk → Option Disk → Type 0
+Validates o n budget before after = Says o n budget before × (after ≡ Some before)
+
+-- a budget below the number of branches is given
+abbrev pub IsCut : PrenexFormula → CertificateView → Option ℕ → Type 0
+IsCut F c budget = IsBelow budget (branches (claim_of F c))
+
+-- one of the four refusals applies
+abbrev pub IsUnfit : PrenexFormula → CertificateView → Type 0
+IsUnfit F c = (e : ValidateError) × (e ≢ refusal.NoMemory) × IsRefused F c e
+
+-- the circuits are Skolem functions of the formula; they fit and are not; they fit and the budget is too small
+abbrev pub AreValid : ValidateFiles → Option ℕ → Disk → Type 0
+AreValid n budget disk = OfFiles n disk (λ F c. SkolemOf F (trees_of c) × (¬ IsCut F c budget))
+
+abbrev pub AreInvalid : ValidateFiles → Option ℕ → Disk → Type 0
+AreInvalid n budget disk = OfFiles n disk (λ F c. Fits F.prefix c × (¬ SkolemOf F (trees_of c)) × (¬ IsCut F c budget))
+
+abbrev pub AreUndecided : ValidateFiles → Option ℕ → Disk → Type 0
+AreUndecided n budget disk = OfFiles n disk (λ F c. Fits F.prefix c × IsCut F c budget)
+
+-- IN holds a formula, and CERT is no text of circuits, or its circuits are refused
+abbrev pub AreNoCircuits : ValidateFiles → Disk → Type 0
+AreNoCircuits n disk =
+    (IsFormulaFile (bytes_at disk n.input) × IsNoCircuits (bytes_at disk n.cert)) ⊎ OfFiles n disk IsUnfit
+
+-- when each status of `validate` comes; no file changes
+pub record ValidatesExactly (given : Status) (n : ValidateFiles) (budget : Option ℕ) (before : Disk) (after : Option Disk) : Type 0 where
+  pub done : Exactly given status.Done (AreValid n budget before)
+  pub invalid : Exactly given status.Invalid (AreInvalid n budget before)
+  pub unknown : Exactly given status.Unknown (AreUndecided n budget before)
+  pub circuits_refused : Exactly given status.CircuitsRefused (AreNoCircuits n before)
+  pub input_refused : Exactly given status.InputRefused (IsNoFormula (bytes_at before n.input))
+  pub untouched : after ≡ Some before
