@@ -8,5 +8,6 @@ pub mod RebuildWording
 pub mod Generating
 pub mod Turns
 pub mod Together
+pub mod Beyond
 pub mod Saying
 pub mod SameMoves

@@ -12,4 +12,5 @@ pub mod Commands
 pub mod Answers
 pub mod Says
 pub mod Headline
+pub mod Further
 pub mod FirstMoves

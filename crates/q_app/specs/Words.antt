@@ -5,6 +5,7 @@ use Rattle.q_simplify.specs.declared.options.Options.{Options}
 use Rattle.q_command.specs.Names.{ThreeNames}
 use Rattle.q_app.specs.Operands.{just_three, three_names}
 use Rattle.q_app.specs.Rebuilds.{FiveNames}
+use Rattle.q_run_validate.specs.Validates.{ValidateFiles}
 use Rattle.q_app.specs.declared.words.Scale.{Scale}
 use Rattle.q_app.specs.declared.settings.Setting.{Setting}
 use Rattle.q_app.specs.declared.settings.Setting.TheVariants as setting
@@ -16,6 +17,7 @@ pub data Command : Type 0 where
   simplifying : ThreeNames → Options → Command
   rebuilding : FiveNames → Command
   generating : Scale → List ℕ → Command
+  validating : ValidateFiles → Option ℕ → Command
 
 -- what the words ask for: commands that are done one after the other; none where they are not understood
 abbrev pub Request : Type 0
@@ -140,3 +142,12 @@ unfoldable pub demo_of : List (List ℕ) → Request
 demo_of [] = None
 demo_of (seed ∷ []) = None
 demo_of (seed ∷ size ∷ words) = demo_by (scale_of seed size) (just_three (three_names words))
+
+-- `validate IN CERT` with a budget
+abbrev pub validate_with : ValidateFiles → Option (Option ℕ) → Request
+validate_with n None = None
+validate_with n (Some b) = alone (validating n b)
+
+abbrev pub validate_of : Option (List ℕ × List ℕ × List (List ℕ)) → Request
+validate_of None = None
+validate_of (Some (i, c, words)) = validate_with (record { input = i; cert = c }) (budget_in words)

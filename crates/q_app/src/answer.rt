@@ -7,9 +7,10 @@ use crate::rebuilt::Rebuilt;
 use crate::simplified::Simplified;
 use q_command::{Outcome, Status, put};
 use q_io::Sink;
+use q_run_validate::Validated;
 
 /// What there is to say at the end of a command: a line, and a status.
-#[derive(Clone, Copy, Debug, PartialEq, Eq)]
+#[derive(Drop)]
 pub enum Answer {
     /// The words are no command.
     Usage,
@@ -17,6 +18,7 @@ pub enum Answer {
     Simplify(Simplified),
     Rebuild(Rebuilt),
     Generate(Generated),
+    Validate(Validated),
 }
 
 impl Answer {
@@ -29,6 +31,7 @@ impl Answer {
             Answer::Simplify(outcome) => outcome.status(),
             Answer::Rebuild(outcome) => outcome.status(),
             Answer::Generate(outcome) => outcome.status(),
+            Answer::Validate(outcome) => outcome.status(),
         }
     }
 }
@@ -44,5 +47,6 @@ pub(crate) fn say<S: Sink>(out: &mut S, answer: &Answer) -> Status
         Answer::Simplify(outcome) => outcome.say(out),
         Answer::Rebuild(outcome) => outcome.say(out),
         Answer::Generate(outcome) => outcome.say(out),
+        Answer::Validate(outcome) => outcome.say(out),
     }
 }

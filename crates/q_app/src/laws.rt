@@ -8,6 +8,7 @@ ghost use Rattle.q_simplify.specs.Results.{Simplifies};
 ghost use Rattle.q_command.specs.Checks.{IsFileOf, IsVerified};
 ghost use Rattle.q_app.specs.FirstMoves.{FirstMoves};
 ghost use Rattle.q_app.specs.Headline.{Headline};
+ghost use Rattle.q_app.specs.Further.{Further};
 
 use q_log::texts_are_read;
 
@@ -32,4 +33,9 @@ pub fn headline()
 /// Over one log, what two calls of `rebuild` write agrees in the first rounds where what they were given does.
 pub fn first_moves_make_first_moves()
     ensures { FirstMoves }
+{}
+
+/// The commands over circuits are right.
+pub fn further()
+    ensures { Further }
 {}

@@ -1,8 +1,9 @@
 // The top call.
 ghost use Rattle.std.specs.Prelude.{◌≡◌, ◌≢◌, ◌≤◌, ◌⊎◌, map, string_bytes, Some, None};
 ghost use Rattle.q_kernel.specs.Taking.{AreModest};
-ghost use Rattle.q_app.specs.Words.{checking, demo, generating, rebuilding, simplifying};
+ghost use Rattle.q_app.specs.Words.{checking, demo, generating, rebuilding, simplifying, validating};
 ghost use Rattle.q_command.specs.Names.{three_of};
+ghost use Rattle.q_run_validate.specs.Validates.{files_of as validate_files_of};
 ghost use Rattle.q_app.specs.Commands.{IsFit, commands_of, five_of, request};
 ghost use Rattle.q_command.specs.Sinks.{view_sink};
 ghost use Rattle.q_app.specs.Says.{Does, InTurn, Runs, devices};
@@ -16,6 +17,7 @@ use crate::simplify::simplify_file;
 use crate::words::{Command, Scale, parse};
 use q_command::{Names, Status, check};
 use q_io::{Files, Sink};
+use q_run_validate::{ValidateNames, validate_files};
 use q_sched::Guide;
 use q_simplify::Options;
 use std::alloc::Global;
@@ -79,6 +81,21 @@ fn run_generate<F: Files, S: Sink>(
     say(out, &Answer::Generate(outcome))
 }
 
+fn run_validate<F: Files, S: Sink>(
+    alloc: Global,
+    files: &mut F,
+    out: &mut S,
+    names: ValidateNames,
+    budget: Option<u64>,
+) -> Status
+    ensures { Runs (Some (validating (validate_files_of names.entry) budget))
+        (devices F.held F.read_faults F.write_faults files.old (view_sink S.written S.faults S.wants out.old)) result
+        (devices F.held F.read_faults F.write_faults files.new (view_sink S.written S.faults S.wants out.new)) }
+{
+    let outcome = validate_files(alloc, files, names, budget);
+    say(out, &Answer::Validate(outcome))
+}
+
 // `gen`, `simplify` and `check` one after the other, up to the first that does not pass.
 fn run_demo<F: Files, S: Sink>(
     alloc: Global,
@@ -125,6 +142,7 @@ fn run_command<F: Files, S: Sink>(
         }
         Command::Rebuild { names } => run_rebuild(alloc, files, out, names),
         Command::Generate { scale, output } => run_generate(alloc, files, out, scale, output),
+        Command::Validate { names, budget } => run_validate(alloc, files, out, names, budget),
         Command::Demo { scale, names } => run_demo(alloc, files, out, scale, names, guides),
     }
 }

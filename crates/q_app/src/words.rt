@@ -1,15 +1,16 @@
 // The words of the command line.
 ghost use Rattle.std.specs.Prelude.{◌≡◌, ◌≢◌, ◌≤◌, map, option_map, string_bytes, IfSome, Some};
-ghost use Rattle.q_app.specs.Words.{check_of, demo_by, demo_of, generate_of, scale_of as spec_scale_of, simplify_of};
-ghost use Rattle.q_app.specs.Operands.{just_three, three_names as spec_three_names};
+ghost use Rattle.q_app.specs.Words.{check_of, demo_by, demo_of, generate_of, scale_of as spec_scale_of, simplify_of, validate_of};
+ghost use Rattle.q_app.specs.Operands.{just_three, three_names as spec_three_names, two_names as spec_two_names};
 ghost use Rattle.q_command.specs.Names.{three_of};
 ghost use Rattle.q_app.specs.Commands.{IsFit, bounds_in, by_verb as spec_by_verb, commands_of, request};
 
-use crate::operands::{only_names, three_names};
+use crate::operands::{budget_of, only_names, three_names, two_names};
 use crate::rebuild_words::{RebuildNames, parse_rebuild};
 use crate::settings::{Settings, number};
 use q_command::Names;
 use q_logic::Bounds;
+use q_run_validate::ValidateNames;
 use q_simplify::Options;
 
 /// What formula is generated: by the seed of its random numbers, and with so many clauses.
@@ -22,11 +23,28 @@ pub(crate) struct Scale {
 /// What is to be done, with the names of the files.
 #[derive(Clone, Copy)]
 pub(crate) enum Command<'a> {
-    Check { names: Names<'a> },
-    Simplify { names: Names<'a>, options: Options },
-    Rebuild { names: RebuildNames<'a> },
-    Generate { scale: Scale, output: &'a str },
-    Demo { scale: Scale, names: Names<'a> },
+    Check {
+        names: Names<'a>,
+    },
+    Simplify {
+        names: Names<'a>,
+        options: Options,
+    },
+    Rebuild {
+        names: RebuildNames<'a>,
+    },
+    Generate {
+        scale: Scale,
+        output: &'a str,
+    },
+    Validate {
+        names: ValidateNames<'a>,
+        budget: Option<u64>,
+    },
+    Demo {
+        scale: Scale,
+        names: Names<'a>,
+    },
 }
 
 /// The command that the words are, if they are one.
@@ -60,6 +78,9 @@ fn by_verb<'a>(verb: &str, operands: &'a [String]) -> Option<Command<'a>>
     if verb == "gen" {
         return parse_generate(operands);
     }
+    if verb == "validate" {
+        return parse_validate(operands);
+    }
     if verb == "demo" {
         return parse_demo(operands);
     }
@@ -89,6 +110,23 @@ fn parse_simplify(operands: &[String]) -> Option<Command>
             names: begun.names,
             options: settings.options(),
         }),
+        None => None,
+    }
+}
+
+fn parse_validate(operands: &[String]) -> Option<Command>
+    ensures request { option_map (λ o. commands_of o) result ≡ validate_of (spec_two_names (map (λ w. string_bytes w) operands.now)) }
+    ensures fit { IfSome result IsFit }
+{
+    let Some(pair) = two_names(operands) else {
+        return None;
+    };
+    let names = ValidateNames {
+        input: pair.first,
+        cert: pair.second,
+    };
+    match budget_of(pair.rest) {
+        Some(budget) => Some(Command::Validate { names, budget }),
         None => None,
     }
 }

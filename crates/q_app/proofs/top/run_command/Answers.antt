@@ -21,6 +21,10 @@ pub returns-in-Generate : goal.returns-in-Generate
 returns-in-Generate g c =
     subst (λ (k : Parsed). InTurn (commands_of k) (devices g.F.Files.held g.F.Files.read_faults g.F.Files.write_faults c.args.files.now (view_sink g.S.Sink.written g.S.Sink.faults g.S.Sink.wants c.args.out.now)) c.run_generate.result (devices g.F.Files.held g.F.Files.read_faults g.F.Files.write_faults c.run_generate.new.files (view_sink g.S.Sink.written g.S.Sink.faults g.S.Sink.wants c.run_generate.new.out))) (sym c.in-Generate.is) c.run_generate.ensures
 
+pub returns-in-Validate : goal.returns-in-Validate
+returns-in-Validate g c =
+    subst (λ (k : Parsed). InTurn (commands_of k) (devices g.F.Files.held g.F.Files.read_faults g.F.Files.write_faults c.args.files.now (view_sink g.S.Sink.written g.S.Sink.faults g.S.Sink.wants c.args.out.now)) c.run_validate.result (devices g.F.Files.held g.F.Files.read_faults g.F.Files.write_faults c.run_validate.new.files (view_sink g.S.Sink.written g.S.Sink.faults g.S.Sink.wants c.run_validate.new.out))) (sym c.in-Validate.is) c.run_validate.ensures
+
 pub returns-in-Demo : goal.returns-in-Demo
 returns-in-Demo g c =
     subst (λ (k : Parsed). InTurn (commands_of k) (devices g.F.Files.held g.F.Files.read_faults g.F.Files.write_faults c.args.files.now (view_sink g.S.Sink.written g.S.Sink.faults g.S.Sink.wants c.args.out.now)) c.run_demo.result (devices g.F.Files.held g.F.Files.read_faults g.F.Files.write_faults c.run_demo.new.files (view_sink g.S.Sink.written g.S.Sink.faults g.S.Sink.wants c.run_demo.new.out))) (sym c.in-Demo.is) c.run_demo.ensures

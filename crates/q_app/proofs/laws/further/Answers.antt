@@ -1,0 +1,5 @@
+use Rattle.q_app.proofs.Beyond as law
+use Rattle.q_app.proofs.laws.further.Goals as goal
+
+pub returns : goal.returns
+returns c = law.further
