@@ -1,17 +1,27 @@
 -- What is said of the commands over circuits, put together.
-use Rattle.std.proofs.Common.{◌≡◌, ℕ, subst, Option}
+use Rattle.std.proofs.Common.{◌≡◌, ℕ, List, [], sym, ap, ◌∙◌, subst, Option, Some, unwrap_or}
 use Rattle.q_logic.specs.Formulas.{PrenexFormula}
 use Rattle.q_logic.specs.Truth.{Holds}
 use Rattle.q_logic.specs.Certificates.{trees_of}
+use Rattle.q_logic.specs.Skolems.{Strategy}
+use Rattle.q_logic.specs.Herbrands.{HerbrandOf}
+use Rattle.q_logic.proofs.Falsity.{herbrand-false}
+use Rattle.q_logic.proofs.Justified.{Run-justified}
+use Rattle.q_logic.proofs.Repeated.{run-true_to}
 use Rattle.q_logic.proofs.Soundness.{from_skolem}
 use Rattle.q_io.specs.Files.{Disk, bytes_at}
+use Rattle.q_aiger.specs.Writing.{IsCanonical}
+use Rattle.q_aiger.specs.Alike.{AreAlike}
+use Rattle.q_aiger.proofs.Alike.{one-meaning}
 use Rattle.q_command.specs.Checks.{IsFileOf}
+use Rattle.q_command.specs.Logs.{steps_of}
 use Rattle.q_command.specs.declared.status.Status.{Status}
 use Rattle.q_command.specs.declared.status.Status.TheVariants as status
 use Rattle.q_command.proofs.Exact.{one_formula}
 use Rattle.q_command.proofs.Formulas.{file-formula}
 use Rattle.q_run_validate.specs.Validates.{ValidateFiles, ValidatesExactly}
-use Rattle.q_app.specs.Further.{Further}
+use Rattle.q_run_refute.specs.Refutes.{RefuteFiles, AreHerbrand, IsWhole, RefutesExactly}
+use Rattle.q_app.specs.Further.{HoldsHerbrand, IsRefutation, Further}
 
 validated : (answer : Status) (n : ValidateFiles) (budget : Option ℕ) (before : Disk) (after : Option Disk) → ValidatesExactly answer n budget before after → answer ≡ status.Done → (F : PrenexFormula) → IsFileOf (bytes_at before n.input) F → Holds F
 validated answer n budget before after h e F f =
@@ -19,5 +29,40 @@ validated answer n budget before after h e F f =
     subst Holds (one_formula (bytes_at before n.input) v.formula F v.is_input f)
     (from_skolem v.formula (trees_of v.given) (file-formula (bytes_at before n.input) v.formula v.is_input) v.holds.0)
 
+-- the formula of IN is false
+fails : (n : RefuteFiles) (before : Disk) → AreHerbrand n before → (F : PrenexFormula) → IsFileOf (bytes_at before n.input) F → ¬ Holds F
+fails n before k F f t =
+    let from : F ≡ k.run.from = one_formula (bytes_at before n.input) F k.run.from f k.run.is_input in
+    let g = file-formula (bytes_at before n.input) k.run.from k.run.is_input in
+    herbrand-false k.run.to (trees_of k.given) (file-formula (bytes_at before n.output) k.run.to k.run.is_output) k.fits
+    ((run-true_to k.run.from (steps_of k.run.entries) k.run.to g (Run-justified k.run.from (steps_of k.run.entries) k.run.to k.run.log.run)).0 (subst Holds from t))
+
+same-strategy : (s t : Strategy) → ((x : ℕ) → s x ≡ t x) → s ≡ t
+same-strategy s t h = λ i x. h x i
+
+-- the certificate that was written
+held : (n : RefuteFiles) (before after : Disk) (gates : ℕ) → IsWhole gates n before (Some after) → AreHerbrand n before → (F : PrenexFormula) → IsFileOf (bytes_at before n.input) F → HoldsHerbrand (bytes_at after n.cert) F
+held n before after gates h k F f =
+    let w = h.holds.1 in
+    let same : AreAlike k.given h.given = one-meaning (bytes_at before n.herbrand) k.given h.given k.circuits h.brings.circuits in
+    let to : k.run.to ≡ h.to = one_formula (bytes_at before n.output) k.run.to h.to k.run.is_output h.brings.is_output in
+    let from : h.from ≡ F = one_formula (bytes_at before n.input) h.from F h.brings.is_input f in
+    let given : HerbrandOf h.to (trees_of h.given) = subst (λ (G : PrenexFormula). HerbrandOf G (trees_of h.given)) to (subst (HerbrandOf k.run.to) (same-strategy (trees_of k.given) (trees_of h.given) same.trees) k.fits) in
+    let d : w.2.disk ≡ after = cc in
+    let bytes : bytes_at after n.cert ≡ w.0 = ap (λ (x : Disk). bytes_at x n.cert) (sym d) ∙ ap (λ b. unwrap_or b []) w.2.bytes in
+    record {
+      made = w.1.made;
+      gates = gates;
+      canonical = subst (λ (xs : List ℕ). IsCanonical w.1.made gates xs) (sym bytes) w.1.canonical;
+      herbrand = subst (λ (H : PrenexFormula). HerbrandOf H (trees_of w.1.made)) from (w.1.refuted.herbrand given);
+    }
+
 pub further : Further
-further = record { validate = validated }
+further = record {
+  validate = validated;
+  refute = λ answer n before after h k. record {
+    ends = h.herbrand k;
+    fails = fails n before k;
+    herbrand = λ e F f. let w = h.written e in held n before after w.0 w.1 k F f;
+  };
+}

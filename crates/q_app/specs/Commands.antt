@@ -5,13 +5,14 @@ use Rattle.q_logic.specs.declared.rule_bounds.Bounds.{Bounds}
 use Rattle.q_kernel.specs.Taking.{AreModest}
 use Rattle.q_command.specs.Names.{three_of}
 use Rattle.q_app.specs.Rebuilds.{FiveNames, five}
-use Rattle.q_app.specs.Words.{Command, checking, simplifying, rebuilding, generating, validating, Request, check_of, simplify_of, rebuild_of, generate_of, validate_of, demo, demo_of, nothing_set, options_of}
+use Rattle.q_app.specs.Words.{Command, checking, simplifying, rebuilding, generating, refuting, validating, Request, check_of, simplify_of, rebuild_of, generate_of, validate_of, refute_of, demo, demo_of, nothing_set, options_of}
 use Rattle.q_app.specs.Operands.{just_three, three_names, two_names}
 use Rattle.q_app.specs.RebuildWords.{rebuild_names}
 use Rattle.q_run_validate.specs.Validates.{files_of as validate_files_of}
+use Rattle.q_run_refute.specs.Refutes.{files_of as refute_files_of}
 use Rattle.q_app.specs.declared.rebuild_words.RebuildNames.{RebuildNames}
 use Rattle.q_app.specs.declared.words.Command.{Command as Parsed}
-use Rattle.q_app.specs.declared.words.Command.TheVariants.{Check, Simplify, Rebuild, Generate, Validate, Demo}
+use Rattle.q_app.specs.declared.words.Command.TheVariants.{Check, Simplify, Rebuild, Generate, Refute, Validate, Demo}
 
 -- by the verb and its operands; all else is no command
 abbrev pub by_verb : List ℕ → List (List ℕ) → Request
@@ -21,7 +22,8 @@ by_verb verb operands =
     (cond (bytes_eq verb (codes "rebuild")) (rebuild_of (rebuild_names operands))
     (cond (bytes_eq verb (codes "gen")) (generate_of operands)
     (cond (bytes_eq verb (codes "validate")) (validate_of (two_names operands))
-    (cond (bytes_eq verb (codes "demo")) (demo_of operands) None)))))
+    (cond (bytes_eq verb (codes "refute")) (refute_of (rebuild_names operands))
+    (cond (bytes_eq verb (codes "demo")) (demo_of operands) None))))))
 
 unfoldable pub request : List (List ℕ) → Request
 request [] = None
@@ -37,6 +39,7 @@ commands_of (Simplify n p) = simplifying (three_of n) p ∷ []
 commands_of (Rebuild n) = rebuilding (five_of n) ∷ []
 commands_of (Generate k o) = generating k o.now ∷ []
 commands_of (Validate n b) = validating (validate_files_of n) b ∷ []
+commands_of (Refute n) = refuting (refute_files_of n) ∷ []
 commands_of (Demo k n) = demo k (three_of n)
 
 -- such a command can be done: its numbers are within their limits, and what is written has two names
@@ -46,6 +49,7 @@ IsFit (Simplify n p) = AreModest p.bounds × (n.output.now ≢ n.log.now)
 IsFit (Rebuild n) = Unit {0}
 IsFit (Generate k o) = k.size ≤ 100000
 IsFit (Validate n b) = Unit {0}
+IsFit (Refute n) = Unit {0}
 IsFit (Demo k n) = (k.size ≤ 100000) × (n.output.now ≢ n.log.now)
 
 -- the bounds of the first simplification, and without one the defaults
@@ -55,6 +59,7 @@ first_bounds (checking n ∷ cs) = first_bounds cs
 first_bounds (simplifying n p ∷ cs) = p.bounds
 first_bounds (rebuilding n ∷ cs) = first_bounds cs
 first_bounds (generating k o ∷ cs) = first_bounds cs
+first_bounds (refuting n ∷ cs) = first_bounds cs
 first_bounds (validating n b ∷ cs) = first_bounds cs
 
 abbrev pub bounds_in : Request → Bounds

@@ -6,6 +6,7 @@ use Rattle.q_command.specs.Names.{ThreeNames}
 use Rattle.q_app.specs.Operands.{just_three, three_names}
 use Rattle.q_app.specs.Rebuilds.{FiveNames}
 use Rattle.q_run_validate.specs.Validates.{ValidateFiles}
+use Rattle.q_run_refute.specs.Refutes.{RefuteFiles}
 use Rattle.q_app.specs.declared.words.Scale.{Scale}
 use Rattle.q_app.specs.declared.settings.Setting.{Setting}
 use Rattle.q_app.specs.declared.settings.Setting.TheVariants as setting
@@ -17,6 +18,7 @@ pub data Command : Type 0 where
   simplifying : ThreeNames → Options → Command
   rebuilding : FiveNames → Command
   generating : Scale → List ℕ → Command
+  refuting : RefuteFiles → Command
   validating : ValidateFiles → Option ℕ → Command
 
 -- what the words ask for: commands that are done one after the other; none where they are not understood
@@ -151,3 +153,8 @@ validate_with n (Some b) = alone (validating n b)
 abbrev pub validate_of : Option (List ℕ × List ℕ × List (List ℕ)) → Request
 validate_of None = None
 validate_of (Some (i, c, words)) = validate_with (record { input = i; cert = c }) (budget_in words)
+
+-- `refute IN OUT LOG HERBRAND CERT`
+abbrev pub refute_of : Option FiveNames → Request
+refute_of None = None
+refute_of (Some n) = alone (refuting (record { input = n.input; output = n.output; log = n.log; herbrand = n.skolem; cert = n.cert }))

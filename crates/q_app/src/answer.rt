@@ -7,6 +7,7 @@ use crate::rebuilt::Rebuilt;
 use crate::simplified::Simplified;
 use q_command::{Outcome, Status, put};
 use q_io::Sink;
+use q_run_refute::Refuted;
 use q_run_validate::Validated;
 
 /// What there is to say at the end of a command: a line, and a status.
@@ -18,6 +19,7 @@ pub enum Answer {
     Simplify(Simplified),
     Rebuild(Rebuilt),
     Generate(Generated),
+    Refute(Refuted),
     Validate(Validated),
 }
 
@@ -31,6 +33,7 @@ impl Answer {
             Answer::Simplify(outcome) => outcome.status(),
             Answer::Rebuild(outcome) => outcome.status(),
             Answer::Generate(outcome) => outcome.status(),
+            Answer::Refute(outcome) => outcome.status(),
             Answer::Validate(outcome) => outcome.status(),
         }
     }
@@ -47,6 +50,7 @@ pub(crate) fn say<S: Sink>(out: &mut S, answer: &Answer) -> Status
         Answer::Simplify(outcome) => outcome.say(out),
         Answer::Rebuild(outcome) => outcome.say(out),
         Answer::Generate(outcome) => outcome.say(out),
+        Answer::Refute(outcome) => outcome.say(out),
         Answer::Validate(outcome) => outcome.say(out),
     }
 }

@@ -35,7 +35,7 @@ pub fn first_moves_make_first_moves()
     ensures { FirstMoves }
 {}
 
-/// The commands over circuits are right.
+/// The commands over circuits are right together.
 pub fn further()
     ensures { Further }
 {}

@@ -1,9 +1,10 @@
 // The top call.
 ghost use Rattle.std.specs.Prelude.{◌≡◌, ◌≢◌, ◌≤◌, ◌⊎◌, map, string_bytes, Some, None};
 ghost use Rattle.q_kernel.specs.Taking.{AreModest};
-ghost use Rattle.q_app.specs.Words.{checking, demo, generating, rebuilding, simplifying, validating};
+ghost use Rattle.q_app.specs.Words.{checking, demo, generating, rebuilding, refuting, simplifying, validating};
 ghost use Rattle.q_command.specs.Names.{three_of};
 ghost use Rattle.q_run_validate.specs.Validates.{files_of as validate_files_of};
+ghost use Rattle.q_run_refute.specs.Refutes.{files_of as refute_files_of};
 ghost use Rattle.q_app.specs.Commands.{IsFit, commands_of, five_of, request};
 ghost use Rattle.q_command.specs.Sinks.{view_sink};
 ghost use Rattle.q_app.specs.Says.{Does, InTurn, Runs, devices};
@@ -17,6 +18,7 @@ use crate::simplify::simplify_file;
 use crate::words::{Command, Scale, parse};
 use q_command::{Names, Status, check};
 use q_io::{Files, Sink};
+use q_run_refute::{RefuteNames, refute_files};
 use q_run_validate::{ValidateNames, validate_files};
 use q_sched::Guide;
 use q_simplify::Options;
@@ -96,6 +98,20 @@ fn run_validate<F: Files, S: Sink>(
     say(out, &Answer::Validate(outcome))
 }
 
+fn run_refute<F: Files, S: Sink>(
+    alloc: Global,
+    files: &mut F,
+    out: &mut S,
+    names: RefuteNames,
+) -> Status
+    ensures { Runs (Some (refuting (refute_files_of names.entry)))
+        (devices F.held F.read_faults F.write_faults files.old (view_sink S.written S.faults S.wants out.old)) result
+        (devices F.held F.read_faults F.write_faults files.new (view_sink S.written S.faults S.wants out.new)) }
+{
+    let outcome = refute_files(alloc, files, names);
+    say(out, &Answer::Refute(outcome))
+}
+
 // `gen`, `simplify` and `check` one after the other, up to the first that does not pass.
 fn run_demo<F: Files, S: Sink>(
     alloc: Global,
@@ -143,6 +159,7 @@ fn run_command<F: Files, S: Sink>(
         Command::Rebuild { names } => run_rebuild(alloc, files, out, names),
         Command::Generate { scale, output } => run_generate(alloc, files, out, scale, output),
         Command::Validate { names, budget } => run_validate(alloc, files, out, names, budget),
+        Command::Refute { names } => run_refute(alloc, files, out, names),
         Command::Demo { scale, names } => run_demo(alloc, files, out, scale, names, guides),
     }
 }

@@ -1,6 +1,7 @@
 // The words of the command line.
 ghost use Rattle.std.specs.Prelude.{◌≡◌, ◌≢◌, ◌≤◌, map, option_map, string_bytes, IfSome, Some};
-ghost use Rattle.q_app.specs.Words.{check_of, demo_by, demo_of, generate_of, scale_of as spec_scale_of, simplify_of, validate_of};
+ghost use Rattle.q_app.specs.RebuildWords.{rebuild_names};
+ghost use Rattle.q_app.specs.Words.{check_of, demo_by, demo_of, generate_of, refute_of, scale_of as spec_scale_of, simplify_of, validate_of};
 ghost use Rattle.q_app.specs.Operands.{just_three, three_names as spec_three_names, two_names as spec_two_names};
 ghost use Rattle.q_command.specs.Names.{three_of};
 ghost use Rattle.q_app.specs.Commands.{IsFit, bounds_in, by_verb as spec_by_verb, commands_of, request};
@@ -10,6 +11,7 @@ use crate::rebuild_words::{RebuildNames, parse_rebuild};
 use crate::settings::{Settings, number};
 use q_command::Names;
 use q_logic::Bounds;
+use q_run_refute::RefuteNames;
 use q_run_validate::ValidateNames;
 use q_simplify::Options;
 
@@ -40,6 +42,9 @@ pub(crate) enum Command<'a> {
     Validate {
         names: ValidateNames<'a>,
         budget: Option<u64>,
+    },
+    Refute {
+        names: RefuteNames<'a>,
     },
     Demo {
         scale: Scale,
@@ -80,6 +85,9 @@ fn by_verb<'a>(verb: &str, operands: &'a [String]) -> Option<Command<'a>>
     }
     if verb == "validate" {
         return parse_validate(operands);
+    }
+    if verb == "refute" {
+        return parse_refute(operands);
     }
     if verb == "demo" {
         return parse_demo(operands);
@@ -127,6 +135,24 @@ fn parse_validate(operands: &[String]) -> Option<Command>
     };
     match budget_of(pair.rest) {
         Some(budget) => Some(Command::Validate { names, budget }),
+        None => None,
+    }
+}
+
+fn parse_refute(operands: &[String]) -> Option<Command>
+    ensures request { option_map (λ o. commands_of o) result ≡ refute_of (rebuild_names (map (λ w. string_bytes w) operands.now)) }
+    ensures fit { IfSome result IsFit }
+{
+    match parse_rebuild(operands) {
+        Some(names) => Some(Command::Refute {
+            names: RefuteNames {
+                input: names.input,
+                output: names.output,
+                log: names.log,
+                herbrand: names.skolem,
+                cert: names.cert,
+            },
+        }),
         None => None,
     }
 }

@@ -1,8 +1,8 @@
 -- What a deletion by a number leaves in the undo list, told of slots and of numbers.
-use Rattle.std.proofs.Common.{◌≡◌, ℕ, true, List, [], ◌∷◌, Option, None, Some, inl, inr, refl, sym, ◌∙◌, subst, get_or}
+use Rattle.std.proofs.Common.{◌≡◌, ℕ, true, List, Option, None, Some, inl, inr, refl, sym, ◌∙◌, subst, get_or}
 use Rattle.q_logic.specs.Literals.{Literal, negation}
-use Rattle.q_logic.specs.Formulas.{Clause, Matrix, Prefix, IsIn}
-use Rattle.q_logic.specs.Hinted.{NumberedFormula, ProofPart, HintGroup, Shows, plain}
+use Rattle.q_logic.specs.Formulas.{Clause, Prefix, IsIn}
+use Rattle.q_logic.specs.Hinted.{plain}
 use Rattle.q_logic.specs.Numbered.{Slots, slot, set_slot, live}
 use Rattle.q_logic.specs.Prefixes.{is_bound}
 use Rattle.q_logic.specs.Propagation.{Implied}

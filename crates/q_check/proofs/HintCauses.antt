@@ -1,5 +1,5 @@
 -- Why a step with its proof part is refused: the least cause that applies.
-use Rattle.std.proofs.Common.{◌≡◌, ◌<◌, ℕ, Bool, true, false, ◌∷◌, Option, Some, None, inl, inr, arith, refl, sym, ◌∙◌, true≢false}
+use Rattle.std.proofs.Common.{◌≡◌, ℕ, true, false, ◌∷◌, Option, Some, inl, inr, arith, refl, sym, ◌∙◌, true≢false}
 use Rattle.q_logic.specs.declared.limits.Limits.{Limits}
 use Rattle.q_logic.specs.declared.proof_part.ProofKind.TheVariants.{Nothing}
 use Rattle.q_logic.specs.Literals.{Literal}

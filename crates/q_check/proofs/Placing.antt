@@ -1,8 +1,8 @@
 -- Hints by their numbers, and by the slots of these.
-use Rattle.std.proofs.Common.{◌≡◌, ◌≢◌, ◌↔◌, ◌≤◌, ℕ, zero, suc, List, [], ◌∷◌, ◌⊎◌, inl, inr, refl, sym, ap, ◌∙◌, subst, Option, None, Some, get_or, set, map, length}
+use Rattle.std.proofs.Common.{◌≡◌, ◌≢◌, ◌↔◌, ℕ, zero, suc, List, [], ◌∷◌, inl, inr, refl, sym, ap, ◌∙◌, subst, Option, None, Some, get_or, set, map, length}
 use Rattle.q_logic.specs.Literals.{Literal}
 use Rattle.q_logic.specs.Formulas.{Clause}
-use Rattle.q_logic.specs.Hints.{IsRefuted, LeavesOne, Follows, Chained}
+use Rattle.q_logic.specs.Hints.{Follows, Chained}
 use Rattle.q_logic.specs.Numbered.{Slots, slot, set_slot}
 use Rattle.q_logic.specs.Propagation.{negations}
 use Rattle.q_prop.specs.Slots.{without}

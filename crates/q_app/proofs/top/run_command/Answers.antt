@@ -25,6 +25,10 @@ pub returns-in-Validate : goal.returns-in-Validate
 returns-in-Validate g c =
     subst (λ (k : Parsed). InTurn (commands_of k) (devices g.F.Files.held g.F.Files.read_faults g.F.Files.write_faults c.args.files.now (view_sink g.S.Sink.written g.S.Sink.faults g.S.Sink.wants c.args.out.now)) c.run_validate.result (devices g.F.Files.held g.F.Files.read_faults g.F.Files.write_faults c.run_validate.new.files (view_sink g.S.Sink.written g.S.Sink.faults g.S.Sink.wants c.run_validate.new.out))) (sym c.in-Validate.is) c.run_validate.ensures
 
+pub returns-in-Refute : goal.returns-in-Refute
+returns-in-Refute g c =
+    subst (λ (k : Parsed). InTurn (commands_of k) (devices g.F.Files.held g.F.Files.read_faults g.F.Files.write_faults c.args.files.now (view_sink g.S.Sink.written g.S.Sink.faults g.S.Sink.wants c.args.out.now)) c.run_refute.result (devices g.F.Files.held g.F.Files.read_faults g.F.Files.write_faults c.run_refute.new.files (view_sink g.S.Sink.written g.S.Sink.faults g.S.Sink.wants c.run_refute.new.out))) (sym c.in-Refute.is) c.run_refute.ensures
+
 pub returns-in-Demo : goal.returns-in-Demo
 returns-in-Demo g c =
     subst (λ (k : Parsed). InTurn (commands_of k) (devices g.F.Files.held g.F.Files.read_faults g.F.Files.write_faults c.args.files.now (view_sink g.S.Sink.written g.S.Sink.faults g.S.Sink.wants c.args.out.now)) c.run_demo.result (devices g.F.Files.held g.F.Files.read_faults g.F.Files.write_faults c.run_demo.new.files (view_sink g.S.Sink.written g.S.Sink.faults g.S.Sink.wants c.run_demo.new.out))) (sym c.in-Demo.is) c.run_demo.ensures

@@ -1,9 +1,4 @@
-use Rattle.std.proofs.Common.{◌≡◌, ◌↔◌, ◌<◌, ◌≤◌, ◌++◌, ◌∙◌, ℕ, IsTrue, List, Some, length, sym, refl, subst, arith, true≢false}
-use Rattle.q_logic.specs.Formulas.{Clause}
-use Rattle.q_logic.specs.Hints.{Chained}
-use Rattle.q_logic.specs.Hinted.{NumberedFormula}
-use Rattle.q_logic.specs.Numbered.{slot}
-use Rattle.q_logic.specs.Pivots.{outer}
+use Rattle.std.proofs.Common.{◌<◌, ◌≤◌, ◌∙◌, length, sym, refl, arith, true≢false}
 use Rattle.q_logic.specs.ProofParts.{group_at}
 use Rattle.q_logic.proofs.Members.{test-false}
 use Rattle.q_check.specs.Numbers.{left_out}

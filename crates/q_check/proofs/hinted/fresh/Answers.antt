@@ -1,9 +1,6 @@
 use Rattle.std.proofs.Common.{refl}
-use Rattle.std.proofs.lemmas.Result.{err_from_is_err_and}
-use Rattle.q_logic.specs.Hinted.{plain}
 use Rattle.q_logic.proofs.Members.{test-false}
-use Rattle.q_judge.proofs.Trying.{fresh-entry}
-use Rattle.q_check.proofs.HintCauses.{fresh-refused, fresh-bad}
+use Rattle.q_check.proofs.HintCauses.{fresh-refused}
 use Rattle.q_check.proofs.hinted.fresh.Goals as goal
 
 pub returns-then-not-takes_fresh : goal.returns-then-not-takes_fresh

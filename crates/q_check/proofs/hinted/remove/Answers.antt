@@ -1,8 +1,6 @@
 use Rattle.std.proofs.Common.{◌∙◌, refl, sym}
-use Rattle.q_logic.specs.Hinted.{plain}
 use Rattle.q_logic.proofs.Members.{test-false}
-use Rattle.q_judge.proofs.Trying.{removed-entry}
-use Rattle.q_check.proofs.HintCauses.{remove-unbound, remove-occurring, remove-bad}
+use Rattle.q_check.proofs.HintCauses.{remove-unbound, remove-occurring}
 use Rattle.q_check.proofs.hinted.remove.Goals as goal
 
 pub returns-then-not-binds : goal.returns-then-not-binds

@@ -1,5 +1,4 @@
-use Rattle.std.proofs.Common.{◌≡◌, ◌∙◌, ◌↔◌, ap, length, map}
-use Rattle.q_logic.specs.Hints.{Chained}
+use Rattle.std.proofs.Common.{length}
 use Rattle.q_prop.specs.Slots.{without}
 use Rattle.q_check.specs.HintChecks.{place_at}
 use Rattle.q_check.specs.Numbers.{left_out, numbered_by}

@@ -1,4 +1,4 @@
-use Rattle.std.proofs.Common.{◌≡◌, ◌++◌, ◌∙◌, length, sym}
+use Rattle.std.proofs.Common.{◌++◌, ◌∙◌, length, sym}
 use Rattle.q_logic.specs.Pivots.{outer}
 use Rattle.q_prop.specs.Slots.{without}
 use Rattle.q_prop.proofs.Hinting.{slot-Holds}
