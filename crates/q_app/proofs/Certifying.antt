@@ -10,8 +10,10 @@ use Rattle.q_io.specs.declared.error.DeviceError.TheVariants as device
 use Rattle.q_command.specs.declared.circuits.CircuitsError.{CircuitsError}
 use Rattle.q_command.specs.declared.circuits.CircuitsError.TheVariants as unread
 use Rattle.q_command.specs.Texts.{IsNoText, LeavesCircuits, MayHoldCircuits}
-use Rattle.q_app.specs.Rebuilds.{FiveNames, five, AreCarried, CircuitsFail, FaultsReading, IsOfCircuits, IsPart, Puts, Rebuilds, failed_write, no_circuits}
+use Rattle.q_app.specs.Rebuilds.{FiveNames, five, AreCarried, AreRefused, Fails, CircuitsFail, FaultsReading, IsOfCircuits, IsPart, Puts, Rebuilds, failed_write, no_circuits}
 use Rattle.q_command.specs.declared.checking.Checked.{Checked}
+use Rattle.q_rebuild.specs.declared.error.RebuildError.{RebuildError}
+use Rattle.q_rebuild.specs.declared.error.RebuildError.TheVariants as refusal
 use Rattle.q_app.specs.declared.rebuilt.Rebuilt.{Rebuilt}
 use Rattle.q_app.specs.declared.rebuilt.Rebuilt.TheVariants.{Written, Unverified, RefusedText, MissingOutput, StrangeOutput, StrangeInput, Reads, FalseOutput, ReadFault, WriteFault, NoMemory}
 
@@ -27,7 +29,7 @@ module _ (n : FiveNames) (before : Disk) (after : Option Disk) (c : Checked) (ma
     undo = c.undo;
     given = m.0;
     brings = record { is_input = p.is_input; is_output = p.is_output; steps = c.steps; log = p.log; circuits = m.1 };
-    holds = (g, text, record { made = made; rebuilt = m.3; canonical = canonical }, front);
+    holds = (g, text, record { made = made; rebuilt = m.3; moves = m.4; canonical = canonical }, front);
   }
 
   pub rebuilds : (r : Rebuilt) → Puts r made n.cert before after → Rebuilds r n before after
@@ -37,7 +39,7 @@ module _ (n : FiveNames) (before : Disk) (after : Option Disk) (c : Checked) (ma
     undo = c.undo;
     given = m.0;
     brings = record { is_input = p.is_input; is_output = p.is_output; steps = c.steps; log = p.log; circuits = m.1 };
-    holds = (m.2, (text, record { made = made; rebuilt = m.3; canonical = canonical }, whole));
+    holds = (m.2, (text, record { made = made; rebuilt = m.3; moves = m.4; canonical = canonical }, whole));
   }
   rebuilds (Unverified o) h = elim h [ ]
   rebuilds (RefusedText k c) h = elim h [ ]
@@ -82,3 +84,36 @@ leaves-puts device.NoMemory made name before after h = h
 pub failed_write-fault : (e : DeviceError) → failed_write e ≡ WriteFault → e ≡ device.Failed
 failed_write-fault device.Failed h = refl
 failed_write-fault device.NoMemory h = cc
+
+-- what there is to say where the circuits were not carried back
+module _ (n : FiveNames) (before : Disk) (after : Option Disk) (c : Checked) (p : FilesPass undo_alone (bytes_at before n.input) (bytes_at before n.output) (bytes_at before n.log) c) (same : after ≡ Some before) where
+  refused : (e : RebuildError) → Fails e c.to (bytes_at before n.skolem) → AreRefused e n before
+  refused e h = record {
+    from = c.from;
+    to = c.to;
+    undo = c.undo;
+    given = h.0;
+    brings = record { is_input = p.is_input; is_output = p.is_output; steps = c.steps; log = p.log; circuits = h.1 };
+    holds = h.2;
+  }
+
+  failing : (r : Rebuilt) → CircuitsFail r c.to (bytes_at before n.skolem) → Rebuilds r n before after
+  failing (Written g) h = absurd h
+  failing (Unverified o) h = absurd h
+  failing (RefusedText k x) h = (
+    record { from = c.from; to = c.to; is_input = p.is_input; is_output = p.is_output; holds = (p.log.entries, p.log.leads) },
+    h,
+    same,
+  )
+  failing (MissingOutput v) h = (refused (refusal.MissingOutput v) h, same)
+  failing (StrangeOutput v) h = (refused (refusal.StrangeOutput v) h, same)
+  failing (StrangeInput v) h = (refused (refusal.StrangeInput v) h, same)
+  failing (Reads v u) h = (refused (refusal.Reads v u) h, same)
+  failing FalseOutput h = (refused refusal.FalseOutput h, same)
+  failing ReadFault h = same
+  failing WriteFault h = absurd h
+  failing NoMemory h = inl same
+
+pub failed : (held after : Option Disk) (i o l s t : List ℕ) (c : Checked) (r : Rebuilt) → after ≡ held → IfSome held (λ d. FilesPass undo_alone (bytes_at d i) (bytes_at d o) (bytes_at d l) c) → IfSome held (λ d. CircuitsFail r c.to (bytes_at d s)) → IfSome held (λ d. Rebuilds r (five i o l s t) d after)
+failed None after i o l s t c r e p f = tt
+failed (Some d) after i o l s t c r e p f = failing (five i o l s t) d after c p e r f

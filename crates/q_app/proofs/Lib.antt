@@ -9,3 +9,4 @@ pub mod Generating
 pub mod Turns
 pub mod Together
 pub mod Saying
+pub mod SameMoves

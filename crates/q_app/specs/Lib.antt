@@ -1,5 +1,6 @@
 pub mod Statuses
 pub mod Lines
+pub mod Operands
 pub mod Words
 pub mod Refusals
 pub mod Simplifying
@@ -11,3 +12,4 @@ pub mod Commands
 pub mod Answers
 pub mod Says
 pub mod Headline
+pub mod FirstMoves

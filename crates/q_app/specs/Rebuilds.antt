@@ -9,6 +9,7 @@ use Rattle.q_aiger.specs.Circuits.{AreCircuits, Offence}
 use Rattle.q_aiger.specs.Alike.{IsNoCircuits}
 use Rattle.q_aiger.specs.Writing.{IsCanonical}
 use Rattle.q_rebuild.specs.Rebuilt.{IsRebuilt}
+use Rattle.q_rebuild.specs.Moves.{KeepsMoves}
 use Rattle.q_rebuild.specs.Refusals.{IsRefused, IsAccepted}
 use Rattle.q_io.specs.declared.error.DeviceError.{DeviceError}
 use Rattle.q_io.specs.declared.error.DeviceError.TheVariants as device
@@ -51,10 +52,12 @@ pub record OfCircuits (n : FiveNames) (disk : Disk) (P : PrenexFormula → Prene
   pub holds : P from to undo given
 
 -- the circuits that are written, with so many gates: they have the stated values, are lawful and small, and are Skolem
--- functions of the formula of IN where the given ones are of that of OUT
+-- functions of the formula of IN where the given ones are of that of OUT; what they say in the first rounds is made of what the
+-- given ones say there
 pub record IsCertificate (n : FiveNames) (gates : ℕ) (F G : PrenexFormula) (us : List UndoEntry) (given : CertificateView) (text : List ℕ) : Type 0 where
   pub made : CertificateView
   pub rebuilt : IsRebuilt F G us given made
+  pub moves : KeepsMoves F G us given made
   pub canonical : IsCanonical made gates text
 
 -- the certificate is written whole
@@ -147,7 +150,8 @@ failed_write device.NoMemory = NoMemory
 -- the circuits of a file, carried back
 abbrev pub AreCarried : Checked → List ℕ → CertificateView → Type 0
 AreCarried k bytes made =
-    (given : CertificateView) × AreCircuits bytes given × IsAccepted k.to given × IsRebuilt k.from k.to k.undo given made
+    (given : CertificateView) × AreCircuits bytes given × IsAccepted k.to given × IsRebuilt k.from k.to k.undo given made ×
+    KeepsMoves k.from k.to k.undo given made
 
 -- what writing the certificate leaves
 abbrev pub Puts : Rebuilt → CertificateView → List ℕ → Disk → Option Disk → Type 0

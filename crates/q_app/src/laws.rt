@@ -6,6 +6,7 @@ ghost use Rattle.q_simplify.specs.declared.options.Options.{Options};
 ghost use Rattle.q_simplify.specs.declared.report.Report.{Report};
 ghost use Rattle.q_simplify.specs.Results.{Simplifies};
 ghost use Rattle.q_command.specs.Checks.{IsFileOf, IsVerified};
+ghost use Rattle.q_app.specs.FirstMoves.{FirstMoves};
 ghost use Rattle.q_app.specs.Headline.{Headline};
 
 use q_log::texts_are_read;
@@ -27,3 +28,8 @@ pub fn headline()
 {
     texts_are_read();
 }
+
+/// Over one log, what two calls of `rebuild` write agrees in the first rounds where what they were given does.
+pub fn first_moves_make_first_moves()
+    ensures { FirstMoves }
+{}

@@ -17,7 +17,7 @@ mod words;
 
 pub use answer::Answer;
 pub use generated::Generated;
-pub use laws::{headline, simplified_is_verified};
+pub use laws::{first_moves_make_first_moves, headline, simplified_is_verified};
 pub use q_command::{Outcome, Role, Status};
 pub use rebuilt::Rebuilt;
 pub use simplified::Simplified;

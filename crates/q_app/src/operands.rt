@@ -1,5 +1,5 @@
 // Operands: names of files, which differ, and what stands behind them.
-ghost use Rattle.std.specs.Prelude.{◌≡◌, ◌≢◌, map, option_map, string_bytes, IfSome};
+ghost use Rattle.std.specs.Prelude.{◌≡◌, ◌≢◌, map, option_map, string_bytes, IfSome, Some};
 ghost use Rattle.q_command.specs.Names.{three_of};
 ghost use Rattle.q_app.specs.Operands.{DifferFour, are_different as spec_are_different, fourth, is_fourth as spec_is_fourth, just_three, three_names as spec_three_names, two_names as spec_two_names};
 ghost use Rattle.q_app.specs.Words.{budget_in};
@@ -93,9 +93,30 @@ pub(crate) struct Four<'a> {
 }
 
 fn is_fourth(names: Names, last: &str) -> bool
-    ensures { result ≡ spec_is_fourth (three_of names) last.now }
+    ensures { result ≡ spec_is_fourth (three_of names.entry) last.now }
 {
     names.input != last && names.output != last && names.log != last
+}
+
+// The fourth name, where it differs from three.
+fn fourth_of<'a>(names: Names<'a>, rest: &'a [String]) -> Option<Four<'a>>
+    requires { names.output.now ≢ names.log.now }
+    ensures names { option_map (λ o. (three_of o.names, o.last.now, map (λ w. string_bytes w) o.rest.now)) result
+        ≡ fourth (Some (three_of names.entry, map (λ w. string_bytes w) rest.now)) }
+    ensures apart { IfSome result (λ o. DifferFour (three_of o.names) o.last.now) }
+{
+    if rest.len() == 0 {
+        return None;
+    }
+    let last = rest[0].as_str();
+    if !is_fourth(names, last) {
+        return None;
+    }
+    Some(Four {
+        names,
+        last,
+        rest: &rest[1..],
+    })
 }
 
 /// The names, where they differ.
@@ -104,21 +125,10 @@ pub(crate) fn four_names(operands: &[String]) -> Option<Four>
         ≡ fourth (spec_three_names (map (λ w. string_bytes w) operands.now)) }
     ensures apart { IfSome result (λ o. DifferFour (three_of o.names) o.last.now) }
 {
-    let Some(begun) = three_names(operands) else {
-        return None;
-    };
-    if begun.rest.is_empty() {
-        return None;
+    match three_names(operands) {
+        Some(begun) => fourth_of(begun.names, begun.rest),
+        None => None,
     }
-    let last = begun.rest[0].as_str();
-    if !is_fourth(begun.names, last) {
-        return None;
-    }
-    Some(Four {
-        names: begun.names,
-        last,
-        rest: &begun.rest[1..],
-    })
 }
 
 /// The budget that these words set, if they set nothing else.

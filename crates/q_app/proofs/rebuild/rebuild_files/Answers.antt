@@ -1,7 +1,7 @@
 use Rattle.std.proofs.Common.{◌∙◌, ap, Err}
 use Rattle.q_io.proofs.Counts.{rose_later}
 use Rattle.q_command.proofs.Feeding.{at_same}
-use Rattle.q_app.proofs.Certifying.{circuits-not_write, circuits-reading, joined}
+use Rattle.q_app.proofs.Certifying.{circuits-not_write, circuits-reading, failed, joined}
 use Rattle.q_app.proofs.rebuild.rebuild_files.Goals as goal
 
 pub returns-in-Ok-carry_back-clause-rebuilds : goal.returns-in-Ok-carry_back-clause-rebuilds
@@ -25,3 +25,9 @@ returns-clause-read_fault g c =
 
 pub returns-clause-write_fault : goal.returns-clause-write_fault
 returns-clause-write_fault g c = λ e. absurd (circuits-not_write c.in-Err-carry_back.outcome c.in-Err-carry_back.ensures.of_circuits e)
+
+pub returns-clause-rebuilds : goal.returns-clause-rebuilds
+returns-clause-rebuilds g c =
+    failed (g.F.Files.held c.args.files.now) (g.F.Files.held c.carry_back.new.files) c.args.names.input.now c.args.names.output.now c.args.names.log.now c.args.names.skolem.now c.args.names.cert.now c.in-Ok.checked c.in-Err-carry_back.outcome
+    (c.in-Err-carry_back.ensures.only_reads.same ∙ c.in-Ok.ensures.only_reads.same) c.in-Ok.ensures.passes
+    (at_same _ _ _ c.in-Ok.ensures.only_reads.same c.in-Err-carry_back.ensures.refused)
