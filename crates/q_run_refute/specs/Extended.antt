@@ -1,0 +1,12 @@
+-- The first extended drop of a log.
+use Rattle.std.specs.Prelude.{◌≡◌, ◌⊎◌, ℕ, List, [], ◌∷◌}
+use Rattle.q_logic.specs.Formulas.{PrenexFormula}
+use Rattle.q_logic.specs.Steps.{after}
+use Rattle.q_logic.specs.Reversals.{IsExtended}
+use Rattle.q_command.specs.Logs.{Entry}
+
+-- from the formula on, the first step that is an extended drop begins on this line
+abbrev pub FirstExtended : PrenexFormula → List Entry → ℕ → Type 0
+FirstExtended F [] line = ⊥
+FirstExtended F (e ∷ es) line =
+    (IsExtended F e.1 × (line ≡ e.0)) ⊎ (¬ IsExtended F e.1 × FirstExtended (after F e.1) es line)

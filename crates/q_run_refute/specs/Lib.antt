@@ -1,0 +1,4 @@
+pub mod Extended
+pub mod Reversing
+pub mod RefutedLines
+pub mod Refutes
