@@ -37,9 +37,11 @@ fn of_log(cause: &str) -> &'static str {
         "1" => "this is no step of a log",
         "2" => "a variable of the step is not in the prefix",
         "3" => "there is no such clause at this step",
-        "4" => "the clause is not implied by propagation, and its first literal is no existential pivot",
+        "4" =>
+            "the clause is not implied by propagation, and its first literal is no existential pivot",
         "5" => "the first literal is existential, or neither a universal pivot nor reducible",
-        "6" => "the fresh variable is there already or out of range, or it would stand behind no existential",
+        "6" =>
+            "the fresh variable is there already or out of range, or it would stand behind no existential",
         "7" => "the variable stands in a clause",
         "8" => "more clauses, literals or bytes than are kept",
         "9" => "the steps are valid and end with other quantifier blocks than OUT has",
@@ -58,7 +60,8 @@ fn of_circuits(cause: &str) -> &'static str {
         "4" => "an earlier line defines this variable too",
         "5" => "no line defines a variable that is used here",
         "6" => "the gate depends on itself",
-        "7" => "a symbol is wrong or missing: each input and output needs one, the number of its variable",
+        "7" =>
+            "a symbol is wrong or missing: each input and output needs one, the number of its variable",
         "8" => "the file ends before all lines of its header have stood",
         "9" => "the file is larger than is read",
         _ => "",
@@ -76,10 +79,18 @@ fn say(rt: &HostRuntime, file: &str, line: &str, why: &str) {
 fn say_of_fit(rt: &HostRuntime, words: &[&str; WORDS]) {
     let (second, third, fourth) = (words[1], words[2], words[3]);
     let _ = match (second, third) {
-        ("missing", _) => eprintln!(rt; "celdrinn: variable {third} needs a circuit, and the file has none"),
-        ("strange", "output") => eprintln!(rt; "celdrinn: the file has a circuit for {fourth}, which needs none"),
-        ("strange", "input") => eprintln!(rt; "celdrinn: a circuit reads {fourth}, which it can't depend on"),
-        (_, "reads") => eprintln!(rt; "celdrinn: {fourth} does not stand before {second} in the prefix"),
+        ("missing", _) => eprintln!(rt;
+            "celdrinn: variable {third} needs a circuit, and the file has none"
+        ),
+        ("strange", "output") => eprintln!(rt;
+            "celdrinn: the file has a circuit for {fourth}, which needs none"
+        ),
+        ("strange", "input") => eprintln!(rt;
+            "celdrinn: a circuit reads {fourth}, which it can't depend on"
+        ),
+        (_, "reads") => eprintln!(rt;
+            "celdrinn: {fourth} does not stand before {second} in the prefix"
+        ),
         _ => Ok(()),
     };
 }
@@ -94,7 +105,12 @@ pub(crate) fn explain(rt: &HostRuntime, line: &str) {
             let why = of_log(words[3]);
             let _ = eprintln!(rt; "celdrinn: LOG: {why}");
         }
-        ("extended", "line") => say(rt, "LOG", words[2], "this literal was dropped by a reduction that can't be carried back"),
+        ("extended", "line") => say(
+            rt,
+            "LOG",
+            words[2],
+            "this literal was dropped by a reduction that can't be carried back",
+        ),
         ("circuits", "line") => say(rt, "the circuits", words[2], of_circuits(words[4])),
         ("circuits", _) => say_of_fit(rt, &words),
         _ => {}

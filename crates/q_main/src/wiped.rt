@@ -39,7 +39,9 @@ impl<'a> Wiped<'a> {
             return;
         };
         for byte in bytes {
-            let ended = front.len > 0 && front.len <= LONGEST && front.bytes[front.len - 1] == b'\n';
+            let ended = front.len > 0
+                && front.len <= LONGEST
+                && front.bytes[front.len - 1] == b'\n';
             if ended {
                 front.len = 0;
             }

@@ -1,0 +1,2 @@
+pub mod AnnotatedLines
+pub mod Annotates

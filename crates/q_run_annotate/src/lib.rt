@@ -1,0 +1,13 @@
+//! The command `annotate IN OUT LOG HINTED`: a log is checked once, and written with hints. `specs/Annotates` says
+//! what an outcome says of the files and when each status comes, `specs/AnnotatedLines` what is put. HINTED is created
+//! after the end of LOG was checked.
+#![tactic(auto)]
+
+mod annotated;
+mod files;
+mod names;
+mod text;
+
+pub use annotated::Annotated;
+pub use files::annotate_files;
+pub use names::AnnotateNames;
