@@ -1,0 +1,3 @@
+pub mod SolvedLines
+pub mod Reduces
+pub mod Solves
