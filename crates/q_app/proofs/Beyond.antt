@@ -1,5 +1,5 @@
 -- What is said of the commands over circuits, put together.
-use Rattle.std.proofs.Common.{◌≡◌, ℕ, List, [], sym, ap, ◌∙◌, subst, Option, Some, unwrap_or}
+use Rattle.std.proofs.Common.{◌≡◌, inl, inr, ℕ, List, [], sym, ap, ◌∙◌, subst, Option, Some, unwrap_or}
 use Rattle.q_logic.specs.Formulas.{PrenexFormula}
 use Rattle.q_logic.specs.Truth.{Holds}
 use Rattle.q_logic.specs.Certificates.{trees_of}
@@ -21,7 +21,9 @@ use Rattle.q_command.proofs.Exact.{one_formula}
 use Rattle.q_command.proofs.Formulas.{file-formula}
 use Rattle.q_run_validate.specs.Validates.{ValidateFiles, ValidatesExactly}
 use Rattle.q_run_refute.specs.Refutes.{RefuteFiles, AreHerbrand, IsWhole, RefutesExactly}
-use Rattle.q_app.specs.Further.{HoldsHerbrand, IsRefutation, Further}
+use Rattle.q_run_solve.specs.Solves.{SolveFiles, HoldsAnswer, SolvesExactly}
+use Rattle.q_app.specs.Headline.{HoldsSkolem}
+use Rattle.q_app.specs.Further.{HoldsHerbrand, IsRefutation, SaysTruth, Further}
 
 validated : (answer : Status) (n : ValidateFiles) (budget : Option ℕ) (before : Disk) (after : Option Disk) → ValidatesExactly answer n budget before after → answer ≡ status.Done → (F : PrenexFormula) → IsFileOf (bytes_at before n.input) F → Holds F
 validated answer n budget before after h e F f =
@@ -36,6 +38,9 @@ fails n before k F f t =
     let g = file-formula (bytes_at before n.input) k.run.from k.run.is_input in
     herbrand-false k.run.to (trees_of k.given) (file-formula (bytes_at before n.output) k.run.to k.run.is_output) k.fits
     ((run-true_to k.run.from (steps_of k.run.entries) k.run.to g (Run-justified k.run.from (steps_of k.run.entries) k.run.to k.run.log.run)).0 (subst Holds from t))
+
+some-same : (d e : Disk) → Some d ≡ Some e → d ≡ e
+some-same d e h = cc
 
 same-strategy : (s t : Strategy) → ((x : ℕ) → s x ≡ t x) → s ≡ t
 same-strategy s t h = λ i x. h x i
@@ -57,6 +62,34 @@ held n before after gates h k F f =
       herbrand = subst (λ (H : PrenexFormula). HerbrandOf H (trees_of w.1.made)) from (w.1.refuted.herbrand given);
     }
 
+-- what was written with a yes
+answered : (n : SolveFiles) (F : PrenexFormula) (disk after : Disk) (gates : ℕ) → disk ≡ after → HoldsAnswer n.cert gates F disk → HoldsSkolem (bytes_at after n.cert) F
+answered n F disk after gates d w =
+    let bytes : bytes_at after n.cert ≡ w.text = ap (λ (x : Disk). bytes_at x n.cert) (sym d) ∙ ap (λ b. unwrap_or b []) w.bytes in
+    record {
+      made = w.made;
+      gates = gates;
+      canonical = subst (λ (xs : List ℕ). IsCanonical w.made gates xs) (sym bytes) w.canonical;
+      skolem = w.circuits.skolem;
+    }
+
+solved : (answer : Status) (n : SolveFiles) (budget : Option ℕ) (before after : Disk) → SolvesExactly answer n budget before (Some after) → SaysTruth answer n before after
+solved answer n budget before after h = record { holds = yes_is; fails = no_is }
+  where
+    yes_is : answer ≡ status.True → (F : PrenexFormula) → IsFileOf (bytes_at before n.input) F → Holds F × HoldsSkolem (bytes_at after n.cert) F
+    yes_is e F f =
+        let d = h.ended (inl e) in
+        let from : d.from ≡ F = one_formula (bytes_at before n.input) d.from F d.reduced.is_input f in
+        let disk : d.disk ≡ after = some-same d.disk after (sym d.told) in
+        let w = d.holds.circuits e in
+        (subst Holds from (d.holds.holds.0 e).1, subst (HoldsSkolem (bytes_at after n.cert)) from (answered n d.from d.disk after w.0 disk w.1))
+
+    no_is : answer ≡ status.False → (F : PrenexFormula) → IsFileOf (bytes_at before n.input) F → ¬ Holds F
+    no_is e F f t =
+        let d = h.ended (inr (inl e)) in
+        let from : F ≡ d.from = one_formula (bytes_at before n.input) F d.from f d.reduced.is_input in
+        (d.holds.fails.0 e).1 (subst Holds from t)
+
 pub further : Further
 further = record {
   validate = validated;
@@ -65,4 +98,5 @@ further = record {
     fails = fails n before k;
     herbrand = λ e F f. let w = h.written e in held n before after w.0 w.1 k F f;
   };
+  solve = solved;
 }

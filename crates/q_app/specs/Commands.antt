@@ -3,16 +3,18 @@ use Rattle.std.specs.Prelude.{◌≢◌, ◌≤◌, ℕ, cond, List, [], ◌∷�
 use Rattle.std.specs.Str.{bytes_eq}
 use Rattle.q_logic.specs.declared.rule_bounds.Bounds.{Bounds}
 use Rattle.q_kernel.specs.Taking.{AreModest}
-use Rattle.q_command.specs.Names.{three_of}
+use Rattle.q_command.specs.Names.{three, three_of}
 use Rattle.q_app.specs.Rebuilds.{FiveNames, five}
-use Rattle.q_app.specs.Words.{Command, checking, simplifying, rebuilding, generating, refuting, validating, Request, check_of, simplify_of, rebuild_of, generate_of, validate_of, refute_of, demo, demo_of, nothing_set, options_of}
-use Rattle.q_app.specs.Operands.{just_three, three_names, two_names}
+use Rattle.q_app.specs.Words.{Command, checking, simplifying, rebuilding, generating, solving, annotating, refuting, validating, Request, check_of, simplify_of, rebuild_of, generate_of, validate_of, refute_of, annotate_of, solve_of, demo, demo_of, nothing_set, options_of}
+use Rattle.q_app.specs.Operands.{DifferFour, fourth, just_three, three_names, two_names}
 use Rattle.q_app.specs.RebuildWords.{rebuild_names}
 use Rattle.q_run_validate.specs.Validates.{files_of as validate_files_of}
 use Rattle.q_run_refute.specs.Refutes.{files_of as refute_files_of}
+use Rattle.q_run_annotate.specs.Annotates.{files_of as annotate_files_of}
+use Rattle.q_run_solve.specs.Solves.{files_of as solve_files_of}
 use Rattle.q_app.specs.declared.rebuild_words.RebuildNames.{RebuildNames}
 use Rattle.q_app.specs.declared.words.Command.{Command as Parsed}
-use Rattle.q_app.specs.declared.words.Command.TheVariants.{Check, Simplify, Rebuild, Generate, Refute, Validate, Demo}
+use Rattle.q_app.specs.declared.words.Command.TheVariants.{Check, Simplify, Rebuild, Generate, Solve, Annotate, Refute, Validate, Demo}
 
 -- by the verb and its operands; all else is no command
 abbrev pub by_verb : List ℕ → List (List ℕ) → Request
@@ -23,7 +25,9 @@ by_verb verb operands =
     (cond (bytes_eq verb (codes "gen")) (generate_of operands)
     (cond (bytes_eq verb (codes "validate")) (validate_of (two_names operands))
     (cond (bytes_eq verb (codes "refute")) (refute_of (rebuild_names operands))
-    (cond (bytes_eq verb (codes "demo")) (demo_of operands) None))))))
+    (cond (bytes_eq verb (codes "annotate")) (annotate_of (fourth (three_names operands)))
+    (cond (bytes_eq verb (codes "solve")) (solve_of (fourth (three_names operands)))
+    (cond (bytes_eq verb (codes "demo")) (demo_of operands) None))))))))
 
 unfoldable pub request : List (List ℕ) → Request
 request [] = None
@@ -40,6 +44,8 @@ commands_of (Rebuild n) = rebuilding (five_of n) ∷ []
 commands_of (Generate k o) = generating k o.now ∷ []
 commands_of (Validate n b) = validating (validate_files_of n) b ∷ []
 commands_of (Refute n) = refuting (refute_files_of n) ∷ []
+commands_of (Annotate n) = annotating (annotate_files_of n) ∷ []
+commands_of (Solve n b) = solving (solve_files_of n) b ∷ []
 commands_of (Demo k n) = demo k (three_of n)
 
 -- such a command can be done: its numbers are within their limits, and what is written has two names
@@ -50,6 +56,8 @@ IsFit (Rebuild n) = Unit {0}
 IsFit (Generate k o) = k.size ≤ 100000
 IsFit (Validate n b) = Unit {0}
 IsFit (Refute n) = Unit {0}
+IsFit (Annotate n) = Unit {0}
+IsFit (Solve n b) = DifferFour (three n.input.now n.output.now n.log.now) n.cert.now
 IsFit (Demo k n) = (k.size ≤ 100000) × (n.output.now ≢ n.log.now)
 
 -- the bounds of the first simplification, and without one the defaults
@@ -59,6 +67,8 @@ first_bounds (checking n ∷ cs) = first_bounds cs
 first_bounds (simplifying n p ∷ cs) = p.bounds
 first_bounds (rebuilding n ∷ cs) = first_bounds cs
 first_bounds (generating k o ∷ cs) = first_bounds cs
+first_bounds (solving n b ∷ cs) = first_bounds cs
+first_bounds (annotating n ∷ cs) = first_bounds cs
 first_bounds (refuting n ∷ cs) = first_bounds cs
 first_bounds (validating n b ∷ cs) = first_bounds cs
 

@@ -1,6 +1,6 @@
 -- The commands over circuits are right together, by what is said of each: a formula whose circuits `validate` calls valid is
 -- true; `refute`, given an accepted log without extended drops and Herbrand functions of the output, writes Herbrand functions of
--- the input, which is false then.
+-- the input, which is false then; `solve` says of a formula that it is true, with Skolem functions, or false, where it is so.
 use Rattle.std.specs.Prelude.{◌≡◌, ◌⊎◌, ℕ, List, Option, Some}
 use Rattle.q_logic.specs.Formulas.{PrenexFormula}
 use Rattle.q_logic.specs.Truth.{Holds}
@@ -13,6 +13,8 @@ use Rattle.q_command.specs.declared.status.Status.{Status}
 use Rattle.q_command.specs.declared.status.Status.TheVariants as status
 use Rattle.q_run_validate.specs.Validates.{ValidateFiles, ValidatesExactly}
 use Rattle.q_run_refute.specs.Refutes.{RefuteFiles, AreHerbrand, RefutesExactly}
+use Rattle.q_run_solve.specs.Solves.{SolveFiles, SolvesExactly}
+use Rattle.q_app.specs.Headline.{HoldsSkolem}
 
 -- the file holds the canonical text of circuits whose trees are Herbrand functions of the formula
 pub record HoldsHerbrand (text : List ℕ) (F : PrenexFormula) : Type 0 where
@@ -29,9 +31,17 @@ pub record IsRefutation (answer : Status) (n : RefuteFiles) (before after : Disk
   pub herbrand : answer ≡ status.Done →
       (F : PrenexFormula) → IsFileOf (bytes_at before n.input) F → HoldsHerbrand (bytes_at after n.cert) F
 
+-- what `solve` says of the formula of IN is so, and with `true` CERT holds Skolem functions of it
+pub record SaysTruth (answer : Status) (n : SolveFiles) (before after : Disk) : Type 0 where
+  pub holds : answer ≡ status.True → (F : PrenexFormula) → IsFileOf (bytes_at before n.input) F →
+      Holds F × HoldsSkolem (bytes_at after n.cert) F
+  pub fails : answer ≡ status.False → (F : PrenexFormula) → IsFileOf (bytes_at before n.input) F → ¬ Holds F
+
 pub record Further : Type 0 where
   pub validate : (answer : Status) → (n : ValidateFiles) → (budget : Option ℕ) → (before : Disk) → (after : Option Disk) →
       ValidatesExactly answer n budget before after → answer ≡ status.Done →
       (F : PrenexFormula) → IsFileOf (bytes_at before n.input) F → Holds F
   pub refute : (answer : Status) → (n : RefuteFiles) → (before after : Disk) →
       RefutesExactly answer n before (Some after) → AreHerbrand n before → IsRefutation answer n before after
+  pub solve : (answer : Status) → (n : SolveFiles) → (budget : Option ℕ) → (before after : Disk) →
+      SolvesExactly answer n budget before (Some after) → SaysTruth answer n before after

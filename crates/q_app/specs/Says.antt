@@ -5,7 +5,7 @@ use Rattle.q_logic.specs.Counts.{Rose}
 use Rattle.q_command.specs.Statuses.{passes}
 use Rattle.q_command.specs.Sinks.{SinkView, IsDue, Says}
 use Rattle.q_app.specs.Answers.{status_of_answer, line_of_answer}
-use Rattle.q_app.specs.Words.{Command, checking, simplifying, rebuilding, generating, refuting, validating, Request}
+use Rattle.q_app.specs.Words.{Command, checking, simplifying, rebuilding, generating, solving, annotating, refuting, validating, Request}
 use Rattle.q_command.specs.Checks.{AnswersExactly, Checks}
 use Rattle.q_app.specs.Simplifying.{Ends, SimplifiesExactly}
 use Rattle.q_app.specs.Rebuilds.{Rebuilds, RebuildsExactly}
@@ -18,6 +18,10 @@ use Rattle.q_run_validate.specs.Validates.{Validates, ValidatesExactly}
 use Rattle.q_run_validate.specs.declared.validated.Validated.{Validated}
 use Rattle.q_run_refute.specs.Refutes.{Refutes, RefutesExactly}
 use Rattle.q_run_refute.specs.declared.refuted.Refuted.{Refuted}
+use Rattle.q_run_annotate.specs.Annotates.{Annotates, AnnotatesExactly}
+use Rattle.q_run_annotate.specs.declared.annotated.Annotated.{Annotated}
+use Rattle.q_run_solve.specs.Solves.{Solves, SolvesExactly}
+use Rattle.q_run_solve.specs.declared.solved.Solved.{Solved}
 use Rattle.q_app.specs.declared.answer.Answer.{Answer}
 use Rattle.q_app.specs.declared.answer.Answer.TheVariants as answer
 use Rattle.q_command.specs.declared.status.Status.{Status}
@@ -41,6 +45,10 @@ MaySay (Some (rebuilding n)) before after due =
     (o : Rebuilt) × (due ≡ answer.Rebuild o) × IfSome before (λ disk. Rebuilds o n disk after)
 MaySay (Some (generating k name)) before after due =
     (o : Generated) × (due ≡ answer.Generate o) × IfSome before (λ disk. Generates o k name disk after)
+MaySay (Some (solving n b)) before after due =
+    (o : Solved) × (due ≡ answer.Solve o) × IfSome before (λ disk. Solves o n b disk after)
+MaySay (Some (annotating n)) before after due =
+    (o : Annotated) × (due ≡ answer.Annotate o) × IfSome before (λ disk. Annotates o n disk after)
 MaySay (Some (refuting n)) before after due =
     (o : Refuted) × (due ≡ answer.Refute o) × IfSome before (λ disk. Refutes o n disk after)
 MaySay (Some (validating n b)) before after due =
@@ -54,6 +62,8 @@ Gives (Some (checking n)) given before after =
 Gives (Some (simplifying n p)) given before after = SimplifiesExactly given p n.input n.output n.log before after
 Gives (Some (rebuilding n)) given before after = RebuildsExactly given n before after
 Gives (Some (generating k name)) given before after = GeneratesExactly given k name before after
+Gives (Some (solving n b)) given before after = SolvesExactly given n b before after
+Gives (Some (annotating n)) given before after = AnnotatesExactly given n before after
 Gives (Some (refuting n)) given before after = RefutesExactly given n before after
 Gives (Some (validating n b)) given before after = ValidatesExactly given n b before after
 
@@ -64,6 +74,8 @@ names_read (Some (checking n)) = n.input ∷ n.output ∷ n.log ∷ []
 names_read (Some (simplifying n p)) = n.input ∷ []
 names_read (Some (rebuilding n)) = n.input ∷ n.output ∷ n.log ∷ n.skolem ∷ []
 names_read (Some (generating k name)) = []
+names_read (Some (solving n b)) = n.input ∷ []
+names_read (Some (annotating n)) = n.input ∷ n.output ∷ n.log ∷ []
 names_read (Some (refuting n)) = n.input ∷ n.output ∷ n.log ∷ n.herbrand ∷ []
 names_read (Some (validating n b)) = n.input ∷ n.cert ∷ []
 
@@ -74,6 +86,8 @@ names_written (Some (checking n)) = []
 names_written (Some (simplifying n p)) = n.output ∷ n.log ∷ []
 names_written (Some (rebuilding n)) = n.cert ∷ []
 names_written (Some (generating k name)) = name ∷ []
+names_written (Some (solving n b)) = n.output ∷ n.log ∷ n.cert ∷ []
+names_written (Some (annotating n)) = n.hinted ∷ []
 names_written (Some (refuting n)) = n.cert ∷ []
 names_written (Some (validating n b)) = []
 
@@ -84,6 +98,8 @@ IfReading (Some (checking n)) P = P
 IfReading (Some (simplifying n p)) P = Unit {0}
 IfReading (Some (rebuilding n)) P = Unit {0}
 IfReading (Some (generating k name)) P = Unit {0}
+IfReading (Some (solving n b)) P = Unit {0}
+IfReading (Some (annotating n)) P = Unit {0}
 IfReading (Some (refuting n)) P = Unit {0}
 IfReading (Some (validating n b)) P = P
 

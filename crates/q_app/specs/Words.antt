@@ -7,6 +7,8 @@ use Rattle.q_app.specs.Operands.{just_three, three_names}
 use Rattle.q_app.specs.Rebuilds.{FiveNames}
 use Rattle.q_run_validate.specs.Validates.{ValidateFiles}
 use Rattle.q_run_refute.specs.Refutes.{RefuteFiles}
+use Rattle.q_run_annotate.specs.Annotates.{AnnotateFiles}
+use Rattle.q_run_solve.specs.Solves.{SolveFiles}
 use Rattle.q_app.specs.declared.words.Scale.{Scale}
 use Rattle.q_app.specs.declared.settings.Setting.{Setting}
 use Rattle.q_app.specs.declared.settings.Setting.TheVariants as setting
@@ -18,6 +20,8 @@ pub data Command : Type 0 where
   simplifying : ThreeNames → Options → Command
   rebuilding : FiveNames → Command
   generating : Scale → List ℕ → Command
+  solving : SolveFiles → Option ℕ → Command
+  annotating : AnnotateFiles → Command
   refuting : RefuteFiles → Command
   validating : ValidateFiles → Option ℕ → Command
 
@@ -158,3 +162,18 @@ validate_of (Some (i, c, words)) = validate_with (record { input = i; cert = c }
 abbrev pub refute_of : Option FiveNames → Request
 refute_of None = None
 refute_of (Some n) = alone (refuting (record { input = n.input; output = n.output; log = n.log; herbrand = n.skolem; cert = n.cert }))
+
+-- `annotate IN OUT LOG HINTED`
+abbrev pub annotate_of : Option (ThreeNames × List ℕ × List (List ℕ)) → Request
+annotate_of None = None
+annotate_of (Some (n, h, [])) = alone (annotating (record { input = n.input; output = n.output; log = n.log; hinted = h }))
+annotate_of (Some (n, h, word ∷ words)) = None
+
+-- `solve IN OUT LOG CERT` with a budget
+abbrev pub solve_with : SolveFiles → Option (Option ℕ) → Request
+solve_with n None = None
+solve_with n (Some b) = alone (solving n b)
+
+abbrev pub solve_of : Option (ThreeNames × List ℕ × List (List ℕ)) → Request
+solve_of None = None
+solve_of (Some (n, c, words)) = solve_with (record { input = n.input; output = n.output; log = n.log; cert = c }) (budget_in words)

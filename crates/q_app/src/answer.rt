@@ -7,7 +7,9 @@ use crate::rebuilt::Rebuilt;
 use crate::simplified::Simplified;
 use q_command::{Outcome, Status, put};
 use q_io::Sink;
+use q_run_annotate::Annotated;
 use q_run_refute::Refuted;
+use q_run_solve::Solved;
 use q_run_validate::Validated;
 
 /// What there is to say at the end of a command: a line, and a status.
@@ -19,6 +21,8 @@ pub enum Answer {
     Simplify(Simplified),
     Rebuild(Rebuilt),
     Generate(Generated),
+    Solve(Solved),
+    Annotate(Annotated),
     Refute(Refuted),
     Validate(Validated),
 }
@@ -33,6 +37,8 @@ impl Answer {
             Answer::Simplify(outcome) => outcome.status(),
             Answer::Rebuild(outcome) => outcome.status(),
             Answer::Generate(outcome) => outcome.status(),
+            Answer::Solve(outcome) => outcome.status(),
+            Answer::Annotate(outcome) => outcome.status(),
             Answer::Refute(outcome) => outcome.status(),
             Answer::Validate(outcome) => outcome.status(),
         }
@@ -50,6 +56,8 @@ pub(crate) fn say<S: Sink>(out: &mut S, answer: &Answer) -> Status
         Answer::Simplify(outcome) => outcome.say(out),
         Answer::Rebuild(outcome) => outcome.say(out),
         Answer::Generate(outcome) => outcome.say(out),
+        Answer::Solve(outcome) => outcome.say(out),
+        Answer::Annotate(outcome) => outcome.say(out),
         Answer::Refute(outcome) => outcome.say(out),
         Answer::Validate(outcome) => outcome.say(out),
     }

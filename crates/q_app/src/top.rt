@@ -1,10 +1,13 @@
 // The top call.
 ghost use Rattle.std.specs.Prelude.{◌≡◌, ◌≢◌, ◌≤◌, ◌⊎◌, map, string_bytes, Some, None};
 ghost use Rattle.q_kernel.specs.Taking.{AreModest};
-ghost use Rattle.q_app.specs.Words.{checking, demo, generating, rebuilding, refuting, simplifying, validating};
-ghost use Rattle.q_command.specs.Names.{three_of};
+ghost use Rattle.q_app.specs.Words.{annotating, checking, demo, generating, rebuilding, refuting, simplifying, solving, validating};
+ghost use Rattle.q_command.specs.Names.{three, three_of};
+ghost use Rattle.q_app.specs.Operands.{DifferFour};
 ghost use Rattle.q_run_validate.specs.Validates.{files_of as validate_files_of};
 ghost use Rattle.q_run_refute.specs.Refutes.{files_of as refute_files_of};
+ghost use Rattle.q_run_annotate.specs.Annotates.{files_of as annotate_files_of};
+ghost use Rattle.q_run_solve.specs.Solves.{files_of as solve_files_of};
 ghost use Rattle.q_app.specs.Commands.{IsFit, commands_of, five_of, request};
 ghost use Rattle.q_command.specs.Sinks.{view_sink};
 ghost use Rattle.q_app.specs.Says.{Does, InTurn, Runs, devices};
@@ -18,7 +21,9 @@ use crate::simplify::simplify_file;
 use crate::words::{Command, Scale, parse};
 use q_command::{Names, Status, check};
 use q_io::{Files, Sink};
+use q_run_annotate::{AnnotateNames, annotate_files};
 use q_run_refute::{RefuteNames, refute_files};
+use q_run_solve::{SolveNames, solve_files};
 use q_run_validate::{ValidateNames, validate_files};
 use q_sched::Guide;
 use q_simplify::Options;
@@ -112,6 +117,37 @@ fn run_refute<F: Files, S: Sink>(
     say(out, &Answer::Refute(outcome))
 }
 
+fn run_annotate<F: Files, S: Sink>(
+    alloc: Global,
+    files: &mut F,
+    out: &mut S,
+    names: AnnotateNames,
+) -> Status
+    ensures { Runs (Some (annotating (annotate_files_of names.entry)))
+        (devices F.held F.read_faults F.write_faults files.old (view_sink S.written S.faults S.wants out.old)) result
+        (devices F.held F.read_faults F.write_faults files.new (view_sink S.written S.faults S.wants out.new)) }
+{
+    let outcome = annotate_files(alloc, files, names);
+    say(out, &Answer::Annotate(outcome))
+}
+
+fn run_solve<F: Files, S: Sink>(
+    alloc: Global,
+    files: &mut F,
+    out: &mut S,
+    names: SolveNames,
+    budget: Option<u64>,
+    guides: Vec<Box<dyn Guide>>,
+) -> Status
+    requires { DifferFour (three names.input.now names.output.now names.log.now) names.cert.now }
+    ensures { Runs (Some (solving (solve_files_of names.entry) budget))
+        (devices F.held F.read_faults F.write_faults files.old (view_sink S.written S.faults S.wants out.old)) result
+        (devices F.held F.read_faults F.write_faults files.new (view_sink S.written S.faults S.wants out.new)) }
+{
+    let outcome = solve_files(alloc, files, names, budget, guides);
+    say(out, &Answer::Solve(outcome))
+}
+
 // `gen`, `simplify` and `check` one after the other, up to the first that does not pass.
 fn run_demo<F: Files, S: Sink>(
     alloc: Global,
@@ -160,6 +196,8 @@ fn run_command<F: Files, S: Sink>(
         Command::Generate { scale, output } => run_generate(alloc, files, out, scale, output),
         Command::Validate { names, budget } => run_validate(alloc, files, out, names, budget),
         Command::Refute { names } => run_refute(alloc, files, out, names),
+        Command::Annotate { names } => run_annotate(alloc, files, out, names),
+        Command::Solve { names, budget } => run_solve(alloc, files, out, names, budget, guides),
         Command::Demo { scale, names } => run_demo(alloc, files, out, scale, names, guides),
     }
 }

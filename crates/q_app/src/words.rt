@@ -1,17 +1,19 @@
 // The words of the command line.
 ghost use Rattle.std.specs.Prelude.{◌≡◌, ◌≢◌, ◌≤◌, map, option_map, string_bytes, IfSome, Some};
 ghost use Rattle.q_app.specs.RebuildWords.{rebuild_names};
-ghost use Rattle.q_app.specs.Words.{check_of, demo_by, demo_of, generate_of, refute_of, scale_of as spec_scale_of, simplify_of, validate_of};
-ghost use Rattle.q_app.specs.Operands.{just_three, three_names as spec_three_names, two_names as spec_two_names};
+ghost use Rattle.q_app.specs.Words.{annotate_of, check_of, demo_by, demo_of, generate_of, refute_of, scale_of as spec_scale_of, simplify_of, solve_of, validate_of};
+ghost use Rattle.q_app.specs.Operands.{fourth, just_three, three_names as spec_three_names, two_names as spec_two_names};
 ghost use Rattle.q_command.specs.Names.{three_of};
 ghost use Rattle.q_app.specs.Commands.{IsFit, bounds_in, by_verb as spec_by_verb, commands_of, request};
 
-use crate::operands::{budget_of, only_names, three_names, two_names};
+use crate::operands::{budget_of, four_names, only_names, three_names, two_names};
 use crate::rebuild_words::{RebuildNames, parse_rebuild};
 use crate::settings::{Settings, number};
 use q_command::Names;
 use q_logic::Bounds;
+use q_run_annotate::AnnotateNames;
 use q_run_refute::RefuteNames;
+use q_run_solve::SolveNames;
 use q_run_validate::ValidateNames;
 use q_simplify::Options;
 
@@ -45,6 +47,13 @@ pub(crate) enum Command<'a> {
     },
     Refute {
         names: RefuteNames<'a>,
+    },
+    Annotate {
+        names: AnnotateNames<'a>,
+    },
+    Solve {
+        names: SolveNames<'a>,
+        budget: Option<u64>,
     },
     Demo {
         scale: Scale,
@@ -88,6 +97,12 @@ fn by_verb<'a>(verb: &str, operands: &'a [String]) -> Option<Command<'a>>
     }
     if verb == "refute" {
         return parse_refute(operands);
+    }
+    if verb == "annotate" {
+        return parse_annotate(operands);
+    }
+    if verb == "solve" {
+        return parse_solve(operands);
     }
     if verb == "demo" {
         return parse_demo(operands);
@@ -153,6 +168,45 @@ fn parse_refute(operands: &[String]) -> Option<Command>
                 cert: names.cert,
             },
         }),
+        None => None,
+    }
+}
+
+fn parse_annotate(operands: &[String]) -> Option<Command>
+    ensures request { option_map (λ o. commands_of o) result ≡ annotate_of (fourth (spec_three_names (map (λ w. string_bytes w) operands.now))) }
+    ensures fit { IfSome result IsFit }
+{
+    let Some(four) = four_names(operands) else {
+        return None;
+    };
+    if !four.rest.is_empty() {
+        return None;
+    }
+    Some(Command::Annotate {
+        names: AnnotateNames {
+            input: four.names.input,
+            output: four.names.output,
+            log: four.names.log,
+            hinted: four.last,
+        },
+    })
+}
+
+fn parse_solve(operands: &[String]) -> Option<Command>
+    ensures request { option_map (λ o. commands_of o) result ≡ solve_of (fourth (spec_three_names (map (λ w. string_bytes w) operands.now))) }
+    ensures fit { IfSome result IsFit }
+{
+    let Some(four) = four_names(operands) else {
+        return None;
+    };
+    let names = SolveNames {
+        input: four.names.input,
+        output: four.names.output,
+        log: four.names.log,
+        cert: four.last,
+    };
+    match budget_of(four.rest) {
+        Some(budget) => Some(Command::Solve { names, budget }),
         None => None,
     }
 }

@@ -29,6 +29,14 @@ pub returns-in-Refute : goal.returns-in-Refute
 returns-in-Refute g c =
     subst (λ (k : Parsed). InTurn (commands_of k) (devices g.F.Files.held g.F.Files.read_faults g.F.Files.write_faults c.args.files.now (view_sink g.S.Sink.written g.S.Sink.faults g.S.Sink.wants c.args.out.now)) c.run_refute.result (devices g.F.Files.held g.F.Files.read_faults g.F.Files.write_faults c.run_refute.new.files (view_sink g.S.Sink.written g.S.Sink.faults g.S.Sink.wants c.run_refute.new.out))) (sym c.in-Refute.is) c.run_refute.ensures
 
+pub returns-in-Annotate : goal.returns-in-Annotate
+returns-in-Annotate g c =
+    subst (λ (k : Parsed). InTurn (commands_of k) (devices g.F.Files.held g.F.Files.read_faults g.F.Files.write_faults c.args.files.now (view_sink g.S.Sink.written g.S.Sink.faults g.S.Sink.wants c.args.out.now)) c.run_annotate.result (devices g.F.Files.held g.F.Files.read_faults g.F.Files.write_faults c.run_annotate.new.files (view_sink g.S.Sink.written g.S.Sink.faults g.S.Sink.wants c.run_annotate.new.out))) (sym c.in-Annotate.is) c.run_annotate.ensures
+
+pub returns-in-Solve : goal.returns-in-Solve
+returns-in-Solve g c =
+    subst (λ (k : Parsed). InTurn (commands_of k) (devices g.F.Files.held g.F.Files.read_faults g.F.Files.write_faults c.args.files.now (view_sink g.S.Sink.written g.S.Sink.faults g.S.Sink.wants c.args.out.now)) c.run_solve.result (devices g.F.Files.held g.F.Files.read_faults g.F.Files.write_faults c.run_solve.new.files (view_sink g.S.Sink.written g.S.Sink.faults g.S.Sink.wants c.run_solve.new.out))) (sym c.in-Solve.is) c.run_solve.ensures
+
 pub returns-in-Demo : goal.returns-in-Demo
 returns-in-Demo g c =
     subst (λ (k : Parsed). InTurn (commands_of k) (devices g.F.Files.held g.F.Files.read_faults g.F.Files.write_faults c.args.files.now (view_sink g.S.Sink.written g.S.Sink.faults g.S.Sink.wants c.args.out.now)) c.run_demo.result (devices g.F.Files.held g.F.Files.read_faults g.F.Files.write_faults c.run_demo.new.files (view_sink g.S.Sink.written g.S.Sink.faults g.S.Sink.wants c.run_demo.new.out))) (sym c.in-Demo.is) c.run_demo.ensures
