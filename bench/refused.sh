@@ -42,5 +42,9 @@ refuse simplify "$examples/false.qdimacs" out log
 refuse check "$examples/equivalence.qdimacs" "$examples/equivalence-out.qdimacs" "$examples/equivalence.qrat"
 refuse rebuild "$examples/equivalence.qdimacs" "$examples/equivalence-out.qdimacs" "$examples/equivalence.qrat" \
     "$examples/equivalence-out.aag" cert
+refuse annotate "$examples/equivalence.qdimacs" "$examples/equivalence-out.qdimacs" "$examples/equivalence.qrat" hinted
+refuse refute "$examples/parity.qdimacs" "$examples/parity-out.qdimacs" "$examples/parity.qrat" "$examples/parity-out.aag" cert
+refuse validate "$examples/equivalence.qdimacs" "$examples/equivalence.aag"
+refuse solve "$examples/equivalence.qdimacs" out log cert
 refuse gen 7 5 formula
 exit "$bad"
