@@ -1,5 +1,5 @@
 -- The reader over bytes: what one byte does, what many do, and what comes of it at the end.
-use Rattle.std.specs.Prelude.{◌≡◌, ℕ, ◌+◌, ◌<◌, ◌≤◌, ◌^◌, nat_le, List, [], ◌∷◌, if◌then◌else◌, Result, Ok, Err, Option, Some, None}
+use Rattle.std.specs.Prelude.{◌≡◌, ℕ, ◌+◌, ◌<◌, ◌≤◌, ◌^◌, nat_le, List, [], ◌∷◌, length, take, if◌then◌else◌, Result, Ok, Err, Option, Some, None}
 use Rattle.q_logic.specs.declared.limits.Limits.{Limits}
 use Rattle.q_logic.specs.Formulas.{PrenexFormula}
 use Rattle.q_text.specs.declared.tokens.Token.{Token}
@@ -84,6 +84,11 @@ FeedFails NoMemory all new = new.standing ≡ Stopped NoMemory
 abbrev pub Feeds : {X : Type 0} → Result X ReadError → Scan → Scan → Type 0
 Feeds (Ok x) all new = (new ≡ all) × (all.standing ≡ Reading)
 Feeds (Err e) all new = FeedFails e all new
+
+-- what some bytes at the front of a piece do: the same as feeding them
+abbrev pub Takes : Result ℕ ReadError → Scan → List ℕ → Scan → Type 0
+Takes (Ok n) s piece new = (0 < n) × (n ≤ length piece) × Feeds (Ok n) (fed s (take n piece)) new
+Takes (Err e) s piece new = (n : ℕ) × FeedFails e (fed s (take n piece)) new
 
 abbrev pub NoneWaitsIn : Standing → Gathered → Type 0
 NoneWaitsIn Reading b = NoneWaits b.place b.parts.pending

@@ -2,7 +2,7 @@ ghost use Rattle.std.specs.Prelude.{◌≡◌, ℕ, ◌<◌, ◌≤◌, length, 
 ghost use Rattle.q_logic.specs.declared.limits.Limits.{Limits};
 ghost use Rattle.q_logic.specs.Parts.{IsProper};
 ghost use Rattle.q_logic.specs.Limits.{AreModerate};
-ghost use Rattle.q_dimacs.specs.Scanning.{Feeds, Answers, HasRead, byte_step, fed, outcome, start, token_step};
+ghost use Rattle.q_dimacs.specs.Scanning.{Feeds, Takes, Answers, HasRead, byte_step, fed, outcome, start, token_step};
 ghost use Rattle.q_dimacs.specs.Dimacs.{Dimacs, FormulaOf};
 ghost use Rattle.q_dimacs.specs.Offences.{Offence, ReadsOn, RefusesAll, RefusesBehind, StaysWithin, at_end, closed_with};
 ghost use Rattle.q_dimacs.specs.Reading.{end_of, NoneWaits};
@@ -116,10 +116,33 @@ impl Reader {
         requires { self.old.standing ≡ Standing.Reading }
         ensures { Feeds result (fed self.old piece.now) self.new }
     {
-        for byte in piece {
-            self.push(*byte)?;
+        let mut at = 0;
+        while at < piece.len() {
+            at += self.push_some(&piece[at..])?;
         }
         Ok(())
+    }
+
+    // Takes some bytes at the front of the piece, one token at most.
+    #[inline(always)]
+    fn push_some(&mut self, piece: &[u8]) -> Result<usize, ReadError>
+        requires some { 0 < length piece.now }
+        requires reading { self.old.standing ≡ Standing.Reading }
+        ensures { Takes result self.old piece.now self.new }
+    {
+        if self.limits.bytes - self.taken < piece.len() as u64 {
+            self.push(piece[0])?;
+            return Ok(1);
+        }
+        let (count, token) = self.tokens.next(piece);
+        self.taken += count as u64;
+        match token {
+            None => Ok(count),
+            Some(token) => {
+                self.take(token)?;
+                Ok(count)
+            }
+        }
     }
 
     #[inline(always)]

@@ -9,3 +9,5 @@ pub mod Texts
 pub mod Lengths
 pub mod Outcomes
 pub mod InFront
+mod Passing
+mod Fewer

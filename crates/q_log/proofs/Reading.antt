@@ -52,7 +52,7 @@ token-leads t k s rest last ts h None = sym (h s)
 token-leads t k s rest last ts h (Some x) = move-leads t k s rest (λ u. outcome last u ts) h (move s x) x.line
 
 -- the answer to a byte within the limit
-byte-leads : (t : Tokens) (k b : ℕ) (s : Option OpenStep) (rest : List ℕ) →
+pub byte-leads : (t : Tokens) (k b : ℕ) (s : Option OpenStep) (rest : List ℕ) →
     let T = token_turn (record { tokens = after t b; left = k; begun = s; refused = None }) (handed t b) in
     Leads T.answer (to_come (record { tokens = t; left = suc k; begun = s; refused = None }) (b ∷ rest)) (to_come T.state rest)
 byte-leads t k b s rest = go (nat_le (length rest) k) refl (grind (arith, nat_tests))
@@ -90,7 +90,7 @@ turn-leads r b rest = go r.left r.refused
     go zero None = rw above (refl, refl)
     go (suc k) None = rw (counted k, sub-one) (byte-leads r.tokens k b r.begun rest)
 
-after-refusal : (new : LogState) (rest : List ℕ) (e : LogError) → new.refused ≡ Some e → to_come new rest ≡ stopped e
+pub after-refusal : (new : LogState) (rest : List ℕ) (e : LogError) → new.refused ≡ Some e → to_come new rest ≡ stopped e
 after-refusal new rest e h = ap (λ f. unless_refused f (open_to_come new rest)) h
 
 -- the answer and the state behind it may be told by equations

@@ -1,5 +1,5 @@
 -- A log read byte by byte: what stands between two bytes, and what is still to come.
-use Rattle.std.specs.Prelude.{◌≡◌, ℕ, ◌-◌, ◌==◌, nat_le, List, [], ◌∷◌, length, take, if◌then◌else◌, Result, Ok, Err, Option, Some, None, Bool, true, not, ◌&&◌}
+use Rattle.std.specs.Prelude.{◌≡◌, ℕ, ◌-◌, ◌==◌, nat_le, List, [], ◌∷◌, ◌++◌, length, take, if◌then◌else◌, Result, Ok, Err, Option, Some, None, Bool, true, not, ◌&&◌}
 use Rattle.q_logic.specs.declared.steps.Kind.{Kind}
 use Rattle.q_logic.specs.declared.steps.Kind.TheVariants.{Add, Delete, Drop, Fresh, Remove}
 use Rattle.q_logic.specs.Literals.{Literal}
@@ -87,6 +87,12 @@ Leads (Ok (Some s)) before now = before ≡ onto s now
 Leads (Err NoMemory) before now = now ≡ stopped NoMemory
 Leads (Err (BadLine n)) before now = (before ≡ stopped (BadLine n)) × (now ≡ stopped (BadLine n))
 Leads (Err (Limit n)) before now = (before ≡ stopped (Limit n)) × (now ≡ stopped (Limit n))
+
+-- the answer to some bytes at the front of the piece: what was to come where they came is the answer, and then what is to
+-- come now. Behind them anything may follow.
+abbrev pub Passes : Result (ℕ × Option (ℕ × ProofStep)) LogError → LogState → LogState → List ℕ → Type 0
+Passes (Ok (n, o)) old new piece = (rest : List ℕ) → Leads (Ok o) (to_come old (take n piece ++ rest)) (to_come new rest)
+Passes (Err e) old new piece = (n : ℕ) × ((rest : List ℕ) → Leads (Err e) (to_come old (take n piece ++ rest)) (to_come new rest))
 
 -- the answer to the end is all that was to come
 abbrev pub Ends : Result (Option (ℕ × ProofStep)) LogError → Outcome → Type 0

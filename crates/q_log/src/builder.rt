@@ -28,6 +28,7 @@ pub struct StepBuilder {
 }
 
 // A 0 may end the step here.
+#[inline(always)]
 fn is_whole(kind: Kind, lits: &[Lit]) -> bool
     ensures { result ≡ is_whole kind lits.now }
 {
@@ -40,6 +41,7 @@ fn is_whole(kind: Kind, lits: &[Lit]) -> bool
 }
 
 // One more literal may stand here.
+#[inline(always)]
 fn has_room(kind: Kind, lits: &[Lit], negative: bool) -> bool
     ensures { result ≡ has_room kind lits.now negative }
 {
@@ -66,6 +68,7 @@ impl StepBuilder {
     }
 
     /// The step that the token makes whole.
+    #[inline(always)]
     pub fn take(&mut self, token: Token) -> Result<Option<(u64, Step)>, LogError>
         ensures { Takes result self.old token self.new }
     {
@@ -107,6 +110,7 @@ impl StepBuilder {
         Ok(None)
     }
 
+    #[inline(always)]
     fn number(
         &mut self,
         begun: Begun,
@@ -126,6 +130,7 @@ impl StepBuilder {
         self.literal(begun, Lit::new(magnitude as u32, number < 0), line)
     }
 
+    #[inline(always)]
     fn literal(
         &mut self,
         begun: Begun,

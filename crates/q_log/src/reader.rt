@@ -1,6 +1,6 @@
-ghost use Rattle.std.specs.Prelude.{◌≡◌, ◌≤◌, ◌^◌, [], ◌∷◌, List, ℕ, Option, Some, None, Ok, Err, IfOk, IfErr};
+ghost use Rattle.std.specs.Prelude.{◌≡◌, ◌≤◌, ◌<◌, ◌+◌, ◌^◌, [], ◌∷◌, length, List, ℕ, Option, Some, None, Ok, Err, IfOk, IfErr};
 ghost use Rattle.q_log.specs.Logs.{read};
-ghost use Rattle.q_log.specs.Reading.{start, to_come, turn, Answers, Leads, Ends};
+ghost use Rattle.q_log.specs.Reading.{start, to_come, turn, Answers, Leads, Passes, Ends};
 
 use crate::builder::StepBuilder;
 use crate::error::LogError;
@@ -78,6 +78,40 @@ impl LogReader {
             Err(error) => {
                 self.refused = Some(error);
                 Err(error)
+            }
+        }
+    }
+
+    /// Takes some bytes at the front of the piece, of which only the last may end a step: how many they are, and the step
+    /// that it ends, with the line of its first token. It answers as `push` does, byte by byte.
+    #[inline(always)]
+    pub fn next(&mut self, piece: &[u8]) -> Result<(usize, Option<(u64, Step)>), LogError>
+        requires some { 0 < length piece.now }
+        ensures within { IfOk result (λ r. (0 < r.0) × (r.0 ≤ length piece.now)) }
+        ensures next { Passes result self.old self.new piece.now }
+        ensures left { IfOk result (λ r. self.new.left + r.0 ≡ self.old.left) }
+        ensures again { (e : LogError) → self.old.refused ≡ Some e → (result ≡ Err e) × (self.new ≡ self.old) }
+        ensures stops { (e : LogError) → result ≡ Err e → self.new.refused ≡ Some e }
+    {
+        if let Some(error) = self.refused {
+            return Err(error);
+        }
+        if self.left < piece.len() as u64 {
+            return match self.push(piece[0]) {
+                Ok(step) => Ok((1, step)),
+                Err(error) => Err(error),
+            };
+        }
+        let (count, token) = self.tokens.next(piece);
+        self.left -= count as u64;
+        let Some(token) = token else {
+            return Ok((count, None));
+        };
+        match self.builder.take(token) {
+            Ok(step) => Ok((count, step)),
+            Err(fault) => {
+                self.refused = Some(fault);
+                Err(fault)
             }
         }
     }

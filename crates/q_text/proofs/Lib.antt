@@ -4,3 +4,4 @@ pub mod Spelling
 pub mod Decimals
 pub mod Extending
 pub mod Short
+pub mod Pieces

@@ -3,6 +3,7 @@
 #![tactic(auto)]
 
 mod numbers;
+mod runs;
 mod shape;
 mod tokens;
 

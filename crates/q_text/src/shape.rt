@@ -1,6 +1,7 @@
 ghost use Rattle.std.specs.Prelude.{◌≡◌, ◌+◌, ◌*◌, ◌≤◌, Some};
 ghost use Rattle.q_text.specs.Words.{clipped};
 ghost use Rattle.q_text.specs.Tokens.{grown, first_shape, after_blank, kind_in};
+ghost use Rattle.q_text.specs.Pieces.{may_begin};
 
 use crate::tokens::TokenKind;
 
@@ -25,7 +26,7 @@ pub enum Shape {
 const GREATEST: u64 = 4_611_686_018_427_387_904;
 
 /// Ten times a greater number is above `GREATEST`.
-const TENTH: u64 = 461_168_601_842_738_790;
+pub(crate) const TENTH: u64 = 461_168_601_842_738_790;
 
 impl Shape {
     /// The shape of a word with one more byte.
@@ -105,6 +106,14 @@ impl Shape {
         }
     }
 
+    /// A word may begin here.
+    #[inline(always)]
+    pub fn may_begin(self) -> bool
+        ensures { result ≡ may_begin self }
+    {
+        matches!(self, Shape::Start | Shape::Between)
+    }
+
     /// Behind a space, tab or CR.
     #[inline(always)]
     pub fn after_blank(self) -> Shape
@@ -159,7 +168,7 @@ fn first(byte: u8) -> Shape
 
 // Ten times the magnitude and a digit, clipped.
 #[inline(always)]
-fn clip(magnitude: u64, digit: u64) -> u64
+pub(crate) fn clip(magnitude: u64, digit: u64) -> u64
     requires { digit ≤ 9 }
     ensures { result ≡ clipped (10 * magnitude + digit) }
 {
@@ -170,15 +179,12 @@ fn clip(magnitude: u64, digit: u64) -> u64
 }
 
 #[inline(always)]
-fn number(negative: bool, magnitude: u64) -> TokenKind
+pub(crate) fn number(negative: bool, magnitude: u64) -> TokenKind
     ensures { Some result ≡ kind_in (Shape.Digits negative magnitude) }
 {
     let clipped = magnitude.min(GREATEST) as i64;
-    if !negative {
-        return TokenKind::Number(clipped);
-    }
-    if magnitude == 0 {
+    if negative && magnitude == 0 {
         return TokenKind::Other;
     }
-    TokenKind::Number(-clipped)
+    TokenKind::Number(if negative { -clipped } else { clipped })
 }

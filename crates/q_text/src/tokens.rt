@@ -1,8 +1,10 @@
-ghost use Rattle.std.specs.Prelude.{◌≡◌, ℕ, ◌+◌, ◌-◌, ◌<◌, ◌^◌, ◌++◌, ◌==◌, [], ◌∷◌, List, if◌then◌else◌};
+ghost use Rattle.std.specs.Prelude.{◌≡◌, ℕ, ◌+◌, ◌-◌, ◌<◌, ◌≤◌, ◌^◌, ◌++◌, ◌==◌, [], ◌∷◌, List, if◌then◌else◌, length};
 ghost use Rattle.q_text.specs.Words.{is_separator};
 ghost use Rattle.q_text.specs.Texts.{tokens_of};
 ghost use Rattle.q_text.specs.Tokens.{to_come, listed, kind_in, token_in, handed, handed_at_end, line_of, after, begun};
+ghost use Rattle.q_text.specs.Pieces.{Goes};
 
+use crate::runs::number_word;
 use crate::shape::Shape;
 
 /// What a word is. A magnitude above 2^62 is given as 2^62.
@@ -78,6 +80,33 @@ impl Tokens {
         ended
     }
 
+    /// Takes some bytes of the piece, of which only the last may end a token: how many they are, and the
+    /// token that it ends. A number that stands whole in the piece, with a byte behind it, is taken at once.
+    #[inline(always)]
+    pub fn next(&mut self, piece: &[u8]) -> (usize, Option<Token>)
+        requires some { 0 < length piece.now }
+        requires room { line_of self.old + length piece.now < 2 ^ 64 }
+        ensures goes { Goes self.old self.new piece.now result.0 result.1 }
+        ensures line { line_of self.new ≤ line_of self.old + result.0 }
+    {
+        if self.shape.may_begin() {
+            if let Some(word) = number_word(piece) {
+                let token = Token {
+                    kind: word.kind,
+                    line: self.line,
+                };
+                if piece[word.len] == b'\n' {
+                    self.line += 1;
+                    self.shape = Shape::Start;
+                } else {
+                    self.shape = Shape::Between;
+                }
+                return (word.len + 1, Some(token));
+            }
+        }
+        (1, self.push(piece[0]))
+    }
+
     /// The token that the end of the text ends, if it ends one.
     pub fn finish(self) -> Option<Token>
         ensures ended { listed result ≡ to_come self [] }
@@ -88,7 +117,7 @@ impl Tokens {
 }
 
 #[inline(always)]
-fn is_blank(byte: u8) -> bool
+pub(crate) fn is_blank(byte: u8) -> bool
     ensures { result ≡ is_separator byte }
 {
     matches!(byte, b'\n' | b' ' | b'\t' | b'\r')
