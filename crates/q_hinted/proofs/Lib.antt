@@ -6,3 +6,5 @@ pub mod Spelling
 pub mod Parsing
 pub mod Profiles
 pub mod Rereading
+mod Passing
+mod Fewer

@@ -1,5 +1,5 @@
 -- What was to come is the answer to a byte, and then what is to come behind it.
-use Rattle.std.proofs.Common.{◌≡◌, ℕ, zero, suc, ◌==◌, nat_le, Bool, true, false, List, ◌∷◌, ◌++◌, length, take, Result, Ok, Err, Option, Some, None, refl, sym, ap, arith, sub-one, subst}
+use Rattle.std.proofs.Common.{◌≡◌, ℕ, zero, suc, ◌==◌, nat_le, Bool, true, false, List, ◌∷◌, ◌++◌, length, take, Result, Ok, Err, Option, Some, None, refl, sym, ap, ◌∙◌, arith, sub-one, subst}
 use Rattle.std.proofs.lemmas.Bool.Decides.{nat_tests}
 use Rattle.q_text.specs.declared.tokens.Token.{Token}
 use Rattle.q_text.specs.declared.tokens.Tokens.{Tokens}
@@ -11,6 +11,7 @@ use Rattle.q_log.specs.declared.error.LogError.{LogError}
 use Rattle.q_log.specs.declared.error.LogError.TheVariants.{BadLine, Limit, NoMemory}
 use Rattle.q_log.proofs.Reading.{line-after}
 use Rattle.q_hinted.specs.Grammar.{Place, nowhere, EntryMove, hands, leads, misfit, place_move}
+use Rattle.q_hinted.specs.Filled.{Gives}
 use Rattle.q_hinted.specs.Logs.{Entry, Entries, stopped, onto, follow, outcome, at_end, past_limit, read_entries}
 use Rattle.q_hinted.specs.Reading.{BothState, open_to_come, unless_refused, to_come, turn, token_turn, moved, Answers, Leads}
 
@@ -36,7 +37,7 @@ token-leads t k p rest last ts h None = sym (h p)
 token-leads t k p rest last ts h (Some x) = move-leads t k p rest (λ q. outcome last q ts) h (place_move p x) x.line
 
 -- the answer to a byte within the limit
-byte-leads : (t : Tokens) (k b : ℕ) (p : Place) (rest : List ℕ) →
+pub byte-leads : (t : Tokens) (k b : ℕ) (p : Place) (rest : List ℕ) →
     let T = token_turn (record { tokens = after t b; left = k; place = p; refused = None }) (handed t b) in
     Leads T.answer (to_come (record { tokens = t; left = suc k; place = p; refused = None }) (b ∷ rest)) (to_come T.state rest)
 byte-leads t k b p rest = go (nat_le (length rest) k) refl (grind (arith, nat_tests))
@@ -74,7 +75,7 @@ turn-leads r b rest = go r.left r.refused
     go zero None = rw above (refl, refl)
     go (suc k) None = rw (counted k, sub-one) (byte-leads r.tokens k b r.place rest)
 
-after-refusal : (new : BothState) (rest : List ℕ) (e : LogError) → new.refused ≡ Some e → to_come new rest ≡ stopped e
+pub after-refusal : (new : BothState) (rest : List ℕ) (e : LogError) → new.refused ≡ Some e → to_come new rest ≡ stopped e
 after-refusal new rest e h = ap (λ f. unless_refused f (open_to_come new rest)) h
 
 -- the answer and the state behind it may be told by equations
@@ -90,3 +91,10 @@ next-leads (Ok o) new r b rest (e, f) =
 next-leads (Err NoMemory) new r b rest h = after-refusal new rest NoMemory h
 next-leads (Err (BadLine n)) new r b rest (e, f) = ((told (Err (BadLine n)) r b rest e).0, after-refusal new rest (BadLine n) f)
 next-leads (Err (Limit n)) new r b rest (e, f) = ((told (Err (Limit n)) r b rest e).0, after-refusal new rest (Limit n) f)
+
+-- a refusal of a token is that of the turn
+pub token-refused : (e : LogError) (q : BothState) (x : Token) (now : Place) (new : BothState) →
+    Gives (Err e) (place_move q.place x) now x.line → new.refused ≡ Some e → Answers (Err e) new (token_turn q (Some x))
+token-refused NoMemory q x now new h f = f
+token-refused (BadLine n) q x now new (h, k) f = rw (h, k) (refl, f ∙ ap (λ n. Some (BadLine n)) k)
+token-refused (Limit n) q x now new h f = elim h [ ]

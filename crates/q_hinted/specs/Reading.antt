@@ -1,5 +1,5 @@
 -- A log of either profile read byte by byte: what stands between two bytes, and what is still to come.
-use Rattle.std.specs.Prelude.{◌≡◌, ℕ, ◌-◌, ◌==◌, nat_le, List, length, take, if◌then◌else◌, Result, Ok, Err, Option, Some, None}
+use Rattle.std.specs.Prelude.{◌≡◌, ℕ, ◌-◌, ◌==◌, nat_le, List, [], ◌∷◌, ◌++◌, length, take, if◌then◌else◌, Result, Ok, Err, Option, Some, None}
 use Rattle.q_text.specs.declared.tokens.Token.{Token}
 use Rattle.q_text.specs.declared.tokens.Tokens.{Tokens}
 use Rattle.q_text.specs.Texts.{line_from}
@@ -66,6 +66,11 @@ turn_unless (Some e) r t = record { answer = Err e; state = r }
 abbrev pub turn : BothState → ℕ → Turn
 turn r b = turn_unless r.refused r (open_turn r b)
 
+-- the state behind some bytes
+abbrev pub behind : BothState → List ℕ → BothState
+behind r [] = r
+behind r (b ∷ bs) = behind (turn r b).state bs
+
 -- an answer is that of this turn, but that memory may be wanting; what stands behind a refusal is the refusal alone
 abbrev pub Answers : Result (Option Entry) LogError → BothState → Turn → Type 0
 Answers (Ok o) new t = (Ok o ≡ t.answer) × (new ≡ t.state)
@@ -80,6 +85,12 @@ Leads (Ok (Some e)) before now = before ≡ onto e now
 Leads (Err NoMemory) before now = now ≡ stopped NoMemory
 Leads (Err (BadLine n)) before now = (before ≡ stopped (BadLine n)) × (now ≡ stopped (BadLine n))
 Leads (Err (Limit n)) before now = (before ≡ stopped (Limit n)) × (now ≡ stopped (Limit n))
+
+-- the answer to some bytes at the front of the piece: what was to come where they came is the answer, and then what is to
+-- come now. Behind them anything may follow.
+abbrev pub Passes : Result (ℕ × Option Entry) LogError → BothState → BothState → List ℕ → Type 0
+Passes (Ok (n, o)) old new piece = (rest : List ℕ) → Leads (Ok o) (to_come old (take n piece ++ rest)) (to_come new rest)
+Passes (Err e) old new piece = (n : ℕ) × ((rest : List ℕ) → Leads (Err e) (to_come old (take n piece ++ rest)) (to_come new rest))
 
 -- the answer to the end is all that was to come
 abbrev pub Ends : Result (Option Entry) LogError → Entries → Type 0

@@ -1,6 +1,6 @@
-ghost use Rattle.std.specs.Prelude.{◌≡◌, ◌≤◌, ◌^◌, [], ◌∷◌, List, ℕ, Option, Some, None, Ok, Err, IfOk, IfErr};
+ghost use Rattle.std.specs.Prelude.{◌≡◌, ◌≤◌, ◌<◌, ◌+◌, ◌^◌, length, take, [], ◌∷◌, List, ℕ, Option, Some, None, Ok, Err, IfOk, IfErr};
 ghost use Rattle.q_hinted.specs.Logs.{read_entries};
-ghost use Rattle.q_hinted.specs.Reading.{start, to_come, turn, profile, profile_after, Answers, Leads, Ends};
+ghost use Rattle.q_hinted.specs.Reading.{start, to_come, turn, behind, profile, profile_after, Answers, Leads, Passes, Ends};
 
 use crate::builder::{Entry, EntryBuilder};
 use q_log::LogError;
@@ -81,6 +81,41 @@ impl BothReader {
             Err(error) => {
                 self.refused = Some(error);
                 Err(error)
+            }
+        }
+    }
+
+    /// Takes some bytes at the front of the piece, of which only the last may end a step: how many they are, and the step
+    /// that it ends, as `push` hands it out. It answers as `push` does, byte by byte.
+    #[inline(always)]
+    pub fn next(&mut self, piece: &[u8]) -> Result<(usize, Option<Entry>), LogError>
+        requires some { 0 < length piece.now }
+        ensures within { IfOk result (λ r. (0 < r.0) × (r.0 ≤ length piece.now)) }
+        ensures next { Passes result self.old self.new piece.now }
+        ensures state { IfOk result (λ r. self.new ≡ behind self.old (take r.0 piece.now)) }
+        ensures left { IfOk result (λ r. self.new.left + r.0 ≡ self.old.left) }
+        ensures again { (e : LogError) → self.old.refused ≡ Some e → (result ≡ Err e) × (self.new ≡ self.old) }
+        ensures stops { (e : LogError) → result ≡ Err e → self.new.refused ≡ Some e }
+    {
+        if let Some(error) = self.refused {
+            return Err(error);
+        }
+        if self.left < piece.len() as u64 {
+            return match self.push(piece[0]) {
+                Ok(entry) => Ok((1, entry)),
+                Err(error) => Err(error),
+            };
+        }
+        let (count, token) = self.tokens.next(piece);
+        self.left -= count as u64;
+        let Some(token) = token else {
+            return Ok((count, None));
+        };
+        match self.builder.take(token) {
+            Ok(entry) => Ok((count, entry)),
+            Err(fault) => {
+                self.refused = Some(fault);
+                Err(fault)
             }
         }
     }

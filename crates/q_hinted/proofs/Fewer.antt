@@ -1,0 +1,42 @@
+-- A byte that is taken leaves one byte fewer to take.
+use Rattle.std.proofs.Common.{◌≡◌, ◌+◌, ◌-◌, ◌==◌, ◌∙◌, refl, ap, arith, ℕ, Bool, true, false, if◌then◌else◌, Ok, Err, Option, Some, None}
+use Rattle.std.proofs.lemmas.Bool.Decides.{nat_tests}
+use Rattle.q_text.specs.declared.tokens.Token.{Token}
+use Rattle.q_text.specs.Tokens as tokens
+use Rattle.q_log.specs.declared.error.LogError.{LogError}
+use Rattle.q_log.specs.declared.error.LogError.TheVariants as log
+use Rattle.q_hinted.specs.Grammar.{EntryMove, hands, leads, misfit, place_move}
+use Rattle.q_hinted.specs.Logs.{Entry}
+use Rattle.q_hinted.specs.Reading.{BothState, Turn, turn, turn_unless, open_turn, token_turn, moved, Answers}
+
+abbrev OneFewer : BothState → Turn → Type 0
+OneFewer r t = (o : Option Entry) → Ok o ≡ t.answer → t.state.left + 1 ≡ r.left
+
+moved-fewer : (r s : BothState) (m : EntryMove) (n : ℕ) → s.left + 1 ≡ r.left → OneFewer r (moved s m n)
+moved-fewer r s (hands k p t q) n e o h = e
+moved-fewer r s (leads q) n e o h = e
+moved-fewer r s misfit n e o h = cc
+
+token_turn-fewer : (r s : BothState) (o : Option Token) → s.left + 1 ≡ r.left → OneFewer r (token_turn s o)
+token_turn-fewer r s None e o h = e
+token_turn-fewer r s (Some t) e o h = moved-fewer r s (place_move s.place t) t.line e o h
+
+open_turn-fewer : (r : BothState) (b : ℕ) → OneFewer r (open_turn r b)
+open_turn-fewer r b = go (r.left == 0) refl
+  where
+    next : BothState
+    next = record r { tokens = tokens.after r.tokens b; left = r.left - 1 }
+
+    go : (c : Bool) → (r.left == 0) ≡ c → OneFewer r (if c then record { answer = Err (log.Limit (tokens.line_of r.tokens)); state = record r { refused = Some (log.Limit (tokens.line_of r.tokens)) } } else token_turn next (tokens.handed r.tokens b))
+    go true e o h = cc
+    go false e o h = token_turn-fewer r next (tokens.handed r.tokens b) (grind (arith, nat_tests, e)) o h
+
+turn-fewer : (r : BothState) (b : ℕ) → OneFewer r (turn r b)
+turn-fewer r b = go r.refused
+  where
+    go : (e : Option LogError) → OneFewer r (turn_unless e r (open_turn r b))
+    go None o h = open_turn-fewer r b o h
+    go (Some e) o h = cc
+
+pub taken-fewer : (r new : BothState) (b : ℕ) (o : Option Entry) → Answers (Ok o) new (turn r b) → new.left + 1 ≡ r.left
+taken-fewer r new b o a = ap (λ (s : BothState). s.left + 1) a.1 ∙ turn-fewer r b o a.0
