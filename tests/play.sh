@@ -15,7 +15,7 @@ PATH=$work/bin:$PATH
 CELDRINN_PROGRESS=0
 CELDRINN=$work/bin/celdrinn
 examples=${EXAMPLES:-$top/examples}
-export PATH CELDRINN CELDRINN_PROGRESS examples
+export PATH CELDRINN CELDRINN_PROGRESS examples top
 passed=0 failed=0 skipped=0
 
 # Closes a row: `name` is it, `why` says what is wrong, `missing` what is missing.
@@ -51,14 +51,20 @@ run() {
 
 look() {
     case $1 in
-        file) printf '%b' "${2#* }" >"${2%% *}" ;;
-        wants) command -v "$2" >/dev/null || missing="$2 is not installed" ;;
+        file)
+            case $2 in
+                *' '*) printf '%b' "${2#* }" >"${2%% *}" ;;
+                *) : >"$2" ;;
+            esac
+            ;;
+        wants) command -v "$(eval "echo $2")" >/dev/null || missing="$2 is not here" ;;
         user) [ "$(id -u)" -ne 0 ] || missing="root may read and write everything" ;;
         do) run "$2" ;;
         status) [ "$status" = "$2" ] || wrong "status $status, not $2" ;;
         line) [ "$(cat "$work/stdout")" = "$2" ] || wrong "said '$(head -n 1 "$work/stdout")', not '$2'" ;;
         says) grep -q -F -e "$2" "$work/stdout" || wrong "no line with '$2', the last is '$(tail -n 1 "$work/stdout")'" ;;
         error) grep -q -F -e "$2" "$work/stderr" || wrong "standard error lacks '$2'" ;;
+        silent) [ ! -s "$work/stdout" ] || wrong "said '$(head -n 1 "$work/stdout")'" ;;
         quiet) [ ! -s "$work/stderr" ] || wrong "standard error: $(head -n 1 "$work/stderr")" ;;
         holds) [ "$(cat "${2%% *}")" = "$(printf '%b' "${2#* }")" ] || wrong "other bytes in ${2%% *}" ;;
         *) wrong "no such line: $1" ;;
