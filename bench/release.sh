@@ -1,26 +1,32 @@
 #!/bin/sh
-# Remakes dist/: the program, proved and built from the sources as they are, and their hash beside it.
+# Remakes dist/: the program and the one that plays the rows, proved and built from the sources as they are, and the sources' hash
+# beside them.
 set -u
 cd "$(dirname "$0")/.." || exit 1
-program=crates/q_main/out/q_main
 
 is_built() {
-    [ -x "$program" ] &&
-        [ -z "$(find crates.txt crates/*/src crates/*/specs crates/*/proofs -newer "$program" -print -quit 2>/dev/null)" ]
+    [ -x "$1" ] &&
+        [ -z "$(find crates.txt crates/*/src crates/*/specs crates/*/proofs -newer "$1" -print -quit 2>/dev/null)" ]
+}
+
+# Without words a program only says how it is used, or that a table is missing; nothing is built that is not proved.
+release() {
+    program=crates/$1/out/$1
+    if ! is_built "$program"; then
+        rm -f "$program"
+        (cd "crates/$1" && rt run </dev/null)
+        [ -x "$program" ] || exit 1
+    fi
+    mkdir -p dist
+    cp "$program" "dist/$2-x86_64-linux" || exit 1
+    chmod 755 "dist/$2-x86_64-linux"
 }
 
 before=$(bench/sources.sh)
-# (without words the program only says how it is used; nothing is built that is not proved)
-if ! is_built; then
-    rm -f "$program"
-    (cd crates/q_main && rt run </dev/null)
-    [ -x "$program" ] || exit 1
-fi
+release q_main celdrinn
+release q_rows rows
 if [ "$(bench/sources.sh)" != "$before" ]; then
     echo "release: the sources changed meanwhile" >&2
     exit 1
 fi
-mkdir -p dist
-cp "$program" dist/celdrinn-x86_64-linux
-chmod 755 dist/celdrinn-x86_64-linux
 echo "$before" >dist/SOURCES

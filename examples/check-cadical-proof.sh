@@ -1,16 +1,11 @@
-#!/usr/bin/env bash
+#!/bin/sh
 # Checks CaDiCaL's proof that a CNF is unsatisfiable, as a log from the CNF to the empty clause.
 # Usage: examples/check-cadical-proof.sh [CNF]
 set -u
 here=$(cd "$(dirname "$0")" && pwd)
-celdrinn=$here/../celdrinn
+. "$here/common.sh"
 in=${1:-$here/pigeons.cnf}
-command -v cadical >/dev/null || {
-    echo "skipped: cadical is not installed (on Debian: apt-get install cadical)"
-    exit 0
-}
-work=$(mktemp -d)
-trap 'rm -rf "$work"' EXIT
+has cadical || skip CaDiCaL cadical
 
 cadical -q --no-binary "$in" "$work/proof" >"$work/answer"
 case $? in

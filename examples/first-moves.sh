@@ -1,27 +1,20 @@
-#!/usr/bin/env bash
+#!/bin/sh
 # Prints values for the outermost existentials of a formula under which it stays true. The formula is simplified, DepQBF says
 # such values for what is left, and `rebuild` carries them back: what the other circuits say doesn't matter, so they are 0.
 # With --check, DepQBF is asked whether the formula is true with these values as unit clauses.
 # Ends with 10 for true, 20 for false, 0 for no answer. Usage: examples/first-moves.sh [--check] [IN [OPTION-OF-SIMPLIFY ..]]
 set -u
 here=$(cd "$(dirname "$0")" && pwd)
-celdrinn=$here/../celdrinn
+. "$here/common.sh"
 check=
 [ "${1:-}" != --check ] || { check=yes && shift; }
 in=${1:-$here/random.qdimacs}
-shift || true
+[ $# -eq 0 ] || shift
 [ $# -gt 0 ] || set -- --grow=16
-work=$(mktemp -d)
-trap 'rm -rf "$work"' EXIT
 
-skip() {
-    echo "skipped: DepQBF is not installed (on Debian: apt-get install depqbf)"
-    exit 0
-}
-
-# The existentials of a formula that are bound in its prefix, one a line: all of them, or those behind a universal.
-existentials() {
-    awk -v inner="${2:-}" '
+# The existentials of a formula that are bound in its prefix behind a universal, one a line.
+inner_existentials() {
+    awk '
         $1 ~ /^c/ || $1 == "p" { next }
         { sub(/\r$/, "")
           for (i = 1; i <= NF; i++) {
@@ -29,19 +22,8 @@ existentials() {
             else if (set == "") exit
             else if ($i == 0) set = ""
             else if (set == "a") behind = 1
-            else if (behind || !inner) print $i
+            else if (behind) print $i
         } }' "$1"
-}
-
-# Circuits that are constants: 1 for the variables that stand in the second file without a sign, 0 for all others.
-constants() {
-    awk 'FILENAME == ARGV[1] { for (i = 2; i < NF; i++) if ($i > 0) one[$i] = 1; next }
-        { name[n++] = $1 }
-        END {
-            print "aag 0 0 0 " n + 0 " 0"
-            for (k = 0; k < n; k++) print (name[k] in one) ? 1 : 0
-            for (k = 0; k < n; k++) print "o" k " " name[k]
-        }' "$2" "$1"
 }
 
 # The formula with further clauses.
@@ -58,7 +40,7 @@ case $status in
     10) ;;
     20) echo "$in is false" && exit 20 ;;
     0 | 2)
-        command -v depqbf >/dev/null || skip
+        has depqbf || skip DepQBF depqbf
         depqbf --qdo "$work/out" >"$work/answer"
         case $? in
             10) grep '^V' "$work/answer" >"$work/values" || true ;;
@@ -69,22 +51,20 @@ case $status in
     *) exit "$status" ;;
 esac
 
-existentials "$work/out" >"$work/names"
-constants "$work/names" "$work/values" >"$work/skolem"
+constants "$work/values" "$work/out" >"$work/skolem"
 line=$("$celdrinn" rebuild "$in" "$work/out" "$work/log" "$work/skolem" "$work/cert") || { echo "rebuild: $line"; exit 1; }
 echo "rebuild: $line"
 
 # What no universal stands before has a constant as its circuit.
-existentials "$in" inner >"$work/inner"
+inner_existentials "$in" >"$work/inner"
+outputs_of "$work/cert" >"$work/outputs"
 awk 'FILENAME == ARGV[1] { inner[$1] = 1; next }
-    FNR == 1 { inputs = $3; outputs = $5; next }
-    FNR > 1 + inputs && FNR <= 1 + inputs + outputs { value[FNR - 2 - inputs] = $1; next }
-    /^o/ && !($2 in inner) { print (value[substr($1, 2)] == 1 ? "V " : "V -") $2 " 0" }' "$work/inner" "$work/cert" >"$work/moves"
+    !($1 in inner) { print ($2 == 1 ? "V " : "V -") $1 " 0" }' "$work/inner" "$work/outputs" >"$work/moves"
 echo "$in is true"
 cat "$work/moves"
 
 if [ -n "$check" ]; then
-    command -v depqbf >/dev/null || skip
+    has depqbf || skip DepQBF depqbf
     sed 's/^V //' "$work/moves" >"$work/units"
     with_clauses "$in" "$work/units" >"$work/set"
     { depqbf "$work/set" >"$work/again"; } 2>/dev/null

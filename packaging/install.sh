@@ -1,0 +1,68 @@
+#!/bin/sh
+# Installs the released program, or takes it away again: what lies in PREFIX/lib/celdrinn is all that a call needs. Pages, completions
+# and examples go to PREFIX/share. Files are put below DESTDIR, as packages want it.
+# Usage: packaging/install.sh [--remove] [PREFIX [DESTDIR]]
+set -u
+cd "$(dirname "$0")/.." || exit 1
+umask 022
+remove=
+[ "${1:-}" != --remove ] || { remove=yes && shift; }
+prefix=${1:-/usr/local}
+root=${2:-}$prefix
+case $prefix in
+    /*) ;;
+    *) echo "install: PREFIX is a whole path, as /usr/local or $PWD/$prefix" >&2 && exit 64 ;;
+esac
+
+lib=$root/lib/celdrinn
+doc=$root/share/doc/celdrinn
+bash_completion=$root/share/bash-completion/completions/celdrinn
+zsh_completion=$root/share/zsh/site-functions/_celdrinn
+fish_completion=$root/share/fish/vendor_completions.d/celdrinn.fish
+page=$root/share/man/man1/celdrinn.1
+
+if [ -n "$remove" ]; then
+    rm -rf "$lib" "$doc"
+    rm -f "$root/bin/celdrinn" "$bash_completion" "$zsh_completion" "$fish_completion" "$page"
+    exit
+fi
+
+# In a checkout the program is in dist/, in an unpacked release beside the launcher.
+program=dist/celdrinn-x86_64-linux
+[ -f "$program" ] || program=./program
+[ -f "$program" ] || { echo "install: there is no released program in dist/" >&2 && exit 1; }
+"$program" </dev/null >/dev/null 2>&1
+if [ $? -ne 64 ] && [ -z "${2:-}" ]; then
+    echo "install: the program does not start on this system ($("$program" 2>&1 </dev/null >/dev/null | head -n 1))" >&2
+    exit 70
+fi
+
+# Copies files into a folder, which is made.
+put() {
+    mode=$1 folder=$2
+    shift 2
+    mkdir -p "$folder" && cp "$@" "$folder" || exit 1
+    for file; do chmod "$mode" "$folder/${file##*/}" || exit 1; done
+}
+
+put_as() {
+    mkdir -p "${3%/*}" && cp "$2" "$3" && chmod "$1" "$3" || exit 1
+}
+
+rm -rf "$lib"
+put 755 "$lib" celdrinn
+put_as 755 "$program" "$lib/program"
+put 644 "$lib" VERSION
+put 644 "$lib/help" help/*.txt
+mkdir -p "$root/bin" && ln -sf ../lib/celdrinn/celdrinn "$root/bin/celdrinn" || exit 1
+put 644 "$doc" README.md CHANGELOG.md LICENSE CITATION.cff
+put 644 "$doc/docs" docs/*.md
+for file in examples/*; do
+    mode=644
+    [ ! -x "$file" ] || mode=755
+    put $mode "$doc/examples" "$file"
+done
+put_as 644 docs/celdrinn.1 "$page"
+put_as 644 completion/celdrinn.bash "$bash_completion"
+put_as 644 completion/_celdrinn "$zsh_completion"
+put_as 644 completion/celdrinn.fish "$fish_completion"

@@ -1,0 +1,22 @@
+#!/bin/sh
+# Makes celdrinn-VERSION-x86_64-linux.tar.gz in the current folder, or in the one that is named: the released program, its launcher,
+# pages, examples and tests, and what installs them; no sources. `./celdrinn` in it works where it was unpacked.
+# Usage: packaging/tarball.sh [FOLDER]
+set -u
+to=$(cd "${1:-.}" && pwd) || exit 1
+cd "$(dirname "$0")/.." || exit 1
+version=$(packaging/version.sh) || exit 1
+name=celdrinn-$version-x86_64-linux
+work=$(mktemp -d) || exit 1
+trap 'rm -rf "$work"' EXIT
+umask 022
+
+mkdir -p "$work/$name/crates/q_rows" "$work/$name/dist" "$work/$name/packaging" || exit 1
+cp dist/celdrinn-x86_64-linux "$work/$name/program" || exit 1
+[ ! -f dist/rows-x86_64-linux ] || cp dist/rows-x86_64-linux "$work/$name/dist/" || exit 1
+cp -R celdrinn VERSION README.md CHANGELOG.md LICENSE CITATION.cff Makefile completion docs examples help tests "$work/$name/" || exit 1
+cp packaging/install.sh packaging/version.sh "$work/$name/packaging/" || exit 1
+cp -R crates/q_rows/args crates/q_rows/data crates/q_rows/stdout "$work/$name/crates/q_rows/" || exit 1
+# one owner, one date, one order: the same files make the same archive
+tar -C "$work" --sort=name --owner=0 --group=0 --numeric-owner --mtime="@${SOURCE_DATE_EPOCH:-0}" -cf "$work/tar" "$name" || exit 1
+gzip -9n "$work/tar" && mv "$work/tar.gz" "$to/$name.tar.gz" && echo "$to/$name.tar.gz"

@@ -1,0 +1,95 @@
+#!/bin/sh
+# Plays rows about the program as a user meets it: words, files, lines, statuses, what is said on standard error.
+# Says `ok NAME`, `skipped NAME: what is missing` or `wrong NAME: why` for each row, and ends with 1 where one is wrong.
+# docs/TESTING.md has the lines of a row. CELDRINN names the program, where it isn't this repository's launcher.
+# Usage: tests/play.sh TABLE ..
+set -u
+top=$(cd "$(dirname "$0")/.." && pwd)
+work=$(mktemp -d) || exit 1
+trap 'rm -rf "$work"' EXIT
+trap 'exit 130' INT
+trap 'exit 143' TERM
+mkdir "$work/bin"
+ln -s "${CELDRINN:-$top/celdrinn}" "$work/bin/celdrinn"
+PATH=$work/bin:$PATH
+CELDRINN_PROGRESS=0
+CELDRINN=$work/bin/celdrinn
+examples=${EXAMPLES:-$top/examples}
+export PATH CELDRINN CELDRINN_PROGRESS examples top
+passed=0 failed=0 skipped=0
+
+# Closes a row: `name` is it, `why` says what is wrong, `missing` what is missing.
+close() {
+    [ -n "$name" ] || return 0
+    if [ -n "$missing" ]; then
+        echo "skipped $name: $missing"
+        skipped=$((skipped + 1))
+    elif [ -n "$why" ]; then
+        echo "wrong $name: $why"
+        failed=$((failed + 1))
+    else
+        echo "ok $name"
+        passed=$((passed + 1))
+    fi
+}
+
+open() {
+    name=$1 why='' missing=''
+    rm -rf "$work/row"
+    mkdir "$work/row"
+    cd "$work/row" || exit 1
+}
+
+wrong() { [ -n "$why" ] || why=$1; }
+
+# Runs a command; what it answers is what the lines behind it look at.
+run() {
+    sh -c "$1" <"$work/empty" >"$work/stdout" 2>"$work/stderr"
+    status=$?
+    text=$(grep '^skipped' "$work/stdout") && missing=${text#skipped: }
+}
+
+look() {
+    case $1 in
+        file)
+            case $2 in
+                *' '*) printf '%b' "${2#* }" >"${2%% *}" ;;
+                *) : >"$2" ;;
+            esac
+            ;;
+        wants) command -v "$(eval "echo $2")" >/dev/null || missing="$2 is not here" ;;
+        user) [ "$(id -u)" -ne 0 ] || missing="root may read and write everything" ;;
+        do) run "$2" ;;
+        status) [ "$status" = "$2" ] || wrong "status $status, not $2" ;;
+        line) [ "$(cat "$work/stdout")" = "$2" ] || wrong "said '$(head -n 1 "$work/stdout")', not '$2'" ;;
+        says) grep -q -F -e "$2" "$work/stdout" || wrong "no line with '$2', the last is '$(tail -n 1 "$work/stdout")'" ;;
+        error) grep -q -F -e "$2" "$work/stderr" || wrong "standard error lacks '$2'" ;;
+        silent) [ ! -s "$work/stdout" ] || wrong "said '$(head -n 1 "$work/stdout")'" ;;
+        quiet) [ ! -s "$work/stderr" ] || wrong "standard error: $(head -n 1 "$work/stderr")" ;;
+        holds) [ "$(cat "${2%% *}")" = "$(printf '%b' "${2#* }")" ] || wrong "other bytes in ${2%% *}" ;;
+        *) wrong "no such line: $1" ;;
+    esac
+}
+
+: >"$work/empty"
+name='' why='' missing='' status=''
+for table; do
+    case $table in /*) ;; *) table=$PWD/$table ;; esac
+    [ -r "$table" ] || { echo "wrong: can't read $table" && exit 1; }
+    while IFS= read -r given; do
+        case $given in
+            '' | '#'*) continue ;;
+            row\ *)
+                close
+                open "${given#row }"
+                continue
+                ;;
+        esac
+        [ -n "$missing$why" ] || look "${given%% *}" "${given#* }"
+    done <"$table"
+    close
+    name=''
+    cd "$top" || exit 1
+done
+echo "$passed passed, $failed failed, $skipped skipped"
+[ "$failed" -eq 0 ]

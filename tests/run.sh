@@ -1,0 +1,55 @@
+#!/bin/sh
+# Plays all tests with the released programs, which takes seconds and no kit: the rows of crates/q_rows, the rows about the program
+# as a user meets it, and the scripts of examples/. Each wrong row has a line; the last line counts.
+# Usage: tests/run.sh [-v], where -v shows the lines of all rows
+set -u
+cd "$(dirname "$0")/.." || exit 1
+here=$PWD
+verbose=${1:-}
+work=$(mktemp -d) || exit 1
+trap 'rm -rf "$work"' EXIT
+trap 'exit 130' INT
+trap 'exit 143' TERM
+passed=0 failed=0 skipped=0
+
+# Shows the lines of rows that were played, and counts them.
+count() {
+    if [ -n "$verbose" ]; then cat "$1"; else grep -v '^ok ' "$1"; fi
+    passed=$((passed + $(grep -c '^ok ' "$1")))
+    skipped=$((skipped + $(grep -c '^skipped ' "$1")))
+    failed=$((failed + $(grep -c '^wrong ' "$1")))
+}
+
+# The rows over files in memory: one line each is wanted, and what is put is compared with it line by line.
+play_rows() {
+    player=$here/dist/rows-x86_64-linux
+    if ! [ -f "$player" ]; then
+        echo "skipped the rows of crates/q_rows: dist/ has no program that plays them"
+        return
+    fi
+    cp -R crates/q_rows/data "$work/data"
+    (cd "$work/data" && xargs "$player" <"$here/crates/q_rows/args") >"$work/put" 2>&1
+    if cmp -s "$work/put" crates/q_rows/stdout; then
+        grep '^ok ' "$work/put"
+    else
+        echo "wrong crates/q_rows: $(grep -v '^ok ' "$work/put" | head -n 1)"
+    fi
+}
+
+# The figures of the release agree with each other.
+play_version() {
+    if packaging/version.sh >"$work/version" 2>&1; then
+        echo "ok the version is the same everywhere"
+    else
+        echo "wrong version: $(cat "$work/version")"
+    fi
+}
+
+play_rows >"$work/rows" && count "$work/rows"
+play_version >"$work/versions" && count "$work/versions"
+for table in tests/*.rows; do
+    tests/play.sh "$table" | sed '$d' >"$work/table"
+    count "$work/table"
+done
+echo "$passed passed, $failed failed, $skipped skipped"
+[ "$failed" -eq 0 ]
