@@ -21,34 +21,9 @@ PYTHON
 
 for variables in "${@:-200 225 250}"; do
     for v in $variables; do
-        python3 - "$work" "$v" <<'PYTHON'
-import os, random, sys
-
-work, v = sys.argv[1], int(sys.argv[2])
-random.seed(v)
-with open(os.path.join(work, "in"), "w") as out:
-    count = int(4.26 * v)
-    out.write(f"p cnf {v} {count}\n")
-    for _ in range(count):
-        chosen = random.sample(range(1, v + 1), 3)
-        out.write(" ".join(str(random.choice((-1, 1)) * x) for x in chosen) + " 0\n")
-PYTHON
+        bench/sat_proof.py "$v" "$work"
         plain=$(seconds cadical -q --plain --reduce=0 "$work/in")
         checked=$(seconds cadical -q --plain --reduce=0 --check --checkproof "$work/in")
-        cadical -q --plain --reduce=0 --no-binary "$work/in" "$work/proof" >/dev/null || true
-        python3 - "$work" "$v" <<'PYTHON'
-import os, sys
-
-work, v = sys.argv[1], int(sys.argv[2])
-clauses = open(os.path.join(work, "in")).read().split("\n", 1)[1]
-added = "".join(line for line in open(os.path.join(work, "proof")) if not line.startswith("d"))
-open(os.path.join(work, "log"), "w").write(added)
-body = clauses + added
-occurring = sorted({abs(int(t)) for t in body.split()} - {0})
-for name, text in (("bound", clauses), ("out", body)):
-    with open(os.path.join(work, name), "w") as out:
-        out.write(f"p cnf {v} {text.count(chr(10))}\ne " + " ".join(map(str, range(1, v + 1))) + " 0\n" + text)
-PYTHON
         steps=$(wc -l <"$work/log")
         ours=$(seconds ./celdrinn check "$work/bound" "$work/out" "$work/log")
         peak=$(/usr/bin/time -f %M ./celdrinn check "$work/bound" "$work/out" "$work/log" 2>&1 >"$work/line" | tail -n 1)
