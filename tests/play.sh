@@ -44,6 +44,7 @@ wrong() { [ -n "$why" ] || why=$1; }
 
 # Runs a command; what it answers is what the lines behind it look at.
 run() {
+    command=$1
     sh -c "$1" <"$work/empty" >"$work/stdout" 2>"$work/stderr"
     status=$?
     text=$(grep '^skipped' "$work/stdout") && missing=${text#skipped: }
@@ -62,6 +63,8 @@ look() {
         do) run "$2" ;;
         status) [ "$status" = "$2" ] || wrong "status $status, not $2" ;;
         line) [ "$(cat "$work/stdout")" = "$2" ] || wrong "said '$(head -n 1 "$work/stdout")', not '$2'" ;;
+        shows) [ "$(cat "$work/stdout")" = "$(printf '%b' "$2")" ] || wrong "'$command' says '$(head -n 1 "$work/stdout")'" ;;
+        ends) case $status in 0 | 10 | 20) ;; *) wrong "'$command' ends with $status" ;; esac ;;
         says) grep -q -F -e "$2" "$work/stdout" || wrong "no line with '$2', the last is '$(tail -n 1 "$work/stdout")'" ;;
         error) grep -q -F -e "$2" "$work/stderr" || wrong "standard error lacks '$2'" ;;
         silent) [ ! -s "$work/stdout" ] || wrong "said '$(head -n 1 "$work/stdout")'" ;;

@@ -47,7 +47,8 @@ play_version() {
 
 play_rows >"$work/rows" && count "$work/rows"
 play_version >"$work/versions" && count "$work/versions"
-for table in tests/*.rows; do
+tests/pages.sh README.md docs/TUTORIAL.md >"$work/pages.rows"
+for table in tests/*.rows "$work/pages.rows"; do
     tests/play.sh "$table" | sed '$d' >"$work/table"
     count "$work/table"
 done

@@ -1,0 +1,54 @@
+#!/bin/sh
+# Checks one long log in parts, beside each other. The formulas between the parts are made by replay.awk, which is not trusted: a part
+# is verified only where its steps lead from the formula before it to the one behind it. So if all parts are verified, all these
+# formulas have one truth value.
+# Says `verified N` and ends with 0 then; else it says what `check` says of the first part that is refused, and ends with 1.
+# GNU parallel is called where it is there, and may use other machines, on which CELDRINN (by this name) has to be; else xargs is.
+# Usage: examples/check-in-parts.sh [-p PARTS] [-j JOBS] [-s HOST,HOST..] [IN OUT LOG]
+set -u
+here=$(cd "$(dirname "$0")" && pwd)
+. "$here/common.sh"
+jobs=$(nproc 2>/dev/null || echo 2)
+parts='' hosts=''
+while getopts p:j:s: option; do
+    case $option in
+        p) parts=$OPTARG ;;
+        j) jobs=$OPTARG ;;
+        s) hosts=$OPTARG ;;
+        *) exit 64 ;;
+    esac
+done
+shift $((OPTIND - 1))
+parts=${parts:-$jobs}
+in=${1:-$here/parity.qdimacs}
+out=${2:-$here/parity-out.qdimacs}
+log=${3:-$here/parity.qrat}
+[ -z "$hosts" ] || has parallel || skip "GNU parallel" parallel
+
+# Whole steps are counted, since a step may have several lines.
+steps=$(awk '/^[ \t\r]*c/ { next } { for (i = 1; i <= NF; i++) if ($i ~ /^0+\r*$/) n++ } END { print n + 0 }' "$log")
+awk -v every=$(((steps + parts - 1) / parts)) -v dir="$work" -f "$here/replay.awk" "$in" "$log" >"$work/count" || exit 1
+read -r parts steps is_cut <"$work/count"
+[ "$is_cut" -eq 0 ] || { echo "refused: the log ends inside a step" && exit 1; }
+# the first part begins with IN, and the last one has to end in OUT
+cp "$in" "$work/0.qdimacs" && cp "$out" "$work/$parts.qdimacs" || exit 1
+awk -v n="$parts" 'BEGIN { for (k = 1; k <= n; k++) print k - 1 ".qdimacs " k ".qdimacs " k ".qrat" }' >"$work/table"
+
+# One line for each part, in the order of the parts.
+cd "$work" || exit 1
+if has parallel; then
+    set -- --will-cite -k -j "$jobs" --colsep ' '
+    [ -z "$hosts" ] || set -- "$@" --sshlogin "$hosts" --workdir ... --cleanup --transferfile '{1}' --transferfile '{2}' --transferfile '{3}'
+    parallel "$@" "$celdrinn" check '{1}' '{2}' '{3}' <table >lines
+else
+    xargs -n 3 -P "$jobs" sh -c '"$0" check "$1" "$2" "$3" >"$3.line"' "$celdrinn" <table
+    while read -r _ _ part; do cat "$part.line"; done <table >lines
+fi
+awk -v n="$parts" -v steps="$steps" '
+    $1 == "verified" && NF == 2 { sum += $2; next }
+    first == "" { first = "part " NR ": " $0 }
+    END {
+        if (first == "" && (NR != n || sum != steps)) first = "not all parts were checked"
+        print first == "" ? "verified " sum : first
+        exit first != ""
+    }' lines
