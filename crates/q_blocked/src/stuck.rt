@@ -1,9 +1,10 @@
 //! Literals on which nothing is covered, as two clauses show.
-ghost use Rattle.std.specs.Prelude.{◌≡◌, ◌↔◌, true, Some, IsTrue};
-ghost use Rattle.q_logic.specs.Literals.{Literal, negation};
+ghost use Rattle.std.specs.Prelude.{◌≡◌, true, Some};
+ghost use Rattle.q_logic.specs.Literals.{Literal, IsBelow, negation};
 ghost use Rattle.q_logic.specs.Formulas.{Clause, IsIn};
 ghost use Rattle.q_logic.specs.Prefixes.{is_bound};
 ghost use Rattle.q_logic.specs.Pivots.{keeps};
+ghost use Rattle.q_logic.specs.Parts.{ArePairs};
 ghost use Rattle.q_logic.specs.Steps.{Within};
 ghost use Rattle.q_logic.specs.Numbered.{slot, others};
 ghost use Rattle.q_kernel.specs.Kernels.{slots};
@@ -13,6 +14,7 @@ use crate::clashing::{clashes, is_fresh};
 use q_arena::ClauseId;
 use q_kernel::Kernel;
 use q_logic::{Lit, NoMemory, holds};
+use q_ordered::{is_at, skip_to};
 use q_rule::{Queue, clause_of};
 use std::alloc::Global;
 
@@ -74,23 +76,22 @@ fn is_open(kernel: &Kernel, set: &Queue, c: ClauseId, d: ClauseId, l: Lit) -> bo
     !clashes(kernel, set, clause, l)
 }
 
-// Whether the literal k of a clause is in its outer clause on m, not in the set, and in a second clause.
-fn is_shared(kernel: &Kernel, set: &Queue, m: Lit, k: Lit, second: &[Lit]) -> bool
-    requires here { is_bound kernel.now.prefix m.var ≡ true }
-    requires there { is_bound kernel.now.prefix k.var ≡ true }
-    ensures { IsTrue result ↔ ((keeps kernel.now.prefix m k ≡ true) × (IsIn k set.now → ⊥) × IsIn k second.now) }
-{
-    is_fresh(kernel, set, m, k) && holds(second, k)
-}
-
-// Whether there is no such literal.
+// Whether no literal of a clause is in its outer clause on m, not in the set, and in a second clause. The second one is
+// walked along as far as the literals of the first one lead.
 fn share_nothing(kernel: &Kernel, set: &Queue, m: Lit, first: &[Lit], second: &[Lit]) -> bool
     requires within { Within kernel.now.prefix first.now }
     requires bound { is_bound kernel.now.prefix m.var ≡ true }
+    requires ordered { ArePairs IsBelow first.now }
+    requires other { ArePairs IsBelow second.now }
     ensures { result ≡ true → (k : Literal) → IsIn k first.now → keeps kernel.now.prefix m k ≡ true → IsIn k second.now → (IsIn k set.now → ⊥) → ⊥ }
 {
+    let mut at = 0;
     for k in first {
-        if is_shared(kernel, set, m, *k, second) {
+        if !is_fresh(kernel, set, m, *k) {
+            continue;
+        }
+        at = skip_to(second, at, *k);
+        if is_at(second, at, *k) {
             return false;
         }
     }

@@ -12,7 +12,7 @@ use Rattle.q_logic.proofs.UniversalPivot.{IsIn-without, without-IsIn}
 use Rattle.q_kernel.proofs.Leading.{without-in_order}
 use Rattle.q_kernel.proofs.Keeping.{length-shorter}
 use Rattle.q_subsume.specs.Looks.{IsTurnedWithin}
-use Rattle.q_subsume.proofs.Ordered.{all-below}
+use Rattle.q_ordered.proofs.Ordered.{all-below}
 
 below_or_not : (a b : ℕ) → (a < b) ⊎ (b ≤ a)
 below_or_not a b = grind arith

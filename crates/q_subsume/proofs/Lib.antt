@@ -1,4 +1,3 @@
-pub mod Ordered
 pub mod Lengths
 pub mod Fitting
 pub mod Changing

@@ -1,12 +1,8 @@
 -- What is seen of two clauses side by side.
-use Rattle.std.specs.Prelude.{◌≡◌, ◌≢◌, ◌≤◌, ℕ, Some, drop}
-use Rattle.q_logic.specs.Literals.{Literal, negation, pack}
+use Rattle.std.specs.Prelude.{◌≡◌, ◌≢◌, ℕ, Some}
+use Rattle.q_logic.specs.Literals.{Literal, negation}
 use Rattle.q_logic.specs.Formulas.{Clause, IsIn}
 use Rattle.q_logic.specs.Numbered.{Slots, slot}
-
--- no literal from a place on is below k
-abbrev pub IsLeastFrom : Clause → ℕ → Literal → Type 0
-IsLeastFrom D at' k = (j : Literal) → IsIn j (drop at' D) → pack k ≤ pack j
 
 -- two different numbers have clauses
 pub record AreTwo (N : Slots) (c d : ℕ) : Type 0 where

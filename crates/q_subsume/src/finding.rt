@@ -23,13 +23,13 @@ ghost use Rattle.q_subsume.specs.Looks.{AreTwo};
 ghost use Rattle.q_subsume.specs.Searches.{IsBetween, IsBy, IsBehind, IsBefore, IsAmong};
 ghost use Rattle.q_rule.specs.Searching.{IsFound};
 
-use crate::missing::first_missing;
 use crate::search::Search;
 use crate::strengthen::is_turned_within;
 use crate::target::Target;
 use q_arena::ClauseId;
 use q_kernel::Kernel;
 use q_logic::{Lit, NoMemory};
+use q_ordered::first_missing;
 use q_rule::clause_of;
 
 /// A target that fits and whose place is at least a number. The search goes once round all clauses.

@@ -2,7 +2,6 @@
 #![tactic(auto)]
 
 mod finding;
-mod missing;
 mod search;
 mod strengthen;
 mod subsume;

@@ -21,11 +21,11 @@ ghost use Rattle.q_kernel.specs.Kernels.{slots, formula_in};
 ghost use Rattle.q_rule.specs.Becoming.{CanChange, IsChanged};
 ghost use Rattle.q_subsume.specs.Looks.{IsTurnedWithin};
 
-use crate::missing::first_missing;
 use crate::subsumed::are_two;
 use q_arena::ClauseId;
 use q_kernel::Kernel;
 use q_logic::{Lit, holds};
+use q_ordered::first_missing;
 use q_rule::clause_of;
 
 /// Whether the clause c, which holds the negation of l, lies within the clause d once that literal is turned into l.

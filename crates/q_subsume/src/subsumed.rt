@@ -20,10 +20,10 @@ ghost use Rattle.q_kernel.specs.Kernels.{slots, formula_in};
 ghost use Rattle.q_rule.specs.Becoming.{CanChange, IsChanged};
 ghost use Rattle.q_subsume.specs.Looks.{AreTwo};
 
-use crate::missing::first_missing;
 use q_arena::ClauseId;
 use q_kernel::Kernel;
 use q_logic::Lit;
+use q_ordered::first_missing;
 use q_rule::clause_of;
 
 /// Whether all literals of the clause c are in the clause d.

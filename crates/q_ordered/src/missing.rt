@@ -1,10 +1,11 @@
 //! Which literal of a clause another clause lacks.
-ghost use Rattle.std.specs.Prelude.{◌≡◌, ◌↔◌, ◌≢◌, ◌≤◌, true, false, None, Some, IsTrue, drop};
-ghost use Rattle.q_logic.specs.Literals.{Literal, IsBelow, pack};
+ghost use Rattle.std.specs.Prelude.{◌≡◌, ◌↔◌, ◌≢◌, true, false, None, Some, IsTrue, drop};
+ghost use Rattle.q_logic.specs.Literals.{Literal, IsBelow};
 ghost use Rattle.q_logic.specs.Formulas.{IsIn};
 ghost use Rattle.q_logic.specs.Parts.{ArePairs};
-ghost use Rattle.q_subsume.specs.Looks.{IsLeastFrom};
+ghost use Rattle.q_ordered.specs.Looks.{IsLeastFrom};
 
+use crate::places::{is_at, skip_to};
 use q_logic::Lit;
 
 /// The least literal of the clause c that is not in the clause d, one literal aside. Both clauses are in order, so they
@@ -25,20 +26,6 @@ pub fn first_missing(c: &[Lit], d: &[Lit], aside: &Option<Lit>) -> Option<Lit>
     None
 }
 
-// The place of the first literal from a place on that is not below k.
-fn skip_to(d: &[Lit], from: usize, k: Lit) -> usize
-    requires { ArePairs IsBelow d.now }
-    ensures kept { (j : Literal) → pack k ≤ pack j → IsIn j (drop from d.now) → IsIn j (drop result d.now) }
-    ensures least { IsLeastFrom d.now result k }
-{
-    for at in from..d.len() {
-        if k.index() <= d[at].index() {
-            return at;
-        }
-    }
-    d.len()
-}
-
 // Whether k is not among the literals from a place on, none of which is below it, and is not put aside.
 fn lacks(d: &[Lit], at: usize, k: Lit, aside: &Option<Lit>) -> bool
     requires ordered { ArePairs IsBelow d.now }
@@ -47,14 +34,6 @@ fn lacks(d: &[Lit], at: usize, k: Lit, aside: &Option<Lit>) -> bool
     ensures no { result ≡ false → aside.now ≢ Some k → IsIn k (drop at d.now) }
 {
     !is_at(d, at, k) && !is_aside(aside, k)
-}
-
-fn is_at(d: &[Lit], at: usize, k: Lit) -> bool
-    requires ordered { ArePairs IsBelow d.now }
-    requires least { IsLeastFrom d.now at k }
-    ensures { IsTrue result ↔ IsIn k (drop at d.now) }
-{
-    at < d.len() && d[at].is(k)
 }
 
 fn is_aside(aside: &Option<Lit>, k: Lit) -> bool

@@ -1,9 +1,9 @@
-use Rattle.std.proofs.Common.{◌≡◌, ◌≤◌, Some, sym, subst, inl, inr, arith}
-use Rattle.q_logic.specs.Literals.{Literal, pack}
+use Rattle.std.proofs.Common.{◌≡◌, Some, sym, subst, inl, inr}
+use Rattle.q_logic.specs.Literals.{Literal}
 use Rattle.q_logic.specs.Formulas.{Clause, IsIn}
 use Rattle.q_logic.proofs.Members.{item-in, taken-cases, taken-all}
-use Rattle.q_subsume.proofs.Ordered.{at-place, after-place, dropped-in, dropped-more}
-use Rattle.q_subsume.proofs.missing.first_missing.Goals as goal
+use Rattle.q_ordered.proofs.Ordered.{dropped-in, left-here, left-on}
+use Rattle.q_ordered.proofs.missing.first_missing.Goals as goal
 
 same : (k j : Literal) → Some k ≡ Some j → k ≡ j
 same k j e = cc
@@ -13,11 +13,10 @@ returns-then-lacks-clause-some c j e =
     let C = c.args.c.now in
     let k = c.k-item.result in
     let r = c.lacks.ensures.yes c.if-lacks.true in
-    let least : pack k ≤ pack k = omega arith in
     subst (λ (x : Literal). IsIn x C × (c.args.aside.now ≡ Some x → ⊥) × (IsIn x c.args.d.now → ⊥)) (same k j e) (
       item-in C c.loop-k.k-index k c.loop-k-test.true c.k-item.is,
       r.1,
-      (λ m. r.0 (c.skip_to-at.ensures.kept k least (c.loop-k.invariant.rest k (at-place C c.loop-k.k-index k c.loop-k-test.true c.k-item.is) m))),
+      (λ m. r.0 (left-here C c.loop-k.k-index k c.args.d.now c.loop-k.at c.skip_to-at.result c.requires.ordered c.loop-k-test.true c.k-item.is c.skip_to-at.ensures.kept c.loop-k.invariant.rest m)),
     )
 
 pub loop-k-preserved : goal.loop-k-preserved
@@ -30,13 +29,7 @@ loop-k-preserved c =
         | inl a ↦ c.loop-k.invariant.passed j a n
         | inr e ↦ subst (λ (x : Literal). IsIn x D) (sym e) (dropped-in D c.skip_to-at.result k (c.lacks.ensures.no c.if-lacks.false (subst (λ (x : Literal). c.args.aside.now ≡ Some x → ⊥) e n)))
       ];
-      rest = λ j m i.
-          let before = dropped-more C c.loop-k.k-index j m in
-          let order : pack k ≤ pack j = elim (after-place C c.loop-k.k-index k j c.requires.ordered c.loop-k-test.true c.k-item.is before) [
-            | inl e ↦ subst (λ (x : Literal). pack k ≤ pack x) (sym e) (omega arith)
-            | inr a ↦ let y = a.0 in omega arith
-          ] in
-          c.skip_to-at.ensures.kept j order (c.loop-k.invariant.rest j before i);
+      rest = left-on C c.loop-k.k-index k D c.loop-k.at c.skip_to-at.result c.requires.ordered c.loop-k-test.true c.k-item.is c.skip_to-at.ensures.kept c.loop-k.invariant.rest;
     }
 
 pub returns-clause-none : goal.returns-clause-none

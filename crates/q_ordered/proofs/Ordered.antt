@@ -6,7 +6,7 @@ use Rattle.q_logic.specs.Literals.{Literal, IsBelow, pack}
 use Rattle.q_logic.specs.Formulas.{Clause, IsIn}
 use Rattle.q_logic.specs.Parts.{ArePairs}
 use Rattle.q_logic.proofs.Membership.{IsIn-drop_within}
-use Rattle.q_subsume.specs.Looks.{IsLeastFrom}
+use Rattle.q_ordered.specs.Looks.{IsLeastFrom}
 
 pub below-pack : (j k : Literal) → IsBelow j k → pack j < pack k
 below-pack j k b = go j.negative refl k.negative refl b
@@ -60,3 +60,22 @@ least-from D i m k o h e l j n = elim (after-place D i m j o h e n) [
   | inl s ↦ subst (λ (x : Literal). pack k ≤ pack x) (sym s) l
   | inr a ↦ let y = a.0 in omega arith
 ]
+
+-- what a walk along C and D has left: of C from a place on, what is in D is there from a place on
+abbrev pub IsLeft : Clause → ℕ → Clause → ℕ → Type 0
+IsLeft C i D at' = (j : Literal) → IsIn j (drop i C) → IsIn j D → IsIn j (drop at' D)
+
+-- the walk along D goes on to the literal of C at the place
+module _ (C : Clause) (i : ℕ) (k : Literal) (D : Clause) (from to : ℕ) (ordered : ArePairs IsBelow C) (here : i < length C) (is : k ≡ get_or C i k)
+    (kept : (j : Literal) → pack k ≤ pack j → IsIn j (drop from D) → IsIn j (drop to D)) (left : IsLeft C i D from) where
+  pub left-here : IsIn k D → IsIn k (drop to D)
+  left-here m = kept k (omega arith) (left k (at-place C i k here is) m)
+
+  pub left-on : IsLeft C (i + 1) D to
+  left-on j m n =
+      let before = dropped-more C i j m in
+      let order : pack k ≤ pack j = elim (after-place C i k j ordered here is before) [
+        | inl e ↦ subst (λ (x : Literal). pack k ≤ pack x) (sym e) (omega arith)
+        | inr a ↦ let y = a.0 in omega arith
+      ] in
+      kept j order (left j before n)

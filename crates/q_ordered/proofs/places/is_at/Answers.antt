@@ -2,8 +2,8 @@ use Rattle.std.proofs.Common.{subst}
 use Rattle.q_logic.specs.Literals.{Literal}
 use Rattle.q_logic.specs.Formulas.{IsIn}
 use Rattle.std.proofs.Common.{drop}
-use Rattle.q_subsume.proofs.Ordered.{at-place, only-there}
-use Rattle.q_subsume.proofs.missing.is_at.Goals as goal
+use Rattle.q_ordered.proofs.Ordered.{at-place, only-there}
+use Rattle.q_ordered.proofs.places.is_at.Goals as goal
 
 pub returns-then-at-d : goal.returns-then-at-d
 returns-then-at-d c =

@@ -1,7 +1,7 @@
 use Rattle.std.proofs.Common.{◌≤◌, drop}
 use Rattle.q_logic.specs.Literals.{Literal, pack}
 use Rattle.q_logic.specs.Formulas.{IsIn}
-use Rattle.q_subsume.proofs.missing.skip_to.Given as goal
+use Rattle.q_ordered.proofs.places.skip_to.Given as goal
 
 abbrev pub invariant-loop-at : goal.invariant-loop-at
 invariant-loop-at l = (j : Literal) → pack l.k ≤ pack j → IsIn j (drop l.fn.from l.d) → IsIn j (drop l.at l.d)
