@@ -208,6 +208,13 @@ def mixed(n):
     return formula
 
 
+def refuted(n):
+    """the same chain in order, its unit clause last, and the negation of its last variable: false"""
+    formula = units(n)
+    formula.clauses = formula.clauses[:0:-1] + [(1,), (-n,)]
+    return formula
+
+
 def equal(n):
     """a chain of n equivalences in mixed order, and a clause of three literals for each ten variables"""
     formula = Formula()
@@ -274,6 +281,34 @@ def cover(n):
     for _ in range(n // 4):
         one, other = random.sample(x, 2), random.sample(y, 2)
         formula.add(*one, -other[0], other[1])
+    return formula
+
+
+def free(n):
+    """a chain of n conjunctions with an output that nothing asks for, in mixed order: true"""
+    formula = Formula()
+    x = formula.variables("e", n + 1)
+    gates = Gates(formula)
+    last = x[0]
+    for i in range(1, n + 1):
+        last = gates.conjunction(last, x[i] if i % 3 else -x[i])
+    gates.close()
+    random.shuffle(formula.clauses)
+    return formula
+
+
+def completion(n):
+    """the completion principle, n by n cells beside one universal: false"""
+    formula = Formula()
+    x = formula.variables("e", n * n)
+    z = formula.variables("a", 1)[0]
+    a, b = formula.variables("e", n), formula.variables("e", n)
+    for i in range(n):
+        for j in range(n):
+            formula.add(x[i * n + j], z, a[i])
+            formula.add(-x[i * n + j], -z, b[j])
+    formula.add(*[-v for v in a])
+    formula.add(*[-v for v in b])
     return formula
 
 
@@ -524,12 +559,15 @@ FAMILIES = {
     "random": (mostly_inner, COUNTS),
     "units": (units, COUNTS),
     "mixed": (mixed, COUNTS),
+    "refuted": (refuted, COUNTS),
     "equal": (equal, scaled(1 / 2.1)),
     "chain": (chain, scaled(1 / 2)),
     "cycle": (cycle, scaled(1 / 2)),
     "ring": (ring, scaled(1 / 3)),
     "cuts": (cuts, scaled(1 / 2)),
     "cover": (cover, scaled(1 / 3.25)),
+    "free": (free, scaled(1 / 3)),
+    "completion": (completion, [22, 45, 89, 179, 358, 707]),
     "gates": (gates, scaled(1 / 3)),
     "tower": (tower, scaled(1 / 3.25)),
     "parity": (parity, scaled(1 / 4)),
@@ -544,7 +582,7 @@ FAMILIES = {
 def main(words):
     if words == ["list"]:
         for name, (make, sizes) in FAMILIES.items():
-            print(f"{name:9} {make.__doc__}\n          {' '.join(map(str, sizes))}")
+            print(f"{name:10} {make.__doc__}\n           {' '.join(map(str, sizes))}")
     elif len(words) == 3 and words[0] in FAMILIES:
         random.seed(int(words[1]))
         FAMILIES[words[0]][0](int(words[1])).write(words[2])

@@ -42,6 +42,14 @@ impl Notes {
         }
     }
 
+    /// One slot shows it alone.
+    pub fn tell(&mut self, slot: usize) {
+        if self.wanted {
+            self.hints.clear();
+            let _ = self.hints.push(slot);
+        }
+    }
+
     pub fn hints(&self) -> &[usize] {
         &self.hints
     }

@@ -10,10 +10,10 @@ use crate::lists::{Lists, place_of};
 use crate::notes::Notes;
 use crate::propagation::{complete, query, query_anew, query_beside};
 use crate::roles::Role;
-use crate::root::Root;
+use crate::root::{Root, is_empty_at};
 use crate::rows::Rows;
 use crate::spots::{Spots, renote};
-use crate::trail::Trail;
+use crate::trail::{NO_SLOT, Trail};
 use crate::watched::{Watched, put, put_short};
 use crate::watches::{Pair, Pick, choose, is_free, left_in, stands};
 use q_logic::{Lit, NoMemory};
@@ -56,6 +56,7 @@ impl Propagator {
                 spots: Spots::new(alloc),
                 done: 0,
                 conflict: false,
+                empty: NO_SLOT,
             },
             notes: Notes::new(alloc),
         }
@@ -67,14 +68,11 @@ impl Propagator {
         &self.watched.clauses
     }
 
-    /// Hints are gathered from now on where an answer is yes, or not. They are at hand for a conflict of the root.
+    /// Hints are gathered from now on where an answer is yes, or not.
     pub fn gather_hints(&mut self, wanted: bool)
         ensures { self.new ≡ self.old }
     {
         self.notes.want(wanted);
-        if self.root.conflict {
-            self.notes.gather(&self.watched.clauses, &self.root.trail);
-        }
     }
 
     /// Slots that may show the last yes. They are tried before they are used.
@@ -95,6 +93,31 @@ impl Propagator {
         self.watched.clauses.get(at)
     }
 
+    /// Whether an empty clause is known to stand in a slot but the one left out. It alone is a hint then.
+    pub fn is_refuted(&mut self, skip: Option<usize>) -> bool
+        ensures same { self.new ≡ self.old }
+        ensures refuted { IsTrue result → (at : ℕ) × Holds (without self.old skip) at [] }
+    {
+        let at = self.root.empty;
+        if !is_empty_at(&self.watched.clauses, skip, at) {
+            return false;
+        }
+        self.notes.tell(at);
+        true
+    }
+
+    /// The slot that was last noted with an empty clause.
+    pub fn empty_slot(&self) -> usize {
+        self.root.empty
+    }
+
+    /// Notes a slot with an empty clause.
+    pub fn note_empty(&mut self, at: usize)
+        ensures { self.new ≡ self.old }
+    {
+        self.root.empty = at;
+    }
+
     /// Empties a slot. Takes no memory.
     pub fn delete(&mut self, slot: u32, role: Role)
         requires within { slot < length self.old }
@@ -102,6 +125,9 @@ impl Propagator {
         ensures { self.new ≡ slice_set self.old slot None }
     {
         let at = slot as usize;
+        if self.root.conflict {
+            return self.delete_refuted(slot, role);
+        }
         let complete = self.root.is_complete();
         let rest = loosen(
             &self.watched.clauses,
@@ -130,11 +156,36 @@ impl Propagator {
         self.watched.pairs[at] = None;
     }
 
-    /// Brings the root to its fixed point, or to a conflict.
+    // Empties a slot where the root has a conflict. That is kept if the rest stands without the slot.
+    fn delete_refuted(&mut self, slot: u32, role: Role)
+        requires within { slot < length self.old }
+        requires role { IsRole self.old (Some slot) role }
+        ensures { self.new ≡ slice_set self.old slot None }
+    {
+        let at = slot as usize;
+        let rest = loosen(&self.watched.clauses, at, &mut self.root.trail, role, true);
+        unlist(
+            &self.watched.pairs,
+            &mut self.root.singles,
+            &mut self.root.spots,
+            slot,
+            self.root.done,
+        );
+        self.root.head = 0;
+        self.root.done = 0;
+        if !rest {
+            self.root.trail.truncate(0);
+            self.root.conflict = false;
+        }
+        self.watched.clauses.clear(at);
+        self.watched.pairs[at] = None;
+    }
+
+    /// Brings the root to its fixed point, or to a conflict. Where an empty clause is known nothing is to be found.
     pub fn complete(&mut self) -> Result<(), NoMemory>
         ensures { self.new ≡ self.old }
     {
-        if self.root.conflict {
+        if self.root.conflict || is_empty_at(&self.watched.clauses, None, self.root.empty) {
             return Ok(());
         }
         let (head, done) = (self.root.head, self.root.done);
@@ -157,9 +208,9 @@ impl Propagator {
         Ok(())
     }
 
-    /// The literal of a slot's clause that alone is not false, where the root is found.
+    /// The literal of a slot's clause that alone is not false, where the root is found, or a conflict of it.
     pub(crate) fn left_in(&self, at: usize) -> Option<Lit> {
-        if self.root.is_complete() {
+        if self.root.conflict || self.root.is_complete() {
             left_in(&self.watched.clauses, at, &self.root.trail)
         } else {
             None
@@ -172,6 +223,15 @@ impl Propagator {
     {
         if let (Some(at), Role::Doubled(lit, other)) = (skip, role) {
             self.root.trail.change_reason(*lit, at, *other);
+        }
+    }
+
+    /// Gathers hints for a conflict of the root, if there is one and hints are wanted.
+    pub fn gather_conflict(&mut self)
+        ensures { self.new ≡ self.old }
+    {
+        if self.root.conflict {
+            self.notes.gather(&self.watched.clauses, &self.root.trail);
         }
     }
 
@@ -220,6 +280,9 @@ impl Propagator {
         ensures same { self.new ≡ self.old }
         ensures exact { IfOk result (λ yes. IsTrue yes ↔ Implied (filled (without self.old skip)) lits.now) }
     {
+        if self.root.conflict {
+            return self.implied_refuted(lits, skip, lit);
+        }
         let complete = self.root.is_complete();
         if !complete || !self.root.trail.has(lit) {
             return self.implied_anew(lits, skip);
@@ -238,6 +301,24 @@ impl Propagator {
         self.root.head = self.root.trail.len();
         self.root.done = self.root.singles.len();
         Ok(answer)
+    }
+
+    // The same where the root has a conflict: it does without the slot, since its falsified clause holds neither the
+    // literal nor its negation.
+    fn implied_refuted(
+        &mut self,
+        lits: &[Lit],
+        skip: Option<usize>,
+        lit: Lit,
+    ) -> Result<bool, NoMemory>
+        requires { (at : ℕ) × (skip ≡ Some at) × IsAlone self.old at lit }
+        ensures same { self.new ≡ self.old }
+        ensures exact { IfOk result (λ yes. IsTrue yes ↔ Implied (filled (without self.old skip)) lits.now) }
+    {
+        if !self.root.conflict || !self.root.trail.has(lit) {
+            return self.implied_anew(lits, skip);
+        }
+        Ok(true)
     }
 
     // Whether the literals are implied, with the root found anew.
@@ -292,6 +373,7 @@ impl Propagator {
         ensures ok { OnOk result (IsPut self.old at lits.now self.new) }
         ensures err { OnErr result (self.new ≡ self.old) }
     {
+        self.root.empty = empty_after(self.root.empty, at, lits);
         match choose(lits, &self.root.trail) {
             Pick::Short => {
                 put_short(
@@ -319,19 +401,24 @@ impl Propagator {
     }
 }
 
-// Takes off the trail what hangs on the slot alone, where all of the root is found, and answers
-// whether the rest stands without the slot.
-fn loosen(clauses: &Clauses, at: usize, trail: &mut Trail, role: Role, complete: bool) -> bool
+// Takes off the trail what hangs on the slot alone, where all of the root is found or a conflict, and
+// answers whether the rest stands without the slot.
+fn loosen(clauses: &Clauses, at: usize, trail: &mut Trail, role: Role, settled: bool) -> bool
     requires { IsRole clauses.now (Some at) role }
-    ensures { IsTrue result → IsLoosened clauses.now at trail.old trail.new complete }
+    ensures { IsTrue result → IsLoosened clauses.now at trail.old trail.new settled }
 {
     if let Role::Alone(lit) = role {
-        if complete && trail.has(lit) {
+        if settled && trail.has(lit) {
             trail.remove(lit);
             return true;
         }
     }
     is_free(clauses, at, trail, role)
+}
+
+// The slot to note with an empty clause, where a clause comes into a slot.
+fn empty_after(noted: usize, at: u32, lits: &[Lit]) -> usize {
+    if lits.is_empty() { at as usize } else { noted }
 }
 
 // Takes a slot that has no pair out of the list, and answers up to where the rest is taken.

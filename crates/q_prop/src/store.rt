@@ -151,6 +151,19 @@ impl Store {
         );
         self.propagator.renote(at, &self.holders);
         self.propagator.delete(at as u32, role);
+        self.renote_empty(at);
+    }
+
+    // Notes another slot with an empty clause, where the one that was noted is empty now.
+    fn renote_empty(&mut self, at: usize)
+        ensures { self.new ≡ self.old }
+    {
+        if self.propagator.empty_slot() != at {
+            return;
+        }
+        if let Some(other) = self.find(&[]) {
+            self.propagator.note_empty(other);
+        }
     }
 
     /// Whether the literals are implied by propagation, over the clauses of all slots but one.
@@ -158,9 +171,13 @@ impl Store {
         ensures same { self.new ≡ self.old }
         ensures exact { IfOk result (λ yes. IsTrue yes ↔ Implied (filled (without self.old skip)) lits.now) }
     {
+        if self.propagator.is_refuted(skip) {
+            return Ok(true);
+        }
         self.propagator.complete()?;
         let role = self.role(skip);
         self.propagator.note_doubling(skip, &role);
+        self.propagator.gather_conflict();
         self.propagator.implied(lits, skip, role)
     }
 
