@@ -47,7 +47,8 @@ run() {
     command=$1
     sh -c "$1" <"$work/empty" >"$work/stdout" 2>"$work/stderr"
     status=$?
-    text=$(grep '^skipped' "$work/stdout") && missing=${text#skipped: }
+    text=$(grep -h '^skipped' "$work/stdout" "$work/stderr" | head -n 1)
+    [ -z "$text" ] || missing=${text#skipped: }
 }
 
 look() {
