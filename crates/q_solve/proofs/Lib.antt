@@ -1,5 +1,4 @@
 pub mod Placing
-pub mod Reading
 pub mod Rowing
 pub mod Merging
 pub mod Waits
@@ -7,3 +6,5 @@ pub mod Leaving
 pub mod Turns
 pub mod Entering
 pub mod Finding
+pub mod Turned
+pub mod Loads

@@ -1,4 +1,4 @@
--- What is known of a literal at the end of a path.
+-- What is known of a literal whose variable has no value.
 use Rattle.std.proofs.Common.{◌≡◌, ◌<◌, ◌≤◌, Bool, true, false, cond, not, List, length, get_or, refl}
 use Rattle.q_logic.specs.declared.formulas.Quant.{Quant}
 use Rattle.q_logic.specs.declared.formulas.Quant.TheVariants.{Exists, Forall}
@@ -6,19 +6,13 @@ use Rattle.q_logic.specs.declared.formulas.Bound.{Bound}
 use Rattle.q_logic.specs.declared.verdict.Standing.TheVariants.{Chosen, Free}
 use Rattle.q_logic.specs.Literals.{Literal}
 use Rattle.q_logic.specs.Formulas.{Prefix}
-use Rattle.q_logic.specs.Prefixes.{is_exists, is_bound, place, Distinct}
+use Rattle.q_logic.specs.Prefixes.{is_exists, is_bound, place}
 use Rattle.q_logic.specs.Searching.{nothing}
 use Rattle.q_logic.specs.Decisions.{standing}
 use Rattle.q_search.specs.Paths.{along, rest_of}
-use Rattle.q_search.proofs.Seating.{set-unbound, set-value, open-bound, open-universal, place-universal}
-use Rattle.q_solve.specs.Places.{valued, open_to}
+use Rattle.q_search.proofs.Seating.{open-bound, open-universal, place-universal}
+use Rattle.q_solve.specs.Places.{open_to}
 
--- A literal whose variable has a value.
-pub standing-set : (P : Prefix) (vs : List Bool) (k : Literal) → Distinct P → is_bound P k.var ≡ true → place P k.var < length vs →
-    valued (get_or vs (place P k.var) false) k ≡ standing (rest_of P vs) (along P vs nothing) k
-standing-set P vs k d h l = rw (set-unbound P vs k.var d l, set-value P vs nothing k.var d l h) refl
-
--- A literal whose variable has none.
 pub standing-open : (P : Prefix) (vs : List Bool) (k : Literal) (d : Bound) → is_bound P k.var ≡ true → length vs ≤ place P k.var →
     open_to (get_or P (place P k.var) d).quant ≡ standing (rest_of P vs) (along P vs nothing) k
 standing-open P vs k d h l =

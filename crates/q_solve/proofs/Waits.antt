@@ -134,7 +134,7 @@ apart P m n h k = go (eqb m n) refl
         let c : true ≡ false = sym k ∙ z in c
     go false q = refl
 
-rest-bound : (P : Prefix) (vs : List Bool) (b : Bound) (R : Prefix) → rest_of P vs ≡ b ∷ R → is_bound P b.var ≡ true
+pub rest-bound : (P : Prefix) (vs : List Bool) (b : Bound) (R : Prefix) → rest_of P vs ≡ b ∷ R → is_bound P b.var ≡ true
 rest-bound [] [] b R e = absurd (cc)
 rest-bound (c ∷ P) [] b R e =
     let h : c ≡ b = cc in

@@ -5,3 +5,4 @@ pub mod Passes
 pub mod Waiting
 pub mod Written
 pub mod Found
+pub mod Counted

@@ -1,5 +1,5 @@
 -- Where the search stands.
-use Rattle.std.specs.Prelude.{◌≡◌, ◌≤◌, ◌++◌, [], ◌∷◌, Bool, cond, List, length}
+use Rattle.std.specs.Prelude.{◌≡◌, ◌++◌, [], ◌∷◌, Bool, true, false, cond, List, length}
 use Rattle.q_logic.specs.declared.formulas.Quant.{Quant}
 use Rattle.q_logic.specs.declared.formulas.Quant.TheVariants.{Exists, Forall}
 use Rattle.q_logic.specs.Literals.{Literal}
@@ -10,9 +10,9 @@ use Rattle.q_logic.specs.declared.verdict.Standing.TheVariants.{True, False, Cho
 use Rattle.q_logic.specs.Searching.{nothing}
 use Rattle.q_logic.specs.Decisions.{verdict}
 use Rattle.q_search.specs.Paths.{along, rest_of}
-use Rattle.q_search.specs.Seats.{Seating, AreSeats}
 use Rattle.q_search.specs.Walks.{Walk}
 use Rattle.q_solve.specs.declared.node.Decision.{Decision}
+use Rattle.q_solve.specs.declared.places.Known.{Known}
 
 -- a node: the values of the first variables of a formula
 pub record Spot : Type 0 where
@@ -26,11 +26,6 @@ unset s = rest_of s.formula.prefix s.path
 -- the values of the others
 abbrev pub values : Spot → Assignment
 values s = along s.formula.prefix s.path nothing
-
--- what holds of each node
-pub record IsSpot (P : Prefix) (row : Seating) (path : List Bool) : Type 0 where
-  pub seats : AreSeats P row
-  pub within : length path ≤ length P
 
 -- the last decision of a node, and the node before it
 pub record IsLast (now before : Spot) (d : Decision) : Type 0 where
@@ -46,6 +41,14 @@ valued v k = cond (signed k.negative v) True False
 abbrev pub open_to : Quant → Standing
 open_to Exists = Chosen
 open_to Forall = Free
+
+-- what is known of a variable without a value, and of one with a value
+abbrev pub known_open : Quant → Known
+known_open q = record { positive = open_to q; negative = open_to q }
+
+abbrev pub known_value : Bool → Known
+known_value true = record { positive = True; negative = False }
+known_value false = record { positive = False; negative = True }
 
 -- a node as a node of a search
 abbrev pub walk_of : Spot → Walk

@@ -6,10 +6,12 @@
 mod circuits;
 mod climbing;
 mod joining;
+mod loading;
 mod node;
 mod picks;
 mod places;
 mod searching;
+mod sides;
 mod writing;
 
 pub use searching::{Found, search};

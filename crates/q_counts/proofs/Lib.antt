@@ -1,0 +1,4 @@
+pub mod Moving
+pub mod Shifting
+pub mod Telling
+pub mod Rows
