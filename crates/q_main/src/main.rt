@@ -16,11 +16,21 @@ use q_logic::NoMemory;
 use q_sched::{FewestFirst, Guide, ShortestFirst};
 use q_touched::Touched;
 use std::alloc::Global;
+use std::fs::File;
 use std::process::ExitCode;
 use std::rc::Rc;
 use std::{env, io};
 use watched::Watched;
 use wiped::Wiped;
+
+// What is opened gets the least free number. Where standard input, output or error is closed, a file of a command would get that
+// number, and lines meant for people would go into it. So these three are opened before anything else, each time the root
+// folder, which can't be written. What is put into one of them then fails, and that is a write fault.
+type Held = Option<<HostRuntime as std::rt::Files>::File>;
+
+fn hold_number(rt: &HostRuntime) -> Held {
+    File::open(rt, "/").ok()
+}
 
 // The words after the program's name.
 fn words<R: std::rt::Env + AllocGlobal>(rt: &R) -> io::Result<Vec<String>> {
@@ -82,6 +92,9 @@ fn run_words(rt: &HostRuntime, words: &[String]) -> Result<Status, NoMemory> {
 }
 
 fn main(rt: HostRuntime) -> ExitCode {
+    let _input = hold_number(&rt);
+    let _output = hold_number(&rt);
+    let _error = hold_number(&rt);
     let status = match words(&rt) {
         Ok(words) => match run_words(&rt, &words) {
             Ok(status) => status,

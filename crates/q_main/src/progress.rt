@@ -24,6 +24,7 @@ fn target_of(proposal: &Proposal) -> Option<Move> {
     match proposal {
         Proposal::Take(target) => Some(*target),
         Proposal::Done => None,
+        Proposal::NoMemory => None,
     }
 }
 
@@ -69,6 +70,8 @@ impl<G: Guide> Guide for Progress<G> {
     ghost asked = { λ p. G.asked p.guide };
 
     ghost last = { λ p. G.last p.guide };
+
+    ghost heard = { λ p. G.heard p.guide };
 
     fn propose(&mut self, kernel: &Kernel) -> Proposal {
         let proposal = self.guide.propose(kernel);

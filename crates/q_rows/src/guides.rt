@@ -121,6 +121,7 @@ fn remembered(id: &mut Option<ClauseId>, kernel: &Kernel) -> Proposal {
 pub struct RowGuide {
     asked: u64,
     last: Proposal,
+    heard: bool,
     plan: Plan,
 }
 
@@ -129,6 +130,8 @@ impl Guide for RowGuide {
 
     ghost last = { λ g. g.last };
 
+    ghost heard = { λ g. g.heard };
+
     fn propose(&mut self, kernel: &Kernel) -> Proposal {
         self.asked = self.asked.saturating_add(1);
         self.last = self.plan.next(kernel);
@@ -136,6 +139,7 @@ impl Guide for RowGuide {
     }
 
     fn told(&mut self, taken: bool) {
+        self.heard = taken;
         self.plan.told(taken);
     }
 }
@@ -152,6 +156,7 @@ pub(crate) fn guide_of(alloc: Global, text: &str) -> Result<RowGuide, Trouble> {
     Ok(RowGuide {
         asked: 0,
         last: Proposal::Done,
+        heard: false,
         plan,
     })
 }

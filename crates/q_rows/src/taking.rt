@@ -138,6 +138,7 @@ fn proposed(alloc: Global, kernel: &Kernel, guide: &mut RowGuide) -> Result<Stri
                 text.push_str("done")?;
                 return Ok(text);
             }
+            Proposal::NoMemory => return Err(Trouble::NoMemory),
         }
         guide.told(false);
     }

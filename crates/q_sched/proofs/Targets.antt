@@ -29,10 +29,9 @@ use Rattle.q_sched.specs.declared.moves.Rule.TheVariants as rule
 use Rattle.q_sched.specs.declared.moves.Move.{Move}
 use Rattle.q_sched.specs.declared.moves.Move.TheVariants as move
 use Rattle.q_sched.specs.Moves.{rank, rank_of, target_of, IsOf}
-use Rattle.q_sched.specs.Settled.{HasRule, IsDone}
 use Rattle.std.specs.Prelude.{if◌then◌else◌, ◌==◌}
 use Rattle.std.specs.Option.{MatchOption, IsSomeAnd}
-use Rattle.q_sched.specs.Searching.{FindsOf}
+use Rattle.q_sched.specs.Searching.{FindsOf, NoneBelow}
 
 -- the rule at a place of the order
 abbrev rule_at : ℕ → Rule
@@ -97,30 +96,6 @@ of-eliminate (eliminate_target.Eliminate a) = refl
 
 of-expand : (t : TheExpand) → IsOf rule.Expand (expand.target_of t)
 of-expand (expand_target.Expand a) = refl
-
-of_rule : (r : Rule) (t : Target) → IsOf r t → HasRule t
-of_rule rule.Reduce t i = omega arith
-of_rule rule.Subsume t i = omega arith
-of_rule rule.Merge t i = omega arith
-of_rule rule.Block t i = omega arith
-of_rule rule.Eliminate t i = omega arith
-of_rule rule.Expand t i = omega arith
-
-pub has_rule : (m : Move) → HasRule (target_of m)
-has_rule (move.Reduce t) = of_rule rule.Reduce _ (of-plain t)
-has_rule (move.Subsume t) = of_rule rule.Subsume _ (of-subsume t)
-has_rule (move.Merge t) = of_rule rule.Merge _ (of-equiv t)
-has_rule (move.Block t) = of_rule rule.Block _ (of-blocked t)
-has_rule (move.Eliminate t) = of_rule rule.Eliminate _ (of-eliminate t)
-has_rule (move.Expand t) = of_rule rule.Expand _ (of-expand t)
-
--- so where one applies, something is left to do
-pub some-not_done : (B : Bounds) (k : Seen) (m : Move) → Applies B k (target_of m) → IsDone B k → ⊥
-some-not_done B k m a d = d (target_of m) (has_rule m) a
-
--- no target of the rules below a place of the order applies
-abbrev pub NoneBelow : Bounds → Seen → ℕ → Type 0
-NoneBelow B k n = (t : Target) → rank_of t < n → Applies B k t → ⊥
 
 pub none-more : (B : Bounds) (k : Seen) (n : ℕ) (r : Rule) (from : ℕ) → rank r ≡ n → from ≤ 0 → NoneBelow B k n → ((t : Target) → IsOf r t → from ≤ place t → Applies B k t → ⊥) → NoneBelow B k (n + 1)
 none-more B k n r from e z h i t less a = elim (two (rank_of t) n less) [

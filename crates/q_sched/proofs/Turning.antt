@@ -1,5 +1,5 @@
 -- What a turn does, by what its parts have done.
-use Rattle.std.proofs.Common.{◌≡◌, ◌≢◌, ℕ, List, [], ◌∷◌, length, reverse, refl, ap, arith, Result, Ok, Err, IfOk}
+use Rattle.std.proofs.Common.{◌≡◌, ◌≢◌, ℕ, Bool, List, [], ◌∷◌, length, reverse, refl, ap, arith, Result, Ok, Err, IfOk}
 use Rattle.q_logic.specs.Measure.{measure_of}
 use Rattle.q_kernel.specs.Kernels.{Seen, formula_in}
 use Rattle.std.proofs.lemmas.List.{length-map, length-reverse}
@@ -19,7 +19,7 @@ searched-falls d old new turn.Settled s = (refl, ap (λ (k : Seen). measure_of d
 searched-falls d old new turn.Spent s = absurd s
 
 searched-ends : (d : Driving) (old new : Seen) (answer : Turn) → (¬ IsSpent d old) → Searched d.bounds old answer new → Ends answer d old new
-searched-ends d old new turn.Moved n s = (n, s.0, s.1, s.2)
+searched-ends d old new turn.Moved n s = (n, s.0, s.2)
 searched-ends d old new turn.Asked n s = absurd s
 searched-ends d old new turn.Settled n s = s
 searched-ends d old new turn.Spent n s = absurd s
@@ -36,7 +36,7 @@ searched d old new answer n e s = record {
 }
 
 answers-ends : (d : Driving) (old new : Seen) (answer : Turn) → (¬ IsSpent d old) → Answers answer d.bounds old new → Ends answer d old new
-answers-ends d old new turn.Moved n s = (n, s.0, s.1, s.2)
+answers-ends d old new turn.Moved n s = (n, s.0, s.1)
 answers-ends d old new turn.Asked n s = (n, s)
 answers-ends d old new turn.Settled n s = absurd s
 answers-ends d old new turn.Spent n s = absurd s
@@ -61,12 +61,12 @@ pub turned-by_guide : {E : Type 0} (before : Driving) (old : Seen) (after : Driv
 turned-by_guide before old after new (Ok answer) n g f a = asked before old answer after new n g f a
 turned-by_guide before old after new (Err error) n g f a = a
 
-pub no_guides : {B : Type 0} (asked : B → ℕ) (last : B → Proposal) (items : List B) → length items ≡ 0 → meanings asked last (reverse items) ≡ []
-no_guides asked last [] e = refl
-no_guides asked last (x ∷ items) e = absurd (omega arith)
+pub no_guides : {B : Type 0} (asked : B → ℕ) (last : B → Proposal) (heard : B → Bool) (items : List B) → length items ≡ 0 → meanings asked last heard (reverse items) ≡ []
+no_guides asked last heard [] e = refl
+no_guides asked last heard (x ∷ items) e = absurd (omega arith)
 
-pub some_guides : {B : Type 0} (asked : B → ℕ) (last : B → Proposal) (items : List B) → (length items ≡ 0 → ⊥) → meanings asked last (reverse items) ≢ []
-some_guides asked last items n e =
-    let m : length (meanings asked last (reverse items)) ≡ length (reverse items) = length-map (reverse items) _ in
-    let z : length (meanings asked last (reverse items)) ≡ 0 = ap length e in
+pub some_guides : {B : Type 0} (asked : B → ℕ) (last : B → Proposal) (heard : B → Bool) (items : List B) → (length items ≡ 0 → ⊥) → meanings asked last heard (reverse items) ≢ []
+some_guides asked last heard items n e =
+    let m : length (meanings asked last heard (reverse items)) ≡ length (reverse items) = length-map (reverse items) _ in
+    let z : length (meanings asked last heard (reverse items)) ≡ 0 = ap length e in
     n (omega (arith, length-reverse items))

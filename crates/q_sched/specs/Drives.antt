@@ -9,14 +9,16 @@ use Rattle.q_sched.specs.Moves.{target_of}
 use Rattle.q_sched.specs.declared.turns.Turn.{Turn}
 use Rattle.q_sched.specs.declared.turns.Turn.TheVariants as turn
 use Rattle.q_sched.specs.declared.guide.Proposal.{Proposal}
-use Rattle.q_sched.specs.declared.guide.Proposal.TheVariants.{Take, Done}
+use Rattle.q_sched.specs.declared.guide.Proposal.TheVariants.{Take, Done, NoMemory}
 use Rattle.q_logic.specs.Counts.{Rose}
-use Rattle.q_sched.specs.Settled.{HasRule, IsDone}
+use Rattle.q_sched.specs.Searching.{IsOfFirst}
+use Rattle.q_sched.specs.Settled.{IsDone}
 
 -- a guide by its meanings
 pub record Meaning : Type 0 where
   pub asked : ℕ
   pub last : Proposal
+  pub heard : Bool
 
 pub record Driving : Type 0 where
   pub bounds : Bounds
@@ -72,18 +74,19 @@ pub record Drops (before after : Driving) : Type 0 where
   pub refused : after.refused ≡ 0
   pub over : after.over ≡ false
 
--- the target is taken exactly where it applies
-abbrev pub Follows : Target → Driving → Seen → Turn → Driving → Seen → Type 0
-Follows t before old answer after new =
+-- the target is taken exactly where it applies, and the guide is told whether it was
+abbrev pub Follows : Target → Bool → Driving → Seen → Turn → Driving → Seen → Type 0
+Follows t heard before old answer after new =
     (after.over ≡ false)
-    × (Applies before.bounds old t → (after.refused ≡ before.refused) × (answer ≡ turn.Moved) × IsTaken before.bounds old new t)
-    × ((Applies before.bounds old t → ⊥) → (after.refused ≡ before.refused + 1) × (answer ≡ turn.Asked) × SameView old new)
+    × (Applies before.bounds old t → (heard ≡ true) × (after.refused ≡ before.refused) × (answer ≡ turn.Moved) × IsTaken before.bounds old new t)
+    × ((Applies before.bounds old t → ⊥) → (heard ≡ false) × (after.refused ≡ before.refused + 1) × (answer ≡ turn.Asked) × SameView old new)
 
--- what follows from the first guide's answer
-abbrev pub Decides : Proposal → Driving → Seen → Turn → Driving → Seen → Type 0
-Decides Done before old answer after new =
+-- what follows from the first guide's answer; one that wanted memory leads to no turn
+abbrev pub Decides : Proposal → Bool → Driving → Seen → Turn → Driving → Seen → Type 0
+Decides Done heard before old answer after new =
     (after.over ≡ true) × (after.refused ≡ before.refused) × (answer ≡ turn.Asked) × (new ≡ old)
-Decides (Take m) before old answer after new = Follows (target_of m) before old answer after new
+Decides NoMemory heard before old answer after new = ⊥
+Decides (Take m) heard before old answer after new = Follows (target_of m) heard before old answer after new
 
 -- the first guide was asked, and the others are as before
 pub record AsksOne (before after : List Meaning) (P : Meaning → Type 0) : Type 0 where
@@ -97,11 +100,11 @@ pub record AsksOne (before after : List Meaning) (P : Meaning → Type 0) : Type
 
 -- a turn asks the first guide, and nothing else in the list changes
 abbrev pub Asks : Driving → Seen → Turn → Driving → Seen → Type 0
-Asks before old answer after new = AsksOne before.guides after.guides (λ then. Decides then.last before old answer after new)
+Asks before old answer after new = AsksOne before.guides after.guides (λ then. Decides then.last then.heard before old answer after new)
 
--- a turn searches
+-- a turn searches: a target of the first rule that has one is taken
 abbrev pub Searched : Bounds → Seen → Turn → Seen → Type 0
-Searched B old turn.Moved new = (t : Target) × HasRule t × IsTaken B old new t
+Searched B old turn.Moved new = (t : Target) × IsOfFirst B old t × IsTaken B old new t
 Searched B old turn.Asked new = ⊥
 Searched B old turn.Settled new = IsDone B old × (new ≡ old)
 Searched B old turn.Spent new = ⊥
@@ -123,14 +126,14 @@ pub record Stays (before : Driving) (old : Seen) (after : Driving) (new : Seen) 
 
 -- what an answer says by itself
 abbrev pub Ends : Turn → Driving → Seen → Seen → Type 0
-Ends turn.Moved d old new = (¬ IsSpent d old) × (t : Target) × HasRule t × IsTaken d.bounds old new t
+Ends turn.Moved d old new = (¬ IsSpent d old) × (t : Target) × IsTaken d.bounds old new t
 Ends turn.Asked d old new = (¬ IsSpent d old) × SameView old new
 Ends turn.Settled d old new = IsDone d.bounds old × (new ≡ old)
 Ends turn.Spent d old new = IsSpent d old × (¬ IsDone d.bounds old) × (new ≡ old)
 
 -- what an answer of a guide says by itself
 abbrev pub Answers : Turn → Bounds → Seen → Seen → Type 0
-Answers turn.Moved B old new = (t : Target) × HasRule t × IsTaken B old new t
+Answers turn.Moved B old new = (t : Target) × IsTaken B old new t
 Answers turn.Asked B old new = SameView old new
 Answers turn.Settled B old new = ⊥
 Answers turn.Spent B old new = ⊥

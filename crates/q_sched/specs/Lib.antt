@@ -1,8 +1,8 @@
 pub mod Moves
 pub mod Settled
+pub mod Searching
 pub mod Drives
 pub mod Outcomes
 pub mod Kinds
 pub mod Meanings
 pub mod Seen
-pub mod Searching

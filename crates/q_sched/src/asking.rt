@@ -54,12 +54,13 @@ fn consult(
     requires bounds { AreModest bounds.now }
     requires fit { IsFitFor kernel.old searches.old }
     ensures rises { Rose (asked guide.old) (asked guide.new) }
-    ensures outcome { IfOk result (λ outcome. Outcomes (last guide.new) bounds.now kernel.old outcome kernel.new) }
+    ensures outcome { IfOk result (λ outcome. Outcomes (last guide.new) (heard guide.new) bounds.now kernel.old outcome kernel.new) }
     ensures err { OnErr result (SameView kernel.old kernel.new) }
     ensures fit { IsFitFor kernel.new searches.new }
 {
     match guide.propose(kernel) {
         Proposal::Done => Ok(Outcome::Over),
+        Proposal::NoMemory => Err(NoMemory),
         Proposal::Take(target) => {
             let outcome = follow(&target, kernel, searches, bounds)?;
             guide.told(matches!(outcome, Outcome::Taken));
@@ -79,9 +80,9 @@ pub(crate) fn ask_last(
     requires ready { IsReady kernel.old }
     requires bounds { AreModest bounds.now }
     requires fit { IsFitFor kernel.old searches.old }
-    ensures asks { IfOk result (λ outcome. AsksOne (meanings (λ b. asked b) (λ b. last b) (reverse waiting.old.items)) (meanings (λ b. asked b) (λ b. last b) (reverse waiting.new.items)) (λ then. Outcomes then.last bounds.now kernel.old outcome kernel.new)) }
+    ensures asks { IfOk result (λ outcome. AsksOne (meanings (λ b. asked b) (λ b. last b) (λ b. heard b) (reverse waiting.old.items)) (meanings (λ b. asked b) (λ b. last b) (λ b. heard b) (reverse waiting.new.items)) (λ then. Outcomes then.last then.heard bounds.now kernel.old outcome kernel.new)) }
     ensures err { OnErr result (SameView kernel.old kernel.new) }
-    ensures err_list { OnErr result (AsksOne (meanings (λ b. asked b) (λ b. last b) (reverse waiting.old.items)) (meanings (λ b. asked b) (λ b. last b) (reverse waiting.new.items)) (λ then. Unit {0})) }
+    ensures err_list { OnErr result (AsksOne (meanings (λ b. asked b) (λ b. last b) (λ b. heard b) (reverse waiting.old.items)) (meanings (λ b. asked b) (λ b. last b) (λ b. heard b) (reverse waiting.new.items)) (λ then. Unit {0})) }
     ensures len { vec_len waiting.new ≡ vec_len waiting.old }
     ensures fit { IsFitFor kernel.new searches.new }
 {

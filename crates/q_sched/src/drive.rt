@@ -51,7 +51,7 @@ impl Drive {
     ) -> Drive
         requires first { first_measure ≤ 2 ^ 60 }
         requires bounds { AreModest bounds }
-        ensures seen { seen (λ b. asked b) (λ b. last b) result ≡ record { bounds = bounds; budget = budget; first_measure = first_measure; guides = meanings (λ b. asked b) (λ b. last b) (take 1000000 guides.items); refused = 0; over = false } }
+        ensures seen { seen (λ b. asked b) (λ b. last b) (λ b. heard b) result ≡ record { bounds = bounds; budget = budget; first_measure = first_measure; guides = meanings (λ b. asked b) (λ b. last b) (λ b. heard b) (take 1000000 guides.items); refused = 0; over = false } }
         ensures lent { lent result ≡ nothing_learned }
     {
         let searches = Searches::new(*guides.allocator());
@@ -71,7 +71,7 @@ impl Drive {
 
     /// How many turns with `Asked` may still come.
     pub fn left(&self) -> u64
-        ensures { result ≡ left_of (seen (λ b. asked b) (λ b. last b) self.now) }
+        ensures { result ≡ left_of (seen (λ b. asked b) (λ b. last b) (λ b. heard b) self.now) }
     {
         let guides = self.waiting.len() as u64;
         if guides == 0 {
@@ -86,7 +86,7 @@ impl Drive {
     }
 
     fn is_spent(&self, measure: u64) -> bool
-        ensures { IsTrue result ↔ IsSpentAt (seen (λ b. asked b) (λ b. last b) self.now).budget (seen (λ b. asked b) (λ b. last b) self.now).first_measure measure }
+        ensures { IsTrue result ↔ IsSpentAt (seen (λ b. asked b) (λ b. last b) (λ b. heard b) self.now).budget (seen (λ b. asked b) (λ b. last b) (λ b. heard b) self.now).first_measure measure }
     {
         match self.limit {
             None => false,
@@ -95,9 +95,9 @@ impl Drive {
     }
 
     fn drop_first(&mut self)
-        requires some { (seen (λ b. asked b) (λ b. last b) self.old).guides ≢ [] }
-        ensures drops { Drops (seen (λ b. asked b) (λ b. last b) self.old) (seen (λ b. asked b) (λ b. last b) self.new) }
-        ensures left { IsFinished (seen (λ b. asked b) (λ b. last b) self.old) → left_of (seen (λ b. asked b) (λ b. last b) self.new) < left_of (seen (λ b. asked b) (λ b. last b) self.old) }
+        requires some { (seen (λ b. asked b) (λ b. last b) (λ b. heard b) self.old).guides ≢ [] }
+        ensures drops { Drops (seen (λ b. asked b) (λ b. last b) (λ b. heard b) self.old) (seen (λ b. asked b) (λ b. last b) (λ b. heard b) self.new) }
+        ensures left { IsFinished (seen (λ b. asked b) (λ b. last b) (λ b. heard b) self.old) → left_of (seen (λ b. asked b) (λ b. last b) (λ b. heard b) self.new) < left_of (seen (λ b. asked b) (λ b. last b) (λ b. heard b) self.old) }
         ensures lent { lent self.new ≡ lent self.old }
     {
         self.waiting.pop();
@@ -106,12 +106,12 @@ impl Drive {
     }
 
     fn ask_first(&mut self, kernel: &mut Kernel) -> Result<Turn, NoMemory>
-        requires some { (seen (λ b. asked b) (λ b. last b) self.old).guides ≢ [] }
-        requires unfinished { ¬ IsFinished (seen (λ b. asked b) (λ b. last b) self.old) }
+        requires some { (seen (λ b. asked b) (λ b. last b) (λ b. heard b) self.old).guides ≢ [] }
+        requires unfinished { ¬ IsFinished (seen (λ b. asked b) (λ b. last b) (λ b. heard b) self.old) }
         requires ready { IsReady kernel.old }
         requires fit { IsFitFor kernel.old (lent self.old) }
-        ensures asks { IfOk result (λ turn. AsksFirst (seen (λ b. asked b) (λ b. last b) self.old) kernel.old turn (seen (λ b. asked b) (λ b. last b) self.new) kernel.new) }
-        ensures err { OnErr result (Stays (seen (λ b. asked b) (λ b. last b) self.old) kernel.old (seen (λ b. asked b) (λ b. last b) self.new) kernel.new) }
+        ensures asks { IfOk result (λ turn. AsksFirst (seen (λ b. asked b) (λ b. last b) (λ b. heard b) self.old) kernel.old turn (seen (λ b. asked b) (λ b. last b) (λ b. heard b) self.new) kernel.new) }
+        ensures err { OnErr result (Stays (seen (λ b. asked b) (λ b. last b) (λ b. heard b) self.old) kernel.old (seen (λ b. asked b) (λ b. last b) (λ b. heard b) self.new) kernel.new) }
         ensures ready { IsReady kernel.new }
         ensures fit { IsFitFor kernel.new (lent self.new) }
     {
@@ -132,8 +132,8 @@ impl Drive {
     pub fn turn(&mut self, kernel: &mut Kernel) -> Result<Turn, NoMemory>
         requires ready { IsReady kernel.old }
         requires fit { IsFitFor kernel.old (lent self.old) }
-        ensures turned { IfOk result (λ turn. Turned (seen (λ b. asked b) (λ b. last b) self.old) kernel.old turn (seen (λ b. asked b) (λ b. last b) self.new) kernel.new) }
-        ensures err { OnErr result (Stays (seen (λ b. asked b) (λ b. last b) self.old) kernel.old (seen (λ b. asked b) (λ b. last b) self.new) kernel.new) }
+        ensures turned { IfOk result (λ turn. Turned (seen (λ b. asked b) (λ b. last b) (λ b. heard b) self.old) kernel.old turn (seen (λ b. asked b) (λ b. last b) (λ b. heard b) self.new) kernel.new) }
+        ensures err { OnErr result (Stays (seen (λ b. asked b) (λ b. last b) (λ b. heard b) self.old) kernel.old (seen (λ b. asked b) (λ b. last b) (λ b. heard b) self.new) kernel.new) }
         ensures ready { IsReady kernel.new }
         ensures fit { IsFitFor kernel.new (lent self.new) }
     {

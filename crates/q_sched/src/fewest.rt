@@ -61,12 +61,13 @@ impl Keyed for Variables {
 }
 
 /// Proposes to eliminate the existential with the least pair of number of occurrences and variable above a cursor, and
-/// starts again once a proposal was taken. Where memory is wanting it is done.
+/// starts again once a proposal was taken.
 #[derive(Drop)]
 pub struct FewestFirst {
     rounds: Rounds<Variables>,
     asked: u64,
     last: Proposal,
+    heard: bool,
 }
 
 impl FewestFirst {
@@ -78,6 +79,7 @@ impl FewestFirst {
             rounds: Rounds::new(),
             asked: 0,
             last: Proposal::Done,
+            heard: false,
         }
     }
 }
@@ -87,6 +89,8 @@ impl Guide for FewestFirst {
 
     ghost last = { λ g. g.last };
 
+    ghost heard = { λ g. g.heard };
+
     fn propose(&mut self, kernel: &Kernel) -> Proposal
         requires ready { IsReady kernel.now }
         ensures answer { self.new.last ≡ result }
@@ -95,13 +99,15 @@ impl Guide for FewestFirst {
     {
         self.asked = self.asked.saturating_add(1);
         self.last = match self.rounds.next(kernel) {
-            Some(x) => Proposal::Take(Move::Eliminate(q_eliminate::Target::Eliminate { x })),
-            None => Proposal::Done,
+            Ok(Some(x)) => Proposal::Take(Move::Eliminate(q_eliminate::Target::Eliminate { x })),
+            Ok(None) => Proposal::Done,
+            Err(NoMemory) => Proposal::NoMemory,
         };
         self.last
     }
 
     fn told(&mut self, taken: bool) {
+        self.heard = taken;
         self.rounds.told(taken);
     }
 }

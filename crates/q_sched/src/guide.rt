@@ -2,7 +2,7 @@
 //!
 //! A guide says which target is tried next. A drive tests each proposal before it takes it, so nothing rests on what a guide
 //! says: it may propose what it likes, and how fast the formula shrinks is all that depends on it.
-ghost use Rattle.std.specs.Prelude.{◌≡◌, ℕ};
+ghost use Rattle.std.specs.Prelude.{◌≡◌, ℕ, Bool};
 ghost use Rattle.q_kernel.specs.Taking.{IsReady};
 ghost use Rattle.q_logic.specs.Counts.{Rose};
 ghost use Rattle.q_sched.specs.declared.guide.Proposal.{Proposal};
@@ -17,6 +17,8 @@ pub enum Proposal {
     Take(Move),
     /// Nothing more.
     Done,
+    /// Memory was wanting for an answer. The turn that asked says so.
+    NoMemory,
 }
 
 /// Says which target is tried next.
@@ -27,6 +29,9 @@ pub trait Guide: Drop {
     /// Its last answer.
     ghost last: { Self → Proposal };
 
+    /// Whether the proposal was taken of which it was told last.
+    ghost heard: { Self → Bool };
+
     /// What to try next.
     fn propose(&mut self, kernel: &Kernel) -> Proposal
         requires ready { IsReady kernel.now }
@@ -36,5 +41,6 @@ pub trait Guide: Drop {
     /// Whether its last proposal was taken.
     fn told(&mut self, taken: bool)
         ensures asked { asked self.new ≡ asked self.old }
-        ensures last { last self.new ≡ last self.old };
+        ensures last { last self.new ≡ last self.old }
+        ensures heard { heard self.new ≡ taken };
 }

@@ -101,12 +101,8 @@ impl<K: Keyed> Rounds<K> {
         }
     }
 
-    /// The next item; none where memory is wanting, and then all is made anew at the next call.
-    pub(crate) fn next(&mut self, kernel: &Kernel) -> Option<u32> {
-        self.try_next(kernel).unwrap_or(None)
-    }
-
-    fn try_next(&mut self, kernel: &Kernel) -> Result<Option<u32>, NoMemory> {
+    /// The next item. Where memory was wanting, all is made anew at the next call.
+    pub(crate) fn next(&mut self, kernel: &Kernel) -> Result<Option<u32>, NoMemory> {
         let mut queue = match self.queue.take() {
             Some(queue) => queue,
             None => Queue::new(kernel)?,

@@ -127,7 +127,7 @@ impl Searches {
         Ok(found)
     }
 
-    /// A target of the first rule that has one; none exactly where no target of the rules applies.
+    /// A target of the first rule that has one; none exactly where no target applies.
     pub fn find_any(&mut self, kernel: &Kernel, bounds: &Bounds) -> Result<Option<Move>, NoMemory>
         requires ready { IsReady kernel.now }
         requires bounds { AreModest bounds.now }

@@ -50,12 +50,13 @@ impl Keyed for Clauses {
 }
 
 /// Proposes to cover the clause with the least pair of length and id above a cursor, and starts again once a proposal was
-/// taken. Where memory is wanting it is done.
+/// taken.
 #[derive(Drop)]
 pub struct ShortestFirst {
     rounds: Rounds<Clauses>,
     asked: u64,
     last: Proposal,
+    heard: bool,
 }
 
 impl ShortestFirst {
@@ -67,6 +68,7 @@ impl ShortestFirst {
             rounds: Rounds::new(),
             asked: 0,
             last: Proposal::Done,
+            heard: false,
         }
     }
 }
@@ -76,6 +78,8 @@ impl Guide for ShortestFirst {
 
     ghost last = { λ g. g.last };
 
+    ghost heard = { λ g. g.heard };
+
     fn propose(&mut self, kernel: &Kernel) -> Proposal
         requires ready { IsReady kernel.now }
         ensures answer { self.new.last ≡ result }
@@ -84,13 +88,15 @@ impl Guide for ShortestFirst {
     {
         self.asked = self.asked.saturating_add(1);
         self.last = match self.rounds.next(kernel) {
-            Some(c) => Proposal::Take(Move::Block(q_blocked::Target::Cover { c })),
-            None => Proposal::Done,
+            Ok(Some(c)) => Proposal::Take(Move::Block(q_blocked::Target::Cover { c })),
+            Ok(None) => Proposal::Done,
+            Err(NoMemory) => Proposal::NoMemory,
         };
         self.last
     }
 
     fn told(&mut self, taken: bool) {
+        self.heard = taken;
         self.rounds.told(taken);
     }
 }

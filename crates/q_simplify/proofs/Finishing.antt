@@ -24,6 +24,7 @@ use Rattle.q_simplify.specs.declared.report.Ending.{Ending}
 use Rattle.q_simplify.specs.declared.report.Ending.TheVariants as ending
 use Rattle.q_io.proofs.Disks.{at_some}
 use Rattle.q_simplify.proofs.Logging.{take-front}
+use Rattle.q_simplify.proofs.Ends.{swept-numbered}
 
 -- the log stays where another file is written
 kept-run : (F G : PrenexFormula) (ln : List ℕ) (c d : Disk) → map.get d ln ≡ map.get c ln → HoldsRun F G ln c → HoldsRun F G ln d
@@ -108,7 +109,7 @@ occurring-nothing (b ∷ P) = occurring-nothing P
 nothing-settled : (B : Bounds) (P : Prefix) (X : Matrix) → X ≡ [] → swept (formula_of P X) ≡ formula_of P X → NoneApplies B P (numbered X)
 nothing-settled B P X e s =
     let p : P ≡ [] = sym (ap (λ (G : PrenexFormula). G.prefix) (subst (λ (Y : Matrix). swept (formula_of P Y) ≡ formula_of P Y) e s)) ∙ occurring-nothing P in
-    subst (λ (Y : Matrix). NoneApplies B P (numbered Y)) (sym e) (subst (λ (Q : Prefix). NoneApplies B Q (numbered [])) (sym p) (λ t r a. (settled-nothing B [] refl).1 t a))
+    subst (λ (Y : Matrix). NoneApplies B P (numbered Y)) (sym e) (subst (λ (Q : Prefix). NoneApplies B Q (numbered [])) (sym p) (settled-nothing B [] refl).1)
 
 small-nothing : (X : Matrix) → size_of X ≤ 0 → X ≡ []
 small-nothing [] h = refl
@@ -124,4 +125,4 @@ never-spent o F G r i e n =
     go None n s t = s
     go (Some b) n s t =
         let z : size_of G.matrix ≤ 0 = grind arith in
-        t (record { swept = i.swept; none = nothing-settled o.bounds G.prefix G.matrix (small-nothing G.matrix z) i.swept })
+        t (swept-numbered G i.swept, nothing-settled o.bounds G.prefix G.matrix (small-nothing G.matrix z) i.swept)

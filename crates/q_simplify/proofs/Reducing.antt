@@ -16,13 +16,14 @@ use Rattle.q_simplify.specs.declared.options.Options.{Options}
 use Rattle.q_simplify.specs.declared.stop.Stop.{Stop}
 use Rattle.q_simplify.specs.declared.report.Report.{Report}
 use Rattle.q_simplify.specs.declared.report.Ending.{Ending}
-use Rattle.q_simplify.specs.Stops.{Stops}
+use Rattle.q_simplify.specs.Moves.{MovesTo}
+use Rattle.q_simplify.specs.Stops.{TurnsEnd}
 use Rattle.q_simplify.specs.Logs.{HasLog, LeavesLog}
 use Rattle.q_simplify.specs.Results.{IsReport, EndsAs, ends_as}
 use Rattle.q_simplify.proofs.Logging.{has_log-begin, has_log-led, has_log-left, same-formula}
 use Rattle.q_dimacs.specs.Dimacs.{Dimacs}
 use Rattle.q_dimacs.specs.Writing.{formula_text}
-use Rattle.q_simplify.proofs.Ends.{ends}
+use Rattle.q_simplify.proofs.Ends.{ends, spent-exactly}
 
 pub swept-ready : (j k : Seen) → formula_in k ≡ swept (formula_in j) → IsInLimits standard (formula_in j) → IsReady k
 swept-ready j k e l =
@@ -43,16 +44,19 @@ pub no_bytes : (text : List ℕ) → length text < 1 → text ≡ []
 no_bytes [] h = refl
 no_bytes (x ∷ xs) h = absurd (omega arith)
 
--- the report, where the kernel k is that of the end of the turns and m that of the flushed log
-pub reports : ((H : PrenexFormula) → IsProper H → IsInLimits standard H → Dimacs standard (formula_text H) H) → (o : Options) (F G : PrenexFormula) (k m : Seen) (last : Stop) (r : Report) → IsReady k → Stops last o.bounds o.budget r.before k → m.prefix ≡ k.prefix → slots m ≡ slots k → IsSound m → G ≡ formula_in m → r.before ≡ measure_of o.bounds F → r.after ≡ measure_of o.bounds (formula_in m) → r.ending ≡ ends_as last G → IsReport o F r G
-reports read o F G k m last r d s p q w g b a e =
+-- the report, where the kernel j is swept, k is that of the end of the turns and m that of the flushed log
+pub reports : ((H : PrenexFormula) → IsProper H → IsInLimits standard H → Dimacs standard (formula_text H) H) → (o : Options) (F G : PrenexFormula) (j k m : Seen) (last : Stop) (r : Report) → formula_in j ≡ swept F → IsReady k → TurnsEnd last o.bounds o.budget r.before j k → m.prefix ≡ k.prefix → slots m ≡ slots k → IsSound m → G ≡ formula_in m → r.before ≡ measure_of o.bounds F → r.after ≡ measure_of o.bounds (formula_in m) → r.ending ≡ ends_as last G → IsReport o F r G
+reports read o F G j k m last r start d s p q w g b a e =
     let f : formula_in m ≡ formula_in k = same-formula k m p q in
     let gk : G ≡ formula_in k = g ∙ f in
+    let how : EndsAs r.ending o F G = subst (λ (x : Ending). EndsAs x o F G) (sym e) (ends last o r.before F G k b gk d.swept s.stops) in
     record {
       swept = subst (λ (H : PrenexFormula). IsSwept H) (sym gk) d.swept;
       before = b;
       after = a ∙ ap (λ (H : PrenexFormula). measure_of o.bounds H) (sym g);
-      ending = subst (λ (x : Ending). EndsAs x o F G) (sym e) (ends last o r.before F G k b gk d.swept s);
+      ending = how;
+      spent = spent-exactly r.ending o F G how;
+      moves = subst (λ (n : ℕ). MovesTo o.bounds o.budget n (swept F) G) b (subst (λ (H : PrenexFormula). MovesTo o.bounds o.budget r.before H G) start (subst (λ (H : PrenexFormula). MovesTo o.bounds o.budget r.before (formula_in j) H) (sym gk) s.moves));
       readable = read G (subst (λ (H : PrenexFormula). IsProper H) (sym g) w.proper) (subst (λ (H : PrenexFormula). IsInLimits standard H) (sym gk) d.limits);
     }
 

@@ -1,3 +1,4 @@
+pub mod Moves
 pub mod Stops
 pub mod Logs
 pub mod Results

@@ -6,7 +6,7 @@ use Rattle.q_logic.specs.Formulas.{Matrix, PrenexFormula}
 use Rattle.q_logic.specs.Limits.{standard}
 use Rattle.q_logic.specs.Measure.{measure_of}
 use Rattle.q_logic.specs.Steps.{ProofStep}
-use Rattle.q_logic.specs.Sweep.{IsSwept, falsity}
+use Rattle.q_logic.specs.Sweep.{IsSwept, falsity, swept as sweep_of}
 use Rattle.q_logic.specs.Runs.{Run}
 use Rattle.q_logic.specs.Truth.{Holds}
 use Rattle.q_io.specs.Files.{Disk, OthersStay, bytes_at}
@@ -22,6 +22,7 @@ use Rattle.q_simplify.specs.declared.stop.Stop.TheVariants as stop
 use Rattle.q_sched.specs.Settled.{IsSettled}
 use Rattle.q_sched.specs.Drives.{IsSpentAt}
 use Rattle.q_simplify.specs.Logs.{MayHoldSteps}
+use Rattle.q_simplify.specs.Moves.{MovesTo}
 
 -- how it ends, by why no further turn comes and by the clauses that are left
 abbrev pub by_clauses : Matrix → Ending
@@ -40,12 +41,19 @@ EndsAs ending.True o F G = IsSettled o.bounds G × (G.matrix ≡ [])
 EndsAs ending.False o F G = IsSettled o.bounds G × (G ≡ falsity)
 EndsAs ending.Spent o F G = (¬ IsSettled o.bounds G) × IsSpentAt o.budget (measure_of o.bounds F) (measure_of o.bounds G)
 
+abbrev pub SaysSpent : Ending → Type 0
+SaysSpent e = e ≡ ending.Spent
+
 -- the report is that of F and of the swept G, and G is the formula of its text
 pub record IsReport (o : Options) (F : PrenexFormula) (r : Report) (G : PrenexFormula) : Type 0 where
   pub swept : IsSwept G
   pub before : r.before ≡ measure_of o.bounds F
   pub after : r.after ≡ measure_of o.bounds G
   pub ending : EndsAs r.ending o F G
+  -- it says that the budget is spent exactly where it is and some target applies
+  pub spent : SaysSpent r.ending ↔ (IsSpentAt o.budget (measure_of o.bounds F) (measure_of o.bounds G) × ¬ IsSettled o.bounds G)
+  -- targets were taken from F, swept, on, each where the budget was not yet spent
+  pub moves : MovesTo o.bounds o.budget (measure_of o.bounds F) (sweep_of F) G
   pub readable : Dimacs standard (formula_text G) G
 
 -- the file of the log holds the text of a run from F to G; the steps are those of their text

@@ -3,7 +3,7 @@ ghost use Rattle.std.specs.Prelude.{◌≤◌, ◌^◌, IfOk};
 ghost use Rattle.q_kernel.specs.Taking.{AreModest, IsReady};
 ghost use Rattle.q_reduce.specs.Lent.{IsFitFor};
 ghost use Rattle.q_sched.specs.Seen.{seen, lent};
-ghost use Rattle.q_simplify.specs.Stops.{Stops};
+ghost use Rattle.q_simplify.specs.Stops.{TurnsEnd};
 ghost use Rattle.q_simplify.specs.Logs.{LogGoesOn};
 
 use crate::log_file::flush;
@@ -26,7 +26,7 @@ pub(crate) fn take_turns<F: Files>(
     requires ready { IsReady kernel.old }
     requires fit { IsFitFor kernel.old (lent drive.old) }
     ensures ready { IsReady kernel.new }
-    ensures stops { IfOk result (λ t. Stops t (seen (λ b. (⟦<dyn Guide as Guide>⟧ b.vtable).asked b.value) (λ b. (⟦<dyn Guide as Guide>⟧ b.vtable).last b.value) drive.old).bounds (seen (λ b. (⟦<dyn Guide as Guide>⟧ b.vtable).asked b.value) (λ b. (⟦<dyn Guide as Guide>⟧ b.vtable).last b.value) drive.old).budget (seen (λ b. (⟦<dyn Guide as Guide>⟧ b.vtable).asked b.value) (λ b. (⟦<dyn Guide as Guide>⟧ b.vtable).last b.value) drive.old).first_measure kernel.new) }
+    ensures stops { IfOk result (λ t. TurnsEnd t (seen (λ b. (⟦<dyn Guide as Guide>⟧ b.vtable).asked b.value) (λ b. (⟦<dyn Guide as Guide>⟧ b.vtable).last b.value) (λ b. (⟦<dyn Guide as Guide>⟧ b.vtable).heard b.value) drive.old).bounds (seen (λ b. (⟦<dyn Guide as Guide>⟧ b.vtable).asked b.value) (λ b. (⟦<dyn Guide as Guide>⟧ b.vtable).last b.value) (λ b. (⟦<dyn Guide as Guide>⟧ b.vtable).heard b.value) drive.old).budget (seen (λ b. (⟦<dyn Guide as Guide>⟧ b.vtable).asked b.value) (λ b. (⟦<dyn Guide as Guide>⟧ b.vtable).last b.value) (λ b. (⟦<dyn Guide as Guide>⟧ b.vtable).heard b.value) drive.old).first_measure kernel.old kernel.new) }
     ensures goes_on { LogGoesOn F.held F.read_faults F.write_faults log.now result kernel.old kernel.new files.old files.new }
 {
     loop {
@@ -52,7 +52,7 @@ pub(crate) fn follow<F: Files>(
     requires bounds { AreModest options.now.bounds }
     requires first { first ≤ 2 ^ 60 }
     ensures ready { IsReady kernel.new }
-    ensures stops { IfOk result (λ t. Stops t options.now.bounds options.now.budget first kernel.new) }
+    ensures stops { IfOk result (λ t. TurnsEnd t options.now.bounds options.now.budget first kernel.old kernel.new) }
     ensures goes_on { LogGoesOn F.held F.read_faults F.write_faults log.now result kernel.old kernel.new files.old files.new }
 {
     let mut drive = Drive::start(guides, options.bounds, options.budget, first);

@@ -12,13 +12,13 @@ use std::alloc::Global;
 // The greatest bound that an option can set.
 const MOST: u32 = 10_000;
 
-/// Proposes what may apply by the last changes, and answers `Done` where nothing is left, or where memory is wanting. All that
-/// it keeps is its own.
+/// Proposes what may apply by the last changes, and answers `Done` where nothing is left. All that it keeps is its own.
 #[derive(Drop)]
 pub struct Touched {
     strategy: Strategy,
     asked: u64,
     last: Proposal,
+    heard: bool,
 }
 
 impl Touched {
@@ -36,6 +36,7 @@ impl Touched {
             strategy: Strategy::new(alloc, modest),
             asked: 0,
             last: Proposal::Done,
+            heard: false,
         }
     }
 }
@@ -43,7 +44,8 @@ impl Touched {
 fn answer_of(found: Result<Option<Move>, NoMemory>) -> Proposal {
     match found {
         Ok(Some(target)) => Proposal::Take(target),
-        _ => Proposal::Done,
+        Ok(None) => Proposal::Done,
+        Err(NoMemory) => Proposal::NoMemory,
     }
 }
 
@@ -52,6 +54,8 @@ impl Guide for Touched {
 
     ghost last = { λ g. g.last };
 
+    ghost heard = { λ g. g.heard };
+
     fn propose(&mut self, kernel: &Kernel) -> Proposal {
         self.asked = self.asked.saturating_add(1);
         self.last = answer_of(self.strategy.next(kernel));
@@ -59,6 +63,7 @@ impl Guide for Touched {
     }
 
     fn told(&mut self, taken: bool) {
+        self.heard = taken;
         if taken {
             self.strategy.moved();
         }

@@ -4,8 +4,8 @@ use Rattle.q_sched.proofs.asking.ask_last.Goals as goal
 
 pub returns-in_err-outcome-clause-err_list : goal.returns-in_err-outcome-clause-err_list
 returns-in_err-outcome-clause-err_list g c =
-    on_err _ (asks_last _ _ c.args.waiting.now.items _ c.index_mut.result.now c.consult.new.guide _ (omega (arith, c.len-last_place.ensures)) c.index_mut.ensures.value c.in_err-outcome.ensures.rises tt)
+    on_err _ (asks_last _ _ _ c.args.waiting.now.items _ c.index_mut.result.now c.consult.new.guide _ (omega (arith, c.len-last_place.ensures)) c.index_mut.ensures.value c.in_err-outcome.ensures.rises tt)
 
 pub returns-clause-asks : goal.returns-clause-asks
 returns-clause-asks g c =
-    asks_last _ _ c.args.waiting.now.items _ c.index_mut.result.now c.consult.new.guide _ (omega (arith, c.len-last_place.ensures)) c.index_mut.ensures.value c.in_ok-outcome.ensures.rises c.in_ok-outcome.ensures.outcome
+    asks_last _ _ _ c.args.waiting.now.items _ c.index_mut.result.now c.consult.new.guide _ (omega (arith, c.len-last_place.ensures)) c.index_mut.ensures.value c.in_ok-outcome.ensures.rises c.in_ok-outcome.ensures.outcome

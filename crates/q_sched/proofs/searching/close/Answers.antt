@@ -1,6 +1,5 @@
-use Rattle.q_sched.proofs.Targets.{some-not_done}
 use Rattle.q_sched.proofs.searching.close.Goals as goal
 
 pub returns-in-Ok-Some-clause-closes : goal.returns-in-Ok-Some-clause-closes
 returns-in-Ok-Some-clause-closes c =
-    some-not_done c.args.bounds.now c.args.kernel.now c.in-Ok-Some.field-0-0 (c.in-Ok-Some.ensures.finds.some c.in-Ok-Some.field-0-0 c.in-Ok-Some.field-0-is).1
+    λ d. d _ (c.in-Ok-Some.ensures.finds.some c.in-Ok-Some.field-0-0 c.in-Ok-Some.field-0-is).1

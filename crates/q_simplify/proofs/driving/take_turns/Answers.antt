@@ -3,7 +3,7 @@ use Rattle.std.proofs.lemmas.Result.{err_from_is_err_and}
 use Rattle.q_io.specs.declared.error.DeviceError.TheVariants.{NoMemory}
 use Rattle.q_io.proofs.Counts.{later_still, rose_later}
 use Rattle.q_simplify.proofs.Logging.{has_log-left, stopped}
-use Rattle.q_simplify.proofs.Turned.{has_log-turned, ready-flushed, fit-flushed}
+use Rattle.q_simplify.proofs.Turned.{has_log-turned, moves-turned, moves-flushed, stops-settled, stops-spent, ready-flushed, fit-flushed}
 use Rattle.q_simplify.proofs.driving.take_turns.Goals as goal
 
 pub returns-in_err-turn-clause-goes_on : goal.returns-in_err-turn-clause-goes_on
@@ -30,6 +30,7 @@ loop-files-preserved-in-Continue-branch-3 g c =
         first_measure = c.in_ok-turn.ensures.turned.frame.first_measure ∙ c.loop-files.invariant.frame.first_measure;
       };
       ready = ready-flushed c.turn.new.kernel c.flush.new.kernel c.flush.ensures.prefix c.flush.ensures.clauses c.turn.ensures.ready;
+      moves = moves-flushed _ _ _ _ c.turn.new.kernel c.flush.new.kernel c.flush.ensures.prefix c.flush.ensures.clauses (moves-turned c.in_ok-turn.field-0 _ _ _ c.loop-files.kernel c.turn.new.kernel c.loop-files.invariant.frame c.in_ok-turn.ensures.turned.ends c.loop-files.invariant.moves);
       fit = fit-flushed c.turn.new.kernel c.flush.new.kernel _ c.flush.ensures.prefix c.flush.ensures.clauses c.turn.ensures.fit;
       log = λ G first h. c.in_ok-flush-in-Moved.ensures.goes_on.log G first (has_log-turned c.in_ok-turn.field-0 _ G c.args.log.now first c.loop-files.kernel c.turn.new.kernel (g.F.Files.held c.loop-files.files) c.in_ok-turn.ensures.turned.ends (c.loop-files.invariant.log G first h));
       later = later_still _ _ _ _ _ c.loop-files.invariant.later c.in_ok-flush-in-Moved.ensures.goes_on.later;
@@ -44,6 +45,7 @@ loop-files-preserved g c =
         first_measure = c.in_ok-turn.ensures.turned.frame.first_measure ∙ c.loop-files.invariant.frame.first_measure;
       };
       ready = c.turn.ensures.ready;
+      moves = moves-turned c.in_ok-turn.field-0 _ _ _ c.loop-files.kernel c.turn.new.kernel c.loop-files.invariant.frame c.in_ok-turn.ensures.turned.ends c.loop-files.invariant.moves;
       fit = c.turn.ensures.fit;
       log = λ G first h. has_log-turned c.in_ok-turn.field-0 _ G c.args.log.now first c.loop-files.kernel c.turn.new.kernel (g.F.Files.held c.loop-files.files) c.in_ok-turn.ensures.turned.ends (c.loop-files.invariant.log G first h);
       later = c.loop-files.invariant.later;
@@ -66,3 +68,11 @@ returns-in-Spent-clause-goes_on g c =
       cause = λ e. cc;
       later = c.loop-files.invariant.later;
     }
+
+pub returns-in-Settled-clause-stops : goal.returns-in-Settled-clause-stops
+returns-in-Settled-clause-stops g c =
+    stops-settled c.in_ok-turn.field-0 _ _ c.args.kernel.now c.loop-files.kernel c.turn.new.kernel c.in-Settled.is c.loop-files.invariant.frame c.in_ok-turn.ensures.turned.ends c.loop-files.invariant.moves
+
+pub returns-in-Spent-clause-stops : goal.returns-in-Spent-clause-stops
+returns-in-Spent-clause-stops g c =
+    stops-spent c.in_ok-turn.field-0 _ _ c.args.kernel.now c.loop-files.kernel c.turn.new.kernel c.in-Spent.is c.loop-files.invariant.frame c.in_ok-turn.ensures.turned.ends c.loop-files.invariant.moves

@@ -36,8 +36,8 @@ returns-in_err-formula-clause-log_left g c =
 
 pub returns-clause-report : goal.returns-clause-report
 returns-clause-report g c =
-    reports c.written_within_limits_is_read.ensures c.args.options.now (formula_in c.args.kernel.now) c.in_ok-formula.formula c.follow.new.kernel c.flush.new.kernel c.in_ok-last.last (record { ending = c.ending_of.result; before = c.first_measure-before.result; after = c.measure.result })
-    c.follow.ensures.ready c.in_ok-last.ensures.stops c.flush.ensures.prefix c.flush.ensures.clauses c.sound.ensures c.in_ok-formula.ensures c.first_measure-before.ensures.value c.measure.ensures c.ending_of.ensures
+    reports c.written_within_limits_is_read.ensures c.args.options.now (formula_in c.args.kernel.now) c.in_ok-formula.formula c.sweep.new.self c.follow.new.kernel c.flush.new.kernel c.in_ok-last.last (record { ending = c.ending_of.result; before = c.first_measure-before.result; after = c.measure.result })
+    c.in_ok-sweep.ensures.formula c.follow.ensures.ready c.in_ok-last.ensures.stops c.flush.ensures.prefix c.flush.ensures.clauses c.sound.ensures c.in_ok-formula.ensures c.first_measure-before.ensures.value c.measure.ensures c.ending_of.ensures
 
 pub returns-clause-log : goal.returns-clause-log
 returns-clause-log g c =

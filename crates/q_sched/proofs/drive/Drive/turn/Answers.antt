@@ -7,10 +7,10 @@ pub returns-then-is_empty-clause-turned : goal.returns-then-is_empty-clause-turn
 returns-then-is_empty-clause-turned g c =
     let w = c.args.self.now.waiting in
     let len = w.ok.0 in
-    turned-by_search _ _ _ _ (search rules) (no_guides _ _ w.items (grind (arith, nat_tests))) c.search.ensures.searches
+    turned-by_search _ _ _ _ (search rules) (no_guides _ _ _ w.items (grind (arith, nat_tests))) c.search.ensures.searches
 
 pub returns-clause-turned : goal.returns-clause-turned
 returns-clause-turned g c =
     let w = c.args.self.now.waiting in
     let len = w.ok.0 in
-    turned-by_guide _ _ _ _ _ (search rules) (some_guides _ _ w.items (λ e. grind (arith, nat_tests))) (search rules) c.ask_first.ensures.asks
+    turned-by_guide _ _ _ _ _ (search rules) (some_guides _ _ _ w.items (λ e. grind (arith, nat_tests))) (search rules) c.ask_first.ensures.asks

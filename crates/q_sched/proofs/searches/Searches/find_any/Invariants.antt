@@ -1,5 +1,5 @@
 use Rattle.q_reduce.specs.Lent.{IsFitFor}
-use Rattle.q_sched.proofs.Targets.{NoneBelow}
+use Rattle.q_sched.specs.Searching.{NoneBelow}
 use Rattle.q_sched.proofs.searches.Searches.find_any.Given as goal
 
 abbrev pub invariant-loop-place : goal.invariant-loop-place
