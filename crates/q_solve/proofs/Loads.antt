@@ -1,10 +1,10 @@
 -- Clauses that are counted and entered.
-use Rattle.std.proofs.Common.{IsTrue, ◌↔◌, not, ◌≡◌, ℕ, zero, suc, ◌+◌, ◌<◌, ◌≤◌, inl, inr, Bool, true, false, cond, ◌&&◌, eqb, List, [], ◌∷◌, ◌++◌, length, drop, get_or, slice_get, Some, refl, sym, ap, ◌∙◌, subst, arith}
+use Rattle.std.proofs.Common.{IsTrue, ◌↔◌, not, ◌≡◌, ℕ, suc, ◌+◌, ◌<◌, ◌≤◌, inl, inr, Bool, true, false, cond, ◌&&◌, eqb, List, [], ◌∷◌, ◌++◌, length, drop, get_or, slice_get, Some, refl, sym, ap, ◌∙◌, subst, arith}
 use Rattle.std.proofs.lemmas.Bool.{cases_lt, cases_eq}
 use Rattle.std.proofs.lemmas.List.{get_or_past, length_push, get_or_push, get_or_append_left}
-use Rattle.std.proofs.lemmas.Option.{get_or_from_slice_get, slice_get_within}
+use Rattle.std.proofs.lemmas.Option.{get_or_from_slice_get}
 use Rattle.q_logic.specs.Literals.{Literal, literal_eq, bool_eq, negation}
-use Rattle.q_logic.specs.Formulas.{Clause, Matrix, Prefix, PrenexFormula, IsIn}
+use Rattle.q_logic.specs.Formulas.{Clause, Prefix, PrenexFormula, IsIn}
 use Rattle.q_logic.specs.Prefixes.{is_bound, place}
 use Rattle.q_logic.specs.Sets.{has, is_tautology, IsTautology}
 use Rattle.q_logic.specs.declared.verdict.Standing.{Standing}
@@ -17,10 +17,10 @@ use Rattle.q_logic.proofs.Sets.{is_tautology-sound}
 use Rattle.q_search.specs.Paths.{along, rest_of}
 use Rattle.q_search.proofs.Seating.{drop-step, drop-none}
 use Rattle.q_counts.specs.declared.counts.Count.{Count}
-use Rattle.q_counts.specs.Counting.{if_so, is_chosen, how_many, count_of, times, times_in, clause_at, count_at, row_at, AreCounts, IsGrown}
+use Rattle.q_counts.specs.Counting.{if_so, is_chosen, how_many, count_of, times, times_in, clause_at, count_at, row_at, IsGrown}
 use Rattle.q_counts.proofs.Moving.{times-append, none-and, so-few}
 use Rattle.q_solve.specs.declared.sides.Sides.{Sides}
-use Rattle.q_solve.specs.Counted.{side, row_of, AreHeld, AreSmall, IsCounted}
+use Rattle.q_solve.specs.Counted.{side, row_of, IsCounted}
 
 -- variables of a prefix stand at different places
 same-place : (P : Prefix) (x y : ℕ) → is_bound P x ≡ true → is_bound P y ≡ true → place P x ≡ place P y → x ≡ y

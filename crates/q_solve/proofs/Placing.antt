@@ -1,5 +1,5 @@
 -- What is known of a literal whose variable has no value.
-use Rattle.std.proofs.Common.{◌≡◌, ◌<◌, ◌≤◌, Bool, true, false, cond, not, List, length, get_or, refl}
+use Rattle.std.proofs.Common.{◌≡◌, ◌≤◌, Bool, true, cond, not, List, length, get_or, refl}
 use Rattle.q_logic.specs.declared.formulas.Quant.{Quant}
 use Rattle.q_logic.specs.declared.formulas.Quant.TheVariants.{Exists, Forall}
 use Rattle.q_logic.specs.declared.formulas.Bound.{Bound}

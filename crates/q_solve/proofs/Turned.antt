@@ -1,11 +1,11 @@
 -- A variable gets a value, or loses it.
-use Rattle.std.proofs.Common.{◌≡◌, ℕ, suc, ◌+◌, ◌<◌, ◌≤◌, Bool, true, false, cond, not, ◌&&◌, eqb, List, [], ◌∷◌, ◌++◌, length, drop, get_or, refl, sym, ap, ◌∙◌, subst, arith}
+use Rattle.std.proofs.Common.{◌≡◌, ℕ, ◌≤◌, Bool, true, false, cond, not, ◌&&◌, eqb, List, [], ◌∷◌, ◌++◌, length, refl, sym, ap, ◌∙◌, subst, arith}
 use Rattle.q_logic.specs.declared.formulas.Quant.{Quant}
 use Rattle.q_logic.specs.declared.formulas.Quant.TheVariants.{Exists, Forall}
 use Rattle.q_logic.specs.declared.formulas.Bound.{Bound}
-use Rattle.q_logic.specs.Literals.{Literal, literal_eq, bool_eq}
-use Rattle.q_logic.specs.Formulas.{Matrix, Prefix, PrenexFormula}
-use Rattle.q_logic.specs.Prefixes.{is_exists, is_bound, is_universal, place, Distinct}
+use Rattle.q_logic.specs.Literals.{Literal, bool_eq}
+use Rattle.q_logic.specs.Formulas.{Prefix, PrenexFormula}
+use Rattle.q_logic.specs.Prefixes.{is_exists, is_bound, is_universal, Distinct}
 use Rattle.q_logic.specs.Truth.{Assignment, with_value, literal_true, signed}
 use Rattle.q_logic.specs.declared.verdict.Standing.{Standing}
 use Rattle.q_logic.specs.declared.verdict.Standing.TheVariants.{True, False, Chosen, Free}
@@ -19,7 +19,7 @@ use Rattle.q_counts.proofs.Shifting.{can-shift, counts-shifted, counts-same}
 use Rattle.q_solve.specs.declared.places.Known.{Known}
 use Rattle.q_solve.specs.declared.sides.Sides.{Sides}
 use Rattle.q_solve.specs.Places.{open_to, known_open, known_value}
-use Rattle.q_solve.specs.Counted.{side, row_of, turned, IsAt, IsCounted}
+use Rattle.q_solve.specs.Counted.{side, turned, IsAt, IsCounted}
 use Rattle.q_solve.proofs.Waits.{place-here, rest-bound}
 
 abbrev plain : ℕ → Bool → Literal

@@ -1,5 +1,5 @@
 -- The counts of a node's clauses, and the clauses of each literal.
-use Rattle.std.specs.Prelude.{◌≡◌, ◌<◌, ◌≤◌, ℕ, Bool, true, false, cond, eqb, List, [], ◌∷◌, length}
+use Rattle.std.specs.Prelude.{◌≡◌, ◌<◌, ◌≤◌, ℕ, Bool, true, false, cond, eqb, List, length}
 use Rattle.q_logic.specs.Literals.{Literal}
 use Rattle.q_logic.specs.Formulas.{Matrix, Prefix, PrenexFormula}
 use Rattle.q_logic.specs.Prefixes.{is_bound, place}

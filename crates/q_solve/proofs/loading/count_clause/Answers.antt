@@ -1,4 +1,4 @@
-use Rattle.std.proofs.Common.{◌≡◌, [], length, arith}
+use Rattle.std.proofs.Common.{[]}
 use Rattle.q_logic.specs.Searching.{nothing}
 use Rattle.q_logic.specs.Decisions.{standing}
 use Rattle.q_logic.proofs.Members.{item-in}

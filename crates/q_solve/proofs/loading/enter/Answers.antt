@@ -1,6 +1,6 @@
-use Rattle.std.proofs.Common.{◌≡◌, ℕ, Bool, ◌++◌, ◌∷◌, [], cond, ◌&&◌, eqb, sym, ap, ◌∙◌, subst, arith}
+use Rattle.std.proofs.Common.{◌≡◌, ℕ, Bool, ◌++◌, ◌∷◌, [], cond, ◌&&◌, eqb, ap, ◌∙◌, arith}
 use Rattle.q_logic.specs.Literals.{bool_eq}
-use Rattle.q_logic.specs.Prefixes.{place, is_bound}
+use Rattle.q_logic.specs.Prefixes.{place}
 use Rattle.q_logic.proofs.Members.{item-in}
 use Rattle.q_search.specs.Seats.{seat}
 use Rattle.q_search.proofs.Seating.{place-bound}

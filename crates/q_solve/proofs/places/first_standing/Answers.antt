@@ -1,4 +1,4 @@
-use Rattle.std.proofs.Common.{◌≡◌, ◌≤◌, [], get_or, ap, ◌∙◌, arith}
+use Rattle.std.proofs.Common.{◌≡◌, [], get_or, ap, ◌∙◌, arith}
 use Rattle.q_logic.specs.declared.formulas.Quant.TheVariants.{Exists}
 use Rattle.q_logic.specs.Prefixes.{place}
 use Rattle.q_search.specs.Seats.{seat}

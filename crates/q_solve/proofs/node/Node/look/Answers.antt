@@ -1,11 +1,9 @@
-use Rattle.std.proofs.Common.{◌≡◌, ◌<◌, inl, inr, length, ap, sym, ◌∙◌, subst}
+use Rattle.std.proofs.Common.{◌≡◌, inl, inr, length, ap, sym, ◌∙◌, subst}
 use Rattle.std.proofs.lemmas.Bool.{cases_lt}
 use Rattle.q_logic.specs.Formulas.{Prefix}
-use Rattle.q_logic.specs.declared.verdict.Verdict.TheVariants.{Open}
 use Rattle.q_logic.specs.Decisions.{verdict}
 use Rattle.q_logic.proofs.Winning.{closed-end}
 use Rattle.q_search.proofs.Seating.{rest-none}
-use Rattle.q_counts.specs.Counting.{verdict_of}
 use Rattle.q_counts.proofs.Telling.{counts-told}
 use Rattle.q_solve.specs.Places.{Spot, unset, values}
 use Rattle.q_solve.proofs.node.Node.look.Goals as goal
