@@ -1,0 +1,57 @@
+#!/usr/bin/env python3
+"""A formula and circuits for `validate` that need a search over so many inputs.
+
+  certificates.py USED ALL GATES IN CERT [SEED]
+
+ALL universals, of which the first USED decide: one existential is their parity, another its negation, and a clause asks that one
+of them holds, so that it stays open until all of these have values. The other gates are random ands of earlier literals and of the
+first USED inputs, a fifth of them parts of exclusive ors; ten existentials, in no clause that could be false, are the last of them.
+The circuits are Skolem functions: `validate` answers `valid` after 2 to the USED - 1 branches.
+"""
+import random
+import sys
+
+
+def main():
+    used, all_, gates = (int(x) for x in sys.argv[1:4])
+    rng = random.Random(sys.argv[6] if len(sys.argv) > 6 else "1")
+    lines, top = [], all_
+
+    def gate(a, b):
+        nonlocal top
+        top += 1
+        lines.append((2 * top, a, b))
+        return 2 * top
+
+    def xor(a, b):
+        return gate(gate(a, b) ^ 1, gate(a ^ 1, b ^ 1) ^ 1)
+
+    parity = 2
+    for k in range(2, used + 1):
+        parity = xor(parity, 2 * k)
+    pool = [2 * k for k in range(1, used + 1)]
+    while len(lines) + 3 <= gates:
+        a, b = rng.choice(pool[-5000:]) ^ rng.getrandbits(1), rng.choice(pool[-5000:]) ^ rng.getrandbits(1)
+        pool.append(xor(a, b) if rng.random() < 0.08 else gate(a, b))
+    while len(lines) < gates:
+        pool.append(gate(pool[-1], pool[-2]))
+    outs = [parity, parity ^ 1] + pool[-10:]
+    first = all_ + 1
+    with open(sys.argv[4], "w") as f:
+        names = range(first, first + len(outs))
+        f.write(f"p cnf {all_ + len(outs)} {1 + len(outs) - 2}\n")
+        f.write("a " + " ".join(str(k) for k in range(1, all_ + 1)) + " 0\n")
+        f.write("e " + " ".join(str(k) for k in names) + " 0\n")
+        f.write(f"{first} {first + 1} 0\n")
+        for k in list(names)[2:]:
+            f.write(f"{first} {first + 1} {k} 0\n")
+    with open(sys.argv[5], "w") as f:
+        f.write(f"aag {top} {all_} 0 {len(outs)} {len(lines)}\n")
+        f.writelines(f"{2 * k}\n" for k in range(1, all_ + 1))
+        f.writelines(f"{o}\n" for o in outs)
+        f.writelines(f"{g} {max(a, b)} {min(a, b)}\n" for g, a, b in lines)
+        f.writelines(f"i{k} {k + 1}\n" for k in range(all_))
+        f.writelines(f"o{k} {first + k}\n" for k in range(len(outs)))
+
+
+main()
