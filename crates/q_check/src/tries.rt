@@ -1,14 +1,15 @@
 //! The steps of a log without hints: each is judged on a formula in slots, and taken where it is valid.
 //! A refusal carries the least cause, and leaves the formula as it was.
-ghost use Rattle.std.specs.Prelude.{◌≡◌, ◌<◌, ◌≤◌, ◌^◌, Bool};
+ghost use Rattle.std.specs.Prelude.{◌≡◌, ◌<◌, ◌≤◌, ◌^◌, Bool, true, false};
 ghost use Rattle.q_logic.specs.Literals.{IsBelow};
 ghost use Rattle.q_logic.specs.Formulas.{IsIn};
 ghost use Rattle.q_logic.specs.Limits.{AreModerate};
 ghost use Rattle.q_logic.specs.Parts.{ArePairs};
 ghost use Rattle.q_logic.specs.Pivots.{without};
 ghost use Rattle.q_logic.specs.StepForms.{IsFirst, first_of};
-ghost use Rattle.q_logic.specs.Steps.{add, delete, drop_literal, fresh, remove_variable};
+ghost use Rattle.q_logic.specs.Steps.{Within, add, delete, drop_literal, fresh, remove_variable};
 ghost use Rattle.q_logic.specs.declared.limits.Limits.{Limits as AnyLimits};
+ghost use Rattle.q_prop.specs.Slots.{Holds};
 ghost use Rattle.q_judge.specs.Ledgers.{formula_in};
 ghost use Rattle.q_judge.specs.Tried.{IsTried};
 
@@ -33,7 +34,7 @@ pub fn add(
     if !binds_all(ledger.scope(), clause) {
         return Err(Cause::Unbound.refusal());
     }
-    ledger.warrant(None, clause, first)?;
+    ledger.permit(None, clause, first)?;
     if !ledger.has_room(limits, clause) {
         return Err(Cause::Limit.refusal());
     }
@@ -52,11 +53,47 @@ pub fn delete(
     ensures { (m : AnyLimits) → IsTried keep m (formula_in ledger.old) (delete (first_of lits.now) clause.now) (formula_in ledger.new) result }
 {
     let at = slot_of(ledger.scope(), ledger.store(), clause)?;
+    if keep {
+        delete_noted(ledger, at, clause, lits)
+    } else {
+        delete_permitted(ledger, at, clause, lits)
+    }
+}
+
+// The clause in a slot goes, and its entry is answered. Whether the clause is implied decides the entry.
+fn delete_noted(
+    ledger: &mut Ledger,
+    at: usize,
+    clause: &[Lit],
+    lits: &[Lit],
+) -> Result<Option<Undo>, CheckError>
+    requires within { Within ledger.old.prefix clause.now }
+    requires there { Holds ledger.old.slots at clause.now }
+    requires first { IsFirst (first_of lits.now) clause.now }
+    ensures { (m : AnyLimits) → IsTried true m (formula_in ledger.old) (delete (first_of lits.now) clause.now) (formula_in ledger.new) result }
+{
     let warrant = ledger.warrant(Some(at), clause, first_lit(lits))?;
-    let pivot = kept_pivot(keep, warrant, first_lit(lits));
+    let pivot = kept_pivot(true, warrant, first_lit(lits));
     let entry = ledger.pivot_entry(at, pivot)?;
     ledger.delete(at, clause);
     Ok(entry)
+}
+
+// The clause in a slot goes, and nothing is noted.
+fn delete_permitted(
+    ledger: &mut Ledger,
+    at: usize,
+    clause: &[Lit],
+    lits: &[Lit],
+) -> Result<Option<Undo>, CheckError>
+    requires within { Within ledger.old.prefix clause.now }
+    requires there { Holds ledger.old.slots at clause.now }
+    requires first { IsFirst (first_of lits.now) clause.now }
+    ensures { (m : AnyLimits) → IsTried false m (formula_in ledger.old) (delete (first_of lits.now) clause.now) (formula_in ledger.new) result }
+{
+    ledger.permit(Some(at), clause, first_lit(lits))?;
+    ledger.delete(at, clause);
+    Ok(None)
 }
 
 /// A clause loses a literal. `rest` is the clause without it.

@@ -1,6 +1,6 @@
 //! A formula under change: its prefix in a scope and its clauses in slots, with all that the tests of steps need.
 //! Whether a step may be taken is asked before; a change asks only for what keeps a formula one.
-ghost use Rattle.std.specs.Prelude.{◌≡◌, ◌↔◌, ◌<◌, ◌+◌, ◌^◌, ◌∷◌, ◌++◌, [], true, false, None, Some, length, slice_set, IfOk, IfErr, OnOk, OnErr, IsTrue, MatchBool};
+ghost use Rattle.std.specs.Prelude.{◌≡◌, ◌↔◌, ◌<◌, ◌+◌, ◌^◌, ◌∷◌, ◌++◌, [], true, false, None, Some, Err, length, slice_set, IfOk, IfErr, OnOk, OnErr, IsTrue, MatchBool};
 ghost use Rattle.q_logic.specs.Formulas.{Clause, IsIn};
 ghost use Rattle.q_logic.specs.Hints.{Chained};
 ghost use Rattle.q_logic.specs.Limits.{AreModerate};
@@ -13,7 +13,7 @@ ghost use Rattle.q_logic.specs.Propagation.{Implied};
 ghost use Rattle.q_logic.specs.Reach.{Reducible};
 ghost use Rattle.q_logic.specs.Runs.{SameFormula};
 ghost use Rattle.q_logic.specs.StepForms.{IsFirst};
-ghost use Rattle.q_logic.specs.Steps.{Within, KeepsLimits, IsAbsent, IsDroppable, insert_after, removed_from, literals_in};
+ghost use Rattle.q_logic.specs.Steps.{IsWarranted, Within, KeepsLimits, IsAbsent, IsDroppable, insert_after, removed_from, literals_in};
 ghost use Rattle.q_logic.specs.Undos.{OutersOf};
 ghost use Rattle.q_prop.specs.Slots.{filled, Holds, IsPut};
 ghost use Rattle.q_prop.specs.Slots.{without as without_slot};
@@ -24,7 +24,7 @@ ghost use Rattle.q_judge.specs.Warrants.{IsAnswered, Resolves};
 
 use crate::checks::{compare, has_room, sum_of};
 use crate::error::CheckError;
-use crate::pivots::{Buffers, Warrant, push_outer, resolves, warrant_of};
+use crate::pivots::{Buffers, Warrant, permit_of, push_outer, resolves, warrant_of};
 use crate::reach::{is_droppable, reduces};
 use crate::recent::RecentRegions;
 use crate::scope::Scope;
@@ -174,6 +174,30 @@ impl Ledger {
         ensures exact { IsAnswered self.old.prefix (filled (without_slot self.old.slots skip)) clause.now first result }
     {
         warrant_of(
+            &mut self.store,
+            &self.scope,
+            &mut self.buffers,
+            skip,
+            clause,
+            first,
+        )
+    }
+
+    /// Whether the clause may come or go, over the slots but one; refused where nothing speaks for it. Why is not told: a
+    /// clause that is blocked needs no propagation then.
+    pub fn permit(
+        &mut self,
+        skip: Option<usize>,
+        clause: &[Lit],
+        first: Option<Lit>,
+    ) -> Result<(), CheckError>
+        requires within { Within self.old.prefix clause.now }
+        requires first { IsFirst first clause.now }
+        ensures same { self.new ≡ self.old }
+        ensures ok { OnOk result (IsWarranted self.old.prefix (filled (without_slot self.old.slots skip)) clause.now first) }
+        ensures refused { IfErr result (λ e. IsAnswered self.old.prefix (filled (without_slot self.old.slots skip)) clause.now first (Err e)) }
+    {
+        permit_of(
             &mut self.store,
             &self.scope,
             &mut self.buffers,

@@ -2,6 +2,7 @@
 //! test answers exactly where the rule of the log's format holds; who takes the steps stands above.
 #![tactic(auto)]
 
+mod blocking;
 mod checks;
 mod error;
 mod labels;

@@ -1,14 +1,15 @@
 //! Whether a clause may come or go: implied, or by a pivot.
-ghost use Rattle.std.specs.Prelude.{◌≡◌, ◌↔◌, ◌++◌, [], true, OnOk, IfOk, IsTrue, MatchOption};
+ghost use Rattle.std.specs.Prelude.{◌≡◌, ◌↔◌, ◌++◌, [], true, Err, OnOk, IfOk, IfErr, IsTrue, MatchOption};
 ghost use Rattle.q_logic.specs.Formulas.{Clause};
 ghost use Rattle.q_logic.specs.Prefixes.{Closed, is_bound};
 ghost use Rattle.q_logic.specs.Propagation.{Implied};
 ghost use Rattle.q_logic.specs.Pivots.{keeps, outer};
-ghost use Rattle.q_logic.specs.Steps.{Within};
+ghost use Rattle.q_logic.specs.Steps.{IsWarranted, Within};
 ghost use Rattle.q_logic.specs.StepForms.{IsFirst};
 ghost use Rattle.q_prop.specs.Slots.{Holds, filled, without};
 ghost use Rattle.q_judge.specs.Warrants.{AreHolders, IsAnswered, Resolves};
 
+use crate::blocking::is_blocked_first;
 use crate::error::{Cause, CheckError};
 use crate::scope::Scope;
 use q_logic::{Lit, NoMemory};
@@ -60,8 +61,8 @@ fn collect_holders(store: &Store, lit: Lit, slots: &mut Vec<u32>) -> Result<(), 
     Ok(())
 }
 
-// Whether the literal is another one, and outer or same.
-fn is_outer(scope: &Scope, m: Lit, k: Lit) -> bool
+/// Whether the literal is another one, and outer or same.
+pub(crate) fn is_outer(scope: &Scope, m: Lit, k: Lit) -> bool
     requires first { is_bound scope.now m.var ≡ true }
     requires second { is_bound scope.now k.var ≡ true }
     ensures { result ≡ keeps scope.now m k }
@@ -177,4 +178,28 @@ pub fn warrant_of(
         return Err(Cause::Unwarranted.refusal());
     }
     Ok(Warrant::Pivot)
+}
+
+/// Whether the clause may come or go, over the slots but one; refused as by `warrant_of`. What blocks it is looked for
+/// first, since that takes no propagation.
+pub fn permit_of(
+    store: &mut Store,
+    scope: &Scope,
+    buffers: &mut Buffers,
+    skip: Option<usize>,
+    clause: &[Lit],
+    first: Option<Lit>,
+) -> Result<(), CheckError>
+    requires closed { Closed scope.now (filled store.old) }
+    requires within { Within scope.now clause.now }
+    requires first { IsFirst first clause.now }
+    ensures same { store.new ≡ store.old }
+    ensures ok { OnOk result (IsWarranted scope.now (filled (without store.old skip)) clause.now first) }
+    ensures refused { IfErr result (λ e. IsAnswered scope.now (filled (without store.old skip)) clause.now first (Err e)) }
+{
+    if is_blocked_first(store, scope, skip, clause, &first) {
+        return Ok(());
+    }
+    warrant_of(store, scope, buffers, skip, clause, first)?;
+    Ok(())
 }

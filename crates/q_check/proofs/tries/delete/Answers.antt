@@ -1,15 +1,10 @@
-use Rattle.std.proofs.Common.{Option, Some, Err, refl, sym, subst}
+use Rattle.std.proofs.Common.{Err, subst}
 use Rattle.q_logic.specs.Formulas.{Prefix}
 use Rattle.q_logic.specs.Numbered.{Slots}
 use Rattle.std.proofs.lemmas.Result.{err_from_is_err_and}
-use Rattle.q_logic.specs.Literals.{Literal}
 use Rattle.q_logic.specs.StepForms.{first_of}
-use Rattle.q_prop.specs.Slots.{filled, without}
-use Rattle.q_logic.specs.Steps.{delete}
-use Rattle.q_judge.specs.Ledgers.{Slotted, formula_in}
-use Rattle.q_judge.specs.Tried.{IsTried}
-use Rattle.q_judge.specs.Warrants.{IsAnswered, IsSlotOf}
-use Rattle.q_judge.proofs.Trying.{delete-unfound, delete-refused, delete-valid, delete-after, delete-entry, warranted}
+use Rattle.q_judge.specs.Warrants.{IsSlotOf}
+use Rattle.q_judge.proofs.Trying.{delete-unfound}
 use Rattle.q_check.proofs.tries.delete.Goals as goal
 
 pub returns-in_err-at : goal.returns-in_err-at
@@ -21,40 +16,18 @@ returns-in_err-at c m =
     let h = delete-unfound c.args.keep m L.prefix L.slots (first_of c.args.lits.now) c.args.clause.now e f in
     rw (r.1, r.2) h
 
-pub warrant-requires : goal.warrant-requires
-warrant-requires c =
+pub delete_noted-requires : goal.delete_noted-requires
+delete_noted-requires c =
     let f = rw (c.scope.ensures, c.store.ensures) at c.in_ok-at.ensures in
-    record { within = f.0; first = rw c.first_lit.ensures c.requires }
+    record { within = f.0; there = f.1; first = c.requires }
 
-pub returns-in_err-warrant : goal.returns-in_err-warrant
-returns-in_err-warrant c m =
-    let L = c.args.ledger.now in
-    let p = first_of c.args.lits.now in
-    let e = c.in_err-warrant.field-0.0 in
+pub delete_permitted-requires : goal.delete_permitted-requires
+delete_permitted-requires c =
     let f = rw (c.scope.ensures, c.store.ensures) at c.in_ok-at.ensures in
-    let r = err_from_is_err_and c.from_residual-in_err-warrant.result c.from_residual-in_err-warrant.ensures.1 in
-    let x = subst (λ (q : Option Literal). IsAnswered L.prefix (filled (without L.slots (Some c.in_ok-at.at))) c.args.clause.now q (Err e)) c.first_lit.ensures c.in_err-warrant.ensures.exact in
-    let h = delete-refused L.prefix L.slots c.in_ok-at.at c.args.clause.now f.1 c.args.keep m p e f.0 x in
-    rw (r.1, r.2) (subst (λ (M : Slotted). IsTried c.args.keep m (formula_in L) (delete p c.args.clause.now) (formula_in M) (Err e)) (sym c.in_err-warrant.ensures.same) h)
+    record { within = f.0; there = f.1; first = c.requires }
 
-pub returns-in_err-entry : goal.returns-in_err-entry
-returns-in_err-entry c m =
-    let r = err_from_is_err_and c.from_residual-in_err-entry.result c.from_residual-in_err-entry.ensures.1 in
-    rw (r.1, r.2, c.in_err-entry.ensures.same, c.in_ok-warrant.ensures.same) refl
+pub returns-then-keep : goal.returns-then-keep
+returns-then-keep c m = rw c.if-keep.true (c.delete_noted.ensures m)
 
-pub delete-requires : goal.delete-requires
-delete-requires c =
-    let f = rw (c.scope.ensures, c.store.ensures) at c.in_ok-at.ensures in
-    rw (c.in_ok-entry.ensures.same, c.in_ok-warrant.ensures.same) f.1
-
-pub returns : goal.returns
-returns c m =
-    let L = c.args.ledger.now in
-    let p = first_of c.args.lits.now in
-    let C = c.args.clause.now in
-    let n = c.in_ok-at.at in
-    let f = rw (c.scope.ensures, c.store.ensures) at c.in_ok-at.ensures in
-    let x = rw c.first_lit.ensures at c.in_ok-warrant.ensures.exact in
-    let v = delete-valid L.prefix L.slots n C f.1 m p f.0 (warranted L.prefix (filled (without L.slots (Some n))) p C c.in_ok-warrant.warrant x) in
-    let q = rw (c.kept_pivot-pivot.ensures, c.first_lit-2.ensures, c.in_ok-warrant.ensures.same) at c.in_ok-entry.ensures.exact in
-    rw (c.delete.ensures, c.in_ok-entry.ensures.same, c.in_ok-warrant.ensures.same) (v, delete-after L.prefix L.slots n C f.1 p, delete-entry L.prefix L.slots n C f.1 c.args.keep p c.in_ok-warrant.warrant c.in_ok-entry.entry x q)
+pub returns-else-keep : goal.returns-else-keep
+returns-else-keep c m = rw c.if-keep.false (c.delete_permitted.ensures m)

@@ -1,18 +1,12 @@
-use Rattle.std.proofs.Common.{◌≡◌, ℕ, true, List, [], ◌∷◌, zero, suc, ◌<◌, length, get_or, refl, sym, subst, inl, inr, arith}
+use Rattle.std.proofs.Common.{◌≡◌, ℕ, true, get_or, sym, subst, inl, inr}
 use Rattle.q_logic.specs.Formulas.{Clause, IsIn}
 use Rattle.q_logic.specs.Expanding.{inner_existential}
 use Rattle.q_logic.proofs.Membership.{Contains-IsIn}
 use Rattle.q_prop.specs.Slots.{Holds}
 use Rattle.q_logic.proofs.Members.{taken-cases, taken-all}
-use Rattle.q_judge.proofs.Slots.{in-held, one_clause}
+use Rattle.q_judge.proofs.Slots.{in-held, one_clause, whichever}
 use Rattle.q_judge.proofs.regions.Regions.part.Goals as goal
 use Rattle.q_judge.proofs.regions.Regions.part.Goals.{in-Some+else-not-has_none, in_default}
-
--- an item does not depend on what stands past the end
-whichever : (xs : List ℕ) (i d e : ℕ) → i < length xs → get_or xs i d ≡ get_or xs i e
-whichever [] i d e h = absurd (omega arith)
-whichever (x ∷ xs) zero d e h = refl
-whichever (x ∷ xs) (suc i) d e h = whichever xs i d e (omega arith)
 
 pub loop-at-init : goal.loop-at-init
 loop-at-init c n m = absurd m

@@ -1,0 +1,13 @@
+use Rattle.std.proofs.Common.{◌≡◌, true, ◌∙◌, sym, ap, subst}
+use Rattle.q_logic.specs.Literals.{Literal}
+use Rattle.q_logic.specs.Prefixes.{is_existential}
+use Rattle.q_prop.specs.Slots.{filled, without}
+use Rattle.q_judge.specs.Warrants.{Resolves}
+use Rattle.q_judge.proofs.blocking.is_blocked.Goals as goal
+
+pub returns : goal.returns
+returns c t = record {
+  existential_pivot = rw c.var.ensures.value at (sym c.is_existential.ensures ∙ c.if-not-is_existential.false);
+  in_clause = c.requires.held;
+  implied = rw c.negated.ensures at (c.all_clash.ensures t);
+}

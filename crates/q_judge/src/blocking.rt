@@ -1,0 +1,115 @@
+//! Blocked clauses: each resolvent on a literal is a tautology. That takes no propagation.
+ghost use Rattle.std.specs.Prelude.{◌≡◌, ◌++◌, true, Contains, IsTrue};
+ghost use Rattle.q_logic.specs.Formulas.{Clause, IsIn};
+ghost use Rattle.q_logic.specs.Literals.{negation};
+ghost use Rattle.q_logic.specs.Prefixes.{Closed, is_bound};
+ghost use Rattle.q_logic.specs.Pivots.{ExistsPivot, keeps, outer};
+ghost use Rattle.q_logic.specs.Sets.{IsTautology};
+ghost use Rattle.q_logic.specs.StepForms.{IsFirst};
+ghost use Rattle.q_logic.specs.Steps.{FirstPivot, Within};
+ghost use Rattle.q_prop.specs.Slots.{Holds, filled, without};
+ghost use Rattle.q_judge.specs.Warrants.{Resolves};
+
+use crate::pivots::{clause_at, is_outer, slots_of};
+use crate::scope::Scope;
+use q_logic::Lit;
+use q_prop::Store;
+
+/// Whether the first literal, if there is one, blocks the clause.
+pub fn is_blocked_first(
+    store: &Store,
+    scope: &Scope,
+    skip: Option<usize>,
+    clause: &[Lit],
+    first: &Option<Lit>,
+) -> bool
+    requires closed { Closed scope.now (filled store.now) }
+    requires within { Within scope.now clause.now }
+    requires first { IsFirst first.now clause.now }
+    ensures { IsTrue result → FirstPivot scope.now (filled (without store.now skip)) clause.now first.now }
+{
+    match first {
+        Some(pivot) => is_blocked(store, scope, skip, clause, *pivot),
+        None => false,
+    }
+}
+
+// Whether the pivot is existential, and the outer clause of each clause with its negation holds a literal whose
+// negation is in this one.
+fn is_blocked(store: &Store, scope: &Scope, skip: Option<usize>, clause: &[Lit], pivot: Lit) -> bool
+    requires closed { Closed scope.now (filled store.now) }
+    requires within { Within scope.now clause.now }
+    requires held { IsIn pivot clause.now }
+    ensures { IsTrue result → ExistsPivot scope.now (filled (without store.now skip)) clause.now pivot }
+{
+    if !scope.is_existential(pivot.var()) {
+        return false;
+    }
+    all_clash(store, scope, skip, clause, pivot.negated())
+}
+
+// Whether the clause clashes with the outer clause of each clause that holds m.
+fn all_clash(store: &Store, scope: &Scope, skip: Option<usize>, clause: &[Lit], m: Lit) -> bool
+    requires closed { Closed scope.now (filled store.now) }
+    requires bound { is_bound scope.now m.var ≡ true }
+    ensures { IsTrue result → Resolves scope.now (filled (without store.now skip)) clause.now m }
+{
+    for at in slots_of(store, m) {
+        if !clashes_at(store, scope, skip, *at as usize, clause, m) {
+            return false;
+        }
+    }
+    true
+}
+
+// Whether the clause clashes with the outer clause of that in a slot.
+fn clashes_at(
+    store: &Store,
+    scope: &Scope,
+    skip: Option<usize>,
+    at: usize,
+    clause: &[Lit],
+    m: Lit,
+) -> bool
+    requires closed { Closed scope.now (filled store.now) }
+    requires bound { is_bound scope.now m.var ≡ true }
+    ensures { IsTrue result → (d : Clause) → Holds (without store.now skip) at d → IsTautology (clause.now ++ outer scope.now m d) }
+{
+    match clause_at(store, skip, at) {
+        Some(other) => clashes(scope, clause, other, m),
+        None => true,
+    }
+}
+
+// Whether the outer clause of another one holds a literal whose negation is in the clause.
+fn clashes(scope: &Scope, clause: &[Lit], other: &[Lit], m: Lit) -> bool
+    requires bound { is_bound scope.now m.var ≡ true }
+    requires within { Within scope.now other.now }
+    ensures { IsTrue result → IsTautology (clause.now ++ outer scope.now m other.now) }
+{
+    for k in other {
+        if clashes_on(scope, clause, *k, m) {
+            return true;
+        }
+    }
+    false
+}
+
+// Whether a literal is outer or same to m, but not m, and its negation is in the clause.
+fn clashes_on(scope: &Scope, clause: &[Lit], k: Lit, m: Lit) -> bool
+    requires first { is_bound scope.now m.var ≡ true }
+    requires second { is_bound scope.now k.var ≡ true }
+    ensures { IsTrue result → (keeps scope.now m k ≡ true) × Contains clause.now (negation k) }
+{
+    is_among(clause, k.negated()) && is_outer(scope, m, k)
+}
+
+// Whether a clause in literal order holds the literal; in another order it may be missed.
+fn is_among(clause: &[Lit], lit: Lit) -> bool
+    ensures { IsTrue result → Contains clause.now lit }
+{
+    match clause.binary_search(&lit) {
+        Ok(place) => clause[place].is(lit),
+        Err(_) => false,
+    }
+}
