@@ -45,6 +45,13 @@ play_version() {
     fi
 }
 
+# What is played is an installation, so that nothing is built.
+packaging/install.sh "$work/there" || exit 1
+CELDRINN=${CELDRINN:-$work/there/bin/celdrinn}
+export CELDRINN
+if [ -x bench/sources.sh ] && [ "$(bench/sources.sh)" != "$(cat dist/SOURCES)" ]; then
+    echo "note: the released programs in dist/ were built from other sources than these"
+fi
 play_rows >"$work/rows" && count "$work/rows"
 play_version >"$work/versions" && count "$work/versions"
 tests/pages.sh README.md docs/TUTORIAL.md >"$work/pages.rows"
