@@ -1,6 +1,7 @@
 # Makes the steps of a log on a formula, without asking whether they are valid, and writes the formulas on the way: after each
 # `every` steps, and at the end. Part K of the log goes to DIR/K.qrat, the formula behind it to DIR/K.qdimacs; a step that the log
-# breaks off in is left out. Prints the number of parts, of steps, and 1 where the log breaks off inside a step, else 0.
+# breaks off in is left out. A log with hints is refused. Prints the number of parts, of steps, and 1 where the log breaks off
+# inside a step, else 0.
 # Usage: awk -v every=N -v dir=DIR -f examples/replay.awk IN LOG
 
 # The literals of a clause in one order, each once: the name under which its copies are counted. `from` is the first one.
@@ -85,6 +86,7 @@ function end_part() {
     in_part = 0
 }
 function read_log(text) {
+    if (text == "p" && steps == 0) { print "replay: a log with hints can't be replayed" >"/dev/stderr"; failed = 1; exit 1 }
     if (!within) { within = 1; many = 0; kind = ""; if (text ~ /^[duer]$/) { kind = text; return } }
     if (text + 0 == 0) { within = 0; step() }
     else token[++many] = text + 0
