@@ -1,0 +1,6 @@
+//! Laws on the offences of logs.
+#![tactic(auto)]
+
+mod laws;
+
+pub use laws::log_refusals_are_least;
