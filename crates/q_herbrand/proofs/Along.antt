@@ -1,5 +1,5 @@
 -- Along a run, whatever an entry holds has a circuit or is an input; and what comes out.
-use Rattle.std.proofs.Common.{◌≡◌, ℕ, ◌+◌, ◌≤◌, Bool, true, false, cond, List, [], ◌∷◌, ◌++◌, length, map, inl, inr, arith, refl, sym, ap, ◌∙◌, subst, Option}
+use Rattle.std.proofs.Common.{◌≡◌, ℕ, ◌+◌, ◌≤◌, Bool, true, false, cond, List, [], ◌∷◌, ◌++◌, length, map, inl, inr, arith, refl, sym, ap, ◌∙◌, subst, Option, Some, None}
 use Rattle.std.proofs.lemmas.Bool.{cases_Bool, both_ways}
 use Rattle.q_logic.specs.declared.formulas.Quant.{Quant}
 use Rattle.q_logic.specs.declared.formulas.Quant.TheVariants.{Exists, Forall}
@@ -7,9 +7,9 @@ use Rattle.q_logic.specs.Literals.{Literal, negation}
 use Rattle.q_logic.specs.Formulas.{Prefix, Clause, Matrix, IsIn, PrenexFormula}
 use Rattle.q_logic.specs.Prefixes.{is_exists, is_existential, is_universal, is_bound, outer_or_same, Distinct, IsFormula}
 use Rattle.q_logic.specs.Truth.{Assignment}
-use Rattle.q_logic.specs.Circuits.{Circuit, value_of}
+use Rattle.q_logic.specs.Circuits.{Circuit, value_of, constant, replaced}
 use Rattle.q_logic.specs.Certificates.{NamedOutput, CertificateView, trees_of}
-use Rattle.q_logic.specs.Skolems.{Strategy, circuit_of, outcome, Lawful}
+use Rattle.q_logic.specs.Skolems.{Strategy, circuit_of, outcome, Lawful, given, or_input, map_circuit, reread}
 use Rattle.q_logic.specs.Pivots.{keeps}
 use Rattle.q_logic.specs.Steps.{ProofStep, add, delete, drop_literal, fresh, remove_variable, one_less, insert_after, removed_from, after}
 use Rattle.q_logic.specs.Runs.{Run}
@@ -17,32 +17,37 @@ use Rattle.q_logic.specs.Undos.{OutersOf}
 use Rattle.q_logic.proofs.ClauseLemmas.{IsIn-outer, circuit_of-none, IsIn-append_left}
 use Rattle.q_logic.proofs.Implying.{IsIn-append_right}
 use Rattle.q_logic.proofs.Justified.{Justified, JustifiedSteps, JustifiedRun, Run-justified}
-use Rattle.q_logic.proofs.Order.{is_bound-universal, existential-is_bound, outer_existential-free}
+use Rattle.q_logic.proofs.Order.{is_bound-universal, existential-is_bound, outer_existential-free, universal-not_existential}
 use Rattle.q_logic.proofs.Outers.{outers-members}
 use Rattle.q_logic.proofs.Prefixes.{insert-is_existential, removed-is_existential, removed-unbound}
 use Rattle.q_logic.proofs.Runs.{one_less-IsIn, at_or_other}
 use Rattle.q_logic.proofs.Soundness.{after-formula}
-use Rattle.q_aig.specs.declared.output.Output.{Output}
-use Rattle.q_aig.specs.Nets.{Net}
-use Rattle.q_aig.specs.Outputs.{output_of, net_of, AreOutputs}
+use Rattle.q_aig.specs.Nets.{Net, tree_at}
+use Rattle.q_aig.specs.Serving.{Serves}
+use Rattle.q_aig.proofs.Serving.{serves-same, serves-then}
 use Rattle.q_carry.specs.Covered.{IsCovered, OutersCovered}
-use Rattle.q_carry.specs.Standing.{IsAt}
-use Rattle.q_carry.specs.Copied.{AreMarked, AreCopied, ArePlaced, marked_upto, strategy_of}
+use Rattle.q_carry.specs.Standing.{look_at, IsAt, Stands}
+use Rattle.q_carry.specs.Tabled.{is_there}
 use Rattle.q_carry.specs.Narrowed.{IsNarrowed}
 use Rattle.q_carry.specs.Made.{universals, existentials, IsNamed}
-use Rattle.q_carry.proofs.Counting.{upto-most, cones-count}
-use Rattle.q_carry.proofs.Named.{outputs-read, made-serves, made-lawful}
+use Rattle.q_carry.proofs.Bound.{unbound-universal}
+use Rattle.q_carry.proofs.Named.{made-serves, made-lawful}
+use Rattle.q_slots.specs.declared.building.Settled.{Settled}
+use Rattle.q_slots.specs.Under.{under}
+use Rattle.q_slots.specs.Settled.{IsSettled}
 use Rattle.q_logic.specs.Exchanging.{exchanged, other_quant}
 use Rattle.q_logic.specs.Herbrands.{LawfulHerbrand}
-use Rattle.q_logic.specs.Reversals.{Reversal, freshened, removed, Forth, Reversed, Reversals}
+use Rattle.q_logic.specs.Reversals.{Reversal, freshened, removed, Forth, Reversed, Reversals, IsPlainDrop, inner}
 use Rattle.q_logic.proofs.Exchanged.{exchanged-existential, exchanged-universal, exchanged-outer, exchanged-before, exchanged-distinct, lawful-exchanged, exchanged-lawful}
 use Rattle.q_logic.proofs.Falsity.{MatrixFalse-agree}
-use Rattle.q_logic.proofs.ForthRuns.{pivot_of, steps-lawful, lawful_herbrand-same, run-lawful, run-carries}
+use Rattle.q_logic.proofs.ForthRuns.{pivot_of, universal_of, step-lawful, steps-lawful, lawful_herbrand-same, run-lawful, run-carries}
 use Rattle.q_herbrand.specs.Inputs.{has_input, AreOpened}
 use Rattle.q_herbrand.specs.Covered.{OutersClear, AreCovered, weights}
-use Rattle.q_herbrand.specs.Carried.{AreCarried}
+use Rattle.q_herbrand.specs.declared.drafting.Draft.{Draft}
+use Rattle.q_herbrand.specs.Following.{tree_of_literal, Follows}
+use Rattle.q_herbrand.specs.Drafted.{IsLawfulRun, IsDrafted, IsBuiltFrom, IsChosen}
 use Rattle.q_herbrand.specs.Refuted.{IsWide, IsRefuted}
-use Rattle.q_herbrand.proofs.Entering.{inputs-literals, inputs-at}
+use Rattle.q_herbrand.proofs.Entering.{inputs-at}
 
 removed-existential : (v : ℕ) (P : Prefix) → Distinct P → (x : ℕ) → is_existential (removed_from v P) x ≡ true →
     is_existential P x ≡ true
@@ -101,6 +106,44 @@ module _ (U : ℕ → Bool) where
       kept : (k : Literal) → keeps F.prefix m k ≡ true → outer_or_same F.prefix k.var m.var ≡ true
       kept k y = grind arith
 
+  existential-none : (P : Prefix) (x : ℕ) → is_existential P x ≡ true → is_universal P x ≡ false
+  existential-none P x h = go (is_universal P x) refl
+    where
+      go : (b : Bool) → is_universal P x ≡ b → is_universal P x ≡ false
+      go true e = absurd (both_ways (is_existential P x) (universal-not_existential P x e) h)
+      go false e = e
+
+  inner-universal : (F : PrenexFormula) (C : Clause) (l : Literal) (c : Strategy) → IsFormula F →
+      IsIn C F.matrix → is_universal F.prefix l.var ≡ true → IsPlainDrop F.prefix C l →
+      LawfulHerbrand F.prefix c → (k : Literal) → IsIn k (l ∷ inner F.prefix l C) → given (c k.var) ≡ true
+  inner-universal F C l c f i hu p h k (inl e) =
+      h.trees k.var ∙ ap (λ (j : Literal). is_universal F.prefix j.var) e ∙ hu
+  inner-universal F C l c f i hu p h k (inr m) =
+      let w = inside C m in
+      elim (cases_Bool (is_existential F.prefix k.var)) [
+        | inl e ↦ absurd (both_ways (outer_or_same F.prefix k.var l.var) w.1 (p.no_inner k w.0 e))
+        | inr e ↦ h.trees k.var ∙ is_bound-universal F.prefix k.var (f.closed C i k w.0) e
+      ]
+    where
+      inside : (D : Clause) → IsIn k (inner F.prefix l D) → IsIn k D × (outer_or_same F.prefix k.var l.var ≡ false)
+      inside [] m = absurd m
+      inside (j ∷ D) m = go (outer_or_same F.prefix j.var l.var) refl m (inside D)
+        where
+          go : (b : Bool) → outer_or_same F.prefix j.var l.var ≡ b →
+              IsIn k (cond b (inner F.prefix l D) (j ∷ inner F.prefix l D)) →
+              (IsIn k (inner F.prefix l D) → IsIn k D × (outer_or_same F.prefix k.var l.var ≡ false)) →
+              IsIn k (j ∷ D) × (outer_or_same F.prefix k.var l.var ≡ false)
+          go true e m r = let w = r m in (inr w.0, w.1)
+          go false e (inl q) r = (inl q, ap (λ (i : Literal). outer_or_same F.prefix i.var l.var) q ∙ e)
+          go false e (inr m) r = let w = r m in (inr w.0, w.1)
+
+  given-reread : (v : ℕ) (t : Circuit) (c : Strategy) → given (reread v t c v) ≡ given (c v)
+  given-reread v t c = go (c v)
+    where
+      go : (o : Option Circuit) → given (map_circuit (replaced v t) o) ≡ given o
+      go None = refl
+      go (Some q) = refl
+
   step-covered : (F : PrenexFormula) (s : ProofStep) (es rest : List Reversal) (c : Strategy) → IsFormula F →
       Justified F s → Reversed F s es → HasExistentials F → HasFresh es →
       LawfulHerbrand (after F s).prefix (Forth rest c) → AreCovered U rest c → AreCovered U (es ++ rest) c
@@ -113,24 +156,40 @@ module _ (U : ℕ → Bool) where
           outers-covered F F.matrix (negation m) Os (Forth rest c) f (λ D i. i) os h l,
           outers-clear F F.matrix (negation m) Os (Forth rest c) pv.existential_pivot os l,
         ),
+        l.trees m.var ∙ existential-none F.prefix m.var pv.existential_pivot,
         r,
       )
   step-covered F (delete p C) es rest c f v e h n l r = subst (λ es. AreCovered U (es ++ rest) c) (sym e) r
   step-covered F (drop_literal k C) es rest c f v (inl (pv, (Os, os, e))) h n l r =
-      subst (λ es. AreCovered U (es ++ rest) c) (sym e)
-      (outers-covered F (one_less C F.matrix) (negation k) Os (Forth rest c) f (one_less-IsIn C F.matrix) os h l, r)
+      subst (λ es. AreCovered U (es ++ rest) c) (sym e) (
+        outers-covered F (one_less C F.matrix) (negation k) Os (Forth rest c) f (one_less-IsIn C F.matrix) os h l,
+        l.trees k.var ∙ pv.universal_pivot,
+        r,
+      )
   step-covered F (drop_literal k C) es rest c f v (inr (n, p, inl (t, e))) h fr l r =
       subst (λ es. AreCovered U (es ++ rest) c) (sym e) r
   step-covered F (drop_literal k C) es rest c f v (inr (n, p, inr (t, e))) h fr l r =
-      subst (λ es. AreCovered U (es ++ rest) c) (sym e)
-      ((λ j i. literal-covered F (Forth rest c) j h l (f.closed C v.0 j (IsIn-outer F.prefix k C j i).0)), r)
+      subst (λ es. AreCovered U (es ++ rest) c) (sym e) (
+        (λ j i. literal-covered F (Forth rest c) j h l (f.closed C v.0 j (IsIn-outer F.prefix k C j i).0)),
+        inner-universal F C k (Forth rest c) f v.0
+            (universal_of F.prefix (one_less C F.matrix) C k v.1).0 p l,
+        r,
+      )
   step-covered F (fresh v w) es rest c f j e h n l r =
-      subst (λ es. AreCovered U (es ++ rest) c) (sym e) (n v (subst (IsIn (freshened v)) (sym e) (inl refl)), r)
+      let back : LawfulHerbrand F.prefix (Forth (freshened v ∷ []) (Forth rest c)) =
+      step-lawful F (fresh v w) (freshened v ∷ []) (Forth rest c) f j refl l in
+      let none : given (reread v (constant false) (Forth rest c) v) ≡ false =
+      back.trees v ∙ unbound-universal F.prefix v j.0 in
+      subst (λ es. AreCovered U (es ++ rest) c) (sym e) (
+        n v (subst (IsIn (freshened v)) (sym e) (inl refl)),
+        sym (given-reread v (constant false) (Forth rest c)) ∙ none,
+        r,
+      )
   step-covered F (remove_variable v) es rest c f j e h n l r =
       subst (λ es. AreCovered U (es ++ rest) c) (sym e) (go (is_universal F.prefix v))
     where
       go : (b : Bool) → AreCovered U (cond b (removed v ∷ []) [] ++ rest) c
-      go true = (tt, r)
+      go true = (tt, tt, r)
       go false = r
 
   left-fresh : (es rest rs : List Reversal) → rs ≡ es ++ rest → HasFresh rs → HasFresh es
@@ -159,59 +218,78 @@ module _ (U : ℕ → Bool) where
       steps-existentials (after F s) ss E rest (after-formula F s f r.0) r.1 u
       (after-existentials F s es f e h (left-fresh es rest rs is n)) (right-fresh es rest rs is n)
 
-pub widened : (F G : PrenexFormula) (ss : List ProofStep) (rs : List Reversal) (gave made : CertificateView) (os :
-    List Output) (base copy last : Net) (ins tb tb2 : List (Option ℕ)) (marks : List Bool) (row : List ℕ) →
-    IsFormula F → Run F ss G → Reversals F ss rs → LawfulHerbrand G.prefix (trees_of gave) →
-    map output_of os ≡ gave.outputs → AreOutputs (net_of gave) os →
-    AreOpened base ins F.prefix rs → AreMarked gave.gates os marks →
-    AreCopied (net_of gave) marks ins base copy row (length gave.gates) →
-    ArePlaced (net_of gave) ins row os os tb → AreCarried copy last ins tb tb2 rs →
-    IsNamed last made tb2 (exchanged F.prefix) → IsWide F rs gave made
-widened F G ss rs gave made os base copy last ins tb tb2 marks row f run reversals lawful eo outs opened marked
-    copied placed carried named =
-    let U : ℕ → Bool = has_input ins in
-    let j : JustifiedRun F ss G = Run-justified F ss G run in
-    let same : strategy_of (net_of gave) os ≡ trees_of gave =
-    ap (λ (xs : List NamedOutput). trees_of (record { inputs = gave.inputs; gates = gave.gates; outputs = xs }))
-    eo in
-    let end : LawfulHerbrand j.last.prefix (trees_of gave) =
-    lawful_herbrand-same j.last G (trees_of gave) j.same lawful in
-    let end2 : Lawful (exchanged j.last.prefix) (strategy_of (net_of gave) os) =
-    subst (Lawful (exchanged j.last.prefix)) (sym same) (lawful-exchanged j.last.prefix (trees_of gave) end) in
-    let ex = steps-existentials (has_input ins) F ss j.last rs f j.steps reversals opened.existentials opened.fresh in
-    let ro = outputs-read (has_input ins) (exchanged j.last.prefix) (net_of gave) os outs end2
-    (λ x h. ex x (sym (exchanged-universal j.last.prefix x) ∙ h)) in
-    let at0 : IsAt copy ins tb (has_input ins) (strategy_of (net_of gave) os) =
-    placed.at base copy marks (has_input ins) marked copied
-    (inputs-literals base base.inputs ins opened.inputs refl)
-    (inputs-at base base.inputs ins opened.inputs refl) ro in
-    let at1 : IsAt copy ins tb (has_input ins) (trees_of gave) = subst (IsAt copy ins tb (has_input ins)) same at0 in
-    let cov = steps-covered (has_input ins) F ss j.last rs (trees_of gave) f j.steps reversals end
-    opened.existentials opened.fresh in
-    let at2 : IsAt last ins tb2 (has_input ins) (Forth rs (trees_of gave)) = carried.at (trees_of gave) at1 cov in
-    let law : Lawful (exchanged F.prefix) (Forth rs (trees_of gave)) =
-    lawful-exchanged F.prefix (Forth rs (trees_of gave))
-    (run-lawful F ss G rs (trees_of gave) f j reversals lawful) in
-    record {
-      serves = λ u h. made-serves (exchanged F.prefix) (exchanged-distinct F.prefix f.distinct) (has_input ins) last
-          made ins tb2 (Forth rs (trees_of gave)) named at2 law u (exchanged-existential F.prefix u ∙ h);
-      lawful = made-lawful (exchanged F.prefix) (exchanged-distinct F.prefix f.distinct) (has_input ins) last made
-          ins tb2 (Forth rs (trees_of gave)) named at2 law;
+-- What holds of the circuits that a run's end was given.
+module _ (F : PrenexFormula) (rs : List Reversal) (gave : CertificateView) (base : Net) (ins : List (Option ℕ)) (d :
+    Draft) (f : IsFormula F) (run : IsLawfulRun F rs gave) (opened : AreOpened base ins F.prefix rs) (drafted :
+    IsDrafted base ins gave rs d) where
+  ran : JustifiedRun F run.steps run.last
+  ran = Run-justified F run.steps run.last run.run
+
+  end-lawful : LawfulHerbrand ran.last.prefix (trees_of gave)
+  end-lawful = lawful_herbrand-same ran.last run.last (trees_of gave) ran.same run.lawful
+
+  back-lawful : Lawful (exchanged F.prefix) (Forth rs (trees_of gave))
+  back-lawful = lawful-exchanged F.prefix (Forth rs (trees_of gave))
+      (run-lawful F run.steps run.last rs (trees_of gave) f ran run.reversals run.lawful)
+
+  pub end-follows : Follows d.aig ins d.tables.circuits.items d.slots (Forth rs (trees_of gave))
+  end-follows = drafted.follows ran.last.prefix (lawful-exchanged ran.last.prefix (trees_of gave) end-lawful)
+      (steps-existentials (has_input ins) F run.steps ran.last rs f ran.steps run.reversals opened.existentials
+      opened.fresh)
+      (steps-covered (has_input ins) F run.steps ran.last rs (trees_of gave) f ran.steps run.reversals end-lawful
+      opened.existentials opened.fresh)
+
+  module _ (now : Net) (m : Settled) (row : List (Option ℕ)) (made : CertificateView) (settled : IsSettled d.aig base
+      now d.slots m) (chosen : IsChosen (exchanged F.prefix) d m row) (named : IsNamed now made row
+      (exchanged F.prefix)) where
+    stands : (x : ℕ) (o : Option Circuit) (k : Option ℕ) → Forth rs (trees_of gave) x ≡ o → look_at row x ≡ k →
+        Stands now o k
+    stands x None None e i = tt
+    stands x None (Some k) e i =
+        let a : given (Forth rs (trees_of gave) x) ≡ true = back-lawful.trees x
+        ∙ sym (chosen.existentials x) ∙ ap is_there i in
+        absurd (let g : false ≡ true = ap given (sym e) ∙ a in cc)
+    stands x (Some t) None e i =
+        let a : is_there (look_at row x) ≡ true = chosen.existentials x ∙ sym (back-lawful.trees x) ∙ ap given e in
+        absurd (let g : false ≡ true = ap is_there (sym i) ∙ a in cc)
+    stands x (Some t) (Some k) e i =
+        let u = end-follows.circuits x (inl (ap given e)) in
+        let s : Serves (under end-follows.resolution u.0) t =
+        subst (λ (o : Option Circuit). Serves (under end-follows.resolution u.0) (or_input x o)) e u.2 in
+        by-literal u.0 (look_at d.tables.circuits.items x) refl (chosen.built x k i) u.1 s
+      where
+        by-literal : (v : Circuit) (q : Option ℕ) → look_at d.tables.circuits.items x ≡ q → IsBuiltFrom d m q k →
+            tree_of_literal d.aig q ≡ Some v → Serves (under end-follows.resolution v) t → Serves (tree_at now k) t
+        by-literal v None f b g s = absurd (cc)
+        by-literal v (Some l) f b g s =
+            let w : tree_at d.aig l ≡ v = cc in
+            serves-then _ _ _ (settled.serves end-follows.resolution end-follows.resolved k l
+            (drafted.ready.circuits x l f) b) (serves-then _ _ _
+            (serves-same _ _ (ap (under end-follows.resolution) w)) s)
+
+    at : IsAt now ins row (has_input ins) (Forth rs (trees_of gave))
+    at = record {
+      inputs = inputs-at now base.inputs ins opened.inputs settled.inputs;
+      circuits = λ x. stands x (Forth rs (trees_of gave) x) (look_at row x) refl refl;
+    }
+
+    pub widened : IsWide F rs gave made
+    widened = record {
+      serves = λ u h. made-serves (exchanged F.prefix) (exchanged-distinct F.prefix f.distinct) (has_input ins) now
+          made ins row (Forth rs (trees_of gave)) named at back-lawful u (exchanged-existential F.prefix u ∙ h);
+      lawful = made-lawful (exchanged F.prefix) (exchanged-distinct F.prefix f.distinct) (has_input ins) now made ins
+          row (Forth rs (trees_of gave)) named at back-lawful;
       gates =
-          let a : length copy.gates ≤ length base.gates + marked_upto marks (length gave.gates) =
-          copied.grown.gates in
-          let k = upto-most marks (length gave.gates) in
-          let b : length last.gates ≤ length copy.gates + weights rs = carried.gates in
+          let a : length now.gates ≤ length base.gates + length d.aig.gates = settled.gates in
+          let b : length d.aig.gates ≤ length gave.gates + weights rs = drafted.gates in
           let z : length base.gates ≡ 0 = ap length opened.gates in
-          let m : length made.gates ≡ length last.gates = ap length named.gates in
+          let e : length made.gates ≡ length now.gates = ap length named.gates in
           omega arith;
       cones = λ ns h.
-          let a : length copy.gates ≤ length base.gates + marked_upto marks (length gave.gates) =
-          copied.grown.gates in
-          let k = cones-count gave os marks ns (length gave.gates) eo marked h in
-          let b : length last.gates ≤ length copy.gates + weights rs = carried.gates in
+          let a : length now.gates ≤ length base.gates + length d.aig.gates = settled.gates in
+          let b = drafted.cones ns h in
           let z : length base.gates ≡ 0 = ap length opened.gates in
-          let m : length made.gates ≡ length last.gates = ap length named.gates in
+          let e : length made.gates ≡ length now.gates = ap length named.gates in
           omega arith;
     }
 

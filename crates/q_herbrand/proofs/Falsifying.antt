@@ -134,12 +134,9 @@ pub carried-plain : (old a b new : Net) (ins tb tb1 tb2 : List (Option ℕ)) (k 
     AreLowered a b ins tb tb1 q within → IsLoweredOne b new ins tb1 tb2 q k →
     IsCarried old new ins tb tb2 (plain k same within)
 carried-plain old a b new ins tb tb1 tb2 k same within q li lt n s t = record {
-  inputs = t.grown.inputs ∙ s.grown.inputs ∙ n.grown.inputs;
-  gates =
-      let x : length a.gates ≤ length old.gates + length same = n.grown.gates in
-      let y : length b.gates ≤ length a.gates + length within = s.grown.gates in
-      let z : length new.gates ≤ length b.gates + 1 = t.grown.gates in
-      omega arith;
+  grown = grown-then old b new (length same + length within) 1 (length same + length within + 2)
+      (grown-then old a b (length same) (length within) (length same + length within) n.grown s.grown (omega arith))
+      t.grown (omega arith);
   literals = t.literals;
   at = λ c g v.
       let h : Circuit = none_of c same in
@@ -153,8 +150,7 @@ carried-plain old a b new ins tb tb1 tb2 k same within q li lt n s t = record {
 pub carried-turned : (old new : Net) (ins tb tb2 : List (Option ℕ)) (l : Literal) (Os : List Clause) →
     IsUndone old new ins tb tb2 (pivot (negation l) Os) → IsCarried old new ins tb tb2 (turned_entry l Os)
 carried-turned old new ins tb tb2 l Os u = record {
-  inputs = u.grown.inputs;
-  gates = u.grown.gates;
+  grown = u.grown;
   literals = u.literals;
   at = λ c g v. u.at (has_input ins) c g v;
 }
@@ -162,8 +158,7 @@ carried-turned old new ins tb tb2 l Os u = record {
 pub carried-removed : (old new : Net) (ins tb tb2 : List (Option ℕ)) (v : ℕ) →
     IsUndone old new ins tb tb2 (undo_removed v) → IsCarried old new ins tb tb2 (removed v)
 carried-removed old new ins tb tb2 v u = record {
-  inputs = u.grown.inputs;
-  gates = u.grown.gates;
+  grown = u.grown;
   literals = u.literals;
   at = λ c g w. u.at (has_input ins) c g tt;
 }

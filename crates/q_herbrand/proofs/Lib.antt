@@ -1,10 +1,12 @@
 pub mod Swapping
-pub mod Shifting
 pub mod Gathering
 pub mod Falsifying
 pub mod Entering
-pub mod Placing
 pub mod Following
+pub mod Filling
+pub mod Replacing
+pub mod Beginning
+pub mod Choosing
 pub mod Along
 pub mod Accepting
 pub mod Dropping

@@ -1,5 +1,5 @@
 -- What an entry asks of the circuits, and what it costs.
-use Rattle.std.specs.Prelude.{◌≡◌, ℕ, ◌+◌, Bool, true, List, [], ◌∷◌, length}
+use Rattle.std.specs.Prelude.{◌≡◌, ℕ, ◌+◌, Bool, true, false, List, [], ◌∷◌, length}
 use Rattle.q_logic.specs.Literals.{Literal}
 use Rattle.q_logic.specs.Formulas.{Clause, IsIn}
 use Rattle.q_logic.specs.Circuits.{Reads}
@@ -20,10 +20,18 @@ EntryCovered U (plain l same within) c = ClauseCovered U c same
 EntryCovered U (freshened v) c = U v ≡ true
 EntryCovered U (removed v) c = Unit {0}
 
--- whenever an entry is taken, what its clauses hold has a circuit or is an input
+-- what an entry makes false has a circuit, and what it puts a circuit in place of has none
+abbrev pub EntryOwned : Reversal → Strategy → Type 0
+EntryOwned (added l outers) c = given (c l.var) ≡ false
+EntryOwned (turned l outers) c = given (c l.var) ≡ true
+EntryOwned (plain l same within) c = (k : Literal) → IsIn k (l ∷ within) → given (c k.var) ≡ true
+EntryOwned (freshened v) c = given (c v) ≡ false
+EntryOwned (removed v) c = Unit {0}
+
+-- so it is whenever an entry is taken
 abbrev pub AreCovered : (ℕ → Bool) → List Reversal → Strategy → Type 0
 AreCovered U [] c = Unit {0}
-AreCovered U (r ∷ rs) c = EntryCovered U r (Forth rs c) × AreCovered U rs c
+AreCovered U (r ∷ rs) c = EntryCovered U r (Forth rs c) × EntryOwned r (Forth rs c) × AreCovered U rs c
 
 -- the literals and the clauses of an entry; a plain one counts as one clause
 abbrev pub weight : Reversal → ℕ

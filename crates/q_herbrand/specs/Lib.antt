@@ -1,12 +1,11 @@
-pub mod Reading
 pub mod Inputs
-pub mod Moved
 pub mod Covered
 pub mod Parts
 pub mod Entries
 pub mod Carried
+pub mod Following
+pub mod Drafted
 pub mod Refusals
 pub mod Refuted
-pub mod Begun
 pub mod Drops
 pub mod Trails

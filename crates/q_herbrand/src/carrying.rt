@@ -1,21 +1,55 @@
-//! The construction of circuits of the input, over all inputs that were met on the way.
-ghost use Rattle.std.specs.Prelude.{◌≡◌, List, IfOk};
-ghost use Rattle.q_logic.specs.Formulas.{PrenexFormula};
-ghost use Rattle.q_logic.specs.Certificates.{trees_of};
-ghost use Rattle.q_logic.specs.Steps.{ProofStep};
-ghost use Rattle.q_logic.specs.Runs.{Run};
+//! The construction of circuits of the input, over all inputs that were met on the way. The gates that the given circuits
+//! need are copied into a draft, whose inputs are slots; the entries are taken there; then the draft is built without slots.
+ghost use Rattle.std.specs.Prelude.{◌≡◌, IfOk};
+ghost use Rattle.q_logic.specs.Prefixes.{Distinct};
 ghost use Rattle.q_logic.specs.Exchanging.{exchanged};
-ghost use Rattle.q_logic.specs.Herbrands.{LawfulHerbrand};
-ghost use Rattle.q_logic.specs.Reversals.{Reversals as ReversalsOf};
+ghost use Rattle.q_carry.specs.Standing.{look_at};
 ghost use Rattle.q_herbrand.specs.Refuted.{IsWide};
+ghost use Rattle.q_herbrand.specs.Drafted.{IsBuiltFrom, IsChosen, IsLawfulRun, IsWritten};
 
-use crate::entries::take_all;
+use crate::drafting::{Draft, make_draft};
 use crate::inputs::open;
 use crate::reversal::Reversals;
 use q_aig::{Aig, Certificate};
-use q_carry::{Tables, copy_gates, mark_cones, name_outputs, place_outputs};
-use q_logic::{Bound, Formula, NoMemory};
+use q_carry::{look, name_outputs, put, translate};
+use q_logic::{Bound, Formula, NoMemory, Quant};
+use q_slots::{Settled, settle};
 use std::alloc::Global;
+
+// The literal of a circuit of the draft.
+fn settled_literal(draft: &Draft, settled: &Settled, var: u32) -> u64
+    requires { IsWritten draft.now settled.now }
+    ensures { IsBuiltFrom draft.now settled.now (look_at draft.now.tables.circuits.items var) result }
+{
+    match look(&draft.tables.circuits, var) {
+        Some(lit) => translate(&draft.aig, &settled.slots, &settled.gates, lit),
+        None => 0,
+    }
+}
+
+// The circuits of the universals, whose prefix has its quantifiers exchanged.
+fn choose(
+    alloc: Global,
+    turned: &[Bound],
+    draft: &Draft,
+    settled: &Settled,
+) -> Result<Vec<Option<u64>>, NoMemory>
+    requires distinct { Distinct turned.now }
+    requires written { IsWritten draft.now settled.now }
+    ensures { IfOk result (λ row. IsChosen turned.now draft.now settled.now row.items) }
+{
+    let mut row = Vec::new(alloc);
+    for bound in turned {
+        match bound.quant {
+            Quant::Forall => {}
+            Quant::Exists => {
+                let lit = settled_literal(draft, settled, bound.var);
+                put(&mut row, bound.var, Some(lit))?;
+            }
+        }
+    }
+    Ok(row)
+}
 
 /// Carries circuits to the input, where they are lawful for an output.
 pub fn carry(
@@ -26,20 +60,21 @@ pub fn carry(
     given: &Certificate,
 ) -> Result<Certificate, NoMemory>
     requires turned { turned.now ≡ exchanged input.now.prefix }
-    ensures { IfOk result (λ made. (G : PrenexFormula) → (ss : List ProofStep) → Run input.now ss G →
-        ReversalsOf input.now ss reversals.now → LawfulHerbrand G.prefix (trees_of given.now) →
-        IsWide input.now reversals.now given.now made) }
+    requires run { IsLawfulRun input.now reversals.now given.now }
+    ensures { IfOk result (IsWide input.now reversals.now given.now) }
 {
     let prefix = input.prefix();
-    let old = given.aig();
-    let outputs = given.outputs();
     let mut aig = Aig::new(alloc);
     let inputs = open(alloc, &mut aig, prefix, reversals)?;
-    let marks = mark_cones(alloc, old, outputs)?;
-    let row = copy_gates(alloc, old, &marks, outputs, &mut aig, &inputs)?;
-    let circuits = place_outputs(alloc, old, outputs, &inputs, &row)?;
-    let mut tables = Tables { inputs, circuits };
-    take_all(alloc, &mut aig, &mut tables, reversals)?;
-    let made = name_outputs(aig, turned, &tables.circuits)?;
+    let draft = make_draft(alloc, &aig, inputs, reversals, given)?;
+    let settled = settle(
+        alloc,
+        &draft.aig,
+        &draft.slots,
+        &draft.tables.inputs,
+        &mut aig,
+    )?;
+    let row = choose(alloc, turned, &draft, &settled)?;
+    let made = name_outputs(aig, turned, &row)?;
     Ok(made)
 }

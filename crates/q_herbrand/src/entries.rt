@@ -1,24 +1,24 @@
 //! Entries taken on graphs. Where a clause came by its pivot, the pivot's input becomes `v or h`, for a negative one `v and
-//! not h`, with h over the circuits before this entry; a fresh variable's input becomes 0. For both the graph is copied. Where
-//! a universal literal left a clause, its circuit is made to falsify it: by a universal pivot where h holds, in a plain
-//! drop where the outer literals are false, and then those inner to it are falsified too.
+//! not h`, with h over the circuits before this entry; a fresh variable's input becomes 0. For both the variable's slot is
+//! filled, and a new slot stands for it from then on: no gate is copied. Where a universal literal left a clause, its
+//! circuit is made to falsify it: by a universal pivot where h holds, in a plain drop where the outer literals are false,
+//! and then those inner to it are falsified too.
 ghost use Rattle.std.specs.Prelude.{◌≡◌, ◌++◌, List, Option, Some, ℕ, length, IfOk, OnOk};
 ghost use Rattle.q_logic.specs.Literals.{Literal, negation};
 ghost use Rattle.q_logic.specs.Certificates.{falsum};
 ghost use Rattle.q_aig.specs.Nets.{operand_of, IsLiteral};
 ghost use Rattle.q_carry.specs.Standing.{AreLiterals, look_at};
 ghost use Rattle.q_logic.specs.Reversals.{added, turned, plain, freshened, removed};
-ghost use Rattle.q_herbrand.specs.Inputs.{AreInputs};
 ghost use Rattle.q_herbrand.specs.Parts.{IsNoneOf, IsLoweredOne, AreLowered};
-ghost use Rattle.q_herbrand.specs.Carried.{IsCarried, AreCarried, IsMade};
+ghost use Rattle.q_herbrand.specs.Carried.{IsCarried};
+ghost use Rattle.q_herbrand.specs.Following.{IsReady, IsTaken, AreTaken};
 ghost use Rattle.q_herbrand.specs.Entries.{entry_of};
 
-use crate::moving::{Made, begin, finish, free_circuits};
 use crate::reversal::{Reversal, Reversals};
 use q_aig::{Aig, constant, negate};
 use q_carry::{Tables, all_of, look, put, raise};
 use q_logic::{Clauses, Lit, NoMemory};
-use std::alloc::Global;
+use q_slots::{Slots, fill, renew, slot_of};
 
 // The conjunction of the negations.
 fn none_of(aig: &mut Aig, tables: &Tables, clause: &[Lit]) -> Result<u64, NoMemory>
@@ -117,147 +117,95 @@ fn take_removed(aig: &Aig, tables: &mut Tables, var: u32) -> Result<(), NoMemory
     Ok(())
 }
 
-// The graph with 0 in place of a fresh variable.
-fn without_fresh(alloc: Global, aig: &Aig, tables: &Tables, var: u32) -> Result<Made, NoMemory>
-    requires inputs { AreInputs aig.now.inputs tables.now.inputs.items }
-    requires circuits { AreLiterals aig.now tables.now.circuits.items }
-    ensures { IfOk result (IsMade aig.now tables.now.inputs.items tables.now.circuits.items (freshened var)) }
-{
-    let begun = begin(alloc, aig, &tables.inputs, var)?;
-    let made = finish(
-        alloc,
-        aig,
-        &tables.circuits,
-        begun.readers,
-        begun.row,
-        begun.inputs,
-        begun.aig,
-        var,
-        constant(false),
-    )?;
-    Ok(made)
-}
-
-// The graph with the pivot's input made true where each outer clause is true.
-fn with_added(
-    alloc: Global,
-    aig: &Aig,
-    tables: &Tables,
-    pivot: Lit,
-    lit: u64,
-    outer: &Clauses,
-) -> Result<Made, NoMemory>
-    requires inputs { AreInputs aig.now.inputs tables.now.inputs.items }
-    requires circuits { AreLiterals aig.now tables.now.circuits.items }
-    requires lit { look_at tables.now.inputs.items pivot.var ≡ Some lit }
-    ensures { IfOk result (IsMade aig.now tables.now.inputs.items tables.now.circuits.items (added pivot outer.now)) }
-{
-    let begun = begin(alloc, aig, &tables.inputs, pivot.var())?;
-    let free = free_circuits(
-        alloc,
-        aig,
-        &begun.readers,
-        pivot.var(),
-        &tables.inputs,
-        &begun.row,
-        &tables.circuits,
-    )?;
-    let mut next = begun.aig;
-    let parts = Tables {
-        inputs: begun.inputs,
-        circuits: free,
-    };
-    let all = all_of(&mut next, &parts, outer)?;
-    let to = raise(&mut next, pivot.negative(), lit, all)?;
-    let made = finish(
-        alloc,
-        aig,
-        &tables.circuits,
-        begun.readers,
-        begun.row,
-        parts.inputs,
-        next,
-        pivot.var(),
-        to,
-    )?;
-    Ok(made)
-}
-
-fn take_fresh(alloc: Global, aig: &mut Aig, tables: &mut Tables, var: u32) -> Result<(), NoMemory>
-    requires inputs { AreInputs aig.old.inputs tables.old.inputs.items }
-    requires circuits { AreLiterals aig.old tables.old.circuits.items }
-    ensures inputs { tables.new.inputs ≡ tables.old.inputs }
-    ensures carried { OnOk result (IsCarried aig.old aig.new tables.old.inputs.items tables.old.circuits.items
-        tables.new.circuits.items (freshened var)) }
-{
-    let made = without_fresh(alloc, aig, tables, var)?;
-    *aig = made.aig;
-    tables.circuits = made.circuits;
-    Ok(())
-}
-
-fn take_added(
-    alloc: Global,
+// A fresh variable is 0 before its entry: its slot is filled with 0.
+fn take_fresh(
     aig: &mut Aig,
     tables: &mut Tables,
+    slots: &mut Slots,
+    var: u32,
+) -> Result<(), NoMemory>
+    requires { IsReady aig.old tables.old.inputs.items tables.old.circuits.items slots.old }
+    ensures inputs { tables.new.inputs ≡ tables.old.inputs }
+    ensures taken { OnOk result (IsTaken aig.old aig.new tables.old.inputs.items tables.old.circuits.items
+        tables.new.circuits.items slots.old slots.new (freshened var)) }
+{
+    aig.inputs();
+    match slot_of(slots, &tables.inputs, var) {
+        None => Ok(()),
+        Some(before) => {
+            let _lit = renew(aig, &mut tables.circuits, slots, var)?;
+            fill(slots, before, constant(false));
+            Ok(())
+        }
+    }
+}
+
+// The pivot is made true before its entry where each outer clause is true: its slot is filled with the circuit for that, over
+// a new slot.
+fn take_added(
+    aig: &mut Aig,
+    tables: &mut Tables,
+    slots: &mut Slots,
     pivot: Lit,
     outer: &Clauses,
 ) -> Result<(), NoMemory>
-    requires inputs { AreInputs aig.old.inputs tables.old.inputs.items }
-    requires circuits { AreLiterals aig.old tables.old.circuits.items }
+    requires { IsReady aig.old tables.old.inputs.items tables.old.circuits.items slots.old }
     ensures inputs { tables.new.inputs ≡ tables.old.inputs }
-    ensures carried { OnOk result (IsCarried aig.old aig.new tables.old.inputs.items tables.old.circuits.items
-        tables.new.circuits.items (added pivot outer.now)) }
+    ensures taken { OnOk result (IsTaken aig.old aig.new tables.old.inputs.items tables.old.circuits.items
+        tables.new.circuits.items slots.old slots.new (added pivot outer.now)) }
 {
-    if let Some(lit) = look(&tables.inputs, pivot.var()) {
-        let made = with_added(alloc, aig, tables, pivot, lit, outer)?;
-        *aig = made.aig;
-        tables.circuits = made.circuits;
+    aig.inputs();
+    match slot_of(slots, &tables.inputs, pivot.var()) {
+        None => Ok(()),
+        Some(before) => {
+            let lit = renew(aig, &mut tables.circuits, slots, pivot.var())?;
+            let all = all_of(aig, tables, outer)?;
+            let to = raise(aig, pivot.negative(), lit, all)?;
+            fill(slots, before, to);
+            Ok(())
+        }
     }
-    Ok(())
 }
 
 fn take_entry(
-    alloc: Global,
     aig: &mut Aig,
     tables: &mut Tables,
+    slots: &mut Slots,
     entry: &Reversal,
 ) -> Result<(), NoMemory>
-    requires inputs { AreInputs aig.old.inputs tables.old.inputs.items }
-    requires literals { AreLiterals aig.old tables.old.inputs.items }
-    requires circuits { AreLiterals aig.old tables.old.circuits.items }
+    requires { IsReady aig.old tables.old.inputs.items tables.old.circuits.items slots.old }
     ensures inputs { tables.new.inputs ≡ tables.old.inputs }
-    ensures carried { OnOk result (IsCarried aig.old aig.new tables.old.inputs.items tables.old.circuits.items
-        tables.new.circuits.items (entry_of entry.now)) }
+    ensures taken { OnOk result (IsTaken aig.old aig.new tables.old.inputs.items tables.old.circuits.items
+        tables.new.circuits.items slots.old slots.new (entry_of entry.now)) }
 {
     match entry {
-        Reversal::Added { pivot, outer } => take_added(alloc, aig, tables, *pivot, outer),
+        Reversal::Added { pivot, outer } => take_added(aig, tables, slots, *pivot, outer),
         Reversal::Turned { pivot, outer } => take_turned(aig, tables, *pivot, outer),
         Reversal::Plain { pivot, same, inner } => {
             take_plain(aig, tables, *pivot, same.as_slice(), inner.as_slice())
         }
-        Reversal::Fresh { var } => take_fresh(alloc, aig, tables, *var),
+        Reversal::Fresh { var } => take_fresh(aig, tables, slots, *var),
         Reversal::Removed { var } => take_removed(aig, tables, *var),
     }
 }
 
 /// Takes the entries from the last to the first.
 pub fn take_all(
-    alloc: Global,
     aig: &mut Aig,
     tables: &mut Tables,
+    slots: &mut Slots,
     reversals: &Reversals,
 ) -> Result<(), NoMemory>
-    requires inputs { AreInputs aig.old.inputs tables.old.inputs.items }
-    requires circuits { AreLiterals aig.old tables.old.circuits.items }
-    ensures carried { OnOk result (AreCarried aig.old aig.new tables.old.inputs.items tables.old.circuits.items
-        tables.new.circuits.items reversals.now) }
+    requires { IsReady aig.old tables.old.inputs.items tables.old.circuits.items slots.old }
+    ensures inputs { tables.new.inputs ≡ tables.old.inputs }
+    ensures taken { OnOk result (AreTaken aig.old aig.new tables.old.inputs.items tables.old.circuits.items
+        tables.new.circuits.items slots.old slots.new reversals.now) }
 {
     let entries = reversals.as_slice();
     let mut i = entries.len();
     while i > 0 {
         i -= 1;
-        take_entry(alloc, aig, tables, &entries[i])?;
+        take_entry(aig, tables, slots, &entries[i])?;
     }
     Ok(())
 }

@@ -6,14 +6,13 @@
 
 mod carrying;
 mod course;
+mod drafting;
 mod drops;
 mod entries;
 mod error;
 mod exchanging;
 mod inputs;
 mod laws;
-mod moving;
-mod readers;
 mod reversal;
 mod trail;
 mod whole;

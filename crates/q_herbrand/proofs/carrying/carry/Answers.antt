@@ -1,57 +1,82 @@
-use Rattle.std.proofs.Common.{subst, length, sym, refl}
+use Rattle.std.proofs.Common.{◌≡◌, List, ℕ, Option, subst, sym, refl, ◌∙◌}
 use Rattle.q_logic.specs.Formulas.{Prefix}
 use Rattle.q_logic.specs.Prefixes.{Distinct}
-use Rattle.q_aig.specs.Nets.{Net}
-use Rattle.q_aig.specs.Outputs.{net_of}
-use Rattle.q_carry.specs.Copied.{AreMarked, AreCopied, ArePlaced}
 use Rattle.q_carry.specs.Made.{IsNamed}
-use Rattle.q_carry.proofs.Rows.{literals-kept}
+use Rattle.q_carry.specs.Standing.{AreLiterals, InputsAt}
+use Rattle.q_carry.specs.Tabled.{is_there}
+use Rattle.q_carry.specs.Standing.{look_at}
 use Rattle.q_logic.specs.Exchanging.{exchanged}
 use Rattle.q_logic.proofs.Exchanged.{exchanged-distinct}
+use Rattle.q_slots.specs.Slots.{AreOwned}
 use Rattle.q_herbrand.specs.Inputs.{AreOpened}
-use Rattle.q_herbrand.proofs.Entering.{inputs-literals}
-use Rattle.q_herbrand.proofs.Along.{widened}
+use Rattle.q_herbrand.specs.Drafted.{IsChosen}
+use Rattle.q_herbrand.proofs.Entering.{inputs-literals, inputs-at}
+use Rattle.q_herbrand.proofs.Along.{end-follows, widened}
+use Rattle.q_herbrand.proofs.Choosing.{chosen-literals}
 use Rattle.q_herbrand.proofs.carrying.carry.Goals as goal
 
-pub take_all-requires-clause-circuits : goal.take_all-requires-clause-circuits
-take_all-requires-clause-circuits c =
-    let copied = rw (c.deref.ensures.value, c.deref-2.ensures.value) at c.in_ok-row.ensures in
-    let placed = rw (c.deref-3.ensures.value, c.deref-4.ensures.value) at c.in_ok-circuits.ensures in
-    placed.literals c.copy_gates.new.aig (literals-kept c.open.new.aig c.copy_gates.new.aig
-    c.in_ok-inputs.inputs.items copied.grown.kept
-    (inputs-literals c.open.new.aig c.open.new.aig.inputs c.in_ok-inputs.inputs.items
-    c.in_ok-inputs.ensures.inputs refl)) copied.there
+pub settle-requires-clause-slots : goal.settle-requires-clause-slots
+settle-requires-clause-slots c = c.in_ok-draft.ensures.ready.slots
+
+pub settle-requires-clause-owned : goal.settle-requires-clause-owned
+settle-requires-clause-owned c =
+    subst (λ (ins : List (Option ℕ)). AreOwned c.in_ok-draft.draft.aig.inputs ins c.in_ok-draft.draft.slots)
+    (sym (c.deref.ensures.value ∙ c.in_ok-draft.ensures.inputs)) c.in_ok-draft.ensures.ready.owned
+
+pub settle-requires-clause-inputs : goal.settle-requires-clause-inputs
+settle-requires-clause-inputs c =
+    subst (AreLiterals c.open.new.aig) (sym (c.deref.ensures.value ∙ c.in_ok-draft.ensures.inputs))
+    (inputs-literals c.open.new.aig c.open.new.aig.inputs c.in_ok-inputs.inputs.items c.in_ok-inputs.ensures.inputs
+    refl)
+
+pub settle-requires-clause-at : goal.settle-requires-clause-at
+settle-requires-clause-at c =
+    subst (λ (ins : List (Option ℕ)). InputsAt c.open.new.aig ins (λ x. is_there (look_at ins x)))
+    (sym (c.deref.ensures.value ∙ c.in_ok-draft.ensures.inputs))
+    (inputs-at c.open.new.aig c.open.new.aig.inputs c.in_ok-inputs.inputs.items c.in_ok-inputs.ensures.inputs refl)
+
+pub settle-requires-clause-resolved : goal.settle-requires-clause-resolved
+settle-requires-clause-resolved c =
+    let opened : AreOpened c.open.new.aig c.in_ok-inputs.inputs.items c.args.input.now.prefix c.args.reversals.now =
+    subst (λ (P : Prefix). AreOpened c.open.new.aig c.in_ok-inputs.inputs.items P c.args.reversals.now)
+    c.prefix-prefix.ensures.value c.in_ok-inputs.ensures in
+    let f = end-follows c.args.input.now c.args.reversals.now c.args.given.now c.open.new.aig
+    c.in_ok-inputs.inputs.items c.in_ok-draft.draft c.prefix-prefix.ensures.proper.formula c.requires.run opened
+    c.in_ok-draft.ensures in
+    (f.resolution, f.resolved)
+
+pub choose-requires-clause-distinct : goal.choose-requires-clause-distinct
+choose-requires-clause-distinct c = subst Distinct (sym c.requires.turned)
+    (exchanged-distinct c.args.input.now.prefix c.prefix-prefix.ensures.proper.formula.distinct)
+
+pub choose-requires-clause-written : goal.choose-requires-clause-written
+choose-requires-clause-written c = record {
+  circuits = c.in_ok-draft.ensures.ready.circuits;
+  room = c.in_ok-settled.ensures.rows.gates_room;
+}
 
 pub name_outputs-requires-clause-distinct : goal.name_outputs-requires-clause-distinct
 name_outputs-requires-clause-distinct c = subst Distinct (sym c.requires.turned)
     (exchanged-distinct c.args.input.now.prefix c.prefix-prefix.ensures.proper.formula.distinct)
 
+pub name_outputs-requires-clause-literals : goal.name_outputs-requires-clause-literals
+name_outputs-requires-clause-literals c =
+    subst (AreLiterals c.settle.new.aig) (sym c.deref-2.ensures.value)
+    (chosen-literals c.args.turned.now c.in_ok-draft.draft c.in_ok-settled.settled c.settle.new.aig
+    c.in_ok-draft.draft.slots c.in_ok-row.row.items c.in_ok-settled.ensures.rows c.in_ok-row.ensures)
+
 pub returns : goal.returns
-returns c = λ G ss run reversals lawful.
-    let e = c.aig-old.ensures in
+returns c =
     let opened : AreOpened c.open.new.aig c.in_ok-inputs.inputs.items c.args.input.now.prefix c.args.reversals.now =
     subst (λ (P : Prefix). AreOpened c.open.new.aig c.in_ok-inputs.inputs.items P c.args.reversals.now)
     c.prefix-prefix.ensures.value c.in_ok-inputs.ensures in
-    let marked : AreMarked c.args.given.now.gates c.outputs-outputs.result.now c.in_ok-marks.marks.items =
-    subst (λ (n : Net). AreMarked n.gates c.outputs-outputs.result.now c.in_ok-marks.marks.items) e
-    c.in_ok-marks.ensures.marked in
-    let copied = rw (c.deref.ensures.value, c.deref-2.ensures.value) at c.in_ok-row.ensures in
-    let copied2 : AreCopied (net_of c.args.given.now) c.in_ok-marks.marks.items c.in_ok-inputs.inputs.items
-    c.open.new.aig c.copy_gates.new.aig c.in_ok-row.row.items (length c.args.given.now.gates) =
-    subst (λ (n : Net). AreCopied n c.in_ok-marks.marks.items c.in_ok-inputs.inputs.items c.open.new.aig
-    c.copy_gates.new.aig c.in_ok-row.row.items (length n.gates)) e copied in
-    let placed = rw (c.deref-3.ensures.value, c.deref-4.ensures.value) at c.in_ok-circuits.ensures in
-    let placed2 : ArePlaced (net_of c.args.given.now) c.in_ok-inputs.inputs.items c.in_ok-row.row.items
-    c.outputs-outputs.result.now c.outputs-outputs.result.now c.in_ok-circuits.circuits.items =
-    subst (λ (n : Net). ArePlaced n c.in_ok-inputs.inputs.items c.in_ok-row.row.items
-    c.outputs-outputs.result.now c.outputs-outputs.result.now c.in_ok-circuits.circuits.items) e placed in
-    let named : IsNamed c.take_all.new.aig c.in_ok-made.made c.take_all.new.tables.circuits.items
-    (exchanged c.args.input.now.prefix) = subst (IsNamed c.take_all.new.aig c.in_ok-made.made
-    c.take_all.new.tables.circuits.items) c.requires.turned
-    (rw (c.deref-5.ensures.value) at c.in_ok-made.ensures) in
-    widened c.args.input.now G ss c.args.reversals.now c.args.given.now c.in_ok-made.made
-    c.outputs-outputs.result.now c.open.new.aig c.copy_gates.new.aig c.take_all.new.aig
-    c.in_ok-inputs.inputs.items c.in_ok-circuits.circuits.items c.take_all.new.tables.circuits.items
-    c.in_ok-marks.marks.items c.in_ok-row.row.items
-    c.prefix-prefix.ensures.proper.formula run reversals lawful c.outputs-outputs.ensures.value
-    c.outputs-outputs.ensures.lawful opened marked copied2 placed2 c.in_ok-take_all.ensures.carried named
+    let chosen : IsChosen (exchanged c.args.input.now.prefix) c.in_ok-draft.draft c.in_ok-settled.settled
+    c.in_ok-row.row.items = subst (λ (P : Prefix). IsChosen P c.in_ok-draft.draft c.in_ok-settled.settled
+    c.in_ok-row.row.items) c.requires.turned c.in_ok-row.ensures in
+    let named : IsNamed c.settle.new.aig c.in_ok-made.made c.in_ok-row.row.items
+    (exchanged c.args.input.now.prefix) = subst (IsNamed c.settle.new.aig c.in_ok-made.made c.in_ok-row.row.items)
+    c.requires.turned (rw (c.deref-2.ensures.value) at c.in_ok-made.ensures) in
+    widened c.args.input.now c.args.reversals.now c.args.given.now c.open.new.aig c.in_ok-inputs.inputs.items
+    c.in_ok-draft.draft c.prefix-prefix.ensures.proper.formula c.requires.run opened c.in_ok-draft.ensures
+    c.settle.new.aig c.in_ok-settled.settled c.in_ok-row.row.items c.in_ok-made.made c.in_ok-settled.ensures
+    chosen named

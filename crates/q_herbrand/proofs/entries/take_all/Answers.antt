@@ -2,25 +2,15 @@ use Rattle.std.proofs.Common.{◌≡◌, ◌≤◌, ℕ, ◌+◌, ◌-◌, ◌�
 use Rattle.std.proofs.lemmas.List.{length-map}
 use Rattle.q_logic.specs.Reversals.{Reversal}
 use Rattle.q_carry.proofs.Lists.{drop-mapped}
-use Rattle.q_carry.specs.Standing.{AreLiterals}
-use Rattle.q_herbrand.specs.Inputs.{AreInputs}
 use Rattle.q_herbrand.specs.Entries.{entry_of}
-use Rattle.q_herbrand.specs.Carried.{IsCarried, AreCarried}
-use Rattle.q_herbrand.proofs.Entering.{inputs-literals}
-use Rattle.q_herbrand.proofs.Following.{carried-more}
+use Rattle.q_herbrand.specs.Following.{IsReady, IsTaken, AreTaken}
+use Rattle.q_herbrand.proofs.Following.{taken-more}
 use Rattle.q_herbrand.proofs.entries.take_all.Goals as goal
 
-pub take_entry-requires-clause-inputs : goal.take_entry-requires-clause-inputs
-take_entry-requires-clause-inputs c =
-    subst (λ v. AreInputs c.loop-i.aig.inputs v.items) (sym c.loop-i.invariant.same)
-    (subst (λ (xs : List ℕ). AreInputs xs c.args.tables.now.inputs.items) (sym c.loop-i.invariant.done.inputs)
-    c.requires.inputs)
-
-pub take_entry-requires-clause-literals : goal.take_entry-requires-clause-literals
-take_entry-requires-clause-literals c =
-    subst (λ v. AreLiterals c.loop-i.aig v.items) (sym c.loop-i.invariant.same)
-    (inputs-literals c.loop-i.aig c.args.aig.now.inputs c.args.tables.now.inputs.items c.requires.inputs
-    c.loop-i.invariant.done.inputs)
+pub take_entry-requires : goal.take_entry-requires
+take_entry-requires c =
+    subst (λ v. IsReady c.loop-i.aig v.items c.loop-i.tables.circuits.items c.loop-i.slots)
+    (sym c.loop-i.invariant.same) c.loop-i.invariant.done.ready
 
 pub loop-i-preserved : goal.loop-i-preserved
 loop-i-preserved c =
@@ -37,18 +27,20 @@ loop-i-preserved c =
     c.args.reversals.now = d ∙ ap (λ (n : ℕ). entry_of c.index-entries-i.result ∷ drop n c.args.reversals.now)
     back in
     let same : c.loop-i.tables.inputs ≡ c.args.tables.now.inputs = c.loop-i.invariant.same in
-    let u : IsCarried c.loop-i.aig c.take_entry.new.aig c.args.tables.now.inputs.items
-    c.loop-i.tables.circuits.items c.take_entry.new.tables.circuits.items (entry_of c.index-entries-i.result) =
-    subst (λ (ins : List (Option ℕ)). IsCarried c.loop-i.aig c.take_entry.new.aig ins
-    c.loop-i.tables.circuits.items c.take_entry.new.tables.circuits.items (entry_of c.index-entries-i.result))
-    (ap (λ v. v.items) same) c.in_ok-take_entry.ensures.carried in
+    let u : IsTaken c.loop-i.aig c.take_entry.new.aig c.args.tables.now.inputs.items
+    c.loop-i.tables.circuits.items c.take_entry.new.tables.circuits.items c.loop-i.slots c.take_entry.new.slots
+    (entry_of c.index-entries-i.result) =
+    subst (λ (ins : List (Option ℕ)). IsTaken c.loop-i.aig c.take_entry.new.aig ins
+    c.loop-i.tables.circuits.items c.take_entry.new.tables.circuits.items c.loop-i.slots c.take_entry.new.slots
+    (entry_of c.index-entries-i.result)) (ap (λ v. v.items) same) c.in_ok-take_entry.ensures.taken in
     record {
       bound = omega arith;
       same = c.in_ok-take_entry.ensures.inputs ∙ same;
-      done = subst (λ (rs : List Reversal). AreCarried c.args.aig.now c.take_entry.new.aig
-          c.args.tables.now.inputs.items c.args.tables.now.circuits.items c.take_entry.new.tables.circuits.items rs)
-          (sym d2)
-          (carried-more c.args.aig.now c.loop-i.aig c.take_entry.new.aig c.args.tables.now.inputs.items
+      done = subst (λ (rs : List Reversal). AreTaken c.args.aig.now c.take_entry.new.aig
+          c.args.tables.now.inputs.items c.args.tables.now.circuits.items c.take_entry.new.tables.circuits.items
+          c.args.slots.now c.take_entry.new.slots rs) (sym d2)
+          (taken-more c.args.aig.now c.loop-i.aig c.take_entry.new.aig c.args.tables.now.inputs.items
           c.args.tables.now.circuits.items c.loop-i.tables.circuits.items c.take_entry.new.tables.circuits.items
-          (entry_of c.index-entries-i.result) (drop c.loop-i.i c.args.reversals.now) c.loop-i.invariant.done u);
+          c.args.slots.now c.loop-i.slots c.take_entry.new.slots (entry_of c.index-entries-i.result)
+          (drop c.loop-i.i c.args.reversals.now) c.loop-i.invariant.done u);
     }

@@ -21,6 +21,20 @@ narrow-requires c =
           c.prefix.ensures.proper.formula.distinct);
     }
 
+pub carry-requires-clause-run : goal.carry-requires-clause-run
+carry-requires-clause-run c =
+    let fits : Fits (exchanged c.args.output.now.prefix) c.accept.new.given =
+    subst (λ (g : CertificateView). Fits (exchanged c.args.output.now.prefix) g)
+    (sym c.in_ok-accept.ensures.unchanged) c.in_ok-accept.ensures.accepted.fits in
+    record {
+      last = c.args.output.now;
+      steps = c.requires.0;
+      run = c.requires.1;
+      reversals = c.requires.2;
+      lawful = exchanged-lawful c.args.output.now.prefix (trees_of c.accept.new.given)
+          (c.fitting_circuits_are_lawful.ensures.lawful (exchanged c.args.output.now.prefix) fits);
+    }
+
 pub returns-clause-refuted : goal.returns-clause-refuted
 returns-clause-refuted c =
     let e : c.deref-2.result.now ≡ exchanged c.args.input.now.prefix = c.deref-2.ensures.value
@@ -35,7 +49,7 @@ returns-clause-refuted c =
     exchanged-lawful c.args.output.now.prefix (trees_of c.accept.new.given)
     (c.fitting_circuits_are_lawful.ensures.lawful (exchanged c.args.output.now.prefix) fits) in
     let wide : IsWide c.args.input.now c.args.reversals.now c.accept.new.given c.in_ok-wide.wide =
-    c.in_ok-wide.ensures c.args.output.now run.0 run.1 run.2 law in
+    c.in_ok-wide.ensures in
     let narrowed : IsNarrowed (exchanged c.args.input.now.prefix) c.in_ok-wide.wide c.in_ok-made.made =
     subst (λ (P : Prefix). IsNarrowed P c.in_ok-wide.wide c.in_ok-made.made) e
     (c.in_ok-made.ensures (subst (λ (P : Prefix). Lawful P (trees_of c.in_ok-wide.wide)) (sym e)

@@ -1,0 +1,4 @@
+pub mod Trees
+pub mod Noding
+pub mod Counting
+pub mod Raising

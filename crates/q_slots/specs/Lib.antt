@@ -1,0 +1,4 @@
+pub mod Under
+pub mod Slots
+pub mod Nodes
+pub mod Settled
