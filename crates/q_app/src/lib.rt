@@ -17,7 +17,9 @@ mod words;
 
 pub use answer::Answer;
 pub use generated::Generated;
-pub use laws::{first_moves_make_first_moves, further, headline, simplified_is_verified};
+pub use laws::{
+    completeness, first_moves_make_first_moves, further, headline, simplified_is_verified,
+};
 pub use q_command::{Outcome, Role, Status};
 pub use rebuilt::Rebuilt;
 pub use simplified::Simplified;
