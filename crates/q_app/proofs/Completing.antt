@@ -1,13 +1,12 @@
 -- The answer comes where no fault does.
-use Rattle.std.proofs.Common.{◌≡◌, ◌⊎◌, inl, inr, subst, ℕ, Option, Some, None}
+use Rattle.std.proofs.Common.{◌≡◌, inl, inr, subst, ℕ, Option, Some, None}
 use Rattle.std.proofs.lemmas.Option.{IfSome_then}
-use Rattle.q_logic.specs.Formulas.{PrenexFormula}
-use Rattle.q_io.specs.Files.{Disk, bytes_at}
+use Rattle.q_io.specs.Files.{Disk}
 use Rattle.q_search.specs.Budgets.{IsBelow}
 use Rattle.q_command.specs.Checks.{Exactly, MayCome}
 use Rattle.q_app.specs.Words.{Command, checking, simplifying, rebuilding, generating, solving, annotating, refuting, validating}
 use Rattle.q_app.specs.Says.{Devices, Runs, Gives}
-use Rattle.q_app.specs.Completeness.{IsFaultless, OrNoMemory, Answers, Completes, EachCompletes}
+use Rattle.q_app.specs.Completeness.{IsFaultless, OrNoMemory, Answers, EachCompletes}
 use Rattle.q_command.specs.declared.status.Status.{Status}
 use Rattle.q_command.specs.declared.status.Status.TheVariants as status
 

@@ -1,7 +1,6 @@
 -- `demo` passes where no fault comes.
 use Rattle.std.proofs.Common.{◌≡◌, ◌≢◌, ◌≤◌, ◌⊎◌, ◌∙◌, inl, inr, refl, sym, ap, arith, subst, ℕ, true, false, List, [], ◌∷◌, length, Option, Some, None, unwrap_or, IfSome}
 use Rattle.q_logic.specs.Counts.{Rose}
-use Rattle.q_logic.specs.Formulas.{PrenexFormula}
 use Rattle.q_logic.specs.Limits.{standard}
 use Rattle.q_dimacs.specs.Dimacs.{Dimacs}
 use Rattle.q_dimacs.specs.Writing.{formula_text}
@@ -9,7 +8,7 @@ use Rattle.q_gen.specs.Generated.{Generated}
 use Rattle.q_io.specs.Files.{Disk, bytes_at}
 use Rattle.q_io.proofs.Disks.{at_some}
 use Rattle.q_simplify.specs.Results.{Simplifies}
-use Rattle.q_command.specs.Checks.{IsFileOf, IsVerified, MayCome, AnswersExactly}
+use Rattle.q_command.specs.Checks.{IsFileOf, IsVerified, AnswersExactly}
 use Rattle.q_command.specs.Names.{ThreeNames}
 use Rattle.q_command.specs.Statuses.{passes}
 use Rattle.q_command.specs.declared.status.Status.{Status}
@@ -17,9 +16,9 @@ use Rattle.q_command.specs.declared.status.Status.TheVariants as status
 use Rattle.q_app.specs.declared.words.Scale.{Scale}
 use Rattle.q_app.specs.Operands.{Differ}
 use Rattle.q_app.specs.Simplifying.{IsEnded, SimplifiesExactly}
-use Rattle.q_app.specs.Words.{Command, checking, simplifying, generating, demo, options_of, nothing_set}
+use Rattle.q_app.specs.Words.{checking, simplifying, generating, demo, options_of, nothing_set}
 use Rattle.q_app.specs.Says.{Devices, Runs, AreLater, InTurn}
-use Rattle.q_app.specs.Completeness.{IsFaultless, IsFaultlessDemo, IsShortLog, OrNoMemory, DemoCompletes, DemoCompletesAlways}
+use Rattle.q_app.specs.Completeness.{IsFaultless, IsFaultlessDemo, IsShortLog, OrNoMemory, DemoCompletesAlways}
 use Rattle.q_app.proofs.Verifying.{AreReread, verified}
 use Rattle.q_app.proofs.Turns.{later-still}
 use Rattle.q_app.proofs.Completing.{wants, exact, answers}

@@ -1,7 +1,6 @@
 -- What a run promises, by what its commands do.
-use Rattle.std.proofs.Common.{◌≡◌, ◌≤◌, ◌∙◌, sym, subst, List, [], ◌∷◌, Option, Some, IfSome}
+use Rattle.std.proofs.Common.{◌≡◌, ◌≤◌, ◌∙◌, sym, subst, List, [], ◌∷◌, Option, Some}
 use Rattle.std.proofs.lemmas.Option.{IfSome_then}
-use Rattle.q_logic.specs.Formulas.{PrenexFormula}
 use Rattle.q_simplify.specs.declared.options.Options.{Options}
 use Rattle.q_command.specs.Names.{ThreeNames, three_of}
 use Rattle.q_command.specs.declared.status.Status.{Status}

@@ -1,5 +1,5 @@
 -- What is said of the three commands, put together.
-use Rattle.std.proofs.Common.{◌≡◌, ◌≢◌, ◌≤◌, inl, inr, ℕ, List, [], length, refl, sym, ap, ◌∙◌, subst, Option, Some, unwrap_or}
+use Rattle.std.proofs.Common.{◌≡◌, ◌≢◌, inl, inr, ℕ, List, [], refl, sym, ap, ◌∙◌, subst, Option, Some, unwrap_or}
 use Rattle.q_logic.specs.Formulas.{PrenexFormula}
 use Rattle.q_logic.specs.Certificates.{trees_of}
 use Rattle.q_logic.specs.Skolems.{SkolemOf}

@@ -14,7 +14,7 @@ ghost use Rattle.q_app.specs.Says.{AreLater, Does, InTurn, Runs, devices};
 ghost use Rattle.q_app.specs.Promises.{AnswerComes, DemoPasses, SimplifyEnds};
 
 use crate::answer::{Answer, say};
-use crate::generate::generate_file;
+use crate::gen_file::generate_file;
 use crate::rebuild::rebuild_files;
 use crate::rebuild_words::RebuildNames;
 use crate::settings::Settings;
