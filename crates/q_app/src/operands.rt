@@ -100,7 +100,7 @@ fn is_fourth(names: Names, last: &str) -> bool
 
 // The fourth name, where it differs from three.
 fn fourth_of<'a>(names: Names<'a>, rest: &'a [String]) -> Option<Four<'a>>
-    requires { Differ (three_of names.entry) }
+    requires { Differ (three_of names) }
     ensures names { option_map (λ o. (three_of o.names, o.last.now, map (λ w. string_bytes w) o.rest.now)) result
         ≡ fourth (Some (three_of names.entry, map (λ w. string_bytes w) rest.now)) }
     ensures apart { IfSome result (λ o. DifferFour (three_of o.names) o.last.now) }

@@ -55,7 +55,7 @@ fn run_simplify<F: Files, S: Sink>(
     guides: Vec<Box<dyn Guide>>,
 ) -> Status
     requires bounds { AreModest options.now.bounds }
-    requires names { Differ (three_of names.entry) }
+    requires names { Differ (three_of names) }
     ensures runs { Runs (Some (simplifying (three_of names.entry) options.now))
         (devices F.held F.read_faults F.write_faults files.old (view_sink S.written S.faults S.wants out.old)) result
         (devices F.held F.read_faults F.write_faults files.new (view_sink S.written S.faults S.wants out.new)) }
@@ -170,7 +170,7 @@ fn run_demo<F: Files, S: Sink>(
     guides: Vec<Box<dyn Guide>>,
 ) -> Status
     requires small { scale.size ≤ 100000 }
-    requires names { Differ (three_of names.entry) }
+    requires names { Differ (three_of names) }
     ensures { InTurn (demo scale (three_of names.entry))
         (devices F.held F.read_faults F.write_faults files.old (view_sink S.written S.faults S.wants out.old)) result
         (devices F.held F.read_faults F.write_faults files.new (view_sink S.written S.faults S.wants out.new)) }
