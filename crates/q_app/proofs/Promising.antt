@@ -1,5 +1,5 @@
 -- What a run promises, by what its commands do.
-use Rattle.std.proofs.Common.{◌≡◌, ◌≤◌, ◌∙◌, sym, subst, List, [], ◌∷◌, Option, Some}
+use Rattle.std.proofs.Common.{◌≡◌, ◌≤◌, ◌∙◌, sym, subst, List, [], ◌∷◌, Option, Some, None}
 use Rattle.std.proofs.lemmas.Option.{IfSome_then}
 use Rattle.q_simplify.specs.declared.options.Options.{Options}
 use Rattle.q_command.specs.Names.{ThreeNames, three_of}
@@ -67,3 +67,7 @@ demo-passes reread made p r before given after f e h k n w =
     let same : commands_of p ≡ demo k n = requested r (commands_of p) (demo k n) e w in
     let d : (k.size ≤ 100000) × Differ n = demo-in p k n f same in
     demo-completes reread made k n before given after d.0 d.1 (subst (λ (cs : List Command). InTurn cs before given after) same h)
+
+-- where the words ask for nothing, nothing is promised
+pub nothing-asked : (r : Request) (cs : List Command) → None ≡ r → r ≡ Some cs → ⊥
+nothing-asked r cs e f = let w : None ≡ Some cs = e ∙ f in cc
