@@ -27,23 +27,29 @@ log=${3:-$here/parity.qrat}
 
 # Whole steps are counted, since a step may have several lines.
 steps=$(awk '/^[ \t\r]*c/ { next } { for (i = 1; i <= NF; i++) if ($i ~ /^0+\r*$/) n++ } END { print n + 0 }' "$log")
-awk -v every=$(((steps + parts - 1) / parts)) -v dir="$work" -f "$here/replay.awk" "$in" "$log" >"$work/count" || exit 1
+cp "$in" "$work/0.qdimacs" && cp "$out" "$work/out.qdimacs" || exit 1
+
+# Checks the parts, which come as lines of three names; one line for each part, in the order of the parts.
+check_parts() {
+    if has parallel; then
+        set -- --will-cite -k -j "$jobs" --colsep ' '
+        [ -z "$hosts" ] || set -- "$@" --sshlogin "$hosts" --workdir ... --cleanup --transferfile '{1}' --transferfile '{2}' --transferfile '{3}'
+        parallel "$@" "$celdrinn" check '{1}' '{2}' '{3}'
+    else
+        xargs -n 3 -P "$jobs" sh -c '"$0" check "$1" "$2" "$3" >"$3.line"' "$celdrinn"
+        k=1
+        while [ -f "$k.qrat.line" ]; do
+            cat "$k.qrat.line"
+            k=$((k + 1))
+        done
+    fi
+}
+
+# A part is checked as soon as it is there. The first one begins with IN, and the last one has to end in OUT.
+awk -v every=$(((steps + parts - 1) / parts)) -v total="$steps" -v dir="$work" -f "$here/replay.awk" "$in" "$log" | (cd "$work" && check_parts >lines)
+[ -f "$work/count" ] || exit 1
 read -r parts steps is_cut <"$work/count"
 [ "$is_cut" -eq 0 ] || { echo "refused: the log ends inside a step" && exit 1; }
-# the first part begins with IN, and the last one has to end in OUT
-cp "$in" "$work/0.qdimacs" && cp "$out" "$work/$parts.qdimacs" || exit 1
-awk -v n="$parts" 'BEGIN { for (k = 1; k <= n; k++) print k - 1 ".qdimacs " k ".qdimacs " k ".qrat" }' >"$work/table"
-
-# One line for each part, in the order of the parts.
-cd "$work" || exit 1
-if has parallel; then
-    set -- --will-cite -k -j "$jobs" --colsep ' '
-    [ -z "$hosts" ] || set -- "$@" --sshlogin "$hosts" --workdir ... --cleanup --transferfile '{1}' --transferfile '{2}' --transferfile '{3}'
-    parallel "$@" "$celdrinn" check '{1}' '{2}' '{3}' <table >lines
-else
-    xargs -n 3 -P "$jobs" sh -c '"$0" check "$1" "$2" "$3" >"$3.line"' "$celdrinn" <table
-    while read -r _ _ part; do cat "$part.line"; done <table >lines
-fi
 awk -v n="$parts" -v steps="$steps" '
     $1 == "verified" && NF == 2 { sum += $2; next }
     first == "" { first = "part " NR ": " $0 }
@@ -51,4 +57,4 @@ awk -v n="$parts" -v steps="$steps" '
         if (first == "" && (NR != n || sum != steps)) first = "not all parts were checked"
         print first == "" ? "verified " sum : first
         exit first != ""
-    }' lines
+    }' "$work/lines"

@@ -8,7 +8,7 @@ here=$(cd "$(dirname "$0")" && pwd)
 [ $# -eq 4 ] || { echo "usage: $0 IN LOG OUT WHOLE" >&2 && exit 64; }
 in=$1 log=$2 out=$3 whole=$4
 
-awk -v every=0 -v dir="$work" -f "$here/replay.awk" "$in" "$log" >"$work/count" || exit 1
+awk -v every=0 -v dir="$work" -f "$here/replay.awk" "$in" "$log" || exit 1
 cp "$work/1.qdimacs" "$out" && cp "$work/1.qrat" "$whole" || exit 1
 # whoever made OUT, check says whether it is right
 "$celdrinn" check "$in" "$out" "$whole"

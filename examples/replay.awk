@@ -1,8 +1,9 @@
 # Makes the steps of a log on a formula, without asking whether they are valid, and writes the formulas on the way: after each
 # `every` steps, and at the end. Part K of the log goes to DIR/K.qrat, the formula behind it to DIR/K.qdimacs; a step that the log
-# breaks off in is left out. A log with hints is refused. Prints the number of parts, of steps, and 1 where the log breaks off
-# inside a step, else 0.
-# Usage: awk -v every=N -v dir=DIR -f examples/replay.awk IN LOG
+# breaks off in is left out. A log with hints is refused. DIR/count gets the number of parts, of steps, and 1 where the log breaks off
+# inside a step, else 0. Where `total` says how many steps there are, a line is printed as soon as a part is there: the formula
+# before it, the one behind it, which is called out.qdimacs for the last part, and the steps.
+# Usage: awk -v every=N [-v total=N] -v dir=DIR -f examples/replay.awk IN LOG
 
 # The literals of a clause in one order, each once: the name under which its copies are counted. `from` is the first one.
 function name_of(n, from,    i, j, lit, size, text) {
@@ -84,6 +85,10 @@ function end_part() {
     close(dir "/" part ".qrat")
     put_formula(dir "/" part ".qdimacs")
     in_part = 0
+    if (total != "") {
+        print part - 1 ".qdimacs", (steps + 0 == total ? "out" : part) ".qdimacs", part ".qrat"
+        fflush()
+    }
 }
 function read_log(text) {
     if (text == "p" && steps == 0) { print "replay: a log with hints can't be replayed" >"/dev/stderr"; failed = 1; exit 1 }
@@ -105,5 +110,5 @@ END {
         if (steps == 0) { part = 1; printf "" >(dir "/1.qrat") }
         end_part()
     }
-    print part, steps + 0, within + 0
+    print part, steps + 0, within + 0 >(dir "/count")
 }
