@@ -11,6 +11,3 @@ pub mod Together
 pub mod Beyond
 pub mod Saying
 pub mod SameMoves
-pub mod Completing
-pub mod Demonstrating
-pub mod Promising

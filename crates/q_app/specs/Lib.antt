@@ -14,5 +14,3 @@ pub mod Says
 pub mod Headline
 pub mod Further
 pub mod FirstMoves
-pub mod Completeness
-pub mod Promises

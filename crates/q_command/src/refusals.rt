@@ -7,8 +7,7 @@ use crate::outcome::Outcome;
 use q_check::CheckError;
 use q_log::LogError;
 
-/// What is said of a log that can't be read on.
-pub fn log_refusal(error: LogError) -> Outcome
+pub(crate) fn log_refusal(error: LogError) -> Outcome
     ensures is { result ≡ log_refused error }
     ensures unverified { IsUnverified result }
 {
@@ -19,8 +18,7 @@ pub fn log_refusal(error: LogError) -> Outcome
     }
 }
 
-/// What is said of a step on this line that is refused.
-pub fn step_refusal(line: u64, error: CheckError) -> Outcome
+pub(crate) fn step_refusal(line: u64, error: CheckError) -> Outcome
     ensures is { result ≡ step_refused line error }
     ensures unverified { IsUnverified result }
 {

@@ -1,3 +1,2 @@
 pub mod AnnotatedLines
 pub mod Annotates
-pub mod Readings

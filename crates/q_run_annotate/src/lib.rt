@@ -5,12 +5,9 @@
 
 mod annotated;
 mod files;
-mod law;
 mod names;
-mod reading;
-mod scribe;
+mod text;
 
 pub use annotated::Annotated;
 pub use files::annotate_files;
-pub use law::annotated_is_verified;
 pub use names::AnnotateNames;
