@@ -11,3 +11,6 @@ pub mod Together
 pub mod Beyond
 pub mod Saying
 pub mod SameMoves
+pub mod Completing
+pub mod Demonstrating
+pub mod Promising

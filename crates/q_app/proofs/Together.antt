@@ -1,5 +1,5 @@
 -- What is said of the three commands, put together.
-use Rattle.std.proofs.Common.{◌≡◌, ◌≢◌, ◌≤◌, ℕ, List, [], length, sym, ap, ◌∙◌, subst, Option, Some, unwrap_or}
+use Rattle.std.proofs.Common.{◌≡◌, ◌≢◌, inl, inr, ℕ, List, [], refl, sym, ap, ◌∙◌, subst, Option, Some, unwrap_or}
 use Rattle.q_logic.specs.Formulas.{PrenexFormula}
 use Rattle.q_logic.specs.Certificates.{trees_of}
 use Rattle.q_logic.specs.Skolems.{SkolemOf}
@@ -9,11 +9,19 @@ use Rattle.q_aiger.specs.Writing.{IsCanonical}
 use Rattle.q_aiger.specs.Alike.{AreAlike}
 use Rattle.q_aiger.proofs.Alike.{one-meaning}
 use Rattle.q_rebuild.proofs.Alike.{skolem-alike}
+use Rattle.q_logic.specs.Measure.{measure_of}
+use Rattle.q_sched.specs.Settled.{IsSettled}
+use Rattle.q_sched.specs.Drives.{IsSpentAt}
 use Rattle.q_simplify.specs.declared.options.Options.{Options}
+use Rattle.q_simplify.specs.declared.report.Report.{Report}
+use Rattle.q_simplify.specs.declared.report.Ending.{Ending}
+use Rattle.q_simplify.specs.declared.report.Ending.TheVariants as ending
+use Rattle.q_simplify.specs.Results.{EndsAs, Simplifies}
 use Rattle.q_command.specs.Checks.{IsFileOf, IsVerified, AnswersExactly}
 use Rattle.q_app.specs.Simplifying.{IsEnded, SimplifiesExactly}
 use Rattle.q_app.specs.Rebuilds.{FiveNames, AreSkolem, IsWhole, RebuildsExactly}
-use Rattle.q_app.specs.Headline.{IsAcceptedByCheck, IsSimplified, HoldsSkolem, IsCarriedBack, Headline}
+use Rattle.q_app.specs.Statuses.{status_of_ending}
+use Rattle.q_app.specs.Headline.{IsAcceptedByCheck, IsSimplified, EndsRight, HoldsSkolem, IsCarriedBack, Headline}
 use Rattle.q_command.specs.declared.status.Status.{Status}
 use Rattle.q_command.specs.declared.status.Status.TheVariants as status
 use Rattle.q_command.proofs.Exact.{one_formula}
@@ -22,21 +30,43 @@ use Rattle.q_app.proofs.Verifying.{AreReread, verified}
 accepted-by-check : (input output log : List ℕ) → IsVerified input output log → IsAcceptedByCheck input output log
 accepted-by-check input output log v answer a = a.verified.1 v
 
-simplified : AreReread → (answer : Status) (o : Options) (input output log : List ℕ) (before after : Disk) → input ≢ output → input ≢ log → SimplifiesExactly answer o input output log before (Some after) → IsEnded answer → IsSimplified input output log before after
-simplified reread answer o input output log before after m n h e =
-    let x = h.ended e in
-    let F : PrenexFormula = x.1.0 in
-    let f : IsFileOf (bytes_at before input) x.1.0 = x.1.1 in
-    let s = x.1.2 in
-    let d : s.disk ≡ after = cc in
-    let t : bytes_at s.disk output ≡ formula_text s.result = ap (λ b. unwrap_or b []) s.output in
+-- how it ended, by its status
+ended-spent : (x : Ending) (o : Options) (F G : PrenexFormula) → EndsAs x o F G → status_of_ending x ≡ status.Spent → IsSpentAt o.budget (measure_of o.bounds F) (measure_of o.bounds G)
+ended-spent ending.Settled o F G h e = cc
+ended-spent ending.True o F G h e = cc
+ended-spent ending.False o F G h e = cc
+ended-spent ending.Spent o F G h e = h.1
+
+ended-settled : (x : Ending) (o : Options) (F G : PrenexFormula) → EndsAs x o F G → status_of_ending x ≢ status.Spent → IsSettled o.bounds G
+ended-settled ending.Settled o F G h n = h.0
+ended-settled ending.True o F G h n = h.0
+ended-settled ending.False o F G h n = h.0
+ended-settled ending.Spent o F G h n = absurd (n refl)
+
+-- OUT and LOG are written
+left-written : AreReread → (answer : Status) (r : Report) (o : Options) (F : PrenexFormula) (input output log : List ℕ) (before : Disk) (after : Option Disk) → input ≢ output → input ≢ log → IsFileOf (bytes_at before input) F → answer ≡ status_of_ending r.ending → Simplifies o F r output log before after → (disk : Disk) × (after ≡ Some disk) × IsSimplified answer o F input output log disk
+left-written reread answer r o F input output log before after m n f a s =
+    let t : bytes_at s.disk output ≡ formula_text s.result = ap (λ b. unwrap_or b []) s.output in (
+      s.disk,
+      s.told,
+      record {
+        to = s.result;
+        is_output = subst (λ (xs : List ℕ). IsFileOf xs s.result) (sym t) s.report.readable;
+        truth = s.truth;
+        fell = λ e. ended-spent r.ending o F s.result s.report.ending (sym a ∙ e);
+        settled = λ e. ended-settled r.ending o F s.result s.report.ending (λ z. e (a ∙ z));
+        accepted = λ short. accepted-by-check (bytes_at s.disk input) (bytes_at s.disk output) (bytes_at s.disk log) (verified reread o F r input output log before s.disk m n f (subst (λ (k : Option Disk). Simplifies o F r output log before k) s.told s) short);
+      },
+    )
+
+pub simplified : AreReread → (answer : Status) (o : Options) (input output log : List ℕ) (before : Disk) (after : Option Disk) → input ≢ output → input ≢ log → SimplifiesExactly answer o input output log before after → (F : PrenexFormula) → IsFileOf (bytes_at before input) F → EndsRight answer o F input output log after
+simplified reread answer o input output log before after m n h F f =
     record {
-      from = x.1.0;
-      to = s.result;
-      is_input = f;
-      is_output = subst (λ (k : Disk). IsFileOf (bytes_at k output) s.result) d (subst (λ (xs : List ℕ). IsFileOf xs s.result) (sym t) s.report.readable);
-      truth = s.truth;
-      accepted = λ short. accepted-by-check (bytes_at after input) (bytes_at after output) (bytes_at after log) (verified reread o x.1.0 x.0 input output log before after m n f s short);
+      ends = elim h.any [ inl e ↦ inl e | inr (inl e) ↦ absurd (h.refused.0 e F f) | inr (inr e) ↦ inr e ];
+      leaves = λ e.
+          let x = h.ended e in
+          let same : x.1.0 ≡ F = one_formula (bytes_at before input) x.1.0 F x.1.1 f in
+          left-written reread answer x.0 o F input output log before after m n f x.2 (subst (λ (H : PrenexFormula). Simplifies o H x.0 output log before after) same x.1.2);
     }
 
 -- the certificate that was written

@@ -12,7 +12,7 @@ use Rattle.q_app.specs.declared.settings.Setting.TheVariants as setting
 use Rattle.q_app.specs.declared.settings.Settings.{Settings}
 use Rattle.q_command.specs.Names.{ThreeNames, three}
 use Rattle.q_app.specs.Words.{Request, up_to, number_of, behind, set, setting_by, setting_of, with_setting, with_word, with_words, nothing_set, options_of, scale_of, scale_by, generate_to, generate_of, demo_by, demo_of}
-use Rattle.q_app.specs.Operands.{DifferFour, are_different, fourth, is_fourth, just_three, three_names, two_names}
+use Rattle.q_app.specs.Operands.{Differ, DifferFour, are_different, fourth, is_fourth, just_three, three_names, two_names}
 use Rattle.q_app.specs.Commands.{by_verb, request}
 
 pub none-stays : (ws : List (List ℕ)) → None ≡ with_words None ws
@@ -199,8 +199,21 @@ last_not false false true e f = cc
 last_not false false false e f = cc
 
 -- names that differ are not equal
-pub differ : (i o l : List ℕ) → are_different i o l ≡ true → o ≡ l → ⊥
-differ i o l h e = last_not (bytes_eq i o) (bytes_eq i l) (bytes_eq o l) ((bytes_eq-Decides o l).1 e) h
+first_not : (a b c : Bool) → a ≡ true → not a && not b && not c ≡ true → ⊥
+first_not true b c e f = cc
+first_not false b c e f = cc
+
+second_not : (a b c : Bool) → b ≡ true → not a && not b && not c ≡ true → ⊥
+second_not true b c e f = cc
+second_not false true c e f = cc
+second_not false false c e f = cc
+
+pub differ : (i o l : List ℕ) → are_different i o l ≡ true → Differ (three i o l)
+differ i o l h = record {
+  input_output = λ e. first_not (bytes_eq i o) (bytes_eq i l) (bytes_eq o l) ((bytes_eq-Decides i o).1 e) h;
+  input_log = λ e. second_not (bytes_eq i o) (bytes_eq i l) (bytes_eq o l) ((bytes_eq-Decides i l).1 e) h;
+  output_log = λ e. last_not (bytes_eq i o) (bytes_eq i l) (bytes_eq o l) ((bytes_eq-Decides o l).1 e) h;
+}
 
 -- two names, and what stands behind them
 pub few_for_two : (ws : List (List ℕ)) → length ws < 2 → None ≡ two_names ws
@@ -234,15 +247,6 @@ fourth-same n w ws e = rw e refl
 pub fourth-other : (n : ThreeNames) (w : List ℕ) (ws : List (List ℕ)) → is_fourth n w ≡ true → Some (n, w, ws) ≡ fourth (Some (n, w ∷ ws))
 unfolding fourth
 fourth-other n w ws e = rw e refl
-
-first_not : (a b c : Bool) → a ≡ true → not a && not b && not c ≡ true → ⊥
-first_not true b c e f = cc
-first_not false b c e f = cc
-
-second_not : (a b c : Bool) → b ≡ true → not a && not b && not c ≡ true → ⊥
-second_not true b c e f = cc
-second_not false true c e f = cc
-second_not false false c e f = cc
 
 pub differ-four : (n : ThreeNames) (w : List ℕ) → n.output ≢ n.log → is_fourth n w ≡ true → DifferFour n w
 differ-four n w h e = record {

@@ -1,12 +1,12 @@
 -- What the words ask for.
-use Rattle.std.specs.Prelude.{◌≢◌, ◌≤◌, ℕ, cond, List, [], ◌∷◌, Some, None, codes}
+use Rattle.std.specs.Prelude.{◌≤◌, ℕ, cond, List, [], ◌∷◌, Some, None, codes}
 use Rattle.std.specs.Str.{bytes_eq}
 use Rattle.q_logic.specs.declared.rule_bounds.Bounds.{Bounds}
 use Rattle.q_kernel.specs.Taking.{AreModest}
 use Rattle.q_command.specs.Names.{three, three_of}
 use Rattle.q_app.specs.Rebuilds.{FiveNames, five}
 use Rattle.q_app.specs.Words.{Command, checking, simplifying, rebuilding, generating, solving, annotating, refuting, validating, Request, check_of, simplify_of, rebuild_of, generate_of, validate_of, refute_of, annotate_of, solve_of, demo, demo_of, nothing_set, options_of}
-use Rattle.q_app.specs.Operands.{DifferFour, fourth, just_three, three_names, two_names}
+use Rattle.q_app.specs.Operands.{Differ, DifferFour, fourth, just_three, three_names, two_names}
 use Rattle.q_app.specs.RebuildWords.{rebuild_names}
 use Rattle.q_run_validate.specs.Validates.{files_of as validate_files_of}
 use Rattle.q_run_refute.specs.Refutes.{files_of as refute_files_of}
@@ -48,17 +48,17 @@ commands_of (Annotate n) = annotating (annotate_files_of n) ∷ []
 commands_of (Solve n b) = solving (solve_files_of n) b ∷ []
 commands_of (Demo k n) = demo k (three_of n)
 
--- such a command can be done: its numbers are within their limits, and what is written has two names
+-- such a command can be done: its numbers are within their limits, and its names differ
 abbrev pub IsFit : Parsed → Type 0
 IsFit (Check n) = Unit {0}
-IsFit (Simplify n p) = AreModest p.bounds × (n.output.now ≢ n.log.now)
+IsFit (Simplify n p) = AreModest p.bounds × Differ (three_of n)
 IsFit (Rebuild n) = Unit {0}
 IsFit (Generate k o) = k.size ≤ 100000
 IsFit (Validate n b) = Unit {0}
 IsFit (Refute n) = Unit {0}
 IsFit (Annotate n) = Unit {0}
 IsFit (Solve n b) = DifferFour (three n.input.now n.output.now n.log.now) n.cert.now
-IsFit (Demo k n) = (k.size ≤ 100000) × (n.output.now ≢ n.log.now)
+IsFit (Demo k n) = (k.size ≤ 100000) × Differ (three_of n)
 
 -- the bounds of the first simplification, and without one the defaults
 abbrev pub first_bounds : List Command → Bounds

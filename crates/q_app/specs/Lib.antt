@@ -14,3 +14,5 @@ pub mod Says
 pub mod Headline
 pub mod Further
 pub mod FirstMoves
+pub mod Completeness
+pub mod Promises

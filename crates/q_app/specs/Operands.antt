@@ -35,6 +35,12 @@ fourth None = None
 fourth (Some (n, [])) = None
 fourth (Some (n, word ∷ words)) = cond (is_fourth n word) (Some (n, word, words)) None
 
+-- the three names differ
+pub record Differ (n : ThreeNames) : Type 0 where
+  pub input_output : n.input ≢ n.output
+  pub input_log : n.input ≢ n.log
+  pub output_log : n.output ≢ n.log
+
 -- the four names differ
 pub record DifferFour (n : ThreeNames) (last : List ℕ) : Type 0 where
   pub output_log : n.output ≢ n.log

@@ -1,5 +1,5 @@
 -- What a run does: the status that it gives, what the files hold then, the faults that it may answer, the lines that it puts.
-use Rattle.std.specs.Prelude.{◌≡◌, ◌⊎◌, ℕ, true, false, List, [], ◌∷◌, ◌++◌, take, Option, Some, None, IfSome}
+use Rattle.std.specs.Prelude.{◌≡◌, ◌⊎◌, ◌≤◌, ℕ, true, false, List, [], ◌∷◌, ◌++◌, take, Option, Some, None, IfSome}
 use Rattle.q_io.specs.Files.{Disk, RoseAmong, bytes_at}
 use Rattle.q_logic.specs.Counts.{Rose}
 use Rattle.q_command.specs.Statuses.{passes}
@@ -126,6 +126,12 @@ pub record Runs (c : Option Command) (before : Devices) (given : Status) (after 
   pub unchanged : IfReading c (after.held ≡ before.held)
   pub line : Puts (MaySay c before.held after.held) before.sink given after.sink
 
+-- no count of faults fell, of any file or of the sink
+pub record AreLater (before after : Devices) : Type 0 where
+  pub read : (q : List ℕ) → before.read_faults q ≤ after.read_faults q
+  pub write : (q : List ℕ) → before.write_faults q ≤ after.write_faults q
+  pub sink : before.sink.faults ≤ after.sink.faults
+
 -- one command after the other, each over what the one before left; the first that does not pass is the last, and the status
 -- is that of the last
 abbrev pub InTurn : List Command → Devices → Status → Devices → Type 0
@@ -133,6 +139,7 @@ InTurn [] before given after = ⊥
 InTurn (c ∷ []) before given after = Runs (Some c) before given after
 InTurn (c ∷ d ∷ cs) before given after =
     (first : Status) × (between : Devices) × Runs (Some c) before first between
+    × AreLater before between × AreLater between after
     × (((passes first ≡ true) × InTurn (d ∷ cs) between given after) ⊎ ((passes first ≡ false) × (given ≡ first) × (after ≡ between)))
 
 -- what the words ask for is done; where they are not understood, that is said

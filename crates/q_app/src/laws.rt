@@ -9,6 +9,7 @@ ghost use Rattle.q_command.specs.Checks.{IsFileOf, IsVerified};
 ghost use Rattle.q_app.specs.FirstMoves.{FirstMoves};
 ghost use Rattle.q_app.specs.Headline.{Headline};
 ghost use Rattle.q_app.specs.Further.{Further};
+ghost use Rattle.q_app.specs.Completeness.{EachCompletes};
 
 use q_log::texts_are_read;
 
@@ -29,6 +30,11 @@ pub fn headline()
 {
     texts_are_read();
 }
+
+/// Where no fault comes and the inputs are in their grammars, each command's answer comes, or memory is wanting.
+pub fn completeness()
+    ensures { EachCompletes }
+{}
 
 /// Over one log, what two calls of `rebuild` write agrees in the first rounds where what they were given does.
 pub fn first_moves_make_first_moves()

@@ -2,7 +2,7 @@
 #![tactic(auto)]
 
 mod answer;
-mod generate;
+mod gen_file;
 mod generated;
 mod laws;
 mod operands;
@@ -17,8 +17,11 @@ mod words;
 
 pub use answer::Answer;
 pub use generated::Generated;
-pub use laws::{first_moves_make_first_moves, further, headline, simplified_is_verified};
+pub use laws::{
+    completeness, first_moves_make_first_moves, further, headline, simplified_is_verified,
+};
 pub use q_command::{Outcome, Role, Status};
+pub use q_gen::generate;
 pub use rebuilt::Rebuilt;
 pub use simplified::Simplified;
 pub use top::run;

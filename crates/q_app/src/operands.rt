@@ -1,7 +1,7 @@
 // Operands: names of files, which differ, and what stands behind them.
-ghost use Rattle.std.specs.Prelude.{◌≡◌, ◌≢◌, map, option_map, string_bytes, IfSome, Some};
+ghost use Rattle.std.specs.Prelude.{◌≡◌, map, option_map, string_bytes, IfSome, Some};
 ghost use Rattle.q_command.specs.Names.{three_of};
-ghost use Rattle.q_app.specs.Operands.{DifferFour, are_different as spec_are_different, fourth, is_fourth as spec_is_fourth, just_three, three_names as spec_three_names, two_names as spec_two_names};
+ghost use Rattle.q_app.specs.Operands.{Differ, DifferFour, are_different as spec_are_different, fourth, is_fourth as spec_is_fourth, just_three, three_names as spec_three_names, two_names as spec_two_names};
 ghost use Rattle.q_app.specs.Words.{budget_in};
 
 use crate::settings::Settings;
@@ -24,7 +24,7 @@ pub(crate) struct Begun<'a> {
 pub(crate) fn three_names(operands: &[String]) -> Option<Begun>
     ensures names { option_map (λ o. (three_of o.names, map (λ w. string_bytes w) o.rest.now)) result
         ≡ spec_three_names (map (λ w. string_bytes w) operands.now) }
-    ensures apart { IfSome result (λ o. o.names.output.now ≢ o.names.log.now) }
+    ensures apart { IfSome result (λ o. Differ (three_of o.names)) }
 {
     if operands.len() < 3 {
         return None;
@@ -45,7 +45,7 @@ pub(crate) fn three_names(operands: &[String]) -> Option<Begun>
 pub(crate) fn only_names(operands: &[String]) -> Option<Names>
     ensures names { option_map (λ o. three_of o) result
         ≡ just_three (spec_three_names (map (λ w. string_bytes w) operands.now)) }
-    ensures apart { IfSome result (λ o. o.output.now ≢ o.log.now) }
+    ensures apart { IfSome result (λ o. Differ (three_of o)) }
 {
     let Some(begun) = three_names(operands) else {
         return None;
@@ -100,7 +100,7 @@ fn is_fourth(names: Names, last: &str) -> bool
 
 // The fourth name, where it differs from three.
 fn fourth_of<'a>(names: Names<'a>, rest: &'a [String]) -> Option<Four<'a>>
-    requires { names.output.now ≢ names.log.now }
+    requires { Differ (three_of names) }
     ensures names { option_map (λ o. (three_of o.names, o.last.now, map (λ w. string_bytes w) o.rest.now)) result
         ≡ fourth (Some (three_of names.entry, map (λ w. string_bytes w) rest.now)) }
     ensures apart { IfSome result (λ o. DifferFour (three_of o.names) o.last.now) }

@@ -3,24 +3,27 @@ ghost use Rattle.std.specs.Prelude.{◌≡◌, ◌≢◌, ◌≤◌, ◌⊎◌, 
 ghost use Rattle.q_kernel.specs.Taking.{AreModest};
 ghost use Rattle.q_app.specs.Words.{annotating, checking, demo, generating, rebuilding, refuting, simplifying, solving, validating};
 ghost use Rattle.q_command.specs.Names.{three, three_of};
-ghost use Rattle.q_app.specs.Operands.{DifferFour};
+ghost use Rattle.q_app.specs.Operands.{Differ, DifferFour};
 ghost use Rattle.q_run_validate.specs.Validates.{files_of as validate_files_of};
 ghost use Rattle.q_run_refute.specs.Refutes.{files_of as refute_files_of};
 ghost use Rattle.q_run_annotate.specs.Annotates.{files_of as annotate_files_of};
 ghost use Rattle.q_run_solve.specs.Solves.{files_of as solve_files_of};
 ghost use Rattle.q_app.specs.Commands.{IsFit, commands_of, five_of, request};
 ghost use Rattle.q_command.specs.Sinks.{view_sink};
-ghost use Rattle.q_app.specs.Says.{Does, InTurn, Runs, devices};
+ghost use Rattle.q_app.specs.Says.{AreLater, Does, InTurn, Runs, devices};
+ghost use Rattle.q_app.specs.Promises.{AnswerComes, DemoPasses, SimplifyEnds};
 
 use crate::answer::{Answer, say};
-use crate::generate::generate_file;
+use crate::gen_file::generate_file;
 use crate::rebuild::rebuild_files;
 use crate::rebuild_words::RebuildNames;
 use crate::settings::Settings;
 use crate::simplify::simplify_file;
 use crate::words::{Command, Scale, parse};
 use q_command::{Names, Status, check};
+use q_gen::generated_is_read;
 use q_io::{Files, Sink};
+use q_log::texts_are_read;
 use q_run_annotate::{AnnotateNames, annotate_files};
 use q_run_refute::{RefuteNames, refute_files};
 use q_run_solve::{SolveNames, solve_files};
@@ -32,8 +35,11 @@ use std::alloc::Global;
 // The commands one by one: what each does, and then its line.
 
 fn run_check<F: Files, S: Sink>(alloc: Global, files: &mut F, out: &mut S, names: Names) -> Status
-    ensures { Runs (Some (checking (three_of names.entry)))
+    ensures runs { Runs (Some (checking (three_of names.entry)))
         (devices F.held F.read_faults F.write_faults files.old (view_sink S.written S.faults S.wants out.old)) result
+        (devices F.held F.read_faults F.write_faults files.new (view_sink S.written S.faults S.wants out.new)) }
+    ensures later { AreLater
+        (devices F.held F.read_faults F.write_faults files.old (view_sink S.written S.faults S.wants out.old))
         (devices F.held F.read_faults F.write_faults files.new (view_sink S.written S.faults S.wants out.new)) }
 {
     let outcome = check(alloc, files, names);
@@ -49,9 +55,12 @@ fn run_simplify<F: Files, S: Sink>(
     guides: Vec<Box<dyn Guide>>,
 ) -> Status
     requires bounds { AreModest options.now.bounds }
-    requires names { names.output.now ≢ names.log.now }
-    ensures { Runs (Some (simplifying (three_of names.entry) options.now))
+    requires names { Differ (three_of names) }
+    ensures runs { Runs (Some (simplifying (three_of names.entry) options.now))
         (devices F.held F.read_faults F.write_faults files.old (view_sink S.written S.faults S.wants out.old)) result
+        (devices F.held F.read_faults F.write_faults files.new (view_sink S.written S.faults S.wants out.new)) }
+    ensures later { AreLater
+        (devices F.held F.read_faults F.write_faults files.old (view_sink S.written S.faults S.wants out.old))
         (devices F.held F.read_faults F.write_faults files.new (view_sink S.written S.faults S.wants out.new)) }
 {
     let outcome = simplify_file(alloc, files, names, options, guides);
@@ -80,8 +89,11 @@ fn run_generate<F: Files, S: Sink>(
     output: &str,
 ) -> Status
     requires { scale.size ≤ 100000 }
-    ensures { Runs (Some (generating scale output.now))
+    ensures runs { Runs (Some (generating scale output.now))
         (devices F.held F.read_faults F.write_faults files.old (view_sink S.written S.faults S.wants out.old)) result
+        (devices F.held F.read_faults F.write_faults files.new (view_sink S.written S.faults S.wants out.new)) }
+    ensures later { AreLater
+        (devices F.held F.read_faults F.write_faults files.old (view_sink S.written S.faults S.wants out.old))
         (devices F.held F.read_faults F.write_faults files.new (view_sink S.written S.faults S.wants out.new)) }
 {
     let outcome = generate_file(alloc, files, scale, output);
@@ -158,7 +170,7 @@ fn run_demo<F: Files, S: Sink>(
     guides: Vec<Box<dyn Guide>>,
 ) -> Status
     requires small { scale.size ≤ 100000 }
-    requires names { names.output.now ≢ names.log.now }
+    requires names { Differ (three_of names) }
     ensures { InTurn (demo scale (three_of names.entry))
         (devices F.held F.read_faults F.write_faults files.old (view_sink S.written S.faults S.wants out.old)) result
         (devices F.held F.read_faults F.write_faults files.new (view_sink S.written S.faults S.wants out.new)) }
@@ -222,7 +234,21 @@ pub fn run<F: Files, S: Sink>(
     ensures does { Does (request (map (λ w. string_bytes w) words.now))
         (devices F.held F.read_faults F.write_faults files.old (view_sink S.written S.faults S.wants out.old)) result
         (devices F.held F.read_faults F.write_faults files.new (view_sink S.written S.faults S.wants out.new)) }
+
+    // `simplify` ends, memory and faults aside; each command answers, and `demo` passes, where no fault comes, or memory is
+    // wanting.
+    ensures simplify_ends { SimplifyEnds (request (map (λ w. string_bytes w) words.now))
+        (devices F.held F.read_faults F.write_faults files.old (view_sink S.written S.faults S.wants out.old)) result
+        (devices F.held F.read_faults F.write_faults files.new (view_sink S.written S.faults S.wants out.new)) }
+    ensures answer_comes { AnswerComes (request (map (λ w. string_bytes w) words.now))
+        (devices F.held F.read_faults F.write_faults files.old (view_sink S.written S.faults S.wants out.old)) result
+        (devices F.held F.read_faults F.write_faults files.new (view_sink S.written S.faults S.wants out.new)) }
+    ensures demo_passes { DemoPasses (request (map (λ w. string_bytes w) words.now))
+        (devices F.held F.read_faults F.write_faults files.old (view_sink S.written S.faults S.wants out.old)) result
+        (devices F.held F.read_faults F.write_faults files.new (view_sink S.written S.faults S.wants out.new)) }
 {
+    texts_are_read();
+    generated_is_read();
     match parse(words) {
         Some(command) => run_command(alloc, files, out, command, guides),
         None => say(out, &Answer::Usage),

@@ -1,5 +1,5 @@
 -- A line that is put into a sink, and the status that is given with it.
-use Rattle.std.specs.Prelude.{◌≡◌, ◌⊎◌, ℕ, List, ◌++◌, take, Option, Some, IfSome}
+use Rattle.std.specs.Prelude.{◌≡◌, ◌⊎◌, ◌≤◌, ℕ, List, ◌++◌, take, Option, Some, IfSome}
 use Rattle.q_logic.specs.Counts.{Rose}
 use Rattle.q_command.specs.declared.status.Status.{Status}
 use Rattle.q_command.specs.declared.status.Status.TheVariants as status
@@ -34,7 +34,8 @@ Says text line due given before after =
 abbrev pub IsDue : Status → Status → SinkView → SinkView → Type 0
 IsDue due given before after = (given ≡ due) ⊎ SinkFails given before after
 
--- the line is put, where the sink tells what was written, and the status that is due is given with it
+-- the line is put, where the sink tells what was written, and the status that is due is given with it; no count falls
 pub record IsSaid (line : List ℕ) (due given : Status) (before after : SinkView) : Type 0 where
   pub answer : IsDue due given before after
   pub says : IfSome before.written (λ text. Says text line due given before after)
+  pub later : (before.faults ≤ after.faults) × (before.wants ≤ after.wants)

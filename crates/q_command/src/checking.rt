@@ -172,6 +172,7 @@ pub fn check<F: Files>(alloc: Global, files: &mut F, names: Names) -> Outcome
     ensures fault { result ≡ Outcome.ReadFault →
         RoseAmong F.read_faults (names.entry.input.now ∷ names.entry.output.now ∷ names.entry.log.now ∷ []) files.old files.new }
     ensures held { F.held files.new ≡ F.held files.old }
+    ensures only_reads { OnlyReads F.held F.read_faults F.write_faults files.old files.new }
 {
     let nothing = Keep {
         undo: false,

@@ -23,4 +23,4 @@ returns-clause-names c =
 
 pub returns-clause-apart : goal.returns-clause-apart
 returns-clause-apart c =
-    differ-four (three_of c.args.names) c.as_str-last.result.now c.requires (sym c.is_fourth.ensures ∙ c.if-not-is_fourth.false)
+    differ-four (three_of c.args.names) c.as_str-last.result.now c.requires.output_log (sym c.is_fourth.ensures ∙ c.if-not-is_fourth.false)

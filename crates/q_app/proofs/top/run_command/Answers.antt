@@ -7,11 +7,11 @@ use Rattle.q_app.proofs.top.run_command.Goals as goal
 
 pub returns-in-Check : goal.returns-in-Check
 returns-in-Check g c =
-    subst (λ (k : Parsed). InTurn (commands_of k) (devices g.F.Files.held g.F.Files.read_faults g.F.Files.write_faults c.args.files.now (view_sink g.S.Sink.written g.S.Sink.faults g.S.Sink.wants c.args.out.now)) c.run_check.result (devices g.F.Files.held g.F.Files.read_faults g.F.Files.write_faults c.run_check.new.files (view_sink g.S.Sink.written g.S.Sink.faults g.S.Sink.wants c.run_check.new.out))) (sym c.in-Check.is) c.run_check.ensures
+    subst (λ (k : Parsed). InTurn (commands_of k) (devices g.F.Files.held g.F.Files.read_faults g.F.Files.write_faults c.args.files.now (view_sink g.S.Sink.written g.S.Sink.faults g.S.Sink.wants c.args.out.now)) c.run_check.result (devices g.F.Files.held g.F.Files.read_faults g.F.Files.write_faults c.run_check.new.files (view_sink g.S.Sink.written g.S.Sink.faults g.S.Sink.wants c.run_check.new.out))) (sym c.in-Check.is) c.run_check.ensures.runs
 
 pub returns-in-Simplify : goal.returns-in-Simplify
 returns-in-Simplify g c =
-    subst (λ (k : Parsed). InTurn (commands_of k) (devices g.F.Files.held g.F.Files.read_faults g.F.Files.write_faults c.args.files.now (view_sink g.S.Sink.written g.S.Sink.faults g.S.Sink.wants c.args.out.now)) c.run_simplify.result (devices g.F.Files.held g.F.Files.read_faults g.F.Files.write_faults c.run_simplify.new.files (view_sink g.S.Sink.written g.S.Sink.faults g.S.Sink.wants c.run_simplify.new.out))) (sym c.in-Simplify.is) c.run_simplify.ensures
+    subst (λ (k : Parsed). InTurn (commands_of k) (devices g.F.Files.held g.F.Files.read_faults g.F.Files.write_faults c.args.files.now (view_sink g.S.Sink.written g.S.Sink.faults g.S.Sink.wants c.args.out.now)) c.run_simplify.result (devices g.F.Files.held g.F.Files.read_faults g.F.Files.write_faults c.run_simplify.new.files (view_sink g.S.Sink.written g.S.Sink.faults g.S.Sink.wants c.run_simplify.new.out))) (sym c.in-Simplify.is) c.run_simplify.ensures.runs
 
 pub returns-in-Rebuild : goal.returns-in-Rebuild
 returns-in-Rebuild g c =
@@ -19,7 +19,7 @@ returns-in-Rebuild g c =
 
 pub returns-in-Generate : goal.returns-in-Generate
 returns-in-Generate g c =
-    subst (λ (k : Parsed). InTurn (commands_of k) (devices g.F.Files.held g.F.Files.read_faults g.F.Files.write_faults c.args.files.now (view_sink g.S.Sink.written g.S.Sink.faults g.S.Sink.wants c.args.out.now)) c.run_generate.result (devices g.F.Files.held g.F.Files.read_faults g.F.Files.write_faults c.run_generate.new.files (view_sink g.S.Sink.written g.S.Sink.faults g.S.Sink.wants c.run_generate.new.out))) (sym c.in-Generate.is) c.run_generate.ensures
+    subst (λ (k : Parsed). InTurn (commands_of k) (devices g.F.Files.held g.F.Files.read_faults g.F.Files.write_faults c.args.files.now (view_sink g.S.Sink.written g.S.Sink.faults g.S.Sink.wants c.args.out.now)) c.run_generate.result (devices g.F.Files.held g.F.Files.read_faults g.F.Files.write_faults c.run_generate.new.files (view_sink g.S.Sink.written g.S.Sink.faults g.S.Sink.wants c.run_generate.new.out))) (sym c.in-Generate.is) c.run_generate.ensures.runs
 
 pub returns-in-Validate : goal.returns-in-Validate
 returns-in-Validate g c =

@@ -8,8 +8,8 @@ use Rattle.q_app.proofs.Generating.{generate-answers}
 use Rattle.q_app.proofs.Saying.{said, generate-usage, generate-read, generate-write}
 use Rattle.q_app.proofs.top.run_generate.Goals as goal
 
-pub returns : goal.returns
-returns g c =
+pub returns-clause-runs : goal.returns-clause-runs
+returns-clause-runs g c =
     let o = c.generate_file-outcome.result in
     said (generating c.args.scale c.args.output.now) (answer.Generate c.generate_file-outcome.result)
     (devices g.F.Files.held g.F.Files.read_faults g.F.Files.write_faults c.args.files.now (view_sink g.S.Sink.written g.S.Sink.faults g.S.Sink.wants c.args.out.now))
@@ -18,3 +18,6 @@ returns g c =
     (IfSome_then (g.F.Files.held c.args.files.now) c.generate_file-outcome.ensures.generates
     (λ disk h. generate-answers c.say.result c.args.scale c.args.output.now disk _ c.generate_file-outcome.result (view_sink g.S.Sink.written g.S.Sink.faults g.S.Sink.wants c.args.out.now) (view_sink g.S.Sink.written g.S.Sink.faults g.S.Sink.wants c.say.new.out) h c.say.ensures.answer))
     (generate-usage o) (λ e. absurd (generate-read o e)) (λ e. c.generate_file-outcome.ensures.write_fault (generate-write o e)) tt
+
+pub returns-clause-later : goal.returns-clause-later
+returns-clause-later g c = record { read = c.generate_file-outcome.ensures.later.read; write = c.generate_file-outcome.ensures.later.write; sink = c.say.ensures.later.0 }

@@ -9,8 +9,8 @@ use Rattle.q_app.proofs.Answering.{simplify-answers}
 use Rattle.q_app.proofs.Saying.{said, simplify-usage, simplify-read, simplify-write}
 use Rattle.q_app.proofs.top.run_simplify.Goals as goal
 
-pub returns : goal.returns
-returns g c =
+pub returns-clause-runs : goal.returns-clause-runs
+returns-clause-runs g c =
     let o = c.simplify_file-outcome.result in
     said (simplifying (three_of c.args.names) c.args.options.now) (answer.Simplify c.simplify_file-outcome.result)
     (devices g.F.Files.held g.F.Files.read_faults g.F.Files.write_faults c.args.files.now (view_sink g.S.Sink.written g.S.Sink.faults g.S.Sink.wants c.args.out.now))
@@ -19,3 +19,6 @@ returns g c =
     (IfSome_then (g.F.Files.held c.args.files.now) c.simplify_file-outcome.ensures.ends
     (λ disk h. simplify-answers c.say.result c.args.options.now c.args.names.input.now c.args.names.output.now c.args.names.log.now disk _ c.simplify_file-outcome.result (view_sink g.S.Sink.written g.S.Sink.faults g.S.Sink.wants c.args.out.now) (view_sink g.S.Sink.written g.S.Sink.faults g.S.Sink.wants c.say.new.out) h c.say.ensures.answer))
     (simplify-usage o) (λ e. c.simplify_file-outcome.ensures.read_fault (simplify-read o e)) (λ e. c.simplify_file-outcome.ensures.write_fault (simplify-write o e)) tt
+
+pub returns-clause-later : goal.returns-clause-later
+returns-clause-later g c = record { read = c.simplify_file-outcome.ensures.later.read; write = c.simplify_file-outcome.ensures.later.write; sink = c.say.ensures.later.0 }

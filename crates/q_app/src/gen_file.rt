@@ -1,6 +1,6 @@
 // `gen`: the formula of a seed and a size goes into its file.
 ghost use Rattle.std.specs.Prelude.{◌≡◌, ◌≤◌, IfSome};
-ghost use Rattle.q_io.specs.Files.{RoseFor};
+ghost use Rattle.q_io.specs.Files.{Later, RoseFor};
 ghost use Rattle.q_app.specs.Generating.{Generates};
 
 use crate::generated::Generated;
@@ -18,6 +18,7 @@ pub(crate) fn generate_file<F: Files>(
 ) -> Generated
     requires { scale.size ≤ 100000 }
     ensures generates { IfSome (F.held files.old) (λ disk. Generates result scale output.now disk (F.held files.new)) }
+    ensures later { Later F.read_faults F.write_faults files.old files.new }
     ensures write_fault { result ≡ Generated.WriteFault → RoseFor F.write_faults output.now files.old files.new }
 {
     match write_generated(alloc, files, output, scale.seed, scale.size) {

@@ -1,0 +1,5 @@
+use Rattle.q_app.proofs.Completing.{completes}
+use Rattle.q_app.proofs.laws.completeness.Goals as goal
+
+pub returns : goal.returns
+returns c = completes
