@@ -1,0 +1,4 @@
+pub mod Runs
+pub mod Counting
+pub mod Ascending
+pub mod Naming

@@ -1,0 +1,12 @@
+-- Formulas that differ in the order of their clauses alone.
+use Rattle.std.specs.Prelude.{List}
+use Rattle.q_logic.specs.Formulas.{PrenexFormula}
+use Rattle.q_logic.specs.declared.limits.Limits.{Limits}
+use Rattle.q_logic.specs.Steps.{ProofStep}
+use Rattle.q_logic.specs.Runs.{AreAlike, ValidSteps}
+
+-- valid steps lead from F to G, up to the order of clauses
+pub record Leads (m : Limits) (F : PrenexFormula) (ss : List ProofStep) (G : PrenexFormula) : Type 0 where
+  pub last : PrenexFormula
+  pub steps : ValidSteps m F ss last
+  pub alike : AreAlike last G

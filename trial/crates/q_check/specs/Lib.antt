@@ -1,0 +1,4 @@
+pub mod Alike
+pub mod Checked
+pub mod Annotations
+pub mod HintChecks

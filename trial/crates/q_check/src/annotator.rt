@@ -1,0 +1,89 @@
+//! The annotator: it takes the steps that the checker takes, and gives each the proof part that shows it. So a log is
+//! checked once with search, and later by its hints alone.
+ghost use Rattle.std.specs.Prelude.{◌≡◌, ◌<◌, ◌+◌, ◌^◌, IfOk, IfErr, OnOk, OnErr};
+ghost use Rattle.q_logic.specs.Hinted.{begun, plain, HintedValid, hinted_after};
+ghost use Rattle.q_logic.specs.Limits.{AreModerate};
+ghost use Rattle.q_logic.specs.Runs.{SameFormula};
+ghost use Rattle.q_judge.specs.Tried.{IsEndRefusal};
+ghost use Rattle.q_judge.specs.declared.error.CheckError.TheVariants.{NoMemory as MemoryError};
+ghost use Rattle.q_check.specs.Annotations.{HasForm};
+ghost use Rattle.q_check.specs.Checked.{IsRefusal};
+
+use q_judge::CheckError;
+use q_logic::{Formula, Limits, Proof, Step};
+use std::alloc::Global;
+use std::marker::Model;
+
+/// Numbers.
+#[derive(Drop)]
+struct NumberedBook {
+    rows: Vec<u64>,
+}
+
+impl Model for NumberedBook {
+    ghost use Rattle.q_logic.specs.Hinted.{NumberedFormula};
+    ghost use Rattle.std.specs.Prelude.{[]};
+
+    ghost Value = { NumberedFormula };
+
+    ghost view = { λ b. record { prefix = []; slots = [] } };
+}
+
+/// Tries the steps of a proof, one after the other, and shows each by hints.
+#[derive(Drop)]
+pub struct Annotator {
+    book: NumberedBook,
+    limits: Limits,
+    steps: u64,
+}
+
+impl Model for Annotator {
+    ghost use Rattle.q_logic.specs.Limits.{AreModerate};
+    ghost use Rattle.q_check.specs.Annotations.{Annotating};
+
+    ghost Value = { Annotating };
+
+    ghost view = { λ a. record { formula = a.book; limits = a.limits; steps = a.steps } };
+
+    ghost invariant = { λ a. AreModerate a.limits };
+}
+
+impl Annotator {
+    pub fn start(alloc: Global, formula: &Formula, limits: Limits) -> Result<Annotator, CheckError>
+        requires { AreModerate limits }
+        ensures started { IfOk result (λ a. a ≡ record { formula = begun formula.now; limits = limits; steps = 0 }) }
+        ensures only_memory { IfErr result (λ e. e ≡ MemoryError) }
+    {
+        Err(CheckError::NoMemory)
+    }
+
+    /// The number of steps that were taken.
+    pub fn steps(&self) -> u64
+        ensures { result ≡ self.now.steps }
+    {
+        self.steps
+    }
+
+    /// Takes the step if it is valid, and answers the proof part that shows it. After an error the annotator is as before.
+    pub fn step(&mut self, step: &Step) -> Result<Proof, CheckError>
+        requires { self.old.steps < 2 ^ 61 }
+        ensures shown { IfOk result (HintedValid self.old.limits self.old.formula step.now) }
+        ensures after { IfOk result (λ t. self.new.formula ≡ hinted_after self.old.formula step.now t) }
+        ensures form { IfOk result (HasForm step.now) }
+        ensures limits { self.new.limits ≡ self.old.limits }
+        ensures steps { OnOk result (self.new.steps ≡ self.old.steps + 1) }
+        ensures refused { IfErr result (IsRefusal self.old.limits (plain self.old.formula) step.now) }
+        ensures unchanged { OnErr result (self.new ≡ self.old) }
+    {
+        Err(CheckError::NoMemory)
+    }
+
+    /// Ends the check: blocks and clauses are those of the output, in any order.
+    pub fn finish(self, output: &Formula) -> Result<(), CheckError>
+        ensures same { OnOk result (SameFormula (plain self.formula) output.now) }
+        ensures refused { IfErr result (IsEndRefusal (plain self.formula) output.now) }
+    {
+        Err(CheckError::NoMemory)
+    }
+}
+
