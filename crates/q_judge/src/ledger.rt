@@ -29,6 +29,7 @@ use crate::reach::{is_droppable, reduces};
 use crate::recent::RecentRegions;
 use crate::scope::Scope;
 use crate::undo::{Undo, collect_outers, pivot_entry};
+use crate::enclosures::RecentWalks;
 use q_logic::{Clauses, Formula, Limits, Lit, NoMemory};
 use q_prop::Store;
 use std::alloc::Global;
@@ -44,19 +45,21 @@ pub struct Ledger {
     lits: u64,
     buffers: Buffers,
     recent: RecentRegions,
+    walks: RecentWalks,
 }
 
 impl Model for Ledger {
     ghost use Rattle.q_prop.specs.Slots.{filled};
     ghost use Rattle.q_judge.specs.Ledgers.{Slotted};
     ghost use Rattle.q_judge.specs.Regions.{AreRegionsOf};
+    ghost use Rattle.q_judge.specs.Walks.{AreEnclosed};
     ghost use Rattle.q_judge.specs.Tried.{IsCounted};
 
     ghost Value = { Slotted };
 
     ghost view = { λ b. record { prefix = b.scope; slots = b.store } };
 
-    ghost invariant = { λ b. IsCounted (record { prefix = b.scope; matrix = filled b.store }) b.clauses b.lits × AreRegionsOf b.scope (filled b.store) b.recent };
+    ghost invariant = { λ b. IsCounted (record { prefix = b.scope; matrix = filled b.store }) b.clauses b.lits × AreRegionsOf b.scope (filled b.store) b.recent × AreEnclosed b.scope (filled b.store) b.walks };
 }
 
 impl Ledger {
@@ -80,6 +83,7 @@ impl Ledger {
             lits,
             buffers: Buffers::new(alloc),
             recent: RecentRegions::new(alloc),
+            walks: RecentWalks::new(alloc),
         })
     }
 
@@ -237,6 +241,66 @@ impl Ledger {
         ensures same { self.new ≡ self.old }
         ensures exact { IfOk result (λ yes. IsTrue yes ↔ IsDroppable self.old.prefix (filled (without_slot self.old.slots (Some at))) clause.now lit) }
     {
+        if self.is_told(at, clause, lit) {
+            return Ok(true);
+        }
+        let yes = self.finds_droppable(at, clause, rest, lit)?;
+        if yes {
+            self.learn(lit);
+        }
+        Ok(yes)
+    }
+
+    /// Whether the universal literal may go from the clause in a slot by its reach alone.
+    pub fn is_reducible(&mut self, at: usize, clause: &[Lit], lit: Lit) -> Result<bool, NoMemory>
+        requires within { Within self.old.prefix clause.now }
+        requires held { IsIn lit clause.now }
+        requires universal { is_universal self.old.prefix lit.var ≡ true }
+        ensures same { self.new ≡ self.old }
+        ensures exact { IfOk result (λ yes. IsTrue yes ↔ Reducible self.old.prefix (filled (without_slot self.old.slots (Some at))) clause.now lit) }
+    {
+        if self.is_told(at, clause, lit) {
+            return Ok(true);
+        }
+        let yes = self.finds_reducible(at, clause, lit)?;
+        if yes {
+            self.learn(lit);
+        }
+        Ok(yes)
+    }
+
+    // Whether a walk that was kept tells that the literal may go.
+    fn is_told(&self, at: usize, clause: &[Lit], lit: Lit) -> bool
+        requires within { Within self.now.prefix clause.now }
+        requires held { IsIn lit clause.now }
+        ensures { IsTrue result → Reducible self.now.prefix (filled (without_slot self.now.slots (Some at))) clause.now lit }
+    {
+        self.walks.tell(&self.scope, clause, lit)
+    }
+
+    // Keeps the walk that was made for the literal, if there was one.
+    fn learn(&mut self, lit: Lit)
+        ensures { self.new ≡ self.old }
+    {
+        self.walks
+            .learn(&self.store, &self.scope, &mut self.buffers.trail, lit);
+    }
+
+    // Whether the literal may go, by a walk of its own if need be.
+    fn finds_droppable(
+        &mut self,
+        at: usize,
+        clause: &[Lit],
+        rest: &[Lit],
+        lit: Lit,
+    ) -> Result<bool, NoMemory>
+        requires within { Within self.old.prefix clause.now }
+        requires held { IsIn lit clause.now }
+        requires rest { rest.now ≡ without lit clause.now }
+        ensures same { self.new ≡ self.old }
+        ensures exact { IfOk result (λ yes. IsTrue yes ↔ IsDroppable self.old.prefix (filled (without_slot self.old.slots (Some at))) clause.now lit) }
+    {
+        self.buffers.trail.truncate(0);
         is_droppable(
             &mut self.store,
             &self.scope,
@@ -249,14 +313,15 @@ impl Ledger {
         )
     }
 
-    /// Whether the universal literal may go from the clause in a slot by its reach alone.
-    pub fn is_reducible(&mut self, at: usize, clause: &[Lit], lit: Lit) -> Result<bool, NoMemory>
+    // The same for the reach alone.
+    fn finds_reducible(&mut self, at: usize, clause: &[Lit], lit: Lit) -> Result<bool, NoMemory>
         requires within { Within self.old.prefix clause.now }
         requires held { IsIn lit clause.now }
         requires universal { is_universal self.old.prefix lit.var ≡ true }
         ensures same { self.new ≡ self.old }
         ensures exact { IfOk result (λ yes. IsTrue yes ↔ Reducible self.old.prefix (filled (without_slot self.old.slots (Some at))) clause.now lit) }
     {
+        self.buffers.trail.truncate(0);
         reduces(
             &self.store,
             &self.scope,
@@ -311,6 +376,7 @@ impl Ledger {
         ensures err { OnErr result (self.new ≡ self.old) }
     {
         self.recent.take(&self.scope, clause);
+        self.walks.take(&self.scope, clause);
         let at = self.store.add(clause)?;
         self.clauses += 1;
         self.lits += clause.len() as u64;
@@ -335,6 +401,7 @@ impl Ledger {
         ensures ok { IfOk result (λ k. (t : Slots) × IsPut self.old.slots k rest.now t × (self.new ≡ record { prefix = self.old.prefix; slots = slice_set t at None })) }
         ensures err { OnErr result (self.new ≡ self.old) }
     {
+        self.walks.take(&self.scope, rest);
         let new = self.store.add(rest)?;
         self.store.delete(at);
         self.lits -= (clause.len() - rest.len()) as u64;

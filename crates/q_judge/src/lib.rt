@@ -4,6 +4,7 @@
 
 mod blocking;
 mod checks;
+mod enclosures;
 mod error;
 mod labels;
 mod ledger;

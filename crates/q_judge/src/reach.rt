@@ -182,7 +182,7 @@ fn push_inner(trail: &mut Trail, scope: &Scope, clause: &[Lit], u: Lit) -> Resul
     Ok(())
 }
 
-fn lies_inside(scope: &Scope, k: Lit, u: Lit) -> bool
+pub(crate) fn lies_inside(scope: &Scope, k: Lit, u: Lit) -> bool
     requires first { is_bound scope.now k.var ≡ true }
     requires second { is_bound scope.now u.var ≡ true }
     ensures { result ≡ is_inner scope.now u k }

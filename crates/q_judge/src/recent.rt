@@ -93,7 +93,8 @@ impl RecentRegions {
     }
 
     /// Learns of a walk for a variable that found nothing, and left what it met on the trail. Once such walks have looked
-    /// at more clauses than there are slots, regions are made for the variable: so that costs no more than the walks.
+    /// at four times as many clauses as there are slots, regions are made for the variable: that looks at each clause as
+    /// often, so it costs no more than the walks.
     pub fn learn(
         &mut self,
         store: &Store,
@@ -106,7 +107,7 @@ impl RecentRegions {
         ensures { AreRegionsOf scope.now (filled store.now) self.new }
     {
         self.debt = self.debt.saturating_add(looks(store, &buffers.trail));
-        if self.debt > store.slots() {
+        if self.debt / 4 > store.slots() {
             self.debt = 0;
             self.make(store, scope, &mut buffers.slots, var)?;
         }

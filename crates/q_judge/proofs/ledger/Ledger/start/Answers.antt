@@ -1,5 +1,7 @@
 use Rattle.std.proofs.Common.{◌≤◌, arith, length}
 use Rattle.q_judge.proofs.Beginning.{numbered-more, literals-more, counted-start}
+use Rattle.q_prop.specs.Slots.{filled}
+use Rattle.q_judge.proofs.Enclosing.{enclosed-none}
 use Rattle.q_judge.proofs.ledger.Ledger.start.Goals as goal
 
 pub loop-at-preserved : goal.loop-at-preserved
@@ -17,4 +19,5 @@ invariant_of-result c =
     let n : length F.matrix ≤ c.loop-at.at = omega (arith, c.loop-at-test.false, c.clauses-at-end.ensures.value) in (
       counted-start F c.in_ok-scope.scope c.prefix.result.now c.loop-at.store c.clauses-2.result c.loop-at.lits c.loop-at.at c.prefix.ensures.proper.formula c.in_ok-scope.ensures c.prefix.ensures.value c.clauses-2.ensures.value n c.loop-at.invariant.0 c.loop-at.invariant.1,
       rw c.new-2.ensures (λ R m. absurd m),
+      (enclosed-none c.in_ok-scope.scope (filled c.loop-at.store) c.new-3.result.first c.new-3.ensures.0, enclosed-none c.in_ok-scope.scope (filled c.loop-at.store) c.new-3.result.second c.new-3.ensures.1),
     )
