@@ -190,6 +190,16 @@ def subsumed(n):
     return formula
 
 
+def copies(n):
+    """n clauses of three literals, copies of twenty over twelve variables, in mixed order"""
+    formula = Formula()
+    variables = formula.variables("e", 12)
+    some = [signed(random.sample(variables, 3)) for _ in range(20)]
+    formula.clauses = [tuple(some[i % 20]) for i in range(n)]
+    random.shuffle(formula.clauses)
+    return formula
+
+
 # Chains and rings
 
 
@@ -260,6 +270,18 @@ def cuts(n):
     formula.bind("a", u)
     formula.bind("e", list(x) + list(y))
     formula.clauses = [(-x[i - 1], x[i], u[i]) for i in range(n)] + [(-y[i - 1], y[i], -u[i]) for i in range(n)]
+    return formula
+
+
+def gated(n):
+    """a ring of n existentials behind n universals, of which each clause holds one, a third of them far from its negation"""
+    formula = Formula()
+    u, x = formula.variables("a", n), formula.variables("e", n)
+    for i in range(n):
+        here, there = x[i - 1], x[i]
+        formula.add(u[i], here, there)
+        formula.add(-u[i], -here, -there)
+        formula.add(here, -there, u[i * 7 % n])
     return formula
 
 
@@ -522,6 +544,7 @@ FAMILIES = {
     "subsumed": (subsumed, COUNTS),
     "qbf": (qbf, COUNTS),
     "random": (mostly_inner, COUNTS),
+    "copies": (copies, COUNTS),
     "units": (units, COUNTS),
     "mixed": (mixed, COUNTS),
     "equal": (equal, scaled(1 / 2.1)),
@@ -529,6 +552,7 @@ FAMILIES = {
     "cycle": (cycle, scaled(1 / 2)),
     "ring": (ring, scaled(1 / 3)),
     "cuts": (cuts, scaled(1 / 2)),
+    "gated": (gated, scaled(1 / 3)),
     "cover": (cover, scaled(1 / 3.25)),
     "gates": (gates, scaled(1 / 3)),
     "tower": (tower, scaled(1 / 3.25)),

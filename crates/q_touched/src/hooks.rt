@@ -21,7 +21,7 @@ const NONE: ClauseId = u32::MAX;
 pub(crate) struct Hook {
     pub signature: u64,
     pub len: usize,
-    /// The index of the literal, 0 where the clause hangs nowhere.
+    /// The index of the literal, or `NOWHERE`.
     pub home: u32,
     pub next: ClauseId,
     pub before: ClauseId,
@@ -33,10 +33,13 @@ pub(crate) struct Hooks {
     first: Vec<ClauseId>,
 }
 
-const NOWHERE: Hook = Hook {
+/// The home of a clause that hangs nowhere.
+pub(crate) const NOWHERE: u32 = 0;
+
+const UNHOOKED: Hook = Hook {
     signature: 0,
     len: 0,
-    home: 0,
+    home: NOWHERE,
     next: NONE,
     before: NONE,
 };
@@ -55,7 +58,7 @@ impl Hooks {
         self.unhook(c);
         let clause = lits_of(kernel, c);
         let home = rarest(kernel, clause);
-        if home == 0 {
+        if home == NOWHERE {
             return Ok(());
         }
         self.make_room(c, home)?;
@@ -79,7 +82,7 @@ impl Hooks {
 
     fn make_room(&mut self, c: ClauseId, home: u32) -> Result<(), NoMemory> {
         if c as usize >= self.hooks.len() {
-            self.hooks.resize(c as usize + 1, NOWHERE)?;
+            self.hooks.resize(c as usize + 1, UNHOOKED)?;
         }
         if home as usize >= self.first.len() {
             self.first.resize(home as usize + 1, NONE)?;
@@ -90,7 +93,7 @@ impl Hooks {
     /// Takes a clause from its list.
     pub(crate) fn unhook(&mut self, c: ClauseId) {
         let hook = self.hook(c);
-        if hook.home == 0 {
+        if hook.home == NOWHERE {
             return;
         }
         let after = Hook {
@@ -107,7 +110,7 @@ impl Hooks {
             };
             put_hook(&mut self.hooks, hook.before, behind);
         }
-        put_hook(&mut self.hooks, c, NOWHERE);
+        put_hook(&mut self.hooks, c, UNHOOKED);
     }
 
     /// The first clause that hangs at a literal.
@@ -117,7 +120,7 @@ impl Hooks {
 
     /// Where a clause hangs.
     pub(crate) fn hook(&self, c: ClauseId) -> Hook {
-        self.hooks.get(c as usize).copied().unwrap_or(NOWHERE)
+        self.hooks.get(c as usize).copied().unwrap_or(UNHOOKED)
     }
 
     /// How many clauses can hang here.
@@ -142,7 +145,7 @@ fn put_first(first: &mut [ClauseId], home: u32, c: ClauseId) {
 
 // The index of the literal that stands in the fewest clauses.
 fn rarest(kernel: &Kernel, clause: &[Lit]) -> u32 {
-    let mut home = 0;
+    let mut home = NOWHERE;
     let mut least = u32::MAX;
     for l in clause {
         let count = kernel.count(*l);

@@ -2,10 +2,13 @@
 //!
 //! At the start each clause is asked once whether another one lies within it. From then on this is asked of clauses that
 //! came or lost a literal; where it is not so, what such a clause does to others is gathered, and handed out one by one.
+//!
+//! A clause that is going to go is taken from its list at once. And what hangs beside the clause that is asked about comes
+//! first: its copies are there. So many copies of one clause cost no more than as many clauses.
 
 ghost use Rattle.q_kernel.specs.Taking.{AreModest, IsReady};
 
-use crate::hooks::{Hook, Hooks, signature_of};
+use crate::hooks::{Hook, Hooks, NOWHERE, signature_of};
 use crate::lists::{gather, index_of, lits_of, places_of};
 use crate::marked::Marked;
 use q_arena::ClauseId;
@@ -81,6 +84,7 @@ impl Subsuming {
                 return Ok(None);
             };
             if self.search.applies(kernel, &target, bounds)? {
+                self.leave(&target);
                 return Ok(Some(target));
             }
         }
@@ -167,9 +171,17 @@ impl Subsuming {
             return Ok(None);
         };
         if self.search.applies(kernel, &target, bounds)? {
+            self.leave(&target);
             return Ok(Some(target));
         }
         Ok(None)
+    }
+
+    // A clause that is going to go hangs nowhere from now on.
+    fn leave(&mut self, target: &Target) {
+        if let Target::Subsumed { d, .. } = *target {
+            self.hooks.unhook(d);
+        }
     }
 
     fn find(&mut self, kernel: &Kernel, d: ClauseId) -> Result<Option<Target>, NoMemory> {
@@ -180,10 +192,18 @@ impl Subsuming {
             len: clause.len(),
             ..self.hooks.hook(d)
         };
+        // copies of a clause hang where it hangs, so they are met first
+        let beside = self.scan(kernel, d, &shape, shape.home);
+        if matches!(beside, Some(Target::Subsumed { .. })) {
+            return Ok(beside);
+        }
         let mut best = None;
         for l in clause {
-            best = better(best, self.scan(kernel, d, &shape, index_of(*l)));
-            best = better(best, self.scan(kernel, d, &shape, index_of(l.negated())));
+            best = better(best, self.scan_at(kernel, d, &shape, index_of(*l), beside));
+            best = better(
+                best,
+                self.scan_at(kernel, d, &shape, index_of(l.negated()), beside),
+            );
             if matches!(best, Some(Target::Subsumed { .. })) {
                 return Ok(best);
             }
@@ -191,9 +211,27 @@ impl Subsuming {
         Ok(best)
     }
 
+    // The same as `scan`, where it is known what the clauses that hang beside the clause d give.
+    fn scan_at(
+        &self,
+        kernel: &Kernel,
+        d: ClauseId,
+        shape: &Hook,
+        home: u32,
+        beside: Option<Target>,
+    ) -> Option<Target> {
+        if home == shape.home {
+            return beside;
+        }
+        self.scan(kernel, d, shape, home)
+    }
+
     // A target by a clause that hangs at one literal. One that subsumes is better.
     fn scan(&self, kernel: &Kernel, d: ClauseId, shape: &Hook, home: u32) -> Option<Target> {
         let mut best = None;
+        if home == NOWHERE {
+            return best;
+        }
         let mut c = self.hooks.first(home);
         for _ in 0..self.hooks.len() {
             let hook = self.hooks.hook(c);
