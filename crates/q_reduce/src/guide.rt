@@ -24,8 +24,10 @@ use q_rule::{Queue, clause_of, is_universal};
 use std::alloc::Global;
 use std::marker::Model;
 
-// So many hops are followed from a literal.
-const HOPS: usize = 64;
+// So many hops are followed from a literal, first and where walks get long.
+const NEXT: usize = 64;
+
+const FAR: usize = 1 << 24;
 
 // So many literals near the negation of a universal are tried, and so many clauses with each of them.
 const NEAR: usize = 64;
@@ -40,10 +42,13 @@ pub struct Guide {
     block: u32,
     trees: Trees,
     asked: Asked,
-    // the universal literals for which no exit was found since the hops were made; nothing rests on that
+    // the universal literals for which no exit was found since the hops were made, near or far; nothing rests on that
     barred: Queue,
+    barred_far: Queue,
     // so many clauses were looked at by walks since
     debt: usize,
+    // so many hops are followed from a literal
+    reach: usize,
 }
 
 impl Model for Guide {
@@ -64,7 +69,9 @@ impl Guide {
             trees: Trees::new(alloc),
             asked: Asked::new(alloc),
             barred: Queue::new(alloc),
+            barred_far: Queue::new(alloc),
             debt: 0,
+            reach: NEXT,
         }
     }
 
@@ -73,6 +80,20 @@ impl Guide {
         ensures { self.new ≡ no_rows }
     {
         self.trees.forget();
+    }
+
+    /// From now on few hops are followed from a literal.
+    pub(crate) fn look_near(&mut self)
+        ensures { self.new ≡ self.old }
+    {
+        self.reach = NEXT;
+    }
+
+    /// From now on all hops are followed from a literal.
+    pub(crate) fn look_far(&mut self)
+        ensures { self.new ≡ self.old }
+    {
+        self.reach = FAR;
     }
 
     /// Forgets the sure hops by clauses that a target touches.
@@ -102,14 +123,34 @@ impl Guide {
         if self.opens(kernel, c, u, root) {
             return Ok(Some(root));
         }
-        if self.barred.has(u) {
+        if self.bars(u) {
             return Ok(None);
         }
         if self.is_near(kernel, queue, c, u, root)? {
             return Ok(Some(root));
         }
-        self.barred.push(u)?;
+        self.bar(u)?;
         Ok(None)
+    }
+
+    // Whether no exit was found for a universal literal.
+    fn bars(&self, u: Lit) -> bool {
+        if self.reach == NEXT {
+            self.barred.has(u)
+        } else {
+            self.barred_far.has(u)
+        }
+    }
+
+    fn bar(&mut self, u: Lit) -> Result<(), NoMemory>
+        ensures { self.new ≡ self.old }
+    {
+        if self.reach == NEXT {
+            self.barred.push(u)?;
+        } else {
+            self.barred_far.push(u)?;
+        }
+        Ok(())
     }
 
     // Whether hops lead from the root to a literal near the negation of u.
@@ -201,7 +242,7 @@ impl Guide {
     {
         for place in known..queue.len().min(NEAR) {
             let back = queue.at(place).negated();
-            if descends(kernel, &self.trees.onward, c, u, root, back) {
+            if descends(kernel, &self.trees.onward, c, u, root, back, self.reach) {
                 return true;
             }
         }
@@ -227,7 +268,7 @@ impl Guide {
         if self.arrives(kernel, c, u, from, root) {
             return true;
         }
-        climbs(kernel, &self.trees.toward, c, u, from, root)
+        climbs(kernel, &self.trees.toward, c, u, from, root, self.reach)
     }
 
     // Whether core hops lead from a literal to the root.
@@ -269,6 +310,7 @@ impl Guide {
         self.root = Some(root);
         self.block = inmost.var();
         self.barred.clear();
+        self.barred_far.clear();
         self.debt = 0;
         Ok(())
     }
@@ -307,20 +349,28 @@ fn busiest(kernel: &Kernel, queue: &Queue, asked: &Asked) -> Option<Lit> {
 }
 
 // Whether hops lead from a literal to the root.
-fn climbs(kernel: &Kernel, toward: &Tree, c: ClauseId, u: Lit, from: Lit, root: Lit) -> bool
+fn climbs(
+    kernel: &Kernel,
+    toward: &Tree,
+    c: ClauseId,
+    u: Lit,
+    from: Lit,
+    root: Lit,
+    reach: usize,
+) -> bool
     requires universal { HoldsUniversal kernel.now.prefix (slots kernel.now) c u }
     requires sure { AreSure kernel.now.prefix (live (slots kernel.now)) toward.now }
     ensures { IsTrue result → (C : Clause) → IsMet kernel.now.prefix (others c (slots kernel.now)) C u from → IsMet kernel.now.prefix (others c (slots kernel.now)) C u root }
 {
-    if toward.depth(from.negated()) > HOPS {
+    if toward.depth(from.negated()) > reach {
         return false;
     }
     let mut at = from;
-    for _ in 0..HOPS {
+    for _ in 0..reach {
         if at.is(root) {
             return true;
         }
-        let Some(next) = toward.mate(kernel, c, u, at.negated()) else {
+        let Some(next) = toward.pass(kernel, c, u, at.negated()) else {
             return false;
         };
         if !lies_inside(kernel, next, u) {
@@ -346,23 +396,31 @@ fn gather_from(kernel: &Kernel, queue: &mut Queue, u: Lit, d: ClauseId) -> Resul
 }
 
 // Whether hops lead from the root to a literal.
-fn descends(kernel: &Kernel, onward: &Tree, c: ClauseId, u: Lit, root: Lit, to: Lit) -> bool
+fn descends(
+    kernel: &Kernel,
+    onward: &Tree,
+    c: ClauseId,
+    u: Lit,
+    root: Lit,
+    to: Lit,
+    reach: usize,
+) -> bool
     requires universal { HoldsUniversal kernel.now.prefix (slots kernel.now) c u }
     requires sure { AreSure kernel.now.prefix (live (slots kernel.now)) onward.now }
     ensures { IsTrue result → (C : Clause) → IsMet kernel.now.prefix (others c (slots kernel.now)) C u root → IsMet kernel.now.prefix (others c (slots kernel.now)) C u to }
 {
-    if onward.depth(to) > HOPS {
+    if onward.depth(to) > reach {
         return false;
     }
     let mut at = to;
-    for _ in 0..HOPS {
+    for _ in 0..reach {
         if at.is(root) {
             return true;
         }
         if !lies_inside(kernel, at, u) {
             return false;
         }
-        let Some(mate) = onward.mate(kernel, c, u, at) else {
+        let Some(mate) = onward.pass(kernel, c, u, at) else {
             return false;
         };
         at = mate.negated();

@@ -1,5 +1,5 @@
 //! Whether a universal literal is reducible in its clause.
-ghost use Rattle.std.specs.Prelude.{◌≡◌, ◌↔◌, ◌<◌, ℕ, true, length, Some, OnOk, IfOk, IsTrue, slice_get};
+ghost use Rattle.std.specs.Prelude.{◌≡◌, ◌↔◌, ◌<◌, ℕ, Bool, true, length, Some, OnOk, IfOk, IsTrue, slice_get};
 ghost use Rattle.q_logic.specs.Literals.{Literal, negation};
 ghost use Rattle.q_logic.specs.Formulas.{Clause, IsIn};
 ghost use Rattle.q_logic.specs.Prefixes.{is_bound, is_existential, is_universal};
@@ -21,9 +21,8 @@ use q_rule::{Queue, clause_of, is_inner};
 // The guide is asked at so many literals of a walk.
 const GUIDED: usize = 64;
 
-/// Whether no clause that is reached from the clause holds the literal's negation. The walk expands each
-/// literal once, and stops at the first such clause, or where the guide knows the way to one. It counts the clauses
-/// that it may look at.
+/// Whether no clause that is reached from the clause holds the literal's negation. A walk tells. Where it gets long it is
+/// begun anew, and far ways are followed, too. The clauses that it may look at are counted.
 pub fn is_reducible(
     kernel: &Kernel,
     queue: &mut Queue,
@@ -38,24 +37,54 @@ pub fn is_reducible(
     ensures same { guide.new ≡ guide.old }
     ensures yes { IfOk result (λ yes. (C : Clause) → slot (slots kernel.now) c ≡ Some C → IsTrue yes ↔ Reducible kernel.now.prefix (others c (slots kernel.now)) C lit) }
 {
+    guide.look_near();
+    let near = walk(kernel, queue, guide, c, lit, looks, GUIDED)?;
+    if let Some(yes) = near {
+        return Ok(yes);
+    }
+    guide.look_far();
+    let far = walk(kernel, queue, guide, c, lit, looks, usize::MAX)?;
+    match far {
+        Some(yes) => Ok(yes),
+        // a queue that long has no place in memory
+        None => Err(NoMemory),
+    }
+}
+
+// The same by a walk over so many literals, which expands each once. It stops at the first such clause, or where the guide
+// knows the way to one; none where it did not come to its end.
+fn walk(
+    kernel: &Kernel,
+    queue: &mut Queue,
+    guide: &mut Guide,
+    c: ClauseId,
+    lit: Lit,
+    looks: &mut usize,
+    limit: usize,
+) -> Result<Option<bool>, NoMemory>
+    requires live { (C : Clause) × (slot (slots kernel.now) c ≡ Some C) × IsIn lit C × (IsIn (negation lit) C → ⊥) }
+    requires universal { is_universal kernel.now.prefix lit.var ≡ true }
+    requires hops { AreHopsOf kernel.now guide.old }
+    ensures same { guide.new ≡ guide.old }
+    ensures yes { IfOk result (λ o. (yes : Bool) → o ≡ Some yes → (C : Clause) → slot (slots kernel.now) c ≡ Some C → IsTrue yes ↔ Reducible kernel.now.prefix (others c (slots kernel.now)) C lit) }
+{
     let exit = guide.exit(kernel, queue, c, lit)?;
     queue.clear();
     push_inner(kernel, queue, clause_of(kernel, c), lit)?;
-    for head in 0..usize::MAX {
+    for head in 0..limit {
         if head >= queue.len() {
-            return Ok(true);
+            return Ok(Some(true));
         }
         let next = queue.at(head);
         if head < GUIDED && guide.leads_out(kernel, c, lit, next, exit) {
-            return Ok(false);
+            return Ok(Some(false));
         }
         *looks = looks.saturating_add(kernel.count(next.negated()) as usize);
         if !visit(kernel, queue, next, lit)? {
-            return Ok(false);
+            return Ok(Some(false));
         }
     }
-    // a queue that long has no place in memory
-    Err(NoMemory)
+    Ok(None)
 }
 
 // Follows the clauses that hold the negation of a literal; whether none that lacks u holds the negation of u. The clause that

@@ -27,12 +27,15 @@ use std::marker::Model;
 // Longer clauses give no hops: a look at one costs its length.
 const LONGEST: usize = 16;
 
+// So many clauses are looked at beside a hop that doesn't serve.
+const TRIES: usize = 8;
+
 /// For each literal the hop by which a walk from a root first came to it.
 #[derive(Drop)]
 pub struct Tree {
     hops: Vec<Hop>,
-    // how many hops lead from the root to each literal; nothing rests on that
-    depths: Vec<u8>,
+    // how many literals the way from the root to each literal has, 0 where there is none; nothing rests on that
+    depths: Vec<u32>,
     known: Arriving,
 }
 
@@ -92,11 +95,84 @@ impl Tree {
         }
     }
 
-    /// How many hops lead from the root to a literal, at most 255. Some of them may have gone.
-    pub(crate) fn depth(&self, lit: Lit) -> usize
-        ensures { result ≤ 255 }
+    /// The same, or where that hop doesn't serve another literal that is nearer to the root, beside it in some clause.
+    pub fn pass(&self, kernel: &Kernel, c: ClauseId, u: Lit, lit: Lit) -> Option<Lit>
+        requires universal { HoldsUniversal kernel.now.prefix (slots kernel.now) c u }
+        requires sure { AreSure kernel.now.prefix (live (slots kernel.now)) self.now }
+        ensures { (j : Literal) → result ≡ Some j → Joins (others c (slots kernel.now)) u lit j }
     {
-        usize::from(self.depths.get(lit.index()).copied().unwrap_or(0))
+        match self.mate(kernel, c, u, lit) {
+            Some(mate) => Some(mate),
+            None => self.sidestep(kernel, c, u, lit),
+        }
+    }
+
+    // A literal that is nearer to the root, beside another one in a clause that is not c and lacks u.
+    fn sidestep(&self, kernel: &Kernel, c: ClauseId, u: Lit, lit: Lit) -> Option<Lit>
+        requires { is_bound kernel.now.prefix u.var ≡ true }
+        ensures { (j : Literal) → result ≡ Some j → Joins (others c (slots kernel.now)) u lit j }
+    {
+        kernel.sound();
+        let mut at = kernel.first(lit);
+        for _ in 0..TRIES {
+            let Some(place) = at else {
+                return None;
+            };
+            let found = self.sidestep_in(kernel, kernel.owner(place), c, u, lit);
+            if found.is_some() {
+                return found;
+            }
+            at = kernel.next(place);
+        }
+        None
+    }
+
+    // The same in one clause.
+    fn sidestep_in(
+        &self,
+        kernel: &Kernel,
+        d: ClauseId,
+        c: ClauseId,
+        u: Lit,
+        lit: Lit,
+    ) -> Option<Lit>
+        requires { is_bound kernel.now.prefix u.var ≡ true }
+        ensures { (j : Literal) → result ≡ Some j → Joins (others c (slots kernel.now)) u lit j }
+    {
+        match self.nearer(kernel, d, u, lit) {
+            Some(j) => if joins(kernel, d, c, u, lit, j) {
+                Some(j)
+            } else {
+                None
+            },
+            None => None,
+        }
+    }
+
+    // A literal of a clause that is inner to u, and whose negation is nearer to the root than another literal.
+    fn nearer(&self, kernel: &Kernel, clause: ClauseId, u: Lit, lit: Lit) -> Option<Lit>
+        requires { is_bound kernel.now.prefix u.var ≡ true }
+    {
+        if !kernel.live(clause) {
+            return None;
+        }
+        let lits = kernel.lits(clause);
+        if lits.len() > LONGEST {
+            return None;
+        }
+        let depth = self.depth(lit);
+        for j in lits {
+            let other = self.depth(j.negated());
+            if 0 < other && (other < depth || depth == 0) && lies_inside(kernel, *j, u) {
+                return Some(*j);
+            }
+        }
+        None
+    }
+
+    /// How many literals the way from the root to a literal has, 0 where there is none. Some of its hops may have gone.
+    pub(crate) fn depth(&self, lit: Lit) -> usize {
+        self.depths.get(lit.index()).copied().unwrap_or(0) as usize
     }
 
     /// Whether core hops of a block lead from a literal to a goal, each from the negation of the literal before.
@@ -138,6 +214,7 @@ impl Tree {
         ensures { AreSure kernel.now.prefix (live (slots kernel.now)) self.new }
     {
         self.start(2 * kernel.greatest_var() as usize + 2)?;
+        self.put_depth(root, 1);
         queue.clear();
         queue.push(root)?;
         let mut bare = true;
@@ -289,7 +366,7 @@ impl Tree {
         self.set(lit, hop);
     }
 
-    // One hop more leads to a literal than to the negation of the one beside it.
+    // The way to a literal has one literal more than that to the negation of the one beside it.
     fn set_depth(&mut self, lit: Lit, mate: Lit)
         ensures { self.new ≡ self.old }
     {
@@ -298,8 +375,14 @@ impl Tree {
             .get(mate.negated().index())
             .copied()
             .unwrap_or(0);
+        self.put_depth(lit, depth.saturating_add(1));
+    }
+
+    fn put_depth(&mut self, lit: Lit, depth: u32)
+        ensures { self.new ≡ self.old }
+    {
         if lit.index() < self.depths.len() {
-            self.depths[lit.index()] = depth.saturating_add(1);
+            self.depths[lit.index()] = depth;
         }
     }
 

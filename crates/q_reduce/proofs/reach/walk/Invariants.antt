@@ -4,7 +4,7 @@ use Rattle.std.proofs.Common.{◌≡◌, Some}
 use Rattle.q_logic.specs.Numbered.{slot}
 use Rattle.q_kernel.specs.Kernels.{slots}
 use Rattle.q_reduce.proofs.Reaching.{IsWalk}
-use Rattle.q_reduce.proofs.reach.is_reducible.Given as goal
+use Rattle.q_reduce.proofs.reach.walk.Given as goal
 
 abbrev pub invariant-loop-head : goal.invariant-loop-head
 invariant-loop-head l = record {

@@ -8,8 +8,8 @@ use Rattle.q_reduce.specs.Walks.{IsWidened}
 use Rattle.q_reduce.proofs.Walks.{visited-beside}
 use Rattle.q_rule.proofs.Members.{place-member}
 use Rattle.q_reduce.proofs.Reaching.{IsWalk, walk-begun, walk-more, walk-refuted, walk-ended}
-use Rattle.q_reduce.proofs.reach.is_reducible.Goals as goal
-use Rattle.q_reduce.proofs.reach.is_reducible.Goals.{else-head-lt-GUIDED-via-then-head-lt-GUIDED+else-leads_out, else-head-lt-GUIDED-via-else-head-lt-GUIDED}
+use Rattle.q_reduce.proofs.reach.walk.Goals as goal
+use Rattle.q_reduce.proofs.reach.walk.Goals.{else-head-lt-GUIDED-via-then-head-lt-GUIDED+else-leads_out, else-head-lt-GUIDED-via-else-head-lt-GUIDED}
 
 pub loop-head-init : goal.loop-head-init
 loop-head-init c = record { walk = begun; same = c.exit.ensures.same }
@@ -22,20 +22,20 @@ loop-head-init c = record { walk = begun; same = c.exit.ensures.same }
         walk-begun k.prefix (others c.args.c (slots k)) C c.args.lit c.push_inner.new.queue (subst (λ (x : Clause). IsWidened k.prefix c.args.lit x [] c.push_inner.new.queue) q w)
 
 pub returns-then-head-len-clause-yes : goal.returns-then-head-len-clause-yes
-returns-then-head-len-clause-yes c C e =
+returns-then-head-len-clause-yes c yes s C e =
     let k = c.args.kernel.now in
     let q = some-same c.requires.live.0 C (sym c.requires.live.1 ∙ e) in
     let m : IsIn c.args.lit C = subst (λ (x : Clause). IsIn c.args.lit x) q c.requires.live.2 in
     let past : length c.loop-head.queue ≤ c.loop-head.head = omega (arith, c.if-head-len.true, c.len.ensures) in
     let r = walk-ended k.prefix (others c.args.c (slots k)) C c.args.lit c.loop-head.head c.loop-head.queue (c.loop-head.invariant.walk C e) past c.requires.universal m (λ n. c.requires.live.3 (subst (λ (x : Clause). IsIn (negation c.args.lit) x) (sym q) n)) in
-    ((λ t. r), (λ x. refl))
+    ((λ t. r), (λ x. sym (some-same true yes s)))
 
 pub returns-then-not-branch-clause-yes : goal.returns-then-not-branch-clause-yes
-returns-then-not-branch-clause-yes c C e =
+returns-then-not-branch-clause-yes c yes s C e =
     let k = c.args.kernel.now in
     let f = rw c.if-not-branch.true at c.in_ok-visit.ensures in
     let v = visited-beside k.prefix c.args.lit (slots k) c.args.c c.requires.live.0 c.at-next.result c.loop-head.queue c.visit.new.queue false c.requires.live.1 c.requires.live.2 f in
-    ((λ t. absurd (true≢false (sym t))), (λ r. absurd (walk-refuted k.prefix (others c.args.c (slots k)) C c.args.lit c.loop-head.head c.at-next.result c.loop-head.queue c.visit.new.queue (c.loop-head.invariant.walk C e) c.at-next.ensures v r)))
+    ((λ t. absurd (true≢false (sym (some-same false yes s ∙ t)))), (λ r. absurd (walk-refuted k.prefix (others c.args.c (slots k)) C c.args.lit c.loop-head.head c.at-next.result c.loop-head.queue c.visit.new.queue (c.loop-head.invariant.walk C e) c.at-next.ensures v r)))
 
 pub loop-head-preserved : goal.loop-head-preserved
 loop-head-preserved c = record {
@@ -52,10 +52,10 @@ loop-head-preserved c = record {
 }
 
 pub returns-then-leads_out-clause-yes : goal.returns-then-leads_out-clause-yes
-returns-then-leads_out-clause-yes c C e =
+returns-then-leads_out-clause-yes c yes s C e =
     let w = c.loop-head.invariant.walk C e in
     let met = w.linked c.at-next.result (place-member c.loop-head.queue c.loop-head.head c.at-next.result c.at-next.ensures) in
-    ((λ t. absurd (true≢false (sym t))), (λ r. absurd (c.leads_out.ensures.exit c.if-leads_out.true C met r)))
+    ((λ t. absurd (true≢false (sym (some-same false yes s ∙ t)))), (λ r. absurd (c.leads_out.ensures.exit c.if-leads_out.true C met r)))
 
 pub exit-requires-clause-universal : goal.exit-requires-clause-universal
 exit-requires-clause-universal c = (c.requires.live.0, c.requires.live.1, c.requires.live.2, c.requires.universal)
