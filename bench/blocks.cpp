@@ -1,5 +1,6 @@
 // The search of `validate`, unproved: one pass over the gates tells a node and the nodes of five levels below it, two words a gate.
-// blocks IN CERT prints the answer, the branches, the passes and the processor seconds of the search. It trusts that CERT fits IN.
+// blocks IN CERT [BUDGET] prints the answer, the branches, the passes and the processor seconds of the search. It trusts that CERT
+// fits IN.
 // g++ -std=c++17 -O2 -o bench/out/blocks bench/blocks.cpp
 #include <cstdint>
 #include <cstdio>
@@ -101,7 +102,7 @@ int main(int argc, char **argv) {
     fclose(f);
     clock_t begin = clock();
     std::vector<char> path;
-    unsigned long long branches = 0;
+    unsigned long long branches = 0, budget = argc > 3 ? strtoull(argv[3], nullptr, 10) : ~0ull;
     u64 lost = 0, won = 0;
     size_t base = ~(size_t)0;
     const char *answer = nullptr;
@@ -113,7 +114,12 @@ int main(int argc, char **argv) {
         unsigned node = 1;
         for (size_t k = base; k < path.size(); k++) node = 2 * node + path[k];
         if (lost >> node & 1) { answer = "invalid"; break; }
-        if (!(won >> node & 1)) { branches++; path.push_back(0); continue; }
+        if (!(won >> node & 1)) {
+            if (branches == budget) { answer = "unknown"; break; }
+            branches++;
+            path.push_back(0);
+            continue;
+        }
         answer = "valid";
         while (!path.empty()) {
             bool value = path.back();
