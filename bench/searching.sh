@@ -26,7 +26,7 @@ solved() {
     timed "$celdrinn" solve "$work/in" "$work/out" "$work/log" "$work/cert" --budget="$budget"
     after=$(cut -d' ' -f1 "$work/time")
     echo "$name $(head -n 1 "$work/out" | cut -d' ' -f3,4) $found $before $after $(cut -d' ' -f2 "$work/time") $(head -n 1 "$work/line")" |
-        awk '{ t = $8 - $7; n = $5; printf "| %s | %d | %d | %s | %d | %.2f s | %.2f s | %.0f | %.0f | %.1f MiB |\n", $1, $2, $3, $10, n, t, $6, t > 0 ? n / t : 0, $6 > 0 ? n / $6 : 0, $9 / 1024 }'
+        awk '{ t = $8 - $7; n = $5; printf "| %s | %d | %d | %s | %d | %.2f s | %.2f s | %.0f | %.0f | %.1f MiB |\n", $1, $2, $3, $10, n, t, $6, (t > 0 ? n / t : 0), ($6 > 0 ? n / $6 : 0), $9 / 1024 }'
 }
 
 validated() {
