@@ -1,7 +1,6 @@
-// The reader of logs, byte by byte and over pieces, and the steps printed again.
+// The reader of logs, and the steps printed again.
 ghost use Rattle.std.specs.Prelude.{◌≤◌, ◌^◌};
 
-use crate::notation::compare;
 use crate::trouble::Trouble;
 use q_log::{LogError, LogReader, push_step, step_len};
 use q_logic::Step;
@@ -16,29 +15,6 @@ struct Told {
 }
 
 impl Told {
-    fn new(alloc: Global) -> Told {
-        Told {
-            alloc,
-            text: Vec::new(alloc),
-            refusal: None,
-        }
-    }
-
-    // The steps that a piece ends, up to the first refusal.
-    fn note_piece(&mut self, reader: &mut LogReader, piece: &[u8]) -> Result<(), Trouble> {
-        let mut at = 0;
-        while at < piece.len() {
-            match reader.next(&piece[at..]) {
-                Ok((count, step)) => {
-                    at += count;
-                    self.note(Ok(step))?;
-                }
-                Err(error) => return self.note(Err(error)),
-            }
-        }
-        Ok(())
-    }
-
     fn note(&mut self, answer: Result<Option<(u64, Step)>, LogError>) -> Result<(), Trouble> {
         if self.refusal.is_some() {
             return self.note_again(answer);
@@ -86,42 +62,20 @@ impl Told {
     }
 }
 
-/// What reading a log answers, byte by byte. In pieces of one, seven and 65,536 bytes it is the same.
+/// What reading a log answers.
 pub(crate) fn log_answer(alloc: Global, limit: u64, log: &[u8]) -> Result<Vec<u8>, Trouble>
     requires { limit ≤ 2 ^ 62 }
 {
-    let told = by_bytes(alloc, limit, log)?;
-    for size in [1, 7, 65_536] {
-        let pieces = by_pieces(alloc, limit, log, size)?;
-        compare(alloc, &told, &pieces)?;
-    }
-    Ok(told)
-}
-
-fn by_bytes(alloc: Global, limit: u64, log: &[u8]) -> Result<Vec<u8>, Trouble>
-    requires { limit ≤ 2 ^ 62 }
-{
-    let mut told = Told::new(alloc);
+    let mut told = Told {
+        alloc,
+        text: Vec::new(alloc),
+        refusal: None,
+    };
     let Ok(mut reader) = LogReader::new(alloc, limit) else {
         return Err(Trouble::NoMemory);
     };
     for byte in log {
         told.note(reader.push(*byte))?;
-    }
-    told.note(reader.finish())?;
-    told.close()
-}
-
-fn by_pieces(alloc: Global, limit: u64, log: &[u8], size: usize) -> Result<Vec<u8>, Trouble>
-    requires limit { limit ≤ 2 ^ 62 }
-    requires size { 1 ≤ size }
-{
-    let mut told = Told::new(alloc);
-    let Ok(mut reader) = LogReader::new(alloc, limit) else {
-        return Err(Trouble::NoMemory);
-    };
-    for piece in log.chunks(size) {
-        told.note_piece(&mut reader, piece)?;
     }
     told.note(reader.finish())?;
     told.close()
