@@ -1,13 +1,11 @@
-use Rattle.std.proofs.Common.{arith, subst}
-use Rattle.q_logic.specs.Formulas.{PrenexFormula}
-use Rattle.q_judge.specs.Ledgers.{Slotted, formula_in}
+use Rattle.std.proofs.Common.{arith}
 use Rattle.q_judge.proofs.Trying.{add-after}
 use Rattle.q_herbrand.proofs.steps.add.Goals as goal
 
 pub put-requires : goal.put-requires
 put-requires c =
     let v = c.requires.valid in
-    let k = v.1.1 in
+    let k = v.2 in
     rw c.in_ok-entry.ensures.same (record {
       ordered = c.requires.ordered;
       within = v.0;

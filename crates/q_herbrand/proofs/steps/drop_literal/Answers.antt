@@ -1,9 +1,11 @@
-use Rattle.std.proofs.Common.{Some, Err, subst}
+use Rattle.std.proofs.Common.{◌∙◌, Some, Err, sym, subst}
 use Rattle.std.proofs.lemmas.Result.{err_from_is_err_and}
 use Rattle.q_prop.specs.Slots.{filled, without}
+use Rattle.q_logic.specs.Steps.{drop_literal}
 use Rattle.q_judge.specs.Ledgers.{Slotted, formula_in}
 use Rattle.q_judge.proofs.Trying.{drop-after}
 use Rattle.q_herbrand.specs.Drops.{IsDropKind}
+use Rattle.q_herbrand.specs.Trails.{IsPassed}
 use Rattle.q_herbrand.proofs.Dropping.{drop-reversed, drop-extended, drop-refused}
 use Rattle.q_herbrand.proofs.steps.drop_literal.Goals as goal
 
@@ -15,11 +17,13 @@ returns-in_err-entry c =
     let n = c.place_of-at.result in
     let e = c.in_err-entry.field-0.0 in
     let r = err_from_is_err_and c.from_residual-in_err-entry.result c.from_residual-in_err-entry.ensures.1 in
-    rw (r.1, r.2, c.in_err-entry.ensures.same, c.in_ok-kind.ensures.same)
-    (drop-refused (formula_in L) l C e
+    let x = drop-refused (formula_in L) l C e
     (λ q. drop-extended L.prefix L.slots n C c.place_of-at.ensures l
     (subst (IsDropKind L.prefix (filled (without L.slots (Some n))) C l) (c.in_err-entry.ensures.refused q)
-    c.in_ok-kind.ensures.kind)))
+    c.in_ok-kind.ensures.kind)) in
+    rw (r.1, r.2)
+    (subst (λ (M : Slotted). IsPassed (formula_in L) (drop_literal l C) (formula_in M) (Err e))
+    (sym (c.in_err-entry.ensures.same ∙ c.in_ok-kind.ensures.same)) x)
 
 pub shorten-requires : goal.shorten-requires
 shorten-requires c =
