@@ -5,7 +5,6 @@
 #![tactic(auto)]
 
 mod carrying;
-mod course;
 mod drafting;
 mod drops;
 mod entries;
@@ -14,6 +13,7 @@ mod exchanging;
 mod inputs;
 mod laws;
 mod reversal;
+mod steps;
 mod trail;
 mod whole;
 
