@@ -6,6 +6,8 @@ pub mod Inputs
 pub mod Logs
 pub mod Refusals
 pub mod Taken
+pub mod Judging
+pub mod Trials
 pub mod Audits
 pub mod Checks
 pub mod Texts
