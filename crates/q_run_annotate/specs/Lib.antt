@@ -1,2 +1,3 @@
 pub mod AnnotatedLines
 pub mod Annotates
+pub mod Readings

@@ -5,9 +5,12 @@
 
 mod annotated;
 mod files;
+mod law;
 mod names;
-mod text;
+mod reading;
+mod scribe;
 
 pub use annotated::Annotated;
 pub use files::annotate_files;
+pub use law::annotated_is_verified;
 pub use names::AnnotateNames;
