@@ -35,7 +35,7 @@ impl Seat {
         ensures started { IfOk result (λ s. s ≡ record { formula = begun formula.now; limits = standard; steps = 0 }) }
     {
         match Annotator::start(alloc, formula, Limits::standard()) {
-            Ok(annotator) => seat(alloc, annotator),
+            Ok(annotator) => placed(alloc, annotator),
             Err(_) => Err(NoMemory),
         }
     }
@@ -75,7 +75,7 @@ impl Seat {
 }
 
 // The annotator in a place of its own.
-fn seat(alloc: Global, annotator: Annotator) -> Result<Seat, NoMemory>
+fn placed(alloc: Global, annotator: Annotator) -> Result<Seat, NoMemory>
     ensures { IfOk result (λ s. s ≡ annotator) }
 {
     let mut row = Vec::new(alloc);
