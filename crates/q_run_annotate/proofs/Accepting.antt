@@ -24,11 +24,10 @@ use Rattle.q_hinted.specs.Logs.{HintedSteps}
 use Rattle.q_hinted.specs.Parts.{IsPartOf}
 use Rattle.q_hinted.specs.Texts.{IsWritten, log_text, on_lines}
 use Rattle.q_hinted.proofs.Rereading.{hinted-reread}
-use Rattle.q_command.specs.Checks.{Checks, IsFileOf, IsHintedRunLog, IsRunLog, IsVerified}
+use Rattle.q_command.specs.Checks.{IsFileOf, IsHintedRunLog, IsRunLog, IsVerified}
 use Rattle.q_command.specs.Logs.{Entry, HintedEntry, steps_of, hinted_of, stripped}
-use Rattle.q_command.specs.declared.outcome.Outcome.TheVariants as outcome
 use Rattle.q_command.proofs.Wholes.{not-both-profiles}
-use Rattle.q_run_annotate.specs.Annotates.{AnnotateFiles, IsAnnotation, IsHintedLog, IsWhole}
+use Rattle.q_run_annotate.specs.Annotates.{AnnotateFiles, IsAnnotation, IsHintedLog, IsWhole, SaysVerified}
 
 abbrev IsNumber : Literal → Type 0
 IsNumber l = (1 ≤ l.var) × (l.var < 2 ^ 31)
@@ -123,7 +122,7 @@ holds-text n text before after put =
     let d : put.disk ≡ after = cc in
     ap (λ (x : Disk). bytes_at x n.hinted) (sym d) ∙ ap (λ b. unwrap_or b []) put.bytes
 
-pub counted : (n : AnnotateFiles) (steps : ℕ) (before after : Disk) → IsWhole steps n before (Some after) → length (bytes_at after n.hinted) ≤ 1099511627776 → (k : ℕ) → Checks (outcome.Verified k) (bytes_at after n.input) (bytes_at after n.output) (bytes_at after n.hinted) → k ≡ steps
+pub counted : (n : AnnotateFiles) (steps : ℕ) (before after : Disk) → IsWhole steps n before (Some after) → length (bytes_at after n.hinted) ≤ 1099511627776 → (k : ℕ) → SaysVerified k (bytes_at after n.input) (bytes_at after n.output) (bytes_at after n.hinted) → k ≡ steps
 counted n steps before after w short k v =
     let text = w.holds.0 in
     let e : bytes_at after n.hinted ≡ text = holds-text n text before after w.holds.2 in

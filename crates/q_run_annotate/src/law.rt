@@ -1,9 +1,7 @@
 ghost use Rattle.std.specs.Prelude.{◌≡◌, ◌≢◌, ◌≤◌, List, ℕ, length, Some};
 ghost use Rattle.q_io.specs.Files.{Disk, bytes_at};
-ghost use Rattle.q_command.specs.Checks.{Checks, IsVerified};
-ghost use Rattle.q_run_annotate.specs.Annotates.{AnnotateFiles, IsWhole};
-
-use q_command::Outcome;
+ghost use Rattle.q_command.specs.Checks.{IsVerified};
+ghost use Rattle.q_run_annotate.specs.Annotates.{AnnotateFiles, IsWhole, SaysVerified};
 
 /// Over the files that `annotate` left, HINTED leads from the one formula to the other, so `check` verifies it; it reads no
 /// log of more bytes than the limit. Where it says how many steps it verified, these are as many as `annotate` said.
@@ -13,5 +11,5 @@ pub fn annotated_is_verified()
         IsVerified (bytes_at after n.input) (bytes_at after n.output) (bytes_at after n.hinted) }
     ensures count { (n : AnnotateFiles) → (steps : ℕ) → (before after : Disk) →
         IsWhole steps n before (Some after) → length (bytes_at after n.hinted) ≤ 1099511627776 →
-        (k : ℕ) → Checks (Outcome.Verified k) (bytes_at after n.input) (bytes_at after n.output) (bytes_at after n.hinted) → k ≡ steps }
+        (k : ℕ) → SaysVerified k (bytes_at after n.input) (bytes_at after n.output) (bytes_at after n.hinted) → k ≡ steps }
 {}
