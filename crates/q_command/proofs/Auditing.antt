@@ -17,7 +17,8 @@ use Rattle.q_judge.specs.declared.error.CheckError.TheVariants as check
 use Rattle.q_check.specs.Checked.{Checked}
 use Rattle.q_check.specs.HintChecks.{HintChecked}
 use Rattle.q_command.specs.Logs.{Entry, HintedEntry, steps_of, hinted_of, IsOffence, IsRefusedAt}
-use Rattle.q_command.specs.Judging.{AreBehind, SameTask, IsBehindPlain, IsBehindHinted, IsRefusedBehind, hints_taken, plain_in, bare}
+use Rattle.q_command.specs.Judging.{AreBehind, SameTask, IsBehindPlain, IsBehindHinted, IsRefusedBehind, plain_in, bare}
+use Rattle.q_command.specs.Seats.{hints_taken}
 use Rattle.q_command.specs.Refusals.{log_refused, step_refused}
 use Rattle.q_command.specs.Taken.{HasAdded, HasKept, entries_of}
 use Rattle.q_command.specs.Trials.{IsBehind, HasTried, IsWrong, Convicts}

@@ -1,5 +1,5 @@
 -- The checkers of both profiles, step by step, and their ends.
-use Rattle.std.proofs.Common.{◌≡◌, ◌⊎◌, inl, inr, ◌<◌, ◌+◌, ◌∙◌, refl, sym, ap, subst, arith, ℕ, Bool, true, false, List, [], ◌∷◌, ◌++◌, map, length, append-nil, length-append, Option, Some, None, Result, Ok, Err, IfOk, IfErr, OnOk}
+use Rattle.std.proofs.Common.{◌≡◌, ◌⊎◌, inl, inr, ◌<◌, ◌+◌, ◌∙◌, refl, sym, ap, subst, arith, ℕ, Bool, true, false, List, [], ◌∷◌, ◌++◌, map, length, append-nil, length-append, Option, Some, None, Result, Ok, Err, IfOk, IfErr, OnOk, IsSome, IsSomeAnd, is_some}
 use Rattle.q_logic.specs.Formulas.{PrenexFormula, Prefix, Matrix}
 use Rattle.q_logic.specs.Hinted.{Hinted, HintedSteps, HintedValid, HintedCause, NumberedFormula, ProofPart, begun, plain, strip, hinted_after}
 use Rattle.q_logic.specs.Limits.{standard}
@@ -21,7 +21,8 @@ use Rattle.q_check.specs.Checked.{Checked, HasGrown, IsRefusal}
 use Rattle.q_check.specs.HintChecks.{HintChecked, IsHintRefusal}
 use Rattle.q_check.proofs.Runs.{leads_begin, leads_more, leads_undos}
 use Rattle.q_command.specs.Logs.{Entry, HintedEntry, steps_of, hinted_of, stripped, EndsApart}
-use Rattle.q_command.specs.Judging.{AreBehind, ArePure, IsMade, SameTask, hints_taken, IsBehindPlain, IsBehindHinted, HasTakenPlain, HasTakenHinted, IsWrongPlain, IsWrongHinted, IsBadPlain, IsBadHinted, HavePassedPlain, HaveEndedPlain, HaveStoppedPlain, HavePassed, HaveEnded, HaveStopped, LeavesPlain, LeavesHinted, Leaves, plain_in, bare}
+use Rattle.q_command.specs.Judging.{AreBehind, ArePure, IsMade, SameTask, IsBehindPlain, IsBehindHinted, HasTakenPlain, HasTakenHinted, IsWrongPlain, IsWrongHinted, IsBadPlain, IsBadHinted, HavePassedPlain, HaveEndedPlain, HaveStoppedPlain, HavePassed, HaveEnded, HaveStopped, LeavesPlain, LeavesHinted, Leaves, plain_in, bare}
+use Rattle.q_command.specs.Seats.{IsReadyPlain, IsReadyHinted, IsNewPlain, new_hinted, HasSteppedPlain, HasSteppedHinted, IsEndedPlain, IsEndedHinted, hints_taken}
 use Rattle.q_command.specs.declared.judges.Judges.{Judges}
 use Rattle.q_command.proofs.Entries.{plain_in-append, hinted_in-append, steps_of-append, hinted_of-append, strip-append, hinted_in-plain, bare-plain, bare-hinted, stripped-steps, only-plain}
 
@@ -116,21 +117,18 @@ hinted-wrong keep F hs s t c NoMemory h r = tt
 leads-begun : (F : PrenexFormula) → Leads standard F [] (plain (begun F))
 leads-begun F = leads_begin standard F (plain (begun F)) (subst (λ (G : PrenexFormula). AreAlike F G) (sym (plain-begun F)) (alike_itself F))
 
-abbrev fresh_checker : PrenexFormula → Bool → HintChecked
-fresh_checker F keep = record { formula = begun F; undo = []; limits = standard; keeps = keep; steps = 0 }
-
-taken-first : (keep : Bool) (F : PrenexFormula) (n : ℕ) (s : ProofStep) (t : ProofPart) (first new : HintChecked) → first ≡ fresh_checker F keep → HintedValid first.limits first.formula s t → new.formula ≡ hinted_after first.formula s t → HasGrown first.keeps (plain first.formula) s first.undo new.undo → new.limits ≡ first.limits → new.keeps ≡ first.keeps → HasTakenHinted keep F ((n, record { step = s; proof = t }) ∷ []) new
+taken-first : (keep : Bool) (F : PrenexFormula) (n : ℕ) (s : ProofStep) (t : ProofPart) (first new : HintChecked) → first ≡ new_hinted keep F → HintedValid first.limits first.formula s t → new.formula ≡ hinted_after first.formula s t → HasGrown first.keeps (plain first.formula) s first.undo new.undo → new.limits ≡ first.limits → new.keeps ≡ first.keeps → HasTakenHinted keep F ((n, record { step = s; proof = t }) ∷ []) new
 taken-first keep F n s t first new e v a g m k =
     let w : HintedValid standard (begun F) s t = subst (λ (c : HintChecked). HintedValid c.limits c.formula s t) e v in
     let b : new.formula ≡ hinted_after (begun F) s t = subst (λ (c : HintChecked). new.formula ≡ hinted_after c.formula s t) e a in
     let d : HasGrown keep (plain (begun F)) s [] new.undo = subst (λ (c : HintChecked). HasGrown c.keeps (plain c.formula) s c.undo new.undo) e g in
     more-hinted keep F [] n s t (begun F) [] new refl (leads-begun F) (λ x. refl) (m ∙ ap (λ (c : HintChecked). c.limits) e) (k ∙ ap (λ (c : HintChecked). c.keeps) e) w b d
 
-pub hinted-begins : (keep : Bool) (F : PrenexFormula) (hs : List HintedEntry) (n : ℕ) (s : ProofStep) (t : ProofPart) (first new : HintChecked) → hs ≡ [] → first ≡ record { formula = begun F; undo = []; limits = standard; keeps = keep; steps = 0 } → HintedValid first.limits first.formula s t → new.formula ≡ hinted_after first.formula s t → HasGrown first.keeps (plain first.formula) s first.undo new.undo → new.limits ≡ first.limits → new.keeps ≡ first.keeps → HasTakenHinted keep F (hs ++ (n, record { step = s; proof = t }) ∷ []) new
+pub hinted-begins : (keep : Bool) (F : PrenexFormula) (hs : List HintedEntry) (n : ℕ) (s : ProofStep) (t : ProofPart) (first new : HintChecked) → hs ≡ [] → first ≡ new_hinted keep F → HintedValid first.limits first.formula s t → new.formula ≡ hinted_after first.formula s t → HasGrown first.keeps (plain first.formula) s first.undo new.undo → new.limits ≡ first.limits → new.keeps ≡ first.keeps → HasTakenHinted keep F (hs ++ (n, record { step = s; proof = t }) ∷ []) new
 hinted-begins keep F hs n s t first new z e v a g m k =
     subst (λ (xs : List HintedEntry). HasTakenHinted keep F (xs ++ (n, record { step = s; proof = t }) ∷ []) new) (sym z) (taken-first keep F n s t first new e v a g m k)
 
-pub hinted-wrong-first : (keep : Bool) (F : PrenexFormula) (hs : List HintedEntry) (s : ProofStep) (t : ProofPart) (c : HintChecked) (e : CheckError) → hs ≡ [] → c ≡ record { formula = begun F; undo = []; limits = standard; keeps = keep; steps = 0 } → IsHintRefusal c.limits c.formula s t e → IsBadHinted F hs s t e
+pub hinted-wrong-first : (keep : Bool) (F : PrenexFormula) (hs : List HintedEntry) (s : ProofStep) (t : ProofPart) (c : HintChecked) (e : CheckError) → hs ≡ [] → c ≡ new_hinted keep F → IsHintRefusal c.limits c.formula s t e → IsBadHinted F hs s t e
 hinted-wrong-first keep F hs s t c (Refused n) z q r = record {
   last = begun F;
   steps = subst (λ (xs : List HintedEntry). HintedSteps standard (begun F) (hinted_of xs) (begun F)) (sym z) refl;
@@ -162,14 +160,76 @@ behind-hinted old new es n s t f same h b =
       hinted = subst (λ (k : Bool). IsBehindHinted k new.formula (hinted_in more) new.hinted) (sym same.keeps) (subst (λ (F : PrenexFormula). IsBehindHinted old.keeps_undo F (hinted_in more) new.hinted) (sym same.formula) q);
     }
 
--- the answers of a checker that is there
-pub plain-answer : (keep : Bool) (F : PrenexFormula) (o : Option Checked) (old new : Checked) (s : ProofStep) {E : Type 0} (r : Result Unit E) → o ≡ Some old → OnOk r (Valid old.limits old.formula s) → OnOk r (AreAlike (after old.formula s) new.formula) → OnOk r (HasGrown old.keeps old.formula s old.undo new.undo) → (new.limits ≡ old.limits) × (new.keeps ≡ old.keeps) → OnOk r ((ps : List Entry) → (line : ℕ) → IsBehindPlain keep F ps o → HasTakenPlain keep F (ps ++ (line, s) ∷ []) new)
-plain-answer keep F o old new s (Ok u) q v a g (m, k) = λ ps n b. plain-goes-on keep F ps n s old new (subst (λ (x : Option Checked). IsBehindPlain keep F ps x) q b) v a g m k
-plain-answer keep F o old new s (Err e) q v a g t = tt
+-- what is in a place that is ready
+pub ready-plain-some : (keep : Bool) (F : PrenexFormula) (old new : Option Checked) → IsReadyPlain keep F old new → IsSome new
+ready-plain-some keep F (Some c) new h = ap is_some h
+ready-plain-some keep F None (Some c) h = refl
+ready-plain-some keep F None None h = absurd h
 
-pub hinted-answer : (keep : Bool) (F : PrenexFormula) (o : Option HintChecked) (old new : HintChecked) (s : ProofStep) (t : ProofPart) {E : Type 0} (r : Result Unit E) → o ≡ Some old → OnOk r (HintedValid old.limits old.formula s t) → OnOk r (new.formula ≡ hinted_after old.formula s t) → OnOk r (HasGrown old.keeps (plain old.formula) s old.undo new.undo) → (new.limits ≡ old.limits) × (new.keeps ≡ old.keeps) → OnOk r ((hs : List HintedEntry) → (line : ℕ) → IsBehindHinted keep F hs o → HasTakenHinted keep F (hs ++ (line, record { step = s; proof = t }) ∷ []) new)
-hinted-answer keep F o old new s t (Ok u) q v a g (m, k) = λ hs n b. hinted-goes-on keep F hs n s t old new (subst (λ (x : Option HintChecked). IsBehindHinted keep F hs x) q b) v a g m k
-hinted-answer keep F o old new s t (Err e) q v a g x = tt
+pub ready-hinted-some : (keep : Bool) (F : PrenexFormula) (old new : Option HintChecked) → IsReadyHinted keep F old new → IsSome new
+ready-hinted-some keep F (Some c) new h = ap is_some h
+ready-hinted-some keep F None new h = ap is_some h
+
+pub ready-hints : (keep : Bool) (F : PrenexFormula) (old new : Option HintChecked) → IsReadyHinted keep F old new → hints_taken new ≡ hints_taken old
+ready-hints keep F (Some c) new h = ap hints_taken h
+ready-hints keep F None new h = ap hints_taken h
+
+-- the answer of the checker that was there, or of one that was made for the step
+goes-on-plain : (keep : Bool) (F : PrenexFormula) (s : ProofStep) (u : Unit) (c : Checked) (new : Option Checked) → HasSteppedPlain s (Ok u) (Some c) new → (ps : List Entry) (line : ℕ) → HasTakenPlain keep F ps c → IsBehindPlain keep F (ps ++ (line, s) ∷ []) new
+goes-on-plain keep F s u c (Some d) k ps line b = plain-goes-on keep F ps line s c d b k.valid k.after k.undo k.limits k.keeps
+goes-on-plain keep F s u c None k ps line b = absurd k
+
+begins-plain : (keep : Bool) (F : PrenexFormula) (s : ProofStep) (u : Unit) (c : Checked) (new : Option Checked) → IsNewPlain keep F c → HasSteppedPlain s (Ok u) (Some c) new → (ps : List Entry) (line : ℕ) → ps ≡ [] → IsBehindPlain keep F (ps ++ (line, s) ∷ []) new
+begins-plain keep F s u c (Some d) h k ps line z = plain-begins keep F ps line s c d z (h.alike, h.undo, h.limits, h.keeps) k.valid k.after k.undo k.limits k.keeps
+begins-plain keep F s u c None h k ps line z = absurd k
+
+pub answer-plain : (keep : Bool) (F : PrenexFormula) (s : ProofStep) (r : Result Unit CheckError) (old mid new : Option Checked) → IsReadyPlain keep F old mid → HasSteppedPlain s r mid new → OnOk r ((ps : List Entry) → (line : ℕ) → IsBehindPlain keep F ps old → IsBehindPlain keep F (ps ++ (line, s) ∷ []) new)
+answer-plain keep F s (Err e) old mid new h k = tt
+answer-plain keep F s (Ok u) (Some c) mid new h k = goes-on-plain keep F s u c new (subst (λ (o : Option Checked). HasSteppedPlain s (Ok u) o new) h k)
+answer-plain keep F s (Ok u) None (Some c) new h k = begins-plain keep F s u c new h k
+answer-plain keep F s (Ok u) None None new h k = absurd h
+
+refuses-plain : (keep : Bool) (F : PrenexFormula) (s : ProofStep) (e : CheckError) (c : Checked) (new : Option Checked) → HasSteppedPlain s (Err e) (Some c) new → IsRefusal c.limits c.formula s e
+refuses-plain keep F s e c (Some d) k = k.refused
+refuses-plain keep F s e c None k = absurd k
+
+pub refusal-plain : (keep : Bool) (F : PrenexFormula) (s : ProofStep) (r : Result Unit CheckError) (old mid new : Option Checked) → IsReadyPlain keep F old mid → HasSteppedPlain s r mid new → IfErr r (λ e. (ps : List Entry) → IsBehindPlain keep F ps old → IsBadPlain F ps s e)
+refusal-plain keep F s (Ok u) old mid new h k = tt
+refusal-plain keep F s (Err e) (Some c) mid new h k = λ ps b.
+    plain-wrong keep F ps s c e b (refuses-plain keep F s e c new (subst (λ (o : Option Checked). HasSteppedPlain s (Err e) o new) h k))
+refusal-plain keep F s (Err e) None (Some c) new h k = λ ps z. plain-wrong-first F ps s c e z h.alike h.limits (refuses-plain keep F s e c new k)
+refusal-plain keep F s (Err e) None None new h k = absurd h
+
+goes-on-hinted : (keep : Bool) (F : PrenexFormula) (s : ProofStep) (t : ProofPart) (u : Unit) (c : HintChecked) (new : Option HintChecked) → HasSteppedHinted s t (Ok u) (Some c) new → (hs : List HintedEntry) (line : ℕ) → HasTakenHinted keep F hs c → IsBehindHinted keep F (hs ++ (line, record { step = s; proof = t }) ∷ []) new
+goes-on-hinted keep F s t u c (Some d) k hs line b = hinted-goes-on keep F hs line s t c d b k.valid k.after k.undo k.limits k.keeps
+goes-on-hinted keep F s t u c None k hs line b = absurd k
+
+begins-hinted : (keep : Bool) (F : PrenexFormula) (s : ProofStep) (t : ProofPart) (u : Unit) (new : Option HintChecked) → HasSteppedHinted s t (Ok u) (Some (new_hinted keep F)) new → (hs : List HintedEntry) (line : ℕ) → hs ≡ [] → IsBehindHinted keep F (hs ++ (line, record { step = s; proof = t }) ∷ []) new
+begins-hinted keep F s t u (Some d) k hs line z = hinted-begins keep F hs line s t (new_hinted keep F) d z refl k.valid k.after k.undo k.limits k.keeps
+begins-hinted keep F s t u None k hs line z = absurd k
+
+pub answer-hinted : (keep : Bool) (F : PrenexFormula) (s : ProofStep) (t : ProofPart) (r : Result Unit CheckError) (old mid new : Option HintChecked) → IsReadyHinted keep F old mid → HasSteppedHinted s t r mid new → OnOk r ((hs : List HintedEntry) → (line : ℕ) → IsBehindHinted keep F hs old → IsBehindHinted keep F (hs ++ (line, record { step = s; proof = t }) ∷ []) new)
+answer-hinted keep F s t (Err e) old mid new h k = tt
+answer-hinted keep F s t (Ok u) (Some c) mid new h k = goes-on-hinted keep F s t u c new (subst (λ (o : Option HintChecked). HasSteppedHinted s t (Ok u) o new) h k)
+answer-hinted keep F s t (Ok u) None mid new h k = begins-hinted keep F s t u new (subst (λ (o : Option HintChecked). HasSteppedHinted s t (Ok u) o new) h k)
+
+refuses-hinted : (s : ProofStep) (t : ProofPart) (e : CheckError) (c : HintChecked) (new : Option HintChecked) → HasSteppedHinted s t (Err e) (Some c) new → IsHintRefusal c.limits c.formula s t e
+refuses-hinted s t e c (Some d) k = k.refused
+refuses-hinted s t e c None k = absurd k
+
+pub refusal-hinted : (keep : Bool) (F : PrenexFormula) (s : ProofStep) (t : ProofPart) (r : Result Unit CheckError) (old mid new : Option HintChecked) → IsReadyHinted keep F old mid → HasSteppedHinted s t r mid new → IfErr r (λ e. (hs : List HintedEntry) → IsBehindHinted keep F hs old → IsBadHinted F hs s t e)
+refusal-hinted keep F s t (Ok u) old mid new h k = tt
+refusal-hinted keep F s t (Err e) (Some c) mid new h k = λ hs b.
+    hinted-wrong keep F hs s t c e b (refuses-hinted s t e c new (subst (λ (o : Option HintChecked). HasSteppedHinted s t (Err e) o new) h k))
+refusal-hinted keep F s t (Err e) None mid new h k = λ hs z.
+    hinted-wrong-first keep F hs s t (new_hinted keep F) e z refl (refuses-hinted s t e (new_hinted keep F) new (subst (λ (o : Option HintChecked). HasSteppedHinted s t (Err e) o new) h k))
+
+-- want of memory says nothing
+pub memory-plain : (F : PrenexFormula) (s : ProofStep) (e : CheckError) → e ≡ NoMemory → (ps : List Entry) → IsBadPlain F ps s e
+memory-plain F s e z ps = subst (λ (x : CheckError). IsBadPlain F ps s x) (sym z) tt
+
+pub memory-hinted : (F : PrenexFormula) (s : ProofStep) (t : ProofPart) (e : CheckError) → e ≡ NoMemory → (hs : List HintedEntry) → IsBadHinted F hs s t e
+memory-hinted F s t e z hs = subst (λ (x : CheckError). IsBadHinted F hs s t x) (sym z) tt
 
 -- before the first step
 pub made-behind : (F : PrenexFormula) (keep : Bool) (j : Judges) → IsMade F keep j → AreBehind j []
@@ -244,6 +304,10 @@ pub hinted-stops : (keep : Bool) (F : PrenexFormula) (es : List BothEntry) (c : 
 hinted-stops keep F es c G (Refused n) h p r = record { last = plain c.formula; leaves = hinted-left keep F es c h p; apart = ends-apart (plain c.formula) (plain c.formula) G n (alike_itself (plain c.formula)) r }
 hinted-stops keep F es c G NoMemory h p r = tt
 
+pub none-hinted : (keep : Bool) (F : PrenexFormula) (hs : List HintedEntry) (o : Option HintChecked) → is_some o ≡ false → IsBehindHinted keep F hs o → hs ≡ []
+none-hinted keep F hs None n b = b
+none-hinted keep F hs (Some c) n b = cc
+
 -- where there is no checker of hints, all steps are plain
 pub all-plain-passes : (keep : Bool) (F : PrenexFormula) (es : List BothEntry) (G : PrenexFormula) (us : List UndoEntry) → hinted_in es ≡ [] → HavePassedPlain keep F (plain_in es) G us → HavePassed keep F es G us
 all-plain-passes keep F es G us z h =
@@ -261,12 +325,36 @@ all-plain-stops F es G (Refused n) z h = record { last = h.last; leaves = inl (r
 all-plain-stops F es G NoMemory z h = tt
 
 -- the answers of the ends
-pub hinted-passed : (keep : Bool) (F : PrenexFormula) (es : List BothEntry) (c : HintChecked) (G : PrenexFormula) (r : Result Verified CheckError) (us : List UndoEntry) → HasTakenHinted keep F (hinted_in es) c → ArePure es → OnOk r (SameFormula (plain c.formula) G) → IfOk r (λ v. v.undo ≡ c.undo) → r ≡ Ok (record { undo = us }) → HavePassed keep F es G us
-hinted-passed keep F es c G r us h p s u e =
-    hinted-passes keep F es c G us h p (subst (λ (x : Result Verified CheckError). OnOk x (SameFormula (plain c.formula) G)) e s) (subst (λ (x : Result Verified CheckError). IfOk x (λ v. v.undo ≡ c.undo)) e u)
+pub ended-plain : (k : Bool) (F G : PrenexFormula) (r : Result Verified CheckError) (old new : Option Checked) → IsReadyPlain k F old new → IsSomeAnd new (IsEndedPlain G r) → IfOk r (λ v. (keep : Bool) → (ps : List Entry) → IsBehindPlain keep F ps old → HavePassedPlain keep F ps G v.undo)
+ended-plain k F G (Err e) old new h q = tt
+ended-plain k F G (Ok v) (Some c) new h q = λ keep ps b.
+    let w : IsEndedPlain G (Ok v) c = subst (λ (o : Option Checked). IsSomeAnd o (IsEndedPlain G (Ok v))) h q in
+    plain-passes keep F ps c G v.undo b w.same w.undo
+ended-plain k F G (Ok v) None (Some c) h q = λ keep ps z. plain-passes-now keep F ps c.formula G v.undo z h.alike q.same (q.undo ∙ h.undo)
+ended-plain k F G (Ok v) None None h q = absurd h
 
-pub hinted-stopped : (keep : Bool) (F : PrenexFormula) (es : List BothEntry) (c : HintChecked) (G : PrenexFormula) (r : Result Verified CheckError) (w : CheckError) → HasTakenHinted keep F (hinted_in es) c → ArePure es → IfErr r (IsEndRefusal (plain c.formula) G) → r ≡ Err w → HaveStopped F es G w
-hinted-stopped keep F es c G r w h p s e = hinted-stops keep F es c G w h p (subst (λ (x : Result Verified CheckError). IfErr x (IsEndRefusal (plain c.formula) G)) e s)
+pub stopped-plain : (k : Bool) (F G : PrenexFormula) (r : Result Verified CheckError) (old new : Option Checked) → IsReadyPlain k F old new → IsSomeAnd new (IsEndedPlain G r) → IfErr r (λ e. (keep : Bool) → (ps : List Entry) → IsBehindPlain keep F ps old → HaveStoppedPlain F ps G e)
+stopped-plain k F G (Ok v) old new h q = tt
+stopped-plain k F G (Err e) (Some c) new h q = λ keep ps b.
+    let w : IsEndedPlain G (Err e) c = subst (λ (o : Option Checked). IsSomeAnd o (IsEndedPlain G (Err e))) h q in
+    plain-stops keep F ps c G e b w.refused
+stopped-plain k F G (Err e) None (Some c) h q = λ keep ps z. plain-stops-now F ps c.formula G e z h.alike q.refused
+stopped-plain k F G (Err e) None None h q = absurd h
+
+pub memory-ends : (F : PrenexFormula) (ps : List Entry) (G : PrenexFormula) (e : CheckError) → e ≡ NoMemory → HaveStoppedPlain F ps G e
+memory-ends F ps G e z = subst (λ (x : CheckError). HaveStoppedPlain F ps G x) (sym z) tt
+
+pub hinted-passed : (keep : Bool) (F : PrenexFormula) (es : List BothEntry) (o : Option HintChecked) (G : PrenexFormula) (r : Result Verified CheckError) (us : List UndoEntry) → IsSomeAnd o (IsEndedHinted G r) → IsBehindHinted keep F (hinted_in es) o → ArePure es → r ≡ Ok (record { undo = us }) → HavePassed keep F es G us
+hinted-passed keep F es None G r us k b p e = absurd k
+hinted-passed keep F es (Some c) G r us k b p e =
+    let w : IsEndedHinted G (Ok (record { undo = us })) c = subst (λ (x : Result Verified CheckError). IsEndedHinted G x c) e k in
+    hinted-passes keep F es c G us b p w.same w.undo
+
+pub hinted-stopped : (keep : Bool) (F : PrenexFormula) (es : List BothEntry) (o : Option HintChecked) (G : PrenexFormula) (r : Result Verified CheckError) (w : CheckError) → IsSomeAnd o (IsEndedHinted G r) → IsBehindHinted keep F (hinted_in es) o → ArePure es → r ≡ Err w → HaveStopped F es G w
+hinted-stopped keep F es None G r w k b p e = absurd k
+hinted-stopped keep F es (Some c) G r w k b p e =
+    let x : IsEndedHinted G (Err w) c = subst (λ (y : Result Verified CheckError). IsEndedHinted G y c) e k in
+    hinted-stops keep F es c G w b p x.refused
 
 pub plain-passed : (keep : Bool) (F : PrenexFormula) (es : List BothEntry) (o : Option Checked) (G : PrenexFormula) (r : Result Verified CheckError) (us : List UndoEntry) → hinted_in es ≡ [] → IsBehindPlain keep F (plain_in es) o → IfOk r (λ v. (k : Bool) → (ps : List Entry) → IsBehindPlain k F ps o → HavePassedPlain k F ps G v.undo) → r ≡ Ok (record { undo = us }) → HavePassed keep F es G us
 plain-passed keep F es o G r us z b h e =

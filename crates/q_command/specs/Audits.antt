@@ -6,7 +6,8 @@ use Rattle.q_hinted.specs.Logs.{Entry as BothEntry, read_entries, behind}
 use Rattle.q_hinted.specs.Reading.{to_come}
 use Rattle.q_command.specs.Checks.{LogPasses, LogSays}
 use Rattle.q_command.specs.Taken.{entries_of}
-use Rattle.q_command.specs.Judging.{SameTask, hints_taken}
+use Rattle.q_command.specs.Judging.{SameTask}
+use Rattle.q_command.specs.Seats.{hints_taken}
 use Rattle.q_command.specs.Logs.{IsRefusedAt}
 use Rattle.q_command.specs.Trials.{IsBehind}
 use Rattle.q_command.specs.declared.audit.Audit.{Audit}

@@ -64,10 +64,6 @@ pub record AreBehind (j : Judges) (es : List BothEntry) : Type 0 where
   pub plain : IsBehindPlain j.keeps_undo j.formula (plain_in es) j.plain
   pub hinted : IsBehindHinted j.keeps_undo j.formula (hinted_in es) j.hinted
 
-abbrev pub hints_taken : Option HintChecked → ℕ
-hints_taken None = 0
-hints_taken (Some c) = c.steps
-
 -- no step is taken yet
 pub record IsMade (F : PrenexFormula) (keep : Bool) (j : Judges) : Type 0 where
   pub formula : j.formula ≡ F

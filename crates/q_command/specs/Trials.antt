@@ -4,7 +4,8 @@ use Rattle.q_logic.specs.Formulas.{PrenexFormula}
 use Rattle.q_logic.specs.Hinted.{ProofPart}
 use Rattle.q_logic.specs.Steps.{ProofStep}
 use Rattle.q_hinted.specs.Logs.{Entry as BothEntry, hinted_in}
-use Rattle.q_command.specs.Judging.{AreBehind, SameTask, IsWrongPlain, IsWrongHinted, bare, plain_in, hints_taken}
+use Rattle.q_command.specs.Judging.{AreBehind, SameTask, IsWrongPlain, IsWrongHinted, bare, plain_in}
+use Rattle.q_command.specs.Seats.{hints_taken}
 use Rattle.q_command.specs.Taken.{HasAdded, entries_of}
 use Rattle.q_command.specs.declared.trial.Trial.{Trial}
 use Rattle.q_command.specs.declared.outcome.Outcome.{Outcome}

@@ -4,10 +4,12 @@ ghost use Rattle.std.specs.Prelude.{◌≡◌, ◌≤◌, ◌<◌, ◌+◌, ◌�
 ghost use Rattle.q_logic.specs.Hinted.{Hinted};
 ghost use Rattle.q_hinted.specs.Logs.{Entry as BothEntry};
 ghost use Rattle.q_command.specs.Logs.{Entry};
-ghost use Rattle.q_command.specs.Judging.{AreBehind, ArePure, IsMade, IsRefusedBehind, IsBehindPlain, IsBehindHinted, IsBadPlain, IsBadHinted, HavePassed, HaveStopped, HavePassedPlain, HaveStoppedPlain, SameTask, hints_taken};
+ghost use Rattle.q_command.specs.Judging.{AreBehind, ArePure, IsMade, IsRefusedBehind, IsBehindPlain, IsBehindHinted, IsBadPlain, IsBadHinted, HavePassed, HaveStopped, HavePassedPlain, HaveStoppedPlain, SameTask};
+ghost use Rattle.q_command.specs.Seats.{hints_taken};
 
-use q_check::{CheckError, Checker, HintChecker, Undos, Verified};
-use q_logic::{Formula, Limits, Proof, Step};
+use crate::seats::{HintedSeat, PlainSeat};
+use q_check::{CheckError, Undos, Verified};
+use q_logic::{Formula, Proof, Step};
 use std::alloc::Global;
 
 /// A formula, and the checkers of the steps so far: of those without proof parts, and of those with them.
@@ -16,8 +18,8 @@ pub(crate) struct Judges {
     alloc: Global,
     formula: Formula,
     keeps_undo: bool,
-    plain: Option<Checker>,
-    hinted: Option<HintChecker>,
+    plain: PlainSeat,
+    hinted: HintedSeat,
 }
 
 /// What is left where the steps lead to the output: the formula that they began with, and on demand their undo list.
@@ -35,8 +37,8 @@ impl Judges {
             alloc,
             formula,
             keeps_undo,
-            plain: None,
-            hinted: None,
+            plain: PlainSeat::empty(alloc),
+            hinted: HintedSeat::empty(alloc),
         }
     }
 
@@ -66,18 +68,9 @@ impl Judges {
         ensures same { SameTask self.old self.new }
         ensures hinted { self.new.hinted ≡ self.old.hinted }
     {
-        if let Some(checker) = &mut self.plain {
-            return checker.step(step);
-        }
-        let limits = Limits::standard();
-        let mut checker = Checker::start(self.alloc, &self.formula, limits, self.keeps_undo)?;
-        match checker.step(step) {
-            Ok(()) => {
-                self.plain = Some(checker);
-                Ok(())
-            }
-            Err(error) => Err(error),
-        }
+        self.plain
+            .fill(self.alloc, &self.formula, self.keeps_undo)?;
+        self.plain.step(step)
     }
 
     fn step_hinted(&mut self, step: &Step, proof: &Proof) -> Result<(), CheckError>
@@ -92,14 +85,9 @@ impl Judges {
         ensures plain { self.new.plain ≡ self.old.plain }
         ensures taken { OnOk result (hints_taken self.new.hinted ≡ hints_taken self.old.hinted + 1) }
     {
-        if let Some(checker) = &mut self.hinted {
-            return checker.step(step, proof);
-        }
-        let limits = Limits::standard();
-        let mut checker = HintChecker::start(self.alloc, &self.formula, limits, self.keeps_undo)?;
-        checker.step(step, proof)?;
-        self.hinted = Some(checker);
-        Ok(())
+        self.hinted
+            .fill(self.alloc, &self.formula, self.keeps_undo)?;
+        self.hinted.step(step, proof)
     }
 
     /// Ends the check: blocks and clauses are those of the output, in any order.
@@ -117,8 +105,8 @@ impl Judges {
             plain,
             hinted,
         } = self;
-        if let Some(checker) = hinted {
-            return with_formula(formula, checker.finish(output));
+        if hinted.is_taken() {
+            return with_formula(formula, hinted.finish(output));
         }
         let ended = finish_plain(alloc, &formula, plain, output);
         with_formula(formula, ended)
@@ -129,7 +117,7 @@ impl Judges {
 fn finish_plain(
     alloc: Global,
     formula: &Formula,
-    plain: Option<Checker>,
+    mut plain: PlainSeat,
     output: &Formula,
 ) -> Result<Verified, CheckError>
     ensures passed { IfOk result (λ v. (keep : Bool) → (ps : List Entry) → IsBehindPlain keep formula.now ps plain →
@@ -137,11 +125,8 @@ fn finish_plain(
     ensures refused { IfErr result (λ e. (keep : Bool) → (ps : List Entry) → IsBehindPlain keep formula.now ps plain →
         HaveStoppedPlain formula.now ps output.now e) }
 {
-    if let Some(checker) = plain {
-        return checker.finish(output);
-    }
-    let checker = Checker::start(alloc, formula, Limits::standard(), false)?;
-    checker.finish(output)
+    plain.fill(alloc, formula, false)?;
+    plain.finish(output)
 }
 
 fn with_formula(formula: Formula, ended: Result<Verified, CheckError>) -> Result<Judged, CheckError>

@@ -10,6 +10,7 @@ mod line;
 mod names;
 mod outcome;
 mod refusals;
+mod seats;
 mod status;
 mod taken;
 mod trial;

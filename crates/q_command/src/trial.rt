@@ -2,7 +2,8 @@
 ghost use Rattle.std.specs.Prelude.{◌≡◌, ◌<◌, ◌-◌, ◌^◌, List, OnOk, IfErr, IsErrOf};
 ghost use Rattle.q_hinted.specs.Logs.{Entry as BothEntry};
 ghost use Rattle.q_command.specs.Checks.{IsUnverified};
-ghost use Rattle.q_command.specs.Judging.{AreBehind, hints_taken};
+ghost use Rattle.q_command.specs.Judging.{AreBehind};
+ghost use Rattle.q_command.specs.Seats.{hints_taken};
 ghost use Rattle.q_command.specs.Trials.{HasTried, Convicts};
 
 use crate::judges::Judges;

@@ -1,30 +1,27 @@
-use Rattle.std.proofs.Common.{subst}
-use Rattle.q_command.specs.Judging.{IsBehindHinted}
+use Rattle.std.proofs.Common.{◌∙◌, sym}
 use Rattle.q_hinted.specs.Logs.{hinted_in}
 use Rattle.q_command.proofs.Feeding.{err_then, ok_then}
-use Rattle.q_command.proofs.Judging.{hinted-passed, hinted-stopped, plain-passed, plain-stopped}
+use Rattle.q_command.proofs.Judging.{hinted-passed, hinted-stopped, none-hinted, plain-passed, plain-stopped}
 use Rattle.q_command.proofs.judges.Judges.finish.Goals as goal
 
-pub returns-in-Some-clause-passed : goal.returns-in-Some-clause-passed
-returns-in-Some-clause-passed c =
+pub returns-then-is_taken-clause-passed : goal.returns-then-is_taken-clause-passed
+returns-then-is_taken-clause-passed c =
     ok_then c.with_formula.result c.with_formula.ensures.ok
-    (λ j e es b p. hinted-passed c.args.self.keeps_undo c.args.self.formula es c.in-Some.checker c.args.output.now c.finish.result j.undo
-    (subst (λ o. IsBehindHinted c.args.self.keeps_undo c.args.self.formula (hinted_in es) o) c.in-Some.is b.hinted) p c.finish.ensures.same c.finish.ensures.undo e.0)
+    (λ j e es b p. hinted-passed c.args.self.keeps_undo c.args.self.formula es c.args.self.hinted c.args.output.now c.finish.result j.undo c.finish.ensures b.hinted p e.0)
 
-pub returns-in-Some-clause-refused : goal.returns-in-Some-clause-refused
-returns-in-Some-clause-refused c =
+pub returns-then-is_taken-clause-refused : goal.returns-then-is_taken-clause-refused
+returns-then-is_taken-clause-refused c =
     err_then c.with_formula.result c.with_formula.ensures.err
-    (λ w e es b p. hinted-stopped c.args.self.keeps_undo c.args.self.formula es c.in-Some.checker c.args.output.now c.finish.result w
-    (subst (λ o. IsBehindHinted c.args.self.keeps_undo c.args.self.formula (hinted_in es) o) c.in-Some.is b.hinted) p c.finish.ensures.refused e)
+    (λ w e es b p. hinted-stopped c.args.self.keeps_undo c.args.self.formula es c.args.self.hinted c.args.output.now c.finish.result w c.finish.ensures b.hinted p e)
 
 pub returns-clause-passed : goal.returns-clause-passed
 returns-clause-passed c =
     ok_then c.with_formula-2.result c.with_formula-2.ensures.ok
     (λ j e es b p. plain-passed c.args.self.keeps_undo c.args.self.formula es c.args.self.plain c.args.output.now c.finish_plain-ended.result j.undo
-    (subst (λ o. IsBehindHinted c.args.self.keeps_undo c.args.self.formula (hinted_in es) o) c.in_default.is b.hinted) b.plain c.finish_plain-ended.ensures.passed e.0)
+    (none-hinted c.args.self.keeps_undo c.args.self.formula (hinted_in es) c.args.self.hinted (sym c.is_taken.ensures ∙ c.if-is_taken.false) b.hinted) b.plain c.finish_plain-ended.ensures.passed e.0)
 
 pub returns-clause-refused : goal.returns-clause-refused
 returns-clause-refused c =
     err_then c.with_formula-2.result c.with_formula-2.ensures.err
     (λ w e es b p. plain-stopped c.args.self.keeps_undo c.args.self.formula es c.args.self.plain c.args.output.now c.finish_plain-ended.result w
-    (subst (λ o. IsBehindHinted c.args.self.keeps_undo c.args.self.formula (hinted_in es) o) c.in_default.is b.hinted) b.plain c.finish_plain-ended.ensures.refused e)
+    (none-hinted c.args.self.keeps_undo c.args.self.formula (hinted_in es) c.args.self.hinted (sym c.is_taken.ensures ∙ c.if-is_taken.false) b.hinted) b.plain c.finish_plain-ended.ensures.refused e)
