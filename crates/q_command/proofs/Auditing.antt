@@ -1,9 +1,9 @@
 -- Steps that are tried while a log is read.
-use Rattle.std.proofs.Common.{◌≡◌, ◌⊎◌, inl, inr, ◌≤◌, ◌<◌, ◌+◌, ◌-◌, ◌==◌, ◌∙◌, refl, sym, ap, subst, arith, ℕ, Bool, true, false, List, [], ◌∷◌, ◌++◌, length, take, drop, if◌then◌else◌, Option, Some, None, Result, Ok, Err, IfOk, OnOk, append-nil, append_assoc, length-append, length-drop}
+use Rattle.std.proofs.Common.{◌≡◌, ◌≤◌, ◌<◌, ◌+◌, ◌-◌, ◌∙◌, refl, sym, ap, subst, arith, ℕ, Bool, true, List, [], ◌∷◌, ◌++◌, length, take, drop, Option, Some, None, Ok, Err, append-nil, append_assoc, length-append, length-drop}
 use Rattle.std.proofs.lemmas.List.{take-append-drop, length-take-le}
 use Rattle.std.proofs.Math.Seq.{take-add, take-length}
 use Rattle.q_logic.specs.Formulas.{PrenexFormula}
-use Rattle.q_logic.specs.Hinted.{Hinted, HintedSteps as AreValid, NumberedFormula, ProofPart, begun}
+use Rattle.q_logic.specs.Hinted.{HintedSteps as AreValid, NumberedFormula, ProofPart, begun}
 use Rattle.q_logic.specs.Limits.{standard}
 use Rattle.q_logic.specs.Runs.{ValidSteps}
 use Rattle.q_logic.specs.Steps.{ProofStep}
@@ -17,16 +17,13 @@ use Rattle.q_judge.specs.declared.error.CheckError.TheVariants as check
 use Rattle.q_check.specs.Checked.{Checked}
 use Rattle.q_check.specs.HintChecks.{HintChecked}
 use Rattle.q_command.specs.Logs.{Entry, HintedEntry, steps_of, hinted_of, IsOffence, IsRefusedAt}
-use Rattle.q_command.specs.Judging.{AreBehind, SameTask, IsBehindPlain, IsBehindHinted, IsRefusedBehind, plain_in, bare}
+use Rattle.q_command.specs.Judging.{AreBehind, IsBehindPlain, IsBehindHinted, IsRefusedBehind, plain_in}
 use Rattle.q_command.specs.Seats.{hints_taken}
 use Rattle.q_command.specs.Refusals.{log_refused, step_refused}
-use Rattle.q_command.specs.Taken.{HasAdded, HasKept, entries_of}
-use Rattle.q_command.specs.Trials.{IsBehind, HasTried, IsWrong, Convicts}
-use Rattle.q_command.specs.Audits.{IsOpen, Stands, SameCharge, Advances, Stops, Refuses, HasTaken, IsAllOf, HasEnded}
+use Rattle.q_command.specs.Trials.{IsBehind, HasTried, Convicts}
+use Rattle.q_command.specs.Audits.{IsOpen, Stands, SameCharge, Advances, Stops, Refuses, HasTaken, HasEnded}
 use Rattle.q_command.specs.declared.audit.Audit.{Audit}
 use Rattle.q_command.specs.declared.judges.Judges.{Judges}
-use Rattle.q_command.specs.declared.taken.Taken.{Taken}
-use Rattle.q_command.specs.declared.taken.TakenStep.{TakenStep}
 use Rattle.q_command.specs.declared.trial.Trial.{Trial}
 use Rattle.q_command.specs.declared.outcome.Outcome.{Outcome}
 use Rattle.q_command.specs.declared.outcome.Outcome.TheVariants.{Verified, RefusedLine, RefusedEnd, RefusedInput, ReadFault, NoMemory}

@@ -1,5 +1,5 @@
 -- Steps of logs of either profile: those without proof parts, and those with them.
-use Rattle.std.proofs.Common.{◌≡◌, ◌∙◌, refl, sym, ap, suc, ℕ, List, [], ◌∷◌, ◌++◌, map, length, Option, Some, None}
+use Rattle.std.proofs.Common.{◌≡◌, refl, ap, suc, List, [], ◌∷◌, ◌++◌, map, length, Option, Some, None}
 use Rattle.q_logic.specs.Hinted.{Hinted, ProofPart, strip}
 use Rattle.q_logic.specs.Steps.{ProofStep}
 use Rattle.q_hinted.specs.Logs.{Entry as BothEntry, plain_entry, hinted_entry, hinted_in, if_hinted}

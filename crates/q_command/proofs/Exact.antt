@@ -28,7 +28,7 @@ use Rattle.q_command.specs.declared.outcome.Outcome.{Outcome}
 use Rattle.q_command.specs.declared.outcome.Outcome.TheVariants.{Verified, RefusedLine, RefusedEnd, RefusedInput, ReadFault, NoMemory}
 use Rattle.q_command.specs.declared.status.Status.{Status}
 use Rattle.q_command.specs.declared.status.Status.TheVariants as status
-use Rattle.q_command.specs.Checks.{IsFileOf, IsNoFormula, FilesPass, OfFormulas, IsRunLog, LeadsTo, IsPlainWay, IsHintedWay, EndsElsewhere, LogSays, Checks, IsVerified, IsNoRun, HaveOneTruth, IfVerified, IsUnverified, MayCome, AnswersExactly}
+use Rattle.q_command.specs.Checks.{IsFileOf, IsNoFormula, FilesPass, OfFormulas, IsRunLog, LeadsTo, IsPlainWay, IsHintedWay, EndsElsewhere, Checks, IsVerified, IsNoRun, HaveOneTruth, IfVerified, IsUnverified, MayCome, AnswersExactly}
 
 -- a file has one formula, or an offence
 pub one_formula : (bytes : List ℕ) (F G : PrenexFormula) → IsFileOf bytes F → IsFileOf bytes G → F ≡ G

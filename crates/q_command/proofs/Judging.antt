@@ -1,5 +1,5 @@
 -- The checkers of both profiles, step by step, and their ends.
-use Rattle.std.proofs.Common.{◌≡◌, ◌⊎◌, inl, inr, ◌<◌, ◌+◌, ◌∙◌, refl, sym, ap, subst, arith, ℕ, Bool, true, false, List, [], ◌∷◌, ◌++◌, map, length, append-nil, length-append, Option, Some, None, Result, Ok, Err, IfOk, IfErr, OnOk, IsSome, IsSomeAnd, is_some}
+use Rattle.std.proofs.Common.{◌≡◌, inl, inr, ◌<◌, ◌∙◌, refl, sym, ap, subst, arith, ℕ, Bool, true, false, List, [], ◌∷◌, ◌++◌, map, length, append-nil, length-append, Option, Some, None, Result, Ok, Err, IfOk, IfErr, OnOk, IsSome, IsSomeAnd, is_some}
 use Rattle.q_logic.specs.Formulas.{PrenexFormula, Prefix, Matrix}
 use Rattle.q_logic.specs.Hinted.{Hinted, HintedSteps, HintedValid, HintedCause, NumberedFormula, ProofPart, begun, plain, strip, hinted_after}
 use Rattle.q_logic.specs.Limits.{standard}
@@ -9,7 +9,7 @@ use Rattle.q_logic.specs.Prefixes.{blocks, SameBlocks}
 use Rattle.q_logic.specs.Runs.{ValidSteps, SameFormula, AreAlike}
 use Rattle.q_logic.specs.Steps.{ProofStep, Valid, Cause, after}
 use Rattle.q_logic.specs.Undos.{UndoEntry, Undos}
-use Rattle.q_logic.proofs.Alike.{alike_itself, alike_swapped, alike_cause, alike_valid, alike_entries}
+use Rattle.q_logic.proofs.Alike.{alike_itself, alike_swapped, alike_cause}
 use Rattle.q_logic.proofs.HintedRuns.{hinted-valid, hinted-after}
 use Rattle.q_hinted.specs.Logs.{Entry as BothEntry, plain_entry, hinted_entry, hinted_in}
 use Rattle.q_judge.specs.Tried.{IsEndRefusal}
@@ -20,8 +20,8 @@ use Rattle.q_check.specs.Alike.{Leads}
 use Rattle.q_check.specs.Checked.{Checked, HasGrown, IsRefusal}
 use Rattle.q_check.specs.HintChecks.{HintChecked, IsHintRefusal}
 use Rattle.q_check.proofs.Runs.{leads_begin, leads_more, leads_undos}
-use Rattle.q_command.specs.Logs.{Entry, HintedEntry, steps_of, hinted_of, stripped, EndsApart}
-use Rattle.q_command.specs.Judging.{AreBehind, ArePure, IsMade, SameTask, IsBehindPlain, IsBehindHinted, HasTakenPlain, HasTakenHinted, IsWrongPlain, IsWrongHinted, IsBadPlain, IsBadHinted, HavePassedPlain, HaveEndedPlain, HaveStoppedPlain, HavePassed, HaveEnded, HaveStopped, LeavesPlain, LeavesHinted, Leaves, plain_in, bare}
+use Rattle.q_command.specs.Logs.{Entry, HintedEntry, steps_of, hinted_of, EndsApart}
+use Rattle.q_command.specs.Judging.{AreBehind, ArePure, IsMade, SameTask, IsBehindPlain, IsBehindHinted, HasTakenPlain, HasTakenHinted, IsBadPlain, IsBadHinted, HavePassedPlain, HaveEndedPlain, HaveStoppedPlain, HavePassed, HaveStopped, Leaves, plain_in, bare}
 use Rattle.q_command.specs.Seats.{IsReadyPlain, IsReadyHinted, IsNewPlain, new_hinted, HasSteppedPlain, HasSteppedHinted, IsEndedPlain, IsEndedHinted, hints_taken}
 use Rattle.q_command.specs.declared.judges.Judges.{Judges}
 use Rattle.q_command.proofs.Entries.{plain_in-append, hinted_in-append, steps_of-append, hinted_of-append, strip-append, hinted_in-plain, bare-plain, bare-hinted, stripped-steps, only-plain}

@@ -1,8 +1,8 @@
 -- A whole log of either profile: its first token tells how it is read.
-use Rattle.std.proofs.Common.{◌≡◌, ◌⊎◌, inl, inr, ◌==◌, ◌∙◌, refl, sym, ap, subst, arith, ℕ, Bool, true, false, List, [], ◌∷◌, ◌++◌, map, length, append-nil, if◌then◌else◌, Option, Some, None}
+use Rattle.std.proofs.Common.{◌≡◌, ◌⊎◌, inl, inr, ◌==◌, ◌∙◌, refl, sym, ap, subst, arith, ℕ, Bool, true, false, List, [], ◌∷◌, ◌++◌, map, length, if◌then◌else◌, Option, Some, None}
 use Rattle.std.proofs.lemmas.Bool.Decides.{nat_tests}
 use Rattle.q_logic.specs.Formulas.{PrenexFormula}
-use Rattle.q_logic.specs.Hinted.{Hinted, HintedSteps as AreValid, HintedCause, NumberedFormula, ProofPart, begun, plain, strip, hinted_after}
+use Rattle.q_logic.specs.Hinted.{HintedSteps as AreValid, HintedCause, NumberedFormula, ProofPart, begun, plain, strip, hinted_after}
 use Rattle.q_logic.specs.Limits.{standard}
 use Rattle.q_logic.specs.Runs.{ValidSteps, SameFormula, Run}
 use Rattle.q_logic.specs.Steps.{ProofStep, Cause, after}
@@ -12,14 +12,13 @@ use Rattle.q_text.specs.declared.tokens.Token.{Token}
 use Rattle.q_text.specs.declared.tokens.TokenKind.{TokenKind}
 use Rattle.q_text.specs.declared.tokens.TokenKind.TheVariants.{Number, P, Cnf, Qrat, E, A, D, U, R, Other}
 use Rattle.q_log.specs.declared.error.LogError.{LogError}
-use Rattle.q_log.specs.declared.error.LogError.TheVariants as log
 use Rattle.q_log.specs.Logs as logs
 use Rattle.q_hinted.specs.Grammar.{first_profile}
 use Rattle.q_hinted.specs.Logs.{Entry as BothEntry, Entries, Profile, HintedSteps, all_or_none, profile_of, tokens_within, read_entries, plain_entries, plain_entry, hinted_entry, hinted_in}
 use Rattle.q_hinted.proofs.Profiles.{plain-read, no-steps, parts-read}
 use Rattle.q_command.specs.Logs.{Entry, HintedEntry, steps_of, hinted_of, stripped, IsOffence, IsFirstBad, IsFirstBadHinted, IsRefusedAt}
-use Rattle.q_command.specs.Checks.{IsPlainRunLog, IsHintedRunLog, IsRunLog, IsPlainWay, IsHintedWay, EndsElsewhere, LogPasses}
-use Rattle.q_command.specs.Judging.{ArePure, IsWrongPlain, IsWrongHinted, Leaves, HavePassed, HaveEnded, plain_in, bare}
+use Rattle.q_command.specs.Checks.{IsRunLog, IsPlainWay, IsHintedWay, EndsElsewhere, LogPasses}
+use Rattle.q_command.specs.Judging.{ArePure, Leaves, HavePassed, HaveEnded, plain_in, bare}
 use Rattle.q_command.specs.Trials.{IsWrong}
 use Rattle.q_command.proofs.Entries.{plain_in-append, hinted_in-append, plain_in-plain, hinted_in-plain, plain_in-hinted, bare-plain, bare-hinted, stripped-steps, length-bare, not-empty}
 use Rattle.q_command.proofs.Judging.{plain-begun}

@@ -1,7 +1,7 @@
 -- The checkers of a log of either profile: plain steps have one, steps with proof parts another.
 use Rattle.std.specs.Prelude.{◌≡◌, ◌⊎◌, ◌<◌, ℕ, Bool, true, List, [], ◌∷◌, length, map, Option, None, Some}
 use Rattle.q_logic.specs.Formulas.{PrenexFormula}
-use Rattle.q_logic.specs.Hinted.{Hinted, HintedCause, HintedSteps, NumberedFormula, ProofPart, begun, plain, strip}
+use Rattle.q_logic.specs.Hinted.{HintedCause, HintedSteps, NumberedFormula, ProofPart, begun, plain, strip}
 use Rattle.q_logic.specs.Limits.{standard}
 use Rattle.q_logic.specs.Steps.{ProofStep, Cause}
 use Rattle.q_logic.specs.Runs.{ValidSteps, SameFormula}

@@ -1,5 +1,5 @@
 -- The valid steps of a log, as they are counted and kept.
-use Rattle.std.specs.Prelude.{◌≡◌, ◌+◌, ℕ, Bool, true, List, [], ◌∷◌, ◌++◌}
+use Rattle.std.specs.Prelude.{◌≡◌, ◌+◌, Bool, true, List, [], ◌∷◌, ◌++◌}
 use Rattle.q_logic.specs.Formulas.{PrenexFormula}
 use Rattle.q_logic.specs.Runs.{Run}
 use Rattle.q_command.specs.Logs.{Entry, steps_of}

@@ -68,8 +68,7 @@ impl Judges {
         ensures same { SameTask self.old self.new }
         ensures hinted { self.new.hinted ≡ self.old.hinted }
     {
-        self.plain
-            .fill(self.alloc, &self.formula, self.keeps_undo)?;
+        self.plain.fill(self.alloc, &self.formula, self.keeps_undo)?;
         self.plain.step(step)
     }
 

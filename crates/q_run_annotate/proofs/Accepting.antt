@@ -1,15 +1,14 @@
 -- What `annotate` wrote is read back as the same steps with the same proof parts.
-use Rattle.std.proofs.Common.{◌≡◌, ◌≢◌, ◌≤◌, ◌<◌, ◌+◌, ◌^◌, ◌∙◌, inl, inr, refl, sym, ap, subst, arith, ℕ, suc, List, [], ◌∷◌, map, length, Option, Some, None, unwrap_or}
+use Rattle.std.proofs.Common.{◌≡◌, ◌≢◌, ◌≤◌, ◌<◌, ◌+◌, ◌^◌, ◌∙◌, inl, inr, refl, sym, ap, subst, arith, ℕ, suc, List, [], ◌∷◌, map, length, Some, unwrap_or}
 use Rattle.std.specs.List.{AllByRecursion}
 use Rattle.q_logic.specs.Literals.{Literal}
-use Rattle.q_logic.specs.Formulas.{Clause, IsIn, PrenexFormula}
+use Rattle.q_logic.specs.Formulas.{IsIn, PrenexFormula}
 use Rattle.q_logic.specs.Clauses.{clause_of}
 use Rattle.q_logic.specs.Hinted.{Hinted, HintedRun, strip}
 use Rattle.q_logic.specs.Limits.{standard}
 use Rattle.q_logic.specs.declared.steps.Kind.{Kind}
 use Rattle.q_logic.specs.declared.steps.Kind.TheVariants.{Add, Delete, Drop, Fresh, Remove}
 use Rattle.q_logic.specs.Pivots.{without}
-use Rattle.q_logic.specs.Sets.{has}
 use Rattle.q_logic.specs.StepForms.{kind_of, step_of, literals_of, in_front, first_of, IsStepForm}
 use Rattle.q_logic.specs.Steps.{ProofStep}
 use Rattle.q_logic.proofs.ClauseSets.{IsIn-clause_of}
@@ -17,17 +16,17 @@ use Rattle.q_logic.proofs.StepForms.{step_of-IsStep}
 use Rattle.q_logic.proofs.UniversalPivot.{without-IsIn}
 use Rattle.q_io.specs.Files.{Disk, HoldsBytes, bytes_at}
 use Rattle.q_log.specs.Logs.{Steps}
-use Rattle.q_log.specs.Spelled.{StepText, IsSpelled, step_in, Log}
+use Rattle.q_log.specs.Spelled.{StepText, IsSpelled, step_in}
 use Rattle.q_log.specs.Texts.{IsLogged}
 use Rattle.q_log.proofs.Parsing.{read-spelled}
 use Rattle.q_hinted.specs.Logs.{HintedSteps}
 use Rattle.q_hinted.specs.Parts.{IsPartOf}
 use Rattle.q_hinted.specs.Texts.{IsWritten, log_text, on_lines}
 use Rattle.q_hinted.proofs.Rereading.{hinted-reread}
-use Rattle.q_command.specs.Checks.{IsFileOf, IsHintedRunLog, IsRunLog, IsVerified}
+use Rattle.q_command.specs.Checks.{IsFileOf, IsRunLog, IsVerified}
 use Rattle.q_command.specs.Logs.{Entry, HintedEntry, steps_of, hinted_of, stripped}
 use Rattle.q_command.proofs.Wholes.{not-both-profiles}
-use Rattle.q_run_annotate.specs.Annotates.{AnnotateFiles, IsAnnotation, IsHintedLog, IsWhole, SaysVerified}
+use Rattle.q_run_annotate.specs.Annotates.{AnnotateFiles, IsAnnotation, IsWhole, SaysVerified}
 
 abbrev IsNumber : Literal → Type 0
 IsNumber l = (1 ≤ l.var) × (l.var < 2 ^ 31)

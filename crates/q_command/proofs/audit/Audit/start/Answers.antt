@@ -1,4 +1,4 @@
-use Rattle.std.proofs.Common.{◌≡◌, ◌∙◌, refl, sym, ap, arith, ℕ, []}
+use Rattle.std.proofs.Common.{◌≡◌, ◌∙◌, sym, ap, arith, ℕ, []}
 use Rattle.q_logic.specs.declared.limits.Limits.{Limits}
 use Rattle.q_hinted.specs.Logs.{read_entries}
 use Rattle.q_hinted.specs.Reading.{BothState}

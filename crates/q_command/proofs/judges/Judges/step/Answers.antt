@@ -1,4 +1,4 @@
-use Rattle.std.proofs.Common.{subst, List, Option, ◌∷◌, ◌++◌, [], sym}
+use Rattle.std.proofs.Common.{subst, Option, ◌∷◌, ◌++◌, [], sym}
 use Rattle.q_logic.specs.Hinted.{ProofPart}
 use Rattle.q_command.specs.Judging.{AreBehind}
 use Rattle.q_command.proofs.Feeding.{on_ok}

@@ -1,4 +1,4 @@
-use Rattle.std.proofs.Common.{◌≤◌, ◌^◌, arith, length}
+use Rattle.std.proofs.Common.{arith}
 use Rattle.q_run_annotate.proofs.scribe.Scribe.start.Goals as goal
 
 pub returns-in-Ok : goal.returns-in-Ok
