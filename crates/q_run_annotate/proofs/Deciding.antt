@@ -7,7 +7,7 @@ use Rattle.q_io.specs.Files.{Disk, bytes_at}
 use Rattle.q_hinted.specs.Logs.{Profile}
 use Rattle.q_hinted.proofs.Profiles.{no-steps}
 use Rattle.q_command.specs.Checks.{IsNoFormula, IsUnverified, MayCome, OfFormulas}
-use Rattle.q_command.specs.Logs.{Entry, steps_of, IsRefusedPlain}
+use Rattle.q_command.specs.Logs.{steps_of, IsRefusedPlain}
 use Rattle.q_run_annotate.proofs.Walking.{hinted-leads}
 use Rattle.q_command.specs.Sinks.{SinkView, IsDue}
 use Rattle.q_command.specs.Statuses.{status_of}

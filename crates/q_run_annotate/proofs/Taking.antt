@@ -5,7 +5,6 @@ use Rattle.std.proofs.Math.Seq.{take-add, take-length}
 use Rattle.q_logic.specs.Formulas.{PrenexFormula}
 use Rattle.q_logic.specs.Hinted.{plain}
 use Rattle.q_logic.specs.Limits.{standard}
-use Rattle.q_logic.specs.Runs.{SameFormula}
 use Rattle.q_logic.specs.Steps.{ProofStep, Cause}
 use Rattle.q_logic.specs.declared.limits.Limits.{Limits}
 use Rattle.q_logic.proofs.Alike.{alike_swapped, alike_cause}
@@ -14,7 +13,7 @@ use Rattle.q_log.specs.declared.error.LogError.TheVariants as log
 use Rattle.q_log.specs.Logs as logs
 use Rattle.q_log.specs.Reading.{LogState, to_come}
 use Rattle.q_log.specs.Reading as reading
-use Rattle.q_command.specs.Logs.{Entry, steps_of, IsOffence, IsFirstBad, IsRefusedPlain}
+use Rattle.q_command.specs.Logs.{Entry, IsOffence, IsFirstBad, IsRefusedPlain}
 use Rattle.q_judge.specs.declared.error.CheckError.{CheckError}
 use Rattle.q_judge.specs.declared.error.CheckError.TheVariants as check
 use Rattle.q_check.specs.Checked.{IsRefusal}
@@ -25,7 +24,7 @@ use Rattle.q_command.proofs.Auditing.{front-of}
 use Rattle.q_command.proofs.Judging.{ends-apart}
 use Rattle.q_command.proofs.Wholes.{bad-plain, offence-plain}
 use Rattle.q_run_annotate.specs.Annotates.{IsAnnotation, LogRefuses}
-use Rattle.q_run_annotate.specs.Readings.{IsOpen, IsUnderWay, Stands, IsSoFar, Goes, Convicts, EndsAs, IsEndOutcome, Advances, Stops, Refuses, HasTaken, IsAllOf, Ends, Passes, Concludes, IsStarted}
+use Rattle.q_run_annotate.specs.Readings.{IsOpen, IsUnderWay, Stands, IsSoFar, Goes, Convicts, EndsAs, IsEndOutcome, Advances, Stops, Refuses, HasTaken, Ends, Passes, Concludes, IsStarted}
 use Rattle.q_run_annotate.specs.declared.reading.Reading.{Reading}
 use Rattle.q_run_annotate.specs.declared.scribe.HintedText.{HintedText}
 use Rattle.q_run_annotate.specs.declared.scribe.Scribe.{Scribe}

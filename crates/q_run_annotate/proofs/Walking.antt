@@ -12,7 +12,7 @@ use Rattle.q_logic.proofs.HintedRuns.{hinted-run, hinted-valid, hinted-after}
 use Rattle.q_logic.specs.StepForms.{kind_of}
 use Rattle.q_logic.specs.Steps.{ProofStep, after}
 use Rattle.q_hinted.specs.Parts.{IsPartOf}
-use Rattle.q_hinted.specs.Texts.{header_text, hinted_text, lines_text, log_text}
+use Rattle.q_hinted.specs.Texts.{header_text, hinted_text, lines_text}
 use Rattle.q_check.specs.Alike.{Leads}
 use Rattle.q_check.specs.Annotations.{Annotating}
 use Rattle.q_check.proofs.Runs.{leads_begin, leads_more}

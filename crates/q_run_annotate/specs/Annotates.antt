@@ -11,7 +11,7 @@ use Rattle.q_io.specs.Files.{Disk, HoldsBytes, MayHoldFront, bytes_at}
 use Rattle.q_log.specs.Logs.{Steps}
 use Rattle.q_hinted.specs.Parts.{IsPartOf}
 use Rattle.q_hinted.specs.Texts.{log_text}
-use Rattle.q_command.specs.Checks.{IsFileOf, IsNoFormula, IsPlainRunLog, IsPlainWay, IsUnverified, OfFormulas, Exactly}
+use Rattle.q_command.specs.Checks.{Checks, IsFileOf, IsNoFormula, IsPlainRunLog, IsPlainWay, IsUnverified, OfFormulas, Exactly}
 use Rattle.q_command.specs.Logs.{Entry, steps_of, EndsApart, IsRefusedPlain}
 use Rattle.q_command.specs.declared.outcome.Outcome.{Outcome}
 use Rattle.q_command.specs.declared.outcome.Outcome.TheVariants as outcome
@@ -120,3 +120,7 @@ pub record AnnotatesExactly (given : Status) (n : AnnotateFiles) (before : Disk)
   pub input_refused : Exactly given status.InputRefused (IsNoFormula (bytes_at before n.input) ⊎ IsNoFormula (bytes_at before n.output))
   pub untouched : IsUntouched given → after ≡ Some before
   pub left : (given ≡ status.WriteFault) ⊎ (given ≡ status.NoMemory) → (after ≡ Some before) ⊎ IsPart n before after
+
+-- what `check` says of the files where it verified so many steps
+abbrev pub SaysVerified : ℕ → List ℕ → List ℕ → List ℕ → Type 0
+SaysVerified k i o l = Checks (outcome.Verified k) i o l

@@ -9,6 +9,7 @@ mod law;
 mod names;
 mod reading;
 mod scribe;
+mod seat;
 
 pub use annotated::Annotated;
 pub use files::annotate_files;

@@ -4,10 +4,11 @@ ghost use Rattle.q_logic.specs.Hinted.{plain};
 ghost use Rattle.q_command.specs.Checks.{IsUnverified};
 ghost use Rattle.q_run_annotate.specs.Readings.{IsBegun, IsUnderWay, Goes, Convicts, EndsAs, IsEndOutcome};
 
-use q_check::{Annotator, CheckError};
+use crate::seat::Seat;
+use q_check::CheckError;
 use q_command::{Outcome, step_refusal};
 use q_hinted::{push_header, push_hinted};
-use q_logic::{Formula, Limits, NoMemory, Step};
+use q_logic::{Formula, NoMemory, Step};
 use std::alloc::Global;
 
 // More clauses have no place in memory.
@@ -16,7 +17,7 @@ const MOST: u64 = 1 << 60;
 /// The annotator behind the steps so far, and their lines with proof parts.
 #[derive(Drop)]
 pub(crate) struct Scribe {
-    annotator: Annotator,
+    annotator: Seat,
     text: Vec<u8>,
 }
 
@@ -37,9 +38,9 @@ impl Scribe {
         }
         let mut text = Vec::new(alloc);
         push_header(&mut text)?;
-        match Annotator::start(alloc, formula, Limits::standard()) {
+        match Seat::start(alloc, formula) {
             Ok(annotator) => Ok(Scribe { annotator, text }),
-            Err(_) => Err(NoMemory),
+            Err(NoMemory) => Err(NoMemory),
         }
     }
 
