@@ -1,5 +1,5 @@
 -- Walks that are kept: what they tell, and what a step leaves of them.
-use Rattle.std.proofs.Common.{◌≡◌, ◌⊎◌, ◌<◌, ◌≤◌, ◌+◌, ℕ, true, false, eqb, set, length, take, slice_get, List, [], ◌∷◌, ◌++◌, None, Some, Contains, refl, sym, ◌∙◌, ap, subst, inl, inr, arith, true≢false, append_assoc, zero, suc}
+use Rattle.std.proofs.Common.{◌≡◌, ◌<◌, ◌≤◌, ◌+◌, ℕ, true, false, eqb, set, length, take, slice_get, List, [], ◌∷◌, ◌++◌, None, Some, refl, sym, ◌∙◌, ap, subst, inl, inr, arith, true≢false, append_assoc, zero, suc}
 use Rattle.std.proofs.Math.Seq.{take-append_seam}
 use Rattle.q_logic.specs.Literals.{Literal, negation}
 use Rattle.q_logic.specs.Formulas.{Clause, Matrix, Prefix, IsIn}

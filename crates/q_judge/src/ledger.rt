@@ -30,7 +30,6 @@ use crate::reach::reduces;
 use crate::recent::RecentRegions;
 use crate::scope::Scope;
 use crate::undo::{Undo, collect_outers, pivot_entry};
-
 use q_logic::{Clauses, Formula, Limits, Lit, NoMemory, holds};
 use q_prop::Store;
 use std::alloc::Global;

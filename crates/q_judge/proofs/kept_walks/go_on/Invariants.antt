@@ -1,4 +1,3 @@
-use Rattle.std.proofs.Common.{◌≡◌, ◌≤◌, length}
 use Rattle.q_prop.specs.Slots.{filled}
 use Rattle.q_judge.proofs.Enclosing.{IsGoingOn}
 use Rattle.q_judge.proofs.kept_walks.go_on.Given as goal

@@ -1,4 +1,4 @@
-use Rattle.std.proofs.Common.{◌≡◌, true, Contains, sym, ap, ◌∙◌, subst, inl, inr}
+use Rattle.std.proofs.Common.{Contains, sym, ap, ◌∙◌, subst, inl, inr}
 use Rattle.q_logic.specs.Literals.{Literal}
 use Rattle.q_logic.specs.Formulas.{IsIn}
 use Rattle.q_logic.proofs.Members.{item-in, taken-cases, taken-all}

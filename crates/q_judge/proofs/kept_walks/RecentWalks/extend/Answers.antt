@@ -1,4 +1,4 @@
-use Rattle.std.proofs.Common.{◌≡◌, ◌∙◌, ◌<◌, List, Some, sym, ap, subst, length}
+use Rattle.std.proofs.Common.{◌∙◌, ◌<◌, List, Some, sym, ap, subst, length}
 use Rattle.q_prop.specs.Slots.{filled}
 use Rattle.q_prop.proofs.SlotLemmas.{slice_get-at, Contains-slice_get}
 use Rattle.q_logic.proofs.Membership.{Contains-IsIn}

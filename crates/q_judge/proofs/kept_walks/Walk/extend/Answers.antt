@@ -1,4 +1,4 @@
-use Rattle.std.proofs.Common.{List, sym, subst}
+use Rattle.std.proofs.Common.{sym, subst}
 use Rattle.q_logic.specs.Literals.{Literal}
 use Rattle.q_prop.specs.Slots.{filled}
 use Rattle.q_judge.specs.Walks.{WalkMap, IsShut}

@@ -1,6 +1,6 @@
-use Rattle.std.proofs.Common.{◌≡◌, ◌∙◌, false, Some, refl, sym, inl, inr, true≢false}
+use Rattle.std.proofs.Common.{◌∙◌, Some, refl, sym, inl, inr, true≢false}
 use Rattle.q_logic.specs.Literals.{Literal, negation}
-use Rattle.q_logic.specs.Formulas.{Clause, Matrix, Prefix, IsIn}
+use Rattle.q_logic.specs.Formulas.{Clause, Matrix, Prefix}
 use Rattle.q_logic.specs.Pivots.{without}
 use Rattle.q_logic.specs.Reach.{Reducible}
 use Rattle.q_logic.specs.Steps.{IsDroppable}

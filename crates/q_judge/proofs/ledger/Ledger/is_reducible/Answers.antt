@@ -1,4 +1,4 @@
-use Rattle.std.proofs.Common.{Some, inr, refl, sym, ◌∙◌, true≢false}
+use Rattle.std.proofs.Common.{Some, inr, sym, ◌∙◌, true≢false}
 use Rattle.q_prop.specs.Slots.{filled, without}
 use Rattle.q_judge.proofs.ledger.Ledger.is_reducible.Goals as goal
 

@@ -30,4 +30,4 @@ invariant_of-self c =
     )
 
 pub take-requires-2 : goal.take-requires-2
-take-requires-2 c = rw (← c.self.view_is) at c.requires.within
+take-requires-2 c = record { within = rw (← c.self.view_is) at c.requires.within }

@@ -1,5 +1,4 @@
 use Rattle.std.proofs.Common.{◌∷◌, Some, arith, inr, subst}
-use Rattle.q_logic.specs.Literals.{Literal}
 use Rattle.q_logic.specs.Formulas.{Clause, IsIn}
 use Rattle.q_logic.proofs.UniversalPivot.{without-IsIn}
 use Rattle.q_prop.specs.Slots.{filled}
@@ -52,12 +51,12 @@ invariant_of-self-2 c =
     )
 
 pub take-requires : goal.take-requires
-take-requires c k m =
+take-requires c =
     let i = c.self.inside in
     let C = c.args.clause.now in
     let r = c.requires.rest in
     let h = rw (← c.self.view_is) at c.requires.there in
-    c.self.invariant.0.formula.closed C (held-in i.store c.args.at C h) k (without-IsIn r.0 C k (subst (λ (D : Clause). IsIn k D) r.1 m))
+    record { within = λ k m. c.self.invariant.0.formula.closed C (held-in i.store c.args.at C h) k (without-IsIn r.0 C k (subst (λ (D : Clause). IsIn k D) r.1 m)) }
 
 pub invariant_of-self : goal.invariant_of-self
 invariant_of-self c =
