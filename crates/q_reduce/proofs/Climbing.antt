@@ -1,10 +1,9 @@
 -- Two paths upwards, from a clause and from one with the negation of its literal, that meet.
-use Rattle.std.proofs.Common.{◌≡◌, ℕ, true, Some, refl, sym, subst}
+use Rattle.std.proofs.Common.{◌≡◌, ℕ, true, Some, sym, subst}
 use Rattle.q_logic.specs.Literals.{Literal, negation}
 use Rattle.q_logic.specs.Formulas.{Clause, Prefix, IsIn}
 use Rattle.q_logic.specs.Prefixes.{is_bound}
 use Rattle.q_logic.specs.Numbered.{Slots, slot, others}
-use Rattle.q_logic.specs.Expanding.{inner_existential}
 use Rattle.q_logic.specs.Reach.{Reached, Reducible}
 use Rattle.q_logic.proofs.Implying.{negation-negation}
 use Rattle.q_logic.proofs.Searching.{hit-reached}
@@ -32,9 +31,6 @@ module _ (P : Prefix) (N : Slots) (c : ℕ) (u : Literal) where
 
   pub near-begun : IsNear c
   near-begun C e = (C, e, Reached.first)
-
-  pub near-live : HoldsUniversal P N c u → (x : ℕ) → IsNear x → (X : Clause) × (slot N x ≡ Some X)
-  near-live h x n = let r = n h.0 h.1 in (r.0, r.1)
 
   pub near-up : HoldsUniversal P N c u → (x p : ℕ) → AreJoined P N u x p → Lacks N p u → IsNear x → IsNear p
   near-up h x p j n r C e =

@@ -111,7 +111,10 @@ module _ (P : Prefix) (u : Literal) where
     f.3,
   )
 
-  -- A clause that lacks u stands beside slot-one that holds it.
+  pub stands-held : (N : Slots) (d : ℕ) (l : Literal) (D E : Clause) → slot N d ≡ Some D → IsIn l D → Stands N d E → IsIn E (live N) × IsIn l E
+  stands-held N d l D E h m b = (slot-IsIn N d E b, subst (λ (x : Clause). IsIn l x) (slot-one N d D E h b) m)
+
+  -- A clause that lacks u stands beside one that holds it.
   pub lacking-beside : (N : Slots) (c : ℕ) (C E : Clause) → slot N c ≡ Some C → IsIn u C → IsIn E (live N) → (IsIn u E → ⊥) → IsIn E (others c N)
   lacking-beside N c C E h m i n =
       let d = IsIn-slot N E i in

@@ -133,7 +133,9 @@ impl Forest {
         ensures joined { (p : ℕ) → result ≡ Some p → AreJoined kernel.now.prefix (slots kernel.now) u c p }
         ensures lacks { (p : ℕ) → result ≡ Some p → Lacks (slots kernel.now) p u }
     {
-        let parent = self.parent(kernel, c, u)?;
+        let Some(parent) = self.parent(kernel, c, u) else {
+            return None;
+        };
         if holds(clause_of(kernel, parent), u) {
             None
         } else {
@@ -176,7 +178,13 @@ impl Forest {
         ensures { (p : ℕ) → result ≡ Some p → AreJoined kernel.now.prefix (slots kernel.now) u c p }
     {
         match self.place(c) {
-            Place::Below { parent, lit, .. } => { if is_edge(kernel, c, lit, parent, u) { Some(parent) } else { None } }
+            Place::Below { parent, lit, .. } => {
+                if is_edge(kernel, c, lit, parent, u) {
+                    Some(parent)
+                } else {
+                    None
+                }
+            }
             _ => None,
         }
     }

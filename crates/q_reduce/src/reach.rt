@@ -27,7 +27,7 @@ pub fn is_reducible(
 ) -> Result<bool, NoMemory>
     requires live { (C : Clause) × (slot (slots kernel.now) c ≡ Some C) × IsIn lit C × (IsIn (negation lit) C → ⊥) }
     requires universal { is_universal kernel.now.prefix lit.var ≡ true }
-    ensures yes { IfOk result (λ yes. (C : Clause) → slot (slots kernel.now) c ≡ Some C → IsTrue yes ↔ Reducible kernel.now.prefix (others c (slots kernel.now)) C lit) }
+    ensures { IfOk result (λ yes. (C : Clause) → slot (slots kernel.now) c ≡ Some C → IsTrue yes ↔ Reducible kernel.now.prefix (others c (slots kernel.now)) C lit) }
 {
     queue.clear();
     push_inner(kernel, queue, clause_of(kernel, c), lit)?;

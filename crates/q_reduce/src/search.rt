@@ -1,11 +1,10 @@
 //! What searches lend each other.
-ghost use Rattle.std.specs.Prelude.{◌≡◌, ◌↔◌, ◌⊎◌, ◌<◌, true, Some, IfOk, IsTrue};
+ghost use Rattle.std.specs.Prelude.{◌≡◌, ◌↔◌, true, Some, IfOk, IsTrue};
 ghost use Rattle.q_logic.specs.Literals.{negation};
 ghost use Rattle.q_logic.specs.Formulas.{Clause, IsIn};
 ghost use Rattle.q_logic.specs.Prefixes.{is_universal};
 ghost use Rattle.q_logic.specs.Reach.{Reducible};
-ghost use Rattle.q_logic.specs.Measure.{size_of};
-ghost use Rattle.q_logic.specs.Numbered.{slot, live, others};
+ghost use Rattle.q_logic.specs.Numbered.{slot, others};
 ghost use Rattle.q_kernel.specs.Kernels.{slots};
 ghost use Rattle.q_reduce.specs.Lent.{nothing_learned, IsFitFor};
 

@@ -20,8 +20,8 @@ loop-head-init c = begun
         let q = some-same c.clause_of.result.now C (sym c.clause_of.ensures.clause ∙ e) in
         walk-begun k.prefix (others c.args.c (slots k)) C c.args.lit c.push_inner.new.queue (subst (λ (x : Clause). IsWidened k.prefix c.args.lit x [] c.push_inner.new.queue) q w)
 
-pub returns-then-head-len-clause-yes : goal.returns-then-head-len-clause-yes
-returns-then-head-len-clause-yes c C e =
+pub returns-then-head-len : goal.returns-then-head-len
+returns-then-head-len c C e =
     let k = c.args.kernel.now in
     let q = some-same c.requires.live.0 C (sym c.requires.live.1 ∙ e) in
     let m : IsIn c.args.lit C = subst (λ (x : Clause). IsIn c.args.lit x) q c.requires.live.2 in
@@ -29,8 +29,8 @@ returns-then-head-len-clause-yes c C e =
     let r = walk-ended k.prefix (others c.args.c (slots k)) C c.args.lit c.loop-head.head c.loop-head.queue (c.loop-head.invariant C e) past c.requires.universal m (λ n. c.requires.live.3 (subst (λ (x : Clause). IsIn (negation c.args.lit) x) (sym q) n)) in
     ((λ t. r), (λ x. refl))
 
-pub returns-then-not-branch-clause-yes : goal.returns-then-not-branch-clause-yes
-returns-then-not-branch-clause-yes c C e =
+pub returns-then-not-branch : goal.returns-then-not-branch
+returns-then-not-branch c C e =
     let k = c.args.kernel.now in
     let f = rw c.if-not-branch.true at c.in_ok-visit.ensures in
     let v = visited-beside k.prefix c.args.lit (slots k) c.args.c c.requires.live.0 c.at-next.result c.loop-head.queue c.visit.new.queue false c.requires.live.1 c.requires.live.2 f in

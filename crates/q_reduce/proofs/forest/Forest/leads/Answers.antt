@@ -1,6 +1,5 @@
-use Rattle.std.proofs.Common.{refl, subst, sym}
 use Rattle.q_kernel.specs.Kernels.{slots}
-use Rattle.q_reduce.proofs.Climbing.{IsNear, IsFar, asked-bound, near-begun, near-up, far-begun, far-up}
+use Rattle.q_reduce.proofs.Climbing.{asked-bound, near-begun, near-up, far-begun, far-up}
 use Rattle.q_reduce.proofs.forest.Forest.leads.Goals as goal
 use Rattle.q_reduce.proofs.forest.Forest.leads.Goals.{then-depth+in-Some, else-depth+in-Some-parent_of_free}
 
@@ -24,11 +23,11 @@ loop-preserved c =
     let u = c.args.lit in
     elim c.if-depth.branch [
       | then-depth+in-Some w ↦ record {
-          near = rw w.near-is (near-up k.prefix N a u c.requires.universal c.loop.near w.in-Some.parent (w.free_parent.ensures.joined w.in-Some.parent w.in-Some.is) (w.free_parent.ensures.lacks w.in-Some.parent w.in-Some.is) c.loop.invariant.near);
-          far = rw w.far-is c.loop.invariant.far;
-        }
+        near = rw w.near-is (near-up k.prefix N a u c.requires.universal c.loop.near w.in-Some.parent (w.free_parent.ensures.joined w.in-Some.parent w.in-Some.is) (w.free_parent.ensures.lacks w.in-Some.parent w.in-Some.is) c.loop.invariant.near);
+        far = rw w.far-is c.loop.invariant.far;
+      }
       | else-depth+in-Some-parent_of_free w ↦ record {
-          near = rw w.near-is c.loop.invariant.near;
-          far = rw w.far-is (far-up k.prefix N a u c.requires.universal c.loop.far w.in-Some-parent_of_free.parent (w.parent_of_free.ensures.joined w.in-Some-parent_of_free.parent w.in-Some-parent_of_free.is) (w.parent_of_free.ensures.lacks w.in-Some-parent_of_free.parent w.in-Some-parent_of_free.is) c.loop.invariant.far);
-        }
+        near = rw w.near-is c.loop.invariant.near;
+        far = rw w.far-is (far-up k.prefix N a u c.requires.universal c.loop.far w.in-Some-parent_of_free.parent (w.parent_of_free.ensures.joined w.in-Some-parent_of_free.parent w.in-Some-parent_of_free.is) (w.parent_of_free.ensures.lacks w.in-Some-parent_of_free.parent w.in-Some-parent_of_free.is) c.loop.invariant.far);
+      }
     ]

@@ -21,7 +21,7 @@ pub returns-then-keep-clause-yes : goal.returns-then-keep-clause-yes
 returns-then-keep-clause-yes c C e = ((λ t. absurd (true≢false (sym t))), (λ r. absurd (c.keep.ensures c.if-keep.true C e r)))
 
 pub learn-requires-clause-bound : goal.learn-requires-clause-bound
-learn-requires-clause-bound c = rw c.var.ensures.value (bound-universal c.args.kernel.now.prefix c.args.lit.var c.requires.universal)
+learn-requires-clause-bound c = rw c.var-then-reducible.ensures.value (bound-universal c.args.kernel.now.prefix c.args.lit.var c.requires.universal)
 
 pub note-requires-clause-bound : goal.note-requires-clause-bound
 note-requires-clause-bound c = bound-universal c.args.kernel.now.prefix c.args.lit.var c.requires.universal
