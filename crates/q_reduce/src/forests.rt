@@ -13,10 +13,11 @@ use q_logic::{Lit, NoMemory};
 use q_rule::Queue;
 use std::alloc::Global;
 
-// So many blocks have forests at a time.
-const BLOCKS: usize = 8;
+// So many forests are kept.
+const FORESTS: usize = 8;
 
-/// Forests of the blocks that walks asked about. Nothing rests on what they are.
+/// Forests of the blocks that walks asked about, at most two of a block: what holds up a path in the one may be no part of the
+/// other. Nothing rests on what they are.
 #[derive(Drop)]
 pub struct Forests {
     alloc: Global,
@@ -46,8 +47,8 @@ impl Forests {
         ensures { IsTrue result → Stays kernel.now.prefix (slots kernel.now) c lit }
     {
         for forest in &self.forests {
-            if forest.is_for(kernel, lit.var()) {
-                return forest.keeps(kernel, c, lit);
+            if forest.is_for(kernel, lit.var()) && forest.keeps(kernel, c, lit) {
+                return true;
             }
         }
         false
@@ -76,35 +77,48 @@ impl Forests {
         requires live { (C : Clause) × (slot (slots kernel.now) c ≡ Some C) }
     {
         self.debt = self.debt.saturating_add(looks);
-        let last = self.last(kernel, lit.var());
-        if self.debt <= patience(kernel, last.is_some()) {
+        if self.debt <= patience(kernel, self.knows(kernel, lit.var())) {
             return Ok(());
         }
         self.debt = 0;
-        let mut forest = self.free(last);
+        let mut forest = self.free(self.worn(kernel, lit.var()));
         forest.build(kernel, queue, c, lit)?;
         self.forests.push(forest)?;
         Ok(())
     }
 
-    // The place of the forest for the block of a variable.
-    fn last(&self, kernel: &Kernel, var: u32) -> Option<usize> {
+    // Whether there is a forest for the block of a variable.
+    fn knows(&self, kernel: &Kernel, var: u32) -> bool {
+        for forest in &self.forests {
+            if forest.is_for(kernel, var) {
+                return true;
+            }
+        }
+        false
+    }
+
+    // The place of the older forest for the block of a variable, where there are two.
+    fn worn(&self, kernel: &Kernel, var: u32) -> Option<usize> {
+        let mut older = None;
         for (place, forest) in self.forests.iter().enumerate() {
             if forest.is_for(kernel, var) {
-                return Some(place);
+                if older.is_some() {
+                    return older;
+                }
+                older = Some(place);
             }
         }
         None
     }
 
-    // A forest to be made: the one that is there, or a new one, or the oldest.
-    fn free(&mut self, last: Option<usize>) -> Forest {
-        if let Some(place) = last {
+    // A forest to be made: the one at a place, or a new one, or the oldest.
+    fn free(&mut self, place: Option<usize>) -> Forest {
+        if let Some(place) = place {
             if place < self.forests.len() {
                 return self.forests.remove(place);
             }
         }
-        if self.forests.len() >= BLOCKS {
+        if self.forests.len() >= FORESTS {
             return self.forests.remove(0);
         }
         Forest::new(self.alloc)
