@@ -1,19 +1,30 @@
 //! What a run has done so far. A long run says it on standard error, about once a second.
 
 use crate::rules::{NAMES, RULES, rule_of};
+use crate::sizes::{Count, Sizes, sizes_of};
+use q_kernel::Kernel;
 use q_sched::Move;
+use q_touched::Pass;
 use std::cell::{Cell, RefCell};
 use std::env;
 use std::io::{IsTerminal, Write};
 use std::time::Instant;
 
-/// The formula in the middle of a run.
+// The formula in the middle of a run.
 #[derive(Clone, Copy)]
-pub(crate) struct Stage {
-    pub clauses: usize,
-    pub variables: usize,
+struct Stage {
+    clauses: usize,
+    variables: usize,
     // bytes of the log that are not in its file yet
-    pub pending: usize,
+    pending: usize,
+}
+
+fn stage_of(kernel: &Kernel) -> Stage {
+    Stage {
+        clauses: kernel.clauses(),
+        variables: kernel.prefix().len(),
+        pending: kernel.log().len(),
+    }
 }
 
 /// The counts of a run, shared by those who do the work.
@@ -31,11 +42,37 @@ pub(crate) struct Board {
     // bytes of the file that was made last
     written: Cell<u64>,
     stage: Cell<Option<Stage>>,
+    // what is looked for, and how many looks come before the next one at the clock
+    pass: Cell<Option<Pass>>,
+    rest: Cell<u32>,
+    // the formula as the first guide met it
+    before: Cell<Option<Sizes>>,
+    // the formula that was written last, and the file that is being written
+    after: Cell<Option<Sizes>>,
+    count: Cell<Count>,
     taken: RefCell<[u64; RULES]>,
 }
 
 // A longer name would not leave a line its place.
 const LONGEST_NAME: usize = 40;
+
+// The clock is looked at after so many looks.
+const LOOKS: u32 = 64;
+
+// What a pass does.
+fn word_of(pass: Option<Pass>) -> &'static str {
+    match pass {
+        None => "",
+        Some(Pass::Note) => ", noting",
+        Some(Pass::Subsume) => ", subsuming",
+        Some(Pass::Merge) => ", merging",
+        Some(Pass::Eliminate) => ", eliminating",
+        Some(Pass::Block) => ", blocking",
+        Some(Pass::Expand) => ", expanding",
+        Some(Pass::Cover) => ", covering",
+        Some(Pass::Cut) => ", reducing",
+    }
+}
 
 // What the environment says: Some(false) where nothing is to be said, Some(true) where it is wanted.
 fn wish(rt: &HostRuntime) -> Option<bool> {
@@ -69,6 +106,11 @@ impl Board {
             last_second: Cell::new(0),
             written: Cell::new(0),
             stage: Cell::new(None),
+            pass: Cell::new(None),
+            rest: Cell::new(0),
+            before: Cell::new(None),
+            after: Cell::new(None),
+            count: Cell::new(Count::new()),
             taken: RefCell::new([0; RULES]),
         }
     }
@@ -125,12 +167,26 @@ impl Board {
     pub(crate) fn note_made(&self) {
         self.written.set(0);
         self.stage.set(None);
+        self.keep_count();
+        self.count.set(Count::new());
     }
 
-    /// So many bytes were put behind it.
-    pub(crate) fn note_written(&self, count: usize) {
+    // Keeps the sizes of what was written, where it was a formula.
+    fn keep_count(&self) {
+        let sizes = self.count.get().sizes();
+        if sizes.is_some() {
+            self.after.set(sizes);
+        }
+    }
+
+    /// These bytes were put behind it.
+    pub(crate) fn note_written(&self, bytes: &[u8]) {
+        if !self.is_on() {
+            return;
+        }
         self.written
-            .set(self.written.get().saturating_add(count as u64));
+            .set(self.written.get().saturating_add(bytes.len() as u64));
+        self.count.set(self.count.get().take(bytes));
         if let Some(stage) = self.stage.get() {
             self.note_stage(Stage {
                 pending: 0,
@@ -139,8 +195,45 @@ impl Board {
         }
     }
 
-    /// The formula is so far simplified.
-    pub(crate) fn note_stage(&self, stage: Stage) {
+    /// The first guide is about to be asked for the first time, or again.
+    pub(crate) fn note_before(&self, kernel: &Kernel) {
+        if self.is_on() && self.before.get().is_none() {
+            self.before.set(Some(sizes_of(kernel)));
+        }
+    }
+
+    /// A guide looks at something.
+    pub(crate) fn note_look(&self, pass: Option<Pass>, kernel: &Kernel) {
+        let rest = self.rest.get();
+        if self.pass.get() == pass && rest > 0 {
+            self.rest.set(rest - 1);
+            return;
+        }
+        self.rest.set(LOOKS);
+        self.pass.set(pass);
+        if self.is_on() {
+            self.note_stage(stage_of(kernel));
+        }
+    }
+
+    /// No guide is left, so all rules are searched.
+    pub(crate) fn note_search(&self, kernel: &Kernel) {
+        let Some(second) = self.second() else {
+            return;
+        };
+        if second == 0 {
+            return;
+        }
+        self.last_second.set(second);
+        let (front, end) = self.edges();
+        let clauses = kernel.clauses();
+        let _ = eprint!(self.rt;
+            "{front}{second} s: last, every rule is searched over all {clauses} clauses{end}"
+        );
+    }
+
+    // The formula is so far simplified.
+    fn note_stage(&self, stage: Stage) {
         self.stage.set(Some(stage));
         let Some(second) = self.due() else {
             return;
@@ -151,10 +244,11 @@ impl Board {
             variables,
             pending,
         } = stage;
+        let pass = word_of(self.pass.get());
         let moves = self.moves();
         let kilobytes = self.written.get().saturating_add(pending as u64) / 1000;
         let _ = eprint!(self.rt;
-            "{front}{second} s: {clauses} clauses, {variables} variables, {moves} moves, {kilobytes} kB of log{end}"
+            "{front}{second} s{pass}: {clauses} clauses, {variables} variables, {moves} moves, {kilobytes} kB of log{end}"
         );
     }
 
@@ -190,12 +284,30 @@ impl Board {
         }
     }
 
-    /// Says how often each rule was taken.
+    // Says how large a formula was.
+    fn say_sizes(&self, when: &str, sizes: Option<Sizes>) {
+        if let Some(sizes) = sizes {
+            let Sizes {
+                clauses,
+                literals,
+                variables,
+                blocks,
+            } = sizes;
+            let _ = eprintln!(self.rt;
+                "{when} {clauses} clauses, {literals} literals, {variables} variables, {blocks} blocks"
+            );
+        }
+    }
+
+    /// Says what became smaller, and how often each rule was taken.
     pub(crate) fn finish(&self) {
-        let moves = self.moves();
-        if moves == 0 || (self.last_second.get() == 0 && !self.is_wanted) {
+        if self.before.get().is_none() || (self.last_second.get() == 0 && !self.is_wanted) {
             return;
         }
+        self.keep_count();
+        self.say_sizes("before:", self.before.get());
+        self.say_sizes("after: ", self.after.get());
+        let moves = self.moves();
         let _ = eprintln!(self.rt; "{moves} moves proposed and taken");
         let counts = self.counts();
         for rule in 0..RULES {

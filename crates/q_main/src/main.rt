@@ -5,6 +5,8 @@ mod board;
 mod explained;
 mod progress;
 mod rules;
+mod sizes;
+mod teller;
 mod watched;
 mod wiped;
 
@@ -20,6 +22,7 @@ use std::fs::File;
 use std::process::ExitCode;
 use std::rc::Rc;
 use std::{env, io};
+use teller::Teller;
 use watched::Watched;
 use wiped::Wiped;
 
@@ -50,14 +53,15 @@ fn without_words(error: io::Error) -> Status {
     }
 }
 
-// One share of the board for each guide.
-type Shares = (Rc<Board>, Rc<Board>, Rc<Board>);
+// One share of the board for each guide, and one for what the first tells of itself.
+type Shares = (Rc<Board>, Rc<Board>, Rc<Board>, Teller);
 
 fn shares_of(board: &Rc<Board>) -> Result<Shares, NoMemory> {
     let first = board.clone()?;
     let second = board.clone()?;
     let third = board.clone()?;
-    Ok((first, second, third))
+    let told = board.clone()?;
+    Ok((first, second, third, Teller::new(told)))
 }
 
 // Runs a command. Three guides are asked which target is tried next: first the one that looks where something changed, which
@@ -70,12 +74,12 @@ fn run_guided<F: Files, S: Sink>(
     out: &mut S,
     shares: Shares,
 ) -> Result<Status, NoMemory> {
-    let (first, second, third) = shares;
-    let touched = Touched::new(alloc, bounds_of(words));
+    let (first, second, third, teller) = shares;
+    let touched = Touched::new(alloc, bounds_of(words), teller);
     let mut guides: Vec<Box<dyn Guide>> = Vec::new(alloc);
-    guides.push(Box::new(alloc, Progress::new(touched, first))?)?;
-    guides.push(Box::new(alloc, Progress::new(FewestFirst::new(), second))?)?;
-    guides.push(Box::new(alloc, Progress::new(ShortestFirst::new(), third))?)?;
+    guides.push(Box::new(alloc, Progress::new(touched, first, false))?)?;
+    guides.push(Box::new(alloc, Progress::new(FewestFirst::new(), second, false))?)?;
+    guides.push(Box::new(alloc, Progress::new(ShortestFirst::new(), third, true))?)?;
     Ok(run(alloc, words, files, out, guides))
 }
 

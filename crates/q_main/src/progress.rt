@@ -1,13 +1,10 @@
 //! A guide whose moves are counted on a board.
 ghost use Rattle.std.specs.Prelude.{◌≡◌};
 
-use crate::board::{Board, Stage};
+use crate::board::Board;
 use q_kernel::Kernel;
 use q_sched::{Guide, Move, Proposal};
 use std::rc::Rc;
-
-// The clock is looked at after so many proposals.
-const PROPOSALS: u32 = 64;
 
 /// This guide, with what it proposed noted where it was taken.
 #[derive(Drop)]
@@ -16,8 +13,8 @@ pub(crate) struct Progress<G: Guide> {
     board: Rc<Board>,
     // the last proposal
     target: Option<Move>,
-    // how many proposals come before the next look at the clock
-    rest: u32,
+    // no guide is asked after it
+    is_last: bool,
 }
 
 fn target_of(proposal: &Proposal) -> Option<Move> {
@@ -29,39 +26,27 @@ fn target_of(proposal: &Proposal) -> Option<Move> {
 }
 
 impl<G: Guide> Progress<G> {
-    pub(crate) fn new(guide: G, board: Rc<Board>) -> Progress<G>
+    pub(crate) fn new(guide: G, board: Rc<Board>, is_last: bool) -> Progress<G>
         ensures { result.guide ≡ guide }
     {
         Progress {
             guide,
             board,
             target: None,
-            rest: 0,
+            is_last,
         }
-    }
-
-    // Notes how far the formula is simplified, now and then.
-    fn look(&mut self, kernel: &Kernel)
-        ensures { self.new.guide ≡ self.old.guide }
-    {
-        if self.rest > 0 {
-            self.rest -= 1;
-            return;
-        }
-        self.rest = PROPOSALS;
-        self.board.note_stage(Stage {
-            clauses: kernel.clauses(),
-            variables: kernel.prefix().len(),
-            pending: kernel.log().len(),
-        });
     }
 
     fn note(&mut self, kernel: &Kernel, proposal: &Proposal)
         ensures { self.new.guide ≡ self.old.guide }
     {
         if self.board.is_on() {
-            self.look(kernel);
             self.target = target_of(proposal);
+            if self.target.is_some() {
+                self.board.note_look(None, kernel);
+            } else if self.is_last {
+                self.board.note_search(kernel);
+            }
         }
     }
 }
@@ -74,6 +59,7 @@ impl<G: Guide> Guide for Progress<G> {
     ghost heard = { λ p. G.heard p.guide };
 
     fn propose(&mut self, kernel: &Kernel) -> Proposal {
+        self.board.note_before(kernel);
         let proposal = self.guide.propose(kernel);
         self.note(kernel, &proposal);
         proposal

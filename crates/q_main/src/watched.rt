@@ -41,7 +41,7 @@ impl<'a, F: Files + Drop> Files for Watched<'a, F> {
 
     fn append(&mut self, name: &str, bytes: &[u8]) -> Result<(), DeviceError> {
         let result = self.files.append(name, bytes);
-        self.board.note_written(bytes.len());
+        self.board.note_written(bytes);
         result
     }
 }

@@ -11,7 +11,7 @@ use q_kernel::Kernel;
 use q_logic::Bounds;
 use q_reduce::Target as Reduce;
 use q_sched::{FewestFirst, Guide, Move, Proposal, ShortestFirst};
-use q_touched::Touched;
+use q_touched::{Quiet, Touched};
 use std::alloc::Global;
 
 // The bounds of a command without options.
@@ -79,7 +79,7 @@ enum Plan {
     Remembering(Option<ClauseId>),
     Fewest(FewestFirst),
     Shortest(ShortestFirst),
-    Touched(Touched),
+    Touched(Touched<Quiet>),
 }
 
 impl Plan {
@@ -150,7 +150,7 @@ pub(crate) fn guide_of(alloc: Global, text: &str) -> Result<RowGuide, Trouble> {
         "remembering" => Plan::Remembering(None),
         "fewest" => Plan::Fewest(FewestFirst::new()),
         "shortest" => Plan::Shortest(ShortestFirst::new()),
-        "touched" => Plan::Touched(Touched::new(alloc, DEFAULTS)),
+        "touched" => Plan::Touched(Touched::new(alloc, DEFAULTS, Quiet)),
         _ => Plan::Script(script_of(alloc, text)?),
     };
     Ok(RowGuide {

@@ -6,6 +6,7 @@ ghost use Rattle.q_kernel.specs.Taking.{AreModest, IsReady};
 
 use crate::lists::gather;
 use crate::lits::Lits;
+use crate::watch::{Pass, Watch};
 use q_arena::ClauseId;
 use q_blocked::{Search, Target};
 use q_kernel::Kernel;
@@ -44,16 +45,18 @@ impl Blocking {
     }
 
     /// A target that applies, of a literal that stands in at most so many clauses.
-    pub(crate) fn next(
+    pub(crate) fn next<W: Watch>(
         &mut self,
         kernel: &Kernel,
         bounds: &Bounds,
         limit: u32,
+        watch: &W,
     ) -> Result<Option<Target>, NoMemory>
         requires ready { IsReady kernel.now }
         requires bounds { AreModest bounds.now }
     {
         for _ in 0..u64::MAX {
+            watch.look(Pass::Block, kernel);
             let found = self.next_in_list(kernel, bounds)?;
             if found.is_some() {
                 return Ok(found);

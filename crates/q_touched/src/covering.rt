@@ -8,6 +8,7 @@ ghost use Rattle.q_kernel.specs.Taking.{AreModest, IsReady};
 use crate::lists::{gather, lits_of};
 use crate::lits::Lits;
 use crate::marked::Marked;
+use crate::watch::{Pass, Watch};
 use q_arena::ClauseId;
 use q_blocked::{Search, Target};
 use q_kernel::Kernel;
@@ -86,10 +87,11 @@ impl Covering {
     }
 
     /// A target that applies, among the clauses that were gathered.
-    pub(crate) fn next(
+    pub(crate) fn next<W: Watch>(
         &mut self,
         kernel: &Kernel,
         bounds: &Bounds,
+        watch: &W,
     ) -> Result<Option<Target>, NoMemory>
         requires ready { IsReady kernel.now }
         requires bounds { AreModest bounds.now }
@@ -98,6 +100,7 @@ impl Covering {
             let Some((_, c)) = self.batch.pop() else {
                 return Ok(None);
             };
+            watch.look(Pass::Cover, kernel);
             let target = Target::Cover { c };
             if self.search.applies(kernel, &target, bounds)? {
                 return Ok(Some(target));

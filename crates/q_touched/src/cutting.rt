@@ -7,6 +7,7 @@ ghost use Rattle.q_kernel.specs.Taking.{AreModest, IsReady};
 ghost use Rattle.q_reduce.specs.Lent.{IsFitFor};
 
 use crate::lists::lits_of;
+use crate::watch::{Pass, Watch};
 use q_arena::ClauseId;
 use q_kernel::Kernel;
 use q_logic::{Bounds, Lit, NoMemory, holds};
@@ -31,18 +32,26 @@ impl Cutting {
     }
 
     /// Gathers all cuts that apply, or those before the place where so many more literals stay than may go.
-    pub(crate) fn collect(
+    pub(crate) fn collect<W: Watch>(
         &mut self,
         kernel: &Kernel,
         bounds: &Bounds,
         patience: usize,
+        watch: &W,
     ) -> Result<(), NoMemory>
         requires ready { IsReady kernel.now }
         requires bounds { AreModest bounds.now }
     {
         self.batch.clear();
         self.search.forget();
-        collect_all(kernel, bounds, &mut self.search, &mut self.batch, patience)?;
+        collect_all(
+            kernel,
+            bounds,
+            &mut self.search,
+            &mut self.batch,
+            patience,
+            watch,
+        )?;
         self.batch.reverse();
         Ok(())
     }
@@ -59,12 +68,13 @@ impl Cutting {
     }
 }
 
-fn collect_all(
+fn collect_all<W: Watch>(
     kernel: &Kernel,
     bounds: &Bounds,
     search: &mut Search,
     batch: &mut Vec<(ClauseId, Lit)>,
     patience: usize,
+    watch: &W,
 ) -> Result<(), NoMemory>
     requires ready { IsReady kernel.now }
     requires bounds { AreModest bounds.now }
@@ -73,6 +83,7 @@ fn collect_all(
     let mut stay = 0usize;
     let mut at = 0;
     while let Some(c) = kernel.next_live(at) {
+        watch.look(Pass::Cut, kernel);
         stay = stay.saturating_add(collect_from(kernel, bounds, search, batch, c)?);
         if stay > patience.saturating_add(batch.len()) {
             return Ok(());

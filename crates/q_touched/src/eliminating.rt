@@ -7,6 +7,7 @@ ghost use Rattle.q_kernel.specs.Taking.{AreModest, IsReady};
 
 use crate::lists::{lit_at, places_of};
 use crate::marked::Marked;
+use crate::watch::{Pass, Watch};
 use q_eliminate::{Search, Target};
 use q_kernel::Kernel;
 use q_logic::{Bounds, NoMemory};
@@ -41,10 +42,11 @@ impl Eliminating {
     }
 
     /// A target that applies.
-    pub(crate) fn next(
+    pub(crate) fn next<W: Watch>(
         &mut self,
         kernel: &Kernel,
         bounds: &Bounds,
+        watch: &W,
     ) -> Result<Option<Target>, NoMemory>
         requires ready { IsReady kernel.now }
         requires bounds { AreModest bounds.now }
@@ -53,6 +55,7 @@ impl Eliminating {
             let Some(Reverse((places, x))) = self.heap.pop() else {
                 return Ok(None);
             };
+            watch.look(Pass::Eliminate, kernel);
             let now = weight(kernel, x);
             if now != 0 && now != places {
                 self.heap.push(Reverse((now, x)))?;

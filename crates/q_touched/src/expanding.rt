@@ -2,6 +2,7 @@
 ghost use Rattle.q_kernel.specs.Taking.{AreModest, IsReady};
 
 use crate::marked::Marked;
+use crate::watch::{Pass, Watch};
 use q_expand::{Search, Target};
 use q_kernel::Kernel;
 use q_logic::{Bounds, NoMemory};
@@ -29,10 +30,11 @@ impl Expanding {
     }
 
     /// A target that applies.
-    pub(crate) fn next(
+    pub(crate) fn next<W: Watch>(
         &mut self,
         kernel: &Kernel,
         bounds: &Bounds,
+        watch: &W,
     ) -> Result<Option<Target>, NoMemory>
         requires ready { IsReady kernel.now }
         requires bounds { AreModest bounds.now }
@@ -41,6 +43,7 @@ impl Expanding {
             let Some(u) = self.waiting.pop() else {
                 return Ok(None);
             };
+            watch.look(Pass::Expand, kernel);
             let target = Target::Expand { u };
             if self.search.applies(kernel, &target, bounds)? {
                 return Ok(Some(target));

@@ -18,5 +18,7 @@ mod plain;
 mod strategy;
 mod subsuming;
 mod touched;
+mod watch;
 
 pub use touched::Touched;
+pub use watch::{Pass, Quiet, Watch};

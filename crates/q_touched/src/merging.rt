@@ -1,6 +1,7 @@
 //! Equivalent literals, where a clause of two literals came. All components are found at once, and their merges are handed
 //! out one by one.
 
+use crate::watch::{Pass, Watch};
 use q_equiv::{Search, Target, candidates};
 use q_kernel::Kernel;
 use q_logic::NoMemory;
@@ -30,9 +31,10 @@ impl Merging {
     }
 
     /// Gathers all merges, where there may be new ones.
-    pub(crate) fn collect(&mut self, kernel: &Kernel) -> Result<(), NoMemory> {
+    pub(crate) fn collect<W: Watch>(&mut self, kernel: &Kernel, watch: &W) -> Result<(), NoMemory> {
         if self.is_due {
             self.is_due = false;
+            watch.look(Pass::Merge, kernel);
             candidates(kernel, &mut self.search, &mut self.batch)?;
             self.batch.reverse();
         }

@@ -15,6 +15,7 @@ use crate::lists::{index_of, lit_at, lits_of};
 use crate::merging::Merging;
 use crate::plain::Plain;
 use crate::subsuming::Subsuming;
+use crate::watch::{Pass, Watch};
 use q_arena::ClauseId;
 use q_kernel::{Kernel, Touch};
 use q_logic::{Lit, NoMemory, Quant};
@@ -57,18 +58,23 @@ impl Parts {
     }
 
     /// Takes everything as touched.
-    pub(crate) fn note_all(&mut self, kernel: &Kernel) -> Result<(), NoMemory> {
-        self.note_clauses(kernel)?;
+    pub(crate) fn note_all<W: Watch>(
+        &mut self,
+        kernel: &Kernel,
+        watch: &W,
+    ) -> Result<(), NoMemory> {
+        self.note_clauses(kernel, watch)?;
         for var in 1..=kernel.greatest_var() {
             self.note_variable(kernel, var)?;
         }
         Ok(())
     }
 
-    fn note_clauses(&mut self, kernel: &Kernel) -> Result<(), NoMemory> {
+    fn note_clauses<W: Watch>(&mut self, kernel: &Kernel, watch: &W) -> Result<(), NoMemory> {
         self.subsuming.restart();
         let mut at = 0;
         while let Some(c) = kernel.next_live(at) {
+            watch.look(Pass::Note, kernel);
             self.plain.touch(kernel, c)?;
             self.subsuming.hang(kernel, c)?;
             let Some(after) = c.checked_add(1) else {

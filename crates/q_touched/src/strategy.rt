@@ -18,6 +18,7 @@
 ghost use Rattle.q_kernel.specs.Taking.{AreModest, IsReady};
 
 use crate::parts::Parts;
+use crate::watch::Watch;
 use q_kernel::Kernel;
 use q_logic::{Bounds, NoMemory};
 use q_sched::Move;
@@ -47,8 +48,9 @@ enum Phase {
 }
 
 #[derive(Drop)]
-pub(crate) struct Strategy {
+pub(crate) struct Strategy<W: Watch> {
     bounds: Bounds,
+    watch: W,
     parts: Parts,
     phase: Phase,
     // nothing was looked at in this phase yet
@@ -62,13 +64,14 @@ pub(crate) struct Strategy {
     ghost modest: { AreModest bounds },
 }
 
-impl Strategy {
+impl<W: Watch> Strategy<W> {
     /// It takes no memory.
-    pub(crate) fn new(alloc: Global, bounds: Bounds) -> Strategy
+    pub(crate) fn new(alloc: Global, bounds: Bounds, watch: W) -> Strategy<W>
         requires { AreModest bounds }
     {
         Strategy {
             bounds,
+            watch,
             parts: Parts::new(alloc),
             phase: Phase::CutEarly,
             is_fresh: true,
@@ -103,12 +106,12 @@ impl Strategy {
         let end = kernel.touches();
         let Some(start) = self.read else {
             self.read = Some(end);
-            return self.parts.note_all(kernel);
+            return self.parts.note_all(kernel, &self.watch);
         };
         self.read = Some(end);
         for number in start..end {
             let Some(touch) = kernel.touch(number) else {
-                return self.parts.note_all(kernel);
+                return self.parts.note_all(kernel, &self.watch);
             };
             self.parts.note(kernel, touch)?;
         }
@@ -152,7 +155,11 @@ impl Strategy {
         if let Some(target) = self.parts.plain.next(kernel) {
             return Ok(Some(Move::Reduce(target)));
         }
-        match self.parts.subsuming.next(kernel, &self.bounds)? {
+        match self
+            .parts
+            .subsuming
+            .next(kernel, &self.bounds, &self.watch)?
+        {
             Some(target) => Ok(Some(Move::Subsume(target))),
             None => Ok(None),
         }
@@ -177,7 +184,7 @@ impl Strategy {
     }
 
     fn merge(&mut self, kernel: &Kernel) -> Result<Option<Move>, NoMemory> {
-        self.parts.merging.collect(kernel)?;
+        self.parts.merging.collect(kernel, &self.watch)?;
         match self.parts.merging.hand_out(kernel) {
             Some(target) => Ok(Some(Move::Merge(target))),
             None => Ok(None),
@@ -194,7 +201,11 @@ impl Strategy {
             }
             self.has_eliminated = false;
         }
-        match self.parts.eliminating.next(kernel, &self.bounds)? {
+        match self
+            .parts
+            .eliminating
+            .next(kernel, &self.bounds, &self.watch)?
+        {
             Some(target) => {
                 self.has_eliminated = true;
                 Ok(Some(Move::Eliminate(target)))
@@ -215,7 +226,11 @@ impl Strategy {
     fn block_up_to(&mut self, kernel: &Kernel, limit: u32) -> Result<Option<Move>, NoMemory>
         requires { IsReady kernel.now }
     {
-        match self.parts.blocking.next(kernel, &self.bounds, limit)? {
+        match self
+            .parts
+            .blocking
+            .next(kernel, &self.bounds, limit, &self.watch)?
+        {
             Some(target) => Ok(Some(Move::Block(target))),
             None => Ok(None),
         }
@@ -224,7 +239,11 @@ impl Strategy {
     fn expand(&mut self, kernel: &Kernel) -> Result<Option<Move>, NoMemory>
         requires { IsReady kernel.now }
     {
-        match self.parts.expanding.next(kernel, &self.bounds)? {
+        match self
+            .parts
+            .expanding
+            .next(kernel, &self.bounds, &self.watch)?
+        {
             Some(target) => Ok(Some(Move::Expand(target))),
             None => Ok(None),
         }
@@ -244,7 +263,7 @@ impl Strategy {
             }
             self.parts.covering.collect(kernel, limit)?;
         }
-        match self.parts.covering.next(kernel, &self.bounds)? {
+        match self.parts.covering.next(kernel, &self.bounds, &self.watch)? {
             Some(target) => Ok(Some(Move::Block(target))),
             None => Ok(None),
         }
@@ -259,7 +278,9 @@ impl Strategy {
         requires { IsReady kernel.now }
     {
         if is_fresh {
-            self.parts.cutting.collect(kernel, &self.bounds, patience)?;
+            self.parts
+                .cutting
+                .collect(kernel, &self.bounds, patience, &self.watch)?;
         }
         match self.parts.cutting.hand_out(kernel) {
             Some(target) => Ok(Some(Move::Reduce(target))),

@@ -8,6 +8,7 @@ ghost use Rattle.q_kernel.specs.Taking.{AreModest, IsReady};
 use crate::hooks::{Hook, Hooks, signature_of};
 use crate::lists::{gather, index_of, lits_of, places_of};
 use crate::marked::Marked;
+use crate::watch::{Pass, Watch};
 use q_arena::ClauseId;
 use q_kernel::Kernel;
 use q_logic::{Bounds, Lit, NoMemory};
@@ -88,15 +89,16 @@ impl Subsuming {
     }
 
     /// A target that applies.
-    pub(crate) fn next(
+    pub(crate) fn next<W: Watch>(
         &mut self,
         kernel: &Kernel,
         bounds: &Bounds,
+        watch: &W,
     ) -> Result<Option<Target>, NoMemory>
         requires ready { IsReady kernel.now }
         requires bounds { AreModest bounds.now }
     {
-        let first = self.begin(kernel, bounds)?;
+        let first = self.begin(kernel, bounds, watch)?;
         if first.is_some() {
             return Ok(first);
         }
@@ -104,6 +106,7 @@ impl Subsuming {
             let Some(c) = self.waiting.pop() else {
                 return Ok(None);
             };
+            watch.look(Pass::Subsume, kernel);
             let found = self.look(kernel, bounds, c)?;
             if found.is_some() {
                 return Ok(found);
@@ -113,7 +116,12 @@ impl Subsuming {
     }
 
     // Asks each clause once.
-    fn begin(&mut self, kernel: &Kernel, bounds: &Bounds) -> Result<Option<Target>, NoMemory>
+    fn begin<W: Watch>(
+        &mut self,
+        kernel: &Kernel,
+        bounds: &Bounds,
+        watch: &W,
+    ) -> Result<Option<Target>, NoMemory>
         requires ready { IsReady kernel.now }
         requires bounds { AreModest bounds.now }
     {
@@ -122,6 +130,7 @@ impl Subsuming {
                 self.start = u32::MAX;
                 return Ok(None);
             };
+            watch.look(Pass::Subsume, kernel);
             self.start = d.saturating_add(1);
             let found = self.ask(kernel, bounds, d)?;
             if found.is_some() {

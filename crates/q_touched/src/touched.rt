@@ -4,6 +4,7 @@ ghost use Rattle.q_logic.specs.Counts.{Rose};
 ghost use Rattle.q_sched.specs.declared.guide.Proposal.TheVariants.{Done};
 
 use crate::strategy::Strategy;
+use crate::watch::Watch;
 use q_kernel::Kernel;
 use q_logic::{Bounds, NoMemory};
 use q_sched::{Guide, Move, Proposal};
@@ -14,26 +15,26 @@ const MOST: u32 = 10_000;
 
 /// Proposes what may apply by the last changes, and answers `Done` where nothing is left. All that it keeps is its own.
 #[derive(Drop)]
-pub struct Touched {
-    strategy: Strategy,
+pub struct Touched<W: Watch> {
+    strategy: Strategy<W>,
     asked: u64,
     last: Proposal,
     heard: bool,
 }
 
-impl Touched {
+impl<W: Watch> Touched<W> {
     /// It takes no memory. The bounds should be those of the drive: by others it would propose targets that are refused, or
     /// pass over some.
-    pub fn new(alloc: Global, bounds: Bounds) -> Touched
-        ensures asked { ⟦<Touched as Guide>⟧.asked result ≡ 0 }
-        ensures last { ⟦<Touched as Guide>⟧.last result ≡ Done }
+    pub fn new(alloc: Global, bounds: Bounds, watch: W) -> Touched<W>
+        ensures asked { ⟦<Touched<W> as Guide>⟧.asked result ≡ 0 }
+        ensures last { ⟦<Touched<W> as Guide>⟧.last result ≡ Done }
     {
         let modest = Bounds {
             grow: bounds.grow.min(MOST),
             expand: bounds.expand.min(MOST),
         };
         Touched {
-            strategy: Strategy::new(alloc, modest),
+            strategy: Strategy::new(alloc, modest, watch),
             asked: 0,
             last: Proposal::Done,
             heard: false,
@@ -49,7 +50,7 @@ fn answer_of(found: Result<Option<Move>, NoMemory>) -> Proposal {
     }
 }
 
-impl Guide for Touched {
+impl<W: Watch> Guide for Touched<W> {
     ghost asked = { λ g. g.asked };
 
     ghost last = { λ g. g.last };

@@ -1,0 +1,24 @@
+//! What a guide looks at, told to a board.
+
+use crate::board::Board;
+use q_kernel::Kernel;
+use q_touched::{Pass, Watch};
+use std::rc::Rc;
+
+/// Tells it.
+#[derive(Drop)]
+pub(crate) struct Teller {
+    board: Rc<Board>,
+}
+
+impl Teller {
+    pub(crate) fn new(board: Rc<Board>) -> Teller {
+        Teller { board }
+    }
+}
+
+impl Watch for Teller {
+    fn look(&self, pass: Pass, kernel: &Kernel) {
+        self.board.note_look(Some(pass), kernel);
+    }
+}
