@@ -1,4 +1,4 @@
-use Rattle.std.proofs.Common.{◌≤◌, ◌-◌, arith, subst, length, length-drop, take, drop, ◌++◌}
+use Rattle.std.proofs.Common.{◌≤◌, arith, subst, length, length-drop, take, drop, ◌++◌}
 use Rattle.q_run_annotate.specs.Readings.{Advances, Refuses}
 use Rattle.q_command.proofs.Auditing.{whole-rest}
 use Rattle.q_run_annotate.proofs.Taking.{advances_further, refuses_from}
