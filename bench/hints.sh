@@ -1,29 +1,30 @@
 #!/usr/bin/env bash
 # What hints cost and what they spare: for each log the time of `check` on it, of `annotate`, and of `check` on what `annotate`
-# wrote, and the bytes of both logs. The logs are proofs of a SAT solver (bench/sat_proof.py) and those that `simplify` writes.
+# wrote, the bytes of both logs, and the most memory that `annotate` held. The logs are proofs of a SAT solver (bench/sat_proof.py) and those that `simplify` writes.
 #
 #   bench/hints.sh [proof:VARIABLES | FAMILY:SIZE] ..
 #
-# FAMILY is one of bench/families.py. By default: two proofs, and three families at about a million steps each. Times are
-# processor seconds, the least of three runs.
+# FAMILY is one of bench/families.py. By default: three proofs, and three families, two of them at about a million steps. Times
+# are processor seconds, the least of three runs. $CELDRINN names another program.
 set -eu
 export CELDRINN_PROGRESS=0
 cd "$(dirname "$0")/.."
 work=$(mktemp -d)
 trap 'rm -rf "$work"' EXIT
-[ $# -gt 0 ] || set -- proof:200 proof:225 sat:500000 gates:100000 adder:3000
+[ $# -gt 0 ] || set -- proof:200 proof:225 proof:250 sat:500000 gates:130000 adder:4500
 celdrinn=${CELDRINN:-./celdrinn}
 
 # Processor seconds of a call, the least of three; its line goes to $work/line.
 least() {
     for _ in 1 2 3; do
-        /usr/bin/time -q -f '%U %S' -o "$work/taken" "$celdrinn" "$@" >"$work/line" 2>/dev/null || true
+        /usr/bin/time -q -f '%U %S %M' -o "$work/taken" "$celdrinn" "$@" >"$work/line" 2>/dev/null || true
         tail -n 1 "$work/taken" | awk '{ printf "%.2f\n", $1 + $2 }'
+        tail -n 1 "$work/taken" | awk '{ print $3 }' >"$work/peak"
     done | sort -n | head -n 1
 }
 
-echo "| Log | Steps | \`check\` | \`annotate\` | \`check\`, hints | Bytes | Bytes, hints | Lines |"
-echo "|---|---|---|---|---|---|---|---|"
+echo "| Log | Steps | \`check\` | \`annotate\` | \`check\`, hints | Bytes | Bytes, hints | KiB, \`annotate\` | Lines |"
+echo "|---|---|---|---|---|---|---|---|---|"
 for log; do
     family=${log%:*}
     size=${log#*:}
@@ -38,7 +39,8 @@ for log; do
     said=$(cat "$work/line")
     annotated=$(least annotate "${files[@]}" "$work/log" "$work/hinted")
     said="$said, $(cat "$work/line")"
+    peak=$(cat "$work/peak")
     hinted=$(least check "${files[@]}" "$work/hinted")
     said="$said, $(cat "$work/line")"
-    echo "| $family $size | $(wc -l <"$work/log") | $plain s | $annotated s | $hinted s | $(wc -c <"$work/log") | $(wc -c <"$work/hinted") | $said |"
+    echo "| $family $size | $(wc -l <"$work/log") | $plain s | $annotated s | $hinted s | $(wc -c <"$work/log") | $(wc -c <"$work/hinted") | $peak | $said |"
 done

@@ -31,32 +31,54 @@ pub const NO_PAIR: Pair = Pair {
     second: u32::MAX,
 };
 
+// So many literals share a page.
+const PAGE: usize = 1_024;
+
 /// For each literal two clauses with its negation that had nothing in common beyond a set. They may be out of date: they
-/// are tested where they are used.
+/// are tested where they are used. A page is made where a literal of it is noted, so that numbers that no clause has take no
+/// memory.
 #[derive(Drop)]
 pub struct Pairs {
-    pairs: Vec<Pair>,
+    alloc: Global,
+    pages: Vec<Vec<Pair>>,
 }
 
 impl Pairs {
     pub(crate) fn new(alloc: Global) -> Pairs {
         Pairs {
-            pairs: Vec::new(alloc),
+            alloc,
+            pages: Vec::new(alloc),
         }
     }
 
     fn of(&self, l: Lit) -> Pair {
-        self.pairs.get(l.index()).copied().unwrap_or(NO_PAIR)
+        match self.pages.get(l.index() / PAGE) {
+            Some(page) => page.get(l.index() % PAGE).copied().unwrap_or(NO_PAIR),
+            None => NO_PAIR,
+        }
     }
 
     pub(crate) fn note(&mut self, l: Lit, pair: Pair) -> Result<(), NoMemory> {
-        let end = l.index() + 1;
-        if self.pairs.len() < end {
-            self.pairs.resize(end, NO_PAIR)?;
+        let at = l.index() / PAGE;
+        for _ in self.pages.len()..at + 1 {
+            self.pages.push(Vec::new(self.alloc))?;
         }
-        self.pairs[l.index()] = pair;
-        Ok(())
+        match self.pages.get_mut(at) {
+            Some(page) => put(page, l.index() % PAGE, pair),
+            None => Ok(()),
+        }
     }
+}
+
+// Puts the clauses at a place of a page, which is made if it was not yet.
+fn put(page: &mut Vec<Pair>, place: usize, pair: Pair) -> Result<(), NoMemory> {
+    if page.is_empty() {
+        page.resize(PAGE, NO_PAIR)?;
+    }
+    if place < page.len() {
+        page[place] = pair;
+    }
+    Ok(())
 }
 
 // Whether the clause of an id is not c, holds the negation of l, and does not clash with the set.

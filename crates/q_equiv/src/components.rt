@@ -1,6 +1,7 @@
 //! The components of the implications between literals: the literals of one component are joined each to the other. They
 //! are found by Tarjan's search (SIAM Journal on Computing 1972), without recursion. Nothing is proved of them here: the
 //! levels that they give are verified in one pass (`levels.rt`).
+use crate::numbers::Numbers;
 use q_logic::{Lit, NoMemory};
 use std::alloc::Global;
 
@@ -11,15 +12,19 @@ struct Edge {
     next: usize,
 }
 
-/// Implications, and rows for the search. Literals go by their places in a row; numbers begin at 1, and 0 is none.
+/// Implications, and rows for the search. Literals go by the numbers that they get when they are met first; numbers begin at 1,
+/// and 0 is none.
 #[derive(Drop)]
 pub struct Components {
+    numbers: Numbers,
     edges: Vec<Edge>,
     // the implication of each literal that is looked at next
     first: Vec<usize>,
     // the order in which the search met the literals, and the least that is reached from each
     order: Vec<u32>,
     least: Vec<u32>,
+    // the component of each literal, once it has one
+    closed_in: Vec<u32>,
     // the literals that the search is in, and those that are in no component yet
     path: Vec<usize>,
     open: Vec<usize>,
@@ -33,10 +38,12 @@ pub struct Components {
 impl Components {
     pub(crate) fn new(alloc: Global) -> Components {
         Components {
+            numbers: Numbers::new(alloc),
             edges: Vec::new(alloc),
             first: Vec::new(alloc),
             order: Vec::new(alloc),
             least: Vec::new(alloc),
+            closed_in: Vec::new(alloc),
             path: Vec::new(alloc),
             open: Vec::new(alloc),
             parts: Vec::new(alloc),
@@ -46,22 +53,17 @@ impl Components {
         }
     }
 
-    /// Begins anew, with so many literals and no implication.
-    pub(crate) fn begin(&mut self, literals: usize) -> Result<(), NoMemory> {
+    /// Begins anew, with no implication.
+    pub(crate) fn begin(&mut self) {
+        self.numbers.clear();
         self.edges.clear();
         self.path.clear();
         self.open.clear();
         self.parts.clear();
         self.ends.clear();
         self.first.clear();
-        self.first.resize(literals, 0)?;
-        self.order.clear();
-        self.order.resize(literals, 0)?;
-        self.least.clear();
-        self.least.resize(literals, 0)?;
         self.met = 0;
         self.closed = 0;
-        Ok(())
     }
 
     /// Notes the two implications of a clause of two literals.
@@ -71,33 +73,65 @@ impl Components {
     }
 
     fn add_edge(&mut self, from: usize, to: usize) -> Result<(), NoMemory> {
+        let from = self.numbers.number(from)?;
+        let to = self.numbers.number(to)?;
+        grow(&mut self.first, from.max(to))?;
         let next = entry(&self.first, from);
         self.edges.push(Edge { to, next })?;
         put(&mut self.first, from, self.edges.len());
         Ok(())
     }
 
-    /// Gives each literal the number of its component: no implication leads to a greater number.
+    /// Gives each literal the number of its component: no implication leads to a greater number. A literal behind the row's end
+    /// has none.
     pub(crate) fn number(&mut self, levels: &mut Vec<u32>) -> Result<(), NoMemory> {
-        levels.clear();
-        levels.resize(self.first.len(), 0)?;
-        for root in 0..self.first.len() {
+        let count = self.numbers.count().saturating_add(1);
+        self.order.clear();
+        self.order.resize(count, 0)?;
+        self.least.clear();
+        self.least.resize(count, 0)?;
+        self.closed_in.clear();
+        self.closed_in.resize(count, 0)?;
+        for page in 0..self.numbers.pages() {
+            self.search_page(page)?;
+        }
+        self.tell(levels)
+    }
+
+    // Searches from the literals of a page, in their order.
+    fn search_page(&mut self, page: usize) -> Result<(), NoMemory> {
+        for at in 0..self.numbers.page(page).len() {
+            let root = mark(self.numbers.page(page), at) as usize;
             if entry(&self.first, root) != 0 && mark(&self.order, root) == 0 {
-                self.search_from(root, levels)?;
+                self.search_from(root)?;
             }
         }
         Ok(())
     }
 
-    fn search_from(&mut self, root: usize, levels: &mut [u32]) -> Result<(), NoMemory> {
+    // Puts the components into a row by literals.
+    fn tell(&self, levels: &mut Vec<u32>) -> Result<(), NoMemory> {
+        levels.clear();
+        levels.push(0)?;
+        for number in 1..self.closed_in.len() {
+            let place = self.numbers.place(number);
+            if levels.len() <= place {
+                levels.resize(place.saturating_add(1), 0)?;
+            }
+            put_mark(levels, place, mark(&self.closed_in, number));
+        }
+        Ok(())
+    }
+
+    fn search_from(&mut self, root: usize) -> Result<(), NoMemory> {
         self.enter(root)?;
         for _ in 0..usize::MAX {
             let Some(at) = self.path.last().copied() else {
                 break;
             };
             match self.next_from(at) {
-                Some(to) => self.go_on(at, to, levels)?,
-                None => self.leave(at, levels)?,
+                Some(to) => self.go_on(at, to)?,
+                None => self.leave(at)?,
             }
         }
         Ok(())
@@ -123,12 +157,12 @@ impl Components {
         Some(edge.to)
     }
 
-    fn go_on(&mut self, at: usize, to: usize, levels: &[u32]) -> Result<(), NoMemory> {
+    fn go_on(&mut self, at: usize, to: usize) -> Result<(), NoMemory> {
         let order = mark(&self.order, to);
         if order == 0 {
             return self.enter(to);
         }
-        if mark(levels, to) == 0 {
+        if mark(&self.closed_in, to) == 0 {
             let least = mark(&self.least, at).min(order);
             put_mark(&mut self.least, at, least);
         }
@@ -136,7 +170,7 @@ impl Components {
     }
 
     // All implications of a literal were followed.
-    fn leave(&mut self, at: usize, levels: &mut [u32]) -> Result<(), NoMemory> {
+    fn leave(&mut self, at: usize) -> Result<(), NoMemory> {
         let _ = self.path.pop();
         let least = mark(&self.least, at);
         if let Some(before) = self.path.last().copied() {
@@ -144,20 +178,20 @@ impl Components {
             put_mark(&mut self.least, before, lower);
         }
         if least == mark(&self.order, at) {
-            self.close(at, levels)?;
+            self.close(at)?;
         }
         Ok(())
     }
 
     // The open literals down to this one are a component.
-    fn close(&mut self, at: usize, levels: &mut [u32]) -> Result<(), NoMemory> {
+    fn close(&mut self, at: usize) -> Result<(), NoMemory> {
         self.closed = self.closed.saturating_add(1);
-        while let Some(place) = self.open.pop() {
-            put_mark(levels, place, self.closed);
-            if let Some(lit) = lit_at(place) {
+        while let Some(number) = self.open.pop() {
+            put_mark(&mut self.closed_in, number, self.closed);
+            if let Some(lit) = lit_at(self.numbers.place(number)) {
                 self.parts.push(lit)?;
             }
-            if place == at {
+            if number == at {
                 break;
             }
         }
@@ -197,6 +231,14 @@ fn lit_at(place: usize) -> Option<Lit> {
 
 fn entry(row: &[usize], at: usize) -> usize {
     row.get(at).copied().unwrap_or(0)
+}
+
+// Room for a place.
+fn grow(row: &mut Vec<usize>, at: usize) -> Result<(), NoMemory> {
+    if row.len() <= at {
+        row.resize(at.saturating_add(1), 0)?;
+    }
+    Ok(())
 }
 
 fn put(row: &mut [usize], at: usize, value: usize) {

@@ -30,7 +30,7 @@ pub fn make_levels(
 
 /// Notes all clauses of two literals.
 pub(crate) fn note_all(kernel: &Kernel, components: &mut Components) -> Result<(), NoMemory> {
-    components.begin((kernel.greatest_var() as usize + 1) * 2)?;
+    components.begin();
     let mut from = 0;
     while let Some(id) = kernel.next_live(from) {
         let clause = kernel.lits(id);

@@ -8,6 +8,7 @@ mod finding;
 mod joined;
 mod levels;
 mod merge;
+mod numbers;
 mod proposing;
 mod renaming;
 mod room;

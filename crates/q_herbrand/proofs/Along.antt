@@ -1,5 +1,5 @@
 -- Along a run, whatever an entry holds has a circuit or is an input; and what comes out.
-use Rattle.std.proofs.Common.{◌≡◌, ℕ, ◌+◌, ◌≤◌, Bool, true, false, cond, List, [], ◌∷◌, ◌++◌, length, map, inl, inr, arith, refl, sym, ap, ◌∙◌, subst, Option, Some, None}
+use Rattle.std.proofs.Common.{◌≡◌, ℕ, ◌+◌, ◌≤◌, Bool, true, false, cond, List, [], ◌∷◌, ◌++◌, length, inl, inr, arith, refl, sym, ap, ◌∙◌, subst, Option, Some, None}
 use Rattle.std.proofs.lemmas.Bool.{cases_Bool, both_ways}
 use Rattle.q_logic.specs.declared.formulas.Quant.{Quant}
 use Rattle.q_logic.specs.declared.formulas.Quant.TheVariants.{Exists, Forall}
@@ -8,7 +8,7 @@ use Rattle.q_logic.specs.Formulas.{Prefix, Clause, Matrix, IsIn, PrenexFormula}
 use Rattle.q_logic.specs.Prefixes.{is_exists, is_existential, is_universal, is_bound, outer_or_same, Distinct, IsFormula}
 use Rattle.q_logic.specs.Truth.{Assignment}
 use Rattle.q_logic.specs.Circuits.{Circuit, value_of, constant, replaced}
-use Rattle.q_logic.specs.Certificates.{NamedOutput, CertificateView, trees_of}
+use Rattle.q_logic.specs.Certificates.{CertificateView, trees_of}
 use Rattle.q_logic.specs.Skolems.{Strategy, circuit_of, outcome, Lawful, given, or_input, map_circuit, reread}
 use Rattle.q_logic.specs.Pivots.{keeps}
 use Rattle.q_logic.specs.Steps.{ProofStep, add, delete, drop_literal, fresh, remove_variable, one_less, insert_after, removed_from, after}

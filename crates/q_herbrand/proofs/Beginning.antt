@@ -2,36 +2,32 @@
 use Rattle.std.proofs.Common.{◌≡◌, ◌⊎◌, ℕ, ◌+◌, ◌<◌, ◌≤◌, Bool, true, false, List, [], length, get_or, inl, inr, arith, refl, sym, ap, ap₂, ◌∙◌, subst, Option, Some, None, map}
 use Rattle.std.proofs.lemmas.List.{get_or_past}
 use Rattle.std.proofs.lemmas.Bool.{cases_lt}
-use Rattle.q_logic.specs.Formulas.{Prefix}
-use Rattle.q_logic.specs.Prefixes.{is_existential}
 use Rattle.q_logic.specs.Circuits.{Circuit, constant, input, inverter, conjunction}
 use Rattle.q_logic.specs.Certificates.{NamedOutput, CertificateView, trees_of}
-use Rattle.q_logic.specs.Skolems.{Strategy, circuit_of, given, or_input, Lawful}
+use Rattle.q_logic.specs.Skolems.{Strategy, given, or_input, Lawful}
 use Rattle.q_logic.specs.Exchanging.{exchanged}
-use Rattle.q_logic.specs.Reversals.{Reversal, Forth}
+use Rattle.q_logic.specs.Reversals.{Reversal}
 use Rattle.q_logic.proofs.Exchanged.{exchanged-universal}
 use Rattle.q_aig.specs.declared.output.Output.{Output}
 use Rattle.q_aig.specs.Nets.{Net, IsLiteral, tree_at}
 use Rattle.q_aig.specs.Outputs.{output_of, net_of, AreOutputs}
 use Rattle.q_aig.specs.Serving.{Serves}
-use Rattle.q_aig.specs.Walking.{marked_count}
-use Rattle.q_aig.proofs.Serving.{serves-self, serves-same, serves-then}
-use Rattle.q_carry.specs.Standing.{look_at, AreLiterals, InputsAt, IsAt, Stands}
+use Rattle.q_aig.proofs.Serving.{serves-same, serves-then}
+use Rattle.q_carry.specs.Standing.{look_at, AreLiterals, IsAt, Stands}
 use Rattle.q_carry.specs.Tabled.{is_there}
-use Rattle.q_carry.specs.Cones.{HasCones}
 use Rattle.q_carry.specs.Copied.{AreMarked, AreCopied, ArePlaced, marked_upto, strategy_of}
 use Rattle.q_carry.proofs.Counting.{upto-most, cones-count}
 use Rattle.q_carry.proofs.Named.{outputs-read}
 use Rattle.q_carry.proofs.Rows.{literals-kept}
 use Rattle.q_slots.specs.declared.slots.Slots.{Slots}
 use Rattle.q_slots.specs.Under.{under}
-use Rattle.q_slots.specs.Slots.{AreSlots, IsResolved, IsBegun, slot_at, owner_at}
+use Rattle.q_slots.specs.Slots.{IsBegun, slot_at, owner_at}
 use Rattle.q_herbrand.specs.declared.drafting.Draft.{Draft}
 use Rattle.q_herbrand.specs.Inputs.{has_input, AreInputs}
 use Rattle.q_herbrand.specs.Covered.{weights}
-use Rattle.q_herbrand.specs.Following.{tree_of_literal, standing, AreUnder, Follows, IsReady, AreTaken}
+use Rattle.q_herbrand.specs.Following.{tree_of_literal, Follows, IsReady, AreTaken}
 use Rattle.q_herbrand.specs.Drafted.{either, AreMerged, IsCopiedInto, IsDrafted}
-use Rattle.q_herbrand.proofs.Entering.{there-is, inputs-literals, inputs-at}
+use Rattle.q_herbrand.proofs.Entering.{inputs-literals, inputs-at}
 
 in-row : (ins : List (Option ℕ)) (x : ℕ) → is_there (look_at ins x) ≡ true → x < length ins
 in-row ins x h = elim (cases_lt x (length ins)) [

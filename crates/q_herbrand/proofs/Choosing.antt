@@ -7,7 +7,7 @@ use Rattle.q_logic.specs.Formulas.{Prefix}
 use Rattle.q_logic.specs.Prefixes.{Distinct, is_bound, is_exists, is_existential}
 use Rattle.q_aig.specs.Nets.{Net, IsLiteral, operand_of}
 use Rattle.q_carry.specs.Standing.{look_at, AreLiterals}
-use Rattle.q_carry.specs.Tabled.{is_there, AreExistentials}
+use Rattle.q_carry.specs.Tabled.{is_there}
 use Rattle.q_carry.proofs.Copies.{copy-there}
 use Rattle.q_carry.proofs.Opening.{no_bound, distinct-at}
 use Rattle.q_carry.proofs.Tabling.{existentials-forall}

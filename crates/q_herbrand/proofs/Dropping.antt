@@ -1,5 +1,5 @@
 -- What a drop leaves: the literals that are inner, and which of the four kinds it is.
-use Rattle.std.proofs.Common.{◌≡◌, ℕ, Bool, true, false, cond, List, [], ◌∷◌, ◌++◌, Option, Some, Err, arith, refl, sym, ap, ◌∙◌, inl, inr, not, append-nil, append_assoc, true≢false}
+use Rattle.std.proofs.Common.{◌≡◌, ℕ, Bool, true, false, cond, List, [], ◌∷◌, ◌++◌, Option, Some, Err, refl, sym, ap, ◌∙◌, inl, inr, not, append-nil, append_assoc, true≢false}
 use Rattle.std.specs.Prelude.{◌↔◌, IsTrue}
 use Rattle.q_logic.specs.Literals.{Literal, negation}
 use Rattle.q_logic.specs.Formulas.{Clause, Matrix, Prefix, IsIn, PrenexFormula}
@@ -108,8 +108,8 @@ module _ (P : Prefix) (s : Slots) (n : ℕ) (C : Clause) (h : Holds s n C) (l : 
   pub drop-extended : IsDropKind P rest C l Extended → IsExtended (formula_of P (filled s)) (drop_literal l C)
   drop-extended k = (no_pivot k.0, k.1)
 
--- An error leaves the formula, and is no memory unless the drop is extended.
-pub drop-refused : (F G : PrenexFormula) (l : Literal) (C : Clause) (e : TrailError) → G ≡ F →
-    (e ≡ refusal.Extended → IsExtended F (drop_literal l C)) → IsPassed F (drop_literal l C) G (Err e)
-drop-refused F G l C refusal.Extended g x = (g, x refl)
-drop-refused F G l C refusal.NoMemory g x = g
+-- An error that leaves the formula tells an extended drop where it is no want of memory.
+pub drop-refused : (F : PrenexFormula) (l : Literal) (C : Clause) (e : TrailError) →
+    (e ≡ refusal.Extended → IsExtended F (drop_literal l C)) → IsPassed F (drop_literal l C) F (Err e)
+drop-refused F l C refusal.Extended x = (refl, x refl)
+drop-refused F l C refusal.NoMemory x = refl

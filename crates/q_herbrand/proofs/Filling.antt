@@ -1,32 +1,25 @@
 -- A slot filled, and a new one in its place.
-use Rattle.std.proofs.Common.{◌≡◌, ◌≢◌, ◌⊎◌, ℕ, ◌+◌, ◌<◌, ◌≤◌, Bool, true, false, not, cond, eqb, List, [], ◌∷◌, ◌++◌, length, get_or, set, inl, inr, arith, refl, sym, ap, ◌∙◌, subst, Option, Some, None}
+use Rattle.std.proofs.Common.{◌≡◌, ◌≢◌, ◌⊎◌, ℕ, ◌+◌, ◌<◌, ◌≤◌, Bool, true, false, cond, eqb, List, [], ◌∷◌, ◌++◌, length, get_or, set, inl, inr, arith, refl, sym, ap, ◌∙◌, subst, Option, Some, None}
 use Rattle.std.proofs.lemmas.List.{length_push, length-set, get_or_append_left, get_or_push, get_or_past, get_or-set_same, get_or-set_other}
-use Rattle.std.proofs.lemmas.Bool.{cases_lt, both_ways}
-use Rattle.q_logic.specs.Literals.{Literal}
-use Rattle.q_logic.specs.Formulas.{Clause, IsIn}
-use Rattle.q_logic.specs.Circuits.{Circuit, constant, input, inverter, conjunction, disjunction, Reads, replaced}
+use Rattle.std.proofs.lemmas.Bool.{cases_lt}
+use Rattle.q_logic.specs.Circuits.{Circuit, input, Reads, replaced}
 use Rattle.q_logic.specs.Skolems.{Strategy, circuit_of, given, or_input, map_circuit, reread}
-use Rattle.q_logic.specs.Undos.{literal_circuit, some_of, all_of}
-use Rattle.q_logic.specs.Reversals.{added, freshened, lifted}
 use Rattle.q_aig.specs.Nets.{Net, IsLiteral, tree_at, IsNet, Keeps}
 use Rattle.q_aig.specs.Serving.{Serves}
-use Rattle.q_aig.proofs.Serving.{serves-self, serves-same, serves-then}
-use Rattle.q_carry.specs.Covered.{OutersCovered}
-use Rattle.q_carry.specs.Standing.{look_at, AreLiterals, InputsAt}
-use Rattle.q_carry.specs.Growing.{IsGrown, IsAllOf, IsRaised}
+use Rattle.q_aig.proofs.Serving.{serves-same, serves-then}
+use Rattle.q_carry.specs.Standing.{look_at}
+use Rattle.q_carry.specs.Growing.{IsGrown}
 use Rattle.q_carry.proofs.Reading.{net-inputs}
 use Rattle.q_carry.proofs.Rows.{literals-kept, inputs-kept, literals-put}
-use Rattle.q_carry.proofs.Building.{keeps-then, raise-more}
+use Rattle.q_carry.proofs.Building.{keeps-then}
 use Rattle.q_slots.specs.declared.slots.Slots.{Slots}
 use Rattle.q_slots.specs.Under.{under, twice}
-use Rattle.q_slots.specs.Slots.{AreSlots, AreOwned, IsResolved, IsRenewed, slot_at, owner_at}
-use Rattle.q_slots.proofs.Trees.{replaced-under, under-same, Reads-through, serves-twice, twice-serves, replaced-unread, replaced-itself, replaced-other}
+use Rattle.q_slots.specs.Slots.{AreSlots, AreOwned, IsRenewed, slot_at, owner_at}
+use Rattle.q_slots.proofs.Trees.{replaced-under, under-same, twice-serves, replaced-unread, replaced-itself, replaced-other}
 use Rattle.q_slots.proofs.Counting.{same-or}
 use Rattle.q_herbrand.specs.Inputs.{has_input}
-use Rattle.q_herbrand.specs.Covered.{OutersClear, weight}
-use Rattle.q_herbrand.specs.Following.{tree_of_literal, standing, AreUnder, Follows, IsReady, IsTaken}
+use Rattle.q_herbrand.specs.Following.{tree_of_literal, standing, AreUnder, Follows, IsReady}
 use Rattle.q_herbrand.proofs.Swapping.{serves-replaced}
-use Rattle.q_herbrand.proofs.Following.{standing-at, all-under}
 
 some-same : (m n : ℕ) → Some m ≡ Some n → m ≡ n
 some-same m n e = cc

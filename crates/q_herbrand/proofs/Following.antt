@@ -2,11 +2,11 @@
 use Rattle.std.proofs.Common.{◌≡◌, ◌⊎◌, ℕ, ◌+◌, ◌≤◌, ◌<◌, Bool, true, false, not, cond, eqb, List, [], ◌∷◌, length, get_or, inl, inr, arith, refl, sym, ap, ◌∙◌, subst, Option, Some, None, Result, Ok, Err, OnOk}
 use Rattle.q_logic.specs.Literals.{Literal, negation}
 use Rattle.q_logic.specs.Formulas.{Clause, IsIn}
-use Rattle.q_logic.specs.Circuits.{Circuit, constant, input, inverter, conjunction, disjunction}
+use Rattle.q_logic.specs.Circuits.{Circuit, constant, inverter, conjunction, disjunction}
 use Rattle.q_logic.specs.Skolems.{Strategy, circuit_of, given, or_input}
-use Rattle.q_logic.specs.Undos.{literal_circuit, some_of, all_of, raised, pivoted, with_circuit}
-use Rattle.q_logic.specs.Reversals.{Reversal, none_of, lowered_one, lowered_by, turned, plain, removed, carried, Forth}
-use Rattle.q_aig.specs.Nets.{Net, IsLiteral, tree_at, Keeps}
+use Rattle.q_logic.specs.Undos.{literal_circuit, some_of, all_of, raised, with_circuit}
+use Rattle.q_logic.specs.Reversals.{Reversal, none_of, lowered_by, turned, plain, removed, carried, Forth}
+use Rattle.q_aig.specs.Nets.{Net, tree_at, Keeps}
 use Rattle.q_aig.specs.Serving.{Serves}
 use Rattle.q_aig.proofs.Serving.{serves-self, serves-same, serves-then, serves-inverter, serves-conjunction}
 use Rattle.q_carry.specs.Covered.{IsCovered, ClauseCovered, OutersCovered}
@@ -20,9 +20,9 @@ use Rattle.q_slots.specs.Under.{under, twice}
 use Rattle.q_slots.specs.Slots.{AreSlots, AreOwned, IsResolved}
 use Rattle.q_slots.proofs.Trees.{under-operand, serves-under}
 use Rattle.q_herbrand.specs.Inputs.{has_input}
-use Rattle.q_herbrand.specs.Covered.{EntryCovered, EntryOwned, AreCovered, weight, weights}
+use Rattle.q_herbrand.specs.Covered.{EntryCovered, EntryOwned, weight, weights}
 use Rattle.q_herbrand.specs.Carried.{IsCarried}
-use Rattle.q_herbrand.specs.Following.{tree_of_literal, standing, AreUnder, Follows, IsReady, IsTaken, AreTaken}
+use Rattle.q_herbrand.specs.Following.{tree_of_literal, standing, AreUnder, IsReady, IsTaken, AreTaken}
 
 -- The row stands for its own circuits.
 pub standing-at : (a : Net) (ins tb : List (Option ℕ)) (U : ℕ → Bool) → InputsAt a ins U →

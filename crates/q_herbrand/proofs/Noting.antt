@@ -9,7 +9,7 @@ use Rattle.q_logic.specs.Prefixes.{is_bound}
 use Rattle.q_logic.specs.Propagation.{Implied}
 use Rattle.q_logic.specs.Steps.{ProofStep, add, delete, drop_literal, fresh, remove_variable, one_less, IsWarranted, Valid, after}
 use Rattle.q_logic.specs.Runs.{ValidSteps, AreAlike}
-use Rattle.q_logic.specs.Reversals.{Reversal, added, IsExtended, Reversed, Reversals}
+use Rattle.q_logic.specs.Reversals.{Reversal, IsExtended, Reversed, Reversals}
 use Rattle.q_logic.proofs.Alike.{Within, implied-within, forall_pivot-within, outers-same, alike_swapped, alike_through, alike_valid, alike_after}
 use Rattle.q_logic.proofs.Order.{existential-is_bound}
 use Rattle.q_logic.proofs.Reaching.{SameClauses, IsIn-alike, alike-sym}

@@ -1,5 +1,5 @@
 -- Entries that put a circuit in place of an input: its slot is filled.
-use Rattle.std.proofs.Common.{◌≡◌, ◌≢◌, ◌⊎◌, ℕ, ◌+◌, ◌-◌, ◌<◌, ◌≤◌, Bool, true, false, not, cond, eqb, List, [], ◌∷◌, ◌++◌, length, set, inl, inr, arith, refl, sym, ap, ◌∙◌, subst, Option, Some, None}
+use Rattle.std.proofs.Common.{◌≡◌, ◌≢◌, ◌⊎◌, ℕ, ◌+◌, ◌-◌, ◌<◌, ◌≤◌, Bool, true, false, cond, eqb, List, length, set, inl, inr, arith, refl, sym, ap, ◌∙◌, subst, Option, Some, None}
 use Rattle.q_logic.specs.Literals.{Literal}
 use Rattle.q_logic.specs.Formulas.{Clause, IsIn}
 use Rattle.q_logic.specs.Circuits.{Circuit, constant, input, inverter, conjunction, disjunction, Reads}
@@ -8,25 +8,25 @@ use Rattle.q_logic.specs.Steps.{literals_in}
 use Rattle.q_logic.specs.Undos.{all_of}
 use Rattle.q_logic.specs.Reversals.{Reversal, added, freshened, lifted}
 use Rattle.q_logic.proofs.ClauseLemmas.{Reads-all_of}
-use Rattle.q_aig.specs.Nets.{Net, IsLiteral, tree_at, operand_of, IsNet, Keeps}
+use Rattle.q_aig.specs.Nets.{Net, IsLiteral, tree_at, operand_of, IsNet}
 use Rattle.q_logic.specs.Certificates.{falsum}
 use Rattle.q_aig.specs.Serving.{Serves}
-use Rattle.q_aig.proofs.Serving.{serves-self, serves-same, serves-then}
+use Rattle.q_aig.proofs.Serving.{serves-same, serves-then}
 use Rattle.q_carry.specs.Covered.{OutersCovered}
-use Rattle.q_carry.specs.Standing.{look_at, AreLiterals, InputsAt, IsAt}
+use Rattle.q_carry.specs.Standing.{look_at, AreLiterals, IsAt}
 use Rattle.q_carry.specs.Growing.{IsGrown, IsAllOf, IsRaised}
 use Rattle.q_carry.proofs.Reading.{net-inputs}
 use Rattle.q_carry.proofs.Rows.{inputs-kept, literals-kept, literals-put}
-use Rattle.q_carry.proofs.Building.{grown-none, grown-then, keeps-then, raise-more, constant-there, false-serves, none-or-some, same-gates}
+use Rattle.q_carry.proofs.Building.{grown-none, keeps-then, raise-more, constant-there, false-serves, none-or-some, same-gates}
 use Rattle.q_slots.specs.declared.slots.Slots.{Slots}
 use Rattle.q_slots.specs.Under.{under}
 use Rattle.q_slots.specs.Slots.{IsRenewed, slot_at}
 use Rattle.q_slots.proofs.Trees.{under-same, Reads-through, serves-under}
 use Rattle.q_slots.proofs.Counting.{same-or}
 use Rattle.q_herbrand.specs.Inputs.{has_input}
-use Rattle.q_herbrand.specs.Covered.{EntryCovered, EntryOwned, OutersClear, weight}
+use Rattle.q_herbrand.specs.Covered.{EntryCovered, OutersClear}
 use Rattle.q_herbrand.specs.Following.{tree_of_literal, standing, AreUnder, Follows, IsReady, IsTaken}
-use Rattle.q_herbrand.proofs.Following.{standing-at, under-covered, all-under, raised-under, ready-kept}
+use Rattle.q_herbrand.proofs.Following.{standing-at, under-covered, all-under, raised-under}
 use Rattle.q_herbrand.proofs.Filling.{same-is, other-is, with_slot, with-same, with-other, ready-next, follows-next}
 
 some-same : (m n : ℕ) → Some m ≡ Some n → m ≡ n

@@ -1,5 +1,5 @@
 -- Circuits copied into a graph over slots, and out of it.
-use Rattle.std.specs.Prelude.{◌≡◌, ◌≤◌, ◌<◌, ℕ, ◌+◌, Bool, true, List, length, slice_index_or, Option, Some, None}
+use Rattle.std.specs.Prelude.{◌≡◌, ◌≤◌, ℕ, ◌+◌, Bool, true, List, length, Option, Some, None}
 use Rattle.q_logic.specs.Formulas.{Prefix, PrenexFormula}
 use Rattle.q_logic.specs.Prefixes.{is_existential}
 use Rattle.q_logic.specs.Certificates.{CertificateView, trees_of}

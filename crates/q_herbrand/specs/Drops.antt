@@ -1,12 +1,12 @@
 -- What the drop of a universal literal leaves.
-use Rattle.std.specs.Prelude.{◌≡◌, ℕ, true, List, [], ◌∷◌, Option, Some, None}
+use Rattle.std.specs.Prelude.{◌≡◌, ℕ, true, List, [], ◌∷◌, Option, None}
 use Rattle.q_logic.specs.Literals.{Literal, negation}
 use Rattle.q_logic.specs.Formulas.{Clause, Matrix, Prefix, IsIn}
 use Rattle.q_logic.specs.Pivots.{ForallPivot, outer}
 use Rattle.q_logic.specs.Sets.{IsTautology}
 use Rattle.q_logic.specs.Expanding.{inner_existential}
 use Rattle.q_logic.specs.Undos.{OutersOf}
-use Rattle.q_logic.specs.Reversals.{Reversal, IsPlainDrop, inner, plain, turned}
+use Rattle.q_logic.specs.Reversals.{IsPlainDrop, inner, plain, turned}
 use Rattle.q_herbrand.specs.declared.drops.DropKind.{DropKind}
 use Rattle.q_herbrand.specs.declared.drops.DropKind.TheVariants.{Turned, Plain, Nothing, Extended}
 use Rattle.q_herbrand.specs.declared.reversal.Reversal.{Reversal as Entry}

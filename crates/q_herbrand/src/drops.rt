@@ -5,7 +5,7 @@ ghost use Rattle.std.specs.Prelude.{◌≡◌, ◌↔◌, ◌++◌, List, true, 
 ghost use Rattle.q_logic.specs.Literals.{Literal, IsBelow, negation};
 ghost use Rattle.q_logic.specs.Formulas.{Clause, Matrix, IsIn};
 ghost use Rattle.q_logic.specs.Parts.{ArePairs};
-ghost use Rattle.q_logic.specs.Prefixes.{Closed, is_bound, is_universal};
+ghost use Rattle.q_logic.specs.Prefixes.{is_bound, is_universal};
 ghost use Rattle.q_logic.specs.Pivots.{ForallPivot, outer, without};
 ghost use Rattle.q_logic.specs.Steps.{Within};
 ghost use Rattle.q_logic.specs.Undos.{OutersOf};
@@ -19,9 +19,8 @@ ghost use Rattle.q_herbrand.specs.declared.drops.DropKind.TheVariants.{Extended 
 
 use crate::error::TrailError;
 use crate::reversal::Reversal;
-use q_judge::{Buffers, Scope, collect_outers, push_outer, resolves};
+use q_judge::{Ledger, Scope, push_outer};
 use q_logic::{Lit, Lits, NoMemory, holds, is_tautology};
-use q_prop::Store;
 use std::alloc::Global;
 
 /// What a drop leaves, told by the first that holds.
@@ -39,26 +38,23 @@ pub enum DropKind {
 
 // Whether the literal is a universal pivot of the clause, beside the slots but its own. `rest` is the clause without it.
 fn is_turned(
-    store: &mut Store,
-    scope: &Scope,
-    buffers: &mut Buffers,
-    skip: Option<usize>,
+    ledger: &mut Ledger,
+    at: usize,
     clause: &[Lit],
     rest: &[Lit],
     lit: Lit,
 ) -> Result<bool, NoMemory>
-    requires closed { Closed scope.now (filled store.old) }
-    requires universal { is_universal scope.now lit.var ≡ true }
+    requires universal { is_universal ledger.old.prefix lit.var ≡ true }
     requires held { IsIn lit clause.now }
     requires rest { rest.now ≡ without lit clause.now }
-    ensures same { store.new ≡ store.old }
+    ensures same { ledger.new ≡ ledger.old }
     ensures exact { IfOk result (λ yes. IsTrue yes ↔
-        ForallPivot scope.now (filled (without_slot store.old skip)) clause.now lit) }
+        ForallPivot ledger.old.prefix (filled (without_slot ledger.old.slots (Some at))) clause.now lit) }
 {
     if holds(clause, lit.negated()) {
         return Ok(false);
     }
-    resolves(store, scope, buffers, skip, rest, lit.negated())
+    ledger.resolves(Some(at), rest, lit.negated())
 }
 
 // Whether an existential of the clause is inner to the variable.
@@ -102,27 +98,24 @@ fn kind_without_pivot(scope: &Scope, clause: &[Lit], lit: Lit) -> DropKind
 
 /// What the drop leaves, beside the slots but the clause's own. `rest` is the clause without the literal.
 pub fn kind_of_drop(
-    store: &mut Store,
-    scope: &Scope,
-    buffers: &mut Buffers,
+    ledger: &mut Ledger,
     at: usize,
     clause: &[Lit],
     rest: &[Lit],
     lit: Lit,
 ) -> Result<DropKind, NoMemory>
-    requires closed { Closed scope.now (filled store.old) }
-    requires universal { is_universal scope.now lit.var ≡ true }
+    requires universal { is_universal ledger.old.prefix lit.var ≡ true }
     requires ordered { ArePairs IsBelow clause.now }
     requires held { IsIn lit clause.now }
     requires rest { rest.now ≡ without lit clause.now }
-    ensures same { store.new ≡ store.old }
+    ensures same { ledger.new ≡ ledger.old }
     ensures kind { IfOk result (λ kind.
-        IsDropKind scope.now (filled (without_slot store.old (Some at))) clause.now lit kind) }
+        IsDropKind ledger.old.prefix (filled (without_slot ledger.old.slots (Some at))) clause.now lit kind) }
 {
-    if is_turned(store, scope, buffers, Some(at), clause, rest, lit)? {
+    if is_turned(ledger, at, clause, rest, lit)? {
         return Ok(DropKind::Turned);
     }
-    Ok(kind_without_pivot(scope, clause, lit))
+    Ok(kind_without_pivot(ledger.scope(), clause, lit))
 }
 
 // Appends the literals of the clause whose variable is inner to the one of the literal.
@@ -140,21 +133,14 @@ fn push_inner(row: &mut Vec<Lit>, scope: &Scope, clause: &[Lit], lit: Lit) -> Re
 }
 
 // The entry of a drop by its pivot.
-fn turned_entry(
-    alloc: Global,
-    joined: &mut Vec<Lit>,
-    store: &Store,
-    scope: &Scope,
-    at: usize,
-    lit: Lit,
-) -> Result<Reversal, NoMemory>
-    requires closed { Closed scope.now (filled store.now) }
-    requires bound { is_bound scope.now lit.var ≡ true }
-    ensures { IfOk result (λ r. (outers : List Clause) ×
-        OutersOf scope.now (filled (without_slot store.now (Some at))) (negation lit) outers ×
+fn turned_entry(ledger: &mut Ledger, at: usize, lit: Lit) -> Result<Reversal, NoMemory>
+    requires { is_bound ledger.old.prefix lit.var ≡ true }
+    ensures same { ledger.new ≡ ledger.old }
+    ensures entry { IfOk result (λ r. (outers : List Clause) ×
+        OutersOf ledger.old.prefix (filled (without_slot ledger.old.slots (Some at))) (negation lit) outers ×
         (entry_of r ≡ turned lit outers)) }
 {
-    let outer = collect_outers(alloc, joined, store, scope, Some(at), lit.negated())?;
+    let outer = ledger.outers(Some(at), lit.negated())?;
     Ok(Reversal::Turned { pivot: lit, outer })
 }
 
@@ -179,28 +165,26 @@ fn plain_entry(alloc: Global, scope: &Scope, clause: &[Lit], lit: Lit) -> Result
 /// The entry of a drop, or none; an extended drop is refused.
 pub fn drop_entry(
     alloc: Global,
-    joined: &mut Vec<Lit>,
-    store: &Store,
-    scope: &Scope,
+    ledger: &mut Ledger,
     at: usize,
     clause: &[Lit],
     lit: Lit,
     kind: DropKind,
 ) -> Result<Option<Reversal>, TrailError>
-    requires closed { Closed scope.now (filled store.now) }
-    requires bound { is_bound scope.now lit.var ≡ true }
-    requires within { Within scope.now clause.now }
+    requires bound { is_bound ledger.old.prefix lit.var ≡ true }
+    requires within { Within ledger.old.prefix clause.now }
+    ensures same { ledger.new ≡ ledger.old }
     ensures entry { IfOk result (λ r.
-        IsDropEntry scope.now (filled (without_slot store.now (Some at))) clause.now lit kind r) }
+        IsDropEntry ledger.old.prefix (filled (without_slot ledger.old.slots (Some at))) clause.now lit kind r) }
     ensures refused { IfErr result (λ e. e ≡ ExtendedDrop → kind ≡ extended_kind) }
 {
     match kind {
         DropKind::Turned => {
-            let entry = turned_entry(alloc, joined, store, scope, at, lit)?;
+            let entry = turned_entry(ledger, at, lit)?;
             Ok(Some(entry))
         }
         DropKind::Plain => {
-            let entry = plain_entry(alloc, scope, clause, lit)?;
+            let entry = plain_entry(alloc, ledger.scope(), clause, lit)?;
             Ok(Some(entry))
         }
         DropKind::Nothing => Ok(None),

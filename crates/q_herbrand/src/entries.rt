@@ -68,6 +68,7 @@ fn lower_all(
     Ok(())
 }
 
+// The pivot and the inner literals are made false where all others are.
 fn take_plain(
     aig: &mut Aig,
     tables: &mut Tables,
@@ -87,6 +88,7 @@ fn take_plain(
     Ok(())
 }
 
+// The pivot is made false where each outer clause is true.
 fn take_turned(
     aig: &mut Aig,
     tables: &mut Tables,
@@ -107,6 +109,7 @@ fn take_turned(
     Ok(())
 }
 
+// A universal that was removed is 0 before its entry.
 fn take_removed(aig: &Aig, tables: &mut Tables, var: u32) -> Result<(), NoMemory>
     requires circuits { AreLiterals aig.now tables.old.circuits.items }
     ensures inputs { tables.new.inputs ≡ tables.old.inputs }
@@ -129,6 +132,7 @@ fn take_fresh(
     ensures taken { OnOk result (IsTaken aig.old aig.new tables.old.inputs.items tables.old.circuits.items
         tables.new.circuits.items slots.old slots.new (freshened var)) }
 {
+    // for the proof: the contract of this call says that this is a graph
     aig.inputs();
     match slot_of(slots, &tables.inputs, var) {
         None => Ok(()),
@@ -154,6 +158,7 @@ fn take_added(
     ensures taken { OnOk result (IsTaken aig.old aig.new tables.old.inputs.items tables.old.circuits.items
         tables.new.circuits.items slots.old slots.new (added pivot outer.now)) }
 {
+    // for the proof: the contract of this call says that this is a graph
     aig.inputs();
     match slot_of(slots, &tables.inputs, pivot.var()) {
         None => Ok(()),
@@ -167,6 +172,7 @@ fn take_added(
     }
 }
 
+// Takes one entry.
 fn take_entry(
     aig: &mut Aig,
     tables: &mut Tables,

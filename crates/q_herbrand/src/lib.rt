@@ -1,11 +1,11 @@
 //! Herbrand functions of a simplified false formula, carried back to Herbrand functions of the formula before.
 //!
+//! `Trail` notes what the steps of a log leave, each over the formula that the steps before it made.
 //! `refute` tests the given circuits, copies the gates that they need, and takes the reversals from the last to the first.
-//! `specs/Refusals` says which circuits are refused, `specs/Refuted` what comes out.
+//! `specs/Trails` says what is noted, `specs/Refusals` which circuits are refused, `specs/Refuted` what comes out.
 #![tactic(auto)]
 
 mod carrying;
-mod course;
 mod drafting;
 mod drops;
 mod entries;
@@ -14,6 +14,7 @@ mod exchanging;
 mod inputs;
 mod laws;
 mod reversal;
+mod steps;
 mod trail;
 mod whole;
 

@@ -6,12 +6,13 @@ ghost use Rattle.q_logic.specs.Limits.{standard};
 ghost use Rattle.q_logic.specs.Runs.{AreAlike};
 ghost use Rattle.q_logic.specs.Steps.{ProofStep, Valid, after};
 ghost use Rattle.q_logic.specs.Reversals.{IsExtended, Reversals as ReversalsOf};
+ghost use Rattle.q_judge.specs.Ledgers.{formula_in};
 ghost use Rattle.q_herbrand.specs.Trails.{HasGrownBy, HasNoted, IsNoted, IsPassed};
 
-use crate::course::Course;
 use crate::error::TrailError;
 use crate::reversal::{Reversal, Reversals};
-use q_judge::{first_lit, load_clause, load_rest};
+use crate::steps;
+use q_judge::{Ledger, first_lit, load_clause, load_rest};
 use q_logic::{Formula, Kind, Lit, NoMemory, Step};
 use std::alloc::Global;
 use std::marker::Model;
@@ -19,7 +20,8 @@ use std::marker::Model;
 /// The formula that the steps so far left, and their reversals.
 #[derive(Drop)]
 pub struct Trail {
-    course: Course,
+    alloc: Global,
+    ledger: Ledger,
     entries: Vec<Reversal>,
     clause: Vec<Lit>,
     rest: Vec<Lit>,
@@ -27,12 +29,13 @@ pub struct Trail {
 
 impl Model for Trail {
     ghost use Rattle.std.specs.Prelude.{map};
+    ghost use Rattle.q_judge.specs.Ledgers.{formula_in};
     ghost use Rattle.q_herbrand.specs.Trails.{Trailed};
     ghost use Rattle.q_herbrand.specs.Entries.{entry_of};
 
     ghost Value = { Trailed };
 
-    ghost view = { λ t. record { formula = t.course; reversals = map entry_of t.entries.items } };
+    ghost view = { λ t. record { formula = formula_in t.ledger; reversals = map entry_of t.entries.items } };
 }
 
 impl Trail {
@@ -42,9 +45,10 @@ impl Trail {
         ensures reversals { IfOk result (λ t. t.reversals ≡ []) }
         ensures noted { IfOk result (HasNoted formula.now []) }
     {
-        let course = Course::start(alloc, formula)?;
+        let ledger = Ledger::start(alloc, formula)?;
         Ok(Trail {
-            course,
+            alloc,
+            ledger,
             entries: Vec::new(alloc),
             clause: Vec::new(alloc),
             rest: Vec::new(alloc),
@@ -64,7 +68,13 @@ impl Trail {
         ensures unchanged { OnErr result (self.new ≡ self.old) }
     {
         self.entries.reserve(1)?;
-        let entry = pass(&mut self.course, &mut self.clause, &mut self.rest, step)?;
+        let entry = pass(
+            self.alloc,
+            &mut self.ledger,
+            &mut self.clause,
+            &mut self.rest,
+            step,
+        )?;
         if let Some(entry) = entry {
             self.entries.push_reserved(entry);
         }
@@ -83,31 +93,32 @@ impl Trail {
 
 // Passes over a step.
 fn pass(
-    course: &mut Course,
+    alloc: Global,
+    ledger: &mut Ledger,
     clause: &mut Vec<Lit>,
     rest: &mut Vec<Lit>,
     step: &Step,
 ) -> Result<Option<Reversal>, TrailError>
-    requires { Valid standard course.old step.now }
-    ensures { IsPassed course.old step.now course.new result }
+    requires { Valid standard (formula_in ledger.old) step.now }
+    ensures { IsPassed (formula_in ledger.old) step.now (formula_in ledger.new) result }
 {
     let lits = step.lits();
     match step.kind() {
         Kind::Add => {
             load_clause(clause, lits)?;
-            course.add(clause, first_lit(lits))
+            steps::add(ledger, clause, first_lit(lits))
         }
         Kind::Delete => {
             load_clause(clause, lits)?;
-            course.delete(clause);
+            steps::delete(ledger, clause);
             Ok(None)
         }
         Kind::Drop => {
             load_clause(clause, lits)?;
             load_rest(rest, lits)?;
-            course.drop_literal(clause, rest, lits[0])
+            steps::drop_literal(alloc, ledger, clause, rest, lits[0])
         }
-        Kind::Fresh => course.fresh(lits[0].var(), lits[1].var()),
-        Kind::Remove => Ok(course.remove(lits[0].var())),
+        Kind::Fresh => steps::fresh(ledger, lits[0].var(), lits[1].var()),
+        Kind::Remove => Ok(steps::remove(ledger, lits[0].var())),
     }
 }

@@ -1,9 +1,8 @@
 pub mod Walks
 pub mod Reaching
-pub mod Hopping
+pub mod Absent
+pub mod Climbing
 pub mod Passing
 pub mod Results
 pub mod Separating
-pub mod Bridging
 pub mod Lending
-pub mod Leading

@@ -114,8 +114,8 @@ module _ (P : Prefix) (u : Literal) where
   pub stands-held : (N : Slots) (d : ℕ) (l : Literal) (D E : Clause) → slot N d ≡ Some D → IsIn l D → Stands N d E → IsIn E (live N) × IsIn l E
   stands-held N d l D E h m b = (slot-IsIn N d E b, subst (λ (x : Clause). IsIn l x) (slot-one N d D E h b) m)
 
-  -- A clause that lacks u stands beside slot-one that holds it.
-  lacking-beside : (N : Slots) (c : ℕ) (C E : Clause) → slot N c ≡ Some C → IsIn u C → IsIn E (live N) → (IsIn u E → ⊥) → IsIn E (others c N)
+  -- A clause that lacks u stands beside one that holds it.
+  pub lacking-beside : (N : Slots) (c : ℕ) (C E : Clause) → slot N c ≡ Some C → IsIn u C → IsIn E (live N) → (IsIn u E → ⊥) → IsIn E (others c N)
   lacking-beside N c C E h m i n =
       let d = IsIn-slot N E i in
       others-slot N d.0 c E (λ e. n (subst (λ (x : Clause). IsIn u x) (slot-one N c C E h (subst (λ (x : ℕ). slot N x ≡ Some E) e d.1)) m)) d.1
@@ -127,13 +127,3 @@ module _ (P : Prefix) (u : Literal) where
     (λ E i n. v.1 E (others-live N c E i) n),
   )
   visited-beside N c C k old new false h m v = (v.0, lacking-beside N c C v.0 h m v.1 v.3, v.2, v.3, v.4)
-
-  pub grown-held : (N : Slots) (c d : ℕ) (l : Literal) (C D : Clause) (old mid new : List Literal) → slot N c ≡ Some C → IsIn u C → slot N d ≡ Some D → IsIn l D → IsGrown P u (λ E. IsIn E (others c N) × IsIn l E) old mid → IsGrown P u (Stands N d) mid new → IsGrown P u (λ E. IsIn E (others c N) × IsIn l E) old new
-  grown-held N c d l C D old mid new o i h m f g = record {
-    added = f.added ++ g.added;
-    is = g.is ∙ ap (λ (xs : List Literal). xs ++ g.added) f.is ∙ append_assoc old f.added g.added;
-    from = λ k n. elim (g.from k n) [
-      | inl x ↦ f.from k x
-      | inr x ↦ let b = stands-held N d l D x.0 h m x.1 in inr (x.0, (lacking-beside N c C x.0 o i b.0 x.2, b.1), x.2, x.3, x.4)
-    ];
-  }

@@ -2,16 +2,13 @@
 use Rattle.std.specs.Prelude.{[], List}
 use Rattle.q_kernel.specs.Kernels.{Seen}
 use Rattle.q_reduce.specs.Regions.{RegionMap, AreRegionsOf}
-use Rattle.q_reduce.specs.Hops.{Rows, no_rows, AreHopsOf}
 
 pub record Learned : Type 0 where
   pub regions : List RegionMap
-  pub hops : Rows
 
 abbrev pub nothing_learned : Learned
-nothing_learned = record { regions = []; hops = no_rows }
+nothing_learned = record { regions = [] }
 
 -- all of it is right for the formula of a kernel
 pub record IsFitFor (k : Seen) (s : Learned) : Type 0 where
   pub regions : AreRegionsOf k s.regions
-  pub hops : AreHopsOf k s.hops

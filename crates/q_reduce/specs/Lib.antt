@@ -1,7 +1,6 @@
 pub mod Targets
 pub mod Walks
-pub mod Hops
-pub mod Leading
+pub mod Paths
 pub mod Searches
 pub mod Regions
 pub mod Lent

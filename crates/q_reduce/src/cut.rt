@@ -5,8 +5,8 @@
 //! Heule, Seidl and Biere 2014 (its reach in this form is this project's own). The condition is `Reducible` in
 //! `q_logic/specs/Reach.antt`, the law `q_logic/proofs/Reduction.antt`.
 //!
-//! Four answers are tried, the cheap ones first: the negation occurs nowhere, regions, hops, and then a walk over occurrence
-//! lists (`search.rt`). A shorter clause may be a unit clause, or lose further literals.
+//! Four answers are tried, the cheap ones first: the negation occurs nowhere, regions, a path in a forest, and then a
+//! walk over occurrence lists (`search.rt`). A shorter clause may be a unit clause, or lose further literals.
 ghost use Rattle.std.specs.Prelude.{◌≡◌, ◌↔◌, Some, IfOk, IsTrue};
 ghost use Rattle.q_logic.specs.Formulas.{Clause};
 ghost use Rattle.q_logic.specs.Reach.{Reducible};

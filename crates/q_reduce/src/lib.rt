@@ -1,12 +1,10 @@
 //! The plain rules: tautologies, unit clauses, universal reduction and pure literals.
 #![tactic(auto)]
 
-mod arriving;
-mod asked;
 mod cut;
 mod finding;
-mod guide;
-mod hop;
+mod forest;
+mod forests;
 mod joining;
 mod lists;
 mod pure;
@@ -18,8 +16,6 @@ mod search;
 mod taking;
 mod target;
 mod tautology;
-mod tree;
-mod trees;
 mod unit;
 
 pub use q_kernel::Taken;

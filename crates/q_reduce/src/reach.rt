@@ -9,36 +9,26 @@ ghost use Rattle.q_logic.specs.Reach.{Reducible};
 ghost use Rattle.q_logic.specs.Numbered.{slot, live, others};
 ghost use Rattle.q_kernel.specs.Kernels.{slots};
 ghost use Rattle.q_rule.specs.Quants.{is_some_exists, is_some_forall};
-ghost use Rattle.q_reduce.specs.Hops.{AreHopsOf};
 ghost use Rattle.q_reduce.specs.Walks.{IsWidened, IsFollowed, IsVisited};
 
-use crate::guide::Guide;
 use q_arena::ClauseId;
 use q_kernel::Kernel;
 use q_logic::{Lit, NoMemory, Quant, holds};
 use q_rule::{Queue, clause_of, is_inner};
 
-// The guide is asked at so many literals of a walk.
-const GUIDED: usize = 64;
-
 /// Whether no clause that is reached from the clause holds the literal's negation. The walk expands each
-/// literal once, and stops at the first such clause, or where the guide knows the way to one. It counts the clauses
-/// that it may look at.
+/// literal once, and stops at the first such clause. It counts the clauses that it may look at.
 pub fn is_reducible(
     kernel: &Kernel,
     queue: &mut Queue,
-    guide: &mut Guide,
     c: ClauseId,
     lit: Lit,
     looks: &mut usize,
 ) -> Result<bool, NoMemory>
     requires live { (C : Clause) × (slot (slots kernel.now) c ≡ Some C) × IsIn lit C × (IsIn (negation lit) C → ⊥) }
     requires universal { is_universal kernel.now.prefix lit.var ≡ true }
-    requires hops { AreHopsOf kernel.now guide.old }
-    ensures same { guide.new ≡ guide.old }
-    ensures yes { IfOk result (λ yes. (C : Clause) → slot (slots kernel.now) c ≡ Some C → IsTrue yes ↔ Reducible kernel.now.prefix (others c (slots kernel.now)) C lit) }
+    ensures { IfOk result (λ yes. (C : Clause) → slot (slots kernel.now) c ≡ Some C → IsTrue yes ↔ Reducible kernel.now.prefix (others c (slots kernel.now)) C lit) }
 {
-    let exit = guide.exit(kernel, queue, c, lit)?;
     queue.clear();
     push_inner(kernel, queue, clause_of(kernel, c), lit)?;
     for head in 0..usize::MAX {
@@ -46,9 +36,6 @@ pub fn is_reducible(
             return Ok(true);
         }
         let next = queue.at(head);
-        if head < GUIDED && guide.leads_out(kernel, c, lit, next, exit) {
-            return Ok(false);
-        }
         *looks = looks.saturating_add(kernel.count(next.negated()) as usize);
         if !visit(kernel, queue, next, lit)? {
             return Ok(false);

@@ -8,7 +8,7 @@ ghost use Rattle.q_reduce.specs.Lent.{nothing_learned, IsFitFor};
 ghost use Rattle.q_rule.specs.Searching.{Tries, Finds};
 
 use crate::finding::find_from;
-use crate::guide::Guide;
+use crate::forests::Forests;
 use crate::recent::RecentRegions;
 use crate::search::Search;
 use crate::taking::{fits, take};
@@ -61,7 +61,7 @@ impl Rules for Search {
     {
         Search {
             queue: Queue::new(alloc),
-            guide: Guide::new(alloc),
+            forests: Forests::new(alloc),
             recent: RecentRegions::new(alloc),
         }
     }
@@ -86,10 +86,8 @@ impl Rules for Search {
         if !fits(kernel, self, target)? {
             return Ok(Taken::No);
         }
-        self.loosen(kernel, target);
         reserve_log(kernel)?;
         take(kernel, target);
-        self.forget_if_empty(kernel);
         Ok(Taken::Yes)
     }
 

@@ -128,8 +128,22 @@ impl Drive {
         }
     }
 
-    /// One turn. The kernel is as before but where a target is taken.
+    /// One turn. The kernel is as before but where a target is taken. It may be any kernel: what was learned in earlier turns is
+    /// forgotten.
     pub fn turn(&mut self, kernel: &mut Kernel) -> Result<Turn, NoMemory>
+        requires ready { IsReady kernel.old }
+        ensures turned { IfOk result (λ turn. Turned (seen (λ b. asked b) (λ b. last b) (λ b. heard b) self.old) kernel.old turn (seen (λ b. asked b) (λ b. last b) (λ b. heard b) self.new) kernel.new) }
+        ensures err { OnErr result (Stays (seen (λ b. asked b) (λ b. last b) (λ b. heard b) self.old) kernel.old (seen (λ b. asked b) (λ b. last b) (λ b. heard b) self.new) kernel.new) }
+        ensures ready { IsReady kernel.new }
+        ensures fit { IsFitFor kernel.new (lent self.new) }
+    {
+        self.searches.forget();
+        self.next_turn(kernel)
+    }
+
+    /// The same, for a caller that shows that what was learned is right for this kernel, as it is after a turn over it. It is not
+    /// forgotten.
+    pub fn next_turn(&mut self, kernel: &mut Kernel) -> Result<Turn, NoMemory>
         requires ready { IsReady kernel.old }
         requires fit { IsFitFor kernel.old (lent self.old) }
         ensures turned { IfOk result (λ turn. Turned (seen (λ b. asked b) (λ b. last b) (λ b. heard b) self.old) kernel.old turn (seen (λ b. asked b) (λ b. last b) (λ b. heard b) self.new) kernel.new) }

@@ -49,6 +49,13 @@ impl Searches {
         }
     }
 
+    /// Nothing is learned any more.
+    pub(crate) fn forget(&mut self)
+        ensures { self.new ≡ nothing_learned }
+    {
+        self.plain.forget();
+    }
+
     /// Whether a target applies.
     pub fn applies(
         &mut self,

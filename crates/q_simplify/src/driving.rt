@@ -30,7 +30,7 @@ pub(crate) fn take_turns<F: Files>(
     ensures goes_on { LogGoesOn F.held F.read_faults F.write_faults log.now result kernel.old kernel.new files.old files.new }
 {
     loop {
-        match drive.turn(kernel)? {
+        match drive.next_turn(kernel)? {
             Turn::Moved => flush(files, log, kernel, PENDING)?,
             Turn::Asked => {}
             Turn::Settled => return Ok(Stop::Settled),

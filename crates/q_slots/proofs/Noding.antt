@@ -5,7 +5,7 @@ use Rattle.std.proofs.lemmas.Bool.{cases_lt}
 use Rattle.std.proofs.lemmas.Option.{slice_get-get_or, get_or_from_slice_get}
 use Rattle.q_logic.specs.Circuits.{Circuit}
 use Rattle.q_logic.specs.Certificates.{GateNode, falsum, input_at, gate_at, Operand, Gate, IsThere, node_tree, operand_tree, gate_tree, gate_trees}
-use Rattle.q_aig.specs.Nets.{Net, IsLiteral, tree_at, operand_of, IsNet}
+use Rattle.q_aig.specs.Nets.{Net, tree_at, operand_of, IsNet}
 use Rattle.q_aig.proofs.Nets.{IsThere-more, AreGates-at}
 use Rattle.q_carry.specs.Standing.{look_at}
 use Rattle.q_carry.specs.Copied.{tree_of_gate}

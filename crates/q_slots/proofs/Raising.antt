@@ -1,10 +1,10 @@
 -- Nodes built, one further.
-use Rattle.std.proofs.Common.{◌≡◌, ◌⊎◌, ℕ, ◌+◌, ◌-◌, ◌<◌, ◌≤◌, Bool, true, false, cond, ltb, List, [], ◌∷◌, ◌++◌, length, get_or, set, slice_get, take, inl, inr, arith, refl, sym, ap, ◌∙◌, subst, Option, Some, None, MatchOption}
+use Rattle.std.proofs.Common.{◌≡◌, ℕ, ◌+◌, ◌-◌, ◌<◌, ◌≤◌, Bool, true, false, cond, ltb, List, [], ◌∷◌, ◌++◌, length, get_or, set, slice_get, take, inl, inr, arith, refl, sym, ap, ◌∙◌, subst, Option, Some, None, MatchOption}
 use Rattle.std.proofs.lemmas.List.{length-set, get_or-set_same, get_or-set_other, get_or_past, take_more}
 use Rattle.std.proofs.Math.Seq.{take-length}
 use Rattle.std.proofs.lemmas.Bool.{cases_lt}
 use Rattle.std.proofs.lemmas.Option.{get_or_from_slice_get}
-use Rattle.q_logic.specs.Circuits.{Circuit, constant, input}
+use Rattle.q_logic.specs.Circuits.{Circuit, constant}
 use Rattle.q_logic.specs.Certificates.{GateNode, falsum, input_at, gate_at, Operand, Gate, IsThere, node_tree, operand_tree, gate_tree, gate_trees}
 use Rattle.q_aig.specs.Nets.{Net, IsLiteral, tree_at, operand_of, gate_of, IsNet, Keeps}
 use Rattle.q_aig.specs.Serving.{Serves, IsConjunction}
@@ -18,14 +18,13 @@ use Rattle.q_carry.proofs.Lists.{slice_get-below}
 use Rattle.q_carry.proofs.Copies.{copy-there, gate-is}
 use Rattle.q_carry.proofs.Rows.{operand-serves, literals-kept}
 use Rattle.q_carry.proofs.Building.{grown-none, grown-then, grown-by}
-use Rattle.q_gates.specs.Gates.{no_gate}
-use Rattle.q_gates.specs.Uses.{Parts, part_at, Uses, IsOrder, IsFullOrder}
+use Rattle.q_gates.specs.Uses.{part_at, Uses}
 use Rattle.q_slots.specs.declared.slots.Slots.{Slots}
 use Rattle.q_slots.specs.declared.building.Settled.{Settled}
-use Rattle.q_slots.specs.Under.{under, twice}
+use Rattle.q_slots.specs.Under.{under}
 use Rattle.q_slots.specs.Slots.{AreSlots, AreOwned, IsResolved, owner_at}
-use Rattle.q_slots.specs.Nodes.{node_part, filled_part, AreNodes}
-use Rattle.q_slots.specs.Settled.{gates_among, row_literal, SlotStands, GateStands, NodeStands, AreRows, AreBuilt, IsBuilt, IsCopied, IsSettled, IsOrdered}
+use Rattle.q_slots.specs.Nodes.{node_part, filled_part}
+use Rattle.q_slots.specs.Settled.{gates_among, row_literal, NodeStands, AreRows, AreBuilt, IsBuilt, IsCopied, IsSettled, IsOrdered}
 use Rattle.q_slots.proofs.Trees.{under-operand, serves-twice}
 use Rattle.q_slots.proofs.Counting.{same-or, among-last, among-most}
 

@@ -1,8 +1,7 @@
 -- Circuits with a circuit in place of each input.
-use Rattle.std.proofs.Common.{◌≡◌, ℕ, zero, suc, ◌+◌, ◌<◌, ◌≤◌, Bool, true, false, not, ◌&&◌, cond, eqb, inl, inr, ◌⊎◌, arith, refl, sym, ap, ap₂, ◌∙◌}
+use Rattle.std.proofs.Common.{◌≡◌, ℕ, ◌+◌, ◌≤◌, Bool, true, false, not, ◌&&◌, cond, eqb, inl, inr, arith, refl, sym, ap, ap₂, ◌∙◌}
 use Rattle.q_logic.specs.Truth.{Assignment}
 use Rattle.q_logic.specs.Circuits.{Circuit, constant, input, inverter, conjunction, value_of, Reads, replaced}
-use Rattle.q_logic.proofs.Trees.{value_of-agree}
 use Rattle.q_aig.specs.Serving.{Serves}
 use Rattle.q_slots.specs.Under.{under, twice}
 

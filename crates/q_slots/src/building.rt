@@ -78,6 +78,7 @@ fn copy_gate(draft: &Aig, made: &Settled, aig: &mut Aig, gate: usize) -> Result<
     requires gates { (g : ℕ) → IsLiteral aig.old (slice_index_or made.now.gates.items g 0) }
     ensures { IfOk result (IsCopied draft.now aig.old aig.new made.now gate) }
 {
+    // for the proof: the contract of this call says that this is a graph
     draft.inputs();
     let (left, right) = draft.operands(gate);
     let a = translate(draft, &made.slots, &made.gates, left);

@@ -24,6 +24,7 @@ fn order(alloc: Global, draft: &Aig, slots: &Slots) -> Result<Vec<usize>, NoMemo
     requires resolved { (r : ℕ → Circuit) × IsResolved draft.now slots.now r }
     ensures { IfOk result (λ order. IsOrdered draft.now slots.now order.items) }
 {
+    // for the proof: the contract of this call says that this is a graph
     draft.inputs();
     let nodes = nodes(alloc, draft, &slots.definitions)?;
     match sort_gates(alloc, &nodes)? {
@@ -49,6 +50,7 @@ fn build_all(
     requires order { IsOrdered draft.now slots.now order.now }
     ensures { OnOk result (AreBuilt draft.now aig.old aig.new slots.now made.new order.now (length order.now)) }
 {
+    // for the proof: the contract of this call says that this is a graph
     draft.inputs();
     for at in 0..order.len() {
         build(draft, slots, inputs, aig, made, order[at])?;

@@ -1,4 +1,4 @@
-use Rattle.std.proofs.Common.{◌≡◌, List, ℕ, Option, subst, sym, refl, ◌∙◌}
+use Rattle.std.proofs.Common.{List, ℕ, Option, subst, sym, refl, ◌∙◌}
 use Rattle.q_logic.specs.Formulas.{Prefix}
 use Rattle.q_logic.specs.Prefixes.{Distinct}
 use Rattle.q_carry.specs.Made.{IsNamed}

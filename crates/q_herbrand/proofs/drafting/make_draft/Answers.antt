@@ -1,4 +1,4 @@
-use Rattle.std.proofs.Common.{◌∙◌, List, ℕ, Option, length, subst, sym, ap}
+use Rattle.std.proofs.Common.{◌∙◌, List, ℕ, length, subst, sym, ap}
 use Rattle.q_slots.specs.Slots.{IsBegun}
 use Rattle.q_herbrand.specs.Inputs.{AreInputs}
 use Rattle.q_herbrand.specs.Drafted.{IsCopiedInto}

@@ -1,4 +1,4 @@
-use Rattle.std.proofs.Common.{◌≡◌, take, true}
+use Rattle.std.proofs.Common.{take}
 use Rattle.q_herbrand.specs.Drops.{HasInner}
 use Rattle.q_herbrand.proofs.drops.has_inner.Given as goal
 

@@ -7,7 +7,4 @@ use Rattle.q_reduce.proofs.Reaching.{IsWalk}
 use Rattle.q_reduce.proofs.reach.is_reducible.Given as goal
 
 abbrev pub invariant-loop-head : goal.invariant-loop-head
-invariant-loop-head l = record {
-  walk : (C : Clause) → slot (slots l.kernel) l.c ≡ Some C → IsWalk l.kernel.prefix (others l.c (slots l.kernel)) C l.lit l.head l.queue;
-  same : l.guide ≡ l.fn.guide;
-}
+invariant-loop-head l = (C : Clause) → slot (slots l.kernel) l.c ≡ Some C → IsWalk l.kernel.prefix (others l.c (slots l.kernel)) C l.lit l.head l.queue

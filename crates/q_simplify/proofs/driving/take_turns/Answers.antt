@@ -6,8 +6,8 @@ use Rattle.q_simplify.proofs.Logging.{has_log-left, stopped}
 use Rattle.q_simplify.proofs.Turned.{has_log-turned, moves-turned, moves-flushed, stops-settled, stops-spent, ready-flushed, fit-flushed}
 use Rattle.q_simplify.proofs.driving.take_turns.Goals as goal
 
-pub returns-in_err-turn-clause-goes_on : goal.returns-in_err-turn-clause-goes_on
-returns-in_err-turn-clause-goes_on g c =
+pub returns-in_err-next_turn-clause-goes_on : goal.returns-in_err-next_turn-clause-goes_on
+returns-in_err-next_turn-clause-goes_on g c =
     let p = err_from_is_err_and c.from_residual.result c.from_residual.ensures.1 in
     stopped _ _ _ _ _ _ _ _ _ p.0 NoMemory p.1 p.2
     (λ G first h. has_log-left G c.args.log.now first c.loop-files.kernel (g.F.Files.held c.loop-files.files) (c.loop-files.invariant.log G first h))
@@ -17,7 +17,7 @@ pub returns-in_err-flush-in-Moved-clause-goes_on : goal.returns-in_err-flush-in-
 returns-in_err-flush-in-Moved-clause-goes_on g c =
     let p = err_from_is_err_and c.from_residual-in_err-flush-in-Moved.result c.from_residual-in_err-flush-in-Moved.ensures.1 in
     stopped _ _ _ _ _ _ _ _ _ p.0 _ p.1 p.2
-    (λ G first h. c.in_err-flush-in-Moved.ensures.goes_on.left G first (has_log-turned c.in_ok-turn.field-0 _ G c.args.log.now first c.loop-files.kernel c.turn.new.kernel (g.F.Files.held c.loop-files.files) c.in_ok-turn.ensures.turned.ends (c.loop-files.invariant.log G first h)))
+    (λ G first h. c.in_err-flush-in-Moved.ensures.goes_on.left G first (has_log-turned c.in_ok-next_turn.field-0 _ G c.args.log.now first c.loop-files.kernel c.next_turn.new.kernel (g.F.Files.held c.loop-files.files) c.in_ok-next_turn.ensures.turned.ends (c.loop-files.invariant.log G first h)))
     (λ e. rose_later _ _ _ (c.loop-files.invariant.later.write c.args.log.now) (c.in_err-flush-in-Moved.ensures.goes_on.cause (ap Err e)))
     (later_still _ _ _ _ _ c.loop-files.invariant.later c.in_err-flush-in-Moved.ensures.goes_on.later)
 
@@ -25,14 +25,14 @@ pub loop-files-preserved-in-Continue-branch-3 : goal.loop-files-preserved-in-Con
 loop-files-preserved-in-Continue-branch-3 g c =
     record {
       frame = record {
-        bounds = c.in_ok-turn.ensures.turned.frame.bounds ∙ c.loop-files.invariant.frame.bounds;
-        budget = c.in_ok-turn.ensures.turned.frame.budget ∙ c.loop-files.invariant.frame.budget;
-        first_measure = c.in_ok-turn.ensures.turned.frame.first_measure ∙ c.loop-files.invariant.frame.first_measure;
+        bounds = c.in_ok-next_turn.ensures.turned.frame.bounds ∙ c.loop-files.invariant.frame.bounds;
+        budget = c.in_ok-next_turn.ensures.turned.frame.budget ∙ c.loop-files.invariant.frame.budget;
+        first_measure = c.in_ok-next_turn.ensures.turned.frame.first_measure ∙ c.loop-files.invariant.frame.first_measure;
       };
-      ready = ready-flushed c.turn.new.kernel c.flush.new.kernel c.flush.ensures.prefix c.flush.ensures.clauses c.turn.ensures.ready;
-      moves = moves-flushed _ _ _ _ c.turn.new.kernel c.flush.new.kernel c.flush.ensures.prefix c.flush.ensures.clauses (moves-turned c.in_ok-turn.field-0 _ _ _ c.loop-files.kernel c.turn.new.kernel c.loop-files.invariant.frame c.in_ok-turn.ensures.turned.ends c.loop-files.invariant.moves);
-      fit = fit-flushed c.turn.new.kernel c.flush.new.kernel _ c.flush.ensures.prefix c.flush.ensures.clauses c.turn.ensures.fit;
-      log = λ G first h. c.in_ok-flush-in-Moved.ensures.goes_on.log G first (has_log-turned c.in_ok-turn.field-0 _ G c.args.log.now first c.loop-files.kernel c.turn.new.kernel (g.F.Files.held c.loop-files.files) c.in_ok-turn.ensures.turned.ends (c.loop-files.invariant.log G first h));
+      ready = ready-flushed c.next_turn.new.kernel c.flush.new.kernel c.flush.ensures.prefix c.flush.ensures.clauses c.next_turn.ensures.ready;
+      moves = moves-flushed _ _ _ _ c.next_turn.new.kernel c.flush.new.kernel c.flush.ensures.prefix c.flush.ensures.clauses (moves-turned c.in_ok-next_turn.field-0 _ _ _ c.loop-files.kernel c.next_turn.new.kernel c.loop-files.invariant.frame c.in_ok-next_turn.ensures.turned.ends c.loop-files.invariant.moves);
+      fit = fit-flushed c.next_turn.new.kernel c.flush.new.kernel _ c.flush.ensures.prefix c.flush.ensures.clauses c.next_turn.ensures.fit;
+      log = λ G first h. c.in_ok-flush-in-Moved.ensures.goes_on.log G first (has_log-turned c.in_ok-next_turn.field-0 _ G c.args.log.now first c.loop-files.kernel c.next_turn.new.kernel (g.F.Files.held c.loop-files.files) c.in_ok-next_turn.ensures.turned.ends (c.loop-files.invariant.log G first h));
       later = later_still _ _ _ _ _ c.loop-files.invariant.later c.in_ok-flush-in-Moved.ensures.goes_on.later;
     }
 
@@ -40,21 +40,21 @@ pub loop-files-preserved : goal.loop-files-preserved
 loop-files-preserved g c =
     record {
       frame = record {
-        bounds = c.in_ok-turn.ensures.turned.frame.bounds ∙ c.loop-files.invariant.frame.bounds;
-        budget = c.in_ok-turn.ensures.turned.frame.budget ∙ c.loop-files.invariant.frame.budget;
-        first_measure = c.in_ok-turn.ensures.turned.frame.first_measure ∙ c.loop-files.invariant.frame.first_measure;
+        bounds = c.in_ok-next_turn.ensures.turned.frame.bounds ∙ c.loop-files.invariant.frame.bounds;
+        budget = c.in_ok-next_turn.ensures.turned.frame.budget ∙ c.loop-files.invariant.frame.budget;
+        first_measure = c.in_ok-next_turn.ensures.turned.frame.first_measure ∙ c.loop-files.invariant.frame.first_measure;
       };
-      ready = c.turn.ensures.ready;
-      moves = moves-turned c.in_ok-turn.field-0 _ _ _ c.loop-files.kernel c.turn.new.kernel c.loop-files.invariant.frame c.in_ok-turn.ensures.turned.ends c.loop-files.invariant.moves;
-      fit = c.turn.ensures.fit;
-      log = λ G first h. has_log-turned c.in_ok-turn.field-0 _ G c.args.log.now first c.loop-files.kernel c.turn.new.kernel (g.F.Files.held c.loop-files.files) c.in_ok-turn.ensures.turned.ends (c.loop-files.invariant.log G first h);
+      ready = c.next_turn.ensures.ready;
+      moves = moves-turned c.in_ok-next_turn.field-0 _ _ _ c.loop-files.kernel c.next_turn.new.kernel c.loop-files.invariant.frame c.in_ok-next_turn.ensures.turned.ends c.loop-files.invariant.moves;
+      fit = c.next_turn.ensures.fit;
+      log = λ G first h. has_log-turned c.in_ok-next_turn.field-0 _ G c.args.log.now first c.loop-files.kernel c.next_turn.new.kernel (g.F.Files.held c.loop-files.files) c.in_ok-next_turn.ensures.turned.ends (c.loop-files.invariant.log G first h);
       later = c.loop-files.invariant.later;
     }
 
 pub returns-in-Settled-clause-goes_on : goal.returns-in-Settled-clause-goes_on
 returns-in-Settled-clause-goes_on g c =
     record {
-      log = λ G first h. has_log-turned c.in_ok-turn.field-0 _ G c.args.log.now first c.loop-files.kernel c.turn.new.kernel (g.F.Files.held c.loop-files.files) c.in_ok-turn.ensures.turned.ends (c.loop-files.invariant.log G first h);
+      log = λ G first h. has_log-turned c.in_ok-next_turn.field-0 _ G c.args.log.now first c.loop-files.kernel c.next_turn.new.kernel (g.F.Files.held c.loop-files.files) c.in_ok-next_turn.ensures.turned.ends (c.loop-files.invariant.log G first h);
       left = λ G first h. tt;
       cause = λ e. cc;
       later = c.loop-files.invariant.later;
@@ -63,7 +63,7 @@ returns-in-Settled-clause-goes_on g c =
 pub returns-in-Spent-clause-goes_on : goal.returns-in-Spent-clause-goes_on
 returns-in-Spent-clause-goes_on g c =
     record {
-      log = λ G first h. has_log-turned c.in_ok-turn.field-0 _ G c.args.log.now first c.loop-files.kernel c.turn.new.kernel (g.F.Files.held c.loop-files.files) c.in_ok-turn.ensures.turned.ends (c.loop-files.invariant.log G first h);
+      log = λ G first h. has_log-turned c.in_ok-next_turn.field-0 _ G c.args.log.now first c.loop-files.kernel c.next_turn.new.kernel (g.F.Files.held c.loop-files.files) c.in_ok-next_turn.ensures.turned.ends (c.loop-files.invariant.log G first h);
       left = λ G first h. tt;
       cause = λ e. cc;
       later = c.loop-files.invariant.later;
@@ -71,8 +71,8 @@ returns-in-Spent-clause-goes_on g c =
 
 pub returns-in-Settled-clause-stops : goal.returns-in-Settled-clause-stops
 returns-in-Settled-clause-stops g c =
-    stops-settled c.in_ok-turn.field-0 _ _ c.args.kernel.now c.loop-files.kernel c.turn.new.kernel c.in-Settled.is c.loop-files.invariant.frame c.in_ok-turn.ensures.turned.ends c.loop-files.invariant.moves
+    stops-settled c.in_ok-next_turn.field-0 _ _ c.args.kernel.now c.loop-files.kernel c.next_turn.new.kernel c.in-Settled.is c.loop-files.invariant.frame c.in_ok-next_turn.ensures.turned.ends c.loop-files.invariant.moves
 
 pub returns-in-Spent-clause-stops : goal.returns-in-Spent-clause-stops
 returns-in-Spent-clause-stops g c =
-    stops-spent c.in_ok-turn.field-0 _ _ c.args.kernel.now c.loop-files.kernel c.turn.new.kernel c.in-Spent.is c.loop-files.invariant.frame c.in_ok-turn.ensures.turned.ends c.loop-files.invariant.moves
+    stops-spent c.in_ok-next_turn.field-0 _ _ c.args.kernel.now c.loop-files.kernel c.next_turn.new.kernel c.in-Spent.is c.loop-files.invariant.frame c.in_ok-next_turn.ensures.turned.ends c.loop-files.invariant.moves

@@ -1,5 +1,5 @@
 use Rattle.std.proofs.Common.{vec_len}
 use Rattle.q_equiv.proofs.components.Components.close.Given as goal
 
-abbrev pub decreases-loop-place : goal.decreases-loop-place
-decreases-loop-place l = vec_len l.self.open
+abbrev pub decreases-loop-number : goal.decreases-loop-number
+decreases-loop-number l = vec_len l.self.open

@@ -1,4 +1,5 @@
 use Rattle.std.proofs.Common.{List, Option, [], ◌∷◌, ◌++◌, map, append-nil, ap, sym, ◌∙◌}
+use Rattle.q_judge.specs.Ledgers.{formula_in}
 use Rattle.q_herbrand.specs.declared.reversal.Reversal.{Reversal as Entry}
 use Rattle.q_herbrand.specs.Entries.{entry_of, entries_of}
 use Rattle.q_herbrand.proofs.Noting.{map_last, noted-by}
@@ -8,8 +9,9 @@ pub returns-in-Some-clause-noted : goal.returns-in-Some-clause-noted
 returns-in-Some-clause-noted c F ss h =
     let old = c.self.inside.entries.items in
     noted-by F ss c.args.self.now
-    (record { formula = c.pass.new.course; reversals = map entry_of c.push_reserved.new.self.items })
-    c.self.inside.course old c.args.step.now c.in_ok-entry.entry c.self.view_is h c.requires c.in_ok-entry.ensures
+    (record { formula = formula_in c.pass.new.ledger; reversals = map entry_of c.push_reserved.new.self.items })
+    (formula_in c.self.inside.ledger) old c.args.step.now c.in_ok-entry.entry c.self.view_is h c.requires
+    c.in_ok-entry.ensures
     (ap (map entry_of) (c.push_reserved.ensures.items
     ∙ ap (λ (xs : List Entry). xs ++ c.in-Some.entry ∷ []) c.in_ok-reserve.ensures.items)
     ∙ map_last old c.in-Some.entry
@@ -19,8 +21,9 @@ pub returns-in_default-clause-noted : goal.returns-in_default-clause-noted
 returns-in_default-clause-noted c F ss h =
     let old = c.self.inside.entries.items in
     noted-by F ss c.args.self.now
-    (record { formula = c.pass.new.course; reversals = map entry_of c.reserve.new.self.items })
-    c.self.inside.course old c.args.step.now c.in_ok-entry.entry c.self.view_is h c.requires c.in_ok-entry.ensures
+    (record { formula = formula_in c.pass.new.ledger; reversals = map entry_of c.reserve.new.self.items })
+    (formula_in c.self.inside.ledger) old c.args.step.now c.in_ok-entry.entry c.self.view_is h c.requires
+    c.in_ok-entry.ensures
     (ap (map entry_of) c.in_ok-reserve.ensures.items
     ∙ sym (append-nil (map entry_of old))
     ∙ ap (λ (o : Option Entry). map entry_of old ++ entries_of o) (sym c.in_default.is))

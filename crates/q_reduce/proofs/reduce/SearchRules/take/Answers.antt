@@ -1,12 +1,9 @@
 use Rattle.std.proofs.Common.{◌∙◌, sym, true≢false, rules}
-use Rattle.q_kernel.specs.Kernels.{slots}
 use Rattle.q_rule.proofs.Answering.{tries-no, tries-yes}
 use Rattle.q_rule.proofs.Results.{fits-view, taken}
 use Rattle.q_reduce.specs.Targets.{target_of}
-use Rattle.q_reduce.specs.Hops.{IsTouched}
 use Rattle.q_reduce.proofs.Results.{fits-applies}
 use Rattle.q_reduce.proofs.Separating.{regions-view, regions-taken}
-use Rattle.q_reduce.proofs.Bridging.{hops-view, hops-taken}
 use Rattle.q_reduce.proofs.reduce.SearchRules.take.Goals as goal
 
 pub returns-then-not-branch-clause-tries : goal.returns-then-not-branch-clause-tries
@@ -30,18 +27,11 @@ returns-clause-tries c =
 
 pub returns-in_err-reserve_log-clause-fit : goal.returns-in_err-reserve_log-clause-fit
 returns-in_err-reserve_log-clause-fit c =
-    let k = c.args.kernel.now in
-    record {
-      regions = rw c.loosen.ensures.regions (regions-view k c.reserve_log.new.kernel c.fits.new.search.regions c.reserve_log.ensures.view c.fits.ensures.fit.regions);
-      hops = hops-view k c.reserve_log.new.kernel (IsTouched k.prefix (slots k) c.args.target.now) c.fits.new.search.hops c.loosen.new.self.hops c.reserve_log.ensures.view c.fits.ensures.fit.hops c.loosen.ensures.hops;
-    }
+    record { regions = regions-view c.args.kernel.now c.reserve_log.new.kernel c.fits.new.search.regions c.reserve_log.ensures.view c.fits.ensures.fit.regions }
 
 pub returns-clause-fit : goal.returns-clause-fit
 returns-clause-fit c =
     let B = c.args.bounds.now in
     let k = c.args.kernel.now in
     let t = taken B k c.reserve_log.new.kernel c.take.new.kernel (target_of c.args.target.now) (fits-applies B k c.args.target.now c.requires.ready.limits ((c.in_ok-fits.ensures.fits B).0 c.if-not-branch.false)) c.in_ok-reserve_log.ensures.view c.take.ensures in
-    record {
-      regions = rw (c.forget_if_empty.ensures.regions, c.loosen.ensures.regions) (regions-taken B k c.take.new.kernel c.fits.new.search.regions c.args.target.now t c.fits.ensures.fit.regions);
-      hops = hops-taken B k c.take.new.kernel c.args.target.now c.fits.new.search.hops c.loosen.new.self.hops c.forget_if_empty.new.self.hops t c.fits.ensures.fit.hops c.loosen.ensures.hops c.forget_if_empty.ensures.hops;
-    }
+    record { regions = regions-taken B k c.take.new.kernel c.fits.new.search.regions c.args.target.now t c.fits.ensures.fit.regions }

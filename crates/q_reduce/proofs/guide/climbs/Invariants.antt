@@ -1,8 +1,0 @@
-use Rattle.q_logic.specs.Formulas.{Clause}
-use Rattle.q_logic.specs.Numbered.{others}
-use Rattle.q_kernel.specs.Kernels.{slots}
-use Rattle.q_reduce.specs.Hops.{IsMet}
-use Rattle.q_reduce.proofs.guide.climbs.Given as goal
-
-abbrev pub invariant-loop : goal.invariant-loop
-invariant-loop l = (C : Clause) → IsMet l.kernel.prefix (others l.c (slots l.kernel)) C l.u l.fn.from → IsMet l.kernel.prefix (others l.c (slots l.kernel)) C l.u l.at

@@ -1,6 +1,0 @@
-use Rattle.std.proofs.Common.{◌∙◌, sym}
-use Rattle.q_rule.proofs.Quantifiers.{bound-universal}
-use Rattle.q_reduce.proofs.guide.serves.Goals as goal
-
-pub outer_or_same-requires-clause-b : goal.outer_or_same-requires-clause-b
-outer_or_same-requires-clause-b c = rw c.prefix.ensures (bound-universal c.args.kernel.now.prefix c.args.block (sym c.is_universal.ensures ∙ c.if-is_universal.true))
