@@ -5,7 +5,7 @@
 mod copying;
 mod running;
 
-ghost use Rattle.std.specs.Prelude.{◌≡◌, ◌×◌, ◌∷◌, [], codes};
+ghost use Rattle.std.specs.Prelude.{◌∷◌, [], codes};
 ghost use Rattle.q_io.specs.Files.{bytes_at};
 ghost use Rattle.q_lib.specs.Calls.{Called, Copied, HoldsFour, HoldsOne, HoldsThree, over_three};
 
