@@ -1,6 +1,7 @@
 #!/bin/sh
 # Checks CaDiCaL's proof that a CNF is unsatisfiable, as a log from the CNF to the empty clause.
-# Usage: examples/check-cadical-proof.sh [CNF]
+# With a second word the log is written there with hints, and checked once more by these.
+# Usage: examples/check-cadical-proof.sh [CNF [HINTED]]
 set -u
 here=$(cd "$(dirname "$0")" && pwd)
 . "$here/common.sh"
@@ -39,4 +40,7 @@ if "$celdrinn" check "$in" "$work/out" "$work/log"; then
     echo "$in is unsatisfiable: cadical's proof is right"
 else
     exit 1
+fi
+if [ $# -ge 2 ]; then
+    "$celdrinn" annotate "$in" "$work/out" "$work/log" "$2" && "$celdrinn" check "$in" "$work/out" "$2"
 fi

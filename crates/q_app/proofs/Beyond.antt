@@ -18,6 +18,7 @@ use Rattle.q_command.specs.Logs.{steps_of}
 use Rattle.q_command.specs.declared.status.Status.{Status}
 use Rattle.q_command.specs.declared.status.Status.TheVariants as status
 use Rattle.q_command.proofs.Exact.{one_formula}
+use Rattle.q_command.proofs.Wholes.{run_of}
 use Rattle.q_command.proofs.Formulas.{file-formula}
 use Rattle.q_run_validate.specs.Validates.{ValidateFiles, ValidatesExactly}
 use Rattle.q_run_refute.specs.Refutes.{RefuteFiles, AreHerbrand, IsWhole, RefutesExactly}
@@ -37,7 +38,7 @@ fails n before k F f t =
     let from : F ≡ k.run.from = one_formula (bytes_at before n.input) F k.run.from f k.run.is_input in
     let g = file-formula (bytes_at before n.input) k.run.from k.run.is_input in
     herbrand-false k.run.to (trees_of k.given) (file-formula (bytes_at before n.output) k.run.to k.run.is_output) k.fits
-    ((run-true_to k.run.from (steps_of k.run.entries) k.run.to g (Run-justified k.run.from (steps_of k.run.entries) k.run.to k.run.log.run)).0 (subst Holds from t))
+    ((run-true_to k.run.from (steps_of k.run.entries) k.run.to g (Run-justified k.run.from (steps_of k.run.entries) k.run.to (run_of (bytes_at before n.log) k.run.from k.run.to k.run.entries k.run.log))).0 (subst Holds from t))
 
 some-same : (d e : Disk) → Some d ≡ Some e → d ≡ e
 some-same d e h = cc

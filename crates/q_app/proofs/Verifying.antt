@@ -1,5 +1,5 @@
 -- The files that `simplify` left, as `check` reads them.
-use Rattle.std.proofs.Common.{◌≡◌, ◌≢◌, ◌≤◌, ◌+◌, ◌∷◌, refl, sym, ap, ◌∙◌, subst, ℕ, List, [], length, Option, Some, unwrap_or}
+use Rattle.std.proofs.Common.{◌≡◌, ◌≢◌, ◌≤◌, ◌+◌, ◌∷◌, inl, refl, sym, ap, ◌∙◌, subst, ℕ, List, [], length, Option, Some, unwrap_or}
 use Rattle.std.specs.List.{AllByRecursion}
 use Rattle.q_logic.specs.Formulas.{PrenexFormula}
 use Rattle.q_logic.specs.Limits.{standard}
@@ -38,10 +38,10 @@ verified reread o F r input output log before after m n f s k =
       is_output = subst (λ (xs : List ℕ). IsFileOf xs s.result) (sym t) s.report.readable;
       holds = (
         on_lines 1 s.log.steps,
-        record {
+        inl (record {
           is_log = ap (Steps standard.bytes) l ∙ read;
           run = subst (λ (ts : List ProofStep). Run F ts s.result) (sym (steps_of-on_lines 1 s.log.steps)) s.log.run;
-        },
+        }),
       );
     } in
     subst (λ (x : Disk). IsVerified (bytes_at x input) (bytes_at x output) (bytes_at x log)) d all

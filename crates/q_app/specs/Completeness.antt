@@ -8,6 +8,7 @@ use Rattle.q_simplify.specs.Results.{IsEnoughFor}
 use Rattle.q_command.specs.Checks.{IsFileOf, IsVerified, IsNoRun}
 use Rattle.q_command.specs.Names.{ThreeNames}
 use Rattle.q_run_validate.specs.Validates.{AreValid, AreInvalid, AreUndecided}
+use Rattle.q_run_annotate.specs.Annotates.{IsPlainVerified, IsNoPlainRun}
 use Rattle.q_run_refute.specs.Refutes.{AreFitting as RefutesFitting, HasExtended}
 use Rattle.q_run_solve.specs.Solves.{IsEnded as IsSolved}
 use Rattle.q_app.specs.Operands.{Differ}
@@ -46,9 +47,10 @@ Answers (generating k name) disk given = OrNoMemory given status.Done
 Answers (solving n b) disk given =
     (F : PrenexFormula) → IsFileOf (bytes_at disk n.input) F →
     (IsSolved given ⊎ (given ≡ status.NoMemory)) × (b ≡ None → given ≢ status.Unknown)
+-- a plain log that leads there gets hints, another one is refused
 Answers (annotating n) disk given =
-    (IsVerified (bytes_at disk n.input) (bytes_at disk n.output) (bytes_at disk n.log) → OrNoMemory given status.Done)
-    × (IsNoRun (bytes_at disk n.input) (bytes_at disk n.output) (bytes_at disk n.log) → OrNoMemory given status.LogRefused)
+    (IsPlainVerified (bytes_at disk n.input) (bytes_at disk n.output) (bytes_at disk n.log) → OrNoMemory given status.Done)
+    × (IsNoPlainRun (bytes_at disk n.input) (bytes_at disk n.output) (bytes_at disk n.log) → OrNoMemory given status.LogRefused)
 Answers (refuting n) disk given =
     (RefutesFitting n disk → OrNoMemory given status.Done) × (HasExtended n disk → OrNoMemory given status.Extended)
 Answers (validating n b) disk given =

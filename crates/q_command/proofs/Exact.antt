@@ -1,11 +1,13 @@
 -- When each status comes.
-use Rattle.std.proofs.Common.{◌≡◌, ◌⊎◌, ◌↔◌, inl, inr, ◌∙◌, refl, sym, subst, ℕ, List, [], ◌∷◌, Option, Some, None, Ok, Err, IfSome}
+use Rattle.std.proofs.Common.{◌≡◌, ◌⊎◌, ◌↔◌, inl, inr, ◌∙◌, refl, sym, ap, subst, arith, ℕ, List, [], ◌∷◌, Option, Some, None, Ok, Err, IfSome}
 use Rattle.q_logic.specs.Formulas.{PrenexFormula}
 use Rattle.q_logic.specs.Prefixes.{IsFormula}
 use Rattle.q_logic.specs.Limits.{standard}
 use Rattle.q_logic.specs.Steps.{ProofStep, after}
 use Rattle.q_logic.specs.Runs.{ValidSteps, SameFormula}
 use Rattle.q_logic.specs.Truth.{Holds}
+use Rattle.q_logic.specs.Hinted.{Hinted, HintedSteps as AreValid, NumberedFormula, begun, plain, hinted_after}
+use Rattle.q_logic.proofs.HintedCauses.{HintedValid-no_cause}
 use Rattle.q_logic.proofs.Validity.{Valid-no_cause}
 use Rattle.q_logic.proofs.Justified.{Run-justified}
 use Rattle.q_logic.proofs.Repeated.{run-true_to}
@@ -14,7 +16,10 @@ use Rattle.q_dimacs.specs.Offences.{Offence, parse}
 use Rattle.q_dimacs.proofs.Grammar.{grammar_is_read}
 use Rattle.q_log.specs.declared.error.LogError.{LogError}
 use Rattle.q_log.specs.Logs as logs
-use Rattle.q_command.specs.Logs.{Entry, steps_of, IsFirstBad}
+use Rattle.q_hinted.specs.Logs.{read_entries}
+use Rattle.q_hinted.proofs.Profiles.{no-steps}
+use Rattle.q_command.specs.Logs.{Entry, HintedEntry, steps_of, hinted_of, IsFirstBad, IsFirstBadHinted, IsRefusedAt}
+use Rattle.q_command.proofs.Wholes.{second, not-both-profiles, run_of}
 use Rattle.q_command.specs.Statuses.{status_of}
 use Rattle.q_command.specs.declared.audit.Keep.{Keep}
 use Rattle.q_command.specs.declared.checking.Checked.{Checked}
@@ -23,7 +28,7 @@ use Rattle.q_command.specs.declared.outcome.Outcome.{Outcome}
 use Rattle.q_command.specs.declared.outcome.Outcome.TheVariants.{Verified, RefusedLine, RefusedEnd, RefusedInput, ReadFault, NoMemory}
 use Rattle.q_command.specs.declared.status.Status.{Status}
 use Rattle.q_command.specs.declared.status.Status.TheVariants as status
-use Rattle.q_command.specs.Checks.{IsFileOf, IsNoFormula, FilesPass, OfFormulas, LeadsTo, EndsElsewhere, LogSays, Checks, IsVerified, IsNoRun, HaveOneTruth, IfVerified, IsUnverified, MayCome, AnswersExactly}
+use Rattle.q_command.specs.Checks.{IsFileOf, IsNoFormula, FilesPass, OfFormulas, IsRunLog, LeadsTo, IsPlainWay, IsHintedWay, EndsElsewhere, Checks, IsVerified, IsNoRun, HaveOneTruth, IfVerified, IsUnverified, MayCome, AnswersExactly}
 
 -- a file has one formula, or an offence
 pub one_formula : (bytes : List ℕ) (F G : PrenexFormula) → IsFileOf bytes F → IsFileOf bytes G → F ≡ G
@@ -33,7 +38,7 @@ pub no_offence : (bytes : List ℕ) (F : PrenexFormula) (n c : ℕ) → Offence 
 no_offence bytes F n c o f = let e : parse standard bytes ≡ Ok F = grammar_is_read standard bytes F f in let d : parse standard bytes ≡ Err (reading.Refused n c) = o in cc
 
 -- what the files hold is determined
-carried : (i o : List ℕ) (P Q : PrenexFormula → PrenexFormula → Type 0) (p : OfFormulas i o P) (q : OfFormulas i o Q) → Q p.from p.to
+pub carried : (i o : List ℕ) (P Q : PrenexFormula → PrenexFormula → Type 0) (p : OfFormulas i o P) (q : OfFormulas i o Q) → Q p.from p.to
 carried i o P Q p q =
     subst (λ (F : PrenexFormula). Q F p.to) (one_formula i q.from p.from q.is_input p.is_input) (subst (λ (G : PrenexFormula). Q q.from G) (one_formula o q.to p.to q.is_output p.is_output) q.holds)
 
@@ -43,27 +48,52 @@ not_both F E [] n c b v = b
 not_both F E (e ∷ es) n c (inl (line, cause)) v = Valid-no_cause standard F e.1 c v.0 cause
 not_both F E (e ∷ es) n c (inr (valid, later)) v = not_both (after F e.1) E es n c later v.1
 
+not_both_hinted : (N M : NumberedFormula) (hs : List HintedEntry) (n c : ℕ) → IsFirstBadHinted N hs None n c → AreValid standard N (hinted_of hs) M → ⊥
+not_both_hinted N M [] n c b v = b
+not_both_hinted N M (h ∷ hs) n c (inl (line, cause)) v = HintedValid-no_cause standard N h.1.step h.1.proof c v.0 cause
+not_both_hinted N M (h ∷ hs) n c (inr (valid, later)) v = not_both_hinted (hinted_after N h.1.step h.1.proof) M hs n c later v.1
+
 all_or_none-some : (e : Option LogError) (steps es : List Entry) → logs.all_or_none e steps ≡ Some es → (e ≡ None) × (steps ≡ es)
 all_or_none-some None steps es h = (refl, cc)
 all_or_none-some (Some x) steps es h = cc
 
-line_no_run : (log : List ℕ) (F G : PrenexFormula) (n c : ℕ) → LogSays (RefusedLine n c) F G log → LeadsTo log F G → ⊥
-line_no_run log F G n c b (es, r) =
+pub line_no_run : (log : List ℕ) (F G : PrenexFormula) (n c : ℕ) → IsRefusedAt F log n c → LeadsTo log F G → ⊥
+line_no_run log F G n c (inl (one, b)) (es, inl r) =
     let p = all_or_none-some (logs.read standard.bytes log).refused (logs.read standard.bytes log).steps es r.is_log in
     not_both F r.run.last es n c (subst (λ x. IsFirstBad F es x n c) p.0 (subst (λ x. IsFirstBad F x (logs.read standard.bytes log).refused n c) p.1 b)) r.run.steps
+line_no_run log F G n c (inl (one, b)) (es, inr r) = let two = (second log r.hinted r.is_log).profile in absurd (omega (arith, one, two))
+line_no_run log F G n c (inr (two, b)) (es, inl r) =
+    let w : Some es ≡ None = sym r.is_log ∙ no-steps standard.bytes log two in
+    cc
+line_no_run log F G n c (inr (two, b)) (es, inr r) =
+    let p = second log r.hinted r.is_log in
+    not_both_hinted (begun F) r.run.last r.hinted n c (subst (λ x. IsFirstBadHinted (begun F) r.hinted x n c) p.refused (subst (λ x. IsFirstBadHinted (begun F) x (read_entries standard.bytes log).refused n c) p.hinted b)) r.run.steps
 
 valid-one : (F E L : PrenexFormula) (ss : List ProofStep) → ValidSteps standard F ss E → ValidSteps standard F ss L → E ≡ L
 valid-one F E L [] v w = sym v ∙ w
 valid-one F E L (s ∷ ss) v w = valid-one (after F s) E L ss v.1 w.1
 
-end_no_run : (log : List ℕ) (F G : PrenexFormula) (c : ℕ) → EndsElsewhere log F G c → LeadsTo log F G → ⊥
-end_no_run log F G c e (es, r) =
-    let same : e.entries ≡ es = some-same e.entries es (sym e.is_log ∙ r.is_log) in
-    let last : e.last ≡ r.run.last = valid-one F e.last r.run.last (steps_of es) (subst (λ x. ValidSteps standard F (steps_of x) e.last) same e.steps) r.run.steps in
-    e.differ (subst (λ (L : PrenexFormula). SameFormula L G) (sym last) r.run.same)
+hinted-one : (N E L : NumberedFormula) (hs : List Hinted) → AreValid standard N hs E → AreValid standard N hs L → E ≡ L
+hinted-one N E L [] v w = sym v ∙ w
+hinted-one N E L (h ∷ hs) v w = hinted-one (hinted_after N h.step h.proof) E L hs v.1 w.1
+
+some-same : {X : Type 0} (x y : X) → Some x ≡ Some y → x ≡ y
+some-same x y h = cc
+
+pub end_no_run : (log : List ℕ) (F G : PrenexFormula) (c : ℕ) → EndsElsewhere log F G c → LeadsTo log F G → ⊥
+end_no_run log F G c e (es, r) = go e.way r
   where
-    some-same : (xs ys : List Entry) → Some xs ≡ Some ys → xs ≡ ys
-    some-same xs ys h = cc
+    go : IsPlainWay log F e.last ⊎ IsHintedWay log F e.last → IsRunLog log F G es → ⊥
+    go (inl w) (inl r) =
+        let same : w.entries ≡ es = some-same w.entries es (sym w.is_log ∙ r.is_log) in
+        let last : e.last ≡ r.run.last = valid-one F e.last r.run.last (steps_of es) (subst (λ x. ValidSteps standard F (steps_of x) e.last) same w.steps) r.run.steps in
+        e.apart.differ (subst (λ (L : PrenexFormula). SameFormula L G) (sym last) r.run.same)
+    go (inl w) (inr r) = not-both-profiles log w.entries r.hinted w.is_log r.is_log
+    go (inr w) (inl r) = not-both-profiles log es w.hinted r.is_log w.is_log
+    go (inr w) (inr r) =
+        let same : w.hinted ≡ r.hinted = some-same w.hinted r.hinted (sym w.is_log ∙ r.is_log) in
+        let last : w.numbered ≡ r.run.last = hinted-one (begun F) w.numbered r.run.last (hinted_of r.hinted) (subst (λ x. AreValid standard (begun F) (hinted_of x) w.numbered) same w.steps) r.run.steps in
+        e.apart.differ (subst (λ (L : PrenexFormula). SameFormula L G) (sym (w.last_is ∙ ap plain last)) r.run.same)
 
 may_come : (answer : Status) (i o l : List ℕ) → MayCome answer → (answer ≡ status.Done → ⊥) → (answer ≡ status.LogRefused → ⊥) → (answer ≡ status.InputRefused → ⊥) → AnswersExactly answer i o l
 may_come answer i o l m d r n =
@@ -134,7 +164,7 @@ pub truth_files : {D : Type 0} (keep : Keep) (h : Option D) (i o l : D → List 
 truth_files keep None i o l c f p = tt
 truth_files keep (Some d) i o l c f p =
     one_truth (i d) (o d) c.from c.to p.is_input p.is_output
-    (run-true_to c.from (steps_of p.log.entries) c.to f (Run-justified c.from (steps_of p.log.entries) c.to p.log.leads.run))
+    (run-true_to c.from (steps_of p.log.entries) c.to f (Run-justified c.from (steps_of p.log.entries) c.to (run_of (l d) c.from c.to p.log.entries p.log.leads)))
 
 pub at_some : {X : Type 0} (P : X → Type 0) (o : Option X) (p : X) → Some p ≡ o → P p → IfSome o P
 at_some P o p e h = subst (λ x. IfSome x P) e h

@@ -1,4 +1,7 @@
 pub mod Feeding
+pub mod Entries
+pub mod Judging
+pub mod Wholes
 pub mod Auditing
 pub mod Concluding
 pub mod Exact

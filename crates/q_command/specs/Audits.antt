@@ -1,67 +1,57 @@
 -- A log that is tried while it is read: what some bytes of it do, and what its end says.
-use Rattle.std.specs.Prelude.{◌≡◌, ◌⊎◌, ◌+◌, ◌≤◌, ℕ, Bool, true, List, [], ◌++◌, length, take, drop, None}
+use Rattle.std.specs.Prelude.{◌≡◌, ◌≤◌, ◌+◌, ℕ, true, List, [], ◌++◌, length, take, drop, None}
 use Rattle.q_logic.specs.Formulas.{PrenexFormula}
 use Rattle.q_logic.specs.Limits.{standard}
-use Rattle.q_logic.specs.Prefixes.{blocks, SameBlocks}
-use Rattle.q_logic.specs.Steps.{ProofStep}
-use Rattle.q_logic.specs.Runs.{ValidSteps, SameFormula, AreAlike}
-use Rattle.q_logic.specs.Undos.{UndoEntry, Undos}
-use Rattle.q_log.specs.Logs as logs
-use Rattle.q_log.specs.Reading.{to_come}
-use Rattle.q_judge.specs.declared.error.CheckError.TheVariants as check
-use Rattle.q_judge.specs.Tried.{IsEndRefusal}
-use Rattle.q_check.specs.Checked.{Checked}
-use Rattle.q_check.specs.Alike.{Leads}
-use Rattle.q_command.specs.Logs.{Entry, steps_of, IsRefusedAt}
-use Rattle.q_command.specs.Taken.{HasAdded, HasKept, HasNone}
-use Rattle.q_command.specs.declared.taken.Taken.{Taken}
-use Rattle.q_command.specs.declared.taken.TakenStep.{TakenStep}
-use Rattle.q_command.specs.declared.audit.Keep.{Keep}
+use Rattle.q_hinted.specs.Logs.{Entry as BothEntry, read_entries, behind}
+use Rattle.q_hinted.specs.Reading.{to_come}
+use Rattle.q_command.specs.Checks.{LogPasses, LogSays}
+use Rattle.q_command.specs.Taken.{entries_of}
+use Rattle.q_command.specs.Judging.{SameTask}
+use Rattle.q_command.specs.Seats.{hints_taken}
+use Rattle.q_command.specs.Logs.{IsRefusedAt}
+use Rattle.q_command.specs.Trials.{IsBehind}
 use Rattle.q_command.specs.declared.audit.Audit.{Audit}
+use Rattle.q_command.specs.declared.audit.Keep.{Keep}
+use Rattle.q_command.specs.declared.audit.Passed.{Passed}
+use Rattle.q_command.specs.declared.trial.Trial.{Trial}
 use Rattle.q_command.specs.declared.outcome.Outcome.{Outcome}
 use Rattle.q_command.specs.declared.outcome.Outcome.TheVariants.{Verified, RefusedLine, RefusedEnd, RefusedInput, ReadFault, NoMemory}
 
--- steps in front of what is to come
-abbrev pub behind : List Entry → logs.Outcome → logs.Outcome
-behind es o = record { steps = es ++ o.steps; refused = o.refused }
-
--- the limits are those of the program, and there is room to count a step for each byte
+-- there is room to count a step for each byte
 pub record IsOpen (a : Audit) : Type 0 where
-  pub limits : a.checker.limits ≡ standard
-  pub room : a.taken.count + a.reader.left ≤ 1099511627776
+  pub room : a.trial.taken.count + a.reader.left ≤ 1099511627776
+  pub hints : hints_taken a.trial.judges.hinted ≤ a.trial.taken.count
 
--- where an undo list is kept, it has grown by that of the steps
-abbrev pub HasUndone : Bool → PrenexFormula → List ProofStep → List UndoEntry → List UndoEntry → Type 0
-HasUndone keep F ss old new = keep ≡ true → (us : List UndoEntry) × Undos F ss us × (new ≡ old ++ us)
+-- these bytes of the log are read, and all steps in them were tried
+pub record Stands (a : Audit) (bytes : List ℕ) : Type 0 where
+  pub entries : List BothEntry
+  pub log : (rest : List ℕ) → read_entries standard.bytes (bytes ++ rest) ≡ behind entries (to_come a.reader rest)
+  pub steps : IsBehind a.trial entries
 
--- the bytes handed out valid steps
+-- the formula, and what is kept
+pub record SameCharge (old new : Trial) : Type 0 where
+  pub task : SameTask old.judges new.judges
+  pub keeps : new.taken.keeps ≡ old.taken.keeps
+
+-- these bytes more are read
 pub record Advances (old new : Audit) (bytes : List ℕ) : Type 0 where
-  pub entries : List Entry
-  pub log : (rest : List ℕ) → to_come old.reader (bytes ++ rest) ≡ behind entries (to_come new.reader rest)
-  pub tried : (F : PrenexFormula) → AreAlike F old.checker.formula → Leads standard F (steps_of entries) new.checker.formula
-  pub undone : (F : PrenexFormula) → AreAlike F old.checker.formula → HasUndone old.checker.keeps F (steps_of entries) old.checker.undo new.checker.undo
-  pub keeps : new.checker.keeps ≡ old.checker.keeps
-  pub kept : HasKept old.taken.keeps entries old.taken.steps.items new.taken.steps.items
-  pub keeps_steps : new.taken.keeps ≡ old.taken.keeps
-  pub few : length entries ≤ length bytes
-  pub counted : new.taken.count ≡ old.taken.count + length entries
+  pub stands : (front : List ℕ) → Stands old front → Stands new (front ++ bytes)
+  pub same : SameCharge old.trial new.trial
   pub left : new.reader.left + length bytes ≡ old.reader.left
   pub goes_on : IsOpen new
 
--- one step more is counted, and kept on demand
-pub record Counts (e : Entry) (old new : Audit) : Type 0 where
-  pub reader : new.reader ≡ old.reader
-  pub checker : new.checker ≡ old.checker
-  pub taken : HasAdded e old.taken new.taken
+-- what is said of a log before its end
+abbrev pub Stops : Outcome → PrenexFormula → List ℕ → Type 0
+Stops (Verified n) F log = ⊥
+Stops (RefusedLine n c) F log = IsRefusedAt F log n c
+Stops (RefusedEnd c) F log = ⊥
+Stops (RefusedInput r n c) F log = ⊥
+Stops ReadFault F log = Unit {0}
+Stops NoMemory F log = Unit {0}
 
--- a refusal is that of all bytes that follow
+-- it is so of the log that has these bytes behind those that are read
 abbrev pub Refuses : Outcome → Audit → List ℕ → Type 0
-Refuses (Verified n) a bytes = ⊥
-Refuses (RefusedLine n c) a bytes = (F : PrenexFormula) → AreAlike F a.checker.formula → IsRefusedAt F (to_come a.reader bytes) n c
-Refuses (RefusedEnd c) a bytes = ⊥
-Refuses (RefusedInput r n c) a bytes = ⊥
-Refuses ReadFault a bytes = Unit {0}
-Refuses NoMemory a bytes = Unit {0}
+Refuses o a bytes = (front : List ℕ) → Stands a front → Stops o a.trial.judges.formula (front ++ bytes)
 
 -- n bytes of the file were tried, from a place on
 pub record HasTaken (file : List ℕ) (place n : ℕ) (old new : Audit) : Type 0 where
@@ -69,50 +59,47 @@ pub record HasTaken (file : List ℕ) (place n : ℕ) (old new : Audit) : Type 0
   pub left : n ≤ length (drop place file)
   pub end : n ≡ 0 → length file ≤ place
 
--- what a refusal at the end of the checker says
-abbrev pub EndsAs : Outcome → PrenexFormula → PrenexFormula → Type 0
-EndsAs (Verified n) F G = ⊥
-EndsAs (RefusedLine n c) F G = ⊥
-EndsAs (RefusedEnd c) F G = IsEndRefusal F G (check.Refused c)
-EndsAs (RefusedInput r n c) F G = ⊥
-EndsAs ReadFault F G = ⊥
-EndsAs NoMemory F G = Unit {0}
+-- these are all steps of the log, and they were tried
+pub record IsAllOf (log : List ℕ) (t : Trial) : Type 0 where
+  pub entries : List BothEntry
+  pub is_log : read_entries standard.bytes log ≡ record { entries = entries; refused = None }
+  pub steps : IsBehind t entries
 
--- the log has come to its end behind these steps
-pub record EndsWith (a : Audit) (es : List Entry) (F last : PrenexFormula) : Type 0 where
-  pub log : to_come a.reader [] ≡ record { steps = es; refused = None }
-  pub steps : ValidSteps standard F (steps_of es) last
+-- the log has come to its end
+pub record HasEnded (a : Audit) (t : Trial) : Type 0 where
+  pub all : (log : List ℕ) → Stands a log → IsAllOf log t
+  pub same : SameCharge a.trial t
 
--- the log ends in the output G, with so many steps, this undo list, and these steps where they are kept
-abbrev pub Passes : Audit → PrenexFormula → ℕ → List UndoEntry → List TakenStep → Type 0
-Passes a G n us ts =
-    (F : PrenexFormula) → AreAlike F a.checker.formula →
-    (es : List Entry) × (last : PrenexFormula) × EndsWith a es F last × SameFormula last G × (n ≡ a.taken.count + length es)
-    × HasUndone a.checker.keeps F (steps_of es) a.checker.undo us × HasKept a.taken.keeps es a.taken.steps.items ts
+abbrev pub kept_by : Trial → Keep
+kept_by t = record { undo = t.judges.keeps_undo; steps = t.taken.keeps }
+
+-- this is left of the log: the formula F, how many steps there are, and on demand their undo list and they themselves
+pub record LogIsTaken (keep : Keep) (log : List ℕ) (F G : PrenexFormula) (p : Passed) : Type 0 where
+  pub from : p.from ≡ F
+  pub passes : LogPasses keep.undo log F G p.steps p.undo
+  pub taken : keep.steps ≡ true → entries_of p.taken.items ≡ passes.entries
+
+-- what is left of a log whose steps were all tried
+abbrev pub HasLeft : Trial → PrenexFormula → Passed → Type 0
+HasLeft t G p = (log : List ℕ) → IsAllOf log t → LogIsTaken (kept_by t) log t.judges.formula G p
+
+-- what is said of a log whose steps were all tried
+abbrev pub HasFailed : Outcome → Trial → PrenexFormula → Type 0
+HasFailed o t G = (log : List ℕ) → IsAllOf log t → LogSays o t.judges.formula G log
+
+-- the log ends in the output G, and this is left
+abbrev pub Passes : Audit → PrenexFormula → Passed → Type 0
+Passes a G p = (log : List ℕ) → Stands a log → LogIsTaken (kept_by a.trial) log a.trial.judges.formula G p
 
 -- what is said at the end, where the log does not end in the output G
 abbrev pub Concludes : Outcome → Audit → PrenexFormula → Type 0
-Concludes (Verified n) a G = ⊥
-Concludes (RefusedLine n c) a G = (F : PrenexFormula) → AreAlike F a.checker.formula → IsRefusedAt F (to_come a.reader []) n c
-Concludes (RefusedEnd c) a G =
-    (F : PrenexFormula) → AreAlike F a.checker.formula →
-    (es : List Entry) × (last : PrenexFormula) × EndsWith a es F last × (¬ SameFormula last G)
-    × (((c ≡ 9) × ¬ SameBlocks (blocks last.prefix) (blocks G.prefix)) ⊎ ((c ≡ 10) × SameBlocks (blocks last.prefix) (blocks G.prefix)))
-Concludes (RefusedInput r n c) a G = ⊥
-Concludes ReadFault a G = ⊥
-Concludes NoMemory a G = Unit {0}
+Concludes o a G = (log : List ℕ) → Stands a log → LogSays o a.trial.judges.formula G log
 
--- the log has come to its end behind these steps, and this checker has what is left: what it leaves or says there is so of the log
-pub record EndsLog (a : Audit) (last : Checked) (t : Taken) : Type 0 where
-  pub passes : (G : PrenexFormula) → SameFormula last.formula G → Passes a G t.count last.undo t.steps.items
-  pub concludes : (o : Outcome) (G : PrenexFormula) → EndsAs o last.formula G → Concludes o a G
-
--- nothing is read yet, the checker has the formula, and it is told what to keep
+-- nothing is read yet, the log begins with the formula, and it is told what to keep
 pub record IsStarted (a : Audit) (keep : Keep) (F : PrenexFormula) : Type 0 where
-  pub log : (bytes : List ℕ) → to_come a.reader bytes ≡ logs.read standard.bytes bytes
-  pub alike : AreAlike F a.checker.formula
-  pub undo : a.checker.undo ≡ []
-  pub keeps : a.checker.keeps ≡ keep.undo
-  pub taken : HasNone keep.steps a.taken
+  pub stands : Stands a []
+  pub formula : a.trial.judges.formula ≡ F
+  pub undo : a.trial.judges.keeps_undo ≡ keep.undo
+  pub steps : a.trial.taken.keeps ≡ keep.steps
   pub left : a.reader.left ≡ 1099511627776
   pub goes_on : IsOpen a

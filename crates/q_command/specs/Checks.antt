@@ -1,17 +1,18 @@
 -- What `check` answers over the bytes of its three files.
 use Rattle.std.specs.Prelude.{◌≡◌, ◌⊎◌, ◌↔◌, ℕ, Bool, true, List, length, Some}
 use Rattle.q_logic.specs.Formulas.{PrenexFormula}
+use Rattle.q_logic.specs.Hinted.{HintedRun, HintedSteps as AreValid, NumberedFormula, begun, plain}
 use Rattle.q_logic.specs.Limits.{standard}
-use Rattle.q_logic.specs.Prefixes.{blocks, SameBlocks}
 use Rattle.q_logic.specs.Steps.{ProofStep}
-use Rattle.q_logic.specs.Runs.{ValidSteps, SameFormula, Run}
+use Rattle.q_logic.specs.Runs.{ValidSteps, Run}
 use Rattle.q_logic.specs.Truth.{Holds}
 use Rattle.q_logic.specs.Undos.{UndoEntry, Undos}
 use Rattle.q_dimacs.specs.Dimacs.{Dimacs}
 use Rattle.q_dimacs.specs.Offences.{Offence}
-use Rattle.q_log.specs.Logs.{Steps, read}
-use Rattle.q_command.specs.Logs.{Entry, steps_of, IsRefusedAt}
-use Rattle.q_command.specs.Taken.{AreOfLog}
+use Rattle.q_log.specs.Logs.{Steps}
+use Rattle.q_hinted.specs.Logs.{HintedSteps}
+use Rattle.q_command.specs.Logs.{Entry, HintedEntry, steps_of, hinted_of, stripped, EndsApart, IsRefusedAt}
+use Rattle.q_command.specs.Taken.{entries_of}
 use Rattle.q_command.specs.declared.audit.Keep.{Keep}
 use Rattle.q_command.specs.declared.checking.Checked.{Checked}
 use Rattle.q_command.specs.declared.outcome.Role.{Role}
@@ -38,25 +39,46 @@ pub record OfFormulas (input output : List ℕ) (P : PrenexFormula → PrenexFor
   pub is_output : IsFileOf output to
   pub holds : P from to
 
--- the bytes are a log whose steps are a run from F to G
-pub record IsRunLog (log : List ℕ) (F G : PrenexFormula) (entries : List Entry) : Type 0 where
+-- the bytes are a plain log whose steps are a run from F to G
+pub record IsPlainRunLog (log : List ℕ) (F G : PrenexFormula) (entries : List Entry) : Type 0 where
   pub is_log : Steps standard.bytes log ≡ Some entries
   pub run : Run F (steps_of entries) G
+
+-- the bytes are a log of the second profile, whose steps with their proof parts are a hinted run from F to G; without
+-- these parts the steps are the entries
+pub record IsHintedRunLog (log : List ℕ) (F G : PrenexFormula) (entries : List Entry) : Type 0 where
+  pub hinted : List HintedEntry
+  pub is_log : HintedSteps standard.bytes log ≡ Some hinted
+  pub run : HintedRun F (hinted_of hinted) G
+  pub entries_are : entries ≡ stripped hinted
+
+-- the bytes are a log of either profile that leads from F to G by these steps
+abbrev pub IsRunLog : List ℕ → PrenexFormula → PrenexFormula → List Entry → Type 0
+IsRunLog log F G entries = IsPlainRunLog log F G entries ⊎ IsHintedRunLog log F G entries
 
 abbrev pub LeadsTo : List ℕ → PrenexFormula → PrenexFormula → Type 0
 LeadsTo log F G = (entries : List Entry) × IsRunLog log F G entries
 
+-- the bytes are a plain log whose steps are valid from F on, and leave this formula
+pub record IsPlainWay (log : List ℕ) (F last : PrenexFormula) : Type 0 where
+  pub entries : List Entry
+  pub is_log : Steps standard.bytes log ≡ Some entries
+  pub steps : ValidSteps standard F (steps_of entries) last
+
+-- the bytes are a log of the second profile whose steps are valid as their proof parts show
+pub record IsHintedWay (log : List ℕ) (F last : PrenexFormula) : Type 0 where
+  pub hinted : List HintedEntry
+  pub is_log : HintedSteps standard.bytes log ≡ Some hinted
+  pub numbered : NumberedFormula
+  pub steps : AreValid standard (begun F) (hinted_of hinted) numbered
+  pub last_is : last ≡ plain numbered
+
 -- the steps are valid and end in a formula other than G: cause 9 where the blocks differ, 10 where
 -- only the clauses do
 pub record EndsElsewhere (log : List ℕ) (F G : PrenexFormula) (cause : ℕ) : Type 0 where
-  pub entries : List Entry
   pub last : PrenexFormula
-  pub is_log : Steps standard.bytes log ≡ Some entries
-  pub steps : ValidSteps standard F (steps_of entries) last
-  pub differ : ¬ SameFormula last G
-  pub why :
-      ((cause ≡ 9) × ¬ SameBlocks (blocks last.prefix) (blocks G.prefix))
-      ⊎ ((cause ≡ 10) × SameBlocks (blocks last.prefix) (blocks G.prefix))
+  pub way : IsPlainWay log F last ⊎ IsHintedWay log F last
+  pub apart : EndsApart last G cause
 
 -- the log leads from F to G by so many steps, and where an undo list is kept, this is theirs
 pub record LogPasses (keep : Bool) (log : List ℕ) (F G : PrenexFormula) (n : ℕ) (us : List UndoEntry) : Type 0 where
@@ -74,12 +96,12 @@ pub record FilesPass (keep : Keep) (i o l : List ℕ) (c : Checked) : Type 0 whe
   pub is_input : IsFileOf i c.from
   pub is_output : IsFileOf o c.to
   pub log : LogPasses keep.undo l c.from c.to c.steps c.undo
-  pub taken : AreOfLog keep.steps l c.taken.items
+  pub taken : keep.steps ≡ true → entries_of c.taken.items ≡ log.entries
 
 -- what the outcome says of a log, from the formula F to G
 abbrev pub LogSays : Outcome → PrenexFormula → PrenexFormula → List ℕ → Type 0
 LogSays (Verified n) F G log = (entries : List Entry) × IsRunLog log F G entries × (n ≡ length entries)
-LogSays (RefusedLine n c) F G log = IsRefusedAt F (read standard.bytes log) n c
+LogSays (RefusedLine n c) F G log = IsRefusedAt F log n c
 LogSays (RefusedEnd c) F G log = EndsElsewhere log F G c
 LogSays (RefusedInput r n c) F G log = ⊥
 LogSays ReadFault F G log = Unit {0}

@@ -6,6 +6,9 @@ pub mod Inputs
 pub mod Logs
 pub mod Refusals
 pub mod Taken
+pub mod Seats
+pub mod Judging
+pub mod Trials
 pub mod Audits
 pub mod Checks
 pub mod Texts

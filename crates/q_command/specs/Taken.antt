@@ -1,9 +1,7 @@
 -- The valid steps of a log, as they are counted and kept.
-use Rattle.std.specs.Prelude.{◌≡◌, ◌+◌, ℕ, Bool, true, List, [], ◌∷◌, ◌++◌, Some}
+use Rattle.std.specs.Prelude.{◌≡◌, ◌+◌, Bool, true, List, [], ◌∷◌, ◌++◌}
 use Rattle.q_logic.specs.Formulas.{PrenexFormula}
-use Rattle.q_logic.specs.Limits.{standard}
 use Rattle.q_logic.specs.Runs.{Run}
-use Rattle.q_log.specs.Logs.{Steps}
 use Rattle.q_command.specs.Logs.{Entry, steps_of}
 use Rattle.q_command.specs.declared.taken.Taken.{Taken}
 use Rattle.q_command.specs.declared.taken.TakenStep.{TakenStep}
@@ -28,10 +26,6 @@ pub record HasAdded (e : Entry) (old new : Taken) : Type 0 where
   pub count : new.count ≡ old.count + 1
   pub keeps : new.keeps ≡ old.keeps
   pub steps : HasKept old.keeps (e ∷ []) old.steps.items new.steps.items
-
--- where steps are kept, they are those of the log
-abbrev pub AreOfLog : Bool → List ℕ → List TakenStep → Type 0
-AreOfLog keeps log ts = keeps ≡ true → Steps standard.bytes log ≡ Some (entries_of ts)
 
 -- where steps are kept, they lead from F to G
 abbrev pub AreRun : Bool → PrenexFormula → PrenexFormula → List TakenStep → Type 0

@@ -1,20 +1,18 @@
 // A log is tried step by step, while it is read.
-ghost use Rattle.std.specs.Prelude.{◌≡◌, ◌≤◌, ◌<◌, ◌+◌, ◌-◌, ◌^◌, List, ℕ, length, IfOk, IfErr, OnOk, IfSome, IsErrOf, [], ◌∷◌, ◌++◌, drop};
-ghost use Rattle.q_logic.specs.Limits.{standard};
+ghost use Rattle.std.specs.Prelude.{◌≡◌, ◌≤◌, ◌<◌, ◌+◌, List, ℕ, length, take, IfOk, IfErr, OnOk, IfSome, IsErrOf, [], ◌++◌, drop};
 ghost use Rattle.q_io.specs.Files.{OnlyReads, RoseFor, bytes_at};
-ghost use Rattle.q_logic.specs.Formulas.{PrenexFormula};
-ghost use Rattle.q_logic.specs.Runs.{SameFormula};
 ghost use Rattle.q_command.specs.Checks.{IsUnverified};
-ghost use Rattle.q_command.specs.Taken.{HasAdded};
-ghost use Rattle.q_command.specs.Audits.{IsOpen, Advances, Counts, Refuses, Passes, Concludes, IsStarted, HasTaken, EndsAs, EndsLog};
+ghost use Rattle.q_command.specs.Audits.{IsOpen, Advances, Refuses, HasTaken, HasEnded, HasLeft, HasFailed, Passes, Concludes, IsStarted};
 
+use crate::judges::Judges;
 use crate::outcome::Outcome;
-use crate::refusals::{log_refusal, step_refusal};
+use crate::refusals::log_refusal;
 use crate::taken::{Taken, TakenStep};
-use q_check::{CheckError, Checker, Undos};
+use crate::trial::Trial;
+use q_check::{CheckError, Undos};
+use q_hinted::BothReader;
 use q_io::{DeviceError, Files};
-use q_log::LogReader;
-use q_logic::{Formula, Limits, NoMemory, Step};
+use q_logic::{Formula, Limits, NoMemory};
 use std::alloc::Global;
 
 /// What is kept of a log while it is checked: the undo list of its steps, and the steps with their lines.
@@ -24,72 +22,63 @@ pub struct Keep {
     pub steps: bool,
 }
 
-/// What is left of a log whose steps are a run.
+/// What is left of a log whose steps are a run from this formula.
 #[derive(Drop)]
 pub(crate) struct Passed {
+    pub from: Formula,
     pub steps: u64,
     pub undo: Undos,
     pub taken: Vec<TakenStep>,
 }
 
-/// The reader of a log, the checker over the steps so far, and what is kept of them.
+/// The reader of a log of either profile, and the steps so far on trial.
 #[derive(Drop)]
 pub(crate) struct Audit {
-    reader: LogReader,
-    checker: Checker,
-    taken: Taken,
+    reader: BothReader,
+    trial: Trial,
 }
 
 impl Audit {
-    /// Nothing is read, and the checker has the formula.
-    pub fn start(alloc: Global, formula: &Formula, keep: Keep) -> Result<Audit, NoMemory>
-        ensures { IfOk result (λ a. IsStarted a keep formula.now) }
+    /// Nothing is read, and the log begins with this formula.
+    pub fn start(alloc: Global, formula: Formula, keep: Keep) -> Result<Audit, NoMemory>
+        ensures { IfOk result (λ a. IsStarted a keep formula) }
     {
-        let limits = Limits::standard();
-        let Ok(reader) = LogReader::new(alloc, limits.bytes) else {
+        let Ok(reader) = BothReader::new(alloc, Limits::standard().bytes) else {
             return Err(NoMemory);
         };
-        let Ok(checker) = Checker::start(alloc, formula, limits, keep.undo) else {
-            return Err(NoMemory);
-        };
+        let judges = Judges::new(alloc, formula, keep.undo);
+        let taken = Taken::new(alloc, keep.steps);
         Ok(Audit {
             reader,
-            checker,
-            taken: Taken::new(alloc, keep.steps),
+            trial: Trial { judges, taken },
         })
     }
 
-    // Takes one byte, and tries the step that it makes whole.
-    fn take_byte(&mut self, byte: u8) -> Result<(), Outcome>
-        requires { IsOpen self.old }
-        ensures ok { OnOk result (Advances self.old self.new (byte ∷ [])) }
-        ensures refused { IfErr result (λ o. (rest : List ℕ) → Refuses o self.old (byte ∷ rest)) }
+    // Takes some bytes at the front of the piece, and tries the step that the last of them makes whole. The memory of one
+    // that isn't kept serves for the next one.
+    fn take_some(&mut self, piece: &[u8]) -> Result<usize, Outcome>
+        requires some { 0 < length piece.now }
+        requires goes_on { IsOpen self.old }
+        ensures within { IfOk result (λ n. (0 < n) × (n ≤ length piece.now)) }
+        ensures ok { IfOk result (λ n. Advances self.old self.new (take n piece.now)) }
+        ensures refused { IfErr result (λ o. (rest : List ℕ) →
+            Refuses o self.old (piece.now ++ rest)) }
         ensures unverified { IfErr result IsUnverified }
         ensures fault { IsErrOf result Outcome.ReadFault → ⊥ }
     {
-        match self.reader.push(byte) {
-            Ok(None) => Ok(()),
-            Ok(Some((line, step))) => match self.checker.step(&step) {
-                Ok(()) => self.count(line, step),
-                Err(error) => Err(step_refusal(line, error)),
-            },
-            Err(error) => Err(log_refusal(error)),
-        }
-    }
-
-    // Counts a valid step. The memory of one that isn't kept serves for the next one.
-    fn count(&mut self, line: u64, step: Step) -> Result<(), Outcome>
-        requires { self.old.taken.count < 2 ^ 64 - 1 }
-        ensures ok { OnOk result (Counts (line, step) self.old self.new) }
-        ensures memory { IfErr result (λ o. o ≡ Outcome.NoMemory) }
-    {
-        match self.taken.add(line, step) {
-            Ok(Some(step)) => {
-                self.reader.keep(step);
-                Ok(())
+        match self.reader.next(piece) {
+            Ok((count, None)) => Ok(count),
+            Ok((count, Some((line, step, proof)))) => {
+                match self.trial.take(line, step, &proof) {
+                    Ok(Some(step)) => {
+                        self.reader.keep(step, proof);
+                        Ok(count)
+                    }
+                    Ok(None) => Ok(count),
+                    Err(outcome) => Err(outcome),
+                }
             }
-            Ok(None) => Ok(()),
-            Err(NoMemory) => Err(Outcome::NoMemory),
+            Err(error) => Err(log_refusal(error)),
         }
     }
 
@@ -102,9 +91,11 @@ impl Audit {
         ensures unverified { IfErr result IsUnverified }
         ensures fault { IsErrOf result Outcome.ReadFault → ⊥ }
     {
-        for byte in piece {
-            if let Err(outcome) = self.take_byte(*byte) {
-                return Err(outcome);
+        let mut at = 0;
+        while at < piece.len() {
+            match self.take_some(&piece[at..]) {
+                Ok(count) => at += count,
+                Err(outcome) => return Err(outcome),
             }
         }
         Ok(())
@@ -146,66 +137,50 @@ impl Audit {
     /// What is left where the log has come to its end, or what there is to say of it.
     pub fn finish(self, output: &Formula) -> Result<Passed, Outcome>
         requires { IsOpen self }
-        ensures passed { IfOk result (λ p. Passes self output.now p.steps p.undo p.taken.items) }
+        ensures passed { IfOk result (Passes self output.now) }
         ensures refused { IfErr result (λ o. Concludes o self output.now) }
         ensures unverified { IfErr result IsUnverified }
         ensures fault { IsErrOf result Outcome.ReadFault → ⊥ }
     {
-        let Audit {
-            reader,
-            mut checker,
-            taken,
-        } = self;
-        match take_last(reader, &mut checker, taken) {
-            Ok(taken) => end(checker, taken, output),
+        match self.take_last() {
+            Ok(trial) => end(trial, output),
             Err(outcome) => Err(outcome),
+        }
+    }
+
+    // Tries the step that the end of the log makes whole, if there is one.
+    fn take_last(self) -> Result<Trial, Outcome>
+        requires { IsOpen self }
+        ensures ended { IfOk result (HasEnded self) }
+        ensures refused { IfErr result (λ o. Refuses o self []) }
+        ensures unverified { IfErr result IsUnverified }
+        ensures fault { IsErrOf result Outcome.ReadFault → ⊥ }
+    {
+        let Audit { reader, mut trial } = self;
+        match reader.finish() {
+            Ok(None) => Ok(trial),
+            Ok(Some((line, step, proof))) => match trial.take(line, step, &proof) {
+                Ok(_) => Ok(trial),
+                Err(outcome) => Err(outcome),
+            },
+            Err(error) => Err(log_refusal(error)),
         }
     }
 }
 
-// Tries the step that the end of the log makes whole, if there is one; what is taken then.
-fn take_last(reader: LogReader, checker: &mut Checker, taken: Taken) -> Result<Taken, Outcome>
-    requires { IsOpen (record { reader = reader; checker = checker.old; taken = taken }) }
-    ensures ends { IfOk result (λ t. EndsLog (record { reader = reader; checker = checker.old; taken = taken }) checker.new t) }
-    ensures refused { IfErr result (λ o. (G : PrenexFormula) →
-        Concludes o (record { reader = reader; checker = checker.old; taken = taken }) G) }
+// What is left where all steps are valid.
+fn end(trial: Trial, output: &Formula) -> Result<Passed, Outcome>
+    ensures passed { IfOk result (λ p. HasLeft trial output.now p) }
+    ensures refused { IfErr result (λ o. HasFailed o trial output.now) }
     ensures unverified { IfErr result IsUnverified }
     ensures fault { IsErrOf result Outcome.ReadFault → ⊥ }
 {
-    match reader.finish() {
-        Ok(None) => Ok(taken),
-        Ok(Some((line, step))) => match checker.step(&step) {
-            Ok(()) => with_last(taken, line, step),
-            Err(error) => Err(step_refusal(line, error)),
-        },
-        Err(error) => Err(log_refusal(error)),
-    }
-}
-
-fn with_last(mut taken: Taken, line: u64, step: Step) -> Result<Taken, Outcome>
-    requires { taken.count < 2 ^ 64 - 1 }
-    ensures ok { IfOk result (λ t. HasAdded (line, step) taken t) }
-    ensures memory { IfErr result (λ o. o ≡ Outcome.NoMemory) }
-{
-    match taken.add(line, step) {
-        Ok(_) => Ok(taken),
-        Err(NoMemory) => Err(Outcome::NoMemory),
-    }
-}
-
-// What is left where all steps are valid.
-fn end(checker: Checker, taken: Taken, output: &Formula) -> Result<Passed, Outcome>
-    ensures same { OnOk result (SameFormula checker.formula output.now) }
-    ensures steps { IfOk result (λ p. p.steps ≡ taken.count) }
-    ensures undo { IfOk result (λ p. p.undo ≡ checker.undo) }
-    ensures taken { IfOk result (λ p. p.taken.items ≡ taken.steps.items) }
-    ensures refused { IfErr result (λ o. EndsAs o checker.formula output.now) }
-    ensures unverified { IfErr result IsUnverified }
-{
-    match checker.finish(output) {
-        Ok(verified) => Ok(Passed {
+    let Trial { judges, taken } = trial;
+    match judges.finish(output) {
+        Ok(judged) => Ok(Passed {
+            from: judged.formula,
             steps: taken.count,
-            undo: verified.undo,
+            undo: judged.undo,
             taken: taken.steps,
         }),
         Err(CheckError::Refused { cause }) => Err(Outcome::RefusedEnd { cause }),

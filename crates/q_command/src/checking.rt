@@ -3,8 +3,9 @@ ghost use Rattle.std.specs.Prelude.{◌≡◌, ◌<◌, length, IfOk, IfErr, IfS
 ghost use Rattle.q_logic.specs.Parts.{IsProper};
 ghost use Rattle.q_io.specs.Files.{OnlyReads, RoseAmong, RoseFor, bytes_at};
 ghost use Rattle.q_logic.specs.Prefixes.{IsFormula};
-ghost use Rattle.q_command.specs.Taken.{AreOfLog, AreRun};
-ghost use Rattle.q_command.specs.Checks.{Checks, FilesPass, HaveOneTruth, IfVerified, IsEarly, IsFileOf, IsInputRefusal, IsUnverified, LeadsBack, LogPasses, LogSays, input_refused};
+ghost use Rattle.q_command.specs.Audits.{LogIsTaken};
+ghost use Rattle.q_command.specs.Taken.{AreRun};
+ghost use Rattle.q_command.specs.Checks.{Checks, FilesPass, HaveOneTruth, IfVerified, IsEarly, IsFileOf, IsInputRefusal, IsUnverified, LeadsBack, LogSays, input_refused};
 
 use crate::audit::{Audit, Keep, Passed};
 use crate::input::{InputError, PIECE, read_formula};
@@ -26,8 +27,8 @@ fn refused_input(role: Role, error: InputError) -> Outcome
     }
 }
 
-// The formula of an operand, or what there is to say of it.
-fn read_operand<F: Files>(
+/// The formula of an operand, read through the buffer, or what there is to say of it.
+pub fn read_operand<F: Files>(
     alloc: Global,
     files: &mut F,
     role: Role,
@@ -56,19 +57,18 @@ fn check_log<F: Files>(
     files: &mut F,
     name: &str,
     buffer: &mut [u8],
-    input: &Formula,
+    input: Formula,
     output: &Formula,
     keep: Keep,
 ) -> Result<Passed, Outcome>
     requires room { 0 < length buffer.old }
-    ensures passes { IfOk result (λ p. IfSome (F.held files.old)
-        (λ disk. LogPasses keep.undo (bytes_at disk name.now) input.now output.now p.steps p.undo)) }
     ensures taken { IfOk result (λ p. IfSome (F.held files.old)
-        (λ disk. AreOfLog keep.steps (bytes_at disk name.now) p.taken.items)) }
-    ensures run { IfOk result (λ p. LeadsBack keep.undo input.now output.now p.undo) }
-    ensures kept { IfOk result (λ p. AreRun keep.steps input.now output.now p.taken.items) }
+        (λ disk. LogIsTaken keep (bytes_at disk name.now) input output.now p)) }
+    ensures from { IfOk result (λ p. p.from ≡ input) }
+    ensures run { IfOk result (λ p. LeadsBack keep.undo input output.now p.undo) }
+    ensures kept { IfOk result (λ p. AreRun keep.steps input output.now p.taken.items) }
     ensures says { IfErr result (λ o. IfSome (F.held files.old)
-        (λ disk. LogSays o input.now output.now (bytes_at disk name.now))) }
+        (λ disk. LogSays o input output.now (bytes_at disk name.now))) }
     ensures unverified { IfErr result IsUnverified }
     ensures fault { IsErrOf result Outcome.ReadFault → RoseFor F.read_faults name.now files.old files.new }
     ensures only_reads { OnlyReads F.held F.read_faults F.write_faults files.old files.new }
@@ -126,13 +126,13 @@ fn check_files<F: Files>(
         Ok(formula) => formula,
         Err(outcome) => return Err(outcome),
     };
-    match check_log(alloc, files, names.log, buffer, &from, &to, keep) {
-        Ok(Passed { steps, undo, taken }) => Ok(Checked {
-            from,
+    match check_log(alloc, files, names.log, buffer, from, &to, keep) {
+        Ok(passed) => Ok(Checked {
+            from: passed.from,
             to,
-            steps,
-            undo,
-            taken,
+            steps: passed.steps,
+            undo: passed.undo,
+            taken: passed.taken,
         }),
         Err(outcome) => Err(outcome),
     }

@@ -7,7 +7,8 @@ use crate::outcome::Outcome;
 use q_check::CheckError;
 use q_log::LogError;
 
-pub(crate) fn log_refusal(error: LogError) -> Outcome
+/// What is said of a log that can't be read on.
+pub fn log_refusal(error: LogError) -> Outcome
     ensures is { result ≡ log_refused error }
     ensures unverified { IsUnverified result }
 {
@@ -18,7 +19,8 @@ pub(crate) fn log_refusal(error: LogError) -> Outcome
     }
 }
 
-pub(crate) fn step_refusal(line: u64, error: CheckError) -> Outcome
+/// What is said of a step on this line that is refused.
+pub fn step_refusal(line: u64, error: CheckError) -> Outcome
     ensures is { result ≡ step_refused line error }
     ensures unverified { IsUnverified result }
 {

@@ -1,6 +1,7 @@
-ghost use Rattle.std.specs.Prelude.{◌≡◌, ◌≤◌, ◌-◌, length, min, option_copied, IfOk, IsErrOf, OnOk, OnErr, Some};
+ghost use Rattle.std.specs.Prelude.{◌≡◌, ◌≤◌, ◌-◌, ◌++◌, ◌∷◌, ◌⊎◌, [], length, min, take, option_copied, IfOk, IfSome, IsErr, IsErrOf, IsSome, OnOk, OnErr, Some};
 ghost use Rattle.std.specs.FinMap as map;
-ghost use Rattle.q_io.specs.Files.{OthersStay, Reads, bytes_at};
+ghost use Rattle.q_io.specs.Files.{Appends, AppendsPart, Empties, MayEmpty, OthersStay, Reads, bytes_at};
+ghost use Rattle.q_io.specs.Memory.{MemDisk, SamePlan, is_of, next, part_of};
 ghost use Rattle.q_logic.specs.Counts.{Rose};
 
 use crate::error::DeviceError;
@@ -50,21 +51,38 @@ impl Model for MemFiles {
       disk = m.files;
       read_faults = m.read_failures;
       write_faults = m.write_failures;
+      planned = m.planned.items;
+      reads = m.reads;
+      creates = m.creates;
+      appends = m.appends;
     } };
 }
 
-// The part of the planned fault of this call, if it is to fail.
-fn planned_part(planned: &[Fault], call: Call, nth: u64) -> Option<usize> {
-    planned
-        .iter()
-        .find(|fault| fault.call == call && fault.nth == nth)
-        .map(|fault| fault.part)
+// Whether this fault is of this call.
+fn is_for(fault: &Fault, call: Call, nth: u64) -> bool
+    ensures { result ≡ is_of fault.now call nth }
+{
+    fault.call == call && fault.nth == nth
+}
+
+// How many bytes the planned fault of this call lets it store, if it is to fail.
+fn planned_part(planned: &[Fault], call: Call, nth: u64) -> Option<usize>
+    ensures { result ≡ part_of planned.now call nth }
+{
+    for fault in planned {
+        if is_for(fault, call, nth) {
+            return Some(fault.part);
+        }
+    }
+    None
 }
 
 impl MemFiles {
     pub fn new(alloc: Global) -> MemFiles
         ensures empty { result.disk ≡ map.empty }
         ensures faults { (result.read_faults ≡ 0) × (result.write_faults ≡ 0) }
+        ensures planned { result.planned ≡ [] }
+        ensures calls { (result.reads ≡ 0) × (result.creates ≡ 0) × (result.appends ≡ 0) }
     {
         MemFiles {
             files: SteadyFiles::new(alloc),
@@ -83,6 +101,7 @@ impl MemFiles {
         ensures err { OnErr result (self.new.disk ≡ self.old.disk) }
         ensures faults { (self.new.read_faults ≡ self.old.read_faults)
             × (self.new.write_faults ≡ self.old.write_faults) }
+        ensures plan { SamePlan self.old self.new }
     {
         self.files.put_file(name, bytes)
     }
@@ -95,7 +114,9 @@ impl MemFiles {
 
     /// Plans one more fault.
     pub fn fail_at(&mut self, fault: Fault) -> Result<(), NoMemory>
-        ensures { self.new ≡ self.old }
+        ensures planned { OnOk result (self.new.planned ≡ self.old.planned ++ fault ∷ []) }
+        ensures err { OnErr result (self.new.planned ≡ self.old.planned) }
+        ensures rest { record self.new { planned = self.old.planned } ≡ self.old }
     {
         self.planned.push(fault)?;
         Ok(())
@@ -117,6 +138,13 @@ impl Files for MemFiles {
         ensures cause { IsErrOf result DeviceError.Failed → Rose self.old.read_faults self.new.read_faults }
         ensures later { (self.old.read_faults ≤ self.new.read_faults)
             × (self.new.write_faults ≡ self.old.write_faults) }
+        ensures counted { (self.new.reads ≡ next self.old.reads) × (self.new.creates ≡ self.old.creates)
+            × (self.new.appends ≡ self.old.appends) }
+        ensures plan { self.new.planned ≡ self.old.planned }
+        ensures fails { IsSome (part_of self.old.planned Call.Read (next self.old.reads)) →
+            (result ≡ Err DeviceError.Failed) × (buf.new ≡ buf.old) }
+        ensures not_else { IsErrOf result DeviceError.Failed →
+            IsSome (part_of self.old.planned Call.Read (next self.old.reads)) ⊎ (map.get self.old.disk name.now ≡ None) }
     {
         self.reads = self.reads.saturating_add(1);
         let is_planned = planned_part(&self.planned, Call::Read, self.reads).is_some();
@@ -127,7 +155,20 @@ impl Files for MemFiles {
         self.files.read(name, at, buf)
     }
 
-    fn create(&mut self, name: &str) -> Result<(), DeviceError> {
+    fn create(&mut self, name: &str) -> Result<(), DeviceError>
+        ensures empty { OnOk result (Empties name.now self.old.disk (Some self.new.disk)) }
+        ensures err { OnErr result (MayEmpty name.now self.old.disk (Some self.new.disk)) }
+        ensures cause { IsErrOf result DeviceError.Failed → Rose self.old.write_faults self.new.write_faults }
+        ensures later { (self.old.write_faults ≤ self.new.write_faults)
+            × (self.new.read_faults ≡ self.old.read_faults) }
+        ensures counted { (self.new.reads ≡ self.old.reads) × (self.new.creates ≡ next self.old.creates)
+            × (self.new.appends ≡ self.old.appends) }
+        ensures plan { self.new.planned ≡ self.old.planned }
+        ensures fails { IsSome (part_of self.old.planned Call.Create (next self.old.creates)) →
+            (result ≡ Err DeviceError.Failed) × (self.new.disk ≡ self.old.disk) }
+        ensures not_else { IsErrOf result DeviceError.Failed →
+            IsSome (part_of self.old.planned Call.Create (next self.old.creates)) }
+    {
         self.creates = self.creates.saturating_add(1);
         if planned_part(&self.planned, Call::Create, self.creates).is_some() {
             self.write_failures = self.write_failures.saturating_add(1);
@@ -136,7 +177,21 @@ impl Files for MemFiles {
         self.files.create(name)
     }
 
-    fn append(&mut self, name: &str, bytes: &[u8]) -> Result<(), DeviceError> {
+    fn append(&mut self, name: &str, bytes: &[u8]) -> Result<(), DeviceError>
+        ensures all { OnOk result (Appends name.now bytes.now self.old.disk (Some self.new.disk)) }
+        ensures err { OnErr result (AppendsPart name.now bytes.now self.old.disk (Some self.new.disk)) }
+        ensures cause { IsErrOf result DeviceError.Failed → Rose self.old.write_faults self.new.write_faults }
+        ensures later { (self.old.write_faults ≤ self.new.write_faults)
+            × (self.new.read_faults ≡ self.old.read_faults) }
+        ensures counted { (self.new.reads ≡ self.old.reads) × (self.new.creates ≡ self.old.creates)
+            × (self.new.appends ≡ next self.old.appends) }
+        ensures plan { self.new.planned ≡ self.old.planned }
+        ensures fails { IfSome (part_of self.old.planned Call.Append (next self.old.appends)) (λ part. IsErr result
+            × (result ≡ Err DeviceError.Failed → bytes_at self.new.disk name.now
+            ≡ bytes_at self.old.disk name.now ++ take part bytes.now)) }
+        ensures not_else { IsErrOf result DeviceError.Failed →
+            IsSome (part_of self.old.planned Call.Append (next self.old.appends)) }
+    {
         self.appends = self.appends.saturating_add(1);
         match planned_part(&self.planned, Call::Append, self.appends) {
             Some(part) => {

@@ -1,5 +1,7 @@
-ghost use Rattle.std.specs.Prelude.{◌≡◌, [], List, ℕ, Some};
-ghost use Rattle.q_io.specs.Memory.{MemText};
+ghost use Rattle.std.specs.Prelude.{◌≡◌, ◌≤◌, ◌++◌, ◌∷◌, [], List, ℕ, Contains, IfOk, IsErrOf, OnErr, OnOk, Some};
+ghost use Rattle.q_io.specs.Files.{GrowsBy, GrowsByPart};
+ghost use Rattle.q_io.specs.Memory.{MemText, next};
+ghost use Rattle.q_logic.specs.Counts.{Rose};
 
 use crate::error::DeviceError;
 use crate::files::Sink;
@@ -69,13 +71,20 @@ impl Model for MemSink {
 
     ghost Value = { MemText };
 
-    ghost view = { λ s. record { text = s.sink.text; faults = s.failures; wants = s.sink.wants } };
+    ghost view = { λ s. record {
+      text = s.sink.text;
+      faults = s.failures;
+      wants = s.sink.wants;
+      planned = s.planned.items;
+      puts = s.puts;
+    } };
 }
 
 impl MemSink {
     pub fn new(alloc: Global) -> MemSink
         ensures empty { result.text ≡ [] }
-        ensures counts { (result.faults ≡ 0) × (result.wants ≡ 0) }
+        ensures counts { (result.faults ≡ 0) × (result.wants ≡ 0) × (result.puts ≡ 0) }
+        ensures planned { result.planned ≡ [] }
     {
         MemSink {
             sink: SteadySink::new(alloc),
@@ -87,7 +96,9 @@ impl MemSink {
 
     /// The `nth` put fails, counted from 1, and puts nothing.
     pub fn fail_at(&mut self, nth: u64) -> Result<(), NoMemory>
-        ensures { self.new ≡ self.old }
+        ensures planned { OnOk result (self.new.planned ≡ self.old.planned ++ nth ∷ []) }
+        ensures err { OnErr result (self.new ≡ self.old) }
+        ensures rest { record self.new { planned = self.old.planned } ≡ self.old }
     {
         self.planned.push(nth)?;
         Ok(())
@@ -107,7 +118,18 @@ impl Sink for MemSink {
 
     ghost wants = { λ s. s.wants };
 
-    fn put(&mut self, bytes: &[u8]) -> Result<(), DeviceError> {
+    fn put(&mut self, bytes: &[u8]) -> Result<(), DeviceError>
+        ensures counted { self.new.puts ≡ next self.old.puts }
+        ensures plan { self.new.planned ≡ self.old.planned }
+        ensures fails { Contains self.old.planned (next self.old.puts) →
+            (result ≡ Err DeviceError.Failed) × (self.new.text ≡ self.old.text) }
+        ensures not_else { IsErrOf result DeviceError.Failed → Contains self.old.planned (next self.old.puts) }
+        ensures all { OnOk result (self.new.text ≡ self.old.text ++ bytes.now) }
+        ensures err { OnErr result (GrowsByPart bytes.now self.old.text (Some self.new.text)) }
+        ensures cause { IsErrOf result DeviceError.Failed → Rose self.old.faults self.new.faults }
+        ensures want { IsErrOf result DeviceError.NoMemory → Rose self.old.wants self.new.wants }
+        ensures later { (self.old.faults ≤ self.new.faults) × (self.old.wants ≤ self.new.wants) }
+    {
         self.puts = self.puts.saturating_add(1);
         if self.planned.contains(&self.puts) {
             self.failures = self.failures.saturating_add(1);

@@ -128,8 +128,8 @@ module _ (P : Prefix) (Rs : List RegionMap) where
   pub all-removed : (X : Matrix) (v : ℕ) → Distinct P → IsAbsent X v → AreRegionsOf P X Rs → AreRegionsOf (removed_from v P) X Rs
   all-removed X v d absent all R m = regions-removed P X R v d absent (all R m)
 
--- One of several regions becomes another one.
-pub regions-set : (Q : RegionMap → Type 0) (Rs : List RegionMap) (n : ℕ) (R' : RegionMap) → n < length Rs → ((R : RegionMap) → IsIn R Rs → Q R) → (((R : RegionMap) → slice_get Rs n ≡ Some R → Q R) → Q R') → (R : RegionMap) → IsIn R (set Rs n R') → Q R
+-- One of several items becomes another one.
+pub regions-set : {A : Type 0} (Q : A → Type 0) (Rs : List A) (n : ℕ) (R' : A) → n < length Rs → ((R : A) → IsIn R Rs → Q R) → (((R : A) → slice_get Rs n ≡ Some R → Q R) → Q R') → (R : A) → IsIn R (set Rs n R') → Q R
 regions-set Q Rs n R' l h f R m =
     let p = slice_get-Contains (set Rs n R') R (IsIn-Contains R (set Rs n R') m) in
     elim (same-place p.0 n) [
@@ -141,15 +141,15 @@ regions-set Q Rs n R' l h f R m =
           h R (Contains-IsIn R Rs (Contains-slice_get Rs p.0 R was))
     ]
 
--- Of a list of regions those before a place have become right for more.
-abbrev pub AreHalf : (RegionMap → Type 0) → (RegionMap → Type 0) → ℕ → List RegionMap → Type 0
-AreHalf Q S n Rs = (i : ℕ) (R : RegionMap) → slice_get Rs i ≡ Some R → (i < n → S R) × (n ≤ i → Q R)
+-- Of a list of items those before a place have become right for more.
+abbrev pub AreHalf : {A : Type 0} → (A → Type 0) → (A → Type 0) → ℕ → List A → Type 0
+AreHalf {A} Q S n Rs = (i : ℕ) (R : A) → slice_get Rs i ≡ Some R → (i < n → S R) × (n ≤ i → Q R)
 
-module _ (Q S : RegionMap → Type 0) where
-  pub half-begun : (Rs : List RegionMap) → ((R : RegionMap) → IsIn R Rs → Q R) → AreHalf Q S 0 Rs
+module _ {A : Type 0} (Q S : A → Type 0) where
+  pub half-begun : (Rs : List A) → ((R : A) → IsIn R Rs → Q R) → AreHalf Q S 0 Rs
   half-begun Rs h i R e = ((λ l. absurd (omega arith)), (λ l. h R (Contains-IsIn R Rs (Contains-slice_get Rs i R e))))
 
-  pub half-more : (n : ℕ) (Rs : List RegionMap) (R' : RegionMap) → n < length Rs → ((R : RegionMap) → slice_get Rs n ≡ Some R → Q R → S R') → AreHalf Q S n Rs → AreHalf Q S (n + 1) (set Rs n R')
+  pub half-more : (n : ℕ) (Rs : List A) (R' : A) → n < length Rs → ((R : A) → slice_get Rs n ≡ Some R → Q R → S R') → AreHalf Q S n Rs → AreHalf Q S (n + 1) (set Rs n R')
   half-more n Rs R' l f h i R e = elim (same-place i n) [
     | inl q ↦
         let there = slice_get-there Rs n l in
@@ -161,7 +161,7 @@ module _ (Q S : RegionMap → Type 0) where
         ((λ k. (h i R was).0 (omega arith)), (λ k. (h i R was).1 (omega arith)))
   ]
 
-  pub half-ended : (n : ℕ) (Rs : List RegionMap) → length Rs ≤ n → AreHalf Q S n Rs → (R : RegionMap) → IsIn R Rs → S R
+  pub half-ended : (n : ℕ) (Rs : List A) → length Rs ≤ n → AreHalf Q S n Rs → (R : A) → IsIn R Rs → S R
   half-ended n Rs l h R m =
       let p = slice_get-Contains Rs R (IsIn-Contains R Rs m) in
       let b = slice_get-in Rs p.0 R p.1 in

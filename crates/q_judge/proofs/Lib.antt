@@ -21,3 +21,4 @@ pub mod Keeping
 pub mod Beginning
 pub mod Nesting
 pub mod Apart
+pub mod Enclosing

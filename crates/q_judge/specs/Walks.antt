@@ -3,7 +3,7 @@
 use Rattle.std.specs.Prelude.{◌≡◌, ◌⊎◌, ℕ, Bool, true, false, not, ◌&&◌, List, ◌++◌, Contains}
 use Rattle.q_logic.specs.Literals.{Literal, negation}
 use Rattle.q_logic.specs.Formulas.{Clause, Matrix, Prefix, IsIn}
-use Rattle.q_logic.specs.Prefixes.{is_existential, outer_or_same}
+use Rattle.q_logic.specs.Prefixes.{is_existential, is_universal, outer_or_same}
 use Rattle.q_prop.specs.Slots.{Holds}
 use Rattle.q_logic.specs.Numbered.{Slots}
 
@@ -37,3 +37,28 @@ IsFollowed P s u at' old new false = (E : Clause) × Holds s at' E × (IsIn u E 
 abbrev pub IsVisited : Prefix → Matrix → Literal → Literal → List Literal → List Literal → Bool → Type 0
 IsVisited P X u k old new true = IsGrown P u (λ E. IsIn E X × IsIn (negation k) E) old new × ((E : Clause) → IsIn E X → IsIn (negation k) E → IsWorkedOff P u new E)
 IsVisited P X u k old new false = (E : Clause) × IsIn E X × IsIn (negation k) E × (IsIn u E → ⊥) × IsIn (negation u) E
+
+-- the clause has its literals that are inner to u among the known ones
+abbrev pub HasInner : Prefix → Literal → List Literal → Clause → Type 0
+HasInner P u known E = (k : Literal) → IsIn k E → is_inner P u k ≡ true → Contains known k
+
+-- the clause leads nowhere else from the known literals, as long as u is universal
+abbrev pub IsBorne : Prefix → Literal → List Literal → Clause → Type 0
+IsBorne P u known E = is_universal P u.var ≡ true → (k : Literal) → Contains known k → IsIn (negation k) E → IsWorkedOff P u known E
+
+-- no clause leads elsewhere from the known literals
+abbrev pub IsShut : Prefix → Matrix → Literal → List Literal → Type 0
+IsShut P X u known = (k : Literal) (E : Clause) → Contains known k → IsIn E X → IsIn (negation k) E → IsWorkedOff P u known E
+
+-- a walk for a literal, and what it met
+pub record WalkMap : Type 0 where
+  pub literal : Literal
+  pub known : List Literal
+
+-- no clause leads elsewhere from what the walk met, as long as its literal is universal
+abbrev pub IsEnclosed : Prefix → Matrix → WalkMap → Type 0
+IsEnclosed P X R = is_universal P R.literal.var ≡ true → IsShut P X R.literal R.known
+
+-- so it is with several walks
+abbrev pub AreEnclosed : Prefix → Matrix → List WalkMap → Type 0
+AreEnclosed P X Rs = (R : WalkMap) → IsIn R Rs → IsEnclosed P X R

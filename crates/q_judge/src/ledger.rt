@@ -1,10 +1,10 @@
 //! A formula under change: its prefix in a scope and its clauses in slots, with all that the tests of steps need.
 //! Whether a step may be taken is asked before; a change asks only for what keeps a formula one.
 ghost use Rattle.std.specs.Prelude.{◌≡◌, ◌↔◌, ◌<◌, ◌+◌, ◌^◌, ◌∷◌, ◌++◌, [], true, false, None, Some, Err, length, slice_set, IfOk, IfErr, OnOk, OnErr, IsTrue, MatchBool};
-ghost use Rattle.q_logic.specs.Formulas.{Clause, IsIn};
+ghost use Rattle.q_logic.specs.Formulas.{Clause, Matrix, IsIn};
 ghost use Rattle.q_logic.specs.Hints.{Chained};
 ghost use Rattle.q_logic.specs.Limits.{AreModerate};
-ghost use Rattle.q_logic.specs.Literals.{Literal, IsBelow};
+ghost use Rattle.q_logic.specs.Literals.{Literal, IsBelow, negation};
 ghost use Rattle.q_logic.specs.Numbered.{Slots};
 ghost use Rattle.q_logic.specs.Parts.{ArePairs};
 ghost use Rattle.q_logic.specs.Pivots.{outer, without};
@@ -24,12 +24,13 @@ ghost use Rattle.q_judge.specs.Warrants.{IsAnswered, Resolves};
 
 use crate::checks::{compare, has_room, sum_of};
 use crate::error::CheckError;
+use crate::kept_walks::RecentWalks;
 use crate::pivots::{Buffers, Warrant, permit_of, push_outer, resolves, warrant_of};
-use crate::reach::{is_droppable, reduces};
+use crate::reach::reduces;
 use crate::recent::RecentRegions;
 use crate::scope::Scope;
 use crate::undo::{Undo, collect_outers, pivot_entry};
-use q_logic::{Clauses, Formula, Limits, Lit, NoMemory};
+use q_logic::{Clauses, Formula, Limits, Lit, NoMemory, holds};
 use q_prop::Store;
 use std::alloc::Global;
 use std::marker::Model;
@@ -44,6 +45,7 @@ pub struct Ledger {
     lits: u64,
     buffers: Buffers,
     recent: RecentRegions,
+    walks: RecentWalks,
 }
 
 impl Model for Ledger {
@@ -51,12 +53,13 @@ impl Model for Ledger {
     ghost use Rattle.q_judge.specs.Ledgers.{Slotted};
     ghost use Rattle.q_judge.specs.Regions.{AreRegionsOf};
     ghost use Rattle.q_judge.specs.Tried.{IsCounted};
+    ghost use Rattle.q_judge.specs.Walks.{AreEnclosed};
 
     ghost Value = { Slotted };
 
     ghost view = { λ b. record { prefix = b.scope; slots = b.store } };
 
-    ghost invariant = { λ b. IsCounted (record { prefix = b.scope; matrix = filled b.store }) b.clauses b.lits × AreRegionsOf b.scope (filled b.store) b.recent };
+    ghost invariant = { λ b. IsCounted (record { prefix = b.scope; matrix = filled b.store }) b.clauses b.lits × AreRegionsOf b.scope (filled b.store) b.recent × AreEnclosed b.scope (filled b.store) b.walks };
 }
 
 impl Ledger {
@@ -80,6 +83,7 @@ impl Ledger {
             lits,
             buffers: Buffers::new(alloc),
             recent: RecentRegions::new(alloc),
+            walks: RecentWalks::new(alloc),
         })
     }
 
@@ -237,20 +241,69 @@ impl Ledger {
         ensures same { self.new ≡ self.old }
         ensures exact { IfOk result (λ yes. IsTrue yes ↔ IsDroppable self.old.prefix (filled (without_slot self.old.slots (Some at))) clause.now lit) }
     {
-        is_droppable(
-            &mut self.store,
-            &self.scope,
-            &mut self.recent,
-            &mut self.buffers,
-            Some(at),
-            clause,
-            rest,
-            lit,
-        )
+        if !self.may_go(clause, lit) {
+            return Ok(false);
+        }
+        if self.is_told(at, clause, lit) {
+            return Ok(true);
+        }
+        if self.resolves(Some(at), rest, lit.negated())? {
+            return Ok(true);
+        }
+        self.is_reducible(at, clause, lit)
+    }
+
+    // Whether the literal is universal, and its negation not in the clause.
+    fn may_go(&self, clause: &[Lit], lit: Lit) -> bool
+        ensures yes { IsTrue result → (is_universal self.now.prefix lit.var ≡ true) × (IsIn (negation lit) clause.now → ⊥) }
+        ensures no { (X : Matrix) → IsDroppable self.now.prefix X clause.now lit → IsTrue result }
+    {
+        self.scope.is_universal(lit.var()) && !holds(clause, lit.negated())
     }
 
     /// Whether the universal literal may go from the clause in a slot by its reach alone.
     pub fn is_reducible(&mut self, at: usize, clause: &[Lit], lit: Lit) -> Result<bool, NoMemory>
+        requires within { Within self.old.prefix clause.now }
+        requires held { IsIn lit clause.now }
+        requires universal { is_universal self.old.prefix lit.var ≡ true }
+        ensures same { self.new ≡ self.old }
+        ensures exact { IfOk result (λ yes. IsTrue yes ↔ Reducible self.old.prefix (filled (without_slot self.old.slots (Some at))) clause.now lit) }
+    {
+        if !self.may_go(clause, lit) {
+            return Ok(false);
+        }
+        if self.goes_on(at, clause, lit)? {
+            return Ok(true);
+        }
+        self.finds_reducible(at, clause, lit)
+    }
+
+    // Whether a walk that was kept tells that the literal may go.
+    fn is_told(&self, at: usize, clause: &[Lit], lit: Lit) -> bool
+        requires within { Within self.now.prefix clause.now }
+        requires held { IsIn lit clause.now }
+        requires universal { is_universal self.now.prefix lit.var ≡ true }
+        requires not_negated { IsIn (negation lit) clause.now → ⊥ }
+        ensures { IsTrue result → Reducible self.now.prefix (filled (without_slot self.now.slots (Some at))) clause.now lit }
+    {
+        self.walks.tell(&self.scope, clause, lit)
+    }
+
+    // Whether such a walk tells it once it has gone on from the clause.
+    fn goes_on(&mut self, at: usize, clause: &[Lit], lit: Lit) -> Result<bool, NoMemory>
+        requires within { Within self.old.prefix clause.now }
+        requires held { IsIn lit clause.now }
+        requires universal { is_universal self.old.prefix lit.var ≡ true }
+        requires not_negated { IsIn (negation lit) clause.now → ⊥ }
+        ensures same { self.new ≡ self.old }
+        ensures told { IfOk result (λ yes. IsTrue yes → Reducible self.old.prefix (filled (without_slot self.old.slots (Some at))) clause.now lit) }
+    {
+        let told = self.walks.extend(&self.store, &self.scope, clause, lit)?;
+        Ok(told)
+    }
+
+    // Whether the literal may go by its reach, by a walk of its own or by regions.
+    fn finds_reducible(&mut self, at: usize, clause: &[Lit], lit: Lit) -> Result<bool, NoMemory>
         requires within { Within self.old.prefix clause.now }
         requires held { IsIn lit clause.now }
         requires universal { is_universal self.old.prefix lit.var ≡ true }
@@ -311,6 +364,7 @@ impl Ledger {
         ensures err { OnErr result (self.new ≡ self.old) }
     {
         self.recent.take(&self.scope, clause);
+        self.walks.take(&self.scope, clause);
         let at = self.store.add(clause)?;
         self.clauses += 1;
         self.lits += clause.len() as u64;
@@ -335,6 +389,7 @@ impl Ledger {
         ensures ok { IfOk result (λ k. (t : Slots) × IsPut self.old.slots k rest.now t × (self.new ≡ record { prefix = self.old.prefix; slots = slice_set t at None })) }
         ensures err { OnErr result (self.new ≡ self.old) }
     {
+        self.walks.take(&self.scope, rest);
         let new = self.store.add(rest)?;
         self.store.delete(at);
         self.lits -= (clause.len() - rest.len()) as u64;

@@ -5,6 +5,7 @@
 mod blocking;
 mod checks;
 mod error;
+mod kept_walks;
 mod labels;
 mod ledger;
 mod links;
@@ -23,7 +24,7 @@ pub use checks::{
 pub use error::{Cause, CheckError};
 pub use ledger::Ledger;
 pub use pivots::{Buffers, Warrant, clause_at, push_outer, resolves, slots_of, warrant_of};
-pub use reach::{is_droppable, reduces};
+pub use reach::reduces;
 pub use recent::RecentRegions;
 pub use scope::Scope;
 pub use undo::{Undo, Undos, collect_outers, fresh_entry, kept_pivot, pivot_entry, removed_entry};

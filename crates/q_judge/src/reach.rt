@@ -3,52 +3,18 @@ ghost use Rattle.std.specs.Prelude.{◌≡◌, ◌↔◌, ◌<◌, ◌∷◌, �
 ghost use Rattle.q_logic.specs.Literals.{Literal, negation};
 ghost use Rattle.q_logic.specs.Formulas.{Clause, IsIn};
 ghost use Rattle.q_logic.specs.Prefixes.{Closed, is_bound, is_universal};
-ghost use Rattle.q_logic.specs.Pivots.{without};
 ghost use Rattle.q_logic.specs.Reach.{Reducible};
-ghost use Rattle.q_logic.specs.Steps.{Within, IsDroppable};
+ghost use Rattle.q_logic.specs.Steps.{Within};
 ghost use Rattle.q_prop.specs.Slots.{filled};
 ghost use Rattle.q_prop.specs.Slots.{without as without_slot};
 ghost use Rattle.q_judge.specs.Regions.{AreRegionsOf};
 ghost use Rattle.q_judge.specs.Walks.{is_inner, IsWidened, IsFollowed, IsVisited};
 
-use crate::pivots::{Buffers, clause_at, resolves, slots_of};
+use crate::pivots::{Buffers, clause_at, slots_of};
 use crate::recent::RecentRegions;
 use crate::scope::Scope;
 use q_logic::{Lit, NoMemory, holds};
 use q_prop::{Store, Trail};
-
-/// Whether the literal may go from the clause, beside the slots but its own. `rest` is the clause
-/// without the literal.
-pub fn is_droppable(
-    store: &mut Store,
-    scope: &Scope,
-    recent: &mut RecentRegions,
-    buffers: &mut Buffers,
-    skip: Option<usize>,
-    clause: &[Lit],
-    rest: &[Lit],
-    lit: Lit,
-) -> Result<bool, NoMemory>
-    requires closed { Closed scope.now (filled store.old) }
-    requires within { Within scope.now clause.now }
-    requires held { IsIn lit clause.now }
-    requires rest { rest.now ≡ without lit clause.now }
-    requires regions { AreRegionsOf scope.now (filled store.old) recent.old }
-    ensures same { store.new ≡ store.old }
-    ensures regions { AreRegionsOf scope.now (filled store.old) recent.new }
-    ensures exact { IfOk result (λ yes. IsTrue yes ↔ IsDroppable scope.now (filled (without_slot store.old skip)) clause.now lit) }
-{
-    if !scope.is_universal(lit.var()) {
-        return Ok(false);
-    }
-    if holds(clause, lit.negated()) {
-        return Ok(false);
-    }
-    if resolves(store, scope, buffers, skip, rest, lit.negated())? {
-        return Ok(true);
-    }
-    reduces(store, scope, recent, buffers, skip, clause, lit)
-}
 
 /// Whether the universal literal may go from the clause by its reach alone, beside the slots but its own. Regions learn
 /// of it.
@@ -118,7 +84,7 @@ fn is_reducible(
 }
 
 // Follows the clauses that hold the negation of a literal; whether none holds the negation of u.
-fn visit(
+pub(crate) fn visit(
     store: &Store,
     scope: &Scope,
     trail: &mut Trail,
@@ -169,7 +135,12 @@ fn follow(
 }
 
 // Puts the literals of the clause that are existential and inner to u on the trail.
-fn push_inner(trail: &mut Trail, scope: &Scope, clause: &[Lit], u: Lit) -> Result<(), NoMemory>
+pub(crate) fn push_inner(
+    trail: &mut Trail,
+    scope: &Scope,
+    clause: &[Lit],
+    u: Lit,
+) -> Result<(), NoMemory>
     requires bound { is_bound scope.now u.var ≡ true }
     requires within { Within scope.now clause.now }
     ensures { OnOk result (IsWidened scope.now u clause.now trail.old trail.new) }
@@ -182,7 +153,7 @@ fn push_inner(trail: &mut Trail, scope: &Scope, clause: &[Lit], u: Lit) -> Resul
     Ok(())
 }
 
-fn lies_inside(scope: &Scope, k: Lit, u: Lit) -> bool
+pub(crate) fn lies_inside(scope: &Scope, k: Lit, u: Lit) -> bool
     requires first { is_bound scope.now k.var ≡ true }
     requires second { is_bound scope.now u.var ≡ true }
     ensures { result ≡ is_inner scope.now u k }

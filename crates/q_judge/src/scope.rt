@@ -134,12 +134,15 @@ impl Scope {
         }
     }
 
-    /// Whether the two have the same blocks, each as a set.
+    /// Whether the two have the same blocks, each as a set. Where they are the same list, no table by variable is made.
     pub fn has_blocks_of(&self, alloc: Global, prefix: &[Bound]) -> Result<bool, NoMemory>
         requires { Distinct prefix.now }
         ensures { IfOk result (λ yes. IsTrue yes ↔ SameBlocks (blocks self.now) (blocks prefix.now)) }
     {
         let own = self.bounds(alloc)?;
+        if are_equal(&own, prefix) {
+            return Ok(true);
+        }
         let mine = seats_of(alloc, &own)?;
         let others = seats_of(alloc, prefix)?;
         Ok(are_same_seats(&mine.seats, &others.seats))
@@ -157,6 +160,27 @@ impl Scope {
         }
         Ok(bounds)
     }
+}
+
+fn is_equal(a: Bound, b: Bound) -> bool
+    ensures { result ≡ true → a ≡ b }
+{
+    a.var == b.var && is_exists(a.quant) == is_exists(b.quant)
+}
+
+// Whether two prefixes are the same list.
+fn are_equal(own: &[Bound], others: &[Bound]) -> bool
+    ensures { result ≡ true → own.now ≡ others.now }
+{
+    if own.len() != others.len() {
+        return false;
+    }
+    for place in 0..own.len() {
+        if !is_equal(own[place], others[place]) {
+            return false;
+        }
+    }
+    true
 }
 
 fn first_of(prefix: &[Bound]) -> Option<u32>

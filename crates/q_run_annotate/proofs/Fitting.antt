@@ -16,7 +16,8 @@ use Rattle.q_hinted.specs.Parts.{IsNumber, IsGroup, AreGroups, IsPartOf}
 use Rattle.q_check.specs.Annotations.{Annotating, HasForm}
 use Rattle.q_logic.specs.Limits.{standard}
 use Rattle.q_hinted.specs.Texts.{hinted_text}
-use Rattle.q_run_annotate.specs.Annotates.{IsUnderWay, Goes}
+use Rattle.q_run_annotate.specs.Readings.{IsUnderWay, Goes}
+use Rattle.q_run_annotate.specs.declared.scribe.Scribe.{Scribe}
 use Rattle.q_check.proofs.Ascending.{with-in}
 use Rattle.q_check.proofs.Naming.{slot-emptied}
 
@@ -124,9 +125,10 @@ after-front m F (drop_literal l C) t v e = front-set t.number (Some (without l C
 after-front m F (fresh v w) t h e = e
 after-front m F (remove_variable v) t h e = e
 
-pub goes : (s : ProofStep) (t : ProofPart) (a b : Annotating) (text more : List ℕ) → IsUnderWay a → a.steps < 2 ^ 60 → HintedValid a.limits a.formula s t → HasForm s t →
-    b.formula ≡ hinted_after a.formula s t → b.limits ≡ a.limits → b.steps ≡ a.steps + 1 → more ≡ text ++ hinted_text s t → Goes s a text b more
-goes s t a b text more u l v f e m n x =
+pub goes : (s : ProofStep) (t : ProofPart) (old new : Scribe) → IsUnderWay old.annotator → old.annotator.steps < 2 ^ 60 → HintedValid old.annotator.limits old.annotator.formula s t → HasForm s t →
+    new.annotator.formula ≡ hinted_after old.annotator.formula s t → new.annotator.limits ≡ old.annotator.limits → new.annotator.steps ≡ old.annotator.steps + 1 → new.text.items ≡ old.text.items ++ hinted_text s t → Goes s old new
+goes s t old new u l v f e m n x =
+    let a : Annotating = old.annotator in
     let w : HintedValid standard a.formula s t = subst (λ (k : Limits). HintedValid k a.formula s t) u.limits v in
     record {
       part = t;
@@ -138,12 +140,13 @@ goes s t a b text more u l v f e m n x =
         no_clause = subst (λ (F : NumberedFormula). slice_get F.slots 0 ≡ Some None) (sym e) (after-front standard a.formula s t w u.no_clause);
         few = few;
       };
+      steps = n;
       text = x;
     }
   where
-    few : length b.formula.slots ≤ 2 ^ 60 + b.steps + 1
+    few : length new.annotator.formula.slots ≤ 2 ^ 60 + new.annotator.steps + 1
     few =
         let q = u.few in
-        let p = after-length a.formula s t in
-        let r : length b.formula.slots ≡ length (hinted_after a.formula s t).slots = ap (λ (F : NumberedFormula). length F.slots) e in
+        let p = after-length old.annotator.formula s t in
+        let r : length new.annotator.formula.slots ≡ length (hinted_after old.annotator.formula s t).slots = ap (λ (F : NumberedFormula). length F.slots) e in
         omega (arith, p, r, q, n)

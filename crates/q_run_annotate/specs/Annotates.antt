@@ -1,18 +1,21 @@
 -- What `annotate` says and leaves, over the files before and after.
-use Rattle.std.specs.Prelude.{◌≡◌, ◌⊎◌, ◌≤◌, ◌+◌, ◌^◌, ℕ, List, ◌++◌, Option, None, Some, length, slice_get}
+use Rattle.std.specs.Prelude.{◌≡◌, ◌⊎◌, ℕ, List, Option, Some, length}
 use Rattle.std.specs.List.{AllByRecursion}
 use Rattle.q_logic.specs.Formulas.{PrenexFormula}
-use Rattle.q_logic.specs.Hinted.{Hinted, HintedRun, HintedSteps, HintedValid, ProofPart, begun, hinted_after, strip}
+use Rattle.q_logic.specs.Hinted.{Hinted, HintedRun, strip}
 use Rattle.q_logic.specs.Limits.{standard}
 use Rattle.q_logic.specs.StepForms.{kind_of}
 use Rattle.q_logic.specs.Steps.{ProofStep}
+use Rattle.q_dimacs.specs.Offences.{Offence}
 use Rattle.q_io.specs.Files.{Disk, HoldsBytes, MayHoldFront, bytes_at}
 use Rattle.q_log.specs.Logs.{Steps}
 use Rattle.q_hinted.specs.Parts.{IsPartOf}
-use Rattle.q_hinted.specs.Texts.{hinted_text, log_text}
-use Rattle.q_check.specs.Annotations.{Annotating}
-use Rattle.q_command.specs.Checks.{Checks, IsNoFormula, IsNoRun, IsUnverified, IsVerified, OfFormulas, Exactly}
-use Rattle.q_command.specs.Logs.{Entry, steps_of}
+use Rattle.q_hinted.specs.Texts.{log_text}
+use Rattle.q_command.specs.Checks.{Checks, IsFileOf, IsNoFormula, IsPlainRunLog, IsPlainWay, IsUnverified, OfFormulas, Exactly}
+use Rattle.q_command.specs.Logs.{Entry, steps_of, EndsApart, IsRefusedPlain}
+use Rattle.q_command.specs.declared.outcome.Outcome.{Outcome}
+use Rattle.q_command.specs.declared.outcome.Outcome.TheVariants as outcome
+use Rattle.q_command.specs.declared.outcome.Role.TheVariants.{In, Out}
 use Rattle.q_command.specs.declared.status.Status.{Status}
 use Rattle.q_command.specs.declared.status.Status.TheVariants as status
 use Rattle.q_run_annotate.specs.declared.names.AnnotateNames.{AnnotateNames}
@@ -37,27 +40,54 @@ pub record IsHintedLog (F G : PrenexFormula) (ss : List ProofStep) (text : List 
   pub parts : AllByRecursion (λ h. IsPartOf (kind_of h.step) h.proof) hinted
   pub text_is : text ≡ log_text hinted
 
--- an annotator that has taken some steps from a formula of the program
-pub record IsUnderWay (a : Annotating) : Type 0 where
-  pub limits : a.limits ≡ standard
-  pub no_clause : slice_get a.formula.slots 0 ≡ Some None
-  pub few : length a.formula.slots ≤ 2 ^ 60 + a.steps + 1
-
--- the step is taken, shown by a proof part, and its line stands behind the text
-pub record Goes (s : ProofStep) (old : Annotating) (before : List ℕ) (new : Annotating) (after : List ℕ) : Type 0 where
-  pub part : ProofPart
-  pub fits : IsPartOf (kind_of s) part
-  pub shown : HintedValid standard old.formula s part
-  pub formula : new.formula ≡ hinted_after old.formula s part
-  pub under_way : IsUnderWay new
-  pub text : after ≡ before ++ hinted_text s part
-
 -- the text of LOG's steps with hints
 pub record IsAnnotation (log : List ℕ) (steps : ℕ) (F G : PrenexFormula) (text : List ℕ) : Type 0 where
   pub entries : List Entry
   pub is_log : Steps standard.bytes log ≡ Some entries
   pub count : steps ≡ length entries
   pub hinted : IsHintedLog F G (steps_of entries) text
+
+-- the log, of the first profile, leads from F to G
+abbrev pub LeadsPlain : List ℕ → PrenexFormula → PrenexFormula → Type 0
+LeadsPlain log F G = (entries : List Entry) × IsPlainRunLog log F G entries
+
+-- IN and OUT hold formulas, and LOG is a plain log that leads from one to the other
+abbrev pub IsPlainVerified : List ℕ → List ℕ → List ℕ → Type 0
+IsPlainVerified i o l = OfFormulas i o (LeadsPlain l)
+
+-- IN and OUT hold formulas, and LOG is no plain log that leads from one to the other
+abbrev pub IsNoPlainRun : List ℕ → List ℕ → List ℕ → Type 0
+IsNoPlainRun i o l = OfFormulas i o (λ F G. ¬ LeadsPlain l F G)
+
+-- the steps of a plain log are valid and end in a formula other than G
+pub record EndsPlain (log : List ℕ) (F G : PrenexFormula) (cause : ℕ) : Type 0 where
+  pub last : PrenexFormula
+  pub way : IsPlainWay log F last
+  pub apart : EndsApart last G cause
+
+-- why a log is not written with hints; one of the second profile is refused as a bad line
+abbrev pub LogRefuses : Outcome → PrenexFormula → PrenexFormula → List ℕ → Type 0
+LogRefuses (outcome.Verified n) F G log = ⊥
+LogRefuses (outcome.RefusedLine n c) F G log = IsRefusedPlain F log n c
+LogRefuses (outcome.RefusedEnd c) F G log = EndsPlain log F G c
+LogRefuses (outcome.RefusedInput r n c) F G log = ⊥
+LogRefuses outcome.ReadFault F G log = Unit {0}
+LogRefuses outcome.NoMemory F G log = Unit {0}
+
+-- what is said of the three files
+abbrev pub PlainChecks : Outcome → List ℕ → List ℕ → List ℕ → Type 0
+PlainChecks (outcome.Verified n) i o l = ⊥
+PlainChecks (outcome.RefusedLine n c) i o l = OfFormulas i o (λ F G. LogRefuses (outcome.RefusedLine n c) F G l)
+PlainChecks (outcome.RefusedEnd c) i o l = OfFormulas i o (λ F G. LogRefuses (outcome.RefusedEnd c) F G l)
+PlainChecks (outcome.RefusedInput In n c) i o l = Offence standard i n c
+PlainChecks (outcome.RefusedInput Out n c) i o l = (F : PrenexFormula) × IsFileOf i F × Offence standard o n c
+PlainChecks outcome.ReadFault i o l = Unit {0}
+PlainChecks outcome.NoMemory i o l = Unit {0}
+
+-- the files hold formulas, and this is the text of LOG's steps with hints
+abbrev pub IsAnnotated : AnnotateFiles → Disk → ℕ → List ℕ → Type 0
+IsAnnotated n before steps text =
+    OfFormulas (bytes_at before n.input) (bytes_at before n.output) (λ F G. IsAnnotation (bytes_at before n.log) steps F G text)
 
 -- HINTED is written whole
 abbrev pub IsWhole : ℕ → AnnotateFiles → Disk → Option Disk → Type 0
@@ -75,7 +105,7 @@ IsPart n before after =
 abbrev pub Annotates : Annotated → AnnotateFiles → Disk → Option Disk → Type 0
 Annotates (Written k) n before after = IsWhole k n before after
 Annotates (Unverified o) n before after =
-    IsUnverified o × Checks o (bytes_at before n.input) (bytes_at before n.output) (bytes_at before n.log) × (after ≡ Some before)
+    IsUnverified o × PlainChecks o (bytes_at before n.input) (bytes_at before n.output) (bytes_at before n.log) × (after ≡ Some before)
 Annotates WriteFault n before after = IsPart n before after
 Annotates NoMemory n before after = (after ≡ Some before) ⊎ IsPart n before after
 
@@ -84,18 +114,13 @@ IsUntouched s = (s ≡ status.LogRefused) ⊎ (s ≡ status.InputRefused) ⊎ (s
 
 -- when each status of `annotate` comes, and what the files hold then
 pub record AnnotatesExactly (given : Status) (n : AnnotateFiles) (before : Disk) (after : Option Disk) : Type 0 where
-  pub done : Exactly given status.Done (IsVerified (bytes_at before n.input) (bytes_at before n.output) (bytes_at before n.log))
+  pub done : Exactly given status.Done (IsPlainVerified (bytes_at before n.input) (bytes_at before n.output) (bytes_at before n.log))
   pub written : given ≡ status.Done → (k : ℕ) × IsWhole k n before after
-  pub log_refused : Exactly given status.LogRefused (IsNoRun (bytes_at before n.input) (bytes_at before n.output) (bytes_at before n.log))
+  pub log_refused : Exactly given status.LogRefused (IsNoPlainRun (bytes_at before n.input) (bytes_at before n.output) (bytes_at before n.log))
   pub input_refused : Exactly given status.InputRefused (IsNoFormula (bytes_at before n.input) ⊎ IsNoFormula (bytes_at before n.output))
   pub untouched : IsUntouched given → after ≡ Some before
   pub left : (given ≡ status.WriteFault) ⊎ (given ≡ status.NoMemory) → (after ≡ Some before) ⊎ IsPart n before after
 
--- so far these steps are taken, and the text has their lines
-pub record IsSoFar (F : PrenexFormula) (ss : List ProofStep) (a : Annotating) (text : List ℕ) : Type 0 where
-  pub hinted : List Hinted
-  pub run : HintedSteps standard (begun F) hinted a.formula
-  pub steps : strip hinted ≡ ss
-  pub parts : AllByRecursion (λ h. IsPartOf (kind_of h.step) h.proof) hinted
-  pub under_way : IsUnderWay a
-  pub text_is : text ≡ log_text hinted
+-- what `check` says of the files where it verified so many steps
+abbrev pub SaysVerified : ℕ → List ℕ → List ℕ → List ℕ → Type 0
+SaysVerified k i o l = Checks (outcome.Verified k) i o l

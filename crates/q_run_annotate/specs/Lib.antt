@@ -1,2 +1,4 @@
+pub mod Seats
 pub mod AnnotatedLines
 pub mod Annotates
+pub mod Readings

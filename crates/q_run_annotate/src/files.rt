@@ -1,15 +1,68 @@
-// The log is checked as by `check`, and its steps are kept; then the text with hints is made, and written.
-ghost use Rattle.std.specs.Prelude.{◌≡◌, IfSome, [], ◌∷◌};
-ghost use Rattle.q_io.specs.Files.{RoseAmong, RoseFor};
-ghost use Rattle.q_run_annotate.specs.Annotates.{Annotates, files_of};
+// IN and OUT are read whole, LOG is read once, upward, and HINTED is created when all is checked.
+ghost use Rattle.std.specs.Prelude.{◌≡◌, ◌<◌, length, IfOk, IfErr, IfSome, IsErrOf, [], ◌∷◌};
+ghost use Rattle.q_io.specs.Files.{OnlyReads, RoseAmong, bytes_at};
+ghost use Rattle.q_command.specs.Checks.{IsUnverified};
+ghost use Rattle.q_run_annotate.specs.Annotates.{Annotates, IsAnnotated, PlainChecks, files_of};
 ghost use Rattle.q_run_annotate.specs.AnnotatedLines.{status_of_annotated};
 
 use crate::annotated::Annotated;
 use crate::names::AnnotateNames;
-use crate::text::hinted_log;
-use q_command::{Keep, Names, Status, verify};
+use crate::reading::read_log;
+use crate::scribe::HintedText;
+use q_command::{Outcome, Role, Status, read_operand};
 use q_io::{DeviceError, Files, write_whole};
 use std::alloc::Global;
+
+// How many bytes of a file are read at once.
+const PIECE: usize = 65_536;
+
+// The text with hints, read through the buffer.
+fn hint_files<F: Files>(
+    alloc: Global,
+    files: &mut F,
+    names: AnnotateNames,
+    buffer: &mut [u8],
+) -> Result<HintedText, Outcome>
+    requires room { 0 < length buffer.old }
+    ensures annotated { IfOk result (λ t. IfSome (F.held files.old)
+        (λ disk. IsAnnotated (files_of names.entry) disk t.steps t.text.items)) }
+    ensures refused { IfErr result (λ o. IfSome (F.held files.old)
+        (λ disk. PlainChecks o (bytes_at disk names.entry.input.now) (bytes_at disk names.entry.output.now) (bytes_at disk names.entry.log.now))) }
+    ensures unverified { IfErr result IsUnverified }
+    ensures fault { IsErrOf result Outcome.ReadFault →
+        RoseAmong F.read_faults (names.entry.input.now ∷ names.entry.output.now ∷ names.entry.log.now ∷ []) files.old files.new }
+    ensures only_reads { OnlyReads F.held F.read_faults F.write_faults files.old files.new }
+{
+    let from = match read_operand(alloc, files, Role::In, names.input, buffer) {
+        Ok(formula) => formula,
+        Err(outcome) => return Err(outcome),
+    };
+    let to = match read_operand(alloc, files, Role::Out, names.output, buffer) {
+        Ok(formula) => formula,
+        Err(outcome) => return Err(outcome),
+    };
+    read_log(alloc, files, names.log, buffer, &from, &to)
+}
+
+fn hint_with_room<F: Files>(
+    alloc: Global,
+    files: &mut F,
+    names: AnnotateNames,
+) -> Result<HintedText, Outcome>
+    ensures annotated { IfOk result (λ t. IfSome (F.held files.old)
+        (λ disk. IsAnnotated (files_of names.entry) disk t.steps t.text.items)) }
+    ensures refused { IfErr result (λ o. IfSome (F.held files.old)
+        (λ disk. PlainChecks o (bytes_at disk names.entry.input.now) (bytes_at disk names.entry.output.now) (bytes_at disk names.entry.log.now))) }
+    ensures unverified { IfErr result IsUnverified }
+    ensures fault { IsErrOf result Outcome.ReadFault →
+        RoseAmong F.read_faults (names.entry.input.now ∷ names.entry.output.now ∷ names.entry.log.now ∷ []) files.old files.new }
+    ensures only_reads { OnlyReads F.held F.read_faults F.write_faults files.old files.new }
+{
+    match vec![in alloc; 0u8; PIECE] {
+        Ok(mut room) => hint_files(alloc, files, names, &mut room),
+        Err(_) => Err(Outcome::NoMemory),
+    }
+}
 
 /// What there is to say of `annotate` over the files of these names.
 pub fn annotate_files<F: Files>(alloc: Global, files: &mut F, names: AnnotateNames) -> Annotated
@@ -20,25 +73,13 @@ pub fn annotate_files<F: Files>(alloc: Global, files: &mut F, names: AnnotateNam
     ensures write_fault { status_of_annotated result ≡ Status.WriteFault →
         RoseAmong F.write_faults (names.entry.hinted.now ∷ []) files.old files.new }
 {
-    let three = Names {
-        input: names.input,
-        output: names.output,
-        log: names.log,
-    };
-    let keep = Keep {
-        undo: false,
-        steps: true,
-    };
-    let checked = match verify(alloc, files, three, keep) {
-        Ok(checked) => checked,
+    let hinted = match hint_with_room(alloc, files, names) {
+        Ok(hinted) => hinted,
         Err(why) => return Annotated::Unverified { why },
     };
-    let Ok(text) = hinted_log(alloc, &checked.from, &checked.to, &checked.taken) else {
-        return Annotated::NoMemory;
-    };
-    match write_whole(files, names.hinted, &text) {
+    match write_whole(files, names.hinted, &hinted.text) {
         Ok(()) => Annotated::Written {
-            steps: checked.steps,
+            steps: hinted.steps,
         },
         Err(DeviceError::Failed) => Annotated::WriteFault,
         Err(DeviceError::NoMemory) => Annotated::NoMemory,

@@ -5,9 +5,13 @@
 
 mod annotated;
 mod files;
+mod law;
 mod names;
-mod text;
+mod reading;
+mod scribe;
+mod seat;
 
 pub use annotated::Annotated;
 pub use files::annotate_files;
+pub use law::annotated_is_verified;
 pub use names::AnnotateNames;

@@ -1,5 +1,5 @@
 -- What `refute` leaves, from its parts.
-use Rattle.std.proofs.Common.{◌≡◌, ◌⊎◌, inl, inr, List, true, refl, ap, subst, Option, Some, None, IfSome}
+use Rattle.std.proofs.Common.{◌≡◌, ◌⊎◌, inl, inr, List, true, refl, sym, ap, subst, Option, Some, None, IfSome}
 use Rattle.q_logic.specs.Formulas.{PrenexFormula}
 use Rattle.q_logic.specs.Certificates.{CertificateView}
 use Rattle.q_logic.specs.Reversals.{Reversal, Reversals}
@@ -33,7 +33,7 @@ kept c = entries_of c.taken.items
 
 module _ (keep : Keep) (steps : keep.steps ≡ true) (n : RefuteFiles) (before : Disk) (after : Option Disk) (c : Checked) (p : FilesPass keep (bytes_at before n.input) (bytes_at before n.output) (bytes_at before n.log) c) (run : AreRun keep.steps c.from c.to c.taken.items) where
   log : IsRunLog (bytes_at before n.log) c.from c.to (kept c)
-  log = record { is_log = p.taken steps; run = run steps }
+  log = subst (λ (es : List Entry). IsRunLog (bytes_at before n.log) c.from c.to es) (sym (p.taken steps)) p.log.leads
 
   of_run : {P : PrenexFormula → List Entry → PrenexFormula → Type 0} → P c.from (kept c) c.to → OfRun n before P
   of_run h = record {

@@ -13,7 +13,7 @@ use Rattle.q_herbrand.specs.Refusals.{IsAccepted}
 use Rattle.q_herbrand.proofs.Accepting.{herbrand-accepted, accepted-alike, refused-not_accepted}
 use Rattle.q_herbrand.specs.declared.error.HerbrandError.{HerbrandError}
 use Rattle.q_herbrand.specs.declared.error.HerbrandError.TheVariants as refusal
-use Rattle.q_command.specs.Checks.{Checks, IsFileOf, IsRunLog, IsUnverified, IsVerified, MayCome, AnswersExactly}
+use Rattle.q_command.specs.Checks.{Checks, IsFileOf, IsUnverified, IsVerified, MayCome, AnswersExactly}
 use Rattle.q_command.specs.Logs.{Entry, steps_of}
 use Rattle.q_command.specs.Sinks.{SinkView, IsDue}
 use Rattle.q_command.specs.Statuses.{status_of}
@@ -22,6 +22,7 @@ use Rattle.q_command.specs.declared.outcome.Outcome.TheVariants as outcome
 use Rattle.q_command.specs.declared.status.Status.{Status}
 use Rattle.q_command.specs.declared.status.Status.TheVariants as status
 use Rattle.q_command.proofs.Formulas.{file-formula}
+use Rattle.q_command.proofs.Wholes.{one_log}
 use Rattle.q_command.proofs.Exact.{answers, one_formula, unverified-truth, unverified-not_done, unverified-not_circuits, verified-run, verified-formulas}
 use Rattle.q_run_refute.specs.Refutes.{RefuteFiles, OfRun, OfCircuits, OfPlainRun, IsPlainRun, IsExtendedAt, HasExtended, IsWhole, IsPart, AreRefused, Refutes, AreNoCircuits, IsUnfit, AreFitting, AreHerbrand, IsUntouched, RefutesExactly}
 use Rattle.q_run_refute.specs.RefutedLines.{status_of_refuted}
@@ -36,13 +37,6 @@ fits-alike file herbrand G H c d g h p q a =
     let same : AreAlike c d = one-meaning herbrand c d p q in
     subst (λ (F : PrenexFormula). IsAccepted F d) (one_formula file G H g h)
     (accepted-alike c d same.inputs same.names same.trees G a)
-
-one-log : (log : List ℕ) (F G A B : PrenexFormula) (es fs : List Entry) → IsRunLog log F G es → IsRunLog log A B fs →
-    es ≡ fs
-one-log log F G A B es fs p q = same es fs (sym p.is_log ∙ q.is_log)
-  where
-    same : (es fs : List Entry) → Some es ≡ Some fs → es ≡ fs
-    same es fs e = cc
 
 unverified-not_extended : (w : Outcome) (answer : Status) → answer ≡ status_of w → answer ≡ status.Extended → ⊥
 unverified-not_extended (outcome.Verified n) answer e x = cc
@@ -87,7 +81,7 @@ module _ (answer : Status) (n : RefuteFiles) (before : Disk) (after : Option Dis
       (subst (λ (F : PrenexFormula). NoneExtended F (steps_of x.entries))
       (one_formula (bytes_at before n.input) p.from x.from p.is_input x.is_input)
       (subst (λ (es : List Entry). NoneExtended p.from (steps_of es))
-      (one-log (bytes_at before n.log) p.from p.to x.from x.to p.entries x.entries p.log x.log) p.holds)) x.holds
+      (one_log (bytes_at before n.log) p.from p.to x.from x.to p.entries x.entries p.log x.log) p.holds)) x.holds
 
   -- what is refused does not fit
   not-fitting : AreFitting n before → OfPlainRun n before IsUnfit → ⊥

@@ -1,7 +1,7 @@
 use Rattle.std.proofs.Common.{◌+◌, ◌-◌, ◌≡◌, List, ℕ, IfSome}
 use Rattle.q_io.specs.Files.{OnlyReads, bytes_at}
 use Rattle.q_command.specs.Audits.{IsOpen, Advances}
-use Rattle.q_command.proofs.Auditing.{HasTried}
+use Rattle.q_command.proofs.Auditing.{HasReached}
 use Rattle.q_command.proofs.checking.check_log.Given as goal
 
 abbrev pub invariant-loop-audit : goal.invariant-loop-audit
@@ -10,7 +10,7 @@ invariant-loop-audit g l =
       goes_on : IsOpen l.audit;
       advanced : (bytes : List ℕ) × Advances l.initial.audit l.audit bytes;
       left : l.audit.reader.left + l.at ≡ 1099511627776;
-      front : IfSome (g.F.Files.held l.fn.files) (λ disk. HasTried (bytes_at disk l.name) l.at l.initial.audit l.audit);
+      front : IfSome (g.F.Files.held l.fn.files) (λ disk. HasReached (bytes_at disk l.name) l.at l.initial.audit l.audit);
       only_reads : OnlyReads g.F.Files.held g.F.Files.read_faults g.F.Files.write_faults l.fn.files l.files;
     }
 

@@ -1,8 +1,4 @@
-use Rattle.std.proofs.Common.{◌≡◌, true, ◌∙◌, sym, ap, subst}
-use Rattle.q_logic.specs.Literals.{Literal}
-use Rattle.q_logic.specs.Prefixes.{is_existential}
-use Rattle.q_prop.specs.Slots.{filled, without}
-use Rattle.q_judge.specs.Warrants.{Resolves}
+use Rattle.std.proofs.Common.{◌∙◌, sym}
 use Rattle.q_judge.proofs.blocking.is_blocked.Goals as goal
 
 pub returns : goal.returns

@@ -1,10 +1,14 @@
-use Rattle.q_command.proofs.Auditing.{ends_passed}
+use Rattle.q_command.proofs.Feeding.{err_then, ok_then}
+use Rattle.q_command.proofs.Concluding.{passes_end, concludes_end, concludes_last}
 use Rattle.q_command.proofs.audit.Audit.finish.Goals as goal
 
 pub returns-in-Ok-clause-passed : goal.returns-in-Ok-clause-passed
 returns-in-Ok-clause-passed c =
-    ends_passed c.args.self c.take_last.new.checker.formula c.args.output.now c.in-Ok.taken.count c.take_last.new.checker.undo c.in-Ok.taken.steps.items c.end.result c.end.ensures.same c.end.ensures.steps c.end.ensures.undo c.end.ensures.taken
-    (λ s. c.in-Ok.ensures.ends.passes c.args.output.now s)
+    ok_then c.end.result c.end.ensures.passed (λ p h. passes_end c.args.self c.in-Ok.trial c.args.output.now p c.in-Ok.ensures.ended h)
+
+pub returns-in-Ok-clause-refused : goal.returns-in-Ok-clause-refused
+returns-in-Ok-clause-refused c =
+    err_then c.end.result c.end.ensures.refused (λ w h. concludes_end c.args.self c.in-Ok.trial c.args.output.now w c.in-Ok.ensures.ended h)
 
 pub returns-in-Err-clause-refused : goal.returns-in-Err-clause-refused
-returns-in-Err-clause-refused c = c.in-Err.ensures.refused c.args.output.now
+returns-in-Err-clause-refused c = concludes_last c.args.self c.args.output.now c.in-Err.outcome c.in-Err.ensures.refused

@@ -1,20 +1,30 @@
-use Rattle.std.proofs.Common.{◌≡◌, ◌∙◌, refl, ap, arith, ℕ}
+use Rattle.std.proofs.Common.{◌≡◌, ◌∙◌, sym, ap, arith, ℕ, []}
 use Rattle.q_logic.specs.declared.limits.Limits.{Limits}
-use Rattle.q_log.specs.Logs.{read}
-use Rattle.q_log.specs.Reading.{LogState}
+use Rattle.q_hinted.specs.Logs.{read_entries}
+use Rattle.q_hinted.specs.Reading.{BothState}
+use Rattle.q_command.specs.Seats.{hints_taken}
+use Rattle.q_command.specs.Taken.{entries_of}
+use Rattle.q_command.proofs.Judging.{made-behind, made-hints}
 use Rattle.q_command.proofs.audit.Audit.start.Goals as goal
 
 pub returns : goal.returns
 returns c =
-    let bytes : c.standard-limits.result.bytes ≡ 1099511627776 = ap (λ (m : Limits). m.bytes) c.standard-limits.ensures in
-    let left : c.in-Ok.reader.left ≡ 1099511627776 = ap (λ (r : LogState). r.left) c.in-Ok.ensures.start ∙ bytes in
-    let all = c.in-Ok-start.ensures.started in
+    let bytes : c.standard.result.bytes ≡ 1099511627776 = ap (λ (m : Limits). m.bytes) c.standard.ensures in
+    let left : c.in-Ok.reader.left ≡ 1099511627776 = ap (λ (r : BothState). r.left) c.in-Ok.ensures.start ∙ bytes in
+    let none : hints_taken c.new-judges.result.hinted ≡ 0 = made-hints c.args.formula c.args.keep.undo c.new-judges.result c.new-judges.ensures in
     record {
-      log = λ text. c.in-Ok.ensures.log text ∙ ap (λ (k : ℕ). read k text) bytes;
-      alike = all.0;
-      undo = all.1;
-      keeps = all.3;
-      taken = c.new-2.ensures;
+      stands = record {
+        entries = [];
+        log = λ rest. sym (c.in-Ok.ensures.log rest ∙ ap (λ (k : ℕ). read_entries k rest) bytes);
+        steps = record {
+          judged = made-behind c.args.formula c.args.keep.undo c.new-judges.result c.new-judges.ensures;
+          counted = c.new-taken.ensures.count;
+          kept = λ k. ap entries_of c.new-taken.ensures.steps;
+        };
+      };
+      formula = c.new-judges.ensures.formula;
+      undo = c.new-judges.ensures.keeps;
+      steps = c.new-taken.ensures.keeps_is;
       left = left;
-      goes_on = record { limits = all.2 ∙ c.standard-limits.ensures; room = omega (arith, left, c.new-2.ensures.count) };
+      goes_on = record { room = omega (arith, left, c.new-taken.ensures.count); hints = omega (arith, none) };
     }

@@ -1,14 +1,19 @@
-use Rattle.std.proofs.Common.{◌∷◌, [], sym, subst, take, get_or}
-use Rattle.std.proofs.lemmas.List.{take_more}
-use Rattle.q_command.specs.Audits.{Advances}
-use Rattle.q_command.proofs.Auditing.{advances_more, refuses_from}
+use Rattle.std.proofs.Common.{◌≤◌, arith, subst, length, length-drop, take, drop, ◌++◌}
+use Rattle.q_command.specs.Audits.{Advances, Refuses}
+use Rattle.q_command.proofs.Auditing.{advances_further, refuses_from, whole-rest}
 use Rattle.q_command.proofs.audit.Audit.take_piece.Goals as goal
+
+pub loop-at-preserved : goal.loop-at-preserved
+loop-at-preserved c =
+    let rest = whole-rest c.args.piece.now c.loop-at.at in
+    let within : c.in-Ok.count ≤ length (drop c.loop-at.at c.args.piece.now) = subst (λ xs. c.in-Ok.count ≤ length xs) rest c.in-Ok.ensures.within.1 in (
+      advances_further c.args.self.now c.loop-at.self c.take_some.new.self c.args.piece.now c.loop-at.at c.in-Ok.count c.loop-at.invariant.0
+          (subst (λ xs. Advances c.loop-at.self c.take_some.new.self (take c.in-Ok.count xs)) rest c.in-Ok.ensures.ok),
+      omega (arith, within, length-drop c.loop-at.at c.args.piece.now, c.loop-at.invariant.1),
+    )
 
 pub returns-in-Err-clause-refused : goal.returns-in-Err-clause-refused
 returns-in-Err-clause-refused c =
-    refuses_from c.args.self.now c.loop-byte.self c.args.piece.now c.loop-byte.byte-index 0 c.in-Err.outcome c.loop-byte-test.true c.loop-byte.invariant c.in-Err.ensures.refused
-
-pub loop-byte-preserved : goal.loop-byte-preserved
-loop-byte-preserved c =
-    subst (λ xs. Advances c.args.self.now c.take_byte.new.self xs) (sym (take_more c.args.piece.now c.loop-byte.byte-index 0 c.loop-byte-test.true))
-    (advances_more c.args.self.now c.loop-byte.self c.take_byte.new.self (take c.loop-byte.byte-index c.args.piece.now) (get_or c.args.piece.now c.loop-byte.byte-index 0 ∷ []) c.loop-byte.invariant c.in_default.ensures.ok)
+    let rest = whole-rest c.args.piece.now c.loop-at.at in
+    refuses_from c.args.self.now c.loop-at.self c.args.piece.now c.loop-at.at c.in-Err.outcome c.loop-at.invariant.0
+    (λ more. subst (λ xs. Refuses c.in-Err.outcome c.loop-at.self (xs ++ more)) rest (c.in-Err.ensures.refused more))

@@ -1,5 +1,6 @@
 use Rattle.std.proofs.Common.{arith}
 use Rattle.q_judge.proofs.Apart.{all-left}
+use Rattle.q_judge.proofs.Enclosing.{walks-left}
 use Rattle.q_judge.proofs.Keeping.{counted-left}
 use Rattle.q_judge.proofs.Slots.{left-sizes}
 use Rattle.q_judge.proofs.ledger.Ledger.delete.Goals as goal
@@ -23,4 +24,5 @@ invariant_of-self c =
     rw c.delete.ensures (
       counted-left i.scope i.store c.args.at c.args.clause.now i.clauses i.lits c.self.invariant.0 h,
       all-left i.scope i.recent i.store c.args.at c.self.invariant.1,
+      walks-left i.scope i.walks i.store c.args.at c.self.invariant.2,
     )

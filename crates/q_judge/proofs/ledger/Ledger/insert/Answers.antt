@@ -1,5 +1,6 @@
 use Rattle.q_prop.specs.Slots.{filled}
 use Rattle.q_judge.proofs.Apart.{all-inserted}
+use Rattle.q_judge.proofs.Enclosing.{walks-inserted}
 use Rattle.q_judge.proofs.Keeping.{counted-inserted}
 use Rattle.q_judge.proofs.ledger.Ledger.insert.Goals as goal
 
@@ -13,4 +14,5 @@ invariant_of-self-2 c =
     rw c.in_ok-insert_after.ensures.ok (
       counted-inserted i.scope X c.args.w c.args.v i.clauses i.lits a e c.self.invariant.0,
       all-inserted i.scope c.inherit.new.self X c.args.w c.args.v e closed a (c.inherit.ensures i.scope X a closed c.self.invariant.1),
+      walks-inserted i.scope i.walks X c.args.w c.args.v e closed a c.self.invariant.2,
     )

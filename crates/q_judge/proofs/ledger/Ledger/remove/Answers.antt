@@ -1,5 +1,6 @@
 use Rattle.q_prop.specs.Slots.{filled}
 use Rattle.q_judge.proofs.Apart.{all-removed}
+use Rattle.q_judge.proofs.Enclosing.{walks-removed}
 use Rattle.q_judge.proofs.Keeping.{counted-removed}
 use Rattle.q_judge.proofs.ledger.Ledger.remove.Goals as goal
 
@@ -12,4 +13,5 @@ invariant_of-self c =
     rw c.remove.ensures (
       counted-removed i.scope X c.args.var i.clauses i.lits b a c.self.invariant.0,
       all-removed i.scope c.leave.new.self X c.args.var c.self.invariant.0.formula.distinct a (c.leave.ensures X c.self.invariant.1),
+      walks-removed i.scope i.walks X c.args.var c.self.invariant.0.formula.distinct a c.self.invariant.2,
     )

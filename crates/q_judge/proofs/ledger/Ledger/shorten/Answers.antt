@@ -1,10 +1,14 @@
-use Rattle.std.proofs.Common.{Some, arith}
+use Rattle.std.proofs.Common.{◌∷◌, Some, arith, inr, subst}
+use Rattle.q_logic.specs.Formulas.{Clause, IsIn}
+use Rattle.q_logic.proofs.UniversalPivot.{without-IsIn}
+use Rattle.q_prop.specs.Slots.{filled}
+use Rattle.q_judge.proofs.Enclosing.{walks-shrunk, walks-fewer}
 use Rattle.q_logic.specs.Pivots.{without}
 use Rattle.q_logic.proofs.Sets.{without-shorter}
 use Rattle.q_prop.proofs.SlotLemmas.{slice_get-in}
 use Rattle.q_judge.proofs.Apart.{all-shrunk}
 use Rattle.q_judge.proofs.Keeping.{counted-shrunk, ordered-without}
-use Rattle.q_judge.proofs.Slots.{left-sizes}
+use Rattle.q_judge.proofs.Slots.{left-sizes, held-in}
 use Rattle.q_judge.proofs.Trying.{put-holds}
 use Rattle.q_judge.proofs.ledger.Ledger.shorten.Goals as goal
 
@@ -43,4 +47,23 @@ invariant_of-self-2 c =
     rw (c.delete.ensures, r.1) (
       counted-shrunk i.scope i.store t c.args.at k r.0 C i.clauses i.lits c.self.invariant.0 h p,
       all-shrunk i.scope i.recent i.store t c.args.at k r.0 C h p c.self.invariant.1,
+      walks-shrunk i.scope c.take.new.self i.store t c.args.at k c.args.rest.now c.in_ok-new.ensures.ok (c.take.ensures (filled i.store) c.self.invariant.2),
+    )
+
+pub take-requires : goal.take-requires
+take-requires c =
+    let i = c.self.inside in
+    let C = c.args.clause.now in
+    let r = c.requires.rest in
+    let h = rw (← c.self.view_is) at c.requires.there in
+    record { within = λ k m. c.self.invariant.0.formula.closed C (held-in i.store c.args.at C h) k (without-IsIn r.0 C k (subst (λ (D : Clause). IsIn k D) r.1 m)) }
+
+pub invariant_of-self : goal.invariant_of-self
+invariant_of-self c =
+    let i = c.self.inside in
+    let X = filled i.store in
+    rw c.in_err-new.ensures.err (
+      c.self.invariant.0,
+      c.self.invariant.1,
+      walks-fewer i.scope c.take.new.self (c.args.rest.now ∷ X) X (λ D m. inr m) (c.take.ensures X c.self.invariant.2),
     )

@@ -17,4 +17,5 @@ invariant_of-result c =
     let n : length F.matrix ≤ c.loop-at.at = omega (arith, c.loop-at-test.false, c.clauses-at-end.ensures.value) in (
       counted-start F c.in_ok-scope.scope c.prefix.result.now c.loop-at.store c.clauses-2.result c.loop-at.lits c.loop-at.at c.prefix.ensures.proper.formula c.in_ok-scope.ensures c.prefix.ensures.value c.clauses-2.ensures.value n c.loop-at.invariant.0 c.loop-at.invariant.1,
       rw c.new-2.ensures (λ R m. absurd m),
+      rw c.new-3.ensures (λ R m. absurd m),
     )

@@ -1,0 +1,14 @@
+use Rattle.q_command.proofs.Feeding.{err_then, ok_then}
+use Rattle.q_run_annotate.proofs.Taking.{passes_end, concludes_end, concludes_last}
+use Rattle.q_run_annotate.proofs.reading.Reading.finish.Goals as goal
+
+pub returns-in-Ok-clause-passed : goal.returns-in-Ok-clause-passed
+returns-in-Ok-clause-passed c =
+    ok_then c.finish.result c.finish.ensures.ended (λ t h. passes_end c.args.self c.in-Ok.scribe c.args.output.now t c.in-Ok.ensures.ended h)
+
+pub returns-in-Ok-clause-refused : goal.returns-in-Ok-clause-refused
+returns-in-Ok-clause-refused c =
+    err_then c.finish.result c.finish.ensures.refused (λ w h. concludes_end c.args.self c.in-Ok.scribe c.args.output.now w c.in-Ok.ensures.ended h)
+
+pub returns-in-Err-clause-refused : goal.returns-in-Err-clause-refused
+returns-in-Err-clause-refused c = concludes_last c.args.self c.args.output.now c.in-Err.outcome c.in-Err.ensures.refused
