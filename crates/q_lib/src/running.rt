@@ -52,6 +52,41 @@ fn three_files(
     Ok(files)
 }
 
+// A file of these bytes.
+fn one_file(alloc: Global, input: &[u8]) -> Result<SteadyFiles, NoMemory>
+    ensures { IfOk result (λ disk. HoldsOne input.now disk) }
+{
+    let mut files = SteadyFiles::new(alloc);
+    files.put_file("IN", input)?;
+    Ok(files)
+}
+
+// The files of `rebuild`.
+fn four_files(
+    alloc: Global,
+    input: &[u8],
+    output: &[u8],
+    log: &[u8],
+    skolem: &[u8],
+) -> Result<SteadyFiles, NoMemory>
+    ensures { IfOk result (λ disk. HoldsFour disk input.now output.now log.now skolem.now) }
+{
+    let mut files = three_files(alloc, input, output, log)?;
+    files.put_file("SKOLEM", skolem)?;
+    Ok(files)
+}
+
+// The words of `rebuild`.
+fn rebuild_words(alloc: Global) -> Result<Vec<String>, NoMemory>
+    ensures { IfOk result (λ words. map (λ w. string_bytes w) words.items
+        ≡ over_three (codes "rebuild") (codes "SKOLEM" ∷ codes "CERT" ∷ [])) }
+{
+    let mut words = words_of(alloc, "rebuild")?;
+    push_word(&mut words, alloc, "SKOLEM")?;
+    push_word(&mut words, alloc, "CERT")?;
+    Ok(words)
+}
+
 // Runs it. The guides are those of the program.
 fn command(alloc: Global, words: &[String], files: SteadyFiles) -> Result<Left, NoMemory>
     ensures { IfOk result (λ left. Ran (map (λ w. string_bytes w) words.now) files left.status left.files left.line) }
@@ -89,8 +124,7 @@ pub(crate) fn simplify(alloc: Global, input: &[u8]) -> Result<Left, NoMemory>
     ensures { IfOk result (λ left. RanOver (over_three (codes "simplify") [])
         (λ disk. HoldsOne input.now disk) left.status left.files left.line) }
 {
-    let mut files = SteadyFiles::new(alloc);
-    files.put_file("IN", input)?;
+    let files = one_file(alloc, input)?;
     let words = words_of(alloc, "simplify")?;
     command(alloc, &words, files)
 }
@@ -105,10 +139,7 @@ pub(crate) fn rebuild(
     ensures { IfOk result (λ left. RanOver (over_three (codes "rebuild") (codes "SKOLEM" ∷ codes "CERT" ∷ []))
         (λ disk. HoldsFour disk input.now output.now log.now skolem.now) left.status left.files left.line) }
 {
-    let mut files = three_files(alloc, input, output, log)?;
-    files.put_file("SKOLEM", skolem)?;
-    let mut words = words_of(alloc, "rebuild")?;
-    push_word(&mut words, alloc, "SKOLEM")?;
-    push_word(&mut words, alloc, "CERT")?;
+    let files = four_files(alloc, input, output, log, skolem)?;
+    let words = rebuild_words(alloc)?;
     command(alloc, &words, files)
 }
