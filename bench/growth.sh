@@ -1,6 +1,7 @@
 #!/usr/bin/env bash
 # How the time of `check` grows with the log that `simplify` wrote: for some families three sizes, each four times the one
-# before. CELDRINN names the program; the words are families.
+# before. The slope says by which power of the log's bytes the time grew since the size before; it is left out below 0.02
+# seconds. CELDRINN names the program; the words are families.
 set -eu
 export CELDRINN_PROGRESS=0
 cd "$(dirname "$0")/.."
@@ -20,12 +21,20 @@ sizes() {
     esac
 }
 
-echo "family size steps simplify check"
+slope() {
+    awk -v from="$1" -v to="$2" -v small="$3" -v large="$4" \
+        'BEGIN { if (from < 0.02 || small == 0) print "-"; else printf "%.2f\n", log(to / from) / log(large / small) }'
+}
+
+echo "family size steps bytes simplify check slope"
 for family in ${*:-refuted free cover equal completion}; do
+    before=0 smaller=0
     for size in $(sizes "$family"); do
         bench/families.py "$family" "$size" "$work/in"
         simplify=$(seconds "$program" simplify "$work/in" "$work/out" "$work/log")
         check=$(seconds bash -c 'ulimit -t 60; exec "$@"' - "$program" check "$work/in" "$work/out" "$work/log")
-        echo "$family $size $(wc -l < "$work/log") $simplify $check"
+        bytes=$(wc -c < "$work/log")
+        echo "$family $size $(wc -l < "$work/log") $bytes $simplify $check $(slope "$before" "$check" "$smaller" "$bytes")"
+        before=$check smaller=$bytes
     done
 done

@@ -189,6 +189,11 @@ impl Subsuming {
             len: clause.len(),
             ..self.hooks.hook(d)
         };
+        // copies of a clause hang where it hangs
+        let beside = self.scan(kernel, d, &shape, shape.home);
+        if matches!(beside, Some(Target::Subsumed { .. })) {
+            return Ok(beside);
+        }
         let mut best = None;
         for l in clause {
             best = better(best, self.scan(kernel, d, &shape, index_of(*l)));
@@ -203,6 +208,9 @@ impl Subsuming {
     // A target by a clause that hangs at one literal. One that subsumes is better.
     fn scan(&self, kernel: &Kernel, d: ClauseId, shape: &Hook, home: u32) -> Option<Target> {
         let mut best = None;
+        if home == 0 {
+            return best;
+        }
         let mut c = self.hooks.first(home);
         for _ in 0..self.hooks.len() {
             let hook = self.hooks.hook(c);
