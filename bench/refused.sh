@@ -43,6 +43,9 @@ refuse check "$examples/equivalence.qdimacs" "$examples/equivalence-out.qdimacs"
 refuse rebuild "$examples/equivalence.qdimacs" "$examples/equivalence-out.qdimacs" "$examples/equivalence.qrat" \
     "$examples/equivalence-out.aag" cert
 refuse annotate "$examples/equivalence.qdimacs" "$examples/equivalence-out.qdimacs" "$examples/equivalence.qrat" hinted
+"$program" annotate "$examples/equivalence.qdimacs" "$examples/equivalence-out.qdimacs" "$examples/equivalence.qrat" with-hints >line
+refuse check "$examples/equivalence.qdimacs" "$examples/equivalence-out.qdimacs" with-hints
+refuse rebuild "$examples/equivalence.qdimacs" "$examples/equivalence-out.qdimacs" with-hints "$examples/equivalence-out.aag" cert
 refuse refute "$examples/parity.qdimacs" "$examples/parity-out.qdimacs" "$examples/parity.qrat" "$examples/parity-out.aag" cert
 refuse validate "$examples/equivalence.qdimacs" "$examples/equivalence.aag"
 refuse solve "$examples/equivalence.qdimacs" out log cert
