@@ -1,6 +1,6 @@
 #!/bin/sh
-# Remakes dist/: the program and the one that plays the rows, proved and built from the sources as they are, and the sources' hash
-# beside them.
+# Remakes dist/: the program, the one that plays the rows and the library for C, proved and built from the sources as they are, and
+# the sources' hash beside them.
 set -u
 cd "$(dirname "$0")/.." || exit 1
 
@@ -22,9 +22,21 @@ release() {
     chmod 755 "dist/$2-x86_64-linux"
 }
 
+# The library has the calls; the kit's three functions over malloc, which they want, are put beside them.
+release_library() {
+    library=crates/q_lib/out/libq_lib.a
+    is_built "$library" || (cd crates/q_lib && rt lib) || exit 1
+    to=$PWD/dist/libceldrinn-x86_64-linux.a
+    kit=$(dirname "$(rt doc)")
+    work=$(mktemp -d) || exit 1
+    cp "$library" "$to" && (cd "$work" && ar x "$kit/c/liblibc_c.a" && ar rDs "$to" ./*.o) || exit 1
+    rm -rf "$work"
+}
+
 before=$(bench/sources.sh)
 release q_main celdrinn
 release q_rows rows
+release_library
 if [ "$(bench/sources.sh)" != "$before" ]; then
     echo "release: the sources changed meanwhile" >&2
     exit 1

@@ -15,6 +15,8 @@ case $prefix in
 esac
 
 lib=$root/lib/celdrinn
+archive=$root/lib/libceldrinn.a
+header=$root/include/celdrinn.h
 doc=$root/share/doc/celdrinn
 bash_completion=$root/share/bash-completion/completions/celdrinn
 zsh_completion=$root/share/zsh/site-functions/_celdrinn
@@ -23,7 +25,7 @@ page=$root/share/man/man1/celdrinn.1
 
 if [ -n "$remove" ]; then
     rm -rf "$lib" "$doc"
-    rm -f "$root/bin/celdrinn" "$bash_completion" "$zsh_completion" "$fish_completion" "$page"
+    rm -f "$root/bin/celdrinn" "$archive" "$header" "$bash_completion" "$zsh_completion" "$fish_completion" "$page"
     exit
 fi
 
@@ -54,6 +56,11 @@ put 755 "$lib" celdrinn
 put_as 755 "$program" "$lib/program"
 put 644 "$lib" VERSION
 put 644 "$lib/help" help/*.txt
+# The library for programs in C, where it is there.
+if [ -f dist/libceldrinn-x86_64-linux.a ]; then
+    put_as 644 dist/libceldrinn-x86_64-linux.a "$archive"
+    put_as 644 packaging/celdrinn.h "$header"
+fi
 mkdir -p "$root/bin" && ln -sf ../lib/celdrinn/celdrinn "$root/bin/celdrinn" || exit 1
 put 644 "$doc" README.md CHANGELOG.md LICENSE CITATION.cff
 put 644 "$doc/docs" docs/*.md

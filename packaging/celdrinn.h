@@ -1,0 +1,36 @@
+/* Celdrinn, a proved preprocessor for quantified Boolean formulas, for programs in C.
+ *
+ * Each call is one run of the command of its name over files in memory, and answers its exit status: 0 done, 10 true, 20 false, 1 LOG
+ * refused, 3 IN or OUT refused, 6 memory was wanting, 7 circuits refused, 8 a step that can't be carried back. What it makes is
+ * copied to the front of the caller's buffers, each where it fits; `lengths` says how many bytes each has, also where its buffer was
+ * too short. `line` is what the command would print. No pointer may be null, also where a length is 0; buffers don't overlap.
+ * Memory comes from malloc, and all of it is given back before a call ends. */
+#ifndef CELDRINN_H
+#define CELDRINN_H
+#include <stddef.h>
+#include <stdint.h>
+#ifdef __cplusplus
+extern "C" {
+#endif
+
+struct celdrinn_lengths {
+    size_t output, log, line;
+};
+
+/* simplify IN OUT LOG */
+uint8_t celdrinn_simplify(const uint8_t *in, size_t in_len, uint8_t *out, size_t out_room, uint8_t *log, size_t log_room,
+                          uint8_t *line, size_t line_room, struct celdrinn_lengths *lengths);
+
+/* check IN OUT LOG */
+uint8_t celdrinn_check(const uint8_t *in, size_t in_len, const uint8_t *out, size_t out_len, const uint8_t *log, size_t log_len,
+                       uint8_t *line, size_t line_room, struct celdrinn_lengths *lengths);
+
+/* rebuild IN OUT LOG SKOLEM CERT; the length of CERT is `lengths->output` */
+uint8_t celdrinn_rebuild(const uint8_t *in, size_t in_len, const uint8_t *out, size_t out_len, const uint8_t *log, size_t log_len,
+                         const uint8_t *skolem, size_t skolem_len, uint8_t *cert, size_t cert_room, uint8_t *line, size_t line_room,
+                         struct celdrinn_lengths *lengths);
+
+#ifdef __cplusplus
+}
+#endif
+#endif
