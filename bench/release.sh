@@ -22,14 +22,14 @@ release() {
     chmod 755 "dist/$2-x86_64-linux"
 }
 
-# The library has the calls; the kit's three functions over malloc, which they want, are put beside them.
+# The library has the calls; what they want of malloc, packaging/celdrinn_memory.c, is compiled and put beside them.
 release_library() {
     library=crates/q_lib/out/libq_lib.a
     is_built "$library" || (cd crates/q_lib && rt lib) || exit 1
     to=$PWD/dist/libceldrinn-x86_64-linux.a
-    kit=$(dirname "$(rt doc)")
     work=$(mktemp -d) || exit 1
-    cp "$library" "$to" && (cd "$work" && ar x "$kit/c/liblibc_c.a" && ar rDs "$to" ./*.o) || exit 1
+    ${CC:-cc} -O2 -fPIC -c -o "$work/celdrinn_memory.o" packaging/celdrinn_memory.c || exit 1
+    cp "$library" "$to" && ar rDs "$to" "$work/celdrinn_memory.o" || exit 1
     rm -rf "$work"
 }
 

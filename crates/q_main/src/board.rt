@@ -217,7 +217,7 @@ impl Board {
     }
 
     /// No guide is left, so all rules are searched.
-    pub(crate) fn note_search(&self, kernel: &Kernel) {
+    pub(crate) fn note_search(&self, clauses: usize) {
         let Some(second) = self.second() else {
             return;
         };
@@ -226,7 +226,6 @@ impl Board {
         }
         self.last_second.set(second);
         let (front, end) = self.edges();
-        let clauses = kernel.clauses();
         let _ = eprint!(self.rt;
             "{front}{second} s: last, every rule is searched over all {clauses} clauses{end}"
         );

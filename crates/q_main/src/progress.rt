@@ -6,6 +6,9 @@ use q_kernel::Kernel;
 use q_sched::{Guide, Move, Proposal};
 use std::rc::Rc;
 
+// The drive asks a guide no more once so many of its proposals were refused, one after the other or not.
+const MOST_REFUSALS: u32 = 1_024;
+
 /// This guide, with what it proposed noted where it was taken.
 #[derive(Drop)]
 pub(crate) struct Progress<G: Guide> {
@@ -15,6 +18,9 @@ pub(crate) struct Progress<G: Guide> {
     target: Option<Move>,
     // no guide is asked after it
     is_last: bool,
+    refusals: u32,
+    // of the formula that it was asked for last
+    clauses: usize,
 }
 
 fn target_of(proposal: &Proposal) -> Option<Move> {
@@ -34,6 +40,18 @@ impl<G: Guide> Progress<G> {
             board,
             target: None,
             is_last,
+            refusals: 0,
+            clauses: 0,
+        }
+    }
+
+    // Its proposal was refused. With the last refusal it is asked no more.
+    fn refused(&mut self)
+        ensures { self.new.guide ≡ self.old.guide }
+    {
+        self.refusals = self.refusals.saturating_add(1);
+        if self.is_last && self.refusals == MOST_REFUSALS {
+            self.board.note_search(self.clauses);
         }
     }
 
@@ -42,10 +60,11 @@ impl<G: Guide> Progress<G> {
     {
         if self.board.is_on() {
             self.target = target_of(proposal);
+            self.clauses = kernel.clauses();
             if self.target.is_some() {
                 self.board.note_look(None, kernel);
             } else if self.is_last {
-                self.board.note_search(kernel);
+                self.board.note_search(self.clauses);
             }
         }
     }
@@ -69,6 +88,9 @@ impl<G: Guide> Guide for Progress<G> {
         self.guide.told(taken);
         if let (true, Some(target)) = (taken, self.target.take()) {
             self.board.note_taken(&target);
+        }
+        if !taken {
+            self.refused();
         }
     }
 }
