@@ -4,19 +4,19 @@
 #
 #   bench/hints.sh [proof:VARIABLES | FAMILY:SIZE] ..
 #
-# FAMILY is one of bench/families.py. By default: three proofs, and three families, two of them at about a million steps. Times
-# are processor seconds, the least of three runs. $CELDRINN names another program.
+# FAMILY is one of bench/families.py. By default: three proofs, and three families, one of them at about a million steps. Times
+# are processor seconds, the least of $RUNS runs (3 if not said). $CELDRINN names another program.
 set -eu
 export CELDRINN_PROGRESS=0
 cd "$(dirname "$0")/.."
 work=$(mktemp -d)
 trap 'rm -rf "$work"' EXIT
-[ $# -gt 0 ] || set -- proof:200 proof:225 proof:250 sat:500000 gates:130000 adder:4500
+[ $# -gt 0 ] || set -- proof:200 proof:210 proof:225 sat:500000 gates:222000 adder:1600
 celdrinn=${CELDRINN:-./celdrinn}
 
-# Processor seconds of a call, the least of three; its line goes to $work/line.
+# Processor seconds of a call, the least of some; its line goes to $work/line.
 least() {
-    for _ in 1 2 3; do
+    for _ in $(seq "${RUNS:-3}"); do
         /usr/bin/time -q -f '%U %S %M' -o "$work/taken" "$celdrinn" "$@" >"$work/line" 2>/dev/null || true
         tail -n 1 "$work/taken" | awk '{ printf "%.2f\n", $1 + $2 }'
         tail -n 1 "$work/taken" | awk '{ print $3 }' >"$work/peak"
