@@ -17,3 +17,6 @@ pub mod Stepping
 pub mod Reserving
 pub mod Following
 pub mod Neighbours
+pub mod HolderLists
+pub mod LiveIds
+pub mod Turns

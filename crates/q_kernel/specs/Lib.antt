@@ -6,3 +6,4 @@ pub mod Linking
 pub mod Listing
 pub mod Singles
 pub mod Invariant
+pub mod Visits

@@ -86,7 +86,7 @@ impl Kernel {
             greatest: 0,
             log_bytes: 0,
         })?;
-        kernel.ids();
+        kernel.known_ids();
         for at in 0..formula.clauses() {
             kernel.put_at(at as u32, formula.clause(at));
         }
@@ -94,7 +94,7 @@ impl Kernel {
     }
 
     // How many ids there are, for proofs.
-    fn ids(&self)
+    pub(crate) fn known_ids(&self)
         ensures ids { length (slots self.now) ≡ live_in (slots self.now) + self.now.arena.spare_ids }
         ensures few { length (slots self.now) ≤ 4294967295 }
     {
@@ -514,13 +514,10 @@ impl Kernel {
         requires { has_empty (live (slots self.now)) ≡ true }
         ensures { slot (slots self.now) result ≡ Some [] }
     {
-        self.arena.apart();
-        let mut from = 0;
-        while let Some(id) = self.next_live(from) {
+        for id in self.ids() {
             if self.lits(id).is_empty() {
                 return id;
             }
-            from = id + 1;
         }
         0
     }
@@ -651,13 +648,10 @@ impl Kernel {
     pub fn formula(&self, alloc: Global) -> Result<Formula, NoMemory>
         ensures { IfOk result (λ f. f ≡ formula_in self.now) }
     {
-        self.ids();
         let prefix = bounds_of(alloc, &self.prefix)?;
         let mut clauses = Clauses::with_capacity(alloc, self.count, self.size - self.count)?;
-        let mut from = 0;
-        while let Some(id) = self.next_live(from) {
+        for id in self.ids() {
             clauses.push(self.lits(id))?;
-            from = id + 1;
         }
         let (lits, ends) = clauses.into_parts();
         Ok(Formula::from_parts(prefix, lits, ends))
