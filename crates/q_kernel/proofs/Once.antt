@@ -1,5 +1,5 @@
 -- Members of a list that grows at its front or at its end, and lists in which no number stands twice.
-use Rattle.std.proofs.Common.{◌≡◌, ◌⊎◌, ℕ, zero, suc, ◌<◌, inl, inr, Contains, List, [], ◌∷◌, ◌++◌, length, refl, sym, arith}
+use Rattle.std.proofs.Common.{◌≡◌, ◌⊎◌, ℕ, zero, suc, ◌<◌, inl, inr, Contains, List, [], ◌∷◌, ◌++◌, length, refl, sym, subst, arith}
 use Rattle.std.proofs.lemmas.List.Elements.{Contains-append_cases}
 use Rattle.q_arena.specs.Rings.{Has, AreApart}
 use Rattle.q_arena.proofs.Paths.{Misses-not}
@@ -24,9 +24,14 @@ Contains-last xs d q h = elim (Contains-append_cases xs (d ∷ []) q h) [ inl a 
 pub Contains-first : (d : ℕ) (xs : List ℕ) (q : ℕ) → Contains (d ∷ xs) q → (q ≡ d) ⊎ Contains xs q
 Contains-first d xs q h = elim (Contains-append_cases (d ∷ []) xs q h) [ inl a ↦ inl (one-item d q a) | inr a ↦ inr a ]
 
-Contains-Has : (xs : List ℕ) (q : ℕ) → Contains xs q → Has xs q
+pub Contains-Has : (xs : List ℕ) (q : ℕ) → Contains xs q → Has xs q
 Contains-Has [] q h = absurd (Contains-none q h)
 Contains-Has (x ∷ xs) q h = elim (Contains-first x xs q h) [ inl e ↦ inl e | inr i ↦ inr (Contains-Has xs q i) ]
+
+pub Has-Contains : (xs : List ℕ) (q : ℕ) → Has xs q → Contains xs q
+Has-Contains [] q h = absurd h
+Has-Contains (x ∷ xs) q (inl e) = subst (λ (y : ℕ). Contains (x ∷ xs) y) (sym e) (Contains-here x xs)
+Has-Contains (x ∷ xs) q (inr h) = Contains-further x xs q (Has-Contains xs q h)
 
 pub once-apart : (xs : List ℕ) → AreApart xs → AreOnce xs
 once-apart [] a = tt
