@@ -16,6 +16,7 @@ mod hidden;
 mod outcome;
 mod plan;
 mod search;
+mod spreading;
 mod stuck;
 mod target;
 mod units;
