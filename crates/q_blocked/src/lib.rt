@@ -2,6 +2,7 @@
 #![tactic(auto)]
 
 mod applying;
+mod asking;
 mod blocked;
 mod calls;
 mod calm;

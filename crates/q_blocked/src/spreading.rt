@@ -17,26 +17,26 @@ use q_logic::{Lit, NoMemory};
 use q_rule::Queue;
 use q_snapshot::Entry;
 
-// Whether the two literals of an entry show that its clause gives the set nothing: by one whose negation is in the set, or
-// because both are outside.
+// Whether two literals of a clause show that it gives the set nothing: one whose negation is in the set, or both because
+// they are outside.
 #[inline(always)]
-fn is_quiet(set: &Queue, entry: Entry) -> bool
+fn are_quiet(set: &Queue, first: Lit, second: Lit) -> bool
     requires { IsTautology set.now → ⊥ }
-    ensures { result ≡ true → (D : Clause) → IsIn entry.first D → IsIn entry.second D → IsCalm set.now D }
+    ensures { result ≡ true → (D : Clause) → IsIn first D → IsIn second D → IsCalm set.now D }
 {
-    if set.has(entry.first.negated()) {
+    if set.has(first.negated()) {
         return true;
     }
-    if set.has(entry.second.negated()) {
+    if set.has(second.negated()) {
         return true;
     }
-    if set.has(entry.first) {
+    if set.has(first) {
         return false;
     }
-    if set.has(entry.second) {
+    if set.has(second) {
         return false;
     }
-    !entry.second.is(entry.first)
+    !second.is(first)
 }
 
 // Grows by the hidden literal that the clause of an entry gives. Yes where a literal and its negation are in the set then.
@@ -45,16 +45,17 @@ fn take_entry(
     kernel: &Kernel,
     growth: &mut Growth,
     c: ClauseId,
-    entry: Entry,
+    entry: &Entry,
 ) -> Result<bool, NoMemory>
     requires growing { Growing kernel.now c growth.old }
-    requires entry { (l : Literal) × IsEntry kernel.now l entry }
-    ensures { IfOk result (HasSpread kernel.now c (IsBeside (slots kernel.now) c entry.id) growth.old growth.new) }
+    requires entry { (l : Literal) × IsEntry kernel.now l entry.now }
+    ensures { IfOk result (HasSpread kernel.now c (IsBeside (slots kernel.now) c entry.now.id) growth.old growth.new) }
 {
-    if is_quiet(&growth.set, entry) {
+    if are_quiet(&growth.set, entry.first, entry.second) {
         return Ok(false);
     }
-    take_hidden(kernel, growth, c, entry.id)
+    let ended = take_hidden(kernel, growth, c, entry.id)?;
+    Ok(ended)
 }
 
 /// Grows by the hidden literals that the clauses of the row of a literal give.
@@ -73,7 +74,7 @@ pub fn spread_row(
     ensures { IfOk result (HasSpread kernel.now c (λ E. IsIn E (others c (slots kernel.now)) × IsIn k E) growth.old growth.new) }
 {
     for entry in row {
-        if take_entry(kernel, growth, c, *entry)? {
+        if take_entry(kernel, growth, c, entry)? {
             return Ok(true);
         }
     }

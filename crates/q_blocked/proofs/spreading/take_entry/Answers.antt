@@ -6,14 +6,14 @@ use Rattle.q_logic.specs.Formulas.{Clause, IsIn}
 use Rattle.q_blocked.proofs.Growing.{spread-none}
 use Rattle.q_blocked.proofs.spreading.take_entry.Goals as goal
 
-pub is_quiet-requires : goal.is_quiet-requires
-is_quiet-requires c = c.requires.growing.2.consistent
+pub are_quiet-requires : goal.are_quiet-requires
+are_quiet-requires c = c.requires.growing.2.consistent
 
-pub returns-then-is_quiet : goal.returns-then-is_quiet
-returns-then-is_quiet c =
+pub returns-then-are_quiet : goal.returns-then-are_quiet
+returns-then-are_quiet c =
     let k = c.args.kernel.now in
     let g = c.args.growth.now in
     let e = c.requires.entry.1 in
-    spread-none k c.args.c (IsBeside (slots k) c.args.c c.args.entry.id) g g refl refl refl refl c.requires.growing
-    (λ D b. let q = slot-one (slots k) c.args.entry.id e.clause D e.there b.1 in
-    c.is_quiet.ensures c.if-is_quiet.true D (subst (λ (E : Clause). IsIn c.args.entry.first E) q e.first) (subst (λ (E : Clause). IsIn c.args.entry.second E) q e.second))
+    spread-none k c.args.c (IsBeside (slots k) c.args.c c.args.entry.now.id) g g refl refl refl refl c.requires.growing
+    (λ D b. let q = slot-one (slots k) c.args.entry.now.id e.clause D e.there b.1 in
+    c.are_quiet.ensures c.if-are_quiet.true D (subst (λ (E : Clause). IsIn c.args.entry.now.first E) q e.first) (subst (λ (E : Clause). IsIn c.args.entry.now.second E) q e.second))
