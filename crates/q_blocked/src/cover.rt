@@ -17,7 +17,7 @@
 //! clauses of one literal come last, since no list leads to them, and only where nothing else ended the growth.
 //!
 //! Most looks find nothing, and for the reason of the last look, at this clause or at one before. So it is noted and
-//! asked first: two clauses with `not l` that have nothing in common beyond the set (`stuck.rt`), the place in a long
+//! asked first: the clause that gave a hidden literal, on which nothing is covered then (`reasons.rt`), two clauses with `not l` that have nothing in common beyond the set (`stuck.rt`), the place in a long
 //! clause of a literal whose negation is in the set (`calm.rt`). What is noted is tested each time, so it may be out of
 //! date.
 //!
@@ -51,6 +51,7 @@ use crate::covered::{covered_at, is_bare};
 use crate::growth::Growth;
 use crate::hidden::{close, use_units};
 use crate::outcome::Outcome;
+use crate::reasons::is_given;
 use crate::search::Search;
 use crate::stuck::is_stuck;
 use q_arena::ClauseId;
@@ -129,6 +130,10 @@ fn cover_at(
 {
     let l = growth.set.at(place);
     if !is_existential(kernel, l.var()) {
+        return Ok(Outcome::Calm);
+    }
+    let d = growth.reasons.of(place);
+    if is_given(kernel, &growth.set, c, d, l) {
         return Ok(Outcome::Calm);
     }
     if is_stuck(kernel, &growth.set, &growth.pairs, c, l) {

@@ -40,7 +40,7 @@ fn is_other_outside(set: &Queue, j: Lit, k: Lit) -> bool
 }
 
 // Whether all literals of the clause but one are in the set.
-fn others_in(clause: &[Lit], set: &Queue, k: Lit) -> bool
+pub(crate) fn others_in(clause: &[Lit], set: &Queue, k: Lit) -> bool
     ensures { IsTrue result ↔ ((j : Literal) → IsIn j clause.now → j ≢ k → IsIn j set.now) }
 {
     for j in clause {
@@ -88,7 +88,12 @@ fn hidden_by(kernel: &Kernel, set: &Queue, c: ClauseId, d: ClauseId) -> Option<L
 }
 
 // Grows by the hidden literal that the clause of an id gives. Yes where a literal and its negation are in the set then.
-fn grow_by(kernel: &Kernel, growth: &mut Growth, c: ClauseId, d: ClauseId) -> Result<bool, NoMemory>
+pub(crate) fn grow_by(
+    kernel: &Kernel,
+    growth: &mut Growth,
+    c: ClauseId,
+    d: ClauseId,
+) -> Result<bool, NoMemory>
     requires { Growing kernel.now c growth.old }
     ensures { IfOk result (HasSpread kernel.now c (IsBeside (slots kernel.now) c d) growth.old growth.new) }
 {
@@ -96,7 +101,9 @@ fn grow_by(kernel: &Kernel, growth: &mut Growth, c: ClauseId, d: ClauseId) -> Re
     let Some(new) = hidden_by(kernel, &growth.set, c, d) else {
         return Ok(false);
     };
+    let place = growth.set.len();
     growth.set.push(new)?;
+    growth.reasons.note(place, d)?;
     if growth.set.has(new.negated()) {
         growth.plan.last = None;
         return Ok(true);

@@ -16,6 +16,7 @@ mod growth;
 mod hidden;
 mod outcome;
 mod plan;
+mod reasons;
 mod search;
 mod spreading;
 mod stuck;

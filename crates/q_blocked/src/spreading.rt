@@ -10,7 +10,7 @@ ghost use Rattle.q_blocked.specs.Walks.{IsBeside, IsCalm};
 ghost use Rattle.q_blocked.specs.Growths.{Growing, HasSpread};
 
 use crate::growth::Growth;
-use crate::hidden::take_hidden;
+use crate::hidden::{grow_by, take_hidden};
 use q_arena::ClauseId;
 use q_kernel::Kernel;
 use q_logic::{Lit, NoMemory};
@@ -53,6 +53,11 @@ fn take_entry(
 {
     if are_quiet(&growth.set, entry.first, entry.second) {
         return Ok(false);
+    }
+    // a clause of two literals gives one for sure
+    if entry.second.is(entry.first) {
+        let ended = grow_by(kernel, growth, c, entry.id)?;
+        return Ok(ended);
     }
     let ended = take_hidden(kernel, growth, c, entry.id)?;
     Ok(ended)
