@@ -1,5 +1,4 @@
-use Rattle.std.proofs.Common.{◌≡◌, ◌≢◌, ◌↔◌, true}
-use Rattle.q_logic.specs.Literals.{Literal, negation}
+use Rattle.q_logic.specs.Literals.{negation}
 use Rattle.q_logic.specs.Formulas.{Clause, IsIn}
 use Rattle.q_logic.specs.Numbered.{others}
 use Rattle.q_logic.proofs.Slots.{others-slot}

@@ -1,4 +1,4 @@
-use Rattle.std.proofs.Common.{◌≡◌, ◌<◌, ℕ, List, Bool, false, length, get_or, take, sym, subst, inl, inr}
+use Rattle.std.proofs.Common.{ℕ, List, Bool, false, sym, subst, inl, inr}
 use Rattle.q_logic.specs.Formulas.{Clause, IsIn}
 use Rattle.q_kernel.specs.Kernels.{slots}
 use Rattle.q_logic.proofs.Members.{item-in, taken-cases, taken-all}
