@@ -9,7 +9,7 @@ use Rattle.q_blocked.specs.Walks.{IsBeside, IsCalmAt}
 use Rattle.q_blocked.specs.Growths.{HasSpread}
 use Rattle.q_blocked.proofs.Passing.{HasPassed, passed-begun, passed-one, passed-map, passed-all}
 use Rattle.q_blocked.proofs.Growing.{pushed-none, pushed-on, pushed-calm, pushed-less}
-use Rattle.q_blocked.proofs.hidden.spread.Goals as goal
+use Rattle.q_blocked.proofs.hidden.spread_list.Goals as goal
 
 pub loop-at-init : goal.loop-at-init
 loop-at-init c =

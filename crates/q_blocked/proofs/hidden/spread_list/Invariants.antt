@@ -6,7 +6,7 @@ use Rattle.q_kernel.proofs.Following.{passed}
 use Rattle.q_blocked.specs.Walks.{IsCalmAt}
 use Rattle.q_blocked.specs.Growths.{Growing, IsPushed}
 use Rattle.q_blocked.proofs.Passing.{HasPassed}
-use Rattle.q_blocked.proofs.hidden.spread.Given as goal
+use Rattle.q_blocked.proofs.hidden.spread_list.Given as goal
 
 abbrev pub invariant-loop-at : goal.invariant-loop-at
 invariant-loop-at l = record {
