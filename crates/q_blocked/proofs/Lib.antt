@@ -14,3 +14,4 @@ pub mod Reaching
 pub mod Growing
 pub mod Passes
 pub mod Planning
+pub mod Given

@@ -5,3 +5,4 @@ pub mod Outcomes
 pub mod Plans
 pub mod Growths
 pub mod Searches
+pub mod Learned

@@ -21,6 +21,7 @@ use crate::units::Units;
 use q_kernel::{Kernel, Need, Taken};
 use q_logic::{Bounds, Lit, NoMemory};
 use q_rule::Rules;
+use q_snapshot::Rows;
 use std::alloc::Global;
 
 /// Takes a target exactly where it applies.
@@ -64,6 +65,7 @@ impl Rules for Search {
         Search {
             growth: Growth::new(alloc),
             units: Units::new(alloc),
+            rows: Rows::new(alloc),
             larger: Vec::new(alloc),
         }
     }

@@ -17,7 +17,7 @@
 //! clauses of one literal come last, since no list leads to them, and only where nothing else ended the growth.
 //!
 //! Most looks find nothing, and for the reason of the last look, at this clause or at one before. So it is noted and
-//! asked first: two clauses with `not l` that have nothing in common beyond the set (`stuck.rt`), the place in a long
+//! asked first: the clause that gave a hidden literal, on which nothing is covered then (`reasons.rt`), two clauses with `not l` that have nothing in common beyond the set (`stuck.rt`), the place in a long
 //! clause of a literal whose negation is in the set (`calm.rt`). What is noted is tested each time, so it may be out of
 //! date.
 //!
@@ -43,6 +43,7 @@ ghost use Rattle.q_logic.specs.Targets.{cover};
 ghost use Rattle.q_logic.specs.Rules.{Fits};
 ghost use Rattle.q_kernel.specs.Kernels.{Seen, slots};
 ghost use Rattle.q_blocked.specs.Growths.{Growing, CoveredBy, HasCovered, HasLooked, HasTurned, HasDecided};
+ghost use Rattle.q_snapshot.specs.Rows.{AreRowsOf};
 ghost use Rattle.q_blocked.specs.Units.{AreRight};
 ghost use Rattle.q_blocked.specs.Plans.{IsPlanFor};
 
@@ -50,6 +51,7 @@ use crate::covered::{covered_at, is_bare};
 use crate::growth::Growth;
 use crate::hidden::{close, use_units};
 use crate::outcome::Outcome;
+use crate::reasons::is_given;
 use crate::search::Search;
 use crate::stuck::is_stuck;
 use q_arena::ClauseId;
@@ -130,6 +132,10 @@ fn cover_at(
     if !is_existential(kernel, l.var()) {
         return Ok(Outcome::Calm);
     }
+    let d = growth.reasons.of(place);
+    if is_given(kernel, &growth.set, c, d, l) {
+        return Ok(Outcome::Calm);
+    }
     if is_stuck(kernel, &growth.set, &growth.pairs, c, l) {
         return Ok(Outcome::Calm);
     }
@@ -180,10 +186,12 @@ fn pass(kernel: &Kernel, growth: &mut Growth, c: ClauseId) -> Result<Outcome, No
 fn round(kernel: &Kernel, search: &mut Search, c: ClauseId) -> Result<Outcome, NoMemory>
     requires growing { Growing kernel.now c search.old.growth }
     requires units { AreRight (slots kernel.now) search.old.units }
+    requires rows { AreRowsOf kernel.now search.old.rows }
     ensures turned { IfOk result (HasTurned kernel.now c search.new.growth) }
     ensures units { AreRight (slots kernel.now) search.new.units }
+    ensures rows { AreRowsOf kernel.now search.new.rows }
 {
-    if close(kernel, &mut search.growth, c)? {
+    if close(kernel, &mut search.growth, &mut search.rows, c)? {
         return Ok(Outcome::Ended);
     }
     let outcome = pass(kernel, &mut search.growth, c)?;
@@ -199,8 +207,10 @@ fn round(kernel: &Kernel, search: &mut Search, c: ClauseId) -> Result<Outcome, N
 fn covers(kernel: &Kernel, search: &mut Search, c: ClauseId) -> Result<bool, NoMemory>
     requires growing { Growing kernel.now c search.old.growth }
     requires units { AreRight (slots kernel.now) search.old.units }
+    requires rows { AreRowsOf kernel.now search.old.rows }
     ensures decided { IfOk result (HasDecided kernel.now c search.new.growth) }
     ensures units { AreRight (slots kernel.now) search.new.units }
+    ensures rows { AreRowsOf kernel.now search.new.rows }
 {
     for _round in 0..usize::MAX {
         let outcome = round(kernel, search, c)?;
@@ -217,10 +227,12 @@ fn covers(kernel: &Kernel, search: &mut Search, c: ClauseId) -> Result<bool, NoM
 
 /// Whether some growth of a clause ends; the steps by which the clause goes then.
 pub fn fits_cover(kernel: &Kernel, search: &mut Search, c: ClauseId) -> Result<bool, NoMemory>
-    requires { AreRight (slots kernel.now) search.old.units }
+    requires units { AreRight (slots kernel.now) search.old.units }
+    requires rows { AreRowsOf kernel.now search.old.rows }
     ensures fits { IfOk result (λ yes. (B : Bounds) → IsTrue yes ↔ Fits B kernel.now.prefix (slots kernel.now) (cover c)) }
     ensures plan { IfOk result (λ yes. IsTrue yes → IsPlanFor kernel.now.prefix (slots kernel.now) c search.new.growth.plan) }
     ensures units { AreRight (slots kernel.now) search.new.units }
+    ensures rows { AreRowsOf kernel.now search.new.rows }
 {
     if !kernel.live(c) {
         return Ok(false);
@@ -236,8 +248,10 @@ pub fn fits_cover(kernel: &Kernel, search: &mut Search, c: ClauseId) -> Result<b
 fn decide(kernel: &Kernel, search: &mut Search, c: ClauseId) -> Result<bool, NoMemory>
     requires live { (C : Clause) × (slot (slots kernel.now) c ≡ Some C) }
     requires units { AreRight (slots kernel.now) search.old.units }
+    requires rows { AreRowsOf kernel.now search.old.rows }
     ensures decided { IfOk result (HasDecided kernel.now c search.new.growth) }
     ensures units { AreRight (slots kernel.now) search.new.units }
+    ensures rows { AreRowsOf kernel.now search.new.rows }
 {
     let clause = clause_of(kernel, c);
     search.growth.begin(clause)?;

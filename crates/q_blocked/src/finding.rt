@@ -5,6 +5,7 @@ ghost use Rattle.q_logic.specs.Numbered.{slot};
 ghost use Rattle.q_logic.specs.Targets.{place};
 ghost use Rattle.q_kernel.specs.Kernels.{slots};
 ghost use Rattle.q_blocked.specs.Targets.{target_of};
+ghost use Rattle.q_snapshot.specs.Rows.{AreRowsOf};
 ghost use Rattle.q_blocked.specs.Units.{AreRight};
 ghost use Rattle.q_rule.specs.Searching.{IsFound, IsAt};
 ghost use Rattle.q_blocked.specs.Searches.{IsPivotOf, IsOn};
@@ -28,6 +29,7 @@ pub fn find_from(
     ensures { IfOk result (IsFound target_of kernel.now (λ t. from ≤ place (target_of t))) }
 {
     search.units.forget();
+    search.rows.forget();
     let mut at = from;
     while let Some(c) = kernel.next_live(at) {
         let found = find_at(kernel, search, c)?;
@@ -47,8 +49,10 @@ pub fn find_from(
 fn find_at(kernel: &Kernel, search: &mut Search, c: ClauseId) -> Result<Option<Target>, NoMemory>
     requires live { (C : Clause) × (slot (slots kernel.now) c ≡ Some C) }
     requires units { AreRight (slots kernel.now) search.old.units }
+    requires rows { AreRowsOf kernel.now search.old.rows }
     ensures found { IfOk result (IsFound target_of kernel.now (IsAt target_of c)) }
     ensures units { AreRight (slots kernel.now) search.new.units }
+    ensures rows { AreRowsOf kernel.now search.new.rows }
 {
     let found = find_pivot(kernel, &mut search.growth.set, c)?;
     if found.is_some() {

@@ -5,6 +5,7 @@ use crate::calm::Hints;
 use crate::clashing::fill;
 use crate::covered::Spare;
 use crate::plan::{Plan, Stage};
+use crate::reasons::Reasons;
 use crate::stuck::Pairs;
 use q_logic::{Lit, NoMemory};
 use q_rule::Queue;
@@ -30,6 +31,8 @@ pub struct Growth {
     pub pairs: Pairs,
     /// Literals that showed so that nothing is hidden.
     pub hints: Hints,
+    /// Clauses that gave hidden literals.
+    pub reasons: Reasons,
 }
 
 impl Growth {
@@ -46,6 +49,7 @@ impl Growth {
             spare: Spare::new(alloc),
             pairs: Pairs::new(alloc),
             hints: Hints::new(alloc),
+            reasons: Reasons::new(alloc),
         }
     }
 

@@ -6,16 +6,19 @@ ghost use Rattle.q_logic.specs.Sets.{IsSubset, IsTautology};
 ghost use Rattle.q_logic.specs.Numbered.{others};
 ghost use Rattle.q_kernel.specs.Kernels.{slots};
 ghost use Rattle.q_blocked.specs.Walks.{IsBeside, IsCalm, Gives};
+ghost use Rattle.q_snapshot.specs.Rows.{AreRowsOf};
 ghost use Rattle.q_blocked.specs.Units.{HasUnits};
 ghost use Rattle.q_blocked.specs.Growths.{Growing, HasSpread, HasClosed, HasUsedUnits};
 
 use crate::calm::is_calm;
 use crate::growth::Growth;
 use crate::outcome::Outcome;
+use crate::spreading::spread_row;
 use q_arena::ClauseId;
 use q_kernel::Kernel;
 use q_logic::{Lit, NoMemory};
 use q_rule::{Queue, clause_of};
+use q_snapshot::Rows;
 
 // A literal of the clause that is not in the set.
 fn outside(clause: &[Lit], set: &Queue) -> Option<Lit>
@@ -37,7 +40,7 @@ fn is_other_outside(set: &Queue, j: Lit, k: Lit) -> bool
 }
 
 // Whether all literals of the clause but one are in the set.
-fn others_in(clause: &[Lit], set: &Queue, k: Lit) -> bool
+pub(crate) fn others_in(clause: &[Lit], set: &Queue, k: Lit) -> bool
     ensures { IsTrue result ↔ ((j : Literal) → IsIn j clause.now → j ≢ k → IsIn j set.now) }
 {
     for j in clause {
@@ -85,7 +88,12 @@ fn hidden_by(kernel: &Kernel, set: &Queue, c: ClauseId, d: ClauseId) -> Option<L
 }
 
 // Grows by the hidden literal that the clause of an id gives. Yes where a literal and its negation are in the set then.
-fn grow_by(kernel: &Kernel, growth: &mut Growth, c: ClauseId, d: ClauseId) -> Result<bool, NoMemory>
+pub(crate) fn grow_by(
+    kernel: &Kernel,
+    growth: &mut Growth,
+    c: ClauseId,
+    d: ClauseId,
+) -> Result<bool, NoMemory>
     requires { Growing kernel.now c growth.old }
     ensures { IfOk result (HasSpread kernel.now c (IsBeside (slots kernel.now) c d) growth.old growth.new) }
 {
@@ -93,7 +101,9 @@ fn grow_by(kernel: &Kernel, growth: &mut Growth, c: ClauseId, d: ClauseId) -> Re
     let Some(new) = hidden_by(kernel, &growth.set, c, d) else {
         return Ok(false);
     };
+    let place = growth.set.len();
     growth.set.push(new)?;
+    growth.reasons.note(place, d)?;
     if growth.set.has(new.negated()) {
         growth.plan.last = None;
         return Ok(true);
@@ -103,7 +113,7 @@ fn grow_by(kernel: &Kernel, growth: &mut Growth, c: ClauseId, d: ClauseId) -> Re
 
 // The same, with a short look first: most clauses give nothing.
 #[inline(always)]
-fn take_hidden(
+pub(crate) fn take_hidden(
     kernel: &Kernel,
     growth: &mut Growth,
     c: ClauseId,
@@ -119,8 +129,31 @@ fn take_hidden(
     Ok(ended)
 }
 
-// Grows by the hidden literals that the clauses with a literal of the set give.
-fn spread(kernel: &Kernel, growth: &mut Growth, c: ClauseId, k: Lit) -> Result<bool, NoMemory>
+// Grows by the hidden literals that the clauses with a literal of the set give: by its row, where that was made.
+fn spread(
+    kernel: &Kernel,
+    growth: &mut Growth,
+    rows: &mut Rows,
+    c: ClauseId,
+    k: Lit,
+) -> Result<bool, NoMemory>
+    requires growing { Growing kernel.now c growth.old }
+    requires rows { AreRowsOf kernel.now rows.old }
+    ensures spread { IfOk result (HasSpread kernel.now c (λ E. IsIn E (others c (slots kernel.now)) × IsIn k E) growth.old growth.new) }
+    ensures rows { AreRowsOf kernel.now rows.new }
+{
+    rows.learn(kernel, k);
+    match rows.row(k) {
+        Some(row) => spread_row(kernel, growth, c, k, row),
+        None => spread_list(kernel, growth, c, k),
+    }
+}
+
+// The same along the list of the literal in the kernel.
+// Hot where few clauses are tested: each step waits for a link, an owner, a slot and a word in turn. Where many are, the
+// row takes its place. A count for each clause of its literals outside the set was tried in its stead: it gains where the
+// formula fits into the cache, and loses a third and more where it does not.
+fn spread_list(kernel: &Kernel, growth: &mut Growth, c: ClauseId, k: Lit) -> Result<bool, NoMemory>
     requires { Growing kernel.now c growth.old }
     ensures { IfOk result (HasSpread kernel.now c (λ E. IsIn E (others c (slots kernel.now)) × IsIn k E) growth.old growth.new) }
 {
@@ -137,13 +170,20 @@ fn spread(kernel: &Kernel, growth: &mut Growth, c: ClauseId, k: Lit) -> Result<b
 
 /// Grows by all hidden literals but those of clauses of one literal. The list of each literal is walked once, however
 /// the set grows: a clause gives nothing new until one of its literals comes. Yes where the growth ends.
-pub fn close(kernel: &Kernel, growth: &mut Growth, c: ClauseId) -> Result<bool, NoMemory>
-    requires { Growing kernel.now c growth.old }
-    ensures { IfOk result (HasClosed kernel.now c growth.new) }
+pub fn close(
+    kernel: &Kernel,
+    growth: &mut Growth,
+    rows: &mut Rows,
+    c: ClauseId,
+) -> Result<bool, NoMemory>
+    requires growing { Growing kernel.now c growth.old }
+    requires rows { AreRowsOf kernel.now rows.old }
+    ensures closed { IfOk result (HasClosed kernel.now c growth.new) }
+    ensures rows { AreRowsOf kernel.now rows.new }
 {
     while growth.worked < growth.set.len() {
         let k = growth.set.at(growth.worked);
-        if spread(kernel, growth, c, k)? {
+        if spread(kernel, growth, rows, c, k)? {
             return Ok(true);
         }
         growth.worked += 1;

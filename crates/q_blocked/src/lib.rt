@@ -2,6 +2,7 @@
 #![tactic(auto)]
 
 mod applying;
+mod asking;
 mod blocked;
 mod calls;
 mod calm;
@@ -15,7 +16,9 @@ mod growth;
 mod hidden;
 mod outcome;
 mod plan;
+mod reasons;
 mod search;
+mod spreading;
 mod stuck;
 mod target;
 mod units;

@@ -2,6 +2,7 @@
 use crate::growth::Growth;
 use crate::units::Units;
 use q_logic::Lit;
+use q_snapshot::Rows;
 
 /// Room for searches. It serves for any kernel.
 #[derive(Drop)]
@@ -10,6 +11,8 @@ pub struct Search {
     pub(crate) growth: Growth,
     /// The clauses of one literal.
     pub(crate) units: Units,
+    /// The clauses that hold a literal, where many clauses were tested.
+    pub(crate) rows: Rows,
     /// Room for the larger clauses of a plan.
     pub(crate) larger: Vec<Lit>,
 }

@@ -10,8 +10,7 @@ ghost use Rattle.q_logic.specs.Numbered.{clauses_at};
 ghost use Rattle.q_eliminate.specs.Growing.{CanGrow, HasGrown};
 
 use crate::resolving::resolve;
-use q_arena::ClauseId;
-use q_kernel::Kernel;
+use q_kernel::{ClauseId, Kernel};
 use q_logic::Lit;
 use q_rule::is_tautology;
 

@@ -10,8 +10,7 @@ ghost use Rattle.q_kernel.specs.Kernels.{slots};
 ghost use Rattle.q_eliminate.specs.Sides.{AreLive, AreIdsOf};
 ghost use Rattle.q_eliminate.specs.Plans.{IsOuter, IsPlain, IsSplit, IsOuterSign};
 
-use q_arena::ClauseId;
-use q_kernel::Kernel;
+use q_kernel::{ClauseId, Kernel};
 use q_logic::Lit;
 use q_rule::{clause_of, is_tautology};
 

@@ -11,8 +11,7 @@ ghost use Rattle.q_logic.specs.Numbered.{clauses_at};
 ghost use Rattle.q_eliminate.specs.Gains.{no_gain, joined, joined_length, IsGain};
 ghost use Rattle.q_eliminate.specs.Plans.{IsPlain};
 
-use q_arena::ClauseId;
-use q_kernel::Kernel;
+use q_kernel::{ClauseId, Kernel};
 use q_logic::{Lit, NoMemory};
 use q_rule::Queue;
 

@@ -18,8 +18,7 @@ use crate::conditions::split_sign;
 use crate::counting::{Gain, gain_of};
 use crate::search::Search;
 use crate::sides::weight;
-use q_arena::ClauseId;
-use q_kernel::Kernel;
+use q_kernel::{ClauseId, Kernel};
 use q_logic::{Bounds, Limits, Lit, NoMemory};
 use q_rule::{Queue, is_existential};
 

@@ -5,8 +5,7 @@ ghost use Rattle.q_logic.specs.Sets.{OccursIn};
 ghost use Rattle.q_kernel.specs.Kernels.{slots, HoldsLiteral, HasSweepBytes};
 ghost use Rattle.q_eliminate.specs.Growing.{MayGoBy, HasShrunk};
 
-use q_arena::ClauseId;
-use q_kernel::Kernel;
+use q_kernel::{ClauseId, Kernel};
 use q_logic::Lit;
 
 /// Deletes the clauses with a literal, by it as pivot.

@@ -5,8 +5,7 @@ ghost use Rattle.q_kernel.specs.Kernels.{slots};
 ghost use Rattle.q_eliminate.specs.Sides.{AreIdsOf, AreLive, AreSidesOf};
 ghost use Rattle.q_logic.specs.Numbered.{clauses_at};
 
-use q_arena::ClauseId;
-use q_kernel::Kernel;
+use q_kernel::{ClauseId, Kernel};
 use q_logic::{Lit, NoMemory};
 use std::alloc::Global;
 
@@ -38,12 +37,9 @@ impl Sides {
 fn collect(kernel: &Kernel, lit: Lit, ids: &mut Vec<ClauseId>) -> Result<(), NoMemory>
     ensures { OnOk result (AreIdsOf kernel.now lit ids.new.items) }
 {
-    kernel.sound();
     ids.clear();
-    let mut at = kernel.first(lit);
-    while let Some(place) = at {
-        ids.push(kernel.owner(place))?;
-        at = kernel.next(place);
+    for id in kernel.holders(lit) {
+        ids.push(id)?;
     }
     Ok(())
 }

@@ -44,27 +44,9 @@ all-fall levels N h x y b = let d = IsIn-slot N b.clause b.there in h d.0 b.clau
 pub none-rise : (X : Matrix) → NeverRise [] X
 none-rise X x y b = omega arith
 
--- Clause by clause, by ascending number.
-none : (D : Clause) → (let o : Option Clause = None in o ≡ Some D) → ⊥
-none D e = cc
+-- The clause of one id.
+pub record FallsAt (levels : List ℕ) (N : Slots) (c : ℕ) : Type 0 where
+  pub falls : (D : Clause) → slot N c ≡ Some D → NeverRise levels (D ∷ [])
 
-pub fallen-more : (levels : List ℕ) (N : Slots) (from id : ℕ) (C : Clause) → ((c : ℕ) (D : Clause) → c < from → slot N c ≡ Some D → NeverRise levels (D ∷ [])) → ((c : ℕ) → from ≤ c → c < id → slot N c ≡ None) → slot N id ≡ Some C → NeverRise levels (C ∷ []) → (next : ℕ) → next ≡ id + 1 → (c : ℕ) (D : Clause) → c < next → slot N c ≡ Some D → NeverRise levels (D ∷ [])
-fallen-more levels N from id C before between here f next e c D l s = go (place c from id (omega arith))
-  where
-    place : (c from id : ℕ) → c < id + 1 → (c < from) ⊎ (((from ≤ c) × (c < id)) ⊎ (c ≡ id))
-    place c from id l = grind arith
-
-    go : (c < from) ⊎ (((from ≤ c) × (c < id)) ⊎ (c ≡ id)) → NeverRise levels (D ∷ [])
-    go (inl a) = before c D a s
-    go (inr (inl a)) = absurd (none D (sym (between c a.0 a.1) ∙ s))
-    go (inr (inr a)) = subst (λ (E : Clause). NeverRise levels (E ∷ [])) (same_Some C D (sym here ∙ (ap (slot N) (sym a) ∙ s))) f
-
-pub fallen-all : (levels : List ℕ) (N : Slots) (from : ℕ) → ((c : ℕ) (D : Clause) → c < from → slot N c ≡ Some D → NeverRise levels (D ∷ [])) → ((c : ℕ) → from ≤ c → slot N c ≡ None) → NeverRise levels (live N)
-fallen-all levels N from before rest = all-fall levels N (λ c D s. go c D s (place c from))
-  where
-    place : (c from : ℕ) → (c < from) ⊎ (from ≤ c)
-    place c from = grind arith
-
-    go : (c : ℕ) (D : Clause) → slot N c ≡ Some D → (c < from) ⊎ (from ≤ c) → NeverRise levels (D ∷ [])
-    go c D s (inl a) = before c D a s
-    go c D s (inr a) = absurd (none D (sym (rest c a) ∙ s))
+pub falls-one : (levels : List ℕ) (N : Slots) (c : ℕ) (C : Clause) → slot N c ≡ Some C → NeverRise levels (C ∷ []) → FallsAt levels N c
+falls-one levels N c C e f = record { falls = λ D s. subst (λ (E : Clause). NeverRise levels (E ∷ [])) (same_Some C D (sym e ∙ s)) f }

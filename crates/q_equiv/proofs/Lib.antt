@@ -8,3 +8,4 @@ pub mod Turning
 pub mod Bridging
 pub mod Falling
 pub mod Turned
+pub mod Beside

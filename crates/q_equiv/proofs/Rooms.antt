@@ -7,9 +7,9 @@ use Rattle.q_logic.specs.Numbered.{live}
 use Rattle.q_logic.specs.Sets.{with_literal}
 use Rattle.q_logic.specs.Steps.{literals_in}
 use Rattle.q_logic.proofs.Heights.{weight, weight-length}
-use Rattle.q_occ.specs.Places.{places_of}
 use Rattle.q_kernel.specs.Kernels.{Seen, slots, SameView, IsSound}
-use Rattle.std.proofs.Common.{get_or}
+use Rattle.q_kernel.specs.Visits.{holders_of}
+use Rattle.q_kernel.proofs.HolderLists.{holders-all}
 use Rattle.q_equiv.specs.Changing.{total_with, one, HasRoomFor}
 use Rattle.q_equiv.proofs.Totals.{total_at, total_at-one, weight-listed, total-literals}
 
@@ -20,15 +20,13 @@ weigh-enough k l =
     let b = weight-length (with_literal (negation l) (live (slots k))) in
     omega arith
 
-listed : (k : Seen) (l : Literal) → IsSound k → weight one (with_literal l (live (slots k))) ≤ length (places_of k.lists l)
+listed : (k : Seen) (l : Literal) → IsSound k → weight one (with_literal l (live (slots k))) ≤ length (holders_of k l)
 listed k l s =
-    let owner : ℕ → ℕ = λ q. get_or k.lists.owners q 0 in
-    let w : weight one (with_literal l (live (slots k))) ≤ total_at one (slots k) owner (places_of k.lists l) =
-    weight-listed one l (slots k) owner (places_of k.lists l) (λ d D e m. s.owned d l (D, e, m)) in
-    let t = total_at-one (slots k) owner (places_of k.lists l) in
+    let w : weight one (with_literal l (live (slots k))) ≤ total_at one (slots k) (holders_of k l) = weight-listed one l (slots k) (holders_of k l) (λ d h. holders-all k l d s h) in
+    let t = total_at-one (slots k) (holders_of k l) in
     omega arith
 
-pub count-enough : (k : Seen) (l : Literal) → IsSound k → total_with one l.var (live (slots k)) ≤ length (places_of k.lists l) + length (places_of k.lists (negation l))
+pub count-enough : (k : Seen) (l : Literal) → IsSound k → total_with one l.var (live (slots k)) ≤ length (holders_of k l) + length (holders_of k (negation l))
 count-enough k l s =
     let t = total-literals one l (live (slots k)) in
     let a = listed k l s in

@@ -1,5 +1,5 @@
 -- Numbers of clauses, all together.
-use Rattle.std.proofs.Common.{◌≡◌, ◌≤◌, ◌+◌, ◌⊎◌, ℕ, zero, suc, Bool, true, false, cond, eqb, not, ◌||◌, List, [], ◌∷◌, ◌++◌, inl, inr, arith, refl, sym, ap, ◌∙◌, subst, Option, Some, None, length}
+use Rattle.std.proofs.Common.{◌≡◌, ◌≤◌, Contains, ◌+◌, ◌⊎◌, ℕ, zero, suc, Bool, true, false, cond, eqb, not, ◌||◌, List, [], ◌∷◌, ◌++◌, inl, inr, arith, refl, sym, ap, ◌∙◌, subst, Option, Some, None, length}
 use Rattle.q_logic.specs.Literals.{Literal, negation}
 use Rattle.q_logic.specs.Formulas.{Clause, Matrix, IsIn}
 use Rattle.q_logic.specs.Sweep.{has_variable}
@@ -11,9 +11,9 @@ use Rattle.q_logic.specs.Numbered.{Slots, slot, set_slot, live}
 use Rattle.q_logic.proofs.Heights.{weight}
 use Rattle.q_logic.proofs.Slots.{IsIn-has}
 use Rattle.q_logic.proofs.Reaching.{SameClauses, clause_eq-itself, IsIn-alike, IsIn-copies, alike-trans, alike-uncons, one_less-alike}
-use Rattle.q_arena.proofs.Numbers.{ℕ-cases}
-use Rattle.q_arena.specs.Rings.{Has}
-use Rattle.q_kernel.proofs.Slotting.{slot-set_other}
+use Rattle.q_kernel.proofs.Basics.{ℕ-cases, none-some}
+use Rattle.q_kernel.proofs.Slotting.{IsIn-slot, slot-set_other}
+use Rattle.q_kernel.proofs.Once.{Contains-none, Contains-first}
 use Rattle.q_rule.proofs.Results.{slot-none}
 use Rattle.q_equiv.specs.Changing.{total_with, one}
 
@@ -44,22 +44,22 @@ literal-variable l (k ∷ C) (inr m) = let h : has_variable l.var C ≡ true = l
     go true h = refl
     go false h = h
 
--- Through the clauses that own places.
+-- Through the clauses of ids.
 abbrev pub weight_at : (Clause → ℕ) → Option Clause → ℕ
 weight_at w None = 0
 weight_at w (Some C) = w C
 
-abbrev pub total_at : (Clause → ℕ) → Slots → (ℕ → ℕ) → List ℕ → ℕ
-total_at w N owner [] = 0
-total_at w N owner (p ∷ ps) = weight_at w (slot N (owner p)) + total_at w N owner ps
+abbrev pub total_at : (Clause → ℕ) → Slots → List ℕ → ℕ
+total_at w N [] = 0
+total_at w N (d ∷ ds) = weight_at w (slot N d) + total_at w N ds
 
-pub total_at-more : (w : Clause → ℕ) (N : Slots) (owner : ℕ → ℕ) (ps : List ℕ) (p : ℕ) → total_at w N owner (ps ++ p ∷ []) ≡ total_at w N owner ps + weight_at w (slot N (owner p))
-total_at-more w N owner [] p = omega arith
-total_at-more w N owner (q ∷ ps) p = let i = total_at-more w N owner ps p in omega arith
+pub total_at-more : (w : Clause → ℕ) (N : Slots) (ds : List ℕ) (d : ℕ) → total_at w N (ds ++ d ∷ []) ≡ total_at w N ds + weight_at w (slot N d)
+total_at-more w N [] d = omega arith
+total_at-more w N (e ∷ ds) d = let i = total_at-more w N ds d in omega arith
 
-pub total_at-one : (N : Slots) (owner : ℕ → ℕ) (ps : List ℕ) → total_at one N owner ps ≤ length ps
-total_at-one N owner [] = omega arith
-total_at-one N owner (p ∷ ps) = let i = total_at-one N owner ps in let j = most (slot N (owner p)) in omega arith
+pub total_at-one : (N : Slots) (ds : List ℕ) → total_at one N ds ≤ length ds
+total_at-one N [] = omega arith
+total_at-one N (d ∷ ds) = let i = total_at-one N ds in let j = most (slot N d) in omega arith
   where
     most : (o : Option Clause) → weight_at one o ≤ 1
     most None = omega arith
@@ -88,9 +88,9 @@ weight_at-gone w N c d = elim (ℕ-cases d c) [
   | inr n ↦ subst (λ o. weight_at w o ≤ weight_at w (slot N d)) (sym (slot-set_other c d None N n)) (omega arith)
 ]
 
-total_at-gone : (w : Clause → ℕ) (N : Slots) (c : ℕ) (owner : ℕ → ℕ) (ps : List ℕ) → total_at w (set_slot c None N) owner ps ≤ total_at w N owner ps
-total_at-gone w N c owner [] = omega arith
-total_at-gone w N c owner (p ∷ ps) = let i = total_at-gone w N c owner ps in let j = weight_at-gone w N c (owner p) in omega arith
+total_at-gone : (w : Clause → ℕ) (N : Slots) (c : ℕ) (ds : List ℕ) → total_at w (set_slot c None N) ds ≤ total_at w N ds
+total_at-gone w N c [] = omega arith
+total_at-gone w N c (d ∷ ds) = let i = total_at-gone w N c ds in let j = weight_at-gone w N c d in omega arith
 
 no_clause : (w : Clause → ℕ) (l : Literal) (X : Matrix) → ((D : Clause) → IsIn D X → IsIn l D → ⊥) → weight w (with_literal l X) ≤ 0
 no_clause w l [] h = omega arith
@@ -100,27 +100,21 @@ no_clause w l (C ∷ X) h = go (has l C) refl (no_clause w l X (λ D m. h D (inr
     go true e i = absurd (h C (inl refl) (Rattle.q_logic.proofs.Slots.has-IsIn l C e))
     go false e i = i
 
--- Where each clause with a literal owns one of the places.
-pub weight-listed : (w : Clause → ℕ) (l : Literal) (N : Slots) (owner : ℕ → ℕ) (ps : List ℕ) → ((d : ℕ) (D : Clause) → slot N d ≡ Some D → IsIn l D → (p : ℕ) × Has ps p × (owner p ≡ d)) → weight w (with_literal l (live N)) ≤ total_at w N owner ps
-weight-listed w l N owner [] h = no_clause w l (live N) (λ D m i. let d = Rattle.q_kernel.proofs.Slotting.IsIn-slot N D m in let r = h d.0 D d.1 i in r.1)
-weight-listed w l N owner (p ∷ ps) h =
-    let c = owner p in
+-- Where each clause with a literal has one of the ids.
+pub weight-listed : (w : Clause → ℕ) (l : Literal) (N : Slots) (ds : List ℕ) → ((d : ℕ) → ((D : Clause) × (slot N d ≡ Some D) × IsIn l D) → Contains ds d) → weight w (with_literal l (live N)) ≤ total_at w N ds
+weight-listed w l N [] h = no_clause w l (live N) (λ D m i. let d = IsIn-slot N D m in Contains-none d.0 (h d.0 (D, d.1, i)))
+weight-listed w l N (c ∷ ds) h =
     let M : Slots = set_slot c None N in
-    let i : weight w (with_literal l (live M)) ≤ total_at w M owner ps = weight-listed w l M owner ps fewer in
+    let i : weight w (with_literal l (live M)) ≤ total_at w M ds = weight-listed w l M ds fewer in
     let a = weight-gone w l N c in
-    let b = total_at-gone w N c owner ps in
+    let b = total_at-gone w N c ds in
     omega arith
   where
-    fewer : (d : ℕ) (D : Clause) → slot (set_slot (owner p) None N) d ≡ Some D → IsIn l D → (q : ℕ) × Has ps q × (owner q ≡ d)
-    fewer d D e i = elim (ℕ-cases d (owner p)) [
-      | inl f ↦ absurd (gone (sym (slot-none (owner p) N) ∙ (ap (slot (set_slot (owner p) None N)) (sym f) ∙ e)))
-      | inr n ↦
-          let r = h d D (sym (slot-set_other (owner p) d None N n) ∙ e) i in
-          (r.0, elim r.1 [ inl g ↦ absurd (n (sym r.2 ∙ ap owner g)) | inr g ↦ g ], r.2)
+    fewer : (d : ℕ) → ((D : Clause) × (slot (set_slot c None N) d ≡ Some D) × IsIn l D) → Contains ds d
+    fewer d (D, e, i) = elim (ℕ-cases d c) [
+      | inl f ↦ absurd (none-some D (sym (slot-none c N) ∙ (ap (slot (set_slot c None N)) (sym f) ∙ e)))
+      | inr n ↦ elim (Contains-first c ds d (h d (D, sym (slot-set_other c d None N n) ∙ e, i))) [ inl g ↦ absurd (n g) | inr g ↦ g ]
     ]
-      where
-        gone : (let o : Option Clause = None in o ≡ Some D) → ⊥
-        gone e = cc
 
 -- A variable has the clauses of both its literals.
 pub total-literals : (w : Clause → ℕ) (l : Literal) (X : Matrix) → total_with w l.var X ≤ weight w (with_literal l X) + weight w (with_literal (negation l) X)

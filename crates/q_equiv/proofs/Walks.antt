@@ -1,5 +1,5 @@
 -- Walks along clauses of two literals.
-use Rattle.std.proofs.Common.{◌≡◌, ◌⊎◌, ℕ, zero, suc, ◌+◌, ◌<◌, ◌≤◌, List, [], ◌∷◌, ◌++◌, slice_get, length, Some, refl, sym, ◌∙◌, ap, subst, inl, inr, arith, append-nil, append_assoc}
+use Rattle.std.proofs.Common.{◌≡◌, ◌⊎◌, ℕ, Contains, zero, suc, ◌+◌, ◌<◌, ◌≤◌, List, [], ◌∷◌, ◌++◌, slice_get, length, Some, refl, sym, ◌∙◌, ap, subst, inl, inr, arith, append-nil, append_assoc}
 use Rattle.q_logic.specs.Literals.{Literal, negation}
 use Rattle.q_logic.specs.Formulas.{Clause, Matrix, IsIn}
 use Rattle.q_logic.specs.Numbered.{Slots, slot, live}
@@ -8,9 +8,8 @@ use Rattle.q_logic.proofs.Slots.{live-slot}
 use Rattle.q_logic.proofs.ClauseLemmas.{IsIn-append_left, IsIn-append}
 use Rattle.q_logic.proofs.Implying.{IsIn-append_right}
 use Rattle.q_logic.proofs.Searching.{joined-further}
-use Rattle.q_arena.specs.Rings.{Has}
 use Rattle.q_kernel.proofs.Slotting.{IsIn-slot}
-use Rattle.q_kernel.proofs.Following.{Has-last}
+use Rattle.q_kernel.proofs.Once.{Contains-none, Contains-last}
 use Rattle.q_equiv.specs.Walks.{level_of, NeverRise, IsSpread}
 use Rattle.q_equiv.proofs.Pairs.{binary-in, binary-own}
 
@@ -44,42 +43,39 @@ module _ (levels : List ℕ) where
     ];
   }
 
--- The clauses that own places which a walk has passed.
-pub record IsSpreading (levels : List ℕ) (N : Slots) (owner : ℕ → ℕ) (x : Literal) (places : List ℕ) (old new : List Literal) : Type 0 where
+-- The clauses that a walk has passed.
+pub record IsSpreading (levels : List ℕ) (N : Slots) (x : Literal) (ids : List ℕ) (old new : List Literal) : Type 0 where
   pub added : List Literal
   pub is : new ≡ old ++ added
-  pub all_there : (p : ℕ) (D : Clause) (y : Literal) → Has places p → slot N (owner p) ≡ Some D → Binary (D ∷ []) x y → level_of levels y ≡ level_of levels x → IsIn y new
+  pub all_there : (d : ℕ) (D : Clause) (y : Literal) → Contains ids d → slot N d ≡ Some D → Binary (D ∷ []) x y → level_of levels y ≡ level_of levels x → IsIn y new
   pub no_other : (y : Literal) → IsIn y new → IsIn y old ⊎ (Binary (live N) x y × (level_of levels y ≡ level_of levels x))
 
-module _ (levels : List ℕ) (N : Slots) (owner : ℕ → ℕ) (x : Literal) where
-  pub spreading-begun : (old : List Literal) → IsSpreading levels N owner x [] old old
-  spreading-begun old = record { added = []; is = sym (append-nil old); all_there = λ p D y h s b e. absurd h; no_other = λ y m. inl m }
+module _ (levels : List ℕ) (N : Slots) (x : Literal) where
+  pub spreading-begun : (old : List Literal) → IsSpreading levels N x [] old old
+  spreading-begun old = record { added = []; is = sym (append-nil old); all_there = λ d D y h s b e. absurd (Contains-none d h); no_other = λ y m. inl m }
 
-  pub spreading-more : (places : List ℕ) (p : ℕ) (D : Clause) (old mid new : List Literal) → slot N (owner p) ≡ Some D → IsSpreading levels N owner x places old mid → IsSpread levels (D ∷ []) x mid new → IsSpreading levels N owner x (places ++ p ∷ []) old new
-  spreading-more places p D old mid new e f g = record {
+  pub spreading-more : (ids : List ℕ) (d : ℕ) (D : Clause) (old mid new : List Literal) → slot N d ≡ Some D → IsSpreading levels N x ids old mid → IsSpread levels (D ∷ []) x mid new → IsSpreading levels N x (ids ++ d ∷ []) old new
+  spreading-more ids d D old mid new e f g = record {
     added = f.added ++ g.added;
     is = g.is ∙ ap (λ (xs : List Literal). xs ++ g.added) f.is ∙ append_assoc old f.added g.added;
-    all_there = λ q E y m s b l. elim (Has-last p q places m) [
+    all_there = λ q E y m s b l. elim (Contains-last ids d q m) [
       | inl a ↦ grown-in mid new g.added y g.is (f.all_there q E y a s b l)
       | inr a ↦ g.all_there y (subst (λ (C : Clause). Binary (C ∷ []) x y) (one q E a s) b) l
     ];
     no_other = λ y m. elim (g.no_other y m) [
       | inl a ↦ f.no_other y a
-      | inr b ↦ inr (binary-in (live N) D x y (live-slot N (owner p) D e) b.0, b.1)
+      | inr b ↦ inr (binary-in (live N) D x y (live-slot N d D e) b.0, b.1)
     ];
   }
     where
-      one : (q : ℕ) (E : Clause) → q ≡ p → slot N (owner q) ≡ Some E → E ≡ D
-      one q E a s = let z : Some E ≡ Some D = sym s ∙ (ap (λ (i : ℕ). slot N (owner i)) a ∙ e) in cc
+      one : (q : ℕ) (E : Clause) → q ≡ d → slot N q ≡ Some E → E ≡ D
+      one q E a s = let z : Some E ≡ Some D = sym s ∙ (ap (slot N) a ∙ e) in cc
 
-  pub spreading-done : (places : List ℕ) (old new : List Literal) → ((d : ℕ) (E : Clause) → slot N d ≡ Some E → IsIn (negation x) E → (p : ℕ) × Has places p × (owner p ≡ d)) → IsSpreading levels N owner x places old new → IsSpread levels (live N) x old new
-  spreading-done places old new own f = record {
+  pub spreading-done : (ids : List ℕ) (old new : List Literal) → ((d : ℕ) → ((E : Clause) × (slot N d ≡ Some E) × IsIn (negation x) E) → Contains ids d) → IsSpreading levels N x ids old new → IsSpread levels (live N) x old new
+  spreading-done ids old new has f = record {
     added = f.added;
     is = f.is;
-    all_there = λ y b l.
-        let d = IsIn-slot N b.clause b.there in
-        let p = own d.0 b.clause d.1 b.first in
-        f.all_there p.0 b.clause y p.1 (ap (slot N) p.2 ∙ d.1) (binary-own (live N) x y b) l;
+    all_there = λ y b l. let d = IsIn-slot N b.clause b.there in f.all_there d.0 b.clause y (has d.0 (b.clause, d.1, b.first)) d.1 (binary-own (live N) x y b) l;
     no_other = f.no_other;
   }
 

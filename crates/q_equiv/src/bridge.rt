@@ -7,8 +7,7 @@ ghost use Rattle.q_logic.specs.Sweep.{has_variable};
 ghost use Rattle.q_logic.specs.Numbered.{slot};
 ghost use Rattle.q_kernel.specs.Kernels.{slots, HoldsLiteral};
 
-use q_arena::ClauseId;
-use q_kernel::Kernel;
+use q_kernel::{ClauseId, Kernel};
 use q_logic::Lit;
 
 /// The ids of two clauses: of the one by which a literal gives another one, and of the one by which it is given back.
@@ -47,14 +46,10 @@ fn clause_beside(kernel: &Kernel, lit: Lit, bridge: Bridge) -> Option<ClauseId>
     ensures some { (id : ℕ) → result ≡ Some id → (id ≢ bridge.over) × (id ≢ bridge.back) × HoldsLiteral kernel.now id lit }
     ensures none { result ≡ None → (c : ℕ) → HoldsLiteral kernel.now c lit → (c ≡ bridge.over) ⊎ (c ≡ bridge.back) }
 {
-    kernel.sound();
-    let mut at = kernel.first(lit);
-    while let Some(place) = at {
-        let id = kernel.owner(place);
+    for id in kernel.holders(lit) {
         if id != bridge.over && id != bridge.back {
             return Some(id);
         }
-        at = kernel.next(place);
     }
     None
 }

@@ -17,8 +17,7 @@ ghost use Rattle.q_logic.specs.Merging.{Binary, Joined};
 ghost use Rattle.q_kernel.specs.Kernels.{slots, HoldsLiteral};
 ghost use Rattle.q_equiv.specs.Walks.{level_of, IsSpread, IsGathered};
 
-use q_arena::ClauseId;
-use q_kernel::Kernel;
+use q_kernel::{ClauseId, Kernel};
 use q_logic::{Lit, NoMemory};
 use q_rule::{Queue, clause_of};
 
@@ -70,11 +69,8 @@ pub fn gather(
 fn spread(kernel: &Kernel, queue: &mut Queue, levels: &[u32], lit: Lit) -> Result<(), NoMemory>
     ensures { OnOk result (IsSpread levels.now (live (slots kernel.now)) lit queue.old queue.new) }
 {
-    kernel.sound();
-    let mut at = kernel.first(lit.negated());
-    while let Some(place) = at {
-        follow(kernel, queue, levels, kernel.owner(place), lit)?;
-        at = kernel.next(place);
+    for id in kernel.holders(lit.negated()) {
+        follow(kernel, queue, levels, id, lit)?;
     }
     Ok(())
 }

@@ -31,16 +31,11 @@ pub fn make_levels(
 /// Notes all clauses of two literals.
 pub(crate) fn note_all(kernel: &Kernel, components: &mut Components) -> Result<(), NoMemory> {
     components.begin();
-    let mut from = 0;
-    while let Some(id) = kernel.next_live(from) {
+    for id in kernel.ids() {
         let clause = kernel.lits(id);
         if clause.len() == 2 {
             components.note(clause[0], clause[1])?;
         }
-        let Some(next) = id.checked_add(1) else {
-            break;
-        };
-        from = next;
     }
     Ok(())
 }
@@ -49,15 +44,10 @@ pub(crate) fn note_all(kernel: &Kernel, components: &mut Components) -> Result<(
 fn never_rise(kernel: &Kernel, levels: &[u32]) -> bool
     ensures { IsTrue result → NeverRise levels.now (live (slots kernel.now)) }
 {
-    let mut from = 0;
-    while let Some(id) = kernel.next_live(from) {
+    for id in kernel.ids() {
         if rises(kernel.lits(id), levels) {
             return false;
         }
-        let Some(next) = id.checked_add(1) else {
-            return false;
-        };
-        from = next;
     }
     true
 }

@@ -31,8 +31,7 @@ ghost use Rattle.q_equiv.specs.Changing.{CanStandFor, total_with, HasRoomFor, Is
 use crate::bridge::{Bridge, next_clause, two_lits};
 use crate::joined::is_joined;
 use crate::renaming::rename;
-use q_arena::ClauseId;
-use q_kernel::Kernel;
+use q_kernel::{ClauseId, Kernel};
 use q_logic::{Lit, NoMemory};
 use q_rule::{Queue, is_existential, is_tautology};
 

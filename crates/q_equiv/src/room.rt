@@ -57,13 +57,9 @@ fn weigh_both(kernel: &Kernel, lit: Lit) -> Result<usize, NoMemory>
 fn weigh(kernel: &Kernel, lit: Lit) -> Result<usize, NoMemory>
     ensures { IfOk result (λ n. literals_in (with_literal lit (live (slots kernel.now))) ≤ n) }
 {
-    kernel.sound();
     let mut words = 0;
-    let mut at = kernel.first(lit);
-    while let Some(place) = at {
-        let id = kernel.owner(place);
+    for id in kernel.holders(lit) {
         words = sum(words, kernel.lits(id).len())?;
-        at = kernel.next(place);
     }
     Ok(words)
 }

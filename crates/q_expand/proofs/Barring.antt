@@ -13,10 +13,10 @@ use Rattle.q_logic.specs.Expanding.{in_list, shares, expansion_vars, touched_nei
 use Rattle.q_logic.proofs.Heights.{weight}
 use Rattle.q_logic.proofs.Least.{expansion_vars-least}
 use Rattle.q_logic.proofs.ExpandClosure.{has_variable-IsIn, Once, next-once, expansion_vars-fixed}
-use Rattle.q_arena.specs.Rings.{Has, Misses, AreApart, without}
-use Rattle.q_arena.proofs.Paths.{Misses-not, Misses-from}
-use Rattle.q_arena.proofs.RingLemmas.{AreApart-without, length-without}
-use Rattle.q_arena.proofs.Layouts.{Has-kept}
+use Rattle.q_kernel.specs.Lists.{Has, Misses, AreApart, without}
+use Rattle.q_kernel.proofs.Basics.{Misses-not, Misses-from}
+use Rattle.q_kernel.proofs.Basics.{AreApart-without, length-without}
+use Rattle.q_kernel.proofs.Basics.{Has-kept}
 use Rattle.q_kernel.specs.Kernels.{Seen, slots}
 use Rattle.q_expand.specs.Regions.{Walked, IsConnected, tally, Lone, IsRegion}
 use Rattle.q_expand.specs.declared.region.Room.{Room}

@@ -12,7 +12,7 @@ use Rattle.q_logic.specs.Expanding.{shares}
 use Rattle.q_logic.proofs.Runs.{clause_eq-sound}
 use Rattle.q_logic.proofs.Heights.{weight}
 use Rattle.q_logic.proofs.Reaching.{SameClauses, clause_eq-itself, IsIn-copies, IsIn-alike, alike-refl, alike-sym, alike-trans, alike-append, copies-append, one_less-first, one_less-same}
-use Rattle.q_arena.specs.Rings.{Has, AreApart}
+use Rattle.q_kernel.specs.Lists.{Has, AreApart}
 use Rattle.q_kernel.proofs.Slotting.{IsIn-slot}
 use Rattle.q_expand.specs.Regions.{weigh, tally}
 use Rattle.q_expand.proofs.Tallying.{weight-gone, tally-without, slot-fewer}

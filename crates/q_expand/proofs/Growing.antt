@@ -7,7 +7,7 @@ use Rattle.q_logic.specs.StepForms.{positive}
 use Rattle.q_logic.specs.Numbered.{slot, live}
 use Rattle.q_logic.specs.Expanding.{Spread}
 use Rattle.q_logic.proofs.Falling.{var_is}
-use Rattle.q_arena.specs.Rings.{Has}
+use Rattle.q_kernel.specs.Lists.{Has}
 use Rattle.q_kernel.specs.Kernels.{Seen, slots}
 use Rattle.q_kernel.proofs.Slotting.{IsIn-slot}
 use Rattle.q_expand.specs.Regions.{Walked, IsConnected, IsRegion, IsLarger, HasMet, IsWhole, IsVisited}

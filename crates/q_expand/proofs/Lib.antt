@@ -26,3 +26,4 @@ pub mod Budgets
 pub mod Finishing
 pub mod Taking
 pub mod Viewing
+pub mod Others

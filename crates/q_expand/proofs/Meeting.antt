@@ -10,7 +10,7 @@ use Rattle.q_logic.specs.Expanding.{inner_existential, Spread}
 use Rattle.q_logic.proofs.ClauseLemmas.{IsIn-append_left}
 use Rattle.q_logic.proofs.ExpandClosure.{has_variable-IsIn}
 use Rattle.q_logic.proofs.Falling.{var_is}
-use Rattle.q_arena.specs.Rings.{Has}
+use Rattle.q_kernel.specs.Lists.{Has}
 use Rattle.q_kernel.specs.Kernels.{Seen, slots}
 use Rattle.q_kernel.proofs.Following.{Has-last}
 use Rattle.q_kernel.proofs.Slotting.{slot-IsIn, size-gone}

@@ -1,7 +1,7 @@
 -- Marks of clauses that come and go.
 use Rattle.std.proofs.Common.{◌≡◌, ◌⊎◌, ℕ, zero, suc, ◌<◌, ◌≤◌, Bool, true, false, List, [], ◌∷◌, ◌++◌, length, get_or, set, drop, sym, ◌∙◌, subst, refl, inl, inr, arith, true≢false, get_or-set_same, get_or-set_other}
-use Rattle.q_arena.proofs.Numbers.{ℕ-cases}
-use Rattle.q_arena.specs.Rings.{Has, Misses, AreApart}
+use Rattle.q_kernel.proofs.Basics.{ℕ-cases}
+use Rattle.q_kernel.specs.Lists.{Has, Misses, AreApart}
 use Rattle.q_kernel.proofs.Following.{Has-last}
 use Rattle.q_rule.proofs.Marking.{mark_room}
 use Rattle.q_expand.specs.Ids.{AreNoted}

@@ -13,7 +13,7 @@ use Rattle.q_logic.specs.Targets.{expand_universal}
 use Rattle.q_logic.proofs.Order.{existential-is_bound, universal-not_existential}
 use Rattle.q_logic.proofs.ExpandPrefix.{AllE, below}
 use Rattle.q_logic.proofs.ExpandClosure.{above-greatest}
-use Rattle.q_arena.specs.Rings.{Has}
+use Rattle.q_kernel.specs.Lists.{Has}
 use Rattle.q_kernel.specs.Kernels.{Seen, slots, formula_in, IsSound}
 use Rattle.q_kernel.specs.Taking.{AreModest, Applies}
 use Rattle.q_kernel.proofs.Costs.{proper-var}

@@ -2,7 +2,8 @@
 use Rattle.std.proofs.Common.{◌≡◌, ◌≤◌, ℕ, zero, suc, ◌+◌, List, [], ◌∷◌, ◌++◌, sym, ◌∙◌, ap, subst, refl, inl, inr, arith, Some, None, Option}
 use Rattle.q_logic.specs.Formulas.{Clause, Matrix, IsIn}
 use Rattle.q_logic.specs.Numbered.{Slots, slot, set_slot, live}
-use Rattle.q_arena.specs.Rings.{Has, Misses, AreApart}
+use Rattle.q_kernel.specs.Lists.{Has, Misses, AreApart}
+use Rattle.q_kernel.proofs.Basics.{ℕ-cases}
 use Rattle.q_kernel.proofs.Slotting.{slot-set_other, IsIn-slot}
 use Rattle.q_logic.proofs.Heights.{weight}
 use Rattle.q_rule.proofs.Results.{slot-none}
@@ -43,7 +44,7 @@ none-weighs w [] h = refl
 none-weighs w (C ∷ X) h = let i = none-weighs w X (λ D m. h D (inr m)) in let e = h C (inl refl) in omega arith
 
 pub slot-fewer : (c d : ℕ) (N : Slots) (C : Clause) → slot (set_slot c None N) d ≡ Some C → (d ≡ c → ⊥) × (slot N d ≡ Some C)
-slot-fewer c d N C e = elim (Rattle.q_arena.proofs.Numbers.ℕ-cases d c) [
+slot-fewer c d N C e = elim (ℕ-cases d c) [
   | inl f ↦ absurd (none_some C (sym (subst (λ (x : ℕ). slot (set_slot c None N) x ≡ None) (sym f) (slot-none c N)) ∙ e))
   | inr n ↦ (n, sym (slot-set_other c d None N n) ∙ e)
 ]

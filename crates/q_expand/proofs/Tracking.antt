@@ -9,7 +9,7 @@ use Rattle.q_logic.specs.Limits.{standard}
 use Rattle.q_logic.specs.Numbered.{slot}
 use Rattle.q_logic.proofs.Order.{existential-is_bound}
 use Rattle.q_log.specs.Texts.{step_text}
-use Rattle.q_arena.proofs.Numbers.{ℕ-cases}
+use Rattle.q_kernel.proofs.Basics.{ℕ-cases}
 use Rattle.q_kernel.specs.Kernels.{Seen, slots, formula_in, IsSound}
 use Rattle.q_kernel.specs.Changes.{MayAdd, IsAdded, MayDelete, IsDeleted, MayFresh, IsFreshened}
 use Rattle.q_logic.specs.Runs.{AreAlike}

@@ -10,7 +10,7 @@ use Rattle.q_logic.specs.Numbered.{Slots, slot, live}
 use Rattle.q_logic.specs.Expanding.{Spread}
 use Rattle.q_logic.specs.Targets.{expand_universal}
 use Rattle.q_logic.proofs.Heights.{one, weight-one}
-use Rattle.q_arena.specs.Rings.{Has}
+use Rattle.q_kernel.specs.Lists.{Has}
 use Rattle.q_kernel.specs.Kernels.{Seen, SameView, slots, formula_in, IsSound}
 use Rattle.q_kernel.specs.Taking.{AreModest, Applies}
 use Rattle.q_kernel.proofs.Slotting.{live-same, size-parts}

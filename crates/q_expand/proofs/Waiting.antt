@@ -4,8 +4,8 @@ use Rattle.std.proofs.lemmas.Option.{same_Some}
 use Rattle.q_logic.specs.Formulas.{Clause, Matrix}
 use Rattle.q_logic.specs.Steps.{ProofStep}
 use Rattle.q_logic.specs.Numbered.{Slots, slot, put_first, clauses_at}
-use Rattle.q_arena.specs.Rings.{Has, AreApart}
-use Rattle.q_arena.proofs.Paths.{Misses-not}
+use Rattle.q_kernel.specs.Lists.{Has, AreApart}
+use Rattle.q_kernel.proofs.Basics.{Misses-not}
 use Rattle.q_kernel.specs.Kernels.{Seen}
 use Rattle.q_expand.specs.Tracks.{CanTake, HasTaken}
 use Rattle.q_expand.specs.Steps.{split_steps, all_split}

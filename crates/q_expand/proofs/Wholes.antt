@@ -21,22 +21,22 @@ use Rattle.q_logic.proofs.Least.{expansion_vars-least}
 use Rattle.q_logic.proofs.ExpandPrefix.{AllE, below}
 use Rattle.q_logic.proofs.ExpandLinks.{minus}
 use Rattle.q_logic.proofs.ExpandClosure.{has_variable-IsIn, Once, next-once, expansion_vars-fixed, expansion_vars-inner, all_inner, all_e, above-greatest}
-use Rattle.q_arena.specs.Rings.{Has}
-use Rattle.q_occ.specs.Places.{places_of}
+use Rattle.q_kernel.specs.Lists.{Has}
+use Rattle.q_kernel.specs.Visits.{holders_of}
 use Rattle.q_kernel.specs.Kernels.{Seen, slots, IsSound, formula_in}
 use Rattle.q_kernel.proofs.Costs.{proper-in_order}
 use Rattle.q_kernel.proofs.Slotting.{IsIn-slot, size-parts}
 use Rattle.q_expand.specs.Regions.{Walked, tally, IsWhole}
 use Rattle.q_expand.proofs.Tallying.{tally-all}
-use Rattle.q_expand.proofs.Owning.{places-counted}
+use Rattle.q_expand.proofs.Owning.{holders-counted}
 use Rattle.q_expand.proofs.Barring.{has-in_list, once-apart, within-length, vars_of, vars-length, has-vars, vars-apart, shares-connected, variable-connected, if_neither, long, neither-size, neither-number, tally-neither, vars-within}
 use Rattle.q_expand.proofs.Sizing.{greatest-all, expanded-clauses, expanded-lits}
 
-pub own-counted : (k : Seen) (u : Literal) → u.negative ≡ false → IsSound k → length (places_of k.lists u) + length (places_of k.lists (negation u)) ≡ length (clauses_of u.var (live (slots k)))
+pub own-counted : (k : Seen) (u : Literal) → u.negative ≡ false → IsSound k → length (holders_of k u) + length (holders_of k (negation u)) ≡ length (clauses_of u.var (live (slots k)))
 own-counted k u s h =
     let e : u ≡ positive u.var = λ i. record { var = u.var; negative = s i } in
-    let a : length (places_of k.lists u) ≡ length (with_literal (positive u.var) (live (slots k))) = places-counted k u h ∙ ap (λ (l : Literal). length (with_literal l (live (slots k)))) e in
-    let b : length (places_of k.lists (negation u)) ≡ length (with_literal (minus u.var) (live (slots k))) = places-counted k (negation u) h ∙ ap (λ (l : Literal). length (with_literal (negation l) (live (slots k)))) e in
+    let a : length (holders_of k u) ≡ length (with_literal (positive u.var) (live (slots k))) = holders-counted k u h ∙ ap (λ (l : Literal). length (with_literal l (live (slots k)))) e in
+    let b : length (holders_of k (negation u)) ≡ length (with_literal (minus u.var) (live (slots k))) = holders-counted k (negation u) h ∙ ap (λ (l : Literal). length (with_literal (negation l) (live (slots k)))) e in
     let c = length-append (with_literal (positive u.var) (live (slots k))) (with_literal (minus u.var) (live (slots k))) in
     omega arith
 

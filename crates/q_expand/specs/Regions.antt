@@ -8,7 +8,7 @@ use Rattle.q_logic.specs.StepForms.{positive}
 use Rattle.q_logic.specs.Numbered.{Slots, slot, live}
 use Rattle.q_logic.specs.Eliminating.{clauses_of}
 use Rattle.q_logic.specs.Expanding.{inner_existential, Spread}
-use Rattle.q_arena.specs.Rings.{Has, AreApart}
+use Rattle.q_kernel.specs.Lists.{Has, AreApart}
 use Rattle.q_kernel.specs.Kernels.{Seen, slots}
 use Rattle.q_expand.specs.declared.region.Room.{Room}
 

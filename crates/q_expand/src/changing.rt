@@ -9,8 +9,7 @@ ghost use Rattle.q_kernel.specs.Kernels.{slots};
 ghost use Rattle.q_expand.specs.Tracks.{CanTake, HasTaken, KeepsClauses};
 ghost use Rattle.q_expand.specs.Steps.{each_with, copy_step, of_sign, linked, link_steps, unlink_steps, AreLinkable, HasCopy, HaveCopies};
 
-use q_arena::ClauseId;
-use q_kernel::Kernel;
+use q_kernel::{ClauseId, Kernel};
 use q_logic::Lit;
 
 /// Puts a copy of each variable directly after it.
@@ -129,14 +128,10 @@ fn find_clause(kernel: &Kernel, clause: &[Lit], lit: Lit) -> Option<ClauseId>
     ensures some { (id : ℕ) → result ≡ Some id → slot (slots kernel.now) id ≡ Some clause.now }
     ensures none { result ≡ None → IsIn clause.now (live (slots kernel.now)) → ⊥ }
 {
-    kernel.sound();
-    let mut at = kernel.first(lit);
-    while let Some(place) = at {
-        let id = kernel.owner(place);
+    for id in kernel.holders(lit) {
         if is_same(kernel.lits(id), clause) {
             return Some(id);
         }
-        at = kernel.next(place);
     }
     None
 }

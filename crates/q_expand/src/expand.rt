@@ -7,7 +7,7 @@ ghost use Rattle.q_logic.specs.InLimits.{IsInLimits};
 ghost use Rattle.q_logic.specs.Numbered.{slot, live, clauses_at};
 ghost use Rattle.q_logic.specs.Expanding.{expansion_vars};
 ghost use Rattle.q_logic.specs.Targets.{expand_universal};
-ghost use Rattle.q_arena.specs.Rings.{Has, AreApart};
+ghost use Rattle.q_kernel.specs.Lists.{Has, AreApart};
 ghost use Rattle.q_kernel.specs.Kernels.{SameView, slots, formula_in};
 ghost use Rattle.q_kernel.specs.Taking.{AreModest, IsReady, Applies};
 ghost use Rattle.q_rule.specs.Becoming.{HasResult};

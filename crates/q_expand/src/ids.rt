@@ -1,8 +1,8 @@
 ghost use Rattle.std.specs.Prelude.{◌≡◌, ◌↔◌, ◌<◌, ◌++◌, ◌∷◌, [], ℕ, length, slice_get, OnOk, OnErr, Some, IsTrue, slice_index_or, vec_len, true, false};
-ghost use Rattle.q_arena.specs.Rings.{Has, AreApart};
+ghost use Rattle.q_kernel.specs.Lists.{Has, AreApart};
 ghost use Rattle.q_expand.specs.Ids.{AreNoted};
 
-use q_arena::ClauseId;
+use q_kernel::ClauseId;
 use q_logic::NoMemory;
 use std::alloc::Global;
 use std::marker::Model;

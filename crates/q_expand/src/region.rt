@@ -10,13 +10,12 @@ ghost use Rattle.q_logic.specs.Prefixes.{is_bound};
 ghost use Rattle.q_logic.specs.Numbered.{slot, live};
 ghost use Rattle.q_logic.specs.Expanding.{Spread, Expandable};
 ghost use Rattle.q_logic.specs.Eliminating.{clauses_of};
-ghost use Rattle.q_arena.specs.Rings.{Has};
+ghost use Rattle.q_kernel.specs.Lists.{Has};
 ghost use Rattle.q_kernel.specs.Kernels.{slots};
 ghost use Rattle.q_expand.specs.Regions.{IsConnected, IsRegion, IsLarger, HasMet, IsWhole, IsWidened, IsMet, IsVisited, IsWithin, MayVisit, nothing_met};
 
 use crate::ids::Ids;
-use q_arena::ClauseId;
-use q_kernel::Kernel;
+use q_kernel::{ClauseId, Kernel};
 use q_logic::{Lit, NoMemory, holds};
 use q_rule::{Queue, clause_of, is_inner};
 use std::alloc::Global;
@@ -166,15 +165,13 @@ impl Region {
         ensures barred { IfOk result (λ yes. yes ≡ false → Expandable room.vars kernel.now.prefix (live (slots kernel.now)) u.var → ⊥) }
     {
         kernel.sound();
-        let mut at = kernel.first(lit);
-        while let Some(place) = at {
-            if !self.meet(kernel, kernel.owner(place), u)? {
+        for c in kernel.holders(lit) {
+            if !self.meet(kernel, c, u)? {
                 return Ok(false);
             }
             if !self.fits(room) {
                 return Ok(false);
             }
-            at = kernel.next(place);
         }
         Ok(true)
     }

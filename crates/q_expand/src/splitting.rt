@@ -9,14 +9,13 @@ ghost use Rattle.q_logic.specs.StepForms.{positive, first_of};
 ghost use Rattle.q_logic.specs.Steps.{add, delete};
 ghost use Rattle.q_logic.specs.Expanding.{copy_of, copied_literal, shares, in_list};
 ghost use Rattle.q_logic.specs.Numbered.{slot, clauses_at};
-ghost use Rattle.q_arena.specs.Rings.{Has, AreApart};
+ghost use Rattle.q_kernel.specs.Lists.{Has, AreApart};
 ghost use Rattle.q_kernel.specs.Kernels.{slots};
 ghost use Rattle.q_expand.specs.Tracks.{CanTake, HasTaken, KeepsClauses};
 ghost use Rattle.q_expand.specs.Steps.{over_copies, split_steps, steps_for, all_split};
 
 use crate::region::Region;
-use q_arena::ClauseId;
-use q_kernel::Kernel;
+use q_kernel::{ClauseId, Kernel};
 use q_logic::{Lit, holds};
 
 /// What is to become of a clause.

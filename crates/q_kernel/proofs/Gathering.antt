@@ -1,4 +1,4 @@
--- Clauses that are put under the ids 0, 1, 2 and so on, and clauses that are gathered by ascending id.
+-- Clauses that are put under the ids 0, 1, 2 and so on.
 use Rattle.std.proofs.Common.{◌≡◌, ◌≢◌, ◌⊎◌, ◌≤◌, ◌<◌, ◌+◌, ℕ, zero, suc, [], ◌∷◌, ◌++◌, length, take, get_or, inl, inr, arith, refl, sym, ap, ◌∙◌, subst, Option, Some, None, add-one, not-suc-le-zero, le_of_suc-le-suc}
 use Rattle.q_logic.specs.Formulas.{Clause, Matrix}
 use Rattle.q_logic.specs.Numbered.{Slots, slot, set_slot, live, numbered, put_first}
@@ -55,38 +55,3 @@ first-all N X k e h c = h c ∙ ap (λ (Y : Matrix). slot (numbered Y) c) (ap (�
 
 pub first-live : (N : Slots) (X : Matrix) → ((c : ℕ) → slot N c ≡ slot (numbered X) c) → live N ≡ X
 first-live N X h = live-same N (numbered X) h ∙ live-numbered X
-
--- Clauses below a number.
-pub gathered-none : (N : Slots) → live (take 0 N) ≡ []
-gathered-none [] = refl
-gathered-none (o ∷ N) = refl
-
-put-append : (o : Option Clause) (X Y : Matrix) → put_first o X ++ Y ≡ put_first o (X ++ Y)
-put-append None X Y = refl
-put-append (Some C) X Y = refl
-
-skip : (N : Slots) (from to : ℕ) → from ≤ to → ((c : ℕ) → from ≤ c → c < to → slot N c ≡ None) → live (take to N) ≡ live (take from N)
-skip N from zero h n = let e : 0 ≡ from = omega arith in ap (λ (k : ℕ). live (take k N)) e
-skip [] zero (suc to) h n = refl
-skip [] (suc from) (suc to) h n = refl
-skip (o ∷ N) zero (suc to) h n =
-    let e : o ≡ None = n 0 (omega arith) (omega arith) in
-    ap (λ (q : Option Clause). put_first q (live (take to N))) e ∙ (skip N 0 to (omega arith) (λ c a b. n (suc c) (omega arith) (omega arith)) ∙ gathered-none N)
-skip (o ∷ N) (suc from) (suc to) h n = ap (put_first o) (skip N from to (le_of_suc-le-suc h) (λ c a b. n (suc c) (omega arith) (omega arith)))
-
-one-more : (N : Slots) (id : ℕ) (C : Clause) → slot N id ≡ Some C → live (take (suc id) N) ≡ live (take id N) ++ C ∷ []
-one-more [] id C s = grind arith
-one-more (o ∷ N) zero C s = ap (λ (q : Option Clause). put_first q (live (take 0 N))) s ∙ ap (λ (X : Matrix). C ∷ X) (gathered-none N)
-one-more (o ∷ N) (suc id) C s = ap (put_first o) (one-more N id C s) ∙ sym (put-append o (live (take id N)) (C ∷ []))
-
--- the next live id after a number
-pub gathered-more : (N : Slots) (from id : ℕ) (C : Clause) → from ≤ id → ((c : ℕ) → from ≤ c → c < id → slot N c ≡ None) → slot N id ≡ Some C → live (take (id + 1) N) ≡ live (take from N) ++ C ∷ []
-gathered-more N from id C h n s = subst (λ (k : ℕ). live (take k N) ≡ live (take from N) ++ C ∷ []) (sym (add-one id)) (one-more N id C s ∙ ap (λ (X : Matrix). X ++ C ∷ []) (skip N from id h n))
-
-pub gathered-all : (N : Slots) (from : ℕ) → ((c : ℕ) → from ≤ c → slot N c ≡ None) → live (take from N) ≡ live N
-gathered-all N zero n = gathered-none N ∙ sym (live-no N (λ c. n c (omega arith)))
-  where
-    live-no : (N : Slots) → ((c : ℕ) → slot N c ≡ None) → live N ≡ []
-    live-no N h = live-same N [] h
-gathered-all [] (suc from) n = refl
-gathered-all (o ∷ N) (suc from) n = ap (put_first o) (gathered-all N from (λ c h. n (suc c) (omega arith)))

@@ -17,3 +17,8 @@ pub mod Stepping
 pub mod Reserving
 pub mod Following
 pub mod Neighbours
+pub mod HolderLists
+pub mod LiveIds
+pub mod Turns
+pub mod Basics
+pub mod Once

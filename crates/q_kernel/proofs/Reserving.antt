@@ -1,5 +1,5 @@
 -- A view that is kept over several calls.
-use Rattle.std.proofs.Common.{◌≡◌, ◌≢◌, ◌⊎◌, ◌≤◌, ◌<◌, ◌+◌, ℕ, Bool, true, false, cond, if◌then◌else◌, ◌==◌, [], ◌∷◌, length, refl, sym, ap, ◌∙◌, subst, inl, inr, arith, Some, None}
+use Rattle.std.proofs.Common.{◌≡◌, ◌≢◌, ◌≤◌, ◌<◌, ◌+◌, ℕ, Bool, true, false, cond, if◌then◌else◌, ◌==◌, [], ◌∷◌, length, refl, sym, ap, ◌∙◌, subst, inl, inr, arith, Some, None}
 use Rattle.std.proofs.lemmas.Bool.Decides.{nat_tests}
 use Rattle.q_logic.specs.Formulas.{Clause, Matrix, Prefix}
 use Rattle.q_logic.specs.Parts.{IsProper}
@@ -9,7 +9,7 @@ use Rattle.q_logic.specs.StepForms.{first_of}
 use Rattle.q_logic.specs.Measure.{size_of}
 use Rattle.q_logic.specs.Sweep.{swept, has_empty, occurs, occurring, falsity}
 use Rattle.q_logic.specs.Numbered.{Slots, slot, set_slot, live, formula_of}
-use Rattle.q_arena.proofs.Numbers.{ℕ-cases, some-same, none-some}
+use Rattle.q_arena.proofs.Numbers.{ℕ-cases, some-same}
 use Rattle.q_kernel.specs.Changes.{IsDeleted, IsRemoved}
 use Rattle.q_kernel.specs.Invariant.{IsSweeping}
 use Rattle.q_kernel.proofs.Leading.{led-itself, led-through}
@@ -17,6 +17,7 @@ use Rattle.q_kernel.proofs.Counting.{occurring-removed}
 use Rattle.q_kernel.proofs.Sweeping.{spare-after_delete, spare-after_remove, IsAlone, alone-first, alone-kept, alone-deleted, occurring-none}
 use Rattle.q_arena.specs.Seen.{Clauses, live_in, AreSameClauses}
 use Rattle.q_kernel.specs.Kernels.{Seen, slots, formula_in, SameView, KeepsRoom, HasSweepBytes}
+use Rattle.q_kernel.specs.Visits.{IsLive}
 use Rattle.q_kernel.proofs.Slotting.{live-same, live_in-length, slot-get, length-set_slot, IsIn-slot, has_empty-IsIn}
 
 -- the same clauses at other places
@@ -121,26 +122,14 @@ whole-sweep P Q X Y e f = go (has_empty X) refl e
     go false h y = ap (λ (R : Prefix). formula_of R Y) f ∙ ap (λ (Z : Matrix). formula_of (occurring P Z) Z) y
 
 -- An empty clause is found.
-pub not-empty-below : (N : Slots) (from : ℕ) → ((c : ℕ) → c < from → slot N c ≡ Some [] → ⊥) → ((c : ℕ) → from ≤ c → slot N c ≡ None) → has_empty (live N) ≡ true → ⊥
-not-empty-below N from f none h =
-    let r : (c : ℕ) × (slot N c ≡ Some []) = IsIn-slot N [] (has_empty-IsIn (live N) h) in
-    elim (split r.0) [
-      | inl l ↦ f r.0 l r.1
-      | inr g ↦ none-some [] (sym (none r.0 g) ∙ r.1)
-    ]
-  where
-    split : (c : ℕ) → (c < from) ⊎ (from ≤ c)
-    split c = grind arith
+pub record IsNotEmpty (N : Slots) (c : ℕ) : Type 0 where
+  pub full : slot N c ≡ Some [] → ⊥
 
-pub not-empty-more : (N : Slots) (from id : ℕ) (C : Clause) → ((c : ℕ) → c < from → slot N c ≡ Some [] → ⊥) → ((c : ℕ) → from ≤ c → c < id → slot N c ≡ None) → slot N id ≡ Some C → length C ≢ 0 → (c : ℕ) → c < id + 1 → slot N c ≡ Some [] → ⊥
-not-empty-more N from id C f none e n c l q = elim (split c l) [
-  | inl a ↦ f c a q
-  | inr (inl b) ↦ none-some [] (sym (none c b.0 b.1) ∙ q)
-  | inr (inr i) ↦ let same : C ≡ [] = some-same C [] (sym e ∙ subst (λ (j : ℕ). slot N j ≡ Some []) i q) in n (ap length same)
-]
-  where
-    split : (c : ℕ) → c < id + 1 → (c < from) ⊎ ((from ≤ c) × (c < id)) ⊎ (c ≡ id)
-    split c l = grind arith
+pub not-empty-all : (N : Slots) → ((c : ℕ) → IsLive N c → IsNotEmpty N c) → has_empty (live N) ≡ true → ⊥
+not-empty-all N f h = let r : (c : ℕ) × (slot N c ≡ Some []) = IsIn-slot N [] (has_empty-IsIn (live N) h) in (f r.0 (record { there = ([], r.1) })).full r.1
+
+pub not-empty-one : (N : Slots) (id : ℕ) (C : Clause) → slot N id ≡ Some C → length C ≢ 0 → IsNotEmpty N id
+not-empty-one N id C e n = record { full = λ q. n (ap length (some-same C [] (sym e ∙ q))) }
 
 pub not-zero : (n : ℕ) (b : Bool) → b ≡ (n == 0) → b ≡ false → n ≢ 0
 not-zero n b e f = λ q. absurd (clash n q (sym e ∙ f))

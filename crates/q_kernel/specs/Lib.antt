@@ -6,3 +6,5 @@ pub mod Linking
 pub mod Listing
 pub mod Singles
 pub mod Invariant
+pub mod Visits
+pub mod Lists

@@ -13,6 +13,7 @@ ghost use Rattle.q_arena.specs.Rings.{Has};
 ghost use Rattle.q_arena.specs.Chains.{following};
 ghost use Rattle.q_occ.specs.Places.{places_of};
 ghost use Rattle.q_kernel.specs.Kernels.{slots, formula_in, SameView, KeepsRoom, KeepsSpare, IsSound, IsListed, HoldsLiteral, HasSweepBytes};
+ghost use Rattle.q_kernel.specs.Visits.{holders_of};
 ghost use Rattle.q_kernel.specs.Changes.{IsLed, MayAdd, IsAdded, MayDelete, IsDeleted, MayDrop, IsDropped, MayShrink, IsShrunk, MayFresh, IsFreshened, MayStep, IsRemoved};
 ghost use Rattle.q_kernel.specs.Taking.{AreModest};
 ghost use Rattle.q_logic.specs.Steps.{remove_variable, Within};
@@ -86,7 +87,7 @@ impl Kernel {
             greatest: 0,
             log_bytes: 0,
         })?;
-        kernel.ids();
+        kernel.known_ids();
         for at in 0..formula.clauses() {
             kernel.put_at(at as u32, formula.clause(at));
         }
@@ -94,7 +95,7 @@ impl Kernel {
     }
 
     // How many ids there are, for proofs.
-    fn ids(&self)
+    pub(crate) fn known_ids(&self)
         ensures ids { length (slots self.now) ≡ live_in (slots self.now) + self.now.arena.spare_ids }
         ensures few { length (slots self.now) ≤ 4294967295 }
     {
@@ -249,6 +250,7 @@ impl Kernel {
     /// How many places of the literal there are. A literal outside the prefix has none.
     pub fn count(&self, lit: Lit) -> u32
         ensures value { result ≡ length (places_of self.now.lists lit) }
+        ensures held { result ≡ length (holders_of self.now lit) }
         ensures none { result ≡ 0 → (D : Clause) → IsIn D (live (slots self.now)) → IsIn lit D → ⊥ }
         ensures some { 1 ≤ result → (c : ℕ) × HoldsLiteral self.now c lit }
     {
@@ -514,13 +516,10 @@ impl Kernel {
         requires { has_empty (live (slots self.now)) ≡ true }
         ensures { slot (slots self.now) result ≡ Some [] }
     {
-        self.arena.apart();
-        let mut from = 0;
-        while let Some(id) = self.next_live(from) {
+        for id in self.ids() {
             if self.lits(id).is_empty() {
                 return id;
             }
-            from = id + 1;
         }
         0
     }
@@ -651,13 +650,10 @@ impl Kernel {
     pub fn formula(&self, alloc: Global) -> Result<Formula, NoMemory>
         ensures { IfOk result (λ f. f ≡ formula_in self.now) }
     {
-        self.ids();
         let prefix = bounds_of(alloc, &self.prefix)?;
         let mut clauses = Clauses::with_capacity(alloc, self.count, self.size - self.count)?;
-        let mut from = 0;
-        while let Some(id) = self.next_live(from) {
+        for id in self.ids() {
             clauses.push(self.lits(id))?;
-            from = id + 1;
         }
         let (lits, ends) = clauses.into_parts();
         Ok(Formula::from_parts(prefix, lits, ends))

@@ -2,6 +2,8 @@
 //! without memory after a reservation, and logged at once.
 #![tactic(auto)]
 
+mod holders;
+mod ids;
 mod joining;
 mod journal;
 mod kernel;
@@ -13,8 +15,11 @@ mod taken;
 mod uses;
 mod variables;
 
+pub use holders::Holders;
+pub use ids::Ids;
 pub use journal::Touch;
 pub use kernel::Kernel;
 pub use need::Need;
+pub use q_arena::ClauseId;
 pub use q_logic::Bounds;
 pub use taken::Taken;

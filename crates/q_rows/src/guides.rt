@@ -6,8 +6,7 @@ ghost use Rattle.q_logic.specs.Counts.{Rose};
 
 use crate::aims::{Aim, aim_of};
 use crate::trouble::Trouble;
-use q_arena::ClauseId;
-use q_kernel::Kernel;
+use q_kernel::{ClauseId, Kernel};
 use q_logic::Bounds;
 use q_reduce::Target as Reduce;
 use q_sched::{FewestFirst, Guide, Move, Proposal, ShortestFirst};

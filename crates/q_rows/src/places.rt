@@ -5,8 +5,7 @@ use crate::aims::Aim;
 use crate::formulas::push_lit;
 use crate::taking::kernel_of;
 use crate::trouble::Trouble;
-use q_arena::ClauseId;
-use q_kernel::Kernel;
+use q_kernel::{ClauseId, Kernel};
 use q_logic::{Bounds, Formula, Lit};
 use std::alloc::Global;
 
@@ -63,11 +62,8 @@ fn owners_of(alloc: Global, kernel: &Kernel, lit: Lit) -> Result<Vec<ClauseId>, 
 }
 
 fn gather(kernel: &Kernel, lit: Lit, owners: &mut Vec<ClauseId>) -> Result<(), Trouble> {
-    let mut at = kernel.first(lit);
-    for _ in 0..kernel.count(lit) {
-        let Some(place) = at else { return Ok(()) };
-        owners.push(kernel.owner(place))?;
-        at = kernel.next(place);
+    for id in kernel.holders(lit) {
+        owners.push(id)?;
     }
     Ok(())
 }

@@ -1,7 +1,7 @@
 -- Marks that come and go.
 use Rattle.std.proofs.Common.{◌≡◌, ℕ, zero, suc, suc-le-suc, zero-le, ◌<◌, ◌≤◌, Bool, true, false, List, [], ◌∷◌, ◌++◌, length, get_or, set, drop, sym, ◌∙◌, ap, subst, refl, inl, inr, arith, true≢false, get_or-set_same, get_or-set_other}
 use Rattle.std.proofs.lemmas.Bool.Decides.{nat_tests}
-use Rattle.q_arena.proofs.Numbers.{ℕ-cases}
+use Rattle.q_kernel.proofs.Basics.{ℕ-cases}
 use Rattle.q_logic.specs.Literals.{Literal, pack}
 use Rattle.q_logic.specs.Formulas.{IsIn}
 use Rattle.q_logic.proofs.ClauseLemmas.{IsIn-append, IsIn-append_left}

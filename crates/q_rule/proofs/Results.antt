@@ -25,7 +25,7 @@ use Rattle.q_logic.proofs.Sets.{without-shorter}
 use Rattle.q_logic.proofs.Falling.{measure-alike}
 use Rattle.q_logic.proofs.TargetRuns.{target-falls}
 use Rattle.q_logic.proofs.Looping.{live-without}
-use Rattle.q_arena.proofs.Numbers.{ℕ-cases}
+use Rattle.q_kernel.proofs.Basics.{ℕ-cases}
 use Rattle.q_kernel.specs.Kernels.{Seen, slots, formula_in, SameView}
 use Rattle.q_logic.specs.Runs.{AreAlike}
 use Rattle.q_kernel.specs.Taking.{IsReady, IsTaken}

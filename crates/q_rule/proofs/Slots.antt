@@ -3,7 +3,7 @@ use Rattle.std.proofs.Common.{◌≡◌, ◌≢◌, ℕ, zero, suc, None, [], �
 use Rattle.q_logic.specs.Formulas.{Clause, IsIn}
 use Rattle.q_logic.specs.Numbered.{Slots, slot, live, others}
 use Rattle.q_kernel.proofs.Slotting.{IsIn-slot, slot-IsIn}
-use Rattle.q_arena.proofs.Numbers.{some-same}
+use Rattle.q_kernel.proofs.Basics.{some-same}
 
 pub slot-one : (N : Slots) (n : ℕ) (C D : Clause) → slot N n ≡ Some C → slot N n ≡ Some D → C ≡ D
 slot-one N n C D e f = some-same C D (sym e ∙ f)

@@ -10,8 +10,7 @@ ghost use Rattle.q_logic.specs.Numbered.{slot};
 ghost use Rattle.q_kernel.specs.Kernels.{slots};
 ghost use Rattle.q_rule.specs.Quants.{is_some_exists, is_some_forall};
 
-use q_arena::ClauseId;
-use q_kernel::Kernel;
+use q_kernel::{ClauseId, Kernel};
 use q_logic::{Lit, Quant};
 
 fn says_exists(quant: Option<Quant>) -> bool

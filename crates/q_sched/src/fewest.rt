@@ -18,8 +18,7 @@ use crate::ascending::{Ascending, Key};
 use crate::guide::{Guide, Proposal};
 use crate::moves::Move;
 use crate::rounds::{Keyed, Rounds};
-use q_arena::ClauseId;
-use q_kernel::{Kernel, Touch};
+use q_kernel::{ClauseId, Kernel, Touch};
 use q_logic::{Lit, NoMemory};
 use q_rule::is_existential;
 

@@ -3,16 +3,13 @@
 //! Such a test costs more than any other, so it comes after the other rules, and only clauses near a change are tested:
 //! those with a literal whose negation stands in one clause less, or that stands in a clause that came or became shorter.
 //! They are gathered at once and tested one by one, short ones first.
-ghost use Rattle.q_kernel.specs.Taking.{AreModest, IsReady};
-
 use crate::lists::{gather, lits_of};
 use crate::lits::Lits;
 use crate::marked::Marked;
 use crate::watch::{Pass, Watch};
-use q_arena::ClauseId;
 use q_blocked::{Search, Target};
-use q_kernel::Kernel;
-use q_logic::{Bounds, NoMemory};
+use q_kernel::{ClauseId, Kernel};
+use q_logic::NoMemory;
 use q_rule::Rules;
 use std::alloc::Global;
 
@@ -86,24 +83,21 @@ impl Covering {
         Ok(())
     }
 
-    /// A target that applies, among the clauses that were gathered.
+    /// A target that applies, among the clauses that were gathered. The kernel is the same for all of them, so what one test
+    /// has learned of it serves for the next one.
     pub(crate) fn next<W: Watch>(
         &mut self,
         kernel: &Kernel,
-        bounds: &Bounds,
         watch: &W,
-    ) -> Result<Option<Target>, NoMemory>
-        requires ready { IsReady kernel.now }
-        requires bounds { AreModest bounds.now }
-    {
-        for _ in 0..self.batch.len() {
+    ) -> Result<Option<Target>, NoMemory> {
+        self.search.forget();
+        for _turn in 0..self.batch.len() {
             let Some((_, c)) = self.batch.pop() else {
                 return Ok(None);
             };
             watch.look(Pass::Cover, kernel);
-            let target = Target::Cover { c };
-            if self.search.applies(kernel, &target, bounds)? {
-                return Ok(Some(target));
+            if self.search.covers(kernel, c)? {
+                return Ok(Some(Target::Cover { c }));
             }
         }
         Ok(None)

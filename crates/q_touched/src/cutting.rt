@@ -8,8 +8,7 @@ ghost use Rattle.q_reduce.specs.Lent.{IsFitFor};
 
 use crate::lists::lits_of;
 use crate::watch::{Pass, Watch};
-use q_arena::ClauseId;
-use q_kernel::Kernel;
+use q_kernel::{ClauseId, Kernel};
 use q_logic::{Bounds, Lit, NoMemory, holds};
 use q_reduce::{Search, Target};
 use q_rule::{Rules, is_universal};
@@ -81,17 +80,12 @@ fn collect_all<W: Watch>(
     requires fit { IsFitFor kernel.now search.old }
 {
     let mut stay = 0usize;
-    let mut at = 0;
-    while let Some(c) = kernel.next_live(at) {
+    for c in kernel.ids() {
         watch.look(Pass::Cut, kernel);
         stay = stay.saturating_add(collect_from(kernel, bounds, search, batch, c)?);
         if stay > patience.saturating_add(batch.len()) {
             return Ok(());
         }
-        let Some(after) = c.checked_add(1) else {
-            return Ok(());
-        };
-        at = after;
     }
     Ok(())
 }

@@ -8,8 +8,7 @@
 //! The clauses of a literal are a list, linked by their ids. Nothing here has to agree with the kernel.
 
 use crate::lists::{index_of, lits_of};
-use q_arena::ClauseId;
-use q_kernel::Kernel;
+use q_kernel::{ClauseId, Kernel};
 use q_logic::{Lit, NoMemory};
 use std::alloc::Global;
 

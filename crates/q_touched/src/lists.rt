@@ -1,8 +1,7 @@
 //! Looks at the kernel's lists that are safe for any id and any index.
 ghost use Rattle.std.specs.Prelude.{◌≡◌, ◌≤◌};
 
-use q_arena::ClauseId;
-use q_kernel::Kernel;
+use q_kernel::{ClauseId, Kernel};
 use q_logic::{Lit, NoMemory};
 
 /// The literals of a clause; none where it is gone.
@@ -37,11 +36,8 @@ pub(crate) fn places_of(kernel: &Kernel, lit: Lit) -> u32 {
 
 /// Puts the ids of the clauses that hold a literal into a row, behind what is there.
 pub(crate) fn gather(kernel: &Kernel, lit: Lit, ids: &mut Vec<ClauseId>) -> Result<(), NoMemory> {
-    let mut at = kernel.first(lit);
-    for _ in 0..kernel.count(lit) {
-        let Some(place) = at else { return Ok(()) };
-        ids.push(kernel.owner(place))?;
-        at = kernel.next(place);
+    for id in kernel.holders(lit) {
+        ids.push(id)?;
     }
     Ok(())
 }

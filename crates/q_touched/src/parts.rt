@@ -16,8 +16,7 @@ use crate::merging::Merging;
 use crate::plain::Plain;
 use crate::subsuming::Subsuming;
 use crate::watch::{Pass, Watch};
-use q_arena::ClauseId;
-use q_kernel::{Kernel, Touch};
+use q_kernel::{ClauseId, Kernel, Touch};
 use q_logic::{Lit, NoMemory, Quant};
 use std::alloc::Global;
 
@@ -72,15 +71,10 @@ impl Parts {
 
     fn note_clauses<W: Watch>(&mut self, kernel: &Kernel, watch: &W) -> Result<(), NoMemory> {
         self.subsuming.restart();
-        let mut at = 0;
-        while let Some(c) = kernel.next_live(at) {
+        for c in kernel.ids() {
             watch.look(Pass::Note, kernel);
             self.plain.touch(kernel, c)?;
             self.subsuming.hang(kernel, c)?;
-            let Some(after) = c.checked_add(1) else {
-                return Ok(());
-            };
-            at = after;
         }
         Ok(())
     }

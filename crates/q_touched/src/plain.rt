@@ -3,8 +3,7 @@
 
 use crate::lists::lits_of;
 use crate::marked::Marked;
-use q_arena::ClauseId;
-use q_kernel::Kernel;
+use q_kernel::{ClauseId, Kernel};
 use q_logic::{Lit, NoMemory, holds};
 use q_reduce::Target;
 use q_rule::{is_existential, is_inner, is_universal};

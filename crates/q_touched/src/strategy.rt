@@ -263,7 +263,7 @@ impl<W: Watch> Strategy<W> {
             }
             self.parts.covering.collect(kernel, limit)?;
         }
-        match self.parts.covering.next(kernel, &self.bounds, &self.watch)? {
+        match self.parts.covering.next(kernel, &self.watch)? {
             Some(target) => Ok(Some(Move::Block(target))),
             None => Ok(None),
         }

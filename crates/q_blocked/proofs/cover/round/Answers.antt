@@ -9,7 +9,7 @@ returns-clause-turned c =
     let k = c.args.kernel.now in
     let old = c.close.new.growth in
     let now = c.pass.new.growth in
-    let h : HasClosed k c.args.c old false = subst (λ (b : Bool). HasClosed k c.args.c old b) c.if-branch.false c.in_ok-close.ensures in
+    let h : HasClosed k c.args.c old false = subst (λ (b : Bool). HasClosed k c.args.c old b) c.if-branch.false c.in_ok-close.ensures.closed in
     units-turned k c.args.c old now c.use_units.new.growth c.in_ok-last.last h.1
     (looked-calm k c.args.c (λ l. IsIn l old.set) old now c.in_ok-outcome.outcome (sym c.is_ended.ensures ∙ c.if-is_ended.false) (sym c.is_grown.ensures ∙ c.if-is_grown.false) c.in_ok-outcome.ensures)
     c.in_ok-last.ensures

@@ -15,14 +15,18 @@ loop-growth-preserved c =
     let new = c.spread.new.growth in
     let i = c.at-k.result in
     let Q : Clause → Type 0 = λ E. IsIn E X × IsIn i E in
-    let r : HasSpread k c.args.c Q old new false = subst (λ (b : Bool). HasSpread k c.args.c Q old new b) c.if-branch.false c.in_ok-spread.ensures in
+    let r : HasSpread k c.args.c Q old new false = subst (λ (b : Bool). HasSpread k c.args.c Q old new b) c.if-branch.false c.in_ok-spread.ensures.spread in
     let e : new.set ≡ old.set ++ r.1.added = r.1.set in
     let w : new.worked ≡ old.worked = r.1.worked in
     let more : new.worked < length old.set = omega (arith, w, c.loop-growth-test.true, c.len.ensures) in
-    let at' : slice_get old.set new.worked ≡ Some i = subst (λ (n : ℕ). slice_get old.set n ≡ Some i) (sym w) c.at-k.ensures in (
-      r.0.0,
-      r.0.1,
-      subst (λ (T : Clause). IsGrowing k.prefix X r.0.0 T new.plan.stages.items new.base (new.worked + 1)) (sym e)
-          (growing-walked k.prefix X r.0.0 old.set r.1.added new.plan.stages.items new.base new.worked i more at' (λ E m. subst (λ (T : Clause). IsCalmAt old.set T E) e (r.2 E m))
-          (subst (λ (T : Clause). IsGrowing k.prefix X r.0.0 T new.plan.stages.items new.base new.worked) e r.0.2)),
-    )
+    let at' : slice_get old.set new.worked ≡ Some i = subst (λ (n : ℕ). slice_get old.set n ≡ Some i) (sym w) c.at-k.ensures in
+    record {
+      rows = c.spread.ensures.rows;
+      growing = (
+        r.0.0,
+        r.0.1,
+        subst (λ (T : Clause). IsGrowing k.prefix X r.0.0 T new.plan.stages.items new.base (new.worked + 1)) (sym e)
+            (growing-walked k.prefix X r.0.0 old.set r.1.added new.plan.stages.items new.base new.worked i more at' (λ E m. subst (λ (T : Clause). IsCalmAt old.set T E) e (r.2 E m))
+            (subst (λ (T : Clause). IsGrowing k.prefix X r.0.0 T new.plan.stages.items new.base new.worked) e r.0.2)),
+      );
+    }

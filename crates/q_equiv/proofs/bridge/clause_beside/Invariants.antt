@@ -1,14 +1,6 @@
-use Rattle.std.proofs.Common.{◌≡◌, ◌⊎◌, ◌-◌, ℕ, Some, length, get_or}
-use Rattle.q_arena.specs.Rings.{Has}
-use Rattle.q_occ.specs.Places.{places_of}
-use Rattle.q_kernel.proofs.Following.{passed}
+use Rattle.std.proofs.Common.{All}
+use Rattle.q_equiv.proofs.Beside.{IsOfBridge}
 use Rattle.q_equiv.proofs.bridge.clause_beside.Given as goal
 
-abbrev pub invariant-loop-at : goal.invariant-loop-at
-invariant-loop-at l = record {
-  listed : (p : ℕ) → l.at ≡ Some p → Has (places_of l.kernel.lists l.fn.lit) p;
-  bridged : (p : ℕ) → Has (passed l.at (places_of l.kernel.lists l.fn.lit)) p → (get_or l.kernel.lists.owners p 0 ≡ l.bridge.over) ⊎ (get_or l.kernel.lists.owners p 0 ≡ l.bridge.back);
-}
-
-abbrev pub decreases-loop-at : goal.decreases-loop-at
-decreases-loop-at l = length (places_of l.kernel.lists l.fn.lit) - length (passed l.at (places_of l.kernel.lists l.fn.lit))
+abbrev pub invariant-loop-id : goal.invariant-loop-id
+invariant-loop-id l = All (λ c. IsOfBridge l.bridge c) l.yielded

@@ -1,57 +1,25 @@
-use Rattle.std.proofs.Common.{◌≡◌, ◌++◌, ◌∷◌, [], ℕ, List, Option, Some, get_or, sym, ◌∙◌, ap, subst}
+use Rattle.std.proofs.Common.{List, ℕ, sym, ◌∙◌, subst}
 use Rattle.q_logic.specs.Literals.{negation}
-use Rattle.q_logic.specs.Numbered.{slot}
-use Rattle.q_arena.specs.Rings.{Has}
-use Rattle.q_occ.specs.Places.{places_of}
 use Rattle.q_kernel.specs.Kernels.{slots, HoldsLiteral}
-use Rattle.q_kernel.proofs.Following.{passed, passed-none}
-use Rattle.q_rule.proofs.Places.{passed-step, passed-falls}
-use Rattle.q_equiv.specs.Walks.{IsSpread}
+use Rattle.q_kernel.proofs.Turns.{holder-turn, all-came}
 use Rattle.q_equiv.proofs.Walks.{IsSpreading, spreading-begun, spreading-more, spreading-done}
 use Rattle.q_equiv.proofs.joined.spread.Goals as goal
 
 pub follow-requires : goal.follow-requires
-follow-requires c = c.owner.ensures.holds (negation c.args.lit) (c.loop-at.invariant.listed c.in-Some.place c.in-Some.is)
+follow-requires c = rw c.negated.ensures at (holder-turn _ _ _ c.holders-id-items.ensures.hold c.into_iter-id-iterator.ensures.into_iter_gives c.loop-id.yielded_by c.in-Some.ensures.steps)
 
-pub loop-at-init : goal.loop-at-init
-loop-at-init c =
-    let k = c.args.kernel.now in
-    let ys = places_of k.lists (negation c.args.lit) in
-    let first = rw c.negated.ensures at c.first-at.ensures.first in
-    let none : passed c.first-at.result ys ≡ [] = ap (λ (o : Option ℕ). passed o ys) first ∙ passed-none ys in
-    record {
-      listed = rw c.negated.ensures at c.first-at.ensures.there;
-      followed = subst (λ (xs : List ℕ). IsSpreading c.args.levels.now (slots k) (λ p. get_or k.lists.owners p 0) c.args.lit xs c.args.queue.now c.args.queue.now) (sym none)
-          (spreading-begun c.args.levels.now (slots k) (λ p. get_or k.lists.owners p 0) c.args.lit c.args.queue.now);
-    }
+pub loop-id-init : goal.loop-id-init
+loop-id-init c = spreading-begun c.args.levels.now (slots c.args.kernel.now) c.args.lit c.args.queue.now
 
-pub loop-at-smaller : goal.loop-at-smaller
-loop-at-smaller c =
+pub loop-id-preserved : goal.loop-id-preserved
+loop-id-preserved c =
     let k = c.args.kernel.now in
-    let ys = places_of k.lists (negation c.args.lit) in
-    let p = c.in-Some.place in
-    let there : Has ys p = c.loop-at.invariant.listed p c.in-Some.is in
-    passed-falls p c.loop-at.at c.next-at.result ys (c.sound.ensures.apart (negation c.args.lit)) c.in-Some.is there (c.next-at.ensures.next (negation c.args.lit) there)
-
-pub loop-at-preserved : goal.loop-at-preserved
-loop-at-preserved c =
-    let k = c.args.kernel.now in
-    let ys = places_of k.lists (negation c.args.lit) in
-    let p = c.in-Some.place in
-    let there : Has ys p = c.loop-at.invariant.listed p c.in-Some.is in
-    let held : HoldsLiteral k c.owner.result (negation c.args.lit) = c.owner.ensures.holds (negation c.args.lit) there in
-    let s : passed c.next-at.result ys ≡ passed c.loop-at.at ys ++ p ∷ [] = passed-step p c.loop-at.at c.next-at.result ys (c.sound.ensures.apart (negation c.args.lit)) c.in-Some.is there (c.next-at.ensures.next (negation c.args.lit) there) in
-    let own : slot (slots k) (get_or k.lists.owners p 0) ≡ Some held.0 = rw c.owner.ensures.value at held.1 in
-    let f : IsSpread c.args.levels.now (held.0 ∷ []) c.args.lit c.loop-at.queue c.follow.new.queue = c.in_ok-follow.ensures held.0 held.1 in
-    record {
-      listed = λ q e. c.next-at.ensures.there (negation c.args.lit) q there e;
-      followed = subst (λ (xs : List ℕ). IsSpreading c.args.levels.now (slots k) (λ q. get_or k.lists.owners q 0) c.args.lit xs c.args.queue.now c.follow.new.queue) (sym s)
-          (spreading-more c.args.levels.now (slots k) (λ q. get_or k.lists.owners q 0) c.args.lit (passed c.loop-at.at ys) p held.0 c.args.queue.now c.loop-at.queue c.follow.new.queue own c.loop-at.invariant.followed f);
-    }
+    let held : HoldsLiteral k c.in-Some.id (negation c.args.lit) = rw c.negated.ensures at (holder-turn _ _ _ c.holders-id-items.ensures.hold c.into_iter-id-iterator.ensures.into_iter_gives c.loop-id.yielded_by c.in-Some.ensures.steps) in
+    spreading-more c.args.levels.now (slots k) c.args.lit c.loop-id.yielded c.in-Some.id held.0 c.args.queue.now c.loop-id.queue c.follow.new.queue held.1 c.loop-id.invariant (c.in_ok-follow.ensures held.0 held.1)
 
 pub returns : goal.returns
 returns c =
     let k = c.args.kernel.now in
-    let ys = places_of k.lists (negation c.args.lit) in
-    let f : IsSpreading c.args.levels.now (slots k) (λ p. get_or k.lists.owners p 0) c.args.lit ys c.args.queue.now c.loop-at.queue = rw c.in_default.is at c.loop-at.invariant.followed in
-    spreading-done c.args.levels.now (slots k) (λ p. get_or k.lists.owners p 0) c.args.lit ys c.args.queue.now c.loop-at.queue (λ d E e m. c.sound.ensures.owned d (negation c.args.lit) (E, e, m)) f
+    let came = all-came _ c.into_iter-id-iterator.ensures.into_iter_gives c.loop-id.yielded_by c.in-None.ensures.steps.0 in
+    spreading-done c.args.levels.now (slots k) c.args.lit c.holders-id-items.result c.args.queue.now c.loop-id.queue (rw c.negated.ensures at c.holders-id-items.ensures.all)
+    (subst (λ (ids : List ℕ). IsSpreading c.args.levels.now (slots k) c.args.lit ids c.args.queue.now c.loop-id.queue) came c.loop-id.invariant)

@@ -1,17 +1,6 @@
-use Rattle.std.proofs.Common.{◌≡◌, ◌-◌, ℕ, Some, length, get_or}
-use Rattle.q_logic.specs.Literals.{negation}
-use Rattle.q_arena.specs.Rings.{Has}
-use Rattle.q_occ.specs.Places.{places_of}
 use Rattle.q_kernel.specs.Kernels.{slots}
-use Rattle.q_kernel.proofs.Following.{passed}
 use Rattle.q_equiv.proofs.Walks.{IsSpreading}
 use Rattle.q_equiv.proofs.joined.spread.Given as goal
 
-abbrev pub invariant-loop-at : goal.invariant-loop-at
-invariant-loop-at l = record {
-  listed : (p : ℕ) → l.at ≡ Some p → Has (places_of l.kernel.lists (negation l.lit)) p;
-  followed : IsSpreading l.levels (slots l.kernel) (λ p. get_or l.kernel.lists.owners p 0) l.lit (passed l.at (places_of l.kernel.lists (negation l.lit))) l.fn.queue l.queue;
-}
-
-abbrev pub decreases-loop-at : goal.decreases-loop-at
-decreases-loop-at l = length (places_of l.kernel.lists (negation l.lit)) - length (passed l.at (places_of l.kernel.lists (negation l.lit)))
+abbrev pub invariant-loop-id : goal.invariant-loop-id
+invariant-loop-id l = IsSpreading l.levels (slots l.kernel) l.lit l.yielded l.fn.queue l.queue

@@ -17,8 +17,8 @@ returns-clause-room c =
     let a = weigh-enough k c.args.gone in
     let b = count-enough k c.args.gone c.sound.ensures in
     let p = rw c.prefix.ensures at c.len.ensures in
-    let d = rw c.negated.ensures at c.count-2.ensures.value in
-    room-made k new c.args.gone.var e.view (omega (arith, a, c.in_ok-words.ensures, e.words)) (omega (arith, b, c.count.ensures.value, d, e.ids)) (omega (arith, p, c.size.ensures, e.bytes))
+    let d = rw c.negated.ensures at c.count-2.ensures.held in
+    room-made k new c.args.gone.var e.view (omega (arith, a, c.in_ok-words.ensures, e.words)) (omega (arith, b, c.count.ensures.held, d, e.ids)) (omega (arith, p, c.size.ensures, e.bytes))
 
 pub returns-clause-buffer : goal.returns-clause-buffer
 returns-clause-buffer c =

@@ -1,16 +1,7 @@
-use Rattle.std.proofs.Common.{◌≡◌, ◌≤◌, ◌-◌, ℕ, Some, length, get_or}
-use Rattle.q_arena.specs.Rings.{Has}
-use Rattle.q_occ.specs.Places.{places_of}
+use Rattle.std.proofs.Common.{◌≤◌, length}
 use Rattle.q_kernel.specs.Kernels.{slots}
-use Rattle.q_kernel.proofs.Following.{passed}
 use Rattle.q_equiv.proofs.Totals.{total_at}
 use Rattle.q_equiv.proofs.room.weigh.Given as goal
 
-abbrev pub invariant-loop-at : goal.invariant-loop-at
-invariant-loop-at l = record {
-  listed : (p : ℕ) → l.at ≡ Some p → Has (places_of l.kernel.lists l.fn.lit) p;
-  weighed : total_at length (slots l.kernel) (λ p. get_or l.kernel.lists.owners p 0) (passed l.at (places_of l.kernel.lists l.fn.lit)) ≤ l.words;
-}
-
-abbrev pub decreases-loop-at : goal.decreases-loop-at
-decreases-loop-at l = length (places_of l.kernel.lists l.fn.lit) - length (passed l.at (places_of l.kernel.lists l.fn.lit))
+abbrev pub invariant-loop-id : goal.invariant-loop-id
+invariant-loop-id l = total_at length (slots l.kernel) l.yielded ≤ l.words

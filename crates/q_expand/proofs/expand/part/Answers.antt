@@ -2,7 +2,7 @@ use Rattle.std.proofs.Common.{◌≡◌, ◌++◌, ◌∙◌, List, ℕ, Some, s
 use Rattle.q_logic.specs.Steps.{ProofStep}
 use Rattle.q_logic.specs.Formulas.{Clause}
 use Rattle.q_logic.specs.Numbered.{Slots, slot, clauses_at}
-use Rattle.q_arena.specs.Rings.{Has}
+use Rattle.q_kernel.specs.Lists.{Has}
 use Rattle.q_kernel.specs.Kernels.{Seen, slots}
 use Rattle.q_expand.specs.Tracks.{CanTake, HasTaken, KeepsClauses}
 use Rattle.q_expand.specs.Steps.{each_with, copy_step, link_steps, unlink_steps, all_split}

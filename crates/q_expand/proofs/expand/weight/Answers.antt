@@ -1,5 +1,5 @@
 use Rattle.std.proofs.Common.{◌≡◌, ◌+◌, drop, arith}
-use Rattle.q_arena.proofs.Following.{get-has}
+use Rattle.q_kernel.proofs.Basics.{get-has}
 use Rattle.q_kernel.specs.Kernels.{slots}
 use Rattle.q_expand.specs.Regions.{tally}
 use Rattle.q_expand.proofs.Barring.{long}

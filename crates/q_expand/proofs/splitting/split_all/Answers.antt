@@ -1,6 +1,6 @@
 use Rattle.std.proofs.Common.{◌≡◌, ◌≤◌, ◌+◌, ◌∙◌, ℕ, Some, length, refl, sym, subst}
 use Rattle.std.proofs.lemmas.Option.{same_Some}
-use Rattle.q_arena.proofs.Following.{get-has}
+use Rattle.q_kernel.proofs.Basics.{get-has}
 use Rattle.q_logic.specs.Formulas.{Clause}
 use Rattle.q_logic.specs.Numbered.{slot}
 use Rattle.q_kernel.specs.Kernels.{slots}

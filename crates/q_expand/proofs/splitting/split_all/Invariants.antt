@@ -1,7 +1,7 @@
 use Rattle.std.proofs.Common.{◌≡◌, ℕ, Some, take, drop, vec_capacity}
 use Rattle.q_logic.specs.Formulas.{Clause}
 use Rattle.q_logic.specs.Numbered.{slot, clauses_at}
-use Rattle.q_arena.specs.Rings.{Has}
+use Rattle.q_kernel.specs.Lists.{Has}
 use Rattle.q_kernel.specs.Kernels.{slots}
 use Rattle.q_expand.specs.Tracks.{HasTaken}
 use Rattle.q_expand.specs.Steps.{all_split}

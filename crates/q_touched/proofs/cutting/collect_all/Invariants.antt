@@ -1,9 +1,5 @@
-use Rattle.std.proofs.Common.{◌-◌}
 use Rattle.q_reduce.specs.Lent.{IsFitFor}
 use Rattle.q_touched.proofs.cutting.collect_all.Given as goal
 
 abbrev pub invariant-loop-c : goal.invariant-loop-c
 invariant-loop-c g l = IsFitFor l.kernel l.search
-
-abbrev pub decreases-loop-c : goal.decreases-loop-c
-decreases-loop-c g l = 4294967296 - l.at

@@ -1,0 +1,16 @@
+use Rattle.q_logic.specs.Literals.{negation}
+use Rattle.q_logic.specs.Formulas.{Clause, IsIn}
+use Rattle.q_logic.specs.Numbered.{others}
+use Rattle.q_logic.proofs.Slots.{others-slot}
+use Rattle.q_kernel.specs.Kernels.{slots}
+use Rattle.q_blocked.proofs.Given.{given-stuck}
+use Rattle.q_blocked.proofs.reasons.is_given.Goals as goal
+
+pub returns : goal.returns
+returns c e =
+    let k = c.args.kernel.now in
+    let S : Clause = c.args.set.now in
+    let D : Clause = c.clause_of-clause.result.now in
+    let m : IsIn D (others c.args.c (slots k)) = others-slot (slots k) c.args.d c.args.c D c.if-d-c.false c.clause_of-clause.ensures.clause in
+    let n : IsIn (negation c.args.l) D = (rw c.negated-k.ensures at c.holds.ensures).0 c.if-not-holds.false in
+    given-stuck k.prefix (others c.args.c (slots k)) S D c.args.l c.requires m n ((rw c.negated-k.ensures at c.others_in.ensures).0 e)

@@ -1,0 +1,49 @@
+use Rattle.std.proofs.Common.{ℕ, List, Bool, false, sym, subst, inl, inr}
+use Rattle.q_logic.specs.Formulas.{Clause, IsIn}
+use Rattle.q_kernel.specs.Kernels.{slots}
+use Rattle.q_logic.proofs.Members.{item-in, taken-cases, taken-all}
+use Rattle.q_rule.proofs.Slots.{others-find}
+use Rattle.q_snapshot.specs.declared.entry.Entry.{Entry}
+use Rattle.q_blocked.specs.Walks.{IsBeside, IsCalmAt}
+use Rattle.q_blocked.specs.Growths.{HasSpread}
+use Rattle.q_blocked.proofs.Growing.{pushed-none, pushed-on, pushed-calm, pushed-less}
+use Rattle.q_blocked.proofs.spreading.spread_row.Goals as goal
+
+pub loop-entry-init : goal.loop-entry-init
+loop-entry-init c = record { growing = c.requires.growing; pushed = pushed-none c.args.growth.now; calm = λ e m. absurd m }
+
+pub take_entry-requires-clause-entry : goal.take_entry-requires-clause-entry
+take_entry-requires-clause-entry c =
+    let e = c.entry-item.result in
+    (c.args.k, c.requires.row.each e (item-in c.args.row.now c.loop-entry.entry-index e c.loop-entry-test.true c.entry-item.is))
+
+pub loop-entry-preserved : goal.loop-entry-preserved
+loop-entry-preserved c =
+    let k = c.args.kernel.now in
+    let first = c.args.growth.now in
+    let old = c.loop-entry.growth in
+    let new = c.take_entry.new.growth in
+    let row = c.args.row.now in
+    let item = c.entry-item.result in
+    let Q = IsBeside (slots k) c.args.c item.id in
+    let r : HasSpread k c.args.c Q old new false = subst (λ (b : Bool). HasSpread k c.args.c Q old new b) c.if-branch.false c.in_ok-take_entry.ensures in
+    record {
+      growing = r.0;
+      pushed = pushed-on first old new c.loop-entry.invariant.pushed r.1;
+      calm = λ e m D b. elim (taken-cases row c.loop-entry.entry-index item e c.loop-entry-test.true c.entry-item.is m) [
+        | inl a ↦ pushed-calm first old new D r.1 (c.loop-entry.invariant.calm e a D b)
+        | inr q ↦ pushed-less first old new.set D c.loop-entry.invariant.pushed (r.2 D (subst (λ (x : Entry). IsBeside (slots k) c.args.c x.id D) q b))
+      ];
+    }
+
+pub returns : goal.returns
+returns c =
+    let k = c.args.kernel.now in
+    let row = c.args.row.now in (
+      c.loop-entry.invariant.growing,
+      c.loop-entry.invariant.pushed,
+      λ E m.
+          let d = others-find (slots k) c.args.c E m.0 in
+          let e = c.requires.row.all d.0 (E, d.2, m.1) in
+          c.loop-entry.invariant.calm e.0 (subst (λ (es : List Entry). IsIn e.0 es) (sym (taken-all row c.loop-entry.entry-index c.loop-entry-test.false)) e.1) E (subst (λ (x : ℕ). IsBeside (slots k) c.args.c x E) (sym e.2) (d.1, d.2)),
+    )

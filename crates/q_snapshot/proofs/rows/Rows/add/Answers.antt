@@ -1,0 +1,16 @@
+use Rattle.std.proofs.Common.{[], ◌∷◌, List, subst, inl, inr, sym}
+use Rattle.q_logic.specs.Formulas.{IsIn}
+use Rattle.q_logic.proofs.ClauseLemmas.{IsIn-append}
+use Rattle.q_snapshot.specs.declared.rows.Row.{Row}
+use Rattle.q_snapshot.specs.Rows.{IsRow}
+use Rattle.q_snapshot.proofs.rows.Rows.add.Goals as goal
+
+pub returns : goal.returns
+returns c w m =
+    let k = c.args.kernel.now in
+    let rows = c.args.self.now.rows.items in
+    let new : Row = record { lit = c.args.lit; entries = c.gather.new.entries } in
+    elim (IsIn-append w rows (new ∷ []) (subst (λ (ws : List Row). IsIn w ws) c.in_ok-push.ensures.items m)) [
+      | inl a ↦ c.requires w a
+      | inr a ↦ elim a [ inl e ↦ subst (λ (v : Row). IsRow k v.lit v.entries.items) (sym e) c.in_ok-gather.ensures | inr none ↦ absurd none ]
+    ]

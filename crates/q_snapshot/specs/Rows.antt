@@ -1,0 +1,26 @@
+-- Rows of entries, one for each clause that holds a literal.
+use Rattle.std.specs.Prelude.{◌≡◌, ℕ, List, Some}
+use Rattle.q_logic.specs.Literals.{Literal}
+use Rattle.q_logic.specs.Formulas.{Clause, IsIn}
+use Rattle.q_logic.specs.Numbered.{slot}
+use Rattle.q_kernel.specs.Kernels.{Seen, slots, HoldsLiteral}
+use Rattle.q_snapshot.specs.declared.entry.Entry.{Entry}
+use Rattle.q_snapshot.specs.declared.rows.Row.{Row}
+use Rattle.q_snapshot.specs.declared.rows.Rows.{Rows}
+
+-- the entry stands for a clause that holds l, and names two of its literals
+pub record IsEntry (k : Seen) (l : Literal) (e : Entry) : Type 0 where
+  pub clause : Clause
+  pub there : slot (slots k) e.id ≡ Some clause
+  pub holds : IsIn l clause
+  pub first : IsIn e.first clause
+  pub second : IsIn e.second clause
+
+-- the entries stand for exactly the clauses that hold l
+pub record IsRow (k : Seen) (l : Literal) (es : List Entry) : Type 0 where
+  pub each : (e : Entry) → IsIn e es → IsEntry k l e
+  pub all : (c : ℕ) → HoldsLiteral k c l → (e : Entry) × IsIn e es × (e.id ≡ c)
+
+-- each row that was made is right
+abbrev pub AreRowsOf : Seen → Rows → Type 0
+AreRowsOf k r = (w : Row) → IsIn w r.rows.items → IsRow k w.lit w.entries.items

@@ -1,7 +1,0 @@
-use Rattle.std.proofs.Common.{◌≡◌, ℕ, Some}
-use Rattle.q_arena.specs.Rings.{Has}
-use Rattle.q_occ.specs.Places.{places_of}
-use Rattle.q_touched.proofs.lists.gather.Given as goal
-
-abbrev pub invariant-loop : goal.invariant-loop
-invariant-loop l = (p : ℕ) → l.at ≡ Some p → Has (places_of l.kernel.lists l.fn.lit) p
