@@ -8,6 +8,7 @@ mod clauses;
 mod holders;
 mod lists;
 mod notes;
+mod pairs;
 mod places;
 mod plain;
 mod propagation;

@@ -4,6 +4,7 @@ ghost use Rattle.q_logic.specs.Propagation.{Implied};
 ghost use Rattle.q_prop.specs.Slots.{filled, without, Holds, IsPut, IsVacant};
 ghost use Rattle.q_prop.specs.Lists.{IsLost, AreTaken};
 ghost use Rattle.q_prop.specs.Roles.{IsRole, IsAlone, IsLoosened};
+ghost use Rattle.q_prop.specs.declared.pairs.Pair.{Pair};
 
 use crate::clauses::Clauses;
 use crate::lists::{Lists, place_of};
@@ -15,7 +16,7 @@ use crate::rows::Rows;
 use crate::spots::{Spots, renote};
 use crate::trail::{NO_SLOT, Trail};
 use crate::watched::{Watched, put, put_short};
-use crate::watches::{Pair, Pick, choose, is_free, left_in, stands};
+use crate::watches::{Pick, choose, is_free, left_in, stands};
 use q_logic::{Lit, NoMemory};
 use std::alloc::Global;
 use std::marker::Model;
@@ -34,7 +35,7 @@ impl Model for Propagator {
 
     ghost Value = { Slots };
 
-    ghost view = { λ r. r.watched.clauses };
+    ghost view = { λ r. r.watched.clauses.slots };
 
     ghost invariant = { λ r. IsPropagated r.watched r.root };
 }
@@ -46,7 +47,6 @@ impl Propagator {
         Propagator {
             watched: Watched {
                 clauses: Clauses::new(alloc),
-                pairs: Vec::new(alloc),
                 rows: Rows::new(alloc),
             },
             root: Root {
@@ -63,7 +63,7 @@ impl Propagator {
     }
 
     pub fn clauses(&self) -> &Clauses
-        ensures { result.now ≡ self.now }
+        ensures { result.now.slots ≡ self.now }
     {
         &self.watched.clauses
     }
@@ -137,7 +137,7 @@ impl Propagator {
             complete,
         );
         let done = unlist(
-            &self.watched.pairs,
+            &self.watched.clauses,
             &mut self.root.singles,
             &mut self.root.spots,
             slot,
@@ -153,7 +153,6 @@ impl Propagator {
             self.root.conflict = false;
         }
         self.watched.clauses.clear(at);
-        self.watched.pairs[at] = None;
     }
 
     // Empties a slot where the root has a conflict. That is kept if the rest stands without the slot.
@@ -165,7 +164,7 @@ impl Propagator {
         let at = slot as usize;
         let rest = loosen(&self.watched.clauses, at, &mut self.root.trail, role, true);
         unlist(
-            &self.watched.pairs,
+            &self.watched.clauses,
             &mut self.root.singles,
             &mut self.root.spots,
             slot,
@@ -178,7 +177,6 @@ impl Propagator {
             self.root.conflict = false;
         }
         self.watched.clauses.clear(at);
-        self.watched.pairs[at] = None;
     }
 
     /// Brings the root to its fixed point, or to a conflict. Where an empty clause is known nothing is to be found.
@@ -404,8 +402,8 @@ impl Propagator {
 // Takes off the trail what hangs on the slot alone, where all of the root is found or a conflict, and
 // answers whether the rest stands without the slot.
 fn loosen(clauses: &Clauses, at: usize, trail: &mut Trail, role: Role, settled: bool) -> bool
-    requires { IsRole clauses.now (Some at) role }
-    ensures { IsTrue result → IsLoosened clauses.now at trail.old trail.new settled }
+    requires { IsRole clauses.now.slots (Some at) role }
+    ensures { IsTrue result → IsLoosened clauses.now.slots at trail.old trail.new settled }
 {
     if let Role::Alone(lit) = role {
         if settled && trail.has(lit) {
@@ -423,20 +421,20 @@ fn empty_after(noted: usize, at: u32, lits: &[Lit]) -> usize {
 
 // Takes a slot that has no pair out of the list, and answers up to where the rest is taken.
 fn unlist(
-    pairs: &[Option<Pair>],
+    clauses: &Clauses,
     singles: &mut Vec<u32>,
     spots: &mut Spots,
     slot: u32,
     done: usize,
 ) -> usize
-    requires paired { (p : Pair) → slice_get pairs.now slot ≡ Some (Some p) → Contains singles.old.items slot →
+    requires paired { (p : Pair) → slice_get clauses.now.pairs slot ≡ Some (Some p) → Contains singles.old.items slot →
         ⊥ }
     requires done { done ≤ length singles.old.items }
     ensures lost { IsLost slot singles.old.items singles.new.items }
     ensures taken { AreTaken singles.old.items done singles.new.items result }
 {
     let at = slot as usize;
-    if let Some(Some(_)) = pairs.get(at) {
+    if clauses.is_watched(at) {
         return done;
     }
     let Some(place) = place_of(singles, slot, spots.get(at)) else {
