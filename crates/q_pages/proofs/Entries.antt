@@ -5,7 +5,8 @@ use Rattle.std.proofs.lemmas.Bool.{cases_lt}
 use Rattle.std.proofs.lemmas.Bool.Decides.{nat_tests}
 use Rattle.std.proofs.lemmas.List.{length-set, ext_get_or, get_or-set_same, get_or-set_other, get_or_past}
 use Rattle.q_pages.specs.Rows.{item_at, IsMade}
-use Rattle.q_pages.specs.Layout.{entry, row_of, IsSound, IsFreePage, page_of}
+use Rattle.q_pages.specs.Tables.{IsFreePage, page_of}
+use Rattle.q_pages.specs.Layout.{entry, row_of, IsSound}
 use Rattle.q_pages.proofs.Values.{length-values, value-at, mapped-at}
 
 pub ℕ-cases : (n m : ℕ) → (n ≡ m) ⊎ (n ≢ m)

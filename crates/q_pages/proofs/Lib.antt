@@ -1,2 +1,3 @@
 mod Values
-mod Entries
+pub mod Entries
+pub mod Tables

@@ -1,19 +1,12 @@
 -- How a row lies in its pages. No public clause cites this module.
 use Rattle.std.specs.Prelude.{◌≡◌, ◌≤◌, ◌<◌, ◌+◌, ◌*◌, ◌/◌, ◌%◌, ℕ, zero, suc, nat_lt, List, [], ◌∷◌, length, map, slice_index_or}
 use Rattle.q_pages.specs.Rows.{Row}
+use Rattle.q_pages.specs.Tables.{page_of, IsFreePage}
 
 -- so many values, of the numbers from one on
 abbrev pub values_from : {T : Type 0} → (ℕ → T) → ℕ → ℕ → List T
 values_from f k zero = []
 values_from f k (suc n) = f k ∷ values_from f (suc k) n
-
--- the page of a number, which is 0 where it has none of its own
-abbrev pub page_of : List ℕ → ℕ → ℕ
-page_of pages i = slice_index_or pages (i / 1024) 0
-
--- a page that no number has, and page 0
-abbrev pub IsFreePage : List ℕ → ℕ → Type 0
-IsFreePage pages p = (k : ℕ) → k < length pages → slice_index_or pages k 0 ≡ p → p ≡ 0
 
 module _ {T : Type 0} where
   -- what stands at a number

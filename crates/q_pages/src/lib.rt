@@ -2,5 +2,7 @@
 #![tactic(auto)]
 
 mod pages;
+mod table;
 
 pub use pages::Pages;
+pub use table::PageTable;

@@ -1,12 +1,10 @@
 ghost use Rattle.std.specs.Prelude.{◌≡◌, ◌⊎◌, ◌≤◌, ◌<◌, ℕ, [], length, slice_index_or, slice_set, OnOk};
 ghost use Rattle.q_pages.specs.Rows.{item_at, IsMade, KeepsPages, HasSameItems};
 
+use crate::table::{PAGE, extend};
 use q_logic::NoMemory;
 use std::alloc::Global;
 use std::marker::Model;
-
-// So many numbers share a page.
-const PAGE: usize = 1_024;
 
 // So many pages a row may have: as many as numbers of 32 bits need.
 const MOST: usize = 4_194_304;
@@ -128,19 +126,6 @@ fn fill<T: Copy>(items: &mut Vec<T>, none: T, end: usize) -> Result<(), NoMemory
 {
     while items.len() < end {
         items.push(none)?;
-    }
-    Ok(())
-}
-
-// Takes in pages up to a number, without memory.
-fn extend(pages: &mut Vec<u32>, end: usize) -> Result<(), NoMemory>
-    ensures end { OnOk result (end ≤ length pages.new.items) }
-    ensures kept { length pages.old.items ≤ length pages.new.items }
-    ensures few { (length pages.new.items ≡ length pages.old.items) ⊎ (length pages.new.items ≡ end) }
-    ensures same { (k : ℕ) → slice_index_or pages.new.items k 0 ≡ slice_index_or pages.old.items k 0 }
-{
-    if pages.len() < end {
-        pages.resize(end, 0)?;
     }
     Ok(())
 }

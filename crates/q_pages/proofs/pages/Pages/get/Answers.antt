@@ -1,5 +1,5 @@
 use Rattle.std.proofs.Common.{arith, sym, ◌∙◌, ap, ℕ, ◌+◌, ◌*◌, ◌/◌, ◌%◌, ◌<◌, get_or, length, ◌≡◌}
-use Rattle.q_pages.specs.Layout.{page_of}
+use Rattle.q_pages.specs.Tables.{page_of}
 use Rattle.q_pages.proofs.Entries.{item-in, item-past, get_or-any}
 use Rattle.q_pages.proofs.pages.Pages.get.Goals as goal
 
