@@ -8,14 +8,13 @@ ghost use Rattle.q_prop.specs.Buckets.{AreHashed};
 ghost use Rattle.q_prop.specs.Lists.{IsDistinct};
 ghost use Rattle.q_prop.specs.Roles.{IsRole, IsDoubled, IsAlone};
 
-use crate::buckets::{bucket, find_in, put_into, rehashed, take_from};
+use crate::buckets::{Buckets, rehashed};
 use crate::chain::chained;
 use crate::holders::{insert, note, remove};
 use crate::lists::Lists;
 use crate::plain::explain_plainly;
 use crate::propagator::Propagator;
 use crate::roles::{Role, is_only, is_part};
-use crate::spots::Spots;
 use crate::trail::Trail;
 use q_logic::{Lit, NoMemory};
 use std::alloc::Global;
@@ -27,9 +26,7 @@ pub struct Store {
     alloc: Global,
     propagator: Propagator,
     holders: Lists,
-    buckets: Lists,
-    spots: Spots,
-    count: usize,
+    buckets: Buckets,
     known: Trail,
 }
 
@@ -41,7 +38,7 @@ impl Model for Store {
 
     ghost view = { λ r. r.propagator };
 
-    ghost invariant = { λ r. IsIndexed r.propagator r.holders r.buckets r.count };
+    ghost invariant = { λ r. IsIndexed r.propagator r.holders r.buckets };
 }
 
 impl Store {
@@ -59,9 +56,7 @@ impl Store {
             alloc,
             propagator: Propagator::new(alloc),
             holders: Lists::new(alloc),
-            buckets: Lists::new(alloc),
-            spots: Spots::new(alloc),
-            count: count.max(1),
+            buckets: Buckets::new(alloc, count),
             known: Trail::new(alloc),
         }
     }
@@ -85,8 +80,7 @@ impl Store {
         ensures { MatchOption result ((at : ℕ) → Holds self.now at lits.now → ⊥) (λ at.
             Holds self.now at lits.now) }
     {
-        let list = self.buckets.list(bucket(self.count, lits));
-        find_in(&self.propagator, list, lits)
+        self.buckets.find(&self.propagator, lits)
     }
 
     /// The slots whose clauses hold the literal, each once.
@@ -106,17 +100,13 @@ impl Store {
         self.widen()?;
         let at = self.propagator.vacant();
         let slot = number(at)?;
-        put_into(
-            &mut self.buckets,
-            &mut self.spots,
-            bucket(self.count, lits),
-            slot,
-        )?;
+        self.buckets.reserve(slot)?;
         insert(&mut self.holders, &self.propagator, slot, lits)?;
         if let Err(error) = self.propagator.fill(slot, lits) {
             remove(&mut self.holders, &self.propagator, slot, lits);
             return Err(error);
         }
+        self.buckets.insert(lits, slot);
         note(&self.holders, &mut self.propagator, at, lits);
         Ok(at)
     }
@@ -125,12 +115,10 @@ impl Store {
     fn widen(&mut self) -> Result<(), NoMemory>
         ensures { self.new ≡ self.old }
     {
-        if self.propagator.slots() <= self.count {
-            return Ok(());
+        let slots = self.propagator.slots();
+        if self.buckets.are_few(slots) {
+            self.buckets = rehashed(self.alloc, &self.propagator, slots * 2)?;
         }
-        let count = self.propagator.slots() * 2;
-        self.buckets = rehashed(self.alloc, &self.propagator, &mut self.spots, count)?;
-        self.count = count;
         Ok(())
     }
 
@@ -141,14 +129,7 @@ impl Store {
     {
         let role = self.role_of(at);
         self.propagator.note_doubling(Some(at), &role);
-        free(
-            &self.propagator,
-            &mut self.holders,
-            &mut self.buckets,
-            &mut self.spots,
-            self.count,
-            at,
-        );
+        free(&self.propagator, &mut self.holders, &mut self.buckets, at);
         self.propagator.renote(at, &self.holders);
         self.propagator.delete(at as u32, role);
         self.renote_empty(at);
@@ -330,23 +311,15 @@ fn number(at: usize) -> Result<u32, NoMemory>
 }
 
 // Takes a slot from under the literals of its clause, and out of its bucket.
-fn free(
-    propagator: &Propagator,
-    holders: &mut Lists,
-    buckets: &mut Lists,
-    spots: &mut Spots,
-    count: usize,
-    at: usize,
-)
+fn free(propagator: &Propagator, holders: &mut Lists, buckets: &mut Buckets, at: usize)
     requires small { at < 2 ^ 32 }
-    requires count { 1 ≤ count }
     requires holders { AreHolders propagator.now holders.old }
-    requires buckets { AreHashed propagator.now count buckets.old }
+    requires buckets { AreHashed propagator.now buckets.old }
     ensures holders { AreHolders (without propagator.now (Some at)) holders.new }
-    ensures buckets { AreHashed (without propagator.now (Some at)) count buckets.new }
+    ensures buckets { AreHashed (without propagator.now (Some at)) buckets.new }
 {
     if let Some(lits) = propagator.slot(at) {
         remove(holders, propagator, at as u32, lits);
-        take_from(buckets, spots, bucket(count, lits), at as u32);
+        buckets.remove(lits, at as u32);
     }
 }

@@ -1,5 +1,4 @@
-use Rattle.std.proofs.Common.{◌≡◌, ◌<◌, Some, slice_get, length, map, ap, sym, ◌∙◌, arith}
-use Rattle.q_prop.specs.declared.clauses.Piece.{Piece}
+use Rattle.std.proofs.Common.{◌≡◌, Some, slice_get, map}
 use Rattle.q_prop.specs.Pieces.{pair_of}
 use Rattle.q_prop.proofs.PieceLemmas.{within-paired, slots-paired, pairs-paired, piece-there}
 use Rattle.q_prop.proofs.clauses.Clauses.watch.Goals as goal
