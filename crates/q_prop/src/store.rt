@@ -194,7 +194,10 @@ impl Store {
         ensures same { self.new ≡ self.old }
         ensures exact { IfOk result (λ yes. IsTrue yes ↔ AreImplied (filled (without self.old skip)) lits.now tails.now) }
     {
-        if tails.len() == 0 || self.propagator.is_refuted(skip) {
+        if tails.len() == 0 {
+            return Ok(true);
+        }
+        if self.propagator.is_refuted(skip) {
             return Ok(true);
         }
         self.propagator.complete()?;

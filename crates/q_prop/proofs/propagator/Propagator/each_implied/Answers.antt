@@ -47,5 +47,25 @@ invariant_of-self c =
       falsified = rw m.same v.falsified;
     })
 
-pub returns : goal.returns
-returns c = record { same = c.query_each.ensures.moved.same ∙ c.self.view_is; exact = rw (← c.self.view_is) c.query_each.ensures.exact }
+pub invariant_of-self-2 : goal.invariant_of-self-2
+invariant_of-self-2 c =
+    let w = c.self.inside.watched in
+    let r = c.self.inside.root in
+    let v = c.self.invariant in
+    let m = c.query_each.ensures.moved in
+    let complete = c.is_complete.ensures c.if-not-is_complete.false in
+    let whole = rw (complete.0, complete.1) at v.rooted in
+    rw (c.query_each.ensures.same, complete.0, complete.1) (record {
+      covered = m.covered;
+      rooted = rw m.same (rooted_kept w.clauses w.pairs.items c.query_each.new.watched.pairs.items r.singles.items (length r.singles.items) r.trail whole m.kept);
+      done_in = omega arith;
+      standing = rw m.same v.standing;
+      once = v.once;
+      falsified = rw m.same v.falsified;
+    })
+
+pub returns-clause-same : goal.returns-clause-same
+returns-clause-same c = c.query_each.ensures.moved.same ∙ c.self.view_is
+
+pub returns-clause-exact : goal.returns-clause-exact
+returns-clause-exact c = rw (← c.self.view_is) c.in_ok-answer.ensures.exact
