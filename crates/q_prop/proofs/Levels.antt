@@ -12,7 +12,7 @@ use Rattle.q_prop.specs.Watched.{IsMoved, IsAdvanced, IsReadyAt, IsRootOf}
 use Rattle.q_prop.specs.Working.{IsReached, IsReady, AreListed, AreTrue, Clashes, IsAssumed, IsLonger}
 use Rattle.q_prop.specs.declared.level.Level.{Level}
 use Rattle.q_prop.specs.declared.watched.Watched.{Watched}
-use Rattle.q_prop.specs.declared.watches.Pair.{Pair}
+use Rattle.q_prop.specs.declared.pairs.Pair.{Pair}
 use Rattle.q_prop.proofs.Completing.{AreTrue-more, IsChain-more, IsChain-append, AreNew-chain, AreListed-kept, complete_not_implied, longer_within}
 use Rattle.q_logic.proofs.Implying.{implied-longer}
 use Rattle.q_logic.proofs.Membership.{IsIn-Contains, Contains-IsIn}
@@ -114,14 +114,14 @@ worked_not_implied s root new pairs singles c listed true' w ready n i =
 -- the level stands where pairs have moved above it
 pub level_kept : (w : Watched) (v : Level) (known : List Literal) (w' : Watched) → IsLevel w v known → IsMoved known w w' → IsLevel w' v known
 level_kept w v known w' i m =
-    let s = without w.clauses v.skip in
+    let s = without w.clauses.slots v.skip in
     let all : take (length known) known ≡ known = take_all (length known) known (omega arith) in
     record {
       ready = record {
         consistent = i.ready.consistent;
-        watched = rw (all, m.same) (λ n c p e f. m.kept.floors known (λ l h. h) n c (without-le w.clauses v.skip n c e) (λ q g. rw all at (i.ready.watched n c q e g)) p f);
+        watched = rw (all, m.same) (λ n c p e f. m.kept.floors known (λ l h. h) n c (without-le w.clauses.slots v.skip n c e) (λ q g. rw all at (i.ready.watched n c q e g)) p f);
       };
-      listed = rw m.same (AreListed-kept w.clauses s known w.pairs.items w'.pairs.items v.singles.now m.kept i.listed);
+      listed = rw m.same (AreListed-kept w.clauses.slots s known w.clauses.pairs w'.clauses.pairs v.singles.now m.kept i.listed);
       singles_true = rw m.same i.singles_true;
       negated = i.negated;
       following = rw m.same i.following;
@@ -130,12 +130,12 @@ level_kept w v known w' i m =
 -- the level as it is begun from the root
 pub level_begun : (w : Watched) (v : Level) (root known : List Literal) (w' : Watched) (new : List Literal) → IsRootOf w v.skip v.singles.now root → IsLonger root known → IsAssumed root v.lits.now known → IsAdvanced v.skip w known w' new → IsReadyAt w' v.skip (length new) new → IsLevel w' v new
 level_begun w v root known w' new r long a p g =
-    let s = without w.clauses v.skip in
+    let s = without w.clauses.slots v.skip in
     let x = filled s in
     let more = IsReached-within x known new p.reached in
     record {
       ready = g;
-      listed = rw p.moved.same (AreListed-kept w.clauses s known w.pairs.items w'.pairs.items v.singles.now p.moved.kept r.listed);
+      listed = rw p.moved.same (AreListed-kept w.clauses.slots s known w.clauses.pairs w'.clauses.pairs v.singles.now p.moved.kept r.listed);
       singles_true = rw p.moved.same (AreTrue-more s v.singles.now (length v.singles.now) root new (λ l h. more l (longer_within root known long l h)) r.singles_true);
       negated = λ l h. more l (let m = Contains-map_cases negation v.lits.now l h in Contains-along known (negation m.0) l m.2 (a.assumed m.0 m.1));
       following = rw p.moved.same (following_reached x v.lits.now known new (following_assumed x [] v.lits.now root known (following_root x root r.derived) a) p.reached);

@@ -16,8 +16,8 @@ pub record AreFollowing (x : Matrix) (c : Clause) (known : List Literal) : Type 
 
 -- the trail has the negations of the clause and all that propagation gives from them over the clauses but one
 pub record IsLevel (w : Watched) (v : Level) (known : List Literal) : Type 0 where
-  pub ready : IsReady (without w.clauses v.skip) (length known) known w.pairs.items
-  pub listed : AreListed (without w.clauses v.skip) w.pairs.items v.singles.now
-  pub singles_true : AreTrue (without w.clauses v.skip) v.singles.now (length v.singles.now) known
+  pub ready : IsReady (without w.clauses.slots v.skip) (length known) known w.clauses.pairs
+  pub listed : AreListed (without w.clauses.slots v.skip) w.clauses.pairs v.singles.now
+  pub singles_true : AreTrue (without w.clauses.slots v.skip) v.singles.now (length v.singles.now) known
   pub negated : (l : Literal) → Contains (map negation v.lits.now) l → Contains known l
-  pub following : AreFollowing (filled (without w.clauses v.skip)) v.lits.now known
+  pub following : AreFollowing (filled (without w.clauses.slots v.skip)) v.lits.now known

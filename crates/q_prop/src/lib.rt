@@ -9,6 +9,7 @@ mod holders;
 mod level;
 mod lists;
 mod notes;
+mod pairs;
 mod places;
 mod plain;
 mod propagation;

@@ -37,7 +37,7 @@ loop-i-preserved c =
       (λ j t l e. elim (ℕ-cases j c.loop-i.i) [
         | inl q ↦
             let same = same_slice_get c.args.tails.now c.loop-i.i c.tail.result.now t c.tail.ensures (rw q at e) in
-            subst (λ (z : Clause). Implied (filled (without c.args.watched.now.clauses v.skip)) (v.lits.now ++ z)) same (x.0 c.if-not-branch.false)
+            subst (λ (z : Clause). Implied (filled (without c.args.watched.now.clauses.slots v.skip)) (v.lits.now ++ z)) same (x.0 c.if-not-branch.false)
         | inr n ↦ c.loop-i.invariant.2 j t (omega (arith, l, n)) e
       ]),
     )

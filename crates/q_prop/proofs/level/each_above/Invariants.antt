@@ -9,4 +9,4 @@ abbrev pub invariant-loop-i : goal.invariant-loop-i
 invariant-loop-i l =
     (l.trail ≡ l.fn.trail)
     × IsMoved l.fn.trail l.fn.watched l.watched
-    × ((j : ℕ) (t : Clause) → j < l.i → slice_get l.tails j ≡ Some t → Implied (filled (without l.fn.watched.clauses l.level.skip)) (l.level.lits.now ++ t))
+    × ((j : ℕ) (t : Clause) → j < l.i → slice_get l.tails j ≡ Some t → Implied (filled (without l.fn.watched.clauses.slots l.level.skip)) (l.level.lits.now ++ t))

@@ -9,7 +9,7 @@ use Rattle.q_prop.proofs.level.search_each.Goals as goal
 pub returns-then-branch-clause-exact : goal.returns-then-branch-clause-exact
 returns-then-branch-clause-exact c =
     let v = c.args.level.now in
-    let x = filled (without c.args.watched.now.clauses v.skip) in
+    let x = filled (without c.args.watched.now.clauses.slots v.skip) in
     let all = clash_implied x c.args.trail.now v.lits.now c.requires.rooted.derived (rw c.if-branch.true at c.in_ok-assume.ensures.ends) in
     (λ _ t h. implied_joined x v.lits.now t all, λ _. refl)
 
@@ -17,7 +17,7 @@ pub propagate-requires-clause-ready : goal.propagate-requires-clause-ready
 propagate-requires-clause-ready c =
     let w = c.args.watched.now in
     let a = rw c.if-branch.false at c.in_ok-assume.ensures.ends in
-    rw c.len-root.ensures (ready_longer (without w.clauses c.args.level.now.skip) (length c.args.trail.now) c.args.trail.now c.assume.new.trail w.pairs.items c.requires.rooted.ready (omega arith) c.assume.ensures.longer a.consistent)
+    rw c.len-root.ensures (ready_longer (without w.clauses.slots c.args.level.now.skip) (length c.args.trail.now) c.args.trail.now c.assume.new.trail w.clauses.pairs c.requires.rooted.ready (omega arith) c.assume.ensures.longer a.consistent)
 
 pub returns-in_err-propagate-clause-moved : goal.returns-in_err-propagate-clause-moved
 returns-in_err-propagate-clause-moved c =
@@ -30,7 +30,7 @@ returns-then-branch-2-clause-moved c =
 pub returns-then-branch-2-clause-exact : goal.returns-then-branch-2-clause-exact
 returns-then-branch-2-clause-exact c =
     let v = c.args.level.now in
-    let x = filled (without c.args.watched.now.clauses v.skip) in
+    let x = filled (without c.args.watched.now.clauses.slots v.skip) in
     let a = rw c.if-branch.false at c.in_ok-assume.ensures.ends in
     let p = c.propagate.ensures.advanced in
     let f = rw (c.if-branch-2.true, p.moved.same) at c.in_ok-propagate.ensures.ends in
@@ -50,7 +50,7 @@ returns-clause-moved c =
     let w = c.args.watched.now in
     let first = longer_within c.args.trail.now c.assume.new.trail c.assume.ensures.longer in
     let begun = moved-fewer c.args.trail.now c.assume.new.trail w c.propagate.new.watched first p.moved in
-    moved-trans c.args.trail.now c.propagate.new.trail w c.propagate.new.watched c.each_above.new.watched (λ l h. IsReached-within (filled (without w.clauses c.args.level.now.skip)) c.assume.new.trail c.propagate.new.trail p.reached l (first l h)) begun c.each_above.ensures.moved
+    moved-trans c.args.trail.now c.propagate.new.trail w c.propagate.new.watched c.each_above.new.watched (λ l h. IsReached-within (filled (without w.clauses.slots c.args.level.now.skip)) c.assume.new.trail c.propagate.new.trail p.reached l (first l h)) begun c.each_above.ensures.moved
 
 pub returns-clause-exact : goal.returns-clause-exact
 returns-clause-exact c = rw c.propagate.ensures.advanced.moved.same at c.each_above.ensures.exact

@@ -10,11 +10,11 @@ returns-then-self c =
     let r = c.self.inside.root in
     let v = c.self.invariant in
     let free = c.stands.ensures c.if-not-stands.false in
-    let derived = derived_skip w.clauses c.args.skip r.trail free v.rooted.derived in
-    let falsified = falsified_skip w.clauses c.args.skip r.trail free (v.falsified c.if-self.true) in
+    let derived = derived_skip w.clauses.slots c.args.skip r.trail free v.rooted.derived in
+    let falsified = falsified_skip w.clauses.slots c.args.skip r.trail free (v.falsified c.if-self.true) in
     record {
       same = refl;
-      exact = rw (← c.self.view_is) (λ _ t h. root_implied (filled (without w.clauses c.args.skip)) r.trail (c.args.lits.now ++ t) derived falsified, λ _. refl);
+      exact = rw (← c.self.view_is) (λ _ t h. root_implied (filled (without w.clauses.slots c.args.skip)) r.trail (c.args.lits.now ++ t) derived falsified, λ _. refl);
     }
 
 pub query_each-requires : goal.query_each-requires
@@ -26,7 +26,7 @@ query_each-requires c =
     let complete = c.is_complete.ensures c.if-not-is_complete.false in
     let whole = rw (complete.0, complete.1) at v.rooted in
     record {
-      rooted = rw c.deref.ensures.value (rooted_free w.clauses c.args.skip w.pairs.items r.singles.items (length r.singles.items) r.trail (length r.trail) free whole);
+      rooted = rw c.deref.ensures.value (rooted_free w.clauses.slots c.args.skip w.clauses.pairs r.singles.items (length r.singles.items) r.trail (length r.trail) free whole);
       covered = v.covered;
     }
 
@@ -40,7 +40,7 @@ invariant_of-self c =
     let whole = rw (complete.0, complete.1) at v.rooted in
     rw (c.query_each.ensures.same, complete.0, complete.1) (record {
       covered = m.covered;
-      rooted = rw m.same (rooted_kept w.clauses w.pairs.items c.query_each.new.watched.pairs.items r.singles.items (length r.singles.items) r.trail whole m.kept);
+      rooted = rw m.same (rooted_kept w.clauses.slots w.clauses.pairs c.query_each.new.watched.clauses.pairs r.singles.items (length r.singles.items) r.trail whole m.kept);
       done_in = omega arith;
       standing = rw m.same v.standing;
       once = v.once;
@@ -57,7 +57,7 @@ invariant_of-self-2 c =
     let whole = rw (complete.0, complete.1) at v.rooted in
     rw (c.query_each.ensures.same, complete.0, complete.1) (record {
       covered = m.covered;
-      rooted = rw m.same (rooted_kept w.clauses w.pairs.items c.query_each.new.watched.pairs.items r.singles.items (length r.singles.items) r.trail whole m.kept);
+      rooted = rw m.same (rooted_kept w.clauses.slots w.clauses.pairs c.query_each.new.watched.clauses.pairs r.singles.items (length r.singles.items) r.trail whole m.kept);
       done_in = omega arith;
       standing = rw m.same v.standing;
       once = v.once;
