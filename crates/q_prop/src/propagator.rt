@@ -1,12 +1,14 @@
-ghost use Rattle.std.specs.Prelude.{◌≡◌, ◌↔◌, ◌<◌, ◌⊎◌, ◌++◌, ◌∷◌, [], length, slice_set, OnOk, OnErr, None, Some, Contains, IsTrue, MatchOption, IfOk, ℕ, ◌≤◌, slice_get};
+ghost use Rattle.std.specs.Prelude.{◌≡◌, ◌↔◌, ◌<◌, ◌⊎◌, ◌++◌, ◌∷◌, [], length, slice_set, OnOk, OnErr, None, Some, Contains, IsTrue, MatchOption, IfOk, IfSome, ℕ, ◌≤◌, slice_get};
 ghost use Rattle.q_logic.specs.Formulas.{Clause};
 ghost use Rattle.q_logic.specs.Propagation.{Implied};
 ghost use Rattle.q_prop.specs.Slots.{filled, without, Holds, IsPut, IsVacant};
 ghost use Rattle.q_prop.specs.Lists.{IsLost, AreTaken};
 ghost use Rattle.q_prop.specs.Roles.{IsRole, IsAlone, IsLoosened};
+ghost use Rattle.q_prop.specs.Tails.{AreImplied};
 ghost use Rattle.q_prop.specs.declared.pairs.Pair.{Pair};
 
 use crate::clauses::Clauses;
+use crate::level::{Level, query_each};
 use crate::lists::{Lists, place_of};
 use crate::notes::Notes;
 use crate::propagation::{complete, query, query_anew, query_beside};
@@ -14,6 +16,7 @@ use crate::roles::Role;
 use crate::root::{Root, is_empty_at};
 use crate::rows::Rows;
 use crate::spots::{Spots, renote};
+use crate::tails::Tails;
 use crate::trail::{NO_SLOT, Trail};
 use crate::watched::{Watched, put, put_short};
 use crate::watches::{Pick, choose, is_free, left_in, stands};
@@ -265,6 +268,36 @@ impl Propagator {
             &self.root.singles,
             &mut self.notes,
         )
+    }
+
+    /// Whether the literals are implied with each of the tails, where the root is found and stands without the slot
+    /// that is left out; else no answer.
+    pub fn each_implied(
+        &mut self,
+        lits: &[Lit],
+        tails: &Tails,
+        skip: Option<usize>,
+    ) -> Result<Option<bool>, NoMemory>
+        ensures same { self.new ≡ self.old }
+        ensures exact { IfOk result (λ answer. IfSome answer (λ yes.
+            IsTrue yes ↔ AreImplied (filled (without self.old skip)) lits.now tails.now)) }
+    {
+        if !stands(&self.watched.clauses, skip, &self.root.trail, Role::Unknown) {
+            return Ok(None);
+        }
+        if self.root.conflict {
+            return Ok(Some(true));
+        }
+        if !self.root.is_complete() {
+            return Ok(None);
+        }
+        let level = Level {
+            lits,
+            skip,
+            singles: &self.root.singles,
+        };
+        let answer = query_each(&mut self.watched, &level, &mut self.root.trail, tails)?;
+        Ok(Some(answer))
     }
 
     // Whether the literals are implied without the slot on which a literal hangs alone.

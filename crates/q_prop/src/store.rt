@@ -7,6 +7,7 @@ ghost use Rattle.q_prop.specs.Holders.{IsHolder, AreHolders};
 ghost use Rattle.q_prop.specs.Buckets.{AreHashed};
 ghost use Rattle.q_prop.specs.Lists.{IsDistinct};
 ghost use Rattle.q_prop.specs.Roles.{IsRole, IsDoubled, IsAlone};
+ghost use Rattle.q_prop.specs.Tails.{AreImplied};
 
 use crate::buckets::{Buckets, rehashed};
 use crate::chain::chained;
@@ -15,6 +16,7 @@ use crate::lists::Lists;
 use crate::plain::explain_plainly;
 use crate::propagator::Propagator;
 use crate::roles::{Role, is_only, is_part};
+use crate::tails::Tails;
 use crate::trail::Trail;
 use q_logic::{Lit, NoMemory};
 use std::alloc::Global;
@@ -160,6 +162,52 @@ impl Store {
         self.propagator.note_doubling(skip, &role);
         self.propagator.gather_conflict();
         self.propagator.implied(lits, skip, role)
+    }
+
+    /// Whether the literals, joined with each of the tails, are implied by propagation, over the clauses of all slots
+    /// but one. The negations of the literals are propagated once for all tails.
+    pub fn all_implied(
+        &mut self,
+        lits: &[Lit],
+        tails: &Tails,
+        skip: Option<usize>,
+    ) -> Result<bool, NoMemory>
+        ensures same { self.new ≡ self.old }
+        ensures exact { IfOk result (λ yes. IsTrue yes ↔ AreImplied (filled (without self.old skip)) lits.now tails.now) }
+    {
+        if tails.len() == 0 {
+            return Ok(true);
+        }
+        if self.propagator.is_refuted(skip) {
+            return Ok(true);
+        }
+        self.propagator.complete()?;
+        match self.propagator.each_implied(lits, tails, skip)? {
+            Some(answer) => Ok(answer),
+            None => self.each_implied(lits, tails, skip),
+        }
+    }
+
+    // The same, where the root does not stand without the slot that is left out: each tail is asked about by itself.
+    fn each_implied(
+        &mut self,
+        lits: &[Lit],
+        tails: &Tails,
+        skip: Option<usize>,
+    ) -> Result<bool, NoMemory>
+        ensures same { self.new ≡ self.old }
+        ensures exact { IfOk result (λ yes. IsTrue yes ↔ AreImplied (filled (without self.old skip)) lits.now tails.now) }
+    {
+        let mut joined = Vec::new(self.alloc);
+        for i in 0..tails.len() {
+            joined.clear();
+            joined.extend_from_slice(lits)?;
+            joined.extend_from_slice(tails.tail(i))?;
+            if !self.implied(&joined, skip)? {
+                return Ok(false);
+            }
+        }
+        Ok(true)
     }
 
     /// Whether the literals, over the clauses of all slots but one, are implied as the hints tell. Each hint names a
