@@ -6,6 +6,7 @@ use Rattle.q_logic.specs.declared.formulas.Bound.{Bound}
 use Rattle.q_logic.specs.Literals.{bool_eq}
 use Rattle.q_logic.specs.Formulas.{Prefix}
 use Rattle.q_logic.specs.Prefixes.{IsNext, Distinct, is_bound, same_quant, is_exists}
+use Rattle.q_pages.specs.Rows.{Row, IsMade}
 use Rattle.q_judge.specs.declared.seats.Seat.{Seat}
 
 -- the seat of a variable
@@ -88,6 +89,10 @@ bounds_from seats (Some v) (suc n) = seated_before v (seat_at seats v) (bounds_f
 -- a row of this length has a place for each variable
 abbrev pub HaveRoom : Prefix → ℕ → Type 0
 HaveRoom P n = (v : ℕ) → is_bound P v ≡ true → v < n
+
+-- the row has memory for the seat of each variable
+abbrev pub HavePages : Prefix → Row (Option Seat) → Type 0
+HavePages P r = (v : ℕ) → is_bound P v ≡ true → IsMade r v
 
 -- the number of the next variable's block, where a variable with a number stands before
 abbrev pub next_rank : Option Bound → ℕ → Quant → ℕ

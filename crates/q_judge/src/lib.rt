@@ -14,6 +14,7 @@ mod reach;
 mod recent;
 mod regions;
 mod scope;
+mod seat_row;
 mod seats;
 mod undo;
 

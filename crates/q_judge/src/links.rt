@@ -1,18 +1,21 @@
 //! The links between neighbours, and what the numbers of blocks become where two blocks meet.
 ghost use Rattle.std.specs.Prelude.{◌≡◌, ◌⊎◌, ℕ, List, Bool, true, false, cond, length, None, Some, Option};
 ghost use Rattle.q_judge.specs.declared.seats.Seat.{Seat as AnySeat};
+ghost use Rattle.q_pages.specs.Rows.{KeepsPages};
 ghost use Rattle.q_judge.specs.Scopes.{first_after, seat_at, rank_at, is_there, is_among, with_after, with_before, with_rank, renumbered, beside, IsRun, IsMovable, IsMoved};
 
+use crate::seat_row::SeatRow;
 use crate::seats::{Seat, rank_of, seat_of};
 
 /// What stands behind a variable, or in front where there is none.
 pub fn link_after(
-    seats: &mut Vec<Option<Seat>>,
+    seats: &mut SeatRow,
     first: &mut Option<u32>,
     var: Option<u32>,
     after: Option<u32>,
 )
     ensures len { length seats.new.items ≡ length seats.old.items }
+    ensures kept { KeepsPages seats.old seats.new }
     ensures seats { (v : ℕ) → seat_at seats.new.items v ≡ cond (is_there var v) (with_after after (seat_at seats.old.items v)) (seat_at seats.old.items v) }
     ensures first { first.new ≡ first_after var after first.old }
 {
@@ -22,18 +25,20 @@ pub fn link_after(
     }
 }
 
-fn set_after(seats: &mut Vec<Option<Seat>>, var: u32, after: Option<u32>)
+fn set_after(seats: &mut SeatRow, var: u32, after: Option<u32>)
     ensures len { length seats.new.items ≡ length seats.old.items }
+    ensures kept { KeepsPages seats.old seats.new }
     ensures seats { (v : ℕ) → seat_at seats.new.items v ≡ cond (is_there (Some var) v) (with_after after (seat_at seats.old.items v)) (seat_at seats.old.items v) }
 {
     if let Some(seat) = seat_of(seats, var) {
-        seats[var as usize] = Some(Seat { after, ..seat });
+        seats.replace(var, Some(Seat { after, ..seat }));
     }
 }
 
 /// What stands before a variable.
-pub fn link_before(seats: &mut Vec<Option<Seat>>, var: Option<u32>, before: Option<u32>)
+pub fn link_before(seats: &mut SeatRow, var: Option<u32>, before: Option<u32>)
     ensures len { length seats.new.items ≡ length seats.old.items }
+    ensures kept { KeepsPages seats.old seats.new }
     ensures seats { (v : ℕ) → seat_at seats.new.items v ≡ cond (is_there var v) (with_before before (seat_at seats.old.items v)) (seat_at seats.old.items v) }
 {
     if let Some(var) = var {
@@ -41,18 +46,19 @@ pub fn link_before(seats: &mut Vec<Option<Seat>>, var: Option<u32>, before: Opti
     }
 }
 
-fn set_before(seats: &mut Vec<Option<Seat>>, var: u32, before: Option<u32>)
+fn set_before(seats: &mut SeatRow, var: u32, before: Option<u32>)
     ensures len { length seats.new.items ≡ length seats.old.items }
+    ensures kept { KeepsPages seats.old seats.new }
     ensures seats { (v : ℕ) → seat_at seats.new.items v ≡ cond (is_there (Some var) v) (with_before before (seat_at seats.old.items v)) (seat_at seats.old.items v) }
 {
     if let Some(seat) = seat_of(seats, var) {
-        seats[var as usize] = Some(Seat { before, ..seat });
+        seats.replace(var, Some(Seat { before, ..seat }));
     }
 }
 
 /// Two blocks become one that now meet at these variables. The smaller one takes the other's number.
 pub fn join_blocks(
-    seats: &mut Vec<Option<Seat>>,
+    seats: &mut SeatRow,
     counts: &mut Vec<usize>,
     before: Option<u32>,
     after: Option<u32>,
@@ -77,7 +83,7 @@ pub fn join_blocks(
 
 // The block that begins at a variable, in one direction, takes another number.
 fn move_block(
-    seats: &mut Vec<Option<Seat>>,
+    seats: &mut SeatRow,
     counts: &mut Vec<usize>,
     start: Option<u32>,
     from: usize,
@@ -94,7 +100,7 @@ fn move_block(
 }
 
 // Gives the variables from one on, in one direction, another block's number.
-fn relabel(seats: &mut Vec<Option<Seat>>, start: Option<u32>, size: usize, to: usize, forward: bool)
+fn relabel(seats: &mut SeatRow, start: Option<u32>, size: usize, to: usize, forward: bool)
     ensures len { length seats.new.items ≡ length seats.old.items }
     ensures seats { (S : List ℕ) → IsRun (seat_at seats.old.items) forward start S → length S ≡ size →
         (v : ℕ) → seat_at seats.new.items v ≡ cond (is_among S v) (with_rank to (seat_at seats.old.items v)) (seat_at seats.old.items v) }
@@ -106,12 +112,7 @@ fn relabel(seats: &mut Vec<Option<Seat>>, start: Option<u32>, size: usize, to: u
 }
 
 // The neighbour of the variable comes next.
-fn relabel_one(
-    seats: &mut Vec<Option<Seat>>,
-    at: Option<u32>,
-    to: usize,
-    forward: bool,
-) -> Option<u32>
+fn relabel_one(seats: &mut SeatRow, at: Option<u32>, to: usize, forward: bool) -> Option<u32>
     ensures len { length seats.new.items ≡ length seats.old.items }
     ensures seats { (v : ℕ) → seat_at seats.new.items v ≡ cond (is_there at v) (with_rank to (seat_at seats.old.items v)) (seat_at seats.old.items v) }
     ensures next { (v : ℕ) (s : AnySeat) → at ≡ Some v → seat_at seats.old.items v ≡ Some s → result ≡ beside forward s }
@@ -120,6 +121,6 @@ fn relabel_one(
     let Some(seat) = seat_of(seats, var) else {
         return None;
     };
-    seats[var as usize] = Some(Seat { rank: to, ..seat });
+    seats.replace(var, Some(Seat { rank: to, ..seat }));
     if forward { seat.after } else { seat.before }
 }

@@ -6,7 +6,8 @@ ghost use Rattle.q_logic.specs.Steps.{insert_after, removed_from};
 ghost use Rattle.q_judge.specs.Scopes.{first_or, bounds_from};
 
 use crate::links::{join_blocks, link_after, link_before};
-use crate::seats::{Seat, Seats, are_same_seats, is_exists, make_room, rank_of, seat_of, seats_of};
+use crate::seat_row::SeatRow;
+use crate::seats::{Seat, Seats, are_same_seats, is_exists, rank_of, seat_of, seats_of};
 use q_logic::{Bound, NoMemory, Quant};
 use std::alloc::Global;
 use std::marker::Model;
@@ -15,7 +16,7 @@ use std::marker::Model;
 /// goes, the smaller one of its neighbours takes the other one's number.
 #[derive(Drop)]
 pub struct Scope {
-    seats: Vec<Option<Seat>>,
+    seats: SeatRow,
     counts: Vec<usize>,
     first: Option<u32>,
 }
@@ -103,16 +104,18 @@ impl Scope {
         ensures ok { OnOk result (self.new ≡ insert_after w v self.old) }
         ensures err { OnErr result (self.new ≡ self.old) }
     {
-        make_room(&mut self.seats, v)?;
+        self.seats.make_room(v)?;
+        let _ = self.seats.len();
         if let Some(seat) = seat_of(&self.seats, w) {
             link_after(&mut self.seats, &mut self.first, Some(w), Some(v));
             link_before(&mut self.seats, seat.after, Some(v));
-            self.seats[v as usize] = Some(Seat {
+            let fresh = Seat {
                 rank: seat.rank,
                 quant: Quant::Exists,
                 before: Some(w),
                 after: seat.after,
-            });
+            };
+            self.seats.put(v, Some(fresh));
             self.counts[seat.rank] += 1;
         }
         Ok(())
@@ -123,10 +126,11 @@ impl Scope {
         requires { is_bound self.old var ≡ true }
         ensures { self.new ≡ removed_from var self.old }
     {
+        let _ = self.seats.len();
         if let Some(seat) = seat_of(&self.seats, var) {
             link_after(&mut self.seats, &mut self.first, seat.before, seat.after);
             link_before(&mut self.seats, seat.after, seat.before);
-            self.seats[var as usize] = None;
+            self.seats.replace(var, None);
             let left = count_down(&mut self.counts, seat.rank);
             if left == 0 {
                 join_blocks(&mut self.seats, &mut self.counts, seat.before, seat.after);
@@ -192,10 +196,10 @@ fn first_of(prefix: &[Bound]) -> Option<u32>
 // Appends a variable that is seated; what stands behind it comes next.
 fn push_bound(
     bounds: &mut Vec<Bound>,
-    seats: &[Option<Seat>],
+    seats: &SeatRow,
     at: Option<u32>,
 ) -> Result<Option<u32>, NoMemory>
-    ensures { IfOk result (λ next. (n : ℕ) → bounds.new.items ++ bounds_from seats.now next n ≡ bounds.old.items ++ bounds_from seats.now at (suc n)) }
+    ensures { IfOk result (λ next. (n : ℕ) → bounds.new.items ++ bounds_from seats.now.items next n ≡ bounds.old.items ++ bounds_from seats.now.items at (suc n)) }
 {
     let Some(var) = at else { return Ok(None) };
     let Some(seat) = seat_of(seats, var) else {

@@ -2,8 +2,10 @@
 ghost use Rattle.std.specs.Prelude.{◌≡◌, ◌<◌, ◌≤◌, ◌+◌, ◌^◌, ℕ, List, Bool, true, false, length, None, Some, Option, OnOk, IfOk, slice_get, slice_set, slice_index_or};
 ghost use Rattle.q_logic.specs.Prefixes.{Distinct, is_exists};
 ghost use Rattle.q_logic.specs.declared.formulas.Bound.{Bound as AnyBound};
-ghost use Rattle.q_judge.specs.Scopes.{AreNumbered, HaveRoom, next_rank, first_or, last_or, var_of, is_same_seat, seat_at, rank_at, beside};
+ghost use Rattle.q_pages.specs.Rows.{IsMade, KeepsPages};
+ghost use Rattle.q_judge.specs.Scopes.{AreNumbered, HavePages, next_rank, first_or, last_or, var_of, is_same_seat, seat_at, rank_at, beside};
 
+use crate::seat_row::SeatRow;
 use q_logic::{Bound, NoMemory, Quant};
 use std::alloc::Global;
 
@@ -19,24 +21,18 @@ pub struct Seat {
 /// The seats of a prefix, and how many variables each block has.
 #[derive(Drop)]
 pub struct Seats {
-    pub seats: Vec<Option<Seat>>,
+    pub seats: SeatRow,
     pub counts: Vec<usize>,
 }
 
-pub fn seat_of(seats: &[Option<Seat>], var: u32) -> Option<Seat>
-    ensures { result ≡ seat_at seats.now var }
+pub fn seat_of(seats: &SeatRow, var: u32) -> Option<Seat>
+    ensures { result ≡ seat_at seats.now.items var }
 {
-    seat_in(seats, var as usize)
+    seats.get(var as usize)
 }
 
-fn seat_in(seats: &[Option<Seat>], var: usize) -> Option<Seat>
-    ensures { result ≡ seat_at seats.now var }
-{
-    seats.get(var).copied().unwrap_or(None)
-}
-
-pub fn rank_of(seats: &[Option<Seat>], var: u32) -> usize
-    ensures { result ≡ rank_at seats.now var }
+pub fn rank_of(seats: &SeatRow, var: u32) -> usize
+    ensures { result ≡ rank_at seats.now.items var }
 {
     match seat_of(seats, var) {
         Some(seat) => seat.rank,
@@ -54,13 +50,13 @@ pub fn is_exists(quant: Quant) -> bool
 }
 
 /// Whether the variables have the same seats but for their neighbours.
-pub fn are_same_seats(mine: &[Option<Seat>], others: &[Option<Seat>]) -> bool
-    ensures yes { result ≡ true → (v : ℕ) → is_same_seat (seat_at mine.now v) (seat_at others.now v) ≡ true }
-    ensures no { result ≡ false → (v : ℕ) × (is_same_seat (seat_at mine.now v) (seat_at others.now v) ≡ false) }
+pub fn are_same_seats(mine: &SeatRow, others: &SeatRow) -> bool
+    ensures yes { result ≡ true → (v : ℕ) → is_same_seat (seat_at mine.now.items v) (seat_at others.now.items v) ≡ true }
+    ensures no { result ≡ false → (v : ℕ) × (is_same_seat (seat_at mine.now.items v) (seat_at others.now.items v) ≡ false) }
 {
     let end = mine.len().max(others.len());
     for var in 0..end {
-        if !same_seat(seat_in(mine, var), seat_in(others, var)) {
+        if !same_seat(mine.get(var), others.get(var)) {
             return false;
         }
     }
@@ -82,7 +78,7 @@ pub fn seats_of(alloc: Global, prefix: &[Bound]) -> Result<Seats, NoMemory>
     requires { Distinct prefix.now }
     ensures { IfOk result (λ s. AreNumbered prefix.now s.seats.items s.counts.items) }
 {
-    let mut seats = Vec::new(alloc);
+    let mut seats = SeatRow::new(alloc);
     seat_room(&mut seats, prefix)?;
     let mut counts = Vec::new(alloc);
     counts.resize(prefix.len(), 0)?;
@@ -91,25 +87,13 @@ pub fn seats_of(alloc: Global, prefix: &[Bound]) -> Result<Seats, NoMemory>
 }
 
 // A place for each variable.
-fn seat_room(seats: &mut Vec<Option<Seat>>, prefix: &[Bound]) -> Result<(), NoMemory>
+fn seat_room(seats: &mut SeatRow, prefix: &[Bound]) -> Result<(), NoMemory>
     requires { (v : ℕ) → seat_at seats.old.items v ≡ None }
     ensures none { (v : ℕ) → seat_at seats.new.items v ≡ None }
-    ensures room { OnOk result (HaveRoom prefix.now (length seats.new.items)) }
+    ensures room { OnOk result (HavePages prefix.now seats.new) }
 {
     for bound in prefix {
-        make_room(seats, bound.var)?;
-    }
-    Ok(())
-}
-
-pub fn make_room(seats: &mut Vec<Option<Seat>>, var: u32) -> Result<(), NoMemory>
-    ensures same { (v : ℕ) → seat_at seats.new.items v ≡ seat_at seats.old.items v }
-    ensures longer { length seats.old.items ≤ length seats.new.items }
-    ensures room { OnOk result (var < length seats.new.items) }
-{
-    let end = var as usize + 1;
-    if seats.len() < end {
-        seats.resize(end, None)?;
+        seats.make_room(bound.var)?;
     }
     Ok(())
 }
@@ -139,9 +123,9 @@ fn rank_after(numbering: Numbering, quant: Quant) -> usize
 }
 
 // Numbers the blocks, and seats each variable.
-fn seat_all(prefix: &[Bound], seats: &mut Vec<Option<Seat>>, counts: &mut Vec<usize>)
+fn seat_all(prefix: &[Bound], seats: &mut SeatRow, counts: &mut Vec<usize>)
     requires distinct { Distinct prefix.now }
-    requires room { HaveRoom prefix.now (length seats.old.items) }
+    requires room { HavePages prefix.now seats.old }
     requires none { (v : ℕ) → seat_at seats.old.items v ≡ None }
     requires zeros { (r : ℕ) → slice_index_or counts.old.items r 0 ≡ 0 }
     requires counts { length prefix.now ≤ length counts.old.items }
@@ -165,17 +149,18 @@ fn var_at(prefix: &[Bound], at: usize) -> Option<u32>
 
 // Seats a variable behind the last one.
 fn take_seat(
-    seats: &mut Vec<Option<Seat>>,
+    seats: &mut SeatRow,
     counts: &mut Vec<usize>,
     numbering: Numbering,
     bound: Bound,
     after: Option<u32>,
 ) -> Numbering
     requires small { numbering.rank < 2 ^ 63 }
-    requires room { bound.var < length seats.old.items }
+    requires room { IsMade seats.old bound.var }
     requires counts { next_rank numbering.last numbering.rank bound.quant < length counts.old.items }
     requires few { slice_index_or counts.old.items (next_rank numbering.last numbering.rank bound.quant) 0 < 2 ^ 63 }
     ensures seats { seats.new.items ≡ slice_set seats.old.items bound.var (Some (record { rank = next_rank numbering.last numbering.rank bound.quant; quant = bound.quant; before = var_of numbering.last; after = after })) }
+    ensures kept { KeepsPages seats.old seats.new }
     ensures counts { counts.new.items ≡ slice_set counts.old.items (next_rank numbering.last numbering.rank bound.quant) (slice_index_or counts.old.items (next_rank numbering.last numbering.rank bound.quant) 0 + 1) }
     ensures numbering { result ≡ record { last = Some bound; rank = next_rank numbering.last numbering.rank bound.quant } }
 {
@@ -184,12 +169,13 @@ fn take_seat(
         Some(last) => Some(last.var),
         None => None,
     };
-    seats[bound.var as usize] = Some(Seat {
+    let seat = Seat {
         rank,
         quant: bound.quant,
         before,
         after,
-    });
+    };
+    seats.put(bound.var, Some(seat));
     counts[rank] += 1;
     Numbering {
         last: Some(bound),

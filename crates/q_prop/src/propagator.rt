@@ -1,11 +1,14 @@
-ghost use Rattle.std.specs.Prelude.{◌≡◌, ◌↔◌, ◌<◌, ◌⊎◌, ◌++◌, ◌∷◌, [], length, slice_set, OnOk, OnErr, None, Some, Contains, IsTrue, MatchOption, IfOk, ℕ, ◌≤◌, slice_get};
+ghost use Rattle.std.specs.Prelude.{◌≡◌, ◌↔◌, ◌<◌, ◌⊎◌, ◌++◌, ◌∷◌, [], length, slice_set, OnOk, OnErr, None, Some, Contains, IsTrue, MatchOption, IfOk, IfSome, ℕ, ◌≤◌, slice_get};
 ghost use Rattle.q_logic.specs.Formulas.{Clause};
 ghost use Rattle.q_logic.specs.Propagation.{Implied};
 ghost use Rattle.q_prop.specs.Slots.{filled, without, Holds, IsPut, IsVacant};
 ghost use Rattle.q_prop.specs.Lists.{IsLost, AreTaken};
 ghost use Rattle.q_prop.specs.Roles.{IsRole, IsAlone, IsLoosened};
+ghost use Rattle.q_prop.specs.Tails.{AreImplied};
+ghost use Rattle.q_prop.specs.declared.pairs.Pair.{Pair};
 
 use crate::clauses::Clauses;
+use crate::level::{Level, query_each};
 use crate::lists::{Lists, place_of};
 use crate::notes::Notes;
 use crate::propagation::{complete, query, query_anew, query_beside};
@@ -13,9 +16,10 @@ use crate::roles::Role;
 use crate::root::{Root, is_empty_at};
 use crate::rows::Rows;
 use crate::spots::{Spots, renote};
+use crate::tails::Tails;
 use crate::trail::{NO_SLOT, Trail};
 use crate::watched::{Watched, put, put_short};
-use crate::watches::{Pair, Pick, choose, is_free, left_in, stands};
+use crate::watches::{Pick, choose, is_free, left_in, stands};
 use q_logic::{Lit, NoMemory};
 use std::alloc::Global;
 use std::marker::Model;
@@ -34,7 +38,7 @@ impl Model for Propagator {
 
     ghost Value = { Slots };
 
-    ghost view = { λ r. r.watched.clauses };
+    ghost view = { λ r. r.watched.clauses.slots };
 
     ghost invariant = { λ r. IsPropagated r.watched r.root };
 }
@@ -46,7 +50,6 @@ impl Propagator {
         Propagator {
             watched: Watched {
                 clauses: Clauses::new(alloc),
-                pairs: Vec::new(alloc),
                 rows: Rows::new(alloc),
             },
             root: Root {
@@ -63,7 +66,7 @@ impl Propagator {
     }
 
     pub fn clauses(&self) -> &Clauses
-        ensures { result.now ≡ self.now }
+        ensures { result.now.slots ≡ self.now }
     {
         &self.watched.clauses
     }
@@ -137,7 +140,7 @@ impl Propagator {
             complete,
         );
         let done = unlist(
-            &self.watched.pairs,
+            &self.watched.clauses,
             &mut self.root.singles,
             &mut self.root.spots,
             slot,
@@ -153,7 +156,6 @@ impl Propagator {
             self.root.conflict = false;
         }
         self.watched.clauses.clear(at);
-        self.watched.pairs[at] = None;
     }
 
     // Empties a slot where the root has a conflict. That is kept if the rest stands without the slot.
@@ -165,7 +167,7 @@ impl Propagator {
         let at = slot as usize;
         let rest = loosen(&self.watched.clauses, at, &mut self.root.trail, role, true);
         unlist(
-            &self.watched.pairs,
+            &self.watched.clauses,
             &mut self.root.singles,
             &mut self.root.spots,
             slot,
@@ -178,7 +180,6 @@ impl Propagator {
             self.root.conflict = false;
         }
         self.watched.clauses.clear(at);
-        self.watched.pairs[at] = None;
     }
 
     /// Brings the root to its fixed point, or to a conflict. Where an empty clause is known nothing is to be found.
@@ -267,6 +268,36 @@ impl Propagator {
             &self.root.singles,
             &mut self.notes,
         )
+    }
+
+    /// Whether the literals are implied with each of the tails, where the root is found and stands without the slot
+    /// that is left out; else no answer.
+    pub fn each_implied(
+        &mut self,
+        lits: &[Lit],
+        tails: &Tails,
+        skip: Option<usize>,
+    ) -> Result<Option<bool>, NoMemory>
+        ensures same { self.new ≡ self.old }
+        ensures exact { IfOk result (λ answer. IfSome answer (λ yes.
+            IsTrue yes ↔ AreImplied (filled (without self.old skip)) lits.now tails.now)) }
+    {
+        if !stands(&self.watched.clauses, skip, &self.root.trail, Role::Unknown) {
+            return Ok(None);
+        }
+        if self.root.conflict {
+            return Ok(Some(true));
+        }
+        if !self.root.is_complete() {
+            return Ok(None);
+        }
+        let level = Level {
+            lits,
+            skip,
+            singles: &self.root.singles,
+        };
+        let answer = query_each(&mut self.watched, &level, &mut self.root.trail, tails)?;
+        Ok(Some(answer))
     }
 
     // Whether the literals are implied without the slot on which a literal hangs alone.
@@ -404,8 +435,8 @@ impl Propagator {
 // Takes off the trail what hangs on the slot alone, where all of the root is found or a conflict, and
 // answers whether the rest stands without the slot.
 fn loosen(clauses: &Clauses, at: usize, trail: &mut Trail, role: Role, settled: bool) -> bool
-    requires { IsRole clauses.now (Some at) role }
-    ensures { IsTrue result → IsLoosened clauses.now at trail.old trail.new settled }
+    requires { IsRole clauses.now.slots (Some at) role }
+    ensures { IsTrue result → IsLoosened clauses.now.slots at trail.old trail.new settled }
 {
     if let Role::Alone(lit) = role {
         if settled && trail.has(lit) {
@@ -423,20 +454,20 @@ fn empty_after(noted: usize, at: u32, lits: &[Lit]) -> usize {
 
 // Takes a slot that has no pair out of the list, and answers up to where the rest is taken.
 fn unlist(
-    pairs: &[Option<Pair>],
+    clauses: &Clauses,
     singles: &mut Vec<u32>,
     spots: &mut Spots,
     slot: u32,
     done: usize,
 ) -> usize
-    requires paired { (p : Pair) → slice_get pairs.now slot ≡ Some (Some p) → Contains singles.old.items slot →
+    requires paired { (p : Pair) → slice_get clauses.now.pairs slot ≡ Some (Some p) → Contains singles.old.items slot →
         ⊥ }
     requires done { done ≤ length singles.old.items }
     ensures lost { IsLost slot singles.old.items singles.new.items }
     ensures taken { AreTaken singles.old.items done singles.new.items result }
 {
     let at = slot as usize;
-    if let Some(Some(_)) = pairs.get(at) {
+    if clauses.is_watched(at) {
         return done;
     }
     let Some(place) = place_of(singles, slot, spots.get(at)) else {

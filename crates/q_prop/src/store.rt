@@ -7,15 +7,16 @@ ghost use Rattle.q_prop.specs.Holders.{IsHolder, AreHolders};
 ghost use Rattle.q_prop.specs.Buckets.{AreHashed};
 ghost use Rattle.q_prop.specs.Lists.{IsDistinct};
 ghost use Rattle.q_prop.specs.Roles.{IsRole, IsDoubled, IsAlone};
+ghost use Rattle.q_prop.specs.Tails.{AreImplied};
 
-use crate::buckets::{bucket, find_in, put_into, rehashed, take_from};
+use crate::buckets::{Buckets, rehashed};
 use crate::chain::chained;
 use crate::holders::{insert, note, remove};
 use crate::lists::Lists;
 use crate::plain::explain_plainly;
 use crate::propagator::Propagator;
 use crate::roles::{Role, is_only, is_part};
-use crate::spots::Spots;
+use crate::tails::Tails;
 use crate::trail::Trail;
 use q_logic::{Lit, NoMemory};
 use std::alloc::Global;
@@ -27,9 +28,7 @@ pub struct Store {
     alloc: Global,
     propagator: Propagator,
     holders: Lists,
-    buckets: Lists,
-    spots: Spots,
-    count: usize,
+    buckets: Buckets,
     known: Trail,
 }
 
@@ -41,7 +40,7 @@ impl Model for Store {
 
     ghost view = { λ r. r.propagator };
 
-    ghost invariant = { λ r. IsIndexed r.propagator r.holders r.buckets r.count };
+    ghost invariant = { λ r. IsIndexed r.propagator r.holders r.buckets };
 }
 
 impl Store {
@@ -59,9 +58,7 @@ impl Store {
             alloc,
             propagator: Propagator::new(alloc),
             holders: Lists::new(alloc),
-            buckets: Lists::new(alloc),
-            spots: Spots::new(alloc),
-            count: count.max(1),
+            buckets: Buckets::new(alloc, count),
             known: Trail::new(alloc),
         }
     }
@@ -85,8 +82,7 @@ impl Store {
         ensures { MatchOption result ((at : ℕ) → Holds self.now at lits.now → ⊥) (λ at.
             Holds self.now at lits.now) }
     {
-        let list = self.buckets.list(bucket(self.count, lits));
-        find_in(&self.propagator, list, lits)
+        self.buckets.find(&self.propagator, lits)
     }
 
     /// The slots whose clauses hold the literal, each once.
@@ -106,17 +102,13 @@ impl Store {
         self.widen()?;
         let at = self.propagator.vacant();
         let slot = number(at)?;
-        put_into(
-            &mut self.buckets,
-            &mut self.spots,
-            bucket(self.count, lits),
-            slot,
-        )?;
+        self.buckets.reserve(slot)?;
         insert(&mut self.holders, &self.propagator, slot, lits)?;
         if let Err(error) = self.propagator.fill(slot, lits) {
             remove(&mut self.holders, &self.propagator, slot, lits);
             return Err(error);
         }
+        self.buckets.insert(lits, slot);
         note(&self.holders, &mut self.propagator, at, lits);
         Ok(at)
     }
@@ -125,12 +117,10 @@ impl Store {
     fn widen(&mut self) -> Result<(), NoMemory>
         ensures { self.new ≡ self.old }
     {
-        if self.propagator.slots() <= self.count {
-            return Ok(());
+        let slots = self.propagator.slots();
+        if self.buckets.are_few(slots) {
+            self.buckets = rehashed(self.alloc, &self.propagator, slots * 2)?;
         }
-        let count = self.propagator.slots() * 2;
-        self.buckets = rehashed(self.alloc, &self.propagator, &mut self.spots, count)?;
-        self.count = count;
         Ok(())
     }
 
@@ -141,14 +131,7 @@ impl Store {
     {
         let role = self.role_of(at);
         self.propagator.note_doubling(Some(at), &role);
-        free(
-            &self.propagator,
-            &mut self.holders,
-            &mut self.buckets,
-            &mut self.spots,
-            self.count,
-            at,
-        );
+        free(&self.propagator, &mut self.holders, &mut self.buckets, at);
         self.propagator.renote(at, &self.holders);
         self.propagator.delete(at as u32, role);
         self.renote_empty(at);
@@ -179,6 +162,52 @@ impl Store {
         self.propagator.note_doubling(skip, &role);
         self.propagator.gather_conflict();
         self.propagator.implied(lits, skip, role)
+    }
+
+    /// Whether the literals, joined with each of the tails, are implied by propagation, over the clauses of all slots
+    /// but one. The negations of the literals are propagated once for all tails.
+    pub fn all_implied(
+        &mut self,
+        lits: &[Lit],
+        tails: &Tails,
+        skip: Option<usize>,
+    ) -> Result<bool, NoMemory>
+        ensures same { self.new ≡ self.old }
+        ensures exact { IfOk result (λ yes. IsTrue yes ↔ AreImplied (filled (without self.old skip)) lits.now tails.now) }
+    {
+        if tails.len() == 0 {
+            return Ok(true);
+        }
+        if self.propagator.is_refuted(skip) {
+            return Ok(true);
+        }
+        self.propagator.complete()?;
+        match self.propagator.each_implied(lits, tails, skip)? {
+            Some(answer) => Ok(answer),
+            None => self.each_implied(lits, tails, skip),
+        }
+    }
+
+    // The same, where the root does not stand without the slot that is left out: each tail is asked about by itself.
+    fn each_implied(
+        &mut self,
+        lits: &[Lit],
+        tails: &Tails,
+        skip: Option<usize>,
+    ) -> Result<bool, NoMemory>
+        ensures same { self.new ≡ self.old }
+        ensures exact { IfOk result (λ yes. IsTrue yes ↔ AreImplied (filled (without self.old skip)) lits.now tails.now) }
+    {
+        let mut joined = Vec::new(self.alloc);
+        for i in 0..tails.len() {
+            joined.clear();
+            joined.extend_from_slice(lits)?;
+            joined.extend_from_slice(tails.tail(i))?;
+            if !self.implied(&joined, skip)? {
+                return Ok(false);
+            }
+        }
+        Ok(true)
     }
 
     /// Whether the literals, over the clauses of all slots but one, are implied as the hints tell. Each hint names a
@@ -330,23 +359,15 @@ fn number(at: usize) -> Result<u32, NoMemory>
 }
 
 // Takes a slot from under the literals of its clause, and out of its bucket.
-fn free(
-    propagator: &Propagator,
-    holders: &mut Lists,
-    buckets: &mut Lists,
-    spots: &mut Spots,
-    count: usize,
-    at: usize,
-)
+fn free(propagator: &Propagator, holders: &mut Lists, buckets: &mut Buckets, at: usize)
     requires small { at < 2 ^ 32 }
-    requires count { 1 ≤ count }
     requires holders { AreHolders propagator.now holders.old }
-    requires buckets { AreHashed propagator.now count buckets.old }
+    requires buckets { AreHashed propagator.now buckets.old }
     ensures holders { AreHolders (without propagator.now (Some at)) holders.new }
-    ensures buckets { AreHashed (without propagator.now (Some at)) count buckets.new }
+    ensures buckets { AreHashed (without propagator.now (Some at)) buckets.new }
 {
     if let Some(lits) = propagator.slot(at) {
         remove(holders, propagator, at as u32, lits);
-        take_from(buckets, spots, bucket(count, lits), at as u32);
+        buckets.remove(lits, at as u32);
     }
 }

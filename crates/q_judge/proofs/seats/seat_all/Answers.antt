@@ -3,6 +3,7 @@ use Rattle.q_logic.specs.declared.formulas.Quant.TheVariants.{Exists}
 use Rattle.q_logic.specs.declared.formulas.Bound.{Bound}
 use Rattle.q_logic.specs.Formulas.{Prefix}
 use Rattle.q_logic.specs.Prefixes.{Distinct}
+use Rattle.q_pages.specs.Rows.{KeepsPages}
 use Rattle.q_judge.specs.declared.seats.Seat.{Seat}
 use Rattle.q_judge.specs.Scopes.{next_rank, AreNumbered}
 use Rattle.q_judge.proofs.Seating.{IsSeating, seating-taken, seating-few, seating-low, seating-done, take-past, drop-past, take-next, drop-here, take-drop, take-size, first-drop, get-bound}
@@ -21,7 +22,8 @@ less i n h = omega arith
 pub take_seat-numbering-requires-clause-room : goal.take_seat-numbering-requires-clause-room
 take_seat-numbering-requires-clause-room c =
     let d : Bound = record { quant = Exists; var = 0 } in
-    subst (λ (n : ℕ). (get_or c.args.prefix.now c.loop-i.i d).var < n) (sym c.loop-i.invariant.long) (c.requires.room (get_or c.args.prefix.now c.loop-i.i d).var (get-bound c.args.prefix.now c.loop-i.i d c.loop-i-test.true))
+    let v = (get_or c.args.prefix.now c.loop-i.i d).var in
+    c.loop-i.invariant.0.made v (c.requires.room v (get-bound c.args.prefix.now c.loop-i.i d c.loop-i-test.true))
 
 pub take_seat-numbering-requires-clause-few : goal.take_seat-numbering-requires-clause-few
 take_seat-numbering-requires-clause-few c =
@@ -30,11 +32,11 @@ take_seat-numbering-requires-clause-few c =
     let i = c.loop-i.i in
     let b = get_or P i d in
     let s = c.loop-i in
-    let h = here P i d c.loop-i-test.true (length c.args.seats.now.items) (length c.args.counts.now.items) s.seats.items s.counts.items s.numbering.last s.numbering.rank s.invariant in
+    let h = here P i d c.loop-i-test.true (length c.args.seats.now.items) (length c.args.counts.now.items) s.seats.items s.counts.items s.numbering.last s.numbering.rank s.invariant.1 in
     let few = seating-few (take i P) b (drop (suc i) P) (apart P i d c.loop-i-test.true c.requires.distinct) (length c.args.seats.now.items) (length c.args.counts.now.items) s.seats.items s.counts.items s.numbering.last s.numbering.rank h (next_rank s.numbering.last s.numbering.rank b.quant) in
     let size = take-size P i (less i (length P) c.loop-i-test.true) in
     let k = s.counts.ok in
-    omega (arith, few, size, c.loop-i-test.true, c.requires.counts, s.invariant.wide, k.0, k.1, s.counts.small)
+    omega (arith, few, size, c.loop-i-test.true, c.requires.counts, s.invariant.1.wide, k.0, k.1, s.counts.small)
 
 pub loop-i-preserved : goal.loop-i-preserved
 loop-i-preserved c =
@@ -43,18 +45,25 @@ loop-i-preserved c =
     let i = c.loop-i.i in
     let b = get_or P i d in
     let s = c.loop-i in
-    let h = here P i d c.loop-i-test.true (length c.args.seats.now.items) (length c.args.counts.now.items) s.seats.items s.counts.items s.numbering.last s.numbering.rank s.invariant in
+    let h = here P i d c.loop-i-test.true (length c.args.seats.now.items) (length c.args.counts.now.items) s.seats.items s.counts.items s.numbering.last s.numbering.rank s.invariant.1 in
     let u = apart P i d c.loop-i-test.true c.requires.distinct in
     let low = seating-low (take i P) b (drop (suc i) P) u (length c.args.seats.now.items) (length c.args.counts.now.items) s.seats.items s.counts.items s.numbering.last s.numbering.rank h in
     let size = take-size P i (less i (length P) c.loop-i-test.true) in
     let t = c.take_seat-numbering.ensures in
     let f = rw add-one at (c.var_at-after.ensures ∙ first-drop P (i + 1)) in
-    rw (t.seats, t.counts, t.numbering, f, add-one, take-next P i d c.loop-i-test.true)
-    (seating-taken (take i P) b (drop (suc i) P) u (length c.args.seats.now.items) (length c.args.counts.now.items) s.seats.items s.counts.items s.numbering.last s.numbering.rank h
-    (c.requires.room b.var (get-bound P i d c.loop-i-test.true)) (omega (arith, low, size, c.requires.counts, c.loop-i-test.true)))
+    let kept : KeepsPages c.args.seats.now c.take_seat-numbering.new.seats = record {
+      none = t.kept.none ∙ s.invariant.0.none;
+      length = (let a = t.kept.length in let b = s.invariant.0.length in omega arith);
+      made = λ v m. t.kept.made v (s.invariant.0.made v m);
+    } in (
+      kept,
+      rw (t.seats, t.counts, t.numbering, f, add-one, take-next P i d c.loop-i-test.true)
+          (seating-taken (take i P) b (drop (suc i) P) u (length c.args.seats.now.items) (length c.args.counts.now.items) s.seats.items s.counts.items s.numbering.last s.numbering.rank h
+          (c.requires.room b.var (get-bound P i d c.loop-i-test.true)).0 (omega (arith, low, size, c.requires.counts, c.loop-i-test.true))),
+    )
 
 done : (P : Prefix) (i room kinds : ℕ) (seats : List (Option Seat)) (counts : List ℕ) (last : Option Bound) (rank : ℕ) → Distinct P → length P ≤ i → IsSeating (take i P) (drop i P) room kinds seats counts last rank → AreNumbered P seats counts
 done P i room kinds seats counts last rank d l h = seating-done P d room kinds seats counts last rank (subst (λ (C : Prefix). IsSeating P C room kinds seats counts last rank) (drop-past P i l) (subst (λ (A : Prefix). IsSeating A (drop i P) room kinds seats counts last rank) (take-past P i l) h))
 
 pub returns : goal.returns
-returns c = done c.args.prefix.now c.loop-i.i (length c.args.seats.now.items) (length c.args.counts.now.items) c.loop-i.seats.items c.loop-i.counts.items c.loop-i.numbering.last c.loop-i.numbering.rank c.requires.distinct c.loop-i-test.false c.loop-i.invariant
+returns c = done c.args.prefix.now c.loop-i.i (length c.args.seats.now.items) (length c.args.counts.now.items) c.loop-i.seats.items c.loop-i.counts.items c.loop-i.numbering.last c.loop-i.numbering.rank c.requires.distinct c.loop-i-test.false c.loop-i.invariant.1

@@ -8,5 +8,5 @@ use Rattle.q_judge.proofs.scope.Scope.binds.Goals as goal
 pub returns : goal.returns
 returns c =
     let i = c.self.inside in
-    let e = rw c.deref.ensures.value at c.seat_of.ensures in
+    let e = c.seat_of.ensures in
     rw (← c.self.view_is) (c.is_some.ensures ∙ ap is_some e ∙ seated-binds (bounds_from i.seats.items i.first (length i.seats.items)) i.first i.seats.items i.counts.items c.self.invariant c.args.var)

@@ -8,7 +8,7 @@ fewer n i h = omega arith
 pub loop-preserved : goal.loop-preserved
 loop-preserved c =
     let seats = c.self.inside.seats.items in
-    let l : c.loop.counter < length seats = omega (arith, c.loop-test.true, c.len-end.ensures, c.self.inside.seats.ok.0) in
+    let l : c.loop.counter < length seats = omega (arith, c.loop-test.true, c.len-end.ensures.value) in
     let e = fewer (length seats) c.loop.counter l in
-    let p = rw c.deref.ensures.value at c.in_ok-at.ensures (length seats - (c.loop.counter + 1)) in
+    let p = c.in_ok-at.ensures (length seats - (c.loop.counter + 1)) in
     p ∙ ap (λ (n : ℕ). c.loop.bounds.items ++ bounds_from seats c.loop.at n) (sym e) ∙ c.loop.invariant

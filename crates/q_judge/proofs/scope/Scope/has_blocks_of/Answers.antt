@@ -21,6 +21,6 @@ returns-then-are_equal c =
 pub returns : goal.returns
 returns c =
     let a = rw c.deref-2.ensures.value at c.in_ok-mine.ensures in
-    let y = rw (c.deref-3.ensures.value, c.deref-4.ensures.value) at c.are_same_seats.ensures.yes in
-    let n = rw (c.deref-3.ensures.value, c.deref-4.ensures.value) at c.are_same_seats.ensures.no in
+    let y = c.are_same_seats.ensures.yes in
+    let n = c.are_same_seats.ensures.no in
     rw (← c.in_ok-own.ensures.same) (both c.are_same_seats.result c.in_ok-own.own.items c.args.prefix.now c.in_ok-mine.mine.seats.items c.in_ok-others.others.seats.items c.in_ok-mine.mine.counts.items c.in_ok-others.others.counts.items a c.in_ok-others.ensures y n)

@@ -10,4 +10,4 @@ returns c =
     let a = rw (← c.self.view_is) at c.requires.first in
     let b = rw (← c.self.view_is) at c.requires.second in
     let law = seated-outer (bounds_from i.seats.items i.first (length i.seats.items)) i.first i.seats.items i.counts.items c.self.invariant c.args.a c.args.v a b in
-    rw (← c.self.view_is) (rw (law, c.rank_of.ensures, c.rank_of-2.ensures, c.deref.ensures.value, c.deref-2.ensures.value) refl)
+    rw (← c.self.view_is) (rw (law, c.rank_of.ensures, c.rank_of-2.ensures) refl)

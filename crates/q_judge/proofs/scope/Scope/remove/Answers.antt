@@ -10,14 +10,14 @@ pub count_down-left-requires-clause-inside : goal.count_down-left-requires-claus
 count_down-left-requires-clause-inside c =
     let i = c.self.inside in
     let P = bounds_from i.seats.items i.first (length i.seats.items) in
-    let e = sym (rw c.deref.ensures.value at c.seat_of.ensures) ∙ c.in-Some.is in
+    let e = sym c.seat_of.ensures ∙ c.in-Some.is in
     (gone-counts P i.first i.seats.items i.counts.items c.self.invariant c.args.var c.in-Some.seat e).1
 
 pub count_down-left-requires-clause-some : goal.count_down-left-requires-clause-some
 count_down-left-requires-clause-some c =
     let i = c.self.inside in
     let P = bounds_from i.seats.items i.first (length i.seats.items) in
-    let e = sym (rw c.deref.ensures.value at c.seat_of.ensures) ∙ c.in-Some.is in
+    let e = sym c.seat_of.ensures ∙ c.in-Some.is in
     (gone-counts P i.first i.seats.items i.counts.items c.self.invariant c.args.var c.in-Some.seat e).0
 
 pub join_blocks-requires-clause-low : goal.join_blocks-requires-clause-low
@@ -26,15 +26,15 @@ join_blocks-requires-clause-low c x y p q =
     let P = bounds_from i.seats.items i.first (length i.seats.items) in
     let s = c.in-Some.seat in
     let v = c.args.var in
-    let e = sym (rw c.deref.ensures.value at c.seat_of.ensures) ∙ c.in-Some.is in
+    let e = sym c.seat_of.ensures ∙ c.in-Some.is in
     let n = c.link_before.new.seats in
     let k = c.count_down-left.ensures.counts in
     let z = count-down i.counts.items c.count_down-left.new.counts.items s.rank (gone-counts P i.first i.seats.items i.counts.items c.self.invariant v s e).1 k ∙ sym c.count_down-left.ensures.left ∙ c.if-left-eq0.true in
-    gone-low P i.first i.seats.items i.counts.items c.self.invariant v s e (set n.items v None)
+    rw c.replace.ensures.items (gone-low P i.first i.seats.items i.counts.items c.self.invariant v s e (set n.items v None)
     (unlinked-other i.seats.items c.link_after.new.seats.items n.items v s c.link_after.ensures.seats c.link_before.ensures.seats)
     (unlinked-gone i.seats.items c.link_after.new.seats.items n.items v s)
     c.link_after.new.first c.count_down-left.new.counts.items c.link_after.ensures.first k z x y p q
-    (let l = length-set n.items v None in omega (arith, l, n.ok.0, n.ok.1, n.small))
+    (let l = length-set n.items v None in omega (arith, l, c.len.ensures.value, c.len.ensures.few, c.link_before.ensures.len, c.link_after.ensures.len)))
 
 pub join_blocks-requires-clause-high : goal.join_blocks-requires-clause-high
 join_blocks-requires-clause-high c x y p q =
@@ -42,15 +42,15 @@ join_blocks-requires-clause-high c x y p q =
     let P = bounds_from i.seats.items i.first (length i.seats.items) in
     let s = c.in-Some.seat in
     let v = c.args.var in
-    let e = sym (rw c.deref.ensures.value at c.seat_of.ensures) ∙ c.in-Some.is in
+    let e = sym c.seat_of.ensures ∙ c.in-Some.is in
     let n = c.link_before.new.seats in
     let k = c.count_down-left.ensures.counts in
     let z = count-down i.counts.items c.count_down-left.new.counts.items s.rank (gone-counts P i.first i.seats.items i.counts.items c.self.invariant v s e).1 k ∙ sym c.count_down-left.ensures.left ∙ c.if-left-eq0.true in
-    gone-high P i.first i.seats.items i.counts.items c.self.invariant v s e (set n.items v None)
+    rw c.replace.ensures.items (gone-high P i.first i.seats.items i.counts.items c.self.invariant v s e (set n.items v None)
     (unlinked-other i.seats.items c.link_after.new.seats.items n.items v s c.link_after.ensures.seats c.link_before.ensures.seats)
     (unlinked-gone i.seats.items c.link_after.new.seats.items n.items v s)
     c.link_after.new.first c.count_down-left.new.counts.items c.link_after.ensures.first k z x y p q
-    (let l = length-set n.items v None in omega (arith, l, n.ok.0, n.ok.1, n.small))
+    (let l = length-set n.items v None in omega (arith, l, c.len.ensures.value, c.len.ensures.few, c.link_before.ensures.len, c.link_after.ensures.len)))
 
 pub invariant_of-self : goal.invariant_of-self
 invariant_of-self c =
@@ -58,7 +58,7 @@ invariant_of-self c =
     let P = bounds_from i.seats.items i.first (length i.seats.items) in
     let s = c.in-Some.seat in
     let v = c.args.var in
-    let e = sym (rw c.deref.ensures.value at c.seat_of.ensures) ∙ c.in-Some.is in
+    let e = sym c.seat_of.ensures ∙ c.in-Some.is in
     let n = c.link_before.new.seats in
     let k = c.count_down-left.ensures.counts in
     let z = count-down i.counts.items c.count_down-left.new.counts.items s.rank (gone-counts P i.first i.seats.items i.counts.items c.self.invariant v s e).1 k ∙ sym c.count_down-left.ensures.left ∙ c.if-left-eq0.true in
@@ -67,7 +67,7 @@ invariant_of-self c =
     (unlinked-other i.seats.items c.link_after.new.seats.items n.items v s c.link_after.ensures.seats c.link_before.ensures.seats)
     (unlinked-gone i.seats.items c.link_after.new.seats.items n.items v s)
     c.link_after.new.first c.count_down-left.new.counts.items c.link_after.ensures.first k z
-    c.join_blocks.new.seats.items c.join_blocks.new.counts.items c.join_blocks.ensures.none c.join_blocks.ensures.joined)
+    c.join_blocks.new.seats.items c.join_blocks.new.counts.items (rw c.replace.ensures.items at c.join_blocks.ensures.none) (rw c.replace.ensures.items at c.join_blocks.ensures.joined))
 
 pub invariant_of-self-else-left-eq0 : goal.invariant_of-self-else-left-eq0
 invariant_of-self-else-left-eq0 c =
@@ -75,15 +75,15 @@ invariant_of-self-else-left-eq0 c =
     let P = bounds_from i.seats.items i.first (length i.seats.items) in
     let s = c.in-Some.seat in
     let v = c.args.var in
-    let e = sym (rw c.deref.ensures.value at c.seat_of.ensures) ∙ c.in-Some.is in
+    let e = sym c.seat_of.ensures ∙ c.in-Some.is in
     let n = c.link_before.new.seats in
     let k = c.count_down-left.ensures.counts in
     let z = count-down i.counts.items c.count_down-left.new.counts.items s.rank (gone-counts P i.first i.seats.items i.counts.items c.self.invariant v s e).1 k ∙ sym c.count_down-left.ensures.left in
-    seated-view (removed_from v P) c.link_after.new.first (set n.items v None) c.count_down-left.new.counts.items
+    rw c.replace.ensures.items (seated-view (removed_from v P) c.link_after.new.first (set n.items v None) c.count_down-left.new.counts.items
     (gone-stays P i.first i.seats.items i.counts.items c.self.invariant v s e (set n.items v None)
     (unlinked-other i.seats.items c.link_after.new.seats.items n.items v s c.link_after.ensures.seats c.link_before.ensures.seats)
     (unlinked-gone i.seats.items c.link_after.new.seats.items n.items v s)
-    c.link_after.new.first c.count_down-left.new.counts.items c.link_after.ensures.first k (λ h. c.if-left-eq0.false (sym z ∙ h)))
+    c.link_after.new.first c.count_down-left.new.counts.items c.link_after.ensures.first k (λ h. c.if-left-eq0.false (sym z ∙ h))))
 
 pub returns-then-left-eq0 : goal.returns-then-left-eq0
 returns-then-left-eq0 c =
@@ -91,7 +91,7 @@ returns-then-left-eq0 c =
     let P = bounds_from i.seats.items i.first (length i.seats.items) in
     let s = c.in-Some.seat in
     let v = c.args.var in
-    let e = sym (rw c.deref.ensures.value at c.seat_of.ensures) ∙ c.in-Some.is in
+    let e = sym c.seat_of.ensures ∙ c.in-Some.is in
     let n = c.link_before.new.seats in
     let k = c.count_down-left.ensures.counts in
     let z = count-down i.counts.items c.count_down-left.new.counts.items s.rank (gone-counts P i.first i.seats.items i.counts.items c.self.invariant v s e).1 k ∙ sym c.count_down-left.ensures.left ∙ c.if-left-eq0.true in
@@ -100,7 +100,7 @@ returns-then-left-eq0 c =
     (unlinked-other i.seats.items c.link_after.new.seats.items n.items v s c.link_after.ensures.seats c.link_before.ensures.seats)
     (unlinked-gone i.seats.items c.link_after.new.seats.items n.items v s)
     c.link_after.new.first c.count_down-left.new.counts.items c.link_after.ensures.first k z
-    c.join_blocks.new.seats.items c.join_blocks.new.counts.items c.join_blocks.ensures.none c.join_blocks.ensures.joined))
+    c.join_blocks.new.seats.items c.join_blocks.new.counts.items (rw c.replace.ensures.items at c.join_blocks.ensures.none) (rw c.replace.ensures.items at c.join_blocks.ensures.joined)))
 
 pub returns-else-left-eq0 : goal.returns-else-left-eq0
 returns-else-left-eq0 c =
@@ -108,11 +108,11 @@ returns-else-left-eq0 c =
     let P = bounds_from i.seats.items i.first (length i.seats.items) in
     let s = c.in-Some.seat in
     let v = c.args.var in
-    let e = sym (rw c.deref.ensures.value at c.seat_of.ensures) ∙ c.in-Some.is in
+    let e = sym c.seat_of.ensures ∙ c.in-Some.is in
     let n = c.link_before.new.seats in
     let k = c.count_down-left.ensures.counts in
     let z = count-down i.counts.items c.count_down-left.new.counts.items s.rank (gone-counts P i.first i.seats.items i.counts.items c.self.invariant v s e).1 k ∙ sym c.count_down-left.ensures.left in
-    rw (← c.self.view_is) (seated-bounds (removed_from v P) c.link_after.new.first (set n.items v None) c.count_down-left.new.counts.items
+    rw (← c.self.view_is, c.replace.ensures.items) (seated-bounds (removed_from v P) c.link_after.new.first (set n.items v None) c.count_down-left.new.counts.items
     (gone-stays P i.first i.seats.items i.counts.items c.self.invariant v s e (set n.items v None)
     (unlinked-other i.seats.items c.link_after.new.seats.items n.items v s c.link_after.ensures.seats c.link_before.ensures.seats)
     (unlinked-gone i.seats.items c.link_after.new.seats.items n.items v s)
@@ -123,5 +123,5 @@ returns-in_default c =
     let i = c.self.inside in
     let P = bounds_from i.seats.items i.first (length i.seats.items) in
     let h = rw (← c.self.view_is) at c.requires in
-    let e = sym (rw c.deref.ensures.value at c.seat_of.ensures) ∙ c.in_default.is in
+    let e = sym c.seat_of.ensures ∙ c.in_default.is in
     absurd (true≢false (sym h ∙ no_seat-unbound P i.first i.seats.items i.counts.items c.self.invariant c.args.var e))

@@ -9,7 +9,7 @@ pub unlist-requires-clause-paired : goal.unlist-requires-clause-paired
 unlist-requires-clause-paired c p e h =
     let r = c.self.invariant.rooted in
     let d = c.self.invariant.standing c.args.slot h in
-    let w = r.ready.watched c.args.slot d.0 p d.1 (rw c.deref.ensures.value at e) in
+    let w = r.ready.watched c.args.slot d.0 p d.1 e in
     w.differ (r.listed.short c.args.slot d.0 h d.1 p.first p.second w.first_in w.second_in)
 
 pub invariant_of-self : goal.invariant_of-self
@@ -21,15 +21,15 @@ invariant_of-self c =
     let left = c.unlist.new.singles.items in
     let u = c.unlist.ensures in
     let lost = lost-members slot r.singles.items left u.lost v.once in
-    let standing' = standing_cleared w.clauses slot r.singles.items left v.standing lost in
-    let covered' = covered_cleared w.clauses slot w.pairs.items w.rows v.covered in
+    let standing' = standing_cleared w.clauses.slots slot r.singles.items left v.standing lost in
+    let covered' = covered_cleared w.clauses.slots slot w.clauses.pairs w.rows v.covered in
     elim c.if-not-rest.branch [
       | then-not-rest b ↦
-          let few = listed_fewer w.clauses slot w.pairs.items r.singles.items left v.rooted.listed lost in
-          let none = none_watched (take r.head r.trail) r.trail w.clauses w.pairs.items v.rooted.ready.watched in
-          rw (c.clear.ensures, b.self-inside-is, b.truncate.ensures) (record {
+          let few = listed_fewer w.clauses.slots slot w.clauses.pairs r.singles.items left v.rooted.listed lost in
+          let none = none_watched (take r.head r.trail) r.trail w.clauses.slots w.clauses.pairs v.rooted.ready.watched in
+          rw (c.clear.ensures.slots, c.clear.ensures.pairs, b.self-inside-is, b.truncate.ensures) (record {
             covered = covered';
-            rooted = rooted_cleared w.clauses slot w.pairs.items left 0 [] 0 (rooted_empty w.clauses slot w.pairs.items left few none);
+            rooted = rooted_cleared w.clauses.slots slot w.clauses.pairs left 0 [] 0 (rooted_empty w.clauses.slots slot w.clauses.pairs left few none);
             done_in = omega arith;
             standing = standing';
             once = u.lost.distinct v.once;
@@ -38,12 +38,12 @@ invariant_of-self c =
       | else-not-rest b ↦
           let loose = c.loosen-rest.ensures b.if-not-rest.false in
           let rest = c.loosen-rest.new.trail in
-          rw (c.clear.ensures, b.self-inside-is) (record {
+          rw (c.clear.ensures.slots, c.clear.ensures.pairs, b.self-inside-is) (record {
             covered = covered';
-            rooted = rooted_refuted w.clauses slot w.pairs.items r.singles.items left r.done 0 r.trail rest r.head true v.rooted loose lost;
+            rooted = rooted_refuted w.clauses.slots slot w.clauses.pairs r.singles.items left r.done 0 r.trail rest r.head true v.rooted loose lost;
             done_in = omega arith;
             standing = standing';
             once = u.lost.distinct v.once;
-            falsified = λ e. falsified_loosened w.clauses slot w.pairs.items r.singles.items left r.done 0 r.trail rest r.head true v.rooted loose (v.falsified e);
+            falsified = λ e. falsified_loosened w.clauses.slots slot w.clauses.pairs r.singles.items left r.done 0 r.trail rest r.head true v.rooted loose (v.falsified e);
           })
     ]

@@ -14,6 +14,6 @@ returns-clause-exact c =
     let t = taken_of l r.trail in
     let known = c.has.ensures.0 c.if-not-has.false in
     let falsified = v.falsified c.if-not-self.false in
-    let derived' = derived_taken w.clauses q.0 l r.trail t.0 q.2 known v.rooted.ready.consistent t.1 v.rooted.derived in
-    let falsified' = falsified_taken w.clauses q.0 l r.trail t.0 q.2 known v.rooted.ready.consistent t.1 falsified in
-    rw (← c.self.view_is, q.1) (λ _. root_implied (filled (without w.clauses (Some q.0))) t.0 c.args.lits.now derived' falsified', λ _. refl)
+    let derived' = derived_taken w.clauses.slots q.0 l r.trail t.0 q.2 known v.rooted.ready.consistent t.1 v.rooted.derived in
+    let falsified' = falsified_taken w.clauses.slots q.0 l r.trail t.0 q.2 known v.rooted.ready.consistent t.1 falsified in
+    rw (← c.self.view_is, q.1) (λ _. root_implied (filled (without w.clauses.slots (Some q.0))) t.0 c.args.lits.now derived' falsified', λ _. refl)

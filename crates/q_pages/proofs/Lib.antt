@@ -1,0 +1,3 @@
+mod Values
+pub mod Entries
+pub mod Tables

@@ -1,0 +1,40 @@
+use Rattle.std.proofs.Common.{◌++◌, arith, refl, sym, ◌∙◌, subst, true≢false, inl, inr}
+use Rattle.q_logic.specs.Formulas.{Clause}
+use Rattle.q_logic.specs.Propagation.{Implied}
+use Rattle.q_prop.specs.Slots.{without, filled}
+use Rattle.q_prop.proofs.Literals.{ℕ-cases}
+use Rattle.q_prop.proofs.SlotLemmas.{same_slice_get, slice_get-in, slice_get-Contains, Contains-slice_get}
+use Rattle.q_prop.proofs.store.Store.each_implied.Goals as goal
+
+pub returns-then-not-branch-clause-exact : goal.returns-then-not-branch-clause-exact
+returns-then-not-branch-clause-exact c =
+    let joined = c.in_ok-extend_from_slice-2.ensures.items in
+    let first = c.in_ok-extend_from_slice.ensures.items in
+    let x = rw (c.loop-i.invariant.0, c.deref.ensures.value, joined, first, c.clear.ensures.items) at c.in_ok-implied.ensures.exact in
+    let there = Contains-slice_get c.args.tails.now c.loop-i.i c.tail.result.now c.tail.ensures in (
+      (λ e. absurd (true≢false (sym e))),
+      (λ all. absurd (true≢false (sym (x.1 (all c.tail.result.now there)) ∙ c.if-not-branch.true))),
+    )
+
+pub loop-i-preserved : goal.loop-i-preserved
+loop-i-preserved c =
+    let joined = c.in_ok-extend_from_slice-2.ensures.items in
+    let first = c.in_ok-extend_from_slice.ensures.items in
+    let x = rw (c.loop-i.invariant.0, c.deref.ensures.value, joined, first, c.clear.ensures.items) at c.in_ok-implied.ensures.exact in (
+      c.implied.ensures.same ∙ c.loop-i.invariant.0,
+      (λ j t l e. elim (ℕ-cases j c.loop-i.i) [
+        | inl q ↦
+            let same = same_slice_get c.args.tails.now c.loop-i.i c.tail.result.now t c.tail.ensures (rw q at e) in
+            subst (λ (z : Clause). Implied (filled (without c.args.self.now c.args.skip)) (c.args.lits.now ++ z)) same (x.0 c.if-not-branch.false)
+        | inr n ↦ c.loop-i.invariant.1 j t (omega (arith, l, n)) e
+      ]),
+    )
+
+pub returns-clause-exact : goal.returns-clause-exact
+returns-clause-exact c = (
+  (λ _ t h.
+      let j = slice_get-Contains c.args.tails.now t h in
+      let inside = slice_get-in c.args.tails.now j.0 t j.1 in
+      c.loop-i.invariant.1 j.0 t (omega (arith, inside, c.loop-i-test.false, c.len-i-end.ensures)) j.1),
+  (λ all. refl),
+)
