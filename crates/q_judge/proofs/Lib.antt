@@ -15,6 +15,7 @@ pub mod Slots
 pub mod Outers
 pub mod Collecting
 pub mod Walks
+pub mod Gathering
 pub mod Reaching
 pub mod Trying
 pub mod Keeping

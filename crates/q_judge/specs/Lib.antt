@@ -1,6 +1,7 @@
 pub mod Causes
 pub mod Scopes
 pub mod Warrants
+pub mod Pivots
 pub mod Entries
 pub mod Tried
 pub mod Ledgers

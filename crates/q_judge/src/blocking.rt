@@ -81,8 +81,8 @@ fn clashes_at(
     }
 }
 
-// Whether the outer clause of another one holds a literal whose negation is in the clause.
-fn clashes(scope: &Scope, clause: &[Lit], other: &[Lit], m: Lit) -> bool
+/// Whether the outer clause of another one holds a literal whose negation is in the clause.
+pub(crate) fn clashes(scope: &Scope, clause: &[Lit], other: &[Lit], m: Lit) -> bool
     requires bound { is_bound scope.now m.var ≡ true }
     requires within { Within scope.now other.now }
     ensures { IsTrue result → IsTautology (clause.now ++ outer scope.now m other.now) }

@@ -329,7 +329,7 @@ impl Ledger {
     {
         collect_outers(
             self.alloc,
-            &mut self.buffers.joined,
+            &mut self.buffers.outers.joined,
             &self.store,
             &self.scope,
             skip,
@@ -345,7 +345,7 @@ impl Ledger {
     {
         pivot_entry(
             self.alloc,
-            &mut self.buffers.joined,
+            &mut self.buffers.outers.joined,
             &self.store,
             &self.scope,
             at,

@@ -7,13 +7,14 @@ ghost use Rattle.q_logic.specs.Pivots.{keeps, outer};
 ghost use Rattle.q_logic.specs.Steps.{IsWarranted, Within};
 ghost use Rattle.q_logic.specs.StepForms.{IsFirst};
 ghost use Rattle.q_prop.specs.Slots.{Holds, filled, without};
+ghost use Rattle.q_judge.specs.Pivots.{IsGathered, AreGathered, ResolveAt};
 ghost use Rattle.q_judge.specs.Warrants.{AreHolders, IsAnswered, Resolves};
 
-use crate::blocking::is_blocked_first;
+use crate::blocking::{clashes, is_blocked_first};
 use crate::error::{Cause, CheckError};
 use crate::scope::Scope;
 use q_logic::{Lit, NoMemory};
-use q_prop::{Store, Trail};
+use q_prop::{Store, Tails, Trail};
 use std::alloc::Global;
 
 /// Why a clause may come or go: implied by propagation, else by its first literal.
@@ -23,23 +24,42 @@ pub enum Warrant {
     Pivot,
 }
 
+/// What is asked of a pivot: whether the base, joined with the outer clause of each clause that holds m, is implied, over
+/// the slots but one.
+#[derive(Clone, Copy)]
+pub(crate) struct Question<'a> {
+    pub(crate) skip: Option<usize>,
+    pub(crate) base: &'a [Lit],
+    pub(crate) m: Lit,
+}
+
+/// Outer clauses, and room for the next one.
+#[derive(Drop)]
+pub struct Outers {
+    pub joined: Vec<Lit>,
+    pub tails: Tails,
+}
+
 /// Rows that are used again from step to step.
 #[derive(Drop)]
 pub struct Buffers {
     pub slots: Vec<u32>,
-    pub joined: Vec<Lit>,
+    pub outers: Outers,
     pub trail: Trail,
 }
 
 impl Buffers {
     pub fn new(alloc: Global) -> Buffers
         ensures slots { result.slots.items ≡ [] }
-        ensures joined { result.joined.items ≡ [] }
+        ensures outers { result.outers.tails ≡ [] }
         ensures trail { result.trail ≡ [] }
     {
         Buffers {
             slots: Vec::new(alloc),
-            joined: Vec::new(alloc),
+            outers: Outers {
+                joined: Vec::new(alloc),
+                tails: Tails::new(alloc),
+            },
             trail: Trail::new(alloc),
         }
     }
@@ -101,28 +121,63 @@ pub fn clause_at<'a>(store: &'a Store, skip: Option<usize>, at: usize) -> Option
     store.slot(at)
 }
 
-// Whether the literals, joined with the outer clause of the clause in a slot, are implied.
-fn resolves_with(
+// Appends the outer clause of the clause in a slot, unless it clashes with the base.
+fn gather_outer(
+    store: &Store,
+    scope: &Scope,
+    question: &Question,
+    at: usize,
+    outers: &mut Outers,
+) -> Result<(), NoMemory>
+    requires closed { Closed scope.now (filled store.now) }
+    requires bound { is_bound scope.now question.now.m.var ≡ true }
+    ensures { OnOk result (IsGathered scope.now (without store.now question.now.skip) question.now at outers.old.tails outers.new.tails) }
+{
+    let Some(clause) = clause_at(store, question.skip, at) else {
+        return Ok(());
+    };
+    if clashes(scope, question.base, clause, question.m) {
+        return Ok(());
+    }
+    outers.joined.clear();
+    push_outer(&mut outers.joined, scope, clause, question.m)?;
+    outers.tails.push(&outers.joined)
+}
+
+// The outer clauses of the clauses in these slots, but of those that clash with the base.
+fn gather_outers(
+    store: &Store,
+    scope: &Scope,
+    question: &Question,
+    slots: &[u32],
+    outers: &mut Outers,
+) -> Result<(), NoMemory>
+    requires closed { Closed scope.now (filled store.now) }
+    requires bound { is_bound scope.now question.now.m.var ≡ true }
+    ensures { OnOk result (AreGathered scope.now (without store.now question.now.skip) question.now slots.now outers.new.tails) }
+{
+    outers.tails.clear();
+    for at in slots {
+        gather_outer(store, scope, question, *at as usize, outers)?;
+    }
+    Ok(())
+}
+
+// Whether the base, joined with the outer clause of the clause in each of these slots, is implied.
+fn resolves_group(
     store: &mut Store,
     scope: &Scope,
-    joined: &mut Vec<Lit>,
-    skip: Option<usize>,
-    at: usize,
-    base: &[Lit],
-    m: Lit,
+    question: &Question,
+    slots: &[u32],
+    outers: &mut Outers,
 ) -> Result<bool, NoMemory>
     requires closed { Closed scope.now (filled store.old) }
-    requires bound { is_bound scope.now m.var ≡ true }
+    requires bound { is_bound scope.now question.now.m.var ≡ true }
     ensures same { store.new ≡ store.old }
-    ensures exact { IfOk result (λ yes. IsTrue yes ↔ ((d : Clause) → Holds (without store.old skip) at d → Implied (filled (without store.old skip)) (base.now ++ outer scope.now m d))) }
+    ensures exact { IfOk result (λ yes. IsTrue yes ↔ ResolveAt scope.now (without store.old question.now.skip) question.now slots.now) }
 {
-    let Some(clause) = clause_at(store, skip, at) else {
-        return Ok(true);
-    };
-    joined.clear();
-    joined.extend_from_slice(base)?;
-    push_outer(joined, scope, clause, m)?;
-    store.implied(joined, skip)
+    gather_outers(store, scope, question, slots, outers)?;
+    store.all_implied(question.base, &outers.tails, question.skip)
 }
 
 /// Whether the literals, joined with the outer clause of each clause that holds m, are implied.
@@ -139,13 +194,37 @@ pub fn resolves(
     ensures same { store.new ≡ store.old }
     ensures exact { IfOk result (λ yes. IsTrue yes ↔ Resolves scope.now (filled (without store.old skip)) base.now m) }
 {
-    let slots = &mut buffers.slots;
-    let joined = &mut buffers.joined;
-    collect_holders(store, m, slots)?;
-    for i in 0..slots.len() {
-        if !resolves_with(store, scope, joined, skip, slots[i] as usize, base, m)? {
+    collect_holders(store, m, &mut buffers.slots)?;
+    let question = Question { skip, base, m };
+    resolves_all(store, scope, &question, &buffers.slots, &mut buffers.outers)
+}
+
+// The same for the clauses in these slots.
+//
+// Hot: the negations of the base are propagated once for a group. One group of all slots was lost where a universal
+// literal goes by its reach and its pivot fails at the first clause; groups of one propagate the base for each clause.
+// So each group is four times as large as the one before.
+fn resolves_all(
+    store: &mut Store,
+    scope: &Scope,
+    question: &Question,
+    slots: &[u32],
+    outers: &mut Outers,
+) -> Result<bool, NoMemory>
+    requires closed { Closed scope.now (filled store.old) }
+    requires bound { is_bound scope.now question.now.m.var ≡ true }
+    ensures same { store.new ≡ store.old }
+    ensures exact { IfOk result (λ yes. IsTrue yes ↔ ResolveAt scope.now (without store.old question.now.skip) question.now slots.now) }
+{
+    let mut from = 0;
+    let mut size = 1;
+    while from < slots.len() {
+        let end = slots.len().min(from.saturating_add(size));
+        if !resolves_group(store, scope, question, &slots[from..end], outers)? {
             return Ok(false);
         }
+        from = end;
+        size = size.saturating_mul(4);
     }
     Ok(true)
 }

@@ -1,0 +1,28 @@
+-- Outer clauses as they are gathered for a pivot, over slots.
+use Rattle.std.specs.Prelude.{◌≡◌, ◌⊎◌, ℕ, List, [], ◌∷◌, ◌++◌, Contains}
+use Rattle.q_logic.specs.Formulas.{Clause, Prefix}
+use Rattle.q_logic.specs.Numbered.{Slots}
+use Rattle.q_logic.specs.Pivots.{outer}
+use Rattle.q_logic.specs.Propagation.{Implied}
+use Rattle.q_logic.specs.Sets.{IsTautology}
+use Rattle.q_prop.specs.Slots.{Holds, filled}
+use Rattle.q_judge.specs.declared.pivots.Question.{Question}
+
+-- the base joined with the outer clause
+abbrev pub resolvent : Prefix → Question → Clause → Clause
+resolvent P q D = q.base.now ++ outer P q.m D
+
+-- the outer clause of a slot's clause is appended, or clashes with the base
+abbrev pub IsGathered : Prefix → Slots → Question → ℕ → List Clause → List Clause → Type 0
+IsGathered P s q at' old new =
+    ((new ≡ old) × ((D : Clause) → Holds s at' D → IsTautology (resolvent P q D)))
+    ⊎ ((D : Clause) × Holds s at' D × (new ≡ old ++ outer P q.m D ∷ []))
+
+-- the outer clauses of the slots' clauses, but of those that clash with the base, and no others
+pub record AreGathered (P : Prefix) (s : Slots) (q : Question) (slots : List ℕ) (tails : List Clause) : Type 0 where
+  pub all_there : (at : ℕ) (D : Clause) → Contains slots at → Holds s at D → IsTautology (resolvent P q D) ⊎ Contains tails (outer P q.m D)
+  pub no_other : (t : Clause) → Contains tails t → (at : ℕ) × (D : Clause) × Contains slots at × Holds s at D × (t ≡ outer P q.m D)
+
+-- the base joined with the outer clause of each of the slots' clauses is implied
+abbrev pub ResolveAt : Prefix → Slots → Question → List ℕ → Type 0
+ResolveAt P s q slots = (at' : ℕ) (D : Clause) → Contains slots at' → Holds s at' D → Implied (filled s) (resolvent P q D)
