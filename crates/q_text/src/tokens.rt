@@ -1,7 +1,7 @@
 ghost use Rattle.std.specs.Prelude.{◌≡◌, ℕ, ◌+◌, ◌-◌, ◌<◌, ◌≤◌, ◌^◌, ◌++◌, ◌==◌, [], ◌∷◌, List, if◌then◌else◌, length};
 ghost use Rattle.q_text.specs.Words.{is_separator};
 ghost use Rattle.q_text.specs.Texts.{tokens_of};
-ghost use Rattle.q_text.specs.Tokens.{to_come, listed, kind_in, token_in, handed, handed_at_end, line_of, after, begun};
+ghost use Rattle.q_text.specs.Tokens.{to_come, listed, kind_in, token_in, handed, handed_at_end, line_of, after, begun, is_zero};
 ghost use Rattle.q_text.specs.Pieces.{Goes};
 
 use crate::runs::number_word;
@@ -20,6 +20,16 @@ pub enum TokenKind {
     U,
     R,
     Other,
+}
+
+impl TokenKind {
+    /// It is the number 0.
+    #[inline(always)]
+    pub fn is_zero(self) -> bool
+        ensures { result ≡ is_zero self }
+    {
+        matches!(self, TokenKind::Number(0))
+    }
 }
 
 /// A word of the text, and the line of its first byte.
