@@ -1,10 +1,10 @@
-ghost use Rattle.std.specs.Prelude.{◌≡◌, ℕ, ◌+◌, ◌-◌, ◌<◌, ◌≤◌, ◌^◌, ◌++◌, ◌==◌, [], ◌∷◌, List, if◌then◌else◌, length};
+ghost use Rattle.std.specs.Prelude.{◌≡◌, ℕ, ◌+◌, ◌-◌, ◌<◌, ◌≤◌, ◌^◌, ◌++◌, ◌==◌, [], ◌∷◌, List, if◌then◌else◌, length, Some, IfSome};
 ghost use Rattle.q_text.specs.Words.{is_separator};
 ghost use Rattle.q_text.specs.Texts.{tokens_of};
 ghost use Rattle.q_text.specs.Tokens.{to_come, listed, kind_in, token_in, handed, handed_at_end, line_of, after, begun, is_zero};
-ghost use Rattle.q_text.specs.Pieces.{Goes};
+ghost use Rattle.q_text.specs.Pieces.{Goes, behind_literal, literal_token};
 
-use crate::runs::number_word;
+use crate::runs::{LiteralWord, literal_word, number_word};
 use crate::shape::Shape;
 
 /// What a word is. A magnitude above 2^62 is given as 2^62.
@@ -115,6 +115,27 @@ impl Tokens {
             }
         }
         (1, self.push(piece[0]))
+    }
+
+    /// The literal that stands whole at the front of the piece, with a space behind it, if it does so.
+    #[inline(always)]
+    pub fn literal(&self, piece: &[u8]) -> Option<LiteralWord>
+        ensures goes { IfSome result (λ w. Goes self.now (behind_literal self.now) piece.now (w.len + 1)
+            (Some (literal_token w.lit (line_of self.now)))) }
+        ensures positive { IfSome result (λ w. 1 ≤ w.lit.var) }
+    {
+        if !self.shape.may_begin() {
+            return None;
+        }
+        literal_word(piece)
+    }
+
+    /// Goes behind a literal and the space behind it.
+    #[inline(always)]
+    pub fn pass_literal(&mut self)
+        ensures { self.new ≡ behind_literal self.old }
+    {
+        self.shape = Shape::Between;
     }
 
     /// The token that the end of the text ends, if it ends one.
