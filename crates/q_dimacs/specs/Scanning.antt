@@ -6,7 +6,8 @@ use Rattle.q_text.specs.declared.tokens.Token.{Token}
 use Rattle.q_text.specs.declared.tokens.Tokens.{Tokens}
 use Rattle.q_text.specs.Tokens.{handed, after, token_in, kind_in, begun, line_of}
 use Rattle.q_text.specs.declared.runs.LiteralWord.{LiteralWord}
-use Rattle.q_text.specs.Pieces.{Goes, behind_literal, literal_token}
+use Rattle.q_text.specs.Pieces.{Goes, behind_literal, behind_zero, literal_token, zero_token}
+use Rattle.q_dimacs.specs.declared.builder.Place.TheVariants.{InClause}
 use Rattle.q_dimacs.specs.declared.error.ReadError.{ReadError}
 use Rattle.q_dimacs.specs.declared.error.ReadError.TheVariants.{Refused, NoMemory}
 use Rattle.q_dimacs.specs.declared.reader.Standing.{Standing}
@@ -97,6 +98,11 @@ pub record IsAhead (s : Scan) (piece : List ℕ) (w : LiteralWord) : Type 0 wher
   pub fits : takes_literals s.builder ≡ true
   pub positive : 1 ≤ w.lit.var
   pub goes : Goes s.tokens (behind_literal s.tokens) piece (w.len + 1) (Some (literal_token w.lit (line_of s.tokens)))
+
+-- a clause has begun, and a 0 and a LF stand at the front of the piece
+pub record IsZeroAhead (s : Scan) (piece : List ℕ) : Type 0 where
+  pub inside : s.builder.place ≡ InClause
+  pub goes : Goes s.tokens (behind_zero s.tokens) piece 2 (Some (zero_token (line_of s.tokens)))
 
 abbrev pub NoneWaitsIn : Standing → Gathered → Type 0
 NoneWaitsIn Reading b = NoneWaits b.place b.parts.pending

@@ -1,10 +1,11 @@
 ghost use Rattle.std.specs.Prelude.{◌≡◌, ℕ, ◌<◌, ◌≤◌, ◌-◌, length, ◌^◌, List, [], ◌++◌, true, Some, Err, IfOk, OnOk, IfErr, IfSome};
 ghost use Rattle.q_text.specs.Tokens.{line_of};
-ghost use Rattle.q_text.specs.Pieces.{literal_token};
+ghost use Rattle.q_text.specs.Pieces.{literal_token, zero_token};
+ghost use Rattle.q_dimacs.specs.declared.builder.Place.{Place};
 ghost use Rattle.q_logic.specs.declared.limits.Limits.{Limits};
 ghost use Rattle.q_logic.specs.Parts.{IsProper};
 ghost use Rattle.q_logic.specs.Limits.{AreModerate};
-ghost use Rattle.q_dimacs.specs.Scanning.{IsAhead, Feeds, Takes, Answers, HasRead, byte_step, fed, outcome, start, token_step};
+ghost use Rattle.q_dimacs.specs.Scanning.{IsAhead, IsZeroAhead, Feeds, Takes, Answers, HasRead, byte_step, fed, outcome, start, token_step};
 ghost use Rattle.q_dimacs.specs.Dimacs.{Dimacs, FormulaOf};
 ghost use Rattle.q_dimacs.specs.Offences.{Offence, ReadsOn, RefusesAll, RefusesBehind, StaysWithin, at_end, closed_with};
 ghost use Rattle.q_dimacs.specs.Reading.{end_of, takes_literals, NoneWaits};
@@ -127,8 +128,8 @@ impl Reader {
 
     // Takes some bytes at the front of the piece, one token at most.
     //
-    // Hot: nearly all tokens of a formula are literals with a space behind them. Those are told by one look at the piece
-    // and go to the clause at once; by way of a token each took 150 instructions, of which 60 asked again for what it is.
+    // Hot: nearly all of a formula is literals with a space behind them, and 0 with LF behind it. Both are told by a look
+    // at the piece, and go to the clause without a token: a token took 150 instructions, 60 of them to ask what it is.
     #[inline(always)]
     fn push_some(&mut self, piece: &[u8]) -> Result<usize, ReadError>
         requires some { 0 < length piece.now }
@@ -141,8 +142,44 @@ impl Reader {
         }
         match self.literal_ahead(piece) {
             Some(word) => self.push_literal(piece, word),
-            None => self.push_token(piece),
+            None => self.push_other(piece),
         }
+    }
+
+    #[inline(always)]
+    fn push_other(&mut self, piece: &[u8]) -> Result<usize, ReadError>
+        requires some { 0 < length piece.now }
+        requires room { length piece.now ≤ self.old.limits.bytes - self.old.taken }
+        requires reading { self.old.standing ≡ Standing.Reading }
+        ensures { Takes result self.old piece.now self.new }
+    {
+        if self.zero_ahead(piece) {
+            self.push_zero(piece)
+        } else {
+            self.push_token(piece)
+        }
+    }
+
+    // The end of a clause, and of its line.
+    #[inline(always)]
+    fn zero_ahead(&self, piece: &[u8]) -> bool
+        ensures { result ≡ true → IsZeroAhead self.now piece.now }
+    {
+        self.builder.is_in_clause() && self.tokens.zero(piece)
+    }
+
+    #[inline(always)]
+    fn push_zero(&mut self, piece: &[u8]) -> Result<usize, ReadError>
+        requires room { length piece.now ≤ self.old.limits.bytes - self.old.taken }
+        requires reading { self.old.standing ≡ Standing.Reading }
+        requires ahead { IsZeroAhead self.old piece.now }
+        ensures { Takes result self.old piece.now self.new }
+    {
+        let line = self.tokens.line();
+        self.tokens.pass_zero();
+        self.taken += 2;
+        self.take_zero(line)?;
+        Ok(2)
     }
 
     // The literal at the front of the piece, where one may come.
@@ -230,6 +267,22 @@ impl Reader {
             Ok(()) => Ok(()),
             Err(fault) => {
                 let error = fault.at(self.tokens.line());
+                self.standing = Standing::Stopped(error);
+                Err(error)
+            }
+        }
+    }
+
+    #[inline(always)]
+    fn take_zero(&mut self, line: u64) -> Result<(), ReadError>
+        requires reading { self.old.standing ≡ Standing.Reading }
+        requires inside { self.old.builder.place ≡ Place.InClause }
+        ensures { Feeds result (token_step self.old (Some (zero_token line))) self.new }
+    {
+        match self.builder.end_clause() {
+            Ok(()) => Ok(()),
+            Err(fault) => {
+                let error = fault.at(line);
                 self.standing = Standing::Stopped(error);
                 Err(error)
             }

@@ -1,5 +1,5 @@
 -- Many bytes of a text at once: what they change, and what they hand out.
-use Rattle.std.specs.Prelude.{◌≡◌, ◌≤◌, ◌<◌, ◌+◌, ◌^◌, ℕ, Bool, true, false, List, [], ◌∷◌, length, take, slice_index, Option, Some}
+use Rattle.std.specs.Prelude.{◌≡◌, ◌≤◌, ◌<◌, ◌+◌, ◌^◌, ℕ, Bool, true, false, List, [], ◌∷◌, length, take, slice_index, Option, Some, pos}
 use Rattle.q_text.specs.declared.shape.Shape.{Shape}
 use Rattle.q_text.specs.declared.shape.Shape.TheVariants.{Start, Comment, Between, Minus, Digits, C, Cn, Q, Qr, Qra, Word}
 use Rattle.q_text.specs.declared.tokens.Token.{Token}
@@ -60,6 +60,13 @@ pub record IsLiteralWord (piece : List ℕ) (w : LiteralWord) : Type 0 where
 -- the tokens behind a literal and a space
 abbrev pub behind_literal : Tokens → Tokens
 behind_literal t = record { line = t.line; shape = Between }
+
+-- the tokens behind a 0 and a LF
+abbrev pub behind_zero : Tokens → Tokens
+behind_zero t = record { line = t.line + 1; shape = Start }
+
+abbrev pub zero_token : ℕ → Token
+zero_token n = record { kind = Number (pos 0); line = n }
 
 abbrev pub literal_token : Literal → ℕ → Token
 literal_token l n = record { kind = Number (number_of l); line = n }

@@ -1,8 +1,8 @@
-ghost use Rattle.std.specs.Prelude.{◌≡◌, ℕ, ◌+◌, ◌-◌, ◌<◌, ◌≤◌, ◌^◌, ◌++◌, ◌==◌, [], ◌∷◌, List, if◌then◌else◌, length, Some, IfSome};
+ghost use Rattle.std.specs.Prelude.{◌≡◌, ℕ, ◌+◌, ◌-◌, ◌<◌, ◌≤◌, ◌^◌, ◌++◌, ◌==◌, [], ◌∷◌, List, if◌then◌else◌, length, true, Some, IfSome};
 ghost use Rattle.q_text.specs.Words.{is_separator};
 ghost use Rattle.q_text.specs.Texts.{tokens_of};
 ghost use Rattle.q_text.specs.Tokens.{to_come, listed, kind_in, token_in, handed, handed_at_end, line_of, after, begun, is_zero};
-ghost use Rattle.q_text.specs.Pieces.{Goes, behind_literal, literal_token};
+ghost use Rattle.q_text.specs.Pieces.{Goes, behind_literal, behind_zero, literal_token, zero_token};
 
 use crate::runs::{LiteralWord, literal_word, number_word};
 use crate::shape::Shape;
@@ -136,6 +136,25 @@ impl Tokens {
         ensures { self.new ≡ behind_literal self.old }
     {
         self.shape = Shape::Between;
+    }
+
+    /// A 0 and a LF stand at the front of the piece, as at the end of nearly each clause and step.
+    #[inline(always)]
+    #[tactic(auto, using(crate::proofs::Pieces::zero_goes))]
+    pub fn zero(&self, piece: &[u8]) -> bool
+        ensures { result ≡ true → Goes self.now (behind_zero self.now) piece.now 2 (Some (zero_token (line_of self.now))) }
+    {
+        self.shape.may_begin() && piece.len() >= 2 && piece[0] == b'0' && piece[1] == b'\n'
+    }
+
+    /// Goes behind a 0 and the LF behind it.
+    #[inline(always)]
+    pub fn pass_zero(&mut self)
+        requires { line_of self.old < 2 ^ 64 - 1 }
+        ensures { self.new ≡ behind_zero self.old }
+    {
+        self.line += 1;
+        self.shape = Shape::Start;
     }
 
     /// The token that the end of the text ends, if it ends one.
