@@ -5,8 +5,9 @@ use Rattle.std.proofs.Math.Seq.{take-suc, take-add}
 use Rattle.std.proofs.lemmas.List.{length-take-le, take_rest}
 use Rattle.q_text.specs.declared.tokens.Token.{Token}
 use Rattle.q_text.specs.declared.tokens.Tokens.{Tokens}
-use Rattle.q_text.specs.Tokens.{after, all_handed, handed, listed}
-use Rattle.q_text.specs.Pieces.{after_all, Goes}
+use Rattle.q_text.specs.declared.runs.LiteralWord.{LiteralWord}
+use Rattle.q_text.specs.Tokens.{after, all_handed, handed, line_of, listed}
+use Rattle.q_text.specs.Pieces.{after_all, behind_literal, literal_token, Goes}
 use Rattle.q_log.specs.declared.error.LogError.{LogError}
 use Rattle.q_log.specs.declared.error.LogError.TheVariants.{BadLine, Limit, NoMemory}
 use Rattle.q_hinted.specs.Grammar.{Place, leads, place_move}
@@ -132,6 +133,14 @@ next-behind v s new tokens piece n o a is r l g h =
     let e : w ≡ s = ap (λ (f : Option LogError). state_of v.tokens v.left v.place f) (sym r) ∙ is in
     let k = subst (λ (f : Option LogError). Answers (Ok a) new (token_turn (state_of tokens (v.left - n) v.place f) o)) r h in
     k.1 ∙ (sym (goes-behind v.tokens tokens v.left v.place piece n o l g) ∙ ap (λ (q : BothState). behind q (take n piece)) e)
+
+-- a literal at the front of the piece
+pub literal-goes : (v s : BothState) (new : Tokens) (k : ℕ) (piece : List ℕ) (w : LiteralWord) → v ≡ s → new ≡ behind_literal v.tokens → k ≡ line_of v.tokens
+    → Goes s.tokens (behind_literal s.tokens) piece (w.len + 1) (Some (literal_token w.lit (line_of s.tokens))) → Goes v.tokens new piece (w.len + 1) (Some (literal_token w.lit k))
+literal-goes v s new k piece w e f l h =
+    let g = subst (λ (x : BothState). Goes x.tokens (behind_literal x.tokens) piece (w.len + 1) (Some (literal_token w.lit (line_of x.tokens)))) (sym e) h in
+    let m = subst (λ (n : Tokens). Goes v.tokens n piece (w.len + 1) (Some (literal_token w.lit (line_of v.tokens)))) (sym f) g in
+    subst (λ (j : ℕ). Goes v.tokens new piece (w.len + 1) (Some (literal_token w.lit j))) (sym l) m
 
 -- a token that is to be tried yet
 pub reads-token : (v s new : BothState) (tokens : Tokens) (piece : List ℕ) (n : ℕ) (o : Option Token) → v ≡ s → s.refused ≡ None → length piece ≤ s.left → Goes v.tokens tokens piece n o

@@ -1,5 +1,6 @@
 ghost use Rattle.std.specs.Prelude.{◌≡◌, ℕ, true, false, None, Some, Ok};
 ghost use Rattle.q_text.specs.Tokens.{is_zero};
+ghost use Rattle.q_text.specs.Pieces.{literal_token};
 ghost use Rattle.q_logic.specs.ProofParts.{begun_part};
 ghost use Rattle.q_logic.specs.Steps.{ProofStep};
 ghost use Rattle.q_logic.specs.StepForms.{kind_of};
@@ -10,7 +11,7 @@ ghost use Rattle.q_hinted.specs.Grammar.{nowhere, steps, proving, is_open_at, pl
 ghost use Rattle.q_hinted.specs.Filled.{is_filled, is_ready, Gives};
 
 use q_log::{LogError, StepBuilder};
-use q_logic::{Kind, Proof, ProofKind, Step};
+use q_logic::{Kind, Lit, Proof, ProofKind, Step};
 use q_text::{Token, TokenKind};
 use std::alloc::Global;
 
@@ -113,6 +114,20 @@ impl EntryBuilder {
             Phase::Front => self.front(token),
             Phase::Format => self.format(token),
             Phase::Version => self.version(token),
+        }
+    }
+
+    /// Takes a literal, or a number of a proof part.
+    #[inline(always)]
+    pub fn add_literal(&mut self, lit: Lit, line: u64) -> Result<(), LogError>
+        ensures gives { Gives (quiet result) (place_move (place_of self.old) (literal_token lit line)) (place_of self.new) line }
+    {
+        match self.phase {
+            Phase::Plain | Phase::Steps => self.steps.add_literal(lit, line),
+            _ => self.add(Token {
+                kind: TokenKind::Number(lit.number() as i64),
+                line,
+            }),
         }
     }
 

@@ -1,5 +1,6 @@
 ghost use Rattle.std.specs.Prelude.{◌≡◌, ◌++◌, [], ◌∷◌, true, false, Some, None, is_some};
 ghost use Rattle.q_text.specs.Tokens.{is_zero, is_zero_ℤ};
+ghost use Rattle.q_text.specs.Pieces.{literal_token};
 ghost use Rattle.q_log.specs.Grammar.{with_number, with_literal, with_zero, is_whole, has_room, empty_step, goes_on};
 ghost use Rattle.q_log.specs.Reading.{Builds, quiet, unless_begun, begun_or_added, opened, are_plain, is_plain};
 
@@ -96,6 +97,15 @@ impl StepBuilder {
             TokenKind::R => self.begin(Kind::Remove, token.line),
             _ => Err(LogError::BadLine { line: token.line }),
         }
+    }
+
+    /// Takes a literal.
+    #[inline(always)]
+    pub fn add_literal(&mut self, lit: Lit, line: u64) -> Result<(), LogError>
+        ensures { Takes (quiet result) self.old (literal_token lit line) self.new }
+    {
+        let begun = self.begun_at(line);
+        self.literal(begun, lit, line)
     }
 
     /// The step that a 0 makes whole.
