@@ -1,4 +1,4 @@
-ghost use Rattle.std.specs.Prelude.{◌≡◌, ℕ, ◌≤◌, ◌<◌, ◌^◌, [], true, Ok, IfOk};
+ghost use Rattle.std.specs.Prelude.{◌≡◌, ◌↔◌, ℕ, ◌≤◌, ◌<◌, ◌^◌, [], IsTrue, Ok, IfOk};
 ghost use Rattle.q_dimacs.specs.declared.builder.Place.{Place};
 ghost use Rattle.q_logic.specs.Parts.{IsProper};
 ghost use Rattle.q_dimacs.specs.Building.{formula_of};
@@ -236,7 +236,7 @@ impl Builder {
     /// A clause has begun.
     #[inline(always)]
     pub fn is_in_clause(&self) -> bool
-        ensures { result ≡ true → self.now.place ≡ Place.InClause }
+        ensures { IsTrue result ↔ (self.now.place ≡ Place.InClause) }
     {
         matches!(self.place, Place::InClause)
     }
@@ -246,11 +246,10 @@ impl Builder {
     pub fn takes_literals(&self) -> bool
         ensures { result ≡ takes_literals self.now }
     {
-        match self.place {
-            Place::InClause => true,
-            Place::Outside => (self.parts.clauses() as u64) < self.count,
-            _ => false,
+        if self.is_in_clause() {
+            return true;
         }
+        matches!(self.place, Place::Outside) && (self.parts.clauses() as u64) < self.count
     }
 
     #[inline(always)]

@@ -140,10 +140,10 @@ impl Reader {
             self.push(piece[0])?;
             return Ok(1);
         }
-        match self.literal_ahead(piece) {
-            Some(word) => self.push_literal(piece, word),
-            None => self.push_other(piece),
+        if self.zero_ahead(piece) {
+            return self.push_zero(piece);
         }
+        self.push_other(piece)
     }
 
     #[inline(always)]
@@ -153,10 +153,9 @@ impl Reader {
         requires reading { self.old.standing ≡ Standing.Reading }
         ensures { Takes result self.old piece.now self.new }
     {
-        if self.zero_ahead(piece) {
-            self.push_zero(piece)
-        } else {
-            self.push_token(piece)
+        match self.literal_ahead(piece) {
+            Some(word) => self.push_literal(piece, word),
+            None => self.push_token(piece),
         }
     }
 
@@ -206,7 +205,8 @@ impl Reader {
         Ok(word.len + 1)
     }
 
-    #[inline(always)]
+    // Apart from the loop, so that what it holds in registers serves literals.
+    #[inline(never)]
     fn push_token(&mut self, piece: &[u8]) -> Result<usize, ReadError>
         requires some { 0 < length piece.now }
         requires room { length piece.now ≤ self.old.limits.bytes - self.old.taken }
@@ -224,7 +224,7 @@ impl Reader {
         }
     }
 
-    #[inline(always)]
+    #[inline(never)]
     fn push(&mut self, byte: u8) -> Result<(), ReadError>
         requires { self.old.standing ≡ Standing.Reading }
         ensures { Feeds result (byte_step self.old byte) self.new }
