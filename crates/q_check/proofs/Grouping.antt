@@ -10,7 +10,7 @@ use Rattle.q_logic.specs.Hints.{Chained}
 use Rattle.q_logic.specs.Pivots.{outer, without}
 use Rattle.q_logic.specs.Propagation.{Implied}
 use Rattle.q_logic.specs.Reach.{Reducible}
-use Rattle.q_logic.specs.Steps.{IsWarranted, IsDroppable}
+use Rattle.q_logic.specs.Steps.{FirstPivot, IsWarranted, IsDroppable}
 use Rattle.q_logic.proofs.Slots.{live-slot}
 use Rattle.q_check.proofs.Ascending.{with-in}
 use Rattle.q_logic.specs.Numbered.{Slots, slot, live}
@@ -120,14 +120,9 @@ resolving P N base m skip t hints yes' n x D e =
     subst (λ (b : Bool). Explains (left_out skip N) (base ++ outer P m D) hints b) n (x D (left_out-slot skip N t D e))
 
 -- neither implied, nor by the first literal
-pub unwarranted : (P : Prefix) (N : Slots) (C : Clause) (p : Option Literal) (l : Literal) → ¬ Implied (live N) C → p ≡ Some l →
-    ¬ ((D : Clause) → IsIn D (live N) → IsIn (negation l) D → Implied (live N) (C ++ outer P (negation l) D)) → ¬ IsWarranted P (live N) C p
-unwarranted P N C p l a e b (inl i) = a i
-unwarranted P N C p l a e b (inr (k, f, h)) =
-    b (subst (λ (x : Literal). (D : Clause) → IsIn D (live N) → IsIn (negation x) D → Implied (live N) (C ++ outer P (negation x) D)) (inner k l (sym f ∙ e)) h.implied)
-  where
-    inner : (j k : Literal) → Some j ≡ Some k → j ≡ k
-    inner j k q = cc
+pub unwarranted : (P : Prefix) (N : Slots) (C : Clause) (p : Option Literal) → ¬ Implied (live N) C → ¬ FirstPivot P (live N) C p → ¬ IsWarranted P (live N) C p
+unwarranted P N C p a b (inl i) = a i
+unwarranted P N C p a b (inr f) = b f
 
 pub undroppable : (P : Prefix) (N : Slots) (C : Clause) (l : Literal) → ¬ Reducible P (live N) C l →
     ¬ ((D : Clause) → IsIn D (live N) → IsIn (negation l) D → Implied (live N) (without l C ++ outer P (negation l) D)) → ¬ IsDroppable P (live N) C l

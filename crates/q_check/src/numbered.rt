@@ -11,6 +11,7 @@ ghost use Rattle.q_logic.specs.Pivots.{outer, without};
 ghost use Rattle.q_logic.specs.Prefixes.{is_bound, is_existential, is_universal};
 ghost use Rattle.q_logic.specs.Reach.{Reducible};
 ghost use Rattle.q_logic.specs.Runs.{SameFormula};
+ghost use Rattle.q_logic.specs.StepForms.{IsFirst};
 ghost use Rattle.q_logic.specs.Steps.{Within, KeepsLimits, IsAbsent, insert_after, removed_from, literals_in, IsWarranted, delete};
 ghost use Rattle.q_logic.specs.Hints.{Chained};
 ghost use Rattle.q_judge.specs.Tried.{IsEndRefusal, IsEntry};
@@ -108,6 +109,17 @@ impl NumberedBook {
             return Ok(false);
         };
         self.ledger.is_reducible(at, clause, lit)
+    }
+
+    /// Whether the first literal blocks the clause, over the clauses of all numbers but one: each resolvent is a tautology.
+    /// Takes no propagation.
+    pub fn is_blocked(&self, skip: Option<usize>, clause: &[Lit], first: &Option<Lit>) -> bool
+        requires within { Within self.now.prefix clause.now }
+        requires first { IsFirst first.now clause.now }
+        ensures { IsTrue result → IsWarranted self.now.prefix (live (left_out skip self.now.slots)) clause.now first.now }
+    {
+        let left_out = skipped_slot(&self.numbers, skip);
+        self.ledger.is_blocked(left_out, clause, first)
     }
 
     /// Whether the literals are implied by propagation, over the clauses of all numbers but one; and hints that show it.

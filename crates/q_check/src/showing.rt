@@ -1,14 +1,15 @@
 //! Proof parts for steps: the hints by which a clause is implied, or by which all clauses with the negation of its
 //! first literal resolve. What is shown is tried in the order in which the checker tries it.
-ghost use Rattle.std.specs.Prelude.{◌≡◌, ◌≢◌, ◌+◌, [], true, Some, IfOk, OnOk};
+ghost use Rattle.std.specs.Prelude.{◌≡◌, ◌≢◌, ◌+◌, [], true, Some, IfOk, IfSome, OnOk};
 ghost use Rattle.q_logic.specs.declared.proof_part.ProofKind.TheVariants.{Pivot as ByPivot};
 ghost use Rattle.q_logic.specs.Formulas.{IsIn};
+ghost use Rattle.q_logic.specs.Hinted.{Shows};
 ghost use Rattle.q_logic.specs.Numbered.{slot};
 ghost use Rattle.q_logic.specs.Pivots.{without};
 ghost use Rattle.q_logic.specs.Prefixes.{is_bound};
 ghost use Rattle.q_logic.specs.StepForms.{IsFirst};
 ghost use Rattle.q_logic.specs.Steps.{Within};
-ghost use Rattle.q_check.specs.Annotations.{with_hints, with_hinted_group, implied_part, number_in, IsResolved, IsShown, IsDropShown};
+ghost use Rattle.q_check.specs.Annotations.{with_hints, with_hinted_group, implied_part, number_in, IsByPivot, IsResolved, IsShown, IsDropShown};
 ghost use Rattle.q_check.specs.Numbers.{left_out};
 
 use crate::numbered::NumberedBook;
@@ -24,7 +25,10 @@ pub struct HintRows {
 }
 
 impl HintRows {
-    pub fn new(alloc: Global) -> HintRows {
+    pub fn new(alloc: Global) -> HintRows
+        ensures targets { result.targets.items ≡ [] }
+        ensures hints { result.hints.items ≡ [] }
+    {
         HintRows {
             targets: Vec::new(alloc),
             hints: Vec::new(alloc),
@@ -90,7 +94,56 @@ fn resolve(
     Ok(true)
 }
 
-/// Shows why the clause may come, or why the one with a number may go.
+// The proof by the first literal, where that is an existential pivot.
+fn by_pivot(
+    alloc: Global,
+    book: &mut NumberedBook,
+    rows: &mut HintRows,
+    skip: Option<usize>,
+    clause: &[Lit],
+    first: &Option<Lit>,
+) -> Result<Option<Proof>, NoMemory>
+    requires within { Within book.old.prefix clause.now }
+    requires first { IsFirst first.now clause.now }
+    ensures same { book.new ≡ book.old }
+    ensures exact { IfOk result (IsByPivot book.old.prefix (left_out skip book.old.slots) clause.now first.now (number_in skip)) }
+{
+    let Some(pivot) = first else {
+        return Ok(None);
+    };
+    if !book.scope().is_existential(pivot.var()) {
+        return Ok(None);
+    }
+    let mut proof = Proof::new(alloc, ProofKind::Pivot, skip.unwrap_or(0) as u64);
+    if resolve(book, rows, skip, clause, pivot.negated(), &mut proof)? {
+        return Ok(Some(proof));
+    }
+    Ok(None)
+}
+
+// The same where the clause looks blocked. That is a guess alone: a pivot whose resolvents are tautologies needs neither
+// propagation nor hints.
+fn by_block(
+    alloc: Global,
+    book: &mut NumberedBook,
+    rows: &mut HintRows,
+    skip: Option<usize>,
+    clause: &[Lit],
+    first: &Option<Lit>,
+) -> Result<Option<Proof>, NoMemory>
+    requires within { Within book.old.prefix clause.now }
+    requires first { IsFirst first.now clause.now }
+    ensures same { book.new ≡ book.old }
+    ensures shown { IfOk result (λ o. IfSome o (λ t. (t.number ≡ number_in skip)
+        × Shows book.old.prefix (left_out skip book.old.slots) clause.now first.now t)) }
+{
+    if book.is_blocked(skip, clause, first) {
+        return by_pivot(alloc, book, rows, skip, clause, first);
+    }
+    Ok(None)
+}
+
+/// Shows why the clause may come, or why the one with a number may go. A pivot that needs no propagation is tried first.
 pub fn show(
     alloc: Global,
     book: &mut NumberedBook,
@@ -104,22 +157,17 @@ pub fn show(
     ensures same { book.new ≡ book.old }
     ensures shown { IsShown book.old.prefix (left_out skip book.old.slots) clause.now first (number_in skip) result }
 {
-    let number = skip.unwrap_or(0) as u64;
-    if book.explained(clause, skip, &mut rows.hints)? {
-        let proof = by_hints(alloc, number, &rows.hints)?;
+    if let Some(proof) = by_block(alloc, book, rows, skip, clause, &first)? {
         return Ok(proof);
     }
-    let Some(pivot) = first else {
-        return Err(Cause::Unwarranted.refusal());
-    };
-    if !book.scope().is_existential(pivot.var()) {
-        return Err(Cause::Unwarranted.refusal());
+    if book.explained(clause, skip, &mut rows.hints)? {
+        let proof = by_hints(alloc, skip.unwrap_or(0) as u64, &rows.hints)?;
+        return Ok(proof);
     }
-    let mut proof = Proof::new(alloc, ProofKind::Pivot, number);
-    if !resolve(book, rows, skip, clause, pivot.negated(), &mut proof)? {
-        return Err(Cause::Unwarranted.refusal());
+    match by_pivot(alloc, book, rows, skip, clause, &first)? {
+        Some(proof) => Ok(proof),
+        None => Err(Cause::Unwarranted.refusal()),
     }
-    Ok(proof)
 }
 
 /// Shows why the clause with a number may lose a literal. `rest` is the clause without it.
