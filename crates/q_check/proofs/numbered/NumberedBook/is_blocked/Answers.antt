@@ -14,4 +14,4 @@ returns c =
     let N = left_out c.args.skip (numbered_by s ps) in
     let w = linked s ps c.self.invariant c.args.skip in
     let blocked = rw c.skipped_slot-left_out.ensures at c.is_blocked.ensures in
-    rw (← c.self.view_is) (λ yes'. warranted-within c.self.inside.ledger.prefix (filled S) (live N) c.args.clause.now c.args.first.now (linked-forth S N ps w) (linked-back S N ps w) (inr (blocked yes')))
+    rw (← c.self.view_is) (λ yes'. warranted-within c.self.inside.ledger.prefix (filled S) (live N) c.args.named.now.clause.now c.args.named.now.first (linked-forth S N ps w) (linked-back S N ps w) (inr (blocked yes')))
