@@ -9,7 +9,7 @@ use Rattle.q_check.proofs.annotator.annotate.Goals as goal
 pub returns-in_ok-load_clause-in-Delete : goal.returns-in_ok-load_clause-in-Delete
 returns-in_ok-load_clause-in-Delete c =
     let w = c.lits-lits.ensures.whole ∙ ap (λ (k : Kind). step_of k c.lits-lits.result.now) (sym c.kind.ensures ∙ c.in-Delete.is) in
-    let t = rw (c.first_lit-in-Delete.ensures, c.deref-in-Delete.ensures.value, c.in_ok-load_clause-in-Delete.ensures) at c.delete.ensures c.args.limits in
+    let t = rw (c.first_lit-first-in-Delete.ensures, c.deref-in-Delete.ensures.value, c.in_ok-load_clause-in-Delete.ensures) at c.delete.ensures c.args.limits in
     subst (λ (s : ProofStep). IsAnnotated c.args.limits c.args.book.now s c.delete.new.book c.delete.result) (sym w) t
 
 pub returns-in_ok-load_rest-in-Drop : goal.returns-in_ok-load_rest-in-Drop

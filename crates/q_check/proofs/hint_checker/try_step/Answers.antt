@@ -9,13 +9,13 @@ use Rattle.q_check.proofs.hint_checker.try_step.Goals as goal
 pub returns-in_ok-load_clause-in-Add : goal.returns-in_ok-load_clause-in-Add
 returns-in_ok-load_clause-in-Add c =
     let w = c.lits-lits.ensures.whole ∙ ap (λ (k : Kind). step_of k c.lits-lits.result.now) (sym c.kind.ensures ∙ c.in-Add.is) in
-    let t = rw (c.first_lit.ensures, c.deref.ensures.value, c.in_ok-load_clause-in-Add.ensures) at c.add.ensures c.args.settings.keeps in
+    let t = rw (c.first_lit-first.ensures, c.deref.ensures.value, c.in_ok-load_clause-in-Add.ensures) at c.add.ensures c.args.settings.keeps in
     subst (λ (s : ProofStep). IsHintTried c.args.settings.keeps c.args.settings.limits c.args.book.now s c.args.proof.now c.add.new.book c.add.result) (sym w) t
 
 pub returns-in_ok-load_clause-in-Delete : goal.returns-in_ok-load_clause-in-Delete
 returns-in_ok-load_clause-in-Delete c =
     let w = c.lits-lits.ensures.whole ∙ ap (λ (k : Kind). step_of k c.lits-lits.result.now) (sym c.kind.ensures ∙ c.in-Delete.is) in
-    let t = rw (c.deref-in-Delete.ensures.value, c.in_ok-load_clause-in-Delete.ensures) at c.delete.ensures c.args.settings.limits in
+    let t = rw (c.first_lit-first-in-Delete.ensures, c.deref-in-Delete.ensures.value, c.in_ok-load_clause-in-Delete.ensures) at c.delete.ensures c.args.settings.limits in
     subst (λ (s : ProofStep). IsHintTried c.args.settings.keeps c.args.settings.limits c.args.book.now s c.args.proof.now c.delete.new.book c.delete.result) (sym w) t
 
 pub returns-in_ok-load_rest-in-Drop : goal.returns-in_ok-load_rest-in-Drop
