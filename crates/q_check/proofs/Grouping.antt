@@ -10,14 +10,14 @@ use Rattle.q_logic.specs.Hints.{Chained}
 use Rattle.q_logic.specs.Pivots.{outer, without}
 use Rattle.q_logic.specs.Propagation.{Implied}
 use Rattle.q_logic.specs.Reach.{Reducible}
-use Rattle.q_logic.specs.Steps.{IsWarranted, IsDroppable}
+use Rattle.q_logic.specs.Steps.{FirstPivot, IsWarranted, IsDroppable}
 use Rattle.q_logic.proofs.Slots.{live-slot}
 use Rattle.q_check.proofs.Ascending.{with-in}
 use Rattle.q_logic.specs.Numbered.{Slots, slot, live}
 use Rattle.q_logic.specs.ProofParts.{hint_last, with_hint, with_group, begun_part}
 use Rattle.q_check.specs.Annotations.{hints_last, with_hints, with_hinted_group, implied_part}
 use Rattle.q_check.specs.Numbers.{left_out, Explains}
-use Rattle.q_check.proofs.Naming.{slot-emptied}
+use Rattle.q_check.proofs.Resolving.{left-slot}
 
 pub hints_last-push : (ns : List ℕ) (n : ℕ) (gs : List HintGroup) → hints_last (ns ++ n ∷ []) gs ≡ hint_last n (hints_last ns gs)
 hints_last-push [] n gs = refl
@@ -48,10 +48,6 @@ hints_last-at (n ∷ ns) gs t hs =
     ap (hints_last ns) (hint_last-at n gs (record { target = t; hints = hs })) ∙
     hints_last-at ns gs t (hs ++ n ∷ []) ∙
     ap (λ (xs : List ℕ). gs ++ record { target = t; hints = xs } ∷ []) (append_assoc hs (n ∷ []) ns)
-
-pub left_out-slot : (skip : Option ℕ) (N : Slots) (n : ℕ) (D : Clause) → slot (left_out skip N) n ≡ Some D → slot N n ≡ Some D
-left_out-slot None N n D e = e
-left_out-slot (Some k) N n D e = (slot-emptied N k n D e).1
 
 pub targets-push : (gs : List HintGroup) (g : HintGroup) → map (λ (x : HintGroup). x.target) (gs ++ g ∷ []) ≡ map (λ (x : HintGroup). x.target) gs ++ g.target ∷ []
 targets-push [] g = refl
@@ -110,24 +106,19 @@ unresolved P N base m skip targets i t hints yes' e l q n x f =
     let k : IsIn t (numbers_with m 0 (left_out skip N)) = subst (λ (xs : List ℕ). IsIn t xs) e (subst (λ (y : ℕ). IsIn y targets) (sym q) (at-in targets i t l)) in
     let w = with-in m 0 (left_out skip N) t k in
     let there : slot (left_out skip N) t ≡ Some w.1 = subst (λ (j : ℕ). slot (left_out skip N) j ≡ Some w.1) (let p = w.2 in omega arith) w.3 in
-    let not_it = subst (λ (b : Bool). Explains (left_out skip N) (base ++ outer P m w.1) hints b) n (x w.1 (left_out-slot skip N t w.1 there)) in
+    let not_it = subst (λ (b : Bool). Explains (left_out skip N) (base ++ outer P m w.1) hints b) n (x w.1 (left-slot skip N t w.1 there)) in
     not_it (f w.1 (live-slot (left_out skip N) t w.1 there) w.4)
 
 pub resolving : (P : Prefix) (N : Slots) (base : Clause) (m : Literal) (skip : Option ℕ) (t : ℕ) (hints : List ℕ) (yes' : Bool) → yes' ≡ true →
     ((D : Clause) → slot N t ≡ Some D → Explains (left_out skip N) (base ++ outer P m D) hints yes') →
     (D : Clause) → slot (left_out skip N) t ≡ Some D → Chained (left_out skip N) (base ++ outer P m D) hints
 resolving P N base m skip t hints yes' n x D e =
-    subst (λ (b : Bool). Explains (left_out skip N) (base ++ outer P m D) hints b) n (x D (left_out-slot skip N t D e))
+    subst (λ (b : Bool). Explains (left_out skip N) (base ++ outer P m D) hints b) n (x D (left-slot skip N t D e))
 
 -- neither implied, nor by the first literal
-pub unwarranted : (P : Prefix) (N : Slots) (C : Clause) (p : Option Literal) (l : Literal) → ¬ Implied (live N) C → p ≡ Some l →
-    ¬ ((D : Clause) → IsIn D (live N) → IsIn (negation l) D → Implied (live N) (C ++ outer P (negation l) D)) → ¬ IsWarranted P (live N) C p
-unwarranted P N C p l a e b (inl i) = a i
-unwarranted P N C p l a e b (inr (k, f, h)) =
-    b (subst (λ (x : Literal). (D : Clause) → IsIn D (live N) → IsIn (negation x) D → Implied (live N) (C ++ outer P (negation x) D)) (inner k l (sym f ∙ e)) h.implied)
-  where
-    inner : (j k : Literal) → Some j ≡ Some k → j ≡ k
-    inner j k q = cc
+pub unwarranted : (P : Prefix) (N : Slots) (C : Clause) (p : Option Literal) → ¬ Implied (live N) C → ¬ FirstPivot P (live N) C p → ¬ IsWarranted P (live N) C p
+unwarranted P N C p a b (inl i) = a i
+unwarranted P N C p a b (inr f) = b f
 
 pub undroppable : (P : Prefix) (N : Slots) (C : Clause) (l : Literal) → ¬ Reducible P (live N) C l →
     ¬ ((D : Clause) → IsIn D (live N) → IsIn (negation l) D → Implied (live N) (without l C ++ outer P (negation l) D)) → ¬ IsDroppable P (live N) C l

@@ -1,15 +1,15 @@
 -- What an annotator answers: proof parts that show the steps.
 use Rattle.std.specs.Prelude.{◌≡◌, ℕ, List, [], ◌∷◌, ◌++◌, Bool, true, false, Option, None, Some, Result, Ok, Err}
 use Rattle.q_logic.specs.declared.limits.Limits.{Limits}
-use Rattle.q_logic.specs.declared.proof_part.ProofKind.TheVariants.{Nothing, Implied as ByHints, Reach}
+use Rattle.q_logic.specs.declared.proof_part.ProofKind.TheVariants.{Nothing, Implied as ByHints, Pivot, Reach}
 use Rattle.q_logic.specs.Literals.{Literal}
 use Rattle.q_logic.specs.Formulas.{Clause, Prefix, IsIn}
-use Rattle.q_logic.specs.Hinted.{NumberedFormula, HintGroup, ProofPart, Resolved, Shows, ShowsDrop, HintedValid, hinted_after, plain}
+use Rattle.q_logic.specs.Hinted.{NumberedFormula, HintGroup, ProofPart, Resolved, Shows, ShowsPivot, ShowsDrop, HintedValid, hinted_after, plain}
 use Rattle.q_logic.specs.Numbered.{Slots, live}
 use Rattle.q_logic.specs.Pivots.{outer}
 use Rattle.q_logic.specs.ProofParts.{hint_last}
 use Rattle.q_logic.specs.Propagation.{Implied}
-use Rattle.q_logic.specs.Steps.{ProofStep, add, delete, drop_literal, fresh, remove_variable, Cause, IsWarranted, IsDroppable}
+use Rattle.q_logic.specs.Steps.{ProofStep, add, delete, drop_literal, fresh, remove_variable, Cause, FirstPivot, IsWarranted, IsDroppable}
 use Rattle.q_judge.specs.declared.error.CheckError.{CheckError}
 use Rattle.q_judge.specs.declared.error.CheckError.TheVariants.{Refused, NoMemory}
 
@@ -37,6 +37,11 @@ abbrev pub IsResolved : Prefix → Slots → Clause → Literal → ProofPart �
 IsResolved P N base m t true = Resolved P N base m t.groups
 IsResolved P N base m t false =
     ¬ ((D : Clause) → IsIn D (live N) → IsIn m D → Implied (live N) (base ++ outer P m D))
+
+-- the first literal is shown to be a pivot, or it is none
+abbrev pub IsByPivot : Prefix → Slots → Clause → Option Literal → ℕ → Option ProofPart → Type 0
+IsByPivot P N C p n (Some t) = (t.number ≡ n) × (t.kind ≡ Pivot) × ShowsPivot P N C p t.groups
+IsByPivot P N C p n None = ¬ FirstPivot P (live N) C p
 
 -- why a clause may come or go, beside the clauses N, is shown, or it may not
 abbrev pub IsShown : Prefix → Slots → Clause → Option Literal → ℕ → Result ProofPart CheckError → Type 0

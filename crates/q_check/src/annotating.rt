@@ -11,81 +11,76 @@ ghost use Rattle.q_logic.specs.Steps.{add, delete, drop_literal, fresh, remove_v
 ghost use Rattle.q_logic.specs.declared.limits.Limits.{Limits as AnyLimits};
 ghost use Rattle.q_check.specs.Annotations.{IsAnnotated};
 
+use crate::named::{Cut, Named};
 use crate::numbered::NumberedBook;
-use crate::showing::{HintRows, show, show_drop};
+use crate::rows::HintRows;
+use crate::showing::{show, show_drop};
 use q_judge::{Cause, CheckError, binds_all, takes_fresh};
-use q_logic::{Limits, Lit, Proof, ProofKind};
+use q_logic::{Limits, Proof, ProofKind};
 use std::alloc::Global;
 
 /// A clause comes.
 pub fn add(
-    alloc: Global,
     book: &mut NumberedBook,
     rows: &mut HintRows,
     limits: Limits,
-    clause: &[Lit],
-    first: Option<Lit>,
+    named: &Named,
 ) -> Result<Proof, CheckError>
     requires limits { AreModerate limits }
-    requires ordered { ArePairs IsBelow clause.now }
-    requires first { IsFirst first clause.now }
-    ensures { IsAnnotated limits book.old (add first clause.now) book.new result }
+    requires ordered { ArePairs IsBelow named.now.clause.now }
+    requires first { IsFirst named.now.first named.now.clause.now }
+    ensures { IsAnnotated limits book.old (add named.now.first named.now.clause.now) book.new result }
 {
-    if !binds_all(book.scope(), clause) {
+    if !binds_all(book.scope(), named.clause) {
         return Err(Cause::Unbound.refusal());
     }
-    let proof = show(alloc, book, rows, None, clause, first)?;
-    if !book.has_room(limits, clause) {
+    let proof = show(book, rows, None, named)?;
+    if !book.has_room(limits, named.clause) {
         return Err(Cause::Limit.refusal());
     }
-    book.add(clause)?;
+    book.add(named.clause)?;
     Ok(proof)
 }
 
 /// A clause goes.
 pub fn delete(
-    alloc: Global,
     book: &mut NumberedBook,
     rows: &mut HintRows,
-    clause: &[Lit],
-    first: Option<Lit>,
+    named: &Named,
 ) -> Result<Proof, CheckError>
-    requires { IsFirst first clause.now }
-    ensures { (m : AnyLimits) → IsAnnotated m book.old (delete first clause.now) book.new result }
+    requires { IsFirst named.now.first named.now.clause.now }
+    ensures { (m : AnyLimits) → IsAnnotated m book.old (delete named.now.first named.now.clause.now) book.new result }
 {
-    if !binds_all(book.scope(), clause) {
+    if !binds_all(book.scope(), named.clause) {
         return Err(Cause::Unbound.refusal());
     }
-    let Some(number) = book.find(clause) else {
+    let Some(number) = book.find(named.clause) else {
         return Err(Cause::NoClause.refusal());
     };
-    let proof = show(alloc, book, rows, Some(number), clause, first)?;
-    book.delete(number, clause);
+    let proof = show(book, rows, Some(number), named)?;
+    book.delete(number, named.clause);
     Ok(proof)
 }
 
-/// A clause loses a literal. `rest` is the clause without it.
+/// A clause loses a literal.
 pub fn drop_literal(
-    alloc: Global,
     book: &mut NumberedBook,
     rows: &mut HintRows,
-    clause: &[Lit],
-    rest: &[Lit],
-    lit: Lit,
+    cut: &Cut,
 ) -> Result<Proof, CheckError>
-    requires ordered { ArePairs IsBelow clause.now }
-    requires held { IsIn lit clause.now }
-    requires rest { rest.now ≡ without lit clause.now }
-    ensures { (m : AnyLimits) → IsAnnotated m book.old (drop_literal lit clause.now) book.new result }
+    requires ordered { ArePairs IsBelow cut.now.clause.now }
+    requires held { IsIn cut.now.lit cut.now.clause.now }
+    requires rest { cut.now.rest.now ≡ without cut.now.lit cut.now.clause.now }
+    ensures { (m : AnyLimits) → IsAnnotated m book.old (drop_literal cut.now.lit cut.now.clause.now) book.new result }
 {
-    if !binds_all(book.scope(), clause) {
+    if !binds_all(book.scope(), cut.clause) {
         return Err(Cause::Unbound.refusal());
     }
-    let Some(number) = book.find(clause) else {
+    let Some(number) = book.find(cut.clause) else {
         return Err(Cause::NoClause.refusal());
     };
-    let proof = show_drop(alloc, book, rows, number, clause, rest, lit)?;
-    book.shorten(number, clause, rest)?;
+    let proof = show_drop(book, rows, number, cut)?;
+    book.shorten(number, cut.clause, cut.rest)?;
     Ok(proof)
 }
 

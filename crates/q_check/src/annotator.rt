@@ -10,23 +10,21 @@ ghost use Rattle.q_check.specs.Annotations.{HasForm, IsAnnotated};
 ghost use Rattle.q_check.specs.Checked.{IsRefusal};
 
 use crate::annotating::{add, delete, drop_literal, fresh, remove};
+use crate::named::{Cut, Named};
 use crate::numbered::NumberedBook;
-use crate::showing::HintRows;
+use crate::rows::StepRows;
 use q_judge::{CheckError, first_lit, load_clause, load_rest};
-use q_logic::{Formula, Kind, Limits, Lit, Proof, Step};
+use q_logic::{Formula, Kind, Limits, Proof, Step};
 use std::alloc::Global;
 use std::marker::Model;
 
 /// Tries the steps of a proof, one after the other, and shows each by hints.
 #[derive(Drop)]
 pub struct Annotator {
-    alloc: Global,
     book: NumberedBook,
     limits: Limits,
     steps: u64,
-    rows: HintRows,
-    clause: Vec<Lit>,
-    rest: Vec<Lit>,
+    rows: StepRows,
 }
 
 impl Model for Annotator {
@@ -48,13 +46,10 @@ impl Annotator {
     {
         let book = NumberedBook::start(alloc, formula)?;
         Ok(Annotator {
-            alloc,
             book,
             limits,
             steps: 0,
-            rows: HintRows::new(alloc),
-            clause: Vec::new(alloc),
-            rest: Vec::new(alloc),
+            rows: StepRows::new(alloc),
         })
     }
 
@@ -76,15 +71,7 @@ impl Annotator {
         ensures refused { IfErr result (IsRefusal self.old.limits (plain self.old.formula) step.now) }
         ensures unchanged { OnErr result (self.new ≡ self.old) }
     {
-        let proof = annotate(
-            self.alloc,
-            &mut self.book,
-            &mut self.rows,
-            &mut self.clause,
-            &mut self.rest,
-            self.limits,
-            step,
-        )?;
+        let proof = annotate(&mut self.book, &mut self.rows, self.limits, step)?;
         self.steps += 1;
         Ok(proof)
     }
@@ -100,11 +87,8 @@ impl Annotator {
 
 // Tries the step on the formula, and shows it.
 fn annotate(
-    alloc: Global,
     book: &mut NumberedBook,
-    rows: &mut HintRows,
-    clause: &mut Vec<Lit>,
-    rest: &mut Vec<Lit>,
+    rows: &mut StepRows,
     limits: Limits,
     step: &Step,
 ) -> Result<Proof, CheckError>
@@ -112,21 +96,29 @@ fn annotate(
     ensures { IsAnnotated limits book.old step.now book.new result }
 {
     let lits = step.lits();
+    let StepRows {
+        clause,
+        rest,
+        hints,
+    } = rows;
     match step.kind() {
         Kind::Add => {
             load_clause(clause, lits)?;
-            add(alloc, book, rows, limits, clause, first_lit(lits))
+            let first = first_lit(lits);
+            add(book, hints, limits, &Named { clause, first })
         }
         Kind::Delete => {
             load_clause(clause, lits)?;
-            delete(alloc, book, rows, clause, first_lit(lits))
+            let first = first_lit(lits);
+            delete(book, hints, &Named { clause, first })
         }
         Kind::Drop => {
             load_clause(clause, lits)?;
             load_rest(rest, lits)?;
-            drop_literal(alloc, book, rows, clause, rest, lits[0])
+            let lit = lits[0];
+            drop_literal(book, hints, &Cut { clause, rest, lit })
         }
-        Kind::Fresh => fresh(alloc, book, limits, lits[0].var(), lits[1].var()),
-        Kind::Remove => remove(alloc, book, lits[0].var()),
+        Kind::Fresh => fresh(hints.alloc, book, limits, lits[0].var(), lits[1].var()),
+        Kind::Remove => remove(hints.alloc, book, lits[0].var()),
     }
 }

@@ -8,9 +8,10 @@ ghost use Rattle.q_judge.specs.Ledgers.{formula_in};
 ghost use Rattle.q_judge.specs.Tried.{IsEndRefusal, IsTried};
 ghost use Rattle.q_check.specs.Checked.{HasGrown, IsRefusal};
 
+use crate::rows::{Settings, StepRows};
 use crate::tries;
 use q_judge::{CheckError, Ledger, Undo, Undos, first_lit, load_clause, load_rest};
-use q_logic::{Formula, Kind, Limits, Lit, Step};
+use q_logic::{Formula, Kind, Limits, Step};
 use std::alloc::Global;
 use std::marker::Model;
 
@@ -19,10 +20,8 @@ use std::marker::Model;
 pub struct Checker {
     ledger: Ledger,
     undo: Vec<Undo>,
-    limits: Limits,
-    keeps: bool,
-    clause: Vec<Lit>,
-    rest: Vec<Lit>,
+    settings: Settings,
+    rows: StepRows,
 }
 
 impl Model for Checker {
@@ -34,9 +33,9 @@ impl Model for Checker {
 
     ghost Value = { Checked };
 
-    ghost view = { λ c. record { formula = formula_in c.ledger; undo = map entry_of c.undo.items; limits = c.limits; keeps = c.keeps } };
+    ghost view = { λ c. record { formula = formula_in c.ledger; undo = map entry_of c.undo.items; limits = c.settings.limits; keeps = c.settings.keeps } };
 
-    ghost invariant = { λ c. AreModerate c.limits };
+    ghost invariant = { λ c. AreModerate c.settings.limits };
 }
 
 /// What an accepted proof leaves.
@@ -60,10 +59,11 @@ impl Checker {
         Ok(Checker {
             ledger,
             undo: Vec::new(alloc),
-            limits,
-            keeps: keep_undo,
-            clause: Vec::new(alloc),
-            rest: Vec::new(alloc),
+            settings: Settings {
+                limits,
+                keeps: keep_undo,
+            },
+            rows: StepRows::new(alloc),
         })
     }
 
@@ -77,14 +77,7 @@ impl Checker {
         ensures unchanged { OnErr result (self.new ≡ self.old) }
     {
         self.undo.reserve(1)?;
-        let entry = try_step(
-            &mut self.ledger,
-            &mut self.clause,
-            &mut self.rest,
-            self.limits,
-            self.keeps,
-            step,
-        )?;
+        let entry = try_step(&mut self.ledger, &mut self.rows, self.settings, step)?;
         if let Some(entry) = entry {
             self.undo.push_reserved(entry);
         }
@@ -107,31 +100,31 @@ impl Checker {
 // Tries the step on the formula.
 fn try_step(
     ledger: &mut Ledger,
-    clause: &mut Vec<Lit>,
-    rest: &mut Vec<Lit>,
-    limits: Limits,
-    keeps: bool,
+    rows: &mut StepRows,
+    settings: Settings,
     step: &Step,
 ) -> Result<Option<Undo>, CheckError>
-    requires { AreModerate limits }
-    ensures { IsTried keeps limits (formula_in ledger.old) step.now (formula_in ledger.new) result }
+    requires { AreModerate settings.limits }
+    ensures { IsTried settings.keeps settings.limits (formula_in ledger.old) step.now (formula_in ledger.new) result }
 {
     let lits = step.lits();
+    let clause = &mut rows.clause;
+    let rest = &mut rows.rest;
     match step.kind() {
         Kind::Add => {
             load_clause(clause, lits)?;
-            tries::add(ledger, limits, clause, first_lit(lits))
+            tries::add(ledger, settings.limits, clause, first_lit(lits))
         }
         Kind::Delete => {
             load_clause(clause, lits)?;
-            tries::delete(ledger, clause, lits, keeps)
+            tries::delete(ledger, clause, lits, settings.keeps)
         }
         Kind::Drop => {
             load_clause(clause, lits)?;
             load_rest(rest, lits)?;
             tries::drop_literal(ledger, clause, rest, lits[0])
         }
-        Kind::Fresh => tries::fresh(ledger, limits, lits[0].var(), lits[1].var(), keeps),
-        Kind::Remove => tries::remove(ledger, lits[0].var(), keeps),
+        Kind::Fresh => tries::fresh(ledger, settings, lits[0].var(), lits[1].var()),
+        Kind::Remove => tries::remove(ledger, lits[0].var(), settings.keeps),
     }
 }

@@ -11,27 +11,20 @@ ghost use Rattle.q_check.specs.HintChecks.{IsHintRefusal, IsHintTried};
 
 use crate::checker::Verified;
 use crate::hinted::{add, delete, drop_literal, fresh, remove};
+use crate::named::{Cut, Named};
 use crate::numbered::NumberedBook;
+use crate::rows::{Settings, StepRows};
 use q_judge::{CheckError, Undo, Undos, first_lit, load_clause, load_rest};
-use q_logic::{Formula, Kind, Limits, Lit, Proof, Step};
+use q_logic::{Formula, Kind, Limits, Proof, Step};
 use std::alloc::Global;
 use std::marker::Model;
-
-/// Rows that are used again from step to step.
-#[derive(Drop)]
-struct StepRows {
-    clause: Vec<Lit>,
-    rest: Vec<Lit>,
-    targets: Vec<u64>,
-}
 
 /// Tries the steps of a proof with hints, one after the other.
 #[derive(Drop)]
 pub struct HintChecker {
     book: NumberedBook,
     undo: Vec<Undo>,
-    limits: Limits,
-    keeps: bool,
+    settings: Settings,
     steps: u64,
     rows: StepRows,
 }
@@ -44,9 +37,9 @@ impl Model for HintChecker {
 
     ghost Value = { HintChecked };
 
-    ghost view = { λ c. record { formula = c.book; undo = map entry_of c.undo.items; limits = c.limits; keeps = c.keeps; steps = c.steps } };
+    ghost view = { λ c. record { formula = c.book; undo = map entry_of c.undo.items; limits = c.settings.limits; keeps = c.settings.keeps; steps = c.steps } };
 
-    ghost invariant = { λ c. AreModerate c.limits };
+    ghost invariant = { λ c. AreModerate c.settings.limits };
 }
 
 impl HintChecker {
@@ -65,14 +58,12 @@ impl HintChecker {
         Ok(HintChecker {
             book,
             undo: Vec::new(alloc),
-            limits,
-            keeps: keep_undo,
-            steps: 0,
-            rows: StepRows {
-                clause: Vec::new(alloc),
-                rest: Vec::new(alloc),
-                targets: Vec::new(alloc),
+            settings: Settings {
+                limits,
+                keeps: keep_undo,
             },
+            steps: 0,
+            rows: StepRows::new(alloc),
         })
     }
 
@@ -88,14 +79,7 @@ impl HintChecker {
         ensures unchanged { OnErr result (self.new ≡ self.old) }
     {
         self.undo.reserve(1)?;
-        let entry = try_step(
-            &mut self.book,
-            &mut self.rows,
-            self.limits,
-            self.keeps,
-            step,
-            proof,
-        )?;
+        let entry = try_step(&mut self.book, &mut self.rows, self.settings, step, proof)?;
         if let Some(entry) = entry {
             self.undo.push_reserved(entry);
         }
@@ -120,33 +104,50 @@ impl HintChecker {
 fn try_step(
     book: &mut NumberedBook,
     rows: &mut StepRows,
-    limits: Limits,
-    keeps: bool,
+    settings: Settings,
     step: &Step,
     proof: &Proof,
 ) -> Result<Option<Undo>, CheckError>
-    requires { AreModerate limits }
-    ensures { IsHintTried keeps limits book.old step.now proof.now book.new result }
+    requires { AreModerate settings.limits }
+    ensures { IsHintTried settings.keeps settings.limits book.old step.now proof.now book.new result }
 {
     let lits = step.lits();
-    let clause = &mut rows.clause;
-    let targets = &mut rows.targets;
+    let StepRows {
+        clause,
+        rest,
+        hints,
+    } = rows;
+    let targets = &mut hints.targets;
     match step.kind() {
         Kind::Add => {
             load_clause(clause, lits)?;
-            add(book, targets, limits, clause, first_lit(lits), proof)
+            let first = first_lit(lits);
+            add(
+                book,
+                targets,
+                settings.limits,
+                &Named { clause, first },
+                proof,
+            )
         }
         Kind::Delete => {
             load_clause(clause, lits)?;
-            delete(book, targets, clause, lits, keeps, proof)
+            let first = first_lit(lits);
+            delete(
+                book,
+                targets,
+                &Named { clause, first },
+                settings.keeps,
+                proof,
+            )
         }
         Kind::Drop => {
-            let rest = &mut rows.rest;
             load_clause(clause, lits)?;
             load_rest(rest, lits)?;
-            drop_literal(book, targets, clause, rest, lits[0], proof)
+            let lit = lits[0];
+            drop_literal(book, targets, &Cut { clause, rest, lit }, proof)
         }
-        Kind::Fresh => fresh(book, limits, lits[0].var(), lits[1].var(), keeps, proof),
-        Kind::Remove => remove(book, lits[0].var(), keeps, proof),
+        Kind::Fresh => fresh(book, settings, lits[0].var(), lits[1].var(), proof),
+        Kind::Remove => remove(book, lits[0].var(), settings.keeps, proof),
     }
 }

@@ -11,6 +11,7 @@ ghost use Rattle.q_logic.specs.Steps.{Within};
 ghost use Rattle.q_check.specs.HintChecks.{IsDropJudged};
 ghost use Rattle.q_check.specs.Numbers.{left_out};
 
+use crate::named::{Cut, Named, Sides};
 use crate::numbered::NumberedBook;
 use q_judge::{Cause, CheckError};
 use q_logic::{Lit, NoMemory, Proof, ProofKind, holds};
@@ -20,18 +21,18 @@ pub fn shows(
     book: &mut NumberedBook,
     targets: &mut Vec<u64>,
     skip: Option<usize>,
-    clause: &[Lit],
-    first: Option<Lit>,
+    named: &Named,
     proof: &Proof,
 ) -> Result<bool, NoMemory>
-    requires within { Within book.old.prefix clause.now }
-    requires first { IsFirst first clause.now }
+    requires within { Within book.old.prefix named.now.clause.now }
+    requires first { IsFirst named.now.first named.now.clause.now }
     ensures same { book.new ≡ book.old }
-    ensures exact { IfOk result (λ yes. IsTrue yes ↔ Shows book.old.prefix (left_out skip book.old.slots) clause.now first proof.now) }
+    ensures exact { IfOk result (λ yes. IsTrue yes ↔ Shows book.old.prefix (left_out skip book.old.slots)
+        named.now.clause.now named.now.first proof.now) }
 {
     match proof.kind() {
-        ProofKind::Implied => shows_implied(book, skip, clause, proof),
-        ProofKind::Pivot => shows_pivot(book, targets, skip, clause, first, proof),
+        ProofKind::Implied => shows_implied(book, skip, named.clause, proof),
+        ProofKind::Pivot => shows_pivot(book, targets, skip, named, proof),
         ProofKind::Nothing | ProofKind::Reach => Ok(false),
     }
 }
@@ -60,53 +61,57 @@ fn shows_pivot(
     book: &mut NumberedBook,
     targets: &mut Vec<u64>,
     skip: Option<usize>,
-    clause: &[Lit],
-    first: Option<Lit>,
+    named: &Named,
     proof: &Proof,
 ) -> Result<bool, NoMemory>
-    requires within { Within book.old.prefix clause.now }
-    requires first { IsFirst first clause.now }
+    requires within { Within book.old.prefix named.now.clause.now }
+    requires first { IsFirst named.now.first named.now.clause.now }
     ensures same { book.new ≡ book.old }
-    ensures exact { IfOk result (λ yes. IsTrue yes ↔ ShowsPivot book.old.prefix (left_out skip book.old.slots) clause.now first proof.now.groups) }
+    ensures exact { IfOk result (λ yes. IsTrue yes ↔ ShowsPivot book.old.prefix (left_out skip book.old.slots)
+        named.now.clause.now named.now.first proof.now.groups) }
 {
-    let Some(pivot) = first else {
+    let Some(pivot) = named.first else {
         return Ok(false);
     };
     if !book.scope().is_existential(pivot.var()) {
         return Ok(false);
     }
-    resolved(book, targets, skip, clause, pivot.negated(), proof)
+    let sides = Sides {
+        base: named.clause,
+        m: pivot.negated(),
+        skip,
+    };
+    resolved(book, targets, &sides, proof)
 }
 
-/// Judges whether the clause with a number may lose a literal as the proof shows. `rest` is the clause without it.
+/// Judges whether the clause with a number may lose a literal as the proof shows.
 pub fn judge_drop(
     book: &mut NumberedBook,
     targets: &mut Vec<u64>,
     number: usize,
-    clause: &[Lit],
-    rest: &[Lit],
-    lit: Lit,
+    cut: &Cut,
     proof: &Proof,
 ) -> Result<(), CheckError>
-    requires there { slot book.old.slots number ≡ Some clause.now }
-    requires within { Within book.old.prefix clause.now }
-    requires held { IsIn lit clause.now }
-    requires rest { rest.now ≡ without lit clause.now }
+    requires there { slot book.old.slots number ≡ Some cut.now.clause.now }
+    requires within { Within book.old.prefix cut.now.clause.now }
+    requires held { IsIn cut.now.lit cut.now.clause.now }
+    requires rest { cut.now.rest.now ≡ without cut.now.lit cut.now.clause.now }
     ensures same { book.new ≡ book.old }
-    ensures judged { IsDropJudged book.old.prefix (left_out (Some number) book.old.slots) clause.now lit proof.now result }
+    ensures judged { IsDropJudged book.old.prefix (left_out (Some number) book.old.slots)
+        cut.now.clause.now cut.now.lit proof.now result }
 {
-    if !book.scope().is_universal(lit.var()) {
+    if !book.scope().is_universal(cut.lit.var()) {
         return Err(Cause::NotDroppable.refusal());
     }
     match proof.kind() {
         ProofKind::Pivot => {
-            if !shows_forall(book, targets, Some(number), clause, rest, lit, proof)? {
+            if !shows_forall(book, targets, number, cut, proof)? {
                 return Err(Cause::BadHint.refusal());
             }
             Ok(())
         }
         ProofKind::Reach => {
-            if !book.is_reducible(number, clause, lit)? {
+            if !book.is_reducible(number, cut.clause, cut.lit)? {
                 return Err(Cause::NotDroppable.refusal());
             }
             Ok(())
@@ -119,23 +124,27 @@ pub fn judge_drop(
 fn shows_forall(
     book: &mut NumberedBook,
     targets: &mut Vec<u64>,
-    skip: Option<usize>,
-    clause: &[Lit],
-    rest: &[Lit],
-    lit: Lit,
+    number: usize,
+    cut: &Cut,
     proof: &Proof,
 ) -> Result<bool, NoMemory>
-    requires universal { is_universal book.old.prefix lit.var ≡ true }
-    requires bound { is_bound book.old.prefix lit.var ≡ true }
-    requires held { IsIn lit clause.now }
-    requires rest { rest.now ≡ without lit clause.now }
+    requires universal { is_universal book.old.prefix cut.now.lit.var ≡ true }
+    requires bound { is_bound book.old.prefix cut.now.lit.var ≡ true }
+    requires held { IsIn cut.now.lit cut.now.clause.now }
+    requires rest { cut.now.rest.now ≡ without cut.now.lit cut.now.clause.now }
     ensures same { book.new ≡ book.old }
-    ensures exact { IfOk result (λ yes. IsTrue yes ↔ ShowsForall book.old.prefix (left_out skip book.old.slots) clause.now lit proof.now.groups) }
+    ensures exact { IfOk result (λ yes. IsTrue yes ↔ ShowsForall book.old.prefix (left_out (Some number) book.old.slots)
+        cut.now.clause.now cut.now.lit proof.now.groups) }
 {
-    if holds(clause, lit.negated()) {
+    if holds(cut.clause, cut.lit.negated()) {
         return Ok(false);
     }
-    resolved(book, targets, skip, rest, lit.negated(), proof)
+    let sides = Sides {
+        base: cut.rest,
+        m: cut.lit.negated(),
+        skip: Some(number),
+    };
+    resolved(book, targets, &sides, proof)
 }
 
 // Whether the groups of the proof are for all clauses that hold m, and the hints of each show the literals joined with
@@ -143,21 +152,20 @@ fn shows_forall(
 fn resolved(
     book: &mut NumberedBook,
     targets: &mut Vec<u64>,
-    skip: Option<usize>,
-    base: &[Lit],
-    m: Lit,
+    sides: &Sides,
     proof: &Proof,
 ) -> Result<bool, NoMemory>
-    requires { is_bound book.old.prefix m.var ≡ true }
+    requires { is_bound book.old.prefix sides.now.m.var ≡ true }
     ensures same { book.new ≡ book.old }
-    ensures exact { IfOk result (λ yes. IsTrue yes ↔ Resolved book.old.prefix (left_out skip book.old.slots) base.now m proof.now.groups) }
+    ensures exact { IfOk result (λ yes. IsTrue yes ↔ Resolved book.old.prefix (left_out sides.now.skip book.old.slots)
+        sides.now.base.now sides.now.m proof.now.groups) }
 {
-    book.holding(m, skip, targets)?;
+    book.holding(sides.m, sides.skip, targets)?;
     if !are_targets(targets, proof) {
         return Ok(false);
     }
     for at in 0..proof.groups() {
-        if !book.chained_with(proof.target(at) as usize, base, m, skip, proof.hints(at))? {
+        if !book.chained_with(proof.target(at) as usize, sides, proof.hints(at))? {
             return Ok(false);
         }
     }

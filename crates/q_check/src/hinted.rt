@@ -8,7 +8,7 @@ ghost use Rattle.q_logic.specs.Literals.{IsBelow};
 ghost use Rattle.q_logic.specs.Numbered.{slot};
 ghost use Rattle.q_logic.specs.Parts.{ArePairs};
 ghost use Rattle.q_logic.specs.Pivots.{without};
-ghost use Rattle.q_logic.specs.StepForms.{IsFirst, first_of};
+ghost use Rattle.q_logic.specs.StepForms.{IsFirst};
 ghost use Rattle.q_logic.specs.Steps.{Within, add, delete, drop_literal, fresh, remove_variable};
 ghost use Rattle.q_logic.specs.declared.limits.Limits.{Limits as AnyLimits};
 ghost use Rattle.q_judge.specs.Tried.{IsEntry};
@@ -16,66 +16,65 @@ ghost use Rattle.q_check.specs.HintChecks.{IsHintTried};
 ghost use Rattle.q_check.specs.Numbers.{left_out};
 
 use crate::hint_tests::{judge_drop, shows};
+use crate::named::{Cut, Named};
 use crate::numbered::NumberedBook;
-use q_judge::{
-    Cause, CheckError, Undo, binds_all, first_lit, fresh_entry, removed_entry, takes_fresh,
-};
-use q_logic::{Limits, Lit, NoMemory, Proof, ProofKind};
+use crate::rows::Settings;
+use q_judge::{Cause, CheckError, Undo, binds_all, fresh_entry, removed_entry, takes_fresh};
+use q_logic::{Limits, NoMemory, Proof, ProofKind};
 
 /// A clause comes. Room is asked for before the hints are followed.
 pub fn add(
     book: &mut NumberedBook,
     targets: &mut Vec<u64>,
     limits: Limits,
-    clause: &[Lit],
-    first: Option<Lit>,
+    named: &Named,
     proof: &Proof,
 ) -> Result<Option<Undo>, CheckError>
     requires limits { AreModerate limits }
-    requires ordered { ArePairs IsBelow clause.now }
-    requires first { IsFirst first clause.now }
-    ensures { (keep : Bool) → IsHintTried keep limits book.old (add first clause.now) proof.now book.new result }
+    requires ordered { ArePairs IsBelow named.now.clause.now }
+    requires first { IsFirst named.now.first named.now.clause.now }
+    ensures { (keep : Bool) →
+        IsHintTried keep limits book.old (add named.now.first named.now.clause.now) proof.now book.new result }
 {
-    if !binds_all(book.scope(), clause) {
+    if !binds_all(book.scope(), named.clause) {
         return Err(Cause::Unbound.refusal());
     }
-    if !book.has_room(limits, clause) {
+    if !book.has_room(limits, named.clause) {
         return Err(Cause::Limit.refusal());
     }
-    let shown = shows(book, targets, None, clause, first, proof)?;
+    let shown = shows(book, targets, None, named, proof)?;
     if !shown {
         return Err(Cause::BadHint.refusal());
     }
-    book.add(clause)?;
+    book.add(named.clause)?;
     Ok(None)
 }
 
-/// The clause with the proof's number goes. The pivot is the first of `lits`. Where the undo list is kept, its entry is
-/// answered.
+/// The clause with the proof's number goes. Where the undo list is kept, its entry is answered.
 pub fn delete(
     book: &mut NumberedBook,
     targets: &mut Vec<u64>,
-    clause: &[Lit],
-    lits: &[Lit],
+    named: &Named,
     keep: bool,
     proof: &Proof,
 ) -> Result<Option<Undo>, CheckError>
-    requires { IsFirst (first_of lits.now) clause.now }
-    ensures { (m : AnyLimits) → IsHintTried keep m book.old (delete (first_of lits.now) clause.now) proof.now book.new result }
+    requires { IsFirst named.now.first named.now.clause.now }
+    ensures { (m : AnyLimits) →
+        IsHintTried keep m book.old (delete named.now.first named.now.clause.now) proof.now book.new result }
 {
-    if !binds_all(book.scope(), clause) {
+    if !binds_all(book.scope(), named.clause) {
         return Err(Cause::Unbound.refusal());
     }
     let number = proof.number() as usize;
-    if !book.is_clause(number, clause) {
+    if !book.is_clause(number, named.clause) {
         return Err(Cause::NoClause.refusal());
     }
-    let shown = shows(book, targets, Some(number), clause, first_lit(lits), proof)?;
+    let shown = shows(book, targets, Some(number), named, proof)?;
     if !shown {
         return Err(Cause::BadHint.refusal());
     }
-    let entry = deletion_entry(book, number, clause, first_lit(lits), keep, proof)?;
-    book.delete(number, clause);
+    let entry = deletion_entry(book, number, named, keep, proof)?;
+    book.delete(number, named.clause);
     Ok(entry)
 }
 
@@ -84,72 +83,70 @@ pub fn delete(
 fn deletion_entry(
     book: &mut NumberedBook,
     number: usize,
-    clause: &[Lit],
-    first: Option<Lit>,
+    named: &Named,
     keep: bool,
     proof: &Proof,
 ) -> Result<Option<Undo>, NoMemory>
-    requires there { slot book.old.slots number ≡ Some clause.now }
-    requires within { Within book.old.prefix clause.now }
-    requires shown { Shows book.old.prefix (left_out (Some number) book.old.slots) clause.now first proof.now }
+    requires there { slot book.old.slots number ≡ Some named.now.clause.now }
+    requires within { Within book.old.prefix named.now.clause.now }
+    requires shown { Shows book.old.prefix (left_out (Some number) book.old.slots)
+        named.now.clause.now named.now.first proof.now }
     ensures same { book.new ≡ book.old }
-    ensures exact { IfOk result (λ u. IsEntry keep (plain book.old) (delete first clause.now) u) }
+    ensures exact { IfOk result (λ u. IsEntry keep (plain book.old) (delete named.now.first named.now.clause.now) u) }
 {
     if !keep {
         return Ok(None);
     }
     if proof.kind() == ProofKind::Pivot {
-        return book.deletion_entry(number, clause, first);
+        return book.deletion_entry(number, named);
     }
     Ok(None)
 }
 
-/// The clause with the proof's number loses a literal. `rest` is the clause without it.
+/// The clause with the proof's number loses a literal.
 pub fn drop_literal(
     book: &mut NumberedBook,
     targets: &mut Vec<u64>,
-    clause: &[Lit],
-    rest: &[Lit],
-    lit: Lit,
+    cut: &Cut,
     proof: &Proof,
 ) -> Result<Option<Undo>, CheckError>
-    requires ordered { ArePairs IsBelow clause.now }
-    requires held { IsIn lit clause.now }
-    requires rest { rest.now ≡ without lit clause.now }
-    ensures { (keep : Bool) → (m : AnyLimits) → IsHintTried keep m book.old (drop_literal lit clause.now) proof.now book.new result }
+    requires ordered { ArePairs IsBelow cut.now.clause.now }
+    requires held { IsIn cut.now.lit cut.now.clause.now }
+    requires rest { cut.now.rest.now ≡ without cut.now.lit cut.now.clause.now }
+    ensures { (keep : Bool) → (m : AnyLimits) →
+        IsHintTried keep m book.old (drop_literal cut.now.lit cut.now.clause.now) proof.now book.new result }
 {
-    if !binds_all(book.scope(), clause) {
+    if !binds_all(book.scope(), cut.clause) {
         return Err(Cause::Unbound.refusal());
     }
     let number = proof.number() as usize;
-    if !book.is_clause(number, clause) {
+    if !book.is_clause(number, cut.clause) {
         return Err(Cause::NoClause.refusal());
     }
-    judge_drop(book, targets, number, clause, rest, lit, proof)?;
-    book.shorten(number, clause, rest)?;
+    judge_drop(book, targets, number, cut, proof)?;
+    book.shorten(number, cut.clause, cut.rest)?;
     Ok(None)
 }
 
 /// A variable v comes, directly after w.
 pub fn fresh(
     book: &mut NumberedBook,
-    limits: Limits,
+    settings: Settings,
     v: u32,
     w: u32,
-    keep: bool,
     proof: &Proof,
 ) -> Result<Option<Undo>, CheckError>
     requires { 1 ≤ v }
-    ensures { IsHintTried keep limits book.old (fresh v w) proof.now book.new result }
+    ensures { IsHintTried settings.keeps settings.limits book.old (fresh v w) proof.now book.new result }
 {
-    if !takes_fresh(book.scope(), limits, v, w) {
+    if !takes_fresh(book.scope(), settings.limits, v, w) {
         return Err(Cause::BadFresh.refusal());
     }
     if proof.kind() != ProofKind::Nothing {
         return Err(Cause::BadHint.refusal());
     }
     book.insert(v, w)?;
-    Ok(fresh_entry(keep, v))
+    Ok(fresh_entry(settings.keeps, v))
 }
 
 /// A variable goes.

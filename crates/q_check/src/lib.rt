@@ -7,8 +7,10 @@ mod checker;
 mod hint_checker;
 mod hint_tests;
 mod hinted;
+mod named;
 mod numbered;
 mod numbers;
+mod rows;
 mod showing;
 mod tries;
 

@@ -11,12 +11,14 @@ ghost use Rattle.q_logic.specs.Pivots.{outer, without};
 ghost use Rattle.q_logic.specs.Prefixes.{is_bound, is_existential, is_universal};
 ghost use Rattle.q_logic.specs.Reach.{Reducible};
 ghost use Rattle.q_logic.specs.Runs.{SameFormula};
+ghost use Rattle.q_logic.specs.StepForms.{IsFirst};
 ghost use Rattle.q_logic.specs.Steps.{Within, KeepsLimits, IsAbsent, insert_after, removed_from, literals_in, IsWarranted, delete};
 ghost use Rattle.q_logic.specs.Hints.{Chained};
 ghost use Rattle.q_judge.specs.Tried.{IsEndRefusal, IsEntry};
 ghost use Rattle.q_check.specs.Numbers.{IsAt, AreNumbersOf, Explains, left_out, place_in, counted, HasNamed, HaveNamed};
 ghost use Rattle.q_check.specs.HintChecks.{place_at};
 
+use crate::named::{Named, Sides};
 use crate::numbers::Numbers;
 use q_judge::{CheckError, Ledger, Scope, Undo, is_absent};
 use q_logic::{Formula, Limits, Lit, NoMemory};
@@ -110,6 +112,18 @@ impl NumberedBook {
         self.ledger.is_reducible(at, clause, lit)
     }
 
+    /// Whether the first literal blocks the clause, over the clauses of all numbers but one: each resolvent is a tautology.
+    /// Takes no propagation.
+    pub fn is_blocked(&self, skip: Option<usize>, named: &Named) -> bool
+        requires within { Within self.now.prefix named.now.clause.now }
+        requires first { IsFirst named.now.first named.now.clause.now }
+        ensures { IsTrue result →
+            IsWarranted self.now.prefix (live (left_out skip self.now.slots)) named.now.clause.now named.now.first }
+    {
+        let left_out = skipped_slot(&self.numbers, skip);
+        self.ledger.is_blocked(left_out, named.clause, &named.first)
+    }
+
     /// Whether the literals are implied by propagation, over the clauses of all numbers but one; and hints that show it.
     pub fn explained(
         &mut self,
@@ -130,21 +144,20 @@ impl NumberedBook {
     pub fn explained_with(
         &mut self,
         number: usize,
-        base: &[Lit],
-        m: Lit,
-        skip: Option<usize>,
+        sides: &Sides,
         hints: &mut Vec<u64>,
     ) -> Result<bool, NoMemory>
-        requires { is_bound self.old.prefix m.var ≡ true }
+        requires { is_bound self.old.prefix sides.now.m.var ≡ true }
         ensures same { self.new ≡ self.old }
         ensures exact { IfOk result (λ yes. (D : Clause) → slot self.old.slots number ≡ Some D →
-            Explains (left_out skip self.old.slots) (base.now ++ outer self.old.prefix m D) hints.new.items yes) }
+            Explains (left_out sides.now.skip self.old.slots)
+            (sides.now.base.now ++ outer self.old.prefix sides.now.m D) hints.new.items yes) }
     {
         let Some(at) = self.numbers.slot_of(number) else {
             return Ok(true);
         };
-        self.ledger.join(at, base, m, &mut self.joined)?;
-        let left_out = skipped_slot(&self.numbers, skip);
+        self.ledger.join(at, sides.base, sides.m, &mut self.joined)?;
+        let left_out = skipped_slot(&self.numbers, sides.skip);
         let yes = self
             .ledger
             .explain(&self.joined, left_out, &mut self.found)?;
@@ -186,47 +199,42 @@ impl NumberedBook {
     pub fn chained_with(
         &mut self,
         number: usize,
-        base: &[Lit],
-        m: Lit,
-        skip: Option<usize>,
+        sides: &Sides,
         hints: &[u64],
     ) -> Result<bool, NoMemory>
-        requires { is_bound self.old.prefix m.var ≡ true }
+        requires { is_bound self.old.prefix sides.now.m.var ≡ true }
         ensures same { self.new ≡ self.old }
         ensures exact { IfOk result (λ yes. (D : Clause) → slot self.old.slots number ≡ Some D →
-            IsTrue yes ↔ Chained (left_out skip self.old.slots) (base.now ++ outer self.old.prefix m D) hints.now) }
+            IsTrue yes ↔ Chained (left_out sides.now.skip self.old.slots)
+            (sides.now.base.now ++ outer self.old.prefix sides.now.m D) hints.now) }
     {
         let Some(at) = self.numbers.slot_of(number) else {
             return Ok(true);
         };
-        self.ledger.join(at, base, m, &mut self.joined)?;
+        self.ledger.join(at, sides.base, sides.m, &mut self.joined)?;
         let none = self.ledger.store().slots();
         place_all(&self.numbers, none, hints, &mut self.found)?;
-        let left_out = skipped_slot(&self.numbers, skip);
+        let left_out = skipped_slot(&self.numbers, sides.skip);
         let yes = self.ledger.chain(&self.joined, left_out, &self.found)?;
         Ok(yes)
     }
 
     /// What a deletion of the clause with a number leaves where the undo list is kept: nothing where the clause is implied,
     /// which is searched for.
-    pub fn deletion_entry(
-        &mut self,
-        number: usize,
-        clause: &[Lit],
-        first: Option<Lit>,
-    ) -> Result<Option<Undo>, NoMemory>
-        requires there { slot self.old.slots number ≡ Some clause.now }
-        requires warranted { IsWarranted self.old.prefix (live (left_out (Some number) self.old.slots)) clause.now first }
+    pub fn deletion_entry(&mut self, number: usize, named: &Named) -> Result<Option<Undo>, NoMemory>
+        requires there { slot self.old.slots number ≡ Some named.now.clause.now }
+        requires warranted { IsWarranted self.old.prefix (live (left_out (Some number) self.old.slots))
+            named.now.clause.now named.now.first }
         ensures same { self.new ≡ self.old }
-        ensures exact { IfOk result (IsEntry true (plain self.old) (delete first clause.now)) }
+        ensures exact { IfOk result (IsEntry true (plain self.old) (delete named.now.first named.now.clause.now)) }
     {
         let Some(at) = self.numbers.slot_of(number) else {
             return Ok(None);
         };
-        if self.ledger.implied(clause, Some(at))? {
+        if self.ledger.implied(named.clause, Some(at))? {
             return Ok(None);
         }
-        let entry = self.ledger.pivot_entry(at, first)?;
+        let entry = self.ledger.pivot_entry(at, named.first)?;
         Ok(entry)
     }
 

@@ -1,36 +1,23 @@
 //! Proof parts for steps: the hints by which a clause is implied, or by which all clauses with the negation of its
 //! first literal resolve. What is shown is tried in the order in which the checker tries it.
-ghost use Rattle.std.specs.Prelude.{◌≡◌, ◌≢◌, ◌+◌, [], true, Some, IfOk, OnOk};
+ghost use Rattle.std.specs.Prelude.{◌≡◌, ◌≢◌, ◌+◌, [], true, Some, IfOk, IfSome, OnOk};
 ghost use Rattle.q_logic.specs.declared.proof_part.ProofKind.TheVariants.{Pivot as ByPivot};
 ghost use Rattle.q_logic.specs.Formulas.{IsIn};
+ghost use Rattle.q_logic.specs.Hinted.{Shows};
 ghost use Rattle.q_logic.specs.Numbered.{slot};
 ghost use Rattle.q_logic.specs.Pivots.{without};
 ghost use Rattle.q_logic.specs.Prefixes.{is_bound};
 ghost use Rattle.q_logic.specs.StepForms.{IsFirst};
 ghost use Rattle.q_logic.specs.Steps.{Within};
-ghost use Rattle.q_check.specs.Annotations.{with_hints, with_hinted_group, implied_part, number_in, IsResolved, IsShown, IsDropShown};
+ghost use Rattle.q_check.specs.Annotations.{with_hints, with_hinted_group, implied_part, number_in, IsByPivot, IsResolved, IsShown, IsDropShown};
 ghost use Rattle.q_check.specs.Numbers.{left_out};
 
+use crate::named::{Cut, Named, Sides};
 use crate::numbered::NumberedBook;
+use crate::rows::HintRows;
 use q_judge::{Cause, CheckError};
 use q_logic::{Lit, NoMemory, Proof, ProofKind, holds};
 use std::alloc::Global;
-
-/// Rows that are used again from step to step.
-#[derive(Drop)]
-pub struct HintRows {
-    pub targets: Vec<u64>,
-    pub hints: Vec<u64>,
-}
-
-impl HintRows {
-    pub fn new(alloc: Global) -> HintRows {
-        HintRows {
-            targets: Vec::new(alloc),
-            hints: Vec::new(alloc),
-        }
-    }
-}
 
 // Puts hints behind those of the last group.
 fn push_hints(proof: &mut Proof, hints: &[u64]) -> Result<(), NoMemory>
@@ -65,24 +52,23 @@ fn by_hints(alloc: Global, number: u64, hints: &[u64]) -> Result<Proof, NoMemory
 fn resolve(
     book: &mut NumberedBook,
     rows: &mut HintRows,
-    skip: Option<usize>,
-    base: &[Lit],
-    m: Lit,
+    sides: &Sides,
     proof: &mut Proof,
 ) -> Result<bool, NoMemory>
-    requires bound { is_bound book.old.prefix m.var ≡ true }
+    requires bound { is_bound book.old.prefix sides.now.m.var ≡ true }
     requires kind { proof.old.kind ≡ ByPivot }
     requires empty { proof.old.groups ≡ [] }
     ensures same { book.new ≡ book.old }
     ensures kind { OnOk result (proof.new.kind ≡ ByPivot) }
     ensures number { OnOk result (proof.new.number ≡ proof.old.number) }
-    ensures exact { IfOk result (IsResolved book.old.prefix (left_out skip book.old.slots) base.now m proof.new) }
+    ensures exact { IfOk result (IsResolved book.old.prefix (left_out sides.now.skip book.old.slots)
+        sides.now.base.now sides.now.m proof.new) }
 {
     let targets = &mut rows.targets;
     let hints = &mut rows.hints;
-    book.holding(m, skip, targets)?;
+    book.holding(sides.m, sides.skip, targets)?;
     for i in 0..targets.len() {
-        if !book.explained_with(targets[i] as usize, base, m, skip, hints)? {
+        if !book.explained_with(targets[i] as usize, sides, hints)? {
             return Ok(false);
         }
         push_group(proof, targets[i], hints)?;
@@ -90,66 +76,115 @@ fn resolve(
     Ok(true)
 }
 
-/// Shows why the clause may come, or why the one with a number may go.
-pub fn show(
-    alloc: Global,
+// The proof by the first literal, where that is an existential pivot.
+fn by_pivot(
     book: &mut NumberedBook,
     rows: &mut HintRows,
     skip: Option<usize>,
-    clause: &[Lit],
-    first: Option<Lit>,
-) -> Result<Proof, CheckError>
-    requires within { Within book.old.prefix clause.now }
-    requires first { IsFirst first clause.now }
+    named: &Named,
+) -> Result<Option<Proof>, NoMemory>
+    requires within { Within book.old.prefix named.now.clause.now }
+    requires first { IsFirst named.now.first named.now.clause.now }
     ensures same { book.new ≡ book.old }
-    ensures shown { IsShown book.old.prefix (left_out skip book.old.slots) clause.now first (number_in skip) result }
+    ensures exact { IfOk result (IsByPivot book.old.prefix (left_out skip book.old.slots)
+        named.now.clause.now named.now.first (number_in skip)) }
 {
-    let number = skip.unwrap_or(0) as u64;
-    if book.explained(clause, skip, &mut rows.hints)? {
-        let proof = by_hints(alloc, number, &rows.hints)?;
-        return Ok(proof);
-    }
-    let Some(pivot) = first else {
-        return Err(Cause::Unwarranted.refusal());
+    let Some(pivot) = named.first else {
+        return Ok(None);
     };
     if !book.scope().is_existential(pivot.var()) {
-        return Err(Cause::Unwarranted.refusal());
+        return Ok(None);
     }
-    let mut proof = Proof::new(alloc, ProofKind::Pivot, number);
-    if !resolve(book, rows, skip, clause, pivot.negated(), &mut proof)? {
-        return Err(Cause::Unwarranted.refusal());
+    let number = skip.unwrap_or(0) as u64;
+    let mut proof = Proof::new(rows.alloc, ProofKind::Pivot, number);
+    let sides = Sides {
+        base: named.clause,
+        m: pivot.negated(),
+        skip,
+    };
+    if resolve(book, rows, &sides, &mut proof)? {
+        return Ok(Some(proof));
     }
-    Ok(proof)
+    Ok(None)
 }
 
-/// Shows why the clause with a number may lose a literal. `rest` is the clause without it.
+// The same where the clause looks blocked. That is a guess alone: a pivot whose resolvents are tautologies needs neither
+// propagation nor hints.
+fn by_block(
+    book: &mut NumberedBook,
+    rows: &mut HintRows,
+    skip: Option<usize>,
+    named: &Named,
+) -> Result<Option<Proof>, NoMemory>
+    requires within { Within book.old.prefix named.now.clause.now }
+    requires first { IsFirst named.now.first named.now.clause.now }
+    ensures same { book.new ≡ book.old }
+    ensures shown { IfOk result (λ o. IfSome o (λ t. (t.number ≡ number_in skip)
+        × Shows book.old.prefix (left_out skip book.old.slots) named.now.clause.now named.now.first t)) }
+{
+    if book.is_blocked(skip, named) {
+        return by_pivot(book, rows, skip, named);
+    }
+    Ok(None)
+}
+
+/// Shows why the clause may come, or why the one with a number may go. A pivot that needs no propagation is tried first.
+pub fn show(
+    book: &mut NumberedBook,
+    rows: &mut HintRows,
+    skip: Option<usize>,
+    named: &Named,
+) -> Result<Proof, CheckError>
+    requires within { Within book.old.prefix named.now.clause.now }
+    requires first { IsFirst named.now.first named.now.clause.now }
+    ensures same { book.new ≡ book.old }
+    ensures shown { IsShown book.old.prefix (left_out skip book.old.slots)
+        named.now.clause.now named.now.first (number_in skip) result }
+{
+    if let Some(proof) = by_block(book, rows, skip, named)? {
+        return Ok(proof);
+    }
+    if book.explained(named.clause, skip, &mut rows.hints)? {
+        let proof = by_hints(rows.alloc, skip.unwrap_or(0) as u64, &rows.hints)?;
+        return Ok(proof);
+    }
+    match by_pivot(book, rows, skip, named)? {
+        Some(proof) => Ok(proof),
+        None => Err(Cause::Unwarranted.refusal()),
+    }
+}
+
+/// Shows why the clause with a number may lose a literal.
 pub fn show_drop(
-    alloc: Global,
     book: &mut NumberedBook,
     rows: &mut HintRows,
     number: usize,
-    clause: &[Lit],
-    rest: &[Lit],
-    lit: Lit,
+    cut: &Cut,
 ) -> Result<Proof, CheckError>
-    requires there { slot book.old.slots number ≡ Some clause.now }
-    requires within { Within book.old.prefix clause.now }
-    requires held { IsIn lit clause.now }
-    requires rest { rest.now ≡ without lit clause.now }
+    requires there { slot book.old.slots number ≡ Some cut.now.clause.now }
+    requires within { Within book.old.prefix cut.now.clause.now }
+    requires held { IsIn cut.now.lit cut.now.clause.now }
+    requires rest { cut.now.rest.now ≡ without cut.now.lit cut.now.clause.now }
     ensures same { book.new ≡ book.old }
-    ensures shown { IsDropShown book.old.prefix (left_out (Some number) book.old.slots) clause.now lit number result }
+    ensures shown { IsDropShown book.old.prefix (left_out (Some number) book.old.slots)
+        cut.now.clause.now cut.now.lit number result }
 {
-    if !book.scope().is_universal(lit.var()) {
+    if !book.scope().is_universal(cut.lit.var()) {
         return Err(Cause::NotDroppable.refusal());
     }
-    if book.is_reducible(number, clause, lit)? {
-        return Ok(Proof::new(alloc, ProofKind::Reach, number as u64));
+    if book.is_reducible(number, cut.clause, cut.lit)? {
+        return Ok(Proof::new(rows.alloc, ProofKind::Reach, number as u64));
     }
-    if holds(clause, lit.negated()) {
+    if holds(cut.clause, cut.lit.negated()) {
         return Err(Cause::NotDroppable.refusal());
     }
-    let mut proof = Proof::new(alloc, ProofKind::Pivot, number as u64);
-    if !resolve(book, rows, Some(number), rest, lit.negated(), &mut proof)? {
+    let mut proof = Proof::new(rows.alloc, ProofKind::Pivot, number as u64);
+    let sides = Sides {
+        base: cut.rest,
+        m: cut.lit.negated(),
+        skip: Some(number),
+    };
+    if !resolve(book, rows, &sides, &mut proof)? {
         return Err(Cause::NotDroppable.refusal());
     }
     Ok(proof)

@@ -13,6 +13,7 @@ ghost use Rattle.q_prop.specs.Slots.{Holds};
 ghost use Rattle.q_judge.specs.Ledgers.{formula_in};
 ghost use Rattle.q_judge.specs.Tried.{IsTried};
 
+use crate::rows::Settings;
 use q_judge::{
     Cause, CheckError, Ledger, Undo, binds_all, first_lit, fresh_entry, is_absent, kept_pivot,
     removed_entry, slot_of, takes_fresh,
@@ -120,19 +121,18 @@ pub fn drop_literal(
 /// A variable v comes, directly after w.
 pub fn fresh(
     ledger: &mut Ledger,
-    limits: Limits,
+    settings: Settings,
     v: u32,
     w: u32,
-    keep: bool,
 ) -> Result<Option<Undo>, CheckError>
     requires { 1 ≤ v }
-    ensures { IsTried keep limits (formula_in ledger.old) (fresh v w) (formula_in ledger.new) result }
+    ensures { IsTried settings.keeps settings.limits (formula_in ledger.old) (fresh v w) (formula_in ledger.new) result }
 {
-    if !takes_fresh(ledger.scope(), limits, v, w) {
+    if !takes_fresh(ledger.scope(), settings.limits, v, w) {
         return Err(Cause::BadFresh.refusal());
     }
     ledger.insert(v, w)?;
-    Ok(fresh_entry(keep, v))
+    Ok(fresh_entry(settings.keeps, v))
 }
 
 /// A variable goes.

@@ -13,7 +13,7 @@ ghost use Rattle.q_logic.specs.Propagation.{Implied};
 ghost use Rattle.q_logic.specs.Reach.{Reducible};
 ghost use Rattle.q_logic.specs.Runs.{SameFormula};
 ghost use Rattle.q_logic.specs.StepForms.{IsFirst};
-ghost use Rattle.q_logic.specs.Steps.{IsWarranted, Within, KeepsLimits, IsAbsent, IsDroppable, insert_after, removed_from, literals_in};
+ghost use Rattle.q_logic.specs.Steps.{FirstPivot, IsWarranted, Within, KeepsLimits, IsAbsent, IsDroppable, insert_after, removed_from, literals_in};
 ghost use Rattle.q_logic.specs.Undos.{OutersOf};
 ghost use Rattle.q_prop.specs.Slots.{filled, Holds, IsPut};
 ghost use Rattle.q_prop.specs.Slots.{without as without_slot};
@@ -22,6 +22,7 @@ ghost use Rattle.q_judge.specs.Ledgers.{slotted, formula_in};
 ghost use Rattle.q_judge.specs.Tried.{IsEndRefusal};
 ghost use Rattle.q_judge.specs.Warrants.{IsAnswered, Resolves};
 
+use crate::blocking::is_blocked_first;
 use crate::checks::{compare, has_room, sum_of};
 use crate::error::CheckError;
 use crate::kept_walks::RecentWalks;
@@ -209,6 +210,16 @@ impl Ledger {
             clause,
             first,
         )
+    }
+
+    /// Whether the first literal blocks the clause, over the slots but one: each resolvent is a tautology. Takes no
+    /// propagation.
+    pub fn is_blocked(&self, skip: Option<usize>, clause: &[Lit], first: &Option<Lit>) -> bool
+        requires within { Within self.now.prefix clause.now }
+        requires first { IsFirst first.now clause.now }
+        ensures { IsTrue result → FirstPivot self.now.prefix (filled (without_slot self.now.slots skip)) clause.now first.now }
+    {
+        is_blocked_first(&self.store, &self.scope, skip, clause, first)
     }
 
     /// Whether the literals, joined with the outer clause of each clause that holds m, are implied, over the slots but one.

@@ -1,25 +1,15 @@
-use Rattle.std.proofs.Common.{◌≡◌, ◌∙◌, ◌<◌, List, [], ◌∷◌, length, get_or, sym, ap, subst, arith}
+use Rattle.std.proofs.Common.{◌∙◌, sym, ap, subst}
 use Rattle.q_logic.specs.declared.steps.Kind.{Kind}
-use Rattle.q_logic.specs.declared.steps.Kind.TheVariants.{Drop, Remove}
-use Rattle.q_logic.specs.Literals.{Literal}
-use Rattle.q_logic.specs.Clauses.{clause_of}
 use Rattle.q_logic.specs.StepForms.{step_of, IsStepForm}
-use Rattle.q_logic.specs.Steps.{ProofStep, drop_literal, remove_variable}
+use Rattle.q_logic.specs.Steps.{ProofStep}
 use Rattle.q_check.specs.Annotations.{IsAnnotated}
+use Rattle.q_check.proofs.FirstLiterals.{first-dropped, first-removed}
 use Rattle.q_check.proofs.annotator.annotate.Goals as goal
-
-first-dropped : (ls : List Literal) (x : Literal) → 0 < length ls → x ≡ get_or ls 0 x → step_of Drop ls ≡ drop_literal x (clause_of ls)
-first-dropped [] x h e = absurd (omega arith)
-first-dropped (l ∷ ls) x h e = ap (λ (k : Literal). drop_literal k (clause_of (l ∷ ls))) (sym e)
-
-first-removed : (ls : List Literal) (x : Literal) → length ls ≡ 1 → x ≡ get_or ls 0 x → step_of Remove ls ≡ remove_variable x.var
-first-removed [] x h e = absurd (omega arith)
-first-removed (l ∷ ls) x h e = ap (λ (k : Literal). remove_variable k.var) (sym e)
 
 pub returns-in_ok-load_clause-in-Delete : goal.returns-in_ok-load_clause-in-Delete
 returns-in_ok-load_clause-in-Delete c =
     let w = c.lits-lits.ensures.whole ∙ ap (λ (k : Kind). step_of k c.lits-lits.result.now) (sym c.kind.ensures ∙ c.in-Delete.is) in
-    let t = rw (c.first_lit-in-Delete.ensures, c.deref-in-Delete.ensures.value, c.in_ok-load_clause-in-Delete.ensures) at c.delete.ensures c.args.limits in
+    let t = rw (c.first_lit-first-in-Delete.ensures, c.deref-in-Delete.ensures.value, c.in_ok-load_clause-in-Delete.ensures) at c.delete.ensures c.args.limits in
     subst (λ (s : ProofStep). IsAnnotated c.args.limits c.args.book.now s c.delete.new.book c.delete.result) (sym w) t
 
 pub returns-in_ok-load_rest-in-Drop : goal.returns-in_ok-load_rest-in-Drop

@@ -1,45 +1,35 @@
-use Rattle.std.proofs.Common.{◌≡◌, ◌∙◌, ◌<◌, List, [], ◌∷◌, length, get_or, sym, ap, subst, arith}
+use Rattle.std.proofs.Common.{◌∙◌, sym, ap, subst}
 use Rattle.q_logic.specs.declared.steps.Kind.{Kind}
-use Rattle.q_logic.specs.declared.steps.Kind.TheVariants.{Drop, Remove}
-use Rattle.q_logic.specs.Literals.{Literal}
-use Rattle.q_logic.specs.Clauses.{clause_of}
 use Rattle.q_logic.specs.StepForms.{step_of, IsStepForm}
-use Rattle.q_logic.specs.Steps.{ProofStep, drop_literal, remove_variable}
+use Rattle.q_logic.specs.Steps.{ProofStep}
 use Rattle.q_check.specs.HintChecks.{IsHintTried}
+use Rattle.q_check.proofs.FirstLiterals.{first-dropped, first-removed}
 use Rattle.q_check.proofs.hint_checker.try_step.Goals as goal
-
-first-dropped : (ls : List Literal) (x : Literal) → 0 < length ls → x ≡ get_or ls 0 x → step_of Drop ls ≡ drop_literal x (clause_of ls)
-first-dropped [] x h e = absurd (omega arith)
-first-dropped (l ∷ ls) x h e = ap (λ (k : Literal). drop_literal k (clause_of (l ∷ ls))) (sym e)
-
-first-removed : (ls : List Literal) (x : Literal) → length ls ≡ 1 → x ≡ get_or ls 0 x → step_of Remove ls ≡ remove_variable x.var
-first-removed [] x h e = absurd (omega arith)
-first-removed (l ∷ ls) x h e = ap (λ (k : Literal). remove_variable k.var) (sym e)
 
 pub returns-in_ok-load_clause-in-Add : goal.returns-in_ok-load_clause-in-Add
 returns-in_ok-load_clause-in-Add c =
     let w = c.lits-lits.ensures.whole ∙ ap (λ (k : Kind). step_of k c.lits-lits.result.now) (sym c.kind.ensures ∙ c.in-Add.is) in
-    let t = rw (c.first_lit.ensures, c.deref.ensures.value, c.in_ok-load_clause-in-Add.ensures) at c.add.ensures c.args.keeps in
-    subst (λ (s : ProofStep). IsHintTried c.args.keeps c.args.limits c.args.book.now s c.args.proof.now c.add.new.book c.add.result) (sym w) t
+    let t = rw (c.first_lit-first.ensures, c.deref.ensures.value, c.in_ok-load_clause-in-Add.ensures) at c.add.ensures c.args.settings.keeps in
+    subst (λ (s : ProofStep). IsHintTried c.args.settings.keeps c.args.settings.limits c.args.book.now s c.args.proof.now c.add.new.book c.add.result) (sym w) t
 
 pub returns-in_ok-load_clause-in-Delete : goal.returns-in_ok-load_clause-in-Delete
 returns-in_ok-load_clause-in-Delete c =
     let w = c.lits-lits.ensures.whole ∙ ap (λ (k : Kind). step_of k c.lits-lits.result.now) (sym c.kind.ensures ∙ c.in-Delete.is) in
-    let t = rw (c.deref-in-Delete.ensures.value, c.in_ok-load_clause-in-Delete.ensures) at c.delete.ensures c.args.limits in
-    subst (λ (s : ProofStep). IsHintTried c.args.keeps c.args.limits c.args.book.now s c.args.proof.now c.delete.new.book c.delete.result) (sym w) t
+    let t = rw (c.first_lit-first-in-Delete.ensures, c.deref-in-Delete.ensures.value, c.in_ok-load_clause-in-Delete.ensures) at c.delete.ensures c.args.settings.limits in
+    subst (λ (s : ProofStep). IsHintTried c.args.settings.keeps c.args.settings.limits c.args.book.now s c.args.proof.now c.delete.new.book c.delete.result) (sym w) t
 
 pub returns-in_ok-load_rest-in-Drop : goal.returns-in_ok-load_rest-in-Drop
 returns-in_ok-load_rest-in-Drop c =
     let k = sym c.kind.ensures ∙ c.in-Drop.is in
     let f = subst (λ (x : Kind). IsStepForm x c.lits-lits.result.now) k c.lits-lits.ensures.form in
     let w = c.lits-lits.ensures.whole ∙ ap (λ (x : Kind). step_of x c.lits-lits.result.now) k ∙ first-dropped c.lits-lits.result.now c.index-lits-0.result f c.index-lits-0.is in
-    let t = rw (c.deref-in-Drop.ensures.value, c.in_ok-load_clause-in-Drop.ensures) at c.drop_literal.ensures c.args.keeps c.args.limits in
-    subst (λ (s : ProofStep). IsHintTried c.args.keeps c.args.limits c.args.book.now s c.args.proof.now c.drop_literal.new.book c.drop_literal.result) (sym w) t
+    let t = rw (c.deref-in-Drop.ensures.value, c.in_ok-load_clause-in-Drop.ensures) at c.drop_literal.ensures c.args.settings.keeps c.args.settings.limits in
+    subst (λ (s : ProofStep). IsHintTried c.args.settings.keeps c.args.settings.limits c.args.book.now s c.args.proof.now c.drop_literal.new.book c.drop_literal.result) (sym w) t
 
 pub returns-in-Remove : goal.returns-in-Remove
 returns-in-Remove c =
     let k = sym c.kind.ensures ∙ c.in-Remove.is in
     let f = subst (λ (x : Kind). IsStepForm x c.lits-lits.result.now) k c.lits-lits.ensures.form in
     let w = c.lits-lits.ensures.whole ∙ ap (λ (x : Kind). step_of x c.lits-lits.result.now) k ∙ first-removed c.lits-lits.result.now c.index-lits-0-in-Remove.result f.0 c.index-lits-0-in-Remove.is in
-    let t = rw (c.var-in-Remove.ensures.value) at c.remove.ensures c.args.limits in
-    subst (λ (s : ProofStep). IsHintTried c.args.keeps c.args.limits c.args.book.now s c.args.proof.now c.remove.new.book c.remove.result) (sym w) t
+    let t = rw (c.var-in-Remove.ensures.value) at c.remove.ensures c.args.settings.limits in
+    subst (λ (s : ProofStep). IsHintTried c.args.settings.keeps c.args.settings.limits c.args.book.now s c.args.proof.now c.remove.new.book c.remove.result) (sym w) t

@@ -10,5 +10,5 @@ use Rattle.q_check.proofs.hint_tests.resolved.Given as goal
 abbrev pub invariant-loop-at : goal.invariant-loop-at
 invariant-loop-at l =
     (l.book ≡ l.fn.book)
-    × ((i : ℕ) → i < l.at → (D : Clause) → slot (left_out l.skip l.fn.book.slots) (group_at l.proof.groups i).target ≡ Some D →
-    Chained (left_out l.skip l.fn.book.slots) (l.base ++ outer l.fn.book.prefix l.m D) (group_at l.proof.groups i).hints)
+    × ((i : ℕ) → i < l.at → (D : Clause) → slot (left_out l.sides.skip l.fn.book.slots) (group_at l.proof.groups i).target ≡ Some D →
+    Chained (left_out l.sides.skip l.fn.book.slots) (l.sides.base.now ++ outer l.fn.book.prefix l.sides.m D) (group_at l.proof.groups i).hints)

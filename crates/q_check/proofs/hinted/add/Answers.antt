@@ -9,12 +9,12 @@ use Rattle.q_check.proofs.hinted.add.Goals as goal
 pub returns-then-not-binds_all : goal.returns-then-not-binds_all
 returns-then-not-binds_all c keep =
     let b = rw c.scope.ensures at c.binds_all.ensures in
-    rw c.refusal.ensures (refl, add-unbound c.args.limits c.args.book.now c.args.first c.args.clause.now c.args.proof.now (test-false c.binds_all.result b c.if-not-binds_all.true))
+    rw c.refusal.ensures (refl, add-unbound c.args.limits c.args.book.now c.args.named.now.first c.args.named.now.clause.now c.args.proof.now (test-false c.binds_all.result b c.if-not-binds_all.true))
 
 pub returns-then-not-has_room : goal.returns-then-not-has_room
 returns-then-not-has_room c keep =
     let b = rw c.scope.ensures at c.binds_all.ensures in
-    rw c.refusal-then-not-has_room.ensures (refl, add-full c.args.limits c.args.book.now c.args.first c.args.clause.now c.args.proof.now (b.0 c.if-not-binds_all.false) (test-false c.has_room.result c.has_room.ensures c.if-not-has_room.true))
+    rw c.refusal-then-not-has_room.ensures (refl, add-full c.args.limits c.args.book.now c.args.named.now.first c.args.named.now.clause.now c.args.proof.now (b.0 c.if-not-binds_all.false) (test-false c.has_room.result c.has_room.ensures c.if-not-has_room.true))
 
 pub shows-requires-clause-within : goal.shows-requires-clause-within
 shows-requires-clause-within c =
@@ -28,7 +28,7 @@ returns-in_err-shown c keep =
 pub returns-then-not-shown : goal.returns-then-not-shown
 returns-then-not-shown c keep =
     let b = rw c.scope.ensures at c.binds_all.ensures in
-    rw (c.refusal-then-not-shown.ensures, c.in_ok-shown.ensures.same) (refl, add-bad c.args.limits c.args.book.now c.args.first c.args.clause.now c.args.proof.now (b.0 c.if-not-binds_all.false) (c.has_room.ensures.0 c.if-not-has_room.false) (test-false c.in_ok-shown.shown c.in_ok-shown.ensures.exact c.if-not-shown.true))
+    rw (c.refusal-then-not-shown.ensures, c.in_ok-shown.ensures.same) (refl, add-bad c.args.limits c.args.book.now c.args.named.now.first c.args.named.now.clause.now c.args.proof.now (b.0 c.if-not-binds_all.false) (c.has_room.ensures.0 c.if-not-has_room.false) (test-false c.in_ok-shown.shown c.in_ok-shown.ensures.exact c.if-not-shown.true))
 
 pub add-requires : goal.add-requires
 add-requires c =
@@ -49,4 +49,4 @@ returns-in_err-add c keep =
 pub returns : goal.returns
 returns c keep =
     let b = rw c.scope.ensures at c.binds_all.ensures in
-    rw (c.in_ok-add.ensures.ok, c.in_ok-shown.ensures.same) ((b.0 c.if-not-binds_all.false, c.in_ok-shown.ensures.exact.0 c.if-not-shown.false, c.has_room.ensures.0 c.if-not-has_room.false), refl, add-entry keep (plain c.args.book.now) c.args.first c.args.clause.now)
+    rw (c.in_ok-add.ensures.ok, c.in_ok-shown.ensures.same) ((b.0 c.if-not-binds_all.false, c.in_ok-shown.ensures.exact.0 c.if-not-shown.false, c.has_room.ensures.0 c.if-not-has_room.false), refl, add-entry keep (plain c.args.book.now) c.args.named.now.first c.args.named.now.clause.now)

@@ -1,6 +1,5 @@
 use Rattle.std.proofs.Common.{refl}
 use Rattle.std.proofs.lemmas.Result.{err_from_is_err_and}
-use Rattle.q_logic.specs.StepForms.{first_of}
 use Rattle.q_logic.proofs.Members.{test-false}
 use Rattle.q_check.proofs.HintCauses.{delete-unbound, delete-missing, delete-bad}
 use Rattle.q_check.proofs.hinted.delete.Goals as goal
@@ -8,13 +7,13 @@ use Rattle.q_check.proofs.hinted.delete.Goals as goal
 pub returns-then-not-binds_all : goal.returns-then-not-binds_all
 returns-then-not-binds_all c m =
     let b = rw c.scope.ensures at c.binds_all.ensures in
-    rw c.refusal.ensures (refl, delete-unbound m c.args.book.now (first_of c.args.lits.now) c.args.clause.now c.args.proof.now (test-false c.binds_all.result b c.if-not-binds_all.true))
+    rw c.refusal.ensures (refl, delete-unbound m c.args.book.now c.args.named.now.first c.args.named.now.clause.now c.args.proof.now (test-false c.binds_all.result b c.if-not-binds_all.true))
 
 pub returns-then-not-is_clause : goal.returns-then-not-is_clause
 returns-then-not-is_clause c m =
     let b = rw c.scope.ensures at c.binds_all.ensures in
     let i = rw c.number-number.ensures at c.is_clause.ensures in
-    rw c.refusal-then-not-is_clause.ensures (refl, delete-missing m c.args.book.now (first_of c.args.lits.now) c.args.clause.now c.args.proof.now (b.0 c.if-not-binds_all.false) (test-false c.is_clause.result i c.if-not-is_clause.true))
+    rw c.refusal-then-not-is_clause.ensures (refl, delete-missing m c.args.book.now c.args.named.now.first c.args.named.now.clause.now c.args.proof.now (b.0 c.if-not-binds_all.false) (test-false c.is_clause.result i c.if-not-is_clause.true))
 
 pub shows-requires-clause-within : goal.shows-requires-clause-within
 shows-requires-clause-within c =
@@ -29,8 +28,8 @@ pub returns-then-not-shown : goal.returns-then-not-shown
 returns-then-not-shown c m =
     let b = rw c.scope.ensures at c.binds_all.ensures in
     let i = rw c.number-number.ensures at c.is_clause.ensures in
-    let e = rw (c.first_lit.ensures, c.number-number.ensures) at c.in_ok-shown.ensures.exact in
-    rw (c.refusal-then-not-shown.ensures, c.in_ok-shown.ensures.same) (refl, delete-bad m c.args.book.now (first_of c.args.lits.now) c.args.clause.now c.args.proof.now (b.0 c.if-not-binds_all.false) (i.0 c.if-not-is_clause.false) (test-false c.in_ok-shown.shown e c.if-not-shown.true))
+    let e = rw c.number-number.ensures at c.in_ok-shown.ensures.exact in
+    rw (c.refusal-then-not-shown.ensures, c.in_ok-shown.ensures.same) (refl, delete-bad m c.args.book.now c.args.named.now.first c.args.named.now.clause.now c.args.proof.now (b.0 c.if-not-binds_all.false) (i.0 c.if-not-is_clause.false) (test-false c.in_ok-shown.shown e c.if-not-shown.true))
 
 pub deletion_entry-requires : goal.deletion_entry-requires
 deletion_entry-requires c =
@@ -38,7 +37,7 @@ deletion_entry-requires c =
     rw c.in_ok-shown.ensures.same (record {
       there = c.is_clause.ensures.0 c.if-not-is_clause.false;
       within = b.0 c.if-not-binds_all.false;
-      shown = rw (c.first_lit-2.ensures, ← c.first_lit.ensures) (c.in_ok-shown.ensures.exact.0 c.if-not-shown.false);
+      shown = c.in_ok-shown.ensures.exact.0 c.if-not-shown.false;
     })
 
 pub returns-in_err-entry : goal.returns-in_err-entry
@@ -54,6 +53,6 @@ pub returns : goal.returns
 returns c m =
     let b = rw c.scope.ensures at c.binds_all.ensures in
     let i = rw c.number-number.ensures at c.is_clause.ensures in
-    let e = rw (c.first_lit.ensures, c.number-number.ensures) at c.in_ok-shown.ensures.exact in
-    let u = rw (c.first_lit-2.ensures, c.in_ok-shown.ensures.same) at c.in_ok-entry.ensures.exact in
+    let e = rw c.number-number.ensures at c.in_ok-shown.ensures.exact in
+    let u = rw c.in_ok-shown.ensures.same at c.in_ok-entry.ensures.exact in
     rw (c.delete.ensures, c.in_ok-entry.ensures.same, c.in_ok-shown.ensures.same, c.number-number.ensures) ((b.0 c.if-not-binds_all.false, i.0 c.if-not-is_clause.false, e.0 c.if-not-shown.false), refl, u)

@@ -24,9 +24,9 @@ implied-entry true F n C p t h (inr (k, v)) other = absurd (other k)
 pub deletion_entry-requires-clause-warranted : goal.deletion_entry-requires-clause-warranted
 deletion_entry-requires-clause-warranted c =
     let F = c.args.book.now in
-    shows-warranted F.prefix (beside c.args.number F) c.args.clause.now c.args.first c.args.proof.now c.requires.shown
+    shows-warranted F.prefix (beside c.args.number F) c.args.named.now.clause.now c.args.named.now.first c.args.proof.now c.requires.shown
 
 pub returns-clause-exact : goal.returns-clause-exact
 returns-clause-exact c =
-    implied-entry c.args.keep c.args.book.now c.args.number c.args.clause.now c.args.first c.args.proof.now c.requires.there c.requires.shown
+    implied-entry c.args.keep c.args.book.now c.args.number c.args.named.now.clause.now c.args.named.now.first c.args.proof.now c.requires.there c.requires.shown
     (λ q. true≢false (subst (λ (k : ProofKind). sameb the_type k Pivot ≡ false) (c.kind.ensures ∙ q) (sym c.eq.ensures ∙ c.if-eq.false)))

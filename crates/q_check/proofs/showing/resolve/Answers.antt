@@ -10,7 +10,7 @@ returns-then-not-branch-clause-exact c =
     let targets = c.holding.new.found.items in
     let room : c.loop-i.i < length targets = omega (arith, c.loop-i-test.true, c.len-i-end.ensures, c.holding.new.found.ok.0) in
     let x = rw c.loop-i.invariant.same at c.in_ok-explained_with.ensures.exact in
-    unresolved F.prefix F.slots c.args.base.now c.args.m c.args.skip targets c.loop-i.i c.index.result.now c.explained_with.new.hints.items c.in_ok-explained_with.field-0
+    unresolved F.prefix F.slots c.args.sides.now.base.now c.args.sides.now.m c.args.sides.now.skip targets c.loop-i.i c.index.result.now c.explained_with.new.hints.items c.in_ok-explained_with.field-0
     c.in_ok-holding.ensures room c.index.ensures c.if-not-branch.true x
 
 pub loop-i-preserved : goal.loop-i-preserved
@@ -31,7 +31,7 @@ loop-i-preserved c =
       number = ap (λ (p : ProofPart). p.number) push ∙ c.loop-i.invariant.number;
       targets = ap (map (λ (g : HintGroup). g.target)) groups ∙ targets-step c.loop-i.proof.groups targets i t hints c.loop-i.invariant.targets room c.index-in-loop-i.ensures;
       each =
-          subst (λ (gs : List HintGroup). AreShown F.prefix (left_out c.args.skip F.slots) c.args.base.now c.args.m gs) (sym groups)
-          (shown-step F.prefix (left_out c.args.skip F.slots) c.args.base.now c.args.m c.loop-i.proof.groups t hints c.loop-i.invariant.each
-          (resolving F.prefix F.slots c.args.base.now c.args.m c.args.skip t hints c.in_ok-explained_with.field-0 c.if-not-branch.false x));
+          subst (λ (gs : List HintGroup). AreShown F.prefix (left_out c.args.sides.now.skip F.slots) c.args.sides.now.base.now c.args.sides.now.m gs) (sym groups)
+          (shown-step F.prefix (left_out c.args.sides.now.skip F.slots) c.args.sides.now.base.now c.args.sides.now.m c.loop-i.proof.groups t hints c.loop-i.invariant.each
+          (resolving F.prefix F.slots c.args.sides.now.base.now c.args.sides.now.m c.args.sides.now.skip t hints c.in_ok-explained_with.field-0 c.if-not-branch.false x));
     }

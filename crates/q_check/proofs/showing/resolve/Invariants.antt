@@ -14,6 +14,6 @@ invariant-loop-i l = record {
   kind : l.proof.kind ≡ Pivot;
   number : l.proof.number ≡ l.fn.proof.number;
   targets : map (λ (g : HintGroup). g.target) l.proof.groups ≡ take l.i l.targets.items;
-  each : (g : HintGroup) → IsIn g l.proof.groups → (D : Clause) → slot (left_out l.skip l.fn.book.slots) g.target ≡ Some D →
-      Chained (left_out l.skip l.fn.book.slots) (l.base ++ outer l.fn.book.prefix l.m D) g.hints;
+  each : (g : HintGroup) → IsIn g l.proof.groups → (D : Clause) → slot (left_out l.sides.skip l.fn.book.slots) g.target ≡ Some D →
+      Chained (left_out l.sides.skip l.fn.book.slots) (l.sides.base.now ++ outer l.fn.book.prefix l.sides.m D) g.hints;
 }

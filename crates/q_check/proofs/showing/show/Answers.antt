@@ -3,11 +3,12 @@ use Rattle.q_check.specs.Numbers.{left_out, Explains}
 use Rattle.q_check.proofs.Grouping.{unwarranted}
 use Rattle.q_check.proofs.showing.show.Goals as goal
 
-pub returns-then-not-branch-clause-shown : goal.returns-then-not-branch-clause-shown
-returns-then-not-branch-clause-shown c =
+pub returns-in-None-clause-shown : goal.returns-in-None-clause-shown
+returns-in-None-clause-shown c =
     let F = c.args.book.now in
     let N = left_out c.args.skip F.slots in
-    let apart = subst (λ (b : Bool). Explains N c.args.clause.now c.explained.new.hints.items b) c.if-branch.false c.in_ok-explained.ensures.exact in
-    let exact = rw (c.in_ok-explained.ensures.same, c.negated.ensures) at c.in_ok-resolve.ensures.exact in
-    let none = rw c.if-not-branch.true at exact in
-    rw c.refusal-then-not-branch.ensures (refl, unwarranted F.prefix N c.args.clause.now c.args.first c.in-Some.pivot apart c.in-Some.is none)
+    let told = rw c.in_ok-proof.ensures.same at c.in_ok-explained.ensures.exact in
+    let apart = subst (λ (b : Bool). Explains N c.args.named.now.clause.now c.explained.new.hints.items b) c.if-branch.false told in
+    let exact = rw (c.in_ok-explained.ensures.same, c.in_ok-proof.ensures.same) at c.in_ok-proof-3.ensures.exact in
+    let none = rw c.in-None.is at exact in
+    rw c.refusal.ensures (refl, unwarranted F.prefix N c.args.named.now.clause.now c.args.named.now.first apart none)

@@ -11,7 +11,7 @@ pub returns-then-not-takes_fresh : goal.returns-then-not-takes_fresh
 returns-then-not-takes_fresh c =
     let L = c.args.ledger.now in
     let t = rw c.scope.ensures at c.takes_fresh.ensures in
-    rw c.refusal.ensures (refl, fresh-refused c.args.limits L.prefix (filled L.slots) c.args.v c.args.w (test-false c.takes_fresh.result t c.if-not-takes_fresh.true))
+    rw c.refusal.ensures (refl, fresh-refused c.args.settings.limits L.prefix (filled L.slots) c.args.v c.args.w (test-false c.takes_fresh.result t c.if-not-takes_fresh.true))
 
 pub insert-requires : goal.insert-requires
 insert-requires c =
@@ -30,4 +30,4 @@ returns c =
     let t = rw c.scope.ensures at c.takes_fresh.ensures in
     let v = t.0 c.if-not-takes_fresh.false in
     let X = filled L.slots in
-    rw c.in_ok-insert.ensures.ok (v, alike_itself (of (insert_after c.args.w c.args.v L.prefix) X), fresh-entry c.args.keep (of L.prefix X) c.args.v c.args.w c.fresh_entry.result c.fresh_entry.ensures)
+    rw c.in_ok-insert.ensures.ok (v, alike_itself (of (insert_after c.args.w c.args.v L.prefix) X), fresh-entry c.args.settings.keeps (of L.prefix X) c.args.v c.args.w c.fresh_entry.result c.fresh_entry.ensures)

@@ -19,10 +19,10 @@ returns-clause-exact c D e =
     let ps = c.self.inside.numbers in
     let there = rw (← c.self.view_is) at e in
     let h = held-at s ps c.self.invariant c.args.number c.in-Some.at D there (sym c.in-Some.ensures) in
-    let joined : c.deref.result.now ≡ c.args.base.now ++ outer c.self.inside.ledger.prefix c.args.m D = c.deref.ensures.value ∙ c.in_ok-join.ensures D h.1 in
-    let w = linked s ps c.self.invariant c.args.skip in
+    let joined : c.deref.result.now ≡ c.args.sides.now.base.now ++ outer c.self.inside.ledger.prefix c.args.sides.now.m D = c.deref.ensures.value ∙ c.in_ok-join.ensures D h.1 in
+    let w = linked s ps c.self.invariant c.args.sides.now.skip in
     let names = rw c.deref-2.ensures.value at c.in_ok-name_all.ensures in
     let exact = rw c.skipped_slot-left_out.ensures at c.in_ok-yes.ensures.exact in
     let shown = rw c.skipped_slot-left_out.ensures at c.in_ok-yes.ensures.shown in
-    let x = explained (without s (place_in ps c.args.skip)) (left_out c.args.skip (numbered_by s ps)) ps w c.deref.result.now c.explain.new.slots.items c.name_all.new.names.items c.in_ok-yes.yes names exact shown in
-    rw (← c.self.view_is) (subst (λ (C : Clause). Explains (left_out c.args.skip (numbered_by s ps)) C c.name_all.new.names.items c.in_ok-yes.yes) joined x)
+    let x = explained (without s (place_in ps c.args.sides.now.skip)) (left_out c.args.sides.now.skip (numbered_by s ps)) ps w c.deref.result.now c.explain.new.slots.items c.name_all.new.names.items c.in_ok-yes.yes names exact shown in
+    rw (← c.self.view_is) (subst (λ (C : Clause). Explains (left_out c.args.sides.now.skip (numbered_by s ps)) C c.name_all.new.names.items c.in_ok-yes.yes) joined x)
