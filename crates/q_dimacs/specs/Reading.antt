@@ -131,6 +131,19 @@ at_place m b k InClause = in_clause m b k
 abbrev pub step_of : Limits → Gathered → TokenKind → Result Gathered ℕ
 step_of m b k = at_place m b k b.place
 
+-- a literal may come next: inside a clause, or outside where clauses are still to come
+abbrev pub literal_fits : Gathered → Place → Bool
+literal_fits b Problem = false
+literal_fits b Format = false
+literal_fits b Vars = false
+literal_fits b Count = false
+literal_fits b Outside = nat_lt (length b.parts.clauses) b.count
+literal_fits b (InSet q) = false
+literal_fits b InClause = true
+
+abbrev pub takes_literals : Gathered → Bool
+takes_literals b = literal_fits b b.place
+
 -- the cause at the end
 abbrev pub end_at : Gathered → Place → Option ℕ
 end_at b Problem = Some bad_header

@@ -1,16 +1,19 @@
 -- The reader over bytes: what one byte does, what many do, and what comes of it at the end.
-use Rattle.std.specs.Prelude.{◌≡◌, ℕ, ◌+◌, ◌<◌, ◌≤◌, ◌^◌, nat_le, List, [], ◌∷◌, length, take, if◌then◌else◌, Result, Ok, Err, Option, Some, None}
+use Rattle.std.specs.Prelude.{◌≡◌, ℕ, ◌+◌, ◌<◌, ◌≤◌, ◌^◌, nat_le, true, List, [], ◌∷◌, length, take, if◌then◌else◌, Result, Ok, Err, Option, Some, None}
 use Rattle.q_logic.specs.declared.limits.Limits.{Limits}
 use Rattle.q_logic.specs.Formulas.{PrenexFormula}
 use Rattle.q_text.specs.declared.tokens.Token.{Token}
 use Rattle.q_text.specs.declared.tokens.Tokens.{Tokens}
-use Rattle.q_text.specs.Tokens.{handed, after, token_in, kind_in, begun}
+use Rattle.q_text.specs.Tokens.{handed, after, token_in, kind_in, begun, line_of}
+use Rattle.q_text.specs.declared.runs.LiteralWord.{LiteralWord}
+use Rattle.q_text.specs.Pieces.{Goes, behind_literal, behind_zero, literal_token, zero_token}
+use Rattle.q_dimacs.specs.declared.builder.Place.TheVariants.{InClause}
 use Rattle.q_dimacs.specs.declared.error.ReadError.{ReadError}
 use Rattle.q_dimacs.specs.declared.error.ReadError.TheVariants.{Refused, NoMemory}
 use Rattle.q_dimacs.specs.declared.reader.Standing.{Standing}
 use Rattle.q_dimacs.specs.declared.reader.Standing.TheVariants.{Reading, Stopped}
 use Rattle.q_dimacs.specs.Building.{formula_of}
-use Rattle.q_dimacs.specs.Reading.{Gathered, step_of, end_of, nothing_read, limit, NoneWaits}
+use Rattle.q_dimacs.specs.Reading.{Gathered, step_of, end_of, takes_literals, nothing_read, limit, NoneWaits}
 
 pub record Scan : Type 0 where
   pub limits : Limits
@@ -89,6 +92,17 @@ Feeds (Err e) all new = FeedFails e all new
 abbrev pub Takes : Result ℕ ReadError → Scan → List ℕ → Scan → Type 0
 Takes (Ok n) s piece new = (0 < n) × (n ≤ length piece) × Feeds (Ok n) (fed s (take n piece)) new
 Takes (Err e) s piece new = (n : ℕ) × FeedFails e (fed s (take n piece)) new
+
+-- the literal may come next, and stands at the front of the piece with a space behind it
+pub record IsAhead (s : Scan) (piece : List ℕ) (w : LiteralWord) : Type 0 where
+  pub fits : takes_literals s.builder ≡ true
+  pub positive : 1 ≤ w.lit.var
+  pub goes : Goes s.tokens (behind_literal s.tokens) piece (w.len + 1) (Some (literal_token w.lit (line_of s.tokens)))
+
+-- a clause has begun, and a 0 and a LF stand at the front of the piece
+pub record IsZeroAhead (s : Scan) (piece : List ℕ) : Type 0 where
+  pub inside : s.builder.place ≡ InClause
+  pub goes : Goes s.tokens (behind_zero s.tokens) piece 2 (Some (zero_token (line_of s.tokens)))
 
 abbrev pub NoneWaitsIn : Standing → Gathered → Type 0
 NoneWaitsIn Reading b = NoneWaits b.place b.parts.pending

@@ -1,8 +1,9 @@
-ghost use Rattle.std.specs.Prelude.{◌≡◌, ℕ, ◌≤◌, ◌<◌, ◌^◌, [], IfOk};
+ghost use Rattle.std.specs.Prelude.{◌≡◌, ℕ, ◌≤◌, ◌<◌, ◌^◌, [], true, Ok, IfOk};
+ghost use Rattle.q_dimacs.specs.declared.builder.Place.{Place};
 ghost use Rattle.q_logic.specs.Parts.{IsProper};
 ghost use Rattle.q_dimacs.specs.Building.{formula_of};
 ghost use Rattle.q_dimacs.specs.Causes.{cause_numbers};
-ghost use Rattle.q_dimacs.specs.Reading.{problem, format, header_number, vars_of, count_of, begin_set, outside, in_clause, number, in_set, end_of, step_of, nothing_read};
+ghost use Rattle.q_dimacs.specs.Reading.{problem, format, header_number, vars_of, count_of, begin_set, outside, in_clause, number, literal, takes_literals, end_clause, in_set, end_of, step_of, nothing_read};
 ghost use Rattle.q_dimacs.specs.Steps.{IsNumber, Steps, error_at};
 
 use crate::error::{Cause, ReadError};
@@ -196,21 +197,60 @@ impl Builder {
         ensures { Steps result (number limits self.old n) self.new }
     {
         if n == 0 {
-            self.parts.end_clause()?;
-            self.place = Place::Outside;
-            return Ok(());
+            return self.end_clause();
         }
         let magnitude = n.unsigned_abs();
         if magnitude > self.vars as u64 {
             return Err(Fault::Refused(Cause::AboveHeader));
         }
+        self.literal(limits, Lit::new(magnitude as u32, n < 0))
+    }
+
+    /// A literal of a clause.
+    #[inline(always)]
+    pub fn literal(&mut self, limits: Limits, lit: Lit) -> Result<(), Fault>
+        ensures { Steps result (literal limits self.old lit.var lit.negative) self.new }
+    {
+        if lit.var() > self.vars {
+            return Err(Fault::Refused(Cause::AboveHeader));
+        }
         if self.lits >= limits.lits {
             return Err(Fault::Refused(Cause::Limit));
         }
-        self.parts.add(Lit::new(magnitude as u32, n < 0))?;
+        self.parts.add(lit)?;
         self.lits += 1;
         self.place = Place::InClause;
         Ok(())
+    }
+
+    /// The 0 of a clause.
+    #[inline(always)]
+    pub fn end_clause(&mut self) -> Result<(), Fault>
+        ensures { Steps result (Ok (end_clause self.old)) self.new }
+    {
+        self.parts.end_clause()?;
+        self.place = Place::Outside;
+        Ok(())
+    }
+
+    /// A clause has begun.
+    #[inline(always)]
+    pub fn is_in_clause(&self) -> bool
+        ensures { result ≡ true → self.now.place ≡ Place.InClause }
+    {
+        matches!(self.place, Place::InClause)
+    }
+
+    /// A literal may come next.
+    #[inline(always)]
+    pub fn takes_literals(&self) -> bool
+        ensures { result ≡ takes_literals self.now }
+    {
+        match self.place {
+            Place::InClause => true,
+            Place::Outside => (self.parts.clauses() as u64) < self.count,
+            _ => false,
+        }
     }
 
     #[inline(always)]

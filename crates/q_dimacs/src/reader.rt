@@ -1,16 +1,19 @@
-ghost use Rattle.std.specs.Prelude.{◌≡◌, ℕ, ◌<◌, ◌≤◌, length, ◌^◌, List, [], ◌++◌, Some, Err, IfOk, OnOk, IfErr};
+ghost use Rattle.std.specs.Prelude.{◌≡◌, ℕ, ◌<◌, ◌≤◌, ◌-◌, length, ◌^◌, List, [], ◌++◌, true, Some, Err, IfOk, OnOk, IfErr, IfSome};
+ghost use Rattle.q_text.specs.Tokens.{line_of};
+ghost use Rattle.q_text.specs.Pieces.{literal_token, zero_token};
+ghost use Rattle.q_dimacs.specs.declared.builder.Place.{Place};
 ghost use Rattle.q_logic.specs.declared.limits.Limits.{Limits};
 ghost use Rattle.q_logic.specs.Parts.{IsProper};
 ghost use Rattle.q_logic.specs.Limits.{AreModerate};
-ghost use Rattle.q_dimacs.specs.Scanning.{Feeds, Takes, Answers, HasRead, byte_step, fed, outcome, start, token_step};
+ghost use Rattle.q_dimacs.specs.Scanning.{IsAhead, IsZeroAhead, Feeds, Takes, Answers, HasRead, byte_step, fed, outcome, start, token_step};
 ghost use Rattle.q_dimacs.specs.Dimacs.{Dimacs, FormulaOf};
 ghost use Rattle.q_dimacs.specs.Offences.{Offence, ReadsOn, RefusesAll, RefusesBehind, StaysWithin, at_end, closed_with};
-ghost use Rattle.q_dimacs.specs.Reading.{end_of, NoneWaits};
+ghost use Rattle.q_dimacs.specs.Reading.{end_of, takes_literals, NoneWaits};
 
 use crate::builder::{Builder, Fault};
 use crate::error::{Cause, ReadError};
-use q_logic::{Formula, Limits};
-use q_text::{Token, Tokens};
+use q_logic::{Formula, Limits, Lit};
+use q_text::{LiteralWord, Token, Tokens};
 use std::alloc::Global;
 use std::marker::Model;
 
@@ -124,6 +127,9 @@ impl Reader {
     }
 
     // Takes some bytes at the front of the piece, one token at most.
+    //
+    // Hot: nearly all of a formula is literals with a space behind them, and 0 with LF behind it. Both are told by a look
+    // at the piece, and go to the clause without a token: a token took 150 instructions, 60 of them to ask what it is.
     #[inline(always)]
     fn push_some(&mut self, piece: &[u8]) -> Result<usize, ReadError>
         requires some { 0 < length piece.now }
@@ -134,6 +140,79 @@ impl Reader {
             self.push(piece[0])?;
             return Ok(1);
         }
+        match self.literal_ahead(piece) {
+            Some(word) => self.push_literal(piece, word),
+            None => self.push_other(piece),
+        }
+    }
+
+    #[inline(always)]
+    fn push_other(&mut self, piece: &[u8]) -> Result<usize, ReadError>
+        requires some { 0 < length piece.now }
+        requires room { length piece.now ≤ self.old.limits.bytes - self.old.taken }
+        requires reading { self.old.standing ≡ Standing.Reading }
+        ensures { Takes result self.old piece.now self.new }
+    {
+        if self.zero_ahead(piece) {
+            self.push_zero(piece)
+        } else {
+            self.push_token(piece)
+        }
+    }
+
+    // The end of a clause, and of its line.
+    #[inline(always)]
+    fn zero_ahead(&self, piece: &[u8]) -> bool
+        ensures { result ≡ true → IsZeroAhead self.now piece.now }
+    {
+        self.builder.is_in_clause() && self.tokens.zero(piece)
+    }
+
+    #[inline(always)]
+    fn push_zero(&mut self, piece: &[u8]) -> Result<usize, ReadError>
+        requires room { length piece.now ≤ self.old.limits.bytes - self.old.taken }
+        requires reading { self.old.standing ≡ Standing.Reading }
+        requires ahead { IsZeroAhead self.old piece.now }
+        ensures { Takes result self.old piece.now self.new }
+    {
+        let line = self.tokens.line();
+        self.tokens.pass_zero();
+        self.taken += 2;
+        self.take_zero(line)?;
+        Ok(2)
+    }
+
+    // The literal at the front of the piece, where one may come.
+    #[inline(always)]
+    fn literal_ahead(&self, piece: &[u8]) -> Option<LiteralWord>
+        ensures { IfSome result (λ w. IsAhead self.now piece.now w) }
+    {
+        if !self.builder.takes_literals() {
+            return None;
+        }
+        self.tokens.literal(piece)
+    }
+
+    #[inline(always)]
+    fn push_literal(&mut self, piece: &[u8], word: LiteralWord) -> Result<usize, ReadError>
+        requires room { length piece.now ≤ self.old.limits.bytes - self.old.taken }
+        requires reading { self.old.standing ≡ Standing.Reading }
+        requires ahead { IsAhead self.old piece.now word }
+        ensures { Takes result self.old piece.now self.new }
+    {
+        self.tokens.pass_literal();
+        self.taken += word.len as u64 + 1;
+        self.take_literal(word.lit)?;
+        Ok(word.len + 1)
+    }
+
+    #[inline(always)]
+    fn push_token(&mut self, piece: &[u8]) -> Result<usize, ReadError>
+        requires some { 0 < length piece.now }
+        requires room { length piece.now ≤ self.old.limits.bytes - self.old.taken }
+        requires reading { self.old.standing ≡ Standing.Reading }
+        ensures { Takes result self.old piece.now self.new }
+    {
         let (count, token) = self.tokens.next(piece);
         self.taken += count as u64;
         match token {
@@ -171,6 +250,39 @@ impl Reader {
             Ok(()) => Ok(()),
             Err(fault) => {
                 let error = fault.at(token.line);
+                self.standing = Standing::Stopped(error);
+                Err(error)
+            }
+        }
+    }
+
+    #[inline(always)]
+    fn take_literal(&mut self, lit: Lit) -> Result<(), ReadError>
+        requires reading { self.old.standing ≡ Standing.Reading }
+        requires positive { 1 ≤ lit.var }
+        requires fits { takes_literals self.old.builder ≡ true }
+        ensures { Feeds result (token_step self.old (Some (literal_token lit (line_of self.old.tokens)))) self.new }
+    {
+        match self.builder.literal(self.limits, lit) {
+            Ok(()) => Ok(()),
+            Err(fault) => {
+                let error = fault.at(self.tokens.line());
+                self.standing = Standing::Stopped(error);
+                Err(error)
+            }
+        }
+    }
+
+    #[inline(always)]
+    fn take_zero(&mut self, line: u64) -> Result<(), ReadError>
+        requires reading { self.old.standing ≡ Standing.Reading }
+        requires inside { self.old.builder.place ≡ Place.InClause }
+        ensures { Feeds result (token_step self.old (Some (zero_token line))) self.new }
+    {
+        match self.builder.end_clause() {
+            Ok(()) => Ok(()),
+            Err(fault) => {
+                let error = fault.at(line);
                 self.standing = Standing::Stopped(error);
                 Err(error)
             }

@@ -1,18 +1,19 @@
 -- What was to come where some bytes came is the answer to them, and then what is to come now.
-use Rattle.std.proofs.Common.{◌≡◌, ◌<◌, ◌≤◌, ℕ, zero, suc, ◌-◌, List, [], ◌∷◌, ◌++◌, length, take, get_or, Result, Ok, Err, Option, Some, None, refl, sym, ap, ◌∙◌, arith, subst, add-one, sub-one, append_assoc, ◌==◌, false}
+use Rattle.std.proofs.Common.{◌≡◌, ◌<◌, ◌≤◌, ℕ, zero, suc, ◌+◌, ◌-◌, drop, length-drop, List, [], ◌∷◌, ◌++◌, length, take, get_or, Result, Ok, Err, Option, Some, None, refl, sym, ap, ◌∙◌, arith, subst, add-one, sub-one, append_assoc, ◌==◌, false}
 use Rattle.std.proofs.lemmas.Bool.Decides.{nat_tests}
-use Rattle.std.proofs.Math.Seq.{take-suc}
-use Rattle.std.proofs.lemmas.List.{length-take-le}
+use Rattle.std.proofs.Math.Seq.{take-suc, take-add}
+use Rattle.std.proofs.lemmas.List.{length-take-le, take_rest}
 use Rattle.q_text.specs.declared.tokens.Token.{Token}
 use Rattle.q_text.specs.declared.tokens.Tokens.{Tokens}
 use Rattle.q_text.specs.Tokens.{after, all_handed, handed, listed}
 use Rattle.q_text.specs.Pieces.{after_all, Goes}
 use Rattle.q_log.specs.declared.error.LogError.{LogError}
 use Rattle.q_log.specs.declared.error.LogError.TheVariants.{BadLine, Limit, NoMemory}
-use Rattle.q_hinted.specs.Grammar.{Place}
+use Rattle.q_hinted.specs.Grammar.{Place, leads, place_move}
+use Rattle.q_hinted.specs.Filled.{Gives}
 use Rattle.q_hinted.specs.Logs.{Entry, Entries}
-use Rattle.q_hinted.specs.Reading.{BothState, Turn, to_come, turn, token_turn, behind, Answers, Leads}
-use Rattle.q_hinted.proofs.Reading.{byte-leads, after-refusal}
+use Rattle.q_hinted.specs.Reading.{BothState, Turn, to_come, turn, token_turn, behind, Answers, Leads, Reads, Brings}
+use Rattle.q_hinted.proofs.Reading.{byte-leads, after-refusal, token-refused}
 
 abbrev pub state_of : Tokens → ℕ → Place → Option LogError → BothState
 state_of t k s f = record { tokens = t; left = k; place = s; refused = f }
@@ -131,3 +132,83 @@ next-behind v s new tokens piece n o a is r l g h =
     let e : w ≡ s = ap (λ (f : Option LogError). state_of v.tokens v.left v.place f) (sym r) ∙ is in
     let k = subst (λ (f : Option LogError). Answers (Ok a) new (token_turn (state_of tokens (v.left - n) v.place f) o)) r h in
     k.1 ∙ (sym (goes-behind v.tokens tokens v.left v.place piece n o l g) ∙ ap (λ (q : BothState). behind q (take n piece)) e)
+
+-- a token that is to be tried yet
+pub reads-token : (v s new : BothState) (tokens : Tokens) (piece : List ℕ) (n : ℕ) (o : Option Token) → v ≡ s → s.refused ≡ None → length piece ≤ s.left → Goes v.tokens tokens piece n o
+    → new ≡ state_of tokens (v.left - n) v.place v.refused → (0 < n) × Reads s new piece n o
+reads-token v s new tokens piece n o is unrefused room g h =
+    let r : v.refused ≡ None = ap (λ (x : BothState). x.refused) is ∙ unrefused in
+    let l : length piece ≤ v.left = subst (λ (x : BothState). length piece ≤ x.left) (sym is) room in
+    let e : state_of v.tokens v.left v.place None ≡ s = ap (λ (f : Option LogError). state_of v.tokens v.left v.place f) (sym r) ∙ is in
+    let q : BothState = state_of tokens (v.left - n) v.place None in
+    let k : q ≡ new = ap (λ (f : Option LogError). state_of tokens (v.left - n) v.place f) (sym r) ∙ sym h in
+    let left : q.left + n ≡ v.left = omega (arith, g.counted, g.within, l) in
+    let one : Reads s q piece n o = record {
+      within = omega (arith, g.counted, g.within);
+      unrefused = refl;
+      left = left ∙ ap (λ (x : BothState). x.left) is;
+      state = ap (λ (x : BothState). behind x (take n piece)) (sym e) ∙ goes-behind v.tokens tokens v.left v.place piece n o l g;
+      leads = λ rest. subst (λ (x : BothState). Leads (token_turn q o).answer (to_come x (take n piece ++ rest)) (to_come (token_turn q o).state rest)) e (goes-leads v.tokens tokens v.left v.place piece n o rest l g);
+    } in
+    (omega (arith, g.counted), subst (λ (x : BothState). Reads s x piece n o) k one)
+
+-- a token that leads on
+pub reads-on : (v s : BothState) (tokens : Tokens) (piece : List ℕ) (n : ℕ) (t : Token) (now : Place) → v ≡ s → s.refused ≡ None → length piece ≤ s.left → Goes v.tokens tokens piece n (Some t)
+    → place_move v.place t ≡ leads now → (0 < n) × Reads s (state_of tokens (v.left - n) now v.refused) piece n None
+reads-on v s tokens piece n t now is unrefused room g m =
+    let r : v.refused ≡ None = ap (λ (x : BothState). x.refused) is ∙ unrefused in
+    let l : length piece ≤ v.left = subst (λ (x : BothState). length piece ≤ x.left) (sym is) room in
+    let new : BothState = state_of tokens (v.left - n) now v.refused in
+    let h : Answers (Ok None) new (token_turn (state_of tokens (v.left - n) v.place v.refused) (Some t)) = rw m (refl, refl) in
+    let counted : (v.left - n) + n ≡ v.left = omega (arith, g.counted, g.within, l) in (
+      omega (arith, g.counted),
+      record {
+        within = omega (arith, g.counted, g.within);
+        unrefused = r;
+        left = counted ∙ ap (λ (x : BothState). x.left) is;
+        state = sym (next-behind v s new tokens piece n (Some t) None is r l g h);
+        leads = next-leads v s new tokens piece n (Some t) (Ok None) is r l g h;
+      },
+    )
+
+-- a token that does not fit
+pub stops-at : (v s : BothState) (tokens : Tokens) (piece : List ℕ) (n : ℕ) (t : Token) (now after : Place) (e : LogError) → v ≡ s → s.refused ≡ None → length piece ≤ s.left → Goes v.tokens tokens piece n (Some t)
+    → Gives (Err e) (place_move v.place t) now t.line → Brings (Err e) s (state_of tokens (v.left - n) after (Some e)) piece
+stops-at v s tokens piece n t now after e is unrefused room g m =
+    let r : v.refused ≡ None = ap (λ (x : BothState). x.refused) is ∙ unrefused in
+    let l : length piece ≤ v.left = subst (λ (x : BothState). length piece ≤ x.left) (sym is) room in
+    let new : BothState = state_of tokens (v.left - n) after (Some e) in
+    let h : Answers (Err e) new (token_turn (state_of tokens (v.left - n) v.place v.refused) (Some t)) = token-refused e (state_of tokens (v.left - n) v.place v.refused) t now new m refl in
+    (refl, n, next-leads v s new tokens piece n (Some t) (Err e) is r l g h)
+
+behind-more : (r : BothState) (bs cs : List ℕ) → behind r (bs ++ cs) ≡ behind (behind r bs) cs
+behind-more r [] cs = refl
+behind-more r (b ∷ bs) cs = behind-more (turn r b).state bs cs
+
+-- further bytes
+further : (a b : BothState) (piece : List ℕ) (m n : ℕ) (rest : List ℕ) → Reads a b piece m None → to_come a (take (m + n) piece ++ rest) ≡ to_come b (take n (drop m piece) ++ rest)
+further a b piece m n rest r =
+    ap (λ (x : List ℕ). to_come a (x ++ rest)) (take-add m n piece)
+    ∙ (ap (to_come a) (append_assoc (take m piece) (take n (drop m piece)) rest) ∙ r.leads (take n (drop m piece) ++ rest))
+
+pub reads-more : (a b c : BothState) (piece : List ℕ) (m n : ℕ) (o : Option Token) → Reads a b piece m None → Reads b c (take (length piece - m) (drop m piece)) n o → Reads a c piece (m + n) o
+reads-more a b c piece m n o r h =
+    let s = rw take_rest at h in
+    record {
+      within = omega (arith, s.within, length-drop m piece, r.within);
+      unrefused = s.unrefused;
+      left = omega (arith, s.left, r.left);
+      state = ap (behind a) (take-add m n piece) ∙ (behind-more a (take m piece) (take n (drop m piece)) ∙ (ap (λ (x : BothState). behind x (take n (drop m piece))) r.state ∙ s.state));
+      leads = λ rest. subst (λ (x : Entries). Leads (token_turn c o).answer x (to_come (token_turn c o).state rest)) (sym (further a b piece m n rest r)) (s.leads rest);
+    }
+
+pub stops-behind : (a b c : BothState) (piece : List ℕ) (m : ℕ) (e : LogError) → Reads a b piece m None → Brings (Err e) b c (take (length piece - m) (drop m piece))
+    → (n : ℕ) × ((rest : List ℕ) → Leads (Err e) (to_come a (take n piece ++ rest)) (to_come c rest))
+stops-behind a b c piece m e r h =
+    let s = rw take_rest at h.2 in (
+      m + h.1,
+      λ rest. subst (λ (x : Entries). Leads (Err e) x (to_come c rest)) (sym (further a b piece m h.1 rest r)) (s rest),
+    )
+
+pub answer-leads : (a c new : BothState) (piece : List ℕ) (n : ℕ) (o : Option Token) (x : Result (Option Entry) LogError) → Reads a c piece n o → Answers x new (token_turn c o) → (rest : List ℕ) → Leads x (to_come a (take n piece ++ rest)) (to_come new rest)
+answer-leads a c new piece n o x r h rest = answered x new (token_turn c o) (to_come a (take n piece ++ rest)) rest h (r.leads rest)

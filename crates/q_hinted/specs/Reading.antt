@@ -1,5 +1,5 @@
 -- A log of either profile read byte by byte: what stands between two bytes, and what is still to come.
-use Rattle.std.specs.Prelude.{◌≡◌, ℕ, ◌-◌, ◌==◌, nat_le, List, [], ◌∷◌, ◌++◌, length, take, if◌then◌else◌, Result, Ok, Err, Option, Some, None}
+use Rattle.std.specs.Prelude.{◌≡◌, ◌≤◌, ◌<◌, ℕ, ◌+◌, ◌-◌, ◌==◌, nat_le, List, [], ◌∷◌, ◌++◌, length, take, if◌then◌else◌, Result, Ok, Err, Option, Some, None}
 use Rattle.q_text.specs.declared.tokens.Token.{Token}
 use Rattle.q_text.specs.declared.tokens.Tokens.{Tokens}
 use Rattle.q_text.specs.Texts.{line_from}
@@ -91,6 +91,20 @@ Leads (Err (Limit n)) before now = (before ≡ stopped (Limit n)) × (now ≡ st
 abbrev pub Passes : Result (ℕ × Option Entry) LogError → BothState → BothState → List ℕ → Type 0
 Passes (Ok (n, o)) old new piece = (rest : List ℕ) → Leads (Ok o) (to_come old (take n piece ++ rest)) (to_come new rest)
 Passes (Err e) old new piece = (n : ℕ) × ((rest : List ℕ) → Leads (Err e) (to_come old (take n piece ++ rest)) (to_come new rest))
+
+-- some bytes at the front of the piece are read, and end no step; the last of them may end a token, which is still to
+-- be tried. Behind them anything may follow.
+pub record Reads (old new : BothState) (piece : List ℕ) (count : ℕ) (token : Option Token) : Type 0 where
+  pub within : count ≤ length piece
+  pub unrefused : new.refused ≡ None
+  pub left : new.left + count ≡ old.left
+  pub state : behind old (take count piece) ≡ (token_turn new token).state
+  pub leads : (rest : List ℕ) → Leads (token_turn new token).answer (to_come old (take count piece ++ rest)) (to_come (token_turn new token).state rest)
+
+-- such bytes, at least one, or a refusal
+abbrev pub Brings : Result (ℕ × Option Token) LogError → BothState → BothState → List ℕ → Type 0
+Brings (Ok (n, o)) old new piece = (0 < n) × Reads old new piece n o
+Brings (Err e) old new piece = (new.refused ≡ Some e) × (n : ℕ) × ((rest : List ℕ) → Leads (Err e) (to_come old (take n piece ++ rest)) (to_come new rest))
 
 -- the answer to the end is all that was to come
 abbrev pub Ends : Result (Option Entry) LogError → Entries → Type 0

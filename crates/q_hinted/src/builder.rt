@@ -1,9 +1,11 @@
-ghost use Rattle.std.specs.Prelude.{◌≡◌, ℕ, true, None, Some, Ok};
+ghost use Rattle.std.specs.Prelude.{◌≡◌, ℕ, true, false, None, Some, Ok};
+ghost use Rattle.q_text.specs.Tokens.{is_zero};
 ghost use Rattle.q_logic.specs.ProofParts.{begun_part};
 ghost use Rattle.q_logic.specs.Steps.{ProofStep};
 ghost use Rattle.q_logic.specs.StepForms.{kind_of};
 ghost use Rattle.q_log.specs.Builders.{open_in};
 ghost use Rattle.q_log.specs.Grammar.{move};
+ghost use Rattle.q_log.specs.Reading.{quiet};
 ghost use Rattle.q_hinted.specs.Grammar.{nowhere, steps, proving, is_open_at, place_move, in_plain, in_steps, behind_step, front_move, format_move, version_move, part_move, number_in, with_zero, with_number, kind_move, profile_at, profile_behind};
 ghost use Rattle.q_hinted.specs.Filled.{is_filled, is_ready, Gives};
 
@@ -89,79 +91,115 @@ impl EntryBuilder {
         ensures gives { Gives result (place_move (place_of self.old) token) (place_of self.new) token.line }
         ensures profile { profile_at (place_of self.new) ≡ profile_behind (place_of self.old) token.kind }
     {
+        if token.kind.is_zero() {
+            return self.zero(token);
+        }
+        match self.add(token) {
+            Ok(()) => Ok(None),
+            Err(error) => Err(error),
+        }
+    }
+
+    /// Takes a token other than 0, which makes no entry whole: so its answer is small.
+    #[inline(always)]
+    pub fn add(&mut self, token: Token) -> Result<(), LogError>
+        requires { is_zero token.kind ≡ false }
+        ensures gives { Gives (quiet result) (place_move (place_of self.old) token) (place_of self.new) token.line }
+        ensures profile { profile_at (place_of self.new) ≡ profile_behind (place_of self.old) token.kind }
+    {
         match self.phase {
+            Phase::Plain | Phase::Steps => self.steps.add(token),
             Phase::Part(stage) => self.part(stage, token),
-            Phase::Steps => self.step(token),
-            Phase::Plain => self.plain(token),
             Phase::Front => self.front(token),
             Phase::Format => self.format(token),
             Phase::Version => self.version(token),
         }
     }
 
-    fn front(&mut self, token: Token) -> Result<Option<Entry>, LogError>
-        requires { self.old.phase ≡ Phase.Front }
-        ensures gives { Gives result (front_move token token.kind) (place_of self.new) token.line }
+    /// The entry that a 0 makes whole.
+    pub fn zero(&mut self, token: Token) -> Result<Option<Entry>, LogError>
+        requires { is_zero token.kind ≡ true }
+        ensures gives { Gives result (place_move (place_of self.old) token) (place_of self.new) token.line }
+        ensures profile { profile_at (place_of self.new) ≡ profile_behind (place_of self.old) token.kind }
+    {
+        match self.phase {
+            Phase::Plain => self.end_plain(token),
+            Phase::Steps => self.end_step(token),
+            Phase::Part(stage) => self.end_part(stage, token.line),
+            Phase::Front => {
+                self.phase = Phase::Plain;
+                self.end_plain(token)
+            }
+            Phase::Format | Phase::Version => Err(LogError::BadLine { line: token.line }),
+        }
+    }
+
+    fn front(&mut self, token: Token) -> Result<(), LogError>
+        requires phase { self.old.phase ≡ Phase.Front }
+        requires other { is_zero token.kind ≡ false }
+        ensures gives { Gives (quiet result) (front_move token token.kind) (place_of self.new) token.line }
         ensures profile { profile_at (place_of self.new) ≡ profile_behind nowhere token.kind }
     {
         match token.kind {
             TokenKind::P => {
                 self.phase = Phase::Format;
-                Ok(None)
+                Ok(())
             }
             _ => {
                 self.phase = Phase::Plain;
-                self.plain(token)
+                self.steps.add(token)
             }
         }
     }
 
-    fn format(&mut self, token: Token) -> Result<Option<Entry>, LogError>
+    fn format(&mut self, token: Token) -> Result<(), LogError>
         requires { self.old.phase ≡ Phase.Format }
-        ensures gives { Gives result (format_move token.kind) (place_of self.new) token.line }
+        ensures gives { Gives (quiet result) (format_move token.kind) (place_of self.new) token.line }
         ensures profile { profile_at (place_of self.new) ≡ 2 }
     {
         match token.kind {
             TokenKind::Qrat => {
                 self.phase = Phase::Version;
-                Ok(None)
+                Ok(())
             }
             _ => Err(LogError::BadLine { line: token.line }),
         }
     }
 
-    fn version(&mut self, token: Token) -> Result<Option<Entry>, LogError>
+    fn version(&mut self, token: Token) -> Result<(), LogError>
         requires { self.old.phase ≡ Phase.Version }
-        ensures gives { Gives result (version_move token.kind) (place_of self.new) token.line }
+        ensures gives { Gives (quiet result) (version_move token.kind) (place_of self.new) token.line }
         ensures profile { profile_at (place_of self.new) ≡ 2 }
     {
         match token.kind {
             TokenKind::Number(2) => {
                 self.phase = Phase::Steps;
-                Ok(None)
+                Ok(())
             }
             _ => Err(LogError::BadLine { line: token.line }),
         }
     }
 
-    fn plain(&mut self, token: Token) -> Result<Option<Entry>, LogError>
-        requires { self.old.phase ≡ Phase.Plain }
+    fn end_plain(&mut self, token: Token) -> Result<Option<Entry>, LogError>
+        requires phase { self.old.phase ≡ Phase.Plain }
+        requires zero { is_zero token.kind ≡ true }
         ensures gives { Gives result (in_plain (move (open_in self.old.steps) token)) (place_of self.new) token.line }
         ensures profile { profile_at (place_of self.new) ≡ 1 }
     {
-        match self.steps.take(token) {
+        match self.steps.zero(token) {
             Ok(Some((line, step))) => Ok(Some((line, step, None))),
             Ok(None) => Ok(None),
             Err(error) => Err(error),
         }
     }
 
-    fn step(&mut self, token: Token) -> Result<Option<Entry>, LogError>
-        requires { self.old.phase ≡ Phase.Steps }
+    fn end_step(&mut self, token: Token) -> Result<Option<Entry>, LogError>
+        requires phase { self.old.phase ≡ Phase.Steps }
+        requires zero { is_zero token.kind ≡ true }
         ensures gives { Gives result (in_steps (move (open_in self.old.steps) token)) (place_of self.new) token.line }
         ensures profile { profile_at (place_of self.new) ≡ 2 }
     {
-        match self.steps.take(token) {
+        match self.steps.zero(token) {
             Ok(Some((line, step))) => Ok(self.behind(line, step)),
             Ok(None) => Ok(None),
             Err(error) => Err(error),
@@ -197,21 +235,22 @@ impl EntryBuilder {
         None
     }
 
+    // A number of a proof part, other than 0.
     #[inline(always)]
-    fn part(&mut self, stage: Stage, token: Token) -> Result<Option<Entry>, LogError>
-        requires { self.old.phase ≡ Phase.Part stage }
+    fn part(&mut self, stage: Stage, token: Token) -> Result<(), LogError>
+        requires phase { self.old.phase ≡ Phase.Part stage }
+        requires other { is_zero token.kind ≡ false }
         ensures gives { (n : ℕ) → (s : ProofStep) → self.old.waiting ≡ Some (n, s) →
-            Gives result (part_move n s self.old.proof stage (number_in token.kind)) (place_of self.new) token.line }
+            Gives (quiet result) (part_move n s self.old.proof stage (number_in token.kind)) (place_of self.new) token.line }
         ensures profile { profile_at (place_of self.new) ≡ 2 }
     {
         match number_in(token.kind) {
             None => Err(LogError::BadLine { line: token.line }),
-            Some(0) => self.zero(stage, token.line),
             Some(number) => self.number(stage, number, token.line),
         }
     }
 
-    fn zero(&mut self, stage: Stage, line: u64) -> Result<Option<Entry>, LogError>
+    fn end_part(&mut self, stage: Stage, line: u64) -> Result<Option<Entry>, LogError>
         requires { self.old.phase ≡ Phase.Part stage }
         ensures gives { (n : ℕ) → (s : ProofStep) → self.old.waiting ≡ Some (n, s) →
             Gives result (with_zero n s self.old.proof stage) (place_of self.new) line }
@@ -246,36 +285,36 @@ impl EntryBuilder {
         }
     }
 
-    fn number(&mut self, stage: Stage, number: u64, line: u64) -> Result<Option<Entry>, LogError>
+    fn number(&mut self, stage: Stage, number: u64, line: u64) -> Result<(), LogError>
         requires { self.old.phase ≡ Phase.Part stage }
         ensures gives { (n : ℕ) → (s : ProofStep) → self.old.waiting ≡ Some (n, s) →
-            Gives result (with_number n s self.old.proof number stage) (place_of self.new) line }
+            Gives (quiet result) (with_number n s self.old.proof number stage) (place_of self.new) line }
         ensures profile { profile_at (place_of self.new) ≡ 2 }
     {
         match stage {
             Stage::Hints | Stage::GroupHints => {
                 self.proof.hint(number)?;
-                Ok(None)
+                Ok(())
             }
             Stage::Targets => {
                 self.proof.begin_group(number)?;
                 self.phase = Phase::Part(Stage::GroupHints);
-                Ok(None)
+                Ok(())
             }
             Stage::Number => {
                 self.proof.restart(ProofKind::Nothing, number);
                 self.phase = Phase::Part(Stage::Kind);
-                Ok(None)
+                Ok(())
             }
             Stage::Kind => self.kind(number, line),
             Stage::Zero => Err(LogError::BadLine { line }),
         }
     }
 
-    fn kind(&mut self, kind: u64, line: u64) -> Result<Option<Entry>, LogError>
+    fn kind(&mut self, kind: u64, line: u64) -> Result<(), LogError>
         requires { self.old.phase ≡ Phase.Part Stage.Kind }
         ensures gives { (n : ℕ) → (s : ProofStep) → self.old.waiting ≡ Some (n, s) →
-            Gives result (kind_move n s self.old.proof kind) (place_of self.new) line }
+            Gives (quiet result) (kind_move n s self.old.proof kind) (place_of self.new) line }
         ensures profile { profile_at (place_of self.new) ≡ 2 }
     {
         let (kind, stage) = match kind {
@@ -287,7 +326,7 @@ impl EntryBuilder {
         let number = self.proof.number();
         self.proof.restart(kind, number);
         self.phase = Phase::Part(stage);
-        Ok(None)
+        Ok(())
     }
 
     /// A header, a step or a proof part is left open.

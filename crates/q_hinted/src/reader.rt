@@ -1,11 +1,12 @@
-ghost use Rattle.std.specs.Prelude.{◌≡◌, ◌≤◌, ◌<◌, ◌+◌, ◌^◌, length, take, [], ◌∷◌, List, ℕ, Option, Some, None, Ok, Err, IfOk, IfErr};
+ghost use Rattle.std.specs.Prelude.{◌≡◌, ◌≤◌, ◌<◌, ◌+◌, ◌^◌, length, take, [], ◌∷◌, List, ℕ, Option, Some, None, Ok, Err, IfOk, IfErr, IfSome, true};
 ghost use Rattle.q_hinted.specs.Logs.{read_entries};
-ghost use Rattle.q_hinted.specs.Reading.{start, to_come, turn, behind, profile, profile_after, Answers, Leads, Passes, Ends};
+ghost use Rattle.q_hinted.specs.Reading.{start, to_come, turn, behind, profile, profile_after, token_turn, Answers, Leads, Passes, Brings, Ends};
+ghost use Rattle.q_text.specs.Tokens.{is_zero};
 
 use crate::builder::{Entry, EntryBuilder};
 use q_log::LogError;
 use q_logic::{Proof, Step};
-use q_text::Tokens;
+use q_text::{Token, Tokens};
 use std::alloc::Global;
 use std::marker::Model;
 
@@ -106,13 +107,59 @@ impl BothReader {
                 Err(error) => Err(error),
             };
         }
+        // Hot: each token of a log passes here. What a step is made of goes to the builder by a call with a small
+        // answer, and only a 0 has the large one, made once a step. One large answer a token took 128 instructions
+        // in the builder and as many here to move and clear it.
+        let mut at = 0;
+        while at < piece.len() {
+            match self.pass(&piece[at..]) {
+                Ok((count, None)) => at += count,
+                Ok((count, Some(token))) => {
+                    return match self.try_zero(token) {
+                        Ok(entry) => Ok((at + count, entry)),
+                        Err(error) => Err(error),
+                    };
+                }
+                Err(error) => return Err(error),
+            }
+        }
+        Ok((at, None))
+    }
+
+    // Takes some bytes at the front of the piece, of which only the last may end a token. A 0 is handed out untried.
+    #[inline(always)]
+    fn pass(&mut self, piece: &[u8]) -> Result<(usize, Option<Token>), LogError>
+        requires some { 0 < length piece.now }
+        requires room { length piece.now ≤ self.old.left }
+        requires unrefused { self.old.refused ≡ None }
+        ensures brings { Brings result self.old self.new piece.now }
+        ensures zero { IfOk result (λ r. IfSome r.1 (λ t. is_zero t.kind ≡ true)) }
+    {
         let (count, token) = self.tokens.next(piece);
         self.left -= count as u64;
         let Some(token) = token else {
             return Ok((count, None));
         };
-        match self.builder.take(token) {
-            Ok(entry) => Ok((count, entry)),
+        if token.kind.is_zero() {
+            return Ok((count, Some(token)));
+        }
+        match self.builder.add(token) {
+            Ok(()) => Ok((count, None)),
+            Err(fault) => {
+                self.refused = Some(fault);
+                Err(fault)
+            }
+        }
+    }
+
+    fn try_zero(&mut self, token: Token) -> Result<Option<Entry>, LogError>
+        requires zero { is_zero token.kind ≡ true }
+        ensures turn { Answers result self.new (token_turn self.old (Some token)) }
+        ensures left { IfOk result (λ _. self.new.left ≡ self.old.left) }
+        ensures stops { (e : LogError) → result ≡ Err e → self.new.refused ≡ Some e }
+    {
+        match self.builder.zero(token) {
+            Ok(entry) => Ok(entry),
             Err(fault) => {
                 self.refused = Some(fault);
                 Err(fault)

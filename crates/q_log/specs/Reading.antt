@@ -12,7 +12,7 @@ use Rattle.q_text.specs.Tokens as tokens
 use Rattle.q_log.specs.declared.error.LogError.{LogError}
 use Rattle.q_log.specs.declared.error.LogError.TheVariants.{BadLine, Limit, NoMemory}
 use Rattle.q_log.specs.declared.builder.Begun.{Begun}
-use Rattle.q_log.specs.Grammar.{OpenStep, Move, ends_step, goes_on, unfit, move}
+use Rattle.q_log.specs.Grammar.{OpenStep, Move, ends_step, goes_on, unfit, move, empty_step}
 use Rattle.q_log.specs.Logs.{Outcome, stopped, finished, onto, outcome, at_end, past_limit}
 
 -- the tokens so far, how many bytes may still come, the step that has begun, and the refusal, if one
@@ -125,6 +125,21 @@ are_plain Remove ls = all_positive ls
 abbrev pub is_plain : Option Begun → List Literal → Bool
 is_plain None ls = true
 is_plain (Some b) ls = are_plain b.kind ls
+
+-- the answer to a token that makes no step whole
+abbrev pub quiet : {X : Type 0} → {Y : Type 0} → Result X LogError → Result (Option Y) LogError
+quiet (Ok x) = Ok None
+quiet (Err e) = Err e
+
+-- a letter fits only where no step has begun
+abbrev pub unless_begun : Option OpenStep → Move → Move
+unless_begun None m = m
+unless_begun (Some o) m = unfit
+
+-- where no step has begun, a number begins an addition
+abbrev pub begun_or_added : Option OpenStep → ℕ → OpenStep
+begun_or_added None line = empty_step line Add
+begun_or_added (Some o) line = o
 
 -- what a token does to the step that is being built
 abbrev pub Builds : Result (Option (ℕ × ProofStep)) LogError → Move → Option Begun → List Literal → ℕ → Type 0

@@ -1,6 +1,7 @@
-ghost use Rattle.std.specs.Prelude.{◌≡◌, ◌++◌, [], ◌∷◌, true, Some, None, is_some};
-ghost use Rattle.q_log.specs.Grammar.{first_move, with_number, with_literal, with_zero, is_whole, has_room, empty_step, goes_on};
-ghost use Rattle.q_log.specs.Reading.{Builds, opened, are_plain, is_plain};
+ghost use Rattle.std.specs.Prelude.{◌≡◌, ◌++◌, [], ◌∷◌, true, false, Some, None, is_some};
+ghost use Rattle.q_text.specs.Tokens.{is_zero, is_zero_ℤ};
+ghost use Rattle.q_log.specs.Grammar.{with_number, with_literal, with_zero, is_whole, has_room, empty_step, goes_on};
+ghost use Rattle.q_log.specs.Reading.{Builds, quiet, unless_begun, begun_or_added, opened, are_plain, is_plain};
 
 use crate::error::LogError;
 use q_logic::{Kind, Lit, Lits, Step};
@@ -72,57 +73,76 @@ impl StepBuilder {
     pub fn take(&mut self, token: Token) -> Result<Option<(u64, Step)>, LogError>
         ensures { Takes result self.old token self.new }
     {
-        match self.begun {
-            None => self.first(token),
-            Some(begun) => match token.kind {
-                TokenKind::Number(number) => self.number(begun, number, token.line),
-                _ => Err(LogError::BadLine { line: token.line }),
-            },
+        if token.kind.is_zero() {
+            return self.zero(token);
+        }
+        match self.add(token) {
+            Ok(()) => Ok(None),
+            Err(error) => Err(error),
         }
     }
 
-    fn first(&mut self, token: Token) -> Result<Option<(u64, Step)>, LogError>
-        requires { self.old.begun ≡ None }
-        ensures { Builds result (first_move token.line token.kind) self.new.begun self.new.lits token.line }
+    /// Takes a token other than 0, which makes no step whole: so its answer is small.
+    #[inline(always)]
+    pub fn add(&mut self, token: Token) -> Result<(), LogError>
+        requires { is_zero token.kind ≡ false }
+        ensures { Takes (quiet result) self.old token self.new }
     {
         match token.kind {
+            TokenKind::Number(number) => self.number(number, token.line),
             TokenKind::D => self.begin(Kind::Delete, token.line),
             TokenKind::U => self.begin(Kind::Drop, token.line),
             TokenKind::E => self.begin(Kind::Fresh, token.line),
             TokenKind::R => self.begin(Kind::Remove, token.line),
-            TokenKind::Number(number) => {
-                self.lits.clear();
-                let begun = Begun {
-                    line: token.line,
-                    kind: Kind::Add,
-                };
-                self.number(begun, number, token.line)
-            }
             _ => Err(LogError::BadLine { line: token.line }),
         }
     }
 
-    fn begin(&mut self, kind: Kind, line: u64) -> Result<Option<(u64, Step)>, LogError>
-        ensures { Builds result (goes_on (empty_step line kind)) self.new.begun self.new.lits line }
+    /// The step that a 0 makes whole.
+    pub fn zero(&mut self, token: Token) -> Result<Option<(u64, Step)>, LogError>
+        requires { is_zero token.kind ≡ true }
+        ensures { Takes result self.old token self.new }
     {
+        let begun = self.begun_at(token.line);
+        self.end(begun, token.line)
+    }
+
+    // A letter, where no step has begun.
+    fn begin(&mut self, kind: Kind, line: u64) -> Result<(), LogError>
+        ensures { Builds (quiet result) (unless_begun (open_in self.old) (goes_on (empty_step line kind)))
+            self.new.begun self.new.lits line }
+    {
+        if self.begun.is_some() {
+            return Err(LogError::BadLine { line });
+        }
         self.lits.clear();
         self.begun = Some(Begun { line, kind });
-        Ok(None)
+        Ok(())
+    }
+
+    // The step that has begun, or an addition that begins with a number.
+    #[inline(always)]
+    fn begun_at(&mut self, line: u64) -> Begun
+        ensures step { opened result self.new.lits ≡ begun_or_added (open_in self.old) line }
+        ensures plain { are_plain result.kind self.new.lits ≡ true }
+    {
+        match self.begun {
+            Some(begun) => begun,
+            None => {
+                self.lits.clear();
+                let kind = Kind::Add;
+                Begun { line, kind }
+            }
+        }
     }
 
     #[inline(always)]
-    fn number(
-        &mut self,
-        begun: Begun,
-        number: i64,
-        line: u64,
-    ) -> Result<Option<(u64, Step)>, LogError>
-        requires { are_plain begun.kind self.old.lits ≡ true }
-        ensures { Builds result (with_number (opened begun self.old.lits) number) self.new.begun self.new.lits line }
+    fn number(&mut self, number: i64, line: u64) -> Result<(), LogError>
+        requires { is_zero_ℤ number ≡ false }
+        ensures { Builds (quiet result) (with_number (begun_or_added (open_in self.old) line) number)
+            self.new.begun self.new.lits line }
     {
-        if number == 0 {
-            return self.end(begun, line);
-        }
+        let begun = self.begun_at(line);
         let magnitude = number.unsigned_abs();
         if magnitude > GREATEST {
             return Err(LogError::BadLine { line });
@@ -131,21 +151,16 @@ impl StepBuilder {
     }
 
     #[inline(always)]
-    fn literal(
-        &mut self,
-        begun: Begun,
-        lit: Lit,
-        line: u64,
-    ) -> Result<Option<(u64, Step)>, LogError>
+    fn literal(&mut self, begun: Begun, lit: Lit, line: u64) -> Result<(), LogError>
         requires { are_plain begun.kind self.old.lits ≡ true }
-        ensures { Builds result (with_literal (opened begun self.old.lits) lit) self.new.begun self.new.lits line }
+        ensures { Builds (quiet result) (with_literal (opened begun self.old.lits) lit) self.new.begun self.new.lits line }
     {
         if !has_room(begun.kind, self.lits.as_slice(), lit.negative()) {
             return Err(LogError::BadLine { line });
         }
         self.lits.push(lit)?;
         self.begun = Some(begun);
-        Ok(None)
+        Ok(())
     }
 
     fn end(&mut self, begun: Begun, line: u64) -> Result<Option<(u64, Step)>, LogError>

@@ -1,5 +1,5 @@
 -- Many bytes at once: digits behind digits, a word at the front of a piece, and the byte behind it.
-use Rattle.std.proofs.Common.{◌≡◌, ◌<◌, ◌≤◌, ℕ, ◌+◌, ◌-◌, ◌*◌, suc, Bool, true, false, List, [], ◌∷◌, ◌++◌, length, take, drop, get_or, refl, ap, ◌∙◌, arith, ◌==◌, if◌then◌else◌, Some, None, cond, add-one, eqb-true, subst}
+use Rattle.std.proofs.Common.{◌≡◌, ◌<◌, ◌≤◌, ℕ, ◌+◌, ◌-◌, ◌*◌, suc, Bool, true, false, List, [], ◌∷◌, ◌++◌, length, take, drop, get_or, refl, sym, ap, ◌∙◌, arith, ◌==◌, if◌then◌else◌, Some, None, cond, add-one, eqb-true, subst}
 use Rattle.std.proofs.lemmas.Bool.Decides.{nat_tests}
 use Rattle.std.proofs.Math.Seq.{take-suc}
 use Rattle.q_text.specs.declared.tokens.TokenKind.TheVariants.{Other}
@@ -8,7 +8,7 @@ use Rattle.q_text.specs.declared.shape.Shape.TheVariants.{Start, Comment, Betwee
 use Rattle.q_text.specs.declared.tokens.Tokens.{Tokens}
 use Rattle.q_text.specs.Words.{is_separator, is_digit, clipped}
 use Rattle.q_text.specs.Tokens.{grown, handed, after, all_handed, listed}
-use Rattle.q_text.specs.Pieces.{after_all, may_begin, AreDigits}
+use Rattle.q_text.specs.Pieces.{after_all, may_begin, behind_zero, zero_token, Goes, AreDigits}
 use Rattle.q_text.proofs.Law.{at}
 
 pub after_all-append : (t : Tokens) (xs ys : List ℕ) → after_all t (xs ++ ys) ≡ after_all (after_all t xs) ys
@@ -140,3 +140,18 @@ word-silent bs k v a n t l s e d h m = let f = rw e at d in let g = rw e at h in
 pub word-state : (bs : List ℕ) (k v a : ℕ) (n : Bool) (t : Tokens) → 3 ≤ length bs → (get_or bs 0 0 == 45) ≡ n → a ≡ sign_of n → is_digit (get_or bs a 0) ≡ true
     → AreDigits (drop (a + 1) bs) (get_or bs a 0 - 48) k v → may_begin t.shape ≡ true → after_all t (take (a + 1 + k) bs) ≡ at t.line (Digits n v)
 word-state bs k v a n t l s e d h m = let f = rw e at d in let g = rw e at h in rw e (signed-state bs k v n t l s f g m)
+
+-- a 0 and a LF
+pub zero_goes : (bs : List ℕ) (t : Tokens) → may_begin t.shape ≡ true → 2 ≤ length bs → get_or bs 0 0 ≡ 48 → get_or bs 1 0 ≡ 10 → Goes t (behind_zero t) bs 2 (Some (zero_token t.line))
+zero_goes [] t m l e f = absurd (omega arith)
+zero_goes (b ∷ []) t m l e f = absurd (omega arith)
+zero_goes (b ∷ c ∷ bs) t m l e f =
+    let d : after t 48 ≡ at t.line (Digits false 0) = first-digit t.line 48 t.shape m refl in
+    record {
+      front = 1;
+      counted = refl;
+      within = omega arith;
+      silent = rw e refl;
+      handed_out = rw (e, f) (ap (λ (u : Tokens). handed u 10) (sym d));
+      state = rw (e, f) refl;
+    }

@@ -1,5 +1,5 @@
 -- The tokens that are still to come behind some bytes: what one byte changes, and what it hands out.
-use Rattle.std.specs.Prelude.{ℕ, ◌+◌, ◌-◌, ◌*◌, ◌==◌, true, false, List, [], ◌∷◌, ◌++◌, Option, Some, None, pos, neg_ℤ, if◌then◌else◌}
+use Rattle.std.specs.Prelude.{ℕ, ◌+◌, ◌-◌, ◌*◌, ◌==◌, Bool, true, false, ℤ, negsuc, List, [], ◌∷◌, ◌++◌, Option, Some, None, pos, neg_ℤ, if◌then◌else◌}
 use Rattle.q_text.specs.declared.tokens.TokenKind.{TokenKind}
 use Rattle.q_text.specs.declared.tokens.TokenKind.TheVariants.{Number, P, Cnf, Qrat, E, A, D, U, R, Other}
 use Rattle.q_text.specs.declared.shape.Shape.{Shape}
@@ -105,6 +105,23 @@ begun = record { line = 1; shape = Start }
 abbrev pub all_handed : Tokens → List ℕ → List Token
 all_handed t [] = []
 all_handed t (b ∷ bs) = listed (handed t b) ++ all_handed (after t b) bs
+
+-- the number 0, which ends clauses and steps
+abbrev pub is_zero_ℤ : ℤ → Bool
+is_zero_ℤ (pos n) = n == 0
+is_zero_ℤ (negsuc n) = false
+
+abbrev pub is_zero : TokenKind → Bool
+is_zero (Number z) = is_zero_ℤ z
+is_zero P = false
+is_zero Cnf = false
+is_zero Qrat = false
+is_zero E = false
+is_zero A = false
+is_zero D = false
+is_zero U = false
+is_zero R = false
+is_zero Other = false
 
 -- the literals, and 0
 abbrev pub literals_kinds : List Literal → List TokenKind

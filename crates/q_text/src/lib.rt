@@ -8,4 +8,5 @@ mod shape;
 mod tokens;
 
 pub use numbers::{digits, put_count, put_number};
+pub use runs::LiteralWord;
 pub use tokens::{Token, TokenKind, Tokens};

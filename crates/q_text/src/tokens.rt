@@ -1,10 +1,10 @@
-ghost use Rattle.std.specs.Prelude.{◌≡◌, ℕ, ◌+◌, ◌-◌, ◌<◌, ◌≤◌, ◌^◌, ◌++◌, ◌==◌, [], ◌∷◌, List, if◌then◌else◌, length};
+ghost use Rattle.std.specs.Prelude.{◌≡◌, ℕ, ◌+◌, ◌-◌, ◌<◌, ◌≤◌, ◌^◌, ◌++◌, ◌==◌, [], ◌∷◌, List, if◌then◌else◌, length, true, Some, IfSome};
 ghost use Rattle.q_text.specs.Words.{is_separator};
 ghost use Rattle.q_text.specs.Texts.{tokens_of};
-ghost use Rattle.q_text.specs.Tokens.{to_come, listed, kind_in, token_in, handed, handed_at_end, line_of, after, begun};
-ghost use Rattle.q_text.specs.Pieces.{Goes};
+ghost use Rattle.q_text.specs.Tokens.{to_come, listed, kind_in, token_in, handed, handed_at_end, line_of, after, begun, is_zero};
+ghost use Rattle.q_text.specs.Pieces.{Goes, behind_literal, behind_zero, literal_token, zero_token};
 
-use crate::runs::number_word;
+use crate::runs::{LiteralWord, literal_word, number_word};
 use crate::shape::Shape;
 
 /// What a word is. A magnitude above 2^62 is given as 2^62.
@@ -20,6 +20,16 @@ pub enum TokenKind {
     U,
     R,
     Other,
+}
+
+impl TokenKind {
+    /// It is the number 0.
+    #[inline(always)]
+    pub fn is_zero(self) -> bool
+        ensures { result ≡ is_zero self }
+    {
+        matches!(self, TokenKind::Number(0))
+    }
 }
 
 /// A word of the text, and the line of its first byte.
@@ -105,6 +115,46 @@ impl Tokens {
             }
         }
         (1, self.push(piece[0]))
+    }
+
+    /// The literal that stands whole at the front of the piece, with a space behind it, if it does so.
+    #[inline(always)]
+    pub fn literal(&self, piece: &[u8]) -> Option<LiteralWord>
+        ensures goes { IfSome result (λ w. Goes self.now (behind_literal self.now) piece.now (w.len + 1)
+            (Some (literal_token w.lit (line_of self.now)))) }
+        ensures positive { IfSome result (λ w. 1 ≤ w.lit.var) }
+    {
+        if !self.shape.may_begin() {
+            return None;
+        }
+        literal_word(piece)
+    }
+
+    /// Goes behind a literal and the space behind it.
+    #[inline(always)]
+    pub fn pass_literal(&mut self)
+        ensures { self.new ≡ behind_literal self.old }
+    {
+        self.shape = Shape::Between;
+    }
+
+    /// A 0 and a LF stand at the front of the piece, as at the end of nearly each clause and step.
+    #[inline(always)]
+    #[tactic(auto, using(crate::proofs::Pieces::zero_goes))]
+    pub fn zero(&self, piece: &[u8]) -> bool
+        ensures { result ≡ true → Goes self.now (behind_zero self.now) piece.now 2 (Some (zero_token (line_of self.now))) }
+    {
+        self.shape.may_begin() && piece.len() >= 2 && piece[0] == b'0' && piece[1] == b'\n'
+    }
+
+    /// Goes behind a 0 and the LF behind it.
+    #[inline(always)]
+    pub fn pass_zero(&mut self)
+        requires { line_of self.old < 2 ^ 64 - 1 }
+        ensures { self.new ≡ behind_zero self.old }
+    {
+        self.line += 1;
+        self.shape = Shape::Start;
     }
 
     /// The token that the end of the text ends, if it ends one.
