@@ -1,5 +1,5 @@
 -- Walks along the list of a literal, from its first place by the next one; and who owns a place.
-use Rattle.std.proofs.Common.{◌≡◌, ◌≢◌, ◌⊎◌, ℕ, ◌+◌, ◌≤◌, ◌<◌, true, get_or, if◌then◌else◌, ◌==◌, List, [], ◌∷◌, ◌++◌, length, slice_get, Option, None, Some, refl, sym, ◌∙◌, ap, subst, inl, inr, arith}
+use Rattle.std.proofs.Common.{◌≡◌, ◌≢◌, ◌⊎◌, ℕ, ◌+◌, ◌-◌, ◌≤◌, ◌<◌, true, get_or, if◌then◌else◌, ◌==◌, List, [], ◌∷◌, ◌++◌, length, slice_get, Option, None, Some, refl, sym, ◌∙◌, ap, subst, inl, inr, arith, length-append}
 use Rattle.std.proofs.lemmas.Bool.Decides.{nat_tests}
 use Rattle.q_logic.specs.Literals.{Literal}
 use Rattle.q_logic.specs.Formulas.{Clause, IsIn}
@@ -93,3 +93,17 @@ owned-place o a exact apart id l C e m =
   where
     two : (s i n t j : ℕ) → i < n → t + j ≡ s + i → s + n ≤ t → ⊥
     two s i n t j h e x = omega arith
+
+-- Steps of a walk by hand.
+pub passed-step : (p : ℕ) (at' next : Option ℕ) (ys : List ℕ) → AreApart ys → at' ≡ Some p → Has ys p → next ≡ following p ys → passed next ys ≡ passed at' ys ++ p ∷ []
+passed-step p at' next ys a e h f = ap (λ (o : Option ℕ). passed o ys) f ∙ (passed-more p ys a h ∙ ap (λ (o : Option ℕ). passed o ys ++ p ∷ []) (sym e))
+
+-- fewer places are left
+pub passed-falls : (p : ℕ) (at' next : Option ℕ) (ys : List ℕ) → AreApart ys → at' ≡ Some p → Has ys p → next ≡ following p ys → length ys - length (passed next ys) < length ys - length (passed at' ys)
+passed-falls p at' next ys a e h f =
+    falls (length (passed at' ys)) (length (passed next ys)) (length ys)
+    (ap length (passed-step p at' next ys a e h f) ∙ length-append (passed at' ys) (p ∷ []))
+    (subst (λ (o : Option ℕ). length (passed o ys) < length ys) (sym e) (passed-less p ys h))
+  where
+    falls : (a b n : ℕ) → b ≡ a + 1 → a < n → n - b < n - a
+    falls a b n e h = omega arith

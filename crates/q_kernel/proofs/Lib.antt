@@ -20,3 +20,5 @@ pub mod Neighbours
 pub mod HolderLists
 pub mod LiveIds
 pub mod Turns
+pub mod Basics
+pub mod Once

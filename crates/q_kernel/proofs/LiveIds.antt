@@ -6,7 +6,8 @@ use Rattle.q_logic.specs.Numbered.{Slots, slot, live, clauses_at, put_first}
 use Rattle.q_arena.specs.Rings.{Has, AreApart}
 use Rattle.q_arena.proofs.Numbers.{none-some}
 use Rattle.q_arena.proofs.Paths.{Misses-from}
-use Rattle.q_kernel.specs.Visits.{IsLive, live_from}
+use Rattle.q_kernel.specs.Visits.{IsLive, AreOnce, live_from}
+use Rattle.q_kernel.proofs.Once.{once-apart}
 
 slot-drop : (N : Slots) (from j : ℕ) → slot (drop from N) j ≡ slot N (from + j)
 slot-drop N zero j = ap (slot N) (omega arith)
@@ -92,8 +93,8 @@ since-above N from = ids-all (λ c. from ≤ c) (drop from N) from (λ j C e. om
 pub since-all : (N : Slots) (from c : ℕ) → from ≤ c → IsLive N c → Contains (live_from from (drop from N)) c
 since-all N from c h i = let r = beyond from c h in ids-has (drop from N) from r.0 c i.there.0 r.1 (slot-drop N from r.0 ∙ (ap (slot N) (sym r.1) ∙ i.there.1))
 
-pub since-once : (N : Slots) (from : ℕ) → AreApart (live_from from (drop from N))
-since-once N from = ids-once (drop from N) from
+pub since-once : (N : Slots) (from : ℕ) → AreOnce (live_from from (drop from N))
+since-once N from = once-apart (live_from from (drop from N)) (ids-once (drop from N) from)
 
 -- The clauses of the ids are those of the formula, in their order.
 clauses-from : (N M : Slots) (b : ℕ) → ((j : ℕ) → slot N (b + j) ≡ slot M j) → clauses_at N (live_from b M) ≡ live M

@@ -7,3 +7,4 @@ pub mod Listing
 pub mod Singles
 pub mod Invariant
 pub mod Visits
+pub mod Lists

@@ -1,5 +1,5 @@
 -- The clauses that a kernel's iterators have still to give.
-use Rattle.std.specs.Prelude.{◌≡◌, ℕ, ◌+◌, if◌then◌else◌, ◌==◌, List, [], ◌∷◌, map, drop, Option, None, Some, slice_index_or}
+use Rattle.std.specs.Prelude.{◌≡◌, ℕ, Contains, ◌+◌, if◌then◌else◌, ◌==◌, List, [], ◌∷◌, map, drop, Option, None, Some, slice_index_or}
 use Rattle.q_logic.specs.Literals.{Literal}
 use Rattle.q_logic.specs.Formulas.{Clause}
 use Rattle.q_logic.specs.Numbered.{Slots, slot}
@@ -37,7 +37,8 @@ pub record IsWalk (k : Seen) (l : Literal) (at : Option ℕ) : Type 0 where
 
 -- no number stands twice in a list
 abbrev pub AreOnce : List ℕ → Type 0
-AreOnce xs = AreApart xs
+AreOnce [] = Unit
+AreOnce (x ∷ xs) = (Contains xs x → ⊥) × AreOnce xs
 
 -- the ids that have a clause, of slots that begin with an id
 abbrev pub live_from : ℕ → Slots → List ℕ

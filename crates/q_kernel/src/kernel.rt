@@ -13,6 +13,7 @@ ghost use Rattle.q_arena.specs.Rings.{Has};
 ghost use Rattle.q_arena.specs.Chains.{following};
 ghost use Rattle.q_occ.specs.Places.{places_of};
 ghost use Rattle.q_kernel.specs.Kernels.{slots, formula_in, SameView, KeepsRoom, KeepsSpare, IsSound, IsListed, HoldsLiteral, HasSweepBytes};
+ghost use Rattle.q_kernel.specs.Visits.{holders_of};
 ghost use Rattle.q_kernel.specs.Changes.{IsLed, MayAdd, IsAdded, MayDelete, IsDeleted, MayDrop, IsDropped, MayShrink, IsShrunk, MayFresh, IsFreshened, MayStep, IsRemoved};
 ghost use Rattle.q_kernel.specs.Taking.{AreModest};
 ghost use Rattle.q_logic.specs.Steps.{remove_variable, Within};
@@ -249,6 +250,7 @@ impl Kernel {
     /// How many places of the literal there are. A literal outside the prefix has none.
     pub fn count(&self, lit: Lit) -> u32
         ensures value { result ≡ length (places_of self.now.lists lit) }
+        ensures held { result ≡ length (holders_of self.now lit) }
         ensures none { result ≡ 0 → (D : Clause) → IsIn D (live (slots self.now)) → IsIn lit D → ⊥ }
         ensures some { 1 ≤ result → (c : ℕ) × HoldsLiteral self.now c lit }
     {

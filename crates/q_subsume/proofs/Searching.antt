@@ -12,10 +12,9 @@ use Rattle.q_logic.specs.Targets.{place}
 use Rattle.q_logic.specs.Rules.{Fits}
 use Rattle.q_logic.proofs.Implying.{same_or_not, negation-negation}
 use Rattle.q_logic.proofs.Slots.{live-slot, others-slot}
-use Rattle.q_arena.specs.Rings.{Has}
 use Rattle.q_kernel.specs.Kernels.{Seen, slots, formula_in, HoldsLiteral}
 use Rattle.q_kernel.proofs.Slotting.{length-others, IsIn-has_empty}
-use Rattle.q_kernel.proofs.Following.{Has-last}
+use Rattle.q_kernel.specs.Visits.{IsLive}
 use Rattle.q_subsume.specs.declared.target.Target.{Target}
 use Rattle.q_subsume.specs.declared.target.Target.TheVariants.{Subsumed, Strengthen}
 use Rattle.q_subsume.specs.Targets.{target_of, inner_of}
@@ -76,20 +75,8 @@ itself-none k c d e (Strengthen a b l) q B f = f.2 (q.inner ∙ (sym e ∙ sym q
 pub record IsSeen (k : Seen) (c from d : ℕ) : Type 0 where
   pub none : from ≤ d → (t : Target) → IsBetween c d t → (B : Bounds) → Fits B k.prefix (slots k) (target_of t) → ⊥
 
--- The clauses that own the places of a list.
-pub record AreSeen (k : Seen) (c from : ℕ) (owner : ℕ → ℕ) (places : List ℕ) : Type 0 where
-  pub each : (p : ℕ) → Has places p → IsSeen k c from (owner p)
-
-pub seen-begun : (k : Seen) (c from : ℕ) (owner : ℕ → ℕ) → AreSeen k c from owner []
-seen-begun k c from owner = record { each = λ p h. absurd h }
-
-pub seen-more : (k : Seen) (c from : ℕ) (owner : ℕ → ℕ) (places : List ℕ) (p : ℕ) → IsSeen k c from (owner p) → AreSeen k c from owner places → AreSeen k c from owner (places ++ p ∷ [])
-seen-more k c from owner places p s h = record { each = λ q m. elim (Has-last p q places m) [ inl a ↦ h.each q a | inr e ↦ subst (λ (x : ℕ). IsSeen k c from (owner x)) (sym e) s ] }
-
-pub seen-all : (k : Seen) (c from : ℕ) (owner : ℕ → ℕ) (places : List ℕ) (l : Literal) → ((d : ℕ) → HoldsLiteral k d l → (p : ℕ) × Has places p × (owner p ≡ d)) → AreSeen k c from owner places → IsFound target_of k (IsAmong k c from l) None
-seen-all k c from owner places l own h = found-none target_of k (IsAmong k c from l) (λ t q B f.
-    let r = own (place (target_of t)) q.holds in
-    (h.each r.0 r.1).none (subst (λ (x : ℕ). from ≤ x) (sym r.2) q.by_clause.order) t (record { inner = q.by_clause.inner; other = sym r.2 }) B f)
+pub seen-all : (k : Seen) (c from : ℕ) (l : Literal) → ((d : ℕ) → HoldsLiteral k d l → IsSeen k c from d) → IsFound target_of k (IsAmong k c from l) None
+seen-all k c from l h = found-none target_of k (IsAmong k c from l) (λ t q B f. (h (place (target_of t)) q.holds).none q.by_clause.order t (record { inner = q.by_clause.inner; other = refl }) B f)
 
 pub found-among : (k : Seen) (c from d : ℕ) (l : Literal) (o : Option Target) → is_some o ≡ true → HoldsLiteral k d l → ((t : Target) → o ≡ Some t → IsBetween c d t × (from ≤ d) × ((B : Bounds) → Fits B k.prefix (slots k) (target_of t))) → IsFound target_of k (IsAmong k c from l) o
 found-among k c from d l o s held h = record {
@@ -147,6 +134,17 @@ empty-none k c from s e t q B f = two t q.inner f
     two (Subsumed a b) q f = few b f.1 (λ z. f.2 (q ∙ z)) f.4
     two (Strengthen a b l) q f = few b f.1 (λ z. f.2 (q ∙ z)) f.4
 
+-- One clause that lies within no other.
+pub record IsTried (k : Seen) (from c : ℕ) : Type 0 where
+  pub none : IsFound target_of k (IsBy c from) None
+
+inner-live : (B : Bounds) (k : Seen) (t : Target) → Fits B k.prefix (slots k) (target_of t) → IsLive (slots k) (inner_of t)
+inner-live B k (Subsumed a b) f = record { there = (f.0, f.3) }
+inner-live B k (Strengthen a b l) f = record { there = (f.0, f.3) }
+
+pub tried-behind : (k : Seen) (start from : ℕ) → ((c : ℕ) → (start ≤ c) × IsLive (slots k) c → IsTried k from c) → IsFound target_of k (IsBehind start from) None
+tried-behind k start from h = found-none target_of k (IsBehind start from) (λ t q B f. (h (inner_of t) (q.behind, inner-live B k t f)).none.none refl t (record { inner = refl; order = q.order }) B f)
+
 -- Clauses one after the other: those from one number on and before another.
 pub record ArePassed (k : Seen) (start from at' : ℕ) : Type 0 where
   pub order : start ≤ at'
@@ -181,12 +179,6 @@ passed-more k start from at' c up between h d = record {
     | inr here ↦ h.none refl t (record { inner = here; order = m }) B f
   ];
 }
-
-pub passed-behind : (k : Seen) (start from at' : ℕ) → ((d : ℕ) → at' ≤ d → slot (slots k) d ≡ None) → ArePassed k start from at' → IsFound target_of k (IsBehind start from) None
-passed-behind k start from at' rest d = found-none target_of k (IsBehind start from) (λ t q B f. elim (below_or_not (inner_of t) at') [
-  | inl low ↦ d.none t q.behind low q.order B f
-  | inr high ↦ inner-none B k t (rest (inner_of t) high) f
-])
 
 pub passed-before : (k : Seen) (end from at' : ℕ) → end ≤ at' → ArePassed k 0 from at' → IsFound target_of k (IsBefore end from) None
 passed-before k end from at' l d = found-none target_of k (IsBefore end from) (λ t q B f. d.none t (omega arith) (let h = q.before in omega arith) q.order B f)

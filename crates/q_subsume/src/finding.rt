@@ -8,7 +8,7 @@
 //!
 //! A lent search begins at the clause by which the last target was found, and goes once round all clauses. So targets that
 //! are taken one after the other are found in one pass, and one more pass tells that none is left.
-ghost use Rattle.std.specs.Prelude.{◌≡◌, ◌≤◌, [], None, Some, IfOk};
+ghost use Rattle.std.specs.Prelude.{◌≡◌, ◌≤◌, [], None, Some};
 ghost use Rattle.q_logic.specs.Literals.{Literal};
 ghost use Rattle.q_logic.specs.Formulas.{Clause, IsIn};
 ghost use Rattle.q_logic.specs.Numbered.{slot};
@@ -26,51 +26,40 @@ ghost use Rattle.q_rule.specs.Searching.{IsFound};
 use crate::search::Search;
 use crate::strengthen::is_turned_within;
 use crate::target::Target;
-use q_arena::ClauseId;
-use q_kernel::Kernel;
-use q_logic::{Lit, NoMemory};
+use q_kernel::{ClauseId, Kernel};
+use q_logic::Lit;
 use q_ordered::first_missing;
 use q_rule::clause_of;
 
 /// A target that fits and whose place is at least a number. The search goes once round all clauses.
-pub fn find_from(
-    kernel: &Kernel,
-    search: &mut Search,
-    from: u32,
-) -> Result<Option<Target>, NoMemory>
+pub fn find_from(kernel: &Kernel, search: &mut Search, from: u32) -> Option<Target>
     requires { IsSwept (formula_in kernel.now) }
-    ensures { IfOk result (IsFound target_of kernel.now (λ t. from ≤ place (target_of t))) }
+    ensures { IsFound target_of kernel.now (λ t. from ≤ place (target_of t)) result }
 {
     let start = search.start();
-    if let Some(target) = find_behind(kernel, start, from)? {
+    if let Some(target) = find_behind(kernel, start, from) {
         search.note(&target);
-        return Ok(Some(target));
+        return Some(target);
     }
     let Some(target) = find_before(kernel, start, from) else {
-        return Ok(None);
+        return None;
     };
     search.note(&target);
-    Ok(Some(target))
+    Some(target)
 }
 
 // A target by which a clause from a number on changes another one.
-fn find_behind(kernel: &Kernel, start: ClauseId, from: u32) -> Result<Option<Target>, NoMemory>
+fn find_behind(kernel: &Kernel, start: ClauseId, from: u32) -> Option<Target>
     requires { IsSwept (formula_in kernel.now) }
-    ensures { IfOk result (IsFound target_of kernel.now (IsBehind start from)) }
+    ensures { IsFound target_of kernel.now (IsBehind start from) result }
 {
-    let mut at = start;
-    while let Some(c) = kernel.next_live(at) {
+    for c in kernel.ids_from(start) {
         let found = find_by(kernel, c, from);
         if found.is_some() {
-            return Ok(found);
+            return found;
         }
-        let Some(after) = c.checked_add(1) else {
-            // so many clauses have no place in memory
-            return Err(NoMemory);
-        };
-        at = after;
     }
-    Ok(None)
+    None
 }
 
 // A target by which a clause before a number changes another one.
@@ -144,14 +133,11 @@ fn find_among(kernel: &Kernel, c: ClauseId, lit: Lit, from: u32) -> Option<Targe
     requires { (C : Clause) × (slot (slots kernel.now) c ≡ Some C) }
     ensures { IsFound target_of kernel.now (IsAmong kernel.now c from lit) result }
 {
-    kernel.sound();
-    let mut at = kernel.first(lit);
-    while let Some(place) = at {
-        let found = look(kernel, c, kernel.owner(place), from);
+    for d in kernel.holders(lit) {
+        let found = look(kernel, c, d, from);
         if found.is_some() {
             return found;
         }
-        at = kernel.next(place);
     }
     None
 }

@@ -1,5 +1,5 @@
 use crate::target::Target;
-use q_arena::ClauseId;
+use q_kernel::ClauseId;
 
 /// What searches lend each other: the clause by which the last target was found. The next search begins there, so that one
 /// target after the other is found in one pass over the clauses. It may be any number, whatever the kernel.

@@ -22,8 +22,7 @@ ghost use Rattle.q_rule.specs.Becoming.{CanChange, IsChanged};
 ghost use Rattle.q_subsume.specs.Looks.{IsTurnedWithin};
 
 use crate::subsumed::are_two;
-use q_arena::ClauseId;
-use q_kernel::Kernel;
+use q_kernel::{ClauseId, Kernel};
 use q_logic::{Lit, holds};
 use q_ordered::first_missing;
 use q_rule::clause_of;

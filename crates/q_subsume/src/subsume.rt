@@ -94,7 +94,7 @@ impl Rules for Search {
         from: u32,
     ) -> Result<Option<Target>, NoMemory> {
         let _ = bounds;
-        find_from(kernel, self, from)
+        Ok(find_from(kernel, self, from))
     }
 }
 

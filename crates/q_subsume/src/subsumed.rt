@@ -20,8 +20,7 @@ ghost use Rattle.q_kernel.specs.Kernels.{slots, formula_in};
 ghost use Rattle.q_rule.specs.Becoming.{CanChange, IsChanged};
 ghost use Rattle.q_subsume.specs.Looks.{AreTwo};
 
-use q_arena::ClauseId;
-use q_kernel::Kernel;
+use q_kernel::{ClauseId, Kernel};
 use q_logic::Lit;
 use q_ordered::first_missing;
 use q_rule::clause_of;

@@ -10,7 +10,7 @@ use Rattle.q_subsume.proofs.finding.find_from.Goals as goal
 pub returns-in-Some : goal.returns-in-Some
 returns-in-Some c =
     let k = c.args.kernel.now in
-    let h = subst (λ (o : Option Target). IsFound target_of k (IsBehind c.start-start.result c.args.from) o) c.in-Some.is c.in_ok-target.ensures in
+    let h = subst (λ (o : Option Target). IsFound target_of k (IsBehind c.start-start.result c.args.from) o) c.in-Some.is c.find_behind.ensures in
     found-more target_of k (IsBehind c.start-start.result c.args.from) (λ t. c.args.from ≤ place (target_of t)) (Some c.in-Some.target) refl (λ t q. q.order) h
 
 pub returns : goal.returns

@@ -1,3 +1,5 @@
+use Rattle.std.proofs.Common.{Ok}
+use Rattle.q_logic.specs.declared.memory.NoMemory.{NoMemory}
 use Rattle.q_rule.proofs.Answering.{finds}
 use Rattle.q_subsume.specs.Targets.{target_of}
 use Rattle.q_subsume.proofs.Results.{fits-applies}
@@ -7,4 +9,4 @@ pub returns-clause-finds : goal.returns-clause-finds
 returns-clause-finds c =
     let B = c.args.bounds.now in
     let k = c.args.kernel.now in
-    finds target_of B k c.args.from c.find_from.result (λ t f. fits-applies B k t c.requires.ready.limits (f B)) c.find_from.ensures
+    finds {E = NoMemory} target_of B k c.args.from (Ok c.find_from.result) (λ t f. fits-applies B k t c.requires.ready.limits (f B)) c.find_from.ensures
