@@ -5,10 +5,8 @@
 //! has to stay where the path in the forest from c to a clause with the negation of l has no other clause with l. All edges are
 //! verified once, when the forest is made, and are right for this kernel alone. Where few clauses hold l, each is asked whether
 //! it stands on the path (`ancestors.rt`); else the path is climbed edge by edge (`paths.rt`).
-ghost use Rattle.std.specs.Prelude.{◌≡◌, ◌⊎◌, ◌+◌, ℕ, true, Some, IsTrue};
-ghost use Rattle.q_logic.specs.Formulas.{Clause};
+ghost use Rattle.std.specs.Prelude.{◌≡◌, ◌⊎◌, ◌+◌, true, IfOk, IsTrue};
 ghost use Rattle.q_logic.specs.Prefixes.{is_bound, outer_or_same};
-ghost use Rattle.q_logic.specs.Numbered.{slot};
 ghost use Rattle.q_kernel.specs.Kernels.{slots};
 ghost use Rattle.q_reduce.specs.Paths.{AreJoined};
 ghost use Rattle.q_reduce.specs.Forests.{place_of, depth_of, parent_of, jump_of, IsLevel, IsEdge, IsForest};
@@ -105,17 +103,16 @@ impl Forest {
         requires bound { is_bound kernel.now.prefix u ≡ true }
         ensures { IfOk result (λ yes. IsTrue yes → IsForest kernel.now.prefix (slots kernel.now) self.new) }
     {
-        self.block = u;
         self.places.clear();
         queue.clear();
         self.grow(kernel, queue, c, u)?;
         self.grow_all(kernel, queue, u)?;
+        self.block = u;
         Ok(self.is_right(kernel))
     }
 
     fn grow_all(&mut self, kernel: &Kernel, queue: &mut Queue, u: u32) -> Result<(), NoMemory>
         requires bound { is_bound kernel.now.prefix u ≡ true }
-        ensures { self.new.block ≡ self.old.block }
     {
         for id in kernel.ids() {
             self.grow(kernel, queue, id, u)?;
@@ -132,7 +129,6 @@ impl Forest {
         u: u32,
     ) -> Result<(), NoMemory>
         requires bound { is_bound kernel.now.prefix u ≡ true }
-        ensures { self.new.block ≡ self.old.block }
     {
         self.order.clear();
         self.hang(root, &Place::Root)?;
@@ -147,7 +143,6 @@ impl Forest {
 
     // Gives a clause a place, unless it has one.
     fn hang(&mut self, c: ClauseId, place: &Place) -> Result<(), NoMemory>
-        ensures { self.new.block ≡ self.old.block }
     {
         if !matches!(self.place(c), Place::Outside) {
             return Ok(());
@@ -170,7 +165,6 @@ impl Forest {
         u: u32,
     ) -> Result<(), NoMemory>
         requires bound { is_bound kernel.now.prefix u ≡ true }
-        ensures { self.new.block ≡ self.old.block }
     {
         if !kernel.live(c) {
             return Ok(());
@@ -190,7 +184,6 @@ impl Forest {
 
     // Hangs all clauses with a literal below one that holds its negation.
     fn hang_all(&mut self, kernel: &Kernel, parent: ClauseId, lit: Lit) -> Result<(), NoMemory>
-        ensures { self.new.block ≡ self.old.block }
     {
         let place = self.place_below(parent, lit);
         for id in kernel.holders(lit) {

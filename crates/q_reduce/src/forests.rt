@@ -83,25 +83,11 @@ impl Forests {
             return Ok(self.climb(kernel, c, lit));
         }
         self.sides.begin(kernel, c, lit)?;
-        if self.connect(kernel, c, lit) {
+        if connect(&self.forests, &self.sides, kernel, c, lit) {
             return Ok(true);
         }
         self.sides.widen(kernel, lit)?;
-        Ok(self.connect(kernel, c, lit))
-    }
-
-    // Whether a forest has a path between the sides.
-    fn connect(&self, kernel: &Kernel, c: ClauseId, lit: Lit) -> bool
-        requires right { AreForestsOf kernel.now self.now }
-        requires sides { AreSides kernel.now.prefix (slots kernel.now) c lit self.inside.sides.starts.items self.inside.sides.ends.items }
-        ensures { IsTrue result → Leads kernel.now.prefix (slots kernel.now) lit c }
-    {
-        for forest in &self.forests {
-            if forest.tells(kernel, c, lit, &self.sides) {
-                return true;
-            }
-        }
-        false
+        Ok(connect(&self.forests, &self.sides, kernel, c, lit))
     }
 
     // Whether a forest has a path of few edges.
@@ -193,6 +179,20 @@ impl Forests {
         }
         Forest::new(self.alloc)
     }
+}
+
+// Whether a forest has a path between the sides.
+fn connect(forests: &[Forest], sides: &Sides, kernel: &Kernel, c: ClauseId, lit: Lit) -> bool
+    requires right { AreForestsOf kernel.now forests.now }
+    requires sides { AreSides kernel.now.prefix (slots kernel.now) c lit sides.now.starts.items sides.now.ends.items }
+    ensures { IsTrue result → Leads kernel.now.prefix (slots kernel.now) lit c }
+{
+    for forest in forests {
+        if forest.tells(kernel, c, lit, sides) {
+            return true;
+        }
+    }
+    false
 }
 
 // So many clauses may be looked at before a forest is made. The first time it is less, for without one each walk is a long one.
