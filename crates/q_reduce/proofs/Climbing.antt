@@ -1,22 +1,22 @@
 -- Paths lead on, and a literal stays where one leads to its negation.
-use Rattle.std.proofs.Common.{◌≡◌, ◌≢◌, ◌⊎◌, ◌≤◌, ◌<◌, ◌+◌, ℕ, true, Some, List, refl, sym, ◌∙◌, ap, subst, inl, inr, arith}
+use Rattle.std.proofs.Common.{◌≡◌, ◌≢◌, ◌⊎◌, ◌≤◌, ◌<◌, ◌+◌, ℕ, true, Some, List, sym, ap, subst, inl, inr, arith}
 use Rattle.q_logic.specs.Literals.{Literal, negation}
 use Rattle.q_logic.specs.Formulas.{Clause, Prefix, IsIn}
 use Rattle.q_logic.specs.Prefixes.{is_bound, outer_or_same}
 use Rattle.q_logic.specs.Numbered.{Slots, slot, others}
-use Rattle.q_logic.specs.Reach.{Reached, first, Reducible}
+use Rattle.q_logic.specs.Reach.{Reached, Reducible}
 use Rattle.q_logic.proofs.Implying.{negation-negation}
 use Rattle.q_logic.proofs.Searching.{hit-reached}
 use Rattle.q_arena.proofs.Numbers.{ℕ-cases}
 use Rattle.q_kernel.proofs.Slotting.{slot-IsIn}
-use Rattle.q_kernel.specs.Kernels.{Seen, slots, HoldsLiteral}
+use Rattle.q_kernel.specs.Kernels.{Seen, slots}
 use Rattle.q_rule.proofs.Slots.{slot-one}
 use Rattle.q_rule.proofs.Outer.{inner-through}
 use Rattle.q_rule.proofs.Quantifiers.{bound-universal}
 use Rattle.q_reduce.specs.declared.place.Place.{Place}
 use Rattle.q_reduce.specs.declared.place.Place.TheVariants.{Outside, Root, Below}
 use Rattle.q_reduce.specs.Paths.{AreJoined, Lacks, Leads, there, on, IsNear, among, beside, HoldsUniversal, Stays}
-use Rattle.q_reduce.specs.Forests.{ForestMap, place_of, depth_at, parent_at, depth_of, parent_of, IsEdge, AreLevels, IsForest, IsAbove, itself, up, IsFree, IsClear}
+use Rattle.q_reduce.specs.Forests.{ForestMap, place_of, depth_at, parent_at, depth_of, parent_of, IsEdge, IsForest, IsAbove, itself, up, IsClear}
 use Rattle.q_reduce.proofs.Walks.{lacking-beside}
 use Rattle.q_reduce.proofs.Above.{parent-level, parent-above, above-level, above-through, top-parent}
 

@@ -134,6 +134,10 @@ impl Forest {
         ensures above { IsAbove self.now.places result c }
         ensures falls { 0 < depth_of self.now.places c → depth_of self.now.places result < depth_of self.now.places c }
     {
-        if by_jump { self.jump(c) } else { self.parent(c) }
+        if by_jump {
+            self.jump(c)
+        } else {
+            self.parent(c)
+        }
     }
 }

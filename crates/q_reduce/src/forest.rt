@@ -142,8 +142,7 @@ impl Forest {
     }
 
     // Gives a clause a place, unless it has one.
-    fn hang(&mut self, c: ClauseId, place: &Place) -> Result<(), NoMemory>
-    {
+    fn hang(&mut self, c: ClauseId, place: &Place) -> Result<(), NoMemory> {
         if !matches!(self.place(c), Place::Outside) {
             return Ok(());
         }
@@ -183,8 +182,7 @@ impl Forest {
     }
 
     // Hangs all clauses with a literal below one that holds its negation.
-    fn hang_all(&mut self, kernel: &Kernel, parent: ClauseId, lit: Lit) -> Result<(), NoMemory>
-    {
+    fn hang_all(&mut self, kernel: &Kernel, parent: ClauseId, lit: Lit) -> Result<(), NoMemory> {
         let place = self.place_below(parent, lit);
         for id in kernel.holders(lit) {
             self.hang(id, &place)?;
@@ -229,7 +227,12 @@ impl Forest {
             return false;
         };
         match self.place(c) {
-            Place::Below { parent, lit, depth, jump } => {
+            Place::Below {
+                parent,
+                lit,
+                depth,
+                jump,
+            } => {
                 self.is_level(parent, depth, jump) && is_edge(kernel, c, lit, parent, self.block)
             }
             _ => true,

@@ -18,6 +18,7 @@ const TRIES: usize = 4;
 
 // So many clauses are tried around the clause that is asked about, and around those with the negation.
 const STARTS: usize = 6;
+
 const ENDS: usize = 16;
 
 // So many clauses with one literal are taken beside a clause.

@@ -1,4 +1,3 @@
-use Rattle.std.proofs.Common.{rules}
 use Rattle.q_reduce.specs.Forests.{IsAbove}
 use Rattle.q_reduce.proofs.Above.{above-through}
 use Rattle.q_reduce.proofs.forest.Forest.ancestor.Goals as goal

@@ -5,8 +5,7 @@ use Rattle.q_reduce.proofs.forest.Forest.connects.Goals as goal
 
 pub returns-then-leads_to_any : goal.returns-then-leads_to_any
 returns-then-leads_to_any c t =
-    let r = c.leads_to_any.ensures c.if-leads_to_any.true in
-    (
+    let r = c.leads_to_any.ensures c.if-leads_to_any.true in (
       get_or c.deref-from-items.result.now c.loop-from.from-index 0,
       r.0,
       subst (λ (xs : List ℕ). IsIn (get_or c.deref-from-items.result.now c.loop-from.from-index 0) xs) c.deref-from-items.ensures.value (number-at c.deref-from-items.result.now c.loop-from.from-index 0 c.loop-from-test.true),

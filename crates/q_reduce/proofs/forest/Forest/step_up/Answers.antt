@@ -1,4 +1,4 @@
-use Rattle.std.proofs.Common.{◌<◌, ◌≤◌, ◌+◌, ℕ, sym, subst, arith, rules}
+use Rattle.std.proofs.Common.{◌<◌, ℕ, sym, subst, arith}
 use Rattle.q_reduce.specs.Forests.{depth_of, IsAbove}
 use Rattle.q_reduce.proofs.Above.{jump-above, jump-falls, parent-above}
 use Rattle.q_reduce.proofs.forest.Forest.step_up.Goals as goal
