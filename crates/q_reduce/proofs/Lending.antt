@@ -1,9 +1,14 @@
 -- What a search has learned stays right where the formula is the same.
 use Rattle.std.proofs.Common.{◌≡◌, sym, subst}
-use Rattle.q_logic.specs.Formulas.{PrenexFormula}
-use Rattle.q_kernel.specs.Kernels.{Seen, formula_in}
+use Rattle.q_logic.specs.Formulas.{Prefix}
+use Rattle.q_logic.specs.Numbered.{Slots, live}
+use Rattle.q_kernel.specs.Kernels.{Seen, slots}
 use Rattle.q_reduce.specs.Regions.{AreRegions}
+use Rattle.q_reduce.specs.Forests.{IsForest}
 use Rattle.q_reduce.specs.Lent.{Learned, IsFitFor}
 
-pub fit-same : (j k : Seen) (s : Learned) → formula_in k ≡ formula_in j → IsFitFor j s → IsFitFor k s
-fit-same j k s e h = record { regions = λ R m. subst (λ (F : PrenexFormula). AreRegions F.prefix F.matrix R) (sym e) (h.regions R m) }
+pub fit-same : (j k : Seen) (s : Learned) → k.prefix ≡ j.prefix → slots k ≡ slots j → IsFitFor j s → IsFitFor k s
+fit-same j k s p e h = record {
+  regions = λ R m. subst (λ (P : Prefix). AreRegions P (live (slots k)) R) (sym p) (subst (λ (N : Slots). AreRegions j.prefix (live N) R) (sym e) (h.regions R m));
+  forests = λ F m. subst (λ (P : Prefix). IsForest P (slots k) F) (sym p) (subst (λ (N : Slots). IsForest j.prefix N F) (sym e) (h.forests F m));
+}

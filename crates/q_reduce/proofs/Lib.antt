@@ -1,8 +1,10 @@
 pub mod Walks
 pub mod Reaching
 pub mod Absent
+pub mod Above
 pub mod Climbing
 pub mod Passing
 pub mod Results
 pub mod Separating
 pub mod Lending
+pub mod Listing

@@ -1,6 +1,7 @@
 pub mod Targets
 pub mod Walks
 pub mod Paths
+pub mod Forests
 pub mod Searches
 pub mod Regions
 pub mod Lent

@@ -2,216 +2,120 @@
 //!
 //! Two clauses are joined where one holds an existential literal that is inner to a universal, and the other its negation. One
 //! pass over the clauses, breadth first, gives each clause a parent among those that are joined to it. A literal l of a clause c
-//! has to stay where the path in the forest from c to a clause with the negation of l has no other clause with l. Of the
-//! forest nothing is believed: each edge of a path is looked at as the clauses are now. So it may be old, and only tells less then.
-ghost use Rattle.std.specs.Prelude.{◌≡◌, ℕ, true, Some, IsTrue};
-ghost use Rattle.q_logic.specs.Literals.{negation};
-ghost use Rattle.q_logic.specs.Formulas.{Clause, IsIn};
-ghost use Rattle.q_logic.specs.Prefixes.{is_bound};
-ghost use Rattle.q_logic.specs.Numbered.{slot};
+//! has to stay where the path in the forest from c to a clause with the negation of l has no other clause with l. All edges are
+//! verified once, when the forest is made, and are right for this kernel alone. Where few clauses hold l, each is asked whether
+//! it stands on the path (`ancestors.rt`); else the path is climbed edge by edge (`paths.rt`).
+ghost use Rattle.std.specs.Prelude.{◌≡◌, ◌⊎◌, ◌+◌, true, IfOk, IsTrue};
+ghost use Rattle.q_logic.specs.Prefixes.{is_bound, outer_or_same};
 ghost use Rattle.q_kernel.specs.Kernels.{slots};
-ghost use Rattle.q_reduce.specs.Paths.{AreJoined, Lacks, HoldsUniversal, Stays};
+ghost use Rattle.q_reduce.specs.Paths.{AreJoined};
+ghost use Rattle.q_reduce.specs.Forests.{place_of, depth_of, parent_of, jump_of, IsLevel, IsEdge, IsForest};
 
-use crate::reach::lies_inside;
-use q_arena::ClauseId;
-use q_kernel::Kernel;
+use crate::place::Place;
+use q_kernel::{ClauseId, Kernel};
 use q_logic::{Lit, NoMemory, holds};
-use q_rule::{Queue, clause_of};
+use q_rule::{Queue, is_inner};
 use std::alloc::Global;
-
-// At least so many edges of a path are looked at.
-const STEPS: usize = 64;
-
-// A walk that looks at so many times as many clauses costs more than a longer path.
-const DEAR: usize = 16;
-
-// So many clauses with the negation of a literal are tried.
-const TRIES: usize = 8;
+use std::marker::Model;
 
 // Nothing hangs below longer clauses: a look at one costs its length.
 const LONGEST: usize = 64;
-
-/// Where a clause stands in a forest.
-#[derive(Clone, Copy)]
-enum Place {
-    Outside,
-    Root,
-    /// Below a clause that held the negation of the literal, so many edges below a root.
-    Below {
-        parent: ClauseId,
-        lit: Lit,
-        depth: u32,
-    },
-}
 
 /// A forest for the universal variables of one block.
 #[derive(Drop)]
 pub struct Forest {
     block: u32,
-    // so many edges of a path are looked at
-    steps: usize,
     places: Vec<Place>,
     // the clauses of a tree, in the order in which they came to it
     order: Vec<ClauseId>,
+}
+
+impl Model for Forest {
+    ghost use Rattle.q_reduce.specs.Forests.{ForestMap};
+
+    ghost Value = { ForestMap };
+
+    ghost view = { λ f. record { block = f.block; places = f.places.items } };
 }
 
 impl Forest {
     pub(crate) fn new(alloc: Global) -> Forest {
         Forest {
             block: 0,
-            steps: STEPS,
             places: Vec::new(alloc),
             order: Vec::new(alloc),
         }
     }
 
     /// Whether the forest is for the block of a variable.
-    pub(crate) fn is_for(&self, kernel: &Kernel, var: u32) -> bool {
+    pub(crate) fn is_for(&self, kernel: &Kernel, var: u32) -> bool
+        ensures { IsTrue result → outer_or_same kernel.now.prefix var self.now.block ≡ true }
+    {
         is_outer(kernel, self.block, var) && is_outer(kernel, var, self.block)
     }
 
-    /// Whether paths show that a literal has to stay in its clause.
-    pub(crate) fn keeps(&self, kernel: &Kernel, c: ClauseId, lit: Lit) -> bool
-        requires { HoldsUniversal kernel.now.prefix (slots kernel.now) c lit }
-        ensures { IsTrue result → Stays kernel.now.prefix (slots kernel.now) c lit }
+    pub(crate) fn place(&self, c: ClauseId) -> Place
+        ensures { result ≡ place_of self.now.places c }
     {
-        let mut at = kernel.first(lit.negated());
-        for _ in 0..TRIES {
-            let Some(place) = at else {
-                return false;
-            };
-            if self.leads(kernel, c, lit, kernel.owner(place)) {
-                return true;
-            }
-            at = kernel.next(place);
-        }
-        false
-    }
-
-    /// Learns of a walk that was made since no path told enough, and looked at so many clauses: paths may be the longer the more
-    /// such walks cost.
-    pub(crate) fn adapt(&mut self, looks: usize) {
-        if looks / DEAR > self.steps {
-            self.steps = self.steps.saturating_mul(2);
-        } else if looks < self.steps {
-            self.steps = STEPS.max(self.steps / 2);
-        }
-    }
-
-    // Whether the paths upwards from c and from d, which holds the negation of the literal, meet, and no clause on them but c
-    // holds the literal. The lower one of two clauses is left for its parent.
-    fn leads(&self, kernel: &Kernel, c: ClauseId, lit: Lit, d: ClauseId) -> bool
-        requires universal { HoldsUniversal kernel.now.prefix (slots kernel.now) c lit }
-        requires negation { (D : Clause) × (slot (slots kernel.now) d ≡ Some D) × IsIn (negation lit) D }
-        ensures { IsTrue result → Stays kernel.now.prefix (slots kernel.now) c lit }
-    {
-        let mut near = c;
-        let mut far = d;
-        for _ in 0..self.steps {
-            if near == far {
-                return true;
-            }
-            if self.depth(near) >= self.depth(far) {
-                let Some(parent) = self.free_parent(kernel, near, lit) else {
-                    return false;
-                };
-                near = parent;
-            } else {
-                let Some(parent) = self.parent_of_free(kernel, far, lit) else {
-                    return false;
-                };
-                far = parent;
-            }
-        }
-        false
-    }
-
-    // The parent of a clause, if the parent lacks u.
-    fn free_parent(&self, kernel: &Kernel, c: ClauseId, u: Lit) -> Option<ClauseId>
-        requires bound { is_bound kernel.now.prefix u.var ≡ true }
-        requires live { (C : Clause) × (slot (slots kernel.now) c ≡ Some C) }
-        ensures joined { (p : ℕ) → result ≡ Some p → AreJoined kernel.now.prefix (slots kernel.now) u c p }
-        ensures lacks { (p : ℕ) → result ≡ Some p → Lacks (slots kernel.now) p u }
-    {
-        let Some(parent) = self.parent(kernel, c, u) else {
-            return None;
-        };
-        if holds(clause_of(kernel, parent), u) {
-            None
-        } else {
-            Some(parent)
-        }
-    }
-
-    // The parent of a clause, if the clause lacks u.
-    fn parent_of_free(&self, kernel: &Kernel, c: ClauseId, u: Lit) -> Option<ClauseId>
-        requires bound { is_bound kernel.now.prefix u.var ≡ true }
-        requires live { (C : Clause) × (slot (slots kernel.now) c ≡ Some C) }
-        ensures joined { (p : ℕ) → result ≡ Some p → AreJoined kernel.now.prefix (slots kernel.now) u c p }
-        ensures lacks { (p : ℕ) → result ≡ Some p → Lacks (slots kernel.now) c u }
-    {
-        if holds(clause_of(kernel, c), u) {
-            None
-        } else {
-            self.parent(kernel, c, u)
-        }
-    }
-
-    fn place(&self, c: ClauseId) -> Place {
         self.places
             .get(c as usize)
             .copied()
             .unwrap_or(Place::Outside)
     }
 
-    fn depth(&self, c: ClauseId) -> u32 {
+    pub(crate) fn depth(&self, c: ClauseId) -> u32
+        ensures { result ≡ depth_of self.now.places c }
+    {
         match self.place(c) {
             Place::Below { depth, .. } => depth,
             _ => 0,
         }
     }
 
-    // The parent of a clause, where the edge is there still, by a literal that is inner to u.
-    fn parent(&self, kernel: &Kernel, c: ClauseId, u: Lit) -> Option<ClauseId>
-        requires bound { is_bound kernel.now.prefix u.var ≡ true }
-        requires live { (C : Clause) × (slot (slots kernel.now) c ≡ Some C) }
-        ensures { (p : ℕ) → result ≡ Some p → AreJoined kernel.now.prefix (slots kernel.now) u c p }
+    /// The parent of a clause; the clause itself where it has none.
+    pub(crate) fn parent(&self, c: ClauseId) -> ClauseId
+        ensures { result ≡ parent_of self.now.places c }
     {
         match self.place(c) {
-            Place::Below { parent, lit, .. } => {
-                if is_edge(kernel, c, lit, parent, u) {
-                    Some(parent)
-                } else {
-                    None
-                }
-            }
-            _ => None,
+            Place::Below { parent, .. } => parent,
+            _ => c,
         }
     }
 
-    /// Makes the forest for the block of a universal literal. A clause that is given is a root. The queue may hold anything
-    /// before and after.
+    pub(crate) fn jump(&self, c: ClauseId) -> ClauseId
+        ensures { result ≡ jump_of self.now.places c }
+    {
+        match self.place(c) {
+            Place::Below { jump, .. } => jump,
+            _ => c,
+        }
+    }
+
+    /// Makes the forest for the block of a universal literal, and says whether it is right. A clause that is given is a root.
+    /// The queue may hold anything before and after.
     pub(crate) fn build(
         &mut self,
         kernel: &Kernel,
         queue: &mut Queue,
         c: ClauseId,
-        u: Lit,
-    ) -> Result<(), NoMemory>
-        requires bound { is_bound kernel.now.prefix u.var ≡ true }
-        requires live { (C : Clause) × (slot (slots kernel.now) c ≡ Some C) }
+        u: u32,
+    ) -> Result<bool, NoMemory>
+        requires bound { is_bound kernel.now.prefix u ≡ true }
+        ensures { IfOk result (λ yes. IsTrue yes → IsForest kernel.now.prefix (slots kernel.now) self.new) }
     {
-        self.block = u.var();
         self.places.clear();
         queue.clear();
         self.grow(kernel, queue, c, u)?;
-        let mut at = 0;
-        while let Some(id) = kernel.next_live(at) {
+        self.grow_all(kernel, queue, u)?;
+        self.block = u;
+        Ok(self.is_right(kernel))
+    }
+
+    fn grow_all(&mut self, kernel: &Kernel, queue: &mut Queue, u: u32) -> Result<(), NoMemory>
+        requires bound { is_bound kernel.now.prefix u ≡ true }
+    {
+        for id in kernel.ids() {
             self.grow(kernel, queue, id, u)?;
-            let Some(after) = id.checked_add(1) else {
-                return Ok(());
-            };
-            at = after;
         }
         Ok(())
     }
@@ -222,13 +126,12 @@ impl Forest {
         kernel: &Kernel,
         queue: &mut Queue,
         root: ClauseId,
-        u: Lit,
+        u: u32,
     ) -> Result<(), NoMemory>
-        requires bound { is_bound kernel.now.prefix u.var ≡ true }
-        requires live { (C : Clause) × (slot (slots kernel.now) root ≡ Some C) }
+        requires bound { is_bound kernel.now.prefix u ≡ true }
     {
         self.order.clear();
-        self.hang(root, Place::Root)?;
+        self.hang(root, &Place::Root)?;
         for head in 0..usize::MAX {
             let Some(c) = self.order.get(head).copied() else {
                 return Ok(());
@@ -239,7 +142,7 @@ impl Forest {
     }
 
     // Gives a clause a place, unless it has one.
-    fn hang(&mut self, c: ClauseId, place: Place) -> Result<(), NoMemory> {
+    fn hang(&mut self, c: ClauseId, place: &Place) -> Result<(), NoMemory> {
         if !matches!(self.place(c), Place::Outside) {
             return Ok(());
         }
@@ -247,7 +150,7 @@ impl Forest {
         if self.places.len() <= index {
             self.places.resize(index + 1, Place::Outside)?;
         }
-        self.places[index] = place;
+        self.places[index] = *place;
         self.order.push(c)?;
         Ok(())
     }
@@ -258,9 +161,9 @@ impl Forest {
         kernel: &Kernel,
         queue: &mut Queue,
         c: ClauseId,
-        u: Lit,
+        u: u32,
     ) -> Result<(), NoMemory>
-        requires bound { is_bound kernel.now.prefix u.var ≡ true }
+        requires bound { is_bound kernel.now.prefix u ≡ true }
     {
         if !kernel.live(c) {
             return Ok(());
@@ -270,7 +173,7 @@ impl Forest {
             return Ok(());
         }
         for k in clause {
-            if lies_inside(kernel, *k, u) && !queue.has(*k) {
+            if is_inner(kernel, k.var(), u) && !queue.has(*k) {
                 queue.push(*k)?;
                 self.hang_all(kernel, c, k.negated())?;
             }
@@ -280,31 +183,87 @@ impl Forest {
 
     // Hangs all clauses with a literal below one that holds its negation.
     fn hang_all(&mut self, kernel: &Kernel, parent: ClauseId, lit: Lit) -> Result<(), NoMemory> {
-        let depth = self.depth(parent).saturating_add(1);
-        kernel.sound();
-        let mut at = kernel.first(lit);
-        while let Some(place) = at {
-            self.hang(kernel.owner(place), Place::Below { parent, lit, depth })?;
-            at = kernel.next(place);
+        let place = self.place_below(parent, lit);
+        for id in kernel.holders(lit) {
+            self.hang(id, &place)?;
         }
         Ok(())
+    }
+
+    // The place of a clause below a parent. Where the last two jumps on the way up are of one length, they become one jump.
+    fn place_below(&self, parent: ClauseId, lit: Lit) -> Place {
+        let depth = self.depth(parent);
+        let near = self.jump(parent);
+        let far = self.jump(near);
+        let level = self.depth(near);
+        let even = depth.saturating_sub(level) == level.saturating_sub(self.depth(far));
+        Place::Below {
+            parent,
+            lit,
+            depth: depth.saturating_add(1),
+            jump: if even { far } else { parent },
+        }
+    }
+
+    // Whether all edges, depths and jumps are right.
+    fn is_right(&self, kernel: &Kernel) -> bool
+        requires { is_bound kernel.now.prefix self.now.block ≡ true }
+        ensures { IsTrue result → IsForest kernel.now.prefix (slots kernel.now) self.now }
+    {
+        for index in 0..self.places.len() {
+            if !self.fits(kernel, index) {
+                return false;
+            }
+        }
+        true
+    }
+
+    fn fits(&self, kernel: &Kernel, index: usize) -> bool
+        requires { is_bound kernel.now.prefix self.now.block ≡ true }
+        ensures edge { IsTrue result → IsEdge kernel.now.prefix (slots kernel.now) self.now.block index (place_of self.now.places index) }
+        ensures level { IsTrue result → IsLevel self.now.places (place_of self.now.places index) }
+    {
+        let Ok(c) = u32::try_from(index) else {
+            return false;
+        };
+        match self.place(c) {
+            Place::Below {
+                parent,
+                lit,
+                depth,
+                jump,
+            } => {
+                self.is_level(parent, depth, jump) && is_edge(kernel, c, lit, parent, self.block)
+            }
+            _ => true,
+        }
+    }
+
+    fn is_level(&self, parent: ClauseId, depth: u32, jump: ClauseId) -> bool
+        ensures depth { IsTrue result → depth ≡ depth_of self.now.places parent + 1 }
+        ensures jump { IsTrue result → (jump ≡ parent) ⊎ (jump ≡ jump_of self.now.places (jump_of self.now.places parent)) }
+    {
+        depth > 0
+            && depth - 1 == self.depth(parent)
+            && (jump == parent || jump == self.jump(self.jump(parent)))
     }
 }
 
 // Whether c holds a literal that is inner to u, and d its negation.
-fn is_edge(kernel: &Kernel, c: ClauseId, lit: Lit, d: ClauseId, u: Lit) -> bool
-    requires bound { is_bound kernel.now.prefix u.var ≡ true }
-    requires live { (C : Clause) × (slot (slots kernel.now) c ≡ Some C) }
+fn is_edge(kernel: &Kernel, c: ClauseId, lit: Lit, d: ClauseId, u: u32) -> bool
+    requires { is_bound kernel.now.prefix u ≡ true }
     ensures { IsTrue result → AreJoined kernel.now.prefix (slots kernel.now) u c d }
 {
-    if !lies_inside(kernel, lit, u) || !kernel.live(d) {
+    if !is_inner(kernel, lit.var(), u) || !kernel.live(c) || !kernel.live(d) {
         return false;
     }
-    holds(clause_of(kernel, c), lit) && holds(clause_of(kernel, d), lit.negated())
+    holds(kernel.lits(c), lit) && holds(kernel.lits(d), lit.negated())
 }
 
 // Whether a stands before b in the prefix, or in its block.
-fn is_outer(kernel: &Kernel, a: u32, b: u32) -> bool {
+fn is_outer(kernel: &Kernel, a: u32, b: u32) -> bool
+    ensures { IsTrue result → outer_or_same kernel.now.prefix a b ≡ true }
+{
     let prefix = kernel.prefix();
     prefix.contains(a) && prefix.contains(b) && prefix.outer_or_same(a, b)
 }

@@ -1,65 +1,117 @@
 //! Forests of several blocks.
-ghost use Rattle.std.specs.Prelude.{◌≡◌, true, Some, IsTrue};
-ghost use Rattle.q_logic.specs.Formulas.{Clause};
+ghost use Rattle.std.specs.Prelude.{◌≡◌, [], true, IfOk, IsTrue};
+ghost use Rattle.q_logic.specs.Formulas.{IsIn};
 ghost use Rattle.q_logic.specs.Prefixes.{is_bound};
-ghost use Rattle.q_logic.specs.Numbered.{slot};
 ghost use Rattle.q_kernel.specs.Kernels.{slots};
-ghost use Rattle.q_reduce.specs.Paths.{HoldsUniversal, Stays};
+ghost use Rattle.q_reduce.specs.Paths.{Leads, AreSides};
+ghost use Rattle.q_reduce.specs.Forests.{ForestMap, AreForestsOf};
 
 use crate::forest::Forest;
-use q_arena::ClauseId;
-use q_kernel::Kernel;
+use crate::sides::Sides;
+use q_kernel::{ClauseId, Kernel};
 use q_logic::{Lit, NoMemory};
 use q_rule::Queue;
 use std::alloc::Global;
+use std::marker::Model;
 
 // So many forests are kept.
 const FORESTS: usize = 8;
 
+// Where at most so many clauses hold a literal, each is asked whether it holds up a path.
+const FEW: u32 = 16;
+
+// At least so many edges of a path are climbed.
+const STEPS: usize = 64;
+
+// A walk that looks at so many times as many clauses costs more than a longer path.
+const DEAR: usize = 16;
+
 /// Forests of the blocks that walks asked about, at most two of a block: what holds up a path in the one may be no part of the
-/// other. Nothing rests on what they are.
+/// other.
 #[derive(Drop)]
 pub struct Forests {
     alloc: Global,
     forests: Vec<Forest>,
+    sides: Sides,
+    // so many edges of a path are climbed
+    steps: usize,
     // so many clauses were looked at by walks since a forest was made
     debt: usize,
 }
 
+impl Model for Forests {
+    ghost use Rattle.std.specs.Prelude.{List};
+    ghost use Rattle.q_reduce.specs.Forests.{ForestMap};
+
+    ghost Value = { List ForestMap };
+
+    ghost view = { λ f. f.forests.items };
+}
+
 impl Forests {
-    pub(crate) fn new(alloc: Global) -> Forests {
+    pub(crate) fn new(alloc: Global) -> Forests
+        ensures { result ≡ [] }
+    {
         Forests {
             alloc,
             forests: Vec::new(alloc),
+            sides: Sides::new(alloc),
+            steps: STEPS,
             debt: 0,
         }
     }
 
     /// Forgets all forests.
-    pub(crate) fn forget(&mut self) {
+    pub(crate) fn forget(&mut self)
+        ensures { self.new ≡ [] }
+    {
         self.forests.clear();
         self.debt = 0;
     }
 
     /// Whether a forest shows that a literal has to stay in its clause.
-    pub(crate) fn keep(&self, kernel: &Kernel, c: ClauseId, lit: Lit) -> bool
-        requires { HoldsUniversal kernel.now.prefix (slots kernel.now) c lit }
-        ensures { IsTrue result → Stays kernel.now.prefix (slots kernel.now) c lit }
+    pub(crate) fn keep(&mut self, kernel: &Kernel, c: ClauseId, lit: Lit) -> Result<bool, NoMemory>
+        requires bound { is_bound kernel.now.prefix lit.var ≡ true }
+        requires right { AreForestsOf kernel.now self.old }
+        ensures leads { IfOk result (λ yes. IsTrue yes → Leads kernel.now.prefix (slots kernel.now) lit c) }
+        ensures same { self.new ≡ self.old }
+    {
+        if !self.knows(kernel, lit.var()) {
+            return Ok(false);
+        }
+        if kernel.count(lit) > FEW {
+            return Ok(self.climb(kernel, c, lit));
+        }
+        self.sides.begin(kernel, c, lit)?;
+        if connect(&self.forests, &self.sides, kernel, c, lit) {
+            return Ok(true);
+        }
+        self.sides.widen(kernel, lit)?;
+        Ok(connect(&self.forests, &self.sides, kernel, c, lit))
+    }
+
+    // Whether a forest has a path of few edges.
+    fn climb(&self, kernel: &Kernel, c: ClauseId, lit: Lit) -> bool
+        requires right { AreForestsOf kernel.now self.now }
+        ensures { IsTrue result → Leads kernel.now.prefix (slots kernel.now) lit c }
     {
         for forest in &self.forests {
-            if forest.is_for(kernel, lit.var()) && forest.keeps(kernel, c, lit) {
+            if forest.climbs(kernel, c, lit, self.steps) {
                 return true;
             }
         }
         false
     }
 
-    /// Learns of a walk for a universal variable that looked at so many clauses.
-    pub(crate) fn adapt(&mut self, kernel: &Kernel, var: u32, looks: usize) {
-        for forest in &mut self.forests {
-            if forest.is_for(kernel, var) {
-                forest.adapt(looks);
-            }
+    /// Learns of a walk that was made since no path told enough, and looked at so many clauses: paths may be the longer the more
+    /// such walks cost.
+    pub(crate) fn adapt(&mut self, looks: usize)
+        ensures { self.new ≡ self.old }
+    {
+        if looks / DEAR > self.steps {
+            self.steps = self.steps.saturating_mul(2);
+        } else if looks < self.steps {
+            self.steps = STEPS.max(self.steps / 2);
         }
     }
 
@@ -70,20 +122,22 @@ impl Forests {
         kernel: &Kernel,
         queue: &mut Queue,
         c: ClauseId,
-        lit: Lit,
+        var: u32,
         looks: usize,
     ) -> Result<(), NoMemory>
-        requires bound { is_bound kernel.now.prefix lit.var ≡ true }
-        requires live { (C : Clause) × (slot (slots kernel.now) c ≡ Some C) }
+        requires bound { is_bound kernel.now.prefix var ≡ true }
+        requires right { AreForestsOf kernel.now self.old }
+        ensures { AreForestsOf kernel.now self.new }
     {
         self.debt = self.debt.saturating_add(looks);
-        if self.debt <= patience(kernel, self.knows(kernel, lit.var())) {
+        if self.debt <= patience(kernel, self.knows(kernel, var)) {
             return Ok(());
         }
         self.debt = 0;
-        let mut forest = self.free(self.worn(kernel, lit.var()));
-        forest.build(kernel, queue, c, lit)?;
-        self.forests.push(forest)?;
+        let mut forest = self.free(self.worn(kernel, var));
+        if forest.build(kernel, queue, c, var)? {
+            self.forests.push(forest)?;
+        }
         Ok(())
     }
 
@@ -112,7 +166,9 @@ impl Forests {
     }
 
     // A forest to be made: the one at a place, or a new one, or the oldest.
-    fn free(&mut self, place: Option<usize>) -> Forest {
+    fn free(&mut self, place: Option<usize>) -> Forest
+        ensures { (F : ForestMap) → IsIn F self.new → IsIn F self.old }
+    {
         if let Some(place) = place {
             if place < self.forests.len() {
                 return self.forests.remove(place);
@@ -123,6 +179,20 @@ impl Forests {
         }
         Forest::new(self.alloc)
     }
+}
+
+// Whether a forest has a path between the sides.
+fn connect(forests: &[Forest], sides: &Sides, kernel: &Kernel, c: ClauseId, lit: Lit) -> bool
+    requires right { AreForestsOf kernel.now forests.now }
+    requires sides { AreSides kernel.now.prefix (slots kernel.now) c lit sides.now.starts.items sides.now.ends.items }
+    ensures { IsTrue result → Leads kernel.now.prefix (slots kernel.now) lit c }
+{
+    for forest in forests {
+        if forest.tells(kernel, c, lit, sides) {
+            return true;
+        }
+    }
+    false
 }
 
 // So many clauses may be looked at before a forest is made. The first time it is less, for without one each walk is a long one.

@@ -1,18 +1,22 @@
 //! The plain rules: tautologies, unit clauses, universal reduction and pure literals.
 #![tactic(auto)]
 
+mod ancestors;
 mod cut;
 mod finding;
 mod forest;
 mod forests;
 mod joining;
 mod lists;
+mod paths;
+mod place;
 mod pure;
 mod reach;
 mod recent;
 mod reduce;
 mod regions;
 mod search;
+mod sides;
 mod taking;
 mod target;
 mod tautology;

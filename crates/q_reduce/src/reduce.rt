@@ -86,6 +86,7 @@ impl Rules for Search {
         if !fits(kernel, self, target)? {
             return Ok(Taken::No);
         }
+        self.forests.forget();
         reserve_log(kernel)?;
         take(kernel, target);
         Ok(Taken::Yes)

@@ -17,9 +17,9 @@ use q_logic::{Lit, NoMemory};
 use q_rule::Queue;
 use std::marker::Model;
 
-/// What searches lend each other: room for walks, forests, of which nothing is believed, and regions, which have to be those of
-/// the kernel. They stay so while the targets of this crate are taken; where a kernel is changed in another way, the search has
-/// to forget them.
+/// What searches lend each other: room for walks, and regions and forests, which have to be those of the kernel. Regions stay so
+/// while the targets of this crate are taken; forests, which only tell what may not be taken, go with each. Where a kernel is
+/// changed in another way, the search has to forget them.
 #[derive(Drop)]
 pub struct Search {
     pub(crate) queue: Queue,
@@ -32,7 +32,7 @@ impl Model for Search {
 
     ghost Value = { Learned };
 
-    ghost view = { λ s. record { regions = s.recent } };
+    ghost view = { λ s. record { regions = s.recent; forests = s.forests } };
 }
 
 impl Search {
@@ -63,16 +63,17 @@ impl Search {
         if self.recent.separate(kernel, c, lit) {
             return Ok(true);
         }
-        if self.forests.keep(kernel, c, lit) {
+        if self.forests.keep(kernel, c, lit)? {
             return Ok(false);
         }
         let mut looks = 0;
         let reducible = is_reducible(kernel, &mut self.queue, c, lit, &mut looks)?;
-        self.forests.adapt(kernel, lit.var(), looks);
+        self.forests.adapt(looks);
         if reducible {
             self.recent.learn(kernel, lit.var(), looks)?;
         } else {
-            self.forests.note(kernel, &mut self.queue, c, lit, looks)?;
+            self.forests
+                .note(kernel, &mut self.queue, c, lit.var(), looks)?;
         }
         Ok(reducible)
     }

@@ -38,7 +38,7 @@ pub ready-flushed : (j k : Seen) → k.prefix ≡ j.prefix → slots k ≡ slots
 ready-flushed j k p s r = ready-same j k (same-formula j k p s) r
 
 pub fit-flushed : (j k : Seen) (s : Learned) → k.prefix ≡ j.prefix → slots k ≡ slots j → IsFitFor j s → IsFitFor k s
-fit-flushed j k s p e h = fit-same j k s (same-formula j k p e) h
+fit-flushed j k s p e h = fit-same j k s p e h
 
 -- the moves so far go on after each turn, over what no turn changes of the drive
 spent-framed : (e d : Driving) (F : PrenexFormula) → SameFrame e d → (¬ IsSpentAt d.budget d.first_measure (measure_of d.bounds F)) → ¬ IsSpentAt e.budget e.first_measure (measure_of e.bounds F)

@@ -6,7 +6,6 @@ use Rattle.q_kernel.specs.Kernels.{slots}
 use Rattle.q_arena.proofs.Numbers.{some-same}
 use Rattle.q_reduce.specs.Walks.{IsWidened}
 use Rattle.q_reduce.proofs.Walks.{visited-beside}
-use Rattle.q_rule.proofs.Members.{place-member}
 use Rattle.q_reduce.proofs.Reaching.{IsWalk, walk-begun, walk-more, walk-refuted, walk-ended}
 use Rattle.q_reduce.proofs.reach.is_reducible.Goals as goal
 

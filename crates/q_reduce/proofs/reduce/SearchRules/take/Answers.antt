@@ -1,10 +1,16 @@
-use Rattle.std.proofs.Common.{◌∙◌, sym, true≢false, rules}
+use Rattle.std.proofs.Common.{◌≡◌, List, [], ◌∙◌, sym, subst, true≢false, rules}
+use Rattle.q_logic.specs.Formulas.{IsIn}
+use Rattle.q_kernel.specs.Kernels.{Seen}
+use Rattle.q_reduce.specs.Forests.{ForestMap, AreForestsOf}
 use Rattle.q_rule.proofs.Answering.{tries-no, tries-yes}
 use Rattle.q_rule.proofs.Results.{fits-view, taken}
 use Rattle.q_reduce.specs.Targets.{target_of}
 use Rattle.q_reduce.proofs.Results.{fits-applies}
 use Rattle.q_reduce.proofs.Separating.{regions-view, regions-taken}
 use Rattle.q_reduce.proofs.reduce.SearchRules.take.Goals as goal
+
+none : (k : Seen) (Fs : List ForestMap) → Fs ≡ [] → AreForestsOf k Fs
+none k Fs e F m = absurd (subst (λ (Gs : List ForestMap). IsIn F Gs) e m)
 
 pub returns-then-not-branch-clause-tries : goal.returns-then-not-branch-clause-tries
 returns-then-not-branch-clause-tries c =
@@ -27,11 +33,19 @@ returns-clause-tries c =
 
 pub returns-in_err-reserve_log-clause-fit : goal.returns-in_err-reserve_log-clause-fit
 returns-in_err-reserve_log-clause-fit c =
-    record { regions = regions-view c.args.kernel.now c.reserve_log.new.kernel c.fits.new.search.regions c.reserve_log.ensures.view c.fits.ensures.fit.regions }
+    let fit = rw (← c.self.view_is) at c.fits.ensures.fit in
+    record {
+      regions = regions-view c.args.kernel.now c.reserve_log.new.kernel c.self.inside.recent c.reserve_log.ensures.view fit.regions;
+      forests = none c.reserve_log.new.kernel _ c.forget.ensures;
+    }
 
 pub returns-clause-fit : goal.returns-clause-fit
 returns-clause-fit c =
     let B = c.args.bounds.now in
     let k = c.args.kernel.now in
     let t = taken B k c.reserve_log.new.kernel c.take.new.kernel (target_of c.args.target.now) (fits-applies B k c.args.target.now c.requires.ready.limits ((c.in_ok-fits.ensures.fits B).0 c.if-not-branch.false)) c.in_ok-reserve_log.ensures.view c.take.ensures in
-    record { regions = regions-taken B k c.take.new.kernel c.fits.new.search.regions c.args.target.now t c.fits.ensures.fit.regions }
+    let fit = rw (← c.self.view_is) at c.fits.ensures.fit in
+    record {
+      regions = regions-taken B k c.take.new.kernel c.self.inside.recent c.args.target.now t fit.regions;
+      forests = none c.take.new.kernel _ c.forget.ensures;
+    }

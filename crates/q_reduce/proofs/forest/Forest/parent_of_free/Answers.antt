@@ -1,0 +1,16 @@
+use Rattle.std.proofs.Common.{◌≡◌, ◌<◌, ℕ, sym, ◌∙◌, subst, arith}
+use Rattle.q_arena.proofs.Numbers.{some-same}
+use Rattle.q_kernel.specs.Kernels.{slots}
+use Rattle.q_reduce.specs.Paths.{AreJoined}
+use Rattle.q_reduce.specs.Forests.{depth_of}
+use Rattle.q_reduce.proofs.Climbing.{joined-up}
+use Rattle.q_reduce.proofs.forest.Forest.parent_of_free.Goals as goal
+
+pub returns-else-holds-clause-joined : goal.returns-else-holds-clause-joined
+returns-else-holds-clause-joined c p e =
+    let k = c.args.kernel.now in
+    let F = c.args.self.now in
+    let d : c.depth.result ≡ depth_of F.places c.args.c = c.depth.ensures in
+    let n = c.if-depth-eq0.false in
+    let l : 0 < depth_of F.places c.args.c = omega arith in
+    subst (λ (x : ℕ). AreJoined k.prefix (slots k) c.args.u.var c.args.c x) (sym c.parent.ensures ∙ some-same c.parent.result p e) (joined-up k.prefix (slots k) c.args.u F c.requires.right c.requires.block c.args.c l)

@@ -1,0 +1,28 @@
+use Rattle.std.proofs.Common.{ℕ, List, [], ◌∷◌, sym, ◌∙◌, subst, inl, inr, true≢false}
+use Rattle.q_logic.specs.Formulas.{IsIn}
+use Rattle.q_logic.proofs.ClauseLemmas.{IsIn-append}
+use Rattle.q_kernel.specs.Kernels.{slots, HoldsLiteral}
+use Rattle.q_kernel.proofs.Turns.{holder-turn}
+use Rattle.q_reduce.specs.Paths.{Lacks}
+use Rattle.q_reduce.proofs.Climbing.{lacks-one}
+use Rattle.q_reduce.proofs.sides.put_free.Goals as goal
+
+pub lits-requires : goal.lits-requires
+lits-requires c =
+    let h = holder-turn c.args.kernel.now c.args.lit c.loop-d.yielded c.holders-d-items.ensures.hold c.into_iter-d-iterator.ensures.into_iter_gives c.loop-d.yielded_by c.in-Some.ensures.steps in
+    (h.0, h.1)
+
+pub loop-d-preserved-then-not-contains : goal.loop-d-preserved-then-not-contains
+loop-d-preserved-then-not-contains c y m =
+    let k = c.args.kernel.now in
+    let d = c.in-Some.d in
+    elim (IsIn-append y c.loop-d.list.items (d ∷ []) (subst (λ (xs : List ℕ). IsIn y xs) c.in_ok-push.ensures.items m)) [
+      | inl a ↦ c.loop-d.invariant y a
+      | inr b ↦ elim b [
+        | inl e ↦ inr (
+          subst (λ (x : ℕ). HoldsLiteral k x c.args.lit) (sym e) (holder-turn k c.args.lit c.loop-d.yielded c.holders-d-items.ensures.hold c.into_iter-d-iterator.ensures.into_iter_gives c.loop-d.yielded_by c.in-Some.ensures.steps),
+          subst (λ (x : ℕ). Lacks (slots k) x c.args.u) (sym e) (lacks-one k.prefix (slots k) c.args.u d c.lits.result.now c.lits.ensures.clause (λ i. true≢false (sym (c.holds.ensures.1 i) ∙ c.if-not-holds.true))),
+        )
+        | inr none ↦ absurd none
+      ]
+    ]

@@ -1,0 +1,17 @@
+use q_arena::ClauseId;
+use q_logic::Lit;
+
+/// Where a clause stands in a forest.
+#[derive(Clone, Copy, Debug, PartialEq, Eq)]
+pub enum Place {
+    Outside,
+    Root,
+    /// Below a clause that holds the negation of the literal, so many edges below a root. The jump leads to the parent or to a
+    /// clause further up, so that few jumps lead to any clause above.
+    Below {
+        parent: ClauseId,
+        lit: Lit,
+        depth: u32,
+        jump: ClauseId,
+    },
+}
