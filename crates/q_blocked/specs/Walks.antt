@@ -56,3 +56,7 @@ IsNarrowed P N c d l S was old now new =
 abbrev pub IsLooked : Prefix → Matrix → Literal → Clause → List Literal → Bool → Type 0
 IsLooked P X l S K false = AllClash P X l S
 IsLooked P X l S K true = IsOpen P X l S × ((k : Literal) → IsIn k K ↔ (InEach P X l S k × (IsIn k S → ⊥)))
+
+-- the clause of the id d, if it is not c, clashes with S on l
+pub record ClashesAt (P : Prefix) (N : Slots) (c : ℕ) (l : Literal) (S : Clause) (d : ℕ) : Type 0 where
+  pub each : (D : Clause) → IsBeside N c d D → Clashes P l S D

@@ -8,7 +8,7 @@ ghost use Rattle.q_logic.specs.Steps.{Within};
 ghost use Rattle.q_logic.specs.Numbered.{others};
 ghost use Rattle.q_logic.specs.Blocking.{Clashes, AllClash};
 ghost use Rattle.q_kernel.specs.Kernels.{slots, HoldsLiteral};
-ghost use Rattle.q_blocked.specs.Walks.{IsBeside};
+ghost use Rattle.q_blocked.specs.Walks.{ClashesAt};
 
 use q_arena::ClauseId;
 use q_kernel::Kernel;
@@ -72,7 +72,7 @@ pub fn clashes(kernel: &Kernel, set: &Queue, clause: &[Lit], l: Lit) -> bool
 // The same for the clause of an id. Of the clause c itself nothing is asked.
 fn passes(kernel: &Kernel, set: &Queue, c: ClauseId, d: ClauseId, l: Lit) -> bool
     requires { HoldsLiteral kernel.now d (negation l) }
-    ensures { IsTrue result ↔ ((D : Clause) → IsBeside (slots kernel.now) c d D → Clashes kernel.now.prefix l set.now D) }
+    ensures { IsTrue result ↔ ClashesAt kernel.now.prefix (slots kernel.now) c l set.now d }
 {
     if d == c {
         return true;
@@ -85,13 +85,10 @@ fn passes(kernel: &Kernel, set: &Queue, c: ClauseId, d: ClauseId, l: Lit) -> boo
 pub fn all_clash(kernel: &Kernel, set: &Queue, c: ClauseId, l: Lit) -> bool
     ensures { IsTrue result ↔ AllClash kernel.now.prefix (others c (slots kernel.now)) l set.now }
 {
-    kernel.sound();
-    let mut at = kernel.first(l.negated());
-    while let Some(place) = at {
-        if !passes(kernel, set, c, kernel.owner(place), l) {
+    for d in kernel.holders(l.negated()) {
+        if !passes(kernel, set, c, d, l) {
             return false;
         }
-        at = kernel.next(place);
     }
     true
 }

@@ -12,10 +12,10 @@ clashes-requires-clause-bound c =
     c.clause_of.ensures.within (negation c.args.l) (subst (λ (D : Clause). IsIn (negation c.args.l) D) q c.requires.2)
 
 pub returns-then-d-c : goal.returns-then-d-c
-returns-then-d-c c = ((λ t D b. absurd (b.0 c.if-d-c.true)), (λ z. refl))
+returns-then-d-c c = ((λ t. record { each = λ D b. absurd (b.0 c.if-d-c.true) }), (λ z. refl))
 
 pub returns : goal.returns
 returns c = (
-  (λ t D b. subst (λ (E : Clause). Clashes c.args.kernel.now.prefix c.args.l c.args.set.now E) (slot-one (slots c.args.kernel.now) c.args.d c.clause_of.result.now D c.clause_of.ensures.clause b.1) (c.clashes.ensures.0 t)),
-  (λ z. c.clashes.ensures.1 (z c.clause_of.result.now (c.if-d-c.false, c.clause_of.ensures.clause))),
+  (λ t. record { each = λ D b. subst (λ (E : Clause). Clashes c.args.kernel.now.prefix c.args.l c.args.set.now E) (slot-one (slots c.args.kernel.now) c.args.d c.clause_of.result.now D c.clause_of.ensures.clause b.1) (c.clashes.ensures.0 t) }),
+  (λ z. c.clashes.ensures.1 (z.each c.clause_of.result.now (c.if-d-c.false, c.clause_of.ensures.clause))),
 )
