@@ -17,6 +17,7 @@ mod propagator;
 mod roles;
 mod root;
 mod rows;
+mod skip;
 mod spots;
 mod store;
 mod tails;
