@@ -107,3 +107,7 @@ on_ok (Err e) p h = tt
 pub err_then : {T E : Type 0} {P Q : E → Type 0} (r : Result T E) → IfErr r P → ((e : E) → P e → Q e) → IfErr r Q
 err_then (Ok t) p h = tt
 err_then (Err e) p h = h e p
+
+pub both_ok : {T E P Q : Type 0} (r : Result T E) → OnOk r P → OnOk r Q → OnOk r (P × Q)
+both_ok (Ok x) p q = (p, q)
+both_ok (Err e) p q = tt
