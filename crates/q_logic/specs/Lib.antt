@@ -19,6 +19,7 @@ pub mod Clauses
 pub mod StepForms
 pub mod Sweep
 pub mod Measure
+pub mod UsualBounds
 pub mod Examples
 pub mod Certificates
 pub mod Sets

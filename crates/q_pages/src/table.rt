@@ -1,5 +1,5 @@
 //! Which page each number has, for rows that are not of one copied type.
-ghost use Rattle.std.specs.Prelude.{◌≡◌, ◌⊎◌, ◌<◌, ◌≤◌, ℕ, [], length, slice_index_or, OnOk};
+ghost use Rattle.std.specs.Prelude.{◌≡◌, ◌⊎◌, ◌<◌, ◌≤◌, ℕ, [], length, slice_index_or, OnOk, IfSome};
 ghost use Rattle.q_pages.specs.Tables.{place_in, page_of, IsGiven};
 
 use q_logic::NoMemory;
@@ -49,6 +49,18 @@ impl PageTable {
         } else {
             at % PAGE
         }
+    }
+
+    /// The place of a number whose page is not 0. It looks once.
+    #[inline(always)]
+    pub fn made_place(&self, at: usize) -> Option<usize>
+        ensures { IfSome result (λ p. (p ≡ place_in self.now at) × (0 < page_of self.now at)) }
+    {
+        let page = at / PAGE;
+        if page < self.pages.len() && self.pages[page] != 0 {
+            return Some(self.pages[page] as usize * PAGE + at % PAGE);
+        }
+        None
     }
 
     /// No two numbers have the same place, unless it is of page 0.

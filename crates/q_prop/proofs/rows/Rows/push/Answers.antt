@@ -14,20 +14,20 @@ invariant_of-self-2 c =
     let f : Vec Entry Global → List Entry = λ v. v.items in
     let m = c.make_room.ensures in
     pushed-free c.self.inside.table c.make_room.new.table (map f c.self.inside.rows.items) (map f c.make_room.new.rows.items) m.given c.self.invariant m.same
-    (map f c.push_at.new.rows.items) c.args.lit c.distinct.ensures (rw c.index.ensures at c.in_ok-make_room.ensures.page) (rw (c.place.ensures, c.index-2.ensures) at c.push_at.ensures.others)
+    (map f c.push_at.new.rows.items) c.args.lit c.distinct.ensures (rw c.index.ensures at c.in_ok-place.ensures.page) (rw (c.in_ok-place.ensures.place.0, c.index.ensures) at c.push_at.ensures.others)
 
 pub returns-clause-ok : goal.returns-clause-ok
 returns-clause-ok c =
     let f : Vec Entry Global → List Entry = λ v. v.items in
     let m = c.make_room.ensures in
     rw (← c.self.view_is) (on_ok_weaker c.push_at.result (λ h. pushed c.self.inside.table c.make_room.new.table (map f c.self.inside.rows.items) (map f c.make_room.new.rows.items) m.given c.self.invariant m.same
-    (map f c.push_at.new.rows.items) c.args.lit c.distinct.ensures (rw c.index.ensures at c.in_ok-make_room.ensures.page) (rw (c.place.ensures, c.index-2.ensures) at c.push_at.ensures.others)
-    (entry_of c.args.slot c.args.blocker) (rw (c.place.ensures, c.index-2.ensures) at h)) c.push_at.ensures.ok)
+    (map f c.push_at.new.rows.items) c.args.lit c.distinct.ensures (rw c.index.ensures at c.in_ok-place.ensures.page) (rw (c.in_ok-place.ensures.place.0, c.index.ensures) at c.push_at.ensures.others)
+    (entry_of c.args.slot c.args.blocker) (rw (c.in_ok-place.ensures.place.0, c.index.ensures) at h)) c.push_at.ensures.ok)
 
 pub returns-clause-err : goal.returns-clause-err
 returns-clause-err c =
     let f : Vec Entry Global → List Entry = λ v. v.items in
     let m = c.make_room.ensures in
     rw (← c.self.view_is) (on_err_then c.push_at.result (λ h. not-pushed c.self.inside.table c.make_room.new.table (map f c.self.inside.rows.items) (map f c.make_room.new.rows.items) m.given c.self.invariant m.same
-    (map f c.push_at.new.rows.items) c.args.lit c.distinct.ensures (rw c.index.ensures at c.in_ok-make_room.ensures.page) (rw (c.place.ensures, c.index-2.ensures) at c.push_at.ensures.others)
-    (rw (c.place.ensures, c.index-2.ensures) at h)) c.push_at.ensures.err)
+    (map f c.push_at.new.rows.items) c.args.lit c.distinct.ensures (rw c.index.ensures at c.in_ok-place.ensures.page) (rw (c.in_ok-place.ensures.place.0, c.index.ensures) at c.push_at.ensures.others)
+    (rw (c.in_ok-place.ensures.place.0, c.index.ensures) at h)) c.push_at.ensures.err)
