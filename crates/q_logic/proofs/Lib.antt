@@ -42,6 +42,10 @@ pub mod ExpandRun
 pub mod ExpandSize
 pub mod ExpandClosure
 pub mod Measuring
+pub mod Ways
+pub mod InOrder
+pub mod RuleLaws
+pub mod LawsOf
 pub mod TargetRuns
 pub mod Falling
 pub mod FallingExpand

@@ -24,6 +24,7 @@ pub mod Certificates
 pub mod Sets
 pub mod InLimits
 pub mod Numbered
+pub mod Rule
 pub mod Targets
 pub mod Blocking
 pub mod Merging
