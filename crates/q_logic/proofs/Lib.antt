@@ -1,3 +1,4 @@
+pub mod Common
 pub mod Justified
 pub mod Codes
 pub mod Order

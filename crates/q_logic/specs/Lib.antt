@@ -1,3 +1,4 @@
+pub mod Prelude
 pub mod Literals
 pub mod Formulas
 pub mod Prefixes
