@@ -1,3 +1,4 @@
+pub mod Prelude
 pub mod Nodes
 pub mod Rings
 pub mod Chains

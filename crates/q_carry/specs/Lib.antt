@@ -1,3 +1,4 @@
+pub mod Prelude
 pub mod Covered
 pub mod Standing
 pub mod Growing

@@ -1,3 +1,4 @@
+pub mod Prelude
 pub mod Kernels
 pub mod Changes
 pub mod Taking

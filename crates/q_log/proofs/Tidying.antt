@@ -23,6 +23,7 @@ use Rattle.q_logic.proofs.Sets.{IsIn-outer_in, without-other}
 use Rattle.q_logic.proofs.Slots.{has-IsIn, IsIn-has}
 use Rattle.q_logic.proofs.Order.{existential-is_bound}
 use Rattle.q_logic.proofs.Ordering.{pairs-ordered, ordered-pairs, without-ordered}
+use Rattle.q_logic.proofs.InOrder.{AreInOrder}
 use Rattle.q_logic.proofs.ClauseSets.{clause_of-ordered, IsIn-clause_of, clause_of-IsIn, is_clause_of, clause_of-ordered_clause}
 use Rattle.q_logic.proofs.UniversalPivot.{IsIn-without, without-IsIn}
 use Rattle.q_logic.proofs.Runs.{clause_eq-sound}
@@ -175,9 +176,6 @@ tidy-alike (C ∷ X) Y a =
     alike-trans (clause_of C ∷ tidy X) (clause_of C ∷ tidy (one_less C Y)) (tidy Y)
     (alike-cons (clause_of C) (tidy X) (tidy (one_less C Y)) (tidy-alike X (one_less C Y) rest))
     (alike-sym (tidy Y) (clause_of C ∷ tidy (one_less C Y)) (tidy-one_less C Y m))
-
-abbrev pub AreInOrder : Matrix → Type 0
-AreInOrder X = (D : Clause) → IsIn D X → ArePairs IsBelow D
 
 tidy-same : (X : Matrix) → AreInOrder X → tidy X ≡ X
 tidy-same [] h = refl

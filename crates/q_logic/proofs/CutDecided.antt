@@ -8,7 +8,7 @@ use Rattle.q_logic.specs.Reach.{Reducible, Reached}
 use Rattle.q_logic.specs.Sets.{IsSubset, has, union, negated_in}
 use Rattle.q_logic.specs.Measure.{size_of}
 use Rattle.q_logic.specs.Expanding.{inner_existential}
-use Rattle.q_logic.specs.Deciding.{inner_literals, is_hit, reach_once, reach_often, none_hit, reducible}
+use Rattle.q_logic.specs.Rules.Cut.{inner_literals, is_hit, reach_once, reach_often, none_hit, reducible}
 use Rattle.q_logic.proofs.ClauseLemmas.{IsIn-append_left}
 use Rattle.q_logic.proofs.Slots.{has-IsIn, IsIn-has}
 use Rattle.q_logic.proofs.Sets.{union-IsIn, IsIn-union, insert-IsIn, IsIn-insert}

@@ -15,7 +15,10 @@ use Rattle.q_logic.specs.Measure.{size_of}
 use Rattle.q_logic.specs.Eliminating.{AllOuter, resolvents, clauses_of, all_outer, outer_side, no_tautology}
 use Rattle.q_logic.specs.Expanding.{expansion_vars, touched_neither, no_both}
 use Rattle.q_logic.specs.Rules.{Fits}
-use Rattle.q_logic.specs.Deciding.{fits, if_some, is_unit, strengthens}
+use Rattle.q_logic.specs.Deciding.{fits}
+use Rattle.q_logic.specs.Rule.{if_some}
+use Rattle.q_logic.specs.Rules.Unit.{is_unit}
+use Rattle.q_logic.specs.Rules.Strengthen.{strengthens}
 use Rattle.q_logic.proofs.ClauseLemmas.{literal_eq-sound, literal_eq-itself}
 use Rattle.q_logic.proofs.Slots.{has-IsIn, IsIn-has}
 use Rattle.q_logic.proofs.Sets.{is_tautology-sound}

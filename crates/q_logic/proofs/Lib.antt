@@ -1,3 +1,4 @@
+pub mod Common
 pub mod Justified
 pub mod Codes
 pub mod Order
@@ -42,6 +43,10 @@ pub mod ExpandRun
 pub mod ExpandSize
 pub mod ExpandClosure
 pub mod Measuring
+pub mod Ways
+pub mod InOrder
+pub mod RuleLaws
+pub mod LawsOf
 pub mod TargetRuns
 pub mod Falling
 pub mod FallingExpand

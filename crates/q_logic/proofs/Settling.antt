@@ -2,7 +2,6 @@
 use Rattle.std.proofs.Common.{◌≡◌, ◌≤◌, ℕ, zero, suc, Bool, true, false, cond, List, [], ◌∷◌, inl, inr, arith, refl, ap, sym, subst, Some, None, length, ◌*◌}
 use Rattle.q_logic.specs.declared.limits.Limits.{Limits}
 use Rattle.q_logic.specs.declared.rule_bounds.Bounds.{Bounds}
-use Rattle.q_logic.specs.Literals.{Literal}
 use Rattle.q_logic.specs.Formulas.{Clause, Matrix, Prefix, IsIn, PrenexFormula}
 use Rattle.q_logic.specs.Prefixes.{is_bound, Distinct, IsFormula}
 use Rattle.q_logic.specs.Steps.{ProofStep, after}
@@ -10,17 +9,17 @@ use Rattle.q_logic.specs.Runs.{Run}
 use Rattle.q_logic.specs.Limits.{standard}
 use Rattle.q_logic.specs.InLimits.{IsInLimits, greatest, larger_of}
 use Rattle.q_logic.specs.Numbered.{formula_of, Slots, slot, live, others}
-use Rattle.q_logic.specs.Targets.{Target, tautology, unit, cut, pure, subsumed, strengthen, merge, blocked, blocked_forall, cover, eliminate, expand_universal}
-use Rattle.q_logic.specs.Covering.{Covers}
+use Rattle.q_logic.specs.Targets.{Target}
 use Rattle.q_logic.specs.Sweep.{swept, has_empty, occurring, occurs}
-use Rattle.q_logic.specs.Rules.{Fits, Applicable, change, result_of}
+use Rattle.q_logic.specs.Rules.{Applicable, change, result_of}
 use Rattle.q_logic.specs.Settled.{Settled}
 use Rattle.q_logic.proofs.Soundness.{after-formula}
 use Rattle.q_logic.proofs.Reaching.{Reaches, IsIn-alike, alike-sym}
-use Rattle.q_logic.proofs.Slots.{live-slot, others-slot}
+use Rattle.q_logic.proofs.Slots.{live-slot, others-live}
 use Rattle.q_logic.proofs.Heights.{Way, modest-more, way-run}
 use Rattle.q_logic.proofs.SweepRun.{sweep-way}
 use Rattle.q_logic.proofs.TargetRuns.{target-way}
+use Rattle.q_logic.proofs.LawsOf.{laws_of}
 
 pub reaches-formula : (F : PrenexFormula) (ss : List ProofStep) (G : PrenexFormula) → IsFormula F → Reaches F ss G → IsFormula G
 reaches-formula F [] G f r = record {
@@ -76,55 +75,14 @@ swept-in_limits m F l = go (has_empty F.matrix) refl
 
 -- The result of a target is a formula within the limits.
 pub result-formula : (B : Bounds) (P : Prefix) (N : Slots) (t : Target) → IsFormula (formula_of P (live N)) → IsInLimits standard (formula_of P (live N)) → Applicable B P N t → IsFormula (result_of P N t) × IsInLimits standard (result_of P N t)
-result-formula B P N t f l h = (go (target-way B P N t f.distinct f.closed l h), swept-in_limits standard (change P N t) h.in_limits)
+result-formula B P N t f l h = (go (target-way B P N t f l h), swept-in_limits standard (change P N t) h.in_limits)
   where
     go : Way (3 * standard.clauses) (3 * standard.lits) (formula_of P (live N)) (result_of P N t) → IsFormula (result_of P N t)
     go (ss, r, m) = reaches-formula (formula_of P (live N)) ss (result_of P N t) f r
 
 -- Over the empty prefix nothing applies to no clauses, nor to one empty clause.
-abbrev OnlyEmpty : Slots → Type 0
-OnlyEmpty N = (C : Clause) → IsIn C (live N) → C ≡ []
-
-empty-none : (N : Slots) (c : ℕ) (C : Clause) (k : Literal) → OnlyEmpty N → slot N c ≡ Some C → IsIn k C → ⊥
-empty-none N c C k o e m = elim (subst (IsIn k) (o C (live-slot N c C e)) m) [ ]
-
-pub false_true : false ≡ true → ⊥
-false_true e = grind arith
-
--- No clause beside another one.
-abbrev NoOthers : Slots → Type 0
-NoOthers N = (c : ℕ) (C D : Clause) → slot N c ≡ Some C → IsIn D (others c N) → ⊥
-
-covers-none : (X : Matrix) (S : Clause) → ((D : Clause) → IsIn D X → ⊥) → ((k : Literal) → IsIn k S → ⊥) → Covers [] X S → ⊥
-covers-none X S n e (Covers.ended R (inl t)) = e t.0 t.1
-covers-none X S n e (Covers.ended R (inr t)) = false_true t.2
-covers-none X S n e (Covers.grown R (inl h) c) = n h.by h.there
-covers-none X S n e (Covers.grown R (inr h) c) = false_true h.existential
-
-nothing-fits : (B : Bounds) (N : Slots) (t : Target) → OnlyEmpty N → NoOthers N → Fits B [] N t → ⊥
-nothing-fits B N (tautology c) o a h = empty-none N c h.0 h.2.0 o h.1 h.2.1
-nothing-fits B N (unit c) o a h = false_true h.2
-nothing-fits B N (cut c l) o a h = false_true h.2.universal_literal
-nothing-fits B N (pure l) o a h = false_true h.0
-nothing-fits B N (subsumed c d) o a h = a d h.1 h.0 h.4 (others-slot N c d h.0 h.2 h.3)
-nothing-fits B N (strengthen c d l) o a h = empty-none N d h.1 l o h.4 h.5
-nothing-fits B N (merge keep gone) o a h = false_true h.existential
-nothing-fits B N (blocked c l) o a h = false_true h.3
-nothing-fits B N (blocked_forall c l) o a h = false_true h.3
-nothing-fits B N (cover c) o a h = covers-none (others c N) h.0 (λ D m. a c h.0 D h.1 m) (λ k m. empty-none N c h.0 k o h.1 m) h.2
-nothing-fits B N (eliminate x) o a h = false_true h.existential
-nothing-fits B N (expand_universal u) o a h = false_true h.universal
-
-others-live : (c : ℕ) (N : Slots) (D : Clause) → IsIn D (others c N) → IsIn D (live N)
-others-live c [] D m = m
-others-live zero (None ∷ N) D m = m
-others-live zero (Some C ∷ N) D m = inr m
-others-live (suc c) (None ∷ N) D m = others-live c N D m
-others-live (suc c) (Some C ∷ N) D (inl e) = inl e
-others-live (suc c) (Some C ∷ N) D (inr m) = inr (others-live c N D m)
-
 pub settled-nothing : (B : Bounds) (N : Slots) → live N ≡ [] → Settled B [] N
-settled-nothing B N e = (subst (λ X. swept (formula_of [] X) ≡ formula_of [] X) (sym e) refl, λ t h. nothing-fits B N t (λ C m. absurd (none C m)) (λ c C D s m. none D (others-live c N D m)) h.fits)
+settled-nothing B N e = (subst (λ X. swept (formula_of [] X) ≡ formula_of [] X) (sym e) refl, λ t h. (laws_of t).nothing B N (λ C m. absurd (none C m)) (λ c C D s m. none D (others-live N c D m)) h.fits)
   where
     none : (C : Clause) → IsIn C (live N) → ⊥
     none C m = elim (subst (IsIn C) e m) [ ]
@@ -148,7 +106,7 @@ one-alone (Some E ∷ N) (suc c) C D l s m = short (live N) l (live-slot N c C s
     short (F ∷ X) l m = grind arith
 
 pub settled-falsity : (B : Bounds) (N : Slots) → live N ≡ [] ∷ [] → Settled B [] N
-settled-falsity B N e = (subst (λ X. swept (formula_of [] X) ≡ formula_of [] X) (sym e) refl, λ t h. nothing-fits B N t only (λ c C D s m. one-alone N c C D (subst (λ X. length X ≤ 1) (sym e) (omega arith)) s m) h.fits)
+settled-falsity B N e = (subst (λ X. swept (formula_of [] X) ≡ formula_of [] X) (sym e) refl, λ t h. (laws_of t).nothing B N only (λ c C D s m. one-alone N c C D (subst (λ X. length X ≤ 1) (sym e) (omega arith)) s m) h.fits)
   where
     only : (C : Clause) → IsIn C (live N) → C ≡ []
     only C m = elim (subst (IsIn C) e m) [ inl i ↦ i | inr i ↦ elim i [ ] ]

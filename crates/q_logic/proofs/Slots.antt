@@ -30,6 +30,15 @@ others-slot (o ∷ N) zero (suc d) C n h = subst (λ p. IsIn C (put_first p (oth
 others-slot (o ∷ N) (suc c) zero C n h = live-slot N c C h
 others-slot (o ∷ N) (suc c) (suc d) C n h = IsIn-put_first o (others d N) C (others-slot N c d C (λ e. n (ap suc e)) h)
 
+-- All clauses but one are among all clauses.
+pub others-live : (N : Slots) (c : ℕ) (D : Clause) → IsIn D (others c N) → IsIn D (live N)
+others-live [] c D m = m
+others-live (None ∷ N) zero D m = m
+others-live (Some C ∷ N) zero D m = inr m
+others-live (None ∷ N) (suc c) D m = others-live N c D m
+others-live (Some C ∷ N) (suc c) D (inl e) = inl e
+others-live (Some C ∷ N) (suc c) D (inr m) = inr (others-live N c D m)
+
 pub has-IsIn : (l : Literal) (D : Clause) → has l D ≡ true → IsIn l D
 has-IsIn l [] h = grind arith
 has-IsIn l (k ∷ D) h = go (literal_eq k l) refl (has-IsIn l D)

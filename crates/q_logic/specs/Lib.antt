@@ -1,3 +1,4 @@
+pub mod Prelude
 pub mod Literals
 pub mod Formulas
 pub mod Prefixes
@@ -25,6 +26,7 @@ pub mod Certificates
 pub mod Sets
 pub mod InLimits
 pub mod Numbered
+pub mod Rule
 pub mod Targets
 pub mod Blocking
 pub mod Merging

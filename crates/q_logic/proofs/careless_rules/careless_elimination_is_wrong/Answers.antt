@@ -6,7 +6,7 @@ use Rattle.q_logic.specs.Numbered.{numbered}
 use Rattle.q_logic.specs.Targets.{eliminate}
 use Rattle.q_logic.specs.Rules.{Applicable, result_of}
 use Rattle.q_logic.proofs.SmallFormulas.{computed_true, computed_false}
-use Rattle.q_logic.proofs.Settling.{false_true}
+use Rattle.q_logic.proofs.RuleLaws.{false_true}
 use Rattle.q_logic.proofs.careless_rules.careless_elimination_is_wrong.Goals as goal
 
 refused : (B : Bounds) → Applicable B guessed.prefix (numbered guessed.matrix) (eliminate 2) → ⊥
