@@ -3,7 +3,9 @@ ghost use Rattle.q_logic.specs.Formulas.{Clause};
 ghost use Rattle.q_logic.specs.Propagation.{Implied};
 ghost use Rattle.q_prop.specs.Slots.{filled, without, Holds, IsPut, IsVacant};
 ghost use Rattle.q_prop.specs.Lists.{IsLost, AreTaken};
-ghost use Rattle.q_prop.specs.Roles.{IsRole, IsAlone, IsLoosened};
+ghost use Rattle.q_prop.specs.Roles.{IsRole, IsAlone, IsApart, IsLoosened, AreUnitsKnown};
+ghost use Rattle.q_logic.specs.Literals.{Literal};
+ghost use Rattle.q_prop.specs.declared.roles.Role.TheVariants.{Apart};
 ghost use Rattle.q_prop.specs.Tails.{AreImplied};
 ghost use Rattle.q_prop.specs.declared.pairs.Pair.{Pair};
 
@@ -12,7 +14,7 @@ use crate::level::{Level, query_each};
 use crate::lists::{Lists, place_of};
 use crate::notes::Notes;
 use crate::propagation::{complete, query, query_anew, query_beside};
-use crate::roles::Role;
+use crate::roles::{Role, without_units};
 use crate::root::{Root, is_empty_at};
 use crate::rows::Rows;
 use crate::spots::{Spots, renote};
@@ -165,7 +167,13 @@ impl Propagator {
         ensures { self.new ≡ slice_set self.old slot None }
     {
         let at = slot as usize;
-        let rest = loosen(&self.watched.clauses, at, &mut self.root.trail, role, true);
+        let rest = loosen(
+            &self.watched.clauses,
+            at,
+            &mut self.root.trail,
+            without_units(role),
+            true,
+        );
         unlist(
             &self.watched.clauses,
             &mut self.root.singles,
@@ -218,6 +226,11 @@ impl Propagator {
         }
     }
 
+    /// Whether the literal is known at the root, as far as that is found.
+    pub fn knows(&self, lit: Lit) -> bool {
+        self.root.trail.has(lit)
+    }
+
     /// Notes that a literal follows without the slot, where another one doubles it.
     pub fn note_doubling(&mut self, skip: Option<usize>, role: &Role)
         ensures { self.new ≡ self.old }
@@ -249,6 +262,9 @@ impl Propagator {
         ensures exact { IfOk result (λ yes. IsTrue yes ↔ Implied (filled (without self.old skip)) lits.now) }
     {
         if let Role::Alone(lit) = role {
+            return self.implied_alone(lits, skip, lit);
+        }
+        if let Role::Apart(lit) = role {
             return self.implied_beside(lits, skip, lit);
         }
         if !stands(&self.watched.clauses, skip, &self.root.trail, role) {
@@ -300,8 +316,8 @@ impl Propagator {
         Ok(Some(answer))
     }
 
-    // Whether the literals are implied without the slot on which a literal hangs alone.
-    fn implied_beside(
+    // Whether the literals are implied without the slot whose literal no other clause holds or denies.
+    fn implied_alone(
         &mut self,
         lits: &[Lit],
         skip: Option<usize>,
@@ -314,6 +330,20 @@ impl Propagator {
         if self.root.conflict {
             return self.implied_refuted(lits, skip, lit);
         }
+        self.implied_beside(lits, skip, lit)
+    }
+
+    // Whether the literals are implied without the slot on which a literal hangs, and nothing on the literal.
+    fn implied_beside(
+        &mut self,
+        lits: &[Lit],
+        skip: Option<usize>,
+        lit: Lit,
+    ) -> Result<bool, NoMemory>
+        requires { (at : ℕ) × (skip ≡ Some at) × IsApart self.old at lit }
+        ensures same { self.new ≡ self.old }
+        ensures exact { IfOk result (λ yes. IsTrue yes ↔ Implied (filled (without self.old skip)) lits.now) }
+    {
         let complete = self.root.is_complete();
         if !complete || !self.root.trail.has(lit) {
             return self.implied_anew(lits, skip);
@@ -435,10 +465,17 @@ impl Propagator {
 // Takes off the trail what hangs on the slot alone, where all of the root is found or a conflict, and
 // answers whether the rest stands without the slot.
 fn loosen(clauses: &Clauses, at: usize, trail: &mut Trail, role: Role, settled: bool) -> bool
-    requires { IsRole clauses.now.slots (Some at) role }
+    requires role { IsRole clauses.now.slots (Some at) role }
+    requires units { (l : Literal) → role ≡ Apart l → IsTrue settled → AreUnitsKnown clauses.now.slots at trail.old }
     ensures { IsTrue result → IsLoosened clauses.now.slots at trail.old trail.new settled }
 {
     if let Role::Alone(lit) = role {
+        if settled && trail.has(lit) {
+            trail.remove(lit);
+            return true;
+        }
+    }
+    if let Role::Apart(lit) = role {
         if settled && trail.has(lit) {
             trail.remove(lit);
             return true;

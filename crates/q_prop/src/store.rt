@@ -1,4 +1,4 @@
-ghost use Rattle.std.specs.Prelude.{◌≡◌, ◌↔◌, ◌<◌, [], MatchBool, length, slice_set, OnErr, None, IsTrue, MatchOption, OnSome, IfOk, ℕ, Contains, Some, ◌^◌, ◌≤◌};
+ghost use Rattle.std.specs.Prelude.{◌≡◌, ◌≢◌, ◌⊎◌, ◌↔◌, ◌<◌, [], MatchBool, length, slice_set, OnErr, None, IsTrue, MatchOption, IfSome, IfOk, ℕ, Contains, Some, ◌^◌, ◌≤◌};
 ghost use Rattle.q_logic.specs.Formulas.{Clause};
 ghost use Rattle.q_logic.specs.Propagation.{Implied};
 ghost use Rattle.q_logic.specs.Hints.{Chained};
@@ -6,7 +6,8 @@ ghost use Rattle.q_prop.specs.Slots.{filled, without, Holds, IsPut, IsOrdered};
 ghost use Rattle.q_prop.specs.Holders.{IsHolder, AreHolders};
 ghost use Rattle.q_prop.specs.Buckets.{AreHashed};
 ghost use Rattle.q_prop.specs.Lists.{IsDistinct};
-ghost use Rattle.q_prop.specs.Roles.{IsRole, IsDoubled, IsAlone};
+ghost use Rattle.q_prop.specs.Roles.{IsRole, IsDoubled, IsAlone, IsApart, IsUnitBeside};
+ghost use Rattle.q_logic.specs.Literals.{Literal, negation};
 ghost use Rattle.q_prop.specs.Tails.{AreImplied};
 
 use crate::buckets::{Buckets, rehashed};
@@ -15,7 +16,7 @@ use crate::holders::{insert, note, remove};
 use crate::lists::Lists;
 use crate::plain::explain_plainly;
 use crate::propagator::Propagator;
-use crate::roles::{Role, is_only, is_part};
+use crate::roles::{Role, is_among, is_only};
 use crate::tails::Tails;
 use crate::trail::Trail;
 use q_logic::{Lit, NoMemory};
@@ -299,6 +300,8 @@ impl Store {
                     Role::Doubled(lit, other)
                 } else if self.is_alone(at, lit) {
                     Role::Alone(lit)
+                } else if self.is_apart(at, lit) {
+                    Role::Apart(lit)
                 } else {
                     Role::Unknown
                 }
@@ -308,9 +311,9 @@ impl Store {
     }
 
     // A slot that doubles this one's literal: its clause is the literal alone, or it is one of the last slots that hold
-    // the literal and has a part of this one's clause.
+    // the literal.
     fn doubling(&self, at: usize, lit: Lit) -> Option<usize>
-        ensures { OnSome result (IsDoubled self.now at lit) }
+        ensures { IfSome result (IsDoubled self.now at lit) }
     {
         if let Some(other) = self.find(&[lit]) {
             if self.doubles(other, at, lit) {
@@ -327,18 +330,96 @@ impl Store {
         None
     }
 
-    // Whether another slot that holds the literal has a part of this one's clause.
+    // Whether another slot that holds the literal forces it wherever this one's clause does.
     fn doubles(&self, other: usize, at: usize, lit: Lit) -> bool
         requires { IsHolder self.now other lit }
-        ensures { IsTrue result → IsDoubled self.now at lit }
+        ensures { IsTrue result → IsDoubled self.now at lit other }
     {
         if other == at {
             return false;
         }
         match (self.slot(other), self.slot(at)) {
-            (Some(part), Some(clause)) => is_part(part, clause),
+            (Some(part), Some(clause)) => is_among(clause, lit)
+                && self.gives(part, lit, at, clause),
             _ => false,
         }
+    }
+
+    // Whether each literal of the first clause but this one is one of the second, too, or is false by a unit clause in
+    // another slot than the one told.
+    fn gives(&self, part: &[Lit], lit: Lit, at: usize, clause: &[Lit]) -> bool
+        ensures { IsTrue result → (k : Literal) → Contains part.now k → k ≢ lit →
+            Contains clause.now k ⊎ IsUnitBeside self.now at (negation k) }
+    {
+        for other in part {
+            if !self.is_given(*other, lit, at, clause) {
+                return false;
+            }
+        }
+        true
+    }
+
+    fn is_given(&self, other: Lit, lit: Lit, at: usize, clause: &[Lit]) -> bool
+        ensures { IsTrue result → other ≢ lit → Contains clause.now other ⊎ IsUnitBeside self.now at (negation other) }
+    {
+        if other.is(lit) || is_among(clause, other) {
+            return true;
+        }
+        self.is_unit_beside(at, other.negated())
+    }
+
+    // Whether a clause of the literal alone stands in another slot than this one. The root is asked first: it is faster.
+    fn is_unit_beside(&self, at: usize, lit: Lit) -> bool
+        ensures { IsTrue result → IsUnitBeside self.now at lit }
+    {
+        if !self.propagator.knows(lit) {
+            return false;
+        }
+        match self.find(&[lit]) {
+            Some(slot) => is_other(slot, at),
+            None => false,
+        }
+    }
+
+    // Whether no other slot holds the literal, and each clause with its negation is true by a unit clause of another slot.
+    fn is_apart(&self, at: usize, lit: Lit) -> bool
+        ensures { IsTrue result → IsApart self.now at lit }
+    {
+        is_only(self.holders(lit), at) && self.are_met(self.holders(lit.negated()), at)
+    }
+
+    fn are_met(&self, slots: &[u32], at: usize) -> bool
+        ensures { IsTrue result → (m : ℕ) (c : Clause) → Contains slots.now m → Holds self.now m c →
+            (k : Literal) × Contains c k × IsUnitBeside self.now at k }
+    {
+        for i in 0..slots.len() {
+            if !self.is_met(slots[i] as usize, at) {
+                return false;
+            }
+        }
+        true
+    }
+
+    // Whether a slot's clause is true by a unit clause in another slot than the second one.
+    fn is_met(&self, slot: usize, at: usize) -> bool
+        ensures { IsTrue result → (c : Clause) → Holds self.now slot c →
+            (k : Literal) × Contains c k × IsUnitBeside self.now at k }
+    {
+        match self.slot(slot) {
+            Some(clause) => self.is_true_beside(clause, at),
+            None => false,
+        }
+    }
+
+    fn is_true_beside(&self, clause: &[Lit], at: usize) -> bool
+        ensures { IsTrue result → (k : Literal) × Contains clause.now k × IsUnitBeside self.now at k }
+    {
+        for lit in clause {
+            if self.is_unit_beside(at, *lit) {
+                return true;
+            }
+        }
+        false
     }
 
     fn is_alone(&self, at: usize, lit: Lit) -> bool
@@ -356,6 +437,12 @@ fn number(at: usize) -> Result<u32, NoMemory>
         Ok(slot) => Ok(slot),
         Err(_) => Err(NoMemory),
     }
+}
+
+fn is_other(slot: usize, at: usize) -> bool
+    ensures { IsTrue result → slot ≢ at }
+{
+    slot != at
 }
 
 // Takes a slot from under the literals of its clause, and out of its bucket.
