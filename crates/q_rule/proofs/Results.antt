@@ -1,16 +1,15 @@
 -- What is common to the targets of all rules: how a change keeps the limits, what depends on the clause of each id alone, and
 -- when a target was taken.
-use Rattle.std.proofs.Common.{◌≡◌, ◌≤◌, ◌+◌, ℕ, zero, suc, Bool, true, false, cond, [], ◌∷◌, ◌++◌, inl, inr, arith, refl, sym, ap, ◌∙◌, subst, Some, None, length}
+use Rattle.std.proofs.Common.{◌≡◌, ◌≤◌, ◌+◌, ℕ, zero, suc, Bool, true, false, cond, [], ◌∷◌, inl, inr, arith, refl, sym, ap, ◌∙◌, subst, Some, None, length}
 use Rattle.q_logic.specs.declared.rule_bounds.Bounds.{Bounds}
-use Rattle.q_logic.specs.Literals.{Literal, negation}
+use Rattle.q_logic.specs.Literals.{Literal}
 use Rattle.q_logic.specs.Formulas.{Clause, Matrix, Prefix, PrenexFormula}
-use Rattle.q_logic.specs.Prefixes.{is_existential}
 use Rattle.q_logic.specs.Pivots.{without}
 use Rattle.q_logic.specs.Limits.{standard}
-use Rattle.q_logic.specs.InLimits.{IsInLimits, greatest}
+use Rattle.q_logic.specs.InLimits.{IsInLimits}
 use Rattle.q_logic.specs.Measure.{measure_of}
 use Rattle.q_logic.specs.Steps.{literals_in}
-use Rattle.q_logic.specs.Sets.{has, without_literal, each_without, OccursIn}
+use Rattle.q_logic.specs.Sets.{has, without_literal, each_without}
 use Rattle.q_logic.specs.Numbered.{Slots, slot, set_slot, live, others, formula_of}
 use Rattle.q_logic.specs.Sweep.{swept}
 use Rattle.q_logic.specs.Targets.{Target}
@@ -83,7 +82,7 @@ others-same M N c s = sym (live-without M c) ∙ (live-same (set_slot c None M) 
     ]
 
 -- The conditions of a target, and its change, depend on the prefix and on the clause of each id alone.
-same-numbers : (M N : Slots) → ((d : ℕ) → slot N d ≡ slot M d) → Renumbering M N
+abbrev same-numbers : (M N : Slots) → ((d : ℕ) → slot N d ≡ slot M d) → Renumbering M N
 same-numbers M N s = record {
   number = λ c. c;
   same = live-same M N (λ d. sym (s d));

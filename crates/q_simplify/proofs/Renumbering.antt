@@ -1,7 +1,7 @@
 -- Whether some target applies does not depend on the numbers of the clauses.
 use Rattle.std.proofs.Common.{◌≡◌, ◌≢◌, ℕ, zero, suc, [], ◌∷◌, refl, sym, ap, subst, arith, Some, None}
 use Rattle.q_logic.specs.declared.rule_bounds.Bounds.{Bounds}
-use Rattle.q_logic.specs.Formulas.{Clause, Matrix, Prefix, PrenexFormula}
+use Rattle.q_logic.specs.Formulas.{Clause, Prefix, PrenexFormula}
 use Rattle.q_logic.specs.Limits.{standard}
 use Rattle.q_logic.specs.InLimits.{IsInLimits}
 use Rattle.q_logic.specs.Numbered.{Slots, slot, live, others, numbered}
@@ -13,14 +13,14 @@ use Rattle.q_sched.specs.Settled.{NoneApplies}
 pub use Rattle.q_kernel.proofs.Slotting.{live-numbered}
 
 -- where the clause of a number of `numbered (live N)` stands in N
-number_in : Slots → ℕ → ℕ
+abbrev number_in : Slots → ℕ → ℕ
 number_in [] c = c
 number_in (None ∷ N) c = suc (number_in N c)
 number_in (Some D ∷ N) zero = zero
 number_in (Some D ∷ N) (suc c) = suc (number_in N c)
 
 -- and back
-order_in : Slots → ℕ → ℕ
+abbrev order_in : Slots → ℕ → ℕ
 order_in [] c = c
 order_in (None ∷ N) zero = zero
 order_in (None ∷ N) (suc c) = order_in N c
