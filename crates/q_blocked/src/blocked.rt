@@ -8,7 +8,7 @@
 //! for the universal pivot Marijn Heule, Martina Seidl and Armin Biere, "A Unified Proof System for QBF
 //! Preprocessing" (IJCAR 2014).
 //!
-//! **Condition and law.** `Fits` at `blocked` and `blocked_forall` (`q_logic/specs/Rules.antt`), `AllClash`
+//! **Condition and law.** `Blocked.antt` and `BlockedForall.antt` (`q_logic/specs/Rules`), `AllClash`
 //! (`q_logic/specs/Blocking.antt`). The step by the pivot is valid by `blocked-pivot` and `blocked_forall-pivot`
 //! (`q_logic/proofs/PlainRuns.antt`).
 //!

@@ -8,7 +8,7 @@
 //! (SAT 2005); for quantified formulas: Biere (SAT 2004), and Heule, Seidl and Biere (IJCAR 2014), whose proof system the
 //! steps are of. That one side alone has to be outer is this project's own condition.
 //!
-//! Condition and change: `Eliminable` in q_logic/specs/Eliminating.antt, `Fits` and `change` in q_logic/specs/Rules.antt.
+//! Condition and change: `Eliminable` in q_logic/specs/Eliminating.antt, the rule in q_logic/specs/Rules/Eliminate.antt.
 //! Law: `targets_run` and `targets_lower` of q_logic. Steps: each resolvent comes as implied by its parents. Then the
 //! clauses of the inner sign go by it as pivot, since a resolvent stands for each clash with the outer side, and last the
 //! others, whose pivot is pure by then.

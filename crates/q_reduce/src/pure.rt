@@ -1,8 +1,8 @@
 //! Pure literals. A literal whose negation does not occur is made true where it is existential: the clauses that hold it go.
 //! Where it is universal it is made false: it leaves all clauses.
 //!
-//! Source: Davis and Putnam 1960; for quantified formulas Cadoli, Giovanardi and Schaerf 1998. The condition is `Fits` at
-//! `pure` in `q_logic/specs/Rules.antt`, the laws are `pure-pivot` and `pure-reducible` in `q_logic/proofs/PlainRuns.antt`.
+//! Source: Davis and Putnam 1960; for quantified formulas Cadoli, Giovanardi and Schaerf 1998. The condition stands in
+//! `q_logic/specs/Rules/Pure.antt`, the laws are `pure-pivot` and `pure-reducible` in `q_logic/proofs/PlainRuns.antt`.
 //!
 //! The test reads two counts; taking it costs the clauses with the literal. What went may make further literals pure.
 ghost use Rattle.std.specs.Prelude.{◌≡◌, ◌↔◌, ◌≤◌, ◌+◌, ◌*◌, length, true, cond, IsTrue};

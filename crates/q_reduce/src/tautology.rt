@@ -1,7 +1,7 @@
 //! Tautologies. A clause that holds a literal and its negation is true under every assignment, so it may go.
 //!
-//! Source: folklore; in the standard of DIMACS such clauses are allowed. The condition is `Fits` at `tautology` in
-//! `q_logic/specs/Rules.antt`; that the clause is implied is `implied-tautology`.
+//! Source: folklore; in the standard of DIMACS such clauses are allowed. The condition stands in
+//! `q_logic/specs/Rules/Tautology.antt`; that the clause is implied is `implied-tautology`.
 //!
 //! In literal order a literal and its negation are neighbours, so the test is one walk over the clause. What goes may make
 //! the negations of its literals pure.

@@ -2,7 +2,7 @@
 //! leaves the others. The unit clause goes last, by its pure literal; before that all is implied by it.
 //!
 //! Source: Davis and Putnam 1960; for quantified formulas the literal has to be existential (Cadoli, Giovanardi and Schaerf
-//! 1998). The condition is `Fits` at `unit` in `q_logic/specs/Rules.antt`, the change is `assigned`, and the laws are those of
+//! 1998). The condition and the change, `assigned`, stand in `q_logic/specs/Rules/Unit.antt`, the laws are those of
 //! `q_logic/proofs/PlainRuns.antt`.
 //!
 //! The test looks at one clause; taking it costs the clauses with the literal or its negation. Shorter clauses may be unit

@@ -1,28 +1,23 @@
 -- What is common to the targets of all rules: how a change keeps the limits, what depends on the clause of each id alone, and
 -- when a target was taken.
-use Rattle.std.proofs.Common.{◌≡◌, ◌≤◌, ◌+◌, ℕ, zero, suc, Bool, true, false, cond, [], ◌∷◌, ◌++◌, inl, inr, arith, refl, sym, ap, ◌∙◌, subst, Some, None, length}
+use Rattle.std.proofs.Common.{◌≡◌, ◌≤◌, ◌+◌, ℕ, zero, suc, Bool, true, false, cond, [], ◌∷◌, inl, inr, arith, refl, sym, ap, ◌∙◌, subst, Some, None, length}
 use Rattle.q_logic.specs.declared.rule_bounds.Bounds.{Bounds}
-use Rattle.q_logic.specs.Literals.{Literal, negation}
+use Rattle.q_logic.specs.Literals.{Literal}
 use Rattle.q_logic.specs.Formulas.{Clause, Matrix, Prefix, PrenexFormula}
-use Rattle.q_logic.specs.Prefixes.{is_existential}
 use Rattle.q_logic.specs.Pivots.{without}
-use Rattle.q_logic.specs.Reach.{Reducible}
 use Rattle.q_logic.specs.Limits.{standard}
-use Rattle.q_logic.specs.InLimits.{IsInLimits, greatest}
+use Rattle.q_logic.specs.InLimits.{IsInLimits}
 use Rattle.q_logic.specs.Measure.{measure_of}
 use Rattle.q_logic.specs.Steps.{literals_in}
-use Rattle.q_logic.specs.Sets.{has, without_literal, each_without, OccursIn}
+use Rattle.q_logic.specs.Sets.{has, without_literal, each_without}
 use Rattle.q_logic.specs.Numbered.{Slots, slot, set_slot, live, others, formula_of}
 use Rattle.q_logic.specs.Sweep.{swept}
-use Rattle.q_logic.specs.Targets.{Target, tautology, unit, cut, pure, subsumed, strengthen, merge, blocked, blocked_forall, cover, eliminate, expand_universal}
-use Rattle.q_logic.specs.Blocking.{AllClash}
-use Rattle.q_logic.specs.Merging.{merged, Mergeable}
-use Rattle.q_logic.specs.Covering.{Covers}
-use Rattle.q_logic.specs.Eliminating.{resolvents, clauses_not_of, Eliminable}
-use Rattle.q_logic.specs.Expanding.{expansion_vars, insert_all, expanded, Expandable}
-use Rattle.q_logic.specs.Rules.{Fits, Applicable, change, result_of, assigned, head_of, shortened}
+use Rattle.q_logic.specs.Targets.{Target}
+use Rattle.q_logic.specs.Rules.{Fits, Applicable, change, result_of}
 use Rattle.q_logic.proofs.Sets.{without-shorter}
 use Rattle.q_logic.proofs.Falling.{measure-alike}
+use Rattle.q_logic.proofs.RuleLaws.{Renumbering, Renumbered}
+use Rattle.q_logic.proofs.LawsOf.{laws_of}
 use Rattle.q_logic.proofs.TargetRuns.{target-falls}
 use Rattle.q_logic.proofs.Looping.{live-without}
 use Rattle.q_kernel.proofs.Basics.{ℕ-cases}
@@ -87,42 +82,33 @@ others-same M N c s = sym (live-without M c) ∙ (live-same (set_slot c None M) 
     ]
 
 -- The conditions of a target, and its change, depend on the prefix and on the clause of each id alone.
-fits-slots : (B : Bounds) (P : Prefix) (M N : Slots) (t : Target) → ((d : ℕ) → slot N d ≡ slot M d) → Fits B P M t → Fits B P N t
-fits-slots B P M N (tautology c) s f = (f.0, s c ∙ f.1, f.2)
-fits-slots B P M N (unit c) s f = (f.0, s c ∙ f.1, f.2)
-fits-slots B P M N (cut c l) s f = (f.0, s c ∙ f.1, subst (λ (X : Matrix). Reducible P X f.0 l) (others-same M N c s) f.2)
-fits-slots B P M N (pure l) s f = let e : live M ≡ live N = live-same M N (λ d. sym (s d)) in (f.0, subst (λ (X : Matrix). OccursIn l X) e f.1, λ o. f.2 (subst (λ (X : Matrix). OccursIn (negation l) X) (sym e) o))
-fits-slots B P M N (subsumed c d) s f = (f.0, f.1, f.2, s c ∙ f.3, s d ∙ f.4, f.5)
-fits-slots B P M N (strengthen c d l) s f = (f.0, f.1, f.2, s c ∙ f.3, s d ∙ f.4, f.5, f.6, f.7)
-fits-slots B P M N (merge keep gone) s f = subst (λ (X : Matrix). Mergeable P X keep gone) (live-same M N (λ d. sym (s d))) f
-fits-slots B P M N (blocked c l) s f = (f.0, s c ∙ f.1, f.2, f.3, subst (λ (X : Matrix). AllClash P X l f.0) (others-same M N c s) f.4)
-fits-slots B P M N (blocked_forall c l) s f = (f.0, s c ∙ f.1, f.2, f.3, f.4, subst (λ (X : Matrix). AllClash P X l f.0) (others-same M N c s) f.5)
-fits-slots B P M N (cover c) s f = (f.0, s c ∙ f.1, subst (λ (X : Matrix). Covers P X f.0) (others-same M N c s) f.2)
-fits-slots B P M N (eliminate x) s f = subst (λ (X : Matrix). Eliminable B.grow P X x) (live-same M N (λ d. sym (s d))) f
-fits-slots B P M N (expand_universal u) s f = subst (λ (X : Matrix). Expandable B.expand P X u) (live-same M N (λ d. sym (s d))) f
+abbrev same-numbers : (M N : Slots) → ((d : ℕ) → slot N d ≡ slot M d) → Renumbering M N
+same-numbers M N s = record {
+  number = λ c. c;
+  same = live-same M N (λ d. sym (s d));
+  there = λ c C e. s c ∙ e;
+  beside = λ c C e. others-same M N c s;
+  apart = λ c d C D e f n. n;
+}
 
-change-slots : (P : Prefix) (M N : Slots) (t : Target) → ((d : ℕ) → slot N d ≡ slot M d) → change P M t ≡ change P N t
-change-slots P M N (tautology c) s = ap (formula_of P) (others-same M N c s)
-change-slots P M N (unit c) s = ap (λ (X : Matrix). formula_of P (assigned (head_of (slot M c)) X)) (live-same M N (λ d. sym (s d))) ∙ ap (λ o. formula_of P (assigned (head_of o) (live N))) (sym (s c))
-change-slots P M N (cut c l) s = ap (λ (X : Matrix). formula_of P (shortened l (slot M c) X)) (others-same M N c s) ∙ ap (λ o. formula_of P (shortened l o (others c N))) (sym (s c))
-change-slots P M N (pure l) s = ap (λ (X : Matrix). formula_of P (cond (is_existential P l.var) (without_literal l X) (each_without l X))) (live-same M N (λ d. sym (s d)))
-change-slots P M N (subsumed c d) s = ap (formula_of P) (others-same M N d s)
-change-slots P M N (strengthen c d l) s = ap (λ (X : Matrix). formula_of P (shortened l (slot M d) X)) (others-same M N d s) ∙ ap (λ o. formula_of P (shortened l o (others d N))) (sym (s d))
-change-slots P M N (merge keep gone) s = ap (λ (X : Matrix). formula_of P (merged keep gone X)) (live-same M N (λ d. sym (s d)))
-change-slots P M N (blocked c l) s = ap (formula_of P) (others-same M N c s)
-change-slots P M N (blocked_forall c l) s = ap (λ (X : Matrix). formula_of P (shortened l (slot M c) X)) (others-same M N c s) ∙ ap (λ o. formula_of P (shortened l o (others c N))) (sym (s c))
-change-slots P M N (cover c) s = ap (formula_of P) (others-same M N c s)
-change-slots P M N (eliminate x) s = ap (λ (X : Matrix). formula_of P (clauses_not_of x X ++ resolvents x X)) (live-same M N (λ d. sym (s d)))
-change-slots P M N (expand_universal u) s = ap (λ (X : Matrix). formula_of (insert_all (expansion_vars P X u) (greatest P + 1) P) (expanded u (expansion_vars P X u) (greatest P + 1) X)) (live-same M N (λ d. sym (s d)))
+fits-slots : (B : Bounds) (P : Prefix) (M N : Slots) (t : Target) → ((d : ℕ) → slot N d ≡ slot M d) → Fits B P M t → Fits B P N t
+fits-slots B P M N t s f =
+    let u : Renumbered B P M N (λ c. c) t = (laws_of t).renumbered B P M N (same-numbers M N s) f in
+    subst (λ (v : Target). Fits B P N v) (u.kept (λ c. refl)) u.fits
+
+change-slots : (B : Bounds) (P : Prefix) (M N : Slots) (t : Target) → ((d : ℕ) → slot N d ≡ slot M d) → Fits B P M t → change P M t ≡ change P N t
+change-slots B P M N t s f =
+    let u : Renumbered B P M N (λ c. c) t = (laws_of t).renumbered B P M N (same-numbers M N s) f in
+    u.changed ∙ ap (λ (v : Target). change P N v) (u.kept (λ c. refl))
 
 pub fits-view : (B : Bounds) (old new : Seen) (t : Target) → SameView old new → Fits B old.prefix (slots old) t → Fits B new.prefix (slots new) t
 fits-view B old new t v f = subst (λ (P : Prefix). Fits B P (slots new) t) (sym v.prefix) (fits-slots B old.prefix (slots old) (slots new) t v.clauses f)
 
-pub change-view : (old new : Seen) (t : Target) → SameView old new → change old.prefix (slots old) t ≡ change new.prefix (slots new) t
-change-view old new t v = change-slots old.prefix (slots old) (slots new) t v.clauses ∙ ap (λ (P : Prefix). change P (slots new) t) (sym v.prefix)
+pub change-view : (B : Bounds) (old new : Seen) (t : Target) → SameView old new → Fits B old.prefix (slots old) t → change old.prefix (slots old) t ≡ change new.prefix (slots new) t
+change-view B old new t v f = change-slots B old.prefix (slots old) (slots new) t v.clauses f ∙ ap (λ (P : Prefix). change P (slots new) t) (sym v.prefix)
 
 pub applies-view : (B : Bounds) (old new : Seen) (t : Target) → SameView old new → Applicable B old.prefix (slots old) t → Applicable B new.prefix (slots new) t
-applies-view B old new t v a = record { fits = fits-view B old new t v a.fits; in_limits = subst (λ (F : PrenexFormula). IsInLimits standard F) (change-view old new t v) a.in_limits }
+applies-view B old new t v a = record { fits = fits-view B old new t v a.fits; in_limits = subst (λ (F : PrenexFormula). IsInLimits standard F) (change-view B old new t v a.fits) a.in_limits }
 
 pub view-itself : (k : Seen) → SameView k k
 view-itself k = record { prefix = refl; clauses = λ c. refl; formula = refl; text = refl }
@@ -139,7 +125,7 @@ measure-same B F G a = measure-alike B F.prefix F.matrix G.matrix a.clauses ∙ 
 
 pub taken : (B : Bounds) (old mid new : Seen) (t : Target) → Applicable B old.prefix (slots old) t → SameView old mid → HasResult mid new t → IsTaken B old new t
 taken B old mid new t applies v h =
-    let e : result_of mid.prefix (slots mid) t ≡ result_of old.prefix (slots old) t = ap swept (sym (change-view old mid t v)) in
+    let e : result_of mid.prefix (slots mid) t ≡ result_of old.prefix (slots old) t = ap swept (sym (change-view B old mid t v applies.fits)) in
     let a : AreAlike (result_of old.prefix (slots old) t) (formula_in new) = subst (λ F. AreAlike F (formula_in new)) e h.alike in
     record {
       applies = applies;

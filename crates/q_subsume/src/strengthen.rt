@@ -4,7 +4,7 @@
 //! d without l, which subsumes d; so l leaves d. (Self-subsuming resolution: N. Eén and A. Biere, "Effective preprocessing in SAT through
 //! variable and clause elimination", SAT 2005; it keeps the truth of quantified formulas whatever the quantifier of l is.)
 //!
-//! The condition stands in q_logic's `specs/Rules.antt` at `strengthen`, the law in its `proofs/PlainRuns.antt`
+//! The condition stands in q_logic's `specs/Rules/Strengthen.antt`, the law in its `proofs/PlainRuns.antt`
 //! (`strengthen-run`): where the rest of d is false, c makes l false, and d is left with nothing. A test walks both clauses
 //! side by side, after l was found in d and not in c. Targets are found from c (`finding.rt`). Taking one may make d a unit
 //! clause, a clause that subsumes others or that strengthens them, and may leave l's negation pure.

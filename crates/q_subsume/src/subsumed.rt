@@ -4,7 +4,7 @@
 //! SAT 2004; N. Eén and A. Biere, "Effective preprocessing in SAT through variable and clause elimination", SAT 2005; it
 //! keeps the truth of quantified formulas whatever the prefix is.)
 //!
-//! The condition stands in q_logic's `specs/Rules.antt` at `subsumed`, the law in its `proofs/PlainRuns.antt`
+//! The condition stands in q_logic's `specs/Rules/Subsumed.antt`, the law in its `proofs/PlainRuns.antt`
 //! (`subsumed-run`): d is implied by c, since the negations of d's literals leave c nothing. Both clauses are in order, so a
 //! test is one walk over the two side by side. Targets are found from c (`finding.rt`). Taking one may leave a literal pure.
 ghost use Rattle.std.specs.Prelude.{◌↔◌, IsTrue};
