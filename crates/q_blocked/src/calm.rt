@@ -6,8 +6,7 @@ ghost use Rattle.q_logic.specs.Sets.{IsTautology};
 ghost use Rattle.q_kernel.specs.Kernels.{slots};
 ghost use Rattle.q_blocked.specs.Walks.{IsBeside, IsCalm};
 
-use q_arena::ClauseId;
-use q_kernel::Kernel;
+use q_kernel::{ClauseId, Kernel};
 use q_logic::{Lit, NoMemory};
 use q_rule::{Queue, clause_of};
 use std::alloc::Global;

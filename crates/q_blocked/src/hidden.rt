@@ -14,8 +14,7 @@ use crate::calm::is_calm;
 use crate::growth::Growth;
 use crate::outcome::Outcome;
 use crate::spreading::spread_row;
-use q_arena::ClauseId;
-use q_kernel::Kernel;
+use q_kernel::{ClauseId, Kernel};
 use q_logic::{Lit, NoMemory};
 use q_rule::{Queue, clause_of};
 use q_snapshot::Rows;
@@ -157,13 +156,10 @@ fn spread_list(kernel: &Kernel, growth: &mut Growth, c: ClauseId, k: Lit) -> Res
     requires { Growing kernel.now c growth.old }
     ensures { IfOk result (HasSpread kernel.now c (λ E. IsIn E (others c (slots kernel.now)) × IsIn k E) growth.old growth.new) }
 {
-    kernel.sound();
-    let mut at = kernel.first(k);
-    while let Some(place) = at {
-        if take_hidden(kernel, growth, c, kernel.owner(place))? {
+    for d in kernel.holders(k) {
+        if take_hidden(kernel, growth, c, d)? {
             return Ok(true);
         }
-        at = kernel.next(place);
     }
     Ok(false)
 }

@@ -7,8 +7,7 @@ ghost use Rattle.q_kernel.specs.Kernels.{slots};
 ghost use Rattle.q_blocked.specs.Walks.{IsStuck};
 
 use crate::hidden::others_in;
-use q_arena::ClauseId;
-use q_kernel::Kernel;
+use q_kernel::{ClauseId, Kernel};
 use q_logic::{Lit, NoMemory, holds};
 use q_rule::{Queue, clause_of};
 use std::alloc::Global;

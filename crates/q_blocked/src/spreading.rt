@@ -11,8 +11,7 @@ ghost use Rattle.q_blocked.specs.Growths.{Growing, HasSpread};
 
 use crate::growth::Growth;
 use crate::hidden::{grow_by, take_hidden};
-use q_arena::ClauseId;
-use q_kernel::Kernel;
+use q_kernel::{ClauseId, Kernel};
 use q_logic::{Lit, NoMemory};
 use q_rule::Queue;
 use q_snapshot::Entry;

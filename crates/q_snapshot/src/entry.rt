@@ -4,8 +4,7 @@ ghost use Rattle.q_logic.specs.Formulas.{IsIn};
 ghost use Rattle.q_kernel.specs.Kernels.{HoldsLiteral};
 ghost use Rattle.q_snapshot.specs.Rows.{IsEntry};
 
-use q_arena::ClauseId;
-use q_kernel::Kernel;
+use q_kernel::{ClauseId, Kernel};
 use q_logic::Lit;
 
 /// A clause in the row of a literal: its id, and two of its other literals, where it has so many.

@@ -1,10 +1,10 @@
 use Rattle.std.proofs.Common.{ℕ, List, Bool, false, sym, subst, inl, inr}
-use Rattle.q_logic.specs.Formulas.{Clause, IsIn}
+use Rattle.q_logic.specs.Formulas.{IsIn}
 use Rattle.q_kernel.specs.Kernels.{slots}
 use Rattle.q_logic.proofs.Members.{item-in, taken-cases, taken-all}
 use Rattle.q_rule.proofs.Slots.{others-find}
 use Rattle.q_snapshot.specs.declared.entry.Entry.{Entry}
-use Rattle.q_blocked.specs.Walks.{IsBeside, IsCalmAt}
+use Rattle.q_blocked.specs.Walks.{IsBeside}
 use Rattle.q_blocked.specs.Growths.{HasSpread}
 use Rattle.q_blocked.proofs.Growing.{pushed-none, pushed-on, pushed-calm, pushed-less}
 use Rattle.q_blocked.proofs.spreading.spread_row.Goals as goal
