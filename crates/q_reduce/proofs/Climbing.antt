@@ -7,7 +7,7 @@ use Rattle.q_logic.specs.Numbered.{Slots, slot, others}
 use Rattle.q_logic.specs.Reach.{Reached, Reducible}
 use Rattle.q_logic.proofs.Implying.{negation-negation}
 use Rattle.q_logic.proofs.Searching.{hit-reached}
-use Rattle.q_arena.proofs.Numbers.{ℕ-cases}
+use Rattle.q_kernel.proofs.Basics.{ℕ-cases}
 use Rattle.q_kernel.proofs.Slotting.{slot-IsIn}
 use Rattle.q_kernel.specs.Kernels.{Seen, slots}
 use Rattle.q_rule.proofs.Slots.{slot-one}

@@ -6,7 +6,7 @@ use Rattle.q_logic.specs.Prefixes.{is_universal}
 use Rattle.q_logic.specs.Expanding.{inner_existential}
 use Rattle.q_logic.specs.Reach.{Reached, Reducible}
 use Rattle.q_logic.proofs.Searching.{closed-reducible, Reaching, hit-reached, hit-not_reducible}
-use Rattle.q_arena.proofs.Numbers.{some-same}
+use Rattle.q_kernel.proofs.Basics.{some-same}
 use Rattle.q_rule.proofs.Searching.{before_or_at}
 use Rattle.q_rule.proofs.Members.{member-place, place-member, before_growth, IsIn-grown}
 use Rattle.q_reduce.specs.Walks.{IsWidened, IsWorkedOff, IsVisited}

@@ -22,11 +22,13 @@ use Rattle.q_logic.proofs.Reaching.{IsIn-alike, alike-sym}
 use Rattle.q_kernel.specs.Kernels.{Seen, slots, formula_in, SameView}
 use Rattle.q_logic.specs.Runs.{AreAlike}
 use Rattle.q_kernel.specs.Taking.{IsTaken}
+use Rattle.q_kernel.specs.Visits.{IsLive}
+use Rattle.q_kernel.proofs.Slotting.{IsIn-slot}
 use Rattle.q_reduce.specs.declared.target.Target.{Target}
 use Rattle.q_reduce.specs.declared.target.Target.TheVariants.{Tautology, Unit, Cut, Pure}
 use Rattle.q_reduce.specs.Targets.{target_of}
 use Rattle.q_reduce.specs.Regions.{RegionMap, region_of, is_covered, key_of, IsRegional, AreRegions, AreRegionsOf}
-use Rattle.q_rule.proofs.Slots.{others-find}
+use Rattle.q_rule.proofs.Slots.{others-find, slot-one}
 use Rattle.q_rule.proofs.Outer.{inner-through, occurring-universal, occurring-inner}
 
 -- What a search among ascending numbers tells.
@@ -179,3 +181,13 @@ regions-alike F G R a h u t c D m =
 -- Regions stay right when a target is taken.
 pub regions-taken : (B : Bounds) (old new : Seen) (Rs : List RegionMap) (t : Target) → IsTaken B old new (target_of t) → AreRegionsOf old Rs → AreRegionsOf new Rs
 regions-taken B old new Rs t h all R m = regions-alike (swept (change old.prefix (slots old) (target_of t))) (formula_in new) R h.result (regions-swept (change old.prefix (slots old) (target_of t)) R (regions-change old.prefix (slots old) R t (all R m)))
+
+-- The clause of an id was looked at: its inner literals lie in one region.
+pub record IsVerified (P : Prefix) (N : Slots) (R : RegionMap) (w d : ℕ) : Type 0 where
+  pub regional : (D : Clause) → slot N d ≡ Some D → IsRegional P R w D
+
+pub verified-one : (P : Prefix) (N : Slots) (R : RegionMap) (w d : ℕ) (D : Clause) → slot N d ≡ Some D → IsRegional P R w D → IsVerified P N R w d
+verified-one P N R w d D e h = record { regional = λ E f. subst (λ (x : Clause). IsRegional P R w x) (slot-one N d D E e f) h }
+
+pub verified-all : (P : Prefix) (N : Slots) (R : RegionMap) (w : ℕ) → ((d : ℕ) → IsLive N d → IsVerified P N R w d) → (D : Clause) → IsIn D (live N) → IsRegional P R w D
+verified-all P N R w h D m = let d = IsIn-slot N D m in (h d.0 (record { there = (D, d.1) })).regional D d.1

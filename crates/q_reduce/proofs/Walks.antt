@@ -1,13 +1,12 @@
 -- Walks, literal by literal and clause by clause.
-use Rattle.std.proofs.Common.{◌≡◌, ◌⊎◌, ℕ, Bool, true, false, List, [], ◌∷◌, ◌++◌, Some, sym, ◌∙◌, ap, subst, inl, inr, append-nil, append_assoc}
+use Rattle.std.proofs.Common.{◌≡◌, ◌⊎◌, ℕ, Bool, true, false, List, [], ◌∷◌, ◌++◌, Some, Contains, sym, ◌∙◌, ap, subst, inl, inr, append-nil, append_assoc}
 use Rattle.q_logic.specs.Literals.{Literal, negation}
 use Rattle.q_logic.specs.Formulas.{Clause, Prefix, IsIn}
 use Rattle.q_logic.specs.Expanding.{inner_existential}
 use Rattle.q_logic.specs.Numbered.{Slots, slot, live, others}
 use Rattle.q_logic.proofs.Slots.{others-slot}
-use Rattle.q_arena.specs.Rings.{Has}
 use Rattle.q_kernel.proofs.Slotting.{IsIn-slot, slot-IsIn}
-use Rattle.q_kernel.proofs.Following.{Has-last}
+use Rattle.q_kernel.proofs.Once.{Contains-none, Contains-last}
 use Rattle.q_logic.proofs.ClauseLemmas.{IsIn-append_left, IsIn-append}
 use Rattle.q_logic.proofs.Implying.{IsIn-append_right}
 use Rattle.q_rule.proofs.Members.{IsIn-grown}
@@ -74,32 +73,26 @@ module _ (P : Prefix) (u : Literal) where
     from = λ k m. elim (h.from k m) [ inl x ↦ g.from k x | inr x ↦ inr (x.0, f x.0 x.1, x.2, x.3, x.4) ];
   }
 
-  -- the clauses that own places which a walk has passed were followed
-  pub record IsFollowing (N : Slots) (owner : ℕ → ℕ) (Q : Clause → Type 0) (places : List ℕ) (old new : List Literal) : Type 0 where
+  -- the clauses of ids that came were followed
+  pub record IsFollowing (N : Slots) (Q : Clause → Type 0) (came : List ℕ) (old new : List Literal) : Type 0 where
     pub grown : IsGrown P u Q old new
-    pub worked_off : (p : ℕ) (E : Clause) → Has places p → Stands N (owner p) E → IsWorkedOff P u new E
+    pub worked_off : (d : ℕ) (E : Clause) → Contains came d → Stands N d E → IsWorkedOff P u new E
 
-  pub following-begun : (N : Slots) (owner : ℕ → ℕ) (Q : Clause → Type 0) (old : List Literal) → IsFollowing N owner Q [] old old
-  following-begun N owner Q old = record { grown = grown-same Q old; worked_off = λ p E h b. absurd h }
+  pub following-begun : (N : Slots) (Q : Clause → Type 0) (old : List Literal) → IsFollowing N Q [] old old
+  following-begun N Q old = record { grown = grown-same Q old; worked_off = λ d E h b. absurd (Contains-none d h) }
 
-  pub following-more : (N : Slots) (owner : ℕ → ℕ) (Q : Clause → Type 0) (places : List ℕ) (p : ℕ) (old mid new : List Literal) → ((E : Clause) → Stands N (owner p) E → Q E) → IsFollowing N owner Q places old mid → IsFollowed P N u (owner p) mid new true → IsFollowing N owner Q (places ++ p ∷ []) old new
-  following-more N owner Q places p old mid new q f h = record {
-    grown = grown-through Q (Stands N (owner p)) old mid new q f.grown h.0;
-    worked_off = λ r E m b. elim (Has-last p r places m) [
-      | inl a ↦ worked_off-more mid new h.0.added E h.0.is (f.worked_off r E a b)
-      | inr e ↦ h.1 E (subst (λ (x : ℕ). Stands N (owner x) E) e b)
+  pub following-more : (N : Slots) (Q : Clause → Type 0) (came : List ℕ) (c : ℕ) (old mid new : List Literal) → ((E : Clause) → Stands N c E → Q E) → IsFollowing N Q came old mid → IsFollowed P N u c mid new true → IsFollowing N Q (came ++ c ∷ []) old new
+  following-more N Q came c old mid new q f h = record {
+    grown = grown-through Q (Stands N c) old mid new q f.grown h.0;
+    worked_off = λ d E m b. elim (Contains-last came c d m) [
+      | inl a ↦ worked_off-more mid new h.0.added E h.0.is (f.worked_off d E a b)
+      | inr e ↦ h.1 E (subst (λ (x : ℕ). Stands N x E) e b)
     ];
   }
 
-  -- what the walk asks of the lists: each clause with the literal owns a place
-  pub following-visited : (N : Slots) (owner : ℕ → ℕ) (k : Literal) (places : List ℕ) (old new : List Literal) → ((d : ℕ) (E : Clause) → slot N d ≡ Some E → IsIn (negation k) E → (p : ℕ) × Has places p × (owner p ≡ d)) → IsFollowing N owner (λ E. IsIn E (live N) × IsIn (negation k) E) places old new → IsVisited P (live N) u k old new true
-  following-visited N owner k places old new own f = (
-    f.grown,
-    (λ E m i.
-        let d = IsIn-slot N E m in
-        let p = own d.0 E d.1 i in
-        f.worked_off p.0 E p.1 (subst (λ (x : ℕ). Stands N x E) (sym p.2) d.1)),
-  )
+  -- once each clause with the literal came
+  pub following-visited : (N : Slots) (k : Literal) (came : List ℕ) (old new : List Literal) → ((d : ℕ) (E : Clause) → slot N d ≡ Some E → IsIn (negation k) E → Contains came d) → IsFollowing N (λ E. IsIn E (live N) × IsIn (negation k) E) came old new → IsVisited P (live N) u k old new true
+  following-visited N k came old new has f = (f.grown, (λ E m i. let d = IsIn-slot N E m in f.worked_off d.0 E (has d.0 E d.1 i) d.1))
 
   -- a clause that was followed and holds the negation of u
   pub visited-not : (N : Slots) (d : ℕ) (k : Literal) (D : Clause) (old mid new : List Literal) → slot N d ≡ Some D → IsIn (negation k) D → IsFollowed P N u d mid new false → IsVisited P (live N) u k old new false

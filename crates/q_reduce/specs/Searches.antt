@@ -1,7 +1,9 @@
 -- What a search for targets answers.
-use Rattle.std.specs.Prelude.{◌≡◌, ℕ}
+use Rattle.std.specs.Prelude.{◌≡◌, ◌≤◌, ◌<◌, ℕ}
+use Rattle.q_logic.specs.Targets.{place}
 use Rattle.q_reduce.specs.declared.target.Target.{Target}
 use Rattle.q_reduce.specs.declared.target.Target.TheVariants.{Tautology, Unit, Cut, Pure}
+use Rattle.q_reduce.specs.Targets.{target_of}
 
 -- a literal of the clause of an id
 abbrev pub IsCutOf : ℕ → Target → Type 0
@@ -23,3 +25,8 @@ IsOfVariable v (Tautology d) = ⊥
 IsOfVariable v (Unit d) = ⊥
 IsOfVariable v (Cut d l) = ⊥
 IsOfVariable v (Pure l) = l.var ≡ v
+
+-- a place from one number on and before another
+pub record IsBetween (from end : ℕ) (t : Target) : Type 0 where
+  pub order : from ≤ place (target_of t)
+  pub before : place (target_of t) < end

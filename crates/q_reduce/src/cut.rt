@@ -15,8 +15,7 @@ ghost use Rattle.q_kernel.specs.Kernels.{slots};
 ghost use Rattle.q_reduce.specs.Lent.{IsFitFor};
 
 use crate::search::Search;
-use q_arena::ClauseId;
-use q_kernel::Kernel;
+use q_kernel::{ClauseId, Kernel};
 use q_logic::{Lit, NoMemory, holds};
 use q_rule::is_universal;
 

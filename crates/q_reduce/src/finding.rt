@@ -1,22 +1,19 @@
 //! The search for a target, place by place.
-ghost use Rattle.std.specs.Prelude.{◌≡◌, ◌≤◌, ◌<◌, ℕ, None, Some, IfOk};
-ghost use Rattle.q_logic.specs.declared.rule_bounds.Bounds.{Bounds};
+ghost use Rattle.std.specs.Prelude.{◌≡◌, ◌≤◌, ◌<◌, Some, IfOk};
+ghost use Rattle.q_logic.specs.InLimits.{greatest};
 ghost use Rattle.q_logic.specs.Formulas.{Clause};
 ghost use Rattle.q_logic.specs.Numbered.{slot};
 ghost use Rattle.q_logic.specs.Targets.{place};
-ghost use Rattle.q_logic.specs.Rules.{Fits};
 ghost use Rattle.q_kernel.specs.Kernels.{slots};
-ghost use Rattle.q_reduce.specs.declared.target.Target.{Target as TargetValue};
 ghost use Rattle.q_reduce.specs.Targets.{target_of};
 ghost use Rattle.q_reduce.specs.Lent.{IsFitFor};
 ghost use Rattle.q_rule.specs.Searching.{IsFound, IsAt};
-ghost use Rattle.q_reduce.specs.Searches.{IsCutOf, IsOfClause, IsOfVariable};
+ghost use Rattle.q_reduce.specs.Searches.{IsBetween, IsCutOf, IsOfClause, IsOfVariable};
 
 use crate::search::Search;
 use crate::taking::fits;
 use crate::target::Target;
-use q_arena::ClauseId;
-use q_kernel::Kernel;
+use q_kernel::{ClauseId, Kernel};
 use q_logic::{Lit, NoMemory};
 
 /// A target that fits, at the first place from a number on at which one does.
@@ -29,32 +26,57 @@ pub fn find_from(
     ensures found { IfOk result (IsFound target_of kernel.now (λ t. from ≤ place (target_of t))) }
     ensures fit { IsFitFor kernel.now search.new }
 {
-    let mut at = from;
-    while let Some(place) = next_place(kernel, at) {
+    let end = after_variables(kernel);
+    let found = find_among_variables(kernel, search, from, end)?;
+    if found.is_some() {
+        return Ok(found);
+    }
+    let behind = find_behind(kernel, search, from.max(end))?;
+    Ok(behind)
+}
+
+// The first number above all variables.
+fn after_variables(kernel: &Kernel) -> u32
+    ensures { greatest kernel.now.prefix < result }
+{
+    kernel.sound();
+    kernel.greatest_var() + 1
+}
+
+// A target at one of the places that may be those of variables.
+fn find_among_variables(
+    kernel: &Kernel,
+    search: &mut Search,
+    from: u32,
+    end: u32,
+) -> Result<Option<Target>, NoMemory>
+    requires { IsFitFor kernel.now search.old }
+    ensures found { IfOk result (IsFound target_of kernel.now (IsBetween from end)) }
+    ensures fit { IsFitFor kernel.now search.new }
+{
+    for place in from..end {
         let found = find_at(kernel, search, place)?;
         if found.is_some() {
             return Ok(found);
         }
-        let Some(after) = place.checked_add(1) else {
-            // so many clauses have no place in memory
-            return Err(NoMemory);
-        };
-        at = after;
     }
     Ok(None)
 }
 
-// The next place that is a variable or the id of a clause.
-fn next_place(kernel: &Kernel, at: u32) -> Option<u32>
-    ensures some { (p : ℕ) → result ≡ Some p → at ≤ p }
-    ensures between { (p : ℕ) → result ≡ Some p → (t : TargetValue) → at ≤ place (target_of t) → place (target_of t) < p → (B : Bounds) → Fits B kernel.now.prefix (slots kernel.now) (target_of t) → ⊥ }
-    ensures none { result ≡ None → (t : TargetValue) → at ≤ place (target_of t) → (B : Bounds) → Fits B kernel.now.prefix (slots kernel.now) (target_of t) → ⊥ }
+// A target of a clause behind all variables.
+fn find_behind(kernel: &Kernel, search: &mut Search, start: u32) -> Result<Option<Target>, NoMemory>
+    requires behind { greatest kernel.now.prefix < start }
+    requires fit { IsFitFor kernel.now search.old }
+    ensures found { IfOk result (IsFound target_of kernel.now (λ t. start ≤ place (target_of t))) }
+    ensures fit { IsFitFor kernel.now search.new }
 {
-    if at <= kernel.greatest_var() {
-        Some(at)
-    } else {
-        kernel.next_live(at)
+    for c in kernel.ids_from(start) {
+        let found = find_in(kernel, search, c)?;
+        if found.is_some() {
+            return Ok(found);
+        }
     }
+    Ok(None)
 }
 
 // A target at a place: of its clause, or else of its variable.

@@ -66,13 +66,8 @@ fn join_clause(labels: &mut Vec<u32>, clause: &[Lit])
 pub fn join_all(labels: &mut Vec<u32>, kernel: &Kernel)
     ensures { vec_len labels.new ≡ vec_len labels.old }
 {
-    let mut at = 0;
-    while let Some(id) = kernel.next_live(at) {
+    for id in kernel.ids() {
         join_clause(labels, kernel.lits(id));
-        let Some(after) = id.checked_add(1) else {
-            return;
-        };
-        at = after;
     }
 }
 

@@ -9,8 +9,7 @@ ghost use Rattle.q_logic.specs.Sets.{OccursIn, without_literal};
 ghost use Rattle.q_kernel.specs.Kernels.{slots, formula_in, HoldsLiteral, HasSweepBytes};
 ghost use Rattle.q_rule.specs.Becoming.{HasBecome};
 
-use q_arena::ClauseId;
-use q_kernel::Kernel;
+use q_kernel::{ClauseId, Kernel};
 use q_logic::Lit;
 
 /// A clause with the literal; the given one only where it is the only one.

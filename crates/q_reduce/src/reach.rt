@@ -11,8 +11,7 @@ ghost use Rattle.q_kernel.specs.Kernels.{slots};
 ghost use Rattle.q_rule.specs.Quants.{is_some_exists, is_some_forall};
 ghost use Rattle.q_reduce.specs.Walks.{IsWidened, IsFollowed, IsVisited};
 
-use q_arena::ClauseId;
-use q_kernel::Kernel;
+use q_kernel::{ClauseId, Kernel};
 use q_logic::{Lit, NoMemory, Quant, holds};
 use q_rule::{Queue, clause_of, is_inner};
 
@@ -51,13 +50,10 @@ fn visit(kernel: &Kernel, queue: &mut Queue, lit: Lit, u: Lit) -> Result<bool, N
     requires { is_bound kernel.now.prefix u.var ≡ true }
     ensures { IfOk result (λ yes. IsVisited kernel.now.prefix (live (slots kernel.now)) u lit queue.old queue.new yes) }
 {
-    kernel.sound();
-    let mut at = kernel.first(lit.negated());
-    while let Some(place) = at {
-        if !follow(kernel, queue, kernel.owner(place), u)? {
+    for d in kernel.holders(lit.negated()) {
+        if !follow(kernel, queue, d, u)? {
             return Ok(false);
         }
-        at = kernel.next(place);
     }
     Ok(true)
 }

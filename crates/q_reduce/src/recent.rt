@@ -9,8 +9,7 @@ ghost use Rattle.q_kernel.specs.Kernels.{slots};
 ghost use Rattle.q_reduce.specs.Regions.{AreRegionsOf};
 
 use crate::regions::Regions;
-use q_arena::ClauseId;
-use q_kernel::Kernel;
+use q_kernel::{ClauseId, Kernel};
 use q_logic::{Lit, NoMemory};
 use std::alloc::Global;
 use std::marker::Model;

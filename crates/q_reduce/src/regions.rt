@@ -10,8 +10,7 @@ ghost use Rattle.q_kernel.specs.Kernels.{slots};
 ghost use Rattle.q_reduce.specs.Regions.{no_regions, region_of, is_covered, key_of, IsRegional, AreRegions};
 
 use crate::joining::{flatten, join_all, label_at};
-use q_arena::ClauseId;
-use q_kernel::Kernel;
+use q_kernel::{ClauseId, Kernel};
 use q_logic::{Lit, NoMemory};
 use q_rule::{is_inner, is_universal};
 use std::alloc::Global;
@@ -95,13 +94,8 @@ fn note_all(
     covered: &[bool],
     kernel: &Kernel,
 ) -> Result<(), NoMemory> {
-    let mut at = 0;
-    while let Some(id) = kernel.next_live(at) {
+    for id in kernel.ids() {
         note(keys, labels, covered, kernel.lits(id))?;
-        let Some(after) = id.checked_add(1) else {
-            return Ok(());
-        };
-        at = after;
     }
     Ok(())
 }
@@ -228,15 +222,10 @@ impl Regions {
         requires { is_bound kernel.now.prefix w ≡ true }
         ensures { IsTrue result → (D : Clause) → IsIn D (live (slots kernel.now)) → IsRegional kernel.now.prefix self.now w D }
     {
-        let mut at = 0;
-        while let Some(id) = kernel.next_live(at) {
+        for id in kernel.ids() {
             if !self.fits(kernel, kernel.lits(id), w) {
                 return false;
             }
-            let Some(next) = id.checked_add(1) else {
-                return false;
-            };
-            at = next;
         }
         true
     }

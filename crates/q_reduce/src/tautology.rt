@@ -11,8 +11,7 @@ ghost use Rattle.q_logic.specs.Sets.{IsTautology};
 ghost use Rattle.q_logic.specs.Numbered.{slot};
 ghost use Rattle.q_kernel.specs.Kernels.{slots};
 
-use q_arena::ClauseId;
-use q_kernel::Kernel;
+use q_kernel::{ClauseId, Kernel};
 use q_rule::is_tautology;
 
 /// Whether the id has a clause with a literal and its negation.

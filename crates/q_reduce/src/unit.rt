@@ -19,8 +19,7 @@ ghost use Rattle.q_kernel.specs.Kernels.{slots, formula_in};
 ghost use Rattle.q_rule.specs.Becoming.{CanChange, HasBecome};
 
 use crate::lists::{clause_with, delete_all};
-use q_arena::ClauseId;
-use q_kernel::Kernel;
+use q_kernel::{ClauseId, Kernel};
 use q_logic::Lit;
 use q_rule::{is_existential, only_literal};
 

@@ -1,6 +1,5 @@
 pub mod Marking
 pub mod Quantifiers
-pub mod Places
 pub mod Outer
 pub mod Turns
 pub mod Steps

@@ -2,7 +2,7 @@ use Rattle.std.proofs.Common.{◌≡◌, true, sym, ◌∙◌, refl, subst, arit
 use Rattle.q_logic.specs.Formulas.{Clause, IsIn}
 use Rattle.q_logic.specs.Prefixes.{is_existential}
 use Rattle.q_kernel.specs.Kernels.{HoldsLiteral}
-use Rattle.q_arena.proofs.Numbers.{some-same}
+use Rattle.q_kernel.proofs.Basics.{some-same}
 use Rattle.q_rule.proofs.Steps.{may-go_pure}
 use Rattle.q_rule.proofs.Clearing.{deleting-more, deleting-done, size-deleted, clause-bytes}
 use Rattle.q_reduce.proofs.lists.delete_all.Goals as goal

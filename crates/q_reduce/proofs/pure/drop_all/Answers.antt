@@ -9,7 +9,7 @@ use Rattle.q_logic.specs.Steps.{drop_literal}
 use Rattle.std.proofs.Common.{length}
 use Rattle.q_kernel.specs.Kernels.{slots, HoldsLiteral}
 use Rattle.q_kernel.proofs.Leading.{led-itself}
-use Rattle.q_arena.proofs.Numbers.{some-same}
+use Rattle.q_kernel.proofs.Basics.{some-same}
 use Rattle.q_rule.proofs.Steps.{may-drop_pure, drop-cost}
 use Rattle.q_rule.proofs.Turns.{shorter-in}
 use Rattle.q_rule.proofs.Clearing.{clearing-bytes, clearing-more, clearing-done, with-falls}

@@ -1,6 +1,6 @@
 use Rattle.std.proofs.Common.{◌≡◌, ◌≤◌, ℕ, IsTrue, nat_eq, inl, inr, arith}
 use Rattle.std.proofs.lemmas.Bool.Decides.{nat_tests}
-use Rattle.q_arena.proofs.Numbers.{ℕ-cases}
+use Rattle.q_kernel.proofs.Basics.{ℕ-cases}
 use Rattle.q_logic.specs.Literals.{Literal, negation}
 use Rattle.q_logic.specs.Sets.{OccursIn}
 use Rattle.q_logic.specs.Numbered.{live}

@@ -3,7 +3,7 @@ use Rattle.q_logic.specs.Literals.{negation}
 use Rattle.q_logic.specs.Formulas.{Clause, IsIn}
 use Rattle.q_logic.specs.Numbered.{slot, others}
 use Rattle.q_kernel.specs.Kernels.{slots}
-use Rattle.q_arena.proofs.Numbers.{some-same}
+use Rattle.q_kernel.proofs.Basics.{some-same}
 use Rattle.q_reduce.specs.Walks.{IsWidened}
 use Rattle.q_reduce.proofs.Walks.{visited-beside}
 use Rattle.q_reduce.proofs.Reaching.{IsWalk, walk-begun, walk-more, walk-refuted, walk-ended}

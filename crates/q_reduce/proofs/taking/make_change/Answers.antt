@@ -4,7 +4,7 @@ use Rattle.q_logic.specs.Formulas.{Clause, Prefix, IsIn}
 use Rattle.q_logic.specs.Numbered.{Slots}
 use Rattle.q_logic.specs.Rules.{Fits}
 use Rattle.q_kernel.specs.Kernels.{slots}
-use Rattle.q_arena.proofs.Numbers.{some-same}
+use Rattle.q_kernel.proofs.Basics.{some-same}
 use Rattle.q_reduce.specs.declared.target.Target.{Target}
 use Rattle.q_reduce.specs.declared.target.Target.TheVariants.{Tautology, Unit, Cut, Pure}
 use Rattle.q_reduce.specs.Targets.{target_of}

@@ -11,7 +11,7 @@ use Rattle.q_kernel.specs.Kernels.{slots, HoldsLiteral}
 use Rattle.q_kernel.specs.Changes.{MayShrink, IsShrunk}
 use Rattle.q_kernel.proofs.Leading.{led-itself}
 use Rattle.q_kernel.proofs.Slotting.{slot-set_other}
-use Rattle.q_arena.proofs.Numbers.{some-same}
+use Rattle.q_kernel.proofs.Basics.{some-same}
 use Rattle.q_rule.proofs.Steps.{may-shrink_unit, shrink-cost}
 use Rattle.q_rule.proofs.Clearing.{clearing-bytes, clearing-more, clearing-done, with-falls, not_own}
 use Rattle.q_reduce.proofs.unit.shrink_all.Goals as goal

@@ -1,5 +1,5 @@
 use Rattle.std.proofs.Common.{◌≡◌, ◌<◌, ℕ, sym, ◌∙◌, subst, arith}
-use Rattle.q_arena.proofs.Numbers.{some-same}
+use Rattle.q_kernel.proofs.Basics.{some-same}
 use Rattle.q_kernel.specs.Kernels.{slots}
 use Rattle.q_reduce.specs.Paths.{AreJoined}
 use Rattle.q_reduce.specs.Forests.{depth_of}

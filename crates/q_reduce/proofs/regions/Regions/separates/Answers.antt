@@ -3,7 +3,7 @@ use Rattle.q_logic.specs.Literals.{negation}
 use Rattle.q_logic.specs.Formulas.{Clause, IsIn}
 use Rattle.q_logic.specs.Expanding.{inner_existential}
 use Rattle.q_kernel.specs.Kernels.{slots}
-use Rattle.q_arena.proofs.Numbers.{some-same}
+use Rattle.q_kernel.proofs.Basics.{some-same}
 use Rattle.q_reduce.specs.Regions.{is_covered}
 use Rattle.q_logic.proofs.Members.{test-not}
 use Rattle.q_rule.proofs.Quantifiers.{bound-universal}

@@ -1,7 +1,7 @@
 use Rattle.std.proofs.Common.{List, ◌∙◌, sym, refl, subst, true≢false}
 use Rattle.q_logic.specs.Formulas.{Clause, IsIn}
 use Rattle.q_kernel.specs.Kernels.{slots}
-use Rattle.q_arena.proofs.Numbers.{some-same}
+use Rattle.q_kernel.proofs.Basics.{some-same}
 use Rattle.q_rule.proofs.Quantifiers.{bound-universal}
 use Rattle.q_reduce.specs.Forests.{ForestMap, AreForestsOf}
 use Rattle.q_reduce.proofs.Absent.{absent-reducible}

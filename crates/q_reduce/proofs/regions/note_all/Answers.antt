@@ -1,0 +1,5 @@
+use Rattle.q_kernel.proofs.Turns.{live-turn}
+use Rattle.q_reduce.proofs.regions.note_all.Goals as goal
+
+pub lits-requires : goal.lits-requires
+lits-requires c = live-turn _ _ c.ids-id-items.ensures.live c.into_iter-id-iterator.ensures.into_iter_gives c.loop-id.yielded_by c.in-Some.ensures.steps
