@@ -1,5 +1,6 @@
 pub mod Marking
 pub mod Quantifiers
+pub mod Places
 pub mod Outer
 pub mod Turns
 pub mod Steps
