@@ -15,7 +15,7 @@ loop-entry-init c = record { growing = c.requires.growing; pushed = pushed-none 
 pub take_entry-requires-clause-entry : goal.take_entry-requires-clause-entry
 take_entry-requires-clause-entry c =
     let e = c.entry-item.result in
-    (c.args.k, c.requires.row.each e (item-in c.args.row.now c.loop-entry.entry-index e c.loop-entry-test.true c.entry-item.is))
+    c.requires.row.each e (item-in c.args.row.now c.loop-entry.entry-index e c.loop-entry-test.true c.entry-item.is)
 
 pub loop-entry-preserved : goal.loop-entry-preserved
 loop-entry-preserved c =
