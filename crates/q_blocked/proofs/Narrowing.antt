@@ -1,5 +1,5 @@
 -- Covered literals, clause by clause.
-use Rattle.std.proofs.Common.{◌≡◌, ◌⊎◌, ℕ, Bool, true, false, List, [], ◌∷◌, ◌++◌, Some, inl, inr, refl, sym, ◌∙◌, subst, true≢false}
+use Rattle.std.proofs.Common.{◌≡◌, ◌⊎◌, ℕ, Bool, true, false, List, [], ◌∷◌, ◌++◌, Contains, Some, inl, inr, refl, sym, ◌∙◌, subst, true≢false}
 use Rattle.q_logic.specs.Literals.{Literal, negation}
 use Rattle.q_logic.specs.Formulas.{Clause, Matrix, Prefix, IsIn}
 use Rattle.q_logic.specs.Prefixes.{is_existential}
@@ -12,7 +12,6 @@ use Rattle.q_logic.proofs.ClauseLemmas.{IsIn-outer, IsIn-append, IsIn-append_lef
 use Rattle.q_logic.proofs.Implying.{IsIn-append_right}
 use Rattle.q_logic.proofs.Sets.{IsIn-outer_in}
 use Rattle.q_logic.proofs.CoverRun.{in_or_not}
-use Rattle.q_arena.specs.Rings.{Has}
 use Rattle.q_blocked.specs.Walks.{IsOpen, IsOpenAt, IsStuck, IsCutBy, IsNarrowed, IsLooked}
 use Rattle.q_rule.proofs.Slots.{slot-one}
 use Rattle.q_blocked.proofs.Passing.{HasPassed, passed-begun, passed-one, passed-map, passed-all}
@@ -21,62 +20,62 @@ use Rattle.q_blocked.proofs.Passing.{HasPassed, passed-begun, passed-one, passed
 abbrev pub IsMet : Prefix → Literal → Clause → List Literal → Clause → Type 0
 IsMet P l S K D = Clashes P l S D ⊎ ((k : Literal) → IsIn k K → IsIn k (outer P (negation l) D))
 
-pub record IsCut (P : Prefix) (N : Slots) (c : ℕ) (owner : ℕ → ℕ) (places : List ℕ) (l : Literal) (S : Clause) (met : Bool) (K : List Literal) : Type 0 where
-  pub none : met ≡ false → HasPassed N c owner places (λ D. Clashes P l S D)
+pub record IsCut (P : Prefix) (N : Slots) (c : ℕ) (seen : List ℕ) (l : Literal) (S : Clause) (met : Bool) (K : List Literal) : Type 0 where
+  pub none : met ≡ false → HasPassed N c seen (λ D. Clashes P l S D)
   pub some : met ≡ true → IsOpen P (others c N) l S
-  pub each : met ≡ true → HasPassed N c owner places (λ D. IsMet P l S K D)
+  pub each : met ≡ true → HasPassed N c seen (λ D. IsMet P l S K D)
   pub kept : met ≡ true → (k : Literal) → IsIn k K → (keeps P (negation l) k ≡ true) × (IsIn k S → ⊥)
   pub has : met ≡ true → (k : Literal) → InEach P (others c N) l S k → (IsIn k S → ⊥) → IsIn k K
 
-pub cut-begun : (P : Prefix) (N : Slots) (c : ℕ) (owner : ℕ → ℕ) (l : Literal) (S : Clause) (K : List Literal) → IsCut P N c owner [] l S false K
-cut-begun P N c owner l S K = record {
-  none = λ e. passed-begun N c owner (λ D. Clashes P l S D);
+pub cut-begun : (P : Prefix) (N : Slots) (c : ℕ) (l : Literal) (S : Clause) (K : List Literal) → IsCut P N c [] l S false K
+cut-begun P N c l S K = record {
+  none = λ e. passed-begun N c (λ D. Clashes P l S D);
   some = λ e. absurd (true≢false (sym e));
   each = λ e. absurd (true≢false (sym e));
   kept = λ e. absurd (true≢false (sym e));
   has = λ e. absurd (true≢false (sym e));
 }
 
-cut-by : (P : Prefix) (N : Slots) (c : ℕ) (owner : ℕ → ℕ) (places : List ℕ) (p : ℕ) (l : Literal) (S : Clause) (was now : Bool) (old new : List Literal) → IsCutBy P N c (owner p) l S was old now new → IsCut P N c owner places l S was old → (b : Bool) → was ≡ b → IsCut P N c owner (places ++ p ∷ []) l S now new
-cut-by P N c owner places p l S was now old new h s false e = record {
+cut-by : (P : Prefix) (N : Slots) (c : ℕ) (seen : List ℕ) (d : ℕ) (l : Literal) (S : Clause) (was now : Bool) (old new : List Literal) → IsCutBy P N c d l S was old now new → IsCut P N c seen l S was old → (b : Bool) → was ≡ b → IsCut P N c (seen ++ d ∷ []) l S now new
+cut-by P N c seen d l S was now old new h s false e = record {
   none = λ q. absurd (true≢false (sym h.opened ∙ q));
-  some = λ q. (h.by, others-slot N (owner p) c h.by h.beside.0 h.beside.1, h.holds, h.clear);
-  each = λ q. passed-one N c owner places p (λ D. IsMet P l S new D)
-      (λ D b. inr (λ k m. let r = (h.first e k).0 m in subst (λ (x : Clause). IsIn k (outer P (negation l) x)) (slot-one N (owner p) h.by D h.beside.1 b.1) (IsIn-outer_in P (negation l) h.by k r.0 r.1)))
-      (passed-map N c owner places (λ D. Clashes P l S D) (λ D. IsMet P l S new D) (λ D m. inl m) (s.none e));
+  some = λ q. (h.by, others-slot N d c h.by h.beside.0 h.beside.1, h.holds, h.clear);
+  each = λ q. passed-one N c seen d (λ D. IsMet P l S new D)
+      (λ D b. inr (λ k m. let r = (h.first e k).0 m in subst (λ (x : Clause). IsIn k (outer P (negation l) x)) (slot-one N d h.by D h.beside.1 b.1) (IsIn-outer_in P (negation l) h.by k r.0 r.1)))
+      (passed-map N c seen (λ D. Clashes P l S D) (λ D. IsMet P l S new D) (λ D m. inl m) (s.none e));
   kept = λ q k m. let r = (h.first e k).0 m in (r.1, r.2);
-  has = λ q k i n. let r = IsIn-outer P (negation l) h.by k (i h.by (others-slot N (owner p) c h.by h.beside.0 h.beside.1) h.holds h.clear) in (h.first e k).1 (r.0, r.1, n);
+  has = λ q k i n. let r = IsIn-outer P (negation l) h.by k (i h.by (others-slot N d c h.by h.beside.0 h.beside.1) h.holds h.clear) in (h.first e k).1 (r.0, r.1, n);
 }
-cut-by P N c owner places p l S was now old new h s true e = record {
+cut-by P N c seen d l S was now old new h s true e = record {
   none = λ q. absurd (true≢false (sym h.opened ∙ q));
   some = λ q. s.some e;
-  each = λ q. passed-one N c owner places p (λ D. IsMet P l S new D)
-      (λ D b. inr (λ k m. let r = (h.next e k).0 m in subst (λ (x : Clause). IsIn k (outer P (negation l) x)) (slot-one N (owner p) h.by D h.beside.1 b.1) (IsIn-outer_in P (negation l) h.by k r.1 (s.kept e k r.0).0)))
-      (passed-map N c owner places (λ D. IsMet P l S old D) (λ D. IsMet P l S new D) (λ D m. elim m [ inl x ↦ inl x | inr f ↦ inr (λ k i. f k ((h.next e k).0 i).0) ]) (s.each e));
+  each = λ q. passed-one N c seen d (λ D. IsMet P l S new D)
+      (λ D b. inr (λ k m. let r = (h.next e k).0 m in subst (λ (x : Clause). IsIn k (outer P (negation l) x)) (slot-one N d h.by D h.beside.1 b.1) (IsIn-outer_in P (negation l) h.by k r.1 (s.kept e k r.0).0)))
+      (passed-map N c seen (λ D. IsMet P l S old D) (λ D. IsMet P l S new D) (λ D m. elim m [ inl x ↦ inl x | inr f ↦ inr (λ k i. f k ((h.next e k).0 i).0) ]) (s.each e));
   kept = λ q k m. s.kept e k ((h.next e k).0 m).0;
-  has = λ q k i n. let r = IsIn-outer P (negation l) h.by k (i h.by (others-slot N (owner p) c h.by h.beside.0 h.beside.1) h.holds h.clear) in (h.next e k).1 (s.has e k i n, r.0);
+  has = λ q k i n. let r = IsIn-outer P (negation l) h.by k (i h.by (others-slot N d c h.by h.beside.0 h.beside.1) h.holds h.clear) in (h.next e k).1 (s.has e k i n, r.0);
 }
 
-pub cut-more : (P : Prefix) (N : Slots) (c : ℕ) (owner : ℕ → ℕ) (places : List ℕ) (p : ℕ) (l : Literal) (S : Clause) (was now : Bool) (old new : List Literal) → IsNarrowed P N c (owner p) l S was old now new → IsCut P N c owner places l S was old → IsCut P N c owner (places ++ p ∷ []) l S now new
-cut-more P N c owner places p l S was now old new (inr h) s = cut-by P N c owner places p l S was now old new h s was refl
-cut-more P N c owner places p l S was now old new (inl (f, e, q)) s = record {
-  none = λ r. passed-one N c owner places p (λ D. Clashes P l S D) f (s.none (sym e ∙ r));
+pub cut-more : (P : Prefix) (N : Slots) (c : ℕ) (seen : List ℕ) (d : ℕ) (l : Literal) (S : Clause) (was now : Bool) (old new : List Literal) → IsNarrowed P N c d l S was old now new → IsCut P N c seen l S was old → IsCut P N c (seen ++ d ∷ []) l S now new
+cut-more P N c seen d l S was now old new (inr h) s = cut-by P N c seen d l S was now old new h s was refl
+cut-more P N c seen d l S was now old new (inl (f, e, q)) s = record {
+  none = λ r. passed-one N c seen d (λ D. Clashes P l S D) f (s.none (sym e ∙ r));
   some = λ r. s.some (sym e ∙ r);
-  each = λ r. subst (λ (K : List Literal). HasPassed N c owner (places ++ p ∷ []) (λ D. IsMet P l S K D)) (sym q) (passed-one N c owner places p (λ D. IsMet P l S old D) (λ D b. inl (f D b)) (s.each (sym e ∙ r)));
+  each = λ r. subst (λ (K : List Literal). HasPassed N c (seen ++ d ∷ []) (λ D. IsMet P l S K D)) (sym q) (passed-one N c seen d (λ D. IsMet P l S old D) (λ D b. inl (f D b)) (s.each (sym e ∙ r)));
   kept = λ r k m. s.kept (sym e ∙ r) k (subst (λ (K : List Literal). IsIn k K) q m);
   has = λ r k i n. subst (λ (K : List Literal). IsIn k K) (sym q) (s.has (sym e ∙ r) k i n);
 }
 
 -- nothing is left to find
-pub cut-empty : (P : Prefix) (N : Slots) (c : ℕ) (owner : ℕ → ℕ) (places : List ℕ) (l : Literal) (S : Clause) (met : Bool) (K : List Literal) → met ≡ true → ((k : Literal) → IsIn k K → ⊥) → IsCut P N c owner places l S met K → IsLooked P (others c N) l S K true
-cut-empty P N c owner places l S met K e n s = (s.some e, λ k. ((λ m. absurd (n k m)), λ m. s.has e k m.0 m.1))
+pub cut-empty : (P : Prefix) (N : Slots) (c : ℕ) (seen : List ℕ) (l : Literal) (S : Clause) (met : Bool) (K : List Literal) → met ≡ true → ((k : Literal) → IsIn k K → ⊥) → IsCut P N c seen l S met K → IsLooked P (others c N) l S K true
+cut-empty P N c seen l S met K e n s = (s.some e, λ k. ((λ m. absurd (n k m)), λ m. s.has e k m.0 m.1))
 
-pub cut-done : (P : Prefix) (N : Slots) (c : ℕ) (owner : ℕ → ℕ) (places : List ℕ) (l : Literal) (S : Clause) (met : Bool) (K : List Literal) → ((d : ℕ) (E : Clause) → slot N d ≡ Some E → IsIn (negation l) E → (p : ℕ) × Has places p × (owner p ≡ d)) → IsCut P N c owner places l S met K → IsLooked P (others c N) l S K met
-cut-done P N c owner places l S false K own s = passed-all N c owner (negation l) places (λ D. Clashes P l S D) own (s.none refl)
-cut-done P N c owner places l S true K own s = (
+pub cut-done : (P : Prefix) (N : Slots) (c : ℕ) (seen : List ℕ) (l : Literal) (S : Clause) (met : Bool) (K : List Literal) → ((d : ℕ) (E : Clause) → slot N d ≡ Some E → IsIn (negation l) E → Contains seen d) → IsCut P N c seen l S met K → IsLooked P (others c N) l S K met
+cut-done P N c seen l S false K all s = passed-all N c (negation l) seen (λ D. Clashes P l S D) all (s.none refl)
+cut-done P N c seen l S true K all s = (
   s.some refl,
   λ k. (
-    (λ m. ((λ D i h n. elim (passed-all N c owner (negation l) places (λ E. IsMet P l S K E) own (s.each refl) D i h) [ inl x ↦ absurd (n x) | inr f ↦ f k m ]), (s.kept refl k m).1)),
+    (λ m. ((λ D i h n. elim (passed-all N c (negation l) seen (λ E. IsMet P l S K E) all (s.each refl) D i h) [ inl x ↦ absurd (n x) | inr f ↦ f k m ]), (s.kept refl k m).1)),
     λ m. s.has refl k m.0 m.1,
   ),
 )

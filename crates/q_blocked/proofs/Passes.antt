@@ -6,7 +6,7 @@ use Rattle.q_logic.specs.Numbered.{others}
 use Rattle.q_logic.specs.Covering.{Covers}
 use Rattle.q_kernel.specs.Kernels.{Seen, slots}
 use Rattle.q_logic.proofs.Members.{taken-cases}
-use Rattle.q_arena.proofs.Numbers.{some-same}
+use Rattle.q_kernel.proofs.Basics.{some-same}
 use Rattle.q_blocked.specs.declared.growth.Growth.{Growth}
 use Rattle.q_blocked.specs.declared.outcome.Outcome.{Outcome}
 use Rattle.q_blocked.specs.declared.outcome.Outcome.TheVariants.{Ended, Grown, Calm}

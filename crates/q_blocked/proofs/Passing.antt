@@ -1,34 +1,30 @@
--- Clauses that a walk along the list of a literal has passed.
-use Rattle.std.proofs.Common.{◌≡◌, ℕ, List, [], ◌∷◌, ◌++◌, Some, sym, subst, inl, inr}
+-- Clauses that a walk along the list of a literal has met.
+use Rattle.std.proofs.Common.{◌≡◌, ℕ, List, [], ◌∷◌, ◌++◌, Contains, Some, sym, subst, inl, inr, arith}
+use Rattle.std.proofs.lemmas.List.Elements.{Contains-push_cases}
 use Rattle.q_logic.specs.Literals.{Literal}
 use Rattle.q_logic.specs.Formulas.{Clause, IsIn}
 use Rattle.q_logic.specs.Numbered.{Slots, slot, others}
-use Rattle.q_arena.specs.Rings.{Has}
 use Rattle.q_rule.proofs.Slots.{others-find}
 use Rattle.q_blocked.specs.Walks.{IsBeside}
-use Rattle.q_kernel.proofs.Following.{Has-last}
 
--- each clause that owns a place, but c, is so
-pub record HasPassed (N : Slots) (c : ℕ) (owner : ℕ → ℕ) (places : List ℕ) (Q : Clause → Type 0) : Type 0 where
-  pub each : (p : ℕ) (E : Clause) → Has places p → IsBeside N c (owner p) E → Q E
+-- each clause that was met, but c, is so
+pub record HasPassed (N : Slots) (c : ℕ) (met : List ℕ) (Q : Clause → Type 0) : Type 0 where
+  pub each : (d : ℕ) (E : Clause) → Contains met d → IsBeside N c d E → Q E
 
-pub passed-begun : (N : Slots) (c : ℕ) (owner : ℕ → ℕ) (Q : Clause → Type 0) → HasPassed N c owner [] Q
-passed-begun N c owner Q = record { each = λ p E h b. absurd h }
+pub passed-begun : (N : Slots) (c : ℕ) (Q : Clause → Type 0) → HasPassed N c [] Q
+passed-begun N c Q = record { each = λ d E h b. absurd (let i = h.1 in omega arith) }
 
-pub passed-one : (N : Slots) (c : ℕ) (owner : ℕ → ℕ) (places : List ℕ) (p : ℕ) (Q : Clause → Type 0) → ((E : Clause) → IsBeside N c (owner p) E → Q E) → HasPassed N c owner places Q → HasPassed N c owner (places ++ p ∷ []) Q
-passed-one N c owner places p Q q f = record {
-  each = λ r E m b. elim (Has-last p r places m) [
+pub passed-one : (N : Slots) (c : ℕ) (met : List ℕ) (d : ℕ) (Q : Clause → Type 0) → ((E : Clause) → IsBeside N c d E → Q E) → HasPassed N c met Q → HasPassed N c (met ++ d ∷ []) Q
+passed-one N c met d Q q f = record {
+  each = λ r E m b. elim (Contains-push_cases met d r m) [
     | inl a ↦ f.each r E a b
-    | inr e ↦ q E (subst (λ (x : ℕ). IsBeside N c (owner x) E) e b)
+    | inr e ↦ q E (subst (λ (x : ℕ). IsBeside N c x E) (sym e) b)
   ];
 }
 
-pub passed-map : (N : Slots) (c : ℕ) (owner : ℕ → ℕ) (places : List ℕ) (Q R : Clause → Type 0) → ((E : Clause) → Q E → R E) → HasPassed N c owner places Q → HasPassed N c owner places R
-passed-map N c owner places Q R q f = record { each = λ p E m b. q E (f.each p E m b) }
+pub passed-map : (N : Slots) (c : ℕ) (met : List ℕ) (Q R : Clause → Type 0) → ((E : Clause) → Q E → R E) → HasPassed N c met Q → HasPassed N c met R
+passed-map N c met Q R q f = record { each = λ d E m b. q E (f.each d E m b) }
 
 -- at the end all are so
-pub passed-all : (N : Slots) (c : ℕ) (owner : ℕ → ℕ) (k : Literal) (places : List ℕ) (Q : Clause → Type 0) → ((d : ℕ) (E : Clause) → slot N d ≡ Some E → IsIn k E → (p : ℕ) × Has places p × (owner p ≡ d)) → HasPassed N c owner places Q → (E : Clause) → IsIn E (others c N) → IsIn k E → Q E
-passed-all N c owner k places Q own f E m i =
-    let d = others-find N c E m in
-    let p = own d.0 E d.2 i in
-    f.each p.0 E p.1 (subst (λ (x : ℕ). IsBeside N c x E) (sym p.2) (d.1, d.2))
+pub passed-all : (N : Slots) (c : ℕ) (k : Literal) (met : List ℕ) (Q : Clause → Type 0) → ((d : ℕ) (E : Clause) → slot N d ≡ Some E → IsIn k E → Contains met d) → HasPassed N c met Q → (E : Clause) → IsIn E (others c N) → IsIn k E → Q E
+passed-all N c k met Q has f E m i = let d = others-find N c E m in f.each d.0 E (has d.0 E d.2 i) (d.1, d.2)

@@ -1,6 +1,6 @@
 -- A clause comes in the place of a smaller one, and a clause goes.
 use Rattle.std.proofs.Common.{◌≡◌, ◌≢◌, ◌≤◌, ◌+◌, ◌*◌, ◌∙◌, ℕ, None, inl, inr, arith, refl, sym, subst, Some, Option, length, ◌∷◌}
-use Rattle.q_arena.proofs.Numbers.{ℕ-cases, some-same}
+use Rattle.q_kernel.proofs.Basics.{ℕ-cases, some-same}
 use Rattle.q_logic.specs.Literals.{Literal}
 use Rattle.q_logic.specs.Formulas.{Clause, Prefix, IsIn}
 use Rattle.q_logic.specs.Propagation.{Implied}

@@ -1,5 +1,5 @@
 -- What a search for targets has seen.
-use Rattle.std.proofs.Common.{◌≡◌, ℕ, true, false, Option, Some, None, refl, sym, ◌∙◌, ap, List, subst, true≢false}
+use Rattle.std.proofs.Common.{◌≡◌, ◌≤◌, ℕ, true, false, Option, Some, None, refl, sym, ◌∙◌, ap, List, subst, true≢false}
 use Rattle.std.specs.Option.{is_some}
 use Rattle.q_logic.specs.declared.rule_bounds.Bounds.{Bounds}
 use Rattle.q_logic.specs.Literals.{Literal, negation}
@@ -12,19 +12,27 @@ use Rattle.q_logic.proofs.Order.{universal-not_existential}
 use Rattle.q_logic.specs.Targets.{place}
 use Rattle.q_logic.specs.Rules.{Fits}
 use Rattle.q_kernel.specs.Kernels.{Seen, slots}
-use Rattle.q_arena.proofs.Numbers.{some-same}
+use Rattle.q_kernel.specs.Visits.{IsLive}
+use Rattle.q_kernel.proofs.Basics.{some-same}
 use Rattle.q_blocked.specs.declared.target.Target.{Target}
 use Rattle.q_blocked.specs.declared.target.Target.TheVariants.{Blocked, BlockedForall, Cover}
 use Rattle.q_blocked.specs.Targets.{target_of}
-use Rattle.q_rule.proofs.Slots.{slot-none}
 use Rattle.q_rule.proofs.Searching.{found-none, found-more}
 use Rattle.q_rule.specs.Searching.{IsFound, IsAt}
 use Rattle.q_blocked.specs.Searches.{IsPivotOf, IsOn}
 
-pub beyond : (k : Seen) (t : Target) → slot (slots k) (place (target_of t)) ≡ None → (B : Bounds) → Fits B k.prefix (slots k) (target_of t) → ⊥
-beyond k (Blocked c l) e B f = slot-none (slots k) c f.0 e f.1
-beyond k (BlockedForall c l) e B f = slot-none (slots k) c f.0 e f.1
-beyond k (Cover c) e B f = slot-none (slots k) c f.0 e f.1
+-- no target of the clause applies
+pub record IsTried (k : Seen) (c : ℕ) : Type 0 where
+  pub none : IsFound target_of k (IsAt target_of c) None
+
+-- a target applies to a clause that is there
+live-place : (k : Seen) (t : Target) (B : Bounds) → Fits B k.prefix (slots k) (target_of t) → IsLive (slots k) (place (target_of t))
+live-place k (Blocked c l) B f = record { there = (f.0, f.1) }
+live-place k (BlockedForall c l) B f = record { there = (f.0, f.1) }
+live-place k (Cover c) B f = record { there = (f.0, f.1) }
+
+pub tried-all : (k : Seen) (from : ℕ) → ((c : ℕ) → (from ≤ c) × IsLive (slots k) c → IsTried k c) → IsFound target_of k (λ t. from ≤ place (target_of t)) None
+tried-all k from h = found-none target_of k (λ t. from ≤ place (target_of t)) (λ t m B f. let r = h (place (target_of t)) (m, live-place k t B f) in r.none.none refl t refl B f)
 
 -- The literals of a clause one after the other.
 abbrev pub AreNone : Seen → ℕ → List Literal → Type 0

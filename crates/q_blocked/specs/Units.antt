@@ -1,5 +1,5 @@
 -- Clauses of one literal.
-use Rattle.std.specs.Prelude.{◌≡◌, ◌<◌, ℕ, true, List, Some}
+use Rattle.std.specs.Prelude.{◌≡◌, ℕ, true, List, Contains, Some}
 use Rattle.q_logic.specs.Literals.{Literal}
 use Rattle.q_logic.specs.Formulas.{Clause, IsIn}
 use Rattle.q_logic.specs.Numbered.{Slots, slot}
@@ -13,9 +13,9 @@ IsSingle D = (j : Literal) × IsIn j D × ((i : Literal) → IsIn i D → i ≡ 
 abbrev pub HasUnits : Slots → List ℕ → Type 0
 HasUnits N ids = (d : ℕ) (D : Clause) → slot N d ≡ Some D → IsSingle D → IsIn d ids
 
--- of all such clauses below an id
-abbrev pub HasUnitsBelow : Slots → ℕ → List ℕ → Type 0
-HasUnitsBelow N upto ids = (d : ℕ) (D : Clause) → d < upto → slot N d ≡ Some D → IsSingle D → IsIn d ids
+-- those of such clauses that were met
+abbrev pub HasUnitsAmong : Slots → List ℕ → List ℕ → Type 0
+HasUnitsAmong N met ids = (d : ℕ) (D : Clause) → Contains met d → slot N d ≡ Some D → IsSingle D → IsIn d ids
 
 -- what is known is right
 abbrev pub AreRight : Slots → Units → Type 0

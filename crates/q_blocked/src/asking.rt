@@ -8,8 +8,7 @@ ghost use Rattle.q_blocked.specs.Learned.{IsRightFor};
 
 use crate::cover::fits_cover;
 use crate::search::Search;
-use q_arena::ClauseId;
-use q_kernel::Kernel;
+use q_kernel::{ClauseId, Kernel};
 use q_logic::NoMemory;
 
 impl Search {

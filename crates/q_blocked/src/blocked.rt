@@ -34,8 +34,7 @@ ghost use Rattle.q_kernel.specs.Kernels.{slots, formula_in};
 ghost use Rattle.q_rule.specs.Becoming.{CanChange, IsChanged};
 
 use crate::clashing::{all_clash, fill};
-use q_arena::ClauseId;
-use q_kernel::Kernel;
+use q_kernel::{ClauseId, Kernel};
 use q_logic::{Lit, NoMemory, holds};
 use q_rule::{Queue, is_existential, is_universal};
 

@@ -1,4 +1,4 @@
-//! Clauses that give a set no hidden literal, as few of their literals show.
+//! Long clauses that give a set no hidden literal, as few of their literals show.
 ghost use Rattle.std.specs.Prelude.{◌≡◌, ◌<◌, ℕ, length, slice_get, true, Some, IfOk};
 ghost use Rattle.q_logic.specs.Literals.{Literal};
 ghost use Rattle.q_logic.specs.Formulas.{Clause, IsIn};
@@ -6,13 +6,12 @@ ghost use Rattle.q_logic.specs.Sets.{IsTautology};
 ghost use Rattle.q_kernel.specs.Kernels.{slots};
 ghost use Rattle.q_blocked.specs.Walks.{IsBeside, IsCalm};
 
-use q_arena::ClauseId;
-use q_kernel::Kernel;
+use q_kernel::{ClauseId, Kernel};
 use q_logic::{Lit, NoMemory};
 use q_rule::{Queue, clause_of};
 use std::alloc::Global;
 
-// A shorter clause is looked at from its first literal on.
+// A shorter clause is looked at as a whole.
 const LONG: usize = 6;
 
 /// For each long clause the place of a literal that was not in a set. It may be out of date: it is tested where it is
@@ -107,7 +106,8 @@ fn is_long_calm(
     Ok(shows_calm(clause, set, first))
 }
 
-/// Whether a look at few literals shows that the clause of an id gives the set no hidden literal, or is c or not live.
+/// Whether the clause of an id is long, and a look at few of its literals shows that it gives the set no hidden literal; or is c, or
+/// not live.
 #[inline(always)]
 pub fn is_calm(
     kernel: &Kernel,
@@ -127,7 +127,7 @@ pub fn is_calm(
     }
     let clause = clause_of(kernel, d);
     if clause.len() < LONG {
-        return Ok(shows_calm(clause, set, 0));
+        return Ok(false);
     }
     let yes = is_long_calm(clause, set, hints, d)?;
     Ok(yes)

@@ -10,8 +10,7 @@ ghost use Rattle.q_logic.specs.Blocking.{Clashes, AllClash};
 ghost use Rattle.q_kernel.specs.Kernels.{slots, HoldsLiteral};
 ghost use Rattle.q_blocked.specs.Walks.{ClashesAt};
 
-use q_arena::ClauseId;
-use q_kernel::Kernel;
+use q_kernel::{ClauseId, Kernel};
 use q_logic::{Lit, NoMemory};
 use q_rule::{Queue, clause_of};
 

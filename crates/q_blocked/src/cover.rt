@@ -54,8 +54,7 @@ use crate::outcome::Outcome;
 use crate::reasons::is_given;
 use crate::search::Search;
 use crate::stuck::is_stuck;
-use q_arena::ClauseId;
-use q_kernel::Kernel;
+use q_kernel::{ClauseId, Kernel};
 use q_logic::{Lit, NoMemory};
 use q_rule::{Queue, clause_of, is_existential, is_tautology};
 

@@ -12,8 +12,7 @@ ghost use Rattle.q_blocked.specs.Walks.{IsNarrowed, IsLooked};
 
 use crate::clashing::{clashes, fill, is_fresh};
 use crate::stuck::{NO_PAIR, Pair};
-use q_arena::ClauseId;
-use q_kernel::Kernel;
+use q_kernel::{ClauseId, Kernel};
 use q_logic::{Lit, NoMemory, holds};
 use q_rule::{Queue, clause_of};
 use std::alloc::Global;
@@ -162,15 +161,12 @@ pub fn covered_at(
 ) -> Result<bool, NoMemory>
     ensures { IfOk result (λ yes. IsLooked kernel.now.prefix (others c (slots kernel.now)) l set.now found.new.items yes) }
 {
-    kernel.sound();
     let mut met = false;
-    let mut at = kernel.first(l.negated());
-    while let Some(place) = at {
-        met = narrow(kernel, set, found, spare, c, kernel.owner(place), l, met)?;
+    for d in kernel.holders(l.negated()) {
+        met = narrow(kernel, set, found, spare, c, d, l, met)?;
         if met && is_bare(found) {
             return Ok(true);
         }
-        at = kernel.next(place);
     }
     Ok(met)
 }

@@ -12,8 +12,7 @@ ghost use Rattle.q_rule.specs.Becoming.{IsChanged};
 ghost use Rattle.q_blocked.specs.Plans.{IsPlanFor, HasRoomFor, MayReplace, IsReplaced, MayLeave, HasLeft};
 
 use crate::plan::Plan;
-use q_arena::ClauseId;
-use q_kernel::Kernel;
+use q_kernel::{ClauseId, Kernel};
 use q_logic::Lit;
 
 /// Makes a covered clause larger, stage by stage, and deletes the last one.

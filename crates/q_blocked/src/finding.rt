@@ -15,8 +15,7 @@ use crate::clashing::{all_clash, fill};
 use crate::cover::fits_cover;
 use crate::search::Search;
 use crate::target::Target;
-use q_arena::ClauseId;
-use q_kernel::Kernel;
+use q_kernel::{ClauseId, Kernel};
 use q_logic::{Lit, NoMemory};
 use q_rule::{Queue, is_existential};
 
@@ -30,17 +29,11 @@ pub fn find_from(
 {
     search.units.forget();
     search.rows.forget();
-    let mut at = from;
-    while let Some(c) = kernel.next_live(at) {
+    for c in kernel.ids_from(from) {
         let found = find_at(kernel, search, c)?;
         if found.is_some() {
             return Ok(found);
         }
-        let Some(after) = c.checked_add(1) else {
-            // so many clauses have no place in memory
-            return Err(NoMemory);
-        };
-        at = after;
     }
     Ok(None)
 }

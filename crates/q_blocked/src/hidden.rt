@@ -14,8 +14,7 @@ use crate::calm::is_calm;
 use crate::growth::Growth;
 use crate::outcome::Outcome;
 use crate::spreading::spread_row;
-use q_arena::ClauseId;
-use q_kernel::Kernel;
+use q_kernel::{ClauseId, Kernel};
 use q_logic::{Lit, NoMemory};
 use q_rule::{Queue, clause_of};
 use q_snapshot::Rows;
@@ -52,6 +51,7 @@ pub(crate) fn others_in(clause: &[Lit], set: &Queue, k: Lit) -> bool
 }
 
 // The hidden literal that a clause gives the set.
+#[inline(always)]
 fn hidden_in(clause: &[Lit], set: &Queue) -> Option<Lit>
     requires { IsTautology set.now → ⊥ }
     ensures some { (new : Literal) → result ≡ Some new → Gives set.now clause.now new }
@@ -73,6 +73,7 @@ fn hidden_in(clause: &[Lit], set: &Queue) -> Option<Lit>
 }
 
 // The same for the clause of an id, unless it is c or not live.
+#[inline(always)]
 fn hidden_by(kernel: &Kernel, set: &Queue, c: ClauseId, d: ClauseId) -> Option<Lit>
     requires { IsTautology set.now → ⊥ }
     ensures some { (new : Literal) → result ≡ Some new → (D : Clause) × IsBeside (slots kernel.now) c d D × Gives set.now D new }
@@ -87,20 +88,20 @@ fn hidden_by(kernel: &Kernel, set: &Queue, c: ClauseId, d: ClauseId) -> Option<L
     hidden_in(clause_of(kernel, d), set)
 }
 
-// Grows by the hidden literal that the clause of an id gives. Yes where a literal and its negation are in the set then.
-pub(crate) fn grow_by(
+// Grows by a hidden literal that the clause of an id gives. Yes where a literal and its negation are in the set then.
+#[inline(always)]
+pub(crate) fn give(
     kernel: &Kernel,
     growth: &mut Growth,
     c: ClauseId,
     d: ClauseId,
+    new: Lit,
 ) -> Result<bool, NoMemory>
-    requires { Growing kernel.now c growth.old }
+    requires growing { Growing kernel.now c growth.old }
+    requires gives { (D : Clause) × IsBeside (slots kernel.now) c d D × Gives growth.old.set D new }
     ensures { IfOk result (HasSpread kernel.now c (IsBeside (slots kernel.now) c d) growth.old growth.new) }
 {
     kernel.sound();
-    let Some(new) = hidden_by(kernel, &growth.set, c, d) else {
-        return Ok(false);
-    };
     let place = growth.set.len();
     growth.set.push(new)?;
     growth.reasons.note(place, d)?;
@@ -111,7 +112,7 @@ pub(crate) fn grow_by(
     Ok(false)
 }
 
-// The same, with a short look first: most clauses give nothing.
+// Grows by the hidden literal that the clause of an id gives, if it gives one.
 #[inline(always)]
 pub(crate) fn take_hidden(
     kernel: &Kernel,
@@ -125,12 +126,34 @@ pub(crate) fn take_hidden(
     if is_calm(kernel, &growth.set, &mut growth.hints, c, d)? {
         return Ok(false);
     }
-    let ended = grow_by(kernel, growth, c, d)?;
+    let Some(new) = hidden_by(kernel, &growth.set, c, d) else {
+        return Ok(false);
+    };
+    let ended = give(kernel, growth, c, d, new)?;
     Ok(ended)
 }
 
 // Grows by the hidden literals that the clauses with a literal of the set give: by its row, where that was made.
 fn spread(
+    kernel: &Kernel,
+    growth: &mut Growth,
+    rows: &mut Rows,
+    c: ClauseId,
+    k: Lit,
+) -> Result<bool, NoMemory>
+    requires growing { Growing kernel.now c growth.old }
+    requires rows { AreRowsOf kernel.now rows.old }
+    ensures spread { IfOk result (HasSpread kernel.now c (λ E. IsIn E (others c (slots kernel.now)) × IsIn k E) growth.old growth.new) }
+    ensures rows { AreRowsOf kernel.now rows.new }
+{
+    match rows.row(k) {
+        Some(row) => spread_row(kernel, growth, c, k, row),
+        None => spread_anew(kernel, growth, rows, c, k),
+    }
+}
+
+// The same where the row was not made yet.
+fn spread_anew(
     kernel: &Kernel,
     growth: &mut Growth,
     rows: &mut Rows,
@@ -157,13 +180,10 @@ fn spread_list(kernel: &Kernel, growth: &mut Growth, c: ClauseId, k: Lit) -> Res
     requires { Growing kernel.now c growth.old }
     ensures { IfOk result (HasSpread kernel.now c (λ E. IsIn E (others c (slots kernel.now)) × IsIn k E) growth.old growth.new) }
 {
-    kernel.sound();
-    let mut at = kernel.first(k);
-    while let Some(place) = at {
-        if take_hidden(kernel, growth, c, kernel.owner(place))? {
+    for d in kernel.holders(k) {
+        if take_hidden(kernel, growth, c, d)? {
             return Ok(true);
         }
-        at = kernel.next(place);
     }
     Ok(false)
 }

@@ -1,14 +1,15 @@
 //! Literals that came hidden. Nothing is covered on one of them, as the clause shows that gave it: its other literals are in
 //! the set, so it does not clash, and has nothing else to give.
-ghost use Rattle.std.specs.Prelude.{◌≡◌, true};
+ghost use Rattle.std.specs.Prelude.{◌≡◌, ◌≢◌, ◌⊎◌, true};
+ghost use Rattle.q_logic.specs.Literals.{Literal};
+ghost use Rattle.q_logic.specs.Formulas.{IsIn};
 ghost use Rattle.q_logic.specs.Sets.{IsTautology};
 ghost use Rattle.q_logic.specs.Numbered.{others};
 ghost use Rattle.q_kernel.specs.Kernels.{slots};
 ghost use Rattle.q_blocked.specs.Walks.{IsStuck};
 
 use crate::hidden::others_in;
-use q_arena::ClauseId;
-use q_kernel::Kernel;
+use q_kernel::{ClauseId, Kernel};
 use q_logic::{Lit, NoMemory, holds};
 use q_rule::{Queue, clause_of};
 use std::alloc::Global;
@@ -46,6 +47,33 @@ impl Reasons {
     }
 }
 
+// Whether one of two literals is k, and the other one in the set.
+fn are_given(set: &Queue, first: Lit, second: Lit, k: Lit) -> bool
+    ensures { result ≡ true → ((first ≡ k) × IsIn second set.now) ⊎ ((second ≡ k) × IsIn first set.now) }
+{
+    if first.is(k) {
+        return set.has(second);
+    }
+    if !second.is(k) {
+        return false;
+    }
+    set.has(first)
+}
+
+// Whether a clause holds k, and its other literals are in the set. Most have two literals, so that these are asked by themselves.
+fn gives_but(clause: &[Lit], set: &Queue, k: Lit) -> bool
+    ensures there { result ≡ true → IsIn k clause.now }
+    ensures others { result ≡ true → (j : Literal) → IsIn j clause.now → j ≢ k → IsIn j set.now }
+{
+    if clause.len() == 2 {
+        return are_given(set, clause[0], clause[1], k);
+    }
+    if !holds(clause, k) {
+        return false;
+    }
+    others_in(clause, set, k)
+}
+
 /// Whether the clause of an id, which is not c, holds the negation of l, and its other literals are in the set: then the set
 /// has all that is covered on l.
 pub fn is_given(kernel: &Kernel, set: &Queue, c: ClauseId, d: ClauseId, l: Lit) -> bool
@@ -58,10 +86,5 @@ pub fn is_given(kernel: &Kernel, set: &Queue, c: ClauseId, d: ClauseId, l: Lit) 
     if !kernel.live(d) {
         return false;
     }
-    let clause = clause_of(kernel, d);
-    let k = l.negated();
-    if !holds(clause, k) {
-        return false;
-    }
-    others_in(clause, set, k)
+    gives_but(clause_of(kernel, d), set, l.negated())
 }

@@ -1,6 +1,6 @@
 //! Hidden literals along the row of a literal.
-ghost use Rattle.std.specs.Prelude.{◌≡◌, true, IfOk};
-ghost use Rattle.q_logic.specs.Literals.{Literal};
+ghost use Rattle.std.specs.Prelude.{◌≡◌, ◌≢◌, ◌↔◌, true, IfOk, IsTrue};
+ghost use Rattle.q_logic.specs.Literals.{Literal, negation};
 ghost use Rattle.q_logic.specs.Formulas.{Clause, IsIn};
 ghost use Rattle.q_logic.specs.Sets.{IsTautology};
 ghost use Rattle.q_logic.specs.Numbered.{others};
@@ -10,33 +10,49 @@ ghost use Rattle.q_blocked.specs.Walks.{IsBeside, IsCalm};
 ghost use Rattle.q_blocked.specs.Growths.{Growing, HasSpread};
 
 use crate::growth::Growth;
-use crate::hidden::{grow_by, take_hidden};
-use q_arena::ClauseId;
-use q_kernel::Kernel;
+use crate::hidden::{give, take_hidden};
+use q_kernel::{ClauseId, Kernel};
 use q_logic::{Lit, NoMemory};
 use q_rule::Queue;
 use q_snapshot::Entry;
 
-// Whether two literals of a clause show that it gives the set nothing: one whose negation is in the set, or both because
-// they are outside.
+// Whether two literals of a clause are two, and none of them in the set.
+#[inline(always)]
+fn are_two_outside(set: &Queue, first: Lit, second: Lit) -> bool
+    ensures { IsTrue result ↔ ((IsIn first set.now → ⊥) × (IsIn second set.now → ⊥) × (second ≢ first)) }
+{
+    !set.has(first) && !set.has(second) && !second.is(first)
+}
+
+// Whether two literals of a clause show that it gives the set nothing: both because they are outside, which is mostly so and asked
+// first, or one whose negation is in the set.
 #[inline(always)]
 fn are_quiet(set: &Queue, first: Lit, second: Lit) -> bool
     requires { IsTautology set.now → ⊥ }
     ensures { result ≡ true → (D : Clause) → IsIn first D → IsIn second D → IsCalm set.now D }
 {
+    if are_two_outside(set, first, second) {
+        return true;
+    }
     if set.has(first.negated()) {
         return true;
     }
-    if set.has(second.negated()) {
-        return true;
-    }
-    if set.has(first) {
+    set.has(second.negated())
+}
+
+// Whether the clause of an entry in the row of k has two literals, k in the set and the other one outside. Then it gives the
+// negation of the other one, and need not be looked at.
+#[inline(always)]
+fn gives_other(set: &Queue, k: Lit, entry: &Entry) -> bool
+    ensures alone { IsTrue result → entry.now.second ≡ entry.now.first }
+    ensures there { IsTrue result → IsIn k set.now }
+    ensures outside { IsTrue result → IsIn entry.now.first set.now → ⊥ }
+    ensures new { IsTrue result → IsIn (negation entry.now.first) set.now → ⊥ }
+{
+    if !entry.second.is(entry.first) || !set.has(k) {
         return false;
     }
-    if set.has(second) {
-        return false;
-    }
-    !second.is(first)
+    !set.has(entry.first) && !set.has(entry.first.negated())
 }
 
 // Grows by the hidden literal that the clause of an entry gives. Yes where a literal and its negation are in the set then.
@@ -45,18 +61,18 @@ fn take_entry(
     kernel: &Kernel,
     growth: &mut Growth,
     c: ClauseId,
+    k: Lit,
     entry: &Entry,
 ) -> Result<bool, NoMemory>
     requires growing { Growing kernel.now c growth.old }
-    requires entry { (l : Literal) × IsEntry kernel.now l entry.now }
+    requires entry { IsEntry kernel.now k entry.now }
     ensures { IfOk result (HasSpread kernel.now c (IsBeside (slots kernel.now) c entry.now.id) growth.old growth.new) }
 {
     if are_quiet(&growth.set, entry.first, entry.second) {
         return Ok(false);
     }
-    // a clause of two literals gives one for sure
-    if entry.second.is(entry.first) {
-        let ended = grow_by(kernel, growth, c, entry.id)?;
+    if gives_other(&growth.set, k, entry) {
+        let ended = give(kernel, growth, c, entry.id, entry.first.negated())?;
         return Ok(ended);
     }
     let ended = take_hidden(kernel, growth, c, entry.id)?;
@@ -66,7 +82,8 @@ fn take_entry(
 /// Grows by the hidden literals that the clauses of the row of a literal give.
 // Hot: this loop is most of what a covered clause costs. An entry is one step in a row and the marks of two literals, and
 // mostly says that the clause gives nothing, so that neither the clause nor its slot is met. Tried before: the lists of the
-// kernel, where each step waits for a link, an owner, a slot and a word; some 40 instructions a visit in place of some 12.
+// kernel, where each step waits for a link, an owner, a slot and a word; some 40 instructions a visit in place of some 20. Looking
+// for negations before literals outside took half as many again; reading the clauses of two literals, twice as long for each of them.
 pub fn spread_row(
     kernel: &Kernel,
     growth: &mut Growth,
@@ -79,7 +96,7 @@ pub fn spread_row(
     ensures { IfOk result (HasSpread kernel.now c (λ E. IsIn E (others c (slots kernel.now)) × IsIn k E) growth.old growth.new) }
 {
     for entry in row {
-        if take_entry(kernel, growth, c, entry)? {
+        if take_entry(kernel, growth, c, k, entry)? {
             return Ok(true);
         }
     }

@@ -11,8 +11,7 @@ ghost use Rattle.q_kernel.specs.Kernels.{slots};
 ghost use Rattle.q_blocked.specs.Walks.{IsOpenAt, IsStuck};
 
 use crate::clashing::{clashes, is_fresh};
-use q_arena::ClauseId;
-use q_kernel::Kernel;
+use q_kernel::{ClauseId, Kernel};
 use q_logic::{Lit, NoMemory, holds};
 use q_ordered::{is_at, skip_to};
 use q_rule::{Queue, clause_of};

@@ -1,4 +1,4 @@
-use q_arena::ClauseId;
+use q_kernel::ClauseId;
 use q_logic::Lit;
 
 /// What this crate's rules are applied to.

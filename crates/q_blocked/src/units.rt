@@ -6,8 +6,7 @@ ghost use Rattle.q_logic.specs.Numbered.{slot};
 ghost use Rattle.q_kernel.specs.Kernels.{slots};
 ghost use Rattle.q_blocked.specs.Units.{IsSingle, HasUnits, AreRight};
 
-use q_arena::ClauseId;
-use q_kernel::Kernel;
+use q_kernel::{ClauseId, Kernel};
 use q_logic::{Lit, NoMemory};
 use std::alloc::Global;
 
@@ -80,14 +79,8 @@ fn find_units(kernel: &Kernel, units: &mut Vec<ClauseId>) -> Result<(), NoMemory
     if kernel.units() == 0 {
         return Ok(());
     }
-    let mut from = 0;
-    while let Some(id) = kernel.next_live(from) {
+    for id in kernel.ids() {
         put_unit(kernel, units, id)?;
-        let Some(after) = id.checked_add(1) else {
-            // so many clauses have no place in memory
-            return Err(NoMemory);
-        };
-        from = after;
     }
     Ok(())
 }

@@ -1,5 +1,5 @@
 -- Rows of entries, one for each clause that holds a literal.
-use Rattle.std.specs.Prelude.{◌≡◌, ℕ, List, Some}
+use Rattle.std.specs.Prelude.{◌≡◌, ◌⊎◌, ℕ, List, Some}
 use Rattle.q_logic.specs.Literals.{Literal}
 use Rattle.q_logic.specs.Formulas.{Clause, IsIn}
 use Rattle.q_logic.specs.Numbered.{slot}
@@ -8,13 +8,14 @@ use Rattle.q_snapshot.specs.declared.entry.Entry.{Entry}
 use Rattle.q_snapshot.specs.declared.rows.Row.{Row}
 use Rattle.q_snapshot.specs.declared.rows.Rows.{Rows}
 
--- the entry stands for a clause that holds l, and names two of its literals
+-- the entry stands for a clause that holds l, and names two of its literals: one of them twice only where there is no other one but l
 pub record IsEntry (k : Seen) (l : Literal) (e : Entry) : Type 0 where
   pub clause : Clause
   pub there : slot (slots k) e.id ≡ Some clause
   pub holds : IsIn l clause
   pub first : IsIn e.first clause
   pub second : IsIn e.second clause
+  pub alone : e.second ≡ e.first → (j : Literal) → IsIn j clause → (j ≡ l) ⊎ (j ≡ e.first)
 
 -- the entries stand for exactly the clauses that hold l
 pub record IsRow (k : Seen) (l : Literal) (es : List Entry) : Type 0 where

@@ -1,14 +1,15 @@
 //! What stands for a clause in the row of a literal.
-ghost use Rattle.std.specs.Prelude.{◌≡◌};
+ghost use Rattle.std.specs.Prelude.{◌≡◌, ◌⊎◌, ◌<◌, length};
+ghost use Rattle.q_logic.specs.Literals.{Literal};
 ghost use Rattle.q_logic.specs.Formulas.{IsIn};
 ghost use Rattle.q_kernel.specs.Kernels.{HoldsLiteral};
 ghost use Rattle.q_snapshot.specs.Rows.{IsEntry};
 
-use q_arena::ClauseId;
-use q_kernel::Kernel;
+use q_kernel::{ClauseId, Kernel};
 use q_logic::Lit;
 
-/// A clause in the row of a literal: its id, and two of its other literals, where it has so many.
+/// A clause in the row of a literal: its id, and two of its other literals. Where it has but one, that one stands twice; where it
+/// has none, the literal of the row.
 #[derive(Clone, Copy, Debug)]
 pub struct Entry {
     pub id: ClauseId,
@@ -16,26 +17,21 @@ pub struct Entry {
     pub second: Lit,
 }
 
-// The literal at a place of a clause, or else one of it.
-fn at_or(clause: &[Lit], place: usize, other: Lit) -> Lit
-    requires { IsIn other clause.now }
-    ensures { IsIn result clause.now }
+// The other literal of a clause of at most two, or else the same one.
+fn beside(clause: &[Lit], lit: Lit) -> Lit
+    requires holds { IsIn lit clause.now }
+    requires few { length clause.now < 3 }
+    ensures there { IsIn result clause.now }
+    ensures all { (j : Literal) → IsIn j clause.now → (j ≡ lit) ⊎ (j ≡ result) }
 {
-    if place >= clause.len() {
-        return other;
+    if clause.len() < 2 {
+        return lit;
     }
-    clause[place]
-}
-
-// The two places before the third that are not the literal's own.
-fn other_places(clause: &[Lit], lit: Lit) -> (usize, usize) {
-    if clause.len() > 0 && clause[0].is(lit) {
-        return (1, 2);
+    let first = clause[0];
+    if first.is(lit) {
+        return clause[1];
     }
-    if clause.len() > 1 && clause[1].is(lit) {
-        return (0, 2);
-    }
-    (0, 1)
+    first
 }
 
 /// The entry of a clause in the row of one of its literals.
@@ -45,8 +41,34 @@ pub(crate) fn entry_of(kernel: &Kernel, id: ClauseId, lit: Lit) -> Entry
     ensures id { result.id ≡ id }
 {
     let clause = kernel.lits(id);
-    let (a, b) = other_places(clause, lit);
-    let first = at_or(clause, a, lit);
-    let second = at_or(clause, b, first);
-    Entry { id, first, second }
+    if clause.len() < 3 {
+        let other = beside(clause, lit);
+        return Entry {
+            id,
+            first: other,
+            second: other,
+        };
+    }
+    let a = clause[0];
+    let b = clause[1];
+    let d = clause[2];
+    if a.is(lit) {
+        return Entry {
+            id,
+            first: b,
+            second: d,
+        };
+    }
+    if b.is(lit) {
+        return Entry {
+            id,
+            first: a,
+            second: d,
+        };
+    }
+    Entry {
+        id,
+        first: a,
+        second: b,
+    }
 }

@@ -101,11 +101,8 @@ fn gather(kernel: &Kernel, lit: Lit, entries: &mut Vec<Entry>) -> Result<(), NoM
     ensures { OnOk result (IsRow kernel.now lit entries.new.items) }
 {
     entries.clear();
-    kernel.sound();
-    let mut at = kernel.first(lit);
-    while let Some(place) = at {
-        entries.push(entry_of(kernel, kernel.owner(place), lit))?;
-        at = kernel.next(place);
+    for id in kernel.holders(lit) {
+        entries.push(entry_of(kernel, id, lit))?;
     }
     Ok(())
 }

@@ -1,7 +1,7 @@
 use Rattle.std.proofs.Common.{◌∙◌, sym, subst}
 use Rattle.q_logic.specs.declared.rule_bounds.Bounds.{Bounds}
 use Rattle.q_logic.specs.Formulas.{Clause, IsIn}
-use Rattle.q_arena.proofs.Numbers.{some-same}
+use Rattle.q_kernel.proofs.Basics.{some-same}
 use Rattle.q_rule.proofs.Becoming.{change-clause}
 use Rattle.q_blocked.proofs.Stepping.{may-drop_blocked}
 use Rattle.q_blocked.proofs.Results.{changed-blocked_forall}

@@ -1,4 +1,4 @@
-use Rattle.std.proofs.Common.{◌≡◌, ℕ, All, refl, sym, subst, true≢false}
+use Rattle.std.proofs.Common.{All, refl, sym, subst, true≢false}
 use Rattle.q_logic.specs.Literals.{negation}
 use Rattle.q_logic.specs.Formulas.{Clause, IsIn}
 use Rattle.std.proofs.lemmas.List.Elements.{All-contains}

@@ -6,7 +6,7 @@ use Rattle.q_logic.specs.Numbered.{others}
 use Rattle.q_logic.specs.Blocking.{AllClash}
 use Rattle.q_logic.proofs.CoverRun.{in_or_not}
 use Rattle.q_kernel.specs.Kernels.{slots}
-use Rattle.q_arena.proofs.Numbers.{some-same}
+use Rattle.q_kernel.proofs.Basics.{some-same}
 use Rattle.q_blocked.specs.Walks.{IsLooked, IsStuck}
 use Rattle.q_blocked.specs.Growths.{IsPassive, CoveredBy}
 use Rattle.q_blocked.proofs.Fronts.{place-front}

@@ -3,7 +3,7 @@ use Rattle.q_logic.specs.Literals.{Literal}
 use Rattle.q_logic.specs.Formulas.{Clause, IsIn}
 use Rattle.q_logic.specs.Sets.{IsSubset}
 use Rattle.q_logic.proofs.Members.{item-in, taken-cases, taken-all, test-false}
-use Rattle.q_arena.proofs.Numbers.{some-same}
+use Rattle.q_kernel.proofs.Basics.{some-same}
 use Rattle.q_blocked.proofs.hidden.outside.Goals as goal
 
 pub loop-k-init : goal.loop-k-init

@@ -13,8 +13,20 @@ returns-then-branch c =
     let old = c.args.growth.now in
     spread-none k c.args.c (IsBeside (slots k) c.args.c c.args.d) old (record old { hints = c.is_calm.new.hints }) refl refl refl refl c.requires (c.in_ok-is_calm.ensures c.if-branch.true)
 
+pub hidden_by-requires : goal.hidden_by-requires
+hidden_by-requires c = c.requires.2.consistent
+
+pub returns-in_default : goal.returns-in_default
+returns-in_default c =
+    let k = c.args.kernel.now in
+    let old = c.args.growth.now in
+    spread-none k c.args.c (IsBeside (slots k) c.args.c c.args.d) old (record old { hints = c.is_calm.new.hints }) refl refl refl refl c.requires (c.in_default.ensures.none refl)
+
+pub give-requires-clause-gives : goal.give-requires-clause-gives
+give-requires-clause-gives c = c.in-Some.ensures.some c.in-Some.new refl
+
 pub returns : goal.returns
 returns c =
     let k = c.args.kernel.now in
     let old = c.args.growth.now in
-    spread-hinted k c.args.c (IsBeside (slots k) c.args.c c.args.d) old (record old { hints = c.is_calm.new.hints }) c.grow_by.new.growth c.in_ok-ended.ended refl refl refl refl c.in_ok-ended.ensures
+    spread-hinted k c.args.c (IsBeside (slots k) c.args.c c.args.d) old (record old { hints = c.is_calm.new.hints }) c.give.new.growth c.in_ok-ended.ended refl refl refl refl c.in_ok-ended.ensures

@@ -10,7 +10,7 @@ pub returns : goal.returns
 returns c e =
     let k = c.args.kernel.now in
     let S : Clause = c.args.set.now in
-    let D : Clause = c.clause_of-clause.result.now in
-    let m : IsIn D (others c.args.c (slots k)) = others-slot (slots k) c.args.d c.args.c D c.if-d-c.false c.clause_of-clause.ensures.clause in
-    let n : IsIn (negation c.args.l) D = (rw c.negated-k.ensures at c.holds.ensures).0 c.if-not-holds.false in
-    given-stuck k.prefix (others c.args.c (slots k)) S D c.args.l c.requires m n ((rw c.negated-k.ensures at c.others_in.ensures).0 e)
+    let D : Clause = c.clause_of.result.now in
+    let m : IsIn D (others c.args.c (slots k)) = others-slot (slots k) c.args.d c.args.c D c.if-d-c.false c.clause_of.ensures.clause in
+    let n : IsIn (negation c.args.l) D = (rw c.negated.ensures at c.gives_but.ensures.there) e in
+    given-stuck k.prefix (others c.args.c (slots k)) S D c.args.l c.requires m n ((rw c.negated.ensures at c.gives_but.ensures.others) e)

@@ -1,10 +1,10 @@
 use Rattle.std.proofs.Common.{ℕ, List, Bool, false, sym, subst, inl, inr}
-use Rattle.q_logic.specs.Formulas.{Clause, IsIn}
+use Rattle.q_logic.specs.Formulas.{IsIn}
 use Rattle.q_kernel.specs.Kernels.{slots}
 use Rattle.q_logic.proofs.Members.{item-in, taken-cases, taken-all}
 use Rattle.q_rule.proofs.Slots.{others-find}
 use Rattle.q_snapshot.specs.declared.entry.Entry.{Entry}
-use Rattle.q_blocked.specs.Walks.{IsBeside, IsCalmAt}
+use Rattle.q_blocked.specs.Walks.{IsBeside}
 use Rattle.q_blocked.specs.Growths.{HasSpread}
 use Rattle.q_blocked.proofs.Growing.{pushed-none, pushed-on, pushed-calm, pushed-less}
 use Rattle.q_blocked.proofs.spreading.spread_row.Goals as goal
@@ -15,7 +15,7 @@ loop-entry-init c = record { growing = c.requires.growing; pushed = pushed-none 
 pub take_entry-requires-clause-entry : goal.take_entry-requires-clause-entry
 take_entry-requires-clause-entry c =
     let e = c.entry-item.result in
-    (c.args.k, c.requires.row.each e (item-in c.args.row.now c.loop-entry.entry-index e c.loop-entry-test.true c.entry-item.is))
+    c.requires.row.each e (item-in c.args.row.now c.loop-entry.entry-index e c.loop-entry-test.true c.entry-item.is)
 
 pub loop-entry-preserved : goal.loop-entry-preserved
 loop-entry-preserved c =

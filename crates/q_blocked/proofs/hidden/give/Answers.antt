@@ -12,10 +12,7 @@ use Rattle.q_blocked.specs.Growths.{IsGrowing, IsCovered}
 use Rattle.q_rule.proofs.Slots.{slot-one}
 use Rattle.q_blocked.proofs.Reaching.{reached-hidden, covered-tautology}
 use Rattle.q_blocked.proofs.Growing.{growing-hidden, calm-given}
-use Rattle.q_blocked.proofs.hidden.grow_by.Goals as goal
-
-pub hidden_by-requires : goal.hidden_by-requires
-hidden_by-requires c = c.requires.2.consistent
+use Rattle.q_blocked.proofs.hidden.give.Goals as goal
 
 pub returns-then-has : goal.returns-then-has
 returns-then-has c =
@@ -23,18 +20,18 @@ returns-then-has c =
     let S : Clause = c.args.growth.now.set in
     let ss = c.args.growth.now.plan.stages.items in
     let base = c.args.growth.now.base in
-    let new : Literal = c.in-Some.new in
+    let new : Literal = c.args.new in
     let X = others c.args.c (slots k) in
-    let h = c.in-Some.ensures.some new refl in
-    let g = c.requires.2 in
+    let h = c.requires.gives in
+    let g = c.requires.growing.2 in
     let m : IsIn h.0 X = others-slot (slots k) c.args.d c.args.c h.0 h.1.0 h.1.1 in
     let b : is_bound k.prefix new.var ≡ true = c.sound.ensures.proper.formula.closed h.0 (live-slot (slots k) c.args.d h.0 h.1.1) (negation new) h.2.negated in
     let e : c.push.new.self ≡ S ++ new ∷ [] = c.in_ok-push.ensures.ok in
     let t : IsIn (negation new) c.push.new.self = (rw c.negated.ensures at c.has.ensures).0 c.if-has.true in (
-      c.requires.0,
-      c.requires.1,
-      subst (λ (T : Clause). IsCovered k.prefix X c.requires.0 T ss base None) (sym e)
-          (covered-tautology k.prefix X c.requires.0 (S ++ new ∷ []) ss base (reached-hidden k.prefix X c.requires.0 S ss base g.reached h.0 new m h.2 b)
+      c.requires.growing.0,
+      c.requires.growing.1,
+      subst (λ (T : Clause). IsCovered k.prefix X c.requires.growing.0 T ss base None) (sym e)
+          (covered-tautology k.prefix X c.requires.growing.0 (S ++ new ∷ []) ss base (reached-hidden k.prefix X c.requires.growing.0 S ss base g.reached h.0 new m h.2 b)
           (new, IsIn-append_right new S (new ∷ []) (inl refl), subst (λ (T : Clause). IsIn (negation new) T) e t)),
     )
 
@@ -45,18 +42,18 @@ returns c =
     let ss = c.args.growth.now.plan.stages.items in
     let base = c.args.growth.now.base in
     let worked = c.args.growth.now.worked in
-    let new : Literal = c.in-Some.new in
+    let new : Literal = c.args.new in
     let X = others c.args.c (slots k) in
-    let h = c.in-Some.ensures.some new refl in
-    let g = c.requires.2 in
+    let h = c.requires.gives in
+    let g = c.requires.growing.2 in
     let m : IsIn h.0 X = others-slot (slots k) c.args.d c.args.c h.0 h.1.0 h.1.1 in
     let b : is_bound k.prefix new.var ≡ true = c.sound.ensures.proper.formula.closed h.0 (live-slot (slots k) c.args.d h.0 h.1.1) (negation new) h.2.negated in
     let e : c.push.new.self ≡ S ++ new ∷ [] = c.in_ok-push.ensures.ok in
     let n : IsIn (negation new) (S ++ new ∷ []) → ⊥ = subst (λ (T : Clause). IsIn (negation new) T → ⊥) e (test-false c.has.result (rw c.negated.ensures at c.has.ensures) c.if-has.false) in (
       (
-        c.requires.0,
-        c.requires.1,
-        subst (λ (T : Clause). IsGrowing k.prefix X c.requires.0 T ss base worked) (sym e) (growing-hidden k.prefix X c.requires.0 S ss base worked g h.0 new m h.2 b n),
+        c.requires.growing.0,
+        c.requires.growing.1,
+        subst (λ (T : Clause). IsGrowing k.prefix X c.requires.growing.0 T ss base worked) (sym e) (growing-hidden k.prefix X c.requires.growing.0 S ss base worked g h.0 new m h.2 b n),
       ),
       record { added = new ∷ []; set = e; stages = refl; base = refl; worked = refl },
       λ E r. subst (λ (T : Clause). IsCalmAt S T E) (sym e) (subst (λ (D : Clause). IsCalmAt S (S ++ new ∷ []) D) (slot-one (slots k) c.args.d h.0 E h.1.1 r.1) (calm-given S h.0 new h.2 n)),
