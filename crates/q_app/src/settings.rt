@@ -140,8 +140,8 @@ impl Settings {
     {
         Options {
             bounds: Bounds {
-                grow: self.grow.unwrap_or(0),
-                expand: self.expand.unwrap_or(16),
+                grow: self.grow.unwrap_or(0).min(MOST as u32),
+                expand: self.expand.unwrap_or(16).min(MOST as u32),
             },
             budget: self.budget,
         }

@@ -11,11 +11,6 @@ use Rattle.q_kernel.specs.Kernels.{Seen, slots, formula_in}
 use Rattle.q_kernel.specs.Changes.{IsLed}
 use Rattle.q_logic.specs.Runs.{AreAlike}
 
--- how far the rules may go
-pub record AreModest (B : Bounds) : Type 0 where
-  pub grow : B.grow ≤ 10000
-  pub expand : B.expand ≤ 10000
-
 -- a rule may be tried: the formula is swept and within the limits
 pub record IsReady (k : Seen) : Type 0 where
   pub swept : IsSwept (formula_in k)

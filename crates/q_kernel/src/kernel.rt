@@ -15,7 +15,6 @@ ghost use Rattle.q_occ.specs.Places.{places_of};
 ghost use Rattle.q_kernel.specs.Kernels.{slots, formula_in, SameView, KeepsRoom, KeepsSpare, IsSound, IsListed, HoldsLiteral, HasSweepBytes};
 ghost use Rattle.q_kernel.specs.Visits.{holders_of};
 ghost use Rattle.q_kernel.specs.Changes.{IsLed, MayAdd, IsAdded, MayDelete, IsDeleted, MayDrop, IsDropped, MayShrink, IsShrunk, MayFresh, IsFreshened, MayStep, IsRemoved};
-ghost use Rattle.q_kernel.specs.Taking.{AreModest};
 ghost use Rattle.q_logic.specs.Steps.{remove_variable, Within};
 ghost use Rattle.q_kernel.specs.Singles.{units_in};
 ghost use Rattle.q_kernel.specs.Invariant.{IsPut, IsTakenOut, IsShortened, IsSweeping};
@@ -289,7 +288,6 @@ impl Kernel {
 
     /// What each rule of simplification lowers.
     pub fn measure(&self, bounds: &Bounds) -> u64
-        requires { AreModest bounds.now }
         ensures { result ≡ measure_of bounds.now (formula_in self.now) }
     {
         self.sound();

@@ -6,7 +6,7 @@
 ghost use Rattle.std.specs.Prelude.{◌≡◌, ◌↔◌, IfOk, OnErr, IsTrue};
 ghost use Rattle.q_logic.specs.Targets.{Target as TheoryTarget};
 ghost use Rattle.q_kernel.specs.Kernels.{Seen, SameView};
-ghost use Rattle.q_kernel.specs.Taking.{AreModest, IsReady, Applies};
+ghost use Rattle.q_kernel.specs.Taking.{IsReady, Applies};
 ghost use Rattle.q_rule.specs.Searching.{Tries, Finds};
 
 use q_kernel::{Kernel, Taken};
@@ -36,7 +36,6 @@ pub trait Rules: Drop {
         bounds: &Bounds,
     ) -> Result<bool, NoMemory>
         requires ready { IsReady kernel.now }
-        requires bounds { AreModest bounds.now }
         requires fit { IsFitFor kernel.now self.old }
         ensures yes { IfOk result (λ yes. IsTrue yes ↔ Applies bounds.now kernel.now (target_of target.now)) }
         ensures fit { IsFitFor kernel.now self.new };
@@ -49,7 +48,6 @@ pub trait Rules: Drop {
         bounds: &Bounds,
     ) -> Result<Taken, NoMemory>
         requires ready { IsReady kernel.old }
-        requires bounds { AreModest bounds.now }
         requires fit { IsFitFor kernel.old self.old }
         ensures tries { IfOk result (Tries bounds.now kernel.old kernel.new (target_of target.now)) }
         ensures err { OnErr result (SameView kernel.old kernel.new) }
@@ -64,7 +62,6 @@ pub trait Rules: Drop {
         from: u32,
     ) -> Result<Option<Self::Target>, NoMemory>
         requires ready { IsReady kernel.now }
-        requires bounds { AreModest bounds.now }
         requires fit { IsFitFor kernel.now self.old }
         ensures finds { IfOk result (Finds target_of bounds.now kernel.now from) }
         ensures fit { IsFitFor kernel.now self.new };

@@ -11,14 +11,14 @@ use Rattle.q_kernel.proofs.kernel.Kernel.measure.Goals as goal
 pub overflow_add-result : goal.overflow_add-result
 overflow_add-result c =
     let s = rw (← c.self.view_is) at c.sound.ensures.size in
-    let f = first-fits c.self.inside.size (c.from-grow.result + 1) c.from.result (omega (arith, s, c.self.invariant.counted.size)) (omega (arith, c.from-grow.ensures, c.requires.grow)) (omega (arith, c.from.ensures, c.existentials.type_inv)) in
+    let f = first-fits c.self.inside.size (c.from-grow.result + 1) c.from.result (omega (arith, s, c.self.invariant.counted.size)) (omega (arith, c.from-grow.ensures, c.args.bounds.now.small_grow)) (omega (arith, c.from.ensures, c.existentials.type_inv)) in
     omega arith
 
 pub overflow_add-result-4 : goal.overflow_add-result-4
 overflow_add-result-4 c =
     let s = rw (← c.self.view_is) at c.sound.ensures.size in
-    let f = measure-fits c.self.inside.size (c.from-grow.result + 1) c.from.result c.from-expand.result c.from-2.result (omega (arith, s, c.self.invariant.counted.size)) (omega (arith, c.from-grow.ensures, c.requires.grow)) (omega (arith, c.from.ensures, c.existentials.type_inv))
-    (omega (arith, c.from-expand.ensures, c.requires.expand)) (omega (arith, c.from-2.ensures, c.universals.type_inv)) in
+    let f = measure-fits c.self.inside.size (c.from-grow.result + 1) c.from.result c.from-expand.result c.from-2.result (omega (arith, s, c.self.invariant.counted.size)) (omega (arith, c.from-grow.ensures, c.args.bounds.now.small_grow)) (omega (arith, c.from.ensures, c.existentials.type_inv))
+    (omega (arith, c.from-expand.ensures, c.args.bounds.now.small_expand)) (omega (arith, c.from-2.ensures, c.universals.type_inv)) in
     omega arith
 
 pub returns : goal.returns
