@@ -26,7 +26,7 @@ requested r cs ds e f = let w : Some cs ≡ Some ds = sym e ∙ f in cc
 
 -- the names of a simplification differ
 differ-in : (k : Parsed) (n : ThreeNames) (o : Options) → IsFit k → commands_of k ≡ simplifying n o ∷ [] → Differ n
-differ-in (Simplify m p) n o f e = let w : three_of m ≡ n = cc in subst (λ (x : ThreeNames). Differ x) w f.1
+differ-in (Simplify m p) n o f e = let w : three_of m ≡ n = cc in subst (λ (x : ThreeNames). Differ x) w f
 differ-in (Check m) n o f e = cc
 differ-in (Rebuild m) n o f e = cc
 differ-in (Generate k m) n o f e = cc

@@ -6,7 +6,6 @@ use Rattle.std.proofs.lemmas.Slice.Eq.{bytes_eq-Decides}
 use Rattle.std.specs.declared.alloc.Global.{Global}
 use Rattle.std.specs.Str.{bytes_eq}
 use Rattle.q_text.specs.Words.{digits}
-use Rattle.q_kernel.specs.Taking.{AreModest}
 use Rattle.q_app.specs.declared.settings.Setting.{Setting}
 use Rattle.q_app.specs.declared.settings.Setting.TheVariants as setting
 use Rattle.q_app.specs.declared.settings.Settings.{Settings}
@@ -27,79 +26,6 @@ pub next-word : (s : Option Settings) (ws : List (String Global)) (i : ℕ) (w :
 next-word s ws i w h e =
     let d : drop i ws ≡ get_or ws i w ∷ drop (suc i) ws = drop-cons ws i w h in
     ap (λ (vs : List (String Global)). with_words s (texts vs)) d ∙ ap (λ (v : String Global). with_words (with_word s (string_bytes v)) (texts (drop (suc i) ws))) (sym e)
-
--- numbers keep their bounds
-up_to-within : (most : ℕ) (o : Option ℕ) (n : ℕ) → up_to most o ≡ Some n → n ≤ most
-up_to-within most None n e = cc
-up_to-within most (Some m) n e = go (nat_le m most) refl e
-  where
-    go : (t : Bool) → nat_le m most ≡ t → (if t then Some m else None) ≡ Some n → n ≤ most
-    go true q e = let z : m ≡ n = cc in grind arith
-    go false q e = cc
-
-pub record AreSmall (s : Settings) : Type 0 where
-  pub grow : unwrap_or s.grow 0 ≤ 10000
-  pub expand : unwrap_or s.expand 16 ≤ 10000
-
-abbrev pub MaySmall : Option Settings → Type 0
-MaySmall None = Unit {0}
-MaySmall (Some s) = AreSmall s
-
-abbrev IsSmallSetting : Option Setting → Type 0
-IsSmallSetting None = Unit {0}
-IsSmallSetting (Some (setting.Grow n)) = n ≤ 10000
-IsSmallSetting (Some (setting.Expand n)) = n ≤ 10000
-IsSmallSetting (Some (setting.Budget n)) = Unit {0}
-
-small-grow : (o : Option ℕ) → ((n : ℕ) → o ≡ Some n → n ≤ 10000) → IsSmallSetting (set (λ k. setting.Grow k) o)
-small-grow None h = tt
-small-grow (Some n) h = h n refl
-
-small-expand : (o : Option ℕ) → ((n : ℕ) → o ≡ Some n → n ≤ 10000) → IsSmallSetting (set (λ k. setting.Expand k) o)
-small-expand None h = tt
-small-expand (Some n) h = h n refl
-
-small-budget : (o : Option ℕ) → IsSmallSetting (set (λ k. setting.Budget k) o)
-small-budget None = tt
-small-budget (Some n) = tt
-
-small-by : (g e b : Option (List ℕ)) → IsSmallSetting (setting_by g e b)
-small-by (Some t) e b = small-grow (number_of 10000 t) (λ n q. up_to-within 10000 (digits t) n q)
-small-by None (Some t) b = small-expand (number_of 10000 t) (λ n q. up_to-within 10000 (digits t) n q)
-small-by None None (Some t) = small-budget (number_of 18446744073709551615 t)
-small-by None None None = tt
-
-small-with : (s : Settings) (o : Option Setting) → AreSmall s → IsSmallSetting o → MaySmall (with_setting s o)
-small-with s None a h = tt
-small-with s (Some (setting.Grow n)) a h = go (is_some s.grow)
-  where
-    go : (t : Bool) → MaySmall (if t then None else Some (record s { grow = Some n }))
-    go true = tt
-    go false = record { grow = h; expand = a.expand }
-small-with s (Some (setting.Expand n)) a h = go (is_some s.expand)
-  where
-    go : (t : Bool) → MaySmall (if t then None else Some (record s { expand = Some n }))
-    go true = tt
-    go false = record { grow = a.grow; expand = h }
-small-with s (Some (setting.Budget n)) a h = go (is_some s.budget)
-  where
-    go : (t : Bool) → MaySmall (if t then None else Some (record s { budget = Some n }))
-    go true = tt
-    go false = record { grow = a.grow; expand = a.expand }
-
-small-word : (o : Option Settings) (w : List ℕ) → MaySmall o → MaySmall (with_word o w)
-small-word None w h = tt
-small-word (Some s) w h = small-with s (setting_of w) h (small-by (behind (codes "--grow=") w) (behind (codes "--expand=") w) (behind (codes "--budget=") w))
-
-small-words : (o : Option Settings) (ws : List (List ℕ)) → MaySmall o → MaySmall (with_words o ws)
-small-words o [] h = h
-small-words o (w ∷ ws) h = small-words (with_word o w) ws (small-word o w h)
-
--- the bounds of settings are modest
-pub modest-options : (ws : List (List ℕ)) (s : Settings) → Some s ≡ with_words (Some nothing_set) ws → AreModest (options_of s).bounds
-modest-options ws s e =
-    let h : MaySmall (Some s) = subst MaySmall (sym e) (small-words (Some nothing_set) ws (record { grow = omega arith; expand = omega arith })) in
-    record { grow = h.grow; expand = h.expand }
 
 -- a word at a place
 word_at : (ws : List (String Global)) (i : ℕ) (w : String Global) (v : List ℕ) → i < length ws → w ≡ get_or ws i w → v ≡ string_bytes w → texts (drop i ws) ≡ v ∷ texts (drop (suc i) ws)

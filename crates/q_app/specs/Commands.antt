@@ -2,7 +2,6 @@
 use Rattle.std.specs.Prelude.{◌≤◌, ℕ, cond, List, [], ◌∷◌, Some, None, codes}
 use Rattle.std.specs.Str.{bytes_eq}
 use Rattle.q_logic.specs.declared.rule_bounds.Bounds.{Bounds}
-use Rattle.q_kernel.specs.Taking.{AreModest}
 use Rattle.q_command.specs.Names.{three, three_of}
 use Rattle.q_app.specs.Rebuilds.{FiveNames, five}
 use Rattle.q_app.specs.Words.{Command, checking, simplifying, rebuilding, generating, solving, annotating, refuting, validating, Request, check_of, simplify_of, rebuild_of, generate_of, validate_of, refute_of, annotate_of, solve_of, demo, demo_of, nothing_set, options_of}
@@ -51,7 +50,7 @@ commands_of (Demo k n) = demo k (three_of n)
 -- such a command can be done: its numbers are within their limits, and its names differ
 abbrev pub IsFit : Parsed → Type 0
 IsFit (Check n) = Unit {0}
-IsFit (Simplify n p) = AreModest p.bounds × Differ (three_of n)
+IsFit (Simplify n p) = Differ (three_of n)
 IsFit (Rebuild n) = Unit {0}
 IsFit (Generate k o) = k.size ≤ 100000
 IsFit (Validate n b) = Unit {0}

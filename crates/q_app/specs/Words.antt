@@ -1,5 +1,7 @@
 -- The words of the command line.
-use Rattle.std.specs.Prelude.{ℕ, ◌||◌, ◌==◌, ◌^◌, ◌-◌, nat_le, if◌then◌else◌, is_some, unwrap_or, List, [], ◌∷◌, Option, Some, None, codes}
+use Rattle.std.specs.Prelude.{ℕ, ◌||◌, ◌==◌, ◌^◌, ◌-◌, min, nat_le, if◌then◌else◌, is_some, unwrap_or, List, [], ◌∷◌, Option, Some, None, codes}
+use Rattle.std.proofs.Common.{arith}
+use Rattle.q_logic.specs.declared.rule_bounds.Bounds.{Bounds}
 use Rattle.q_text.specs.Words.{digits}
 use Rattle.q_simplify.specs.declared.options.Options.{Options}
 use Rattle.q_command.specs.Names.{ThreeNames}
@@ -81,10 +83,17 @@ with_words s (word ∷ words) = with_words (with_word s word) words
 abbrev pub nothing_set : Settings
 nothing_set = record { grow = None; expand = None; budget = None }
 
--- what is not set has its default
+-- what is not set has its default; a number above 10,000, which no word sets, counts as 10,000
+abbrev pub bounds_of : Settings → Bounds
+bounds_of s = record {
+  grow = min (unwrap_or s.grow 0) 10000;
+  expand = min (unwrap_or s.expand 16) 10000;
+  small_grow = omega arith;
+  small_expand = omega arith;
+}
+
 abbrev pub options_of : Settings → Options
-options_of s =
-    record { bounds = record { grow = unwrap_or s.grow 0; expand = unwrap_or s.expand 16 }; budget = s.budget }
+options_of s = record { bounds = bounds_of s; budget = s.budget }
 
 -- the budget, where nothing else is set
 abbrev pub only_budget : Option Settings → Option (Option ℕ)

@@ -1,6 +1,6 @@
 // The options of `simplify`.
 ghost use Rattle.std.specs.Prelude.{◌≡◌, ◌≢◌, ◌≤◌, ◌++◌, List, ℕ, map, option_map, string_bytes, Some};
-ghost use Rattle.q_app.specs.Words.{behind, nothing_set, number_of, only_budget, options_of, setting_of, with_setting, with_word, with_words};
+ghost use Rattle.q_app.specs.Words.{behind, bounds_of, nothing_set, number_of, only_budget, options_of, setting_of, with_setting, with_word, with_words};
 
 use q_logic::Bounds;
 use q_simplify::Options;
@@ -134,15 +134,22 @@ impl Settings {
         Some(settings)
     }
 
+    // What is not set has its default.
+    fn bounds(self) -> Bounds
+        ensures { result ≡ bounds_of self }
+    {
+        Bounds {
+            grow: self.grow.unwrap_or(0).min(MOST as u32),
+            expand: self.expand.unwrap_or(16).min(MOST as u32),
+        }
+    }
+
     /// What is not set has its default.
     pub fn options(self) -> Options
         ensures { result ≡ options_of self }
     {
         Options {
-            bounds: Bounds {
-                grow: self.grow.unwrap_or(0),
-                expand: self.expand.unwrap_or(16),
-            },
+            bounds: self.bounds(),
             budget: self.budget,
         }
     }

@@ -7,7 +7,6 @@ ghost use Rattle.q_io.specs.Files.{Later, OnlyReads, RoseAmong, RoseFor, bytes_a
 ghost use Rattle.q_dimacs.specs.Dimacs.{Dimacs};
 ghost use Rattle.q_command.specs.Inputs.{IsRefused};
 ghost use Rattle.q_app.specs.Refusals.{failure_of, refusal_of};
-ghost use Rattle.q_kernel.specs.Taking.{AreModest};
 ghost use Rattle.q_app.specs.Simplifying.{Ends};
 
 use crate::simplified::Simplified;
@@ -44,7 +43,6 @@ pub(crate) fn simplify_file<F: Files>(
     options: &Options,
     guides: Vec<Box<dyn Guide>>,
 ) -> Simplified
-    requires bounds { AreModest options.now.bounds }
     requires names { names.output.now ≢ names.log.now }
     ensures ends { IfSome (F.held files.old) (λ disk.
         Ends result options.now names.entry.input.now names.entry.output.now names.entry.log.now disk (F.held files.new)) }

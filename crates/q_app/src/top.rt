@@ -1,6 +1,5 @@
 // The top call.
 ghost use Rattle.std.specs.Prelude.{◌≡◌, ◌≢◌, ◌≤◌, ◌⊎◌, map, string_bytes, Some, None};
-ghost use Rattle.q_kernel.specs.Taking.{AreModest};
 ghost use Rattle.q_app.specs.Words.{annotating, checking, demo, generating, rebuilding, refuting, simplifying, solving, validating};
 ghost use Rattle.q_command.specs.Names.{three, three_of};
 ghost use Rattle.q_app.specs.Operands.{Differ, DifferFour};
@@ -54,7 +53,6 @@ fn run_simplify<F: Files, S: Sink>(
     options: &Options,
     guides: Vec<Box<dyn Guide>>,
 ) -> Status
-    requires bounds { AreModest options.now.bounds }
     requires names { Differ (three_of names) }
     ensures runs { Runs (Some (simplifying (three_of names.entry) options.now))
         (devices F.held F.read_faults F.write_faults files.old (view_sink S.written S.faults S.wants out.old)) result

@@ -4,7 +4,7 @@ ghost use Rattle.std.specs.Prelude.{◌≤◌, OnOk, OnErr, IfOk, length, vec_ca
 ghost use Rattle.q_logic.specs.Limits.{standard};
 ghost use Rattle.q_logic.specs.InLimits.{IsInLimits};
 ghost use Rattle.q_kernel.specs.Kernels.{SameView, formula_in};
-ghost use Rattle.q_kernel.specs.Taking.{AreModest, IsReady};
+ghost use Rattle.q_kernel.specs.Taking.{IsReady};
 ghost use Rattle.q_blocked.specs.Targets.{target_of};
 ghost use Rattle.q_blocked.specs.Plans.{HasRoomFor};
 ghost use Rattle.q_rule.specs.Becoming.{CanChange};
@@ -32,7 +32,6 @@ pub fn try_one(
     bounds: &Bounds,
 ) -> Result<Taken, NoMemory>
     requires ready { IsReady kernel.old }
-    requires bounds { AreModest bounds.now }
     ensures tries { IfOk result (Tries bounds.now kernel.old kernel.new (target_of target.now)) }
     ensures err { OnErr result (SameView kernel.old kernel.new) }
 {
@@ -48,7 +47,6 @@ pub fn find(
     from: u32,
 ) -> Result<Option<Target>, NoMemory>
     requires ready { IsReady kernel.now }
-    requires bounds { AreModest bounds.now }
     ensures finds { IfOk result (Finds target_of bounds.now kernel.now from) }
 {
     Search::new(alloc).find(kernel, bounds, from)

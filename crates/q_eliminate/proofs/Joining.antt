@@ -2,6 +2,7 @@
 use Rattle.std.proofs.Common.{◌≡◌, ◌<◌, ◌+◌, ◌==◌, nat_lt, ℕ, Bool, true, false, cond, [], ◌∷◌, length, None, Some, inl, inr, arith, refl, sym, ap, ◌∙◌, subst, true≢false}
 use Rattle.std.proofs.lemmas.Bool.Decides.{nat_tests}
 use Rattle.q_logic.specs.Literals.{Literal, IsBelow, negation, pack}
+use Rattle.q_logic.specs.UsualBounds.{usual}
 use Rattle.q_logic.specs.Formulas.{Clause, IsIn}
 use Rattle.q_logic.specs.Clauses.{insert}
 use Rattle.q_logic.specs.Sets.{has, union, missing, negated_in, IsTautology, is_tautology, IsSubset}
@@ -88,7 +89,7 @@ joined-length A B o p = ap length (union-swap A B o p) ∙ union-length A B o p
 
 -- A tautology, where a literal of one clause is negated in the other.
 pub tautology-told : (C : Clause) → IsTautology C → is_tautology C ≡ true
-tautology-told C t = (decided-tautology (record { grow = 0; expand = 0 }) [] (Some C ∷ []) 0).1 (C, refl, t)
+tautology-told C t = (decided-tautology usual [] (Some C ∷ []) 0).1 (C, refl, t)
 
 pub plain-told : (C : Clause) → (IsTautology C → ⊥) → is_tautology C ≡ false
 plain-told C n = go (is_tautology C) refl

@@ -30,7 +30,7 @@ ghost use Rattle.q_logic.specs.Limits.{standard};
 ghost use Rattle.q_logic.specs.InLimits.{IsInLimits};
 ghost use Rattle.q_logic.specs.Targets as theory;
 ghost use Rattle.q_kernel.specs.Kernels.{SameView, formula_in, HasSweepBytes};
-ghost use Rattle.q_kernel.specs.Taking.{AreModest, IsReady, Applies};
+ghost use Rattle.q_kernel.specs.Taking.{IsReady, Applies};
 ghost use Rattle.q_rule.specs.Becoming.{HasResult};
 ghost use Rattle.q_rule.specs.Searching.{Tries, Finds};
 ghost use Rattle.q_eliminate.specs.Targets.{target_of};
@@ -57,7 +57,6 @@ pub fn try_one(
     bounds: &Bounds,
 ) -> Result<Taken, NoMemory>
     requires ready { IsReady kernel.old }
-    requires bounds { AreModest bounds.now }
     ensures tries { IfOk result (Tries bounds.now kernel.old kernel.new (target_of target.now)) }
     ensures err { OnErr result (SameView kernel.old kernel.new) }
 {
@@ -73,7 +72,6 @@ pub fn find(
     from: u32,
 ) -> Result<Option<Target>, NoMemory>
     requires ready { IsReady kernel.now }
-    requires bounds { AreModest bounds.now }
     ensures finds { IfOk result (Finds target_of bounds.now kernel.now from) }
 {
     Search::new(alloc).find(kernel, bounds, from)

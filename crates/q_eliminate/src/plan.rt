@@ -9,7 +9,7 @@ ghost use Rattle.q_logic.specs.Limits.{standard};
 ghost use Rattle.q_logic.specs.InLimits.{IsInLimits};
 ghost use Rattle.q_logic.specs.Targets as theory;
 ghost use Rattle.q_kernel.specs.Kernels.{slots, formula_in};
-ghost use Rattle.q_kernel.specs.Taking.{AreModest, Applies};
+ghost use Rattle.q_kernel.specs.Taking.{Applies};
 ghost use Rattle.q_eliminate.specs.declared.plan.Plan.{Plan as PlanValue};
 ghost use Rattle.q_eliminate.specs.Sides.{AreIdsOf, AreSidesOf};
 ghost use Rattle.q_eliminate.specs.Plans.{MayGo, IsPlanOf};
@@ -39,7 +39,6 @@ pub fn make_plan(
     bounds: &Bounds,
 ) -> Result<Option<Plan>, NoMemory>
     requires limits { IsInLimits standard (formula_in kernel.now) }
-    requires bounds { AreModest bounds.now }
     ensures some { IfOk result (λ o. (p : PlanValue) → o ≡ Some p → Applies bounds.now kernel.now (theory.eliminate x) × IsPlanOf kernel.now (positive x) p × AreSidesOf kernel.now (positive x) search.new.sides) }
     ensures none { IfOk result (λ o. o ≡ None → Applies bounds.now kernel.now (theory.eliminate x) → ⊥) }
 {
@@ -70,7 +69,6 @@ fn plan_on(
     bounds: &Bounds,
 ) -> Result<Option<Plan>, NoMemory>
     requires limits { IsInLimits standard (formula_in kernel.now) }
-    requires bounds { AreModest bounds.now }
     requires bound { is_bound kernel.now.prefix lit.var ≡ true }
     requires ids { AreIdsOf kernel.now lit ids.now }
     requires others { AreIdsOf kernel.now (negation lit) others.now }

@@ -1,6 +1,6 @@
 ghost use Rattle.std.specs.Prelude.{OnErr, IfOk};
 ghost use Rattle.q_kernel.specs.Kernels.{SameView};
-ghost use Rattle.q_kernel.specs.Taking.{AreModest, IsReady};
+ghost use Rattle.q_kernel.specs.Taking.{IsReady};
 ghost use Rattle.q_rule.specs.Searching.{Tries, Finds};
 ghost use Rattle.q_equiv.specs.Targets.{target_of};
 
@@ -23,7 +23,6 @@ pub fn try_one(
     bounds: &Bounds,
 ) -> Result<Taken, NoMemory>
     requires ready { IsReady kernel.old }
-    requires bounds { AreModest bounds.now }
     ensures tries { IfOk result (Tries bounds.now kernel.old kernel.new (target_of target.now)) }
     ensures err { OnErr result (SameView kernel.old kernel.new) }
 {
@@ -39,7 +38,6 @@ pub fn find(
     from: u32,
 ) -> Result<Option<Target>, NoMemory>
     requires ready { IsReady kernel.now }
-    requires bounds { AreModest bounds.now }
     ensures finds { IfOk result (Finds target_of bounds.now kernel.now from) }
 {
     Search::new(alloc).find(kernel, bounds, from)

@@ -24,7 +24,7 @@ use Rattle.q_logic.proofs.ExpandLinks.{minus}
 use Rattle.q_logic.proofs.ExpandRun.{Expansion}
 use Rattle.q_kernel.specs.Kernels.{Seen, slots, formula_in, IsSound}
 use Rattle.q_kernel.specs.Changes.{IsLed}
-use Rattle.q_kernel.specs.Taking.{AreModest, Applies}
+use Rattle.q_kernel.specs.Taking.{Applies}
 use Rattle.q_kernel.proofs.Costs.{proper-in_order}
 use Rattle.q_kernel.proofs.Leading.{sizes-alike, led-through}
 use Rattle.q_kernel.proofs.Slotting.{size-parts}
@@ -81,7 +81,7 @@ without-size l X =
 abbrev pub later_of : Seen → ℕ → ℕ
 later_of k n = 16 * (12 * size_of (live (slots k)) + (length k.prefix + n))
 
-module _ (B : Bounds) (k : Seen) (u : ℕ) (r : Walked) (s : IsSound k) (w : IsWhole k u r) (m : AreModest B) (a : Applies B k (expand_universal u)) where
+module _ (B : Bounds) (k : Seen) (u : ℕ) (r : Walked) (s : IsSound k) (w : IsWhole k u r) (a : Applies B k (expand_universal u)) where
   -- The steps are still to come.
   pub on-track : IsInLimits standard (formula_in k) → HasRoom k r → IsOnTrack k (course u (vars_in k u) (first_in k) (clauses_at (slots k) r.met)) (later_of k (length r.vars)) (formula_of (prefix_in k u) (parted_in k u))
   on-track limits room =
@@ -91,7 +91,7 @@ module _ (B : Bounds) (k : Seen) (u : ℕ) (r : Walked) (s : IsSound k) (w : IsW
       let ss = course u V t W in
       let n : length r.vars ≡ length V = vars-number k u r s w in
       let few : length V ≤ B.expand = a.fits.few in
-      let bound = m.expand in
+      let bound = B.small_expand in
       let size : size_of W ≡ tally long (slots k) r.met = clauses-size (slots k) r.met in
       let number = clauses-few (slots k) r.met in
       let most = tally-most long r.met (slots k) w.region.apart in

@@ -15,7 +15,7 @@ use Rattle.q_logic.proofs.ExpandPrefix.{AllE, below}
 use Rattle.q_logic.proofs.ExpandClosure.{above-greatest}
 use Rattle.q_kernel.specs.Lists.{Has}
 use Rattle.q_kernel.specs.Kernels.{Seen, slots, formula_in, IsSound}
-use Rattle.q_kernel.specs.Taking.{AreModest, Applies}
+use Rattle.q_kernel.specs.Taking.{Applies}
 use Rattle.q_kernel.proofs.Costs.{proper-var}
 use Rattle.q_expand.specs.Regions.{Walked, IsWhole, tally, weigh}
 use Rattle.q_expand.specs.Rooms.{weight_of, HasRoom}
@@ -68,7 +68,7 @@ vars-place P [] a i x e = absurd (let z : None ≡ Some x = e in cc)
 vars-place P (y ∷ V) a zero x e = subst (λ (z : ℕ). is_existential P z ≡ true) (same_Some y x e) a.0
 vars-place P (y ∷ V) a (suc i) x e = vars-place P V a.1 i x e
 
-module _ (B : Bounds) (k : Seen) (u : ℕ) (r : Walked) (s : IsSound k) (w : IsWhole k u r) (m : AreModest B) (a : Applies B k (expand_universal u)) where
+module _ (B : Bounds) (k : Seen) (u : ℕ) (r : Walked) (s : IsSound k) (w : IsWhole k u r) (a : Applies B k (expand_universal u)) where
   pub u-bound : is_bound k.prefix u ≡ true
   u-bound = Rattle.q_logic.proofs.ExpandClosure.bound_of_u k.prefix u a.fits.universal
 
@@ -95,7 +95,7 @@ module _ (B : Bounds) (k : Seen) (u : ℕ) (r : Walked) (s : IsSound k) (w : IsW
         sym p ∙ sym (append-nil (course v xs (f + 1) (clauses_at (slots k) r.met)))
 
     ready : IsInLimits standard (formula_in k) → HasRoom k r → IsOnTrack k (course v xs (f + 1) (clauses_at (slots k) r.met) ++ []) (later_of k (length r.vars)) (formula_of (prefix_in k u) (parted_in k u))
-    ready l h = subst (λ (ss : List ProofStep). IsOnTrack k ss (later_of k (length r.vars)) (formula_of (prefix_in k u) (parted_in k u))) same-course (on-track B k u r s w m a l h)
+    ready l h = subst (λ (ss : List ProofStep). IsOnTrack k ss (later_of k (length r.vars)) (formula_of (prefix_in k u) (parted_in k u))) same-course (on-track B k u r s w a l h)
 
     pub can-part : IsInLimits standard (formula_in k) → HasRoom k r → CanTake k (course v xs (f + 1) (clauses_at (slots k) r.met))
     can-part l h = ([], later_of k (length r.vars), formula_of (prefix_in k u) (parted_in k u), ready l h)

@@ -12,7 +12,7 @@ use Rattle.q_logic.specs.Targets.{expand_universal}
 use Rattle.q_logic.proofs.Heights.{one, weight-one}
 use Rattle.q_kernel.specs.Lists.{Has}
 use Rattle.q_kernel.specs.Kernels.{Seen, SameView, slots, formula_in, IsSound}
-use Rattle.q_kernel.specs.Taking.{AreModest, Applies}
+use Rattle.q_kernel.specs.Taking.{Applies}
 use Rattle.q_kernel.proofs.Slotting.{live-same, size-parts}
 use Rattle.q_expand.specs.Regions.{Walked, IsWhole, IsRegion, IsConnected, IsSpread, tally, weigh}
 use Rattle.q_expand.specs.Rooms.{weight_of}
@@ -74,11 +74,11 @@ pub record AreFew (k : Seen) (r : Walked) : Type 0 where
   pub bound : length k.prefix < 4294967296
   pub greatest : greatest k.prefix ≤ 16777215
 
-pub are-few : (B : Bounds) (k : Seen) (u : ℕ) (r : Walked) → IsSound k → IsWhole k u r → AreModest B → Applies B k (expand_universal u) → IsInLimits standard (formula_in k) → AreFew k r
-are-few B k u r s w m a l =
+pub are-few : (B : Bounds) (k : Seen) (u : ℕ) (r : Walked) → IsSound k → IsWhole k u r → Applies B k (expand_universal u) → IsInLimits standard (formula_in k) → AreFew k r
+are-few B k u r s w a l =
     let n = vars-number k u r s w in
     let f = a.fits.few in
-    let b = m.expand in
+    let b = B.small_expand in
     let p = met-few (slots k) r.met (λ c h. let q = w.region.connected c h in (q.0, q.1)) in
     let t = tally-most one r.met (slots k) w.region.apart in
     let o = weight-one (live (slots k)) in

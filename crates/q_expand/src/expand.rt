@@ -9,7 +9,7 @@ ghost use Rattle.q_logic.specs.Expanding.{expansion_vars};
 ghost use Rattle.q_logic.specs.Targets.{expand_universal};
 ghost use Rattle.q_kernel.specs.Lists.{Has, AreApart};
 ghost use Rattle.q_kernel.specs.Kernels.{SameView, slots, formula_in};
-ghost use Rattle.q_kernel.specs.Taking.{AreModest, IsReady, Applies};
+ghost use Rattle.q_kernel.specs.Taking.{IsReady, Applies};
 ghost use Rattle.q_rule.specs.Becoming.{HasResult};
 ghost use Rattle.q_rule.specs.Searching.{Tries, Finds};
 ghost use Rattle.q_expand.specs.Targets.{target_of};
@@ -39,7 +39,6 @@ pub fn try_one(
     bounds: &Bounds,
 ) -> Result<Taken, NoMemory>
     requires ready { IsReady kernel.old }
-    requires bounds { AreModest bounds.now }
     ensures tries { IfOk result (Tries bounds.now kernel.old kernel.new (target_of target.now)) }
     ensures err { OnErr result (SameView kernel.old kernel.new) }
 {
@@ -55,7 +54,6 @@ pub fn find(
     from: u32,
 ) -> Result<Option<Target>, NoMemory>
     requires ready { IsReady kernel.now }
-    requires bounds { AreModest bounds.now }
     ensures finds { IfOk result (Finds target_of bounds.now kernel.now from) }
 {
     Search::new(alloc).find(kernel, bounds, from)
@@ -125,7 +123,7 @@ fn reserve(
 ) -> Result<(), NoMemory>
     requires limits { IsInLimits standard (formula_in kernel.old) }
     requires whole { IsWhole kernel.old u region.now }
-    requires applies { (B : BoundsValue) × AreModest B × Applies B kernel.old (expand_universal u) }
+    requires applies { (B : BoundsValue) × Applies B kernel.old (expand_universal u) }
     ensures view { SameView kernel.old kernel.new }
     ensures room { OnOk result (HasRoom kernel.new region.now) }
     ensures spare { OnOk result (weight_of kernel.new region.now ≤ vec_capacity spare.new) }
@@ -160,7 +158,7 @@ fn weight(kernel: &Kernel, region: &Region, u: u32) -> usize
 
 // Expands a universal variable, and sweeps.
 fn take(kernel: &mut Kernel, region: &Region, order: &[u32], spare: &mut Vec<Lit>, u: u32)
-    requires applies { (B : BoundsValue) × AreModest B × Applies B kernel.old (expand_universal u) }
+    requires applies { (B : BoundsValue) × Applies B kernel.old (expand_universal u) }
     requires limits { IsInLimits standard (formula_in kernel.old) }
     requires whole { IsWhole kernel.old u region.now }
     requires order { order.now ≡ expansion_vars kernel.old.prefix (live (slots kernel.old)) u }

@@ -27,7 +27,7 @@ ghost use Rattle.q_logic.specs.Eliminating.{clauses_of};
 ghost use Rattle.q_logic.specs.Targets.{expand_universal};
 ghost use Rattle.q_logic.specs.Rules.{change};
 ghost use Rattle.q_kernel.specs.Kernels.{slots};
-ghost use Rattle.q_kernel.specs.Taking.{Applies, AreModest};
+ghost use Rattle.q_kernel.specs.Taking.{Applies};
 ghost use Rattle.q_expand.specs.Regions.{IsWhole};
 
 use crate::region::{Region, Room};
@@ -42,7 +42,6 @@ pub(crate) fn fits(
     u: u32,
     bounds: &Bounds,
 ) -> Result<bool, NoMemory>
-    requires { AreModest bounds.now }
     ensures applies { IfOk result (λ yes. IsTrue yes ↔ Applies bounds.now kernel.now (expand_universal u)) }
     ensures whole { IfOk result (λ yes. yes ≡ true → IsWhole kernel.now u region.new) }
 {

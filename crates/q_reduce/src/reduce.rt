@@ -2,7 +2,7 @@
 //! them, and then no step can fail.
 ghost use Rattle.std.specs.Prelude.{◌≡◌, OnErr, IfOk};
 ghost use Rattle.q_kernel.specs.Kernels.{Seen, SameView};
-ghost use Rattle.q_kernel.specs.Taking.{AreModest, IsReady};
+ghost use Rattle.q_kernel.specs.Taking.{IsReady};
 ghost use Rattle.q_reduce.specs.Targets.{target_of};
 ghost use Rattle.q_reduce.specs.Lent.{nothing_learned, IsFitFor};
 ghost use Rattle.q_rule.specs.Searching.{Tries, Finds};
@@ -26,7 +26,6 @@ pub fn try_one(
     bounds: &Bounds,
 ) -> Result<Taken, NoMemory>
     requires ready { IsReady kernel.old }
-    requires bounds { AreModest bounds.now }
     ensures tries { IfOk result (Tries bounds.now kernel.old kernel.new (target_of target.now)) }
     ensures err { OnErr result (SameView kernel.old kernel.new) }
 {
@@ -42,7 +41,6 @@ pub fn find(
     from: u32,
 ) -> Result<Option<Target>, NoMemory>
     requires ready { IsReady kernel.now }
-    requires bounds { AreModest bounds.now }
     ensures finds { IfOk result (Finds target_of bounds.now kernel.now from) }
 {
     Search::new(alloc).find(kernel, bounds, from)

@@ -1,6 +1,6 @@
 // The targets of the rules, as rows write them. A crate of rules is added here alone: an arm in each `match` below, and a
 // function that calls its `find`.
-ghost use Rattle.q_kernel.specs.Taking.{AreModest, IsReady};
+ghost use Rattle.q_kernel.specs.Taking.{IsReady};
 
 use crate::trouble::Trouble;
 use q_blocked::Target as Block;
@@ -42,7 +42,6 @@ impl Aim {
         bounds: &Bounds,
     ) -> Result<Taken, NoMemory>
         requires ready { IsReady kernel.old }
-        requires bounds { AreModest bounds.now }
     {
         match &self.target {
             Move::Reduce(target) => q_reduce::try_one(alloc, kernel, target, bounds),
@@ -64,7 +63,6 @@ pub(crate) fn find(
     from: u32,
 ) -> Result<Option<Aim>, Trouble>
     requires ready { IsReady kernel.now }
-    requires bounds { AreModest bounds.now }
 {
     match rules {
         "reduce" => find_reduce(alloc, kernel, bounds, from),
@@ -84,7 +82,6 @@ fn find_reduce(
     from: u32,
 ) -> Result<Option<Aim>, Trouble>
     requires ready { IsReady kernel.now }
-    requires bounds { AreModest bounds.now }
 {
     match q_reduce::find(alloc, kernel, bounds, from) {
         Ok(Some(target)) => Ok(Some(Aim {
@@ -102,7 +99,6 @@ fn find_subsume(
     from: u32,
 ) -> Result<Option<Aim>, Trouble>
     requires ready { IsReady kernel.now }
-    requires bounds { AreModest bounds.now }
 {
     match q_subsume::find(alloc, kernel, bounds, from) {
         Ok(Some(target)) => Ok(Some(Aim {
@@ -120,7 +116,6 @@ fn find_merge(
     from: u32,
 ) -> Result<Option<Aim>, Trouble>
     requires ready { IsReady kernel.now }
-    requires bounds { AreModest bounds.now }
 {
     match q_equiv::find(alloc, kernel, bounds, from) {
         Ok(Some(target)) => Ok(Some(Aim {
@@ -138,7 +133,6 @@ fn find_block(
     from: u32,
 ) -> Result<Option<Aim>, Trouble>
     requires ready { IsReady kernel.now }
-    requires bounds { AreModest bounds.now }
 {
     match q_blocked::find(alloc, kernel, bounds, from) {
         Ok(Some(target)) => Ok(Some(Aim {
@@ -156,7 +150,6 @@ fn find_eliminate(
     from: u32,
 ) -> Result<Option<Aim>, Trouble>
     requires ready { IsReady kernel.now }
-    requires bounds { AreModest bounds.now }
 {
     match q_eliminate::find(alloc, kernel, bounds, from) {
         Ok(Some(target)) => Ok(Some(Aim {
@@ -174,7 +167,6 @@ fn find_expand(
     from: u32,
 ) -> Result<Option<Aim>, Trouble>
     requires ready { IsReady kernel.now }
-    requires bounds { AreModest bounds.now }
 {
     match q_expand::find(alloc, kernel, bounds, from) {
         Ok(Some(target)) => Ok(Some(Aim {

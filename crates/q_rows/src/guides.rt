@@ -13,12 +13,6 @@ use q_sched::{FewestFirst, Guide, Move, Proposal, ShortestFirst};
 use q_touched::{Quiet, Touched};
 use std::alloc::Global;
 
-// The bounds of a command without options.
-const DEFAULTS: Bounds = Bounds {
-    grow: 0,
-    expand: 16,
-};
-
 /// After which answer to the proposal before a part of a script is due.
 #[derive(Clone, Copy, PartialEq, Eq)]
 enum When {
@@ -149,7 +143,7 @@ pub(crate) fn guide_of(alloc: Global, text: &str) -> Result<RowGuide, Trouble> {
         "remembering" => Plan::Remembering(None),
         "fewest" => Plan::Fewest(FewestFirst::new()),
         "shortest" => Plan::Shortest(ShortestFirst::new()),
-        "touched" => Plan::Touched(Touched::new(alloc, DEFAULTS, Quiet)),
+        "touched" => Plan::Touched(Touched::new(alloc, Bounds::usual(), Quiet)),
         _ => Plan::Script(script_of(alloc, text)?),
     };
     Ok(RowGuide {

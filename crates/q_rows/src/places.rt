@@ -1,5 +1,4 @@
 // Where the literals of a kernel stand once its dead words are gone.
-ghost use Rattle.q_kernel.specs.Taking.{AreModest};
 
 use crate::aims::Aim;
 use crate::formulas::push_lit;
@@ -19,9 +18,7 @@ pub(crate) fn lists(
     formula: &Formula,
     bounds: &Bounds,
     aim: &Aim,
-) -> Result<String, Trouble>
-    requires { AreModest bounds.now }
-{
+) -> Result<String, Trouble> {
     let mut kernel = kernel_of(alloc, formula)?;
     let _ = aim.try_one(alloc, &mut kernel, bounds)?;
     kernel.compact();

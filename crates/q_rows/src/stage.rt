@@ -1,7 +1,6 @@
 // One row: its files, formula, limits and bounds, and its lines one after the other.
 ghost use Rattle.std.specs.Prelude.{IfOk};
 ghost use Rattle.q_logic.specs.Limits.{AreModerate};
-ghost use Rattle.q_kernel.specs.Taking.{AreModest};
 
 use crate::aims::aim_of;
 use crate::checking::{answers, undo_list};
@@ -35,10 +34,7 @@ impl Stage {
             desk: Desk::new(alloc),
             formula: formula_of(alloc, "nothing")?,
             limits: Limits::standard(),
-            bounds: Bounds {
-                grow: 0,
-                expand: 16,
-            },
+            bounds: Bounds::usual(),
         })
     }
 
@@ -210,28 +206,24 @@ impl Stage {
     }
 
     fn applied(&self, verb: &str, rest: &str) -> Result<String, Trouble> {
-        let bounds = modest(self.bounds)?;
+        let bounds = &self.bounds;
         match verb {
-            "take" => self.take(rest, &bounds),
-            "find" => self.find(rest, &bounds),
-            "lists" => lists(self.alloc, &self.formula, &bounds, &aim_of(rest)?),
-            "figures" => figures(self.alloc, &self.formula, &bounds),
+            "take" => self.take(rest, bounds),
+            "find" => self.find(rest, bounds),
+            "lists" => lists(self.alloc, &self.formula, bounds, &aim_of(rest)?),
+            "figures" => figures(self.alloc, &self.formula, bounds),
             "implied" => implied(self.alloc, &self.formula, rest),
             "ask" => proposals(self.alloc, &self.formula, rest),
             _ => Err(Trouble::Unreadable("a verb")),
         }
     }
 
-    fn take(&self, target: &str, bounds: &Bounds) -> Result<String, Trouble>
-        requires { AreModest bounds.now }
-    {
+    fn take(&self, target: &str, bounds: &Bounds) -> Result<String, Trouble> {
         let aim = aim_of(target)?;
         outcome(self.alloc, &self.formula, bounds, &aim)
     }
 
-    fn find(&self, from: &str, bounds: &Bounds) -> Result<String, Trouble>
-        requires { AreModest bounds.now }
-    {
+    fn find(&self, from: &str, bounds: &Bounds) -> Result<String, Trouble> {
         let (name, from) = from.split_once(" from ").unwrap_or((from, "0"));
         let from = number(from)?;
         found(self.alloc, &self.formula, bounds, name, from)
@@ -279,16 +271,17 @@ fn limits_of(text: &str) -> Result<Limits, Trouble> {
     })
 }
 
-// `grow N expand N`
+// `grow N expand N`, both at most 10,000
 fn bounds_of(text: &str) -> Result<Bounds, Trouble> {
     let Some((grow, expand)) = text.split_once(" expand ") else {
         return Err(Trouble::Unreadable("bounds"));
     };
     let grow = number(grow.strip_prefix("grow ").unwrap_or(grow))?;
-    Ok(Bounds {
-        grow,
-        expand: number(expand)?,
-    })
+    let expand = number(expand)?;
+    if grow > 10_000 || expand > 10_000 {
+        return Err(Trouble::Unreadable("small bounds"));
+    }
+    Ok(Bounds { grow, expand })
 }
 
 fn moderate(limits: Limits) -> Result<Limits, Trouble>
@@ -299,13 +292,4 @@ fn moderate(limits: Limits) -> Result<Limits, Trouble>
         return Ok(limits);
     }
     Err(Trouble::Unreadable("small limits"))
-}
-
-fn modest(bounds: Bounds) -> Result<Bounds, Trouble>
-    ensures { IfOk result (λ b. AreModest b) }
-{
-    if bounds.grow <= 10_000 && bounds.expand <= 10_000 {
-        return Ok(bounds);
-    }
-    Err(Trouble::Unreadable("small bounds"))
 }

@@ -1,6 +1,6 @@
 // One target of a rule on a formula.
 ghost use Rattle.std.specs.Prelude.{IfOk};
-ghost use Rattle.q_kernel.specs.Taking.{AreModest, IsReady};
+ghost use Rattle.q_kernel.specs.Taking.{IsReady};
 
 use crate::aims::{Aim, find};
 use crate::checking::audit;
@@ -35,9 +35,7 @@ pub(crate) fn outcome(
     formula: &Formula,
     bounds: &Bounds,
     aim: &Aim,
-) -> Result<String, Trouble>
-    requires { AreModest bounds.now }
-{
+) -> Result<String, Trouble> {
     let mut kernel = kernel_of(alloc, formula)?;
     let is_found = find(alloc, aim.rules(), &kernel, bounds, 0)?.is_some();
     let said = tried(alloc, formula, &mut kernel, bounds, aim)?;
@@ -55,7 +53,6 @@ fn tried(
     aim: &Aim,
 ) -> Result<String, Trouble>
     requires ready { IsReady kernel.old }
-    requires bounds { AreModest bounds.now }
 {
     let before = held(alloc, formula, kernel)?;
     let taken = aim.try_one(alloc, kernel, bounds)?;
@@ -105,9 +102,7 @@ pub(crate) fn found(
     bounds: &Bounds,
     rules: &str,
     from: u32,
-) -> Result<String, Trouble>
-    requires { AreModest bounds.now }
-{
+) -> Result<String, Trouble> {
     let kernel = kernel_of(alloc, formula)?;
     let aim = find(alloc, rules, &kernel, bounds, from)?;
     name_of(alloc, aim)
@@ -166,9 +161,7 @@ impl fmt::Display for Counts {
     }
 }
 
-fn counts_of(kernel: &Kernel, bounds: &Bounds) -> Counts
-    requires { AreModest bounds.now }
-{
+fn counts_of(kernel: &Kernel, bounds: &Bounds) -> Counts {
     Counts {
         clauses: kernel.clauses(),
         size: kernel.size(),
@@ -178,9 +171,11 @@ fn counts_of(kernel: &Kernel, bounds: &Bounds) -> Counts
 }
 
 /// The figures of a formula as it stands.
-pub(crate) fn figures(alloc: Global, formula: &Formula, bounds: &Bounds) -> Result<String, Trouble>
-    requires { AreModest bounds.now }
-{
+pub(crate) fn figures(
+    alloc: Global,
+    formula: &Formula,
+    bounds: &Bounds,
+) -> Result<String, Trouble> {
     if formula.clauses() > 1000 {
         return Err(Trouble::Unreadable("a formula of few clauses"));
     }

@@ -3,6 +3,7 @@ use Rattle.std.specs.Prelude.{◌≡◌, ◌⊎◌, ◌↔◌, ℕ, List, true, 
 use Rattle.std.specs.FinMap as map
 use Rattle.q_logic.specs.Formulas.{PrenexFormula}
 use Rattle.q_logic.specs.Truth.{Holds}
+use Rattle.q_logic.specs.UsualBounds.{usual}
 use Rattle.q_io.specs.Files.{Disk, bytes_at}
 use Rattle.q_dimacs.specs.Writing.{formula_text}
 use Rattle.q_simplify.specs.declared.options.Options.{Options}
@@ -13,7 +14,7 @@ use Rattle.q_run_solve.specs.declared.reducing.Reduced.{Reduced}
 
 -- the rules may go as far as they do without options, and no budget of the measure is given
 abbrev pub plain_options : Options
-plain_options = record { bounds = record { grow = 0; expand = 16 }; budget = None }
+plain_options = record { bounds = usual; budget = None }
 
 -- the names of the texts in memory
 abbrev pub in_name : List ℕ

@@ -37,10 +37,7 @@ fn simplify_in_memory(
     let mut memory = SteadyFiles::new(alloc);
     memory.put_file("IN", &text)?;
     let options = Options {
-        bounds: Bounds {
-            grow: 0,
-            expand: 16,
-        },
+        bounds: Bounds::usual(),
         budget: None,
     };
     match simplify(alloc, &mut memory, formula, "OUT", "LOG", &options, guides) {

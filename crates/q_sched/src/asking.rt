@@ -1,7 +1,7 @@
 //! One guide is asked.
 ghost use Rattle.std.specs.Prelude.{◌≡◌, ◌<◌, IfOk, OnErr, vec_len, reverse};
 ghost use Rattle.q_kernel.specs.Kernels.{SameView};
-ghost use Rattle.q_kernel.specs.Taking.{AreModest, IsReady};
+ghost use Rattle.q_kernel.specs.Taking.{IsReady};
 ghost use Rattle.q_reduce.specs.Lent.{IsFitFor};
 ghost use Rattle.q_logic.specs.Counts.{Rose};
 ghost use Rattle.q_sched.specs.Drives.{AsksOne};
@@ -31,7 +31,6 @@ fn follow(
     bounds: &Bounds,
 ) -> Result<Outcome, NoMemory>
     requires ready { IsReady kernel.old }
-    requires bounds { AreModest bounds.now }
     requires fit { IsFitFor kernel.old searches.old }
     ensures outcome { IfOk result (λ outcome. Tried (target_of target.now) bounds.now kernel.old outcome kernel.new) }
     ensures err { OnErr result (SameView kernel.old kernel.new) }
@@ -51,7 +50,6 @@ fn consult(
     bounds: &Bounds,
 ) -> Result<Outcome, NoMemory>
     requires ready { IsReady kernel.old }
-    requires bounds { AreModest bounds.now }
     requires fit { IsFitFor kernel.old searches.old }
     ensures rises { Rose (asked guide.old) (asked guide.new) }
     ensures outcome { IfOk result (λ outcome. Outcomes (last guide.new) (heard guide.new) bounds.now kernel.old outcome kernel.new) }
@@ -78,7 +76,6 @@ pub(crate) fn ask_last(
 ) -> Result<Outcome, NoMemory>
     requires some { 0 < vec_len waiting.old }
     requires ready { IsReady kernel.old }
-    requires bounds { AreModest bounds.now }
     requires fit { IsFitFor kernel.old searches.old }
     ensures asks { IfOk result (λ outcome. AsksOne (meanings (λ b. asked b) (λ b. last b) (λ b. heard b) (reverse waiting.old.items)) (meanings (λ b. asked b) (λ b. last b) (λ b. heard b) (reverse waiting.new.items)) (λ then. Outcomes then.last then.heard bounds.now kernel.old outcome kernel.new)) }
     ensures err { OnErr result (SameView kernel.old kernel.new) }

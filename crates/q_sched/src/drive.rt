@@ -5,7 +5,7 @@
 //! in their order. Each turn but the last lowers the formula's measure, or what `left` says, so turns come to an end whatever
 //! the guides do.
 ghost use Rattle.std.specs.Prelude.{◌≡◌, ◌≢◌, ◌≤◌, ◌<◌, ◌^◌, [], take, IfOk, OnErr, vec_len, IsTrue, ◌↔◌, false};
-ghost use Rattle.q_kernel.specs.Taking.{AreModest, IsReady};
+ghost use Rattle.q_kernel.specs.Taking.{IsReady};
 ghost use Rattle.q_reduce.specs.Lent.{IsFitFor, nothing_learned};
 
 use crate::asking::{Outcome, ask_last};
@@ -34,7 +34,6 @@ pub struct Drive {
     searches: Searches,
     ghost few_guides: { vec_len waiting ≤ 1000000 },
     ghost few_refusals: { refusals ≤ 1024 },
-    ghost modest: { AreModest bounds },
 }
 
 impl Drive {
@@ -50,7 +49,6 @@ impl Drive {
         first_measure: u64,
     ) -> Drive
         requires first { first_measure ≤ 2 ^ 60 }
-        requires bounds { AreModest bounds }
         ensures seen { seen (λ b. asked b) (λ b. last b) (λ b. heard b) result ≡ record { bounds = bounds; budget = budget; first_measure = first_measure; guides = meanings (λ b. asked b) (λ b. last b) (λ b. heard b) (take 1000000 guides.items); refused = 0; over = false } }
         ensures lent { lent result ≡ nothing_learned }
     {

@@ -1,7 +1,7 @@
 //! The searches of all rules, lent from turn to turn.
 ghost use Rattle.std.specs.Prelude.{◌≡◌, ◌↔◌, IfOk, OnErr, IsTrue};
 ghost use Rattle.q_kernel.specs.Kernels.{SameView};
-ghost use Rattle.q_kernel.specs.Taking.{AreModest, IsReady, Applies};
+ghost use Rattle.q_kernel.specs.Taking.{IsReady, Applies};
 ghost use Rattle.q_reduce.specs.Lent.{nothing_learned, IsFitFor};
 ghost use Rattle.q_rule.specs.Searching.{Tries};
 ghost use Rattle.q_sched.specs.Moves.{target_of};
@@ -64,7 +64,6 @@ impl Searches {
         bounds: &Bounds,
     ) -> Result<bool, NoMemory>
         requires ready { IsReady kernel.now }
-        requires bounds { AreModest bounds.now }
         requires fit { IsFitFor kernel.now self.old }
         ensures yes { IfOk result (λ yes. IsTrue yes ↔ Applies bounds.now kernel.now (target_of target.now)) }
         ensures fit { IsFitFor kernel.now self.new }
@@ -87,7 +86,6 @@ impl Searches {
         bounds: &Bounds,
     ) -> Result<Taken, NoMemory>
         requires ready { IsReady kernel.old }
-        requires bounds { AreModest bounds.now }
         requires fit { IsFitFor kernel.old self.old }
         ensures tries { IfOk result (Tries bounds.now kernel.old kernel.new (target_of target.now)) }
         ensures err { OnErr result (SameView kernel.old kernel.new) }
@@ -115,7 +113,6 @@ impl Searches {
         from: u32,
     ) -> Result<Option<Move>, NoMemory>
         requires ready { IsReady kernel.now }
-        requires bounds { AreModest bounds.now }
         requires fit { IsFitFor kernel.now self.old }
         ensures finds { IfOk result (FindsOf rule bounds.now kernel.now from) }
         ensures fit { IsFitFor kernel.now self.new }
@@ -137,7 +134,6 @@ impl Searches {
     /// A target of the first rule that has one; none exactly where no target applies.
     pub fn find_any(&mut self, kernel: &Kernel, bounds: &Bounds) -> Result<Option<Move>, NoMemory>
         requires ready { IsReady kernel.now }
-        requires bounds { AreModest bounds.now }
         requires fit { IsFitFor kernel.now self.old }
         ensures finds { IfOk result (FindsAny bounds.now kernel.now) }
         ensures fit { IsFitFor kernel.now self.new }

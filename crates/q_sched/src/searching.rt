@@ -1,7 +1,7 @@
 //! The rules are searched in their order.
 ghost use Rattle.std.specs.Prelude.{◌≡◌, IfOk, OnErr};
 ghost use Rattle.q_kernel.specs.Kernels.{SameView};
-ghost use Rattle.q_kernel.specs.Taking.{AreModest, IsReady};
+ghost use Rattle.q_kernel.specs.Taking.{IsReady};
 ghost use Rattle.q_reduce.specs.Lent.{IsFitFor};
 ghost use Rattle.q_sched.specs.Drives.{Searched, Closes};
 
@@ -17,7 +17,6 @@ pub(crate) fn close(
     bounds: &Bounds,
 ) -> Result<Turn, NoMemory>
     requires ready { IsReady kernel.now }
-    requires bounds { AreModest bounds.now }
     requires fit { IsFitFor kernel.now searches.old }
     ensures closes { IfOk result (Closes bounds.now kernel.now) }
     ensures fit { IsFitFor kernel.now searches.new }
@@ -36,7 +35,6 @@ pub(crate) fn search(
     bounds: &Bounds,
 ) -> Result<Turn, NoMemory>
     requires ready { IsReady kernel.old }
-    requires bounds { AreModest bounds.now }
     requires fit { IsFitFor kernel.old searches.old }
     ensures searches { IfOk result (λ turn. Searched bounds.now kernel.old turn kernel.new) }
     ensures err { OnErr result (SameView kernel.old kernel.new) }

@@ -7,7 +7,6 @@ use Rattle.q_logic.specs.Prefixes.{is_exists}
 use Rattle.q_logic.specs.Sweep.{occurs}
 use Rattle.q_logic.specs.Measure.{one_if, size_of, existentials_in, universals_in, measure_of}
 use Rattle.q_kernel.specs.Kernels.{Seen, formula_in, IsSound}
-use Rattle.q_kernel.specs.Taking.{AreModest}
 
 one-small : (t : Bool) → one_if t ≤ 1
 one-small true = omega arith
@@ -34,8 +33,8 @@ weighed s g k e u n hs hg hk he hu hn =
     let c : (k + (g + 1) * k + 1) * u ≤ 100020001 * 4294967296 = mul-le (k + (g + 1) * k + 1) u 100020001 4294967296 (omega arith) (omega arith) in
     omega arith
 
-pub measure-small : (B : Bounds) (k : Seen) → AreModest B → IsSound k → measure_of B (formula_in k) ≤ 2 ^ 60
-measure-small B k m s =
+pub measure-small : (B : Bounds) (k : Seen) → IsSound k → measure_of B (formula_in k) ≤ 2 ^ 60
+measure-small B k s =
     let F = formula_in k in
     weighed (size_of F.matrix) B.grow B.expand (existentials_in F.prefix F.matrix) (universals_in F.prefix F.matrix) (length F.prefix)
-    (omega (arith, s.size)) m.grow m.expand (few-existentials F.prefix F.matrix) (few-universals F.prefix F.matrix) (omega (arith, s.vars))
+    (omega (arith, s.size)) B.small_grow B.small_expand (few-existentials F.prefix F.matrix) (few-universals F.prefix F.matrix) (omega (arith, s.vars))

@@ -1,6 +1,6 @@
 // Turns until there is no further one, and the log of each.
 ghost use Rattle.std.specs.Prelude.{◌≤◌, ◌^◌, IfOk};
-ghost use Rattle.q_kernel.specs.Taking.{AreModest, IsReady};
+ghost use Rattle.q_kernel.specs.Taking.{IsReady};
 ghost use Rattle.q_reduce.specs.Lent.{IsFitFor};
 ghost use Rattle.q_sched.specs.Seen.{seen, lent};
 ghost use Rattle.q_simplify.specs.Stops.{TurnsEnd};
@@ -49,7 +49,6 @@ pub(crate) fn follow<F: Files>(
     guides: Vec<Box<dyn Guide>>,
 ) -> Result<Stop, DeviceError>
     requires ready { IsReady kernel.old }
-    requires bounds { AreModest options.now.bounds }
     requires first { first ≤ 2 ^ 60 }
     ensures ready { IsReady kernel.new }
     ensures stops { IfOk result (λ t. TurnsEnd t options.now.bounds options.now.budget first kernel.old kernel.new) }

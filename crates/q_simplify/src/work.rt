@@ -7,7 +7,7 @@ ghost use Rattle.q_logic.specs.Parts.{IsProper};
 ghost use Rattle.q_logic.specs.Measure.{measure_of};
 ghost use Rattle.q_io.specs.Files.{Disk, Empties, Later, RoseAmong, RoseFor};
 ghost use Rattle.q_kernel.specs.Kernels.{formula_in};
-ghost use Rattle.q_kernel.specs.Taking.{AreModest, IsReady};
+ghost use Rattle.q_kernel.specs.Taking.{IsReady};
 ghost use Rattle.q_simplify.specs.Logs.{LeavesLog};
 ghost use Rattle.q_simplify.specs.Results.{IsReport, Leaves, LeadsTo, Simplifies, ends_as};
 
@@ -44,7 +44,6 @@ fn ending_of(last: Stop, formula: &Formula) -> Ending
 
 // The measure of the formula as it came.
 fn first_measure(kernel: &Kernel, bounds: &Bounds) -> u64
-    requires { AreModest bounds.now }
     ensures value { result ≡ measure_of bounds.now (formula_in kernel.now) }
     ensures small { result ≤ 2 ^ 60 }
 {
@@ -70,7 +69,6 @@ fn reduce<F: Files>(
 ) -> Result<Reduced, DeviceError>
     requires limits { IsInLimits standard (formula_in kernel.old) }
     requires text { kernel.old.text ≡ [] }
-    requires bounds { AreModest options.now.bounds }
     ensures report { IfOk result (λ r. IsReport options.now (formula_in kernel.old) r.report r.formula) }
     ensures log { IfOk result (λ r. (before : Disk) → Empties log.now before (F.held files.old) →
         LeadsTo (formula_in kernel.old) r.formula log.now before (F.held files.new)) }
@@ -104,7 +102,6 @@ fn reduce_formula<F: Files>(
     guides: Vec<Box<dyn Guide>>,
 ) -> Result<Reduced, DeviceError>
     requires limits { IsInLimits standard formula.now }
-    requires bounds { AreModest options.now.bounds }
     ensures report { IfOk result (λ r. IsReport options.now formula.now r.report r.formula) }
     ensures log { IfOk result (λ r. (before : Disk) → Empties log.now before (F.held files.old) →
         LeadsTo formula.now r.formula log.now before (F.held files.new)) }
@@ -131,7 +128,6 @@ pub fn simplify<F: Files>(
 ) -> Result<Report, DeviceError>
     requires proper { IsProper formula.now }
     requires limits { IsInLimits standard formula.now }
-    requires bounds { AreModest options.now.bounds }
     requires names { output.now ≢ log.now }
     ensures report { IfOk result (λ r. IfSome (F.held files.old) (λ before.
         Simplifies options.now formula.now r output.now log.now before (F.held files.new))) }

@@ -2,7 +2,7 @@
 //!
 //! A clause can become blocked on a literal where a clause with the negation goes. So the literals wait whose negation
 //! stands in one clause less, and the clauses of one of them are tested one by one.
-ghost use Rattle.q_kernel.specs.Taking.{AreModest, IsReady};
+ghost use Rattle.q_kernel.specs.Taking.{IsReady};
 
 use crate::lists::gather;
 use crate::lits::Lits;
@@ -52,7 +52,6 @@ impl Blocking {
         watch: &W,
     ) -> Result<Option<Target>, NoMemory>
         requires ready { IsReady kernel.now }
-        requires bounds { AreModest bounds.now }
     {
         for _ in 0..u64::MAX {
             watch.look(Pass::Block, kernel);
@@ -80,7 +79,6 @@ impl Blocking {
 
     fn next_in_list(&mut self, kernel: &Kernel, bounds: &Bounds) -> Result<Option<Target>, NoMemory>
         requires ready { IsReady kernel.now }
-        requires bounds { AreModest bounds.now }
     {
         let Some(lit) = self.on else {
             return Ok(None);

@@ -3,7 +3,7 @@
 //! What a search learns of a formula holds for the kernel that it was lent, and a guide can't carry it from call to call. So
 //! one call gathers all cuts, and the next ones hand them out. A cut takes away a literal and nothing else, so those that were
 //! found with it go on to apply.
-ghost use Rattle.q_kernel.specs.Taking.{AreModest, IsReady};
+ghost use Rattle.q_kernel.specs.Taking.{IsReady};
 ghost use Rattle.q_reduce.specs.Lent.{IsFitFor};
 
 use crate::lists::lits_of;
@@ -39,7 +39,6 @@ impl Cutting {
         watch: &W,
     ) -> Result<(), NoMemory>
         requires ready { IsReady kernel.now }
-        requires bounds { AreModest bounds.now }
     {
         self.batch.clear();
         self.search.forget();
@@ -76,7 +75,6 @@ fn collect_all<W: Watch>(
     watch: &W,
 ) -> Result<(), NoMemory>
     requires ready { IsReady kernel.now }
-    requires bounds { AreModest bounds.now }
     requires fit { IsFitFor kernel.now search.old }
 {
     let mut stay = 0usize;
@@ -99,7 +97,6 @@ fn collect_from(
     c: ClauseId,
 ) -> Result<usize, NoMemory>
     requires ready { IsReady kernel.now }
-    requires bounds { AreModest bounds.now }
     requires fit { IsFitFor kernel.now search.old }
     ensures fit { IsFitFor kernel.now search.new }
 {
@@ -123,7 +120,6 @@ fn may_leave(
     l: Lit,
 ) -> Result<Option<bool>, NoMemory>
     requires ready { IsReady kernel.now }
-    requires bounds { AreModest bounds.now }
     requires fit { IsFitFor kernel.now search.old }
     ensures fit { IsFitFor kernel.now search.new }
 {

@@ -3,7 +3,7 @@
 //!
 //! A variable waits in a heap by the number of its places when it was put in. Where the number has changed since, it is put
 //! in again once it is met.
-ghost use Rattle.q_kernel.specs.Taking.{AreModest, IsReady};
+ghost use Rattle.q_kernel.specs.Taking.{IsReady};
 
 use crate::lists::{lit_at, places_of};
 use crate::marked::Marked;
@@ -49,7 +49,6 @@ impl Eliminating {
         watch: &W,
     ) -> Result<Option<Target>, NoMemory>
         requires ready { IsReady kernel.now }
-        requires bounds { AreModest bounds.now }
     {
         for _ in 0..u64::MAX {
             let Some(Reverse((places, x))) = self.heap.pop() else {
@@ -68,7 +67,6 @@ impl Eliminating {
 
     fn fits(&mut self, kernel: &Kernel, bounds: &Bounds, x: u32) -> Result<bool, NoMemory>
         requires ready { IsReady kernel.now }
-        requires bounds { AreModest bounds.now }
     {
         self.marks.unmark(x);
         self.search

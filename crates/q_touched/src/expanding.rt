@@ -1,5 +1,5 @@
 //! Expansion of the touched universal variables.
-ghost use Rattle.q_kernel.specs.Taking.{AreModest, IsReady};
+ghost use Rattle.q_kernel.specs.Taking.{IsReady};
 
 use crate::marked::Marked;
 use crate::watch::{Pass, Watch};
@@ -37,7 +37,6 @@ impl Expanding {
         watch: &W,
     ) -> Result<Option<Target>, NoMemory>
         requires ready { IsReady kernel.now }
-        requires bounds { AreModest bounds.now }
     {
         for _ in 0..self.waiting.len() {
             let Some(u) = self.waiting.pop() else {

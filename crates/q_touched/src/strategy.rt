@@ -15,7 +15,7 @@
 //!
 //! Then nothing is proposed any more. Each call goes on where the last one stopped. (Queues of what was touched: N. Eén and
 //! A. Biere, "Effective preprocessing in SAT through variable and clause elimination", SAT 2005.)
-ghost use Rattle.q_kernel.specs.Taking.{AreModest, IsReady};
+ghost use Rattle.q_kernel.specs.Taking.{IsReady};
 
 use crate::parts::Parts;
 use crate::watch::Watch;
@@ -61,14 +61,11 @@ pub(crate) struct Strategy<W: Watch> {
     has_eliminated: bool,
     // touches before this number were read; none at all before the first call
     read: Option<u64>,
-    ghost modest: { AreModest bounds },
 }
 
 impl<W: Watch> Strategy<W> {
     /// It takes no memory.
-    pub(crate) fn new(alloc: Global, bounds: Bounds, watch: W) -> Strategy<W>
-        requires { AreModest bounds }
-    {
+    pub(crate) fn new(alloc: Global, bounds: Bounds, watch: W) -> Strategy<W> {
         Strategy {
             bounds,
             watch,

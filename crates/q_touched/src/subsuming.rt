@@ -3,7 +3,7 @@
 //! At the start each clause is asked once whether another one lies within it. From then on this is asked of clauses that
 //! came or lost a literal; where it is not so, what such a clause does to others is gathered, and handed out one by one.
 
-ghost use Rattle.q_kernel.specs.Taking.{AreModest, IsReady};
+ghost use Rattle.q_kernel.specs.Taking.{IsReady};
 
 use crate::hooks::{Hook, Hooks, signature_of};
 use crate::lists::{gather, index_of, lits_of, places_of};
@@ -74,7 +74,6 @@ impl Subsuming {
         bounds: &Bounds,
     ) -> Result<Option<Target>, NoMemory>
         requires ready { IsReady kernel.now }
-        requires bounds { AreModest bounds.now }
     {
         for _ in 0..self.batch.len() {
             let Some(target) = self.batch.pop() else {
@@ -95,7 +94,6 @@ impl Subsuming {
         watch: &W,
     ) -> Result<Option<Target>, NoMemory>
         requires ready { IsReady kernel.now }
-        requires bounds { AreModest bounds.now }
     {
         let first = self.begin(kernel, bounds, watch)?;
         if first.is_some() {
@@ -122,7 +120,6 @@ impl Subsuming {
         watch: &W,
     ) -> Result<Option<Target>, NoMemory>
         requires ready { IsReady kernel.now }
-        requires bounds { AreModest bounds.now }
     {
         for _ in 0..u64::MAX {
             let Some(d) = kernel.next_live(self.start) else {
@@ -151,7 +148,6 @@ impl Subsuming {
         c: ClauseId,
     ) -> Result<Option<Target>, NoMemory>
         requires ready { IsReady kernel.now }
-        requires bounds { AreModest bounds.now }
     {
         let found = self.ask(kernel, bounds, c)?;
         if found.is_some() {
@@ -169,7 +165,6 @@ impl Subsuming {
         d: ClauseId,
     ) -> Result<Option<Target>, NoMemory>
         requires ready { IsReady kernel.now }
-        requires bounds { AreModest bounds.now }
     {
         let Some(target) = self.find(kernel, d)? else {
             return Ok(None);

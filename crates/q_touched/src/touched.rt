@@ -10,9 +10,6 @@ use q_logic::{Bounds, NoMemory};
 use q_sched::{Guide, Move, Proposal};
 use std::alloc::Global;
 
-// The greatest bound that an option can set.
-const MOST: u32 = 10_000;
-
 /// Proposes what may apply by the last changes, and answers `Done` where nothing is left. All that it keeps is its own.
 #[derive(Drop)]
 pub struct Touched<W: Watch> {
@@ -29,12 +26,8 @@ impl<W: Watch> Touched<W> {
         ensures asked { ⟦<Touched<W> as Guide>⟧.asked result ≡ 0 }
         ensures last { ⟦<Touched<W> as Guide>⟧.last result ≡ Done }
     {
-        let modest = Bounds {
-            grow: bounds.grow.min(MOST),
-            expand: bounds.expand.min(MOST),
-        };
         Touched {
-            strategy: Strategy::new(alloc, modest, watch),
+            strategy: Strategy::new(alloc, bounds, watch),
             asked: 0,
             last: Proposal::Done,
             heard: false,

@@ -1,5 +1,5 @@
 use Rattle.std.proofs.Common.{◌∙◌, sym, subst}
-use Rattle.q_logic.specs.declared.rule_bounds.Bounds.{Bounds}
+use Rattle.q_logic.specs.UsualBounds.{usual}
 use Rattle.q_logic.specs.Formulas.{Clause, IsIn}
 use Rattle.q_kernel.proofs.Basics.{some-same}
 use Rattle.q_rule.proofs.Becoming.{change-clause}
@@ -7,17 +7,14 @@ use Rattle.q_blocked.proofs.Stepping.{may-drop_blocked}
 use Rattle.q_blocked.proofs.Results.{changed-blocked_forall}
 use Rattle.q_blocked.proofs.blocked.drop_blocked.Goals as goal
 
-any : Bounds
-any = record { grow = 0; expand = 0 }
-
 pub drop_pivot-requires : goal.drop_pivot-requires
 drop_pivot-requires c =
     let k = c.args.kernel.now in
-    let f = c.requires.fits any in
+    let f = c.requires.fits usual in
     may-drop_blocked k c.args.c f.0 c.sound.ensures f.1 c.args.l f.2 f.3 f.4 f.5 (change-clause k c.args.c f.0 f.1 c.requires.bytes)
 
 pub returns : goal.returns
 returns c =
-    let f = c.requires.fits any in
+    let f = c.requires.fits usual in
     changed-blocked_forall c.args.kernel.now c.drop_pivot.new.self c.args.c c.args.l c.sound.ensures c.requires.limits c.requires.bytes
     (λ C e. subst (λ (x : Clause). IsIn c.args.l x) (some-same f.0 C (sym f.1 ∙ e)) f.2) c.drop_pivot.ensures

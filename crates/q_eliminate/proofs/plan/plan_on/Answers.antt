@@ -37,31 +37,31 @@ counted k l ids others x y s a b e f =
 pub overflow_add-size : goal.overflow_add-size
 overflow_add-size c =
     let n = counted c.args.kernel.now c.args.lit c.args.ids.now c.args.others.now c.weight.result c.weight-2.result c.sound.ensures c.requires.ids c.requires.others c.weight.ensures c.weight-2.ensures in
-    let g = c.requires.bounds.grow in
+    let g = c.args.bounds.now.small_grow in
     omega arith
 
 pub overflow_add-bound : goal.overflow_add-bound
 overflow_add-bound c =
     let n = counted c.args.kernel.now c.args.lit c.args.ids.now c.args.others.now c.weight.result c.weight-2.result c.sound.ensures c.requires.ids c.requires.others c.weight.ensures c.weight-2.ensures in
-    let g = c.requires.bounds.grow in
+    let g = c.args.bounds.now.small_grow in
     omega arith
 
 pub gain_of-requires-clause-small : goal.gain_of-requires-clause-small
 gain_of-requires-clause-small c =
     let n = counted c.args.kernel.now c.args.lit c.args.ids.now c.args.others.now c.weight.result c.weight-2.result c.sound.ensures c.requires.ids c.requires.others c.weight.ensures c.weight-2.ensures in
-    let g = c.requires.bounds.grow in
+    let g = c.args.bounds.now.small_grow in
     omega arith
 
 pub keeps_limits-requires-clause-count : goal.keeps_limits-requires-clause-count
 keeps_limits-requires-clause-count c =
     let n = counted c.args.kernel.now c.args.lit c.args.ids.now c.args.others.now c.weight.result c.weight-2.result c.sound.ensures c.requires.ids c.requires.others c.weight.ensures c.weight-2.ensures in
-    let g = c.requires.bounds.grow in
+    let g = c.args.bounds.now.small_grow in
     omega arith
 
 pub keeps_limits-requires-clause-size : goal.keeps_limits-requires-clause-size
 keeps_limits-requires-clause-size c =
     let n = counted c.args.kernel.now c.args.lit c.args.ids.now c.args.others.now c.weight.result c.weight-2.result c.sound.ensures c.requires.ids c.requires.others c.weight.ensures c.weight-2.ensures in
-    let g = c.requires.bounds.grow in
+    let g = c.args.bounds.now.small_grow in
     omega arith
 
 pub gain_of-requires-clause-live : goal.gain_of-requires-clause-live
@@ -85,7 +85,7 @@ gain_of-requires-clause-plain_others c =
 pub keeps_limits-requires-clause-gain : goal.keeps_limits-requires-clause-gain
 keeps_limits-requires-clause-gain c =
     let n = counted c.args.kernel.now c.args.lit c.args.ids.now c.args.others.now c.weight.result c.weight-2.result c.sound.ensures c.requires.ids c.requires.others c.weight.ensures c.weight-2.ensures in
-    let g = c.requires.bounds.grow in
+    let g = c.args.bounds.now.small_grow in
     let i = rw c.in-Some-2.is at c.in_ok-gain.ensures in
     let r = (gain-told c.args.kernel.now c.args.lit c.args.ids.now c.args.others.now c.requires.ids c.requires.others (c.weight.result + c.weight-2.result + c.args.bounds.now.grow) c.in-Some-2.gain i).2 in
     omega arith

@@ -1,5 +1,6 @@
 use Rattle.std.proofs.Common.{◌≡◌, ◌∙◌, sym, subst}
 use Rattle.q_logic.specs.declared.rule_bounds.Bounds.{Bounds}
+use Rattle.q_logic.specs.UsualBounds.{usual}
 use Rattle.q_logic.specs.Formulas.{Clause, Prefix, IsIn}
 use Rattle.q_logic.specs.Numbered.{Slots}
 use Rattle.q_logic.specs.Rules.{Fits}
@@ -13,11 +14,8 @@ use Rattle.q_rule.proofs.Steps.{may-go_tautology, may-drop_reducible}
 use Rattle.q_rule.proofs.Becoming.{change-clause, changed-tautology, changed-cut, changed-unit}
 use Rattle.q_reduce.proofs.taking.make_change.Goals as goal
 
-none : Bounds
-none = record { grow = 0; expand = 0 }
-
-at : (P : Prefix) (N : Slots) (t u : Target) → t ≡ u → ((B : Bounds) → Fits B P N (target_of t)) → Fits none P N (target_of u)
-at P N t u e f = subst (λ (x : Target). Fits none P N (target_of x)) e (f none)
+at : (P : Prefix) (N : Slots) (t u : Target) → t ≡ u → ((B : Bounds) → Fits B P N (target_of t)) → Fits usual P N (target_of u)
+at P N t u e f = subst (λ (x : Target). Fits usual P N (target_of x)) e (f usual)
 
 pub delete_implied-requires : goal.delete_implied-requires
 delete_implied-requires c =

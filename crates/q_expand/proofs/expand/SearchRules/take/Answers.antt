@@ -4,9 +4,18 @@ use Rattle.q_kernel.specs.Taking.{Applies}
 use Rattle.q_kernel.specs.declared.taken.Taken.TheVariants.{Yes}
 use Rattle.q_rule.specs.Searching.{Tries}
 use Rattle.q_rule.proofs.Answering.{tries-no, tries-yes}
+use Rattle.q_rule.proofs.Results.{applies-view}
 use Rattle.q_expand.specs.Targets.{target_of}
 use Rattle.q_expand.proofs.Viewing.{whole-view}
 use Rattle.q_expand.proofs.expand.SearchRules.take.Goals as goal
+
+pub reserve-requires-clause-applies : goal.reserve-requires-clause-applies
+reserve-requires-clause-applies c = (c.args.bounds.now, c.in_ok-fits.ensures.applies.0 c.if-not-branch.false)
+
+pub take-requires-clause-applies : goal.take-requires-clause-applies
+take-requires-clause-applies c =
+    let a = c.in_ok-fits.ensures.applies.0 c.if-not-branch.false in
+    (c.args.bounds.now, applies-view c.args.bounds.now c.args.kernel.now c.reserve.new.kernel (expand_universal c.variable-u.result) c.in_ok-reserve.ensures.view a)
 
 pub take-requires-clause-whole : goal.take-requires-clause-whole
 take-requires-clause-whole c = whole-view c.args.kernel.now c.reserve.new.kernel c.in_ok-reserve.ensures.view c.variable-u.result c.fits.new.region (c.in_ok-fits.ensures.whole c.if-not-branch.false)
