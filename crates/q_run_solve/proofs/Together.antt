@@ -1,6 +1,8 @@
 -- The parts of the work, together.
 use Rattle.std.proofs.Common.{◌≡◌, ◌≢◌, ◌∙◌, inl, inr, sym, ap, subst, ℕ, List, get_or, true, arith, Option, Some, None, IfSome}
 use Rattle.std.specs.FinMap as map
+use Rattle.q_logic.specs.declared.rule_bounds.Bounds.{Bounds}
+use Rattle.q_logic.specs.UsualBounds.{usual}
 use Rattle.q_logic.specs.Formulas.{PrenexFormula}
 use Rattle.q_logic.specs.Limits.{standard}
 use Rattle.q_io.specs.Files.{Disk, bytes_at}
@@ -32,8 +34,11 @@ in-out e = let h : 73 ≡ 79 = ap (λ (xs : List ℕ). get_or xs 0 0) e in omega
 in-log : in_name ≢ log_name
 in-log e = let h : 73 ≡ 76 = ap (λ (xs : List ℕ). get_or xs 0 0) e in omega (arith, h)
 
-pub simplified-in : (F : PrenexFormula) (m0 m : Disk) (r : Report) → map.get m0 in_name ≡ Some (formula_text F) → Simplifies plain_options F r out_name log_name m0 (Some m) → SomeSimplified F m
-simplified-in F m0 m r e s =
+pub simplified-in : {B : Bounds} (F : PrenexFormula) (m0 m : Disk) (r : Report) → map.get m0 in_name ≡ Some (formula_text F) → B ≡ usual
+    → Simplifies (record { bounds = B; budget = None }) F r out_name log_name m0 (Some m) → SomeSimplified F m
+simplified-in F m0 m r e b given =
+    let s : Simplifies plain_options F r out_name log_name m0 (Some m) =
+    subst (λ (A : Bounds). Simplifies (record { bounds = A; budget = None }) F r out_name log_name m0 (Some m)) b given in
     let same : s.disk ≡ m = (let t : Some m ≡ Some s.disk = s.told in cc) in (
       s.result,
       subst (IsSimplified F s.result) same (record {
