@@ -40,6 +40,10 @@ greatest_bound (b ∷ P) = max b.var (greatest_bound P)
 abbrev pub header_text : ℕ → ℕ → List ℕ
 header_text vars clauses = 112 ∷ 32 ∷ 99 ∷ 110 ∷ 102 ∷ 32 ∷ decimal vars ++ (32 ∷ decimal clauses ++ 10 ∷ [])
 
+-- what stands before the clauses
+abbrev pub front_text : PrenexFormula → List ℕ
+front_text F = header_text (greatest_bound F.prefix) (length F.matrix) ++ blocks_text (blocks F.prefix)
+
 abbrev pub formula_text : PrenexFormula → List ℕ
 formula_text F = header_text (greatest_bound F.prefix) (length F.matrix) ++ (blocks_text (blocks F.prefix) ++ matrix_text F.matrix)
 

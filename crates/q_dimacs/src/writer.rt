@@ -1,7 +1,7 @@
 ghost use Rattle.std.specs.Prelude.{◌≡◌, ◌≤◌, ◌+◌, ◌++◌, ◌∷◌, [], OnOk, OnErr, IsOk, length, vec_len, vec_capacity, Option, Some, None, map};
 ghost use Rattle.q_logic.specs.Literals.{number_of};
 ghost use Rattle.q_text.specs.Numbers.{number_text, numbers_text, line_end};
-ghost use Rattle.q_dimacs.specs.Writing.{quant_text, opening, bound_text, closing, bounds_text, blocks_text, clause_text, matrix_text, greatest_bound, header_text, formula_text};
+ghost use Rattle.q_dimacs.specs.Writing.{quant_text, opening, bound_text, closing, bounds_text, blocks_text, clause_text, matrix_text, greatest_bound, header_text, front_text, formula_text};
 ghost use Rattle.q_text.specs.Texts.{Extends};
 ghost use Rattle.q_logic.specs.Prefixes.{blocks};
 
@@ -29,9 +29,19 @@ fn put_formula(text: &mut Vec<u8>, formula: &Formula) -> Result<(), NoMemory>
     ensures room { vec_len text.old + length (formula_text formula.now) ≤ vec_capacity text.old → IsOk result }
     ensures capacity { vec_capacity text.old ≤ vec_capacity text.new }
 {
-    put_header(text, greatest(formula.prefix()), formula.clauses())?;
-    put_prefix(text, formula.prefix())?;
+    put_front(text, formula)?;
     put_matrix(text, formula)
+}
+
+/// Appends what stands before the clauses: the header, and a line for each block.
+pub fn put_front(text: &mut Vec<u8>, formula: &Formula) -> Result<(), NoMemory>
+    ensures ok { OnOk result (text.new.items ≡ text.old.items ++ front_text formula.now) }
+    ensures err { OnErr result (Extends text.old.items text.new.items) }
+    ensures room { vec_len text.old + length (front_text formula.now) ≤ vec_capacity text.old → IsOk result }
+    ensures capacity { vec_capacity text.old ≤ vec_capacity text.new }
+{
+    put_header(text, greatest(formula.prefix()), formula.clauses())?;
+    put_prefix(text, formula.prefix())
 }
 
 // The greatest variable, or 0.
@@ -129,7 +139,8 @@ fn put_matrix(text: &mut Vec<u8>, formula: &Formula) -> Result<(), NoMemory>
     Ok(())
 }
 
-fn put_clause(text: &mut Vec<u8>, lits: &[Lit]) -> Result<(), NoMemory>
+/// Appends the line of a clause.
+pub fn put_clause(text: &mut Vec<u8>, lits: &[Lit]) -> Result<(), NoMemory>
     ensures ok { OnOk result (text.new.items ≡ text.old.items ++ clause_text lits.now) }
     ensures err { OnErr result (Extends text.old.items text.new.items) }
     ensures room { vec_len text.old + length (clause_text lits.now) ≤ vec_capacity text.old → IsOk result }

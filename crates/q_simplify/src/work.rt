@@ -128,7 +128,7 @@ fn reduce_formula<F: Files>(
 
 /// Simplifies the formula by the rules that there are: sweeps it, and takes one target after another until none
 /// applies or the budget is spent. Each change goes into the log, which is written in pieces; the formula that is left
-/// is written behind it. The formula is let go as soon as the kernel has its clauses.
+/// is written behind it, in pieces too. The formula is let go as soon as the kernel has its clauses.
 pub fn simplify<F: Files>(
     alloc: Global,
     files: &mut F,
