@@ -58,7 +58,7 @@ pub(crate) fn simplify_file<F: Files>(
     match simplify(
         alloc,
         files,
-        &formula,
+        formula,
         names.output,
         names.log,
         options,

@@ -25,15 +25,15 @@ pub struct Reduced {
 // The texts of the formula, of the one that is left, and of the log.
 fn simplify_in_memory(
     alloc: Global,
-    formula: &Formula,
+    formula: Formula,
     guides: Vec<Box<dyn Guide>>,
 ) -> Result<SteadyFiles, NoMemory>
-    requires proper { IsProper formula.now }
-    requires limits { IsInLimits standard formula.now }
-    ensures { IfOk result (SomeSimplified formula.now) }
+    requires proper { IsProper formula }
+    requires limits { IsInLimits standard formula }
+    ensures { IfOk result (SomeSimplified formula) }
 {
     let mut text = Vec::new(alloc);
-    write(formula, &mut text)?;
+    write(&formula, &mut text)?;
     let mut memory = SteadyFiles::new(alloc);
     memory.put_file("IN", &text)?;
     let options = Options {
@@ -70,12 +70,12 @@ fn check_in_memory(alloc: Global, memory: &mut SteadyFiles) -> Result<Checked, N
 /// Simplifies a formula without a budget, and checks the log.
 pub fn reduce(
     alloc: Global,
-    formula: &Formula,
+    formula: Formula,
     guides: Vec<Box<dyn Guide>>,
 ) -> Result<Reduced, NoMemory>
-    requires proper { IsProper formula.now }
-    requires limits { IsInLimits standard formula.now }
-    ensures { IfOk result (IsReducedTo formula.now) }
+    requires proper { IsProper formula }
+    requires limits { IsInLimits standard formula }
+    ensures { IfOk result (IsReducedTo formula) }
 {
     written_within_limits_is_read();
     let mut memory = simplify_in_memory(alloc, formula, guides)?;

@@ -47,7 +47,7 @@ pub fn solve_files<F: Files>(
         Ok(formula) => formula,
         Err(error) => return refused(error),
     };
-    match reduce(alloc, &formula, guides) {
+    match reduce(alloc, formula, guides) {
         Ok(reduced) => settle(alloc, files, names, budget, &reduced),
         Err(_) => Solved::NoMemory,
     }

@@ -5,3 +5,4 @@ pub mod Ends
 pub mod Reducing
 pub mod Finishing
 pub mod Measuring
+pub mod Putting

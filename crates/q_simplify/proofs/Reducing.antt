@@ -1,5 +1,5 @@
 -- The whole work over one kernel.
-use Rattle.std.proofs.Common.{◌≡◌, ◌<◌, ℕ, List, [], ◌∷◌, refl, sym, ap, ◌∙◌, subst, arith, length, inr, unwrap_or, Option}
+use Rattle.std.proofs.Common.{◌≡◌, ◌<◌, ℕ, List, [], ◌∷◌, refl, sym, ap, ◌∙◌, subst, arith, length, inr, unwrap_or, Option, Result, Ok, Err, IfOk}
 use Rattle.q_logic.specs.Formulas.{Matrix, Prefix, PrenexFormula}
 use Rattle.q_logic.specs.Limits.{standard}
 use Rattle.q_logic.specs.InLimits.{IsInLimits}
@@ -60,8 +60,10 @@ reports read o F G j k m last r start d s p q w g b a e =
       readable = read G (subst (λ (H : PrenexFormula). IsProper H) (sym g) w.proper) (subst (λ (H : PrenexFormula). IsInLimits standard H) (sym gk) d.limits);
     }
 
-pub started : (F : PrenexFormula) (k : Seen) → k.prefix ≡ F.prefix → live (slots k) ≡ F.matrix → formula_in k ≡ F
-started F k p m = ap (λ (X : Matrix). formula_of k.prefix X) m ∙ ap (λ (P : Prefix). formula_of P F.matrix) p
+-- the kernel that a formula was made into
+pub started : {E : Type 0} (F : PrenexFormula) (r : Result Seen E) → IfOk r (λ k. k.prefix ≡ F.prefix) → IfOk r (λ k. live (slots k) ≡ F.matrix) → IfOk r (λ k. formula_in k ≡ F)
+started F (Ok k) p m = ap (λ (X : Matrix). formula_of k.prefix X) m ∙ ap (λ (P : Prefix). formula_of P F.matrix) p
+started F (Err e) p m = tt
 
 pub begin-formula_left : (F : PrenexFormula) (name : List ℕ) (before : Disk) (held : Option Disk) → Empties name before held → LeavesLog F name before held
 begin-formula_left F name before held e =

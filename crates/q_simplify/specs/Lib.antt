@@ -2,3 +2,4 @@ pub mod Moves
 pub mod Stops
 pub mod Logs
 pub mod Results
+pub mod Outputs

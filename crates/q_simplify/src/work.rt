@@ -20,7 +20,7 @@ use crate::stop::Stop;
 use q_dimacs::written_within_limits_is_read;
 use q_io::{DeviceError, Files};
 use q_kernel::Kernel;
-use q_logic::{Bounds, Formula};
+use q_logic::{Bounds, Formula, NoMemory};
 use q_sched::Guide;
 use std::alloc::Global;
 
@@ -92,47 +92,56 @@ fn reduce<F: Files>(
     Ok(Reduced { formula, report })
 }
 
-// The same for a formula.
+// The kernel of a formula, which is let go.
+fn kernel_of(alloc: Global, formula: Formula) -> Result<Kernel, NoMemory>
+    requires { IsInLimits standard formula }
+    ensures formula { IfOk result (λ k. formula_in k ≡ formula) }
+    ensures text { IfOk result (λ k. k.text ≡ []) }
+{
+    Kernel::start(alloc, &formula)
+}
+
+// The same for a formula, which is let go before the first step.
 fn reduce_formula<F: Files>(
     alloc: Global,
     files: &mut F,
     log: &str,
-    formula: &Formula,
+    formula: Formula,
     options: &Options,
     guides: Vec<Box<dyn Guide>>,
 ) -> Result<Reduced, DeviceError>
-    requires limits { IsInLimits standard formula.now }
-    ensures report { IfOk result (λ r. IsReport options.now formula.now r.report r.formula) }
+    requires limits { IsInLimits standard formula }
+    ensures report { IfOk result (λ r. IsReport options.now formula r.report r.formula) }
     ensures log { IfOk result (λ r. (before : Disk) → Empties log.now before (F.held files.old) →
-        LeadsTo formula.now r.formula log.now before (F.held files.new)) }
+        LeadsTo formula r.formula log.now before (F.held files.new)) }
     ensures log_left { OnErr result ((before : Disk) → Empties log.now before (F.held files.old) →
-        LeavesLog formula.now log.now before (F.held files.new)) }
+        LeavesLog formula log.now before (F.held files.new)) }
     ensures cause { IsErrOf result DeviceError.Failed → RoseFor F.write_faults log.now files.old files.new }
     ensures later { Later F.read_faults F.write_faults files.old files.new }
 {
-    let mut kernel = Kernel::start(alloc, formula)?;
+    let mut kernel = kernel_of(alloc, formula)?;
     reduce(alloc, files, log, &mut kernel, options, guides)
 }
 
 /// Simplifies the formula by the rules that there are: sweeps it, and takes one target after another until none
 /// applies or the budget is spent. Each change goes into the log, which is written in pieces; the formula that is left
-/// is written behind it.
+/// is written behind it, in pieces too. The formula is let go as soon as the kernel has its clauses.
 pub fn simplify<F: Files>(
     alloc: Global,
     files: &mut F,
-    formula: &Formula,
+    formula: Formula,
     output: &str,
     log: &str,
     options: &Options,
     guides: Vec<Box<dyn Guide>>,
 ) -> Result<Report, DeviceError>
-    requires proper { IsProper formula.now }
-    requires limits { IsInLimits standard formula.now }
+    requires proper { IsProper formula }
+    requires limits { IsInLimits standard formula }
     requires names { output.now ≢ log.now }
     ensures report { IfOk result (λ r. IfSome (F.held files.old) (λ before.
-        Simplifies options.now formula.now r output.now log.now before (F.held files.new))) }
+        Simplifies options.now formula r output.now log.now before (F.held files.new))) }
     ensures left { OnErr result (IfSome (F.held files.old) (λ before.
-        Leaves formula.now output.now log.now before (F.held files.new))) }
+        Leaves formula output.now log.now before (F.held files.new))) }
     ensures cause { IsErrOf result DeviceError.Failed →
         RoseAmong F.write_faults (output.now ∷ log.now ∷ []) files.old files.new }
     ensures later { Later F.read_faults F.write_faults files.old files.new }

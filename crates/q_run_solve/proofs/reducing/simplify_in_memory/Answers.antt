@@ -5,6 +5,6 @@ use Rattle.q_run_solve.proofs.reducing.simplify_in_memory.Goals as goal
 
 pub returns-in-Ok : goal.returns-in-Ok
 returns-in-Ok g c =
-    simplified-in c.args.formula.now c.put_file.new.self c.simplify.new.files c.in-Ok.field-0
-    (c.in_ok-put_file.ensures.stored ∙ ap Some (c.deref.ensures.value ∙ c.in_ok-write.ensures.ok ∙ ap (λ (xs : List ℕ). xs ++ formula_text c.args.formula.now) c.new-text.ensures.items))
+    simplified-in c.args.formula c.put_file.new.self c.simplify.new.files c.in-Ok.field-0
+    (c.in_ok-put_file.ensures.stored ∙ ap Some (c.deref.ensures.value ∙ c.in_ok-write.ensures.ok ∙ ap (λ (xs : List ℕ). xs ++ formula_text c.args.formula) c.new-text.ensures.items))
     c.usual.ensures c.in-Ok.ensures.report

@@ -1,19 +1,28 @@
-use Rattle.std.proofs.Common.{◌≡◌, ◌∙◌, ap, subst, List, ℕ, ◌++◌, IfSome, OnOk, OnErr}
-use Rattle.q_io.specs.Files.{HoldsBytes, MayHoldFront}
+use Rattle.std.proofs.Common.{◌∙◌, ap, List, ℕ, ◌++◌}
 use Rattle.q_io.proofs.Held.{on_err}
-use Rattle.q_io.proofs.Disks.{untouched}
-use Rattle.q_dimacs.specs.Writing.{formula_text}
+use Rattle.q_io.proofs.Disks.{untouched, not_created}
+use Rattle.q_dimacs.specs.Writing.{formula_text, front_text}
+use Rattle.q_simplify.proofs.Putting.{output-stopped, output-last, output-whole, on_both}
+use Rattle.std.proofs.lemmas.Result.{on_err_weaker}
 use Rattle.q_simplify.proofs.output.write_output.Goals as goal
 
-pub returns-in_err-write-clause-part : goal.returns-in_err-write-clause-part
-returns-in_err-write-clause-part g c = on_err _ (untouched c.args.name.now (formula_text c.args.formula.now) (g.F.Files.held c.args.files.now))
+pub returns-in_err-put_front-clause-part : goal.returns-in_err-put_front-clause-part
+returns-in_err-put_front-clause-part g c = on_err _ (untouched c.args.name.now (formula_text c.args.formula.now) (g.F.Files.held c.args.files.now))
+
+pub returns-in_err-create-clause-part : goal.returns-in_err-create-clause-part
+returns-in_err-create-clause-part g c = on_err _ (not_created c.args.name.now (formula_text c.args.formula.now) _ _ c.in_err-create.ensures.err)
+
+pub returns-in_err-put_clauses-clause-part : goal.returns-in_err-put_clauses-clause-part
+returns-in_err-put_clauses-clause-part g c =
+    let text = c.in_ok-put_front.ensures.ok ∙ ap (λ (xs : List ℕ). xs ++ front_text c.args.formula.now) c.new-text.ensures.items in
+    on_err _ (output-stopped c.args.formula.now c.args.name.now c.put_front.new.text.items _ _ _ text c.in_ok-create.ensures.empty c.in_err-put_clauses.ensures.part)
 
 pub returns-clause-whole : goal.returns-clause-whole
 returns-clause-whole g c =
-    let text : c.deref.result.now ≡ formula_text c.args.formula.now = c.deref.ensures.value ∙ (c.in_ok-write.ensures.ok ∙ ap (λ (xs : List ℕ). xs ++ formula_text c.args.formula.now) c.new-text.ensures.items) in
-    subst (λ (xs : List ℕ). OnOk c.write_whole.result (IfSome (g.F.Files.held c.args.files.now) (λ disk. HoldsBytes c.args.name.now xs disk (g.F.Files.held c.write_whole.new.files)))) text c.write_whole.ensures.whole
+    let text = c.in_ok-put_front.ensures.ok ∙ ap (λ (xs : List ℕ). xs ++ front_text c.args.formula.now) c.new-text.ensures.items in
+    on_both c.put_piece.result (λ goes_on short. output-whole c.args.formula.now c.args.name.now c.put_front.new.text.items c.put_clauses.new.text.items c.put_piece.new.text.items _ _ _ _ text c.in_ok-create.ensures.empty c.in_ok-put_clauses.ensures.goes_on goes_on short) c.put_piece.ensures.goes_on c.put_piece.ensures.short
 
 pub returns-clause-part : goal.returns-clause-part
 returns-clause-part g c =
-    let text : c.deref.result.now ≡ formula_text c.args.formula.now = c.deref.ensures.value ∙ (c.in_ok-write.ensures.ok ∙ ap (λ (xs : List ℕ). xs ++ formula_text c.args.formula.now) c.new-text.ensures.items) in
-    subst (λ (xs : List ℕ). OnErr c.write_whole.result (IfSome (g.F.Files.held c.args.files.now) (λ disk. MayHoldFront c.args.name.now xs disk (g.F.Files.held c.write_whole.new.files)))) text c.write_whole.ensures.part
+    let text = c.in_ok-put_front.ensures.ok ∙ ap (λ (xs : List ℕ). xs ++ front_text c.args.formula.now) c.new-text.ensures.items in
+    on_err_weaker c.put_piece.result (λ part. output-last c.args.formula.now c.args.name.now c.put_front.new.text.items c.put_clauses.new.text.items _ _ _ _ text c.in_ok-create.ensures.empty c.in_ok-put_clauses.ensures.goes_on part) c.put_piece.ensures.part

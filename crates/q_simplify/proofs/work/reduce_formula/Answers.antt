@@ -5,19 +5,19 @@ use Rattle.q_io.proofs.Held.{on_err}
 use Rattle.q_logic.specs.Formulas.{PrenexFormula}
 use Rattle.q_simplify.specs.Logs.{LeavesLog}
 use Rattle.q_simplify.specs.Results.{LeadsTo}
-use Rattle.q_simplify.proofs.Reducing.{started, begin-formula_left}
+use Rattle.q_simplify.proofs.Reducing.{begin-formula_left}
 use Rattle.q_simplify.proofs.work.reduce_formula.Goals as goal
 
 pub returns-in_err-kernel-clause-log_left : goal.returns-in_err-kernel-clause-log_left
 returns-in_err-kernel-clause-log_left g c =
-    let left : (before : Disk) → Empties c.args.log.now before (g.F.Files.held c.args.files.now) → LeavesLog c.args.formula.now c.args.log.now before (g.F.Files.held c.args.files.now) =
-    λ before e. begin-formula_left c.args.formula.now c.args.log.now before (g.F.Files.held c.args.files.now) e in
+    let left : (before : Disk) → Empties c.args.log.now before (g.F.Files.held c.args.files.now) → LeavesLog c.args.formula c.args.log.now before (g.F.Files.held c.args.files.now) =
+    λ before e. begin-formula_left c.args.formula c.args.log.now before (g.F.Files.held c.args.files.now) e in
     on_err _ left
 
 pub returns-clause-log : goal.returns-clause-log
 returns-clause-log g c =
-    IfOk-weaker c.reduce.result _ _ (λ r h before e. subst (λ (F : PrenexFormula). LeadsTo F r.formula c.args.log.now before (g.F.Files.held c.reduce.new.files)) (started c.args.formula.now c.in_ok-kernel.kernel c.in_ok-kernel.ensures.prefix c.in_ok-kernel.ensures.matrix) (h before e)) c.reduce.ensures.log
+    IfOk-weaker c.reduce.result _ _ (λ r h before e. subst (λ (F : PrenexFormula). LeadsTo F r.formula c.args.log.now before (g.F.Files.held c.reduce.new.files)) c.in_ok-kernel.ensures.formula (h before e)) c.reduce.ensures.log
 
 pub returns-clause-log_left : goal.returns-clause-log_left
 returns-clause-log_left g c =
-    on_err_weaker c.reduce.result (λ h before e. subst (λ (F : PrenexFormula). LeavesLog F c.args.log.now before (g.F.Files.held c.reduce.new.files)) (started c.args.formula.now c.in_ok-kernel.kernel c.in_ok-kernel.ensures.prefix c.in_ok-kernel.ensures.matrix) (h before e)) c.reduce.ensures.log_left
+    on_err_weaker c.reduce.result (λ h before e. subst (λ (F : PrenexFormula). LeavesLog F c.args.log.now before (g.F.Files.held c.reduce.new.files)) c.in_ok-kernel.ensures.formula (h before e)) c.reduce.ensures.log_left
