@@ -8,7 +8,6 @@ mod input;
 mod judges;
 mod line;
 mod names;
-mod origin;
 mod outcome;
 mod refusals;
 mod seats;
