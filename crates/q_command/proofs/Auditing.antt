@@ -46,10 +46,10 @@ behind-behind : (xs ys : List BothEntry) (o : Entries) → behind xs (behind ys 
 behind-behind xs ys o = ap (λ (es : List BothEntry). let e : Entries = record { entries = es; refused = o.refused } in e) (sym (append_assoc xs ys o.entries))
 
 -- one step more on trial
-pub tried-more : (old new : Trial) (e : BothEntry) (es : List BothEntry) → HasTried e old new → IsBehind old es → IsBehind new (es ++ e ∷ [])
-tried-more old new e es t b =
+pub tried-more : (F : PrenexFormula) (old new : Trial) (e : BothEntry) (es : List BothEntry) → HasTried e old new → IsBehind F old es → IsBehind F new (es ++ e ∷ [])
+tried-more F old new e es t b =
     record {
-      judged = t.behind es b.judged;
+      judged = t.behind F es b.judged;
       counted = omega (arith, t.added.count, b.counted, length-append es (e ∷ []));
       kept = λ k.
           let was : old.taken.keeps ≡ true = sym t.added.keeps ∙ k in
@@ -61,8 +61,8 @@ same_charge old new e t = record { task = t.same; keeps = t.added.keeps }
 
 pub advances_begin : (a : Audit) → IsOpen a → Advances a a []
 advances_begin a o = record {
-  stands = λ front s. subst (λ (xs : List ℕ). Stands a xs) (sym (append-nil front)) s;
-  same = record { task = record { formula = refl; keeps = refl }; keeps = refl };
+  stands = λ F front s. subst (λ (xs : List ℕ). Stands F a xs) (sym (append-nil front)) s;
+  same = record { task = record { keeps = refl }; keeps = refl };
   left = omega arith;
   goes_on = o;
 }
@@ -73,13 +73,13 @@ advances_nothing old new bytes o same next left =
     let count : new.trial.taken.count ≡ old.trial.taken.count = ap (λ (t : Trial). t.taken.count) same in
     let hints : hints_taken new.trial.judges.hinted ≡ hints_taken old.trial.judges.hinted = ap (λ (t : Trial). hints_taken t.judges.hinted) same in
     record {
-      stands = λ front s. record {
+      stands = λ F front s. record {
         entries = s.entries;
         log = λ rest. ap (read_entries standard.bytes) (append_assoc front bytes rest) ∙ (s.log (bytes ++ rest) ∙ ap (behind s.entries) (next rest));
-        steps = subst (λ (t : Trial). IsBehind t s.entries) (sym same) s.steps;
+        steps = subst (λ (t : Trial). IsBehind F t s.entries) (sym same) s.steps;
       };
       same = record {
-        task = record { formula = ap (λ (t : Trial). t.judges.formula) same; keeps = ap (λ (t : Trial). t.judges.keeps_undo) same };
+        task = record { keeps = ap (λ (t : Trial). t.judges.keeps_undo) same };
         keeps = ap (λ (t : Trial). t.taken.keeps) same;
       };
       left = left;
@@ -90,10 +90,10 @@ advances_nothing old new bytes o same next left =
 pub advances_step : (old new : Audit) (bytes : List ℕ) (e : BothEntry) → IsOpen old → 0 < length bytes → HasTried e old.trial new.trial → ((rest : List ℕ) → to_come old.reader (bytes ++ rest) ≡ onto e (to_come new.reader rest)) → new.reader.left + length bytes ≡ old.reader.left → Advances old new bytes
 advances_step old new bytes e o some t next left =
     record {
-      stands = λ front s. record {
+      stands = λ F front s. record {
         entries = s.entries ++ e ∷ [];
         log = λ rest. ap (read_entries standard.bytes) (append_assoc front bytes rest) ∙ (s.log (bytes ++ rest) ∙ (ap (behind s.entries) (next rest) ∙ behind-behind s.entries (e ∷ []) (to_come new.reader rest)));
-        steps = tried-more old.trial new.trial e s.entries t s.steps;
+        steps = tried-more F old.trial new.trial e s.entries t s.steps;
       };
       same = same_charge old.trial new.trial e t;
       left = left;
@@ -124,9 +124,9 @@ advances_taken old r t piece n o e open-now tried q h left w =
 pub advances_more : (a b c : Audit) (xs ys : List ℕ) → Advances a b xs → Advances b c ys → Advances a c (xs ++ ys)
 advances_more a b c xs ys f g =
     record {
-      stands = λ front s. subst (λ (zs : List ℕ). Stands c zs) (append_assoc front xs ys) (g.stands (front ++ xs) (f.stands front s));
+      stands = λ F front s. subst (λ (zs : List ℕ). Stands F c zs) (append_assoc front xs ys) (g.stands F (front ++ xs) (f.stands F front s));
       same = record {
-        task = record { formula = g.same.task.formula ∙ f.same.task.formula; keeps = g.same.task.keeps ∙ f.same.task.keeps };
+        task = record { keeps = g.same.task.keeps ∙ f.same.task.keeps };
         keeps = g.same.keeps ∙ f.same.keeps;
       };
       left = omega (arith, f.left, g.left, length-append xs ys);
@@ -155,9 +155,9 @@ stops_convict (RefusedInput r n c) F log es e o h q = h
 stops_convict ReadFault F log es e o h r = tt
 stops_convict NoMemory F log es e o h r = tt
 
-refuses_step : (a : Audit) (bytes : List ℕ) (w : Outcome) (e : BothEntry) (o : Entries) → ((es : List BothEntry) → AreBehind a.trial.judges es → Convicts w a.trial.judges.formula es e) → to_come a.reader bytes ≡ onto e o → Refuses w a bytes
-refuses_step a bytes w e o h next front s =
-    stops_convict w a.trial.judges.formula (front ++ bytes) s.entries e o (h s.entries s.steps.judged) (s.log bytes ∙ ap (behind s.entries) next)
+refuses_step : (a : Audit) (bytes : List ℕ) (w : Outcome) (e : BothEntry) (o : Entries) → ((F : PrenexFormula) (es : List BothEntry) → AreBehind F a.trial.judges es → Convicts w F es e) → to_come a.reader bytes ≡ onto e o → Refuses w a bytes
+refuses_step a bytes w e o h next F front s =
+    stops_convict w F (front ++ bytes) s.entries e o (h F s.entries s.steps.judged) (s.log bytes ∙ ap (behind s.entries) next)
 
 -- behind the plain steps stands a formula, and behind the others a numbered one
 plain-stand : (keep : Bool) (F : PrenexFormula) (ps : List Entry) (c : Option Checked) → IsBehindPlain keep F ps c → (L : PrenexFormula) × ValidSteps standard F (steps_of ps) L
@@ -168,17 +168,17 @@ hinted-stand : (keep : Bool) (F : PrenexFormula) (hs : List HintedEntry) (c : Op
 hinted-stand keep F hs None h = (begun F, subst (λ (xs : List HintedEntry). AreValid standard (begun F) (hinted_of xs) (begun F)) (sym h) refl)
 hinted-stand keep F hs (Some c) h = (c.formula, h.steps)
 
-offends : (j : Judges) (log : List ℕ) (es : List BothEntry) (e : LogError) (n c : ℕ) → read_entries standard.bytes log ≡ behind es (stopped e) → AreBehind j es → IsOffence (Some e) n c → IsRefusedAt j.formula log n c
-offends j log es e n c r b o =
-    let p = plain-stand j.keeps_undo j.formula (plain_in es) j.plain b.plain in
-    let h = hinted-stand j.keeps_undo j.formula (hinted_in es) j.hinted b.hinted in
+offends : (F : PrenexFormula) (j : Judges) (log : List ℕ) (es : List BothEntry) (e : LogError) (n c : ℕ) → read_entries standard.bytes log ≡ behind es (stopped e) → AreBehind F j es → IsOffence (Some e) n c → IsRefusedAt F log n c
+offends F j log es e n c r b o =
+    let p = plain-stand j.keeps_undo F (plain_in es) j.plain b.plain in
+    let h = hinted-stand j.keeps_undo F (hinted_in es) j.hinted b.hinted in
     let same : behind es (stopped e) ≡ record { entries = es; refused = Some e } = ap (λ (xs : List BothEntry). let x : Entries = record { entries = xs; refused = Some e } in x) (append-nil es) in
-    offends-at j.formula log es (Some e) n c p.0 h.0 (r ∙ same) p.1 h.1 o
+    offends-at F log es (Some e) n c p.0 h.0 (r ∙ same) p.1 h.1 o
 
-pub stops_offence : (w : Outcome) (j : Judges) (text : List ℕ) (es : List BothEntry) (e : LogError) → w ≡ log_refused e → AreBehind j es → (¬ (e ≡ log.NoMemory) → read_entries standard.bytes text ≡ behind es (stopped e)) → Stops w j.formula text
-stops_offence w j text es (log.BadLine n) q b r = subst (λ (x : Outcome). Stops x j.formula text) (sym q) (offends j text es (log.BadLine n) n 1 (r (λ x. cc)) b (refl, refl))
-stops_offence w j text es (log.Limit n) q b r = subst (λ (x : Outcome). Stops x j.formula text) (sym q) (offends j text es (log.Limit n) n 8 (r (λ x. cc)) b (refl, refl))
-stops_offence w j text es log.NoMemory q b r = subst (λ (x : Outcome). Stops x j.formula text) (sym q) tt
+pub stops_offence : (F : PrenexFormula) (w : Outcome) (j : Judges) (text : List ℕ) (es : List BothEntry) (e : LogError) → w ≡ log_refused e → AreBehind F j es → (¬ (e ≡ log.NoMemory) → read_entries standard.bytes text ≡ behind es (stopped e)) → Stops w F text
+stops_offence F w j text es (log.BadLine n) q b r = subst (λ (x : Outcome). Stops x F text) (sym q) (offends F j text es (log.BadLine n) n 1 (r (λ x. cc)) b (refl, refl))
+stops_offence F w j text es (log.Limit n) q b r = subst (λ (x : Outcome). Stops x F text) (sym q) (offends F j text es (log.Limit n) n 8 (r (λ x. cc)) b (refl, refl))
+stops_offence F w j text es log.NoMemory q b r = subst (λ (x : Outcome). Stops x F text) (sym q) tt
 
 -- the reader's answer to a byte
 answered : (e : LogError) (before now : Entries) → reading.Leads (Err e) before now → ¬ (e ≡ log.NoMemory) → before ≡ stopped e
@@ -187,18 +187,18 @@ answered (log.Limit n) before now h k = h.0
 answered log.NoMemory before now h k = absurd (k refl)
 
 pub refuses_offence : (a : Audit) (new : BothState) (piece : List ℕ) (e : LogError) (w : Outcome) → w ≡ log_refused e → reading.Passes (Err e) a.reader new piece → (rest : List ℕ) → Refuses w a (piece ++ rest)
-refuses_offence a new piece e w q (n, h) rest front s =
+refuses_offence a new piece e w q (n, h) rest F front s =
     let all : take n piece ++ (drop n piece ++ rest) ≡ piece ++ rest = front-of n piece rest in
-    subst (λ (xs : List ℕ). Stops w a.trial.judges.formula (front ++ xs)) all
-    (stops_offence w a.trial.judges (front ++ (take n piece ++ (drop n piece ++ rest))) s.entries e q s.steps.judged
+    subst (λ (xs : List ℕ). Stops w F (front ++ xs)) all
+    (stops_offence F w a.trial.judges (front ++ (take n piece ++ (drop n piece ++ rest))) s.entries e q s.steps.judged
     (λ k. s.log (take n piece ++ (drop n piece ++ rest)) ∙ ap (behind s.entries) (answered e (to_come a.reader (take n piece ++ (drop n piece ++ rest))) (to_come new (drop n piece ++ rest)) (h (drop n piece ++ rest)) k)))
 
 -- a step that the front of a piece makes whole
-pub refuses_piece : (a : Audit) (piece : List ℕ) (n : ℕ) (w : Outcome) (e : BothEntry) (now : List ℕ → Entries) → ((es : List BothEntry) → AreBehind a.trial.judges es → Convicts w a.trial.judges.formula es e) → ((rest : List ℕ) → to_come a.reader (take n piece ++ rest) ≡ onto e (now rest)) → (rest : List ℕ) → Refuses w a (piece ++ rest)
+pub refuses_piece : (a : Audit) (piece : List ℕ) (n : ℕ) (w : Outcome) (e : BothEntry) (now : List ℕ → Entries) → ((F : PrenexFormula) (es : List BothEntry) → AreBehind F a.trial.judges es → Convicts w F es e) → ((rest : List ℕ) → to_come a.reader (take n piece ++ rest) ≡ onto e (now rest)) → (rest : List ℕ) → Refuses w a (piece ++ rest)
 refuses_piece a piece n w e now h next rest =
     subst (λ (xs : List ℕ). Refuses w a xs) (front-of n piece rest) (refuses_step a (take n piece ++ (drop n piece ++ rest)) w e (now (drop n piece ++ rest)) h (next (drop n piece ++ rest)))
 
-pub refuses_last : (a : Audit) (w : Outcome) (e : BothEntry) → ((es : List BothEntry) → AreBehind a.trial.judges es → Convicts w a.trial.judges.formula es e) → to_come a.reader [] ≡ onto e finished → Refuses w a []
+pub refuses_last : (a : Audit) (w : Outcome) (e : BothEntry) → ((F : PrenexFormula) (es : List BothEntry) → AreBehind F a.trial.judges es → Convicts w F es e) → to_come a.reader [] ≡ onto e finished → Refuses w a []
 refuses_last a w e h next = refuses_step a [] w e finished h next
 
 -- and to the end
@@ -208,15 +208,14 @@ ended-by (log.Limit n) before h k = h
 ended-by log.NoMemory before h k = absurd (k refl)
 
 pub refuses_end : (a : Audit) (e : LogError) (w : Outcome) → w ≡ log_refused e → reading.Ends (Err e) (to_come a.reader []) → Refuses w a []
-refuses_end a e w q h front s =
-    stops_offence w a.trial.judges (front ++ []) s.entries e q s.steps.judged
+refuses_end a e w q h F front s =
+    stops_offence F w a.trial.judges (front ++ []) s.entries e q s.steps.judged
     (λ k. s.log [] ∙ ap (behind s.entries) (ended-by e (to_come a.reader []) h k))
 
 -- a refusal within bytes that follow others
 refuses_later : (a b : Audit) (xs ys : List ℕ) (w : Outcome) → Advances a b xs → Refuses w b ys → Refuses w a (xs ++ ys)
-refuses_later a b xs ys w f r front s =
-    subst (λ (F : PrenexFormula). Stops w F (front ++ (xs ++ ys))) f.same.task.formula
-    (subst (λ (zs : List ℕ). Stops w b.trial.judges.formula zs) (append_assoc front xs ys) (r (front ++ xs) (f.stands front s)))
+refuses_later a b xs ys w f r F front s =
+    subst (λ (zs : List ℕ). Stops w F zs) (append_assoc front xs ys) (r F (front ++ xs) (f.stands F front s))
 
 -- bytes of a piece are refused, behind the bytes before them
 pub refuses_from : (a b : Audit) (piece : List ℕ) (i : ℕ) (w : Outcome) → Advances a b (take i piece) → ((rest : List ℕ) → Refuses w b (drop i piece ++ rest)) → (rest : List ℕ) → Refuses w a (piece ++ rest)
@@ -260,20 +259,20 @@ refuses_whole file place first old w f r = subst (λ xs. Refuses w first xs) (ta
 -- the log ends without a step more, or with one
 pub ended_now : (a : Audit) → to_come a.reader [] ≡ finished → HasEnded a a.trial
 ended_now a e = record {
-  all = λ log s. record {
+  all = λ F log s. record {
     entries = s.entries;
     is_log = ap (read_entries standard.bytes) (sym (append-nil log)) ∙ (s.log [] ∙ (ap (behind s.entries) e ∙ ap (λ (xs : List BothEntry). let x : Entries = record { entries = xs; refused = None } in x) (append-nil s.entries)));
     steps = s.steps;
   };
-  same = record { task = record { formula = refl; keeps = refl }; keeps = refl };
+  same = record { task = record { keeps = refl }; keeps = refl };
 }
 
 pub ended_step : (a : Audit) (t : Trial) (e : BothEntry) → HasTried e a.trial t → to_come a.reader [] ≡ onto e finished → HasEnded a t
 ended_step a t e h r = record {
-  all = λ log s. record {
+  all = λ F log s. record {
     entries = s.entries ++ e ∷ [];
     is_log = ap (read_entries standard.bytes) (sym (append-nil log)) ∙ (s.log [] ∙ ap (behind s.entries) r);
-    steps = tried-more a.trial t e s.entries h s.steps;
+    steps = tried-more F a.trial t e s.entries h s.steps;
   };
   same = same_charge a.trial t e h;
 }

@@ -22,13 +22,15 @@ use Rattle.q_command.specs.Logs.{Entry, HintedEntry, steps_of, hinted_of, IsFirs
 use Rattle.q_command.proofs.Wholes.{second, not-both-profiles, run_of}
 use Rattle.q_command.specs.Statuses.{status_of}
 use Rattle.q_command.specs.declared.audit.Keep.{Keep}
-use Rattle.q_command.specs.declared.checking.Checked.{Checked}
+use Rattle.q_command.specs.declared.audit.Passed.{Passed}
+use Rattle.q_command.specs.declared.checking.Ends.{Ends}
+use Rattle.q_command.specs.Audits.{LogIsTaken}
 use Rattle.q_command.specs.declared.outcome.Role.TheVariants.{In, Out}
 use Rattle.q_command.specs.declared.outcome.Outcome.{Outcome}
 use Rattle.q_command.specs.declared.outcome.Outcome.TheVariants.{Verified, RefusedLine, RefusedEnd, RefusedInput, ReadFault, NoMemory}
 use Rattle.q_command.specs.declared.status.Status.{Status}
 use Rattle.q_command.specs.declared.status.Status.TheVariants as status
-use Rattle.q_command.specs.Checks.{IsFileOf, IsNoFormula, FilesPass, OfFormulas, IsRunLog, LeadsTo, IsPlainWay, IsHintedWay, EndsElsewhere, Checks, IsVerified, IsNoRun, HaveOneTruth, IfVerified, IsUnverified, MayCome, AnswersExactly}
+use Rattle.q_command.specs.Checks.{AreEnds, IsFileOf, IsNoFormula, OfFormulas, IsRunLog, LeadsTo, IsPlainWay, IsHintedWay, EndsElsewhere, Checks, IsVerified, IsNoRun, HaveOneTruth, IfVerified, IsUnverified, MayCome, AnswersExactly}
 
 -- a file has one formula, or an offence
 pub one_formula : (bytes : List ℕ) (F G : PrenexFormula) → IsFileOf bytes F → IsFileOf bytes G → F ≡ G
@@ -160,11 +162,12 @@ one_truth : (i o : List ℕ) (F G : PrenexFormula) → IsFileOf i F → IsFileOf
 one_truth i o F G f g t A B a b =
     subst (λ (H : PrenexFormula). Holds H ↔ Holds B) (one_formula i F A f a) (subst (λ (H : PrenexFormula). Holds F ↔ Holds H) (one_formula o G B g b) t)
 
-pub truth_files : {D : Type 0} (keep : Keep) (h : Option D) (i o l : D → List ℕ) (c : Checked) → IsFormula c.from → IfSome h (λ d. FilesPass keep (i d) (o d) (l d) c) → IfSome h (λ d. HaveOneTruth (i d) (o d))
-truth_files keep None i o l c f p = tt
-truth_files keep (Some d) i o l c f p =
-    one_truth (i d) (o d) c.from c.to p.is_input p.is_output
-    (run-true_to c.from (steps_of p.log.entries) c.to f (Run-justified c.from (steps_of p.log.entries) c.to (run_of (l d) c.from c.to p.log.entries p.log.leads)))
+-- the formulas of IN and OUT, and a log that leads from one to the other
+pub truth_taken : {D : Type 0} (keep : Keep) (h : Option D) (i o l : D → List ℕ) (e : Ends) (p : Passed) → IsFormula e.from → IfSome h (λ d. AreEnds (i d) (o d) e) → IfSome h (λ d. LogIsTaken keep (l d) e.from e.to p) → IfSome h (λ d. HaveOneTruth (i d) (o d))
+truth_taken keep None i o l e p f g t = tt
+truth_taken keep (Some d) i o l e p f g t =
+    one_truth (i d) (o d) e.from e.to g.is_input g.is_output
+    (run-true_to e.from (steps_of t.passes.entries) e.to f (Run-justified e.from (steps_of t.passes.entries) e.to (run_of (l d) e.from e.to t.passes.entries t.passes.leads)))
 
 pub at_some : {X : Type 0} (P : X → Type 0) (o : Option X) (p : X) → Some p ≡ o → P p → IfSome o P
 at_some P o p e h = subst (λ x. IfSome x P) e h

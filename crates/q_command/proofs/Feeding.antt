@@ -107,3 +107,7 @@ on_ok (Err e) p h = tt
 pub err_then : {T E : Type 0} {P Q : E → Type 0} (r : Result T E) → IfErr r P → ((e : E) → P e → Q e) → IfErr r Q
 err_then (Ok t) p h = tt
 err_then (Err e) p h = h e p
+
+pub on_both : {T E P Q R : Type 0} (r : Result T E) → OnOk r P → OnOk r Q → (P → Q → R) → OnOk r R
+on_both (Ok x) p q h = h p q
+on_both (Err e) p q h = tt

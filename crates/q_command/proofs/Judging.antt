@@ -22,7 +22,7 @@ use Rattle.q_check.specs.HintChecks.{HintChecked, IsHintRefusal}
 use Rattle.q_check.proofs.Runs.{leads_begin, leads_more, leads_undos}
 use Rattle.q_command.specs.Logs.{Entry, HintedEntry, steps_of, hinted_of, EndsApart}
 use Rattle.q_command.specs.Judging.{AreBehind, ArePure, IsMade, SameTask, IsBehindPlain, IsBehindHinted, HasTakenPlain, HasTakenHinted, IsBadPlain, IsBadHinted, HavePassedPlain, HaveEndedPlain, HaveStoppedPlain, HavePassed, HaveStopped, Leaves, plain_in, bare}
-use Rattle.q_command.specs.Seats.{IsReadyPlain, IsReadyHinted, IsNewPlain, new_hinted, HasSteppedPlain, HasSteppedHinted, IsEndedPlain, IsEndedHinted, hints_taken}
+use Rattle.q_command.specs.Seats.{IsHeld, IsReadyPlain, IsReadyHinted, IsNewPlain, new_hinted, HasSteppedPlain, HasSteppedHinted, IsEndedPlain, IsEndedHinted, hints_taken}
 use Rattle.q_command.specs.declared.judges.Judges.{Judges}
 use Rattle.q_command.proofs.Entries.{plain_in-append, hinted_in-append, steps_of-append, hinted_of-append, strip-append, hinted_in-plain, bare-plain, bare-hinted, stripped-steps, only-plain}
 
@@ -137,27 +137,29 @@ hinted-wrong-first keep F hs s t c (Refused n) z q r = record {
 hinted-wrong-first keep F hs s t c NoMemory z q r = tt
 
 -- a step goes to the checker of its profile
-pub behind-plain : (old new : Judges) (es : List BothEntry) (n : ℕ) (s : ProofStep) → ((ps : List Entry) → (line : ℕ) → IsBehindPlain old.keeps_undo old.formula ps old.plain → IsBehindPlain old.keeps_undo old.formula (ps ++ (line, s) ∷ []) new.plain) → SameTask old new → new.hinted ≡ old.hinted → AreBehind old es → AreBehind new (es ++ (n, s, None) ∷ [])
-behind-plain old new es n s f same h b =
-    let p : IsBehindPlain old.keeps_undo old.formula (plain_in es ++ (n, s) ∷ []) new.plain = f (plain_in es) n b.plain in
-    let q : IsBehindPlain old.keeps_undo old.formula (plain_in (es ++ (n, s, None) ∷ [])) new.plain = subst (λ (ps : List Entry). IsBehindPlain old.keeps_undo old.formula ps new.plain) (sym (plain_in-append es ((n, s, None) ∷ []))) p in
+pub behind-plain : (F : PrenexFormula) (old new : Judges) (es : List BothEntry) (n : ℕ) (s : ProofStep) → ((ps : List Entry) → (line : ℕ) → IsBehindPlain old.keeps_undo F ps old.plain → IsBehindPlain old.keeps_undo F (ps ++ (line, s) ∷ []) new.plain) → IsHeld F new.origin → SameTask old new → new.hinted ≡ old.hinted → AreBehind F old es → AreBehind F new (es ++ (n, s, None) ∷ [])
+behind-plain F old new es n s f held same h b =
+    let p : IsBehindPlain old.keeps_undo F (plain_in es ++ (n, s) ∷ []) new.plain = f (plain_in es) n b.plain in
+    let q : IsBehindPlain old.keeps_undo F (plain_in (es ++ (n, s, None) ∷ [])) new.plain = subst (λ (ps : List Entry). IsBehindPlain old.keeps_undo F ps new.plain) (sym (plain_in-append es ((n, s, None) ∷ []))) p in
     let i : hinted_in (es ++ (n, s, None) ∷ []) ≡ hinted_in es = hinted_in-append es ((n, s, None) ∷ []) ∙ append-nil (hinted_in es) in
-    let j : IsBehindHinted old.keeps_undo old.formula (hinted_in (es ++ (n, s, None) ∷ [])) new.hinted = subst (λ (o : Option HintChecked). IsBehindHinted old.keeps_undo old.formula (hinted_in (es ++ (n, s, None) ∷ [])) o) (sym h) (subst (λ (hs : List HintedEntry). IsBehindHinted old.keeps_undo old.formula hs old.hinted) (sym i) b.hinted) in
+    let j : IsBehindHinted old.keeps_undo F (hinted_in (es ++ (n, s, None) ∷ [])) new.hinted = subst (λ (o : Option HintChecked). IsBehindHinted old.keeps_undo F (hinted_in (es ++ (n, s, None) ∷ [])) o) (sym h) (subst (λ (hs : List HintedEntry). IsBehindHinted old.keeps_undo F hs old.hinted) (sym i) b.hinted) in
     record {
-      plain = subst (λ (k : Bool). IsBehindPlain k new.formula (plain_in (es ++ (n, s, None) ∷ [])) new.plain) (sym same.keeps) (subst (λ (F : PrenexFormula). IsBehindPlain old.keeps_undo F (plain_in (es ++ (n, s, None) ∷ [])) new.plain) (sym same.formula) q);
-      hinted = subst (λ (k : Bool). IsBehindHinted k new.formula (hinted_in (es ++ (n, s, None) ∷ [])) new.hinted) (sym same.keeps) (subst (λ (F : PrenexFormula). IsBehindHinted old.keeps_undo F (hinted_in (es ++ (n, s, None) ∷ [])) new.hinted) (sym same.formula) j);
+      origin = held;
+      plain = subst (λ (k : Bool). IsBehindPlain k F (plain_in (es ++ (n, s, None) ∷ [])) new.plain) (sym same.keeps) q;
+      hinted = subst (λ (k : Bool). IsBehindHinted k F (hinted_in (es ++ (n, s, None) ∷ [])) new.hinted) (sym same.keeps) j;
     }
 
-pub behind-hinted : (old new : Judges) (es : List BothEntry) (n : ℕ) (s : ProofStep) (t : ProofPart) → ((hs : List HintedEntry) → (line : ℕ) → IsBehindHinted old.keeps_undo old.formula hs old.hinted → IsBehindHinted old.keeps_undo old.formula (hs ++ (line, record { step = s; proof = t }) ∷ []) new.hinted) → SameTask old new → new.plain ≡ old.plain → AreBehind old es → AreBehind new (es ++ (n, s, Some t) ∷ [])
-behind-hinted old new es n s t f same h b =
+pub behind-hinted : (F : PrenexFormula) (old new : Judges) (es : List BothEntry) (n : ℕ) (s : ProofStep) (t : ProofPart) → ((hs : List HintedEntry) → (line : ℕ) → IsBehindHinted old.keeps_undo F hs old.hinted → IsBehindHinted old.keeps_undo F (hs ++ (line, record { step = s; proof = t }) ∷ []) new.hinted) → IsHeld F new.origin → SameTask old new → new.plain ≡ old.plain → AreBehind F old es → AreBehind F new (es ++ (n, s, Some t) ∷ [])
+behind-hinted F old new es n s t f held same h b =
     let more : List BothEntry = es ++ (n, s, Some t) ∷ [] in
-    let p : IsBehindHinted old.keeps_undo old.formula (hinted_in es ++ (n, record { step = s; proof = t }) ∷ []) new.hinted = f (hinted_in es) n b.hinted in
-    let q : IsBehindHinted old.keeps_undo old.formula (hinted_in more) new.hinted = subst (λ (hs : List HintedEntry). IsBehindHinted old.keeps_undo old.formula hs new.hinted) (sym (hinted_in-append es ((n, s, Some t) ∷ []))) p in
+    let p : IsBehindHinted old.keeps_undo F (hinted_in es ++ (n, record { step = s; proof = t }) ∷ []) new.hinted = f (hinted_in es) n b.hinted in
+    let q : IsBehindHinted old.keeps_undo F (hinted_in more) new.hinted = subst (λ (hs : List HintedEntry). IsBehindHinted old.keeps_undo F hs new.hinted) (sym (hinted_in-append es ((n, s, Some t) ∷ []))) p in
     let i : plain_in more ≡ plain_in es = plain_in-append es ((n, s, Some t) ∷ []) ∙ append-nil (plain_in es) in
-    let j : IsBehindPlain old.keeps_undo old.formula (plain_in more) new.plain = subst (λ (o : Option Checked). IsBehindPlain old.keeps_undo old.formula (plain_in more) o) (sym h) (subst (λ (ps : List Entry). IsBehindPlain old.keeps_undo old.formula ps old.plain) (sym i) b.plain) in
+    let j : IsBehindPlain old.keeps_undo F (plain_in more) new.plain = subst (λ (o : Option Checked). IsBehindPlain old.keeps_undo F (plain_in more) o) (sym h) (subst (λ (ps : List Entry). IsBehindPlain old.keeps_undo F ps old.plain) (sym i) b.plain) in
     record {
-      plain = subst (λ (k : Bool). IsBehindPlain k new.formula (plain_in more) new.plain) (sym same.keeps) (subst (λ (F : PrenexFormula). IsBehindPlain old.keeps_undo F (plain_in more) new.plain) (sym same.formula) j);
-      hinted = subst (λ (k : Bool). IsBehindHinted k new.formula (hinted_in more) new.hinted) (sym same.keeps) (subst (λ (F : PrenexFormula). IsBehindHinted old.keeps_undo F (hinted_in more) new.hinted) (sym same.formula) q);
+      origin = held;
+      plain = subst (λ (k : Bool). IsBehindPlain k F (plain_in more) new.plain) (sym same.keeps) j;
+      hinted = subst (λ (k : Bool). IsBehindHinted k F (hinted_in more) new.hinted) (sym same.keeps) q;
     }
 
 -- what is in a place that is ready
@@ -232,14 +234,15 @@ pub memory-hinted : (F : PrenexFormula) (s : ProofStep) (t : ProofPart) (e : Che
 memory-hinted F s t e z hs = subst (λ (x : CheckError). IsBadHinted F hs s t x) (sym z) tt
 
 -- before the first step
-pub made-behind : (F : PrenexFormula) (keep : Bool) (j : Judges) → IsMade F keep j → AreBehind j []
-made-behind F keep j m = record {
-  plain = subst (λ (o : Option Checked). IsBehindPlain j.keeps_undo j.formula [] o) (sym m.plain) refl;
-  hinted = subst (λ (o : Option HintChecked). IsBehindHinted j.keeps_undo j.formula [] o) (sym m.hinted) refl;
+pub made-behind : (F : PrenexFormula) (origin : Option PrenexFormula) (keep : Bool) (j : Judges) → IsHeld F origin → IsMade origin keep j → AreBehind F j []
+made-behind F origin keep j held m = record {
+  origin = subst (λ (o : Option PrenexFormula). IsHeld F o) (sym m.origin_is) held;
+  plain = subst (λ (o : Option Checked). IsBehindPlain j.keeps_undo F [] o) (sym m.plain) refl;
+  hinted = subst (λ (o : Option HintChecked). IsBehindHinted j.keeps_undo F [] o) (sym m.hinted) refl;
 }
 
-pub made-hints : (F : PrenexFormula) (keep : Bool) (j : Judges) → IsMade F keep j → hints_taken j.hinted ≡ 0
-made-hints F keep j m = ap hints_taken m.hinted
+pub made-hints : (origin : Option PrenexFormula) (keep : Bool) (j : Judges) → IsMade origin keep j → hints_taken j.hinted ≡ 0
+made-hints origin keep j m = ap hints_taken m.hinted
 
 -- the end
 pub same_last : (E f G : PrenexFormula) → AreAlike E f → SameFormula f G → SameFormula E G
@@ -363,3 +366,24 @@ plain-passed keep F es o G r us z b h e =
 pub plain-stopped : (keep : Bool) (F : PrenexFormula) (es : List BothEntry) (o : Option Checked) (G : PrenexFormula) (r : Result Verified CheckError) (w : CheckError) → hinted_in es ≡ [] → IsBehindPlain keep F (plain_in es) o → IfErr r (λ x. (k : Bool) → (ps : List Entry) → IsBehindPlain k F ps o → HaveStoppedPlain F ps G x) → r ≡ Err w → HaveStopped F es G w
 plain-stopped keep F es o G r w z b h e =
     all-plain-stops F es G w z ((subst (λ (y : Result Verified CheckError). IfErr y (λ x. (k : Bool) → (ps : List Entry) → IsBehindPlain k F ps o → HaveStoppedPlain F ps G x)) e h) keep (plain_in es) b)
+
+-- what is said for each formula that the place may hold
+pub held-ok : (o : Option PrenexFormula) (r : Result Unit CheckError) (P : PrenexFormula → Type 0) → ((F : PrenexFormula) → IsHeld F o → OnOk r (P F)) → OnOk r ((F : PrenexFormula) → IsHeld F o → P F)
+held-ok o (Ok u) P f = f
+held-ok o (Err e) P f = tt
+
+pub held-err : (o : Option PrenexFormula) (r : Result Unit CheckError) (P : CheckError → PrenexFormula → Type 0) → ((F : PrenexFormula) → IsHeld F o → IfErr r (λ e. P e F)) → IfErr r (λ e. (F : PrenexFormula) → IsHeld F o → P e F)
+held-err o (Ok u) P f = tt
+held-err o (Err e) P f = f
+
+-- the formula that is held
+pub is-held : (F G : PrenexFormula) (o : Option PrenexFormula) → o ≡ Some G → IsHeld F o → G ≡ F
+is-held F G o e h = subst (λ (x : Option PrenexFormula). IsHeld F x) e h
+
+pub ended-held : (o : Option PrenexFormula) (r : Result Verified CheckError) (P : Verified → PrenexFormula → Type 0) → ((F : PrenexFormula) → IsHeld F o → IfOk r (λ v. P v F)) → IfOk r (λ v. (F : PrenexFormula) → IsHeld F o → P v F)
+ended-held o (Ok v) P f = f
+ended-held o (Err e) P f = tt
+
+pub stopped-held : (o : Option PrenexFormula) (r : Result Verified CheckError) (P : CheckError → PrenexFormula → Type 0) → ((F : PrenexFormula) → IsHeld F o → IfErr r (λ e. P e F)) → IfErr r (λ e. (F : PrenexFormula) → IsHeld F o → P e F)
+stopped-held o (Ok v) P f = tt
+stopped-held o (Err e) P f = f

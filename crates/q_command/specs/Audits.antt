@@ -1,5 +1,5 @@
 -- A log that is tried while it is read: what some bytes of it do, and what its end says.
-use Rattle.std.specs.Prelude.{◌≡◌, ◌≤◌, ◌+◌, ℕ, true, List, [], ◌++◌, length, take, drop, None}
+use Rattle.std.specs.Prelude.{◌≡◌, ◌≤◌, ◌+◌, ℕ, true, List, [], ◌++◌, length, take, drop, None, Some}
 use Rattle.q_logic.specs.Formulas.{PrenexFormula}
 use Rattle.q_logic.specs.Limits.{standard}
 use Rattle.q_hinted.specs.Logs.{Entry as BothEntry, read_entries, behind}
@@ -7,12 +7,13 @@ use Rattle.q_hinted.specs.Reading.{to_come}
 use Rattle.q_command.specs.Checks.{LogPasses, LogSays}
 use Rattle.q_command.specs.Taken.{entries_of}
 use Rattle.q_command.specs.Judging.{SameTask}
-use Rattle.q_command.specs.Seats.{hints_taken}
+use Rattle.q_command.specs.Seats.{IsHeld, hints_taken}
 use Rattle.q_command.specs.Logs.{IsRefusedAt}
 use Rattle.q_command.specs.Trials.{IsBehind}
 use Rattle.q_command.specs.declared.audit.Audit.{Audit}
 use Rattle.q_command.specs.declared.audit.Keep.{Keep}
 use Rattle.q_command.specs.declared.audit.Passed.{Passed}
+use Rattle.q_command.specs.declared.checking.Checked.{Checked}
 use Rattle.q_command.specs.declared.trial.Trial.{Trial}
 use Rattle.q_command.specs.declared.outcome.Outcome.{Outcome}
 use Rattle.q_command.specs.declared.outcome.Outcome.TheVariants.{Verified, RefusedLine, RefusedEnd, RefusedInput, ReadFault, NoMemory}
@@ -22,20 +23,20 @@ pub record IsOpen (a : Audit) : Type 0 where
   pub room : a.trial.taken.count + a.reader.left ≤ 1099511627776
   pub hints : hints_taken a.trial.judges.hinted ≤ a.trial.taken.count
 
--- these bytes of the log are read, and all steps in them were tried
-pub record Stands (a : Audit) (bytes : List ℕ) : Type 0 where
+-- these bytes of a log from the formula F are read, and all steps in them were tried
+pub record Stands (F : PrenexFormula) (a : Audit) (bytes : List ℕ) : Type 0 where
   pub entries : List BothEntry
   pub log : (rest : List ℕ) → read_entries standard.bytes (bytes ++ rest) ≡ behind entries (to_come a.reader rest)
-  pub steps : IsBehind a.trial entries
+  pub steps : IsBehind F a.trial entries
 
--- the formula, and what is kept
+-- what is kept
 pub record SameCharge (old new : Trial) : Type 0 where
   pub task : SameTask old.judges new.judges
   pub keeps : new.taken.keeps ≡ old.taken.keeps
 
 -- these bytes more are read
 pub record Advances (old new : Audit) (bytes : List ℕ) : Type 0 where
-  pub stands : (front : List ℕ) → Stands old front → Stands new (front ++ bytes)
+  pub stands : (F : PrenexFormula) (front : List ℕ) → Stands F old front → Stands F new (front ++ bytes)
   pub same : SameCharge old.trial new.trial
   pub left : new.reader.left + length bytes ≡ old.reader.left
   pub goes_on : IsOpen new
@@ -51,7 +52,7 @@ Stops NoMemory F log = Unit {0}
 
 -- it is so of the log that has these bytes behind those that are read
 abbrev pub Refuses : Outcome → Audit → List ℕ → Type 0
-Refuses o a bytes = (front : List ℕ) → Stands a front → Stops o a.trial.judges.formula (front ++ bytes)
+Refuses o a bytes = (F : PrenexFormula) (front : List ℕ) → Stands F a front → Stops o F (front ++ bytes)
 
 -- n bytes of the file were tried, from a place on
 pub record HasTaken (file : List ℕ) (place n : ℕ) (old new : Audit) : Type 0 where
@@ -60,46 +61,50 @@ pub record HasTaken (file : List ℕ) (place n : ℕ) (old new : Audit) : Type 0
   pub end : n ≡ 0 → length file ≤ place
 
 -- these are all steps of the log, and they were tried
-pub record IsAllOf (log : List ℕ) (t : Trial) : Type 0 where
+pub record IsAllOf (F : PrenexFormula) (log : List ℕ) (t : Trial) : Type 0 where
   pub entries : List BothEntry
   pub is_log : read_entries standard.bytes log ≡ record { entries = entries; refused = None }
-  pub steps : IsBehind t entries
+  pub steps : IsBehind F t entries
 
 -- the log has come to its end
 pub record HasEnded (a : Audit) (t : Trial) : Type 0 where
-  pub all : (log : List ℕ) → Stands a log → IsAllOf log t
+  pub all : (F : PrenexFormula) (log : List ℕ) → Stands F a log → IsAllOf F log t
   pub same : SameCharge a.trial t
 
 abbrev pub kept_by : Trial → Keep
 kept_by t = record { undo = t.judges.keeps_undo; steps = t.taken.keeps }
 
--- this is left of the log: the formula F, how many steps there are, and on demand their undo list and they themselves
+-- this is left of the log: on demand the formula F, how many steps there are, and on demand their undo list and they themselves
 pub record LogIsTaken (keep : Keep) (log : List ℕ) (F G : PrenexFormula) (p : Passed) : Type 0 where
-  pub from : p.from ≡ F
+  pub origin : IsHeld F p.origin
   pub passes : LogPasses keep.undo log F G p.steps p.undo
   pub taken : keep.steps ≡ true → entries_of p.taken.items ≡ passes.entries
 
 -- what is left of a log whose steps were all tried
 abbrev pub HasLeft : Trial → PrenexFormula → Passed → Type 0
-HasLeft t G p = (log : List ℕ) → IsAllOf log t → LogIsTaken (kept_by t) log t.judges.formula G p
+HasLeft t G p = (F : PrenexFormula) (log : List ℕ) → IsAllOf F log t → LogIsTaken (kept_by t) log F G p
 
 -- what is said of a log whose steps were all tried
 abbrev pub HasFailed : Outcome → Trial → PrenexFormula → Type 0
-HasFailed o t G = (log : List ℕ) → IsAllOf log t → LogSays o t.judges.formula G log
+HasFailed o t G = (F : PrenexFormula) (log : List ℕ) → IsAllOf F log t → LogSays o F G log
 
 -- the log ends in the output G, and this is left
 abbrev pub Passes : Audit → PrenexFormula → Passed → Type 0
-Passes a G p = (log : List ℕ) → Stands a log → LogIsTaken (kept_by a.trial) log a.trial.judges.formula G p
+Passes a G p = (F : PrenexFormula) (log : List ℕ) → Stands F a log → LogIsTaken (kept_by a.trial) log F G p
 
 -- what is said at the end, where the log does not end in the output G
 abbrev pub Concludes : Outcome → Audit → PrenexFormula → Type 0
-Concludes o a G = (log : List ℕ) → Stands a log → LogSays o a.trial.judges.formula G log
+Concludes o a G = (F : PrenexFormula) (log : List ℕ) → Stands F a log → LogSays o F G log
 
 -- nothing is read yet, the log begins with the formula, and it is told what to keep
 pub record IsStarted (a : Audit) (keep : Keep) (F : PrenexFormula) : Type 0 where
-  pub stands : Stands a []
-  pub formula : a.trial.judges.formula ≡ F
+  pub stands : Stands F a []
   pub undo : a.trial.judges.keeps_undo ≡ keep.undo
   pub steps : a.trial.taken.keeps ≡ keep.steps
-  pub left : a.reader.left ≡ 1099511627776
-  pub goes_on : IsOpen a
+
+-- the same is left, with the formulas that the log leads from and to
+abbrev pub with_formulas : PrenexFormula → PrenexFormula → Passed → Checked
+with_formulas F G p = record { from = F; to = G; steps = p.steps; undo = p.undo; taken = p.taken }
+
+abbrev pub IsWithEnds : Passed → PrenexFormula → Checked → Type 0
+IsWithEnds p G c = (F : PrenexFormula) × (p.origin ≡ Some F) × (c ≡ with_formulas F G p)

@@ -15,6 +15,7 @@ use Rattle.q_command.specs.Logs.{Entry, HintedEntry, steps_of, hinted_of, stripp
 use Rattle.q_command.specs.Taken.{entries_of}
 use Rattle.q_command.specs.declared.audit.Keep.{Keep}
 use Rattle.q_command.specs.declared.checking.Checked.{Checked}
+use Rattle.q_command.specs.declared.checking.Ends.{Ends}
 use Rattle.q_command.specs.declared.outcome.Role.{Role}
 use Rattle.q_command.specs.declared.outcome.Role.TheVariants.{In, Out}
 use Rattle.q_command.specs.declared.outcome.Outcome.{Outcome}
@@ -97,6 +98,11 @@ pub record FilesPass (keep : Keep) (i o l : List ℕ) (c : Checked) : Type 0 whe
   pub is_output : IsFileOf o c.to
   pub log : LogPasses keep.undo l c.from c.to c.steps c.undo
   pub taken : keep.steps ≡ true → entries_of c.taken.items ≡ log.entries
+
+-- the files hold these formulas
+pub record AreEnds (input output : List ℕ) (e : Ends) : Type 0 where
+  pub is_input : IsFileOf input e.from
+  pub is_output : IsFileOf output e.to
 
 -- what the outcome says of a log, from the formula F to G
 abbrev pub LogSays : Outcome → PrenexFormula → PrenexFormula → List ℕ → Type 0

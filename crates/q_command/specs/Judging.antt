@@ -13,6 +13,7 @@ use Rattle.q_check.specs.Alike.{Leads}
 use Rattle.q_check.specs.Checked.{Checked}
 use Rattle.q_check.specs.HintChecks.{HintChecked}
 use Rattle.q_command.specs.Logs.{Entry, HintedEntry, steps_of, hinted_of, EndsApart}
+use Rattle.q_command.specs.Seats.{IsHeld}
 use Rattle.q_command.specs.declared.judges.Judges.{Judges}
 
 abbrev pub if_plain : ℕ → ProofStep → Option ProofPart → List Entry → List Entry
@@ -59,21 +60,21 @@ abbrev pub IsBehindHinted : Bool → PrenexFormula → List HintedEntry → Opti
 IsBehindHinted keep F hs None = hs ≡ []
 IsBehindHinted keep F hs (Some c) = HasTakenHinted keep F hs c
 
--- each checker has taken its steps
-pub record AreBehind (j : Judges) (es : List BothEntry) : Type 0 where
-  pub plain : IsBehindPlain j.keeps_undo j.formula (plain_in es) j.plain
-  pub hinted : IsBehindHinted j.keeps_undo j.formula (hinted_in es) j.hinted
+-- each checker has taken its steps, which begin with the formula F
+pub record AreBehind (F : PrenexFormula) (j : Judges) (es : List BothEntry) : Type 0 where
+  pub origin : IsHeld F j.origin
+  pub plain : IsBehindPlain j.keeps_undo F (plain_in es) j.plain
+  pub hinted : IsBehindHinted j.keeps_undo F (hinted_in es) j.hinted
 
 -- no step is taken yet
-pub record IsMade (F : PrenexFormula) (keep : Bool) (j : Judges) : Type 0 where
-  pub formula : j.formula ≡ F
+pub record IsMade (origin : Option PrenexFormula) (keep : Bool) (j : Judges) : Type 0 where
+  pub origin_is : j.origin ≡ origin
   pub keeps : j.keeps_undo ≡ keep
   pub plain : j.plain ≡ None
   pub hinted : j.hinted ≡ None
 
--- the formula, and what is kept
+-- what is kept
 pub record SameTask (old new : Judges) : Type 0 where
-  pub formula : new.formula ≡ old.formula
   pub keeps : new.keeps_undo ≡ old.keeps_undo
 
 -- a plain step is not valid behind the others

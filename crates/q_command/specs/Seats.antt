@@ -15,6 +15,11 @@ abbrev pub first_in : {X : Type 0} → List X → Option X
 first_in [] = None
 first_in (x ∷ xs) = Some x
 
+-- the formula, where one is held
+abbrev pub IsHeld : PrenexFormula → Option PrenexFormula → Type 0
+IsHeld F None = Unit {0}
+IsHeld F (Some G) = G ≡ F
+
 abbrev pub hints_taken : Option HintChecked → ℕ
 hints_taken None = 0
 hints_taken (Some c) = c.steps

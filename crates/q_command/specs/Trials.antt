@@ -11,15 +11,15 @@ use Rattle.q_command.specs.declared.trial.Trial.{Trial}
 use Rattle.q_command.specs.declared.outcome.Outcome.{Outcome}
 use Rattle.q_command.specs.declared.outcome.Outcome.TheVariants.{Verified, RefusedLine, RefusedEnd, RefusedInput, ReadFault, NoMemory}
 
--- the steps were tried and counted, and where they are kept, these are they
-pub record IsBehind (t : Trial) (es : List BothEntry) : Type 0 where
-  pub judged : AreBehind t.judges es
+-- the steps, which begin with the formula F, were tried and counted, and where they are kept, these are they
+pub record IsBehind (F : PrenexFormula) (t : Trial) (es : List BothEntry) : Type 0 where
+  pub judged : AreBehind F t.judges es
   pub counted : t.taken.count ≡ length es
   pub kept : t.taken.keeps ≡ true → entries_of t.taken.steps.items ≡ bare es
 
 -- one step more
 pub record HasTried (e : BothEntry) (old new : Trial) : Type 0 where
-  pub behind : (es : List BothEntry) → AreBehind old.judges es → AreBehind new.judges (es ++ e ∷ [])
+  pub behind : (F : PrenexFormula) (es : List BothEntry) → AreBehind F old.judges es → AreBehind F new.judges (es ++ e ∷ [])
   pub same : SameTask old.judges new.judges
   pub hints : hints_taken new.judges.hinted ≤ hints_taken old.judges.hinted + 1
   pub added : HasAdded (e.0, e.1) old.taken new.taken

@@ -1,10 +1,13 @@
 // A log is tried step by step, while it is read.
 ghost use Rattle.std.specs.Prelude.{◌≡◌, ◌≤◌, ◌<◌, ◌+◌, List, ℕ, length, take, IfOk, IfErr, OnOk, IfSome, IsErrOf, [], ◌++◌, drop};
+ghost use Rattle.q_logic.specs.Formulas.{PrenexFormula};
 ghost use Rattle.q_io.specs.Files.{OnlyReads, RoseFor, bytes_at};
 ghost use Rattle.q_command.specs.Checks.{IsUnverified};
+ghost use Rattle.q_command.specs.Seats.{IsHeld};
 ghost use Rattle.q_command.specs.Audits.{IsOpen, Advances, Refuses, HasTaken, HasEnded, HasLeft, HasFailed, Passes, Concludes, IsStarted};
 
 use crate::judges::Judges;
+use crate::origin::Origin;
 use crate::outcome::Outcome;
 use crate::refusals::log_refusal;
 use crate::taken::{Taken, TakenStep};
@@ -22,10 +25,10 @@ pub struct Keep {
     pub steps: bool,
 }
 
-/// What is left of a log whose steps are a run from this formula.
+/// What is left of a log whose steps are a run; on demand the formula that they begin with.
 #[derive(Drop)]
 pub(crate) struct Passed {
-    pub from: Formula,
+    pub origin: Origin,
     pub steps: u64,
     pub undo: Undos,
     pub taken: Vec<TakenStep>,
@@ -40,13 +43,15 @@ pub(crate) struct Audit {
 
 impl Audit {
     /// Nothing is read, and the log begins with this formula.
-    pub fn start(alloc: Global, formula: Formula, keep: Keep) -> Result<Audit, NoMemory>
-        ensures { IfOk result (λ a. IsStarted a keep formula) }
+    pub fn start(alloc: Global, origin: Origin, keep: Keep) -> Result<Audit, NoMemory>
+        ensures start { IfOk result (λ a. (F : PrenexFormula) → IsHeld F origin → IsStarted a keep F) }
+        ensures left { IfOk result (λ a. a.reader.left ≡ 1099511627776) }
+        ensures goes_on { IfOk result IsOpen }
     {
         let Ok(reader) = BothReader::new(alloc, Limits::standard().bytes) else {
             return Err(NoMemory);
         };
-        let judges = Judges::new(alloc, formula, keep.undo);
+        let judges = Judges::new(alloc, origin, keep.undo);
         let taken = Taken::new(alloc, keep.steps);
         Ok(Audit {
             reader,
@@ -178,7 +183,7 @@ fn end(trial: Trial, output: &Formula) -> Result<Passed, Outcome>
     let Trial { judges, taken } = trial;
     match judges.finish(output) {
         Ok(judged) => Ok(Passed {
-            from: judged.formula,
+            origin: judged.origin,
             steps: taken.count,
             undo: judged.undo,
             taken: taken.steps,

@@ -1,15 +1,18 @@
 // `check`: IN and OUT are read whole, and each step of LOG is tried as it is read.
 ghost use Rattle.std.specs.Prelude.{◌≡◌, ◌<◌, length, IfOk, IfErr, IfSome, IsErrOf, [], ◌∷◌};
+ghost use Rattle.q_logic.specs.Formulas.{PrenexFormula};
 ghost use Rattle.q_logic.specs.Parts.{IsProper};
 ghost use Rattle.q_io.specs.Files.{OnlyReads, RoseAmong, RoseFor, bytes_at};
 ghost use Rattle.q_logic.specs.Prefixes.{IsFormula};
-ghost use Rattle.q_command.specs.Audits.{LogIsTaken};
+ghost use Rattle.q_command.specs.Audits.{IsWithEnds, LogIsTaken};
+ghost use Rattle.q_command.specs.Seats.{IsHeld};
 ghost use Rattle.q_command.specs.Taken.{AreRun};
-ghost use Rattle.q_command.specs.Checks.{Checks, FilesPass, HaveOneTruth, IfVerified, IsEarly, IsFileOf, IsInputRefusal, IsUnverified, LeadsBack, LogSays, input_refused};
+ghost use Rattle.q_command.specs.Checks.{AreEnds, Checks, FilesPass, HaveOneTruth, IfVerified, IsEarly, IsFileOf, IsInputRefusal, IsUnverified, LeadsBack, LogSays, input_refused};
 
 use crate::audit::{Audit, Keep, Passed};
 use crate::input::{InputError, PIECE, read_formula};
 use crate::names::Names;
+use crate::origin::Origin;
 use crate::outcome::{Outcome, Role};
 use crate::taken::TakenStep;
 use q_check::Undos;
@@ -51,29 +54,31 @@ pub fn read_operand<F: Files>(
     }
 }
 
-// Tries the log, from the formula of IN to that of OUT.
+// Tries the log, from the formula of IN, which `origin` holds, to that of OUT.
 fn check_log<F: Files>(
     alloc: Global,
     files: &mut F,
     name: &str,
     buffer: &mut [u8],
-    input: Formula,
+    origin: Origin,
     output: &Formula,
     keep: Keep,
 ) -> Result<Passed, Outcome>
     requires room { 0 < length buffer.old }
-    ensures taken { IfOk result (λ p. IfSome (F.held files.old)
+    ensures taken { IfOk result (λ p. (input : PrenexFormula) → IsHeld input origin → IfSome (F.held files.old)
         (λ disk. LogIsTaken keep (bytes_at disk name.now) input output.now p)) }
-    ensures from { IfOk result (λ p. p.from ≡ input) }
-    ensures run { IfOk result (λ p. LeadsBack keep.undo input output.now p.undo) }
-    ensures kept { IfOk result (λ p. AreRun keep.steps input output.now p.taken.items) }
-    ensures says { IfErr result (λ o. IfSome (F.held files.old)
+    ensures held { IfOk result (λ p. (input : PrenexFormula) → IsHeld input origin → IsHeld input p.origin) }
+    ensures run { IfOk result (λ p. (input : PrenexFormula) → IsHeld input origin →
+        LeadsBack keep.undo input output.now p.undo) }
+    ensures kept { IfOk result (λ p. (input : PrenexFormula) → IsHeld input origin →
+        AreRun keep.steps input output.now p.taken.items) }
+    ensures says { IfErr result (λ o. (input : PrenexFormula) → IsHeld input origin → IfSome (F.held files.old)
         (λ disk. LogSays o input output.now (bytes_at disk name.now))) }
     ensures unverified { IfErr result IsUnverified }
     ensures fault { IsErrOf result Outcome.ReadFault → RoseFor F.read_faults name.now files.old files.new }
     ensures only_reads { OnlyReads F.held F.read_faults F.write_faults files.old files.new }
 {
-    let Ok(mut audit) = Audit::start(alloc, input, keep) else {
+    let Ok(mut audit) = Audit::start(alloc, origin, keep) else {
         return Err(Outcome::NoMemory);
     };
     let mut at = 0u64;
@@ -86,6 +91,41 @@ fn check_log<F: Files>(
     }
 }
 
+/// The formulas of IN and OUT.
+#[derive(Drop)]
+pub(crate) struct Ends {
+    pub from: Formula,
+    pub to: Formula,
+}
+
+// What the files IN and OUT hold, read through the buffer.
+fn read_ends<F: Files>(
+    alloc: Global,
+    files: &mut F,
+    names: Names,
+    buffer: &mut [u8],
+) -> Result<Ends, Outcome>
+    requires room { 0 < length buffer.old }
+    ensures formulas { IfOk result (λ e. IfSome (F.held files.old) (λ disk.
+        AreEnds (bytes_at disk names.entry.input.now) (bytes_at disk names.entry.output.now) e)) }
+    ensures proper { IfOk result (λ e. IsFormula e.from) }
+    ensures checks { IfErr result (λ o. IfSome (F.held files.old) (λ disk.
+        Checks o (bytes_at disk names.entry.input.now) (bytes_at disk names.entry.output.now) (bytes_at disk names.entry.log.now))) }
+    ensures unverified { IfErr result IsUnverified }
+    ensures fault { IsErrOf result Outcome.ReadFault →
+        RoseAmong F.read_faults (names.entry.input.now ∷ names.entry.output.now ∷ names.entry.log.now ∷ []) files.old files.new }
+    ensures only_reads { OnlyReads F.held F.read_faults F.write_faults files.old files.new }
+{
+    let from = match read_operand(alloc, files, Role::In, names.input, buffer) {
+        Ok(formula) => formula,
+        Err(outcome) => return Err(outcome),
+    };
+    match read_operand(alloc, files, Role::Out, names.output, buffer) {
+        Ok(to) => Ok(Ends { from, to }),
+        Err(outcome) => Err(outcome),
+    }
+}
+
 /// The formulas of IN and OUT, where the log leads from the one to the other: its number of steps, what they leave to
 /// undo, and they themselves; the last two are empty where they aren't kept.
 #[derive(Drop)]
@@ -95,6 +135,23 @@ pub struct Checked {
     pub steps: u64,
     pub undo: Undos,
     pub taken: Vec<TakenStep>,
+}
+
+// What is left of a log whose steps are a run, with the formulas that it leads from and to.
+fn with_ends(passed: Passed, to: Formula) -> Result<Checked, Outcome>
+    ensures checked { IfOk result (λ c. IsWithEnds passed to c) }
+    ensures memory { IfErr result (λ o. o ≡ Outcome.NoMemory) }
+{
+    match passed.origin.into_formula() {
+        Some(from) => Ok(Checked {
+            from,
+            to,
+            steps: passed.steps,
+            undo: passed.undo,
+            taken: passed.taken,
+        }),
+        None => Err(Outcome::NoMemory),
+    }
 }
 
 // What the files of these names hold, read through the buffer.
@@ -118,22 +175,15 @@ fn check_files<F: Files>(
         RoseAmong F.read_faults (names.entry.input.now ∷ names.entry.output.now ∷ names.entry.log.now ∷ []) files.old files.new }
     ensures only_reads { OnlyReads F.held F.read_faults F.write_faults files.old files.new }
 {
-    let from = match read_operand(alloc, files, Role::In, names.input, buffer) {
-        Ok(formula) => formula,
+    let Ends { from, to } = match read_ends(alloc, files, names, buffer) {
+        Ok(ends) => ends,
         Err(outcome) => return Err(outcome),
     };
-    let to = match read_operand(alloc, files, Role::Out, names.output, buffer) {
-        Ok(formula) => formula,
-        Err(outcome) => return Err(outcome),
+    let Ok(origin) = Origin::new(alloc, from, true) else {
+        return Err(Outcome::NoMemory);
     };
-    match check_log(alloc, files, names.log, buffer, from, &to, keep) {
-        Ok(passed) => Ok(Checked {
-            from: passed.from,
-            to,
-            steps: passed.steps,
-            undo: passed.undo,
-            taken: passed.taken,
-        }),
+    match check_log(alloc, files, names.log, buffer, origin, &to, keep) {
+        Ok(passed) => with_ends(passed, to),
         Err(outcome) => Err(outcome),
     }
 }
@@ -163,6 +213,42 @@ pub fn verify<F: Files>(
     }
 }
 
+// The number of steps of a log that leads from IN to OUT. The formula of IN is let go once a checker has it.
+fn count_steps<F: Files>(
+    alloc: Global,
+    files: &mut F,
+    names: Names,
+    buffer: &mut [u8],
+) -> Result<u64, Outcome>
+    requires room { 0 < length buffer.old }
+    ensures verified { IfOk result (λ n. IfSome (F.held files.old) (λ disk.
+        Checks (Outcome.Verified n) (bytes_at disk names.entry.input.now) (bytes_at disk names.entry.output.now) (bytes_at disk names.entry.log.now))) }
+    ensures truth { IfOk result (λ n. IfSome (F.held files.old) (λ disk.
+        HaveOneTruth (bytes_at disk names.entry.input.now) (bytes_at disk names.entry.output.now))) }
+    ensures checks { IfErr result (λ o. IfSome (F.held files.old) (λ disk.
+        Checks o (bytes_at disk names.entry.input.now) (bytes_at disk names.entry.output.now) (bytes_at disk names.entry.log.now))) }
+    ensures unverified { IfErr result IsUnverified }
+    ensures fault { IsErrOf result Outcome.ReadFault →
+        RoseAmong F.read_faults (names.entry.input.now ∷ names.entry.output.now ∷ names.entry.log.now ∷ []) files.old files.new }
+    ensures only_reads { OnlyReads F.held F.read_faults F.write_faults files.old files.new }
+{
+    let Ends { from, to } = match read_ends(alloc, files, names, buffer) {
+        Ok(ends) => ends,
+        Err(outcome) => return Err(outcome),
+    };
+    let Ok(origin) = Origin::new(alloc, from, false) else {
+        return Err(Outcome::NoMemory);
+    };
+    let nothing = Keep {
+        undo: false,
+        steps: false,
+    };
+    match check_log(alloc, files, names.log, buffer, origin, &to, nothing) {
+        Ok(passed) => Ok(passed.steps),
+        Err(outcome) => Err(outcome),
+    }
+}
+
 /// The outcome of `check` over the files of these names.
 pub fn check<F: Files>(alloc: Global, files: &mut F, names: Names) -> Outcome
     ensures checks { IfSome (F.held files.old) (λ disk.
@@ -174,14 +260,11 @@ pub fn check<F: Files>(alloc: Global, files: &mut F, names: Names) -> Outcome
     ensures held { F.held files.new ≡ F.held files.old }
     ensures only_reads { OnlyReads F.held F.read_faults F.write_faults files.old files.new }
 {
-    let nothing = Keep {
-        undo: false,
-        steps: false,
+    let Ok(mut room) = vec![in alloc; 0u8; PIECE] else {
+        return Outcome::NoMemory;
     };
-    match verify(alloc, files, names, nothing) {
-        Ok(checked) => Outcome::Verified {
-            steps: checked.steps,
-        },
+    match count_steps(alloc, files, names, &mut room) {
+        Ok(steps) => Outcome::Verified { steps },
         Err(outcome) => outcome,
     }
 }

@@ -8,6 +8,7 @@ mod input;
 mod judges;
 mod line;
 mod names;
+mod origin;
 mod outcome;
 mod refusals;
 mod seats;

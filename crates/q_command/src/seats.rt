@@ -1,8 +1,10 @@
 // Places for the checkers of a log. A checker stands in a row of at most one, so that who holds a place lets it go by one call.
 ghost use Rattle.std.specs.Prelude.{◌≡◌, ◌<◌, ◌+◌, ◌^◌, None, IsSome, IsSomeAnd, is_some, OnOk, IfErr};
 ghost use Rattle.q_judge.specs.declared.error.CheckError.TheVariants.{NoMemory as MemoryError};
-ghost use Rattle.q_command.specs.Seats.{HasSteppedHinted, HasSteppedPlain, IsEndedHinted, IsEndedPlain, IsReadyHinted, IsReadyPlain, hints_taken};
+ghost use Rattle.q_logic.specs.Formulas.{PrenexFormula};
+ghost use Rattle.q_command.specs.Seats.{IsHeld, HasSteppedHinted, HasSteppedPlain, IsEndedHinted, IsEndedPlain, IsReadyHinted, IsReadyPlain, hints_taken};
 
+use crate::origin::Origin;
 use q_check::{CheckError, Checker, HintChecker, Verified};
 use q_logic::{Formula, Limits, Proof, Step};
 use std::alloc::Global;
@@ -37,15 +39,19 @@ impl PlainSeat {
     pub fn fill(
         &mut self,
         alloc: Global,
-        formula: &Formula,
+        origin: &Origin,
         keeps_undo: bool,
     ) -> Result<(), CheckError>
-        ensures ready { OnOk result (IsReadyPlain keeps_undo formula.now self.old self.new) }
+        ensures ready { OnOk result ((F : PrenexFormula) → IsHeld F origin.now →
+            IsReadyPlain keeps_undo F self.old self.new) }
         ensures only_memory { IfErr result (λ e. e ≡ MemoryError) }
     {
         if !self.row.is_empty() {
             return Ok(());
         }
+        let Some(formula) = origin.formula() else {
+            return Err(CheckError::NoMemory);
+        };
         self.row.reserve(1)?;
         let limits = Limits::standard();
         let checker = Checker::start(alloc, formula, limits, keeps_undo)?;
@@ -106,15 +112,19 @@ impl HintedSeat {
     pub fn fill(
         &mut self,
         alloc: Global,
-        formula: &Formula,
+        origin: &Origin,
         keeps_undo: bool,
     ) -> Result<(), CheckError>
-        ensures ready { OnOk result (IsReadyHinted keeps_undo formula.now self.old self.new) }
+        ensures ready { OnOk result ((F : PrenexFormula) → IsHeld F origin.now →
+            IsReadyHinted keeps_undo F self.old self.new) }
         ensures only_memory { IfErr result (λ e. e ≡ MemoryError) }
     {
         if !self.row.is_empty() {
             return Ok(());
         }
+        let Some(formula) = origin.formula() else {
+            return Err(CheckError::NoMemory);
+        };
         self.row.reserve(1)?;
         let limits = Limits::standard();
         let checker = HintChecker::start(alloc, formula, limits, keeps_undo)?;

@@ -1,8 +1,9 @@
-use Rattle.q_io.specs.Files.{bytes_at}
-use Rattle.q_command.proofs.Exact.{truth_files}
+use Rattle.std.proofs.Common.{ap, Err}
+use Rattle.q_command.proofs.Concluding.{unverified-if}
 use Rattle.q_command.proofs.checking.check.Goals as goal
 
-pub returns-in-Ok-clause-truth : goal.returns-in-Ok-clause-truth
-returns-in-Ok-clause-truth g c =
-    truth_files _ (g.F.Files.held c.args.files.now) (λ disk. bytes_at disk c.args.names.input.now) (λ disk. bytes_at disk c.args.names.output.now) (λ disk. bytes_at disk c.args.names.log.now)
-    c.in-Ok.checked c.in-Ok.ensures.proper c.in-Ok.ensures.passes
+pub returns-clause-truth : goal.returns-clause-truth
+returns-clause-truth g c = unverified-if c.in-Err.outcome _ c.in-Err.ensures.unverified
+
+pub returns-clause-fault : goal.returns-clause-fault
+returns-clause-fault g c = λ e. c.in-Err.ensures.fault (ap Err e)

@@ -1,14 +1,33 @@
-use Rattle.std.proofs.Common.{◌∙◌}
 use Rattle.q_io.specs.Files.{bytes_at}
-use Rattle.q_command.proofs.Feeding.{at_same}
-use Rattle.q_command.proofs.Concluding.{files_pass}
+use Rattle.q_command.specs.Checks.{LeadsBack}
+use Rattle.q_command.specs.Taken.{AreRun}
+use Rattle.q_command.specs.declared.checking.Checked.{Checked}
+use Rattle.q_command.proofs.Feeding.{at_same, ok_then}
+use Rattle.q_command.proofs.Concluding.{ends-as, files_pass, files_say, held-first}
 use Rattle.q_command.proofs.checking.check_files.Goals as goal
 
 pub returns-in-Ok-check_log-clause-passes : goal.returns-in-Ok-check_log-clause-passes
 returns-in-Ok-check_log-clause-passes g c =
-    let first = c.in-Ok.ensures.only_reads.same in
-    let second = c.in-Ok-read_operand.ensures.only_reads.same in
-    let output = at_same _ _ _ first c.in-Ok-read_operand.ensures.formula in
-    let log = at_same _ _ _ (second ∙ first) c.in-Ok-check_log.ensures.taken in
-    files_pass (g.F.Files.held c.args.files.now) (λ disk. bytes_at disk c.args.names.input.now) (λ disk. bytes_at disk c.args.names.output.now) (λ disk. bytes_at disk c.args.names.log.now)
-    c.args.keep c.in-Ok.formula c.in-Ok-read_operand.formula c.in-Ok-check_log.passed c.in-Ok.ensures.formula output log
+    let held = held-first c.in-Ok.ends.from c.in-Ok-new.origin c.in-Ok-new.ensures in
+    let log = at_same _ _ _ c.in-Ok.ensures.only_reads.same (c.in-Ok-check_log.ensures.taken c.in-Ok.ends.from held) in
+    ok_then c.with_ends.result c.with_ends.ensures.checked
+    (λ x w. files_pass (g.F.Files.held c.args.files.now) (λ disk. bytes_at disk c.args.names.input.now) (λ disk. bytes_at disk c.args.names.output.now) (λ disk. bytes_at disk c.args.names.log.now)
+    c.args.keep c.in-Ok.ends c.in-Ok-check_log.passed x (c.in-Ok-check_log.ensures.held c.in-Ok.ends.from held) w c.in-Ok.ensures.formulas log)
+
+pub returns-in-Ok-check_log-clause-run : goal.returns-in-Ok-check_log-clause-run
+returns-in-Ok-check_log-clause-run g c =
+    let held = held-first c.in-Ok.ends.from c.in-Ok-new.origin c.in-Ok-new.ensures in
+    ok_then c.with_ends.result c.with_ends.ensures.checked
+    (λ x w. ends-as (λ (y : Checked). LeadsBack c.args.keep.undo y.from y.to y.undo) c.in-Ok.ends.from c.in-Ok.ends.to c.in-Ok-check_log.passed x (c.in-Ok-check_log.ensures.held c.in-Ok.ends.from held) w (c.in-Ok-check_log.ensures.run c.in-Ok.ends.from held))
+
+pub returns-in-Ok-check_log-clause-kept : goal.returns-in-Ok-check_log-clause-kept
+returns-in-Ok-check_log-clause-kept g c =
+    let held = held-first c.in-Ok.ends.from c.in-Ok-new.origin c.in-Ok-new.ensures in
+    ok_then c.with_ends.result c.with_ends.ensures.checked
+    (λ x w. ends-as (λ (y : Checked). AreRun c.args.keep.steps y.from y.to y.taken.items) c.in-Ok.ends.from c.in-Ok.ends.to c.in-Ok-check_log.passed x (c.in-Ok-check_log.ensures.held c.in-Ok.ends.from held) w (c.in-Ok-check_log.ensures.kept c.in-Ok.ends.from held))
+
+pub returns-in-Err-check_log-clause-checks : goal.returns-in-Err-check_log-clause-checks
+returns-in-Err-check_log-clause-checks g c =
+    let held = held-first c.in-Ok.ends.from c.in-Ok-new.origin c.in-Ok-new.ensures in
+    files_say (g.F.Files.held c.args.files.now) (λ disk. bytes_at disk c.args.names.input.now) (λ disk. bytes_at disk c.args.names.output.now) (λ disk. bytes_at disk c.args.names.log.now)
+    c.in-Err-check_log.outcome c.in-Ok.ends c.in-Ok.ensures.formulas (at_same _ _ _ c.in-Ok.ensures.only_reads.same (c.in-Err-check_log.ensures.says c.in-Ok.ends.from held))

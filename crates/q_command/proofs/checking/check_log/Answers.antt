@@ -1,9 +1,9 @@
 use Rattle.std.proofs.Common.{[], arith}
 use Rattle.q_io.specs.Files.{bytes_at}
 use Rattle.q_io.proofs.Counts.{reads_at_once, reads_still, rose_later}
-use Rattle.q_command.proofs.Feeding.{if_some, if_some_2, at_same, err_of, err_goes, ok_goes, ok_then}
+use Rattle.q_command.proofs.Feeding.{if_some, if_some_2, at_same, err_of, err_then, ok_then}
 use Rattle.q_command.proofs.Auditing.{advances_begin, advances_through, tries_begin, tries_more, tries_end, refuses_whole}
-use Rattle.q_command.proofs.Concluding.{kept_run, leads_back, log_from, log_is_taken, log_says, log_refuses}
+use Rattle.q_command.proofs.Concluding.{kept_run, leads_back, log_origin, log_is_taken, log_says, log_refuses}
 use Rattle.q_command.proofs.checking.check_log.Goals as goal
 
 pub loop-audit-init : goal.loop-audit-init
@@ -19,34 +19,34 @@ loop-audit-init g c =
 pub returns-in-Ok-eq0-clause-says : goal.returns-in-Ok-eq0-clause-says
 returns-in-Ok-eq0-clause-says g c =
     let taken = at_same _ _ _ c.loop-audit.invariant.only_reads.same c.in-Ok-eq0.ensures.taken in
-    err_goes _ c.finish.result (g.F.Files.held c.args.files.now) c.finish.ensures.refused
-    (λ w h. if_some_2 (g.F.Files.held c.args.files.now) c.loop-audit.invariant.front taken
-    (λ disk f p. log_says c.in-Ok.audit c.read_piece.new.self c.args.keep c.args.input c.args.output.now (bytes_at disk c.args.name.now) w c.in-Ok.ensures (tries_end _ _ _ _ _ _ c.in-Ok-eq0.field-0-test f p) h))
+    err_then c.finish.result c.finish.ensures.refused
+    (λ w h input held. if_some_2 (g.F.Files.held c.args.files.now) c.loop-audit.invariant.front taken
+    (λ disk f p. log_says c.in-Ok.audit c.read_piece.new.self c.args.keep input c.args.output.now (bytes_at disk c.args.name.now) w (c.in-Ok.ensures.start input held) (tries_end _ _ _ _ _ _ c.in-Ok-eq0.field-0-test f p) h))
 
 pub returns-in-Ok-eq0-clause-run : goal.returns-in-Ok-eq0-clause-run
 returns-in-Ok-eq0-clause-run g c =
     let all = advances_through _ _ _ c.loop-audit.invariant.advanced c.in-Ok-eq0.ensures.advances in
     ok_then c.finish.result c.finish.ensures.passed
-    (λ p h. leads_back c.in-Ok.audit c.read_piece.new.self c.args.keep c.args.input c.args.output.now p c.in-Ok.ensures all h)
+    (λ p h input held. leads_back c.in-Ok.audit c.read_piece.new.self c.args.keep input c.args.output.now p (c.in-Ok.ensures.start input held) all h)
 
-pub returns-in-Ok-eq0-clause-from : goal.returns-in-Ok-eq0-clause-from
-returns-in-Ok-eq0-clause-from g c =
+pub returns-in-Ok-eq0-clause-held : goal.returns-in-Ok-eq0-clause-held
+returns-in-Ok-eq0-clause-held g c =
     let all = advances_through _ _ _ c.loop-audit.invariant.advanced c.in-Ok-eq0.ensures.advances in
     ok_then c.finish.result c.finish.ensures.passed
-    (λ p h. log_from c.in-Ok.audit c.read_piece.new.self c.args.keep c.args.input c.args.output.now p c.in-Ok.ensures all h)
+    (λ p h input held. log_origin c.in-Ok.audit c.read_piece.new.self c.args.keep input c.args.output.now p (c.in-Ok.ensures.start input held) all h)
 
 pub returns-in-Ok-eq0-clause-kept : goal.returns-in-Ok-eq0-clause-kept
 returns-in-Ok-eq0-clause-kept g c =
     let all = advances_through _ _ _ c.loop-audit.invariant.advanced c.in-Ok-eq0.ensures.advances in
     ok_then c.finish.result c.finish.ensures.passed
-    (λ p h. kept_run c.in-Ok.audit c.read_piece.new.self c.args.keep c.args.input c.args.output.now p c.in-Ok.ensures all h)
+    (λ p h input held. kept_run c.in-Ok.audit c.read_piece.new.self c.args.keep input c.args.output.now p (c.in-Ok.ensures.start input held) all h)
 
 pub returns-in-Ok-eq0-clause-taken : goal.returns-in-Ok-eq0-clause-taken
 returns-in-Ok-eq0-clause-taken g c =
     let taken = at_same _ _ _ c.loop-audit.invariant.only_reads.same c.in-Ok-eq0.ensures.taken in
-    ok_goes _ c.finish.result (g.F.Files.held c.args.files.now) c.finish.ensures.passed
-    (λ p h. if_some_2 (g.F.Files.held c.args.files.now) c.loop-audit.invariant.front taken
-    (λ disk f q. log_is_taken c.in-Ok.audit c.read_piece.new.self c.args.keep c.args.input c.args.output.now (bytes_at disk c.args.name.now) p c.in-Ok.ensures (tries_end _ _ _ _ _ _ c.in-Ok-eq0.field-0-test f q) h))
+    ok_then c.finish.result c.finish.ensures.passed
+    (λ p h input held. if_some_2 (g.F.Files.held c.args.files.now) c.loop-audit.invariant.front taken
+    (λ disk f q. log_is_taken c.in-Ok.audit c.read_piece.new.self c.args.keep input c.args.output.now (bytes_at disk c.args.name.now) p (c.in-Ok.ensures.start input held) (tries_end _ _ _ _ _ _ c.in-Ok-eq0.field-0-test f q) h))
 
 pub loop-audit-preserved : goal.loop-audit-preserved
 loop-audit-preserved g c =
@@ -60,10 +60,10 @@ loop-audit-preserved g c =
     }
 
 pub returns-in-Err-clause-says : goal.returns-in-Err-clause-says
-returns-in-Err-clause-says g c =
+returns-in-Err-clause-says g c = λ input held.
     let refused = at_same _ _ _ c.loop-audit.invariant.only_reads.same c.in-Err.ensures.refused in
     if_some_2 (g.F.Files.held c.args.files.now) c.loop-audit.invariant.front refused
-    (λ disk f r. log_refuses c.in-Ok.audit c.args.keep c.args.input c.args.output.now (bytes_at disk c.args.name.now) c.in-Err.outcome c.in-Ok.ensures (refuses_whole _ _ _ _ _ f r))
+    (λ disk f r. log_refuses c.in-Ok.audit c.args.keep input c.args.output.now (bytes_at disk c.args.name.now) c.in-Err.outcome (c.in-Ok.ensures.start input held) (refuses_whole _ _ _ _ _ f r))
 
 pub returns-in-Ok-eq0-clause-only_reads : goal.returns-in-Ok-eq0-clause-only_reads
 returns-in-Ok-eq0-clause-only_reads g c = reads_still _ _ _ _ _ _ c.loop-audit.invariant.only_reads c.read_piece.ensures.only_reads

@@ -1,7 +1,13 @@
 use Rattle.std.proofs.Common.{false}
-use Rattle.q_command.proofs.Judging.{stopped-plain}
+use Rattle.q_command.proofs.Judging.{ended-plain, stopped-plain, ended-held, stopped-held}
 use Rattle.q_command.proofs.judges.finish_plain.Goals as goal
+
+pub returns-clause-passed : goal.returns-clause-passed
+returns-clause-passed c =
+    ended-held c.args.origin.now c.finish.result _
+    (λ F held. ended-plain false F c.args.output.now c.finish.result c.args.plain c.fill.new.self (c.in_ok-fill.ensures.ready F held) c.finish.ensures)
 
 pub returns-clause-refused : goal.returns-clause-refused
 returns-clause-refused c =
-    stopped-plain false c.args.formula.now c.args.output.now c.finish.result c.args.plain c.fill.new.self c.in_ok-fill.ensures.ready c.finish.ensures
+    stopped-held c.args.origin.now c.finish.result _
+    (λ F held. stopped-plain false F c.args.output.now c.finish.result c.args.plain c.fill.new.self (c.in_ok-fill.ensures.ready F held) c.finish.ensures)

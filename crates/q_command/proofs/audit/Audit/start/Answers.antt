@@ -7,24 +7,31 @@ use Rattle.q_command.specs.Taken.{entries_of}
 use Rattle.q_command.proofs.Judging.{made-behind, made-hints}
 use Rattle.q_command.proofs.audit.Audit.start.Goals as goal
 
-pub returns : goal.returns
-returns c =
+pub returns-clause-start : goal.returns-clause-start
+returns-clause-start c = λ F held.
     let bytes : c.standard.result.bytes ≡ 1099511627776 = ap (λ (m : Limits). m.bytes) c.standard.ensures in
-    let left : c.in-Ok.reader.left ≡ 1099511627776 = ap (λ (r : BothState). r.left) c.in-Ok.ensures.start ∙ bytes in
-    let none : hints_taken c.new-judges.result.hinted ≡ 0 = made-hints c.args.formula c.args.keep.undo c.new-judges.result c.new-judges.ensures in
     record {
       stands = record {
         entries = [];
         log = λ rest. sym (c.in-Ok.ensures.log rest ∙ ap (λ (k : ℕ). read_entries k rest) bytes);
         steps = record {
-          judged = made-behind c.args.formula c.args.keep.undo c.new-judges.result c.new-judges.ensures;
+          judged = made-behind F c.args.origin c.args.keep.undo c.new-judges.result held c.new-judges.ensures;
           counted = c.new-taken.ensures.count;
           kept = λ k. ap entries_of c.new-taken.ensures.steps;
         };
       };
-      formula = c.new-judges.ensures.formula;
       undo = c.new-judges.ensures.keeps;
       steps = c.new-taken.ensures.keeps_is;
-      left = left;
-      goes_on = record { room = omega (arith, left, c.new-taken.ensures.count); hints = omega (arith, none) };
     }
+
+pub returns-clause-left : goal.returns-clause-left
+returns-clause-left c =
+    let bytes : c.standard.result.bytes ≡ 1099511627776 = ap (λ (m : Limits). m.bytes) c.standard.ensures in
+    ap (λ (r : BothState). r.left) c.in-Ok.ensures.start ∙ bytes
+
+pub returns-clause-goes_on : goal.returns-clause-goes_on
+returns-clause-goes_on c =
+    let bytes : c.standard.result.bytes ≡ 1099511627776 = ap (λ (m : Limits). m.bytes) c.standard.ensures in
+    let left : c.in-Ok.reader.left ≡ 1099511627776 = ap (λ (r : BothState). r.left) c.in-Ok.ensures.start ∙ bytes in
+    let none : hints_taken c.new-judges.result.hinted ≡ 0 = made-hints c.args.origin c.args.keep.undo c.new-judges.result c.new-judges.ensures in
+    record { room = omega (arith, left, c.new-taken.ensures.count); hints = omega (arith, none) }
