@@ -1,11 +1,6 @@
 -- The checkers of a log of either profile: plain steps have one, steps with proof parts another.
 use Rattle.std.specs.Prelude.{◌≡◌, ◌⊎◌, ◌<◌, ℕ, Bool, true, List, [], ◌∷◌, length, map, Option, None, Some}
-use Rattle.q_logic.specs.Formulas.{PrenexFormula}
-use Rattle.q_logic.specs.Hinted.{HintedCause, HintedSteps, NumberedFormula, ProofPart, begun, plain, strip}
-use Rattle.q_logic.specs.Limits.{standard}
-use Rattle.q_logic.specs.Steps.{ProofStep, Cause}
-use Rattle.q_logic.specs.Runs.{ValidSteps, SameFormula}
-use Rattle.q_logic.specs.Undos.{UndoEntry, Undos}
+use Rattle.q_logic.specs.Prelude.{PrenexFormula, HintedCause, HintedSteps, NumberedFormula, ProofPart, begun, plain, strip, standard, ProofStep, Cause, ValidSteps, SameFormula, UndoEntry, Undos}
 use Rattle.q_hinted.specs.Logs.{Entry as BothEntry, plain_entry, hinted_entry, hinted_in}
 use Rattle.q_judge.specs.declared.error.CheckError.{CheckError}
 use Rattle.q_judge.specs.declared.error.CheckError.TheVariants.{Refused, NoMemory}
@@ -13,7 +8,7 @@ use Rattle.q_check.specs.Alike.{Leads}
 use Rattle.q_check.specs.Checked.{Checked}
 use Rattle.q_check.specs.HintChecks.{HintChecked}
 use Rattle.q_command.specs.Logs.{Entry, HintedEntry, steps_of, hinted_of, EndsApart}
-use Rattle.q_command.specs.Seats.{IsHeld}
+use Rattle.q_command.specs.LazyCheckers.{IsHeld}
 use Rattle.q_command.specs.declared.judges.Judges.{Judges}
 
 abbrev pub if_plain : ℕ → ProofStep → Option ProofPart → List Entry → List Entry

@@ -1,9 +1,9 @@
 // A log is tried step by step, while it is read.
 ghost use Rattle.std.specs.Prelude.{◌≡◌, ◌≤◌, ◌<◌, ◌+◌, List, ℕ, length, take, IfOk, IfErr, OnOk, IfSome, IsErrOf, [], ◌++◌, drop};
-ghost use Rattle.q_logic.specs.Formulas.{PrenexFormula};
+ghost use Rattle.q_logic.specs.Prelude.{PrenexFormula};
 ghost use Rattle.q_io.specs.Files.{OnlyReads, RoseFor, bytes_at};
 ghost use Rattle.q_command.specs.Checks.{IsUnverified};
-ghost use Rattle.q_command.specs.Seats.{IsHeld};
+ghost use Rattle.q_command.specs.LazyCheckers.{IsHeld};
 ghost use Rattle.q_command.specs.Audits.{IsOpen, Advances, Refuses, HasTaken, HasEnded, HasLeft, HasFailed, Passes, Concludes, IsStarted};
 
 use crate::judges::Judges;
@@ -44,7 +44,8 @@ pub(crate) struct Audit {
 impl Audit {
     /// Nothing is read, and the log begins with this formula.
     pub fn start(alloc: Global, origin: Origin, keep: Keep) -> Result<Audit, NoMemory>
-        ensures start { IfOk result (λ a. (F : PrenexFormula) → IsHeld F origin → IsStarted a keep F) }
+        ensures start { IfOk result (λ a.
+            (F : PrenexFormula) → IsHeld F origin → IsStarted a keep F) }
         ensures left { IfOk result (λ a. a.reader.left ≡ 1099511627776) }
         ensures goes_on { IfOk result IsOpen }
     {
@@ -125,7 +126,8 @@ impl Audit {
         ensures refused { IfErr result (λ o. IfSome (F.held files.old)
             (λ disk. Refuses o self.old (drop at (bytes_at disk name.now)))) }
         ensures unverified { IfErr result IsUnverified }
-        ensures fault { IsErrOf result Outcome.ReadFault → RoseFor F.read_faults name.now files.old files.new }
+        ensures fault { IsErrOf result Outcome.ReadFault
+            → RoseFor F.read_faults name.now files.old files.new }
         ensures only_reads { OnlyReads F.held F.read_faults F.write_faults files.old files.new }
     {
         let count = match files.read(name, at, buffer) {

@@ -1,11 +1,9 @@
 // `check`: IN and OUT are read whole, and each step of LOG is tried as it is read.
 ghost use Rattle.std.specs.Prelude.{◌≡◌, ◌<◌, length, IfOk, IfErr, IfSome, IsErrOf, [], ◌∷◌};
-ghost use Rattle.q_logic.specs.Formulas.{PrenexFormula};
-ghost use Rattle.q_logic.specs.Parts.{IsProper};
+ghost use Rattle.q_logic.specs.Prelude.{PrenexFormula, IsProper, IsFormula};
 ghost use Rattle.q_io.specs.Files.{OnlyReads, RoseAmong, RoseFor, bytes_at};
-ghost use Rattle.q_logic.specs.Prefixes.{IsFormula};
 ghost use Rattle.q_command.specs.Audits.{IsWithEnds, LogIsTaken};
-ghost use Rattle.q_command.specs.Seats.{IsHeld};
+ghost use Rattle.q_command.specs.LazyCheckers.{IsHeld};
 ghost use Rattle.q_command.specs.Taken.{AreRun};
 ghost use Rattle.q_command.specs.Checks.{AreEnds, Checks, FilesPass, HaveOneTruth, IfVerified, IsEarly, IsFileOf, IsInputRefusal, IsUnverified, LeadsBack, LogSays, input_refused};
 
@@ -45,7 +43,8 @@ pub fn read_operand<F: Files>(
     ensures refused { IfErr result (λ o. IfSome (F.held files.old)
         (λ disk. IsInputRefusal role o (bytes_at disk name.now))) }
     ensures early { IfErr result IsEarly }
-    ensures fault { IsErrOf result Outcome.ReadFault → RoseFor F.read_faults name.now files.old files.new }
+    ensures fault { IsErrOf result Outcome.ReadFault
+        → RoseFor F.read_faults name.now files.old files.new }
     ensures only_reads { OnlyReads F.held F.read_faults F.write_faults files.old files.new }
 {
     match read_formula(alloc, files, name, buffer) {
@@ -65,17 +64,22 @@ fn check_log<F: Files>(
     keep: Keep,
 ) -> Result<Passed, Outcome>
     requires room { 0 < length buffer.old }
-    ensures taken { IfOk result (λ p. (input : PrenexFormula) → IsHeld input origin → IfSome (F.held files.old)
-        (λ disk. LogIsTaken keep (bytes_at disk name.now) input output.now p)) }
-    ensures held { IfOk result (λ p. (input : PrenexFormula) → IsHeld input origin → IsHeld input p.origin) }
+    ensures taken { IfOk result (λ p.
+        (input : PrenexFormula) → IsHeld input origin
+        → IfSome (F.held files.old) (λ disk.
+        LogIsTaken keep (bytes_at disk name.now) input output.now p)) }
+    ensures held { IfOk result (λ p.
+        (input : PrenexFormula) → IsHeld input origin → IsHeld input p.origin) }
     ensures run { IfOk result (λ p. (input : PrenexFormula) → IsHeld input origin →
         LeadsBack keep.undo input output.now p.undo) }
     ensures kept { IfOk result (λ p. (input : PrenexFormula) → IsHeld input origin →
         AreRun keep.steps input output.now p.taken.items) }
-    ensures says { IfErr result (λ o. (input : PrenexFormula) → IsHeld input origin → IfSome (F.held files.old)
-        (λ disk. LogSays o input output.now (bytes_at disk name.now))) }
+    ensures says { IfErr result (λ o.
+        (input : PrenexFormula) → IsHeld input origin
+        → IfSome (F.held files.old) (λ disk. LogSays o input output.now (bytes_at disk name.now))) }
     ensures unverified { IfErr result IsUnverified }
-    ensures fault { IsErrOf result Outcome.ReadFault → RoseFor F.read_faults name.now files.old files.new }
+    ensures fault { IsErrOf result Outcome.ReadFault
+        → RoseFor F.read_faults name.now files.old files.new }
     ensures only_reads { OnlyReads F.held F.read_faults F.write_faults files.old files.new }
 {
     let Ok(mut audit) = Audit::start(alloc, origin, keep) else {
@@ -109,11 +113,15 @@ fn read_ends<F: Files>(
     ensures formulas { IfOk result (λ e. IfSome (F.held files.old) (λ disk.
         AreEnds (bytes_at disk names.entry.input.now) (bytes_at disk names.entry.output.now) e)) }
     ensures proper { IfOk result (λ e. IsFormula e.from) }
-    ensures checks { IfErr result (λ o. IfSome (F.held files.old) (λ disk.
-        Checks o (bytes_at disk names.entry.input.now) (bytes_at disk names.entry.output.now) (bytes_at disk names.entry.log.now))) }
+    ensures checks { IfErr result (λ o.
+        IfSome (F.held files.old) (λ disk.
+        Checks o (bytes_at disk names.entry.input.now) (bytes_at disk names.entry.output.now)
+        (bytes_at disk names.entry.log.now))) }
     ensures unverified { IfErr result IsUnverified }
-    ensures fault { IsErrOf result Outcome.ReadFault →
-        RoseAmong F.read_faults (names.entry.input.now ∷ names.entry.output.now ∷ names.entry.log.now ∷ []) files.old files.new }
+    ensures fault { IsErrOf result Outcome.ReadFault
+        → RoseAmong F.read_faults
+        (names.entry.input.now ∷ names.entry.output.now ∷ names.entry.log.now ∷ []) files.old
+        files.new }
     ensures only_reads { OnlyReads F.held F.read_faults F.write_faults files.old files.new }
 {
     let from = match read_operand(alloc, files, Role::In, names.input, buffer) {
@@ -163,16 +171,22 @@ fn check_files<F: Files>(
     keep: Keep,
 ) -> Result<Checked, Outcome>
     requires room { 0 < length buffer.old }
-    ensures passes { IfOk result (λ c. IfSome (F.held files.old) (λ disk.
-        FilesPass keep (bytes_at disk names.entry.input.now) (bytes_at disk names.entry.output.now) (bytes_at disk names.entry.log.now) c)) }
+    ensures passes { IfOk result (λ c.
+        IfSome (F.held files.old) (λ disk.
+        FilesPass keep (bytes_at disk names.entry.input.now) (bytes_at disk names.entry.output.now)
+        (bytes_at disk names.entry.log.now) c)) }
     ensures run { IfOk result (λ c. LeadsBack keep.undo c.from c.to c.undo) }
     ensures kept { IfOk result (λ c. AreRun keep.steps c.from c.to c.taken.items) }
     ensures proper { IfOk result (λ c. IsFormula c.from) }
-    ensures checks { IfErr result (λ o. IfSome (F.held files.old) (λ disk.
-        Checks o (bytes_at disk names.entry.input.now) (bytes_at disk names.entry.output.now) (bytes_at disk names.entry.log.now))) }
+    ensures checks { IfErr result (λ o.
+        IfSome (F.held files.old) (λ disk.
+        Checks o (bytes_at disk names.entry.input.now) (bytes_at disk names.entry.output.now)
+        (bytes_at disk names.entry.log.now))) }
     ensures unverified { IfErr result IsUnverified }
-    ensures fault { IsErrOf result Outcome.ReadFault →
-        RoseAmong F.read_faults (names.entry.input.now ∷ names.entry.output.now ∷ names.entry.log.now ∷ []) files.old files.new }
+    ensures fault { IsErrOf result Outcome.ReadFault
+        → RoseAmong F.read_faults
+        (names.entry.input.now ∷ names.entry.output.now ∷ names.entry.log.now ∷ []) files.old
+        files.new }
     ensures only_reads { OnlyReads F.held F.read_faults F.write_faults files.old files.new }
 {
     let Ends { from, to } = match read_ends(alloc, files, names, buffer) {
@@ -195,16 +209,22 @@ pub fn verify<F: Files>(
     names: Names,
     keep: Keep,
 ) -> Result<Checked, Outcome>
-    ensures passes { IfOk result (λ c. IfSome (F.held files.old) (λ disk.
-        FilesPass keep (bytes_at disk names.entry.input.now) (bytes_at disk names.entry.output.now) (bytes_at disk names.entry.log.now) c)) }
+    ensures passes { IfOk result (λ c.
+        IfSome (F.held files.old) (λ disk.
+        FilesPass keep (bytes_at disk names.entry.input.now) (bytes_at disk names.entry.output.now)
+        (bytes_at disk names.entry.log.now) c)) }
     ensures run { IfOk result (λ c. LeadsBack keep.undo c.from c.to c.undo) }
     ensures kept { IfOk result (λ c. AreRun keep.steps c.from c.to c.taken.items) }
     ensures proper { IfOk result (λ c. IsFormula c.from) }
-    ensures checks { IfErr result (λ o. IfSome (F.held files.old) (λ disk.
-        Checks o (bytes_at disk names.entry.input.now) (bytes_at disk names.entry.output.now) (bytes_at disk names.entry.log.now))) }
+    ensures checks { IfErr result (λ o.
+        IfSome (F.held files.old) (λ disk.
+        Checks o (bytes_at disk names.entry.input.now) (bytes_at disk names.entry.output.now)
+        (bytes_at disk names.entry.log.now))) }
     ensures unverified { IfErr result IsUnverified }
-    ensures fault { IsErrOf result Outcome.ReadFault →
-        RoseAmong F.read_faults (names.entry.input.now ∷ names.entry.output.now ∷ names.entry.log.now ∷ []) files.old files.new }
+    ensures fault { IsErrOf result Outcome.ReadFault
+        → RoseAmong F.read_faults
+        (names.entry.input.now ∷ names.entry.output.now ∷ names.entry.log.now ∷ []) files.old
+        files.new }
     ensures only_reads { OnlyReads F.held F.read_faults F.write_faults files.old files.new }
 {
     match vec![in alloc; 0u8; PIECE] {
@@ -221,15 +241,23 @@ fn count_steps<F: Files>(
     buffer: &mut [u8],
 ) -> Result<u64, Outcome>
     requires room { 0 < length buffer.old }
-    ensures verified { IfOk result (λ n. IfSome (F.held files.old) (λ disk.
-        Checks (Outcome.Verified n) (bytes_at disk names.entry.input.now) (bytes_at disk names.entry.output.now) (bytes_at disk names.entry.log.now))) }
-    ensures truth { IfOk result (λ n. IfSome (F.held files.old) (λ disk.
-        HaveOneTruth (bytes_at disk names.entry.input.now) (bytes_at disk names.entry.output.now))) }
-    ensures checks { IfErr result (λ o. IfSome (F.held files.old) (λ disk.
-        Checks o (bytes_at disk names.entry.input.now) (bytes_at disk names.entry.output.now) (bytes_at disk names.entry.log.now))) }
+    ensures verified { IfOk result (λ n.
+        IfSome (F.held files.old) (λ disk.
+        Checks (Outcome.Verified n) (bytes_at disk names.entry.input.now)
+        (bytes_at disk names.entry.output.now) (bytes_at disk names.entry.log.now))) }
+    ensures truth { IfOk result (λ n.
+        IfSome (F.held files.old) (λ disk.
+        HaveOneTruth (bytes_at disk names.entry.input.now)
+        (bytes_at disk names.entry.output.now))) }
+    ensures checks { IfErr result (λ o.
+        IfSome (F.held files.old) (λ disk.
+        Checks o (bytes_at disk names.entry.input.now) (bytes_at disk names.entry.output.now)
+        (bytes_at disk names.entry.log.now))) }
     ensures unverified { IfErr result IsUnverified }
-    ensures fault { IsErrOf result Outcome.ReadFault →
-        RoseAmong F.read_faults (names.entry.input.now ∷ names.entry.output.now ∷ names.entry.log.now ∷ []) files.old files.new }
+    ensures fault { IsErrOf result Outcome.ReadFault
+        → RoseAmong F.read_faults
+        (names.entry.input.now ∷ names.entry.output.now ∷ names.entry.log.now ∷ []) files.old
+        files.new }
     ensures only_reads { OnlyReads F.held F.read_faults F.write_faults files.old files.new }
 {
     let Ends { from, to } = match read_ends(alloc, files, names, buffer) {
@@ -252,11 +280,16 @@ fn count_steps<F: Files>(
 /// The outcome of `check` over the files of these names.
 pub fn check<F: Files>(alloc: Global, files: &mut F, names: Names) -> Outcome
     ensures checks { IfSome (F.held files.old) (λ disk.
-        Checks result (bytes_at disk names.entry.input.now) (bytes_at disk names.entry.output.now) (bytes_at disk names.entry.log.now)) }
-    ensures truth { IfVerified result (IfSome (F.held files.old)
-        (λ disk. HaveOneTruth (bytes_at disk names.entry.input.now) (bytes_at disk names.entry.output.now))) }
-    ensures fault { result ≡ Outcome.ReadFault →
-        RoseAmong F.read_faults (names.entry.input.now ∷ names.entry.output.now ∷ names.entry.log.now ∷ []) files.old files.new }
+        Checks result (bytes_at disk names.entry.input.now) (bytes_at disk names.entry.output.now)
+        (bytes_at disk names.entry.log.now)) }
+    ensures truth { IfVerified result
+        (IfSome (F.held files.old) (λ disk.
+        HaveOneTruth (bytes_at disk names.entry.input.now)
+        (bytes_at disk names.entry.output.now))) }
+    ensures fault { result ≡ Outcome.ReadFault
+        → RoseAmong F.read_faults
+        (names.entry.input.now ∷ names.entry.output.now ∷ names.entry.log.now ∷ []) files.old
+        files.new }
     ensures held { F.held files.new ≡ F.held files.old }
     ensures only_reads { OnlyReads F.held F.read_faults F.write_faults files.old files.new }
 {

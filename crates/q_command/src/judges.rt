@@ -1,15 +1,14 @@
 // The checkers of a log of either profile. A log tells its profile by its first token; here each step goes to the checker
 // that it asks for, and a checker is made at the first such step.
 ghost use Rattle.std.specs.Prelude.{◌≡◌, ◌≤◌, ◌<◌, ◌+◌, ◌∷◌, ◌++◌, ◌^◌, [], List, ℕ, Bool, Ok, Err, IfOk, IfErr, OnOk};
-ghost use Rattle.q_logic.specs.Formulas.{PrenexFormula};
-ghost use Rattle.q_logic.specs.Hinted.{Hinted};
+ghost use Rattle.q_logic.specs.Prelude.{PrenexFormula, Hinted};
 ghost use Rattle.q_hinted.specs.Logs.{Entry as BothEntry};
 ghost use Rattle.q_command.specs.Logs.{Entry};
 ghost use Rattle.q_command.specs.Judging.{AreBehind, ArePure, IsMade, IsRefusedBehind, IsBehindPlain, IsBehindHinted, IsBadPlain, IsBadHinted, HavePassed, HaveStopped, HavePassedPlain, HaveStoppedPlain, SameTask};
-ghost use Rattle.q_command.specs.Seats.{IsHeld, hints_taken};
+ghost use Rattle.q_command.specs.LazyCheckers.{IsHeld, hints_taken};
 
+use crate::lazy::{LazyChecker, LazyHintChecker};
 use crate::origin::Origin;
-use crate::seats::{HintedSeat, PlainSeat};
 use q_check::{CheckError, Undos, Verified};
 use q_logic::{Formula, Proof, Step};
 use std::alloc::Global;
@@ -21,8 +20,8 @@ pub(crate) struct Judges {
     alloc: Global,
     origin: Origin,
     keeps_undo: bool,
-    plain: PlainSeat,
-    hinted: HintedSeat,
+    plain: LazyChecker,
+    hinted: LazyHintChecker,
 }
 
 /// What is left where the steps lead to the output: on demand the formula that they began with, and their undo list.
@@ -40,20 +39,23 @@ impl Judges {
             alloc,
             origin,
             keeps_undo,
-            plain: PlainSeat::empty(alloc),
-            hinted: HintedSeat::empty(alloc),
+            plain: LazyChecker::empty(alloc),
+            hinted: LazyHintChecker::empty(alloc),
         }
     }
 
     /// Takes a step if it is valid; one with a proof part, if this shows it.
     pub fn step(&mut self, step: &Step, proof: &Option<Proof>) -> Result<(), CheckError>
         requires { hints_taken self.old.hinted < 2 ^ 61 }
-        ensures behind { OnOk result ((F : PrenexFormula) → (es : List BothEntry) → (line : ℕ) →
-            AreBehind F self.old es → AreBehind F self.new (es ++ (line, step.now, proof.now) ∷ [])) }
-        ensures refused { IfErr result (λ e. (F : PrenexFormula) → (es : List BothEntry) → AreBehind F self.old es →
-            IsRefusedBehind F es step.now proof.now e) }
+        ensures behind { OnOk result
+            ((F : PrenexFormula) → (es : List BothEntry) → (line : ℕ) → AreBehind F self.old es
+            → AreBehind F self.new (es ++ (line, step.now, proof.now) ∷ [])) }
+        ensures refused { IfErr result (λ e.
+            (F : PrenexFormula) → (es : List BothEntry) → AreBehind F self.old es
+            → IsRefusedBehind F es step.now proof.now e) }
         ensures same { OnOk result (SameTask self.old self.new) }
-        ensures taken { OnOk result (hints_taken self.new.hinted ≤ hints_taken self.old.hinted + 1) }
+        ensures taken { OnOk result
+            (hints_taken self.new.hinted ≤ hints_taken self.old.hinted + 1) }
     {
         match proof {
             None => self.step_plain(step),
@@ -62,12 +64,15 @@ impl Judges {
     }
 
     fn step_plain(&mut self, step: &Step) -> Result<(), CheckError>
-        ensures behind { OnOk result ((F : PrenexFormula) → IsHeld F self.old.origin → (ps : List Entry) → (line : ℕ) →
-            IsBehindPlain self.old.keeps_undo F ps self.old.plain →
-            IsBehindPlain self.old.keeps_undo F (ps ++ (line, step.now) ∷ []) self.new.plain) }
-        ensures refused { IfErr result (λ e. (F : PrenexFormula) → IsHeld F self.old.origin → (ps : List Entry) →
-            IsBehindPlain self.old.keeps_undo F ps self.old.plain → IsBadPlain F ps step.now e) }
-        ensures origin { OnOk result ((F : PrenexFormula) → IsHeld F self.old.origin → IsHeld F self.new.origin) }
+        ensures behind { OnOk result
+            ((F : PrenexFormula) → IsHeld F self.old.origin → (ps : List Entry) → (line : ℕ)
+            → IsBehindPlain self.old.keeps_undo F ps self.old.plain
+            → IsBehindPlain self.old.keeps_undo F (ps ++ (line, step.now) ∷ []) self.new.plain) }
+        ensures refused { IfErr result (λ e.
+            (F : PrenexFormula) → IsHeld F self.old.origin → (ps : List Entry)
+            → IsBehindPlain self.old.keeps_undo F ps self.old.plain → IsBadPlain F ps step.now e) }
+        ensures origin { OnOk result
+            ((F : PrenexFormula) → IsHeld F self.old.origin → IsHeld F self.new.origin) }
         ensures same { SameTask self.old self.new }
         ensures hinted { self.new.hinted ≡ self.old.hinted }
     {
@@ -78,15 +83,21 @@ impl Judges {
 
     fn step_hinted(&mut self, step: &Step, proof: &Proof) -> Result<(), CheckError>
         requires { hints_taken self.old.hinted < 2 ^ 61 }
-        ensures behind { OnOk result ((F : PrenexFormula) → IsHeld F self.old.origin → (hs : List (ℕ × Hinted)) → (line : ℕ) →
-            IsBehindHinted self.old.keeps_undo F hs self.old.hinted →
-            IsBehindHinted self.old.keeps_undo F (hs ++ (line, record { step = step.now; proof = proof.now }) ∷ []) self.new.hinted) }
-        ensures refused { IfErr result (λ e. (F : PrenexFormula) → IsHeld F self.old.origin → (hs : List (ℕ × Hinted)) →
-            IsBehindHinted self.old.keeps_undo F hs self.old.hinted → IsBadHinted F hs step.now proof.now e) }
-        ensures origin { OnOk result ((F : PrenexFormula) → IsHeld F self.old.origin → IsHeld F self.new.origin) }
+        ensures behind { OnOk result
+            ((F : PrenexFormula) → IsHeld F self.old.origin → (hs : List (ℕ × Hinted)) → (line : ℕ)
+            → IsBehindHinted self.old.keeps_undo F hs self.old.hinted
+            → IsBehindHinted self.old.keeps_undo F
+            (hs ++ (line, record { step = step.now; proof = proof.now }) ∷ []) self.new.hinted) }
+        ensures refused { IfErr result (λ e.
+            (F : PrenexFormula) → IsHeld F self.old.origin → (hs : List (ℕ × Hinted))
+            → IsBehindHinted self.old.keeps_undo F hs self.old.hinted
+            → IsBadHinted F hs step.now proof.now e) }
+        ensures origin { OnOk result
+            ((F : PrenexFormula) → IsHeld F self.old.origin → IsHeld F self.new.origin) }
         ensures same { SameTask self.old self.new }
         ensures plain { self.new.plain ≡ self.old.plain }
-        ensures taken { OnOk result (hints_taken self.new.hinted ≡ hints_taken self.old.hinted + 1) }
+        ensures taken { OnOk result
+            (hints_taken self.new.hinted ≡ hints_taken self.old.hinted + 1) }
     {
         self.hinted.fill(self.alloc, &self.origin, self.keeps_undo)?;
         self.origin.release();
@@ -95,11 +106,13 @@ impl Judges {
 
     /// Ends the check: blocks and clauses are those of the output, in any order.
     pub fn finish(self, output: &Formula) -> Result<Judged, CheckError>
-        ensures passed { IfOk result (λ r. (F : PrenexFormula) → (es : List BothEntry) → AreBehind F self es → ArePure es →
-            HavePassed self.keeps_undo F es output.now r.undo) }
+        ensures passed { IfOk result (λ r.
+            (F : PrenexFormula) → (es : List BothEntry) → AreBehind F self es → ArePure es
+            → HavePassed self.keeps_undo F es output.now r.undo) }
         ensures origin { IfOk result (λ r. r.origin ≡ self.origin) }
-        ensures refused { IfErr result (λ e. (F : PrenexFormula) → (es : List BothEntry) → AreBehind F self es → ArePure es →
-            HaveStopped F es output.now e) }
+        ensures refused { IfErr result (λ e.
+            (F : PrenexFormula) → (es : List BothEntry) → AreBehind F self es → ArePure es
+            → HaveStopped F es output.now e) }
     {
         let Judges {
             alloc,
@@ -120,13 +133,15 @@ impl Judges {
 fn finish_plain(
     alloc: Global,
     origin: &Origin,
-    mut plain: PlainSeat,
+    mut plain: LazyChecker,
     output: &Formula,
 ) -> Result<Verified, CheckError>
-    ensures passed { IfOk result (λ v. (F : PrenexFormula) → IsHeld F origin.now →
-        (keep : Bool) → (ps : List Entry) → IsBehindPlain keep F ps plain → HavePassedPlain keep F ps output.now v.undo) }
-    ensures refused { IfErr result (λ e. (F : PrenexFormula) → IsHeld F origin.now →
-        (keep : Bool) → (ps : List Entry) → IsBehindPlain keep F ps plain → HaveStoppedPlain F ps output.now e) }
+    ensures passed { IfOk result (λ v.
+        (F : PrenexFormula) → IsHeld F origin.now → (keep : Bool) → (ps : List Entry)
+        → IsBehindPlain keep F ps plain → HavePassedPlain keep F ps output.now v.undo) }
+    ensures refused { IfErr result (λ e.
+        (F : PrenexFormula) → IsHeld F origin.now → (keep : Bool) → (ps : List Entry)
+        → IsBehindPlain keep F ps plain → HaveStoppedPlain F ps output.now e) }
 {
     plain.fill(alloc, origin, false)?;
     plain.finish(output)

@@ -1,7 +1,7 @@
 // The formula that a log begins with. Once a checker has it, it is held on demand alone.
 ghost use Rattle.std.specs.Prelude.{◌≡◌, None, Some, IfOk, MatchOption};
-ghost use Rattle.q_logic.specs.Formulas.{PrenexFormula};
-ghost use Rattle.q_command.specs.Seats.{IsHeld};
+ghost use Rattle.q_logic.specs.Prelude.{PrenexFormula};
+ghost use Rattle.q_command.specs.LazyCheckers.{IsHeld};
 
 use q_logic::{Formula, NoMemory};
 use std::alloc::Global;
@@ -16,8 +16,8 @@ pub(crate) struct Origin {
 
 impl Model for Origin {
     ghost use Rattle.std.specs.Prelude.{Option};
-    ghost use Rattle.q_logic.specs.Formulas.{PrenexFormula};
-    ghost use Rattle.q_command.specs.Seats.{first_in};
+    ghost use Rattle.q_logic.specs.Prelude.{PrenexFormula};
+    ghost use Rattle.q_command.specs.LazyCheckers.{first_in};
 
     ghost Value = { Option PrenexFormula };
 

@@ -1,10 +1,10 @@
 // The steps of a log on trial: each is tried, counted, and on demand kept with its line.
 ghost use Rattle.std.specs.Prelude.{◌≡◌, ◌<◌, ◌-◌, ◌^◌, List, OnOk, IfErr, IsErrOf};
-ghost use Rattle.q_logic.specs.Formulas.{PrenexFormula};
+ghost use Rattle.q_logic.specs.Prelude.{PrenexFormula};
 ghost use Rattle.q_hinted.specs.Logs.{Entry as BothEntry};
 ghost use Rattle.q_command.specs.Checks.{IsUnverified};
 ghost use Rattle.q_command.specs.Judging.{AreBehind};
-ghost use Rattle.q_command.specs.Seats.{hints_taken};
+ghost use Rattle.q_command.specs.LazyCheckers.{hints_taken};
 ghost use Rattle.q_command.specs.Trials.{HasTried, Convicts};
 
 use crate::judges::Judges;
@@ -31,8 +31,9 @@ impl Trial {
         requires hints { hints_taken self.old.judges.hinted < 2 ^ 61 }
         requires count { self.old.taken.count < 2 ^ 64 - 1 }
         ensures tried { OnOk result (HasTried (line, step, proof.now) self.old self.new) }
-        ensures refused { IfErr result (λ o. (F : PrenexFormula) → (es : List BothEntry) → AreBehind F self.old.judges es →
-            Convicts o F es (line, step, proof.now)) }
+        ensures refused { IfErr result (λ o.
+            (F : PrenexFormula) → (es : List BothEntry) → AreBehind F self.old.judges es
+            → Convicts o F es (line, step, proof.now)) }
         ensures unverified { IfErr result IsUnverified }
         ensures fault { IsErrOf result Outcome.ReadFault → ⊥ }
     {

@@ -1,5 +1,5 @@
 use Rattle.std.proofs.Common.{ap, Err}
-use Rattle.q_command.proofs.Concluding.{unverified-if}
+use Rattle.q_command.proofs.LogEnd.{unverified-if}
 use Rattle.q_command.proofs.checking.check.Goals as goal
 
 pub returns-clause-truth : goal.returns-clause-truth

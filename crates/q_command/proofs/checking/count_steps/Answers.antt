@@ -1,7 +1,7 @@
 use Rattle.q_io.specs.Files.{bytes_at}
-use Rattle.q_command.proofs.Feeding.{at_same}
-use Rattle.q_command.proofs.Concluding.{files_counted, files_say, held-first}
-use Rattle.q_command.proofs.Exact.{truth_taken}
+use Rattle.q_command.proofs.FilePieces.{at_same}
+use Rattle.q_command.proofs.LogEnd.{files_counted, files_say, held-first}
+use Rattle.q_command.proofs.CheckStatus.{truth_taken}
 use Rattle.q_command.proofs.checking.count_steps.Goals as goal
 
 pub returns-in-Ok-check_log-clause-verified : goal.returns-in-Ok-check_log-clause-verified

@@ -1,5 +1,5 @@
 use Rattle.std.proofs.Common.{false}
-use Rattle.q_command.proofs.Judging.{ended-plain, stopped-plain, ended-held, stopped-held}
+use Rattle.q_command.proofs.BothCheckers.{ended-plain, stopped-plain, ended-held, stopped-held}
 use Rattle.q_command.proofs.judges.finish_plain.Goals as goal
 
 pub returns-clause-passed : goal.returns-clause-passed
