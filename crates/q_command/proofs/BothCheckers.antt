@@ -1,5 +1,6 @@
 -- The checkers of both profiles, step by step, and their ends.
-use Rattle.std.proofs.Common.{◌≡◌, inl, inr, ◌<◌, ◌∙◌, refl, sym, ap, subst, arith, ℕ, Bool, true, false, List, [], ◌∷◌, ◌++◌, map, length, append-nil, length-append, Option, Some, None, Result, Ok, Err, IfOk, IfErr, OnOk, IsSome, IsSomeAnd, is_some}
+use Rattle.std.proofs.Common.{◌≡◌, inl, inr, ◌<◌, ◌==◌, ◌∙◌, refl, sym, ap, subst, arith, ℕ, Bool, true, false, List, [], ◌∷◌, ◌++◌, map, length, append-nil, length-append, Option, Some, None, Result, Ok, Err, IfOk, IfErr, OnOk, IsSome, IsSomeAnd, is_some}
+use Rattle.std.proofs.lemmas.Bool.Decides.{nat_tests}
 use Rattle.q_logic.specs.Prelude.{PrenexFormula, Prefix, Matrix, Hinted, HintedSteps, HintedValid, HintedCause, NumberedFormula, ProofPart, begun, plain, strip, hinted_after, standard, live, numbered, blocks, SameBlocks, ValidSteps, SameFormula, AreAlike, ProofStep, Valid, Cause, after, UndoEntry, Undos}
 use Rattle.q_logic.specs.declared.limits.Limits.{Limits}
 use Rattle.q_logic.proofs.Common.{alike_itself, alike_swapped, alike_cause}
@@ -15,7 +16,7 @@ use Rattle.q_check.specs.HintChecks.{HintChecked, IsHintRefusal}
 use Rattle.q_check.proofs.CheckerRuns.{leads_begin, leads_more, leads_undos}
 use Rattle.q_command.specs.Logs.{Entry, HintedEntry, steps_of, hinted_of, EndsApart}
 use Rattle.q_command.specs.Judging.{AreBehind, ArePure, IsMade, SameTask, IsBehindPlain, IsBehindHinted, HasTakenPlain, HasTakenHinted, IsBadPlain, IsBadHinted, HavePassedPlain, HaveEndedPlain, HaveStoppedPlain, HavePassed, HaveStopped, Leaves, plain_in, bare}
-use Rattle.q_command.specs.LazyCheckers.{IsHeld, IsReadyPlain, IsReadyHinted, IsNewPlain, new_hinted, HasSteppedPlain, HasSteppedHinted, IsEndedPlain, IsEndedHinted, hints_taken}
+use Rattle.q_command.specs.LazyCheckers.{IsHeld, first_in, IsReadyPlain, IsReadyHinted, IsNewPlain, new_hinted, HasSteppedPlain, HasSteppedHinted, IsEndedPlain, IsEndedHinted, hints_taken}
 use Rattle.q_command.specs.declared.judges.Judges.{Judges}
 use Rattle.q_command.proofs.LogEntries.{plain_in-append, hinted_in-append, steps_of-append, hinted_of-append, strip-append, hinted_in-plain, bare-plain, bare-hinted, stripped-steps, only-plain}
 
@@ -168,6 +169,29 @@ ready-hinted-some keep F None new h = ap is_some h
 pub ready-hints : (keep : Bool) (F : PrenexFormula) (old new : Option HintChecked) → IsReadyHinted keep F old new → hints_taken new ≡ hints_taken old
 ready-hints keep F (Some c) new h = ap hints_taken h
 ready-hints keep F None new h = ap hints_taken h
+
+-- and in one that is ready for each formula that another place may hold
+no_formula : PrenexFormula
+no_formula = record { prefix = []; matrix = [] }
+
+some-held : (o : Option PrenexFormula) → (F : PrenexFormula) × IsHeld F o
+some-held None = (no_formula, tt)
+some-held (Some G) = (G, refl)
+
+pub filled-plain-some : (keep : Bool) (o : Option PrenexFormula) (old new : Option Checked) → ((F : PrenexFormula) → IsHeld F o → IsReadyPlain keep F old new) → IsSome new
+filled-plain-some keep o old new h =
+    let p : (F : PrenexFormula) × IsHeld F o = some-held o in
+    ready-plain-some keep p.0 old new (h p.0 p.1)
+
+pub filled-hinted-some : (keep : Bool) (o : Option PrenexFormula) (old new : Option HintChecked) → ((F : PrenexFormula) → IsHeld F o → IsReadyHinted keep F old new) → IsSome new
+filled-hinted-some keep o old new h =
+    let p : (F : PrenexFormula) × IsHeld F o = some-held o in
+    ready-hinted-some keep p.0 old new (h p.0 p.1)
+
+pub filled-hints : (keep : Bool) (o : Option PrenexFormula) (old new : Option HintChecked) → ((F : PrenexFormula) → IsHeld F o → IsReadyHinted keep F old new) → hints_taken new ≡ hints_taken old
+filled-hints keep o old new h =
+    let p : (F : PrenexFormula) × IsHeld F o = some-held o in
+    ready-hints keep p.0 old new (h p.0 p.1)
 
 -- the answer of the checker that was there, or of one that was made for the step
 goes-on-plain : (keep : Bool) (F : PrenexFormula) (s : ProofStep) (u : Unit) (c : Checked) (new : Option Checked) → HasSteppedPlain s (Ok u) (Some c) new → (ps : List Entry) (line : ℕ) → HasTakenPlain keep F ps c → IsBehindPlain keep F (ps ++ (line, s) ∷ []) new
@@ -372,6 +396,28 @@ held-err o (Err e) P f = f
 -- the formula that is held
 pub is-held : (F G : PrenexFormula) (o : Option PrenexFormula) → o ≡ Some G → IsHeld F o → G ≡ F
 is-held F G o e h = subst (λ (x : Option PrenexFormula). IsHeld F x) e h
+
+-- a row of at most one
+is-zero : (n : ℕ) → (n == 0) ≡ true → n ≡ 0
+is-zero n e = grind (arith, nat_tests)
+
+pub first-none : {X : Type 0} (xs : List X) (n : ℕ) → n ≡ length xs → (n == 0) ≡ true → first_in xs ≡ None
+first-none [] n l e = refl
+first-none (x ∷ xs) n l e =
+    let z : n ≡ 0 = is-zero n e in
+    absurd (omega (arith, z, l))
+
+pub first-pushed : {X : Type 0} (old mid new : List X) (x : X) → first_in old ≡ None → mid ≡ old → new ≡ mid ++ x ∷ [] → first_in new ≡ Some x
+first-pushed [] mid new x z m e = ap first_in (e ∙ ap (λ ys. ys ++ x ∷ []) m)
+first-pushed (y ∷ ys) mid new x z m e = cc
+
+-- a new checker of hints, where there was none
+pub started-hinted : (keep : Bool) (F : PrenexFormula) (m : Limits) (c : HintChecked) → c ≡ record { formula = begun F; undo = []; limits = m; keeps = keep; steps = 0 } → m ≡ standard → c ≡ new_hinted keep F
+started-hinted keep F m c e q = e ∙ ap (λ (l : Limits). let d : HintChecked = record { formula = begun F; undo = []; limits = l; keeps = keep; steps = 0 } in d) q
+
+pub new-hinted-ready : (keep : Bool) (F G : PrenexFormula) (o : Option PrenexFormula) (old new : Option HintChecked) (c : HintChecked) → o ≡ Some G → old ≡ None → new ≡ Some c → c ≡ new_hinted keep G → IsHeld F o → IsReadyHinted keep F old new
+new-hinted-ready keep F G o None new c e z q n h = subst (λ (x : PrenexFormula). new ≡ Some (new_hinted keep x)) (is-held F G o e h) (q ∙ ap Some n)
+new-hinted-ready keep F G o (Some d) new c e z q n h = cc
 
 pub ended-held : (o : Option PrenexFormula) (r : Result Verified CheckError) (P : Verified → PrenexFormula → Type 0) → ((F : PrenexFormula) → IsHeld F o → IfOk r (λ v. P v F)) → IfOk r (λ v. (F : PrenexFormula) → IsHeld F o → P v F)
 ended-held o (Ok v) P f = f

@@ -1,7 +1,8 @@
 use Rattle.std.proofs.Common.{subst, Option, ◌∷◌, ◌++◌, [], sym}
 use Rattle.q_logic.specs.Prelude.{ProofPart}
-use Rattle.q_command.specs.Judging.{AreBehind}
-use Rattle.q_command.proofs.FilePieces.{on_both}
+use Rattle.q_hinted.specs.Logs.{hinted_in}
+use Rattle.q_command.specs.Judging.{AreBehind, IsRefusedBehind, plain_in}
+use Rattle.q_command.proofs.FilePieces.{err_then, on_both}
 use Rattle.q_command.proofs.BothCheckers.{behind-plain, behind-hinted}
 use Rattle.q_command.proofs.judges.Judges.step.Goals as goal
 
@@ -16,3 +17,13 @@ returns-in-Some-clause-behind c =
     on_both c.step_hinted.result c.step_hinted.ensures.behind c.step_hinted.ensures.origin
     (λ f o F es line b. subst (λ (x : Option ProofPart). AreBehind F c.step_hinted.new.self (es ++ (line, c.args.step.now, x) ∷ [])) (sym c.in-Some.is)
     (behind-hinted F c.args.self.now c.step_hinted.new.self es line c.args.step.now c.in-Some.proof (f F b.origin) (o F b.origin) c.step_hinted.ensures.same c.step_hinted.ensures.plain b))
+
+pub returns-in-None-clause-refused : goal.returns-in-None-clause-refused
+returns-in-None-clause-refused c =
+    err_then c.step_plain.result c.step_plain.ensures.refused
+    (λ e f F es b. subst (λ (x : Option ProofPart). IsRefusedBehind F es c.args.step.now x e) (sym c.in-None.is) (f F b.origin (plain_in es) b.plain))
+
+pub returns-in-Some-clause-refused : goal.returns-in-Some-clause-refused
+returns-in-Some-clause-refused c =
+    err_then c.step_hinted.result c.step_hinted.ensures.refused
+    (λ e f F es b. subst (λ (x : Option ProofPart). IsRefusedBehind F es c.args.step.now x e) (sym c.in-Some.is) (f F b.origin (hinted_in es) b.hinted))

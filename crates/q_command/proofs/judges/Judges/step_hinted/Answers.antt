@@ -1,5 +1,20 @@
-use Rattle.q_command.proofs.BothCheckers.{answer-hinted, refusal-hinted, held-ok, held-err}
+use Rattle.std.proofs.Common.{◌∙◌, ap, subst, sym, ◌<◌, ◌^◌, ◌+◌, ℕ}
+use Rattle.q_command.proofs.FilePieces.{on_ok}
+use Rattle.q_command.proofs.BothCheckers.{answer-hinted, refusal-hinted, held-ok, held-err, filled-hinted-some, filled-hints}
 use Rattle.q_command.proofs.judges.Judges.step_hinted.Goals as goal
+
+pub step-requires-clause-there : goal.step-requires-clause-there
+step-requires-clause-there c =
+    filled-hinted-some c.args.self.now.keeps_undo c.args.self.now.origin c.args.self.now.hinted c.fill.new.self c.in_ok-fill.ensures.ready
+
+pub step-requires-clause-hints : goal.step-requires-clause-hints
+step-requires-clause-hints c =
+    subst (λ (n : ℕ). n < 2 ^ 61) (sym (filled-hints c.args.self.now.keeps_undo c.args.self.now.origin c.args.self.now.hinted c.fill.new.self c.in_ok-fill.ensures.ready)) c.requires
+
+pub returns-clause-taken : goal.returns-clause-taken
+returns-clause-taken c =
+    on_ok c.step.result c.step.ensures.taken
+    (λ e. e ∙ ap (λ (n : ℕ). n + 1) (filled-hints c.args.self.now.keeps_undo c.args.self.now.origin c.args.self.now.hinted c.fill.new.self c.in_ok-fill.ensures.ready))
 
 pub returns-clause-behind : goal.returns-clause-behind
 returns-clause-behind c =

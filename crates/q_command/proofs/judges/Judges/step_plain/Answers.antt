@@ -1,5 +1,9 @@
-use Rattle.q_command.proofs.BothCheckers.{answer-plain, refusal-plain, held-ok, held-err}
+use Rattle.q_command.proofs.BothCheckers.{answer-plain, refusal-plain, held-ok, held-err, filled-plain-some}
 use Rattle.q_command.proofs.judges.Judges.step_plain.Goals as goal
+
+pub step-requires : goal.step-requires
+step-requires c =
+    filled-plain-some c.args.self.now.keeps_undo c.args.self.now.origin c.args.self.now.plain c.fill.new.self c.in_ok-fill.ensures.ready
 
 pub returns-clause-behind : goal.returns-clause-behind
 returns-clause-behind c =
