@@ -1,8 +1,7 @@
 -- What is in a cone is what the tree reads.
 use Rattle.std.proofs.Common.{◌≡◌, ℕ, zero, suc, ◌+◌, ◌<◌, ◌≤◌, Bool, true, false, cond, List, [], length, map, get_or, refl, sym, subst, inl, inr, arith, Option, Some, None}
 use Rattle.std.proofs.lemmas.List.{length-map, get_or-map}
-use Rattle.q_logic.specs.Circuits.{Circuit, Reads, inverter, conjunction}
-use Rattle.q_logic.specs.Certificates.{GateNode, falsum, input_at, gate_at, Gate, IsThere, AreGates, node_tree, operand_tree, gate_tree, gate_trees}
+use Rattle.q_logic.specs.Prelude.{Circuit, Reads, inverter, conjunction, GateNode, falsum, input_at, gate_at, Gate, IsThere, AreGates, node_tree, operand_tree, gate_tree, gate_trees}
 use Rattle.q_aig.specs.Nets.{operand_of, gate_of, AreDistinct}
 use Rattle.q_aig.specs.Cones.{ReadsAt, AreAllowed, IsFirstStrange, IsRead}
 use Rattle.q_aig.specs.Walking.{pair_at, IsInCone, root, left, right, IsPlain, IsStrange, IsSearched}

@@ -3,8 +3,7 @@ use Rattle.std.proofs.Common.{◌≡◌, ℕ, zero, suc, ◌+◌, ◌*◌, ◌/�
 use Rattle.std.proofs.lemmas.List.{length_push, get_or_push, get_or_append_left, get_or-map, length-map, append-nil, append_assoc}
 use Rattle.std.proofs.lemmas.Bool.{cases_lt}
 use Rattle.std.proofs.lemmas.Bool.Decides.{nat_tests}
-use Rattle.q_logic.specs.Circuits.{Circuit, conjunction}
-use Rattle.q_logic.specs.Certificates.{GateNode, falsum, input_at, gate_at, Operand, Gate, IsThere, AreGates, operand_tree, gate_tree, gate_trees}
+use Rattle.q_logic.specs.Prelude.{Circuit, conjunction, GateNode, falsum, input_at, gate_at, Operand, Gate, IsThere, AreGates, operand_tree, gate_tree, gate_trees}
 use Rattle.q_logic.proofs.CertificateTrees.{operand_tree-more, gate_trees-last, gate_trees-more_inputs, length-gate_trees}
 use Rattle.q_aig.specs.Nets.{Net, node_of, operand_of, gate_of, AreDistinct, IsNew, IsNet, Keeps}
 

@@ -2,7 +2,7 @@
 use Rattle.std.proofs.Common.{◌≡◌, ◌≢◌, ℕ, ◌<◌, List, [], ◌∷◌, ◌++◌, length, map, get_or, sym, ap, ◌∙◌, subst, inl, inr, arith}
 use Rattle.std.proofs.lemmas.List.{length-map, get_or-map, length_push, get_or_append_left, get_or_push}
 use Rattle.std.proofs.lemmas.Bool.{cases_lt}
-use Rattle.q_logic.specs.Certificates.{NamedOutput}
+use Rattle.q_logic.specs.Prelude.{NamedOutput}
 use Rattle.q_aig.specs.declared.output.Output.{Output}
 use Rattle.q_aig.specs.Nets.{Net, IsLiteral}
 use Rattle.q_aig.specs.Outputs.{output_of, no_output, IsNewName, AreOutputs}

@@ -1,6 +1,6 @@
 -- The inputs that a literal reads.
 use Rattle.std.specs.Prelude.{◌≡◌, ◌<◌, ℕ, Bool, true, false, List, length, slice_index_or, Option, Some, None}
-use Rattle.q_logic.specs.Circuits.{Reads}
+use Rattle.q_logic.specs.Prelude.{Reads}
 use Rattle.q_aig.specs.Nets.{Net, tree_at}
 
 -- the input at the place i is read

@@ -1,8 +1,7 @@
 -- And-inverter graphs whose literals are numbers: 0 is false, 1 is true, and of a literal and its negation the
 -- odd one is the negated one.
 use Rattle.std.specs.Prelude.{◌≡◌, ◌≢◌, ◌<◌, ◌≤◌, ℕ, ◌/◌, ◌-◌, ◌%◌, ◌==◌, not, if◌then◌else◌, List, [], length, slice_index_or}
-use Rattle.q_logic.specs.Circuits.{Circuit}
-use Rattle.q_logic.specs.Certificates.{GateNode, falsum, input_at, gate_at, Operand, Gate, IsThere, AreGates, operand_tree, gate_trees}
+use Rattle.q_logic.specs.Prelude.{Circuit, GateNode, falsum, input_at, gate_at, Operand, Gate, IsThere, AreGates, operand_tree, gate_trees}
 
 -- inputs are variables
 pub record Net : Type 0 where

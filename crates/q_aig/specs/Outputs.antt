@@ -1,6 +1,6 @@
 -- Certificates: nets with named outputs.
 use Rattle.std.specs.Prelude.{◌≡◌, ◌≢◌, ◌<◌, ℕ, List, length, slice_index_or}
-use Rattle.q_logic.specs.Certificates.{NamedOutput, CertificateView}
+use Rattle.q_logic.specs.Prelude.{NamedOutput, CertificateView}
 use Rattle.q_aig.specs.Nets.{Net, operand_of, IsLiteral}
 use Rattle.q_aig.specs.declared.output.Output.{Output}
 

@@ -1,6 +1,6 @@
 -- A search through the cone of a literal: gates that were met are marked, and stand in a queue.
 use Rattle.std.specs.Prelude.{◌≡◌, ◌<◌, ◌≤◌, ℕ, ◌+◌, Bool, true, false, cond, List, [], ◌∷◌, length, slice_index_or, Option, Some, None, MatchOption, ◌⊎◌}
-use Rattle.q_logic.specs.Certificates.{GateNode, falsum, input_at, gate_at}
+use Rattle.q_logic.specs.Prelude.{GateNode, falsum, input_at, gate_at}
 use Rattle.q_aig.specs.Nets.{operand_of}
 
 abbrev pub pair_at : List (ℕ × ℕ) → ℕ → ℕ × ℕ

@@ -3,8 +3,7 @@ use Rattle.std.proofs.Common.{◌≡◌, ◌≢◌, ℕ, zero, suc, ◌+◌, ◌
 use Rattle.std.specs.List.{AllByRecursion, AllZip}
 use Rattle.std.proofs.lemmas.List.{length-map, get_or_append_left, get_or-append_right}
 use Rattle.std.proofs.lemmas.Bool.{cases_lt}
-use Rattle.q_logic.specs.Parts.{ArePairs}
-use Rattle.q_logic.specs.Certificates.{GateNode, falsum, input_at, gate_at, Operand, Gate, NamedOutput, CertificateView, IsThere, AreGates}
+use Rattle.q_logic.specs.Prelude.{ArePairs, GateNode, falsum, input_at, gate_at, Operand, Gate, NamedOutput, CertificateView, IsThere, AreGates}
 use Rattle.q_gates.specs.Gates.{no_gate}
 use Rattle.q_aiger.specs.Lines.{lines_of}
 use Rattle.q_aiger.specs.Cones.{no_output, IsPart, output, left, right, AreCones, place_in}
@@ -12,8 +11,8 @@ use Rattle.q_aiger.specs.Circuits.{moved_node, moved, moved_gate, moved_output}
 use Rattle.q_aiger.specs.Writing.{number_of, literal_of, number_line, header_line, input_lines, output_lines, gate_lines, symbol_lines, names_of, circuit_text}
 use Rattle.q_aiger.specs.Grammar.{Definition, no_definition, Text, AreNumbers, Says, IsVar, IsLiteral, IsDefinition, variables, AreOnce, Stands, constant, input, gate, IsOperand, IsGate, output_labels, IsLabelled, AreNames, IsFile}
 use Rattle.q_aiger.specs.RoundTrip.{AreNamed, IsSpellable}
-use Rattle.q_aiger.proofs.Spelling.{all-weaker}
-use Rattle.q_aiger.proofs.Rows.{vars_from, input_rows, lits_of, output_rows, definition_of, definitions_of, IsSmallGate, gate_rows, symbol_rows, numbered, inputs_labelled, outputs_labelled, header_row, header_words, header-said, header-numbers, header-line, inputs-lines, inputs-said, outputs-lines, outputs-said, gates-lines, gates-said, symbols-lines, input-symbols-said, output-symbols-said, zip-append, labels-inputs, labels-outputs}
+use Rattle.q_aiger.proofs.LineParts.{all-weaker}
+use Rattle.q_aiger.proofs.CanonicalLines.{vars_from, input_rows, lits_of, output_rows, definition_of, definitions_of, IsSmallGate, gate_rows, symbol_rows, numbered, inputs_labelled, outputs_labelled, header_row, header_words, header-said, header-numbers, header-line, inputs-lines, inputs-said, outputs-lines, outputs-said, gates-lines, gates-said, symbols-lines, input-symbols-said, output-symbols-said, zip-append, labels-inputs, labels-outputs}
 use Rattle.q_aiger.proofs.ItemRows.{vars_of}
 
 -- the gate of the text: the operand of the greater literal comes first

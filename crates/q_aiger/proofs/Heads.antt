@@ -5,7 +5,7 @@ use Rattle.q_text.specs.Words.{digits}
 use Rattle.q_aiger.specs.Lines.{clipped, words}
 use Rattle.q_aiger.specs.Headers.{Counts, is_aag, counts_with, counts_of, Header, header_with, header_of}
 use Rattle.q_aiger.specs.Grammar.{AreNumbers}
-use Rattle.q_aiger.proofs.Naming.{and-left, and-right}
+use Rattle.q_aiger.proofs.LongerNames.{and-left, and-right}
 
 eqb-same : (a b : ℕ) → eqb a b ≡ true → a ≡ b
 eqb-same a b e = grind arith

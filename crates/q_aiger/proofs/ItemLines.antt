@@ -4,9 +4,9 @@ use Rattle.std.proofs.lemmas.Bool.Decides.{nat_tests}
 use Rattle.q_aiger.specs.Headers.{Header}
 use Rattle.q_aiger.specs.Items.{Items, place_of, is_left, is_right, one_number, three_numbers, with_input, with_output, with_gate, with_line}
 use Rattle.q_aiger.specs.Grammar.{Definition, AreNumbers, IsVar, IsLiteral, IsDefinition}
-use Rattle.q_aiger.proofs.Numbers.{one-line, line-one, three-line, line-three}
-use Rattle.q_aiger.proofs.Naming.{and-left, and-right}
-use Rattle.q_aiger.proofs.Defining.{none-there, place-none, fresh}
+use Rattle.q_aiger.proofs.NumberLines.{one-line, line-one, three-line, line-three}
+use Rattle.q_aiger.proofs.LongerNames.{and-left, and-right}
+use Rattle.q_aiger.proofs.DefinedPlaces.{none-there, place-none, fresh}
 
 abbrev pub st : List ℕ → List ℕ → List (ℕ × ℕ) → Items
 st ds os ps = record { defined = ds; outputs = os; operands = ps }

@@ -6,7 +6,7 @@ use Rattle.q_aiger.specs.Headers.{Header}
 use Rattle.q_aiger.specs.Lines.{words}
 use Rattle.q_aiger.specs.Items.{Items, Behind, one_number, three_numbers, with_input, with_output, with_gate, with_line, follow, items_from}
 use Rattle.q_aiger.specs.Grammar.{Definition, IsLine, input_numbers, output_numbers, gate_numbers, IsVar, IsLiteral, IsDefinition, AreOnce}
-use Rattle.q_aiger.proofs.Defining.{once-push, once-fresh}
+use Rattle.q_aiger.proofs.DefinedPlaces.{once-push, once-fresh}
 use Rattle.q_aiger.proofs.ItemLines.{st, lt-true, lt-false, line-input, line-output, line-gate, InputTaken, input-taken, input-takes, OutputTaken, output-taken, output-takes, GateTaken, gate-taken, gate-takes}
 
 abbrev pub vars_of : List Definition → List ℕ

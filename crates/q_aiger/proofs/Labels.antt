@@ -3,12 +3,12 @@ use Rattle.std.proofs.Common.{◌≡◌, ◌≢◌, ◌⊎◌, ℕ, suc, ◌<◌
 use Rattle.std.specs.List.{AllByRecursion}
 use Rattle.std.proofs.lemmas.List.{length-set, length-replicate, get_or-set_same, get_or-set_other, ext_get_or}
 use Rattle.std.proofs.lemmas.Bool.Decides.{nat_tests}
-use Rattle.q_logic.specs.Parts.{ArePairs}
+use Rattle.q_logic.specs.Prelude.{ArePairs}
 use Rattle.q_gates.proofs.Cases.{ℕ-cases}
 use Rattle.q_aiger.specs.Symbols.{is_used, is_free_name, with_name, all_named, AreApart}
 use Rattle.q_aiger.specs.Grammar.{IsLabelled, AreNames}
-use Rattle.q_aiger.proofs.Naming.{IsFree, free, apart-none, apart-more, zero-at}
-use Rattle.q_aiger.proofs.There.{variables}
+use Rattle.q_aiger.proofs.LongerNames.{IsFree, free, apart-none, apart-more, zero-at}
+use Rattle.q_aiger.proofs.ResolvedOperands.{variables}
 
 abbrev pub given : Result (List ℕ) ℕ → List (ℕ × ℕ) → Result (List ℕ) ℕ
 given (Err c) es = Err c

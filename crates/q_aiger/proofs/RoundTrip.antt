@@ -2,9 +2,7 @@
 use Rattle.std.proofs.Common.{◌≡◌, ◌⊎◌, ℕ, zero, suc, ◌+◌, ◌<◌, ◌&&◌, cond, not, Bool, true, false, nat_le, List, [], ◌∷◌, length, map, get_or, Ok, Result, refl, ap, sym, ◌∙◌, arith, subst, inl, inr, Some}
 use Rattle.std.proofs.lemmas.List.{length-map}
 use Rattle.std.proofs.lemmas.Bool.{cases_lt}
-use Rattle.q_logic.specs.Truth.{Assignment}
-use Rattle.q_logic.specs.Circuits.{value_of}
-use Rattle.q_logic.specs.Certificates.{GateNode, falsum, input_at, gate_at, Operand, Gate, NamedOutput, CertificateView, IsThere, AreGates, gate_trees, tree_of}
+use Rattle.q_logic.specs.Prelude.{Assignment, value_of, GateNode, falsum, input_at, gate_at, Operand, Gate, NamedOutput, CertificateView, IsThere, AreGates, gate_trees, tree_of}
 use Rattle.q_gates.specs.Gates.{no_gate}
 use Rattle.q_gates.specs.Uses.{part_of, Uses, IsFullOrder}
 use Rattle.q_aiger.specs.Cones.{no_output, output, left, right, AreCones, place_in}
@@ -12,10 +10,10 @@ use Rattle.q_aiger.specs.Circuits.{parse, moved_node, moved, moved_gate, moved_o
 use Rattle.q_aiger.specs.Writing.{literal_of, names_of, circuit_text, IsCanonical}
 use Rattle.q_aiger.specs.Grammar.{IsFile, Circuits}
 use Rattle.q_aiger.specs.RoundTrip.{IsSpellable, HaveSameValues, IsReadAs}
-use Rattle.q_aiger.proofs.Grammar.{file-parsed}
+use Rattle.q_aiger.proofs.AigerGrammar.{file-parsed}
 use Rattle.q_aiger.proofs.Canonical.{turned_gate, turned_gates, written_of, Known, known, gates-there, length-vars, vars-at, canonical-file}
-use Rattle.q_aiger.proofs.Rows.{vars_from}
-use Rattle.q_aiger.proofs.Values.{node_gives, gives, gate_gives, tree_gives, operand-value, tree-value, AreThere, AreValuesOf, sorted-operand}
+use Rattle.q_aiger.proofs.CanonicalLines.{vars_from}
+use Rattle.q_aiger.proofs.CertificateValues.{node_gives, gives, gate_gives, tree_gives, operand-value, tree-value, AreThere, AreValuesOf, sorted-operand}
 
 module _ (c : CertificateView) (kept : List ℕ) (a : AreCones c kept) (o : AreGates (length c.inputs) 0 c.gates) where
   -- the value of the gate that the text has at a place

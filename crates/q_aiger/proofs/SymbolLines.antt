@@ -6,8 +6,8 @@ use Rattle.q_aiger.specs.Lines.{words, number}
 use Rattle.q_aiger.specs.Items.{follow}
 use Rattle.q_aiger.specs.Symbols.{Symbol, nothing, comment, input_name, output_name, strange, input_symbol, output_symbol, is_c, symbol_of, Names, with_name, all_named, names_at_end, with_inputs, with_outputs, symbol_turn, names_from}
 use Rattle.q_aiger.specs.Grammar.{Label, blank, of_input, of_output, IsSymbol, Says, IsEnd, input_labels, output_labels}
-use Rattle.q_aiger.proofs.Naming.{and-left, and-right}
-use Rattle.q_aiger.proofs.Numbers.{number-digits, digits-number}
+use Rattle.q_aiger.proofs.LongerNames.{and-left, and-right}
+use Rattle.q_aiger.proofs.NumberLines.{number-digits, digits-number}
 use Rattle.q_aiger.proofs.Labels.{given, named, IsNamed}
 
 eqb-same : (a b : ℕ) → eqb a b ≡ true → a ≡ b

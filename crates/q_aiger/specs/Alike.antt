@@ -1,6 +1,6 @@
 -- Certificates that differ in the order of their gates alone, and files that hold no circuits.
 use Rattle.std.specs.Prelude.{◌≡◌, ℕ, List}
-use Rattle.q_logic.specs.Certificates.{CertificateView, trees_of}
+use Rattle.q_logic.specs.Prelude.{CertificateView, trees_of}
 use Rattle.q_aiger.specs.Writing.{names_of}
 use Rattle.q_aiger.specs.Circuits.{AreCircuits}
 

@@ -1,6 +1,6 @@
 -- What a whole file says: its circuits, or its first offence.
 use Rattle.std.specs.Prelude.{◌≡◌, ℕ, ◌+◌, nat_le, List, [], ◌∷◌, length, take, map, if◌then◌else◌, Result, Ok, Err, slice_index_or}
-use Rattle.q_logic.specs.Certificates.{GateNode, falsum, input_at, gate_at, Operand, Gate, NamedOutput, CertificateView}
+use Rattle.q_logic.specs.Prelude.{GateNode, falsum, input_at, gate_at, Operand, Gate, NamedOutput, CertificateView}
 use Rattle.q_text.specs.Texts.{line_after}
 use Rattle.q_aiger.specs.declared.error.AigerError.{AigerError}
 use Rattle.q_aiger.specs.declared.error.AigerError.TheVariants.{Refused, NoMemory}

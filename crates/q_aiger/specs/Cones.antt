@@ -1,8 +1,8 @@
 -- The gates that the outputs of a certificate are made of.
 use Rattle.std.specs.Prelude.{◌≡◌, ◌<◌, ◌≤◌, ℕ, ◌+◌, Bool, true, false, List, [], ◌∷◌, length, slice_index_or, slice_set, eqb, if◌then◌else◌}
-use Rattle.q_aig.specs.Walking.{IsMarked}
+use Rattle.q_aig.specs.Prelude.{IsMarked}
 use Rattle.q_gates.specs.Gates.{no_operand, no_gate}
-use Rattle.q_logic.specs.Certificates.{GateNode, falsum, input_at, gate_at, NamedOutput, CertificateView}
+use Rattle.q_logic.specs.Prelude.{GateNode, falsum, input_at, gate_at, NamedOutput, CertificateView}
 
 abbrev pub no_output : NamedOutput
 no_output = record { name = 0; operand = no_operand }

@@ -2,8 +2,7 @@
 -- by line, what it has to obey, and which circuits it means.
 use Rattle.std.specs.Prelude.{◌≡◌, ◌≢◌, ◌⊎◌, ℕ, ◌+◌, ◌*◌, ◌/◌, ◌%◌, ◌==◌, ◌≤◌, ◌<◌, List, [], ◌∷◌, ◌++◌, length, map, Some, slice_index_or}
 use Rattle.std.specs.List.{AllByRecursion, AllZip}
-use Rattle.q_logic.specs.Parts.{ArePairs}
-use Rattle.q_logic.specs.Certificates.{GateNode, falsum, input_at, gate_at, Operand, Gate, CertificateView}
+use Rattle.q_logic.specs.Prelude.{ArePairs, GateNode, falsum, input_at, gate_at, Operand, Gate, CertificateView}
 use Rattle.q_text.specs.Words.{digits}
 use Rattle.q_gates.specs.Uses.{IsFullOrder}
 use Rattle.q_aiger.specs.declared.error.AigerError.{AigerError}

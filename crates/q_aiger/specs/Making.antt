@@ -1,7 +1,7 @@
 -- Circuits made of what a file says: of each input and each gate the literal that it got.
 use Rattle.std.specs.Prelude.{◌≡◌, ◌≤◌, ◌<◌, ℕ, Bool, false, not, List, length, map, take, if◌then◌else◌, slice_index_or}
-use Rattle.q_logic.specs.Certificates.{GateNode, falsum, input_at, gate_at, Operand, Gate, NamedOutput, IsThere}
-use Rattle.q_aig.specs.Nets.{Net, operand_of}
+use Rattle.q_logic.specs.Prelude.{GateNode, falsum, input_at, gate_at, Operand, Gate, NamedOutput, IsThere}
+use Rattle.q_aig.specs.Prelude.{Net, operand_of}
 use Rattle.q_gates.specs.Gates.{no_gate}
 use Rattle.q_aiger.specs.Circuits.{moved_gate}
 

@@ -1,8 +1,6 @@
 -- What the canonical text of a certificate is read as.
 use Rattle.std.specs.Prelude.{◌≡◌, ◌≤◌, ◌<◌, ℕ, ◌+◌, List, length, slice_index_or}
-use Rattle.q_logic.specs.Truth.{Assignment}
-use Rattle.q_logic.specs.Circuits.{value_of}
-use Rattle.q_logic.specs.Certificates.{CertificateView, IsThere, AreGates, tree_of}
+use Rattle.q_logic.specs.Prelude.{Assignment, value_of, CertificateView, IsThere, AreGates, tree_of}
 use Rattle.q_aiger.specs.Cones.{no_output}
 use Rattle.q_aiger.specs.Symbols.{AreApart}
 use Rattle.q_aiger.specs.Grammar.{Circuits}

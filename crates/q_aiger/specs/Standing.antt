@@ -1,6 +1,6 @@
 -- Operands and gates as the code keeps them, and what it answers.
 use Rattle.std.specs.Prelude.{◌≡◌, ℕ, List, map, Option, Some, None, Result, Ok, Err}
-use Rattle.q_logic.specs.Certificates.{GateNode, Operand, Gate}
+use Rattle.q_logic.specs.Prelude.{GateNode, Operand, Gate}
 use Rattle.q_gates.specs.Gates.{source_view, operand_view, gate_view}
 use Rattle.q_aiger.specs.declared.error.AigerError.{AigerError}
 use Rattle.q_aiger.specs.declared.error.AigerError.TheVariants.{Refused, NoMemory}

@@ -2,7 +2,7 @@
 -- each gate in the cone of an output, and their names.
 use Rattle.std.specs.Prelude.{◌≡◌, ℕ, zero, suc, ◌+◌, ◌*◌, List, [], ◌∷◌, ◌++◌, length, map, max, min, if◌then◌else◌, slice_index_or}
 use Rattle.std.specs.Fmt.{decimal}
-use Rattle.q_logic.specs.Certificates.{GateNode, falsum, input_at, gate_at, Operand, Gate, NamedOutput, CertificateView}
+use Rattle.q_logic.specs.Prelude.{GateNode, falsum, input_at, gate_at, Operand, Gate, NamedOutput, CertificateView}
 use Rattle.q_gates.specs.Gates.{no_gate}
 use Rattle.q_aiger.specs.Cones.{AreCones, place_in}
 

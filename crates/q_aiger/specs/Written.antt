@@ -1,6 +1,6 @@
 -- What the reader knows of a file whose lines it has read.
 use Rattle.std.specs.Prelude.{◌≡◌, ◌<◌, ◌^◌, ◌+◌, length}
-use Rattle.q_logic.specs.Certificates.{CertificateView}
+use Rattle.q_logic.specs.Prelude.{CertificateView}
 use Rattle.q_aiger.specs.declared.reader.Written.{Written}
 use Rattle.q_aiger.specs.Circuits.{with_names}
 use Rattle.q_gates.specs.Gates.{gates_view}

@@ -1,8 +1,7 @@
 //! The gates that the outputs of a certificate are made of.
 ghost use Rattle.std.specs.Prelude.{◌≡◌, ◌<◌, ◌≤◌, ◌↔◌, ℕ, [], false, length, map, slice_index_or, IfOk};
-ghost use Rattle.q_logic.specs.Certificates.{IsThere};
-ghost use Rattle.q_aig.specs.Nets.{operand_of, IsLiteral};
-ghost use Rattle.q_aig.specs.Outputs.{net_of};
+ghost use Rattle.q_logic.specs.Prelude.{IsThere};
+ghost use Rattle.q_aig.specs.Prelude.{operand_of, IsLiteral, net_of};
 ghost use Rattle.q_aiger.specs.Cones.{with_mark, IsMarking, ArePlaced, HasCones};
 
 use q_aig::{Aig, Certificate, Node};

@@ -1,6 +1,6 @@
 //! Laws on the definitions: each is the contract of a function that does nothing.
 ghost use Rattle.std.specs.Prelude.{◌↔◌, ℕ, List};
-ghost use Rattle.q_logic.specs.Certificates.{CertificateView};
+ghost use Rattle.q_logic.specs.Prelude.{CertificateView};
 ghost use Rattle.q_aiger.specs.Circuits.{AreCircuits, Offence};
 ghost use Rattle.q_aiger.specs.Grammar.{Circuits};
 ghost use Rattle.q_aiger.specs.Writing.{IsCanonical};

@@ -1,8 +1,7 @@
 //! Circuits made of what a file says.
 ghost use Rattle.std.specs.Prelude.{◌≡◌, ◌<◌, ◌≤◌, ◌++◌, ◌∷◌, [], ℕ, length, map, take, IfOk, OnOk, slice_index_or};
-ghost use Rattle.q_logic.specs.Certificates.{IsThere, gate_at};
-ghost use Rattle.q_aig.specs.Nets.{operand_of};
-ghost use Rattle.q_aig.specs.Outputs.{net_of};
+ghost use Rattle.q_logic.specs.Prelude.{IsThere, gate_at};
+ghost use Rattle.q_aig.specs.Prelude.{operand_of, net_of};
 ghost use Rattle.q_aiger.specs.Symbols.{AreApart};
 ghost use Rattle.q_gates.specs.Uses.{IsFullOrder};
 ghost use Rattle.q_aiger.specs.Circuits.{with_names, moved_output, sorted_circuits};

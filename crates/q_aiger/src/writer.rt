@@ -1,9 +1,8 @@
 //! The canonical text of a certificate: only the gates in the cones of outputs, numbered on from the inputs in
 //! the order in which they were made.
 ghost use Rattle.std.specs.Prelude.{◌≡◌, ◌<◌, ◌≤◌, ◌++◌, ◌+◌, ◌*◌, ◌-◌, ◌^◌, ℕ, length, map, OnOk, OnErr, IfOk, slice_index_or};
-ghost use Rattle.q_logic.specs.Certificates.{NamedOutput};
-ghost use Rattle.q_aig.specs.Nets.{operand_of, IsLiteral};
-ghost use Rattle.q_aig.specs.Outputs.{net_of, output_of};
+ghost use Rattle.q_logic.specs.Prelude.{NamedOutput};
+ghost use Rattle.q_aig.specs.Prelude.{operand_of, IsLiteral, net_of, output_of};
 ghost use Rattle.q_gates.specs.Gates.{no_gate};
 ghost use Rattle.q_aiger.specs.Cones.{HasCones, IsPart};
 ghost use Rattle.q_aiger.specs.Writing.{number_word, number_line, header_line, input_lines, output_lines, gate_line, gate_lines, symbol_line, symbol_lines, names_of, literal_of, circuit_text, IsCanonicalBehind};

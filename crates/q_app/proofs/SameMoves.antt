@@ -1,15 +1,12 @@
 -- Two calls of `rebuild` on one log.
 use Rattle.std.proofs.Common.{◌≡◌, ℕ, List, Option, refl, subst}
-use Rattle.q_logic.specs.Formulas.{PrenexFormula}
-use Rattle.q_logic.specs.Certificates.{CertificateView, trees_of}
-use Rattle.q_logic.specs.Skolems.{Lawful}
-use Rattle.q_logic.specs.Undos.{Undos}
+use Rattle.q_logic.specs.Prelude.{PrenexFormula, CertificateView, trees_of, Lawful, Undos}
 use Rattle.q_io.specs.Files.{Disk, bytes_at}
 use Rattle.q_rebuild.specs.Rebuilt.{IsRebuilt}
 use Rattle.q_command.specs.Checks.{IsFileOf, IsRunLog}
 use Rattle.q_command.specs.Logs.{Entry, steps_of}
-use Rattle.q_command.proofs.Exact.{one_formula}
-use Rattle.q_command.proofs.Wholes.{one_log, run_of}
+use Rattle.q_command.proofs.CheckStatus.{one_formula}
+use Rattle.q_command.proofs.WholeLogs.{one_log, run_of}
 use Rattle.q_app.specs.Rebuilds.{FiveNames, IsWhole}
 use Rattle.q_app.specs.FirstMoves.{AreOfOneLog, FirstMoves}
 

@@ -1,8 +1,6 @@
 -- Completeness: where no fault comes and the inputs are in their grammars, the answer comes, or memory is wanting.
 use Rattle.std.specs.Prelude.{◌≡◌, ◌≢◌, ◌⊎◌, ◌≤◌, ℕ, List, [], ◌∷◌, length, Option, Some, None, IfSome}
-use Rattle.q_logic.specs.Counts.{Rose}
-use Rattle.q_logic.specs.Formulas.{PrenexFormula}
-use Rattle.q_logic.specs.Measure.{measure_of}
+use Rattle.q_logic.specs.Prelude.{Rose, PrenexFormula, measure_of}
 use Rattle.q_io.specs.Files.{Disk, RoseAmong, bytes_at}
 use Rattle.q_simplify.specs.Results.{IsEnoughFor}
 use Rattle.q_command.specs.Checks.{IsFileOf, IsVerified, IsNoRun}

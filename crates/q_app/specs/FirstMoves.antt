@@ -1,7 +1,6 @@
 -- First moves over files: what two calls of `rebuild` make of circuits that agree in the first rounds.
 use Rattle.std.specs.Prelude.{◌≡◌, ℕ, List, Option}
-use Rattle.q_logic.specs.Truth.{Assignment}
-use Rattle.q_logic.specs.Certificates.{CertificateView, trees_of}
+use Rattle.q_logic.specs.Prelude.{Assignment, CertificateView, trees_of}
 use Rattle.q_logic.specs.Moves.{Agree}
 use Rattle.q_io.specs.Files.{Disk, bytes_at}
 use Rattle.q_app.specs.Rebuilds.{FiveNames, IsWhole}

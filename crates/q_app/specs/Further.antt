@@ -2,9 +2,7 @@
 -- true; `refute`, given an accepted log without extended drops and Herbrand functions of the output, writes Herbrand functions of
 -- the input, which is false then; `solve` says of a formula that it is true, with Skolem functions, or false, where it is so.
 use Rattle.std.specs.Prelude.{◌≡◌, ◌⊎◌, ℕ, List, Option, Some}
-use Rattle.q_logic.specs.Formulas.{PrenexFormula}
-use Rattle.q_logic.specs.Truth.{Holds}
-use Rattle.q_logic.specs.Certificates.{CertificateView, trees_of}
+use Rattle.q_logic.specs.Prelude.{PrenexFormula, Holds, CertificateView, trees_of}
 use Rattle.q_logic.specs.Herbrands.{HerbrandOf}
 use Rattle.q_io.specs.Files.{Disk, bytes_at}
 use Rattle.q_aiger.specs.Writing.{IsCanonical}

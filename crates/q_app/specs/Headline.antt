@@ -3,11 +3,7 @@
 -- `check` accepts, their formulas have one truth value; and `rebuild`, given an accepted log and Skolem functions of the
 -- output, writes Skolem functions of the input.
 use Rattle.std.specs.Prelude.{◌≡◌, ◌≢◌, ◌⊎◌, ◌↔◌, ◌≤◌, ℕ, List, length, Option, Some}
-use Rattle.q_logic.specs.Formulas.{PrenexFormula}
-use Rattle.q_logic.specs.Truth.{Holds}
-use Rattle.q_logic.specs.Measure.{measure_of}
-use Rattle.q_logic.specs.Certificates.{CertificateView, trees_of}
-use Rattle.q_logic.specs.Skolems.{SkolemOf}
+use Rattle.q_logic.specs.Prelude.{PrenexFormula, Holds, measure_of, CertificateView, trees_of, SkolemOf}
 use Rattle.q_io.specs.Files.{Disk, bytes_at}
 use Rattle.q_aiger.specs.Writing.{IsCanonical}
 use Rattle.q_sched.specs.Settled.{IsSettled}

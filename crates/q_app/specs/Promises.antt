@@ -1,6 +1,6 @@
 -- What a run promises of its commands, over the devices before and after.
 use Rattle.std.specs.Prelude.{◌≡◌, [], ◌∷◌, Some, IfSome}
-use Rattle.q_logic.specs.Formulas.{PrenexFormula}
+use Rattle.q_logic.specs.Prelude.{PrenexFormula}
 use Rattle.q_io.specs.Files.{bytes_at}
 use Rattle.q_simplify.specs.declared.options.Options.{Options}
 use Rattle.q_command.specs.Checks.{IsFileOf}

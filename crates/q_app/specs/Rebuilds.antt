@@ -1,9 +1,6 @@
 -- What `rebuild` says and leaves, over the files before and after.
 use Rattle.std.specs.Prelude.{◌≡◌, ◌≢◌, ◌⊎◌, ℕ, List, Option, Some, true}
-use Rattle.q_logic.specs.Formulas.{PrenexFormula}
-use Rattle.q_logic.specs.Certificates.{CertificateView, trees_of}
-use Rattle.q_logic.specs.Skolems.{SkolemOf}
-use Rattle.q_logic.specs.Undos.{UndoEntry}
+use Rattle.q_logic.specs.Prelude.{PrenexFormula, CertificateView, trees_of, SkolemOf, UndoEntry}
 use Rattle.q_io.specs.Files.{Disk, HoldsBytes, MayHoldFront, bytes_at}
 use Rattle.q_aiger.specs.Circuits.{AreCircuits, Offence}
 use Rattle.q_aiger.specs.Alike.{IsNoCircuits}

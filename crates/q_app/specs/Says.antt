@@ -1,7 +1,7 @@
 -- What a run does: the status that it gives, what the files hold then, the faults that it may answer, the lines that it puts.
 use Rattle.std.specs.Prelude.{◌≡◌, ◌⊎◌, ◌≤◌, ℕ, true, false, List, [], ◌∷◌, ◌++◌, take, Option, Some, None, IfSome}
 use Rattle.q_io.specs.Files.{Disk, RoseAmong, bytes_at}
-use Rattle.q_logic.specs.Counts.{Rose}
+use Rattle.q_logic.specs.Prelude.{Rose}
 use Rattle.q_command.specs.Statuses.{passes}
 use Rattle.q_command.specs.Sinks.{SinkView, IsDue, Says}
 use Rattle.q_app.specs.Answers.{status_of_answer, line_of_answer}

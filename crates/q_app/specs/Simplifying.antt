@@ -1,8 +1,6 @@
 -- What `simplify` says and leaves, over the files before and after.
 use Rattle.std.specs.Prelude.{◌≡◌, ◌≢◌, ◌⊎◌, ℕ, List, Option, Some}
-use Rattle.q_logic.specs.Formulas.{PrenexFormula}
-use Rattle.q_logic.specs.Limits.{standard}
-use Rattle.q_logic.specs.Measure.{measure_of}
+use Rattle.q_logic.specs.Prelude.{PrenexFormula, standard, measure_of}
 use Rattle.q_io.specs.Files.{Disk, bytes_at}
 use Rattle.q_dimacs.specs.Offences.{Offence}
 use Rattle.q_simplify.specs.declared.options.Options.{Options}

@@ -17,9 +17,11 @@ pub(crate) fn generate_file<F: Files>(
     output: &str,
 ) -> Generated
     requires { scale.size ≤ 100000 }
-    ensures generates { IfSome (F.held files.old) (λ disk. Generates result scale output.now disk (F.held files.new)) }
+    ensures generates { IfSome (F.held files.old) (λ disk.
+        Generates result scale output.now disk (F.held files.new)) }
     ensures later { Later F.read_faults F.write_faults files.old files.new }
-    ensures write_fault { result ≡ Generated.WriteFault → RoseFor F.write_faults output.now files.old files.new }
+    ensures write_fault { result ≡ Generated.WriteFault
+        → RoseFor F.write_faults output.now files.old files.new }
 {
     match write_generated(alloc, files, output, scale.seed, scale.size) {
         Ok(()) => Generated::Written { size: scale.size },

@@ -1,6 +1,6 @@
 //! Laws on the definitions: each is the contract of a function that does nothing, or that calls a law below.
 ghost use Rattle.std.specs.Prelude.{◌≢◌, ◌≤◌, List, ℕ, length, Some};
-ghost use Rattle.q_logic.specs.Formulas.{PrenexFormula};
+ghost use Rattle.q_logic.specs.Prelude.{PrenexFormula};
 ghost use Rattle.q_io.specs.Files.{Disk, bytes_at};
 ghost use Rattle.q_simplify.specs.declared.options.Options.{Options};
 ghost use Rattle.q_simplify.specs.declared.report.Report.{Report};
@@ -16,10 +16,11 @@ use q_log::texts_are_read;
 /// Over the files that `simplify` left, the log leads from the one formula to the other, so `check` verifies it; it
 /// reads no log of more bytes than the limit.
 pub fn simplified_is_verified()
-    ensures { (o : Options) → (F : PrenexFormula) → (r : Report) → (input output log : List ℕ) →
-        (before after : Disk) → input ≢ output → input ≢ log → IsFileOf (bytes_at before input) F →
-        Simplifies o F r output log before (Some after) → length (bytes_at after log) ≤ 1099511627776 →
-        IsVerified (bytes_at after input) (bytes_at after output) (bytes_at after log) }
+    ensures { (o : Options) → (F : PrenexFormula) → (r : Report) → (input output log : List ℕ)
+        → (before after : Disk) → input ≢ output → input ≢ log → IsFileOf (bytes_at before input) F
+        → Simplifies o F r output log before (Some after)
+        → length (bytes_at after log) ≤ 1099511627776
+        → IsVerified (bytes_at after input) (bytes_at after output) (bytes_at after log) }
 {
     texts_are_read();
 }

@@ -22,7 +22,8 @@ pub(crate) struct Begun<'a> {
 
 /// The names, where they differ.
 pub(crate) fn three_names(operands: &[String]) -> Option<Begun>
-    ensures names { option_map (λ o. (three_of o.names, map (λ w. string_bytes w) o.rest.now)) result
+    ensures names { option_map (λ o.
+        (three_of o.names, map (λ w. string_bytes w) o.rest.now)) result
         ≡ spec_three_names (map (λ w. string_bytes w) operands.now) }
     ensures apart { IfSome result (λ o. Differ (three_of o.names)) }
 {
@@ -66,7 +67,8 @@ pub(crate) struct Pair<'a> {
 
 /// The names, where they differ.
 pub(crate) fn two_names(operands: &[String]) -> Option<Pair>
-    ensures { option_map (λ o. (o.first.now, o.second.now, map (λ w. string_bytes w) o.rest.now)) result
+    ensures { option_map (λ o.
+        (o.first.now, o.second.now, map (λ w. string_bytes w) o.rest.now)) result
         ≡ spec_two_names (map (λ w. string_bytes w) operands.now) }
 {
     if operands.len() < 2 {
@@ -101,7 +103,8 @@ fn is_fourth(names: Names, last: &str) -> bool
 // The fourth name, where it differs from three.
 fn fourth_of<'a>(names: Names<'a>, rest: &'a [String]) -> Option<Four<'a>>
     requires { Differ (three_of names) }
-    ensures names { option_map (λ o. (three_of o.names, o.last.now, map (λ w. string_bytes w) o.rest.now)) result
+    ensures names { option_map (λ o.
+        (three_of o.names, o.last.now, map (λ w. string_bytes w) o.rest.now)) result
         ≡ fourth (Some (three_of names.entry, map (λ w. string_bytes w) rest.now)) }
     ensures apart { IfSome result (λ o. DifferFour (three_of o.names) o.last.now) }
 {
@@ -121,7 +124,8 @@ fn fourth_of<'a>(names: Names<'a>, rest: &'a [String]) -> Option<Four<'a>>
 
 /// The names, where they differ.
 pub(crate) fn four_names(operands: &[String]) -> Option<Four>
-    ensures names { option_map (λ o. (three_of o.names, o.last.now, map (λ w. string_bytes w) o.rest.now)) result
+    ensures names { option_map (λ o.
+        (three_of o.names, o.last.now, map (λ w. string_bytes w) o.rest.now)) result
         ≡ fourth (spec_three_names (map (λ w. string_bytes w) operands.now)) }
     ensures apart { IfSome result (λ o. DifferFour (three_of o.names) o.last.now) }
 {

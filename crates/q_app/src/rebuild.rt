@@ -1,7 +1,7 @@
 // `rebuild`: the log is checked as by `check`, with what it leaves to undo; then the circuits of OUT are read and
 // carried back, and the circuits of IN are written. Nothing is created before all refusals are past.
 ghost use Rattle.std.specs.Prelude.{◌≡◌, IfOk, IfErr, IfSome, IsErrOf, true, [], ◌∷◌};
-ghost use Rattle.q_logic.specs.Formulas.{PrenexFormula};
+ghost use Rattle.q_logic.specs.Prelude.{PrenexFormula};
 ghost use Rattle.q_io.specs.Files.{OnlyReads, RoseAmong, RoseFor, bytes_at};
 ghost use Rattle.q_command.specs.Checks.{LeadsBack};
 ghost use Rattle.q_app.specs.Commands.{five_of};
@@ -63,7 +63,8 @@ fn carry_back<F: Files>(
     ensures refused { IfErr result (λ o. IfSome (F.held files.old)
         (λ disk. CircuitsFail o checked.now.to (bytes_at disk skolem.now))) }
     ensures of_circuits { IfErr result IsOfCircuits }
-    ensures fault { IsErrOf result Rebuilt.ReadFault → RoseFor F.read_faults skolem.now files.old files.new }
+    ensures fault { IsErrOf result Rebuilt.ReadFault
+        → RoseFor F.read_faults skolem.now files.old files.new }
     ensures only_reads { OnlyReads F.held F.read_faults F.write_faults files.old files.new }
 {
     let mut given = match read_circuits(alloc, files, skolem) {
@@ -86,7 +87,8 @@ fn write_certificate<F: Files>(
     ensures puts { IfSome (F.held files.old)
         (λ disk. Puts result made.now cert.now disk (F.held files.new)) }
     ensures writing { FaultsReading result → ⊥ }
-    ensures cause { result ≡ Rebuilt.WriteFault → RoseFor F.write_faults cert.now files.old files.new }
+    ensures cause { result ≡ Rebuilt.WriteFault
+        → RoseFor F.write_faults cert.now files.old files.new }
 {
     match write_circuits(alloc, files, cert, made) {
         Ok(gates) => Rebuilt::Written { gates },
@@ -98,9 +100,12 @@ fn write_certificate<F: Files>(
 pub(crate) fn rebuild_files<F: Files>(alloc: Global, files: &mut F, names: RebuildNames) -> Rebuilt
     ensures rebuilds { IfSome (F.held files.old) (λ disk.
         Rebuilds result (five_of names.entry) disk (F.held files.new)) }
-    ensures read_fault { FaultsReading result →
-        RoseAmong F.read_faults (names.entry.input.now ∷ names.entry.output.now ∷ names.entry.log.now ∷ names.entry.skolem.now ∷ []) files.old files.new }
-    ensures write_fault { result ≡ Rebuilt.WriteFault → RoseFor F.write_faults names.entry.cert.now files.old files.new }
+    ensures read_fault { FaultsReading result
+        → RoseAmong F.read_faults
+        (names.entry.input.now ∷ names.entry.output.now ∷ names.entry.log.now
+        ∷ names.entry.skolem.now ∷ []) files.old files.new }
+    ensures write_fault { result ≡ Rebuilt.WriteFault
+        → RoseFor F.write_faults names.entry.cert.now files.old files.new }
 {
     let three = Names {
         input: names.input,

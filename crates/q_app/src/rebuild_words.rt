@@ -51,7 +51,8 @@ fn are_four(a: &str, b: &str, c: &str, d: &str) -> bool
 }
 
 fn are_apart(a: &str, b: &str, c: &str, d: &str, e: &str) -> bool
-    ensures { result ≡ (spec_is_new a.now b.now c.now d.now e.now && spec_are_four b.now c.now d.now e.now) }
+    ensures { result ≡ (spec_is_new a.now b.now c.now d.now e.now
+        && spec_are_four b.now c.now d.now e.now) }
 {
     is_new(a, b, c, d, e) && are_four(b, c, d, e)
 }

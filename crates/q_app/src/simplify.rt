@@ -1,8 +1,6 @@
 // `simplify`: IN is read whole, then the formula is simplified into OUT and LOG.
 ghost use Rattle.std.specs.Prelude.{◌≡◌, ◌≢◌, IfOk, IfErr, IfSome, IsErrOf, [], ◌∷◌};
-ghost use Rattle.q_logic.specs.Limits.{standard};
-ghost use Rattle.q_logic.specs.InLimits.{IsInLimits};
-ghost use Rattle.q_logic.specs.Parts.{IsProper};
+ghost use Rattle.q_logic.specs.Prelude.{standard, IsInLimits, IsProper};
 ghost use Rattle.q_io.specs.Files.{Later, OnlyReads, RoseAmong, RoseFor, bytes_at};
 ghost use Rattle.q_dimacs.specs.Dimacs.{Dimacs};
 ghost use Rattle.q_command.specs.Inputs.{IsRefused};
@@ -45,11 +43,14 @@ pub(crate) fn simplify_file<F: Files>(
 ) -> Simplified
     requires names { names.output.now ≢ names.log.now }
     ensures ends { IfSome (F.held files.old) (λ disk.
-        Ends result options.now names.entry.input.now names.entry.output.now names.entry.log.now disk (F.held files.new)) }
+        Ends result options.now names.entry.input.now names.entry.output.now names.entry.log.now
+        disk (F.held files.new)) }
     ensures later { Later F.read_faults F.write_faults files.old files.new }
-    ensures read_fault { result ≡ Simplified.ReadFault → RoseFor F.read_faults names.entry.input.now files.old files.new }
-    ensures write_fault { result ≡ Simplified.WriteFault →
-        RoseAmong F.write_faults (names.entry.output.now ∷ names.entry.log.now ∷ []) files.old files.new }
+    ensures read_fault { result ≡ Simplified.ReadFault
+        → RoseFor F.read_faults names.entry.input.now files.old files.new }
+    ensures write_fault { result ≡ Simplified.WriteFault
+        → RoseAmong F.write_faults (names.entry.output.now ∷ names.entry.log.now ∷ []) files.old
+        files.new }
 {
     let formula = match read_input(alloc, files, names.input) {
         Ok(formula) => formula,

@@ -35,11 +35,15 @@ use std::alloc::Global;
 
 fn run_check<F: Files, S: Sink>(alloc: Global, files: &mut F, out: &mut S, names: Names) -> Status
     ensures runs { Runs (Some (checking (three_of names.entry)))
-        (devices F.held F.read_faults F.write_faults files.old (view_sink S.written S.faults S.wants out.old)) result
-        (devices F.held F.read_faults F.write_faults files.new (view_sink S.written S.faults S.wants out.new)) }
+        (devices F.held F.read_faults F.write_faults files.old
+        (view_sink S.written S.faults S.wants out.old)) result
+        (devices F.held F.read_faults F.write_faults files.new
+        (view_sink S.written S.faults S.wants out.new)) }
     ensures later { AreLater
-        (devices F.held F.read_faults F.write_faults files.old (view_sink S.written S.faults S.wants out.old))
-        (devices F.held F.read_faults F.write_faults files.new (view_sink S.written S.faults S.wants out.new)) }
+        (devices F.held F.read_faults F.write_faults files.old
+        (view_sink S.written S.faults S.wants out.old))
+        (devices F.held F.read_faults F.write_faults files.new
+        (view_sink S.written S.faults S.wants out.new)) }
 {
     let outcome = check(alloc, files, names);
     say(out, &Answer::Check(outcome))
@@ -55,11 +59,15 @@ fn run_simplify<F: Files, S: Sink>(
 ) -> Status
     requires names { Differ (three_of names) }
     ensures runs { Runs (Some (simplifying (three_of names.entry) options.now))
-        (devices F.held F.read_faults F.write_faults files.old (view_sink S.written S.faults S.wants out.old)) result
-        (devices F.held F.read_faults F.write_faults files.new (view_sink S.written S.faults S.wants out.new)) }
+        (devices F.held F.read_faults F.write_faults files.old
+        (view_sink S.written S.faults S.wants out.old)) result
+        (devices F.held F.read_faults F.write_faults files.new
+        (view_sink S.written S.faults S.wants out.new)) }
     ensures later { AreLater
-        (devices F.held F.read_faults F.write_faults files.old (view_sink S.written S.faults S.wants out.old))
-        (devices F.held F.read_faults F.write_faults files.new (view_sink S.written S.faults S.wants out.new)) }
+        (devices F.held F.read_faults F.write_faults files.old
+        (view_sink S.written S.faults S.wants out.old))
+        (devices F.held F.read_faults F.write_faults files.new
+        (view_sink S.written S.faults S.wants out.new)) }
 {
     let outcome = simplify_file(alloc, files, names, options, guides);
     say(out, &Answer::Simplify(outcome))
@@ -72,8 +80,10 @@ fn run_rebuild<F: Files, S: Sink>(
     names: RebuildNames,
 ) -> Status
     ensures { Runs (Some (rebuilding (five_of names.entry)))
-        (devices F.held F.read_faults F.write_faults files.old (view_sink S.written S.faults S.wants out.old)) result
-        (devices F.held F.read_faults F.write_faults files.new (view_sink S.written S.faults S.wants out.new)) }
+        (devices F.held F.read_faults F.write_faults files.old
+        (view_sink S.written S.faults S.wants out.old)) result
+        (devices F.held F.read_faults F.write_faults files.new
+        (view_sink S.written S.faults S.wants out.new)) }
 {
     let outcome = rebuild_files(alloc, files, names);
     say(out, &Answer::Rebuild(outcome))
@@ -88,11 +98,15 @@ fn run_generate<F: Files, S: Sink>(
 ) -> Status
     requires { scale.size ≤ 100000 }
     ensures runs { Runs (Some (generating scale output.now))
-        (devices F.held F.read_faults F.write_faults files.old (view_sink S.written S.faults S.wants out.old)) result
-        (devices F.held F.read_faults F.write_faults files.new (view_sink S.written S.faults S.wants out.new)) }
+        (devices F.held F.read_faults F.write_faults files.old
+        (view_sink S.written S.faults S.wants out.old)) result
+        (devices F.held F.read_faults F.write_faults files.new
+        (view_sink S.written S.faults S.wants out.new)) }
     ensures later { AreLater
-        (devices F.held F.read_faults F.write_faults files.old (view_sink S.written S.faults S.wants out.old))
-        (devices F.held F.read_faults F.write_faults files.new (view_sink S.written S.faults S.wants out.new)) }
+        (devices F.held F.read_faults F.write_faults files.old
+        (view_sink S.written S.faults S.wants out.old))
+        (devices F.held F.read_faults F.write_faults files.new
+        (view_sink S.written S.faults S.wants out.new)) }
 {
     let outcome = generate_file(alloc, files, scale, output);
     say(out, &Answer::Generate(outcome))
@@ -106,8 +120,10 @@ fn run_validate<F: Files, S: Sink>(
     budget: Option<u64>,
 ) -> Status
     ensures { Runs (Some (validating (validate_files_of names.entry) budget))
-        (devices F.held F.read_faults F.write_faults files.old (view_sink S.written S.faults S.wants out.old)) result
-        (devices F.held F.read_faults F.write_faults files.new (view_sink S.written S.faults S.wants out.new)) }
+        (devices F.held F.read_faults F.write_faults files.old
+        (view_sink S.written S.faults S.wants out.old)) result
+        (devices F.held F.read_faults F.write_faults files.new
+        (view_sink S.written S.faults S.wants out.new)) }
 {
     let outcome = validate_files(alloc, files, names, budget);
     say(out, &Answer::Validate(outcome))
@@ -120,8 +136,10 @@ fn run_refute<F: Files, S: Sink>(
     names: RefuteNames,
 ) -> Status
     ensures { Runs (Some (refuting (refute_files_of names.entry)))
-        (devices F.held F.read_faults F.write_faults files.old (view_sink S.written S.faults S.wants out.old)) result
-        (devices F.held F.read_faults F.write_faults files.new (view_sink S.written S.faults S.wants out.new)) }
+        (devices F.held F.read_faults F.write_faults files.old
+        (view_sink S.written S.faults S.wants out.old)) result
+        (devices F.held F.read_faults F.write_faults files.new
+        (view_sink S.written S.faults S.wants out.new)) }
 {
     let outcome = refute_files(alloc, files, names);
     say(out, &Answer::Refute(outcome))
@@ -134,8 +152,10 @@ fn run_annotate<F: Files, S: Sink>(
     names: AnnotateNames,
 ) -> Status
     ensures { Runs (Some (annotating (annotate_files_of names.entry)))
-        (devices F.held F.read_faults F.write_faults files.old (view_sink S.written S.faults S.wants out.old)) result
-        (devices F.held F.read_faults F.write_faults files.new (view_sink S.written S.faults S.wants out.new)) }
+        (devices F.held F.read_faults F.write_faults files.old
+        (view_sink S.written S.faults S.wants out.old)) result
+        (devices F.held F.read_faults F.write_faults files.new
+        (view_sink S.written S.faults S.wants out.new)) }
 {
     let outcome = annotate_files(alloc, files, names);
     say(out, &Answer::Annotate(outcome))
@@ -151,8 +171,10 @@ fn run_solve<F: Files, S: Sink>(
 ) -> Status
     requires { DifferFour (three names.input.now names.output.now names.log.now) names.cert.now }
     ensures { Runs (Some (solving (solve_files_of names.entry) budget))
-        (devices F.held F.read_faults F.write_faults files.old (view_sink S.written S.faults S.wants out.old)) result
-        (devices F.held F.read_faults F.write_faults files.new (view_sink S.written S.faults S.wants out.new)) }
+        (devices F.held F.read_faults F.write_faults files.old
+        (view_sink S.written S.faults S.wants out.old)) result
+        (devices F.held F.read_faults F.write_faults files.new
+        (view_sink S.written S.faults S.wants out.new)) }
 {
     let outcome = solve_files(alloc, files, names, budget, guides);
     say(out, &Answer::Solve(outcome))
@@ -170,8 +192,10 @@ fn run_demo<F: Files, S: Sink>(
     requires small { scale.size ≤ 100000 }
     requires names { Differ (three_of names) }
     ensures { InTurn (demo scale (three_of names.entry))
-        (devices F.held F.read_faults F.write_faults files.old (view_sink S.written S.faults S.wants out.old)) result
-        (devices F.held F.read_faults F.write_faults files.new (view_sink S.written S.faults S.wants out.new)) }
+        (devices F.held F.read_faults F.write_faults files.old
+        (view_sink S.written S.faults S.wants out.old)) result
+        (devices F.held F.read_faults F.write_faults files.new
+        (view_sink S.written S.faults S.wants out.new)) }
 {
     let made = run_generate(alloc, files, out, scale, names.input);
     if !made.passes() {
@@ -194,8 +218,10 @@ fn run_command<F: Files, S: Sink>(
 ) -> Status
     requires { IsFit command }
     ensures { InTurn (commands_of command.entry)
-        (devices F.held F.read_faults F.write_faults files.old (view_sink S.written S.faults S.wants out.old)) result
-        (devices F.held F.read_faults F.write_faults files.new (view_sink S.written S.faults S.wants out.new)) }
+        (devices F.held F.read_faults F.write_faults files.old
+        (view_sink S.written S.faults S.wants out.old)) result
+        (devices F.held F.read_faults F.write_faults files.new
+        (view_sink S.written S.faults S.wants out.new)) }
 {
     match command {
         Command::Check { names } => run_check(alloc, files, out, names),
@@ -230,20 +256,28 @@ pub fn run<F: Files, S: Sink>(
 
     // When each status comes, what the files hold then, which faults are answered and which lines are put.
     ensures does { Does (request (map (λ w. string_bytes w) words.now))
-        (devices F.held F.read_faults F.write_faults files.old (view_sink S.written S.faults S.wants out.old)) result
-        (devices F.held F.read_faults F.write_faults files.new (view_sink S.written S.faults S.wants out.new)) }
+        (devices F.held F.read_faults F.write_faults files.old
+        (view_sink S.written S.faults S.wants out.old)) result
+        (devices F.held F.read_faults F.write_faults files.new
+        (view_sink S.written S.faults S.wants out.new)) }
 
     // `simplify` ends, memory and faults aside; each command answers, and `demo` passes, where no fault comes, or memory is
     // wanting.
     ensures simplify_ends { SimplifyEnds (request (map (λ w. string_bytes w) words.now))
-        (devices F.held F.read_faults F.write_faults files.old (view_sink S.written S.faults S.wants out.old)) result
-        (devices F.held F.read_faults F.write_faults files.new (view_sink S.written S.faults S.wants out.new)) }
+        (devices F.held F.read_faults F.write_faults files.old
+        (view_sink S.written S.faults S.wants out.old)) result
+        (devices F.held F.read_faults F.write_faults files.new
+        (view_sink S.written S.faults S.wants out.new)) }
     ensures answer_comes { AnswerComes (request (map (λ w. string_bytes w) words.now))
-        (devices F.held F.read_faults F.write_faults files.old (view_sink S.written S.faults S.wants out.old)) result
-        (devices F.held F.read_faults F.write_faults files.new (view_sink S.written S.faults S.wants out.new)) }
+        (devices F.held F.read_faults F.write_faults files.old
+        (view_sink S.written S.faults S.wants out.old)) result
+        (devices F.held F.read_faults F.write_faults files.new
+        (view_sink S.written S.faults S.wants out.new)) }
     ensures demo_passes { DemoPasses (request (map (λ w. string_bytes w) words.now))
-        (devices F.held F.read_faults F.write_faults files.old (view_sink S.written S.faults S.wants out.old)) result
-        (devices F.held F.read_faults F.write_faults files.new (view_sink S.written S.faults S.wants out.new)) }
+        (devices F.held F.read_faults F.write_faults files.old
+        (view_sink S.written S.faults S.wants out.old)) result
+        (devices F.held F.read_faults F.write_faults files.new
+        (view_sink S.written S.faults S.wants out.new)) }
 {
     texts_are_read();
     generated_is_read();

@@ -63,7 +63,8 @@ pub(crate) enum Command<'a> {
 
 /// The command that the words are, if they are one.
 pub(crate) fn parse(words: &[String]) -> Option<Command>
-    ensures request { option_map (λ o. commands_of o) result ≡ request (map (λ w. string_bytes w) words.now) }
+    ensures request { option_map (λ o.
+        commands_of o) result ≡ request (map (λ w. string_bytes w) words.now) }
     ensures fit { IfSome result IsFit }
 {
     if words.len() == 0 {
@@ -122,7 +123,9 @@ fn parse_check(operands: &[String]) -> Option<Command>
 }
 
 fn parse_simplify(operands: &[String]) -> Option<Command>
-    ensures request { option_map (λ o. commands_of o) result ≡ simplify_of (spec_three_names (map (λ w. string_bytes w) operands.now)) }
+    ensures request { option_map (λ o.
+        commands_of o) result ≡ simplify_of
+        (spec_three_names (map (λ w. string_bytes w) operands.now)) }
     ensures fit { IfSome result IsFit }
 {
     let Some(begun) = three_names(operands) else {
@@ -138,7 +141,9 @@ fn parse_simplify(operands: &[String]) -> Option<Command>
 }
 
 fn parse_validate(operands: &[String]) -> Option<Command>
-    ensures request { option_map (λ o. commands_of o) result ≡ validate_of (spec_two_names (map (λ w. string_bytes w) operands.now)) }
+    ensures request { option_map (λ o.
+        commands_of o) result ≡ validate_of
+        (spec_two_names (map (λ w. string_bytes w) operands.now)) }
     ensures fit { IfSome result IsFit }
 {
     let Some(pair) = two_names(operands) else {
@@ -155,7 +160,8 @@ fn parse_validate(operands: &[String]) -> Option<Command>
 }
 
 fn parse_refute(operands: &[String]) -> Option<Command>
-    ensures request { option_map (λ o. commands_of o) result ≡ refute_of (rebuild_names (map (λ w. string_bytes w) operands.now)) }
+    ensures request { option_map (λ o.
+        commands_of o) result ≡ refute_of (rebuild_names (map (λ w. string_bytes w) operands.now)) }
     ensures fit { IfSome result IsFit }
 {
     match parse_rebuild(operands) {
@@ -173,7 +179,9 @@ fn parse_refute(operands: &[String]) -> Option<Command>
 }
 
 fn parse_annotate(operands: &[String]) -> Option<Command>
-    ensures request { option_map (λ o. commands_of o) result ≡ annotate_of (fourth (spec_three_names (map (λ w. string_bytes w) operands.now))) }
+    ensures request { option_map (λ o.
+        commands_of o) result ≡ annotate_of
+        (fourth (spec_three_names (map (λ w. string_bytes w) operands.now))) }
     ensures fit { IfSome result IsFit }
 {
     let Some(four) = four_names(operands) else {
@@ -193,7 +201,9 @@ fn parse_annotate(operands: &[String]) -> Option<Command>
 }
 
 fn parse_solve(operands: &[String]) -> Option<Command>
-    ensures request { option_map (λ o. commands_of o) result ≡ solve_of (fourth (spec_three_names (map (λ w. string_bytes w) operands.now))) }
+    ensures request { option_map (λ o.
+        commands_of o) result ≡ solve_of
+        (fourth (spec_three_names (map (λ w. string_bytes w) operands.now))) }
     ensures fit { IfSome result IsFit }
 {
     let Some(four) = four_names(operands) else {
@@ -231,7 +241,8 @@ fn scale_of(seed: &str, size: &str) -> Option<Scale>
 }
 
 fn parse_generate(operands: &[String]) -> Option<Command>
-    ensures request { option_map (λ o. commands_of o) result ≡ generate_of (map (λ w. string_bytes w) operands.now) }
+    ensures request { option_map (λ o.
+        commands_of o) result ≡ generate_of (map (λ w. string_bytes w) operands.now) }
     ensures fit { IfSome result IsFit }
 {
     if operands.len() != 3 {
@@ -248,8 +259,9 @@ fn parse_generate(operands: &[String]) -> Option<Command>
 
 fn demo_over(scale: Scale, operands: &[String]) -> Option<Command>
     requires { scale.size ≤ 100000 }
-    ensures request { option_map (λ o. commands_of o) result
-        ≡ demo_by (Some scale) (just_three (spec_three_names (map (λ w. string_bytes w) operands.now))) }
+    ensures request { option_map (λ o.
+        commands_of o) result ≡ demo_by (Some scale)
+        (just_three (spec_three_names (map (λ w. string_bytes w) operands.now))) }
     ensures fit { IfSome result IsFit }
 {
     match only_names(operands) {
@@ -259,7 +271,8 @@ fn demo_over(scale: Scale, operands: &[String]) -> Option<Command>
 }
 
 fn parse_demo(operands: &[String]) -> Option<Command>
-    ensures request { option_map (λ o. commands_of o) result ≡ demo_of (map (λ w. string_bytes w) operands.now) }
+    ensures request { option_map (λ o.
+        commands_of o) result ≡ demo_of (map (λ w. string_bytes w) operands.now) }
     ensures fit { IfSome result IsFit }
 {
     if operands.len() < 2 {

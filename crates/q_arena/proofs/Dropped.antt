@@ -1,10 +1,8 @@
 -- A clause in literal order without one of its literals.
 use Rattle.std.proofs.Common.{◌≡◌, ℕ, zero, suc, ◌+◌, ◌<◌, Bool, true, false, cond, List, [], ◌∷◌, ◌++◌, length, get_or, take, drop, refl, sym, ◌∙◌, ap, subst, arith, not-suc-le-zero}
 use Rattle.std.specs.List.{AllByRecursion}
-use Rattle.q_logic.specs.Literals.{Literal, IsBelow, literal_eq}
-use Rattle.q_logic.specs.Parts.{ArePairs}
-use Rattle.q_logic.specs.Pivots.{without}
-use Rattle.q_logic.proofs.ClauseLemmas.{literal_eq-itself}
+use Rattle.q_logic.specs.Prelude.{Literal, IsBelow, literal_eq, ArePairs, without}
+use Rattle.q_logic.proofs.Common.{literal_eq-itself}
 
 above-differs : (k l : Literal) → IsBelow k l → literal_eq l k ≡ false
 above-differs k l h = grind arith

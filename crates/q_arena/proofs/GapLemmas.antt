@@ -3,14 +3,14 @@ use Rattle.std.proofs.Common.{◌≡◌, ◌≢◌, ◌⊎◌, ℕ, ◌+◌, ◌
 use Rattle.std.specs.Prelude.{nat_lt}
 use Rattle.std.proofs.lemmas.Bool.Decides.{nat_tests}
 use Rattle.std.proofs.lemmas.Bool.{cases_lt}
-use Rattle.q_arena.proofs.Numbers.{ℕ-cases, none-some}
-use Rattle.q_arena.proofs.Following.{preceding-none, preceding-first}
+use Rattle.q_arena.proofs.NumberCases.{ℕ-cases, none-some}
+use Rattle.q_arena.proofs.ListNeighbours.{preceding-none, preceding-first}
 use Rattle.q_arena.specs.declared.slots.Slot.{Slot}
 use Rattle.q_arena.specs.Layout.{top_of, IsStack, size_of, below}
 use Rattle.q_arena.specs.Gaps.{or_else, when, first_gap, gap_past, gap_gone}
 use Rattle.q_arena.specs.Chains.{preceding as above}
 use Rattle.q_arena.specs.Rings.{Has, Misses, AreApart, without}
-use Rattle.q_arena.proofs.Paths.{Misses-not, without-first, without-later}
+use Rattle.q_arena.proofs.RingPaths.{Misses-not, without-first, without-later}
 use Rattle.q_arena.proofs.Layouts.{size-same, size-without, size-top, stack-in, without-gone, below-here, below-later}
 
 Option-cases : (o : Option ℕ) → (o ≡ None) ⊎ ((g : ℕ) × (o ≡ Some g))

@@ -2,14 +2,14 @@
 use Rattle.std.proofs.Common.{◌≡◌, ◌≢◌, ℕ, zero, suc, ◌+◌, ◌-◌, ◌<◌, ◌≤◌, List, [], ◌∷◌, ◌++◌, length, get_or, refl, sym, ◌∙◌, ap, subst, inl, inr, arith, length-append}
 use Rattle.std.proofs.lemmas.List.{get_or_append_left, get_or-append_right, get_or_past}
 use Rattle.std.proofs.lemmas.Bool.{cases_lt}
-use Rattle.q_arena.proofs.Numbers.{ℕ-cases}
+use Rattle.q_arena.proofs.NumberCases.{ℕ-cases}
 use Rattle.q_arena.specs.declared.rings.Link.{Link}
 use Rattle.q_arena.specs.Nodes.{node_at, base, blank}
 use Rattle.q_arena.specs.Rings.{IsPath, walk, Has, Misses, AreBelow, IsRing, AreRings, AreSound, rings_of}
 use Rattle.q_arena.specs.Chains.{lists_of}
 use Rattle.q_arena.proofs.RingLemmas.{AreRings-own, Misses-below}
-use Rattle.q_arena.proofs.Paths.{walk-path, IsPath-along}
-use Rattle.q_arena.proofs.Seen.{node_at-head, node_at-place, list-is, length-lists}
+use Rattle.q_arena.proofs.RingPaths.{walk-path, IsPath-along}
+use Rattle.q_arena.proofs.ArenaView.{node_at-head, node_at-place, list-is, length-lists}
 
 IsPath-off : (s t : ℕ → Link) (a : ℕ) → ((k : ℕ) → k ≢ a → t k ≡ s k) → (x : ℕ) (ys : List ℕ) (z : ℕ) → x ≢ a → Misses a ys → z ≢ a → IsPath s x ys z → IsPath t x ys z
 IsPath-off s t a f x [] z xa m za p = (ap (λ (k : Link). k.next) (f x xa) ∙ p.0, ap (λ (k : Link). k.prev) (f z za) ∙ p.1)

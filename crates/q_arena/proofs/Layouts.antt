@@ -3,15 +3,15 @@ use Rattle.std.proofs.Common.{◌≡◌, ◌≢◌, ◌⊎◌, ℕ, ◌+◌, ◌
 use Rattle.std.proofs.lemmas.List.{get_or-set_same, get_or-set_other, get_or_past}
 use Rattle.std.proofs.lemmas.Bool.Decides.{nat_tests}
 use Rattle.std.proofs.lemmas.Bool.{cases_lt}
-use Rattle.q_arena.proofs.Numbers.{ℕ-cases}
-use Rattle.q_arena.proofs.Following.{following-here, following-later}
+use Rattle.q_arena.proofs.NumberCases.{ℕ-cases}
+use Rattle.q_arena.proofs.ListNeighbours.{following-here, following-later}
 use Rattle.q_arena.specs.declared.slots.Slot.{Slot}
 use Rattle.q_arena.specs.Layout.{end_in, no_slot, slot_at, top_of, below, IsStack, size_of, Order, AreLaid}
 use Rattle.q_arena.specs.Chains.{following}
 use Rattle.q_arena.specs.Rings.{Has, AreApart, without}
-use Rattle.q_arena.proofs.Paths.{Misses-not, Misses-from, without-first, without-later}
+use Rattle.q_arena.proofs.RingPaths.{Misses-not, Misses-from, without-first, without-later}
 use Rattle.q_arena.proofs.RingLemmas.{Has-without, AreApart-without, length-without}
-use Rattle.q_arena.proofs.Seen.{length-set'}
+use Rattle.q_arena.proofs.ArenaView.{length-set'}
 
 pub without-gone : (p : ℕ) (ys : List ℕ) → AreApart ys → Has (without p ys) p → ⊥
 without-gone p [] a h = h

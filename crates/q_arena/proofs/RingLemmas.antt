@@ -1,11 +1,11 @@
 -- Rings under a push in front and a removal.
 use Rattle.std.proofs.Common.{◌≡◌, ◌≢◌, ◌⊎◌, ℕ, zero, suc, ◌+◌, ◌<◌, ◌≤◌, List, [], ◌∷◌, length, refl, sym, ◌∙◌, ap, subst, inl, inr, arith}
 use Rattle.std.proofs.lemmas.Bool.Decides.{nat_tests}
-use Rattle.q_arena.proofs.Numbers.{ℕ-cases}
+use Rattle.q_arena.proofs.NumberCases.{ℕ-cases}
 use Rattle.q_arena.specs.declared.rings.Link.{Link}
 use Rattle.q_arena.specs.Nodes.{IsJoined, IsTagged}
 use Rattle.q_arena.specs.Rings.{IsPath, walk, Has, Misses, AreApart, AreBelow, without, IsRing, AreRings, rings_of, with_list}
-use Rattle.q_arena.proofs.Paths.{Misses-not, Misses-from, IsPath-kept, IsPath-along, walk-path, prev_in, next_in, without-first, without-later, IsPath-without, IsPath-with}
+use Rattle.q_arena.proofs.RingPaths.{Misses-not, Misses-from, IsPath-kept, IsPath-along, walk-path, prev_in, next_in, without-first, without-later, IsPath-without, IsPath-with}
 
 pub Has-below : (n k : ℕ) (ys : List ℕ) → AreBelow n ys → Has ys k → k < n
 Has-below n k [] b h = absurd h

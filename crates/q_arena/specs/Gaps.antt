@@ -1,7 +1,7 @@
 -- The first clause of the row with dead words before it.
 use Rattle.std.specs.Prelude.{◌≡◌, ◌<◌, ℕ, Bool, if◌then◌else◌, ◌==◌, nat_lt, List, [], ◌∷◌, Option, None, Some, length, map}
 use Rattle.q_arena.specs.declared.slots.Slot.{Slot}
-use Rattle.q_logic.specs.Literals.{Literal}
+use Rattle.q_logic.specs.Prelude.{Literal}
 use Rattle.q_arena.specs.Seen.{AreOrdered, clause_in}
 use Rattle.q_arena.specs.Layout.{size_of, slot_at, Order, AreLaid}
 

@@ -1,7 +1,6 @@
 -- What a caller sees of the arena.
 use Rattle.std.specs.Prelude.{◌≡◌, ◌⊎◌, ℕ, ◌+◌, ◌≤◌, ◌<◌, if◌then◌else◌, List, [], ◌∷◌, ◌++◌, length, take, drop, Option, None, Some, slice_index_or}
-use Rattle.q_logic.specs.Literals.{Literal, IsBelow}
-use Rattle.q_logic.specs.Parts.{ArePairs}
+use Rattle.q_logic.specs.Prelude.{Literal, IsBelow, ArePairs}
 use Rattle.q_arena.specs.declared.slots.Slot.{Slot}
 
 -- the words from a place on

@@ -1,8 +1,5 @@
 ghost use Rattle.std.specs.Prelude.{◌≡◌, ◌≢◌, ◌⊎◌, ◌↔◌, ◌≤◌, ◌<◌, ◌+◌, ◌-◌, ◌^◌, ◌∷◌, [], ℕ, length, slice_set, slice_index_or, OnOk, OnErr, List, None, Some, Option, IsTrue};
-ghost use Rattle.q_logic.specs.Literals.{Literal, IsBelow};
-ghost use Rattle.q_logic.specs.Formulas.{IsIn};
-ghost use Rattle.q_logic.specs.Parts.{ArePairs};
-ghost use Rattle.q_logic.specs.Pivots.{without};
+ghost use Rattle.q_logic.specs.Prelude.{Literal, IsBelow, IsIn, ArePairs, without};
 ghost use Rattle.q_arena.specs.Seen.{Clauses, clause_at, start_at, without_at, IsLive, IsFree, IsEnd, IsFilled, IsFirstPastDead, live_in, words_in, AreSameClauses};
 
 use crate::ids::Ids;

@@ -1,5 +1,5 @@
 ghost use Rattle.std.specs.Prelude.{◌≡◌, ◌≢◌, ◌⊎◌, ◌≤◌, ◌<◌, ◌+◌, ◌-◌, ◌∷◌, [], ℕ, length, slice_index_or, OnOk, OnErr, None, Some};
-ghost use Rattle.q_logic.specs.Literals.{Literal};
+ghost use Rattle.q_logic.specs.Prelude.{Literal};
 ghost use Rattle.q_arena.specs.Rings.{Has, AreApart};
 ghost use Rattle.q_arena.specs.Layout.{end_in, top_of, slot_at, below, Order, AreMore};
 ghost use Rattle.q_arena.specs.Gaps.{gap_past, gap_gone};

@@ -1,21 +1,15 @@
 -- Sets that grow.
 use Rattle.std.specs.Prelude.{◌≡◌, ◌≤◌, ℕ, Bool, true, false, List, ◌++◌, length, take, Option, Some}
-use Rattle.q_logic.specs.Literals.{Literal}
-use Rattle.q_logic.specs.Formulas.{Clause, Matrix, Prefix, IsIn}
-use Rattle.q_logic.specs.Prefixes.{is_existential}
-use Rattle.q_logic.specs.Propagation.{Implied}
-use Rattle.q_logic.specs.Sets.{IsSubset, IsTautology}
-use Rattle.q_logic.specs.Steps.{Within}
-use Rattle.q_logic.specs.Numbered.{slot, others}
+use Rattle.q_logic.specs.Prelude.{Literal, Clause, Matrix, Prefix, IsIn, is_existential, Implied, IsSubset, IsTautology, Within, slot, others}
 use Rattle.q_logic.specs.Covering.{Covers}
-use Rattle.q_kernel.specs.Kernels.{Seen, slots}
+use Rattle.q_kernel.specs.Prelude.{Seen, slots}
 use Rattle.q_blocked.specs.declared.growth.Growth.{Growth}
-use Rattle.q_blocked.specs.declared.outcome.Outcome.{Outcome}
-use Rattle.q_blocked.specs.declared.outcome.Outcome.TheVariants.{Ended, Grown, Calm}
+use Rattle.q_blocked.specs.declared.progress.Progress.{Progress}
+use Rattle.q_blocked.specs.declared.progress.Progress.TheVariants.{Ended, Grown, Unchanged}
 use Rattle.q_blocked.specs.declared.plan.Stage.{Stage}
 use Rattle.q_blocked.specs.Plans.{front, MayGo, IsWay}
 use Rattle.q_blocked.specs.Units.{IsSingle}
-use Rattle.q_blocked.specs.Walks.{IsCalm, IsCalmAt, IsStuck, IsLooked}
+use Rattle.q_blocked.specs.Walks.{GivesNone, GivesNoneAt, CoversNothing, IsLooked}
 
 -- where the literals of A are false, propagation makes those of S false: what is implied with those of S is implied without
 abbrev pub Falls : Matrix → Clause → Clause → Type 0
@@ -36,7 +30,7 @@ pub record IsGrowing (P : Prefix) (X : Matrix) (C S : Clause) (ss : List Stage) 
   pub reached : IsReached P X C S ss base
   pub consistent : IsTautology S → ⊥
   pub walked : worked ≤ length S
-  pub calm : (D : Clause) → IsIn D X → (k : Literal) → IsIn k (take worked S) → IsIn k D → IsCalmAt (take worked S) S D
+  pub gives_none : (D : Clause) → IsIn D X → (k : Literal) → IsIn k (take worked S) → IsIn k D → GivesNoneAt (take worked S) S D
 
 -- its growth has ended: the clause is covered, and stages lead to one that may go
 pub record IsCovered (P : Prefix) (X : Matrix) (C S : Clause) (ss : List Stage) (base : ℕ) (last : Option Literal) : Type 0 where
@@ -64,7 +58,7 @@ pub record IsPushed (old new : Growth) : Type 0 where
 -- hidden literals have come, and some clauses give no more; or the growth has ended
 abbrev pub HasSpread : Seen → ℕ → (Clause → Type 0) → Growth → Growth → Bool → Type 0
 HasSpread k c Q old new true = Covered k c new
-HasSpread k c Q old new false = Growing k c new × IsPushed old new × ((E : Clause) → Q E → IsCalmAt old.set new.set E)
+HasSpread k c Q old new false = Growing k c new × IsPushed old new × ((E : Clause) → Q E → GivesNoneAt old.set new.set E)
 
 -- the lists of all literals were walked
 abbrev pub HasClosed : Seen → ℕ → Growth → Bool → Type 0
@@ -73,13 +67,13 @@ HasClosed k c new false = Growing k c new × (length new.set ≤ new.worked)
 
 -- S is not blocked on an existential l, and has all covered literals
 abbrev pub IsPassive : Prefix → Matrix → Clause → Literal → Type 0
-IsPassive P X S l = is_existential P l.var ≡ true → IsStuck P X l S
+IsPassive P X S l = is_existential P l.var ≡ true → CoversNothing P X l S
 
 -- what a look at some literals for covered ones has made of a growth
-abbrev pub HasLooked : Seen → ℕ → (Literal → Type 0) → Growth → Growth → Outcome → Type 0
+abbrev pub HasLooked : Seen → ℕ → (Literal → Type 0) → Growth → Growth → Progress → Type 0
 HasLooked k c Q old new Ended = Covered k c new
 HasLooked k c Q old new Grown = Growing k c new
-HasLooked k c Q old new Calm = Growing k c new × (new.set ≡ old.set) × (new.worked ≡ old.worked) × ((l : Literal) → Q l → IsPassive k.prefix (others c (slots k)) old.set l)
+HasLooked k c Q old new Unchanged = Growing k c new × (new.set ≡ old.set) × (new.worked ≡ old.worked) × ((l : Literal) → Q l → IsPassive k.prefix (others c (slots k)) old.set l)
 
 -- literals that are in no S are covered by S on l
 pub record CoveredBy (P : Prefix) (X : Matrix) (S : Clause) (K : List Literal) (l : Literal) : Type 0 where
@@ -88,25 +82,25 @@ pub record CoveredBy (P : Prefix) (X : Matrix) (S : Clause) (K : List Literal) (
   pub looked : IsLooked P X l S K true
 
 -- covered literals have come; or the growth has ended
-abbrev pub HasCovered : Seen → ℕ → Growth → Outcome → Type 0
+abbrev pub HasCovered : Seen → ℕ → Growth → Progress → Type 0
 HasCovered k c new Ended = Covered k c new
 HasCovered k c new Grown = Growing k c new
-HasCovered k c new Calm = ⊥
+HasCovered k c new Unchanged = ⊥
 
 -- one turn over all that lets the set grow
-abbrev pub HasTurned : Seen → ℕ → Growth → Outcome → Type 0
+abbrev pub HasTurned : Seen → ℕ → Growth → Progress → Type 0
 HasTurned k c new Ended = Covered k c new
 HasTurned k c new Grown = Growing k c new
-HasTurned k c new Calm = (C : Clause) → slot (slots k) c ≡ Some C → Covers k.prefix (others c (slots k)) C → ⊥
+HasTurned k c new Unchanged = (C : Clause) → slot (slots k) c ≡ Some C → Covers k.prefix (others c (slots k)) C → ⊥
 
--- the clauses of one literal are calm
-abbrev pub AreUnitsCalm : Matrix → Clause → Type 0
-AreUnitsCalm X S = (D : Clause) → IsIn D X → IsSingle D → IsCalm S D
+-- the clauses of one literal give nothing
+abbrev pub UnitsGiveNone : Matrix → Clause → Type 0
+UnitsGiveNone X S = (D : Clause) → IsIn D X → IsSingle D → GivesNone S D
 
-abbrev pub HasUsedUnits : Seen → ℕ → Growth → Growth → Outcome → Type 0
+abbrev pub HasUsedUnits : Seen → ℕ → Growth → Growth → Progress → Type 0
 HasUsedUnits k c old new Ended = Covered k c new
 HasUsedUnits k c old new Grown = Growing k c new
-HasUsedUnits k c old new Calm = (new.set ≡ old.set) × AreUnitsCalm (others c (slots k)) old.set
+HasUsedUnits k c old new Unchanged = (new.set ≡ old.set) × UnitsGiveNone (others c (slots k)) old.set
 
 -- whether the clause is covered
 abbrev pub HasDecided : Seen → ℕ → Growth → Bool → Type 0

@@ -1,5 +1,5 @@
 -- What a search learns of a formula.
-use Rattle.q_kernel.specs.Kernels.{Seen, slots}
+use Rattle.q_kernel.specs.Prelude.{Seen, slots}
 use Rattle.q_snapshot.specs.Rows.{AreRowsOf}
 use Rattle.q_blocked.specs.declared.search.Search.{Search}
 use Rattle.q_blocked.specs.Units.{AreRight}

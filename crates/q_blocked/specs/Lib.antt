@@ -1,7 +1,7 @@
 pub mod Targets
 pub mod Walks
 pub mod Units
-pub mod Outcomes
+pub mod Progress
 pub mod Plans
 pub mod Growths
 pub mod Searches

@@ -1,18 +1,7 @@
 -- The steps by which a covered clause goes.
 use Rattle.std.specs.Prelude.{◌≡◌, ◌≤◌, ◌+◌, ◌*◌, ℕ, List, [], ◌∷◌, length, take, Option, Some, None}
-use Rattle.q_logic.specs.Literals.{Literal, IsBelow}
-use Rattle.q_logic.specs.Formulas.{Clause, Matrix, Prefix}
-use Rattle.q_logic.specs.Clauses.{clause_of}
-use Rattle.q_logic.specs.Propagation.{Implied}
-use Rattle.q_logic.specs.Pivots.{ExistsPivot}
-use Rattle.q_logic.specs.Parts.{ArePairs}
-use Rattle.q_logic.specs.Limits.{standard}
-use Rattle.q_logic.specs.Sets.{IsSubset}
-use Rattle.q_logic.specs.Steps.{Within, KeepsLimits}
-use Rattle.q_logic.specs.Numbered.{Slots, slot, set_slot, others, live}
-use Rattle.q_logic.specs.Measure.{size_of}
-use Rattle.q_kernel.specs.Kernels.{Seen, slots, KeepsRoom}
-use Rattle.q_kernel.specs.Changes.{IsLed}
+use Rattle.q_logic.specs.Prelude.{Literal, IsBelow, Clause, Matrix, Prefix, clause_of, Implied, ExistsPivot, ArePairs, standard, IsSubset, Within, KeepsLimits, Slots, slot, set_slot, others, live, size_of}
+use Rattle.q_kernel.specs.Prelude.{Seen, slots, KeepsRoom, IsLed}
 use Rattle.q_blocked.specs.declared.plan.Stage.{Stage}
 use Rattle.q_blocked.specs.declared.plan.Plan.{Plan}
 

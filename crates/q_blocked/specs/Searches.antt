@@ -1,6 +1,6 @@
 -- What a search for targets answers.
 use Rattle.std.specs.Prelude.{◌≡◌, ℕ}
-use Rattle.q_logic.specs.Literals.{Literal}
+use Rattle.q_logic.specs.Prelude.{Literal}
 use Rattle.q_blocked.specs.declared.target.Target.{Target}
 use Rattle.q_blocked.specs.declared.target.Target.TheVariants.{Blocked, BlockedForall, Cover}
 

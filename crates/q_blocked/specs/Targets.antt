@@ -1,13 +1,12 @@
 -- The targets of this crate, as targets of the theory.
 use Rattle.std.specs.Prelude.{◌≡◌, ◌≤◌, [], length, vec_capacity}
-use Rattle.q_logic.specs.Formulas.{Prefix}
-use Rattle.q_logic.specs.Numbered.{Slots}
+use Rattle.q_logic.specs.Prelude.{Prefix, Slots}
 use Rattle.q_logic.specs.Targets as theory
 use Rattle.q_blocked.specs.declared.target.Target.{Target}
 use Rattle.q_blocked.specs.declared.target.Target.TheVariants.{Blocked, BlockedForall, Cover}
 use Rattle.q_blocked.specs.declared.plan.Plan.{Plan}
 use Rattle.q_blocked.specs.declared.search.Search.{Search}
-use Rattle.q_kernel.specs.Kernels.{Seen, slots}
+use Rattle.q_kernel.specs.Prelude.{Seen, slots}
 use Rattle.q_blocked.specs.Plans.{IsPlanFor, HasRoomFor}
 
 abbrev pub target_of : Target → theory.Target

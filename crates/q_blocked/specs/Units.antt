@@ -1,8 +1,6 @@
 -- Clauses of one literal.
 use Rattle.std.specs.Prelude.{◌≡◌, ℕ, true, List, Contains, Some}
-use Rattle.q_logic.specs.Literals.{Literal}
-use Rattle.q_logic.specs.Formulas.{Clause, IsIn}
-use Rattle.q_logic.specs.Numbered.{Slots, slot}
+use Rattle.q_logic.specs.Prelude.{Literal, Clause, IsIn, Slots, slot}
 use Rattle.q_blocked.specs.declared.units.Units.{Units}
 
 -- the clause is of one literal

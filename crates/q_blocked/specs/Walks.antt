@@ -1,9 +1,6 @@
 -- Walks over the other clauses.
 use Rattle.std.specs.Prelude.{◌≡◌, ◌≢◌, ◌↔◌, ◌⊎◌, ℕ, Bool, true, false, List, Some}
-use Rattle.q_logic.specs.Literals.{Literal, negation}
-use Rattle.q_logic.specs.Formulas.{Clause, Matrix, Prefix, IsIn}
-use Rattle.q_logic.specs.Pivots.{keeps}
-use Rattle.q_logic.specs.Numbered.{Slots, slot}
+use Rattle.q_logic.specs.Prelude.{Literal, negation, Clause, Matrix, Prefix, IsIn, keeps, Slots, slot}
 use Rattle.q_logic.specs.Blocking.{Clashes, AllClash}
 use Rattle.q_logic.specs.Covering.{InEach}
 
@@ -12,12 +9,12 @@ abbrev pub IsBeside : Slots → ℕ → ℕ → Clause → Type 0
 IsBeside N c d E = (d ≢ c) × (slot N d ≡ Some E)
 
 -- where all literals of D but one are in H, the negation of that one is in S
-abbrev pub IsCalmAt : Clause → Clause → Clause → Type 0
-IsCalmAt H S D = (new : Literal) → IsIn (negation new) D → ((j : Literal) → IsIn j D → j ≢ negation new → IsIn j H) → IsIn new S
+abbrev pub GivesNoneAt : Clause → Clause → Clause → Type 0
+GivesNoneAt H S D = (new : Literal) → IsIn (negation new) D → ((j : Literal) → IsIn j D → j ≢ negation new → IsIn j H) → IsIn new S
 
 -- the clause D gives S no hidden literal
-abbrev pub IsCalm : Clause → Clause → Type 0
-IsCalm S D = IsCalmAt S S D
+abbrev pub GivesNone : Clause → Clause → Type 0
+GivesNone S D = GivesNoneAt S S D
 
 -- the clause D gives S the hidden literal
 pub record Gives (S D : Clause) (new : Literal) : Type 0 where
@@ -34,8 +31,8 @@ abbrev pub IsOpenAt : Prefix → Slots → ℕ → ℕ → Literal → Clause �
 IsOpenAt P N c d l S = (D : Clause) × IsBeside N c d D × IsIn (negation l) D × (Clashes P l S D → ⊥)
 
 -- S has all covered literals, and some clause with not l does not clash with it
-abbrev pub IsStuck : Prefix → Matrix → Literal → Clause → Type 0
-IsStuck P X l S = IsOpen P X l S × ((k : Literal) → InEach P X l S k → IsIn k S)
+abbrev pub CoversNothing : Prefix → Matrix → Literal → Clause → Type 0
+CoversNothing P X l S = IsOpen P X l S × ((k : Literal) → InEach P X l S k → IsIn k S)
 
 -- what a clause of the list of not l does to the covered literals that are found so far
 pub record IsCutBy (P : Prefix) (N : Slots) (c d : ℕ) (l : Literal) (S : Clause) (was : Bool) (old : List Literal) (now : Bool) (new : List Literal) : Type 0 where

@@ -1,9 +1,8 @@
 //! Questions of a caller that asks for many clauses of one kernel.
 ghost use Rattle.std.specs.Prelude.{◌↔◌, IfOk, IsTrue};
 ghost use Rattle.q_logic.specs.declared.rule_bounds.Bounds.{Bounds};
-ghost use Rattle.q_logic.specs.Targets.{cover};
-ghost use Rattle.q_logic.specs.Rules.{Fits};
-ghost use Rattle.q_kernel.specs.Kernels.{Seen, slots};
+ghost use Rattle.q_logic.specs.Prelude.{cover, Fits};
+ghost use Rattle.q_kernel.specs.Prelude.{Seen, slots};
 ghost use Rattle.q_blocked.specs.Learned.{IsRightFor};
 
 use crate::cover::fits_cover;
@@ -23,7 +22,8 @@ impl Search {
     /// Whether a clause is covered. What is learned of the kernel serves for the next question on the same one.
     pub fn covers(&mut self, kernel: &Kernel, c: ClauseId) -> Result<bool, NoMemory>
         requires { IsRightFor kernel.now self.old }
-        ensures yes { IfOk result (λ yes. (B : Bounds) → IsTrue yes ↔ Fits B kernel.now.prefix (slots kernel.now) (cover c)) }
+        ensures yes { IfOk result (λ yes.
+            (B : Bounds) → IsTrue yes ↔ Fits B kernel.now.prefix (slots kernel.now) (cover c)) }
         ensures right { IsRightFor kernel.now self.new }
     {
         fits_cover(kernel, self, c)

@@ -22,15 +22,9 @@
 //! negations blocked. Where a literal goes, the clause may subsume, strengthen, or be a unit clause.
 ghost use Rattle.std.specs.Prelude.{◌↔◌, IfOk, IsTrue};
 ghost use Rattle.q_logic.specs.declared.rule_bounds.Bounds.{Bounds};
-ghost use Rattle.q_logic.specs.Formulas.{IsIn};
-ghost use Rattle.q_logic.specs.Literals.{negation};
+ghost use Rattle.q_logic.specs.Prelude.{IsIn, negation, others, blocked, blocked_forall, standard, IsInLimits, Fits};
 ghost use Rattle.q_logic.specs.Blocking.{AllClash};
-ghost use Rattle.q_logic.specs.Numbered.{others};
-ghost use Rattle.q_logic.specs.Targets.{blocked, blocked_forall};
-ghost use Rattle.q_logic.specs.Limits.{standard};
-ghost use Rattle.q_logic.specs.InLimits.{IsInLimits};
-ghost use Rattle.q_logic.specs.Rules.{Fits};
-ghost use Rattle.q_kernel.specs.Kernels.{slots, formula_in};
+ghost use Rattle.q_kernel.specs.Prelude.{slots, formula_in};
 ghost use Rattle.q_rule.specs.Becoming.{CanChange, IsChanged};
 
 use crate::clashing::{all_clash, fill};
@@ -40,7 +34,8 @@ use q_rule::{Queue, is_existential, is_universal};
 
 /// Whether a clause is blocked on an existential literal.
 pub fn fits_blocked(kernel: &Kernel, set: &mut Queue, c: ClauseId, l: Lit) -> Result<bool, NoMemory>
-    ensures { IfOk result (λ yes. (B : Bounds) → IsTrue yes ↔ Fits B kernel.now.prefix (slots kernel.now) (blocked c l)) }
+    ensures { IfOk result (λ yes.
+        (B : Bounds) → IsTrue yes ↔ Fits B kernel.now.prefix (slots kernel.now) (blocked c l)) }
 {
     if !kernel.live(c) || !is_existential(kernel, l.var()) {
         return Ok(false);
@@ -60,7 +55,9 @@ pub fn fits_blocked_forall(
     c: ClauseId,
     l: Lit,
 ) -> Result<bool, NoMemory>
-    ensures { IfOk result (λ yes. (B : Bounds) → IsTrue yes ↔ Fits B kernel.now.prefix (slots kernel.now) (blocked_forall c l)) }
+    ensures { IfOk result (λ yes.
+        (B : Bounds) → IsTrue yes
+        ↔ Fits B kernel.now.prefix (slots kernel.now) (blocked_forall c l)) }
 {
     if !kernel.live(c) || !is_universal(kernel, l.var()) {
         return Ok(false);
@@ -75,13 +72,14 @@ pub fn fits_blocked_forall(
 
 /// Whether a literal of the clause c, whose literals are the set, may leave it where it is universal.
 pub fn may_drop(kernel: &Kernel, set: &Queue, c: ClauseId, l: Lit) -> bool
-    ensures { IsTrue result ↔ ((IsIn (negation l) set.now → ⊥) × AllClash kernel.now.prefix (others c (slots kernel.now)) l set.now) }
+    ensures { IsTrue result ↔ ((IsIn (negation l) set.now → ⊥)
+        × AllClash kernel.now.prefix (others c (slots kernel.now)) l set.now) }
 {
     !set.has(l.negated()) && all_clash(kernel, set, c, l)
 }
 
 /// Deletes a blocked clause by its pivot.
-pub fn delete_blocked(kernel: &mut Kernel, c: ClauseId, l: Lit)
+pub fn take_blocked(kernel: &mut Kernel, c: ClauseId, l: Lit)
     requires fits { (B : Bounds) → Fits B kernel.old.prefix (slots kernel.old) (blocked c l) }
     requires limits { IsInLimits standard (formula_in kernel.old) }
     requires bytes { CanChange kernel.old }
@@ -92,8 +90,9 @@ pub fn delete_blocked(kernel: &mut Kernel, c: ClauseId, l: Lit)
 }
 
 /// Drops a universal literal on which its clause is blocked.
-pub fn drop_blocked(kernel: &mut Kernel, c: ClauseId, l: Lit)
-    requires fits { (B : Bounds) → Fits B kernel.old.prefix (slots kernel.old) (blocked_forall c l) }
+pub fn take_blocked_forall(kernel: &mut Kernel, c: ClauseId, l: Lit)
+    requires fits { (B : Bounds)
+        → Fits B kernel.old.prefix (slots kernel.old) (blocked_forall c l) }
     requires limits { IsInLimits standard (formula_in kernel.old) }
     requires bytes { CanChange kernel.old }
     ensures { IsChanged kernel.old kernel.new (blocked_forall c l) }

@@ -1,13 +1,8 @@
 //! Clauses that clash with a set of literals.
 ghost use Rattle.std.specs.Prelude.{◌≡◌, ◌↔◌, true, OnOk, IsTrue};
-ghost use Rattle.q_logic.specs.Literals.{negation};
-ghost use Rattle.q_logic.specs.Formulas.{Clause, IsIn};
-ghost use Rattle.q_logic.specs.Prefixes.{is_bound};
-ghost use Rattle.q_logic.specs.Pivots.{keeps};
-ghost use Rattle.q_logic.specs.Steps.{Within};
-ghost use Rattle.q_logic.specs.Numbered.{others};
+ghost use Rattle.q_logic.specs.Prelude.{negation, Clause, IsIn, is_bound, keeps, Within, others};
 ghost use Rattle.q_logic.specs.Blocking.{Clashes, AllClash};
-ghost use Rattle.q_kernel.specs.Kernels.{slots, HoldsLiteral};
+ghost use Rattle.q_kernel.specs.Prelude.{slots, HoldsLiteral};
 ghost use Rattle.q_blocked.specs.Walks.{ClashesAt};
 
 use q_kernel::{ClauseId, Kernel};

@@ -9,7 +9,7 @@
 //! Lonsing and Martina Seidl, "Clause Elimination for SAT and QSAT" (JAIR 53, 2015). (The conditions on the prefix are
 //! this project's own.)
 //!
-//! **Condition and law.** `Covers` (`q_logic/specs/Covering.antt`). No is right because of `stuck-covers_none`
+//! **Condition and law.** `Covers` (`q_logic/specs/Covering.antt`). No is right because of `closed-covers_none`
 //! (`q_logic/proofs/CoverRun.antt`): what stops one order of growing stops every order.
 //!
 //! **How it is found.** The set is a list with marks. The list of each literal is walked once for hidden literals,
@@ -17,8 +17,8 @@
 //! clauses of one literal come last, since no list leads to them, and only where nothing else ended the growth.
 //!
 //! Most looks find nothing, and for the reason of the last look, at this clause or at one before. So it is noted and
-//! asked first: the clause that gave a hidden literal, on which nothing is covered then (`reasons.rt`), two clauses with `not l` that have nothing in common beyond the set (`stuck.rt`), the place in a long
-//! clause of a literal whose negation is in the set (`calm.rt`). What is noted is tested each time, so it may be out of
+//! asked first: the clause that gave a hidden literal, on which nothing is covered then (`reasons.rt`), two clauses with `not l` that have nothing in common beyond the set (`pairs.rt`), the place in a long
+//! clause of a literal whose negation is in the set (`nothing_hidden.rt`). What is noted is tested each time, so it may be out of
 //! date.
 //!
 //! **The steps** (`plan.rt`, `covering.rt`). A stage is a larger clause that comes, after which the smaller one goes.
@@ -36,12 +36,8 @@
 //! blocked or covered.
 ghost use Rattle.std.specs.Prelude.{◌≡◌, ◌↔◌, ℕ, ◌++◌, ◌<◌, ◌≤◌, true, length, slice_get, Some, None, OnOk, IfOk, IsTrue};
 ghost use Rattle.q_logic.specs.declared.rule_bounds.Bounds.{Bounds};
-ghost use Rattle.q_logic.specs.Literals.{Literal, negation};
-ghost use Rattle.q_logic.specs.Formulas.{Clause, IsIn};
-ghost use Rattle.q_logic.specs.Numbered.{slot, others};
-ghost use Rattle.q_logic.specs.Targets.{cover};
-ghost use Rattle.q_logic.specs.Rules.{Fits};
-ghost use Rattle.q_kernel.specs.Kernels.{Seen, slots};
+ghost use Rattle.q_logic.specs.Prelude.{Literal, negation, Clause, IsIn, slot, others, cover, Fits};
+ghost use Rattle.q_kernel.specs.Prelude.{Seen, slots};
 ghost use Rattle.q_blocked.specs.Growths.{Growing, CoveredBy, HasCovered, HasLooked, HasTurned, HasDecided};
 ghost use Rattle.q_snapshot.specs.Rows.{AreRowsOf};
 ghost use Rattle.q_blocked.specs.Units.{AreRight};
@@ -50,10 +46,10 @@ ghost use Rattle.q_blocked.specs.Plans.{IsPlanFor};
 use crate::covered::{covered_at, is_bare};
 use crate::growth::Growth;
 use crate::hidden::{close, use_units};
-use crate::outcome::Outcome;
+use crate::pairs::covers_nothing;
+use crate::progress::Progress;
 use crate::reasons::is_given;
 use crate::search::Search;
-use crate::stuck::is_stuck;
 use q_kernel::{ClauseId, Kernel};
 use q_logic::{Lit, NoMemory};
 use q_rule::{Queue, clause_of, is_existential, is_tautology};
@@ -82,7 +78,8 @@ fn opposes(set: &Queue, lits: &[Lit]) -> bool
 // Makes the literal at a place one of the last stage.
 fn end_stage(growth: &mut Growth, place: usize) -> Result<(), NoMemory>
     requires { place < length growth.old.set }
-    ensures growing { OnOk result ((k : Seen) (c : ℕ) → Growing k c growth.old → Growing k c growth.new) }
+    ensures growing { OnOk result
+        ((k : Seen) (c : ℕ) → Growing k c growth.old → Growing k c growth.new) }
     ensures staged { OnOk result (place < growth.new.base) }
     ensures set { growth.new.set ≡ growth.old.set }
     ensures found { growth.new.found ≡ growth.old.found }
@@ -99,10 +96,12 @@ fn cover_by(
     growth: &mut Growth,
     c: ClauseId,
     place: usize,
-) -> Result<Outcome, NoMemory>
+) -> Result<Progress, NoMemory>
     requires growing { Growing kernel.now c growth.old }
     requires staged { place < growth.old.base }
-    requires found { (l : Literal) → slice_get growth.old.set place ≡ Some l → CoveredBy kernel.now.prefix (others c (slots kernel.now)) growth.old.set growth.old.found.items l }
+    requires found { (l : Literal) → slice_get growth.old.set place ≡ Some l
+        → CoveredBy kernel.now.prefix (others c (slots kernel.now)) growth.old.set
+        growth.old.found.items l }
     ensures { IfOk result (HasCovered kernel.now c growth.new) }
 {
     kernel.sound();
@@ -110,10 +109,10 @@ fn cover_by(
     push_all(&mut growth.set, &growth.found)?;
     if opposes(&growth.set, &growth.found) {
         growth.plan.last = Some(l);
-        return Ok(Outcome::Ended);
+        return Ok(Progress::Ended);
     }
     growth.note(Some(l))?;
-    Ok(Outcome::Grown)
+    Ok(Progress::Grown)
 }
 
 // Grows by the covered literals on the literal at a place of the set.
@@ -122,21 +121,22 @@ fn cover_at(
     growth: &mut Growth,
     c: ClauseId,
     place: usize,
-) -> Result<Outcome, NoMemory>
+) -> Result<Progress, NoMemory>
     requires growing { Growing kernel.now c growth.old }
     requires there { place < length growth.old.set }
-    ensures { IfOk result (HasLooked kernel.now c (λ l. slice_get growth.old.set place ≡ Some l) growth.old growth.new) }
+    ensures { IfOk result (HasLooked kernel.now c (λ l.
+        slice_get growth.old.set place ≡ Some l) growth.old growth.new) }
 {
     let l = growth.set.at(place);
     if !is_existential(kernel, l.var()) {
-        return Ok(Outcome::Calm);
+        return Ok(Progress::Unchanged);
     }
     let d = growth.reasons.of(place);
     if is_given(kernel, &growth.set, c, d, l) {
-        return Ok(Outcome::Calm);
+        return Ok(Progress::Unchanged);
     }
-    if is_stuck(kernel, &growth.set, &growth.pairs, c, l) {
-        return Ok(Outcome::Calm);
+    if covers_nothing(kernel, &growth.set, &growth.pairs, c, l) {
+        return Ok(Progress::Unchanged);
     }
     if !covered_at(
         kernel,
@@ -148,41 +148,42 @@ fn cover_at(
     )? {
         end_stage(growth, place)?;
         growth.plan.last = Some(l);
-        return Ok(Outcome::Ended);
+        return Ok(Progress::Ended);
     }
     if is_bare(&growth.found) {
         growth.pairs.note(l, growth.spare.pair)?;
-        return Ok(Outcome::Calm);
+        return Ok(Progress::Unchanged);
     }
     end_stage(growth, place)?;
     cover_by(kernel, growth, c, place)
 }
 
 // Grows by the covered literals on each literal of the set, those that come included.
-fn pass(kernel: &Kernel, growth: &mut Growth, c: ClauseId) -> Result<Outcome, NoMemory>
+fn pass(kernel: &Kernel, growth: &mut Growth, c: ClauseId) -> Result<Progress, NoMemory>
     requires growing { Growing kernel.now c growth.old }
-    ensures { IfOk result (HasLooked kernel.now c (λ l. IsIn l growth.old.set) growth.old growth.new) }
+    ensures { IfOk result (HasLooked kernel.now c (λ l.
+        IsIn l growth.old.set) growth.old growth.new) }
 {
     let mut grew = false;
     for place in 0..usize::MAX {
         if place >= growth.set.len() {
             if grew {
-                return Ok(Outcome::Grown);
+                return Ok(Progress::Grown);
             }
-            return Ok(Outcome::Calm);
+            return Ok(Progress::Unchanged);
         }
-        let outcome = cover_at(kernel, growth, c, place)?;
-        if outcome.is_ended() {
-            return Ok(Outcome::Ended);
+        let progress = cover_at(kernel, growth, c, place)?;
+        if progress.is_ended() {
+            return Ok(Progress::Ended);
         }
-        grew = grew || outcome.is_grown();
+        grew = grew || progress.is_grown();
     }
     // a set that large has no place in memory
     Err(NoMemory)
 }
 
 // Grows by all that is known without the clauses of one literal, and then by these.
-fn round(kernel: &Kernel, search: &mut Search, c: ClauseId) -> Result<Outcome, NoMemory>
+fn round(kernel: &Kernel, search: &mut Search, c: ClauseId) -> Result<Progress, NoMemory>
     requires growing { Growing kernel.now c search.old.growth }
     requires units { AreRight (slots kernel.now) search.old.units }
     requires rows { AreRowsOf kernel.now search.old.rows }
@@ -191,11 +192,11 @@ fn round(kernel: &Kernel, search: &mut Search, c: ClauseId) -> Result<Outcome, N
     ensures rows { AreRowsOf kernel.now search.new.rows }
 {
     if close(kernel, &mut search.growth, &mut search.rows, c)? {
-        return Ok(Outcome::Ended);
+        return Ok(Progress::Ended);
     }
-    let outcome = pass(kernel, &mut search.growth, c)?;
-    if outcome.is_ended() || outcome.is_grown() {
-        return Ok(outcome);
+    let progress = pass(kernel, &mut search.growth, c)?;
+    if progress.is_ended() || progress.is_grown() {
+        return Ok(progress);
     }
     search.units.learn(kernel)?;
     let last = use_units(kernel, &mut search.growth, c, &search.units.ids)?;
@@ -212,11 +213,11 @@ fn covers(kernel: &Kernel, search: &mut Search, c: ClauseId) -> Result<bool, NoM
     ensures rows { AreRowsOf kernel.now search.new.rows }
 {
     for _round in 0..usize::MAX {
-        let outcome = round(kernel, search, c)?;
-        if outcome.is_ended() {
+        let progress = round(kernel, search, c)?;
+        if progress.is_ended() {
             return Ok(true);
         }
-        if !outcome.is_grown() {
+        if !progress.is_grown() {
             return Ok(false);
         }
     }
@@ -228,8 +229,10 @@ fn covers(kernel: &Kernel, search: &mut Search, c: ClauseId) -> Result<bool, NoM
 pub fn fits_cover(kernel: &Kernel, search: &mut Search, c: ClauseId) -> Result<bool, NoMemory>
     requires units { AreRight (slots kernel.now) search.old.units }
     requires rows { AreRowsOf kernel.now search.old.rows }
-    ensures fits { IfOk result (λ yes. (B : Bounds) → IsTrue yes ↔ Fits B kernel.now.prefix (slots kernel.now) (cover c)) }
-    ensures plan { IfOk result (λ yes. IsTrue yes → IsPlanFor kernel.now.prefix (slots kernel.now) c search.new.growth.plan) }
+    ensures fits { IfOk result (λ yes.
+        (B : Bounds) → IsTrue yes ↔ Fits B kernel.now.prefix (slots kernel.now) (cover c)) }
+    ensures plan { IfOk result (λ yes.
+        IsTrue yes → IsPlanFor kernel.now.prefix (slots kernel.now) c search.new.growth.plan) }
     ensures units { AreRight (slots kernel.now) search.new.units }
     ensures rows { AreRowsOf kernel.now search.new.rows }
 {

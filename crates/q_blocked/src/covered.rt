@@ -1,17 +1,12 @@
 //! Covered literals: what the outer parts of all clauses with the negation of a literal, on which the set may be blocked,
 //! have in common.
 ghost use Rattle.std.specs.Prelude.{◌≡◌, ◌↔◌, ◌++◌, ◌∷◌, [], true, false, cond, OnOk, IfOk, IsTrue};
-ghost use Rattle.q_logic.specs.Literals.{Literal, negation};
-ghost use Rattle.q_logic.specs.Formulas.{IsIn};
-ghost use Rattle.q_logic.specs.Prefixes.{is_bound};
-ghost use Rattle.q_logic.specs.Pivots.{keeps};
-ghost use Rattle.q_logic.specs.Steps.{Within};
-ghost use Rattle.q_logic.specs.Numbered.{others};
-ghost use Rattle.q_kernel.specs.Kernels.{slots, HoldsLiteral};
+ghost use Rattle.q_logic.specs.Prelude.{Literal, negation, IsIn, is_bound, keeps, Within, others};
+ghost use Rattle.q_kernel.specs.Prelude.{slots, HoldsLiteral};
 ghost use Rattle.q_blocked.specs.Walks.{IsNarrowed, IsLooked};
 
 use crate::clashing::{clashes, fill, is_fresh};
-use crate::stuck::{NO_PAIR, Pair};
+use crate::pairs::{NO_PAIR, Pair};
 use q_kernel::{ClauseId, Kernel};
 use q_logic::{Lit, NoMemory, holds};
 use q_rule::{Queue, clause_of};
@@ -61,7 +56,9 @@ fn begin(
 ) -> Result<(), NoMemory>
     requires within { Within kernel.now.prefix clause.now }
     requires bound { is_bound kernel.now.prefix m.var ≡ true }
-    ensures { OnOk result ((k : Literal) → IsIn k found.new.items ↔ (IsIn k clause.now × (keeps kernel.now.prefix m k ≡ true) × (IsIn k set.now → ⊥))) }
+    ensures { OnOk result ((k : Literal)
+        → IsIn k found.new.items
+        ↔ (IsIn k clause.now × (keeps kernel.now.prefix m k ≡ true) × (IsIn k set.now → ⊥))) }
 {
     found.clear();
     for k in clause {
@@ -72,7 +69,8 @@ fn begin(
 
 // The literals that are in the clause too.
 fn sift(old: &[Lit], clause: &[Lit], kept: &mut Vec<Lit>) -> Result<(), NoMemory>
-    ensures { OnOk result ((k : Literal) → IsIn k kept.new.items ↔ (IsIn k old.now × IsIn k clause.now)) }
+    ensures { OnOk result ((k : Literal)
+        → IsIn k kept.new.items ↔ (IsIn k old.now × IsIn k clause.now)) }
 {
     kept.clear();
     for k in old {
@@ -88,7 +86,8 @@ fn sift_marked(
     marks: &mut Queue,
     kept: &mut Vec<Lit>,
 ) -> Result<(), NoMemory>
-    ensures { OnOk result ((k : Literal) → IsIn k kept.new.items ↔ (IsIn k old.now × IsIn k clause.now)) }
+    ensures { OnOk result ((k : Literal)
+        → IsIn k kept.new.items ↔ (IsIn k old.now × IsIn k clause.now)) }
 {
     fill(marks, clause)?;
     kept.clear();
@@ -100,7 +99,8 @@ fn sift_marked(
 
 // The same, by the way that costs less.
 fn meet(old: &[Lit], clause: &[Lit], spare: &mut Spare) -> Result<(), NoMemory>
-    ensures { OnOk result ((k : Literal) → IsIn k spare.new.lits.items ↔ (IsIn k old.now × IsIn k clause.now)) }
+    ensures { OnOk result ((k : Literal)
+        → IsIn k spare.new.lits.items ↔ (IsIn k old.now × IsIn k clause.now)) }
 {
     if old.len() < FEW {
         return sift(old, clause, &mut spare.lits);
@@ -109,7 +109,8 @@ fn meet(old: &[Lit], clause: &[Lit], spare: &mut Spare) -> Result<(), NoMemory>
 }
 
 fn keep(found: &mut Vec<Lit>, clause: &[Lit], spare: &mut Spare) -> Result<(), NoMemory>
-    ensures { OnOk result ((k : Literal) → IsIn k found.new.items ↔ (IsIn k found.old.items × IsIn k clause.now)) }
+    ensures { OnOk result ((k : Literal)
+        → IsIn k found.new.items ↔ (IsIn k found.old.items × IsIn k clause.now)) }
 {
     meet(found, clause, spare)?;
     std::mem::swap(found, &mut spare.lits);
@@ -128,7 +129,9 @@ fn narrow(
     was: bool,
 ) -> Result<bool, NoMemory>
     requires { HoldsLiteral kernel.now d (negation l) }
-    ensures { IfOk result (λ yes. IsNarrowed kernel.now.prefix (slots kernel.now) c d l set.now was found.old.items yes found.new.items) }
+    ensures { IfOk result (λ yes.
+        IsNarrowed kernel.now.prefix (slots kernel.now) c d l set.now was found.old.items yes
+        found.new.items) }
 {
     if d == c {
         return Ok(was);
@@ -159,7 +162,8 @@ pub fn covered_at(
     c: ClauseId,
     l: Lit,
 ) -> Result<bool, NoMemory>
-    ensures { IfOk result (λ yes. IsLooked kernel.now.prefix (others c (slots kernel.now)) l set.now found.new.items yes) }
+    ensures { IfOk result (λ yes.
+        IsLooked kernel.now.prefix (others c (slots kernel.now)) l set.now found.new.items yes) }
 {
     let mut met = false;
     for d in kernel.holders(l.negated()) {

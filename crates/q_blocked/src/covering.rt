@@ -1,13 +1,7 @@
 //! The steps by which a covered clause goes.
 ghost use Rattle.std.specs.Prelude.{◌≡◌, ◌≤◌, ◌+◌, ◌*◌, ◌∷◌, Some, None, length, vec_capacity};
-ghost use Rattle.q_logic.specs.Literals.{Literal};
-ghost use Rattle.q_logic.specs.Formulas.{Clause};
-ghost use Rattle.q_logic.specs.Clauses.{clause_of};
-ghost use Rattle.q_logic.specs.Limits.{standard};
-ghost use Rattle.q_logic.specs.InLimits.{IsInLimits};
-ghost use Rattle.q_logic.specs.Numbered.{slot, others};
-ghost use Rattle.q_logic.specs.Targets.{cover};
-ghost use Rattle.q_kernel.specs.Kernels.{slots, formula_in};
+ghost use Rattle.q_logic.specs.Prelude.{Literal, Clause, clause_of, standard, IsInLimits, slot, others, cover};
+ghost use Rattle.q_kernel.specs.Prelude.{slots, formula_in};
 ghost use Rattle.q_rule.specs.Becoming.{IsChanged};
 ghost use Rattle.q_blocked.specs.Plans.{IsPlanFor, HasRoomFor, MayReplace, IsReplaced, MayLeave, HasLeft};
 
@@ -16,7 +10,7 @@ use q_kernel::{ClauseId, Kernel};
 use q_logic::Lit;
 
 /// Makes a covered clause larger, stage by stage, and deletes the last one.
-pub fn delete_covered(kernel: &mut Kernel, plan: &Plan, larger: &mut Vec<Lit>, c: ClauseId)
+pub fn take_cover(kernel: &mut Kernel, plan: &Plan, larger: &mut Vec<Lit>, c: ClauseId)
     requires plan { IsPlanFor kernel.old.prefix (slots kernel.old) c plan.now }
     requires limits { IsInLimits standard (formula_in kernel.old) }
     requires room { HasRoomFor kernel.old plan.now.stages.items }

@@ -1,12 +1,12 @@
 //! A set of literals that grows, and the stages at which its clause is made larger.
 ghost use Rattle.std.specs.Prelude.{◌≡◌, ◌<◌, ◌∷◌, ◌++◌, [], length, OnOk};
 
-use crate::calm::Hints;
 use crate::clashing::fill;
 use crate::covered::Spare;
+use crate::nothing_hidden::Hints;
+use crate::pairs::Pairs;
 use crate::plan::{Plan, Stage};
 use crate::reasons::Reasons;
-use crate::stuck::Pairs;
 use q_logic::{Lit, NoMemory};
 use q_rule::Queue;
 use std::alloc::Global;
@@ -69,7 +69,9 @@ impl Growth {
 
     /// Makes the set the clause of a stage.
     pub fn note(&mut self, on: Option<Lit>) -> Result<(), NoMemory>
-        ensures stages { OnOk result (self.new.plan.stages.items ≡ self.old.plan.stages.items ++ record { to = length self.old.set; on = on } ∷ []) }
+        ensures stages { OnOk result
+            (self.new.plan.stages.items
+            ≡ self.old.plan.stages.items ++ record { to = length self.old.set; on = on } ∷ []) }
         ensures base { OnOk result (self.new.base ≡ length self.old.set) }
         ensures set { self.new.set ≡ self.old.set }
         ensures worked { self.new.worked ≡ self.old.worked }

@@ -1,18 +1,15 @@
 //! Hidden literals: where all literals of another clause but one are in the set, the negation of that one may come.
 ghost use Rattle.std.specs.Prelude.{◌≡◌, ◌≢◌, ◌↔◌, Some, None, IfOk, IsTrue};
-ghost use Rattle.q_logic.specs.Literals.{Literal, negation};
-ghost use Rattle.q_logic.specs.Formulas.{Clause, IsIn};
-ghost use Rattle.q_logic.specs.Sets.{IsSubset, IsTautology};
-ghost use Rattle.q_logic.specs.Numbered.{others};
-ghost use Rattle.q_kernel.specs.Kernels.{slots};
-ghost use Rattle.q_blocked.specs.Walks.{IsBeside, IsCalm, Gives};
+ghost use Rattle.q_logic.specs.Prelude.{Literal, negation, Clause, IsIn, IsSubset, IsTautology, others};
+ghost use Rattle.q_kernel.specs.Prelude.{slots};
+ghost use Rattle.q_blocked.specs.Walks.{IsBeside, GivesNone, Gives};
 ghost use Rattle.q_snapshot.specs.Rows.{AreRowsOf};
 ghost use Rattle.q_blocked.specs.Units.{HasUnits};
 ghost use Rattle.q_blocked.specs.Growths.{Growing, HasSpread, HasClosed, HasUsedUnits};
 
-use crate::calm::is_calm;
 use crate::growth::Growth;
-use crate::outcome::Outcome;
+use crate::nothing_hidden::gives_none;
+use crate::progress::Progress;
 use crate::spreading::spread_row;
 use q_kernel::{ClauseId, Kernel};
 use q_logic::{Lit, NoMemory};
@@ -55,7 +52,7 @@ pub(crate) fn others_in(clause: &[Lit], set: &Queue, k: Lit) -> bool
 fn hidden_in(clause: &[Lit], set: &Queue) -> Option<Lit>
     requires { IsTautology set.now → ⊥ }
     ensures some { (new : Literal) → result ≡ Some new → Gives set.now clause.now new }
-    ensures none { result ≡ None → IsCalm set.now clause.now }
+    ensures none { result ≡ None → GivesNone set.now clause.now }
 {
     if let Some(k) = outside(clause, set) {
         if set.has(k.negated()) {
@@ -76,8 +73,10 @@ fn hidden_in(clause: &[Lit], set: &Queue) -> Option<Lit>
 #[inline(always)]
 fn hidden_by(kernel: &Kernel, set: &Queue, c: ClauseId, d: ClauseId) -> Option<Lit>
     requires { IsTautology set.now → ⊥ }
-    ensures some { (new : Literal) → result ≡ Some new → (D : Clause) × IsBeside (slots kernel.now) c d D × Gives set.now D new }
-    ensures none { result ≡ None → (D : Clause) → IsBeside (slots kernel.now) c d D → IsCalm set.now D }
+    ensures some { (new : Literal) → result ≡ Some new
+        → (D : Clause) × IsBeside (slots kernel.now) c d D × Gives set.now D new }
+    ensures none { result ≡ None → (D : Clause) → IsBeside (slots kernel.now) c d D
+        → GivesNone set.now D }
 {
     if d == c {
         return None;
@@ -99,7 +98,8 @@ pub(crate) fn give(
 ) -> Result<bool, NoMemory>
     requires growing { Growing kernel.now c growth.old }
     requires gives { (D : Clause) × IsBeside (slots kernel.now) c d D × Gives growth.old.set D new }
-    ensures { IfOk result (HasSpread kernel.now c (IsBeside (slots kernel.now) c d) growth.old growth.new) }
+    ensures { IfOk result (HasSpread kernel.now c (IsBeside (slots kernel.now) c d) growth.old
+        growth.new) }
 {
     kernel.sound();
     let place = growth.set.len();
@@ -121,9 +121,10 @@ pub(crate) fn take_hidden(
     d: ClauseId,
 ) -> Result<bool, NoMemory>
     requires { Growing kernel.now c growth.old }
-    ensures { IfOk result (HasSpread kernel.now c (IsBeside (slots kernel.now) c d) growth.old growth.new) }
+    ensures { IfOk result (HasSpread kernel.now c (IsBeside (slots kernel.now) c d) growth.old
+        growth.new) }
 {
-    if is_calm(kernel, &growth.set, &mut growth.hints, c, d)? {
+    if gives_none(kernel, &growth.set, &mut growth.hints, c, d)? {
         return Ok(false);
     }
     let Some(new) = hidden_by(kernel, &growth.set, c, d) else {
@@ -143,7 +144,9 @@ fn spread(
 ) -> Result<bool, NoMemory>
     requires growing { Growing kernel.now c growth.old }
     requires rows { AreRowsOf kernel.now rows.old }
-    ensures spread { IfOk result (HasSpread kernel.now c (λ E. IsIn E (others c (slots kernel.now)) × IsIn k E) growth.old growth.new) }
+    ensures spread { IfOk result
+        (HasSpread kernel.now c (λ E.
+        IsIn E (others c (slots kernel.now)) × IsIn k E) growth.old growth.new) }
     ensures rows { AreRowsOf kernel.now rows.new }
 {
     match rows.row(k) {
@@ -162,7 +165,9 @@ fn spread_anew(
 ) -> Result<bool, NoMemory>
     requires growing { Growing kernel.now c growth.old }
     requires rows { AreRowsOf kernel.now rows.old }
-    ensures spread { IfOk result (HasSpread kernel.now c (λ E. IsIn E (others c (slots kernel.now)) × IsIn k E) growth.old growth.new) }
+    ensures spread { IfOk result
+        (HasSpread kernel.now c (λ E.
+        IsIn E (others c (slots kernel.now)) × IsIn k E) growth.old growth.new) }
     ensures rows { AreRowsOf kernel.now rows.new }
 {
     rows.learn(kernel, k);
@@ -178,7 +183,8 @@ fn spread_anew(
 // formula fits into the cache, and loses a third and more where it does not.
 fn spread_list(kernel: &Kernel, growth: &mut Growth, c: ClauseId, k: Lit) -> Result<bool, NoMemory>
     requires { Growing kernel.now c growth.old }
-    ensures { IfOk result (HasSpread kernel.now c (λ E. IsIn E (others c (slots kernel.now)) × IsIn k E) growth.old growth.new) }
+    ensures { IfOk result (HasSpread kernel.now c (λ E.
+        IsIn E (others c (slots kernel.now)) × IsIn k E) growth.old growth.new) }
 {
     for d in kernel.holders(k) {
         if take_hidden(kernel, growth, c, d)? {
@@ -217,7 +223,7 @@ pub fn use_units(
     growth: &mut Growth,
     c: ClauseId,
     units: &[ClauseId],
-) -> Result<Outcome, NoMemory>
+) -> Result<Progress, NoMemory>
     requires growing { Growing kernel.now c growth.old }
     requires units { HasUnits (slots kernel.now) units.now }
     ensures { IfOk result (HasUsedUnits kernel.now c growth.old growth.new) }
@@ -225,11 +231,11 @@ pub fn use_units(
     let before = growth.set.len();
     for d in units {
         if take_hidden(kernel, growth, c, *d)? {
-            return Ok(Outcome::Ended);
+            return Ok(Progress::Ended);
         }
     }
     if growth.set.len() > before {
-        return Ok(Outcome::Grown);
+        return Ok(Progress::Grown);
     }
-    Ok(Outcome::Calm)
+    Ok(Progress::Unchanged)
 }

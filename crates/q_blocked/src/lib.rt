@@ -1,29 +1,28 @@
 //! Blocked and covered clauses, and universal literals on which a clause is blocked.
 #![tactic(auto)]
 
-mod applying;
 mod asking;
 mod blocked;
-mod calls;
-mod calm;
-mod changing;
 mod clashing;
 mod cover;
 mod covered;
 mod covering;
-mod finding;
+mod dispatch;
+mod find;
 mod growth;
 mod hidden;
-mod outcome;
+mod nothing_hidden;
+mod pairs;
 mod plan;
+mod progress;
 mod reasons;
+mod room;
+mod rules;
 mod search;
 mod spreading;
-mod stuck;
 mod target;
 mod units;
 
-pub use calls::{find, try_one};
 pub use q_kernel::Taken;
 pub use q_logic::Bounds;
 pub use search::Search;

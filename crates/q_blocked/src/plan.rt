@@ -40,7 +40,8 @@ impl Plan {
     /// The number of stages, and the literals of all larger clauses.
     pub fn size(&self) -> Result<Size, NoMemory>
         ensures ids { IfOk result (λ s. (s.ids ≡ length self.now.stages.items) × (s.ids ≤ MOST)) }
-        ensures words { IfOk result (λ s. (s.words ≡ words_of self.now.stages.items) × (s.words ≤ MOST)) }
+        ensures words { IfOk result (λ s.
+            (s.words ≡ words_of self.now.stages.items) × (s.words ≤ MOST)) }
     {
         let ids = self.stages.len();
         if ids > MOST {

@@ -1,12 +1,9 @@
 //! Literals that came hidden. Nothing is covered on one of them, as the clause shows that gave it: its other literals are in
 //! the set, so it does not clash, and has nothing else to give.
 ghost use Rattle.std.specs.Prelude.{◌≡◌, ◌≢◌, ◌⊎◌, true};
-ghost use Rattle.q_logic.specs.Literals.{Literal};
-ghost use Rattle.q_logic.specs.Formulas.{IsIn};
-ghost use Rattle.q_logic.specs.Sets.{IsTautology};
-ghost use Rattle.q_logic.specs.Numbered.{others};
-ghost use Rattle.q_kernel.specs.Kernels.{slots};
-ghost use Rattle.q_blocked.specs.Walks.{IsStuck};
+ghost use Rattle.q_logic.specs.Prelude.{Literal, IsIn, IsTautology, others};
+ghost use Rattle.q_kernel.specs.Prelude.{slots};
+ghost use Rattle.q_blocked.specs.Walks.{CoversNothing};
 
 use crate::hidden::others_in;
 use q_kernel::{ClauseId, Kernel};
@@ -49,7 +46,8 @@ impl Reasons {
 
 // Whether one of two literals is k, and the other one in the set.
 fn are_given(set: &Queue, first: Lit, second: Lit, k: Lit) -> bool
-    ensures { result ≡ true → ((first ≡ k) × IsIn second set.now) ⊎ ((second ≡ k) × IsIn first set.now) }
+    ensures { result ≡ true → ((first ≡ k) × IsIn second set.now)
+        ⊎ ((second ≡ k) × IsIn first set.now) }
 {
     if first.is(k) {
         return set.has(second);
@@ -78,7 +76,8 @@ fn gives_but(clause: &[Lit], set: &Queue, k: Lit) -> bool
 /// has all that is covered on l.
 pub fn is_given(kernel: &Kernel, set: &Queue, c: ClauseId, d: ClauseId, l: Lit) -> bool
     requires { IsTautology set.now → ⊥ }
-    ensures { result ≡ true → IsStuck kernel.now.prefix (others c (slots kernel.now)) l set.now }
+    ensures { result ≡ true → CoversNothing kernel.now.prefix (others c (slots kernel.now)) l
+        set.now }
 {
     if d == c {
         return false;

@@ -1,12 +1,9 @@
 //! Hidden literals along the row of a literal.
 ghost use Rattle.std.specs.Prelude.{◌≡◌, ◌≢◌, ◌↔◌, true, IfOk, IsTrue};
-ghost use Rattle.q_logic.specs.Literals.{Literal, negation};
-ghost use Rattle.q_logic.specs.Formulas.{Clause, IsIn};
-ghost use Rattle.q_logic.specs.Sets.{IsTautology};
-ghost use Rattle.q_logic.specs.Numbered.{others};
-ghost use Rattle.q_kernel.specs.Kernels.{slots};
+ghost use Rattle.q_logic.specs.Prelude.{Literal, negation, Clause, IsIn, IsTautology, others};
+ghost use Rattle.q_kernel.specs.Prelude.{slots};
 ghost use Rattle.q_snapshot.specs.Rows.{IsEntry, IsRow};
-ghost use Rattle.q_blocked.specs.Walks.{IsBeside, IsCalm};
+ghost use Rattle.q_blocked.specs.Walks.{IsBeside, GivesNone};
 ghost use Rattle.q_blocked.specs.Growths.{Growing, HasSpread};
 
 use crate::growth::Growth;
@@ -19,7 +16,8 @@ use q_snapshot::Entry;
 // Whether two literals of a clause are two, and none of them in the set.
 #[inline(always)]
 fn are_two_outside(set: &Queue, first: Lit, second: Lit) -> bool
-    ensures { IsTrue result ↔ ((IsIn first set.now → ⊥) × (IsIn second set.now → ⊥) × (second ≢ first)) }
+    ensures { IsTrue result ↔ ((IsIn first set.now → ⊥) × (IsIn second set.now → ⊥)
+        × (second ≢ first)) }
 {
     !set.has(first) && !set.has(second) && !second.is(first)
 }
@@ -29,7 +27,7 @@ fn are_two_outside(set: &Queue, first: Lit, second: Lit) -> bool
 #[inline(always)]
 fn are_quiet(set: &Queue, first: Lit, second: Lit) -> bool
     requires { IsTautology set.now → ⊥ }
-    ensures { result ≡ true → (D : Clause) → IsIn first D → IsIn second D → IsCalm set.now D }
+    ensures { result ≡ true → (D : Clause) → IsIn first D → IsIn second D → GivesNone set.now D }
 {
     if are_two_outside(set, first, second) {
         return true;
@@ -66,7 +64,8 @@ fn take_entry(
 ) -> Result<bool, NoMemory>
     requires growing { Growing kernel.now c growth.old }
     requires entry { IsEntry kernel.now k entry.now }
-    ensures { IfOk result (HasSpread kernel.now c (IsBeside (slots kernel.now) c entry.now.id) growth.old growth.new) }
+    ensures { IfOk result (HasSpread kernel.now c (IsBeside (slots kernel.now) c entry.now.id)
+        growth.old growth.new) }
 {
     if are_quiet(&growth.set, entry.first, entry.second) {
         return Ok(false);
@@ -93,7 +92,8 @@ pub fn spread_row(
 ) -> Result<bool, NoMemory>
     requires growing { Growing kernel.now c growth.old }
     requires row { IsRow kernel.now k row.now }
-    ensures { IfOk result (HasSpread kernel.now c (λ E. IsIn E (others c (slots kernel.now)) × IsIn k E) growth.old growth.new) }
+    ensures { IfOk result (HasSpread kernel.now c (λ E.
+        IsIn E (others c (slots kernel.now)) × IsIn k E) growth.old growth.new) }
 {
     for entry in row {
         if take_entry(kernel, growth, c, k, entry)? {

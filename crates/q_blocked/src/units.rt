@@ -1,9 +1,8 @@
 //! The clauses of one literal. Such a clause gives hidden literals to every set, so no walk along the lists of the
 //! set's literals finds it.
 ghost use Rattle.std.specs.Prelude.{◌≡◌, ℕ, true, false, Some, OnOk};
-ghost use Rattle.q_logic.specs.Formulas.{Clause, IsIn};
-ghost use Rattle.q_logic.specs.Numbered.{slot};
-ghost use Rattle.q_kernel.specs.Kernels.{slots};
+ghost use Rattle.q_logic.specs.Prelude.{Clause, IsIn, slot};
+ghost use Rattle.q_kernel.specs.Prelude.{slots};
 ghost use Rattle.q_blocked.specs.Units.{IsSingle, HasUnits, AreRight};
 
 use q_kernel::{ClauseId, Kernel};
@@ -62,7 +61,9 @@ fn is_single(clause: &[Lit]) -> bool
 fn put_unit(kernel: &Kernel, units: &mut Vec<ClauseId>, id: ClauseId) -> Result<(), NoMemory>
     requires { (C : Clause) × (slot (slots kernel.now) id ≡ Some C) }
     ensures kept { OnOk result ((d : ℕ) → IsIn d units.old.items → IsIn d units.new.items) }
-    ensures there { OnOk result ((D : Clause) → slot (slots kernel.now) id ≡ Some D → IsSingle D → IsIn id units.new.items) }
+    ensures there { OnOk result
+        ((D : Clause) → slot (slots kernel.now) id ≡ Some D → IsSingle D
+        → IsIn id units.new.items) }
 {
     if is_single(kernel.lits(id)) {
         units.push(id)?;

@@ -1,7 +1,6 @@
 -- The gates that the outputs of a certificate need.
 use Rattle.std.specs.Prelude.{◌≡◌, ℕ, Bool, true, false, List, slice_get, slice_index_or, Some}
-use Rattle.q_logic.specs.Formulas.{IsIn}
-use Rattle.q_logic.specs.Certificates.{GateNode, gate_at, Gate, NamedOutput, CertificateView}
+use Rattle.q_logic.specs.Prelude.{IsIn, GateNode, gate_at, Gate, NamedOutput, CertificateView}
 
 -- the node is an output's, or an operand of a gate that is
 pub data InCones (c : CertificateView) : GateNode → Type 0 where

@@ -1,10 +1,6 @@
 -- Variables that have a circuit or are inputs.
 use Rattle.std.specs.Prelude.{◌≡◌, ℕ, ◌+◌, Bool, true, List, ◌⊎◌, length}
-use Rattle.q_logic.specs.Literals.{Literal}
-use Rattle.q_logic.specs.Formulas.{Clause, IsIn}
-use Rattle.q_logic.specs.Skolems.{Strategy, given}
-use Rattle.q_logic.specs.Steps.{literals_in}
-use Rattle.q_logic.specs.Undos.{UndoEntry, pivot, removed, freshened}
+use Rattle.q_logic.specs.Prelude.{Literal, Clause, IsIn, Strategy, given, literals_in, UndoEntry, pivot, removed, freshened}
 
 abbrev pub IsCovered : (ℕ → Bool) → Strategy → Literal → Type 0
 IsCovered U c k = (given (c k.var) ≡ true) ⊎ (U k.var ≡ true)

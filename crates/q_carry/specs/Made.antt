@@ -1,9 +1,7 @@
 -- Graphs over the universals of a prefix, with outputs for its existentials.
 use Rattle.std.specs.Prelude.{◌≡◌, ℕ, cond, List, [], ◌∷◌, Option}
-use Rattle.q_logic.specs.Formulas.{Prefix}
-use Rattle.q_logic.specs.Prefixes.{is_exists, is_universal}
-use Rattle.q_logic.specs.Certificates.{NamedOutput, CertificateView}
-use Rattle.q_aig.specs.Nets.{Net, operand_of}
+use Rattle.q_logic.specs.Prelude.{Prefix, is_exists, is_universal, NamedOutput, CertificateView}
+use Rattle.q_aig.specs.Prelude.{Net, operand_of}
 use Rattle.q_carry.specs.Standing.{look_at, AreLiterals, InputsAt}
 use Rattle.q_carry.specs.Copied.{or_zero}
 

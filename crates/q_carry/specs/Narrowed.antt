@@ -1,11 +1,7 @@
 -- Circuits over the universals of a prefix alone.
 use Rattle.std.specs.Prelude.{◌≡◌, ◌≤◌, ℕ, Bool, true, List, length, map}
-use Rattle.q_logic.specs.Formulas.{Prefix}
-use Rattle.q_logic.specs.Prefixes.{is_existential}
-use Rattle.q_logic.specs.Certificates.{CertificateView, trees_of}
-use Rattle.q_logic.specs.Skolems.{circuit_of, Lawful}
-use Rattle.q_aig.specs.Serving.{Serves}
-use Rattle.q_aig.specs.Walking.{marked_count}
+use Rattle.q_logic.specs.Prelude.{Prefix, is_existential, CertificateView, trees_of, circuit_of, Lawful}
+use Rattle.q_aig.specs.Prelude.{Serves, marked_count}
 use Rattle.q_carry.specs.Made.{universals, existentials}
 use Rattle.q_carry.specs.Cones.{HasCones}
 

@@ -1,10 +1,7 @@
 -- The greatest weight of the inputs that circuits read.
 use Rattle.std.specs.Prelude.{◌≡◌, ◌<◌, ◌≤◌, ◌⊎◌, ℕ, ◌-◌, Bool, true, false, cond, List, length, take, slice_index, slice_index_or}
-use Rattle.q_logic.specs.Formulas.{Prefix}
-use Rattle.q_logic.specs.Prefixes.{is_universal}
-use Rattle.q_logic.specs.Circuits.{Circuit, Reads}
-use Rattle.q_logic.specs.Certificates.{CertificateView}
-use Rattle.q_aig.specs.Nets.{Net, IsNet}
+use Rattle.q_logic.specs.Prelude.{Prefix, is_universal, Circuit, Reads, CertificateView}
+use Rattle.q_aig.specs.Prelude.{Net, IsNet}
 use Rattle.q_carry.specs.Copied.{tree_of_gate}
 use Rattle.q_carry.specs.Refusals.{ReadsInput}
 use Rattle.q_carry.specs.Testing.{name_at}

@@ -1,11 +1,7 @@
 -- Why circuits do not fit a prefix.
 use Rattle.std.specs.Prelude.{◌≡◌, ◌<◌, ◌&&◌, ℕ, true, false, not, cond, [], ◌∷◌, List, length, slice_index_or, slice_get, Option, Some, None}
 use Rattle.q_logic.specs.declared.formulas.Bound.{Bound}
-use Rattle.q_logic.specs.Formulas.{Prefix}
-use Rattle.q_logic.specs.Prefixes.{is_exists, is_existential, is_universal, universal_before}
-use Rattle.q_logic.specs.Circuits.{Reads}
-use Rattle.q_logic.specs.Certificates.{NamedOutput, CertificateView, trees_of}
-use Rattle.q_logic.specs.Skolems.{circuit_of, given}
+use Rattle.q_logic.specs.Prelude.{Prefix, is_exists, is_existential, is_universal, universal_before, Reads, NamedOutput, CertificateView, trees_of, circuit_of, given}
 use Rattle.q_carry.specs.declared.error.Misfit.{Misfit}
 use Rattle.q_carry.specs.declared.error.Misfit.TheVariants.{MissingOutput, StrangeOutput, StrangeInput, Reads as ReadsInner, NoMemory}
 

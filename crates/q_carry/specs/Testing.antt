@@ -1,8 +1,7 @@
 -- What the parts of the test answer.
 use Rattle.std.specs.Prelude.{◌≡◌, ◌<◌, ℕ, Bool, true, false, List, slice_index_or, Option, Some, None}
-use Rattle.q_logic.specs.Formulas.{Prefix}
-use Rattle.q_logic.specs.Certificates.{CertificateView}
-use Rattle.q_aig.specs.Outputs.{no_output, output_of}
+use Rattle.q_logic.specs.Prelude.{Prefix, CertificateView}
+use Rattle.q_aig.specs.Prelude.{no_output, output_of}
 use Rattle.q_carry.specs.declared.error.Misfit.{Misfit}
 use Rattle.q_carry.specs.declared.error.Misfit.TheVariants.{MissingOutput, StrangeOutput, StrangeInput, Reads as ReadsInner, NoMemory}
 use Rattle.q_carry.specs.Refusals.{first_missing, first_strange, ReadsInput, IsStrangeInput, IsTooInner}

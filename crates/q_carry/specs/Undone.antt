@@ -1,8 +1,7 @@
 -- One entry of an undo list, undone.
 use Rattle.std.specs.Prelude.{ℕ, Bool, List, Option}
-use Rattle.q_logic.specs.Skolems.{Strategy}
-use Rattle.q_logic.specs.Undos.{UndoEntry, taken_back}
-use Rattle.q_aig.specs.Nets.{Net}
+use Rattle.q_logic.specs.Prelude.{Strategy, UndoEntry, taken_back}
+use Rattle.q_aig.specs.Prelude.{Net}
 use Rattle.q_carry.specs.Covered.{EntryCovered, weight}
 use Rattle.q_carry.specs.Standing.{AreLiterals, IsAt}
 use Rattle.q_carry.specs.Growing.{IsGrown}

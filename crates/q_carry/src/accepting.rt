@@ -1,6 +1,6 @@
 //! Whether circuits fit a prefix: the four refusals, in their order.
 ghost use Rattle.std.specs.Prelude.{◌≡◌, IfErr, OnOk};
-ghost use Rattle.q_logic.specs.Prefixes.{Distinct};
+ghost use Rattle.q_logic.specs.Prelude.{Distinct};
 ghost use Rattle.q_carry.specs.Refusals.{Fits, IsMisfit};
 
 use crate::by_variable::{circuits_of, places_of};

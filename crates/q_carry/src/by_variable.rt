@@ -1,10 +1,8 @@
 //! Tables by variable: the circuits of a certificate, the places of its inputs, the existentials of a
 //! prefix.
 ghost use Rattle.std.specs.Prelude.{IfOk};
-ghost use Rattle.q_logic.specs.Prefixes.{Distinct};
-ghost use Rattle.q_logic.specs.Certificates.{trees_of};
-ghost use Rattle.q_aig.specs.Nets.{AreDistinct};
-ghost use Rattle.q_aig.specs.Outputs.{AreOutputs, net_of};
+ghost use Rattle.q_logic.specs.Prelude.{Distinct, trees_of};
+ghost use Rattle.q_aig.specs.Prelude.{AreDistinct, AreOutputs, net_of};
 ghost use Rattle.q_carry.specs.Copied.{strategy_of};
 ghost use Rattle.q_carry.specs.Tabled.{AreCircuits, ArePlaces, AreExistentials};
 

@@ -2,10 +2,8 @@
 //! gates: each input that is not allowed weighs the more the earlier it stands, and the greatest weight
 //! that the circuits read names the first.
 ghost use Rattle.std.specs.Prelude.{◌≡◌, ◌<◌, ℕ, List, cond, eqb, length, IfOk, IfErr, OnOk, true, false, slice_index_or, Some, None};
-ghost use Rattle.q_logic.specs.Prefixes.{Distinct};
-ghost use Rattle.q_logic.specs.Certificates.{trees_of};
-ghost use Rattle.q_aig.specs.Nets.{AreDistinct, IsLiteral, tree_at};
-ghost use Rattle.q_aig.specs.Outputs.{net_of};
+ghost use Rattle.q_logic.specs.Prelude.{Distinct, trees_of};
+ghost use Rattle.q_aig.specs.Prelude.{AreDistinct, IsLiteral, tree_at, net_of};
 ghost use Rattle.q_carry.specs.Standing.{look_at};
 ghost use Rattle.q_carry.specs.Peaks.{IsTop};
 ghost use Rattle.q_carry.specs.Tabled.{ArePlaces, AreAllowedBy};

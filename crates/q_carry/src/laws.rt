@@ -1,10 +1,6 @@
 //! Laws on circuits that fit a prefix: each is the contract of a function that does nothing.
 ghost use Rattle.std.specs.Prelude.{◌≡◌, ℕ, map, Contains, true};
-ghost use Rattle.q_logic.specs.Formulas.{Prefix};
-ghost use Rattle.q_logic.specs.Prefixes.{Distinct};
-ghost use Rattle.q_logic.specs.Circuits.{Reads};
-ghost use Rattle.q_logic.specs.Certificates.{CertificateView, trees_of};
-ghost use Rattle.q_logic.specs.Skolems.{Lawful, circuit_of, given as given_spec};
+ghost use Rattle.q_logic.specs.Prelude.{Prefix, Distinct, Reads, CertificateView, trees_of, Lawful, circuit_of, given as given_spec};
 ghost use Rattle.q_carry.specs.declared.error.Misfit.{Misfit};
 ghost use Rattle.q_carry.specs.declared.error.Misfit.TheVariants.{NoMemory as wanting};
 ghost use Rattle.q_carry.specs.Refusals.{Fits, IsMisfit};

@@ -1,10 +1,7 @@
 //! Whether circuits have the names of a prefix: one for each existential, and no others.
 ghost use Rattle.std.specs.Prelude.{◌≡◌, ◌&&◌, map, not, IfErr, OnOk, Option, Some, None};
-ghost use Rattle.q_logic.specs.Formulas.{Prefix};
-ghost use Rattle.q_logic.specs.Prefixes.{Distinct, is_exists};
-ghost use Rattle.q_logic.specs.Skolems.{given as given_spec};
-ghost use Rattle.q_logic.specs.Certificates.{CertificateView, trees_of};
-ghost use Rattle.q_aig.specs.Outputs.{net_of, output_of};
+ghost use Rattle.q_logic.specs.Prelude.{Prefix, Distinct, is_exists, given as given_spec, CertificateView, trees_of};
+ghost use Rattle.q_aig.specs.Prelude.{net_of, output_of};
 ghost use Rattle.q_carry.specs.Tabled.{AreCircuits, AreExistentials};
 ghost use Rattle.q_carry.specs.Refusals.{first_missing as first_missing_spec, first_strange as first_strange_spec};
 ghost use Rattle.q_carry.specs.Testing.{IsNameMisfit};

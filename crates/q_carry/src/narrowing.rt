@@ -1,9 +1,7 @@
 //! Circuits copied over the universals of a prefix alone: inputs in the order of the prefix, and no gate
 //! that no circuit needs.
 ghost use Rattle.std.specs.Prelude.{IfOk};
-ghost use Rattle.q_logic.specs.Prefixes.{Distinct};
-ghost use Rattle.q_logic.specs.Certificates.{trees_of};
-ghost use Rattle.q_logic.specs.Skolems.{Lawful};
+ghost use Rattle.q_logic.specs.Prelude.{Distinct, trees_of, Lawful};
 ghost use Rattle.q_carry.specs.Narrowed.{IsNarrowed};
 
 use crate::copying::{copy_gates, mark_cones, place_outputs};

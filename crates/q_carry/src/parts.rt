@@ -1,8 +1,8 @@
 //! Disjunctions and conjunctions of literals by their circuits. Each literal and each clause costs one
 //! gate at most: a first literal and a first clause cost none.
 ghost use Rattle.std.specs.Prelude.{◌≡◌, ◌⊎◌, IfOk};
-ghost use Rattle.q_logic.specs.Certificates.{falsum};
-ghost use Rattle.q_aig.specs.Nets.{operand_of, IsLiteral};
+ghost use Rattle.q_logic.specs.Prelude.{falsum};
+ghost use Rattle.q_aig.specs.Prelude.{operand_of, IsLiteral};
 ghost use Rattle.q_carry.specs.Standing.{AreLiterals};
 ghost use Rattle.q_carry.specs.Growing.{IsDisjunction, IsRaised, IsSomeOf, IsAllOf};
 

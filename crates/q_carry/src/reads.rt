@@ -2,11 +2,9 @@
 //! place of the prefix behind its universal, and one pass over the gates says how deep each one reads. So
 //! a cone is walked only where the test fails, to name the input.
 ghost use Rattle.std.specs.Prelude.{◌≡◌, ◌<◌, ◌≤◌, ℕ, List, cond, eqb, length, IfOk, IfErr, OnOk, IsTrue, true, false, slice_index, slice_index_or, MatchOption, Option, Some};
-ghost use Rattle.q_logic.specs.Prefixes.{Distinct};
-ghost use Rattle.q_logic.specs.Certificates.{trees_of};
-ghost use Rattle.q_aig.specs.Nets.{AreDistinct, IsLiteral};
+ghost use Rattle.q_logic.specs.Prelude.{Distinct, trees_of};
+ghost use Rattle.q_aig.specs.Prelude.{AreDistinct, IsLiteral, net_of};
 ghost use Rattle.q_aig.specs.Cones.{ReadsAt};
-ghost use Rattle.q_aig.specs.Outputs.{net_of};
 ghost use Rattle.q_carry.specs.Standing.{look_at};
 ghost use Rattle.q_carry.specs.Peaks.{AreDepths, AreGateDepths};
 ghost use Rattle.q_carry.specs.Tabled.{AreCircuits, ArePlaces};

@@ -2,12 +2,7 @@
 use Rattle.std.proofs.Common.{◌≡◌, ℕ, true, false, ◌∷◌, Option, Some, inl, inr, arith, refl, sym, ◌∙◌, true≢false}
 use Rattle.q_logic.specs.declared.limits.Limits.{Limits}
 use Rattle.q_logic.specs.declared.proof_part.ProofKind.TheVariants.{Nothing}
-use Rattle.q_logic.specs.Literals.{Literal}
-use Rattle.q_logic.specs.Formulas.{Clause}
-use Rattle.q_logic.specs.Hinted.{NumberedFormula, ProofPart, beside, Shows, ShowsDrop, IsUndroppable, HintedCause}
-use Rattle.q_logic.specs.Numbered.{slot, live}
-use Rattle.q_logic.specs.Prefixes.{is_bound}
-use Rattle.q_logic.specs.Steps.{add, delete, drop_literal, fresh, remove_variable, Within, KeepsLimits, IsFresh, IsAbsent}
+use Rattle.q_logic.specs.Prelude.{Literal, Clause, NumberedFormula, ProofPart, beside, Shows, ShowsDrop, IsUndroppable, HintedCause, slot, live, is_bound, add, delete, drop_literal, fresh, remove_variable, Within, KeepsLimits, IsFresh, IsAbsent}
 
 module _ (m : Limits) (F : NumberedFormula) (p : Option Literal) (C : Clause) (t : ProofPart) where
   pub add-unbound : (Within F.prefix C → ⊥) → HintedCause m F (add p C) t 2

@@ -2,14 +2,8 @@
 use Rattle.std.specs.Prelude.{◌≡◌, ℕ, List, [], ◌∷◌, ◌++◌, Bool, true, false, Option, None, Some, Result, Ok, Err}
 use Rattle.q_logic.specs.declared.limits.Limits.{Limits}
 use Rattle.q_logic.specs.declared.proof_part.ProofKind.TheVariants.{Nothing, Implied as ByHints, Pivot, Reach}
-use Rattle.q_logic.specs.Literals.{Literal}
-use Rattle.q_logic.specs.Formulas.{Clause, Prefix, IsIn}
-use Rattle.q_logic.specs.Hinted.{NumberedFormula, HintGroup, ProofPart, Resolved, Shows, ShowsPivot, ShowsDrop, HintedValid, hinted_after, plain}
-use Rattle.q_logic.specs.Numbered.{Slots, live}
-use Rattle.q_logic.specs.Pivots.{outer}
+use Rattle.q_logic.specs.Prelude.{Literal, Clause, Prefix, IsIn, NumberedFormula, HintGroup, ProofPart, Resolved, Shows, ShowsPivot, ShowsDrop, HintedValid, hinted_after, plain, Slots, live, outer, Implied, ProofStep, add, delete, drop_literal, fresh, remove_variable, Cause, FirstPivot, IsWarranted, IsDroppable}
 use Rattle.q_logic.specs.ProofParts.{hint_last}
-use Rattle.q_logic.specs.Propagation.{Implied}
-use Rattle.q_logic.specs.Steps.{ProofStep, add, delete, drop_literal, fresh, remove_variable, Cause, FirstPivot, IsWarranted, IsDroppable}
 use Rattle.q_judge.specs.declared.error.CheckError.{CheckError}
 use Rattle.q_judge.specs.declared.error.CheckError.TheVariants.{Refused, NoMemory}
 

@@ -1,9 +1,7 @@
 -- A checker, and what its calls answer.
 use Rattle.std.specs.Prelude.{◌≡◌, Bool, true, false, List, ◌++◌}
 use Rattle.q_logic.specs.declared.limits.Limits.{Limits}
-use Rattle.q_logic.specs.Formulas.{PrenexFormula}
-use Rattle.q_logic.specs.Steps.{ProofStep, Cause}
-use Rattle.q_logic.specs.Undos.{UndoEntry, Entries}
+use Rattle.q_logic.specs.Prelude.{PrenexFormula, ProofStep, Cause, UndoEntry, Entries}
 use Rattle.q_judge.specs.declared.error.CheckError.{CheckError}
 use Rattle.q_judge.specs.declared.error.CheckError.TheVariants.{Refused, NoMemory}
 

@@ -1,12 +1,7 @@
 -- A checker of steps with proof parts, and what its calls answer.
 use Rattle.std.specs.Prelude.{◌≡◌, ◌⊎◌, ℕ, Bool, List, Option, Result, Ok, Err, unwrap_or, slice_index_or}
 use Rattle.q_logic.specs.declared.limits.Limits.{Limits}
-use Rattle.q_logic.specs.Literals.{Literal}
-use Rattle.q_logic.specs.Formulas.{Clause, Prefix}
-use Rattle.q_logic.specs.Hinted.{NumberedFormula, ProofPart, ShowsDrop, IsUndroppable, HintedValid, HintedCause, hinted_after, plain}
-use Rattle.q_logic.specs.Numbered.{Slots, live}
-use Rattle.q_logic.specs.Steps.{ProofStep}
-use Rattle.q_logic.specs.Undos.{UndoEntry}
+use Rattle.q_logic.specs.Prelude.{Literal, Clause, Prefix, NumberedFormula, ProofPart, ShowsDrop, IsUndroppable, HintedValid, HintedCause, hinted_after, plain, Slots, live, ProofStep, UndoEntry}
 use Rattle.q_judge.specs.declared.undo.Undo.{Undo}
 use Rattle.q_judge.specs.declared.error.CheckError.{CheckError}
 use Rattle.q_judge.specs.declared.error.CheckError.TheVariants.{Refused, NoMemory}

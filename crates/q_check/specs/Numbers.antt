@@ -1,10 +1,6 @@
 -- Clauses by numbers, over clauses in slots: which slot each number has.
 use Rattle.std.specs.Prelude.{◌≡◌, ◌↔◌, ◌⊎◌, ℕ, zero, suc, Bool, true, false, List, [], ◌∷◌, ◌++◌, Option, None, Some, Contains, slice_get, slice_index_or}
-use Rattle.q_logic.specs.Formulas.{Clause}
-use Rattle.q_logic.specs.Numbered.{Slots, slot, live, set_slot}
-use Rattle.q_logic.specs.Runs.{copies}
-use Rattle.q_logic.specs.Hints.{Chained}
-use Rattle.q_logic.specs.Propagation.{Implied}
+use Rattle.q_logic.specs.Prelude.{Clause, Slots, slot, live, set_slot, copies, Chained, Implied}
 use Rattle.q_prop.specs.Slots.{Holds, filled}
 
 -- the number has the slot

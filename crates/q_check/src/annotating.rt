@@ -1,13 +1,7 @@
 //! The steps of a log without hints: each is judged on a numbered formula, taken where it is valid, and shown by a
 //! proof part. A refusal carries the least cause, and leaves the formula as it was.
 ghost use Rattle.std.specs.Prelude.{◌≡◌, ◌<◌, ◌≤◌, ◌^◌};
-ghost use Rattle.q_logic.specs.Formulas.{IsIn};
-ghost use Rattle.q_logic.specs.Limits.{AreModerate};
-ghost use Rattle.q_logic.specs.Literals.{IsBelow};
-ghost use Rattle.q_logic.specs.Parts.{ArePairs};
-ghost use Rattle.q_logic.specs.Pivots.{without};
-ghost use Rattle.q_logic.specs.StepForms.{IsFirst};
-ghost use Rattle.q_logic.specs.Steps.{add, delete, drop_literal, fresh, remove_variable};
+ghost use Rattle.q_logic.specs.Prelude.{IsIn, AreModerate, IsBelow, ArePairs, without, IsFirst, add, delete, drop_literal, fresh, remove_variable};
 ghost use Rattle.q_logic.specs.declared.limits.Limits.{Limits as AnyLimits};
 ghost use Rattle.q_check.specs.Annotations.{IsAnnotated};
 

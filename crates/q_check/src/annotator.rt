@@ -1,9 +1,7 @@
 //! The annotator: it takes the steps that the checker takes, and gives each the proof part that shows it. So a log is
 //! checked once with search, and later by its hints alone.
 ghost use Rattle.std.specs.Prelude.{◌≡◌, ◌<◌, ◌+◌, ◌^◌, IfOk, IfErr, OnOk, OnErr};
-ghost use Rattle.q_logic.specs.Hinted.{begun, plain, HintedValid, hinted_after};
-ghost use Rattle.q_logic.specs.Limits.{AreModerate};
-ghost use Rattle.q_logic.specs.Runs.{SameFormula};
+ghost use Rattle.q_logic.specs.Prelude.{begun, plain, HintedValid, hinted_after, AreModerate, SameFormula};
 ghost use Rattle.q_judge.specs.Tried.{IsEndRefusal};
 ghost use Rattle.q_judge.specs.declared.error.CheckError.TheVariants.{NoMemory as MemoryError};
 ghost use Rattle.q_check.specs.Annotations.{HasForm, IsAnnotated};
@@ -28,7 +26,7 @@ pub struct Annotator {
 }
 
 impl Model for Annotator {
-    ghost use Rattle.q_logic.specs.Limits.{AreModerate};
+    ghost use Rattle.q_logic.specs.Prelude.{AreModerate};
     ghost use Rattle.q_check.specs.Annotations.{Annotating};
 
     ghost Value = { Annotating };

@@ -1,8 +1,6 @@
 //! The checker: a formula, and what the steps so far leave.
 ghost use Rattle.std.specs.Prelude.{◌≡◌, [], IfOk, IfErr, OnOk, OnErr};
-ghost use Rattle.q_logic.specs.Limits.{AreModerate};
-ghost use Rattle.q_logic.specs.Runs.{SameFormula, AreAlike};
-ghost use Rattle.q_logic.specs.Steps.{Valid, after};
+ghost use Rattle.q_logic.specs.Prelude.{AreModerate, SameFormula, AreAlike, Valid, after};
 ghost use Rattle.q_judge.specs.declared.error.CheckError.TheVariants.{NoMemory as MemoryError};
 ghost use Rattle.q_judge.specs.Ledgers.{formula_in};
 ghost use Rattle.q_judge.specs.Tried.{IsEndRefusal, IsTried};
@@ -26,7 +24,7 @@ pub struct Checker {
 
 impl Model for Checker {
     ghost use Rattle.std.specs.Prelude.{map};
-    ghost use Rattle.q_logic.specs.Limits.{AreModerate};
+    ghost use Rattle.q_logic.specs.Prelude.{AreModerate};
     ghost use Rattle.q_check.specs.Checked.{Checked};
     ghost use Rattle.q_judge.specs.Entries.{entry_of};
     ghost use Rattle.q_judge.specs.Ledgers.{formula_in};

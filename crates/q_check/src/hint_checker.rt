@@ -1,9 +1,7 @@
 //! The checker of hints: it takes the steps of a log whose proof parts show that they are valid, and searches for
 //! nothing but whether a deletion by a pivot is implied, where the undo list is kept.
 ghost use Rattle.std.specs.Prelude.{◌≡◌, ◌<◌, ◌+◌, ◌^◌, [], IfOk, IfErr, OnOk, OnErr};
-ghost use Rattle.q_logic.specs.Hinted.{begun, plain, HintedValid, hinted_after};
-ghost use Rattle.q_logic.specs.Limits.{AreModerate};
-ghost use Rattle.q_logic.specs.Runs.{SameFormula};
+ghost use Rattle.q_logic.specs.Prelude.{begun, plain, HintedValid, hinted_after, AreModerate, SameFormula};
 ghost use Rattle.q_judge.specs.Tried.{IsEndRefusal};
 ghost use Rattle.q_judge.specs.declared.error.CheckError.TheVariants.{NoMemory as MemoryError};
 ghost use Rattle.q_check.specs.Checked.{HasGrown};
@@ -31,7 +29,7 @@ pub struct HintChecker {
 
 impl Model for HintChecker {
     ghost use Rattle.std.specs.Prelude.{map};
-    ghost use Rattle.q_logic.specs.Limits.{AreModerate};
+    ghost use Rattle.q_logic.specs.Prelude.{AreModerate};
     ghost use Rattle.q_judge.specs.Entries.{entry_of};
     ghost use Rattle.q_check.specs.HintChecks.{HintChecked};
 

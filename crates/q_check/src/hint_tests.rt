@@ -1,13 +1,7 @@
 //! Whether the proof part of a step shows that the step is valid. Its hints are followed one by one, and nothing is
 //! searched; the clauses that its groups are for must be all that hold the negated literal, by ascending numbers.
 ghost use Rattle.std.specs.Prelude.{◌≡◌, ◌↔◌, true, map, IfOk, IsTrue};
-ghost use Rattle.q_logic.specs.Formulas.{IsIn};
-ghost use Rattle.q_logic.specs.Hinted.{Resolved, Shows, ShowsImplied, ShowsPivot, ShowsForall};
-ghost use Rattle.q_logic.specs.Numbered.{slot};
-ghost use Rattle.q_logic.specs.Pivots.{without};
-ghost use Rattle.q_logic.specs.Prefixes.{is_bound, is_universal};
-ghost use Rattle.q_logic.specs.StepForms.{IsFirst};
-ghost use Rattle.q_logic.specs.Steps.{Within};
+ghost use Rattle.q_logic.specs.Prelude.{IsIn, Resolved, Shows, ShowsImplied, ShowsPivot, ShowsForall, slot, without, is_bound, is_universal, IsFirst, Within};
 ghost use Rattle.q_check.specs.HintChecks.{IsDropJudged};
 ghost use Rattle.q_check.specs.Numbers.{left_out};
 

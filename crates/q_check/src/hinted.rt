@@ -1,15 +1,7 @@
 //! The steps of a log with hints: each is judged on a numbered formula by its proof part, and taken where that shows
 //! it. A refusal carries the least cause, and leaves the formula as it was.
 ghost use Rattle.std.specs.Prelude.{◌≡◌, ◌<◌, ◌≤◌, ◌^◌, Bool, Some, IfOk};
-ghost use Rattle.q_logic.specs.Formulas.{IsIn};
-ghost use Rattle.q_logic.specs.Hinted.{Shows, plain};
-ghost use Rattle.q_logic.specs.Limits.{AreModerate};
-ghost use Rattle.q_logic.specs.Literals.{IsBelow};
-ghost use Rattle.q_logic.specs.Numbered.{slot};
-ghost use Rattle.q_logic.specs.Parts.{ArePairs};
-ghost use Rattle.q_logic.specs.Pivots.{without};
-ghost use Rattle.q_logic.specs.StepForms.{IsFirst};
-ghost use Rattle.q_logic.specs.Steps.{Within, add, delete, drop_literal, fresh, remove_variable};
+ghost use Rattle.q_logic.specs.Prelude.{IsIn, Shows, plain, AreModerate, IsBelow, slot, ArePairs, without, IsFirst, Within, add, delete, drop_literal, fresh, remove_variable};
 ghost use Rattle.q_logic.specs.declared.limits.Limits.{Limits as AnyLimits};
 ghost use Rattle.q_judge.specs.Tried.{IsEntry};
 ghost use Rattle.q_check.specs.HintChecks.{IsHintTried};

@@ -1,19 +1,7 @@
 //! The formula under check with numbered clauses: a ledger, which keeps the clauses in slots, and the slot of each
 //! number. Slots are used again, numbers never are. Hints are asked for by slots and told by numbers.
 ghost use Rattle.std.specs.Prelude.{◌≡◌, ◌↔◌, ◌⊎◌, ◌<◌, ◌≤◌, ◌+◌, ◌^◌, ◌++◌, ◌∷◌, [], ℕ, true, false, None, Some, Contains, length, IsTrue, IfOk, IfErr, OnOk, OnErr, MatchOption, map};
-ghost use Rattle.q_logic.specs.Formulas.{Clause, IsIn};
-ghost use Rattle.q_logic.specs.Hinted.{begun, plain, numbers_with};
-ghost use Rattle.q_logic.specs.Limits.{AreModerate};
-ghost use Rattle.q_logic.specs.Literals.{IsBelow, Literal};
-ghost use Rattle.q_logic.specs.Numbered.{slot, set_slot, live};
-ghost use Rattle.q_logic.specs.Parts.{ArePairs};
-ghost use Rattle.q_logic.specs.Pivots.{outer, without};
-ghost use Rattle.q_logic.specs.Prefixes.{is_bound, is_existential, is_universal};
-ghost use Rattle.q_logic.specs.Reach.{Reducible};
-ghost use Rattle.q_logic.specs.Runs.{SameFormula};
-ghost use Rattle.q_logic.specs.StepForms.{IsFirst};
-ghost use Rattle.q_logic.specs.Steps.{Within, KeepsLimits, IsAbsent, insert_after, removed_from, literals_in, IsWarranted, delete};
-ghost use Rattle.q_logic.specs.Hints.{Chained};
+ghost use Rattle.q_logic.specs.Prelude.{Clause, IsIn, begun, plain, numbers_with, AreModerate, IsBelow, Literal, slot, set_slot, live, ArePairs, outer, without, is_bound, is_existential, is_universal, Reducible, SameFormula, IsFirst, Within, KeepsLimits, IsAbsent, insert_after, removed_from, literals_in, IsWarranted, delete, Chained};
 ghost use Rattle.q_judge.specs.Tried.{IsEndRefusal, IsEntry};
 ghost use Rattle.q_check.specs.Numbers.{IsAt, AreNumbersOf, Explains, left_out, place_in, counted, HasNamed, HaveNamed};
 ghost use Rattle.q_check.specs.HintChecks.{place_at};
@@ -35,7 +23,7 @@ pub struct NumberedBook {
 }
 
 impl Model for NumberedBook {
-    ghost use Rattle.q_logic.specs.Hinted.{NumberedFormula};
+    ghost use Rattle.q_logic.specs.Prelude.{NumberedFormula};
     ghost use Rattle.q_check.specs.Numbers.{AreNumbered, numbered_by};
 
     ghost Value = { NumberedFormula };

@@ -2,13 +2,7 @@
 //! first literal resolve. What is shown is tried in the order in which the checker tries it.
 ghost use Rattle.std.specs.Prelude.{◌≡◌, ◌≢◌, ◌+◌, [], true, Some, IfOk, IfSome, OnOk};
 ghost use Rattle.q_logic.specs.declared.proof_part.ProofKind.TheVariants.{Pivot as ByPivot};
-ghost use Rattle.q_logic.specs.Formulas.{IsIn};
-ghost use Rattle.q_logic.specs.Hinted.{Shows};
-ghost use Rattle.q_logic.specs.Numbered.{slot};
-ghost use Rattle.q_logic.specs.Pivots.{without};
-ghost use Rattle.q_logic.specs.Prefixes.{is_bound};
-ghost use Rattle.q_logic.specs.StepForms.{IsFirst};
-ghost use Rattle.q_logic.specs.Steps.{Within};
+ghost use Rattle.q_logic.specs.Prelude.{IsIn, Shows, slot, without, is_bound, IsFirst, Within};
 ghost use Rattle.q_check.specs.Annotations.{with_hints, with_hinted_group, implied_part, number_in, IsByPivot, IsResolved, IsShown, IsDropShown};
 ghost use Rattle.q_check.specs.Numbers.{left_out};
 

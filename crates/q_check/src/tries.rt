@@ -1,13 +1,7 @@
 //! The steps of a log without hints: each is judged on a formula in slots, and taken where it is valid.
 //! A refusal carries the least cause, and leaves the formula as it was.
 ghost use Rattle.std.specs.Prelude.{◌≡◌, ◌<◌, ◌≤◌, ◌^◌, Bool, true, false};
-ghost use Rattle.q_logic.specs.Literals.{IsBelow};
-ghost use Rattle.q_logic.specs.Formulas.{IsIn};
-ghost use Rattle.q_logic.specs.Limits.{AreModerate};
-ghost use Rattle.q_logic.specs.Parts.{ArePairs};
-ghost use Rattle.q_logic.specs.Pivots.{without};
-ghost use Rattle.q_logic.specs.StepForms.{IsFirst, first_of};
-ghost use Rattle.q_logic.specs.Steps.{Within, add, delete, drop_literal, fresh, remove_variable};
+ghost use Rattle.q_logic.specs.Prelude.{IsBelow, IsIn, AreModerate, ArePairs, without, IsFirst, first_of, Within, add, delete, drop_literal, fresh, remove_variable};
 ghost use Rattle.q_logic.specs.declared.limits.Limits.{Limits as AnyLimits};
 ghost use Rattle.q_prop.specs.Slots.{Holds};
 ghost use Rattle.q_judge.specs.Ledgers.{formula_in};

@@ -2,11 +2,11 @@
 use Rattle.std.proofs.Common.{◌≡◌, ◌+◌, ◌<◌, inl, inr, ℕ, List, [], ◌++◌, refl, sym, ap, ◌∙◌, subst, arith, length, take, drop, length-drop}
 use Rattle.std.proofs.Math.Seq.{take-add, take-length}
 use Rattle.std.proofs.lemmas.List.{take-append-drop, length-take-le}
-use Rattle.q_logic.specs.Certificates.{CertificateView}
+use Rattle.q_logic.specs.Prelude.{CertificateView}
 use Rattle.q_aiger.specs.Circuits.{parse, AreCircuits, FailsWith}
 use Rattle.q_aiger.specs.declared.error.AigerError.{AigerError}
 use Rattle.q_aiger.specs.declared.error.AigerError.TheVariants as aiger
-use Rattle.q_aiger.proofs.Fronts.{front-parse, same-circuits, same-offence}
+use Rattle.q_aiger.proofs.LongFiles.{front-parse, same-circuits, same-offence}
 use Rattle.q_command.specs.Texts.{IsFront, HasAppended, HasLineEnd, IsTextOf, IsNoText, refused_text}
 use Rattle.q_command.specs.declared.circuits.CircuitsError.{CircuitsError}
 use Rattle.q_command.specs.declared.circuits.CircuitsError.TheVariants.{Refused, Fault, NoMemory}

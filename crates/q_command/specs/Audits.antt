@@ -1,13 +1,12 @@
 -- A log that is tried while it is read: what some bytes of it do, and what its end says.
 use Rattle.std.specs.Prelude.{◌≡◌, ◌≤◌, ◌+◌, ℕ, true, List, [], ◌++◌, length, take, drop, None}
-use Rattle.q_logic.specs.Formulas.{PrenexFormula}
-use Rattle.q_logic.specs.Limits.{standard}
+use Rattle.q_logic.specs.Prelude.{PrenexFormula, standard}
 use Rattle.q_hinted.specs.Logs.{Entry as BothEntry, read_entries, behind}
 use Rattle.q_hinted.specs.Reading.{to_come}
 use Rattle.q_command.specs.Checks.{LogPasses, LogSays}
 use Rattle.q_command.specs.Taken.{entries_of}
 use Rattle.q_command.specs.Judging.{SameTask}
-use Rattle.q_command.specs.Seats.{hints_taken}
+use Rattle.q_command.specs.LazyCheckers.{hints_taken}
 use Rattle.q_command.specs.Logs.{IsRefusedAt}
 use Rattle.q_command.specs.Trials.{IsBehind}
 use Rattle.q_command.specs.declared.audit.Audit.{Audit}

@@ -1,12 +1,6 @@
 -- What `check` answers over the bytes of its three files.
 use Rattle.std.specs.Prelude.{◌≡◌, ◌⊎◌, ◌↔◌, ℕ, Bool, true, List, length, Some}
-use Rattle.q_logic.specs.Formulas.{PrenexFormula}
-use Rattle.q_logic.specs.Hinted.{HintedRun, HintedSteps as AreValid, NumberedFormula, begun, plain}
-use Rattle.q_logic.specs.Limits.{standard}
-use Rattle.q_logic.specs.Steps.{ProofStep}
-use Rattle.q_logic.specs.Runs.{ValidSteps, Run}
-use Rattle.q_logic.specs.Truth.{Holds}
-use Rattle.q_logic.specs.Undos.{UndoEntry, Undos}
+use Rattle.q_logic.specs.Prelude.{PrenexFormula, HintedRun, HintedSteps as AreValid, NumberedFormula, begun, plain, standard, ProofStep, ValidSteps, Run, Holds, UndoEntry, Undos}
 use Rattle.q_dimacs.specs.Dimacs.{Dimacs}
 use Rattle.q_dimacs.specs.Offences.{Offence}
 use Rattle.q_log.specs.Logs.{Steps}

@@ -1,11 +1,6 @@
 -- The checkers of a log of either profile: plain steps have one, steps with proof parts another.
 use Rattle.std.specs.Prelude.{◌≡◌, ◌⊎◌, ◌<◌, ℕ, Bool, true, List, [], ◌∷◌, length, map, Option, None, Some}
-use Rattle.q_logic.specs.Formulas.{PrenexFormula}
-use Rattle.q_logic.specs.Hinted.{HintedCause, HintedSteps, NumberedFormula, ProofPart, begun, plain, strip}
-use Rattle.q_logic.specs.Limits.{standard}
-use Rattle.q_logic.specs.Steps.{ProofStep, Cause}
-use Rattle.q_logic.specs.Runs.{ValidSteps, SameFormula}
-use Rattle.q_logic.specs.Undos.{UndoEntry, Undos}
+use Rattle.q_logic.specs.Prelude.{PrenexFormula, HintedCause, HintedSteps, NumberedFormula, ProofPart, begun, plain, strip, standard, ProofStep, Cause, ValidSteps, SameFormula, UndoEntry, Undos}
 use Rattle.q_hinted.specs.Logs.{Entry as BothEntry, plain_entry, hinted_entry, hinted_in}
 use Rattle.q_judge.specs.declared.error.CheckError.{CheckError}
 use Rattle.q_judge.specs.declared.error.CheckError.TheVariants.{Refused, NoMemory}

@@ -6,7 +6,7 @@ pub mod Inputs
 pub mod Logs
 pub mod Refusals
 pub mod Taken
-pub mod Seats
+pub mod LazyCheckers
 pub mod Judging
 pub mod Trials
 pub mod Audits

@@ -1,12 +1,7 @@
 -- What a log says of a formula: its steps are tried one after the other. A log of the first profile is a list of steps;
 -- in one of the second profile each step has a proof part. (This project's own.)
 use Rattle.std.specs.Prelude.{◌≡◌, ◌⊎◌, ℕ, List, [], ◌∷◌, Option, Some, None}
-use Rattle.q_logic.specs.Formulas.{PrenexFormula}
-use Rattle.q_logic.specs.Hinted.{Hinted, HintedCause, HintedValid, NumberedFormula, begun, hinted_after}
-use Rattle.q_logic.specs.Limits.{standard}
-use Rattle.q_logic.specs.Prefixes.{blocks, SameBlocks}
-use Rattle.q_logic.specs.Runs.{SameFormula}
-use Rattle.q_logic.specs.Steps.{ProofStep, Valid, Cause, after}
+use Rattle.q_logic.specs.Prelude.{PrenexFormula, Hinted, HintedCause, HintedValid, NumberedFormula, begun, hinted_after, standard, blocks, SameBlocks, SameFormula, ProofStep, Valid, Cause, after}
 use Rattle.q_log.specs.declared.error.LogError.{LogError}
 use Rattle.q_log.specs.declared.error.LogError.TheVariants.{BadLine, Limit, NoMemory}
 use Rattle.q_log.specs.Logs as logs

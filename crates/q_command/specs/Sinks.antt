@@ -1,6 +1,6 @@
 -- A line that is put into a sink, and the status that is given with it.
 use Rattle.std.specs.Prelude.{◌≡◌, ◌⊎◌, ◌≤◌, ℕ, List, ◌++◌, take, Option, Some, IfSome}
-use Rattle.q_logic.specs.Counts.{Rose}
+use Rattle.q_logic.specs.Prelude.{Rose}
 use Rattle.q_command.specs.declared.status.Status.{Status}
 use Rattle.q_command.specs.declared.status.Status.TheVariants as status
 

@@ -1,7 +1,6 @@
 -- The valid steps of a log, as they are counted and kept.
 use Rattle.std.specs.Prelude.{◌≡◌, ◌+◌, Bool, true, List, [], ◌∷◌, ◌++◌}
-use Rattle.q_logic.specs.Formulas.{PrenexFormula}
-use Rattle.q_logic.specs.Runs.{Run}
+use Rattle.q_logic.specs.Prelude.{PrenexFormula, Run}
 use Rattle.q_command.specs.Logs.{Entry, steps_of}
 use Rattle.q_command.specs.declared.taken.Taken.{Taken}
 use Rattle.q_command.specs.declared.taken.TakenStep.{TakenStep}

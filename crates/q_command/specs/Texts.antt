@@ -1,6 +1,6 @@
 -- Files that are read whole, and circuits as files hold them.
 use Rattle.std.specs.Prelude.{◌≡◌, ◌⊎◌, ◌<◌, ◌≤◌, ℕ, List, ◌++◌, length, take, drop, Option, Some, slice_index}
-use Rattle.q_logic.specs.Certificates.{CertificateView}
+use Rattle.q_logic.specs.Prelude.{CertificateView}
 use Rattle.q_io.specs.Files.{Disk, HoldsBytes, MayHoldFront}
 use Rattle.q_io.specs.declared.error.DeviceError.{DeviceError}
 use Rattle.q_io.specs.declared.error.DeviceError.TheVariants as device

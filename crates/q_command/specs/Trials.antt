@@ -1,11 +1,9 @@
 -- Steps of a log on trial: what one of them does, and what is said of one that is refused.
 use Rattle.std.specs.Prelude.{◌≡◌, ◌≤◌, ◌+◌, ℕ, true, List, [], ◌∷◌, ◌++◌, length, Option, None, Some}
-use Rattle.q_logic.specs.Formulas.{PrenexFormula}
-use Rattle.q_logic.specs.Hinted.{ProofPart}
-use Rattle.q_logic.specs.Steps.{ProofStep}
+use Rattle.q_logic.specs.Prelude.{PrenexFormula, ProofPart, ProofStep}
 use Rattle.q_hinted.specs.Logs.{Entry as BothEntry, hinted_in}
 use Rattle.q_command.specs.Judging.{AreBehind, SameTask, IsWrongPlain, IsWrongHinted, bare, plain_in}
-use Rattle.q_command.specs.Seats.{hints_taken}
+use Rattle.q_command.specs.LazyCheckers.{hints_taken}
 use Rattle.q_command.specs.Taken.{HasAdded, entries_of}
 use Rattle.q_command.specs.declared.trial.Trial.{Trial}
 use Rattle.q_command.specs.declared.outcome.Outcome.{Outcome}

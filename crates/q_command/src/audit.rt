@@ -120,7 +120,8 @@ impl Audit {
         ensures refused { IfErr result (λ o. IfSome (F.held files.old)
             (λ disk. Refuses o self.old (drop at (bytes_at disk name.now)))) }
         ensures unverified { IfErr result IsUnverified }
-        ensures fault { IsErrOf result Outcome.ReadFault → RoseFor F.read_faults name.now files.old files.new }
+        ensures fault { IsErrOf result Outcome.ReadFault
+            → RoseFor F.read_faults name.now files.old files.new }
         ensures only_reads { OnlyReads F.held F.read_faults F.write_faults files.old files.new }
     {
         let count = match files.read(name, at, buffer) {

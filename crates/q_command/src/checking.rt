@@ -1,8 +1,7 @@
 // `check`: IN and OUT are read whole, and each step of LOG is tried as it is read.
 ghost use Rattle.std.specs.Prelude.{◌≡◌, ◌<◌, length, IfOk, IfErr, IfSome, IsErrOf, [], ◌∷◌};
-ghost use Rattle.q_logic.specs.Parts.{IsProper};
+ghost use Rattle.q_logic.specs.Prelude.{IsProper, IsFormula};
 ghost use Rattle.q_io.specs.Files.{OnlyReads, RoseAmong, RoseFor, bytes_at};
-ghost use Rattle.q_logic.specs.Prefixes.{IsFormula};
 ghost use Rattle.q_command.specs.Audits.{LogIsTaken};
 ghost use Rattle.q_command.specs.Taken.{AreRun};
 ghost use Rattle.q_command.specs.Checks.{Checks, FilesPass, HaveOneTruth, IfVerified, IsEarly, IsFileOf, IsInputRefusal, IsUnverified, LeadsBack, LogSays, input_refused};
@@ -42,7 +41,8 @@ pub fn read_operand<F: Files>(
     ensures refused { IfErr result (λ o. IfSome (F.held files.old)
         (λ disk. IsInputRefusal role o (bytes_at disk name.now))) }
     ensures early { IfErr result IsEarly }
-    ensures fault { IsErrOf result Outcome.ReadFault → RoseFor F.read_faults name.now files.old files.new }
+    ensures fault { IsErrOf result Outcome.ReadFault
+        → RoseFor F.read_faults name.now files.old files.new }
     ensures only_reads { OnlyReads F.held F.read_faults F.write_faults files.old files.new }
 {
     match read_formula(alloc, files, name, buffer) {
@@ -70,7 +70,8 @@ fn check_log<F: Files>(
     ensures says { IfErr result (λ o. IfSome (F.held files.old)
         (λ disk. LogSays o input output.now (bytes_at disk name.now))) }
     ensures unverified { IfErr result IsUnverified }
-    ensures fault { IsErrOf result Outcome.ReadFault → RoseFor F.read_faults name.now files.old files.new }
+    ensures fault { IsErrOf result Outcome.ReadFault
+        → RoseFor F.read_faults name.now files.old files.new }
     ensures only_reads { OnlyReads F.held F.read_faults F.write_faults files.old files.new }
 {
     let Ok(mut audit) = Audit::start(alloc, input, keep) else {
@@ -106,16 +107,22 @@ fn check_files<F: Files>(
     keep: Keep,
 ) -> Result<Checked, Outcome>
     requires room { 0 < length buffer.old }
-    ensures passes { IfOk result (λ c. IfSome (F.held files.old) (λ disk.
-        FilesPass keep (bytes_at disk names.entry.input.now) (bytes_at disk names.entry.output.now) (bytes_at disk names.entry.log.now) c)) }
+    ensures passes { IfOk result (λ c.
+        IfSome (F.held files.old) (λ disk.
+        FilesPass keep (bytes_at disk names.entry.input.now) (bytes_at disk names.entry.output.now)
+        (bytes_at disk names.entry.log.now) c)) }
     ensures run { IfOk result (λ c. LeadsBack keep.undo c.from c.to c.undo) }
     ensures kept { IfOk result (λ c. AreRun keep.steps c.from c.to c.taken.items) }
     ensures proper { IfOk result (λ c. IsFormula c.from) }
-    ensures checks { IfErr result (λ o. IfSome (F.held files.old) (λ disk.
-        Checks o (bytes_at disk names.entry.input.now) (bytes_at disk names.entry.output.now) (bytes_at disk names.entry.log.now))) }
+    ensures checks { IfErr result (λ o.
+        IfSome (F.held files.old) (λ disk.
+        Checks o (bytes_at disk names.entry.input.now) (bytes_at disk names.entry.output.now)
+        (bytes_at disk names.entry.log.now))) }
     ensures unverified { IfErr result IsUnverified }
-    ensures fault { IsErrOf result Outcome.ReadFault →
-        RoseAmong F.read_faults (names.entry.input.now ∷ names.entry.output.now ∷ names.entry.log.now ∷ []) files.old files.new }
+    ensures fault { IsErrOf result Outcome.ReadFault
+        → RoseAmong F.read_faults
+        (names.entry.input.now ∷ names.entry.output.now ∷ names.entry.log.now ∷ []) files.old
+        files.new }
     ensures only_reads { OnlyReads F.held F.read_faults F.write_faults files.old files.new }
 {
     let from = match read_operand(alloc, files, Role::In, names.input, buffer) {
@@ -145,16 +152,22 @@ pub fn verify<F: Files>(
     names: Names,
     keep: Keep,
 ) -> Result<Checked, Outcome>
-    ensures passes { IfOk result (λ c. IfSome (F.held files.old) (λ disk.
-        FilesPass keep (bytes_at disk names.entry.input.now) (bytes_at disk names.entry.output.now) (bytes_at disk names.entry.log.now) c)) }
+    ensures passes { IfOk result (λ c.
+        IfSome (F.held files.old) (λ disk.
+        FilesPass keep (bytes_at disk names.entry.input.now) (bytes_at disk names.entry.output.now)
+        (bytes_at disk names.entry.log.now) c)) }
     ensures run { IfOk result (λ c. LeadsBack keep.undo c.from c.to c.undo) }
     ensures kept { IfOk result (λ c. AreRun keep.steps c.from c.to c.taken.items) }
     ensures proper { IfOk result (λ c. IsFormula c.from) }
-    ensures checks { IfErr result (λ o. IfSome (F.held files.old) (λ disk.
-        Checks o (bytes_at disk names.entry.input.now) (bytes_at disk names.entry.output.now) (bytes_at disk names.entry.log.now))) }
+    ensures checks { IfErr result (λ o.
+        IfSome (F.held files.old) (λ disk.
+        Checks o (bytes_at disk names.entry.input.now) (bytes_at disk names.entry.output.now)
+        (bytes_at disk names.entry.log.now))) }
     ensures unverified { IfErr result IsUnverified }
-    ensures fault { IsErrOf result Outcome.ReadFault →
-        RoseAmong F.read_faults (names.entry.input.now ∷ names.entry.output.now ∷ names.entry.log.now ∷ []) files.old files.new }
+    ensures fault { IsErrOf result Outcome.ReadFault
+        → RoseAmong F.read_faults
+        (names.entry.input.now ∷ names.entry.output.now ∷ names.entry.log.now ∷ []) files.old
+        files.new }
     ensures only_reads { OnlyReads F.held F.read_faults F.write_faults files.old files.new }
 {
     match vec![in alloc; 0u8; PIECE] {
@@ -166,11 +179,16 @@ pub fn verify<F: Files>(
 /// The outcome of `check` over the files of these names.
 pub fn check<F: Files>(alloc: Global, files: &mut F, names: Names) -> Outcome
     ensures checks { IfSome (F.held files.old) (λ disk.
-        Checks result (bytes_at disk names.entry.input.now) (bytes_at disk names.entry.output.now) (bytes_at disk names.entry.log.now)) }
-    ensures truth { IfVerified result (IfSome (F.held files.old)
-        (λ disk. HaveOneTruth (bytes_at disk names.entry.input.now) (bytes_at disk names.entry.output.now))) }
-    ensures fault { result ≡ Outcome.ReadFault →
-        RoseAmong F.read_faults (names.entry.input.now ∷ names.entry.output.now ∷ names.entry.log.now ∷ []) files.old files.new }
+        Checks result (bytes_at disk names.entry.input.now) (bytes_at disk names.entry.output.now)
+        (bytes_at disk names.entry.log.now)) }
+    ensures truth { IfVerified result
+        (IfSome (F.held files.old) (λ disk.
+        HaveOneTruth (bytes_at disk names.entry.input.now)
+        (bytes_at disk names.entry.output.now))) }
+    ensures fault { result ≡ Outcome.ReadFault
+        → RoseAmong F.read_faults
+        (names.entry.input.now ∷ names.entry.output.now ∷ names.entry.log.now ∷ []) files.old
+        files.new }
     ensures held { F.held files.new ≡ F.held files.old }
     ensures only_reads { OnlyReads F.held F.read_faults F.write_faults files.old files.new }
 {

@@ -46,7 +46,8 @@ pub fn read_circuits<F: Files>(
         (λ disk. AreCircuits (bytes_at disk name.now) given)) }
     ensures refused { IfErr result (λ e. IfSome (F.held files.old)
         (λ disk. IsNoText e (bytes_at disk name.now))) }
-    ensures fault { IsErrOf result CircuitsError.Fault → RoseFor F.read_faults name.now files.old files.new }
+    ensures fault { IsErrOf result CircuitsError.Fault
+        → RoseFor F.read_faults name.now files.old files.new }
     ensures only_reads { OnlyReads F.held F.read_faults F.write_faults files.old files.new }
 {
     let text = match read_whole(alloc, files, name) {
@@ -70,7 +71,8 @@ pub fn write_circuits<F: Files>(
         (λ disk. HoldsCircuits made.now gates name.now disk (F.held files.new))) }
     ensures left { IfErr result (λ e. IfSome (F.held files.old)
         (λ disk. LeavesCircuits e made.now name.now disk (F.held files.new))) }
-    ensures fault { IsErrOf result DeviceError.Failed → RoseFor F.write_faults name.now files.old files.new }
+    ensures fault { IsErrOf result DeviceError.Failed
+        → RoseFor F.write_faults name.now files.old files.new }
 {
     let mut text = Vec::new(alloc);
     let gates = match write(made, &mut text) {

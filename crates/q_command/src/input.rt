@@ -1,8 +1,6 @@
 // A formula file is read whole, in pieces.
 ghost use Rattle.std.specs.Prelude.{◌≡◌, ◌≤◌, ◌<◌, ◌+◌, List, ℕ, length, IfOk, IfErr, IfSome, IsErrOf};
-ghost use Rattle.q_logic.specs.Limits.{standard};
-ghost use Rattle.q_logic.specs.InLimits.{IsInLimits};
-ghost use Rattle.q_logic.specs.Parts.{IsProper};
+ghost use Rattle.q_logic.specs.Prelude.{standard, IsInLimits, IsProper};
 ghost use Rattle.q_io.specs.Files.{OnlyReads, RoseFor, bytes_at};
 ghost use Rattle.q_dimacs.specs.Dimacs.{Dimacs};
 ghost use Rattle.q_dimacs.specs.Scanning.{HasRead};
@@ -59,7 +57,8 @@ fn feed_piece<F: Files>(
     ensures refused { IfErr result (λ e. IfSome (F.held files.old)
         (λ disk. HasFront (bytes_at disk name.now) at reader.old →
         IsRefused e (bytes_at disk name.now))) }
-    ensures fault { IsErrOf result InputError.Fault → RoseFor F.read_faults name.now files.old files.new }
+    ensures fault { IsErrOf result InputError.Fault
+        → RoseFor F.read_faults name.now files.old files.new }
     ensures only_reads { OnlyReads F.held F.read_faults F.write_faults files.old files.new }
 {
     let count = match files.read(name, at, buffer) {
@@ -102,7 +101,8 @@ pub(crate) fn read_formula<F: Files>(
     ensures limits { IfOk result (λ f. IsInLimits standard f) }
     ensures refused { IfErr result (λ e. IfSome (F.held files.old)
         (λ disk. IsRefused e (bytes_at disk name.now))) }
-    ensures fault { IsErrOf result InputError.Fault → RoseFor F.read_faults name.now files.old files.new }
+    ensures fault { IsErrOf result InputError.Fault
+        → RoseFor F.read_faults name.now files.old files.new }
     ensures only_reads { OnlyReads F.held F.read_faults F.write_faults files.old files.new }
 {
     let mut reader = match Reader::new(alloc, Limits::standard()) {
@@ -127,7 +127,8 @@ pub fn read_input<F: Files>(alloc: Global, files: &mut F, name: &str) -> Result<
     ensures limits { IfOk result (λ f. IsInLimits standard f) }
     ensures refused { IfErr result (λ e. IfSome (F.held files.old)
         (λ disk. IsRefused e (bytes_at disk name.now))) }
-    ensures fault { IsErrOf result InputError.Fault → RoseFor F.read_faults name.now files.old files.new }
+    ensures fault { IsErrOf result InputError.Fault
+        → RoseFor F.read_faults name.now files.old files.new }
     ensures only_reads { OnlyReads F.held F.read_faults F.write_faults files.old files.new }
 {
     match vec![in alloc; 0u8; PIECE] {

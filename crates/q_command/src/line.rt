@@ -44,7 +44,8 @@ pub fn number_line(words: &str, number: u64) -> Line
 pub fn numbers_line(words: &str, number: u64, further: &str, last: u64) -> Line
     requires words { length words.now ≤ 32 }
     requires further { length further.now ≤ 16 }
-    ensures { result.bytes ≡ words.now ++ decimal number ++ further.now ++ decimal last ++ codes "\n" }
+    ensures { result.bytes ≡ words.now ++ decimal number ++ further.now ++ decimal last
+        ++ codes "\n" }
 {
     let mut line = words_line(words);
     push_number(&mut line, number);
@@ -57,15 +58,16 @@ pub fn numbers_line(words: &str, number: u64, further: &str, last: u64) -> Line
 /// A line of a file, and why it is refused.
 pub fn place(words: &str, line: u64, cause: u8) -> Line
     requires { length words.now ≤ 32 }
-    ensures { result.bytes ≡ words.now ++ decimal line ++ codes " cause " ++ decimal cause ++ codes "\n" }
+    ensures { result.bytes ≡ words.now ++ decimal line ++ codes " cause " ++ decimal cause
+        ++ codes "\n" }
 {
     numbers_line(words, line, " cause ", u64::from(cause))
 }
 
 /// Puts a line. The answer is the status that is due, or why the line could not be put.
 pub fn put<S: Sink>(out: &mut S, due: Status, line: &[u8]) -> Status
-    ensures { IsSaid line.now due result
-        (view_sink S.written S.faults S.wants out.old) (view_sink S.written S.faults S.wants out.new) }
+    ensures { IsSaid line.now due result (view_sink S.written S.faults S.wants out.old)
+        (view_sink S.written S.faults S.wants out.new) }
 {
     match out.put(line) {
         Ok(()) => due,

@@ -3,7 +3,7 @@ ghost use Rattle.std.specs.Prelude.{◌≡◌, ◌<◌, ◌-◌, ◌^◌, List, 
 ghost use Rattle.q_hinted.specs.Logs.{Entry as BothEntry};
 ghost use Rattle.q_command.specs.Checks.{IsUnverified};
 ghost use Rattle.q_command.specs.Judging.{AreBehind};
-ghost use Rattle.q_command.specs.Seats.{hints_taken};
+ghost use Rattle.q_command.specs.LazyCheckers.{hints_taken};
 ghost use Rattle.q_command.specs.Trials.{HasTried, Convicts};
 
 use crate::judges::Judges;

@@ -20,7 +20,8 @@ fn append_piece<F: Files>(
     ensures count { IfOk result (λ n. n ≤ length buffer.old) }
     ensures appended { IfOk result (λ n. IfSome (F.held files.old)
         (λ disk. HasAppended (bytes_at disk name.now) at n text.old.items text.new.items)) }
-    ensures fault { IsErrOf result DeviceError.Failed → RoseFor F.read_faults name.now files.old files.new }
+    ensures fault { IsErrOf result DeviceError.Failed
+        → RoseFor F.read_faults name.now files.old files.new }
     ensures only_reads { OnlyReads F.held F.read_faults F.write_faults files.old files.new }
 {
     let count = files.read(name, at, buffer)?;
@@ -62,7 +63,8 @@ fn read_through<F: Files>(
     requires small { length buffer.old ≤ 65536 }
     ensures bytes { IfOk result (λ text. IfSome (F.held files.old)
         (λ disk. IsTextOf (bytes_at disk name.now) text.items)) }
-    ensures fault { IsErrOf result DeviceError.Failed → RoseFor F.read_faults name.now files.old files.new }
+    ensures fault { IsErrOf result DeviceError.Failed
+        → RoseFor F.read_faults name.now files.old files.new }
     ensures only_reads { OnlyReads F.held F.read_faults F.write_faults files.old files.new }
 {
     let mut text = Vec::new(alloc);
@@ -85,7 +87,8 @@ pub fn read_whole<F: Files>(
 ) -> Result<Vec<u8>, DeviceError>
     ensures bytes { IfOk result (λ text. IfSome (F.held files.old)
         (λ disk. IsTextOf (bytes_at disk name.now) text.items)) }
-    ensures fault { IsErrOf result DeviceError.Failed → RoseFor F.read_faults name.now files.old files.new }
+    ensures fault { IsErrOf result DeviceError.Failed
+        → RoseFor F.read_faults name.now files.old files.new }
     ensures only_reads { OnlyReads F.held F.read_faults F.write_faults files.old files.new }
 {
     let mut room = vec![in alloc; 0u8; PIECE]?;

@@ -1,4 +1,4 @@
-pub mod Moving
-pub mod Shifting
-pub mod Telling
-pub mod Rows
+pub mod CountChanges
+pub mod LiteralChange
+pub mod NodeCounts
+pub mod CountRows

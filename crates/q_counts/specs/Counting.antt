@@ -1,8 +1,6 @@
 -- What is counted of a clause at a node of a search, and of all clauses.
 use Rattle.std.specs.Prelude.{◌≡◌, ◌<◌, ◌≤◌, ℕ, ◌+◌, Bool, true, false, cond, not, ◌&&◌, eqb, List, [], ◌∷◌, length, slice_index_or}
-use Rattle.q_logic.specs.Literals.{Literal, literal_eq}
-use Rattle.q_logic.specs.Formulas.{Clause, Matrix}
-use Rattle.q_logic.specs.Sets.{is_tautology}
+use Rattle.q_logic.specs.Prelude.{Literal, literal_eq, Clause, Matrix, is_tautology}
 use Rattle.q_logic.specs.declared.verdict.Verdict.{Verdict}
 use Rattle.q_logic.specs.declared.verdict.Verdict.TheVariants.{Lost, Won, Open}
 use Rattle.q_logic.specs.declared.verdict.Standing.{Standing}

@@ -7,13 +7,8 @@ use Rattle.q_logic.specs.declared.formulas.Bound.{Bound}
 use Rattle.q_logic.specs.declared.limits.Limits.{Limits}
 use Rattle.q_logic.specs.declared.formulas.Quant.{Quant}
 use Rattle.q_logic.specs.declared.formulas.Quant.TheVariants.{Exists, Forall}
-use Rattle.q_logic.specs.Literals.{Literal, IsBelow, number_of}
-use Rattle.q_logic.specs.Formulas.{Clause, Matrix, Prefix, PrenexFormula, IsIn}
-use Rattle.q_logic.specs.Prefixes.{Block, blocks, push_block, is_bound, Distinct, Closed}
-use Rattle.q_logic.specs.Parts.{ArePairs, IsProper}
-use Rattle.q_logic.specs.Limits.{AreModerate}
-use Rattle.q_logic.specs.Clauses.{clause_of}
-use Rattle.q_logic.proofs.ClauseSets.{clause_of-ordered_clause}
+use Rattle.q_logic.specs.Prelude.{Literal, IsBelow, number_of, Clause, Matrix, Prefix, PrenexFormula, IsIn, Block, blocks, push_block, is_bound, Distinct, Closed, ArePairs, IsProper, AreModerate, clause_of}
+use Rattle.q_logic.proofs.Common.{clause_of-ordered_clause}
 use Rattle.q_text.specs.declared.tokens.Token.{Token}
 use Rattle.q_text.specs.declared.tokens.TokenKind.{TokenKind}
 use Rattle.q_text.specs.declared.tokens.TokenKind.TheVariants.{Number, P, Cnf}
@@ -21,13 +16,13 @@ use Rattle.q_text.specs.declared.shape.Shape.TheVariants.{Start, Between}
 use Rattle.q_text.specs.Texts.{tokens_of}
 use Rattle.q_text.specs.Tokens.{to_come, literals_kinds}
 use Rattle.q_text.specs.Numbers.{number_text, numbers_text, line_end}
-use Rattle.q_text.proofs.Law.{at, from_start}
-use Rattle.q_text.proofs.Spelling.{opens-start, opens-between}
+use Rattle.q_text.proofs.TokenLaw.{at, from_start}
+use Rattle.q_text.proofs.SpelledWords.{opens-start, opens-between}
 use Rattle.q_text.proofs.Decimals.{IsShown, token_of, number-space, count-line, numbers-line}
 use Rattle.q_dimacs.specs.Building.{occurs, occurs_in, is_free, greatest, formula_of}
 use Rattle.q_dimacs.specs.Dimacs.{Text, letter, vars_kinds, sets_kinds, clauses_kinds, spelled, vars_bounds, sets_bounds, IsVar, text_formula, Dimacs}
 use Rattle.q_dimacs.specs.Writing.{block_text, blocks_text, clause_text, matrix_text, greatest_bound, header_text, formula_text, KeepsLimits}
-use Rattle.q_dimacs.proofs.Free.{bounds-none, apart}
+use Rattle.q_dimacs.proofs.FreeVariables.{bounds-none, apart}
 
 abbrev kinds : List Token → List TokenKind
 kinds ts = map (λ t. t.kind) ts

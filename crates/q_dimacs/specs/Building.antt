@@ -2,10 +2,7 @@
 use Rattle.std.specs.Prelude.{◌≡◌, ◌≢◌, ℕ, ◌+◌, ◌<◌, ◌≤◌, ◌^◌, ◌==◌, ◌&&◌, ◌||◌, not, Bool, false, List, [], ◌∷◌, ◌++◌, length, if◌then◌else◌, slice_index_or, suc, zero, max, Result, OnOk}
 use Rattle.std.specs.List.{AllByRecursion}
 use Rattle.q_logic.specs.declared.formulas.Quant.TheVariants.{Exists}
-use Rattle.q_logic.specs.Literals.{IsBelow, Literal}
-use Rattle.q_logic.specs.Formulas.{Matrix, Prefix, PrenexFormula}
-use Rattle.q_logic.specs.Prefixes.{is_bound}
-use Rattle.q_logic.specs.Parts.{ArePairs}
+use Rattle.q_logic.specs.Prelude.{IsBelow, Literal, Matrix, Prefix, PrenexFormula, is_bound, ArePairs}
 
 -- the sets so far, the clauses that have ended, and the literals of the next, as they were written
 pub record Built : Type 0 where

@@ -4,17 +4,13 @@ use Rattle.std.specs.List.{AllByRecursion}
 use Rattle.q_logic.specs.declared.limits.Limits.{Limits}
 use Rattle.q_logic.specs.declared.formulas.Quant.{Quant}
 use Rattle.q_logic.specs.declared.formulas.Quant.TheVariants.{Exists, Forall}
-use Rattle.q_logic.specs.Literals.{Literal, number_of}
-use Rattle.q_logic.specs.Formulas.{Prefix, PrenexFormula}
-use Rattle.q_logic.specs.Prefixes.{Block}
-use Rattle.q_logic.specs.Parts.{ArePairs}
+use Rattle.q_logic.specs.Prelude.{Literal, number_of, Prefix, PrenexFormula, Block, ArePairs, clause_of}
 use Rattle.q_text.specs.Tokens.{literals_kinds}
 use Rattle.q_text.specs.declared.tokens.TokenKind.{TokenKind}
 use Rattle.q_text.specs.declared.tokens.TokenKind.TheVariants.{Number, P, Cnf, E, A}
 use Rattle.q_text.specs.Texts.{tokens_of}
 use Rattle.q_dimacs.specs.Scanning.{Scan, HasRead}
 use Rattle.q_dimacs.specs.Building.{formula_of}
-use Rattle.q_logic.specs.Clauses.{clause_of}
 
 -- what is written: V, C, the sets, and the clauses with their literals in the order of the text
 pub record Text : Type 0 where

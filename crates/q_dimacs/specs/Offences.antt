@@ -1,7 +1,7 @@
 -- The formula of a whole text, or its first offence from the left.
 use Rattle.std.specs.Prelude.{◌≤◌, ◌++◌, ◌≡◌, ℕ, nat_le, List, [], ◌∷◌, length, take, if◌then◌else◌, Result, Ok, Err, Option, Some, None}
 use Rattle.q_logic.specs.declared.limits.Limits.{Limits}
-use Rattle.q_logic.specs.Formulas.{PrenexFormula}
+use Rattle.q_logic.specs.Prelude.{PrenexFormula}
 use Rattle.q_text.specs.declared.tokens.Token.{Token}
 use Rattle.q_text.specs.Texts.{tokens_of, tokens_ended, line_after}
 use Rattle.q_dimacs.specs.declared.error.ReadError.{ReadError}

@@ -3,7 +3,7 @@ use Rattle.std.specs.Prelude.{◌≡◌, ℕ, ◌+◌, ◌==◌, nat_lt, nat_le,
 use Rattle.q_logic.specs.declared.limits.Limits.{Limits}
 use Rattle.q_logic.specs.declared.formulas.Quant.{Quant}
 use Rattle.q_logic.specs.declared.formulas.Quant.TheVariants.{Exists, Forall}
-use Rattle.q_logic.specs.Literals.{Literal}
+use Rattle.q_logic.specs.Prelude.{Literal, clause_of, is_bound}
 use Rattle.q_text.specs.declared.tokens.TokenKind.{TokenKind}
 use Rattle.q_text.specs.declared.tokens.TokenKind.TheVariants.{Number, P, Cnf, E, A}
 use Rattle.q_dimacs.specs.declared.error.Cause.TheVariants.{BadHeader, BadToken, AboveHeader, BoundTwice, LateQuantifier, ClauseCount, Unended, Limit}
@@ -11,8 +11,6 @@ use Rattle.q_dimacs.specs.declared.builder.Place.{Place}
 use Rattle.q_dimacs.specs.declared.builder.Place.TheVariants.{Problem, Format, Vars, Count, Outside, InSet, InClause}
 use Rattle.q_dimacs.specs.Building.{Built}
 use Rattle.q_dimacs.specs.Causes.{cause_number}
-use Rattle.q_logic.specs.Clauses.{clause_of}
-use Rattle.q_logic.specs.Prefixes.{is_bound}
 
 -- what the tokens so far have given: what stands next, the numbers of the header, how many literals were written, and the parts
 -- of the formula

@@ -6,9 +6,7 @@ use Rattle.q_logic.specs.declared.limits.Limits.{Limits}
 use Rattle.q_logic.specs.declared.formulas.Bound.{Bound}
 use Rattle.q_logic.specs.declared.formulas.Quant.{Quant}
 use Rattle.q_logic.specs.declared.formulas.Quant.TheVariants.{Exists, Forall}
-use Rattle.q_logic.specs.Literals.{number_of}
-use Rattle.q_logic.specs.Formulas.{Clause, Matrix, Prefix, PrenexFormula}
-use Rattle.q_logic.specs.Prefixes.{Block, blocks, same_quant}
+use Rattle.q_logic.specs.Prelude.{number_of, Clause, Matrix, Prefix, PrenexFormula, Block, blocks, same_quant}
 use Rattle.q_text.specs.Numbers.{number_text, numbers_text, line_end}
 use Rattle.q_dimacs.specs.Dimacs.{total}
 

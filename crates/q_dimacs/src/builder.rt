@@ -1,6 +1,6 @@
 ghost use Rattle.std.specs.Prelude.{◌≡◌, ◌↔◌, ℕ, ◌≤◌, ◌<◌, ◌^◌, [], IsTrue, Ok, IfOk};
 ghost use Rattle.q_dimacs.specs.declared.builder.Place.{Place};
-ghost use Rattle.q_logic.specs.Parts.{IsProper};
+ghost use Rattle.q_logic.specs.Prelude.{IsProper};
 ghost use Rattle.q_dimacs.specs.Building.{formula_of};
 ghost use Rattle.q_dimacs.specs.Causes.{cause_numbers};
 ghost use Rattle.q_dimacs.specs.Reading.{problem, format, header_number, vars_of, count_of, begin_set, outside, in_clause, number, literal, takes_literals, end_clause, in_set, end_of, step_of, nothing_read};

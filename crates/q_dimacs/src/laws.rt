@@ -1,11 +1,8 @@
 //! Laws on the definitions: each is the contract of a function that does nothing.
 ghost use Rattle.std.specs.Prelude.{◌≡◌, ◌↔◌, ℕ, List, Ok};
 ghost use Rattle.q_logic.specs.declared.limits.Limits.{Limits};
-ghost use Rattle.q_logic.specs.Formulas.{PrenexFormula};
+ghost use Rattle.q_logic.specs.Prelude.{PrenexFormula, IsInLimits, AreModerate, standard, AreWithin, IsProper};
 ghost use Rattle.q_dimacs.specs.Dimacs.{Dimacs};
-ghost use Rattle.q_logic.specs.InLimits.{IsInLimits};
-ghost use Rattle.q_logic.specs.Limits.{AreModerate, standard, AreWithin};
-ghost use Rattle.q_logic.specs.Parts.{IsProper};
 ghost use Rattle.q_dimacs.specs.Writing.{formula_text, KeepsLimits};
 ghost use Rattle.q_dimacs.specs.Offences.{parse};
 

@@ -1,9 +1,8 @@
 ghost use Rattle.std.specs.Prelude.{◌≡◌, ◌≤◌, ◌+◌, ◌++◌, ◌∷◌, [], OnOk, OnErr, IsOk, length, vec_len, vec_capacity, Option, Some, None, map};
-ghost use Rattle.q_logic.specs.Literals.{number_of};
+ghost use Rattle.q_logic.specs.Prelude.{number_of, blocks};
 ghost use Rattle.q_text.specs.Numbers.{number_text, numbers_text, line_end};
 ghost use Rattle.q_dimacs.specs.Writing.{quant_text, opening, bound_text, closing, bounds_text, blocks_text, clause_text, matrix_text, greatest_bound, header_text, front_text, formula_text};
 ghost use Rattle.q_text.specs.Texts.{Extends};
-ghost use Rattle.q_logic.specs.Prefixes.{blocks};
 
 use q_logic::{Bound, Formula, Lit, NoMemory, Quant};
 use q_text::{put_count, put_number};

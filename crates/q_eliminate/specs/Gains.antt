@@ -1,11 +1,6 @@
 -- What resolvents bring.
 use Rattle.std.specs.Prelude.{◌≡◌, ◌≤◌, ◌<◌, ◌+◌, ℕ, cond, [], ◌∷◌, length, Option, None, Some}
-use Rattle.q_logic.specs.Literals.{Literal}
-use Rattle.q_logic.specs.Formulas.{Clause, Matrix}
-use Rattle.q_logic.specs.Pivots.{without}
-use Rattle.q_logic.specs.Measure.{size_of}
-use Rattle.q_logic.specs.Steps.{literals_in}
-use Rattle.q_logic.specs.Sets.{union, missing, negated_in, put_unless_tautology}
+use Rattle.q_logic.specs.Prelude.{Literal, Clause, Matrix, without, size_of, literals_in, union, missing, negated_in, put_unless_tautology}
 use Rattle.q_eliminate.specs.declared.counting.Gain.{Gain}
 
 abbrev pub no_gain : Gain

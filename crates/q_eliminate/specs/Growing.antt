@@ -1,16 +1,7 @@
 -- Clauses that come to a kernel, and clauses that go.
 use Rattle.std.specs.Prelude.{ℕ, ◌≡◌, ◌≤◌, ◌+◌, ◌*◌, ◌++◌, length, Some}
-use Rattle.q_logic.specs.Literals.{Literal, negation}
-use Rattle.q_logic.specs.Formulas.{Clause, Matrix, IsIn}
-use Rattle.q_logic.specs.Pivots.{ExistsPivot}
-use Rattle.q_logic.specs.Sets.{without_literal}
-use Rattle.q_logic.specs.Limits.{standard}
-use Rattle.q_logic.specs.Measure.{size_of}
-use Rattle.q_logic.specs.Numbered.{slot, live}
-use Rattle.q_logic.specs.Runs.{copies}
-use Rattle.q_logic.specs.Steps.{literals_in, KeepsLimits}
-use Rattle.q_kernel.specs.Kernels.{Seen, slots, HasSweepBytes}
-use Rattle.q_kernel.specs.Changes.{IsLed}
+use Rattle.q_logic.specs.Prelude.{Literal, negation, Clause, Matrix, IsIn, ExistsPivot, without_literal, standard, size_of, slot, live, copies, literals_in, KeepsLimits}
+use Rattle.q_kernel.specs.Prelude.{Seen, slots, HasSweepBytes, IsLed}
 
 -- there is room for some clauses, and the limits of the checker let them come
 pub record CanGrow (k : Seen) (V : Matrix) : Type 0 where

@@ -1,16 +1,7 @@
 -- The conditions of an elimination, told by a literal of the variable, and what the test tells the steps.
 use Rattle.std.specs.Prelude.{◌≡◌, ◌≤◌, ◌+◌, ◌*◌, ◌++◌, ◌⊎◌, ℕ, true, length, Option, None, Some}
-use Rattle.q_logic.specs.Literals.{Literal, negation}
-use Rattle.q_logic.specs.Formulas.{Clause, Matrix, Prefix, IsIn}
-use Rattle.q_logic.specs.Prefixes.{outer_or_same}
-use Rattle.q_logic.specs.Measure.{size_of}
-use Rattle.q_logic.specs.Sets.{IsTautology, OccursIn, with_literal, without_literal}
-use Rattle.q_logic.specs.Steps.{literals_in}
-use Rattle.q_logic.specs.Numbered.{live, formula_of}
-use Rattle.q_logic.specs.Limits.{standard}
-use Rattle.q_logic.specs.InLimits.{IsInLimits}
-use Rattle.q_logic.specs.Eliminating.{AllOuter, resolve_all}
-use Rattle.q_kernel.specs.Kernels.{Seen, slots}
+use Rattle.q_logic.specs.Prelude.{Literal, negation, Clause, Matrix, Prefix, IsIn, outer_or_same, size_of, IsTautology, OccursIn, with_literal, without_literal, literals_in, live, formula_of, standard, IsInLimits, AllOuter, resolve_all}
+use Rattle.q_kernel.specs.Prelude.{Seen, slots}
 use Rattle.q_eliminate.specs.declared.plan.Plan.{Plan}
 
 -- no tautology

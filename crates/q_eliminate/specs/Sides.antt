@@ -1,11 +1,7 @@
 -- The clauses of some ids.
 use Rattle.std.specs.Prelude.{◌≡◌, ℕ, List, [], Option, None, Some}
-use Rattle.q_logic.specs.Literals.{Literal, negation}
-use Rattle.q_logic.specs.Formulas.{Clause, IsIn}
-use Rattle.q_logic.specs.Numbered.{clauses_at, Slots, slot, live}
-use Rattle.q_logic.specs.Runs.{copies}
-use Rattle.q_logic.specs.Sets.{with_literal}
-use Rattle.q_kernel.specs.Kernels.{Seen, slots, HoldsLiteral}
+use Rattle.q_logic.specs.Prelude.{Literal, negation, Clause, IsIn, clauses_at, Slots, slot, live, copies, with_literal}
+use Rattle.q_kernel.specs.Prelude.{Seen, slots, HoldsLiteral}
 use Rattle.q_eliminate.specs.declared.sides.Sides.{Sides}
 
 -- the clause of an id, and no literal where it has none

@@ -1,12 +1,8 @@
 //! The conditions on the clauses of a variable.
 ghost use Rattle.std.specs.Prelude.{◌≡◌, ◌↔◌, ◌⊎◌, true, None, Some, IsTrue};
 ghost use Rattle.std.specs.List.{AllByRecursion};
-ghost use Rattle.q_logic.specs.Literals.{Literal, negation};
-ghost use Rattle.q_logic.specs.Prefixes.{is_bound};
-ghost use Rattle.q_logic.specs.Numbered.{live, clauses_at};
-ghost use Rattle.q_logic.specs.Eliminating.{AllOuter};
-ghost use Rattle.q_logic.specs.Steps.{Within};
-ghost use Rattle.q_kernel.specs.Kernels.{slots};
+ghost use Rattle.q_logic.specs.Prelude.{Literal, negation, is_bound, live, clauses_at, AllOuter, Within};
+ghost use Rattle.q_kernel.specs.Prelude.{slots};
 ghost use Rattle.q_eliminate.specs.Sides.{AreLive, AreIdsOf};
 ghost use Rattle.q_eliminate.specs.Plans.{IsOuter, IsPlain, IsSplit, IsOuterSign};
 
@@ -20,8 +16,11 @@ pub fn split_sign(kernel: &Kernel, lit: Lit, ids: &[ClauseId], others: &[ClauseI
     requires ids { AreIdsOf kernel.now lit ids.now }
     requires others { AreIdsOf kernel.now (negation lit) others.now }
     requires bound { is_bound kernel.now.prefix lit.var ≡ true }
-    ensures split { (l : Literal) → result ≡ Some l → IsSplit kernel.now.prefix (live (slots kernel.now)) lit }
-    ensures sign { (l : Literal) → result ≡ Some l → ((l ≡ lit) ⊎ (l ≡ negation lit)) × AllOuter kernel.now.prefix l (live (slots kernel.now)) }
+    ensures split { (l : Literal) → result ≡ Some l
+        → IsSplit kernel.now.prefix (live (slots kernel.now)) lit }
+    ensures sign { (l : Literal) → result ≡ Some l
+        → ((l ≡ lit) ⊎ (l ≡ negation lit))
+        × AllOuter kernel.now.prefix l (live (slots kernel.now)) }
     ensures none { result ≡ None → IsSplit kernel.now.prefix (live (slots kernel.now)) lit → ⊥ }
 {
     if ids.is_empty() && others.is_empty() {
@@ -69,7 +68,8 @@ fn outer_side(kernel: &Kernel, lit: Lit, ids: &[ClauseId], others: &[ClauseId]) 
 fn are_outer(kernel: &Kernel, ids: &[ClauseId], x: u32) -> bool
     requires live { AreLive (slots kernel.now) ids.now }
     requires bound { is_bound kernel.now.prefix x ≡ true }
-    ensures { IsTrue result ↔ AllByRecursion (IsOuter kernel.now.prefix x) (clauses_at (slots kernel.now) ids.now) }
+    ensures { IsTrue result ↔ AllByRecursion (IsOuter kernel.now.prefix x)
+        (clauses_at (slots kernel.now) ids.now) }
 {
     for id in ids {
         if !is_outer(kernel, clause_of(kernel, *id), x) {

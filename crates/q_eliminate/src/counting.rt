@@ -1,13 +1,9 @@
 //! How much the resolvents are.
 ghost use Rattle.std.specs.Prelude.{◌≡◌, ◌≤◌, ◌<◌, ◌+◌, ◌^◌, length, OnOk, IfOk};
 ghost use Rattle.std.specs.List.{AllByRecursion};
-ghost use Rattle.q_logic.specs.Literals.{IsBelow, negation};
-ghost use Rattle.q_logic.specs.Parts.{ArePairs};
-ghost use Rattle.q_logic.specs.Pivots.{without};
-ghost use Rattle.q_logic.specs.Eliminating.{resolve_all};
-ghost use Rattle.q_kernel.specs.Kernels.{slots};
+ghost use Rattle.q_logic.specs.Prelude.{IsBelow, negation, ArePairs, without, resolve_all, clauses_at};
+ghost use Rattle.q_kernel.specs.Prelude.{slots};
 ghost use Rattle.q_eliminate.specs.Sides.{AreLive};
-ghost use Rattle.q_logic.specs.Numbered.{clauses_at};
 ghost use Rattle.q_eliminate.specs.Gains.{no_gain, joined, joined_length, IsGain};
 ghost use Rattle.q_eliminate.specs.Plans.{IsPlain};
 
@@ -37,7 +33,9 @@ pub fn gain_of(
     requires plain { AllByRecursion IsPlain (clauses_at (slots kernel.now) ids.now) }
     requires plain_others { AllByRecursion IsPlain (clauses_at (slots kernel.now) others.now) }
     requires small { bound < 2 ^ 62 }
-    ensures { IfOk result (IsGain no_gain (resolve_all lit (clauses_at (slots kernel.now) ids.now) (clauses_at (slots kernel.now) others.now)) bound) }
+    ensures { IfOk result (IsGain no_gain
+        (resolve_all lit (clauses_at (slots kernel.now) ids.now)
+        (clauses_at (slots kernel.now) others.now)) bound) }
 {
     kernel.sound();
     let mut gain = Gain {
@@ -83,7 +81,8 @@ fn gain_with(
     requires short { length marks.now < 8589934592 }
     requires within { from.clauses + from.lits ≤ bound }
     requires small { bound < 2 ^ 62 }
-    ensures { IsGain from (joined marks.now out (clauses_at (slots kernel.now) ids.now)) bound result }
+    ensures { IsGain from (joined marks.now out (clauses_at (slots kernel.now) ids.now)) bound
+        result }
 {
     kernel.sound();
     let mut gain = from;

@@ -22,143 +22,25 @@
 //!
 //! It may make applicable: any rule on the resolvents, above all subsumption, and elimination of other variables, whose
 //! lists got shorter.
-ghost use Rattle.std.specs.Prelude.{◌≤◌, OnOk, OnErr, IfOk, vec_capacity};
+ghost use Rattle.std.specs.Prelude.{◌≤◌, vec_capacity};
 ghost use Rattle.q_logic.specs.declared.rule_bounds.Bounds.{Bounds as BoundsValue};
-ghost use Rattle.q_logic.specs.Literals.{negation};
-ghost use Rattle.q_logic.specs.StepForms.{positive};
-ghost use Rattle.q_logic.specs.Limits.{standard};
-ghost use Rattle.q_logic.specs.InLimits.{IsInLimits};
+ghost use Rattle.q_logic.specs.Prelude.{negation, positive, standard, IsInLimits};
 ghost use Rattle.q_logic.specs.Targets as theory;
-ghost use Rattle.q_kernel.specs.Kernels.{SameView, formula_in, HasSweepBytes};
-ghost use Rattle.q_kernel.specs.Taking.{IsReady, Applies};
+ghost use Rattle.q_kernel.specs.Prelude.{formula_in, HasSweepBytes, Applies};
 ghost use Rattle.q_rule.specs.Becoming.{HasResult};
-ghost use Rattle.q_rule.specs.Searching.{Tries, Finds};
-ghost use Rattle.q_eliminate.specs.Targets.{target_of};
 ghost use Rattle.q_eliminate.specs.Sides.{AreSidesOf};
 ghost use Rattle.q_eliminate.specs.Plans.{IsPlanOf, HasRoomFor};
 ghost use Rattle.q_eliminate.specs.Growing.{MayGoBy, MayGoByLater, HasLost};
 
 use crate::adding::add_resolvents;
-use crate::plan::{Plan, make_plan};
+use crate::plan::Plan;
 use crate::removing::delete_with;
 use crate::search::Search;
-use crate::sides::Sides;
-use crate::target::Target;
-use q_kernel::{Kernel, Need, Taken};
-use q_logic::{Bounds, Lit, NoMemory};
-use q_rule::{Queue, Rules};
-use std::alloc::Global;
+use q_kernel::Kernel;
+use q_logic::Lit;
 
-/// Takes a target exactly where it applies.
-pub fn try_one(
-    alloc: Global,
-    kernel: &mut Kernel,
-    target: &Target,
-    bounds: &Bounds,
-) -> Result<Taken, NoMemory>
-    requires ready { IsReady kernel.old }
-    ensures tries { IfOk result (Tries bounds.now kernel.old kernel.new (target_of target.now)) }
-    ensures err { OnErr result (SameView kernel.old kernel.new) }
-{
-    Search::new(alloc).take(kernel, target, bounds)
-}
-
-/// A target whose place is at least a number; none exactly where no target from that place on applies. The place of a
-/// target is its variable.
-pub fn find(
-    alloc: Global,
-    kernel: &Kernel,
-    bounds: &Bounds,
-    from: u32,
-) -> Result<Option<Target>, NoMemory>
-    requires ready { IsReady kernel.now }
-    ensures finds { IfOk result (Finds target_of bounds.now kernel.now from) }
-{
-    Search::new(alloc).find(kernel, bounds, from)
-}
-
-impl Rules for Search {
-    type Target = Target;
-
-    ghost target_of = { target_of };
-
-    ghost IsFitFor = { λ k s. Unit {0} };
-
-    fn new(alloc: Global) -> Search {
-        Search {
-            sides: Sides::new(alloc),
-            marks: Queue::new(alloc),
-            resolvent: Vec::new(alloc),
-        }
-    }
-
-    fn applies(
-        &mut self,
-        kernel: &Kernel,
-        target: &Target,
-        bounds: &Bounds,
-    ) -> Result<bool, NoMemory> {
-        let found = make_plan(kernel, self, target.variable(), bounds)?;
-        Ok(found.is_some())
-    }
-
-    fn take(
-        &mut self,
-        kernel: &mut Kernel,
-        target: &Target,
-        bounds: &Bounds,
-    ) -> Result<Taken, NoMemory> {
-        let x = target.variable();
-        let Some(plan) = make_plan(kernel, self, x, bounds)? else {
-            return Ok(Taken::No);
-        };
-        reserve(kernel, &mut self.resolvent, &plan)?;
-        take(kernel, self, x, &plan);
-        Ok(Taken::Yes)
-    }
-
-    fn find(
-        &mut self,
-        kernel: &Kernel,
-        bounds: &Bounds,
-        from: u32,
-    ) -> Result<Option<Target>, NoMemory> {
-        let end = kernel.greatest_var() + 1;
-        for x in from..end {
-            let target = Target::Eliminate { x };
-            if self.applies(kernel, &target, bounds)? {
-                return Ok(Some(target));
-            }
-        }
-        Ok(None)
-    }
-}
-
-// Room for the steps of a plan, and for the sweep after them.
-fn reserve(kernel: &mut Kernel, buffer: &mut Vec<Lit>, plan: &Plan) -> Result<(), NoMemory>
-    requires limits { IsInLimits standard (formula_in kernel.old) }
-    requires clauses { plan.now.gain.clauses ≤ 33554432 }
-    requires lits { plan.now.gain.lits ≤ 134217728 }
-    ensures view { SameView kernel.old kernel.new }
-    ensures room { OnOk result (HasRoomFor kernel.new plan.now) }
-    ensures buffer { OnOk result (plan.now.size ≤ vec_capacity buffer.new) }
-{
-    buffer.clear();
-    buffer.reserve(plan.size)?;
-    kernel.sound();
-    let gain = plan.gain;
-    let need = Need {
-        words: gain.lits,
-        ids: gain.clauses,
-        vars: 0,
-        greatest: 0,
-        log_bytes: 16 * (2 * (gain.clauses + gain.lits) + kernel.size() + kernel.prefix().len()),
-    };
-    kernel.reserve(need)
-}
-
-// Adds the resolvents, deletes the clauses of the variable, and sweeps.
-fn take(kernel: &mut Kernel, search: &mut Search, x: u32, plan: &Plan)
+/// Adds the resolvents, deletes the clauses of the variable, and sweeps.
+pub(crate) fn take(kernel: &mut Kernel, search: &mut Search, x: u32, plan: &Plan)
     requires applies { (B : BoundsValue) × Applies B kernel.old (theory.eliminate x) }
     requires limits { IsInLimits standard (formula_in kernel.old) }
     requires plan { IsPlanOf kernel.old (positive x) plan.now }

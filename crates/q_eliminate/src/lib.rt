@@ -5,14 +5,16 @@ mod adding;
 mod conditions;
 mod counting;
 mod eliminate;
+mod find;
 mod plan;
 mod removing;
 mod resolving;
+mod room;
+mod rules;
 mod search;
 mod sides;
 mod target;
 
-pub use eliminate::{find, try_one};
 pub use q_kernel::Taken;
 pub use q_logic::Bounds;
 pub use search::Search;

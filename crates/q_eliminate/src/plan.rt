@@ -1,15 +1,8 @@
 //! Whether a variable may be eliminated, and how.
 ghost use Rattle.std.specs.Prelude.{◌≡◌, ◌↔◌, ◌≤◌, ◌<◌, ◌^◌, ◌+◌, length, true, None, Some, IfOk, IsTrue};
-ghost use Rattle.q_logic.specs.Literals.{negation};
-ghost use Rattle.q_logic.specs.StepForms.{positive};
-ghost use Rattle.q_logic.specs.Prefixes.{is_bound};
-ghost use Rattle.q_logic.specs.Steps.{literals_in};
-ghost use Rattle.q_logic.specs.Numbered.{live};
-ghost use Rattle.q_logic.specs.Limits.{standard};
-ghost use Rattle.q_logic.specs.InLimits.{IsInLimits};
+ghost use Rattle.q_logic.specs.Prelude.{negation, positive, is_bound, literals_in, live, standard, IsInLimits};
 ghost use Rattle.q_logic.specs.Targets as theory;
-ghost use Rattle.q_kernel.specs.Kernels.{slots, formula_in};
-ghost use Rattle.q_kernel.specs.Taking.{Applies};
+ghost use Rattle.q_kernel.specs.Prelude.{slots, formula_in, Applies};
 ghost use Rattle.q_eliminate.specs.declared.plan.Plan.{Plan as PlanValue};
 ghost use Rattle.q_eliminate.specs.Sides.{AreIdsOf, AreSidesOf};
 ghost use Rattle.q_eliminate.specs.Plans.{MayGo, IsPlanOf};
@@ -39,8 +32,12 @@ pub fn make_plan(
     bounds: &Bounds,
 ) -> Result<Option<Plan>, NoMemory>
     requires limits { IsInLimits standard (formula_in kernel.now) }
-    ensures some { IfOk result (λ o. (p : PlanValue) → o ≡ Some p → Applies bounds.now kernel.now (theory.eliminate x) × IsPlanOf kernel.now (positive x) p × AreSidesOf kernel.now (positive x) search.new.sides) }
-    ensures none { IfOk result (λ o. o ≡ None → Applies bounds.now kernel.now (theory.eliminate x) → ⊥) }
+    ensures some { IfOk result (λ o.
+        (p : PlanValue) → o ≡ Some p
+        → Applies bounds.now kernel.now (theory.eliminate x) × IsPlanOf kernel.now (positive x) p
+        × AreSidesOf kernel.now (positive x) search.new.sides) }
+    ensures none { IfOk result (λ o.
+        o ≡ None → Applies bounds.now kernel.now (theory.eliminate x) → ⊥) }
 {
     if !is_existential(kernel, x) {
         return Ok(None);
@@ -72,8 +69,12 @@ fn plan_on(
     requires bound { is_bound kernel.now.prefix lit.var ≡ true }
     requires ids { AreIdsOf kernel.now lit ids.now }
     requires others { AreIdsOf kernel.now (negation lit) others.now }
-    ensures some { IfOk result (λ o. (p : PlanValue) → o ≡ Some p → MayGo bounds.now.grow kernel.now.prefix (live (slots kernel.now)) lit × IsPlanOf kernel.now lit p) }
-    ensures none { IfOk result (λ o. o ≡ None → MayGo bounds.now.grow kernel.now.prefix (live (slots kernel.now)) lit → ⊥) }
+    ensures some { IfOk result (λ o.
+        (p : PlanValue) → o ≡ Some p
+        → MayGo bounds.now.grow kernel.now.prefix (live (slots kernel.now)) lit
+        × IsPlanOf kernel.now lit p) }
+    ensures none { IfOk result (λ o.
+        o ≡ None → MayGo bounds.now.grow kernel.now.prefix (live (slots kernel.now)) lit → ⊥) }
 {
     let Some(outer) = split_sign(kernel, lit, ids, others) else {
         return Ok(None);
@@ -97,7 +98,8 @@ fn keeps_limits(kernel: &Kernel, count: usize, size: usize, gain: Gain) -> bool
     requires count { count < 2 ^ 40 }
     requires size { size < 2 ^ 40 }
     requires gain { gain.clauses + gain.lits < 2 ^ 62 }
-    ensures { IsTrue result ↔ ((length (live (slots kernel.now)) + gain.clauses ≤ 33554432 + count) × (literals_in (live (slots kernel.now)) + gain.lits + count ≤ 134217728 + size)) }
+    ensures { IsTrue result ↔ ((length (live (slots kernel.now)) + gain.clauses ≤ 33554432 + count)
+        × (literals_in (live (slots kernel.now)) + gain.lits + count ≤ 134217728 + size)) }
 {
     kernel.sound();
     let limits = Limits::standard();

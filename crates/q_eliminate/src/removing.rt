@@ -1,8 +1,7 @@
 //! The clauses of the variable go.
 ghost use Rattle.std.specs.Prelude.{◌≡◌, ℕ, None, Some};
-ghost use Rattle.q_logic.specs.Numbered.{live};
-ghost use Rattle.q_logic.specs.Sets.{OccursIn};
-ghost use Rattle.q_kernel.specs.Kernels.{slots, HoldsLiteral, HasSweepBytes};
+ghost use Rattle.q_logic.specs.Prelude.{live, OccursIn};
+ghost use Rattle.q_kernel.specs.Prelude.{slots, HoldsLiteral, HasSweepBytes};
 ghost use Rattle.q_eliminate.specs.Growing.{MayGoBy, HasShrunk};
 
 use q_kernel::{ClauseId, Kernel};

@@ -1,10 +1,6 @@
 //! Resolvents.
 ghost use Rattle.std.specs.Prelude.{◌≡◌, ◌≤◌, ◌<◌, ◌+◌, ◌-◌, ◌++◌, ◌∷◌, [], length, drop, vec_len, vec_capacity};
-ghost use Rattle.q_logic.specs.Literals.{IsBelow, negation};
-ghost use Rattle.q_logic.specs.Formulas.{IsIn};
-ghost use Rattle.q_logic.specs.Parts.{ArePairs};
-ghost use Rattle.q_logic.specs.Pivots.{without};
-ghost use Rattle.q_logic.specs.Eliminating.{resolvent};
+ghost use Rattle.q_logic.specs.Prelude.{IsBelow, negation, IsIn, ArePairs, without, resolvent};
 
 use q_logic::Lit;
 

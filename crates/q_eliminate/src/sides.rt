@@ -1,9 +1,8 @@
 //! The clauses of a variable.
 ghost use Rattle.std.specs.Prelude.{◌≡◌, ◌<◌, OnOk};
-ghost use Rattle.q_logic.specs.Measure.{size_of};
-ghost use Rattle.q_kernel.specs.Kernels.{slots};
+ghost use Rattle.q_logic.specs.Prelude.{size_of, clauses_at};
+ghost use Rattle.q_kernel.specs.Prelude.{slots};
 ghost use Rattle.q_eliminate.specs.Sides.{AreIdsOf, AreLive, AreSidesOf};
-ghost use Rattle.q_logic.specs.Numbered.{clauses_at};
 
 use q_kernel::{ClauseId, Kernel};
 use q_logic::{Lit, NoMemory};

@@ -1,21 +1,7 @@
 -- How a literal takes the place of an equivalent one, step by step.
 use Rattle.std.specs.Prelude.{◌≡◌, ◌≢◌, ◌≤◌, ◌+◌, ◌*◌, ℕ, true, false, cond, eqb, [], ◌∷◌, length, Some}
-use Rattle.q_logic.specs.Literals.{Literal, IsBelow, negation}
-use Rattle.q_logic.specs.Formulas.{Clause, Matrix, Prefix}
-use Rattle.q_logic.specs.Clauses.{insert}
-use Rattle.q_logic.specs.Parts.{ArePairs}
-use Rattle.q_logic.specs.Prefixes.{is_existential, outer_or_same}
-use Rattle.q_logic.specs.Propagation.{Implied}
-use Rattle.q_logic.specs.Measure.{size_of}
-use Rattle.q_logic.specs.Sweep.{has_variable}
-use Rattle.q_logic.specs.Sets.{put_unless_tautology}
-use Rattle.q_logic.specs.Steps.{literals_in, Within, KeepsLimits}
-use Rattle.q_logic.specs.Limits.{standard}
-use Rattle.q_logic.specs.Numbered.{slot, live, others}
-use Rattle.q_logic.specs.Runs.{copies}
-use Rattle.q_logic.specs.Merging.{merged}
-use Rattle.q_kernel.specs.Kernels.{Seen, slots}
-use Rattle.q_kernel.specs.Changes.{IsLed}
+use Rattle.q_logic.specs.Prelude.{Literal, IsBelow, negation, Clause, Matrix, Prefix, insert, ArePairs, is_existential, outer_or_same, Implied, size_of, has_variable, put_unless_tautology, literals_in, Within, KeepsLimits, standard, slot, live, others, copies, merged}
+use Rattle.q_kernel.specs.Prelude.{Seen, slots, IsLed}
 use Rattle.q_equiv.specs.declared.bridge.Bridge.{Bridge}
 
 -- the literals have different variables, that of gone is existential, and that of keep is not inner to it

@@ -1,9 +1,7 @@
 -- What a search for literals answers.
 use Rattle.std.specs.Prelude.{◌≡◌, Option, None, Some}
-use Rattle.q_logic.specs.Literals.{Literal}
-use Rattle.q_logic.specs.Numbered.{live}
-use Rattle.q_logic.specs.Merging.{Mergeable}
-use Rattle.q_kernel.specs.Kernels.{Seen, slots}
+use Rattle.q_logic.specs.Prelude.{Literal, live, Mergeable}
+use Rattle.q_kernel.specs.Prelude.{Seen, slots}
 
 -- a literal that may take the place of gone, and none exactly where none may
 pub record IsKept (k : Seen) (gone : Literal) (o : Option Literal) : Type 0 where

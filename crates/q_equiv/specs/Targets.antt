@@ -1,6 +1,5 @@
 -- The targets of this crate, as targets of the theory.
-use Rattle.q_logic.specs.Literals.{Literal}
-use Rattle.q_logic.specs.Formulas.{Prefix}
+use Rattle.q_logic.specs.Prelude.{Literal, Prefix}
 use Rattle.q_logic.specs.Targets as theory
 use Rattle.q_equiv.specs.Changing.{CanStandFor}
 use Rattle.q_equiv.specs.declared.target.Target.{Target}

@@ -1,8 +1,6 @@
 -- Walks along the clauses of two literals, literal by literal; and levels of literals that never rise on the way.
 use Rattle.std.specs.Prelude.{◌≡◌, ◌≤◌, ◌⊎◌, ℕ, List, ◌++◌, slice_index_or}
-use Rattle.q_logic.specs.Literals.{Literal, pack}
-use Rattle.q_logic.specs.Formulas.{Matrix, IsIn}
-use Rattle.q_logic.specs.Merging.{Binary, Joined}
+use Rattle.q_logic.specs.Prelude.{Literal, pack, Matrix, IsIn, Binary, Joined}
 
 -- the level of a literal: 0 where the list has none
 abbrev pub level_of : List ℕ → Literal → ℕ

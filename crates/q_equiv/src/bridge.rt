@@ -1,11 +1,8 @@
 //! The two clauses that join a literal to its equivalent one while it takes its place, and the clauses that are still to
 //! be renamed beside them.
 ghost use Rattle.std.specs.Prelude.{◌≡◌, ◌≢◌, ◌⊎◌, ◌∷◌, [], ℕ, true, None, Some};
-ghost use Rattle.q_logic.specs.Formulas.{Clause};
-ghost use Rattle.q_logic.specs.Clauses.{insert};
-ghost use Rattle.q_logic.specs.Sweep.{has_variable};
-ghost use Rattle.q_logic.specs.Numbered.{slot};
-ghost use Rattle.q_kernel.specs.Kernels.{slots, HoldsLiteral};
+ghost use Rattle.q_logic.specs.Prelude.{Clause, insert, has_variable, slot};
+ghost use Rattle.q_kernel.specs.Prelude.{slots, HoldsLiteral};
 
 use q_kernel::{ClauseId, Kernel};
 use q_logic::Lit;
@@ -31,8 +28,11 @@ pub fn two_lits(a: Lit, b: Lit) -> [Lit; 2]
 
 /// A clause with the variable of the literal, beside the bridge.
 pub fn next_clause(kernel: &Kernel, gone: Lit, bridge: Bridge) -> Option<ClauseId>
-    ensures some { (id : ℕ) → result ≡ Some id → (id ≢ bridge.over) × (id ≢ bridge.back) × (C : Clause) × (slot (slots kernel.now) id ≡ Some C) × (has_variable gone.var C ≡ true) }
-    ensures none { result ≡ None → (c : ℕ) (C : Clause) → slot (slots kernel.now) c ≡ Some C → has_variable gone.var C ≡ true → (c ≡ bridge.over) ⊎ (c ≡ bridge.back) }
+    ensures some { (id : ℕ) → result ≡ Some id
+        → (id ≢ bridge.over) × (id ≢ bridge.back) × (C : Clause)
+        × (slot (slots kernel.now) id ≡ Some C) × (has_variable gone.var C ≡ true) }
+    ensures none { result ≡ None → (c : ℕ) (C : Clause) → slot (slots kernel.now) c ≡ Some C
+        → has_variable gone.var C ≡ true → (c ≡ bridge.over) ⊎ (c ≡ bridge.back) }
 {
     let found = clause_beside(kernel, gone, bridge);
     if found.is_some() {
@@ -43,8 +43,10 @@ pub fn next_clause(kernel: &Kernel, gone: Lit, bridge: Bridge) -> Option<ClauseI
 
 // A clause with the literal, beside the bridge.
 fn clause_beside(kernel: &Kernel, lit: Lit, bridge: Bridge) -> Option<ClauseId>
-    ensures some { (id : ℕ) → result ≡ Some id → (id ≢ bridge.over) × (id ≢ bridge.back) × HoldsLiteral kernel.now id lit }
-    ensures none { result ≡ None → (c : ℕ) → HoldsLiteral kernel.now c lit → (c ≡ bridge.over) ⊎ (c ≡ bridge.back) }
+    ensures some { (id : ℕ) → result ≡ Some id
+        → (id ≢ bridge.over) × (id ≢ bridge.back) × HoldsLiteral kernel.now id lit }
+    ensures none { result ≡ None → (c : ℕ) → HoldsLiteral kernel.now c lit
+        → (c ≡ bridge.over) ⊎ (c ≡ bridge.back) }
 {
     for id in kernel.holders(lit) {
         if id != bridge.over && id != bridge.back {

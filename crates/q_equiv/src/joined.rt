@@ -6,15 +6,11 @@
 //! misses none of those.
 //!
 //! What is joined: `Joined` and `Binary` in `q_logic/specs/Merging.antt`; that a list which is closed under such clauses has
-//! all that is joined: `joined-in` in `q_logic/proofs/Searching.antt`. A walk costs the occurrence lists of the negations
+//! all that is joined: `joined-in` in `q_logic/proofs/ClosureSearch.antt`. A walk costs the occurrence lists of the negations
 //! of the literals that it meets.
 ghost use Rattle.std.specs.Prelude.{◌≡◌, ◌↔◌, ◌∷◌, [], Some, OnOk, IfOk, IsTrue};
-ghost use Rattle.q_logic.specs.Literals.{Literal, IsBelow, negation};
-ghost use Rattle.q_logic.specs.Formulas.{Clause, IsIn};
-ghost use Rattle.q_logic.specs.Parts.{ArePairs};
-ghost use Rattle.q_logic.specs.Numbered.{slot, live};
-ghost use Rattle.q_logic.specs.Merging.{Binary, Joined};
-ghost use Rattle.q_kernel.specs.Kernels.{slots, HoldsLiteral};
+ghost use Rattle.q_logic.specs.Prelude.{Literal, IsBelow, negation, Clause, IsIn, ArePairs, slot, live, Binary, Joined};
+ghost use Rattle.q_kernel.specs.Prelude.{slots, HoldsLiteral};
 ghost use Rattle.q_equiv.specs.Walks.{level_of, IsSpread, IsGathered};
 
 use q_kernel::{ClauseId, Kernel};
@@ -84,7 +80,8 @@ fn follow(
     lit: Lit,
 ) -> Result<(), NoMemory>
     requires { HoldsLiteral kernel.now id (negation lit) }
-    ensures { OnOk result ((D : Clause) → slot (slots kernel.now) id ≡ Some D → IsSpread levels.now (D ∷ []) lit queue.old queue.new) }
+    ensures { OnOk result ((D : Clause) → slot (slots kernel.now) id ≡ Some D
+        → IsSpread levels.now (D ∷ []) lit queue.old queue.new) }
 {
     if let Some(next) = partner(clause_of(kernel, id), lit) {
         if level(levels, next) == level(levels, lit) && !queue.has(next) {

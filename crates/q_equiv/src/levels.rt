@@ -1,10 +1,8 @@
 //! Levels of literals that never rise along a clause of two literals. So literals of different levels are not joined each
 //! to the other. The levels are the numbers of components; they are verified in one pass, and forgotten if that fails.
 ghost use Rattle.std.specs.Prelude.{◌≡◌, ◌≤◌, ◌∷◌, [], false, OnOk, IsTrue};
-ghost use Rattle.q_logic.specs.Literals.{Literal, IsBelow};
-ghost use Rattle.q_logic.specs.Parts.{ArePairs};
-ghost use Rattle.q_logic.specs.Numbered.{live};
-ghost use Rattle.q_kernel.specs.Kernels.{slots};
+ghost use Rattle.q_logic.specs.Prelude.{Literal, IsBelow, ArePairs, live};
+ghost use Rattle.q_kernel.specs.Prelude.{slots};
 ghost use Rattle.q_equiv.specs.Walks.{NeverRise};
 
 use crate::components::Components;

@@ -3,8 +3,7 @@
 
 mod bridge;
 mod components;
-mod equiv;
-mod finding;
+mod find;
 mod joined;
 mod levels;
 mod merge;
@@ -12,10 +11,10 @@ mod numbers;
 mod proposing;
 mod renaming;
 mod room;
+mod rules;
 mod search;
 mod target;
 
-pub use equiv::{find, try_one};
 pub use proposing::candidates;
 pub use q_kernel::Taken;
 pub use q_logic::Bounds;

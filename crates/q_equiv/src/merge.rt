@@ -8,23 +8,19 @@
 //! Bacchus (SAT 2006). The exact condition is this project's own.
 //!
 //! Condition and change: `Mergeable` and `merged` in `q_logic/specs/Merging.antt`. Law: `merge-run` in
-//! `q_logic/proofs/MergeRun.antt`; that the measure falls: `q_logic/proofs/Falling.antt`. The formula never grows, so the
+//! `q_logic/proofs/MergeRun.antt`; that the measure falls: `q_logic/proofs/MeasureFalls.antt`. The formula never grows, so the
 //! limits hold after it (`merge-applies` in `proofs/Bridging.antt`).
 //!
 //! Steps: the two clauses that join keep and gone come, both implied by the ways; each other clause with the variable is
 //! replaced by the renamed one, implied over the two; then the two go, the one that holds gone by that pivot, since it
 //! clashes with the other one on keep, and the other one by the pivot not gone, which then is pure.
 //!
-//! Found: `finding.rt`. Cost: the test is two walks from gone, which stop where they meet their aim; the change is the literals
+//! Found: `find.rt`. Cost: the test is two walks from gone, which stop where they meet their aim; the change is the literals
 //! of the clauses with the variable. What it touches: the renamed clauses, and so their literals of keep's variable. It may
 //! make applicable: unit clauses (where both literals stood in a clause of two), pure literals, subsumption.
 ghost use Rattle.std.specs.Prelude.{◌≡◌, ◌↔◌, ◌≤◌, ◌+◌, length, IfOk, IsTrue, vec_capacity};
-ghost use Rattle.q_logic.specs.Limits.{standard};
-ghost use Rattle.q_logic.specs.InLimits.{IsInLimits};
-ghost use Rattle.q_logic.specs.Numbered.{live};
-ghost use Rattle.q_logic.specs.Merging.{Mergeable};
-ghost use Rattle.q_logic.specs.Targets.{merge};
-ghost use Rattle.q_kernel.specs.Kernels.{slots, formula_in};
+ghost use Rattle.q_logic.specs.Prelude.{standard, IsInLimits, live, Mergeable, merge};
+ghost use Rattle.q_kernel.specs.Prelude.{slots, formula_in};
 ghost use Rattle.q_rule.specs.Becoming.{HasResult, IsChanged};
 ghost use Rattle.q_equiv.specs.Changing.{CanStandFor, total_with, HasRoomFor, IsBuilt, IsBridged, IsRenamed, HasRenamingRoom, MayReplace, IsReplaced};
 
@@ -37,13 +33,9 @@ use q_rule::{Queue, is_existential, is_tautology};
 
 /// Whether each literal is joined to the other, and keep may take the place of gone. Both walks begin at gone: clauses of
 /// all that keep has taken the place of hang at keep, so a walk from there would go many ways.
-pub fn is_mergeable(
-    kernel: &Kernel,
-    queue: &mut Queue,
-    keep: Lit,
-    gone: Lit,
-) -> Result<bool, NoMemory>
-    ensures { IfOk result (λ yes. IsTrue yes ↔ Mergeable kernel.now.prefix (live (slots kernel.now)) keep gone) }
+pub fn fits(kernel: &Kernel, queue: &mut Queue, keep: Lit, gone: Lit) -> Result<bool, NoMemory>
+    ensures { IfOk result (λ yes.
+        IsTrue yes ↔ Mergeable kernel.now.prefix (live (slots kernel.now)) keep gone) }
 {
     if !can_stand_for(kernel, keep, gone) || !is_joined(kernel, queue, gone, keep)? {
         return Ok(false);
@@ -69,7 +61,8 @@ pub fn take(kernel: &mut Kernel, buffer: &mut Vec<Lit>, keep: Lit, gone: Lit)
     requires fits { Mergeable kernel.old.prefix (live (slots kernel.old)) keep gone }
     requires limits { IsInLimits standard (formula_in kernel.old) }
     requires room { HasRoomFor kernel.old gone.var }
-    requires buffer { total_with length gone.var (live (slots kernel.old)) + 8 ≤ vec_capacity buffer.old }
+    requires buffer { total_with length gone.var (live (slots kernel.old)) + 8
+        ≤ vec_capacity buffer.old }
     ensures { HasResult kernel.old kernel.new (merge keep gone) }
 {
     put_in_place(kernel, buffer, keep, gone);
@@ -80,7 +73,8 @@ fn put_in_place(kernel: &mut Kernel, buffer: &mut Vec<Lit>, keep: Lit, gone: Lit
     requires fits { Mergeable kernel.old.prefix (live (slots kernel.old)) keep gone }
     requires limits { IsInLimits standard (formula_in kernel.old) }
     requires room { HasRoomFor kernel.old gone.var }
-    requires buffer { total_with length gone.var (live (slots kernel.old)) + 8 ≤ vec_capacity buffer.old }
+    requires buffer { total_with length gone.var (live (slots kernel.old)) + 8
+        ≤ vec_capacity buffer.old }
     ensures { IsChanged kernel.old kernel.new (merge keep gone) }
 {
     let bridge = build(kernel, keep, gone);
@@ -110,7 +104,8 @@ fn rename_all(kernel: &mut Kernel, buffer: &mut Vec<Lit>, keep: Lit, gone: Lit, 
     requires stands { CanStandFor kernel.old.prefix keep gone }
     requires bridge { IsBridged keep gone kernel.old bridge }
     requires room { HasRenamingRoom kernel.old gone.var }
-    requires buffer { total_with length gone.var (live (slots kernel.old)) ≤ vec_capacity buffer.old }
+    requires buffer { total_with length gone.var (live (slots kernel.old))
+        ≤ vec_capacity buffer.old }
     ensures { IsRenamed keep gone kernel.old kernel.new bridge }
 {
     while let Some(id) = next_clause(kernel, gone, bridge) {

@@ -1,7 +1,7 @@
 //! Clauses in which a literal takes the place of another one. They are built in a buffer whose room was reserved before the
 //! first step, so no step can fail.
 ghost use Rattle.std.specs.Prelude.{◌≡◌, ◌≤◌, map, length, vec_capacity};
-ghost use Rattle.q_logic.specs.Merging.{renamed, renamed_literal};
+ghost use Rattle.q_logic.specs.Prelude.{renamed, renamed_literal};
 
 use q_logic::Lit;
 

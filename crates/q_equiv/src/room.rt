@@ -1,13 +1,8 @@
 //! What it takes to put another literal in the place of one. Words and ids are those of the clauses with the variable, by a
 //! walk along their two lists; log bytes are bounded by the formula's size, since the kernel keeps that room.
 ghost use Rattle.std.specs.Prelude.{◌≡◌, ◌≤◌, ◌+◌, length, OnOk, IfOk, vec_capacity};
-ghost use Rattle.q_logic.specs.Literals.{negation};
-ghost use Rattle.q_logic.specs.Limits.{standard};
-ghost use Rattle.q_logic.specs.InLimits.{IsInLimits};
-ghost use Rattle.q_logic.specs.Numbered.{live};
-ghost use Rattle.q_logic.specs.Sets.{with_literal};
-ghost use Rattle.q_logic.specs.Steps.{literals_in};
-ghost use Rattle.q_kernel.specs.Kernels.{slots, formula_in, SameView};
+ghost use Rattle.q_logic.specs.Prelude.{negation, standard, IsInLimits, live, with_literal, literals_in};
+ghost use Rattle.q_kernel.specs.Prelude.{slots, formula_in, SameView};
 ghost use Rattle.q_equiv.specs.Changing.{total_with, HasRoomFor};
 
 use q_kernel::{Kernel, Need};
@@ -22,7 +17,8 @@ pub fn reserve(kernel: &mut Kernel, buffer: &mut Vec<Lit>, gone: Lit) -> Result<
     requires { IsInLimits standard (formula_in kernel.old) }
     ensures view { SameView kernel.old kernel.new }
     ensures room { OnOk result (HasRoomFor kernel.new gone.var) }
-    ensures buffer { OnOk result (total_with length gone.var (live (slots kernel.new)) + 8 ≤ vec_capacity buffer.new) }
+    ensures buffer { OnOk result
+        (total_with length gone.var (live (slots kernel.new)) + 8 ≤ vec_capacity buffer.new) }
 {
     kernel.sound();
     let words = weigh_both(kernel, gone)?;
@@ -45,7 +41,9 @@ pub fn reserve(kernel: &mut Kernel, buffer: &mut Vec<Lit>, gone: Lit) -> Result<
 
 // The literals of the clauses with a literal or its negation, and eight more.
 fn weigh_both(kernel: &Kernel, lit: Lit) -> Result<usize, NoMemory>
-    ensures { IfOk result (λ n. literals_in (with_literal lit (live (slots kernel.now))) + literals_in (with_literal (negation lit) (live (slots kernel.now))) + 8 ≤ n) }
+    ensures { IfOk result (λ n.
+        literals_in (with_literal lit (live (slots kernel.now)))
+        + literals_in (with_literal (negation lit) (live (slots kernel.now))) + 8 ≤ n) }
 {
     let here = weigh(kernel, lit)?;
     let there = weigh(kernel, lit.negated())?;

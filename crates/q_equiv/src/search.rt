@@ -1,5 +1,5 @@
 //! What searches lend each other.
-use crate::finding::Walks;
+use crate::find::Walks;
 use crate::proposing::Halves;
 use q_logic::Lit;
 use q_rule::Queue;

@@ -1,22 +1,13 @@
 -- What the steps of an expansion take: words, ids, variables and bytes of the log.
 use Rattle.std.proofs.Common.{◌≡◌, ◌≤◌, ◌+◌, ◌*◌, ℕ, Bool, true, false, cond, List, [], ◌∷◌, ◌++◌, length, refl, arith}
-use Rattle.q_logic.proofs.Falling.{size-append}
-use Rattle.q_logic.specs.Literals.{Literal}
-use Rattle.q_logic.specs.Formulas.{Clause, Matrix}
-use Rattle.q_logic.specs.Clauses.{insert}
-use Rattle.q_logic.specs.Measure.{size_of}
-use Rattle.q_logic.specs.Sets.{has}
-use Rattle.q_logic.specs.StepForms.{positive, first_of}
-use Rattle.q_logic.specs.Pivots.{without}
-use Rattle.q_logic.specs.Steps.{ProofStep, add, delete, drop_literal, fresh, remove_variable}
-use Rattle.q_logic.specs.Expanding.{shares, copied, copied_literal}
-use Rattle.q_logic.proofs.Sets.{insert-length, without-shorter}
-use Rattle.q_logic.proofs.Heights.{rise, one, weight, FreshUpTo}
+use Rattle.q_logic.proofs.MeasureFalls.{size-append}
+use Rattle.q_logic.specs.Prelude.{Literal, Clause, Matrix, insert, size_of, has, positive, first_of, without, ProofStep, add, delete, drop_literal, fresh, remove_variable, shares, copied, copied_literal}
+use Rattle.q_logic.proofs.Common.{insert-length, without-shorter, rise, one, weight, FreshUpTo}
 use Rattle.q_logic.proofs.ExpandLinks.{minus}
 use Rattle.q_expand.specs.Tracks.{price, words_for, ids_for, vars_for, total, AreReserved}
 use Rattle.q_expand.specs.Steps.{each_with, copy_step, of_sign, linked, link_steps, unlink_steps, over_copies, split_steps, all_split, course}
-use Rattle.q_expand.proofs.Barring.{long}
-use Rattle.q_expand.proofs.Running.{parted_one, parted}
+use Rattle.q_expand.proofs.ExpansionBounds.{long}
+use Rattle.q_expand.proofs.ExpansionRun.{parted_one, parted}
 
 total-append : (f : ProofStep → ℕ) (ss more : List ProofStep) → total f (ss ++ more) ≡ total f ss + total f more
 total-append f [] more = omega arith

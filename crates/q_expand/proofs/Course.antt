@@ -1,27 +1,19 @@
 -- The steps of an expansion, all in one: they lead to the clauses that the universal variable keeps apart.
 use Rattle.std.proofs.Common.{◌≡◌, ◌+◌, ℕ, Bool, true, false, List, [], ◌∷◌, ◌++◌, refl, sym, ◌∙◌, ap, subst, inl, inr, arith, Some, None, Option}
-use Rattle.q_logic.specs.Formulas.{Clause, Matrix, Prefix, IsIn}
-use Rattle.q_logic.specs.Runs.{copies}
-use Rattle.q_logic.specs.Steps.{ProofStep}
-use Rattle.q_logic.specs.InLimits.{greatest}
-use Rattle.q_logic.specs.Numbered.{Slots, slot, live, put_first, formula_of, clauses_at}
-use Rattle.q_logic.specs.Expanding.{shares, expansion_vars, insert_all, Expandable}
-use Rattle.q_logic.proofs.Slots.{live-slot}
-use Rattle.q_logic.proofs.Reaching.{SameClauses, Reaches, copies-append, reaches-alike, reaches-append, reaches-end}
-use Rattle.q_logic.proofs.Building.{IsIn-right}
+use Rattle.q_logic.specs.Prelude.{Clause, Matrix, Prefix, IsIn, copies, ProofStep, greatest, Slots, slot, live, put_first, formula_of, clauses_at, shares, expansion_vars, insert_all, Expandable}
+use Rattle.q_logic.proofs.Common.{live-slot, SameClauses, Reaches, copies-append, reaches-alike, reaches-append, reaches-end, above-greatest, Expansion}
+use Rattle.q_logic.proofs.ChangeRuns.{IsIn-right}
 use Rattle.q_logic.proofs.ExpandPrefix.{reaches-freshes}
 use Rattle.q_logic.proofs.ExpandLinks.{links, reaches-links, reaches-unlinks}
-use Rattle.q_logic.proofs.ExpandClosure.{above-greatest}
-use Rattle.q_logic.proofs.ExpandRun.{Expansion}
-use Rattle.q_kernel.specs.Kernels.{Seen, slots, IsSound}
-use Rattle.q_expand.specs.Regions.{Walked, IsWhole}
+use Rattle.q_kernel.specs.Prelude.{Seen, slots, IsSound}
+use Rattle.q_expand.specs.Dependents.{Walked, IsWhole}
 use Rattle.q_expand.specs.Steps.{each_with, copy_step, link_steps, unlink_steps, all_split, course}
-use Rattle.q_expand.proofs.Barring.{shares-connected}
-use Rattle.q_expand.proofs.Facts.{expansion-facts}
+use Rattle.q_expand.proofs.ExpansionBounds.{shares-connected}
+use Rattle.q_expand.proofs.ExpansionFacts.{expansion-facts}
 use Rattle.q_expand.proofs.Flattened.{apart_from, clauses-beside, beside-from, parted-same, parted-append, parted-stays}
 use Rattle.q_expand.proofs.Origins.{kind-of, guarded-kinds}
-use Rattle.q_expand.proofs.Running.{copies-are, links-are, unlinks-are, parted, reaches-parted}
-use Rattle.q_expand.proofs.Wholes.{vars-existential}
+use Rattle.q_expand.proofs.ExpansionRun.{copies-are, links-are, unlinks-are, parted, reaches-parted}
+use Rattle.q_expand.proofs.AllDependents.{vars-existential}
 
 abbrev pub vars_in : Seen → ℕ → List ℕ
 vars_in k u = expansion_vars k.prefix (live (slots k)) u
@@ -78,7 +70,7 @@ module _ (k : Seen) (u : ℕ) (r : Walked) (s : IsSound k) (w : IsWhole k u r) (
 
   all-parted : SameClauses (parted u V t X) (parted u V t W ++ R)
   all-parted C =
-      parted-same u V t X (W ++ R) (clauses-beside r.met (slots k) w.region.apart) C
+      parted-same u V t X (W ++ R) (clauses-beside r.met (slots k) w.dependents.apart) C
       ∙ ap (copies C) (parted-append u V t W R ∙ ap (λ (Y : Matrix). parted u V t W ++ Y) (parted-stays u V t R rest-apart))
 
   start : SameClauses (W ++ (R ++ L)) (L ++ X)
@@ -86,7 +78,7 @@ module _ (k : Seen) (u : ℕ) (r : Walked) (s : IsSound k) (w : IsWhole k u r) (
       let a = copies-append C W (R ++ L) in
       let b = copies-append C R L in
       let c = copies-append C L X in
-      let d : copies C X ≡ copies C (W ++ R) = clauses-beside r.met (slots k) w.region.apart C in
+      let d : copies C X ≡ copies C (W ++ R) = clauses-beside r.met (slots k) w.dependents.apart C in
       let e = copies-append C W R in
       omega arith
 

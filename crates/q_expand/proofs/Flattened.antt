@@ -1,22 +1,12 @@
 -- What is made clause by clause does not depend on the order of the clauses.
 use Rattle.std.proofs.Common.{◌≡◌, ◌⊎◌, ◌≤◌, ◌+◌, ℕ, Bool, true, false, cond, List, [], ◌∷◌, ◌++◌, refl, sym, ◌∙◌, ap, subst, inl, inr, arith, true≢false, append_assoc, Some, None, Option}
-use Rattle.q_logic.specs.Literals.{Literal}
-use Rattle.q_logic.specs.Formulas.{Clause, Matrix, IsIn}
-use Rattle.q_logic.specs.Pivots.{without}
-use Rattle.q_logic.specs.Runs.{copies}
-use Rattle.q_logic.specs.Sets.{has, each_without}
-use Rattle.q_logic.specs.StepForms.{positive}
-use Rattle.q_logic.specs.Steps.{clause_eq, one_less}
-use Rattle.q_logic.specs.Numbered.{Slots, slot, set_slot, live, put_first, clauses_at}
-use Rattle.q_logic.specs.Expanding.{shares}
-use Rattle.q_logic.proofs.Runs.{clause_eq-sound}
-use Rattle.q_logic.proofs.Heights.{weight}
-use Rattle.q_logic.proofs.Reaching.{SameClauses, clause_eq-itself, IsIn-copies, IsIn-alike, alike-refl, alike-sym, alike-trans, alike-append, copies-append, one_less-first, one_less-same}
+use Rattle.q_logic.specs.Prelude.{Literal, Clause, Matrix, IsIn, without, copies, has, each_without, positive, clause_eq, one_less, Slots, slot, set_slot, live, put_first, clauses_at, shares}
+use Rattle.q_logic.proofs.Common.{clause_eq-sound, weight, SameClauses, clause_eq-itself, IsIn-copies, IsIn-alike, alike-refl, alike-sym, alike-trans, alike-append, copies-append, one_less-first, one_less-same}
 use Rattle.q_kernel.specs.Lists.{Has, AreApart}
-use Rattle.q_kernel.proofs.Slotting.{IsIn-slot}
-use Rattle.q_expand.specs.Regions.{weigh, tally}
-use Rattle.q_expand.proofs.Tallying.{weight-gone, tally-without, slot-fewer}
-use Rattle.q_expand.proofs.Running.{parted_one, parted}
+use Rattle.q_kernel.proofs.SlotLists.{IsIn-slot}
+use Rattle.q_expand.specs.Dependents.{weigh, tally}
+use Rattle.q_expand.proofs.ClauseWeights.{weight-gone, tally-without, slot-fewer}
+use Rattle.q_expand.proofs.ExpansionRun.{parted_one, parted}
 
 abbrev pub flat : (Clause → Matrix) → Matrix → Matrix
 flat f [] = []

@@ -1,26 +1,12 @@
 -- The clauses that come of an expansion's split: none with u is connected to one with not u.
 use Rattle.std.proofs.Common.{◌≡◌, ◌⊎◌, ◌≤◌, ◌<◌, ℕ, Bool, true, false, cond, List, [], ◌∷◌, refl, sym, ◌∙◌, subst, inl, inr, arith, true≢false}
-use Rattle.q_logic.specs.Literals.{Literal, negation, literal_eq}
-use Rattle.q_logic.specs.Formulas.{Clause, Matrix, Prefix, IsIn}
-use Rattle.q_logic.specs.Prefixes.{is_existential}
-use Rattle.q_logic.specs.Clauses.{insert}
-use Rattle.q_logic.specs.Sets.{has}
-use Rattle.q_logic.specs.StepForms.{positive}
-use Rattle.q_logic.specs.Pivots.{without}
-use Rattle.q_logic.specs.Expanding.{in_list, shares, inner_existential, copy_of, copied, copied_literal}
-use Rattle.q_logic.proofs.ClauseLemmas.{IsIn-append, literal_eq-sound, literal_eq-itself}
-use Rattle.q_logic.proofs.Order.{universal-not_existential}
-use Rattle.q_logic.proofs.Sets.{insert-IsIn, IsIn-insert}
-use Rattle.q_logic.proofs.UniversalPivot.{without-IsIn}
-use Rattle.q_logic.proofs.Slots.{has-IsIn, IsIn-has, IsIn-has_not}
+use Rattle.q_logic.specs.Prelude.{Literal, negation, literal_eq, Clause, Matrix, Prefix, IsIn, is_existential, insert, has, positive, without, in_list, shares, inner_existential, copy_of, copied, copied_literal, Reached, each_without}
+use Rattle.q_logic.proofs.Common.{IsIn-append, literal_eq-sound, literal_eq-itself, universal-not_existential, insert-IsIn, IsIn-insert, without-IsIn, has-IsIn, IsIn-has, IsIn-has_not, Expansion, copied-IsIn, not_in_list, ClassU, ClassM, ClassA, Classes, inner_of}
 use Rattle.q_logic.proofs.ExpandPrefix.{CopyOf, copy_of-in, copy_of-out}
 use Rattle.q_logic.proofs.ExpandLinks.{minus, Guarded}
-use Rattle.q_logic.proofs.ExpandRun.{Expansion, copied-IsIn, not_in_list, ClassU, ClassM, ClassA, Classes, inner_of}
-use Rattle.q_logic.specs.Reach.{Reached}
-use Rattle.q_logic.specs.Sets.{each_without}
 use Rattle.q_expand.specs.Steps.{over_copies}
-use Rattle.q_expand.proofs.Barring.{shares-held}
-use Rattle.q_expand.proofs.Running.{parted_one, parted}
+use Rattle.q_expand.proofs.ExpansionBounds.{shares-held}
+use Rattle.q_expand.proofs.ExpansionRun.{parted_one, parted}
 
 module _ (Q : Prefix) (X : Matrix) (u : ℕ) (V : List ℕ) (t : ℕ) (x : Expansion Q X u V t) where
   -- no variable of the list is left in a clause over the copies

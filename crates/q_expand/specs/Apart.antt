@@ -1,14 +1,7 @@
 -- A universal literal that may leave all clauses.
 use Rattle.std.specs.Prelude.{◌≡◌, ◌≤◌, ◌+◌, ◌*◌, ℕ, true}
-use Rattle.q_logic.specs.Literals.{Literal, negation}
-use Rattle.q_logic.specs.Formulas.{Clause, IsIn}
-use Rattle.q_logic.specs.Prefixes.{is_universal}
-use Rattle.q_logic.specs.Reach.{Reached}
-use Rattle.q_logic.specs.Sets.{with_literal, each_without}
-use Rattle.q_logic.specs.Measure.{size_of}
-use Rattle.q_logic.specs.Numbered.{live}
-use Rattle.q_kernel.specs.Kernels.{Seen, slots}
-use Rattle.q_kernel.specs.Changes.{IsLed}
+use Rattle.q_logic.specs.Prelude.{Literal, negation, Clause, IsIn, is_universal, Reached, with_literal, each_without, size_of, live}
+use Rattle.q_kernel.specs.Prelude.{Seen, slots, IsLed}
 
 -- no clause with the literal reaches one with its negation
 pub record MayLose (k : Seen) (l : Literal) : Type 0 where

@@ -1,6 +1,6 @@
 pub mod Ids
 pub mod Targets
-pub mod Regions
+pub mod Dependents
 pub mod Tracks
 pub mod Steps
 pub mod Apart

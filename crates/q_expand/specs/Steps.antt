@@ -1,13 +1,6 @@
 -- The steps of an expansion.
 use Rattle.std.specs.Prelude.{◌≡◌, ◌↔◌, ℕ, ◌+◌, Bool, true, false, cond, List, [], ◌∷◌, ◌++◌, Some, ◌≢◌, ◌≤◌, ◌<◌, length, slice_get}
-use Rattle.q_logic.specs.Clauses.{insert}
-use Rattle.q_logic.specs.StepForms.{positive, first_of}
-use Rattle.q_logic.specs.Literals.{Literal, negation}
-use Rattle.q_logic.specs.Formulas.{Clause, Matrix, IsIn}
-use Rattle.q_logic.specs.Pivots.{without}
-use Rattle.q_logic.specs.Steps.{ProofStep, add, delete, fresh}
-use Rattle.q_logic.specs.Sets.{has}
-use Rattle.q_logic.specs.Expanding.{shares, in_list, copied}
+use Rattle.q_logic.specs.Prelude.{insert, positive, first_of, Literal, negation, Clause, Matrix, IsIn, without, ProofStep, add, delete, fresh, has, shares, in_list, copied}
 use Rattle.q_expand.specs.declared.splitting.Part.{Part}
 use Rattle.q_expand.specs.declared.splitting.Part.TheVariants.{Stays, Turns, Splits}
 

@@ -1,5 +1,5 @@
 -- The target of expansion among those of all rules.
-use Rattle.q_logic.specs.Targets.{Target, expand_universal}
+use Rattle.q_logic.specs.Prelude.{Target, expand_universal}
 use Rattle.q_expand.specs.declared.target.Target.{Target as Own}
 use Rattle.q_expand.specs.declared.target.Target.TheVariants.{Expand}
 

@@ -1,12 +1,7 @@
 -- A list of valid steps that are still to come, and the room that they take.
 use Rattle.std.specs.Prelude.{◌≡◌, ◌≤◌, ◌+◌, ◌*◌, ℕ, List, [], ◌∷◌, ◌++◌, length, Some}
-use Rattle.q_logic.specs.Formulas.{Clause, PrenexFormula}
-use Rattle.q_logic.specs.Steps.{ProofStep, add, delete, drop_literal, fresh, remove_variable}
-use Rattle.q_logic.specs.Limits.{standard}
-use Rattle.q_logic.specs.Numbered.{slot}
-use Rattle.q_logic.specs.Runs.{ValidSteps, AreAlike}
-use Rattle.q_kernel.specs.Kernels.{Seen, slots, formula_in}
-use Rattle.q_kernel.specs.Changes.{IsLed}
+use Rattle.q_logic.specs.Prelude.{Clause, PrenexFormula, ProofStep, add, delete, drop_literal, fresh, remove_variable, standard, slot, ValidSteps, AreAlike}
+use Rattle.q_kernel.specs.Prelude.{Seen, slots, formula_in, IsLed}
 
 -- bytes that suffice for the text of the steps
 abbrev pub price : ProofStep → ℕ

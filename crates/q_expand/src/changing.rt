@@ -1,11 +1,7 @@
 //! The steps of an expansion.
 ghost use Rattle.std.specs.Prelude.{◌≡◌, ◌≢◌, ◌↔◌, IsTrue, false, ◌≤◌, ◌<◌, ◌+◌, ℕ, [], ◌∷◌, length, Some, None, true, slice_get};
-ghost use Rattle.q_logic.specs.Formulas.{Clause, IsIn};
-ghost use Rattle.q_logic.specs.Literals.{IsBelow};
-ghost use Rattle.q_logic.specs.Parts.{ArePairs};
-ghost use Rattle.q_logic.specs.Steps.{fresh, add, delete};
-ghost use Rattle.q_logic.specs.Numbered.{slot, live};
-ghost use Rattle.q_kernel.specs.Kernels.{slots};
+ghost use Rattle.q_logic.specs.Prelude.{Clause, IsIn, IsBelow, ArePairs, fresh, add, delete, slot, live};
+ghost use Rattle.q_kernel.specs.Prelude.{slots};
 ghost use Rattle.q_expand.specs.Tracks.{CanTake, HasTaken, KeepsClauses};
 ghost use Rattle.q_expand.specs.Steps.{each_with, copy_step, of_sign, linked, link_steps, unlink_steps, AreLinkable, HasCopy, HaveCopies};
 
@@ -90,7 +86,8 @@ fn link_clause(u: Lit, a: Lit, b: Lit) -> [Lit; 3]
 pub(crate) fn unlink_all(kernel: &mut Kernel, u: Lit, order: &[u32], first: u32)
     requires copies { HaveCopies u order.now first }
     requires steps { CanTake kernel.old (each_with (unlink_steps u.var) order.now first) }
-    ensures taken { HasTaken kernel.old kernel.new (each_with (unlink_steps u.var) order.now first) }
+    ensures taken { HasTaken kernel.old kernel.new
+        (each_with (unlink_steps u.var) order.now first) }
 {
     for i in 0..order.len() {
         unlink(kernel, u, order[i], first + i as u32);

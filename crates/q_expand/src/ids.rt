@@ -75,7 +75,8 @@ impl Ids {
 
 fn make_room(marks: &mut Vec<bool>, id: ClauseId) -> Result<(), NoMemory>
     ensures room { OnOk result (id < vec_len marks.new) }
-    ensures same { (k : ℕ) → slice_index_or marks.new.items k false ≡ slice_index_or marks.old.items k false }
+    ensures same { (k : ℕ) → slice_index_or marks.new.items k false
+        ≡ slice_index_or marks.old.items k false }
 {
     let end = id as usize + 1;
     if marks.len() < end {

@@ -1,18 +1,19 @@
-//! The expansion of universal variables: where it applies, the search for such a variable, and its steps (`testing.rt` tells the idea).
+//! The expansion of universal variables: where it applies, the search for such a variable, and its steps (`expand.rt` tells the idea).
 #![tactic(auto)]
 
 mod changing;
+mod dependents;
 mod dropping;
 mod expand;
+mod find;
 mod ids;
 mod ordering;
-mod region;
+mod room;
+mod rules;
 mod search;
 mod splitting;
 mod target;
-mod testing;
 
-pub use expand::{find, try_one};
 pub use q_kernel::Taken;
 pub use q_logic::Bounds;
 pub use search::Search;

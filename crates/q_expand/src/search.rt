@@ -1,11 +1,11 @@
-use crate::region::Region;
+use crate::dependents::Dependents;
 use q_logic::Lit;
 
-/// What searches and changes lend each other: room for walks, for the variables of a region in the order of the
+/// What searches and changes lend each other: room for walks, for the variables of the dependents in the order of the
 /// prefix, and for a clause.
 #[derive(Drop)]
 pub struct Search {
-    pub(crate) region: Region,
+    pub(crate) dependents: Dependents,
     pub(crate) order: Vec<u32>,
     pub(crate) spare: Vec<Lit>,
 }

@@ -1,20 +1,12 @@
 //! Clauses over copies.
 ghost use Rattle.std.specs.Prelude.{◌⊎◌, ◌^◌, ◌≡◌, ◌≢◌, ◌↔◌, ◌≤◌, ◌<◌, ◌+◌, ℕ, [], ◌∷◌, length, Some, None, true, false, IsTrue, vec_capacity, vec_len};
-ghost use Rattle.q_logic.specs.Formulas.{Clause, IsIn};
-ghost use Rattle.q_logic.specs.Literals.{Literal, negation};
-ghost use Rattle.q_logic.specs.Clauses.{clause_of, insert};
-ghost use Rattle.q_logic.specs.Parts.{ArePairs};
-ghost use Rattle.q_logic.specs.Literals.{IsBelow};
-ghost use Rattle.q_logic.specs.StepForms.{positive, first_of};
-ghost use Rattle.q_logic.specs.Steps.{add, delete};
-ghost use Rattle.q_logic.specs.Expanding.{copy_of, copied_literal, shares, in_list};
-ghost use Rattle.q_logic.specs.Numbered.{slot, clauses_at};
+ghost use Rattle.q_logic.specs.Prelude.{Clause, IsIn, Literal, negation, clause_of, insert, ArePairs, IsBelow, positive, first_of, add, delete, copy_of, copied_literal, shares, in_list, slot, clauses_at};
 ghost use Rattle.q_kernel.specs.Lists.{Has, AreApart};
-ghost use Rattle.q_kernel.specs.Kernels.{slots};
+ghost use Rattle.q_kernel.specs.Prelude.{slots};
 ghost use Rattle.q_expand.specs.Tracks.{CanTake, HasTaken, KeepsClauses};
 ghost use Rattle.q_expand.specs.Steps.{over_copies, split_steps, steps_for, all_split};
 
-use crate::region::Region;
+use crate::dependents::Dependents;
 use q_kernel::{ClauseId, Kernel};
 use q_logic::{Lit, holds};
 
@@ -29,10 +21,10 @@ pub(crate) enum Part {
     Splits,
 }
 
-/// Splits the clauses of a region.
+/// Splits the clauses of the dependents.
 pub(crate) fn split_all(
     kernel: &mut Kernel,
-    region: &Region,
+    dependents: &Dependents,
     u: Lit,
     order: &[u32],
     first: u32,
@@ -40,13 +32,17 @@ pub(crate) fn split_all(
 )
     requires sign { u.negative ≡ false }
     requires small { (1 ≤ first) × (first + length order.now ≤ 16777216) }
-    requires apart { AreApart region.now.met }
-    requires room { (c : ℕ) → Has region.now.met c → (C : Clause) × (slot (slots kernel.old) c ≡ Some C) × (length C + 1 ≤ vec_capacity spare.old) }
-    requires steps { CanTake kernel.old (all_split u.var order.now first (clauses_at (slots kernel.old) region.now.met)) }
-    ensures { HasTaken kernel.old kernel.new (all_split u.var order.now first (clauses_at (slots kernel.old) region.now.met)) }
+    requires apart { AreApart dependents.now.met }
+    requires room { (c : ℕ) → Has dependents.now.met c
+        → (C : Clause) × (slot (slots kernel.old) c ≡ Some C)
+        × (length C + 1 ≤ vec_capacity spare.old) }
+    requires steps { CanTake kernel.old
+        (all_split u.var order.now first (clauses_at (slots kernel.old) dependents.now.met)) }
+    ensures { HasTaken kernel.old kernel.new
+        (all_split u.var order.now first (clauses_at (slots kernel.old) dependents.now.met)) }
 {
-    for i in 0..region.clauses() {
-        split(kernel, region.clause(i), u, order, first, spare);
+    for i in 0..dependents.clauses() {
+        split(kernel, dependents.clause(i), u, order, first, spare);
     }
 }
 
@@ -54,10 +50,14 @@ pub(crate) fn split_all(
 fn split(kernel: &mut Kernel, c: ClauseId, u: Lit, order: &[u32], first: u32, spare: &mut Vec<Lit>)
     requires sign { u.negative ≡ false }
     requires small { (1 ≤ first) × (first + length order.now ≤ 16777216) }
-    requires room { (C : Clause) × (slot (slots kernel.old) c ≡ Some C) × (length C + 1 ≤ vec_capacity spare.old) }
-    requires steps { (C : Clause) → slot (slots kernel.old) c ≡ Some C → CanTake kernel.old (split_steps u.var order.now first C) }
-    ensures taken { (C : Clause) → slot (slots kernel.old) c ≡ Some C → HasTaken kernel.old kernel.new (split_steps u.var order.now first C) }
-    ensures others { (d : ℕ) (D : Clause) → d ≢ c → slot (slots kernel.old) d ≡ Some D → slot (slots kernel.new) d ≡ Some D }
+    requires room { (C : Clause) × (slot (slots kernel.old) c ≡ Some C)
+        × (length C + 1 ≤ vec_capacity spare.old) }
+    requires steps { (C : Clause) → slot (slots kernel.old) c ≡ Some C
+        → CanTake kernel.old (split_steps u.var order.now first C) }
+    ensures taken { (C : Clause) → slot (slots kernel.old) c ≡ Some C
+        → HasTaken kernel.old kernel.new (split_steps u.var order.now first C) }
+    ensures others { (d : ℕ) (D : Clause) → d ≢ c → slot (slots kernel.old) d ≡ Some D
+        → slot (slots kernel.new) d ≡ Some D }
     ensures room { vec_capacity spare.new ≡ vec_capacity spare.old }
 {
     match part_of(kernel.lits(c), u, order) {
@@ -77,7 +77,8 @@ fn split(kernel: &mut Kernel, c: ClauseId, u: Lit, order: &[u32], first: u32, sp
 // What is to become of a clause.
 fn part_of(clause: &[Lit], u: Lit, order: &[u32]) -> Part
     requires { u.negative ≡ false }
-    ensures { (t : ℕ) → split_steps u.var order.now t clause.now ≡ steps_for result u.var order.now t clause.now }
+    ensures { (t : ℕ) → split_steps u.var order.now t clause.now
+        ≡ steps_for result u.var order.now t clause.now }
 {
     if holds(clause, u) {
         return Part::Stays;
@@ -125,9 +126,15 @@ fn add_over(
 )
     requires sign { u.negative ≡ false }
     requires small { (1 ≤ first) × (first + length order.now ≤ 16777216) }
-    requires room { (C : Clause) × (slot (slots kernel.old) c ≡ Some C) × (length C + 1 ≤ vec_capacity spare.old) }
-    requires steps { (C : Clause) → slot (slots kernel.old) c ≡ Some C → CanTake kernel.old (add (first_of (over_copies u.var order.now first C)) (over_copies u.var order.now first C) ∷ []) }
-    ensures taken { (C : Clause) → slot (slots kernel.old) c ≡ Some C → HasTaken kernel.old kernel.new (add (first_of (over_copies u.var order.now first C)) (over_copies u.var order.now first C) ∷ []) }
+    requires room { (C : Clause) × (slot (slots kernel.old) c ≡ Some C)
+        × (length C + 1 ≤ vec_capacity spare.old) }
+    requires steps { (C : Clause) → slot (slots kernel.old) c ≡ Some C
+        → CanTake kernel.old (add (first_of (over_copies u.var order.now first C))
+        (over_copies u.var order.now first C) ∷ []) }
+    ensures taken { (C : Clause) → slot (slots kernel.old) c ≡ Some C
+        → HasTaken kernel.old kernel.new
+        (add (first_of (over_copies u.var order.now first C)) (over_copies u.var order.now first C)
+        ∷ []) }
     ensures keeps { KeepsClauses kernel.old kernel.new }
     ensures room { vec_capacity spare.new ≡ vec_capacity spare.old }
 {
@@ -139,9 +146,14 @@ fn add_over(
 // Adds a clause joined with u.
 fn add_with(kernel: &mut Kernel, c: ClauseId, u: Lit, spare: &mut Vec<Lit>)
     requires sign { u.negative ≡ false }
-    requires room { (C : Clause) × (slot (slots kernel.old) c ≡ Some C) × (length C + 1 ≤ vec_capacity spare.old) }
-    requires steps { (C : Clause) → slot (slots kernel.old) c ≡ Some C → CanTake kernel.old (add (first_of (insert (positive u.var) C)) (insert (positive u.var) C) ∷ []) }
-    ensures taken { (C : Clause) → slot (slots kernel.old) c ≡ Some C → HasTaken kernel.old kernel.new (add (first_of (insert (positive u.var) C)) (insert (positive u.var) C) ∷ []) }
+    requires room { (C : Clause) × (slot (slots kernel.old) c ≡ Some C)
+        × (length C + 1 ≤ vec_capacity spare.old) }
+    requires steps { (C : Clause) → slot (slots kernel.old) c ≡ Some C
+        → CanTake kernel.old (add (first_of (insert (positive u.var) C)) (insert (positive u.var) C)
+        ∷ []) }
+    ensures taken { (C : Clause) → slot (slots kernel.old) c ≡ Some C
+        → HasTaken kernel.old kernel.new
+        (add (first_of (insert (positive u.var) C)) (insert (positive u.var) C) ∷ []) }
     ensures keeps { KeepsClauses kernel.old kernel.new }
     ensures room { vec_capacity spare.new ≡ vec_capacity spare.old }
 {
@@ -153,9 +165,12 @@ fn add_with(kernel: &mut Kernel, c: ClauseId, u: Lit, spare: &mut Vec<Lit>)
 // Deletes a clause that is implied.
 fn remove(kernel: &mut Kernel, c: ClauseId)
     requires live { (C : Clause) × (slot (slots kernel.old) c ≡ Some C) }
-    requires steps { (C : Clause) → slot (slots kernel.old) c ≡ Some C → CanTake kernel.old (delete (first_of C) C ∷ []) }
-    ensures taken { (C : Clause) → slot (slots kernel.old) c ≡ Some C → HasTaken kernel.old kernel.new (delete (first_of C) C ∷ []) }
-    ensures others { (d : ℕ) (D : Clause) → d ≢ c → slot (slots kernel.old) d ≡ Some D → slot (slots kernel.new) d ≡ Some D }
+    requires steps { (C : Clause) → slot (slots kernel.old) c ≡ Some C
+        → CanTake kernel.old (delete (first_of C) C ∷ []) }
+    ensures taken { (C : Clause) → slot (slots kernel.old) c ≡ Some C
+        → HasTaken kernel.old kernel.new (delete (first_of C) C ∷ []) }
+    ensures others { (d : ℕ) (D : Clause) → d ≢ c → slot (slots kernel.old) d ≡ Some D
+        → slot (slots kernel.new) d ≡ Some D }
 {
     kernel.sound();
     kernel.delete_implied(c);

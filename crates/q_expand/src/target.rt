@@ -8,7 +8,7 @@ pub enum Target {
 }
 
 impl Target {
-    ghost use Rattle.q_logic.specs.Targets.{expand_universal};
+    ghost use Rattle.q_logic.specs.Prelude.{expand_universal};
     ghost use Rattle.q_expand.specs.Targets.{target_of};
 
     /// The variable that is expanded.

@@ -5,11 +5,11 @@ use Rattle.q_text.specs.declared.tokens.Token.{Token}
 use Rattle.q_text.specs.Texts.{tokens_of, tokens_ended, line_after}
 use Rattle.q_log.specs.declared.error.LogError.TheVariants.{BadLine, Limit}
 use Rattle.q_log.specs.Grammar.{OpenStep}
-use Rattle.q_log.specs.Logs.{outcome, at_end, read}
+use Rattle.q_log.specs.Logs.{parsed, at_end, read}
 
 -- behind a step that has begun, or none, the tokens end a log, on whatever line
 abbrev pub EndsLog : Option OpenStep → List Token → Type 0
-EndsLog begun ts = (n : ℕ) → (outcome (at_end n) begun ts).refused ≡ None
+EndsLog begun ts = (n : ℕ) → (parsed (at_end n) begun ts).refused ≡ None
 
 -- some further tokens make them end a log
 abbrev pub MayEndLog : Option OpenStep → List Token → Type 0

@@ -1,4 +1,4 @@
 pub mod Cases
-pub mod Walks
-pub mod Spreads
-pub mod Falling
+pub mod GateWalk
+pub mod SearchSteps
+pub mod LowerGates

@@ -1,6 +1,6 @@
 -- Gates as the code keeps them.
 use Rattle.std.specs.Prelude.{false, List, map}
-use Rattle.q_logic.specs.Certificates.{GateNode, falsum, input_at, gate_at, Operand, Gate}
+use Rattle.q_logic.specs.Prelude.{GateNode, falsum, input_at, gate_at, Operand, Gate}
 use Rattle.q_gates.specs.declared.gate.Source.{Source}
 use Rattle.q_gates.specs.declared.gate.Source.TheVariants.{Constant, Input, Gate as GateSource}
 use Rattle.q_gates.specs.declared.gate.Operand.{Operand as OperandCode}

@@ -1,5 +1,5 @@
 -- Gates that use other gates, in any order.
-use Rattle.q_logic.specs.Certificates.{GateNode, falsum, input_at, gate_at, Gate}
+use Rattle.q_logic.specs.Prelude.{GateNode, falsum, input_at, gate_at, Gate}
 use Rattle.q_gates.specs.Gates.{no_gate}
 use Rattle.std.specs.Prelude.{◌≡◌, ◌<◌, ℕ, List, length, slice_index_or, Option, Some, None, ◌⊎◌}
 

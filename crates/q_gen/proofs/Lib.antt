@@ -1,5 +1,5 @@
-pub mod Blocks
-pub mod Drawing
-pub mod Words
-pub mod Rows
-pub mod Files
+pub mod GeneratedPrefix
+pub mod DrawnClauses
+pub mod RandomWords
+pub mod GeneratedClauses
+pub mod GeneratedFile

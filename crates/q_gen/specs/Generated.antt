@@ -6,9 +6,7 @@ use Rattle.rand_core.specs.Steps.{first_words}
 use Rattle.rand_pcg.specs.Pcg.{pcg32, pcg32_of_seed}
 use Rattle.q_logic.specs.declared.formulas.Quant.{Quant}
 use Rattle.q_logic.specs.declared.formulas.Quant.TheVariants.{Exists, Forall}
-use Rattle.q_logic.specs.Literals.{Literal}
-use Rattle.q_logic.specs.Formulas.{Matrix, Prefix, PrenexFormula}
-use Rattle.q_logic.specs.Clauses.{clause_of}
+use Rattle.q_logic.specs.Prelude.{Literal, Matrix, Prefix, PrenexFormula, clause_of}
 
 -- so many words of 32 bits that the generator of this seed gives, in order
 abbrev pub words_of : ℕ → ℕ → List ℕ

@@ -1,7 +1,7 @@
 ghost use Rattle.std.specs.Prelude.{◌≡◌, ◌≤◌, ◌<◌, ◌+◌, ◌^◌, ℕ, suc, ◌++◌, [], ◌∷◌, OnOk};
 ghost use Rattle.rand_core.specs.Steps.{first_words};
 ghost use Rattle.rand_pcg.specs.Pcg.{pcg32};
-ghost use Rattle.q_logic.specs.Clauses.{clause_of};
+ghost use Rattle.q_logic.specs.Prelude.{clause_of};
 ghost use Rattle.q_gen.specs.Generated.{literal_of, clauses_by};
 
 use q_logic::{Clauses, Lit, NoMemory, sort_clause};

@@ -1,6 +1,6 @@
 //! A law on the definition of generated formulas.
 ghost use Rattle.std.specs.Prelude.{◌≤◌, ℕ};
-ghost use Rattle.q_logic.specs.Limits.{standard};
+ghost use Rattle.q_logic.specs.Prelude.{standard};
 ghost use Rattle.q_dimacs.specs.Dimacs.{Dimacs};
 ghost use Rattle.q_dimacs.specs.Writing.{formula_text};
 ghost use Rattle.q_gen.specs.Generated.{Generated};

@@ -20,7 +20,8 @@ pub fn write_generated<F: Files>(
         (λ disk. HoldsGenerated name.now seed size disk (F.held files.new))) }
     ensures part { OnErr result (IfSome (F.held files.old)
         (λ disk. HoldsGeneratedPart name.now seed size disk (F.held files.new))) }
-    ensures cause { IsErrOf result DeviceError.Failed → RoseFor F.write_faults name.now files.old files.new }
+    ensures cause { IsErrOf result DeviceError.Failed
+        → RoseFor F.write_faults name.now files.old files.new }
     ensures later { Later F.read_faults F.write_faults files.old files.new }
 {
     let Ok(formula) = generate(alloc, seed, size) else {

@@ -1,9 +1,8 @@
 -- One entry taken in the graph as it stands.
 use Rattle.std.specs.Prelude.{ℕ, List, Option}
-use Rattle.q_logic.specs.Skolems.{Strategy}
-use Rattle.q_aig.specs.Nets.{Net}
-use Rattle.q_carry.specs.Standing.{AreLiterals, IsAt}
-use Rattle.q_carry.specs.Growing.{IsGrown}
+use Rattle.q_logic.specs.Prelude.{Strategy}
+use Rattle.q_aig.specs.Prelude.{Net}
+use Rattle.q_carry.specs.Prelude.{AreLiterals, IsAt, IsGrown}
 use Rattle.q_logic.specs.Reversals.{Reversal, carried}
 use Rattle.q_herbrand.specs.Inputs.{has_input}
 use Rattle.q_herbrand.specs.Covered.{EntryCovered, weight}

@@ -1,11 +1,7 @@
 -- What an entry asks of the circuits, and what it costs.
 use Rattle.std.specs.Prelude.{◌≡◌, ℕ, ◌+◌, Bool, true, false, List, [], ◌∷◌, length}
-use Rattle.q_logic.specs.Literals.{Literal}
-use Rattle.q_logic.specs.Formulas.{Clause, IsIn}
-use Rattle.q_logic.specs.Circuits.{Reads}
-use Rattle.q_logic.specs.Skolems.{Strategy, circuit_of, given}
-use Rattle.q_logic.specs.Steps.{literals_in}
-use Rattle.q_carry.specs.Covered.{ClauseCovered, OutersCovered}
+use Rattle.q_logic.specs.Prelude.{Literal, Clause, IsIn, Reads, Strategy, circuit_of, given, literals_in}
+use Rattle.q_carry.specs.Prelude.{ClauseCovered, OutersCovered}
 use Rattle.q_logic.specs.Reversals.{Reversal, added, turned, plain, freshened, removed, Forth}
 
 -- the circuits of the literals do not read v

@@ -1,20 +1,11 @@
 -- Circuits copied into a graph over slots, and out of it.
 use Rattle.std.specs.Prelude.{◌≡◌, ◌≤◌, ℕ, ◌+◌, Bool, true, List, length, Option, Some, None}
-use Rattle.q_logic.specs.Formulas.{Prefix, PrenexFormula}
-use Rattle.q_logic.specs.Prefixes.{is_existential}
-use Rattle.q_logic.specs.Certificates.{CertificateView, trees_of}
-use Rattle.q_logic.specs.Skolems.{Lawful}
-use Rattle.q_logic.specs.Steps.{ProofStep}
-use Rattle.q_logic.specs.Runs.{Run}
+use Rattle.q_logic.specs.Prelude.{Prefix, PrenexFormula, is_existential, CertificateView, trees_of, Lawful, ProofStep, Run}
 use Rattle.q_logic.specs.Herbrands.{LawfulHerbrand}
 use Rattle.q_logic.specs.Exchanging.{exchanged}
 use Rattle.q_logic.specs.Reversals.{Reversal, Forth, Reversals as ReversalsOf}
-use Rattle.q_aig.specs.Nets.{Net, operand_of}
-use Rattle.q_aig.specs.Walking.{marked_count}
-use Rattle.q_carry.specs.Standing.{look_at, AreLiterals, IsAt}
-use Rattle.q_carry.specs.Tabled.{AreExistentials}
-use Rattle.q_carry.specs.Copied.{copied_operand}
-use Rattle.q_carry.specs.Cones.{HasCones}
+use Rattle.q_aig.specs.Prelude.{Net, operand_of, marked_count}
+use Rattle.q_carry.specs.Prelude.{look_at, AreLiterals, IsAt, AreExistentials, copied_operand, HasCones}
 use Rattle.q_slots.specs.declared.building.Settled.{Settled}
 use Rattle.q_herbrand.specs.declared.drafting.Draft.{Draft}
 use Rattle.q_herbrand.specs.Inputs.{has_input}

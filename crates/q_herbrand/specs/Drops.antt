@@ -1,11 +1,6 @@
 -- What the drop of a universal literal leaves.
 use Rattle.std.specs.Prelude.{◌≡◌, ℕ, true, List, [], ◌∷◌, Option, None}
-use Rattle.q_logic.specs.Literals.{Literal, negation}
-use Rattle.q_logic.specs.Formulas.{Clause, Matrix, Prefix, IsIn}
-use Rattle.q_logic.specs.Pivots.{ForallPivot, outer}
-use Rattle.q_logic.specs.Sets.{IsTautology}
-use Rattle.q_logic.specs.Expanding.{inner_existential}
-use Rattle.q_logic.specs.Undos.{OutersOf}
+use Rattle.q_logic.specs.Prelude.{Literal, negation, Clause, Matrix, Prefix, IsIn, ForallPivot, outer, IsTautology, inner_existential, OutersOf}
 use Rattle.q_logic.specs.Reversals.{IsPlainDrop, inner, plain, turned}
 use Rattle.q_herbrand.specs.declared.drops.DropKind.{DropKind}
 use Rattle.q_herbrand.specs.declared.drops.DropKind.TheVariants.{Turned, Plain, Nothing, Extended}

@@ -1,11 +1,9 @@
 -- Circuits over slots, and the strategy that they stand for.
 use Rattle.std.specs.Prelude.{◌≡◌, ◌≤◌, ◌<◌, ◌⊎◌, ℕ, ◌+◌, Bool, true, List, length, Option, Some, None}
-use Rattle.q_logic.specs.Circuits.{Circuit}
-use Rattle.q_logic.specs.Skolems.{Strategy, circuit_of, given}
+use Rattle.q_logic.specs.Prelude.{Circuit, Strategy, circuit_of, given}
 use Rattle.q_logic.specs.Reversals.{Reversal, carried, Forth}
-use Rattle.q_aig.specs.Nets.{Net, tree_at}
-use Rattle.q_aig.specs.Serving.{Serves}
-use Rattle.q_carry.specs.Standing.{look_at, AreLiterals, InputsAt}
+use Rattle.q_aig.specs.Prelude.{Net, tree_at, Serves}
+use Rattle.q_carry.specs.Prelude.{look_at, AreLiterals, InputsAt}
 use Rattle.q_slots.specs.declared.slots.Slots.{Slots}
 use Rattle.q_slots.specs.Under.{under}
 use Rattle.q_slots.specs.Slots.{AreSlots, AreOwned, IsResolved}

@@ -1,14 +1,8 @@
 -- Parts of plain drops.
 use Rattle.std.specs.Prelude.{ℕ, Bool, List, Option, length}
-use Rattle.q_logic.specs.Literals.{Literal}
-use Rattle.q_logic.specs.Formulas.{Clause}
-use Rattle.q_logic.specs.Circuits.{Circuit}
-use Rattle.q_logic.specs.Skolems.{Strategy}
-use Rattle.q_aig.specs.Nets.{Net, IsLiteral, tree_at}
-use Rattle.q_aig.specs.Serving.{Serves}
-use Rattle.q_carry.specs.Covered.{ClauseCovered}
-use Rattle.q_carry.specs.Standing.{AreLiterals, IsAt}
-use Rattle.q_carry.specs.Growing.{IsGrown}
+use Rattle.q_logic.specs.Prelude.{Literal, Clause, Circuit, Strategy}
+use Rattle.q_aig.specs.Prelude.{Net, IsLiteral, tree_at, Serves}
+use Rattle.q_carry.specs.Prelude.{ClauseCovered, AreLiterals, IsAt, IsGrown}
 use Rattle.q_logic.specs.Reversals.{none_of, lowered_one, lowered_by}
 
 -- no literal of the clause

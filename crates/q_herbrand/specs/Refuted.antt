@@ -1,15 +1,8 @@
 -- What comes out.
 use Rattle.std.specs.Prelude.{◌≡◌, ◌≤◌, ℕ, ◌+◌, Bool, true, List, length, map}
-use Rattle.q_logic.specs.Formulas.{PrenexFormula}
-use Rattle.q_logic.specs.Prefixes.{is_universal}
-use Rattle.q_logic.specs.Truth.{Assignment}
-use Rattle.q_logic.specs.Circuits.{value_of}
-use Rattle.q_logic.specs.Certificates.{CertificateView, trees_of}
-use Rattle.q_logic.specs.Skolems.{circuit_of, Lawful}
-use Rattle.q_aig.specs.Serving.{Serves}
-use Rattle.q_aig.specs.Walking.{marked_count}
-use Rattle.q_carry.specs.Cones.{HasCones}
-use Rattle.q_carry.specs.Made.{universals, existentials}
+use Rattle.q_logic.specs.Prelude.{PrenexFormula, is_universal, Assignment, value_of, CertificateView, trees_of, circuit_of, Lawful}
+use Rattle.q_aig.specs.Prelude.{Serves, marked_count}
+use Rattle.q_carry.specs.Prelude.{HasCones, universals, existentials}
 use Rattle.q_logic.specs.Exchanging.{exchanged}
 use Rattle.q_logic.specs.Herbrands.{LawfulHerbrand, HerbrandOf}
 use Rattle.q_logic.specs.Reversals.{Reversal, Forth}

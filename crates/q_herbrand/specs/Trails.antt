@@ -1,9 +1,6 @@
 -- A trail: the formula that the steps so far left, and their reversals.
 use Rattle.std.specs.Prelude.{◌≡◌, ◌++◌, List, Option, Result, Ok, Err}
-use Rattle.q_logic.specs.Formulas.{PrenexFormula}
-use Rattle.q_logic.specs.Limits.{standard}
-use Rattle.q_logic.specs.Steps.{ProofStep, after}
-use Rattle.q_logic.specs.Runs.{ValidSteps, AreAlike}
+use Rattle.q_logic.specs.Prelude.{PrenexFormula, standard, ProofStep, after, ValidSteps, AreAlike}
 use Rattle.q_logic.specs.Reversals.{Reversal, Reversed, Reversals, IsExtended}
 use Rattle.q_herbrand.specs.declared.error.TrailError.{TrailError}
 use Rattle.q_herbrand.specs.declared.error.TrailError.TheVariants.{Extended, NoMemory}

@@ -1,9 +1,9 @@
 //! The construction of circuits of the input, over all inputs that were met on the way. The gates that the given circuits
 //! need are copied into a draft, whose inputs are slots; the entries are taken there; then the draft is built without slots.
 ghost use Rattle.std.specs.Prelude.{◌≡◌, IfOk};
-ghost use Rattle.q_logic.specs.Prefixes.{Distinct};
+ghost use Rattle.q_logic.specs.Prelude.{Distinct};
 ghost use Rattle.q_logic.specs.Exchanging.{exchanged};
-ghost use Rattle.q_carry.specs.Standing.{look_at};
+ghost use Rattle.q_carry.specs.Prelude.{look_at};
 ghost use Rattle.q_herbrand.specs.Refuted.{IsWide};
 ghost use Rattle.q_herbrand.specs.Drafted.{IsBuiltFrom, IsChosen, IsLawfulRun, IsWritten};
 
@@ -19,7 +19,8 @@ use std::alloc::Global;
 // The literal of a circuit of the draft.
 fn settled_literal(draft: &Draft, settled: &Settled, var: u32) -> u64
     requires { IsWritten draft.now settled.now }
-    ensures { IsBuiltFrom draft.now settled.now (look_at draft.now.tables.circuits.items var) result }
+    ensures { IsBuiltFrom draft.now settled.now (look_at draft.now.tables.circuits.items var)
+        result }
 {
     match look(&draft.tables.circuits, var) {
         Some(lit) => translate(&draft.aig, &settled.slots, &settled.gates, lit),

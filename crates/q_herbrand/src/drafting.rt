@@ -1,6 +1,6 @@
 //! The draft: the gates that the given circuits need, over slots, with all entries taken.
 ghost use Rattle.std.specs.Prelude.{◌≡◌, ◌≤◌, ℕ, max, length, IfOk};
-ghost use Rattle.q_carry.specs.Standing.{look_at};
+ghost use Rattle.q_carry.specs.Prelude.{look_at};
 ghost use Rattle.q_herbrand.specs.Inputs.{AreInputs};
 ghost use Rattle.q_herbrand.specs.Drafted.{either, AreMerged, IsDrafted, IsCopiedInto};
 

@@ -2,13 +2,7 @@
 //! existentials the clause itself, parted at the literal's variable. A tautology that stays one leaves nothing. Over any
 //! other drop, which is an extended one, Herbrand functions are not carried.
 ghost use Rattle.std.specs.Prelude.{◌≡◌, ◌↔◌, ◌++◌, List, true, Some, IsTrue, IfOk, IfErr, OnOk};
-ghost use Rattle.q_logic.specs.Literals.{Literal, IsBelow, negation};
-ghost use Rattle.q_logic.specs.Formulas.{Clause, Matrix, IsIn};
-ghost use Rattle.q_logic.specs.Parts.{ArePairs};
-ghost use Rattle.q_logic.specs.Prefixes.{is_bound, is_universal};
-ghost use Rattle.q_logic.specs.Pivots.{ForallPivot, outer, without};
-ghost use Rattle.q_logic.specs.Steps.{Within};
-ghost use Rattle.q_logic.specs.Undos.{OutersOf};
+ghost use Rattle.q_logic.specs.Prelude.{Literal, IsBelow, negation, Clause, Matrix, IsIn, ArePairs, is_bound, is_universal, ForallPivot, outer, without, Within, OutersOf};
 ghost use Rattle.q_logic.specs.Reversals.{IsPlainDrop, inner, plain, turned};
 ghost use Rattle.q_prop.specs.Slots.{filled};
 ghost use Rattle.q_prop.specs.Slots.{without as without_slot};
@@ -48,8 +42,9 @@ fn is_turned(
     requires held { IsIn lit clause.now }
     requires rest { rest.now ≡ without lit clause.now }
     ensures same { ledger.new ≡ ledger.old }
-    ensures exact { IfOk result (λ yes. IsTrue yes ↔
-        ForallPivot ledger.old.prefix (filled (without_slot ledger.old.slots (Some at))) clause.now lit) }
+    ensures exact { IfOk result (λ yes.
+        IsTrue yes ↔ ForallPivot ledger.old.prefix
+        (filled (without_slot ledger.old.slots (Some at))) clause.now lit) }
 {
     if holds(clause, lit.negated()) {
         return Ok(false);
@@ -85,7 +80,8 @@ fn is_plain(scope: &Scope, clause: &[Lit], lit: Lit) -> bool
 fn kind_without_pivot(scope: &Scope, clause: &[Lit], lit: Lit) -> DropKind
     requires bound { is_bound scope.now lit.var ≡ true }
     requires ordered { ArePairs IsBelow clause.now }
-    ensures { (X : Matrix) → ¬ ForallPivot scope.now X clause.now lit → IsDropKind scope.now X clause.now lit result }
+    ensures { (X : Matrix) → ¬ ForallPivot scope.now X clause.now lit
+        → IsDropKind scope.now X clause.now lit result }
 {
     if !is_plain(scope, clause, lit) {
         return DropKind::Extended;
@@ -110,7 +106,8 @@ pub fn kind_of_drop(
     requires rest { rest.now ≡ without lit clause.now }
     ensures same { ledger.new ≡ ledger.old }
     ensures kind { IfOk result (λ kind.
-        IsDropKind ledger.old.prefix (filled (without_slot ledger.old.slots (Some at))) clause.now lit kind) }
+        IsDropKind ledger.old.prefix (filled (without_slot ledger.old.slots (Some at))) clause.now
+        lit kind) }
 {
     if is_turned(ledger, at, clause, rest, lit)? {
         return Ok(DropKind::Turned);
@@ -136,9 +133,10 @@ fn push_inner(row: &mut Vec<Lit>, scope: &Scope, clause: &[Lit], lit: Lit) -> Re
 fn turned_entry(ledger: &mut Ledger, at: usize, lit: Lit) -> Result<Reversal, NoMemory>
     requires { is_bound ledger.old.prefix lit.var ≡ true }
     ensures same { ledger.new ≡ ledger.old }
-    ensures entry { IfOk result (λ r. (outers : List Clause) ×
-        OutersOf ledger.old.prefix (filled (without_slot ledger.old.slots (Some at))) (negation lit) outers ×
-        (entry_of r ≡ turned lit outers)) }
+    ensures entry { IfOk result (λ r.
+        (outers : List Clause) × OutersOf ledger.old.prefix
+        (filled (without_slot ledger.old.slots (Some at))) (negation lit) outers
+        × (entry_of r ≡ turned lit outers)) }
 {
     let outer = ledger.outers(Some(at), lit.negated())?;
     Ok(Reversal::Turned { pivot: lit, outer })
@@ -175,7 +173,8 @@ pub fn drop_entry(
     requires within { Within ledger.old.prefix clause.now }
     ensures same { ledger.new ≡ ledger.old }
     ensures entry { IfOk result (λ r.
-        IsDropEntry ledger.old.prefix (filled (without_slot ledger.old.slots (Some at))) clause.now lit kind r) }
+        IsDropEntry ledger.old.prefix (filled (without_slot ledger.old.slots (Some at))) clause.now
+        lit kind r) }
     ensures refused { IfErr result (λ e. e ≡ ExtendedDrop → kind ≡ extended_kind) }
 {
     match kind {

@@ -4,10 +4,9 @@
 //! circuit is made to falsify it: by a universal pivot where h holds, in a plain drop where the outer literals are false,
 //! and then those inner to it are falsified too.
 ghost use Rattle.std.specs.Prelude.{◌≡◌, ◌++◌, List, Option, Some, ℕ, length, IfOk, OnOk};
-ghost use Rattle.q_logic.specs.Literals.{Literal, negation};
-ghost use Rattle.q_logic.specs.Certificates.{falsum};
-ghost use Rattle.q_aig.specs.Nets.{operand_of, IsLiteral};
-ghost use Rattle.q_carry.specs.Standing.{AreLiterals, look_at};
+ghost use Rattle.q_logic.specs.Prelude.{Literal, negation, falsum};
+ghost use Rattle.q_aig.specs.Prelude.{operand_of, IsLiteral};
+ghost use Rattle.q_carry.specs.Prelude.{AreLiterals, look_at};
 ghost use Rattle.q_logic.specs.Reversals.{added, turned, plain, freshened, removed};
 ghost use Rattle.q_herbrand.specs.Parts.{IsNoneOf, IsLoweredOne, AreLowered};
 ghost use Rattle.q_herbrand.specs.Carried.{IsCarried};
@@ -24,7 +23,8 @@ use q_slots::{Slots, fill, renew, slot_of};
 fn none_of(aig: &mut Aig, tables: &Tables, clause: &[Lit]) -> Result<u64, NoMemory>
     requires inputs { AreLiterals aig.old tables.now.inputs.items }
     requires circuits { AreLiterals aig.old tables.now.circuits.items }
-    ensures { IfOk result (IsNoneOf aig.old aig.new tables.now.inputs.items tables.now.circuits.items clause.now) }
+    ensures { IfOk result (IsNoneOf aig.old aig.new tables.now.inputs.items
+        tables.now.circuits.items clause.now) }
 {
     let mut none = constant(true);
     for k in clause {
@@ -79,7 +79,8 @@ fn take_plain(
     requires inputs { AreLiterals aig.old tables.old.inputs.items }
     requires circuits { AreLiterals aig.old tables.old.circuits.items }
     ensures inputs { tables.new.inputs ≡ tables.old.inputs }
-    ensures carried { OnOk result (IsCarried aig.old aig.new tables.old.inputs.items tables.old.circuits.items
+    ensures carried { OnOk result
+        (IsCarried aig.old aig.new tables.old.inputs.items tables.old.circuits.items
         tables.new.circuits.items (plain pivot same.now inner.now)) }
 {
     let q = none_of(aig, tables, same)?;
@@ -98,7 +99,8 @@ fn take_turned(
     requires inputs { AreLiterals aig.old tables.old.inputs.items }
     requires circuits { AreLiterals aig.old tables.old.circuits.items }
     ensures inputs { tables.new.inputs ≡ tables.old.inputs }
-    ensures carried { OnOk result (IsCarried aig.old aig.new tables.old.inputs.items tables.old.circuits.items
+    ensures carried { OnOk result
+        (IsCarried aig.old aig.new tables.old.inputs.items tables.old.circuits.items
         tables.new.circuits.items (turned pivot outer.now)) }
 {
     if let Some(circuit) = look(&tables.circuits, pivot.var()) {
@@ -113,7 +115,8 @@ fn take_turned(
 fn take_removed(aig: &Aig, tables: &mut Tables, var: u32) -> Result<(), NoMemory>
     requires circuits { AreLiterals aig.now tables.old.circuits.items }
     ensures inputs { tables.new.inputs ≡ tables.old.inputs }
-    ensures carried { OnOk result (IsCarried aig.now aig.now tables.old.inputs.items tables.old.circuits.items
+    ensures carried { OnOk result
+        (IsCarried aig.now aig.now tables.old.inputs.items tables.old.circuits.items
         tables.new.circuits.items (removed var)) }
 {
     put(&mut tables.circuits, var, Some(constant(false)))?;
@@ -129,7 +132,8 @@ fn take_fresh(
 ) -> Result<(), NoMemory>
     requires { IsReady aig.old tables.old.inputs.items tables.old.circuits.items slots.old }
     ensures inputs { tables.new.inputs ≡ tables.old.inputs }
-    ensures taken { OnOk result (IsTaken aig.old aig.new tables.old.inputs.items tables.old.circuits.items
+    ensures taken { OnOk result
+        (IsTaken aig.old aig.new tables.old.inputs.items tables.old.circuits.items
         tables.new.circuits.items slots.old slots.new (freshened var)) }
 {
     // for the proof: the contract of this call says that this is a graph
@@ -155,7 +159,8 @@ fn take_added(
 ) -> Result<(), NoMemory>
     requires { IsReady aig.old tables.old.inputs.items tables.old.circuits.items slots.old }
     ensures inputs { tables.new.inputs ≡ tables.old.inputs }
-    ensures taken { OnOk result (IsTaken aig.old aig.new tables.old.inputs.items tables.old.circuits.items
+    ensures taken { OnOk result
+        (IsTaken aig.old aig.new tables.old.inputs.items tables.old.circuits.items
         tables.new.circuits.items slots.old slots.new (added pivot outer.now)) }
 {
     // for the proof: the contract of this call says that this is a graph
@@ -181,7 +186,8 @@ fn take_entry(
 ) -> Result<(), NoMemory>
     requires { IsReady aig.old tables.old.inputs.items tables.old.circuits.items slots.old }
     ensures inputs { tables.new.inputs ≡ tables.old.inputs }
-    ensures taken { OnOk result (IsTaken aig.old aig.new tables.old.inputs.items tables.old.circuits.items
+    ensures taken { OnOk result
+        (IsTaken aig.old aig.new tables.old.inputs.items tables.old.circuits.items
         tables.new.circuits.items slots.old slots.new (entry_of entry.now)) }
 {
     match entry {
@@ -204,7 +210,8 @@ pub fn take_all(
 ) -> Result<(), NoMemory>
     requires { IsReady aig.old tables.old.inputs.items tables.old.circuits.items slots.old }
     ensures inputs { tables.new.inputs ≡ tables.old.inputs }
-    ensures taken { OnOk result (AreTaken aig.old aig.new tables.old.inputs.items tables.old.circuits.items
+    ensures taken { OnOk result
+        (AreTaken aig.old aig.new tables.old.inputs.items tables.old.circuits.items
         tables.new.circuits.items slots.old slots.new reversals.now) }
 {
     let entries = reversals.as_slice();

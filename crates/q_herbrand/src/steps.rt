@@ -1,13 +1,7 @@
 //! The formula changes by valid steps, each of which leaves an entry or none. A step is valid when it comes, so nothing
 //! is tried here but what its entry needs. An entry is made before the formula changes.
 ghost use Rattle.std.specs.Prelude.{◌≡◌, ◌∷◌, [], cond, Option, IfOk};
-ghost use Rattle.q_logic.specs.Literals.{Literal, IsBelow};
-ghost use Rattle.q_logic.specs.Formulas.{IsIn};
-ghost use Rattle.q_logic.specs.Limits.{standard};
-ghost use Rattle.q_logic.specs.Parts.{ArePairs};
-ghost use Rattle.q_logic.specs.Pivots.{without};
-ghost use Rattle.q_logic.specs.Runs.{AreAlike};
-ghost use Rattle.q_logic.specs.Steps.{IsWarranted, Valid, add, after, delete, drop_literal, fresh, remove_variable};
+ghost use Rattle.q_logic.specs.Prelude.{Literal, IsBelow, IsIn, standard, ArePairs, without, AreAlike, IsWarranted, Valid, add, after, delete, drop_literal, fresh, remove_variable};
 ghost use Rattle.q_logic.specs.Reversals.{Reversed, removed};
 ghost use Rattle.q_prop.specs.Slots.{Holds, filled};
 ghost use Rattle.q_judge.specs.Ledgers.{formula_in};
@@ -29,7 +23,8 @@ pub fn add(
 ) -> Result<Option<Reversal>, TrailError>
     requires ordered { ArePairs IsBelow clause.now }
     requires valid { Valid standard (formula_in ledger.old) (add first clause.now) }
-    ensures { IsPassed (formula_in ledger.old) (add first clause.now) (formula_in ledger.new) result }
+    ensures { IsPassed (formula_in ledger.old) (add first clause.now) (formula_in ledger.new)
+        result }
 {
     let entry = added_entry(ledger, clause, first)?;
     ledger.put(clause)?;
@@ -57,7 +52,8 @@ pub fn drop_literal(
     requires ordered { ArePairs IsBelow clause.now }
     requires rest { rest.now ≡ without lit clause.now }
     requires valid { Valid standard (formula_in ledger.old) (drop_literal lit clause.now) }
-    ensures { IsPassed (formula_in ledger.old) (drop_literal lit clause.now) (formula_in ledger.new) result }
+    ensures { IsPassed (formula_in ledger.old) (drop_literal lit clause.now) (formula_in ledger.new)
+        result }
 {
     let at = place_of(ledger, clause);
     let kind = kind_of_drop(ledger, at, clause, rest, lit)?;
@@ -78,7 +74,8 @@ pub fn fresh(ledger: &mut Ledger, v: u32, w: u32) -> Result<Option<Reversal>, Tr
 /// A variable goes.
 pub fn remove(ledger: &mut Ledger, var: u32) -> Option<Reversal>
     requires { Valid standard (formula_in ledger.old) (remove_variable var) }
-    ensures after { AreAlike (after (formula_in ledger.old) (remove_variable var)) (formula_in ledger.new) }
+    ensures after { AreAlike (after (formula_in ledger.old) (remove_variable var))
+        (formula_in ledger.new) }
     ensures entry { Reversed (formula_in ledger.old) (remove_variable var) (entries_of result) }
 {
     let universal = ledger.scope().is_universal(var);

@@ -1,10 +1,7 @@
 //! The reversals of a run, noted step by step. What an entry needs of the formula is found when its step comes, before
 //! the formula changes.
 ghost use Rattle.std.specs.Prelude.{◌≡◌, ◌++◌, List, [], ◌∷◌, IfOk, IfErr, OnOk, OnErr};
-ghost use Rattle.q_logic.specs.Formulas.{PrenexFormula};
-ghost use Rattle.q_logic.specs.Limits.{standard};
-ghost use Rattle.q_logic.specs.Runs.{AreAlike};
-ghost use Rattle.q_logic.specs.Steps.{ProofStep, Valid, after};
+ghost use Rattle.q_logic.specs.Prelude.{PrenexFormula, standard, AreAlike, ProofStep, Valid, after};
 ghost use Rattle.q_logic.specs.Reversals.{IsExtended, Reversals as ReversalsOf};
 ghost use Rattle.q_judge.specs.Ledgers.{formula_in};
 ghost use Rattle.q_herbrand.specs.Trails.{HasGrownBy, HasNoted, IsNoted, IsPassed};
@@ -35,7 +32,10 @@ impl Model for Trail {
 
     ghost Value = { Trailed };
 
-    ghost view = { λ t. record { formula = formula_in t.ledger; reversals = map entry_of t.entries.items } };
+    ghost view = { λ t. record {
+      formula = formula_in t.ledger;
+      reversals = map entry_of t.entries.items;
+    } };
 }
 
 impl Trail {
@@ -58,7 +58,8 @@ impl Trail {
     /// Notes a valid step. An extended drop is refused; after an error the trail is as before.
     pub fn note(&mut self, step: &Step) -> Result<(), TrailError>
         requires { Valid standard self.old.formula step.now }
-        ensures formula { OnOk result (AreAlike (after self.old.formula step.now) self.new.formula) }
+        ensures formula { OnOk result
+            (AreAlike (after self.old.formula step.now) self.new.formula) }
         ensures reversals { OnOk result
             (HasGrownBy self.old.formula step.now self.old.reversals self.new.reversals) }
         ensures noted { OnOk result ((F : PrenexFormula) → (ss : List ProofStep) →

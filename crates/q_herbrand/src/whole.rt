@@ -1,10 +1,7 @@
 //! Herbrand functions of the output, carried back to the input.
 ghost use Rattle.std.specs.Prelude.{◌≡◌, List, IfOk, IfErr, OnOk};
-ghost use Rattle.q_logic.specs.Steps.{ProofStep};
-ghost use Rattle.q_logic.specs.Runs.{Run};
-ghost use Rattle.q_logic.specs.Formulas.{PrenexFormula};
-ghost use Rattle.q_logic.specs.Certificates.{CertificateView};
-ghost use Rattle.q_carry.specs.Refusals.{Fits, IsMisfit};
+ghost use Rattle.q_logic.specs.Prelude.{ProofStep, Run, PrenexFormula, CertificateView};
+ghost use Rattle.q_carry.specs.Prelude.{Fits, IsMisfit};
 ghost use Rattle.q_logic.specs.Exchanging.{exchanged};
 ghost use Rattle.q_logic.specs.Reversals.{Reversals as ReversalsOf};
 ghost use Rattle.q_herbrand.specs.Refuted.{IsRefuted};
@@ -44,7 +41,8 @@ pub fn refute(
     reversals: &Reversals,
     given: &mut Certificate,
 ) -> Result<Certificate, HerbrandError>
-    requires { (ss : List ProofStep) × Run input.now ss output.now × ReversalsOf input.now ss reversals.now }
+    requires { (ss : List ProofStep) × Run input.now ss output.now
+        × ReversalsOf input.now ss reversals.now }
     ensures unchanged { given.new ≡ given.old }
     ensures accepted { OnOk result (IsAccepted output.now given.old) }
     ensures refuted { IfOk result (IsRefuted input.now output.now reversals.now given.old) }

@@ -1,10 +1,10 @@
-pub mod Reading
-pub mod Shut
-pub mod Writing
-pub mod Fitting
-pub mod Spelling
-pub mod Parsing
+pub mod HintedBytes
+pub mod OpenEnds
+pub mod NumberTexts
+pub mod ProofNumbers
+pub mod HintedSpelledIsRead
+pub mod HintedReadIsSpelled
 pub mod Profiles
-pub mod Rereading
-mod Passing
+pub mod HintedRoundTrip
+mod HintedPieces
 mod Fewer

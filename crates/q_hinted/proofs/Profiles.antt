@@ -5,10 +5,8 @@ use Rattle.std.proofs.lemmas.Bool.Decides.{nat_tests}
 use Rattle.q_logic.specs.declared.proof_part.ProofKind.TheVariants.{Implied, Pivot, Reach}
 use Rattle.q_logic.specs.declared.steps.Kind.{Kind}
 use Rattle.q_logic.specs.declared.steps.Kind.TheVariants.{Add, Delete, Drop, Fresh, Remove}
-use Rattle.q_logic.specs.Hinted.{Hinted, ProofPart}
+use Rattle.q_logic.specs.Prelude.{Hinted, ProofPart, ProofStep, kind_of}
 use Rattle.q_logic.specs.ProofParts.{begun_part}
-use Rattle.q_logic.specs.Steps.{ProofStep}
-use Rattle.q_logic.specs.StepForms.{kind_of}
 use Rattle.q_text.specs.declared.tokens.Token.{Token}
 use Rattle.q_text.specs.declared.tokens.TokenKind.{TokenKind}
 use Rattle.q_text.specs.declared.tokens.TokenKind.TheVariants.{Number, P, Cnf, Qrat, E, A, D, U, R, Other}
@@ -20,19 +18,19 @@ use Rattle.q_log.specs.Logs as plain_logs
 use Rattle.q_hinted.specs.declared.builder.Stage.{Stage}
 use Rattle.q_hinted.specs.declared.builder.Stage.TheVariants as stage
 use Rattle.q_hinted.specs.Grammar.{Place, nowhere, format, version, plain, steps, proving, EntryMove, hands, leads, misfit, place_move, part_move, number_in, behind_step, in_plain, in_steps, with_zero, with_number, kind_move, front_move, format_move, version_move, profile_move, first_profile, profile_at}
-use Rattle.q_hinted.specs.Logs.{Entry, Entries, hinted_entry, plain_entries, onto, follow, outcome, at_end, past_limit, read_entries, profile_of, Profile, hinted_in, all_or_none, HintedSteps}
+use Rattle.q_hinted.specs.Logs.{Entry, Entries, hinted_entry, plain_entries, onto, follow, parsed, at_end, past_limit, read_entries, profile_of, Profile, hinted_in, all_or_none, HintedSteps}
 use Rattle.q_hinted.specs.Spelled.{kinds_of, hinted_of, tokens_in, HintedLog}
-use Rattle.q_hinted.proofs.Spelling.{header-read, texts-read, all-hinted}
-use Rattle.q_hinted.proofs.Parsing.{all_read, Gets, FromFront, front-parsed}
+use Rattle.q_hinted.proofs.HintedSpelledIsRead.{header-read, texts-read, all-hinted}
+use Rattle.q_hinted.proofs.HintedReadIsSpelled.{all_read, Gets, FromFront, front-parsed}
 
 -- among the steps of the first profile
 steps-plain : (last : Option OpenStep → Option LogError) (end : Place → Option LogError) → ((o : Option OpenStep) → end (plain o) ≡ last o) →
-    (o : Option OpenStep) (ts : List Token) → outcome end (plain o) ts ≡ plain_entries (plain_logs.outcome last o ts)
+    (o : Option OpenStep) (ts : List Token) → parsed end (plain o) ts ≡ plain_entries (plain_logs.parsed last o ts)
 steps-plain last end h o [] = ap (λ (x : Option LogError). let y : Entries = record { entries = []; refused = x } in y) (h o)
 steps-plain last end h o (t ∷ ts) = go (move o t) (λ o. steps-plain last end h o ts)
   where
-    go : (m : Move) → ((o : Option OpenStep) → outcome end (plain o) ts ≡ plain_entries (plain_logs.outcome last o ts)) →
-        follow (in_plain m) t.line (λ q. outcome end q ts) ≡ plain_entries (plain_logs.follow m t.line (λ o. plain_logs.outcome last o ts))
+    go : (m : Move) → ((o : Option OpenStep) → parsed end (plain o) ts ≡ plain_entries (plain_logs.parsed last o ts)) →
+        follow (in_plain m) t.line (λ q. parsed end q ts) ≡ plain_entries (plain_logs.follow m t.line (λ o. plain_logs.parsed last o ts))
     go (ends_step n s) ih = ap (onto (n, s, None)) (ih None)
     go (goes_on o) ih = ih (Some o)
     go unfit ih = refl
@@ -50,10 +48,10 @@ front-plain t R e = refl
 front-plain t Other e = refl
 
 tokens-plain : (last : Option OpenStep → Option LogError) (end : Place → Option LogError) → ((o : Option OpenStep) → end (plain o) ≡ last o) → end nowhere ≡ last None →
-    (ts : List Token) → profile_of ts ≡ 1 → outcome end nowhere ts ≡ plain_entries (plain_logs.outcome last None ts)
+    (ts : List Token) → profile_of ts ≡ 1 → parsed end nowhere ts ≡ plain_entries (plain_logs.parsed last None ts)
 tokens-plain last end h f [] e = ap (λ (x : Option LogError). let y : Entries = record { entries = []; refused = x } in y) f
 tokens-plain last end h f (t ∷ ts) e =
-    ap (λ m. follow m t.line (λ q. outcome end q ts)) (front-plain t t.kind e) ∙ steps-plain last end h None (t ∷ ts)
+    ap (λ m. follow m t.line (λ q. parsed end q ts)) (front-plain t t.kind e) ∙ steps-plain last end h None (t ∷ ts)
 
 end-plain : (n : ℕ) (o : Option OpenStep) → at_end n (plain o) ≡ plain_logs.at_end n o
 end-plain n None = refl
@@ -63,9 +61,9 @@ pub plain-read : (limit : ℕ) (bytes : List ℕ) → Profile limit bytes ≡ 1 
 plain-read limit bytes e = go (nat_le (length bytes) limit) e
   where
     go : (u : Bool) → profile_of (if u then tokens_of bytes else tokens_ended (take limit bytes)) ≡ 1 →
-        (if u then outcome (at_end (line_after bytes)) nowhere (tokens_of bytes) else outcome (past_limit (line_after (take limit bytes))) nowhere (tokens_ended (take limit bytes))) ≡
-        plain_entries (if u then plain_logs.outcome (plain_logs.at_end (line_after bytes)) None (tokens_of bytes)
-        else plain_logs.outcome (plain_logs.past_limit (line_after (take limit bytes))) None (tokens_ended (take limit bytes)))
+        (if u then parsed (at_end (line_after bytes)) nowhere (tokens_of bytes) else parsed (past_limit (line_after (take limit bytes))) nowhere (tokens_ended (take limit bytes))) ≡
+        plain_entries (if u then plain_logs.parsed (plain_logs.at_end (line_after bytes)) None (tokens_of bytes)
+        else plain_logs.parsed (plain_logs.past_limit (line_after (take limit bytes))) None (tokens_ended (take limit bytes)))
     go true f = tokens-plain (plain_logs.at_end (line_after bytes)) (at_end (line_after bytes)) (end-plain (line_after bytes)) refl (tokens_of bytes) f
     go false f =
         tokens-plain (plain_logs.past_limit (line_after (take limit bytes))) (past_limit (line_after (take limit bytes))) (λ o. refl) refl (tokens_ended (take limit bytes)) f
@@ -84,7 +82,7 @@ is-p R e = absurd (omega arith)
 is-p Other e = absurd (omega arith)
 
 first-unfit : (last : Option OpenStep → Option LogError) (ts : List Token) → profile_of ts ≡ 2 →
-    plain_logs.all_or_none (plain_logs.outcome last None ts).refused (plain_logs.outcome last None ts).steps ≡ None
+    plain_logs.all_or_none (plain_logs.parsed last None ts).refused (plain_logs.parsed last None ts).steps ≡ None
 first-unfit last [] e = absurd (omega arith)
 first-unfit last (t ∷ ts) e =
     let k : t.kind ≡ P = is-p t.kind e in
@@ -94,8 +92,8 @@ pub no-steps : (limit : ℕ) (bytes : List ℕ) → Profile limit bytes ≡ 2 �
 no-steps limit bytes e = go (nat_le (length bytes) limit) e
   where
     go : (u : Bool) → profile_of (if u then tokens_of bytes else tokens_ended (take limit bytes)) ≡ 2 →
-        let o : plain_logs.Outcome = if u then plain_logs.outcome (plain_logs.at_end (line_after bytes)) None (tokens_of bytes)
-        else plain_logs.outcome (plain_logs.past_limit (line_after (take limit bytes))) None (tokens_ended (take limit bytes)) in
+        let o : plain_logs.Parsed = if u then plain_logs.parsed (plain_logs.at_end (line_after bytes)) None (tokens_of bytes)
+        else plain_logs.parsed (plain_logs.past_limit (line_after (take limit bytes))) None (tokens_ended (take limit bytes)) in
         plain_logs.all_or_none o.refused o.steps ≡ None
     go true f = first-unfit (plain_logs.at_end (line_after bytes)) (tokens_of bytes) f
     go false f = first-unfit (plain_logs.past_limit (line_after (take limit bytes))) (tokens_ended (take limit bytes)) f
@@ -192,17 +190,17 @@ move-stays (proving n s g p) t e = part-stays n s p g (number_in t.kind)
 abbrev AreHinted : List Entry → Type 0
 AreHinted es = es ≡ map hinted_entry (hinted_in es)
 
-entries-hinted : (last : Place → Option LogError) (p : Place) (ts : List Token) → profile_at p ≡ 2 → AreHinted (outcome last p ts).entries
+entries-hinted : (last : Place → Option LogError) (p : Place) (ts : List Token) → profile_at p ≡ 2 → AreHinted (parsed last p ts).entries
 entries-hinted last p [] e = refl
 entries-hinted last p (t ∷ ts) e = go (place_move p t) (move-stays p t e) (λ q. entries-hinted last q ts)
   where
-    go : (m : EntryMove) → StaysHinted m → ((q : Place) → profile_at q ≡ 2 → AreHinted (outcome last q ts).entries) → AreHinted (follow m t.line (λ q. outcome last q ts)).entries
+    go : (m : EntryMove) → StaysHinted m → ((q : Place) → profile_at q ≡ 2 → AreHinted (parsed last q ts).entries) → AreHinted (follow m t.line (λ q. parsed last q ts)).entries
     go (hands n s None q) h ih = absurd h
     go (hands n s (Some x) q) h ih = ap (λ (es : List Entry). (n, s, Some x) ∷ es) (ih q h)
     go (leads q) h ih = ih q h
     go misfit h ih = refl
 
-front-hinted : (last : Place → Option LogError) (ts : List Token) → profile_of ts ≡ 2 → AreHinted (outcome last nowhere ts).entries
+front-hinted : (last : Place → Option LogError) (ts : List Token) → profile_of ts ≡ 2 → AreHinted (parsed last nowhere ts).entries
 front-hinted last [] e = absurd (omega arith)
 front-hinted last (t ∷ ts) e =
     let k : t.kind ≡ P = is-p t.kind e in
@@ -212,7 +210,7 @@ pub parts-read : (limit : ℕ) (bytes : List ℕ) → Profile limit bytes ≡ 2 
 parts-read limit bytes e = go (nat_le (length bytes) limit) e
   where
     go : (u : Bool) → profile_of (if u then tokens_of bytes else tokens_ended (take limit bytes)) ≡ 2 →
-        AreHinted (if u then outcome (at_end (line_after bytes)) nowhere (tokens_of bytes) else outcome (past_limit (line_after (take limit bytes))) nowhere (tokens_ended (take limit bytes))).entries
+        AreHinted (if u then parsed (at_end (line_after bytes)) nowhere (tokens_of bytes) else parsed (past_limit (line_after (take limit bytes))) nowhere (tokens_ended (take limit bytes))).entries
     go true f = front-hinted (at_end (line_after bytes)) (tokens_of bytes) f
     go false f = front-hinted (past_limit (line_after (take limit bytes))) (tokens_ended (take limit bytes)) f
 
@@ -222,7 +220,7 @@ hinted-read limit bytes hs h =
     let short : length bytes ≤ limit = h.short in
     let within : nat_le (length bytes) limit ≡ true = grind (arith, nat_tests) in
     let profile : profile_of (h.header ++ tokens_in h.texts) ≡ 2 = opened h.header (tokens_in h.texts) h.opens in
-    let reads : outcome (at_end (line_after bytes)) nowhere (h.header ++ tokens_in h.texts) ≡ all_read (map hinted_entry (map hinted_of h.texts)) =
+    let reads : parsed (at_end (line_after bytes)) nowhere (h.header ++ tokens_in h.texts) ≡ all_read (map hinted_entry (map hinted_of h.texts)) =
     header-read (at_end (line_after bytes)) h.header (tokens_in h.texts) h.opens ∙ texts-read (at_end (line_after bytes)) h.texts h.spelled in
     rw (within, h.tokens, profile, reads, all-hinted (map hinted_of h.texts)) (ap Some (sym h.hinted_are))
   where
@@ -230,13 +228,13 @@ hinted-read limit bytes hs h =
     opened [] rest e = absurd (cc)
     opened (t ∷ ts) rest e = let k : t.kind ≡ P = cc in rw k refl
 
-never-past : (n : ℕ) (ts : List Token) (p : Place) (es : List Entry) → outcome (past_limit n) p ts ≡ all_read es → ⊥
+never-past : (n : ℕ) (ts : List Token) (p : Place) (es : List Entry) → parsed (past_limit n) p ts ≡ all_read es → ⊥
 never-past n [] p es e = let r : Some (Limit n) ≡ None = ap (λ (o : Entries). o.refused) e in cc
 never-past n (t ∷ ts) p es e = go (place_move p t) (never-past n ts) e
   where
-    go : (m : EntryMove) → ((p : Place) (es : List Entry) → outcome (past_limit n) p ts ≡ all_read es → ⊥) → follow m t.line (λ q. outcome (past_limit n) q ts) ≡ all_read es → ⊥
+    go : (m : EntryMove) → ((p : Place) (es : List Entry) → parsed (past_limit n) p ts ≡ all_read es → ⊥) → follow m t.line (λ q. parsed (past_limit n) q ts) ≡ all_read es → ⊥
     go (hands l s x q) ih f =
-        let later : Entries = outcome (past_limit n) q ts in
+        let later : Entries = parsed (past_limit n) q ts in
         let done : later.refused ≡ None = ap (λ (o : Entries). o.refused) f in
         ih q later.entries (ap (λ (r : Option LogError). let y : Entries = record { entries = later.entries; refused = r } in y) done)
     go (leads q) ih f = ih q es f
@@ -282,7 +280,7 @@ hinted-spelled limit bytes hs e =
         }
 
     go : (u : Bool) → nat_le (length bytes) limit ≡ u → profile_of (if u then tokens_of bytes else tokens_ended (take limit bytes)) ≡ 2 → (es : List Entry) →
-        (if u then outcome (at_end (line_after bytes)) nowhere (tokens_of bytes) else outcome (past_limit (line_after (take limit bytes))) nowhere (tokens_ended (take limit bytes))) ≡ all_read es →
+        (if u then parsed (at_end (line_after bytes)) nowhere (tokens_of bytes) else parsed (past_limit (line_after (take limit bytes))) nowhere (tokens_ended (take limit bytes))) ≡ all_read es →
         hinted_in es ≡ hs → HintedLog limit bytes hs
     go true u p es g i = let l : length bytes ≤ limit = grind (arith, nat_tests) in spelled l (tokens_of bytes) refl p es g i
     go false u p es g i = absurd (never-past (line_after (take limit bytes)) (tokens_ended (take limit bytes)) nowhere es g)

@@ -2,8 +2,7 @@
 use Rattle.std.specs.Prelude.{◌≡◌, ◌&&◌, ℕ, Bool, true, false, is_none, List, [], ◌∷◌, Option, Some, None, Result, Ok, Err}
 use Rattle.q_logic.specs.declared.proof_part.ProofKind.{ProofKind}
 use Rattle.q_logic.specs.declared.proof_part.ProofKind.TheVariants as kind
-use Rattle.q_logic.specs.Hinted.{HintGroup, ProofPart}
-use Rattle.q_logic.specs.Steps.{ProofStep}
+use Rattle.q_logic.specs.Prelude.{HintGroup, ProofPart, ProofStep}
 use Rattle.q_log.specs.declared.error.LogError.{LogError}
 use Rattle.q_log.specs.declared.error.LogError.TheVariants.{BadLine, Limit, NoMemory}
 use Rattle.q_log.specs.Grammar.{OpenStep}

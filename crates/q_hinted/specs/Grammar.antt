@@ -4,10 +4,8 @@ use Rattle.std.specs.Prelude.{ℕ, Bool, true, false, is_some, ◌==◌, nat_lt,
 use Rattle.q_logic.specs.declared.proof_part.ProofKind.TheVariants.{Nothing, Implied, Pivot, Reach}
 use Rattle.q_logic.specs.declared.steps.Kind.{Kind}
 use Rattle.q_logic.specs.declared.steps.Kind.TheVariants.{Add, Delete, Drop, Fresh, Remove}
-use Rattle.q_logic.specs.Hinted.{ProofPart}
+use Rattle.q_logic.specs.Prelude.{ProofPart, kind_of, ProofStep}
 use Rattle.q_logic.specs.ProofParts.{begun_part, with_group, with_hint}
-use Rattle.q_logic.specs.StepForms.{kind_of}
-use Rattle.q_logic.specs.Steps.{ProofStep}
 use Rattle.q_text.specs.declared.tokens.Token.{Token}
 use Rattle.q_text.specs.declared.tokens.TokenKind.{TokenKind}
 use Rattle.q_text.specs.declared.tokens.TokenKind.TheVariants.{Number, P, Cnf, Qrat, E, A, D, U, R, Other}

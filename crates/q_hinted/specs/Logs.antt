@@ -1,12 +1,11 @@
 -- What a whole log of either profile says: its steps with their lines and proof parts, or its first offence.
 use Rattle.std.specs.Prelude.{ℕ, ◌==◌, nat_le, List, [], ◌∷◌, ◌++◌, length, map, take, if◌then◌else◌, Option, Some, None}
-use Rattle.q_logic.specs.Hinted.{Hinted, ProofPart}
-use Rattle.q_logic.specs.Steps.{ProofStep}
+use Rattle.q_logic.specs.Prelude.{Hinted, ProofPart, ProofStep}
 use Rattle.q_text.specs.declared.tokens.Token.{Token}
 use Rattle.q_text.specs.Texts.{tokens_of, tokens_ended, line_after}
 use Rattle.q_log.specs.declared.error.LogError.{LogError}
 use Rattle.q_log.specs.declared.error.LogError.TheVariants.{BadLine, Limit}
-use Rattle.q_log.specs.Logs.{Outcome}
+use Rattle.q_log.specs.Logs.{Parsed}
 use Rattle.q_hinted.specs.Grammar.{Place, nowhere, format, version, plain, steps, proving, EntryMove, hands, leads, misfit, place_move, first_profile}
 
 -- a step with the line of its first token, and with its proof part in the second profile
@@ -32,7 +31,7 @@ abbrev pub hinted_entry : ℕ × Hinted → Entry
 hinted_entry h = (h.0, h.1.step, Some h.1.proof)
 
 -- what a plain log says, as entries
-abbrev pub plain_entries : Outcome → Entries
+abbrev pub plain_entries : Parsed → Entries
 plain_entries o = record { entries = map plain_entry o.steps; refused = o.refused }
 
 -- an entry in front
@@ -49,9 +48,9 @@ follow (leads q) line later = later q
 follow misfit line later = stopped (BadLine line)
 
 -- what tokens say from a place on; `last` tells what the end is there
-abbrev pub outcome : (Place → Option LogError) → Place → List Token → Entries
-outcome last p [] = record { entries = []; refused = last p }
-outcome last p (t ∷ ts) = follow (place_move p t) t.line (λ q. outcome last q ts)
+abbrev pub parsed : (Place → Option LogError) → Place → List Token → Entries
+parsed last p [] = record { entries = []; refused = last p }
+parsed last p (t ∷ ts) = follow (place_move p t) t.line (λ q. parsed last q ts)
 
 -- no step, header or proof part is left open
 abbrev pub open_end : ℕ → {X : Type 0} → Option X → Option LogError
@@ -78,8 +77,8 @@ tokens_within limit bytes = if nat_le (length bytes) limit then tokens_of bytes 
 -- what the bytes say under a limit on their number
 abbrev pub read_entries : ℕ → List ℕ → Entries
 read_entries limit bytes =
-    if nat_le (length bytes) limit then outcome (at_end (line_after bytes)) nowhere (tokens_of bytes)
-    else outcome (past_limit (line_after (take limit bytes))) nowhere (tokens_ended (take limit bytes))
+    if nat_le (length bytes) limit then parsed (at_end (line_after bytes)) nowhere (tokens_of bytes)
+    else parsed (past_limit (line_after (take limit bytes))) nowhere (tokens_ended (take limit bytes))
 
 abbrev pub profile_of : List Token → ℕ
 profile_of [] = 1

@@ -5,7 +5,7 @@ use Rattle.q_logic.specs.declared.proof_part.ProofKind.{ProofKind}
 use Rattle.q_logic.specs.declared.proof_part.ProofKind.TheVariants.{Nothing, Implied, Pivot, Reach}
 use Rattle.q_logic.specs.declared.steps.Kind.{Kind}
 use Rattle.q_logic.specs.declared.steps.Kind.TheVariants.{Add, Delete, Drop, Fresh, Remove}
-use Rattle.q_logic.specs.Hinted.{HintGroup, ProofPart}
+use Rattle.q_logic.specs.Prelude.{HintGroup, ProofPart}
 
 -- a step that needs no proof has this part
 abbrev pub no_part : ProofPart

@@ -8,7 +8,7 @@ use Rattle.q_text.specs.Tokens as tokens
 use Rattle.q_log.specs.declared.error.LogError.{LogError}
 use Rattle.q_log.specs.declared.error.LogError.TheVariants.{BadLine, Limit, NoMemory}
 use Rattle.q_hinted.specs.Grammar.{Place, nowhere, EntryMove, hands, leads, misfit, place_move, profile_at, profile_behind}
-use Rattle.q_hinted.specs.Logs.{Entry, Entries, stopped, finished, onto, outcome, at_end, past_limit}
+use Rattle.q_hinted.specs.Logs.{Entry, Entries, stopped, finished, onto, parsed, at_end, past_limit}
 
 -- the tokens so far, how many bytes may still come, the place, and the refusal, if one was given
 pub record BothState : Type 0 where
@@ -24,8 +24,8 @@ start limit = record { tokens = begun; left = limit; place = nowhere; refused = 
 abbrev pub open_to_come : BothState → List ℕ → Entries
 open_to_come r rest =
     if nat_le (length rest) r.left
-    then outcome (at_end (line_from (line_of r.tokens) rest)) r.place (tokens.to_come r.tokens rest)
-    else outcome (past_limit (line_from (line_of r.tokens) (take r.left rest))) r.place (all_handed r.tokens (take r.left rest))
+    then parsed (at_end (line_from (line_of r.tokens) rest)) r.place (tokens.to_come r.tokens rest)
+    else parsed (past_limit (line_from (line_of r.tokens) (take r.left rest))) r.place (all_handed r.tokens (take r.left rest))
 
 abbrev pub unless_refused : Option LogError → Entries → Entries
 unless_refused None o = o
@@ -36,43 +36,43 @@ abbrev pub to_come : BothState → List ℕ → Entries
 to_come r rest = unless_refused r.refused (open_to_come r rest)
 
 -- an answer to a byte, and the state behind it
-pub record Turn : Type 0 where
+pub record Transition : Type 0 where
   pub answer : Result (Option Entry) LogError
   pub state : BothState
 
-abbrev pub refuse : BothState → LogError → Turn
+abbrev pub refuse : BothState → LogError → Transition
 refuse r e = record { answer = Err e; state = record r { refused = Some e } }
 
-abbrev pub moved : BothState → EntryMove → ℕ → Turn
+abbrev pub moved : BothState → EntryMove → ℕ → Transition
 moved r (hands n s t q) line = record { answer = Ok (Some (n, s, t)); state = record r { place = q } }
 moved r (leads q) line = record { answer = Ok None; state = record r { place = q } }
 moved r misfit line = refuse r (BadLine line)
 
-abbrev pub token_turn : BothState → Option Token → Turn
-token_turn r None = record { answer = Ok None; state = r }
-token_turn r (Some t) = moved r (place_move r.place t) t.line
+abbrev pub token_transition : BothState → Option Token → Transition
+token_transition r None = record { answer = Ok None; state = r }
+token_transition r (Some t) = moved r (place_move r.place t) t.line
 
-abbrev pub open_turn : BothState → ℕ → Turn
-open_turn r b =
+abbrev pub open_transition : BothState → ℕ → Transition
+open_transition r b =
     if r.left == 0 then refuse r (Limit (line_of r.tokens))
-    else token_turn (record r { tokens = after r.tokens b; left = r.left - 1 }) (handed r.tokens b)
+    else token_transition (record r { tokens = after r.tokens b; left = r.left - 1 }) (handed r.tokens b)
 
-abbrev pub turn_unless : Option LogError → BothState → Turn → Turn
-turn_unless None r t = t
-turn_unless (Some e) r t = record { answer = Err e; state = r }
+abbrev pub transition_unless : Option LogError → BothState → Transition → Transition
+transition_unless None r t = t
+transition_unless (Some e) r t = record { answer = Err e; state = r }
 
 -- the answer to a byte: an entry exactly where the byte ends one, a bad line exactly where it ends a token that does
 -- not fit, the limit exactly at the byte past it, and a refusal again and again
-abbrev pub turn : BothState → ℕ → Turn
-turn r b = turn_unless r.refused r (open_turn r b)
+abbrev pub transition : BothState → ℕ → Transition
+transition r b = transition_unless r.refused r (open_transition r b)
 
 -- the state behind some bytes
 abbrev pub behind : BothState → List ℕ → BothState
 behind r [] = r
-behind r (b ∷ bs) = behind (turn r b).state bs
+behind r (b ∷ bs) = behind (transition r b).state bs
 
--- an answer is that of this turn, but that memory may be wanting; what stands behind a refusal is the refusal alone
-abbrev pub Answers : Result (Option Entry) LogError → BothState → Turn → Type 0
+-- an answer is that of this transition, but that memory may be wanting; what stands behind a refusal is the refusal alone
+abbrev pub Answers : Result (Option Entry) LogError → BothState → Transition → Type 0
 Answers (Ok o) new t = (Ok o ≡ t.answer) × (new ≡ t.state)
 Answers (Err NoMemory) new t = new.refused ≡ Some NoMemory
 Answers (Err (BadLine n)) new t = (Err (BadLine n) ≡ t.answer) × (new.refused ≡ Some (BadLine n))
@@ -98,8 +98,8 @@ pub record Reads (old new : BothState) (piece : List ℕ) (count : ℕ) (token :
   pub within : count ≤ length piece
   pub unrefused : new.refused ≡ None
   pub left : new.left + count ≡ old.left
-  pub state : behind old (take count piece) ≡ (token_turn new token).state
-  pub leads : (rest : List ℕ) → Leads (token_turn new token).answer (to_come old (take count piece ++ rest)) (to_come (token_turn new token).state rest)
+  pub state : behind old (take count piece) ≡ (token_transition new token).state
+  pub leads : (rest : List ℕ) → Leads (token_transition new token).answer (to_come old (take count piece ++ rest)) (to_come (token_transition new token).state rest)
 
 -- such bytes, at least one, or a refusal
 abbrev pub Brings : Result (ℕ × Option Token) LogError → BothState → BothState → List ℕ → Type 0

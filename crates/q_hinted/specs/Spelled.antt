@@ -1,8 +1,7 @@
 -- The grammar of logs of the second profile: what is written in a file, and what it has to obey.
 use Rattle.std.specs.Prelude.{◌≡◌, ◌≤◌, ℕ, List, [], ◌∷◌, ◌++◌, length, map, pos}
 use Rattle.std.specs.List.{AllByRecursion}
-use Rattle.q_logic.specs.Hinted.{Hinted, ProofPart}
-use Rattle.q_logic.specs.StepForms.{step_of}
+use Rattle.q_logic.specs.Prelude.{Hinted, ProofPart, step_of}
 use Rattle.q_text.specs.declared.tokens.Token.{Token}
 use Rattle.q_text.specs.declared.tokens.TokenKind.{TokenKind}
 use Rattle.q_text.specs.declared.tokens.TokenKind.TheVariants.{Number, P, Qrat}

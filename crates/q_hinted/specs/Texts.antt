@@ -1,8 +1,6 @@
 -- The canonical text of logs of the second profile: the header, and each step with its proof part on a line.
 use Rattle.std.specs.Prelude.{ℕ, ◌+◌, List, [], ◌∷◌, ◌++◌, map, pos}
-use Rattle.q_logic.specs.Hinted.{Hinted, ProofPart}
-use Rattle.q_logic.specs.StepForms.{kind_of}
-use Rattle.q_logic.specs.Steps.{ProofStep}
+use Rattle.q_logic.specs.Prelude.{Hinted, ProofPart, kind_of, ProofStep}
 use Rattle.q_text.specs.Numbers.{numbers_text, line_end}
 use Rattle.q_log.specs.Texts.{head_text, IsLogged}
 use Rattle.q_hinted.specs.Parts.{IsPartOf, line_numbers}

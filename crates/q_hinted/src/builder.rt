@@ -2,8 +2,7 @@ ghost use Rattle.std.specs.Prelude.{◌≡◌, ℕ, true, false, None, Some, Ok}
 ghost use Rattle.q_text.specs.Tokens.{is_zero};
 ghost use Rattle.q_text.specs.Pieces.{literal_token};
 ghost use Rattle.q_logic.specs.ProofParts.{begun_part};
-ghost use Rattle.q_logic.specs.Steps.{ProofStep};
-ghost use Rattle.q_logic.specs.StepForms.{kind_of};
+ghost use Rattle.q_logic.specs.Prelude.{ProofStep, kind_of};
 ghost use Rattle.q_log.specs.Builders.{open_in};
 ghost use Rattle.q_log.specs.Grammar.{move};
 ghost use Rattle.q_log.specs.Reading.{quiet};

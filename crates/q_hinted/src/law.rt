@@ -1,6 +1,6 @@
 ghost use Rattle.std.specs.Prelude.{◌≡◌, ◌↔◌, ◌≤◌, ℕ, List, Some, None, length, map};
 ghost use Rattle.std.specs.List.{AllByRecursion};
-ghost use Rattle.q_logic.specs.Hinted.{Hinted};
+ghost use Rattle.q_logic.specs.Prelude.{Hinted};
 ghost use Rattle.q_log.specs.Logs.{Steps, read};
 ghost use Rattle.q_hinted.specs.Logs.{HintedSteps, Profile, hinted_entry, hinted_in, plain_entries, read_entries};
 ghost use Rattle.q_hinted.specs.Spelled.{HintedLog};

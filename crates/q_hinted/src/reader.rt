@@ -1,6 +1,6 @@
 ghost use Rattle.std.specs.Prelude.{◌≡◌, ◌≤◌, ◌<◌, ◌+◌, ◌^◌, length, take, [], ◌∷◌, List, ℕ, Option, Some, None, Ok, Err, IfOk, IfErr, IfSome, true};
 ghost use Rattle.q_hinted.specs.Logs.{read_entries};
-ghost use Rattle.q_hinted.specs.Reading.{start, to_come, turn, behind, profile, profile_after, token_turn, Answers, Leads, Passes, Brings, Ends};
+ghost use Rattle.q_hinted.specs.Reading.{start, to_come, transition, behind, profile, profile_after, token_transition, Answers, Leads, Passes, Brings, Ends};
 ghost use Rattle.q_text.specs.Tokens.{is_zero, line_of};
 ghost use Rattle.q_text.specs.Pieces.{Goes, behind_literal, literal_token};
 
@@ -58,7 +58,7 @@ impl BothReader {
     /// The step that this byte ends, if it ends one, the line of its first token, and in the second
     /// profile its proof part. In the second profile a step ends with its proof part.
     pub fn push(&mut self, byte: u8) -> Result<Option<Entry>, LogError>
-        ensures turn { Answers result self.new (turn self.old byte) }
+        ensures transition { Answers result self.new (transition self.old byte) }
         ensures next { (rest : List ℕ) → Leads result (to_come self.old (byte ∷ rest)) (to_come self.new rest) }
         ensures again { (e : LogError) → self.old.refused ≡ Some e → (result ≡ Err e) × (self.new ≡ self.old) }
         ensures stops { (e : LogError) → result ≡ Err e → self.new.refused ≡ Some e }
@@ -194,7 +194,7 @@ impl BothReader {
 
     fn try_zero(&mut self, token: Token) -> Result<Option<Entry>, LogError>
         requires zero { is_zero token.kind ≡ true }
-        ensures turn { Answers result self.new (token_turn self.old (Some token)) }
+        ensures transition { Answers result self.new (token_transition self.old (Some token)) }
         ensures left { IfOk result (λ _. self.new.left ≡ self.old.left) }
         ensures stops { (e : LogError) → result ≡ Err e → self.new.refused ≡ Some e }
     {

@@ -1,5 +1,5 @@
 ghost use Rattle.std.specs.Prelude.{◌≡◌, ◌++◌, ◌∷◌, [], pos, OnOk, OnErr};
-ghost use Rattle.q_logic.specs.StepForms.{kind_of};
+ghost use Rattle.q_logic.specs.Prelude.{kind_of};
 ghost use Rattle.q_text.specs.Numbers.{number_text};
 ghost use Rattle.q_text.specs.Texts.{Extends};
 ghost use Rattle.q_hinted.specs.Parts.{AreGroups, IsPartOf, groups_numbers, line_numbers, proof_numbers};

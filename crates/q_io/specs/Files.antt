@@ -3,7 +3,7 @@ use Rattle.std.specs.Prelude.{◌≡◌, ◌≢◌, ◌⊎◌, ◌<◌, ◌≤�
 use Rattle.std.specs.Ordering.{nat_cmp}
 use Rattle.std.specs.Cmp.Lexicographic.{slice_cmp}
 use Rattle.std.specs.FinMap as map
-use Rattle.q_logic.specs.Counts.{Rose}
+use Rattle.q_logic.specs.Prelude.{Rose}
 
 -- a finite map from names, as bytes, to bytes
 abbrev pub Disk : Type 0

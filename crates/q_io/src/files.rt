@@ -1,6 +1,6 @@
 ghost use Rattle.std.specs.Prelude.{◌≡◌, ◌≤◌, ◌++◌, List, ℕ, Option, length, is_some, IfOk, OnOk, OnErr, IfSome, IsErrOf};
 ghost use Rattle.q_io.specs.Files.{Disk, Later, OnlyReads, RoseFor, Reads, Empties, MayEmpty, Appends, AppendsPart, GrowsBy, GrowsByPart};
-ghost use Rattle.q_logic.specs.Counts.{Rose};
+ghost use Rattle.q_logic.specs.Prelude.{Rose};
 
 use crate::error::DeviceError;
 

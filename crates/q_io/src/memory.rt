@@ -2,7 +2,7 @@ ghost use Rattle.std.specs.Prelude.{◌≡◌, ◌≤◌, ◌-◌, ◌++◌, ◌
 ghost use Rattle.std.specs.FinMap as map;
 ghost use Rattle.q_io.specs.Files.{Appends, AppendsPart, Empties, MayEmpty, OthersStay, Reads, bytes_at};
 ghost use Rattle.q_io.specs.Memory.{MemDisk, SamePlan, is_of, next, part_of};
-ghost use Rattle.q_logic.specs.Counts.{Rose};
+ghost use Rattle.q_logic.specs.Prelude.{Rose};
 
 use crate::error::DeviceError;
 use crate::files::Files;

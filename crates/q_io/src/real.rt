@@ -1,5 +1,5 @@
 ghost use Rattle.std.specs.Prelude.{◌≡◌, ◌≤◌, List, ℕ, None, IfOk, length};
-ghost use Rattle.q_logic.specs.Counts.{Rose};
+ghost use Rattle.q_logic.specs.Prelude.{Rose};
 
 use crate::error::DeviceError;
 use crate::files::{Files, Sink};

@@ -1,7 +1,7 @@
 ghost use Rattle.std.specs.Prelude.{◌≡◌, ◌≤◌, ◌++◌, ◌∷◌, [], List, ℕ, Contains, IfOk, IsErrOf, OnErr, OnOk, Some};
 ghost use Rattle.q_io.specs.Files.{GrowsBy, GrowsByPart};
 ghost use Rattle.q_io.specs.Memory.{MemText, next};
-ghost use Rattle.q_logic.specs.Counts.{Rose};
+ghost use Rattle.q_logic.specs.Prelude.{Rose};
 
 use crate::error::DeviceError;
 use crate::files::Sink;

@@ -4,10 +4,9 @@ use Rattle.std.proofs.lemmas.Bool.Decides.{nat_tests}
 use Rattle.q_logic.specs.declared.formulas.Quant.{Quant}
 use Rattle.q_logic.specs.declared.formulas.Quant.TheVariants.{Exists, Forall}
 use Rattle.q_logic.specs.declared.formulas.Bound.{Bound}
-use Rattle.q_logic.specs.Formulas.{Prefix, IsIn}
-use Rattle.q_logic.specs.Prefixes.{is_bound, is_exists, same_quant, Block, blocks, push_block, SameBlocks}
+use Rattle.q_logic.specs.Prelude.{Prefix, IsIn, is_bound, is_exists, same_quant, Block, blocks, push_block, SameBlocks}
 use Rattle.q_judge.specs.Scopes.{IsNumbered}
-use Rattle.q_judge.proofs.Ranking.{same_quant-sound}
+use Rattle.q_judge.proofs.BlockRanks.{same_quant-sound}
 
 -- the blocks are numbered from n on, and their variables have these quantifiers
 abbrev pub AreBlocksNumbered : (ℕ → ℕ) → (ℕ → Bool) → ℕ → List Block → Type 0

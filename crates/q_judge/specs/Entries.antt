@@ -1,8 +1,6 @@
 -- The undo list as the code keeps it, with which circuits are taken back (Heule, Seidl and Biere, 2017).
 use Rattle.std.specs.Prelude.{◌≡◌, Bool, true, false, List, [], ◌∷◌, Option, None, Some}
-use Rattle.q_logic.specs.Literals.{Literal, negation}
-use Rattle.q_logic.specs.Formulas.{Clause, Matrix, Prefix}
-use Rattle.q_logic.specs.Undos.{UndoEntry, OutersOf, pivot, removed, freshened}
+use Rattle.q_logic.specs.Prelude.{Literal, negation, Clause, Matrix, Prefix, UndoEntry, OutersOf, pivot, removed, freshened}
 use Rattle.q_judge.specs.declared.pivots.Warrant.{Warrant}
 use Rattle.q_judge.specs.declared.pivots.Warrant.TheVariants.{Propagation}
 use Rattle.q_judge.specs.declared.pivots.Warrant.TheVariants.{Pivot as ByPivot}

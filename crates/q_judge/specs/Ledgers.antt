@@ -1,6 +1,5 @@
 -- A formula by slots: a prefix, and where each clause stands.
-use Rattle.q_logic.specs.Formulas.{Prefix, PrenexFormula}
-use Rattle.q_logic.specs.Numbered.{Slots, numbered}
+use Rattle.q_logic.specs.Prelude.{Prefix, PrenexFormula, Slots, numbered}
 use Rattle.q_prop.specs.Slots.{filled}
 
 -- a prefix, and clauses in slots

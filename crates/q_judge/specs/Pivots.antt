@@ -1,10 +1,6 @@
 -- Outer clauses as they are gathered for a pivot, over slots.
 use Rattle.std.specs.Prelude.{◌≡◌, ◌⊎◌, ℕ, List, [], ◌∷◌, ◌++◌, Contains}
-use Rattle.q_logic.specs.Formulas.{Clause, Prefix}
-use Rattle.q_logic.specs.Numbered.{Slots}
-use Rattle.q_logic.specs.Pivots.{outer}
-use Rattle.q_logic.specs.Propagation.{Implied}
-use Rattle.q_logic.specs.Sets.{IsTautology}
+use Rattle.q_logic.specs.Prelude.{Clause, Prefix, Slots, outer, Implied, IsTautology}
 use Rattle.q_prop.specs.Slots.{Holds, filled}
 use Rattle.q_judge.specs.declared.pivots.Question.{Question}
 

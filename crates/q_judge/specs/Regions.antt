@@ -1,9 +1,6 @@
 -- Regions of variables: the existential literals of a clause that are inner to one variable lie in one region.
 use Rattle.std.specs.Prelude.{◌≡◌, ℕ, Bool, true, false, cond, List, slice_index_or}
-use Rattle.q_logic.specs.Literals.{Literal}
-use Rattle.q_logic.specs.Formulas.{Clause, Matrix, Prefix, IsIn}
-use Rattle.q_logic.specs.Prefixes.{is_universal}
-use Rattle.q_logic.specs.Expanding.{inner_existential}
+use Rattle.q_logic.specs.Prelude.{Literal, Clause, Matrix, Prefix, IsIn, is_universal, inner_existential}
 
 -- the label of each variable, and which labels are regions of their own
 pub record Labelled : Type 0 where

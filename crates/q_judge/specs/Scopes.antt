@@ -1,27 +1,25 @@
--- A prefix of quantified variables (QDIMACS 1.1), and where each variable is seated: the number of its
+-- A prefix of quantified variables (QDIMACS 1.1), and where each variable is scoped: the number of its
 -- block, and its neighbours.
 use Rattle.std.specs.Prelude.{◌≡◌, ◌≢◌, ◌^◌, ℕ, zero, suc, ◌+◌, ◌<◌, ◌&&◌, Bool, true, false, cond, eqb, List, [], ◌∷◌, Option, None, Some, slice_index_or, set, length}
 use Rattle.q_logic.specs.declared.formulas.Quant.{Quant}
 use Rattle.q_logic.specs.declared.formulas.Bound.{Bound}
-use Rattle.q_logic.specs.Literals.{bool_eq}
-use Rattle.q_logic.specs.Formulas.{Prefix}
-use Rattle.q_logic.specs.Prefixes.{IsNext, Distinct, is_bound, same_quant, is_exists}
+use Rattle.q_logic.specs.Prelude.{bool_eq, Prefix, IsNext, Distinct, is_bound, same_quant, is_exists}
 use Rattle.q_pages.specs.Rows.{Row, IsMade}
-use Rattle.q_judge.specs.declared.seats.Seat.{Seat}
+use Rattle.q_judge.specs.declared.bindings.Binding.{Binding}
 
--- the seat of a variable
-abbrev pub seat_at : List (Option Seat) → ℕ → Option Seat
-seat_at seats v = slice_index_or seats v None
+-- the binding of a variable
+abbrev pub binding_at : List (Option Binding) → ℕ → Option Binding
+binding_at bindings v = slice_index_or bindings v None
 
-abbrev pub rank_in : Option Seat → ℕ
+abbrev pub rank_in : Option Binding → ℕ
 rank_in None = 0
 rank_in (Some s) = s.rank
 
 -- the number of a variable's block
-abbrev pub rank_at : List (Option Seat) → ℕ → ℕ
-rank_at seats v = rank_in (seat_at seats v)
+abbrev pub rank_at : List (Option Binding) → ℕ → ℕ
+rank_at bindings v = rank_in (binding_at bindings v)
 
-abbrev pub after_in : Option Seat → Option ℕ
+abbrev pub after_in : Option Binding → Option ℕ
 after_in None = None
 after_in (Some s) = s.after
 
@@ -39,18 +37,18 @@ abbrev pub var_of : Option Bound → Option ℕ
 var_of None = None
 var_of (Some b) = Some b.var
 
--- a variable's seat tells its quantifier, and what stands beside it
-pub record IsSeatOf (f : ℕ → Option Seat) (o : Option Bound) (b : Bound) (n : Option ℕ) : Type 0 where
-  pub seat : Seat
-  pub there : f b.var ≡ Some seat
-  pub quant : seat.quant ≡ b.quant
-  pub before : seat.before ≡ var_of o
-  pub after : seat.after ≡ n
+-- a variable's binding tells its quantifier, and what stands beside it
+pub record IsBindingOf (f : ℕ → Option Binding) (o : Option Bound) (b : Bound) (n : Option ℕ) : Type 0 where
+  pub binding : Binding
+  pub there : f b.var ≡ Some binding
+  pub quant : binding.quant ≡ b.quant
+  pub before : binding.before ≡ var_of o
+  pub after : binding.after ≡ n
 
 -- the variables of a prefix are linked in order, between two others
-abbrev pub AreLinked : (ℕ → Option Seat) → Option Bound → Prefix → Option ℕ → Type 0
+abbrev pub AreLinked : (ℕ → Option Binding) → Option Bound → Prefix → Option ℕ → Type 0
 AreLinked f o [] n = Unit {0}
-AreLinked f o (b ∷ P) n = IsSeatOf f o b (first_or P n) × AreLinked f (Some b) P n
+AreLinked f o (b ∷ P) n = IsBindingOf f o b (first_or P n) × AreLinked f (Some b) P n
 
 abbrev pub Follows : (ℕ → ℕ) → Option Bound → Bound → Type 0
 Follows rank None c = Unit {0}
@@ -66,32 +64,32 @@ abbrev pub in_block : (ℕ → ℕ) → ℕ → Prefix → ℕ
 in_block rank r [] = 0
 in_block rank r (b ∷ P) = cond (eqb (rank b.var) r) (in_block rank r P + 1) (in_block rank r P)
 
--- each variable of the prefix is seated, and no other one
-pub record AreSeated (P : Prefix) (first : Option ℕ) (seats : List (Option Seat)) (counts : List ℕ) : Type 0 where
+-- each variable of the prefix is scoped, and no other one
+pub record AreScoped (P : Prefix) (first : Option ℕ) (bindings : List (Option Binding)) (counts : List ℕ) : Type 0 where
   pub distinct : Distinct P
   pub first_is : first ≡ first_or P None
-  pub linked : AreLinked (seat_at seats) None P None
-  pub only : (v : ℕ) (s : Seat) → seat_at seats v ≡ Some s → is_bound P v ≡ true
-  pub ranked : AreRanked (rank_at seats) None P
-  pub counted : (r : ℕ) → slice_index_or counts r 0 ≡ in_block (rank_at seats) r P
+  pub linked : AreLinked (binding_at bindings) None P None
+  pub only : (v : ℕ) (s : Binding) → binding_at bindings v ≡ Some s → is_bound P v ≡ true
+  pub ranked : AreRanked (rank_at bindings) None P
+  pub counted : (r : ℕ) → slice_index_or counts r 0 ≡ in_block (rank_at bindings) r P
 
--- a variable that is seated, before others
-abbrev pub seated_before : ℕ → Option Seat → Prefix → Prefix
-seated_before v None P = []
-seated_before v (Some s) P = record { quant = s.quant; var = v } ∷ P
+-- a variable that is scoped, before others
+abbrev pub scoped_before : ℕ → Option Binding → Prefix → Prefix
+scoped_before v None P = []
+scoped_before v (Some s) P = record { quant = s.quant; var = v } ∷ P
 
 -- the variables from one on, each with its quantifier, but no more than a number of them
-abbrev pub bounds_from : List (Option Seat) → Option ℕ → ℕ → Prefix
-bounds_from seats None n = []
-bounds_from seats (Some v) zero = []
-bounds_from seats (Some v) (suc n) = seated_before v (seat_at seats v) (bounds_from seats (after_in (seat_at seats v)) n)
+abbrev pub bounds_from : List (Option Binding) → Option ℕ → ℕ → Prefix
+bounds_from bindings None n = []
+bounds_from bindings (Some v) zero = []
+bounds_from bindings (Some v) (suc n) = scoped_before v (binding_at bindings v) (bounds_from bindings (after_in (binding_at bindings v)) n)
 
 -- a row of this length has a place for each variable
 abbrev pub HaveRoom : Prefix → ℕ → Type 0
 HaveRoom P n = (v : ℕ) → is_bound P v ≡ true → v < n
 
--- the row has memory for the seat of each variable
-abbrev pub HavePages : Prefix → Row (Option Seat) → Type 0
+-- the row has memory for the binding of each variable
+abbrev pub HavePages : Prefix → Row (Option Binding) → Type 0
 HavePages P r = (v : ℕ) → is_bound P v ≡ true → IsMade r v
 
 -- the number of the next variable's block, where a variable with a number stands before
@@ -104,37 +102,37 @@ abbrev pub IsNumbered : (ℕ → ℕ) → Option Bound → ℕ → Prefix → Ty
 IsNumbered rank o n [] = Unit {0}
 IsNumbered rank o n (b ∷ P) = (rank b.var ≡ next_rank o n b.quant) × IsNumbered rank (Some b) (next_rank o n b.quant) P
 
--- the seats of a prefix whose blocks are numbered from 0 on
-pub record AreNumbered (P : Prefix) (seats : List (Option Seat)) (counts : List ℕ) : Type 0 where
-  pub seated : AreSeated P (first_or P None) seats counts
-  pub numbered : IsNumbered (rank_at seats) None 0 P
+-- the bindings of a prefix whose blocks are numbered from 0 on
+pub record AreNumbered (P : Prefix) (bindings : List (Option Binding)) (counts : List ℕ) : Type 0 where
+  pub scoped : AreScoped P (first_or P None) bindings counts
+  pub numbered : IsNumbered (rank_at bindings) None 0 P
 
--- no seat twice, or the same block's number and quantifier
-abbrev pub is_same_seat : Option Seat → Option Seat → Bool
-is_same_seat None None = true
-is_same_seat None (Some t) = false
-is_same_seat (Some s) None = false
-is_same_seat (Some s) (Some t) = eqb s.rank t.rank && bool_eq (is_exists s.quant) (is_exists t.quant)
+-- no binding twice, or the same block's number and quantifier
+abbrev pub is_same_binding : Option Binding → Option Binding → Bool
+is_same_binding None None = true
+is_same_binding None (Some t) = false
+is_same_binding (Some s) None = false
+is_same_binding (Some s) (Some t) = eqb s.rank t.rank && bool_eq (is_exists s.quant) (is_exists t.quant)
 
 -- whether it is this variable
 abbrev pub is_there : Option ℕ → ℕ → Bool
 is_there None v = false
 is_there (Some w) v = eqb w v
 
-abbrev pub with_after : Option ℕ → Option Seat → Option Seat
+abbrev pub with_after : Option ℕ → Option Binding → Option Binding
 with_after n None = None
 with_after n (Some s) = Some (record { rank = s.rank; quant = s.quant; before = s.before; after = n })
 
-abbrev pub with_before : Option ℕ → Option Seat → Option Seat
+abbrev pub with_before : Option ℕ → Option Binding → Option Binding
 with_before o None = None
 with_before o (Some s) = Some (record { rank = s.rank; quant = s.quant; before = o; after = s.after })
 
-abbrev pub with_rank : ℕ → Option Seat → Option Seat
+abbrev pub with_rank : ℕ → Option Binding → Option Binding
 with_rank r None = None
 with_rank r (Some s) = Some (record { rank = r; quant = s.quant; before = s.before; after = s.after })
 
--- the seats of one number get another one
-abbrev pub renumbered : ℕ → ℕ → Option Seat → Option Seat
+-- the bindings of one number get another one
+abbrev pub renumbered : ℕ → ℕ → Option Binding → Option Binding
 renumbered from to o = cond (eqb (rank_in o) from) (with_rank to o) o
 
 abbrev pub is_among : List ℕ → ℕ → Bool
@@ -142,13 +140,13 @@ is_among [] v = false
 is_among (x ∷ S) v = cond (eqb x v) true (is_among S v)
 
 -- the neighbour in one direction
-abbrev pub beside : Bool → Seat → Option ℕ
+abbrev pub beside : Bool → Binding → Option ℕ
 beside forward s = cond forward s.after s.before
 
 -- the variables stand side by side, from one on in one direction
-abbrev pub IsRun : (ℕ → Option Seat) → Bool → Option ℕ → List ℕ → Type 0
+abbrev pub IsRun : (ℕ → Option Binding) → Bool → Option ℕ → List ℕ → Type 0
 IsRun f forward o [] = Unit {0}
-IsRun f forward o (x ∷ S) = (o ≡ Some x) × (is_among S x ≡ false) × (s : Seat) × (f x ≡ Some s) × IsRun f forward (beside forward s) S
+IsRun f forward o (x ∷ S) = (o ≡ Some x) × (is_among S x ≡ false) × (s : Binding) × (f x ≡ Some s) × IsRun f forward (beside forward s) S
 
 -- the first variable, where what stands behind one changes, or in front of all
 abbrev pub first_after : Option ℕ → Option ℕ → Option ℕ → Option ℕ
@@ -156,18 +154,18 @@ first_after None n first = n
 first_after (Some v) n first = first
 
 -- a block that begins at a variable can take another number
-pub record IsMovable (seats : List (Option Seat)) (counts : List ℕ) (start : Option ℕ) (from to : ℕ) (forward : Bool) : Type 0 where
+pub record IsMovable (bindings : List (Option Binding)) (counts : List ℕ) (start : Option ℕ) (from to : ℕ) (forward : Bool) : Type 0 where
   pub vars : List ℕ
-  pub run : IsRun (seat_at seats) forward start vars
+  pub run : IsRun (binding_at bindings) forward start vars
   pub size : length vars ≡ slice_index_or counts from 0
-  pub all_there : (v : ℕ) (s : Seat) → seat_at seats v ≡ Some s → is_among vars v ≡ eqb s.rank from
+  pub all_there : (v : ℕ) (s : Binding) → binding_at bindings v ≡ Some s → is_among vars v ≡ eqb s.rank from
   pub from_in : from < length counts
   pub to_in : to < length counts
   pub apart : from ≢ to
   pub few : slice_index_or counts from 0 + slice_index_or counts to 0 < 2 ^ 63
 
 -- the block took the other number
-pub record IsMoved (seats : List (Option Seat)) (counts : List ℕ) (from to : ℕ) (seats' : List (Option Seat)) (counts' : List ℕ) : Type 0 where
-  pub seats_are : (v : ℕ) → seat_at seats' v ≡ renumbered from to (seat_at seats v)
+pub record IsMoved (bindings : List (Option Binding)) (counts : List ℕ) (from to : ℕ) (bindings' : List (Option Binding)) (counts' : List ℕ) : Type 0 where
+  pub bindings_are : (v : ℕ) → binding_at bindings' v ≡ renumbered from to (binding_at bindings v)
   pub counts_are : counts' ≡ set (set counts from 0) to (slice_index_or counts to 0 + slice_index_or counts from 0)
-  pub long : length seats' ≡ length seats
+  pub long : length bindings' ≡ length bindings

@@ -1,11 +1,7 @@
 -- What a step that is tried on a formula answers, and what the end of a check does.
 use Rattle.std.specs.Prelude.{◌≡◌, ◌⊎◌, ℕ, Bool, true, false, Option, None, Result, Ok, Err, length}
 use Rattle.q_logic.specs.declared.limits.Limits.{Limits}
-use Rattle.q_logic.specs.Formulas.{Clause, PrenexFormula}
-use Rattle.q_logic.specs.Prefixes.{IsFormula, blocks, SameBlocks}
-use Rattle.q_logic.specs.Steps.{ProofStep, Valid, Cause, after, literals_in}
-use Rattle.q_logic.specs.Runs.{copies, AreAlike}
-use Rattle.q_logic.specs.Undos.{Entries}
+use Rattle.q_logic.specs.Prelude.{Clause, PrenexFormula, IsFormula, blocks, SameBlocks, ProofStep, Valid, Cause, after, literals_in, copies, AreAlike, Entries}
 use Rattle.q_judge.specs.declared.undo.Undo.{Undo}
 use Rattle.q_judge.specs.declared.error.CheckError.{CheckError}
 use Rattle.q_judge.specs.declared.error.CheckError.TheVariants.{Refused, NoMemory}

@@ -1,11 +1,8 @@
 -- A walk over the clauses that are reached from one, literal by literal, for the reduction of a
 -- universal literal (after Heule, Seidl and Biere, 2014 and 2017).
 use Rattle.std.specs.Prelude.{◌≡◌, ◌⊎◌, ℕ, Bool, true, false, not, ◌&&◌, List, ◌++◌, Contains}
-use Rattle.q_logic.specs.Literals.{Literal, negation}
-use Rattle.q_logic.specs.Formulas.{Clause, Matrix, Prefix, IsIn}
-use Rattle.q_logic.specs.Prefixes.{is_existential, is_universal, outer_or_same}
+use Rattle.q_logic.specs.Prelude.{Literal, negation, Clause, Matrix, Prefix, IsIn, is_existential, is_universal, outer_or_same, Slots}
 use Rattle.q_prop.specs.Slots.{Holds}
-use Rattle.q_logic.specs.Numbered.{Slots}
 
 -- the literal is existential, and inner to u
 abbrev pub is_inner : Prefix → Literal → Literal → Bool

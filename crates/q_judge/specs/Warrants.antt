@@ -1,12 +1,7 @@
 -- Why a clause may come or go: the QRAT rules of Heule, Seidl and Biere (2014), over slots.
 use Rattle.std.specs.Prelude.{◌≡◌, ◌⊎◌, ℕ, List, Option, ◌++◌, Contains, Result, Ok, Err}
-use Rattle.q_logic.specs.Literals.{Literal}
-use Rattle.q_logic.specs.Formulas.{Clause, Matrix, Prefix, IsIn}
-use Rattle.q_logic.specs.Propagation.{Implied}
-use Rattle.q_logic.specs.Pivots.{outer}
-use Rattle.q_logic.specs.Steps.{Within, FirstPivot, IsWarranted}
+use Rattle.q_logic.specs.Prelude.{Literal, Clause, Matrix, Prefix, IsIn, Implied, outer, Within, FirstPivot, IsWarranted, Slots}
 use Rattle.q_prop.specs.Slots.{Holds}
-use Rattle.q_logic.specs.Numbered.{Slots}
 use Rattle.q_prop.specs.Lists.{IsDistinct}
 use Rattle.q_judge.specs.declared.pivots.Warrant.{Warrant}
 use Rattle.q_judge.specs.declared.pivots.Warrant.TheVariants.{Propagation, Pivot}

@@ -1,12 +1,6 @@
 //! Blocked clauses: each resolvent on a literal is a tautology. That takes no propagation.
 ghost use Rattle.std.specs.Prelude.{◌≡◌, ◌++◌, true, Contains, IsTrue};
-ghost use Rattle.q_logic.specs.Formulas.{Clause, IsIn};
-ghost use Rattle.q_logic.specs.Literals.{negation};
-ghost use Rattle.q_logic.specs.Prefixes.{Closed, is_bound};
-ghost use Rattle.q_logic.specs.Pivots.{ExistsPivot, keeps, outer};
-ghost use Rattle.q_logic.specs.Sets.{IsTautology};
-ghost use Rattle.q_logic.specs.StepForms.{IsFirst};
-ghost use Rattle.q_logic.specs.Steps.{FirstPivot, Within};
+ghost use Rattle.q_logic.specs.Prelude.{Clause, IsIn, negation, Closed, is_bound, ExistsPivot, keeps, outer, IsTautology, IsFirst, FirstPivot, Within};
 ghost use Rattle.q_prop.specs.Slots.{Holds, filled, without};
 ghost use Rattle.q_judge.specs.Warrants.{Resolves};
 

@@ -1,12 +1,7 @@
 //! What is asked of a formula, its prefix in a scope and its clauses in slots, before a step is taken and at the end.
 //! Each test is exact, and none changes the formula but the one at the end, which takes the clauses out.
 ghost use Rattle.std.specs.Prelude.{◌≡◌, ◌↔◌, ◌≤◌, ◌<◌, ◌*◌, ◌+◌, ◌^◌, length, drop, OnOk, IfOk, IfErr, IsTrue};
-ghost use Rattle.q_logic.specs.Clauses.{clause_of};
-ghost use Rattle.q_logic.specs.Formulas.{Clause};
-ghost use Rattle.q_logic.specs.Limits.{AreModerate};
-ghost use Rattle.q_logic.specs.Runs.{SameFormula, copies};
-ghost use Rattle.q_logic.specs.StepForms.{first_of};
-ghost use Rattle.q_logic.specs.Steps.{Within, IsAbsent, IsFresh};
+ghost use Rattle.q_logic.specs.Prelude.{clause_of, Clause, AreModerate, SameFormula, copies, first_of, Within, IsAbsent, IsFresh};
 ghost use Rattle.q_prop.specs.Slots.{filled};
 ghost use Rattle.q_judge.specs.Tried.{IsEndRefusal};
 ghost use Rattle.q_judge.specs.Warrants.{IsSlotOf};

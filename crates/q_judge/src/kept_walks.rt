@@ -1,10 +1,6 @@
 //! Walks that are kept: where one has been, the next one for its literal need not look.
 ghost use Rattle.std.specs.Prelude.{◌≡◌, ◌∷◌, ◌<◌, ℕ, [], true, length, Some, IfOk, Contains, IsTrue};
-ghost use Rattle.q_logic.specs.Literals.{Literal, negation};
-ghost use Rattle.q_logic.specs.Formulas.{Matrix, Prefix, IsIn};
-ghost use Rattle.q_logic.specs.Prefixes.{Closed, is_bound, is_universal};
-ghost use Rattle.q_logic.specs.Reach.{Reducible};
-ghost use Rattle.q_logic.specs.Steps.{Within};
+ghost use Rattle.q_logic.specs.Prelude.{Literal, negation, Matrix, Prefix, IsIn, Closed, is_bound, is_universal, Reducible, Within};
 ghost use Rattle.q_prop.specs.Slots.{filled};
 ghost use Rattle.q_judge.specs.Walks.{is_inner, HasInner, IsWorkedOff, IsBorne, IsShut, IsEnclosed, AreEnclosed};
 

@@ -1,8 +1,6 @@
 //! Labels for the variables that clauses connect.
 ghost use Rattle.std.specs.Prelude.{◌≡◌, ◌<◌, ℕ, true, cond, eqb, length, slice_index_or, OnOk};
-ghost use Rattle.q_logic.specs.Literals.{Literal};
-ghost use Rattle.q_logic.specs.Formulas.{IsIn};
-ghost use Rattle.q_logic.specs.Prefixes.{is_bound};
+ghost use Rattle.q_logic.specs.Prelude.{Literal, IsIn, is_bound};
 ghost use Rattle.q_judge.specs.Regions.{label_of, region_of, IsCoarser};
 
 use crate::scope::Scope;
@@ -75,12 +73,12 @@ impl Labels {
     {
         for k in clause {
             let region = self.region_of(k.var());
-            self.melt(region);
+            self.unite(region);
         }
     }
 
     // Lets a region be one with the region 0.
-    fn melt(&mut self, region: u32)
+    fn unite(&mut self, region: u32)
         ensures { (v : ℕ) → region_of self.new v ≡ cond (eqb (region_of self.old v) region) 0 (region_of self.old v) }
     {
         if let Some(live) = self.live.get_mut(region as usize) {

@@ -1,20 +1,7 @@
 //! A formula under change: its prefix in a scope and its clauses in slots, with all that the tests of steps need.
 //! Whether a step may be taken is asked before; a change asks only for what keeps a formula one.
 ghost use Rattle.std.specs.Prelude.{◌≡◌, ◌↔◌, ◌<◌, ◌+◌, ◌^◌, ◌∷◌, ◌++◌, [], true, false, None, Some, Err, length, slice_set, IfOk, IfErr, OnOk, OnErr, IsTrue, MatchBool};
-ghost use Rattle.q_logic.specs.Formulas.{Clause, Matrix, IsIn};
-ghost use Rattle.q_logic.specs.Hints.{Chained};
-ghost use Rattle.q_logic.specs.Limits.{AreModerate};
-ghost use Rattle.q_logic.specs.Literals.{Literal, IsBelow, negation};
-ghost use Rattle.q_logic.specs.Numbered.{Slots};
-ghost use Rattle.q_logic.specs.Parts.{ArePairs};
-ghost use Rattle.q_logic.specs.Pivots.{outer, without};
-ghost use Rattle.q_logic.specs.Prefixes.{is_bound, is_existential, is_universal};
-ghost use Rattle.q_logic.specs.Propagation.{Implied};
-ghost use Rattle.q_logic.specs.Reach.{Reducible};
-ghost use Rattle.q_logic.specs.Runs.{SameFormula};
-ghost use Rattle.q_logic.specs.StepForms.{IsFirst};
-ghost use Rattle.q_logic.specs.Steps.{FirstPivot, IsWarranted, Within, KeepsLimits, IsAbsent, IsDroppable, insert_after, removed_from, literals_in};
-ghost use Rattle.q_logic.specs.Undos.{OutersOf};
+ghost use Rattle.q_logic.specs.Prelude.{Clause, Matrix, IsIn, Chained, AreModerate, Literal, IsBelow, negation, Slots, ArePairs, outer, without, is_bound, is_existential, is_universal, Implied, Reducible, SameFormula, IsFirst, FirstPivot, IsWarranted, Within, KeepsLimits, IsAbsent, IsDroppable, insert_after, removed_from, literals_in, OutersOf};
 ghost use Rattle.q_prop.specs.Slots.{filled, Holds, IsPut};
 ghost use Rattle.q_prop.specs.Slots.{without as without_slot};
 ghost use Rattle.q_judge.specs.Entries.{IsPivotEntry};

@@ -2,6 +2,8 @@
 //! test answers exactly where the rule of the log's format holds; who takes the steps stands above.
 #![tactic(auto)]
 
+mod binding_row;
+mod bindings;
 mod blocking;
 mod checks;
 mod error;
@@ -14,8 +16,6 @@ mod reach;
 mod recent;
 mod regions;
 mod scope;
-mod seat_row;
-mod seats;
 mod undo;
 
 pub use checks::{

@@ -1,11 +1,6 @@
 //! Whether a clause may come or go: implied, or by a pivot.
 ghost use Rattle.std.specs.Prelude.{◌≡◌, ◌↔◌, ◌++◌, [], true, Err, OnOk, IfOk, IfErr, IsTrue, MatchOption};
-ghost use Rattle.q_logic.specs.Formulas.{Clause};
-ghost use Rattle.q_logic.specs.Prefixes.{Closed, is_bound};
-ghost use Rattle.q_logic.specs.Propagation.{Implied};
-ghost use Rattle.q_logic.specs.Pivots.{keeps, outer};
-ghost use Rattle.q_logic.specs.Steps.{IsWarranted, Within};
-ghost use Rattle.q_logic.specs.StepForms.{IsFirst};
+ghost use Rattle.q_logic.specs.Prelude.{Clause, Closed, is_bound, Implied, keeps, outer, IsWarranted, Within, IsFirst};
 ghost use Rattle.q_prop.specs.Slots.{Holds, filled, without};
 ghost use Rattle.q_judge.specs.Pivots.{IsGathered, AreGathered, ResolveAt};
 ghost use Rattle.q_judge.specs.Warrants.{AreHolders, IsAnswered, Resolves};

@@ -1,10 +1,6 @@
 //! Whether a clause may lose a universal literal.
 ghost use Rattle.std.specs.Prelude.{◌≡◌, ◌↔◌, ◌<◌, ◌∷◌, ℕ, true, length, None, Some, OnOk, IfOk, IsTrue, slice_get};
-ghost use Rattle.q_logic.specs.Literals.{Literal, negation};
-ghost use Rattle.q_logic.specs.Formulas.{Clause, IsIn};
-ghost use Rattle.q_logic.specs.Prefixes.{Closed, is_bound, is_universal};
-ghost use Rattle.q_logic.specs.Reach.{Reducible};
-ghost use Rattle.q_logic.specs.Steps.{Within};
+ghost use Rattle.q_logic.specs.Prelude.{Literal, negation, Clause, IsIn, Closed, is_bound, is_universal, Reducible, Within};
 ghost use Rattle.q_prop.specs.Slots.{filled};
 ghost use Rattle.q_prop.specs.Slots.{without as without_slot};
 ghost use Rattle.q_judge.specs.Regions.{AreRegionsOf};

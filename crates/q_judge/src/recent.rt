@@ -1,9 +1,6 @@
 //! Regions for several variables.
 ghost use Rattle.std.specs.Prelude.{◌≡◌, ◌∷◌, [], true, false, IsTrue};
-ghost use Rattle.q_logic.specs.Literals.{negation};
-ghost use Rattle.q_logic.specs.Formulas.{Matrix, Prefix, IsIn};
-ghost use Rattle.q_logic.specs.Prefixes.{Closed, is_bound, is_universal};
-ghost use Rattle.q_logic.specs.Reach.{Reducible};
+ghost use Rattle.q_logic.specs.Prelude.{negation, Matrix, Prefix, IsIn, Closed, is_bound, is_universal, Reducible};
 ghost use Rattle.q_prop.specs.Slots.{filled};
 ghost use Rattle.q_judge.specs.Regions.{AreRegionsOf};
 
@@ -24,7 +21,7 @@ pub struct RecentRegions {
     alloc: Global,
     recent: Vec<Regions>,
     // how many clauses were looked at by walks that found nothing, since regions were last made
-    debt: usize,
+    looked: usize,
 }
 
 impl Model for RecentRegions {
@@ -43,7 +40,7 @@ impl RecentRegions {
         RecentRegions {
             alloc,
             recent: Vec::new(alloc),
-            debt: 0,
+            looked: 0,
         }
     }
 
@@ -105,9 +102,9 @@ impl RecentRegions {
         requires regions { AreRegionsOf scope.now (filled store.now) self.old }
         ensures { AreRegionsOf scope.now (filled store.now) self.new }
     {
-        self.debt = self.debt.saturating_add(looks(store, &buffers.trail));
-        if self.debt > store.slots() {
-            self.debt = 0;
+        self.looked = self.looked.saturating_add(looks(store, &buffers.trail));
+        if self.looked > store.slots() {
+            self.looked = 0;
             self.make(store, scope, &mut buffers.slots, var)?;
         }
         Ok(())

@@ -1,10 +1,6 @@
 //! Regions of variables, which tell that a literal may be dropped without a walk.
 ghost use Rattle.std.specs.Prelude.{◌≡◌, ◌∷◌, ℕ, true, IsTrue};
-ghost use Rattle.q_logic.specs.Literals.{Literal, negation};
-ghost use Rattle.q_logic.specs.Formulas.{Clause, Matrix, Prefix, IsIn};
-ghost use Rattle.q_logic.specs.Prefixes.{is_bound, is_universal, outer_or_same};
-ghost use Rattle.q_logic.specs.Expanding.{inner_existential};
-ghost use Rattle.q_logic.specs.Reach.{Reducible};
+ghost use Rattle.q_logic.specs.Prelude.{Literal, negation, Clause, Matrix, Prefix, IsIn, is_bound, is_universal, outer_or_same, inner_existential, Reducible};
 ghost use Rattle.q_prop.specs.Slots.{filled};
 ghost use Rattle.q_judge.specs.Regions.{region_of, IsRegional, AreRegions};
 

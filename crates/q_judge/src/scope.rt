@@ -1,13 +1,13 @@
 //! The checker's prefix, with a look-up of each variable's block.
 ghost use Rattle.std.specs.Prelude.{◌≡◌, ◌↔◌, IsTrue, ◌≤◌, ◌<◌, ◌+◌, ◌-◌, ◌^◌, ◌++◌, ℕ, suc, true, false, length, None, Some, OnOk, OnErr, IfOk, slice_get, slice_set, slice_index_or};
-ghost use Rattle.q_logic.specs.Prefixes.{Distinct, is_bound, is_existential, is_universal, outer_or_same, blocks, SameBlocks};
-ghost use Rattle.q_logic.specs.Expanding.{inner_existential};
-ghost use Rattle.q_logic.specs.Steps.{insert_after, removed_from};
+ghost use Rattle.q_logic.specs.Prelude.{Distinct, is_bound, is_existential, is_universal, outer_or_same, blocks, SameBlocks, inner_existential, insert_after, removed_from};
 ghost use Rattle.q_judge.specs.Scopes.{first_or, bounds_from};
 
+use crate::binding_row::BindingRow;
+use crate::bindings::{
+    Binding, Bindings, are_same_bindings, binding_of, bindings_of, is_exists, rank_of,
+};
 use crate::links::{join_blocks, link_after, link_before};
-use crate::seat_row::SeatRow;
-use crate::seats::{Seat, Seats, are_same_seats, is_exists, rank_of, seat_of, seats_of};
 use q_logic::{Bound, NoMemory, Quant};
 use std::alloc::Global;
 use std::marker::Model;
@@ -16,35 +16,35 @@ use std::marker::Model;
 /// goes, the smaller one of its neighbours takes the other one's number.
 #[derive(Drop)]
 pub struct Scope {
-    seats: SeatRow,
+    bindings: BindingRow,
     counts: Vec<usize>,
     first: Option<u32>,
 }
 
 impl Model for Scope {
     ghost use Rattle.std.specs.Prelude.{length};
-    ghost use Rattle.q_logic.specs.Formulas.{Prefix};
-    ghost use Rattle.q_judge.specs.Scopes.{bounds_from, AreSeated};
+    ghost use Rattle.q_logic.specs.Prelude.{Prefix};
+    ghost use Rattle.q_judge.specs.Scopes.{bounds_from, AreScoped};
 
     ghost Value = { Prefix };
 
-    ghost view = { λ s. bounds_from s.seats.items s.first (length s.seats.items) };
+    ghost view = { λ s. bounds_from s.bindings.items s.first (length s.bindings.items) };
 
-    ghost invariant = { λ s. AreSeated (bounds_from s.seats.items s.first (length s.seats.items)) s.first s.seats.items s.counts.items };
+    ghost invariant = { λ s. AreScoped (bounds_from s.bindings.items s.first (length s.bindings.items)) s.first s.bindings.items s.counts.items };
 }
 
 impl Scope {
     pub fn binds(&self, var: u32) -> bool
         ensures { result ≡ is_bound self.now var }
     {
-        seat_of(&self.seats, var).is_some()
+        binding_of(&self.bindings, var).is_some()
     }
 
     pub fn is_existential(&self, var: u32) -> bool
         ensures { result ≡ is_existential self.now var }
     {
-        match seat_of(&self.seats, var) {
-            Some(seat) => is_exists(seat.quant),
+        match binding_of(&self.bindings, var) {
+            Some(binding) => is_exists(binding.quant),
             None => false,
         }
     }
@@ -52,8 +52,8 @@ impl Scope {
     pub fn is_universal(&self, var: u32) -> bool
         ensures { result ≡ is_universal self.now var }
     {
-        match seat_of(&self.seats, var) {
-            Some(seat) => !is_exists(seat.quant),
+        match binding_of(&self.bindings, var) {
+            Some(binding) => !is_exists(binding.quant),
             None => false,
         }
     }
@@ -64,7 +64,7 @@ impl Scope {
         requires second { is_bound self.now v ≡ true }
         ensures { result ≡ outer_or_same self.now a v }
     {
-        rank_of(&self.seats, a) <= rank_of(&self.seats, v)
+        rank_of(&self.bindings, a) <= rank_of(&self.bindings, v)
     }
 
     /// Whether a variable is existential, and inner to u.
@@ -77,8 +77,8 @@ impl Scope {
 
     /// The variables that stand before and after a variable. Nothing is promised of them: who asks tests them.
     pub(crate) fn beside(&self, var: u32) -> (Option<u32>, Option<u32>) {
-        match seat_of(&self.seats, var) {
-            Some(seat) => (seat.before, seat.after),
+        match binding_of(&self.bindings, var) {
+            Some(binding) => (binding.before, binding.after),
             None => (None, None),
         }
     }
@@ -88,10 +88,10 @@ impl Scope {
         requires { Distinct prefix.now }
         ensures { IfOk result (λ s. s ≡ prefix.now) }
     {
-        let Seats { seats, counts } = seats_of(alloc, prefix)?;
+        let Bindings { bindings, counts } = bindings_of(alloc, prefix)?;
         let first = first_of(prefix);
         Ok(Scope {
-            seats,
+            bindings,
             counts,
             first,
         })
@@ -104,19 +104,19 @@ impl Scope {
         ensures ok { OnOk result (self.new ≡ insert_after w v self.old) }
         ensures err { OnErr result (self.new ≡ self.old) }
     {
-        self.seats.make_room(v)?;
-        let _ = self.seats.len();
-        if let Some(seat) = seat_of(&self.seats, w) {
-            link_after(&mut self.seats, &mut self.first, Some(w), Some(v));
-            link_before(&mut self.seats, seat.after, Some(v));
-            let fresh = Seat {
-                rank: seat.rank,
+        self.bindings.make_room(v)?;
+        let _ = self.bindings.len();
+        if let Some(binding) = binding_of(&self.bindings, w) {
+            link_after(&mut self.bindings, &mut self.first, Some(w), Some(v));
+            link_before(&mut self.bindings, binding.after, Some(v));
+            let fresh = Binding {
+                rank: binding.rank,
                 quant: Quant::Exists,
                 before: Some(w),
-                after: seat.after,
+                after: binding.after,
             };
-            self.seats.put(v, Some(fresh));
-            self.counts[seat.rank] += 1;
+            self.bindings.put(v, Some(fresh));
+            self.counts[binding.rank] += 1;
         }
         Ok(())
     }
@@ -126,14 +126,24 @@ impl Scope {
         requires { is_bound self.old var ≡ true }
         ensures { self.new ≡ removed_from var self.old }
     {
-        let _ = self.seats.len();
-        if let Some(seat) = seat_of(&self.seats, var) {
-            link_after(&mut self.seats, &mut self.first, seat.before, seat.after);
-            link_before(&mut self.seats, seat.after, seat.before);
-            self.seats.replace(var, None);
-            let left = count_down(&mut self.counts, seat.rank);
+        let _ = self.bindings.len();
+        if let Some(binding) = binding_of(&self.bindings, var) {
+            link_after(
+                &mut self.bindings,
+                &mut self.first,
+                binding.before,
+                binding.after,
+            );
+            link_before(&mut self.bindings, binding.after, binding.before);
+            self.bindings.replace(var, None);
+            let left = count_down(&mut self.counts, binding.rank);
             if left == 0 {
-                join_blocks(&mut self.seats, &mut self.counts, seat.before, seat.after);
+                join_blocks(
+                    &mut self.bindings,
+                    &mut self.counts,
+                    binding.before,
+                    binding.after,
+                );
             }
         }
     }
@@ -147,9 +157,9 @@ impl Scope {
         if are_equal(&own, prefix) {
             return Ok(true);
         }
-        let mine = seats_of(alloc, &own)?;
-        let others = seats_of(alloc, prefix)?;
-        Ok(are_same_seats(&mine.seats, &others.seats))
+        let mine = bindings_of(alloc, &own)?;
+        let others = bindings_of(alloc, prefix)?;
+        Ok(are_same_bindings(&mine.bindings, &others.bindings))
     }
 
     // The variables in order.
@@ -159,8 +169,8 @@ impl Scope {
     {
         let mut bounds = Vec::new(alloc);
         let mut at = self.first;
-        for _ in 0..self.seats.len() {
-            at = push_bound(&mut bounds, &self.seats, at)?;
+        for _ in 0..self.bindings.len() {
+            at = push_bound(&mut bounds, &self.bindings, at)?;
         }
         Ok(bounds)
     }
@@ -193,23 +203,23 @@ fn first_of(prefix: &[Bound]) -> Option<u32>
     Some(prefix.first()?.var)
 }
 
-// Appends a variable that is seated; what stands behind it comes next.
+// Appends a variable that is scoped; what stands behind it comes next.
 fn push_bound(
     bounds: &mut Vec<Bound>,
-    seats: &SeatRow,
+    bindings: &BindingRow,
     at: Option<u32>,
 ) -> Result<Option<u32>, NoMemory>
-    ensures { IfOk result (λ next. (n : ℕ) → bounds.new.items ++ bounds_from seats.now.items next n ≡ bounds.old.items ++ bounds_from seats.now.items at (suc n)) }
+    ensures { IfOk result (λ next. (n : ℕ) → bounds.new.items ++ bounds_from bindings.now.items next n ≡ bounds.old.items ++ bounds_from bindings.now.items at (suc n)) }
 {
     let Some(var) = at else { return Ok(None) };
-    let Some(seat) = seat_of(seats, var) else {
+    let Some(binding) = binding_of(bindings, var) else {
         return Ok(None);
     };
     bounds.push(Bound {
-        quant: seat.quant,
+        quant: binding.quant,
         var,
     })?;
-    Ok(seat.after)
+    Ok(binding.after)
 }
 
 fn count_down(counts: &mut Vec<usize>, rank: usize) -> usize

@@ -1,8 +1,6 @@
 //! What a check leaves, with which circuits are taken back over its steps.
 ghost use Rattle.std.specs.Prelude.{◌≡◌, ◌∷◌, [], map, IfOk, Some, true, if◌then◌else◌, ◌&&◌};
-ghost use Rattle.q_logic.specs.Literals.{Literal};
-ghost use Rattle.q_logic.specs.Prefixes.{Closed, is_bound};
-ghost use Rattle.q_logic.specs.Undos.{OutersOf, freshened, removed};
+ghost use Rattle.q_logic.specs.Prelude.{Literal, Closed, is_bound, OutersOf, freshened, removed};
 ghost use Rattle.q_prop.specs.Slots.{filled, without};
 ghost use Rattle.q_judge.specs.Entries.{entries_of, IsPivotEntry, kept_pivot as pivot_kept};
 
@@ -30,7 +28,7 @@ pub struct Undos {
 
 impl Model for Undos {
     ghost use Rattle.std.specs.Prelude.{List, map};
-    ghost use Rattle.q_logic.specs.Undos.{UndoEntry};
+    ghost use Rattle.q_logic.specs.Prelude.{UndoEntry};
     ghost use Rattle.q_judge.specs.Entries.{entry_of};
 
     ghost Value = { List UndoEntry };

@@ -1,6 +1,6 @@
 -- Numbers, options and lists of ids: what proofs above the kernel take from below it.
-pub use Rattle.q_arena.proofs.Numbers.{ℕ-cases, none-some, some-same}
-pub use Rattle.q_arena.proofs.Paths.{Misses-not, Misses-from}
+pub use Rattle.q_arena.proofs.NumberCases.{ℕ-cases, none-some, some-same}
+pub use Rattle.q_arena.proofs.RingPaths.{Misses-not, Misses-from}
 pub use Rattle.q_arena.proofs.RingLemmas.{AreApart-without, length-without}
 pub use Rattle.q_arena.proofs.Layouts.{Has-kept}
-pub use Rattle.q_arena.proofs.Following.{get-has}
+pub use Rattle.q_arena.proofs.ListNeighbours.{get-has}

@@ -2,22 +2,16 @@
 use Rattle.std.proofs.Common.{◌≡◌, ◌≢◌, ℕ, zero, suc, ◌+◌, ◌<◌, All, Contains, get_or, List, [], ◌∷◌, length, slice_get, Option, None, Some, refl, sym, ◌∙◌, ap, subst, inl, inr, arith}
 use Rattle.std.specs.List.{AllByRecursion}
 use Rattle.std.proofs.lemmas.Bool.Decides.{nat_tests}
-use Rattle.q_logic.specs.Literals.{Literal, IsBelow}
-use Rattle.q_logic.specs.Formulas.{Clause}
-use Rattle.q_logic.specs.Numbered.{live}
-use Rattle.q_logic.specs.Parts.{ArePairs}
-use Rattle.q_logic.proofs.ClauseSets.{not_itself_below}
-use Rattle.q_logic.proofs.Parts.{AllByRecursion-IsIn}
-use Rattle.q_arena.specs.Rings.{Has, AreApart}
-use Rattle.q_arena.specs.Seen.{start_at}
-use Rattle.q_arena.specs.Chains.{Chains, following}
-use Rattle.q_arena.proofs.Numbers.{ℕ-cases, none-some, some-same}
-use Rattle.q_arena.proofs.Paths.{Misses-not, Misses-from}
-use Rattle.q_arena.proofs.Following.{following-here, following-later, following-has}
+use Rattle.q_logic.specs.Prelude.{Literal, IsBelow, Clause, live, ArePairs}
+use Rattle.q_logic.proofs.Common.{not_itself_below, AllByRecursion-IsIn}
+use Rattle.q_arena.specs.Prelude.{Has, AreApart, start_at, Chains, following}
+use Rattle.q_arena.proofs.NumberCases.{ℕ-cases, none-some, some-same}
+use Rattle.q_arena.proofs.RingPaths.{Misses-not, Misses-from}
+use Rattle.q_arena.proofs.ListNeighbours.{following-here, following-later, following-has}
 use Rattle.q_occ.specs.Places.{places_of, IsPlaceIn, no_lit}
 use Rattle.q_kernel.specs.Kernels.{Seen, slots, HoldsLiteral, IsSound}
-use Rattle.q_kernel.proofs.Occurring.{place-clause, get-IsIn}
-use Rattle.q_kernel.proofs.Slotting.{slot-get, slot-IsIn}
+use Rattle.q_kernel.proofs.PlaceLists.{place-clause, get-IsIn}
+use Rattle.q_kernel.proofs.SlotLists.{slot-get, slot-IsIn}
 use Rattle.q_kernel.specs.Visits.{since, since_place, owners_at, holders_of, holders_since, IsWalk, IsHolder}
 
 since-here : (p y : ℕ) (ys : List ℕ) → y ≡ p → since p (y ∷ ys) ≡ y ∷ ys

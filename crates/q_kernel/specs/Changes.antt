@@ -1,15 +1,7 @@
 -- What the step calls of a kernel ask for, and what they change.
 use Rattle.std.specs.Prelude.{◌≡◌, ◌≤◌, ◌+◌, ℕ, List, ◌++◌, length, Option, Some, None}
 use Rattle.std.specs.List.{AllByRecursion}
-use Rattle.q_logic.specs.Formulas.{Clause, PrenexFormula, IsIn}
-use Rattle.q_logic.specs.Literals.{Literal, IsBelow}
-use Rattle.q_logic.specs.Parts.{ArePairs}
-use Rattle.q_logic.specs.Pivots.{without}
-use Rattle.q_logic.specs.Limits.{standard}
-use Rattle.q_logic.specs.Steps.{ProofStep, add, delete, drop_literal, fresh, remove_variable, Valid, insert_after, removed_from}
-use Rattle.q_logic.specs.StepForms.{first_of, IsFirst}
-use Rattle.q_logic.specs.Runs.{ValidSteps, AreAlike}
-use Rattle.q_logic.specs.Numbered.{slot, set_slot}
+use Rattle.q_logic.specs.Prelude.{Clause, PrenexFormula, IsIn, Literal, IsBelow, ArePairs, without, standard, ProofStep, add, delete, drop_literal, fresh, remove_variable, Valid, insert_after, removed_from, first_of, IsFirst, ValidSteps, AreAlike, slot, set_slot}
 use Rattle.q_log.specs.Texts.{IsLogged, step_text, steps_text}
 use Rattle.q_kernel.specs.Kernels.{Seen, slots, formula_in, KeepsRoom}
 

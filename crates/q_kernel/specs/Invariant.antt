@@ -1,16 +1,7 @@
 -- What holds of the parts of a kernel.
 use Rattle.std.specs.Prelude.{◌≡◌, ◌≤◌, ◌<◌, ◌+◌, ◌*◌, ℕ, true, [], ◌∷◌, length, Some, None}
-use Rattle.q_logic.specs.Formulas.{Clause, Matrix}
-use Rattle.q_logic.specs.Literals.{Literal}
-use Rattle.q_logic.specs.Pivots.{without}
-use Rattle.q_logic.specs.Prefixes.{is_bound}
-use Rattle.q_logic.specs.Parts.{IsProper}
-use Rattle.q_logic.specs.Numbered.{slot, set_slot, live, formula_of}
-use Rattle.q_logic.specs.Measure.{size_of}
-use Rattle.q_logic.specs.InLimits.{greatest}
-use Rattle.q_logic.specs.Runs.{copies}
-use Rattle.q_arena.specs.Chains.{Chains}
-use Rattle.q_arena.specs.Seen.{Clauses}
+use Rattle.q_logic.specs.Prelude.{Clause, Matrix, Literal, without, is_bound, IsProper, slot, set_slot, live, formula_of, size_of, greatest, copies}
+use Rattle.q_arena.specs.Prelude.{Chains, Clauses}
 use Rattle.q_prefix.specs.Order.{FlatPrefix}
 use Rattle.q_kernel.specs.Uses.{Groups, AreUses}
 use Rattle.q_kernel.specs.Listing.{is_listed}

@@ -1,13 +1,7 @@
 -- What a caller sees of a kernel: a formula with numbered clauses, the text of the pending steps, and what is spare.
 use Rattle.std.specs.Prelude.{◌≡◌, ◌≤◌, ◌<◌, ◌+◌, ◌*◌, ℕ, true, List, length, slice_index_or, Some}
-use Rattle.q_logic.specs.Formulas.{Clause, Prefix, PrenexFormula, IsIn}
-use Rattle.q_logic.specs.Literals.{Literal}
-use Rattle.q_logic.specs.Numbered.{Slots, slot, live, formula_of}
-use Rattle.q_logic.specs.Parts.{IsProper}
-use Rattle.q_logic.specs.Measure.{size_of}
-use Rattle.q_arena.specs.Seen.{Clauses}
-use Rattle.q_arena.specs.Chains.{Chains}
-use Rattle.q_arena.specs.Rings.{Has, AreApart}
+use Rattle.q_logic.specs.Prelude.{Clause, Prefix, PrenexFormula, IsIn, Literal, Slots, slot, live, formula_of, IsProper, size_of}
+use Rattle.q_arena.specs.Prelude.{Clauses, Chains, Has, AreApart}
 use Rattle.q_occ.specs.Places.{AreExact, places_of}
 
 pub record Seen : Type 0 where

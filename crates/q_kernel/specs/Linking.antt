@@ -1,9 +1,7 @@
 -- Occurrence lists kept beside the clauses.
 use Rattle.std.specs.Prelude.{◌<◌, ℕ, true, false, length}
-use Rattle.q_logic.specs.Literals.{Literal, pack}
-use Rattle.q_logic.specs.Formulas.{Clause, IsIn}
-use Rattle.q_arena.specs.Chains.{Chains}
-use Rattle.q_arena.specs.Seen.{Clauses}
+use Rattle.q_logic.specs.Prelude.{Literal, pack, Clause, IsIn}
+use Rattle.q_arena.specs.Prelude.{Chains, Clauses}
 use Rattle.q_occ.specs.Places.{AreExact, with_linked}
 
 -- the lists hold exactly the places of all clauses

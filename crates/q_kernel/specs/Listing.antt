@@ -1,8 +1,7 @@
 -- Which variables the lists hold, and the text of pending steps.
 use Rattle.std.specs.Prelude.{◌+◌, ℕ, Bool, true, false, nat_lt, ◌&&◌, ◌||◌, if◌then◌else◌, List, length}
-use Rattle.q_logic.specs.Formulas.{Clause, Prefix}
-use Rattle.q_logic.specs.Sweep.{has_variable}
-use Rattle.q_arena.specs.Chains.{Chains}
+use Rattle.q_logic.specs.Prelude.{Clause, Prefix, has_variable}
+use Rattle.q_arena.specs.Prelude.{Chains}
 use Rattle.q_occ.specs.Places.{places_of}
 use Rattle.q_kernel.specs.Uses.{Groups, AreUses}
 

@@ -1,6 +1,6 @@
 -- Unit clauses: those of exactly one literal.
 use Rattle.std.specs.Prelude.{◌+◌, ℕ, [], ◌∷◌}
-use Rattle.q_logic.specs.Formulas.{Clause, Matrix}
+use Rattle.q_logic.specs.Prelude.{Clause, Matrix}
 
 -- 1 for a unit clause
 abbrev pub unit_ones : Clause → ℕ

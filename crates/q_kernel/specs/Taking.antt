@@ -1,15 +1,9 @@
 -- What a rule promises where it takes a target.
 use Rattle.std.specs.Prelude.{◌≤◌, ◌+◌}
 use Rattle.q_logic.specs.declared.rule_bounds.Bounds.{Bounds}
-use Rattle.q_logic.specs.Sweep.{IsSwept}
-use Rattle.q_logic.specs.Measure.{measure_of}
-use Rattle.q_logic.specs.Limits.{standard}
-use Rattle.q_logic.specs.InLimits.{IsInLimits}
-use Rattle.q_logic.specs.Targets.{Target}
-use Rattle.q_logic.specs.Rules.{Applicable, result_of}
+use Rattle.q_logic.specs.Prelude.{IsSwept, measure_of, standard, IsInLimits, Target, Applicable, result_of, AreAlike}
 use Rattle.q_kernel.specs.Kernels.{Seen, slots, formula_in}
 use Rattle.q_kernel.specs.Changes.{IsLed}
-use Rattle.q_logic.specs.Runs.{AreAlike}
 
 -- a rule may be tried: the formula is swept and within the limits
 pub record IsReady (k : Seen) : Type 0 where

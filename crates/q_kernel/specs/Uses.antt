@@ -3,10 +3,8 @@
 use Rattle.std.specs.Prelude.{◌≡◌, ◌⊎◌, ◌↔◌, ◌≤◌, ◌<◌, ℕ, Bool, true, false, List, [], ◌∷◌, if◌then◌else◌, ◌==◌, length, slice_index_or}
 use Rattle.q_logic.specs.declared.formulas.Quant.{Quant}
 use Rattle.q_logic.specs.declared.formulas.Quant.TheVariants.{Exists, Forall}
-use Rattle.q_logic.specs.Formulas.{Prefix}
-use Rattle.q_logic.specs.Prefixes.{is_bound, is_existential, is_universal, same_quant}
-use Rattle.q_arena.specs.Rings.{Has, AreApart, without}
-use Rattle.q_arena.specs.Chains.{Chains, list_at}
+use Rattle.q_logic.specs.Prelude.{Prefix, is_bound, is_existential, is_universal, same_quant}
+use Rattle.q_arena.specs.Prelude.{Has, AreApart, without, Chains, list_at}
 
 pub record Groups : Type 0 where
   pub idle : List ℕ

@@ -1,10 +1,7 @@
 -- The clauses that a kernel's iterators have still to give.
 use Rattle.std.specs.Prelude.{◌≡◌, ℕ, Contains, ◌+◌, if◌then◌else◌, ◌==◌, List, [], ◌∷◌, map, drop, Option, None, Some, slice_index_or}
-use Rattle.q_logic.specs.Literals.{Literal}
-use Rattle.q_logic.specs.Formulas.{Clause}
-use Rattle.q_logic.specs.Numbered.{Slots, slot}
-use Rattle.q_arena.specs.Chains.{Chains}
-use Rattle.q_arena.specs.Rings.{Has, AreApart}
+use Rattle.q_logic.specs.Prelude.{Literal, Clause, Slots, slot}
+use Rattle.q_arena.specs.Prelude.{Chains, Has, AreApart}
 use Rattle.q_occ.specs.Places.{places_of}
 use Rattle.q_kernel.specs.Kernels.{Seen, slots, HoldsLiteral}
 

@@ -5,9 +5,7 @@
 //! block is smaller, those that share a clause with one of it. Either way it costs no more than the smaller block and its
 //! clauses.
 ghost use Rattle.std.specs.Prelude.{◌≡◌, ℕ, true, Some};
-ghost use Rattle.q_logic.specs.Formulas.{Clause};
-ghost use Rattle.q_logic.specs.Numbered.{slot};
-ghost use Rattle.q_logic.specs.Prefixes.{is_bound};
+ghost use Rattle.q_logic.specs.Prelude.{Clause, slot, is_bound};
 ghost use Rattle.q_kernel.specs.Kernels.{slots};
 ghost use Rattle.q_kernel.specs.declared.joining.Seam.{Seam as SeamValue};
 

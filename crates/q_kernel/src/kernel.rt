@@ -1,21 +1,10 @@
 ghost use Rattle.std.specs.Prelude.{◌≡◌, ◌≢◌, ◌↔◌, ◌≤◌, ◌<◌, ◌+◌, ◌*◌, [], ◌∷◌, ◌++◌, if◌then◌else◌, ℕ, true, false, length, slice_get, slice_index_or, OnOk, OnErr, IfOk, None, Some, IsTrue};
-ghost use Rattle.q_logic.specs.Formulas.{Clause, IsIn};
-ghost use Rattle.q_logic.specs.Literals.{Literal, IsBelow};
-ghost use Rattle.q_logic.specs.Parts.{ArePairs, IsProper};
-ghost use Rattle.q_logic.specs.StepForms.{first_of};
-ghost use Rattle.q_logic.specs.Numbered.{slot, live, numbered, formula_of};
-ghost use Rattle.q_logic.specs.InLimits.{greatest};
-ghost use Rattle.q_logic.specs.Measure.{size_of, measure_of};
-ghost use Rattle.q_logic.specs.Sweep.{swept, has_empty, occurs, occurring};
-ghost use Rattle.q_logic.specs.Prefixes.{is_bound};
-ghost use Rattle.q_arena.specs.Seen.{live_in, words_in, IsFree, IsEnd};
-ghost use Rattle.q_arena.specs.Rings.{Has};
-ghost use Rattle.q_arena.specs.Chains.{following};
+ghost use Rattle.q_logic.specs.Prelude.{Clause, IsIn, Literal, IsBelow, ArePairs, IsProper, first_of, slot, live, numbered, formula_of, greatest, size_of, measure_of, swept, has_empty, occurs, occurring, is_bound, remove_variable, Within};
+ghost use Rattle.q_arena.specs.Prelude.{live_in, words_in, IsFree, IsEnd, Has, following};
 ghost use Rattle.q_occ.specs.Places.{places_of};
 ghost use Rattle.q_kernel.specs.Kernels.{slots, formula_in, SameView, KeepsRoom, KeepsSpare, IsSound, IsListed, HoldsLiteral, HasSweepBytes};
 ghost use Rattle.q_kernel.specs.Visits.{holders_of};
 ghost use Rattle.q_kernel.specs.Changes.{IsLed, MayAdd, IsAdded, MayDelete, IsDeleted, MayDrop, IsDropped, MayShrink, IsShrunk, MayFresh, IsFreshened, MayStep, IsRemoved};
-ghost use Rattle.q_logic.specs.Steps.{remove_variable, Within};
 ghost use Rattle.q_kernel.specs.Singles.{units_in};
 ghost use Rattle.q_kernel.specs.Invariant.{IsPut, IsTakenOut, IsShortened, IsSweeping};
 

@@ -1,10 +1,7 @@
 ghost use Rattle.std.specs.Prelude.{◌≡◌, ◌≤◌, ◌<◌, ◌+◌, ℕ, length, slice_set, Some, None};
 ghost use Rattle.std.specs.List.{sum_by};
-ghost use Rattle.q_logic.specs.Literals.{IsBelow};
-ghost use Rattle.q_logic.specs.Formulas.{Clause, IsIn};
-ghost use Rattle.q_logic.specs.Parts.{ArePairs};
-ghost use Rattle.q_logic.specs.Pivots.{without};
-ghost use Rattle.q_arena.specs.Seen.{clause_at, IsLive, IsFree};
+ghost use Rattle.q_logic.specs.Prelude.{IsBelow, Clause, IsIn, ArePairs, without};
+ghost use Rattle.q_arena.specs.Prelude.{clause_at, IsLive, IsFree};
 ghost use Rattle.q_occ.specs.Places.{KeepsRoom};
 ghost use Rattle.q_kernel.specs.Linking.{AreLinked, AreLinkedBut, HasLists};
 

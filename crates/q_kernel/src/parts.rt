@@ -1,9 +1,5 @@
 ghost use Rattle.std.specs.Prelude.{◌≡◌, ◌≤◌, ◌<◌, ◌+◌, ◌-◌, ℕ, [], IfOk, length, true, false};
-ghost use Rattle.q_logic.specs.Formulas.{Clause};
-ghost use Rattle.q_logic.specs.Prefixes.{is_bound, Distinct};
-ghost use Rattle.q_logic.specs.StepForms.{first_of};
-ghost use Rattle.q_logic.specs.InLimits.{greatest};
-ghost use Rattle.q_logic.specs.Steps.{literals_in};
+ghost use Rattle.q_logic.specs.Prelude.{Clause, is_bound, Distinct, first_of, greatest, literals_in};
 ghost use Rattle.q_kernel.specs.Uses.{AreUses};
 ghost use Rattle.q_kernel.specs.Invariant.{empty_ones};
 ghost use Rattle.q_kernel.specs.Singles.{unit_ones};

@@ -1,6 +1,5 @@
 ghost use Rattle.std.specs.Prelude.{◌≡◌, ◌≤◌, ◌+◌, ◌++◌, [], length, OnOk};
-ghost use Rattle.q_logic.specs.Literals.{IsBelow};
-ghost use Rattle.q_logic.specs.Parts.{ArePairs};
+ghost use Rattle.q_logic.specs.Prelude.{IsBelow, ArePairs};
 ghost use Rattle.q_log.specs.Texts.{step_text, written, shorter, IsWritable};
 
 use q_log::{write_shorter, write_step};

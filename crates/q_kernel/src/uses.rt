@@ -1,5 +1,5 @@
 ghost use Rattle.std.specs.Prelude.{◌≡◌, ◌≤◌, ◌<◌, ◌⊎◌, [], ◌∷◌, ℕ, length, slice_get, OnOk, IfOk, Some};
-ghost use Rattle.q_arena.specs.Rings.{Has, AreApart, without};
+ghost use Rattle.q_arena.specs.Prelude.{Has, AreApart, without};
 ghost use Rattle.q_kernel.specs.Uses.{group_of, head_of, IsGrouped, IsStarted, IsStopped};
 
 use q_arena::Rings;
@@ -16,7 +16,7 @@ pub(crate) struct Uses {
 
 impl Model for Uses {
     ghost use Rattle.std.specs.Prelude.{length};
-    ghost use Rattle.q_arena.specs.Chains.{list_at};
+    ghost use Rattle.q_arena.specs.Prelude.{list_at};
     ghost use Rattle.q_kernel.specs.Uses.{Groups, AreTagged};
 
     ghost Value = { Groups };

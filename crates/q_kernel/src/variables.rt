@@ -1,7 +1,5 @@
 ghost use Rattle.std.specs.Prelude.{◌≡◌, ◌&&◌, ℕ, Bool, true, false};
-ghost use Rattle.q_logic.specs.Formulas.{IsIn};
-ghost use Rattle.q_logic.specs.Prefixes.{is_bound};
-ghost use Rattle.q_logic.specs.Steps.{Within};
+ghost use Rattle.q_logic.specs.Prelude.{IsIn, is_bound, Within};
 ghost use Rattle.q_kernel.specs.Uses.{AreUses, with_occurring};
 ghost use Rattle.q_kernel.specs.Listing.{is_listed, with_clause, without_clause, AreGrouped};
 

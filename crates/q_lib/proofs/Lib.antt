@@ -1,1 +1,1 @@
-mod Over
+mod CommandFiles

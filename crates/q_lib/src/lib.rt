@@ -39,8 +39,9 @@ pub extern "C" fn celdrinn_check(
     line: &mut [u8],
     lengths: &mut Lengths,
 ) -> u8
-    ensures { Called (over_three (codes "check") []) (λ disk. HoldsThree disk input.now output.now log.now) result
-        (λ disk text. Copied text line.old line.new lengths.new.line) }
+    ensures { Called (over_three (codes "check") []) (λ disk.
+        HoldsThree disk input.now output.now log.now) result (λ disk text.
+        Copied text line.old line.new lengths.new.line) }
 {
     *lengths = NOTHING;
     match check(alloc, input, output, log) {

@@ -18,7 +18,8 @@ pub(crate) struct Left {
 }
 
 fn push_word(words: &mut Vec<String>, alloc: Global, word: &str) -> Result<(), NoMemory>
-    ensures { OnOk result (map (λ w. string_bytes w) words.new.items ≡ map (λ w. string_bytes w) words.old.items ++ word.now ∷ []) }
+    ensures { OnOk result (map (λ w. string_bytes w) words.new.items ≡ map (λ w.
+        string_bytes w) words.old.items ++ word.now ∷ []) }
 {
     words.push(String::from_str(alloc, word)?)?;
     Ok(())
@@ -26,7 +27,8 @@ fn push_word(words: &mut Vec<String>, alloc: Global, word: &str) -> Result<(), N
 
 // The words of a command over IN, OUT and LOG.
 fn words_of(alloc: Global, verb: &str) -> Result<Vec<String>, NoMemory>
-    ensures { IfOk result (λ words. map (λ w. string_bytes w) words.items ≡ over_three verb.now []) }
+    ensures { IfOk result (λ words.
+        map (λ w. string_bytes w) words.items ≡ over_three verb.now []) }
 {
     let mut words = Vec::new(alloc);
     push_word(&mut words, alloc, verb)?;
@@ -89,7 +91,8 @@ fn rebuild_words(alloc: Global) -> Result<Vec<String>, NoMemory>
 
 // Runs it. The guides are those of the program.
 fn command(alloc: Global, words: &[String], files: SteadyFiles) -> Result<Left, NoMemory>
-    ensures { IfOk result (λ left. Ran (map (λ w. string_bytes w) words.now) files left.status left.files left.line) }
+    ensures { IfOk result (λ left.
+        Ran (map (λ w. string_bytes w) words.now) files left.status left.files left.line) }
 {
     let mut files = files;
     let mut line = SteadySink::new(alloc);
@@ -136,8 +139,9 @@ pub(crate) fn rebuild(
     log: &[u8],
     skolem: &[u8],
 ) -> Result<Left, NoMemory>
-    ensures { IfOk result (λ left. RanOver (over_three (codes "rebuild") (codes "SKOLEM" ∷ codes "CERT" ∷ []))
-        (λ disk. HoldsFour disk input.now output.now log.now skolem.now) left.status left.files left.line) }
+    ensures { IfOk result (λ left.
+        RanOver (over_three (codes "rebuild") (codes "SKOLEM" ∷ codes "CERT" ∷ [])) (λ disk.
+        HoldsFour disk input.now output.now log.now skolem.now) left.status left.files left.line) }
 {
     let files = four_files(alloc, input, output, log, skolem)?;
     let words = rebuild_words(alloc)?;

@@ -1,13 +1,13 @@
-mod Plain
-pub mod Reading
-pub mod Rereading
-pub mod Spelling
-pub mod Parsing
-mod Tidying
-mod Orders
-pub mod Texts
-pub mod Lengths
-pub mod Outcomes
-pub mod InFront
-mod Passing
+mod PlainVariables
+pub mod LogBytes
+pub mod LogRoundTrip
+pub mod LogSpelledIsRead
+pub mod LogReadIsSpelled
+mod WritableRuns
+mod ResultOrder
+pub mod LiteralTexts
+pub mod StepLengths
+pub mod HandedSteps
+pub mod LeastInFront
+mod LogPieces
 mod Fewer

@@ -1,6 +1,6 @@
 -- The step that is being built: what a builder shows of itself, and what a token does to it.
 use Rattle.std.specs.Prelude.{ℕ, Option, Result}
-use Rattle.q_logic.specs.Steps.{ProofStep}
+use Rattle.q_logic.specs.Prelude.{ProofStep}
 use Rattle.q_text.specs.declared.tokens.Token.{Token}
 use Rattle.q_log.specs.declared.builder.StepBuilder.{StepBuilder}
 use Rattle.q_log.specs.declared.error.LogError.{LogError}

@@ -2,8 +2,7 @@
 use Rattle.std.specs.Prelude.{◌≡◌, ℕ, ◌-◌, ◌==◌, nat_le, List, [], ◌∷◌, ◌++◌, length, take, if◌then◌else◌, Result, Ok, Err, Option, Some, None, Bool, true, not, ◌&&◌}
 use Rattle.q_logic.specs.declared.steps.Kind.{Kind}
 use Rattle.q_logic.specs.declared.steps.Kind.TheVariants.{Add, Delete, Drop, Fresh, Remove}
-use Rattle.q_logic.specs.Literals.{Literal}
-use Rattle.q_logic.specs.Steps.{ProofStep}
+use Rattle.q_logic.specs.Prelude.{Literal, ProofStep}
 use Rattle.q_text.specs.declared.tokens.Token.{Token}
 use Rattle.q_text.specs.declared.tokens.Tokens.{Tokens}
 use Rattle.q_text.specs.Texts.{line_from}
@@ -13,7 +12,7 @@ use Rattle.q_log.specs.declared.error.LogError.{LogError}
 use Rattle.q_log.specs.declared.error.LogError.TheVariants.{BadLine, Limit, NoMemory}
 use Rattle.q_log.specs.declared.builder.Begun.{Begun}
 use Rattle.q_log.specs.Grammar.{OpenStep, Move, ends_step, goes_on, unfit, move, empty_step}
-use Rattle.q_log.specs.Logs.{Outcome, stopped, finished, onto, outcome, at_end, past_limit}
+use Rattle.q_log.specs.Logs.{Parsed, stopped, finished, onto, parsed, at_end, past_limit}
 
 -- the tokens so far, how many bytes may still come, the step that has begun, and the refusal, if one
 -- was given
@@ -27,61 +26,61 @@ abbrev pub start : ℕ → LogState
 start limit = record { tokens = begun; left = limit; begun = None; refused = None }
 
 -- what these bytes would say, if they came to their end
-abbrev pub open_to_come : LogState → List ℕ → Outcome
+abbrev pub open_to_come : LogState → List ℕ → Parsed
 open_to_come r rest =
     if nat_le (length rest) r.left
-    then outcome (at_end (line_from (line_of r.tokens) rest)) r.begun (tokens.to_come r.tokens rest)
-    else outcome (past_limit (line_from (line_of r.tokens) (take r.left rest))) r.begun (all_handed r.tokens (take r.left rest))
+    then parsed (at_end (line_from (line_of r.tokens) rest)) r.begun (tokens.to_come r.tokens rest)
+    else parsed (past_limit (line_from (line_of r.tokens) (take r.left rest))) r.begun (all_handed r.tokens (take r.left rest))
 
-abbrev pub unless_refused : Option LogError → Outcome → Outcome
+abbrev pub unless_refused : Option LogError → Parsed → Parsed
 unless_refused None o = o
 unless_refused (Some e) o = stopped e
 
 -- what is still to come where these bytes follow, and then the end
-abbrev pub to_come : LogState → List ℕ → Outcome
+abbrev pub to_come : LogState → List ℕ → Parsed
 to_come r rest = unless_refused r.refused (open_to_come r rest)
 
 -- an answer to a byte, and the state behind it
-pub record Turn : Type 0 where
+pub record Transition : Type 0 where
   pub answer : Result (Option (ℕ × ProofStep)) LogError
   pub state : LogState
 
-abbrev pub refuse : LogState → LogError → Turn
+abbrev pub refuse : LogState → LogError → Transition
 refuse r e = record { answer = Err e; state = record r { refused = Some e } }
 
-abbrev pub moved : LogState → Move → ℕ → Turn
+abbrev pub moved : LogState → Move → ℕ → Transition
 moved r (ends_step n s) line = record { answer = Ok (Some (n, s)); state = record r { begun = None } }
 moved r (goes_on o) line = record { answer = Ok None; state = record r { begun = Some o } }
 moved r unfit line = refuse r (BadLine line)
 
-abbrev pub token_turn : LogState → Option Token → Turn
-token_turn r None = record { answer = Ok None; state = r }
-token_turn r (Some t) = moved r (move r.begun t) t.line
+abbrev pub token_transition : LogState → Option Token → Transition
+token_transition r None = record { answer = Ok None; state = r }
+token_transition r (Some t) = moved r (move r.begun t) t.line
 
-abbrev pub open_turn : LogState → ℕ → Turn
-open_turn r b =
+abbrev pub open_transition : LogState → ℕ → Transition
+open_transition r b =
     if r.left == 0 then refuse r (Limit (line_of r.tokens))
-    else token_turn (record r { tokens = after r.tokens b; left = r.left - 1 }) (handed r.tokens b)
+    else token_transition (record r { tokens = after r.tokens b; left = r.left - 1 }) (handed r.tokens b)
 
-abbrev pub turn_unless : Option LogError → LogState → Turn → Turn
-turn_unless None r t = t
-turn_unless (Some e) r t = record { answer = Err e; state = r }
+abbrev pub transition_unless : Option LogError → LogState → Transition → Transition
+transition_unless None r t = t
+transition_unless (Some e) r t = record { answer = Err e; state = r }
 
 -- the answer to a byte: a step exactly where the byte ends one, a bad line exactly where it ends a
 -- token that does not fit, the limit exactly at the byte past it, and a refusal again and again
-abbrev pub turn : LogState → ℕ → Turn
-turn r b = turn_unless r.refused r (open_turn r b)
+abbrev pub transition : LogState → ℕ → Transition
+transition r b = transition_unless r.refused r (open_transition r b)
 
--- an answer is that of this turn, but that memory may be wanting; what stands behind a refusal is the
+-- an answer is that of this transition, but that memory may be wanting; what stands behind a refusal is the
 -- refusal alone
-abbrev pub Answers : Result (Option (ℕ × ProofStep)) LogError → LogState → Turn → Type 0
+abbrev pub Answers : Result (Option (ℕ × ProofStep)) LogError → LogState → Transition → Type 0
 Answers (Ok o) new t = (Ok o ≡ t.answer) × (new ≡ t.state)
 Answers (Err NoMemory) new t = new.refused ≡ Some NoMemory
 Answers (Err (BadLine n)) new t = (Err (BadLine n) ≡ t.answer) × (new.refused ≡ Some (BadLine n))
 Answers (Err (Limit n)) new t = (Err (Limit n) ≡ t.answer) × (new.refused ≡ Some (Limit n))
 
 -- what was to come is the answer, and then what is to come now
-abbrev pub Leads : Result (Option (ℕ × ProofStep)) LogError → Outcome → Outcome → Type 0
+abbrev pub Leads : Result (Option (ℕ × ProofStep)) LogError → Parsed → Parsed → Type 0
 Leads (Ok None) before now = before ≡ now
 Leads (Ok (Some s)) before now = before ≡ onto s now
 Leads (Err NoMemory) before now = now ≡ stopped NoMemory
@@ -95,7 +94,7 @@ Passes (Ok (n, o)) old new piece = (rest : List ℕ) → Leads (Ok o) (to_come o
 Passes (Err e) old new piece = (n : ℕ) × ((rest : List ℕ) → Leads (Err e) (to_come old (take n piece ++ rest)) (to_come new rest))
 
 -- the answer to the end is all that was to come
-abbrev pub Ends : Result (Option (ℕ × ProofStep)) LogError → Outcome → Type 0
+abbrev pub Ends : Result (Option (ℕ × ProofStep)) LogError → Parsed → Type 0
 Ends (Ok None) before = before ≡ finished
 Ends (Ok (Some s)) before = before ≡ onto s finished
 Ends (Err NoMemory) before = Unit {0}

@@ -5,9 +5,7 @@ use Rattle.std.specs.Prelude.{◌≡◌, ◌≤◌, ◌<◌, ◌^◌, ℕ, List,
 use Rattle.std.specs.List.{AllByRecursion}
 use Rattle.q_logic.specs.declared.steps.Kind.{Kind}
 use Rattle.q_logic.specs.declared.steps.Kind.TheVariants.{Add, Delete, Drop, Fresh, Remove}
-use Rattle.q_logic.specs.Literals.{Literal, number_of}
-use Rattle.q_logic.specs.Steps.{ProofStep}
-use Rattle.q_logic.specs.StepForms.{IsStepForm, step_of}
+use Rattle.q_logic.specs.Prelude.{Literal, number_of, ProofStep, IsStepForm, step_of}
 use Rattle.q_text.specs.Tokens.{literals_kinds}
 use Rattle.q_text.specs.declared.tokens.Token.{Token}
 use Rattle.q_text.specs.declared.tokens.TokenKind.{TokenKind}

@@ -3,10 +3,7 @@ use Rattle.std.specs.Prelude.{◌≡◌, ◌≢◌, ◌≤◌, ◌<◌, ◌+◌,
 use Rattle.std.specs.List.{AllByRecursion}
 use Rattle.q_logic.specs.declared.steps.Kind.{Kind}
 use Rattle.q_logic.specs.declared.steps.Kind.TheVariants.{Add, Delete, Drop, Fresh, Remove}
-use Rattle.q_logic.specs.Literals.{Literal, number_of}
-use Rattle.q_logic.specs.Steps.{ProofStep, add, delete, drop_literal, fresh, remove_variable}
-use Rattle.q_logic.specs.Pivots.{without}
-use Rattle.q_logic.specs.StepForms.{positive, first_of, kind_of, literals_of, IsStep}
+use Rattle.q_logic.specs.Prelude.{Literal, number_of, ProofStep, add, delete, drop_literal, fresh, remove_variable, without, positive, first_of, kind_of, literals_of, IsStep}
 use Rattle.q_text.specs.Numbers.{numbers_text, line_end}
 
 -- a letter and a space, or nothing for an addition

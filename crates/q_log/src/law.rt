@@ -1,16 +1,7 @@
 ghost use Rattle.std.specs.Prelude.{◌≡◌, ◌↔◌, ◌≤◌, ℕ, List, Some, length};
 ghost use Rattle.std.specs.List.{AllByRecursion};
 ghost use Rattle.q_logic.specs.declared.rule_bounds.Bounds.{Bounds};
-ghost use Rattle.q_logic.specs.Formulas.{Prefix, PrenexFormula};
-ghost use Rattle.q_logic.specs.InLimits.{IsInLimits};
-ghost use Rattle.q_logic.specs.Limits.{standard};
-ghost use Rattle.q_logic.specs.Numbered.{Slots, live, formula_of};
-ghost use Rattle.q_logic.specs.Parts.{IsProper};
-ghost use Rattle.q_logic.specs.Rules.{Applicable, result_of};
-ghost use Rattle.q_logic.specs.Runs.{Run};
-ghost use Rattle.q_logic.specs.Steps.{ProofStep};
-ghost use Rattle.q_logic.specs.Sweep.{swept};
-ghost use Rattle.q_logic.specs.Targets.{Target};
+ghost use Rattle.q_logic.specs.Prelude.{Prefix, PrenexFormula, IsInLimits, standard, Slots, live, formula_of, IsProper, Applicable, result_of, Run, ProofStep, swept, Target};
 ghost use Rattle.q_log.specs.Logs.{Steps};
 ghost use Rattle.q_log.specs.Spelled.{Log};
 ghost use Rattle.q_log.specs.Texts.{IsLogged, on_lines, steps_text};

@@ -1,6 +1,6 @@
 ghost use Rattle.std.specs.Prelude.{◌≡◌, ◌≤◌, ◌<◌, ◌+◌, ◌^◌, [], ◌∷◌, length, List, ℕ, Option, Some, None, Ok, Err, IfOk, IfErr};
 ghost use Rattle.q_log.specs.Logs.{read};
-ghost use Rattle.q_log.specs.Reading.{start, to_come, turn, Answers, Leads, Passes, Ends};
+ghost use Rattle.q_log.specs.Reading.{start, to_come, transition, Answers, Leads, Passes, Ends};
 
 use crate::builder::StepBuilder;
 use crate::error::LogError;
@@ -54,7 +54,7 @@ impl LogReader {
 
     /// The step that this byte ends, if it ends one, and the line of its first token.
     pub fn push(&mut self, byte: u8) -> Result<Option<(u64, Step)>, LogError>
-        ensures turn { Answers result self.new (turn self.old byte) }
+        ensures transition { Answers result self.new (transition self.old byte) }
         ensures next { (rest : List ℕ) → Leads result (to_come self.old (byte ∷ rest)) (to_come self.new rest) }
         ensures again { (e : LogError) → self.old.refused ≡ Some e → (result ≡ Err e) × (self.new ≡ self.old) }
         ensures stops { (e : LogError) → result ≡ Err e → self.new.refused ≡ Some e }

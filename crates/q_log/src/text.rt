@@ -1,8 +1,5 @@
 ghost use Rattle.std.specs.Prelude.{◌≡◌, ◌≤◌, ◌<◌, ◌+◌, ◌*◌, ◌^◌, ◌++◌, ◌∷◌, length, drop, vec_len, vec_capacity, OnOk, OnErr, IsOk};
-ghost use Rattle.q_logic.specs.Literals.{IsBelow, number_of};
-ghost use Rattle.q_logic.specs.Parts.{ArePairs};
-ghost use Rattle.q_logic.specs.Pivots.{without};
-ghost use Rattle.q_logic.specs.StepForms.{literals_of};
+ghost use Rattle.q_logic.specs.Prelude.{IsBelow, number_of, ArePairs, without, literals_of};
 ghost use Rattle.q_text.specs.Numbers.{number_text};
 ghost use Rattle.q_log.specs.Texts.{letter_text, literals_text, head_text, step_text, written, shorter, IsWritable};
 

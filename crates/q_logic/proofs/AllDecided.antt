@@ -2,18 +2,11 @@
 use Rattle.std.proofs.Common.{◌≡◌, ◌≢◌, ◌↔◌, ◌≤◌, ℕ, true, ◌&&◌, arith, length}
 use Rattle.q_logic.specs.declared.rule_bounds.Bounds.{Bounds}
 use Rattle.q_logic.specs.declared.limits.Limits.{Limits}
-use Rattle.q_logic.specs.Literals.{IsBelow}
-use Rattle.q_logic.specs.Formulas.{Clause, Prefix, IsIn, PrenexFormula}
-use Rattle.q_logic.specs.Parts.{ArePairs}
-use Rattle.q_logic.specs.Steps.{literals_in}
-use Rattle.q_logic.specs.Limits.{standard}
+use Rattle.q_logic.specs.Prelude.{IsBelow, Clause, Prefix, IsIn, PrenexFormula, ArePairs, literals_in, standard, Slots, live, Target, cover, Applicable, change}
 use Rattle.q_logic.specs.Sets.{at_most}
 use Rattle.q_logic.specs.InLimits.{IsInLimits, is_in_limits, greatest}
-use Rattle.q_logic.specs.Numbered.{Slots, live}
-use Rattle.q_logic.specs.Targets.{Target, cover}
-use Rattle.q_logic.specs.Rules.{Applicable, change}
 use Rattle.q_logic.specs.Deciding.{fits, applicable}
-use Rattle.q_logic.proofs.Ordering.{pairs-ordered}
+use Rattle.q_logic.proofs.LiteralOrder.{pairs-ordered}
 use Rattle.q_logic.proofs.Decided.{and-parts, and-both}
 use Rattle.q_logic.proofs.LawsOf.{laws_of}
 

@@ -1,12 +1,7 @@
 -- Formulas with the same blocks and the same clauses.
 use Rattle.std.proofs.Common.{◌≡◌, ◌↔◌, ℕ, ◌≤◌, Bool, true, false, cond, not, ◌&&◌, eqb, List, [], ◌∷◌, inl, inr, arith, refl, sym, ap, ◌∙◌, subst}
 use Rattle.q_logic.specs.declared.formulas.Bound.{Bound}
-use Rattle.q_logic.specs.Literals.{literal_eq}
-use Rattle.q_logic.specs.Formulas.{Prefix, Clause, Matrix, IsIn, PrenexFormula}
-use Rattle.q_logic.specs.Prefixes.{is_exists, is_existential, is_bound, universal_before, Block, push_block, blocks, SameBlocks}
-use Rattle.q_logic.specs.Skolems.{Strategy, Lawful, SkolemOf}
-use Rattle.q_logic.specs.Steps.{clause_eq}
-use Rattle.q_logic.specs.Runs.{copies, SameFormula}
+use Rattle.q_logic.specs.Prelude.{literal_eq, Prefix, Clause, Matrix, IsIn, PrenexFormula, is_exists, is_existential, is_bound, universal_before, Block, push_block, blocks, SameBlocks, Strategy, Lawful, SkolemOf, clause_eq, copies, SameFormula}
 use Rattle.q_logic.proofs.ClauseLemmas.{literal_eq-itself}
 use Rattle.q_logic.proofs.Runs.{clause_eq-sound}
 

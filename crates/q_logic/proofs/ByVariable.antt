@@ -1,11 +1,8 @@
 -- What is valid by links through variables is valid.
 use Rattle.std.proofs.Common.{List, [], ◌∷◌, ◌⊎◌, inl, inr}
 use Rattle.q_logic.specs.declared.limits.Limits.{Limits}
-use Rattle.q_logic.specs.Formulas.{PrenexFormula}
-use Rattle.q_logic.specs.Pivots.{ForallPivot}
+use Rattle.q_logic.specs.Prelude.{PrenexFormula, ForallPivot, ProofStep, add, delete, drop_literal, fresh, remove_variable, Valid, IsDroppable, after, one_less, ValidSteps}
 use Rattle.q_logic.specs.Reach.{ReducibleByVariable}
-use Rattle.q_logic.specs.Steps.{ProofStep, add, delete, drop_literal, fresh, remove_variable, Valid, IsDroppable, after, one_less}
-use Rattle.q_logic.specs.Runs.{ValidSteps}
 use Rattle.q_logic.specs.ByVariable.{ValidByVariable, ValidStepsByVariable}
 use Rattle.q_logic.proofs.Reduction.{by_variable-reducible}
 

@@ -1,12 +1,6 @@
 -- Members, literals and the trees of clauses.
 use Rattle.std.proofs.Common.{◌≡◌, ℕ, Bool, true, false, cond, List, [], ◌∷◌, ◌++◌, ◌⊎◌, inl, inr, arith, refl, sym, ap, ◌∙◌, subst, Option, Some, None}
-use Rattle.q_logic.specs.Literals.{Literal, negation, literal_eq}
-use Rattle.q_logic.specs.Formulas.{Prefix, Clause, IsIn}
-use Rattle.q_logic.specs.Truth.{Assignment, LiteralTrue, ClauseTrue, signed}
-use Rattle.q_logic.specs.Circuits.{Circuit, value_of, Reads}
-use Rattle.q_logic.specs.Skolems.{Strategy, circuit_of, or_input, given, outcome}
-use Rattle.q_logic.specs.Pivots.{keeps, outer}
-use Rattle.q_logic.specs.Undos.{literal_circuit, some_of, all_of}
+use Rattle.q_logic.specs.Prelude.{Literal, negation, literal_eq, Prefix, Clause, IsIn, Assignment, LiteralTrue, ClauseTrue, signed, Circuit, value_of, Reads, Strategy, circuit_of, or_input, given, outcome, keeps, outer, literal_circuit, some_of, all_of}
 
 pub IsIn-append_left : {X : Type 0} (x : X) (xs ys : List X) → IsIn x xs → IsIn x (xs ++ ys)
 IsIn-append_left x [] ys h = elim h [ ]

@@ -3,10 +3,7 @@
 use Rattle.std.proofs.Common.{◌≡◌, ◌==◌, nat_lt, Bool, true, false, cond, List, [], ◌∷◌, refl, sym, ◌∙◌, subst, arith, inl, inr}
 use Rattle.std.proofs.lemmas.Bool.Decides.{nat_tests}
 use Rattle.std.specs.List.{AllByRecursion}
-use Rattle.q_logic.specs.Literals.{Literal, IsBelow, pack}
-use Rattle.q_logic.specs.Formulas.{Clause, IsIn}
-use Rattle.q_logic.specs.Parts.{ArePairs}
-use Rattle.q_logic.specs.Clauses.{insert, clause_of}
+use Rattle.q_logic.specs.Prelude.{Literal, IsBelow, pack, Clause, IsIn, ArePairs, insert, clause_of}
 
 -- the three cases of an insertion
 abbrev placed : Bool → Bool → Literal → Literal → Clause → Clause

@@ -1,9 +1,6 @@
 -- The order of growths does not matter: growing never takes away a possible growth or end.
 use Rattle.std.proofs.Common.{◌≡◌, ◌↔◌, true, [], ◌∷◌, ◌⊎◌, inl, inr, sym, subst}
-use Rattle.q_logic.specs.Literals.{Literal, negation}
-use Rattle.q_logic.specs.Formulas.{Clause, Matrix, Prefix, IsIn}
-use Rattle.q_logic.specs.Pivots.{outer}
-use Rattle.q_logic.specs.Sets.{IsSubset}
+use Rattle.q_logic.specs.Prelude.{Literal, negation, Clause, Matrix, Prefix, IsIn, outer, IsSubset}
 use Rattle.q_logic.specs.Blocking.{Clashes}
 use Rattle.q_logic.specs.Covering.{Hidden, Covered, InEach, Grows, Ends, Covers}
 use Rattle.q_logic.proofs.CoverRun.{in_or_not, Open, some_or_all, each_of}

@@ -1,30 +1,18 @@
 -- A covered clause goes by a run: each growth adds the larger clause and deletes the smaller one.
 use Rattle.q_logic.specs.declared.rule_bounds.Bounds.{Bounds}
 use Rattle.std.proofs.Common.{◌≡◌, ◌↔◌, ℕ, Bool, true, false, List, [], ◌∷◌, ◌++◌, ◌⊎◌, inl, inr, arith, refl, sym, subst, Option, Some, ◌≤◌, ◌+◌, ◌-◌, ◌*◌, length}
-use Rattle.q_logic.specs.Literals.{Literal, negation, literal_eq}
-use Rattle.q_logic.specs.Formulas.{Clause, Matrix, Prefix, IsIn}
-use Rattle.q_logic.specs.Prefixes.{is_bound, is_existential}
-use Rattle.q_logic.specs.Propagation.{Implied}
-use Rattle.q_logic.specs.Pivots.{keeps, outer, ExistsPivot}
-use Rattle.q_logic.specs.Steps.{ProofStep, add, delete, FirstPivot}
-use Rattle.q_logic.specs.Sets.{IsSubset, IsTautology, has}
-use Rattle.q_logic.specs.Numbered.{formula_of, Slots, live, others}
-use Rattle.q_logic.specs.Targets.{cover}
+use Rattle.q_logic.specs.Prelude.{Literal, negation, literal_eq, Clause, Matrix, Prefix, IsIn, is_bound, is_existential, Implied, keeps, outer, ExistsPivot, ProofStep, add, delete, FirstPivot, IsSubset, IsTautology, has, formula_of, Slots, live, others, cover, Fits, change, union, greatest, standard}
 use Rattle.q_logic.specs.Blocking.{Clashes, AllClash}
 use Rattle.q_logic.specs.Covering.{Hidden, Covered, InEach, Grows, Ends, Covers}
-use Rattle.q_logic.specs.Rules.{Fits, change}
-use Rattle.q_logic.proofs.Reaching.{SameClauses, Reaches}
+use Rattle.q_logic.proofs.JustifiedRuns.{SameClauses, Reaches}
 use Rattle.q_logic.proofs.ClauseLemmas.{literal_eq-itself, IsIn-append_left, IsIn-outer}
-use Rattle.q_logic.proofs.Reaching.{alike-refl, alike-sym, alike-swap, reaches-alike, IsIn-alike}
-use Rattle.q_logic.proofs.Implying.{implied-subsumed, implied-tautology, implied-hidden_new}
-use Rattle.q_logic.proofs.Building.{least, IsIn-right, reaches-delete, step-first}
-use Rattle.q_logic.specs.Sets.{union}
-use Rattle.q_logic.specs.InLimits.{greatest}
-use Rattle.q_logic.specs.Limits.{standard}
-use Rattle.q_logic.proofs.Sets.{union-IsIn, IsIn-union}
-use Rattle.q_logic.proofs.Ordering.{Ordered, union-ordered, bounded-length}
+use Rattle.q_logic.proofs.JustifiedRuns.{alike-refl, alike-sym, alike-swap, reaches-alike, IsIn-alike}
+use Rattle.q_logic.proofs.ImpliedClauses.{implied-subsumed, implied-tautology, implied-hidden_new}
+use Rattle.q_logic.proofs.ChangeRuns.{least, IsIn-right, reaches-delete, step-first}
+use Rattle.q_logic.proofs.JoinedClauses.{union-IsIn, IsIn-union}
+use Rattle.q_logic.proofs.LiteralOrder.{Ordered, union-ordered, bounded-length}
 use Rattle.q_logic.proofs.Heights.{rise, weight, one, FreshUpTo, Way, weight-slot}
-use Rattle.q_logic.proofs.Slots.{slot-alike, has-IsIn, IsIn-has_not}
+use Rattle.q_logic.proofs.NumberedClauses.{slot-alike, has-IsIn, IsIn-has_not}
 use Rattle.q_logic.proofs.PlainRuns.{blocked-pivot}
 
 pub in_or_not : (k : Literal) (S : Clause) → IsIn k S ⊎ (IsIn k S → ⊥)
@@ -101,10 +89,10 @@ covered-possible P X l S k q m o h n =
     (r.0, record { on = l; existential = q; there = m; some = o; new = (k, h, n); grown = λ j. ((λ i. elim ((r.1 j).0 i) [ inl a ↦ inl a.1 | inr b ↦ inr b ]), λ i. elim i [ inl a ↦ (r.1 j).1 (inl (a o.0 o.1 o.2 o.3, a)) | inr b ↦ (r.1 j).1 (inr b) ]) })
 
 -- A set from which nothing goes on holds each set that another order reaches, so no other order ends.
-pub stuck-covers_none : (P : Prefix) (X : Matrix) (T : Clause) → ((U : Clause) → Grows P X T U → ⊥) → (Ends P X T → ⊥) → (S : Clause) → IsSubset S T → Covers P X S → ⊥
-stuck-covers_none P X T no_growth no_end S w (Covers.ended R (inl (k, a, b))) = no_end (inl (k, w k a, w (negation k) b))
-stuck-covers_none P X T no_growth no_end S w (Covers.ended R (inr (l, m, q, h))) = no_end (inr (l, w l m, q, λ D i n. let c : Clashes P l S D = h D i n in (c.0, c.1, w (negation c.0) c.2)))
-stuck-covers_none P X T no_growth no_end S w (Covers.grown {T = U} R g c) = stuck-covers_none P X T no_growth no_end U (inside g) c
+pub closed-covers_none : (P : Prefix) (X : Matrix) (T : Clause) → ((U : Clause) → Grows P X T U → ⊥) → (Ends P X T → ⊥) → (S : Clause) → IsSubset S T → Covers P X S → ⊥
+closed-covers_none P X T no_growth no_end S w (Covers.ended R (inl (k, a, b))) = no_end (inl (k, w k a, w (negation k) b))
+closed-covers_none P X T no_growth no_end S w (Covers.ended R (inr (l, m, q, h))) = no_end (inr (l, w l m, q, λ D i n. let c : Clashes P l S D = h D i n in (c.0, c.1, w (negation c.0) c.2)))
+closed-covers_none P X T no_growth no_end S w (Covers.grown {T = U} R g c) = closed-covers_none P X T no_growth no_end U (inside g) c
   where
     hidden : (h : Hidden X S U) → IsIn h.new T
     hidden h = elim (in_or_not h.new T) [

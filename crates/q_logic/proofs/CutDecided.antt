@@ -1,21 +1,14 @@
 -- The plain program decides what is reducible.
 use Rattle.std.proofs.Common.{◌≡◌, ◌↔◌, ◌≤◌, ℕ, zero, suc, ◌+◌, Bool, true, false, cond, ◌&&◌, not, [], ◌∷◌, ◌++◌, ◌⊎◌, inl, inr, arith, refl, sym, ap, ◌∙◌, subst, length}
-use Rattle.q_logic.specs.Clauses.{insert}
-use Rattle.q_logic.specs.Literals.{Literal, negation}
-use Rattle.q_logic.specs.Formulas.{Clause, Matrix, Prefix, IsIn}
-use Rattle.q_logic.specs.Prefixes.{is_universal}
-use Rattle.q_logic.specs.Reach.{Reducible, Reached}
-use Rattle.q_logic.specs.Sets.{IsSubset, has, union, negated_in}
-use Rattle.q_logic.specs.Measure.{size_of}
-use Rattle.q_logic.specs.Expanding.{inner_existential}
+use Rattle.q_logic.specs.Prelude.{insert, Literal, negation, Clause, Matrix, Prefix, IsIn, is_universal, Reducible, Reached, IsSubset, has, union, negated_in, size_of, inner_existential}
 use Rattle.q_logic.specs.Rules.Cut.{inner_literals, is_hit, reach_once, reach_often, none_hit, reducible}
 use Rattle.q_logic.proofs.ClauseLemmas.{IsIn-append_left}
-use Rattle.q_logic.proofs.Slots.{has-IsIn, IsIn-has}
-use Rattle.q_logic.proofs.Sets.{union-IsIn, IsIn-union, insert-IsIn, IsIn-insert}
-use Rattle.q_logic.proofs.Building.{IsIn-right}
-use Rattle.q_logic.proofs.Ordering.{Ordered, insert-ordered, union-ordered}
-use Rattle.q_logic.proofs.Searching.{ClosedLiterals, NoneHit, closed-reducible, Reaching, hit-reached, hit-not_reducible}
-use Rattle.q_logic.proofs.Iterating.{Growing, iterated, iterated-closed, lits, lits-length}
+use Rattle.q_logic.proofs.NumberedClauses.{has-IsIn, IsIn-has}
+use Rattle.q_logic.proofs.JoinedClauses.{union-IsIn, IsIn-union, insert-IsIn, IsIn-insert}
+use Rattle.q_logic.proofs.ChangeRuns.{IsIn-right}
+use Rattle.q_logic.proofs.LiteralOrder.{Ordered, insert-ordered, union-ordered}
+use Rattle.q_logic.proofs.ClosureSearch.{ClosedLiterals, NoneHit, closed-reducible, Reaching, hit-reached, hit-not_reducible}
+use Rattle.q_logic.proofs.ClosureRounds.{Growing, iterated, iterated-closed, lits, lits-length}
 use Rattle.q_logic.proofs.Decided.{and-parts, and-both, not-parts, not-both, negated_in-is, is-negated_in}
 
 inner_lits-IsIn : (P : Prefix) (u : ℕ) (C : Clause) (k : Literal) → IsIn k (inner_literals P u C) → IsIn k C × (inner_existential P u k.var ≡ true)

@@ -1,29 +1,20 @@
 -- The plain programs decide the conditions of most targets.
 use Rattle.std.proofs.Common.{◌≡◌, ◌≢◌, ◌↔◌, ◌≤◌, ℕ, ◌+◌, Bool, true, false, ◌||◌, ◌&&◌, not, eqb, [], ◌∷◌, ◌⊎◌, inl, inr, arith, refl, sym, ap, ◌∙◌, subst, Option, Some, None, length}
-use Rattle.q_logic.specs.StepForms.{positive}
-use Rattle.q_logic.specs.Sweep.{occurs}
+use Rattle.q_logic.specs.Prelude.{positive, occurs, Literal, negation, literal_eq, Clause, Matrix, Prefix, IsIn, is_existential, is_universal, is_bound, outer_or_same, outer, Slots, slot, live, others, tautology, unit, pure, subsumed, strengthen, blocked, blocked_forall, eliminate, expand_universal, size_of, Fits}
 use Rattle.q_logic.specs.declared.rule_bounds.Bounds.{Bounds}
-use Rattle.q_logic.specs.Literals.{Literal, negation, literal_eq}
-use Rattle.q_logic.specs.Formulas.{Clause, Matrix, Prefix, IsIn}
-use Rattle.q_logic.specs.Prefixes.{is_existential, is_universal, is_bound, outer_or_same}
-use Rattle.q_logic.specs.Pivots.{outer}
 use Rattle.q_logic.specs.Sets.{has, is_tautology, IsTautology, IsSubset, OccursIn, at_most, all_in, literal_occurs, negated_in}
-use Rattle.q_logic.specs.Numbered.{Slots, slot, live, others}
-use Rattle.q_logic.specs.Targets.{tautology, unit, pure, subsumed, strengthen, blocked, blocked_forall, eliminate, expand_universal}
 use Rattle.q_logic.specs.Blocking.{Clashes, AllClash, clashes, all_clash}
-use Rattle.q_logic.specs.Measure.{size_of}
 use Rattle.q_logic.specs.Eliminating.{AllOuter, resolvents, clauses_of, all_outer, outer_side, no_tautology}
 use Rattle.q_logic.specs.Expanding.{expansion_vars, touched_neither, no_both}
-use Rattle.q_logic.specs.Rules.{Fits}
 use Rattle.q_logic.specs.Deciding.{fits}
 use Rattle.q_logic.specs.Rule.{if_some}
 use Rattle.q_logic.specs.Rules.Unit.{is_unit}
 use Rattle.q_logic.specs.Rules.Strengthen.{strengthens}
 use Rattle.q_logic.proofs.ClauseLemmas.{literal_eq-sound, literal_eq-itself}
-use Rattle.q_logic.proofs.Slots.{has-IsIn, IsIn-has}
-use Rattle.q_logic.proofs.Sets.{is_tautology-sound}
-use Rattle.q_logic.proofs.Measuring.{occurs_var-find, occurs_var-IsIn}
-use Rattle.q_logic.proofs.Falling.{var_is}
+use Rattle.q_logic.proofs.NumberedClauses.{has-IsIn, IsIn-has}
+use Rattle.q_logic.proofs.JoinedClauses.{is_tautology-sound}
+use Rattle.q_logic.proofs.Measures.{occurs_var-find, occurs_var-IsIn}
+use Rattle.q_logic.proofs.MeasureFalls.{var_is}
 
 pub and-parts : (a b : Bool) → (a && b) ≡ true → (a ≡ true) × (b ≡ true)
 and-parts true b h = (refl, h)
@@ -63,7 +54,7 @@ is_tautology-whole (j ∷ C) (k, inl e, inl f) = absurd (no k (e ∙ sym f))
     no : (k : Literal) → k ≡ negation k → ⊥
     no k e = let z : literal_eq k k ≡ true = literal_eq-itself k in let y : literal_eq k (negation k) ≡ true = subst (λ x. literal_eq k x ≡ true) e z in let w : literal_eq k (negation k) ≡ false = Rattle.q_logic.proofs.ClauseLemmas.literal_eq-negation k in grind arith
 is_tautology-whole (j ∷ C) (k, inl e, inr n) = or-either (has (negation j) C) (is_tautology C) (inl (IsIn-has (negation j) C (subst (λ y. IsIn (negation y) C) e n)))
-is_tautology-whole (j ∷ C) (k, inr m, inl f) = or-either (has (negation j) C) (is_tautology C) (inl (IsIn-has (negation j) C (subst (λ y. IsIn y C) (sym (Rattle.q_logic.proofs.Implying.negation-negation k) ∙ ap negation f) m)))
+is_tautology-whole (j ∷ C) (k, inr m, inl f) = or-either (has (negation j) C) (is_tautology C) (inl (IsIn-has (negation j) C (subst (λ y. IsIn y C) (sym (Rattle.q_logic.proofs.ImpliedClauses.negation-negation k) ∙ ap negation f) m)))
 is_tautology-whole (j ∷ C) (k, inr m, inr n) = or-either (has (negation j) C) (is_tautology C) (inr (is_tautology-whole C (k, m, n)))
 
 all_in-is : (C D : Clause) → all_in C D ≡ true → IsSubset C D

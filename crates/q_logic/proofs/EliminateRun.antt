@@ -1,27 +1,16 @@
 -- Eliminating an existential is a run: the resolvents come, then the clauses of the variable go by pivot.
 use Rattle.std.proofs.Common.{◌≡◌, ◌≢◌, ℕ, ◌+◌, Bool, true, false, [], ◌∷◌, ◌++◌, ◌⊎◌, inl, inr, arith, refl, sym, ◌∙◌, subst, Some, length}
-use Rattle.q_logic.specs.StepForms.{positive}
+use Rattle.q_logic.specs.Prelude.{positive, Literal, negation, literal_eq, Clause, Matrix, Prefix, IsIn, is_bound, is_existential, outer_or_same, Implied, outer, ExistsPivot, without, copies, IsTautology, with_literal, without_literal, formula_of, Slots, live, eliminate, AllOuter, Eliminable, resolvent, resolve_one, resolve_all, resolvents, clauses_not_of, Fits, change}
 use Rattle.q_logic.specs.declared.rule_bounds.Bounds.{Bounds}
 use Rattle.q_logic.proofs.Heights.{weight, one, Way, modest-append, modest-adds, modest-deletes}
-use Rattle.q_logic.specs.Literals.{Literal, negation, literal_eq}
-use Rattle.q_logic.specs.Formulas.{Clause, Matrix, Prefix, IsIn}
-use Rattle.q_logic.specs.Prefixes.{is_bound, is_existential, outer_or_same}
-use Rattle.q_logic.specs.Propagation.{Implied}
-use Rattle.q_logic.specs.Pivots.{outer, ExistsPivot, without}
-use Rattle.q_logic.specs.Runs.{copies}
-use Rattle.q_logic.specs.Sets.{IsTautology, with_literal, without_literal}
-use Rattle.q_logic.specs.Numbered.{formula_of, Slots, live}
-use Rattle.q_logic.specs.Targets.{eliminate}
-use Rattle.q_logic.specs.Eliminating.{AllOuter, Eliminable, resolvent, resolve_one, resolve_all, resolvents, clauses_not_of}
-use Rattle.q_logic.specs.Rules.{Fits, change}
-use Rattle.q_logic.proofs.Reaching.{SameClauses, Reaches}
+use Rattle.q_logic.proofs.JustifiedRuns.{SameClauses, Reaches}
 use Rattle.q_logic.proofs.ClauseLemmas.{literal_eq-sound, literal_eq-itself, IsIn-append_left, IsIn-append}
 use Rattle.q_logic.proofs.UniversalPivot.{IsIn-without, without-IsIn}
-use Rattle.q_logic.proofs.Reaching.{alike-sym, copies-append, reaches-alike, reaches-append}
-use Rattle.q_logic.proofs.Implying.{implied-subsumed, implied-tautology, implied-hidden, same_or_not}
-use Rattle.q_logic.proofs.Building.{deletes, adds, least, IsIn-right, reaches-deletes, reaches-adds}
-use Rattle.q_logic.proofs.Slots.{with-alike, IsIn-with, IsIn-without_literal, IsIn-in_with, without_literal-swap}
-use Rattle.q_logic.proofs.Sets.{union-IsIn, IsIn-union, IsIn-outer_in, without-other, IsIn-put_unless, put_unless-IsIn, put_unless-more}
+use Rattle.q_logic.proofs.JustifiedRuns.{alike-sym, copies-append, reaches-alike, reaches-append}
+use Rattle.q_logic.proofs.ImpliedClauses.{implied-subsumed, implied-tautology, implied-hidden, same_or_not}
+use Rattle.q_logic.proofs.ChangeRuns.{deletes, adds, least, IsIn-right, reaches-deletes, reaches-adds}
+use Rattle.q_logic.proofs.NumberedClauses.{with-alike, IsIn-with, IsIn-without_literal, IsIn-in_with, without_literal-swap}
+use Rattle.q_logic.proofs.JoinedClauses.{union-IsIn, IsIn-union, IsIn-outer_in, without-other, IsIn-put_unless, put_unless-IsIn, put_unless-more}
 use Rattle.q_logic.proofs.PlainRuns.{pure-pivot}
 
 abbrev Resolved : Literal → Matrix → Matrix → Clause → Type 0
@@ -64,7 +53,7 @@ resolvent-implied Z l C D inC inD n = implied-hidden Z D U (negation l) inD n
     other j k d false q = q
 
     double : negation (negation l) ≡ l
-    double = Rattle.q_logic.proofs.Implying.negation-negation l
+    double = Rattle.q_logic.proofs.ImpliedClauses.negation-negation l
 
     go : (k : Literal) → IsIn k C → (k ≡ l) ⊎ (k ≢ l) → (k ≡ negation (negation l)) ⊎ IsIn k U
     go k m (inl e) = inl (e ∙ sym double)

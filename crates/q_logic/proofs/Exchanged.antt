@@ -2,9 +2,7 @@
 use Rattle.std.proofs.Common.{◌≡◌, ℕ, Bool, true, false, not, [], ◌∷◌, refl, sym, ap, ◌∙◌}
 use Rattle.q_logic.specs.declared.formulas.Quant.{Quant}
 use Rattle.q_logic.specs.declared.formulas.Quant.TheVariants.{Exists, Forall}
-use Rattle.q_logic.specs.Formulas.{Prefix}
-use Rattle.q_logic.specs.Prefixes.{is_exists, is_existential, is_universal, is_bound, universal_before, same_quant, run_to, outer_or_same, Distinct}
-use Rattle.q_logic.specs.Skolems.{Strategy, Lawful}
+use Rattle.q_logic.specs.Prelude.{Prefix, is_exists, is_existential, is_universal, is_bound, universal_before, same_quant, run_to, outer_or_same, Distinct, Strategy, Lawful}
 use Rattle.q_logic.specs.Exchanging.{other_quant, exchanged}
 use Rattle.q_logic.specs.Herbrands.{existential_before, LawfulHerbrand}
 

@@ -1,23 +1,13 @@
 -- The variables of an expansion are closed under links, and an expansion is a run.
 use Rattle.std.proofs.Common.{◌≡◌, ◌≤◌, ◌<◌, ℕ, zero, suc, ◌+◌, ◌-◌, Bool, true, false, cond, ◌||◌, ◌&&◌, not, eqb, List, [], ◌∷◌, ◌++◌, ◌⊎◌, inl, inr, arith, refl, sym, ap, ◌∙◌, subst, length, ◌*◌}
-use Rattle.q_logic.specs.Sweep.{has_variable}
-use Rattle.q_logic.specs.StepForms.{positive}
+use Rattle.q_logic.specs.Prelude.{has_variable, positive, Literal, Clause, Prefix, Matrix, IsIn, is_bound, is_existential, is_universal, outer_or_same, Distinct, has, formula_of, Slots, live, expand_universal, greatest, IsInLimits, standard, Fits, change}
 use Rattle.q_logic.specs.declared.rule_bounds.Bounds.{Bounds}
-use Rattle.q_logic.specs.Literals.{Literal}
-use Rattle.q_logic.specs.Formulas.{Clause, Prefix, Matrix, IsIn}
-use Rattle.q_logic.specs.Prefixes.{is_bound, is_existential, is_universal, outer_or_same, Distinct}
-use Rattle.q_logic.specs.Sets.{has}
-use Rattle.q_logic.specs.Numbered.{formula_of, Slots, live}
-use Rattle.q_logic.specs.Targets.{expand_universal}
 use Rattle.q_logic.specs.Expanding.{Expandable, in_list, shares, touches, touched_with, next_vars, grown_vars, expansion_vars, inner_existential, insert_all, expanded}
-use Rattle.q_logic.specs.InLimits.{greatest, IsInLimits}
-use Rattle.q_logic.specs.Limits.{standard}
-use Rattle.q_logic.specs.Rules.{Fits, change}
-use Rattle.q_logic.proofs.Reaching.{Reaches}
-use Rattle.q_logic.proofs.Order.{existential-is_bound, universal-not_existential}
-use Rattle.q_logic.proofs.Reaching.{reaches-append}
-use Rattle.q_logic.proofs.Slots.{has-IsIn}
-use Rattle.q_logic.proofs.Ordering.{is_bound-greatest}
+use Rattle.q_logic.proofs.JustifiedRuns.{Reaches}
+use Rattle.q_logic.proofs.PrefixOrder.{existential-is_bound, universal-not_existential}
+use Rattle.q_logic.proofs.JustifiedRuns.{reaches-append}
+use Rattle.q_logic.proofs.NumberedClauses.{has-IsIn}
+use Rattle.q_logic.proofs.LiteralOrder.{is_bound-greatest}
 use Rattle.q_logic.proofs.ExpandPrefix.{Above, AllE, below, inserted-is_existential, inserted-is_universal, inserted-is_bound, inserted-outer, inserted-copies, inserted-distinct, freshes, reaches-freshes, outer_or_same-inner}
 use Rattle.q_logic.proofs.ExpandLinks.{minus, Originals}
 use Rattle.q_logic.proofs.Heights.{weight, one, Way, modest-append, modest-more, weight-one, weight-length}

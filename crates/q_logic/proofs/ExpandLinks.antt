@@ -1,23 +1,14 @@
 -- The clauses that make each copy equal to its original where u is true.
 use Rattle.std.proofs.Common.{◌≡◌, ◌≤◌, ◌<◌, ℕ, ◌+◌, Bool, true, false, not, eqb, List, [], ◌∷◌, ◌++◌, ◌⊎◌, inl, inr, arith, refl, sym, ap, ◌∙◌, subst, Some}
-use Rattle.q_logic.specs.Clauses.{insert}
-use Rattle.q_logic.specs.StepForms.{positive}
-use Rattle.q_logic.specs.Literals.{Literal, negation, literal_eq}
-use Rattle.q_logic.specs.Formulas.{Clause, Prefix, Matrix, IsIn}
-use Rattle.q_logic.specs.Prefixes.{is_bound, is_existential, outer_or_same}
-use Rattle.q_logic.specs.Propagation.{Implied}
-use Rattle.q_logic.specs.Pivots.{keeps, outer, ExistsPivot, without}
-use Rattle.q_logic.specs.Steps.{ProofStep, add, delete}
-use Rattle.q_logic.specs.Numbered.{formula_of}
-use Rattle.q_logic.specs.Expanding.{in_list, copied_literal, copied}
-use Rattle.q_logic.proofs.Reaching.{SameClauses, Reaches}
+use Rattle.q_logic.specs.Prelude.{insert, positive, Literal, negation, literal_eq, Clause, Prefix, Matrix, IsIn, is_bound, is_existential, outer_or_same, Implied, keeps, outer, ExistsPivot, without, ProofStep, add, delete, formula_of, in_list, copied_literal, copied}
+use Rattle.q_logic.proofs.JustifiedRuns.{SameClauses, Reaches}
 use Rattle.q_logic.proofs.ClauseLemmas.{literal_eq-sound, IsIn-append_left, IsIn-append}
-use Rattle.q_logic.proofs.Order.{existential-is_bound}
+use Rattle.q_logic.proofs.PrefixOrder.{existential-is_bound}
 use Rattle.q_logic.proofs.UniversalPivot.{IsIn-without}
-use Rattle.q_logic.proofs.Reaching.{alike-refl, alike-trans, alike-cons, alike-swap, reaches-end}
-use Rattle.q_logic.proofs.Implying.{implied-subsumed, implied-tautology, implied-hidden_new, implied-longer}
-use Rattle.q_logic.proofs.Building.{IsIn-right, alike-turned, step-first}
-use Rattle.q_logic.proofs.Sets.{insert-IsIn, IsIn-insert, IsIn-outer_in}
+use Rattle.q_logic.proofs.JustifiedRuns.{alike-refl, alike-trans, alike-cons, alike-swap, reaches-end}
+use Rattle.q_logic.proofs.ImpliedClauses.{implied-subsumed, implied-tautology, implied-hidden_new, implied-longer}
+use Rattle.q_logic.proofs.ChangeRuns.{IsIn-right, alike-turned, step-first}
+use Rattle.q_logic.proofs.JoinedClauses.{insert-IsIn, IsIn-insert, IsIn-outer_in}
 use Rattle.q_logic.proofs.ExpandPrefix.{Copies, CopyOf, copy_of-in, copy_of-out}
 
 abbrev pub lit : ℕ → Bool → Literal

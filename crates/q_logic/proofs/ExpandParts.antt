@@ -1,17 +1,10 @@
 -- The clauses of an expansion, by kind.
 use Rattle.std.proofs.Common.{◌≡◌, ℕ, ◌+◌, Bool, true, false, cond, List, [], ◌∷◌, inl, inr, arith, refl, sym, subst, nat_lt, ◌==◌}
 use Rattle.std.proofs.lemmas.Bool.Decides.{nat_tests}
-use Rattle.q_logic.specs.Clauses.{insert}
-use Rattle.q_logic.specs.StepForms.{positive}
-use Rattle.q_logic.specs.Literals.{Literal, literal_eq, pack}
-use Rattle.q_logic.specs.Formulas.{Clause, Matrix, IsIn}
-use Rattle.q_logic.specs.Pivots.{without}
-use Rattle.q_logic.specs.Runs.{copies}
-use Rattle.q_logic.specs.Sets.{has}
-use Rattle.q_logic.specs.Expanding.{shares, copied, expanded}
+use Rattle.q_logic.specs.Prelude.{insert, positive, Literal, literal_eq, pack, Clause, Matrix, IsIn, without, copies, has, shares, copied, expanded}
 use Rattle.q_logic.proofs.ClauseLemmas.{literal_eq-itself}
-use Rattle.q_logic.proofs.Building.{mapped}
-use Rattle.q_logic.proofs.Slots.{without-same}
+use Rattle.q_logic.proofs.ChangeRuns.{mapped}
+use Rattle.q_logic.proofs.NumberedClauses.{without-same}
 use Rattle.q_logic.proofs.ExpandLinks.{minus}
 
 -- With u; with not u; with neither and a variable of V; the others.

@@ -1,15 +1,11 @@
 -- The prefix of an expansion: each copy stands in the block of its original.
 use Rattle.std.proofs.Common.{◌≡◌, ◌≤◌, ◌<◌, ℕ, ◌+◌, Bool, true, false, cond, eqb, List, [], ◌∷◌, arith, refl, ◌∙◌, subst}
 use Rattle.q_logic.specs.declared.formulas.Quant.{Quant}
-use Rattle.q_logic.specs.Formulas.{Prefix, Matrix}
-use Rattle.q_logic.specs.Prefixes.{is_bound, is_existential, is_universal, outer_or_same, run_to, Distinct}
-use Rattle.q_logic.specs.Steps.{ProofStep, fresh, insert_after}
-use Rattle.q_logic.specs.Numbered.{formula_of}
-use Rattle.q_logic.specs.Expanding.{insert_all, in_list, copy_of}
-use Rattle.q_logic.proofs.Reaching.{Reaches}
+use Rattle.q_logic.specs.Prelude.{Prefix, Matrix, is_bound, is_existential, is_universal, outer_or_same, run_to, Distinct, ProofStep, fresh, insert_after, formula_of, insert_all, in_list, copy_of}
+use Rattle.q_logic.proofs.JustifiedRuns.{Reaches}
 use Rattle.q_logic.proofs.Prefixes.{insert-is_bound, insert-is_existential, insert-itself, insert-distinct}
-use Rattle.q_logic.proofs.Order.{existential-is_bound}
-use Rattle.q_logic.proofs.Reaching.{alike-refl}
+use Rattle.q_logic.proofs.PrefixOrder.{existential-is_bound}
+use Rattle.q_logic.proofs.JustifiedRuns.{alike-refl}
 
 run_to-insert : (q : Quant) (w v : ℕ) (P : Prefix) (a : ℕ) → is_existential P w ≡ true → eqb a v ≡ false → run_to q (insert_after w v P) a ≡ run_to q P a
 run_to-insert q w v [] a e n = refl

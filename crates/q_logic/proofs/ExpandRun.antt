@@ -1,27 +1,15 @@
 -- The steps of an expansion, over a prefix that has the copies.
 use Rattle.std.proofs.Common.{◌≡◌, ◌≤◌, ◌<◌, ℕ, ◌+◌, Bool, true, false, eqb, List, [], ◌∷◌, ◌++◌, ◌⊎◌, inl, inr, arith, refl, sym, ap, ◌∙◌, subst}
-use Rattle.q_logic.specs.Clauses.{insert}
-use Rattle.q_logic.specs.StepForms.{positive}
-use Rattle.q_logic.specs.Literals.{Literal, negation, literal_eq}
-use Rattle.q_logic.specs.Formulas.{Clause, Prefix, Matrix, IsIn, PrenexFormula}
-use Rattle.q_logic.specs.Prefixes.{is_bound, is_existential, is_universal, outer_or_same}
-use Rattle.q_logic.specs.Propagation.{Implied}
-use Rattle.q_logic.specs.Pivots.{without}
-use Rattle.q_logic.specs.Reach.{Reducible, Reached}
-use Rattle.q_logic.specs.Steps.{ProofStep}
-use Rattle.q_logic.specs.Runs.{copies}
-use Rattle.q_logic.specs.Sets.{has}
-use Rattle.q_logic.specs.Numbered.{formula_of}
-use Rattle.q_logic.specs.Expanding.{in_list, shares, inner_existential, copy_of, copied_literal, copied, expanded}
-use Rattle.q_logic.proofs.Reaching.{SameClauses, Reaches}
+use Rattle.q_logic.specs.Prelude.{insert, positive, Literal, negation, literal_eq, Clause, Prefix, Matrix, IsIn, PrenexFormula, is_bound, is_existential, is_universal, outer_or_same, Implied, without, Reducible, Reached, ProofStep, copies, has, formula_of, in_list, shares, inner_existential, copy_of, copied_literal, copied, expanded}
+use Rattle.q_logic.proofs.JustifiedRuns.{SameClauses, Reaches}
 use Rattle.q_logic.proofs.ClauseLemmas.{literal_eq-sound, literal_eq-itself, IsIn-append_left, IsIn-append}
-use Rattle.q_logic.proofs.Order.{existential-is_bound, universal-not_existential}
+use Rattle.q_logic.proofs.PrefixOrder.{existential-is_bound, universal-not_existential}
 use Rattle.q_logic.proofs.UniversalPivot.{without-IsIn}
-use Rattle.q_logic.proofs.Reaching.{alike-sym, copies-append, reaches-alike, reaches-append, reaches-end}
-use Rattle.q_logic.proofs.Implying.{implied-subsumed, implied-hidden}
-use Rattle.q_logic.proofs.Building.{least, mapped, adds, deletes, replaces, drops, IsIn-right, reaches-adds, reaches-deletes, reaches-replaces, reaches-drops}
-use Rattle.q_logic.proofs.Slots.{has-IsIn, IsIn-has_not}
-use Rattle.q_logic.proofs.Sets.{insert-IsIn, IsIn-insert, without-other}
+use Rattle.q_logic.proofs.JustifiedRuns.{alike-sym, copies-append, reaches-alike, reaches-append, reaches-end}
+use Rattle.q_logic.proofs.ImpliedClauses.{implied-subsumed, implied-hidden}
+use Rattle.q_logic.proofs.ChangeRuns.{least, mapped, adds, deletes, replaces, drops, IsIn-right, reaches-adds, reaches-deletes, reaches-replaces, reaches-drops}
+use Rattle.q_logic.proofs.NumberedClauses.{has-IsIn, IsIn-has_not}
+use Rattle.q_logic.proofs.JoinedClauses.{insert-IsIn, IsIn-insert, without-other}
 use Rattle.q_logic.proofs.ExpandPrefix.{Copies, CopyOf, copy_of-in, copy_of-out}
 use Rattle.q_logic.proofs.ExpandLinks.{lit, minus, links, link_steps, unlink_steps, links-in, over_copies, over_copies-implied, implied-by_copies, VarsBelow, Originals, Guarded, reaches-links, reaches-unlinks}
 use Rattle.q_logic.proofs.ExpandParts.{with_u, with_minus, sharing, apart, parts-copies, expanded-copies, copied_rest, with_u-IsIn, with_minus-IsIn, sharing-IsIn, apart-IsIn, without-insert}

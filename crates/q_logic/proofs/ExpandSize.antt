@@ -1,22 +1,12 @@
 -- What the steps of an expansion add: no more than its result and the clauses that link each variable to its copy.
 use Rattle.std.proofs.Common.{◌≡◌, ◌≤◌, ℕ, ◌+◌, ◌-◌, ◌*◌, Bool, true, false, cond, List, [], ◌∷◌, ◌++◌, arith, refl, sym, subst, length}
-use Rattle.q_logic.specs.Clauses.{insert}
-use Rattle.q_logic.specs.StepForms.{positive}
-use Rattle.q_logic.specs.Literals.{Literal}
-use Rattle.q_logic.specs.Formulas.{Clause, Matrix, Prefix}
-use Rattle.q_logic.specs.Prefixes.{is_existential}
-use Rattle.q_logic.specs.Pivots.{without}
-use Rattle.q_logic.specs.Steps.{insert_after}
-use Rattle.q_logic.specs.Limits.{standard}
-use Rattle.q_logic.specs.Sets.{has}
-use Rattle.q_logic.specs.InLimits.{greatest}
-use Rattle.q_logic.specs.Expanding.{shares, copied, insert_all, expanded}
-use Rattle.q_logic.proofs.Order.{existential-is_bound}
+use Rattle.q_logic.specs.Prelude.{insert, positive, Literal, Clause, Matrix, Prefix, is_existential, without, insert_after, standard, has, greatest, shares, copied, insert_all, expanded}
+use Rattle.q_logic.proofs.PrefixOrder.{existential-is_bound}
 use Rattle.q_logic.proofs.Prefixes.{insert-itself}
-use Rattle.q_logic.proofs.Building.{least, adds, deletes, replaces, drops, mapped}
-use Rattle.q_logic.proofs.Slots.{without-same}
-use Rattle.q_logic.proofs.Sets.{insert-length}
-use Rattle.q_logic.proofs.Ordering.{is_bound-greatest}
+use Rattle.q_logic.proofs.ChangeRuns.{least, adds, deletes, replaces, drops, mapped}
+use Rattle.q_logic.proofs.NumberedClauses.{without-same}
+use Rattle.q_logic.proofs.JoinedClauses.{insert-length}
+use Rattle.q_logic.proofs.LiteralOrder.{is_bound-greatest}
 use Rattle.q_logic.proofs.Heights.{rise, weight, one, FreshUpTo, Modest, modest-append, modest-more, modest-adds, modest-deletes, modest-replaces, modest-drops}
 use Rattle.q_logic.proofs.ExpandPrefix.{Above, AllE, alle-insert, above-insert, freshes}
 use Rattle.q_logic.proofs.ExpandLinks.{lit, minus, link, link_steps, unlink_steps, over_copies}

@@ -2,13 +2,11 @@
 use Rattle.std.proofs.Common.{◌≡◌, ◌↔◌, ℕ, Bool, true, false, [], ◌∷◌, ◌⊎◌, inl, inr, arith, refl, sym, ap, ◌∙◌, subst}
 use Rattle.q_logic.specs.declared.formulas.Quant.{Quant}
 use Rattle.q_logic.specs.declared.formulas.Quant.TheVariants.{Exists, Forall}
-use Rattle.q_logic.specs.Formulas.{Prefix, Clause, Matrix, PrenexFormula}
-use Rattle.q_logic.specs.Prefixes.{is_bound, IsFormula, Closed}
+use Rattle.q_logic.specs.Prelude.{Prefix, Clause, Matrix, PrenexFormula, is_bound, IsFormula, Closed, Strategy, outcome, Lawful}
 use Rattle.q_logic.specs.Truth.{Assignment, ClauseTrue, MatrixTrue, signed, with_value, by_quant, Game, Holds, clause_true}
-use Rattle.q_logic.specs.Skolems.{Strategy, outcome, Lawful}
 use Rattle.q_logic.specs.Herbrands.{MatrixFalse, HerbrandOf}
 use Rattle.q_logic.specs.Exchanging.{other_quant, exchanged}
-use Rattle.q_logic.proofs.Deciding.{clause_true-sound, clause_true-complete}
+use Rattle.q_logic.proofs.TruthDecided.{clause_true-sound, clause_true-complete}
 use Rattle.q_logic.proofs.Truth.{game_has-strategy, strategy_wins-game}
 use Rattle.q_logic.proofs.Exchanged.{exchanged-bound, exchanged-distinct, lawful-exchanged, exchanged-lawful}
 

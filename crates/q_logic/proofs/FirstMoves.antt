@@ -1,21 +1,16 @@
 -- Winning first moves are those that Skolem functions can complete.
 use Rattle.std.proofs.Common.{◌≡◌, ℕ, Bool, true, false, cond, not, eqb, List, [], ◌∷◌, ◌++◌, ◌⊎◌, inl, inr, arith, refl, sym, ap, ◌∙◌, subst}
 use Rattle.q_logic.specs.declared.formulas.Quant.TheVariants.{Exists}
-use Rattle.q_logic.specs.Literals.{Literal}
-use Rattle.q_logic.specs.Formulas.{Prefix, Clause, IsIn, PrenexFormula}
-use Rattle.q_logic.specs.Prefixes.{is_exists, is_bound, run_to, universal_before, IsFormula}
+use Rattle.q_logic.specs.Prelude.{Literal, Prefix, Clause, IsIn, PrenexFormula, is_exists, is_bound, run_to, universal_before, IsFormula, Strategy, circuit_of, outcome, Lawful, SkolemOf, ProofStep, UndoEntry, Back, Undos}
 use Rattle.q_logic.specs.Truth.{Assignment, ClauseTrue, MatrixTrue, LiteralTrue, signed}
-use Rattle.q_logic.specs.Skolems.{Strategy, circuit_of, outcome, Lawful, SkolemOf}
-use Rattle.q_logic.specs.Steps.{ProofStep}
-use Rattle.q_logic.specs.Undos.{UndoEntry, Back, Undos}
 use Rattle.q_logic.proofs.Justified.{JustifiedRun}
 use Rattle.q_logic.proofs.ClauseLemmas.{IsIn-append, IsIn-append_left}
-use Rattle.q_logic.proofs.Implying.{IsIn-append_right}
-use Rattle.q_logic.proofs.Order.{existential-is_bound}
-use Rattle.q_logic.proofs.Trees.{value_of-agree}
+use Rattle.q_logic.proofs.ImpliedClauses.{IsIn-append_right}
+use Rattle.q_logic.proofs.PrefixOrder.{existential-is_bound}
+use Rattle.q_logic.proofs.TreeValues.{value_of-agree}
 use Rattle.q_logic.proofs.Soundness.{rebuilt-skolem, has_skolem, from_skolem}
 use Rattle.q_logic.specs.Moves.{IsFirst, Agree, CanBeCompleted, first_values, set_first, Wins, HasFirst}
-use Rattle.q_logic.proofs.Rounds.{first-is-run, first-none_before}
+use Rattle.q_logic.proofs.PrefixRounds.{first-is-run, first-none_before}
 use Rattle.q_logic.proofs.MovesBack.{Quiet, run-agree}
 
 -- Completions are carried back.

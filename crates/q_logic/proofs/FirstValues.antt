@@ -3,13 +3,12 @@ use Rattle.std.proofs.Common.{◌≡◌, ◌↔◌, ℕ, Bool, true, false, cond
 use Rattle.q_logic.specs.declared.formulas.Quant.{Quant}
 use Rattle.q_logic.specs.declared.formulas.Bound.{Bound}
 use Rattle.q_logic.specs.declared.formulas.Quant.TheVariants.{Exists, Forall}
-use Rattle.q_logic.specs.Formulas.{Prefix, PrenexFormula}
-use Rattle.q_logic.specs.Prefixes.{is_exists, is_bound, run_to, Distinct, IsFormula}
+use Rattle.q_logic.specs.Prelude.{Prefix, PrenexFormula, is_exists, is_bound, run_to, Distinct, IsFormula}
 use Rattle.q_logic.specs.Truth.{Assignment, MatrixTrue, with_value, by_quant, Game, HoldsUnder}
 use Rattle.q_logic.proofs.Truth.{MatrixTrue-closed}
 use Rattle.q_logic.specs.Moves.{later, first_values, Wins}
 use Rattle.q_logic.proofs.ClauseLemmas.{IsIn-append, IsIn-append_left}
-use Rattle.q_logic.proofs.Implying.{IsIn-append_right}
+use Rattle.q_logic.proofs.ImpliedClauses.{IsIn-append_right}
 use Rattle.q_logic.proofs.FirstMoves.{values-set, set-values}
 
 -- Both are played alike.

@@ -3,18 +3,7 @@ use Rattle.std.proofs.Common.{◌≡◌, Bool, true, false, cond, List, [], ◌�
 use Rattle.q_logic.specs.declared.formulas.Bound.{Bound}
 use Rattle.q_logic.specs.declared.formulas.Quant.{Quant}
 use Rattle.q_logic.specs.declared.formulas.Quant.TheVariants.{Exists, Forall}
-use Rattle.q_logic.specs.Literals.{Literal, negation}
-use Rattle.q_logic.specs.Formulas.{Prefix, Clause, Matrix, IsIn, PrenexFormula}
-use Rattle.q_logic.specs.Prefixes.{is_universal, same_quant, IsFormula, Block, push_block, blocks, SameBlocks}
-use Rattle.q_logic.specs.Truth.{Assignment, ClauseTrue}
-use Rattle.q_logic.specs.Circuits.{constant}
-use Rattle.q_logic.specs.Skolems.{Strategy, outcome}
-use Rattle.q_logic.specs.Propagation.{Implied}
-use Rattle.q_logic.specs.Pivots.{ForallPivot, ExistsPivot, outer}
-use Rattle.q_logic.specs.Reach.{Reducible}
-use Rattle.q_logic.specs.Steps.{ProofStep, add, delete, drop_literal, fresh, remove_variable, one_less, FirstPivot, after}
-use Rattle.q_logic.specs.Runs.{SameFormula}
-use Rattle.q_logic.specs.Undos.{with_circuit, every_outer}
+use Rattle.q_logic.specs.Prelude.{Literal, negation, Prefix, Clause, Matrix, IsIn, PrenexFormula, is_universal, same_quant, IsFormula, Block, push_block, blocks, SameBlocks, Assignment, ClauseTrue, constant, Strategy, outcome, Implied, ForallPivot, ExistsPivot, outer, Reducible, ProofStep, add, delete, drop_literal, fresh, remove_variable, one_less, FirstPivot, after, SameFormula, with_circuit, every_outer}
 use Rattle.q_logic.specs.Herbrands.{MatrixFalse, LawfulHerbrand, Herbrand, HerbrandOf}
 use Rattle.q_logic.specs.Reversals.{Reversal, added, turned, plain, freshened, removed, carried, inner, Forth, IsExtended, Reversed, Reversals, NoneExtended}
 use Rattle.q_logic.specs.Exchanging.{other_quant, exchanged}
@@ -27,7 +16,7 @@ use Rattle.q_logic.proofs.Runs.{one_less-IsIn}
 use Rattle.q_logic.proofs.Soundness.{after-formula}
 use Rattle.q_logic.proofs.Exchanged.{other-same, lawful-exchanged, exchanged-lawful}
 use Rattle.q_logic.proofs.Falsity.{matrix_either}
-use Rattle.q_logic.proofs.Turning.{added-lawful, added-carries, turned-lawful, turned-carries}
+use Rattle.q_logic.proofs.ForthPivots.{added-lawful, added-carries, turned-lawful, turned-carries}
 use Rattle.q_logic.proofs.PlainDrops.{plain-lawful, plain-carries, tautology-carries}
 use Rattle.q_logic.proofs.ForthVariables.{fresh-lawful, fresh-carries, removed-carries_lawful, removed-carries}
 

@@ -1,14 +1,8 @@
 -- Fresh and removed variables carry Herbrand functions over.
 use Rattle.std.proofs.Common.{◌≡◌, ℕ, Bool, true, false, cond, eqb, [], ◌∷◌, arith, refl, sym, ap, ◌∙◌, subst, Option, Some, None}
 use Rattle.q_logic.specs.declared.formulas.Quant.TheVariants.{Exists, Forall}
-use Rattle.q_logic.specs.Literals.{Literal}
-use Rattle.q_logic.specs.Formulas.{Prefix, Clause, Matrix, IsIn}
-use Rattle.q_logic.specs.Prefixes.{is_existential, is_universal, is_bound, Distinct, Closed}
-use Rattle.q_logic.specs.Truth.{Assignment, signed, with_value}
-use Rattle.q_logic.specs.Circuits.{Circuit, constant, value_of, replaced}
+use Rattle.q_logic.specs.Prelude.{Literal, Prefix, Clause, Matrix, IsIn, is_existential, is_universal, is_bound, Distinct, Closed, Assignment, signed, with_value, Circuit, constant, value_of, replaced, insert_after, removed_from, with_circuit}
 use Rattle.q_logic.specs.Skolems.{Strategy, or_input, given, map_circuit, reread, outcome, Skolem, Lawful}
-use Rattle.q_logic.specs.Steps.{insert_after, removed_from}
-use Rattle.q_logic.specs.Undos.{with_circuit}
 use Rattle.q_logic.specs.Herbrands.{MatrixFalse, LawfulHerbrand, Herbrand}
 use Rattle.q_logic.specs.Exchanging.{other_quant, exchanged}
 use Rattle.q_logic.proofs.Prefixes.{insert-distinct}

@@ -1,21 +1,12 @@
 -- How large the formulas along a run get: what its steps add at most, and that steps which add little keep the checker's limits.
 use Rattle.std.proofs.Common.{◌≡◌, ◌≤◌, ℕ, ◌+◌, ◌-◌, ◌*◌, Bool, true, false, cond, List, [], ◌∷◌, ◌++◌, ◌⊎◌, inl, inr, arith, refl, subst, Option, Some, None, zero, suc, length}
-use Rattle.q_logic.specs.Literals.{Literal}
-use Rattle.q_logic.specs.Formulas.{Clause, Matrix, IsIn, PrenexFormula}
-use Rattle.q_logic.specs.Prefixes.{IsFormula}
-use Rattle.q_logic.specs.Pivots.{without}
-use Rattle.q_logic.specs.Steps.{ProofStep, add, delete, drop_literal, fresh, remove_variable, after, clause_eq, one_less, literals_in, Within}
-use Rattle.q_logic.specs.Runs.{ValidSteps, Run}
-use Rattle.q_logic.specs.Prefixes.{blocks, SameBlocks}
-use Rattle.q_logic.specs.Limits.{standard}
-use Rattle.q_logic.specs.Sets.{has, with_literal, without_literal}
-use Rattle.q_logic.specs.Numbered.{Slots, slot, live, others, put_first}
+use Rattle.q_logic.specs.Prelude.{Literal, Clause, Matrix, IsIn, PrenexFormula, IsFormula, without, ProofStep, add, delete, drop_literal, fresh, remove_variable, after, clause_eq, one_less, literals_in, Within, ValidSteps, Run, blocks, SameBlocks, standard, has, with_literal, without_literal, Slots, slot, live, others, put_first}
 use Rattle.q_logic.proofs.Runs.{clause_eq-sound}
-use Rattle.q_logic.proofs.Slots.{live-slot}
+use Rattle.q_logic.proofs.NumberedClauses.{live-slot}
 use Rattle.q_logic.proofs.Soundness.{after-formula}
-use Rattle.q_logic.proofs.Sets.{without-shorter}
-use Rattle.q_logic.proofs.Reaching.{Reaches, Alike, clause_eq-itself, SameBlocks-refl}
-use Rattle.q_logic.proofs.Building.{deletes, adds, drops, replaces, mapped}
+use Rattle.q_logic.proofs.JoinedClauses.{without-shorter}
+use Rattle.q_logic.proofs.JustifiedRuns.{Reaches, Alike, clause_eq-itself, SameBlocks-refl}
+use Rattle.q_logic.proofs.ChangeRuns.{deletes, adds, drops, replaces, mapped}
 
 -- How much a list of steps adds at most, by a weight of clauses, at any time.
 abbrev pub rise : (Clause → ℕ) → List ProofStep → ℕ

@@ -4,7 +4,7 @@ use Rattle.std.proofs.lemmas.Grind.{common_steps}
 use Rattle.q_logic.specs.declared.proof_part.GroupStart.{GroupStart}
 use Rattle.q_logic.specs.declared.proof_part.ProofKind.{ProofKind}
 use Rattle.q_logic.specs.declared.proof_part.ProofKind.TheVariants.{Nothing, Implied, Pivot, Reach}
-use Rattle.q_logic.specs.Hinted.{HintGroup, ProofPart}
+use Rattle.q_logic.specs.Prelude.{HintGroup, ProofPart}
 use Rattle.q_logic.specs.ProofParts.{end_at, start_at, groups_from, groups_of, AreStarts, with_group, hint_last, with_hint, group_at}
 
 pub groups_of-from : (k : ProofKind) (gs : List GroupStart) (hints : List ℕ) → k ≢ Implied → groups_of k gs hints ≡ groups_from gs hints

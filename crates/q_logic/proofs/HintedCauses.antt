@@ -1,11 +1,7 @@
 -- The causes of steps that their proof parts do not show to be valid.
 use Rattle.std.proofs.Common.{◌≡◌, ℕ, suc, Bool, true, false, inl, inr, refl, arith}
 use Rattle.q_logic.specs.declared.limits.Limits.{Limits}
-use Rattle.q_logic.specs.Literals.{Literal}
-use Rattle.q_logic.specs.Formulas.{Clause, Prefix}
-use Rattle.q_logic.specs.Numbered.{Slots, live}
-use Rattle.q_logic.specs.Prefixes.{is_bound, is_universal}
-use Rattle.q_logic.specs.Steps.{ProofStep, add, delete, drop_literal, fresh, remove_variable}
+use Rattle.q_logic.specs.Prelude.{Literal, Clause, Prefix, Slots, live, is_bound, is_universal, ProofStep, add, delete, drop_literal, fresh, remove_variable}
 use Rattle.q_logic.specs.Hinted.{NumberedFormula, ProofPart, beside, ShowsDrop, IsUndroppable, HintedValid, IsHintedWrong, HintedCause}
 use Rattle.q_logic.proofs.Validity.{least-one, no_least-none}
 

@@ -1,20 +1,11 @@
 -- Steps with proof parts are valid steps, with the same results.
 use Rattle.std.proofs.Common.{◌≡◌, ℕ, zero, suc, ◌+◌, Bool, true, false, cond, List, [], ◌∷◌, ◌++◌, map, inl, inr, arith, refl, sym, ap, ◌∙◌, subst, Option, Some, None}
 use Rattle.q_logic.specs.declared.limits.Limits.{Limits}
-use Rattle.q_logic.specs.Limits.{standard}
-use Rattle.q_logic.specs.Literals.{Literal, negation}
-use Rattle.q_logic.specs.Formulas.{Clause, Matrix, Prefix, IsIn, PrenexFormula}
-use Rattle.q_logic.specs.Numbered.{Slots, slot, set_slot, live, numbered, others, put_first}
-use Rattle.q_logic.specs.Pivots.{outer, without}
-use Rattle.q_logic.specs.Propagation.{Implied}
-use Rattle.q_logic.specs.Runs.{AreAlike, ValidSteps, Run}
-use Rattle.q_logic.specs.Sets.{has}
-use Rattle.q_logic.specs.Steps.{ProofStep, add, delete, drop_literal, fresh, remove_variable, Valid, after, one_less, IsWarranted, IsDroppable}
-use Rattle.q_logic.proofs.Reaching.{SameClauses, IsIn-alike, alike-refl, alike-sym, alike-trans, alike-cons, alike-uncons, alike-swap, one_less-alike}
-use Rattle.q_logic.proofs.Slots.{slot-alike, live-slot, IsIn-has}
-use Rattle.q_logic.specs.Hinted.{NumberedFormula, begun, plain, beside, HintGroup, ProofPart, numbers_with, Resolved, Shows, ShowsDrop, HintedValid, hinted_after, Hinted, strip, HintedSteps, HintedRun}
-use Rattle.q_logic.proofs.Alike.{warranted-within, droppable-within, alike_valid, alike_after, alike_through, alike_swapped}
-use Rattle.q_logic.proofs.Chaining.{chained-implied, live-number}
+use Rattle.q_logic.specs.Prelude.{standard, Literal, negation, Clause, Matrix, Prefix, IsIn, PrenexFormula, Slots, slot, set_slot, live, numbered, others, put_first, outer, without, Implied, AreAlike, ValidSteps, Run, has, ProofStep, add, delete, drop_literal, fresh, remove_variable, Valid, after, one_less, IsWarranted, IsDroppable, NumberedFormula, begun, plain, beside, HintGroup, ProofPart, numbers_with, Resolved, Shows, ShowsDrop, HintedValid, hinted_after, Hinted, strip, HintedSteps, HintedRun}
+use Rattle.q_logic.proofs.JustifiedRuns.{SameClauses, IsIn-alike, alike-refl, alike-sym, alike-trans, alike-cons, alike-uncons, alike-swap, one_less-alike}
+use Rattle.q_logic.proofs.NumberedClauses.{slot-alike, live-slot, IsIn-has}
+use Rattle.q_logic.proofs.AlikeFormulas.{warranted-within, droppable-within, alike_valid, alike_after, alike_through, alike_swapped}
+use Rattle.q_logic.proofs.HintChains.{chained-implied, live-number}
 
 pub live-gone : (N : Slots) (n : ℕ) → live (set_slot n None N) ≡ others n N
 live-gone [] n = refl

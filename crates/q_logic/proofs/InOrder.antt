@@ -1,20 +1,9 @@
 -- Clauses in literal order: they stay so where clauses go, lose a literal, are renamed, resolved or copied.
 use Rattle.std.proofs.Common.{◌≡◌, ℕ, Bool, true, false, cond, List, [], ◌∷◌, ◌++◌, inl, inr, refl, sym, subst, Option, Some, None}
-use Rattle.q_logic.specs.Literals.{Literal, IsBelow, negation}
-use Rattle.q_logic.specs.Formulas.{Clause, Matrix, IsIn}
-use Rattle.q_logic.specs.Parts.{ArePairs}
-use Rattle.q_logic.specs.StepForms.{positive}
-use Rattle.q_logic.specs.Pivots.{without}
-use Rattle.q_logic.specs.Sets.{has, is_tautology, put_unless_tautology, with_literal, without_literal, each_without}
-use Rattle.q_logic.specs.Sweep.{has_variable}
-use Rattle.q_logic.specs.Numbered.{Slots, slot, live, others}
-use Rattle.q_logic.specs.Merging.{renamed, merged}
-use Rattle.q_logic.specs.Eliminating.{resolvent, resolve_one, resolve_all}
-use Rattle.q_logic.specs.Expanding.{shares, copied, expanded}
-use Rattle.q_logic.specs.Rules.{shortened, assigned}
+use Rattle.q_logic.specs.Prelude.{Literal, IsBelow, negation, Clause, Matrix, IsIn, ArePairs, positive, without, has, is_tautology, put_unless_tautology, with_literal, without_literal, each_without, has_variable, Slots, slot, live, others, renamed, merged, resolvent, resolve_one, resolve_all, shares, copied, expanded, shortened, assigned}
 use Rattle.q_logic.proofs.ClauseLemmas.{IsIn-append}
-use Rattle.q_logic.proofs.Slots.{live-slot, others-live, IsIn-with, IsIn-without_literal}
-use Rattle.q_logic.proofs.Ordering.{pairs-ordered, ordered-pairs, without-ordered, union-ordered, copied-ordered, renamed-ordered}
+use Rattle.q_logic.proofs.NumberedClauses.{live-slot, others-live, IsIn-with, IsIn-without_literal}
+use Rattle.q_logic.proofs.LiteralOrder.{pairs-ordered, ordered-pairs, without-ordered, union-ordered, copied-ordered, renamed-ordered}
 
 abbrev pub InOrder : Clause → Type 0
 InOrder C = ArePairs IsBelow C

@@ -1,19 +1,15 @@
 -- The plain program decides what is joined, where clauses are in literal order.
 use Rattle.std.proofs.Common.{◌≡◌, ◌≢◌, ◌↔◌, ◌≤◌, ℕ, zero, suc, Bool, true, false, cond, [], ◌∷◌, ◌⊎◌, inl, inr, arith, refl, sym, ap, ◌∙◌, subst, length}
-use Rattle.q_logic.specs.Literals.{Literal, negation}
-use Rattle.q_logic.specs.Formulas.{Clause, Matrix, IsIn}
-use Rattle.q_logic.specs.Sets.{IsSubset, has}
+use Rattle.q_logic.specs.Prelude.{Literal, negation, Clause, Matrix, IsIn, IsSubset, has, size_of, IsBelow}
 use Rattle.q_logic.specs.Merging.{Joined, Binary, pair_from, join_once, join_often, joined}
-use Rattle.q_logic.specs.Measure.{size_of}
-use Rattle.q_logic.specs.Literals.{IsBelow}
 use Rattle.q_logic.proofs.ClauseLemmas.{IsIn-append_left}
-use Rattle.q_logic.proofs.Slots.{has-IsIn, IsIn-has}
-use Rattle.q_logic.proofs.Sets.{union-IsIn, IsIn-union}
-use Rattle.q_logic.proofs.Building.{IsIn-right}
-use Rattle.q_logic.proofs.Ordering.{Ordered, union-ordered}
-use Rattle.q_logic.proofs.Searching.{joined-in, joined-further}
-use Rattle.q_logic.proofs.Implying.{negation-negation}
-use Rattle.q_logic.proofs.Iterating.{Growing, iterated, iterated-closed, lits, lits-length, before-self}
+use Rattle.q_logic.proofs.NumberedClauses.{has-IsIn, IsIn-has}
+use Rattle.q_logic.proofs.JoinedClauses.{union-IsIn, IsIn-union}
+use Rattle.q_logic.proofs.ChangeRuns.{IsIn-right}
+use Rattle.q_logic.proofs.LiteralOrder.{Ordered, union-ordered}
+use Rattle.q_logic.proofs.ClosureSearch.{joined-in, joined-further}
+use Rattle.q_logic.proofs.ImpliedClauses.{negation-negation}
+use Rattle.q_logic.proofs.ClosureRounds.{Growing, iterated, iterated-closed, lits, lits-length, before-self}
 
 abbrev pub AllOrdered : Matrix → Type 0
 AllOrdered X = (D : Clause) → IsIn D X → Ordered D

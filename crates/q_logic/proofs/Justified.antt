@@ -1,15 +1,7 @@
 -- Steps without their limits: what soundness rests on.
 use Rattle.std.proofs.Common.{◌≡◌, ◌⊎◌, true, false, List, [], ◌∷◌, eqb}
 use Rattle.q_logic.specs.declared.limits.Limits.{Limits}
-use Rattle.q_logic.specs.Literals.{Literal}
-use Rattle.q_logic.specs.Formulas.{Clause, IsIn, PrenexFormula}
-use Rattle.q_logic.specs.Prefixes.{is_existential, is_bound}
-use Rattle.q_logic.specs.Propagation.{Implied}
-use Rattle.q_logic.specs.Pivots.{ForallPivot}
-use Rattle.q_logic.specs.Reach.{Reducible}
-use Rattle.q_logic.specs.Steps.{ProofStep, add, delete, drop_literal, fresh, remove_variable, one_less, Within, FirstPivot, Valid, after}
-use Rattle.q_logic.specs.Limits.{standard}
-use Rattle.q_logic.specs.Runs.{SameFormula, ValidSteps, Run}
+use Rattle.q_logic.specs.Prelude.{Literal, Clause, IsIn, PrenexFormula, is_existential, is_bound, Implied, ForallPivot, Reducible, ProofStep, add, delete, drop_literal, fresh, remove_variable, one_less, Within, FirstPivot, Valid, after, standard, SameFormula, ValidSteps, Run}
 
 abbrev pub Justified : PrenexFormula → ProofStep → Type 0
 Justified F (add p C) = Within F.prefix C × (Implied F.matrix C ⊎ FirstPivot F.prefix F.matrix C p)

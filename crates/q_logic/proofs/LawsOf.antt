@@ -1,5 +1,5 @@
 -- The laws of each target: those of its rule.
-use Rattle.q_logic.specs.Targets.{Target, tautology, unit, cut, pure, subsumed, strengthen, merge, blocked, blocked_forall, cover, eliminate, expand_universal}
+use Rattle.q_logic.specs.Prelude.{Target, tautology, unit, cut, pure, subsumed, strengthen, merge, blocked, blocked_forall, cover, eliminate, expand_universal}
 use Rattle.q_logic.proofs.RuleLaws.{Laws}
 use Rattle.q_logic.proofs.RuleLaws.Tautology
 use Rattle.q_logic.proofs.RuleLaws.Unit

@@ -1,6 +1,6 @@
 -- Membership, by recursion and as std says it.
 use Rattle.std.proofs.Common.{◌≡◌, ℕ, zero, suc, ◌<◌, List, [], ◌∷◌, length, drop, get_or, ◌⊎◌, inl, inr, sym, arith, Contains}
-use Rattle.q_logic.specs.Formulas.{IsIn}
+use Rattle.q_logic.specs.Prelude.{IsIn}
 
 pub IsIn-Contains : {X : Type 0} (x : X) (xs : List X) → IsIn x xs → Contains xs x
 IsIn-Contains x [] m = elim m [ ]

@@ -1,29 +1,16 @@
 -- Putting a literal in place of an equivalent one is a run.
 use Rattle.std.proofs.Common.{◌≡◌, ℕ, Bool, true, false, cond, eqb, List, [], ◌∷◌, ◌++◌, ◌⊎◌, inl, inr, arith, refl, sym, ◌∙◌, subst, Some, ◌≤◌, ◌+◌, ◌-◌, length}
-use Rattle.q_logic.specs.Clauses.{insert}
-use Rattle.q_logic.specs.Sweep.{has_variable}
+use Rattle.q_logic.specs.Prelude.{insert, has_variable, Literal, negation, literal_eq, Clause, Matrix, Prefix, IsIn, is_bound, outer_or_same, run_to, Implied, keeps, outer, ExistsPivot, ProofStep, add, delete, IsTautology, put_unless_tautology, is_tautology, formula_of, Slots, live, merge, Joined, Mergeable, renamed_literal, renamed, merged, Fits, change, standard}
 use Rattle.q_logic.specs.declared.rule_bounds.Bounds.{Bounds}
 use Rattle.q_logic.specs.declared.formulas.Quant.{Quant}
-use Rattle.q_logic.specs.Literals.{Literal, negation, literal_eq}
-use Rattle.q_logic.specs.Formulas.{Clause, Matrix, Prefix, IsIn}
-use Rattle.q_logic.specs.Prefixes.{is_bound, outer_or_same, run_to}
-use Rattle.q_logic.specs.Propagation.{Implied}
-use Rattle.q_logic.specs.Pivots.{keeps, outer, ExistsPivot}
-use Rattle.q_logic.specs.Steps.{ProofStep, add, delete}
-use Rattle.q_logic.specs.Sets.{IsTautology, put_unless_tautology, is_tautology}
-use Rattle.q_logic.specs.Numbered.{formula_of, Slots, live}
-use Rattle.q_logic.specs.Targets.{merge}
-use Rattle.q_logic.specs.Merging.{Joined, Mergeable, renamed_literal, renamed, merged}
-use Rattle.q_logic.specs.Rules.{Fits, change}
-use Rattle.q_logic.proofs.Reaching.{SameClauses, Reaches}
+use Rattle.q_logic.proofs.JustifiedRuns.{SameClauses, Reaches}
 use Rattle.q_logic.proofs.ClauseLemmas.{literal_eq-sound, IsIn-append_left, IsIn-append}
-use Rattle.q_logic.proofs.Order.{existential-is_bound}
-use Rattle.q_logic.proofs.Reaching.{alike-refl, alike-trans, alike-sym, alike-cons, alike-swap, reaches-alike, reaches-append, reaches-end}
-use Rattle.q_logic.proofs.Implying.{implied-subsumed, implied-tautology, implied-hidden, implied-hidden_new, implied-longer, negation-negation}
-use Rattle.q_logic.proofs.Building.{least, IsIn-right, reaches-delete, step-first, alike-turned}
-use Rattle.q_logic.specs.Limits.{standard}
+use Rattle.q_logic.proofs.PrefixOrder.{existential-is_bound}
+use Rattle.q_logic.proofs.JustifiedRuns.{alike-refl, alike-trans, alike-sym, alike-cons, alike-swap, reaches-alike, reaches-append, reaches-end}
+use Rattle.q_logic.proofs.ImpliedClauses.{implied-subsumed, implied-tautology, implied-hidden, implied-hidden_new, implied-longer, negation-negation}
+use Rattle.q_logic.proofs.ChangeRuns.{least, IsIn-right, reaches-delete, step-first, alike-turned}
 use Rattle.q_logic.proofs.Heights.{rise, weight, one, FreshUpTo, Modest, Way, modest-append}
-use Rattle.q_logic.proofs.Sets.{insert-length, insert-IsIn, IsIn-insert, is_tautology-sound, IsIn-outer_in}
+use Rattle.q_logic.proofs.JoinedClauses.{insert-length, insert-IsIn, IsIn-insert, is_tautology-sound, IsIn-outer_in}
 use Rattle.q_logic.proofs.PlainRuns.{pure-pivot}
 
 run_to-is_bound : (q : Quant) (P : Prefix) (a : ℕ) → run_to q P a ≡ true → is_bound P a ≡ true

@@ -1,16 +1,8 @@
 -- Agreement is carried back.
 use Rattle.std.proofs.Common.{◌≡◌, ◌≤◌, ℕ, Bool, true, false, cond, not, ◌&&◌, eqb, List, [], ◌∷◌, ◌++◌, ◌⊎◌, inl, inr, arith, refl, sym, ap, ap₂, ◌∙◌, subst, Option, Some, None}
-use Rattle.q_logic.specs.Literals.{Literal, negation}
-use Rattle.q_logic.specs.Formulas.{Prefix, Clause, IsIn, PrenexFormula}
-use Rattle.q_logic.specs.Prefixes.{is_existential, is_bound, outer_or_same, IsFormula}
-use Rattle.q_logic.specs.Truth.{Assignment}
-use Rattle.q_logic.specs.Circuits.{Circuit, constant, inverter, value_of}
-use Rattle.q_logic.specs.Skolems.{Strategy, circuit_of, or_input, given, outcome, Lawful}
-use Rattle.q_logic.specs.Propagation.{Implied}
-use Rattle.q_logic.specs.Steps.{one_less, insert_after, removed_from, ProofStep, add, delete, drop_literal, fresh, remove_variable, FirstPivot, after}
-use Rattle.q_logic.specs.Undos.{literal_circuit, some_of, all_of, raised, pivoted, UndoEntry, removed, with_circuit, Back, Entries, Undos}
+use Rattle.q_logic.specs.Prelude.{Literal, negation, Prefix, Clause, IsIn, PrenexFormula, is_existential, is_bound, outer_or_same, IsFormula, Assignment, Circuit, constant, inverter, value_of, Strategy, circuit_of, or_input, given, outcome, Lawful, Implied, one_less, insert_after, removed_from, ProofStep, add, delete, drop_literal, fresh, remove_variable, FirstPivot, after, literal_circuit, some_of, all_of, raised, pivoted, UndoEntry, removed, with_circuit, Back, Entries, Undos}
 use Rattle.q_logic.proofs.Justified.{Justified, JustifiedSteps, JustifiedRun}
-use Rattle.q_logic.proofs.Order.{existential-is_bound}
+use Rattle.q_logic.proofs.PrefixOrder.{existential-is_bound}
 use Rattle.q_logic.proofs.Blocks.{lawful-same, Same-itself}
 use Rattle.q_logic.proofs.MergeRun.{outer_or_same-is_bound}
 use Rattle.q_logic.proofs.Pivot.{Near, outers-near}
@@ -20,7 +12,7 @@ use Rattle.q_logic.proofs.Runs.{at_or_other}
 use Rattle.q_logic.proofs.Truth.{none_bound}
 use Rattle.q_logic.proofs.Soundness.{after-formula, rebuilt-lawful, same_first, Back-append}
 use Rattle.q_logic.specs.Moves.{turns, AgreeAt, Agree}
-use Rattle.q_logic.proofs.Rounds.{outer-turns, universal-turns, insert-turns, removed-turns, same-within}
+use Rattle.q_logic.proofs.PrefixRounds.{outer-turns, universal-turns, insert-turns, removed-turns, same-within}
 
 -- They agree on all variables, universals too, behind at most n universal blocks.
 abbrev pub Near_agree : Prefix → ℕ → Strategy → Strategy → Assignment → Type 0

@@ -1,15 +1,10 @@
 -- An existential pivot keeps Skolem functions.
 use Rattle.std.proofs.Common.{◌≡◌, ℕ, Bool, true, false, cond, eqb, List, ◌∷◌, ◌++◌, ◌⊎◌, inl, inr, arith, refl, sym, ap, ◌∙◌, subst, Option, Some, None}
-use Rattle.q_logic.specs.Literals.{Literal, negation, literal_eq}
-use Rattle.q_logic.specs.Formulas.{Prefix, Clause, Matrix, IsIn}
-use Rattle.q_logic.specs.Prefixes.{is_existential, universal_before, outer_or_same}
+use Rattle.q_logic.specs.Prelude.{Literal, negation, literal_eq, Prefix, Clause, Matrix, IsIn, is_existential, universal_before, outer_or_same, Circuit, value_of, Reads, keeps, outer, ExistsPivot, raised, all_of, pivoted}
 use Rattle.q_logic.specs.Truth.{Assignment, LiteralTrue, ClauseTrue, MatrixTrue, signed}
-use Rattle.q_logic.specs.Circuits.{Circuit, value_of, Reads}
 use Rattle.q_logic.specs.Skolems.{Strategy, circuit_of, or_input, given, outcome, Skolem, Lawful}
-use Rattle.q_logic.specs.Pivots.{keeps, outer, ExistsPivot}
-use Rattle.q_logic.specs.Undos.{raised, all_of, pivoted}
 use Rattle.q_logic.proofs.ClauseLemmas.{literal_eq-sound, IsIn-append, IsIn-outer, all_of-true, all_of-false, Reads-all_of, circuit_of-none}
-use Rattle.q_logic.proofs.Order.{outer_or_same-is_bound, outer_universal-before, outer_existential-before}
+use Rattle.q_logic.proofs.PrefixOrder.{outer_or_same-is_bound, outer_universal-before, outer_existential-before}
 use Rattle.q_logic.proofs.Propagation.{implied-true}
 
 -- Clauses of literals outer or same to v.

@@ -1,28 +1,19 @@
 -- A plain drop carries Herbrand functions over.
 use Rattle.std.proofs.Common.{◌≡◌, ℕ, Bool, true, false, cond, not, eqb, List, [], ◌∷◌, ◌⊎◌, inl, inr, arith, refl, sym, ap, ◌∙◌, subst, Option, Some, None}
-use Rattle.q_logic.specs.Literals.{Literal, negation, literal_eq}
-use Rattle.q_logic.specs.Formulas.{Prefix, Clause, Matrix, IsIn}
-use Rattle.q_logic.specs.Prefixes.{is_existential, is_universal, universal_before, outer_or_same}
-use Rattle.q_logic.specs.Truth.{Assignment, LiteralTrue, ClauseTrue, signed}
-use Rattle.q_logic.specs.Circuits.{Circuit, inverter, value_of, Reads}
-use Rattle.q_logic.specs.Skolems.{Strategy, circuit_of, or_input, given, outcome, Lawful}
-use Rattle.q_logic.specs.Pivots.{keeps, outer, without}
-use Rattle.q_logic.specs.Sets.{IsTautology}
-use Rattle.q_logic.specs.Steps.{Within}
-use Rattle.q_logic.specs.Undos.{literal_circuit, raised}
+use Rattle.q_logic.specs.Prelude.{Literal, negation, literal_eq, Prefix, Clause, Matrix, IsIn, is_existential, is_universal, universal_before, outer_or_same, Assignment, LiteralTrue, ClauseTrue, signed, Circuit, inverter, value_of, Reads, Strategy, circuit_of, or_input, given, outcome, Lawful, keeps, outer, without, IsTautology, Within, literal_circuit, raised}
 use Rattle.q_logic.specs.Herbrands.{MatrixFalse, LawfulHerbrand, Herbrand, existential_before}
 use Rattle.q_logic.specs.Reversals.{none_of, lowered_by, inner, IsPlainDrop}
 use Rattle.q_logic.specs.Exchanging.{exchanged}
 use Rattle.q_logic.proofs.ClauseLemmas.{literal_eq-sound, IsIn-outer, value_of-literal_circuit, Reads-literal_circuit}
-use Rattle.q_logic.proofs.Implying.{negation-negation, implied-tautology}
-use Rattle.q_logic.proofs.Order.{is_bound-universal, inner-later}
+use Rattle.q_logic.proofs.ImpliedClauses.{negation-negation, implied-tautology}
+use Rattle.q_logic.proofs.PrefixOrder.{is_bound-universal, inner-later}
 use Rattle.q_logic.proofs.Pivot.{Near, outers-before}
 use Rattle.q_logic.proofs.Propagation.{implied-true}
-use Rattle.q_logic.proofs.Sets.{IsIn-outer_in}
+use Rattle.q_logic.proofs.JoinedClauses.{IsIn-outer_in}
 use Rattle.q_logic.proofs.UniversalPivot.{IsIn-without}
 use Rattle.q_logic.proofs.Exchanged.{exchanged-existential, exchanged-bound, exchanged-before, exchanged-outer, lawful-exchanged}
 use Rattle.q_logic.proofs.Falsity.{MatrixFalse-agree}
-use Rattle.q_logic.proofs.Turning.{one_of-two, literal-same}
+use Rattle.q_logic.proofs.ForthPivots.{one_of-two, literal-same}
 
 -- The literals that are inner.
 pub IsIn-inner : (P : Prefix) (l : Literal) (C : Clause) (k : Literal) → IsIn k (inner P l C) →

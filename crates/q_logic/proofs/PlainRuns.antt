@@ -1,28 +1,18 @@
 -- Tautology, Unit, Cut, Pure, Subsumed, Strengthen and both blocked rules are runs; what makes each of their steps valid.
 use Rattle.std.proofs.Common.{◌≡◌, ◌≤◌, ◌+◌, length, ◌≢◌, ℕ, Bool, true, false, cond, List, [], ◌∷◌, ◌++◌, ◌⊎◌, inl, inr, arith, refl, sym, subst, Some}
 use Rattle.q_logic.specs.declared.rule_bounds.Bounds.{Bounds}
-use Rattle.q_logic.specs.Literals.{Literal, negation, literal_eq}
-use Rattle.q_logic.specs.Formulas.{Clause, Matrix, Prefix, IsIn}
-use Rattle.q_logic.specs.Prefixes.{is_bound, is_existential, is_universal}
-use Rattle.q_logic.specs.Propagation.{Implied}
-use Rattle.q_logic.specs.Pivots.{keeps, outer, ExistsPivot, ForallPivot, without}
-use Rattle.q_logic.specs.Reach.{Reducible, Reached}
-use Rattle.q_logic.specs.Steps.{ProofStep, add, delete, drop_literal}
-use Rattle.q_logic.specs.Sets.{with_literal, without_literal, each_without, IsTautology, OccursIn}
-use Rattle.q_logic.specs.Numbered.{formula_of, Slots, live, others}
-use Rattle.q_logic.specs.Targets.{Target, tautology, unit, cut, pure, subsumed, strengthen, blocked, blocked_forall}
+use Rattle.q_logic.specs.Prelude.{Literal, negation, literal_eq, Clause, Matrix, Prefix, IsIn, is_bound, is_existential, is_universal, Implied, keeps, outer, ExistsPivot, ForallPivot, without, Reducible, Reached, ProofStep, add, delete, drop_literal, with_literal, without_literal, each_without, IsTautology, OccursIn, formula_of, Slots, live, others, Target, tautology, unit, cut, pure, subsumed, strengthen, blocked, blocked_forall, Fits, change, assigned, head_of, shortened}
 use Rattle.q_logic.specs.Blocking.{Clashes, AllClash}
-use Rattle.q_logic.specs.Rules.{Fits, change, assigned, head_of, shortened}
-use Rattle.q_logic.proofs.Reaching.{SameClauses, Reaches}
+use Rattle.q_logic.proofs.JustifiedRuns.{SameClauses, Reaches}
 use Rattle.q_logic.proofs.ClauseLemmas.{literal_eq-sound, literal_eq-itself, IsIn-append_left, IsIn-append, IsIn-outer}
 use Rattle.q_logic.proofs.UniversalPivot.{IsIn-without, without-IsIn}
-use Rattle.q_logic.proofs.Order.{is_bound-universal}
-use Rattle.q_logic.proofs.Reaching.{alike-refl, alike-trans, alike-sym, alike-cons, IsIn-alike, reaches-append, reaches-alike, reaches-end}
-use Rattle.q_logic.proofs.Implying.{implied-subsumed, implied-tautology, implied-hidden, implied-hidden_new}
-use Rattle.q_logic.proofs.Building.{deletes, replaces, drops, mapped, least, IsIn-right, alike-turned, reaches-deletes, reaches-replaces, reaches-drops, reaches-delete, reaches-drop, reaches-replace}
-use Rattle.q_logic.proofs.Sets.{without-shorter}
+use Rattle.q_logic.proofs.PrefixOrder.{is_bound-universal}
+use Rattle.q_logic.proofs.JustifiedRuns.{alike-refl, alike-trans, alike-sym, alike-cons, IsIn-alike, reaches-append, reaches-alike, reaches-end}
+use Rattle.q_logic.proofs.ImpliedClauses.{implied-subsumed, implied-tautology, implied-hidden, implied-hidden_new}
+use Rattle.q_logic.proofs.ChangeRuns.{deletes, replaces, drops, mapped, least, IsIn-right, alike-turned, reaches-deletes, reaches-replaces, reaches-drops, reaches-delete, reaches-drop, reaches-replace}
+use Rattle.q_logic.proofs.JoinedClauses.{without-shorter}
 use Rattle.q_logic.proofs.Heights.{Way, one, weight, modest-append, modest-more, modest-delete, modest-deletes, modest-drops, modest-replaces, weight-mapped, weight-with, weight-without, weight-others, weight-slot}
-use Rattle.q_logic.proofs.Slots.{slot-alike, live-slot, others-slot, with-alike, each_without-alike, IsIn-with, IsIn-without_literal, IsIn-each_without, without_literal-slot}
+use Rattle.q_logic.proofs.NumberedClauses.{slot-alike, live-slot, others-slot, with-alike, each_without-alike, IsIn-with, IsIn-without_literal, IsIn-each_without, without_literal-slot}
 
 -- A blocked clause goes by its pivot.
 pub blocked-pivot : (P : Prefix) (X : Matrix) (C : Clause) (l : Literal) → IsIn l C → is_existential P l.var ≡ true → AllClash P X l C → ExistsPivot P X C l

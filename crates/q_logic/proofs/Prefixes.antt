@@ -1,9 +1,7 @@
 -- Prefixes that gain or lose a variable.
 use Rattle.std.proofs.Common.{◌≡◌, ℕ, Bool, true, false, cond, eqb, [], ◌∷◌, arith, refl, ◌∙◌}
 use Rattle.q_logic.specs.declared.formulas.Quant.TheVariants.{Exists}
-use Rattle.q_logic.specs.Formulas.{Prefix}
-use Rattle.q_logic.specs.Prefixes.{is_existential, is_bound, universal_before, Distinct}
-use Rattle.q_logic.specs.Steps.{insert_after, removed_from}
+use Rattle.q_logic.specs.Prelude.{Prefix, is_existential, is_bound, universal_before, Distinct, insert_after, removed_from}
 
 pub insert-is_bound : (w v : ℕ) (P : Prefix) (x : ℕ) → eqb x v ≡ false →
     is_bound (insert_after w v P) x ≡ is_bound P x

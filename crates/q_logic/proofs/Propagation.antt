@@ -1,7 +1,6 @@
 -- Propagation entails.
 use Rattle.std.proofs.Common.{◌≡◌, Bool, true, false, not, List, [], ◌∷◌, ◌⊎◌, inl, inr, arith, refl, sym, ap, ◌∙◌, subst}
-use Rattle.q_logic.specs.Literals.{Literal, negation, literal_eq}
-use Rattle.q_logic.specs.Formulas.{Clause, Matrix, IsIn}
+use Rattle.q_logic.specs.Prelude.{Literal, negation, literal_eq, Clause, Matrix, IsIn}
 use Rattle.q_logic.specs.Truth.{Assignment, LiteralTrue, ClauseTrue, MatrixTrue, signed}
 use Rattle.q_logic.specs.Propagation.{Chain, begin, more, Conflicts, negations, Implied, IsSaturated}
 use Rattle.q_logic.proofs.ClauseLemmas.{literal_eq-sound, literal_eq-itself}

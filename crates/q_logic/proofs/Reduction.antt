@@ -1,18 +1,13 @@
 -- Extended reduction keeps Skolem functions.
 use Rattle.std.proofs.Common.{◌≡◌, ℕ, Bool, true, false, cond, not, ◌||◌, eqb, List, [], ◌∷◌, ◌⊎◌, inl, inr, arith, refl, sym, ap, ◌∙◌, subst, Option, Some, None}
-use Rattle.q_logic.specs.Literals.{Literal, negation, literal_eq}
-use Rattle.q_logic.specs.Formulas.{Prefix, Clause, Matrix, IsIn}
-use Rattle.q_logic.specs.Prefixes.{is_existential, is_universal, universal_before, outer_or_same}
+use Rattle.q_logic.specs.Prelude.{Literal, negation, literal_eq, Prefix, Clause, Matrix, IsIn, is_existential, is_universal, universal_before, outer_or_same, Circuit, constant, input, conjunction, disjunction, value_of, Reads, replaced, without, has}
 use Rattle.q_logic.specs.Truth.{Assignment, LiteralTrue, ClauseTrue, MatrixTrue, signed, with_value}
-use Rattle.q_logic.specs.Circuits.{Circuit, constant, input, conjunction, disjunction, value_of, Reads, replaced}
 use Rattle.q_logic.specs.Skolems.{Strategy, circuit_of, or_input, given, outcome, Skolem}
-use Rattle.q_logic.specs.Pivots.{without}
 use Rattle.q_logic.specs.Reach.{Reached, Reducible, ReachedByVariable, ReducibleByVariable}
 use Rattle.q_logic.proofs.ClauseLemmas.{literal_eq-sound, circuit_of-none}
-use Rattle.q_logic.proofs.Order.{universal-not_existential}
+use Rattle.q_logic.proofs.PrefixOrder.{universal-not_existential}
 use Rattle.q_logic.proofs.Propagation.{Holds-negation}
-use Rattle.q_logic.proofs.Trees.{value_of-replaced, Reads-replaced, value_of-agree}
-use Rattle.q_logic.specs.Sets.{has}
+use Rattle.q_logic.proofs.TreeValues.{value_of-replaced, Reads-replaced, value_of-agree}
 use Rattle.q_logic.proofs.UniversalPivot.{has-IsIn, IsIn-has, IsIn-without, outer_kept}
 
 by_variable-reached : (P : Prefix) (X : Matrix) (C : Clause) (l : Literal) (D : Clause) →

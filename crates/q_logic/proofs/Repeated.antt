@@ -3,11 +3,8 @@ use Rattle.std.proofs.Common.{◌≡◌, ◌↔◌, ℕ, Bool, true, false, cond
 use Rattle.q_logic.specs.declared.formulas.Quant.{Quant}
 use Rattle.q_logic.specs.declared.formulas.Bound.{Bound}
 use Rattle.q_logic.specs.declared.formulas.Quant.TheVariants.{Exists, Forall}
-use Rattle.q_logic.specs.Formulas.{Prefix, IsIn, PrenexFormula}
-use Rattle.q_logic.specs.Prefixes.{is_bound, same_quant, Distinct, IsFormula, Block, push_block, blocks, SameBlocks}
+use Rattle.q_logic.specs.Prelude.{Prefix, IsIn, PrenexFormula, is_bound, same_quant, Distinct, IsFormula, Block, push_block, blocks, SameBlocks, ProofStep, SameFormula}
 use Rattle.q_logic.specs.Truth.{Assignment, with_value, by_quant, Game, Holds, MatrixTrue}
-use Rattle.q_logic.specs.Steps.{ProofStep}
-use Rattle.q_logic.specs.Runs.{SameFormula}
 use Rattle.q_logic.proofs.Justified.{JustifiedRun}
 use Rattle.q_logic.proofs.Blocks.{among, among-IsIn, block_bound, blocks-is_bound, same-is_bound, IsIn-same, Same-sym, SameBlocks-itself}
 use Rattle.q_logic.proofs.Soundness.{same-true, steps-true, steps-formula}

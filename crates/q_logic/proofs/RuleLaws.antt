@@ -1,17 +1,9 @@
 -- What holds of each target, whatever the rule: a record that a file of `RuleLaws` fills for each rule.
 use Rattle.std.proofs.Common.{◌≡◌, ◌≢◌, ◌↔◌, ◌≤◌, ◌+◌, ℕ, true, false, [], ap, ◌∙◌, sym, subst, arith, Option, Some}
 use Rattle.q_logic.specs.declared.rule_bounds.Bounds.{Bounds}
-use Rattle.q_logic.specs.Literals.{Literal}
-use Rattle.q_logic.specs.Formulas.{Clause, Matrix, Prefix, IsIn, PrenexFormula}
-use Rattle.q_logic.specs.Prefixes.{Distinct, IsFormula}
-use Rattle.q_logic.specs.Limits.{standard}
-use Rattle.q_logic.specs.InLimits.{IsInLimits}
-use Rattle.q_logic.specs.Measure.{measure_of}
-use Rattle.q_logic.specs.Numbered.{Slots, slot, live, others, formula_of}
-use Rattle.q_logic.specs.Targets.{Target, cover}
-use Rattle.q_logic.specs.Rules.{Fits, Applicable, change, shortened}
+use Rattle.q_logic.specs.Prelude.{Literal, Clause, Matrix, Prefix, IsIn, PrenexFormula, Distinct, IsFormula, standard, IsInLimits, measure_of, Slots, slot, live, others, formula_of, Target, cover, Fits, Applicable, change, shortened}
 use Rattle.q_logic.specs.Deciding.{fits}
-use Rattle.q_logic.proofs.Slots.{live-slot}
+use Rattle.q_logic.proofs.NumberedClauses.{live-slot}
 use Rattle.q_logic.proofs.Ways.{ShortWay}
 use Rattle.q_logic.proofs.InOrder.{AreInOrder}
 use Rattle.q_logic.proofs.JoinedDecided.{AllOrdered}

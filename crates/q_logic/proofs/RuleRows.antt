@@ -4,13 +4,8 @@ use Rattle.std.proofs.Common.{◌≡◌, ◌≤◌, ℕ, true, false, [], ◌∷
 use Rattle.q_logic.specs.declared.formulas.Bound.{Bound}
 use Rattle.q_logic.specs.declared.formulas.Quant.TheVariants.{Exists, Forall}
 use Rattle.q_logic.specs.declared.rule_bounds.Bounds.{Bounds}
-use Rattle.q_logic.specs.Literals.{Literal}
-use Rattle.q_logic.specs.Formulas.{Prefix}
-use Rattle.q_logic.specs.Numbered.{formula_of, Slots, numbered}
-use Rattle.q_logic.specs.Targets.{tautology, unit, cut, pure, subsumed, strengthen, merge, blocked, blocked_forall, cover, eliminate, expand_universal}
-use Rattle.q_logic.specs.Measure.{measure_of}
+use Rattle.q_logic.specs.Prelude.{Literal, Prefix, formula_of, Slots, numbered, tautology, unit, cut, pure, subsumed, strengthen, merge, blocked, blocked_forall, cover, eliminate, expand_universal, measure_of, result_of}
 use Rattle.q_logic.specs.UsualBounds.{usual}
-use Rattle.q_logic.specs.Rules.{result_of}
 use Rattle.q_logic.specs.Deciding.{fits, applicable}
 
 abbrev e : ℕ → Bound

@@ -1,18 +1,12 @@
 -- Runs keep the truth, and undo lists give Skolem functions back.
 use Rattle.std.proofs.Common.{◌≡◌, ℕ, Bool, true, false, cond, eqb, [], ◌∷◌, ◌⊎◌, inl, inr, arith, refl, sym, ap, ◌∙◌, subst, Option, Some, None}
-use Rattle.q_logic.specs.Literals.{Literal}
-use Rattle.q_logic.specs.Formulas.{Prefix, Clause, Matrix, IsIn}
-use Rattle.q_logic.specs.Prefixes.{is_existential, is_bound, universal_before, Distinct, Closed}
+use Rattle.q_logic.specs.Prelude.{Literal, Prefix, Clause, Matrix, IsIn, is_existential, is_bound, universal_before, Distinct, Closed, Circuit, constant, value_of, Reads, replaced, without, clause_eq, one_less, insert_after, removed_from, with_circuit}
 use Rattle.q_logic.specs.Truth.{Assignment, ClauseTrue, MatrixTrue, signed, with_value}
-use Rattle.q_logic.specs.Circuits.{Circuit, constant, value_of, Reads, replaced}
 use Rattle.q_logic.specs.Skolems.{Strategy, circuit_of, or_input, given, map_circuit, reread, outcome, Skolem, Lawful}
-use Rattle.q_logic.specs.Pivots.{without}
-use Rattle.q_logic.specs.Steps.{clause_eq, one_less, insert_after, removed_from}
-use Rattle.q_logic.specs.Undos.{with_circuit}
 use Rattle.q_logic.proofs.ClauseLemmas.{literal_eq-sound}
 use Rattle.q_logic.proofs.UniversalPivot.{without-IsIn, given-reread, outcome-reread}
 use Rattle.q_logic.proofs.Truth.{none_bound, universal_before-is_bound}
-use Rattle.q_logic.proofs.Trees.{Reads-replaced}
+use Rattle.q_logic.proofs.TreeValues.{Reads-replaced}
 use Rattle.q_logic.proofs.Prefixes.{insert-is_existential, insert-itself, insert-universal_before, insert-not_before, removed-is_existential, removed-unbound, removed-universal_before}
 
 pub clause_eq-sound : (C D : Clause) → clause_eq C D ≡ true → C ≡ D

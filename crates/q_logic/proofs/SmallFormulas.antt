@@ -1,14 +1,9 @@
 -- The definitions at small formulas.
 use Rattle.std.proofs.Common.{◌≡◌, true, false, [], ◌∷◌, ◌++◌, refl, sym, inl, inr, arith, subst}
-use Rattle.q_logic.specs.Literals.{negation}
-use Rattle.q_logic.specs.Formulas.{Clause, PrenexFormula}
-use Rattle.q_logic.specs.Prefixes.{outer_or_same}
+use Rattle.q_logic.specs.Prelude.{negation, Clause, PrenexFormula, outer_or_same, Implied, negations, begin, outer, without, positive}
 use Rattle.q_logic.specs.Truth.{Holds, is_true}
-use Rattle.q_logic.specs.Propagation.{Implied, negations, begin}
-use Rattle.q_logic.specs.Pivots.{outer, without}
-use Rattle.q_logic.specs.StepForms.{positive}
 use Rattle.q_logic.specs.Examples.{existential, universal, negative, of_two, guessed, guessed_less, CarelessPivot}
-use Rattle.q_logic.proofs.Deciding.{is_true_under-sound, is_true_under-complete}
+use Rattle.q_logic.proofs.TruthDecided.{is_true_under-sound, is_true_under-complete}
 
 -- what the program answers is so
 

@@ -1,18 +1,9 @@
 -- Runs keep the truth, and undo lists give Skolem functions back.
 use Rattle.std.proofs.Common.{◌≡◌, Bool, true, false, cond, List, [], ◌∷◌, ◌++◌, ◌⊎◌, ◌↔◌, inl, inr, refl, sym, ap, ◌∙◌, subst, Option, Some, None}
 use Rattle.q_logic.proofs.Justified.{Justified, JustifiedSteps, JustifiedRun}
-use Rattle.q_logic.specs.Literals.{Literal, negation}
-use Rattle.q_logic.specs.Formulas.{Prefix, Clause, Matrix, IsIn, PrenexFormula}
-use Rattle.q_logic.specs.Prefixes.{is_existential, is_bound, IsFormula}
-use Rattle.q_logic.specs.Truth.{Holds}
-use Rattle.q_logic.specs.Circuits.{constant}
+use Rattle.q_logic.specs.Prelude.{Literal, negation, Prefix, Clause, Matrix, IsIn, PrenexFormula, is_existential, is_bound, IsFormula, Holds, constant, Implied, ExistsPivot, without, one_less, insert_after, ProofStep, add, delete, drop_literal, fresh, remove_variable, FirstPivot, after, SameFormula, all_of, every_outer, pivoted, UndoEntry, removed, freshened, with_circuit, taken_back, Back, Entries, Undos}
 use Rattle.q_logic.specs.Skolems.{Strategy, reread, outcome, Skolem, Lawful, SkolemOf}
-use Rattle.q_logic.specs.Propagation.{Implied}
-use Rattle.q_logic.specs.Pivots.{ExistsPivot, without}
-use Rattle.q_logic.specs.Steps.{one_less, insert_after, ProofStep, add, delete, drop_literal, fresh, remove_variable, FirstPivot, after}
-use Rattle.q_logic.specs.Runs.{SameFormula}
-use Rattle.q_logic.specs.Undos.{all_of, every_outer, pivoted, UndoEntry, removed, freshened, with_circuit, taken_back, Back, Entries, Undos}
-use Rattle.q_logic.proofs.Deciding.{true_decided}
+use Rattle.q_logic.proofs.TruthDecided.{true_decided}
 use Rattle.q_logic.proofs.Blocks.{skolem-same, lawful-same, Same-sym}
 use Rattle.q_logic.proofs.Propagation.{implied-true}
 use Rattle.q_logic.proofs.Pivot.{AreOuters, pivot-keeps, pivot-lawful, outers-near}
@@ -21,7 +12,7 @@ use Rattle.q_logic.proofs.UniversalPivot.{without-IsIn, forall_pivot-keeps, lowe
 use Rattle.q_logic.proofs.Reduction.{reduction-keeps, some_reached, reduced}
 use Rattle.q_logic.proofs.Truth.{true_has-skolem, skolem_makes-true}
 use Rattle.q_logic.proofs.Prefixes.{insert-distinct, insert-is_bound, insert-itself, removed-is_bound, removed-distinct}
-use Rattle.q_logic.proofs.Order.{existential-is_bound}
+use Rattle.q_logic.proofs.PrefixOrder.{existential-is_bound}
 use Rattle.q_logic.proofs.Runs.{one_less-IsIn, IsIn-one_less, Skolem-fewer, Skolem-first, Skolem-longer, fresh-back, fresh-lawful, fresh-on, removed-back, removed-lawful, removed-on, at_or_other}
 
 -- What a step leaves is a formula.

@@ -4,12 +4,7 @@ use Rattle.std.proofs.lemmas.List.{take_at}
 use Rattle.std.specs.List.{AllByRecursion}
 use Rattle.q_logic.specs.declared.steps.Kind.{Kind}
 use Rattle.q_logic.specs.declared.steps.Kind.TheVariants.{Add, Delete, Drop, Fresh, Remove}
-use Rattle.q_logic.specs.Literals.{Literal, IsBelow, literal_eq}
-use Rattle.q_logic.specs.Formulas.{Clause, IsIn}
-use Rattle.q_logic.specs.Clauses.{clause_of}
-use Rattle.q_logic.specs.Parts.{ArePairs}
-use Rattle.q_logic.specs.Pivots.{without}
-use Rattle.q_logic.specs.Steps.{ProofStep}
+use Rattle.q_logic.specs.Prelude.{Literal, IsBelow, literal_eq, Clause, IsIn, clause_of, ArePairs, without, ProofStep}
 use Rattle.q_logic.specs.StepForms.{IsStepForm, IsStep, IsFirst, AreStepParts, step_of, in_front, first_of, arranged}
 use Rattle.q_logic.proofs.ClauseLemmas.{literal_eq-sound, literal_eq-itself}
 use Rattle.q_logic.proofs.UniversalPivot.{without-IsIn}

@@ -1,19 +1,13 @@
 -- Sweeping is a run that adds nothing.
 use Rattle.std.proofs.Common.{◌≡◌, ℕ, Bool, true, false, cond, eqb, List, [], ◌∷◌, ◌++◌, inl, inr, arith, refl, sym, ap, subst, ◌≤◌, length}
 use Rattle.q_logic.specs.declared.formulas.Bound.{Bound}
-use Rattle.q_logic.specs.Literals.{Literal}
-use Rattle.q_logic.specs.Formulas.{Clause, Matrix, Prefix, IsIn, PrenexFormula}
-use Rattle.q_logic.specs.Prefixes.{is_bound, Distinct}
-use Rattle.q_logic.specs.Steps.{ProofStep, remove_variable, removed_from, one_less}
-use Rattle.q_logic.specs.Numbered.{formula_of}
-use Rattle.q_logic.specs.Sweep.{has_empty, occurring, swept, has_variable, occurs}
-use Rattle.q_logic.proofs.Reaching.{Reaches}
-use Rattle.q_logic.proofs.Reaching.{alike-refl, alike-trans, alike-sym, reaches-alike, reaches-append, one_less-alike}
-use Rattle.q_logic.specs.Limits.{standard}
+use Rattle.q_logic.specs.Prelude.{Literal, Clause, Matrix, Prefix, IsIn, PrenexFormula, is_bound, Distinct, ProofStep, remove_variable, removed_from, one_less, formula_of, has_empty, occurring, swept, has_variable, occurs, standard}
+use Rattle.q_logic.proofs.JustifiedRuns.{Reaches}
+use Rattle.q_logic.proofs.JustifiedRuns.{alike-refl, alike-trans, alike-sym, reaches-alike, reaches-append, one_less-alike}
 use Rattle.q_logic.proofs.Heights.{rise, one, FreshUpTo, Modest, Way, modest-append, modest-deletes}
-use Rattle.q_logic.proofs.Implying.{implied-subsumed}
-use Rattle.q_logic.proofs.Building.{deletes, least, reaches-deletes}
-use Rattle.q_logic.proofs.Reaching.{alike-append_swap}
+use Rattle.q_logic.proofs.ImpliedClauses.{implied-subsumed}
+use Rattle.q_logic.proofs.ChangeRuns.{deletes, least, reaches-deletes}
+use Rattle.q_logic.proofs.JustifiedRuns.{alike-append_swap}
 
 has_var-of : (v : ℕ) (C : Clause) (k : Literal) → has_variable v C ≡ false → IsIn k C → eqb k.var v ≡ false
 has_var-of v [] k h m = elim m [ ]

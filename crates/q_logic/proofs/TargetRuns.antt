@@ -1,22 +1,12 @@
 -- Each applicable target is a run to its result, and lowers the measure.
 use Rattle.std.proofs.Common.{◌≤◌, ℕ, ◌+◌, List, ◌++◌, arith, ◌*◌}
 use Rattle.q_logic.specs.declared.rule_bounds.Bounds.{Bounds}
-use Rattle.q_logic.specs.Formulas.{Prefix, PrenexFormula}
-use Rattle.q_logic.specs.Prefixes.{Distinct, IsFormula}
-use Rattle.q_logic.specs.Runs.{Run}
-use Rattle.q_logic.specs.Limits.{standard}
-use Rattle.q_logic.specs.InLimits.{IsInLimits}
-use Rattle.q_logic.specs.Steps.{ProofStep}
-use Rattle.q_logic.specs.Numbered.{formula_of, Slots, live}
-use Rattle.q_logic.specs.Targets.{Target}
-use Rattle.q_logic.specs.Measure.{measure_of}
-use Rattle.q_logic.specs.Sweep.{swept}
-use Rattle.q_logic.specs.Rules.{Fits, Applicable, change, result_of}
-use Rattle.q_logic.proofs.Reaching.{reaches-append}
+use Rattle.q_logic.specs.Prelude.{Prefix, PrenexFormula, Distinct, IsFormula, Run, standard, IsInLimits, ProofStep, formula_of, Slots, live, Target, measure_of, swept, Fits, Applicable, change, result_of}
+use Rattle.q_logic.proofs.JustifiedRuns.{reaches-append}
 use Rattle.q_logic.proofs.SweepRun.{sweep_steps, reaches-sweep, sweep-modest}
 use Rattle.q_logic.proofs.Heights.{modest-append, way-run}
 use Rattle.q_logic.proofs.Ways.{ShortWay}
-use Rattle.q_logic.proofs.Measuring.{measure-sweep}
+use Rattle.q_logic.proofs.Measures.{measure-sweep}
 use Rattle.q_logic.proofs.LawsOf.{laws_of}
 
 swept-way : (F G : PrenexFormula) → Distinct G.prefix → ShortWay F G → ShortWay F (swept G)

@@ -3,13 +3,11 @@ use Rattle.std.proofs.Common.{◌≡◌, ℕ, Bool, true, false, cond, eqb, [], 
 use Rattle.q_logic.specs.declared.formulas.Quant.{Quant}
 use Rattle.q_logic.specs.declared.formulas.Bound.{Bound}
 use Rattle.q_logic.specs.declared.formulas.Quant.TheVariants.{Exists, Forall}
-use Rattle.q_logic.specs.Formulas.{Prefix, Matrix}
-use Rattle.q_logic.specs.Prefixes.{is_existential, universal_before, is_bound, Distinct, Closed}
+use Rattle.q_logic.specs.Prelude.{Prefix, Matrix, is_existential, universal_before, is_bound, Distinct, Closed, Circuit, constant, choice, value_of, Reads, replaced}
 use Rattle.q_logic.specs.Truth.{Assignment, ClauseTrue, MatrixTrue, signed, with_value, HoldsUnder, by_quant, Game}
-use Rattle.q_logic.specs.Circuits.{Circuit, constant, choice, value_of, Reads, replaced}
 use Rattle.q_logic.specs.Skolems.{Skolem, Strategy, circuit_of, or_input, given, outcome, Lawful, where_true, strategy_of}
-use Rattle.q_logic.proofs.Trees.{value_of-agree, value_of-replaced, Reads-replaced, MatrixTrue-agree}
-use Rattle.q_logic.proofs.Order.{existential-is_bound}
+use Rattle.q_logic.proofs.TreeValues.{value_of-agree, value_of-replaced, Reads-replaced, MatrixTrue-agree}
+use Rattle.q_logic.proofs.PrefixOrder.{existential-is_bound}
 
 abbrev pub play : Prefix → (ℕ → Circuit) → Assignment → Assignment
 play P c A v = cond (is_existential P v) (value_of (c v) A) (A v)

@@ -1,19 +1,13 @@
 -- A universal pivot keeps Skolem functions.
 use Rattle.std.proofs.Common.{◌≡◌, ℕ, Bool, true, false, cond, ◌||◌, eqb, List, [], ◌∷◌, ◌++◌, ◌⊎◌, inl, inr, arith, refl, sym, ap, ◌∙◌, subst, Option, Some, None}
-use Rattle.q_logic.specs.Literals.{Literal, negation, literal_eq}
-use Rattle.q_logic.specs.Formulas.{Prefix, Clause, Matrix, IsIn}
-use Rattle.q_logic.specs.Prefixes.{is_existential, is_universal, universal_before, outer_or_same}
+use Rattle.q_logic.specs.Prelude.{Literal, negation, literal_eq, Prefix, Clause, Matrix, IsIn, is_existential, is_universal, universal_before, outer_or_same, Circuit, input, inverter, conjunction, disjunction, value_of, Reads, replaced, keeps, outer, ForallPivot, without, has, all_of, every_outer}
 use Rattle.q_logic.specs.Truth.{Assignment, LiteralTrue, ClauseTrue, MatrixTrue, signed, with_value}
-use Rattle.q_logic.specs.Circuits.{Circuit, input, inverter, conjunction, disjunction, value_of, Reads, replaced}
 use Rattle.q_logic.specs.Skolems.{Strategy, circuit_of, or_input, given, map_circuit, reread, outcome, Skolem, Lawful}
-use Rattle.q_logic.specs.Pivots.{keeps, outer, ForallPivot, without}
-use Rattle.q_logic.specs.Sets.{has}
-use Rattle.q_logic.specs.Undos.{all_of, every_outer}
 use Rattle.q_logic.proofs.ClauseLemmas.{literal_eq-sound, literal_eq-itself, IsIn-append, IsIn-outer, all_of-true, all_of-false, Reads-all_of, circuit_of-none}
-use Rattle.q_logic.proofs.Order.{outer_or_same-is_bound, outer_existential-free, before_outer_existential-before, outer_universal-before_inner, universal-not_existential}
+use Rattle.q_logic.proofs.PrefixOrder.{outer_or_same-is_bound, outer_existential-free, before_outer_existential-before, outer_universal-before_inner, universal-not_existential}
 use Rattle.q_logic.proofs.Pivot.{Near, AreOuters, outers-near}
 use Rattle.q_logic.proofs.Propagation.{implied-true}
-use Rattle.q_logic.proofs.Trees.{value_of-replaced, Reads-replaced, value_of-agree}
+use Rattle.q_logic.proofs.TreeValues.{value_of-replaced, Reads-replaced, value_of-agree}
 
 pub has-IsIn : (l : Literal) (D : Clause) → has l D ≡ true → IsIn l D
 has-IsIn l [] h = grind arith

@@ -1,11 +1,8 @@
 -- Valid steps under larger limits, and the causes of steps that are not valid.
 use Rattle.std.proofs.Common.{◌≡◌, ℕ, zero, suc, ◌*◌, ◌<◌, ◌≤◌, Bool, true, false, List, [], ◌∷◌, length, ◌⊎◌, inl, inr, arith, refl, not-suc-le-zero}
 use Rattle.q_logic.specs.declared.limits.Limits.{Limits}
-use Rattle.q_logic.specs.Formulas.{Matrix, PrenexFormula}
-use Rattle.q_logic.specs.Prefixes.{is_bound}
-use Rattle.q_logic.specs.Limits.{AreWithin}
+use Rattle.q_logic.specs.Prelude.{Matrix, PrenexFormula, is_bound, AreWithin, ValidSteps}
 use Rattle.q_logic.specs.Steps.{ProofStep, add, delete, drop_literal, fresh, remove_variable, KeepsLimits, Valid, IsWrong, Cause, after, literals_in}
-use Rattle.q_logic.specs.Runs.{ValidSteps}
 
 KeepsLimits-larger : (m n : Limits) (X : Matrix) → AreWithin m n → KeepsLimits m X → KeepsLimits n X
 KeepsLimits-larger m n X w h =

@@ -1,10 +1,6 @@
 -- Runs that add at most three times the limits, and how much a formula within the limits weighs.
 use Rattle.std.proofs.Common.{◌≡◌, ◌≤◌, ℕ, ◌+◌, ◌*◌, ◌++◌, sym, subst, arith, length}
-use Rattle.q_logic.specs.Formulas.{Matrix, Prefix, PrenexFormula}
-use Rattle.q_logic.specs.Steps.{literals_in}
-use Rattle.q_logic.specs.Limits.{standard}
-use Rattle.q_logic.specs.InLimits.{IsInLimits}
-use Rattle.q_logic.specs.Numbered.{formula_of}
+use Rattle.q_logic.specs.Prelude.{Matrix, Prefix, PrenexFormula, literals_in, standard, IsInLimits, formula_of}
 use Rattle.q_logic.proofs.Heights.{weight, one, Way, modest-more, weight-one, weight-length}
 use Rattle.q_logic.proofs.ExpandSize.{weight-append}
 

@@ -1,2 +1,2 @@
-pub mod Steps
-pub mod Exact
+pub mod LinkSteps
+pub mod ExactLists

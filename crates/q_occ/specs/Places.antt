@@ -1,9 +1,7 @@
 -- The places of literals in the words of an arena, as lists.
 use Rattle.std.specs.Prelude.{◌≡◌, ◌⊎◌, ◌↔◌, ℕ, ◌+◌, ◌≤◌, ◌<◌, Bool, true, false, if◌then◌else◌, ◌==◌, List, length, slice_index_or, Some}
-use Rattle.q_logic.specs.Literals.{Literal, pack}
-use Rattle.q_arena.specs.Chains.{Chains, list_at}
-use Rattle.q_arena.specs.Rings.{Has}
-use Rattle.q_arena.specs.Seen.{Clauses, clause_at, start_at}
+use Rattle.q_logic.specs.Prelude.{Literal, pack}
+use Rattle.q_arena.specs.Prelude.{Chains, list_at, Has, Clauses, clause_at, start_at}
 
 abbrev pub no_lit : Literal
 no_lit = record { var = 0; negative = false }

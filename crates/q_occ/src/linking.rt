@@ -1,7 +1,6 @@
 ghost use Rattle.std.specs.Prelude.{◌≡◌, ◌≤◌, ◌<◌, ◌+◌, ◌^◌, ℕ, length, slice_index_or};
-ghost use Rattle.q_logic.specs.Literals.{Literal, pack};
-ghost use Rattle.q_arena.specs.Rings.{Has};
-ghost use Rattle.q_arena.specs.Chains.{list_at};
+ghost use Rattle.q_logic.specs.Prelude.{Literal, pack};
+ghost use Rattle.q_arena.specs.Prelude.{Has, list_at};
 ghost use Rattle.q_occ.specs.Places.{no_lit, IsLinkedUpto, IsUnlinkedUpto, AreOwnedUpto};
 
 use q_arena::Rings;

@@ -1,8 +1,6 @@
 ghost use Rattle.std.specs.Prelude.{◌≡◌, ◌≤◌, ◌<◌, ◌+◌, ◌*◌, ◌⊎◌, ℕ, Bool, true, false, length, slice_get, slice_index_or, OnOk, IfOk, None, Some};
-ghost use Rattle.q_logic.specs.Literals.{Literal};
-ghost use Rattle.q_arena.specs.Rings.{Has, AreApart};
-ghost use Rattle.q_arena.specs.Chains.{list_at, following, HasSameLists, HasSameOwners};
-ghost use Rattle.q_arena.specs.Seen.{IsLive};
+ghost use Rattle.q_logic.specs.Prelude.{Literal};
+ghost use Rattle.q_arena.specs.Prelude.{Has, AreApart, list_at, following, HasSameLists, HasSameOwners, IsLive};
 ghost use Rattle.q_occ.specs.Places.{places_of, AreExact, with_linked, IsLinked, IsUnlinked, IsReserved, IsLinking, IsUnlinking, KeepsRoom};
 
 use crate::linking::{link_all, unlink_all};
@@ -18,7 +16,7 @@ pub struct Occ {
 }
 
 impl Model for Occ {
-    ghost use Rattle.q_arena.specs.Chains.{Chains};
+    ghost use Rattle.q_arena.specs.Prelude.{Chains};
 
     ghost Value = { Chains };
 

@@ -1,7 +1,6 @@
 -- What is seen of a clause in order from a place on.
 use Rattle.std.specs.Prelude.{◌≤◌, ℕ, drop}
-use Rattle.q_logic.specs.Literals.{Literal, pack}
-use Rattle.q_logic.specs.Formulas.{Clause, IsIn}
+use Rattle.q_logic.specs.Prelude.{Literal, pack, Clause, IsIn}
 
 -- no literal from a place on is below k
 abbrev pub IsLeastFrom : Clause → ℕ → Literal → Type 0

@@ -1,8 +1,6 @@
 //! Which literal of a clause another clause lacks.
 ghost use Rattle.std.specs.Prelude.{◌≡◌, ◌↔◌, ◌≢◌, true, false, None, Some, IsTrue, drop};
-ghost use Rattle.q_logic.specs.Literals.{Literal, IsBelow};
-ghost use Rattle.q_logic.specs.Formulas.{IsIn};
-ghost use Rattle.q_logic.specs.Parts.{ArePairs};
+ghost use Rattle.q_logic.specs.Prelude.{Literal, IsBelow, IsIn, ArePairs};
 ghost use Rattle.q_ordered.specs.Looks.{IsLeastFrom};
 
 use crate::places::{is_at, skip_to};

@@ -1,9 +1,7 @@
 //! Places in a clause that is in order. Where literals are looked for in ascending order, one walk along the clause serves
 //! for all of them.
 ghost use Rattle.std.specs.Prelude.{◌↔◌, ◌≤◌, IsTrue, drop};
-ghost use Rattle.q_logic.specs.Literals.{Literal, IsBelow, pack};
-ghost use Rattle.q_logic.specs.Formulas.{IsIn};
-ghost use Rattle.q_logic.specs.Parts.{ArePairs};
+ghost use Rattle.q_logic.specs.Prelude.{Literal, IsBelow, pack, IsIn, ArePairs};
 ghost use Rattle.q_ordered.specs.Looks.{IsLeastFrom};
 
 use q_logic::Lit;

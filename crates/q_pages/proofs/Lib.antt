@@ -1,3 +1,3 @@
-mod Values
-pub mod Entries
-pub mod Tables
+mod FilledRows
+pub mod PageEntries
+pub mod TableRows

@@ -1,6 +1,6 @@
 -- The block of a variable, as a walk in one direction meets it.
 use Rattle.std.specs.Prelude.{ℕ, Bool, cond, if◌then◌else◌, ◌==◌, List, [], ◌∷◌, reverse, Option, None, Some}
-use Rattle.q_arena.specs.Chains.{following}
+use Rattle.q_arena.specs.Prelude.{following}
 
 -- the variables in the order of a walk
 abbrev pub ahead : Bool → List ℕ → List ℕ

@@ -3,9 +3,8 @@ use Rattle.std.specs.Prelude.{◌≡◌, ◌⊎◌, ◌≤◌, ◌<◌, ℕ, tru
 use Rattle.q_logic.specs.declared.formulas.Quant.{Quant}
 use Rattle.q_logic.specs.declared.formulas.Quant.TheVariants.{Exists}
 use Rattle.q_logic.specs.declared.formulas.Bound.{Bound}
-use Rattle.q_logic.specs.Prefixes.{IsNext, same_quant}
-use Rattle.q_arena.specs.Rings.{Has, AreApart, without}
-use Rattle.q_arena.specs.Chains.{Chains, list_at, following, preceding}
+use Rattle.q_logic.specs.Prelude.{IsNext, same_quant}
+use Rattle.q_arena.specs.Prelude.{Has, AreApart, without, Chains, list_at, following, preceding}
 use Rattle.q_prefix.specs.declared.marks.Mark.{Mark}
 
 -- a prefix, its spare places, and the greatest variable that is reserved

@@ -1,8 +1,7 @@
 ghost use Rattle.std.specs.Prelude.{◌≡◌, ◌≤◌, ◌<◌, ◌+◌, ◌∷◌, [], ℕ, List, length, slice_get, nat_le, Option, Some, None, true, false};
-ghost use Rattle.q_logic.specs.Prefixes.{Distinct, same_quant};
+ghost use Rattle.q_logic.specs.Prelude.{Distinct, same_quant};
 ghost use Rattle.q_logic.specs.declared.formulas.Bound.{Bound as BoundValue};
-ghost use Rattle.q_arena.specs.Rings.{Has};
-ghost use Rattle.q_arena.specs.Chains.{list_at, following};
+ghost use Rattle.q_arena.specs.Prelude.{Has, list_at, following};
 ghost use Rattle.q_prefix.specs.Order.{IsPrefix, IsRanked, IsRankBefore, IsParted, bounds_of, mark_at, rank_of};
 ghost use Rattle.q_prefix.specs.Blocks.{ahead, block_from, mate_of};
 

@@ -1,5 +1,5 @@
 ghost use Rattle.std.specs.Prelude.{◌≡◌, ◌⊎◌, ◌≢◌, ◌≤◌, ◌<◌, ℕ, Bool, length, OnOk};
-ghost use Rattle.q_logic.specs.Prefixes.{same_quant};
+ghost use Rattle.q_logic.specs.Prelude.{same_quant};
 ghost use Rattle.q_prefix.specs.Order.{mark_at, rank_of};
 
 use q_logic::{NoMemory, Quant};

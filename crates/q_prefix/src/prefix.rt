@@ -1,11 +1,8 @@
 ghost use Rattle.std.specs.Prelude.{◌≡◌, ◌≤◌, ◌<◌, ◌+◌, ◌⊎◌, ◌≢◌, ℕ, Bool, true, false, length, slice_get, OnOk, IfOk, Some, None};
-ghost use Rattle.q_logic.specs.InLimits.{greatest};
-ghost use Rattle.q_logic.specs.Prefixes.{is_bound, outer_or_same, Distinct};
-ghost use Rattle.q_logic.specs.Steps.{removed_from};
+ghost use Rattle.q_logic.specs.Prelude.{greatest, is_bound, outer_or_same, Distinct, removed_from};
 ghost use Rattle.q_logic.specs.declared.formulas.Quant.{Quant as Quantifier};
 ghost use Rattle.q_logic.specs.declared.formulas.Bound.{Bound as BoundValue};
-ghost use Rattle.q_arena.specs.Rings.{Has};
-ghost use Rattle.q_arena.specs.Chains.{list_at};
+ghost use Rattle.q_arena.specs.Prelude.{Has, list_at};
 ghost use Rattle.q_prefix.specs.Order.{FlatPrefix, quant_of, bound_after, bound_before, with_after, mark_at};
 
 use crate::blocks::{fill, join_blocks};
@@ -26,7 +23,7 @@ pub struct Prefix {
 
 impl Model for Prefix {
     ghost use Rattle.std.specs.Prelude.{length, ◌-◌};
-    ghost use Rattle.q_arena.specs.Chains.{list_at};
+    ghost use Rattle.q_arena.specs.Prelude.{list_at};
     ghost use Rattle.q_prefix.specs.Order.{FlatPrefix, bounds_of, IsPrefix};
 
     ghost Value = { FlatPrefix };

@@ -1,15 +1,10 @@
 -- Hints found by looking at all clauses again and again.
 use Rattle.std.proofs.Common.{◌≡◌, ◌↔◌, ◌<◌, ◌≤◌, ◌+◌, ℕ, Bool, true, false, List, [], ◌∷◌, ◌++◌, Option, None, Some, Contains, length, refl, sym, ap, ◌∙◌, subst, inl, inr, arith, append_assoc, append-nil, length-append, length-set, IsTrue}
 use Rattle.std.proofs.lemmas.List.Elements.{Contains-append_left, Contains-push, Contains-push_cases}
-use Rattle.q_logic.specs.Literals.{Literal, negation}
-use Rattle.q_logic.specs.Formulas.{Clause, Matrix, IsIn}
-use Rattle.q_logic.specs.Numbered.{Slots, live}
-use Rattle.q_logic.specs.Propagation.{Implied}
-use Rattle.q_logic.proofs.Membership.{IsIn-Contains, Contains-IsIn}
+use Rattle.q_logic.specs.Prelude.{Literal, negation, Clause, Matrix, IsIn, Slots, live, Implied, IsTautology, Follows, Chained}
+use Rattle.q_logic.proofs.Common.{IsIn-Contains, Contains-IsIn}
 use Rattle.std.proofs.lemmas.Bool.{false≢true}
-use Rattle.q_logic.specs.Sets.{IsTautology}
-use Rattle.q_logic.specs.Hints.{Follows, Chained}
-use Rattle.q_logic.proofs.Chaining.{follows-same, chained-implied}
+use Rattle.q_logic.proofs.HintChains.{follows-same, chained-implied}
 use Rattle.q_prop.specs.Chains.{IsFalsified, HasOpposites}
 use Rattle.q_prop.specs.Search.{IsOpen, IsQuiet, AreQuiet}
 use Rattle.q_prop.specs.Slots.{Holds, filled, without}
@@ -17,14 +12,14 @@ use Rattle.q_prop.specs.Working.{IsReached, IsAssumed}
 use Rattle.q_prop.specs.Hinting.{IsLeft}
 use Rattle.q_prop.specs.declared.chain.Left.TheVariants.{One}
 use Rattle.q_prop.specs.Plain.{IsNoted, IsLed, IsEnded, IsPassed, IsPass, answer_of, IsSearching, IsExplained}
-use Rattle.q_prop.proofs.Members.{Contains-along, Contains-map_cases}
-use Rattle.q_prop.proofs.Definition.{implied_of}
-use Rattle.q_prop.proofs.Completing.{complete_not_implied}
-use Rattle.q_prop.proofs.Missing.{missing}
+use Rattle.q_prop.proofs.ListMembers.{Contains-along, Contains-map_cases}
+use Rattle.q_prop.proofs.ChainDefinition.{implied_of}
+use Rattle.q_prop.proofs.CompleteRoot.{complete_not_implied}
+use Rattle.q_prop.proofs.UnknownLiterals.{missing}
 use Rattle.q_prop.proofs.Literals.{Literal-cases, ℕ-cases}
 use Rattle.q_prop.proofs.Chains.{no_opposites-push}
-use Rattle.q_prop.proofs.Hinting.{Holds-slot, refuted, leaves_one, assumed-chained}
-use Rattle.q_prop.proofs.Reaching.{IsReached-refl, IsReached-trans, IsReached-budget, IsReached-within}
+use Rattle.q_prop.proofs.HintSteps.{Holds-slot, refuted, leaves_one, assumed-chained}
+use Rattle.q_prop.proofs.PropagationEnd.{IsReached-refl, IsReached-trans, IsReached-budget, IsReached-within}
 use Rattle.q_prop.proofs.SlotLemmas.{filled-in, filled-cases, slice_get-in}
 
 pub led-refl : (s : Slots) (k : List Literal) (h : List ℕ) → (HasOpposites k → ⊥) → IsLed s k h k h

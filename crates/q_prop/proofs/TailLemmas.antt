@@ -1,6 +1,6 @@
 -- Clauses in one row of literals, the last one appended.
 use Rattle.std.proofs.Common.{◌≡◌, suc, List, [], ◌∷◌, ◌++◌, map, length, refl}
-use Rattle.q_logic.specs.Literals.{Literal}
+use Rattle.q_logic.specs.Prelude.{Literal}
 use Rattle.q_prop.specs.Tails.{tail_of, AreSpans}
 use Rattle.q_prop.specs.declared.tails.Span.{Span}
 use Rattle.q_prop.proofs.PieceLemmas.{range-front, range-end, map-append}

@@ -1,7 +1,6 @@
 -- A level above the root: the negations of a clause, and what they force.
 use Rattle.std.specs.Prelude.{List, ◌++◌, Contains, map, length}
-use Rattle.q_logic.specs.Literals.{Literal, negation}
-use Rattle.q_logic.specs.Formulas.{Clause, Matrix}
+use Rattle.q_logic.specs.Prelude.{Literal, negation, Clause, Matrix}
 use Rattle.q_prop.specs.Chains.{IsChain}
 use Rattle.q_prop.specs.Slots.{filled, without}
 use Rattle.q_prop.specs.Working.{IsReady, AreListed, AreTrue}

@@ -1,9 +1,6 @@
 -- Hints found by looking at all clauses again and again.
 use Rattle.std.specs.Prelude.{◌≡◌, ◌<◌, ℕ, Bool, true, false, List, [], ◌∷◌, ◌++◌, Contains, length}
-use Rattle.q_logic.specs.Literals.{Literal}
-use Rattle.q_logic.specs.Formulas.{Clause}
-use Rattle.q_logic.specs.Numbered.{Slots}
-use Rattle.q_logic.specs.Hints.{Follows}
+use Rattle.q_logic.specs.Prelude.{Literal, Clause, Slots, Follows}
 use Rattle.q_prop.specs.Chains.{IsFalsified, HasOpposites}
 use Rattle.q_prop.specs.Search.{IsQuiet, AreQuiet}
 use Rattle.q_prop.specs.Slots.{Holds, filled}

@@ -1,8 +1,6 @@
 -- Clauses in one row of literals, with which another one is joined in turn.
 use Rattle.std.specs.Prelude.{◌≡◌, ◌≤◌, ℕ, List, Some, Contains, slice_get, slice_range, length, ◌++◌}
-use Rattle.q_logic.specs.Literals.{Literal}
-use Rattle.q_logic.specs.Formulas.{Clause, Matrix}
-use Rattle.q_logic.specs.Propagation.{Implied}
+use Rattle.q_logic.specs.Prelude.{Literal, Clause, Matrix, Implied}
 use Rattle.q_prop.specs.declared.tails.Span.{Span}
 
 -- the clause of a span

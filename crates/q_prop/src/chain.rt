@@ -1,7 +1,7 @@
 //! Propagation by hints. The hints name the clauses in the order in which they are taken; each is looked at
 //! once, and nothing is watched. Each hint but the last leaves one literal, which is then known.
 ghost use Rattle.std.specs.Prelude.{◌≡◌, ◌↔◌, ◌<◌, [], length, IfOk, OnOk, IsTrue, MatchBool};
-ghost use Rattle.q_logic.specs.Hints.{Follows, Chained};
+ghost use Rattle.q_logic.specs.Prelude.{Follows, Chained};
 ghost use Rattle.q_prop.specs.Hinting.{IsLeft, IsLearned, left_in, IsOther, IsNoOther};
 ghost use Rattle.q_prop.specs.Slots.{without};
 

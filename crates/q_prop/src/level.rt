@@ -1,7 +1,7 @@
 //! A level above the root: the negations of a clause are propagated once, and those of each clause that is joined with it
 //! above them.
 ghost use Rattle.std.specs.Prelude.{◌≡◌, ◌↔◌, ◌++◌, IsTrue, IfOk, length, MatchBool};
-ghost use Rattle.q_logic.specs.Propagation.{Implied};
+ghost use Rattle.q_logic.specs.Prelude.{Implied};
 ghost use Rattle.q_prop.specs.Levels.{IsLevel};
 ghost use Rattle.q_prop.specs.Slots.{filled, without};
 ghost use Rattle.q_prop.specs.Tails.{AreImplied};

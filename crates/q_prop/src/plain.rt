@@ -2,8 +2,7 @@
 //! for where the hints that were gathered along the trail do not show the conflict. A clause is noted where it
 //! gives a literal that is new, so the notes are hints.
 ghost use Rattle.std.specs.Prelude.{◌≡◌, ◌↔◌, [], IfOk, MatchBool, IsTrue};
-ghost use Rattle.q_logic.specs.Propagation.{Implied};
-ghost use Rattle.q_logic.specs.Hints.{Chained};
+ghost use Rattle.q_logic.specs.Prelude.{Implied, Chained};
 ghost use Rattle.q_prop.specs.Chains.{HasOpposites};
 ghost use Rattle.q_prop.specs.Plain.{IsFind, IsPass, IsExplained, answer_of};
 ghost use Rattle.q_prop.specs.Slots.{without, filled};

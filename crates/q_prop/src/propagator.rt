@@ -1,11 +1,9 @@
 ghost use Rattle.std.specs.Prelude.{◌≡◌, ◌↔◌, ◌<◌, ◌⊎◌, ◌++◌, ◌∷◌, [], length, slice_set, OnOk, OnErr, None, Some, Contains, IsTrue, MatchOption, IfOk, IfSome, ℕ, ◌≤◌, slice_get};
-ghost use Rattle.q_logic.specs.Formulas.{Clause};
-ghost use Rattle.q_logic.specs.Propagation.{Implied};
+ghost use Rattle.q_logic.specs.Prelude.{Clause, Implied, Literal};
 ghost use Rattle.q_prop.specs.Slots.{filled, without, Holds, IsPut, IsVacant};
 ghost use Rattle.q_prop.specs.Lists.{IsLost, AreTaken};
-ghost use Rattle.q_prop.specs.Roles.{IsRole, IsAlone, IsApart, IsLoosened, AreUnitsKnown};
-ghost use Rattle.q_logic.specs.Literals.{Literal};
-ghost use Rattle.q_prop.specs.declared.roles.Role.TheVariants.{Apart};
+ghost use Rattle.q_prop.specs.Supports.{IsSupport, IsAlone, IsApart, IsLoosened, AreUnitsKnown};
+ghost use Rattle.q_prop.specs.declared.supports.Support.TheVariants.{Apart};
 ghost use Rattle.q_prop.specs.Tails.{AreImplied};
 ghost use Rattle.q_prop.specs.declared.pairs.Pair.{Pair};
 
@@ -14,10 +12,10 @@ use crate::level::{Level, query_each};
 use crate::lists::{Lists, place_of};
 use crate::notes::Notes;
 use crate::propagation::{complete, query, query_anew, query_beside};
-use crate::roles::{Role, without_units};
 use crate::root::{Root, is_empty_at};
 use crate::rows::Rows;
 use crate::spots::{Spots, renote};
+use crate::supports::{Support, without_units};
 use crate::tails::Tails;
 use crate::trail::{NO_SLOT, Trail};
 use crate::watched::{Watched, put, put_short};
@@ -35,7 +33,7 @@ pub struct Propagator {
 }
 
 impl Model for Propagator {
-    ghost use Rattle.q_logic.specs.Numbered.{Slots};
+    ghost use Rattle.q_logic.specs.Prelude.{Slots};
     ghost use Rattle.q_prop.specs.Watched.{IsPropagated};
 
     ghost Value = { Slots };
@@ -124,21 +122,21 @@ impl Propagator {
     }
 
     /// Empties a slot. Takes no memory.
-    pub fn delete(&mut self, slot: u32, role: Role)
+    pub fn delete(&mut self, slot: u32, support: Support)
         requires within { slot < length self.old }
-        requires role { IsRole self.old (Some slot) role }
+        requires support { IsSupport self.old (Some slot) support }
         ensures { self.new ≡ slice_set self.old slot None }
     {
         let at = slot as usize;
         if self.root.conflict {
-            return self.delete_refuted(slot, role);
+            return self.delete_refuted(slot, support);
         }
         let complete = self.root.is_complete();
         let rest = loosen(
             &self.watched.clauses,
             at,
             &mut self.root.trail,
-            role,
+            support,
             complete,
         );
         let done = unlist(
@@ -161,9 +159,9 @@ impl Propagator {
     }
 
     // Empties a slot where the root has a conflict. That is kept if the rest stands without the slot.
-    fn delete_refuted(&mut self, slot: u32, role: Role)
+    fn delete_refuted(&mut self, slot: u32, support: Support)
         requires within { slot < length self.old }
-        requires role { IsRole self.old (Some slot) role }
+        requires support { IsSupport self.old (Some slot) support }
         ensures { self.new ≡ slice_set self.old slot None }
     {
         let at = slot as usize;
@@ -171,7 +169,7 @@ impl Propagator {
             &self.watched.clauses,
             at,
             &mut self.root.trail,
-            without_units(role),
+            without_units(support),
             true,
         );
         unlist(
@@ -232,10 +230,10 @@ impl Propagator {
     }
 
     /// Notes that a literal follows without the slot, where another one doubles it.
-    pub fn note_doubling(&mut self, skip: Option<usize>, role: &Role)
+    pub fn note_doubling(&mut self, skip: Option<usize>, support: &Support)
         ensures { self.new ≡ self.old }
     {
-        if let (Some(at), Role::Doubled(lit, other)) = (skip, role) {
+        if let (Some(at), Support::Doubled(lit, other)) = (skip, support) {
             self.root.trail.change_reason(*lit, at, *other);
         }
     }
@@ -255,19 +253,19 @@ impl Propagator {
         &mut self,
         lits: &[Lit],
         skip: Option<usize>,
-        role: Role,
+        support: Support,
     ) -> Result<bool, NoMemory>
-        requires { IsRole self.old skip role }
+        requires { IsSupport self.old skip support }
         ensures same { self.new ≡ self.old }
         ensures exact { IfOk result (λ yes. IsTrue yes ↔ Implied (filled (without self.old skip)) lits.now) }
     {
-        if let Role::Alone(lit) = role {
+        if let Support::Alone(lit) = support {
             return self.implied_alone(lits, skip, lit);
         }
-        if let Role::Apart(lit) = role {
+        if let Support::Apart(lit) = support {
             return self.implied_beside(lits, skip, lit);
         }
-        if !stands(&self.watched.clauses, skip, &self.root.trail, role) {
+        if !stands(&self.watched.clauses, skip, &self.root.trail, support) {
             return self.implied_anew(lits, skip);
         }
         if self.root.conflict {
@@ -298,7 +296,12 @@ impl Propagator {
         ensures exact { IfOk result (λ answer. IfSome answer (λ yes.
             IsTrue yes ↔ AreImplied (filled (without self.old skip)) lits.now tails.now)) }
     {
-        if !stands(&self.watched.clauses, skip, &self.root.trail, Role::Unknown) {
+        if !stands(
+            &self.watched.clauses,
+            skip,
+            &self.root.trail,
+            Support::Unknown,
+        ) {
             return Ok(None);
         }
         if self.root.conflict {
@@ -464,24 +467,24 @@ impl Propagator {
 
 // Takes off the trail what hangs on the slot alone, where all of the root is found or a conflict, and
 // answers whether the rest stands without the slot.
-fn loosen(clauses: &Clauses, at: usize, trail: &mut Trail, role: Role, settled: bool) -> bool
-    requires role { IsRole clauses.now.slots (Some at) role }
-    requires units { (l : Literal) → role ≡ Apart l → IsTrue settled → AreUnitsKnown clauses.now.slots at trail.old }
+fn loosen(clauses: &Clauses, at: usize, trail: &mut Trail, support: Support, settled: bool) -> bool
+    requires support { IsSupport clauses.now.slots (Some at) support }
+    requires units { (l : Literal) → support ≡ Apart l → IsTrue settled → AreUnitsKnown clauses.now.slots at trail.old }
     ensures { IsTrue result → IsLoosened clauses.now.slots at trail.old trail.new settled }
 {
-    if let Role::Alone(lit) = role {
+    if let Support::Alone(lit) = support {
         if settled && trail.has(lit) {
             trail.remove(lit);
             return true;
         }
     }
-    if let Role::Apart(lit) = role {
+    if let Support::Apart(lit) = support {
         if settled && trail.has(lit) {
             trail.remove(lit);
             return true;
         }
     }
-    is_free(clauses, at, trail, role)
+    is_free(clauses, at, trail, support)
 }
 
 // The slot to note with an empty clause, where a clause comes into a slot.

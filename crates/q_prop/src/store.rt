@@ -1,13 +1,10 @@
 ghost use Rattle.std.specs.Prelude.{◌≡◌, ◌≢◌, ◌⊎◌, ◌↔◌, ◌<◌, [], MatchBool, length, slice_set, OnErr, None, IsTrue, MatchOption, IfSome, IfOk, ℕ, Contains, Some, ◌^◌, ◌≤◌};
-ghost use Rattle.q_logic.specs.Formulas.{Clause};
-ghost use Rattle.q_logic.specs.Propagation.{Implied};
-ghost use Rattle.q_logic.specs.Hints.{Chained};
+ghost use Rattle.q_logic.specs.Prelude.{Clause, Implied, Chained, Literal, negation};
 ghost use Rattle.q_prop.specs.Slots.{filled, without, Holds, IsPut, IsOrdered};
 ghost use Rattle.q_prop.specs.Holders.{IsHolder, AreHolders};
 ghost use Rattle.q_prop.specs.Buckets.{AreHashed};
 ghost use Rattle.q_prop.specs.Lists.{IsDistinct};
-ghost use Rattle.q_prop.specs.Roles.{IsRole, IsDoubled, IsAlone, IsApart, IsUnitBeside};
-ghost use Rattle.q_logic.specs.Literals.{Literal, negation};
+ghost use Rattle.q_prop.specs.Supports.{IsSupport, IsDoubled, IsAlone, IsApart, IsUnitBeside};
 ghost use Rattle.q_prop.specs.Tails.{AreImplied};
 
 use crate::buckets::{Buckets, rehashed};
@@ -16,7 +13,7 @@ use crate::holders::{insert, note, remove};
 use crate::lists::Lists;
 use crate::plain::explain_plainly;
 use crate::propagator::Propagator;
-use crate::roles::{Role, is_among, is_only};
+use crate::supports::{Support, is_among, is_only};
 use crate::tails::Tails;
 use crate::trail::Trail;
 use q_logic::{Lit, NoMemory};
@@ -34,7 +31,7 @@ pub struct Store {
 }
 
 impl Model for Store {
-    ghost use Rattle.q_logic.specs.Numbered.{Slots};
+    ghost use Rattle.q_logic.specs.Prelude.{Slots};
     ghost use Rattle.q_prop.specs.Indexes.{IsIndexed};
 
     ghost Value = { Slots };
@@ -130,11 +127,11 @@ impl Store {
         requires { at < length self.old }
         ensures { self.new ≡ slice_set self.old at None }
     {
-        let role = self.role_of(at);
-        self.propagator.note_doubling(Some(at), &role);
+        let support = self.support_of(at);
+        self.propagator.note_doubling(Some(at), &support);
         free(&self.propagator, &mut self.holders, &mut self.buckets, at);
         self.propagator.renote(at, &self.holders);
-        self.propagator.delete(at as u32, role);
+        self.propagator.delete(at as u32, support);
         self.renote_empty(at);
     }
 
@@ -159,10 +156,10 @@ impl Store {
             return Ok(true);
         }
         self.propagator.complete()?;
-        let role = self.role(skip);
-        self.propagator.note_doubling(skip, &role);
+        let support = self.support(skip);
+        self.propagator.note_doubling(skip, &support);
         self.propagator.gather_conflict();
-        self.propagator.implied(lits, skip, role)
+        self.propagator.implied(lits, skip, support)
     }
 
     /// Whether the literals, joined with each of the tails, are implied by propagation, over the clauses of all slots
@@ -281,32 +278,32 @@ impl Store {
         Ok(())
     }
 
-    fn role(&self, skip: Option<usize>) -> Role
-        ensures { IsRole self.now skip result }
+    fn support(&self, skip: Option<usize>) -> Support
+        ensures { IsSupport self.now skip result }
     {
         match skip {
-            Some(at) => self.role_of(at),
-            None => Role::Unknown,
+            Some(at) => self.support_of(at),
+            None => Support::Unknown,
         }
     }
 
     // What the clauses beside a slot say of the literal of its clause that alone is not false.
-    fn role_of(&self, at: usize) -> Role
-        ensures { IsRole self.now (Some at) result }
+    fn support_of(&self, at: usize) -> Support
+        ensures { IsSupport self.now (Some at) result }
     {
         match self.propagator.left_in(at) {
             Some(lit) => {
                 if let Some(other) = self.doubling(at, lit) {
-                    Role::Doubled(lit, other)
+                    Support::Doubled(lit, other)
                 } else if self.is_alone(at, lit) {
-                    Role::Alone(lit)
+                    Support::Alone(lit)
                 } else if self.is_apart(at, lit) {
-                    Role::Apart(lit)
+                    Support::Apart(lit)
                 } else {
-                    Role::Unknown
+                    Support::Unknown
                 }
             }
-            None => Role::Unknown,
+            None => Support::Unknown,
         }
     }
 

@@ -21,7 +21,7 @@ pub struct Tails {
 
 impl Model for Tails {
     ghost use Rattle.std.specs.Prelude.{List, map};
-    ghost use Rattle.q_logic.specs.Formulas.{Clause};
+    ghost use Rattle.q_logic.specs.Prelude.{Clause};
     ghost use Rattle.q_prop.specs.Tails.{tail_of, AreSpans};
 
     ghost Value = { List Clause };

@@ -1,5 +1,5 @@
 ghost use Rattle.std.specs.Prelude.{◌≡◌, ◌↔◌, ◌<◌, ◌+◌, ◌-◌, ◌++◌, ◌∷◌, [], length, slice_get, OnOk, OnErr, Some, Contains, IsTrue, MatchOption, ℕ, slice_index_or, vec_len, false, take};
-ghost use Rattle.q_logic.specs.Literals.{pack};
+ghost use Rattle.q_logic.specs.Prelude.{pack};
 ghost use Rattle.q_prop.specs.Marks.{IsTaken};
 
 use crate::spots::Spots;
@@ -23,7 +23,7 @@ pub const NO_SLOT: usize = 4_294_967_295;
 
 impl Model for Trail {
     ghost use Rattle.std.specs.Prelude.{List};
-    ghost use Rattle.q_logic.specs.Literals.{Literal};
+    ghost use Rattle.q_logic.specs.Prelude.{Literal};
     ghost use Rattle.q_prop.specs.Marks.{IsMarked, IsOnce};
 
     ghost Value = { List Literal };

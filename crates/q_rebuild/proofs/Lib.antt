@@ -1,9 +1,9 @@
-pub mod TakingBack
-pub mod Covering
-pub mod Rebuilding
-pub mod Emptiness
-pub mod Allowing
-pub mod Denying
-pub mod Alike
+pub mod UndoEntries
+pub mod EntryCircuits
+pub mod RebuiltCircuits
+pub mod EmptyClause
+pub mod SkolemAccepted
+pub mod RefusedCircuits
+pub mod AlikeAccepted
 pub mod UndoLists
-pub mod Keeping
+pub mod KeptMoves

@@ -1,17 +1,8 @@
 -- Two undo lists of the same steps take circuits back alike: only the order of outer clauses differs, and it says nothing.
 use Rattle.std.proofs.Common.{◌≡◌, ℕ, Bool, true, false, cond, not, ◌&&◌, eqb, List, [], ◌∷◌, ◌++◌, inl, inr, arith, refl, sym, ap, ap₂, ◌∙◌, subst, Option, Some, None}
-use Rattle.q_logic.specs.Literals.{Literal, negation}
-use Rattle.q_logic.specs.Formulas.{Clause, IsIn, PrenexFormula}
-use Rattle.q_logic.specs.Prefixes.{is_existential}
-use Rattle.q_logic.specs.Truth.{Assignment, ClauseTrue, signed}
-use Rattle.q_logic.specs.Circuits.{Circuit, constant, value_of}
-use Rattle.q_logic.specs.Skolems.{Strategy, or_input, given, outcome}
-use Rattle.q_logic.specs.Steps.{one_less, ProofStep, add, delete, drop_literal, fresh, remove_variable, after}
-use Rattle.q_logic.specs.Undos.{all_of, raised, pivoted, OutersOf, PivotEntry, UndoEntry, pivot, removed, freshened, with_circuit, Back, Entries, Undos}
+use Rattle.q_logic.specs.Prelude.{Literal, negation, Clause, IsIn, PrenexFormula, is_existential, Assignment, ClauseTrue, signed, Circuit, constant, value_of, Strategy, or_input, given, outcome, one_less, ProofStep, add, delete, drop_literal, fresh, remove_variable, after, all_of, raised, pivoted, OutersOf, PivotEntry, UndoEntry, pivot, removed, freshened, with_circuit, Back, Entries, Undos}
 use Rattle.q_logic.specs.Moves.{AgreeAt}
-use Rattle.q_logic.proofs.ClauseLemmas.{all_of-true, all_of-false}
-use Rattle.q_logic.proofs.Reaching.{IsIn-alike}
-use Rattle.q_logic.proofs.Soundness.{same_first, Back-append}
+use Rattle.q_logic.proofs.Common.{all_of-true, all_of-false, IsIn-alike, same_first, Back-append}
 
 -- they agree everywhere
 abbrev pub Alike : Strategy → Strategy → Assignment → Type 0

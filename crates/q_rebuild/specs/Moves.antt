@@ -1,12 +1,6 @@
 -- What becomes of the moves of the first rounds.
 use Rattle.std.specs.Prelude.{ℕ, List}
-use Rattle.q_logic.specs.Formulas.{PrenexFormula}
-use Rattle.q_logic.specs.Truth.{Assignment}
-use Rattle.q_logic.specs.Certificates.{CertificateView, trees_of}
-use Rattle.q_logic.specs.Skolems.{Lawful, outcome}
-use Rattle.q_logic.specs.Steps.{ProofStep}
-use Rattle.q_logic.specs.Runs.{Run}
-use Rattle.q_logic.specs.Undos.{UndoEntry, Undos}
+use Rattle.q_logic.specs.Prelude.{PrenexFormula, Assignment, CertificateView, trees_of, Lawful, outcome, ProofStep, Run, UndoEntry, Undos}
 use Rattle.q_logic.specs.Moves.{Agree, CanBeCompleted, Wins}
 use Rattle.q_rebuild.specs.Rebuilt.{IsRebuilt}
 

@@ -1,15 +1,8 @@
 -- What comes out: circuits of the formula before.
 use Rattle.std.specs.Prelude.{◌≡◌, ◌≤◌, ℕ, ◌+◌, Bool, true, List, length, map}
-use Rattle.q_logic.specs.Formulas.{PrenexFormula}
-use Rattle.q_logic.specs.Prefixes.{is_existential}
-use Rattle.q_logic.specs.Truth.{Assignment}
-use Rattle.q_logic.specs.Circuits.{value_of}
-use Rattle.q_logic.specs.Certificates.{CertificateView, trees_of}
-use Rattle.q_logic.specs.Skolems.{circuit_of, Lawful, SkolemOf}
-use Rattle.q_logic.specs.Undos.{UndoEntry, Back}
-use Rattle.q_aig.specs.Walking.{marked_count}
-use Rattle.q_carry.specs.Made.{universals, existentials}
-use Rattle.q_carry.specs.Cones.{HasCones}
+use Rattle.q_logic.specs.Prelude.{PrenexFormula, is_existential, Assignment, value_of, CertificateView, trees_of, circuit_of, Lawful, SkolemOf, UndoEntry, Back}
+use Rattle.q_aig.specs.Prelude.{marked_count}
+use Rattle.q_carry.specs.Prelude.{universals, existentials, HasCones}
 use Rattle.q_rebuild.specs.TakenBack.{weights}
 
 -- circuits of the formula before, made from those of the formula after

@@ -1,11 +1,8 @@
 -- A whole undo list, undone.
 use Rattle.std.specs.Prelude.{ℕ, ◌+◌, Bool, List, [], ◌∷◌, Option}
-use Rattle.q_logic.specs.Skolems.{Strategy}
-use Rattle.q_logic.specs.Undos.{UndoEntry, Back}
-use Rattle.q_aig.specs.Nets.{Net}
-use Rattle.q_carry.specs.Covered.{EntryCovered, weight}
-use Rattle.q_carry.specs.Standing.{AreLiterals, IsAt}
-use Rattle.q_carry.specs.Growing.{IsGrown}
+use Rattle.q_logic.specs.Prelude.{Strategy, UndoEntry, Back}
+use Rattle.q_aig.specs.Prelude.{Net}
+use Rattle.q_carry.specs.Prelude.{EntryCovered, weight, AreLiterals, IsAt, IsGrown}
 
 -- whenever an entry is undone, what its outer clauses hold has a circuit or is an input
 abbrev pub AreCovered : (ℕ → Bool) → List UndoEntry → Strategy → Type 0

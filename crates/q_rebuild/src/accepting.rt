@@ -1,6 +1,6 @@
 //! Whether circuits can be circuits of the output: they fit its prefix, and it has no empty clause.
 ghost use Rattle.std.specs.Prelude.{◌≡◌, ◌↔◌, [], IsTrue, IfErr, OnOk};
-ghost use Rattle.q_logic.specs.Formulas.{IsIn};
+ghost use Rattle.q_logic.specs.Prelude.{IsIn};
 ghost use Rattle.q_rebuild.specs.Refusals.{IsRefused, IsAccepted};
 
 use crate::error::RebuildError;

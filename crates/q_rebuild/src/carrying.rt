@@ -1,11 +1,6 @@
 //! The construction of circuits of the input.
 ghost use Rattle.std.specs.Prelude.{List, IfOk};
-ghost use Rattle.q_logic.specs.Formulas.{PrenexFormula};
-ghost use Rattle.q_logic.specs.Certificates.{trees_of};
-ghost use Rattle.q_logic.specs.Skolems.{Lawful};
-ghost use Rattle.q_logic.specs.Steps.{ProofStep};
-ghost use Rattle.q_logic.specs.Runs.{Run};
-ghost use Rattle.q_logic.specs.Undos.{Undos as UndosOf};
+ghost use Rattle.q_logic.specs.Prelude.{PrenexFormula, trees_of, Lawful, ProofStep, Run, Undos as UndosOf};
 ghost use Rattle.q_rebuild.specs.Rebuilt.{IsRebuilt};
 
 use crate::entries::take_back;
@@ -22,9 +17,10 @@ pub fn carry(
     undo: &Undos,
     given: &Certificate,
 ) -> Result<Certificate, NoMemory>
-    ensures { IfOk result (λ made. (G : PrenexFormula) → (ss : List ProofStep) → Run input.now ss G →
-        UndosOf input.now ss undo.now → Lawful G.prefix (trees_of given.now) →
-        IsRebuilt input.now G undo.now given.now made) }
+    ensures { IfOk result (λ made.
+        (G : PrenexFormula) → (ss : List ProofStep) → Run input.now ss G
+        → UndosOf input.now ss undo.now → Lawful G.prefix (trees_of given.now)
+        → IsRebuilt input.now G undo.now given.now made) }
 {
     let prefix = input.prefix();
     let old = given.aig();

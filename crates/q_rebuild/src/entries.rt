@@ -3,11 +3,10 @@
 //! h` for a positive pivot v, `v and not h` for a negative one, with h over the circuits before this entry. Each literal
 //! and each clause of the list costs one gate at most.
 ghost use Rattle.std.specs.Prelude.{◌≡◌, OnOk};
-ghost use Rattle.q_carry.specs.Standing.{AreLiterals};
-ghost use Rattle.q_carry.specs.Undone.{IsUndone};
+ghost use Rattle.q_carry.specs.Prelude.{AreLiterals, IsUndone};
 ghost use Rattle.q_rebuild.specs.TakenBack.{AreUndone};
 ghost use Rattle.q_judge.specs.Entries.{entry_of};
-ghost use Rattle.q_logic.specs.Undos.{pivot as pivot_entry};
+ghost use Rattle.q_logic.specs.Prelude.{pivot as pivot_entry};
 
 use q_aig::{Aig, constant};
 use q_carry::{Tables, all_of, look, put, raise};
@@ -23,7 +22,9 @@ fn undo_pivot(
     requires inputs { AreLiterals aig.old tables.old.inputs.items }
     requires circuits { AreLiterals aig.old tables.old.circuits.items }
     ensures inputs { tables.new.inputs ≡ tables.old.inputs }
-    ensures undone { OnOk result (IsUndone aig.old aig.new tables.old.inputs.items tables.old.circuits.items tables.new.circuits.items (pivot_entry pivot outer.now)) }
+    ensures undone { OnOk result
+        (IsUndone aig.old aig.new tables.old.inputs.items tables.old.circuits.items
+        tables.new.circuits.items (pivot_entry pivot outer.now)) }
 {
     if let Some(circuit) = look(&tables.circuits, pivot.var()) {
         let all = all_of(aig, tables, outer)?;
@@ -37,7 +38,9 @@ fn undo_entry(aig: &mut Aig, tables: &mut Tables, entry: &Undo) -> Result<(), No
     requires inputs { AreLiterals aig.old tables.old.inputs.items }
     requires circuits { AreLiterals aig.old tables.old.circuits.items }
     ensures inputs { tables.new.inputs ≡ tables.old.inputs }
-    ensures undone { OnOk result (IsUndone aig.old aig.new tables.old.inputs.items tables.old.circuits.items tables.new.circuits.items (entry_of entry.now)) }
+    ensures undone { OnOk result
+        (IsUndone aig.old aig.new tables.old.inputs.items tables.old.circuits.items
+        tables.new.circuits.items (entry_of entry.now)) }
 {
     match entry {
         Undo::Removed { var } => put(&mut tables.circuits, *var, Some(constant(false))),
@@ -51,7 +54,9 @@ pub fn take_back(aig: &mut Aig, tables: &mut Tables, undo: &Undos) -> Result<(),
     requires inputs { AreLiterals aig.old tables.old.inputs.items }
     requires circuits { AreLiterals aig.old tables.old.circuits.items }
     ensures inputs { tables.new.inputs ≡ tables.old.inputs }
-    ensures undone { OnOk result (AreUndone aig.old aig.new tables.old.inputs.items tables.old.circuits.items tables.new.circuits.items undo.now) }
+    ensures undone { OnOk result
+        (AreUndone aig.old aig.new tables.old.inputs.items tables.old.circuits.items
+        tables.new.circuits.items undo.now) }
 {
     let entries = undo.as_slice();
     let mut i = entries.len();

@@ -1,10 +1,6 @@
 //! Circuits of the output, carried back to the input.
 ghost use Rattle.std.specs.Prelude.{◌≡◌, List, IfOk, IfErr, OnOk};
-ghost use Rattle.q_logic.specs.Certificates.{CertificateView, trees_of};
-ghost use Rattle.q_logic.specs.Skolems.{Lawful};
-ghost use Rattle.q_logic.specs.Steps.{ProofStep};
-ghost use Rattle.q_logic.specs.Runs.{Run};
-ghost use Rattle.q_logic.specs.Undos.{UndoEntry, Undos as UndosOf};
+ghost use Rattle.q_logic.specs.Prelude.{CertificateView, trees_of, Lawful, ProofStep, Run, UndoEntry, Undos as UndosOf};
 ghost use Rattle.q_rebuild.specs.Moves.{KeepsMoves};
 ghost use Rattle.q_rebuild.specs.Rebuilt.{IsRebuilt};
 ghost use Rattle.q_rebuild.specs.Refusals.{IsRefused, IsAccepted};
@@ -42,9 +38,10 @@ pub fn rebuild(
 
 // What is made of lawful circuits keeps the moves of the first rounds.
 fn keeping(input: &Formula, output: &Formula)
-    ensures { (ss : List ProofStep) → (us : List UndoEntry) → (gave made : CertificateView) →
-        Run input.now ss output.now → UndosOf input.now ss us → Lawful output.now.prefix (trees_of gave) →
-        IsRebuilt input.now output.now us gave made → KeepsMoves input.now output.now us gave made }
+    ensures { (ss : List ProofStep) → (us : List UndoEntry) → (gave made : CertificateView)
+        → Run input.now ss output.now → UndosOf input.now ss us
+        → Lawful output.now.prefix (trees_of gave) → IsRebuilt input.now output.now us gave made
+        → KeepsMoves input.now output.now us gave made }
 {
     let _ = input.prefix();
     let _ = output.prefix();

@@ -1,9 +1,7 @@
 -- Forests of clauses.
 use Rattle.std.specs.Prelude.{◌≡◌, ◌≢◌, ◌⊎◌, ◌≤◌, ◌+◌, ℕ, List, slice_index_or}
-use Rattle.q_logic.specs.Literals.{Literal}
-use Rattle.q_logic.specs.Formulas.{Prefix, IsIn}
-use Rattle.q_logic.specs.Numbered.{Slots}
-use Rattle.q_kernel.specs.Kernels.{Seen, slots, HoldsLiteral}
+use Rattle.q_logic.specs.Prelude.{Literal, Prefix, IsIn, Slots}
+use Rattle.q_kernel.specs.Prelude.{Seen, slots, HoldsLiteral}
 use Rattle.q_reduce.specs.declared.place.Place.{Place}
 use Rattle.q_reduce.specs.declared.place.Place.TheVariants.{Outside, Root, Below}
 use Rattle.q_reduce.specs.Paths.{AreJoined}

@@ -4,4 +4,4 @@ pub mod Paths
 pub mod Forests
 pub mod Searches
 pub mod Regions
-pub mod Lent
+pub mod Learned

@@ -1,11 +1,6 @@
 -- Paths between clauses, by literals of opposite sign.
 use Rattle.std.specs.Prelude.{◌≡◌, ℕ, true, List, Some}
-use Rattle.q_logic.specs.Literals.{Literal, negation}
-use Rattle.q_logic.specs.Formulas.{Clause, Prefix, IsIn}
-use Rattle.q_logic.specs.Prefixes.{is_universal}
-use Rattle.q_logic.specs.Numbered.{Slots, slot, others}
-use Rattle.q_logic.specs.Reach.{Reducible}
-use Rattle.q_logic.specs.Expanding.{inner_existential}
+use Rattle.q_logic.specs.Prelude.{Literal, negation, Clause, Prefix, IsIn, is_universal, Slots, slot, others, Reducible, inner_existential}
 
 -- a universal literal of the clause of an id
 abbrev pub HoldsUniversal : Prefix → Slots → ℕ → Literal → Type 0

@@ -1,11 +1,7 @@
 -- Regions of variables: the existential literals of a clause that are inner to a universal variable lie in one region.
 use Rattle.std.specs.Prelude.{◌≡◌, ◌+◌, ◌*◌, ℕ, Bool, true, false, List, [], slice_index_or}
-use Rattle.q_logic.specs.Literals.{Literal, pack}
-use Rattle.q_logic.specs.Formulas.{Clause, Matrix, Prefix, IsIn}
-use Rattle.q_logic.specs.Prefixes.{is_universal}
-use Rattle.q_logic.specs.Expanding.{inner_existential}
-use Rattle.q_logic.specs.Numbered.{live}
-use Rattle.q_kernel.specs.Kernels.{Seen, slots}
+use Rattle.q_logic.specs.Prelude.{Literal, pack, Clause, Matrix, Prefix, IsIn, is_universal, inner_existential, live}
+use Rattle.q_kernel.specs.Prelude.{Seen, slots}
 
 -- the region of each variable, the universal variables that the regions are for, and the literals of these that are
 -- noted, each with a region in which it stands

@@ -1,6 +1,6 @@
 -- What a search for targets answers.
 use Rattle.std.specs.Prelude.{◌≡◌, ◌≤◌, ◌<◌, ℕ}
-use Rattle.q_logic.specs.Targets.{place}
+use Rattle.q_logic.specs.Prelude.{place}
 use Rattle.q_reduce.specs.declared.target.Target.{Target}
 use Rattle.q_reduce.specs.declared.target.Target.TheVariants.{Tautology, Unit, Cut, Pure}
 use Rattle.q_reduce.specs.Targets.{target_of}

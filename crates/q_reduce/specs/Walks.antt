@@ -1,9 +1,6 @@
 -- A walk over the clauses that are reached from one, literal by literal.
 use Rattle.std.specs.Prelude.{◌≡◌, ◌⊎◌, ℕ, Bool, true, false, List, ◌++◌, Some}
-use Rattle.q_logic.specs.Literals.{Literal, negation}
-use Rattle.q_logic.specs.Formulas.{Clause, Matrix, Prefix, IsIn}
-use Rattle.q_logic.specs.Numbered.{Slots, slot}
-use Rattle.q_logic.specs.Expanding.{inner_existential}
+use Rattle.q_logic.specs.Prelude.{Literal, negation, Clause, Matrix, Prefix, IsIn, Slots, slot, inner_existential}
 
 -- the list has grown at its end by inner literals of the clause, and has all of them
 pub record IsWidened (P : Prefix) (u : Literal) (C : Clause) (old new : List Literal) : Type 0 where

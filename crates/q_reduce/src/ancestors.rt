@@ -4,8 +4,8 @@
 //! Which clause is above another at some depth is found by as many jumps as the depth has binary digits. So a path costs a few
 //! comparisons for each clause that might hold it up, and not its length.
 ghost use Rattle.std.specs.Prelude.{◌≡◌, ◌≤◌, ◌<◌, ℕ, true, Some, IsTrue};
-ghost use Rattle.q_logic.specs.Formulas.{IsIn};
-ghost use Rattle.q_kernel.specs.Kernels.{slots};
+ghost use Rattle.q_logic.specs.Prelude.{IsIn};
+ghost use Rattle.q_kernel.specs.Prelude.{slots};
 ghost use Rattle.q_reduce.specs.Paths.{Leads, AreSides};
 ghost use Rattle.q_reduce.specs.Forests.{depth_of, AreLevels, IsAbove, IsForest, IsFree, IsClear};
 
@@ -18,7 +18,8 @@ impl Forest {
     /// Whether a path between the sides shows that a literal has to stay in its clause.
     pub(crate) fn tells(&self, kernel: &Kernel, c: ClauseId, lit: Lit, sides: &Sides) -> bool
         requires right { IsForest kernel.now.prefix (slots kernel.now) self.now }
-        requires sides { AreSides kernel.now.prefix (slots kernel.now) c lit sides.now.starts.items sides.now.ends.items }
+        requires sides { AreSides kernel.now.prefix (slots kernel.now) c lit sides.now.starts.items
+            sides.now.ends.items }
         ensures { IsTrue result → Leads kernel.now.prefix (slots kernel.now) lit c }
     {
         self.is_for(kernel, lit.var()) && self.connects(kernel, sides, lit)
@@ -27,7 +28,8 @@ impl Forest {
     // Whether a path leads from one of the starts to one of the ends, by no other clause with the literal than its first.
     fn connects(&self, kernel: &Kernel, sides: &Sides, lit: Lit) -> bool
         requires { AreLevels self.now.places }
-        ensures { IsTrue result → (from : ℕ) × (to : ℕ) × IsIn from sides.now.starts.items × IsIn to sides.now.ends.items × IsClear kernel.now self.now.places lit from to }
+        ensures { IsTrue result → (from : ℕ) × (to : ℕ) × IsIn from sides.now.starts.items
+            × IsIn to sides.now.ends.items × IsClear kernel.now self.now.places lit from to }
     {
         for from in &sides.starts {
             if self.leads_to_any(kernel, *from, &sides.ends, lit) {
@@ -39,7 +41,8 @@ impl Forest {
 
     fn leads_to_any(&self, kernel: &Kernel, from: ClauseId, ends: &[ClauseId], lit: Lit) -> bool
         requires { AreLevels self.now.places }
-        ensures { IsTrue result → (to : ℕ) × IsIn to ends.now × IsClear kernel.now self.now.places lit from to }
+        ensures { IsTrue result → (to : ℕ) × IsIn to ends.now
+            × IsClear kernel.now self.now.places lit from to }
     {
         for to in ends {
             if self.is_clear(kernel, from, *to, lit) {
@@ -85,7 +88,8 @@ impl Forest {
     fn ancestor(&self, from: ClauseId, depth: u32) -> ClauseId
         requires { AreLevels self.now.places }
         ensures above { IsAbove self.now.places result from }
-        ensures level { depth ≤ depth_of self.now.places from → depth_of self.now.places result ≡ depth }
+        ensures level { depth ≤ depth_of self.now.places from
+            → depth_of self.now.places result ≡ depth }
     {
         let mut at = from;
         while depth < self.depth(at) {
@@ -113,7 +117,8 @@ impl Forest {
     // A clause above two others: the lowest one, where jumps are as long at one depth.
     fn meet(&self, a: ClauseId, b: ClauseId) -> Option<ClauseId>
         requires { AreLevels self.now.places }
-        ensures { (t : ℕ) → result ≡ Some t → IsAbove self.now.places t a × IsAbove self.now.places t b }
+        ensures { (t : ℕ) → result ≡ Some t
+            → IsAbove self.now.places t a × IsAbove self.now.places t b }
     {
         let level = self.depth(a).min(self.depth(b));
         let mut x = self.ancestor(a, level);
@@ -132,7 +137,8 @@ impl Forest {
     fn up(&self, c: ClauseId, by_jump: bool) -> ClauseId
         requires { AreLevels self.now.places }
         ensures above { IsAbove self.now.places result c }
-        ensures falls { 0 < depth_of self.now.places c → depth_of self.now.places result < depth_of self.now.places c }
+        ensures falls { 0 < depth_of self.now.places c
+            → depth_of self.now.places result < depth_of self.now.places c }
     {
         if by_jump {
             self.jump(c)

@@ -8,11 +8,9 @@
 //! Four answers are tried, the cheap ones first: the negation occurs nowhere, regions, a path in a forest, and then a
 //! walk over occurrence lists (`search.rt`). A shorter clause may be a unit clause, or lose further literals.
 ghost use Rattle.std.specs.Prelude.{◌≡◌, ◌↔◌, Some, IfOk, IsTrue};
-ghost use Rattle.q_logic.specs.Formulas.{Clause};
-ghost use Rattle.q_logic.specs.Reach.{Reducible};
-ghost use Rattle.q_logic.specs.Numbered.{slot, others};
-ghost use Rattle.q_kernel.specs.Kernels.{slots};
-ghost use Rattle.q_reduce.specs.Lent.{IsFitFor};
+ghost use Rattle.q_logic.specs.Prelude.{Clause, Reducible, slot, others};
+ghost use Rattle.q_kernel.specs.Prelude.{slots};
+ghost use Rattle.q_reduce.specs.Learned.{IsFitFor};
 
 use crate::search::Search;
 use q_kernel::{ClauseId, Kernel};
@@ -22,7 +20,9 @@ use q_rule::is_universal;
 /// Whether the literal is universal and reducible in the clause of an id.
 pub fn fits_cut(kernel: &Kernel, search: &mut Search, c: ClauseId, l: Lit) -> Result<bool, NoMemory>
     requires { IsFitFor kernel.now search.old }
-    ensures fits { IfOk result (λ yes. IsTrue yes ↔ ((C : Clause) × (slot (slots kernel.now) c ≡ Some C) × Reducible kernel.now.prefix (others c (slots kernel.now)) C l)) }
+    ensures fits { IfOk result (λ yes.
+        IsTrue yes ↔ ((C : Clause) × (slot (slots kernel.now) c ≡ Some C)
+        × Reducible kernel.now.prefix (others c (slots kernel.now)) C l)) }
     ensures fit { IsFitFor kernel.now search.new }
 {
     if !is_universal(kernel, l.var()) || !kernel.live(c) {

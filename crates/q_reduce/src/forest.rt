@@ -6,8 +6,8 @@
 //! verified once, when the forest is made, and are right for this kernel alone. Where few clauses hold l, each is asked whether
 //! it stands on the path (`ancestors.rt`); else the path is climbed edge by edge (`paths.rt`).
 ghost use Rattle.std.specs.Prelude.{◌≡◌, ◌⊎◌, ◌+◌, true, IfOk, IsTrue};
-ghost use Rattle.q_logic.specs.Prefixes.{is_bound, outer_or_same};
-ghost use Rattle.q_kernel.specs.Kernels.{slots};
+ghost use Rattle.q_logic.specs.Prelude.{is_bound, outer_or_same};
+ghost use Rattle.q_kernel.specs.Prelude.{slots};
 ghost use Rattle.q_reduce.specs.Paths.{AreJoined};
 ghost use Rattle.q_reduce.specs.Forests.{place_of, depth_of, parent_of, jump_of, IsLevel, IsEdge, IsForest};
 
@@ -101,7 +101,8 @@ impl Forest {
         u: u32,
     ) -> Result<bool, NoMemory>
         requires bound { is_bound kernel.now.prefix u ≡ true }
-        ensures { IfOk result (λ yes. IsTrue yes → IsForest kernel.now.prefix (slots kernel.now) self.new) }
+        ensures { IfOk result (λ yes.
+            IsTrue yes → IsForest kernel.now.prefix (slots kernel.now) self.new) }
     {
         self.places.clear();
         queue.clear();
@@ -220,7 +221,9 @@ impl Forest {
 
     fn fits(&self, kernel: &Kernel, index: usize) -> bool
         requires { is_bound kernel.now.prefix self.now.block ≡ true }
-        ensures edge { IsTrue result → IsEdge kernel.now.prefix (slots kernel.now) self.now.block index (place_of self.now.places index) }
+        ensures edge { IsTrue result
+            → IsEdge kernel.now.prefix (slots kernel.now) self.now.block index
+            (place_of self.now.places index) }
         ensures level { IsTrue result → IsLevel self.now.places (place_of self.now.places index) }
     {
         let Ok(c) = u32::try_from(index) else {
@@ -241,7 +244,8 @@ impl Forest {
 
     fn is_level(&self, parent: ClauseId, depth: u32, jump: ClauseId) -> bool
         ensures depth { IsTrue result → depth ≡ depth_of self.now.places parent + 1 }
-        ensures jump { IsTrue result → (jump ≡ parent) ⊎ (jump ≡ jump_of self.now.places (jump_of self.now.places parent)) }
+        ensures jump { IsTrue result
+            → (jump ≡ parent) ⊎ (jump ≡ jump_of self.now.places (jump_of self.now.places parent)) }
     {
         depth > 0
             && depth - 1 == self.depth(parent)

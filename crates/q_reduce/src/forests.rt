@@ -1,8 +1,7 @@
 //! Forests of several blocks.
 ghost use Rattle.std.specs.Prelude.{◌≡◌, [], true, IfOk, IsTrue};
-ghost use Rattle.q_logic.specs.Formulas.{IsIn};
-ghost use Rattle.q_logic.specs.Prefixes.{is_bound};
-ghost use Rattle.q_kernel.specs.Kernels.{slots};
+ghost use Rattle.q_logic.specs.Prelude.{IsIn, is_bound};
+ghost use Rattle.q_kernel.specs.Prelude.{slots};
 ghost use Rattle.q_reduce.specs.Paths.{Leads, AreSides};
 ghost use Rattle.q_reduce.specs.Forests.{ForestMap, AreForestsOf};
 
@@ -36,7 +35,7 @@ pub struct Forests {
     // so many edges of a path are climbed
     steps: usize,
     // so many clauses were looked at by walks since a forest was made
-    debt: usize,
+    looked: usize,
 }
 
 impl Model for Forests {
@@ -57,7 +56,7 @@ impl Forests {
             forests: Vec::new(alloc),
             sides: Sides::new(alloc),
             steps: STEPS,
-            debt: 0,
+            looked: 0,
         }
     }
 
@@ -66,14 +65,15 @@ impl Forests {
         ensures { self.new ≡ [] }
     {
         self.forests.clear();
-        self.debt = 0;
+        self.looked = 0;
     }
 
     /// Whether a forest shows that a literal has to stay in its clause.
     pub(crate) fn keep(&mut self, kernel: &Kernel, c: ClauseId, lit: Lit) -> Result<bool, NoMemory>
         requires bound { is_bound kernel.now.prefix lit.var ≡ true }
         requires right { AreForestsOf kernel.now self.old }
-        ensures leads { IfOk result (λ yes. IsTrue yes → Leads kernel.now.prefix (slots kernel.now) lit c) }
+        ensures leads { IfOk result (λ yes.
+            IsTrue yes → Leads kernel.now.prefix (slots kernel.now) lit c) }
         ensures same { self.new ≡ self.old }
     {
         if !self.knows(kernel, lit.var()) {
@@ -129,11 +129,11 @@ impl Forests {
         requires right { AreForestsOf kernel.now self.old }
         ensures { AreForestsOf kernel.now self.new }
     {
-        self.debt = self.debt.saturating_add(looks);
-        if self.debt <= patience(kernel, self.knows(kernel, var)) {
+        self.looked = self.looked.saturating_add(looks);
+        if self.looked <= patience(kernel, self.knows(kernel, var)) {
             return Ok(());
         }
-        self.debt = 0;
+        self.looked = 0;
         let mut forest = self.free(self.worn(kernel, var));
         if forest.build(kernel, queue, c, var)? {
             self.forests.push(forest)?;
@@ -184,7 +184,8 @@ impl Forests {
 // Whether a forest has a path between the sides.
 fn connect(forests: &[Forest], sides: &Sides, kernel: &Kernel, c: ClauseId, lit: Lit) -> bool
     requires right { AreForestsOf kernel.now forests.now }
-    requires sides { AreSides kernel.now.prefix (slots kernel.now) c lit sides.now.starts.items sides.now.ends.items }
+    requires sides { AreSides kernel.now.prefix (slots kernel.now) c lit sides.now.starts.items
+        sides.now.ends.items }
     ensures { IsTrue result → Leads kernel.now.prefix (slots kernel.now) lit c }
 {
     for forest in forests {

@@ -3,7 +3,8 @@
 
 mod ancestors;
 mod cut;
-mod finding;
+mod dispatch;
+mod find;
 mod forest;
 mod forests;
 mod joining;
@@ -13,17 +14,15 @@ mod place;
 mod pure;
 mod reach;
 mod recent;
-mod reduce;
 mod regions;
+mod rules;
 mod search;
 mod sides;
-mod taking;
 mod target;
 mod tautology;
 mod unit;
 
 pub use q_kernel::Taken;
 pub use q_logic::Bounds;
-pub use reduce::{find, try_one};
 pub use search::Search;
 pub use target::Target;

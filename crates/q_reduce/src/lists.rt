@@ -1,12 +1,7 @@
 //! What the rules do along the list of a literal.
 ghost use Rattle.std.specs.Prelude.{◌≡◌, ℕ, true, Some, None};
-ghost use Rattle.q_logic.specs.Literals.{negation};
-ghost use Rattle.q_logic.specs.Prefixes.{is_existential};
-ghost use Rattle.q_logic.specs.Limits.{standard};
-ghost use Rattle.q_logic.specs.InLimits.{IsInLimits};
-ghost use Rattle.q_logic.specs.Numbered.{live};
-ghost use Rattle.q_logic.specs.Sets.{OccursIn, without_literal};
-ghost use Rattle.q_kernel.specs.Kernels.{slots, formula_in, HoldsLiteral, HasSweepBytes};
+ghost use Rattle.q_logic.specs.Prelude.{negation, is_existential, standard, IsInLimits, live, OccursIn, without_literal};
+ghost use Rattle.q_kernel.specs.Prelude.{slots, formula_in, HoldsLiteral, HasSweepBytes};
 ghost use Rattle.q_rule.specs.Becoming.{HasBecome};
 
 use q_kernel::{ClauseId, Kernel};

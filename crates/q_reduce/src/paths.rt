@@ -1,8 +1,7 @@
 //! Paths in a forest, edge by edge.
 ghost use Rattle.std.specs.Prelude.{◌≡◌, ℕ, true, Some, IsTrue};
-ghost use Rattle.q_logic.specs.Prefixes.{outer_or_same};
-ghost use Rattle.q_kernel.specs.Kernels.{slots, HoldsLiteral};
-ghost use Rattle.q_logic.specs.Literals.{negation};
+ghost use Rattle.q_logic.specs.Prelude.{outer_or_same, negation};
+ghost use Rattle.q_kernel.specs.Prelude.{slots, HoldsLiteral};
 ghost use Rattle.q_reduce.specs.Paths.{AreJoined, Lacks, Leads};
 ghost use Rattle.q_reduce.specs.Forests.{IsForest};
 
@@ -68,7 +67,8 @@ impl Forest {
     fn free_parent(&self, kernel: &Kernel, c: ClauseId, u: Lit) -> Option<ClauseId>
         requires right { IsForest kernel.now.prefix (slots kernel.now) self.now }
         requires block { outer_or_same kernel.now.prefix u.var self.now.block ≡ true }
-        ensures joined { (p : ℕ) → result ≡ Some p → AreJoined kernel.now.prefix (slots kernel.now) u.var c p }
+        ensures joined { (p : ℕ) → result ≡ Some p
+            → AreJoined kernel.now.prefix (slots kernel.now) u.var c p }
         ensures lacks { (p : ℕ) → result ≡ Some p → Lacks (slots kernel.now) p u }
     {
         if self.depth(c) == 0 {
@@ -86,7 +86,8 @@ impl Forest {
     fn parent_of_free(&self, kernel: &Kernel, c: ClauseId, u: Lit) -> Option<ClauseId>
         requires right { IsForest kernel.now.prefix (slots kernel.now) self.now }
         requires block { outer_or_same kernel.now.prefix u.var self.now.block ≡ true }
-        ensures joined { (p : ℕ) → result ≡ Some p → AreJoined kernel.now.prefix (slots kernel.now) u.var c p }
+        ensures joined { (p : ℕ) → result ≡ Some p
+            → AreJoined kernel.now.prefix (slots kernel.now) u.var c p }
         ensures lacks { (p : ℕ) → result ≡ Some p → Lacks (slots kernel.now) c u }
     {
         if self.depth(c) == 0 {

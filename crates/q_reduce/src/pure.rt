@@ -6,14 +6,8 @@
 //!
 //! The test reads two counts; taking it costs the clauses with the literal. What went may make further literals pure.
 ghost use Rattle.std.specs.Prelude.{◌≡◌, ◌↔◌, ◌≤◌, ◌+◌, ◌*◌, length, true, cond, IsTrue};
-ghost use Rattle.q_logic.specs.Literals.{negation};
-ghost use Rattle.q_logic.specs.Prefixes.{is_existential, is_universal, is_bound};
-ghost use Rattle.q_logic.specs.Limits.{standard};
-ghost use Rattle.q_logic.specs.InLimits.{IsInLimits};
-ghost use Rattle.q_logic.specs.Measure.{size_of};
-ghost use Rattle.q_logic.specs.Numbered.{live};
-ghost use Rattle.q_logic.specs.Sets.{OccursIn, with_literal, without_literal, each_without};
-ghost use Rattle.q_kernel.specs.Kernels.{slots, formula_in};
+ghost use Rattle.q_logic.specs.Prelude.{negation, is_existential, is_universal, is_bound, standard, IsInLimits, size_of, live, OccursIn, with_literal, without_literal, each_without};
+ghost use Rattle.q_kernel.specs.Prelude.{slots, formula_in};
 ghost use Rattle.q_rule.specs.Becoming.{CanChange, HasBecome};
 
 use crate::lists::{clause_with, delete_all};
@@ -23,7 +17,9 @@ use q_rule::is_existential;
 
 /// Whether the literal occurs and its negation does not.
 pub fn fits_pure(kernel: &Kernel, l: Lit) -> bool
-    ensures { IsTrue result ↔ ((is_bound kernel.now.prefix l.var ≡ true) × OccursIn l (live (slots kernel.now)) × (OccursIn (negation l) (live (slots kernel.now)) → ⊥)) }
+    ensures { IsTrue result ↔ ((is_bound kernel.now.prefix l.var ≡ true)
+        × OccursIn l (live (slots kernel.now))
+        × (OccursIn (negation l) (live (slots kernel.now)) → ⊥)) }
 {
     kernel.sound();
     kernel.count(l) > 0 && kernel.count(l.negated()) == 0
@@ -35,7 +31,9 @@ pub fn take_pure(kernel: &mut Kernel, l: Lit)
     requires pure { OccursIn (negation l) (live (slots kernel.old)) → ⊥ }
     requires limits { IsInLimits standard (formula_in kernel.old) }
     requires bytes { CanChange kernel.old }
-    ensures { HasBecome kernel.old kernel.new (cond (is_existential kernel.old.prefix l.var) (without_literal l (live (slots kernel.old))) (each_without l (live (slots kernel.old)))) }
+    ensures { HasBecome kernel.old kernel.new
+        (cond (is_existential kernel.old.prefix l.var) (without_literal l (live (slots kernel.old)))
+        (each_without l (live (slots kernel.old)))) }
 {
     if is_existential(kernel, l.var()) {
         delete_all(kernel, l, None);
@@ -49,7 +47,9 @@ fn drop_all(kernel: &mut Kernel, l: Lit)
     requires universal { is_universal kernel.old.prefix l.var ≡ true }
     requires pure { OccursIn (negation l) (live (slots kernel.old)) → ⊥ }
     requires limits { IsInLimits standard (formula_in kernel.old) }
-    requires bytes { 16 * size_of (with_literal l (live (slots kernel.old))) + 16 * (size_of (live (slots kernel.old)) + length kernel.old.prefix) ≤ kernel.old.spare_bytes }
+    requires bytes { 16 * size_of (with_literal l (live (slots kernel.old)))
+        + 16 * (size_of (live (slots kernel.old)) + length kernel.old.prefix)
+        ≤ kernel.old.spare_bytes }
     ensures { HasBecome kernel.old kernel.new (each_without l (live (slots kernel.old))) }
 {
     while let Some(id) = clause_with(kernel, l, None) {

@@ -1,13 +1,7 @@
 //! Whether a universal literal is reducible in its clause.
 ghost use Rattle.std.specs.Prelude.{◌≡◌, ◌↔◌, ◌<◌, ℕ, true, length, Some, OnOk, IfOk, IsTrue, slice_get};
-ghost use Rattle.q_logic.specs.Literals.{Literal, negation};
-ghost use Rattle.q_logic.specs.Formulas.{Clause, IsIn};
-ghost use Rattle.q_logic.specs.Prefixes.{is_bound, is_existential, is_universal};
-ghost use Rattle.q_logic.specs.Expanding.{inner_existential};
-ghost use Rattle.q_logic.specs.Steps.{Within};
-ghost use Rattle.q_logic.specs.Reach.{Reducible};
-ghost use Rattle.q_logic.specs.Numbered.{slot, live, others};
-ghost use Rattle.q_kernel.specs.Kernels.{slots};
+ghost use Rattle.q_logic.specs.Prelude.{Literal, negation, Clause, IsIn, is_bound, is_existential, is_universal, inner_existential, Within, Reducible, slot, live, others};
+ghost use Rattle.q_kernel.specs.Prelude.{slots};
 ghost use Rattle.q_rule.specs.Quants.{is_some_exists, is_some_forall};
 ghost use Rattle.q_reduce.specs.Walks.{IsWidened, IsFollowed, IsVisited};
 
@@ -24,9 +18,12 @@ pub fn is_reducible(
     lit: Lit,
     looks: &mut usize,
 ) -> Result<bool, NoMemory>
-    requires live { (C : Clause) × (slot (slots kernel.now) c ≡ Some C) × IsIn lit C × (IsIn (negation lit) C → ⊥) }
+    requires live { (C : Clause) × (slot (slots kernel.now) c ≡ Some C) × IsIn lit C
+        × (IsIn (negation lit) C → ⊥) }
     requires universal { is_universal kernel.now.prefix lit.var ≡ true }
-    ensures { IfOk result (λ yes. (C : Clause) → slot (slots kernel.now) c ≡ Some C → IsTrue yes ↔ Reducible kernel.now.prefix (others c (slots kernel.now)) C lit) }
+    ensures { IfOk result (λ yes.
+        (C : Clause) → slot (slots kernel.now) c ≡ Some C
+        → IsTrue yes ↔ Reducible kernel.now.prefix (others c (slots kernel.now)) C lit) }
 {
     queue.clear();
     push_inner(kernel, queue, clause_of(kernel, c), lit)?;
@@ -48,7 +45,8 @@ pub fn is_reducible(
 // is asked about holds u, so the walk passes it by without knowing it.
 fn visit(kernel: &Kernel, queue: &mut Queue, lit: Lit, u: Lit) -> Result<bool, NoMemory>
     requires { is_bound kernel.now.prefix u.var ≡ true }
-    ensures { IfOk result (λ yes. IsVisited kernel.now.prefix (live (slots kernel.now)) u lit queue.old queue.new yes) }
+    ensures { IfOk result (λ yes.
+        IsVisited kernel.now.prefix (live (slots kernel.now)) u lit queue.old queue.new yes) }
 {
     for d in kernel.holders(lit.negated()) {
         if !follow(kernel, queue, d, u)? {
@@ -62,7 +60,8 @@ fn visit(kernel: &Kernel, queue: &mut Queue, lit: Lit, u: Lit) -> Result<bool, N
 fn follow(kernel: &Kernel, queue: &mut Queue, d: ClauseId, u: Lit) -> Result<bool, NoMemory>
     requires bound { is_bound kernel.now.prefix u.var ≡ true }
     requires live { (D : Clause) × (slot (slots kernel.now) d ≡ Some D) }
-    ensures { IfOk result (λ yes. IsFollowed kernel.now.prefix (slots kernel.now) u d queue.old queue.new yes) }
+    ensures { IfOk result (λ yes.
+        IsFollowed kernel.now.prefix (slots kernel.now) u d queue.old queue.new yes) }
 {
     let clause = clause_of(kernel, d);
     if holds(clause, u) {

@@ -1,11 +1,7 @@
 //! Regions of several blocks.
 ghost use Rattle.std.specs.Prelude.{◌≡◌, [], true, Some, IsTrue};
-ghost use Rattle.q_logic.specs.Literals.{negation};
-ghost use Rattle.q_logic.specs.Formulas.{Clause, IsIn};
-ghost use Rattle.q_logic.specs.Prefixes.{is_universal, is_bound};
-ghost use Rattle.q_logic.specs.Reach.{Reducible};
-ghost use Rattle.q_logic.specs.Numbered.{slot, others};
-ghost use Rattle.q_kernel.specs.Kernels.{slots};
+ghost use Rattle.q_logic.specs.Prelude.{negation, Clause, IsIn, is_universal, is_bound, Reducible, slot, others};
+ghost use Rattle.q_kernel.specs.Prelude.{slots};
 ghost use Rattle.q_reduce.specs.Regions.{AreRegionsOf};
 
 use crate::regions::Regions;
@@ -23,7 +19,7 @@ pub struct RecentRegions {
     alloc: Global,
     regions: Vec<Regions>,
     // how many clauses were looked at by walks that found nothing, since regions were last made
-    debt: usize,
+    looked: usize,
 }
 
 impl Model for RecentRegions {
@@ -42,7 +38,7 @@ impl RecentRegions {
         RecentRegions {
             alloc,
             regions: Vec::new(alloc),
-            debt: 0,
+            looked: 0,
         }
     }
 
@@ -54,10 +50,12 @@ impl RecentRegions {
 
     /// Whether regions tell that a literal is reducible in its clause.
     pub fn separate(&self, kernel: &Kernel, c: ClauseId, lit: Lit) -> bool
-        requires live { (C : Clause) × (slot (slots kernel.now) c ≡ Some C) × IsIn lit C × (IsIn (negation lit) C → ⊥) }
+        requires live { (C : Clause) × (slot (slots kernel.now) c ≡ Some C) × IsIn lit C
+            × (IsIn (negation lit) C → ⊥) }
         requires universal { is_universal kernel.now.prefix lit.var ≡ true }
         requires regions { AreRegionsOf kernel.now self.now }
-        ensures { IsTrue result → (C : Clause) → slot (slots kernel.now) c ≡ Some C → Reducible kernel.now.prefix (others c (slots kernel.now)) C lit }
+        ensures { IsTrue result → (C : Clause) → slot (slots kernel.now) c ≡ Some C
+            → Reducible kernel.now.prefix (others c (slots kernel.now)) C lit }
     {
         for regions in &self.regions {
             if regions.separates(kernel, c, lit) {
@@ -76,9 +74,9 @@ impl RecentRegions {
         ensures { AreRegionsOf kernel.now self.new }
     {
         kernel.sound();
-        self.debt = self.debt.saturating_add(looks);
-        if self.debt > kernel.size() + kernel.greatest_var() as usize {
-            self.debt = 0;
+        self.looked = self.looked.saturating_add(looks);
+        if self.looked > kernel.size() + kernel.greatest_var() as usize {
+            self.looked = 0;
             self.make(kernel, var)?;
         }
         Ok(())

@@ -1,12 +1,7 @@
 //! Regions of variables, which tell that a literal is reducible without a walk.
 ghost use Rattle.std.specs.Prelude.{◌≡◌, ◌↔◌, ◌≤◌, ◌<◌, ℕ, true, length, slice_index_or, Some, None, IsTrue};
-ghost use Rattle.q_logic.specs.Literals.{Literal, negation};
-ghost use Rattle.q_logic.specs.Formulas.{Clause, IsIn};
-ghost use Rattle.q_logic.specs.Prefixes.{is_bound, is_universal, outer_or_same};
-ghost use Rattle.q_logic.specs.Expanding.{inner_existential};
-ghost use Rattle.q_logic.specs.Reach.{Reducible};
-ghost use Rattle.q_logic.specs.Numbered.{slot, live, others};
-ghost use Rattle.q_kernel.specs.Kernels.{slots};
+ghost use Rattle.q_logic.specs.Prelude.{Literal, negation, Clause, IsIn, is_bound, is_universal, outer_or_same, inner_existential, Reducible, slot, live, others};
+ghost use Rattle.q_kernel.specs.Prelude.{slots};
 ghost use Rattle.q_reduce.specs.Regions.{no_regions, region_of, is_covered, key_of, IsRegional, AreRegions};
 
 use crate::joining::{flatten, join_all, label_at};
@@ -34,9 +29,14 @@ impl Model for Regions {
 
     ghost Value = { RegionMap };
 
-    ghost view = { λ r. record { labels = r.labels.items; covered = r.covered.items; keys = r.keys.items } };
+    ghost view = { λ r. record {
+      labels = r.labels.items;
+      covered = r.covered.items;
+      keys = r.keys.items;
+    } };
 
-    ghost invariant = { λ r. (i j : ℕ) → i ≤ j → j < length r.keys.items → slice_index_or r.keys.items i 0 ≤ slice_index_or r.keys.items j 0 };
+    ghost invariant = { λ r. (i j : ℕ) → i ≤ j → j < length r.keys.items
+        → slice_index_or r.keys.items i 0 ≤ slice_index_or r.keys.items j 0 };
 }
 
 // Whether a variable is universal, and w is outer or same to it.
@@ -135,10 +135,12 @@ impl Regions {
 
     /// Whether the regions tell that a literal is reducible in its clause.
     pub fn separates(&self, kernel: &Kernel, c: ClauseId, lit: Lit) -> bool
-        requires live { (C : Clause) × (slot (slots kernel.now) c ≡ Some C) × IsIn lit C × (IsIn (negation lit) C → ⊥) }
+        requires live { (C : Clause) × (slot (slots kernel.now) c ≡ Some C) × IsIn lit C
+            × (IsIn (negation lit) C → ⊥) }
         requires universal { is_universal kernel.now.prefix lit.var ≡ true }
         requires regions { AreRegions kernel.now.prefix (live (slots kernel.now)) self.now }
-        ensures { IsTrue result → (C : Clause) → slot (slots kernel.now) c ≡ Some C → Reducible kernel.now.prefix (others c (slots kernel.now)) C lit }
+        ensures { IsTrue result → (C : Clause) → slot (slots kernel.now) c ≡ Some C
+            → Reducible kernel.now.prefix (others c (slots kernel.now)) C lit }
     {
         match self.region_in(kernel, kernel.lits(c), lit.var()) {
             Some(region) => self.covers(lit.var()) && !self.has_noted(lit.negated(), region),
@@ -149,8 +151,12 @@ impl Regions {
     // The region of a clause: of its first existential literal that is inner to u.
     fn region_in(&self, kernel: &Kernel, clause: &[Lit], u: u32) -> Option<u32>
         requires { is_bound kernel.now.prefix u ≡ true }
-        ensures some { (r : ℕ) → result ≡ Some r → (k : Literal) × IsIn k clause.now × (inner_existential kernel.now.prefix u k.var ≡ true) × (region_of self.now k.var ≡ r) }
-        ensures none { result ≡ None → (k : Literal) → IsIn k clause.now → inner_existential kernel.now.prefix u k.var ≡ true → ⊥ }
+        ensures some { (r : ℕ) → result ≡ Some r
+            → (k : Literal) × IsIn k clause.now
+            × (inner_existential kernel.now.prefix u k.var ≡ true)
+            × (region_of self.now k.var ≡ r) }
+        ensures none { result ≡ None → (k : Literal) → IsIn k clause.now
+            → inner_existential kernel.now.prefix u k.var ≡ true → ⊥ }
     {
         for k in clause {
             if is_inner(kernel, k.var(), u) {
@@ -207,7 +213,8 @@ impl Regions {
     // Whether w is outer or same to each variable that is covered.
     fn lies_behind(&self, kernel: &Kernel, w: u32) -> bool
         requires { is_bound kernel.now.prefix w ≡ true }
-        ensures { IsTrue result → (u : ℕ) → is_covered self.now u ≡ true → outer_or_same kernel.now.prefix w u ≡ true }
+        ensures { IsTrue result → (u : ℕ) → is_covered self.now u ≡ true
+            → outer_or_same kernel.now.prefix w u ≡ true }
     {
         for (var, covered) in self.covered.iter().enumerate() {
             if *covered && !is_place_behind(kernel, var, w) {
@@ -220,7 +227,8 @@ impl Regions {
     // Whether each clause has its literals that are inner to w in one region.
     fn is_right(&self, kernel: &Kernel, w: u32) -> bool
         requires { is_bound kernel.now.prefix w ≡ true }
-        ensures { IsTrue result → (D : Clause) → IsIn D (live (slots kernel.now)) → IsRegional kernel.now.prefix self.now w D }
+        ensures { IsTrue result → (D : Clause) → IsIn D (live (slots kernel.now))
+            → IsRegional kernel.now.prefix self.now w D }
     {
         for id in kernel.ids() {
             if !self.fits(kernel, kernel.lits(id), w) {
@@ -245,7 +253,9 @@ impl Regions {
     // Whether the existential literals that are inner to w lie in the region.
     fn has_one(&self, kernel: &Kernel, clause: &[Lit], w: u32, region: u32) -> bool
         requires { is_bound kernel.now.prefix w ≡ true }
-        ensures { IsTrue result → (k : Literal) → IsIn k clause.now → inner_existential kernel.now.prefix w k.var ≡ true → region_of self.now k.var ≡ region }
+        ensures { IsTrue result → (k : Literal) → IsIn k clause.now
+            → inner_existential kernel.now.prefix w k.var ≡ true
+            → region_of self.now k.var ≡ region }
     {
         for k in clause {
             if is_inner(kernel, k.var(), w) && self.region_of(k.var()) != region {
@@ -257,7 +267,8 @@ impl Regions {
 
     // Whether the literals of covered variables are noted with the region.
     fn has_noted_all(&self, clause: &[Lit], region: u32) -> bool
-        ensures { IsTrue result → (l : Literal) → IsIn l clause.now → is_covered self.now l.var ≡ true → IsIn (key_of l region) self.now.keys }
+        ensures { IsTrue result → (l : Literal) → IsIn l clause.now
+            → is_covered self.now l.var ≡ true → IsIn (key_of l region) self.now.keys }
     {
         for l in clause {
             if self.covers(l.var()) && !self.has_noted(*l, region) {

@@ -1,12 +1,8 @@
 //! What searches lend each other.
 ghost use Rattle.std.specs.Prelude.{◌≡◌, ◌↔◌, true, Some, IfOk, IsTrue};
-ghost use Rattle.q_logic.specs.Literals.{negation};
-ghost use Rattle.q_logic.specs.Formulas.{Clause, IsIn};
-ghost use Rattle.q_logic.specs.Prefixes.{is_universal};
-ghost use Rattle.q_logic.specs.Reach.{Reducible};
-ghost use Rattle.q_logic.specs.Numbered.{slot, others};
-ghost use Rattle.q_kernel.specs.Kernels.{slots};
-ghost use Rattle.q_reduce.specs.Lent.{nothing_learned, IsFitFor};
+ghost use Rattle.q_logic.specs.Prelude.{negation, Clause, IsIn, is_universal, Reducible, slot, others};
+ghost use Rattle.q_kernel.specs.Prelude.{slots};
+ghost use Rattle.q_reduce.specs.Learned.{nothing_learned, IsFitFor};
 
 use crate::forests::Forests;
 use crate::reach::is_reducible;
@@ -27,7 +23,7 @@ pub struct Search {
 }
 
 impl Model for Search {
-    ghost use Rattle.q_reduce.specs.Lent.{Learned};
+    ghost use Rattle.q_reduce.specs.Learned.{Learned};
 
     ghost Value = { Learned };
 
@@ -50,10 +46,13 @@ impl Search {
         c: ClauseId,
         lit: Lit,
     ) -> Result<bool, NoMemory>
-        requires live { (C : Clause) × (slot (slots kernel.now) c ≡ Some C) × IsIn lit C × (IsIn (negation lit) C → ⊥) }
+        requires live { (C : Clause) × (slot (slots kernel.now) c ≡ Some C) × IsIn lit C
+            × (IsIn (negation lit) C → ⊥) }
         requires universal { is_universal kernel.now.prefix lit.var ≡ true }
         requires fit { IsFitFor kernel.now self.old }
-        ensures yes { IfOk result (λ yes. (C : Clause) → slot (slots kernel.now) c ≡ Some C → IsTrue yes ↔ Reducible kernel.now.prefix (others c (slots kernel.now)) C lit) }
+        ensures yes { IfOk result (λ yes.
+            (C : Clause) → slot (slots kernel.now) c ≡ Some C
+            → IsTrue yes ↔ Reducible kernel.now.prefix (others c (slots kernel.now)) C lit) }
         ensures fit { IsFitFor kernel.now self.new }
     {
         if kernel.count(lit.negated()) == 0 {

@@ -3,9 +3,8 @@
 //! What holds up the path in a forest between two clauses mostly stands beside one of them. Then a path leads from a clause
 //! beside the first one to a clause beside the other.
 ghost use Rattle.std.specs.Prelude.{◌≡◌, ◌⊎◌, ℕ, true, OnOk};
-ghost use Rattle.q_logic.specs.Formulas.{IsIn};
-ghost use Rattle.q_logic.specs.Prefixes.{is_bound};
-ghost use Rattle.q_kernel.specs.Kernels.{slots, HoldsLiteral};
+ghost use Rattle.q_logic.specs.Prelude.{IsIn, is_bound};
+ghost use Rattle.q_kernel.specs.Prelude.{slots, HoldsLiteral};
 ghost use Rattle.q_reduce.specs.Paths.{AreJoined, Lacks, IsNear, AreSides};
 
 use q_kernel::{ClauseId, Kernel};
@@ -41,7 +40,8 @@ impl Sides {
 
     /// The clause itself, and some with the negation of its literal.
     pub(crate) fn begin(&mut self, kernel: &Kernel, c: ClauseId, lit: Lit) -> Result<(), NoMemory>
-        ensures { OnOk result (AreSides kernel.now.prefix (slots kernel.now) c lit self.new.starts.items self.new.ends.items) }
+        ensures { OnOk result (AreSides kernel.now.prefix (slots kernel.now) c lit
+            self.new.starts.items self.new.ends.items) }
     {
         self.starts.clear();
         self.starts.push(c)?;
@@ -53,8 +53,12 @@ impl Sides {
     /// And those around them.
     pub(crate) fn widen(&mut self, kernel: &Kernel, lit: Lit) -> Result<(), NoMemory>
         requires { is_bound kernel.now.prefix lit.var ≡ true }
-        ensures starts { OnOk result ((y : ℕ) → IsIn y self.new.starts.items → IsNear kernel.now.prefix (slots kernel.now) lit self.old.starts.items y) }
-        ensures ends { OnOk result ((y : ℕ) → IsIn y self.new.ends.items → IsNear kernel.now.prefix (slots kernel.now) lit self.old.ends.items y) }
+        ensures starts { OnOk result
+            ((y : ℕ) → IsIn y self.new.starts.items
+            → IsNear kernel.now.prefix (slots kernel.now) lit self.old.starts.items y) }
+        ensures ends { OnOk result
+            ((y : ℕ) → IsIn y self.new.ends.items
+            → IsNear kernel.now.prefix (slots kernel.now) lit self.old.ends.items y) }
     {
         put_around(kernel, lit, STARTS, &mut self.starts)?;
         put_around(kernel, lit, ENDS, &mut self.ends)?;
@@ -70,7 +74,8 @@ fn put_around(
     list: &mut Vec<ClauseId>,
 ) -> Result<(), NoMemory>
     requires { is_bound kernel.now.prefix u.var ≡ true }
-    ensures { OnOk result ((y : ℕ) → IsIn y list.new.items → IsNear kernel.now.prefix (slots kernel.now) u list.old.items y) }
+    ensures { OnOk result ((y : ℕ) → IsIn y list.new.items
+        → IsNear kernel.now.prefix (slots kernel.now) u list.old.items y) }
 {
     for at in 0..most {
         if at >= list.len() || list.len() >= most {
@@ -90,7 +95,9 @@ fn put_beside(
     list: &mut Vec<ClauseId>,
 ) -> Result<(), NoMemory>
     requires { is_bound kernel.now.prefix u.var ≡ true }
-    ensures { OnOk result ((y : ℕ) → IsIn y list.new.items → IsIn y list.old.items ⊎ (AreJoined kernel.now.prefix (slots kernel.now) u.var c y × Lacks (slots kernel.now) y u)) }
+    ensures { OnOk result ((y : ℕ) → IsIn y list.new.items
+        → IsIn y list.old.items ⊎ (AreJoined kernel.now.prefix (slots kernel.now) u.var c y
+        × Lacks (slots kernel.now) y u)) }
 {
     if !kernel.live(c) {
         return Ok(());
@@ -111,7 +118,8 @@ fn put_free(
     most: usize,
     list: &mut Vec<ClauseId>,
 ) -> Result<(), NoMemory>
-    ensures { OnOk result ((y : ℕ) → IsIn y list.new.items → IsIn y list.old.items ⊎ (HoldsLiteral kernel.now y lit × Lacks (slots kernel.now) y u)) }
+    ensures { OnOk result ((y : ℕ) → IsIn y list.new.items
+        → IsIn y list.old.items ⊎ (HoldsLiteral kernel.now y lit × Lacks (slots kernel.now) y u)) }
 {
     let mut tries = 0;
     for d in kernel.holders(lit) {

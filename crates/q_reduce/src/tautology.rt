@@ -6,17 +6,16 @@
 //! In literal order a literal and its negation are neighbours, so the test is one walk over the clause. What goes may make
 //! the negations of its literals pure.
 ghost use Rattle.std.specs.Prelude.{◌≡◌, ◌↔◌, Some, IsTrue};
-ghost use Rattle.q_logic.specs.Formulas.{Clause};
-ghost use Rattle.q_logic.specs.Sets.{IsTautology};
-ghost use Rattle.q_logic.specs.Numbered.{slot};
-ghost use Rattle.q_kernel.specs.Kernels.{slots};
+ghost use Rattle.q_logic.specs.Prelude.{Clause, IsTautology, slot};
+ghost use Rattle.q_kernel.specs.Prelude.{slots};
 
 use q_kernel::{ClauseId, Kernel};
 use q_rule::is_tautology;
 
 /// Whether the id has a clause with a literal and its negation.
 pub fn fits_tautology(kernel: &Kernel, c: ClauseId) -> bool
-    ensures { IsTrue result ↔ ((C : Clause) × (slot (slots kernel.now) c ≡ Some C) × IsTautology C) }
+    ensures { IsTrue result ↔ ((C : Clause) × (slot (slots kernel.now) c ≡ Some C)
+        × IsTautology C) }
 {
     kernel.live(c) && is_tautology(kernel.lits(c))
 }

@@ -1,6 +1,6 @@
 // The checker, one step after the other.
 ghost use Rattle.std.specs.Prelude.{◌≤◌};
-ghost use Rattle.q_logic.specs.Limits.{AreModerate};
+ghost use Rattle.q_logic.specs.Prelude.{AreModerate};
 
 use crate::formulas::{formula_of, push_clause, push_lit};
 use crate::trouble::Trouble;

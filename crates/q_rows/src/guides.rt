@@ -1,10 +1,10 @@
 // Guides as rows write them: by name, or by a script of what they propose, one proposal after the other. A script that is at
 // its end is done.
 ghost use Rattle.std.specs.Prelude.{◌≡◌};
-ghost use Rattle.q_kernel.specs.Taking.{IsReady};
-ghost use Rattle.q_logic.specs.Counts.{Rose};
+ghost use Rattle.q_kernel.specs.Prelude.{IsReady};
+ghost use Rattle.q_logic.specs.Prelude.{Rose};
 
-use crate::aims::{Aim, aim_of};
+use crate::row_targets::{RowTarget, row_target_of};
 use crate::trouble::Trouble;
 use q_kernel::{ClauseId, Kernel};
 use q_logic::Bounds;
@@ -24,7 +24,7 @@ enum When {
 /// A part of a script: a target, when it is due, and how often it is still proposed, without a number for ever.
 #[derive(Clone, Copy)]
 struct Part {
-    aim: Aim,
+    row_target: RowTarget,
     when: When,
     left: Option<u32>,
 }
@@ -58,7 +58,7 @@ impl Script {
     fn next(&mut self) -> Proposal {
         for part in &mut self.parts {
             if part.is_due(self.was_taken) {
-                return Proposal::Take(part.aim.target);
+                return Proposal::Take(part.row_target.target);
             }
         }
         Proposal::Done
@@ -173,7 +173,7 @@ fn part_of(text: &str) -> Result<Part, Trouble> {
     let (text, when) = when_of(text);
     let (text, left) = times_of(text)?;
     Ok(Part {
-        aim: aim_of(text)?,
+        row_target: row_target_of(text)?,
         when,
         left,
     })

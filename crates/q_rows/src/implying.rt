@@ -1,5 +1,5 @@
 // What propagation shows over the clauses of a formula.
-use crate::aims::lit;
+use crate::row_targets::lit;
 use crate::trouble::Trouble;
 use q_logic::{Formula, Lit, NoMemory};
 use q_prop::Store;

@@ -5,7 +5,6 @@
 
 ghost use Rattle.std.specs.Prelude.{◌≤◌};
 
-mod aims;
 mod checking;
 mod desk;
 mod formulas;
@@ -15,6 +14,7 @@ mod logging;
 mod notation;
 mod places;
 mod reading;
+mod row_targets;
 mod stage;
 mod table;
 mod taking;

@@ -1,7 +1,7 @@
 // Where the literals of a kernel stand once its dead words are gone.
 
-use crate::aims::Aim;
 use crate::formulas::push_lit;
+use crate::row_targets::RowTarget;
 use crate::taking::kernel_of;
 use crate::trouble::Trouble;
 use q_kernel::{ClauseId, Kernel};
@@ -17,10 +17,10 @@ pub(crate) fn lists(
     alloc: Global,
     formula: &Formula,
     bounds: &Bounds,
-    aim: &Aim,
+    row_target: &RowTarget,
 ) -> Result<String, Trouble> {
     let mut kernel = kernel_of(alloc, formula)?;
-    let _ = aim.try_one(alloc, &mut kernel, bounds)?;
+    let _ = row_target.try_one(alloc, &mut kernel, bounds)?;
     kernel.compact();
     told(alloc, &kernel)
 }

@@ -1,6 +1,6 @@
 // The reader of formulas, over the whole text and over pieces of one and of seven bytes.
 ghost use Rattle.std.specs.Prelude.{◌≤◌};
-ghost use Rattle.q_logic.specs.Limits.{AreModerate};
+ghost use Rattle.q_logic.specs.Prelude.{AreModerate};
 
 use crate::notation::compare;
 use crate::trouble::Trouble;

@@ -1,8 +1,7 @@
 // One row: its files, formula, limits and bounds, and its lines one after the other.
 ghost use Rattle.std.specs.Prelude.{IfOk};
-ghost use Rattle.q_logic.specs.Limits.{AreModerate};
+ghost use Rattle.q_logic.specs.Prelude.{AreModerate};
 
-use crate::aims::aim_of;
 use crate::checking::{answers, undo_list};
 use crate::desk::{Desk, Said};
 use crate::formulas::{formula_of, formula_text};
@@ -11,6 +10,7 @@ use crate::logging::log_answer;
 use crate::notation::{bytes_of, compare};
 use crate::places::lists;
 use crate::reading::answer;
+use crate::row_targets::row_target_of;
 use crate::taking::{figures, found, outcome, proposals};
 use crate::trouble::Trouble;
 use q_io::Call;
@@ -210,7 +210,7 @@ impl Stage {
         match verb {
             "take" => self.take(rest, bounds),
             "find" => self.find(rest, bounds),
-            "lists" => lists(self.alloc, &self.formula, bounds, &aim_of(rest)?),
+            "lists" => lists(self.alloc, &self.formula, bounds, &row_target_of(rest)?),
             "figures" => figures(self.alloc, &self.formula, bounds),
             "implied" => implied(self.alloc, &self.formula, rest),
             "ask" => proposals(self.alloc, &self.formula, rest),
@@ -219,8 +219,8 @@ impl Stage {
     }
 
     fn take(&self, target: &str, bounds: &Bounds) -> Result<String, Trouble> {
-        let aim = aim_of(target)?;
-        outcome(self.alloc, &self.formula, bounds, &aim)
+        let row_target = row_target_of(target)?;
+        outcome(self.alloc, &self.formula, bounds, &row_target)
     }
 
     fn find(&self, from: &str, bounds: &Bounds) -> Result<String, Trouble> {

@@ -1,11 +1,11 @@
 // One target of a rule on a formula.
 ghost use Rattle.std.specs.Prelude.{IfOk};
-ghost use Rattle.q_kernel.specs.Taking.{IsReady};
+ghost use Rattle.q_kernel.specs.Prelude.{IsReady};
 
-use crate::aims::{Aim, find};
 use crate::checking::audit;
 use crate::formulas::formula_text;
 use crate::guides::{RowGuide, guide_of};
+use crate::row_targets::{RowTarget, find};
 use crate::trouble::Trouble;
 use q_kernel::{Kernel, Taken};
 use q_logic::{Bounds, Formula};
@@ -34,11 +34,11 @@ pub(crate) fn outcome(
     alloc: Global,
     formula: &Formula,
     bounds: &Bounds,
-    aim: &Aim,
+    row_target: &RowTarget,
 ) -> Result<String, Trouble> {
     let mut kernel = kernel_of(alloc, formula)?;
-    let is_found = find(alloc, aim.rules(), &kernel, bounds, 0)?.is_some();
-    let said = tried(alloc, formula, &mut kernel, bounds, aim)?;
+    let is_found = find(alloc, row_target.rules(), &kernel, bounds, 0)?.is_some();
+    let said = tried(alloc, formula, &mut kernel, bounds, row_target)?;
     if !is_found && said.as_str() != "no" {
         return Err(Trouble::Unreadable("a target that is found"));
     }
@@ -50,12 +50,12 @@ fn tried(
     formula: &Formula,
     kernel: &mut Kernel,
     bounds: &Bounds,
-    aim: &Aim,
+    row_target: &RowTarget,
 ) -> Result<String, Trouble>
     requires ready { IsReady kernel.old }
 {
     let before = held(alloc, formula, kernel)?;
-    let taken = aim.try_one(alloc, kernel, bounds)?;
+    let taken = row_target.try_one(alloc, kernel, bounds)?;
     let after = compacted(alloc, formula, kernel)?;
     told(alloc, taken, &before, &after)
 }
@@ -104,13 +104,13 @@ pub(crate) fn found(
     from: u32,
 ) -> Result<String, Trouble> {
     let kernel = kernel_of(alloc, formula)?;
-    let aim = find(alloc, rules, &kernel, bounds, from)?;
-    name_of(alloc, aim)
+    let row_target = find(alloc, rules, &kernel, bounds, from)?;
+    name_of(alloc, row_target)
 }
 
-fn name_of(alloc: Global, aim: Option<Aim>) -> Result<String, Trouble> {
-    match aim {
-        Some(aim) => Ok(format!(in alloc; "{aim}")?),
+fn name_of(alloc: Global, row_target: Option<RowTarget>) -> Result<String, Trouble> {
+    match row_target {
+        Some(row_target) => Ok(format!(in alloc; "{row_target}")?),
         None => Ok(String::from_str(alloc, "none")?),
     }
 }
@@ -141,7 +141,7 @@ fn proposed(alloc: Global, kernel: &Kernel, guide: &mut RowGuide) -> Result<Stri
 }
 
 fn push_target(text: &mut String, target: Move) -> Result<(), Trouble> {
-    write!(text, "{}, ", Aim { target })?;
+    write!(text, "{}, ", RowTarget { target })?;
     Ok(())
 }
 

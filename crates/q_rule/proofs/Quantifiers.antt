@@ -2,8 +2,7 @@
 use Rattle.std.proofs.Common.{◌≡◌, ℕ, Bool, true, false, cond, not, eqb, [], ◌∷◌, Some, refl, sym, true≢false}
 use Rattle.q_logic.specs.declared.formulas.Quant.{Quant}
 use Rattle.q_logic.specs.declared.formulas.Quant.TheVariants.{Exists, Forall}
-use Rattle.q_logic.specs.Formulas.{Prefix}
-use Rattle.q_logic.specs.Prefixes.{is_bound, is_existential, is_universal, is_exists}
+use Rattle.q_logic.specs.Prelude.{Prefix, is_bound, is_existential, is_universal, is_exists}
 use Rattle.q_prefix.specs.Order.{quant_of}
 use Rattle.q_rule.specs.Quants.{is_some_exists, is_some_forall}
 

@@ -1,16 +1,7 @@
 -- What the steps of a rule have made of a kernel.
 use Rattle.std.specs.Prelude.{◌≡◌, ◌≤◌, ◌+◌, ◌*◌, length}
-use Rattle.q_logic.specs.Formulas.{Matrix}
-use Rattle.q_logic.specs.Limits.{standard}
-use Rattle.q_logic.specs.InLimits.{IsInLimits}
-use Rattle.q_logic.specs.Measure.{size_of}
-use Rattle.q_logic.specs.Numbered.{live}
-use Rattle.q_logic.specs.Targets.{Target}
-use Rattle.q_logic.specs.Rules.{change, result_of}
-use Rattle.q_kernel.specs.Kernels.{Seen, slots, formula_in, HasSweepBytes}
-use Rattle.q_kernel.specs.Changes.{IsLed}
-use Rattle.q_logic.specs.Runs.{AreAlike}
-use Rattle.q_kernel.specs.Taking.{IsReady}
+use Rattle.q_logic.specs.Prelude.{Matrix, standard, IsInLimits, size_of, live, Target, change, result_of, AreAlike}
+use Rattle.q_kernel.specs.Prelude.{Seen, slots, formula_in, HasSweepBytes, IsLed, IsReady}
 
 -- the bytes that a sweep may take are spare, and twice as many for each literal and clause beside
 abbrev pub CanChange : Seen → Type 0

@@ -1,12 +1,8 @@
 -- What a crate of rules answers: where a target was tried, and where one was looked for.
 use Rattle.std.specs.Prelude.{◌≡◌, ◌↔◌, ◌≤◌, ℕ, Option, None, Some}
 use Rattle.q_logic.specs.declared.rule_bounds.Bounds.{Bounds}
-use Rattle.q_logic.specs.Targets.{Target, place}
-use Rattle.q_logic.specs.Rules.{Fits}
-use Rattle.q_logic.specs.Limits.{standard}
-use Rattle.q_logic.specs.InLimits.{IsInLimits}
-use Rattle.q_kernel.specs.Kernels.{Seen, SameView, slots, formula_in}
-use Rattle.q_kernel.specs.Taking.{Applies, IsTaken}
+use Rattle.q_logic.specs.Prelude.{Target, place, Fits, standard, IsInLimits}
+use Rattle.q_kernel.specs.Prelude.{Seen, SameView, slots, formula_in, Applies, IsTaken}
 use Rattle.q_kernel.specs.declared.taken.Taken.{Taken}
 use Rattle.q_kernel.specs.declared.taken.Taken.TheVariants.{Yes, No}
 use Rattle.q_rule.specs.Becoming.{CanChange}

@@ -1,6 +1,6 @@
 //! Tests of clauses.
 ghost use Rattle.std.specs.Prelude.{◌≡◌, [], ◌∷◌, None, Some};
-ghost use Rattle.q_logic.specs.Literals.{Literal};
+ghost use Rattle.q_logic.specs.Prelude.{Literal};
 
 use q_logic::Lit;
 

@@ -1,6 +1,5 @@
 ghost use Rattle.std.specs.Prelude.{◌≡◌, ◌↔◌, ◌<◌, ◌++◌, ◌∷◌, [], ℕ, length, slice_get, OnOk, OnErr, Some, IsTrue, slice_index_or, vec_len, true, false};
-ghost use Rattle.q_logic.specs.Literals.{pack};
-ghost use Rattle.q_logic.specs.Formulas.{IsIn};
+ghost use Rattle.q_logic.specs.Prelude.{pack, IsIn};
 ghost use Rattle.q_rule.specs.Marks.{IsMarked};
 
 use q_logic::{Lit, NoMemory};
@@ -16,7 +15,7 @@ pub struct Queue {
 
 impl Model for Queue {
     ghost use Rattle.std.specs.Prelude.{List};
-    ghost use Rattle.q_logic.specs.Literals.{Literal};
+    ghost use Rattle.q_logic.specs.Prelude.{Literal};
     ghost use Rattle.q_rule.specs.Marks.{IsMarked};
 
     ghost Value = { List Literal };

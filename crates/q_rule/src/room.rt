@@ -1,8 +1,7 @@
 //! Room for the steps of a target.
 ghost use Rattle.std.specs.Prelude.{OnOk};
-ghost use Rattle.q_logic.specs.Limits.{standard};
-ghost use Rattle.q_logic.specs.InLimits.{IsInLimits};
-ghost use Rattle.q_kernel.specs.Kernels.{SameView, formula_in};
+ghost use Rattle.q_logic.specs.Prelude.{standard, IsInLimits};
+ghost use Rattle.q_kernel.specs.Prelude.{SameView, formula_in};
 ghost use Rattle.q_rule.specs.Becoming.{CanChange};
 
 use q_kernel::{Kernel, Need};

@@ -4,9 +4,8 @@
 //! keeps buffers, and may have learned something of the formula, which has to be right for the kernel before (`IsFitFor`)
 //! and is so after.
 ghost use Rattle.std.specs.Prelude.{◌≡◌, ◌↔◌, IfOk, OnErr, IsTrue};
-ghost use Rattle.q_logic.specs.Targets.{Target as TheoryTarget};
-ghost use Rattle.q_kernel.specs.Kernels.{Seen, SameView};
-ghost use Rattle.q_kernel.specs.Taking.{IsReady, Applies};
+ghost use Rattle.q_logic.specs.Prelude.{Target as TheoryTarget};
+ghost use Rattle.q_kernel.specs.Prelude.{Seen, SameView, IsReady, Applies};
 ghost use Rattle.q_rule.specs.Searching.{Tries, Finds};
 
 use q_kernel::{Kernel, Taken};
@@ -65,4 +64,31 @@ pub trait Rules: Drop {
         requires fit { IsFitFor kernel.now self.old }
         ensures finds { IfOk result (Finds target_of bounds.now kernel.now from) }
         ensures fit { IsFitFor kernel.now self.new };
+
+    /// Takes a target exactly where it applies, by a search of its own.
+    final fn try_one(
+        alloc: Global,
+        kernel: &mut Kernel,
+        target: &Self::Target,
+        bounds: &Bounds,
+    ) -> Result<Taken, NoMemory>
+        requires ready { IsReady kernel.old }
+        ensures tries { IfOk result (Tries bounds.now kernel.old kernel.new (target_of target.now)) }
+        ensures err { OnErr result (SameView kernel.old kernel.new) }
+    {
+        Self::new(alloc).take(kernel, target, bounds)
+    }
+
+    /// Finds a target by a search of its own.
+    final fn find_one(
+        alloc: Global,
+        kernel: &Kernel,
+        bounds: &Bounds,
+        from: u32,
+    ) -> Result<Option<Self::Target>, NoMemory>
+        requires ready { IsReady kernel.now }
+        ensures finds { IfOk result (Finds target_of bounds.now kernel.now from) }
+    {
+        Self::new(alloc).find(kernel, bounds, from)
+    }
 }

@@ -1,13 +1,7 @@
 //! What the prefix of a kernel says of a variable.
 ghost use Rattle.std.specs.Prelude.{◌≡◌, true, Some};
-ghost use Rattle.q_logic.specs.Formulas.{Clause};
-ghost use Rattle.q_logic.specs.Prefixes.{is_bound, is_existential, is_universal};
-ghost use Rattle.q_logic.specs.Expanding.{inner_existential};
-ghost use Rattle.q_logic.specs.Parts.{ArePairs};
-ghost use Rattle.q_logic.specs.Literals.{IsBelow};
-ghost use Rattle.q_logic.specs.Steps.{Within};
-ghost use Rattle.q_logic.specs.Numbered.{slot};
-ghost use Rattle.q_kernel.specs.Kernels.{slots};
+ghost use Rattle.q_logic.specs.Prelude.{Clause, is_bound, is_existential, is_universal, inner_existential, ArePairs, IsBelow, Within, slot};
+ghost use Rattle.q_kernel.specs.Prelude.{slots};
 ghost use Rattle.q_rule.specs.Quants.{is_some_exists, is_some_forall};
 
 use q_kernel::{ClauseId, Kernel};

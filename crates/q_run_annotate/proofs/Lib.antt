@@ -1,6 +1,6 @@
-pub mod Fitting
-pub mod Walking
-pub mod Taking
-pub mod Wholes
-pub mod Accepting
-pub mod Deciding
+pub mod WritableProofs
+pub mod HintedLogSteps
+pub mod AnnotatedSteps
+pub mod AnnotateOutcome
+pub mod AnnotatedLog
+pub mod AnnotateStatus

@@ -1,11 +1,7 @@
 -- What `annotate` says and leaves, over the files before and after.
 use Rattle.std.specs.Prelude.{◌≡◌, ◌⊎◌, ℕ, List, Option, Some, length}
 use Rattle.std.specs.List.{AllByRecursion}
-use Rattle.q_logic.specs.Formulas.{PrenexFormula}
-use Rattle.q_logic.specs.Hinted.{Hinted, HintedRun, strip}
-use Rattle.q_logic.specs.Limits.{standard}
-use Rattle.q_logic.specs.StepForms.{kind_of}
-use Rattle.q_logic.specs.Steps.{ProofStep}
+use Rattle.q_logic.specs.Prelude.{PrenexFormula, Hinted, HintedRun, strip, standard, kind_of, ProofStep}
 use Rattle.q_dimacs.specs.Offences.{Offence}
 use Rattle.q_io.specs.Files.{Disk, HoldsBytes, MayHoldFront, bytes_at}
 use Rattle.q_log.specs.Logs.{Steps}

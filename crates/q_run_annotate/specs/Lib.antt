@@ -1,4 +1,4 @@
-pub mod Seats
+pub mod Boxed
 pub mod AnnotatedLines
 pub mod Annotates
 pub mod Readings

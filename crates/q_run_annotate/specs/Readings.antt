@@ -1,12 +1,7 @@
 -- A plain log that is written with hints while it is read: what some bytes of it do, and what its end says.
 use Rattle.std.specs.Prelude.{◌≡◌, ◌≤◌, ◌+◌, ◌^◌, ℕ, List, [], ◌++◌, length, take, drop, slice_get, None, Some}
 use Rattle.std.specs.List.{AllByRecursion}
-use Rattle.q_logic.specs.Formulas.{PrenexFormula}
-use Rattle.q_logic.specs.Hinted.{Hinted, HintedSteps, HintedValid, ProofPart, begun, hinted_after, plain, strip}
-use Rattle.q_logic.specs.Limits.{standard}
-use Rattle.q_logic.specs.Runs.{SameFormula}
-use Rattle.q_logic.specs.StepForms.{kind_of}
-use Rattle.q_logic.specs.Steps.{ProofStep, Cause}
+use Rattle.q_logic.specs.Prelude.{PrenexFormula, Hinted, HintedSteps, HintedValid, ProofPart, begun, hinted_after, plain, strip, standard, SameFormula, kind_of, ProofStep, Cause}
 use Rattle.q_log.specs.Logs as logs
 use Rattle.q_log.specs.Reading.{to_come}
 use Rattle.q_hinted.specs.Parts.{IsPartOf}

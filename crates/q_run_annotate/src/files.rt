@@ -26,11 +26,15 @@ fn hint_files<F: Files>(
     requires room { 0 < length buffer.old }
     ensures annotated { IfOk result (λ t. IfSome (F.held files.old)
         (λ disk. IsAnnotated (files_of names.entry) disk t.steps t.text.items)) }
-    ensures refused { IfErr result (λ o. IfSome (F.held files.old)
-        (λ disk. PlainChecks o (bytes_at disk names.entry.input.now) (bytes_at disk names.entry.output.now) (bytes_at disk names.entry.log.now))) }
+    ensures refused { IfErr result (λ o.
+        IfSome (F.held files.old) (λ disk.
+        PlainChecks o (bytes_at disk names.entry.input.now) (bytes_at disk names.entry.output.now)
+        (bytes_at disk names.entry.log.now))) }
     ensures unverified { IfErr result IsUnverified }
-    ensures fault { IsErrOf result Outcome.ReadFault →
-        RoseAmong F.read_faults (names.entry.input.now ∷ names.entry.output.now ∷ names.entry.log.now ∷ []) files.old files.new }
+    ensures fault { IsErrOf result Outcome.ReadFault
+        → RoseAmong F.read_faults
+        (names.entry.input.now ∷ names.entry.output.now ∷ names.entry.log.now ∷ []) files.old
+        files.new }
     ensures only_reads { OnlyReads F.held F.read_faults F.write_faults files.old files.new }
 {
     let from = match read_operand(alloc, files, Role::In, names.input, buffer) {
@@ -51,11 +55,15 @@ fn hint_with_room<F: Files>(
 ) -> Result<HintedText, Outcome>
     ensures annotated { IfOk result (λ t. IfSome (F.held files.old)
         (λ disk. IsAnnotated (files_of names.entry) disk t.steps t.text.items)) }
-    ensures refused { IfErr result (λ o. IfSome (F.held files.old)
-        (λ disk. PlainChecks o (bytes_at disk names.entry.input.now) (bytes_at disk names.entry.output.now) (bytes_at disk names.entry.log.now))) }
+    ensures refused { IfErr result (λ o.
+        IfSome (F.held files.old) (λ disk.
+        PlainChecks o (bytes_at disk names.entry.input.now) (bytes_at disk names.entry.output.now)
+        (bytes_at disk names.entry.log.now))) }
     ensures unverified { IfErr result IsUnverified }
-    ensures fault { IsErrOf result Outcome.ReadFault →
-        RoseAmong F.read_faults (names.entry.input.now ∷ names.entry.output.now ∷ names.entry.log.now ∷ []) files.old files.new }
+    ensures fault { IsErrOf result Outcome.ReadFault
+        → RoseAmong F.read_faults
+        (names.entry.input.now ∷ names.entry.output.now ∷ names.entry.log.now ∷ []) files.old
+        files.new }
     ensures only_reads { OnlyReads F.held F.read_faults F.write_faults files.old files.new }
 {
     match vec![in alloc; 0u8; PIECE] {
@@ -68,8 +76,10 @@ fn hint_with_room<F: Files>(
 pub fn annotate_files<F: Files>(alloc: Global, files: &mut F, names: AnnotateNames) -> Annotated
     ensures annotates { IfSome (F.held files.old) (λ disk.
         Annotates result (files_of names.entry) disk (F.held files.new)) }
-    ensures read_fault { status_of_annotated result ≡ Status.ReadFault →
-        RoseAmong F.read_faults (names.entry.input.now ∷ names.entry.output.now ∷ names.entry.log.now ∷ []) files.old files.new }
+    ensures read_fault { status_of_annotated result ≡ Status.ReadFault
+        → RoseAmong F.read_faults
+        (names.entry.input.now ∷ names.entry.output.now ∷ names.entry.log.now ∷ []) files.old
+        files.new }
     ensures write_fault { status_of_annotated result ≡ Status.WriteFault →
         RoseAmong F.write_faults (names.entry.hinted.now ∷ []) files.old files.new }
 {

@@ -4,12 +4,12 @@
 #![tactic(auto)]
 
 mod annotated;
+mod boxed;
 mod files;
 mod law;
 mod names;
 mod reading;
 mod scribe;
-mod seat;
 
 pub use annotated::Annotated;
 pub use files::annotate_files;

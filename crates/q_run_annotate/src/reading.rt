@@ -1,6 +1,6 @@
 // The log is read once, upward: each step is tried as soon as it is read.
 ghost use Rattle.std.specs.Prelude.{◌≡◌, ◌≤◌, ◌<◌, ◌+◌, List, ℕ, length, take, drop, IfOk, IfErr, OnOk, IfSome, IsErrOf, [], ◌++◌};
-ghost use Rattle.q_logic.specs.Formulas.{PrenexFormula};
+ghost use Rattle.q_logic.specs.Prelude.{PrenexFormula};
 ghost use Rattle.q_io.specs.Files.{OnlyReads, RoseFor, bytes_at};
 ghost use Rattle.q_command.specs.Checks.{IsUnverified};
 ghost use Rattle.q_run_annotate.specs.Annotates.{IsAnnotation, LogRefuses};
@@ -93,7 +93,8 @@ impl Reading {
         ensures refused { IfErr result (λ o. IfSome (F.held files.old)
             (λ disk. Refuses o self.old (drop at (bytes_at disk name.now)))) }
         ensures unverified { IfErr result IsUnverified }
-        ensures fault { IsErrOf result Outcome.ReadFault → RoseFor F.read_faults name.now files.old files.new }
+        ensures fault { IsErrOf result Outcome.ReadFault
+            → RoseFor F.read_faults name.now files.old files.new }
         ensures only_reads { OnlyReads F.held F.read_faults F.write_faults files.old files.new }
     {
         let count = match files.read(name, at, buffer) {
@@ -156,7 +157,8 @@ pub(crate) fn read_log<F: Files>(
     ensures refused { IfErr result (λ o. IfSome (F.held files.old)
         (λ disk. LogRefuses o input.now output.now (bytes_at disk name.now))) }
     ensures unverified { IfErr result IsUnverified }
-    ensures fault { IsErrOf result Outcome.ReadFault → RoseFor F.read_faults name.now files.old files.new }
+    ensures fault { IsErrOf result Outcome.ReadFault
+        → RoseFor F.read_faults name.now files.old files.new }
     ensures only_reads { OnlyReads F.held F.read_faults F.write_faults files.old files.new }
 {
     let Ok(mut reading) = Reading::start(alloc, input) else {

@@ -1,10 +1,10 @@
 // The text of a log with hints, made in memory step by step: each step is tried once, and shown by its proof part.
 ghost use Rattle.std.specs.Prelude.{◌≡◌, ◌<◌, ◌^◌, IfOk, IfErr, OnOk, IsErrOf};
-ghost use Rattle.q_logic.specs.Hinted.{plain};
+ghost use Rattle.q_logic.specs.Prelude.{plain};
 ghost use Rattle.q_command.specs.Checks.{IsUnverified};
 ghost use Rattle.q_run_annotate.specs.Readings.{IsBegun, IsUnderWay, Goes, Convicts, EndsAs, IsEndOutcome};
 
-use crate::seat::Seat;
+use crate::boxed::BoxedAnnotator;
 use q_check::CheckError;
 use q_command::{Outcome, step_refusal};
 use q_hinted::{push_header, push_hinted};
@@ -17,7 +17,7 @@ const MOST: u64 = 1 << 60;
 /// The annotator behind the steps so far, and their lines with proof parts.
 #[derive(Drop)]
 pub(crate) struct Scribe {
-    annotator: Seat,
+    annotator: BoxedAnnotator,
     text: Vec<u8>,
 }
 
@@ -38,7 +38,7 @@ impl Scribe {
         }
         let mut text = Vec::new(alloc);
         push_header(&mut text)?;
-        match Seat::start(alloc, formula) {
+        match BoxedAnnotator::start(alloc, formula) {
             Ok(annotator) => Ok(Scribe { annotator, text }),
             Err(NoMemory) => Err(NoMemory),
         }
@@ -49,7 +49,8 @@ impl Scribe {
         requires under_way { IsUnderWay self.old.annotator }
         requires few { self.old.annotator.steps < 2 ^ 60 }
         ensures goes { OnOk result (Goes step.now self.old self.new) }
-        ensures refused { IfErr result (λ o. Convicts o (plain self.old.annotator.formula) (line, step.now)) }
+        ensures refused { IfErr result (λ o.
+            Convicts o (plain self.old.annotator.formula) (line, step.now)) }
         ensures unverified { IfErr result IsUnverified }
         ensures fault { IsErrOf result Outcome.ReadFault → ⊥ }
     {
@@ -65,7 +66,8 @@ impl Scribe {
     /// The text, where the steps lead to the output.
     pub fn finish(self, output: &Formula) -> Result<HintedText, Outcome>
         ensures ended { IfOk result (λ t. EndsAs self output.now t) }
-        ensures refused { IfErr result (λ o. IsEndOutcome o (plain self.annotator.formula) output.now) }
+        ensures refused { IfErr result (λ o.
+            IsEndOutcome o (plain self.annotator.formula) output.now) }
         ensures unverified { IfErr result IsUnverified }
         ensures fault { IsErrOf result Outcome.ReadFault → ⊥ }
     {

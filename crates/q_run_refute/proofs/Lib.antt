@@ -1,3 +1,3 @@
-pub mod Walking
-pub mod Certifying
-pub mod Deciding
+pub mod NotedSteps
+pub mod RefuteFiles
+pub mod RefuteStatus

@@ -1,7 +1,6 @@
 -- The first extended drop of a log.
 use Rattle.std.specs.Prelude.{◌≡◌, ◌⊎◌, ℕ, List, [], ◌∷◌}
-use Rattle.q_logic.specs.Formulas.{PrenexFormula}
-use Rattle.q_logic.specs.Steps.{after}
+use Rattle.q_logic.specs.Prelude.{PrenexFormula, after}
 use Rattle.q_logic.specs.Reversals.{IsExtended}
 use Rattle.q_command.specs.Logs.{Entry}
 

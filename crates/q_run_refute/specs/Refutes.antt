@@ -1,7 +1,6 @@
 -- What `refute` says and leaves, over the files before and after.
 use Rattle.std.specs.Prelude.{◌≡◌, ◌≢◌, ◌⊎◌, ℕ, List, Option, Some}
-use Rattle.q_logic.specs.Formulas.{PrenexFormula}
-use Rattle.q_logic.specs.Certificates.{CertificateView, trees_of}
+use Rattle.q_logic.specs.Prelude.{PrenexFormula, CertificateView, trees_of}
 use Rattle.q_logic.specs.Herbrands.{HerbrandOf}
 use Rattle.q_logic.specs.Reversals.{Reversal, Reversals, NoneExtended}
 use Rattle.q_io.specs.Files.{Disk, HoldsBytes, MayHoldFront, bytes_at}

@@ -1,6 +1,6 @@
 -- Why the steps of a log have no reversals.
 use Rattle.std.specs.Prelude.{ℕ, List}
-use Rattle.q_logic.specs.Formulas.{PrenexFormula}
+use Rattle.q_logic.specs.Prelude.{PrenexFormula}
 use Rattle.q_herbrand.specs.declared.error.TrailError.{TrailError}
 use Rattle.q_herbrand.specs.declared.error.TrailError.TheVariants as noting
 use Rattle.q_command.specs.Logs.{Entry}

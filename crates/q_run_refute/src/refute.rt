@@ -69,7 +69,8 @@ fn reverse(alloc: Global, checked: &Checked) -> Result<Reversals, Unreversed>
     requires { AreRun true checked.now.from checked.now.to checked.now.taken.items }
     ensures reversals { IfOk result
         (ReversalsOf checked.now.from (steps_of (entries_of checked.now.taken.items))) }
-    ensures refused { IfErr result (IsUnreversed checked.now.from (entries_of checked.now.taken.items)) }
+    ensures refused { IfErr result
+        (IsUnreversed checked.now.from (entries_of checked.now.taken.items)) }
 {
     reversals_of(alloc, &checked.from, &checked.taken)
 }
@@ -83,13 +84,15 @@ fn carry_back<F: Files>(
     reversals: &Reversals,
 ) -> Result<Certificate, Refuted>
     requires run { AreRun true checked.now.from checked.now.to checked.now.taken.items }
-    requires reversals { ReversalsOf checked.now.from (steps_of (entries_of checked.now.taken.items)) reversals.now }
+    requires reversals { ReversalsOf checked.now.from
+        (steps_of (entries_of checked.now.taken.items)) reversals.now }
     ensures carried { IfOk result (λ made. IfSome (F.held files.old)
         (λ disk. AreCarried checked.now reversals.now (bytes_at disk herbrand.now) made)) }
     ensures refused { IfErr result (λ o. IfSome (F.held files.old)
         (λ disk. CircuitsFail o checked.now.to (bytes_at disk herbrand.now))) }
     ensures of_circuits { IfErr result IsOfCircuits }
-    ensures fault { IsErrOf result Refuted.ReadFault → RoseFor F.read_faults herbrand.now files.old files.new }
+    ensures fault { IsErrOf result Refuted.ReadFault
+        → RoseFor F.read_faults herbrand.now files.old files.new }
     ensures only_reads { OnlyReads F.held F.read_faults F.write_faults files.old files.new }
 {
     let mut given = match read_circuits(alloc, files, herbrand) {
@@ -112,7 +115,8 @@ fn write_certificate<F: Files>(
     ensures puts { IfSome (F.held files.old)
         (λ disk. Puts result made.now cert.now disk (F.held files.new)) }
     ensures writing { FaultsReading result → ⊥ }
-    ensures cause { result ≡ Refuted.WriteFault → RoseFor F.write_faults cert.now files.old files.new }
+    ensures cause { result ≡ Refuted.WriteFault
+        → RoseFor F.write_faults cert.now files.old files.new }
 {
     match write_circuits(alloc, files, cert, made) {
         Ok(gates) => Refuted::Written { gates },
@@ -124,9 +128,12 @@ fn write_certificate<F: Files>(
 fn refute_in_order<F: Files>(alloc: Global, files: &mut F, names: RefuteNames) -> Refuted
     ensures refutes { IfSome (F.held files.old) (λ disk.
         Refutes result (files_of names.entry) disk (F.held files.new)) }
-    ensures read_fault { FaultsReading result →
-        RoseAmong F.read_faults (names.entry.input.now ∷ names.entry.output.now ∷ names.entry.log.now ∷ names.entry.herbrand.now ∷ []) files.old files.new }
-    ensures write_fault { result ≡ Refuted.WriteFault → RoseFor F.write_faults names.entry.cert.now files.old files.new }
+    ensures read_fault { FaultsReading result
+        → RoseAmong F.read_faults
+        (names.entry.input.now ∷ names.entry.output.now ∷ names.entry.log.now
+        ∷ names.entry.herbrand.now ∷ []) files.old files.new }
+    ensures write_fault { result ≡ Refuted.WriteFault
+        → RoseFor F.write_faults names.entry.cert.now files.old files.new }
 {
     let three = Names {
         input: names.input,
@@ -155,8 +162,10 @@ fn refute_in_order<F: Files>(alloc: Global, files: &mut F, names: RefuteNames) -
 pub fn refute_files<F: Files>(alloc: Global, files: &mut F, names: RefuteNames) -> Refuted
     ensures refutes { IfSome (F.held files.old) (λ disk.
         Refutes result (files_of names.entry) disk (F.held files.new)) }
-    ensures read_fault { status_of_refuted result ≡ Status.ReadFault →
-        RoseAmong F.read_faults (names.entry.input.now ∷ names.entry.output.now ∷ names.entry.log.now ∷ names.entry.herbrand.now ∷ []) files.old files.new }
+    ensures read_fault { status_of_refuted result ≡ Status.ReadFault
+        → RoseAmong F.read_faults
+        (names.entry.input.now ∷ names.entry.output.now ∷ names.entry.log.now
+        ∷ names.entry.herbrand.now ∷ []) files.old files.new }
     ensures write_fault { status_of_refuted result ≡ Status.WriteFault →
         RoseAmong F.write_faults (names.entry.cert.now ∷ []) files.old files.new }
 {

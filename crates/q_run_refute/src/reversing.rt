@@ -1,8 +1,6 @@
 //! The reversals of a log's steps: each kept step is noted in its order, until one is an extended drop.
 ghost use Rattle.std.specs.Prelude.{◌≡◌, IfOk, IfErr};
-ghost use Rattle.q_logic.specs.Formulas.{PrenexFormula};
-ghost use Rattle.q_logic.specs.Limits.{standard};
-ghost use Rattle.q_logic.specs.Runs.{ValidSteps};
+ghost use Rattle.q_logic.specs.Prelude.{PrenexFormula, standard, ValidSteps};
 ghost use Rattle.q_logic.specs.Reversals.{Reversals as ReversalsOf};
 ghost use Rattle.q_command.specs.Logs.{steps_of};
 ghost use Rattle.q_command.specs.Taken.{entries_of};
@@ -36,7 +34,8 @@ pub fn reversals_of(
     from: &Formula,
     taken: &[TakenStep],
 ) -> Result<Reversals, Unreversed>
-    requires { (E : PrenexFormula) × ValidSteps standard from.now (steps_of (entries_of taken.now)) E }
+    requires { (E : PrenexFormula)
+        × ValidSteps standard from.now (steps_of (entries_of taken.now)) E }
     ensures reversals { IfOk result (ReversalsOf from.now (steps_of (entries_of taken.now))) }
     ensures refused { IfErr result (IsUnreversed from.now (entries_of taken.now)) }
 {

@@ -1,5 +1,5 @@
-pub mod Putting
-pub mod Keeping
-pub mod Rising
-pub mod Together
-pub mod Deciding
+pub mod WrittenFiles
+pub mod KeptFiles
+pub mod RisenFaults
+pub mod SolveParts
+pub mod SolveStatus

@@ -1,8 +1,7 @@
 -- The work in memory: a formula is simplified, and its log is checked.
 use Rattle.std.specs.Prelude.{◌≡◌, ◌⊎◌, ◌↔◌, ℕ, List, true, codes, take, Option, Some, None}
 use Rattle.std.specs.FinMap as map
-use Rattle.q_logic.specs.Formulas.{PrenexFormula}
-use Rattle.q_logic.specs.Truth.{Holds}
+use Rattle.q_logic.specs.Prelude.{PrenexFormula, Holds}
 use Rattle.q_logic.specs.UsualBounds.{usual}
 use Rattle.q_io.specs.Files.{Disk, bytes_at}
 use Rattle.q_dimacs.specs.Writing.{formula_text}

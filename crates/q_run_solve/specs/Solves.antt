@@ -1,11 +1,7 @@
 -- What `solve` says and leaves, over the files before and after.
 use Rattle.std.specs.Prelude.{◌≡◌, ◌≢◌, ◌⊎◌, ◌↔◌, ◌<◌, ◌^◌, ℕ, List, length, map as each, take, Option, Some}
 use Rattle.std.specs.FinMap as map
-use Rattle.q_logic.specs.Formulas.{PrenexFormula}
-use Rattle.q_logic.specs.Limits.{standard}
-use Rattle.q_logic.specs.Truth.{Holds}
-use Rattle.q_logic.specs.Certificates.{CertificateView, trees_of}
-use Rattle.q_logic.specs.Skolems.{SkolemOf}
+use Rattle.q_logic.specs.Prelude.{PrenexFormula, standard, Holds, CertificateView, trees_of, SkolemOf}
 use Rattle.q_logic.specs.Decisions.{decisions}
 use Rattle.q_io.specs.Files.{Disk, bytes_at}
 use Rattle.q_io.specs.declared.error.DeviceError.{DeviceError}
@@ -13,7 +9,7 @@ use Rattle.q_io.specs.declared.error.DeviceError.TheVariants as device
 use Rattle.q_dimacs.specs.Writing.{formula_text}
 use Rattle.q_dimacs.specs.Offences.{Offence}
 use Rattle.q_aiger.specs.Writing.{IsCanonical}
-use Rattle.q_carry.specs.Made.{universals, existentials}
+use Rattle.q_carry.specs.Prelude.{universals, existentials}
 use Rattle.q_search.specs.Budgets.{IsBelow}
 use Rattle.q_sched.specs.Settled.{IsSettled}
 use Rattle.q_simplify.specs.declared.report.Report.{Report}

@@ -1,7 +1,6 @@
 //! What is left of a formula is searched, and circuits of a true one are carried back to the input and written.
 ghost use Rattle.std.specs.Prelude.{◌≡◌, true, IfSome};
-ghost use Rattle.q_logic.specs.Certificates.{trees_of};
-ghost use Rattle.q_logic.specs.Skolems.{SkolemOf};
+ghost use Rattle.q_logic.specs.Prelude.{trees_of, SkolemOf};
 ghost use Rattle.q_io.specs.Files.{RoseFor};
 ghost use Rattle.q_command.specs.Checks.{LeadsBack};
 ghost use Rattle.q_run_solve.specs.Solves.{Certifies, Concludes, Puts, failed_write};
@@ -34,7 +33,8 @@ fn write_certificate<F: Files>(
     ensures puts { IfSome (F.held files.old)
         (λ disk. Puts result made.now cert.now disk (F.held files.new)) }
     ensures reading { result ≡ Solved.ReadFault → ⊥ }
-    ensures cause { result ≡ Solved.WriteFault → RoseFor F.write_faults cert.now files.old files.new }
+    ensures cause { result ≡ Solved.WriteFault
+        → RoseFor F.write_faults cert.now files.old files.new }
 {
     match write_circuits(alloc, files, cert, made) {
         Ok(gates) => Solved::True { gates },
@@ -55,7 +55,8 @@ fn certify<F: Files>(
     ensures certifies { IfSome (F.held files.old)
         (λ disk. Certifies result cert.now checked.now.from disk (F.held files.new)) }
     ensures reading { result ≡ Solved.ReadFault → ⊥ }
-    ensures cause { result ≡ Solved.WriteFault → RoseFor F.write_faults cert.now files.old files.new }
+    ensures cause { result ≡ Solved.WriteFault
+        → RoseFor F.write_faults cert.now files.old files.new }
 {
     match rebuild(alloc, &checked.from, &checked.to, &checked.undo, given) {
         Ok(made) => write_certificate(alloc, files, cert, &made),
@@ -72,10 +73,11 @@ pub fn conclude<F: Files>(
     budget: Option<u64>,
 ) -> Solved
     requires back { LeadsBack true checked.now.from checked.now.to checked.now.undo }
-    ensures concludes { IfSome (F.held files.old)
-        (λ disk. Concludes result cert.now budget checked.now.from checked.now.to disk (F.held files.new)) }
+    ensures concludes { IfSome (F.held files.old) (λ disk.
+        Concludes result cert.now budget checked.now.from checked.now.to disk (F.held files.new)) }
     ensures reading { result ≡ Solved.ReadFault → ⊥ }
-    ensures cause { result ≡ Solved.WriteFault → RoseFor F.write_faults cert.now files.old files.new }
+    ensures cause { result ≡ Solved.WriteFault
+        → RoseFor F.write_faults cert.now files.old files.new }
 {
     match search(alloc, &checked.to, budget) {
         Ok(Found::Yes(mut given)) => certify(alloc, files, cert, checked, &mut given),

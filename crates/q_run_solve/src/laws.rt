@@ -9,6 +9,8 @@ ghost use Rattle.q_run_solve.specs.Solves.{SolveFiles, Solves, SolvesExactly};
 
 /// When each status comes, whether or not the line could be put.
 pub fn statuses_are_exact()
-    ensures { (given : Status) → (n : SolveFiles) → (budget : Option ℕ) → (before : Disk) → (after : Option Disk) → (due : Solved) → (old : SinkView) → (new : SinkView) →
-        Solves due n budget before after → IsDue (status_of_solved due) given old new → SolvesExactly given n budget before after }
+    ensures { (given : Status) → (n : SolveFiles) → (budget : Option ℕ) → (before : Disk)
+        → (after : Option Disk) → (due : Solved) → (old : SinkView) → (new : SinkView)
+        → Solves due n budget before after → IsDue (status_of_solved due) given old new
+        → SolvesExactly given n budget before after }
 {}

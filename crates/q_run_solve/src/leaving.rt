@@ -26,10 +26,12 @@ pub fn write_both<F: Files>(
     requires { output.now ≢ log.now }
     ensures whole { OnOk result (IfSome (F.held files.old)
         (λ disk. HoldsBoth output.now log.now out_text.now log_text.now disk (F.held files.new))) }
-    ensures part { OnErr result (IfSome (F.held files.old)
-        (λ disk. MayHoldBoth output.now log.now out_text.now log_text.now disk (F.held files.new))) }
+    ensures part { OnErr result
+        (IfSome (F.held files.old) (λ disk.
+        MayHoldBoth output.now log.now out_text.now log_text.now disk (F.held files.new))) }
     ensures later { Later F.read_faults F.write_faults files.old files.new }
-    ensures cause { IsErrOf result DeviceError.Failed → RoseAmong F.write_faults (output.now ∷ log.now ∷ []) files.old files.new }
+    ensures cause { IsErrOf result DeviceError.Failed
+        → RoseAmong F.write_faults (output.now ∷ log.now ∷ []) files.old files.new }
 {
     match write_whole(files, log, log_text) {
         Ok(()) => {}

@@ -1,8 +1,6 @@
 //! A formula is simplified in memory, and the log of its steps is checked there, which gives what is to be undone.
 ghost use Rattle.std.specs.Prelude.{◌≡◌, true, false, IfOk};
-ghost use Rattle.q_logic.specs.Limits.{standard};
-ghost use Rattle.q_logic.specs.InLimits.{IsInLimits};
-ghost use Rattle.q_logic.specs.Parts.{IsProper};
+ghost use Rattle.q_logic.specs.Prelude.{standard, IsInLimits, IsProper};
 ghost use Rattle.q_io.specs.Files.{bytes_at};
 ghost use Rattle.q_command.specs.Checks.{FilesPass, LeadsBack};
 ghost use Rattle.q_run_solve.specs.Reduces.{SomeSimplified, IsReducedTo, in_name, out_name, log_name};
@@ -49,7 +47,9 @@ fn simplify_in_memory(
 // The check of the log. It fails for want of memory, or where the log is longer than any that may be read.
 fn check_in_memory(alloc: Global, memory: &mut SteadyFiles) -> Result<Checked, NoMemory>
     ensures same { memory.new ≡ memory.old }
-    ensures passes { IfOk result (FilesPass (record { undo = true; steps = false }) (bytes_at memory.old in_name) (bytes_at memory.old out_name) (bytes_at memory.old log_name)) }
+    ensures passes { IfOk result
+        (FilesPass (record { undo = true; steps = false }) (bytes_at memory.old in_name)
+        (bytes_at memory.old out_name) (bytes_at memory.old log_name)) }
     ensures back { IfOk result (λ c. LeadsBack true c.from c.to c.undo) }
 {
     let names = Names {

@@ -1,6 +1,6 @@
 //! `solve`: IN is read, the work is done in memory, LOG and OUT are written, and then the search and CERT follow.
 ghost use Rattle.std.specs.Prelude.{◌≡◌, ◌≢◌, [], ◌∷◌, IfSome, OnOk, OnErr, IsErrOf};
-ghost use Rattle.q_logic.specs.Limits.{standard};
+ghost use Rattle.q_logic.specs.Prelude.{standard};
 ghost use Rattle.q_dimacs.specs.Dimacs.{Dimacs};
 ghost use Rattle.q_io.specs.Files.{RoseAmong, Later, bytes_at};
 ghost use Rattle.q_command.specs.declared.status.Status.TheVariants as status;
@@ -39,9 +39,14 @@ pub fn solve_files<F: Files>(
     requires output_log { names.output.now ≢ names.log.now }
     requires output_cert { names.output.now ≢ names.cert.now }
     requires log_cert { names.log.now ≢ names.cert.now }
-    ensures solves { IfSome (F.held files.old) (λ disk. Solves result (files_of names.entry) budget disk (F.held files.new)) }
-    ensures read_fault { status_of_solved result ≡ status.ReadFault → RoseAmong F.read_faults (names.entry.input.now ∷ []) files.old files.new }
-    ensures write_fault { status_of_solved result ≡ status.WriteFault → RoseAmong F.write_faults (names.entry.output.now ∷ names.entry.log.now ∷ names.entry.cert.now ∷ []) files.old files.new }
+    ensures solves { IfSome (F.held files.old) (λ disk.
+        Solves result (files_of names.entry) budget disk (F.held files.new)) }
+    ensures read_fault { status_of_solved result ≡ status.ReadFault
+        → RoseAmong F.read_faults (names.entry.input.now ∷ []) files.old files.new }
+    ensures write_fault { status_of_solved result ≡ status.WriteFault
+        → RoseAmong F.write_faults
+        (names.entry.output.now ∷ names.entry.log.now ∷ names.entry.cert.now ∷ []) files.old
+        files.new }
 {
     let formula = match read_input(alloc, files, names.input) {
         Ok(formula) => formula,
@@ -66,9 +71,13 @@ fn settle<F: Files>(
     requires log_cert { names.log.now ≢ names.cert.now }
     requires made { IsReducedTo reduced.now.checked.from reduced.now }
     ensures settles { IfSome (F.held files.old) (λ disk.
-        Dimacs standard (bytes_at disk names.entry.input.now) reduced.now.checked.from → Solves result (files_of names.entry) budget disk (F.held files.new)) }
+        Dimacs standard (bytes_at disk names.entry.input.now) reduced.now.checked.from
+        → Solves result (files_of names.entry) budget disk (F.held files.new)) }
     ensures reading { status_of_solved result ≡ status.ReadFault → ⊥ }
-    ensures cause { status_of_solved result ≡ status.WriteFault → RoseAmong F.write_faults (names.entry.output.now ∷ names.entry.log.now ∷ names.entry.cert.now ∷ []) files.old files.new }
+    ensures cause { status_of_solved result ≡ status.WriteFault
+        → RoseAmong F.write_faults
+        (names.entry.output.now ∷ names.entry.log.now ∷ names.entry.cert.now ∷ []) files.old
+        files.new }
 {
     match leave(files, names, reduced) {
         Ok(()) => conclude(alloc, files, names.cert, &reduced.checked, budget),
@@ -79,11 +88,18 @@ fn settle<F: Files>(
 // Writes LOG and OUT.
 fn leave<F: Files>(files: &mut F, names: SolveNames, reduced: &Reduced) -> Result<(), DeviceError>
     requires { names.output.now ≢ names.log.now }
-    ensures whole { OnOk result (IfSome (F.held files.old)
-        (λ disk. HoldsBoth names.entry.output.now names.entry.log.now (bytes_at reduced.now.memory out_name) (bytes_at reduced.now.memory log_name) disk (F.held files.new))) }
-    ensures part { OnErr result (IfSome (F.held files.old)
-        (λ disk. MayHoldBoth names.entry.output.now names.entry.log.now (bytes_at reduced.now.memory out_name) (bytes_at reduced.now.memory log_name) disk (F.held files.new))) }
-    ensures cause { IsErrOf result DeviceError.Failed → RoseAmong F.write_faults (names.entry.output.now ∷ names.entry.log.now ∷ []) files.old files.new }
+    ensures whole { OnOk result
+        (IfSome (F.held files.old) (λ disk.
+        HoldsBoth names.entry.output.now names.entry.log.now (bytes_at reduced.now.memory out_name)
+        (bytes_at reduced.now.memory log_name) disk (F.held files.new))) }
+    ensures part { OnErr result
+        (IfSome (F.held files.old) (λ disk.
+        MayHoldBoth names.entry.output.now names.entry.log.now
+        (bytes_at reduced.now.memory out_name) (bytes_at reduced.now.memory log_name) disk
+        (F.held files.new))) }
+    ensures cause { IsErrOf result DeviceError.Failed
+        → RoseAmong F.write_faults (names.entry.output.now ∷ names.entry.log.now ∷ []) files.old
+        files.new }
     ensures later { Later F.read_faults F.write_faults files.old files.new }
 {
     let out_text = text_of(&reduced.memory, "OUT");

@@ -1,2 +1,2 @@
-pub mod Deciding
-pub mod Judging
+pub mod ValidateStatus
+pub mod ValidateOutcome

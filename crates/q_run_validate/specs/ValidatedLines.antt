@@ -1,7 +1,7 @@
 -- The line and the status of `validate`, by its outcome.
 use Rattle.std.specs.Prelude.{ℕ, List, [], ◌∷◌, ◌++◌, codes, decimal}
 use Rattle.std.specs.Fmt.{signed_decimal}
-use Rattle.q_logic.specs.Literals.{Literal, number_of}
+use Rattle.q_logic.specs.Prelude.{Literal, number_of}
 use Rattle.q_command.specs.declared.status.Status.{Status}
 use Rattle.q_command.specs.declared.status.Status.TheVariants as status
 use Rattle.q_run_validate.specs.declared.validated.Validated.{Validated}

@@ -1,17 +1,13 @@
 -- What `validate` says of its files.
 use Rattle.std.specs.Prelude.{◌≡◌, ◌≢◌, ◌⊎◌, ℕ, List, Option, Some}
-use Rattle.q_logic.specs.Literals.{Literal}
-use Rattle.q_logic.specs.Limits.{standard}
-use Rattle.q_logic.specs.Formulas.{PrenexFormula}
-use Rattle.q_logic.specs.Certificates.{CertificateView, trees_of}
-use Rattle.q_logic.specs.Skolems.{SkolemOf}
+use Rattle.q_logic.specs.Prelude.{Literal, standard, PrenexFormula, CertificateView, trees_of, SkolemOf}
 use Rattle.q_logic.specs.Branches.{claim_of, branches}
 use Rattle.q_io.specs.Files.{Disk, bytes_at}
 use Rattle.q_dimacs.specs.Offences.{Offence}
 use Rattle.q_aiger.specs.Circuits.{AreCircuits, Offence as CircuitsOffence}
 use Rattle.q_aiger.specs.Alike.{IsNoCircuits}
 use Rattle.q_search.specs.Budgets.{IsBelow}
-use Rattle.q_carry.specs.Refusals.{Fits}
+use Rattle.q_carry.specs.Prelude.{Fits}
 use Rattle.q_validate.specs.Answers.{IsAnswer}
 use Rattle.q_validate.specs.Refusals.{IsRefused}
 use Rattle.q_validate.specs.declared.validating.Answer.{Answer}

@@ -76,8 +76,9 @@ pub fn validate_files<F: Files>(
 ) -> Validated
     ensures validates { IfSome (F.held files.old) (λ disk.
         Validates result (files_of names.entry) budget disk (F.held files.new)) }
-    ensures read_fault { status_of_validated result ≡ status.ReadFault →
-        RoseAmong F.read_faults (names.entry.input.now ∷ names.entry.cert.now ∷ []) files.old files.new }
+    ensures read_fault { status_of_validated result ≡ status.ReadFault
+        → RoseAmong F.read_faults (names.entry.input.now ∷ names.entry.cert.now ∷ []) files.old
+        files.new }
     ensures write_fault { status_of_validated result ≢ status.WriteFault }
     ensures held { F.held files.new ≡ F.held files.old }
 {

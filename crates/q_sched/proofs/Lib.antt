@@ -1,3 +1,3 @@
-pub mod Targets
-pub mod Lists
-pub mod Turning
+pub mod RuleTargets
+pub mod ReversedLists
+pub mod TurnParts

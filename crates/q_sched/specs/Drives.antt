@@ -1,16 +1,13 @@
 -- What a drive is seen as.
 use Rattle.std.specs.Prelude.{ℕ, Bool, true, false, List, [], ◌∷◌, Option, Some, None, length, ◌≡◌, ◌≢◌, ◌≤◌, ◌<◌, ◌+◌, ◌-◌, ◌*◌, cond, ◌⊎◌}
 use Rattle.q_logic.specs.declared.rule_bounds.Bounds.{Bounds}
-use Rattle.q_logic.specs.Measure.{measure_of}
-use Rattle.q_logic.specs.Targets.{Target}
-use Rattle.q_kernel.specs.Kernels.{Seen, SameView, formula_in}
-use Rattle.q_kernel.specs.Taking.{IsTaken, Applies}
+use Rattle.q_logic.specs.Prelude.{measure_of, Target, Rose}
+use Rattle.q_kernel.specs.Prelude.{Seen, SameView, formula_in, IsTaken, Applies}
 use Rattle.q_sched.specs.Moves.{target_of}
 use Rattle.q_sched.specs.declared.turns.Turn.{Turn}
 use Rattle.q_sched.specs.declared.turns.Turn.TheVariants as turn
 use Rattle.q_sched.specs.declared.guide.Proposal.{Proposal}
 use Rattle.q_sched.specs.declared.guide.Proposal.TheVariants.{Take, Done, NoMemory}
-use Rattle.q_logic.specs.Counts.{Rose}
 use Rattle.q_sched.specs.Searching.{IsOfFirst}
 use Rattle.q_sched.specs.Settled.{IsDone}
 

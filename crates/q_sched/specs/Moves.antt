@@ -1,7 +1,7 @@
 -- The targets of all rules, as targets of the theory.
 use Rattle.std.specs.Prelude.{◌≡◌, ℕ}
 use Rattle.q_logic.specs.Targets as theory
-use Rattle.q_logic.specs.Targets.{tautology, unit, cut, pure, subsumed, strengthen, merge, blocked, blocked_forall, cover, eliminate, expand_universal}
+use Rattle.q_logic.specs.Prelude.{tautology, unit, cut, pure, subsumed, strengthen, merge, blocked, blocked_forall, cover, eliminate, expand_universal}
 use Rattle.q_reduce.specs.Targets as plain
 use Rattle.q_subsume.specs.Targets as subsume
 use Rattle.q_equiv.specs.Targets as equiv

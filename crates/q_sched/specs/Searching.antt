@@ -1,9 +1,8 @@
 -- What a search of all rules answers.
 use Rattle.std.specs.Prelude.{◌≡◌, ◌≤◌, ◌<◌, ℕ, Option, Some, None}
 use Rattle.q_logic.specs.declared.rule_bounds.Bounds.{Bounds}
-use Rattle.q_logic.specs.Targets.{Target, place}
-use Rattle.q_kernel.specs.Kernels.{Seen}
-use Rattle.q_kernel.specs.Taking.{Applies}
+use Rattle.q_logic.specs.Prelude.{Target, place}
+use Rattle.q_kernel.specs.Prelude.{Seen, Applies}
 use Rattle.q_sched.specs.declared.moves.Rule.{Rule}
 use Rattle.q_sched.specs.declared.moves.Move.{Move}
 use Rattle.q_sched.specs.Moves.{target_of, rank_of, IsOf}

@@ -1,11 +1,8 @@
 -- Settled, over a kernel and over a formula.
 use Rattle.q_logic.specs.declared.rule_bounds.Bounds.{Bounds}
-use Rattle.q_logic.specs.Formulas.{Prefix, PrenexFormula}
-use Rattle.q_logic.specs.Numbered.{Slots, numbered}
-use Rattle.q_logic.specs.Targets.{Target}
-use Rattle.q_logic.specs.Rules.{Applicable}
+use Rattle.q_logic.specs.Prelude.{Prefix, PrenexFormula, Slots, numbered, Target, Applicable}
 use Rattle.q_logic.specs.Settled.{Settled}
-use Rattle.q_kernel.specs.Kernels.{Seen, slots}
+use Rattle.q_kernel.specs.Prelude.{Seen, slots}
 
 -- no target applies
 abbrev pub NoneApplies : Bounds → Prefix → Slots → Type 0

@@ -1,12 +1,11 @@
 //! One guide is asked.
 ghost use Rattle.std.specs.Prelude.{◌≡◌, ◌<◌, IfOk, OnErr, vec_len, reverse};
-ghost use Rattle.q_kernel.specs.Kernels.{SameView};
-ghost use Rattle.q_kernel.specs.Taking.{IsReady};
-ghost use Rattle.q_reduce.specs.Lent.{IsFitFor};
-ghost use Rattle.q_logic.specs.Counts.{Rose};
+ghost use Rattle.q_kernel.specs.Prelude.{SameView, IsReady};
+ghost use Rattle.q_reduce.specs.Learned.{IsFitFor};
+ghost use Rattle.q_logic.specs.Prelude.{Rose};
 ghost use Rattle.q_sched.specs.Drives.{AsksOne};
 ghost use Rattle.q_sched.specs.Moves.{target_of};
-ghost use Rattle.q_sched.specs.Outcomes.{Outcomes, Tried};
+ghost use Rattle.q_sched.specs.Replies.{Replies, Tried};
 ghost use Rattle.q_sched.specs.Meanings.{meanings};
 
 use crate::guide::{Guide, Proposal};
@@ -17,7 +16,7 @@ use q_logic::{Bounds, NoMemory};
 
 // What came of asking a guide.
 #[derive(Clone, Copy)]
-pub(crate) enum Outcome {
+pub(crate) enum Reply {
     Over,
     Taken,
     Refused,
@@ -29,16 +28,17 @@ fn follow(
     kernel: &mut Kernel,
     searches: &mut Searches,
     bounds: &Bounds,
-) -> Result<Outcome, NoMemory>
+) -> Result<Reply, NoMemory>
     requires ready { IsReady kernel.old }
     requires fit { IsFitFor kernel.old searches.old }
-    ensures outcome { IfOk result (λ outcome. Tried (target_of target.now) bounds.now kernel.old outcome kernel.new) }
+    ensures reply { IfOk result (λ reply.
+        Tried (target_of target.now) bounds.now kernel.old reply kernel.new) }
     ensures err { OnErr result (SameView kernel.old kernel.new) }
     ensures fit { IsFitFor kernel.new searches.new }
 {
     match searches.take(kernel, target, bounds)? {
-        Taken::Yes => Ok(Outcome::Taken),
-        Taken::No => Ok(Outcome::Refused),
+        Taken::Yes => Ok(Reply::Taken),
+        Taken::No => Ok(Reply::Refused),
     }
 }
 
@@ -48,21 +48,22 @@ fn consult(
     kernel: &mut Kernel,
     searches: &mut Searches,
     bounds: &Bounds,
-) -> Result<Outcome, NoMemory>
+) -> Result<Reply, NoMemory>
     requires ready { IsReady kernel.old }
     requires fit { IsFitFor kernel.old searches.old }
     ensures rises { Rose (asked guide.old) (asked guide.new) }
-    ensures outcome { IfOk result (λ outcome. Outcomes (last guide.new) (heard guide.new) bounds.now kernel.old outcome kernel.new) }
+    ensures reply { IfOk result (λ reply.
+        Replies (last guide.new) (heard guide.new) bounds.now kernel.old reply kernel.new) }
     ensures err { OnErr result (SameView kernel.old kernel.new) }
     ensures fit { IsFitFor kernel.new searches.new }
 {
     match guide.propose(kernel) {
-        Proposal::Done => Ok(Outcome::Over),
+        Proposal::Done => Ok(Reply::Over),
         Proposal::NoMemory => Err(NoMemory),
         Proposal::Take(target) => {
-            let outcome = follow(&target, kernel, searches, bounds)?;
-            guide.told(matches!(outcome, Outcome::Taken));
-            Ok(outcome)
+            let reply = follow(&target, kernel, searches, bounds)?;
+            guide.told(matches!(reply, Reply::Taken));
+            Ok(reply)
         }
     }
 }
@@ -73,17 +74,23 @@ pub(crate) fn ask_last(
     kernel: &mut Kernel,
     searches: &mut Searches,
     bounds: &Bounds,
-) -> Result<Outcome, NoMemory>
+) -> Result<Reply, NoMemory>
     requires some { 0 < vec_len waiting.old }
     requires ready { IsReady kernel.old }
     requires fit { IsFitFor kernel.old searches.old }
-    ensures asks { IfOk result (λ outcome. AsksOne (meanings (λ b. asked b) (λ b. last b) (λ b. heard b) (reverse waiting.old.items)) (meanings (λ b. asked b) (λ b. last b) (λ b. heard b) (reverse waiting.new.items)) (λ then. Outcomes then.last then.heard bounds.now kernel.old outcome kernel.new)) }
+    ensures asks { IfOk result (λ reply.
+        AsksOne (meanings (λ b. asked b) (λ b. last b) (λ b. heard b) (reverse waiting.old.items))
+        (meanings (λ b. asked b) (λ b. last b) (λ b. heard b) (reverse waiting.new.items)) (λ then.
+        Replies then.last then.heard bounds.now kernel.old reply kernel.new)) }
     ensures err { OnErr result (SameView kernel.old kernel.new) }
-    ensures err_list { OnErr result (AsksOne (meanings (λ b. asked b) (λ b. last b) (λ b. heard b) (reverse waiting.old.items)) (meanings (λ b. asked b) (λ b. last b) (λ b. heard b) (reverse waiting.new.items)) (λ then. Unit {0})) }
+    ensures err_list { OnErr result
+        (AsksOne (meanings (λ b. asked b) (λ b. last b) (λ b. heard b) (reverse waiting.old.items))
+        (meanings (λ b. asked b) (λ b. last b) (λ b. heard b) (reverse waiting.new.items)) (λ then.
+        Unit {0})) }
     ensures len { vec_len waiting.new ≡ vec_len waiting.old }
     ensures fit { IsFitFor kernel.new searches.new }
 {
     let last_place = waiting.len() - 1;
-    let outcome = consult(&mut waiting[last_place], kernel, searches, bounds)?;
-    Ok(outcome)
+    let reply = consult(&mut waiting[last_place], kernel, searches, bounds)?;
+    Ok(reply)
 }

@@ -5,10 +5,10 @@
 //! in their order. Each turn but the last lowers the formula's measure, or what `left` says, so turns come to an end whatever
 //! the guides do.
 ghost use Rattle.std.specs.Prelude.{◌≡◌, ◌≢◌, ◌≤◌, ◌<◌, ◌^◌, [], take, IfOk, OnErr, vec_len, IsTrue, ◌↔◌, false};
-ghost use Rattle.q_kernel.specs.Taking.{IsReady};
-ghost use Rattle.q_reduce.specs.Lent.{IsFitFor, nothing_learned};
+ghost use Rattle.q_kernel.specs.Prelude.{IsReady};
+ghost use Rattle.q_reduce.specs.Learned.{IsFitFor, nothing_learned};
 
-use crate::asking::{Outcome, ask_last};
+use crate::asking::{Reply, ask_last};
 use crate::guide::Guide;
 use crate::searches::Searches;
 use crate::searching::{close, search};
@@ -39,7 +39,7 @@ pub struct Drive {
 impl Drive {
     ghost use Rattle.q_sched.specs.Drives.{Driving, left_of, IsSpentAt, IsFinished, Drops, AsksFirst, Turned, Stays};
     ghost use Rattle.q_sched.specs.Meanings.{meanings};
-    ghost use Rattle.q_sched.specs.Seen.{seen, lent};
+    ghost use Rattle.q_sched.specs.Seen.{seen, learned};
 
     /// Begins with these guides, the first of them asked first; those past `MOST_GUIDES` are dropped unasked. It takes no memory.
     pub fn start(
@@ -49,8 +49,17 @@ impl Drive {
         first_measure: u64,
     ) -> Drive
         requires first { first_measure ≤ 2 ^ 60 }
-        ensures seen { seen (λ b. asked b) (λ b. last b) (λ b. heard b) result ≡ record { bounds = bounds; budget = budget; first_measure = first_measure; guides = meanings (λ b. asked b) (λ b. last b) (λ b. heard b) (take 1000000 guides.items); refused = 0; over = false } }
-        ensures lent { lent result ≡ nothing_learned }
+        ensures seen { seen (λ b. asked b) (λ b. last b) (λ b.
+            heard b) result ≡ record {
+              bounds = bounds;
+              budget = budget;
+              first_measure = first_measure;
+              guides = meanings (λ b. asked b) (λ b. last b) (λ b.
+                  heard b) (take 1000000 guides.items);
+              refused = 0;
+              over = false;
+            } }
+        ensures learned { learned result ≡ nothing_learned }
     {
         let searches = Searches::new(*guides.allocator());
         let mut waiting = guides;
@@ -84,7 +93,9 @@ impl Drive {
     }
 
     fn is_spent(&self, measure: u64) -> bool
-        ensures { IsTrue result ↔ IsSpentAt (seen (λ b. asked b) (λ b. last b) (λ b. heard b) self.now).budget (seen (λ b. asked b) (λ b. last b) (λ b. heard b) self.now).first_measure measure }
+        ensures { IsTrue result ↔ IsSpentAt
+            (seen (λ b. asked b) (λ b. last b) (λ b. heard b) self.now).budget
+            (seen (λ b. asked b) (λ b. last b) (λ b. heard b) self.now).first_measure measure }
     {
         match self.limit {
             None => false,
@@ -94,9 +105,12 @@ impl Drive {
 
     fn drop_first(&mut self)
         requires some { (seen (λ b. asked b) (λ b. last b) (λ b. heard b) self.old).guides ≢ [] }
-        ensures drops { Drops (seen (λ b. asked b) (λ b. last b) (λ b. heard b) self.old) (seen (λ b. asked b) (λ b. last b) (λ b. heard b) self.new) }
-        ensures left { IsFinished (seen (λ b. asked b) (λ b. last b) (λ b. heard b) self.old) → left_of (seen (λ b. asked b) (λ b. last b) (λ b. heard b) self.new) < left_of (seen (λ b. asked b) (λ b. last b) (λ b. heard b) self.old) }
-        ensures lent { lent self.new ≡ lent self.old }
+        ensures drops { Drops (seen (λ b. asked b) (λ b. last b) (λ b. heard b) self.old)
+            (seen (λ b. asked b) (λ b. last b) (λ b. heard b) self.new) }
+        ensures left { IsFinished (seen (λ b. asked b) (λ b. last b) (λ b. heard b) self.old)
+            → left_of (seen (λ b. asked b) (λ b. last b) (λ b. heard b) self.new)
+            < left_of (seen (λ b. asked b) (λ b. last b) (λ b. heard b) self.old) }
+        ensures learned { learned self.new ≡ learned self.old }
     {
         self.waiting.pop();
         self.refusals = 0;
@@ -105,21 +119,26 @@ impl Drive {
 
     fn ask_first(&mut self, kernel: &mut Kernel) -> Result<Turn, NoMemory>
         requires some { (seen (λ b. asked b) (λ b. last b) (λ b. heard b) self.old).guides ≢ [] }
-        requires unfinished { ¬ IsFinished (seen (λ b. asked b) (λ b. last b) (λ b. heard b) self.old) }
+        requires unfinished { ¬ IsFinished
+            (seen (λ b. asked b) (λ b. last b) (λ b. heard b) self.old) }
         requires ready { IsReady kernel.old }
-        requires fit { IsFitFor kernel.old (lent self.old) }
-        ensures asks { IfOk result (λ turn. AsksFirst (seen (λ b. asked b) (λ b. last b) (λ b. heard b) self.old) kernel.old turn (seen (λ b. asked b) (λ b. last b) (λ b. heard b) self.new) kernel.new) }
-        ensures err { OnErr result (Stays (seen (λ b. asked b) (λ b. last b) (λ b. heard b) self.old) kernel.old (seen (λ b. asked b) (λ b. last b) (λ b. heard b) self.new) kernel.new) }
+        requires fit { IsFitFor kernel.old (learned self.old) }
+        ensures asks { IfOk result (λ turn.
+            AsksFirst (seen (λ b. asked b) (λ b. last b) (λ b. heard b) self.old) kernel.old turn
+            (seen (λ b. asked b) (λ b. last b) (λ b. heard b) self.new) kernel.new) }
+        ensures err { OnErr result
+            (Stays (seen (λ b. asked b) (λ b. last b) (λ b. heard b) self.old) kernel.old
+            (seen (λ b. asked b) (λ b. last b) (λ b. heard b) self.new) kernel.new) }
         ensures ready { IsReady kernel.new }
-        ensures fit { IsFitFor kernel.new (lent self.new) }
+        ensures fit { IsFitFor kernel.new (learned self.new) }
     {
         match ask_last(&mut self.waiting, kernel, &mut self.searches, &self.bounds)? {
-            Outcome::Over => {
+            Reply::Over => {
                 self.is_over = true;
                 Ok(Turn::Asked)
             }
-            Outcome::Taken => Ok(Turn::Moved),
-            Outcome::Refused => {
+            Reply::Taken => Ok(Turn::Moved),
+            Reply::Refused => {
                 self.refusals += 1;
                 Ok(Turn::Asked)
             }
@@ -130,10 +149,14 @@ impl Drive {
     /// forgotten.
     pub fn turn(&mut self, kernel: &mut Kernel) -> Result<Turn, NoMemory>
         requires ready { IsReady kernel.old }
-        ensures turned { IfOk result (λ turn. Turned (seen (λ b. asked b) (λ b. last b) (λ b. heard b) self.old) kernel.old turn (seen (λ b. asked b) (λ b. last b) (λ b. heard b) self.new) kernel.new) }
-        ensures err { OnErr result (Stays (seen (λ b. asked b) (λ b. last b) (λ b. heard b) self.old) kernel.old (seen (λ b. asked b) (λ b. last b) (λ b. heard b) self.new) kernel.new) }
+        ensures turned { IfOk result (λ turn.
+            Turned (seen (λ b. asked b) (λ b. last b) (λ b. heard b) self.old) kernel.old turn
+            (seen (λ b. asked b) (λ b. last b) (λ b. heard b) self.new) kernel.new) }
+        ensures err { OnErr result
+            (Stays (seen (λ b. asked b) (λ b. last b) (λ b. heard b) self.old) kernel.old
+            (seen (λ b. asked b) (λ b. last b) (λ b. heard b) self.new) kernel.new) }
         ensures ready { IsReady kernel.new }
-        ensures fit { IsFitFor kernel.new (lent self.new) }
+        ensures fit { IsFitFor kernel.new (learned self.new) }
     {
         self.searches.forget();
         self.next_turn(kernel)
@@ -143,11 +166,15 @@ impl Drive {
     /// forgotten.
     pub fn next_turn(&mut self, kernel: &mut Kernel) -> Result<Turn, NoMemory>
         requires ready { IsReady kernel.old }
-        requires fit { IsFitFor kernel.old (lent self.old) }
-        ensures turned { IfOk result (λ turn. Turned (seen (λ b. asked b) (λ b. last b) (λ b. heard b) self.old) kernel.old turn (seen (λ b. asked b) (λ b. last b) (λ b. heard b) self.new) kernel.new) }
-        ensures err { OnErr result (Stays (seen (λ b. asked b) (λ b. last b) (λ b. heard b) self.old) kernel.old (seen (λ b. asked b) (λ b. last b) (λ b. heard b) self.new) kernel.new) }
+        requires fit { IsFitFor kernel.old (learned self.old) }
+        ensures turned { IfOk result (λ turn.
+            Turned (seen (λ b. asked b) (λ b. last b) (λ b. heard b) self.old) kernel.old turn
+            (seen (λ b. asked b) (λ b. last b) (λ b. heard b) self.new) kernel.new) }
+        ensures err { OnErr result
+            (Stays (seen (λ b. asked b) (λ b. last b) (λ b. heard b) self.old) kernel.old
+            (seen (λ b. asked b) (λ b. last b) (λ b. heard b) self.new) kernel.new) }
         ensures ready { IsReady kernel.new }
-        ensures fit { IsFitFor kernel.new (lent self.new) }
+        ensures fit { IsFitFor kernel.new (learned self.new) }
     {
         if self.is_spent(kernel.measure(&self.bounds)) {
             return close(kernel, &mut self.searches, &self.bounds);

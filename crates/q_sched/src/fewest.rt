@@ -9,10 +9,10 @@
 //!
 //! **How it is found.** By a heap of pairs of number of occurrences and variable (`rounds.rt`).
 ghost use Rattle.std.specs.Prelude.{◌≡◌};
-ghost use Rattle.q_kernel.specs.Taking.{IsReady};
+ghost use Rattle.q_kernel.specs.Prelude.{IsReady};
 ghost use Rattle.q_sched.specs.Kinds.{IsElimination};
 ghost use Rattle.q_sched.specs.declared.guide.Proposal.TheVariants.{Done};
-ghost use Rattle.q_logic.specs.Counts.{Rose};
+ghost use Rattle.q_logic.specs.Prelude.{Rose};
 
 use crate::ascending::{Ascending, Key};
 use crate::guide::{Guide, Proposal};

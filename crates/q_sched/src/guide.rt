@@ -3,8 +3,8 @@
 //! A guide says which target is tried next. A drive tests each proposal before it takes it, so nothing rests on what a guide
 //! says: it may propose what it likes, and how fast the formula shrinks is all that depends on it.
 ghost use Rattle.std.specs.Prelude.{◌≡◌, ℕ, Bool};
-ghost use Rattle.q_kernel.specs.Taking.{IsReady};
-ghost use Rattle.q_logic.specs.Counts.{Rose};
+ghost use Rattle.q_kernel.specs.Prelude.{IsReady};
+ghost use Rattle.q_logic.specs.Prelude.{Rose};
 ghost use Rattle.q_sched.specs.declared.guide.Proposal.{Proposal};
 
 use crate::moves::Move;

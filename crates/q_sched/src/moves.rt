@@ -1,6 +1,6 @@
 //! The rules, and what any of them is applied to.
 ghost use Rattle.std.specs.Prelude.{◌≡◌, ◌<◌};
-ghost use Rattle.q_logic.specs.Targets.{place};
+ghost use Rattle.q_logic.specs.Prelude.{place};
 ghost use Rattle.q_sched.specs.Moves.{target_of, rank, rank_of, rules};
 
 /// The crates of rules, in the order in which they are searched.

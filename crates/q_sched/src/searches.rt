@@ -1,8 +1,7 @@
-//! The searches of all rules, lent from turn to turn.
+//! The searches of all rules, kept from turn to turn.
 ghost use Rattle.std.specs.Prelude.{◌≡◌, ◌↔◌, IfOk, OnErr, IsTrue};
-ghost use Rattle.q_kernel.specs.Kernels.{SameView};
-ghost use Rattle.q_kernel.specs.Taking.{IsReady, Applies};
-ghost use Rattle.q_reduce.specs.Lent.{nothing_learned, IsFitFor};
+ghost use Rattle.q_kernel.specs.Prelude.{SameView, IsReady, Applies};
+ghost use Rattle.q_reduce.specs.Learned.{nothing_learned, IsFitFor};
 ghost use Rattle.q_rule.specs.Searching.{Tries};
 ghost use Rattle.q_sched.specs.Moves.{target_of};
 ghost use Rattle.q_sched.specs.Searching.{FindsOf, FindsAny};
@@ -27,7 +26,7 @@ pub struct Searches {
 }
 
 impl Model for Searches {
-    ghost use Rattle.q_reduce.specs.Lent.{Learned};
+    ghost use Rattle.q_reduce.specs.Learned.{Learned};
 
     ghost Value = { Learned };
 
@@ -65,7 +64,8 @@ impl Searches {
     ) -> Result<bool, NoMemory>
         requires ready { IsReady kernel.now }
         requires fit { IsFitFor kernel.now self.old }
-        ensures yes { IfOk result (λ yes. IsTrue yes ↔ Applies bounds.now kernel.now (target_of target.now)) }
+        ensures yes { IfOk result (λ yes.
+            IsTrue yes ↔ Applies bounds.now kernel.now (target_of target.now)) }
         ensures fit { IsFitFor kernel.now self.new }
     {
         match target {
@@ -87,7 +87,8 @@ impl Searches {
     ) -> Result<Taken, NoMemory>
         requires ready { IsReady kernel.old }
         requires fit { IsFitFor kernel.old self.old }
-        ensures tries { IfOk result (Tries bounds.now kernel.old kernel.new (target_of target.now)) }
+        ensures tries { IfOk result
+            (Tries bounds.now kernel.old kernel.new (target_of target.now)) }
         ensures err { OnErr result (SameView kernel.old kernel.new) }
         ensures fit { IsFitFor kernel.new self.new }
     {

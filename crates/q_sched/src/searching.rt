@@ -1,8 +1,7 @@
 //! The rules are searched in their order.
 ghost use Rattle.std.specs.Prelude.{◌≡◌, IfOk, OnErr};
-ghost use Rattle.q_kernel.specs.Kernels.{SameView};
-ghost use Rattle.q_kernel.specs.Taking.{IsReady};
-ghost use Rattle.q_reduce.specs.Lent.{IsFitFor};
+ghost use Rattle.q_kernel.specs.Prelude.{SameView, IsReady};
+ghost use Rattle.q_reduce.specs.Learned.{IsFitFor};
 ghost use Rattle.q_sched.specs.Drives.{Searched, Closes};
 
 use crate::searches::Searches;

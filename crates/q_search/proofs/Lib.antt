@@ -1,4 +1,4 @@
 pub mod PathLemmas
-pub mod Budgeting
-pub mod Seating
-pub mod Turning
+pub mod BudgetedSearch
+pub mod PathValues
+pub mod NodeSteps

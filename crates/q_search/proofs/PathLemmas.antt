@@ -1,12 +1,10 @@
--- Paths that grow, turn and shrink.
+-- Paths that grow, backtrack and shrink.
 use Rattle.std.proofs.Common.{◌≡◌, ℕ, ◌+◌, ◌<◌, Bool, true, false, cond, List, [], ◌∷◌, ◌++◌, length, refl, sym, ap, ◌∙◌, arith}
 use Rattle.q_logic.specs.declared.formulas.Quant.{Quant}
 use Rattle.q_logic.specs.declared.formulas.Bound.{Bound}
-use Rattle.q_logic.specs.Formulas.{Prefix}
-use Rattle.q_logic.specs.Truth.{Assignment, with_value}
+use Rattle.q_logic.specs.Prelude.{Prefix, Assignment, with_value, Test, Node, Tally, explored, goes_on, one_more, plus, then_second, by_verdict, leaf}
 use Rattle.q_logic.specs.declared.verdict.Verdict.{Verdict}
 use Rattle.q_logic.specs.declared.verdict.Verdict.TheVariants.{Lost, Won, Open}
-use Rattle.q_logic.specs.Searching.{Test, Node, Tally, explored, goes_on, one_more, plus, then_second, by_verdict, leaf}
 use Rattle.q_search.specs.Paths.{along, rest_of, whole, outlook, said, node_at}
 
 plus-plus : (m n : ℕ) (t : Tally) → plus m (plus n t) ≡ plus (m + n) t

@@ -1,6 +1,6 @@
 -- Budgets of decisions.
 use Rattle.std.specs.Prelude.{◌≡◌, ◌<◌, ℕ, zero, suc, ◌+◌, Bool, true, false, Option, Some, None}
-use Rattle.q_logic.specs.Searching.{Tally}
+use Rattle.q_logic.specs.Prelude.{Tally}
 
 -- a budget is given and is below the number
 abbrev pub IsBelow : Option ℕ → ℕ → Type 0

@@ -1,4 +1,4 @@
 pub mod Paths
 pub mod Budgets
 pub mod Walks
-pub mod Seats
+pub mod PlaceTables

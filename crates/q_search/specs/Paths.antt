@@ -1,9 +1,7 @@
 -- A node as the path to it: the values of the first variables, in their order.
 use Rattle.std.specs.Prelude.{ℕ, ◌+◌, Bool, true, false, List, [], ◌∷◌}
-use Rattle.q_logic.specs.Formulas.{Prefix}
-use Rattle.q_logic.specs.Truth.{Assignment, with_value}
+use Rattle.q_logic.specs.Prelude.{Prefix, Assignment, with_value, Test, Node, Tally, explored, then_second}
 use Rattle.q_logic.specs.declared.verdict.Verdict.{Verdict}
-use Rattle.q_logic.specs.Searching.{Test, Node, Tally, explored, then_second}
 
 -- the values along a path
 abbrev pub along : Prefix → List Bool → Assignment → Assignment

@@ -2,11 +2,10 @@
 use Rattle.std.specs.Prelude.{◌≡◌, ◌<◌, ◌++◌, ℕ, Bool, true, false, List, [], ◌∷◌, length, Option}
 use Rattle.q_logic.specs.declared.formulas.Quant.{Quant}
 use Rattle.q_logic.specs.declared.formulas.Quant.TheVariants.{Forall}
-use Rattle.q_logic.specs.Formulas.{Prefix}
+use Rattle.q_logic.specs.Prelude.{Prefix, Test, Node, Tally, explored, leaf, nothing}
 use Rattle.q_logic.specs.declared.verdict.Verdict.{Verdict}
 use Rattle.q_search.specs.declared.walking.Ending.{Ending}
 use Rattle.q_search.specs.declared.walking.Ending.TheVariants.{AllWon, AllLost, Unknown}
-use Rattle.q_logic.specs.Searching.{Test, Node, Tally, explored, leaf, nothing}
 use Rattle.q_search.specs.Paths.{rest_of, whole, zeros, outlook, said, node_at}
 use Rattle.q_search.specs.Budgets.{IsBelow}
 

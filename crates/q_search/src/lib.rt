@@ -4,9 +4,9 @@
 #![tactic(auto)]
 
 mod budget;
-mod seats;
+mod place_table;
 mod walking;
 
 pub use budget::pay;
-pub use seats::Seats;
+pub use place_table::PlaceTable;
 pub use walking::{Ending, Position, decide, find_lost};

@@ -1,7 +1,7 @@
 //! Searches that keep their path in a row. Of a node's data structure they know the three calls of `Position` alone.
 ghost use Rattle.std.specs.Prelude.{◌≡◌, ◌&&◌, ◌++◌, ◌∷◌, [], not, IfOk, OnOk, MatchOption};
 ghost use Rattle.q_logic.specs.declared.verdict.Verdict.TheVariants.{Open};
-ghost use Rattle.q_logic.specs.Searching.{goes_on};
+ghost use Rattle.q_logic.specs.Prelude.{goes_on};
 ghost use Rattle.q_search.specs.Walks.{Walk, moved, said_here, IsInner, IsLast, IsTurned, IsEnding, IsLostAt, AreUniversal};
 
 use crate::budget::pay;
@@ -58,7 +58,7 @@ fn has_second(quant: Quant, value: bool, won: bool) -> bool
 }
 
 // From a node that is won or not, to the next node that has to be looked at.
-fn turn<N: Position>(node: &mut N, won: bool) -> Result<bool, NoMemory>
+fn backtrack<N: Position>(node: &mut N, won: bool) -> Result<bool, NoMemory>
     ensures turned { IfOk result (λ more. IsTurned (N.seen node.old) (N.seen node.new) won more) }
     ensures kept { N.Keeps node.old node.new }
 {
@@ -87,12 +87,12 @@ pub fn decide<N: Position>(node: &mut N, budget: Option<u64>) -> Result<Ending, 
                 node.down(false)?;
             }
             Verdict::Won => {
-                if !turn(node, true)? {
+                if !backtrack(node, true)? {
                     return Ok(Ending::AllWon);
                 }
             }
             Verdict::Lost => {
-                if !turn(node, false)? {
+                if !backtrack(node, false)? {
                     return Ok(Ending::AllLost);
                 }
             }
@@ -117,7 +117,7 @@ pub fn find_lost<N: Position>(node: &mut N, budget: Option<u64>) -> Result<Endin
                 node.down(false)?;
             }
             Verdict::Won => {
-                if !turn(node, true)? {
+                if !backtrack(node, true)? {
                     return Ok(Ending::AllWon);
                 }
             }

@@ -1,8 +1,8 @@
-pub mod Logging
-pub mod Turned
-pub mod Renumbering
-pub mod Ends
-pub mod Reducing
-pub mod Finishing
-pub mod Measuring
+pub mod LogFile
+pub mod TurnEffects
+pub mod NumberIndependence
+pub mod StopReasons
+pub mod KernelWork
+pub mod BothFiles
+pub mod DriveMeasure
 pub mod Putting

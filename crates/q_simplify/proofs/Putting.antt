@@ -1,13 +1,12 @@
 -- A text that goes into its file in pieces.
 use Rattle.std.proofs.Common.{◌≡◌, ◌≤◌, ◌<◌, ◌+◌, inl, inr, ℕ, zero, suc, List, [], ◌∷◌, ◌++◌, length, take, drop, slice_get, refl, sym, ap, ◌∙◌, subst, arith, append_assoc, append-nil, Option, Some, None, unwrap_or, IfSome, Result, Ok, Err, OnOk}
-use Rattle.q_logic.specs.Formulas.{Clause, Matrix, PrenexFormula}
-use Rattle.q_logic.specs.Prefixes.{blocks}
+use Rattle.q_logic.specs.Prelude.{Clause, Matrix, PrenexFormula, blocks}
 use Rattle.q_io.specs.Files.{Disk, bytes_at, Appends, AppendsPart, Empties, HoldsBytes, MayHoldFront}
-use Rattle.q_io.proofs.Disks.{at_some, others-through}
+use Rattle.q_io.proofs.StoreContents.{at_some, others-through}
 use Rattle.q_dimacs.specs.Writing.{blocks_text, clause_text, formula_text, front_text, greatest_bound, header_text, matrix_text}
 use Rattle.q_simplify.specs.Outputs.{HoldsSome}
-use Rattle.q_dimacs.proofs.Writing.{matrix-next}
-use Rattle.q_simplify.proofs.Logging.{take-front, take-front_more}
+use Rattle.q_dimacs.proofs.UnwrittenLists.{matrix-next}
+use Rattle.q_simplify.proofs.LogFile.{take-front, take-front_more}
 
 -- the file is empty, and all is pending
 pub holds-none : (name text : List ℕ) (before : Disk) (after : Option Disk) → Empties name before after → HoldsSome name text text before after

@@ -2,15 +2,12 @@
 use Rattle.std.specs.Prelude.{◌≡◌, ◌⊎◌, ℕ, List, ◌++◌, take, Option, Some, Result, OnOk, OnErr, IsErrOf}
 use Rattle.std.specs.List.{AllByRecursion}
 use Rattle.std.specs.FinMap as map
-use Rattle.q_logic.specs.Formulas.{PrenexFormula}
-use Rattle.q_logic.specs.Limits.{standard}
-use Rattle.q_logic.specs.Steps.{ProofStep}
-use Rattle.q_logic.specs.Runs.{ValidSteps, AreAlike}
+use Rattle.q_logic.specs.Prelude.{PrenexFormula, standard, ProofStep, ValidSteps, AreAlike}
 use Rattle.q_io.specs.Files.{Disk, Later, OthersStay, RoseFor, bytes_at}
 use Rattle.q_io.specs.declared.error.DeviceError.{DeviceError}
 use Rattle.q_io.specs.declared.error.DeviceError.TheVariants.{Failed}
 use Rattle.q_log.specs.Texts.{IsLogged, steps_text}
-use Rattle.q_kernel.specs.Kernels.{Seen, formula_in}
+use Rattle.q_kernel.specs.Prelude.{Seen, formula_in}
 
 -- valid steps lead from F to the kernel's formula; the file holds the text of the first of them, and that of the rest is
 -- pending

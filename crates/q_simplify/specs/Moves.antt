@@ -1,12 +1,7 @@
 -- Targets taken one after the other.
 use Rattle.std.specs.Prelude.{◌≡◌, ℕ, List, [], ◌∷◌, Option}
 use Rattle.q_logic.specs.declared.rule_bounds.Bounds.{Bounds}
-use Rattle.q_logic.specs.Formulas.{PrenexFormula}
-use Rattle.q_logic.specs.Numbered.{Slots, live, formula_of}
-use Rattle.q_logic.specs.Targets.{Target}
-use Rattle.q_logic.specs.Rules.{Applicable, result_of}
-use Rattle.q_logic.specs.Runs.{AreAlike}
-use Rattle.q_logic.specs.Measure.{measure_of}
+use Rattle.q_logic.specs.Prelude.{PrenexFormula, Slots, live, formula_of, Target, Applicable, result_of, AreAlike, measure_of}
 use Rattle.q_sched.specs.Drives.{IsSpentAt}
 
 -- a target applies to F, its clauses numbered in some way, and G is the result up to the order of clauses

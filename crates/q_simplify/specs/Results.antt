@@ -2,13 +2,7 @@
 use Rattle.std.specs.Prelude.{◌≡◌, ◌≢◌, ◌⊎◌, ◌↔◌, ◌≤◌, ℕ, List, [], ◌∷◌, take, Option, Some, None}
 use Rattle.std.specs.List.{AllByRecursion}
 use Rattle.std.specs.FinMap as map
-use Rattle.q_logic.specs.Formulas.{Matrix, PrenexFormula}
-use Rattle.q_logic.specs.Limits.{standard}
-use Rattle.q_logic.specs.Measure.{measure_of}
-use Rattle.q_logic.specs.Steps.{ProofStep}
-use Rattle.q_logic.specs.Sweep.{IsSwept, falsity, swept as sweep_of}
-use Rattle.q_logic.specs.Runs.{Run}
-use Rattle.q_logic.specs.Truth.{Holds}
+use Rattle.q_logic.specs.Prelude.{Matrix, PrenexFormula, standard, measure_of, ProofStep, IsSwept, falsity, swept as sweep_of, Run, Holds}
 use Rattle.q_io.specs.Files.{Disk, OthersStay, bytes_at}
 use Rattle.q_dimacs.specs.Dimacs.{Dimacs}
 use Rattle.q_dimacs.specs.Writing.{formula_text}

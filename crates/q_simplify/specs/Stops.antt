@@ -1,8 +1,8 @@
 -- What turns do, and why no further one comes.
 use Rattle.std.specs.Prelude.{ℕ, Option}
 use Rattle.q_logic.specs.declared.rule_bounds.Bounds.{Bounds}
-use Rattle.q_logic.specs.Measure.{measure_of}
-use Rattle.q_kernel.specs.Kernels.{Seen, formula_in}
+use Rattle.q_logic.specs.Prelude.{measure_of}
+use Rattle.q_kernel.specs.Prelude.{Seen, formula_in}
 use Rattle.q_sched.specs.Settled.{IsDone}
 use Rattle.q_sched.specs.Drives.{IsSpentAt}
 use Rattle.q_simplify.specs.Moves.{MovesTo}

@@ -1,8 +1,8 @@
 // Turns until there is no further one, and the log of each.
 ghost use Rattle.std.specs.Prelude.{◌≤◌, ◌^◌, IfOk};
-ghost use Rattle.q_kernel.specs.Taking.{IsReady};
-ghost use Rattle.q_reduce.specs.Lent.{IsFitFor};
-ghost use Rattle.q_sched.specs.Seen.{seen, lent};
+ghost use Rattle.q_kernel.specs.Prelude.{IsReady};
+ghost use Rattle.q_reduce.specs.Learned.{IsFitFor};
+ghost use Rattle.q_sched.specs.Seen.{seen, learned};
 ghost use Rattle.q_simplify.specs.Stops.{TurnsEnd};
 ghost use Rattle.q_simplify.specs.Logs.{LogGoesOn};
 
@@ -24,10 +24,21 @@ pub(crate) fn take_turns<F: Files>(
     drive: &mut Drive,
 ) -> Result<Stop, DeviceError>
     requires ready { IsReady kernel.old }
-    requires fit { IsFitFor kernel.old (lent drive.old) }
+    requires fit { IsFitFor kernel.old (learned drive.old) }
     ensures ready { IsReady kernel.new }
-    ensures stops { IfOk result (λ t. TurnsEnd t (seen (λ b. (⟦<dyn Guide as Guide>⟧ b.vtable).asked b.value) (λ b. (⟦<dyn Guide as Guide>⟧ b.vtable).last b.value) (λ b. (⟦<dyn Guide as Guide>⟧ b.vtable).heard b.value) drive.old).bounds (seen (λ b. (⟦<dyn Guide as Guide>⟧ b.vtable).asked b.value) (λ b. (⟦<dyn Guide as Guide>⟧ b.vtable).last b.value) (λ b. (⟦<dyn Guide as Guide>⟧ b.vtable).heard b.value) drive.old).budget (seen (λ b. (⟦<dyn Guide as Guide>⟧ b.vtable).asked b.value) (λ b. (⟦<dyn Guide as Guide>⟧ b.vtable).last b.value) (λ b. (⟦<dyn Guide as Guide>⟧ b.vtable).heard b.value) drive.old).first_measure kernel.old kernel.new) }
-    ensures goes_on { LogGoesOn F.held F.read_faults F.write_faults log.now result kernel.old kernel.new files.old files.new }
+    ensures stops { IfOk result (λ t.
+        TurnsEnd t (seen (λ b. (⟦<dyn Guide as Guide>⟧ b.vtable).asked b.value) (λ b.
+        (⟦<dyn Guide as Guide>⟧ b.vtable).last b.value) (λ b.
+        (⟦<dyn Guide as Guide>⟧ b.vtable).heard b.value) drive.old).bounds
+        (seen (λ b. (⟦<dyn Guide as Guide>⟧ b.vtable).asked b.value) (λ b.
+        (⟦<dyn Guide as Guide>⟧ b.vtable).last b.value) (λ b.
+        (⟦<dyn Guide as Guide>⟧ b.vtable).heard b.value) drive.old).budget
+        (seen (λ b. (⟦<dyn Guide as Guide>⟧ b.vtable).asked b.value) (λ b.
+        (⟦<dyn Guide as Guide>⟧ b.vtable).last b.value) (λ b.
+        (⟦<dyn Guide as Guide>⟧ b.vtable).heard b.value) drive.old).first_measure kernel.old
+        kernel.new) }
+    ensures goes_on { LogGoesOn F.held F.read_faults F.write_faults log.now result kernel.old
+        kernel.new files.old files.new }
 {
     loop {
         match drive.next_turn(kernel)? {
@@ -51,8 +62,10 @@ pub(crate) fn follow<F: Files>(
     requires ready { IsReady kernel.old }
     requires first { first ≤ 2 ^ 60 }
     ensures ready { IsReady kernel.new }
-    ensures stops { IfOk result (λ t. TurnsEnd t options.now.bounds options.now.budget first kernel.old kernel.new) }
-    ensures goes_on { LogGoesOn F.held F.read_faults F.write_faults log.now result kernel.old kernel.new files.old files.new }
+    ensures stops { IfOk result (λ t.
+        TurnsEnd t options.now.bounds options.now.budget first kernel.old kernel.new) }
+    ensures goes_on { LogGoesOn F.held F.read_faults F.write_faults log.now result kernel.old
+        kernel.new files.old files.new }
 {
     let mut drive = Drive::start(guides, options.bounds, options.budget, first);
     take_turns(files, log, kernel, &mut drive)

@@ -1,6 +1,6 @@
 // The pending log goes into its file.
 ghost use Rattle.std.specs.Prelude.{◌≡◌, ◌≤◌, ◌<◌, length, OnOk};
-ghost use Rattle.q_kernel.specs.Kernels.{slots};
+ghost use Rattle.q_kernel.specs.Prelude.{slots};
 ghost use Rattle.q_simplify.specs.Logs.{LogGoesOn};
 
 use q_io::{DeviceError, Files};
@@ -17,7 +17,8 @@ pub(crate) fn flush<F: Files>(
     ensures prefix { kernel.new.prefix ≡ kernel.old.prefix }
     ensures clauses { slots kernel.new ≡ slots kernel.old }
     ensures short { OnOk result (length kernel.new.text < least) }
-    ensures goes_on { LogGoesOn F.held F.read_faults F.write_faults name.now result kernel.old kernel.new files.old files.new }
+    ensures goes_on { LogGoesOn F.held F.read_faults F.write_faults name.now result kernel.old
+        kernel.new files.old files.new }
 {
     if kernel.log().len() < least {
         return Ok(());

@@ -27,7 +27,8 @@ fn put_piece<F: Files>(
     ensures part { OnErr result ((front : List ℕ) → (before : Disk) →
         HoldsSome name.now front text.old.items before (F.held files.old) →
         MayHoldFront name.now front before (F.held files.new)) }
-    ensures cause { IsErrOf result DeviceError.Failed → RoseFor F.write_faults name.now files.old files.new }
+    ensures cause { IsErrOf result DeviceError.Failed
+        → RoseFor F.write_faults name.now files.old files.new }
     ensures later { Later F.read_faults F.write_faults files.old files.new }
 {
     if text.len() < least {
@@ -45,13 +46,16 @@ fn put_clauses<F: Files>(
     formula: &Formula,
     text: &mut Vec<u8>,
 ) -> Result<(), DeviceError>
-    ensures goes_on { OnOk result ((front : List ℕ) → (before : Disk) →
-        HoldsSome name.now front text.old.items before (F.held files.old) →
-        HoldsSome name.now (front ++ matrix_text formula.now.matrix) text.new.items before (F.held files.new)) }
+    ensures goes_on { OnOk result
+        ((front : List ℕ) → (before : Disk)
+        → HoldsSome name.now front text.old.items before (F.held files.old)
+        → HoldsSome name.now (front ++ matrix_text formula.now.matrix) text.new.items before
+        (F.held files.new)) }
     ensures part { OnErr result ((front : List ℕ) → (before : Disk) →
         HoldsSome name.now front text.old.items before (F.held files.old) →
         MayHoldFront name.now (front ++ matrix_text formula.now.matrix) before (F.held files.new)) }
-    ensures cause { IsErrOf result DeviceError.Failed → RoseFor F.write_faults name.now files.old files.new }
+    ensures cause { IsErrOf result DeviceError.Failed
+        → RoseFor F.write_faults name.now files.old files.new }
     ensures later { Later F.read_faults F.write_faults files.old files.new }
 {
     for at in 0..formula.clauses() {
@@ -72,7 +76,8 @@ pub(crate) fn write_output<F: Files>(
         (λ disk. HoldsBytes name.now (formula_text formula.now) disk (F.held files.new))) }
     ensures part { OnErr result (IfSome (F.held files.old)
         (λ disk. MayHoldFront name.now (formula_text formula.now) disk (F.held files.new))) }
-    ensures cause { IsErrOf result DeviceError.Failed → RoseFor F.write_faults name.now files.old files.new }
+    ensures cause { IsErrOf result DeviceError.Failed
+        → RoseFor F.write_faults name.now files.old files.new }
     ensures later { Later F.read_faults F.write_faults files.old files.new }
 {
     let mut text = Vec::new(alloc);

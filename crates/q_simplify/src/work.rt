@@ -1,13 +1,8 @@
 // Simplification from the formula read to the files written.
 ghost use Rattle.std.specs.Prelude.{◌≡◌, ◌≢◌, ◌≤◌, ◌^◌, [], IfOk, OnOk, OnErr, IfSome, IsErrOf, ◌∷◌};
-ghost use Rattle.q_logic.specs.Formulas.{PrenexFormula};
-ghost use Rattle.q_logic.specs.Limits.{standard};
-ghost use Rattle.q_logic.specs.InLimits.{IsInLimits};
-ghost use Rattle.q_logic.specs.Parts.{IsProper};
-ghost use Rattle.q_logic.specs.Measure.{measure_of};
+ghost use Rattle.q_logic.specs.Prelude.{PrenexFormula, standard, IsInLimits, IsProper, measure_of};
 ghost use Rattle.q_io.specs.Files.{Disk, Empties, Later, RoseAmong, RoseFor};
-ghost use Rattle.q_kernel.specs.Kernels.{formula_in};
-ghost use Rattle.q_kernel.specs.Taking.{IsReady};
+ghost use Rattle.q_kernel.specs.Prelude.{formula_in, IsReady};
 ghost use Rattle.q_simplify.specs.Logs.{LeavesLog};
 ghost use Rattle.q_simplify.specs.Results.{IsReport, Leaves, LeadsTo, Simplifies, ends_as};
 
@@ -69,12 +64,14 @@ fn reduce<F: Files>(
 ) -> Result<Reduced, DeviceError>
     requires limits { IsInLimits standard (formula_in kernel.old) }
     requires text { kernel.old.text ≡ [] }
-    ensures report { IfOk result (λ r. IsReport options.now (formula_in kernel.old) r.report r.formula) }
+    ensures report { IfOk result (λ r.
+        IsReport options.now (formula_in kernel.old) r.report r.formula) }
     ensures log { IfOk result (λ r. (before : Disk) → Empties log.now before (F.held files.old) →
         LeadsTo (formula_in kernel.old) r.formula log.now before (F.held files.new)) }
     ensures log_left { OnErr result ((before : Disk) → Empties log.now before (F.held files.old) →
         LeavesLog (formula_in kernel.old) log.now before (F.held files.new)) }
-    ensures cause { IsErrOf result DeviceError.Failed → RoseFor F.write_faults log.now files.old files.new }
+    ensures cause { IsErrOf result DeviceError.Failed
+        → RoseFor F.write_faults log.now files.old files.new }
     ensures later { Later F.read_faults F.write_faults files.old files.new }
 {
     let before = first_measure(kernel, &options.bounds);
@@ -116,7 +113,8 @@ fn reduce_formula<F: Files>(
         LeadsTo formula r.formula log.now before (F.held files.new)) }
     ensures log_left { OnErr result ((before : Disk) → Empties log.now before (F.held files.old) →
         LeavesLog formula log.now before (F.held files.new)) }
-    ensures cause { IsErrOf result DeviceError.Failed → RoseFor F.write_faults log.now files.old files.new }
+    ensures cause { IsErrOf result DeviceError.Failed
+        → RoseFor F.write_faults log.now files.old files.new }
     ensures later { Later F.read_faults F.write_faults files.old files.new }
 {
     let mut kernel = kernel_of(alloc, formula)?;

@@ -1,4 +1,4 @@
-pub mod Trees
-pub mod Noding
-pub mod Counting
-pub mod Raising
+pub mod ReplacedInputs
+pub mod SlotNodes
+pub mod GateCounts
+pub mod BuiltNodes

@@ -1,8 +1,8 @@
 -- Slots and gates as gates in any order: the slots first. A slot uses what it was filled with.
 use Rattle.std.specs.Prelude.{◌≡◌, ◌<◌, ℕ, ◌+◌, List, length, slice_index_or, slice_get, Option, Some, None}
-use Rattle.q_logic.specs.Certificates.{GateNode, falsum, input_at, gate_at, Gate}
-use Rattle.q_aig.specs.Nets.{Net, operand_of}
-use Rattle.q_carry.specs.Standing.{look_at}
+use Rattle.q_logic.specs.Prelude.{GateNode, falsum, input_at, gate_at, Gate}
+use Rattle.q_aig.specs.Prelude.{Net, operand_of}
+use Rattle.q_carry.specs.Prelude.{look_at}
 use Rattle.q_gates.specs.Uses.{Parts, part_at}
 
 -- which node a node of the graph is, if it is no constant; k slots come first

@@ -1,12 +1,8 @@
 -- A graph with slots, built without them.
 use Rattle.std.specs.Prelude.{◌≡◌, ◌<◌, ◌≤◌, ℕ, ◌+◌, cond, nat_lt, List, [], ◌∷◌, length, take, slice_index_or, slice_get, Option, Some}
-use Rattle.q_logic.specs.Circuits.{Circuit}
-use Rattle.q_logic.specs.Certificates.{GateNode, falsum, input_at, gate_at, Gate}
-use Rattle.q_aig.specs.Nets.{Net, IsLiteral, tree_at, operand_of}
-use Rattle.q_aig.specs.Serving.{Serves}
-use Rattle.q_carry.specs.Standing.{look_at, AreLiterals}
-use Rattle.q_carry.specs.Copied.{or_zero, copied_operand, tree_of_gate}
-use Rattle.q_carry.specs.Growing.{IsGrown}
+use Rattle.q_logic.specs.Prelude.{Circuit, GateNode, falsum, input_at, gate_at, Gate}
+use Rattle.q_aig.specs.Prelude.{Net, IsLiteral, tree_at, operand_of, Serves}
+use Rattle.q_carry.specs.Prelude.{look_at, AreLiterals, or_zero, copied_operand, tree_of_gate, IsGrown}
 use Rattle.q_slots.specs.declared.slots.Slots.{Slots}
 use Rattle.q_slots.specs.declared.building.Settled.{Settled}
 use Rattle.q_gates.specs.Uses.{Parts, IsFullOrder}

@@ -1,9 +1,8 @@
 -- Slots, and what they stand for.
 use Rattle.std.specs.Prelude.{◌≡◌, ◌<◌, ◌++◌, ◌∷◌, [], ℕ, cond, eqb, true, List, length, slice_index_or, slice_set, Option, Some, None}
-use Rattle.q_logic.specs.Circuits.{Circuit, input}
-use Rattle.q_aig.specs.Nets.{Net, IsLiteral, tree_at, Keeps}
-use Rattle.q_carry.specs.Standing.{look_at, AreLiterals}
-use Rattle.q_carry.specs.Tabled.{is_there}
+use Rattle.q_logic.specs.Prelude.{Circuit, input}
+use Rattle.q_aig.specs.Prelude.{Net, IsLiteral, tree_at, Keeps}
+use Rattle.q_carry.specs.Prelude.{look_at, AreLiterals, is_there}
 use Rattle.q_slots.specs.declared.slots.Slots.{Slots}
 use Rattle.q_slots.specs.Under.{under, twice}
 

@@ -1,6 +1,6 @@
 -- Circuits with a circuit in place of each input.
 use Rattle.std.specs.Prelude.{ℕ}
-use Rattle.q_logic.specs.Circuits.{Circuit, constant, input, inverter, conjunction}
+use Rattle.q_logic.specs.Prelude.{Circuit, constant, input, inverter, conjunction}
 
 abbrev pub under : (ℕ → Circuit) → Circuit → Circuit
 under r (constant b) = constant b

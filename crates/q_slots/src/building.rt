@@ -1,10 +1,8 @@
 //! Nodes built one after the other, each behind those that it uses. A slot costs no gate: its literal is that of what it
 //! was filled with, or of its variable's input.
 ghost use Rattle.std.specs.Prelude.{◌≡◌, ◌<◌, ◌+◌, ℕ, length, slice_index_or, None, OnOk, IfOk, MatchOption};
-ghost use Rattle.q_aig.specs.Nets.{IsLiteral, operand_of};
-ghost use Rattle.q_carry.specs.Standing.{look_at, AreLiterals, InputsAt};
-ghost use Rattle.q_carry.specs.Tabled.{is_there};
-ghost use Rattle.q_carry.specs.Copied.{copied_operand};
+ghost use Rattle.q_aig.specs.Prelude.{IsLiteral, operand_of};
+ghost use Rattle.q_carry.specs.Prelude.{look_at, AreLiterals, InputsAt, is_there, copied_operand};
 ghost use Rattle.q_slots.specs.Slots.{AreSlots, AreOwned, owner_at};
 ghost use Rattle.q_slots.specs.Settled.{row_literal, AreRows, AreBuilt, IsBuilt, IsCopied};
 

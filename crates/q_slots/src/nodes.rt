@@ -1,7 +1,7 @@
 //! The slots and the gates of a graph as gates in any order, for sorting. Negations do not matter there.
 ghost use Rattle.std.specs.Prelude.{◌≡◌, ◌<◌, ◌≤◌, ℕ, ◌+◌, ◌^◌, [], length, IfOk, OnOk, MatchOption, Some, None};
-ghost use Rattle.q_aig.specs.Nets.{IsLiteral, operand_of};
-ghost use Rattle.q_carry.specs.Standing.{look_at, AreLiterals};
+ghost use Rattle.q_aig.specs.Prelude.{IsLiteral, operand_of};
+ghost use Rattle.q_carry.specs.Prelude.{look_at, AreLiterals};
 ghost use Rattle.q_gates.specs.Gates.{gate_view, gates_view, source_view};
 ghost use Rattle.q_gates.specs.Uses.{part_of, parts_of};
 ghost use Rattle.q_slots.specs.Nodes.{node_part, filled_part, AreNodes, AreSlotNodes, AreGateNodes};

@@ -1,9 +1,8 @@
 //! A graph with slots, built without them: the slots and the gates are sorted, so that each stands behind what it uses, and
 //! built in this order. The work is linear in the slots and the gates.
 ghost use Rattle.std.specs.Prelude.{◌≡◌, ℕ, IfOk, OnOk, length};
-ghost use Rattle.q_logic.specs.Circuits.{Circuit};
-ghost use Rattle.q_carry.specs.Standing.{look_at, AreLiterals, InputsAt};
-ghost use Rattle.q_carry.specs.Tabled.{is_there};
+ghost use Rattle.q_logic.specs.Prelude.{Circuit};
+ghost use Rattle.q_carry.specs.Prelude.{look_at, AreLiterals, InputsAt, is_there};
 ghost use Rattle.q_gates.specs.Gates.{gates_view};
 ghost use Rattle.q_gates.specs.Uses.{IsFullOrder};
 ghost use Rattle.q_slots.specs.Nodes.{AreNodes};

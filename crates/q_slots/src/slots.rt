@@ -1,7 +1,6 @@
 //! Slots, by their numbers. The first slot of a variable has the number of the variable.
 ghost use Rattle.std.specs.Prelude.{◌≡◌, ◌<◌, ◌≤◌, ◌⊎◌, true, false, length, slice_set, IfOk, MatchOption, Some};
-ghost use Rattle.q_carry.specs.Standing.{look_at};
-ghost use Rattle.q_carry.specs.Tabled.{is_there};
+ghost use Rattle.q_carry.specs.Prelude.{look_at, is_there};
 ghost use Rattle.q_slots.specs.Slots.{AreSlots, IsBegun, IsRenewed, slot_at};
 
 use q_aig::Aig;

@@ -1,2 +1,2 @@
-pub mod Walking
+pub mod PassedEntries
 pub mod Others

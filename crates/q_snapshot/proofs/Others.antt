@@ -1,11 +1,7 @@
 -- Literals of short clauses, and that two places of a clause hold two literals.
 use Rattle.std.proofs.Common.{◌≡◌, ◌⊎◌, ◌<◌, ℕ, zero, suc, [], ◌∷◌, get_or, length, inl, inr, sym, ◌∙◌, subst, arith}
-use Rattle.q_logic.specs.Literals.{Literal, IsBelow}
-use Rattle.q_logic.specs.Formulas.{Clause, IsIn}
-use Rattle.q_logic.specs.Parts.{ArePairs}
-use Rattle.q_logic.proofs.Parts.{AllByRecursion-IsIn}
-use Rattle.q_logic.proofs.ClauseSets.{not_itself_below}
-use Rattle.q_logic.proofs.Members.{item-in}
+use Rattle.q_logic.specs.Prelude.{Literal, IsBelow, Clause, IsIn, ArePairs}
+use Rattle.q_logic.proofs.Common.{AllByRecursion-IsIn, not_itself_below, item-in}
 
 single : (x k : Literal) → IsIn k (x ∷ []) → k ≡ x
 single x k (inl e) = e

@@ -1,9 +1,7 @@
 -- Rows of entries, one for each clause that holds a literal.
 use Rattle.std.specs.Prelude.{◌≡◌, ◌⊎◌, ℕ, List, Some}
-use Rattle.q_logic.specs.Literals.{Literal}
-use Rattle.q_logic.specs.Formulas.{Clause, IsIn}
-use Rattle.q_logic.specs.Numbered.{slot}
-use Rattle.q_kernel.specs.Kernels.{Seen, slots, HoldsLiteral}
+use Rattle.q_logic.specs.Prelude.{Literal, Clause, IsIn, slot}
+use Rattle.q_kernel.specs.Prelude.{Seen, slots, HoldsLiteral}
 use Rattle.q_snapshot.specs.declared.entry.Entry.{Entry}
 use Rattle.q_snapshot.specs.declared.rows.Row.{Row}
 use Rattle.q_snapshot.specs.declared.rows.Rows.{Rows}

@@ -1,8 +1,7 @@
 //! What stands for a clause in the row of a literal.
 ghost use Rattle.std.specs.Prelude.{◌≡◌, ◌⊎◌, ◌<◌, length};
-ghost use Rattle.q_logic.specs.Literals.{Literal};
-ghost use Rattle.q_logic.specs.Formulas.{IsIn};
-ghost use Rattle.q_kernel.specs.Kernels.{HoldsLiteral};
+ghost use Rattle.q_logic.specs.Prelude.{Literal, IsIn};
+ghost use Rattle.q_kernel.specs.Prelude.{HoldsLiteral};
 ghost use Rattle.q_snapshot.specs.Rows.{IsEntry};
 
 use q_kernel::{ClauseId, Kernel};

@@ -1,6 +1,6 @@
 //! Rows of the clauses that hold a literal.
 ghost use Rattle.std.specs.Prelude.{OnOk, IfSome};
-ghost use Rattle.q_kernel.specs.Kernels.{Seen};
+ghost use Rattle.q_kernel.specs.Prelude.{Seen};
 ghost use Rattle.q_snapshot.specs.Rows.{IsRow, AreRowsOf};
 
 use crate::entry::{Entry, entry_of};

@@ -1,10 +1,8 @@
 -- The counts of a node's clauses, and the clauses of each literal.
 use Rattle.std.specs.Prelude.{◌≡◌, ◌<◌, ◌≤◌, ℕ, Bool, true, false, cond, eqb, List, length}
-use Rattle.q_logic.specs.Literals.{Literal}
-use Rattle.q_logic.specs.Formulas.{Matrix, Prefix, PrenexFormula}
+use Rattle.q_logic.specs.Prelude.{Literal, Matrix, Prefix, PrenexFormula, nothing}
 use Rattle.q_logic.specs.Prefixes.{is_bound, place}
 use Rattle.q_logic.specs.declared.verdict.Standing.{Standing}
-use Rattle.q_logic.specs.Searching.{nothing}
 use Rattle.q_logic.specs.Decisions.{standing}
 use Rattle.q_search.specs.Paths.{along, rest_of}
 use Rattle.q_counts.specs.declared.counts.Count.{Count}

@@ -1,8 +1,7 @@
 -- Two sides of a universal, joined.
 use Rattle.std.specs.Prelude.{◌≡◌, ◌<◌, ◌≤◌, ℕ, suc, max, List}
-use Rattle.q_logic.specs.Circuits.{Circuit, inverter, conjunction, disjunction}
-use Rattle.q_aig.specs.Nets.{Net, IsLiteral, tree_at, Keeps}
-use Rattle.q_aig.specs.Serving.{Serves}
+use Rattle.q_logic.specs.Prelude.{Circuit, inverter, conjunction, disjunction}
+use Rattle.q_aig.specs.Prelude.{Net, IsLiteral, tree_at, Keeps, Serves}
 use Rattle.q_solve.specs.declared.picks.Pick.{Pick}
 use Rattle.q_solve.specs.Picks.{lit_at, AreBelow, IsRow, top_of}
 

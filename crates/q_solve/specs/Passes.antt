@@ -3,9 +3,9 @@
 use Rattle.std.specs.Prelude.{◌≡◌, ℕ, suc, Bool, true, false, not, ◌&&◌, List, [], ◌∷◌, ◌++◌, Some}
 use Rattle.q_logic.specs.declared.formulas.Quant.{Quant}
 use Rattle.q_logic.specs.declared.formulas.Quant.TheVariants.{Exists, Forall}
-use Rattle.q_logic.specs.Searching.{goes_on}
-use Rattle.q_aig.specs.Nets.{IsLiteral}
-use Rattle.q_carry.specs.Standing.{look_at}
+use Rattle.q_logic.specs.Prelude.{goes_on}
+use Rattle.q_aig.specs.Prelude.{IsLiteral}
+use Rattle.q_carry.specs.Prelude.{look_at}
 use Rattle.q_solve.specs.declared.picks.Pick.{Pick}
 use Rattle.q_solve.specs.declared.circuits.Circuits.{Circuits}
 use Rattle.q_solve.specs.Picks.{IsRow}

@@ -2,12 +2,9 @@
 use Rattle.std.specs.Prelude.{◌≡◌, ◌++◌, [], ◌∷◌, Bool, true, false, cond, List, length}
 use Rattle.q_logic.specs.declared.formulas.Quant.{Quant}
 use Rattle.q_logic.specs.declared.formulas.Quant.TheVariants.{Exists, Forall}
-use Rattle.q_logic.specs.Literals.{Literal}
-use Rattle.q_logic.specs.Formulas.{Prefix, PrenexFormula}
-use Rattle.q_logic.specs.Truth.{Assignment, signed}
+use Rattle.q_logic.specs.Prelude.{Literal, Prefix, PrenexFormula, Assignment, signed, nothing}
 use Rattle.q_logic.specs.declared.verdict.Standing.{Standing}
 use Rattle.q_logic.specs.declared.verdict.Standing.TheVariants.{True, False, Chosen, Free}
-use Rattle.q_logic.specs.Searching.{nothing}
 use Rattle.q_logic.specs.Decisions.{verdict}
 use Rattle.q_search.specs.Paths.{along, rest_of}
 use Rattle.q_search.specs.Walks.{Walk}

@@ -3,18 +3,13 @@
 use Rattle.std.specs.Prelude.{◌≡◌, ℕ, suc, Bool, true, false, List, [], ◌∷◌, ◌++◌, length}
 use Rattle.q_logic.specs.declared.formulas.Quant.TheVariants.{Exists, Forall}
 use Rattle.q_logic.specs.declared.verdict.Verdict.TheVariants.{Open}
-use Rattle.q_logic.specs.Formulas.{Prefix}
+use Rattle.q_logic.specs.Prelude.{Prefix, with_value, Circuit, Test, explored, nothing}
 use Rattle.q_logic.specs.Prefixes.{is_bound, is_universal, place, Distinct}
-use Rattle.q_logic.specs.Truth.{with_value}
-use Rattle.q_logic.specs.Circuits.{Circuit}
-use Rattle.q_logic.specs.Searching.{Test, explored, nothing}
 use Rattle.q_logic.specs.Decisions.{circuits_at}
-use Rattle.q_aig.specs.Nets.{Net, tree_at}
-use Rattle.q_aig.specs.Serving.{Serves}
+use Rattle.q_aig.specs.Prelude.{Net, tree_at, Serves}
 use Rattle.q_search.specs.Paths.{along, rest_of, said}
 use Rattle.q_search.specs.Walks.{Walk}
-use Rattle.q_carry.specs.Standing.{AreLiterals, InputsAt}
-use Rattle.q_carry.specs.Made.{universals}
+use Rattle.q_carry.specs.Prelude.{AreLiterals, InputsAt, universals}
 use Rattle.q_solve.specs.declared.picks.Pick.{Pick}
 use Rattle.q_solve.specs.declared.circuits.Circuits.{Circuits}
 use Rattle.q_solve.specs.Picks.{lit_at, AreBelow, IsRow}

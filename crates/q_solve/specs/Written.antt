@@ -1,11 +1,9 @@
 -- The row of circuits as a table by variable, and as a certificate.
 use Rattle.std.specs.Prelude.{◌≡◌, ◌≤◌, ℕ, suc, cond, ◌+◌, List, drop, length, Option, Some, None}
-use Rattle.q_logic.specs.Formulas.{Prefix}
+use Rattle.q_logic.specs.Prelude.{Prefix, CertificateView}
 use Rattle.q_logic.specs.Prefixes.{is_existential, place}
-use Rattle.q_logic.specs.Certificates.{CertificateView}
-use Rattle.q_aig.specs.Nets.{Net}
-use Rattle.q_carry.specs.Standing.{look_at}
-use Rattle.q_carry.specs.Made.{IsNamed}
+use Rattle.q_aig.specs.Prelude.{Net}
+use Rattle.q_carry.specs.Prelude.{look_at, IsNamed}
 use Rattle.q_solve.specs.declared.picks.Pick.{Pick}
 use Rattle.q_solve.specs.Picks.{lit_at, AreBelow, IsRow}
 

@@ -3,8 +3,8 @@
 //! with those of the second: (u and second) or (not u and first).
 ghost use Rattle.std.specs.Prelude.{◌≡◌, ℕ, [], true, false, IfOk, OnOk};
 ghost use Rattle.q_logic.specs.declared.formulas.Quant.TheVariants.{Exists, Forall};
-ghost use Rattle.q_logic.specs.Prefixes.{Distinct};
-ghost use Rattle.q_carry.specs.Made.{IsOpened};
+ghost use Rattle.q_logic.specs.Prelude.{Distinct};
+ghost use Rattle.q_carry.specs.Prelude.{IsOpened};
 ghost use Rattle.q_solve.specs.Passes.{SameGraph, IsPassed, CanPass, IsDropped, has_second};
 
 use crate::joining::join;

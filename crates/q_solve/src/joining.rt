@@ -1,7 +1,7 @@
 //! The circuits of two sides of a universal, joined: the second where it is true, the first where it is false.
 //! Both rows are walked once, from their innermost variables outwards.
 ghost use Rattle.std.specs.Prelude.{◌≡◌, IfOk, suc};
-ghost use Rattle.q_aig.specs.Nets.{IsLiteral};
+ghost use Rattle.q_aig.specs.Prelude.{IsLiteral};
 ghost use Rattle.q_solve.specs.Picks.{IsRow};
 ghost use Rattle.q_solve.specs.Joins.{IsChosen, IsJoined, AreIn};
 

@@ -1,13 +1,10 @@
 //! The clauses of a formula, counted and entered before any variable has a value.
 ghost use Rattle.std.specs.Prelude.{◌≡◌, ◌<◌, ◌+◌, [], ℕ, true, eqb, length, OnOk, IfOk};
-ghost use Rattle.q_logic.specs.Literals.{Literal, IsBelow};
-ghost use Rattle.q_logic.specs.Parts.{ArePairs};
+ghost use Rattle.q_logic.specs.Prelude.{Literal, IsBelow, ArePairs, nothing, Within};
 ghost use Rattle.q_logic.specs.Prefixes.{Distinct, is_bound, place};
-ghost use Rattle.q_logic.specs.Searching.{nothing};
-ghost use Rattle.q_logic.specs.Steps.{Within};
 ghost use Rattle.q_logic.specs.Decisions.{standing};
 ghost use Rattle.q_search.specs.Paths.{along, rest_of};
-ghost use Rattle.q_search.specs.Seats.{AreSeats};
+ghost use Rattle.q_search.specs.PlaceTables.{ArePlaces};
 ghost use Rattle.q_counts.specs.Counting.{if_so, count_of, times, times_in};
 ghost use Rattle.q_solve.specs.Counted.{row_of, IsCounted};
 
@@ -15,7 +12,7 @@ use crate::places::first_standing;
 use crate::sides::Sides;
 use q_counts::{Count, Counts};
 use q_logic::{Bound, Formula, Lit, NoMemory, is_tautology};
-use q_search::Seats;
+use q_search::PlaceTable;
 use std::alloc::Global;
 
 /// All clauses, counted and entered.
@@ -25,8 +22,8 @@ pub struct Loaded {
     pub counts: Counts,
 }
 
-fn count_clause(prefix: &[Bound], seats: &Seats, clause: &[Lit]) -> Count
-    requires seats { AreSeats prefix.now seats.now }
+fn count_clause(prefix: &[Bound], places: &PlaceTable, clause: &[Lit]) -> Count
+    requires places { ArePlaces prefix.now places.now }
     requires within { Within prefix.now clause.now }
     requires ordered { ArePairs IsBelow clause.now }
     ensures { result ≡ count_of (standing (rest_of prefix.now []) (along prefix.now [] nothing)) clause.now }
@@ -37,7 +34,7 @@ fn count_clause(prefix: &[Bound], seats: &Seats, clause: &[Lit]) -> Count
         both: is_tautology(clause),
     };
     for lit in clause {
-        count = count.with(first_standing(prefix, seats, *lit));
+        count = count.with(first_standing(prefix, places, *lit));
     }
     count
 }
@@ -45,19 +42,19 @@ fn count_clause(prefix: &[Bound], seats: &Seats, clause: &[Lit]) -> Count
 // Enters a clause at each of its literals.
 fn enter(
     prefix: &[Bound],
-    seats: &Seats,
+    places: &PlaceTable,
     clause: &[Lit],
     at: usize,
     sides: &mut Sides,
 ) -> Result<(), NoMemory>
     requires distinct { Distinct prefix.now }
-    requires seats { AreSeats prefix.now seats.now }
+    requires places { ArePlaces prefix.now places.now }
     requires within { Within prefix.now clause.now }
     ensures { OnOk result ((k : Literal) → is_bound prefix.now k.var ≡ true → (i : ℕ) →
         times i (row_of prefix.now sides.new k) ≡ times i (row_of prefix.now sides.old k) + if_so (eqb at i) (times_in k clause.now)) }
 {
     for lit in clause {
-        let place = seats.place(lit.var());
+        let place = places.place(lit.var());
         sides.enter(place, lit.negative(), at)?;
     }
     Ok(())
@@ -68,13 +65,13 @@ pub fn load(alloc: Global, formula: &Formula) -> Result<Loaded, NoMemory>
     ensures { IfOk result (λ l. IsCounted formula.now l.sides l.counts []) }
 {
     let prefix = formula.prefix();
-    let seats = Seats::of(alloc, prefix)?;
+    let places = PlaceTable::of(alloc, prefix)?;
     let mut sides = Sides::new(alloc);
     let mut counts = Counts::new(alloc);
     for i in 0..formula.clauses() {
         let clause = formula.clause(i);
-        counts.push(count_clause(prefix, &seats, clause))?;
-        enter(prefix, &seats, clause, i, &mut sides)?;
+        counts.push(count_clause(prefix, &places, clause))?;
+        enter(prefix, &places, clause, i, &mut sides)?;
     }
     Ok(Loaded { sides, counts })
 }

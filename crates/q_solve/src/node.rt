@@ -1,7 +1,7 @@
 //! A node of the search: values for the first variables of a formula. What is said of it is told by counts of true
 //! literals and of literals without a value, which change with each value that is given or taken back.
 ghost use Rattle.std.specs.Prelude.{◌≡◌, ◌<◌, ◌++◌, ◌∷◌, [], length, IfOk, OnOk, OnErr, MatchOption};
-ghost use Rattle.q_logic.specs.Prefixes.{IsFormula};
+ghost use Rattle.q_logic.specs.Prelude.{IsFormula};
 ghost use Rattle.q_logic.specs.declared.verdict.Verdict.TheVariants.{Open};
 ghost use Rattle.q_logic.specs.Decisions.{verdict as verdict_spec};
 ghost use Rattle.q_solve.specs.Places.{unset, values, IsLast};

@@ -1,14 +1,13 @@
 //! What is known of the two literals of a variable: before it has a value, and with one.
 ghost use Rattle.std.specs.Prelude.{◌≡◌, [], true};
-ghost use Rattle.q_logic.specs.Searching.{nothing};
-ghost use Rattle.q_logic.specs.Prefixes.{is_bound};
+ghost use Rattle.q_logic.specs.Prelude.{nothing, is_bound};
 ghost use Rattle.q_logic.specs.Decisions.{standing as standing_spec};
 ghost use Rattle.q_search.specs.Paths.{along, rest_of};
-ghost use Rattle.q_search.specs.Seats.{AreSeats};
+ghost use Rattle.q_search.specs.PlaceTables.{ArePlaces};
 ghost use Rattle.q_solve.specs.Places.{known_open as known_open_spec, known_value as known_value_spec, open_to as open_to_spec};
 
 use q_logic::{Bound, Lit, Quant, Standing};
-use q_search::Seats;
+use q_search::PlaceTable;
 
 /// What is known of the two literals of a variable.
 #[derive(Clone, Copy, Debug, PartialEq, Eq)]
@@ -53,11 +52,11 @@ pub fn known_value(value: bool) -> Known
 }
 
 /// What is known of a literal before any variable has a value.
-pub fn first_standing(prefix: &[Bound], seats: &Seats, lit: Lit) -> Standing
-    requires seats { AreSeats prefix.now seats.now }
+pub fn first_standing(prefix: &[Bound], places: &PlaceTable, lit: Lit) -> Standing
+    requires places { ArePlaces prefix.now places.now }
     requires bound { is_bound prefix.now lit.var ≡ true }
     ensures { result ≡ standing_spec (rest_of prefix.now []) (along prefix.now [] nothing) lit }
 {
-    let place = seats.place(lit.var());
+    let place = places.place(lit.var());
     open_to(prefix[place].quant)
 }

@@ -1,7 +1,7 @@
 //! For each variable, by its place in the prefix, the clauses that hold it, by sign; and the counts of clauses where the
 //! variable gets a value or loses it.
 ghost use Rattle.std.specs.Prelude.{◌≡◌, ◌<◌, ◌++◌, ◌∷◌, ◌&&◌, [], ℕ, Bool, cond, eqb, OnOk};
-ghost use Rattle.q_logic.specs.Literals.{bool_eq};
+ghost use Rattle.q_logic.specs.Prelude.{bool_eq};
 ghost use Rattle.q_counts.specs.Counting.{row_at, AreCounts};
 ghost use Rattle.q_solve.specs.Counted.{side, turned, IsAt};
 

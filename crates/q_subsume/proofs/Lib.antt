@@ -1,5 +1,5 @@
-pub mod Lengths
-pub mod Fitting
-pub mod Changing
-pub mod Results
-pub mod Searching
+pub mod ClauseLengths
+pub mod PairTests
+pub mod SubsumeChanges
+pub mod SubsumeResults
+pub mod SubsumeSearch

@@ -1,8 +1,6 @@
 -- What is seen of two clauses side by side.
 use Rattle.std.specs.Prelude.{◌≡◌, ◌≢◌, ℕ, Some}
-use Rattle.q_logic.specs.Literals.{Literal, negation}
-use Rattle.q_logic.specs.Formulas.{Clause, IsIn}
-use Rattle.q_logic.specs.Numbered.{Slots, slot}
+use Rattle.q_logic.specs.Prelude.{Literal, negation, Clause, IsIn, Slots, slot}
 
 -- two different numbers have clauses
 pub record AreTwo (N : Slots) (c d : ℕ) : Type 0 where

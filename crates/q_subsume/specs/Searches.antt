@@ -1,8 +1,7 @@
 -- What a search for targets answers.
 use Rattle.std.specs.Prelude.{◌≡◌, ◌≤◌, ◌<◌, ℕ}
-use Rattle.q_logic.specs.Literals.{Literal}
-use Rattle.q_logic.specs.Targets.{place}
-use Rattle.q_kernel.specs.Kernels.{Seen, HoldsLiteral}
+use Rattle.q_logic.specs.Prelude.{Literal, place}
+use Rattle.q_kernel.specs.Prelude.{Seen, HoldsLiteral}
 use Rattle.q_subsume.specs.declared.target.Target.{Target}
 use Rattle.q_subsume.specs.Targets.{target_of, inner_of}
 

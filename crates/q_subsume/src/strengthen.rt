@@ -6,18 +6,12 @@
 //!
 //! The condition stands in q_logic's `specs/Rules/Strengthen.antt`, the law in its `proofs/PlainRuns.antt`
 //! (`strengthen-run`): where the rest of d is false, c makes l false, and d is left with nothing. A test walks both clauses
-//! side by side, after l was found in d and not in c. Targets are found from c (`finding.rt`). Taking one may make d a unit
+//! side by side, after l was found in d and not in c. Targets are found from c (`find.rt`). Taking one may make d a unit
 //! clause, a clause that subsumes others or that strengthens them, and may leave l's negation pure.
 ghost use Rattle.std.specs.Prelude.{◌↔◌, Some, IsTrue};
 ghost use Rattle.q_logic.specs.declared.rule_bounds.Bounds.{Bounds};
-ghost use Rattle.q_logic.specs.Literals.{IsBelow, negation};
-ghost use Rattle.q_logic.specs.Formulas.{IsIn};
-ghost use Rattle.q_logic.specs.Limits.{standard};
-ghost use Rattle.q_logic.specs.InLimits.{IsInLimits};
-ghost use Rattle.q_logic.specs.Parts.{ArePairs};
-ghost use Rattle.q_logic.specs.Targets.{strengthen};
-ghost use Rattle.q_logic.specs.Rules.{Fits};
-ghost use Rattle.q_kernel.specs.Kernels.{slots, formula_in};
+ghost use Rattle.q_logic.specs.Prelude.{IsBelow, negation, IsIn, standard, IsInLimits, ArePairs, strengthen, Fits};
+ghost use Rattle.q_kernel.specs.Prelude.{slots, formula_in};
 ghost use Rattle.q_rule.specs.Becoming.{CanChange, IsChanged};
 ghost use Rattle.q_subsume.specs.Looks.{IsTurnedWithin};
 
@@ -53,7 +47,8 @@ fn strengthens(c: &[Lit], d: &[Lit], l: Lit) -> bool
 
 /// Whether l may leave the clause d by the clause c.
 pub fn fits(kernel: &Kernel, c: ClauseId, d: ClauseId, l: Lit) -> bool
-    ensures { (B : Bounds) → IsTrue result ↔ Fits B kernel.now.prefix (slots kernel.now) (strengthen c d l) }
+    ensures { (B : Bounds) → IsTrue result
+        ↔ Fits B kernel.now.prefix (slots kernel.now) (strengthen c d l) }
 {
     are_two(kernel, c, d) && strengthens(clause_of(kernel, c), clause_of(kernel, d), l)
 }

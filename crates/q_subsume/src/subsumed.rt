@@ -6,17 +6,11 @@
 //!
 //! The condition stands in q_logic's `specs/Rules/Subsumed.antt`, the law in its `proofs/PlainRuns.antt`
 //! (`subsumed-run`): d is implied by c, since the negations of d's literals leave c nothing. Both clauses are in order, so a
-//! test is one walk over the two side by side. Targets are found from c (`finding.rt`). Taking one may leave a literal pure.
+//! test is one walk over the two side by side. Targets are found from c (`find.rt`). Taking one may leave a literal pure.
 ghost use Rattle.std.specs.Prelude.{◌↔◌, IsTrue};
 ghost use Rattle.q_logic.specs.declared.rule_bounds.Bounds.{Bounds};
-ghost use Rattle.q_logic.specs.Literals.{IsBelow};
-ghost use Rattle.q_logic.specs.Limits.{standard};
-ghost use Rattle.q_logic.specs.InLimits.{IsInLimits};
-ghost use Rattle.q_logic.specs.Parts.{ArePairs};
-ghost use Rattle.q_logic.specs.Sets.{IsSubset};
-ghost use Rattle.q_logic.specs.Targets.{subsumed};
-ghost use Rattle.q_logic.specs.Rules.{Fits};
-ghost use Rattle.q_kernel.specs.Kernels.{slots, formula_in};
+ghost use Rattle.q_logic.specs.Prelude.{IsBelow, standard, IsInLimits, ArePairs, IsSubset, subsumed, Fits};
+ghost use Rattle.q_kernel.specs.Prelude.{slots, formula_in};
 ghost use Rattle.q_rule.specs.Becoming.{CanChange, IsChanged};
 ghost use Rattle.q_subsume.specs.Looks.{AreTwo};
 
@@ -43,7 +37,8 @@ pub fn are_two(kernel: &Kernel, c: ClauseId, d: ClauseId) -> bool
 
 /// Whether the clause d is subsumed by the clause c.
 pub fn fits(kernel: &Kernel, c: ClauseId, d: ClauseId) -> bool
-    ensures { (B : Bounds) → IsTrue result ↔ Fits B kernel.now.prefix (slots kernel.now) (subsumed c d) }
+    ensures { (B : Bounds) → IsTrue result
+        ↔ Fits B kernel.now.prefix (slots kernel.now) (subsumed c d) }
 {
     are_two(kernel, c, d) && is_within(clause_of(kernel, c), clause_of(kernel, d))
 }

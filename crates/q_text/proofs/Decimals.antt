@@ -13,9 +13,9 @@ use Rattle.q_text.specs.Words.{is_separator, negative}
 use Rattle.q_text.specs.Texts.{has_separator}
 use Rattle.q_text.specs.Tokens.{to_come}
 use Rattle.q_text.specs.Numbers.{number_text, numbers_text}
-use Rattle.q_text.proofs.Law.{at}
-use Rattle.q_text.proofs.Spelling.{Opens, opens-between, word-space, word-line}
-use Rattle.q_text.proofs.Words.{digit_no_c, digit_no_minus, digit_no_q, no_c_no_cnf, no_q_no_qrat}
+use Rattle.q_text.proofs.TokenLaw.{at}
+use Rattle.q_text.proofs.SpelledWords.{Opens, opens-between, word-space, word-line}
+use Rattle.q_text.proofs.WordShapes.{digit_no_c, digit_no_minus, digit_no_q, no_c_no_cnf, no_q_no_qrat}
 
 digit-is : (d : ℕ) → d < 10 → is_digit (48 + d) ≡ true
 digit-is d h = grind (arith, nat_tests)

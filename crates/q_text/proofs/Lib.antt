@@ -1,7 +1,7 @@
-pub mod Words
-pub mod Law
-pub mod Spelling
+pub mod WordShapes
+pub mod TokenLaw
+pub mod SpelledWords
 pub mod Decimals
-pub mod Extending
-pub mod Short
-pub mod Pieces
+pub mod LongerTexts
+pub mod LiteralLengths
+pub mod BytePieces

@@ -7,7 +7,7 @@ use Rattle.q_text.specs.declared.tokens.Tokens.{Tokens}
 use Rattle.q_text.specs.declared.tokens.TokenKind.TheVariants.{Number}
 use Rattle.q_text.specs.declared.runs.NumberWord.{NumberWord}
 use Rattle.q_text.specs.declared.runs.LiteralWord.{LiteralWord}
-use Rattle.q_logic.specs.Literals.{Literal, number_of}
+use Rattle.q_logic.specs.Prelude.{Literal, number_of}
 use Rattle.q_text.specs.Words.{is_separator}
 use Rattle.q_text.specs.Tokens.{handed, after, all_handed, kind_in}
 

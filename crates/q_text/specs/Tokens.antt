@@ -6,7 +6,7 @@ use Rattle.q_text.specs.declared.shape.Shape.{Shape}
 use Rattle.q_text.specs.declared.shape.Shape.TheVariants.{Start, Comment, Between, Minus, Digits, C, Cn, Q, Qr, Qra, Word}
 use Rattle.q_text.specs.declared.tokens.Token.{Token}
 use Rattle.q_text.specs.declared.tokens.Tokens.{Tokens}
-use Rattle.q_logic.specs.Literals.{Literal, number_of}
+use Rattle.q_logic.specs.Prelude.{Literal, number_of}
 use Rattle.q_text.specs.Words.{is_separator, is_digit, clipped}
 
 -- the shape of a word of one byte

@@ -140,7 +140,7 @@ impl Tokens {
 
     /// A 0 and a LF stand at the front of the piece, as at the end of nearly each clause and step.
     #[inline(always)]
-    #[tactic(auto, using(crate::proofs::Pieces::zero_goes))]
+    #[tactic(auto, using(crate::proofs::BytePieces::zero_goes))]
     pub fn zero(&self, piece: &[u8]) -> bool
         ensures { result ≡ true → Goes self.now (behind_zero self.now) piece.now 2 (Some (zero_token (line_of self.now))) }
     {

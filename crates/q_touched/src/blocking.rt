@@ -2,7 +2,7 @@
 //!
 //! A clause can become blocked on a literal where a clause with the negation goes. So the literals wait whose negation
 //! stands in one clause less, and the clauses of one of them are tested one by one.
-ghost use Rattle.q_kernel.specs.Taking.{IsReady};
+ghost use Rattle.q_kernel.specs.Prelude.{IsReady};
 
 use crate::lists::gather;
 use crate::lits::Lits;

@@ -3,8 +3,8 @@
 //! What a search learns of a formula holds for the kernel that it was lent, and a guide can't carry it from call to call. So
 //! one call gathers all cuts, and the next ones hand them out. A cut takes away a literal and nothing else, so those that were
 //! found with it go on to apply.
-ghost use Rattle.q_kernel.specs.Taking.{IsReady};
-ghost use Rattle.q_reduce.specs.Lent.{IsFitFor};
+ghost use Rattle.q_kernel.specs.Prelude.{IsReady};
+ghost use Rattle.q_reduce.specs.Learned.{IsFitFor};
 
 use crate::lists::lits_of;
 use crate::watch::{Pass, Watch};

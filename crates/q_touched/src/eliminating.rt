@@ -3,7 +3,7 @@
 //!
 //! A variable waits in a heap by the number of its places when it was put in. Where the number has changed since, it is put
 //! in again once it is met.
-ghost use Rattle.q_kernel.specs.Taking.{IsReady};
+ghost use Rattle.q_kernel.specs.Prelude.{IsReady};
 
 use crate::lists::{lit_at, places_of};
 use crate::marked::Marked;

@@ -1,5 +1,5 @@
 //! Expansion of the touched universal variables.
-ghost use Rattle.q_kernel.specs.Taking.{IsReady};
+ghost use Rattle.q_kernel.specs.Prelude.{IsReady};
 
 use crate::marked::Marked;
 use crate::watch::{Pass, Watch};

@@ -4,11 +4,11 @@
 #![tactic(auto)]
 
 mod blocking;
+mod clause_index;
 mod covering;
 mod cutting;
 mod eliminating;
 mod expanding;
-mod hooks;
 mod lists;
 mod lits;
 mod marked;

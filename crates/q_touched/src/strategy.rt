@@ -15,7 +15,7 @@
 //!
 //! Then nothing is proposed any more. Each call goes on where the last one stopped. (Queues of what was touched: N. Eén and
 //! A. Biere, "Effective preprocessing in SAT through variable and clause elimination", SAT 2005.)
-ghost use Rattle.q_kernel.specs.Taking.{IsReady};
+ghost use Rattle.q_kernel.specs.Prelude.{IsReady};
 
 use crate::parts::Parts;
 use crate::watch::Watch;

@@ -3,9 +3,9 @@
 //! At the start each clause is asked once whether another one lies within it. From then on this is asked of clauses that
 //! came or lost a literal; where it is not so, what such a clause does to others is gathered, and handed out one by one.
 
-ghost use Rattle.q_kernel.specs.Taking.{IsReady};
+ghost use Rattle.q_kernel.specs.Prelude.{IsReady};
 
-use crate::hooks::{Hook, Hooks, signature_of};
+use crate::clause_index::{ClauseIndex, Entry, signature_of};
 use crate::lists::{gather, index_of, lits_of, places_of};
 use crate::marked::Marked;
 use crate::watch::{Pass, Watch};
@@ -17,7 +17,7 @@ use std::alloc::Global;
 
 #[derive(Drop)]
 pub(crate) struct Subsuming {
-    hooks: Hooks,
+    index: ClauseIndex,
     waiting: Marked,
     // clauses from this one on were not asked yet
     start: ClauseId,
@@ -41,7 +41,7 @@ impl Subsuming {
     /// It takes no memory.
     pub(crate) fn new(alloc: Global) -> Subsuming {
         Subsuming {
-            hooks: Hooks::new(alloc),
+            index: ClauseIndex::new(alloc),
             waiting: Marked::new(alloc),
             start: u32::MAX,
             batch: Vec::new(alloc),
@@ -53,7 +53,7 @@ impl Subsuming {
 
     /// The clause came, or lost a literal.
     pub(crate) fn touch(&mut self, kernel: &Kernel, c: ClauseId) -> Result<(), NoMemory> {
-        self.hooks.hang(kernel, c)?;
+        self.index.hang(kernel, c)?;
         self.waiting.push(c)
     }
 
@@ -64,7 +64,7 @@ impl Subsuming {
 
     /// Hangs a clause that is asked with all others.
     pub(crate) fn hang(&mut self, kernel: &Kernel, c: ClauseId) -> Result<(), NoMemory> {
-        self.hooks.hang(kernel, c)
+        self.index.hang(kernel, c)
     }
 
     /// The next of the targets by one clause.
@@ -178,10 +178,10 @@ impl Subsuming {
     fn find(&mut self, kernel: &Kernel, d: ClauseId) -> Result<Option<Target>, NoMemory> {
         let clause = lits_of(kernel, d);
         fill(&mut self.set, clause)?;
-        let shape = Hook {
+        let shape = Entry {
             signature: signature_of(clause),
             len: clause.len(),
-            ..self.hooks.hook(d)
+            ..self.index.entry(d)
         };
         // copies of a clause hang where it hangs
         let beside = self.scan(kernel, d, &shape, shape.home);
@@ -200,25 +200,25 @@ impl Subsuming {
     }
 
     // A target by a clause that hangs at one literal. One that subsumes is better.
-    fn scan(&self, kernel: &Kernel, d: ClauseId, shape: &Hook, home: u32) -> Option<Target> {
+    fn scan(&self, kernel: &Kernel, d: ClauseId, shape: &Entry, home: u32) -> Option<Target> {
         let mut best = None;
         if home == 0 {
             return best;
         }
-        let mut c = self.hooks.first(home);
-        for _ in 0..self.hooks.len() {
-            let hook = self.hooks.hook(c);
-            if hook.home != home {
+        let mut c = self.index.first(home);
+        for _ in 0..self.index.len() {
+            let entry = self.index.entry(c);
+            if entry.home != home {
                 return best;
             }
-            if c != d && hook.len <= shape.len && hook.signature & !shape.signature == 0 {
+            if c != d && entry.len <= shape.len && entry.signature & !shape.signature == 0 {
                 match self.lie(kernel, c) {
                     Lying::Outside => {}
                     Lying::Within => return Some(Target::Subsumed { c, d }),
                     Lying::Turned(l) => best = Some(Target::Strengthen { c, d, l }),
                 }
             }
-            c = hook.next;
+            c = entry.next;
         }
         best
     }
@@ -256,8 +256,8 @@ impl Subsuming {
             let Some(d) = self.ids.pop() else {
                 return Ok(());
             };
-            let hook = self.hooks.hook(d);
-            if d != c && clause.len() <= hook.len && signature & !hook.signature == 0 {
+            let entry = self.index.entry(d);
+            if d != c && clause.len() <= entry.len && signature & !entry.signature == 0 {
                 self.note(kernel, c, clause.len(), d)?;
             }
         }

@@ -1,6 +1,6 @@
 //! The guide.
 ghost use Rattle.std.specs.Prelude.{◌≡◌};
-ghost use Rattle.q_logic.specs.Counts.{Rose};
+ghost use Rattle.q_logic.specs.Prelude.{Rose};
 ghost use Rattle.q_sched.specs.declared.guide.Proposal.TheVariants.{Done};
 
 use crate::strategy::Strategy;

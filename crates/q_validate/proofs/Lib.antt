@@ -1,5 +1,5 @@
-pub mod Knowing
-pub mod Reading
-pub mod Falsifying
-pub mod Bits
-pub mod Telling
+pub mod KnownValues
+pub mod ClauseReads
+pub mod FalseClause
+pub mod WordBits
+pub mod WordVerdicts

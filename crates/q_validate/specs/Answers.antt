@@ -1,10 +1,6 @@
 -- What a validator answers.
 use Rattle.std.specs.Prelude.{◌≡◌, ℕ, List, Option, Some}
-use Rattle.q_logic.specs.Literals.{Literal}
-use Rattle.q_logic.specs.Formulas.{PrenexFormula, Clause, IsIn}
-use Rattle.q_logic.specs.Truth.{Assignment, LiteralTrue, ClauseTrue}
-use Rattle.q_logic.specs.Certificates.{CertificateView, trees_of}
-use Rattle.q_logic.specs.Skolems.{Strategy, SkolemOf, outcome}
+use Rattle.q_logic.specs.Prelude.{Literal, PrenexFormula, Clause, IsIn, Assignment, LiteralTrue, ClauseTrue, CertificateView, trees_of, Strategy, SkolemOf, outcome}
 use Rattle.q_logic.specs.Branches.{claim_of, branches, counter}
 use Rattle.q_search.specs.Budgets.{IsBelow}
 use Rattle.q_validate.specs.declared.validating.Answer.{Answer}

@@ -1,21 +1,14 @@
 -- Where the search stands, and the rows that it reads.
 use Rattle.std.specs.Prelude.{◌≡◌, ◌<◌, ◌≤◌, ◌++◌, ℕ, Bool, true, false, List, [], length, take, slice_index_or, Option, Some, None}
 use Rattle.q_logic.specs.declared.verdict.Verdict.{Verdict}
-use Rattle.q_logic.specs.Literals.{Literal}
-use Rattle.q_logic.specs.Formulas.{Clause, Prefix, PrenexFormula}
+use Rattle.q_logic.specs.Prelude.{Literal, Clause, Prefix, PrenexFormula, Assignment, Circuit, CertificateView, gate_trees, trees_of, given, Node, nothing}
 use Rattle.q_logic.specs.Prefixes.{place, is_bound, is_existential}
-use Rattle.q_logic.specs.Truth.{Assignment}
-use Rattle.q_logic.specs.Circuits.{Circuit}
-use Rattle.q_logic.specs.Certificates.{CertificateView, gate_trees, trees_of}
-use Rattle.q_logic.specs.Skolems.{given}
-use Rattle.q_logic.specs.Searching.{Node, nothing}
 use Rattle.q_logic.specs.Branches.{Claim, claim_of, as_prefix, known, literal_value, clause_verdict, verdict}
-use Rattle.q_aig.specs.Nets.{Net, IsNet}
-use Rattle.q_aig.specs.Outputs.{net_of}
+use Rattle.q_aig.specs.Prelude.{Net, IsNet, net_of}
 use Rattle.q_search.specs.Paths.{along, rest_of}
-use Rattle.q_search.specs.Seats.{Seating, AreSeats}
+use Rattle.q_search.specs.PlaceTables.{PlaceRow, ArePlaces}
 use Rattle.q_search.specs.Walks.{Walk}
-use Rattle.q_carry.specs.Tabled.{AreCircuits}
+use Rattle.q_carry.specs.Prelude.{AreCircuits}
 use Rattle.q_validate.specs.Words.{path_to, Tells, TellsVerdict}
 use Rattle.q_validate.specs.declared.words.Known.{Known}
 use Rattle.q_validate.specs.declared.node.Block.{Block}
@@ -80,10 +73,10 @@ IsBlock q path (Some b) =
     (b.base ≤ length path) × TellsVerdict b.told (λ m. verdict_along q (take b.base path ++ path_to m))
 
 -- what holds of each node
-pub record IsStand (F : PrenexFormula) (c : CertificateView) (tb : List (Option ℕ)) (seats : Seating) (path : List Bool) (block : Option Block) : Type 0 where
+pub record IsStand (F : PrenexFormula) (c : CertificateView) (tb : List (Option ℕ)) (places : PlaceRow) (path : List Bool) (block : Option Block) : Type 0 where
   pub net : IsNet (net_of c)
   pub circuits : AreCircuits (net_of c) (trees_of c) tb
-  pub seated : AreSeats (as_prefix c.inputs) seats
+  pub are_places : ArePlaces (as_prefix c.inputs) places
   pub trees : (x : ℕ) → given (trees_of c x) ≡ is_existential F.prefix x
   pub within : length path ≤ length c.inputs
   pub told : IsBlock (claim_of F c) path block

@@ -1,7 +1,7 @@
 //! What is known of gates at all nodes below a node, by one pass over the gates.
 ghost use Rattle.std.specs.Prelude.{◌≡◌, ◌<◌, ◌++◌, [], length, IfOk, OnOk, slice_get};
-ghost use Rattle.q_logic.specs.Certificates.{IsThere, node_tree, gate_trees};
-ghost use Rattle.q_aig.specs.Nets.{operand_of, IsLiteral, IsNet, tree_at};
+ghost use Rattle.q_logic.specs.Prelude.{IsThere, node_tree, gate_trees};
+ghost use Rattle.q_aig.specs.Prelude.{operand_of, IsLiteral, IsNet, tree_at};
 ghost use Rattle.q_validate.specs.Words.{path_to, Tells};
 ghost use Rattle.q_validate.specs.Stands.{known_along, AreTold};
 

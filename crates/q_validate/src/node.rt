@@ -2,13 +2,10 @@
 //! all nodes of the five levels below it in one pass over the gates, and kept while the search stays below that node.
 ghost use Rattle.std.specs.Prelude.{◌≡◌, ◌≤◌, ◌<◌, ◌+◌, ◌++◌, ◌∷◌, [], ℕ, length, Some, IfOk, IfSome, OnOk, OnErr, MatchOption};
 ghost use Rattle.q_logic.specs.declared.verdict.Verdict.TheVariants.{Open};
-ghost use Rattle.q_logic.specs.Prefixes.{is_existential};
-ghost use Rattle.q_logic.specs.Certificates.{trees_of};
-ghost use Rattle.q_logic.specs.Skolems.{given};
+ghost use Rattle.q_logic.specs.Prelude.{is_existential, trees_of, given};
 ghost use Rattle.q_logic.specs.Branches.{as_prefix};
-ghost use Rattle.q_aig.specs.Nets.{AreDistinct};
-ghost use Rattle.q_aig.specs.Outputs.{net_of};
-ghost use Rattle.q_carry.specs.Tabled.{AreCircuits};
+ghost use Rattle.q_aig.specs.Prelude.{AreDistinct, net_of};
+ghost use Rattle.q_carry.specs.Prelude.{AreCircuits};
 ghost use Rattle.q_search.specs.Walks.{said_here, IsInner};
 ghost use Rattle.q_validate.specs.Stands.{claim_at, walk_of, IsBlock, IsPlace};
 
@@ -16,7 +13,7 @@ use crate::known::fill;
 use crate::words::{DEPTH, Known, Told, node_at};
 use q_aig::Certificate;
 use q_logic::{Bound, Formula, NoMemory, Quant, Verdict};
-use q_search::{Position, Seats};
+use q_search::{PlaceTable, Position};
 use std::alloc::Global;
 use std::marker::Model;
 use std::mem::replace;
@@ -37,7 +34,7 @@ pub struct Node<'a> {
     formula: &'a Formula,
     certificate: &'a Certificate,
     circuits: Vec<Option<u64>>,
-    seats: Seats,
+    places: PlaceTable,
     path: Vec<bool>,
     block: Option<Block>,
     row: Vec<Known>,
@@ -50,7 +47,7 @@ impl<'a> Model for Node<'a> {
 
     ghost view = { λ n. record { formula = n.formula.now; certificate = n.certificate.now; path = n.path.items } };
 
-    ghost invariant = { λ n. IsStand n.formula.now n.certificate.now n.circuits.items n.seats n.path.items n.block };
+    ghost invariant = { λ n. IsStand n.formula.now n.certificate.now n.circuits.items n.places n.path.items n.block };
 }
 
 // The inputs as a prefix of universals.
@@ -99,12 +96,12 @@ impl<'a> Node<'a> {
         ensures { IfOk result (λ n. n ≡ record { formula = formula.now; certificate = certificate.now; path = [] }) }
     {
         let prefix = universals(alloc, certificate.aig().inputs())?;
-        let seats = Seats::of(alloc, &prefix)?;
+        let places = PlaceTable::of(alloc, &prefix)?;
         Ok(Node {
             formula,
             certificate,
             circuits,
-            seats,
+            places,
             path: Vec::new(alloc),
             block: None,
             row: Vec::new(alloc),
@@ -116,7 +113,7 @@ impl<'a> Node<'a> {
         ensures place { IsPlace self.now.certificate.inputs var result }
         ensures distinct { AreDistinct self.now.certificate.inputs }
     {
-        let place = self.seats.place(var);
+        let place = self.places.place(var);
         if place < self.certificate.aig().inputs().len() {
             return Some(place);
         }

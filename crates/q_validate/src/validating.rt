@@ -1,9 +1,8 @@
 //! Whether circuits are Skolem functions.
 ghost use Rattle.std.specs.Prelude.{◌≡◌, ◌<◌, ◌^◌, IfOk, IfErr, OnOk, length};
-ghost use Rattle.q_logic.specs.Certificates.{trees_of};
-ghost use Rattle.q_logic.specs.Skolems.{Lawful};
+ghost use Rattle.q_logic.specs.Prelude.{trees_of, Lawful};
 ghost use Rattle.q_logic.specs.Branches.{claim_of, branches, AreFed};
-ghost use Rattle.q_carry.specs.Refusals.{Fits};
+ghost use Rattle.q_carry.specs.Prelude.{Fits};
 ghost use Rattle.q_validate.specs.Answers.{IsAnswer};
 ghost use Rattle.q_validate.specs.Refusals.{IsRefused};
 

@@ -1,14 +1,10 @@
 -- The laws of Blocked: the literal is the pivot by which the clause goes.
 use Rattle.std.proofs.Common.{ℕ, arith, ap, subst}
-use Rattle.q_logic.specs.Literals.{Literal}
-use Rattle.q_logic.specs.Formulas.{Matrix}
-use Rattle.q_logic.specs.Numbered.{live, formula_of}
+use Rattle.q_logic.specs.Prelude.{Literal, Matrix, live, formula_of, blocked, change}
 use Rattle.q_logic.specs.Blocking.{AllClash}
-use Rattle.q_logic.specs.Targets.{blocked}
-use Rattle.q_logic.specs.Rules.{change}
 use Rattle.q_logic.proofs.Ways.{at-most}
 use Rattle.q_logic.proofs.InOrder.{others-order}
-use Rattle.q_logic.proofs.Falling.{falls-gone}
+use Rattle.q_logic.proofs.MeasureFalls.{falls-gone}
 use Rattle.q_logic.proofs.PlainRuns.{blocked-run}
 use Rattle.q_logic.proofs.Decided.{decided-blocked}
 use Rattle.q_logic.proofs.RuleLaws.{Laws, false_true}

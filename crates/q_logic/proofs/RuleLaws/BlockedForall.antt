@@ -1,14 +1,10 @@
 -- The laws of BlockedForall: the literal is the universal pivot that is dropped.
 use Rattle.std.proofs.Common.{ℕ, arith, ap, subst}
-use Rattle.q_logic.specs.Literals.{Literal}
-use Rattle.q_logic.specs.Formulas.{Matrix}
-use Rattle.q_logic.specs.Numbered.{slot, live, others, formula_of}
+use Rattle.q_logic.specs.Prelude.{Literal, Matrix, slot, live, others, formula_of, blocked_forall, change}
 use Rattle.q_logic.specs.Blocking.{AllClash}
-use Rattle.q_logic.specs.Targets.{blocked_forall}
-use Rattle.q_logic.specs.Rules.{change}
 use Rattle.q_logic.proofs.Ways.{at-most}
 use Rattle.q_logic.proofs.InOrder.{others-order, slot-order, shortened-order}
-use Rattle.q_logic.proofs.Falling.{falls-shortened}
+use Rattle.q_logic.proofs.MeasureFalls.{falls-shortened}
 use Rattle.q_logic.proofs.PlainRuns.{blocked_forall-run}
 use Rattle.q_logic.proofs.Decided.{decided-blocked_forall}
 use Rattle.q_logic.proofs.RuleLaws.{Laws, false_true, shortened-elsewhere}

@@ -1,16 +1,11 @@
 -- The laws of Cover: the clause comes in its grown form, and each form goes by the next.
 use Rattle.std.proofs.Common.{◌≤◌, ◌+◌, ◌*◌, ℕ, length, [], inl, inr, arith, refl, ap, subst}
-use Rattle.q_logic.specs.Literals.{Literal}
-use Rattle.q_logic.specs.Formulas.{Clause, Matrix, IsIn}
-use Rattle.q_logic.specs.InLimits.{greatest}
-use Rattle.q_logic.specs.Numbered.{live, others, formula_of}
+use Rattle.q_logic.specs.Prelude.{Literal, Clause, Matrix, IsIn, greatest, live, others, formula_of, cover, change}
 use Rattle.q_logic.specs.Covering.{Covers}
-use Rattle.q_logic.specs.Targets.{cover}
-use Rattle.q_logic.specs.Rules.{change}
 use Rattle.q_logic.proofs.Heights.{weight}
 use Rattle.q_logic.proofs.Ways.{at-most, lits-weight}
 use Rattle.q_logic.proofs.InOrder.{others-order}
-use Rattle.q_logic.proofs.Falling.{falls-gone}
+use Rattle.q_logic.proofs.MeasureFalls.{falls-gone}
 use Rattle.q_logic.proofs.CoverRun.{cover-run}
 use Rattle.q_logic.proofs.RuleLaws.{Laws, empty-none, false_true}
 

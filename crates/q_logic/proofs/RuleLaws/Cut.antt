@@ -1,17 +1,12 @@
 -- The laws of Cut: the step that drops a reducible literal is valid.
 use Rattle.std.proofs.Common.{◌≡◌, ◌↔◌, ℕ, true, arith, ap, subst, Some}
 use Rattle.q_logic.specs.declared.rule_bounds.Bounds.{Bounds}
-use Rattle.q_logic.specs.Literals.{Literal}
-use Rattle.q_logic.specs.Formulas.{Clause, Matrix, Prefix}
-use Rattle.q_logic.specs.Reach.{Reducible}
-use Rattle.q_logic.specs.Numbered.{Slots, slot, live, others, formula_of}
-use Rattle.q_logic.specs.Targets.{cut}
-use Rattle.q_logic.specs.Rules.{Fits, change}
+use Rattle.q_logic.specs.Prelude.{Literal, Clause, Matrix, Prefix, Reducible, Slots, slot, live, others, formula_of, cut, Fits, change}
 use Rattle.q_logic.specs.Rules.Cut.{reducible}
 use Rattle.q_logic.specs.Deciding.{fits}
 use Rattle.q_logic.proofs.Ways.{at-most}
 use Rattle.q_logic.proofs.InOrder.{others-order, slot-order, shortened-order}
-use Rattle.q_logic.proofs.Falling.{falls-shortened}
+use Rattle.q_logic.proofs.MeasureFalls.{falls-shortened}
 use Rattle.q_logic.proofs.PlainRuns.{cut-run}
 use Rattle.q_logic.proofs.Decided.{if_some-is, is-if_some}
 use Rattle.q_logic.proofs.CutDecided.{decided-reducible}

@@ -1,17 +1,10 @@
 -- The laws of Eliminate: each resolvent is implied, and then each clause of the variable has it as its pivot.
 use Rattle.std.proofs.Common.{◌+◌, ℕ, length, ◌++◌, refl, ap, subst}
-use Rattle.q_logic.specs.StepForms.{positive}
-use Rattle.q_logic.specs.Literals.{negation}
-use Rattle.q_logic.specs.Formulas.{Matrix}
-use Rattle.q_logic.specs.Sets.{with_literal, without_literal}
-use Rattle.q_logic.specs.Numbered.{live, formula_of}
-use Rattle.q_logic.specs.Eliminating.{resolvents, clauses_not_of, Eliminable}
-use Rattle.q_logic.specs.Targets.{eliminate}
-use Rattle.q_logic.specs.Rules.{change}
+use Rattle.q_logic.specs.Prelude.{positive, negation, Matrix, with_literal, without_literal, live, formula_of, resolvents, clauses_not_of, Eliminable, eliminate, change}
 use Rattle.q_logic.proofs.Heights.{weight, one}
 use Rattle.q_logic.proofs.Ways.{at-most, new-clauses, new-lits}
 use Rattle.q_logic.proofs.InOrder.{without_literal-order, with_literal-order, append-order, resolve_all-order}
-use Rattle.q_logic.proofs.Falling.{falls-eliminate}
+use Rattle.q_logic.proofs.MeasureFalls.{falls-eliminate}
 use Rattle.q_logic.proofs.EliminateRun.{eliminate-run}
 use Rattle.q_logic.proofs.Decided.{decided-eliminate}
 use Rattle.q_logic.proofs.RuleLaws.{Laws, false_true}

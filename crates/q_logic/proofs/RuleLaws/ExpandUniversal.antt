@@ -1,12 +1,8 @@
 -- The laws of ExpandUniversal: the copies come as fresh variables, and then the universal leaves each clause.
 use Rattle.std.proofs.Common.{◌+◌, ℕ, refl, ap, subst}
-use Rattle.q_logic.specs.Formulas.{Matrix}
-use Rattle.q_logic.specs.InLimits.{greatest}
-use Rattle.q_logic.specs.Numbered.{live, formula_of}
-use Rattle.q_logic.specs.Expanding.{expansion_vars, insert_all, expanded, Expandable}
-use Rattle.q_logic.specs.Targets.{expand_universal}
+use Rattle.q_logic.specs.Prelude.{Matrix, greatest, live, formula_of, expansion_vars, insert_all, expanded, Expandable, expand_universal}
 use Rattle.q_logic.proofs.InOrder.{expanded-order}
-use Rattle.q_logic.proofs.FallingExpand.{falls-expand}
+use Rattle.q_logic.proofs.MeasureFallsExpand.{falls-expand}
 use Rattle.q_logic.proofs.ExpandClosure.{expand-run, expand-distinct}
 use Rattle.q_logic.proofs.Decided.{decided-expand}
 use Rattle.q_logic.proofs.RuleLaws.{Laws, false_true}

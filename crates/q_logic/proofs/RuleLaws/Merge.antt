@@ -1,18 +1,13 @@
 -- The laws of Merge: over the two clauses that join both literals each clause is implied in its new form.
 use Rattle.std.proofs.Common.{◌≡◌, ◌↔◌, ◌+◌, Bool, true, false, not, ◌&&◌, eqb, length, arith, refl, ap, subst}
 use Rattle.q_logic.specs.declared.rule_bounds.Bounds.{Bounds}
-use Rattle.q_logic.specs.Literals.{Literal}
-use Rattle.q_logic.specs.Formulas.{Matrix, Prefix}
-use Rattle.q_logic.specs.Prefixes.{is_existential, outer_or_same}
-use Rattle.q_logic.specs.Numbered.{Slots, live, formula_of}
+use Rattle.q_logic.specs.Prelude.{Literal, Matrix, Prefix, is_existential, outer_or_same, Slots, live, formula_of, merge, Fits, change}
 use Rattle.q_logic.specs.Merging.{merged, joined, Mergeable}
-use Rattle.q_logic.specs.Targets.{merge}
-use Rattle.q_logic.specs.Rules.{Fits, change}
 use Rattle.q_logic.specs.Deciding.{fits}
 use Rattle.q_logic.proofs.Heights.{weight, one}
 use Rattle.q_logic.proofs.Ways.{at-most, clauses-weight, lits-weight}
 use Rattle.q_logic.proofs.InOrder.{merged-order}
-use Rattle.q_logic.proofs.Falling.{falls-merge}
+use Rattle.q_logic.proofs.MeasureFalls.{falls-merge}
 use Rattle.q_logic.proofs.MergeRun.{merge-run}
 use Rattle.q_logic.proofs.Decided.{and-parts, and-both}
 use Rattle.q_logic.proofs.JoinedDecided.{decided-joined, AllOrdered}

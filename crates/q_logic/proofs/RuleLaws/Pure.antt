@@ -1,15 +1,9 @@
 -- The laws of Pure: a clause with an existential pure literal has it as its pivot, and a universal one is reducible.
 use Rattle.std.proofs.Common.{◌≡◌, true, cond, arith, refl, ap, subst}
-use Rattle.q_logic.specs.Literals.{Literal, negation}
-use Rattle.q_logic.specs.Formulas.{Matrix}
-use Rattle.q_logic.specs.Prefixes.{is_bound, is_existential}
-use Rattle.q_logic.specs.Sets.{OccursIn, without_literal, each_without}
-use Rattle.q_logic.specs.Numbered.{live, formula_of}
-use Rattle.q_logic.specs.Targets.{pure}
-use Rattle.q_logic.specs.Rules.{change}
+use Rattle.q_logic.specs.Prelude.{Literal, negation, Matrix, is_bound, is_existential, OccursIn, without_literal, each_without, live, formula_of, pure, change}
 use Rattle.q_logic.proofs.Ways.{at-most}
 use Rattle.q_logic.proofs.InOrder.{without_literal-order, each_without-order, cond-order}
-use Rattle.q_logic.proofs.Falling.{falls-pure}
+use Rattle.q_logic.proofs.MeasureFalls.{falls-pure}
 use Rattle.q_logic.proofs.PlainRuns.{pure-run}
 use Rattle.q_logic.proofs.Decided.{decided-pure}
 use Rattle.q_logic.proofs.RuleLaws.{Laws, false_true}

@@ -1,13 +1,10 @@
 -- The laws of Strengthen: the shorter clause is implied by both, and then holds the longer one.
 use Rattle.std.proofs.Common.{ℕ, length, arith, ap, ◌∙◌}
-use Rattle.q_logic.specs.Literals.{Literal}
-use Rattle.q_logic.specs.Numbered.{slot, live, others, formula_of}
-use Rattle.q_logic.specs.Targets.{strengthen}
-use Rattle.q_logic.specs.Rules.{change}
+use Rattle.q_logic.specs.Prelude.{Literal, slot, live, others, formula_of, strengthen, change}
 use Rattle.q_logic.proofs.Heights.{weight}
 use Rattle.q_logic.proofs.Ways.{at-most, lits-weight}
 use Rattle.q_logic.proofs.InOrder.{others-order, slot-order, shortened-order}
-use Rattle.q_logic.proofs.Falling.{falls-shortened}
+use Rattle.q_logic.proofs.MeasureFalls.{falls-shortened}
 use Rattle.q_logic.proofs.PlainRuns.{strengthen-run}
 use Rattle.q_logic.proofs.Decided.{decided-strengthen}
 use Rattle.q_logic.proofs.RuleLaws.{Laws, empty-none, shortened-elsewhere}

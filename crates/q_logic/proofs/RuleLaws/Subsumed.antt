@@ -1,12 +1,10 @@
 -- The laws of Subsumed: a clause that holds another one is implied by it.
 use Rattle.std.proofs.Common.{ℕ, arith, ap, ◌∙◌}
-use Rattle.q_logic.specs.Numbered.{live, formula_of}
-use Rattle.q_logic.specs.Targets.{subsumed}
-use Rattle.q_logic.specs.Rules.{change}
-use Rattle.q_logic.proofs.Slots.{others-slot}
+use Rattle.q_logic.specs.Prelude.{live, formula_of, subsumed, change}
+use Rattle.q_logic.proofs.NumberedClauses.{others-slot}
 use Rattle.q_logic.proofs.Ways.{at-most}
 use Rattle.q_logic.proofs.InOrder.{others-order}
-use Rattle.q_logic.proofs.Falling.{falls-gone}
+use Rattle.q_logic.proofs.MeasureFalls.{falls-gone}
 use Rattle.q_logic.proofs.PlainRuns.{subsumed-run}
 use Rattle.q_logic.proofs.Decided.{decided-subsumed}
 use Rattle.q_logic.proofs.RuleLaws.{Laws}

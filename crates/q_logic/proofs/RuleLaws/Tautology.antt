@@ -1,11 +1,9 @@
 -- The laws of Tautology: what is true whatever the values is implied.
 use Rattle.std.proofs.Common.{ℕ, arith, ap}
-use Rattle.q_logic.specs.Numbered.{live, formula_of}
-use Rattle.q_logic.specs.Targets.{tautology}
-use Rattle.q_logic.specs.Rules.{change}
+use Rattle.q_logic.specs.Prelude.{live, formula_of, tautology, change}
 use Rattle.q_logic.proofs.Ways.{at-most}
 use Rattle.q_logic.proofs.InOrder.{others-order}
-use Rattle.q_logic.proofs.Falling.{falls-gone}
+use Rattle.q_logic.proofs.MeasureFalls.{falls-gone}
 use Rattle.q_logic.proofs.PlainRuns.{tautology-run}
 use Rattle.q_logic.proofs.Decided.{decided-tautology}
 use Rattle.q_logic.proofs.RuleLaws.{Laws, empty-none}

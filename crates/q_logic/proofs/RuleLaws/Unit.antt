@@ -1,15 +1,11 @@
 -- The laws of Unit: each clause that changes is implied in its new form, and the clause itself goes last.
 use Rattle.std.proofs.Common.{◌≤◌, ◌+◌, ℕ, length, [], ◌∷◌, inl, arith, refl, sym, ap, ◌∙◌, subst, Option}
-use Rattle.q_logic.specs.Formulas.{Clause, Matrix}
-use Rattle.q_logic.specs.Measure.{measure_of}
-use Rattle.q_logic.specs.Numbered.{slot, live, formula_of}
-use Rattle.q_logic.specs.Targets.{unit}
-use Rattle.q_logic.specs.Rules.{change, head_of, assigned}
-use Rattle.q_logic.proofs.Slots.{live-slot}
+use Rattle.q_logic.specs.Prelude.{Clause, Matrix, measure_of, slot, live, formula_of, unit, change, head_of, assigned}
+use Rattle.q_logic.proofs.NumberedClauses.{live-slot}
 use Rattle.q_logic.proofs.Heights.{weight, one}
 use Rattle.q_logic.proofs.Ways.{at-most, clauses-weight, lits-weight}
 use Rattle.q_logic.proofs.InOrder.{assigned-order}
-use Rattle.q_logic.proofs.Falling.{falls-unit}
+use Rattle.q_logic.proofs.MeasureFalls.{falls-unit}
 use Rattle.q_logic.proofs.PlainRuns.{unit-run}
 use Rattle.q_logic.proofs.Decided.{decided-unit}
 use Rattle.q_logic.proofs.RuleLaws.{Laws, false_true}

@@ -1,9 +1,8 @@
 //! What clauses say of a node and of those below it, by the row of gates: each is true, false or open.
 ghost use Rattle.std.specs.Prelude.{◌≡◌, ◌<◌, ◌+◌, ◌++◌, ◌||◌, drop, length, false};
-ghost use Rattle.q_logic.specs.Prefixes.{is_existential};
+ghost use Rattle.q_logic.specs.Prelude.{is_existential};
 ghost use Rattle.q_logic.specs.Branches.{known_signed, is_missing as is_missing_spec, has_one, all_zero, both_missing as both_missing_spec};
-ghost use Rattle.q_aig.specs.Nets.{IsLiteral, tree_at};
-ghost use Rattle.q_aig.specs.Outputs.{net_of};
+ghost use Rattle.q_aig.specs.Prelude.{IsLiteral, tree_at, net_of};
 ghost use Rattle.q_validate.specs.Words.{path_to, Marks, Tells, TellsVerdict};
 ghost use Rattle.q_validate.specs.Stands.{claim_at, unset, values, known_along, literal_along, clause_along, verdict_along, IsRow};
 

@@ -1,6 +1,6 @@
 use Rattle.std.proofs.Common.{◌≡◌, arith, subst}
 use Rattle.q_aig.specs.Walking.{AreLeft}
-use Rattle.q_aig.proofs.Walking.{left-more, left-none}
+use Rattle.q_aig.proofs.ConeSearch.{left-more, left-none}
 use Rattle.q_aig.proofs.cones.clear.Goals as goal
 
 pub loop-j-preserved : goal.loop-j-preserved

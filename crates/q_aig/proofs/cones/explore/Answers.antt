@@ -1,5 +1,5 @@
 use Rattle.std.proofs.Common.{◌≡◌, ◌<◌, ◌+◌, ◌-◌, length, arith}
-use Rattle.q_aig.proofs.Walking.{queue-none, queue-tail, turn-there, explore-none, explore-turn}
+use Rattle.q_aig.proofs.ConeSearch.{queue-none, queue-tail, turn-there, explore-none, explore-turn}
 use Rattle.q_aig.proofs.cones.explore.Goals as goal
 
 pub meet-reached-requires-clause-queue : goal.meet-reached-requires-clause-queue

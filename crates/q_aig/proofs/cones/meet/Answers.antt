@@ -1,5 +1,5 @@
 use Rattle.std.proofs.Common.{◌<◌, length, arith}
-use Rattle.q_aig.proofs.Walking.{queue-room, queue-more}
+use Rattle.q_aig.proofs.ConeSearch.{queue-room, queue-more}
 use Rattle.q_aig.proofs.cones.meet.Goals as goal
 
 pub offset_bounds-queue-reached : goal.offset_bounds-queue-reached

@@ -1,4 +1,4 @@
-use Rattle.q_aig.proofs.Walking.{queue-tail, explored}
+use Rattle.q_aig.proofs.ConeSearch.{queue-tail, explored}
 use Rattle.q_aig.proofs.cones.search.Goals as goal
 
 pub clear-requires-clause-tail : goal.clear-requires-clause-tail

@@ -1,7 +1,7 @@
 use Rattle.std.proofs.Common.{◌≡◌, length, get_or, arith}
 use Rattle.q_aig.specs.Nets.{operand_of}
 use Rattle.q_aig.proofs.Nets.{part-there, IsThere-more}
-use Rattle.q_aig.proofs.Tables.{table-more}
+use Rattle.q_aig.proofs.GateTables.{table-more}
 use Rattle.q_aig.proofs.values.fill_table.Goals as goal
 
 pub gate_value-requires-clause-left : goal.gate_value-requires-clause-left

@@ -1,5 +1,5 @@
 use Rattle.std.proofs.Common.{refl}
-use Rattle.q_aiger.proofs.Marking.{cones-found, when-ok}
+use Rattle.q_aiger.proofs.OutputCones.{cones-found, when-ok}
 use Rattle.q_aiger.proofs.cones.cones_of.Goals as goal
 
 pub returns : goal.returns

@@ -1,7 +1,7 @@
 use Rattle.std.proofs.Common.{◌≡◌, ◌-◌, ◌+◌, Bool, Vec, Global, true, false, refl, sym, ap, subst, length, get_or, arith, ◌∙◌}
-use Rattle.q_aig.specs.Nets.{Net}
+use Rattle.q_aig.specs.Prelude.{Net}
 use Rattle.q_aiger.specs.Cones.{IsMarking}
-use Rattle.q_aiger.proofs.Marking.{turn-gate, turn-plain, bit-read}
+use Rattle.q_aiger.proofs.OutputCones.{turn-gate, turn-plain, bit-read}
 use Rattle.q_aiger.proofs.cones.mark_operands.Goals as goal
 use Rattle.q_aiger.proofs.cones.mark_operands.Goals.{then-index, else-index}
 

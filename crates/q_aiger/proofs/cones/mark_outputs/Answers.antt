@@ -1,4 +1,4 @@
-use Rattle.q_aiger.proofs.Marking.{turn-output}
+use Rattle.q_aiger.proofs.OutputCones.{turn-output}
 use Rattle.q_aiger.proofs.cones.mark_outputs.Goals as goal
 
 pub loop-output-preserved : goal.loop-output-preserved

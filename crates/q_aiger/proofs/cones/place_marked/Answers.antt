@@ -1,6 +1,6 @@
 use Rattle.std.proofs.Common.{◌≡◌, ◌+◌, ℕ, Bool, Vec, Global, true, false, refl, sym, ap, subst, length, get_or, arith, ◌∙◌}
 use Rattle.q_aiger.specs.Cones.{ArePlaced}
-use Rattle.q_aiger.proofs.Marking.{placed-push, placed-plain, bit-read}
+use Rattle.q_aiger.proofs.OutputCones.{placed-push, placed-plain, bit-read}
 use Rattle.q_aiger.proofs.cones.place_marked.Goals as goal
 use Rattle.q_aiger.proofs.cones.place_marked.Goals.{then-index+in_ok-push, else-index}
 

@@ -1,4 +1,4 @@
-use Rattle.q_aiger.proofs.Grammar.{grammar-read, read-grammar}
+use Rattle.q_aiger.proofs.AigerGrammar.{grammar-read, read-grammar}
 use Rattle.q_aiger.proofs.laws.grammar_is_read.Goals as goal
 
 pub returns : goal.returns

@@ -1,5 +1,5 @@
 use Rattle.std.proofs.Common.{◌-◌, length, arith}
-use Rattle.q_aiger.proofs.Cutting.{return-cut, return-none}
+use Rattle.q_aiger.proofs.LineCuts.{return-cut, return-none}
 use Rattle.q_aiger.proofs.lines.cut_return.Goals as goal
 use Rattle.q_aiger.proofs.lines.cut_return.Goals.{else-len-gt0-via-then-len-gt0+else-line-len-eq13, else-len-gt0-via-else-len-gt0}
 

@@ -1,6 +1,6 @@
 use Rattle.std.proofs.Common.{◌∙◌, ◌∷◌, ◌+◌, ap, sym, refl, length, arith, List, ℕ}
 use Rattle.q_aiger.specs.Lines.{lines_of}
-use Rattle.q_aiger.proofs.Cutting.{line-ended, line-last, take-rest, not-empty, positive}
+use Rattle.q_aiger.proofs.LineCuts.{line-ended, line-last, take-rest, not-empty, positive}
 use Rattle.q_aiger.proofs.lines.next_line.Goals as goal
 
 pub returns-then-end-text : goal.returns-then-end-text

@@ -1,6 +1,6 @@
 use Rattle.std.proofs.Common.{◌∙◌, ◌∷◌, ap, sym, refl, length, take, drop, ◌-◌, arith, List, ℕ}
 use Rattle.q_aiger.specs.Lines.{words}
-use Rattle.q_aiger.proofs.Cutting.{word-cut, words-none, take-rest}
+use Rattle.q_aiger.proofs.LineCuts.{word-cut, words-none, take-rest}
 use Rattle.q_aiger.proofs.lines.next_word.Goals as goal
 
 pub returns-then-end-eq0 : goal.returns-then-end-eq0

@@ -1,10 +1,10 @@
 use Rattle.std.proofs.Common.{◌≡◌, ◌∙◌, ◌<◌, ◌++◌, ◌∷◌, [], ap, sym, length, Vec, Global, ℕ, List, arith, false, get_or}
 use Rattle.std.proofs.lemmas.List.{length-map, length-set}
-use Rattle.q_logic.specs.Certificates.{Gate, gate_at}
+use Rattle.q_logic.specs.Prelude.{Gate, gate_at}
 use Rattle.q_gates.specs.declared.gate.Source.TheVariants.{Constant}
 use Rattle.q_gates.specs.Gates.{gate_view, gates_view}
 use Rattle.q_aiger.specs.Making.{plain, first_gates, gate_through}
-use Rattle.q_aiger.proofs.Placing.{gates-turn, first-more, row-more, length-first}
+use Rattle.q_aiger.proofs.GatePlaces.{gates-turn, first-more, row-more, length-first}
 use Rattle.q_aiger.proofs.making.add_gates.Goals as goal
 
 pub add_gate-requires-clause-left : goal.add_gate-requires-clause-left

@@ -1,11 +1,11 @@
 use Rattle.std.proofs.Common.{◌≡◌, ◌∙◌, ap, sym, subst, length, ℕ, Vec, Global}
 use Rattle.std.proofs.lemmas.List.{length-map}
-use Rattle.q_logic.specs.Certificates.{CertificateView}
-use Rattle.q_aig.specs.Nets.{Net}
+use Rattle.q_logic.specs.Prelude.{CertificateView}
+use Rattle.q_aig.specs.Prelude.{Net}
 use Rattle.q_gates.specs.Gates.{gate_view, gates_view}
 use Rattle.q_aiger.specs.Standing.{operands_view}
 use Rattle.q_aiger.specs.Making.{IsInputRow, AreOperandsThere}
-use Rattle.q_aiger.proofs.Placing.{made-all, made-there}
+use Rattle.q_aiger.proofs.GatePlaces.{made-all, made-there}
 use Rattle.q_aiger.proofs.making.make.Goals as goal
 
 pub returns : goal.returns

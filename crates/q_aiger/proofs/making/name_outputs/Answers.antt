@@ -1,15 +1,14 @@
 use Rattle.std.proofs.Common.{◌≡◌, ◌∙◌, ◌++◌, ◌∷◌, [], ap, sym, subst, length, ℕ, List, arith, false, get_or, take, map, add-one}
 use Rattle.std.proofs.Math.Seq.{take-suc}
 use Rattle.std.proofs.lemmas.List.{get_or-take, length-take-le, length-map}
-use Rattle.q_logic.specs.Certificates.{NamedOutput, Operand, IsThere}
-use Rattle.q_aig.specs.Nets.{operand_of}
-use Rattle.q_aig.specs.Outputs.{output_of, no_output}
+use Rattle.q_logic.specs.Prelude.{NamedOutput, Operand, IsThere}
+use Rattle.q_aig.specs.Prelude.{operand_of, output_of, no_output}
 use Rattle.q_gates.specs.declared.gate.Source.TheVariants.{Constant}
 use Rattle.q_aiger.specs.Circuits.{with_names}
 use Rattle.q_gates.specs.Gates.{operand_view}
 use Rattle.q_aiger.specs.Standing.{operands_view}
 use Rattle.q_aiger.specs.Making.{through, output_through}
-use Rattle.q_aiger.proofs.Placing.{named, output-at, outputs-length, take-all, operand-there}
+use Rattle.q_aiger.proofs.GatePlaces.{named, output-at, outputs-length, take-all, operand-there}
 use Rattle.q_aiger.proofs.making.name_outputs.Goals as goal
 
 pub literal-requires : goal.literal-requires

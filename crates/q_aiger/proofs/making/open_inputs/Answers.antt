@@ -1,9 +1,9 @@
 use Rattle.std.proofs.Common.{◌≡◌, ◌∙◌, ◌++◌, ◌∷◌, [], ap, sym, length, ℕ, List, arith, take, get_or, add-one}
 use Rattle.std.proofs.Math.Seq.{take-suc}
 use Rattle.std.proofs.lemmas.List.{length-take-le}
-use Rattle.q_logic.specs.Certificates.{input_at}
+use Rattle.q_logic.specs.Prelude.{input_at}
 use Rattle.q_aiger.specs.Making.{plain}
-use Rattle.q_aiger.proofs.Placing.{inputs-more}
+use Rattle.q_aiger.proofs.GatePlaces.{inputs-more}
 use Rattle.q_aiger.proofs.making.open_inputs.Goals as goal
 
 pub loop-name-preserved : goal.loop-name-preserved

@@ -1,6 +1,6 @@
 use Rattle.std.proofs.Common.{◌≡◌, ap, length, arith}
 use Rattle.q_aiger.specs.Written.{written_view}
-use Rattle.q_aiger.proofs.There.{cycle-line, outputs-count}
+use Rattle.q_aiger.proofs.ResolvedOperands.{cycle-line, outputs-count}
 use Rattle.q_aiger.proofs.reader.cyclic.Goals as goal
 
 pub returns : goal.returns

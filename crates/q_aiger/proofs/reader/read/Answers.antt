@@ -1,8 +1,8 @@
 use Rattle.std.proofs.lemmas.Result.{IfOk-weaker, IfErr-weaker}
 use Rattle.q_aiger.specs.Circuits.{AreCircuits, FailsWith}
 use Rattle.q_aiger.specs.Grammar.{Circuits, IsNoFile}
-use Rattle.q_aiger.proofs.Grammar.{read-grammar}
-use Rattle.q_aiger.proofs.Offending.{no-file}
+use Rattle.q_aiger.proofs.AigerGrammar.{read-grammar}
+use Rattle.q_aiger.proofs.NoOffence.{no-file}
 use Rattle.q_aiger.proofs.reader.read.Goals as goal
 
 pub returns-clause-grammar : goal.returns-clause-grammar

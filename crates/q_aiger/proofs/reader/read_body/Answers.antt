@@ -2,7 +2,7 @@ use Rattle.std.proofs.Common.{◌≡◌, ◌+◌, length, arith}
 use Rattle.q_aiger.specs.Lines.{lines_of}
 use Rattle.q_aiger.specs.Headers.{header_view}
 use Rattle.q_aiger.specs.Bodies.{behind_view}
-use Rattle.q_aiger.proofs.Counts.{items-counted}
+use Rattle.q_aiger.proofs.ItemCounts.{items-counted}
 use Rattle.q_aiger.proofs.reader.read_body.Goals as goal
 
 pub read_names-requires : goal.read_names-requires

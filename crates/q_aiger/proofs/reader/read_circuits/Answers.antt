@@ -1,5 +1,5 @@
 use Rattle.std.proofs.lemmas.Result.{err_from_is_err_and}
-use Rattle.q_aiger.proofs.There.{fails-with}
+use Rattle.q_aiger.proofs.ResolvedOperands.{fails-with}
 use Rattle.q_aiger.proofs.reader.read_circuits.Goals as goal
 
 pub returns-in_err-written-clause-err : goal.returns-in_err-written-clause-err

@@ -1,5 +1,5 @@
 use Rattle.std.proofs.Common.{ap, length, arith}
-use Rattle.q_aiger.proofs.There.{lines-few}
+use Rattle.q_aiger.proofs.ResolvedOperands.{lines-few}
 use Rattle.q_aiger.proofs.reader.read_lines.Goals as goal
 
 pub read_body-requires-clause-few : goal.read_body-requires-clause-few

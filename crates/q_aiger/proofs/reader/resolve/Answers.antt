@@ -4,8 +4,8 @@ use Rattle.q_aiger.specs.Headers.{header_view}
 use Rattle.q_gates.specs.Gates.{operand_view, gate_view, gates_view}
 use Rattle.q_aiger.specs.Standing.{operands_view}
 use Rattle.q_aiger.specs.Making.{AreOperandsThere}
-use Rattle.q_aiger.proofs.Counts.{counted}
-use Rattle.q_aiger.proofs.There.{AreAmong, variables, outputs-there, gates-there}
+use Rattle.q_aiger.proofs.ItemCounts.{counted}
+use Rattle.q_aiger.proofs.ResolvedOperands.{AreAmong, variables, outputs-there, gates-there}
 use Rattle.q_aiger.proofs.reader.resolve.Goals as goal
 
 pub returns-clause-lawful : goal.returns-clause-lawful

@@ -1,8 +1,8 @@
 use Rattle.std.proofs.Common.{◌≡◌, ◌∙◌, ap, length, get_or, arith, List, ℕ}
-use Rattle.q_aig.specs.Nets.{Net}
-use Rattle.q_aiger.proofs.Marking.{gate-parts}
-use Rattle.q_aiger.proofs.Texts.{gates-step, extends-append}
-use Rattle.q_text.proofs.Extending.{extends-more, on-err}
+use Rattle.q_aig.specs.Prelude.{Net}
+use Rattle.q_aiger.proofs.OutputCones.{gate-parts}
+use Rattle.q_aiger.proofs.UnwrittenTexts.{gates-step, extends-append}
+use Rattle.q_text.proofs.LongerTexts.{extends-more, on-err}
 use Rattle.q_aiger.proofs.writer.put_gates.Goals as goal
 
 pub literal-left-requires-clause-part : goal.literal-left-requires-clause-part

@@ -1,6 +1,6 @@
 use Rattle.std.proofs.Common.{refl}
-use Rattle.q_aiger.proofs.Texts.{symbols-step, extends-append}
-use Rattle.q_text.proofs.Extending.{extends-more, on-err}
+use Rattle.q_aiger.proofs.UnwrittenTexts.{symbols-step, extends-append}
+use Rattle.q_text.proofs.LongerTexts.{extends-more, on-err}
 use Rattle.q_aiger.proofs.writer.put_input_symbols.Goals as goal
 
 pub returns-in_err-put_symbol-clause-err : goal.returns-in_err-put_symbol-clause-err

@@ -1,4 +1,4 @@
-use Rattle.q_aiger.proofs.Texts.{written-more, inputs-next, extends-append}
+use Rattle.q_aiger.proofs.UnwrittenTexts.{written-more, inputs-next, extends-append}
 use Rattle.q_aiger.proofs.writer.put_inputs.Goals as goal
 
 pub loop-input-preserved : goal.loop-input-preserved

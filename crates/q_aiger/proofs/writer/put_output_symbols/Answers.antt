@@ -1,8 +1,8 @@
 use Rattle.std.proofs.Common.{arith, map}
-use Rattle.q_aig.specs.Outputs.{output_of}
+use Rattle.q_aig.specs.Prelude.{output_of}
 use Rattle.q_aiger.specs.Writing.{names_of}
-use Rattle.q_aiger.proofs.Texts.{symbols-step, length-names, name-at, extends-append}
-use Rattle.q_text.proofs.Extending.{extends-more, on-err}
+use Rattle.q_aiger.proofs.UnwrittenTexts.{symbols-step, length-names, name-at, extends-append}
+use Rattle.q_text.proofs.LongerTexts.{extends-more, on-err}
 use Rattle.q_aiger.proofs.writer.put_output_symbols.Goals as goal
 
 pub returns-in_err-put_symbol-clause-err : goal.returns-in_err-put_symbol-clause-err

@@ -1,5 +1,5 @@
 use Rattle.std.proofs.Common.{◌≡◌, ◌++◌, drop, map}
-use Rattle.q_aig.specs.Outputs.{output_of}
+use Rattle.q_aig.specs.Prelude.{output_of}
 use Rattle.q_aiger.specs.Writing.{symbol_lines, names_of}
 use Rattle.q_text.specs.Texts.{Extends}
 use Rattle.q_aiger.proofs.writer.put_output_symbols.Given as goal

@@ -1,9 +1,9 @@
 use Rattle.std.proofs.Common.{◌≡◌, ap, length, map, arith}
 use Rattle.std.proofs.lemmas.List.{length-map}
-use Rattle.q_aig.specs.Outputs.{output_of}
-use Rattle.q_aiger.proofs.Marking.{output-part}
-use Rattle.q_aiger.proofs.Texts.{outputs-step, extends-append}
-use Rattle.q_text.proofs.Extending.{extends-more, on-err}
+use Rattle.q_aig.specs.Prelude.{output_of}
+use Rattle.q_aiger.proofs.OutputCones.{output-part}
+use Rattle.q_aiger.proofs.UnwrittenTexts.{outputs-step, extends-append}
+use Rattle.q_text.proofs.LongerTexts.{extends-more, on-err}
 use Rattle.q_aiger.proofs.writer.put_outputs.Goals as goal
 
 pub literal-requires-clause-part : goal.literal-requires-clause-part

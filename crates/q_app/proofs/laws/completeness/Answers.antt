@@ -1,4 +1,4 @@
-use Rattle.q_app.proofs.Completing.{completes}
+use Rattle.q_app.proofs.FaultFree.{completes}
 use Rattle.q_app.proofs.laws.completeness.Goals as goal
 
 pub returns : goal.returns

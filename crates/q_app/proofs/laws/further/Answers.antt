@@ -1,4 +1,4 @@
-use Rattle.q_app.proofs.Beyond as law
+use Rattle.q_app.proofs.CircuitCommands as law
 use Rattle.q_app.proofs.laws.further.Goals as goal
 
 pub returns : goal.returns

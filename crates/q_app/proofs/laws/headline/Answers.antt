@@ -1,4 +1,4 @@
-use Rattle.q_app.proofs.Together as law
+use Rattle.q_app.proofs.ThreeCommands as law
 use Rattle.q_app.proofs.laws.headline.Goals as goal
 
 pub returns : goal.returns

@@ -1,4 +1,4 @@
-use Rattle.q_app.proofs.Verifying.{verified}
+use Rattle.q_app.proofs.VerifiedFiles.{verified}
 use Rattle.q_app.proofs.laws.simplified_is_verified.Goals as goal
 
 pub returns : goal.returns

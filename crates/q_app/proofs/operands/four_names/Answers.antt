@@ -1,6 +1,6 @@
 use Rattle.std.proofs.Common.{◌∙◌, ap}
 use Rattle.q_app.specs.Operands.{fourth}
-use Rattle.q_app.proofs.Wording.{fourth-none}
+use Rattle.q_app.proofs.CommandWords.{fourth-none}
 use Rattle.q_app.proofs.operands.four_names.Goals as goal
 
 pub returns-in-Some-clause-names : goal.returns-in-Some-clause-names

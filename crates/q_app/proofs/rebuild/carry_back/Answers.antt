@@ -1,9 +1,9 @@
 use Rattle.std.proofs.Common.{◌∙◌, ap, sym, subst, Err}
 use Rattle.q_io.specs.Files.{bytes_at}
-use Rattle.q_command.proofs.Feeding.{if_some_1, err-is}
+use Rattle.q_command.proofs.FilePieces.{if_some_1, err-is}
 use Rattle.q_app.specs.Rebuilds.{CircuitsFail}
 use Rattle.q_app.specs.declared.rebuilt.Rebuilt.{Rebuilt}
-use Rattle.q_app.proofs.Certifying.{no_text-fails, no_circuits-fault}
+use Rattle.q_app.proofs.RebuildFiles.{no_text-fails, no_circuits-fault}
 use Rattle.q_app.proofs.rebuild.carry_back.Goals as goal
 
 pub returns-in-Err-clause-refused : goal.returns-in-Err-clause-refused

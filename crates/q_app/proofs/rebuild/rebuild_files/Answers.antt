@@ -1,7 +1,7 @@
 use Rattle.std.proofs.Common.{◌∙◌, ap, Err}
-use Rattle.q_io.proofs.Counts.{rose_later}
-use Rattle.q_command.proofs.Feeding.{at_same}
-use Rattle.q_app.proofs.Certifying.{circuits-not_write, circuits-reading, failed, joined}
+use Rattle.q_io.proofs.FaultCounts.{rose_later}
+use Rattle.q_command.proofs.FilePieces.{at_same}
+use Rattle.q_app.proofs.RebuildFiles.{circuits-not_write, circuits-reading, failed, joined}
 use Rattle.q_app.proofs.rebuild.rebuild_files.Goals as goal
 
 pub returns-in-Ok-carry_back-clause-rebuilds : goal.returns-in-Ok-carry_back-clause-rebuilds

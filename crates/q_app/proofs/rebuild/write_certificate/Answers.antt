@@ -1,8 +1,8 @@
 use Rattle.std.proofs.Common.{◌∙◌, ap, sym, subst, Err, IfSome}
-use Rattle.q_command.proofs.Feeding.{if_some_1}
+use Rattle.q_command.proofs.FilePieces.{if_some_1}
 use Rattle.q_app.specs.Rebuilds.{Puts}
 use Rattle.q_app.specs.declared.rebuilt.Rebuilt.{Rebuilt}
-use Rattle.q_app.proofs.Certifying.{leaves-puts, failed_write-fault}
+use Rattle.q_app.proofs.RebuildFiles.{leaves-puts, failed_write-fault}
 use Rattle.q_app.proofs.rebuild.write_certificate.Goals as goal
 
 pub returns-in-Err-clause-puts : goal.returns-in-Err-clause-puts

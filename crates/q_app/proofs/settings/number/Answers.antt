@@ -1,5 +1,5 @@
 use Rattle.std.proofs.Common.{arith}
-use Rattle.q_app.proofs.Fronts.{overflows}
+use Rattle.q_app.proofs.OptionWords.{overflows}
 use Rattle.q_app.proofs.settings.number.Goals as goal
 use Rattle.q_app.proofs.settings.number.Goals.{then-digit-most-via-then-digit-most, then-digit-most-via-else-digit-most+then-value-most}
 

@@ -2,7 +2,7 @@ use Rattle.std.proofs.Common.{◌∙◌, ap}
 use Rattle.std.proofs.lemmas.Slice.Eq.{strip_prefix_is}
 use Rattle.std.proofs.lemmas.Bool.Decides.{Decides-eqb}
 use Rattle.q_app.specs.Words.{behind}
-use Rattle.q_app.proofs.Fronts.{strip-some, strip-none}
+use Rattle.q_app.proofs.OptionWords.{strip-some, strip-none}
 use Rattle.q_app.proofs.settings.strip.Goals as goal
 
 pub returns-in-Some : goal.returns-in-Some

@@ -3,9 +3,9 @@ use Rattle.q_app.specs.Words.{Request}
 use Rattle.q_command.specs.Sinks.{view_sink}
 use Rattle.q_app.specs.Says.{Does, devices}
 use Rattle.q_app.specs.declared.answer.Answer.TheVariants as answer
-use Rattle.q_app.proofs.Turns.{in_turn-usage}
-use Rattle.q_app.proofs.Saying.{said-usage}
-use Rattle.q_app.proofs.Promising.{simplify-ends, answer-comes, demo-passes, nothing-asked}
+use Rattle.q_app.proofs.CommandSequence.{in_turn-usage}
+use Rattle.q_app.proofs.CommandLines.{said-usage}
+use Rattle.q_app.proofs.RunPromise.{simplify-ends, answer-comes, demo-passes, nothing-asked}
 use Rattle.q_app.proofs.top.run.Goals as goal
 
 pub returns-in-Some-clause-usage : goal.returns-in-Some-clause-usage

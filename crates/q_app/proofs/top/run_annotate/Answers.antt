@@ -2,11 +2,11 @@ use Rattle.std.proofs.Common.{refl}
 use Rattle.std.proofs.lemmas.Option.{IfSome_then}
 use Rattle.q_command.specs.Sinks.{view_sink}
 use Rattle.q_run_annotate.specs.Annotates.{files_of}
-use Rattle.q_run_annotate.proofs.Deciding.{annotate-answers, annotate-usage}
+use Rattle.q_run_annotate.proofs.AnnotateStatus.{annotate-answers, annotate-usage}
 use Rattle.q_app.specs.Words.{annotating}
 use Rattle.q_app.specs.Says.{devices}
 use Rattle.q_app.specs.declared.answer.Answer.TheVariants as answer
-use Rattle.q_app.proofs.Saying.{said}
+use Rattle.q_app.proofs.CommandLines.{said}
 use Rattle.q_app.proofs.top.run_annotate.Goals as goal
 
 pub returns : goal.returns

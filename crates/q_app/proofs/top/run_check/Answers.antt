@@ -4,10 +4,10 @@ use Rattle.q_command.specs.Names.{three_of}
 use Rattle.q_command.specs.Sinks.{view_sink}
 use Rattle.q_app.specs.Says.{devices}
 use Rattle.q_app.specs.declared.answer.Answer.TheVariants as answer
-use Rattle.q_command.proofs.Feeding.{if_some_2}
-use Rattle.q_command.proofs.Exact.{answers, if_verified-some}
-use Rattle.q_command.proofs.Outcomes.{check-usage, check-read, check-write}
-use Rattle.q_app.proofs.Saying.{said}
+use Rattle.q_command.proofs.FilePieces.{if_some_2}
+use Rattle.q_command.proofs.CheckStatus.{answers, if_verified-some}
+use Rattle.q_command.proofs.OutcomeStatus.{check-usage, check-read, check-write}
+use Rattle.q_app.proofs.CommandLines.{said}
 use Rattle.q_app.proofs.top.run_check.Goals as goal
 
 pub returns-clause-runs : goal.returns-clause-runs

@@ -1,7 +1,7 @@
 use Rattle.std.proofs.Common.{◌≡◌, ◌∙◌, ◌∷◌, [], sym, ap}
 use Rattle.q_app.specs.Words.{checking, simplifying, generating, options_of, nothing_set}
 use Rattle.q_command.specs.Names.{three_of}
-use Rattle.q_app.proofs.Turns.{later-still, stops, goes_on, options-same}
+use Rattle.q_app.proofs.CommandSequence.{later-still, stops, goes_on, options-same}
 use Rattle.q_app.proofs.top.run_demo.Goals as goal
 
 pub returns-then-not-passes : goal.returns-then-not-passes

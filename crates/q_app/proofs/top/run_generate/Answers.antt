@@ -4,8 +4,8 @@ use Rattle.q_app.specs.Words.{generating}
 use Rattle.q_command.specs.Sinks.{view_sink}
 use Rattle.q_app.specs.Says.{devices}
 use Rattle.q_app.specs.declared.answer.Answer.TheVariants as answer
-use Rattle.q_app.proofs.Generating.{generate-answers}
-use Rattle.q_app.proofs.Saying.{said, generate-usage, generate-read, generate-write}
+use Rattle.q_app.proofs.GenStatus.{generate-answers}
+use Rattle.q_app.proofs.CommandLines.{said, generate-usage, generate-read, generate-write}
 use Rattle.q_app.proofs.top.run_generate.Goals as goal
 
 pub returns-clause-runs : goal.returns-clause-runs

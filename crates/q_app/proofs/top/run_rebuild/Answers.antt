@@ -5,8 +5,8 @@ use Rattle.q_app.specs.Commands.{five_of}
 use Rattle.q_command.specs.Sinks.{view_sink}
 use Rattle.q_app.specs.Says.{devices}
 use Rattle.q_app.specs.declared.answer.Answer.TheVariants as answer
-use Rattle.q_app.proofs.Deciding.{rebuild-answers}
-use Rattle.q_app.proofs.Saying.{said, rebuild-usage, rebuild-read, rebuild-write}
+use Rattle.q_app.proofs.RebuildStatus.{rebuild-answers}
+use Rattle.q_app.proofs.CommandLines.{said, rebuild-usage, rebuild-read, rebuild-write}
 use Rattle.q_app.proofs.top.run_rebuild.Goals as goal
 
 pub returns : goal.returns

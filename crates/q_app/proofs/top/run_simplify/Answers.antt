@@ -5,8 +5,8 @@ use Rattle.q_command.specs.Names.{three_of}
 use Rattle.q_command.specs.Sinks.{view_sink}
 use Rattle.q_app.specs.Says.{devices}
 use Rattle.q_app.specs.declared.answer.Answer.TheVariants as answer
-use Rattle.q_app.proofs.Answering.{simplify-answers}
-use Rattle.q_app.proofs.Saying.{said, simplify-usage, simplify-read, simplify-write}
+use Rattle.q_app.proofs.SimplifyStatus.{simplify-answers}
+use Rattle.q_app.proofs.CommandLines.{said, simplify-usage, simplify-read, simplify-write}
 use Rattle.q_app.proofs.top.run_simplify.Goals as goal
 
 pub returns-clause-runs : goal.returns-clause-runs

@@ -2,11 +2,11 @@ use Rattle.std.proofs.Common.{refl}
 use Rattle.std.proofs.lemmas.Option.{IfSome_then}
 use Rattle.q_command.specs.Sinks.{view_sink}
 use Rattle.q_run_solve.specs.Solves.{files_of}
-use Rattle.q_run_solve.proofs.Deciding.{solve-answers, solve-usage}
+use Rattle.q_run_solve.proofs.SolveStatus.{solve-answers, solve-usage}
 use Rattle.q_app.specs.Words.{solving}
 use Rattle.q_app.specs.Says.{devices}
 use Rattle.q_app.specs.declared.answer.Answer.TheVariants as answer
-use Rattle.q_app.proofs.Saying.{said}
+use Rattle.q_app.proofs.CommandLines.{said}
 use Rattle.q_app.proofs.top.run_solve.Goals as goal
 
 pub returns : goal.returns

@@ -1,5 +1,5 @@
 use Rattle.std.proofs.Common.{drop}
-use Rattle.q_logic.specs.Formulas.{IsIn}
+use Rattle.q_logic.specs.Prelude.{IsIn}
 use Rattle.q_arena.proofs.arena.place_of.Given as goal
 
 abbrev pub invariant-loop-at : goal.invariant-loop-at

@@ -1,5 +1,5 @@
 use Rattle.q_arena.specs.Nodes.{node_at}
-use Rattle.q_arena.proofs.Joins.{IsJoined-puts}
+use Rattle.q_arena.proofs.RingJoins.{IsJoined-puts}
 use Rattle.q_arena.proofs.rings.join.Goals as goal
 
 pub returns-clause-joined : goal.returns-clause-joined

@@ -2,8 +2,8 @@ use Rattle.std.proofs.Common.{◌≡◌, ◌∙◌, ◌+◌, ◌≤◌, arith, a
 use Rattle.q_arena.specs.Nodes.{node_at, base}
 use Rattle.q_arena.specs.Rings.{rings_of}
 use Rattle.q_arena.proofs.RingLemmas.{tag-kept}
-use Rattle.q_arena.proofs.After.{AreRings-after}
-use Rattle.q_arena.proofs.Sound.{IsNode-place, IsNode-after, count-fits}
+use Rattle.q_arena.proofs.RingInsertion.{AreRings-after}
+use Rattle.q_arena.proofs.SoundRings.{IsNode-place, IsNode-after, count-fits}
 use Rattle.q_arena.proofs.rings.put_after.Goals as goal
 
 pub node-link-requires : goal.node-link-requires

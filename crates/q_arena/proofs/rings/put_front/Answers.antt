@@ -2,7 +2,7 @@ use Rattle.std.proofs.Common.{◌≡◌, ◌∙◌, ◌+◌, ◌≤◌, arith, a
 use Rattle.q_arena.specs.Nodes.{node_at, base}
 use Rattle.q_arena.specs.Rings.{rings_of}
 use Rattle.q_arena.proofs.RingLemmas.{tag-kept, AreRings-with}
-use Rattle.q_arena.proofs.Sound.{IsNode-first, count-fits}
+use Rattle.q_arena.proofs.SoundRings.{IsNode-first, count-fits}
 use Rattle.q_arena.proofs.rings.put_front.Goals as goal
 
 pub join-requires-2-clause-b : goal.join-requires-2-clause-b

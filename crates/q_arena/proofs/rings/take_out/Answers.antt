@@ -2,7 +2,7 @@ use Rattle.std.proofs.Common.{◌≡◌, ◌∙◌, ◌+◌, ◌-◌, ◌≤◌,
 use Rattle.q_arena.specs.Nodes.{node_at, base}
 use Rattle.q_arena.specs.Rings.{rings_of}
 use Rattle.q_arena.proofs.RingLemmas.{tag-kept, AreRings-without}
-use Rattle.q_arena.proofs.Sound.{IsNode-place, IsNode-before, IsNode-after, count-positive}
+use Rattle.q_arena.proofs.SoundRings.{IsNode-place, IsNode-before, IsNode-after, count-positive}
 use Rattle.q_arena.proofs.rings.take_out.Goals as goal
 
 pub node-link-requires : goal.node-link-requires

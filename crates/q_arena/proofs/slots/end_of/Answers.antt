@@ -1,7 +1,7 @@
 use Rattle.std.proofs.Common.{sym, ◌∙◌, ap}
 use Rattle.q_arena.specs.Layout.{slot_at, end_in}
 use Rattle.q_arena.proofs.Layouts.{top-end}
-use Rattle.q_arena.proofs.Following.{get-has}
+use Rattle.q_arena.proofs.ListNeighbours.{get-has}
 use Rattle.q_arena.proofs.slots.end_of.Goals as goal
 
 pub end_at-requires-clause-there : goal.end_at-requires-clause-there

@@ -1,12 +1,10 @@
 use Rattle.std.proofs.Common.{All, refl, sym, subst, true≢false}
-use Rattle.q_logic.specs.Literals.{negation}
-use Rattle.q_logic.specs.Formulas.{Clause, IsIn}
+use Rattle.q_logic.specs.Prelude.{negation, Clause, IsIn}
 use Rattle.std.proofs.lemmas.List.Elements.{All-contains}
-use Rattle.q_logic.proofs.Slots.{others-slot}
-use Rattle.q_logic.proofs.Members.{test-false}
-use Rattle.q_rule.proofs.Slots.{others-find, slot-one}
-use Rattle.q_kernel.specs.Kernels.{slots}
-use Rattle.q_kernel.proofs.Turns.{holder-turn, all-came, All-more}
+use Rattle.q_logic.proofs.Common.{others-slot, test-false}
+use Rattle.q_rule.proofs.IdClauses.{others-find, slot-one}
+use Rattle.q_kernel.specs.Prelude.{slots}
+use Rattle.q_kernel.proofs.ForLoops.{holder-turn, all-came, All-more}
 use Rattle.q_blocked.specs.Walks.{ClashesAt}
 use Rattle.q_blocked.proofs.clashing.all_clash.Goals as goal
 

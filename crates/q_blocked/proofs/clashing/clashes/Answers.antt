@@ -1,8 +1,6 @@
 use Rattle.std.proofs.Common.{◌≡◌, ◌↔◌, inl, inr, true, sym, refl, subst, true≢false}
-use Rattle.q_logic.specs.Literals.{Literal, negation}
-use Rattle.q_logic.specs.Formulas.{Clause, IsIn}
-use Rattle.q_logic.specs.Pivots.{keeps}
-use Rattle.q_logic.proofs.Members.{item-in, taken-cases, taken-all, test-false}
+use Rattle.q_logic.specs.Prelude.{Literal, negation, Clause, IsIn, keeps}
+use Rattle.q_logic.proofs.Common.{item-in, taken-cases, taken-all, test-false}
 use Rattle.q_blocked.proofs.Clashes.{IsClear, clear-none, clash-met}
 use Rattle.q_blocked.proofs.clashing.clashes.Goals as goal
 

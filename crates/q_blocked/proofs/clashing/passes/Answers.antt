@@ -1,9 +1,8 @@
 use Rattle.std.proofs.Common.{refl, subst}
-use Rattle.q_logic.specs.Formulas.{Clause, IsIn}
-use Rattle.q_logic.specs.Literals.{negation}
+use Rattle.q_logic.specs.Prelude.{Clause, IsIn, negation}
 use Rattle.q_logic.specs.Blocking.{Clashes}
-use Rattle.q_kernel.specs.Kernels.{slots}
-use Rattle.q_rule.proofs.Slots.{slot-one}
+use Rattle.q_kernel.specs.Prelude.{slots}
+use Rattle.q_rule.proofs.IdClauses.{slot-one}
 use Rattle.q_blocked.proofs.clashing.passes.Goals as goal
 
 pub clashes-requires-clause-bound : goal.clashes-requires-clause-bound

@@ -1,16 +1,13 @@
 use Rattle.std.proofs.Common.{◌≡◌, ◌∙◌, ◌↔◌, List, Bool, true, false, Some, take, slice_get, sym, ap, subst, inl, inr}
-use Rattle.q_logic.specs.Literals.{Literal}
-use Rattle.q_logic.specs.Formulas.{Clause, Matrix, Prefix, IsIn}
-use Rattle.q_logic.specs.Prefixes.{is_existential}
-use Rattle.q_logic.specs.Numbered.{others}
+use Rattle.q_logic.specs.Prelude.{Literal, Clause, Matrix, Prefix, IsIn, is_existential, others}
 use Rattle.q_logic.specs.Blocking.{AllClash}
 use Rattle.q_logic.proofs.CoverRun.{in_or_not}
-use Rattle.q_kernel.specs.Kernels.{slots}
+use Rattle.q_kernel.specs.Prelude.{slots}
 use Rattle.q_kernel.proofs.Basics.{some-same}
-use Rattle.q_blocked.specs.Walks.{IsLooked, IsStuck}
+use Rattle.q_blocked.specs.Walks.{IsLooked, CoversNothing}
 use Rattle.q_blocked.specs.Growths.{IsPassive, CoveredBy}
-use Rattle.q_blocked.proofs.Fronts.{place-front}
-use Rattle.q_blocked.proofs.Reaching.{covered-blocked}
+use Rattle.q_blocked.proofs.ClauseFronts.{place-front}
+use Rattle.q_blocked.proofs.ReachedSets.{covered-blocked}
 use Rattle.q_blocked.proofs.cover.cover_at.Goals as goal
 
 pub returns-then-not-branch : goal.returns-then-not-branch
@@ -52,19 +49,19 @@ returns-then-is_given c =
     let k = c.args.kernel.now in
     let X = others c.args.c (slots k) in
     let S : Clause = c.args.growth.now.set in
-    let h : IsStuck k.prefix X c.at-l.result S = c.is_given.ensures c.if-is_given.true in (
+    let h : CoversNothing k.prefix X c.at-l.result S = c.is_given.ensures c.if-is_given.true in (
       c.requires.growing,
       Rattle.std.proofs.Common.refl,
       Rattle.std.proofs.Common.refl,
       λ l e. subst (λ (j : Literal). IsPassive k.prefix X S j) (some-same c.at-l.result l (sym c.at-l.ensures ∙ e)) (λ x. h),
     )
 
-pub returns-then-is_stuck : goal.returns-then-is_stuck
-returns-then-is_stuck c =
+pub returns-then-covers_nothing : goal.returns-then-covers_nothing
+returns-then-covers_nothing c =
     let k = c.args.kernel.now in
     let X = others c.args.c (slots k) in
     let S : Clause = c.args.growth.now.set in
-    let h : IsStuck k.prefix X c.at-l.result S = c.is_stuck.ensures c.if-is_stuck.true in (
+    let h : CoversNothing k.prefix X c.at-l.result S = c.covers_nothing.ensures c.if-covers_nothing.true in (
       c.requires.growing,
       Rattle.std.proofs.Common.refl,
       Rattle.std.proofs.Common.refl,

@@ -1,17 +1,13 @@
 use Rattle.std.proofs.Common.{◌≡◌, ◌∙◌, ◌∷◌, ◌++◌, [], ℕ, List, Some, length, take, sym, ap, subst}
-use Rattle.q_logic.specs.Literals.{Literal, negation}
-use Rattle.q_logic.specs.Formulas.{Clause, IsIn}
-use Rattle.q_logic.specs.Sets.{IsTautology}
-use Rattle.q_logic.specs.Numbered.{others}
-use Rattle.q_logic.proofs.Implying.{IsIn-append_right}
-use Rattle.q_kernel.specs.Kernels.{slots}
-use Rattle.q_logic.proofs.Members.{test-false}
+use Rattle.q_logic.specs.Prelude.{Literal, negation, Clause, IsIn, IsTautology, others}
+use Rattle.q_logic.proofs.Common.{IsIn-append_right, test-false}
+use Rattle.q_kernel.specs.Prelude.{slots}
 use Rattle.q_blocked.specs.declared.plan.Stage.{Stage}
 use Rattle.q_blocked.specs.Growths.{IsGrowing, IsCovered}
-use Rattle.q_blocked.proofs.Fronts.{take-in, place-front}
-use Rattle.q_blocked.proofs.Narrowing.{covered-growth}
-use Rattle.q_blocked.proofs.Reaching.{covered-opposed}
-use Rattle.q_blocked.proofs.Growing.{growing-covered, others-within}
+use Rattle.q_blocked.proofs.ClauseFronts.{take-in, place-front}
+use Rattle.q_blocked.proofs.CoveredLiterals.{covered-growth}
+use Rattle.q_blocked.proofs.ReachedSets.{covered-opposed}
+use Rattle.q_blocked.proofs.SetGrowth.{growing-covered, others-within}
 use Rattle.q_blocked.proofs.cover.cover_by.Goals as goal
 
 pub returns-then-opposes : goal.returns-then-opposes

@@ -1,9 +1,9 @@
 use Rattle.std.proofs.Common.{◌∙◌, sym}
-use Rattle.q_blocked.proofs.Passes.{turned-ended, turned-calm}
+use Rattle.q_blocked.proofs.CoverPass.{turned-ended, turned-gives_none}
 use Rattle.q_blocked.proofs.cover.covers.Goals as goal
 
 pub returns-then-is_ended-clause-decided : goal.returns-then-is_ended-clause-decided
-returns-then-is_ended-clause-decided c = turned-ended c.args.kernel.now c.args.c c.round.new.search.growth c.in_ok-outcome.outcome (sym c.is_ended.ensures ∙ c.if-is_ended.true) c.in_ok-outcome.ensures.turned
+returns-then-is_ended-clause-decided c = turned-ended c.args.kernel.now c.args.c c.round.new.search.growth c.in_ok-progress.progress (sym c.is_ended.ensures ∙ c.if-is_ended.true) c.in_ok-progress.ensures.turned
 
 pub returns-then-not-is_grown-clause-decided : goal.returns-then-not-is_grown-clause-decided
-returns-then-not-is_grown-clause-decided c = turned-calm c.args.kernel.now c.args.c c.round.new.search.growth c.in_ok-outcome.outcome (sym c.is_ended.ensures ∙ c.if-is_ended.false) (sym c.is_grown.ensures ∙ c.if-not-is_grown.true) c.in_ok-outcome.ensures.turned
+returns-then-not-is_grown-clause-decided c = turned-gives_none c.args.kernel.now c.args.c c.round.new.search.growth c.in_ok-progress.progress (sym c.is_ended.ensures ∙ c.if-is_ended.false) (sym c.is_grown.ensures ∙ c.if-not-is_grown.true) c.in_ok-progress.ensures.turned

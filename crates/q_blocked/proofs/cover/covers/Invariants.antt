@@ -1,4 +1,4 @@
-use Rattle.q_kernel.specs.Kernels.{slots}
+use Rattle.q_kernel.specs.Prelude.{slots}
 use Rattle.q_snapshot.specs.Rows.{AreRowsOf}
 use Rattle.q_blocked.specs.Units.{AreRight}
 use Rattle.q_blocked.specs.Growths.{Growing}

@@ -1,12 +1,11 @@
 use Rattle.std.proofs.Common.{ℕ, List, [], None, length, sym, subst}
-use Rattle.q_logic.specs.Formulas.{Clause}
-use Rattle.q_logic.specs.Numbered.{others}
-use Rattle.q_kernel.specs.Kernels.{slots}
-use Rattle.q_logic.proofs.Members.{test-false}
+use Rattle.q_logic.specs.Prelude.{Clause, others}
+use Rattle.q_kernel.specs.Prelude.{slots}
+use Rattle.q_logic.proofs.Common.{test-false}
 use Rattle.q_blocked.specs.declared.plan.Stage.{Stage}
 use Rattle.q_blocked.specs.Growths.{IsGrowing, IsCovered}
-use Rattle.q_blocked.proofs.Reaching.{reached-begun, covered-tautology}
-use Rattle.q_blocked.proofs.Growing.{growing-begun}
+use Rattle.q_blocked.proofs.ReachedSets.{reached-begun, covered-tautology}
+use Rattle.q_blocked.proofs.SetGrowth.{growing-begun}
 use Rattle.q_blocked.proofs.cover.decide.Goals as goal
 
 pub returns-then-is_tautology-clause-decided : goal.returns-then-is_tautology-clause-decided

@@ -1,10 +1,9 @@
 use Rattle.std.proofs.Common.{◌∷◌, ◌++◌, [], ℕ, List, None, length, sym, subst}
-use Rattle.q_logic.specs.Formulas.{Clause}
-use Rattle.q_logic.specs.Numbered.{others}
-use Rattle.q_kernel.specs.Kernels.{slots}
+use Rattle.q_logic.specs.Prelude.{Clause, others}
+use Rattle.q_kernel.specs.Prelude.{slots}
 use Rattle.q_blocked.specs.declared.plan.Stage.{Stage}
 use Rattle.q_blocked.specs.Growths.{IsGrowing}
-use Rattle.q_blocked.proofs.Growing.{growing-staged}
+use Rattle.q_blocked.proofs.SetGrowth.{growing-staged}
 use Rattle.q_blocked.proofs.cover.end_stage.Goals as goal
 
 pub returns-in_ok-note-clause-growing : goal.returns-in_ok-note-clause-growing

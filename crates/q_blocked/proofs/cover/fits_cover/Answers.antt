@@ -1,7 +1,7 @@
 use Rattle.std.proofs.Common.{Bool, true, sym, subst, true≢false}
-use Rattle.q_logic.proofs.Members.{test-false}
+use Rattle.q_logic.proofs.Common.{test-false}
 use Rattle.q_blocked.specs.Growths.{HasDecided}
-use Rattle.q_blocked.proofs.Planning.{planned}
+use Rattle.q_blocked.proofs.DecidedPlan.{planned}
 use Rattle.q_blocked.proofs.cover.fits_cover.Goals as goal
 
 pub returns-then-not-live-clause-fits : goal.returns-then-not-live-clause-fits

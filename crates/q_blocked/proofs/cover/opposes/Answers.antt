@@ -1,7 +1,6 @@
 use Rattle.std.proofs.Common.{◌≡◌, ◌↔◌, true, refl, sym, subst, inl, inr, true≢false}
-use Rattle.q_logic.specs.Literals.{Literal, negation}
-use Rattle.q_logic.specs.Formulas.{Clause, IsIn}
-use Rattle.q_logic.proofs.Members.{item-in, taken-cases, taken-all, test-false}
+use Rattle.q_logic.specs.Prelude.{Literal, negation, Clause, IsIn}
+use Rattle.q_logic.proofs.Common.{item-in, taken-cases, taken-all, test-false}
 use Rattle.q_blocked.proofs.cover.opposes.Goals as goal
 
 pub loop-k-init : goal.loop-k-init

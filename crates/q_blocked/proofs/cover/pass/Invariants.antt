@@ -1,4 +1,4 @@
-use Rattle.q_blocked.proofs.Passes.{IsPassing}
+use Rattle.q_blocked.proofs.CoverPass.{IsPassing}
 use Rattle.q_blocked.proofs.cover.pass.Given as goal
 
 abbrev pub invariant-loop-place : goal.invariant-loop-place

@@ -1,9 +1,7 @@
 use Rattle.std.proofs.Common.{◌≡◌, true, ◌+◌, take, subst}
-use Rattle.q_logic.specs.Literals.{Literal}
-use Rattle.q_logic.specs.Formulas.{Clause, IsIn}
-use Rattle.q_logic.specs.Pivots.{keeps}
-use Rattle.q_logic.proofs.Members.{item-in, taken-cases, taken-more, taken-last, taken-all}
-use Rattle.q_blocked.proofs.Sifting.{IsSifted, sifted-begun, sifted-more}
+use Rattle.q_logic.specs.Prelude.{Literal, Clause, IsIn, keeps}
+use Rattle.q_logic.proofs.Common.{item-in, taken-cases, taken-more, taken-last, taken-all}
+use Rattle.q_blocked.proofs.FilteredLiterals.{IsSifted, sifted-begun, sifted-more}
 use Rattle.q_blocked.proofs.covered.begin.Goals as goal
 
 pub is_fresh-requires-clause-there : goal.is_fresh-requires-clause-there

@@ -1,7 +1,7 @@
 use Rattle.std.proofs.Common.{◌++◌, ◌∷◌, [], List, ℕ, Contains, sym, subst}
-use Rattle.q_kernel.specs.Kernels.{slots}
-use Rattle.q_kernel.proofs.Turns.{holder-turn, all-came}
-use Rattle.q_blocked.proofs.Narrowing.{cut-begun, cut-more, cut-empty, cut-done}
+use Rattle.q_kernel.specs.Prelude.{slots}
+use Rattle.q_kernel.proofs.ForLoops.{holder-turn, all-came}
+use Rattle.q_blocked.proofs.CoveredLiterals.{cut-begun, cut-more, cut-empty, cut-done}
 use Rattle.q_blocked.proofs.covered.covered_at.Goals as goal
 
 pub narrow-requires : goal.narrow-requires

@@ -1,7 +1,6 @@
 use Rattle.std.proofs.Common.{◌≡◌, ◌<◌, ◌==◌, ◌∙◌, true, false, sym, List, [], ◌∷◌, length, refl, inl, arith}
 use Rattle.std.proofs.lemmas.Bool.Decides.{nat_tests}
-use Rattle.q_logic.specs.Literals.{Literal}
-use Rattle.q_logic.specs.Formulas.{IsIn}
+use Rattle.q_logic.specs.Prelude.{Literal, IsIn}
 use Rattle.q_blocked.proofs.covered.is_bare.Goals as goal
 
 none-in : (xs : List Literal) → length xs ≡ 0 → (k : Literal) → IsIn k xs → ⊥

@@ -1,10 +1,9 @@
 use Rattle.std.proofs.Common.{◌∙◌, refl, sym, inr, inl, subst, true≢false}
-use Rattle.q_logic.specs.Literals.{negation}
-use Rattle.q_logic.specs.Formulas.{Clause, IsIn}
+use Rattle.q_logic.specs.Prelude.{negation, Clause, IsIn}
 use Rattle.q_logic.specs.Blocking.{Clashes}
-use Rattle.q_kernel.specs.Kernels.{slots}
-use Rattle.q_rule.proofs.Slots.{slot-one}
-use Rattle.q_logic.proofs.Members.{test-false}
+use Rattle.q_kernel.specs.Prelude.{slots}
+use Rattle.q_rule.proofs.IdClauses.{slot-one}
+use Rattle.q_logic.proofs.Common.{test-false}
 use Rattle.q_blocked.proofs.covered.narrow.Goals as goal
 
 pub clashes-requires-clause-bound : goal.clashes-requires-clause-bound

@@ -1,8 +1,7 @@
 use Rattle.std.proofs.Common.{◌↔◌, ◌+◌, take, subst}
-use Rattle.q_logic.specs.Literals.{Literal}
-use Rattle.q_logic.specs.Formulas.{Clause, IsIn}
-use Rattle.q_logic.proofs.Members.{taken-cases, taken-more, taken-last, taken-all}
-use Rattle.q_blocked.proofs.Sifting.{IsSifted, sifted-begun, sifted-more}
+use Rattle.q_logic.specs.Prelude.{Literal, Clause, IsIn}
+use Rattle.q_logic.proofs.Common.{taken-cases, taken-more, taken-last, taken-all}
+use Rattle.q_blocked.proofs.FilteredLiterals.{IsSifted, sifted-begun, sifted-more}
 use Rattle.q_blocked.proofs.covered.sift_marked.Goals as goal
 
 pub loop-k-init : goal.loop-k-init

@@ -1,6 +1,6 @@
 use Rattle.std.proofs.Common.{take}
-use Rattle.q_logic.specs.Formulas.{IsIn}
-use Rattle.q_blocked.proofs.Sifting.{IsSifted}
+use Rattle.q_logic.specs.Prelude.{IsIn}
+use Rattle.q_blocked.proofs.FilteredLiterals.{IsSifted}
 use Rattle.q_blocked.proofs.covered.sift_marked.Given as goal
 
 abbrev pub invariant-loop-k : goal.invariant-loop-k

@@ -1,11 +1,9 @@
 use Rattle.std.proofs.Common.{Some, Option, subst}
-use Rattle.q_logic.specs.Literals.{Literal}
-use Rattle.q_logic.specs.Numbered.{others}
-use Rattle.q_logic.specs.StepForms.{first_of}
-use Rattle.q_kernel.specs.Kernels.{slots}
-use Rattle.q_rule.proofs.Steps.{delete-cost, implied-cost}
+use Rattle.q_logic.specs.Prelude.{Literal, others, first_of}
+use Rattle.q_kernel.specs.Prelude.{slots}
+use Rattle.q_rule.proofs.RuleSteps.{delete-cost, implied-cost}
 use Rattle.q_blocked.specs.Plans.{MayGo}
-use Rattle.q_blocked.proofs.Replacing.{may-go_implied, may-go_pivot, left-by}
+use Rattle.q_blocked.proofs.ClauseSwap.{may-go_implied, may-go_pivot, left-by}
 use Rattle.q_blocked.proofs.covering.delete.Goals as goal
 
 pub delete_pivot-requires : goal.delete_pivot-requires

@@ -1,4 +1,4 @@
-use Rattle.q_blocked.proofs.Replacing.{may-come, may-leave, replaced}
+use Rattle.q_blocked.proofs.ClauseSwap.{may-come, may-leave, replaced}
 use Rattle.q_blocked.proofs.covering.replace.Goals as goal
 
 pub add_implied-id-requires : goal.add_implied-id-requires

@@ -1,9 +1,8 @@
 use Rattle.std.proofs.Common.{◌≡◌, ◌++◌, ◌∙◌, [], List, Bool, true, false, cond, ap, sym, arith, vec_len, vec_capacity, length, ◌+◌, ◌≤◌, true≢false}
 use Rattle.std.specs.Result.{is_ok}
 use Rattle.std.proofs.lemmas.List.Filters.{dedup_is}
-use Rattle.q_logic.specs.Literals.{Literal}
-use Rattle.q_logic.specs.Clauses.{clause_of}
-use Rattle.q_logic.proofs.Sorting.{dedup-sorted}
+use Rattle.q_logic.specs.Prelude.{Literal, clause_of}
+use Rattle.q_logic.proofs.SortedSets.{dedup-sorted}
 use Rattle.q_blocked.proofs.covering.set_clause.Goals as goal
 
 filled : (b : Bool) (old lits new : List Literal) → old ≡ [] → b ≡ true → new ≡ cond b (old ++ lits) old → new ≡ lits

@@ -1,10 +1,9 @@
 use Rattle.std.proofs.Common.{◌≡◌, ◌<◌, ◌+◌, ◌++◌, ℕ, Bool, false, Some, slice_get, length, sym, subst, arith}
-use Rattle.q_logic.specs.Formulas.{Clause, IsIn}
-use Rattle.q_logic.specs.Numbered.{others}
-use Rattle.q_kernel.specs.Kernels.{slots}
-use Rattle.q_blocked.specs.Walks.{IsCalmAt}
+use Rattle.q_logic.specs.Prelude.{Clause, IsIn, others}
+use Rattle.q_kernel.specs.Prelude.{slots}
+use Rattle.q_blocked.specs.Walks.{GivesNoneAt}
 use Rattle.q_blocked.specs.Growths.{IsGrowing, HasSpread}
-use Rattle.q_blocked.proofs.Growing.{growing-walked}
+use Rattle.q_blocked.proofs.SetGrowth.{growing-walked}
 use Rattle.q_blocked.proofs.hidden.close.Goals as goal
 
 pub loop-growth-preserved : goal.loop-growth-preserved
@@ -26,7 +25,7 @@ loop-growth-preserved c =
         r.0.0,
         r.0.1,
         subst (λ (T : Clause). IsGrowing k.prefix X r.0.0 T new.plan.stages.items new.base (new.worked + 1)) (sym e)
-            (growing-walked k.prefix X r.0.0 old.set r.1.added new.plan.stages.items new.base new.worked i more at' (λ E m. subst (λ (T : Clause). IsCalmAt old.set T E) e (r.2 E m))
+            (growing-walked k.prefix X r.0.0 old.set r.1.added new.plan.stages.items new.base new.worked i more at' (λ E m. subst (λ (T : Clause). GivesNoneAt old.set T E) e (r.2 E m))
             (subst (λ (T : Clause). IsGrowing k.prefix X r.0.0 T new.plan.stages.items new.base new.worked) e r.0.2)),
       );
     }

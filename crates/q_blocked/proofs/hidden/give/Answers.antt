@@ -1,17 +1,12 @@
 use Rattle.std.proofs.Common.{◌≡◌, ◌++◌, ◌∷◌, [], true, None, refl, sym, subst, inl}
-use Rattle.q_logic.specs.Literals.{Literal, negation}
-use Rattle.q_logic.specs.Formulas.{Clause, IsIn}
-use Rattle.q_logic.specs.Prefixes.{is_bound}
-use Rattle.q_logic.specs.Numbered.{others}
-use Rattle.q_logic.proofs.Slots.{live-slot, others-slot}
-use Rattle.q_logic.proofs.Implying.{IsIn-append_right}
-use Rattle.q_kernel.specs.Kernels.{slots}
-use Rattle.q_logic.proofs.Members.{test-false}
-use Rattle.q_blocked.specs.Walks.{IsCalmAt}
+use Rattle.q_logic.specs.Prelude.{Literal, negation, Clause, IsIn, is_bound, others}
+use Rattle.q_logic.proofs.Common.{live-slot, others-slot, IsIn-append_right, test-false}
+use Rattle.q_kernel.specs.Prelude.{slots}
+use Rattle.q_blocked.specs.Walks.{GivesNoneAt}
 use Rattle.q_blocked.specs.Growths.{IsGrowing, IsCovered}
-use Rattle.q_rule.proofs.Slots.{slot-one}
-use Rattle.q_blocked.proofs.Reaching.{reached-hidden, covered-tautology}
-use Rattle.q_blocked.proofs.Growing.{growing-hidden, calm-given}
+use Rattle.q_rule.proofs.IdClauses.{slot-one}
+use Rattle.q_blocked.proofs.ReachedSets.{reached-hidden, covered-tautology}
+use Rattle.q_blocked.proofs.SetGrowth.{growing-hidden, gives_none-given}
 use Rattle.q_blocked.proofs.hidden.give.Goals as goal
 
 pub returns-then-has : goal.returns-then-has
@@ -56,5 +51,5 @@ returns c =
         subst (λ (T : Clause). IsGrowing k.prefix X c.requires.growing.0 T ss base worked) (sym e) (growing-hidden k.prefix X c.requires.growing.0 S ss base worked g h.0 new m h.2 b n),
       ),
       record { added = new ∷ []; set = e; stages = refl; base = refl; worked = refl },
-      λ E r. subst (λ (T : Clause). IsCalmAt S T E) (sym e) (subst (λ (D : Clause). IsCalmAt S (S ++ new ∷ []) D) (slot-one (slots k) c.args.d h.0 E h.1.1 r.1) (calm-given S h.0 new h.2 n)),
+      λ E r. subst (λ (T : Clause). GivesNoneAt S T E) (sym e) (subst (λ (D : Clause). GivesNoneAt S (S ++ new ∷ []) D) (slot-one (slots k) c.args.d h.0 E h.1.1 r.1) (gives_none-given S h.0 new h.2 n)),
     )

@@ -1,11 +1,10 @@
 use Rattle.std.proofs.Common.{◌≡◌, ◌↔◌, ◌∙◌, ◌<◌, ◌==◌, true, false, refl, sym, subst, length, arith}
 use Rattle.std.proofs.lemmas.Bool.Decides.{nat_tests}
-use Rattle.q_logic.specs.Literals.{Literal, negation}
-use Rattle.q_logic.specs.Formulas.{Clause, IsIn}
+use Rattle.q_logic.specs.Prelude.{Literal, negation, Clause, IsIn}
 use Rattle.q_kernel.proofs.Basics.{some-same}
 use Rattle.q_blocked.specs.Walks.{Gives}
-use Rattle.q_logic.proofs.Members.{item-in, test-false}
-use Rattle.q_blocked.proofs.Hiding.{gives-only, gives-first, calm-another, calm-there}
+use Rattle.q_logic.proofs.Common.{item-in, test-false}
+use Rattle.q_blocked.proofs.HiddenLiterals.{gives-only, gives-first, gives_none-another, gives_none-there}
 use Rattle.q_blocked.proofs.hidden.hidden_in.Goals as goal
 
 not_empty : (C : Clause) → (length C == 0) ≡ false → 0 < length C
@@ -15,12 +14,12 @@ pub returns-then-has-clause-none : goal.returns-then-has-clause-none
 returns-then-has-clause-none c e =
     let r = c.in-Some.ensures.some c.in-Some.k refl in
     let h : c.has.result ≡ true ↔ IsIn (negation c.in-Some.k) c.args.set.now = rw c.negated.ensures at c.has.ensures in
-    calm-there c.args.set.now c.args.clause.now c.in-Some.k r.0 r.1 (h.0 c.if-has.true)
+    gives_none-there c.args.set.now c.args.clause.now c.in-Some.k r.0 r.1 (h.0 c.if-has.true)
 
 pub returns-then-not-others_in-clause-none : goal.returns-then-not-others_in-clause-none
 returns-then-not-others_in-clause-none c e =
     let r = c.in-Some.ensures.some c.in-Some.k refl in
-    calm-another c.args.set.now c.args.clause.now c.in-Some.k r.0 r.1 (test-false c.others_in.result c.others_in.ensures c.if-not-others_in.true)
+    gives_none-another c.args.set.now c.args.clause.now c.in-Some.k r.0 r.1 (test-false c.others_in.result c.others_in.ensures c.if-not-others_in.true)
 
 pub returns-in-Some-clause-some : goal.returns-in-Some-clause-some
 returns-in-Some-clause-some c new e =

@@ -1,8 +1,7 @@
 use Rattle.std.proofs.Common.{◌≢◌, subst, sym, inl, inr, refl, true≢false}
-use Rattle.q_logic.specs.Literals.{Literal}
-use Rattle.q_logic.specs.Formulas.{Clause, IsIn}
+use Rattle.q_logic.specs.Prelude.{Literal, Clause, IsIn}
 use Rattle.q_logic.proofs.CoverRun.{in_or_not}
-use Rattle.q_logic.proofs.Members.{item-in, taken-cases, taken-all, test-false}
+use Rattle.q_logic.proofs.Common.{item-in, taken-cases, taken-all, test-false}
 use Rattle.q_blocked.proofs.hidden.others_in.Goals as goal
 
 pub loop-j-init : goal.loop-j-init

@@ -1,8 +1,6 @@
 use Rattle.std.proofs.Common.{subst, sym, inl, inr}
-use Rattle.q_logic.specs.Literals.{Literal}
-use Rattle.q_logic.specs.Formulas.{Clause, IsIn}
-use Rattle.q_logic.specs.Sets.{IsSubset}
-use Rattle.q_logic.proofs.Members.{item-in, taken-cases, taken-all, test-false}
+use Rattle.q_logic.specs.Prelude.{Literal, Clause, IsIn, IsSubset}
+use Rattle.q_logic.proofs.Common.{item-in, taken-cases, taken-all, test-false}
 use Rattle.q_kernel.proofs.Basics.{some-same}
 use Rattle.q_blocked.proofs.hidden.outside.Goals as goal
 

@@ -1,7 +1,7 @@
 use Rattle.std.proofs.Common.{ℕ, take}
-use Rattle.q_logic.specs.Formulas.{Clause, IsIn}
-use Rattle.q_kernel.specs.Kernels.{slots}
-use Rattle.q_blocked.specs.Walks.{IsBeside, IsCalmAt}
+use Rattle.q_logic.specs.Prelude.{Clause, IsIn}
+use Rattle.q_kernel.specs.Prelude.{slots}
+use Rattle.q_blocked.specs.Walks.{IsBeside, GivesNoneAt}
 use Rattle.q_blocked.specs.Growths.{Growing, IsPushed}
 use Rattle.q_blocked.proofs.hidden.use_units.Given as goal
 
@@ -9,5 +9,5 @@ abbrev pub invariant-loop-d : goal.invariant-loop-d
 invariant-loop-d l = record {
   growing : Growing l.kernel l.c l.growth;
   pushed : IsPushed l.fn.growth l.growth;
-  calm : (d : ℕ) → IsIn d (take l.d-index l.units) → (D : Clause) → IsBeside (slots l.kernel) l.c d D → IsCalmAt l.fn.growth.set l.growth.set D;
+  gives_none : (d : ℕ) → IsIn d (take l.d-index l.units) → (D : Clause) → IsBeside (slots l.kernel) l.c d D → GivesNoneAt l.fn.growth.set l.growth.set D;
 }

@@ -1,7 +1,6 @@
 use Rattle.std.proofs.Common.{◌≡◌, ◌≢◌, ◌⊎◌, ◌<◌, [], ◌∷◌, length, get_or, inl, inr, sym, ◌∙◌, subst, arith}
-use Rattle.q_logic.specs.Literals.{Literal}
-use Rattle.q_logic.specs.Formulas.{Clause, IsIn}
-use Rattle.q_logic.proofs.Members.{item-in}
+use Rattle.q_logic.specs.Prelude.{Literal, Clause, IsIn}
+use Rattle.q_logic.proofs.Common.{item-in}
 use Rattle.q_blocked.proofs.reasons.gives_but.Goals as goal
 
 -- one of the two is k, and the other one in S

@@ -1,9 +1,7 @@
-use Rattle.q_logic.specs.Literals.{negation}
-use Rattle.q_logic.specs.Formulas.{Clause, IsIn}
-use Rattle.q_logic.specs.Numbered.{others}
-use Rattle.q_logic.proofs.Slots.{others-slot}
-use Rattle.q_kernel.specs.Kernels.{slots}
-use Rattle.q_blocked.proofs.Given.{given-stuck}
+use Rattle.q_logic.specs.Prelude.{negation, Clause, IsIn, others}
+use Rattle.q_logic.proofs.Common.{others-slot}
+use Rattle.q_kernel.specs.Prelude.{slots}
+use Rattle.q_blocked.proofs.HiddenClosure.{given-closed}
 use Rattle.q_blocked.proofs.reasons.is_given.Goals as goal
 
 pub returns : goal.returns
@@ -13,4 +11,4 @@ returns c e =
     let D : Clause = c.clause_of.result.now in
     let m : IsIn D (others c.args.c (slots k)) = others-slot (slots k) c.args.d c.args.c D c.if-d-c.false c.clause_of.ensures.clause in
     let n : IsIn (negation c.args.l) D = (rw c.negated.ensures at c.gives_but.ensures.there) e in
-    given-stuck k.prefix (others c.args.c (slots k)) S D c.args.l c.requires m n ((rw c.negated.ensures at c.gives_but.ensures.others) e)
+    given-closed k.prefix (others c.args.c (slots k)) S D c.args.l c.requires m n ((rw c.negated.ensures at c.gives_but.ensures.others) e)

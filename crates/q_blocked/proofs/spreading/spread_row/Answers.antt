@@ -1,16 +1,16 @@
 use Rattle.std.proofs.Common.{ℕ, List, Bool, false, sym, subst, inl, inr}
-use Rattle.q_logic.specs.Formulas.{IsIn}
-use Rattle.q_kernel.specs.Kernels.{slots}
-use Rattle.q_logic.proofs.Members.{item-in, taken-cases, taken-all}
-use Rattle.q_rule.proofs.Slots.{others-find}
+use Rattle.q_logic.specs.Prelude.{IsIn}
+use Rattle.q_kernel.specs.Prelude.{slots}
+use Rattle.q_logic.proofs.Common.{item-in, taken-cases, taken-all}
+use Rattle.q_rule.proofs.IdClauses.{others-find}
 use Rattle.q_snapshot.specs.declared.entry.Entry.{Entry}
 use Rattle.q_blocked.specs.Walks.{IsBeside}
 use Rattle.q_blocked.specs.Growths.{HasSpread}
-use Rattle.q_blocked.proofs.Growing.{pushed-none, pushed-on, pushed-calm, pushed-less}
+use Rattle.q_blocked.proofs.SetGrowth.{pushed-none, pushed-on, pushed-gives_none, pushed-less}
 use Rattle.q_blocked.proofs.spreading.spread_row.Goals as goal
 
 pub loop-entry-init : goal.loop-entry-init
-loop-entry-init c = record { growing = c.requires.growing; pushed = pushed-none c.args.growth.now; calm = λ e m. absurd m }
+loop-entry-init c = record { growing = c.requires.growing; pushed = pushed-none c.args.growth.now; gives_none = λ e m. absurd m }
 
 pub take_entry-requires-clause-entry : goal.take_entry-requires-clause-entry
 take_entry-requires-clause-entry c =
@@ -30,8 +30,8 @@ loop-entry-preserved c =
     record {
       growing = r.0;
       pushed = pushed-on first old new c.loop-entry.invariant.pushed r.1;
-      calm = λ e m D b. elim (taken-cases row c.loop-entry.entry-index item e c.loop-entry-test.true c.entry-item.is m) [
-        | inl a ↦ pushed-calm first old new D r.1 (c.loop-entry.invariant.calm e a D b)
+      gives_none = λ e m D b. elim (taken-cases row c.loop-entry.entry-index item e c.loop-entry-test.true c.entry-item.is m) [
+        | inl a ↦ pushed-gives_none first old new D r.1 (c.loop-entry.invariant.gives_none e a D b)
         | inr q ↦ pushed-less first old new.set D c.loop-entry.invariant.pushed (r.2 D (subst (λ (x : Entry). IsBeside (slots k) c.args.c x.id D) q b))
       ];
     }
@@ -45,5 +45,5 @@ returns c =
       λ E m.
           let d = others-find (slots k) c.args.c E m.0 in
           let e = c.requires.row.all d.0 (E, d.2, m.1) in
-          c.loop-entry.invariant.calm e.0 (subst (λ (es : List Entry). IsIn e.0 es) (sym (taken-all row c.loop-entry.entry-index c.loop-entry-test.false)) e.1) E (subst (λ (x : ℕ). IsBeside (slots k) c.args.c x E) (sym e.2) (d.1, d.2)),
+          c.loop-entry.invariant.gives_none e.0 (subst (λ (es : List Entry). IsIn e.0 es) (sym (taken-all row c.loop-entry.entry-index c.loop-entry-test.false)) e.1) E (subst (λ (x : ℕ). IsBeside (slots k) c.args.c x E) (sym e.2) (d.1, d.2)),
     )

@@ -1,12 +1,10 @@
 use Rattle.std.proofs.Common.{◌≡◌, ◌≢◌, ℕ, zero, suc, [], ◌∷◌, length, take, Some, inl, inr, refl, sym, ◌∙◌, subst}
-use Rattle.q_logic.specs.Literals.{Literal, negation}
-use Rattle.q_logic.specs.Formulas.{Clause, IsIn}
-use Rattle.q_logic.specs.Numbered.{Slots, slot}
-use Rattle.q_kernel.specs.Kernels.{slots}
-use Rattle.q_rule.proofs.Slots.{slot-one}
+use Rattle.q_logic.specs.Prelude.{Literal, negation, Clause, IsIn, Slots, slot}
+use Rattle.q_kernel.specs.Prelude.{slots}
+use Rattle.q_rule.proofs.IdClauses.{slot-one}
 use Rattle.q_blocked.specs.Walks.{IsBeside, Gives}
-use Rattle.q_blocked.proofs.Growing.{spread-none}
-use Rattle.q_blocked.proofs.Hiding.{gives-only}
+use Rattle.q_blocked.proofs.SetGrowth.{spread-none}
+use Rattle.q_blocked.proofs.HiddenLiterals.{gives-only}
 use Rattle.q_blocked.proofs.spreading.take_entry.Goals as goal
 
 pub are_quiet-requires : goal.are_quiet-requires

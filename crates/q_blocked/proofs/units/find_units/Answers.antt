@@ -1,14 +1,10 @@
 use Rattle.std.proofs.Common.{◌≡◌, ◌∙◌, ℕ, List, [], ◌∷◌, Contains, Some, inl, inr, refl, sym, ap, subst, arith}
 use Rattle.std.proofs.lemmas.List.Elements.{Contains-push_cases}
-use Rattle.q_logic.specs.Literals.{Literal, IsBelow}
-use Rattle.q_logic.specs.Formulas.{Clause, IsIn}
-use Rattle.q_logic.specs.Numbered.{slot, live}
-use Rattle.q_logic.specs.Parts.{ArePairs}
-use Rattle.q_logic.proofs.Parts.{AllByRecursion-IsIn}
-use Rattle.q_logic.proofs.ClauseSets.{not_itself_below}
-use Rattle.q_kernel.specs.Kernels.{slots}
-use Rattle.q_kernel.proofs.Slotting.{slot-IsIn}
-use Rattle.q_kernel.proofs.Turns.{live-turn, all-came}
+use Rattle.q_logic.specs.Prelude.{Literal, IsBelow, Clause, IsIn, slot, live, ArePairs}
+use Rattle.q_logic.proofs.Common.{AllByRecursion-IsIn, not_itself_below}
+use Rattle.q_kernel.specs.Prelude.{slots}
+use Rattle.q_kernel.proofs.SlotLists.{slot-IsIn}
+use Rattle.q_kernel.proofs.ForLoops.{live-turn, all-came}
 use Rattle.q_blocked.specs.Units.{IsSingle}
 use Rattle.q_blocked.proofs.units.find_units.Goals as goal
 

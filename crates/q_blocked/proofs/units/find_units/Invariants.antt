@@ -1,4 +1,4 @@
-use Rattle.q_kernel.specs.Kernels.{slots}
+use Rattle.q_kernel.specs.Prelude.{slots}
 use Rattle.q_blocked.specs.Units.{HasUnitsAmong}
 use Rattle.q_blocked.proofs.units.find_units.Given as goal
 

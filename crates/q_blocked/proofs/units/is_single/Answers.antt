@@ -1,5 +1,5 @@
 use Rattle.std.proofs.Common.{◌<◌, ◌∙◌, length, sym, arith}
-use Rattle.q_logic.proofs.Members.{item-in, test-false}
+use Rattle.q_logic.proofs.Common.{item-in, test-false}
 use Rattle.q_blocked.proofs.units.is_single.Goals as goal
 
 pub returns-then-not-is : goal.returns-then-not-is

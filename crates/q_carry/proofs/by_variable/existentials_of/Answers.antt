@@ -1,4 +1,4 @@
-use Rattle.q_carry.proofs.Tabling.{existentials-exists, existentials-forall}
+use Rattle.q_carry.proofs.VariableTables.{existentials-exists, existentials-forall}
 use Rattle.q_carry.proofs.by_variable.existentials_of.Goals.{in-Forall, in-Exists+in_ok-put-in-Exists}
 use Rattle.q_carry.proofs.by_variable.existentials_of.Goals as goal
 

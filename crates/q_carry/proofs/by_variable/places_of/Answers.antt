@@ -1,4 +1,4 @@
-use Rattle.q_carry.proofs.Tabling.{places-more}
+use Rattle.q_carry.proofs.VariableTables.{places-more}
 use Rattle.q_carry.proofs.by_variable.places_of.Goals as goal
 
 pub loop-i-preserved : goal.loop-i-preserved

@@ -1,5 +1,5 @@
 use Rattle.std.proofs.Common.{◌≡◌, ◌<◌, length, arith}
-use Rattle.q_carry.proofs.Tabling.{allowed-forall, allowed-exists}
+use Rattle.q_carry.proofs.VariableTables.{allowed-forall, allowed-exists}
 use Rattle.q_carry.proofs.inputs.allow_all.Goals.{in-Forall, in-Exists}
 use Rattle.q_carry.proofs.inputs.allow_all.Goals as goal
 

@@ -1,4 +1,4 @@
-use Rattle.q_carry.proofs.Reading.{tree-of-output}
+use Rattle.q_carry.proofs.InputReads.{tree-of-output}
 use Rattle.q_carry.proofs.inputs.literal_at.Goals as goal
 
 pub returns-clause-tree : goal.returns-clause-tree

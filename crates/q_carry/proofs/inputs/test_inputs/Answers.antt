@@ -1,8 +1,8 @@
 use Rattle.std.proofs.Common.{◌≡◌, ℕ, List, Some, None, length, sym, subst, ap, ◌∙◌, get_or}
-use Rattle.q_aig.specs.Nets.{Net}
+use Rattle.q_aig.specs.Prelude.{Net}
 use Rattle.q_carry.specs.Refusals.{IsStrangeInput, input_name}
 use Rattle.q_carry.specs.Testing.{IsFirstOver}
-use Rattle.q_carry.proofs.Reading.{some-strange, no-strange}
+use Rattle.q_carry.proofs.InputReads.{some-strange, no-strange}
 use Rattle.q_carry.proofs.inputs.test_inputs.Goals as goal
 
 pub returns-in-Some-clause-refused : goal.returns-in-Some-clause-refused

@@ -1,8 +1,7 @@
 use Rattle.std.proofs.Common.{◌≡◌, ◌+◌, max, sym, subst}
-use Rattle.q_aig.specs.Nets.{Net, tree_at}
-use Rattle.q_aig.specs.Outputs.{net_of}
+use Rattle.q_aig.specs.Prelude.{Net, tree_at, net_of}
 use Rattle.q_carry.specs.Peaks.{IsPeak, IsTop}
-use Rattle.q_carry.proofs.Weighing.{top-none, top-more}
+use Rattle.q_carry.proofs.InputWeights.{top-none, top-more}
 use Rattle.q_carry.proofs.inputs.top_peak.Goals as goal
 
 pub loop-k-init : goal.loop-k-init

@@ -1,4 +1,4 @@
-use Rattle.q_carry.proofs.Alike.{fits-alike}
+use Rattle.q_carry.proofs.AlikeFit.{fits-alike}
 use Rattle.q_carry.proofs.laws.alike_circuits_fit_alike.Goals as goal
 
 pub returns : goal.returns

@@ -1,8 +1,7 @@
 use Rattle.std.proofs.Common.{subst, ◌∙◌}
 use Rattle.std.proofs.lemmas.List.{get_or_default}
-use Rattle.q_aig.specs.Nets.{IsNet}
-use Rattle.q_aig.specs.Outputs.{net_of}
-use Rattle.q_carry.proofs.Reading.{circuit-reads, fits-lawful}
+use Rattle.q_aig.specs.Prelude.{IsNet, net_of}
+use Rattle.q_carry.proofs.InputReads.{circuit-reads, fits-lawful}
 use Rattle.q_carry.proofs.laws.fitting_circuits_are_lawful.Goals as goal
 
 pub returns : goal.returns

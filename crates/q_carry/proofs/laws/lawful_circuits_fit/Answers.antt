@@ -1,4 +1,4 @@
-use Rattle.q_carry.proofs.Allowing.{lawful-fits}
+use Rattle.q_carry.proofs.LawfulFit.{lawful-fits}
 use Rattle.q_carry.proofs.laws.lawful_circuits_fit.Goals as goal
 
 pub returns : goal.returns

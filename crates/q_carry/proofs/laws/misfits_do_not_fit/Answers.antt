@@ -1,4 +1,4 @@
-use Rattle.q_carry.proofs.Denying.{misfit-not_fits}
+use Rattle.q_carry.proofs.Misfits.{misfit-not_fits}
 use Rattle.q_carry.proofs.laws.misfits_do_not_fit.Goals as goal
 
 pub returns : goal.returns

@@ -1,5 +1,5 @@
 use Rattle.std.proofs.Common.{sym, ◌∙◌}
-use Rattle.q_carry.proofs.Tabling.{missing-skip}
+use Rattle.q_carry.proofs.VariableTables.{missing-skip}
 use Rattle.q_carry.proofs.names.first_missing.Goals as goal
 
 pub loop-i-preserved : goal.loop-i-preserved

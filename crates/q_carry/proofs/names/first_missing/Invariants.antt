@@ -1,6 +1,6 @@
 use Rattle.std.proofs.Common.{◌≡◌, drop}
-use Rattle.q_logic.specs.Certificates.{CertificateView, trees_of}
-use Rattle.q_aig.specs.Outputs.{net_of}
+use Rattle.q_logic.specs.Prelude.{CertificateView, trees_of}
+use Rattle.q_aig.specs.Prelude.{net_of}
 use Rattle.q_carry.specs.Tabled.{AreCircuits}
 use Rattle.q_carry.specs.Refusals.{first_missing}
 use Rattle.q_carry.proofs.names.first_missing.Given as goal

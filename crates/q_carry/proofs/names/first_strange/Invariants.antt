@@ -1,6 +1,6 @@
 use Rattle.std.proofs.Common.{◌≡◌, drop, map}
-use Rattle.q_logic.specs.Formulas.{Prefix}
-use Rattle.q_aig.specs.Outputs.{output_of}
+use Rattle.q_logic.specs.Prelude.{Prefix}
+use Rattle.q_aig.specs.Prelude.{output_of}
 use Rattle.q_carry.specs.Tabled.{AreExistentials}
 use Rattle.q_carry.specs.Refusals.{first_strange}
 use Rattle.q_carry.proofs.names.first_strange.Given as goal

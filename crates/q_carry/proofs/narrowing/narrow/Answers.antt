@@ -1,10 +1,9 @@
 use Rattle.std.proofs.Common.{subst, length}
-use Rattle.q_aig.specs.Nets.{Net}
-use Rattle.q_aig.specs.Outputs.{net_of}
+use Rattle.q_aig.specs.Prelude.{Net, net_of}
 use Rattle.q_carry.specs.Copied.{AreMarked, AreCopied, ArePlaced}
 use Rattle.q_carry.specs.Made.{IsNamed}
-use Rattle.q_carry.proofs.Rows.{literals-kept}
-use Rattle.q_carry.proofs.Named.{narrowed}
+use Rattle.q_carry.proofs.LiteralRows.{literals-kept}
+use Rattle.q_carry.proofs.NamedCertificates.{narrowed}
 use Rattle.q_carry.proofs.narrowing.narrow.Goals as goal
 
 pub name_outputs-requires-clause-literals : goal.name_outputs-requires-clause-literals

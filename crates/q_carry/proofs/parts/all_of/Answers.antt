@@ -1,8 +1,8 @@
 use Rattle.std.proofs.Common.{◌≡◌, ◌+◌, ◌++◌, ◌∷◌, [], take, sym, subst, List, inl}
-use Rattle.q_logic.specs.Formulas.{Clause}
+use Rattle.q_logic.specs.Prelude.{Clause}
 use Rattle.q_carry.specs.Growing.{IsAllOf}
-use Rattle.q_carry.proofs.Lists.{take-slice_get}
-use Rattle.q_carry.proofs.Building.{all-more}
+use Rattle.q_carry.proofs.LongerLists.{take-slice_get}
+use Rattle.q_carry.proofs.CircuitParts.{all-more}
 use Rattle.q_carry.proofs.parts.all_of.Goals as goal
 
 pub loop-i-preserved : goal.loop-i-preserved

@@ -1,4 +1,4 @@
-use Rattle.q_carry.proofs.Building.{or-is}
+use Rattle.q_carry.proofs.CircuitParts.{or-is}
 use Rattle.q_carry.proofs.parts.or.Goals as goal
 
 pub returns-clause-disjunction : goal.returns-clause-disjunction

@@ -1,9 +1,9 @@
 use Rattle.std.proofs.Common.{◌≡◌, ◌+◌, ◌++◌, ◌∷◌, [], take, sym, subst}
-use Rattle.q_logic.specs.Formulas.{Clause}
+use Rattle.q_logic.specs.Prelude.{Clause}
 use Rattle.q_carry.specs.Growing.{IsSomeOf}
-use Rattle.q_carry.proofs.Lists.{take-item}
-use Rattle.q_carry.proofs.Rows.{literals-kept, literal-there}
-use Rattle.q_carry.proofs.Building.{some-more}
+use Rattle.q_carry.proofs.LongerLists.{take-item}
+use Rattle.q_carry.proofs.LiteralRows.{literals-kept, literal-there}
+use Rattle.q_carry.proofs.CircuitParts.{some-more}
 use Rattle.q_carry.proofs.parts.some_of.Goals as goal
 
 pub or-requires-clause-b : goal.or-requires-clause-b

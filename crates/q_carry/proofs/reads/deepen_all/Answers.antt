@@ -1,5 +1,5 @@
 use Rattle.std.proofs.Common.{◌≡◌, ◌<◌, length, arith}
-use Rattle.q_carry.proofs.Deepening.{depths-put}
+use Rattle.q_carry.proofs.InputDepths.{depths-put}
 use Rattle.q_carry.proofs.reads.deepen_all.Goals.{in-Forall, in-Exists}
 use Rattle.q_carry.proofs.reads.deepen_all.Goals as goal
 

@@ -1,14 +1,13 @@
 use Rattle.std.proofs.Common.{◌≡◌, ◌<◌, ℕ, List, Some, None, length, arith, sym, subst, ap, ◌∙◌, get_or}
-use Rattle.q_logic.specs.Certificates.{CertificateView}
-use Rattle.q_logic.specs.Prefixes.{is_exists}
-use Rattle.q_aig.specs.Nets.{Net}
+use Rattle.q_logic.specs.Prelude.{CertificateView, is_exists}
+use Rattle.q_aig.specs.Prelude.{Net}
 use Rattle.q_carry.specs.Refusals.{IsTooInner, input_name}
 use Rattle.q_carry.specs.Testing.{IsFirstIn}
-use Rattle.q_carry.proofs.Lists.{slice_get-below}
-use Rattle.q_carry.proofs.Opening.{no_bound}
-use Rattle.q_carry.proofs.Tabling.{allowed-forall, allowed-exists}
-use Rattle.q_carry.proofs.Reading.{too-inner, outer-here, outer-more, outer-skip}
-use Rattle.q_carry.proofs.Deepening.{shallow-allowed}
+use Rattle.q_carry.proofs.LongerLists.{slice_get-below}
+use Rattle.q_carry.proofs.PrefixInputs.{no_bound}
+use Rattle.q_carry.proofs.VariableTables.{allowed-forall, allowed-exists}
+use Rattle.q_carry.proofs.InputReads.{too-inner, outer-here, outer-more, outer-skip}
+use Rattle.q_carry.proofs.InputDepths.{shallow-allowed}
 use Rattle.q_carry.proofs.reads.first_reading.Goals.{in-Forall, in-Exists+in_default}
 use Rattle.q_carry.proofs.reads.first_reading.Goals as goal
 

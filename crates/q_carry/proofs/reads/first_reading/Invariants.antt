@@ -1,6 +1,6 @@
 use Rattle.std.proofs.Common.{◌≡◌, ◌<◌, ℕ, true, slice_get, Some, take}
 use Rattle.q_logic.specs.declared.formulas.Bound.{Bound}
-use Rattle.q_logic.specs.Prefixes.{is_exists}
+use Rattle.q_logic.specs.Prelude.{is_exists}
 use Rattle.q_carry.specs.Tabled.{AreAllowedBy}
 use Rattle.q_carry.specs.Refusals.{IsOuter}
 use Rattle.q_carry.proofs.reads.first_reading.Given as goal

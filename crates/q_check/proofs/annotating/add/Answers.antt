@@ -1,12 +1,10 @@
 use Rattle.std.proofs.Common.{Err, refl, sym, subst, arith}
 use Rattle.std.proofs.lemmas.Result.{err_from_is_err_and}
-use Rattle.q_logic.specs.Hinted.{NumberedFormula}
-use Rattle.q_logic.specs.Numbered.{live}
-use Rattle.q_logic.specs.Steps.{add}
-use Rattle.q_logic.proofs.Members.{test-false}
-use Rattle.q_judge.proofs.Trying.{add-unbound, add-roomless}
+use Rattle.q_logic.specs.Prelude.{NumberedFormula, live, add}
+use Rattle.q_logic.proofs.Common.{test-false}
+use Rattle.q_judge.proofs.TriedSteps.{add-unbound, add-roomless}
 use Rattle.q_check.specs.Annotations.{IsAnnotated}
-use Rattle.q_check.proofs.Answering.{add-not_shown, shown-warranted, add-shown}
+use Rattle.q_check.proofs.StepAnswers.{add-not_shown, shown-warranted, add-shown}
 use Rattle.q_check.proofs.annotating.add.Goals as goal
 
 pub returns-then-not-binds_all : goal.returns-then-not-binds_all

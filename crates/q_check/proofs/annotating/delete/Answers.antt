@@ -1,10 +1,9 @@
 use Rattle.std.proofs.Common.{Err, refl, sym, subst}
 use Rattle.std.proofs.lemmas.Result.{err_from_is_err_and}
-use Rattle.q_logic.specs.Hinted.{NumberedFormula}
-use Rattle.q_logic.specs.Steps.{delete}
-use Rattle.q_logic.proofs.Members.{test-false}
+use Rattle.q_logic.specs.Prelude.{NumberedFormula, delete}
+use Rattle.q_logic.proofs.Common.{test-false}
 use Rattle.q_check.specs.Annotations.{IsAnnotated}
-use Rattle.q_check.proofs.Answering.{delete-unbound, delete-missing, delete-not_shown, delete-shown}
+use Rattle.q_check.proofs.StepAnswers.{delete-unbound, delete-missing, delete-not_shown, delete-shown}
 use Rattle.q_check.proofs.annotating.delete.Goals as goal
 
 pub returns-then-not-binds_all : goal.returns-then-not-binds_all

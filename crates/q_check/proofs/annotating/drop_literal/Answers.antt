@@ -1,10 +1,9 @@
 use Rattle.std.proofs.Common.{Err, refl, sym, subst}
 use Rattle.std.proofs.lemmas.Result.{err_from_is_err_and}
-use Rattle.q_logic.specs.Hinted.{NumberedFormula}
-use Rattle.q_logic.specs.Steps.{drop_literal}
-use Rattle.q_logic.proofs.Members.{test-false}
+use Rattle.q_logic.specs.Prelude.{NumberedFormula, drop_literal}
+use Rattle.q_logic.proofs.Common.{test-false}
 use Rattle.q_check.specs.Annotations.{IsAnnotated}
-use Rattle.q_check.proofs.Answering.{drop-unbound, drop-missing, drop-not_shown, drop-shown}
+use Rattle.q_check.proofs.StepAnswers.{drop-unbound, drop-missing, drop-not_shown, drop-shown}
 use Rattle.q_check.proofs.annotating.drop_literal.Goals as goal
 
 pub returns-then-not-binds_all : goal.returns-then-not-binds_all

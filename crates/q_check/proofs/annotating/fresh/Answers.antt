@@ -1,8 +1,8 @@
 use Rattle.std.proofs.Common.{refl}
 use Rattle.std.proofs.lemmas.Result.{err_from_is_err_and}
-use Rattle.q_logic.specs.Numbered.{live}
-use Rattle.q_logic.proofs.Members.{test-false}
-use Rattle.q_judge.proofs.Trying.{fresh-refused}
+use Rattle.q_logic.specs.Prelude.{live}
+use Rattle.q_logic.proofs.Common.{test-false}
+use Rattle.q_judge.proofs.TriedSteps.{fresh-refused}
 use Rattle.q_check.proofs.annotating.fresh.Goals as goal
 
 pub returns-then-not-takes_fresh : goal.returns-then-not-takes_fresh

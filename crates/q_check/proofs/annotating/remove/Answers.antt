@@ -1,7 +1,7 @@
 use Rattle.std.proofs.Common.{◌∙◌, refl, sym}
-use Rattle.q_logic.specs.Numbered.{live}
-use Rattle.q_logic.proofs.Members.{test-false}
-use Rattle.q_judge.proofs.Trying.{remove-unbound, remove-occurring}
+use Rattle.q_logic.specs.Prelude.{live}
+use Rattle.q_logic.proofs.Common.{test-false}
+use Rattle.q_judge.proofs.TriedSteps.{remove-unbound, remove-occurring}
 use Rattle.q_check.proofs.annotating.remove.Goals as goal
 
 pub returns-then-not-binds : goal.returns-then-not-binds

@@ -1,7 +1,6 @@
 use Rattle.std.proofs.Common.{◌∙◌, sym, ap, subst}
 use Rattle.q_logic.specs.declared.steps.Kind.{Kind}
-use Rattle.q_logic.specs.StepForms.{step_of, IsStepForm}
-use Rattle.q_logic.specs.Steps.{ProofStep}
+use Rattle.q_logic.specs.Prelude.{step_of, IsStepForm, ProofStep}
 use Rattle.q_judge.specs.Ledgers.{formula_in}
 use Rattle.q_judge.specs.Tried.{IsTried}
 use Rattle.q_check.proofs.FirstLiterals.{first-dropped, first-removed}

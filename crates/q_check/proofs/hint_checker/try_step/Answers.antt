@@ -1,7 +1,6 @@
 use Rattle.std.proofs.Common.{◌∙◌, sym, ap, subst}
 use Rattle.q_logic.specs.declared.steps.Kind.{Kind}
-use Rattle.q_logic.specs.StepForms.{step_of, IsStepForm}
-use Rattle.q_logic.specs.Steps.{ProofStep}
+use Rattle.q_logic.specs.Prelude.{step_of, IsStepForm, ProofStep}
 use Rattle.q_check.specs.HintChecks.{IsHintTried}
 use Rattle.q_check.proofs.FirstLiterals.{first-dropped, first-removed}
 use Rattle.q_check.proofs.hint_checker.try_step.Goals as goal

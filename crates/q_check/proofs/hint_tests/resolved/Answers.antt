@@ -1,8 +1,8 @@
 use Rattle.std.proofs.Common.{◌<◌, ◌≤◌, ◌∙◌, length, sym, refl, arith, true≢false}
 use Rattle.q_logic.specs.ProofParts.{group_at}
-use Rattle.q_logic.proofs.Members.{test-false}
+use Rattle.q_logic.proofs.Common.{test-false}
 use Rattle.q_check.specs.Numbers.{left_out}
-use Rattle.q_check.proofs.Resolving.{left-slot, group-fails, groups-more, groups-all}
+use Rattle.q_check.proofs.HolderGroups.{left-slot, group-fails, groups-more, groups-all}
 use Rattle.q_check.proofs.hint_tests.resolved.Goals as goal
 
 pub returns-then-not-branch-clause-exact : goal.returns-then-not-branch-clause-exact

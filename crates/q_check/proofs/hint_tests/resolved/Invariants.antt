@@ -1,8 +1,5 @@
 use Rattle.std.proofs.Common.{◌≡◌, ◌<◌, ◌++◌, ℕ, Some}
-use Rattle.q_logic.specs.Formulas.{Clause}
-use Rattle.q_logic.specs.Hints.{Chained}
-use Rattle.q_logic.specs.Numbered.{slot}
-use Rattle.q_logic.specs.Pivots.{outer}
+use Rattle.q_logic.specs.Prelude.{Clause, Chained, slot, outer}
 use Rattle.q_logic.specs.ProofParts.{group_at}
 use Rattle.q_check.specs.Numbers.{left_out}
 use Rattle.q_check.proofs.hint_tests.resolved.Given as goal

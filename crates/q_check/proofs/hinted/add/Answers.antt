@@ -1,8 +1,8 @@
 use Rattle.std.proofs.Common.{refl, arith}
 use Rattle.std.proofs.lemmas.Result.{err_from_is_err_and}
-use Rattle.q_logic.specs.Hinted.{plain}
-use Rattle.q_logic.proofs.Members.{test-false}
-use Rattle.q_judge.proofs.Trying.{add-entry}
+use Rattle.q_logic.specs.Prelude.{plain}
+use Rattle.q_logic.proofs.Common.{test-false}
+use Rattle.q_judge.proofs.TriedSteps.{add-entry}
 use Rattle.q_check.proofs.HintCauses.{add-unbound, add-full, add-bad}
 use Rattle.q_check.proofs.hinted.add.Goals as goal
 

@@ -1,6 +1,6 @@
 use Rattle.std.proofs.Common.{refl}
 use Rattle.std.proofs.lemmas.Result.{err_from_is_err_and}
-use Rattle.q_logic.proofs.Members.{test-false}
+use Rattle.q_logic.proofs.Common.{test-false}
 use Rattle.q_check.proofs.HintCauses.{delete-unbound, delete-missing, delete-bad}
 use Rattle.q_check.proofs.hinted.delete.Goals as goal
 

@@ -3,13 +3,9 @@ use denote.Enum.Bare.{sameb}
 use Rattle.q_logic.specs.contracts.proof_part.ProofKind.{the_type}
 use Rattle.q_logic.specs.declared.proof_part.ProofKind.{ProofKind}
 use Rattle.q_logic.specs.declared.proof_part.ProofKind.TheVariants.{Pivot}
-use Rattle.q_logic.specs.Literals.{Literal}
-use Rattle.q_logic.specs.Formulas.{Clause}
-use Rattle.q_logic.specs.Hinted.{NumberedFormula, ProofPart, Shows, beside, plain}
-use Rattle.q_logic.specs.Numbered.{slot, live}
-use Rattle.q_logic.specs.Steps.{delete, one_less}
-use Rattle.q_logic.proofs.Alike.{implied-within}
-use Rattle.q_logic.proofs.Chaining.{chained-implied}
+use Rattle.q_logic.specs.Prelude.{Literal, Clause, NumberedFormula, ProofPart, Shows, beside, plain, slot, live, delete, one_less}
+use Rattle.q_logic.proofs.Common.{implied-within}
+use Rattle.q_logic.proofs.HintChains.{chained-implied}
 use Rattle.q_logic.proofs.HintedRuns.{forward, shows-warranted}
 use Rattle.q_judge.specs.Tried.{IsEntry}
 use Rattle.q_check.proofs.hinted.deletion_entry.Goals as goal

@@ -1,15 +1,11 @@
 use Rattle.std.proofs.Common.{◌≡◌, ℕ, Err, refl, sym, subst, inl, inr}
 use Rattle.std.proofs.lemmas.Result.{err_from_is_err_and}
 use Rattle.q_logic.specs.declared.limits.Limits.{Limits}
-use Rattle.q_logic.specs.Literals.{Literal}
-use Rattle.q_logic.specs.Formulas.{Clause}
-use Rattle.q_logic.specs.Hinted.{NumberedFormula, ProofPart, beside, plain}
-use Rattle.q_logic.specs.Numbered.{slot}
-use Rattle.q_logic.specs.Steps.{Within, drop_literal}
-use Rattle.q_logic.proofs.Members.{test-false}
+use Rattle.q_logic.specs.Prelude.{Literal, Clause, NumberedFormula, ProofPart, beside, plain, slot, Within, drop_literal}
+use Rattle.q_logic.proofs.Common.{test-false}
 use Rattle.q_judge.specs.declared.error.CheckError.{CheckError}
 use Rattle.q_judge.specs.declared.error.CheckError.TheVariants.{Refused, NoMemory}
-use Rattle.q_judge.proofs.Trying.{drop-entry}
+use Rattle.q_judge.proofs.TriedSteps.{drop-entry}
 use Rattle.q_check.specs.HintChecks.{IsDropJudged, IsHintTried}
 use Rattle.q_check.proofs.HintCauses.{drop-unbound, drop-missing, drop-undroppable, drop-bad}
 use Rattle.q_check.proofs.hinted.drop_literal.Goals as goal

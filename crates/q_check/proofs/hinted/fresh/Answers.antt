@@ -1,5 +1,5 @@
 use Rattle.std.proofs.Common.{refl}
-use Rattle.q_logic.proofs.Members.{test-false}
+use Rattle.q_logic.proofs.Common.{test-false}
 use Rattle.q_check.proofs.HintCauses.{fresh-refused}
 use Rattle.q_check.proofs.hinted.fresh.Goals as goal
 

@@ -1,5 +1,5 @@
 use Rattle.std.proofs.Common.{◌∙◌, refl, sym}
-use Rattle.q_logic.proofs.Members.{test-false}
+use Rattle.q_logic.proofs.Common.{test-false}
 use Rattle.q_check.proofs.HintCauses.{remove-unbound, remove-occurring}
 use Rattle.q_check.proofs.hinted.remove.Goals as goal
 

@@ -1,6 +1,6 @@
 use Rattle.std.proofs.Common.{get_or, take}
 use Rattle.std.proofs.lemmas.List.{take_more}
-use Rattle.q_check.proofs.Naming.{numbers-push}
+use Rattle.q_check.proofs.HintNumbers.{numbers-push}
 use Rattle.q_check.proofs.numbered.name_all.Goals as goal
 
 pub loop-slot-preserved : goal.loop-slot-preserved

@@ -1,7 +1,7 @@
 use Rattle.std.proofs.Common.{List, ℕ, get_or, take, subst, sym}
 use Rattle.std.proofs.lemmas.List.{take_more}
 use Rattle.q_check.specs.Numbers.{HaveNamed}
-use Rattle.q_check.proofs.Booking.{have-push, take-whole}
+use Rattle.q_check.proofs.SlotNumbers.{have-push, take-whole}
 use Rattle.q_check.proofs.numbered.name_holders.Goals as goal
 
 pub loop-i-preserved : goal.loop-i-preserved

@@ -1,6 +1,6 @@
 use Rattle.std.proofs.Common.{◌∙◌, ap}
 use Rattle.q_check.specs.Annotations.{with_hints}
-use Rattle.q_check.proofs.Grouping.{implied-hinted}
+use Rattle.q_check.proofs.PushedHints.{implied-hinted}
 use Rattle.q_check.proofs.showing.by_hints.Goals as goal
 
 pub push_hints-requires : goal.push_hints-requires

@@ -1,6 +1,6 @@
 use Rattle.std.proofs.Common.{◌∙◌, ap}
 use Rattle.q_check.specs.Annotations.{with_hints}
-use Rattle.q_check.proofs.Grouping.{group-hinted, pushed-some, on_ok-then}
+use Rattle.q_check.proofs.PushedHints.{group-hinted, pushed-some, on_ok-then}
 use Rattle.q_check.proofs.showing.push_group.Goals as goal
 
 pub push_hints-requires : goal.push_hints-requires

@@ -2,7 +2,7 @@ use Rattle.std.proofs.Common.{◌∙◌, List, ℕ, ap, sym, take, get_or}
 use Rattle.std.proofs.lemmas.List.{take_more}
 use Rattle.q_logic.specs.ProofParts.{with_hint}
 use Rattle.q_check.specs.Annotations.{with_hints}
-use Rattle.q_check.proofs.Grouping.{hints_last-some, with_hints-push}
+use Rattle.q_check.proofs.PushedHints.{hints_last-some, with_hints-push}
 use Rattle.q_check.proofs.showing.push_hints.Goals as goal
 
 pub hint-requires : goal.hint-requires

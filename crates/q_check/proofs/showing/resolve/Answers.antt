@@ -1,7 +1,7 @@
 use Rattle.std.proofs.Common.{◌≡◌, ◌<◌, ◌++◌, ◌∷◌, [], ◌∙◌, List, ap, sym, subst, map, length, arith}
-use Rattle.q_logic.specs.Hinted.{HintGroup, ProofPart}
+use Rattle.q_logic.specs.Prelude.{HintGroup, ProofPart}
 use Rattle.q_check.specs.Numbers.{left_out}
-use Rattle.q_check.proofs.Grouping.{targets-step, same-at, unresolved, resolving, shown-step, AreShown}
+use Rattle.q_check.proofs.PushedHints.{targets-step, same-at, unresolved, resolving, shown-step, AreShown}
 use Rattle.q_check.proofs.showing.resolve.Goals as goal
 
 pub returns-then-not-branch-clause-exact : goal.returns-then-not-branch-clause-exact

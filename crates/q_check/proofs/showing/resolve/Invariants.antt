@@ -1,10 +1,6 @@
 use Rattle.std.proofs.Common.{◌≡◌, ◌++◌, take, map, Some}
 use Rattle.q_logic.specs.declared.proof_part.ProofKind.TheVariants.{Pivot}
-use Rattle.q_logic.specs.Formulas.{Clause, IsIn}
-use Rattle.q_logic.specs.Hinted.{HintGroup}
-use Rattle.q_logic.specs.Hints.{Chained}
-use Rattle.q_logic.specs.Numbered.{slot}
-use Rattle.q_logic.specs.Pivots.{outer}
+use Rattle.q_logic.specs.Prelude.{Clause, IsIn, HintGroup, Chained, slot, outer}
 use Rattle.q_check.specs.Numbers.{left_out}
 use Rattle.q_check.proofs.showing.resolve.Given as goal
 

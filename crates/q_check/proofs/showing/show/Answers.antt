@@ -1,6 +1,6 @@
 use Rattle.std.proofs.Common.{refl, Bool, subst}
 use Rattle.q_check.specs.Numbers.{left_out, Explains}
-use Rattle.q_check.proofs.Grouping.{unwarranted}
+use Rattle.q_check.proofs.PushedHints.{unwarranted}
 use Rattle.q_check.proofs.showing.show.Goals as goal
 
 pub returns-in-None-clause-shown : goal.returns-in-None-clause-shown

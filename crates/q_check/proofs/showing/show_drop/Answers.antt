@@ -1,7 +1,6 @@
 use Rattle.std.proofs.Common.{refl, None}
-use Rattle.q_logic.specs.Numbered.{live, set_slot}
-use Rattle.q_logic.specs.Reach.{Reducible}
-use Rattle.q_check.proofs.Grouping.{undroppable, denied}
+use Rattle.q_logic.specs.Prelude.{live, set_slot, Reducible}
+use Rattle.q_check.proofs.PushedHints.{undroppable, denied}
 use Rattle.q_check.proofs.showing.show_drop.Goals as goal
 
 pub returns-then-not-branch-clause-shown : goal.returns-then-not-branch-clause-shown

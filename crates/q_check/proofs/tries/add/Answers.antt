@@ -1,11 +1,11 @@
 use Rattle.std.proofs.Common.{Err, refl, sym, subst, arith}
 use Rattle.std.proofs.lemmas.Result.{err_from_is_err_and}
 use Rattle.q_prop.specs.Slots.{filled}
-use Rattle.q_logic.specs.Steps.{add}
+use Rattle.q_logic.specs.Prelude.{add}
 use Rattle.q_judge.specs.Ledgers.{Slotted, formula_in}
 use Rattle.q_judge.specs.Tried.{IsTried}
-use Rattle.q_logic.proofs.Members.{test-false}
-use Rattle.q_judge.proofs.Trying.{of, add-unbound, add-refused, add-roomless, add-after, add-entry}
+use Rattle.q_logic.proofs.Common.{test-false}
+use Rattle.q_judge.proofs.TriedSteps.{of, add-unbound, add-refused, add-roomless, add-after, add-entry}
 use Rattle.q_check.proofs.tries.add.Goals as goal
 
 pub returns-then-not-binds_all : goal.returns-then-not-binds_all

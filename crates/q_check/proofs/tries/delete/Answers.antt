@@ -1,10 +1,8 @@
 use Rattle.std.proofs.Common.{Err, subst}
-use Rattle.q_logic.specs.Formulas.{Prefix}
-use Rattle.q_logic.specs.Numbered.{Slots}
+use Rattle.q_logic.specs.Prelude.{Prefix, Slots, first_of}
 use Rattle.std.proofs.lemmas.Result.{err_from_is_err_and}
-use Rattle.q_logic.specs.StepForms.{first_of}
 use Rattle.q_judge.specs.Warrants.{IsSlotOf}
-use Rattle.q_judge.proofs.Trying.{delete-unfound}
+use Rattle.q_judge.proofs.TriedSteps.{delete-unfound}
 use Rattle.q_check.proofs.tries.delete.Goals as goal
 
 pub returns-in_err-at : goal.returns-in_err-at

@@ -1,13 +1,11 @@
 use Rattle.std.proofs.Common.{true, Option, Some, Err, refl, sym, subst}
 use Rattle.std.proofs.lemmas.Result.{err_from_is_err_and}
 use Rattle.q_prop.specs.Slots.{filled, without}
-use Rattle.q_logic.specs.StepForms.{first_of}
-use Rattle.q_logic.specs.Literals.{Literal}
-use Rattle.q_logic.specs.Steps.{delete}
+use Rattle.q_logic.specs.Prelude.{first_of, Literal, delete}
 use Rattle.q_judge.specs.Ledgers.{Slotted, formula_in}
 use Rattle.q_judge.specs.Tried.{IsTried}
 use Rattle.q_judge.specs.Warrants.{IsAnswered}
-use Rattle.q_judge.proofs.Trying.{delete-refused, delete-valid, delete-after, delete-entry, warranted}
+use Rattle.q_judge.proofs.TriedSteps.{delete-refused, delete-valid, delete-after, delete-entry, warranted}
 use Rattle.q_check.proofs.tries.delete_noted.Goals as goal
 
 pub returns-in_err-warrant : goal.returns-in_err-warrant

@@ -1,11 +1,10 @@
 use Rattle.std.proofs.Common.{Err, refl, subst}
-use Rattle.q_logic.specs.Formulas.{Prefix}
-use Rattle.q_logic.specs.Numbered.{Slots}
+use Rattle.q_logic.specs.Prelude.{Prefix, Slots}
 use Rattle.std.proofs.lemmas.Result.{err_from_is_err_and}
 use Rattle.q_prop.specs.Slots.{filled}
 use Rattle.q_judge.specs.Warrants.{IsSlotOf}
-use Rattle.q_logic.proofs.Members.{test-false}
-use Rattle.q_judge.proofs.Trying.{of, drop-unfound, drop-refused, drop-valid, drop-after, drop-entry}
+use Rattle.q_logic.proofs.Common.{test-false}
+use Rattle.q_judge.proofs.TriedSteps.{of, drop-unfound, drop-refused, drop-valid, drop-after, drop-entry}
 use Rattle.q_check.proofs.tries.drop_literal.Goals as goal
 
 pub returns-in_err-at : goal.returns-in_err-at

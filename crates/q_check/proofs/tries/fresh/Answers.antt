@@ -1,10 +1,9 @@
 use Rattle.std.proofs.Common.{refl}
 use Rattle.std.proofs.lemmas.Result.{err_from_is_err_and}
-use Rattle.q_logic.specs.Steps.{insert_after}
+use Rattle.q_logic.specs.Prelude.{insert_after}
 use Rattle.q_prop.specs.Slots.{filled}
-use Rattle.q_logic.proofs.Members.{test-false}
-use Rattle.q_logic.proofs.Alike.{alike_itself}
-use Rattle.q_judge.proofs.Trying.{of, fresh-refused, fresh-entry}
+use Rattle.q_logic.proofs.Common.{test-false, alike_itself}
+use Rattle.q_judge.proofs.TriedSteps.{of, fresh-refused, fresh-entry}
 use Rattle.q_check.proofs.tries.fresh.Goals as goal
 
 pub returns-then-not-takes_fresh : goal.returns-then-not-takes_fresh

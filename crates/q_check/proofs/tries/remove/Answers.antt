@@ -1,10 +1,8 @@
 use Rattle.std.proofs.Common.{◌≡◌, ◌∙◌, true, refl, sym}
-use Rattle.q_logic.specs.Prefixes.{is_bound}
-use Rattle.q_logic.specs.Steps.{removed_from, IsAbsent}
+use Rattle.q_logic.specs.Prelude.{is_bound, removed_from, IsAbsent}
 use Rattle.q_prop.specs.Slots.{filled}
-use Rattle.q_logic.proofs.Members.{test-false}
-use Rattle.q_logic.proofs.Alike.{alike_itself}
-use Rattle.q_judge.proofs.Trying.{of, remove-unbound, remove-occurring, removed-entry}
+use Rattle.q_logic.proofs.Common.{test-false, alike_itself}
+use Rattle.q_judge.proofs.TriedSteps.{of, remove-unbound, remove-occurring, removed-entry}
 use Rattle.q_check.proofs.tries.remove.Goals as goal
 
 pub returns-then-not-binds : goal.returns-then-not-binds

@@ -1,5 +1,5 @@
 use Rattle.std.proofs.Common.{refl}
-use Rattle.q_command.proofs.Concluding.{has_left, has_failed}
+use Rattle.q_command.proofs.LogEnd.{has_left, has_failed}
 use Rattle.q_command.proofs.audit.end.Goals as goal
 
 pub returns-in-Ok-clause-passed : goal.returns-in-Ok-clause-passed

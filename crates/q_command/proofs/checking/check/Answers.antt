@@ -1,5 +1,5 @@
 use Rattle.q_io.specs.Files.{bytes_at}
-use Rattle.q_command.proofs.Exact.{truth_files}
+use Rattle.q_command.proofs.CheckStatus.{truth_files}
 use Rattle.q_command.proofs.checking.check.Goals as goal
 
 pub returns-in-Ok-clause-truth : goal.returns-in-Ok-clause-truth

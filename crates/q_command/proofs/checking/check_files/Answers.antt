@@ -1,7 +1,7 @@
 use Rattle.std.proofs.Common.{◌∙◌}
 use Rattle.q_io.specs.Files.{bytes_at}
-use Rattle.q_command.proofs.Feeding.{at_same}
-use Rattle.q_command.proofs.Concluding.{files_pass}
+use Rattle.q_command.proofs.FilePieces.{at_same}
+use Rattle.q_command.proofs.LogEnd.{files_pass}
 use Rattle.q_command.proofs.checking.check_files.Goals as goal
 
 pub returns-in-Ok-check_log-clause-passes : goal.returns-in-Ok-check_log-clause-passes

@@ -1,7 +1,7 @@
 use Rattle.std.proofs.Common.{ℕ, List, subst}
 use Rattle.q_io.specs.Files.{bytes_at}
 use Rattle.q_aiger.specs.Circuits.{AreCircuits}
-use Rattle.q_command.proofs.Feeding.{if_some_1}
+use Rattle.q_command.proofs.FilePieces.{if_some_1}
 use Rattle.q_command.proofs.WholeFiles.{text-circuits, refused-fails}
 use Rattle.q_command.proofs.circuits.read_circuits.Goals as goal
 

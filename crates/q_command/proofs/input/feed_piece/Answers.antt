@@ -1,7 +1,7 @@
 use Rattle.std.proofs.Common.{◌≡◌, sym, ap, arith, length, take, length-take, Err}
-use Rattle.q_logic.specs.Limits.{standard}
+use Rattle.q_logic.specs.Prelude.{standard}
 use Rattle.q_io.specs.Files.{bytes_at}
-use Rattle.q_command.proofs.Feeding.{reads_on, feeds, offends, if_some_1}
+use Rattle.q_command.proofs.FilePieces.{reads_on, feeds, offends, if_some_1}
 use Rattle.q_command.proofs.input.feed_piece.Goals as goal
 
 pub returns-in-Ok-feed-clause-reading : goal.returns-in-Ok-feed-clause-reading

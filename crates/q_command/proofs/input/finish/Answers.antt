@@ -1,7 +1,7 @@
 use Rattle.std.proofs.Common.{ap, Err}
-use Rattle.q_logic.specs.Limits.{standard}
-use Rattle.q_command.proofs.Feeding.{finish_offends}
-use Rattle.q_command.proofs.Limits.{dimacs-limits}
+use Rattle.q_logic.specs.Prelude.{standard}
+use Rattle.q_command.proofs.FilePieces.{finish_offends}
+use Rattle.q_command.proofs.FormulaLimits.{dimacs-limits}
 use Rattle.q_command.proofs.input.finish.Goals as goal
 
 pub returns-in-Err-clause-refused : goal.returns-in-Err-clause-refused

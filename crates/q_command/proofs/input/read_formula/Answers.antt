@@ -1,8 +1,8 @@
 use Rattle.std.proofs.Common.{subst, arith, []}
 use Rattle.q_io.specs.Files.{bytes_at}
-use Rattle.q_io.proofs.Counts.{reads_at_once, reads_still, rose_later}
+use Rattle.q_io.proofs.FaultCounts.{reads_at_once, reads_still, rose_later}
 use Rattle.q_dimacs.specs.Scanning.{HasRead}
-use Rattle.q_command.proofs.Feeding.{if_some, if_some_2, at_same, begins, starts, ends_formula, ends_refused, ends_limits, err_of}
+use Rattle.q_command.proofs.FilePieces.{if_some, if_some_2, at_same, begins, starts, ends_formula, ends_refused, ends_limits, err_of}
 use Rattle.q_command.proofs.input.read_formula.Goals as goal
 
 pub loop-reader-init : goal.loop-reader-init

@@ -1,5 +1,5 @@
 use Rattle.std.proofs.Common.{false}
-use Rattle.q_command.proofs.Judging.{stopped-plain}
+use Rattle.q_command.proofs.BothCheckers.{stopped-plain}
 use Rattle.q_command.proofs.judges.finish_plain.Goals as goal
 
 pub returns-clause-refused : goal.returns-clause-refused

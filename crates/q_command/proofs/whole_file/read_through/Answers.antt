@@ -1,8 +1,8 @@
 use Rattle.std.proofs.Common.{arith, inl}
 use Rattle.q_io.specs.Files.{bytes_at}
-use Rattle.q_io.proofs.Counts.{reads_still}
+use Rattle.q_io.proofs.FaultCounts.{reads_still}
 use Rattle.q_command.specs.Texts.{IsTextOf}
-use Rattle.q_command.proofs.Feeding.{if_some_1, if_some_2, at_same, ok_goes}
+use Rattle.q_command.proofs.FilePieces.{if_some_1, if_some_2, at_same, ok_goes}
 use Rattle.q_command.proofs.WholeFiles.{front-more, front-end, front-long}
 use Rattle.q_command.proofs.whole_file.read_through.Goals as goal
 

@@ -1,5 +1,5 @@
 use Rattle.std.proofs.Common.{◌<◌, ℕ, [], ◌∷◌, ◌++◌, List, Vec, Global, length, ap, ◌∙◌, arith}
-use Rattle.q_counts.proofs.Rows.{pushed}
+use Rattle.q_counts.proofs.CountRows.{pushed}
 use Rattle.q_counts.proofs.holders.push_at.Goals as goal
 
 pub returns : goal.returns

@@ -1,5 +1,5 @@
-use Rattle.q_dimacs.proofs.Grammar as law
-use Rattle.q_dimacs.proofs.Converse as back
+use Rattle.q_dimacs.proofs.GrammarIsRead as law
+use Rattle.q_dimacs.proofs.ReadIsGrammar as back
 use Rattle.q_dimacs.proofs.laws.grammar_is_read.Goals as goal
 
 pub returns : goal.returns

@@ -1,4 +1,4 @@
-use Rattle.q_dimacs.proofs.Short.{within-is_read}
+use Rattle.q_dimacs.proofs.TextLimits.{within-is_read}
 use Rattle.q_dimacs.proofs.laws.written_within_limits_is_read.Goals as goal
 
 pub returns : goal.returns

@@ -1,6 +1,6 @@
 use Rattle.std.proofs.Common.{◌∙◌, sym, arith}
 use Rattle.q_dimacs.specs.Building.{is_marked_free}
-use Rattle.q_dimacs.proofs.Free.{bounds-yes, bounds-no}
+use Rattle.q_dimacs.proofs.FreeVariables.{bounds-yes, bounds-no}
 use Rattle.q_dimacs.proofs.parts.free_of.Goals as goal
 use Rattle.q_dimacs.proofs.parts.free_of.Goals.{then-is_free_at+in_ok-push, else-is_free_at}
 

@@ -1,7 +1,7 @@
 use Rattle.std.proofs.Common.{◌<◌, subst, sym, arith}
 use Rattle.std.proofs.lemmas.Bool.Decides.{nat_tests}
-use Rattle.q_logic.specs.Literals.{pack}
-use Rattle.q_dimacs.proofs.Rising.{IsRising, rising-more}
+use Rattle.q_logic.specs.Prelude.{pack}
+use Rattle.q_dimacs.proofs.RisingLiterals.{IsRising, rising-more}
 use Rattle.std.proofs.Common.{take, ◌+◌, ℕ}
 use Rattle.q_dimacs.proofs.parts.is_ordered.Goals as goal
 

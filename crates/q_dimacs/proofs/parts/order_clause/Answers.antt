@@ -1,5 +1,5 @@
 use Rattle.std.proofs.Common.{◌≡◌, true, sym}
-use Rattle.q_logic.proofs.ClauseSets.{clause_of-ordered_clause}
+use Rattle.q_logic.proofs.Common.{clause_of-ordered_clause}
 use Rattle.q_dimacs.proofs.parts.order_clause.Goals as goal
 
 pub returns-else-not-is_ordered : goal.returns-else-not-is_ordered

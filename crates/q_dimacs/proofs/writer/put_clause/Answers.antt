@@ -1,8 +1,8 @@
 use Rattle.std.proofs.Common.{◌+◌, ◌≤◌, arith, map, length, length-append}
-use Rattle.q_logic.specs.Literals.{number_of}
+use Rattle.q_logic.specs.Prelude.{number_of}
 use Rattle.q_text.specs.Numbers.{number_text, numbers_text, line_end}
-use Rattle.q_dimacs.proofs.Writing.{literal-next, next-fits}
-use Rattle.q_text.proofs.Extending.{extends-more, on-err}
+use Rattle.q_dimacs.proofs.UnwrittenLists.{literal-next, next-fits}
+use Rattle.q_text.proofs.LongerTexts.{extends-more, on-err}
 use Rattle.q_dimacs.proofs.writer.put_clause.Goals as goal
 
 pub returns-in_err-put_literal-clause-err : goal.returns-in_err-put_literal-clause-err

@@ -1,5 +1,5 @@
 use Rattle.std.proofs.Common.{◌≡◌, ◌++◌, ◌≤◌, vec_capacity, drop, map}
-use Rattle.q_logic.specs.Literals.{number_of}
+use Rattle.q_logic.specs.Prelude.{number_of}
 use Rattle.q_text.specs.Numbers.{numbers_text}
 use Rattle.q_text.specs.Texts.{Extends}
 use Rattle.q_dimacs.proofs.writer.put_clause.Given as goal

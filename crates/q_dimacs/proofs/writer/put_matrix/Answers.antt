@@ -1,7 +1,7 @@
 use Rattle.std.proofs.Common.{◌++◌, ◌∙◌, ◌+◌, ap, sym, append_assoc, drop, ◌≤◌, length, arith}
 use Rattle.q_dimacs.specs.Writing.{clause_text, matrix_text}
-use Rattle.q_dimacs.proofs.Writing.{extends-append, matrix-next, next-fits}
-use Rattle.q_text.proofs.Extending.{extends-more, on-err}
+use Rattle.q_dimacs.proofs.UnwrittenLists.{extends-append, matrix-next, next-fits}
+use Rattle.q_text.proofs.LongerTexts.{extends-more, on-err}
 use Rattle.q_dimacs.proofs.writer.put_matrix.Goals as goal
 
 pub returns-in_err-put_clause-clause-err : goal.returns-in_err-put_clause-clause-err

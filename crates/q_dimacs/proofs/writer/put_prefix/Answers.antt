@@ -2,8 +2,8 @@ use Rattle.std.proofs.Common.{◌+◌, ◌≤◌, ◌++◌, ◌∙◌, [], ap, s
 use Rattle.q_logic.specs.declared.formulas.Bound.{Bound}
 use Rattle.q_logic.specs.declared.formulas.Quant.TheVariants.{Exists}
 use Rattle.q_dimacs.specs.Writing.{bound_text, bounds_text, closing}
-use Rattle.q_dimacs.proofs.Writing.{bounds-done, bounds-next, blocks-bounds, next-fits}
-use Rattle.q_text.proofs.Extending.{extends-more, on-err}
+use Rattle.q_dimacs.proofs.UnwrittenLists.{bounds-done, bounds-next, blocks-bounds, next-fits}
+use Rattle.q_text.proofs.LongerTexts.{extends-more, on-err}
 use Rattle.q_dimacs.proofs.writer.put_prefix.Goals as goal
 
 -- a bound at no place

@@ -1,15 +1,10 @@
 use Rattle.std.proofs.Common.{◌∙◌, true≢false, sym, subst}
 use Rattle.std.proofs.lemmas.Option.{same_Some}
-use Rattle.q_logic.specs.Literals.{IsBelow, negation}
-use Rattle.q_logic.specs.Formulas.{Clause, Matrix, IsIn}
-use Rattle.q_logic.specs.Parts.{ArePairs}
-use Rattle.q_logic.specs.StepForms.{first_of}
-use Rattle.q_logic.specs.Eliminating.{resolvent}
-use Rattle.q_kernel.specs.Kernels.{slots}
-use Rattle.q_kernel.specs.Changes.{MayAdd, IsAdded}
-use Rattle.q_rule.proofs.Steps.{clause-within}
+use Rattle.q_logic.specs.Prelude.{IsBelow, negation, Clause, Matrix, IsIn, ArePairs, first_of, resolvent}
+use Rattle.q_kernel.specs.Prelude.{slots, MayAdd, IsAdded}
+use Rattle.q_rule.proofs.RuleSteps.{clause-within}
 use Rattle.q_eliminate.specs.Growing.{CanGrow, HasGrown}
-use Rattle.q_eliminate.proofs.Coming.{may-come, has-come, come-none, resolvent-ordered, resolvent-within, told-plain, told-tautology}
+use Rattle.q_eliminate.proofs.AddedClauses.{may-come, has-come, come-none, resolvent-ordered, resolvent-within, told-plain, told-tautology}
 use Rattle.q_eliminate.proofs.adding.add_one.Goals as goal
 
 pub is_tautology-requires : goal.is_tautology-requires

@@ -1,14 +1,10 @@
 use Rattle.std.proofs.Common.{◌+◌, ◌++◌, ◌∙◌, drop, get_or, length, sym, ap, subst, arith}
-use Rattle.q_logic.specs.Literals.{negation}
-use Rattle.q_logic.specs.Formulas.{Clause, Matrix}
-use Rattle.q_logic.specs.Measure.{size_of}
-use Rattle.q_logic.specs.Eliminating.{resolve_one, resolve_all}
-use Rattle.q_kernel.specs.Kernels.{slots}
+use Rattle.q_logic.specs.Prelude.{negation, Clause, Matrix, size_of, resolve_one, resolve_all, clauses_at}
+use Rattle.q_kernel.specs.Prelude.{slots}
 use Rattle.q_eliminate.specs.Growing.{CanGrow, HasGrown}
 use Rattle.q_eliminate.specs.Sides.{clause_in}
-use Rattle.q_logic.specs.Numbered.{clauses_at}
-use Rattle.q_eliminate.proofs.Along.{id-in}
-use Rattle.q_eliminate.proofs.Coming.{growing-same, growing-more, can-part, parent-kept, in-kept, at-kept, next-resolvents, short-at}
+use Rattle.q_eliminate.proofs.IdWalks.{id-in}
+use Rattle.q_eliminate.proofs.AddedClauses.{growing-same, growing-more, can-part, parent-kept, in-kept, at-kept, next-resolvents, short-at}
 use Rattle.q_eliminate.proofs.adding.add_resolvents.Goals as goal
 
 pub add_with-requires-clause-parent : goal.add_with-requires-clause-parent

@@ -1,9 +1,8 @@
 use Rattle.std.proofs.Common.{◌≡◌, drop}
 use Rattle.std.specs.Vec.{vec_capacity}
-use Rattle.q_logic.specs.Eliminating.{resolve_all}
-use Rattle.q_kernel.specs.Kernels.{slots}
-use Rattle.q_logic.specs.Numbered.{clauses_at}
-use Rattle.q_eliminate.proofs.Coming.{IsGrowing}
+use Rattle.q_logic.specs.Prelude.{resolve_all, clauses_at}
+use Rattle.q_kernel.specs.Prelude.{slots}
+use Rattle.q_eliminate.proofs.AddedClauses.{IsGrowing}
 use Rattle.q_eliminate.proofs.adding.add_resolvents.Given as goal
 
 abbrev pub invariant-loop-c : goal.invariant-loop-c

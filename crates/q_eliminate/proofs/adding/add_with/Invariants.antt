@@ -1,10 +1,9 @@
 use Rattle.std.proofs.Common.{◌≡◌, drop}
 use Rattle.std.specs.Vec.{vec_capacity}
-use Rattle.q_logic.specs.Eliminating.{resolve_one}
-use Rattle.q_kernel.specs.Kernels.{slots}
+use Rattle.q_logic.specs.Prelude.{resolve_one, clauses_at}
+use Rattle.q_kernel.specs.Prelude.{slots}
 use Rattle.q_eliminate.specs.Sides.{clause_in}
-use Rattle.q_logic.specs.Numbered.{clauses_at}
-use Rattle.q_eliminate.proofs.Coming.{IsGrowing}
+use Rattle.q_eliminate.proofs.AddedClauses.{IsGrowing}
 use Rattle.q_eliminate.proofs.adding.add_with.Given as goal
 
 abbrev pub invariant-loop-d : goal.invariant-loop-d

@@ -1,7 +1,7 @@
 use Rattle.std.proofs.Common.{◌∙◌, sym, refl, true≢false}
-use Rattle.q_kernel.specs.Kernels.{slots}
+use Rattle.q_kernel.specs.Prelude.{slots}
 use Rattle.q_eliminate.specs.Plans.{IsOuter}
-use Rattle.q_eliminate.proofs.Along.{live-at, all-more, all-done, all-at}
+use Rattle.q_eliminate.proofs.IdWalks.{live-at, all-more, all-done, all-at}
 use Rattle.q_eliminate.proofs.conditions.are_outer.Goals as goal
 
 pub loop-id-init : goal.loop-id-init

@@ -1,8 +1,8 @@
 use Rattle.std.proofs.Common.{drop}
 use Rattle.std.specs.List.{AllByRecursion}
-use Rattle.q_kernel.specs.Kernels.{slots}
+use Rattle.q_kernel.specs.Prelude.{slots}
 use Rattle.q_eliminate.specs.Plans.{IsPlain}
-use Rattle.q_logic.specs.Numbered.{clauses_at}
+use Rattle.q_logic.specs.Prelude.{clauses_at}
 use Rattle.q_eliminate.proofs.conditions.are_plain.Given as goal
 
 abbrev pub invariant-loop-id : goal.invariant-loop-id

@@ -1,8 +1,6 @@
 use Rattle.std.proofs.Common.{◌≡◌, ◌∙◌, Bool, ◌<◌, ◌≤◌, ◌+◌, ℕ, zero, suc, [], ◌∷◌, get_or, drop, length, true, sym, ap, subst, refl, inl, inr, arith, add-one, true≢false}
-use Rattle.q_logic.specs.Literals.{Literal}
-use Rattle.q_logic.specs.Formulas.{Clause, Prefix}
-use Rattle.q_logic.specs.Prefixes.{is_bound, outer_or_same}
-use Rattle.q_logic.proofs.Members.{item-in}
+use Rattle.q_logic.specs.Prelude.{Literal, Clause, Prefix, is_bound, outer_or_same}
+use Rattle.q_logic.proofs.Common.{item-in}
 use Rattle.q_eliminate.specs.Plans.{IsOuter}
 use Rattle.q_eliminate.proofs.conditions.is_outer.Goals as goal
 

@@ -1,6 +1,6 @@
 use Rattle.std.proofs.Common.{◌∙◌, sym, inl, inr, true≢false}
-use Rattle.q_logic.specs.Literals.{negation}
-use Rattle.q_eliminate.proofs.Splitting.{live-ids, sign-first, sign-second, outer-test}
+use Rattle.q_logic.specs.Prelude.{negation}
+use Rattle.q_eliminate.proofs.VariableClauses.{live-ids, sign-first, sign-second, outer-test}
 use Rattle.q_eliminate.proofs.conditions.outer_side.Goals as goal
 
 pub are_outer-requires-clause-live : goal.are_outer-requires-clause-live

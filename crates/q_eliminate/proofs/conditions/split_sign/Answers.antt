@@ -1,8 +1,7 @@
 use Rattle.std.proofs.Common.{◌∙◌, refl, sym, inl, inr, true≢false}
-use Rattle.q_logic.specs.Literals.{negation}
-use Rattle.q_logic.specs.Numbered.{live}
-use Rattle.q_kernel.specs.Kernels.{slots}
-use Rattle.q_eliminate.proofs.Splitting.{live-ids, plain-side, side-plain, occurs-some, occurs-none, split-of}
+use Rattle.q_logic.specs.Prelude.{negation, live}
+use Rattle.q_kernel.specs.Prelude.{slots}
+use Rattle.q_eliminate.proofs.VariableClauses.{live-ids, plain-side, side-plain, occurs-some, occurs-none, split-of}
 use Rattle.q_eliminate.proofs.conditions.split_sign.Goals as goal
 use Rattle.q_eliminate.proofs.conditions.split_sign.Goals.{else-is_empty-via-then-is_empty+else-is_empty-2, else-is_empty-via-else-is_empty, else-are_plain-via-then-are_plain+else-are_plain-2, else-are_plain-via-else-are_plain}
 

@@ -1,18 +1,13 @@
 use Rattle.std.proofs.Common.{◌≡◌, ◌+◌, ◌++◌, ◌∷◌, length, drop, get_or, Option, sym, ap, ◌∙◌, subst, arith}
-use Rattle.q_logic.specs.Literals.{Literal, IsBelow, negation}
-use Rattle.q_logic.specs.Formulas.{Clause, Matrix}
-use Rattle.q_logic.specs.Parts.{ArePairs}
-use Rattle.q_logic.specs.Pivots.{without}
-use Rattle.q_logic.specs.Eliminating.{resolve_all}
-use Rattle.q_logic.proofs.Sets.{without-shorter}
-use Rattle.q_kernel.specs.Kernels.{slots}
-use Rattle.q_kernel.proofs.Leading.{without-in_order}
+use Rattle.q_logic.specs.Prelude.{Literal, IsBelow, negation, Clause, Matrix, ArePairs, without, resolve_all, clauses_at}
+use Rattle.q_logic.proofs.Common.{without-shorter}
+use Rattle.q_kernel.specs.Prelude.{slots}
+use Rattle.q_kernel.proofs.KernelRuns.{without-in_order}
 use Rattle.q_eliminate.specs.declared.counting.Gain.{Gain}
 use Rattle.q_eliminate.specs.Gains.{no_gain, joined, IsGain}
 use Rattle.q_eliminate.specs.Plans.{IsPlain}
-use Rattle.q_logic.specs.Numbered.{clauses_at}
-use Rattle.q_eliminate.proofs.Along.{live-at, all-at, at-next}
-use Rattle.q_eliminate.proofs.Gaining.{IsGaining, gaining-part, gaining-part_passed, gain-none, joined-resolve, clause-short, plain-without}
+use Rattle.q_eliminate.proofs.IdWalks.{live-at, all-at, at-next}
+use Rattle.q_eliminate.proofs.GainCounts.{IsGaining, gaining-part, gaining-part_passed, gain-none, joined-resolve, clause-short, plain-without}
 use Rattle.q_eliminate.proofs.counting.gain_of.Goals as goal
 
 pub lits-requires : goal.lits-requires

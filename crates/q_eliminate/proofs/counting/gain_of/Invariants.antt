@@ -1,9 +1,8 @@
 use Rattle.std.proofs.Common.{drop}
-use Rattle.q_logic.specs.Eliminating.{resolve_all}
-use Rattle.q_kernel.specs.Kernels.{slots}
-use Rattle.q_logic.specs.Numbered.{clauses_at}
+use Rattle.q_logic.specs.Prelude.{resolve_all, clauses_at}
+use Rattle.q_kernel.specs.Prelude.{slots}
 use Rattle.q_eliminate.specs.Gains.{no_gain}
-use Rattle.q_eliminate.proofs.Gaining.{IsGaining}
+use Rattle.q_eliminate.proofs.GainCounts.{IsGaining}
 use Rattle.q_eliminate.proofs.counting.gain_of.Given as goal
 
 abbrev pub invariant-loop-id : goal.invariant-loop-id

@@ -1,13 +1,10 @@
 use Rattle.std.proofs.Common.{◌≡◌, ◌<◌, ◌≤◌, ◌+◌, ◌∷◌, [], ℕ, length, drop, Option, None, Some, refl, sym, ap, ◌∙◌, subst, arith}
-use Rattle.q_logic.specs.Formulas.{Matrix}
-use Rattle.q_logic.specs.Pivots.{without}
-use Rattle.q_logic.specs.Numbered.{live, clauses_at}
-use Rattle.q_logic.specs.Sets.{union}
-use Rattle.q_kernel.specs.Kernels.{slots}
+use Rattle.q_logic.specs.Prelude.{Matrix, without, live, clauses_at, union}
+use Rattle.q_kernel.specs.Prelude.{slots}
 use Rattle.q_eliminate.specs.Gains.{joined}
 use Rattle.q_eliminate.specs.Plans.{IsPlain}
-use Rattle.q_eliminate.proofs.Along.{live-at, all-at}
-use Rattle.q_eliminate.proofs.Gaining.{IsGaining, gaining-more, gaining-passed, gain-none, joined-next_some, joined-next_none, clause-short}
+use Rattle.q_eliminate.proofs.IdWalks.{live-at, all-at}
+use Rattle.q_eliminate.proofs.GainCounts.{IsGaining, gaining-more, gaining-passed, gain-none, joined-next_some, joined-next_none, clause-short}
 use Rattle.q_eliminate.proofs.counting.gain_with.Goals as goal
 use Rattle.q_eliminate.proofs.counting.gain_with.Goals.{in-Some+else-gain-bound, in_default}
 

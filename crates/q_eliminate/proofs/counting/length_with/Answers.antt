@@ -1,11 +1,7 @@
 use Rattle.std.proofs.Common.{◌≡◌, ◌≤◌, ◌+◌, ◌||◌, ℕ, Bool, true, false, cond, ◌∷◌, length, drop, None, Some, refl, sym, ap, ◌∙◌, subst, arith, true≢false}
-use Rattle.q_logic.specs.Literals.{Literal, negation}
-use Rattle.q_logic.specs.Formulas.{Clause, IsIn}
-use Rattle.q_logic.specs.Pivots.{without}
-use Rattle.q_logic.specs.Sets.{has, missing, negated_in}
-use Rattle.q_logic.proofs.Slots.{has-IsIn, IsIn-has}
-use Rattle.q_logic.proofs.ExpandRun.{has_none}
-use Rattle.q_eliminate.proofs.Along.{but-taken}
+use Rattle.q_logic.specs.Prelude.{Literal, negation, Clause, IsIn, without, has, missing, negated_in}
+use Rattle.q_logic.proofs.Common.{has-IsIn, IsIn-has, has_none}
+use Rattle.q_eliminate.proofs.IdWalks.{but-taken}
 use Rattle.q_eliminate.proofs.counting.length_with.Goals as goal
 use Rattle.q_eliminate.proofs.counting.length_with.Goals.{then-not-has, else-not-has}
 

@@ -1,6 +1,5 @@
 use Rattle.std.proofs.Common.{◌≡◌, ◌≤◌, ◌+◌, drop, length}
-use Rattle.q_logic.specs.Pivots.{without}
-use Rattle.q_logic.specs.Sets.{missing, negated_in}
+use Rattle.q_logic.specs.Prelude.{without, missing, negated_in}
 use Rattle.q_eliminate.proofs.counting.length_with.Given as goal
 
 abbrev pub invariant-loop-k : goal.invariant-loop-k

@@ -1,5 +1,5 @@
 use Rattle.std.proofs.Common.{◌≡◌, ◌++◌, drop}
-use Rattle.q_logic.specs.Pivots.{without}
+use Rattle.q_logic.specs.Prelude.{without}
 use Rattle.q_eliminate.proofs.counting.mark.Given as goal
 
 abbrev pub invariant-loop-k : goal.invariant-loop-k

@@ -1,7 +1,7 @@
 use Rattle.std.proofs.Common.{sym, subst}
-use Rattle.q_logic.specs.Literals.{Literal}
+use Rattle.q_logic.specs.Prelude.{Literal}
 use Rattle.q_eliminate.specs.Growing.{MayGoBy}
-use Rattle.q_eliminate.proofs.Going.{later, lost}
+use Rattle.q_eliminate.proofs.DeletedClauses.{later, lost}
 use Rattle.q_eliminate.proofs.eliminate.delete_sides.Goals as goal
 
 pub delete_with-requires-clause-pivot : goal.delete_with-requires-clause-pivot

@@ -1,17 +1,13 @@
 use Rattle.std.proofs.Common.{◌≡◌, ◌≤◌, ◌+◌, ℕ, List, sym, subst, arith}
 use Rattle.std.specs.Vec.{vec_capacity}
-use Rattle.q_logic.specs.Literals.{Literal, negation}
-use Rattle.q_logic.specs.Measure.{size_of}
-use Rattle.q_logic.specs.StepForms.{positive}
-use Rattle.q_logic.specs.Eliminating.{resolve_all}
+use Rattle.q_logic.specs.Prelude.{Literal, negation, size_of, positive, resolve_all, clauses_at}
 use Rattle.q_logic.specs.Targets as theory
-use Rattle.q_kernel.specs.Kernels.{slots, formula_in}
-use Rattle.q_kernel.proofs.Costs.{proper-var}
-use Rattle.q_rule.proofs.Becoming.{swept-result}
+use Rattle.q_kernel.specs.Prelude.{slots, formula_in}
+use Rattle.q_kernel.proofs.TextCosts.{proper-var}
+use Rattle.q_rule.proofs.TargetChanges.{swept-result}
 use Rattle.q_eliminate.specs.Growing.{CanGrow, HasGrown}
 use Rattle.q_eliminate.specs.Sides.{AreParents}
-use Rattle.q_logic.specs.Numbered.{clauses_at}
-use Rattle.q_eliminate.proofs.Taking.{plan-bound, plan-parents, plan-others, plan-size, plan-room, plan-first, plan-second, plan-sweep, plan-changed}
+use Rattle.q_eliminate.proofs.PlanChange.{plan-bound, plan-parents, plan-others, plan-size, plan-room, plan-first, plan-second, plan-sweep, plan-changed}
 use Rattle.q_eliminate.proofs.eliminate.take.Goals as goal
 
 -- what holds of the literal and of both sides holds under the names that the code has for them

@@ -1,11 +1,9 @@
 use Rattle.std.proofs.Common.{◌≡◌, ◌≤◌, ◌+◌, ◌-◌, ℕ, IsTrue, nat_le, length, ap, arith}
 use Rattle.std.proofs.lemmas.Bool.Decides.{nat_tests}
 use Rattle.q_logic.specs.declared.limits.Limits.{Limits}
-use Rattle.q_logic.specs.Numbered.{live}
-use Rattle.q_logic.specs.Measure.{size_of}
-use Rattle.q_logic.specs.Steps.{literals_in}
-use Rattle.q_kernel.specs.Kernels.{slots}
-use Rattle.q_kernel.proofs.Slotting.{size-parts}
+use Rattle.q_logic.specs.Prelude.{live, size_of, literals_in}
+use Rattle.q_kernel.specs.Prelude.{slots}
+use Rattle.q_kernel.proofs.SlotLists.{size-parts}
 use Rattle.q_eliminate.proofs.plan.keeps_limits.Goals as goal
 
 at_most : (a b : ℕ) → IsTrue (nat_le a b) → a ≤ b

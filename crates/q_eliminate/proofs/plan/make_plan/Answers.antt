@@ -1,13 +1,11 @@
 use Rattle.std.proofs.Common.{◌≡◌, ◌∙◌, ℕ, List, true, sym, subst}
-use Rattle.q_logic.specs.Literals.{Literal, negation}
-use Rattle.q_logic.specs.Prefixes.{is_bound}
-use Rattle.q_logic.specs.Numbered.{live}
-use Rattle.q_kernel.specs.Kernels.{slots, formula_in}
-use Rattle.q_kernel.proofs.Costs.{proper-var}
+use Rattle.q_logic.specs.Prelude.{Literal, negation, is_bound, live}
+use Rattle.q_kernel.specs.Prelude.{slots, formula_in}
+use Rattle.q_kernel.proofs.TextCosts.{proper-var}
 use Rattle.q_rule.proofs.Quantifiers.{bound-existential}
 use Rattle.q_eliminate.specs.Plans.{MayGo, IsPlanOf}
 use Rattle.q_eliminate.specs.Sides.{AreIdsOf, AreSidesOf}
-use Rattle.q_eliminate.proofs.Applying.{may-apply, apply-may}
+use Rattle.q_eliminate.proofs.EliminateConditions.{may-apply, apply-may}
 use Rattle.q_eliminate.proofs.plan.make_plan.Goals as goal
 
 pub new-lit-requires-clause-positive : goal.new-lit-requires-clause-positive

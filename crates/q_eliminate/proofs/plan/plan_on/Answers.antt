@@ -1,10 +1,8 @@
 use Rattle.std.proofs.Common.{◌≡◌, ◌≤◌, ◌+◌, ◌∙◌, ℕ, List, length, inl, inr, refl, sym, arith, true≢false}
-use Rattle.q_logic.specs.Literals.{Literal, negation}
-use Rattle.q_logic.specs.Measure.{size_of}
-use Rattle.q_logic.specs.Numbered.{clauses_at}
-use Rattle.q_kernel.specs.Kernels.{Seen, slots, IsSound}
+use Rattle.q_logic.specs.Prelude.{Literal, negation, size_of, clauses_at}
+use Rattle.q_kernel.specs.Prelude.{Seen, slots, IsSound}
 use Rattle.q_eliminate.specs.Sides.{AreIdsOf}
-use Rattle.q_eliminate.proofs.Splitting.{live-ids, plain-side, ids-small, gain-told, gain-passed, planned, unplanned}
+use Rattle.q_eliminate.proofs.VariableClauses.{live-ids, plain-side, ids-small, gain-told, gain-passed, planned, unplanned}
 use Rattle.q_eliminate.proofs.plan.plan_on.Goals as goal
 
 pub weight-requires-clause-live : goal.weight-requires-clause-live

@@ -1,9 +1,9 @@
 use Rattle.std.proofs.Common.{◌∙◌, refl, sym, subst, arith}
 use Rattle.std.proofs.lemmas.Option.{same_Some}
-use Rattle.q_logic.specs.Formulas.{Clause, IsIn}
-use Rattle.q_kernel.specs.Kernels.{HoldsLiteral}
-use Rattle.q_rule.proofs.Clearing.{size-deleted}
-use Rattle.q_eliminate.proofs.Going.{shrinking-begun, may-shrink, shrinking-more, shrinking-done}
+use Rattle.q_logic.specs.Prelude.{Clause, IsIn}
+use Rattle.q_kernel.specs.Prelude.{HoldsLiteral}
+use Rattle.q_rule.proofs.RemovalLoops.{size-deleted}
+use Rattle.q_eliminate.proofs.DeletedClauses.{shrinking-begun, may-shrink, shrinking-more, shrinking-done}
 use Rattle.q_eliminate.proofs.removing.delete_with.Goals as goal
 
 pub loop-id-init : goal.loop-id-init

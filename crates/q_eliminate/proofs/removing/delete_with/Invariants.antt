@@ -1,7 +1,6 @@
-use Rattle.q_logic.specs.Measure.{size_of}
-use Rattle.q_logic.specs.Numbered.{live}
-use Rattle.q_kernel.specs.Kernels.{slots}
-use Rattle.q_eliminate.proofs.Going.{IsShrinking}
+use Rattle.q_logic.specs.Prelude.{size_of, live}
+use Rattle.q_kernel.specs.Prelude.{slots}
+use Rattle.q_eliminate.proofs.DeletedClauses.{IsShrinking}
 use Rattle.q_eliminate.proofs.removing.delete_with.Given as goal
 
 abbrev pub invariant-loop-id : goal.invariant-loop-id

@@ -1,6 +1,6 @@
 use Rattle.std.proofs.Common.{◌≡◌, ◌≤◌, ◌+◌, ◌-◌, ◌++◌, drop, length}
 use Rattle.std.specs.Vec.{vec_len, vec_capacity}
-use Rattle.q_logic.specs.Pivots.{without}
+use Rattle.q_logic.specs.Prelude.{without}
 use Rattle.q_eliminate.proofs.resolving.append_but.Given as goal
 
 abbrev pub invariant-loop-at : goal.invariant-loop-at

@@ -1,11 +1,7 @@
 use Rattle.std.proofs.Common.{◌≡◌, ◌≤◌, ◌<◌, ◌+◌, ◌++◌, ◌∷◌, [], ◌⊎◌, ◌∙◌, ℕ, length, drop, inl, inr, sym, ap, arith, append_assoc}
-use Rattle.q_logic.specs.Literals.{Literal, negation, pack}
-use Rattle.q_logic.specs.Formulas.{Clause}
-use Rattle.q_logic.specs.Pivots.{without}
-use Rattle.q_logic.specs.Sets.{union}
-use Rattle.q_logic.specs.Eliminating.{resolvent}
-use Rattle.q_logic.proofs.Ordering.{pairs-ordered}
-use Rattle.q_eliminate.proofs.Merging.{next-first, next-second, next-both, merged-end}
+use Rattle.q_logic.specs.Prelude.{Literal, negation, pack, Clause, without, union, resolvent}
+use Rattle.q_logic.proofs.Common.{pairs-ordered}
+use Rattle.q_eliminate.proofs.ClauseMerges.{next-first, next-second, next-both, merged-end}
 use Rattle.q_eliminate.proofs.resolving.resolve.Goals as goal
 use Rattle.q_eliminate.proofs.resolving.resolve.Goals.{then-loop-i-test+else-j-second, else-loop-i-test}
 

@@ -1,9 +1,6 @@
 use Rattle.std.proofs.Common.{◌≡◌, ◌≤◌, ◌+◌, ◌-◌, ◌++◌, drop, length}
 use Rattle.std.specs.Vec.{vec_len, vec_capacity}
-use Rattle.q_logic.specs.Literals.{negation}
-use Rattle.q_logic.specs.Pivots.{without}
-use Rattle.q_logic.specs.Sets.{union}
-use Rattle.q_logic.specs.Eliminating.{resolvent}
+use Rattle.q_logic.specs.Prelude.{negation, without, union, resolvent}
 use Rattle.q_eliminate.proofs.resolving.resolve.Given as goal
 
 abbrev pub invariant-loop-i : goal.invariant-loop-i

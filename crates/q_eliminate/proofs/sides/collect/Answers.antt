@@ -1,6 +1,6 @@
 use Rattle.std.proofs.Common.{◌∙◌}
-use Rattle.q_kernel.proofs.Turns.{all-came}
-use Rattle.q_eliminate.proofs.Picking.{collected}
+use Rattle.q_kernel.proofs.ForLoops.{all-came}
+use Rattle.q_eliminate.proofs.LiteralIds.{collected}
 use Rattle.q_eliminate.proofs.sides.collect.Goals as goal
 
 pub returns : goal.returns

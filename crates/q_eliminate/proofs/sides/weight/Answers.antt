@@ -1,9 +1,7 @@
 use Rattle.std.proofs.Common.{◌≡◌, ◌+◌, ◌<◌, ℕ, ap, arith, drop, length, get_or, List}
-use Rattle.q_logic.specs.Formulas.{Clause}
-use Rattle.q_logic.specs.Numbered.{Slots, slot, clauses_at}
-use Rattle.q_logic.specs.Measure.{size_of}
-use Rattle.q_kernel.specs.Kernels.{slots}
-use Rattle.q_eliminate.proofs.Along.{at-next, at-end, live-at}
+use Rattle.q_logic.specs.Prelude.{Clause, Slots, slot, clauses_at, size_of}
+use Rattle.q_kernel.specs.Prelude.{slots}
+use Rattle.q_eliminate.proofs.IdWalks.{at-next, at-end, live-at}
 use Rattle.q_eliminate.proofs.sides.weight.Goals as goal
 
 pub lits-requires : goal.lits-requires

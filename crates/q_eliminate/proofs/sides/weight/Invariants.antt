@@ -1,7 +1,6 @@
 use Rattle.std.proofs.Common.{◌≡◌, ◌+◌, drop}
-use Rattle.q_logic.specs.Measure.{size_of}
-use Rattle.q_kernel.specs.Kernels.{slots}
-use Rattle.q_logic.specs.Numbered.{clauses_at}
+use Rattle.q_logic.specs.Prelude.{size_of, clauses_at}
+use Rattle.q_kernel.specs.Prelude.{slots}
 use Rattle.q_eliminate.proofs.sides.weight.Given as goal
 
 abbrev pub invariant-loop-id : goal.invariant-loop-id

@@ -1,8 +1,8 @@
 use Rattle.std.proofs.Common.{◌≡◌, ℕ, ◌∙◌, subst, inl, inr}
 use Rattle.std.proofs.lemmas.Option.{same_Some}
-use Rattle.q_kernel.specs.Kernels.{HoldsLiteral}
-use Rattle.q_kernel.proofs.Turns.{holder-turn, each-came, All-more}
-use Rattle.q_equiv.proofs.Beside.{IsOfBridge}
+use Rattle.q_kernel.specs.Prelude.{HoldsLiteral}
+use Rattle.q_kernel.proofs.ForLoops.{holder-turn, each-came, All-more}
+use Rattle.q_equiv.proofs.BridgeNeighbours.{IsOfBridge}
 use Rattle.q_equiv.proofs.bridge.clause_beside.Goals as goal
 
 pub loop-id-preserved : goal.loop-id-preserved

@@ -1,8 +1,8 @@
 use Rattle.std.proofs.Common.{sym, inl, inr}
-use Rattle.q_logic.specs.Literals.{negation}
-use Rattle.q_kernel.specs.Kernels.{HoldsLiteral}
-use Rattle.q_rule.proofs.Searching.{none-is}
-use Rattle.q_equiv.proofs.Totals.{variable-literal, literal-variable}
+use Rattle.q_logic.specs.Prelude.{negation}
+use Rattle.q_kernel.specs.Prelude.{HoldsLiteral}
+use Rattle.q_rule.proofs.RuleSearch.{none-is}
+use Rattle.q_equiv.proofs.ClauseNumbers.{variable-literal, literal-variable}
 use Rattle.q_equiv.proofs.bridge.next_clause.Goals as goal
 
 pub returns-then-is_some-clause-some : goal.returns-then-is_some-clause-some

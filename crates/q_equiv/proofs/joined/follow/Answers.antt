@@ -1,8 +1,8 @@
 use Rattle.std.proofs.Common.{◌≡◌, ◌∷◌, ◌++◌, [], sym, ◌∙◌, subst, refl, inl, inr}
 use Rattle.std.proofs.lemmas.Option.{same_Some}
-use Rattle.q_logic.specs.Formulas.{Clause}
+use Rattle.q_logic.specs.Prelude.{Clause}
 use Rattle.q_equiv.specs.Walks.{IsSpread}
-use Rattle.q_equiv.proofs.Walks.{spread-none, spread-there, spread-pushed}
+use Rattle.q_equiv.proofs.BinaryWalks.{spread-none, spread-there, spread-pushed}
 use Rattle.q_equiv.proofs.joined.follow.Goals as goal
 use Rattle.q_equiv.proofs.joined.follow.Goals.{else-level-via-then-level+else-not-has, else-level-via-else-level}
 

@@ -1,7 +1,7 @@
 use Rattle.std.proofs.Common.{◌≡◌, ◌≤◌, ◌<◌, ◌∷◌, [], length, arith}
-use Rattle.q_logic.specs.Numbered.{live}
-use Rattle.q_kernel.specs.Kernels.{slots}
-use Rattle.q_equiv.proofs.Walks.{walk-begun, walk-more, walk-ended}
+use Rattle.q_logic.specs.Prelude.{live}
+use Rattle.q_kernel.specs.Prelude.{slots}
+use Rattle.q_equiv.proofs.BinaryWalks.{walk-begun, walk-more, walk-ended}
 use Rattle.q_equiv.proofs.joined.gather.Goals as goal
 
 pub loop-head-init : goal.loop-head-init

@@ -1,6 +1,6 @@
-use Rattle.q_logic.specs.Numbered.{live}
-use Rattle.q_kernel.specs.Kernels.{slots}
-use Rattle.q_equiv.proofs.Walks.{IsWalk}
+use Rattle.q_logic.specs.Prelude.{live}
+use Rattle.q_kernel.specs.Prelude.{slots}
+use Rattle.q_equiv.proofs.BinaryWalks.{IsWalk}
 use Rattle.q_equiv.proofs.joined.gather.Given as goal
 
 abbrev pub invariant-loop-head : goal.invariant-loop-head

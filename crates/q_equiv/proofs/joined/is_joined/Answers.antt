@@ -1,9 +1,9 @@
 use Rattle.std.proofs.Common.{◌≡◌, ◌≤◌, ◌<◌, ◌∷◌, [], length, sym, arith, true≢false, refl}
-use Rattle.q_logic.specs.Numbered.{live}
-use Rattle.q_kernel.specs.Kernels.{slots}
-use Rattle.q_logic.proofs.Members.{test-false}
-use Rattle.q_equiv.proofs.Falling.{none-rise}
-use Rattle.q_equiv.proofs.Walks.{walk-begun, walk-more, walk-ended}
+use Rattle.q_logic.specs.Prelude.{live}
+use Rattle.q_kernel.specs.Prelude.{slots}
+use Rattle.q_logic.proofs.Common.{test-false}
+use Rattle.q_equiv.proofs.FallingLevels.{none-rise}
+use Rattle.q_equiv.proofs.BinaryWalks.{walk-begun, walk-more, walk-ended}
 use Rattle.q_equiv.proofs.joined.is_joined.Goals as goal
 
 pub loop-head-init : goal.loop-head-init

@@ -1,8 +1,7 @@
 use Rattle.std.proofs.Common.{◌≡◌, ◌≢◌, ◌∙◌, [], ◌∷◌, get_or, length, sym, arith}
-use Rattle.q_logic.specs.Literals.{Literal}
-use Rattle.q_logic.specs.Formulas.{Clause}
-use Rattle.q_equiv.proofs.Pairs.{partner-none, partner-second}
-use Rattle.q_logic.proofs.Members.{test-false}
+use Rattle.q_logic.specs.Prelude.{Literal, Clause}
+use Rattle.q_equiv.proofs.BinaryClauses.{partner-none, partner-second}
+use Rattle.q_logic.proofs.Common.{test-false}
 use Rattle.q_equiv.proofs.joined.partner.Goals as goal
 
 same : (a b : Literal) (C : Clause) → a ≡ get_or C 0 a → b ≡ get_or C 0 b → length C ≡ 2 → a ≡ b

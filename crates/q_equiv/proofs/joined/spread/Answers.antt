@@ -1,8 +1,8 @@
 use Rattle.std.proofs.Common.{List, ℕ, sym, ◌∙◌, subst}
-use Rattle.q_logic.specs.Literals.{negation}
-use Rattle.q_kernel.specs.Kernels.{slots, HoldsLiteral}
-use Rattle.q_kernel.proofs.Turns.{holder-turn, all-came}
-use Rattle.q_equiv.proofs.Walks.{IsSpreading, spreading-begun, spreading-more, spreading-done}
+use Rattle.q_logic.specs.Prelude.{negation}
+use Rattle.q_kernel.specs.Prelude.{slots, HoldsLiteral}
+use Rattle.q_kernel.proofs.ForLoops.{holder-turn, all-came}
+use Rattle.q_equiv.proofs.BinaryWalks.{IsSpreading, spreading-begun, spreading-more, spreading-done}
 use Rattle.q_equiv.proofs.joined.spread.Goals as goal
 
 pub follow-requires : goal.follow-requires

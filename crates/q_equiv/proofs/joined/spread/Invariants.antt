@@ -1,5 +1,5 @@
-use Rattle.q_kernel.specs.Kernels.{slots}
-use Rattle.q_equiv.proofs.Walks.{IsSpreading}
+use Rattle.q_kernel.specs.Prelude.{slots}
+use Rattle.q_equiv.proofs.BinaryWalks.{IsSpreading}
 use Rattle.q_equiv.proofs.joined.spread.Given as goal
 
 abbrev pub invariant-loop-id : goal.invariant-loop-id

@@ -1,6 +1,6 @@
 use Rattle.std.proofs.Common.{List, ℕ, subst}
-use Rattle.q_logic.specs.Numbered.{live}
-use Rattle.q_kernel.specs.Kernels.{slots}
+use Rattle.q_logic.specs.Prelude.{live}
+use Rattle.q_kernel.specs.Prelude.{slots}
 use Rattle.q_equiv.specs.Walks.{NeverRise}
 use Rattle.q_equiv.proofs.levels.make_levels.Goals as goal
 

@@ -1,6 +1,6 @@
-use Rattle.q_kernel.specs.Kernels.{slots}
-use Rattle.q_kernel.proofs.Turns.{live-turn, each-came, All-more}
-use Rattle.q_equiv.proofs.Falling.{FallsAt, falls-one, all-fall}
+use Rattle.q_kernel.specs.Prelude.{slots}
+use Rattle.q_kernel.proofs.ForLoops.{live-turn, each-came, All-more}
+use Rattle.q_equiv.proofs.FallingLevels.{FallsAt, falls-one, all-fall}
 use Rattle.q_equiv.proofs.levels.never_rise.Goals as goal
 
 pub lits-requires : goal.lits-requires

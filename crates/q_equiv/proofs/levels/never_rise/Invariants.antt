@@ -1,6 +1,6 @@
 use Rattle.std.proofs.Common.{All}
-use Rattle.q_kernel.specs.Kernels.{slots}
-use Rattle.q_equiv.proofs.Falling.{FallsAt}
+use Rattle.q_kernel.specs.Prelude.{slots}
+use Rattle.q_equiv.proofs.FallingLevels.{FallsAt}
 use Rattle.q_equiv.proofs.levels.never_rise.Given as goal
 
 abbrev pub invariant-loop-id : goal.invariant-loop-id

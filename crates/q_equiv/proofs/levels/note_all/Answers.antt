@@ -1,4 +1,4 @@
-use Rattle.q_kernel.proofs.Turns.{live-turn}
+use Rattle.q_kernel.proofs.ForLoops.{live-turn}
 use Rattle.q_equiv.proofs.levels.note_all.Goals as goal
 
 pub lits-clause-requires : goal.lits-clause-requires

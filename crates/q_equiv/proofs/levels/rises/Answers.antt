@@ -1,5 +1,5 @@
 use Rattle.std.proofs.Common.{◌≢◌, length, arith}
-use Rattle.q_equiv.proofs.Falling.{other-falls}
+use Rattle.q_equiv.proofs.FallingLevels.{other-falls}
 use Rattle.q_equiv.proofs.levels.rises.Goals as goal
 
 pub returns-then-clause-ne2 : goal.returns-then-clause-ne2

@@ -1,9 +1,8 @@
 use Rattle.std.proofs.Common.{◌≡◌, sym, subst}
-use Rattle.q_logic.specs.Formulas.{Clause}
-use Rattle.q_logic.specs.StepForms.{first_of}
-use Rattle.q_kernel.specs.Changes.{MayAdd, IsAdded}
+use Rattle.q_logic.specs.Prelude.{Clause, first_of}
+use Rattle.q_kernel.specs.Prelude.{MayAdd, IsAdded}
 use Rattle.q_equiv.specs.Changing.{over_clause, back_clause}
-use Rattle.q_equiv.proofs.Bridging.{may-add_over, may-add_back, built}
+use Rattle.q_equiv.proofs.BridgeClauses.{may-add_over, may-add_back, built}
 use Rattle.q_equiv.proofs.merge.build.Goals as goal
 
 pub add_implied-over-requires : goal.add_implied-over-requires

@@ -1,7 +1,6 @@
 use Rattle.std.proofs.Common.{◌≡◌, ℕ, Bool, true, sym, ◌∙◌, true≢false}
-use Rattle.q_logic.specs.Formulas.{Prefix}
-use Rattle.q_logic.specs.Prefixes.{is_existential}
-use Rattle.q_logic.proofs.Order.{existential-is_bound}
+use Rattle.q_logic.specs.Prelude.{Prefix, is_existential}
+use Rattle.q_logic.proofs.Common.{existential-is_bound}
 use Rattle.q_logic.proofs.MergeRun.{outer_or_same-is_bound}
 use Rattle.q_equiv.proofs.merge.can_stand_for.Goals as goal
 

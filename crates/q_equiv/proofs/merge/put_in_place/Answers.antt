@@ -1,11 +1,8 @@
 use Rattle.std.proofs.Common.{Some, sym, ◌∙◌, subst}
-use Rattle.q_logic.specs.Literals.{Literal, negation}
-use Rattle.q_logic.specs.Numbered.{live}
-use Rattle.q_logic.specs.Merging.{merged}
-use Rattle.q_kernel.specs.Kernels.{slots}
-use Rattle.q_kernel.specs.Changes.{MayDelete, IsDeleted}
-use Rattle.q_kernel.proofs.Leading.{led-through}
-use Rattle.q_equiv.proofs.Bridging.{merged-free, stands-merged, may-go_over, may-go_back, left_clauses, left_bytes, merge-changed}
+use Rattle.q_logic.specs.Prelude.{Literal, negation, live, merged}
+use Rattle.q_kernel.specs.Prelude.{slots, MayDelete, IsDeleted}
+use Rattle.q_kernel.proofs.KernelRuns.{led-through}
+use Rattle.q_equiv.proofs.BridgeClauses.{merged-free, stands-merged, may-go_over, may-go_back, left_clauses, left_bytes, merge-changed}
 use Rattle.q_equiv.proofs.merge.put_in_place.Goals as goal
 
 pub rename_all-requires-clause-stands : goal.rename_all-requires-clause-stands

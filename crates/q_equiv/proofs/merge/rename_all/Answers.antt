@@ -1,10 +1,9 @@
 use Rattle.std.proofs.Common.{◌≡◌, length, refl, sym, ◌∙◌, ap, subst, arith}
 use Rattle.std.proofs.lemmas.Option.{same_Some}
-use Rattle.q_logic.specs.Formulas.{Clause, Prefix}
-use Rattle.q_logic.specs.Merging.{renamed}
-use Rattle.q_kernel.specs.Kernels.{slots}
+use Rattle.q_logic.specs.Prelude.{Clause, Prefix, renamed}
+use Rattle.q_kernel.specs.Prelude.{slots}
 use Rattle.q_equiv.specs.Changing.{CanStandFor, size, MayReplace, IsReplaced}
-use Rattle.q_equiv.proofs.Turning.{total-slot, renaming-begun, may-rename, total-renamed, renaming-more, renaming-done}
+use Rattle.q_equiv.proofs.RenamedClauses.{total-slot, renaming-begun, may-rename, total-renamed, renaming-more, renaming-done}
 use Rattle.q_equiv.proofs.merge.rename_all.Goals as goal
 
 standing : (old now : Prefix) (k : Rattle.q_logic.specs.Literals.Literal) (g : Rattle.q_logic.specs.Literals.Literal) → now ≡ old → CanStandFor old k g → CanStandFor now k g

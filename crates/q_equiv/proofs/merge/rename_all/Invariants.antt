@@ -1,8 +1,8 @@
 use Rattle.std.proofs.Common.{◌≤◌, length, vec_capacity}
-use Rattle.q_logic.specs.Numbered.{live}
-use Rattle.q_kernel.specs.Kernels.{slots}
+use Rattle.q_logic.specs.Prelude.{live}
+use Rattle.q_kernel.specs.Prelude.{slots}
 use Rattle.q_equiv.specs.Changing.{total_with, size}
-use Rattle.q_equiv.proofs.Turning.{IsRenaming}
+use Rattle.q_equiv.proofs.RenamedClauses.{IsRenaming}
 use Rattle.q_equiv.proofs.merge.rename_all.Given as goal
 
 abbrev pub invariant-loop-id : goal.invariant-loop-id

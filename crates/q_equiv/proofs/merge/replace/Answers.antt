@@ -1,5 +1,5 @@
-use Rattle.q_logic.proofs.Members.{test-false}
-use Rattle.q_equiv.proofs.Replacing.{tautology-is, not_tautology, may-go_alone, replaced_by_nothing, may-come, may-go_then, replaced_by_it}
+use Rattle.q_logic.proofs.Common.{test-false}
+use Rattle.q_equiv.proofs.ClauseReplacement.{tautology-is, not_tautology, may-go_alone, replaced_by_nothing, may-come, may-go_then, replaced_by_it}
 use Rattle.q_equiv.proofs.merge.replace.Goals as goal
 
 pub delete_implied-requires : goal.delete_implied-requires

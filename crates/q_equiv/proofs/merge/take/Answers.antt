@@ -1,5 +1,5 @@
-use Rattle.q_logic.specs.Targets.{merge}
-use Rattle.q_rule.proofs.Becoming.{swept-result}
+use Rattle.q_logic.specs.Prelude.{merge}
+use Rattle.q_rule.proofs.TargetChanges.{swept-result}
 use Rattle.q_equiv.proofs.merge.take.Goals as goal
 
 pub returns : goal.returns

@@ -1,10 +1,7 @@
 use Rattle.std.proofs.Common.{◌≡◌, [], ◌∷◌, map, refl, ◌∙◌, ap}
 use Rattle.std.proofs.lemmas.List.Filters.{dedup_is}
-use Rattle.q_logic.specs.Literals.{Literal}
-use Rattle.q_logic.specs.Formulas.{Clause}
-use Rattle.q_logic.specs.Clauses.{insert, clause_of}
-use Rattle.q_logic.specs.Merging.{renamed, renamed_literal}
-use Rattle.q_logic.proofs.Sorting.{dedup-sorted}
+use Rattle.q_logic.specs.Prelude.{Literal, Clause, insert, clause_of, renamed, renamed_literal}
+use Rattle.q_logic.proofs.SortedSets.{dedup-sorted}
 use Rattle.q_equiv.proofs.renaming.rename.Goals as goal
 
 renamed-is : (keep gone : Literal) (C : Clause) → clause_of (map (renamed_literal keep gone) C) ≡ renamed keep gone C

@@ -1,5 +1,5 @@
 use Rattle.std.proofs.Common.{◌≡◌, ◌≤◌, take, map, vec_capacity}
-use Rattle.q_logic.specs.Merging.{renamed_literal}
+use Rattle.q_logic.specs.Prelude.{renamed_literal}
 use Rattle.q_equiv.proofs.renaming.rename_each.Given as goal
 
 abbrev pub invariant-loop-lit : goal.invariant-loop-lit

@@ -1,7 +1,7 @@
 use Rattle.std.proofs.Common.{length, arith}
-use Rattle.q_kernel.specs.Kernels.{slots}
-use Rattle.q_kernel.proofs.Slotting.{live_in-length}
-use Rattle.q_equiv.proofs.Rooms.{count-enough, weigh-enough, room-made, same-total}
+use Rattle.q_kernel.specs.Prelude.{slots}
+use Rattle.q_kernel.proofs.SlotLists.{live_in-length}
+use Rattle.q_equiv.proofs.MergeRoom.{count-enough, weigh-enough, room-made, same-total}
 use Rattle.q_equiv.proofs.room.reserve.Goals as goal
 
 pub reserve-requires-2 : goal.reserve-requires-2

@@ -1,10 +1,9 @@
 use Rattle.std.proofs.Common.{◌≡◌, ◌≤◌, ℕ, List, length, ap, subst, arith}
-use Rattle.q_logic.specs.Numbered.{slot, live}
-use Rattle.q_logic.specs.Sets.{with_literal}
-use Rattle.q_logic.proofs.Heights.{weight, weight-length}
-use Rattle.q_kernel.specs.Kernels.{slots, HoldsLiteral}
-use Rattle.q_kernel.proofs.Turns.{holder-turn, all-came}
-use Rattle.q_equiv.proofs.Totals.{weight_at, total_at, total_at-more, weight-listed}
+use Rattle.q_logic.specs.Prelude.{slot, live, with_literal}
+use Rattle.q_logic.proofs.Common.{weight, weight-length}
+use Rattle.q_kernel.specs.Prelude.{slots, HoldsLiteral}
+use Rattle.q_kernel.proofs.ForLoops.{holder-turn, all-came}
+use Rattle.q_equiv.proofs.ClauseNumbers.{weight_at, total_at, total_at-more, weight-listed}
 use Rattle.q_equiv.proofs.room.weigh.Goals as goal
 
 pub lits-requires : goal.lits-requires

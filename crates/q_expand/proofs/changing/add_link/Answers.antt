@@ -1,8 +1,8 @@
 use Rattle.std.proofs.Common.{Some, sym, subst}
-use Rattle.q_logic.specs.Formulas.{Clause}
-use Rattle.q_kernel.specs.Changes.{MayAdd, IsAdded}
+use Rattle.q_logic.specs.Prelude.{Clause}
+use Rattle.q_kernel.specs.Prelude.{MayAdd, IsAdded}
 use Rattle.q_expand.specs.Steps.{linked}
-use Rattle.q_expand.proofs.Tracking.{add-may, add-took, add-keeps}
+use Rattle.q_expand.proofs.StepQueue.{add-may, add-took, add-keeps}
 use Rattle.q_expand.proofs.changing.add_link.Goals as goal
 
 pub add_pivot-requires : goal.add_pivot-requires

@@ -1,8 +1,8 @@
 use Rattle.std.proofs.Common.{◌≡◌, ◌∙◌, Some, ap}
-use Rattle.q_logic.specs.Numbered.{slot}
-use Rattle.q_kernel.specs.Kernels.{slots}
+use Rattle.q_logic.specs.Prelude.{slot}
+use Rattle.q_kernel.specs.Prelude.{slots}
 use Rattle.q_expand.specs.Steps.{linked}
-use Rattle.q_expand.proofs.Tracking.{delete-may, delete-took}
+use Rattle.q_expand.proofs.StepQueue.{delete-may, delete-took}
 use Rattle.q_expand.proofs.changing.delete_link.Goals as goal
 
 pub delete_pivot-requires : goal.delete_pivot-requires

@@ -1,10 +1,10 @@
 use Rattle.std.proofs.Common.{◌∙◌, sym}
 use Rattle.std.proofs.lemmas.Option.{same_Some}
-use Rattle.q_logic.proofs.Members.{test-false}
-use Rattle.q_kernel.specs.Kernels.{slots, HoldsLiteral}
-use Rattle.q_kernel.proofs.Slotting.{IsIn-slot}
-use Rattle.q_kernel.proofs.Turns.{holder-turn, each-came, All-more}
-use Rattle.q_expand.proofs.Others.{IsOther}
+use Rattle.q_logic.proofs.Common.{test-false}
+use Rattle.q_kernel.specs.Prelude.{slots, HoldsLiteral}
+use Rattle.q_kernel.proofs.SlotLists.{IsIn-slot}
+use Rattle.q_kernel.proofs.ForLoops.{holder-turn, each-came, All-more}
+use Rattle.q_expand.proofs.OtherClauses.{IsOther}
 use Rattle.q_expand.proofs.changing.find_clause.Goals as goal
 
 pub lits-requires : goal.lits-requires

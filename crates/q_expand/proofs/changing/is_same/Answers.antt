@@ -1,5 +1,5 @@
 use Rattle.std.proofs.Common.{◌∙◌, true≢false, sym, refl}
-use Rattle.q_expand.proofs.Equality.{same-begun, same-more, same-all, same-not}
+use Rattle.q_expand.proofs.EqualClauses.{same-begun, same-more, same-all, same-not}
 use Rattle.q_expand.proofs.changing.is_same.Goals as goal
 
 pub loop-i-init : goal.loop-i-init

@@ -1,4 +1,4 @@
-use Rattle.q_expand.proofs.Equality.{AreSame}
+use Rattle.q_expand.proofs.EqualClauses.{AreSame}
 use Rattle.q_expand.proofs.changing.is_same.Given as goal
 
 abbrev pub invariant-loop-i : goal.invariant-loop-i

@@ -1,6 +1,6 @@
 use Rattle.q_expand.specs.Steps.{link_steps}
-use Rattle.q_expand.proofs.Tracking.{took-none, keeps-itself, keeps-through}
-use Rattle.q_expand.proofs.Turning.{turn-can, turn-took, turns-took}
+use Rattle.q_expand.proofs.StepQueue.{took-none, keeps-itself, keeps-through}
+use Rattle.q_expand.proofs.StepLoops.{turn-can, turn-took, turns-took}
 use Rattle.q_expand.proofs.changing.link_all.Goals as goal
 
 pub loop-i-init : goal.loop-i-init

@@ -1,7 +1,7 @@
 use Rattle.std.proofs.Common.{◌∙◌, refl}
 use Rattle.q_expand.specs.Steps.{copy_step}
-use Rattle.q_expand.proofs.Tracking.{took-none}
-use Rattle.q_expand.proofs.Turning.{turn-can, turn-took, turns-took}
+use Rattle.q_expand.proofs.StepQueue.{took-none}
+use Rattle.q_expand.proofs.StepLoops.{turn-can, turn-took, turns-took}
 use Rattle.q_expand.proofs.changing.put_copies.Goals as goal
 
 pub loop-i-init : goal.loop-i-init

@@ -1,5 +1,5 @@
 use Rattle.std.proofs.Common.{◌≡◌, take}
-use Rattle.q_kernel.specs.Kernels.{slots}
+use Rattle.q_kernel.specs.Prelude.{slots}
 use Rattle.q_expand.specs.Tracks.{HasTaken}
 use Rattle.q_expand.specs.Steps.{each_with, copy_step}
 use Rattle.q_expand.proofs.changing.put_copies.Given as goal

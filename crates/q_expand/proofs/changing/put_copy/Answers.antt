@@ -1,4 +1,4 @@
-use Rattle.q_expand.proofs.Tracking.{fresh-may, fresh-took}
+use Rattle.q_expand.proofs.StepQueue.{fresh-may, fresh-took}
 use Rattle.q_expand.proofs.changing.put_copy.Goals as goal
 
 pub fresh-requires : goal.fresh-requires

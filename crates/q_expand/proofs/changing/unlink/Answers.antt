@@ -1,8 +1,7 @@
 use Rattle.std.proofs.Common.{ℕ, Some}
-use Rattle.q_logic.specs.Literals.{Literal}
-use Rattle.q_logic.specs.Steps.{ProofStep, delete}
+use Rattle.q_logic.specs.Prelude.{Literal, ProofStep, delete}
 use Rattle.q_expand.specs.Steps.{linked}
-use Rattle.q_expand.proofs.Linking.{first-can, second-can, both-taken}
+use Rattle.q_expand.proofs.CopyLinks.{first-can, second-can, both-taken}
 use Rattle.q_expand.proofs.changing.unlink.Goals as goal
 
 abbrev step : ℕ → Literal → Literal → ProofStep

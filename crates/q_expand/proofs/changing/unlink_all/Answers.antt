@@ -1,6 +1,6 @@
 use Rattle.q_expand.specs.Steps.{unlink_steps}
-use Rattle.q_expand.proofs.Tracking.{took-none}
-use Rattle.q_expand.proofs.Turning.{turn-can, turn-took, turns-took}
+use Rattle.q_expand.proofs.StepQueue.{took-none}
+use Rattle.q_expand.proofs.StepLoops.{turn-can, turn-took, turns-took}
 use Rattle.q_expand.proofs.changing.unlink_all.Goals as goal
 
 pub loop-i-init : goal.loop-i-init

@@ -1,9 +1,9 @@
 use Rattle.std.proofs.Common.{◌∙◌, sym, subst, refl}
 use Rattle.std.proofs.lemmas.Option.{same_Some}
-use Rattle.q_logic.specs.Formulas.{IsIn}
-use Rattle.q_kernel.specs.Kernels.{HoldsLiteral}
-use Rattle.q_rule.proofs.Clearing.{with-falls}
-use Rattle.q_expand.proofs.Losing.{losing-begun, may-lose, losing-room, losing-more, losing-done}
+use Rattle.q_logic.specs.Prelude.{IsIn}
+use Rattle.q_kernel.specs.Prelude.{HoldsLiteral}
+use Rattle.q_rule.proofs.RemovalLoops.{with-falls}
+use Rattle.q_expand.proofs.LiteralLosses.{losing-begun, may-lose, losing-room, losing-more, losing-done}
 use Rattle.q_expand.proofs.dropping.drop_all.Goals as goal
 
 pub loop-place-init : goal.loop-place-init

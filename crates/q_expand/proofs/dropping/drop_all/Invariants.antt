@@ -1,8 +1,6 @@
-use Rattle.q_logic.specs.Measure.{size_of}
-use Rattle.q_logic.specs.Sets.{with_literal}
-use Rattle.q_logic.specs.Numbered.{live}
-use Rattle.q_kernel.specs.Kernels.{slots}
-use Rattle.q_expand.proofs.Losing.{IsLosing}
+use Rattle.q_logic.specs.Prelude.{size_of, with_literal, live}
+use Rattle.q_kernel.specs.Prelude.{slots}
+use Rattle.q_expand.proofs.LiteralLosses.{IsLosing}
 use Rattle.q_expand.proofs.dropping.drop_all.Given as goal
 
 abbrev pub invariant-loop-place : goal.invariant-loop-place

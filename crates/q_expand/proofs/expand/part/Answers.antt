@@ -1,13 +1,11 @@
 use Rattle.std.proofs.Common.{◌≡◌, ◌++◌, ◌∙◌, List, ℕ, Some, sym, subst}
-use Rattle.q_logic.specs.Steps.{ProofStep}
-use Rattle.q_logic.specs.Formulas.{Clause}
-use Rattle.q_logic.specs.Numbered.{Slots, slot, clauses_at}
+use Rattle.q_logic.specs.Prelude.{ProofStep, Clause, Slots, slot, clauses_at}
 use Rattle.q_kernel.specs.Lists.{Has}
-use Rattle.q_kernel.specs.Kernels.{Seen, slots}
+use Rattle.q_kernel.specs.Prelude.{Seen, slots}
 use Rattle.q_expand.specs.Tracks.{CanTake, HasTaken, KeepsClauses}
 use Rattle.q_expand.specs.Steps.{each_with, copy_step, link_steps, unlink_steps, all_split}
-use Rattle.q_expand.proofs.Tracking.{took-through, can-first, can-rest}
-use Rattle.q_expand.proofs.Taking.{clauses-kept}
+use Rattle.q_expand.proofs.StepQueue.{took-through, can-first, can-rest}
+use Rattle.q_expand.proofs.ExpansionRequirements.{clauses-kept}
 use Rattle.q_expand.proofs.expand.part.Goals as goal
 
 module _ (k a b d e : Seen) (A L S U : List ProofStep) where
@@ -29,22 +27,22 @@ kept k a b cs e f h = clauses-kept (slots k) (slots b) cs (λ c m. let r = h c m
 pub link_all-requires-clause-steps : goal.link_all-requires-clause-steps
 link_all-requires-clause-steps c =
     let k = c.args.kernel.now in let u = c.args.u.var in let V = c.args.order.now in let t = c.args.first in
-    second k c.put_copies.new.kernel k k k (each_with copy_step V t) (each_with (link_steps u) V t) (all_split u V t (clauses_at (slots k) c.args.region.now.met)) (each_with (unlink_steps u) V t) c.put_copies.ensures.taken c.requires.steps
+    second k c.put_copies.new.kernel k k k (each_with copy_step V t) (each_with (link_steps u) V t) (all_split u V t (clauses_at (slots k) c.args.dependents.now.met)) (each_with (unlink_steps u) V t) c.put_copies.ensures.taken c.requires.steps
 
 pub split_all-requires-clause-steps : goal.split_all-requires-clause-steps
 split_all-requires-clause-steps c =
     let k = c.args.kernel.now in let u = c.args.u.var in let V = c.args.order.now in let t = c.args.first in let b = c.link_all.new.kernel in
-    subst (λ W. CanTake b (all_split u V t W)) (kept k c.put_copies.new.kernel b c.args.region.now.met c.put_copies.ensures.same c.link_all.ensures.keeps (λ i h. let r = c.requires.room i h in (r.0, r.1)))
-    (third k c.put_copies.new.kernel b k k (each_with copy_step V t) (each_with (link_steps u) V t) (all_split u V t (clauses_at (slots k) c.args.region.now.met)) (each_with (unlink_steps u) V t) c.put_copies.ensures.taken c.link_all.ensures.taken c.requires.steps)
+    subst (λ W. CanTake b (all_split u V t W)) (kept k c.put_copies.new.kernel b c.args.dependents.now.met c.put_copies.ensures.same c.link_all.ensures.keeps (λ i h. let r = c.requires.room i h in (r.0, r.1)))
+    (third k c.put_copies.new.kernel b k k (each_with copy_step V t) (each_with (link_steps u) V t) (all_split u V t (clauses_at (slots k) c.args.dependents.now.met)) (each_with (unlink_steps u) V t) c.put_copies.ensures.taken c.link_all.ensures.taken c.requires.steps)
 
 pub unlink_all-requires-clause-steps : goal.unlink_all-requires-clause-steps
 unlink_all-requires-clause-steps c =
     let k = c.args.kernel.now in let u = c.args.u.var in let V = c.args.order.now in let t = c.args.first in let b = c.link_all.new.kernel in
-    let s : HasTaken b c.split_all.new.kernel (all_split u V t (clauses_at (slots k) c.args.region.now.met)) = subst (λ W. HasTaken b c.split_all.new.kernel (all_split u V t W)) (sym (kept k c.put_copies.new.kernel b c.args.region.now.met c.put_copies.ensures.same c.link_all.ensures.keeps (λ i h. let r = c.requires.room i h in (r.0, r.1)))) c.split_all.ensures in
-    fourth k c.put_copies.new.kernel b c.split_all.new.kernel k (each_with copy_step V t) (each_with (link_steps u) V t) (all_split u V t (clauses_at (slots k) c.args.region.now.met)) (each_with (unlink_steps u) V t) c.put_copies.ensures.taken c.link_all.ensures.taken s c.requires.steps
+    let s : HasTaken b c.split_all.new.kernel (all_split u V t (clauses_at (slots k) c.args.dependents.now.met)) = subst (λ W. HasTaken b c.split_all.new.kernel (all_split u V t W)) (sym (kept k c.put_copies.new.kernel b c.args.dependents.now.met c.put_copies.ensures.same c.link_all.ensures.keeps (λ i h. let r = c.requires.room i h in (r.0, r.1)))) c.split_all.ensures in
+    fourth k c.put_copies.new.kernel b c.split_all.new.kernel k (each_with copy_step V t) (each_with (link_steps u) V t) (all_split u V t (clauses_at (slots k) c.args.dependents.now.met)) (each_with (unlink_steps u) V t) c.put_copies.ensures.taken c.link_all.ensures.taken s c.requires.steps
 
 pub returns : goal.returns
 returns c =
     let k = c.args.kernel.now in let u = c.args.u.var in let V = c.args.order.now in let t = c.args.first in let b = c.link_all.new.kernel in
-    let s : HasTaken b c.split_all.new.kernel (all_split u V t (clauses_at (slots k) c.args.region.now.met)) = subst (λ W. HasTaken b c.split_all.new.kernel (all_split u V t W)) (sym (kept k c.put_copies.new.kernel b c.args.region.now.met c.put_copies.ensures.same c.link_all.ensures.keeps (λ i h. let r = c.requires.room i h in (r.0, r.1)))) c.split_all.ensures in
-    whole k c.put_copies.new.kernel b c.split_all.new.kernel c.unlink_all.new.kernel (each_with copy_step V t) (each_with (link_steps u) V t) (all_split u V t (clauses_at (slots k) c.args.region.now.met)) (each_with (unlink_steps u) V t) c.put_copies.ensures.taken c.link_all.ensures.taken s c.unlink_all.ensures.taken
+    let s : HasTaken b c.split_all.new.kernel (all_split u V t (clauses_at (slots k) c.args.dependents.now.met)) = subst (λ W. HasTaken b c.split_all.new.kernel (all_split u V t W)) (sym (kept k c.put_copies.new.kernel b c.args.dependents.now.met c.put_copies.ensures.same c.link_all.ensures.keeps (λ i h. let r = c.requires.room i h in (r.0, r.1)))) c.split_all.ensures in
+    whole k c.put_copies.new.kernel b c.split_all.new.kernel c.unlink_all.new.kernel (each_with copy_step V t) (each_with (link_steps u) V t) (all_split u V t (clauses_at (slots k) c.args.dependents.now.met)) (each_with (unlink_steps u) V t) c.put_copies.ensures.taken c.link_all.ensures.taken s c.unlink_all.ensures.taken

@@ -1,5 +1,5 @@
 use Rattle.std.proofs.Common.{◌<◌, length, get_or, false, refl, ◌∙◌, arith, add-one, length-set}
-use Rattle.q_expand.proofs.Noting.{id_room, unnoted-more, unnoted-all}
+use Rattle.q_expand.proofs.ClauseMarks.{id_room, unnoted-more, unnoted-all}
 use Rattle.q_expand.proofs.ids.unmark.Goals as goal
 
 pub loop-id-init : goal.loop-id-init

@@ -1,5 +1,5 @@
 use Rattle.std.proofs.Common.{◌≡◌, length}
-use Rattle.q_expand.proofs.Noting.{AreNotedFrom}
+use Rattle.q_expand.proofs.ClauseMarks.{AreNotedFrom}
 use Rattle.q_expand.proofs.ids.unmark.Given as goal
 
 abbrev pub invariant-loop-id : goal.invariant-loop-id

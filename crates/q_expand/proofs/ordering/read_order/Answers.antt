@@ -1,9 +1,8 @@
 use Rattle.std.proofs.Common.{◌≡◌, ◌∙◌, ◌≤◌, true, length, slice_get, Some, sym, ap, subst, arith}
-use Rattle.q_logic.specs.Formulas.{Prefix}
-use Rattle.q_logic.specs.Prefixes.{is_bound}
+use Rattle.q_logic.specs.Prelude.{Prefix, is_bound}
 use Rattle.q_prefix.specs.Order.{bound_after}
-use Rattle.q_logic.proofs.Members.{test-false, taken-all}
-use Rattle.q_expand.proofs.Marks.{marked_vars, here-bound, here-after, read-more, read-past, read-all}
+use Rattle.q_logic.proofs.Common.{test-false, taken-all}
+use Rattle.q_expand.proofs.MarkedVariables.{marked_vars, here-bound, here-after, read-more, read-past, read-all}
 use Rattle.q_expand.proofs.ordering.read_order.Goals as goal
 use Rattle.q_expand.proofs.ordering.read_order.Goals.{then-has+in_ok-push, else-has}
 
@@ -15,7 +14,7 @@ after-at-requires c =
 pub loop-preserved : goal.loop-preserved
 loop-preserved c =
     let P = c.args.kernel.now.prefix in
-    let vars = c.args.region.now.vars in
+    let vars = c.args.dependents.now.vars in
     let at : slice_get P c.loop.counter ≡ Some c.in-Some.bound = sym c.loop.invariant.next ∙ c.in-Some.is in
     record {
       read = elim c.if-has.branch [
@@ -30,4 +29,4 @@ returns c u w =
     let P = c.args.kernel.now.prefix in
     let n = ap (λ (R : Prefix). length R) c.prefix-2.ensures in
     let past : length P ≤ c.loop.counter = omega (arith, c.loop-test.false, c.len-end.ensures, n) in
-    c.loop.invariant.read ∙ (ap (marked_vars c.args.region.now.vars) (taken-all P c.loop.counter past) ∙ read-all c.args.kernel.now u c.args.region.now w)
+    c.loop.invariant.read ∙ (ap (marked_vars c.args.dependents.now.vars) (taken-all P c.loop.counter past) ∙ read-all c.args.kernel.now u c.args.dependents.now w)

@@ -1,14 +1,12 @@
 use Rattle.std.proofs.Common.{◌≡◌, ◌≤◌, ◌∙◌, ◌+◌, Some, ap, sym, subst, ◌∷◌, [], length}
 use Rattle.std.proofs.lemmas.Option.{same_Some}
-use Rattle.q_logic.specs.Formulas.{Clause}
-use Rattle.q_logic.specs.StepForms.{first_of}
-use Rattle.q_logic.specs.Steps.{add}
-use Rattle.q_kernel.specs.Changes.{MayAdd, IsAdded}
-use Rattle.q_kernel.proofs.Costs.{first-first}
+use Rattle.q_logic.specs.Prelude.{Clause, first_of, add}
+use Rattle.q_kernel.specs.Prelude.{MayAdd, IsAdded}
+use Rattle.q_kernel.proofs.TextCosts.{first-first}
 use Rattle.q_expand.specs.Tracks.{HasTaken}
 use Rattle.q_expand.specs.Steps.{over_copies}
-use Rattle.q_expand.proofs.Tracking.{add-may, add-took, add-keeps}
-use Rattle.q_expand.proofs.Parts.{over-ordered}
+use Rattle.q_expand.proofs.StepQueue.{add-may, add-took, add-keeps}
+use Rattle.q_expand.proofs.ClauseParts.{over-ordered}
 use Rattle.q_expand.proofs.splitting.add_over.Goals as goal
 
 pub put_over-requires-clause-room : goal.put_over-requires-clause-room

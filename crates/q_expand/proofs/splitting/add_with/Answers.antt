@@ -1,15 +1,11 @@
 use Rattle.std.proofs.Common.{◌≡◌, ◌≤◌, ◌∙◌, ◌+◌, Some, ap, sym, subst, ◌∷◌, [], length}
 use Rattle.std.proofs.lemmas.Option.{same_Some}
-use Rattle.q_logic.specs.Formulas.{Clause}
-use Rattle.q_logic.specs.Literals.{Literal}
-use Rattle.q_logic.specs.Clauses.{insert}
-use Rattle.q_logic.specs.StepForms.{first_of, positive}
-use Rattle.q_logic.specs.Steps.{add}
-use Rattle.q_kernel.specs.Changes.{MayAdd, IsAdded}
-use Rattle.q_kernel.proofs.Costs.{first-first}
+use Rattle.q_logic.specs.Prelude.{Clause, Literal, insert, first_of, positive, add}
+use Rattle.q_kernel.specs.Prelude.{MayAdd, IsAdded}
+use Rattle.q_kernel.proofs.TextCosts.{first-first}
 use Rattle.q_expand.specs.Tracks.{HasTaken}
-use Rattle.q_expand.proofs.Tracking.{add-may, add-took, add-keeps}
-use Rattle.q_expand.proofs.Parts.{positive-of}
+use Rattle.q_expand.proofs.StepQueue.{add-may, add-took, add-keeps}
+use Rattle.q_expand.proofs.ClauseParts.{positive-of}
 use Rattle.q_expand.proofs.splitting.add_with.Goals as goal
 
 pub put_with-requires-clause-room : goal.put_with-requires-clause-room

@@ -1,5 +1,5 @@
 use Rattle.std.proofs.Common.{◌≡◌, ◌+◌, drop}
-use Rattle.q_logic.specs.Expanding.{copy_of}
+use Rattle.q_logic.specs.Prelude.{copy_of}
 use Rattle.q_expand.proofs.splitting.copy_of.Given as goal
 
 abbrev pub invariant-loop-i : goal.invariant-loop-i

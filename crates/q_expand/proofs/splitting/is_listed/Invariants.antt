@@ -1,5 +1,5 @@
 use Rattle.std.proofs.Common.{◌≡◌, drop}
-use Rattle.q_logic.specs.Expanding.{in_list}
+use Rattle.q_logic.specs.Prelude.{in_list}
 use Rattle.q_expand.proofs.splitting.is_listed.Given as goal
 
 abbrev pub invariant-loop-x : goal.invariant-loop-x

@@ -1,8 +1,6 @@
 use Rattle.std.proofs.Common.{◌≡◌, ◌∙◌, true, false, sym, subst}
-use Rattle.q_logic.specs.Literals.{Literal, negation}
-use Rattle.q_logic.specs.Sets.{has}
-use Rattle.q_logic.specs.StepForms.{positive}
-use Rattle.q_expand.proofs.Parts.{has-told, positive-of, stays-held, stays-apart, turns-over, splits-over}
+use Rattle.q_logic.specs.Prelude.{Literal, negation, has, positive}
+use Rattle.q_expand.proofs.ClauseParts.{has-told, positive-of, stays-held, stays-apart, turns-over, splits-over}
 use Rattle.q_expand.proofs.splitting.part_of.Goals as goal
 
 pub returns-then-holds : goal.returns-then-holds

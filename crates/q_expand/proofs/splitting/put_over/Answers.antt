@@ -1,11 +1,7 @@
 use Rattle.std.proofs.Common.{◌≡◌, ◌∙◌, ◌++◌, ◌∷◌, [], List, take, length, arith, sym, ap}
-use Rattle.q_logic.specs.Literals.{Literal, negation}
-use Rattle.q_logic.specs.Clauses.{clause_of}
-use Rattle.q_logic.specs.Pivots.{without}
-use Rattle.q_logic.specs.StepForms.{positive}
-use Rattle.q_logic.proofs.Members.{test-false, taken-all}
-use Rattle.q_expand.proofs.Parts.{imaged, positive-of, over-left, over-put, over-room, over-done}
-use Rattle.q_logic.specs.Formulas.{Clause}
+use Rattle.q_logic.specs.Prelude.{Literal, negation, clause_of, without, positive, Clause}
+use Rattle.q_logic.proofs.Common.{test-false, taken-all}
+use Rattle.q_expand.proofs.ClauseParts.{imaged, positive-of, over-left, over-put, over-room, over-done}
 use Rattle.q_expand.proofs.splitting.put_over.Goals as goal
 use Rattle.q_expand.proofs.splitting.put_over.Goals.{then-not-is, else-not-is}
 

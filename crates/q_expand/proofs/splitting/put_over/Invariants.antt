@@ -1,6 +1,6 @@
 use Rattle.std.proofs.Common.{◌≡◌, ◌∷◌, take, vec_capacity}
-use Rattle.q_logic.specs.Pivots.{without}
-use Rattle.q_expand.proofs.Parts.{imaged}
+use Rattle.q_logic.specs.Prelude.{without}
+use Rattle.q_expand.proofs.ClauseParts.{imaged}
 use Rattle.q_expand.proofs.splitting.put_over.Given as goal
 
 abbrev pub invariant-loop-k : goal.invariant-loop-k

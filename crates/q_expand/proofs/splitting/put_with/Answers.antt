@@ -1,10 +1,8 @@
 use Rattle.std.proofs.Common.{◌≡◌, ◌∙◌, ◌∷◌, ◌++◌, [], List, take, length, arith, sym, ap}
 use Rattle.std.proofs.lemmas.List.{length-take-le}
-use Rattle.q_logic.specs.Literals.{Literal}
-use Rattle.q_logic.specs.Clauses.{clause_of, insert}
-use Rattle.q_logic.proofs.ClauseSets.{clause_of-ordered_clause}
-use Rattle.q_logic.proofs.Members.{taken-all}
-use Rattle.q_expand.proofs.Parts.{taken}
+use Rattle.q_logic.specs.Prelude.{Literal, clause_of, insert}
+use Rattle.q_logic.proofs.Common.{clause_of-ordered_clause, taken-all}
+use Rattle.q_expand.proofs.ClauseParts.{taken}
 use Rattle.q_expand.proofs.splitting.put_with.Goals as goal
 
 pub push_reserved-requires-in-loop-k : goal.push_reserved-requires-in-loop-k

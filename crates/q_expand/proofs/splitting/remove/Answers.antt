@@ -1,6 +1,6 @@
-use Rattle.q_logic.specs.StepForms.{first_of}
-use Rattle.q_kernel.proofs.Costs.{first-first}
-use Rattle.q_expand.proofs.Tracking.{delete-may, delete-took, delete-others}
+use Rattle.q_logic.specs.Prelude.{first_of}
+use Rattle.q_kernel.proofs.TextCosts.{first-first}
+use Rattle.q_expand.proofs.StepQueue.{delete-may, delete-took, delete-others}
 use Rattle.q_expand.proofs.splitting.remove.Goals as goal
 
 pub delete_implied-requires : goal.delete_implied-requires

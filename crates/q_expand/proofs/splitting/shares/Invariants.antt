@@ -1,5 +1,5 @@
 use Rattle.std.proofs.Common.{◌≡◌, drop}
-use Rattle.q_logic.specs.Expanding.{shares}
+use Rattle.q_logic.specs.Prelude.{shares}
 use Rattle.q_expand.proofs.splitting.shares.Given as goal
 
 abbrev pub invariant-loop-k : goal.invariant-loop-k

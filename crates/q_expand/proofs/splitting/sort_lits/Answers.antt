@@ -1,6 +1,6 @@
 use Rattle.std.proofs.Common.{◌∙◌}
 use Rattle.std.proofs.lemmas.List.Filters.{dedup_is}
-use Rattle.q_logic.proofs.Sorting.{dedup-sorted}
+use Rattle.q_logic.proofs.SortedSets.{dedup-sorted}
 use Rattle.q_expand.proofs.splitting.sort_lits.Goals as goal
 
 pub returns-clause-items : goal.returns-clause-items

@@ -1,14 +1,11 @@
 use Rattle.std.proofs.Common.{◌≡◌, ◌∙◌, ◌∷◌, [], ℕ, List, sym, ap, subst}
 use Rattle.std.proofs.lemmas.Option.{same_Some}
-use Rattle.q_logic.specs.Formulas.{Clause}
-use Rattle.q_logic.specs.Clauses.{insert}
-use Rattle.q_logic.specs.StepForms.{positive, first_of}
-use Rattle.q_logic.specs.Steps.{ProofStep, add, delete}
+use Rattle.q_logic.specs.Prelude.{Clause, insert, positive, first_of, ProofStep, add, delete}
 use Rattle.q_expand.specs.declared.splitting.Part.{Part}
 use Rattle.q_expand.specs.declared.splitting.Part.TheVariants.{Turns, Splits}
 use Rattle.q_expand.specs.Tracks.{CanTake, HasTaken}
 use Rattle.q_expand.specs.Steps.{over_copies, split_steps, steps_for}
-use Rattle.q_expand.proofs.Tracking.{took-through, took-same, can-rest, can-first, can-same}
+use Rattle.q_expand.proofs.StepQueue.{took-through, took-same, can-rest, can-first, can-same}
 use Rattle.q_expand.proofs.splitting.split.Goals as goal
 
 -- the steps of a clause, one by one

@@ -1,8 +1,8 @@
 use Rattle.std.proofs.Common.{◌≡◌, ◌<◌, ℕ, ◌-◌, length, get_or, false, sym, ap, ◌∙◌, subst, arith, vec_len, Some}
 use Rattle.q_gates.specs.Spreading.{IsStacked}
 use Rattle.q_gates.specs.Gates.{gates_view}
-use Rattle.q_gates.proofs.Walks.{top-is}
-use Rattle.q_gates.proofs.Spreads.{target-there, pop-spread, top-depends, stacked-all, nothing-left}
+use Rattle.q_gates.proofs.GateWalk.{top-is}
+use Rattle.q_gates.proofs.SearchSteps.{target-there, pop-spread, top-depends, stacked-all, nothing-left}
 use Rattle.std.proofs.lemmas.List.{get_or_read}
 use Rattle.q_gates.proofs.cycles.depends_on_itself.Goals as goal
 

@@ -1,7 +1,7 @@
 use Rattle.std.proofs.Common.{arith}
 use Rattle.std.proofs.lemmas.List.{length-map}
 use Rattle.q_gates.specs.Gates.{gates_view, gate_view}
-use Rattle.q_gates.proofs.Walks.{defined}
+use Rattle.q_gates.proofs.GateWalk.{defined}
 use Rattle.q_gates.proofs.cycles.first_cycle.Goals as goal
 
 pub unreachable-requires : goal.unreachable-requires

@@ -1,7 +1,7 @@
 use Rattle.std.proofs.Common.{false, refl}
 use Rattle.std.proofs.lemmas.Bool.{both_ways}
 use Rattle.q_gates.specs.Gates.{gates_view}
-use Rattle.q_gates.proofs.Falling.{falls-free}
+use Rattle.q_gates.proofs.LowerGates.{falls-free}
 use Rattle.q_gates.proofs.cycles.is_cyclic.Goals as goal
 
 pub returns-then-falls : goal.returns-then-falls

@@ -1,8 +1,8 @@
 use Rattle.std.proofs.Common.{◌≡◌, ◌+◌, length, ap, ◌∙◌, arith}
 use Rattle.std.proofs.lemmas.List.{length_push}
 use Rattle.q_gates.specs.Gates.{gates_view}
-use Rattle.q_gates.proofs.Walks.{unmarked-set}
-use Rattle.q_gates.proofs.Spreads.{spread-mark}
+use Rattle.q_gates.proofs.GateWalk.{unmarked-set}
+use Rattle.q_gates.proofs.SearchSteps.{spread-mark}
 use Rattle.q_gates.proofs.cycles.meet.Goals as goal
 
 pub returns-in_ok-push-clause-spread : goal.returns-in_ok-push-clause-spread

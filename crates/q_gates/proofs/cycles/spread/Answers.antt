@@ -1,6 +1,6 @@
 use Rattle.std.proofs.Common.{◌∙◌, ap, sym, ℕ, inl, inr, Option}
 use Rattle.q_gates.specs.Gates.{gates_view}
-use Rattle.q_gates.proofs.Spreads.{spread-stacked}
+use Rattle.q_gates.proofs.SearchSteps.{spread-stacked}
 use Rattle.q_gates.proofs.cycles.spread.Goals as goal
 
 pub meet-requires-clause-uses : goal.meet-requires-clause-uses

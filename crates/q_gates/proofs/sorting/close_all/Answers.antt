@@ -2,7 +2,7 @@ use Rattle.std.proofs.Common.{◌≡◌, ℕ, ◌+◌, ◌-◌, length, get_or, 
 use Rattle.std.proofs.lemmas.List.{length_push}
 use Rattle.std.proofs.lemmas.List.{length-map}
 use Rattle.q_gates.specs.Gates.{gates_view, gate_view}
-use Rattle.q_gates.proofs.Walks.{top-is, top-there, push-next, cycle-met, kept-set, pop-top, unmarked-set}
+use Rattle.q_gates.proofs.GateWalk.{top-is, top-there, push-next, cycle-met, kept-set, pop-top, unmarked-set}
 use Rattle.q_gates.proofs.sorting.close_all.Goals as goal
 
 pub first_open-requires-clause-room : goal.first_open-requires-clause-room

@@ -2,7 +2,7 @@ use Rattle.std.proofs.Common.{ℕ, List, subst, arith}
 use Rattle.std.proofs.lemmas.List.{length-map}
 use Rattle.q_gates.specs.Gates.{gates_view, gate_view}
 use Rattle.q_gates.specs.Sorting.{IsWalk}
-use Rattle.q_gates.proofs.Walks.{walk-full}
+use Rattle.q_gates.proofs.GateWalk.{walk-full}
 use Rattle.q_gates.proofs.sorting.find_order.Goals as goal
 
 pub returns : goal.returns

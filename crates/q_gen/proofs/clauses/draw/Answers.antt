@@ -1,4 +1,4 @@
-use Rattle.q_gen.proofs.Rows.{draws}
+use Rattle.q_gen.proofs.GeneratedClauses.{draws}
 use Rattle.q_gen.proofs.clauses.draw.Goals as goal
 
 pub returns : goal.returns

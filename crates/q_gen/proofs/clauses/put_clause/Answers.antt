@@ -1,6 +1,5 @@
 use Rattle.std.proofs.Common.{◌≡◌, ◌∙◌, ap, List, ◌++◌}
-use Rattle.q_logic.specs.Literals.{Literal}
-use Rattle.q_logic.specs.Clauses.{clause_of}
+use Rattle.q_logic.specs.Prelude.{Literal, clause_of}
 use Rattle.q_gen.proofs.clauses.put_clause.Goals as goal
 
 pub returns : goal.returns

@@ -1,7 +1,7 @@
 use Rattle.std.proofs.Common.{refl, ◌+◌, ◌/◌, ◌∙◌}
-use Rattle.q_logic.specs.Clauses.{clause_of}
-use Rattle.q_gen.proofs.Drawing.{generated-proper, generated-limits}
-use Rattle.q_gen.proofs.Rows.{drawn-none, drawn-one, drawn-formula, drawn-lawful}
+use Rattle.q_logic.specs.Prelude.{clause_of}
+use Rattle.q_gen.proofs.DrawnClauses.{generated-proper, generated-limits}
+use Rattle.q_gen.proofs.GeneratedClauses.{drawn-none, drawn-one, drawn-formula, drawn-lawful}
 use Rattle.q_gen.proofs.formula.generate.Goals as goal
 
 pub returns-in_err-prefix-clause-proper : goal.returns-in_err-prefix-clause-proper

@@ -1,4 +1,4 @@
-use Rattle.q_gen.proofs.Rows.{AreDrawn}
+use Rattle.q_gen.proofs.GeneratedClauses.{AreDrawn}
 use Rattle.q_gen.proofs.formula.generate.Given as goal
 
 abbrev pub invariant-loop : goal.invariant-loop

@@ -1,5 +1,5 @@
 use Rattle.q_gen.specs.Generated.{Generated}
-use Rattle.q_gen.proofs.Drawing.{generated-proper, generated-limits}
+use Rattle.q_gen.proofs.DrawnClauses.{generated-proper, generated-limits}
 use Rattle.q_gen.proofs.laws.generated_is_read.Goals as goal
 
 pub returns : goal.returns

@@ -1,10 +1,10 @@
 use Rattle.std.proofs.Common.{◌≡◌, ◌∙◌, ap, List, ℕ, ◌++◌}
-use Rattle.q_logic.specs.Formulas.{PrenexFormula}
+use Rattle.q_logic.specs.Prelude.{PrenexFormula}
 use Rattle.q_dimacs.specs.Writing.{formula_text}
 use Rattle.q_gen.specs.Generated.{Generated}
 use Rattle.std.proofs.lemmas.Result.{on_ok_weaker, on_err_weaker}
-use Rattle.q_text.proofs.Extending.{on-err}
-use Rattle.q_gen.proofs.Files.{untouched, not_created, whole, part}
+use Rattle.q_text.proofs.LongerTexts.{on-err}
+use Rattle.q_gen.proofs.GeneratedFile.{untouched, not_created, whole, part}
 use Rattle.q_gen.proofs.output.write_generated.Goals as goal
 
 pub returns-in_default-clause-part : goal.returns-in_default-clause-part

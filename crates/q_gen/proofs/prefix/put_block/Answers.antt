@@ -1,5 +1,5 @@
 use Rattle.std.proofs.Common.{◌+◌, arith}
-use Rattle.q_gen.proofs.Rows.{block-push}
+use Rattle.q_gen.proofs.GeneratedClauses.{block-push}
 use Rattle.q_gen.proofs.prefix.put_block.Goals as goal
 
 pub loop-var-preserved : goal.loop-var-preserved

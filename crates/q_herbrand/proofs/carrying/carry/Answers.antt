@@ -1,18 +1,14 @@
 use Rattle.std.proofs.Common.{List, ℕ, Option, subst, sym, refl, ◌∙◌}
-use Rattle.q_logic.specs.Formulas.{Prefix}
-use Rattle.q_logic.specs.Prefixes.{Distinct}
-use Rattle.q_carry.specs.Made.{IsNamed}
-use Rattle.q_carry.specs.Standing.{AreLiterals, InputsAt}
-use Rattle.q_carry.specs.Tabled.{is_there}
-use Rattle.q_carry.specs.Standing.{look_at}
+use Rattle.q_logic.specs.Prelude.{Prefix, Distinct}
+use Rattle.q_carry.specs.Prelude.{IsNamed, AreLiterals, InputsAt, is_there, look_at}
 use Rattle.q_logic.specs.Exchanging.{exchanged}
 use Rattle.q_logic.proofs.Exchanged.{exchanged-distinct}
 use Rattle.q_slots.specs.Slots.{AreOwned}
 use Rattle.q_herbrand.specs.Inputs.{AreOpened}
 use Rattle.q_herbrand.specs.Drafted.{IsChosen}
-use Rattle.q_herbrand.proofs.Entering.{inputs-literals, inputs-at}
-use Rattle.q_herbrand.proofs.Along.{end-follows, widened}
-use Rattle.q_herbrand.proofs.Choosing.{chosen-literals}
+use Rattle.q_herbrand.proofs.InputEntries.{inputs-literals, inputs-at}
+use Rattle.q_herbrand.proofs.RunCircuits.{end-follows, widened}
+use Rattle.q_herbrand.proofs.ChosenCircuits.{chosen-literals}
 use Rattle.q_herbrand.proofs.carrying.carry.Goals as goal
 
 pub settle-requires-clause-slots : goal.settle-requires-clause-slots

@@ -1,4 +1,4 @@
-use Rattle.q_herbrand.proofs.Choosing.{chosen-forall, chosen-exists}
+use Rattle.q_herbrand.proofs.ChosenCircuits.{chosen-forall, chosen-exists}
 use Rattle.q_herbrand.proofs.carrying.choose.Goals.{in-Forall, in-Exists+in_ok-put-in-Exists}
 use Rattle.q_herbrand.proofs.carrying.choose.Goals as goal
 

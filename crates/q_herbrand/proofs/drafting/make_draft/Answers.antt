@@ -2,7 +2,7 @@ use Rattle.std.proofs.Common.{◌∙◌, List, ℕ, length, subst, sym, ap}
 use Rattle.q_slots.specs.Slots.{IsBegun}
 use Rattle.q_herbrand.specs.Inputs.{AreInputs}
 use Rattle.q_herbrand.specs.Drafted.{IsCopiedInto}
-use Rattle.q_herbrand.proofs.Beginning.{begun-ready, drafted}
+use Rattle.q_herbrand.proofs.FirstDraft.{begun-ready, drafted}
 use Rattle.q_herbrand.proofs.drafting.make_draft.Goals as goal
 
 pub copy_into-requires : goal.copy_into-requires

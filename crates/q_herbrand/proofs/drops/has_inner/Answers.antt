@@ -1,7 +1,6 @@
 use Rattle.std.proofs.Common.{◌≡◌, ◌∙◌, sym, refl, subst, inl, inr, true, true≢false}
-use Rattle.q_logic.specs.Literals.{Literal}
-use Rattle.q_logic.specs.Expanding.{inner_existential}
-use Rattle.q_logic.proofs.Members.{item-in, taken-cases, taken-all}
+use Rattle.q_logic.specs.Prelude.{Literal, inner_existential}
+use Rattle.q_logic.proofs.Common.{item-in, taken-cases, taken-all}
 use Rattle.q_herbrand.proofs.drops.has_inner.Goals as goal
 
 pub returns-then-is_inner : goal.returns-then-is_inner

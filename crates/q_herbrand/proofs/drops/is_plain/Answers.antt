@@ -1,10 +1,9 @@
 use Rattle.std.proofs.Common.{ℕ, sym, subst, true≢false}
-use Rattle.q_logic.specs.Literals.{Literal}
-use Rattle.q_logic.specs.Formulas.{IsIn}
-use Rattle.q_logic.proofs.Members.{test-false}
+use Rattle.q_logic.specs.Prelude.{Literal, IsIn}
+use Rattle.q_logic.proofs.Common.{test-false}
 use Rattle.std.specs.Prelude.{◌↔◌, IsTrue}
 use Rattle.q_herbrand.specs.Drops.{HasInner}
-use Rattle.q_herbrand.proofs.Dropping.{inner-not_plain, plain-test}
+use Rattle.q_herbrand.proofs.DropKinds.{inner-not_plain, plain-test}
 use Rattle.q_herbrand.proofs.drops.is_plain.Goals as goal
 
 pub returns-then-has_inner : goal.returns-then-has_inner

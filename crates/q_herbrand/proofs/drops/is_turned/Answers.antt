@@ -1,7 +1,6 @@
 use Rattle.std.proofs.Common.{◌≡◌, true, sym, subst}
-use Rattle.q_logic.specs.Literals.{Literal}
-use Rattle.q_logic.specs.Prefixes.{is_bound}
-use Rattle.q_logic.proofs.ExpandClosure.{bound_of_u}
+use Rattle.q_logic.specs.Prelude.{Literal, is_bound}
+use Rattle.q_logic.proofs.Common.{bound_of_u}
 use Rattle.q_herbrand.proofs.drops.is_turned.Goals as goal
 
 pub resolves-requires : goal.resolves-requires

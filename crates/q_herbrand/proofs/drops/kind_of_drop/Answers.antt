@@ -1,6 +1,5 @@
 use Rattle.std.proofs.Common.{Some}
-use Rattle.q_logic.proofs.ExpandClosure.{bound_of_u}
-use Rattle.q_logic.proofs.Members.{test-false}
+use Rattle.q_logic.proofs.Common.{bound_of_u, test-false}
 use Rattle.q_prop.specs.Slots.{filled, without}
 use Rattle.q_herbrand.proofs.drops.kind_of_drop.Goals as goal
 

@@ -1,8 +1,8 @@
 use Rattle.std.proofs.Common.{◌≡◌, true, take, sym, ◌∙◌, subst, ℕ}
 use Rattle.std.proofs.lemmas.List.{take_more}
-use Rattle.q_logic.specs.Prefixes.{is_bound}
-use Rattle.q_logic.proofs.Members.{item-in}
-use Rattle.q_herbrand.proofs.Dropping.{inner_kept, inner_left}
+use Rattle.q_logic.specs.Prelude.{is_bound}
+use Rattle.q_logic.proofs.Common.{item-in}
+use Rattle.q_herbrand.proofs.DropKinds.{inner_kept, inner_left}
 use Rattle.q_herbrand.proofs.drops.push_inner.Goals as goal
 use Rattle.q_herbrand.proofs.drops.push_inner.Goals.{then-not-outer_or_same+in_ok-push, else-not-outer_or_same}
 

@@ -1,7 +1,6 @@
 use Rattle.std.proofs.Common.{◌≡◌, ℕ, sym, subst, ap, ◌∙◌, cond, eqb, not, Bool, List, Option, Some}
-use Rattle.q_carry.specs.Standing.{look_at}
-use Rattle.q_carry.specs.Growing.{IsRaised}
-use Rattle.q_herbrand.proofs.Falsifying.{lowered-put}
+use Rattle.q_carry.specs.Prelude.{look_at, IsRaised}
+use Rattle.q_herbrand.proofs.FalseLiterals.{lowered-put}
 use Rattle.q_herbrand.proofs.entries.lower.Goals as goal
 
 pub returns-in_ok-put : goal.returns-in_ok-put

@@ -1,10 +1,10 @@
 use Rattle.std.proofs.Common.{◌≡◌, ◌+◌, ◌++◌, ◌∷◌, [], take, sym, subst}
-use Rattle.q_logic.specs.Formulas.{Clause}
-use Rattle.q_aig.proofs.Serving.{turned-there}
-use Rattle.q_carry.proofs.Lists.{take-item}
-use Rattle.q_carry.proofs.Rows.{literals-kept, literal-there}
+use Rattle.q_logic.specs.Prelude.{Clause}
+use Rattle.q_aig.proofs.Substitutes.{turned-there}
+use Rattle.q_carry.proofs.LongerLists.{take-item}
+use Rattle.q_carry.proofs.LiteralRows.{literals-kept, literal-there}
 use Rattle.q_herbrand.specs.Parts.{IsNoneOf}
-use Rattle.q_herbrand.proofs.Falsifying.{none-more}
+use Rattle.q_herbrand.proofs.FalseLiterals.{none-more}
 use Rattle.q_herbrand.proofs.entries.none_of.Goals as goal
 
 pub and-requires-clause-b : goal.and-requires-clause-b

@@ -1,10 +1,10 @@
 use Rattle.std.proofs.Common.{◌≡◌, ◌≤◌, ℕ, ◌+◌, ◌-◌, ◌∷◌, drop, length, map, sym, subst, ap, ◌∙◌, List, Option, arith}
 use Rattle.std.proofs.lemmas.List.{length-map}
 use Rattle.q_logic.specs.Reversals.{Reversal}
-use Rattle.q_carry.proofs.Lists.{drop-mapped}
+use Rattle.q_carry.proofs.LongerLists.{drop-mapped}
 use Rattle.q_herbrand.specs.Entries.{entry_of}
 use Rattle.q_herbrand.specs.Following.{IsReady, IsTaken, AreTaken}
-use Rattle.q_herbrand.proofs.Following.{taken-more}
+use Rattle.q_herbrand.proofs.SlotCircuits.{taken-more}
 use Rattle.q_herbrand.proofs.entries.take_all.Goals as goal
 
 pub take_entry-requires : goal.take_entry-requires

@@ -1,4 +1,4 @@
-use Rattle.q_herbrand.proofs.Following.{on-ok, taken-turned, taken-plain, taken-removed}
+use Rattle.q_herbrand.proofs.SlotCircuits.{on-ok, taken-turned, taken-plain, taken-removed}
 use Rattle.q_herbrand.proofs.entries.take_entry.Goals as goal
 
 pub returns-in-Turned-clause-taken : goal.returns-in-Turned-clause-taken

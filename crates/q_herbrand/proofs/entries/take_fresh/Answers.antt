@@ -1,7 +1,7 @@
 use Rattle.std.proofs.Common.{◌≡◌, ◌<◌, true, length, set, ap, ◌∙◌, Some, ℕ}
 use Rattle.q_slots.specs.Slots.{slot_at}
 use Rattle.q_herbrand.specs.Inputs.{has_input}
-use Rattle.q_herbrand.proofs.Replacing.{taken-fresh}
+use Rattle.q_herbrand.proofs.InputReplacements.{taken-fresh}
 use Rattle.q_herbrand.proofs.entries.take_fresh.Goals as goal
 
 pub returns-in_ok-_lit-in-Some-clause-taken : goal.returns-in_ok-_lit-in-Some-clause-taken

@@ -1,6 +1,6 @@
 use Rattle.std.proofs.Common.{[]}
-use Rattle.q_carry.proofs.Rows.{literals-kept}
-use Rattle.q_herbrand.proofs.Falsifying.{carried-plain}
+use Rattle.q_carry.proofs.LiteralRows.{literals-kept}
+use Rattle.q_herbrand.proofs.FalseLiterals.{carried-plain}
 use Rattle.q_herbrand.proofs.entries.take_plain.Goals as goal
 
 pub lower-requires-clause-circuits : goal.lower-requires-clause-circuits

@@ -1,5 +1,5 @@
-use Rattle.q_carry.proofs.Building.{undone-removed}
-use Rattle.q_herbrand.proofs.Falsifying.{carried-removed}
+use Rattle.q_carry.proofs.CircuitParts.{undone-removed}
+use Rattle.q_herbrand.proofs.FalseLiterals.{carried-removed}
 use Rattle.q_herbrand.proofs.entries.take_removed.Goals as goal
 
 pub returns-clause-carried : goal.returns-clause-carried

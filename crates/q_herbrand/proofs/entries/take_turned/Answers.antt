@@ -1,9 +1,8 @@
 use Rattle.std.proofs.Common.{◌≡◌, ℕ, sym, subst, ap, ◌∙◌, cond, eqb, not, Bool, List, Option, Some}
-use Rattle.q_logic.specs.Literals.{negation}
-use Rattle.q_carry.specs.Standing.{look_at}
-use Rattle.q_carry.specs.Growing.{IsRaised}
-use Rattle.q_carry.proofs.Building.{undone-pivot}
-use Rattle.q_herbrand.proofs.Falsifying.{carried-turned}
+use Rattle.q_logic.specs.Prelude.{negation}
+use Rattle.q_carry.specs.Prelude.{look_at, IsRaised}
+use Rattle.q_carry.proofs.CircuitParts.{undone-pivot}
+use Rattle.q_herbrand.proofs.FalseLiterals.{carried-turned}
 use Rattle.q_herbrand.proofs.entries.take_turned.Goals as goal
 
 pub returns-in_ok-put-clause-carried : goal.returns-in_ok-put-clause-carried

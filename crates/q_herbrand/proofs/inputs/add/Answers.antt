@@ -1,4 +1,4 @@
-use Rattle.q_herbrand.proofs.Entering.{added-new}
+use Rattle.q_herbrand.proofs.InputEntries.{added-new}
 use Rattle.q_herbrand.proofs.inputs.add.Goals as goal
 
 pub returns-in_ok-put-in-None : goal.returns-in_ok-put-in-None

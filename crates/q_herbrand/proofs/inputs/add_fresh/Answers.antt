@@ -2,7 +2,7 @@ use Rattle.std.proofs.Common.{◌≡◌, ◌+◌, ◌++◌, ◌∷◌, [], take,
 use Rattle.q_logic.specs.Reversals.{Reversal}
 use Rattle.q_herbrand.specs.Entries.{entry_of}
 use Rattle.q_herbrand.specs.Inputs.{AreFreshAdded}
-use Rattle.q_herbrand.proofs.Entering.{take-mapped, fresh-other, fresh-more}
+use Rattle.q_herbrand.proofs.InputEntries.{take-mapped, fresh-other, fresh-more}
 use Rattle.q_herbrand.proofs.inputs.add_fresh.Goals.{in-Some+in_ok-add-in-Some, in-None}
 use Rattle.q_herbrand.proofs.inputs.add_fresh.Goals as goal
 

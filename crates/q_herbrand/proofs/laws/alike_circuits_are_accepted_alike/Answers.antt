@@ -1,4 +1,4 @@
-use Rattle.q_herbrand.proofs.Accepting.{accepted-alike}
+use Rattle.q_herbrand.proofs.AcceptedCircuits.{accepted-alike}
 use Rattle.q_herbrand.proofs.laws.alike_circuits_are_accepted_alike.Goals as goal
 
 pub returns : goal.returns

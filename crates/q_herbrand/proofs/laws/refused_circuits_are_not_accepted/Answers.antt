@@ -1,4 +1,4 @@
-use Rattle.q_herbrand.proofs.Accepting.{refused-not_accepted}
+use Rattle.q_herbrand.proofs.AcceptedCircuits.{refused-not_accepted}
 use Rattle.q_herbrand.proofs.laws.refused_circuits_are_not_accepted.Goals as goal
 
 pub returns : goal.returns

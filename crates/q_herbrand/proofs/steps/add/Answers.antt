@@ -1,5 +1,5 @@
 use Rattle.std.proofs.Common.{arith}
-use Rattle.q_judge.proofs.Trying.{add-after}
+use Rattle.q_judge.proofs.TriedSteps.{add-after}
 use Rattle.q_herbrand.proofs.steps.add.Goals as goal
 
 pub put-requires : goal.put-requires

@@ -1,9 +1,8 @@
 use Rattle.std.proofs.Common.{◌≡◌, true, inr, refl, sym, subst}
-use Rattle.q_logic.specs.Literals.{Literal}
-use Rattle.q_logic.specs.Prefixes.{is_bound}
-use Rattle.q_logic.proofs.Members.{test-false}
+use Rattle.q_logic.specs.Prelude.{Literal, is_bound}
+use Rattle.q_logic.proofs.Common.{test-false}
 use Rattle.q_prop.specs.Slots.{filled}
-use Rattle.q_herbrand.proofs.Noting.{warranted-pivot}
+use Rattle.q_herbrand.proofs.RunReversals.{warranted-pivot}
 use Rattle.q_herbrand.proofs.steps.added_entry.Goals as goal
 
 pub outers-requires : goal.outers-requires

@@ -1,4 +1,4 @@
-use Rattle.q_judge.proofs.Trying.{delete-after}
+use Rattle.q_judge.proofs.TriedSteps.{delete-after}
 use Rattle.q_herbrand.proofs.steps.delete.Goals as goal
 
 pub returns : goal.returns

@@ -1,12 +1,12 @@
 use Rattle.std.proofs.Common.{◌∙◌, Some, Err, sym, subst}
 use Rattle.std.proofs.lemmas.Result.{err_from_is_err_and}
 use Rattle.q_prop.specs.Slots.{filled, without}
-use Rattle.q_logic.specs.Steps.{drop_literal}
+use Rattle.q_logic.specs.Prelude.{drop_literal}
 use Rattle.q_judge.specs.Ledgers.{Slotted, formula_in}
-use Rattle.q_judge.proofs.Trying.{drop-after}
+use Rattle.q_judge.proofs.TriedSteps.{drop-after}
 use Rattle.q_herbrand.specs.Drops.{IsDropKind}
 use Rattle.q_herbrand.specs.Trails.{IsPassed}
-use Rattle.q_herbrand.proofs.Dropping.{drop-reversed, drop-extended, drop-refused}
+use Rattle.q_herbrand.proofs.DropKinds.{drop-reversed, drop-extended, drop-refused}
 use Rattle.q_herbrand.proofs.steps.drop_literal.Goals as goal
 
 pub returns-in_err-entry : goal.returns-in_err-entry

@@ -1,9 +1,8 @@
 use Rattle.std.proofs.Common.{ℕ, Option, Some, None, sym, subst, unwrap_or}
 use Rattle.std.specs.Prelude.{MatchOption}
-use Rattle.q_logic.specs.Formulas.{Clause, IsIn}
-use Rattle.q_logic.specs.Numbered.{Slots}
+use Rattle.q_logic.specs.Prelude.{Clause, IsIn, Slots}
 use Rattle.q_prop.specs.Slots.{Holds, filled}
-use Rattle.q_judge.proofs.Slots.{in-held}
+use Rattle.q_judge.proofs.SlotCollections.{in-held}
 use Rattle.q_herbrand.proofs.steps.place_of.Goals as goal
 
 there : (s : Slots) (C : Clause) (o : Option ℕ) → IsIn C (filled s) →

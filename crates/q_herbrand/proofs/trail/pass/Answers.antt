@@ -1,7 +1,6 @@
 use Rattle.std.proofs.Common.{◌∙◌, Ok, None, ap, refl, sym, subst}
 use Rattle.q_logic.specs.declared.steps.Kind.{Kind}
-use Rattle.q_logic.specs.StepForms.{step_of, first_of}
-use Rattle.q_logic.specs.Steps.{ProofStep}
+use Rattle.q_logic.specs.Prelude.{step_of, first_of, ProofStep}
 use Rattle.q_judge.specs.Ledgers.{formula_in}
 use Rattle.q_herbrand.specs.Trails.{IsPassed}
 use Rattle.q_herbrand.proofs.trail.pass.Goals as goal

@@ -1,15 +1,12 @@
 use Rattle.std.proofs.Common.{◌≡◌, sym, subst, ap, ◌∙◌}
-use Rattle.q_logic.specs.Formulas.{Prefix}
-use Rattle.q_logic.specs.Prefixes.{Distinct, IsFormula}
-use Rattle.q_logic.specs.Certificates.{CertificateView, trees_of}
-use Rattle.q_logic.specs.Skolems.{Lawful}
+use Rattle.q_logic.specs.Prelude.{Prefix, Distinct, IsFormula, CertificateView, trees_of, Lawful}
 use Rattle.q_carry.specs.Narrowed.{IsNarrowed}
-use Rattle.q_carry.specs.Refusals.{Fits}
+use Rattle.q_carry.specs.Prelude.{Fits}
 use Rattle.q_logic.specs.Exchanging.{exchanged}
 use Rattle.q_logic.specs.Herbrands.{LawfulHerbrand}
 use Rattle.q_logic.proofs.Exchanged.{exchanged-distinct, exchanged-lawful}
 use Rattle.q_herbrand.specs.Refuted.{IsWide, IsRefuted}
-use Rattle.q_herbrand.proofs.Along.{refuted}
+use Rattle.q_herbrand.proofs.RunCircuits.{refuted}
 use Rattle.q_herbrand.proofs.whole.refute.Goals as goal
 
 pub narrow-requires : goal.narrow-requires

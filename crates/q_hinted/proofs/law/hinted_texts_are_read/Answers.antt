@@ -1,4 +1,4 @@
-use Rattle.q_hinted.proofs.Rereading.{hinted-reread}
+use Rattle.q_hinted.proofs.HintedRoundTrip.{hinted-reread}
 use Rattle.q_hinted.proofs.law.hinted_texts_are_read.Goals as goal
 
 pub returns : goal.returns

@@ -1,7 +1,7 @@
 use Rattle.std.proofs.Common.{◌++◌, ◌∙◌, ap, pos}
 use Rattle.q_text.specs.Numbers.{number_text}
 use Rattle.q_hinted.specs.Texts.{plain_text}
-use Rattle.q_hinted.proofs.Writing.{group-text, on-ok}
+use Rattle.q_hinted.proofs.NumberTexts.{group-text, on-ok}
 use Rattle.q_hinted.proofs.text.put_group.Goals as goal
 
 pub returns-clause-ok : goal.returns-clause-ok

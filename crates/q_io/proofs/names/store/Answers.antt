@@ -1,5 +1,5 @@
 use Rattle.std.proofs.Common.{ap, ◌∙◌, Some}
-use Rattle.q_io.proofs.Held.{put_same, put_others}
+use Rattle.q_io.proofs.MemoryStore.{put_same, put_others}
 use Rattle.q_io.proofs.names.store.Goals as goal
 
 pub returns-clause-ok : goal.returns-clause-ok

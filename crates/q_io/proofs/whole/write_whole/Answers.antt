@@ -1,5 +1,5 @@
-use Rattle.q_io.proofs.Held.{on_err}
-use Rattle.q_io.proofs.Disks.{not_created, written_whole, written_part}
+use Rattle.q_io.proofs.MemoryStore.{on_err}
+use Rattle.q_io.proofs.StoreContents.{not_created, written_whole, written_part}
 use Rattle.std.proofs.lemmas.Result.{on_ok_weaker, on_err_weaker}
 use Rattle.q_io.proofs.whole.write_whole.Goals as goal
 

@@ -1,12 +1,9 @@
 use Rattle.std.proofs.Common.{ℕ, ◌++◌, get_or, sym, subst, inl, inr}
-use Rattle.q_logic.specs.Formulas.{IsIn}
-use Rattle.q_logic.specs.Pivots.{outer}
-use Rattle.q_logic.proofs.Implying.{implied-tautology}
-use Rattle.q_logic.proofs.Members.{taken-cases, taken-all}
-use Rattle.q_logic.proofs.Membership.{Contains-IsIn}
+use Rattle.q_logic.specs.Prelude.{IsIn, outer}
+use Rattle.q_logic.proofs.Common.{implied-tautology, taken-cases, taken-all, Contains-IsIn}
 use Rattle.q_prop.specs.Slots.{Holds, filled, without}
 use Rattle.q_prop.proofs.SlotLemmas.{without-le}
-use Rattle.q_judge.proofs.Slots.{in-held, whichever}
+use Rattle.q_judge.proofs.SlotCollections.{in-held, whichever}
 use Rattle.q_judge.proofs.blocking.all_clash.Goals as goal
 
 pub loop-at-init : goal.loop-at-init

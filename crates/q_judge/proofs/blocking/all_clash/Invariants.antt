@@ -1,7 +1,5 @@
 use Rattle.std.proofs.Common.{ℕ, ◌++◌, take}
-use Rattle.q_logic.specs.Formulas.{Clause, IsIn}
-use Rattle.q_logic.specs.Pivots.{outer}
-use Rattle.q_logic.specs.Sets.{IsTautology}
+use Rattle.q_logic.specs.Prelude.{Clause, IsIn, outer, IsTautology}
 use Rattle.q_prop.specs.Slots.{Holds, without}
 use Rattle.q_judge.proofs.blocking.all_clash.Given as goal
 

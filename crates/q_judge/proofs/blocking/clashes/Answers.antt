@@ -1,10 +1,5 @@
-use Rattle.q_logic.specs.Literals.{negation}
-use Rattle.q_logic.specs.Pivots.{outer}
-use Rattle.q_logic.proofs.ClauseLemmas.{IsIn-append_left}
-use Rattle.q_logic.proofs.Implying.{IsIn-append_right}
-use Rattle.q_logic.proofs.Members.{item-in}
-use Rattle.q_logic.proofs.Membership.{Contains-IsIn}
-use Rattle.q_logic.proofs.Sets.{IsIn-outer_in}
+use Rattle.q_logic.specs.Prelude.{negation, outer}
+use Rattle.q_logic.proofs.Common.{IsIn-append_left, IsIn-append_right, item-in, Contains-IsIn, IsIn-outer_in}
 use Rattle.q_judge.proofs.blocking.clashes.Goals as goal
 
 pub clashes_on-requires-clause-second : goal.clashes_on-requires-clause-second

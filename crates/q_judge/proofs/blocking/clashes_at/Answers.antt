@@ -1,5 +1,5 @@
 use Rattle.q_prop.specs.Slots.{without}
-use Rattle.q_judge.proofs.Slots.{held-in, left-in}
+use Rattle.q_judge.proofs.SlotCollections.{held-in, left-in}
 use Rattle.q_judge.proofs.blocking.clashes_at.Goals as goal
 
 pub clashes-requires-clause-within : goal.clashes-requires-clause-within

@@ -1,7 +1,6 @@
 use Rattle.std.proofs.Common.{◌≡◌, ◌≤◌, sym, ◌∙◌, refl, subst, inl, inr, take, List, ℕ, zero, suc, [], ◌∷◌, ap, arith, length, true, true≢false}
-use Rattle.q_logic.specs.Literals.{Literal}
-use Rattle.q_logic.specs.Prefixes.{is_bound}
-use Rattle.q_logic.proofs.Members.{item-in, taken-cases}
+use Rattle.q_logic.specs.Prelude.{Literal, is_bound}
+use Rattle.q_logic.proofs.Common.{item-in, taken-cases}
 use Rattle.q_judge.proofs.checks.binds_all.Goals as goal
 
 take-past : (xs : List Literal) (i : ℕ) → length xs ≤ i → take i xs ≡ xs

@@ -1,7 +1,5 @@
 use Rattle.std.proofs.Common.{◌≡◌, take, true}
-use Rattle.q_logic.specs.Literals.{Literal}
-use Rattle.q_logic.specs.Formulas.{IsIn}
-use Rattle.q_logic.specs.Prefixes.{is_bound}
+use Rattle.q_logic.specs.Prelude.{Literal, IsIn, is_bound}
 use Rattle.q_judge.proofs.checks.binds_all.Given as goal
 
 abbrev pub invariant-loop-k : goal.invariant-loop-k

@@ -1,16 +1,13 @@
 use Rattle.std.proofs.Common.{◌≡◌, ◌⊎◌, ◌<◌, ℕ, Bool, true, false, eqb, sym, ◌∙◌, refl, subst, inl, inr, List, length, arith, true≢false, Contains, [], ◌∷◌}
 use Rattle.std.specs.Prelude.{◌==◌}
 use Rattle.std.proofs.lemmas.Bool.Decides.{nat_tests}
-use Rattle.q_logic.specs.Literals.{Literal}
-use Rattle.q_logic.specs.Formulas.{IsIn}
-use Rattle.q_logic.specs.Steps.{IsAbsent}
+use Rattle.q_logic.specs.Prelude.{Literal, IsIn, IsAbsent, Slots}
 use Rattle.q_prop.specs.Slots.{filled}
-use Rattle.q_logic.specs.Numbered.{Slots}
 use Rattle.q_prop.specs.Holders.{IsHolder}
 use Rattle.q_prop.specs.Lists.{IsDistinct}
-use Rattle.q_logic.proofs.Membership.{IsIn-Contains, Contains-IsIn}
+use Rattle.q_logic.proofs.Common.{IsIn-Contains, Contains-IsIn}
 use Rattle.q_judge.specs.Warrants.{AreHolders}
-use Rattle.q_judge.proofs.Slots.{held-in, in-held}
+use Rattle.q_judge.proofs.SlotCollections.{held-in, in-held}
 use Rattle.q_judge.proofs.checks.is_absent.Goals as goal
 
 abbrev signed : ℕ → Bool → Literal

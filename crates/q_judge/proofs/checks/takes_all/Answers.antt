@@ -1,13 +1,10 @@
 use Rattle.std.proofs.Common.{◌≡◌, ◌≤◌, ◌+◌, ℕ, zero, suc, true, [], ◌∷◌, Some, None, set, take, length, slice_get, refl, sym, ◌∙◌, ap, arith, add-one, true≢false}
-use Rattle.q_logic.specs.Formulas.{Clause, Matrix, IsIn}
-use Rattle.q_logic.specs.Steps.{clause_eq}
-use Rattle.q_logic.specs.Runs.{copies}
+use Rattle.q_logic.specs.Prelude.{Clause, Matrix, IsIn, clause_eq, copies, Slots}
 use Rattle.q_prop.specs.Slots.{filled}
-use Rattle.q_logic.specs.Numbered.{Slots}
 use Rattle.q_prop.proofs.SlotLemmas.{slice_get-in, take-slice_get}
-use Rattle.q_logic.proofs.Copies.{same-sizes}
-use Rattle.q_logic.proofs.Reaching.{clause_eq-itself, copies-IsIn, copies-append}
-use Rattle.q_judge.proofs.Slots.{emptied-same, left-sizes, in-held}
+use Rattle.q_logic.proofs.ClauseCounts.{same-sizes}
+use Rattle.q_logic.proofs.Common.{clause_eq-itself, copies-IsIn, copies-append}
+use Rattle.q_judge.proofs.SlotCollections.{emptied-same, left-sizes, in-held}
 use Rattle.q_judge.proofs.checks.takes_all.Goals as goal
 
 copies-take : (D : Clause) (n : ℕ) (X : Matrix) → copies D (take n X) ≤ copies D X

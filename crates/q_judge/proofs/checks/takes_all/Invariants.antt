@@ -1,6 +1,5 @@
 use Rattle.std.proofs.Common.{◌≡◌, ◌+◌, take, length}
-use Rattle.q_logic.specs.Formulas.{Clause}
-use Rattle.q_logic.specs.Runs.{copies}
+use Rattle.q_logic.specs.Prelude.{Clause, copies}
 use Rattle.q_prop.specs.Slots.{filled}
 use Rattle.q_judge.proofs.checks.takes_all.Given as goal
 

@@ -1,5 +1,5 @@
 use Rattle.std.proofs.Common.{sym, ◌∙◌, true≢false}
-use Rattle.q_logic.proofs.ExpandClosure.{bound_of_u}
+use Rattle.q_logic.proofs.Common.{bound_of_u}
 use Rattle.q_judge.proofs.kept_walks.bears.Goals as goal
 
 pub returns-then-not-is_universal : goal.returns-then-not-is_universal

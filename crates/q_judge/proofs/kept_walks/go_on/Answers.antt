@@ -1,7 +1,7 @@
 use Rattle.std.proofs.Common.{arith}
 use Rattle.q_prop.specs.Slots.{filled}
 use Rattle.q_prop.proofs.SlotLemmas.{slice_get-there}
-use Rattle.q_judge.proofs.Enclosing.{going-begun, going-more, going-back}
+use Rattle.q_judge.proofs.KeptWalks.{going-begun, going-more, going-back}
 use Rattle.q_judge.proofs.kept_walks.go_on.Goals as goal
 
 pub loop-head-init : goal.loop-head-init

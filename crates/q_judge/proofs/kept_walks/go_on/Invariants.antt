@@ -1,5 +1,5 @@
 use Rattle.q_prop.specs.Slots.{filled}
-use Rattle.q_judge.proofs.Enclosing.{IsGoingOn}
+use Rattle.q_judge.proofs.KeptWalks.{IsGoingOn}
 use Rattle.q_judge.proofs.kept_walks.go_on.Given as goal
 
 abbrev pub invariant-loop-head : goal.invariant-loop-head

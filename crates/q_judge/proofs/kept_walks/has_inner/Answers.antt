@@ -1,7 +1,6 @@
 use Rattle.std.proofs.Common.{Contains, sym, ap, ◌∙◌, subst, inl, inr}
-use Rattle.q_logic.specs.Literals.{Literal}
-use Rattle.q_logic.specs.Formulas.{IsIn}
-use Rattle.q_logic.proofs.Members.{item-in, taken-cases, taken-all}
+use Rattle.q_logic.specs.Prelude.{Literal, IsIn}
+use Rattle.q_logic.proofs.Common.{item-in, taken-cases, taken-all}
 use Rattle.q_judge.specs.Walks.{is_inner}
 use Rattle.q_judge.proofs.kept_walks.has_inner.Goals as goal
 

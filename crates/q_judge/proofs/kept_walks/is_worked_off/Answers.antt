@@ -1,5 +1,5 @@
 use Rattle.std.proofs.Common.{inl, inr}
-use Rattle.q_logic.proofs.Members.{test-false}
+use Rattle.q_logic.proofs.Common.{test-false}
 use Rattle.q_judge.proofs.kept_walks.is_worked_off.Goals as goal
 
 pub returns-then-holds : goal.returns-then-holds

@@ -1,8 +1,6 @@
 use Rattle.std.proofs.Common.{Contains, sym, ap, ◌∙◌, subst, inl, inr}
-use Rattle.q_logic.specs.Literals.{Literal, negation}
-use Rattle.q_logic.specs.Formulas.{IsIn}
-use Rattle.q_logic.proofs.Implying.{negation-negation}
-use Rattle.q_logic.proofs.Members.{test-false, taken-cases, taken-all}
+use Rattle.q_logic.specs.Prelude.{Literal, negation, IsIn}
+use Rattle.q_logic.proofs.Common.{negation-negation, test-false, taken-cases, taken-all}
 use Rattle.q_judge.proofs.kept_walks.lacks_all.Goals as goal
 
 pub loop-k-init : goal.loop-k-init

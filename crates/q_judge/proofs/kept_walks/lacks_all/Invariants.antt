@@ -1,6 +1,5 @@
 use Rattle.std.proofs.Common.{take, Contains}
-use Rattle.q_logic.specs.Literals.{Literal, negation}
-use Rattle.q_logic.specs.Formulas.{IsIn}
+use Rattle.q_logic.specs.Prelude.{Literal, negation, IsIn}
 use Rattle.q_judge.proofs.kept_walks.lacks_all.Given as goal
 
 abbrev pub invariant-loop-k : goal.invariant-loop-k

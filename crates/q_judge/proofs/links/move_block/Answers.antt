@@ -1,7 +1,7 @@
 use Rattle.std.proofs.Common.{◌≡◌, ◌∙◌, ◌<◌, ◌+◌, ℕ, zero, suc, List, [], ◌∷◌, length, get_or, set, refl, sym, ap, subst, arith}
 use Rattle.std.proofs.lemmas.List.{length-set, get_or-set_other}
-use Rattle.q_judge.specs.Scopes.{seat_at}
-use Rattle.q_judge.proofs.Relabelling.{renumbered-run}
+use Rattle.q_judge.specs.Scopes.{binding_at}
+use Rattle.q_judge.proofs.NewRanks.{renumbered-run}
 use Rattle.q_judge.proofs.links.move_block.Goals as goal
 
 any-default : (xs : List ℕ) (i d e : ℕ) → i < length xs → get_or xs i d ≡ get_or xs i e
@@ -21,7 +21,7 @@ returns c =
     ∙ any-default (set counts from 0) to c.index_mut-2.result.now 0 (subst (λ (n : ℕ). to < n) (sym (length-set counts from 0)) r.to_in)
     ∙ get_or-set_other counts from to 0 0 (λ e. r.apart (sym e)) in
     record {
-      seats_are = renumbered-run (seat_at c.args.seats.now.items) (seat_at c.relabel.new.seats.items) from to r.vars r.all_there (c.relabel.ensures.seats r.vars r.run (r.size ∙ sym size));
+      bindings_are = renumbered-run (binding_at c.args.bindings.now.items) (binding_at c.relabel.new.bindings.items) from to r.vars r.all_there (c.relabel.ensures.bindings r.vars r.run (r.size ∙ sym size));
       counts_are = ap (set (set counts from 0) to) (λ j. other j + size j);
       long = c.relabel.ensures.len;
     }

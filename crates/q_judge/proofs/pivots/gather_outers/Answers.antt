@@ -1,7 +1,7 @@
 use Rattle.std.proofs.Common.{take, get_or}
 use Rattle.std.proofs.lemmas.List.{take_more}
 use Rattle.q_prop.specs.Slots.{without}
-use Rattle.q_judge.proofs.Gathering.{gathered-next}
+use Rattle.q_judge.proofs.PivotOuters.{gathered-next}
 use Rattle.q_judge.proofs.pivots.gather_outers.Goals as goal
 
 pub loop-at-preserved : goal.loop-at-preserved

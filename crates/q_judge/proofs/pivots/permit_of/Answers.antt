@@ -1,7 +1,7 @@
 use Rattle.std.proofs.Common.{inr}
 use Rattle.std.proofs.lemmas.Result.{err_from_is_err_and}
 use Rattle.q_prop.specs.Slots.{filled, without}
-use Rattle.q_judge.proofs.Trying.{warranted}
+use Rattle.q_judge.proofs.TriedSteps.{warranted}
 use Rattle.q_judge.proofs.pivots.permit_of.Goals as goal
 
 pub returns-then-is_blocked_first-clause-ok : goal.returns-then-is_blocked_first-clause-ok

@@ -1,7 +1,7 @@
 use Rattle.std.proofs.Common.{take, sym, ◌∙◌}
 use Rattle.std.proofs.lemmas.List.{take_more}
-use Rattle.q_logic.proofs.Members.{item-in}
-use Rattle.q_judge.proofs.Outers.{outer_kept, outer_left}
+use Rattle.q_logic.proofs.Common.{item-in}
+use Rattle.q_judge.proofs.OuterLiterals.{outer_kept, outer_left}
 use Rattle.q_judge.proofs.pivots.push_outer.Goals as goal
 use Rattle.q_judge.proofs.pivots.push_outer.Goals.{then-is_outer+in_ok-push, else-is_outer}
 

@@ -1,5 +1,5 @@
 use Rattle.std.proofs.Common.{◌≡◌, take, ◌++◌}
-use Rattle.q_logic.specs.Pivots.{outer}
+use Rattle.q_logic.specs.Prelude.{outer}
 use Rattle.q_judge.proofs.pivots.push_outer.Given as goal
 
 abbrev pub invariant-loop-k : goal.invariant-loop-k

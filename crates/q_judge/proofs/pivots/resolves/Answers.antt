@@ -1,4 +1,4 @@
-use Rattle.q_judge.proofs.Gathering.{resolve-holders, ok-iff}
+use Rattle.q_judge.proofs.PivotOuters.{resolve-holders, ok-iff}
 use Rattle.q_judge.proofs.pivots.resolves.Goals as goal
 
 pub returns-clause-exact : goal.returns-clause-exact

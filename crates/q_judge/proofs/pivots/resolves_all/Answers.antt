@@ -1,6 +1,6 @@
 use Rattle.std.proofs.Common.{◌-◌, arith, refl, sym, ◌∙◌, true≢false, inl, inr}
 use Rattle.q_prop.proofs.SlotLemmas.{slice_get-in, slice_get-Contains}
-use Rattle.q_judge.proofs.Gathering.{before-or-not, in-range, range-in}
+use Rattle.q_judge.proofs.PivotOuters.{before-or-not, in-range, range-in}
 use Rattle.q_judge.proofs.pivots.resolves_all.Goals as goal
 
 pub returns-then-not-branch-clause-exact : goal.returns-then-not-branch-clause-exact

@@ -1,6 +1,5 @@
 use Rattle.std.proofs.Common.{◌≡◌, ◌<◌, ◌≤◌, ◌-◌, ℕ, Some, length, slice_get}
-use Rattle.q_logic.specs.Formulas.{Clause}
-use Rattle.q_logic.specs.Propagation.{Implied}
+use Rattle.q_logic.specs.Prelude.{Clause, Implied}
 use Rattle.q_prop.specs.Slots.{Holds, without, filled}
 use Rattle.q_judge.specs.Pivots.{resolvent}
 use Rattle.q_judge.proofs.pivots.resolves_all.Given as goal

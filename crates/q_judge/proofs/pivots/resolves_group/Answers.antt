@@ -1,5 +1,5 @@
 use Rattle.q_prop.specs.Slots.{without}
-use Rattle.q_judge.proofs.Gathering.{gathered-exact, ok-iff}
+use Rattle.q_judge.proofs.PivotOuters.{gathered-exact, ok-iff}
 use Rattle.q_judge.proofs.pivots.resolves_group.Goals as goal
 
 pub returns-clause-exact : goal.returns-clause-exact

@@ -1,7 +1,6 @@
 use Rattle.std.proofs.Common.{ℕ, List, Contains}
-use Rattle.q_logic.specs.Literals.{Literal}
-use Rattle.q_logic.proofs.Membership.{IsIn-Contains, Contains-IsIn}
-use Rattle.q_logic.specs.Numbered.{Slots}
+use Rattle.q_logic.specs.Prelude.{Literal, Slots}
+use Rattle.q_logic.proofs.Common.{IsIn-Contains, Contains-IsIn}
 use Rattle.q_prop.specs.Holders.{IsHolder}
 use Rattle.q_prop.specs.Lists.{IsDistinct}
 use Rattle.q_judge.specs.Warrants.{AreHolders}

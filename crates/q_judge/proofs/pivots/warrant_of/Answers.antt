@@ -1,9 +1,6 @@
 use Rattle.std.proofs.Common.{◌≡◌, ◌∙◌, Option, Some, inl, inr, refl, sym, subst}
-use Rattle.q_logic.specs.Literals.{Literal, negation}
-use Rattle.q_logic.specs.Formulas.{Clause, Matrix, Prefix}
-use Rattle.q_logic.specs.Propagation.{Implied}
-use Rattle.q_logic.specs.Steps.{IsWarranted}
-use Rattle.q_logic.proofs.Members.{test-false}
+use Rattle.q_logic.specs.Prelude.{Literal, negation, Clause, Matrix, Prefix, Implied, IsWarranted}
+use Rattle.q_logic.proofs.Common.{test-false}
 use Rattle.q_prop.specs.Slots.{filled, without}
 use Rattle.q_judge.specs.Warrants.{Resolves}
 use Rattle.q_judge.proofs.pivots.warrant_of.Goals as goal

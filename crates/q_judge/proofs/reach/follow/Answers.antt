@@ -1,7 +1,7 @@
 use Rattle.q_prop.specs.Slots.{without}
-use Rattle.q_logic.proofs.Members.{test-false}
-use Rattle.q_judge.proofs.Slots.{held-in, left-in}
-use Rattle.q_judge.proofs.Walks.{followed-none, followed-held, followed-widened}
+use Rattle.q_logic.proofs.Common.{test-false}
+use Rattle.q_judge.proofs.SlotCollections.{held-in, left-in}
+use Rattle.q_judge.proofs.ReachWalks.{followed-none, followed-held, followed-widened}
 use Rattle.q_judge.proofs.reach.follow.Goals as goal
 
 pub returns-in_default : goal.returns-in_default

@@ -1,9 +1,9 @@
 use Rattle.std.proofs.Common.{sym, arith, refl, true≢false}
 use Rattle.q_prop.specs.Slots.{filled, without}
 use Rattle.q_prop.proofs.SlotLemmas.{slice_get-there}
-use Rattle.q_logic.proofs.Alike.{reducible-within}
-use Rattle.q_judge.proofs.Slots.{left-in}
-use Rattle.q_judge.proofs.Reaching.{walk-begun, walk-more, walk-refuted, walk-ended}
+use Rattle.q_logic.proofs.Common.{reducible-within}
+use Rattle.q_judge.proofs.SlotCollections.{left-in}
+use Rattle.q_judge.proofs.FinishedWalk.{walk-begun, walk-more, walk-refuted, walk-ended}
 use Rattle.q_judge.proofs.reach.is_reducible.Goals as goal
 
 pub loop-head-init : goal.loop-head-init

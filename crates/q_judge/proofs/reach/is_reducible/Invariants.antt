@@ -1,5 +1,5 @@
 use Rattle.q_prop.specs.Slots.{filled, without}
-use Rattle.q_judge.proofs.Reaching.{IsWalk}
+use Rattle.q_judge.proofs.FinishedWalk.{IsWalk}
 use Rattle.q_judge.proofs.reach.is_reducible.Given as goal
 
 abbrev pub invariant-loop-head : goal.invariant-loop-head

@@ -1,7 +1,5 @@
 use Rattle.std.proofs.Common.{sym, true≢false}
-use Rattle.q_logic.specs.Literals.{Literal, negation}
-use Rattle.q_logic.specs.Formulas.{Clause, Matrix, Prefix, IsIn}
-use Rattle.q_logic.specs.Reach.{Reached, Reducible}
+use Rattle.q_logic.specs.Prelude.{Literal, negation, Clause, Matrix, Prefix, IsIn, Reached, Reducible}
 use Rattle.q_prop.specs.Slots.{filled}
 use Rattle.q_prop.specs.Slots.{without as without_slot}
 use Rattle.q_judge.proofs.reach.reduces.Goals as goal

@@ -1,9 +1,9 @@
 use Rattle.std.proofs.Common.{◌≡◌, ◌∙◌, true, false, Some, sym, subst, get_or}
-use Rattle.q_logic.specs.Literals.{Literal}
+use Rattle.q_logic.specs.Prelude.{Literal}
 use Rattle.q_prop.specs.Slots.{filled, without}
 use Rattle.q_prop.proofs.SlotLemmas.{slice_get-at}
 use Rattle.q_judge.specs.Walks.{IsVisited}
-use Rattle.q_judge.proofs.Walks.{following-more, following-visited, visited-not}
+use Rattle.q_judge.proofs.ReachWalks.{following-more, following-visited, visited-not}
 use Rattle.q_judge.proofs.reach.visit.Goals as goal
 
 same : (k l : Literal) → Some k ≡ Some l → k ≡ l

@@ -1,5 +1,5 @@
 use Rattle.q_prop.specs.Slots.{without}
-use Rattle.q_judge.proofs.Walks.{IsFollowing}
+use Rattle.q_judge.proofs.ReachWalks.{IsFollowing}
 use Rattle.q_judge.proofs.reach.visit.Given as goal
 
 abbrev pub invariant-loop-i : goal.invariant-loop-i

@@ -1,10 +1,10 @@
 use Rattle.std.proofs.Common.{◌≡◌, ◌++◌, take, get_or, List, ap, ◌∙◌}
 use Rattle.std.proofs.lemmas.List.{take_more}
-use Rattle.q_logic.specs.Pivots.{outer}
-use Rattle.q_logic.proofs.Members.{taken-all}
+use Rattle.q_logic.specs.Prelude.{outer}
+use Rattle.q_logic.proofs.Common.{taken-all}
 use Rattle.q_prop.specs.Slots.{without}
-use Rattle.q_judge.proofs.Slots.{held-in, left-in}
-use Rattle.q_judge.proofs.Collecting.{collected-more, collected-none, collected-outers}
+use Rattle.q_judge.proofs.SlotCollections.{held-in, left-in}
+use Rattle.q_judge.proofs.OuterClauses.{collected-more, collected-none, collected-outers}
 use Rattle.q_judge.proofs.undo.collect_outers.Goals as goal
 use Rattle.q_judge.proofs.undo.collect_outers.Goals.{in-Some+in_ok-push_outer+in_ok-push, in_default}
 

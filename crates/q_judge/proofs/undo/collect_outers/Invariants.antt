@@ -1,6 +1,6 @@
 use Rattle.std.proofs.Common.{◌≡◌, take}
 use Rattle.q_prop.specs.Slots.{without}
-use Rattle.q_judge.proofs.Collecting.{collected}
+use Rattle.q_judge.proofs.OuterClauses.{collected}
 use Rattle.q_judge.proofs.undo.collect_outers.Given as goal
 
 abbrev pub invariant-loop-at : goal.invariant-loop-at

@@ -1,5 +1,5 @@
 use Rattle.std.proofs.Common.{◌≡◌, true}
-use Rattle.q_logic.specs.Prefixes.{is_bound}
+use Rattle.q_logic.specs.Prelude.{is_bound}
 use Rattle.q_kernel.proofs.joining.is_outer_smaller.Given as goal
 
 abbrev pub invariant-loop : goal.invariant-loop

@@ -1,6 +1,6 @@
 use Rattle.std.proofs.Common.{sym, ◌∙◌, subst, Some, ℕ, true, ◌≡◌}
-use Rattle.q_logic.specs.Prefixes.{is_bound}
-use Rattle.q_kernel.proofs.Neighbours.{after-bound}
+use Rattle.q_logic.specs.Prelude.{is_bound}
+use Rattle.q_kernel.proofs.NextVariables.{after-bound}
 use Rattle.q_kernel.proofs.joining.mate_after.Goals as goal
 
 same : (a b : ℕ) → Some a ≡ Some b → a ≡ b

@@ -1,5 +1,5 @@
 use Rattle.std.proofs.Common.{subst, sym}
-use Rattle.q_arena.specs.Rings.{Has}
+use Rattle.q_arena.specs.Prelude.{Has}
 use Rattle.q_occ.specs.Places.{places_of}
 use Rattle.q_kernel.specs.Kernels.{Seen}
 use Rattle.q_kernel.proofs.joining.note_beside.Goals as goal

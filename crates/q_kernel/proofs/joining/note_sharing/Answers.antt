@@ -1,7 +1,7 @@
 use Rattle.std.proofs.Common.{◌∙◌, ap, ◌≡◌, true}
-use Rattle.q_logic.specs.Prefixes.{is_bound}
+use Rattle.q_logic.specs.Prelude.{is_bound}
 use Rattle.q_kernel.specs.Kernels.{formula_in, Seen}
-use Rattle.q_kernel.proofs.Costs.{proper-var}
+use Rattle.q_kernel.proofs.TextCosts.{proper-var}
 use Rattle.q_kernel.proofs.joining.note_sharing.Goals as goal
 
 pub new-requires-clause-positive : goal.new-requires-clause-positive

@@ -1,5 +1,5 @@
 use Rattle.std.proofs.Common.{◌≡◌, ℕ, true, Some}
-use Rattle.q_logic.specs.Prefixes.{is_bound}
+use Rattle.q_logic.specs.Prelude.{is_bound}
 use Rattle.q_kernel.proofs.joining.note_sharing.Given as goal
 
 abbrev pub invariant-loop : goal.invariant-loop

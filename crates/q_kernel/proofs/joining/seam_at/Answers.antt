@@ -1,7 +1,7 @@
 use Rattle.std.proofs.Common.{sym, ◌∙◌, subst, Some, true, ◌≡◌}
-use Rattle.q_logic.specs.Prefixes.{is_bound}
+use Rattle.q_logic.specs.Prelude.{is_bound}
 use Rattle.q_kernel.specs.declared.joining.Seam.{Seam}
-use Rattle.q_kernel.proofs.Neighbours.{after-bound}
+use Rattle.q_kernel.proofs.NextVariables.{after-bound}
 use Rattle.q_kernel.proofs.joining.seam_at.Goals as goal
 
 same : (s t : Seam) → Some s ≡ Some t → s ≡ t

@@ -1,8 +1,8 @@
 use Rattle.std.proofs.Common.{sym, subst, ◌∙◌}
-use Rattle.q_logic.specs.Formulas.{Clause}
-use Rattle.q_arena.proofs.Numbers.{some-same}
+use Rattle.q_logic.specs.Prelude.{Clause}
+use Rattle.q_arena.proofs.NumberCases.{some-same}
 use Rattle.q_kernel.specs.Linking.{HasLists}
-use Rattle.q_kernel.proofs.Linking.{added-but}
+use Rattle.q_kernel.proofs.ListUpdates.{added-but}
 use Rattle.q_kernel.proofs.links.add_at.Goals as goal
 
 pub link-requires-clause-linked : goal.link-requires-clause-linked

@@ -1,5 +1,5 @@
 use Rattle.std.proofs.Common.{None}
-use Rattle.q_kernel.proofs.Linking.{changed-but, gone-linked, starts-same, clause-set, clause-within}
+use Rattle.q_kernel.proofs.ListUpdates.{changed-but, gone-linked, starts-same, clause-set, clause-within}
 use Rattle.q_kernel.proofs.links.delete.Goals as goal
 
 pub returns-clause-linked : goal.returns-clause-linked

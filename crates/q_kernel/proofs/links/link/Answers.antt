@@ -1,6 +1,6 @@
 use Rattle.std.proofs.Common.{ℕ, true, false}
 use Rattle.q_occ.specs.Places.{with_linked}
-use Rattle.q_kernel.proofs.Linking.{but-unlinked, reserved-within, linked-again}
+use Rattle.q_kernel.proofs.ListUpdates.{but-unlinked, reserved-within, linked-again}
 use Rattle.q_kernel.proofs.links.link.Goals as goal
 
 pub link-requires-clause-unlinked : goal.link-requires-clause-unlinked

@@ -1,9 +1,8 @@
 use Rattle.std.proofs.Common.{Some, sym, subst, ◌∙◌}
-use Rattle.q_logic.specs.Formulas.{Clause}
-use Rattle.q_logic.specs.Pivots.{without}
-use Rattle.q_arena.proofs.Numbers.{some-same}
+use Rattle.q_logic.specs.Prelude.{Clause, without}
+use Rattle.q_arena.proofs.NumberCases.{some-same}
 use Rattle.q_kernel.specs.Linking.{HasLists}
-use Rattle.q_kernel.proofs.Linking.{changed-but, starts-same, clause-set, clause-within, has-lists, lists-kept, lists-shorter}
+use Rattle.q_kernel.proofs.ListUpdates.{changed-but, starts-same, clause-set, clause-within, has-lists, lists-kept, lists-shorter}
 use Rattle.q_kernel.proofs.links.shorten.Goals as goal
 
 pub link-requires-clause-live : goal.link-requires-clause-live

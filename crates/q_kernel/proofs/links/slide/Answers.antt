@@ -1,5 +1,5 @@
 use Rattle.std.proofs.Common.{sym, ◌∙◌}
-use Rattle.q_kernel.proofs.Linking.{clauses-same, has-lists, lists-kept, sum-lower, moved-but}
+use Rattle.q_kernel.proofs.ListUpdates.{clauses-same, has-lists, lists-kept, sum-lower, moved-but}
 use Rattle.q_kernel.proofs.links.slide.Goals as goal
 
 pub link-requires-clause-live : goal.link-requires-clause-live

@@ -1,5 +1,5 @@
 use Rattle.std.proofs.Common.{ℕ, true}
-use Rattle.q_kernel.proofs.Linking.{linked-each}
+use Rattle.q_kernel.proofs.ListUpdates.{linked-each}
 use Rattle.q_kernel.proofs.links.unlink.Goals as goal
 
 pub unlink-requires-clause-linked : goal.unlink-requires-clause-linked

@@ -1,6 +1,6 @@
 use Rattle.std.proofs.Common.{◌≡◌, ◌++◌, sym, ◌∙◌, subst}
-use Rattle.q_logic.specs.Formulas.{Prefix}
-use Rattle.q_kernel.proofs.Walking.{after-next, after-none}
+use Rattle.q_logic.specs.Prelude.{Prefix}
+use Rattle.q_kernel.proofs.PrefixWalks.{after-next, after-none}
 use Rattle.q_kernel.proofs.parts.bounds_of.Goals as goal
 
 pub after-at-requires : goal.after-at-requires

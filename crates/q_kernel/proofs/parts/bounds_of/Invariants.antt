@@ -1,5 +1,5 @@
 use Rattle.std.proofs.Common.{◌≡◌, ◌-◌, ◌++◌, length, slice_get}
-use Rattle.q_logic.specs.Formulas.{Prefix}
+use Rattle.q_logic.specs.Prelude.{Prefix}
 use Rattle.q_kernel.proofs.parts.bounds_of.Given as goal
 
 abbrev pub invariant-loop-at : goal.invariant-loop-at

@@ -1,7 +1,7 @@
 use Rattle.std.proofs.Common.{refl, arith}
 use Rattle.q_logic.specs.declared.formulas.Bound.{Bound}
 use Rattle.q_logic.specs.declared.formulas.Quant.TheVariants.{Exists}
-use Rattle.q_kernel.proofs.Walking.{idle-absent, idle-more, item-bound}
+use Rattle.q_kernel.proofs.PrefixWalks.{idle-absent, idle-more, item-bound}
 use Rattle.q_kernel.proofs.parts.idle_uses.Goals as goal
 
 none : Bound

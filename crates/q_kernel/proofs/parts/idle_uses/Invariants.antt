@@ -1,5 +1,5 @@
 use Rattle.std.proofs.Common.{◌<◌, take}
-use Rattle.q_kernel.proofs.Walking.{AreIdle}
+use Rattle.q_kernel.proofs.PrefixWalks.{AreIdle}
 use Rattle.q_kernel.proofs.parts.idle_uses.Given as goal
 
 abbrev pub invariant-loop-bound : goal.invariant-loop-bound

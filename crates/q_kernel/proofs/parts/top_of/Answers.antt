@@ -1,6 +1,6 @@
 use Rattle.std.proofs.Common.{sym, ◌∙◌, arith}
-use Rattle.q_logic.proofs.Ordering.{is_bound-greatest}
-use Rattle.q_kernel.proofs.Walking.{top-lower}
+use Rattle.q_logic.proofs.Common.{is_bound-greatest}
+use Rattle.q_kernel.proofs.PrefixWalks.{top-lower}
 use Rattle.q_kernel.proofs.parts.top_of.Goals as goal
 
 pub loop-top-preserved : goal.loop-top-preserved

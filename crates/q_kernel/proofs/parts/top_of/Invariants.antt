@@ -1,5 +1,5 @@
 use Rattle.std.proofs.Common.{◌≤◌}
-use Rattle.q_logic.specs.InLimits.{greatest}
+use Rattle.q_logic.specs.Prelude.{greatest}
 use Rattle.q_kernel.proofs.parts.top_of.Given as goal
 
 abbrev pub invariant-loop-top : goal.invariant-loop-top

@@ -1,6 +1,6 @@
 use Rattle.std.proofs.Common.{arith}
 use Rattle.std.proofs.lemmas.Grind.{common_steps}
-use Rattle.q_kernel.proofs.Walking.{literals-next}
+use Rattle.q_kernel.proofs.PrefixWalks.{literals-next}
 use Rattle.q_kernel.proofs.parts.words_of.Goals as goal
 
 pub loop-at-preserved : goal.loop-at-preserved

@@ -1,5 +1,5 @@
 use Rattle.std.proofs.Common.{◌≡◌, ◌+◌, drop}
-use Rattle.q_logic.specs.Steps.{literals_in}
+use Rattle.q_logic.specs.Prelude.{literals_in}
 use Rattle.q_kernel.proofs.parts.words_of.Given as goal
 
 abbrev pub invariant-loop-at : goal.invariant-loop-at

@@ -1,10 +1,9 @@
 use Rattle.std.proofs.Common.{ℕ, true, sym, ◌∙◌, subst, arith, take}
 use Rattle.std.proofs.lemmas.List.{take_all}
-use Rattle.q_logic.specs.Formulas.{Clause, IsIn}
-use Rattle.q_logic.specs.Literals.{Literal}
+use Rattle.q_logic.specs.Prelude.{Clause, IsIn, Literal}
 use Rattle.q_kernel.specs.Uses.{AreUses, with_occurring}
 use Rattle.q_kernel.specs.Listing.{with_clause}
-use Rattle.q_kernel.proofs.Listing.{item-IsIn, occur-more}
+use Rattle.q_kernel.proofs.OccurrenceChanges.{item-IsIn, occur-more}
 use Rattle.q_kernel.proofs.variables.occur_all.Goals as goal
 
 pub start-requires-clause-bound : goal.start-requires-clause-bound

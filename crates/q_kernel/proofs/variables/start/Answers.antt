@@ -1,6 +1,6 @@
 use Rattle.std.proofs.Common.{sym, ◌∙◌, ap, inl, inr, true≢false}
 use Rattle.q_kernel.specs.Uses.{Groups}
-use Rattle.q_kernel.proofs.Using.{one-group, quant-unbound, uses-occur}
+use Rattle.q_kernel.proofs.GroupChanges.{one-group, quant-unbound, uses-occur}
 use Rattle.q_kernel.proofs.variables.start.Goals as goal
 
 pub occur-requires : goal.occur-requires

@@ -1,6 +1,6 @@
 use Rattle.std.proofs.Common.{sym, ◌∙◌, ap, inl, inr, true≢false}
 use Rattle.q_kernel.specs.Uses.{Groups}
-use Rattle.q_kernel.proofs.Using.{one-group, quant-unbound, uses-vanish}
+use Rattle.q_kernel.proofs.GroupChanges.{one-group, quant-unbound, uses-vanish}
 use Rattle.q_kernel.proofs.variables.stop.Goals as goal
 
 pub vanish-requires : goal.vanish-requires

@@ -1,7 +1,7 @@
 use Rattle.std.proofs.Common.{length, sym, ◌∙◌, ap}
-use Rattle.q_logic.specs.Literals.{Literal}
+use Rattle.q_logic.specs.Prelude.{Literal}
 use Rattle.q_occ.specs.Places.{places_of}
-use Rattle.q_kernel.proofs.Listing.{not-listed, vanished}
+use Rattle.q_kernel.proofs.OccurrenceChanges.{not-listed, vanished}
 use Rattle.q_kernel.proofs.variables.vanish.Goals as goal
 
 pub returns-then-count-eq0-2-clause-occurring : goal.returns-then-count-eq0-2-clause-occurring

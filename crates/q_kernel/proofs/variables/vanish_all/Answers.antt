@@ -1,10 +1,9 @@
 use Rattle.std.proofs.Common.{sym, ◌∙◌, subst, arith, take}
 use Rattle.std.proofs.lemmas.List.{take_all}
-use Rattle.q_logic.specs.Formulas.{Clause, IsIn}
-use Rattle.q_logic.specs.Literals.{Literal}
+use Rattle.q_logic.specs.Prelude.{Clause, IsIn, Literal}
 use Rattle.q_kernel.specs.Uses.{AreUses}
 use Rattle.q_kernel.specs.Listing.{without_clause}
-use Rattle.q_kernel.proofs.Listing.{item-IsIn, vanish-more}
+use Rattle.q_kernel.proofs.OccurrenceChanges.{item-IsIn, vanish-more}
 use Rattle.q_kernel.proofs.variables.vanish_all.Goals as goal
 
 pub vanish-requires-clause-bound : goal.vanish-requires-clause-bound

@@ -1,7 +1,7 @@
 use Rattle.std.proofs.Common.{ap, ◌∙◌, map, string_bytes}
 use Rattle.std.proofs.lemmas.Result.{IfOk-weaker}
 use Rattle.q_lib.specs.Calls.{HoldsFour}
-use Rattle.q_lib.proofs.Over.{over}
+use Rattle.q_lib.proofs.CommandFiles.{over}
 use Rattle.q_lib.proofs.running.rebuild.Goals as goal
 
 pub returns : goal.returns

@@ -1,5 +1,5 @@
-use Rattle.q_log.proofs.Spelling.{spelled-read}
-use Rattle.q_log.proofs.Parsing.{read-spelled}
+use Rattle.q_log.proofs.LogSpelledIsRead.{spelled-read}
+use Rattle.q_log.proofs.LogReadIsSpelled.{read-spelled}
 use Rattle.q_log.proofs.law.grammar_is_read.Goals as goal
 
 pub returns : goal.returns

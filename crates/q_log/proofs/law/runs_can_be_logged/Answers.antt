@@ -1,7 +1,6 @@
-use Rattle.q_logic.specs.Literals.{IsBelow}
-use Rattle.q_logic.specs.Parts.{ArePairs}
-use Rattle.q_logic.proofs.Parts.{AllByRecursion-IsIn}
-use Rattle.q_log.proofs.Tidying.{run-logged}
+use Rattle.q_logic.specs.Prelude.{IsBelow, ArePairs}
+use Rattle.q_logic.proofs.Common.{AllByRecursion-IsIn}
+use Rattle.q_log.proofs.WritableRuns.{run-logged}
 use Rattle.q_log.proofs.law.runs_can_be_logged.Goals as goal
 
 pub returns : goal.returns

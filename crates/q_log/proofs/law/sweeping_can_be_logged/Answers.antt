@@ -1,13 +1,8 @@
 use Rattle.std.proofs.Common.{List}
-use Rattle.q_logic.specs.Literals.{IsBelow}
-use Rattle.q_logic.specs.Parts.{ArePairs}
-use Rattle.q_logic.specs.Steps.{ProofStep}
-use Rattle.q_logic.specs.Runs.{Run}
-use Rattle.q_logic.specs.Sweep.{swept}
-use Rattle.q_logic.proofs.Parts.{AllByRecursion-IsIn}
-use Rattle.q_logic.proofs.Settling.{sweep-run}
-use Rattle.q_log.proofs.Tidying.{run-logged}
-use Rattle.q_log.proofs.Orders.{swept-order}
+use Rattle.q_logic.specs.Prelude.{IsBelow, ArePairs, ProofStep, Run, swept}
+use Rattle.q_logic.proofs.Common.{AllByRecursion-IsIn, sweep-run}
+use Rattle.q_log.proofs.WritableRuns.{run-logged}
+use Rattle.q_log.proofs.ResultOrder.{swept-order}
 use Rattle.q_log.proofs.law.sweeping_can_be_logged.Goals as goal
 
 pub returns : goal.returns

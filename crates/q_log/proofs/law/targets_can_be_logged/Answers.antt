@@ -1,14 +1,9 @@
 use Rattle.std.proofs.Common.{List}
-use Rattle.q_logic.specs.Literals.{IsBelow}
-use Rattle.q_logic.specs.Parts.{ArePairs}
-use Rattle.q_logic.specs.Steps.{ProofStep}
-use Rattle.q_logic.specs.Runs.{Run}
-use Rattle.q_logic.specs.Numbered.{live, formula_of}
-use Rattle.q_logic.specs.Rules.{result_of}
-use Rattle.q_logic.proofs.Parts.{AllByRecursion-IsIn}
+use Rattle.q_logic.specs.Prelude.{IsBelow, ArePairs, ProofStep, Run, live, formula_of, result_of}
+use Rattle.q_logic.proofs.Common.{AllByRecursion-IsIn}
 use Rattle.q_logic.proofs.TargetRuns.{target-run}
-use Rattle.q_log.proofs.Tidying.{run-logged}
-use Rattle.q_log.proofs.Orders.{result-order}
+use Rattle.q_log.proofs.WritableRuns.{run-logged}
+use Rattle.q_log.proofs.ResultOrder.{result-order}
 use Rattle.q_log.proofs.law.targets_can_be_logged.Goals as goal
 
 pub returns : goal.returns

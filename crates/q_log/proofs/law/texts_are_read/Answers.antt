@@ -1,4 +1,4 @@
-use Rattle.q_log.proofs.Rereading.{steps-reread}
+use Rattle.q_log.proofs.LogRoundTrip.{steps-reread}
 use Rattle.q_log.proofs.law.texts_are_read.Goals as goal
 
 pub returns : goal.returns

@@ -1,8 +1,8 @@
 use Rattle.std.proofs.Common.{arith, ◌≡◌, ◌+◌, ◌≤◌, length}
 use Rattle.std.proofs.lemmas.Grind.{common_steps}
-use Rattle.q_logic.specs.Literals.{number_of}
+use Rattle.q_logic.specs.Prelude.{number_of}
 use Rattle.q_text.specs.Numbers.{number_text}
-use Rattle.q_text.proofs.Short.{literal-short}
+use Rattle.q_text.proofs.LiteralLengths.{literal-short}
 use Rattle.q_log.proofs.text.lit_len.Goals as goal
 
 pub returns-clause-bound : goal.returns-clause-bound

@@ -1,5 +1,5 @@
 use Rattle.std.proofs.Common.{◌≤◌, ◌^◌, length-append, arith}
-use Rattle.q_log.proofs.Texts.{text-next, place-small}
+use Rattle.q_log.proofs.LiteralTexts.{text-next, place-small}
 use Rattle.q_log.proofs.text.lits_len.Goals as goal
 
 pub loop-lit-preserved : goal.loop-lit-preserved

@@ -1,5 +1,5 @@
 use Rattle.std.proofs.Common.{length-append, arith}
-use Rattle.q_log.proofs.Texts.{text-next}
+use Rattle.q_log.proofs.LiteralTexts.{text-next}
 use Rattle.q_log.proofs.text.put_lits.Goals as goal
 
 pub put_lit-requires : goal.put_lit-requires

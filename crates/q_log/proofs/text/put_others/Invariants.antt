@@ -1,5 +1,5 @@
 use Rattle.std.proofs.Common.{◌≡◌, ◌≤◌, ◌+◌, ◌++◌, length, vec_len, vec_capacity, drop}
-use Rattle.q_logic.specs.Pivots.{without}
+use Rattle.q_logic.specs.Prelude.{without}
 use Rattle.q_log.specs.Texts.{literals_text}
 use Rattle.q_log.proofs.text.put_others.Given as goal
 

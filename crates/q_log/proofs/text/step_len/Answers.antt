@@ -1,4 +1,4 @@
-use Rattle.q_log.proofs.Texts.{step-ordered}
+use Rattle.q_log.proofs.LiteralTexts.{step-ordered}
 use Rattle.q_log.proofs.text.step_len.Goals as goal
 
 pub lits_len-requires : goal.lits_len-requires

@@ -1,11 +1,9 @@
 use Rattle.std.proofs.Common.{◌≡◌, ◌++◌, ◌∙◌, ap, arith, length, append_assoc, length-append, List, ℕ}
-use Rattle.q_logic.specs.Literals.{Literal}
-use Rattle.q_logic.specs.Pivots.{without}
-use Rattle.q_logic.specs.StepForms.{first_of, in_front}
+use Rattle.q_logic.specs.Prelude.{Literal, without, first_of, in_front}
 use Rattle.q_text.specs.Numbers.{line_end}
 use Rattle.q_log.specs.Texts.{literals_text}
-use Rattle.q_log.proofs.Texts.{without-ordered}
-use Rattle.q_log.proofs.InFront.{in_front-own}
+use Rattle.q_log.proofs.LiteralTexts.{without-ordered}
+use Rattle.q_log.proofs.LeastInFront.{in_front-own}
 use Rattle.q_log.proofs.text.write_shorter.Goals as goal
 
 pub put_others-requires : goal.put_others-requires

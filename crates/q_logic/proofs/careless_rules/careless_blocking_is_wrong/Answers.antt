@@ -1,9 +1,6 @@
 use Rattle.std.proofs.Common.{refl, inl, inr}
-use Rattle.q_logic.specs.StepForms.{positive}
+use Rattle.q_logic.specs.Prelude.{positive, numbered, blocked, result_of}
 use Rattle.q_logic.specs.Examples.{negative, of_two, guessed}
-use Rattle.q_logic.specs.Numbered.{numbered}
-use Rattle.q_logic.specs.Targets.{blocked}
-use Rattle.q_logic.specs.Rules.{result_of}
 use Rattle.q_logic.proofs.SmallFormulas.{computed_true, computed_false}
 use Rattle.q_logic.proofs.careless_rules.careless_blocking_is_wrong.Goals as goal
 

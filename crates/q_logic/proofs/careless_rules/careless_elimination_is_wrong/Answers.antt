@@ -1,10 +1,7 @@
 use Rattle.std.proofs.Common.{refl, inl, inr}
 use Rattle.q_logic.specs.declared.rule_bounds.Bounds.{Bounds}
-use Rattle.q_logic.specs.StepForms.{positive}
+use Rattle.q_logic.specs.Prelude.{positive, numbered, eliminate, Applicable, result_of}
 use Rattle.q_logic.specs.Examples.{negative, of_two, guessed}
-use Rattle.q_logic.specs.Numbered.{numbered}
-use Rattle.q_logic.specs.Targets.{eliminate}
-use Rattle.q_logic.specs.Rules.{Applicable, result_of}
 use Rattle.q_logic.proofs.SmallFormulas.{computed_true, computed_false}
 use Rattle.q_logic.proofs.RuleLaws.{false_true}
 use Rattle.q_logic.proofs.careless_rules.careless_elimination_is_wrong.Goals as goal

@@ -1,7 +1,5 @@
 use Rattle.std.proofs.Common.{refl}
-use Rattle.q_logic.specs.Numbered.{numbered}
-use Rattle.q_logic.specs.Targets.{expand_universal}
-use Rattle.q_logic.specs.Rules.{result_of}
+use Rattle.q_logic.specs.Prelude.{numbered, expand_universal, result_of}
 use Rattle.q_logic.specs.CarelessRules.{connected, forgetful_expansion}
 use Rattle.q_logic.proofs.SmallFormulas.{computed_true, computed_false}
 use Rattle.q_logic.proofs.careless_rules.careless_expansion_is_wrong.Goals as goal

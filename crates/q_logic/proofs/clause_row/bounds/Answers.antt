@@ -1,5 +1,5 @@
 use Rattle.std.proofs.Common.{sym}
-use Rattle.q_logic.proofs.Pieces.{AreEnds-start, AreEnds-end, start_of-later}
+use Rattle.q_logic.proofs.ClauseBounds.{AreEnds-start, AreEnds-end, start_of-later}
 use Rattle.q_logic.proofs.clause_row.bounds.Goals as goal
 
 pub returns-then-at-eq0-clause-within : goal.returns-then-at-eq0-clause-within

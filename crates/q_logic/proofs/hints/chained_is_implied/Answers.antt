@@ -1,4 +1,4 @@
-use Rattle.q_logic.proofs.Chaining.{chained-implied, implied-chained}
+use Rattle.q_logic.proofs.HintChains.{chained-implied, implied-chained}
 use Rattle.q_logic.proofs.hints.chained_is_implied.Goals as goal
 
 pub returns : goal.returns

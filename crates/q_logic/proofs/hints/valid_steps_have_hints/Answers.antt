@@ -1,4 +1,4 @@
-use Rattle.q_logic.proofs.Showing.{valid-hinted}
+use Rattle.q_logic.proofs.ProofParts.{valid-hinted}
 use Rattle.q_logic.proofs.hints.valid_steps_have_hints.Goals as goal
 
 pub returns : goal.returns

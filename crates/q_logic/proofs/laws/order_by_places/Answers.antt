@@ -1,4 +1,4 @@
-use Rattle.q_logic.proofs.Places.{outer_or_same-places, places-outer_or_same}
+use Rattle.q_logic.proofs.PrefixPlaces.{outer_or_same-places, places-outer_or_same}
 use Rattle.q_logic.proofs.laws.order_by_places.Goals as goal
 
 pub returns : goal.returns

@@ -1,7 +1,6 @@
 use Rattle.std.proofs.Common.{sym, refl, subst, inl, inr}
-use Rattle.q_logic.specs.Literals.{Literal}
-use Rattle.q_logic.specs.Formulas.{IsIn}
-use Rattle.q_logic.proofs.Members.{item-in, taken-cases, test-false}
+use Rattle.q_logic.specs.Prelude.{Literal, IsIn}
+use Rattle.q_logic.proofs.MemberPlaces.{item-in, taken-cases, test-false}
 use Rattle.q_logic.proofs.lits.holds.Goals as goal
 
 pub returns-then-is : goal.returns-then-is

@@ -1,5 +1,5 @@
 use Rattle.std.proofs.Common.{take}
-use Rattle.q_logic.specs.Formulas.{IsIn}
+use Rattle.q_logic.specs.Prelude.{IsIn}
 use Rattle.q_logic.proofs.lits.holds.Given as goal
 
 abbrev pub invariant-loop-k : goal.invariant-loop-k

@@ -1,5 +1,5 @@
 use Rattle.std.proofs.Common.{◌≡◌, ◌-◌, ◌<◌, ◌≤◌, ◌∙◌, ℕ, suc, get_or, length, sym, refl, subst, arith, true≢false}
-use Rattle.q_logic.proofs.Neighbours.{neighbours-tautology, neighbours-none}
+use Rattle.q_logic.proofs.LiteralNeighbours.{neighbours-tautology, neighbours-none}
 use Rattle.q_logic.proofs.lits.is_tautology.Goals as goal
 
 pub returns-then-var : goal.returns-then-var

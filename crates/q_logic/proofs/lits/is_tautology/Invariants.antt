@@ -1,4 +1,4 @@
-use Rattle.q_logic.proofs.Neighbours.{AreOther}
+use Rattle.q_logic.proofs.LiteralNeighbours.{AreOther}
 use Rattle.q_logic.proofs.lits.is_tautology.Given as goal
 
 abbrev pub invariant-loop-i : goal.invariant-loop-i

@@ -1,4 +1,4 @@
-use Rattle.q_logic.proofs.Rounds.{first-none_before}
+use Rattle.q_logic.proofs.PrefixRounds.{first-none_before}
 use Rattle.q_logic.proofs.moves.first_stands_before_universals.Goals as goal
 
 pub returns : goal.returns

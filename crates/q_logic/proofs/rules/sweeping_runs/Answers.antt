@@ -1,5 +1,5 @@
-use Rattle.q_logic.proofs.Settling.{sweep-run, sweep-twice}
-use Rattle.q_logic.proofs.Measuring.{measure-sweep}
+use Rattle.q_logic.proofs.SettledResults.{sweep-run, sweep-twice}
+use Rattle.q_logic.proofs.Measures.{measure-sweep}
 use Rattle.q_logic.proofs.rules.sweeping_runs.Goals as goal
 
 pub returns : goal.returns

@@ -1,4 +1,4 @@
-use Rattle.q_logic.proofs.Picking.{circuits-skolem}
+use Rattle.q_logic.proofs.PickedCircuits.{circuits-skolem}
 use Rattle.q_logic.proofs.search_laws.circuits_are_skolem.Goals as goal
 
 pub returns : goal.returns

@@ -1,4 +1,4 @@
-use Rattle.q_logic.proofs.Hitting.{valid-skolem, skolem-valid}
+use Rattle.q_logic.proofs.HitNodes.{valid-skolem, skolem-valid}
 use Rattle.q_logic.proofs.search_laws.valid_is_skolem.Goals as goal
 
 pub returns : goal.returns

@@ -1,4 +1,4 @@
-use Rattle.q_logic.proofs.Exploring.{few}
+use Rattle.q_logic.proofs.SearchCounts.{few}
 use Rattle.q_logic.proofs.search_laws.values_are_few.Goals as goal
 
 pub returns : goal.returns

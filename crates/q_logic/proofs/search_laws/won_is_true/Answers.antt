@@ -1,8 +1,8 @@
 use Rattle.std.proofs.Common.{◌≡◌, sym, ◌∙◌}
 use Rattle.q_logic.specs.Truth.{is_true}
-use Rattle.q_logic.specs.Searching.{nothing}
+use Rattle.q_logic.specs.Prelude.{nothing}
 use Rattle.q_logic.specs.Decisions.{search_of}
-use Rattle.q_logic.proofs.Winning.{explored-won}
+use Rattle.q_logic.proofs.WonSearch.{explored-won}
 use Rattle.q_logic.proofs.search_laws.won_is_true.Goals as goal
 
 pub returns : goal.returns

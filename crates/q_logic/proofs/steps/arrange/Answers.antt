@@ -1,7 +1,6 @@
 use Rattle.std.proofs.Common.{◌≡◌, ◌<◌, ◌∙◌, sym, subst, ap, arith, length}
 use Rattle.std.proofs.lemmas.Bool.Decides.{nat_tests}
-use Rattle.q_logic.specs.Literals.{IsBelow}
-use Rattle.q_logic.specs.Parts.{ArePairs}
+use Rattle.q_logic.specs.Prelude.{IsBelow, ArePairs}
 use Rattle.q_logic.specs.StepForms.{arranged}
 use Rattle.q_logic.proofs.ClauseSets.{clause_of-ordered}
 use Rattle.q_logic.proofs.StepForms.{first-held, arranged-cons, whole-take}

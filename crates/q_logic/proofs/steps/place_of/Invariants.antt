@@ -1,5 +1,5 @@
 use Rattle.std.proofs.Common.{◌-◌, length, drop}
-use Rattle.q_logic.specs.Formulas.{IsIn}
+use Rattle.q_logic.specs.Prelude.{IsIn}
 use Rattle.q_logic.proofs.steps.place_of.Given as goal
 
 abbrev pub invariant-loop-lit : goal.invariant-loop-lit

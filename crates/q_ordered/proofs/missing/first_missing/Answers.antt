@@ -1,8 +1,7 @@
 use Rattle.std.proofs.Common.{◌≡◌, Some, sym, subst, inl, inr}
-use Rattle.q_logic.specs.Literals.{Literal}
-use Rattle.q_logic.specs.Formulas.{Clause, IsIn}
-use Rattle.q_logic.proofs.Members.{item-in, taken-cases, taken-all}
-use Rattle.q_ordered.proofs.Ordered.{dropped-in, left-here, left-on}
+use Rattle.q_logic.specs.Prelude.{Literal, Clause, IsIn}
+use Rattle.q_logic.proofs.Common.{item-in, taken-cases, taken-all}
+use Rattle.q_ordered.proofs.OrderedClauses.{dropped-in, left-here, left-on}
 use Rattle.q_ordered.proofs.missing.first_missing.Goals as goal
 
 same : (k j : Literal) → Some k ≡ Some j → k ≡ j

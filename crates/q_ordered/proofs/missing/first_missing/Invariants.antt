@@ -1,7 +1,6 @@
 use Rattle.std.proofs.Common.{◌≢◌, Some, take}
-use Rattle.q_logic.specs.Literals.{Literal}
-use Rattle.q_logic.specs.Formulas.{IsIn}
-use Rattle.q_ordered.proofs.Ordered.{IsLeft}
+use Rattle.q_logic.specs.Prelude.{Literal, IsIn}
+use Rattle.q_ordered.proofs.OrderedClauses.{IsLeft}
 use Rattle.q_ordered.proofs.missing.first_missing.Given as goal
 
 abbrev pub invariant-loop-k : goal.invariant-loop-k

@@ -1,8 +1,7 @@
 use Rattle.std.proofs.Common.{subst}
-use Rattle.q_logic.specs.Literals.{Literal}
-use Rattle.q_logic.specs.Formulas.{IsIn}
+use Rattle.q_logic.specs.Prelude.{Literal, IsIn}
 use Rattle.std.proofs.Common.{drop}
-use Rattle.q_ordered.proofs.Ordered.{at-place, only-there}
+use Rattle.q_ordered.proofs.OrderedClauses.{at-place, only-there}
 use Rattle.q_ordered.proofs.places.is_at.Goals as goal
 
 pub returns-then-at-d : goal.returns-then-at-d

@@ -1,5 +1,5 @@
 use Rattle.std.proofs.Common.{arith}
-use Rattle.q_ordered.proofs.Ordered.{least-from}
+use Rattle.q_ordered.proofs.OrderedClauses.{least-from}
 use Rattle.q_ordered.proofs.places.skip_to.Goals as goal
 
 pub returns-then-index-clause-least : goal.returns-then-index-clause-least

@@ -1,6 +1,5 @@
 use Rattle.std.proofs.Common.{◌≤◌, drop}
-use Rattle.q_logic.specs.Literals.{Literal, pack}
-use Rattle.q_logic.specs.Formulas.{IsIn}
+use Rattle.q_logic.specs.Prelude.{Literal, pack, IsIn}
 use Rattle.q_ordered.proofs.places.skip_to.Given as goal
 
 abbrev pub invariant-loop-at : goal.invariant-loop-at

@@ -1,7 +1,7 @@
 use Rattle.std.proofs.Common.{◌∙◌, ap, Bool, sym}
-use Rattle.q_arena.specs.Chains.{list_at, following}
+use Rattle.q_arena.specs.Prelude.{list_at, following}
 use Rattle.q_prefix.specs.Blocks.{ahead}
-use Rattle.q_prefix.proofs.Directions.{preceding-reverse}
+use Rattle.q_prefix.proofs.ListDirections.{preceding-reverse}
 use Rattle.q_prefix.proofs.blocks.beside.Goals as goal
 
 pub returns-else-forward : goal.returns-else-forward

@@ -1,12 +1,12 @@
 use Rattle.std.proofs.Common.{◌≡◌, ◌+◌, ◌-◌, ◌<◌, sym, ◌∙◌, ap, subst, arith, ℕ, true≢false, List, ◌∷◌, length, drop, length-drop, get_or}
 use Rattle.q_logic.specs.declared.formulas.Quant.TheVariants.{Exists}
 use Rattle.q_logic.specs.declared.formulas.Bound.{Bound}
-use Rattle.q_logic.specs.Prefixes.{is_bound, Distinct}
-use Rattle.q_arena.specs.Chains.{list_at}
+use Rattle.q_logic.specs.Prelude.{is_bound, Distinct}
+use Rattle.q_arena.specs.Prelude.{list_at}
 use Rattle.q_prefix.specs.declared.marks.Mark.{Mark}
 use Rattle.q_prefix.specs.Order.{rank_of, bounds_of, IsRankBefore, IsFirstRank}
-use Rattle.q_prefix.proofs.Bounds.{bound-has}
-use Rattle.q_prefix.proofs.Filling.{drop-at, get-here, distinct-drop, first-low, before-of}
+use Rattle.q_prefix.proofs.ListedBounds.{bound-has}
+use Rattle.q_prefix.proofs.FilledPrefix.{drop-at, get-here, distinct-drop, first-low, before-of}
 use Rattle.q_prefix.proofs.blocks.fill.Goals as goal
 
 abbrev no_bound : Bound

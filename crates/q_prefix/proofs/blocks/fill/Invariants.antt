@@ -1,5 +1,5 @@
 use Rattle.std.proofs.Common.{◌≡◌, ◌-◌, length, drop}
-use Rattle.q_arena.specs.Chains.{list_at}
+use Rattle.q_arena.specs.Prelude.{list_at}
 use Rattle.q_prefix.specs.Order.{IsPrefix, IsFirstRank, bounds_of, rank_of}
 use Rattle.q_prefix.proofs.blocks.fill.Given as goal
 

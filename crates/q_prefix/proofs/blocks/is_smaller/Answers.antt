@@ -1,10 +1,10 @@
 use Rattle.std.proofs.Common.{◌≡◌, ◌<◌, ◌∙◌, sym, arith, ℕ, suc, true, false, length}
 use Rattle.std.specs.Prelude.{nat_le}
 use Rattle.std.proofs.lemmas.Bool.Decides.{nat_tests}
-use Rattle.q_arena.specs.Chains.{list_at}
+use Rattle.q_arena.specs.Prelude.{list_at}
 use Rattle.q_prefix.specs.Order.{rank_of}
 use Rattle.q_prefix.specs.Blocks.{ahead, block_from}
-use Rattle.q_prefix.proofs.Renaming.{apart-ahead, has-ahead, ahead-has, block-last, block-more, block-some, mate-has}
+use Rattle.q_prefix.proofs.NewRanks.{apart-ahead, has-ahead, ahead-has, block-last, block-more, block-some, mate-has}
 use Rattle.q_prefix.proofs.blocks.is_smaller.Goals as goal
 
 last-first : (m n : ℕ) → m ≡ 1 → 0 < n → true ≡ nat_le m n

@@ -1,7 +1,6 @@
 use Rattle.std.proofs.Common.{◌≡◌, length, true, false}
 use Rattle.std.specs.Prelude.{nat_le}
-use Rattle.q_arena.specs.Rings.{Has}
-use Rattle.q_arena.specs.Chains.{list_at}
+use Rattle.q_arena.specs.Prelude.{Has, list_at}
 use Rattle.q_prefix.specs.Order.{rank_of}
 use Rattle.q_prefix.specs.Blocks.{ahead, block_from}
 use Rattle.q_prefix.proofs.blocks.is_smaller.Given as goal

@@ -1,10 +1,10 @@
 use Rattle.std.proofs.Common.{◌≡◌, ◌≢◌, ◌⊎◌, sym, ◌∙◌, ap, arith, ℕ, Bool, false, inl, inr}
-use Rattle.q_logic.specs.Prefixes.{same_quant}
+use Rattle.q_logic.specs.Prelude.{same_quant}
 use Rattle.q_prefix.specs.declared.marks.Mark.{Mark}
 use Rattle.q_prefix.specs.Order.{mark_at, rank_of}
-use Rattle.q_prefix.proofs.Ranks.{renamed, joint-down, joint-up}
-use Rattle.q_prefix.proofs.Changes.{parted-kept, parted-joined, at-beside}
-use Rattle.q_prefix.proofs.Joining.{before-in, after-in, vars-within, renamed-on, renamed-back}
+use Rattle.q_prefix.proofs.PrefixRanks.{renamed, joint-down, joint-up}
+use Rattle.q_prefix.proofs.PrefixChanges.{parted-kept, parted-joined, at-beside}
+use Rattle.q_prefix.proofs.BlockMerge.{before-in, after-in, vars-within, renamed-on, renamed-back}
 use Rattle.q_prefix.proofs.blocks.join_blocks.Goals as goal
 
 same-quants : (m n first second : Mark) (b : Bool) → first ≡ m → second ≡ n → b ≡ same_quant first.quant second.quant → same_quant m.quant n.quant ≡ b

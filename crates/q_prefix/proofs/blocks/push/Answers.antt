@@ -1,6 +1,6 @@
 use Rattle.std.proofs.Common.{◌∙◌, ap, length}
-use Rattle.q_arena.proofs.Seen.{length-set'}
-use Rattle.q_prefix.proofs.Changes.{prefix-pushed, bounds-pushed}
+use Rattle.q_arena.proofs.ArenaView.{length-set'}
+use Rattle.q_prefix.proofs.PrefixChanges.{prefix-pushed, bounds-pushed}
 use Rattle.q_prefix.proofs.blocks.push.Goals as goal
 
 pub returns-clause-prefix : goal.returns-clause-prefix

@@ -1,8 +1,8 @@
 use Rattle.std.proofs.Common.{◌≡◌, sym, ◌∙◌, ap, arith, ℕ, suc, refl, ◌∷◌, length, Option}
-use Rattle.q_arena.specs.Chains.{list_at}
+use Rattle.q_arena.specs.Prelude.{list_at}
 use Rattle.q_prefix.specs.Order.{rank_of}
 use Rattle.q_prefix.specs.Blocks.{ahead}
-use Rattle.q_prefix.proofs.Renaming.{block_of, apart-ahead, has-ahead, ahead-has, rest-left, renaming-begun, renaming-turn, renaming-done}
+use Rattle.q_prefix.proofs.NewRanks.{block_of, apart-ahead, has-ahead, ahead-has, rest-left, renaming-begun, renaming-turn, renaming-done}
 use Rattle.q_prefix.proofs.blocks.rename.Goals as goal
 
 pub loop-at-init : goal.loop-at-init

@@ -1,8 +1,8 @@
 use Rattle.std.proofs.Common.{◌≡◌, ℕ, length}
-use Rattle.q_arena.specs.Chains.{list_at}
+use Rattle.q_arena.specs.Prelude.{list_at}
 use Rattle.q_prefix.specs.Order.{mark_at, rank_of}
 use Rattle.q_prefix.specs.Blocks.{ahead}
-use Rattle.q_prefix.proofs.Renaming.{block_of, IsRenaming}
+use Rattle.q_prefix.proofs.NewRanks.{block_of, IsRenaming}
 use Rattle.q_prefix.proofs.blocks.rename.Given as goal
 
 abbrev pub invariant-loop-at : goal.invariant-loop-at

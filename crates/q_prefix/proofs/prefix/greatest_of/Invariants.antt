@@ -1,5 +1,5 @@
 use Rattle.std.proofs.Common.{◌≡◌, drop}
-use Rattle.q_logic.specs.InLimits.{greatest, larger_of}
+use Rattle.q_logic.specs.Prelude.{greatest, larger_of}
 use Rattle.q_prefix.proofs.prefix.greatest_of.Given as goal
 
 abbrev pub invariant-loop-bound : goal.invariant-loop-bound

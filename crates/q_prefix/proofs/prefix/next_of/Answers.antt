@@ -1,7 +1,7 @@
 use Rattle.std.proofs.Common.{◌≡◌, sym, ◌∙◌, slice_get, Some}
-use Rattle.q_arena.specs.Chains.{list_at}
-use Rattle.q_prefix.proofs.Walks.{get-next, get-none}
-use Rattle.q_arena.proofs.Following.{get-has}
+use Rattle.q_arena.specs.Prelude.{list_at}
+use Rattle.q_prefix.proofs.VariableWalks.{get-next, get-none}
+use Rattle.q_arena.proofs.ListNeighbours.{get-has}
 use Rattle.q_prefix.proofs.prefix.next_of.Goals as goal
 
 pub returns : goal.returns

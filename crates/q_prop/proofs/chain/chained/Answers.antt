@@ -1,7 +1,7 @@
 use Rattle.std.proofs.Common.{IsTrue}
 use Rattle.q_prop.specs.Slots.{without}
 use Rattle.q_prop.specs.Working.{Clashes, IsAssumed}
-use Rattle.q_prop.proofs.Hinting.{ok-chained, tautology-chained, clash-tautology, empty-list}
+use Rattle.q_prop.proofs.HintSteps.{ok-chained, tautology-chained, clash-tautology, empty-list}
 use Rattle.q_prop.proofs.chain.chained.Goals as goal
 
 pub returns-then-branch : goal.returns-then-branch

@@ -1,6 +1,6 @@
 use Rattle.std.proofs.Common.{◌∷◌, ◌+◌, drop, get_or, arith}
 use Rattle.q_prop.specs.Slots.{without}
-use Rattle.q_prop.proofs.Hinting.{Decides, decided-last, decided-one, decided-open, decided-none, drop-item, no-case, last-hint, decided-end}
+use Rattle.q_prop.proofs.HintSteps.{Decides, decided-last, decided-one, decided-open, decided-none, drop-item, no-case, last-hint, decided-end}
 use Rattle.q_prop.proofs.chain.follow.Goals as goal
 
 pub loop-i-preserved : goal.loop-i-preserved

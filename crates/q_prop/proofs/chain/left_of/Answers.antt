@@ -1,8 +1,8 @@
 use Rattle.std.proofs.Common.{take, take_all, Contains, arith}
 use Rattle.q_prop.proofs.SlotLemmas.{test_fails}
-use Rattle.q_prop.proofs.Members.{Contains-take}
-use Rattle.q_logic.specs.Literals.{negation}
-use Rattle.q_prop.proofs.Hinting.{take-step, left-known, left-one, left-open, item-in}
+use Rattle.q_prop.proofs.ListMembers.{Contains-take}
+use Rattle.q_logic.specs.Prelude.{negation}
+use Rattle.q_prop.proofs.HintSteps.{take-step, left-known, left-one, left-open, item-in}
 use Rattle.q_prop.proofs.chain.left_of.Goals as goal
 
 pub loop-lit-preserved-then-has : goal.loop-lit-preserved-then-has

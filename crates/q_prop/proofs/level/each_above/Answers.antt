@@ -1,9 +1,8 @@
 use Rattle.std.proofs.Common.{◌++◌, arith, refl, sym, ◌∙◌, subst, true≢false, inl, inr}
-use Rattle.q_logic.specs.Formulas.{Clause}
-use Rattle.q_logic.specs.Propagation.{Implied}
+use Rattle.q_logic.specs.Prelude.{Clause, Implied}
 use Rattle.q_prop.specs.Slots.{without, filled}
-use Rattle.q_prop.proofs.Advancing.{moved-trans}
-use Rattle.q_prop.proofs.Levels.{level_kept}
+use Rattle.q_prop.proofs.PropagationSteps.{moved-trans}
+use Rattle.q_prop.proofs.AssumedLevels.{level_kept}
 use Rattle.q_prop.proofs.Literals.{ℕ-cases}
 use Rattle.q_prop.proofs.SlotLemmas.{same_slice_get, slice_get-in, slice_get-Contains, Contains-slice_get}
 use Rattle.q_prop.proofs.level.each_above.Goals as goal

@@ -1,9 +1,9 @@
 use Rattle.std.proofs.Common.{◌++◌, length, arith, refl}
 use Rattle.q_prop.specs.Slots.{without, filled}
-use Rattle.q_prop.proofs.Advancing.{moved-fewer}
-use Rattle.q_prop.proofs.Completing.{AreListed-kept, ready_longer, longer_within, finish}
-use Rattle.q_prop.proofs.Reaching.{IsReached-within}
-use Rattle.q_prop.proofs.Levels.{following_assumed, following_reached, following_falsified, following_clash, negated_both, worked_not_implied}
+use Rattle.q_prop.proofs.PropagationSteps.{moved-fewer}
+use Rattle.q_prop.proofs.CompleteRoot.{AreListed-kept, ready_longer, longer_within, finish}
+use Rattle.q_prop.proofs.PropagationEnd.{IsReached-within}
+use Rattle.q_prop.proofs.AssumedLevels.{following_assumed, following_reached, following_falsified, following_clash, negated_both, worked_not_implied}
 use Rattle.q_prop.proofs.level.search_above.Goals as goal
 
 pub returns-then-branch-clause-exact : goal.returns-then-branch-clause-exact

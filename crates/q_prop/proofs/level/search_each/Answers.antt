@@ -1,9 +1,9 @@
 use Rattle.std.proofs.Common.{length, arith, refl}
 use Rattle.q_prop.specs.Slots.{without, filled}
-use Rattle.q_prop.proofs.Advancing.{moved-fewer, moved-trans}
-use Rattle.q_prop.proofs.Completing.{ready_longer, longer_within, clash_implied}
-use Rattle.q_prop.proofs.Reaching.{IsReached-within}
-use Rattle.q_prop.proofs.Levels.{following_begun, following_falsified, implied_joined, level_begun}
+use Rattle.q_prop.proofs.PropagationSteps.{moved-fewer, moved-trans}
+use Rattle.q_prop.proofs.CompleteRoot.{ready_longer, longer_within, clash_implied}
+use Rattle.q_prop.proofs.PropagationEnd.{IsReached-within}
+use Rattle.q_prop.proofs.AssumedLevels.{following_begun, following_falsified, implied_joined, level_begun}
 use Rattle.q_prop.proofs.level.search_each.Goals as goal
 
 pub returns-then-branch-clause-exact : goal.returns-then-branch-clause-exact

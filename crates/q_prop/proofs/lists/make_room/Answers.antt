@@ -1,6 +1,6 @@
 use Rattle.std.proofs.Common.{map, List, ℕ, refl}
 use Rattle.smallvec.specs.SmallVec.{SmallVec}
-use Rattle.q_prop.proofs.Paging.{paged-same}
+use Rattle.q_prop.proofs.PagedLists.{paged-same}
 use Rattle.q_prop.proofs.lists.make_room.Goals as goal
 
 pub returns-in_err-make-clause-same : goal.returns-in_err-make-clause-same

@@ -1,9 +1,9 @@
 use Rattle.std.proofs.Common.{[], false}
-use Rattle.q_logic.specs.Hints.{Follows}
+use Rattle.q_logic.specs.Prelude.{Follows}
 use Rattle.q_prop.specs.Slots.{without}
 use Rattle.q_prop.specs.Working.{Clashes, IsAssumed}
 use Rattle.q_prop.specs.Plain.{IsExplained}
-use Rattle.q_prop.proofs.Hinting.{clash-tautology}
+use Rattle.q_prop.proofs.HintSteps.{clash-tautology}
 use Rattle.q_prop.proofs.PlainLemmas.{not-implied, follows-implied, tautology-shown, yes-implied, no-implied}
 use Rattle.q_prop.proofs.plain.explain_plainly.Goals as goal
 

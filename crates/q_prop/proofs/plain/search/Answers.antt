@@ -1,6 +1,6 @@
 use Rattle.std.proofs.Common.{◌+◌, ◌<◌, arith, [], if◌then◌else◌}
 use Rattle.q_prop.specs.Slots.{without, filled}
-use Rattle.q_prop.proofs.Missing.{missing}
+use Rattle.q_prop.proofs.UnknownLiterals.{missing}
 use Rattle.q_prop.proofs.PlainLemmas.{searching-new, searching-quiet, searching-consistent, searching-ended, searching-end, led-smaller, led-refl}
 use Rattle.q_prop.proofs.plain.search.Goals as goal
 

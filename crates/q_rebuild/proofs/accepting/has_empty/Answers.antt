@@ -1,5 +1,5 @@
 use Rattle.std.proofs.Common.{◌≡◌, eqb, true, false, refl, length, arith, sym, ◌∙◌}
-use Rattle.q_rebuild.proofs.Emptiness.{empty-there, empty-none}
+use Rattle.q_rebuild.proofs.EmptyClause.{empty-there, empty-none}
 use Rattle.q_rebuild.proofs.accepting.has_empty.Goals as goal
 
 pub returns-then-is_empty : goal.returns-then-is_empty

@@ -1,10 +1,8 @@
 use Rattle.std.proofs.Common.{subst, length}
-use Rattle.q_aig.specs.Nets.{Net}
-use Rattle.q_aig.specs.Outputs.{net_of}
-use Rattle.q_carry.specs.Copied.{AreMarked, AreCopied, ArePlaced}
-use Rattle.q_carry.specs.Made.{IsOpened, IsNamed}
-use Rattle.q_carry.proofs.Rows.{literals-kept}
-use Rattle.q_rebuild.proofs.Rebuilding.{rebuilt}
+use Rattle.q_aig.specs.Prelude.{Net, net_of}
+use Rattle.q_carry.specs.Prelude.{AreMarked, AreCopied, ArePlaced, IsOpened, IsNamed}
+use Rattle.q_carry.proofs.LiteralRows.{literals-kept}
+use Rattle.q_rebuild.proofs.RebuiltCircuits.{rebuilt}
 use Rattle.q_rebuild.proofs.carrying.carry.Goals as goal
 
 pub take_back-requires-clause-circuits : goal.take_back-requires-clause-circuits

@@ -1,11 +1,11 @@
 use Rattle.std.proofs.Common.{◌≡◌, ◌≤◌, ℕ, ◌+◌, ◌-◌, ◌∷◌, drop, length, map, sym, subst, ap, ◌∙◌, List, Option, arith}
 use Rattle.std.proofs.lemmas.List.{length-map}
-use Rattle.q_logic.specs.Undos.{UndoEntry}
+use Rattle.q_logic.specs.Prelude.{UndoEntry}
 use Rattle.q_judge.specs.Entries.{entry_of}
-use Rattle.q_carry.specs.Undone.{IsUndone}
+use Rattle.q_carry.specs.Prelude.{IsUndone}
 use Rattle.q_rebuild.specs.TakenBack.{AreUndone}
-use Rattle.q_carry.proofs.Lists.{drop-mapped}
-use Rattle.q_rebuild.proofs.TakingBack.{are-more}
+use Rattle.q_carry.proofs.LongerLists.{drop-mapped}
+use Rattle.q_rebuild.proofs.UndoEntries.{are-more}
 use Rattle.q_rebuild.proofs.entries.take_back.Goals as goal
 
 pub loop-i-preserved : goal.loop-i-preserved

@@ -1,4 +1,4 @@
-use Rattle.q_rebuild.proofs.Alike.{accepted-alike}
+use Rattle.q_rebuild.proofs.AlikeAccepted.{accepted-alike}
 use Rattle.q_rebuild.proofs.laws.alike_circuits_are_accepted_alike.Goals as goal
 
 pub returns : goal.returns

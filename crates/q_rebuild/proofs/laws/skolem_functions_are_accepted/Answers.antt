@@ -1,4 +1,4 @@
-use Rattle.q_rebuild.proofs.Allowing.{skolem-accepted}
+use Rattle.q_rebuild.proofs.SkolemAccepted.{skolem-accepted}
 use Rattle.q_rebuild.proofs.laws.skolem_functions_are_accepted.Goals as goal
 
 pub returns : goal.returns

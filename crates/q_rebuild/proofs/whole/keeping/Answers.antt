@@ -1,4 +1,4 @@
-use Rattle.q_rebuild.proofs.Keeping.{keeps-moves}
+use Rattle.q_rebuild.proofs.KeptMoves.{keeps-moves}
 use Rattle.q_rebuild.proofs.whole.keeping.Goals as goal
 
 pub returns : goal.returns

@@ -1,6 +1,5 @@
 use Rattle.std.proofs.Common.{subst, sym}
-use Rattle.q_logic.specs.Certificates.{CertificateView, trees_of}
-use Rattle.q_logic.specs.Skolems.{Lawful}
+use Rattle.q_logic.specs.Prelude.{CertificateView, trees_of, Lawful}
 use Rattle.q_rebuild.specs.Moves.{KeepsMoves}
 use Rattle.q_rebuild.specs.Rebuilt.{IsRebuilt}
 use Rattle.q_rebuild.specs.Refusals.{IsAccepted}

@@ -1,8 +1,6 @@
 use Rattle.std.proofs.Common.{◌≡◌, ◌∙◌, sym, subst, true≢false}
-use Rattle.q_logic.specs.Literals.{negation}
-use Rattle.q_logic.specs.Formulas.{Clause, IsIn}
-use Rattle.q_logic.specs.Reach.{Reached}
-use Rattle.q_logic.proofs.Members.{test-false}
+use Rattle.q_logic.specs.Prelude.{negation, Clause, IsIn, Reached}
+use Rattle.q_logic.proofs.Common.{test-false}
 use Rattle.q_kernel.proofs.Basics.{some-same}
 use Rattle.q_reduce.proofs.cut.fits_cut.Goals as goal
 use Rattle.q_reduce.proofs.cut.fits_cut.Goals.{then-not-holds-via-then-not-holds, then-not-holds-via-else-not-holds+then-holds}

@@ -1,4 +1,4 @@
-use Rattle.q_logic.proofs.Members.{item-in}
+use Rattle.q_logic.proofs.Common.{item-in}
 use Rattle.q_reduce.proofs.forests.connect.Goals as goal
 
 pub tells-requires-clause-right : goal.tells-requires-clause-right

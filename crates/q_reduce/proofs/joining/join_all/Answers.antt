@@ -1,4 +1,4 @@
-use Rattle.q_kernel.proofs.Turns.{live-turn}
+use Rattle.q_kernel.proofs.ForLoops.{live-turn}
 use Rattle.q_reduce.proofs.joining.join_all.Goals as goal
 
 pub lits-requires : goal.lits-requires

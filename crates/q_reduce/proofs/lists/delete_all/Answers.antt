@@ -1,15 +1,14 @@
 use Rattle.std.proofs.Common.{◌≡◌, true, sym, ◌∙◌, refl, subst, arith}
-use Rattle.q_logic.specs.Formulas.{Clause, IsIn}
-use Rattle.q_logic.specs.Prefixes.{is_existential}
-use Rattle.q_kernel.specs.Kernels.{HoldsLiteral}
+use Rattle.q_logic.specs.Prelude.{Clause, IsIn, is_existential}
+use Rattle.q_kernel.specs.Prelude.{HoldsLiteral}
 use Rattle.q_kernel.proofs.Basics.{some-same}
-use Rattle.q_rule.proofs.Steps.{may-go_pure}
-use Rattle.q_rule.proofs.Clearing.{deleting-more, deleting-done, size-deleted, clause-bytes}
+use Rattle.q_rule.proofs.RuleSteps.{may-go_pure}
+use Rattle.q_rule.proofs.RemovalLoops.{deleting-more, deleting-done, size-deleted, clause-bytes}
 use Rattle.q_reduce.proofs.lists.delete_all.Goals as goal
 
 pub loop-id-init : goal.loop-id-init
 loop-id-init c = record {
-  led = Rattle.q_kernel.proofs.Leading.led-itself c.args.kernel.now;
+  led = Rattle.q_kernel.proofs.KernelRuns.led-itself c.args.kernel.now;
   prefix = refl;
   same = refl;
   pure = c.requires.pure;

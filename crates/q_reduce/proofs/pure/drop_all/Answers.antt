@@ -1,18 +1,13 @@
 use Rattle.std.proofs.Common.{◌≡◌, true, sym, ◌∙◌, refl, subst}
-use Rattle.q_logic.specs.Literals.{negation}
-use Rattle.q_logic.specs.Formulas.{Clause, IsIn}
-use Rattle.q_logic.specs.Prefixes.{is_universal}
-use Rattle.q_logic.specs.Numbered.{Slots, live}
-use Rattle.q_logic.specs.Sets.{OccursIn}
+use Rattle.q_logic.specs.Prelude.{negation, Clause, IsIn, is_universal, Slots, live, OccursIn, drop_literal}
 use Rattle.q_log.specs.Texts.{step_text}
-use Rattle.q_logic.specs.Steps.{drop_literal}
 use Rattle.std.proofs.Common.{length}
-use Rattle.q_kernel.specs.Kernels.{slots, HoldsLiteral}
-use Rattle.q_kernel.proofs.Leading.{led-itself}
+use Rattle.q_kernel.specs.Prelude.{slots, HoldsLiteral}
+use Rattle.q_kernel.proofs.KernelRuns.{led-itself}
 use Rattle.q_kernel.proofs.Basics.{some-same}
-use Rattle.q_rule.proofs.Steps.{may-drop_pure, drop-cost}
-use Rattle.q_rule.proofs.Turns.{shorter-in}
-use Rattle.q_rule.proofs.Clearing.{clearing-bytes, clearing-more, clearing-done, with-falls}
+use Rattle.q_rule.proofs.RuleSteps.{may-drop_pure, drop-cost}
+use Rattle.q_rule.proofs.LoopChanges.{shorter-in}
+use Rattle.q_rule.proofs.RemovalLoops.{clearing-bytes, clearing-more, clearing-done, with-falls}
 use Rattle.q_reduce.proofs.pure.drop_all.Goals as goal
 
 pub loop-id-init : goal.loop-id-init

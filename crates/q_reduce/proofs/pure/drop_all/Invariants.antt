@@ -1,9 +1,6 @@
-use Rattle.q_logic.specs.Literals.{negation}
-use Rattle.q_logic.specs.Measure.{size_of}
-use Rattle.q_logic.specs.Sets.{with_literal, OccursIn}
-use Rattle.q_logic.specs.Numbered.{live}
-use Rattle.q_kernel.specs.Kernels.{slots}
-use Rattle.q_rule.proofs.Clearing.{IsClearing}
+use Rattle.q_logic.specs.Prelude.{negation, size_of, with_literal, OccursIn, live}
+use Rattle.q_kernel.specs.Prelude.{slots}
+use Rattle.q_rule.proofs.RemovalLoops.{IsClearing}
 use Rattle.q_reduce.proofs.pure.drop_all.Given as goal
 
 abbrev pub invariant-loop-id : goal.invariant-loop-id

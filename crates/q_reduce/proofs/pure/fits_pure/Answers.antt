@@ -1,11 +1,9 @@
 use Rattle.std.proofs.Common.{◌≡◌, ◌≤◌, ℕ, IsTrue, nat_eq, inl, inr, arith}
 use Rattle.std.proofs.lemmas.Bool.Decides.{nat_tests}
 use Rattle.q_kernel.proofs.Basics.{ℕ-cases}
-use Rattle.q_logic.specs.Literals.{Literal, negation}
-use Rattle.q_logic.specs.Sets.{OccursIn}
-use Rattle.q_logic.specs.Numbered.{live}
-use Rattle.q_logic.proofs.Slots.{live-slot}
-use Rattle.q_kernel.specs.Kernels.{Seen, slots, HoldsLiteral}
+use Rattle.q_logic.specs.Prelude.{Literal, negation, OccursIn, live}
+use Rattle.q_logic.proofs.Common.{live-slot}
+use Rattle.q_kernel.specs.Prelude.{Seen, slots, HoldsLiteral}
 use Rattle.q_reduce.proofs.pure.fits_pure.Goals as goal
 
 occurs : (k : Seen) (l : Literal) → ((c : ℕ) × HoldsLiteral k c l) → OccursIn l (live (slots k))

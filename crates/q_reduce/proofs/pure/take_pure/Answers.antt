@@ -1,6 +1,6 @@
 use Rattle.std.proofs.Common.{◌∙◌, sym, arith}
-use Rattle.q_logic.proofs.Order.{is_bound-universal}
-use Rattle.q_rule.proofs.Becoming.{change-clear}
+use Rattle.q_logic.proofs.Common.{is_bound-universal}
+use Rattle.q_rule.proofs.TargetChanges.{change-clear}
 use Rattle.q_reduce.proofs.pure.take_pure.Goals as goal
 
 pub drop_all-requires-clause-universal : goal.drop_all-requires-clause-universal

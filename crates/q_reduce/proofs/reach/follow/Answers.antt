@@ -1,6 +1,6 @@
-use Rattle.q_kernel.specs.Kernels.{slots}
-use Rattle.q_logic.proofs.Members.{test-false}
-use Rattle.q_reduce.proofs.Walks.{followed-widened}
+use Rattle.q_kernel.specs.Prelude.{slots}
+use Rattle.q_logic.proofs.Common.{test-false}
+use Rattle.q_reduce.proofs.ReachWalks.{followed-widened}
 use Rattle.q_reduce.proofs.reach.follow.Goals as goal
 
 pub returns : goal.returns

@@ -1,12 +1,10 @@
 use Rattle.std.proofs.Common.{◌≡◌, ◌∙◌, ◌<◌, ◌≤◌, true, false, Some, [], length, sym, subst, arith, refl, true≢false}
-use Rattle.q_logic.specs.Literals.{negation}
-use Rattle.q_logic.specs.Formulas.{Clause, IsIn}
-use Rattle.q_logic.specs.Numbered.{slot, others}
-use Rattle.q_kernel.specs.Kernels.{slots}
+use Rattle.q_logic.specs.Prelude.{negation, Clause, IsIn, slot, others}
+use Rattle.q_kernel.specs.Prelude.{slots}
 use Rattle.q_kernel.proofs.Basics.{some-same}
 use Rattle.q_reduce.specs.Walks.{IsWidened}
-use Rattle.q_reduce.proofs.Walks.{visited-beside}
-use Rattle.q_reduce.proofs.Reaching.{IsWalk, walk-begun, walk-more, walk-refuted, walk-ended}
+use Rattle.q_reduce.proofs.ReachWalks.{visited-beside}
+use Rattle.q_reduce.proofs.FinishedWalk.{IsWalk, walk-begun, walk-more, walk-refuted, walk-ended}
 use Rattle.q_reduce.proofs.reach.is_reducible.Goals as goal
 
 pub loop-head-init : goal.loop-head-init

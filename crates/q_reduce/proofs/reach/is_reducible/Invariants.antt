@@ -1,9 +1,7 @@
-use Rattle.q_logic.specs.Numbered.{others}
-use Rattle.q_logic.specs.Formulas.{Clause}
+use Rattle.q_logic.specs.Prelude.{others, Clause, slot}
 use Rattle.std.proofs.Common.{◌≡◌, Some}
-use Rattle.q_logic.specs.Numbered.{slot}
-use Rattle.q_kernel.specs.Kernels.{slots}
-use Rattle.q_reduce.proofs.Reaching.{IsWalk}
+use Rattle.q_kernel.specs.Prelude.{slots}
+use Rattle.q_reduce.proofs.FinishedWalk.{IsWalk}
 use Rattle.q_reduce.proofs.reach.is_reducible.Given as goal
 
 abbrev pub invariant-loop-head : goal.invariant-loop-head

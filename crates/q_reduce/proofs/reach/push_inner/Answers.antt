@@ -1,7 +1,7 @@
 use Rattle.std.proofs.Common.{◌+◌, take, sym, ◌∙◌, true≢false}
-use Rattle.q_logic.specs.Literals.{Literal}
-use Rattle.q_logic.proofs.Members.{taken-cases, taken-more, taken-last, taken-all}
-use Rattle.q_reduce.proofs.Walks.{widened-begun, widened-left, widened-pushed}
+use Rattle.q_logic.specs.Prelude.{Literal}
+use Rattle.q_logic.proofs.Common.{taken-cases, taken-more, taken-last, taken-all}
+use Rattle.q_reduce.proofs.ReachWalks.{widened-begun, widened-left, widened-pushed}
 use Rattle.q_reduce.proofs.reach.push_inner.Goals as goal
 use Rattle.q_reduce.proofs.reach.push_inner.Goals.{then-lies_inside+then-not-has+in_ok-push, else-lies_inside, else-lies_inside-via-then-lies_inside+else-not-has, else-lies_inside-via-else-lies_inside}
 

@@ -1,10 +1,8 @@
 use Rattle.std.proofs.Common.{ℕ, List, Contains, sym, subst}
-use Rattle.q_logic.specs.Literals.{Literal, negation}
-use Rattle.q_logic.specs.Formulas.{IsIn}
-use Rattle.q_logic.specs.Numbered.{live}
-use Rattle.q_kernel.specs.Kernels.{slots, HoldsLiteral}
-use Rattle.q_kernel.proofs.Turns.{holder-turn, all-came}
-use Rattle.q_reduce.proofs.Walks.{following-begun, following-more, following-visited, visited-not, stands-held}
+use Rattle.q_logic.specs.Prelude.{Literal, negation, IsIn, live}
+use Rattle.q_kernel.specs.Prelude.{slots, HoldsLiteral}
+use Rattle.q_kernel.proofs.ForLoops.{holder-turn, all-came}
+use Rattle.q_reduce.proofs.ReachWalks.{following-begun, following-more, following-visited, visited-not, stands-held}
 use Rattle.q_reduce.proofs.reach.visit.Goals as goal
 
 pub loop-d-init : goal.loop-d-init

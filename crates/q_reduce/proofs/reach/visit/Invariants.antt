@@ -1,8 +1,6 @@
-use Rattle.q_logic.specs.Literals.{negation}
-use Rattle.q_logic.specs.Formulas.{IsIn}
-use Rattle.q_logic.specs.Numbered.{live}
-use Rattle.q_kernel.specs.Kernels.{slots}
-use Rattle.q_reduce.proofs.Walks.{IsFollowing}
+use Rattle.q_logic.specs.Prelude.{negation, IsIn, live}
+use Rattle.q_kernel.specs.Prelude.{slots}
+use Rattle.q_reduce.proofs.ReachWalks.{IsFollowing}
 use Rattle.q_reduce.proofs.reach.visit.Given as goal
 
 abbrev pub invariant-loop-d : goal.invariant-loop-d

@@ -1,5 +1,5 @@
 use Rattle.std.proofs.Common.{inl, inr, rules}
-use Rattle.q_logic.proofs.Members.{item-in}
+use Rattle.q_logic.proofs.Common.{item-in}
 use Rattle.q_reduce.specs.Paths.{IsNear}
 use Rattle.q_reduce.proofs.sides.put_around.Goals as goal
 

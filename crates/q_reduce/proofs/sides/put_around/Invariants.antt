@@ -1,6 +1,6 @@
 use Rattle.std.proofs.Common.{ℕ}
-use Rattle.q_logic.specs.Formulas.{IsIn}
-use Rattle.q_kernel.specs.Kernels.{slots}
+use Rattle.q_logic.specs.Prelude.{IsIn}
+use Rattle.q_kernel.specs.Prelude.{slots}
 use Rattle.q_reduce.specs.Paths.{IsNear}
 use Rattle.q_reduce.proofs.sides.put_around.Given as goal
 

@@ -1,8 +1,6 @@
 use Rattle.std.proofs.Common.{◌∙◌, ℕ, sym, ap, subst, inl, inr}
-use Rattle.q_logic.specs.Literals.{Literal}
-use Rattle.q_logic.specs.Formulas.{IsIn}
-use Rattle.q_logic.specs.Expanding.{inner_existential}
-use Rattle.q_logic.proofs.Members.{item-in}
+use Rattle.q_logic.specs.Prelude.{Literal, IsIn, inner_existential}
+use Rattle.q_logic.proofs.Common.{item-in}
 use Rattle.q_reduce.proofs.sides.put_beside.Goals as goal
 use Rattle.q_reduce.proofs.sides.put_beside.Goals.{then-is_inner+in_ok-put_free, else-is_inner}
 

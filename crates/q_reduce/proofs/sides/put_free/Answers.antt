@@ -1,10 +1,10 @@
 use Rattle.std.proofs.Common.{ℕ, List, [], ◌∷◌, sym, ◌∙◌, subst, inl, inr, true≢false}
-use Rattle.q_logic.specs.Formulas.{IsIn}
-use Rattle.q_logic.proofs.ClauseLemmas.{IsIn-append}
-use Rattle.q_kernel.specs.Kernels.{slots, HoldsLiteral}
-use Rattle.q_kernel.proofs.Turns.{holder-turn}
+use Rattle.q_logic.specs.Prelude.{IsIn}
+use Rattle.q_logic.proofs.Common.{IsIn-append}
+use Rattle.q_kernel.specs.Prelude.{slots, HoldsLiteral}
+use Rattle.q_kernel.proofs.ForLoops.{holder-turn}
 use Rattle.q_reduce.specs.Paths.{Lacks}
-use Rattle.q_reduce.proofs.Climbing.{lacks-one}
+use Rattle.q_reduce.proofs.ForestPaths.{lacks-one}
 use Rattle.q_reduce.proofs.sides.put_free.Goals as goal
 
 pub lits-requires : goal.lits-requires

@@ -1,9 +1,7 @@
 use Rattle.std.proofs.Common.{◌≡◌, true, [], ◌∷◌, Option, Some, None, refl, sym, true≢false}
 use Rattle.std.specs.Option.{is_some}
-use Rattle.q_logic.specs.Literals.{Literal}
-use Rattle.q_logic.specs.Numbered.{slot}
-use Rattle.q_logic.specs.Prefixes.{is_existential}
-use Rattle.q_kernel.specs.Kernels.{slots}
+use Rattle.q_logic.specs.Prelude.{Literal, slot, is_existential}
+use Rattle.q_kernel.specs.Prelude.{slots}
 use Rattle.q_reduce.proofs.unit.fits_unit.Goals as goal
 
 told : (o : Option Literal) (Q : Literal → Type 0) → ((l : Literal) → o ≡ Some l → Q l) → (o ≡ None → (l : Literal) → Q l → ⊥) → (is_some o ≡ true → (l : Literal) × Q l) × (((l : Literal) × Q l) → is_some o ≡ true)

@@ -1,19 +1,13 @@
 use Rattle.std.proofs.Common.{◌≡◌, ◌≢◌, ◌+◌, ◌∷◌, [], ℕ, Some, sym, ◌∙◌, ap, refl, subst, length}
-use Rattle.q_logic.specs.Literals.{Literal, negation}
-use Rattle.q_logic.specs.Formulas.{Clause, IsIn}
-use Rattle.q_logic.specs.Pivots.{without}
-use Rattle.q_logic.specs.Numbered.{Slots, slot}
-use Rattle.q_logic.specs.Steps.{add, delete}
-use Rattle.q_logic.specs.StepForms.{first_of}
-use Rattle.q_logic.proofs.Slots.{live-slot}
+use Rattle.q_logic.specs.Prelude.{Literal, negation, Clause, IsIn, without, Slots, slot, add, delete, first_of}
+use Rattle.q_logic.proofs.Common.{live-slot}
 use Rattle.q_log.specs.Texts.{step_text}
-use Rattle.q_kernel.specs.Kernels.{slots, HoldsLiteral}
-use Rattle.q_kernel.specs.Changes.{MayShrink, IsShrunk}
-use Rattle.q_kernel.proofs.Leading.{led-itself}
-use Rattle.q_kernel.proofs.Slotting.{slot-set_other}
+use Rattle.q_kernel.specs.Prelude.{slots, HoldsLiteral, MayShrink, IsShrunk}
+use Rattle.q_kernel.proofs.KernelRuns.{led-itself}
+use Rattle.q_kernel.proofs.SlotLists.{slot-set_other}
 use Rattle.q_kernel.proofs.Basics.{some-same}
-use Rattle.q_rule.proofs.Steps.{may-shrink_unit, shrink-cost}
-use Rattle.q_rule.proofs.Clearing.{clearing-bytes, clearing-more, clearing-done, with-falls, not_own}
+use Rattle.q_rule.proofs.RuleSteps.{may-shrink_unit, shrink-cost}
+use Rattle.q_rule.proofs.RemovalLoops.{clearing-bytes, clearing-more, clearing-done, with-falls, not_own}
 use Rattle.q_reduce.proofs.unit.shrink_all.Goals as goal
 
 -- the clause that was shortened is not the unit clause

@@ -1,10 +1,7 @@
 use Rattle.std.proofs.Common.{◌≡◌, ℕ, [], ◌∷◌, Some}
-use Rattle.q_logic.specs.Literals.{negation}
-use Rattle.q_logic.specs.Measure.{size_of}
-use Rattle.q_logic.specs.Sets.{with_literal}
-use Rattle.q_logic.specs.Numbered.{slot, live}
-use Rattle.q_kernel.specs.Kernels.{slots}
-use Rattle.q_rule.proofs.Clearing.{IsClearing}
+use Rattle.q_logic.specs.Prelude.{negation, size_of, with_literal, slot, live}
+use Rattle.q_kernel.specs.Prelude.{slots}
+use Rattle.q_rule.proofs.RemovalLoops.{IsClearing}
 use Rattle.q_reduce.proofs.unit.shrink_all.Given as goal
 
 abbrev pub invariant-loop-id : goal.invariant-loop-id

@@ -1,12 +1,8 @@
 use Rattle.std.proofs.Common.{◌≡◌, ◌≤◌, ◌+◌, ℕ, sym, subst, length, arith}
-use Rattle.q_logic.specs.InLimits.{greatest}
-use Rattle.q_logic.specs.Measure.{size_of}
-use Rattle.q_logic.specs.Steps.{literals_in}
-use Rattle.q_logic.specs.Numbered.{live}
-use Rattle.q_logic.specs.Sweep.{IsSwept}
-use Rattle.q_logic.proofs.Settling.{sweep-twice}
-use Rattle.q_kernel.specs.Kernels.{slots, formula_in}
-use Rattle.q_kernel.proofs.Slotting.{size-parts}
+use Rattle.q_logic.specs.Prelude.{greatest, size_of, literals_in, live, IsSwept}
+use Rattle.q_logic.proofs.Common.{sweep-twice}
+use Rattle.q_kernel.specs.Prelude.{slots, formula_in}
+use Rattle.q_kernel.proofs.SlotLists.{size-parts}
 use Rattle.q_rows.proofs.taking.kernel_of.Goals as goal
 
 pub returns : goal.returns

@@ -1,6 +1,6 @@
 use Rattle.std.proofs.Common.{◌<◌, length, false, refl, ◌∙◌, arith, add-one, length-set}
-use Rattle.q_logic.specs.Literals.{pack}
-use Rattle.q_rule.proofs.Marking.{item_room, unmarked-more, unmarked-all}
+use Rattle.q_logic.specs.Prelude.{pack}
+use Rattle.q_rule.proofs.MarkChanges.{item_room, unmarked-more, unmarked-all}
 use Rattle.q_rule.proofs.queue.unmark.Goals as goal
 
 pub loop-lit-init : goal.loop-lit-init

@@ -1,5 +1,5 @@
 use Rattle.std.proofs.Common.{◌≡◌, length}
-use Rattle.q_rule.proofs.Marking.{IsMarkedFrom}
+use Rattle.q_rule.proofs.MarkChanges.{IsMarkedFrom}
 use Rattle.q_rule.proofs.queue.unmark.Given as goal
 
 abbrev pub invariant-loop-lit : goal.invariant-loop-lit

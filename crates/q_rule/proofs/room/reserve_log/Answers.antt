@@ -1,7 +1,7 @@
 use Rattle.std.proofs.Common.{◌≤◌, length, arith}
-use Rattle.q_logic.specs.Numbered.{live}
-use Rattle.q_kernel.specs.Kernels.{slots}
-use Rattle.q_kernel.proofs.Slotting.{live_in-length}
+use Rattle.q_logic.specs.Prelude.{live}
+use Rattle.q_kernel.specs.Prelude.{slots}
+use Rattle.q_kernel.proofs.SlotLists.{live_in-length}
 use Rattle.q_rule.proofs.room.reserve_log.Goals as goal
 
 pub reserve-requires : goal.reserve-requires

@@ -1,5 +1,5 @@
-use Rattle.q_logic.proofs.Slots.{live-slot}
-use Rattle.q_kernel.specs.Kernels.{slots}
+use Rattle.q_logic.proofs.Common.{live-slot}
+use Rattle.q_kernel.specs.Prelude.{slots}
 use Rattle.q_rule.proofs.variables.clause_of.Goals as goal
 
 pub returns-clause-within : goal.returns-clause-within

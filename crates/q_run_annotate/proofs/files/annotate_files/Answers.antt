@@ -1,7 +1,7 @@
 use Rattle.std.proofs.Common.{inr}
-use Rattle.q_command.proofs.Feeding.{at_same, if_some_2}
+use Rattle.q_command.proofs.FilePieces.{at_same, if_some_2}
 use Rattle.q_run_annotate.specs.Annotates.{files_of}
-use Rattle.q_run_annotate.proofs.Wholes.{part, whole}
+use Rattle.q_run_annotate.proofs.AnnotateOutcome.{part, whole}
 use Rattle.q_run_annotate.proofs.files.annotate_files.Goals as goal
 
 pub returns-in-Ok-write_whole-clause-annotates : goal.returns-in-Ok-write_whole-clause-annotates

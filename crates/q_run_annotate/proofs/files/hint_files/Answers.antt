@@ -1,6 +1,6 @@
 use Rattle.std.proofs.Common.{◌∙◌}
-use Rattle.q_command.proofs.Feeding.{if_some_1, if_some_2, at_same, err_goes, ok_goes}
-use Rattle.q_run_annotate.proofs.Wholes.{input_checks, output_checks, log_checks, all_three, both}
+use Rattle.q_command.proofs.FilePieces.{if_some_1, if_some_2, at_same, err_goes, ok_goes}
+use Rattle.q_run_annotate.proofs.AnnotateOutcome.{input_checks, output_checks, log_checks, all_three, both}
 use Rattle.q_run_annotate.specs.Annotates.{files_of}
 use Rattle.q_run_annotate.proofs.files.hint_files.Goals as goal
 

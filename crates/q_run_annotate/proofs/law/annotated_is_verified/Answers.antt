@@ -1,4 +1,4 @@
-use Rattle.q_run_annotate.proofs.Accepting.{accepted, counted}
+use Rattle.q_run_annotate.proofs.AnnotatedLog.{accepted, counted}
 use Rattle.q_run_annotate.proofs.law.annotated_is_verified.Goals as goal
 
 pub returns-clause-verified : goal.returns-clause-verified

@@ -1,8 +1,8 @@
 use Rattle.std.proofs.Common.{arith}
 use Rattle.q_io.specs.Files.{bytes_at}
-use Rattle.q_io.proofs.Counts.{reads_at_once, reads_still, rose_later}
-use Rattle.q_command.proofs.Feeding.{if_some, if_some_2, at_same, err_of, err_goes, ok_goes}
-use Rattle.q_run_annotate.proofs.Taking.{tries_begin, tries_more, tries_end, passes_file, concludes_file, refuses_log}
+use Rattle.q_io.proofs.FaultCounts.{reads_at_once, reads_still, rose_later}
+use Rattle.q_command.proofs.FilePieces.{if_some, if_some_2, at_same, err_of, err_goes, ok_goes}
+use Rattle.q_run_annotate.proofs.AnnotatedSteps.{tries_begin, tries_more, tries_end, passes_file, concludes_file, refuses_log}
 use Rattle.q_run_annotate.proofs.reading.read_log.Goals as goal
 
 pub loop-reading-init : goal.loop-reading-init

@@ -1,7 +1,7 @@
 use Rattle.std.proofs.Common.{◌+◌, ◌-◌, ◌≡◌, IfSome}
 use Rattle.q_io.specs.Files.{OnlyReads, bytes_at}
 use Rattle.q_run_annotate.specs.Readings.{IsOpen}
-use Rattle.q_run_annotate.proofs.Taking.{HasReached}
+use Rattle.q_run_annotate.proofs.AnnotatedSteps.{HasReached}
 use Rattle.q_run_annotate.proofs.reading.read_log.Given as goal
 
 abbrev pub invariant-loop-reading : goal.invariant-loop-reading

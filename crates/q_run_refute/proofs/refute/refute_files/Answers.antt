@@ -1,4 +1,4 @@
-use Rattle.q_run_refute.proofs.Certifying.{reading-status, writing-status}
+use Rattle.q_run_refute.proofs.RefuteFiles.{reading-status, writing-status}
 use Rattle.q_run_refute.proofs.refute.refute_files.Goals as goal
 
 pub returns-clause-read_fault : goal.returns-clause-read_fault

@@ -1,10 +1,10 @@
 use Rattle.std.proofs.Common.{◌∙◌, ap, refl, sym, subst, false, true, Err, IfSome}
-use Rattle.q_io.proofs.Counts.{rose_later}
-use Rattle.q_command.proofs.Feeding.{at_same}
+use Rattle.q_io.proofs.FaultCounts.{rose_later}
+use Rattle.q_command.proofs.FilePieces.{at_same}
 use Rattle.q_command.specs.declared.audit.Keep.{Keep}
 use Rattle.q_run_refute.specs.Refutes.{FaultsReading, Refutes, files_of}
 use Rattle.q_run_refute.specs.declared.refuted.Refuted.{Refuted}
-use Rattle.q_run_refute.proofs.Certifying.{unreversed-joined, circuits-joined, written-joined, circuits-reading, circuits-not_write, unreversed-not_reading, unreversed-not_writing}
+use Rattle.q_run_refute.proofs.RefuteFiles.{unreversed-joined, circuits-joined, written-joined, circuits-reading, circuits-not_write, unreversed-not_reading, unreversed-not_writing}
 use Rattle.q_run_refute.proofs.refute.refute_in_order.Goals as goal
 
 abbrev keep : Keep

@@ -1,14 +1,13 @@
 use Rattle.std.proofs.Common.{◌≤◌, ◌++◌, ℕ, [], ◌∷◌, take, sym, subst}
-use Rattle.q_logic.specs.Limits.{standard}
+use Rattle.q_logic.specs.Prelude.{standard, Valid}
 use Rattle.q_logic.specs.Reversals.{IsExtended}
-use Rattle.q_logic.specs.Steps.{Valid}
 use Rattle.q_herbrand.specs.Trails.{HasNoted, IsNoted}
 use Rattle.q_command.specs.Logs.{steps_of}
 use Rattle.q_command.specs.Taken.{entries_of}
 use Rattle.q_command.specs.declared.taken.TakenStep.{TakenStep}
 use Rattle.q_run_refute.specs.Extended.{FirstExtended}
 use Rattle.q_run_refute.specs.Reversing.{IsUnreversed, reason_of}
-use Rattle.q_run_refute.proofs.Walking.{walked-begun, walked-valid, walked-extended, walked-more, walked-all, entries-item, entries-length, item-same, refused-by}
+use Rattle.q_run_refute.proofs.NotedSteps.{walked-begun, walked-valid, walked-extended, walked-more, walked-all, entries-item, entries-length, item-same, refused-by}
 use Rattle.q_run_refute.proofs.reversing.reversals_of.Goals as goal
 
 pub note-requires : goal.note-requires

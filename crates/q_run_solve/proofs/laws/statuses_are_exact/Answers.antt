@@ -1,4 +1,4 @@
-use Rattle.q_run_solve.proofs.Deciding.{solve-answers}
+use Rattle.q_run_solve.proofs.SolveStatus.{solve-answers}
 use Rattle.q_run_solve.proofs.laws.statuses_are_exact.Goals as goal
 
 pub returns : goal.returns

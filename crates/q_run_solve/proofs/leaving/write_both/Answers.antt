@@ -1,4 +1,4 @@
-use Rattle.q_run_solve.proofs.Putting.{first-part, second-part, both-whole}
+use Rattle.q_run_solve.proofs.WrittenFiles.{first-part, second-part, both-whole}
 use Rattle.q_run_solve.proofs.leaving.write_both.Goals as goal
 
 pub returns-in-Err-clause-part : goal.returns-in-Err-clause-part

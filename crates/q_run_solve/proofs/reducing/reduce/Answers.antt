@@ -1,4 +1,4 @@
-use Rattle.q_run_solve.proofs.Together.{reduced-to}
+use Rattle.q_run_solve.proofs.SolveParts.{reduced-to}
 use Rattle.q_run_solve.proofs.reducing.reduce.Goals as goal
 
 pub returns : goal.returns

@@ -1,6 +1,6 @@
 use Rattle.std.proofs.Common.{◌++◌, List, ap, ◌∙◌, ℕ, Some}
 use Rattle.q_dimacs.specs.Writing.{formula_text}
-use Rattle.q_run_solve.proofs.Together.{simplified-in}
+use Rattle.q_run_solve.proofs.SolveParts.{simplified-in}
 use Rattle.q_run_solve.proofs.reducing.simplify_in_memory.Goals as goal
 
 pub returns-in-Ok : goal.returns-in-Ok

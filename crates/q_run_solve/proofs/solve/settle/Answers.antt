@@ -1,6 +1,6 @@
 use Rattle.q_run_solve.specs.Solves.{files_of}
-use Rattle.q_run_solve.proofs.Together.{solved-all, left-all}
-use Rattle.q_run_solve.proofs.Rising.{read-is, cert-rose, both-rose, unwritten-reads}
+use Rattle.q_run_solve.proofs.SolveParts.{solved-all, left-all}
+use Rattle.q_run_solve.proofs.RisenFaults.{read-is, cert-rose, both-rose, unwritten-reads}
 use Rattle.q_run_solve.proofs.solve.settle.Goals as goal
 
 pub returns-in-Ok-clause-settles : goal.returns-in-Ok-clause-settles

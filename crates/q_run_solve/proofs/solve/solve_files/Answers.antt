@@ -1,7 +1,7 @@
-use Rattle.q_logic.specs.Formulas.{PrenexFormula}
+use Rattle.q_logic.specs.Prelude.{PrenexFormula}
 use Rattle.q_run_solve.specs.Solves.{files_of}
-use Rattle.q_run_solve.proofs.Together.{refused-says, nothing-says, settled-all, starts-same}
-use Rattle.q_run_solve.proofs.Rising.{three-later, refusal-writes, refusal-reads}
+use Rattle.q_run_solve.proofs.SolveParts.{refused-says, nothing-says, settled-all, starts-same}
+use Rattle.q_run_solve.proofs.RisenFaults.{three-later, refusal-writes, refusal-reads}
 use Rattle.q_run_solve.proofs.solve.solve_files.Goals as goal
 
 pub returns-in-Err-clause-solves : goal.returns-in-Err-clause-solves

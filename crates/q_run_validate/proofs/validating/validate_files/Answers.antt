@@ -1,11 +1,11 @@
 use Rattle.std.proofs.Common.{◌≡◌, ◌∙◌, inl, inr, ap, subst, Err}
-use Rattle.q_io.proofs.Counts.{rose_later}
-use Rattle.q_command.proofs.Feeding.{if_some_1, if_some_2, at_same}
+use Rattle.q_io.proofs.FaultCounts.{rose_later}
+use Rattle.q_command.proofs.FilePieces.{if_some_1, if_some_2, at_same}
 use Rattle.q_command.specs.declared.status.Status.TheVariants as status
 use Rattle.q_run_validate.specs.ValidatedLines.{status_of_validated}
 use Rattle.q_run_validate.specs.Validates.{files_of}
 use Rattle.q_run_validate.specs.declared.validated.Validated.{Validated}
-use Rattle.q_run_validate.proofs.Judging.{says-files, input-says, text-says, judged-says, judged-not_fault, input-fault, text-fault, never-write}
+use Rattle.q_run_validate.proofs.ValidateOutcome.{says-files, input-says, text-says, judged-says, judged-not_fault, input-fault, text-fault, never-write}
 use Rattle.q_run_validate.proofs.validating.validate_files.Goals as goal
 
 pub returns-in-Err-clause-validates : goal.returns-in-Err-clause-validates

@@ -1,6 +1,6 @@
 use Rattle.std.proofs.Common.{true}
 use Rattle.q_logic.specs.declared.verdict.Verdict.TheVariants.{Lost, Won, Open}
-use Rattle.q_search.proofs.Turning.{IsLooked, looked, look-down, look-out, look-next, look-end, look-lost, going-start, leaf-won}
+use Rattle.q_search.proofs.NodeSteps.{IsLooked, looked, look-down, look-out, look-next, look-end, look-lost, going-start, leaf-won}
 use Rattle.q_search.proofs.walking.find_lost.Goals as goal
 
 pub loop-left-init : goal.loop-left-init
@@ -49,8 +49,8 @@ loop-left-smaller g c =
     let l : IsLooked (seen c.args.node.now) (seen c.loop-left.node) (seen c.verdict.new.self) c.args.budget c.loop-left.left Won =
     looked (seen c.args.node.now) (seen c.loop-left.node) (seen c.verdict.new.self) c.args.budget c.loop-left.left
     _ Won c.loop-left.invariant.going c.in_ok-verdict.ensures.same c.in_ok-verdict.ensures.value c.in-Won.is in
-    (look-next (seen c.args.node.now) (seen c.loop-left.node) (seen c.verdict.new.self) (seen c.turn.new.node) c.args.budget c.loop-left.left Won true _ l
-    (leaf-won (seen c.verdict.new.self)) c.in_ok-turn-in-Won.ensures.turned c.if-not-branch.false).1
+    (look-next (seen c.args.node.now) (seen c.loop-left.node) (seen c.verdict.new.self) (seen c.backtrack.new.node) c.args.budget c.loop-left.left Won true _ l
+    (leaf-won (seen c.verdict.new.self)) c.in_ok-backtrack-in-Won.ensures.turned c.if-not-branch.false).1
 
 pub loop-left-preserved : goal.loop-left-preserved
 loop-left-preserved g c =
@@ -60,9 +60,9 @@ loop-left-preserved g c =
     _ Won c.loop-left.invariant.going c.in_ok-verdict.ensures.same c.in_ok-verdict.ensures.value c.in-Won.is in
     let kept = g.met.N.Position.keeps_on c.args.node.now c.loop-left.node c.verdict.new.self c.loop-left.invariant.kept c.in_ok-verdict.ensures.kept in
     record {
-      going = (look-next (seen c.args.node.now) (seen c.loop-left.node) (seen c.verdict.new.self) (seen c.turn.new.node) c.args.budget c.loop-left.left Won true _ l
-          (leaf-won (seen c.verdict.new.self)) c.in_ok-turn-in-Won.ensures.turned c.if-not-branch.false).0;
-      kept = g.met.N.Position.keeps_on c.args.node.now c.verdict.new.self c.turn.new.node kept c.in_ok-turn-in-Won.ensures.kept;
+      going = (look-next (seen c.args.node.now) (seen c.loop-left.node) (seen c.verdict.new.self) (seen c.backtrack.new.node) c.args.budget c.loop-left.left Won true _ l
+          (leaf-won (seen c.verdict.new.self)) c.in_ok-backtrack-in-Won.ensures.turned c.if-not-branch.false).0;
+      kept = g.met.N.Position.keeps_on c.args.node.now c.verdict.new.self c.backtrack.new.node kept c.in_ok-backtrack-in-Won.ensures.kept;
     }
 
 pub returns-then-not-branch : goal.returns-then-not-branch
@@ -73,9 +73,9 @@ returns-then-not-branch g c =
     _ Won c.loop-left.invariant.going c.in_ok-verdict.ensures.same c.in_ok-verdict.ensures.value c.in-Won.is in
     let kept = g.met.N.Position.keeps_on c.args.node.now c.loop-left.node c.verdict.new.self c.loop-left.invariant.kept c.in_ok-verdict.ensures.kept in
     record {
-      ending = look-end (seen c.args.node.now) (seen c.loop-left.node) (seen c.verdict.new.self) (seen c.turn.new.node) c.args.budget c.loop-left.left Won true _ l
-          (leaf-won (seen c.verdict.new.self)) c.in_ok-turn-in-Won.ensures.turned c.if-not-branch.true;
-      kept = g.met.N.Position.keeps_on c.args.node.now c.verdict.new.self c.turn.new.node kept c.in_ok-turn-in-Won.ensures.kept;
+      ending = look-end (seen c.args.node.now) (seen c.loop-left.node) (seen c.verdict.new.self) (seen c.backtrack.new.node) c.args.budget c.loop-left.left Won true _ l
+          (leaf-won (seen c.verdict.new.self)) c.in_ok-backtrack-in-Won.ensures.turned c.if-not-branch.true;
+      kept = g.met.N.Position.keeps_on c.args.node.now c.verdict.new.self c.backtrack.new.node kept c.in_ok-backtrack-in-Won.ensures.kept;
     }
 
 pub returns-in-Lost : goal.returns-in-Lost

@@ -1,9 +1,9 @@
 use Rattle.std.proofs.Common.{◌∙◌, ap, Err}
 use Rattle.std.proofs.lemmas.Result.{err_from_is_err_and}
 use Rattle.q_io.specs.declared.error.DeviceError.TheVariants.{NoMemory}
-use Rattle.q_io.proofs.Counts.{later_still, rose_later}
-use Rattle.q_simplify.proofs.Logging.{has_log-left, stopped}
-use Rattle.q_simplify.proofs.Turned.{has_log-turned, moves-turned, moves-flushed, stops-settled, stops-spent, ready-flushed, fit-flushed}
+use Rattle.q_io.proofs.FaultCounts.{later_still, rose_later}
+use Rattle.q_simplify.proofs.LogFile.{has_log-left, stopped}
+use Rattle.q_simplify.proofs.TurnEffects.{has_log-turned, moves-turned, moves-flushed, stops-settled, stops-spent, ready-flushed, fit-flushed}
 use Rattle.q_simplify.proofs.driving.take_turns.Goals as goal
 
 pub returns-in_err-next_turn-clause-goes_on : goal.returns-in_err-next_turn-clause-goes_on

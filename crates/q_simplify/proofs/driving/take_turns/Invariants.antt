@@ -1,12 +1,10 @@
 use Rattle.std.proofs.Common.{◌+◌}
-use Rattle.q_logic.specs.Formulas.{PrenexFormula}
-use Rattle.q_logic.specs.Measure.{measure_of}
+use Rattle.q_logic.specs.Prelude.{PrenexFormula, measure_of}
 use Rattle.q_io.specs.Files.{Disk, Later}
-use Rattle.q_kernel.specs.Kernels.{formula_in}
-use Rattle.q_kernel.specs.Taking.{IsReady}
-use Rattle.q_reduce.specs.Lent.{IsFitFor}
+use Rattle.q_kernel.specs.Prelude.{formula_in, IsReady}
+use Rattle.q_reduce.specs.Learned.{IsFitFor}
 use Rattle.q_sched.specs.Drives.{left_of, SameFrame}
-use Rattle.q_sched.specs.Seen.{seen, lent}
+use Rattle.q_sched.specs.Seen.{seen, learned}
 use Rattle.q_simplify.specs.Logs.{HasLog}
 use Rattle.q_simplify.specs.Moves.{MovesTo}
 use Rattle.q_simplify.proofs.driving.take_turns.Given as goal
@@ -16,7 +14,7 @@ invariant-loop-files g l =
     record {
       frame : SameFrame (seen (λ b. (goal.Guide-dyn g (b.vtable, b.value)).asked b.value) (λ b. (goal.Guide-dyn g (b.vtable, b.value)).last b.value) (λ b. (goal.Guide-dyn g (b.vtable, b.value)).heard b.value) l.fn.drive) (seen (λ b. (goal.Guide-dyn g (b.vtable, b.value)).asked b.value) (λ b. (goal.Guide-dyn g (b.vtable, b.value)).last b.value) (λ b. (goal.Guide-dyn g (b.vtable, b.value)).heard b.value) l.drive);
       ready : IsReady l.kernel;
-      fit : IsFitFor l.kernel (lent l.drive);
+      fit : IsFitFor l.kernel (learned l.drive);
       moves : MovesTo (seen (λ b. (goal.Guide-dyn g (b.vtable, b.value)).asked b.value) (λ b. (goal.Guide-dyn g (b.vtable, b.value)).last b.value) (λ b. (goal.Guide-dyn g (b.vtable, b.value)).heard b.value) l.fn.drive).bounds (seen (λ b. (goal.Guide-dyn g (b.vtable, b.value)).asked b.value) (λ b. (goal.Guide-dyn g (b.vtable, b.value)).last b.value) (λ b. (goal.Guide-dyn g (b.vtable, b.value)).heard b.value) l.fn.drive).budget (seen (λ b. (goal.Guide-dyn g (b.vtable, b.value)).asked b.value) (λ b. (goal.Guide-dyn g (b.vtable, b.value)).last b.value) (λ b. (goal.Guide-dyn g (b.vtable, b.value)).heard b.value) l.fn.drive).first_measure (formula_in l.fn.kernel) (formula_in l.kernel);
       log : (G : PrenexFormula) → (before : Disk) → HasLog G l.log before l.fn.kernel (g.F.Files.held l.fn.files) → HasLog G l.log before l.kernel (g.F.Files.held l.files);
       later : Later g.F.Files.read_faults g.F.Files.write_faults l.fn.files l.files;

@@ -1,6 +1,6 @@
 use Rattle.std.proofs.Common.{ap, Err}
 use Rattle.std.proofs.lemmas.Result.{err_from_is_err_and}
-use Rattle.q_simplify.proofs.Logging.{has_log-written, has_log-part, stopped}
+use Rattle.q_simplify.proofs.LogFile.{has_log-written, has_log-part, stopped}
 use Rattle.q_simplify.proofs.log_file.flush.Goals as goal
 
 pub returns-in_err-append-clause-goes_on : goal.returns-in_err-append-clause-goes_on

@@ -1,6 +1,6 @@
 use Rattle.std.proofs.Common.{◌∙◌, ap, List, ℕ, ◌++◌}
-use Rattle.q_io.proofs.Held.{on_err}
-use Rattle.q_io.proofs.Disks.{untouched, not_created}
+use Rattle.q_io.proofs.MemoryStore.{on_err}
+use Rattle.q_io.proofs.StoreContents.{untouched, not_created}
 use Rattle.q_dimacs.specs.Writing.{formula_text, front_text}
 use Rattle.q_simplify.proofs.Putting.{output-stopped, output-last, output-whole, on_both}
 use Rattle.std.proofs.lemmas.Result.{on_err_weaker}

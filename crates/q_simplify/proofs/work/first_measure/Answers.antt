@@ -1,5 +1,5 @@
 use Rattle.std.proofs.Common.{◌≤◌, ◌^◌, ℕ, sym, subst}
-use Rattle.q_simplify.proofs.Measuring.{measure-small}
+use Rattle.q_simplify.proofs.DriveMeasure.{measure-small}
 use Rattle.q_simplify.proofs.work.first_measure.Goals as goal
 
 pub returns-clause-small : goal.returns-clause-small

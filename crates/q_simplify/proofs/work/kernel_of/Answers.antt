@@ -1,4 +1,4 @@
-use Rattle.q_simplify.proofs.Reducing.{started}
+use Rattle.q_simplify.proofs.KernelWork.{started}
 use Rattle.q_simplify.proofs.work.kernel_of.Goals as goal
 
 pub returns-clause-formula : goal.returns-clause-formula

@@ -1,9 +1,9 @@
 use Rattle.q_io.specs.Files.{Disk, Empties}
 use Rattle.q_simplify.specs.Logs.{LeavesLog}
-use Rattle.q_io.proofs.Held.{on_err}
-use Rattle.q_kernel.specs.Kernels.{formula_in}
-use Rattle.q_simplify.proofs.Logging.{has_log-left, has_log-whole}
-use Rattle.q_simplify.proofs.Reducing.{swept-ready, begin-left, begin-swept, no_bytes, reports}
+use Rattle.q_io.proofs.MemoryStore.{on_err}
+use Rattle.q_kernel.specs.Prelude.{formula_in}
+use Rattle.q_simplify.proofs.LogFile.{has_log-left, has_log-whole}
+use Rattle.q_simplify.proofs.KernelWork.{swept-ready, begin-left, begin-swept, no_bytes, reports}
 use Rattle.q_simplify.proofs.work.reduce.Goals as goal
 
 pub follow-requires-clause-ready : goal.follow-requires-clause-ready

@@ -1,11 +1,11 @@
 use Rattle.std.proofs.Common.{subst}
 use Rattle.std.proofs.lemmas.Result.{IfOk-weaker, on_err_weaker}
 use Rattle.q_io.specs.Files.{Disk, Empties}
-use Rattle.q_io.proofs.Held.{on_err}
-use Rattle.q_logic.specs.Formulas.{PrenexFormula}
+use Rattle.q_io.proofs.MemoryStore.{on_err}
+use Rattle.q_logic.specs.Prelude.{PrenexFormula}
 use Rattle.q_simplify.specs.Logs.{LeavesLog}
 use Rattle.q_simplify.specs.Results.{LeadsTo}
-use Rattle.q_simplify.proofs.Reducing.{begin-formula_left}
+use Rattle.q_simplify.proofs.KernelWork.{begin-formula_left}
 use Rattle.q_simplify.proofs.work.reduce_formula.Goals as goal
 
 pub returns-in_err-kernel-clause-log_left : goal.returns-in_err-kernel-clause-log_left

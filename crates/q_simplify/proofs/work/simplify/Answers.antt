@@ -1,6 +1,6 @@
 use Rattle.std.proofs.lemmas.Option.{IfSome_then}
-use Rattle.q_io.proofs.Held.{on_err}
-use Rattle.q_simplify.proofs.Finishing.{simplifies, leaves-not_created, leaves-log, leaves-part}
+use Rattle.q_io.proofs.MemoryStore.{on_err}
+use Rattle.q_simplify.proofs.BothFiles.{simplifies, leaves-not_created, leaves-log, leaves-part}
 use Rattle.q_simplify.proofs.work.simplify.Goals as goal
 
 pub returns-in_err-create-clause-left : goal.returns-in_err-create-clause-left

@@ -1,5 +1,5 @@
 use Rattle.std.proofs.Common.{◌≡◌, ◌+◌, ◌-◌, ◌<◌, length, refl, arith}
-use Rattle.q_slots.proofs.Raising.{slot-built, gate-built}
+use Rattle.q_slots.proofs.BuiltNodes.{slot-built, gate-built}
 use Rattle.q_slots.proofs.building.build.Goals as goal
 
 pub returns-then-node-count : goal.returns-then-node-count

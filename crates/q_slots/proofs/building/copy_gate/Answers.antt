@@ -1,4 +1,4 @@
-use Rattle.q_slots.proofs.Raising.{gate-copied}
+use Rattle.q_slots.proofs.BuiltNodes.{gate-copied}
 use Rattle.q_slots.proofs.building.copy_gate.Goals as goal
 
 pub returns : goal.returns

@@ -1,8 +1,8 @@
 use Rattle.std.proofs.Common.{map, ap, ap₂, ◌∙◌, Option, ℕ}
 use Rattle.std.proofs.lemmas.List.{map_push}
-use Rattle.q_aig.specs.Nets.{gate_of}
+use Rattle.q_aig.specs.Prelude.{gate_of}
 use Rattle.q_gates.specs.Gates.{gate_view, gates_view}
-use Rattle.q_slots.proofs.Noding.{gate-nodes-more}
+use Rattle.q_slots.proofs.SlotNodes.{gate-nodes-more}
 use Rattle.q_slots.proofs.nodes.push_gates.Goals as goal
 
 pub loop-gate-preserved : goal.loop-gate-preserved

@@ -1,7 +1,7 @@
 use Rattle.std.proofs.Common.{map, ap, ◌∙◌, Option, None, ℕ}
 use Rattle.std.proofs.lemmas.List.{map_push}
 use Rattle.q_gates.specs.Gates.{gate_view, gates_view}
-use Rattle.q_slots.proofs.Noding.{slot-nodes-more}
+use Rattle.q_slots.proofs.SlotNodes.{slot-nodes-more}
 use Rattle.q_slots.proofs.nodes.push_slots.Goals as goal
 
 pub loop-slot-preserved : goal.loop-slot-preserved

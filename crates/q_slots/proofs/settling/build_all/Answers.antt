@@ -1,4 +1,4 @@
-use Rattle.q_slots.proofs.Raising.{built-more}
+use Rattle.q_slots.proofs.BuiltNodes.{built-more}
 use Rattle.q_slots.proofs.settling.build_all.Goals as goal
 
 pub loop-at-preserved : goal.loop-at-preserved

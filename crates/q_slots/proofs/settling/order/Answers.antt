@@ -3,7 +3,7 @@ use Rattle.q_gates.specs.Gates.{gates_view}
 use Rattle.q_gates.specs.Sorting.{IsSorted}
 use Rattle.q_gates.specs.Uses.{IsFirstCycle}
 use Rattle.q_slots.specs.Nodes.{AreNodes}
-use Rattle.q_slots.proofs.Noding.{all-defined, none-cyclic}
+use Rattle.q_slots.proofs.SlotNodes.{all-defined, none-cyclic}
 use Rattle.q_slots.proofs.settling.order.Goals as goal
 
 pub sort_gates-requires : goal.sort_gates-requires

@@ -1,4 +1,4 @@
-use Rattle.q_slots.proofs.Raising.{settled}
+use Rattle.q_slots.proofs.BuiltNodes.{settled}
 use Rattle.q_slots.proofs.settling.settle.Goals as goal
 
 pub returns : goal.returns

@@ -1,5 +1,5 @@
 use Rattle.std.proofs.Common.{◌<◌, length, inl, arith}
-use Rattle.q_logic.proofs.Members.{item-in, test-false}
+use Rattle.q_logic.proofs.Common.{item-in, test-false}
 use Rattle.q_snapshot.proofs.Others.{one-only, two-second, two-first}
 use Rattle.q_snapshot.proofs.entry.beside.Goals as goal
 

@@ -1,10 +1,8 @@
 use Rattle.std.proofs.Common.{◌≡◌, ◌<◌, ℕ, Some, length, subst, arith}
-use Rattle.q_logic.specs.Literals.{Literal}
-use Rattle.q_logic.specs.Formulas.{Clause, IsIn}
-use Rattle.q_logic.specs.Numbered.{slot}
-use Rattle.q_logic.proofs.Members.{item-in}
-use Rattle.q_kernel.specs.Kernels.{Seen, slots, HoldsLiteral}
-use Rattle.q_rule.proofs.Slots.{slot-one}
+use Rattle.q_logic.specs.Prelude.{Literal, Clause, IsIn, slot}
+use Rattle.q_logic.proofs.Common.{item-in}
+use Rattle.q_kernel.specs.Prelude.{Seen, slots, HoldsLiteral}
+use Rattle.q_rule.proofs.IdClauses.{slot-one}
 use Rattle.q_snapshot.proofs.Others.{places-apart}
 use Rattle.q_snapshot.proofs.entry.entry_of.Goals as goal
 

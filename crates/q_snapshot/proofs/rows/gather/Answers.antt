@@ -1,7 +1,7 @@
 use Rattle.std.proofs.Common.{[], ◌∷◌, ◌++◌, List, sym, subst}
-use Rattle.q_kernel.proofs.Turns.{holder-turn, all-came}
+use Rattle.q_kernel.proofs.ForLoops.{holder-turn, all-came}
 use Rattle.q_snapshot.specs.declared.entry.Entry.{Entry}
-use Rattle.q_snapshot.proofs.Walking.{AreMet, met-none, met-one, met-all}
+use Rattle.q_snapshot.proofs.PassedEntries.{AreMet, met-none, met-one, met-all}
 use Rattle.q_snapshot.proofs.rows.gather.Goals as goal
 
 pub loop-id-init : goal.loop-id-init

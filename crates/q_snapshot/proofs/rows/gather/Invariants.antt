@@ -1,4 +1,4 @@
-use Rattle.q_snapshot.proofs.Walking.{AreMet}
+use Rattle.q_snapshot.proofs.PassedEntries.{AreMet}
 use Rattle.q_snapshot.proofs.rows.gather.Given as goal
 
 abbrev pub invariant-loop-id : goal.invariant-loop-id

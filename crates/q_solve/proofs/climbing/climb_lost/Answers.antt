@@ -1,6 +1,6 @@
 use Rattle.std.proofs.Common.{false, sym}
 use Rattle.q_solve.specs.Places.{walk_of}
-use Rattle.q_solve.proofs.Turns.{turn-inner, turn-up, turn-lost, turn-next, turn-lost-ready}
+use Rattle.q_solve.proofs.ProgramSteps.{turn-inner, turn-up, turn-lost, turn-next, turn-lost-ready}
 use Rattle.q_solve.proofs.climbing.climb_lost.Goals as goal
 
 pub give-requires : goal.give-requires

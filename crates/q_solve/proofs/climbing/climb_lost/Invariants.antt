@@ -1,5 +1,5 @@
 use Rattle.std.proofs.Common.{false, length}
-use Rattle.q_search.proofs.Turning.{IsTurning}
+use Rattle.q_search.proofs.NodeSteps.{IsTurning}
 use Rattle.q_solve.specs.Places.{walk_of}
 use Rattle.q_solve.specs.Waiting.{IsLostAt}
 use Rattle.q_solve.proofs.climbing.climb_lost.Given as goal

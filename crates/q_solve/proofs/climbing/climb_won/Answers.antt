@@ -1,6 +1,6 @@
 use Rattle.std.proofs.Common.{true, sym, ◌∙◌}
 use Rattle.q_solve.specs.Places.{walk_of}
-use Rattle.q_solve.proofs.Turns.{turn-inner, turn-can, turn-up, turn-won, turn-next, turn-won-ready}
+use Rattle.q_solve.proofs.ProgramSteps.{turn-inner, turn-can, turn-up, turn-won, turn-next, turn-won-ready}
 use Rattle.q_solve.proofs.climbing.climb_won.Goals as goal
 
 pub pass-requires : goal.pass-requires

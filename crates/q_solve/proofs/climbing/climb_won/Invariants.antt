@@ -1,5 +1,5 @@
 use Rattle.std.proofs.Common.{true, length}
-use Rattle.q_search.proofs.Turning.{IsTurning}
+use Rattle.q_search.proofs.NodeSteps.{IsTurning}
 use Rattle.q_solve.specs.Places.{walk_of}
 use Rattle.q_solve.specs.Waiting.{IsWonAt}
 use Rattle.q_solve.proofs.climbing.climb_won.Given as goal

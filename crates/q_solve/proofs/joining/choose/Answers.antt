@@ -1,4 +1,4 @@
-use Rattle.q_solve.proofs.Merging.{chosen-made}
+use Rattle.q_solve.proofs.JoinedCircuits.{chosen-made}
 use Rattle.q_solve.proofs.joining.choose.Goals as goal
 
 pub returns : goal.returns

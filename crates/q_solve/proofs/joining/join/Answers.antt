@@ -1,7 +1,7 @@
 use Rattle.std.proofs.Common.{suc, drop, max, List, sym, ap₂, ◌∙◌, subst, arith}
 use Rattle.q_solve.specs.declared.picks.Pick.{Pick}
 use Rattle.q_solve.specs.Joins.{IsJoining}
-use Rattle.q_solve.proofs.Merging.{joining-start, joining-below, joining-more, joining-end}
+use Rattle.q_solve.proofs.JoinedCircuits.{joining-start, joining-below, joining-more, joining-end}
 use Rattle.q_solve.proofs.joining.join.Goals as goal
 
 pub loop-end-init : goal.loop-end-init

@@ -1,9 +1,9 @@
 use Rattle.std.proofs.Common.{[]}
-use Rattle.q_logic.specs.Searching.{nothing}
+use Rattle.q_logic.specs.Prelude.{nothing}
 use Rattle.q_logic.specs.Decisions.{standing}
-use Rattle.q_logic.proofs.Members.{item-in}
+use Rattle.q_logic.proofs.Common.{item-in}
 use Rattle.q_search.specs.Paths.{along, rest_of}
-use Rattle.q_solve.proofs.Loads.{counting-none, counting-more, counting-all}
+use Rattle.q_solve.proofs.EnteredClauses.{counting-none, counting-more, counting-all}
 use Rattle.q_solve.proofs.loading.count_clause.Goals as goal
 
 pub loop-lit-init : goal.loop-lit-init

@@ -1,4 +1,4 @@
-use Rattle.q_solve.proofs.Loads.{IsLoaded}
+use Rattle.q_solve.proofs.EnteredClauses.{IsLoaded}
 use Rattle.q_solve.proofs.loading.load.Given as goal
 
 abbrev pub invariant-loop-i : goal.invariant-loop-i

@@ -1,11 +1,11 @@
 use Rattle.std.proofs.Common.{sym, ◌∙◌, subst}
-use Rattle.q_logic.specs.Formulas.{Prefix}
-use Rattle.q_carry.specs.Made.{IsOpened}
+use Rattle.q_logic.specs.Prelude.{Prefix}
+use Rattle.q_carry.specs.Prelude.{IsOpened}
 use Rattle.q_solve.specs.Written.{IsWritten}
-use Rattle.q_search.proofs.Turning.{going-out}
+use Rattle.q_search.proofs.NodeSteps.{going-out}
 use Rattle.q_solve.specs.Places.{walk_of}
-use Rattle.q_solve.proofs.Leaving.{ready-won, ready-lost}
-use Rattle.q_solve.proofs.Finding.{start_of, going-here, ready-here, down-here, won-next, lost-next, root-row, root-within, yes-here, no-here}
+use Rattle.q_solve.proofs.DecisionReturns.{ready-won, ready-lost}
+use Rattle.q_solve.proofs.SearchAnswer.{start_of, going-here, ready-here, down-here, won-next, lost-next, root-row, root-within, yes-here, no-here}
 use Rattle.q_solve.proofs.searching.search.Goals as goal
 
 pub loop-left-init : goal.loop-left-init

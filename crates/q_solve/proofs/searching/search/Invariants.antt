@@ -1,5 +1,5 @@
 use Rattle.std.proofs.Common.{[]}
-use Rattle.q_search.proofs.Turning.{IsGoing, left_to_do}
+use Rattle.q_search.proofs.NodeSteps.{IsGoing, left_to_do}
 use Rattle.q_solve.specs.Places.{walk_of}
 use Rattle.q_solve.specs.Waiting.{IsReady}
 use Rattle.q_solve.proofs.searching.search.Given as goal

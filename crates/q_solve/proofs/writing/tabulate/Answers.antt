@@ -1,7 +1,7 @@
 use Rattle.std.proofs.Common.{◌-◌, drop, get_or, refl}
 use Rattle.q_logic.specs.declared.formulas.Quant.TheVariants.{Exists}
 use Rattle.q_logic.specs.declared.formulas.Bound.{Bound}
-use Rattle.q_solve.proofs.Entering.{entering-more}
+use Rattle.q_solve.proofs.CircuitTable.{entering-more}
 use Rattle.q_solve.proofs.writing.tabulate.Goals as goal
 
 pub loop-depth-preserved : goal.loop-depth-preserved

@@ -1,5 +1,5 @@
-use Rattle.q_kernel.specs.Kernels.{slots}
-use Rattle.q_subsume.proofs.Fitting.{strengthen-told}
+use Rattle.q_kernel.specs.Prelude.{slots}
+use Rattle.q_subsume.proofs.PairTests.{strengthen-told}
 use Rattle.q_subsume.proofs.strengthen.fits.Goals as goal
 
 pub returns-then-are_two : goal.returns-then-are_two

@@ -1,7 +1,6 @@
 use Rattle.std.proofs.Common.{◌≡◌, ◌≢◌, Some, None, subst, sym, ◌∙◌, true≢false}
-use Rattle.q_logic.specs.Literals.{Literal}
-use Rattle.q_logic.specs.Formulas.{IsIn}
-use Rattle.q_subsume.proofs.Fitting.{turned-told, not-turned}
+use Rattle.q_logic.specs.Prelude.{Literal, IsIn}
+use Rattle.q_subsume.proofs.PairTests.{turned-told, not-turned}
 use Rattle.q_subsume.proofs.strengthen.is_turned_within.Goals as goal
 
 pub returns-then-is_new : goal.returns-then-is_new

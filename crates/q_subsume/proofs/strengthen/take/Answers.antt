@@ -1,5 +1,5 @@
 use Rattle.q_logic.specs.UsualBounds.{usual}
-use Rattle.q_subsume.proofs.Changing.{may-shrink_turned, changed-strengthen, change-shrink}
+use Rattle.q_subsume.proofs.SubsumeChanges.{may-shrink_turned, changed-strengthen, change-shrink}
 use Rattle.q_subsume.proofs.strengthen.take.Goals as goal
 
 pub shrink-requires : goal.shrink-requires

@@ -1,5 +1,5 @@
-use Rattle.q_kernel.specs.Kernels.{slots}
-use Rattle.q_subsume.proofs.Fitting.{subsumed-told}
+use Rattle.q_kernel.specs.Prelude.{slots}
+use Rattle.q_subsume.proofs.PairTests.{subsumed-told}
 use Rattle.q_subsume.proofs.subsumed.fits.Goals as goal
 
 pub returns-then-are_two : goal.returns-then-are_two

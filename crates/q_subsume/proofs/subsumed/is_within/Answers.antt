@@ -1,4 +1,4 @@
-use Rattle.q_subsume.proofs.Fitting.{within-told}
+use Rattle.q_subsume.proofs.PairTests.{within-told}
 use Rattle.q_subsume.proofs.subsumed.is_within.Goals as goal
 
 pub returns : goal.returns

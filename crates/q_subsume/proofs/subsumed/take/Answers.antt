@@ -1,6 +1,6 @@
 use Rattle.q_logic.specs.UsualBounds.{usual}
-use Rattle.q_rule.proofs.Becoming.{change-clause}
-use Rattle.q_subsume.proofs.Changing.{may-go_subsumed, changed-subsumed}
+use Rattle.q_rule.proofs.TargetChanges.{change-clause}
+use Rattle.q_subsume.proofs.SubsumeChanges.{may-go_subsumed, changed-subsumed}
 use Rattle.q_subsume.proofs.subsumed.take.Goals as goal
 
 pub delete_implied-requires : goal.delete_implied-requires

@@ -2,7 +2,7 @@ use Rattle.std.proofs.Common.{sym, subst, ◌+◌, ℕ, ◌≡◌, get_or, true,
 use Rattle.std.proofs.lemmas.Bool.Decides.{nat_tests}
 use Rattle.q_text.specs.Words.{is_digit}
 use Rattle.q_text.specs.Pieces.{AreDigits}
-use Rattle.q_text.proofs.Pieces.{digits-more}
+use Rattle.q_text.proofs.BytePieces.{digits-more}
 use Rattle.q_text.proofs.runs.run_of.Goals as goal
 
 pub loop-i-preserved : goal.loop-i-preserved

@@ -2,7 +2,7 @@ use Rattle.std.proofs.Common.{◌≡◌, true, get_or, arith, refl}
 use Rattle.std.proofs.lemmas.Bool.Decides.{nat_tests}
 use Rattle.std.proofs.lemmas.List.{take_rest}
 use Rattle.q_text.specs.Words.{is_digit}
-use Rattle.q_text.proofs.Pieces.{word-silent, word-state}
+use Rattle.q_text.proofs.BytePieces.{word-silent, word-state}
 use Rattle.q_text.proofs.runs.signed_word.Goals as goal
 
 pub returns : goal.returns

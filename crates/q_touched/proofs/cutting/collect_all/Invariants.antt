@@ -1,4 +1,4 @@
-use Rattle.q_reduce.specs.Lent.{IsFitFor}
+use Rattle.q_reduce.specs.Learned.{IsFitFor}
 use Rattle.q_touched.proofs.cutting.collect_all.Given as goal
 
 abbrev pub invariant-loop-c : goal.invariant-loop-c

@@ -1,10 +1,10 @@
 use Rattle.std.proofs.Common.{◌≡◌, ◌+◌, ◌++◌, ℕ, List, length, Some, slice_get, subst, sym, ap, ◌∙◌}
 use Rattle.std.proofs.lemmas.List.{length_push}
-use Rattle.q_aig.specs.Nets.{gate_of, tree_at}
+use Rattle.q_aig.specs.Prelude.{gate_of, tree_at}
 use Rattle.q_validate.specs.Words.{path_to}
 use Rattle.q_validate.specs.Stands.{known_along, AreTold}
 use Rattle.q_validate.specs.declared.words.Known.{Known}
-use Rattle.q_validate.proofs.Knowing.{told-more}
+use Rattle.q_validate.proofs.KnownValues.{told-more}
 use Rattle.q_validate.proofs.known.fill.Goals as goal
 
 pub literal_known-first-requires-clause-row : goal.literal_known-first-requires-clause-row

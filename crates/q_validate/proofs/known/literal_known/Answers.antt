@@ -1,11 +1,10 @@
 use Rattle.std.proofs.Common.{◌++◌, [], ℕ, Bool, ap, ◌∙◌}
-use Rattle.q_logic.specs.Circuits.{Circuit}
-use Rattle.q_logic.specs.Certificates.{node_tree, gate_trees}
+use Rattle.q_logic.specs.Prelude.{Circuit, node_tree, gate_trees}
 use Rattle.q_logic.specs.Branches.{known_signed}
-use Rattle.q_aig.specs.Nets.{operand_of, tree_at}
+use Rattle.q_aig.specs.Prelude.{operand_of, tree_at}
 use Rattle.q_validate.specs.Words.{path_to}
 use Rattle.q_validate.specs.Stands.{unset, values, known_along}
-use Rattle.q_validate.proofs.Telling.{tells-same, signed-tree}
+use Rattle.q_validate.proofs.WordVerdicts.{tells-same, signed-tree}
 use Rattle.q_validate.proofs.known.literal_known.Goals as goal
 
 pub returns : goal.returns

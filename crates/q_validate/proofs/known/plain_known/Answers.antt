@@ -1,8 +1,8 @@
 use Rattle.std.proofs.Common.{◌<◌, ◌++◌, [], length, get_or, sym, subst}
-use Rattle.q_logic.specs.Certificates.{GateNode, IsThere, node_tree, gate_trees}
+use Rattle.q_logic.specs.Prelude.{GateNode, IsThere, node_tree, gate_trees}
 use Rattle.q_validate.specs.Words.{path_to, Tells}
 use Rattle.q_validate.specs.Stands.{known_along, nothing_known}
-use Rattle.q_validate.proofs.Telling.{input-tells}
+use Rattle.q_validate.proofs.WordVerdicts.{input-tells}
 use Rattle.q_validate.proofs.known.plain_known.Goals as goal
 
 pub returns-in-Input : goal.returns-in-Input

@@ -1,9 +1,9 @@
 use Rattle.std.proofs.Common.{◌++◌, [], ◌∷◌, ap, sym, ◌∙◌, take, get_or}
 use Rattle.std.proofs.lemmas.List.{take_more}
-use Rattle.q_logic.specs.Formulas.{Prefix}
+use Rattle.q_logic.specs.Prelude.{Prefix}
 use Rattle.q_logic.specs.declared.formulas.Quant.TheVariants.{Forall}
 use Rattle.q_logic.specs.Branches.{as_prefix}
-use Rattle.q_validate.proofs.Knowing.{as_prefix-push}
+use Rattle.q_validate.proofs.KnownValues.{as_prefix-push}
 use Rattle.q_validate.proofs.node.universals.Goals as goal
 
 pub loop-name-preserved : goal.loop-name-preserved

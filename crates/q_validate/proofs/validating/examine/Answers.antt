@@ -4,8 +4,8 @@ use Rattle.q_search.specs.declared.walking.Ending.TheVariants.{AllWon, AllLost}
 use Rattle.q_search.specs.Walks.{IsLostAt, IsEnding}
 use Rattle.q_logic.specs.Branches.{claim_of}
 use Rattle.q_validate.specs.Stands.{Spot, walk_of}
-use Rattle.q_validate.proofs.Knowing.{all-universal, counter-is}
-use Rattle.q_validate.proofs.Falsifying.{counter-falsifies}
+use Rattle.q_validate.proofs.KnownValues.{all-universal, counter-is}
+use Rattle.q_validate.proofs.FalseClause.{counter-falsifies}
 use Rattle.q_validate.proofs.validating.examine.Goals as goal
 
 pub find_lost-requires-clause-universal : goal.find_lost-requires-clause-universal

@@ -1,10 +1,8 @@
 use Rattle.std.proofs.Common.{sym, subst, ◌∙◌}
-use Rattle.q_logic.specs.Formulas.{Prefix}
-use Rattle.q_logic.specs.Certificates.{CertificateView, trees_of}
-use Rattle.q_logic.specs.Skolems.{Lawful}
-use Rattle.q_carry.specs.Refusals.{Fits}
+use Rattle.q_logic.specs.Prelude.{Prefix, CertificateView, trees_of, Lawful}
+use Rattle.q_carry.specs.Prelude.{Fits}
 use Rattle.q_validate.specs.Answers.{IsAnswer}
-use Rattle.q_validate.proofs.Knowing.{named-bound}
+use Rattle.q_validate.proofs.KnownValues.{named-bound}
 use Rattle.q_validate.proofs.validating.validate.Goals as goal
 
 pub examine-requires-clause-fed : goal.examine-requires-clause-fed

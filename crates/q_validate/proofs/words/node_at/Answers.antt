@@ -1,6 +1,6 @@
 use Rattle.std.proofs.Common.{◌++◌, ◌∷◌, [], ◌<◌, eqb, Bool, List, false, length, get_or, sym, ap, ◌∙◌, subst, arith}
 use Rattle.std.proofs.lemmas.List.{take_more}
-use Rattle.q_validate.proofs.Bits.{path-root, path-step, step-small, byte-small, byte-bit, node-small}
+use Rattle.q_validate.proofs.WordBits.{path-root, path-step, step-small, byte-small, byte-bit, node-small}
 use Rattle.q_validate.proofs.words.node_at.Goals as goal
 
 pub loop-value-init : goal.loop-value-init

@@ -2,7 +2,7 @@ use Rattle.std.proofs.Common.{◌≡◌, ◌<◌, List, ℕ, length, map, get_or
 use Rattle.std.proofs.lemmas.List.{length-map, get_or-map}
 use Rattle.q_aig.specs.Nets.{Net, gate_of}
 use Rattle.q_aig.specs.Serving.{IsConjunction}
-use Rattle.q_aig.proofs.Serving.{gate-there}
+use Rattle.q_aig.proofs.Substitutes.{gate-there}
 use Rattle.q_aig.proofs.aig.Aig.and_gate.Goals as goal
 
 pub returns-in-Some-clause-conjunction : goal.returns-in-Some-clause-conjunction

@@ -1,9 +1,8 @@
 use Rattle.std.proofs.Common.{◌≡◌, ◌++◌, ◌∷◌, [], List, ℕ, Bool, false, length, map, arith, sym, ap, ◌∙◌, subst}
 use Rattle.std.proofs.lemmas.List.{length-map}
-use Rattle.q_logic.specs.Certificates.{IsThere}
+use Rattle.q_logic.specs.Prelude.{IsThere, gate_at}
 use Rattle.q_aig.specs.Nets.{Net, operand_of, gate_of, IsLiteral}
-use Rattle.q_aig.proofs.Serving.{sound-gate, gate-conjunction}
-use Rattle.q_logic.specs.Certificates.{gate_at}
+use Rattle.q_aig.proofs.Substitutes.{sound-gate, gate-conjunction}
 use Rattle.q_aig.specs.Serving.{IsConjunction}
 use Rattle.q_aig.proofs.aig.Aig.gate.Goals as goal
 

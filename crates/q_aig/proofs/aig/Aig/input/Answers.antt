@@ -1,7 +1,7 @@
 use Rattle.std.proofs.Common.{map, arith, refl, sym, subst}
 use Rattle.q_aig.specs.Nets.{Net, gate_of, IsNew, Keeps}
 use Rattle.q_aig.proofs.Nets.{keeps-input}
-use Rattle.q_aig.proofs.Serving.{sound-input}
+use Rattle.q_aig.proofs.Substitutes.{sound-input}
 use Rattle.q_aig.proofs.aig.Aig.input.Goals as goal
 
 pub invariant_of-self-2 : goal.invariant_of-self-2

@@ -1,6 +1,6 @@
 use Rattle.std.proofs.Common.{◌≡◌, ◌<◌, ℕ, length, map, get_or, arith, sym, ap, ◌∙◌, subst, Some, slice_get}
 use Rattle.std.proofs.lemmas.List.{length-map, get_or_read}
-use Rattle.q_logic.specs.Certificates.{IsThere}
+use Rattle.q_logic.specs.Prelude.{IsThere}
 use Rattle.q_aig.specs.Nets.{Net, gate_of, operand_of}
 use Rattle.q_aig.proofs.Nets.{part-there, slice_get-map}
 use Rattle.q_aig.proofs.aig.Aig.operands.Goals as goal

@@ -1,6 +1,6 @@
 use Rattle.std.proofs.Common.{◌≡◌, List, ℕ, length, map, sym, subst}
 use Rattle.std.proofs.lemmas.List.{length-map}
-use Rattle.q_logic.specs.Certificates.{IsThere}
+use Rattle.q_logic.specs.Prelude.{IsThere}
 use Rattle.q_aig.specs.Nets.{Net, operand_of, gate_of, IsLiteral}
 use Rattle.q_aig.specs.Cones.{IsRead}
 use Rattle.q_aig.specs.Walking.{IsSearched}

@@ -1,10 +1,9 @@
 use Rattle.std.proofs.Common.{◌≡◌, List, ℕ, length, map, sym, subst, ◌∙◌}
 use Rattle.std.proofs.lemmas.List.{length-map}
-use Rattle.q_logic.specs.Circuits.{value_of}
-use Rattle.q_logic.specs.Certificates.{IsThere}
+use Rattle.q_logic.specs.Prelude.{value_of, IsThere}
 use Rattle.q_aig.specs.Nets.{operand_of, gate_of, Net, tree_at, IsLiteral}
 use Rattle.q_aig.specs.Values.{AreValues, IsTableUpto}
-use Rattle.q_aig.proofs.Tables.{operand-is}
+use Rattle.q_aig.proofs.GateTables.{operand-is}
 use Rattle.q_aig.proofs.aig.Aig.value.Goals as goal
 
 pub returns : goal.returns

@@ -1,5 +1,5 @@
 use Rattle.std.proofs.Common.{sym, subst}
-use Rattle.q_logic.specs.Certificates.{CertificateView}
+use Rattle.q_logic.specs.Prelude.{CertificateView}
 use Rattle.q_aig.specs.Nets.{IsLiteral}
 use Rattle.q_aig.specs.Outputs.{net_of, IsNewName}
 use Rattle.q_aig.proofs.Outputs.{outputs-more}

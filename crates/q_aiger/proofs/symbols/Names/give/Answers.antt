@@ -1,6 +1,6 @@
 use Rattle.std.proofs.Common.{◌≡◌, ◌∙◌, sym, subst, true, List, ℕ}
 use Rattle.q_aiger.specs.Symbols.{is_free_name}
-use Rattle.q_aiger.proofs.Naming.{names-given, on-ok}
+use Rattle.q_aiger.proofs.LongerNames.{names-given, on-ok}
 use Rattle.q_aiger.proofs.symbols.Names.give.Goals as goal
 
 pub invariant_of-self-2 : goal.invariant_of-self-2

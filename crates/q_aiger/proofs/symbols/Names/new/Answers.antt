@@ -1,6 +1,6 @@
 use Rattle.std.proofs.Common.{arith}
 use Rattle.std.proofs.lemmas.Grind.{common_steps}
-use Rattle.q_aiger.proofs.Naming.{names-none}
+use Rattle.q_aiger.proofs.LongerNames.{names-none}
 use Rattle.q_aiger.proofs.symbols.Names.new.Goals as goal
 
 pub invariant_of-result : goal.invariant_of-result

@@ -1,16 +1,15 @@
 use Rattle.std.proofs.Common.{◌≡◌, ◌≢◌, ◌+◌, ◌-◌, ◌<◌, ◌≤◌, sym, ◌∙◌, ap, arith, length, map, None, Some, Option, List, subst, ℕ, true, set, get_or}
-use Rattle.q_logic.specs.Literals.{Literal, IsBelow}
-use Rattle.q_logic.specs.Parts.{ArePairs}
+use Rattle.q_logic.specs.Prelude.{Literal, IsBelow, ArePairs}
 use Rattle.q_arena.specs.Rings.{Has, AreApart, without}
 use Rattle.q_arena.proofs.RingLemmas.{length-without}
-use Rattle.q_arena.proofs.Free.{free-there}
+use Rattle.q_arena.proofs.FreeIds.{free-there}
 use Rattle.q_arena.specs.declared.slots.Slot.{Slot}
 use Rattle.q_arena.specs.Layout.{slot_at, top_of, Order}
 use Rattle.q_arena.specs.Gaps.{IsSound}
 use Rattle.q_arena.specs.Seen.{piece, clause_in}
 use Rattle.q_arena.proofs.Layouts.{live-within, total-within, AreLaid-add, slot-set_other, slot-set_here}
-use Rattle.q_arena.proofs.Pieces.{live-of, clause-is, clauses-set, piece-moved, piece-is, blank_lit, start-is, ordered-same, ordered-set}
-use Rattle.q_arena.proofs.Numbers.{some-same}
+use Rattle.q_arena.proofs.ClauseWords.{live-of, clause-is, clauses-set, piece-moved, piece-is, blank_lit, start-is, ordered-same, ordered-set}
+use Rattle.q_arena.proofs.NumberCases.{some-same}
 use Rattle.q_arena.proofs.Layouts.{stack-same, top-same}
 use Rattle.q_arena.proofs.GapLemmas.{gap-add, gap-same}
 use Rattle.q_arena.proofs.arena.Arena.add_at.Goals as goal

@@ -1,7 +1,7 @@
 use Rattle.std.proofs.Common.{arith}
-use Rattle.q_arena.proofs.Pieces.{clause-within, clauses-apart}
-use Rattle.q_arena.proofs.Seen.{length-mapped}
-use Rattle.q_arena.proofs.Totals.{live-count}
+use Rattle.q_arena.proofs.ClauseWords.{clause-within, clauses-apart}
+use Rattle.q_arena.proofs.ArenaView.{length-mapped}
+use Rattle.q_arena.proofs.ClauseTotals.{live-count}
 use Rattle.q_arena.specs.Seen.{clause_in}
 use Rattle.q_arena.specs.Layout.{no_slot}
 use Rattle.q_arena.proofs.arena.Arena.apart.Goals as goal

@@ -2,7 +2,7 @@ use Rattle.std.proofs.Common.{arith, ap, sym}
 use Rattle.q_arena.specs.Layout.{slot_at}
 use Rattle.q_arena.specs.Seen.{Clauses}
 use Rattle.q_arena.proofs.Layouts.{size-top}
-use Rattle.q_arena.proofs.Filled.{end-is, total-is}
+use Rattle.q_arena.proofs.FilledWords.{end-is, total-is}
 use Rattle.q_arena.proofs.arena.Arena.dead.Goals as goal
 
 pub overflow_sub-result : goal.overflow_sub-result

@@ -1,6 +1,5 @@
 use Rattle.std.proofs.Common.{◌≡◌, ◌+◌, ◌-◌, ◌<◌, ◌≤◌, sym, ◌∙◌, ap, arith, length, map, None, Some, Option, List, subst, refl, ℕ, true, set, get_or}
-use Rattle.q_logic.specs.Literals.{Literal, IsBelow}
-use Rattle.q_logic.specs.Parts.{ArePairs}
+use Rattle.q_logic.specs.Prelude.{Literal, IsBelow, ArePairs}
 use Rattle.q_arena.specs.declared.slots.Slot.{Slot}
 use Rattle.q_arena.specs.Layout.{slot_at, top_of, Order, AreLaid}
 use Rattle.q_arena.specs.Chains.{preceding}
@@ -8,9 +7,9 @@ use Rattle.q_arena.specs.Gaps.{IsSound, first_gap, gap_past}
 use Rattle.q_arena.specs.Seen.{piece, clause_in, without_at}
 use Rattle.q_arena.proofs.Layouts.{used-below, AreLaid-moved, slot-set_other, slot-set_here}
 use Rattle.q_arena.proofs.GapLemmas.{gap-drop}
-use Rattle.q_arena.proofs.Moving.{Stands, stands, others-stay}
-use Rattle.q_arena.proofs.Pieces.{blank_lit, live-of, clause-live, clauses-set, piece-without, length-piece, starts-same, ordered-same, ordered-set, pairs-without_at}
-use Rattle.q_arena.proofs.Numbers.{some-same}
+use Rattle.q_arena.proofs.MovedClauses.{Stands, stands, others-stay}
+use Rattle.q_arena.proofs.ClauseWords.{blank_lit, live-of, clause-live, clauses-set, piece-without, length-piece, starts-same, ordered-same, ordered-set, pairs-without_at}
+use Rattle.q_arena.proofs.NumberCases.{some-same}
 use Rattle.q_arena.proofs.arena.Arena.drop_at.Goals as goal
 
 -- The clause in the slot x loses the literal at k.

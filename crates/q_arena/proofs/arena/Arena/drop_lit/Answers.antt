@@ -1,6 +1,6 @@
 use Rattle.std.proofs.Common.{◌≡◌, sym, ◌∙◌, ap, Some, List, set}
-use Rattle.q_logic.specs.Literals.{Literal}
-use Rattle.q_arena.proofs.Numbers.{some-same}
+use Rattle.q_logic.specs.Prelude.{Literal}
+use Rattle.q_arena.proofs.NumberCases.{some-same}
 use Rattle.q_arena.proofs.Dropped.{without-place}
 use Rattle.q_arena.proofs.arena.Arena.drop_lit.Goals as goal
 

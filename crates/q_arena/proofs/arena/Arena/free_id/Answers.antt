@@ -1,6 +1,6 @@
 use Rattle.std.proofs.Common.{arith}
-use Rattle.q_arena.proofs.Seen.{length-mapped}
-use Rattle.q_arena.proofs.Pieces.{clause-free}
+use Rattle.q_arena.proofs.ArenaView.{length-mapped}
+use Rattle.q_arena.proofs.ClauseWords.{clause-free}
 use Rattle.q_arena.specs.Seen.{clause_in}
 use Rattle.q_arena.specs.Layout.{no_slot}
 use Rattle.q_arena.proofs.arena.Arena.free_id.Goals as goal

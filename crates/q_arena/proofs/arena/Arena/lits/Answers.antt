@@ -1,10 +1,10 @@
 use Rattle.std.proofs.Common.{◌≡◌, sym, ◌∙◌, ap, arith, length, Some, List, subst}
 use Rattle.std.proofs.lemmas.List.{get_or_default}
-use Rattle.q_logic.specs.Literals.{Literal}
+use Rattle.q_logic.specs.Prelude.{Literal}
 use Rattle.q_arena.specs.Layout.{slot_at, no_slot}
 use Rattle.q_arena.specs.Seen.{Clauses, clause_at, piece}
 use Rattle.q_arena.proofs.Layouts.{live-room, live-below}
-use Rattle.q_arena.proofs.Pieces.{live-of, clause-live}
+use Rattle.q_arena.proofs.ClauseWords.{live-of, clause-live}
 use Rattle.q_arena.proofs.arena.Arena.lits.Goals as goal
 
 pub part-requires : goal.part-requires

@@ -1,7 +1,7 @@
 use Rattle.std.proofs.Common.{sym, ◌∙◌, ap}
 use Rattle.q_arena.specs.Layout.{slot_at}
 use Rattle.q_arena.specs.Seen.{piece}
-use Rattle.q_arena.proofs.Pieces.{live-of, clause-live}
+use Rattle.q_arena.proofs.ClauseWords.{live-of, clause-live}
 use Rattle.q_arena.proofs.arena.Arena.live.Goals as goal
 
 pub returns : goal.returns

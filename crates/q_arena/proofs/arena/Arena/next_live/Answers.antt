@@ -1,9 +1,9 @@
 use Rattle.std.proofs.Common.{◌≡◌, sym, ◌∙◌, subst, Some, inl, inr, true≢false, arith}
 use Rattle.std.proofs.lemmas.Bool.{cases_lt}
 use Rattle.q_arena.specs.Seen.{Clauses, clause_at, IsLive}
-use Rattle.q_arena.proofs.Numbers.{some-same}
+use Rattle.q_arena.proofs.NumberCases.{some-same}
 use Rattle.q_arena.proofs.Layouts.{live-below}
-use Rattle.q_arena.proofs.Pieces.{live-of}
+use Rattle.q_arena.proofs.ClauseWords.{live-of}
 use Rattle.q_arena.proofs.arena.Arena.next_live.Goals as goal
 
 pub returns-then-live-clause-least : goal.returns-then-live-clause-least

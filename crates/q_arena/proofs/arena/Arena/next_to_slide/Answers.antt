@@ -1,10 +1,10 @@
 use Rattle.std.proofs.Common.{sym, ◌∙◌, ap, subst, arith}
 use Rattle.q_arena.specs.Layout.{slot_at}
 use Rattle.q_arena.specs.Seen.{piece, IsLive, IsFirstPastDead, Clauses}
-use Rattle.q_arena.proofs.Numbers.{some-same}
+use Rattle.q_arena.proofs.NumberCases.{some-same}
 use Rattle.q_arena.proofs.Layouts.{live-below}
-use Rattle.q_arena.proofs.Pieces.{clause-live}
-use Rattle.q_arena.proofs.Filled.{gap-words}
+use Rattle.q_arena.proofs.ClauseWords.{clause-live}
+use Rattle.q_arena.proofs.FilledWords.{gap-words}
 use Rattle.q_arena.proofs.GapLemmas.{gap-none, gap-some, gap-in}
 use Rattle.q_arena.proofs.arena.Arena.next_to_slide.Goals as goal
 

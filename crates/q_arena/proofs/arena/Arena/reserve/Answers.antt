@@ -1,7 +1,7 @@
 use Rattle.std.proofs.Common.{◌≤◌, ◌∙◌, ap, arith, length, List, refl, get_or, None, Option, inl, inr}
-use Rattle.q_logic.specs.Literals.{Literal}
-use Rattle.q_arena.proofs.Totals.{live-count}
-use Rattle.q_arena.proofs.More.{clauses-grown, sound-grown, clause-more, start-more, sound-more}
+use Rattle.q_logic.specs.Prelude.{Literal}
+use Rattle.q_arena.proofs.ClauseTotals.{live-count}
+use Rattle.q_arena.proofs.MoreRoom.{clauses-grown, sound-grown, clause-more, start-more, sound-more}
 use Rattle.q_arena.proofs.arena.Arena.reserve.Goals as goal
 
 pub invariant_of-self : goal.invariant_of-self

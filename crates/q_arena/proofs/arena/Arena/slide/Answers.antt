@@ -1,6 +1,6 @@
 use Rattle.std.proofs.Common.{◌≡◌, ◌+◌, ◌<◌, ◌≤◌, sym, ◌∙◌, ap, arith, length, map, Some, Option, List, subst, refl, ℕ, true, set, get_or, None}
 use Rattle.std.proofs.lemmas.List.{set-get_or}
-use Rattle.q_logic.specs.Literals.{Literal}
+use Rattle.q_logic.specs.Prelude.{Literal}
 use Rattle.q_arena.specs.Rings.{Has}
 use Rattle.q_arena.specs.Chains.{preceding}
 use Rattle.q_arena.specs.declared.slots.Slot.{Slot}
@@ -9,9 +9,9 @@ use Rattle.q_arena.specs.Gaps.{IsSound, first_gap}
 use Rattle.q_arena.specs.Seen.{piece, clause_in}
 use Rattle.q_arena.proofs.Layouts.{used-below, AreLaid-moved, slot-set_other, slot-set_here, top-same, size-same, below-misses}
 use Rattle.q_arena.proofs.GapLemmas.{gap-in, gap-slide, gap-low, gap-full}
-use Rattle.q_arena.proofs.Filled.{filled-below}
-use Rattle.q_arena.proofs.Moving.{Stands, stands, others-stay}
-use Rattle.q_arena.proofs.Pieces.{clause-live, clauses-set, piece-moved, starts-set, start-is, blank_lit, ordered-same}
+use Rattle.q_arena.proofs.FilledWords.{filled-below}
+use Rattle.q_arena.proofs.MovedClauses.{Stands, stands, others-stay}
+use Rattle.q_arena.proofs.ClauseWords.{clause-live, clauses-set, piece-moved, starts-set, start-is, blank_lit, ordered-same}
 use Rattle.q_arena.proofs.arena.Arena.slide.Goals as goal
 
 -- the first clause with dead words before it

@@ -1,6 +1,6 @@
 use Rattle.std.proofs.Common.{sym, ◌∙◌}
 use Rattle.q_arena.proofs.Layouts.{first-none}
-use Rattle.q_arena.proofs.Following.{get-has}
+use Rattle.q_arena.proofs.ListNeighbours.{get-has}
 use Rattle.q_arena.proofs.ids.Ids.free.Goals as goal
 
 pub returns-in-Some : goal.returns-in-Some

@@ -1,6 +1,6 @@
 use Rattle.std.proofs.Common.{ap, ◌∙◌, arith, length, ◌<◌}
 use Rattle.q_arena.specs.Nodes.{blank}
-use Rattle.q_arena.proofs.Seen.{count-is, length-lists, get_or-any}
+use Rattle.q_arena.proofs.ArenaView.{count-is, length-lists, get_or-any}
 use Rattle.q_arena.proofs.rings.Rings.count.Goals as goal
 
 pub returns : goal.returns

@@ -1,4 +1,4 @@
-use Rattle.q_arena.proofs.Seen.{lists-apart, lists-one, place-in, length-tags}
+use Rattle.q_arena.proofs.ArenaView.{lists-apart, lists-one, place-in, length-tags}
 use Rattle.q_arena.proofs.rings.Rings.distinct.Goals as goal
 
 pub returns-clause-apart : goal.returns-clause-apart

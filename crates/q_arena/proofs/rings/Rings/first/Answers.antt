@@ -1,7 +1,7 @@
 use Rattle.std.proofs.Common.{ap, ◌∙◌, arith, sym, length, ◌<◌, Some, None}
 use Rattle.std.specs.Prelude.{if◌then◌else◌, nat_lt}
 use Rattle.q_arena.specs.Nodes.{blank, base}
-use Rattle.q_arena.proofs.Seen.{first-is, length-lists, get_or-any}
+use Rattle.q_arena.proofs.ArenaView.{first-is, length-lists, get_or-any}
 use Rattle.q_arena.proofs.rings.Rings.first.Goals as goal
 
 pub returns : goal.returns

@@ -1,8 +1,8 @@
 use Rattle.std.proofs.Common.{arith, sym, subst, ℕ, List}
 use Rattle.q_arena.specs.Rings.{Has}
 use Rattle.q_arena.specs.Chains.{Chains, list_at}
-use Rattle.q_arena.proofs.Seen.{list-is, owned-sound, owned-lists, owned-owners, Has-head}
-use Rattle.q_arena.proofs.Sound.{place-below}
+use Rattle.q_arena.proofs.ArenaView.{list-is, owned-sound, owned-lists, owned-owners, Has-head}
+use Rattle.q_arena.proofs.SoundRings.{place-below}
 use Rattle.q_arena.proofs.rings.Rings.insert_after.Goals as goal
 
 pub overflow_cast-after : goal.overflow_cast-after

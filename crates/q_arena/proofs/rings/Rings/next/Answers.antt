@@ -3,7 +3,7 @@ use Rattle.std.specs.Prelude.{if◌then◌else◌, nat_lt}
 use Rattle.q_arena.specs.Nodes.{blank, base}
 use Rattle.q_arena.specs.Rings.{Has}
 use Rattle.q_arena.specs.Chains.{Chains, list_at}
-use Rattle.q_arena.proofs.Seen.{following-is, place-in, get_or-any}
+use Rattle.q_arena.proofs.ArenaView.{following-is, place-in, get_or-any}
 use Rattle.q_arena.proofs.rings.Rings.next.Goals as goal
 
 pub index-requires : goal.index-requires

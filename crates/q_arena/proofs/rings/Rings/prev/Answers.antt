@@ -1,10 +1,10 @@
-use Rattle.q_arena.proofs.Before.{preceding-is}
+use Rattle.q_arena.proofs.ListPredecessor.{preceding-is}
 use Rattle.std.proofs.Common.{ap, ◌∙◌, arith, sym, subst, Some, None}
 use Rattle.std.specs.Prelude.{if◌then◌else◌, nat_lt}
 use Rattle.q_arena.specs.Nodes.{blank, base}
 use Rattle.q_arena.specs.Rings.{Has}
 use Rattle.q_arena.specs.Chains.{Chains, list_at}
-use Rattle.q_arena.proofs.Seen.{place-in, get_or-any}
+use Rattle.q_arena.proofs.ArenaView.{place-in, get_or-any}
 use Rattle.q_arena.proofs.rings.Rings.prev.Goals as goal
 
 pub index-requires : goal.index-requires

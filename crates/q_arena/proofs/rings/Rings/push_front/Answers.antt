@@ -1,7 +1,7 @@
 use Rattle.std.proofs.Common.{arith, sym, subst, length, ◌<◌, ℕ, List}
 use Rattle.q_arena.specs.Rings.{Has}
 use Rattle.q_arena.specs.Chains.{Chains, list_at}
-use Rattle.q_arena.proofs.Seen.{list-is, length-lists, owned-sound, owned-lists, owned-owners}
+use Rattle.q_arena.proofs.ArenaView.{list-is, length-lists, owned-sound, owned-lists, owned-owners}
 use Rattle.q_arena.proofs.rings.Rings.push_front.Goals as goal
 
 pub put_front-requires-clause-fresh : goal.put_front-requires-clause-fresh

@@ -1,8 +1,8 @@
 use Rattle.std.proofs.Common.{arith, sym, subst, ℕ, List}
 use Rattle.q_arena.specs.Rings.{Has}
 use Rattle.q_arena.specs.Chains.{Chains, list_at}
-use Rattle.q_arena.proofs.Seen.{list-is, relisted-sound, relisted-lists, relisted-owners, Has-head}
-use Rattle.q_arena.proofs.Sound.{place-below}
+use Rattle.q_arena.proofs.ArenaView.{list-is, relisted-sound, relisted-lists, relisted-owners, Has-head}
+use Rattle.q_arena.proofs.SoundRings.{place-below}
 use Rattle.q_arena.proofs.rings.Rings.remove.Goals as goal
 
 pub overflow_cast-place : goal.overflow_cast-place

@@ -2,7 +2,7 @@ use Rattle.std.proofs.Common.{◌≤◌, length, arith, ap, sym, ◌∙◌, inl,
 use Rattle.q_arena.proofs.Growth.{AreSound-places}
 use Rattle.q_arena.specs.declared.rings.Link.{Link}
 use Rattle.q_arena.specs.Nodes.{base, blank}
-use Rattle.q_arena.proofs.Seen.{get_or-mapped}
+use Rattle.q_arena.proofs.ArenaView.{get_or-mapped}
 use Rattle.q_arena.proofs.rings.Rings.reserve.Goals as goal
 
 pub invariant_of-self : goal.invariant_of-self

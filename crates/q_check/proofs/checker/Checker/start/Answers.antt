@@ -1,9 +1,8 @@
 use Rattle.std.proofs.Common.{refl, sym, ap, subst, map}
-use Rattle.q_logic.specs.Formulas.{PrenexFormula}
-use Rattle.q_logic.specs.Runs.{copies, AreAlike}
+use Rattle.q_logic.specs.Prelude.{PrenexFormula, copies, AreAlike}
 use Rattle.q_judge.specs.Entries.{entry_of}
 use Rattle.q_judge.specs.Ledgers.{Slotted, slotted, formula_in}
-use Rattle.q_judge.proofs.Beginning.{filled-numbered}
+use Rattle.q_judge.proofs.StartFormula.{filled-numbered}
 use Rattle.q_check.proofs.checker.Checker.start.Goals as goal
 
 slotted-alike : (F : PrenexFormula) → AreAlike F (formula_in (slotted F))

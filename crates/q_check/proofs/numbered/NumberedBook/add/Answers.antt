@@ -1,10 +1,8 @@
 use Rattle.std.proofs.Common.{◌≡◌, ◌∙◌, ◌∷◌, ◌++◌, [], Some, None, List, Option, ℕ, set, ap}
-use Rattle.q_logic.specs.Formulas.{Prefix}
-use Rattle.q_logic.specs.Hinted.{NumberedFormula}
-use Rattle.q_logic.specs.Numbered.{Slots}
+use Rattle.q_logic.specs.Prelude.{Prefix, NumberedFormula, Slots}
 use Rattle.q_check.specs.Numbers.{numbered_by}
-use Rattle.q_check.proofs.Booking.{sizes, set-last}
-use Rattle.q_check.proofs.Numbering.{put-numbered, put-numbers}
+use Rattle.q_check.proofs.SlotNumbers.{sizes, set-last}
+use Rattle.q_check.proofs.NumberedSteps.{put-numbered, put-numbers}
 use Rattle.q_check.proofs.numbered.NumberedBook.add.Goals as goal
 
 pub put-requires-clause-few_clauses : goal.put-requires-clause-few_clauses

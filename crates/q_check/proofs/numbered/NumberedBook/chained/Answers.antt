@@ -2,7 +2,7 @@ use Rattle.std.proofs.Common.{length}
 use Rattle.q_prop.specs.Slots.{without}
 use Rattle.q_check.specs.HintChecks.{place_at}
 use Rattle.q_check.specs.Numbers.{left_out, numbered_by}
-use Rattle.q_check.proofs.Placing.{placed-slot, chained-placed}
+use Rattle.q_check.proofs.HintSlots.{placed-slot, chained-placed}
 use Rattle.q_check.proofs.numbered.NumberedBook.chained.Goals as goal
 
 pub returns-clause-exact : goal.returns-clause-exact

@@ -1,10 +1,10 @@
 use Rattle.std.proofs.Common.{◌++◌, ◌∙◌, length, sym}
-use Rattle.q_logic.specs.Pivots.{outer}
+use Rattle.q_logic.specs.Prelude.{outer}
 use Rattle.q_prop.specs.Slots.{without}
-use Rattle.q_prop.proofs.Hinting.{slot-Holds}
+use Rattle.q_prop.proofs.HintSteps.{slot-Holds}
 use Rattle.q_check.specs.HintChecks.{place_at}
 use Rattle.q_check.specs.Numbers.{left_out, numbered_by, place_in}
-use Rattle.q_check.proofs.Placing.{placed-slot, placed-there, chained-placed, nothing-there}
+use Rattle.q_check.proofs.HintSlots.{placed-slot, placed-there, chained-placed, nothing-there}
 use Rattle.q_check.proofs.numbered.NumberedBook.chained_with.Goals as goal
 
 pub returns-in_default-clause-exact : goal.returns-in_default-clause-exact

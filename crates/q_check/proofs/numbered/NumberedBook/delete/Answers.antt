@@ -1,8 +1,7 @@
 use Rattle.std.proofs.Common.{◌∙◌, ap, sym}
-use Rattle.q_logic.specs.Hinted.{NumberedFormula}
-use Rattle.q_logic.specs.Numbered.{Slots}
-use Rattle.q_check.proofs.Booking.{held-at, has-place}
-use Rattle.q_check.proofs.Numbering.{gone-numbered, gone-numbers}
+use Rattle.q_logic.specs.Prelude.{NumberedFormula, Slots}
+use Rattle.q_check.proofs.SlotNumbers.{held-at, has-place}
+use Rattle.q_check.proofs.NumberedSteps.{gone-numbered, gone-numbers}
 use Rattle.q_check.proofs.numbered.NumberedBook.delete.Goals as goal
 
 pub delete-requires : goal.delete-requires

@@ -1,7 +1,7 @@
 use Rattle.std.proofs.Common.{◌∙◌, sym}
-use Rattle.q_logic.proofs.Members.{test-false}
-use Rattle.q_check.proofs.Deleting.{implied-left, pivot-bound, pivot-left}
-use Rattle.q_check.proofs.Placing.{nothing-there}
+use Rattle.q_logic.proofs.Common.{test-false}
+use Rattle.q_check.proofs.DeletionUndo.{implied-left, pivot-bound, pivot-left}
+use Rattle.q_check.proofs.HintSlots.{nothing-there}
 use Rattle.q_check.proofs.numbered.NumberedBook.deletion_entry.Goals as goal
 
 pub returns-in_default-clause-exact : goal.returns-in_default-clause-exact

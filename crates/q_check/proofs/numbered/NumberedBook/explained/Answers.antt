@@ -1,6 +1,6 @@
 use Rattle.q_check.specs.Numbers.{numbered_by, left_out, place_in}
 use Rattle.q_prop.specs.Slots.{without}
-use Rattle.q_check.proofs.Naming.{linked, explained}
+use Rattle.q_check.proofs.HintNumbers.{linked, explained}
 use Rattle.q_check.proofs.numbered.NumberedBook.explained.Goals as goal
 
 pub returns-clause-exact : goal.returns-clause-exact

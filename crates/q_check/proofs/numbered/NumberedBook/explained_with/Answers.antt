@@ -1,10 +1,9 @@
 use Rattle.std.proofs.Common.{◌≡◌, ◌∙◌, ◌++◌, sym, subst}
-use Rattle.q_logic.specs.Formulas.{Clause}
-use Rattle.q_logic.specs.Pivots.{outer}
+use Rattle.q_logic.specs.Prelude.{Clause, outer}
 use Rattle.q_check.specs.Numbers.{numbered_by, left_out, place_in, Explains}
 use Rattle.q_prop.specs.Slots.{without}
-use Rattle.q_check.proofs.Booking.{held-at, has-place}
-use Rattle.q_check.proofs.Naming.{linked, explained}
+use Rattle.q_check.proofs.SlotNumbers.{held-at, has-place}
+use Rattle.q_check.proofs.HintNumbers.{linked, explained}
 use Rattle.q_check.proofs.numbered.NumberedBook.explained_with.Goals as goal
 
 pub returns-in_default-clause-exact : goal.returns-in_default-clause-exact

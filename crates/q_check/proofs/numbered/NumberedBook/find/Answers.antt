@@ -1,4 +1,4 @@
-use Rattle.q_check.proofs.Booking.{found, not_found}
+use Rattle.q_check.proofs.SlotNumbers.{found, not_found}
 use Rattle.q_check.proofs.numbered.NumberedBook.find.Goals as goal
 
 pub returns-in-Some : goal.returns-in-Some

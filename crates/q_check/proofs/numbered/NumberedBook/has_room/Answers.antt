@@ -1,4 +1,4 @@
-use Rattle.q_check.proofs.Booking.{room}
+use Rattle.q_check.proofs.SlotNumbers.{room}
 use Rattle.q_check.proofs.numbered.NumberedBook.has_room.Goals as goal
 
 pub returns : goal.returns

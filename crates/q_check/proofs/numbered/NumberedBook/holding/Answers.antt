@@ -1,8 +1,8 @@
 use Rattle.std.proofs.Common.{◌∙◌}
 use Rattle.std.proofs.lemmas.List.Filters.{dedup_is}
 use Rattle.q_check.specs.Numbers.{numbered_by, left_out}
-use Rattle.q_check.proofs.Ascending.{sorted-with}
-use Rattle.q_check.proofs.Booking.{named-holds, holds-named}
+use Rattle.q_check.proofs.AscendingNumbers.{sorted-with}
+use Rattle.q_check.proofs.SlotNumbers.{named-holds, holds-named}
 use Rattle.q_check.proofs.numbered.NumberedBook.holding.Goals as goal
 
 pub returns : goal.returns

@@ -1,4 +1,4 @@
-use Rattle.q_check.proofs.Booking.{absent}
+use Rattle.q_check.proofs.SlotNumbers.{absent}
 use Rattle.q_check.proofs.numbered.NumberedBook.is_absent.Goals as goal
 
 pub returns : goal.returns

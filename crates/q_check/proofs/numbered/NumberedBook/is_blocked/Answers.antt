@@ -1,9 +1,9 @@
 use Rattle.std.proofs.Common.{inr}
-use Rattle.q_logic.proofs.Alike.{warranted-within}
-use Rattle.q_logic.specs.Numbered.{live}
+use Rattle.q_logic.proofs.Common.{warranted-within}
+use Rattle.q_logic.specs.Prelude.{live}
 use Rattle.q_prop.specs.Slots.{filled, without}
 use Rattle.q_check.specs.Numbers.{numbered_by, left_out, place_in}
-use Rattle.q_check.proofs.Naming.{linked, linked-forth, linked-back}
+use Rattle.q_check.proofs.HintNumbers.{linked, linked-forth, linked-back}
 use Rattle.q_check.proofs.numbered.NumberedBook.is_blocked.Goals as goal
 
 pub returns : goal.returns

@@ -1,7 +1,7 @@
 use Rattle.std.proofs.Common.{◌≡◌, ◌∙◌, Some, sym, ap, true≢false}
-use Rattle.q_logic.specs.Formulas.{Clause}
-use Rattle.q_prop.proofs.Hinting.{slot-Holds, Holds-slot}
-use Rattle.q_check.proofs.Placing.{placed-there, nothing-there}
+use Rattle.q_logic.specs.Prelude.{Clause}
+use Rattle.q_prop.proofs.HintSteps.{slot-Holds, Holds-slot}
+use Rattle.q_check.proofs.HintSlots.{placed-there, nothing-there}
 use Rattle.q_check.proofs.numbered.NumberedBook.is_clause.Goals as goal
 
 same_some : (C D : Clause) → Some C ≡ Some D → C ≡ D

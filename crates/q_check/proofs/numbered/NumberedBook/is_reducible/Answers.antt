@@ -1,5 +1,5 @@
 use Rattle.std.proofs.Common.{◌∙◌, sym}
-use Rattle.q_check.proofs.Booking.{has-place, reducible, if_ok-same}
+use Rattle.q_check.proofs.SlotNumbers.{has-place, reducible, if_ok-same}
 use Rattle.q_check.proofs.numbered.NumberedBook.is_reducible.Goals as goal
 
 pub returns-in_default-clause-exact : goal.returns-in_default-clause-exact

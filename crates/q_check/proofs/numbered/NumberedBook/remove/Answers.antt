@@ -1,4 +1,4 @@
-use Rattle.q_check.proofs.Booking.{forth}
+use Rattle.q_check.proofs.SlotNumbers.{forth}
 use Rattle.q_check.proofs.numbered.NumberedBook.remove.Goals as goal
 
 pub remove-requires-clause-absent : goal.remove-requires-clause-absent

@@ -1,8 +1,7 @@
 use Rattle.std.proofs.Common.{ap, sym}
-use Rattle.q_logic.specs.Hinted.{NumberedFormula}
-use Rattle.q_logic.specs.Numbered.{Slots}
-use Rattle.q_check.proofs.Booking.{held-at}
-use Rattle.q_check.proofs.Numbering.{shortened-numbered, shortened-numbers}
+use Rattle.q_logic.specs.Prelude.{NumberedFormula, Slots}
+use Rattle.q_check.proofs.SlotNumbers.{held-at}
+use Rattle.q_check.proofs.NumberedSteps.{shortened-numbered, shortened-numbers}
 use Rattle.q_check.proofs.numbered.NumberedBook.shorten.Goals as goal
 
 pub shorten-requires-clause-there : goal.shorten-requires-clause-there

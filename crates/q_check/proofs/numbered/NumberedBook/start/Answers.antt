@@ -1,7 +1,6 @@
 use Rattle.std.proofs.Common.{ap}
-use Rattle.q_logic.specs.Hinted.{NumberedFormula}
-use Rattle.q_logic.specs.Numbered.{Slots}
-use Rattle.q_check.proofs.Counting.{begun-numbered, begun-numbers}
+use Rattle.q_logic.specs.Prelude.{NumberedFormula, Slots}
+use Rattle.q_check.proofs.FirstNumbers.{begun-numbered, begun-numbers}
 use Rattle.q_check.proofs.numbered.NumberedBook.start.Goals as goal
 
 pub invariant_of-result : goal.invariant_of-result

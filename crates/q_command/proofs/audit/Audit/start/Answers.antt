@@ -2,9 +2,9 @@ use Rattle.std.proofs.Common.{◌≡◌, ◌∙◌, sym, ap, arith, ℕ, []}
 use Rattle.q_logic.specs.declared.limits.Limits.{Limits}
 use Rattle.q_hinted.specs.Logs.{read_entries}
 use Rattle.q_hinted.specs.Reading.{BothState}
-use Rattle.q_command.specs.Seats.{hints_taken}
+use Rattle.q_command.specs.LazyCheckers.{hints_taken}
 use Rattle.q_command.specs.Taken.{entries_of}
-use Rattle.q_command.proofs.Judging.{made-behind, made-hints}
+use Rattle.q_command.proofs.BothCheckers.{made-behind, made-hints}
 use Rattle.q_command.proofs.audit.Audit.start.Goals as goal
 
 pub returns : goal.returns

@@ -1,6 +1,6 @@
 use Rattle.std.proofs.Common.{[]}
 use Rattle.q_hinted.specs.Reading.{to_come}
-use Rattle.q_command.proofs.Auditing.{ends-none, ends-some, ended_now, ended_step, refuses_last, refuses_end}
+use Rattle.q_command.proofs.AuditSteps.{ends-none, ends-some, ended_now, ended_step, refuses_last, refuses_end}
 use Rattle.q_command.proofs.audit.Audit.take_last.Goals as goal
 
 pub returns-in-Ok-None-clause-ended : goal.returns-in-Ok-None-clause-ended

@@ -1,6 +1,6 @@
 use Rattle.std.proofs.Common.{◌≤◌, arith, subst, length, length-drop, take, drop, ◌++◌}
 use Rattle.q_command.specs.Audits.{Advances, Refuses}
-use Rattle.q_command.proofs.Auditing.{advances_further, refuses_from, whole-rest}
+use Rattle.q_command.proofs.AuditSteps.{advances_further, refuses_from, whole-rest}
 use Rattle.q_command.proofs.audit.Audit.take_piece.Goals as goal
 
 pub loop-at-preserved : goal.loop-at-preserved

@@ -2,7 +2,7 @@ use Rattle.std.proofs.Common.{sym, subst, take, ◌++◌}
 use Rattle.q_hinted.specs.Logs.{Entry as BothEntry}
 use Rattle.q_hinted.specs.Reading.{BothState, to_come}
 use Rattle.q_command.specs.Audits.{Advances}
-use Rattle.q_command.proofs.Auditing.{leads-some, advances_passed, advances_taken, refuses_piece, refuses_offence}
+use Rattle.q_command.proofs.AuditSteps.{leads-some, advances_passed, advances_taken, refuses_piece, refuses_offence}
 use Rattle.q_command.proofs.audit.Audit.take_some.Goals as goal
 
 pub returns-in-Ok-default-None-clause-ok : goal.returns-in-Ok-default-None-clause-ok

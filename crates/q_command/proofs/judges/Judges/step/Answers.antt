@@ -1,8 +1,8 @@
 use Rattle.std.proofs.Common.{subst, Option, ◌∷◌, ◌++◌, [], sym}
-use Rattle.q_logic.specs.Hinted.{ProofPart}
+use Rattle.q_logic.specs.Prelude.{ProofPart}
 use Rattle.q_command.specs.Judging.{AreBehind}
-use Rattle.q_command.proofs.Feeding.{on_ok}
-use Rattle.q_command.proofs.Judging.{behind-plain, behind-hinted}
+use Rattle.q_command.proofs.FilePieces.{on_ok}
+use Rattle.q_command.proofs.BothCheckers.{behind-plain, behind-hinted}
 use Rattle.q_command.proofs.judges.Judges.step.Goals as goal
 
 pub returns-in-None-clause-behind : goal.returns-in-None-clause-behind

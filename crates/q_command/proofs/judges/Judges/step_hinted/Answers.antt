@@ -1,4 +1,4 @@
-use Rattle.q_command.proofs.Judging.{answer-hinted}
+use Rattle.q_command.proofs.BothCheckers.{answer-hinted}
 use Rattle.q_command.proofs.judges.Judges.step_hinted.Goals as goal
 
 pub returns-clause-behind : goal.returns-clause-behind

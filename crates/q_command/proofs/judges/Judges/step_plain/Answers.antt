@@ -1,4 +1,4 @@
-use Rattle.q_command.proofs.Judging.{answer-plain, refusal-plain}
+use Rattle.q_command.proofs.BothCheckers.{answer-plain, refusal-plain}
 use Rattle.q_command.proofs.judges.Judges.step_plain.Goals as goal
 
 pub returns-clause-behind : goal.returns-clause-behind

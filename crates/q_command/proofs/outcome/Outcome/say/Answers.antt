@@ -1,5 +1,5 @@
 use Rattle.std.proofs.Common.{◌∙◌}
-use Rattle.q_command.proofs.Putting.{said-same}
+use Rattle.q_command.proofs.PutLines.{said-same}
 use Rattle.q_command.proofs.outcome.Outcome.say.Goals as goal
 
 pub returns : goal.returns

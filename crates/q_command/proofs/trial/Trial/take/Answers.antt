@@ -1,4 +1,4 @@
-use Rattle.q_command.proofs.Auditing.{convicted}
+use Rattle.q_command.proofs.AuditSteps.{convicted}
 use Rattle.q_command.proofs.trial.Trial.take.Goals as goal
 
 pub returns-in-Ok-add-clause-tried : goal.returns-in-Ok-add-clause-tried

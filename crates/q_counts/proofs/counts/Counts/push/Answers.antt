@@ -1,6 +1,6 @@
 use Rattle.std.proofs.Common.{◌≡◌, ◌+◌, sym, ap, ◌∙◌, arith}
 use Rattle.q_counts.specs.Counting.{if_so, is_untrue, is_lost, number_of}
-use Rattle.q_counts.proofs.Moving.{number-push, number-few, so-few}
+use Rattle.q_counts.proofs.CountChanges.{number-push, number-few, so-few}
 use Rattle.q_counts.proofs.counts.Counts.push.Goals as goal
 
 pub recounted-self-inside-requires-clause-fits : goal.recounted-self-inside-requires-clause-fits

@@ -2,7 +2,7 @@ use Rattle.std.proofs.Common.{◌≡◌, ◌<◌, List, length, set, get_or, sym
 use Rattle.std.proofs.lemmas.List.{length-set}
 use Rattle.q_counts.specs.declared.counts.Count.{Count}
 use Rattle.q_counts.specs.Counting.{if_so, is_untrue, is_lost}
-use Rattle.q_counts.proofs.Moving.{number-there, number-few, number-set}
+use Rattle.q_counts.proofs.CountChanges.{number-there, number-few, number-set}
 use Rattle.q_counts.proofs.counts.Counts.put.Goals as goal
 
 pub recounted-self-inside-requires-clause-there : goal.recounted-self-inside-requires-clause-there

@@ -1,6 +1,6 @@
 use Rattle.std.proofs.Common.{get_or}
 use Rattle.std.proofs.lemmas.List.{get_or_default}
-use Rattle.q_counts.proofs.Moving.{next-there, next-can, next-shifted}
+use Rattle.q_counts.proofs.CountChanges.{next-there, next-can, next-shifted}
 use Rattle.q_counts.proofs.counts.Counts.shift.Goals as goal
 
 pub shift_one-requires-clause-there : goal.shift_one-requires-clause-there

@@ -1,6 +1,6 @@
 use Rattle.std.proofs.Common.{◌∙◌, sym, ap}
 use Rattle.q_dimacs.specs.Scanning.{Scan}
-use Rattle.q_dimacs.proofs.Feeding.{feeds-stopped}
+use Rattle.q_dimacs.proofs.FedBytes.{feeds-stopped}
 use Rattle.q_dimacs.proofs.reader.Reader.feed_bytes.Goals as goal
 
 pub returns-in-Stopped-clause-fed : goal.returns-in-Stopped-clause-fed

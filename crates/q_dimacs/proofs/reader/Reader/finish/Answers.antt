@@ -1,4 +1,4 @@
-use Rattle.q_dimacs.proofs.Cutting.{finish-reads, finish-refuses}
+use Rattle.q_dimacs.proofs.PieceReads.{finish-reads, finish-refuses}
 use Rattle.q_dimacs.proofs.reader.Reader.finish.Goals as goal
 
 pub returns-clause-formula : goal.returns-clause-formula

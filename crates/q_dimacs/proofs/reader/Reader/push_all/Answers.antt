@@ -1,5 +1,5 @@
 use Rattle.std.proofs.lemmas.Result.{err_from_is_err_and}
-use Rattle.q_dimacs.proofs.Feeding.{piece-err, piece-ok}
+use Rattle.q_dimacs.proofs.FedBytes.{piece-err, piece-ok}
 use Rattle.q_dimacs.proofs.reader.Reader.push_all.Goals as goal
 
 pub returns-in_err-at : goal.returns-in_err-at

@@ -2,7 +2,7 @@ use Rattle.std.proofs.Common.{Some, ◌+◌}
 use Rattle.std.proofs.lemmas.Result.{err_from_is_err_and}
 use Rattle.q_text.specs.Pieces.{literal_token}
 use Rattle.q_text.specs.Tokens.{line_of}
-use Rattle.q_dimacs.proofs.Feeding.{takes-ok, takes-err, roomy, ahead-goes}
+use Rattle.q_dimacs.proofs.FedBytes.{takes-ok, takes-err, roomy, ahead-goes}
 use Rattle.q_dimacs.proofs.reader.Reader.push_literal.Goals as goal
 
 pub returns-in_err-take_literal : goal.returns-in_err-take_literal

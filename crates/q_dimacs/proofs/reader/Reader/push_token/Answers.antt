@@ -1,7 +1,7 @@
 use Rattle.std.proofs.lemmas.Result.{err_from_is_err_and}
 use Rattle.std.proofs.Common.{refl, Some, None, ◌∙◌, ap}
 use Rattle.q_dimacs.specs.Scanning.{Scan}
-use Rattle.q_dimacs.proofs.Feeding.{takes-ok, takes-err, roomy}
+use Rattle.q_dimacs.proofs.FedBytes.{takes-ok, takes-err, roomy}
 use Rattle.q_dimacs.proofs.reader.Reader.push_token.Goals as goal
 
 pub returns-in_err-take-in-Some : goal.returns-in_err-take-in-Some

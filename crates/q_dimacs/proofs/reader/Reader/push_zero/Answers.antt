@@ -1,7 +1,7 @@
 use Rattle.std.proofs.Common.{Some}
 use Rattle.std.proofs.lemmas.Result.{err_from_is_err_and}
 use Rattle.q_text.specs.Pieces.{zero_token}
-use Rattle.q_dimacs.proofs.Feeding.{takes-ok, takes-err, roomy, zero-goes}
+use Rattle.q_dimacs.proofs.FedBytes.{takes-ok, takes-err, roomy, zero-goes}
 use Rattle.q_dimacs.proofs.reader.Reader.push_zero.Goals as goal
 
 pub returns-in_err-take_zero : goal.returns-in_err-take_zero

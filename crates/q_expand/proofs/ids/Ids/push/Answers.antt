@@ -1,5 +1,5 @@
 use Rattle.std.proofs.Common.{◌<◌, length, arith}
-use Rattle.q_expand.proofs.Noting.{noted-along, noted-pushed}
+use Rattle.q_expand.proofs.ClauseMarks.{noted-along, noted-pushed}
 use Rattle.q_expand.proofs.ids.Ids.push.Goals as goal
 
 pub invariant_of-self-2 : goal.invariant_of-self-2

@@ -2,7 +2,7 @@ use Rattle.std.proofs.Common.{List, Option, [], ◌∷◌, ◌++◌, map, append
 use Rattle.q_judge.specs.Ledgers.{formula_in}
 use Rattle.q_herbrand.specs.declared.reversal.Reversal.{Reversal as Entry}
 use Rattle.q_herbrand.specs.Entries.{entry_of, entries_of}
-use Rattle.q_herbrand.proofs.Noting.{map_last, noted-by}
+use Rattle.q_herbrand.proofs.RunReversals.{map_last, noted-by}
 use Rattle.q_herbrand.proofs.trail.Trail.note.Goals as goal
 
 pub returns-in-Some-clause-noted : goal.returns-in-Some-clause-noted

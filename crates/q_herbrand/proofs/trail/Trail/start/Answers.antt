@@ -1,10 +1,9 @@
 use Rattle.std.proofs.Common.{◌≡◌, refl, sym, ap, subst, map}
-use Rattle.q_logic.specs.Formulas.{PrenexFormula}
-use Rattle.q_logic.specs.Runs.{copies, AreAlike}
+use Rattle.q_logic.specs.Prelude.{PrenexFormula, copies, AreAlike}
 use Rattle.q_judge.specs.Ledgers.{Slotted, slotted, formula_in}
-use Rattle.q_judge.proofs.Beginning.{filled-numbered}
+use Rattle.q_judge.proofs.StartFormula.{filled-numbered}
 use Rattle.q_herbrand.specs.Entries.{entry_of}
-use Rattle.q_herbrand.proofs.Noting.{noted-begun}
+use Rattle.q_herbrand.proofs.RunReversals.{noted-begun}
 use Rattle.q_herbrand.proofs.trail.Trail.start.Goals as goal
 
 begun-alike : (F : PrenexFormula) (L : Slotted) → L ≡ slotted F → AreAlike F (formula_in L)

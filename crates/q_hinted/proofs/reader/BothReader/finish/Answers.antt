@@ -3,7 +3,7 @@ use Rattle.std.proofs.lemmas.Grind.{common_steps}
 use Rattle.q_hinted.specs.Builders.{place_of}
 use Rattle.q_hinted.specs.Filled.{Gives}
 use Rattle.q_hinted.specs.Grammar.{place_move, is_open_at}
-use Rattle.q_hinted.proofs.Shut.{open-end, open-stops}
+use Rattle.q_hinted.proofs.OpenEnds.{open-end, open-stops}
 use Rattle.q_hinted.proofs.reader.BothReader.finish.Goals as goal
 use Rattle.q_hinted.proofs.reader.BothReader.finish.Goals.{in-Some-finish+in_ok-entry-in-Some-finish, in-None}
 

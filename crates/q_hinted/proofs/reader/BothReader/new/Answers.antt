@@ -1,7 +1,7 @@
 use Rattle.std.proofs.Common.{refl, None}
 use Rattle.q_hinted.specs.Builders.{place_of}
 use Rattle.q_hinted.specs.Reading.{BothState}
-use Rattle.q_hinted.proofs.Reading.{start-reads}
+use Rattle.q_hinted.proofs.HintedBytes.{start-reads}
 use Rattle.q_hinted.proofs.reader.BothReader.new.Goals as goal
 
 pub returns-clause-log : goal.returns-clause-log

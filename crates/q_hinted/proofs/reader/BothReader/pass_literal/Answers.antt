@@ -2,7 +2,7 @@ use Rattle.std.proofs.Common.{◌+◌}
 use Rattle.q_text.specs.Pieces.{literal_token}
 use Rattle.q_hinted.specs.Builders.{place_of}
 use Rattle.q_hinted.specs.Reading.{BothState}
-use Rattle.q_hinted.proofs.Passing.{state_of, literal-goes, reads-on, stops-at}
+use Rattle.q_hinted.proofs.HintedPieces.{state_of, literal-goes, reads-on, stops-at}
 use Rattle.q_hinted.proofs.reader.BothReader.pass_literal.Goals as goal
 
 pub returns-in-Ok-clause-brings : goal.returns-in-Ok-clause-brings

@@ -1,7 +1,7 @@
 use Rattle.std.proofs.Common.{Some, None, refl}
 use Rattle.q_hinted.specs.Builders.{place_of}
 use Rattle.q_hinted.specs.Reading.{BothState}
-use Rattle.q_hinted.proofs.Passing.{state_of, reads-token, reads-on, stops-at}
+use Rattle.q_hinted.proofs.HintedPieces.{state_of, reads-token, reads-on, stops-at}
 use Rattle.q_hinted.proofs.reader.BothReader.pass_token.Goals as goal
 
 pub returns-in_default-clause-brings : goal.returns-in_default-clause-brings

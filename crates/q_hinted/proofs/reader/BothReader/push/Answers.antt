@@ -1,8 +1,8 @@
 use Rattle.std.proofs.Common.{◌-◌, Ok, arith}
 use Rattle.std.proofs.lemmas.Grind.{common_steps}
 use Rattle.q_hinted.specs.Builders.{place_of}
-use Rattle.q_hinted.specs.Reading.{BothState, Answers, turn}
-use Rattle.q_hinted.proofs.Reading.{next-leads}
+use Rattle.q_hinted.specs.Reading.{BothState, Answers, transition}
+use Rattle.q_hinted.proofs.HintedBytes.{next-leads}
 use Rattle.q_hinted.proofs.reader.BothReader.push.Goals as goal
 
 pub returns-in-Ok-clause-next : goal.returns-in-Ok-clause-next
@@ -13,5 +13,5 @@ returns-in-Ok-clause-next c rest =
       place = place_of c.take.new.self;
       refused = c.self.inside.refused;
     } in
-    let h : Answers (Ok c.in-Ok.entry) new (turn c.args.self.now c.args.byte) = grind (arith, common_steps) in
+    let h : Answers (Ok c.in-Ok.entry) new (transition c.args.self.now c.args.byte) = grind (arith, common_steps) in
     next-leads (Ok c.in-Ok.entry) new c.args.self.now c.args.byte rest h

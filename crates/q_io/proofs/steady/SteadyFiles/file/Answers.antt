@@ -1,6 +1,6 @@
 use Rattle.std.proofs.Common.{sym, ap, ◌∙◌, option_map, Some}
 use Rattle.std.specs.FinMap as map
-use Rattle.q_io.proofs.Held.{get-disk_of}
+use Rattle.q_io.proofs.MemoryStore.{get-disk_of}
 use Rattle.q_io.proofs.steady.SteadyFiles.file.Goals as goal
 
 pub returns-in-Some : goal.returns-in-Some

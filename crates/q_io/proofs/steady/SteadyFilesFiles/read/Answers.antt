@@ -1,6 +1,6 @@
 use Rattle.std.proofs.Common.{sym, ap, ◌∙◌, option_map, ℕ, Ok, Some}
 use Rattle.std.specs.FinMap as map
-use Rattle.q_io.proofs.Held.{get-disk_of, count_held, count_missing, read_held, read_missing}
+use Rattle.q_io.proofs.MemoryStore.{get-disk_of, count_held, count_missing, read_held, read_missing}
 use Rattle.q_io.proofs.steady.SteadyFilesFiles.read.Goals as goal
 
 pub returns-in_default-clause-count : goal.returns-in_default-clause-count

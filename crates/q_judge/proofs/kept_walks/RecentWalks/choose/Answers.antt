@@ -1,7 +1,7 @@
 use Rattle.std.proofs.Common.{◌≡◌, ◌∷◌, [], List, sym, subst, inl, inr}
-use Rattle.q_logic.proofs.ClauseLemmas.{IsIn-append}
+use Rattle.q_logic.proofs.Common.{IsIn-append}
 use Rattle.q_judge.specs.Walks.{WalkMap, AreEnclosed}
-use Rattle.q_judge.proofs.Enclosing.{enclosed-none}
+use Rattle.q_judge.proofs.KeptWalks.{enclosed-none}
 use Rattle.q_judge.proofs.kept_walks.RecentWalks.choose.Goals as goal
 use Rattle.q_judge.proofs.kept_walks.RecentWalks.choose.Goals.{then-len-lt-MOST+in_ok-push, else-len-lt-MOST}
 

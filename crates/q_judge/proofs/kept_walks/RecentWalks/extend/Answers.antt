@@ -1,9 +1,9 @@
 use Rattle.std.proofs.Common.{◌∙◌, ◌<◌, List, Some, sym, ap, subst, length}
 use Rattle.q_prop.specs.Slots.{filled}
 use Rattle.q_prop.proofs.SlotLemmas.{slice_get-at, Contains-slice_get}
-use Rattle.q_logic.proofs.Membership.{Contains-IsIn}
+use Rattle.q_logic.proofs.Common.{Contains-IsIn}
 use Rattle.q_judge.specs.Walks.{WalkMap, IsEnclosed, AreEnclosed}
-use Rattle.q_judge.proofs.Apart.{regions-set}
+use Rattle.q_judge.proofs.RegionSeparation.{regions-set}
 use Rattle.q_judge.proofs.kept_walks.RecentWalks.extend.Goals as goal
 
 pub extend-requires-clause-walk : goal.extend-requires-clause-walk

@@ -2,7 +2,7 @@ use Rattle.std.proofs.Common.{◌≡◌, ◌∙◌, ◌∷◌, ◌<◌, List, So
 use Rattle.std.proofs.lemmas.List.{length-set}
 use Rattle.q_prop.proofs.SlotLemmas.{slice_get-at, same_slice_get}
 use Rattle.q_judge.specs.Walks.{WalkMap, IsEnclosed, AreEnclosed}
-use Rattle.q_judge.proofs.Apart.{half-begun, half-more, half-ended}
+use Rattle.q_judge.proofs.RegionSeparation.{half-begun, half-more, half-ended}
 use Rattle.q_judge.proofs.kept_walks.RecentWalks.take.Goals as goal
 
 pub loop-at-init : goal.loop-at-init

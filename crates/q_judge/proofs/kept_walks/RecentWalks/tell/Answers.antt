@@ -1,6 +1,6 @@
 use Rattle.std.proofs.Common.{List, sym, subst}
-use Rattle.q_logic.specs.Formulas.{IsIn}
-use Rattle.q_logic.proofs.Members.{item-in}
+use Rattle.q_logic.specs.Prelude.{IsIn}
+use Rattle.q_logic.proofs.Common.{item-in}
 use Rattle.q_judge.specs.Walks.{WalkMap, AreEnclosed}
 use Rattle.q_judge.proofs.kept_walks.RecentWalks.tell.Goals as goal
 

@@ -1,8 +1,8 @@
 use Rattle.std.proofs.Common.{sym, subst}
-use Rattle.q_logic.specs.Literals.{Literal}
+use Rattle.q_logic.specs.Prelude.{Literal}
 use Rattle.q_prop.specs.Slots.{filled}
 use Rattle.q_judge.specs.Walks.{WalkMap, IsShut}
-use Rattle.q_judge.proofs.Enclosing.{enclosed-shut, inside-reducible}
+use Rattle.q_judge.proofs.KeptWalks.{enclosed-shut, inside-reducible}
 use Rattle.q_judge.proofs.kept_walks.Walk.extend.Goals as goal
 
 pub go_on-requires-clause-shut : goal.go_on-requires-clause-shut

@@ -1,5 +1,5 @@
 use Rattle.q_judge.specs.Walks.{WalkMap}
-use Rattle.q_judge.proofs.Enclosing.{enclosed-more}
+use Rattle.q_judge.proofs.KeptWalks.{enclosed-more}
 use Rattle.q_judge.proofs.kept_walks.Walk.take.Goals as goal
 
 pub returns-else-not-bears : goal.returns-else-not-bears

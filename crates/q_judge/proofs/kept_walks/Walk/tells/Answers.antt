@@ -1,5 +1,5 @@
 use Rattle.q_judge.specs.Walks.{WalkMap}
-use Rattle.q_judge.proofs.Enclosing.{enclosed-shut, inside-reducible}
+use Rattle.q_judge.proofs.KeptWalks.{enclosed-shut, inside-reducible}
 use Rattle.q_judge.proofs.kept_walks.Walk.tells.Goals as goal
 
 pub has_inner-requires-clause-bound : goal.has_inner-requires-clause-bound

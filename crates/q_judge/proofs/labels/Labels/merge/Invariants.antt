@@ -1,6 +1,5 @@
 use Rattle.std.proofs.Common.{◌≡◌, take}
-use Rattle.q_logic.specs.Literals.{Literal}
-use Rattle.q_logic.specs.Formulas.{IsIn}
+use Rattle.q_logic.specs.Prelude.{Literal, IsIn}
 use Rattle.q_judge.specs.Regions.{region_of, IsCoarser}
 use Rattle.q_judge.proofs.labels.Labels.merge.Given as goal
 

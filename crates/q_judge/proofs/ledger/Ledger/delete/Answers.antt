@@ -1,8 +1,8 @@
 use Rattle.std.proofs.Common.{arith}
-use Rattle.q_judge.proofs.Apart.{all-left}
-use Rattle.q_judge.proofs.Enclosing.{walks-left}
-use Rattle.q_judge.proofs.Keeping.{counted-left}
-use Rattle.q_judge.proofs.Slots.{left-sizes}
+use Rattle.q_judge.proofs.RegionSeparation.{all-left}
+use Rattle.q_judge.proofs.KeptWalks.{walks-left}
+use Rattle.q_judge.proofs.SlotFormula.{counted-left}
+use Rattle.q_judge.proofs.SlotCollections.{left-sizes}
 use Rattle.q_judge.proofs.ledger.Ledger.delete.Goals as goal
 
 pub overflow_sub-self : goal.overflow_sub-self

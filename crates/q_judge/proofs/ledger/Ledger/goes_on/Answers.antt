@@ -1,7 +1,7 @@
 use Rattle.std.proofs.Common.{Some}
-use Rattle.q_logic.proofs.Alike.{reducible-within}
+use Rattle.q_logic.proofs.Common.{reducible-within}
 use Rattle.q_prop.specs.Slots.{filled, without}
-use Rattle.q_judge.proofs.Slots.{left-in}
+use Rattle.q_judge.proofs.SlotCollections.{left-in}
 use Rattle.q_judge.proofs.ledger.Ledger.goes_on.Goals as goal
 
 pub returns-clause-told : goal.returns-clause-told

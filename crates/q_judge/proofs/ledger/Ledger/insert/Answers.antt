@@ -1,7 +1,7 @@
 use Rattle.q_prop.specs.Slots.{filled}
-use Rattle.q_judge.proofs.Apart.{all-inserted}
-use Rattle.q_judge.proofs.Enclosing.{walks-inserted}
-use Rattle.q_judge.proofs.Keeping.{counted-inserted}
+use Rattle.q_judge.proofs.RegionSeparation.{all-inserted}
+use Rattle.q_judge.proofs.KeptWalks.{walks-inserted}
+use Rattle.q_judge.proofs.SlotFormula.{counted-inserted}
 use Rattle.q_judge.proofs.ledger.Ledger.insert.Goals as goal
 
 pub invariant_of-self-2 : goal.invariant_of-self-2

@@ -1,9 +1,5 @@
 use Rattle.std.proofs.Common.{◌∙◌, Some, refl, sym, inl, inr, true≢false}
-use Rattle.q_logic.specs.Literals.{Literal, negation}
-use Rattle.q_logic.specs.Formulas.{Clause, Matrix, Prefix}
-use Rattle.q_logic.specs.Pivots.{without}
-use Rattle.q_logic.specs.Reach.{Reducible}
-use Rattle.q_logic.specs.Steps.{IsDroppable}
+use Rattle.q_logic.specs.Prelude.{Literal, negation, Clause, Matrix, Prefix, without, Reducible, IsDroppable}
 use Rattle.q_prop.specs.Slots.{filled}
 use Rattle.q_prop.specs.Slots.{without as without_slot}
 use Rattle.q_judge.specs.Warrants.{Resolves}

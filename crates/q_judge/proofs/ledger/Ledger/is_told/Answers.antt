@@ -1,7 +1,7 @@
 use Rattle.std.proofs.Common.{Some}
 use Rattle.q_prop.specs.Slots.{filled, without}
-use Rattle.q_judge.proofs.Slots.{left-in}
-use Rattle.q_judge.proofs.Enclosing.{walks-fewer}
+use Rattle.q_judge.proofs.SlotCollections.{left-in}
+use Rattle.q_judge.proofs.KeptWalks.{walks-fewer}
 use Rattle.q_judge.proofs.ledger.Ledger.is_told.Goals as goal
 
 pub returns : goal.returns

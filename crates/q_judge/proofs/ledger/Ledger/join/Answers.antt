@@ -1,4 +1,4 @@
-use Rattle.q_judge.proofs.Slots.{held-in}
+use Rattle.q_judge.proofs.SlotCollections.{held-in}
 use Rattle.q_judge.proofs.ledger.Ledger.join.Goals as goal
 
 pub push_outer-requires-clause-within : goal.push_outer-requires-clause-within

@@ -1,8 +1,5 @@
 use Rattle.std.proofs.Common.{◌≡◌, Bool, true, false, not, refl, inl, inr}
-use Rattle.q_logic.specs.Literals.{Literal, negation}
-use Rattle.q_logic.specs.Formulas.{Clause, Matrix, Prefix, IsIn}
-use Rattle.q_logic.specs.Reach.{Reached}
-use Rattle.q_logic.specs.Steps.{IsDroppable}
+use Rattle.q_logic.specs.Prelude.{Literal, negation, Clause, Matrix, Prefix, IsIn, Reached, IsDroppable}
 use Rattle.q_judge.proofs.ledger.Ledger.may_go.Goals as goal
 
 negated : (P : Prefix) (X : Matrix) (C : Clause) (l : Literal) → IsIn (negation l) C → IsDroppable P X C l → ⊥

@@ -1,7 +1,7 @@
 use Rattle.std.proofs.Common.{◌∷◌, inr}
-use Rattle.q_judge.proofs.Apart.{all-put, all-rest}
-use Rattle.q_judge.proofs.Enclosing.{walks-put, walks-fewer}
-use Rattle.q_judge.proofs.Keeping.{counted-put}
+use Rattle.q_judge.proofs.RegionSeparation.{all-put, all-rest}
+use Rattle.q_judge.proofs.KeptWalks.{walks-put, walks-fewer}
+use Rattle.q_judge.proofs.SlotFormula.{counted-put}
 use Rattle.q_prop.specs.Slots.{filled}
 use Rattle.q_judge.proofs.ledger.Ledger.put.Goals as goal
 

@@ -1,7 +1,7 @@
 use Rattle.q_prop.specs.Slots.{filled}
-use Rattle.q_judge.proofs.Apart.{all-removed}
-use Rattle.q_judge.proofs.Enclosing.{walks-removed}
-use Rattle.q_judge.proofs.Keeping.{counted-removed}
+use Rattle.q_judge.proofs.RegionSeparation.{all-removed}
+use Rattle.q_judge.proofs.KeptWalks.{walks-removed}
+use Rattle.q_judge.proofs.SlotFormula.{counted-removed}
 use Rattle.q_judge.proofs.ledger.Ledger.remove.Goals as goal
 
 pub invariant_of-self : goal.invariant_of-self

@@ -1,15 +1,13 @@
 use Rattle.std.proofs.Common.{◌∷◌, Some, arith, inr, subst}
-use Rattle.q_logic.specs.Formulas.{Clause, IsIn}
-use Rattle.q_logic.proofs.UniversalPivot.{without-IsIn}
+use Rattle.q_logic.specs.Prelude.{Clause, IsIn, without}
+use Rattle.q_logic.proofs.Common.{without-IsIn, without-shorter}
 use Rattle.q_prop.specs.Slots.{filled}
-use Rattle.q_judge.proofs.Enclosing.{walks-shrunk, walks-fewer}
-use Rattle.q_logic.specs.Pivots.{without}
-use Rattle.q_logic.proofs.Sets.{without-shorter}
+use Rattle.q_judge.proofs.KeptWalks.{walks-shrunk, walks-fewer}
 use Rattle.q_prop.proofs.SlotLemmas.{slice_get-in}
-use Rattle.q_judge.proofs.Apart.{all-shrunk}
-use Rattle.q_judge.proofs.Keeping.{counted-shrunk, ordered-without}
-use Rattle.q_judge.proofs.Slots.{left-sizes, held-in}
-use Rattle.q_judge.proofs.Trying.{put-holds}
+use Rattle.q_judge.proofs.RegionSeparation.{all-shrunk}
+use Rattle.q_judge.proofs.SlotFormula.{counted-shrunk, ordered-without}
+use Rattle.q_judge.proofs.SlotCollections.{left-sizes, held-in}
+use Rattle.q_judge.proofs.TriedSteps.{put-holds}
 use Rattle.q_judge.proofs.ledger.Ledger.shorten.Goals as goal
 
 pub add-requires : goal.add-requires

@@ -1,5 +1,5 @@
 use Rattle.std.proofs.Common.{◌≤◌, arith, length}
-use Rattle.q_judge.proofs.Beginning.{numbered-more, literals-more, counted-start}
+use Rattle.q_judge.proofs.StartFormula.{numbered-more, literals-more, counted-start}
 use Rattle.q_judge.proofs.ledger.Ledger.start.Goals as goal
 
 pub loop-at-preserved : goal.loop-at-preserved

@@ -1,6 +1,5 @@
 use Rattle.std.proofs.Common.{◌≡◌, take}
-use Rattle.q_logic.specs.Numbered.{numbered}
-use Rattle.q_logic.specs.Steps.{literals_in}
+use Rattle.q_logic.specs.Prelude.{numbered, literals_in}
 use Rattle.q_judge.proofs.ledger.Ledger.start.Given as goal
 
 abbrev pub invariant-loop-at : goal.invariant-loop-at

@@ -2,7 +2,7 @@ use Rattle.std.proofs.Common.{◌∙◌, ◌<◌, length, List, Some, sym, ap, s
 use Rattle.std.proofs.lemmas.List.{length-set}
 use Rattle.q_prop.proofs.SlotLemmas.{slice_get-at}
 use Rattle.q_judge.specs.Regions.{RegionMap, AreRegions, AreRegionsOf}
-use Rattle.q_judge.proofs.Apart.{regions-set, regions-relabelled}
+use Rattle.q_judge.proofs.RegionSeparation.{regions-set, regions-relabelled}
 use Rattle.q_judge.proofs.recent.RecentRegions.inherit.Goals as goal
 
 pub loop-at-init : goal.loop-at-init

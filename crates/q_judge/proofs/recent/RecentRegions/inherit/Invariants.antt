@@ -1,6 +1,5 @@
 use Rattle.std.proofs.Common.{◌≡◌, false, length}
-use Rattle.q_logic.specs.Formulas.{Matrix, Prefix}
-use Rattle.q_logic.specs.Prefixes.{Closed, is_bound}
+use Rattle.q_logic.specs.Prelude.{Matrix, Prefix, Closed, is_bound}
 use Rattle.q_judge.specs.Regions.{AreRegionsOf}
 use Rattle.q_judge.proofs.recent.RecentRegions.inherit.Given as goal
 

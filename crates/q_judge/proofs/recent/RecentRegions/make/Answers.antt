@@ -1,7 +1,7 @@
 use Rattle.std.proofs.Common.{List, [], ◌∷◌, sym, subst, inl, inr}
 use Rattle.std.specs.List.{remove}
-use Rattle.q_logic.specs.Formulas.{IsIn}
-use Rattle.q_logic.proofs.ClauseLemmas.{IsIn-append}
+use Rattle.q_logic.specs.Prelude.{IsIn}
+use Rattle.q_logic.proofs.Common.{IsIn-append}
 use Rattle.q_prop.specs.Slots.{filled}
 use Rattle.q_judge.specs.Regions.{RegionMap, AreRegions, AreRegionsOf}
 use Rattle.q_judge.proofs.recent.RecentRegions.make.Goals as goal

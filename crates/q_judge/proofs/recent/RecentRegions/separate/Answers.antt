@@ -1,7 +1,7 @@
 use Rattle.std.proofs.Common.{List, subst}
-use Rattle.q_logic.specs.Formulas.{IsIn}
+use Rattle.q_logic.specs.Prelude.{IsIn}
 use Rattle.q_judge.specs.Regions.{RegionMap}
-use Rattle.q_logic.proofs.Members.{item-in}
+use Rattle.q_logic.proofs.Common.{item-in}
 use Rattle.q_judge.proofs.recent.RecentRegions.separate.Goals as goal
 
 pub separate-requires-clause-regions : goal.separate-requires-clause-regions

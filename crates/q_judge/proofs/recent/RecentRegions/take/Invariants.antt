@@ -1,7 +1,7 @@
 use Rattle.std.proofs.Common.{◌≡◌, ◌∷◌, length}
-use Rattle.q_logic.specs.Formulas.{Matrix}
+use Rattle.q_logic.specs.Prelude.{Matrix}
 use Rattle.q_judge.specs.Regions.{AreRegions, AreRegionsOf}
-use Rattle.q_judge.proofs.Apart.{AreHalf}
+use Rattle.q_judge.proofs.RegionSeparation.{AreHalf}
 use Rattle.q_judge.proofs.recent.RecentRegions.take.Given as goal
 
 abbrev pub invariant-loop-at : goal.invariant-loop-at

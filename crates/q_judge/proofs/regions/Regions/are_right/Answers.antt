@@ -1,10 +1,10 @@
 use Rattle.std.proofs.Common.{ℕ, Some, subst, inl, inr, arith}
-use Rattle.q_logic.specs.Formulas.{Clause}
+use Rattle.q_logic.specs.Prelude.{Clause}
 use Rattle.q_prop.specs.Slots.{Holds}
 use Rattle.q_prop.proofs.SlotLemmas.{slice_get-in}
 use Rattle.q_judge.specs.Regions.{IsRegional}
-use Rattle.q_judge.proofs.Slots.{in-held, one_clause}
-use Rattle.q_judge.proofs.Walks.{earlier}
+use Rattle.q_judge.proofs.SlotCollections.{in-held, one_clause}
+use Rattle.q_judge.proofs.ReachWalks.{earlier}
 use Rattle.q_judge.proofs.regions.Regions.are_right.Goals as goal
 use Rattle.q_judge.proofs.regions.Regions.are_right.Goals.{in-Some+else-not-fit, in_default}
 

@@ -1,5 +1,5 @@
 use Rattle.std.proofs.Common.{◌<◌, ℕ}
-use Rattle.q_logic.specs.Formulas.{Clause}
+use Rattle.q_logic.specs.Prelude.{Clause}
 use Rattle.q_prop.specs.Slots.{Holds}
 use Rattle.q_judge.specs.Regions.{IsRegional}
 use Rattle.q_judge.proofs.regions.Regions.are_right.Given as goal

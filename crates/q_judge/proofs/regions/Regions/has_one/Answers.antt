@@ -1,9 +1,7 @@
 use Rattle.std.proofs.Common.{◌∙◌, sym, ap, subst, inl, inr, true≢false}
-use Rattle.q_logic.specs.Literals.{Literal}
-use Rattle.q_logic.specs.Formulas.{IsIn}
-use Rattle.q_logic.specs.Expanding.{inner_existential}
+use Rattle.q_logic.specs.Prelude.{Literal, IsIn, inner_existential}
 use Rattle.q_judge.specs.Regions.{region_of}
-use Rattle.q_logic.proofs.Members.{taken-cases, taken-all}
+use Rattle.q_logic.proofs.Common.{taken-cases, taken-all}
 use Rattle.q_judge.proofs.regions.Regions.has_one.Goals as goal
 use Rattle.q_judge.proofs.regions.Regions.has_one.Goals.{else-is_inner-via-then-is_inner+else-region_of-region, else-is_inner-via-else-is_inner}
 

@@ -1,7 +1,5 @@
 use Rattle.std.proofs.Common.{◌≡◌, true, take}
-use Rattle.q_logic.specs.Literals.{Literal}
-use Rattle.q_logic.specs.Formulas.{IsIn}
-use Rattle.q_logic.specs.Expanding.{inner_existential}
+use Rattle.q_logic.specs.Prelude.{Literal, IsIn, inner_existential}
 use Rattle.q_judge.specs.Regions.{region_of}
 use Rattle.q_judge.proofs.regions.Regions.has_one.Given as goal
 

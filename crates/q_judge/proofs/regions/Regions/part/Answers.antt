@@ -1,10 +1,8 @@
 use Rattle.std.proofs.Common.{◌≡◌, ℕ, true, get_or, sym, subst, inl, inr}
-use Rattle.q_logic.specs.Formulas.{Clause, IsIn}
-use Rattle.q_logic.specs.Expanding.{inner_existential}
-use Rattle.q_logic.proofs.Membership.{Contains-IsIn}
+use Rattle.q_logic.specs.Prelude.{Clause, IsIn, inner_existential}
+use Rattle.q_logic.proofs.Common.{Contains-IsIn, taken-cases, taken-all}
 use Rattle.q_prop.specs.Slots.{Holds}
-use Rattle.q_logic.proofs.Members.{taken-cases, taken-all}
-use Rattle.q_judge.proofs.Slots.{in-held, one_clause, whichever}
+use Rattle.q_judge.proofs.SlotCollections.{in-held, one_clause, whichever}
 use Rattle.q_judge.proofs.regions.Regions.part.Goals as goal
 use Rattle.q_judge.proofs.regions.Regions.part.Goals.{in-Some+else-not-has_none, in_default}
 

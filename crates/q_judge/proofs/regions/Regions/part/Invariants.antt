@@ -1,7 +1,5 @@
 use Rattle.std.proofs.Common.{◌≡◌, ℕ, true, take}
-use Rattle.q_logic.specs.Literals.{Literal}
-use Rattle.q_logic.specs.Formulas.{Clause, IsIn}
-use Rattle.q_logic.specs.Expanding.{inner_existential}
+use Rattle.q_logic.specs.Prelude.{Literal, Clause, IsIn, inner_existential}
 use Rattle.q_prop.specs.Slots.{Holds}
 use Rattle.q_judge.specs.Regions.{region_of}
 use Rattle.q_judge.proofs.regions.Regions.part.Given as goal

@@ -1,8 +1,8 @@
 use Rattle.std.proofs.Common.{◌≡◌, ◌∙◌, true, sym}
-use Rattle.q_logic.specs.Prefixes.{is_universal, outer_or_same}
-use Rattle.q_logic.proofs.ExpandClosure.{bound_of_u}
+use Rattle.q_logic.specs.Prelude.{is_universal, outer_or_same}
+use Rattle.q_logic.proofs.Common.{bound_of_u}
 use Rattle.q_judge.specs.Regions.{RegionMap}
-use Rattle.q_judge.proofs.Apart.{regions-nested}
+use Rattle.q_judge.proofs.RegionSeparation.{regions-nested}
 use Rattle.q_judge.proofs.regions.Regions.pass_on.Goals as goal
 
 pub serve-requires : goal.serve-requires

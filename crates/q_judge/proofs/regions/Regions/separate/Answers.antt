@@ -1,6 +1,6 @@
 use Rattle.q_prop.specs.Slots.{filled}
-use Rattle.q_logic.proofs.ExpandClosure.{bound_of_u}
-use Rattle.q_judge.proofs.Apart.{reducible-apart}
+use Rattle.q_logic.proofs.Common.{bound_of_u}
+use Rattle.q_judge.proofs.RegionSeparation.{reducible-apart}
 use Rattle.q_judge.proofs.regions.Regions.separate.Goals as goal
 
 pub serve-requires : goal.serve-requires

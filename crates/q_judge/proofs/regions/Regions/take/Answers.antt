@@ -1,5 +1,5 @@
 use Rattle.std.proofs.Common.{◌∙◌, sym}
-use Rattle.q_logic.proofs.ExpandClosure.{bound_of_u}
+use Rattle.q_logic.proofs.Common.{bound_of_u}
 use Rattle.q_judge.proofs.regions.Regions.take.Goals as goal
 
 pub fit-requires : goal.fit-requires

@@ -7,8 +7,8 @@ fewer n i h = omega arith
 
 pub loop-preserved : goal.loop-preserved
 loop-preserved c =
-    let seats = c.self.inside.seats.items in
-    let l : c.loop.counter < length seats = omega (arith, c.loop-test.true, c.len-end.ensures.value) in
-    let e = fewer (length seats) c.loop.counter l in
-    let p = c.in_ok-at.ensures (length seats - (c.loop.counter + 1)) in
-    p ∙ ap (λ (n : ℕ). c.loop.bounds.items ++ bounds_from seats c.loop.at n) (sym e) ∙ c.loop.invariant
+    let bindings = c.self.inside.bindings.items in
+    let l : c.loop.counter < length bindings = omega (arith, c.loop-test.true, c.len-end.ensures.value) in
+    let e = fewer (length bindings) c.loop.counter l in
+    let p = c.in_ok-at.ensures (length bindings - (c.loop.counter + 1)) in
+    p ∙ ap (λ (n : ℕ). c.loop.bounds.items ++ bounds_from bindings c.loop.at n) (sym e) ∙ c.loop.invariant

@@ -1,5 +1,5 @@
 use Rattle.std.proofs.Common.{◌∙◌, sym}
-use Rattle.q_logic.proofs.Order.{existential-is_bound}
+use Rattle.q_logic.proofs.Common.{existential-is_bound}
 use Rattle.q_judge.proofs.scope.Scope.is_inner.Goals as goal
 
 pub outer_or_same-requires-clause-first : goal.outer_or_same-requires-clause-first

@@ -1,17 +1,17 @@
 use Rattle.std.proofs.Common.{◌∙◌, ap, sym, not}
 use Rattle.std.proofs.Common.{length}
 use Rattle.q_judge.specs.Scopes.{bounds_from}
-use Rattle.q_judge.proofs.Readings.{seat-universal, no_seat-universal}
+use Rattle.q_judge.proofs.PrefixFacts.{binding-universal, no_binding-universal}
 use Rattle.q_judge.proofs.scope.Scope.is_universal.Goals as goal
 
 pub returns-in-Some : goal.returns-in-Some
 returns-in-Some c =
     let i = c.self.inside in
-    let e = sym c.seat_of.ensures ∙ c.in-Some.is in
-    rw (← c.self.view_is) (ap not c.is_exists.ensures ∙ sym (seat-universal (bounds_from i.seats.items i.first (length i.seats.items)) i.first i.seats.items i.counts.items c.self.invariant c.args.var c.in-Some.seat e))
+    let e = sym c.binding_of.ensures ∙ c.in-Some.is in
+    rw (← c.self.view_is) (ap not c.is_exists.ensures ∙ sym (binding-universal (bounds_from i.bindings.items i.first (length i.bindings.items)) i.first i.bindings.items i.counts.items c.self.invariant c.args.var c.in-Some.binding e))
 
 pub returns-in-None : goal.returns-in-None
 returns-in-None c =
     let i = c.self.inside in
-    let e = sym c.seat_of.ensures ∙ c.in-None.is in
-    rw (← c.self.view_is) (sym (no_seat-universal (bounds_from i.seats.items i.first (length i.seats.items)) i.first i.seats.items i.counts.items c.self.invariant c.args.var e))
+    let e = sym c.binding_of.ensures ∙ c.in-None.is in
+    rw (← c.self.view_is) (sym (no_binding-universal (bounds_from i.bindings.items i.first (length i.bindings.items)) i.first i.bindings.items i.counts.items c.self.invariant c.args.var e))

@@ -1,6 +1,6 @@
 use Rattle.std.proofs.Common.{refl, ◌∙◌}
-use Rattle.q_kernel.proofs.Slotting.{slot-get}
-use Rattle.q_kernel.proofs.Stepping.{is-added}
+use Rattle.q_kernel.proofs.SlotLists.{slot-get}
+use Rattle.q_kernel.proofs.KernelSteps.{is-added}
 use Rattle.q_kernel.proofs.kernel.Kernel.add.Goals as goal
 
 pub returns : goal.returns

@@ -1,12 +1,9 @@
 use Rattle.std.proofs.Common.{sym, ◌∙◌, arith, subst, false, [], ap, ℕ}
-use Rattle.q_logic.specs.Formulas.{Prefix}
-use Rattle.q_logic.specs.Parts.{IsProper}
-use Rattle.q_logic.specs.Numbered.{formula_of}
-use Rattle.q_logic.specs.InLimits.{greatest}
-use Rattle.q_logic.proofs.Ordering.{is_bound-greatest}
-use Rattle.q_arena.specs.Seen.{Clauses}
+use Rattle.q_logic.specs.Prelude.{Prefix, IsProper, formula_of, greatest}
+use Rattle.q_logic.proofs.Common.{is_bound-greatest}
+use Rattle.q_arena.specs.Prelude.{Clauses}
 use Rattle.q_kernel.specs.Uses.{AreUses}
-use Rattle.q_kernel.proofs.Walking.{kernel-bare}
+use Rattle.q_kernel.proofs.PrefixWalks.{kernel-bare}
 use Rattle.q_kernel.proofs.kernel.Kernel.bare.Goals as goal
 
 pub idle_uses-requires-clause-within : goal.idle_uses-requires-clause-within

@@ -1,6 +1,6 @@
 use Rattle.std.proofs.Common.{ap, arith}
-use Rattle.q_logic.specs.Numbered.{Slots, slot}
-use Rattle.q_kernel.proofs.Keeping.{kernel-moved}
+use Rattle.q_logic.specs.Prelude.{Slots, slot}
+use Rattle.q_kernel.proofs.KernelInvariant.{kernel-moved}
 use Rattle.q_kernel.proofs.kernel.Kernel.compact.Goals as goal
 
 pub invariant_of-self : goal.invariant_of-self

@@ -1,7 +1,7 @@
 use Rattle.std.proofs.Common.{ℕ, sym, ◌∙◌, arith, slice_index_or}
 use Rattle.std.proofs.lemmas.List.{length-map}
 use Rattle.q_occ.specs.Places.{places_of}
-use Rattle.q_kernel.proofs.Occurring.{counted-none, counted-some}
+use Rattle.q_kernel.proofs.PlaceLists.{counted-none, counted-some}
 use Rattle.q_kernel.proofs.kernel.Kernel.count.Goals as goal
 
 pub returns-clause-none : goal.returns-clause-none

@@ -1,7 +1,7 @@
 use Rattle.std.proofs.Common.{refl}
-use Rattle.q_logic.specs.Formulas.{Clause}
-use Rattle.q_kernel.proofs.Sizes.{slot-live, live-slot}
-use Rattle.q_kernel.proofs.Stepping.{may-delete-there, is-deleted, may-delete-first}
+use Rattle.q_logic.specs.Prelude.{Clause}
+use Rattle.q_kernel.proofs.KernelSizes.{slot-live, live-slot}
+use Rattle.q_kernel.proofs.KernelSteps.{may-delete-there, is-deleted, may-delete-first}
 use Rattle.q_kernel.proofs.kernel.Kernel.delete.Goals as goal
 
 pub lits-requires : goal.lits-requires

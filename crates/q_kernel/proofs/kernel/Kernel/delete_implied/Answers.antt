@@ -1,7 +1,7 @@
-use Rattle.q_logic.specs.StepForms.{first_of}
-use Rattle.q_kernel.proofs.Sizes.{slot-live, live-slot}
-use Rattle.q_kernel.proofs.Stepping.{may-delete-there, deleted-as}
-use Rattle.q_kernel.proofs.Costs.{first-first}
+use Rattle.q_logic.specs.Prelude.{first_of}
+use Rattle.q_kernel.proofs.KernelSizes.{slot-live, live-slot}
+use Rattle.q_kernel.proofs.KernelSteps.{may-delete-there, deleted-as}
+use Rattle.q_kernel.proofs.TextCosts.{first-first}
 use Rattle.q_kernel.proofs.kernel.Kernel.delete_implied.Goals as goal
 
 pub lits-requires : goal.lits-requires

@@ -1,6 +1,6 @@
 use Rattle.std.proofs.Common.{refl}
-use Rattle.q_kernel.proofs.Sizes.{slot-live, live-slot}
-use Rattle.q_kernel.proofs.Stepping.{may-drop-there, dropped-held, is-dropped}
+use Rattle.q_kernel.proofs.KernelSizes.{slot-live, live-slot}
+use Rattle.q_kernel.proofs.KernelSteps.{may-drop-there, dropped-held, is-dropped}
 use Rattle.q_kernel.proofs.kernel.Kernel.drop_lit.Goals as goal
 
 pub lits-requires : goal.lits-requires

@@ -1,8 +1,7 @@
 use Rattle.std.proofs.Common.{◌≡◌, arith, ap, sym, ◌∙◌, Bool, true, false, if◌then◌else◌, [], ◌∷◌}
-use Rattle.q_logic.specs.Numbered.{live}
-use Rattle.q_logic.specs.Sweep.{has_empty}
+use Rattle.q_logic.specs.Prelude.{live, has_empty}
 use Rattle.q_kernel.specs.Kernels.{slots}
-use Rattle.q_kernel.proofs.Sweeping.{counted-empty, counted-full}
+use Rattle.q_kernel.proofs.SweepSteps.{counted-empty, counted-full}
 use Rattle.q_kernel.proofs.kernel.Kernel.drop_others.Goals as goal
 
 pub first_empty-kept-requires : goal.first_empty-kept-requires

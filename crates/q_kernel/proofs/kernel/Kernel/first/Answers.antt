@@ -1,6 +1,6 @@
 use Rattle.std.proofs.Common.{sym, ◌∙◌}
-use Rattle.q_kernel.proofs.Occurring.{empty-none}
-use Rattle.q_kernel.proofs.Sweeping.{first-none}
+use Rattle.q_kernel.proofs.PlaceLists.{empty-none}
+use Rattle.q_kernel.proofs.SweepSteps.{first-none}
 use Rattle.q_occ.specs.Places.{places_of}
 use Rattle.q_kernel.proofs.kernel.Kernel.first.Goals as goal
 

@@ -1,6 +1,6 @@
 use Rattle.q_kernel.specs.Kernels.{slots}
-use Rattle.q_kernel.proofs.Turns.{live-turn, each-came, All-more}
-use Rattle.q_kernel.proofs.Reserving.{IsNotEmpty, not-empty-all, not-empty-one, not-zero}
+use Rattle.q_kernel.proofs.ForLoops.{live-turn, each-came, All-more}
+use Rattle.q_kernel.proofs.KeptView.{IsNotEmpty, not-empty-all, not-empty-one, not-zero}
 use Rattle.q_kernel.proofs.kernel.Kernel.first_empty.Goals as goal
 
 pub lits-requires : goal.lits-requires

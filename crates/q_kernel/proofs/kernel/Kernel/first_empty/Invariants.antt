@@ -1,6 +1,6 @@
 use Rattle.std.proofs.Common.{All}
 use Rattle.q_kernel.specs.Kernels.{slots}
-use Rattle.q_kernel.proofs.Reserving.{IsNotEmpty}
+use Rattle.q_kernel.proofs.KeptView.{IsNotEmpty}
 use Rattle.q_kernel.proofs.kernel.Kernel.first_empty.Given as goal
 
 abbrev pub invariant-loop-id : goal.invariant-loop-id

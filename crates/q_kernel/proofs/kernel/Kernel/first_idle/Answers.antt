@@ -1,11 +1,10 @@
 use Rattle.std.proofs.Common.{sym, ◌∙◌, ℕ}
-use Rattle.q_logic.specs.Numbered.{live}
-use Rattle.q_logic.specs.Sweep.{occurs}
+use Rattle.q_logic.specs.Prelude.{live, occurs}
 use Rattle.q_kernel.specs.Listing.{is_listed}
-use Rattle.q_kernel.proofs.Using.{uses-same}
-use Rattle.q_kernel.proofs.Counting.{none_idle-occurring}
-use Rattle.q_kernel.proofs.Sweeping.{first-none}
-use Rattle.q_kernel.proofs.Keeping.{listed-occurs}
+use Rattle.q_kernel.proofs.GroupChanges.{uses-same}
+use Rattle.q_kernel.proofs.VariableCounts.{none_idle-occurring}
+use Rattle.q_kernel.proofs.SweepSteps.{first-none}
+use Rattle.q_kernel.proofs.KernelInvariant.{listed-occurs}
 use Rattle.q_kernel.proofs.kernel.Kernel.first_idle.Goals as goal
 
 pub returns-clause-some : goal.returns-clause-some

@@ -1,12 +1,10 @@
 use Rattle.std.proofs.Common.{refl, sym, ◌∙◌, ap, ◌++◌, ◌∷◌, []}
-use Rattle.q_logic.specs.Formulas.{Matrix}
-use Rattle.q_logic.specs.Parts.{IsProper}
-use Rattle.q_logic.specs.Numbered.{live, clauses_at}
-use Rattle.q_logic.proofs.Parts.{proper-lawful}
+use Rattle.q_logic.specs.Prelude.{Matrix, IsProper, live, clauses_at}
+use Rattle.q_logic.proofs.Common.{proper-lawful}
 use Rattle.q_kernel.specs.Kernels.{Seen, slots, formula_in}
-use Rattle.q_kernel.proofs.Sizes.{counts-small}
+use Rattle.q_kernel.proofs.KernelSizes.{counts-small}
 use Rattle.q_kernel.proofs.LiveIds.{clauses-more, clauses-live}
-use Rattle.q_kernel.proofs.Turns.{live-turn, all-came}
+use Rattle.q_kernel.proofs.ForLoops.{live-turn, all-came}
 use Rattle.q_kernel.proofs.kernel.Kernel.formula.Goals as goal
 
 pub overflow_sub-self-inside : goal.overflow_sub-self-inside

@@ -1,5 +1,5 @@
 use Rattle.std.proofs.Common.{◌≡◌}
-use Rattle.q_logic.specs.Numbered.{clauses_at}
+use Rattle.q_logic.specs.Prelude.{clauses_at}
 use Rattle.q_kernel.specs.Kernels.{slots}
 use Rattle.q_kernel.proofs.kernel.Kernel.formula.Given as goal
 

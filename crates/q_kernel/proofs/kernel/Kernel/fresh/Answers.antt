@@ -1,15 +1,13 @@
 use Rattle.std.proofs.Common.{refl, sym, ◌∙◌, arith, ap, true≢false}
-use Rattle.q_logic.specs.Literals.{Literal}
-use Rattle.q_logic.specs.Numbered.{live, formula_of}
-use Rattle.q_logic.specs.Prefixes.{is_bound}
+use Rattle.q_logic.specs.Prelude.{Literal, live, formula_of, is_bound}
 use Rattle.q_logic.specs.declared.formulas.Quant.TheVariants.{Exists}
-use Rattle.q_logic.proofs.Order.{existential-is_bound}
-use Rattle.q_kernel.proofs.Costs.{proper-var}
-use Rattle.q_kernel.proofs.Using.{not-grouped}
+use Rattle.q_logic.proofs.Common.{existential-is_bound}
+use Rattle.q_kernel.proofs.TextCosts.{proper-var}
+use Rattle.q_kernel.proofs.GroupChanges.{not-grouped}
 use Rattle.q_kernel.specs.Listing.{is_listed}
-use Rattle.q_kernel.proofs.Leading.{led-freshened}
-use Rattle.q_kernel.proofs.Stepping.{quant-exists, with_after-inserted, kernel-freshened}
-use Rattle.q_kernel.proofs.Logging.{logged-fresh}
+use Rattle.q_kernel.proofs.KernelRuns.{led-freshened}
+use Rattle.q_kernel.proofs.KernelSteps.{quant-exists, with_after-inserted, kernel-freshened}
+use Rattle.q_kernel.proofs.LoggedSteps.{logged-fresh}
 use Rattle.q_kernel.proofs.kernel.Kernel.fresh.Goals as goal
 
 pub new-requires-2-clause-positive : goal.new-requires-2-clause-positive

@@ -1,7 +1,7 @@
 use Rattle.std.proofs.Common.{ℕ, ◌∙◌, ap, sym, subst, All, Contains, List, Option}
 use Rattle.q_occ.specs.Places.{places_of}
 use Rattle.q_kernel.specs.Visits.{owners_at, holders_of, holders_since, AreOnce, IsHolder}
-use Rattle.q_kernel.proofs.Once.{once-apart}
+use Rattle.q_kernel.proofs.DistinctMembers.{once-apart}
 use Rattle.q_kernel.proofs.HolderLists.{since-first, holders-hold, holders-all, holders-once}
 use Rattle.q_kernel.proofs.kernel.Kernel.holders.Goals as goal
 

@@ -1,9 +1,9 @@
 use Rattle.std.proofs.Common.{◌≤◌, length, refl, sym, arith}
 use Rattle.q_kernel.specs.Kernels.{slots}
-use Rattle.q_kernel.proofs.Slotting.{slot-below}
-use Rattle.q_kernel.proofs.Sweeping.{may-delete, alone-live}
-use Rattle.q_kernel.proofs.Reserving.{cleared-first, cleared-more}
-use Rattle.q_kernel.proofs.Costs.{first-first}
+use Rattle.q_kernel.proofs.SlotLists.{slot-below}
+use Rattle.q_kernel.proofs.SweepSteps.{may-delete, alone-live}
+use Rattle.q_kernel.proofs.KeptView.{cleared-first, cleared-more}
+use Rattle.q_kernel.proofs.TextCosts.{first-first}
 use Rattle.q_kernel.proofs.kernel.Kernel.keep_alone.Goals as goal
 
 pub loop-id-init : goal.loop-id-init

@@ -1,6 +1,6 @@
 use Rattle.std.proofs.Common.{◌-◌, length}
 use Rattle.q_kernel.specs.Kernels.{slots}
-use Rattle.q_kernel.proofs.Reserving.{IsCleared}
+use Rattle.q_kernel.proofs.KeptView.{IsCleared}
 use Rattle.q_kernel.proofs.kernel.Kernel.keep_alone.Given as goal
 
 abbrev pub invariant-loop-id : goal.invariant-loop-id

@@ -1,4 +1,4 @@
-use Rattle.q_kernel.proofs.Sizes.{slot-live, live-slot}
+use Rattle.q_kernel.proofs.KernelSizes.{slot-live, live-slot}
 use Rattle.q_kernel.proofs.kernel.Kernel.lits.Goals as goal
 
 pub lits-requires : goal.lits-requires

@@ -1,4 +1,4 @@
-use Rattle.q_kernel.proofs.Sizes.{slot-live, live-slot}
+use Rattle.q_kernel.proofs.KernelSizes.{slot-live, live-slot}
 use Rattle.q_kernel.proofs.kernel.Kernel.live.Goals as goal
 
 pub returns : goal.returns

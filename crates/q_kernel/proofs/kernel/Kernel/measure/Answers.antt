@@ -1,11 +1,10 @@
 use Rattle.std.proofs.Common.{◌+◌, refl, sym, ◌∙◌, arith, ℕ}
-use Rattle.q_logic.specs.Numbered.{live}
-use Rattle.q_logic.specs.Sweep.{occurs}
+use Rattle.q_logic.specs.Prelude.{live, occurs}
 use Rattle.q_kernel.specs.Listing.{is_listed}
-use Rattle.q_kernel.proofs.Using.{uses-same}
-use Rattle.q_kernel.proofs.Keeping.{listed-occurs}
-use Rattle.q_kernel.proofs.Counting.{existentials-counted, universals-counted}
-use Rattle.q_kernel.proofs.Sizes.{first-fits, measure-fits}
+use Rattle.q_kernel.proofs.GroupChanges.{uses-same}
+use Rattle.q_kernel.proofs.KernelInvariant.{listed-occurs}
+use Rattle.q_kernel.proofs.VariableCounts.{existentials-counted, universals-counted}
+use Rattle.q_kernel.proofs.KernelSizes.{first-fits, measure-fits}
 use Rattle.q_kernel.proofs.kernel.Kernel.measure.Goals as goal
 
 pub overflow_add-result : goal.overflow_add-result

@@ -1,4 +1,4 @@
-use Rattle.q_kernel.proofs.Sizes.{slot-live, not_live-slot}
+use Rattle.q_kernel.proofs.KernelSizes.{slot-live, not_live-slot}
 use Rattle.q_kernel.proofs.kernel.Kernel.next_live.Goals as goal
 
 pub returns-clause-some : goal.returns-clause-some

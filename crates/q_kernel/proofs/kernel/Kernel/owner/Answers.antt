@@ -1,4 +1,4 @@
-use Rattle.q_kernel.proofs.Occurring.{place-clause}
+use Rattle.q_kernel.proofs.PlaceLists.{place-clause}
 use Rattle.q_kernel.proofs.kernel.Kernel.owner.Goals as goal
 
 pub returns-clause-holds : goal.returns-clause-holds

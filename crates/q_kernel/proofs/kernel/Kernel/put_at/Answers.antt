@@ -1,8 +1,8 @@
 use Rattle.std.proofs.Common.{Some, arith, refl, ◌∙◌}
-use Rattle.q_kernel.proofs.Keeping.{kernel-put, roomy-lists, changed-slots}
-use Rattle.q_kernel.proofs.Sizes.{counts-small, slot-live}
-use Rattle.q_kernel.proofs.Slotting.{slot-get}
-use Rattle.q_logic.specs.Numbered.{live}
+use Rattle.q_kernel.proofs.KernelInvariant.{kernel-put, roomy-lists, changed-slots}
+use Rattle.q_kernel.proofs.KernelSizes.{counts-small, slot-live}
+use Rattle.q_kernel.proofs.SlotLists.{slot-get}
+use Rattle.q_logic.specs.Prelude.{live}
 use Rattle.q_kernel.proofs.kernel.Kernel.put_at.Goals as goal
 
 pub add_at-requires-clause-lists : goal.add_at-requires-clause-lists

@@ -1,7 +1,7 @@
 use Rattle.std.proofs.Common.{length, refl, arith, ap}
-use Rattle.q_logic.specs.Formulas.{Prefix}
-use Rattle.q_kernel.proofs.Sweeping.{may-remove, length-removed}
-use Rattle.q_kernel.proofs.Reserving.{ridding-first, ridding-more, ridding-last}
+use Rattle.q_logic.specs.Prelude.{Prefix}
+use Rattle.q_kernel.proofs.SweepSteps.{may-remove, length-removed}
+use Rattle.q_kernel.proofs.KeptView.{ridding-first, ridding-more, ridding-last}
 use Rattle.q_kernel.proofs.kernel.Kernel.remove_idle.Goals as goal
 
 pub loop-v-init : goal.loop-v-init

@@ -1,5 +1,5 @@
 use Rattle.std.proofs.Common.{length}
-use Rattle.q_kernel.proofs.Reserving.{IsRidding}
+use Rattle.q_kernel.proofs.KeptView.{IsRidding}
 use Rattle.q_kernel.proofs.kernel.Kernel.remove_idle.Given as goal
 
 abbrev pub invariant-loop-v : goal.invariant-loop-v

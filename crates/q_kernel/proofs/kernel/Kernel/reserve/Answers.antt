@@ -1,5 +1,5 @@
 use Rattle.std.proofs.Common.{arith}
-use Rattle.q_kernel.proofs.Reserving.{count-same}
+use Rattle.q_kernel.proofs.KeptView.{count-same}
 use Rattle.q_kernel.proofs.kernel.Kernel.reserve.Goals as goal
 
 pub reserve_clauses-requires : goal.reserve_clauses-requires

@@ -1,7 +1,7 @@
 use Rattle.std.proofs.Common.{refl, arith}
-use Rattle.q_kernel.proofs.Keeping.{kernel-moved}
-use Rattle.q_kernel.proofs.Linking.{lists-same, clauses-kept}
-use Rattle.q_kernel.proofs.Reserving.{same-slots, view-clauses}
+use Rattle.q_kernel.proofs.KernelInvariant.{kernel-moved}
+use Rattle.q_kernel.proofs.ListUpdates.{lists-same, clauses-kept}
+use Rattle.q_kernel.proofs.KeptView.{same-slots, view-clauses}
 use Rattle.q_kernel.proofs.kernel.Kernel.reserve_clauses.Goals as goal
 
 pub invariant_of-self : goal.invariant_of-self

@@ -1,21 +1,15 @@
 use Rattle.std.proofs.Common.{◌≡◌, ◌≤◌, ◌+◌, ◌-◌, ℕ, set, Some, ap, arith, refl, sym, ◌∙◌}
-use Rattle.q_logic.specs.Numbered.{slot, live, set_slot}
-use Rattle.q_logic.specs.Literals.{Literal, IsBelow}
-use Rattle.q_logic.specs.Formulas.{Clause, IsIn}
-use Rattle.q_logic.specs.Parts.{ArePairs}
-use Rattle.q_logic.specs.Pivots.{without}
-use Rattle.q_logic.specs.Steps.{Within}
-use Rattle.q_arena.specs.Chains.{Chains}
-use Rattle.q_arena.specs.Seen.{Clauses, clause_at}
-use Rattle.q_arena.proofs.Numbers.{some-same}
+use Rattle.q_logic.specs.Prelude.{slot, live, set_slot, Literal, IsBelow, Clause, IsIn, ArePairs, without, Within}
+use Rattle.q_arena.specs.Prelude.{Chains, Clauses, clause_at}
+use Rattle.q_arena.proofs.NumberCases.{some-same}
 use Rattle.q_prefix.specs.Order.{FlatPrefix}
 use Rattle.q_kernel.specs.Uses.{Groups}
 use Rattle.q_kernel.specs.Invariant.{empty_ones, IsKernel}
 use Rattle.q_kernel.specs.Singles.{unit_ones}
-use Rattle.q_kernel.proofs.Keeping.{kernel-shorter, changed-slots, clause-proper, counted-bounds, counted-shorter, length-shorter, unit-shorter}
-use Rattle.q_kernel.proofs.Linking.{clause-set, clause-within}
-use Rattle.q_kernel.proofs.Sizes.{live-slot, counts-small}
-use Rattle.q_kernel.proofs.Slotting.{slot-IsIn}
+use Rattle.q_kernel.proofs.KernelInvariant.{kernel-shorter, changed-slots, clause-proper, counted-bounds, counted-shorter, length-shorter, unit-shorter}
+use Rattle.q_kernel.proofs.ListUpdates.{clause-set, clause-within}
+use Rattle.q_kernel.proofs.KernelSizes.{live-slot, counts-small}
+use Rattle.q_kernel.proofs.SlotLists.{slot-IsIn}
 use Rattle.q_kernel.proofs.kernel.Kernel.shorten.Goals as goal
 
 -- The clause C loses the literal l: where it stands, and what the counts become.

@@ -1,6 +1,6 @@
 use Rattle.std.proofs.Common.{◌++◌, refl, ◌∙◌, ap, arith, List, ℕ}
-use Rattle.q_kernel.proofs.Sizes.{slot-live, live-slot}
-use Rattle.q_kernel.proofs.Stepping.{may-shrink-there, is-shrunk, longer_text}
+use Rattle.q_kernel.proofs.KernelSizes.{slot-live, live-slot}
+use Rattle.q_kernel.proofs.KernelSteps.{may-shrink-there, is-shrunk, longer_text}
 use Rattle.q_kernel.proofs.kernel.Kernel.shrink.Goals as goal
 
 pub lits-lits-requires : goal.lits-lits-requires

@@ -1,8 +1,8 @@
 use Rattle.std.proofs.Common.{arith}
-use Rattle.q_logic.specs.Numbered.{live, formula_of}
-use Rattle.q_kernel.proofs.Sizes.{size-small}
-use Rattle.q_kernel.proofs.Following.{owned-place}
-use Rattle.q_kernel.proofs.Counting.{prefix-short}
+use Rattle.q_logic.specs.Prelude.{live, formula_of}
+use Rattle.q_kernel.proofs.KernelSizes.{size-small}
+use Rattle.q_kernel.proofs.LiteralLists.{owned-place}
+use Rattle.q_kernel.proofs.VariableCounts.{prefix-short}
 use Rattle.q_kernel.proofs.kernel.Kernel.sound.Goals as goal
 
 pub returns : goal.returns

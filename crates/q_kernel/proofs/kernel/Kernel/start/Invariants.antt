@@ -1,7 +1,7 @@
 use Rattle.std.proofs.Common.{◌≡◌, ◌≤◌, length, drop, []}
-use Rattle.q_logic.specs.Steps.{literals_in}
+use Rattle.q_logic.specs.Prelude.{literals_in}
 use Rattle.q_kernel.specs.Kernels.{slots}
-use Rattle.q_kernel.proofs.Gathering.{AreFirst}
+use Rattle.q_kernel.proofs.FirstIds.{AreFirst}
 use Rattle.q_kernel.proofs.kernel.Kernel.start.Given as goal
 
 abbrev pub invariant-loop-at : goal.invariant-loop-at

@@ -1,10 +1,8 @@
 use Rattle.std.proofs.Common.{ap, sym, ◌∙◌}
-use Rattle.q_logic.specs.Formulas.{Prefix}
-use Rattle.q_logic.specs.Numbered.{live}
-use Rattle.q_logic.specs.Sweep.{occurring}
+use Rattle.q_logic.specs.Prelude.{Prefix, live, occurring}
 use Rattle.q_kernel.specs.Kernels.{slots}
-use Rattle.q_kernel.proofs.Leading.{led-through}
-use Rattle.q_kernel.proofs.Reserving.{whole-sweep}
+use Rattle.q_kernel.proofs.KernelRuns.{led-through}
+use Rattle.q_kernel.proofs.KeptView.{whole-sweep}
 use Rattle.q_kernel.proofs.kernel.Kernel.sweep_now.Goals as goal
 
 pub returns-clause-formula : goal.returns-clause-formula

@@ -1,8 +1,8 @@
 use Rattle.std.proofs.Common.{None, arith, refl}
-use Rattle.q_logic.specs.Numbered.{live}
-use Rattle.q_kernel.proofs.Keeping.{kernel-gone, changed-slots, clause-proper, counted-bounds}
-use Rattle.q_kernel.proofs.Sizes.{slot-live, live-slot}
-use Rattle.q_kernel.proofs.Slotting.{slot-IsIn}
+use Rattle.q_logic.specs.Prelude.{live}
+use Rattle.q_kernel.proofs.KernelInvariant.{kernel-gone, changed-slots, clause-proper, counted-bounds}
+use Rattle.q_kernel.proofs.KernelSizes.{slot-live, live-slot}
+use Rattle.q_kernel.proofs.SlotLists.{slot-IsIn}
 use Rattle.q_kernel.proofs.kernel.Kernel.take_out.Goals as goal
 
 pub unlink-requires-clause-live : goal.unlink-requires-clause-live

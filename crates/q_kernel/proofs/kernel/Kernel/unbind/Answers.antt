@@ -1,10 +1,10 @@
 use Rattle.std.proofs.Common.{refl, arith}
-use Rattle.q_logic.specs.Numbered.{live, formula_of}
-use Rattle.q_kernel.proofs.Costs.{proper-var}
-use Rattle.q_kernel.proofs.Counting.{greatest-removed_most}
-use Rattle.q_kernel.proofs.Leading.{led-removed}
-use Rattle.q_kernel.proofs.Stepping.{kernel-removed, removed-idle}
-use Rattle.q_kernel.proofs.Logging.{logged-remove}
+use Rattle.q_logic.specs.Prelude.{live, formula_of}
+use Rattle.q_kernel.proofs.TextCosts.{proper-var}
+use Rattle.q_kernel.proofs.VariableCounts.{greatest-removed_most}
+use Rattle.q_kernel.proofs.KernelRuns.{led-removed}
+use Rattle.q_kernel.proofs.KernelSteps.{kernel-removed, removed-idle}
+use Rattle.q_kernel.proofs.LoggedSteps.{logged-remove}
 use Rattle.q_kernel.proofs.kernel.Kernel.unbind.Goals as goal
 
 pub new-requires-clause-positive : goal.new-requires-clause-positive

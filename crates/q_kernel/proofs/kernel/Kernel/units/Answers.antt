@@ -1,5 +1,5 @@
 use Rattle.std.proofs.Common.{sym, ◌∙◌, arith}
-use Rattle.q_kernel.proofs.Slotting.{units-none, units-some}
+use Rattle.q_kernel.proofs.SlotLists.{units-none, units-some}
 use Rattle.q_kernel.proofs.kernel.Kernel.units.Goals as goal
 
 pub returns-clause-none : goal.returns-clause-none

@@ -1,8 +1,7 @@
 use Rattle.std.proofs.Common.{◌<◌, sym, ◌∙◌, subst, arith, ℕ}
-use Rattle.q_arena.specs.Rings.{Has}
-use Rattle.q_arena.specs.Chains.{list_at}
-use Rattle.q_arena.proofs.Following.{get-has}
-use Rattle.q_arena.proofs.Numbers.{some-same}
+use Rattle.q_arena.specs.Prelude.{Has, list_at}
+use Rattle.q_arena.proofs.ListNeighbours.{get-has}
+use Rattle.q_arena.proofs.NumberCases.{some-same}
 use Rattle.q_kernel.proofs.uses.Uses.first_idle.Goals as goal
 
 pub overflow_cast-result : goal.overflow_cast-result

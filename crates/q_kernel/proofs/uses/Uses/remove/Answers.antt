@@ -1,5 +1,5 @@
 use Rattle.std.proofs.Common.{arith}
-use Rattle.q_kernel.proofs.Grouping.{tagged-taken}
+use Rattle.q_kernel.proofs.VariableGroups.{tagged-taken}
 use Rattle.q_kernel.proofs.uses.Uses.remove.Goals as goal
 
 pub invariant_of-self : goal.invariant_of-self

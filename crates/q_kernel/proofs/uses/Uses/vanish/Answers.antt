@@ -1,8 +1,7 @@
 use Rattle.std.proofs.Common.{◌<◌, ◌⊎◌, sym, ◌∙◌, subst, arith, List, ℕ, length}
-use Rattle.q_arena.specs.Rings.{Has}
-use Rattle.q_arena.specs.Chains.{list_at}
+use Rattle.q_arena.specs.Prelude.{Has, list_at}
 use Rattle.q_kernel.specs.Uses.{Groups, group_of}
-use Rattle.q_kernel.proofs.Grouping.{tagged-taken, tagged-put, taken-gone, group-there, head-small}
+use Rattle.q_kernel.proofs.VariableGroups.{tagged-taken, tagged-put, taken-gone, group-there, head-small}
 use Rattle.q_kernel.proofs.uses.Uses.vanish.Goals as goal
 
 pub push_front-requires-clause-fresh : goal.push_front-requires-clause-fresh

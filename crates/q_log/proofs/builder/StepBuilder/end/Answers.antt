@@ -1,6 +1,6 @@
 use Rattle.std.proofs.Common.{◌≡◌, true}
 use Rattle.q_log.specs.Grammar.{is_whole}
-use Rattle.q_log.proofs.Plain.{whole_form}
+use Rattle.q_log.proofs.PlainVariables.{whole_form}
 use Rattle.q_log.proofs.builder.StepBuilder.end.Goals as goal
 
 pub new-requires-2 : goal.new-requires-2

@@ -1,6 +1,6 @@
 use Rattle.std.proofs.Common.{◌≡◌, true}
 use Rattle.q_log.specs.Grammar.{has_room}
-use Rattle.q_log.proofs.Plain.{plain-push}
+use Rattle.q_log.proofs.PlainVariables.{plain-push}
 use Rattle.q_log.proofs.builder.StepBuilder.literal.Goals as goal
 
 pub invariant_of-self-2 : goal.invariant_of-self-2

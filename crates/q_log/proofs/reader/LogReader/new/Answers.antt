@@ -1,6 +1,6 @@
 use Rattle.std.proofs.Common.{refl, None}
 use Rattle.q_log.specs.Reading.{LogState, open_of}
-use Rattle.q_log.proofs.Reading.{start-reads}
+use Rattle.q_log.proofs.LogBytes.{start-reads}
 use Rattle.q_log.proofs.reader.LogReader.new.Goals as goal
 
 pub returns-clause-log : goal.returns-clause-log

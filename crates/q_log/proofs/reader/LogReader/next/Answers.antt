@@ -1,9 +1,9 @@
 use Rattle.std.proofs.Common.{get_or, ◌-◌, ◌≡◌, Ok, Err, Some, None, arith, refl}
 use Rattle.std.proofs.lemmas.Grind.{common_steps}
-use Rattle.q_log.specs.Reading.{LogState, Answers, open_of, token_turn}
-use Rattle.q_log.proofs.Reading.{token-refused}
+use Rattle.q_log.specs.Reading.{LogState, Answers, open_of, token_transition}
+use Rattle.q_log.proofs.LogBytes.{token-refused}
 use Rattle.q_log.proofs.Fewer.{taken-fewer}
-use Rattle.q_log.proofs.Passing.{state_of, next-leads, take-one}
+use Rattle.q_log.proofs.LogPieces.{state_of, next-leads, take-one}
 use Rattle.q_log.proofs.reader.LogReader.next.Goals as goal
 
 pub returns-in-Ok-clause-next : goal.returns-in-Ok-clause-next
@@ -24,7 +24,7 @@ returns-in-Ok-take-clause-next c rest =
     let v : LogState = state_of c.self.inside.tokens c.self.inside.left (open_of c.self.inside.builder.begun c.self.inside.builder.lits) c.self.inside.refused in
     let new : LogState = state_of c.next-count.new.self (c.self.inside.left - c.next-count.result.0) (open_of c.take.new.self.begun c.take.new.self.lits) c.self.inside.refused in
     let g = rw c.in-Some-token.is at c.next-count.ensures.goes in
-    let h : Answers (Ok c.in-Ok-take.step) new (token_turn (state_of c.next-count.new.self (v.left - c.next-count.result.0) v.begun v.refused) (Some c.in-Some-token.token)) = grind (arith, common_steps) in
+    let h : Answers (Ok c.in-Ok-take.step) new (token_transition (state_of c.next-count.new.self (v.left - c.next-count.result.0) v.begun v.refused) (Some c.in-Some-token.token)) = grind (arith, common_steps) in
     let r : c.self.inside.refused ≡ None = c.in_default.is in
     next-leads v c.args.self.now new c.next-count.new.self c.args.piece.now c.next-count.result.0 (Some c.in-Some-token.token) (Ok c.in-Ok-take.step) c.self.view_is r c.if-self-piece.false g h rest
 
@@ -40,4 +40,4 @@ returns-in-Err-take-clause-next c =
     )
 
 pub returns-in-Ok-clause-left : goal.returns-in-Ok-clause-left
-returns-in-Ok-clause-left c = taken-fewer c.args.self.now c.push.new.self (get_or c.args.piece.now 0 0) c.in-Ok.step c.in-Ok.ensures.turn
+returns-in-Ok-clause-left c = taken-fewer c.args.self.now c.push.new.self (get_or c.args.piece.now 0 0) c.in-Ok.step c.in-Ok.ensures.transition

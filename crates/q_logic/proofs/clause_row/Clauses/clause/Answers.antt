@@ -1,6 +1,6 @@
 use Rattle.std.proofs.Common.{ap, length, slice_get, Some, subst, ◌≡◌}
-use Rattle.q_logic.specs.Formulas.{Matrix}
-use Rattle.q_logic.proofs.Pieces.{length-clauses_between, slice_get-clauses_between}
+use Rattle.q_logic.specs.Prelude.{Matrix}
+use Rattle.q_logic.proofs.ClauseBounds.{length-clauses_between, slice_get-clauses_between}
 use Rattle.q_logic.proofs.clause_row.Clauses.clause.Goals as goal
 
 pub bounds-start-requires-clause-at : goal.bounds-start-requires-clause-at

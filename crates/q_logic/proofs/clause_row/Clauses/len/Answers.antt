@@ -1,6 +1,6 @@
 use Rattle.std.proofs.Common.{ap, length}
-use Rattle.q_logic.specs.Formulas.{Matrix}
-use Rattle.q_logic.proofs.Pieces.{length-clauses_between}
+use Rattle.q_logic.specs.Prelude.{Matrix}
+use Rattle.q_logic.proofs.ClauseBounds.{length-clauses_between}
 use Rattle.q_logic.proofs.clause_row.Clauses.len.Goals as goal
 
 pub returns : goal.returns

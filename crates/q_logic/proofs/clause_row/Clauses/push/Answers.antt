@@ -1,6 +1,6 @@
 use Rattle.std.proofs.Common.{◌≤◌, ◌++◌, length, length-append, arith}
 use Rattle.std.proofs.lemmas.Grind.{common_steps}
-use Rattle.q_logic.proofs.Pieces.{ends-push, clauses-push}
+use Rattle.q_logic.proofs.ClauseBounds.{ends-push, clauses-push}
 use Rattle.q_logic.proofs.clause_row.Clauses.push.Goals as goal
 
 pub invariant_of-self-else-is_err : goal.invariant_of-self-else-is_err

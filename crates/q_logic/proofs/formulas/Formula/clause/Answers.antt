@@ -1,7 +1,6 @@
 use Rattle.std.proofs.Common.{ap, subst}
-use Rattle.q_logic.specs.Formulas.{PrenexFormula}
-use Rattle.q_logic.specs.Parts.{IsProper}
-use Rattle.q_logic.proofs.Parts.{proper-bound}
+use Rattle.q_logic.specs.Prelude.{PrenexFormula, IsProper}
+use Rattle.q_logic.proofs.FormulaParts.{proper-bound}
 use Rattle.q_logic.proofs.formulas.Formula.clause.Goals as goal
 
 pub returns-clause-bound : goal.returns-clause-bound

@@ -1,4 +1,4 @@
-use Rattle.q_logic.proofs.Parts.{lawful-proper}
+use Rattle.q_logic.proofs.FormulaParts.{lawful-proper}
 use Rattle.q_logic.proofs.formulas.Formula.from_parts.Goals as goal
 
 pub invariant_of-result : goal.invariant_of-result

@@ -1,5 +1,5 @@
 use Rattle.std.proofs.Common.{◌≡◌, ◌<◌, ◌∙◌, length, ap, refl}
-use Rattle.q_logic.specs.Hinted.{HintGroup}
+use Rattle.q_logic.specs.Prelude.{HintGroup}
 use Rattle.q_logic.proofs.HintGroups.{part-length, part-at}
 use Rattle.q_logic.proofs.proof_part.Proof.hints.Goals as goal
 

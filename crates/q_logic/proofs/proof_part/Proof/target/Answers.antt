@@ -1,6 +1,6 @@
 use Rattle.std.proofs.Common.{◌<◌, length, ap, arith}
 use Rattle.std.proofs.lemmas.Grind.{common_steps}
-use Rattle.q_logic.specs.Hinted.{HintGroup}
+use Rattle.q_logic.specs.Prelude.{HintGroup}
 use Rattle.q_logic.proofs.HintGroups.{part-length, part-at}
 use Rattle.q_logic.proofs.proof_part.Proof.target.Goals as goal
 

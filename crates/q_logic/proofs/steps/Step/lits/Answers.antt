@@ -1,5 +1,5 @@
 use Rattle.std.proofs.Common.{subst}
-use Rattle.q_logic.specs.StepForms.{IsStep}
+use Rattle.q_logic.specs.Prelude.{IsStep}
 use Rattle.q_logic.proofs.StepForms.{step_of-IsStep}
 use Rattle.q_logic.proofs.steps.Step.lits.Goals as goal
 

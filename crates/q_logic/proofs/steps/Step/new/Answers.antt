@@ -1,5 +1,5 @@
 use Rattle.std.proofs.Common.{◌∙◌, ap, sym, subst, List}
-use Rattle.q_logic.specs.Literals.{Literal}
+use Rattle.q_logic.specs.Prelude.{Literal}
 use Rattle.q_logic.specs.StepForms.{AreStepParts, step_of}
 use Rattle.q_logic.proofs.StepForms.{step_of-arranged, arranged-parts}
 use Rattle.q_logic.proofs.steps.Step.new.Goals as goal

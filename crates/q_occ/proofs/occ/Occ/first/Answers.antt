@@ -1,7 +1,6 @@
 use Rattle.std.proofs.Common.{sym, ◌∙◌, subst, ℕ}
-use Rattle.q_arena.specs.Rings.{Has}
-use Rattle.q_arena.specs.Chains.{list_at}
-use Rattle.q_arena.proofs.Following.{get-has}
+use Rattle.q_arena.specs.Prelude.{Has, list_at}
+use Rattle.q_arena.proofs.ListNeighbours.{get-has}
 use Rattle.q_occ.proofs.occ.Occ.first.Goals as goal
 
 pub returns-clause-there : goal.returns-clause-there

@@ -1,4 +1,4 @@
-use Rattle.q_occ.proofs.Exact.{heads-reserved, room-reserved, fresh-places, linking, exact-linked}
+use Rattle.q_occ.proofs.ExactLists.{heads-reserved, room-reserved, fresh-places, linking, exact-linked}
 use Rattle.q_occ.proofs.occ.Occ.link.Goals as goal
 
 pub link_all-requires-clause-heads : goal.link_all-requires-clause-heads

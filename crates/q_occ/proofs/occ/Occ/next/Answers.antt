@@ -1,8 +1,7 @@
 use Rattle.std.proofs.Common.{sym, ◌∙◌}
-use Rattle.q_logic.specs.Literals.{pack}
-use Rattle.q_arena.specs.Rings.{Has}
-use Rattle.q_arena.specs.Chains.{list_at}
-use Rattle.q_arena.proofs.Following.{following-has}
+use Rattle.q_logic.specs.Prelude.{pack}
+use Rattle.q_arena.specs.Prelude.{Has, list_at}
+use Rattle.q_arena.proofs.ListNeighbours.{following-has}
 use Rattle.q_occ.proofs.occ.Occ.next.Goals as goal
 
 pub returns-clause-there : goal.returns-clause-there

@@ -1,4 +1,4 @@
-use Rattle.q_occ.proofs.Exact.{unlinking, exact-unlinked}
+use Rattle.q_occ.proofs.ExactLists.{unlinking, exact-unlinked}
 use Rattle.q_occ.proofs.occ.Occ.unlink.Goals as goal
 
 pub returns-clause-unlinked : goal.returns-clause-unlinked

@@ -1,4 +1,4 @@
-use Rattle.q_pages.proofs.Entries.{made-or-none}
+use Rattle.q_pages.proofs.PageEntries.{made-or-none}
 use Rattle.q_pages.proofs.pages.Pages.blank.Goals as goal
 
 pub returns : goal.returns

@@ -1,6 +1,6 @@
 use Rattle.std.proofs.Common.{arith, sym, ◌∙◌, ap, ℕ, ◌+◌, ◌*◌, ◌/◌, ◌%◌, ◌<◌, get_or, length, ◌≡◌}
 use Rattle.q_pages.specs.Tables.{page_of}
-use Rattle.q_pages.proofs.Entries.{item-in, item-past, get_or-any}
+use Rattle.q_pages.proofs.PageEntries.{item-in, item-past, get_or-any}
 use Rattle.q_pages.proofs.pages.Pages.get.Goals as goal
 
 pub returns-then-at-len : goal.returns-then-at-len

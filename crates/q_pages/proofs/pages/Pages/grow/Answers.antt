@@ -2,7 +2,7 @@ use Rattle.std.proofs.Common.{arith, sym, ◌∙◌, ap, subst, ℕ, ◌≡◌, 
 use Rattle.std.proofs.lemmas.Result.{on_ok_weaker}
 use Rattle.q_pages.specs.Rows.{Row, IsMade, item_at, KeepsPages}
 use Rattle.q_pages.specs.Layout.{row_of}
-use Rattle.q_pages.proofs.Entries.{length-row, row-filled, row-extended, made-extended, sound-filled}
+use Rattle.q_pages.proofs.PageEntries.{length-row, row-filled, row-extended, made-extended, sound-filled}
 use Rattle.q_pages.proofs.pages.Pages.grow.Goals as goal
 
 pub returns-clause-len : goal.returns-clause-len

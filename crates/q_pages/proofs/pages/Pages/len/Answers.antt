@@ -1,5 +1,5 @@
 use Rattle.std.proofs.Common.{arith}
-use Rattle.q_pages.proofs.Entries.{length-row}
+use Rattle.q_pages.proofs.PageEntries.{length-row}
 use Rattle.q_pages.proofs.pages.Pages.len.Goals as goal
 
 pub returns-clause-value : goal.returns-clause-value

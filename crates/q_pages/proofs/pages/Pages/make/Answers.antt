@@ -3,7 +3,7 @@ use Rattle.std.proofs.lemmas.List.{length-set}
 use Rattle.q_pages.specs.Rows.{Row, IsMade, KeepsPages}
 use Rattle.q_pages.specs.Layout.{row_of}
 use Rattle.q_pages.specs.Tables.{page_of}
-use Rattle.q_pages.proofs.Entries.{length-row, in-made, sound-filled, row-filled, items-made, made-made, now-made, get_or-any}
+use Rattle.q_pages.proofs.PageEntries.{length-row, in-made, sound-filled, row-filled, items-made, made-made, now-made, get_or-any}
 use Rattle.q_pages.proofs.pages.Pages.make.Goals as goal
 
 pub index-requires : goal.index-requires

@@ -1,7 +1,7 @@
 use Rattle.std.proofs.Common.{arith, sym, ◌∙◌, subst, ◌/◌, ◌<◌, length, ◌≡◌}
 use Rattle.q_pages.specs.Rows.{Row, IsMade}
 use Rattle.q_pages.specs.Tables.{page_of}
-use Rattle.q_pages.proofs.Entries.{made-in, place-in, sound-set, items-set, get_or-any}
+use Rattle.q_pages.proofs.PageEntries.{made-in, place-in, sound-set, items-set, get_or-any}
 use Rattle.q_pages.proofs.pages.Pages.set.Goals as goal
 
 pub index_mut-requires : goal.index_mut-requires

@@ -1,4 +1,4 @@
-use Rattle.q_pages.proofs.Tables.{places-apart}
+use Rattle.q_pages.proofs.TableRows.{places-apart}
 use Rattle.q_pages.proofs.table.PageTable.distinct.Goals as goal
 
 pub returns : goal.returns

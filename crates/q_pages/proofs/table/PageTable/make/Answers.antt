@@ -1,7 +1,7 @@
 use Rattle.std.proofs.Common.{◌≡◌, ◌∙◌, ◌/◌, sym, arith, get_or, length}
 use Rattle.std.proofs.lemmas.List.{get_or_past}
-use Rattle.q_pages.proofs.Entries.{get_or-any}
-use Rattle.q_pages.proofs.Tables.{given-made}
+use Rattle.q_pages.proofs.PageEntries.{get_or-any}
+use Rattle.q_pages.proofs.TableRows.{given-made}
 use Rattle.q_pages.proofs.table.PageTable.make.Goals.{else-page-len-via-then-page-len+else-index-ne0, else-page-len-via-else-page-len}
 use Rattle.q_pages.proofs.table.PageTable.make.Goals as goal
 

@@ -1,11 +1,11 @@
 use Rattle.std.proofs.Common.{◌≡◌, sym, ◌∙◌, ap, subst, true, Some}
 use Rattle.q_logic.specs.declared.formulas.Bound.{Bound}
-use Rattle.q_logic.specs.Prefixes.{is_bound}
-use Rattle.q_arena.specs.Chains.{list_at, following}
+use Rattle.q_logic.specs.Prelude.{is_bound}
+use Rattle.q_arena.specs.Prelude.{list_at, following}
 use Rattle.q_prefix.specs.Order.{FlatPrefix}
-use Rattle.q_prefix.proofs.Bounds.{has-bound, bound-has, after-none, after-some}
-use Rattle.q_prefix.proofs.Walks.{bound-is}
-use Rattle.q_arena.proofs.Following.{following-has}
+use Rattle.q_prefix.proofs.ListedBounds.{has-bound, bound-has, after-none, after-some}
+use Rattle.q_prefix.proofs.VariableWalks.{bound-is}
+use Rattle.q_arena.proofs.ListNeighbours.{following-has}
 use Rattle.q_prefix.proofs.prefix.Prefix.after.Goals as goal
 
 pub next-requires : goal.next-requires

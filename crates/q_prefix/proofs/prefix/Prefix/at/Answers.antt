@@ -1,10 +1,10 @@
 use Rattle.std.proofs.Common.{◌≡◌, ◌<◌, sym, ◌∙◌, ap, arith, ℕ, length, slice_get, Some}
 use Rattle.q_logic.specs.declared.formulas.Bound.{Bound}
-use Rattle.q_arena.specs.Chains.{list_at}
+use Rattle.q_arena.specs.Prelude.{list_at}
 use Rattle.q_prefix.specs.Order.{bounds_of}
-use Rattle.q_prefix.proofs.Bounds.{bound-has}
-use Rattle.q_prefix.proofs.Walks.{get-bounds, get-within, bound-is}
-use Rattle.q_arena.proofs.Following.{get-has}
+use Rattle.q_prefix.proofs.ListedBounds.{bound-has}
+use Rattle.q_prefix.proofs.VariableWalks.{get-bounds, get-within, bound-is}
+use Rattle.q_arena.proofs.ListNeighbours.{get-has}
 use Rattle.q_prefix.proofs.prefix.Prefix.at.Goals as goal
 
 pub next_of-at-requires : goal.next_of-at-requires

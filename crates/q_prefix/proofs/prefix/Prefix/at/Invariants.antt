@@ -1,5 +1,5 @@
 use Rattle.std.proofs.Common.{◌≡◌, slice_get}
-use Rattle.q_arena.specs.Chains.{list_at}
+use Rattle.q_arena.specs.Prelude.{list_at}
 use Rattle.q_prefix.proofs.prefix.Prefix.at.Given as goal
 
 abbrev pub invariant-loop : goal.invariant-loop

@@ -1,12 +1,12 @@
 use Rattle.std.proofs.Common.{◌≡◌, sym, ◌∙◌, ap, subst, true, Some}
 use Rattle.q_logic.specs.declared.formulas.Bound.{Bound}
-use Rattle.q_logic.specs.Prefixes.{is_bound}
-use Rattle.q_arena.specs.Chains.{list_at, preceding}
+use Rattle.q_logic.specs.Prelude.{is_bound}
+use Rattle.q_arena.specs.Prelude.{list_at, preceding}
 use Rattle.q_prefix.specs.Order.{FlatPrefix}
-use Rattle.q_prefix.proofs.Bounds.{has-bound, bound-has}
-use Rattle.q_prefix.proofs.Backwards.{before-some, before-none, before-has}
-use Rattle.q_prefix.proofs.Walks.{bound-is}
-use Rattle.q_arena.proofs.Numbers.{some-same}
+use Rattle.q_prefix.proofs.ListedBounds.{has-bound, bound-has}
+use Rattle.q_prefix.proofs.PrecedingVariables.{before-some, before-none, before-has}
+use Rattle.q_prefix.proofs.VariableWalks.{bound-is}
+use Rattle.q_arena.proofs.NumberCases.{some-same}
 use Rattle.q_prefix.proofs.prefix.Prefix.before.Goals as goal
 
 pub prev-requires : goal.prev-requires

@@ -1,10 +1,10 @@
 use Rattle.std.proofs.Common.{◌≡◌, sym, ◌∙◌, ap, subst, arith, true, Some}
-use Rattle.q_logic.specs.Prefixes.{is_bound}
-use Rattle.q_arena.specs.Chains.{list_at}
+use Rattle.q_logic.specs.Prelude.{is_bound}
+use Rattle.q_arena.specs.Prelude.{list_at}
 use Rattle.q_prefix.specs.declared.marks.Mark.{Mark}
 use Rattle.q_prefix.specs.Order.{FlatPrefix}
-use Rattle.q_prefix.proofs.Bounds.{has-bound, quant-has}
-use Rattle.q_prefix.proofs.Changes.{mark-below}
+use Rattle.q_prefix.proofs.ListedBounds.{has-bound, quant-has}
+use Rattle.q_prefix.proofs.PrefixChanges.{mark-below}
 use Rattle.q_prefix.proofs.prefix.Prefix.bound.Goals as goal
 
 pub overflow_cast-result : goal.overflow_cast-result

@@ -1,7 +1,7 @@
 use Rattle.std.proofs.Common.{◌∙◌, ap}
-use Rattle.q_arena.specs.Chains.{list_at}
+use Rattle.q_arena.specs.Prelude.{list_at}
 use Rattle.q_prefix.specs.declared.marks.Mark.{Mark}
-use Rattle.q_prefix.proofs.Bounds.{bound-flag}
+use Rattle.q_prefix.proofs.ListedBounds.{bound-flag}
 use Rattle.q_prefix.proofs.prefix.Prefix.contains.Goals as goal
 
 pub returns : goal.returns

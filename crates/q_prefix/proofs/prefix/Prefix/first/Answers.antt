@@ -1,9 +1,9 @@
 use Rattle.std.proofs.Common.{◌≡◌, sym, ◌∙◌, ap, slice_get, Some}
 use Rattle.q_logic.specs.declared.formulas.Bound.{Bound}
-use Rattle.q_arena.specs.Chains.{list_at}
-use Rattle.q_arena.proofs.Following.{get-has}
-use Rattle.q_prefix.proofs.Bounds.{bound-has, first-none, first-some}
-use Rattle.q_prefix.proofs.Walks.{bound-is}
+use Rattle.q_arena.specs.Prelude.{list_at}
+use Rattle.q_arena.proofs.ListNeighbours.{get-has}
+use Rattle.q_prefix.proofs.ListedBounds.{bound-has, first-none, first-some}
+use Rattle.q_prefix.proofs.VariableWalks.{bound-is}
 use Rattle.q_prefix.proofs.prefix.Prefix.first.Goals as goal
 
 pub bound-requires : goal.bound-requires

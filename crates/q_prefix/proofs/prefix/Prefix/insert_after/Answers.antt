@@ -1,15 +1,14 @@
 use Rattle.std.proofs.Common.{◌≡◌, ◌<◌, sym, ◌∙◌, ap, subst, arith, ℕ, true, false, true≢false, List, length, set, inl, inr}
 use Rattle.q_logic.specs.declared.formulas.Quant.{Quant}
 use Rattle.q_logic.specs.declared.formulas.Bound.{Bound}
-use Rattle.q_logic.specs.Prefixes.{is_bound}
-use Rattle.q_arena.specs.Rings.{Has}
-use Rattle.q_arena.specs.Chains.{list_at}
+use Rattle.q_logic.specs.Prelude.{is_bound}
+use Rattle.q_arena.specs.Prelude.{Has, list_at}
 use Rattle.q_prefix.specs.declared.marks.Mark.{Mark}
 use Rattle.q_prefix.specs.Order.{FlatPrefix, mark_at, bound_of, bounds_of, with_after}
-use Rattle.q_arena.proofs.Numbers.{ℕ-cases, some-same}
-use Rattle.q_arena.proofs.Seen.{length-set'}
-use Rattle.q_prefix.proofs.Bounds.{has-bound, bound-has, quant-has}
-use Rattle.q_prefix.proofs.Changes.{prefix-inserted, bounds-inserted, mark-set_here}
+use Rattle.q_arena.proofs.NumberCases.{ℕ-cases, some-same}
+use Rattle.q_arena.proofs.ArenaView.{length-set'}
+use Rattle.q_prefix.proofs.ListedBounds.{has-bound, bound-has, quant-has}
+use Rattle.q_prefix.proofs.PrefixChanges.{prefix-inserted, bounds-inserted, mark-set_here}
 use Rattle.q_prefix.proofs.prefix.Prefix.insert_after.Goals as goal
 
 pub insert_after-requires-clause-after : goal.insert_after-requires-clause-after

@@ -1,5 +1,5 @@
 use Rattle.std.proofs.Common.{arith}
-use Rattle.q_prefix.proofs.Filling.{greatest-least}
+use Rattle.q_prefix.proofs.FilledPrefix.{greatest-least}
 use Rattle.q_prefix.proofs.prefix.Prefix.new.Goals as goal
 
 pub fill-requires-clause-reserved : goal.fill-requires-clause-reserved

@@ -1,9 +1,9 @@
 use Rattle.std.proofs.Common.{◌≡◌, sym, subst, refl, true}
-use Rattle.q_logic.specs.Prefixes.{is_bound}
-use Rattle.q_arena.specs.Chains.{list_at}
+use Rattle.q_logic.specs.Prelude.{is_bound}
+use Rattle.q_arena.specs.Prelude.{list_at}
 use Rattle.q_prefix.specs.Order.{FlatPrefix, rank_of, bounds_of}
-use Rattle.q_prefix.proofs.Ranks.{outer-by-rank}
-use Rattle.q_prefix.proofs.Bounds.{has-bound, binds-has}
+use Rattle.q_prefix.proofs.PrefixRanks.{outer-by-rank}
+use Rattle.q_prefix.proofs.ListedBounds.{has-bound, binds-has}
 use Rattle.q_prefix.proofs.prefix.Prefix.outer_or_same.Goals as goal
 
 pub returns : goal.returns

@@ -1,8 +1,7 @@
 use Rattle.std.proofs.Common.{sym, ◌∙◌, ap, true≢false, Some}
-use Rattle.q_arena.specs.Rings.{Has}
-use Rattle.q_arena.specs.Chains.{list_at}
+use Rattle.q_arena.specs.Prelude.{Has, list_at}
 use Rattle.q_prefix.specs.declared.marks.Mark.{Mark}
-use Rattle.q_prefix.proofs.Bounds.{quant-has, quant-none}
+use Rattle.q_prefix.proofs.ListedBounds.{quant-has, quant-none}
 use Rattle.q_prefix.proofs.prefix.Prefix.quant.Goals as goal
 
 pub returns-then-mark : goal.returns-then-mark

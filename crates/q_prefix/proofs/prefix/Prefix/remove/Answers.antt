@@ -1,9 +1,9 @@
 use Rattle.std.proofs.Common.{◌≡◌, sym, subst, arith, true}
-use Rattle.q_logic.specs.Prefixes.{is_bound}
-use Rattle.q_arena.specs.Chains.{list_at}
+use Rattle.q_logic.specs.Prelude.{is_bound}
+use Rattle.q_arena.specs.Prelude.{list_at}
 use Rattle.q_prefix.specs.Order.{FlatPrefix}
-use Rattle.q_prefix.proofs.Bounds.{has-bound}
-use Rattle.q_prefix.proofs.Changes.{parted, prefix-removed, bounds-removed, mark-below}
+use Rattle.q_prefix.proofs.ListedBounds.{has-bound}
+use Rattle.q_prefix.proofs.PrefixChanges.{parted, prefix-removed, bounds-removed, mark-below}
 use Rattle.q_prefix.proofs.prefix.Prefix.remove.Goals as goal
 
 pub prev-before-requires : goal.prev-before-requires

@@ -1,5 +1,5 @@
 use Rattle.std.proofs.Common.{◌+◌, arith}
-use Rattle.q_prefix.proofs.Changes.{prefix-reserved}
+use Rattle.q_prefix.proofs.PrefixChanges.{prefix-reserved}
 use Rattle.q_prefix.proofs.prefix.Prefix.reserve.Goals as goal
 
 pub invariant_of-self-in_err-grow_marks : goal.invariant_of-self-in_err-grow_marks

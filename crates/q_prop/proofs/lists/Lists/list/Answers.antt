@@ -1,7 +1,7 @@
 use Rattle.std.proofs.Common.{◌∙◌, sym, ap, map, List, ℕ}
 use Rattle.smallvec.specs.SmallVec.{SmallVec}
 use Rattle.q_prop.specs.Lists.{list_at}
-use Rattle.q_prop.proofs.Paging.{paged-at}
+use Rattle.q_prop.proofs.PagedLists.{paged-at}
 use Rattle.q_prop.proofs.lists.Lists.list.Goals as goal
 
 pub returns : goal.returns

@@ -1,6 +1,6 @@
 use Rattle.std.proofs.Common.{[], Some, true, arith, take}
-use Rattle.q_prop.proofs.Rooting.{rooted_empty, rooted_cleared, none_watched, listed_fewer, standing_cleared, covered_cleared}
-use Rattle.q_prop.proofs.Taking.{rooted_refuted, falsified_loosened}
+use Rattle.q_prop.proofs.KeptRoot.{rooted_empty, rooted_cleared, none_watched, listed_fewer, standing_cleared, covered_cleared}
+use Rattle.q_prop.proofs.RootRemoval.{rooted_refuted, falsified_loosened}
 use Rattle.q_prop.proofs.ListLemmas.{lost-members}
 use Rattle.q_prop.proofs.propagator.Propagator.delete_refuted.Goals as goal
 use Rattle.q_prop.proofs.propagator.Propagator.delete_refuted.Goals.{then-not-rest, else-not-rest}
@@ -12,8 +12,8 @@ unlist-requires-clause-paired c p e h =
     let w = r.ready.watched c.args.slot d.0 p d.1 e in
     w.differ (r.listed.short c.args.slot d.0 h d.1 p.first p.second w.first_in w.second_in)
 
-pub loosen-rest-requires-clause-role : goal.loosen-rest-requires-clause-role
-loosen-rest-requires-clause-role c = c.without_units.ensures.kept c.self.inside.watched.clauses.slots (Some c.args.slot) (rw (← c.self.view_is) at c.requires.role)
+pub loosen-rest-requires-clause-support : goal.loosen-rest-requires-clause-support
+loosen-rest-requires-clause-support c = c.without_units.ensures.kept c.self.inside.watched.clauses.slots (Some c.args.slot) (rw (← c.self.view_is) at c.requires.support)
 
 pub loosen-rest-requires-clause-units : goal.loosen-rest-requires-clause-units
 loosen-rest-requires-clause-units c l e h = absurd (c.without_units.ensures.none l e)

@@ -1,7 +1,7 @@
 use Rattle.std.proofs.Common.{◌++◌, length, arith, refl, ◌∙◌}
 use Rattle.q_prop.specs.Slots.{filled, without}
-use Rattle.q_prop.proofs.Completing.{root_implied}
-use Rattle.q_prop.proofs.Rooting.{rooted_kept, rooted_free, derived_skip, falsified_skip}
+use Rattle.q_prop.proofs.CompleteRoot.{root_implied}
+use Rattle.q_prop.proofs.KeptRoot.{rooted_kept, rooted_free, derived_skip, falsified_skip}
 use Rattle.q_prop.proofs.propagator.Propagator.each_implied.Goals as goal
 
 pub returns-then-self : goal.returns-then-self

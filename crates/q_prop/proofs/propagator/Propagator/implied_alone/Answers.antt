@@ -1,4 +1,4 @@
-use Rattle.q_prop.proofs.Taking.{apart_alone}
+use Rattle.q_prop.proofs.RootRemoval.{apart_alone}
 use Rattle.q_prop.proofs.propagator.Propagator.implied_alone.Goals as goal
 
 pub implied_beside-requires : goal.implied_beside-requires

@@ -1,7 +1,7 @@
 use Rattle.std.proofs.Common.{Some, refl}
 use Rattle.q_prop.specs.Slots.{filled, without}
-use Rattle.q_prop.proofs.Completing.{root_implied}
-use Rattle.q_prop.proofs.Taking.{hung_alone, taken_of, derived_taken, falsified_taken}
+use Rattle.q_prop.proofs.CompleteRoot.{root_implied}
+use Rattle.q_prop.proofs.RootRemoval.{hung_alone, taken_of, derived_taken, falsified_taken}
 use Rattle.q_prop.proofs.propagator.Propagator.implied_refuted.Goals as goal
 
 pub returns-clause-exact : goal.returns-clause-exact

@@ -2,11 +2,11 @@ use Rattle.std.proofs.Common.{◌≡◌, ◌<◌, ◌+◌, length, arith, ap, �
 use Rattle.q_prop.specs.declared.rows.Entry.{Entry}
 use Rattle.std.proofs.Common.{ℕ, subst}
 use Rattle.std.proofs.lemmas.Result.{on_ok_weaker}
-use Rattle.q_logic.specs.Literals.{pack}
+use Rattle.q_logic.specs.Prelude.{pack}
 use Rattle.q_pages.specs.Tables.{place_in}
 use Rattle.q_prop.specs.Rows.{entry_of}
 use Rattle.q_prop.proofs.ListLemmas.{on_err_then}
-use Rattle.q_prop.proofs.Watching.{pushed-free, pushed, not-pushed}
+use Rattle.q_prop.proofs.WatchRows.{pushed-free, pushed, not-pushed}
 use Rattle.q_prop.proofs.rows.Rows.push.Goals as goal
 
 pub invariant_of-self-2 : goal.invariant_of-self-2

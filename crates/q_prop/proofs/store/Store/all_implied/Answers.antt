@@ -1,6 +1,6 @@
 use Rattle.std.proofs.Common.{[], ◌++◌, arith, refl}
 use Rattle.q_prop.specs.Slots.{filled, without}
-use Rattle.q_prop.proofs.Completing.{empty_implied}
+use Rattle.q_prop.proofs.CompleteRoot.{empty_implied}
 use Rattle.q_prop.proofs.SlotLemmas.{filled-in, slice_get-in, slice_get-Contains}
 use Rattle.q_prop.proofs.store.Store.all_implied.Goals as goal
 

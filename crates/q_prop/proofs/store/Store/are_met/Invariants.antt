@@ -1,8 +1,7 @@
 use Rattle.std.proofs.Common.{◌≡◌, ◌<◌, ℕ, Some, Contains, slice_get}
-use Rattle.q_logic.specs.Literals.{Literal}
-use Rattle.q_logic.specs.Formulas.{Clause}
+use Rattle.q_logic.specs.Prelude.{Literal, Clause}
 use Rattle.q_prop.specs.Slots.{Holds}
-use Rattle.q_prop.specs.Roles.{IsUnitBeside}
+use Rattle.q_prop.specs.Supports.{IsUnitBeside}
 use Rattle.q_prop.proofs.store.Store.are_met.Given as goal
 
 abbrev pub invariant-loop-i : goal.invariant-loop-i

@@ -1,6 +1,5 @@
 use Rattle.std.proofs.Common.{◌≡◌, ◌<◌, ◌++◌, ℕ, Some, slice_get}
-use Rattle.q_logic.specs.Formulas.{Clause}
-use Rattle.q_logic.specs.Propagation.{Implied}
+use Rattle.q_logic.specs.Prelude.{Clause, Implied}
 use Rattle.q_prop.specs.Slots.{filled, without}
 use Rattle.q_prop.proofs.store.Store.each_implied.Given as goal
 

@@ -1,6 +1,6 @@
 use Rattle.std.proofs.Common.{◌≡◌, ◌≢◌, ◌⊎◌, ◌<◌, ℕ, Some, Contains, slice_get}
-use Rattle.q_logic.specs.Literals.{Literal, negation}
-use Rattle.q_prop.specs.Roles.{IsUnitBeside}
+use Rattle.q_logic.specs.Prelude.{Literal, negation}
+use Rattle.q_prop.specs.Supports.{IsUnitBeside}
 use Rattle.q_prop.proofs.store.Store.gives.Given as goal
 
 abbrev pub invariant-loop-other : goal.invariant-loop-other

@@ -1,5 +1,5 @@
 use Rattle.std.proofs.Common.{◌≡◌, Some}
-use Rattle.q_logic.specs.Literals.{negation}
+use Rattle.q_logic.specs.Prelude.{negation}
 use Rattle.q_prop.specs.Holders.{IsHolder}
 use Rattle.q_prop.proofs.SlotLemmas.{same_slice_get}
 use Rattle.q_prop.proofs.store.Store.is_apart.Goals as goal

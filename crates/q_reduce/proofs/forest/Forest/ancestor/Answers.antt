@@ -1,5 +1,5 @@
 use Rattle.q_reduce.specs.Forests.{IsAbove}
-use Rattle.q_reduce.proofs.Above.{above-through}
+use Rattle.q_reduce.proofs.ForestAncestors.{above-through}
 use Rattle.q_reduce.proofs.forest.Forest.ancestor.Goals as goal
 
 pub loop-at-init : goal.loop-at-init

@@ -1,8 +1,7 @@
 use Rattle.std.proofs.Common.{◌≡◌, ℕ, true, subst}
-use Rattle.q_logic.specs.Literals.{Literal}
-use Rattle.q_logic.specs.Prefixes.{outer_or_same}
-use Rattle.q_kernel.specs.Kernels.{HoldsLiteral}
-use Rattle.q_kernel.proofs.Turns.{holder-turn}
+use Rattle.q_logic.specs.Prelude.{Literal, outer_or_same}
+use Rattle.q_kernel.specs.Prelude.{HoldsLiteral}
+use Rattle.q_kernel.proofs.ForLoops.{holder-turn}
 use Rattle.q_reduce.proofs.forest.Forest.climbs.Goals as goal
 
 pub joins-requires-clause-block : goal.joins-requires-clause-block

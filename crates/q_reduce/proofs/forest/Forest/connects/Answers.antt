@@ -1,6 +1,6 @@
 use Rattle.std.proofs.Common.{List, ℕ, get_or, subst}
-use Rattle.q_logic.specs.Formulas.{IsIn}
-use Rattle.q_reduce.proofs.Listing.{number-at}
+use Rattle.q_logic.specs.Prelude.{IsIn}
+use Rattle.q_reduce.proofs.ListItems.{number-at}
 use Rattle.q_reduce.proofs.forest.Forest.connects.Goals as goal
 
 pub returns-then-leads_to_any : goal.returns-then-leads_to_any

@@ -1,9 +1,9 @@
 use Rattle.std.proofs.Common.{◌≡◌, ◌<◌, ℕ, sym, ◌∙◌, subst, arith}
 use Rattle.q_kernel.proofs.Basics.{some-same}
-use Rattle.q_kernel.specs.Kernels.{slots}
+use Rattle.q_kernel.specs.Prelude.{slots}
 use Rattle.q_reduce.specs.Paths.{AreJoined}
 use Rattle.q_reduce.specs.Forests.{depth_of}
-use Rattle.q_reduce.proofs.Climbing.{joined-up}
+use Rattle.q_reduce.proofs.ForestPaths.{joined-up}
 use Rattle.q_reduce.proofs.forest.Forest.free_parent.Goals as goal
 
 pub returns-else-holds-clause-joined : goal.returns-else-holds-clause-joined

@@ -1,7 +1,7 @@
 use Rattle.std.proofs.Common.{◌≡◌, ◌≤◌, ℕ, true, sym, ◌∙◌, subst, nat_eq, arith}
 use Rattle.std.proofs.lemmas.Bool.Decides.{nat_tests}
 use Rattle.q_reduce.specs.Forests.{depth_of}
-use Rattle.q_reduce.proofs.Above.{above-level, above-same}
+use Rattle.q_reduce.proofs.ForestAncestors.{above-level, above-same}
 use Rattle.q_reduce.proofs.forest.Forest.is_above.Goals as goal
 
 same : (a b : ℕ) → a ≡ b → nat_eq a b ≡ true

@@ -1,5 +1,5 @@
-use Rattle.q_kernel.specs.Kernels.{HoldsLiteral}
-use Rattle.q_kernel.proofs.Turns.{each-came}
+use Rattle.q_kernel.specs.Prelude.{HoldsLiteral}
+use Rattle.q_kernel.proofs.ForLoops.{each-came}
 use Rattle.q_reduce.specs.Forests.{IsFree}
 use Rattle.q_reduce.proofs.forest.Forest.is_clear.Goals as goal
 

@@ -1,5 +1,5 @@
 use Rattle.std.proofs.Common.{ℕ, ◌<◌}
-use Rattle.q_kernel.specs.Kernels.{slots}
+use Rattle.q_kernel.specs.Prelude.{slots}
 use Rattle.q_reduce.specs.Forests.{place_of, IsLevel, IsEdge}
 use Rattle.q_reduce.proofs.forest.Forest.is_right.Given as goal
 

@@ -1,6 +1,6 @@
-use Rattle.q_kernel.specs.Kernels.{slots}
+use Rattle.q_kernel.specs.Prelude.{slots}
 use Rattle.q_reduce.specs.Paths.{Leads}
-use Rattle.q_reduce.proofs.Climbing.{leads-back}
+use Rattle.q_reduce.proofs.ForestPaths.{leads-back}
 use Rattle.q_reduce.proofs.forest.Forest.joins.Goals as goal
 use Rattle.q_reduce.proofs.forest.Forest.joins.Goals.{then-depth+in-Some, else-depth+in-Some-parent_of_free}
 

@@ -1,4 +1,4 @@
-use Rattle.q_kernel.specs.Kernels.{slots}
+use Rattle.q_kernel.specs.Prelude.{slots}
 use Rattle.q_reduce.specs.Paths.{Leads}
 use Rattle.q_reduce.proofs.forest.Forest.joins.Given as goal
 

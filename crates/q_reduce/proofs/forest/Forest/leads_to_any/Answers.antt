@@ -1,4 +1,4 @@
-use Rattle.q_reduce.proofs.Listing.{number-at}
+use Rattle.q_reduce.proofs.ListItems.{number-at}
 use Rattle.q_reduce.proofs.forest.Forest.leads_to_any.Goals as goal
 
 pub returns-then-is_clear : goal.returns-then-is_clear

@@ -1,4 +1,4 @@
-use Rattle.q_reduce.proofs.Above.{above-through}
+use Rattle.q_reduce.proofs.ForestAncestors.{above-through}
 use Rattle.q_reduce.proofs.forest.Forest.meet.Goals as goal
 
 pub loop-x-preserved : goal.loop-x-preserved

@@ -1,6 +1,6 @@
 use Rattle.std.proofs.Common.{◌≡◌, ℕ, true, subst}
-use Rattle.q_logic.specs.Prefixes.{outer_or_same}
-use Rattle.q_reduce.proofs.Climbing.{clear-leads}
+use Rattle.q_logic.specs.Prelude.{outer_or_same}
+use Rattle.q_reduce.proofs.ForestPaths.{clear-leads}
 use Rattle.q_reduce.proofs.forest.Forest.tells.Goals as goal
 
 pub returns-then-is_for : goal.returns-then-is_for

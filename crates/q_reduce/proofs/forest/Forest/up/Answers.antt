@@ -1,6 +1,6 @@
 use Rattle.std.proofs.Common.{◌≡◌, ◌<◌, ◌+◌, ℕ, sym, subst, arith}
 use Rattle.q_reduce.specs.Forests.{depth_of, parent_of, IsAbove}
-use Rattle.q_reduce.proofs.Above.{jump-above, jump-falls, parent-above, parent-level}
+use Rattle.q_reduce.proofs.ForestAncestors.{jump-above, jump-falls, parent-above, parent-level}
 use Rattle.q_reduce.proofs.forest.Forest.up.Goals as goal
 
 pub returns-then-by_jump-clause-above : goal.returns-then-by_jump-clause-above

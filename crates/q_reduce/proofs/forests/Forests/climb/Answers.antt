@@ -1,6 +1,6 @@
 use Rattle.std.proofs.Common.{List, subst}
-use Rattle.q_logic.specs.Formulas.{IsIn}
-use Rattle.q_logic.proofs.Members.{item-in}
+use Rattle.q_logic.specs.Prelude.{IsIn}
+use Rattle.q_logic.proofs.Common.{item-in}
 use Rattle.q_reduce.specs.Forests.{ForestMap}
 use Rattle.q_reduce.proofs.forests.Forests.climb.Goals as goal
 

@@ -1,7 +1,7 @@
 use Rattle.std.proofs.Common.{List, subst}
-use Rattle.q_logic.specs.Formulas.{IsIn}
+use Rattle.q_logic.specs.Prelude.{IsIn}
 use Rattle.q_reduce.specs.Forests.{ForestMap}
-use Rattle.q_reduce.proofs.Listing.{remove-in}
+use Rattle.q_reduce.proofs.ListItems.{remove-in}
 use Rattle.q_reduce.proofs.forests.Forests.free.Goals as goal
 
 pub returns-then-place-len : goal.returns-then-place-len

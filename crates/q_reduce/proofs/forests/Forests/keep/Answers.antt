@@ -1,8 +1,8 @@
 use Rattle.std.proofs.Common.{List, subst}
-use Rattle.q_logic.specs.Formulas.{IsIn}
-use Rattle.q_kernel.specs.Kernels.{slots}
+use Rattle.q_logic.specs.Prelude.{IsIn}
+use Rattle.q_kernel.specs.Prelude.{slots}
 use Rattle.q_reduce.specs.Forests.{ForestMap}
-use Rattle.q_reduce.proofs.Climbing.{starts-near, ends-near}
+use Rattle.q_reduce.proofs.ForestPaths.{starts-near, ends-near}
 use Rattle.q_reduce.proofs.forests.Forests.keep.Goals as goal
 
 pub connect-requires-clause-right : goal.connect-requires-clause-right

@@ -1,7 +1,7 @@
 use Rattle.std.proofs.Common.{List, [], ◌∷◌, sym, subst, inl, inr}
-use Rattle.q_logic.specs.Formulas.{IsIn}
-use Rattle.q_logic.proofs.ClauseLemmas.{IsIn-append}
-use Rattle.q_kernel.specs.Kernels.{slots}
+use Rattle.q_logic.specs.Prelude.{IsIn}
+use Rattle.q_logic.proofs.Common.{IsIn-append}
+use Rattle.q_kernel.specs.Prelude.{slots}
 use Rattle.q_reduce.specs.Forests.{ForestMap, IsForest}
 use Rattle.q_reduce.proofs.forests.Forests.note.Goals as goal
 use Rattle.q_reduce.proofs.forests.Forests.note.Goals.{then-branch+in_ok-push, else-branch}

@@ -1,9 +1,8 @@
 use Rattle.std.proofs.Common.{List, [], ◌∷◌, sym, subst, inl, inr}
 use Rattle.std.specs.List.{remove}
-use Rattle.q_logic.specs.Formulas.{IsIn}
-use Rattle.q_logic.specs.Numbered.{live}
-use Rattle.q_logic.proofs.ClauseLemmas.{IsIn-append}
-use Rattle.q_kernel.specs.Kernels.{slots}
+use Rattle.q_logic.specs.Prelude.{IsIn, live}
+use Rattle.q_logic.proofs.Common.{IsIn-append}
+use Rattle.q_kernel.specs.Prelude.{slots}
 use Rattle.q_reduce.specs.Regions.{RegionMap, AreRegions}
 use Rattle.q_reduce.proofs.recent.RecentRegions.make.Goals as goal
 use Rattle.q_reduce.proofs.recent.RecentRegions.make.Goals.{then-len-ge-BLOCKS, else-len-ge-BLOCKS}

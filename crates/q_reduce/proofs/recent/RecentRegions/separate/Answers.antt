@@ -1,7 +1,7 @@
 use Rattle.std.proofs.Common.{List, subst}
-use Rattle.q_logic.specs.Formulas.{IsIn}
+use Rattle.q_logic.specs.Prelude.{IsIn}
 use Rattle.q_reduce.specs.Regions.{RegionMap}
-use Rattle.q_logic.proofs.Members.{item-in}
+use Rattle.q_logic.proofs.Common.{item-in}
 use Rattle.q_reduce.proofs.recent.RecentRegions.separate.Goals as goal
 
 pub separates-requires-clause-regions : goal.separates-requires-clause-regions

@@ -1,4 +1,4 @@
-use Rattle.q_reduce.proofs.Separating.{regional-inside}
+use Rattle.q_reduce.proofs.RegionSeparation.{regional-inside}
 use Rattle.q_reduce.proofs.regions.Regions.build.Goals as goal
 
 pub returns-else-not-is_right : goal.returns-else-not-is_right

@@ -1,5 +1,5 @@
 use Rattle.q_reduce.specs.Regions.{key_of}
-use Rattle.q_reduce.proofs.Separating.{found-member}
+use Rattle.q_reduce.proofs.RegionSeparation.{found-member}
 use Rattle.q_reduce.proofs.regions.Regions.has_noted.Goals as goal
 
 pub returns : goal.returns

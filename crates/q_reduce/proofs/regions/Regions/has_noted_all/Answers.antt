@@ -1,8 +1,7 @@
 use Rattle.std.proofs.Common.{◌≡◌, ◌∙◌, true, sym, ap, subst, inl, inr, true≢false}
-use Rattle.q_logic.specs.Literals.{Literal}
-use Rattle.q_logic.specs.Formulas.{IsIn}
+use Rattle.q_logic.specs.Prelude.{Literal, IsIn}
 use Rattle.q_reduce.specs.Regions.{is_covered, key_of}
-use Rattle.q_logic.proofs.Members.{taken-cases, taken-all}
+use Rattle.q_logic.proofs.Common.{taken-cases, taken-all}
 use Rattle.q_reduce.proofs.regions.Regions.has_noted_all.Goals as goal
 use Rattle.q_reduce.proofs.regions.Regions.has_noted_all.Goals.{else-covers-via-then-covers+else-not-has_noted, else-covers-via-else-covers}
 

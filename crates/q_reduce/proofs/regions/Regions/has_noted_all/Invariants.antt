@@ -1,6 +1,5 @@
 use Rattle.std.proofs.Common.{◌≡◌, true, take}
-use Rattle.q_logic.specs.Literals.{Literal}
-use Rattle.q_logic.specs.Formulas.{IsIn}
+use Rattle.q_logic.specs.Prelude.{Literal, IsIn}
 use Rattle.q_reduce.specs.Regions.{is_covered, key_of}
 use Rattle.q_reduce.proofs.regions.Regions.has_noted_all.Given as goal
 

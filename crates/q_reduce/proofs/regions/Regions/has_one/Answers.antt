@@ -1,8 +1,7 @@
 use Rattle.std.proofs.Common.{◌≡◌, ◌∙◌, true, sym, ap, subst, inl, inr, true≢false}
-use Rattle.q_logic.specs.Literals.{Literal}
-use Rattle.q_logic.specs.Expanding.{inner_existential}
+use Rattle.q_logic.specs.Prelude.{Literal, inner_existential}
 use Rattle.q_reduce.specs.Regions.{region_of}
-use Rattle.q_logic.proofs.Members.{taken-cases}
+use Rattle.q_logic.proofs.Common.{taken-cases}
 use Rattle.q_reduce.proofs.regions.Regions.has_one.Goals as goal
 use Rattle.q_reduce.proofs.regions.Regions.has_one.Goals.{else-is_inner-via-then-is_inner+else-region_of-region, else-is_inner-via-else-is_inner}
 

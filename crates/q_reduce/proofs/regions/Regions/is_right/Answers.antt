@@ -1,6 +1,6 @@
-use Rattle.q_kernel.specs.Kernels.{slots}
-use Rattle.q_kernel.proofs.Turns.{live-turn, each-came, All-more}
-use Rattle.q_reduce.proofs.Separating.{IsVerified, verified-one, verified-all}
+use Rattle.q_kernel.specs.Prelude.{slots}
+use Rattle.q_kernel.proofs.ForLoops.{live-turn, each-came, All-more}
+use Rattle.q_reduce.proofs.RegionSeparation.{IsVerified, verified-one, verified-all}
 use Rattle.q_reduce.proofs.regions.Regions.is_right.Goals as goal
 
 pub lits-requires : goal.lits-requires

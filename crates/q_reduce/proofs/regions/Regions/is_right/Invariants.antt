@@ -1,6 +1,6 @@
 use Rattle.std.proofs.Common.{All}
-use Rattle.q_kernel.specs.Kernels.{slots}
-use Rattle.q_reduce.proofs.Separating.{IsVerified}
+use Rattle.q_kernel.specs.Prelude.{slots}
+use Rattle.q_reduce.proofs.RegionSeparation.{IsVerified}
 use Rattle.q_reduce.proofs.regions.Regions.is_right.Given as goal
 
 abbrev pub invariant-loop-id : goal.invariant-loop-id

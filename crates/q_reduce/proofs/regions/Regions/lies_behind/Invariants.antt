@@ -1,5 +1,5 @@
 use Rattle.std.proofs.Common.{◌≡◌, ◌<◌, ℕ, true}
-use Rattle.q_logic.specs.Prefixes.{outer_or_same}
+use Rattle.q_logic.specs.Prelude.{outer_or_same}
 use Rattle.q_reduce.specs.Regions.{is_covered}
 use Rattle.q_reduce.proofs.regions.Regions.lies_behind.Given as goal
 

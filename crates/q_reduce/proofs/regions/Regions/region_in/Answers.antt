@@ -1,9 +1,8 @@
 use Rattle.std.proofs.Common.{◌≡◌, ◌∙◌, true, sym, ap, subst, inl, inr, true≢false}
-use Rattle.q_logic.specs.Literals.{Literal}
-use Rattle.q_logic.specs.Expanding.{inner_existential}
+use Rattle.q_logic.specs.Prelude.{Literal, inner_existential}
 use Rattle.q_kernel.proofs.Basics.{some-same}
 use Rattle.q_reduce.specs.Regions.{region_of}
-use Rattle.q_logic.proofs.Members.{item-in, taken-cases}
+use Rattle.q_logic.proofs.Common.{item-in, taken-cases}
 use Rattle.q_reduce.proofs.regions.Regions.region_in.Goals as goal
 
 pub returns-then-is_inner-clause-some : goal.returns-then-is_inner-clause-some

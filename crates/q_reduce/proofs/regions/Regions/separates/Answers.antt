@@ -1,13 +1,11 @@
 use Rattle.std.proofs.Common.{◌≡◌, ◌∙◌, ℕ, true, refl, sym, ap, subst}
-use Rattle.q_logic.specs.Literals.{negation}
-use Rattle.q_logic.specs.Formulas.{Clause, IsIn}
-use Rattle.q_logic.specs.Expanding.{inner_existential}
-use Rattle.q_kernel.specs.Kernels.{slots}
+use Rattle.q_logic.specs.Prelude.{negation, Clause, IsIn, inner_existential}
+use Rattle.q_kernel.specs.Prelude.{slots}
 use Rattle.q_kernel.proofs.Basics.{some-same}
 use Rattle.q_reduce.specs.Regions.{is_covered}
-use Rattle.q_logic.proofs.Members.{test-not}
+use Rattle.q_logic.proofs.Common.{test-not}
 use Rattle.q_rule.proofs.Quantifiers.{bound-universal}
-use Rattle.q_reduce.proofs.Separating.{reducible-none, reducible-apart}
+use Rattle.q_reduce.proofs.RegionSeparation.{reducible-none, reducible-apart}
 use Rattle.q_reduce.proofs.regions.Regions.separates.Goals as goal
 
 pub region_in-requires : goal.region_in-requires

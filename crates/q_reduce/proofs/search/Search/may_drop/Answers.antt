@@ -1,11 +1,11 @@
 use Rattle.std.proofs.Common.{List, ◌∙◌, sym, refl, subst, true≢false}
-use Rattle.q_logic.specs.Formulas.{Clause, IsIn}
-use Rattle.q_kernel.specs.Kernels.{slots}
+use Rattle.q_logic.specs.Prelude.{Clause, IsIn}
+use Rattle.q_kernel.specs.Prelude.{slots}
 use Rattle.q_kernel.proofs.Basics.{some-same}
 use Rattle.q_rule.proofs.Quantifiers.{bound-universal}
 use Rattle.q_reduce.specs.Forests.{ForestMap, AreForestsOf}
-use Rattle.q_reduce.proofs.Absent.{absent-reducible}
-use Rattle.q_reduce.proofs.Climbing.{leads-stays}
+use Rattle.q_reduce.proofs.AbsentNegation.{absent-reducible}
+use Rattle.q_reduce.proofs.ForestPaths.{leads-stays}
 use Rattle.q_reduce.proofs.search.Search.may_drop.Goals as goal
 
 pub returns-then-count-eq0-clause-yes : goal.returns-then-count-eq0-clause-yes

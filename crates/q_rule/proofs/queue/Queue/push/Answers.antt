@@ -1,6 +1,6 @@
 use Rattle.std.proofs.Common.{◌<◌, length, arith}
-use Rattle.q_logic.specs.Literals.{pack}
-use Rattle.q_rule.proofs.Marking.{marked-along, marked-pushed}
+use Rattle.q_logic.specs.Prelude.{pack}
+use Rattle.q_rule.proofs.MarkChanges.{marked-along, marked-pushed}
 use Rattle.q_rule.proofs.queue.Queue.push.Goals as goal
 
 pub invariant_of-self-2 : goal.invariant_of-self-2

@@ -1,7 +1,7 @@
 use Rattle.std.proofs.Common.{take}
 use Rattle.q_io.specs.Files.{bytes_at}
-use Rattle.q_command.proofs.Feeding.{if_some_1}
-use Rattle.q_run_annotate.proofs.Taking.{refuses_file}
+use Rattle.q_command.proofs.FilePieces.{if_some_1}
+use Rattle.q_run_annotate.proofs.AnnotatedSteps.{refuses_file}
 use Rattle.q_run_annotate.proofs.reading.Reading.read_piece.Goals as goal
 
 pub returns-in-Err-clause-refused : goal.returns-in-Err-clause-refused

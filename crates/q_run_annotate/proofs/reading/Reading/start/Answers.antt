@@ -3,7 +3,7 @@ use Rattle.q_logic.specs.declared.limits.Limits.{Limits}
 use Rattle.q_log.specs.Logs.{read}
 use Rattle.q_log.specs.Reading.{LogState}
 use Rattle.q_check.specs.Annotations.{Annotating}
-use Rattle.q_run_annotate.proofs.Walking.{begins, sets-out}
+use Rattle.q_run_annotate.proofs.HintedLogSteps.{begins, sets-out}
 use Rattle.q_run_annotate.proofs.reading.Reading.start.Goals as goal
 
 pub returns : goal.returns

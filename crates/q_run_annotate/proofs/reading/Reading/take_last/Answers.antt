@@ -1,6 +1,6 @@
 use Rattle.std.proofs.Common.{[]}
 use Rattle.q_log.specs.Reading.{to_come}
-use Rattle.q_run_annotate.proofs.Taking.{ends-none, ends-some, ended_now, ended_step, refuses_last, refuses_end}
+use Rattle.q_run_annotate.proofs.AnnotatedSteps.{ends-none, ends-some, ended_now, ended_step, refuses_last, refuses_end}
 use Rattle.q_run_annotate.proofs.reading.Reading.take_last.Goals as goal
 
 pub returns-in-Ok-None-clause-ended : goal.returns-in-Ok-None-clause-ended

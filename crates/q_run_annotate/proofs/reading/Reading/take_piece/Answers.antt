@@ -1,7 +1,7 @@
 use Rattle.std.proofs.Common.{◌≤◌, arith, subst, length, length-drop, take, drop, ◌++◌}
 use Rattle.q_run_annotate.specs.Readings.{Advances, Refuses}
-use Rattle.q_command.proofs.Auditing.{whole-rest}
-use Rattle.q_run_annotate.proofs.Taking.{advances_further, refuses_from}
+use Rattle.q_command.proofs.AuditSteps.{whole-rest}
+use Rattle.q_run_annotate.proofs.AnnotatedSteps.{advances_further, refuses_from}
 use Rattle.q_run_annotate.proofs.reading.Reading.take_piece.Goals as goal
 
 pub loop-at-preserved : goal.loop-at-preserved

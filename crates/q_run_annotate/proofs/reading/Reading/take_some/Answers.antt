@@ -2,7 +2,7 @@ use Rattle.std.proofs.Common.{sym, subst, take, ◌++◌}
 use Rattle.q_log.specs.Reading.{LogState, to_come}
 use Rattle.q_command.specs.Logs.{Entry}
 use Rattle.q_run_annotate.specs.Readings.{Advances}
-use Rattle.q_run_annotate.proofs.Taking.{leads-some, advances_passed, advances_taken, refuses_piece, refuses_offence}
+use Rattle.q_run_annotate.proofs.AnnotatedSteps.{leads-some, advances_passed, advances_taken, refuses_piece, refuses_offence}
 use Rattle.q_run_annotate.proofs.reading.Reading.take_some.Goals as goal
 
 pub returns-in-Ok-default-None-clause-ok : goal.returns-in-Ok-default-None-clause-ok

@@ -1,7 +1,7 @@
 use Rattle.std.proofs.Common.{arith}
-use Rattle.q_logic.specs.Hinted.{plain}
-use Rattle.q_run_annotate.proofs.Fitting.{goes, part-fits, fits-front}
-use Rattle.q_run_annotate.proofs.Taking.{convicted}
+use Rattle.q_logic.specs.Prelude.{plain}
+use Rattle.q_run_annotate.proofs.WritableProofs.{goes, part-fits, fits-front}
+use Rattle.q_run_annotate.proofs.AnnotatedSteps.{convicted}
 use Rattle.q_run_annotate.proofs.scribe.Scribe.take.Goals as goal
 
 pub push_hinted-requires : goal.push_hinted-requires

@@ -1,6 +1,6 @@
 use Rattle.std.proofs.Common.{arith, rules}
 use Rattle.std.proofs.lemmas.Bool.Decides.{nat_tests}
-use Rattle.q_sched.proofs.Turning.{turned-by_search, turned-by_guide, no_guides, some_guides}
+use Rattle.q_sched.proofs.TurnParts.{turned-by_search, turned-by_guide, no_guides, some_guides}
 use Rattle.q_sched.proofs.drive.Drive.next_turn.Goals as goal
 
 pub returns-then-is_empty-clause-turned : goal.returns-then-is_empty-clause-turned

@@ -1,6 +1,6 @@
 use Rattle.std.proofs.Common.{◌≡◌, sym, subst}
-use Rattle.q_reduce.specs.Lent.{Learned, IsFitFor}
-use Rattle.q_sched.proofs.Targets.{finds-same, found-plain, found-subsume, found-equiv, found-blocked, found-eliminate, found-expand}
+use Rattle.q_reduce.specs.Learned.{Learned, IsFitFor}
+use Rattle.q_sched.proofs.RuleTargets.{finds-same, found-plain, found-subsume, found-equiv, found-blocked, found-eliminate, found-expand}
 use Rattle.q_sched.proofs.searches.Searches.find.Goals.{in-Reduce+in_ok-find-in-Reduce, in-Subsume+in_ok-find-in-Subsume, in-Merge+in_ok-find-in-Merge, in-Block+in_ok-find-in-Block, in-Eliminate+in_ok-find-in-Eliminate, in-Expand+in_ok-find-in-Expand}
 use Rattle.q_sched.proofs.searches.Searches.find.Goals as goal
 

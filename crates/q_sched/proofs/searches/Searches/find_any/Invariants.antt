@@ -1,4 +1,4 @@
-use Rattle.q_reduce.specs.Lent.{IsFitFor}
+use Rattle.q_reduce.specs.Learned.{IsFitFor}
 use Rattle.q_sched.specs.Searching.{NoneBelow}
 use Rattle.q_sched.proofs.searches.Searches.find_any.Given as goal
 

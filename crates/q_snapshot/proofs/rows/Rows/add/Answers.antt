@@ -1,6 +1,6 @@
 use Rattle.std.proofs.Common.{[], ◌∷◌, List, subst, inl, inr, sym}
-use Rattle.q_logic.specs.Formulas.{IsIn}
-use Rattle.q_logic.proofs.ClauseLemmas.{IsIn-append}
+use Rattle.q_logic.specs.Prelude.{IsIn}
+use Rattle.q_logic.proofs.Common.{IsIn-append}
 use Rattle.q_snapshot.specs.declared.rows.Row.{Row}
 use Rattle.q_snapshot.specs.Rows.{IsRow}
 use Rattle.q_snapshot.proofs.rows.Rows.add.Goals as goal

@@ -1,7 +1,6 @@
 use Rattle.std.proofs.Common.{◌<◌, List, length, sym, subst, arith}
-use Rattle.q_logic.specs.Literals.{Literal}
-use Rattle.q_logic.specs.Formulas.{IsIn}
-use Rattle.q_logic.proofs.Members.{item-in}
+use Rattle.q_logic.specs.Prelude.{Literal, IsIn}
+use Rattle.q_logic.proofs.Common.{item-in}
 use Rattle.q_snapshot.specs.declared.entry.Entry.{Entry}
 use Rattle.q_snapshot.specs.Rows.{IsRow}
 use Rattle.q_snapshot.proofs.rows.Rows.row.Goals as goal

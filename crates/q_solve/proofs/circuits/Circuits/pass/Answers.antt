@@ -1,5 +1,5 @@
 use Rattle.q_logic.specs.declared.formulas.Quant.TheVariants.{Exists, Forall}
-use Rattle.q_solve.proofs.Leaving.{passed-at}
+use Rattle.q_solve.proofs.DecisionReturns.{passed-at}
 use Rattle.q_solve.proofs.circuits.Circuits.pass.Goals as goal
 
 pub returns-in_ok-pick-in-Exists-true-clause-passed : goal.returns-in_ok-pick-in-Exists-true-clause-passed

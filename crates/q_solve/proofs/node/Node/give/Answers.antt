@@ -2,14 +2,14 @@ use Rattle.std.proofs.Common.{◌≡◌, ◌<◌, Bool, List, [], ◌∷◌, suc
 use Rattle.q_logic.specs.declared.formulas.Bound.{Bound}
 use Rattle.q_logic.specs.declared.formulas.Quant.TheVariants.{Exists}
 use Rattle.q_logic.specs.Decisions.{standing}
-use Rattle.q_logic.specs.Searching.{nothing}
+use Rattle.q_logic.specs.Prelude.{nothing}
 use Rattle.q_search.specs.Paths.{along}
-use Rattle.q_search.proofs.Seating.{last-bound}
+use Rattle.q_search.proofs.PathValues.{last-bound}
 use Rattle.q_counts.specs.Counting.{AreCounts}
 use Rattle.q_solve.specs.declared.places.Known.{Known}
 use Rattle.q_solve.specs.Places.{Spot}
 use Rattle.q_solve.specs.Counted.{turned, IsCounted}
-use Rattle.q_solve.proofs.Turned.{at-open, counted-given}
+use Rattle.q_solve.proofs.ValueChanges.{at-open, counted-given}
 use Rattle.q_solve.proofs.node.Node.give.Goals as goal
 
 pub change-requires : goal.change-requires

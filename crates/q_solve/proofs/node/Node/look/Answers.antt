@@ -1,10 +1,10 @@
 use Rattle.std.proofs.Common.{◌≡◌, inl, inr, length, ap, sym, ◌∙◌, subst}
 use Rattle.std.proofs.lemmas.Bool.{cases_lt}
-use Rattle.q_logic.specs.Formulas.{Prefix}
+use Rattle.q_logic.specs.Prelude.{Prefix}
 use Rattle.q_logic.specs.Decisions.{verdict}
-use Rattle.q_logic.proofs.Winning.{closed-end}
-use Rattle.q_search.proofs.Seating.{rest-none}
-use Rattle.q_counts.proofs.Telling.{counts-told}
+use Rattle.q_logic.proofs.WonSearch.{closed-end}
+use Rattle.q_search.proofs.PathValues.{rest-none}
+use Rattle.q_counts.proofs.NodeCounts.{counts-told}
 use Rattle.q_solve.specs.Places.{Spot, unset, values}
 use Rattle.q_solve.proofs.node.Node.look.Goals as goal
 

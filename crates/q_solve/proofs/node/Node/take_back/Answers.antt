@@ -1,16 +1,15 @@
 use Rattle.std.proofs.Common.{◌≡◌, ◌<◌, Bool, List, [], ◌∷◌, suc, length, length-append, get_or, drop, ap, subst, refl, arith}
 use Rattle.q_logic.specs.declared.formulas.Bound.{Bound}
 use Rattle.q_logic.specs.declared.formulas.Quant.TheVariants.{Exists}
-use Rattle.q_logic.specs.Truth.{with_value}
+use Rattle.q_logic.specs.Prelude.{with_value, nothing}
 use Rattle.q_logic.specs.Decisions.{standing}
-use Rattle.q_logic.specs.Searching.{nothing}
 use Rattle.q_search.specs.Paths.{along}
-use Rattle.q_search.proofs.Seating.{last-bound}
+use Rattle.q_search.proofs.PathValues.{last-bound}
 use Rattle.q_counts.specs.Counting.{AreCounts}
 use Rattle.q_solve.specs.declared.places.Known.{Known}
 use Rattle.q_solve.specs.Places.{Spot, IsLast}
 use Rattle.q_solve.specs.Counted.{turned, IsCounted}
-use Rattle.q_solve.proofs.Turned.{at-value, counted-taken}
+use Rattle.q_solve.proofs.ValueChanges.{at-value, counted-taken}
 use Rattle.q_solve.proofs.node.Node.take_back.Goals as goal
 
 pub change-requires : goal.change-requires

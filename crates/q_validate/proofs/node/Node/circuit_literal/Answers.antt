@@ -1,7 +1,6 @@
 use Rattle.std.proofs.Common.{◌≡◌, ◌++◌, Bool, ap, sym, ◌∙◌, subst}
 use Rattle.q_logic.specs.Branches.{known_signed}
-use Rattle.q_aig.specs.Nets.{Net, tree_at}
-use Rattle.q_aig.specs.Outputs.{net_of}
+use Rattle.q_aig.specs.Prelude.{Net, tree_at, net_of}
 use Rattle.q_validate.specs.Words.{path_to, Tells}
 use Rattle.q_validate.specs.Stands.{Spot, known_along, AreTold}
 use Rattle.q_validate.proofs.node.Node.circuit_literal.Goals as goal

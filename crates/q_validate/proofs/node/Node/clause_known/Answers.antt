@@ -2,8 +2,8 @@ use Rattle.std.proofs.Common.{◌&&◌, ◌||◌, ◌++◌, ap, refl}
 use Rattle.q_logic.specs.Branches.{has_one, all_zero}
 use Rattle.q_validate.specs.Words.{path_to}
 use Rattle.q_validate.specs.Stands.{claim_at, unset, values}
-use Rattle.q_validate.proofs.Bits.{bit-zero, bit-ones}
-use Rattle.q_validate.proofs.Telling.{zeros-step, ones-step}
+use Rattle.q_validate.proofs.WordBits.{bit-zero, bit-ones}
+use Rattle.q_validate.proofs.WordVerdicts.{zeros-step, ones-step}
 use Rattle.q_validate.proofs.node.Node.clause_known.Goals as goal
 
 pub loop-lit-init : goal.loop-lit-init

@@ -1,6 +1,6 @@
 use Rattle.std.proofs.Common.{sym, ◌∙◌, arith}
 use Rattle.q_validate.specs.Stands.{claim_at}
-use Rattle.q_validate.proofs.Telling.{missing-told, clause-told}
+use Rattle.q_validate.proofs.WordVerdicts.{missing-told, clause-told}
 use Rattle.q_validate.proofs.node.Node.clause_told.Goals as goal
 
 pub returns-then-both_missing : goal.returns-then-both_missing

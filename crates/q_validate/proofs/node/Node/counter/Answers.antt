@@ -1,7 +1,7 @@
 use Rattle.std.proofs.Common.{ap, ◌∙◌}
-use Rattle.q_aig.specs.Outputs.{net_of}
+use Rattle.q_aig.specs.Prelude.{net_of}
 use Rattle.q_validate.specs.Stands.{Spot}
-use Rattle.q_validate.proofs.Telling.{row-told}
+use Rattle.q_validate.proofs.WordVerdicts.{row-told}
 use Rattle.q_validate.proofs.node.Node.counter.Goals as goal
 
 pub first_false-clause-requires : goal.first_false-clause-requires

@@ -1,8 +1,8 @@
 use Rattle.std.proofs.Common.{◌<◌, length, ℕ, Bool, List, cond, ap, sym, ◌∙◌, subst, get_or, false}
 use Rattle.q_logic.specs.Branches.{denial}
-use Rattle.q_aig.specs.Nets.{AreDistinct}
+use Rattle.q_aig.specs.Prelude.{AreDistinct}
 use Rattle.q_validate.specs.Stands.{Spot, values}
-use Rattle.q_validate.proofs.Knowing.{values-at}
+use Rattle.q_validate.proofs.KnownValues.{values-at}
 use Rattle.q_validate.proofs.node.Node.counter_value.Goals as goal
 
 pub returns-in-Some : goal.returns-in-Some

@@ -1,8 +1,8 @@
 use Rattle.std.proofs.Common.{refl, ◌≡◌, ◌+◌, Bool, true, false, cond, Some, slice_get, drop, ap, sym, ◌∙◌, subst}
-use Rattle.q_logic.specs.Formulas.{Matrix}
+use Rattle.q_logic.specs.Prelude.{Matrix}
 use Rattle.q_logic.specs.Branches.{first_false, is_false}
 use Rattle.q_validate.specs.Stands.{Spot, claim_at, clause_along, node_of}
-use Rattle.q_validate.proofs.Reading.{first-step}
+use Rattle.q_validate.proofs.ClauseReads.{first-step}
 use Rattle.q_validate.proofs.node.Node.first_false.Goals as goal
 
 pub returns-then-is_false : goal.returns-then-is_false

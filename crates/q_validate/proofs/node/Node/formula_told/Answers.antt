@@ -1,11 +1,11 @@
 use Rattle.std.proofs.Common.{◌≡◌, ◌&&◌, ◌||◌, ◌++◌, Some, slice_get, ap, refl, sym, subst}
 use Rattle.std.proofs.lemmas.Option.{get_or_from_slice_get, slice_get_within}
-use Rattle.q_logic.specs.Formulas.{Matrix}
+use Rattle.q_logic.specs.Prelude.{Matrix}
 use Rattle.q_logic.specs.Branches.{is_false}
 use Rattle.q_validate.specs.Words.{path_to, is_won}
 use Rattle.q_validate.specs.Stands.{Spot, claim_at, unset, values, verdict_along}
-use Rattle.q_validate.proofs.Bits.{bit-zero, bit-ones}
-use Rattle.q_validate.proofs.Telling.{losts-step, wons-step}
+use Rattle.q_validate.proofs.WordBits.{bit-zero, bit-ones}
+use Rattle.q_validate.proofs.WordVerdicts.{losts-step, wons-step}
 use Rattle.q_validate.proofs.node.Node.formula_told.Goals as goal
 
 pub loop-i-init : goal.loop-i-init

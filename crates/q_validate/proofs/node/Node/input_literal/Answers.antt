@@ -1,10 +1,10 @@
 use Rattle.std.proofs.Common.{◌++◌, ℕ, Bool, Some, slice_get, ap, ◌∙◌, subst, refl}
 use Rattle.q_logic.specs.Branches.{known_signed}
-use Rattle.q_aig.specs.Nets.{AreDistinct}
+use Rattle.q_aig.specs.Prelude.{AreDistinct}
 use Rattle.q_validate.specs.Words.{path_to}
 use Rattle.q_validate.specs.Stands.{claim_at, literal_along, IsPlace}
-use Rattle.q_validate.proofs.Knowing.{literal-by_input}
-use Rattle.q_validate.proofs.Telling.{tells-same}
+use Rattle.q_validate.proofs.KnownValues.{literal-by_input}
+use Rattle.q_validate.proofs.WordVerdicts.{tells-same}
 use Rattle.q_validate.proofs.node.Node.input_literal.Goals as goal
 
 pub returns-in-Some : goal.returns-in-Some

@@ -2,7 +2,7 @@ use Rattle.std.proofs.Common.{◌++◌, Bool, List, ap, ◌∙◌, arith}
 use Rattle.q_logic.specs.Branches.{is_false}
 use Rattle.q_validate.specs.Stands.{Spot, claim_at, clause_along}
 use Rattle.q_validate.specs.Words.{path_to}
-use Rattle.q_validate.proofs.Telling.{root-path}
+use Rattle.q_validate.proofs.WordVerdicts.{root-path}
 use Rattle.q_validate.proofs.node.Node.is_false.Goals as goal
 
 pub returns : goal.returns

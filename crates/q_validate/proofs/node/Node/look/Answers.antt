@@ -1,12 +1,12 @@
 use Rattle.std.proofs.Common.{◌≡◌, ◌-◌, ◌++◌, List, Bool, length, take, drop, inl, inr, sym, ap, ◌∙◌}
 use Rattle.std.proofs.lemmas.Bool.{cases_lt}
-use Rattle.q_logic.specs.Formulas.{Prefix}
+use Rattle.q_logic.specs.Prelude.{Prefix}
 use Rattle.q_logic.specs.Branches.{as_prefix, verdict}
-use Rattle.q_logic.proofs.Hitting.{closed-end}
-use Rattle.q_search.proofs.Seating.{rest-none}
+use Rattle.q_logic.proofs.HitNodes.{closed-end}
+use Rattle.q_search.proofs.PathValues.{rest-none}
 use Rattle.q_validate.specs.Words.{path_to}
 use Rattle.q_validate.specs.Stands.{Spot, claim_at, values, verdict_along}
-use Rattle.q_validate.proofs.Telling.{block-path}
+use Rattle.q_validate.proofs.WordVerdicts.{block-path}
 use Rattle.q_validate.proofs.node.Node.look.Goals as goal
 
 pub returns-clause-value : goal.returns-clause-value

@@ -1,10 +1,9 @@
 use Rattle.std.proofs.Common.{◌≡◌, ◌||◌, ◌&&◌, ◌+◌, ◌-◌, true, length, take, drop, ap, sym, ◌∙◌}
 use Rattle.std.proofs.lemmas.List.{take_rest}
-use Rattle.q_logic.specs.Literals.{Literal, negation}
-use Rattle.q_logic.specs.Sets.{has}
+use Rattle.q_logic.specs.Prelude.{Literal, negation, has}
 use Rattle.q_logic.specs.Branches.{Claim, is_missing, both_missing}
 use Rattle.q_validate.specs.Stands.{claim_at}
-use Rattle.q_validate.proofs.Reading.{both-step, has-told}
+use Rattle.q_validate.proofs.ClauseReads.{both-step, has-told}
 use Rattle.q_validate.proofs.node.Node.repeats.Goals as goal
 
 pub returns-then-is_missing : goal.returns-then-is_missing

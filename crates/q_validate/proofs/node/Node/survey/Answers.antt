@@ -1,7 +1,7 @@
 use Rattle.std.proofs.Common.{refl, take, ap, ◌∙◌}
-use Rattle.q_aig.specs.Outputs.{net_of}
+use Rattle.q_aig.specs.Prelude.{net_of}
 use Rattle.q_validate.specs.Stands.{Spot}
-use Rattle.q_validate.proofs.Telling.{row-told}
+use Rattle.q_validate.proofs.WordVerdicts.{row-told}
 use Rattle.q_validate.proofs.node.Node.survey.Goals as goal
 
 pub formula_told-requires : goal.formula_told-requires

@@ -1,5 +1,5 @@
 use Rattle.std.proofs.Common.{◌<◌, length, subst}
-use Rattle.q_logic.proofs.Hitting.{length-inputs}
+use Rattle.q_logic.proofs.HitNodes.{length-inputs}
 use Rattle.q_validate.proofs.node.NodePosition.down.Goals as goal
 
 pub give-requires : goal.give-requires

@@ -1,5 +1,5 @@
 use Rattle.std.proofs.Common.{refl}
-use Rattle.q_validate.proofs.Bits.{both-told}
+use Rattle.q_validate.proofs.WordBits.{both-told}
 use Rattle.q_validate.proofs.words.Known.and.Goals as goal
 
 pub returns : goal.returns

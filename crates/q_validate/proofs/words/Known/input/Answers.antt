@@ -1,4 +1,4 @@
-use Rattle.q_validate.proofs.Bits.{input-told, input-untold}
+use Rattle.q_validate.proofs.WordBits.{input-told, input-untold}
 use Rattle.q_validate.proofs.words.Known.input.Goals as goal
 
 pub returns-then-place-lt-DEPTH : goal.returns-then-place-lt-DEPTH

@@ -1,6 +1,6 @@
 use Rattle.std.proofs.Common.{Bool, Some, sym, subst}
 use Rattle.q_validate.specs.Words.{Tells}
-use Rattle.q_validate.proofs.Bits.{true-told, false-told}
+use Rattle.q_validate.proofs.WordBits.{true-told, false-told}
 use Rattle.q_validate.proofs.words.Known.value.Goals as goal
 
 pub returns-then-value : goal.returns-then-value

@@ -1,0 +1,20 @@
+use Rattle.std.proofs.Common.{◌∙◌, sym, subst}
+use Rattle.q_logic.specs.UsualBounds.{usual}
+use Rattle.q_logic.specs.Prelude.{Clause, IsIn}
+use Rattle.q_kernel.proofs.Basics.{some-same}
+use Rattle.q_rule.proofs.TargetChanges.{change-clause}
+use Rattle.q_blocked.proofs.BlockedSteps.{may-go_blocked}
+use Rattle.q_blocked.proofs.BlockedResults.{changed-blocked}
+use Rattle.q_blocked.proofs.blocked.take_blocked.Goals as goal
+
+pub delete_pivot-requires : goal.delete_pivot-requires
+delete_pivot-requires c =
+    let k = c.args.kernel.now in
+    let f = c.requires.fits usual in
+    may-go_blocked k c.args.c f.0 c.sound.ensures f.1 c.args.l f.2 f.3 f.4 (change-clause k c.args.c f.0 f.1 c.requires.bytes)
+
+pub returns : goal.returns
+returns c =
+    let f = c.requires.fits usual in
+    changed-blocked c.args.kernel.now c.delete_pivot.new.self c.args.c c.args.l c.sound.ensures c.requires.limits c.requires.bytes
+    (λ C e. subst (λ (x : Clause). IsIn c.args.l x) (some-same f.0 C (sym f.1 ∙ e)) f.2) c.delete_pivot.ensures

@@ -1,0 +1,12 @@
+use Rattle.std.proofs.Common.{◌≤◌, length, arith}
+use Rattle.q_logic.specs.Prelude.{live}
+use Rattle.q_kernel.specs.Prelude.{slots}
+use Rattle.q_kernel.proofs.SlotLists.{live_in-length}
+use Rattle.q_blocked.proofs.room.reserve.Goals as goal
+
+pub reserve-requires-2 : goal.reserve-requires-2
+reserve-requires-2 c =
+    let e = live_in-length (slots c.args.kernel.now) in
+    let h : length (live (slots c.args.kernel.now)) ≤ 33554432 = c.requires.clauses in
+    let i = c.in_ok-size.ensures.ids.1 in
+    omega arith

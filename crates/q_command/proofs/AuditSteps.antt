@@ -1,0 +1,275 @@
+-- Steps that are tried while a log is read.
+use Rattle.std.proofs.Common.{◌≡◌, ◌≤◌, ◌<◌, ◌+◌, ◌-◌, ◌∙◌, refl, sym, ap, subst, arith, ℕ, Bool, true, List, [], ◌∷◌, ◌++◌, length, take, drop, Option, Some, None, Ok, Err, append-nil, append_assoc, length-append, length-drop}
+use Rattle.std.proofs.lemmas.List.{take-append-drop, length-take-le}
+use Rattle.std.proofs.Math.Seq.{take-add, take-length}
+use Rattle.q_logic.specs.Prelude.{PrenexFormula, HintedSteps as AreValid, NumberedFormula, ProofPart, begun, standard, ValidSteps, ProofStep}
+use Rattle.q_log.specs.declared.error.LogError.{LogError}
+use Rattle.q_log.specs.declared.error.LogError.TheVariants as log
+use Rattle.q_hinted.specs.Logs.{Entry as BothEntry, Entries, behind, onto, stopped, finished, read_entries, hinted_in}
+use Rattle.q_hinted.specs.Reading.{BothState, to_come}
+use Rattle.q_hinted.specs.Reading as reading
+use Rattle.q_judge.specs.declared.error.CheckError.{CheckError}
+use Rattle.q_judge.specs.declared.error.CheckError.TheVariants as check
+use Rattle.q_check.specs.Checked.{Checked}
+use Rattle.q_check.specs.HintChecks.{HintChecked}
+use Rattle.q_command.specs.Logs.{Entry, HintedEntry, steps_of, hinted_of, IsOffence, IsRefusedAt}
+use Rattle.q_command.specs.Judging.{AreBehind, IsBehindPlain, IsBehindHinted, IsRefusedBehind, plain_in}
+use Rattle.q_command.specs.LazyCheckers.{hints_taken}
+use Rattle.q_command.specs.Refusals.{log_refused, step_refused}
+use Rattle.q_command.specs.Trials.{IsBehind, HasTried, Convicts}
+use Rattle.q_command.specs.Audits.{IsOpen, Stands, SameCharge, Advances, Stops, Refuses, HasTaken, HasEnded}
+use Rattle.q_command.specs.declared.audit.Audit.{Audit}
+use Rattle.q_command.specs.declared.judges.Judges.{Judges}
+use Rattle.q_command.specs.declared.trial.Trial.{Trial}
+use Rattle.q_command.specs.declared.outcome.Outcome.{Outcome}
+use Rattle.q_command.specs.declared.outcome.Outcome.TheVariants.{Verified, RefusedLine, RefusedEnd, RefusedInput, ReadFault, NoMemory}
+use Rattle.q_command.proofs.LogEntries.{bare-append}
+use Rattle.q_command.proofs.WholeLogs.{refused-at, offends-at}
+
+pub leads-none : (o : Option BothEntry) (before now : List ℕ → Entries) → o ≡ None → ((rest : List ℕ) → reading.Leads (Ok o) (before rest) (now rest)) → (rest : List ℕ) → before rest ≡ now rest
+leads-none o before now e h = subst (λ x. (rest : List ℕ) → reading.Leads (Ok x) (before rest) (now rest)) e h
+
+pub leads-some : (o : Option BothEntry) (before now : List ℕ → Entries) (e : BothEntry) → o ≡ Some e → ((rest : List ℕ) → reading.Leads (Ok o) (before rest) (now rest)) → (rest : List ℕ) → before rest ≡ onto e (now rest)
+leads-some o before now s e h = subst (λ x. (rest : List ℕ) → reading.Leads (Ok x) (before rest) (now rest)) e h
+
+pub ends-none : (o : Option BothEntry) (before : Entries) → o ≡ None → reading.Ends (Ok o) before → before ≡ finished
+ends-none o before e h = subst (λ x. reading.Ends (Ok x) before) e h
+
+pub ends-some : (o : Option BothEntry) (before : Entries) (e : BothEntry) → o ≡ Some e → reading.Ends (Ok o) before → before ≡ onto e finished
+ends-some o before s e h = subst (λ x. reading.Ends (Ok x) before) e h
+
+behind-behind : (xs ys : List BothEntry) (o : Entries) → behind xs (behind ys o) ≡ behind (xs ++ ys) o
+behind-behind xs ys o = ap (λ (es : List BothEntry). let e : Entries = record { entries = es; refused = o.refused } in e) (sym (append_assoc xs ys o.entries))
+
+-- one step more on trial
+pub tried-more : (old new : Trial) (e : BothEntry) (es : List BothEntry) → HasTried e old new → IsBehind old es → IsBehind new (es ++ e ∷ [])
+tried-more old new e es t b =
+    record {
+      judged = t.behind es b.judged;
+      counted = omega (arith, t.added.count, b.counted, length-append es (e ∷ []));
+      kept = λ k.
+          let was : old.taken.keeps ≡ true = sym t.added.keeps ∙ k in
+          t.added.steps was ∙ (ap (λ (ps : List Entry). ps ++ (e.0, e.1) ∷ []) (b.kept was) ∙ sym (bare-append es (e ∷ [])));
+    }
+
+same_charge : (old new : Trial) (e : BothEntry) → HasTried e old new → SameCharge old new
+same_charge old new e t = record { task = t.same; keeps = t.added.keeps }
+
+pub advances_begin : (a : Audit) → IsOpen a → Advances a a []
+advances_begin a o = record {
+  stands = λ front s. subst (λ (xs : List ℕ). Stands a xs) (sym (append-nil front)) s;
+  same = record { task = record { formula = refl; keeps = refl }; keeps = refl };
+  left = omega arith;
+  goes_on = o;
+}
+
+-- bytes that end no step
+pub advances_nothing : (old new : Audit) (bytes : List ℕ) → IsOpen old → new.trial ≡ old.trial → ((rest : List ℕ) → to_come old.reader (bytes ++ rest) ≡ to_come new.reader rest) → new.reader.left + length bytes ≡ old.reader.left → Advances old new bytes
+advances_nothing old new bytes o same next left =
+    let count : new.trial.taken.count ≡ old.trial.taken.count = ap (λ (t : Trial). t.taken.count) same in
+    let hints : hints_taken new.trial.judges.hinted ≡ hints_taken old.trial.judges.hinted = ap (λ (t : Trial). hints_taken t.judges.hinted) same in
+    record {
+      stands = λ front s. record {
+        entries = s.entries;
+        log = λ rest. ap (read_entries standard.bytes) (append_assoc front bytes rest) ∙ (s.log (bytes ++ rest) ∙ ap (behind s.entries) (next rest));
+        steps = subst (λ (t : Trial). IsBehind t s.entries) (sym same) s.steps;
+      };
+      same = record {
+        task = record { formula = ap (λ (t : Trial). t.judges.formula) same; keeps = ap (λ (t : Trial). t.judges.keeps_undo) same };
+        keeps = ap (λ (t : Trial). t.taken.keeps) same;
+      };
+      left = left;
+      goes_on = record { room = omega (arith, o.room, count, left); hints = omega (arith, o.hints, count, hints) };
+    }
+
+-- bytes that end a valid step
+pub advances_step : (old new : Audit) (bytes : List ℕ) (e : BothEntry) → IsOpen old → 0 < length bytes → HasTried e old.trial new.trial → ((rest : List ℕ) → to_come old.reader (bytes ++ rest) ≡ onto e (to_come new.reader rest)) → new.reader.left + length bytes ≡ old.reader.left → Advances old new bytes
+advances_step old new bytes e o some t next left =
+    record {
+      stands = λ front s. record {
+        entries = s.entries ++ e ∷ [];
+        log = λ rest. ap (read_entries standard.bytes) (append_assoc front bytes rest) ∙ (s.log (bytes ++ rest) ∙ (ap (behind s.entries) (next rest) ∙ behind-behind s.entries (e ∷ []) (to_come new.reader rest)));
+        steps = tried-more old.trial new.trial e s.entries t s.steps;
+      };
+      same = same_charge old.trial new.trial e t;
+      left = left;
+      goes_on = record { room = omega (arith, o.room, t.added.count, left, some); hints = omega (arith, o.hints, t.added.count, t.hints) };
+    }
+
+-- so many bytes at the front of a piece are left out
+pub left-over : (left new n : ℕ) (piece : List ℕ) → n ≤ length piece → new + n ≡ left → new + length (take n piece) ≡ left
+left-over left new n piece h e = let l : length (take n piece) ≡ n = length-take-le n piece h in omega (arith, l, e)
+
+-- a front of a piece, and what follows
+pub front-of : (n : ℕ) (piece rest : List ℕ) → take n piece ++ (drop n piece ++ rest) ≡ piece ++ rest
+front-of n piece rest = sym (append_assoc (take n piece) (drop n piece) rest) ∙ ap (λ xs. xs ++ rest) (take-append-drop n piece)
+
+-- the front of a piece was read, and no step ended in it, or one
+pub advances_passed : (old : Audit) (r : BothState) (piece : List ℕ) (n : ℕ) (o : Option BothEntry) → IsOpen old → o ≡ None → ((rest : List ℕ) → reading.Leads (Ok o) (to_come old.reader (take n piece ++ rest)) (to_come r rest)) → r.left + n ≡ old.reader.left → (0 < n) × (n ≤ length piece) → Advances old (record { reader = r; trial = old.trial }) (take n piece)
+advances_passed old r piece n o open-now q h left w =
+    advances_nothing old (record { reader = r; trial = old.trial }) (take n piece) open-now refl
+    (leads-none o (λ rest. to_come old.reader (take n piece ++ rest)) (λ rest. to_come r rest) q h) (left-over old.reader.left r.left n piece w.1 left)
+
+pub advances_taken : (old : Audit) (r : BothState) (t : Trial) (piece : List ℕ) (n : ℕ) (o : Option BothEntry) (e : BothEntry) → IsOpen old → HasTried e old.trial t → o ≡ Some e → ((rest : List ℕ) → reading.Leads (Ok o) (to_come old.reader (take n piece ++ rest)) (to_come r rest)) → r.left + n ≡ old.reader.left → (0 < n) × (n ≤ length piece) → Advances old (record { reader = r; trial = t }) (take n piece)
+advances_taken old r t piece n o e open-now tried q h left w =
+    let l : length (take n piece) ≡ n = length-take-le n piece w.1 in
+    let some : 0 < length (take n piece) = omega (arith, l, w.0) in
+    advances_step old (record { reader = r; trial = t }) (take n piece) e open-now some tried
+    (leads-some o (λ rest. to_come old.reader (take n piece ++ rest)) (λ rest. to_come r rest) e q h) (left-over old.reader.left r.left n piece w.1 left)
+
+pub advances_more : (a b c : Audit) (xs ys : List ℕ) → Advances a b xs → Advances b c ys → Advances a c (xs ++ ys)
+advances_more a b c xs ys f g =
+    record {
+      stands = λ front s. subst (λ (zs : List ℕ). Stands c zs) (append_assoc front xs ys) (g.stands (front ++ xs) (f.stands front s));
+      same = record {
+        task = record { formula = g.same.task.formula ∙ f.same.task.formula; keeps = g.same.task.keeps ∙ f.same.task.keeps };
+        keeps = g.same.keeps ∙ f.same.keeps;
+      };
+      left = omega (arith, f.left, g.left, length-append xs ys);
+      goes_on = g.goes_on;
+    }
+
+-- bytes behind bytes
+pub advances_through : (a b c : Audit) → ((bytes : List ℕ) × Advances a b bytes) → ((bytes : List ℕ) × Advances b c bytes) → (bytes : List ℕ) × Advances a c bytes
+advances_through a b c f g = (f.0 ++ g.0, advances_more a b c f.0 g.0 f.1 g.1)
+
+-- what is left of a piece
+pub whole-rest : (piece : List ℕ) (at : ℕ) → take (length piece - at) (drop at piece) ≡ drop at piece
+whole-rest piece at = subst (λ k. take k (drop at piece) ≡ drop at piece) (length-drop at piece) (take-length (drop at piece))
+
+-- what is refused
+pub convicted : (w : Outcome) (F : PrenexFormula) (es : List BothEntry) (n : ℕ) (s : ProofStep) (x : Option ProofPart) (e : CheckError) → w ≡ step_refused n e → IsRefusedBehind F es s x e → Convicts w F es (n, s, x)
+convicted w F es n s None (check.Refused c) q h = subst (λ (o : Outcome). Convicts o F es (n, s, None)) (sym q) (refl, h)
+convicted w F es n s (Some t) (check.Refused c) q h = subst (λ (o : Outcome). Convicts o F es (n, s, Some t)) (sym q) (refl, h)
+convicted w F es n s x check.NoMemory q h = subst (λ (o : Outcome). Convicts o F es (n, s, x)) (sym q) tt
+
+pub stops_convict : (w : Outcome) (F : PrenexFormula) (log : List ℕ) (es : List BothEntry) (e : BothEntry) (o : Entries) → Convicts w F es e → read_entries standard.bytes log ≡ behind es (onto e o) → Stops w F log
+stops_convict (Verified n) F log es e o h r = h
+stops_convict (RefusedLine n c) F log es e o h r = subst (λ (k : ℕ). IsRefusedAt F log k c) (sym h.0) (refused-at F log es e.0 e.1 e.2 o.entries o.refused c r h.1)
+stops_convict (RefusedEnd c) F log es e o h r = h
+stops_convict (RefusedInput r n c) F log es e o h q = h
+stops_convict ReadFault F log es e o h r = tt
+stops_convict NoMemory F log es e o h r = tt
+
+refuses_step : (a : Audit) (bytes : List ℕ) (w : Outcome) (e : BothEntry) (o : Entries) → ((es : List BothEntry) → AreBehind a.trial.judges es → Convicts w a.trial.judges.formula es e) → to_come a.reader bytes ≡ onto e o → Refuses w a bytes
+refuses_step a bytes w e o h next front s =
+    stops_convict w a.trial.judges.formula (front ++ bytes) s.entries e o (h s.entries s.steps.judged) (s.log bytes ∙ ap (behind s.entries) next)
+
+-- behind the plain steps stands a formula, and behind the others a numbered one
+plain-stand : (keep : Bool) (F : PrenexFormula) (ps : List Entry) (c : Option Checked) → IsBehindPlain keep F ps c → (L : PrenexFormula) × ValidSteps standard F (steps_of ps) L
+plain-stand keep F ps None h = (F, subst (λ (xs : List Entry). ValidSteps standard F (steps_of xs) F) (sym h) refl)
+plain-stand keep F ps (Some c) h = (h.leads.last, h.leads.steps)
+
+hinted-stand : (keep : Bool) (F : PrenexFormula) (hs : List HintedEntry) (c : Option HintChecked) → IsBehindHinted keep F hs c → (M : NumberedFormula) × AreValid standard (begun F) (hinted_of hs) M
+hinted-stand keep F hs None h = (begun F, subst (λ (xs : List HintedEntry). AreValid standard (begun F) (hinted_of xs) (begun F)) (sym h) refl)
+hinted-stand keep F hs (Some c) h = (c.formula, h.steps)
+
+offends : (j : Judges) (log : List ℕ) (es : List BothEntry) (e : LogError) (n c : ℕ) → read_entries standard.bytes log ≡ behind es (stopped e) → AreBehind j es → IsOffence (Some e) n c → IsRefusedAt j.formula log n c
+offends j log es e n c r b o =
+    let p = plain-stand j.keeps_undo j.formula (plain_in es) j.plain b.plain in
+    let h = hinted-stand j.keeps_undo j.formula (hinted_in es) j.hinted b.hinted in
+    let same : behind es (stopped e) ≡ record { entries = es; refused = Some e } = ap (λ (xs : List BothEntry). let x : Entries = record { entries = xs; refused = Some e } in x) (append-nil es) in
+    offends-at j.formula log es (Some e) n c p.0 h.0 (r ∙ same) p.1 h.1 o
+
+pub stops_offence : (w : Outcome) (j : Judges) (text : List ℕ) (es : List BothEntry) (e : LogError) → w ≡ log_refused e → AreBehind j es → (¬ (e ≡ log.NoMemory) → read_entries standard.bytes text ≡ behind es (stopped e)) → Stops w j.formula text
+stops_offence w j text es (log.BadLine n) q b r = subst (λ (x : Outcome). Stops x j.formula text) (sym q) (offends j text es (log.BadLine n) n 1 (r (λ x. cc)) b (refl, refl))
+stops_offence w j text es (log.Limit n) q b r = subst (λ (x : Outcome). Stops x j.formula text) (sym q) (offends j text es (log.Limit n) n 8 (r (λ x. cc)) b (refl, refl))
+stops_offence w j text es log.NoMemory q b r = subst (λ (x : Outcome). Stops x j.formula text) (sym q) tt
+
+-- the reader's answer to a byte
+answered : (e : LogError) (before now : Entries) → reading.Leads (Err e) before now → ¬ (e ≡ log.NoMemory) → before ≡ stopped e
+answered (log.BadLine n) before now h k = h.0
+answered (log.Limit n) before now h k = h.0
+answered log.NoMemory before now h k = absurd (k refl)
+
+pub refuses_offence : (a : Audit) (new : BothState) (piece : List ℕ) (e : LogError) (w : Outcome) → w ≡ log_refused e → reading.Passes (Err e) a.reader new piece → (rest : List ℕ) → Refuses w a (piece ++ rest)
+refuses_offence a new piece e w q (n, h) rest front s =
+    let all : take n piece ++ (drop n piece ++ rest) ≡ piece ++ rest = front-of n piece rest in
+    subst (λ (xs : List ℕ). Stops w a.trial.judges.formula (front ++ xs)) all
+    (stops_offence w a.trial.judges (front ++ (take n piece ++ (drop n piece ++ rest))) s.entries e q s.steps.judged
+    (λ k. s.log (take n piece ++ (drop n piece ++ rest)) ∙ ap (behind s.entries) (answered e (to_come a.reader (take n piece ++ (drop n piece ++ rest))) (to_come new (drop n piece ++ rest)) (h (drop n piece ++ rest)) k)))
+
+-- a step that the front of a piece makes whole
+pub refuses_piece : (a : Audit) (piece : List ℕ) (n : ℕ) (w : Outcome) (e : BothEntry) (now : List ℕ → Entries) → ((es : List BothEntry) → AreBehind a.trial.judges es → Convicts w a.trial.judges.formula es e) → ((rest : List ℕ) → to_come a.reader (take n piece ++ rest) ≡ onto e (now rest)) → (rest : List ℕ) → Refuses w a (piece ++ rest)
+refuses_piece a piece n w e now h next rest =
+    subst (λ (xs : List ℕ). Refuses w a xs) (front-of n piece rest) (refuses_step a (take n piece ++ (drop n piece ++ rest)) w e (now (drop n piece ++ rest)) h (next (drop n piece ++ rest)))
+
+pub refuses_last : (a : Audit) (w : Outcome) (e : BothEntry) → ((es : List BothEntry) → AreBehind a.trial.judges es → Convicts w a.trial.judges.formula es e) → to_come a.reader [] ≡ onto e finished → Refuses w a []
+refuses_last a w e h next = refuses_step a [] w e finished h next
+
+-- and to the end
+ended-by : (e : LogError) (before : Entries) → reading.Ends (Err e) before → ¬ (e ≡ log.NoMemory) → before ≡ stopped e
+ended-by (log.BadLine n) before h k = h
+ended-by (log.Limit n) before h k = h
+ended-by log.NoMemory before h k = absurd (k refl)
+
+pub refuses_end : (a : Audit) (e : LogError) (w : Outcome) → w ≡ log_refused e → reading.Ends (Err e) (to_come a.reader []) → Refuses w a []
+refuses_end a e w q h front s =
+    stops_offence w a.trial.judges (front ++ []) s.entries e q s.steps.judged
+    (λ k. s.log [] ∙ ap (behind s.entries) (ended-by e (to_come a.reader []) h k))
+
+-- a refusal within bytes that follow others
+refuses_later : (a b : Audit) (xs ys : List ℕ) (w : Outcome) → Advances a b xs → Refuses w b ys → Refuses w a (xs ++ ys)
+refuses_later a b xs ys w f r front s =
+    subst (λ (F : PrenexFormula). Stops w F (front ++ (xs ++ ys))) f.same.task.formula
+    (subst (λ (zs : List ℕ). Stops w b.trial.judges.formula zs) (append_assoc front xs ys) (r (front ++ xs) (f.stands front s)))
+
+-- bytes of a piece are refused, behind the bytes before them
+pub refuses_from : (a b : Audit) (piece : List ℕ) (i : ℕ) (w : Outcome) → Advances a b (take i piece) → ((rest : List ℕ) → Refuses w b (drop i piece ++ rest)) → (rest : List ℕ) → Refuses w a (piece ++ rest)
+refuses_from a b piece i w f r rest = subst (λ xs. Refuses w a xs) (front-of i piece rest) (refuses_later a b (take i piece) (drop i piece ++ rest) w f (r rest))
+
+-- more bytes of a piece
+pub advances_further : (a b c : Audit) (piece : List ℕ) (i n : ℕ) → Advances a b (take i piece) → Advances b c (take n (drop i piece)) → Advances a c (take (i + n) piece)
+advances_further a b c piece i n f g = subst (λ xs. Advances a c xs) (sym (take-add i n piece)) (advances_more a b c (take i piece) (take n (drop i piece)) f g)
+
+-- a refusal within a piece of the file is that of all its rest
+pub refuses_file : (a : Audit) (file : List ℕ) (place n : ℕ) (piece : List ℕ) (w : Outcome) → piece ≡ take n (drop place file) → ((rest : List ℕ) → Refuses w a (piece ++ rest)) → Refuses w a (drop place file)
+refuses_file a file place n piece w e r =
+    subst (λ xs. Refuses w a xs) (ap (λ xs. xs ++ drop n (drop place file)) e ∙ take-append-drop n (drop place file)) (r (drop n (drop place file)))
+
+-- the audit stands behind the front of a file
+pub record HasReached (file : List ℕ) (place : ℕ) (first now : Audit) : Type 0 where
+  pub front : Advances first now (take place file)
+  pub within : place ≤ length file
+
+pub tries_begin : (file : List ℕ) (a : Audit) → IsOpen a → HasReached file 0 a a
+tries_begin file a o = record { front = advances_begin a o; within = omega arith }
+
+pub tries_more : (file : List ℕ) (place n : ℕ) (first old new : Audit) → HasReached file place first old → HasTaken file place n old new → HasReached file (place + n) first new
+tries_more file place n first old new f p =
+    let len : length (drop place file) ≡ length file - place = length-drop place file in
+    record {
+      front = subst (λ xs. Advances first new xs) (sym (take-add place n file)) (advances_more first old new (take place file) (take n (drop place file)) f.front p.piece);
+      within = omega (arith, len, p.left, f.within);
+    }
+
+-- at the end of the file
+pub tries_end : (file : List ℕ) (place n : ℕ) (first old new : Audit) → n ≡ 0 → HasReached file place first old → HasTaken file place n old new → Advances first new file
+tries_end file place n first old new z f p =
+    let g : HasReached file (place + n) first new = tries_more file place n first old new f p in
+    let all : place + n ≡ length file = omega (arith, p.end z, f.within, z) in
+    subst (λ xs. Advances first new xs) (ap (λ k. take k file) all ∙ take-length file) g.front
+
+pub refuses_whole : (file : List ℕ) (place : ℕ) (first old : Audit) (w : Outcome) → HasReached file place first old → Refuses w old (drop place file) → Refuses w first file
+refuses_whole file place first old w f r = subst (λ xs. Refuses w first xs) (take-append-drop place file) (refuses_later first old (take place file) (drop place file) w f.front r)
+
+-- the log ends without a step more, or with one
+pub ended_now : (a : Audit) → to_come a.reader [] ≡ finished → HasEnded a a.trial
+ended_now a e = record {
+  all = λ log s. record {
+    entries = s.entries;
+    is_log = ap (read_entries standard.bytes) (sym (append-nil log)) ∙ (s.log [] ∙ (ap (behind s.entries) e ∙ ap (λ (xs : List BothEntry). let x : Entries = record { entries = xs; refused = None } in x) (append-nil s.entries)));
+    steps = s.steps;
+  };
+  same = record { task = record { formula = refl; keeps = refl }; keeps = refl };
+}
+
+pub ended_step : (a : Audit) (t : Trial) (e : BothEntry) → HasTried e a.trial t → to_come a.reader [] ≡ onto e finished → HasEnded a t
+ended_step a t e h r = record {
+  all = λ log s. record {
+    entries = s.entries ++ e ∷ [];
+    is_log = ap (read_entries standard.bytes) (sym (append-nil log)) ∙ (s.log [] ∙ ap (behind s.entries) r);
+    steps = tried-more a.trial t e s.entries h s.steps;
+  };
+  same = same_charge a.trial t e h;
+}

@@ -1,0 +1,358 @@
+-- The checkers of both profiles, step by step, and their ends.
+use Rattle.std.proofs.Common.{◌≡◌, inl, inr, ◌<◌, ◌∙◌, refl, sym, ap, subst, arith, ℕ, Bool, true, false, List, [], ◌∷◌, ◌++◌, map, length, append-nil, length-append, Option, Some, None, Result, Ok, Err, IfOk, IfErr, OnOk, IsSome, IsSomeAnd, is_some}
+use Rattle.q_logic.specs.Prelude.{PrenexFormula, Prefix, Matrix, Hinted, HintedSteps, HintedValid, HintedCause, NumberedFormula, ProofPart, begun, plain, strip, hinted_after, standard, live, numbered, blocks, SameBlocks, ValidSteps, SameFormula, AreAlike, ProofStep, Valid, Cause, after, UndoEntry, Undos}
+use Rattle.q_logic.specs.declared.limits.Limits.{Limits}
+use Rattle.q_logic.proofs.Common.{alike_itself, alike_swapped, alike_cause}
+use Rattle.q_logic.proofs.HintedRuns.{hinted-valid, hinted-after}
+use Rattle.q_hinted.specs.Logs.{Entry as BothEntry, plain_entry, hinted_entry, hinted_in}
+use Rattle.q_judge.specs.Tried.{IsEndRefusal}
+use Rattle.q_judge.specs.declared.error.CheckError.{CheckError}
+use Rattle.q_judge.specs.declared.error.CheckError.TheVariants.{Refused, NoMemory}
+use Rattle.q_check.specs.declared.checker.Verified.{Verified}
+use Rattle.q_check.specs.Alike.{Leads}
+use Rattle.q_check.specs.Checked.{Checked, HasGrown, IsRefusal}
+use Rattle.q_check.specs.HintChecks.{HintChecked, IsHintRefusal}
+use Rattle.q_check.proofs.CheckerRuns.{leads_begin, leads_more, leads_undos}
+use Rattle.q_command.specs.Logs.{Entry, HintedEntry, steps_of, hinted_of, EndsApart}
+use Rattle.q_command.specs.Judging.{AreBehind, ArePure, IsMade, SameTask, IsBehindPlain, IsBehindHinted, HasTakenPlain, HasTakenHinted, IsBadPlain, IsBadHinted, HavePassedPlain, HaveEndedPlain, HaveStoppedPlain, HavePassed, HaveStopped, Leaves, plain_in, bare}
+use Rattle.q_command.specs.LazyCheckers.{IsReadyPlain, IsReadyHinted, IsNewPlain, new_hinted, HasSteppedPlain, HasSteppedHinted, IsEndedPlain, IsEndedHinted, hints_taken}
+use Rattle.q_command.specs.declared.judges.Judges.{Judges}
+use Rattle.q_command.proofs.LogEntries.{plain_in-append, hinted_in-append, steps_of-append, hinted_of-append, strip-append, hinted_in-plain, bare-plain, bare-hinted, stripped-steps, only-plain}
+
+-- numbering changes no formula
+live-numbered : (X : Matrix) → live (numbered X) ≡ X
+live-numbered [] = refl
+live-numbered (C ∷ X) = ap (λ (Y : Matrix). C ∷ Y) (live-numbered X)
+
+pub plain-begun : (F : PrenexFormula) → plain (begun F) ≡ F
+plain-begun F = ap (λ (X : Matrix). let G : PrenexFormula = record { prefix = F.prefix; matrix = X } in G) (live-numbered F.matrix)
+
+-- one plain step more
+pub grown-plain : (keep : Bool) (F G : PrenexFormula) (ss : List ProofStep) (s : ProofStep) (old new : List UndoEntry) → Leads standard F ss G → (keep ≡ true → Undos F ss old) → HasGrown keep G s old new → keep ≡ true → Undos F (ss ++ s ∷ []) new
+grown-plain true F G ss s old new l u g k = subst (λ (us : List UndoEntry). Undos F (ss ++ s ∷ []) us) (sym g.2) (leads_undos standard F ss G s old g.0 l (u k) g.1)
+grown-plain false F G ss s old new l u g k = cc
+
+more-plain : (keep : Bool) (F : PrenexFormula) (ps : List Entry) (n : ℕ) (s : ProofStep) (G : PrenexFormula) (old : List UndoEntry) (new : Checked) → Leads standard F (steps_of ps) G → (keep ≡ true → Undos F (steps_of ps) old) → new.limits ≡ standard → new.keeps ≡ keep → Valid standard G s → AreAlike (after G s) new.formula → HasGrown keep G s old new.undo → HasTakenPlain keep F (ps ++ (n, s) ∷ []) new
+more-plain keep F ps n s G old new l u m k v a g =
+    let e : steps_of (ps ++ (n, s) ∷ []) ≡ steps_of ps ++ s ∷ [] = steps_of-append ps ((n, s) ∷ []) in
+    record {
+      some = omega (arith, length-append ps ((n, s) ∷ []));
+      limits = m;
+      keeps = k;
+      leads = subst (λ (ss : List ProofStep). Leads standard F ss new.formula) (sym e) (leads_more standard F (steps_of ps) G new.formula s l v a);
+      undone = λ t. subst (λ (ss : List ProofStep). Undos F ss new.undo) (sym e) (grown-plain keep F G (steps_of ps) s old new.undo l u g t);
+    }
+
+-- by the checker that is there
+pub plain-goes-on : (keep : Bool) (F : PrenexFormula) (ps : List Entry) (n : ℕ) (s : ProofStep) (old new : Checked) → HasTakenPlain keep F ps old → Valid old.limits old.formula s → AreAlike (after old.formula s) new.formula → HasGrown old.keeps old.formula s old.undo new.undo → new.limits ≡ old.limits → new.keeps ≡ old.keeps → HasTakenPlain keep F (ps ++ (n, s) ∷ []) new
+plain-goes-on keep F ps n s old new h v a g m k =
+    more-plain keep F ps n s old.formula old.undo new h.leads h.undone (m ∙ h.limits) (k ∙ h.keeps)
+    (subst (λ (x : Limits). Valid x old.formula s) h.limits v) a (subst (λ (b : Bool). HasGrown b old.formula s old.undo new.undo) h.keeps g)
+
+pub plain-wrong : (keep : Bool) (F : PrenexFormula) (ps : List Entry) (s : ProofStep) (c : Checked) (e : CheckError) → HasTakenPlain keep F ps c → IsRefusal c.limits c.formula s e → IsBadPlain F ps s e
+plain-wrong keep F ps s c (Refused n) h r = record {
+  last = h.leads.last;
+  steps = h.leads.steps;
+  cause = alike_cause standard c.formula h.leads.last s n (alike_swapped h.leads.last c.formula h.leads.alike) (subst (λ (x : Limits). Cause x c.formula s n) h.limits r);
+}
+plain-wrong keep F ps s c NoMemory h r = tt
+
+-- by a checker that was made for it
+pub plain-begins : (keep : Bool) (F : PrenexFormula) (ps : List Entry) (n : ℕ) (s : ProofStep) (first new : Checked) → ps ≡ [] → AreAlike F first.formula × (first.undo ≡ []) × (first.limits ≡ standard) × (first.keeps ≡ keep) → Valid first.limits first.formula s → AreAlike (after first.formula s) new.formula → HasGrown first.keeps first.formula s first.undo new.undo → new.limits ≡ first.limits → new.keeps ≡ first.keeps → HasTakenPlain keep F (ps ++ (n, s) ∷ []) new
+plain-begins keep F ps n s first new z (a, u, m, k) v b g p q =
+    subst (λ (xs : List Entry). HasTakenPlain keep F (xs ++ (n, s) ∷ []) new) (sym z)
+    (more-plain keep F [] n s first.formula first.undo new (leads_begin standard F first.formula a) (λ t. u) (p ∙ m) (q ∙ k)
+    (subst (λ (x : Limits). Valid x first.formula s) m v) b (subst (λ (t : Bool). HasGrown t first.formula s first.undo new.undo) k g))
+
+pub plain-wrong-first : (F : PrenexFormula) (ps : List Entry) (s : ProofStep) (c : Checked) (e : CheckError) → ps ≡ [] → AreAlike F c.formula → c.limits ≡ standard → IsRefusal c.limits c.formula s e → IsBadPlain F ps s e
+plain-wrong-first F ps s c (Refused n) z a m r = record {
+  last = F;
+  steps = subst (λ (xs : List Entry). ValidSteps standard F (steps_of xs) F) (sym z) refl;
+  cause = alike_cause standard c.formula F s n (alike_swapped F c.formula a) (subst (λ (x : Limits). Cause x c.formula s n) m r);
+}
+plain-wrong-first F ps s c NoMemory z a m r = tt
+
+-- one step with its proof part more
+steps-more : (N M : NumberedFormula) (hs : List Hinted) (h : Hinted) (E : NumberedFormula) → HintedSteps standard N hs M → HintedValid standard M h.step h.proof → E ≡ hinted_after M h.step h.proof → HintedSteps standard N (hs ++ h ∷ []) E
+steps-more N M [] h E e v q =
+    let w : HintedValid standard N h.step h.proof = subst (λ (G : NumberedFormula). HintedValid standard G h.step h.proof) (sym e) v in
+    (w, ap (λ (G : NumberedFormula). hinted_after G h.step h.proof) e ∙ sym q)
+steps-more N M (x ∷ hs) h E (u, r) v q = (u, steps-more (hinted_after N x.step x.proof) M hs h E r v q)
+
+more-hinted : (keep : Bool) (F : PrenexFormula) (hs : List HintedEntry) (n : ℕ) (s : ProofStep) (t : ProofPart) (N : NumberedFormula) (old : List UndoEntry) (new : HintChecked) → HintedSteps standard (begun F) (hinted_of hs) N → Leads standard F (strip (hinted_of hs)) (plain N) → (keep ≡ true → Undos F (strip (hinted_of hs)) old) → new.limits ≡ standard → new.keeps ≡ keep → HintedValid standard N s t → new.formula ≡ hinted_after N s t → HasGrown keep (plain N) s old new.undo → HasTakenHinted keep F (hs ++ (n, record { step = s; proof = t }) ∷ []) new
+more-hinted keep F hs n s t N old new r l u m k v a g =
+    let h : Hinted = record { step = s; proof = t } in
+    let e : hinted_of (hs ++ (n, h) ∷ []) ≡ hinted_of hs ++ h ∷ [] = hinted_of-append hs ((n, h) ∷ []) in
+    let d : strip (hinted_of (hs ++ (n, h) ∷ [])) ≡ strip (hinted_of hs) ++ s ∷ [] = ap strip e ∙ strip-append (hinted_of hs) (h ∷ []) in
+    let b : AreAlike (after (plain N) s) (plain new.formula) = subst (λ (M : NumberedFormula). AreAlike (after (plain N) s) (plain M)) (sym a) (hinted-after standard N s t v) in
+    record {
+      some = omega (arith, length-append hs ((n, h) ∷ []));
+      limits = m;
+      keeps = k;
+      steps = subst (λ (xs : List Hinted). HintedSteps standard (begun F) xs new.formula) (sym e) (steps-more (begun F) N (hinted_of hs) h new.formula r v a);
+      leads = subst (λ (ss : List ProofStep). Leads standard F ss (plain new.formula)) (sym d) (leads_more standard F (strip (hinted_of hs)) (plain N) (plain new.formula) s l (hinted-valid standard N s t v) b);
+      undone = λ x. subst (λ (ss : List ProofStep). Undos F ss new.undo) (sym d) (grown-plain keep F (plain N) (strip (hinted_of hs)) s old new.undo l u g x);
+    }
+
+pub hinted-goes-on : (keep : Bool) (F : PrenexFormula) (hs : List HintedEntry) (n : ℕ) (s : ProofStep) (t : ProofPart) (old new : HintChecked) → HasTakenHinted keep F hs old → HintedValid old.limits old.formula s t → new.formula ≡ hinted_after old.formula s t → HasGrown old.keeps (plain old.formula) s old.undo new.undo → new.limits ≡ old.limits → new.keeps ≡ old.keeps → HasTakenHinted keep F (hs ++ (n, record { step = s; proof = t }) ∷ []) new
+hinted-goes-on keep F hs n s t old new h v a g m k =
+    more-hinted keep F hs n s t old.formula old.undo new h.steps h.leads h.undone (m ∙ h.limits) (k ∙ h.keeps)
+    (subst (λ (x : Limits). HintedValid x old.formula s t) h.limits v) a (subst (λ (b : Bool). HasGrown b (plain old.formula) s old.undo new.undo) h.keeps g)
+
+pub hinted-wrong : (keep : Bool) (F : PrenexFormula) (hs : List HintedEntry) (s : ProofStep) (t : ProofPart) (c : HintChecked) (e : CheckError) → HasTakenHinted keep F hs c → IsHintRefusal c.limits c.formula s t e → IsBadHinted F hs s t e
+hinted-wrong keep F hs s t c (Refused n) h r = record {
+  last = c.formula;
+  steps = h.steps;
+  cause = subst (λ (x : Limits). HintedCause x c.formula s t n) h.limits r;
+}
+hinted-wrong keep F hs s t c NoMemory h r = tt
+
+leads-begun : (F : PrenexFormula) → Leads standard F [] (plain (begun F))
+leads-begun F = leads_begin standard F (plain (begun F)) (subst (λ (G : PrenexFormula). AreAlike F G) (sym (plain-begun F)) (alike_itself F))
+
+taken-first : (keep : Bool) (F : PrenexFormula) (n : ℕ) (s : ProofStep) (t : ProofPart) (first new : HintChecked) → first ≡ new_hinted keep F → HintedValid first.limits first.formula s t → new.formula ≡ hinted_after first.formula s t → HasGrown first.keeps (plain first.formula) s first.undo new.undo → new.limits ≡ first.limits → new.keeps ≡ first.keeps → HasTakenHinted keep F ((n, record { step = s; proof = t }) ∷ []) new
+taken-first keep F n s t first new e v a g m k =
+    let w : HintedValid standard (begun F) s t = subst (λ (c : HintChecked). HintedValid c.limits c.formula s t) e v in
+    let b : new.formula ≡ hinted_after (begun F) s t = subst (λ (c : HintChecked). new.formula ≡ hinted_after c.formula s t) e a in
+    let d : HasGrown keep (plain (begun F)) s [] new.undo = subst (λ (c : HintChecked). HasGrown c.keeps (plain c.formula) s c.undo new.undo) e g in
+    more-hinted keep F [] n s t (begun F) [] new refl (leads-begun F) (λ x. refl) (m ∙ ap (λ (c : HintChecked). c.limits) e) (k ∙ ap (λ (c : HintChecked). c.keeps) e) w b d
+
+pub hinted-begins : (keep : Bool) (F : PrenexFormula) (hs : List HintedEntry) (n : ℕ) (s : ProofStep) (t : ProofPart) (first new : HintChecked) → hs ≡ [] → first ≡ new_hinted keep F → HintedValid first.limits first.formula s t → new.formula ≡ hinted_after first.formula s t → HasGrown first.keeps (plain first.formula) s first.undo new.undo → new.limits ≡ first.limits → new.keeps ≡ first.keeps → HasTakenHinted keep F (hs ++ (n, record { step = s; proof = t }) ∷ []) new
+hinted-begins keep F hs n s t first new z e v a g m k =
+    subst (λ (xs : List HintedEntry). HasTakenHinted keep F (xs ++ (n, record { step = s; proof = t }) ∷ []) new) (sym z) (taken-first keep F n s t first new e v a g m k)
+
+pub hinted-wrong-first : (keep : Bool) (F : PrenexFormula) (hs : List HintedEntry) (s : ProofStep) (t : ProofPart) (c : HintChecked) (e : CheckError) → hs ≡ [] → c ≡ new_hinted keep F → IsHintRefusal c.limits c.formula s t e → IsBadHinted F hs s t e
+hinted-wrong-first keep F hs s t c (Refused n) z q r = record {
+  last = begun F;
+  steps = subst (λ (xs : List HintedEntry). HintedSteps standard (begun F) (hinted_of xs) (begun F)) (sym z) refl;
+  cause = subst (λ (x : HintChecked). HintedCause x.limits x.formula s t n) q r;
+}
+hinted-wrong-first keep F hs s t c NoMemory z q r = tt
+
+-- a step goes to the checker of its profile
+pub behind-plain : (old new : Judges) (es : List BothEntry) (n : ℕ) (s : ProofStep) → ((ps : List Entry) → (line : ℕ) → IsBehindPlain old.keeps_undo old.formula ps old.plain → IsBehindPlain old.keeps_undo old.formula (ps ++ (line, s) ∷ []) new.plain) → SameTask old new → new.hinted ≡ old.hinted → AreBehind old es → AreBehind new (es ++ (n, s, None) ∷ [])
+behind-plain old new es n s f same h b =
+    let p : IsBehindPlain old.keeps_undo old.formula (plain_in es ++ (n, s) ∷ []) new.plain = f (plain_in es) n b.plain in
+    let q : IsBehindPlain old.keeps_undo old.formula (plain_in (es ++ (n, s, None) ∷ [])) new.plain = subst (λ (ps : List Entry). IsBehindPlain old.keeps_undo old.formula ps new.plain) (sym (plain_in-append es ((n, s, None) ∷ []))) p in
+    let i : hinted_in (es ++ (n, s, None) ∷ []) ≡ hinted_in es = hinted_in-append es ((n, s, None) ∷ []) ∙ append-nil (hinted_in es) in
+    let j : IsBehindHinted old.keeps_undo old.formula (hinted_in (es ++ (n, s, None) ∷ [])) new.hinted = subst (λ (o : Option HintChecked). IsBehindHinted old.keeps_undo old.formula (hinted_in (es ++ (n, s, None) ∷ [])) o) (sym h) (subst (λ (hs : List HintedEntry). IsBehindHinted old.keeps_undo old.formula hs old.hinted) (sym i) b.hinted) in
+    record {
+      plain = subst (λ (k : Bool). IsBehindPlain k new.formula (plain_in (es ++ (n, s, None) ∷ [])) new.plain) (sym same.keeps) (subst (λ (F : PrenexFormula). IsBehindPlain old.keeps_undo F (plain_in (es ++ (n, s, None) ∷ [])) new.plain) (sym same.formula) q);
+      hinted = subst (λ (k : Bool). IsBehindHinted k new.formula (hinted_in (es ++ (n, s, None) ∷ [])) new.hinted) (sym same.keeps) (subst (λ (F : PrenexFormula). IsBehindHinted old.keeps_undo F (hinted_in (es ++ (n, s, None) ∷ [])) new.hinted) (sym same.formula) j);
+    }
+
+pub behind-hinted : (old new : Judges) (es : List BothEntry) (n : ℕ) (s : ProofStep) (t : ProofPart) → ((hs : List HintedEntry) → (line : ℕ) → IsBehindHinted old.keeps_undo old.formula hs old.hinted → IsBehindHinted old.keeps_undo old.formula (hs ++ (line, record { step = s; proof = t }) ∷ []) new.hinted) → SameTask old new → new.plain ≡ old.plain → AreBehind old es → AreBehind new (es ++ (n, s, Some t) ∷ [])
+behind-hinted old new es n s t f same h b =
+    let more : List BothEntry = es ++ (n, s, Some t) ∷ [] in
+    let p : IsBehindHinted old.keeps_undo old.formula (hinted_in es ++ (n, record { step = s; proof = t }) ∷ []) new.hinted = f (hinted_in es) n b.hinted in
+    let q : IsBehindHinted old.keeps_undo old.formula (hinted_in more) new.hinted = subst (λ (hs : List HintedEntry). IsBehindHinted old.keeps_undo old.formula hs new.hinted) (sym (hinted_in-append es ((n, s, Some t) ∷ []))) p in
+    let i : plain_in more ≡ plain_in es = plain_in-append es ((n, s, Some t) ∷ []) ∙ append-nil (plain_in es) in
+    let j : IsBehindPlain old.keeps_undo old.formula (plain_in more) new.plain = subst (λ (o : Option Checked). IsBehindPlain old.keeps_undo old.formula (plain_in more) o) (sym h) (subst (λ (ps : List Entry). IsBehindPlain old.keeps_undo old.formula ps old.plain) (sym i) b.plain) in
+    record {
+      plain = subst (λ (k : Bool). IsBehindPlain k new.formula (plain_in more) new.plain) (sym same.keeps) (subst (λ (F : PrenexFormula). IsBehindPlain old.keeps_undo F (plain_in more) new.plain) (sym same.formula) j);
+      hinted = subst (λ (k : Bool). IsBehindHinted k new.formula (hinted_in more) new.hinted) (sym same.keeps) (subst (λ (F : PrenexFormula). IsBehindHinted old.keeps_undo F (hinted_in more) new.hinted) (sym same.formula) q);
+    }
+
+-- what is in a place that is ready
+pub ready-plain-some : (keep : Bool) (F : PrenexFormula) (old new : Option Checked) → IsReadyPlain keep F old new → IsSome new
+ready-plain-some keep F (Some c) new h = ap is_some h
+ready-plain-some keep F None (Some c) h = refl
+ready-plain-some keep F None None h = absurd h
+
+pub ready-hinted-some : (keep : Bool) (F : PrenexFormula) (old new : Option HintChecked) → IsReadyHinted keep F old new → IsSome new
+ready-hinted-some keep F (Some c) new h = ap is_some h
+ready-hinted-some keep F None new h = ap is_some h
+
+pub ready-hints : (keep : Bool) (F : PrenexFormula) (old new : Option HintChecked) → IsReadyHinted keep F old new → hints_taken new ≡ hints_taken old
+ready-hints keep F (Some c) new h = ap hints_taken h
+ready-hints keep F None new h = ap hints_taken h
+
+-- the answer of the checker that was there, or of one that was made for the step
+goes-on-plain : (keep : Bool) (F : PrenexFormula) (s : ProofStep) (u : Unit) (c : Checked) (new : Option Checked) → HasSteppedPlain s (Ok u) (Some c) new → (ps : List Entry) (line : ℕ) → HasTakenPlain keep F ps c → IsBehindPlain keep F (ps ++ (line, s) ∷ []) new
+goes-on-plain keep F s u c (Some d) k ps line b = plain-goes-on keep F ps line s c d b k.valid k.after k.undo k.limits k.keeps
+goes-on-plain keep F s u c None k ps line b = absurd k
+
+begins-plain : (keep : Bool) (F : PrenexFormula) (s : ProofStep) (u : Unit) (c : Checked) (new : Option Checked) → IsNewPlain keep F c → HasSteppedPlain s (Ok u) (Some c) new → (ps : List Entry) (line : ℕ) → ps ≡ [] → IsBehindPlain keep F (ps ++ (line, s) ∷ []) new
+begins-plain keep F s u c (Some d) h k ps line z = plain-begins keep F ps line s c d z (h.alike, h.undo, h.limits, h.keeps) k.valid k.after k.undo k.limits k.keeps
+begins-plain keep F s u c None h k ps line z = absurd k
+
+pub answer-plain : (keep : Bool) (F : PrenexFormula) (s : ProofStep) (r : Result Unit CheckError) (old mid new : Option Checked) → IsReadyPlain keep F old mid → HasSteppedPlain s r mid new → OnOk r ((ps : List Entry) → (line : ℕ) → IsBehindPlain keep F ps old → IsBehindPlain keep F (ps ++ (line, s) ∷ []) new)
+answer-plain keep F s (Err e) old mid new h k = tt
+answer-plain keep F s (Ok u) (Some c) mid new h k = goes-on-plain keep F s u c new (subst (λ (o : Option Checked). HasSteppedPlain s (Ok u) o new) h k)
+answer-plain keep F s (Ok u) None (Some c) new h k = begins-plain keep F s u c new h k
+answer-plain keep F s (Ok u) None None new h k = absurd h
+
+refuses-plain : (keep : Bool) (F : PrenexFormula) (s : ProofStep) (e : CheckError) (c : Checked) (new : Option Checked) → HasSteppedPlain s (Err e) (Some c) new → IsRefusal c.limits c.formula s e
+refuses-plain keep F s e c (Some d) k = k.refused
+refuses-plain keep F s e c None k = absurd k
+
+pub refusal-plain : (keep : Bool) (F : PrenexFormula) (s : ProofStep) (r : Result Unit CheckError) (old mid new : Option Checked) → IsReadyPlain keep F old mid → HasSteppedPlain s r mid new → IfErr r (λ e. (ps : List Entry) → IsBehindPlain keep F ps old → IsBadPlain F ps s e)
+refusal-plain keep F s (Ok u) old mid new h k = tt
+refusal-plain keep F s (Err e) (Some c) mid new h k = λ ps b.
+    plain-wrong keep F ps s c e b (refuses-plain keep F s e c new (subst (λ (o : Option Checked). HasSteppedPlain s (Err e) o new) h k))
+refusal-plain keep F s (Err e) None (Some c) new h k = λ ps z. plain-wrong-first F ps s c e z h.alike h.limits (refuses-plain keep F s e c new k)
+refusal-plain keep F s (Err e) None None new h k = absurd h
+
+goes-on-hinted : (keep : Bool) (F : PrenexFormula) (s : ProofStep) (t : ProofPart) (u : Unit) (c : HintChecked) (new : Option HintChecked) → HasSteppedHinted s t (Ok u) (Some c) new → (hs : List HintedEntry) (line : ℕ) → HasTakenHinted keep F hs c → IsBehindHinted keep F (hs ++ (line, record { step = s; proof = t }) ∷ []) new
+goes-on-hinted keep F s t u c (Some d) k hs line b = hinted-goes-on keep F hs line s t c d b k.valid k.after k.undo k.limits k.keeps
+goes-on-hinted keep F s t u c None k hs line b = absurd k
+
+begins-hinted : (keep : Bool) (F : PrenexFormula) (s : ProofStep) (t : ProofPart) (u : Unit) (new : Option HintChecked) → HasSteppedHinted s t (Ok u) (Some (new_hinted keep F)) new → (hs : List HintedEntry) (line : ℕ) → hs ≡ [] → IsBehindHinted keep F (hs ++ (line, record { step = s; proof = t }) ∷ []) new
+begins-hinted keep F s t u (Some d) k hs line z = hinted-begins keep F hs line s t (new_hinted keep F) d z refl k.valid k.after k.undo k.limits k.keeps
+begins-hinted keep F s t u None k hs line z = absurd k
+
+pub answer-hinted : (keep : Bool) (F : PrenexFormula) (s : ProofStep) (t : ProofPart) (r : Result Unit CheckError) (old mid new : Option HintChecked) → IsReadyHinted keep F old mid → HasSteppedHinted s t r mid new → OnOk r ((hs : List HintedEntry) → (line : ℕ) → IsBehindHinted keep F hs old → IsBehindHinted keep F (hs ++ (line, record { step = s; proof = t }) ∷ []) new)
+answer-hinted keep F s t (Err e) old mid new h k = tt
+answer-hinted keep F s t (Ok u) (Some c) mid new h k = goes-on-hinted keep F s t u c new (subst (λ (o : Option HintChecked). HasSteppedHinted s t (Ok u) o new) h k)
+answer-hinted keep F s t (Ok u) None mid new h k = begins-hinted keep F s t u new (subst (λ (o : Option HintChecked). HasSteppedHinted s t (Ok u) o new) h k)
+
+refuses-hinted : (s : ProofStep) (t : ProofPart) (e : CheckError) (c : HintChecked) (new : Option HintChecked) → HasSteppedHinted s t (Err e) (Some c) new → IsHintRefusal c.limits c.formula s t e
+refuses-hinted s t e c (Some d) k = k.refused
+refuses-hinted s t e c None k = absurd k
+
+pub refusal-hinted : (keep : Bool) (F : PrenexFormula) (s : ProofStep) (t : ProofPart) (r : Result Unit CheckError) (old mid new : Option HintChecked) → IsReadyHinted keep F old mid → HasSteppedHinted s t r mid new → IfErr r (λ e. (hs : List HintedEntry) → IsBehindHinted keep F hs old → IsBadHinted F hs s t e)
+refusal-hinted keep F s t (Ok u) old mid new h k = tt
+refusal-hinted keep F s t (Err e) (Some c) mid new h k = λ hs b.
+    hinted-wrong keep F hs s t c e b (refuses-hinted s t e c new (subst (λ (o : Option HintChecked). HasSteppedHinted s t (Err e) o new) h k))
+refusal-hinted keep F s t (Err e) None mid new h k = λ hs z.
+    hinted-wrong-first keep F hs s t (new_hinted keep F) e z refl (refuses-hinted s t e (new_hinted keep F) new (subst (λ (o : Option HintChecked). HasSteppedHinted s t (Err e) o new) h k))
+
+-- want of memory says nothing
+pub memory-plain : (F : PrenexFormula) (s : ProofStep) (e : CheckError) → e ≡ NoMemory → (ps : List Entry) → IsBadPlain F ps s e
+memory-plain F s e z ps = subst (λ (x : CheckError). IsBadPlain F ps s x) (sym z) tt
+
+pub memory-hinted : (F : PrenexFormula) (s : ProofStep) (t : ProofPart) (e : CheckError) → e ≡ NoMemory → (hs : List HintedEntry) → IsBadHinted F hs s t e
+memory-hinted F s t e z hs = subst (λ (x : CheckError). IsBadHinted F hs s t x) (sym z) tt
+
+-- before the first step
+pub made-behind : (F : PrenexFormula) (keep : Bool) (j : Judges) → IsMade F keep j → AreBehind j []
+made-behind F keep j m = record {
+  plain = subst (λ (o : Option Checked). IsBehindPlain j.keeps_undo j.formula [] o) (sym m.plain) refl;
+  hinted = subst (λ (o : Option HintChecked). IsBehindHinted j.keeps_undo j.formula [] o) (sym m.hinted) refl;
+}
+
+pub made-hints : (F : PrenexFormula) (keep : Bool) (j : Judges) → IsMade F keep j → hints_taken j.hinted ≡ 0
+made-hints F keep j m = ap hints_taken m.hinted
+
+-- the end
+pub same_last : (E f G : PrenexFormula) → AreAlike E f → SameFormula f G → SameFormula E G
+same_last E f G a s = record {
+  same_blocks = subst (λ (P : Prefix). SameBlocks (blocks P) (blocks G.prefix)) (sym a.prefix) s.same_blocks;
+  same_clauses = λ C. a.clauses C ∙ s.same_clauses C;
+}
+
+pub ends-apart : (E f G : PrenexFormula) (c : ℕ) → AreAlike E f → IsEndRefusal f G (Refused c) → EndsApart E G c
+ends-apart E f G c a (inl (nine, apart)) =
+    let d : ¬ SameBlocks (blocks E.prefix) (blocks G.prefix) = λ s. apart (subst (λ (P : Prefix). SameBlocks (blocks P) (blocks G.prefix)) a.prefix s) in
+    record { differ = λ s. d s.same_blocks; why = inl (nine, d) }
+ends-apart E f G c a (inr (ten, same, apart)) = record {
+  differ = λ s. apart (λ C. sym (a.clauses C) ∙ s.same_clauses C);
+  why = inr (ten, subst (λ (P : Prefix). SameBlocks (blocks P) (blocks G.prefix)) (sym a.prefix) same);
+}
+
+pub plain-passes : (keep : Bool) (F : PrenexFormula) (ps : List Entry) (c : Checked) (G : PrenexFormula) (us : List UndoEntry) → HasTakenPlain keep F ps c → SameFormula c.formula G → us ≡ c.undo → HavePassedPlain keep F ps G us
+plain-passes keep F ps c G us h s u = record {
+  last = h.leads.last;
+  steps = h.leads.steps;
+  same = same_last h.leads.last c.formula G h.leads.alike s;
+  undone = λ k. subst (λ (vs : List UndoEntry). Undos F (steps_of ps) vs) (sym u) (h.undone k);
+}
+
+pub plain-passes-now : (keep : Bool) (F : PrenexFormula) (ps : List Entry) (f G : PrenexFormula) (us : List UndoEntry) → ps ≡ [] → AreAlike F f → SameFormula f G → us ≡ [] → HavePassedPlain keep F ps G us
+plain-passes-now keep F ps f G us z a s u =
+    subst (λ (xs : List Entry). HavePassedPlain keep F xs G us) (sym z) (record { last = F; steps = refl; same = same_last F f G a s; undone = λ k. u })
+
+pub plain-stops : (keep : Bool) (F : PrenexFormula) (ps : List Entry) (c : Checked) (G : PrenexFormula) (e : CheckError) → HasTakenPlain keep F ps c → IsEndRefusal c.formula G e → HaveStoppedPlain F ps G e
+plain-stops keep F ps c G (Refused n) h r = record { last = h.leads.last; steps = h.leads.steps; apart = ends-apart h.leads.last c.formula G n h.leads.alike r }
+plain-stops keep F ps c G NoMemory h r = tt
+
+pub plain-stops-now : (F : PrenexFormula) (ps : List Entry) (f G : PrenexFormula) (e : CheckError) → ps ≡ [] → AreAlike F f → IsEndRefusal f G e → HaveStoppedPlain F ps G e
+plain-stops-now F ps f G (Refused n) z a r =
+    subst (λ (xs : List Entry). HaveEndedPlain F xs G n) (sym z) (record { last = F; steps = refl; apart = ends-apart F f G n a r })
+plain-stops-now F ps f G NoMemory z a r = tt
+
+-- a checker of hints is there only where steps have proof parts, and then all have
+all-hinted-then : (es : List BothEntry) → 0 < length (hinted_in es) → ArePure es → es ≡ map hinted_entry (hinted_in es)
+all-hinted-then es h (inr q) = q
+all-hinted-then es h (inl q) =
+    let z : hinted_in es ≡ [] = ap hinted_in q ∙ hinted_in-plain (plain_in es) in
+    let n : length (hinted_in es) ≡ 0 = ap length z in
+    absurd (omega (arith, n, h))
+
+hinted-left : (keep : Bool) (F : PrenexFormula) (es : List BothEntry) (c : HintChecked) → HasTakenHinted keep F (hinted_in es) c → ArePure es → Leaves F es (plain c.formula)
+hinted-left keep F es c h p = inr (record { all = all-hinted-then es h.some p; numbered = c.formula; steps = h.steps; last_is = refl })
+
+bare-steps : (es : List BothEntry) → es ≡ map hinted_entry (hinted_in es) → steps_of (bare es) ≡ strip (hinted_of (hinted_in es))
+bare-steps es q = ap (λ (xs : List BothEntry). steps_of (bare xs)) q ∙ (ap steps_of (bare-hinted (hinted_in es)) ∙ stripped-steps (hinted_in es))
+
+pub hinted-passes : (keep : Bool) (F : PrenexFormula) (es : List BothEntry) (c : HintChecked) (G : PrenexFormula) (us : List UndoEntry) → HasTakenHinted keep F (hinted_in es) c → ArePure es → SameFormula (plain c.formula) G → us ≡ c.undo → HavePassed keep F es G us
+hinted-passes keep F es c G us h p s u = record {
+  last = plain c.formula;
+  leaves = hinted-left keep F es c h p;
+  same = s;
+  undone = λ k. subst (λ (vs : List UndoEntry). Undos F (steps_of (bare es)) vs) (sym u) (subst (λ (ss : List ProofStep). Undos F ss c.undo) (sym (bare-steps es (all-hinted-then es h.some p))) (h.undone k));
+}
+
+pub hinted-stops : (keep : Bool) (F : PrenexFormula) (es : List BothEntry) (c : HintChecked) (G : PrenexFormula) (e : CheckError) → HasTakenHinted keep F (hinted_in es) c → ArePure es → IsEndRefusal (plain c.formula) G e → HaveStopped F es G e
+hinted-stops keep F es c G (Refused n) h p r = record { last = plain c.formula; leaves = hinted-left keep F es c h p; apart = ends-apart (plain c.formula) (plain c.formula) G n (alike_itself (plain c.formula)) r }
+hinted-stops keep F es c G NoMemory h p r = tt
+
+pub none-hinted : (keep : Bool) (F : PrenexFormula) (hs : List HintedEntry) (o : Option HintChecked) → is_some o ≡ false → IsBehindHinted keep F hs o → hs ≡ []
+none-hinted keep F hs None n b = b
+none-hinted keep F hs (Some c) n b = cc
+
+-- where there is no checker of hints, all steps are plain
+pub all-plain-passes : (keep : Bool) (F : PrenexFormula) (es : List BothEntry) (G : PrenexFormula) (us : List UndoEntry) → hinted_in es ≡ [] → HavePassedPlain keep F (plain_in es) G us → HavePassed keep F es G us
+all-plain-passes keep F es G us z h =
+    let q : es ≡ map plain_entry (plain_in es) = only-plain es z in
+    let b : bare es ≡ plain_in es = ap bare q ∙ bare-plain (plain_in es) in
+    record {
+      last = h.last;
+      leaves = inl (record { all = q; steps = h.steps });
+      same = h.same;
+      undone = λ k. subst (λ (ps : List Entry). Undos F (steps_of ps) us) (sym b) (h.undone k);
+    }
+
+pub all-plain-stops : (F : PrenexFormula) (es : List BothEntry) (G : PrenexFormula) (e : CheckError) → hinted_in es ≡ [] → HaveStoppedPlain F (plain_in es) G e → HaveStopped F es G e
+all-plain-stops F es G (Refused n) z h = record { last = h.last; leaves = inl (record { all = only-plain es z; steps = h.steps }); apart = h.apart }
+all-plain-stops F es G NoMemory z h = tt
+
+-- the answers of the ends
+pub ended-plain : (k : Bool) (F G : PrenexFormula) (r : Result Verified CheckError) (old new : Option Checked) → IsReadyPlain k F old new → IsSomeAnd new (IsEndedPlain G r) → IfOk r (λ v. (keep : Bool) → (ps : List Entry) → IsBehindPlain keep F ps old → HavePassedPlain keep F ps G v.undo)
+ended-plain k F G (Err e) old new h q = tt
+ended-plain k F G (Ok v) (Some c) new h q = λ keep ps b.
+    let w : IsEndedPlain G (Ok v) c = subst (λ (o : Option Checked). IsSomeAnd o (IsEndedPlain G (Ok v))) h q in
+    plain-passes keep F ps c G v.undo b w.same w.undo
+ended-plain k F G (Ok v) None (Some c) h q = λ keep ps z. plain-passes-now keep F ps c.formula G v.undo z h.alike q.same (q.undo ∙ h.undo)
+ended-plain k F G (Ok v) None None h q = absurd h
+
+pub stopped-plain : (k : Bool) (F G : PrenexFormula) (r : Result Verified CheckError) (old new : Option Checked) → IsReadyPlain k F old new → IsSomeAnd new (IsEndedPlain G r) → IfErr r (λ e. (keep : Bool) → (ps : List Entry) → IsBehindPlain keep F ps old → HaveStoppedPlain F ps G e)
+stopped-plain k F G (Ok v) old new h q = tt
+stopped-plain k F G (Err e) (Some c) new h q = λ keep ps b.
+    let w : IsEndedPlain G (Err e) c = subst (λ (o : Option Checked). IsSomeAnd o (IsEndedPlain G (Err e))) h q in
+    plain-stops keep F ps c G e b w.refused
+stopped-plain k F G (Err e) None (Some c) h q = λ keep ps z. plain-stops-now F ps c.formula G e z h.alike q.refused
+stopped-plain k F G (Err e) None None h q = absurd h
+
+pub memory-ends : (F : PrenexFormula) (ps : List Entry) (G : PrenexFormula) (e : CheckError) → e ≡ NoMemory → HaveStoppedPlain F ps G e
+memory-ends F ps G e z = subst (λ (x : CheckError). HaveStoppedPlain F ps G x) (sym z) tt
+
+pub hinted-passed : (keep : Bool) (F : PrenexFormula) (es : List BothEntry) (o : Option HintChecked) (G : PrenexFormula) (r : Result Verified CheckError) (us : List UndoEntry) → IsSomeAnd o (IsEndedHinted G r) → IsBehindHinted keep F (hinted_in es) o → ArePure es → r ≡ Ok (record { undo = us }) → HavePassed keep F es G us
+hinted-passed keep F es None G r us k b p e = absurd k
+hinted-passed keep F es (Some c) G r us k b p e =
+    let w : IsEndedHinted G (Ok (record { undo = us })) c = subst (λ (x : Result Verified CheckError). IsEndedHinted G x c) e k in
+    hinted-passes keep F es c G us b p w.same w.undo
+
+pub hinted-stopped : (keep : Bool) (F : PrenexFormula) (es : List BothEntry) (o : Option HintChecked) (G : PrenexFormula) (r : Result Verified CheckError) (w : CheckError) → IsSomeAnd o (IsEndedHinted G r) → IsBehindHinted keep F (hinted_in es) o → ArePure es → r ≡ Err w → HaveStopped F es G w
+hinted-stopped keep F es None G r w k b p e = absurd k
+hinted-stopped keep F es (Some c) G r w k b p e =
+    let x : IsEndedHinted G (Err w) c = subst (λ (y : Result Verified CheckError). IsEndedHinted G y c) e k in
+    hinted-stops keep F es c G w b p x.refused
+
+pub plain-passed : (keep : Bool) (F : PrenexFormula) (es : List BothEntry) (o : Option Checked) (G : PrenexFormula) (r : Result Verified CheckError) (us : List UndoEntry) → hinted_in es ≡ [] → IsBehindPlain keep F (plain_in es) o → IfOk r (λ v. (k : Bool) → (ps : List Entry) → IsBehindPlain k F ps o → HavePassedPlain k F ps G v.undo) → r ≡ Ok (record { undo = us }) → HavePassed keep F es G us
+plain-passed keep F es o G r us z b h e =
+    all-plain-passes keep F es G us z ((subst (λ (x : Result Verified CheckError). IfOk x (λ v. (k : Bool) → (ps : List Entry) → IsBehindPlain k F ps o → HavePassedPlain k F ps G v.undo)) e h) keep (plain_in es) b)
+
+pub plain-stopped : (keep : Bool) (F : PrenexFormula) (es : List BothEntry) (o : Option Checked) (G : PrenexFormula) (r : Result Verified CheckError) (w : CheckError) → hinted_in es ≡ [] → IsBehindPlain keep F (plain_in es) o → IfErr r (λ x. (k : Bool) → (ps : List Entry) → IsBehindPlain k F ps o → HaveStoppedPlain F ps G x) → r ≡ Err w → HaveStopped F es G w
+plain-stopped keep F es o G r w z b h e =
+    all-plain-stops F es G w z ((subst (λ (y : Result Verified CheckError). IfErr y (λ x. (k : Bool) → (ps : List Entry) → IsBehindPlain k F ps o → HaveStoppedPlain F ps G x)) e h) keep (plain_in es) b)

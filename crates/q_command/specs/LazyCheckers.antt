@@ -1,0 +1,76 @@
+-- Places for checkers: what is in one, and what it does.
+use Rattle.std.specs.Prelude.{◌≡◌, ℕ, Bool, List, [], ◌∷◌, Option, None, Some, Result, IsSomeAnd, IfOk, IfErr, OnOk}
+use Rattle.q_logic.specs.Prelude.{PrenexFormula, HintedValid, ProofPart, begun, hinted_after, plain, standard, AreAlike, SameFormula, ProofStep, Valid, after}
+use Rattle.q_judge.specs.Tried.{IsEndRefusal}
+use Rattle.q_judge.specs.declared.error.CheckError.{CheckError}
+use Rattle.q_check.specs.Checked.{Checked, HasGrown, IsRefusal}
+use Rattle.q_check.specs.HintChecks.{HintChecked, IsHintRefusal}
+use Rattle.q_check.specs.declared.checker.Verified.{Verified}
+
+abbrev pub first_in : {X : Type 0} → List X → Option X
+first_in [] = None
+first_in (x ∷ xs) = Some x
+
+abbrev pub hints_taken : Option HintChecked → ℕ
+hints_taken None = 0
+hints_taken (Some c) = c.steps
+
+-- a checker of plain steps that has taken none
+pub record IsNewPlain (keep : Bool) (F : PrenexFormula) (c : Checked) : Type 0 where
+  pub alike : AreAlike F c.formula
+  pub undo : c.undo ≡ []
+  pub limits : c.limits ≡ standard
+  pub keeps : c.keeps ≡ keep
+
+-- a checker of steps with proof parts that has taken none
+abbrev pub new_hinted : Bool → PrenexFormula → HintChecked
+new_hinted keep F = record { formula = begun F; undo = []; limits = standard; keeps = keep; steps = 0 }
+
+-- the checker that was here stands, and where none was there is a new one
+abbrev pub IsReadyPlain : Bool → PrenexFormula → Option Checked → Option Checked → Type 0
+IsReadyPlain keep F (Some c) new = new ≡ Some c
+IsReadyPlain keep F None new = IsSomeAnd new (IsNewPlain keep F)
+
+abbrev pub IsReadyHinted : Bool → PrenexFormula → Option HintChecked → Option HintChecked → Type 0
+IsReadyHinted keep F (Some c) new = new ≡ Some c
+IsReadyHinted keep F None new = new ≡ Some (new_hinted keep F)
+
+-- what a checker answers to a plain step
+pub record IsSteppedPlain (s : ProofStep) (r : Result Unit CheckError) (old new : Checked) : Type 0 where
+  pub valid : OnOk r (Valid old.limits old.formula s)
+  pub after : OnOk r (AreAlike (after old.formula s) new.formula)
+  pub undo : OnOk r (HasGrown old.keeps old.formula s old.undo new.undo)
+  pub limits : new.limits ≡ old.limits
+  pub keeps : new.keeps ≡ old.keeps
+  pub refused : IfErr r (IsRefusal old.limits old.formula s)
+
+-- what a checker answers to a step with a proof part
+pub record IsSteppedHinted (s : ProofStep) (t : ProofPart) (r : Result Unit CheckError) (old new : HintChecked) : Type 0 where
+  pub valid : OnOk r (HintedValid old.limits old.formula s t)
+  pub after : OnOk r (new.formula ≡ hinted_after old.formula s t)
+  pub undo : OnOk r (HasGrown old.keeps (plain old.formula) s old.undo new.undo)
+  pub limits : new.limits ≡ old.limits
+  pub keeps : new.keeps ≡ old.keeps
+  pub refused : IfErr r (IsHintRefusal old.limits old.formula s t)
+
+-- so does the checker that is here
+abbrev pub HasSteppedPlain : ProofStep → Result Unit CheckError → Option Checked → Option Checked → Type 0
+HasSteppedPlain s r (Some c) (Some d) = IsSteppedPlain s r c d
+HasSteppedPlain s r (Some c) None = ⊥
+HasSteppedPlain s r None new = ⊥
+
+abbrev pub HasSteppedHinted : ProofStep → ProofPart → Result Unit CheckError → Option HintChecked → Option HintChecked → Type 0
+HasSteppedHinted s t r (Some c) (Some d) = IsSteppedHinted s t r c d
+HasSteppedHinted s t r (Some c) None = ⊥
+HasSteppedHinted s t r None new = ⊥
+
+-- what a checker says at the end
+pub record IsEndedPlain (G : PrenexFormula) (r : Result Verified CheckError) (c : Checked) : Type 0 where
+  pub same : OnOk r (SameFormula c.formula G)
+  pub undo : IfOk r (λ v. v.undo ≡ c.undo)
+  pub refused : IfErr r (IsEndRefusal c.formula G)
+
+pub record IsEndedHinted (G : PrenexFormula) (r : Result Verified CheckError) (c : HintChecked) : Type 0 where
+  pub same : OnOk r (SameFormula (plain c.formula) G)
+  pub undo : IfOk r (λ v. v.undo ≡ c.undo)
+  pub refused : IfErr r (IsEndRefusal (plain c.formula) G)

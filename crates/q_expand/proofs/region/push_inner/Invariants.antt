@@ -1,6 +1,0 @@
-use Rattle.std.proofs.Common.{take}
-use Rattle.q_expand.specs.Regions.{IsWidened}
-use Rattle.q_expand.proofs.region.push_inner.Given as goal
-
-abbrev pub invariant-loop-k : goal.invariant-loop-k
-invariant-loop-k l = IsWidened l.kernel.prefix l.u.var (take l.k-index l.clause) l.fn.vars l.vars

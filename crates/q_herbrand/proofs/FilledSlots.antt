@@ -1,0 +1,398 @@
+-- A slot filled, and a new one in its place.
+use Rattle.std.proofs.Common.{◌≡◌, ◌≢◌, ◌⊎◌, ℕ, ◌+◌, ◌<◌, ◌≤◌, Bool, true, false, cond, eqb, List, [], ◌∷◌, ◌++◌, length, get_or, set, inl, inr, arith, refl, sym, ap, ◌∙◌, subst, Option, Some, None}
+use Rattle.std.proofs.lemmas.List.{length_push, length-set, get_or_append_left, get_or_push, get_or_past, get_or-set_same, get_or-set_other}
+use Rattle.std.proofs.lemmas.Bool.{cases_lt}
+use Rattle.q_logic.specs.Prelude.{Circuit, input, Reads, replaced, Strategy, circuit_of, given, or_input, map_circuit, reread}
+use Rattle.q_aig.specs.Prelude.{Net, IsLiteral, tree_at, IsNet, Keeps, Serves}
+use Rattle.q_aig.proofs.Substitutes.{serves-same, serves-then}
+use Rattle.q_carry.specs.Prelude.{look_at, IsGrown}
+use Rattle.q_carry.proofs.InputReads.{net-inputs}
+use Rattle.q_carry.proofs.LiteralRows.{literals-kept, inputs-kept, literals-put}
+use Rattle.q_carry.proofs.CircuitParts.{keeps-then}
+use Rattle.q_slots.specs.declared.slots.Slots.{Slots}
+use Rattle.q_slots.specs.Under.{under, twice}
+use Rattle.q_slots.specs.Slots.{AreSlots, AreOwned, IsRenewed, slot_at, owner_at}
+use Rattle.q_slots.proofs.ReplacedInputs.{replaced-under, under-same, twice-serves, replaced-unread, replaced-itself, replaced-other}
+use Rattle.q_slots.proofs.GateCounts.{same-or}
+use Rattle.q_herbrand.specs.Inputs.{has_input}
+use Rattle.q_herbrand.specs.Following.{tree_of_literal, standing, AreUnder, Follows, IsReady}
+use Rattle.q_herbrand.proofs.SubstitutedCircuits.{serves-replaced}
+
+some-same : (m n : ℕ) → Some m ≡ Some n → m ≡ n
+some-same m n e = cc
+
+pub other-is : (x y : ℕ) → x ≢ y → eqb x y ≡ false
+other-is x y n = go (eqb x y) refl
+  where
+    go : (b : Bool) → eqb x y ≡ b → eqb x y ≡ false
+    go true e = absurd (n (grind arith))
+    go false e = e
+
+pub same-is : (x y : ℕ) → x ≡ y → eqb x y ≡ true
+same-is x y e = grind arith
+
+not-given : (o : Option Circuit) → given o ≡ false → o ≡ None
+not-given None e = refl
+not-given (Some t) e = absurd (cc)
+
+-- another circuit for one slot
+abbrev pub with_slot : ℕ → Circuit → (ℕ → Circuit) → ℕ → Circuit
+with_slot n t r x = cond (eqb x n) t (r x)
+
+pub with-same : (n : ℕ) (t : Circuit) (r : ℕ → Circuit) → with_slot n t r n ≡ t
+with-same n t r = ap (λ (b : Bool). cond b t (r n)) (same-is n n refl)
+
+pub with-other : (n : ℕ) (t : Circuit) (r : ℕ → Circuit) (x : ℕ) → x ≢ n → with_slot n t r x ≡ r x
+with-other n t r x d = ap (λ (b : Bool). cond b t (r x)) (other-is x n d)
+
+module _ (a a1 b : Net) (ins tb tb1 : List (Option ℕ)) (z z1 z2 : Slots) (v lit to k : ℕ) (net : IsNet a) (ready :
+    IsReady a ins tb z) (vl : v < length z.current.items) (hv : has_input ins v ≡ true) (new : IsRenewed a a1 tb
+    tb1 z z1 v lit) (grown : IsGrown a1 b k) (lt : IsLiteral b to) (ec : z2.current.items ≡ z1.current.items) (eo :
+    z2.owners.items ≡ z1.owners.items) (ed : z2.definitions.items ≡ set z1.definitions.items
+    (slot_at z.current.items v) (Some to)) where
+  kept : Keeps a b
+  kept = keeps-then a a1 b new.kept grown.kept
+
+  before : slot_at z.current.items v < length z.definitions.items
+  before = ready.slots.there v vl
+
+  inputs : b.inputs ≡ a.inputs ++ length z.definitions.items ∷ []
+  inputs = grown.inputs ∙ new.inputs
+
+  pushed-length : length z1.definitions.items ≡ length z.definitions.items + 1
+  pushed-length = ap length new.definitions ∙ length_push z.definitions.items None
+
+  room : length z2.definitions.items ≡ length z.definitions.items + 1
+  room = ap length ed ∙ length-set z1.definitions.items (slot_at z.current.items v) (Some to) ∙ pushed-length
+
+  owners-room : length z2.owners.items ≡ length z.definitions.items + 1
+  owners-room = ap length (eo ∙ new.owners) ∙ length_push z.owners.items v
+      ∙ ap (λ (n : ℕ). n + 1) ready.slots.room
+
+  current-room : length z2.current.items ≡ length z.current.items
+  current-room = ap length (ec ∙ new.current) ∙ length-set z.current.items v (length z.definitions.items)
+
+  filled-is : look_at z2.definitions.items (slot_at z.current.items v) ≡ Some to
+  filled-is = ap (λ (xs : List (Option ℕ)). look_at xs (slot_at z.current.items v)) ed
+      ∙ get_or-set_same z1.definitions.items (slot_at z.current.items v) (Some to) None
+      (let p = pushed-length in let q = before in omega arith)
+
+  new-is : look_at z2.definitions.items (length z.definitions.items) ≡ None
+  new-is = ap (λ (xs : List (Option ℕ)). look_at xs (length z.definitions.items)) ed
+      ∙ get_or-set_other z1.definitions.items (slot_at z.current.items v) (length z.definitions.items) (Some to) None
+      (λ e. let q = before in absurd (omega arith))
+      ∙ ap (λ (xs : List (Option ℕ)). look_at xs (length z.definitions.items)) new.definitions
+      ∙ get_or_push z.definitions.items None None (length z.definitions.items) refl
+
+  other-is-kept : (s : ℕ) → s ≢ slot_at z.current.items v → s < length z.definitions.items →
+      look_at z2.definitions.items s ≡ look_at z.definitions.items s
+  other-is-kept s n h = ap (λ (xs : List (Option ℕ)). look_at xs s) ed
+      ∙ get_or-set_other z1.definitions.items (slot_at z.current.items v) s (Some to) None n
+      ∙ ap (λ (xs : List (Option ℕ)). look_at xs s) new.definitions
+      ∙ get_or_append_left z.definitions.items (None ∷ []) None s h
+
+  owner-kept : (s : ℕ) → s < length z.definitions.items → owner_at z2.owners.items s ≡ owner_at z.owners.items s
+  owner-kept s h = ap (λ (xs : List ℕ). owner_at xs s) (eo ∙ new.owners)
+      ∙ get_or_append_left z.owners.items (v ∷ []) 0 s (let r = ready.slots.room in omega arith)
+
+  owner-new : owner_at z2.owners.items (length z.definitions.items) ≡ v
+  owner-new = ap (λ (xs : List ℕ). owner_at xs (length z.definitions.items)) (eo ∙ new.owners)
+      ∙ get_or_push z.owners.items v 0 (length z.definitions.items) ready.slots.room
+
+  slot-new : slot_at z2.current.items v ≡ length z.definitions.items
+  slot-new = ap (λ (xs : List ℕ). slot_at xs v) (ec ∙ new.current)
+      ∙ get_or-set_same z.current.items v (length z.definitions.items) 0 vl
+
+  slot-kept : (w : ℕ) → w ≢ v → slot_at z2.current.items w ≡ slot_at z.current.items w
+  slot-kept w n = ap (λ (xs : List ℕ). slot_at xs w) (ec ∙ new.current)
+      ∙ get_or-set_other z.current.items v w (length z.definitions.items) 0 n
+
+  -- the slots of other variables are other ones
+  apart : (w : ℕ) → w < length z.current.items → w ≢ v → slot_at z.current.items w ≢ slot_at z.current.items v
+  apart w wl n e = n (sym (ready.slots.owned w wl) ∙ ap (owner_at z.owners.items) e ∙ ready.slots.owned v vl)
+
+  -- an empty slot of v is the one that stands for it
+  empty-of : (s : ℕ) → s < length z.definitions.items → look_at z.definitions.items s ≡ None →
+      owner_at z.owners.items s ≡ v → s ≡ slot_at z.current.items v
+  empty-of s h e o = sym (ready.slots.last s h e).1 ∙ ap (slot_at z.current.items) o
+
+  -- an empty slot was one before, or is the new one
+  empty-before : (s : ℕ) → s < length z2.definitions.items → look_at z2.definitions.items s ≡ None →
+      ((s < length z.definitions.items) × (s ≢ slot_at z.current.items v) ×
+      (look_at z.definitions.items s ≡ None)) ⊎ (s ≡ length z.definitions.items)
+  empty-before s h e = elim (cases_lt s (length z.definitions.items)) [
+    | inl l ↦ elim (same-or s (slot_at z.current.items v)) [
+      | inl q ↦ absurd (let f : None ≡ Some to = sym e ∙ ap (look_at z2.definitions.items) q ∙ filled-is in cc)
+      | inr n ↦ inl (l, n, sym (other-is-kept s n l) ∙ e)
+    ]
+    | inr l ↦ inr (let r = room in omega arith)
+  ]
+
+  slots-next : AreSlots b z2
+  slots-next = record {
+    room = owners-room ∙ sym room;
+    literals = λ s l e. elim (same-or s (slot_at z.current.items v)) [
+      | inl q ↦ subst (IsLiteral b) (some-same to l (sym filled-is ∙ ap (look_at z2.definitions.items) (sym q) ∙ e)) lt
+      | inr n ↦ elim (cases_lt s (length z.definitions.items)) [
+        | inl h ↦ (kept l (ready.slots.literals s l (sym (other-is-kept s n h) ∙ e))).0
+        | inr h ↦ absurd (none-past s l h e)
+      ]
+    ];
+    names = names;
+    there = λ w wl. elim (same-or w v) [
+      | inl q ↦ let f : slot_at z2.current.items w ≡ length z.definitions.items =
+          ap (slot_at z2.current.items) q ∙ slot-new in let r = room in omega arith
+      | inr n ↦
+          let f = slot-kept w n in
+          let h = ready.slots.there w (let c = current-room in omega arith) in
+          let r = room in
+          omega arith
+    ];
+    empty = λ w wl. elim (same-or w v) [
+      | inl q ↦ ap (look_at z2.definitions.items) (ap (slot_at z2.current.items) q ∙ slot-new) ∙ new-is
+      | inr n ↦
+          let wl2 : w < length z.current.items = (let c = current-room in omega arith) in
+          ap (look_at z2.definitions.items) (slot-kept w n)
+          ∙ other-is-kept (slot_at z.current.items w) (apart w wl2 n) (ready.slots.there w wl2)
+          ∙ ready.slots.empty w wl2
+    ];
+    owned = λ w wl. elim (same-or w v) [
+      | inl q ↦ ap (owner_at z2.owners.items) (ap (slot_at z2.current.items) q ∙ slot-new) ∙ owner-new ∙ sym q
+      | inr n ↦
+          let wl2 : w < length z.current.items = (let c = current-room in omega arith) in
+          ap (owner_at z2.owners.items) (slot-kept w n)
+          ∙ owner-kept (slot_at z.current.items w) (ready.slots.there w wl2) ∙ ready.slots.owned w wl2
+    ];
+    last = λ s h e. elim (empty-before s h e) [
+      | inl p ↦
+          let q = ready.slots.last s p.0 p.2 in
+          let o = owner-kept s p.0 in
+          let n : owner_at z.owners.items s ≢ v = λ w. p.1 (empty-of s p.0 p.2 w) in (
+            (let c = current-room in let q0 = q.0 in omega arith),
+            ap (slot_at z2.current.items) o ∙ slot-kept (owner_at z.owners.items s) n ∙ q.1,
+          )
+      | inr p ↦
+          let o : owner_at z2.owners.items s ≡ v = ap (owner_at z2.owners.items) p ∙ owner-new in (
+            (let c = current-room in omega arith),
+            ap (slot_at z2.current.items) o ∙ slot-new ∙ sym p,
+          )
+    ];
+  }
+    where
+      none-past : (s l : ℕ) → length z.definitions.items ≤ s → look_at z2.definitions.items s ≡ Some l → ⊥
+      none-past s l h e = elim (same-or s (length z.definitions.items)) [
+        | inl q ↦ let f : None ≡ Some l = sym new-is ∙ ap (look_at z2.definitions.items) (sym q) ∙ e in cc
+        | inr n ↦
+            let past : look_at z2.definitions.items s ≡ None =
+            get_or_past z2.definitions.items s None (let r = room in omega arith) in
+            let f : None ≡ Some l = sym past ∙ e in
+            cc
+      ]
+
+      names : (i : ℕ) → i < length b.inputs → get_or b.inputs i 0 < length z2.definitions.items
+      names i il =
+          let len = length_push a.inputs (length z.definitions.items) in
+          let il2 : i < length (a.inputs ++ length z.definitions.items ∷ []) =
+          subst (λ (xs : List ℕ). i < length xs) inputs il in
+          let r = room in
+          subst (λ (xs : List ℕ). get_or xs i 0 < length z2.definitions.items) (sym inputs)
+          (elim (cases_lt i (length a.inputs)) [
+            | inl h ↦
+                let e = get_or_append_left a.inputs (length z.definitions.items ∷ []) 0 i h in
+                let n = ready.slots.names i h in
+                omega arith
+            | inr h ↦
+                let e = get_or_push a.inputs (length z.definitions.items) 0 i (omega arith) in
+                omega arith
+          ])
+
+  pub ready-next : IsReady b ins tb1 z2
+  ready-next = record {
+    slots = slots-next;
+    owned = owned;
+    literals = literals-kept a b ins kept ready.literals;
+    at = inputs-kept a b ins (has_input ins) kept ready.literals ready.at;
+    circuits = literals-put b tb tb1 v (Some lit) new.circuits
+        (λ l e. subst (IsLiteral b) (some-same lit l e) (grown.kept lit new.there).0)
+        (literals-kept a b tb kept ready.circuits);
+    within = λ w h. let l = ready.within w h in let c = current-room in omega arith;
+  }
+    where
+      owned : AreOwned b.inputs ins z2
+      owned i il =
+          let len = length_push a.inputs (length z.definitions.items) in
+          let il2 : i < length (a.inputs ++ length z.definitions.items ∷ []) =
+          subst (λ (xs : List ℕ). i < length xs) inputs il in
+          subst (λ (xs : List ℕ). has_input ins (owner_at z2.owners.items (get_or xs i 0)) ≡ true) (sym inputs)
+          (elim (cases_lt i (length a.inputs)) [
+            | inl h ↦
+                let e = get_or_append_left a.inputs (length z.definitions.items ∷ []) 0 i h in
+                ap (λ (s : ℕ). has_input ins (owner_at z2.owners.items s)) e
+                ∙ ap (has_input ins) (owner-kept (get_or a.inputs i 0) (ready.slots.names i h)) ∙ ready.owned i h
+            | inr h ↦
+                let e = get_or_push a.inputs (length z.definitions.items) 0 i (omega arith) in
+                ap (λ (s : ℕ). has_input ins (owner_at z2.owners.items s)) e ∙ ap (has_input ins) owner-new ∙ hv
+          ])
+
+  -- what a literal of the old graph reads is an old slot
+  old-reads : (l x : ℕ) → IsLiteral a l → Reads (tree_at a l) x → x < length z.definitions.items
+  old-reads l x h r =
+      let f = net-inputs a l x net.ordered h r in
+      let n = ready.slots.names f.0 f.1 in
+      let e = f.2 in
+      omega arith
+
+  module _ (c : Strategy) (w : Follows a ins tb z c) (t : Circuit) (none : given (c v) ≡ false) where
+    -- the circuits of the slots before, with the new slot
+    abbrev now : ℕ → Circuit
+    now = with_slot (length z.definitions.items) (input v) w.resolution
+
+    abbrev next : ℕ → Circuit
+    next = with_slot (length z.definitions.items) (input v)
+        (λ x. replaced v (twice (under now (tree_at b to))) (w.resolution x))
+
+    module _ (serves : Serves (under now (tree_at b to)) t) (clear : (x : ℕ) → Reads (tree_at b to) x →
+        (x ≡ length z.definitions.items) ⊎ (Reads (w.resolution x) v → ⊥)) where
+      next-old : (q : Circuit) → ((x : ℕ) → Reads q x → x < length z.definitions.items) →
+          under next q ≡ replaced v (twice (under now (tree_at b to))) (under w.resolution q)
+      next-old q h =
+          under-same next (λ x. replaced v (twice (under now (tree_at b to))) (w.resolution x)) q
+          (λ x r. with-other (length z.definitions.items) (input v)
+          (λ x. replaced v (twice (under now (tree_at b to))) (w.resolution x)) x
+          (λ e. let l = h x r in absurd (omega arith)))
+          ∙ sym (replaced-under v (twice (under now (tree_at b to))) w.resolution q)
+
+      next-to : under next (tree_at b to) ≡ under now (tree_at b to)
+      next-to = under-same next now (tree_at b to) (λ x r. go x (clear x r) (same-or x (length z.definitions.items)))
+        where
+          go : (x : ℕ) → (x ≡ length z.definitions.items) ⊎ (Reads (w.resolution x) v → ⊥) →
+              (x ≡ length z.definitions.items) ⊎ (x ≢ length z.definitions.items) → next x ≡ now x
+          go x o (inl e) =
+              ap next e ∙ with-same (length z.definitions.items) (input v)
+              (λ x. replaced v (twice (under now (tree_at b to))) (w.resolution x))
+              ∙ sym (ap now e ∙ with-same (length z.definitions.items) (input v) w.resolution)
+          go x (inl e) (inr n) = absurd (n e)
+          go x (inr m) (inr n) =
+              with-other (length z.definitions.items) (input v)
+              (λ x. replaced v (twice (under now (tree_at b to))) (w.resolution x)) x n
+              ∙ replaced-unread v (twice (under now (tree_at b to))) (w.resolution x) m
+              ∙ sym (with-other (length z.definitions.items) (input v) w.resolution x n)
+
+      next-is : (s : ℕ) → s < length z.definitions.items →
+          next s ≡ replaced v (twice (under now (tree_at b to))) (w.resolution s)
+      next-is s h = with-other (length z.definitions.items) (input v)
+          (λ x. replaced v (twice (under now (tree_at b to))) (w.resolution x)) s (λ e. absurd (omega arith))
+
+      next-empty : (s : ℕ) → s < length z2.definitions.items → look_at z2.definitions.items s ≡ None →
+          next s ≡ input (owner_at z2.owners.items s)
+      next-empty s h e = elim (empty-before s h e) [
+        | inl p ↦
+            let n : owner_at z.owners.items s ≢ v = λ q. p.1 (empty-of s p.0 p.2 q) in
+            next-is s p.0
+            ∙ ap (replaced v (twice (under now (tree_at b to)))) (w.resolved.empty s p.0 p.2)
+            ∙ replaced-other v (twice (under now (tree_at b to))) (owner_at z.owners.items s) n
+            ∙ ap input (sym (owner-kept s p.0))
+        | inr p ↦ ap next p ∙ with-same (length z.definitions.items) (input v)
+            (λ x. replaced v (twice (under now (tree_at b to))) (w.resolution x))
+            ∙ sym (ap input (ap (owner_at z2.owners.items) p ∙ owner-new))
+      ]
+
+      filled-before : (s l : ℕ) → s ≢ slot_at z.current.items v → look_at z2.definitions.items s ≡ Some l →
+          (s < length z.definitions.items) × (look_at z.definitions.items s ≡ Some l)
+      filled-before s l n e = elim (cases_lt s (length z.definitions.items)) [
+        | inl h ↦ (h, sym (other-is-kept s n h) ∙ e)
+        | inr h ↦ elim (same-or s (length z.definitions.items)) [
+          | inl q ↦ absurd (let f : None ≡ Some l = sym new-is ∙ ap (look_at z2.definitions.items) (sym q) ∙ e in cc)
+          | inr m ↦
+              let past : look_at z2.definitions.items s ≡ None =
+              get_or_past z2.definitions.items s None (let r = room in omega arith) in
+              absurd (let f : None ≡ Some l = sym past ∙ e in cc)
+        ]
+      ]
+
+      next-filled : (s l : ℕ) → look_at z2.definitions.items s ≡ Some l → next s ≡ twice (under next (tree_at b l))
+      next-filled s l e = elim (same-or s (slot_at z.current.items v)) [
+        | inl q ↦
+            let tl : to ≡ l = some-same to l (sym filled-is ∙ ap (look_at z2.definitions.items) (sym q) ∙ e) in
+            ap next q ∙ next-is (slot_at z.current.items v) before
+            ∙ ap (replaced v (twice (under now (tree_at b to))))
+            (w.resolved.empty (slot_at z.current.items v) before (ready.slots.empty v vl)
+            ∙ ap input (ready.slots.owned v vl))
+            ∙ replaced-itself v (twice (under now (tree_at b to))) ∙ ap twice (sym next-to)
+            ∙ ap (λ (m : ℕ). twice (under next (tree_at b m))) tl
+        | inr n ↦
+            let p = filled-before s l n e in
+            let il : IsLiteral a l = ready.slots.literals s l p.1 in
+            next-is s p.0
+            ∙ ap (replaced v (twice (under now (tree_at b to)))) (w.resolved.filled s l p.1)
+            ∙ ap twice (sym (next-old (tree_at a l) (λ x r. old-reads l x il r)))
+            ∙ ap (λ (q : Circuit). twice (under next q)) (sym (kept l il).1)
+      ]
+
+      filling-serves : Serves (twice (under now (tree_at b to))) t
+      filling-serves = serves-then _ _ _ (twice-serves (under now (tree_at b to))) serves
+
+      new-circuit : standing b tb1 v ≡ Some (input (length z.definitions.items))
+      new-circuit =
+          let p : look_at tb1 v ≡ Some lit =
+          new.circuits v ∙ ap (λ (q : Bool). cond q (Some lit) (look_at tb v)) (same-is v v refl) in
+          ap (tree_of_literal b) p ∙ ap Some ((grown.kept lit new.there).1 ∙ new.tree)
+
+      old-circuit : (x : ℕ) (q : Circuit) → x ≢ v → standing a tb x ≡ Some q → (l : ℕ) × IsLiteral a l ×
+          (q ≡ tree_at a l) × (standing b tb1 x ≡ Some (tree_at a l))
+      old-circuit x q n e = go (look_at tb x) refl e
+        where
+          go : (m : Option ℕ) → look_at tb x ≡ m → tree_of_literal a m ≡ Some q → (l : ℕ) × IsLiteral a l ×
+              (q ≡ tree_at a l) × (standing b tb1 x ≡ Some (tree_at a l))
+          go None f g = absurd (cc)
+          go (Some l) f g =
+              let il : IsLiteral a l = ready.circuits x l f in
+              let p : look_at tb1 x ≡ Some l = new.circuits x
+              ∙ ap (λ (q : Bool). cond q (Some lit) (look_at tb x)) (other-is x v n) ∙ f in
+              (l, il, cc, ap (tree_of_literal b) p ∙ ap Some (kept l il).1)
+
+      reread-circuit : (x : ℕ) → x ≢ v → circuit_of (reread v t c) x ≡ replaced v t (circuit_of c x)
+      reread-circuit x n = go (c x)
+        where
+          go : (o : Option Circuit) → or_input x (map_circuit (replaced v t) o) ≡ replaced v t (or_input x o)
+          go None = sym (replaced-other v t x n)
+          go (Some q) = refl
+
+      given-reread : (x : ℕ) → given (reread v t c x) ≡ given (c x)
+      given-reread x = go (c x)
+        where
+          go : (o : Option Circuit) → given (map_circuit (replaced v t) o) ≡ given o
+          go None = refl
+          go (Some q) = refl
+
+      under-next : AreUnder next (has_input ins) (standing b tb1) (reread v t c)
+      under-next x h = elim (same-or x v) [
+        | inl e ↦ subst (λ (y : ℕ). (q : Circuit) × (standing b tb1 y ≡ Some q) × Serves (under next q)
+            (circuit_of (reread v t c) y)) (sym e) (
+              input (length z.definitions.items),
+              new-circuit,
+              serves-same _ _ (with-same (length z.definitions.items) (input v)
+                  (λ x. replaced v (twice (under now (tree_at b to))) (w.resolution x))
+                  ∙ sym (ap (λ (o : Option Circuit). or_input v (map_circuit (replaced v t) o))
+                  (not-given (c v) none))),
+            )
+        | inr n ↦
+            let old : (given (c x) ≡ true) ⊎ (has_input ins x ≡ true) =
+            elim h [ inl p ↦ inl (sym (given-reread x) ∙ p) | inr p ↦ inr p ] in
+            let u = w.circuits x old in
+            let o = old-circuit x u.0 n u.1 in (
+              tree_at a o.0,
+              o.3,
+              serves-then _ _ _ (serves-same _ _ (next-old (tree_at a o.0) (λ y r. old-reads o.0 y o.1 r)))
+                  (serves-then _ _ _ (serves-replaced v _ _ _ _ filling-serves
+                  (serves-then _ _ _ (serves-same _ _ (ap (under w.resolution) (sym o.2))) u.2))
+                  (serves-same _ _ (sym (reread-circuit x n)))),
+            )
+      ]
+
+      pub follows-next : Follows b ins tb1 z2 (reread v t c)
+      follows-next = record {
+        resolution = next;
+        resolved = record { empty = next-empty; filled = next-filled };
+        circuits = under-next;
+      }

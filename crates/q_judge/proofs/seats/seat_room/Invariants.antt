@@ -1,8 +1,0 @@
-use Rattle.std.proofs.Common.{◌≡◌, ◌<◌, ℕ, true, None, length, take}
-use Rattle.q_logic.specs.Prefixes.{is_bound}
-use Rattle.q_pages.specs.Rows.{IsMade}
-use Rattle.q_judge.specs.Scopes.{seat_at}
-use Rattle.q_judge.proofs.seats.seat_room.Given as goal
-
-abbrev pub invariant-loop-bound : goal.invariant-loop-bound
-invariant-loop-bound l = ((v : ℕ) → seat_at l.seats.items v ≡ None) × ((v : ℕ) → is_bound (take l.bound-index l.prefix) v ≡ true → IsMade l.seats v)

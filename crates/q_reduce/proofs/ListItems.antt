@@ -1,0 +1,24 @@
+-- Items of a list.
+use Rattle.std.proofs.Common.{◌<◌, ℕ, zero, suc, get_or, length, List, [], ◌∷◌, take, drop, refl, inl, inr, arith}
+use Rattle.std.specs.List.{remove}
+use Rattle.q_logic.specs.Prelude.{IsIn}
+use Rattle.q_logic.proofs.Common.{IsIn-append}
+
+pub number-at : (xs : List ℕ) (i d : ℕ) → i < length xs → IsIn (get_or xs i d) xs
+number-at [] i d h = absurd (omega arith)
+number-at (x ∷ xs) zero d h = inl refl
+number-at (x ∷ xs) (suc i) d h = inr (number-at xs i d (omega arith))
+
+take-in : {X : Type 0} (i : ℕ) (xs : List X) (x : X) → IsIn x (take i xs) → IsIn x xs
+take-in zero xs x m = absurd m
+take-in (suc i) [] x m = absurd m
+take-in (suc i) (y ∷ xs) x (inl e) = inl e
+take-in (suc i) (y ∷ xs) x (inr m) = inr (take-in i xs x m)
+
+drop-in : {X : Type 0} (i : ℕ) (xs : List X) (x : X) → IsIn x (drop i xs) → IsIn x xs
+drop-in zero xs x m = m
+drop-in (suc i) [] x m = absurd m
+drop-in (suc i) (y ∷ xs) x m = inr (drop-in i xs x m)
+
+pub remove-in : {X : Type 0} (xs : List X) (i : ℕ) (x : X) → IsIn x (remove xs i) → IsIn x xs
+remove-in xs i x m = elim (IsIn-append x (take i xs) (drop (suc i) xs) m) [ inl a ↦ take-in i xs x a | inr b ↦ drop-in (suc i) xs x b ]

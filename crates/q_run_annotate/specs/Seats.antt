@@ -1,9 +1,0 @@
--- A place for an annotator.
-use Rattle.std.specs.Prelude.{List, [], ◌∷◌}
-use Rattle.q_logic.specs.Limits.{standard}
-use Rattle.q_check.specs.Annotations.{Annotating}
-
--- the annotator that stands first in a row; in an empty row, one over no formula
-abbrev pub seated : List Annotating → Annotating
-seated [] = record { formula = record { prefix = []; slots = [] }; limits = standard; steps = 0 }
-seated (a ∷ others) = a

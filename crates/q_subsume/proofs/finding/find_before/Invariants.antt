@@ -1,5 +1,0 @@
-use Rattle.q_subsume.proofs.Searching.{ArePassed}
-use Rattle.q_subsume.proofs.finding.find_before.Given as goal
-
-abbrev pub invariant-loop-c : goal.invariant-loop-c
-invariant-loop-c l = ArePassed l.kernel 0 l.from l.c

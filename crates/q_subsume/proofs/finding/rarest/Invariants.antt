@@ -1,5 +1,0 @@
-use Rattle.q_logic.specs.Formulas.{IsIn}
-use Rattle.q_subsume.proofs.finding.rarest.Given as goal
-
-abbrev pub invariant-loop-k : goal.invariant-loop-k
-invariant-loop-k l = IsIn l.best l.clause

@@ -1,0 +1,12 @@
+use Rattle.std.proofs.Common.{Ok}
+use Rattle.q_logic.specs.declared.memory.NoMemory.{NoMemory}
+use Rattle.q_rule.proofs.RuleAnswers.{finds}
+use Rattle.q_subsume.specs.Targets.{target_of}
+use Rattle.q_subsume.proofs.SubsumeResults.{fits-applies}
+use Rattle.q_subsume.proofs.rules.SearchRules.find.Goals as goal
+
+pub returns-clause-finds : goal.returns-clause-finds
+returns-clause-finds c =
+    let B = c.args.bounds.now in
+    let k = c.args.kernel.now in
+    finds {E = NoMemory} target_of B k c.args.from (Ok c.find_from.result) (λ t f. fits-applies B k t c.requires.ready.limits (f B)) c.find_from.ensures
