@@ -1,6 +1,6 @@
 use Rattle.q_logic.specs.Prelude.{PrenexFormula}
 use Rattle.q_run_solve.specs.Solves.{files_of}
-use Rattle.q_run_solve.proofs.SolveParts.{refused-says, nothing-says, settled-all, starts-same}
+use Rattle.q_run_solve.proofs.SolveParts.{refused-says, settled-all, starts-same}
 use Rattle.q_run_solve.proofs.RisenFaults.{three-later, refusal-writes, refusal-reads}
 use Rattle.q_run_solve.proofs.solve.solve_files.Goals as goal
 
@@ -26,6 +26,3 @@ returns-in-Ok-reduce-clause-read_fault g c = λ s. absurd (c.settle.ensures.read
 pub returns-in-Ok-reduce-clause-write_fault : goal.returns-in-Ok-reduce-clause-write_fault
 returns-in-Ok-reduce-clause-write_fault g c =
     λ s. three-later g.F.Files.read_faults g.F.Files.write_faults c.args.names.output.now c.args.names.log.now c.args.names.cert.now c.args.files.now c.read_input.new.files c.settle.new.files c.in-Ok.ensures.only_reads.later (c.settle.ensures.cause s)
-
-pub returns-clause-solves : goal.returns-clause-solves
-returns-clause-solves g c = nothing-says (files_of c.args.names) c.args.budget (g.F.Files.held c.args.files.now) (g.F.Files.held c.read_input.new.files) c.in-Ok.ensures.only_reads.same
