@@ -33,7 +33,8 @@ pub fn read_items<'a>(
     requires inputs { header.inputs ≤ 268435456 }
     requires outputs { header.outputs ≤ 576460752303423488 }
     requires gates { header.gates ≤ 268435456 }
-    ensures answer { Answers result (items_of (header_view header) last (lines_of text.now)) behind_view }
+    ensures answer { Answers result (items_of (header_view header) last (lines_of text.now))
+        behind_view }
 {
     let mut items = Items::new(alloc);
     let mut line = 2;
@@ -54,7 +55,8 @@ fn take_line<'a>(
     last: u64,
 ) -> Result<&'a [u8], AigerError>
     requires { header.max ≤ 268435456 }
-    ensures { TakesLine result (header_view header) last line items.old (lines_of text.now) items.new }
+    ensures { TakesLine result (header_view header) last line items.old
+        (lines_of text.now) items.new }
 {
     let Some((first, rest)) = next_line(text) else {
         return Err(AigerError::Refused {
@@ -75,7 +77,10 @@ pub fn read_names(
     outputs: &mut Names,
 ) -> Result<(), AigerError>
     requires { line + length (lines_of text.now) < 2 ^ 64 }
-    ensures names { ReadsNames result (names_from last line (record { inputs = inputs.old; outputs = outputs.old }) (lines_of text.now)) inputs.new outputs.new }
+    ensures names { ReadsNames result (names_from last line (record {
+      inputs = inputs.old;
+      outputs = outputs.old;
+    }) (lines_of text.now)) inputs.new outputs.new }
     ensures inputs { OnOk result (length inputs.new ≡ length inputs.old) }
     ensures outputs { OnOk result (length outputs.new ≡ length outputs.old) }
     ensures inputs_named { OnOk result (all_named inputs.new ≡ true) }
@@ -95,7 +100,10 @@ pub fn read_names(
 
 // The end of the symbols: each place has to have its name.
 fn end_names(last: u64, inputs: &Names, outputs: &Names) -> Result<(), AigerError>
-    ensures names { ReadsNames result (names_at_end last (record { inputs = inputs.now; outputs = outputs.now })) inputs.now outputs.now }
+    ensures names { ReadsNames result (names_at_end last (record {
+      inputs = inputs.now;
+      outputs = outputs.now;
+    })) inputs.now outputs.now }
     ensures inputs_named { OnOk result (all_named inputs.now ≡ true) }
     ensures outputs_named { OnOk result (all_named outputs.now ≡ true) }
 {
@@ -115,7 +123,10 @@ fn take_symbol(
     inputs: &mut Names,
     outputs: &mut Names,
 ) -> Result<bool, AigerError>
-    ensures turn { TakesSymbol result at (symbol_of (words line.now)) (record { inputs = inputs.old; outputs = outputs.old }) (record { inputs = inputs.new; outputs = outputs.new }) }
+    ensures turn { TakesSymbol result at (symbol_of (words line.now)) (record {
+      inputs = inputs.old;
+      outputs = outputs.old;
+    }) (record { inputs = inputs.new; outputs = outputs.new }) }
     ensures inputs { OnOk result (length inputs.new ≡ length inputs.old) }
     ensures outputs { OnOk result (length outputs.new ≡ length outputs.old) }
 {

@@ -32,7 +32,8 @@ pub fn cones_of(certificate: &Certificate) -> Result<Cones, NoMemory>
 fn mark_outputs(certificate: &Certificate, marks: &mut Vec<bool>)
     requires room { length marks.old.items ≡ length certificate.now.gates }
     requires unmarked { (g : ℕ) → slice_index_or marks.old.items g false ≡ false }
-    ensures { IsMarking certificate.now marks.new.items (length certificate.now.outputs) (length certificate.now.gates) }
+    ensures { IsMarking certificate.now marks.new.items (length certificate.now.outputs)
+        (length certificate.now.gates) }
 {
     let aig = certificate.aig();
     for output in certificate.outputs() {
@@ -42,7 +43,8 @@ fn mark_outputs(certificate: &Certificate, marks: &mut Vec<bool>)
 
 // Marks the operands of what is marked, from the last gate to the first.
 fn mark_operands(certificate: &Certificate, marks: &mut Vec<bool>)
-    requires { IsMarking certificate.now marks.old.items (length certificate.now.outputs) (length certificate.now.gates) }
+    requires { IsMarking certificate.now marks.old.items (length certificate.now.outputs)
+        (length certificate.now.gates) }
     ensures { IsMarking certificate.now marks.new.items (length certificate.now.outputs) 0 }
 {
     let aig = certificate.aig();
@@ -70,7 +72,8 @@ fn mark(aig: &Aig, marks: &mut Vec<bool>, lit: u64)
 
 // Gathers what is marked.
 fn place_marked(alloc: Global, marks: &Vec<bool>) -> Result<Cones, NoMemory>
-    ensures { IfOk result (λ c. ArePlaced marks.now.items (length marks.now.items) c.kept.items c.places.items) }
+    ensures { IfOk result (λ c. ArePlaced marks.now.items (length marks.now.items) c.kept.items
+        c.places.items) }
 {
     let mut kept = Vec::new(alloc);
     let mut places = Vec::new(alloc);

@@ -32,7 +32,8 @@ struct Words<'a> {
 
 /// The header of a line, or its cause.
 pub fn read_header(line: &[u8]) -> Result<Header, u8>
-    ensures answer { MatchResult result (λ h. header_of line.now ≡ Ok (header_view h)) (λ c. header_of line.now ≡ Err c) }
+    ensures answer { MatchResult result (λ h. header_of line.now ≡ Ok (header_view h))
+        (λ c. header_of line.now ≡ Err c) }
     ensures modest { IfOk result IsModest }
 {
     match six_words(line) {
@@ -42,7 +43,8 @@ pub fn read_header(line: &[u8]) -> Result<Header, u8>
 }
 
 fn counted(words: Words) -> Result<Header, u8>
-    ensures answer { MatchResult result (λ h. header_with (counts_in words.entry) ≡ Ok (header_view h)) (λ c. header_with (counts_in words.entry) ≡ Err c) }
+    ensures answer { MatchResult result (λ h. header_with (counts_in words.entry)
+        ≡ Ok (header_view h)) (λ c. header_with (counts_in words.entry) ≡ Err c) }
     ensures modest { IfOk result IsModest }
 {
     if !is_aag(words.tag) {
@@ -70,7 +72,8 @@ fn counted(words: Words) -> Result<Header, u8>
 
 fn six_words(line: &[u8]) -> Option<Words>
     ensures { MatchOption result (length (words line.now) ≢ 6)
-        (λ r. words line.now ≡ r.tag.now ∷ r.max.now ∷ r.inputs.now ∷ r.latches.now ∷ r.outputs.now ∷ r.gates.now ∷ []) }
+        (λ r. words line.now ≡ r.tag.now ∷ r.max.now ∷ r.inputs.now ∷ r.latches.now ∷ r.outputs.now
+        ∷ r.gates.now ∷ []) }
 {
     let (tag, max, inputs, rest) = three_words(line)?;
     let (latches, outputs, gates, rest) = three_words(rest)?;
@@ -89,7 +92,8 @@ fn six_words(line: &[u8]) -> Option<Words>
 
 // The first three words of a line, and what stands behind them; None where there are fewer.
 fn three_words(line: &[u8]) -> Option<(&[u8], &[u8], &[u8], &[u8])>
-    ensures { MatchOption result (length (words line.now) < 3) (λ r. words line.now ≡ r.0.now ∷ r.1.now ∷ r.2.now ∷ words r.3.now) }
+    ensures { MatchOption result (length (words line.now) < 3) (λ r. words line.now
+        ≡ r.0.now ∷ r.1.now ∷ r.2.now ∷ words r.3.now) }
 {
     let (first, rest) = next_word(line)?;
     let (second, rest) = next_word(rest)?;
@@ -133,7 +137,8 @@ fn is_below(max: &[u8], inputs: &[u8], latches: &[u8], gates: &[u8]) -> bool
     requires inputs { IsNumber inputs.now }
     requires latches { IsNumber latches.now }
     requires gates { IsNumber gates.now }
-    ensures { IsTrue result ↔ (value max.now < value inputs.now + value latches.now + value gates.now) }
+    ensures { IsTrue result
+        ↔ (value max.now < value inputs.now + value latches.now + value gates.now) }
 {
     let len = max
         .len()
@@ -153,7 +158,8 @@ fn advance(spare: Option<u64>, max: u64, sum: u64) -> Option<u64>
     requires max { max ≤ 9 }
     requires sum { sum ≤ 27 }
     requires small { IsSmall spare }
-    ensures spare { (m : ℕ) → (s : ℕ) → IsSpare spare m s → IsSpare result (10 * m + max) (10 * s + sum) }
+    ensures spare { (m : ℕ) → (s : ℕ) → IsSpare spare m s
+        → IsSpare result (10 * m + max) (10 * s + sum) }
     ensures small { IsSmall result }
 {
     match spare {

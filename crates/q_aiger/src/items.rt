@@ -32,7 +32,11 @@ impl Model for Items {
 
     ghost Value = { ItemsView };
 
-    ghost view = { λ i. record { defined = i.vars.items; outputs = i.outputs.items; operands = i.operands.items } };
+    ghost view = { λ i. record {
+      defined = i.vars.items;
+      outputs = i.outputs.items;
+      operands = i.operands.items;
+    } };
 
     ghost invariant = { λ i. IsIndexOf i.places i.vars.items };
 }
@@ -79,7 +83,10 @@ impl Items {
 
     fn define(&mut self, var: u32) -> Result<(), NoMemory>
         requires { place_of self.old.defined var ≡ None }
-        ensures { OnOk result (self.new ≡ record self.old { defined = self.old.defined ++ var ∷ [] }) }
+        ensures { OnOk result (self.new ≡ record self.old {
+          defined = self.old.defined ++ var
+              ∷ [];
+        }) }
     {
         let place = self.vars.len();
         if place >= MOST {
@@ -92,14 +99,20 @@ impl Items {
     }
 
     fn push_output(&mut self, lit: u32) -> Result<(), NoMemory>
-        ensures { OnOk result (self.new ≡ record self.old { outputs = self.old.outputs ++ lit ∷ [] }) }
+        ensures { OnOk result (self.new ≡ record self.old {
+          outputs = self.old.outputs ++ lit
+              ∷ [];
+        }) }
     {
         self.outputs.push(lit)?;
         Ok(())
     }
 
     fn push_operands(&mut self, left: u32, right: u32) -> Result<(), NoMemory>
-        ensures { OnOk result (self.new ≡ record self.old { operands = self.old.operands ++ (left, right) ∷ [] }) }
+        ensures { OnOk result (self.new ≡ record self.old {
+          operands = self.old.operands
+              ++ (left, right) ∷ [];
+        }) }
     {
         self.operands.push((left, right))?;
         Ok(())
@@ -108,7 +121,8 @@ impl Items {
     /// Takes the next line, of this number.
     pub fn take(&mut self, header: Header, line: &[u8], at: u64) -> Result<(), AigerError>
         requires { header.max ≤ 268435456 }
-        ensures { Takes result at (with_line (header_view header) self.old (words line.now)) self.new }
+        ensures { Takes result at (with_line (header_view header) self.old (words line.now))
+            self.new }
     {
         if (self.vars.len() as u64) < header.inputs {
             return self.take_input(header, one_number(line), at);

@@ -21,7 +21,8 @@ pub fn one_text_has_one_meaning()
 
 /// A text with an offence holds no circuits.
 pub fn an_offence_leaves_no_circuits()
-    ensures { (bytes : List ℕ) → (line : ℕ) → (cause : ℕ) → Offence bytes line cause → IsNoCircuits bytes }
+    ensures { (bytes : List ℕ) → (line : ℕ) → (cause : ℕ) → Offence bytes line cause
+        → IsNoCircuits bytes }
 {}
 
 /// The canonical text of a certificate that keeps the limits is read as circuits of the same inputs, names and values.

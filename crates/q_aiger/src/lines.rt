@@ -8,7 +8,8 @@ const GREATEST: u64 = 576_460_752_303_423_488;
 
 /// The first line, and what stands behind it; None where there is no line.
 pub fn next_line(text: &[u8]) -> Option<(&[u8], &[u8])>
-    ensures { MatchOption result (lines_of text.now ≡ []) (λ r. lines_of text.now ≡ r.0.now ∷ lines_of r.1.now) }
+    ensures { MatchOption result (lines_of text.now ≡ []) (λ r. lines_of text.now
+        ≡ r.0.now ∷ lines_of r.1.now) }
 {
     if text.is_empty() {
         return None;
@@ -47,7 +48,8 @@ fn cut_return(line: &[u8]) -> &[u8]
 
 /// The first word of a line, and what stands behind it; None where there is no word.
 pub fn next_word(line: &[u8]) -> Option<(&[u8], &[u8])>
-    ensures { MatchOption result (words line.now ≡ []) (λ r. words line.now ≡ r.0.now ∷ words r.1.now) }
+    ensures { MatchOption result (words line.now ≡ []) (λ r. words line.now
+        ≡ r.0.now ∷ words r.1.now) }
 {
     let line = &line[blanks(line)..];
     let end = word_end(line);

@@ -39,8 +39,10 @@ fn open_inputs(aig: &mut Aig, names: &[u32]) -> Result<Vec<u64>, NoMemory>
 
 // The literal of an operand.
 fn literal(rows: &Rows, operand: Operand) -> u64
-    requires { IsThere (length rows.now.inputs.items) (length rows.now.gates.items) (operand_view operand).node }
-    ensures { operand_of result ≡ through rows.now.inputs.items rows.now.gates.items (operand_view operand) }
+    requires { IsThere (length rows.now.inputs.items) (length rows.now.gates.items)
+        (operand_view operand).node }
+    ensures { operand_of result ≡ through rows.now.inputs.items rows.now.gates.items
+        (operand_view operand) }
 {
     let lit = match operand.source {
         Source::Constant => constant(false),
@@ -52,12 +54,17 @@ fn literal(rows: &Rows, operand: Operand) -> u64
 
 // Adds one gate.
 fn add_gate(aig: &mut Aig, rows: &Rows, gate: Gate) -> Result<u64, NoMemory>
-    requires left { IsThere (length rows.now.inputs.items) (length rows.now.gates.items) (operand_view gate.left).node }
-    requires right { IsThere (length rows.now.inputs.items) (length rows.now.gates.items) (operand_view gate.right).node }
-    requires left_literal { IsThere (length aig.old.inputs) (length aig.old.gates) (through rows.now.inputs.items rows.now.gates.items (operand_view gate.left)).node }
-    requires right_literal { IsThere (length aig.old.inputs) (length aig.old.gates) (through rows.now.inputs.items rows.now.gates.items (operand_view gate.right)).node }
+    requires left { IsThere (length rows.now.inputs.items) (length rows.now.gates.items)
+        (operand_view gate.left).node }
+    requires right { IsThere (length rows.now.inputs.items) (length rows.now.gates.items)
+        (operand_view gate.right).node }
+    requires left_literal { IsThere (length aig.old.inputs) (length aig.old.gates)
+        (through rows.now.inputs.items rows.now.gates.items (operand_view gate.left)).node }
+    requires right_literal { IsThere (length aig.old.inputs) (length aig.old.gates)
+        (through rows.now.inputs.items rows.now.gates.items (operand_view gate.right)).node }
     ensures inputs { aig.new.inputs ≡ aig.old.inputs }
-    ensures gates { OnOk result (aig.new.gates ≡ aig.old.gates ++ gate_through rows.now.inputs.items rows.now.gates.items (gate_view gate) ∷ []) }
+    ensures gates { OnOk result (aig.new.gates ≡ aig.old.gates ++ gate_through rows.now.inputs.items
+        rows.now.gates.items (gate_view gate) ∷ []) }
     ensures literal { IfOk result (λ l. operand_of l ≡ plain (gate_at (length aig.old.gates))) }
 {
     aig.gate(literal(rows, gate.left), literal(rows, gate.right))
@@ -76,7 +83,8 @@ fn add_gates(
     requires room { length rows.old.gates.items ≡ length gates.now }
     requires empty { aig.old.gates ≡ [] }
     ensures inputs { OnOk result (aig.new.inputs ≡ aig.old.inputs) }
-    ensures gates { OnOk result (aig.new.gates ≡ first_gates order.now (gates_view gates.now) (length order.now)) }
+    ensures gates { OnOk result (aig.new.gates ≡ first_gates order.now (gates_view gates.now)
+        (length order.now)) }
     ensures row { OnOk result (IsGateRow order.now (length order.now) rows.new.gates.items) }
     ensures room { OnOk result (length rows.new.gates.items ≡ length gates.now) }
     ensures input_row { OnOk result (rows.new.inputs ≡ rows.old.inputs) }
@@ -99,11 +107,15 @@ fn name_outputs(
     requires apart { AreApart names.now }
     requires variables { AreVariables names.now }
     requires same { length names.now ≡ length outputs.now }
-    requires there { AreOperandsThere (length rows.now.inputs.items) (length rows.now.gates.items) (operands_view outputs.now) }
-    requires literals { AreLiterals (net_of certificate.old) rows.now.inputs.items rows.now.gates.items (operands_view outputs.now) }
+    requires there { AreOperandsThere (length rows.now.inputs.items) (length rows.now.gates.items)
+        (operands_view outputs.now) }
+    requires literals { AreLiterals (net_of certificate.old) rows.now.inputs.items
+        rows.now.gates.items (operands_view outputs.now) }
     ensures inputs { certificate.new.inputs ≡ certificate.old.inputs }
     ensures gates { certificate.new.gates ≡ certificate.old.gates }
-    ensures outputs { OnOk result (certificate.new.outputs ≡ map (output_through rows.now.inputs.items rows.now.gates.items) (with_names names.now (operands_view outputs.now))) }
+    ensures outputs { OnOk result (certificate.new.outputs
+        ≡ map (output_through rows.now.inputs.items rows.now.gates.items)
+        (with_names names.now (operands_view outputs.now))) }
 {
     for (at, name) in names.iter().enumerate() {
         certificate.name(*name, literal(rows, outputs[at]))?;
@@ -127,8 +139,14 @@ pub fn make(
     requires names_apart { AreApart names.now }
     requires name_variables { AreVariables names.now }
     requires same { length names.now ≡ length outputs.now }
-    requires outputs_there { AreOperandsThere (length inputs.now) (length gates.now) (operands_view outputs.now) }
-    ensures { IfOk result (λ c. c ≡ sorted_circuits order.now (record { inputs = inputs.now; gates = gates_view gates.now; outputs = with_names names.now (operands_view outputs.now) })) }
+    requires outputs_there { AreOperandsThere (length inputs.now) (length gates.now)
+        (operands_view outputs.now) }
+    ensures { IfOk result (λ c. c ≡ sorted_circuits order.now (record {
+      inputs = inputs.now;
+      gates = gates_view gates.now;
+      outputs = with_names names.now
+          (operands_view outputs.now);
+    })) }
 {
     let mut aig = Aig::new(alloc);
     let mut rows = Rows {

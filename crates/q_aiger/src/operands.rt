@@ -35,7 +35,8 @@ fn source_of(items: &Items, inputs: u32, var: u32) -> Option<Source>
 
 // The gate of two literals, if their variables are defined.
 fn gate_of(items: &Items, inputs: u32, pair: (u32, u32)) -> Option<Gate>
-    ensures { gate_some result ≡ gate_with (operand_in inputs items.now.defined pair.0) (operand_in inputs items.now.defined pair.1) }
+    ensures { gate_some result ≡ gate_with (operand_in inputs items.now.defined pair.0)
+        (operand_in inputs items.now.defined pair.1) }
 {
     let left = operand_of(items, inputs, pair.0)?;
     let right = operand_of(items, inputs, pair.1)?;
@@ -59,7 +60,8 @@ pub fn resolve_outputs(
     line: u64,
 ) -> Result<Vec<Operand>, AigerError>
     requires { line + length items.now.outputs < 2 ^ 64 }
-    ensures { Answers result (outputs_from inputs items.now.defined line [] items.now.outputs) (λ v. operands_view v.items) }
+    ensures { Answers result (outputs_from inputs items.now.defined line [] items.now.outputs)
+        (λ v. operands_view v.items) }
 {
     let mut outputs = Vec::new(alloc);
     for (at, lit) in items.outputs().iter().enumerate() {
@@ -79,7 +81,8 @@ pub fn resolve_gates(
     line: u64,
 ) -> Result<Vec<Gate>, AigerError>
     requires { line + length items.now.operands < 2 ^ 64 }
-    ensures { Answers result (gates_from inputs items.now.defined line [] items.now.operands) (λ v. gates_view v.items) }
+    ensures { Answers result (gates_from inputs items.now.defined line [] items.now.operands)
+        (λ v. gates_view v.items) }
 {
     let mut gates = Vec::new(alloc);
     for (at, pair) in items.operands().iter().enumerate() {

@@ -126,7 +126,8 @@ fn refused(line: u64, cause: u8) -> AigerError
 fn read_body(alloc: Global, header: Header, text: &[u8], last: u64) -> Result<Written, AigerError>
     requires modest { IsModest header }
     requires few { length (lines_of text.now) < 2 ^ 62 }
-    ensures answer { Answers result (items_in last (lines_of text.now) (header_view header)) written_view }
+    ensures answer { Answers result (items_in last (lines_of text.now) (header_view header))
+        written_view }
     ensures lawful { IfOk result IsWritten }
 {
     let behind = read_items(alloc, header, text, last)?;
@@ -150,7 +151,8 @@ fn resolve(
     requires names { length names ≡ header.outputs }
     requires inputs_named { all_named inputs ≡ true }
     requires names_named { all_named names ≡ true }
-    ensures answer { Answers result (circuits_of (header_view header) items.now (record { inputs = inputs; outputs = names })) written_view }
+    ensures answer { Answers result (circuits_of (header_view header) items.now
+        (record { inputs = inputs; outputs = names })) written_view }
     ensures lawful { IfOk result IsWritten }
 {
     let first = header.inputs as u32;

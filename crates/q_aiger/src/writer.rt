@@ -15,7 +15,8 @@ use q_text::put_count;
 
 /// Appends the canonical text, and answers the number of gates in it.
 pub fn write(certificate: &Certificate, text: &mut Vec<u8>) -> Result<u64, NoMemory>
-    ensures ok { IfOk result (λ gates. IsCanonicalBehind certificate.now gates text.old.items text.new.items) }
+    ensures ok { IfOk result (λ gates. IsCanonicalBehind certificate.now gates text.old.items
+        text.new.items) }
     ensures err { OnErr result (text.new.items ≡ text.old.items) }
 {
     let cones = cones_of(certificate)?;
@@ -33,7 +34,8 @@ fn put_circuits(
     cones: &Cones,
 ) -> Result<(), NoMemory>
     requires { HasCones certificate.now cones.now.kept.items cones.now.places.items }
-    ensures ok { OnOk result (text.new.items ≡ text.old.items ++ circuit_text certificate.now cones.now.kept.items) }
+    ensures ok { OnOk result (text.new.items ≡ text.old.items ++ circuit_text certificate.now
+        cones.now.kept.items) }
     ensures err { OnErr result (Extends text.old.items text.new.items) }
 {
     let inputs = certificate.aig().inputs();
@@ -99,7 +101,8 @@ fn put_inputs(text: &mut Vec<u8>, inputs: usize) -> Result<(), NoMemory>
 
 fn put_outputs(text: &mut Vec<u8>, certificate: &Certificate, cones: &Cones) -> Result<(), NoMemory>
     requires { HasCones certificate.now cones.now.kept.items cones.now.places.items }
-    ensures ok { OnOk result (text.new.items ≡ text.old.items ++ output_lines (length certificate.now.inputs) cones.now.kept.items certificate.now.outputs) }
+    ensures ok { OnOk result (text.new.items ≡ text.old.items ++ output_lines
+        (length certificate.now.inputs) cones.now.kept.items certificate.now.outputs) }
     ensures err { OnErr result (Extends text.old.items text.new.items) }
 {
     for output in certificate.outputs() {
@@ -110,7 +113,8 @@ fn put_outputs(text: &mut Vec<u8>, certificate: &Certificate, cones: &Cones) -> 
 
 fn put_gates(text: &mut Vec<u8>, certificate: &Certificate, cones: &Cones) -> Result<(), NoMemory>
     requires { HasCones certificate.now cones.now.kept.items cones.now.places.items }
-    ensures ok { OnOk result (text.new.items ≡ text.old.items ++ gate_lines certificate.now.gates (length certificate.now.inputs) cones.now.kept.items 0 cones.now.kept.items) }
+    ensures ok { OnOk result (text.new.items ≡ text.old.items ++ gate_lines certificate.now.gates
+        (length certificate.now.inputs) cones.now.kept.items 0 cones.now.kept.items) }
     ensures err { OnErr result (Extends text.old.items text.new.items) }
 {
     let aig = certificate.aig();
@@ -139,7 +143,8 @@ fn literal(certificate: &Certificate, cones: &Cones, lit: u64) -> usize
     requires cones { HasCones certificate.now cones.now.kept.items cones.now.places.items }
     requires lit { IsLiteral (net_of certificate.now) lit }
     requires part { IsPart certificate.now (operand_of lit).node }
-    ensures { result ≡ literal_of (length certificate.now.inputs) cones.now.kept.items (operand_of lit) }
+    ensures { result ≡ literal_of (length certificate.now.inputs) cones.now.kept.items
+        (operand_of lit) }
 {
     let aig = certificate.aig();
     let inputs = aig.inputs().len();
@@ -162,7 +167,8 @@ fn put_input_symbols(text: &mut Vec<u8>, names: &[u32]) -> Result<(), NoMemory>
 }
 
 fn put_output_symbols(text: &mut Vec<u8>, outputs: &[Output]) -> Result<(), NoMemory>
-    ensures ok { OnOk result (text.new.items ≡ text.old.items ++ symbol_lines 111 0 (names_of (map output_of outputs.now))) }
+    ensures ok { OnOk result (text.new.items ≡ text.old.items ++ symbol_lines 111 0
+        (names_of (map output_of outputs.now))) }
     ensures err { OnErr result (Extends text.old.items text.new.items) }
 {
     for (place, output) in outputs.iter().enumerate() {

@@ -36,14 +36,30 @@ impl Model for Arena {
 
     ghost Value = { Clauses };
 
-    ghost view = { λ a. record { clauses = map (clause_in a.words.items) a.slots.items; starts = map (λ s. s.start) a.slots.items; room = length a.words.items; spare_words = length a.words.items - a.end; spare_ids = length a.ids.free; dead = a.end - a.total; next = a.gap } };
+    ghost view = { λ a. record {
+      clauses = map (clause_in a.words.items) a.slots.items;
+      starts = map (λ s. s.start) a.slots.items;
+      room = length a.words.items;
+      spare_words = length a.words.items - a.end;
+      spare_ids = length a.ids.free;
+      dead = a.end - a.total;
+      next = a.gap;
+    } };
 
     ghost invariant = { λ a. IsSound a.words.items a.slots.items a.ids a.end a.total a.gap };
 }
 
 impl Arena {
     pub fn new(alloc: Global) -> Arena
-        ensures { result ≡ record { clauses = []; starts = []; room = 0; spare_words = 0; spare_ids = 0; dead = 0; next = None } }
+        ensures { result ≡ record {
+          clauses = [];
+          starts = [];
+          room = 0;
+          spare_words = 0;
+          spare_ids = 0;
+          dead = 0;
+          next = None;
+        } }
     {
         Arena {
             words: Vec::new(alloc),
@@ -93,8 +109,12 @@ impl Arena {
 
     /// Live clauses stand within the room, apart from one another.
     pub fn apart(&self)
-        ensures within { (i : ℕ) (c : List Literal) → clause_at self.now i ≡ Some c → start_at self.now i + length c ≤ self.now.room }
-        ensures apart { (i j : ℕ) (c d : List Literal) → clause_at self.now i ≡ Some c → clause_at self.now j ≡ Some d → i ≢ j → (start_at self.now i + length c ≤ start_at self.now j) ⊎ (start_at self.now j + length d ≤ start_at self.now i) }
+        ensures within { (i : ℕ) (c : List Literal) → clause_at self.now i ≡ Some c
+            → start_at self.now i + length c ≤ self.now.room }
+        ensures apart { (i j : ℕ) (c d : List Literal) → clause_at self.now i ≡ Some c
+            → clause_at self.now j ≡ Some d → i ≢ j
+            → (start_at self.now i + length c ≤ start_at self.now j)
+            ⊎ (start_at self.now j + length d ≤ start_at self.now i) }
         ensures few { self.now.room < 18446744073709551616 }
         ensures ids { length self.now.clauses ≡ live_in self.now.clauses + self.now.spare_ids }
         ensures few_ids { length self.now.clauses ≤ 4294967295 }
@@ -106,7 +126,8 @@ impl Arena {
     pub fn next_to_slide(&self) -> Option<ClauseId>
         ensures next { result ≡ self.now.next }
         ensures none { result ≡ None → self.now.dead ≡ 0 }
-        ensures some { (id : ℕ) → result ≡ Some id → (0 < self.now.dead) × IsFirstPastDead self.now id }
+        ensures some { (id : ℕ) → result ≡ Some id → (0 < self.now.dead)
+            × IsFirstPastDead self.now id }
     {
         let id = self.gap?;
         Some(id as ClauseId)
@@ -115,7 +136,8 @@ impl Arena {
     /// How many words before the end of the last clause no clause has.
     pub fn dead(&self) -> usize
         ensures value { result ≡ self.now.dead }
-        ensures meaning { (last : ℕ) × IsEnd self.now last × (result + words_in self.now.clauses ≡ last) }
+        ensures meaning { (last : ℕ) × IsEnd self.now last × (result + words_in self.now.clauses
+            ≡ last) }
     {
         self.end - self.total
     }
@@ -179,7 +201,8 @@ impl Arena {
     /// Shortens a clause by one of its literals, in place.
     pub fn drop_lit(&mut self, id: ClauseId, lit: Lit)
         requires { (c : List Literal) × (clause_at self.old id ≡ Some c) × IsIn lit c }
-        ensures clauses { (c : List Literal) → clause_at self.old id ≡ Some c → self.new.clauses ≡ slice_set self.old.clauses id (Some (without lit c)) }
+        ensures clauses { (c : List Literal) → clause_at self.old id ≡ Some c
+            → self.new.clauses ≡ slice_set self.old.clauses id (Some (without lit c)) }
         ensures starts { self.new.starts ≡ self.old.starts }
         ensures room { self.new.room ≡ self.old.room }
         ensures words { self.old.spare_words ≤ self.new.spare_words }
@@ -192,7 +215,8 @@ impl Arena {
     // Leaves out the literal at a place of a clause.
     fn drop_at(&mut self, id: ClauseId, k: usize)
         requires { (c : List Literal) × (clause_at self.old id ≡ Some c) × (k < length c) }
-        ensures clauses { (c : List Literal) → clause_at self.old id ≡ Some c → self.new.clauses ≡ slice_set self.old.clauses id (Some (without_at k c)) }
+        ensures clauses { (c : List Literal) → clause_at self.old id ≡ Some c
+            → self.new.clauses ≡ slice_set self.old.clauses id (Some (without_at k c)) }
         ensures starts { self.new.starts ≡ self.old.starts }
         ensures room { self.new.room ≡ self.old.room }
         ensures words { self.old.spare_words ≤ self.new.spare_words }
@@ -218,7 +242,8 @@ impl Arena {
     pub fn slide(&mut self, id: ClauseId)
         requires next { self.old.next ≡ Some id }
         ensures clauses { self.new.clauses ≡ self.old.clauses }
-        ensures starts { (i : ℕ) (c : List Literal) → clause_at self.old i ≡ Some c → i ≢ id → start_at self.new i ≡ start_at self.old i }
+        ensures starts { (i : ℕ) (c : List Literal) → clause_at self.old i ≡ Some c → i ≢ id
+            → start_at self.new i ≡ start_at self.old i }
         ensures moved { self.new.starts ≡ slice_set self.old.starts id (start_at self.new id) }
         ensures lower { start_at self.new id < start_at self.old id }
         ensures filled { IsFilled self.new (start_at self.new id) }
@@ -250,7 +275,8 @@ impl Arena {
         ensures below { result < 4294967295 }
         ensures there { clause_at self.new result ≡ Some lits.now }
         ensures clauses { self.new.clauses ≡ slice_set self.old.clauses result (Some lits.now) }
-        ensures starts { (i : ℕ) (c : List Literal) → clause_at self.old i ≡ Some c → start_at self.new i ≡ start_at self.old i }
+        ensures starts { (i : ℕ) (c : List Literal) → clause_at self.old i ≡ Some c
+            → start_at self.new i ≡ start_at self.old i }
         ensures room { self.new.room ≡ self.old.room }
         ensures words { self.old.spare_words ≡ self.new.spare_words + length lits.now }
         ensures ids { self.old.spare_ids ≡ self.new.spare_ids + 1 }
@@ -277,7 +303,8 @@ impl Arena {
         requires words { length lits.now ≤ self.old.spare_words }
         ensures there { clause_at self.new id ≡ Some lits.now }
         ensures clauses { self.new.clauses ≡ slice_set self.old.clauses id (Some lits.now) }
-        ensures starts { (i : ℕ) (c : List Literal) → clause_at self.old i ≡ Some c → start_at self.new i ≡ start_at self.old i }
+        ensures starts { (i : ℕ) (c : List Literal) → clause_at self.old i ≡ Some c
+            → start_at self.new i ≡ start_at self.old i }
         ensures room { self.new.room ≡ self.old.room }
         ensures words { self.old.spare_words ≡ self.new.spare_words + length lits.now }
         ensures ids { self.old.spare_ids ≡ self.new.spare_ids + 1 }

@@ -26,7 +26,11 @@ impl Model for Ids {
 
     ghost Value = { Order };
 
-    ghost view = { λ a. record { used = list_at a.lists 0; free = list_at a.lists 1; size = length a.lists.owners } };
+    ghost view = { λ a. record {
+      used = list_at a.lists 0;
+      free = list_at a.lists 1;
+      size = length a.lists.owners;
+    } };
 
     ghost invariant = { λ a. AreIds a.lists };
 }

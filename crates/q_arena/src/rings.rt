@@ -37,7 +37,8 @@ fn node(places: &Vec<Link>, heads: &Vec<Link>, at: u32) -> Link
 fn put(places: &mut Vec<Link>, heads: &mut Vec<Link>, at: u32, link: Link)
     requires at { IsNode (length places.old.items) (length heads.old.items) at }
     requires few { length places.old.items ≤ base }
-    ensures put { IsPut (node_at places.old.items heads.old.items) (node_at places.new.items heads.new.items) at link }
+    ensures put { IsPut (node_at places.old.items heads.old.items)
+        (node_at places.new.items heads.new.items) at link }
     ensures places { length places.new.items ≡ length places.old.items }
     ensures heads { length heads.new.items ≡ length heads.old.items }
 {
@@ -53,7 +54,8 @@ fn join(places: &mut Vec<Link>, heads: &mut Vec<Link>, a: u32, b: u32)
     requires a { IsNode (length places.old.items) (length heads.old.items) a }
     requires b { IsNode (length places.old.items) (length heads.old.items) b }
     requires few { length places.old.items ≤ base }
-    ensures joined { IsJoined (node_at places.old.items heads.old.items) (node_at places.new.items heads.new.items) a b }
+    ensures joined { IsJoined (node_at places.old.items heads.old.items)
+        (node_at places.new.items heads.new.items) a b }
     ensures places { length places.new.items ≡ length places.old.items }
     ensures heads { length heads.new.items ≡ length heads.old.items }
 {
@@ -69,7 +71,8 @@ fn join(places: &mut Vec<Link>, heads: &mut Vec<Link>, a: u32, b: u32)
 fn set_tag(places: &mut Vec<Link>, heads: &mut Vec<Link>, at: u32, tag: u32)
     requires at { IsNode (length places.old.items) (length heads.old.items) at }
     requires few { length places.old.items ≤ base }
-    ensures tagged { IsTagged (node_at places.old.items heads.old.items) (node_at places.new.items heads.new.items) at tag }
+    ensures tagged { IsTagged (node_at places.old.items heads.old.items)
+        (node_at places.new.items heads.new.items) at tag }
     ensures places { length places.new.items ≡ length places.old.items }
     ensures heads { length heads.new.items ≡ length heads.old.items }
 {
@@ -83,8 +86,10 @@ fn put_front(places: &mut Vec<Link>, heads: &mut Vec<Link>, head: u32, place: u3
     requires head { head < length heads.old.items }
     requires place { place < length places.old.items }
     requires sound { AreSound places.old.items heads.old.items }
-    requires fresh { (m : ℕ) → m < length heads.old.items → Has (rings_of (node_at places.old.items heads.old.items) base m) place → ⊥ }
-    ensures { IsRelisted places.old.items heads.old.items places.new.items heads.new.items head (place ∷ rings_of (node_at places.old.items heads.old.items) base head) }
+    requires fresh { (m : ℕ) → m < length heads.old.items
+        → Has (rings_of (node_at places.old.items heads.old.items) base m) place → ⊥ }
+    ensures { IsRelisted places.old.items heads.old.items places.new.items heads.new.items head
+        (place ∷ rings_of (node_at places.old.items heads.old.items) base head) }
 {
     let link = node(places, heads, HEADS + head);
     join(places, heads, HEADS + head, place);
@@ -98,8 +103,10 @@ fn put_after(places: &mut Vec<Link>, heads: &mut Vec<Link>, head: u32, after: u3
     requires place { place < length places.old.items }
     requires sound { AreSound places.old.items heads.old.items }
     requires there { Has (rings_of (node_at places.old.items heads.old.items) base head) after }
-    requires fresh { (m : ℕ) → m < length heads.old.items → Has (rings_of (node_at places.old.items heads.old.items) base m) place → ⊥ }
-    ensures { IsRelisted places.old.items heads.old.items places.new.items heads.new.items head (with_next after place (rings_of (node_at places.old.items heads.old.items) base head)) }
+    requires fresh { (m : ℕ) → m < length heads.old.items
+        → Has (rings_of (node_at places.old.items heads.old.items) base m) place → ⊥ }
+    ensures { IsRelisted places.old.items heads.old.items places.new.items heads.new.items head
+        (with_next after place (rings_of (node_at places.old.items heads.old.items) base head)) }
 {
     let count = node(places, heads, HEADS + head).tag;
     let link = node(places, heads, after);
@@ -113,7 +120,8 @@ fn take_out(places: &mut Vec<Link>, heads: &mut Vec<Link>, head: u32, place: u32
     requires head { head < length heads.old.items }
     requires sound { AreSound places.old.items heads.old.items }
     requires there { Has (rings_of (node_at places.old.items heads.old.items) base head) place }
-    ensures { IsRelisted places.old.items heads.old.items places.new.items heads.new.items head (without place (rings_of (node_at places.old.items heads.old.items) base head)) }
+    ensures { IsRelisted places.old.items heads.old.items places.new.items heads.new.items head
+        (without place (rings_of (node_at places.old.items heads.old.items) base head)) }
 {
     let count = node(places, heads, HEADS + head).tag;
     let link = node(places, heads, place);
@@ -134,7 +142,10 @@ impl Model for Rings {
 
     ghost Value = { Chains };
 
-    ghost view = { λ r. record { lists = lists_of r.places.items r.heads.items; owners = tags_of r.places.items } };
+    ghost view = { λ r. record {
+      lists = lists_of r.places.items r.heads.items;
+      owners = tags_of r.places.items;
+    } };
 
     ghost invariant = { λ r. AreSound r.places.items r.heads.items };
 }
@@ -180,7 +191,8 @@ impl Rings {
     /// No place is in two lists or twice in one, and each is below the room.
     pub fn distinct(&self)
         ensures apart { (l : ℕ) → AreApart (list_at self.now l) }
-        ensures one { (l m p : ℕ) → Has (list_at self.now l) p → Has (list_at self.now m) p → l ≡ m }
+        ensures one { (l m p : ℕ) → Has (list_at self.now l) p → Has (list_at self.now m) p
+            → l ≡ m }
         ensures below { (l p : ℕ) → Has (list_at self.now l) p → p < length self.now.owners }
         ensures few { length self.now.owners < 4294967296 }
     {
@@ -213,7 +225,8 @@ impl Rings {
     /// The place after one of a list.
     pub fn next(&self, place: usize) -> Option<usize>
         requires { (l : ℕ) × Has (list_at self.now l) place }
-        ensures { (l : ℕ) → Has (list_at self.now l) place → result ≡ following place (list_at self.now l) }
+        ensures { (l : ℕ) → Has (list_at self.now l) place
+            → result ≡ following place (list_at self.now l) }
     {
         place_of(self.places[place].next)
     }
@@ -221,7 +234,8 @@ impl Rings {
     /// The place before one of a list.
     pub fn prev(&self, place: usize) -> Option<usize>
         requires { (l : ℕ) × Has (list_at self.now l) place }
-        ensures { (l : ℕ) → Has (list_at self.now l) place → result ≡ preceding place (list_at self.now l) }
+        ensures { (l : ℕ) → Has (list_at self.now l) place
+            → result ≡ preceding place (list_at self.now l) }
     {
         place_of(self.places[place].prev)
     }
@@ -231,7 +245,8 @@ impl Rings {
         requires head { head < length self.old.lists }
         requires place { place < length self.old.owners }
         requires fresh { (m : ℕ) → Has (list_at self.old m) place → ⊥ }
-        ensures lists { self.new.lists ≡ slice_set self.old.lists head (place ∷ list_at self.old head) }
+        ensures lists { self.new.lists ≡ slice_set self.old.lists head
+            (place ∷ list_at self.old head) }
         ensures owners { self.new.owners ≡ slice_set self.old.owners place owner }
     {
         put_front(&mut self.places, &mut self.heads, head as u32, place as u32);
@@ -243,7 +258,8 @@ impl Rings {
         requires after { Has (list_at self.old head) after }
         requires place { place < length self.old.owners }
         requires fresh { (m : ℕ) → Has (list_at self.old m) place → ⊥ }
-        ensures lists { self.new.lists ≡ slice_set self.old.lists head (with_next after place (list_at self.old head)) }
+        ensures lists { self.new.lists ≡ slice_set self.old.lists head
+            (with_next after place (list_at self.old head)) }
         ensures owners { self.new.owners ≡ slice_set self.old.owners place owner }
     {
         put_after(
@@ -259,7 +275,8 @@ impl Rings {
     /// Takes a place out of the list of a head.
     pub fn remove(&mut self, head: usize, place: usize)
         requires { Has (list_at self.old head) place }
-        ensures lists { self.new.lists ≡ slice_set self.old.lists head (without place (list_at self.old head)) }
+        ensures lists { self.new.lists ≡ slice_set self.old.lists head
+            (without place (list_at self.old head)) }
         ensures owners { self.new.owners ≡ self.old.owners }
     {
         take_out(&mut self.places, &mut self.heads, head as u32, place as u32);
@@ -277,8 +294,10 @@ fn place_of(at: u32) -> Option<usize>
 fn grow_places(places: &mut Vec<Link>, room: usize) -> Result<(), NoMemory>
     ensures room { OnOk result (room ≤ length places.new.items) }
     ensures more { length places.old.items ≤ length places.new.items }
-    ensures exact { (length places.new.items ≡ length places.old.items) ⊎ (length places.new.items ≡ room) }
-    ensures same { (k : ℕ) → slice_index_or places.new.items k blank ≡ slice_index_or places.old.items k blank }
+    ensures exact { (length places.new.items ≡ length places.old.items)
+        ⊎ (length places.new.items ≡ room) }
+    ensures same { (k : ℕ) → slice_index_or places.new.items k blank
+        ≡ slice_index_or places.old.items k blank }
 {
     if places.len() < room {
         places.resize(
@@ -300,7 +319,8 @@ fn add_head(places: &Vec<Link>, heads: &mut Vec<Link>) -> Result<(), NoMemory>
     ensures sound { AreSound places.now.items heads.new.items }
     ensures more { OnOk result (length heads.new.items ≡ length heads.old.items + 1) }
     ensures same { OnErr result (length heads.new.items ≡ length heads.old.items) }
-    ensures lists { (l : ℕ) → slice_index_or (lists_of places.now.items heads.new.items) l [] ≡ slice_index_or (lists_of places.now.items heads.old.items) l [] }
+    ensures lists { (l : ℕ) → slice_index_or (lists_of places.now.items heads.new.items) l []
+        ≡ slice_index_or (lists_of places.now.items heads.old.items) l [] }
 {
     let at = HEADS + heads.len() as u32;
     heads.push(Link {
@@ -318,7 +338,8 @@ fn grow_heads(places: &Vec<Link>, heads: &mut Vec<Link>, upto: usize) -> Result<
     ensures sound { AreSound places.now.items heads.new.items }
     ensures more { OnOk result (upto ≤ length heads.new.items) }
     ensures kept { length heads.old.items ≤ length heads.new.items }
-    ensures lists { (l : ℕ) → slice_index_or (lists_of places.now.items heads.new.items) l [] ≡ slice_index_or (lists_of places.now.items heads.old.items) l [] }
+    ensures lists { (l : ℕ) → slice_index_or (lists_of places.now.items heads.new.items) l []
+        ≡ slice_index_or (lists_of places.now.items heads.old.items) l [] }
 {
     while heads.len() < upto {
         add_head(places, heads)?;

@@ -23,8 +23,10 @@ pub struct Slot {
 pub fn write(words: &mut Vec<Lit>, at: usize, lits: &[Lit])
     requires { at + length lits.now ≤ length words.old.items }
     ensures len { length words.new.items ≡ length words.old.items }
-    ensures there { (k : ℕ) (d : Literal) → k < length lits.now → slice_index_or words.new.items (at + k) d ≡ slice_index_or lits.now k d }
-    ensures below { (k : ℕ) (d : Literal) → k < at → slice_index_or words.new.items k d ≡ slice_index_or words.old.items k d }
+    ensures there { (k : ℕ) (d : Literal) → k < length lits.now
+        → slice_index_or words.new.items (at + k) d ≡ slice_index_or lits.now k d }
+    ensures below { (k : ℕ) (d : Literal) → k < at → slice_index_or words.new.items k d
+        ≡ slice_index_or words.old.items k d }
 {
     words[at..at + lits.len()].copy_from_slice(lits);
 }
@@ -67,7 +69,8 @@ pub fn end_below(slots: &Vec<Slot>, ids: &Ids, at: usize) -> usize
     requires at { Has ids.now.used at }
     requires apart { AreApart ids.now.used }
     requires used { (i : ℕ) → Has ids.now.used i → i < length slots.now.items }
-    requires fits { top_of (slot_at slots.now.items) (below at ids.now.used) < 18446744073709551616 }
+    requires fits { top_of (slot_at slots.now.items) (below at ids.now.used)
+        < 18446744073709551616 }
     ensures { result ≡ top_of (slot_at slots.now.items) (below at ids.now.used) }
 {
     end_at(slots, ids.before(at))
@@ -93,9 +96,12 @@ pub fn move_down(words: &mut Vec<Lit>, from: usize, to: usize, n: usize)
     requires from { from + n ≤ length words.old.items }
     requires to { to ≤ from }
     ensures len { length words.new.items ≡ length words.old.items }
-    ensures moved { (k : ℕ) (d : Literal) → k < n → slice_index_or words.new.items (to + k) d ≡ slice_index_or words.old.items (from + k) d }
-    ensures below { (k : ℕ) (d : Literal) → k < to → slice_index_or words.new.items k d ≡ slice_index_or words.old.items k d }
-    ensures above { (k : ℕ) (d : Literal) → to + n ≤ k → slice_index_or words.new.items k d ≡ slice_index_or words.old.items k d }
+    ensures moved { (k : ℕ) (d : Literal) → k < n → slice_index_or words.new.items (to + k) d
+        ≡ slice_index_or words.old.items (from + k) d }
+    ensures below { (k : ℕ) (d : Literal) → k < to → slice_index_or words.new.items k d
+        ≡ slice_index_or words.old.items k d }
+    ensures above { (k : ℕ) (d : Literal) → to + n ≤ k → slice_index_or words.new.items k d
+        ≡ slice_index_or words.old.items k d }
 {
     words.copy_within(from..from + n, to);
 }
@@ -142,9 +148,11 @@ pub fn grow_words(words: &mut Vec<Lit>, end: usize, more: usize) -> Result<(), N
     requires { end ≤ length words.old.items }
     ensures room { OnOk result (end + more ≤ length words.new.items) }
     ensures kept { length words.old.items ≤ length words.new.items }
-    ensures exact { (length words.new.items ≡ length words.old.items) ⊎ (length words.new.items ≡ end + more) }
+    ensures exact { (length words.new.items ≡ length words.old.items)
+        ⊎ (length words.new.items ≡ end + more) }
     ensures few { length words.old.items < 4294967296 → length words.new.items < 4294967296 }
-    ensures same { (k : ℕ) (d : Literal) → k < length words.old.items → slice_index_or words.new.items k d ≡ slice_index_or words.old.items k d }
+    ensures same { (k : ℕ) (d : Literal) → k < length words.old.items
+        → slice_index_or words.new.items k d ≡ slice_index_or words.old.items k d }
 {
     if words.len() - end >= more {
         return Ok(());
@@ -181,7 +189,8 @@ pub fn grow_ids(slots: &mut Vec<Slot>, ids: &mut Ids, size: usize) -> Result<(),
     requires free { (i : ℕ) → Has ids.old.free i → i < length slots.old.items }
     ensures more { AreMore slots.old.items slots.new.items ids.old ids.new }
     ensures size { OnOk result (size ≤ length slots.new.items) }
-    ensures exact { (length slots.new.items ≤ size) ⊎ (length slots.new.items ≡ length slots.old.items) }
+    ensures exact { (length slots.new.items ≤ size)
+        ⊎ (length slots.new.items ≡ length slots.old.items) }
 {
     ids.reserve(size)?;
     while slots.len() < size {

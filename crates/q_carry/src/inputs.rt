@@ -87,7 +87,9 @@ fn allow_all(prefix: &[Bound], names: &[u32], places: &[Option<u64>], allowed: &
 /// Allows the input of this name.
 pub fn allow(places: &[Option<u64>], allowed: &mut [bool], var: u32)
     requires within { (x i : ℕ) → look_at places.now x ≡ Some i → i < length allowed.old }
-    ensures { (names : List ℕ) → AreDistinct names → ArePlaces names places.now → length allowed.old ≡ length names → (k : ℕ) → k < length names → slice_index_or allowed.new k false ≡ cond (eqb (slice_index_or names k 0) var) true (slice_index_or allowed.old k false) }
+    ensures { (names : List ℕ) → AreDistinct names → ArePlaces names places.now → length allowed.old
+        ≡ length names → (k : ℕ) → k < length names → slice_index_or allowed.new k false
+        ≡ cond (eqb (slice_index_or names k 0) var) true (slice_index_or allowed.old k false) }
 {
     if let Some(i) = look(places, var) {
         allowed[i as usize] = true;
@@ -130,7 +132,8 @@ fn top_peak(alloc: Global, given: &Certificate, weights: &[usize]) -> Result<usi
 fn literal_at(given: &Certificate, k: usize) -> u64
     requires { k < length given.now.outputs }
     ensures there { IsLiteral (net_of given.now) result }
-    ensures tree { trees_of given.now (name_at given.now k) ≡ Some (tree_at (net_of given.now) result) }
+    ensures tree { trees_of given.now (name_at given.now k)
+        ≡ Some (tree_at (net_of given.now) result) }
 {
     given.outputs()[k].lit
 }

@@ -24,12 +24,14 @@ pub fn lawful_circuits_fit()
 
 /// Where one of the four refusals comes, circuits do not fit.
 pub fn misfits_do_not_fit()
-    ensures { (P : Prefix) → (c : CertificateView) → (e : Misfit) → ¬ (e ≡ wanting) → IsMisfit P c e → ¬ Fits P c }
+    ensures { (P : Prefix) → (c : CertificateView) → (e : Misfit) → ¬ (e ≡ wanting) → IsMisfit P c e
+        → ¬ Fits P c }
 {}
 
 /// Circuits of the same inputs, names and trees fit alike.
 pub fn alike_circuits_fit_alike()
     ensures { (P : Prefix) → (c : CertificateView) → (d : CertificateView) → c.inputs ≡ d.inputs
-        → map (λ o. o.name) c.outputs ≡ map (λ o. o.name) d.outputs → ((x : ℕ) → trees_of c x ≡ trees_of d x)
+        → map (λ o. o.name) c.outputs ≡ map (λ o. o.name) d.outputs
+        → ((x : ℕ) → trees_of c x ≡ trees_of d x)
         → Fits P c → Fits P d }
 {}

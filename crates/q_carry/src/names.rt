@@ -38,7 +38,8 @@ pub fn test_names(
 
 // Whether the variable is an existential without a circuit.
 fn misses(bound: Bound, table: &[Option<u64>]) -> bool
-    ensures { (c : CertificateView) → AreCircuits (net_of c) (trees_of c) table.now → result ≡ (is_exists bound.quant && not (given_spec (trees_of c bound.var))) }
+    ensures { (c : CertificateView) → AreCircuits (net_of c) (trees_of c) table.now
+        → result ≡ (is_exists bound.quant && not (given_spec (trees_of c bound.var))) }
 {
     match bound.quant {
         Quant::Forall => false,
@@ -48,7 +49,8 @@ fn misses(bound: Bound, table: &[Option<u64>]) -> bool
 
 // The first existential without a circuit.
 fn first_missing(prefix: &[Bound], table: &[Option<u64>]) -> Option<u32>
-    ensures { (c : CertificateView) → AreCircuits (net_of c) (trees_of c) table.now → result ≡ first_missing_spec prefix.now c }
+    ensures { (c : CertificateView) → AreCircuits (net_of c) (trees_of c) table.now
+        → result ≡ first_missing_spec prefix.now c }
 {
     for i in 0..prefix.len() {
         if misses(prefix[i], table) {
@@ -60,7 +62,8 @@ fn first_missing(prefix: &[Bound], table: &[Option<u64>]) -> Option<u32>
 
 // The first name that is no existential.
 fn first_strange(outputs: &[Output], table: &[Option<u64>]) -> Option<u32>
-    ensures { (P : Prefix) → AreExistentials P table.now → result ≡ first_strange_spec P (map output_of outputs.now) }
+    ensures { (P : Prefix) → AreExistentials P table.now
+        → result ≡ first_strange_spec P (map output_of outputs.now) }
 {
     for i in 0..outputs.len() {
         if look(table, outputs[i].var).is_none() {

@@ -13,7 +13,8 @@ use std::alloc::Global;
 /// Copies lawful circuits, over the universals of the prefix.
 pub fn narrow(alloc: Global, prefix: &[Bound], given: &Certificate) -> Result<Certificate, NoMemory>
     requires distinct { Distinct prefix.now }
-    ensures { IfOk result (λ made. Lawful prefix.now (trees_of given.now) → IsNarrowed prefix.now given.now made) }
+    ensures { IfOk result (λ made. Lawful prefix.now (trees_of given.now)
+        → IsNarrowed prefix.now given.now made) }
 {
     let old = given.aig();
     let outputs = given.outputs();

@@ -15,7 +15,8 @@ pub fn or(aig: &mut Aig, a: u64, b: u64) -> Result<u64, NoMemory>
     requires a { IsLiteral aig.old a }
     requires b { IsLiteral aig.old b }
     ensures disjunction { IfOk result (IsDisjunction aig.old aig.new a b) }
-    ensures folded { ((operand_of a).node ≡ falsum) ⊎ ((operand_of b).node ≡ falsum) → aig.new ≡ aig.old }
+    ensures folded { ((operand_of a).node ≡ falsum) ⊎ ((operand_of b).node ≡ falsum)
+        → aig.new ≡ aig.old }
 {
     let neither = aig.and(negate(a), negate(b))?;
     Ok(negate(neither))
@@ -38,7 +39,8 @@ pub fn raise(aig: &mut Aig, negative: bool, a: u64, all: u64) -> Result<u64, NoM
 pub fn some_of(aig: &mut Aig, tables: &Tables, clause: &[Lit]) -> Result<u64, NoMemory>
     requires inputs { AreLiterals aig.old tables.now.inputs.items }
     requires circuits { AreLiterals aig.old tables.now.circuits.items }
-    ensures { IfOk result (IsSomeOf aig.old aig.new tables.now.inputs.items tables.now.circuits.items clause.now) }
+    ensures { IfOk result (IsSomeOf aig.old aig.new tables.now.inputs.items
+        tables.now.circuits.items clause.now) }
 {
     let mut some = constant(false);
     for k in clause {
@@ -52,7 +54,8 @@ pub fn some_of(aig: &mut Aig, tables: &Tables, clause: &[Lit]) -> Result<u64, No
 pub fn all_of(aig: &mut Aig, tables: &Tables, outer: &Clauses) -> Result<u64, NoMemory>
     requires inputs { AreLiterals aig.old tables.now.inputs.items }
     requires circuits { AreLiterals aig.old tables.now.circuits.items }
-    ensures { IfOk result (IsAllOf aig.old aig.new tables.now.inputs.items tables.now.circuits.items outer.now) }
+    ensures { IfOk result (IsAllOf aig.old aig.new tables.now.inputs.items tables.now.circuits.items
+        outer.now) }
 {
     let mut all = constant(true);
     for i in 0..outer.len() {

@@ -66,7 +66,8 @@ fn depths_of(
     requires distinct { Distinct prefix.now }
     requires places { ArePlaces given.now.inputs places.now }
     ensures inputs { IfOk result (λ d. AreDepths prefix.now given.now.inputs d.inputs.items) }
-    ensures gates { IfOk result (λ d. AreGateDepths (net_of given.now) d.inputs.items d.gates.items) }
+    ensures gates { IfOk result (λ d. AreGateDepths (net_of given.now) d.inputs.items
+        d.gates.items) }
 {
     let inputs = input_depths(alloc, prefix, given.aig().inputs(), places)?;
     let gates = peaks(alloc, given.aig(), &inputs)?;
@@ -111,8 +112,10 @@ fn deepen_all(prefix: &[Bound], names: &[u32], places: &[Option<u64>], depths: &
 // Gives the input of this name its depth.
 fn deepen(places: &[Option<u64>], depths: &mut [usize], var: u32, depth: usize)
     requires within { (x i : ℕ) → look_at places.now x ≡ Some i → i < length depths.old }
-    ensures { (names : List ℕ) → AreDistinct names → ArePlaces names places.now → length depths.old ≡ length names →
-        (k : ℕ) → k < length names → slice_index depths.new k ≡ cond (eqb (slice_index names k) var) depth (slice_index depths.old k) }
+    ensures { (names : List ℕ) → AreDistinct names → ArePlaces names places.now
+        → length depths.old ≡ length names →
+        (k : ℕ) → k < length names → slice_index depths.new k
+        ≡ cond (eqb (slice_index names k) var) depth (slice_index depths.old k) }
 {
     if let Some(i) = look(places, var) {
         depths[i as usize] = depth;
@@ -133,11 +136,13 @@ fn first_reading(
     requires inputs { AreDistinct given.old.inputs }
     requires places { ArePlaces given.old.inputs places.now }
     requires depths { AreDepths prefix.now given.old.inputs depths.now.inputs.items }
-    requires gates { AreGateDepths (net_of given.old) depths.now.inputs.items depths.now.gates.items }
+    requires gates { AreGateDepths (net_of given.old) depths.now.inputs.items
+        depths.now.gates.items }
     requires room { length allowed.old ≡ length given.old.inputs }
     requires fresh { (k : ℕ) → slice_index_or allowed.old k false ≡ false }
     ensures unchanged { given.new ≡ given.old }
-    ensures found { MatchOption result (AllOuter prefix.now given.old) (λ p. IsTooInner prefix.now given.old p.0 p.1) }
+    ensures found { MatchOption result (AllOuter prefix.now given.old)
+        (λ p. IsTooInner prefix.now given.old p.0 p.1) }
 {
     for i in 0..prefix.len() {
         match prefix[i].quant {
@@ -162,9 +167,11 @@ fn reads_of(
     allowed: &[bool],
 ) -> Option<usize>
     requires circuits { AreCircuits (net_of given.old) (trees_of given.old) table.now }
-    requires gates { AreGateDepths (net_of given.old) depths.now.inputs.items depths.now.gates.items }
+    requires gates { AreGateDepths (net_of given.old) depths.now.inputs.items
+        depths.now.gates.items }
     requires room { length allowed.now ≡ length given.old.inputs }
-    requires shallow { (k : ℕ) → k < length given.old.inputs → slice_index depths.now.inputs.items k ≤ depth →
+    requires shallow { (k : ℕ) → k < length given.old.inputs → slice_index depths.now.inputs.items k
+        ≤ depth →
         slice_index_or allowed.now k false ≡ true }
     ensures unchanged { given.new ≡ given.old }
     ensures found { IsFirstIn given.old var allowed.now result }
@@ -179,8 +186,10 @@ fn reads_of(
 // Whether a literal reads nothing below this depth.
 fn is_shallow(given: &Certificate, depths: &Depths, lit: u64, depth: usize) -> bool
     requires lit { IsLiteral (net_of given.now) lit }
-    requires gates { AreGateDepths (net_of given.now) depths.now.inputs.items depths.now.gates.items }
-    ensures { IsTrue result → (i : ℕ) → ReadsAt (net_of given.now) lit i → slice_index depths.now.inputs.items i ≤ depth }
+    requires gates { AreGateDepths (net_of given.now) depths.now.inputs.items
+        depths.now.gates.items }
+    ensures { IsTrue result → (i : ℕ) → ReadsAt (net_of given.now) lit i
+        → slice_index depths.now.inputs.items i ≤ depth }
 {
     peak_of(given.aig(), &depths.inputs, &depths.gates, lit) <= depth
 }

@@ -23,7 +23,8 @@ pub fn add(
     requires limits { AreModerate limits }
     requires ordered { ArePairs IsBelow named.now.clause.now }
     requires first { IsFirst named.now.first named.now.clause.now }
-    ensures { IsAnnotated limits book.old (add named.now.first named.now.clause.now) book.new result }
+    ensures { IsAnnotated limits book.old (add named.now.first named.now.clause.now) book.new
+        result }
 {
     if !binds_all(book.scope(), named.clause) {
         return Err(Cause::Unbound.refusal());
@@ -43,7 +44,8 @@ pub fn delete(
     named: &Named,
 ) -> Result<Proof, CheckError>
     requires { IsFirst named.now.first named.now.clause.now }
-    ensures { (m : AnyLimits) → IsAnnotated m book.old (delete named.now.first named.now.clause.now) book.new result }
+    ensures { (m : AnyLimits) → IsAnnotated m book.old (delete named.now.first named.now.clause.now)
+        book.new result }
 {
     if !binds_all(book.scope(), named.clause) {
         return Err(Cause::Unbound.refusal());
@@ -65,7 +67,8 @@ pub fn drop_literal(
     requires ordered { ArePairs IsBelow cut.now.clause.now }
     requires held { IsIn cut.now.lit cut.now.clause.now }
     requires rest { cut.now.rest.now ≡ without cut.now.lit cut.now.clause.now }
-    ensures { (m : AnyLimits) → IsAnnotated m book.old (drop_literal cut.now.lit cut.now.clause.now) book.new result }
+    ensures { (m : AnyLimits) → IsAnnotated m book.old (drop_literal cut.now.lit cut.now.clause.now)
+        book.new result }
 {
     if !binds_all(book.scope(), cut.clause) {
         return Err(Cause::Unbound.refusal());

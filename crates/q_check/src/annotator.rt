@@ -39,7 +39,11 @@ impl Model for Annotator {
 impl Annotator {
     pub fn start(alloc: Global, formula: &Formula, limits: Limits) -> Result<Annotator, CheckError>
         requires { AreModerate limits }
-        ensures started { IfOk result (λ a. a ≡ record { formula = begun formula.now; limits = limits; steps = 0 }) }
+        ensures started { IfOk result (λ a. a ≡ record {
+          formula = begun formula.now;
+          limits = limits;
+          steps = 0;
+        }) }
         ensures only_memory { IfErr result (λ e. e ≡ MemoryError) }
     {
         let book = NumberedBook::start(alloc, formula)?;
@@ -62,11 +66,13 @@ impl Annotator {
     pub fn step(&mut self, step: &Step) -> Result<Proof, CheckError>
         requires { self.old.steps < 2 ^ 61 }
         ensures shown { IfOk result (HintedValid self.old.limits self.old.formula step.now) }
-        ensures after { IfOk result (λ t. self.new.formula ≡ hinted_after self.old.formula step.now t) }
+        ensures after { IfOk result (λ t. self.new.formula ≡ hinted_after self.old.formula step.now
+            t) }
         ensures form { IfOk result (HasForm step.now) }
         ensures limits { self.new.limits ≡ self.old.limits }
         ensures steps { OnOk result (self.new.steps ≡ self.old.steps + 1) }
-        ensures refused { IfErr result (IsRefusal self.old.limits (plain self.old.formula) step.now) }
+        ensures refused { IfErr result (IsRefusal self.old.limits (plain self.old.formula)
+            step.now) }
         ensures unchanged { OnErr result (self.new ≡ self.old) }
     {
         let proof = annotate(&mut self.book, &mut self.rows, self.limits, step)?;

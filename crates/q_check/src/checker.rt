@@ -31,7 +31,12 @@ impl Model for Checker {
 
     ghost Value = { Checked };
 
-    ghost view = { λ c. record { formula = formula_in c.ledger; undo = map entry_of c.undo.items; limits = c.settings.limits; keeps = c.settings.keeps } };
+    ghost view = { λ c. record {
+      formula = formula_in c.ledger;
+      undo = map entry_of c.undo.items;
+      limits = c.settings.limits;
+      keeps = c.settings.keeps;
+    } };
 
     ghost invariant = { λ c. AreModerate c.settings.limits };
 }
@@ -50,7 +55,8 @@ impl Checker {
         keep_undo: bool,
     ) -> Result<Checker, CheckError>
         requires { AreModerate limits }
-        ensures started { IfOk result (λ c. AreAlike formula.now c.formula × (c.undo ≡ []) × (c.limits ≡ limits) × (c.keeps ≡ keep_undo)) }
+        ensures started { IfOk result (λ c. AreAlike formula.now c.formula × (c.undo ≡ [])
+            × (c.limits ≡ limits) × (c.keeps ≡ keep_undo)) }
         ensures only_memory { IfErr result (λ e. e ≡ MemoryError) }
     {
         let ledger = Ledger::start(alloc, formula)?;
@@ -69,7 +75,8 @@ impl Checker {
     pub fn step(&mut self, step: &Step) -> Result<(), CheckError>
         ensures valid { OnOk result (Valid self.old.limits self.old.formula step.now) }
         ensures after { OnOk result (AreAlike (after self.old.formula step.now) self.new.formula) }
-        ensures undo { OnOk result (HasGrown self.old.keeps self.old.formula step.now self.old.undo self.new.undo) }
+        ensures undo { OnOk result (HasGrown self.old.keeps self.old.formula step.now self.old.undo
+            self.new.undo) }
         ensures settings { (self.new.limits ≡ self.old.limits) × (self.new.keeps ≡ self.old.keeps) }
         ensures refused { IfErr result (IsRefusal self.old.limits self.old.formula step.now) }
         ensures unchanged { OnErr result (self.new ≡ self.old) }
@@ -103,7 +110,8 @@ fn try_step(
     step: &Step,
 ) -> Result<Option<Undo>, CheckError>
     requires { AreModerate settings.limits }
-    ensures { IsTried settings.keeps settings.limits (formula_in ledger.old) step.now (formula_in ledger.new) result }
+    ensures { IsTried settings.keeps settings.limits (formula_in ledger.old) step.now
+        (formula_in ledger.new) result }
 {
     let lits = step.lits();
     let clause = &mut rows.clause;

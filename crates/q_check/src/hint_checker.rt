@@ -35,7 +35,13 @@ impl Model for HintChecker {
 
     ghost Value = { HintChecked };
 
-    ghost view = { λ c. record { formula = c.book; undo = map entry_of c.undo.items; limits = c.settings.limits; keeps = c.settings.keeps; steps = c.steps } };
+    ghost view = { λ c. record {
+      formula = c.book;
+      undo = map entry_of c.undo.items;
+      limits = c.settings.limits;
+      keeps = c.settings.keeps;
+      steps = c.steps;
+    } };
 
     ghost invariant = { λ c. AreModerate c.settings.limits };
 }
@@ -49,7 +55,13 @@ impl HintChecker {
         keep_undo: bool,
     ) -> Result<HintChecker, CheckError>
         requires { AreModerate limits }
-        ensures started { IfOk result (λ c. c ≡ record { formula = begun formula.now; undo = []; limits = limits; keeps = keep_undo; steps = 0 }) }
+        ensures started { IfOk result (λ c. c ≡ record {
+          formula = begun formula.now;
+          undo = [];
+          limits = limits;
+          keeps = keep_undo;
+          steps = 0;
+        }) }
         ensures only_memory { IfErr result (λ e. e ≡ MemoryError) }
     {
         let book = NumberedBook::start(alloc, formula)?;
@@ -68,12 +80,16 @@ impl HintChecker {
     /// Takes the step if its proof part shows that it is valid. After an error the checker is as before.
     pub fn step(&mut self, step: &Step, proof: &Proof) -> Result<(), CheckError>
         requires { self.old.steps < 2 ^ 61 }
-        ensures valid { OnOk result (HintedValid self.old.limits self.old.formula step.now proof.now) }
-        ensures after { OnOk result (self.new.formula ≡ hinted_after self.old.formula step.now proof.now) }
-        ensures undo { OnOk result (HasGrown self.old.keeps (plain self.old.formula) step.now self.old.undo self.new.undo) }
+        ensures valid { OnOk result (HintedValid self.old.limits self.old.formula step.now
+            proof.now) }
+        ensures after { OnOk result (self.new.formula ≡ hinted_after self.old.formula step.now
+            proof.now) }
+        ensures undo { OnOk result (HasGrown self.old.keeps (plain self.old.formula) step.now
+            self.old.undo self.new.undo) }
         ensures settings { (self.new.limits ≡ self.old.limits) × (self.new.keeps ≡ self.old.keeps) }
         ensures steps { OnOk result (self.new.steps ≡ self.old.steps + 1) }
-        ensures refused { IfErr result (IsHintRefusal self.old.limits self.old.formula step.now proof.now) }
+        ensures refused { IfErr result (IsHintRefusal self.old.limits self.old.formula step.now
+            proof.now) }
         ensures unchanged { OnErr result (self.new ≡ self.old) }
     {
         self.undo.reserve(1)?;
@@ -107,7 +123,8 @@ fn try_step(
     proof: &Proof,
 ) -> Result<Option<Undo>, CheckError>
     requires { AreModerate settings.limits }
-    ensures { IsHintTried settings.keeps settings.limits book.old step.now proof.now book.new result }
+    ensures { IsHintTried settings.keeps settings.limits book.old step.now proof.now book.new
+        result }
 {
     let lits = step.lits();
     let StepRows {

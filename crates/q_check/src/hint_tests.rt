@@ -21,7 +21,8 @@ pub fn shows(
     requires within { Within book.old.prefix named.now.clause.now }
     requires first { IsFirst named.now.first named.now.clause.now }
     ensures same { book.new ≡ book.old }
-    ensures exact { IfOk result (λ yes. IsTrue yes ↔ Shows book.old.prefix (left_out skip book.old.slots)
+    ensures exact { IfOk result (λ yes. IsTrue yes
+        ↔ Shows book.old.prefix (left_out skip book.old.slots)
         named.now.clause.now named.now.first proof.now) }
 {
     match proof.kind() {
@@ -39,7 +40,8 @@ fn shows_implied(
     proof: &Proof,
 ) -> Result<bool, NoMemory>
     ensures same { book.new ≡ book.old }
-    ensures exact { IfOk result (λ yes. IsTrue yes ↔ ShowsImplied (left_out skip book.old.slots) clause.now proof.now.groups) }
+    ensures exact { IfOk result (λ yes. IsTrue yes
+        ↔ ShowsImplied (left_out skip book.old.slots) clause.now proof.now.groups) }
 {
     if proof.groups() != 1 {
         return Ok(false);
@@ -61,7 +63,8 @@ fn shows_pivot(
     requires within { Within book.old.prefix named.now.clause.now }
     requires first { IsFirst named.now.first named.now.clause.now }
     ensures same { book.new ≡ book.old }
-    ensures exact { IfOk result (λ yes. IsTrue yes ↔ ShowsPivot book.old.prefix (left_out skip book.old.slots)
+    ensures exact { IfOk result (λ yes. IsTrue yes
+        ↔ ShowsPivot book.old.prefix (left_out skip book.old.slots)
         named.now.clause.now named.now.first proof.now.groups) }
 {
     let Some(pivot) = named.first else {
@@ -127,7 +130,8 @@ fn shows_forall(
     requires held { IsIn cut.now.lit cut.now.clause.now }
     requires rest { cut.now.rest.now ≡ without cut.now.lit cut.now.clause.now }
     ensures same { book.new ≡ book.old }
-    ensures exact { IfOk result (λ yes. IsTrue yes ↔ ShowsForall book.old.prefix (left_out (Some number) book.old.slots)
+    ensures exact { IfOk result (λ yes. IsTrue yes
+        ↔ ShowsForall book.old.prefix (left_out (Some number) book.old.slots)
         cut.now.clause.now cut.now.lit proof.now.groups) }
 {
     if holds(cut.clause, cut.lit.negated()) {
@@ -151,7 +155,8 @@ fn resolved(
 ) -> Result<bool, NoMemory>
     requires { is_bound book.old.prefix sides.now.m.var ≡ true }
     ensures same { book.new ≡ book.old }
-    ensures exact { IfOk result (λ yes. IsTrue yes ↔ Resolved book.old.prefix (left_out sides.now.skip book.old.slots)
+    ensures exact { IfOk result (λ yes. IsTrue yes
+        ↔ Resolved book.old.prefix (left_out sides.now.skip book.old.slots)
         sides.now.base.now sides.now.m proof.now.groups) }
 {
     book.holding(sides.m, sides.skip, targets)?;

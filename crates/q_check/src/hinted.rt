@@ -26,7 +26,8 @@ pub fn add(
     requires ordered { ArePairs IsBelow named.now.clause.now }
     requires first { IsFirst named.now.first named.now.clause.now }
     ensures { (keep : Bool) →
-        IsHintTried keep limits book.old (add named.now.first named.now.clause.now) proof.now book.new result }
+        IsHintTried keep limits book.old (add named.now.first named.now.clause.now) proof.now
+        book.new result }
 {
     if !binds_all(book.scope(), named.clause) {
         return Err(Cause::Unbound.refusal());
@@ -52,7 +53,8 @@ pub fn delete(
 ) -> Result<Option<Undo>, CheckError>
     requires { IsFirst named.now.first named.now.clause.now }
     ensures { (m : AnyLimits) →
-        IsHintTried keep m book.old (delete named.now.first named.now.clause.now) proof.now book.new result }
+        IsHintTried keep m book.old (delete named.now.first named.now.clause.now) proof.now book.new
+        result }
 {
     if !binds_all(book.scope(), named.clause) {
         return Err(Cause::Unbound.refusal());
@@ -84,7 +86,8 @@ fn deletion_entry(
     requires shown { Shows book.old.prefix (left_out (Some number) book.old.slots)
         named.now.clause.now named.now.first proof.now }
     ensures same { book.new ≡ book.old }
-    ensures exact { IfOk result (λ u. IsEntry keep (plain book.old) (delete named.now.first named.now.clause.now) u) }
+    ensures exact { IfOk result (λ u. IsEntry keep (plain book.old)
+        (delete named.now.first named.now.clause.now) u) }
 {
     if !keep {
         return Ok(None);
@@ -106,7 +109,8 @@ pub fn drop_literal(
     requires held { IsIn cut.now.lit cut.now.clause.now }
     requires rest { cut.now.rest.now ≡ without cut.now.lit cut.now.clause.now }
     ensures { (keep : Bool) → (m : AnyLimits) →
-        IsHintTried keep m book.old (drop_literal cut.now.lit cut.now.clause.now) proof.now book.new result }
+        IsHintTried keep m book.old (drop_literal cut.now.lit cut.now.clause.now) proof.now book.new
+        result }
 {
     if !binds_all(book.scope(), cut.clause) {
         return Err(Cause::Unbound.refusal());
@@ -129,7 +133,8 @@ pub fn fresh(
     proof: &Proof,
 ) -> Result<Option<Undo>, CheckError>
     requires { 1 ≤ v }
-    ensures { IsHintTried settings.keeps settings.limits book.old (fresh v w) proof.now book.new result }
+    ensures { IsHintTried settings.keeps settings.limits book.old (fresh v w) proof.now book.new
+        result }
 {
     if !takes_fresh(book.scope(), settings.limits, v, w) {
         return Err(Cause::BadFresh.refusal());
@@ -150,7 +155,8 @@ pub fn remove(
 ) -> Result<Option<Undo>, CheckError>
     requires positive { 1 ≤ var }
     requires small { var < 2 ^ 31 }
-    ensures { (m : AnyLimits) → IsHintTried keep m book.old (remove_variable var) proof.now book.new result }
+    ensures { (m : AnyLimits) → IsHintTried keep m book.old (remove_variable var) proof.now book.new
+        result }
 {
     if !book.scope().binds(var) {
         return Err(Cause::Unbound.refusal());

@@ -28,7 +28,10 @@ impl Model for NumberedBook {
 
     ghost Value = { NumberedFormula };
 
-    ghost view = { λ b. record { prefix = b.ledger.prefix; slots = numbered_by b.ledger.slots b.numbers } };
+    ghost view = { λ b. record {
+      prefix = b.ledger.prefix;
+      slots = numbered_by b.ledger.slots b.numbers;
+    } };
 
     ghost invariant = { λ b. AreNumbered b.ledger.slots b.numbers };
 }
@@ -55,7 +58,8 @@ impl NumberedBook {
 
     /// The number of a copy of the clause.
     pub fn find(&self, clause: &[Lit]) -> Option<usize>
-        ensures { MatchOption result (¬ IsIn clause.now (live self.now.slots)) (λ n. slot self.now.slots n ≡ Some clause.now) }
+        ensures { MatchOption result (¬ IsIn clause.now (live self.now.slots))
+            (λ n. slot self.now.slots n ≡ Some clause.now) }
     {
         match self.ledger.store().find(clause) {
             Some(at) => self.numbers.number_of(at),
@@ -92,7 +96,9 @@ impl NumberedBook {
         requires held { IsIn lit clause.now }
         requires universal { is_universal self.old.prefix lit.var ≡ true }
         ensures same { self.new ≡ self.old }
-        ensures exact { IfOk result (λ yes. IsTrue yes ↔ Reducible self.old.prefix (live (left_out (Some number) self.old.slots)) clause.now lit) }
+        ensures exact { IfOk result (λ yes. IsTrue yes
+            ↔ Reducible self.old.prefix (live (left_out (Some number) self.old.slots)) clause.now
+            lit) }
     {
         let Some(at) = self.numbers.slot_of(number) else {
             return Ok(false);
@@ -106,7 +112,8 @@ impl NumberedBook {
         requires within { Within self.now.prefix named.now.clause.now }
         requires first { IsFirst named.now.first named.now.clause.now }
         ensures { IsTrue result →
-            IsWarranted self.now.prefix (live (left_out skip self.now.slots)) named.now.clause.now named.now.first }
+            IsWarranted self.now.prefix (live (left_out skip self.now.slots)) named.now.clause.now
+            named.now.first }
     {
         let left_out = skipped_slot(&self.numbers, skip);
         self.ledger.is_blocked(left_out, named.clause, &named.first)
@@ -120,7 +127,8 @@ impl NumberedBook {
         hints: &mut Vec<u64>,
     ) -> Result<bool, NoMemory>
         ensures same { self.new ≡ self.old }
-        ensures exact { IfOk result (Explains (left_out skip self.old.slots) lits.now hints.new.items) }
+        ensures exact { IfOk result (Explains (left_out skip self.old.slots) lits.now
+            hints.new.items) }
     {
         let left_out = skipped_slot(&self.numbers, skip);
         let yes = self.ledger.explain(lits, left_out, &mut self.found)?;
@@ -174,7 +182,8 @@ impl NumberedBook {
         hints: &[u64],
     ) -> Result<bool, NoMemory>
         ensures same { self.new ≡ self.old }
-        ensures exact { IfOk result (λ yes. IsTrue yes ↔ Chained (left_out skip self.old.slots) lits.now hints.now) }
+        ensures exact { IfOk result (λ yes. IsTrue yes
+            ↔ Chained (left_out skip self.old.slots) lits.now hints.now) }
     {
         let none = self.ledger.store().slots();
         place_all(&self.numbers, none, hints, &mut self.found)?;
@@ -211,10 +220,12 @@ impl NumberedBook {
     /// which is searched for.
     pub fn deletion_entry(&mut self, number: usize, named: &Named) -> Result<Option<Undo>, NoMemory>
         requires there { slot self.old.slots number ≡ Some named.now.clause.now }
-        requires warranted { IsWarranted self.old.prefix (live (left_out (Some number) self.old.slots))
+        requires warranted { IsWarranted self.old.prefix
+            (live (left_out (Some number) self.old.slots))
             named.now.clause.now named.now.first }
         ensures same { self.new ≡ self.old }
-        ensures exact { IfOk result (IsEntry true (plain self.old) (delete named.now.first named.now.clause.now)) }
+        ensures exact { IfOk result (IsEntry true (plain self.old)
+            (delete named.now.first named.now.clause.now)) }
     {
         let Some(at) = self.numbers.slot_of(number) else {
             return Ok(None);
@@ -242,7 +253,10 @@ impl NumberedBook {
         requires within { Within self.old.prefix clause.now }
         requires few_clauses { length (live self.old.slots) < 2 ^ 63 }
         requires few_lits { length clause.now + literals_in (live self.old.slots) < 2 ^ 63 }
-        ensures ok { OnOk result (self.new ≡ record { prefix = self.old.prefix; slots = self.old.slots ++ Some clause.now ∷ [] }) }
+        ensures ok { OnOk result (self.new ≡ record {
+          prefix = self.old.prefix;
+          slots = self.old.slots ++ Some clause.now ∷ [];
+        }) }
         ensures err { OnErr result (self.new ≡ self.old) }
     {
         let number = self.numbers.next();
@@ -262,7 +276,10 @@ impl NumberedBook {
     /// The clause with a number goes. Takes no memory.
     pub fn delete(&mut self, number: usize, clause: &[Lit])
         requires { slot self.old.slots number ≡ Some clause.now }
-        ensures { self.new ≡ record { prefix = self.old.prefix; slots = set_slot number None self.old.slots } }
+        ensures { self.new ≡ record {
+          prefix = self.old.prefix;
+          slots = set_slot number None self.old.slots;
+        } }
     {
         if let Some(at) = self.numbers.slot_of(number) {
             self.ledger.delete(at, clause);
@@ -275,7 +292,10 @@ impl NumberedBook {
         requires there { slot self.old.slots number ≡ Some clause.now }
         requires ordered { ArePairs IsBelow clause.now }
         requires rest { (l : Literal) × (rest.now ≡ without l clause.now) }
-        ensures ok { OnOk result (self.new ≡ record { prefix = self.old.prefix; slots = set_slot number (Some rest.now) self.old.slots }) }
+        ensures ok { OnOk result (self.new ≡ record {
+          prefix = self.old.prefix;
+          slots = set_slot number (Some rest.now) self.old.slots;
+        }) }
         ensures err { OnErr result (self.new ≡ self.old) }
     {
         let Some(at) = self.numbers.slot_of(number) else {
@@ -290,7 +310,10 @@ impl NumberedBook {
     pub fn insert(&mut self, v: u32, w: u32) -> Result<(), NoMemory>
         requires absent { is_bound self.old.prefix v ≡ false }
         requires there { is_existential self.old.prefix w ≡ true }
-        ensures ok { OnOk result (self.new ≡ record { prefix = insert_after w v self.old.prefix; slots = self.old.slots }) }
+        ensures ok { OnOk result (self.new ≡ record {
+          prefix = insert_after w v self.old.prefix;
+          slots = self.old.slots;
+        }) }
         ensures err { OnErr result (self.new ≡ self.old) }
     {
         self.ledger.insert(v, w)
@@ -300,7 +323,10 @@ impl NumberedBook {
     pub fn remove(&mut self, var: u32)
         requires bound { is_bound self.old.prefix var ≡ true }
         requires absent { IsAbsent (live self.old.slots) var }
-        ensures { self.new ≡ record { prefix = removed_from var self.old.prefix; slots = self.old.slots } }
+        ensures { self.new ≡ record {
+          prefix = removed_from var self.old.prefix;
+          slots = self.old.slots;
+        } }
     {
         self.ledger.remove(var);
     }

@@ -48,7 +48,8 @@ impl Numbers {
 
     /// The number of a slot.
     pub fn number_of(&self, slot: usize) -> Option<usize>
-        ensures { MatchOption result ((n : ℕ) → IsAt self.now n slot → ⊥) (λ n. IsAt self.now n slot) }
+        ensures { MatchOption result ((n : ℕ) → IsAt self.now n slot
+            → ⊥) (λ n. IsAt self.now n slot) }
     {
         let guess = self.guesses.get(slot).copied().unwrap_or(0);
         if is_at(&self.slots, guess, slot) {
@@ -114,7 +115,8 @@ fn is_at(slots: &[Option<usize>], number: usize, slot: usize) -> bool
 }
 
 fn find(slots: &[Option<usize>], slot: usize) -> Option<usize>
-    ensures { MatchOption result ((n : ℕ) → IsAt slots.now n slot → ⊥) (λ n. IsAt slots.now n slot) }
+    ensures { MatchOption result ((n : ℕ) → IsAt slots.now n slot
+        → ⊥) (λ n. IsAt slots.now n slot) }
 {
     for number in 0..slots.len() {
         if is_at(slots, number, slot) {

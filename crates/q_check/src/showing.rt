@@ -114,7 +114,8 @@ fn by_block(
     requires first { IsFirst named.now.first named.now.clause.now }
     ensures same { book.new ≡ book.old }
     ensures shown { IfOk result (λ o. IfSome o (λ t. (t.number ≡ number_in skip)
-        × Shows book.old.prefix (left_out skip book.old.slots) named.now.clause.now named.now.first t)) }
+        × Shows book.old.prefix (left_out skip book.old.slots) named.now.clause.now named.now.first
+        t)) }
 {
     if book.is_blocked(skip, named) {
         return by_pivot(book, rows, skip, named);

@@ -24,7 +24,8 @@ pub fn add(
     requires limits { AreModerate limits }
     requires ordered { ArePairs IsBelow clause.now }
     requires first { IsFirst first clause.now }
-    ensures { (keep : Bool) → IsTried keep limits (formula_in ledger.old) (add first clause.now) (formula_in ledger.new) result }
+    ensures { (keep : Bool) → IsTried keep limits (formula_in ledger.old) (add first clause.now)
+        (formula_in ledger.new) result }
 {
     if !binds_all(ledger.scope(), clause) {
         return Err(Cause::Unbound.refusal());
@@ -45,7 +46,8 @@ pub fn delete(
     keep: bool,
 ) -> Result<Option<Undo>, CheckError>
     requires { IsFirst (first_of lits.now) clause.now }
-    ensures { (m : AnyLimits) → IsTried keep m (formula_in ledger.old) (delete (first_of lits.now) clause.now) (formula_in ledger.new) result }
+    ensures { (m : AnyLimits) → IsTried keep m (formula_in ledger.old)
+        (delete (first_of lits.now) clause.now) (formula_in ledger.new) result }
 {
     let at = slot_of(ledger.scope(), ledger.store(), clause)?;
     if keep {
@@ -65,7 +67,8 @@ fn delete_noted(
     requires within { Within ledger.old.prefix clause.now }
     requires there { Holds ledger.old.slots at clause.now }
     requires first { IsFirst (first_of lits.now) clause.now }
-    ensures { (m : AnyLimits) → IsTried true m (formula_in ledger.old) (delete (first_of lits.now) clause.now) (formula_in ledger.new) result }
+    ensures { (m : AnyLimits) → IsTried true m (formula_in ledger.old)
+        (delete (first_of lits.now) clause.now) (formula_in ledger.new) result }
 {
     let warrant = ledger.warrant(Some(at), clause, first_lit(lits))?;
     let pivot = kept_pivot(true, warrant, first_lit(lits));
@@ -84,7 +87,8 @@ fn delete_permitted(
     requires within { Within ledger.old.prefix clause.now }
     requires there { Holds ledger.old.slots at clause.now }
     requires first { IsFirst (first_of lits.now) clause.now }
-    ensures { (m : AnyLimits) → IsTried false m (formula_in ledger.old) (delete (first_of lits.now) clause.now) (formula_in ledger.new) result }
+    ensures { (m : AnyLimits) → IsTried false m (formula_in ledger.old)
+        (delete (first_of lits.now) clause.now) (formula_in ledger.new) result }
 {
     ledger.permit(Some(at), clause, first_lit(lits))?;
     ledger.delete(at, clause);
@@ -101,7 +105,8 @@ pub fn drop_literal(
     requires ordered { ArePairs IsBelow clause.now }
     requires held { IsIn lit clause.now }
     requires rest { rest.now ≡ without lit clause.now }
-    ensures { (keep : Bool) → (m : AnyLimits) → IsTried keep m (formula_in ledger.old) (drop_literal lit clause.now) (formula_in ledger.new) result }
+    ensures { (keep : Bool) → (m : AnyLimits) → IsTried keep m (formula_in ledger.old)
+        (drop_literal lit clause.now) (formula_in ledger.new) result }
 {
     let at = slot_of(ledger.scope(), ledger.store(), clause)?;
     let droppable = ledger.is_droppable(at, clause, rest, lit)?;
@@ -120,7 +125,8 @@ pub fn fresh(
     w: u32,
 ) -> Result<Option<Undo>, CheckError>
     requires { 1 ≤ v }
-    ensures { IsTried settings.keeps settings.limits (formula_in ledger.old) (fresh v w) (formula_in ledger.new) result }
+    ensures { IsTried settings.keeps settings.limits (formula_in ledger.old) (fresh v w)
+        (formula_in ledger.new) result }
 {
     if !takes_fresh(ledger.scope(), settings.limits, v, w) {
         return Err(Cause::BadFresh.refusal());
@@ -133,7 +139,8 @@ pub fn fresh(
 pub fn remove(ledger: &mut Ledger, var: u32, keep: bool) -> Result<Option<Undo>, CheckError>
     requires positive { 1 ≤ var }
     requires small { var < 2 ^ 31 }
-    ensures { (m : AnyLimits) → IsTried keep m (formula_in ledger.old) (remove_variable var) (formula_in ledger.new) result }
+    ensures { (m : AnyLimits) → IsTried keep m (formula_in ledger.old) (remove_variable var)
+        (formula_in ledger.new) result }
 {
     if !ledger.scope().binds(var) {
         return Err(Cause::Unbound.refusal());

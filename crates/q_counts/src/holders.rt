@@ -44,7 +44,8 @@ impl Holders {
     /// Puts a number at the end of a row.
     pub fn push(&mut self, at: usize, number: usize) -> Result<(), NoMemory>
         requires { at < 18446744073709551615 }
-        ensures { OnOk result ((n : ℕ) → row_at self.new n ≡ cond (eqb n at) (row_at self.old n ++ number ∷ []) (row_at self.old n)) }
+        ensures { OnOk result ((n : ℕ) → row_at self.new n ≡ cond (eqb n at) (row_at self.old n
+            ++ number ∷ []) (row_at self.old n)) }
     {
         grow(self.alloc, &mut self.rows, at + 1)?;
         push_at(&mut self.rows, at, number)
@@ -54,7 +55,8 @@ impl Holders {
 // Empty rows up to an end.
 fn grow(alloc: Global, rows: &mut Vec<Vec<usize>>, end: usize) -> Result<(), NoMemory>
     ensures room { OnOk result (end ≤ vec_len rows.new) }
-    ensures same { OnOk result ((n : ℕ) → row_at (map (λ v. v.items) rows.new.items) n ≡ row_at (map (λ v. v.items) rows.old.items) n) }
+    ensures same { OnOk result ((n : ℕ) → row_at (map (λ v. v.items) rows.new.items) n
+        ≡ row_at (map (λ v. v.items) rows.old.items) n) }
 {
     for _ in rows.len()..end {
         rows.push(Vec::new(alloc))?;
@@ -65,7 +67,8 @@ fn grow(alloc: Global, rows: &mut Vec<Vec<usize>>, end: usize) -> Result<(), NoM
 fn push_at(rows: &mut Vec<Vec<usize>>, at: usize, number: usize) -> Result<(), NoMemory>
     requires { at < vec_len rows.old }
     ensures { OnOk result ((n : ℕ) → row_at (map (λ v. v.items) rows.new.items) n ≡
-        cond (eqb n at) (row_at (map (λ v. v.items) rows.old.items) n ++ number ∷ []) (row_at (map (λ v. v.items) rows.old.items) n)) }
+        cond (eqb n at) (row_at (map (λ v. v.items) rows.old.items) n ++ number ∷ [])
+        (row_at (map (λ v. v.items) rows.old.items) n)) }
 {
     let row = &mut rows[at];
     row.push(number)?;

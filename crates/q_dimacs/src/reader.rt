@@ -260,7 +260,8 @@ impl Reader {
         requires reading { self.old.standing ≡ Standing.Reading }
         requires positive { 1 ≤ lit.var }
         requires fits { takes_literals self.old.builder ≡ true }
-        ensures { Feeds result (token_step self.old (Some (literal_token lit (line_of self.old.tokens)))) self.new }
+        ensures { Feeds result
+            (token_step self.old (Some (literal_token lit (line_of self.old.tokens)))) self.new }
     {
         match self.builder.literal(self.limits, lit) {
             Ok(()) => Ok(()),

@@ -11,7 +11,8 @@ use q_text::{put_count, put_number};
 pub fn write(formula: &Formula, text: &mut Vec<u8>) -> Result<(), NoMemory>
     ensures ok { OnOk result (text.new.items ≡ text.old.items ++ formula_text formula.now) }
     ensures err { OnErr result (text.new.items ≡ text.old.items) }
-    ensures room { vec_len text.old + length (formula_text formula.now) ≤ vec_capacity text.old → IsOk result }
+    ensures room { vec_len text.old + length (formula_text formula.now) ≤ vec_capacity text.old
+        → IsOk result }
     ensures capacity { vec_capacity text.old ≤ vec_capacity text.new }
 {
     let before = text.len();
@@ -25,7 +26,8 @@ pub fn write(formula: &Formula, text: &mut Vec<u8>) -> Result<(), NoMemory>
 fn put_formula(text: &mut Vec<u8>, formula: &Formula) -> Result<(), NoMemory>
     ensures ok { OnOk result (text.new.items ≡ text.old.items ++ formula_text formula.now) }
     ensures err { OnErr result (Extends text.old.items text.new.items) }
-    ensures room { vec_len text.old + length (formula_text formula.now) ≤ vec_capacity text.old → IsOk result }
+    ensures room { vec_len text.old + length (formula_text formula.now) ≤ vec_capacity text.old
+        → IsOk result }
     ensures capacity { vec_capacity text.old ≤ vec_capacity text.new }
 {
     put_front(text, formula)?;
@@ -36,7 +38,8 @@ fn put_formula(text: &mut Vec<u8>, formula: &Formula) -> Result<(), NoMemory>
 pub fn put_front(text: &mut Vec<u8>, formula: &Formula) -> Result<(), NoMemory>
     ensures ok { OnOk result (text.new.items ≡ text.old.items ++ front_text formula.now) }
     ensures err { OnErr result (Extends text.old.items text.new.items) }
-    ensures room { vec_len text.old + length (front_text formula.now) ≤ vec_capacity text.old → IsOk result }
+    ensures room { vec_len text.old + length (front_text formula.now) ≤ vec_capacity text.old
+        → IsOk result }
     ensures capacity { vec_capacity text.old ≤ vec_capacity text.new }
 {
     put_header(text, greatest(formula.prefix()), formula.clauses())?;
@@ -57,7 +60,8 @@ fn greatest(prefix: &[Bound]) -> u32
 fn put_header(text: &mut Vec<u8>, vars: u32, clauses: usize) -> Result<(), NoMemory>
     ensures ok { OnOk result (text.new.items ≡ text.old.items ++ header_text vars clauses) }
     ensures err { OnErr result (Extends text.old.items text.new.items) }
-    ensures room { vec_len text.old + length (header_text vars clauses) ≤ vec_capacity text.old → IsOk result }
+    ensures room { vec_len text.old + length (header_text vars clauses) ≤ vec_capacity text.old
+        → IsOk result }
     ensures capacity { vec_capacity text.old ≤ vec_capacity text.new }
 {
     text.extend_from_slice(b"p cnf ")?;
@@ -72,7 +76,8 @@ fn put_header(text: &mut Vec<u8>, vars: u32, clauses: usize) -> Result<(), NoMem
 fn put_prefix(text: &mut Vec<u8>, prefix: &[Bound]) -> Result<(), NoMemory>
     ensures ok { OnOk result (text.new.items ≡ text.old.items ++ blocks_text (blocks prefix.now)) }
     ensures err { OnErr result (Extends text.old.items text.new.items) }
-    ensures room { vec_len text.old + length (blocks_text (blocks prefix.now)) ≤ vec_capacity text.old → IsOk result }
+    ensures room { vec_len text.old + length (blocks_text (blocks prefix.now))
+        ≤ vec_capacity text.old → IsOk result }
     ensures capacity { vec_capacity text.old ≤ vec_capacity text.new }
 {
     let mut block = None;
@@ -88,7 +93,8 @@ fn put_prefix(text: &mut Vec<u8>, prefix: &[Bound]) -> Result<(), NoMemory>
 fn put_bound(text: &mut Vec<u8>, block: Option<Quant>, bound: Bound) -> Result<(), NoMemory>
     ensures ok { OnOk result (text.new.items ≡ text.old.items ++ bound_text block bound) }
     ensures err { OnErr result (Extends text.old.items text.new.items) }
-    ensures room { vec_len text.old + length (bound_text block bound) ≤ vec_capacity text.old → IsOk result }
+    ensures room { vec_len text.old + length (bound_text block bound) ≤ vec_capacity text.old
+        → IsOk result }
     ensures capacity { vec_capacity text.old ≤ vec_capacity text.new }
 {
     put_opening(text, block, bound.quant)?;
@@ -100,7 +106,8 @@ fn put_bound(text: &mut Vec<u8>, block: Option<Quant>, bound: Bound) -> Result<(
 fn put_opening(text: &mut Vec<u8>, block: Option<Quant>, quant: Quant) -> Result<(), NoMemory>
     ensures ok { OnOk result (text.new.items ≡ text.old.items ++ opening block quant) }
     ensures err { OnErr result (Extends text.old.items text.new.items) }
-    ensures room { vec_len text.old + length (opening block quant) ≤ vec_capacity text.old → IsOk result }
+    ensures room { vec_len text.old + length (opening block quant) ≤ vec_capacity text.old
+        → IsOk result }
     ensures capacity { vec_capacity text.old ≤ vec_capacity text.new }
 {
     match (block, quant) {
@@ -129,7 +136,8 @@ fn put_closing(text: &mut Vec<u8>, block: Option<Quant>) -> Result<(), NoMemory>
 fn put_matrix(text: &mut Vec<u8>, formula: &Formula) -> Result<(), NoMemory>
     ensures ok { OnOk result (text.new.items ≡ text.old.items ++ matrix_text formula.now.matrix) }
     ensures err { OnErr result (Extends text.old.items text.new.items) }
-    ensures room { vec_len text.old + length (matrix_text formula.now.matrix) ≤ vec_capacity text.old → IsOk result }
+    ensures room { vec_len text.old + length (matrix_text formula.now.matrix)
+        ≤ vec_capacity text.old → IsOk result }
     ensures capacity { vec_capacity text.old ≤ vec_capacity text.new }
 {
     for at in 0..formula.clauses() {
@@ -142,7 +150,8 @@ fn put_matrix(text: &mut Vec<u8>, formula: &Formula) -> Result<(), NoMemory>
 pub fn put_clause(text: &mut Vec<u8>, lits: &[Lit]) -> Result<(), NoMemory>
     ensures ok { OnOk result (text.new.items ≡ text.old.items ++ clause_text lits.now) }
     ensures err { OnErr result (Extends text.old.items text.new.items) }
-    ensures room { vec_len text.old + length (clause_text lits.now) ≤ vec_capacity text.old → IsOk result }
+    ensures room { vec_len text.old + length (clause_text lits.now) ≤ vec_capacity text.old
+        → IsOk result }
     ensures capacity { vec_capacity text.old ≤ vec_capacity text.new }
 {
     for lit in lits {
@@ -155,7 +164,8 @@ pub fn put_clause(text: &mut Vec<u8>, lits: &[Lit]) -> Result<(), NoMemory>
 fn put_literal(text: &mut Vec<u8>, lit: Lit) -> Result<(), NoMemory>
     ensures ok { OnOk result (text.new.items ≡ text.old.items ++ number_text (number_of lit)) }
     ensures err { OnErr result (Extends text.old.items text.new.items) }
-    ensures room { vec_len text.old + length (number_text (number_of lit)) ≤ vec_capacity text.old → IsOk result }
+    ensures room { vec_len text.old + length (number_text (number_of lit)) ≤ vec_capacity text.old
+        → IsOk result }
     ensures capacity { vec_capacity text.old ≤ vec_capacity text.new }
 {
     put_number(text, lit.number() as i64)?;

@@ -23,11 +23,15 @@ fn meet(
 ) -> Result<(), NoMemory>
     requires spread { IsSpread (gates_view _parts.now) _start marks.old stack.old.items _g }
     requires from { (_g ≡ _start) ⊎ DependsOn (gates_view _parts.now) _start _g }
-    requires uses { (h : ℕ) → part ≡ Some h → Uses (gates_view _parts.now) _g h × (h < length (gates_view _parts.now)) }
-    ensures spread { IfOk result (λ _. IsSpread (gates_view _parts.now) _start marks.new stack.new.items _g) }
+    requires uses { (h : ℕ) → part ≡ Some h → Uses (gates_view _parts.now) _g h
+        × (h < length (gates_view _parts.now)) }
+    ensures spread { IfOk result (λ _. IsSpread (gates_view _parts.now) _start marks.new
+        stack.new.items _g) }
     ensures met { IfOk result (λ _. (h : ℕ) → part ≡ Some h → is_marked marks.new h ≡ true) }
-    ensures kept { IfOk result (λ _. (h : ℕ) → is_marked marks.old h ≡ true → is_marked marks.new h ≡ true) }
-    ensures less { IfOk result (λ _. 2 * unmarked_count marks.new + length stack.new.items ≤ 2 * unmarked_count marks.old + length stack.old.items) }
+    ensures kept { IfOk result (λ _. (h : ℕ) → is_marked marks.old h ≡ true → is_marked marks.new h
+        ≡ true) }
+    ensures less { IfOk result (λ _. 2 * unmarked_count marks.new + length stack.new.items
+        ≤ 2 * unmarked_count marks.old + length stack.old.items) }
 {
     if let Some(h) = part {
         if !marks[h] {
@@ -50,8 +54,10 @@ fn spread(
     requires there { g < length (gates_view parts.now) }
     requires spread { IsSpread (gates_view parts.now) start marks.old stack.old.items g }
     requires from { (g ≡ start) ⊎ DependsOn (gates_view parts.now) start g }
-    ensures whole { IfOk result (λ _. IsStacked (gates_view parts.now) start marks.new stack.new.items) }
-    ensures less { IfOk result (λ _. 2 * unmarked_count marks.new + length stack.new.items ≤ 2 * unmarked_count marks.old + length stack.old.items) }
+    ensures whole { IfOk result (λ _. IsStacked (gates_view parts.now) start marks.new
+        stack.new.items) }
+    ensures less { IfOk result (λ _. 2 * unmarked_count marks.new + length stack.new.items
+        ≤ 2 * unmarked_count marks.old + length stack.old.items) }
 {
     let (left, right) = parts_at(parts, g);
     meet(parts, marks, stack, start, g, left)?;

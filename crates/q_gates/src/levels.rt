@@ -37,7 +37,8 @@ fn never_rise(gates: &[Gate], levels: &[u32]) -> bool
 
 // Whether a part of a gate is on a higher level.
 fn rises(levels: &[u32], gate: usize, part: Option<usize>) -> bool
-    ensures { result ≡ false → (h : ℕ) → part ≡ Some h → level_of levels.now h ≤ level_of levels.now gate }
+    ensures { result ≡ false → (h : ℕ) → part ≡ Some h → level_of levels.now h
+        ≤ level_of levels.now gate }
 {
     match part {
         Some(part) => level(levels, gate) < level(levels, part),
@@ -56,7 +57,8 @@ pub fn falls(gates: &[Gate], levels: &[u32], gate: usize) -> bool
 
 // Whether a part of a gate is on a lower level.
 fn is_lower(levels: &[u32], part: Option<usize>, gate: usize) -> bool
-    ensures { IsTrue result → (h : ℕ) → part ≡ Some h → level_of levels.now h < level_of levels.now gate }
+    ensures { IsTrue result → (h : ℕ) → part ≡ Some h → level_of levels.now h
+        < level_of levels.now gate }
 {
     match part {
         Some(part) => level(levels, part) < level(levels, gate),

@@ -46,7 +46,8 @@ fn first_open(gates: &[Gate], gate: usize, closed: &[bool]) -> Option<usize>
 // The part, if there is one and it is not closed.
 fn open_part(part: Option<usize>, closed: &[bool]) -> Option<usize>
     requires { (h : ℕ) → part ≡ Some h → h < length closed.now }
-    ensures { MatchOption result ((h : ℕ) → part ≡ Some h → is_marked closed.now h ≡ true) (λ h. (part ≡ Some h) × (is_marked closed.now h ≡ false)) }
+    ensures { MatchOption result ((h : ℕ) → part ≡ Some h → is_marked closed.now h ≡ true)
+        (λ h. (part ≡ Some h) × (is_marked closed.now h ≡ false)) }
 {
     let part = part?;
     if closed[part] {
@@ -58,7 +59,8 @@ fn open_part(part: Option<usize>, closed: &[bool]) -> Option<usize>
 // An order of all gates in which what is used comes first, or none where some gate depends on itself.
 fn find_order(alloc: Global, parts: &[Gate]) -> Result<Option<Vec<usize>>, NoMemory>
     requires { AreDefined (gates_view parts.now) }
-    ensures { IfOk result (λ o. MatchOption o ((g : ℕ) × (g < length (gates_view parts.now)) × DependsOn (gates_view parts.now) g g) (λ v. IsFullOrder (gates_view parts.now) v.items)) }
+    ensures { IfOk result (λ o. MatchOption o ((g : ℕ) × (g < length (gates_view parts.now))
+        × DependsOn (gates_view parts.now) g g) (λ v. IsFullOrder (gates_view parts.now) v.items)) }
 {
     let count = parts.len();
     let mut opened = Vec::new(alloc);
@@ -93,12 +95,17 @@ fn close_root(
 ) -> Result<bool, NoMemory>
     requires defined { AreDefined (gates_view parts.now) }
     requires root { root < length parts.now }
-    requires walk { IsWalk (gates_view parts.now) opened.old closed.old stack.old.items order.old.items }
+    requires walk { IsWalk (gates_view parts.now) opened.old closed.old stack.old.items
+        order.old.items }
     requires empty { stack.old.items ≡ [] }
-    ensures walk { IfOk result (λ b. b ≡ true → IsWalk (gates_view parts.now) opened.new closed.new stack.new.items order.new.items × (stack.new.items ≡ [])) }
-    ensures kept { IfOk result (λ b. b ≡ true → (g : ℕ) → is_marked opened.old g ≡ true → is_marked opened.new g ≡ true) }
+    ensures walk { IfOk result (λ b. b ≡ true
+        → IsWalk (gates_view parts.now) opened.new closed.new stack.new.items order.new.items
+        × (stack.new.items ≡ [])) }
+    ensures kept { IfOk result (λ b. b ≡ true → (g : ℕ) → is_marked opened.old g ≡ true
+        → is_marked opened.new g ≡ true) }
     ensures root { IfOk result (λ b. b ≡ true → is_marked opened.new root ≡ true) }
-    ensures cycle { IfOk result (λ b. b ≡ false → (g : ℕ) × (g < length (gates_view parts.now)) × DependsOn (gates_view parts.now) g g) }
+    ensures cycle { IfOk result (λ b. b ≡ false → (g : ℕ) × (g < length (gates_view parts.now))
+        × DependsOn (gates_view parts.now) g g) }
 {
     if opened[root] {
         return Ok(true);
@@ -118,10 +125,15 @@ fn close_all(
     order: &mut Vec<usize>,
 ) -> Result<bool, NoMemory>
     requires defined { AreDefined (gates_view parts.now) }
-    requires walk { IsWalk (gates_view parts.now) opened.old closed.old stack.old.items order.old.items }
-    ensures walk { IfOk result (λ b. b ≡ true → IsWalk (gates_view parts.now) opened.new closed.new stack.new.items order.new.items × (stack.new.items ≡ [])) }
-    ensures kept { IfOk result (λ b. b ≡ true → (g : ℕ) → is_marked opened.old g ≡ true → is_marked opened.new g ≡ true) }
-    ensures cycle { IfOk result (λ b. b ≡ false → (g : ℕ) × (g < length (gates_view parts.now)) × DependsOn (gates_view parts.now) g g) }
+    requires walk { IsWalk (gates_view parts.now) opened.old closed.old stack.old.items
+        order.old.items }
+    ensures walk { IfOk result (λ b. b ≡ true
+        → IsWalk (gates_view parts.now) opened.new closed.new stack.new.items order.new.items
+        × (stack.new.items ≡ [])) }
+    ensures kept { IfOk result (λ b. b ≡ true → (g : ℕ) → is_marked opened.old g ≡ true
+        → is_marked opened.new g ≡ true) }
+    ensures cycle { IfOk result (λ b. b ≡ false → (g : ℕ) × (g < length (gates_view parts.now))
+        × DependsOn (gates_view parts.now) g g) }
 {
     while !stack.is_empty() {
         let top = stack[stack.len() - 1];

@@ -88,8 +88,10 @@ impl EntryBuilder {
     /// The entry that the token makes whole.
     #[inline(always)]
     pub fn take(&mut self, token: Token) -> Result<Option<Entry>, LogError>
-        ensures gives { Gives result (place_move (place_of self.old) token) (place_of self.new) token.line }
-        ensures profile { profile_at (place_of self.new) ≡ profile_behind (place_of self.old) token.kind }
+        ensures gives { Gives result (place_move (place_of self.old) token)
+            (place_of self.new) token.line }
+        ensures profile { profile_at (place_of self.new)
+            ≡ profile_behind (place_of self.old) token.kind }
     {
         if token.kind.is_zero() {
             return self.zero(token);
@@ -104,8 +106,10 @@ impl EntryBuilder {
     #[inline(always)]
     pub fn add(&mut self, token: Token) -> Result<(), LogError>
         requires { is_zero token.kind ≡ false }
-        ensures gives { Gives (quiet result) (place_move (place_of self.old) token) (place_of self.new) token.line }
-        ensures profile { profile_at (place_of self.new) ≡ profile_behind (place_of self.old) token.kind }
+        ensures gives { Gives (quiet result) (place_move (place_of self.old) token)
+            (place_of self.new) token.line }
+        ensures profile { profile_at (place_of self.new)
+            ≡ profile_behind (place_of self.old) token.kind }
     {
         match self.phase {
             Phase::Plain | Phase::Steps => self.steps.add(token),
@@ -119,7 +123,8 @@ impl EntryBuilder {
     /// Takes a literal, or a number of a proof part.
     #[inline(always)]
     pub fn add_literal(&mut self, lit: Lit, line: u64) -> Result<(), LogError>
-        ensures gives { Gives (quiet result) (place_move (place_of self.old) (literal_token lit line)) (place_of self.new) line }
+        ensures gives { Gives (quiet result) (place_move (place_of self.old)
+            (literal_token lit line)) (place_of self.new) line }
     {
         match self.phase {
             Phase::Plain | Phase::Steps => self.steps.add_literal(lit, line),
@@ -133,8 +138,10 @@ impl EntryBuilder {
     /// The entry that a 0 makes whole.
     pub fn zero(&mut self, token: Token) -> Result<Option<Entry>, LogError>
         requires { is_zero token.kind ≡ true }
-        ensures gives { Gives result (place_move (place_of self.old) token) (place_of self.new) token.line }
-        ensures profile { profile_at (place_of self.new) ≡ profile_behind (place_of self.old) token.kind }
+        ensures gives { Gives result (place_move (place_of self.old) token)
+            (place_of self.new) token.line }
+        ensures profile { profile_at (place_of self.new)
+            ≡ profile_behind (place_of self.old) token.kind }
     {
         match self.phase {
             Phase::Plain => self.end_plain(token),
@@ -151,7 +158,8 @@ impl EntryBuilder {
     fn front(&mut self, token: Token) -> Result<(), LogError>
         requires phase { self.old.phase ≡ Phase.Front }
         requires other { is_zero token.kind ≡ false }
-        ensures gives { Gives (quiet result) (front_move token token.kind) (place_of self.new) token.line }
+        ensures gives { Gives (quiet result) (front_move token token.kind)
+            (place_of self.new) token.line }
         ensures profile { profile_at (place_of self.new) ≡ profile_behind nowhere token.kind }
     {
         match token.kind {
@@ -168,7 +176,8 @@ impl EntryBuilder {
 
     fn format(&mut self, token: Token) -> Result<(), LogError>
         requires { self.old.phase ≡ Phase.Format }
-        ensures gives { Gives (quiet result) (format_move token.kind) (place_of self.new) token.line }
+        ensures gives { Gives (quiet result) (format_move token.kind)
+            (place_of self.new) token.line }
         ensures profile { profile_at (place_of self.new) ≡ 2 }
     {
         match token.kind {
@@ -182,7 +191,8 @@ impl EntryBuilder {
 
     fn version(&mut self, token: Token) -> Result<(), LogError>
         requires { self.old.phase ≡ Phase.Version }
-        ensures gives { Gives (quiet result) (version_move token.kind) (place_of self.new) token.line }
+        ensures gives { Gives (quiet result) (version_move token.kind)
+            (place_of self.new) token.line }
         ensures profile { profile_at (place_of self.new) ≡ 2 }
     {
         match token.kind {
@@ -197,7 +207,8 @@ impl EntryBuilder {
     fn end_plain(&mut self, token: Token) -> Result<Option<Entry>, LogError>
         requires phase { self.old.phase ≡ Phase.Plain }
         requires zero { is_zero token.kind ≡ true }
-        ensures gives { Gives result (in_plain (move (open_in self.old.steps) token)) (place_of self.new) token.line }
+        ensures gives { Gives result (in_plain (move (open_in self.old.steps) token))
+            (place_of self.new) token.line }
         ensures profile { profile_at (place_of self.new) ≡ 1 }
     {
         match self.steps.zero(token) {
@@ -210,7 +221,8 @@ impl EntryBuilder {
     fn end_step(&mut self, token: Token) -> Result<Option<Entry>, LogError>
         requires phase { self.old.phase ≡ Phase.Steps }
         requires zero { is_zero token.kind ≡ true }
-        ensures gives { Gives result (in_steps (move (open_in self.old.steps) token)) (place_of self.new) token.line }
+        ensures gives { Gives result (in_steps (move (open_in self.old.steps) token))
+            (place_of self.new) token.line }
         ensures profile { profile_at (place_of self.new) ≡ 2 }
     {
         match self.steps.zero(token) {
@@ -224,7 +236,8 @@ impl EntryBuilder {
     fn behind(&mut self, line: u64, step: Step) -> Option<Entry>
         requires phase { self.old.phase ≡ Phase.Steps }
         requires idle { open_in self.old.steps ≡ None }
-        ensures gives { Gives (Ok result) (behind_step (kind_of step) line step) (place_of self.new) line }
+        ensures gives { Gives (Ok result) (behind_step (kind_of step) line step)
+            (place_of self.new) line }
         ensures profile { profile_at (place_of self.new) ≡ 2 }
     {
         match step.kind() {
@@ -241,7 +254,8 @@ impl EntryBuilder {
         requires stage { is_ready stage (begun_part ProofKind.Nothing 0) ≡ true }
         requires idle { open_in self.old.steps ≡ None }
         ensures none { result ≡ None }
-        ensures place { place_of self.new ≡ proving line step stage (begun_part ProofKind.Nothing 0) }
+        ensures place { place_of self.new ≡ proving line step stage
+            (begun_part ProofKind.Nothing 0) }
     {
         self.proof.restart(ProofKind::Nothing, 0);
         self.waiting = Some((line, step));
@@ -255,7 +269,8 @@ impl EntryBuilder {
         requires phase { self.old.phase ≡ Phase.Part stage }
         requires other { is_zero token.kind ≡ false }
         ensures gives { (n : ℕ) → (s : ProofStep) → self.old.waiting ≡ Some (n, s) →
-            Gives (quiet result) (part_move n s self.old.proof stage (number_in token.kind)) (place_of self.new) token.line }
+            Gives (quiet result) (part_move n s self.old.proof stage (number_in token.kind))
+            (place_of self.new) token.line }
         ensures profile { profile_at (place_of self.new) ≡ 2 }
     {
         match number_in(token.kind) {
@@ -302,7 +317,8 @@ impl EntryBuilder {
     fn number(&mut self, stage: Stage, number: u64, line: u64) -> Result<(), LogError>
         requires { self.old.phase ≡ Phase.Part stage }
         ensures gives { (n : ℕ) → (s : ProofStep) → self.old.waiting ≡ Some (n, s) →
-            Gives (quiet result) (with_number n s self.old.proof number stage) (place_of self.new) line }
+            Gives (quiet result) (with_number n s self.old.proof number stage)
+            (place_of self.new) line }
         ensures profile { profile_at (place_of self.new) ≡ 2 }
     {
         match stage {

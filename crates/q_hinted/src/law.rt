@@ -14,7 +14,8 @@ pub fn hinted_grammar_is_read()
 
 /// The canonical text of steps with proof parts is a log of these, each on a line of its own behind the header.
 pub fn hinted_texts_are_read()
-    ensures { (limit : ℕ) → (hs : List Hinted) → AllByRecursion IsWritten hs → length (log_text hs) ≤ limit →
+    ensures { (limit : ℕ) → (hs : List Hinted) → AllByRecursion IsWritten hs → length (log_text hs)
+        ≤ limit →
         HintedSteps limit (log_text hs) ≡ Some (on_lines 2 hs) }
 {}
 
@@ -23,7 +24,9 @@ pub fn hinted_texts_are_read()
 pub fn first_token_tells()
     ensures plain { (limit : ℕ) → (bytes : List ℕ) → Profile limit bytes ≡ 1 →
         read_entries limit bytes ≡ plain_entries (read limit bytes) }
-    ensures apart { (limit : ℕ) → (bytes : List ℕ) → Profile limit bytes ≡ 2 → Steps limit bytes ≡ None }
+    ensures apart { (limit : ℕ) → (bytes : List ℕ) → Profile limit bytes ≡ 2
+        → Steps limit bytes ≡ None }
     ensures parts { (limit : ℕ) → (bytes : List ℕ) → Profile limit bytes ≡ 2 →
-        (read_entries limit bytes).entries ≡ map hinted_entry (hinted_in (read_entries limit bytes).entries) }
+        (read_entries limit bytes).entries
+        ≡ map hinted_entry (hinted_in (read_entries limit bytes).entries) }
 {}

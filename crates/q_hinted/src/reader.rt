@@ -44,7 +44,8 @@ impl BothReader {
     pub fn new(alloc: Global, bytes: u64) -> Result<BothReader, LogError>
         requires { bytes ≤ 2 ^ 62 }
         ensures start { IfOk result (λ r. r ≡ start bytes) }
-        ensures log { IfOk result (λ r. (text : List ℕ) → to_come r text ≡ read_entries bytes text) }
+        ensures log { IfOk result (λ r. (text : List ℕ)
+            → to_come r text ≡ read_entries bytes text) }
         ensures err { IfErr result (λ e. e ≡ LogError.NoMemory) }
     {
         Ok(BothReader {
@@ -59,8 +60,10 @@ impl BothReader {
     /// profile its proof part. In the second profile a step ends with its proof part.
     pub fn push(&mut self, byte: u8) -> Result<Option<Entry>, LogError>
         ensures transition { Answers result self.new (transition self.old byte) }
-        ensures next { (rest : List ℕ) → Leads result (to_come self.old (byte ∷ rest)) (to_come self.new rest) }
-        ensures again { (e : LogError) → self.old.refused ≡ Some e → (result ≡ Err e) × (self.new ≡ self.old) }
+        ensures next { (rest : List ℕ) → Leads result (to_come self.old (byte ∷ rest))
+            (to_come self.new rest) }
+        ensures again { (e : LogError) → self.old.refused ≡ Some e → (result ≡ Err e)
+            × (self.new ≡ self.old) }
         ensures stops { (e : LogError) → result ≡ Err e → self.new.refused ≡ Some e }
         ensures profile { profile self.new ≡ profile_after self.old byte }
     {
@@ -96,7 +99,8 @@ impl BothReader {
         ensures next { Passes result self.old self.new piece.now }
         ensures state { IfOk result (λ r. self.new ≡ behind self.old (take r.0 piece.now)) }
         ensures left { IfOk result (λ r. self.new.left + r.0 ≡ self.old.left) }
-        ensures again { (e : LogError) → self.old.refused ≡ Some e → (result ≡ Err e) × (self.new ≡ self.old) }
+        ensures again { (e : LogError) → self.old.refused ≡ Some e → (result ≡ Err e)
+            × (self.new ≡ self.old) }
         ensures stops { (e : LogError) → result ≡ Err e → self.new.refused ≡ Some e }
     {
         if let Some(error) = self.refused {
@@ -150,7 +154,8 @@ impl BothReader {
     ) -> Result<(usize, Option<Token>), LogError>
         requires room { length piece.now ≤ self.old.left }
         requires unrefused { self.old.refused ≡ None }
-        requires goes { Goes self.old.tokens (behind_literal self.old.tokens) piece.now (word.len + 1)
+        requires goes { Goes self.old.tokens (behind_literal self.old.tokens) piece.now
+            (word.len + 1)
             (Some (literal_token word.lit (line_of self.old.tokens))) }
         ensures brings { Brings result self.old self.new piece.now }
         ensures zero { IfOk result (λ r. r.1 ≡ None) }

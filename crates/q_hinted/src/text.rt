@@ -47,7 +47,8 @@ fn put_line(text: &mut Vec<u8>, step: &Step, proof: &Proof) -> Result<(), NoMemo
 // What stands between the literals of a step and the 0 that ends its line.
 fn put_part(text: &mut Vec<u8>, kind: Kind, proof: &Proof) -> Result<(), NoMemory>
     requires { IsPartOf kind proof.now }
-    ensures ok { OnOk result (text.new.items ≡ text.old.items ++ plain_text (line_numbers kind proof.now)) }
+    ensures ok { OnOk result (text.new.items ≡ text.old.items ++ plain_text
+        (line_numbers kind proof.now)) }
     ensures err { OnErr result (Extends text.old.items text.new.items) }
 {
     match kind {
@@ -86,7 +87,8 @@ fn put_proof(text: &mut Vec<u8>, proof: &Proof) -> Result<(), NoMemory>
 }
 
 fn put_groups(text: &mut Vec<u8>, proof: &Proof) -> Result<(), NoMemory>
-    ensures ok { OnOk result (text.new.items ≡ text.old.items ++ plain_text (groups_numbers proof.now.groups)) }
+    ensures ok { OnOk result (text.new.items ≡ text.old.items ++ plain_text
+        (groups_numbers proof.now.groups)) }
     ensures err { OnErr result (Extends text.old.items text.new.items) }
 {
     for at in 0..proof.groups() {
@@ -96,7 +98,8 @@ fn put_groups(text: &mut Vec<u8>, proof: &Proof) -> Result<(), NoMemory>
 }
 
 fn put_group(text: &mut Vec<u8>, target: u64, hints: &[u64]) -> Result<(), NoMemory>
-    ensures ok { OnOk result (text.new.items ≡ text.old.items ++ plain_text (target ∷ (hints.now ++ 0 ∷ []))) }
+    ensures ok { OnOk result (text.new.items ≡ text.old.items ++ plain_text
+        (target ∷ (hints.now ++ 0 ∷ []))) }
     ensures err { OnErr result (Extends text.old.items text.new.items) }
 {
     put_plain(text, target)?;

@@ -23,25 +23,32 @@ pub trait Files {
     fn read(&mut self, name: &str, at: u64, buf: &mut [u8]) -> Result<usize, DeviceError>
         requires { at ≤ LAST_PLACE }
         ensures within { IfOk result (λ n. n ≤ length buf.old) }
-        ensures bytes { IfOk result (λ n. IfSome (held self.old) (λ disk. Reads disk name.now at buf.old buf.new n)) }
-        ensures cause { IsErrOf result DeviceError.Failed → RoseFor read_faults name.now self.old self.new }
+        ensures bytes { IfOk result (λ n. IfSome (held self.old)
+            (λ disk. Reads disk name.now at buf.old buf.new n)) }
+        ensures cause { IsErrOf result DeviceError.Failed
+            → RoseFor read_faults name.now self.old self.new }
         ensures only_reads { OnlyReads held read_faults write_faults self.old self.new };
 
     /// Makes the file, or empties it.
     fn create(&mut self, name: &str) -> Result<(), DeviceError>
         ensures told { is_some (held self.new) ≡ is_some (held self.old) }
-        ensures empty { OnOk result (IfSome (held self.old) (λ disk. Empties name.now disk (held self.new))) }
-        ensures err { OnErr result (IfSome (held self.old) (λ disk. MayEmpty name.now disk (held self.new))) }
-        ensures cause { IsErrOf result DeviceError.Failed → RoseFor write_faults name.now self.old self.new }
+        ensures empty { OnOk result (IfSome (held self.old) (λ disk. Empties name.now disk
+            (held self.new))) }
+        ensures err { OnErr result (IfSome (held self.old) (λ disk. MayEmpty name.now disk
+            (held self.new))) }
+        ensures cause { IsErrOf result DeviceError.Failed
+            → RoseFor write_faults name.now self.old self.new }
         ensures later { Later read_faults write_faults self.old self.new };
 
     /// Puts all the bytes at the file's end. A name that is not held counts as an empty file.
     fn append(&mut self, name: &str, bytes: &[u8]) -> Result<(), DeviceError>
         ensures told { is_some (held self.new) ≡ is_some (held self.old) }
-        ensures all { OnOk result (IfSome (held self.old) (λ disk. Appends name.now bytes.now disk (held self.new))) }
+        ensures all { OnOk result (IfSome (held self.old) (λ disk. Appends name.now bytes.now disk
+            (held self.new))) }
         ensures err { OnErr result
             (IfSome (held self.old) (λ disk. AppendsPart name.now bytes.now disk (held self.new))) }
-        ensures cause { IsErrOf result DeviceError.Failed → RoseFor write_faults name.now self.old self.new }
+        ensures cause { IsErrOf result DeviceError.Failed
+            → RoseFor write_faults name.now self.old self.new }
         ensures later { Later read_faults write_faults self.old self.new };
 }
 
@@ -60,10 +67,13 @@ pub trait Sink {
     /// Puts all the bytes at the end.
     fn put(&mut self, bytes: &[u8]) -> Result<(), DeviceError>
         ensures told { is_some (written self.new) ≡ is_some (written self.old) }
-        ensures all { OnOk result (IfSome (written self.old) (λ text. GrowsBy bytes.now text (written self.new))) }
+        ensures all { OnOk result (IfSome (written self.old) (λ text. GrowsBy bytes.now text
+            (written self.new))) }
         ensures err { OnErr result
             (IfSome (written self.old) (λ text. GrowsByPart bytes.now text (written self.new))) }
-        ensures cause { IsErrOf result DeviceError.Failed → Rose (faults self.old) (faults self.new) }
-        ensures want { IsErrOf result DeviceError.NoMemory → Rose (wants self.old) (wants self.new) }
+        ensures cause { IsErrOf result DeviceError.Failed
+            → Rose (faults self.old) (faults self.new) }
+        ensures want { IsErrOf result DeviceError.NoMemory
+            → Rose (wants self.old) (wants self.new) }
         ensures later { (faults self.old ≤ faults self.new) × (wants self.old ≤ wants self.new) };
 }

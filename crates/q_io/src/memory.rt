@@ -132,19 +132,23 @@ impl Files for MemFiles {
 
     fn read(&mut self, name: &str, at: u64, buf: &mut [u8]) -> Result<usize, DeviceError>
         ensures missing { map.get self.old.disk name.now ≡ None → result ≡ Err DeviceError.Failed }
-        ensures count { IfOk result (λ n. n ≡ min (length buf.old) (length (bytes_at self.old.disk name.now) - at)) }
+        ensures count { IfOk result (λ n. n ≡ min (length buf.old)
+            (length (bytes_at self.old.disk name.now) - at)) }
         ensures bytes { IfOk result (λ n. Reads self.old.disk name.now at buf.old buf.new n) }
         ensures held { self.new.disk ≡ self.old.disk }
-        ensures cause { IsErrOf result DeviceError.Failed → Rose self.old.read_faults self.new.read_faults }
+        ensures cause { IsErrOf result DeviceError.Failed
+            → Rose self.old.read_faults self.new.read_faults }
         ensures later { (self.old.read_faults ≤ self.new.read_faults)
             × (self.new.write_faults ≡ self.old.write_faults) }
-        ensures counted { (self.new.reads ≡ next self.old.reads) × (self.new.creates ≡ self.old.creates)
+        ensures counted { (self.new.reads ≡ next self.old.reads)
+            × (self.new.creates ≡ self.old.creates)
             × (self.new.appends ≡ self.old.appends) }
         ensures plan { self.new.planned ≡ self.old.planned }
         ensures fails { IsSome (part_of self.old.planned Call.Read (next self.old.reads)) →
             (result ≡ Err DeviceError.Failed) × (buf.new ≡ buf.old) }
         ensures not_else { IsErrOf result DeviceError.Failed →
-            IsSome (part_of self.old.planned Call.Read (next self.old.reads)) ⊎ (map.get self.old.disk name.now ≡ None) }
+            IsSome (part_of self.old.planned Call.Read (next self.old.reads))
+            ⊎ (map.get self.old.disk name.now ≡ None) }
     {
         self.reads = self.reads.saturating_add(1);
         let is_planned = planned_part(&self.planned, Call::Read, self.reads).is_some();
@@ -158,10 +162,12 @@ impl Files for MemFiles {
     fn create(&mut self, name: &str) -> Result<(), DeviceError>
         ensures empty { OnOk result (Empties name.now self.old.disk (Some self.new.disk)) }
         ensures err { OnErr result (MayEmpty name.now self.old.disk (Some self.new.disk)) }
-        ensures cause { IsErrOf result DeviceError.Failed → Rose self.old.write_faults self.new.write_faults }
+        ensures cause { IsErrOf result DeviceError.Failed
+            → Rose self.old.write_faults self.new.write_faults }
         ensures later { (self.old.write_faults ≤ self.new.write_faults)
             × (self.new.read_faults ≡ self.old.read_faults) }
-        ensures counted { (self.new.reads ≡ self.old.reads) × (self.new.creates ≡ next self.old.creates)
+        ensures counted { (self.new.reads ≡ self.old.reads)
+            × (self.new.creates ≡ next self.old.creates)
             × (self.new.appends ≡ self.old.appends) }
         ensures plan { self.new.planned ≡ self.old.planned }
         ensures fails { IsSome (part_of self.old.planned Call.Create (next self.old.creates)) →
@@ -179,14 +185,17 @@ impl Files for MemFiles {
 
     fn append(&mut self, name: &str, bytes: &[u8]) -> Result<(), DeviceError>
         ensures all { OnOk result (Appends name.now bytes.now self.old.disk (Some self.new.disk)) }
-        ensures err { OnErr result (AppendsPart name.now bytes.now self.old.disk (Some self.new.disk)) }
-        ensures cause { IsErrOf result DeviceError.Failed → Rose self.old.write_faults self.new.write_faults }
+        ensures err { OnErr result (AppendsPart name.now bytes.now self.old.disk
+            (Some self.new.disk)) }
+        ensures cause { IsErrOf result DeviceError.Failed
+            → Rose self.old.write_faults self.new.write_faults }
         ensures later { (self.old.write_faults ≤ self.new.write_faults)
             × (self.new.read_faults ≡ self.old.read_faults) }
         ensures counted { (self.new.reads ≡ self.old.reads) × (self.new.creates ≡ self.old.creates)
             × (self.new.appends ≡ next self.old.appends) }
         ensures plan { self.new.planned ≡ self.old.planned }
-        ensures fails { IfSome (part_of self.old.planned Call.Append (next self.old.appends)) (λ part. IsErr result
+        ensures fails { IfSome (part_of self.old.planned Call.Append (next self.old.appends))
+            (λ part. IsErr result
             × (result ≡ Err DeviceError.Failed → bytes_at self.new.disk name.now
             ≡ bytes_at self.old.disk name.now ++ take part bytes.now)) }
         ensures not_else { IsErrOf result DeviceError.Failed →

@@ -123,7 +123,8 @@ impl Sink for MemSink {
         ensures plan { self.new.planned ≡ self.old.planned }
         ensures fails { Contains self.old.planned (next self.old.puts) →
             (result ≡ Err DeviceError.Failed) × (self.new.text ≡ self.old.text) }
-        ensures not_else { IsErrOf result DeviceError.Failed → Contains self.old.planned (next self.old.puts) }
+        ensures not_else { IsErrOf result DeviceError.Failed
+            → Contains self.old.planned (next self.old.puts) }
         ensures all { OnOk result (self.new.text ≡ self.old.text ++ bytes.now) }
         ensures err { OnErr result (GrowsByPart bytes.now self.old.text (Some self.new.text)) }
         ensures cause { IsErrOf result DeviceError.Failed → Rose self.old.faults self.new.faults }

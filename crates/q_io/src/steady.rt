@@ -67,7 +67,8 @@ impl Files for SteadyFiles {
     ghost write_faults = { λ _ _. 0 };
 
     fn read(&mut self, name: &str, at: u64, buf: &mut [u8]) -> Result<usize, DeviceError>
-        ensures count { result ≡ Ok (min (length buf.old) (length (bytes_at self.old name.now) - at)) }
+        ensures count { result ≡ Ok
+            (min (length buf.old) (length (bytes_at self.old name.now) - at)) }
         ensures bytes { IfOk result (λ n. Reads self.old name.now at buf.old buf.new n) }
         ensures held { self.new ≡ self.old }
     {

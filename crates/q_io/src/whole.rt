@@ -11,7 +11,8 @@ pub fn write_whole<F: Files>(files: &mut F, name: &str, text: &[u8]) -> Result<(
         (λ disk. HoldsBytes name.now text.now disk (F.held files.new))) }
     ensures part { OnErr result (IfSome (F.held files.old)
         (λ disk. MayHoldFront name.now text.now disk (F.held files.new))) }
-    ensures cause { IsErrOf result DeviceError.Failed → RoseFor F.write_faults name.now files.old files.new }
+    ensures cause { IsErrOf result DeviceError.Failed
+        → RoseFor F.write_faults name.now files.old files.new }
     ensures later { Later F.read_faults F.write_faults files.old files.new }
 {
     files.create(name)?;

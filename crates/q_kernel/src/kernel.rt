@@ -52,9 +52,18 @@ impl Model for Kernel {
 
     ghost Value = { Seen };
 
-    ghost view = { λ k. record { prefix = k.prefix.bounds; arena = k.arena; lists = k.occ; text = k.pending.text; spare_vars = k.prefix.spare; greatest = k.greatest; spare_bytes = k.pending.spare } };
+    ghost view = { λ k. record {
+      prefix = k.prefix.bounds;
+      arena = k.arena;
+      lists = k.occ;
+      text = k.pending.text;
+      spare_vars = k.prefix.spare;
+      greatest = k.greatest;
+      spare_bytes = k.pending.spare;
+    } };
 
-    ghost invariant = { λ k. IsKernel k.prefix k.arena k.occ k.uses k.count k.size k.empties k.units k.top k.greatest };
+    ghost invariant = { λ k. IsKernel k.prefix k.arena k.occ k.uses k.count k.size k.empties k.units
+        k.top k.greatest };
 }
 
 impl Kernel {
@@ -62,7 +71,8 @@ impl Kernel {
     pub fn start(alloc: Global, formula: &Formula) -> Result<Kernel, NoMemory>
         requires { length formula.now.matrix ≤ 4294967294 }
         ensures prefix { IfOk result (λ k. k.prefix ≡ formula.now.prefix) }
-        ensures ids { IfOk result (λ k. (c : ℕ) → slot (slots k) c ≡ slot (numbered formula.now.matrix) c) }
+        ensures ids { IfOk result (λ k. (c : ℕ)
+            → slot (slots k) c ≡ slot (numbered formula.now.matrix) c) }
         ensures matrix { IfOk result (λ k. live (slots k) ≡ formula.now.matrix) }
         ensures text { IfOk result (λ k. k.text ≡ []) }
     {
@@ -84,7 +94,8 @@ impl Kernel {
 
     // How many ids there are, for proofs.
     pub(crate) fn known_ids(&self)
-        ensures ids { length (slots self.now) ≡ live_in (slots self.now) + self.now.arena.spare_ids }
+        ensures ids { length (slots self.now)
+            ≡ live_in (slots self.now) + self.now.arena.spare_ids }
         ensures few { length (slots self.now) ≤ 4294967295 }
     {
         self.arena.apart();
@@ -201,8 +212,10 @@ impl Kernel {
 
     /// The least live id at or above one.
     pub fn next_live(&self, from: u32) -> Option<ClauseId>
-        ensures some { (id : ℕ) → result ≡ Some id → (from ≤ id) × (C : Clause) × (slot (slots self.now) id ≡ Some C) }
-        ensures least { (id c : ℕ) → result ≡ Some id → from ≤ c → c < id → slot (slots self.now) c ≡ None }
+        ensures some { (id : ℕ) → result ≡ Some id → (from ≤ id) × (C : Clause)
+            × (slot (slots self.now) id ≡ Some C) }
+        ensures least { (id c : ℕ) → result ≡ Some id → from ≤ c → c < id → slot (slots self.now) c
+            ≡ None }
         ensures none { result ≡ None → (c : ℕ) → from ≤ c → slot (slots self.now) c ≡ None }
     {
         self.arena.next_live(from)
@@ -212,7 +225,8 @@ impl Kernel {
     pub fn first(&self, lit: Lit) -> Option<usize>
         ensures first { result ≡ slice_get (places_of self.now.lists lit) 0 }
         ensures there { (p : ℕ) → result ≡ Some p → Has (places_of self.now.lists lit) p }
-        ensures none { result ≡ None → (D : Clause) → IsIn D (live (slots self.now)) → IsIn lit D → ⊥ }
+        ensures none { result ≡ None → (D : Clause) → IsIn D (live (slots self.now)) → IsIn lit D
+            → ⊥ }
     {
         self.occ.first(lit)
     }
@@ -220,8 +234,10 @@ impl Kernel {
     /// The place after one of a list.
     pub fn next(&self, place: usize) -> Option<usize>
         requires { IsListed self.now place }
-        ensures next { (l : Literal) → Has (places_of self.now.lists l) place → result ≡ following place (places_of self.now.lists l) }
-        ensures there { (l : Literal) (p : ℕ) → Has (places_of self.now.lists l) place → result ≡ Some p → Has (places_of self.now.lists l) p }
+        ensures next { (l : Literal) → Has (places_of self.now.lists l) place
+            → result ≡ following place (places_of self.now.lists l) }
+        ensures there { (l : Literal) (p : ℕ) → Has (places_of self.now.lists l) place
+            → result ≡ Some p → Has (places_of self.now.lists l) p }
     {
         self.occ.next(place)
     }
@@ -230,7 +246,8 @@ impl Kernel {
     pub fn owner(&self, place: usize) -> ClauseId
         requires { IsListed self.now place }
         ensures value { result ≡ slice_index_or self.now.lists.owners place 0 }
-        ensures holds { (l : Literal) → Has (places_of self.now.lists l) place → HoldsLiteral self.now result l }
+        ensures holds { (l : Literal) → Has (places_of self.now.lists l) place
+            → HoldsLiteral self.now result l }
     {
         self.occ.owner(place)
     }
@@ -262,8 +279,10 @@ impl Kernel {
     /// The number of live clauses of exactly one literal.
     pub fn units(&self) -> usize
         ensures value { result ≡ units_in (live (slots self.now)) }
-        ensures none { result ≡ 0 → (c : ℕ) (l : Literal) → slot (slots self.now) c ≡ Some (l ∷ []) → ⊥ }
-        ensures some { 1 ≤ result → (c : ℕ) × (l : Literal) × (slot (slots self.now) c ≡ Some (l ∷ [])) }
+        ensures none { result ≡ 0 → (c : ℕ) (l : Literal) → slot (slots self.now) c ≡ Some (l ∷ [])
+            → ⊥ }
+        ensures some { 1 ≤ result → (c : ℕ) × (l : Literal)
+            × (slot (slots self.now) c ≡ Some (l ∷ [])) }
     {
         self.units
     }
@@ -488,7 +507,8 @@ impl Kernel {
     // Where there is an empty clause, deletes all others.
     fn drop_others(&mut self)
         requires { HasSweepBytes self.old }
-        ensures matrix { live (slots self.new) ≡ (if has_empty (live (slots self.old)) then ([] ∷ []) else live (slots self.old)) }
+        ensures matrix { live (slots self.new) ≡ (if has_empty (live (slots self.old))
+            then ([] ∷ []) else live (slots self.old)) }
         ensures prefix { self.new.prefix ≡ self.old.prefix }
         ensures swept { IsSweeping self.old self.new }
     {
@@ -554,8 +574,10 @@ impl Kernel {
 
     // A variable of the prefix that no clause holds.
     fn first_idle(&self) -> Option<u32>
-        ensures some { (v : ℕ) → result ≡ Some v → (is_bound self.now.prefix v ≡ true) × (occurs v (live (slots self.now)) ≡ false) }
-        ensures none { result ≡ None → occurring self.now.prefix (live (slots self.now)) ≡ self.now.prefix }
+        ensures some { (v : ℕ) → result ≡ Some v → (is_bound self.now.prefix v ≡ true)
+            × (occurs v (live (slots self.now)) ≡ false) }
+        ensures none { result ≡ None → occurring self.now.prefix (live (slots self.now))
+            ≡ self.now.prefix }
     {
         self.uses.first_idle()
     }
@@ -579,7 +601,8 @@ impl Kernel {
         ensures view { SameView self.old self.new }
         ensures kept { KeepsSpare self.old self.new }
         ensures dead { self.new.arena.dead ≡ 0 }
-        ensures meaning { (last : ℕ) × IsEnd self.new.arena last × (words_in self.new.arena.clauses ≡ last) }
+        ensures meaning { (last : ℕ) × IsEnd self.new.arena last × (words_in self.new.arena.clauses
+            ≡ last) }
     {
         links::compact(&mut self.arena, &mut self.occ);
         let _ = self.arena.dead();
@@ -588,7 +611,8 @@ impl Kernel {
     /// The words before the end of the last clause that no clause has.
     pub fn dead(&self) -> usize
         ensures value { result ≡ self.now.arena.dead }
-        ensures meaning { (last : ℕ) × IsEnd self.now.arena last × (result + words_in self.now.arena.clauses ≡ last) }
+        ensures meaning { (last : ℕ) × IsEnd self.now.arena last
+            × (result + words_in self.now.arena.clauses ≡ last) }
     {
         self.arena.dead()
     }

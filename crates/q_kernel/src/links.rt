@@ -71,7 +71,8 @@ pub(crate) fn shorten(arena: &mut Arena, occ: &mut Occ, id: ClauseId, lit: Lit)
     requires live { (C : Clause) × (clause_at arena.old id ≡ Some C) × IsIn lit C }
     requires linked { AreLinked occ.old arena.old }
     requires places { arena.old.room ≤ length occ.old.owners }
-    ensures clauses { (C : Clause) → clause_at arena.old id ≡ Some C → arena.new.clauses ≡ slice_set arena.old.clauses id (Some (without lit C)) }
+    ensures clauses { (C : Clause) → clause_at arena.old id ≡ Some C
+        → arena.new.clauses ≡ slice_set arena.old.clauses id (Some (without lit C)) }
     ensures room { arena.new.room ≡ arena.old.room }
     ensures words { arena.old.spare_words ≤ arena.new.spare_words }
     ensures ids { arena.new.spare_ids ≡ arena.old.spare_ids }

@@ -70,7 +70,8 @@ impl Pending {
         requires form { IsWritable kind first lits.now }
         requires room { length (step_text (written kind first lits.now)) ≤ self.old.spare }
         ensures text { self.new.text ≡ self.old.text ++ step_text (written kind first lits.now) }
-        ensures spare { self.old.spare ≡ self.new.spare + length (step_text (written kind first lits.now)) }
+        ensures spare { self.old.spare ≡ self.new.spare + length
+            (step_text (written kind first lits.now)) }
     {
         let before = self.text.len();
         write_step(&mut self.text, kind, first, lits);
@@ -82,7 +83,8 @@ impl Pending {
         requires ordered { ArePairs IsBelow lits.now }
         requires room { length (step_text (shorter out lits.now)) ≤ self.old.spare }
         ensures text { self.new.text ≡ self.old.text ++ step_text (shorter out lits.now) }
-        ensures spare { self.old.spare ≡ self.new.spare + length (step_text (shorter out lits.now)) }
+        ensures spare { self.old.spare ≡ self.new.spare + length
+            (step_text (shorter out lits.now)) }
     {
         let before = self.text.len();
         write_shorter(&mut self.text, lits, out);

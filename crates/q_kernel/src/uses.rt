@@ -21,7 +21,12 @@ impl Model for Uses {
 
     ghost Value = { Groups };
 
-    ghost view = { λ u. record { idle = list_at u.rings 0; existentials = list_at u.rings 1; universals = list_at u.rings 2; room = length u.rings.owners } };
+    ghost view = { λ u. record {
+      idle = list_at u.rings 0;
+      existentials = list_at u.rings 1;
+      universals = list_at u.rings 2;
+      room = length u.rings.owners;
+    } };
 
     ghost invariant = { λ u. AreTagged u.rings };
 }
@@ -108,7 +113,8 @@ impl Uses {
     /// No clause holds the variable any more. Where it was idle, nothing is changed.
     pub(crate) fn vanish(&mut self, var: u32, quant: Quant)
         requires { Has self.old.idle var ⊎ Has (group_of self.old quant) var }
-        ensures stopped { Has (group_of self.old quant) var → IsStopped self.old self.new var quant }
+        ensures stopped { Has (group_of self.old quant) var
+            → IsStopped self.old self.new var quant }
         ensures same { Has self.old.idle var → self.new ≡ self.old }
     {
         self.rings.distinct();

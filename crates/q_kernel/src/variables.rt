@@ -12,7 +12,8 @@ use q_prefix::Prefix;
 pub(crate) fn occur_all(uses: &mut Uses, prefix: &Prefix, lits: &[Lit])
     requires within { Within prefix.now.bounds lits.now }
     requires grouped { AreGrouped uses.old prefix.now.bounds }
-    ensures occurring { (occ : ℕ → Bool) → AreUses uses.old prefix.now.bounds occ → AreUses uses.new prefix.now.bounds (with_clause lits.now occ) }
+    ensures occurring { (occ : ℕ → Bool) → AreUses uses.old prefix.now.bounds occ
+        → AreUses uses.new prefix.now.bounds (with_clause lits.now occ) }
     ensures room { uses.new.room ≡ uses.old.room }
 {
     for lit in lits {
@@ -24,7 +25,8 @@ pub(crate) fn occur_all(uses: &mut Uses, prefix: &Prefix, lits: &[Lit])
 fn start(uses: &mut Uses, prefix: &Prefix, var: u32)
     requires bound { is_bound prefix.now.bounds var ≡ true }
     requires grouped { AreGrouped uses.old prefix.now.bounds }
-    ensures occurring { (occ : ℕ → Bool) → AreUses uses.old prefix.now.bounds occ → AreUses uses.new prefix.now.bounds (with_occurring var true occ) }
+    ensures occurring { (occ : ℕ → Bool) → AreUses uses.old prefix.now.bounds occ
+        → AreUses uses.new prefix.now.bounds (with_occurring var true occ) }
     ensures room { uses.new.room ≡ uses.old.room }
 {
     match prefix.quant(var) {
@@ -37,7 +39,8 @@ fn start(uses: &mut Uses, prefix: &Prefix, var: u32)
 fn stop(uses: &mut Uses, prefix: &Prefix, var: u32)
     requires bound { is_bound prefix.now.bounds var ≡ true }
     requires grouped { AreGrouped uses.old prefix.now.bounds }
-    ensures occurring { (occ : ℕ → Bool) → AreUses uses.old prefix.now.bounds occ → AreUses uses.new prefix.now.bounds (with_occurring var false occ) }
+    ensures occurring { (occ : ℕ → Bool) → AreUses uses.old prefix.now.bounds occ
+        → AreUses uses.new prefix.now.bounds (with_occurring var false occ) }
     ensures room { uses.new.room ≡ uses.old.room }
 {
     match prefix.quant(var) {
@@ -50,7 +53,9 @@ fn stop(uses: &mut Uses, prefix: &Prefix, var: u32)
 pub(crate) fn vanish(uses: &mut Uses, prefix: &Prefix, occ: &Occ, lit: Lit)
     requires bound { is_bound prefix.now.bounds lit.var ≡ true }
     requires grouped { AreGrouped uses.old prefix.now.bounds }
-    ensures occurring { (f : ℕ → Bool) → AreUses uses.old prefix.now.bounds f → AreUses uses.new prefix.now.bounds (with_occurring lit.var (f lit.var && is_listed occ.now lit.var) f) }
+    ensures occurring { (f : ℕ → Bool) → AreUses uses.old prefix.now.bounds f
+        → AreUses uses.new prefix.now.bounds (with_occurring lit.var
+        (f lit.var && is_listed occ.now lit.var) f) }
     ensures room { uses.new.room ≡ uses.old.room }
 {
     if occ.count(lit) == 0 && occ.count(lit.negated()) == 0 {
@@ -62,7 +67,8 @@ pub(crate) fn vanish(uses: &mut Uses, prefix: &Prefix, occ: &Occ, lit: Lit)
 pub(crate) fn vanish_all(uses: &mut Uses, prefix: &Prefix, occ: &Occ, lits: &[Lit])
     requires within { Within prefix.now.bounds lits.now }
     requires grouped { AreGrouped uses.old prefix.now.bounds }
-    ensures occurring { (f : ℕ → Bool) → AreUses uses.old prefix.now.bounds f → AreUses uses.new prefix.now.bounds (without_clause lits.now occ.now f) }
+    ensures occurring { (f : ℕ → Bool) → AreUses uses.old prefix.now.bounds f
+        → AreUses uses.new prefix.now.bounds (without_clause lits.now occ.now f) }
     ensures room { uses.new.room ≡ uses.old.room }
 {
     for lit in lits {

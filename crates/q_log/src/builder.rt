@@ -119,7 +119,8 @@ impl StepBuilder {
 
     // A letter, where no step has begun.
     fn begin(&mut self, kind: Kind, line: u64) -> Result<(), LogError>
-        ensures { Builds (quiet result) (unless_begun (open_in self.old) (goes_on (empty_step line kind)))
+        ensures { Builds (quiet result) (unless_begun (open_in self.old)
+            (goes_on (empty_step line kind)))
             self.new.begun self.new.lits line }
     {
         if self.begun.is_some() {
@@ -149,7 +150,8 @@ impl StepBuilder {
     #[inline(always)]
     fn number(&mut self, number: i64, line: u64) -> Result<(), LogError>
         requires { is_zero_ℤ number ≡ false }
-        ensures { Builds (quiet result) (with_number (begun_or_added (open_in self.old) line) number)
+        ensures { Builds (quiet result) (with_number (begun_or_added (open_in self.old) line)
+            number)
             self.new.begun self.new.lits line }
     {
         let begun = self.begun_at(line);
@@ -163,7 +165,8 @@ impl StepBuilder {
     #[inline(always)]
     fn literal(&mut self, begun: Begun, lit: Lit, line: u64) -> Result<(), LogError>
         requires { are_plain begun.kind self.old.lits ≡ true }
-        ensures { Builds (quiet result) (with_literal (opened begun self.old.lits) lit) self.new.begun self.new.lits line }
+        ensures { Builds (quiet result) (with_literal (opened begun self.old.lits) lit)
+            self.new.begun self.new.lits line }
     {
         if !has_room(begun.kind, self.lits.as_slice(), lit.negative()) {
             return Err(LogError::BadLine { line });
@@ -175,7 +178,8 @@ impl StepBuilder {
 
     fn end(&mut self, begun: Begun, line: u64) -> Result<Option<(u64, Step)>, LogError>
         requires { are_plain begun.kind self.old.lits ≡ true }
-        ensures { Builds result (with_zero (opened begun self.old.lits)) self.new.begun self.new.lits line }
+        ensures { Builds result (with_zero (opened begun self.old.lits)) self.new.begun
+            self.new.lits line }
     {
         if !is_whole(begun.kind, self.lits.as_slice()) {
             return Err(LogError::BadLine { line });

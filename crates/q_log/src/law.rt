@@ -28,8 +28,10 @@ pub fn runs_can_be_logged()
 /// The run to the result of an applicable target may be one of steps that a log can hold.
 pub fn targets_can_be_logged()
     ensures { (B : Bounds) → (P : Prefix) → (N : Slots) → (t : Target) →
-        IsProper (formula_of P (live N)) → IsInLimits standard (formula_of P (live N)) → Applicable B P N t →
-        (ss : List ProofStep) × Run (formula_of P (live N)) ss (result_of P N t) × AllByRecursion IsLogged ss }
+        IsProper (formula_of P (live N)) → IsInLimits standard (formula_of P (live N))
+        → Applicable B P N t →
+        (ss : List ProofStep) × Run (formula_of P (live N)) ss (result_of P N t)
+        × AllByRecursion IsLogged ss }
 {}
 
 /// The run that sweeps a formula may be one of steps that a log can hold.

@@ -55,8 +55,10 @@ impl LogReader {
     /// The step that this byte ends, if it ends one, and the line of its first token.
     pub fn push(&mut self, byte: u8) -> Result<Option<(u64, Step)>, LogError>
         ensures transition { Answers result self.new (transition self.old byte) }
-        ensures next { (rest : List ℕ) → Leads result (to_come self.old (byte ∷ rest)) (to_come self.new rest) }
-        ensures again { (e : LogError) → self.old.refused ≡ Some e → (result ≡ Err e) × (self.new ≡ self.old) }
+        ensures next { (rest : List ℕ) → Leads result (to_come self.old (byte ∷ rest))
+            (to_come self.new rest) }
+        ensures again { (e : LogError) → self.old.refused ≡ Some e → (result ≡ Err e)
+            × (self.new ≡ self.old) }
         ensures stops { (e : LogError) → result ≡ Err e → self.new.refused ≡ Some e }
     {
         if let Some(error) = self.refused {
@@ -90,7 +92,8 @@ impl LogReader {
         ensures within { IfOk result (λ r. (0 < r.0) × (r.0 ≤ length piece.now)) }
         ensures next { Passes result self.old self.new piece.now }
         ensures left { IfOk result (λ r. self.new.left + r.0 ≡ self.old.left) }
-        ensures again { (e : LogError) → self.old.refused ≡ Some e → (result ≡ Err e) × (self.new ≡ self.old) }
+        ensures again { (e : LogError) → self.old.refused ≡ Some e → (result ≡ Err e)
+            × (self.new ≡ self.old) }
         ensures stops { (e : LogError) → result ≡ Err e → self.new.refused ≡ Some e }
     {
         if let Some(error) = self.refused {

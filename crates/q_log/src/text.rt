@@ -10,7 +10,8 @@ use q_text::{digits, put_number};
 pub fn push_step(text: &mut Vec<u8>, step: &Step) -> Result<(), NoMemory>
     ensures ok { OnOk result (text.new.items ≡ text.old.items ++ step_text step.now) }
     ensures err { OnErr result (text.new.items ≡ text.old.items) }
-    ensures room { vec_len text.old + length (step_text step.now) ≤ vec_capacity text.old → IsOk result }
+    ensures room { vec_len text.old + length (step_text step.now) ≤ vec_capacity text.old
+        → IsOk result }
     ensures capacity { vec_capacity text.old ≤ vec_capacity text.new }
 {
     text.reserve(step_len(step))?;
@@ -41,7 +42,8 @@ pub fn step_len(step: &Step) -> usize
 /// of `lits` other than it. It takes no memory.
 pub fn write_step(text: &mut Vec<u8>, kind: Kind, first: Option<Lit>, lits: &[Lit])
     requires form { IsWritable kind first lits.now }
-    requires room { vec_len text.old + length (step_text (written kind first lits.now)) ≤ vec_capacity text.old }
+    requires room { vec_len text.old + length (step_text (written kind first lits.now))
+        ≤ vec_capacity text.old }
     ensures items { text.new.items ≡ text.old.items ++ step_text (written kind first lits.now) }
     ensures capacity { vec_capacity text.old ≤ vec_capacity text.new }
 {
@@ -57,7 +59,8 @@ pub fn write_step(text: &mut Vec<u8>, kind: Kind, first: Option<Lit>, lits: &[Li
 /// literal of the step is the least that is left. It takes no memory.
 pub fn write_shorter(text: &mut Vec<u8>, lits: &[Lit], out: Lit)
     requires ordered { ArePairs IsBelow lits.now }
-    requires room { vec_len text.old + length (step_text (shorter out lits.now)) ≤ vec_capacity text.old }
+    requires room { vec_len text.old + length (step_text (shorter out lits.now))
+        ≤ vec_capacity text.old }
     ensures items { text.new.items ≡ text.old.items ++ step_text (shorter out lits.now) }
     ensures capacity { vec_capacity text.old ≤ vec_capacity text.new }
 {
@@ -117,7 +120,8 @@ fn put_lits(text: &mut Vec<u8>, lits: &[Lit])
 fn put_in_front(text: &mut Vec<u8>, first: Lit, lits: &[Lit])
     requires { vec_len text.old + length (literals_text (first ∷ without first lits.now))
         ≤ vec_capacity text.old }
-    ensures items { text.new.items ≡ text.old.items ++ literals_text (first ∷ without first lits.now) }
+    ensures items { text.new.items ≡ text.old.items ++ literals_text
+        (first ∷ without first lits.now) }
     ensures capacity { vec_capacity text.old ≤ vec_capacity text.new }
 {
     put_lit(text, first);
@@ -126,7 +130,8 @@ fn put_in_front(text: &mut Vec<u8>, first: Lit, lits: &[Lit])
 
 // The literals other than one.
 fn put_others(text: &mut Vec<u8>, out: Lit, lits: &[Lit])
-    requires { vec_len text.old + length (literals_text (without out lits.now)) ≤ vec_capacity text.old }
+    requires { vec_len text.old + length (literals_text (without out lits.now))
+        ≤ vec_capacity text.old }
     ensures items { text.new.items ≡ text.old.items ++ literals_text (without out lits.now) }
     ensures capacity { vec_capacity text.old ≤ vec_capacity text.new }
 {

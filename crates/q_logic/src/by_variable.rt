@@ -9,7 +9,8 @@ ghost use Rattle.q_logic.specs.ByVariable.{ValidByVariable, ValidStepsByVariable
 /// What is valid where clauses are linked by shared variables is valid where they are linked by literals of opposite
 /// sign, with the same result.
 pub fn valid_by_variable()
-    ensures one { (m : Limits) → (F : PrenexFormula) → (s : ProofStep) → ValidByVariable m F s → Valid m F s }
+    ensures one { (m : Limits) → (F : PrenexFormula) → (s : ProofStep) → ValidByVariable m F s
+        → Valid m F s }
     ensures all { (m : Limits) → (F E : PrenexFormula) → (ss : List ProofStep) →
         ValidStepsByVariable m F ss E → ValidSteps m F ss E }
 {}

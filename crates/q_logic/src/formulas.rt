@@ -43,7 +43,10 @@ impl Formula {
     /// no memory.
     pub fn from_parts(prefix: Vec<Bound>, lits: Vec<Lit>, ends: Vec<usize>) -> Formula
         requires { AreLawful prefix.items lits.items ends.items }
-        ensures value { result ≡ record { prefix = prefix.items; matrix = clauses_between lits.items 0 ends.items } }
+        ensures value { result ≡ record {
+          prefix = prefix.items;
+          matrix = clauses_between lits.items 0 ends.items;
+        } }
         ensures proper { IsProper result }
     {
         let matrix = Clauses { lits, ends };

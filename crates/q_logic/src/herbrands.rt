@@ -20,19 +20,24 @@ pub fn falsity_is_herbrand()
 /// Circuits of the end of a run without extended drops, carried over its reversals, are circuits of its beginning:
 /// Herbrand functions where they were Herbrand functions, and lawful ones in any case.
 pub fn runs_refute()
-    ensures herbrand { (F G : PrenexFormula) → (ss : List ProofStep) → (rs : List Reversal) → (c : Strategy) →
+    ensures herbrand { (F G : PrenexFormula) → (ss : List ProofStep) → (rs : List Reversal)
+        → (c : Strategy) →
         IsFormula F → Run F ss G → Reversals F ss rs → HerbrandOf G c → HerbrandOf F (Forth rs c) }
-    ensures lawful { (F G : PrenexFormula) → (ss : List ProofStep) → (rs : List Reversal) → (c : Strategy) →
-        IsFormula F → Run F ss G → Reversals F ss rs → LawfulHerbrand G.prefix c → LawfulHerbrand F.prefix (Forth rs c) }
+    ensures lawful { (F G : PrenexFormula) → (ss : List ProofStep) → (rs : List Reversal)
+        → (c : Strategy) →
+        IsFormula F → Run F ss G → Reversals F ss rs → LawfulHerbrand G.prefix c
+        → LawfulHerbrand F.prefix (Forth rs c) }
 {}
 
 /// Steps that have reversals have no extended drop among them.
 pub fn reversals_are_of_plain_runs()
-    ensures { (F : PrenexFormula) → (ss : List ProofStep) → (rs : List Reversal) → Reversals F ss rs → NoneExtended F ss }
+    ensures { (F : PrenexFormula) → (ss : List ProofStep) → (rs : List Reversal) → Reversals F ss rs
+        → NoneExtended F ss }
 {}
 
 /// A valid step that is not extended has reversals.
 pub fn other_steps_have_reversals()
-    ensures { (m : Limits) → (F : PrenexFormula) → (s : ProofStep) → Valid m F s → ¬ IsExtended F s →
+    ensures { (m : Limits) → (F : PrenexFormula) → (s : ProofStep) → Valid m F s → ¬ IsExtended F s
+        →
         ¬ ((rs : List Reversal) → ¬ Reversed F s rs) }
 {}

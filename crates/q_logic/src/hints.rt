@@ -12,8 +12,10 @@ ghost use Rattle.q_logic.specs.Hinted.{NumberedFormula, ProofPart, HintedValid, 
 
 /// What hints show is implied by propagation, and what is implied has hints.
 pub fn chained_is_implied()
-    ensures sound { (N : Slots) → (S : Clause) → (hints : List ℕ) → Chained N S hints → Implied (live N) S }
-    ensures complete { (N : Slots) → (S : Clause) → Implied (live N) S → (hints : List ℕ) × Chained N S hints }
+    ensures sound { (N : Slots) → (S : Clause) → (hints : List ℕ) → Chained N S hints
+        → Implied (live N) S }
+    ensures complete { (N : Slots) → (S : Clause) → Implied (live N) S → (hints : List ℕ)
+        × Chained N S hints }
 {}
 
 /// A step that its proof part shows to be valid is valid, with the same result.
@@ -37,10 +39,12 @@ pub fn valid_steps_have_hints()
 
 /// A step with its proof part has one cause of refusal, or it is valid and has none.
 pub fn hinted_causes_are_exact()
-    ensures none { (m : Limits) → (F : NumberedFormula) → (s : ProofStep) → (t : ProofPart) → (n : ℕ) →
+    ensures none { (m : Limits) → (F : NumberedFormula) → (s : ProofStep) → (t : ProofPart)
+        → (n : ℕ) →
         HintedValid m F s t → ¬ HintedCause m F s t n }
     ensures some { (m : Limits) → (F : NumberedFormula) → (s : ProofStep) → (t : ProofPart) →
         ¬ HintedValid m F s t → ¬ ((n : ℕ) → ¬ HintedCause m F s t n) }
-    ensures one { (m : Limits) → (F : NumberedFormula) → (s : ProofStep) → (t : ProofPart) → (i j : ℕ) →
+    ensures one { (m : Limits) → (F : NumberedFormula) → (s : ProofStep) → (t : ProofPart)
+        → (i j : ℕ) →
         HintedCause m F s t i → HintedCause m F s t j → i ≡ j }
 {}

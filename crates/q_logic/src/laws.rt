@@ -25,18 +25,22 @@ pub fn truth_is_decided()
 
 /// What is implied by propagation follows.
 pub fn implied_is_sound()
-    ensures { (X : Matrix) → (S : Clause) → Implied X S → (A : Assignment) → MatrixTrue A X → ClauseTrue A S }
+    ensures { (X : Matrix) → (S : Clause) → Implied X S → (A : Assignment) → MatrixTrue A X
+        → ClauseTrue A S }
 {}
 
 /// More clauses and more literals imply no less, and neither order nor copies matter.
 pub fn implied_by_more()
-    ensures clauses { (X Y : Matrix) → (S : Clause) → ((D : Clause) → IsIn D X → IsIn D Y) → Implied X S → Implied Y S }
-    ensures literals { (X : Matrix) → (S T : Clause) → ((k : Literal) → IsIn k S → IsIn k T) → Implied X S → Implied X T }
+    ensures clauses { (X Y : Matrix) → (S : Clause) → ((D : Clause) → IsIn D X → IsIn D Y)
+        → Implied X S → Implied Y S }
+    ensures literals { (X : Matrix) → (S T : Clause) → ((k : Literal) → IsIn k S → IsIn k T)
+        → Implied X S → Implied X T }
 {}
 
 /// Propagation may go in any order: literals that are closed under it conflict where any chain does.
 pub fn saturated_conflicts()
-    ensures { (X : Matrix) → (S : Clause) → (K : List Literal) → IsSaturated X (negations S) K → Implied X S → Conflicts X K }
+    ensures { (X : Matrix) → (S : Clause) → (K : List Literal) → IsSaturated X (negations S) K
+        → Implied X S → Conflicts X K }
 {}
 
 /// The order of a prefix, computed and told by places.
@@ -56,7 +60,8 @@ pub fn reducible_by_variable()
 /// Skolem functions.
 pub fn same_formulas()
     ensures truth { (F G : PrenexFormula) → IsFormula F → SameFormula F G → Holds F ↔ Holds G }
-    ensures skolem { (F G : PrenexFormula) → (c : Strategy) → SameFormula F G → SkolemOf F c ↔ SkolemOf G c }
+    ensures skolem { (F G : PrenexFormula) → (c : Strategy) → SameFormula F G → SkolemOf F c
+        ↔ SkolemOf G c }
 {}
 
 /// Valid steps lead from a formula to a formula.
@@ -78,9 +83,11 @@ pub fn runs_keep_truth()
 /// Circuits of the end of a run, taken back over its undo list, are circuits of its beginning: Skolem
 /// functions where they were Skolem functions, and lawful ones in any case.
 pub fn runs_rebuild()
-    ensures skolem { (F G : PrenexFormula) → (ss : List ProofStep) → (us : List UndoEntry) → (c : Strategy) →
+    ensures skolem { (F G : PrenexFormula) → (ss : List ProofStep) → (us : List UndoEntry)
+        → (c : Strategy) →
         IsFormula F → Run F ss G → Undos F ss us → SkolemOf G c → SkolemOf F (Back us c) }
-    ensures lawful { (F G : PrenexFormula) → (ss : List ProofStep) → (us : List UndoEntry) → (c : Strategy) →
+    ensures lawful { (F G : PrenexFormula) → (ss : List ProofStep) → (us : List UndoEntry)
+        → (c : Strategy) →
         IsFormula F → Run F ss G → Undos F ss us → Lawful G.prefix c → Lawful F.prefix (Back us c) }
 {}
 
@@ -94,7 +101,10 @@ pub fn larger_limits_keep_steps()
 
 /// A step has one cause of refusal, or it is valid and has none.
 pub fn causes_are_exact()
-    ensures none { (m : Limits) → (F : PrenexFormula) → (s : ProofStep) → (n : ℕ) → Valid m F s → ¬ Cause m F s n }
-    ensures some { (m : Limits) → (F : PrenexFormula) → (s : ProofStep) → ¬ Valid m F s → ¬ ((n : ℕ) → ¬ Cause m F s n) }
-    ensures one { (m : Limits) → (F : PrenexFormula) → (s : ProofStep) → (i j : ℕ) → Cause m F s i → Cause m F s j → i ≡ j }
+    ensures none { (m : Limits) → (F : PrenexFormula) → (s : ProofStep) → (n : ℕ) → Valid m F s
+        → ¬ Cause m F s n }
+    ensures some { (m : Limits) → (F : PrenexFormula) → (s : ProofStep) → ¬ Valid m F s
+        → ¬ ((n : ℕ) → ¬ Cause m F s n) }
+    ensures one { (m : Limits) → (F : PrenexFormula) → (s : ProofStep) → (i j : ℕ) → Cause m F s i
+        → Cause m F s j → i ≡ j }
 {}

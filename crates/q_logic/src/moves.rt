@@ -21,14 +21,16 @@ pub fn first_stands_before_universals()
 /// it says on those of the beginning, when it is taken back; nothing else that it says matters, lawful
 /// or not.
 pub fn first_moves_are_carried_back()
-    ensures { (F G : PrenexFormula) → (ss : List ProofStep) → (us : List UndoEntry) → (c d : Strategy) →
+    ensures { (F G : PrenexFormula) → (ss : List ProofStep) → (us : List UndoEntry)
+        → (c d : Strategy) →
         (A : Assignment) → IsFormula F → Run F ss G → Undos F ss us →
         Agree G.prefix 0 c d A → Agree F.prefix 0 (Back us c) (Back us d) A }
 {}
 
 /// The same for the existentials behind at most n universal blocks, where both strategies are lawful.
 pub fn moves_are_carried_back()
-    ensures { (F G : PrenexFormula) → (ss : List ProofStep) → (us : List UndoEntry) → (c d : Strategy) →
+    ensures { (F G : PrenexFormula) → (ss : List ProofStep) → (us : List UndoEntry)
+        → (c d : Strategy) →
         (A : Assignment) → (n : ℕ) → IsFormula F → Run F ss G → Undos F ss us →
         Lawful G.prefix c → Lawful G.prefix d →
         Agree G.prefix n c d A → Agree F.prefix n (Back us c) (Back us d) A }
@@ -37,9 +39,12 @@ pub fn moves_are_carried_back()
 /// Moves that Skolem functions of the end can complete become moves that Skolem functions of the
 /// beginning can complete.
 pub fn completions_are_carried_back()
-    ensures first { (F G : PrenexFormula) → (ss : List ProofStep) → (us : List UndoEntry) → (c : Strategy) →
-        IsFormula F → Run F ss G → Undos F ss us → CanBeCompleted G 0 c → CanBeCompleted F 0 (Back us c) }
-    ensures rounds { (F G : PrenexFormula) → (ss : List ProofStep) → (us : List UndoEntry) → (c : Strategy) →
+    ensures first { (F G : PrenexFormula) → (ss : List ProofStep) → (us : List UndoEntry)
+        → (c : Strategy) →
+        IsFormula F → Run F ss G → Undos F ss us → CanBeCompleted G 0 c
+        → CanBeCompleted F 0 (Back us c) }
+    ensures rounds { (F G : PrenexFormula) → (ss : List ProofStep) → (us : List UndoEntry)
+        → (c : Strategy) →
         (n : ℕ) → IsFormula F → Run F ss G → Undos F ss us → Lawful G.prefix c →
         CanBeCompleted G n c → CanBeCompleted F n (Back us c) }
 {}
@@ -53,7 +58,8 @@ pub fn first_values_begin_the_game()
 /// First values under which the end stays true become first values under which the beginning stays
 /// true.
 pub fn winning_moves_are_carried_back()
-    ensures { (F G : PrenexFormula) → (ss : List ProofStep) → (us : List UndoEntry) → (c : Strategy) →
+    ensures { (F G : PrenexFormula) → (ss : List ProofStep) → (us : List UndoEntry) → (c : Strategy)
+        →
         (A : Assignment) → IsFormula F → IsFormula G → Run F ss G → Undos F ss us → HasFirst G c →
         Wins G (outcome c A) → Wins F (outcome (Back us c) A) }
 {}

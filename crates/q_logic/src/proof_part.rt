@@ -40,7 +40,11 @@ impl Model for Proof {
 
     ghost Value = { ProofPart };
 
-    ghost view = { λ p. record { kind = p.kind; number = p.number; groups = groups_of p.kind p.groups.items p.hints.items } };
+    ghost view = { λ p. record {
+      kind = p.kind;
+      number = p.number;
+      groups = groups_of p.kind p.groups.items p.hints.items;
+    } };
 
     ghost invariant = { λ p. AreStarts 0 p.groups.items (length p.hints.items) };
 }

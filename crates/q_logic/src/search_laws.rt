@@ -13,7 +13,8 @@ use crate::laws::truth_is_decided;
 
 /// A search makes fewer decisions than there are assignments, whatever is said of its nodes.
 pub fn values_are_few()
-    ensures { (f : Test) → (P : Prefix) → (A : Assignment) → (explored f P A).decisions < 2 ^ length P }
+    ensures { (f : Test) → (P : Prefix) → (A : Assignment) → (explored f P A).decisions
+        < 2 ^ length P }
 {}
 
 /// The search for truth is won exactly where the formula is true.
@@ -32,7 +33,8 @@ pub fn decisions_are_few()
 
 /// The circuits that a won search picks are Skolem functions.
 pub fn circuits_are_skolem()
-    ensures { (F : PrenexFormula) → IsFormula F → (search_of F).won ≡ true → SkolemOf F (circuits_of F) }
+    ensures { (F : PrenexFormula) → IsFormula F → (search_of F).won ≡ true
+        → SkolemOf F (circuits_of F) }
 {}
 
 /// No node is hit exactly where lawful circuits over the inputs are Skolem functions.
@@ -43,8 +45,10 @@ pub fn valid_is_skolem()
 
 /// Where a node is hit, some clause is false under the values that the first such node gives.
 pub fn counters_falsify()
-    ensures { (q : Claim) → Lawful q.formula.prefix q.circuits → AreFed q → (branching_of q).won ≡ false →
-        (C : Clause) × IsIn C q.formula.matrix × (¬ ClauseTrue (outcome q.circuits (counter_at q (branching_of q).last)) C) }
+    ensures { (q : Claim) → Lawful q.formula.prefix q.circuits → AreFed q → (branching_of q).won
+        ≡ false →
+        (C : Clause) × IsIn C q.formula.matrix
+        × (¬ ClauseTrue (outcome q.circuits (counter_at q (branching_of q).last)) C) }
 {}
 
 /// There are fewer branches than assignments of the inputs.

@@ -8,7 +8,8 @@ use q_logic::Lit;
 
 /// Links each literal of a clause.
 pub fn link_all(rings: &mut Rings, start: usize, lits: &[Lit], id: u32)
-    requires heads { (k : ℕ) → k < length lits.now → pack (slice_index_or lits.now k no_lit) < length rings.old.lists }
+    requires heads { (k : ℕ) → k < length lits.now → pack (slice_index_or lits.now k no_lit)
+        < length rings.old.lists }
     requires room { (k : ℕ) → k < length lits.now → start + k < length rings.old.owners }
     requires fits { start + length lits.now < 18446744073709551616 }
     requires fresh { (k l : ℕ) → k < length lits.now → Has (list_at rings.old l) (start + k) → ⊥ }
@@ -25,7 +26,8 @@ pub fn link_all(rings: &mut Rings, start: usize, lits: &[Lit], id: u32)
 /// Unlinks each literal of a clause.
 pub fn unlink_all(rings: &mut Rings, start: usize, lits: &[Lit])
     requires fits { start + length lits.now < 18446744073709551616 }
-    requires linked { (k : ℕ) → k < length lits.now → Has (list_at rings.old (pack (slice_index_or lits.now k no_lit))) (start + k) }
+    requires linked { (k : ℕ) → k < length lits.now
+        → Has (list_at rings.old (pack (slice_index_or lits.now k no_lit))) (start + k) }
     ensures unlinked { IsUnlinkedUpto rings.old rings.new start (length lits.now) }
     ensures owners { rings.new.owners ≡ rings.old.owners }
     ensures heads { length rings.new.lists ≡ length rings.old.lists }

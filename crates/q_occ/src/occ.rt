@@ -47,7 +47,8 @@ impl Occ {
     /// Each place is in one list at most, and once, and places are small numbers.
     pub fn distinct(&self)
         ensures apart { (l : Literal) → AreApart (places_of self.now l) }
-        ensures one { (l m : Literal) (p : ℕ) → Has (places_of self.now l) p → Has (places_of self.now m) p → l ≡ m }
+        ensures one { (l m : Literal) (p : ℕ) → Has (places_of self.now l) p
+            → Has (places_of self.now m) p → l ≡ m }
         ensures few { length self.now.owners < 4294967296 }
     {
         self.rings.distinct();
@@ -60,7 +61,8 @@ impl Occ {
         requires reserved { IsReserved self.old arena.now id }
         ensures linked { IsLinking self.old self.new arena.now id }
         ensures kept { KeepsRoom self.old self.new }
-        ensures exact { (linked : ℕ → Bool) → AreExact self.old arena.now linked → AreExact self.new arena.now (with_linked id true linked) }
+        ensures exact { (linked : ℕ → Bool) → AreExact self.old arena.now linked
+            → AreExact self.new arena.now (with_linked id true linked) }
     {
         arena.apart();
         link_all(&mut self.rings, arena.start(id), arena.lits(id), id);
@@ -72,7 +74,8 @@ impl Occ {
         requires linked { IsLinked self.old arena.now id }
         ensures unlinked { IsUnlinking self.old self.new arena.now id }
         ensures kept { KeepsRoom self.old self.new }
-        ensures exact { (linked : ℕ → Bool) → AreExact self.old arena.now linked → AreExact self.new arena.now (with_linked id false linked) }
+        ensures exact { (linked : ℕ → Bool) → AreExact self.old arena.now linked
+            → AreExact self.new arena.now (with_linked id false linked) }
     {
         arena.apart();
         unlink_all(&mut self.rings, arena.start(id), arena.lits(id));
@@ -92,8 +95,10 @@ impl Occ {
     /// The place after one of a list.
     pub fn next(&self, place: usize) -> Option<usize>
         requires { (l : Literal) × Has (places_of self.now l) place }
-        ensures next { (l : Literal) → Has (places_of self.now l) place → result ≡ following place (places_of self.now l) }
-        ensures there { (l : Literal) (p : ℕ) → Has (places_of self.now l) place → result ≡ Some p → Has (places_of self.now l) p }
+        ensures next { (l : Literal) → Has (places_of self.now l) place
+            → result ≡ following place (places_of self.now l) }
+        ensures there { (l : Literal) (p : ℕ) → Has (places_of self.now l) place → result ≡ Some p
+            → Has (places_of self.now l) p }
     {
         self.rings.next(place)
     }

@@ -11,8 +11,10 @@ use q_logic::Lit;
 pub fn first_missing(c: &[Lit], d: &[Lit], aside: &Option<Lit>) -> Option<Lit>
     requires ordered { ArePairs IsBelow c.now }
     requires other { ArePairs IsBelow d.now }
-    ensures some { (k : Literal) → result ≡ Some k → IsIn k c.now × (aside.now ≢ Some k) × (IsIn k d.now → ⊥) }
-    ensures none { result ≡ None → (k : Literal) → IsIn k c.now → aside.now ≢ Some k → IsIn k d.now }
+    ensures some { (k : Literal) → result ≡ Some k → IsIn k c.now × (aside.now ≢ Some k)
+        × (IsIn k d.now → ⊥) }
+    ensures none { result ≡ None → (k : Literal) → IsIn k c.now → aside.now ≢ Some k
+        → IsIn k d.now }
 {
     let mut at = 0;
     for k in c {

@@ -9,7 +9,8 @@ use q_logic::Lit;
 /// The place of the first literal from a place on that is not below k.
 pub fn skip_to(d: &[Lit], from: usize, k: Lit) -> usize
     requires { ArePairs IsBelow d.now }
-    ensures kept { (j : Literal) → pack k ≤ pack j → IsIn j (drop from d.now) → IsIn j (drop result d.now) }
+    ensures kept { (j : Literal) → pack k ≤ pack j → IsIn j (drop from d.now)
+        → IsIn j (drop result d.now) }
     ensures least { IsLeastFrom d.now result k }
 {
     for at in from..d.len() {

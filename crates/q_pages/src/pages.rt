@@ -122,7 +122,8 @@ impl<T: Copy> Pages<T> {
 fn fill<T: Copy>(items: &mut Vec<T>, none: T, end: usize) -> Result<(), NoMemory>
     ensures end { OnOk result (end ≤ length items.new.items) }
     ensures kept { length items.old.items ≤ length items.new.items }
-    ensures same { (i : ℕ) → slice_index_or items.new.items i none ≡ slice_index_or items.old.items i none }
+    ensures same { (i : ℕ) → slice_index_or items.new.items i none
+        ≡ slice_index_or items.old.items i none }
 {
     while items.len() < end {
         items.push(none)?;

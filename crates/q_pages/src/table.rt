@@ -65,7 +65,8 @@ impl PageTable {
 
     /// No two numbers have the same place, unless it is of page 0.
     pub fn distinct(&self)
-        ensures { (i j : ℕ) → 0 < page_of self.now i → place_in self.now i ≡ place_in self.now j → i ≡ j }
+        ensures { (i j : ℕ) → 0 < page_of self.now i → place_in self.now i ≡ place_in self.now j
+            → i ≡ j }
     {
         let _ = &self.pages;
     }
@@ -93,8 +94,10 @@ impl PageTable {
 pub(crate) fn extend(pages: &mut Vec<u32>, end: usize) -> Result<(), NoMemory>
     ensures end { OnOk result (end ≤ length pages.new.items) }
     ensures kept { length pages.old.items ≤ length pages.new.items }
-    ensures few { (length pages.new.items ≡ length pages.old.items) ⊎ (length pages.new.items ≡ end) }
-    ensures same { (k : ℕ) → slice_index_or pages.new.items k 0 ≡ slice_index_or pages.old.items k 0 }
+    ensures few { (length pages.new.items ≡ length pages.old.items)
+        ⊎ (length pages.new.items ≡ end) }
+    ensures same { (k : ℕ) → slice_index_or pages.new.items k 0
+        ≡ slice_index_or pages.old.items k 0 }
 {
     if pages.len() < end {
         pages.resize(end, 0)?;

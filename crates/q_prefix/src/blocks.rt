@@ -14,9 +14,11 @@ pub fn push(order: &mut Rings, marks: &mut Vec<Mark>, bound: Bound, rank: u32)
     requires prefix { IsPrefix order.old marks.old.items }
     requires absent { Has (list_at order.old 0) bound.var → ⊥ }
     requires reserved { bound.var < length marks.old.items }
-    requires before { IsRankBefore (rank_of marks.old.items) bound rank (bounds_of marks.old.items (list_at order.old 0)) }
+    requires before { IsRankBefore (rank_of marks.old.items) bound rank (bounds_of marks.old.items
+        (list_at order.old 0)) }
     ensures prefix { IsPrefix order.new marks.new.items }
-    ensures bounds { bounds_of marks.new.items (list_at order.new 0) ≡ bound ∷ bounds_of marks.old.items (list_at order.old 0) }
+    ensures bounds { bounds_of marks.new.items (list_at order.new 0)
+        ≡ bound ∷ bounds_of marks.old.items (list_at order.old 0) }
     ensures len { length marks.new.items ≡ length marks.old.items }
     ensures rank { rank_of marks.new.items bound.var ≡ rank }
 {
@@ -33,7 +35,8 @@ pub fn fill(order: &mut Rings, marks: &mut Vec<Mark>, bounds: &[Bound])
     requires prefix { IsPrefix order.old marks.old.items }
     requires empty { list_at order.old 0 ≡ [] }
     requires distinct { Distinct bounds.now }
-    requires reserved { (k : ℕ) (b : BoundValue) → slice_get bounds.now k ≡ Some b → b.var < length marks.old.items }
+    requires reserved { (k : ℕ) (b : BoundValue) → slice_get bounds.now k ≡ Some b
+        → b.var < length marks.old.items }
     requires few { length bounds.now ≤ 4294967295 }
     ensures prefix { IsPrefix order.new marks.new.items }
     ensures bounds { bounds_of marks.new.items (list_at order.new 0) ≡ bounds.now }
@@ -52,8 +55,12 @@ fn rank_before(bounds: &[Bound], place: usize, rank: u32) -> u32
     requires few { length bounds.now ≤ 4294967295 }
     requires above { place + 1 < length bounds.now → place + 1 ≤ rank }
     ensures low { place ≤ result }
-    ensures same { (b c : BoundValue) → slice_get bounds.now place ≡ Some b → slice_get bounds.now (place + 1) ≡ Some c → same_quant b.quant c.quant ≡ true → result ≡ rank }
-    ensures other { (b c : BoundValue) → slice_get bounds.now place ≡ Some b → slice_get bounds.now (place + 1) ≡ Some c → same_quant b.quant c.quant ≡ false → result ≡ place }
+    ensures same { (b c : BoundValue) → slice_get bounds.now place ≡ Some b
+        → slice_get bounds.now (place + 1) ≡ Some c → same_quant b.quant c.quant ≡ true
+        → result ≡ rank }
+    ensures other { (b c : BoundValue) → slice_get bounds.now place ≡ Some b
+        → slice_get bounds.now (place + 1) ≡ Some c → same_quant b.quant c.quant ≡ false
+        → result ≡ place }
 {
     if place + 1 < bounds.len() && same(bounds[place].quant, bounds[place + 1].quant) {
         rank
@@ -72,9 +79,12 @@ pub fn join_blocks(
 )
     requires { IsParted order.now marks.old.items before after }
     ensures len { length marks.new.items ≡ length marks.old.items }
-    ensures quant { (v : ℕ) → (mark_at marks.new.items v).quant ≡ (mark_at marks.old.items v).quant }
-    ensures bound { (v : ℕ) → (mark_at marks.new.items v).bound ≡ (mark_at marks.old.items v).bound }
-    ensures ranked { IsRanked (rank_of marks.new.items) (bounds_of marks.new.items (list_at order.now 0)) }
+    ensures quant { (v : ℕ) → (mark_at marks.new.items v).quant
+        ≡ (mark_at marks.old.items v).quant }
+    ensures bound { (v : ℕ) → (mark_at marks.new.items v).bound
+        ≡ (mark_at marks.old.items v).bound }
+    ensures ranked { IsRanked (rank_of marks.new.items) (bounds_of marks.new.items
+        (list_at order.now 0)) }
 {
     let Some(x) = before else { return };
     let Some(y) = after else { return };
@@ -99,7 +109,9 @@ pub fn join_blocks(
 fn is_smaller(order: &Rings, marks: &Vec<Mark>, x: usize, y: usize) -> bool
     requires before { Has (list_at order.now 0) x }
     requires after { Has (list_at order.now 0) y }
-    ensures { result ≡ nat_le (length (block_from (rank_of marks.now.items) x (ahead false (list_at order.now 0)))) (length (block_from (rank_of marks.now.items) y (ahead true (list_at order.now 0)))) }
+    ensures { result ≡ nat_le (length (block_from (rank_of marks.now.items) x
+        (ahead false (list_at order.now 0)))) (length (block_from (rank_of marks.now.items) y
+        (ahead true (list_at order.now 0)))) }
 {
     order.distinct();
     let mut before = x;
@@ -121,10 +133,15 @@ fn rename(order: &Rings, marks: &mut Vec<Mark>, start: usize, forward: bool, to:
     requires there { Has (list_at order.now 0) start }
     requires within { (v : ℕ) → Has (list_at order.now 0) v → v < length marks.old.items }
     ensures len { length marks.new.items ≡ length marks.old.items }
-    ensures quant { (v : ℕ) → (mark_at marks.new.items v).quant ≡ (mark_at marks.old.items v).quant }
-    ensures bound { (v : ℕ) → (mark_at marks.new.items v).bound ≡ (mark_at marks.old.items v).bound }
-    ensures block { (v : ℕ) → Has (block_from (rank_of marks.old.items) start (ahead forward (list_at order.now 0))) v → rank_of marks.new.items v ≡ to }
-    ensures others { (v : ℕ) → (Has (block_from (rank_of marks.old.items) start (ahead forward (list_at order.now 0))) v → ⊥) → rank_of marks.new.items v ≡ rank_of marks.old.items v }
+    ensures quant { (v : ℕ) → (mark_at marks.new.items v).quant
+        ≡ (mark_at marks.old.items v).quant }
+    ensures bound { (v : ℕ) → (mark_at marks.new.items v).bound
+        ≡ (mark_at marks.old.items v).bound }
+    ensures block { (v : ℕ) → Has (block_from (rank_of marks.old.items) start
+        (ahead forward (list_at order.now 0))) v → rank_of marks.new.items v ≡ to }
+    ensures others { (v : ℕ) → (Has (block_from (rank_of marks.old.items) start
+        (ahead forward (list_at order.now 0))) v → ⊥) → rank_of marks.new.items v
+        ≡ rank_of marks.old.items v }
 {
     order.distinct();
     let mut at = Some(start);

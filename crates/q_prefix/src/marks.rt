@@ -43,7 +43,8 @@ pub fn mark_of(marks: &Vec<Mark>, var: usize) -> Mark
 pub fn grow_marks(marks: &mut Vec<Mark>, room: usize) -> Result<(), NoMemory>
     ensures room { OnOk result (room ≤ length marks.new.items) }
     ensures kept { length marks.old.items ≤ length marks.new.items }
-    ensures exact { (length marks.new.items ≡ length marks.old.items) ⊎ (length marks.new.items ≡ room) }
+    ensures exact { (length marks.new.items ≡ length marks.old.items)
+        ⊎ (length marks.new.items ≡ room) }
     ensures same { (v : ℕ) → mark_at marks.new.items v ≡ mark_at marks.old.items v }
 {
     if marks.len() < room {
@@ -63,8 +64,10 @@ pub fn grow_marks(marks: &mut Vec<Mark>, room: usize) -> Result<(), NoMemory>
 pub fn set_rank(marks: &mut Vec<Mark>, var: usize, rank: u32)
     requires { var < length marks.old.items }
     ensures len { length marks.new.items ≡ length marks.old.items }
-    ensures quant { (v : ℕ) → (mark_at marks.new.items v).quant ≡ (mark_at marks.old.items v).quant }
-    ensures bound { (v : ℕ) → (mark_at marks.new.items v).bound ≡ (mark_at marks.old.items v).bound }
+    ensures quant { (v : ℕ) → (mark_at marks.new.items v).quant
+        ≡ (mark_at marks.old.items v).quant }
+    ensures bound { (v : ℕ) → (mark_at marks.new.items v).bound
+        ≡ (mark_at marks.old.items v).bound }
     ensures rank { rank_of marks.new.items var ≡ rank }
     ensures others { (v : ℕ) → v ≢ var → rank_of marks.new.items v ≡ rank_of marks.old.items v }
 {

@@ -28,7 +28,11 @@ impl Model for Prefix {
 
     ghost Value = { FlatPrefix };
 
-    ghost view = { λ p. record { bounds = bounds_of p.marks.items (list_at p.order 0); spare = p.spare; greatest = length p.marks.items - 1 } };
+    ghost view = { λ p. record {
+      bounds = bounds_of p.marks.items (list_at p.order 0);
+      spare = p.spare;
+      greatest = length p.marks.items - 1;
+    } };
 
     ghost invariant = { λ p. IsPrefix p.order p.marks.items };
 }
@@ -167,7 +171,8 @@ impl Prefix {
         requires reserved { v ≤ self.old.greatest }
         requires present { is_bound self.old.bounds w ≡ true }
         requires spare { 1 ≤ self.old.spare }
-        ensures bounds { (q : Quantifier) → quant_of self.old.bounds w ≡ Some q → self.new.bounds ≡ with_after (record { quant = q; var = v }) w self.old.bounds }
+        ensures bounds { (q : Quantifier) → quant_of self.old.bounds w ≡ Some q
+            → self.new.bounds ≡ with_after (record { quant = q; var = v }) w self.old.bounds }
         ensures spare { self.old.spare ≡ self.new.spare + 1 }
         ensures greatest { self.new.greatest ≡ self.old.greatest }
     {
@@ -197,7 +202,8 @@ impl Prefix {
 // The variable after one of the list.
 fn next_of(order: &Rings, at: Option<usize>) -> Option<usize>
     requires { (v : ℕ) → at ≡ Some v → Has (list_at order.now 0) v }
-    ensures { (i : ℕ) → at ≡ slice_get (list_at order.now 0) i → result ≡ slice_get (list_at order.now 0) (i + 1) }
+    ensures { (i : ℕ) → at ≡ slice_get (list_at order.now 0) i
+        → result ≡ slice_get (list_at order.now 0) (i + 1) }
 {
     order.distinct();
     let var = at?;

@@ -69,7 +69,8 @@ fn follow(
     hints: &[usize],
     trail: &mut Trail,
 ) -> Result<bool, NoMemory>
-    ensures { IfOk result (λ yes. IsTrue yes ↔ Follows (without clauses.now.slots skip) trail.old hints.now) }
+    ensures { IfOk result (λ yes. IsTrue yes ↔ Follows (without clauses.now.slots skip) trail.old
+        hints.now) }
 {
     for i in 0..hints.len() {
         let Some(clause) = clause_at(clauses, skip, hints[i]) else {
@@ -92,7 +93,8 @@ pub fn chained(
     hints: &[usize],
     trail: &mut Trail,
 ) -> Result<bool, NoMemory>
-    ensures { IfOk result (λ yes. IsTrue yes ↔ Chained (without clauses.now.slots skip) lits.now hints.now) }
+    ensures { IfOk result (λ yes. IsTrue yes ↔ Chained (without clauses.now.slots skip) lits.now
+        hints.now) }
 {
     trail.truncate(0);
     if assume(trail, lits)? {

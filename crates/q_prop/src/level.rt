@@ -33,7 +33,9 @@ pub fn query_each(
     requires covered { IsCovered watched.old }
     ensures same { trail.new ≡ trail.old }
     ensures moved { IsMoved trail.old watched.old watched.new }
-    ensures exact { IfOk result (λ yes. IsTrue yes ↔ AreImplied (filled (without watched.old.clauses.slots level.now.skip)) level.now.lits.now tails.now) }
+    ensures exact { IfOk result (λ yes. IsTrue yes
+        ↔ AreImplied (filled (without watched.old.clauses.slots level.now.skip)) level.now.lits.now
+        tails.now) }
 {
     let root = trail.len();
     let result = search_each(watched, level, trail, tails);
@@ -52,7 +54,9 @@ fn search_each(
     requires covered { IsCovered watched.old }
     ensures longer { IsLonger trail.old trail.new }
     ensures moved { IsMoved trail.old watched.old watched.new }
-    ensures exact { IfOk result (λ yes. IsTrue yes ↔ AreImplied (filled (without watched.old.clauses.slots level.now.skip)) level.now.lits.now tails.now) }
+    ensures exact { IfOk result (λ yes. IsTrue yes
+        ↔ AreImplied (filled (without watched.old.clauses.slots level.now.skip)) level.now.lits.now
+        tails.now) }
 {
     let root = trail.len();
     if assume(trail, level.lits)? {
@@ -75,7 +79,9 @@ fn each_above(
     requires covered { IsCovered watched.old }
     ensures same { trail.new ≡ trail.old }
     ensures moved { IsMoved trail.old watched.old watched.new }
-    ensures exact { IfOk result (λ yes. IsTrue yes ↔ AreImplied (filled (without watched.old.clauses.slots level.now.skip)) level.now.lits.now tails.now) }
+    ensures exact { IfOk result (λ yes. IsTrue yes
+        ↔ AreImplied (filled (without watched.old.clauses.slots level.now.skip)) level.now.lits.now
+        tails.now) }
 {
     for i in 0..tails.len() {
         if !is_above(watched, level, trail, tails.tail(i))? {
@@ -96,7 +102,9 @@ fn is_above(
     requires covered { IsCovered watched.old }
     ensures same { trail.new ≡ trail.old }
     ensures moved { IsMoved trail.old watched.old watched.new }
-    ensures exact { IfOk result (λ yes. IsTrue yes ↔ Implied (filled (without watched.old.clauses.slots level.now.skip)) (level.now.lits.now ++ tail.now)) }
+    ensures exact { IfOk result (λ yes. IsTrue yes
+        ↔ Implied (filled (without watched.old.clauses.slots level.now.skip)) (level.now.lits.now
+        ++ tail.now)) }
 {
     let base = trail.len();
     let result = search_above(watched, level, trail, tail);
@@ -115,7 +123,9 @@ fn search_above(
     requires covered { IsCovered watched.old }
     ensures longer { IsLonger trail.old trail.new }
     ensures moved { IsMoved trail.old watched.old watched.new }
-    ensures exact { IfOk result (λ yes. IsTrue yes ↔ Implied (filled (without watched.old.clauses.slots level.now.skip)) (level.now.lits.now ++ tail.now)) }
+    ensures exact { IfOk result (λ yes. IsTrue yes
+        ↔ Implied (filled (without watched.old.clauses.slots level.now.skip)) (level.now.lits.now
+        ++ tail.now)) }
 {
     let base = trail.len();
     if assume(trail, tail)? {

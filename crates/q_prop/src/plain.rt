@@ -31,7 +31,8 @@ fn look(
     trail: &mut Trail,
     hints: &mut Vec<usize>,
 ) -> Result<Find, NoMemory>
-    ensures { IfOk result (IsFind (without clauses.now.slots skip) at trail.old hints.old.items trail.new hints.new.items) }
+    ensures { IfOk result (IsFind (without clauses.now.slots skip) at trail.old hints.old.items
+        trail.new hints.new.items) }
 {
     let Some(clause) = clause_at(clauses, skip, at) else {
         return Ok(Find::Quiet);
@@ -61,7 +62,8 @@ fn pass(
     hints: &mut Vec<usize>,
 ) -> Result<Find, NoMemory>
     requires { HasOpposites trail.old → ⊥ }
-    ensures { IfOk result (IsPass (without clauses.now.slots skip) trail.old hints.old.items trail.new hints.new.items) }
+    ensures { IfOk result (IsPass (without clauses.now.slots skip) trail.old hints.old.items
+        trail.new hints.new.items) }
 {
     let mut grown = false;
     for at in 0..clauses.len() {
@@ -89,7 +91,8 @@ fn search(
 ) -> Result<bool, NoMemory>
     requires consistent { HasOpposites trail.old → ⊥ }
     requires empty { hints.old.items ≡ [] }
-    ensures { IfOk result (IsExplained (without clauses.now.slots skip) trail.old trail.new hints.new.items) }
+    ensures { IfOk result (IsExplained (without clauses.now.slots skip) trail.old trail.new
+        hints.new.items) }
 {
     let mut grown = true;
     while grown {
@@ -110,9 +113,11 @@ pub fn explain_plainly(
     trail: &mut Trail,
     hints: &mut Vec<usize>,
 ) -> Result<bool, NoMemory>
-    ensures exact { IfOk result (λ yes. IsTrue yes ↔ Implied (filled (without clauses.now.slots skip)) lits.now) }
+    ensures exact { IfOk result (λ yes. IsTrue yes
+        ↔ Implied (filled (without clauses.now.slots skip)) lits.now) }
     ensures shown { IfOk result (λ yes.
-        MatchBool yes (Chained (without clauses.now.slots skip) lits.now hints.new.items) (hints.new.items ≡ [])) }
+        MatchBool yes (Chained (without clauses.now.slots skip) lits.now hints.new.items)
+        (hints.new.items ≡ [])) }
 {
     hints.clear();
     trail.truncate(0);

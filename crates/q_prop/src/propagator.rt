@@ -257,7 +257,8 @@ impl Propagator {
     ) -> Result<bool, NoMemory>
         requires { IsSupport self.old skip support }
         ensures same { self.new ≡ self.old }
-        ensures exact { IfOk result (λ yes. IsTrue yes ↔ Implied (filled (without self.old skip)) lits.now) }
+        ensures exact { IfOk result (λ yes. IsTrue yes
+            ↔ Implied (filled (without self.old skip)) lits.now) }
     {
         if let Support::Alone(lit) = support {
             return self.implied_alone(lits, skip, lit);
@@ -328,7 +329,8 @@ impl Propagator {
     ) -> Result<bool, NoMemory>
         requires { (at : ℕ) × (skip ≡ Some at) × IsAlone self.old at lit }
         ensures same { self.new ≡ self.old }
-        ensures exact { IfOk result (λ yes. IsTrue yes ↔ Implied (filled (without self.old skip)) lits.now) }
+        ensures exact { IfOk result (λ yes. IsTrue yes
+            ↔ Implied (filled (without self.old skip)) lits.now) }
     {
         if self.root.conflict {
             return self.implied_refuted(lits, skip, lit);
@@ -345,7 +347,8 @@ impl Propagator {
     ) -> Result<bool, NoMemory>
         requires { (at : ℕ) × (skip ≡ Some at) × IsApart self.old at lit }
         ensures same { self.new ≡ self.old }
-        ensures exact { IfOk result (λ yes. IsTrue yes ↔ Implied (filled (without self.old skip)) lits.now) }
+        ensures exact { IfOk result (λ yes. IsTrue yes
+            ↔ Implied (filled (without self.old skip)) lits.now) }
     {
         let complete = self.root.is_complete();
         if !complete || !self.root.trail.has(lit) {
@@ -377,7 +380,8 @@ impl Propagator {
     ) -> Result<bool, NoMemory>
         requires { (at : ℕ) × (skip ≡ Some at) × IsAlone self.old at lit }
         ensures same { self.new ≡ self.old }
-        ensures exact { IfOk result (λ yes. IsTrue yes ↔ Implied (filled (without self.old skip)) lits.now) }
+        ensures exact { IfOk result (λ yes. IsTrue yes
+            ↔ Implied (filled (without self.old skip)) lits.now) }
     {
         if !self.root.conflict || !self.root.trail.has(lit) {
             return self.implied_anew(lits, skip);
@@ -388,7 +392,8 @@ impl Propagator {
     // Whether the literals are implied, with the root found anew.
     fn implied_anew(&mut self, lits: &[Lit], skip: Option<usize>) -> Result<bool, NoMemory>
         ensures same { self.new ≡ self.old }
-        ensures exact { IfOk result (λ yes. IsTrue yes ↔ Implied (filled (without self.old skip)) lits.now) }
+        ensures exact { IfOk result (λ yes. IsTrue yes
+            ↔ Implied (filled (without self.old skip)) lits.now) }
     {
         self.root.head = 0;
         self.root.done = 0;
@@ -405,7 +410,8 @@ impl Propagator {
 
     /// The place of a slot in the list of those that hold a literal of its clause, the nth.
     pub fn place_in(&self, list: &[u32], slot: u32, nth: usize) -> Option<usize>
-        ensures { MatchOption result (Contains list.now slot → ⊥) (λ place. slice_get list.now place ≡ Some slot) }
+        ensures { MatchOption result (Contains list.now slot → ⊥) (λ place. slice_get list.now place
+            ≡ Some slot) }
     {
         self.watched.clauses.place_in(list, slot, nth)
     }
@@ -469,7 +475,8 @@ impl Propagator {
 // answers whether the rest stands without the slot.
 fn loosen(clauses: &Clauses, at: usize, trail: &mut Trail, support: Support, settled: bool) -> bool
     requires support { IsSupport clauses.now.slots (Some at) support }
-    requires units { (l : Literal) → support ≡ Apart l → IsTrue settled → AreUnitsKnown clauses.now.slots at trail.old }
+    requires units { (l : Literal) → support ≡ Apart l → IsTrue settled
+        → AreUnitsKnown clauses.now.slots at trail.old }
     ensures { IsTrue result → IsLoosened clauses.now.slots at trail.old trail.new settled }
 {
     if let Support::Alone(lit) = support {
@@ -500,7 +507,8 @@ fn unlist(
     slot: u32,
     done: usize,
 ) -> usize
-    requires paired { (p : Pair) → slice_get clauses.now.pairs slot ≡ Some (Some p) → Contains singles.old.items slot →
+    requires paired { (p : Pair) → slice_get clauses.now.pairs slot ≡ Some (Some p)
+        → Contains singles.old.items slot →
         ⊥ }
     requires done { done ≤ length singles.old.items }
     ensures lost { IsLost slot singles.old.items singles.new.items }

@@ -150,7 +150,8 @@ impl Store {
     /// Whether the literals are implied by propagation, over the clauses of all slots but one.
     pub fn implied(&mut self, lits: &[Lit], skip: Option<usize>) -> Result<bool, NoMemory>
         ensures same { self.new ≡ self.old }
-        ensures exact { IfOk result (λ yes. IsTrue yes ↔ Implied (filled (without self.old skip)) lits.now) }
+        ensures exact { IfOk result (λ yes. IsTrue yes
+            ↔ Implied (filled (without self.old skip)) lits.now) }
     {
         if self.propagator.is_refuted(skip) {
             return Ok(true);
@@ -171,7 +172,8 @@ impl Store {
         skip: Option<usize>,
     ) -> Result<bool, NoMemory>
         ensures same { self.new ≡ self.old }
-        ensures exact { IfOk result (λ yes. IsTrue yes ↔ AreImplied (filled (without self.old skip)) lits.now tails.now) }
+        ensures exact { IfOk result (λ yes. IsTrue yes
+            ↔ AreImplied (filled (without self.old skip)) lits.now tails.now) }
     {
         if tails.len() == 0 {
             return Ok(true);
@@ -194,7 +196,8 @@ impl Store {
         skip: Option<usize>,
     ) -> Result<bool, NoMemory>
         ensures same { self.new ≡ self.old }
-        ensures exact { IfOk result (λ yes. IsTrue yes ↔ AreImplied (filled (without self.old skip)) lits.now tails.now) }
+        ensures exact { IfOk result (λ yes. IsTrue yes
+            ↔ AreImplied (filled (without self.old skip)) lits.now tails.now) }
     {
         let mut joined = Vec::new(self.alloc);
         for i in 0..tails.len() {
@@ -217,7 +220,8 @@ impl Store {
         slots: &[usize],
     ) -> Result<bool, NoMemory>
         ensures same { self.new ≡ self.old }
-        ensures exact { IfOk result (λ yes. IsTrue yes ↔ Chained (without self.old skip) lits.now slots.now) }
+        ensures exact { IfOk result (λ yes. IsTrue yes
+            ↔ Chained (without self.old skip) lits.now slots.now) }
     {
         chained(
             self.propagator.clauses(),
@@ -238,9 +242,11 @@ impl Store {
         slots: &mut Vec<usize>,
     ) -> Result<bool, NoMemory>
         ensures same { self.new ≡ self.old }
-        ensures exact { IfOk result (λ yes. IsTrue yes ↔ Implied (filled (without self.old skip)) lits.now) }
+        ensures exact { IfOk result (λ yes. IsTrue yes
+            ↔ Implied (filled (without self.old skip)) lits.now) }
         ensures shown { IfOk result (λ yes.
-            MatchBool yes (Chained (without self.old skip) lits.now slots.new.items) (slots.new.items ≡ [])) }
+            MatchBool yes (Chained (without self.old skip) lits.now slots.new.items)
+            (slots.new.items ≡ [])) }
     {
         slots.clear();
         if !self.implied_noted(lits, skip)? {
@@ -262,7 +268,8 @@ impl Store {
     // Whether the literals are implied; where they are, slots that may show it are gathered.
     fn implied_noted(&mut self, lits: &[Lit], skip: Option<usize>) -> Result<bool, NoMemory>
         ensures same { self.new ≡ self.old }
-        ensures exact { IfOk result (λ yes. IsTrue yes ↔ Implied (filled (without self.old skip)) lits.now) }
+        ensures exact { IfOk result (λ yes. IsTrue yes
+            ↔ Implied (filled (without self.old skip)) lits.now) }
     {
         self.note_hints(true)?;
         let answer = self.implied(lits, skip)?;
@@ -357,7 +364,8 @@ impl Store {
     }
 
     fn is_given(&self, other: Lit, lit: Lit, at: usize, clause: &[Lit]) -> bool
-        ensures { IsTrue result → other ≢ lit → Contains clause.now other ⊎ IsUnitBeside self.now at (negation other) }
+        ensures { IsTrue result → other ≢ lit → Contains clause.now other
+            ⊎ IsUnitBeside self.now at (negation other) }
     {
         if other.is(lit) || is_among(clause, other) {
             return true;
@@ -409,7 +417,8 @@ impl Store {
     }
 
     fn is_true_beside(&self, clause: &[Lit], at: usize) -> bool
-        ensures { IsTrue result → (k : Literal) × Contains clause.now k × IsUnitBeside self.now at k }
+        ensures { IsTrue result → (k : Literal) × Contains clause.now k
+            × IsUnitBeside self.now at k }
     {
         for lit in clause {
             if self.is_unit_beside(at, *lit) {

@@ -21,7 +21,8 @@ pub enum Support {
 
 /// What is left of a support where the literals of unit clauses may not all be known.
 pub fn without_units(support: Support) -> Support
-    ensures kept { (s : Slots) (skip : Option ℕ) → IsSupport s skip support → IsSupport s skip result }
+    ensures kept { (s : Slots) (skip : Option ℕ) → IsSupport s skip support
+        → IsSupport s skip result }
     ensures none { (l : Literal) → result ≡ Apart l → ⊥ }
 {
     match support {

@@ -149,7 +149,8 @@ impl Trail {
 
 // The place of a literal, looked for first at the given one.
 fn place_of(lits: &[Lit], lit: Lit, guess: usize) -> Option<usize>
-    ensures { MatchOption result (Contains lits.now lit → ⊥) (λ place. slice_get lits.now place ≡ Some lit) }
+    ensures { MatchOption result (Contains lits.now lit → ⊥) (λ place. slice_get lits.now place
+        ≡ Some lit) }
 {
     if is_at(lits, lit, guess) {
         return Some(guess);
@@ -184,7 +185,8 @@ fn make_room(
     lit: Lit,
 ) -> Result<(), NoMemory>
     ensures room { OnOk result (pack lit < vec_len marks.new) }
-    ensures same { (k : ℕ) → slice_index_or marks.new.items k false ≡ slice_index_or marks.old.items k false }
+    ensures same { (k : ℕ) → slice_index_or marks.new.items k false
+        ≡ slice_index_or marks.old.items k false }
 {
     let end = lit.index() + 1;
     if marks.len() < end {

@@ -75,7 +75,8 @@ impl Queue {
 
 fn make_room(marks: &mut Vec<bool>, lit: Lit) -> Result<(), NoMemory>
     ensures room { OnOk result (pack lit < vec_len marks.new) }
-    ensures same { (k : ℕ) → slice_index_or marks.new.items k false ≡ slice_index_or marks.old.items k false }
+    ensures same { (k : ℕ) → slice_index_or marks.new.items k false
+        ≡ slice_index_or marks.old.items k false }
 {
     let end = lit.index() + 1;
     if marks.len() < end {

@@ -36,7 +36,8 @@ pub trait Rules: Drop {
     ) -> Result<bool, NoMemory>
         requires ready { IsReady kernel.now }
         requires fit { IsFitFor kernel.now self.old }
-        ensures yes { IfOk result (λ yes. IsTrue yes ↔ Applies bounds.now kernel.now (target_of target.now)) }
+        ensures yes { IfOk result (λ yes. IsTrue yes ↔ Applies bounds.now kernel.now
+            (target_of target.now)) }
         ensures fit { IsFitFor kernel.now self.new };
 
     /// Takes a target exactly where it applies. Room is reserved before the first step, so then no step can fail.
@@ -48,7 +49,8 @@ pub trait Rules: Drop {
     ) -> Result<Taken, NoMemory>
         requires ready { IsReady kernel.old }
         requires fit { IsFitFor kernel.old self.old }
-        ensures tries { IfOk result (Tries bounds.now kernel.old kernel.new (target_of target.now)) }
+        ensures tries { IfOk result (Tries bounds.now kernel.old kernel.new
+            (target_of target.now)) }
         ensures err { OnErr result (SameView kernel.old kernel.new) }
         ensures fit { IsFitFor kernel.new self.new };
 
@@ -73,7 +75,8 @@ pub trait Rules: Drop {
         bounds: &Bounds,
     ) -> Result<Taken, NoMemory>
         requires ready { IsReady kernel.old }
-        ensures tries { IfOk result (Tries bounds.now kernel.old kernel.new (target_of target.now)) }
+        ensures tries { IfOk result (Tries bounds.now kernel.old kernel.new
+            (target_of target.now)) }
         ensures err { OnErr result (SameView kernel.old kernel.new) }
     {
         Self::new(alloc).take(kernel, target, bounds)

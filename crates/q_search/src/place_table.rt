@@ -47,7 +47,8 @@ impl PlaceTable {
 
 // Writes what is told of a variable; those between are told the end.
 fn put(row: &mut Vec<usize>, var: u32, place: usize, end: usize) -> Result<(), NoMemory>
-    ensures { OnOk result ((v : ℕ) → slice_index_or row.new.items v end ≡ (if v == var then place else slice_index_or row.old.items v end)) }
+    ensures { OnOk result ((v : ℕ) → slice_index_or row.new.items v end ≡ (if v == var then place
+        else slice_index_or row.old.items v end)) }
 {
     let at = var as usize;
     if at >= row.len() {

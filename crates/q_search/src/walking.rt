@@ -25,12 +25,14 @@ pub trait Position {
     /// Gives the next variable a value.
     fn down(&mut self, value: bool) -> Result<(), NoMemory>
         requires { IsInner (seen self.old) }
-        ensures ok { OnOk result (seen self.new ≡ moved (seen self.old) ((seen self.old).path ++ value ∷ [])) }
+        ensures ok { OnOk result (seen self.new ≡ moved (seen self.old) ((seen self.old).path
+            ++ value ∷ [])) }
         ensures kept { Keeps self.old self.new };
 
     /// Takes the last value back, and tells it with the quantifier of its variable.
     fn up(&mut self) -> Option<(Quant, bool)>
-        ensures last { MatchOption result (((seen self.old).path ≡ []) × (seen self.new ≡ seen self.old))
+        ensures last { MatchOption result (((seen self.old).path ≡ [])
+            × (seen self.new ≡ seen self.old))
             (λ p. IsLast (seen self.old) (seen self.new) p.0 p.1) }
         ensures kept { Keeps self.old self.new };
 

@@ -60,7 +60,8 @@ fn slot_literal(
     requires room { length made.now.gates.items ≡ length draft.now.gates }
     ensures { MatchOption (look_at slots.now.definitions.items slot)
         (result ≡ row_literal inputs.now (owner_at slots.now.owners.items slot))
-        (λ l. operand_of result ≡ copied_operand draft.now.inputs made.now.slots.items made.now.gates.items (operand_of l)) }
+        (λ l. operand_of result ≡ copied_operand draft.now.inputs made.now.slots.items
+        made.now.gates.items (operand_of l)) }
 {
     match slots.definitions[slot] {
         Some(lit) => translate(draft, &made.slots, &made.gates, lit),

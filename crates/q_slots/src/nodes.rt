@@ -36,7 +36,8 @@ fn filled_source(aig: &Aig, count: u32, filled: Option<u64>) -> Source
 }
 
 fn gate_of(left: Source, right: Source) -> Gate
-    ensures { parts_of (gate_view result) ≡ (part_of (source_view left), part_of (source_view right)) }
+    ensures { parts_of (gate_view result)
+        ≡ (part_of (source_view left), part_of (source_view right)) }
 {
     let left = Operand {
         source: left,
@@ -59,7 +60,8 @@ fn push_slots(
     requires few { count + length aig.now.gates < 2 ^ 32 }
     requires literals { AreLiterals aig.now definitions.now }
     requires none { nodes.old.items ≡ [] }
-    ensures { OnOk result (AreSlotNodes aig.now count definitions.now (length definitions.now) (gates_view nodes.new.items)) }
+    ensures { OnOk result (AreSlotNodes aig.now count definitions.now (length definitions.now)
+        (gates_view nodes.new.items)) }
 {
     for slot in 0..definitions.len() {
         let left = filled_source(aig, count, definitions[slot]);
@@ -71,7 +73,8 @@ fn push_slots(
 // A node for each gate.
 fn push_gates(aig: &Aig, count: u32, nodes: &mut Vec<Gate>) -> Result<(), NoMemory>
     requires few { count + length aig.now.gates < 2 ^ 32 }
-    ensures { OnOk result (AreGateNodes aig.now count (gates_view nodes.old.items) (length aig.now.gates)
+    ensures { OnOk result (AreGateNodes aig.now count (gates_view nodes.old.items)
+        (length aig.now.gates)
         (gates_view nodes.new.items)) }
 {
     for gate in 0..aig.gates() {

@@ -47,7 +47,8 @@ fn build_all(
     requires at { InputsAt aig.old inputs.now (λ x. is_there (look_at inputs.now x)) }
     requires nothing { AreBuilt draft.now aig.old aig.old slots.now made.old order.now 0 }
     requires order { IsOrdered draft.now slots.now order.now }
-    ensures { OnOk result (AreBuilt draft.now aig.old aig.new slots.now made.new order.now (length order.now)) }
+    ensures { OnOk result (AreBuilt draft.now aig.old aig.new slots.now made.new order.now
+        (length order.now)) }
 {
     // for the proof: the contract of this call says that this is a graph
     draft.inputs();

@@ -61,7 +61,8 @@ pub fn renew(
 ) -> Result<u64, NoMemory>
     requires slots { AreSlots aig.old slots.old }
     requires there { var < length slots.old.current.items }
-    ensures { IfOk result (IsRenewed aig.old aig.new circuits.old.items circuits.new.items slots.old slots.new var) }
+    ensures { IfOk result (IsRenewed aig.old aig.new circuits.old.items circuits.new.items slots.old
+        slots.new var) }
 {
     let Ok(name) = u32::try_from(slots.definitions.len()) else {
         return Err(NoMemory);
@@ -80,7 +81,8 @@ pub fn fill(slots: &mut Slots, slot: usize, lit: u64)
     requires { slot < length slots.old.definitions.items }
     ensures current { slots.new.current ≡ slots.old.current }
     ensures owners { slots.new.owners ≡ slots.old.owners }
-    ensures definitions { slots.new.definitions.items ≡ slice_set slots.old.definitions.items slot (Some lit) }
+    ensures definitions { slots.new.definitions.items ≡ slice_set slots.old.definitions.items slot
+        (Some lit) }
 {
     slots.definitions[slot] = Some(lit);
 }

@@ -55,7 +55,8 @@ impl Circuits {
     pub fn pass(&mut self, last: Decision) -> Result<bool, NoMemory>
         requires { CanPass last.bound.quant last.value last.bound.var last.depth self.old }
         ensures second { IfOk result (λ more. more ≡ has_second last.bound.quant last.value true) }
-        ensures passed { OnOk result (IsPassed last.bound.quant last.value last.bound.var last.depth self.old self.new) }
+        ensures passed { OnOk result (IsPassed last.bound.quant last.value last.bound.var last.depth
+            self.old self.new) }
     {
         match (last.bound.quant, last.value) {
             (Quant::Exists, false) => Ok(false),

@@ -11,7 +11,8 @@ use q_logic::NoMemory;
 /// Climbs from a node that is won; whether a node is left to look at.
 pub fn climb_won(node: &mut Node, circuits: &mut Circuits) -> Result<bool, NoMemory>
     requires { IsWonAt circuits.old (walk_of node.old) }
-    ensures turned { IfOk result (λ more. IsTurned (walk_of node.old) (walk_of node.new) true more) }
+    ensures turned { IfOk result (λ more. IsTurned (walk_of node.old) (walk_of node.new) true
+        more) }
     ensures circuits { IfOk result (λ more. IsWonOr circuits.new (walk_of node.new) more) }
     ensures same { OnOk result (walk_of node.new ≡ moved (walk_of node.old) node.new.path) }
 {
@@ -27,7 +28,8 @@ pub fn climb_won(node: &mut Node, circuits: &mut Circuits) -> Result<bool, NoMem
 /// Climbs from a node that is lost; whether a node is left to look at.
 pub fn climb_lost(node: &mut Node, circuits: &mut Circuits) -> Result<bool, NoMemory>
     requires { IsLostAt circuits.old (walk_of node.old) }
-    ensures turned { IfOk result (λ more. IsTurned (walk_of node.old) (walk_of node.new) false more) }
+    ensures turned { IfOk result (λ more. IsTurned (walk_of node.old) (walk_of node.new) false
+        more) }
     ensures circuits { IfOk result (λ more. IsLostOr circuits.new (walk_of node.new) more) }
 {
     while let Some(last) = node.take_back() {

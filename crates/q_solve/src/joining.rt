@@ -38,7 +38,8 @@ pub fn join(
     requires first { IsRow (suc universal.depth) first.now }
     requires second_in { AreIn aig.old second.now }
     requires first_in { AreIn aig.old first.now }
-    ensures { IfOk result (IsJoined aig.old aig.new universal.lit (suc universal.depth) second.now first.now) }
+    ensures { IfOk result (IsJoined aig.old aig.new universal.lit (suc universal.depth) second.now
+        first.now) }
 {
     let mut joined = Picks::new(aig.allocator());
     let mut second_at = 0;

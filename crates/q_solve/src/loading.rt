@@ -26,7 +26,8 @@ fn count_clause(prefix: &[Bound], places: &PlaceTable, clause: &[Lit]) -> Count
     requires places { ArePlaces prefix.now places.now }
     requires within { Within prefix.now clause.now }
     requires ordered { ArePairs IsBelow clause.now }
-    ensures { result ≡ count_of (standing (rest_of prefix.now []) (along prefix.now [] nothing)) clause.now }
+    ensures { result ≡ count_of (standing (rest_of prefix.now []) (along prefix.now [] nothing))
+        clause.now }
 {
     let mut count = Count {
         trues: 0,
@@ -51,7 +52,8 @@ fn enter(
     requires places { ArePlaces prefix.now places.now }
     requires within { Within prefix.now clause.now }
     ensures { OnOk result ((k : Literal) → is_bound prefix.now k.var ≡ true → (i : ℕ) →
-        times i (row_of prefix.now sides.new k) ≡ times i (row_of prefix.now sides.old k) + if_so (eqb at i) (times_in k clause.now)) }
+        times i (row_of prefix.now sides.new k) ≡ times i (row_of prefix.now sides.old k) + if_so
+        (eqb at i) (times_in k clause.now)) }
 {
     for lit in clause {
         let place = places.place(lit.var());

@@ -60,7 +60,8 @@ impl<'a> Node<'a> {
 
     /// What the clauses say of the node.
     pub fn look(&self) -> Verdict
-        ensures value { result ≡ verdict_spec self.now.formula.matrix (unset self.now) (values self.now) }
+        ensures value { result ≡ verdict_spec self.now.formula.matrix (unset self.now)
+            (values self.now) }
         ensures open { result ≡ Open → length self.now.path < length self.now.formula.prefix }
     {
         self.counts.verdict()
@@ -69,7 +70,10 @@ impl<'a> Node<'a> {
     /// Gives the next variable a value.
     pub fn give(&mut self, value: bool) -> Result<(), NoMemory>
         requires { length self.old.path < length self.old.formula.prefix }
-        ensures ok { OnOk result (self.new ≡ record { formula = self.old.formula; path = self.old.path ++ value ∷ [] }) }
+        ensures ok { OnOk result (self.new ≡ record {
+          formula = self.old.formula;
+          path = self.old.path ++ value ∷ [];
+        }) }
         ensures err { OnErr result (self.new ≡ self.old) }
     {
         let place = self.path.len();
@@ -82,7 +86,8 @@ impl<'a> Node<'a> {
 
     /// Takes the last decision back.
     pub fn take_back(&mut self) -> Option<Decision>
-        ensures { MatchOption result ((self.old.path ≡ []) × (self.new ≡ self.old)) (λ d. IsLast self.old self.new d) }
+        ensures { MatchOption result ((self.old.path ≡ []) × (self.new ≡ self.old))
+            (λ d. IsLast self.old self.new d) }
     {
         let depth = self.path.len();
         let value = self.path.pop()?;

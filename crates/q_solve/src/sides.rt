@@ -32,7 +32,8 @@ impl Sides {
     pub fn enter(&mut self, place: usize, negative: bool, clause: usize) -> Result<(), NoMemory>
         requires { place < 18446744073709551615 }
         ensures { OnOk result ((n : Bool) (k : ℕ) → row_at (side self.new n) k ≡
-            cond (bool_eq n negative && eqb k place) (row_at (side self.old n) k ++ clause ∷ []) (row_at (side self.old n) k)) }
+            cond (bool_eq n negative && eqb k place) (row_at (side self.old n) k ++ clause ∷ [])
+            (row_at (side self.old n) k)) }
     {
         if negative {
             self.negative.push(place, clause)
@@ -45,7 +46,8 @@ impl Sides {
 /// What is known of a variable changes, and with it the counts of the clauses that hold it.
 pub fn change(sides: &Sides, counts: &mut Counts, place: usize, from: Known, to: Known)
     requires { IsAt sides.now counts.old place from }
-    ensures { (t : IsAt sides.now counts.old place from) → AreCounts t.formula.matrix (turned t.variable to t.known) counts.new }
+    ensures { (t : IsAt sides.now counts.old place from)
+        → AreCounts t.formula.matrix (turned t.variable to t.known) counts.new }
 {
     counts.shift(sides.positive.row(place), from.positive, to.positive);
     counts.shift(sides.negative.row(place), from.negative, to.negative);

@@ -15,7 +15,9 @@ use std::alloc::Global;
 
 // Enters an existential.
 fn enter(table: &mut Vec<Option<u64>>, bound: Bound, lit: u64) -> Result<(), NoMemory>
-    ensures { OnOk result ((x : ℕ) → look_at table.new.items x ≡ (if is_exists bound.quant && (x == bound.var) then Some lit else look_at table.old.items x)) }
+    ensures { OnOk result ((x : ℕ) → look_at table.new.items x
+        ≡ (if is_exists bound.quant && (x == bound.var) then Some lit
+        else look_at table.old.items x)) }
 {
     match bound.quant {
         Quant::Forall => Ok(()),

@@ -8,7 +8,8 @@ use q_logic::NoMemory;
 pub fn put_number(text: &mut Vec<u8>, number: i64) -> Result<(), NoMemory>
     ensures ok { OnOk result (text.new.items ≡ text.old.items ++ signed_decimal number) }
     ensures err { OnErr result (text.new.items ≡ text.old.items) }
-    ensures room { vec_len text.old + length (signed_decimal number) ≤ vec_capacity text.old → IsOk result }
+    ensures room { vec_len text.old + length (signed_decimal number) ≤ vec_capacity text.old
+        → IsOk result }
     ensures capacity { vec_capacity text.old ≤ vec_capacity text.new }
 {
     let mut buffer = Buffer::new();

@@ -70,7 +70,8 @@ impl Tokens {
     #[inline(always)]
     pub fn push(&mut self, byte: u8) -> Option<Token>
         requires { line_of self.old < 2 ^ 64 - 1 }
-        ensures next { (rest : List ℕ) → to_come self.old (byte ∷ rest) ≡ listed result ++ to_come self.new rest }
+        ensures next { (rest : List ℕ) → to_come self.old (byte ∷ rest) ≡ listed result
+            ++ to_come self.new rest }
         ensures ended { listed result ≡ (if is_separator byte then to_come self.old [] else []) }
         ensures line { line_of self.new ≡ line_of self.old + (if byte == 10 then 1 else 0) }
         ensures state { self.new ≡ after self.old byte }
@@ -120,7 +121,8 @@ impl Tokens {
     /// The literal that stands whole at the front of the piece, with a space behind it, if it does so.
     #[inline(always)]
     pub fn literal(&self, piece: &[u8]) -> Option<LiteralWord>
-        ensures goes { IfSome result (λ w. Goes self.now (behind_literal self.now) piece.now (w.len + 1)
+        ensures goes { IfSome result (λ w. Goes self.now (behind_literal self.now) piece.now
+            (w.len + 1)
             (Some (literal_token w.lit (line_of self.now)))) }
         ensures positive { IfSome result (λ w. 1 ≤ w.lit.var) }
     {
@@ -142,7 +144,8 @@ impl Tokens {
     #[inline(always)]
     #[tactic(auto, using(crate::proofs::BytePieces::zero_goes))]
     pub fn zero(&self, piece: &[u8]) -> bool
-        ensures { result ≡ true → Goes self.now (behind_zero self.now) piece.now 2 (Some (zero_token (line_of self.now))) }
+        ensures { result ≡ true → Goes self.now (behind_zero self.now) piece.now 2
+            (Some (zero_token (line_of self.now))) }
     {
         self.shape.may_begin() && piece.len() >= 2 && piece[0] == b'0' && piece[1] == b'\n'
     }

@@ -26,7 +26,8 @@ fn plain_known(aig: &Aig, path: &[bool], row: &[Known], lit: u64) -> Known
     requires there { IsThere (length aig.now.inputs) (length row.now) (operand_of lit).node }
     requires row { AreTold aig.now path.now row.now }
     ensures { Tells result (λ m. known_along aig.now.inputs (path.now ++ path_to m)
-        (node_tree aig.now.inputs (gate_trees aig.now.inputs [] aig.now.gates) (operand_of lit).node)) }
+        (node_tree aig.now.inputs (gate_trees aig.now.inputs [] aig.now.gates)
+        (operand_of lit).node)) }
 {
     match aig.node(lit) {
         Node::Constant => Known::value(false),
@@ -47,7 +48,8 @@ pub fn literal_known(aig: &Aig, path: &[bool], row: &[Known], lit: u64) -> Known
     requires lit { IsLiteral aig.now lit }
     requires there { IsThere (length aig.now.inputs) (length row.now) (operand_of lit).node }
     requires row { AreTold aig.now path.now row.now }
-    ensures { Tells result (λ m. known_along aig.now.inputs (path.now ++ path_to m) (tree_at aig.now lit)) }
+    ensures { Tells result (λ m. known_along aig.now.inputs (path.now ++ path_to m)
+        (tree_at aig.now lit)) }
 {
     plain_known(aig, path, row, lit).signed(is_negated(lit))
 }

@@ -45,9 +45,14 @@ impl<'a> Model for Node<'a> {
 
     ghost Value = { Spot };
 
-    ghost view = { λ n. record { formula = n.formula.now; certificate = n.certificate.now; path = n.path.items } };
+    ghost view = { λ n. record {
+      formula = n.formula.now;
+      certificate = n.certificate.now;
+      path = n.path.items;
+    } };
 
-    ghost invariant = { λ n. IsStand n.formula.now n.certificate.now n.circuits.items n.places n.path.items n.block };
+    ghost invariant = { λ n. IsStand n.formula.now n.certificate.now n.circuits.items n.places
+        n.path.items n.block };
 }
 
 // The inputs as a prefix of universals.
@@ -91,9 +96,15 @@ impl<'a> Node<'a> {
         certificate: &'a Certificate,
         circuits: Vec<Option<u64>>,
     ) -> Result<Node<'a>, NoMemory>
-        requires circuits { AreCircuits (net_of certificate.now) (trees_of certificate.now) circuits.items }
-        requires trees { (x : ℕ) → given (trees_of certificate.now x) ≡ is_existential formula.now.prefix x }
-        ensures { IfOk result (λ n. n ≡ record { formula = formula.now; certificate = certificate.now; path = [] }) }
+        requires circuits { AreCircuits (net_of certificate.now) (trees_of certificate.now)
+            circuits.items }
+        requires trees { (x : ℕ) → given (trees_of certificate.now x)
+            ≡ is_existential formula.now.prefix x }
+        ensures { IfOk result (λ n. n ≡ record {
+          formula = formula.now;
+          certificate = certificate.now;
+          path = [];
+        }) }
     {
         let prefix = universals(alloc, certificate.aig().inputs())?;
         let places = PlaceTable::of(alloc, &prefix)?;
@@ -164,7 +175,11 @@ impl<'a> Node<'a> {
 
     fn give(&mut self, value: bool) -> Result<(), NoMemory>
         requires { length self.old.path < length self.old.certificate.inputs }
-        ensures ok { OnOk result (self.new ≡ record { formula = self.old.formula; certificate = self.old.certificate; path = self.old.path ++ value ∷ [] }) }
+        ensures ok { OnOk result (self.new ≡ record {
+          formula = self.old.formula;
+          certificate = self.old.certificate;
+          path = self.old.path ++ value ∷ [];
+        }) }
         ensures err { OnErr result (self.new ≡ self.old) }
     {
         self.path.push(value)?;
@@ -173,7 +188,11 @@ impl<'a> Node<'a> {
 
     fn take_back(&mut self) -> Option<bool>
         ensures { MatchOption result ((self.old.path ≡ []) × (self.new ≡ self.old))
-            (λ v. (self.old ≡ record { formula = self.new.formula; certificate = self.new.certificate; path = self.new.path ++ v ∷ [] })
+            (λ v. (self.old ≡ record {
+              formula = self.new.formula;
+              certificate = self.new.certificate;
+              path = self.new.path ++ v ∷ [];
+            })
             × (length self.new.path < length self.new.certificate.inputs)) }
     {
         let value = self.path.pop()?;

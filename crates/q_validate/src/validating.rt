@@ -33,7 +33,8 @@ pub fn validate(
     ensures unchanged { certificate.new ≡ certificate.old }
     ensures fits { OnOk result (Fits formula.now.prefix certificate.old) }
     ensures answer { IfOk result (λ a. IsAnswer formula.now certificate.old budget a) }
-    ensures few { branches (claim_of formula.now certificate.old) < 2 ^ length certificate.old.inputs }
+    ensures few { branches (claim_of formula.now certificate.old)
+        < 2 ^ length certificate.old.inputs }
     ensures refused { IfErr result (IsRefused formula.now certificate.old) }
 {
     branches_are_few();

@@ -86,7 +86,8 @@ impl Known {
     }
 
     pub fn signed(self, negative: bool) -> Known
-        ensures { (f : ℕ → Option Bool) → Tells self f → Tells result (λ m. known_signed negative (f m)) }
+        ensures { (f : ℕ → Option Bool) → Tells self f
+            → Tells result (λ m. known_signed negative (f m)) }
     {
         if negative {
             return Known {
@@ -98,7 +99,8 @@ impl Known {
     }
 
     pub fn and(self, other: Known) -> Known
-        ensures { (f g : ℕ → Option Bool) → Tells self f → Tells other g → Tells result (λ m. known_both (f m) (g m)) }
+        ensures { (f g : ℕ → Option Bool) → Tells self f → Tells other g
+            → Tells result (λ m. known_both (f m) (g m)) }
     {
         Known {
             zero: self.zero | other.zero,

@@ -16,7 +16,8 @@ impl<'a> Node<'a> {
     // What is known of a literal that has no circuit: one of no input counts as 0.
     fn input_literal(&self, path: &[bool], lit: Lit) -> Known
         requires { is_existential self.now.formula.prefix lit.var ≡ false }
-        ensures { Tells result (λ m. literal_along (claim_at self.now) (path.now ++ path_to m) lit) }
+        ensures { Tells result (λ m. literal_along (claim_at self.now) (path.now ++ path_to m)
+            lit) }
     {
         match self.place(lit.var()) {
             Some(place) => input_known(path, place).signed(lit.negative()),
@@ -29,14 +30,16 @@ impl<'a> Node<'a> {
         requires row { IsRow self.now.certificate path.now row.now }
         requires there { IsLiteral (net_of self.now.certificate) circuit }
         ensures { Tells result (λ m. known_signed lit.negative
-            (known_along self.now.certificate.inputs (path.now ++ path_to m) (tree_at (net_of self.now.certificate) circuit))) }
+            (known_along self.now.certificate.inputs (path.now ++ path_to m)
+            (tree_at (net_of self.now.certificate) circuit))) }
     {
         literal_known(self.certificate.aig(), path, row, circuit).signed(lit.negative())
     }
 
     fn literal(&self, path: &[bool], row: &[Known], lit: Lit) -> Known
         requires { IsRow self.now.certificate path.now row.now }
-        ensures { Tells result (λ m. literal_along (claim_at self.now) (path.now ++ path_to m) lit) }
+        ensures { Tells result (λ m. literal_along (claim_at self.now) (path.now ++ path_to m)
+            lit) }
     {
         match look(&self.circuits, lit.var()) {
             Some(circuit) => self.circuit_literal(path, row, lit, circuit),
@@ -47,8 +50,12 @@ impl<'a> Node<'a> {
     // Where all literals of a clause are 0, and where some literal is 1.
     fn clause_known(&self, path: &[bool], row: &[Known], clause: &[Lit]) -> Known
         requires { IsRow self.now.certificate path.now row.now }
-        ensures zeros { Marks result.zero (λ m. all_zero (claim_at self.now) (unset self.now.certificate.inputs (path.now ++ path_to m)) (values self.now.certificate.inputs (path.now ++ path_to m)) clause.now) }
-        ensures ones { Marks result.one (λ m. has_one (claim_at self.now) (unset self.now.certificate.inputs (path.now ++ path_to m)) (values self.now.certificate.inputs (path.now ++ path_to m)) clause.now) }
+        ensures zeros { Marks result.zero (λ m. all_zero (claim_at self.now)
+            (unset self.now.certificate.inputs (path.now ++ path_to m))
+            (values self.now.certificate.inputs (path.now ++ path_to m)) clause.now) }
+        ensures ones { Marks result.one (λ m. has_one (claim_at self.now)
+            (unset self.now.certificate.inputs (path.now ++ path_to m))
+            (values self.now.certificate.inputs (path.now ++ path_to m)) clause.now) }
     {
         let mut all = Known {
             zero: u64::MAX,
@@ -75,7 +82,8 @@ impl<'a> Node<'a> {
     // Whether the literal at a place is missing, and a later one is its negation.
     fn repeats(&self, clause: &[Lit], at: usize) -> bool
         requires { at < length clause.now }
-        ensures { both_missing_spec (claim_at self.now) (drop at clause.now) ≡ (result || both_missing_spec (claim_at self.now) (drop (at + 1) clause.now)) }
+        ensures { both_missing_spec (claim_at self.now) (drop at clause.now)
+            ≡ (result || both_missing_spec (claim_at self.now) (drop (at + 1) clause.now)) }
     {
         let lit = clause[at];
         let later = &clause[at + 1..];
@@ -96,7 +104,8 @@ impl<'a> Node<'a> {
     /// What is said of a clause.
     pub fn clause_told(&self, path: &[bool], row: &[Known], clause: &[Lit]) -> Told
         requires { IsRow self.now.certificate path.now row.now }
-        ensures { TellsVerdict result (λ m. clause_along (claim_at self.now) (path.now ++ path_to m) clause.now) }
+        ensures { TellsVerdict result (λ m. clause_along (claim_at self.now) (path.now ++ path_to m)
+            clause.now) }
     {
         if self.both_missing(clause) {
             return Told {
@@ -114,7 +123,8 @@ impl<'a> Node<'a> {
     /// What is said of the formula.
     pub fn formula_told(&self, path: &[bool], row: &[Known]) -> Told
         requires { IsRow self.now.certificate path.now row.now }
-        ensures { TellsVerdict result (λ m. verdict_along (claim_at self.now) (path.now ++ path_to m)) }
+        ensures { TellsVerdict result (λ m. verdict_along (claim_at self.now)
+            (path.now ++ path_to m)) }
     {
         let mut told = Told {
             lost: 0,

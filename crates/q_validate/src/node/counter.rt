@@ -35,7 +35,8 @@ impl<'a> Node<'a> {
     // Whether a clause is false at the node itself.
     fn is_false(&self, row: &[Known], clause: &[Lit]) -> bool
         requires { IsRow self.now.certificate self.now.path row.now }
-        ensures { result ≡ is_false_spec (clause_along (claim_at self.now) self.now.path clause.now) }
+        ensures { result ≡ is_false_spec (clause_along (claim_at self.now) self.now.path
+            clause.now) }
     {
         is_set(self.clause_told(&self.path, row, clause).lost, 1)
     }
@@ -43,7 +44,8 @@ impl<'a> Node<'a> {
     // The first false clause, or the empty one.
     fn first_false(&self, row: &[Known]) -> &[Lit]
         requires { IsRow self.now.certificate self.now.path row.now }
-        ensures { result.now ≡ first_false_spec (claim_at self.now) (node_of self.now) self.now.formula.matrix }
+        ensures { result.now ≡ first_false_spec (claim_at self.now)
+            (node_of self.now) self.now.formula.matrix }
     {
         for i in 0..self.formula.clauses() {
             let clause = self.formula.clause(i);
@@ -56,7 +58,8 @@ impl<'a> Node<'a> {
 
     // The value of a universal: as an input, or so that the clause is false.
     fn counter_value(&self, clause: &[Lit], var: u32) -> bool
-        ensures { result ≡ cond (is_input (claim_at self.now) var) (values self.now.certificate.inputs self.now.path var) (denial_spec clause.now var) }
+        ensures { result ≡ cond (is_input (claim_at self.now) var)
+            (values self.now.certificate.inputs self.now.path var) (denial_spec clause.now var) }
     {
         match self.place(var) {
             Some(place) => value_or_zero(&self.path, place),
@@ -68,7 +71,9 @@ impl<'a> Node<'a> {
     fn push_value(&self, lits: &mut Lits, clause: &[Lit], bound: Bound) -> Result<(), NoMemory>
         requires positive { 1 ≤ bound.var }
         requires small { bound.var < 2 ^ 31 }
-        ensures { OnOk result (lits.new ≡ lits.old ++ true_literals (bound ∷ []) (λ v. cond (is_input (claim_at self.now) v) (values self.now.certificate.inputs self.now.path v) (denial_spec clause.now v))) }
+        ensures { OnOk result (lits.new ≡ lits.old ++ true_literals (bound ∷ [])
+            (λ v. cond (is_input (claim_at self.now) v)
+            (values self.now.certificate.inputs self.now.path v) (denial_spec clause.now v))) }
     {
         match bound.quant {
             Quant::Exists => Ok(()),
@@ -81,7 +86,8 @@ impl<'a> Node<'a> {
 
     /// The literals of the universals that are true where the first false clause is false.
     pub fn counter(&self, alloc: Global) -> Result<Lits, NoMemory>
-        ensures { IfOk result (λ lits. lits ≡ true_literals self.now.formula.prefix (counter_at (claim_at self.now) (node_of self.now))) }
+        ensures { IfOk result (λ lits. lits ≡ true_literals self.now.formula.prefix
+            (counter_at (claim_at self.now) (node_of self.now))) }
     {
         let mut row = Vec::new(alloc);
         fill(self.certificate.aig(), &self.path, &mut row)?;
