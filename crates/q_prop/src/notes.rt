@@ -26,7 +26,7 @@ pub struct Notes {
 }
 
 impl Notes {
-    pub fn new(alloc: Global) -> Notes {
+    pub(crate) fn new(alloc: Global) -> Notes {
         Notes {
             wanted: false,
             hints: Vec::new(alloc),
@@ -35,7 +35,7 @@ impl Notes {
         }
     }
 
-    pub fn want(&mut self, wanted: bool) {
+    pub(crate) fn want(&mut self, wanted: bool) {
         self.wanted = wanted;
         if wanted {
             self.hints.clear();
@@ -43,19 +43,19 @@ impl Notes {
     }
 
     /// One slot shows it alone.
-    pub fn tell(&mut self, slot: usize) {
+    pub(crate) fn tell(&mut self, slot: usize) {
         if self.wanted {
             self.hints.clear();
             let _ = self.hints.push(slot);
         }
     }
 
-    pub fn hints(&self) -> &[usize] {
+    pub(crate) fn hints(&self) -> &[usize] {
         &self.hints
     }
 
     /// Gathers the slots, from the one that the trail noted as falsified. Without memory they are not all there.
-    pub fn gather(&mut self, clauses: &Clauses, trail: &Trail) {
+    pub(crate) fn gather(&mut self, clauses: &Clauses, trail: &Trail) {
         if !self.wanted || trail.conflict() == NO_SLOT {
             return;
         }

@@ -79,7 +79,7 @@ impl Propagator {
     }
 
     /// Slots that may show the last yes. They are tried before they are used.
-    pub fn hints(&self) -> &[usize] {
+    pub(crate) fn hints(&self) -> &[usize] {
         self.notes.hints()
     }
 
@@ -110,7 +110,7 @@ impl Propagator {
     }
 
     /// The slot that was last noted with an empty clause.
-    pub fn empty_slot(&self) -> usize {
+    pub(crate) fn empty_slot(&self) -> usize {
         self.root.empty
     }
 
@@ -225,7 +225,7 @@ impl Propagator {
     }
 
     /// Whether the literal is known at the root, as far as that is found.
-    pub fn knows(&self, lit: Lit) -> bool {
+    pub(crate) fn knows(&self, lit: Lit) -> bool {
         self.root.trail.has(lit)
     }
 

@@ -48,7 +48,7 @@ impl Trail {
 
     /// The slot whose clause may have forced the literal. It is looked at before it is used: a wrong one costs
     /// time alone.
-    pub fn reason(&self, lit: Lit) -> usize {
+    pub(crate) fn reason(&self, lit: Lit) -> usize {
         self.reasons.get(lit.index())
     }
 
@@ -69,7 +69,7 @@ impl Trail {
     }
 
     /// The slot whose clause may be falsified.
-    pub fn conflict(&self) -> usize {
+    pub(crate) fn conflict(&self) -> usize {
         self.conflict
     }
 

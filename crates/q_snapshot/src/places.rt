@@ -14,7 +14,7 @@ pub struct Places {
 }
 
 impl Places {
-    pub fn new(alloc: Global) -> Places {
+    pub(crate) fn new(alloc: Global) -> Places {
         Places {
             alloc,
             pages: Vec::new(alloc),
@@ -22,14 +22,14 @@ impl Places {
     }
 
     /// The number that was noted last.
-    pub fn of(&self, lit: Lit) -> usize {
+    pub(crate) fn of(&self, lit: Lit) -> usize {
         match self.pages.get(lit.index() / PAGE) {
             Some(page) => page.get(lit.index() % PAGE).copied().unwrap_or(0),
             None => 0,
         }
     }
 
-    pub fn note(&mut self, lit: Lit, number: usize) -> Result<(), NoMemory> {
+    pub(crate) fn note(&mut self, lit: Lit, number: usize) -> Result<(), NoMemory> {
         let at = lit.index() / PAGE;
         for _ in self.pages.len()..at + 1 {
             self.pages.push(Vec::new(self.alloc))?;
