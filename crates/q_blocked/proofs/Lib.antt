@@ -12,6 +12,7 @@ pub mod HiddenLiterals
 pub mod CoveredLiterals
 pub mod ReachedSets
 pub mod SetGrowth
+pub mod AskedPlaces
 pub mod CoverPass
 pub mod DecidedPlan
 pub mod HiddenClosure

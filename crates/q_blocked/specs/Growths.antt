@@ -1,6 +1,6 @@
 -- Sets that grow.
-use Rattle.std.specs.Prelude.{◌≡◌, ◌≤◌, ℕ, Bool, true, false, List, ◌++◌, length, take, Option, Some}
-use Rattle.q_logic.specs.Prelude.{Literal, Clause, Matrix, Prefix, IsIn, is_existential, Implied, IsSubset, IsTautology, Within, slot, others}
+use Rattle.std.specs.Prelude.{◌≡◌, ◌≢◌, ◌↔◌, ◌⊎◌, ◌<◌, ◌≤◌, ℕ, Bool, true, false, List, ◌++◌, length, take, slice_get, Option, Some}
+use Rattle.q_logic.specs.Prelude.{Literal, negation, Clause, Matrix, Prefix, IsIn, is_existential, Implied, IsSubset, IsTautology, Within, slot, others}
 use Rattle.q_logic.specs.Covering.{Covers}
 use Rattle.q_kernel.specs.Prelude.{Seen, slots}
 use Rattle.q_blocked.specs.declared.growth.Growth.{Growth}
@@ -40,9 +40,25 @@ pub record IsCovered (P : Prefix) (X : Matrix) (C S : Clause) (ss : List Stage) 
   pub way : IsWay P X S (length C) ss base
   pub goes : MayGo P X (front S base) last
 
+-- a literal that came hidden: the other literals of a clause with its negation are in S
+pub record IsGiven (X : Matrix) (S : Clause) (l : Literal) : Type 0 where
+  pub giver : Clause
+  pub there : IsIn giver X
+  pub negated : IsIn (negation l) giver
+  pub others_in : (j : Literal) → IsIn j giver → j ≢ negation l → IsIn j S
+
+-- each literal of S came hidden, or stands at a place of a list
+pub record IsAsked (X : Matrix) (S : Clause) (places : List ℕ) : Type 0 where
+  pub inside : (i : ℕ) → IsIn i places → i < length S
+  pub each : (l : Literal) → IsIn l S → ((i : ℕ) × IsIn i places × (slice_get S i ≡ Some l)) ⊎ IsGiven X S l
+
+-- the places from one to another have come to a list
+abbrev pub HasPlaces : List ℕ → ℕ → ℕ → List ℕ → Type 0
+HasPlaces old from to new = (i : ℕ) → IsIn i new ↔ (IsIn i old ⊎ ((from ≤ i) × (i < to)))
+
 -- so for the clause of an id of a kernel
 abbrev pub Growing : Seen → ℕ → Growth → Type 0
-Growing k c g = (C : Clause) × (slot (slots k) c ≡ Some C) × IsGrowing k.prefix (others c (slots k)) C g.set g.plan.stages.items g.base g.worked
+Growing k c g = (C : Clause) × (slot (slots k) c ≡ Some C) × IsGrowing k.prefix (others c (slots k)) C g.set g.plan.stages.items g.base g.worked × IsAsked (others c (slots k)) g.set g.asked.items
 
 abbrev pub Covered : Seen → ℕ → Growth → Type 0
 Covered k c g = (C : Clause) × (slot (slots k) c ≡ Some C) × IsCovered k.prefix (others c (slots k)) C g.set g.plan.stages.items g.base g.plan.last
@@ -73,7 +89,7 @@ IsPassive P X S l = is_existential P l.var ≡ true → CoversNothing P X l S
 abbrev pub HasLooked : Seen → ℕ → (Literal → Type 0) → Growth → Growth → Progress → Type 0
 HasLooked k c Q old new Ended = Covered k c new
 HasLooked k c Q old new Grown = Growing k c new
-HasLooked k c Q old new Unchanged = Growing k c new × (new.set ≡ old.set) × (new.worked ≡ old.worked) × ((l : Literal) → Q l → IsPassive k.prefix (others c (slots k)) old.set l)
+HasLooked k c Q old new Unchanged = Growing k c new × (new.set ≡ old.set) × (new.worked ≡ old.worked) × ((l : Literal) → Q l → IsPassive k.prefix (others c (slots k)) old.set l) × (new.asked.items ≡ old.asked.items)
 
 -- literals that are in no S are covered by S on l
 pub record CoveredBy (P : Prefix) (X : Matrix) (S : Clause) (K : List Literal) (l : Literal) : Type 0 where

@@ -13,11 +13,15 @@
 //! (`q_logic/proofs/CoverRun.antt`): what stops one order of growing stops every order.
 //!
 //! **How it is found.** The set is a list with marks. The list of each literal is walked once for hidden literals,
-//! when its turn comes; then each literal is looked at for covered ones, until a pass over the set finds none. The
-//! clauses of one literal come last, since no list leads to them, and only where nothing else ended the growth.
+//! when its turn comes; then each literal that did not come hidden is looked at for covered ones, until a pass over
+//! them finds none. The clauses of one literal come last, since no list leads to them, and only where nothing else ended the growth.
+//!
+//! On a literal l that came hidden nothing is covered. The clause that gave it holds `not l`, and its other literals are in the
+//! set: so it does not clash, and has nothing else to give. It is one of the kernel's, which does not change while a set
+//! grows, and the set only grows, so this stays so.
 //!
 //! Most looks find nothing, and for the reason of the last look, at this clause or at one before. So it is noted and
-//! asked first: the clause that gave a hidden literal, on which nothing is covered then (`reasons.rt`), two clauses with `not l` that have nothing in common beyond the set (`pairs.rt`), the place in a long
+//! asked first: two clauses with `not l` that have nothing in common beyond the set (`pairs.rt`), the place in a long
 //! clause of a literal whose negation is in the set (`nothing_hidden.rt`). What is noted is tested each time, so it may be out of
 //! date.
 //!
@@ -44,11 +48,10 @@ ghost use Rattle.q_blocked.specs.Units.{AreRight};
 ghost use Rattle.q_blocked.specs.Plans.{IsPlanFor};
 
 use crate::covered::{covered_at, is_bare};
-use crate::growth::Growth;
+use crate::growth::{Growth, add_places};
 use crate::hidden::{close, use_units};
 use crate::pairs::covers_nothing;
 use crate::progress::Progress;
-use crate::reasons::is_given;
 use crate::search::Search;
 use q_kernel::{ClauseId, Kernel};
 use q_logic::{Lit, NoMemory};
@@ -106,11 +109,13 @@ fn cover_by(
 {
     kernel.sound();
     let l = growth.set.at(place);
+    let before = growth.set.len();
     push_all(&mut growth.set, &growth.found)?;
     if opposes(&growth.set, &growth.found) {
         growth.plan.last = Some(l);
         return Ok(Progress::Ended);
     }
+    add_places(&mut growth.asked, before, growth.set.len())?;
     growth.note(Some(l))?;
     Ok(Progress::Grown)
 }
@@ -129,10 +134,6 @@ fn cover_at(
 {
     let l = growth.set.at(place);
     if !is_existential(kernel, l.var()) {
-        return Ok(Progress::Unchanged);
-    }
-    let d = growth.reasons.of(place);
-    if is_given(kernel, &growth.set, c, d, l) {
         return Ok(Progress::Unchanged);
     }
     if covers_nothing(kernel, &growth.set, &growth.pairs, c, l) {
@@ -158,20 +159,22 @@ fn cover_at(
     cover_by(kernel, growth, c, place)
 }
 
-// Grows by the covered literals on each literal of the set, those that come included.
+// Grows by the covered literals on each literal of the set, those that come included. Those that came hidden are passed by:
+// nothing is covered on them.
 fn pass(kernel: &Kernel, growth: &mut Growth, c: ClauseId) -> Result<Progress, NoMemory>
     requires growing { Growing kernel.now c growth.old }
     ensures { IfOk result (HasLooked kernel.now c (λ l.
         IsIn l growth.old.set) growth.old growth.new) }
 {
     let mut grew = false;
-    for place in 0..usize::MAX {
-        if place >= growth.set.len() {
+    for at in 0..usize::MAX {
+        if at >= growth.asked.len() {
             if grew {
                 return Ok(Progress::Grown);
             }
             return Ok(Progress::Unchanged);
         }
+        let place = growth.asked[at];
         let progress = cover_at(kernel, growth, c, place)?;
         if progress.is_ended() {
             return Ok(Progress::Ended);

@@ -1,12 +1,12 @@
 //! A set of literals that grows, and the stages at which its clause is made larger.
-ghost use Rattle.std.specs.Prelude.{◌≡◌, ◌<◌, ◌∷◌, ◌++◌, [], length, OnOk};
+ghost use Rattle.std.specs.Prelude.{◌≡◌, ◌<◌, ◌≤◌, ◌∷◌, ◌++◌, [], length, OnOk};
+ghost use Rattle.q_blocked.specs.Growths.{HasPlaces};
 
 use crate::clashing::fill;
 use crate::covered::Spare;
 use crate::nothing_hidden::Hints;
 use crate::pairs::Pairs;
 use crate::plan::{Plan, Stage};
-use crate::reasons::Reasons;
 use q_logic::{Lit, NoMemory};
 use q_rule::Queue;
 use std::alloc::Global;
@@ -31,8 +31,8 @@ pub struct Growth {
     pub pairs: Pairs,
     /// Literals that showed so that nothing is hidden.
     pub hints: Hints,
-    /// Clauses that gave hidden literals.
-    pub reasons: Reasons,
+    /// The places of the literals that did not come hidden. On the others nothing is covered.
+    pub asked: Vec<usize>,
 }
 
 impl Growth {
@@ -49,7 +49,7 @@ impl Growth {
             spare: Spare::new(alloc),
             pairs: Pairs::new(alloc),
             hints: Hints::new(alloc),
-            reasons: Reasons::new(alloc),
+            asked: Vec::new(alloc),
         }
     }
 
@@ -59,12 +59,14 @@ impl Growth {
         ensures stages { OnOk result (self.new.plan.stages.items ≡ []) }
         ensures base { OnOk result (self.new.base ≡ length clause.now) }
         ensures worked { OnOk result (self.new.worked ≡ 0) }
+        ensures asked { OnOk result (HasPlaces [] 0 (length clause.now) self.new.asked.items) }
     {
         fill(&mut self.set, clause)?;
         self.plan.stages.clear();
         self.base = clause.len();
         self.worked = 0;
-        Ok(())
+        self.asked.clear();
+        add_places(&mut self.asked, 0, clause.len())
     }
 
     /// Makes the set the clause of a stage.
@@ -76,6 +78,7 @@ impl Growth {
         ensures set { self.new.set ≡ self.old.set }
         ensures worked { self.new.worked ≡ self.old.worked }
         ensures found { self.new.found ≡ self.old.found }
+        ensures asked { self.new.asked ≡ self.old.asked }
     {
         let to = self.set.len();
         self.plan.stages.push(Stage { to, on })?;
@@ -91,6 +94,17 @@ impl Growth {
     {
         copy(&self.set, &mut self.plan.lits)
     }
+}
+
+/// Adds the places from one to another to a list.
+pub(crate) fn add_places(places: &mut Vec<usize>, from: usize, to: usize) -> Result<(), NoMemory>
+    requires { from ≤ to }
+    ensures { OnOk result (HasPlaces places.old.items from to places.new.items) }
+{
+    for place in from..to {
+        places.push(place)?;
+    }
+    Ok(())
 }
 
 fn copy(set: &Queue, lits: &mut Vec<Lit>) -> Result<(), NoMemory>

@@ -36,7 +36,7 @@ fn is_other_outside(set: &Queue, j: Lit, k: Lit) -> bool
 }
 
 // Whether all literals of the clause but one are in the set.
-pub(crate) fn others_in(clause: &[Lit], set: &Queue, k: Lit) -> bool
+fn others_in(clause: &[Lit], set: &Queue, k: Lit) -> bool
     ensures { IsTrue result ↔ ((j : Literal) → IsIn j clause.now → j ≢ k → IsIn j set.now) }
 {
     for j in clause {
@@ -102,9 +102,7 @@ pub(crate) fn give(
         growth.new) }
 {
     kernel.sound();
-    let place = growth.set.len();
     growth.set.push(new)?;
-    growth.reasons.note(place, d)?;
     if growth.set.has(new.negated()) {
         growth.plan.last = None;
         return Ok(true);

@@ -15,7 +15,6 @@ mod nothing_hidden;
 mod pairs;
 mod plan;
 mod progress;
-mod reasons;
 mod room;
 mod rules;
 mod search;

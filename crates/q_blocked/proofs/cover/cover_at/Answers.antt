@@ -39,21 +39,7 @@ returns-then-is_bare c =
       Rattle.std.proofs.Common.refl,
       Rattle.std.proofs.Common.refl,
       λ l e. subst (λ (j : Literal). IsPassive k.prefix X S j) (some-same c.at-l.result l (sym c.at-l.ensures ∙ e)) (passive k.prefix X S K c.at-l.result n h),
-    )
-
-pub is_given-requires : goal.is_given-requires
-is_given-requires c = c.requires.growing.2.consistent
-
-pub returns-then-is_given : goal.returns-then-is_given
-returns-then-is_given c =
-    let k = c.args.kernel.now in
-    let X = others c.args.c (slots k) in
-    let S : Clause = c.args.growth.now.set in
-    let h : CoversNothing k.prefix X c.at-l.result S = c.is_given.ensures c.if-is_given.true in (
-      c.requires.growing,
       Rattle.std.proofs.Common.refl,
-      Rattle.std.proofs.Common.refl,
-      λ l e. subst (λ (j : Literal). IsPassive k.prefix X S j) (some-same c.at-l.result l (sym c.at-l.ensures ∙ e)) (λ x. h),
     )
 
 pub returns-then-covers_nothing : goal.returns-then-covers_nothing
@@ -66,6 +52,7 @@ returns-then-covers_nothing c =
       Rattle.std.proofs.Common.refl,
       Rattle.std.proofs.Common.refl,
       λ l e. subst (λ (j : Literal). IsPassive k.prefix X S j) (some-same c.at-l.result l (sym c.at-l.ensures ∙ e)) (λ x. h),
+      Rattle.std.proofs.Common.refl,
     )
 
 pub cover_by-requires-clause-found : goal.cover_by-requires-clause-found

@@ -3,11 +3,12 @@ use Rattle.q_logic.specs.Prelude.{Literal, negation, Clause, IsIn, IsTautology, 
 use Rattle.q_logic.proofs.Common.{IsIn-append_right, test-false}
 use Rattle.q_kernel.specs.Prelude.{slots}
 use Rattle.q_blocked.specs.declared.plan.Stage.{Stage}
-use Rattle.q_blocked.specs.Growths.{IsGrowing, IsCovered}
+use Rattle.q_blocked.specs.Growths.{IsGrowing, IsAsked, HasPlaces, IsCovered}
 use Rattle.q_blocked.proofs.ClauseFronts.{take-in, place-front}
 use Rattle.q_blocked.proofs.CoveredLiterals.{covered-growth}
 use Rattle.q_blocked.proofs.ReachedSets.{covered-opposed}
 use Rattle.q_blocked.proofs.SetGrowth.{growing-covered, others-within}
+use Rattle.q_blocked.proofs.AskedPlaces.{asked-covered}
 use Rattle.q_blocked.proofs.cover.cover_by.Goals as goal
 
 pub returns-then-opposes : goal.returns-then-opposes
@@ -47,6 +48,10 @@ returns c =
     let n : (j : Literal) → IsIn j K → IsIn (negation j) (S ++ K) → ⊥ = λ j i x. test-false c.opposes.result c.opposes.ensures c.if-opposes.false (j, subst (λ (L : Clause). IsIn j L) (sym c.deref-2.ensures.value) i, subst (λ (T : Clause). IsIn (negation j) T) (sym e) x) in
     let z : ℕ = length (S ++ K) in
     let f : length c.push_all.new.set ≡ z = ap length e in
+    let places : HasPlaces g.asked.items (length S) z c.add_places.new.places.items =
+    subst (λ (n : ℕ). HasPlaces g.asked.items n z c.add_places.new.places.items) c.len-before.ensures
+    (subst (λ (n : ℕ). HasPlaces g.asked.items c.len-before.result n c.add_places.new.places.items) (c.len.ensures ∙ f) c.in_ok-add_places.ensures) in
+    let asked : new.asked.items ≡ c.add_places.new.places.items = ap (λ v. v.items) c.in_ok-note.ensures.asked in
     let stage : Stage = record { to = z; on = Some l } in
     let stages : new.plan.stages.items ≡ g.plan.stages.items ++ stage ∷ [] = c.in_ok-note.ensures.stages ∙ ap (λ (n : ℕ). g.plan.stages.items ++ record { to = n; on = Some l } ∷ []) f in (
       r.0,
@@ -56,4 +61,6 @@ returns c =
           (subst (λ (n : ℕ). IsGrowing k.prefix X r.0 (S ++ K) (g.plan.stages.items ++ stage ∷ []) n new.worked) (sym (c.in_ok-note.ensures.base ∙ f))
           (subst (λ (n : ℕ). IsGrowing k.prefix X r.0 (S ++ K) (g.plan.stages.items ++ stage ∷ []) z n) (sym c.in_ok-note.ensures.worked)
           (growing-covered k.prefix X r.0 S g.plan.stages.items g.base g.worked r.2 K (covered-growth k.prefix X l S q.some.0 K q.existential (take-in S g.base l m) q.some.1 q.looked) m (others-within k c.args.c c.sound.ensures) n)))),
+      subst (λ (T : Clause). IsAsked X T new.asked.items) (sym (c.in_ok-note.ensures.set ∙ e))
+          (subst (λ (xs : List ℕ). IsAsked X (S ++ K) xs) (sym asked) (asked-covered X S K g.asked.items c.add_places.new.places.items places r.3)),
     )

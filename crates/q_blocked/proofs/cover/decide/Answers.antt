@@ -3,9 +3,10 @@ use Rattle.q_logic.specs.Prelude.{Clause, others}
 use Rattle.q_kernel.specs.Prelude.{slots}
 use Rattle.q_logic.proofs.Common.{test-false}
 use Rattle.q_blocked.specs.declared.plan.Stage.{Stage}
-use Rattle.q_blocked.specs.Growths.{IsGrowing, IsCovered}
+use Rattle.q_blocked.specs.Growths.{IsGrowing, IsAsked, IsCovered}
 use Rattle.q_blocked.proofs.ReachedSets.{reached-begun, covered-tautology}
 use Rattle.q_blocked.proofs.SetGrowth.{growing-begun}
+use Rattle.q_blocked.proofs.AskedPlaces.{asked-begun}
 use Rattle.q_blocked.proofs.cover.decide.Goals as goal
 
 pub returns-then-is_tautology-clause-decided : goal.returns-then-is_tautology-clause-decided
@@ -37,4 +38,5 @@ covers-requires-clause-growing c =
           (subst (λ (n : ℕ). IsGrowing P X C C [] n g.worked) (sym e.base)
           (subst (λ (n : ℕ). IsGrowing P X C C [] (length C) n) (sym e.worked)
           (growing-begun P X C c.clause_of-clause.ensures.within (test-false c.is_tautology.result c.is_tautology.ensures c.if-is_tautology.false))))),
+      subst (λ (S : Clause). IsAsked X S g.asked.items) (sym e.set) (asked-begun X C g.asked.items e.asked),
     )

@@ -1,24 +1,30 @@
-use Rattle.std.proofs.Common.{◌≡◌, ◌∙◌, ◌<◌, ℕ, zero, suc, [], ◌∷◌, slice_get, Some, false, length, sym, refl, arith, true≢false}
-use Rattle.q_logic.specs.Prelude.{Clause, Literal}
+use Rattle.std.proofs.Common.{◌≡◌, ◌∙◌, ◌<◌, ◌≤◌, Bool, false, length, sym, subst, arith, true≢false}
+use Rattle.q_logic.proofs.Common.{item-in}
 use Rattle.q_blocked.specs.Progress.{is_grown}
-use Rattle.q_blocked.proofs.CoverPass.{passing-begun, passing-more}
+use Rattle.q_blocked.proofs.CoverPass.{IsPassing, passing-begun, passing-more, passing-all}
 use Rattle.q_blocked.proofs.cover.pass.Goals as goal
 use Rattle.q_blocked.proofs.cover.pass.Goals.{then-grew-2, else-grew-2}
 
-item : (S : Clause) (i : ℕ) → i < length S → (l : Literal) × (slice_get S i ≡ Some l)
-item [] i h = absurd (omega arith)
-item (k ∷ S) zero h = (k, refl)
-item (k ∷ S) (suc i) h = item S i (omega arith)
+pub loop-at-init : goal.loop-at-init
+loop-at-init c = passing-begun c.args.kernel.now c.args.c c.args.growth.now c.requires.growing
 
-pub loop-place-init : goal.loop-place-init
-loop-place-init c = passing-begun c.args.kernel.now c.args.c c.args.growth.now c.requires.growing
+pub cover_at-requires-clause-there : goal.cover_at-requires-clause-there
+cover_at-requires-clause-there c =
+    let here : c.loop-at.at < length c.loop-at.growth.asked.items = omega (arith, c.len.ensures, c.if-at-len.false) in
+    c.loop-at.invariant.growing.3.inside c.index-place.result.now (item-in c.loop-at.growth.asked.items c.loop-at.at c.index-place.result.now here c.index-place.ensures)
 
-pub loop-place-preserved : goal.loop-place-preserved
-loop-place-preserved c =
-    let more : c.if-grew-2.grew ≡ false → (c.loop-place.grew ≡ false) × (is_grown c.in_ok-progress.progress ≡ false) = λ q. elim c.if-grew-2.branch [
+pub loop-at-preserved : goal.loop-at-preserved
+loop-at-preserved c =
+    let more : c.if-grew-2.grew ≡ false → (c.loop-at.grew ≡ false) × (is_grown c.in_ok-progress.progress ≡ false) = λ q. elim c.if-grew-2.branch [
       | then-grew-2 w ↦ absurd (true≢false (sym w.if-grew-2.true ∙ (sym w.grew-is ∙ q)))
       | else-grew-2 w ↦ (w.if-grew-2.false, sym w.is_grown-grew.ensures ∙ (sym w.grew-is ∙ q))
     ] in
-    let here : c.loop-place.place < length c.loop-place.growth.set = omega (arith, c.len.ensures, c.if-place-len.false) in
-    passing-more c.args.kernel.now c.args.c c.args.growth.now c.loop-place.growth c.cover_at.new.growth c.loop-place.place c.loop-place.grew c.if-grew-2.grew (item c.loop-place.growth.set c.loop-place.place here).0 c.in_ok-progress.progress here
-    (item c.loop-place.growth.set c.loop-place.place here).1 (sym c.is_ended.ensures ∙ c.if-is_ended.false) more c.in_ok-progress.ensures c.loop-place.invariant
+    let here : c.loop-at.at < length c.loop-at.growth.asked.items = omega (arith, c.len.ensures, c.if-at-len.false) in
+    passing-more c.args.kernel.now c.args.c c.args.growth.now c.loop-at.growth c.cover_at.new.growth c.loop-at.at c.loop-at.grew c.if-grew-2.grew c.index-place.result.now c.in_ok-progress.progress here c.index-place.ensures
+    (sym c.is_ended.ensures ∙ c.if-is_ended.false) more c.in_ok-progress.ensures c.loop-at.invariant
+
+pub returns-then-at-len : goal.returns-then-at-len
+returns-then-at-len c =
+    let past : length c.loop-at.growth.asked.items ≤ c.loop-at.at = omega (arith, c.len.ensures, c.if-at-len.true) in
+    passing-all c.args.kernel.now c.args.c c.args.growth.now c.loop-at.growth c.loop-at.at c.requires.growing past
+    (subst (λ (b : Bool). IsPassing c.args.kernel.now c.args.c c.args.growth.now c.loop-at.growth c.loop-at.at b) c.if-grew.false c.loop-at.invariant)

@@ -1,5 +1,5 @@
 use Rattle.q_blocked.proofs.CoverPass.{IsPassing}
 use Rattle.q_blocked.proofs.cover.pass.Given as goal
 
-abbrev pub invariant-loop-place : goal.invariant-loop-place
-invariant-loop-place l = IsPassing l.kernel l.c l.fn.growth l.growth l.place l.grew
+abbrev pub invariant-loop-at : goal.invariant-loop-at
+invariant-loop-at l = IsPassing l.kernel l.c l.fn.growth l.growth l.at l.grew

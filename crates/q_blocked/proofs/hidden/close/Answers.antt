@@ -27,5 +27,6 @@ loop-growth-preserved c =
         subst (λ (T : Clause). IsGrowing k.prefix X r.0.0 T new.plan.stages.items new.base (new.worked + 1)) (sym e)
             (growing-walked k.prefix X r.0.0 old.set r.1.added new.plan.stages.items new.base new.worked i more at' (λ E m. subst (λ (T : Clause). GivesNoneAt old.set T E) e (r.2 E m))
             (subst (λ (T : Clause). IsGrowing k.prefix X r.0.0 T new.plan.stages.items new.base new.worked) e r.0.2)),
+        r.0.3,
       );
     }

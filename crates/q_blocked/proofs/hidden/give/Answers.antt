@@ -3,10 +3,11 @@ use Rattle.q_logic.specs.Prelude.{Literal, negation, Clause, IsIn, is_bound, oth
 use Rattle.q_logic.proofs.Common.{live-slot, others-slot, IsIn-append_right, test-false}
 use Rattle.q_kernel.specs.Prelude.{slots}
 use Rattle.q_blocked.specs.Walks.{GivesNoneAt}
-use Rattle.q_blocked.specs.Growths.{IsGrowing, IsCovered}
+use Rattle.q_blocked.specs.Growths.{IsGrowing, IsAsked, IsCovered}
 use Rattle.q_rule.proofs.IdClauses.{slot-one}
 use Rattle.q_blocked.proofs.ReachedSets.{reached-hidden, covered-tautology}
 use Rattle.q_blocked.proofs.SetGrowth.{growing-hidden, gives_none-given}
+use Rattle.q_blocked.proofs.AskedPlaces.{asked-hidden}
 use Rattle.q_blocked.proofs.hidden.give.Goals as goal
 
 pub returns-then-has : goal.returns-then-has
@@ -37,6 +38,7 @@ returns c =
     let ss = c.args.growth.now.plan.stages.items in
     let base = c.args.growth.now.base in
     let worked = c.args.growth.now.worked in
+    let places = c.args.growth.now.asked.items in
     let new : Literal = c.args.new in
     let X = others c.args.c (slots k) in
     let h = c.requires.gives in
@@ -49,6 +51,7 @@ returns c =
         c.requires.growing.0,
         c.requires.growing.1,
         subst (λ (T : Clause). IsGrowing k.prefix X c.requires.growing.0 T ss base worked) (sym e) (growing-hidden k.prefix X c.requires.growing.0 S ss base worked g h.0 new m h.2 b n),
+        subst (λ (T : Clause). IsAsked X T places) (sym e) (asked-hidden X S h.0 new places m h.2 c.requires.growing.3),
       ),
       record { added = new ∷ []; set = e; stages = refl; base = refl; worked = refl },
       λ E r. subst (λ (T : Clause). GivesNoneAt S T E) (sym e) (subst (λ (D : Clause). GivesNoneAt S (S ++ new ∷ []) D) (slot-one (slots k) c.args.d h.0 E h.1.1 r.1) (gives_none-given S h.0 new h.2 n)),
