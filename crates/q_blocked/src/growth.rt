@@ -7,6 +7,7 @@ use crate::nothing_hidden::Hints;
 use crate::pairs::Pairs;
 use crate::plan::{Plan, Stage};
 use crate::reasons::Reasons;
+use crate::replay::Step;
 use q_logic::{Lit, NoMemory};
 use q_rule::Queue;
 use std::alloc::Global;
@@ -33,6 +34,8 @@ pub struct Growth {
     pub hints: Hints,
     /// Clauses that gave hidden literals.
     pub reasons: Reasons,
+    /// The steps so far.
+    pub steps: Vec<Step>,
 }
 
 impl Growth {
@@ -50,6 +53,7 @@ impl Growth {
             pairs: Pairs::new(alloc),
             hints: Hints::new(alloc),
             reasons: Reasons::new(alloc),
+            steps: Vec::new(alloc),
         }
     }
 
@@ -64,6 +68,7 @@ impl Growth {
         self.plan.stages.clear();
         self.base = clause.len();
         self.worked = 0;
+        self.steps.clear();
         Ok(())
     }
 

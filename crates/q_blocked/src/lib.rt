@@ -16,6 +16,7 @@ mod pairs;
 mod plan;
 mod progress;
 mod reasons;
+mod replay;
 mod room;
 mod rules;
 mod search;
@@ -25,5 +26,6 @@ mod units;
 
 pub use q_kernel::Taken;
 pub use q_logic::Bounds;
+pub use replay::Step;
 pub use search::Search;
 pub use target::Target;
