@@ -122,3 +122,8 @@ HasUsedUnits k c old new Unchanged = (new.set ≡ old.set) × UnitsGiveNone (oth
 abbrev pub HasDecided : Seen → ℕ → Growth → Bool → Type 0
 HasDecided k c new true = Covered k c new
 HasDecided k c new false = (C : Clause) → slot (slots k) c ≡ Some C → Covers k.prefix (others c (slots k)) C → ⊥
+
+-- known steps were taken: its growth has ended, or goes on
+abbrev pub HasReplayed : Seen → ℕ → Growth → Bool → Type 0
+HasReplayed k c new true = Covered k c new
+HasReplayed k c new false = Growing k c new

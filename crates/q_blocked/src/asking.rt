@@ -1,11 +1,12 @@
 //! Questions of a caller that asks for many clauses of one kernel.
-ghost use Rattle.std.specs.Prelude.{◌↔◌, IfOk, IsTrue};
+ghost use Rattle.std.specs.Prelude.{◌≡◌, ◌↔◌, IfOk, IsTrue};
 ghost use Rattle.q_logic.specs.declared.rule_bounds.Bounds.{Bounds};
 ghost use Rattle.q_logic.specs.Prelude.{cover, Fits};
 ghost use Rattle.q_kernel.specs.Prelude.{Seen, slots};
 ghost use Rattle.q_blocked.specs.Learned.{IsRightFor};
 
 use crate::cover::fits_cover;
+use crate::replay::Step;
 use crate::search::Search;
 use q_kernel::{ClauseId, Kernel};
 use q_logic::NoMemory;
@@ -27,5 +28,20 @@ impl Search {
         ensures right { IsRightFor kernel.now self.new }
     {
         fits_cover(kernel, self, c)
+    }
+
+    /// The steps of the last growth. Where it ended, they are a hint for another search that tests the same clause.
+    pub fn steps(&self) -> &[Step]
+        ensures { result.now ≡ self.now.growth.steps.items }
+    {
+        &self.growth.steps
+    }
+
+    /// Takes steps by which a clause may be covered, for the next test of a covered clause, if it is of this one. They are tested, so
+    /// they may be wrong: what the tests answer does not rest on them.
+    pub fn suggest(&mut self, c: ClauseId, steps: &[Step])
+        ensures { (k : Seen) → IsRightFor k self.old → IsRightFor k self.new }
+    {
+        self.hint.set(c, steps);
     }
 }

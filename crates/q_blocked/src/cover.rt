@@ -52,6 +52,7 @@ use crate::growth::{Growth, add_places};
 use crate::hidden::{close, use_units};
 use crate::pairs::covers_nothing;
 use crate::progress::Progress;
+use crate::replay::{Step, use_hint};
 use crate::search::Search;
 use q_kernel::{ClauseId, Kernel};
 use q_logic::{Lit, NoMemory};
@@ -87,6 +88,7 @@ fn end_stage(growth: &mut Growth, place: usize) -> Result<(), NoMemory>
     ensures set { growth.new.set ≡ growth.old.set }
     ensures found { growth.new.found ≡ growth.old.found }
 {
+    growth.steps.push(Step::Covered(place))?;
     if growth.base <= place {
         growth.note(None)?;
     }
@@ -121,7 +123,7 @@ fn cover_by(
 }
 
 // Grows by the covered literals on the literal at a place of the set.
-fn cover_at(
+pub(crate) fn cover_at(
     kernel: &Kernel,
     growth: &mut Growth,
     c: ClauseId,
@@ -262,6 +264,9 @@ fn decide(kernel: &Kernel, search: &mut Search, c: ClauseId) -> Result<bool, NoM
     search.growth.begin(clause)?;
     if is_tautology(clause) {
         search.growth.plan.last = None;
+        return Ok(true);
+    }
+    if use_hint(kernel, search, c)? {
         return Ok(true);
     }
     covers(kernel, search, c)

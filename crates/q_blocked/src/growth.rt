@@ -7,6 +7,7 @@ use crate::covered::Spare;
 use crate::nothing_hidden::Hints;
 use crate::pairs::Pairs;
 use crate::plan::{Plan, Stage};
+use crate::replay::Step;
 use q_logic::{Lit, NoMemory};
 use q_rule::Queue;
 use std::alloc::Global;
@@ -33,6 +34,8 @@ pub struct Growth {
     pub hints: Hints,
     /// The places of the literals that did not come hidden. On the others nothing is covered.
     pub asked: Vec<usize>,
+    /// The steps so far.
+    pub steps: Vec<Step>,
 }
 
 impl Growth {
@@ -50,6 +53,7 @@ impl Growth {
             pairs: Pairs::new(alloc),
             hints: Hints::new(alloc),
             asked: Vec::new(alloc),
+            steps: Vec::new(alloc),
         }
     }
 
@@ -65,6 +69,7 @@ impl Growth {
         self.plan.stages.clear();
         self.base = clause.len();
         self.worked = 0;
+        self.steps.clear();
         self.asked.clear();
         add_places(&mut self.asked, 0, clause.len())
     }

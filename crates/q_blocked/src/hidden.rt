@@ -10,6 +10,7 @@ ghost use Rattle.q_blocked.specs.Growths.{Growing, HasSpread, HasClosed, HasUsed
 use crate::growth::Growth;
 use crate::nothing_hidden::gives_none;
 use crate::progress::Progress;
+use crate::replay::Step;
 use crate::spreading::spread_row;
 use q_kernel::{ClauseId, Kernel};
 use q_logic::{Lit, NoMemory};
@@ -71,7 +72,7 @@ fn hidden_in(clause: &[Lit], set: &Queue) -> Option<Lit>
 
 // The same for the clause of an id, unless it is c or not live.
 #[inline(always)]
-fn hidden_by(kernel: &Kernel, set: &Queue, c: ClauseId, d: ClauseId) -> Option<Lit>
+pub(crate) fn hidden_by(kernel: &Kernel, set: &Queue, c: ClauseId, d: ClauseId) -> Option<Lit>
     requires { IsTautology set.now → ⊥ }
     ensures some { (new : Literal) → result ≡ Some new
         → (D : Clause) × IsBeside (slots kernel.now) c d D × Gives set.now D new }
@@ -103,6 +104,7 @@ pub(crate) fn give(
 {
     kernel.sound();
     growth.set.push(new)?;
+    growth.steps.push(Step::Hidden(d))?;
     if growth.set.has(new.negated()) {
         growth.plan.last = None;
         return Ok(true);

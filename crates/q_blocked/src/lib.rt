@@ -15,6 +15,7 @@ mod nothing_hidden;
 mod pairs;
 mod plan;
 mod progress;
+mod replay;
 mod room;
 mod rules;
 mod search;
@@ -24,5 +25,6 @@ mod units;
 
 pub use q_kernel::Taken;
 pub use q_logic::Bounds;
+pub use replay::Step;
 pub use search::Search;
 pub use target::Target;

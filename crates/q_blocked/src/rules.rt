@@ -5,6 +5,7 @@ ghost use Rattle.q_blocked.specs.Targets.{target_of};
 use crate::dispatch::{fits, take};
 use crate::find::find_from;
 use crate::growth::Growth;
+use crate::replay::Hint;
 use crate::room::reserve;
 use crate::search::Search;
 use crate::target::Target;
@@ -25,6 +26,7 @@ impl Rules for Search {
     fn new(alloc: Global) -> Search {
         Search {
             growth: Growth::new(alloc),
+            hint: Hint::new(alloc),
             units: Units::new(alloc),
             rows: Rows::new(alloc),
             larger: Vec::new(alloc),

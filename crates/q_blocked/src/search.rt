@@ -1,5 +1,6 @@
 //! What searches lend each other.
 use crate::growth::Growth;
+use crate::replay::Hint;
 use crate::units::Units;
 use q_logic::Lit;
 use q_snapshot::Rows;
@@ -9,6 +10,8 @@ use q_snapshot::Rows;
 pub struct Search {
     /// The literals of the clause that is tested, and those that it may have as well.
     pub(crate) growth: Growth,
+    /// What a caller knows of the clause that is tested next.
+    pub(crate) hint: Hint,
     /// The clauses of one literal.
     pub(crate) units: Units,
     /// The clauses that hold a literal, where many clauses were tested.

@@ -1,9 +1,9 @@
-use Rattle.std.proofs.Common.{ℕ, List, [], None, length, sym, subst}
+use Rattle.std.proofs.Common.{ℕ, Bool, List, [], None, length, sym, subst}
 use Rattle.q_logic.specs.Prelude.{Clause, others}
 use Rattle.q_kernel.specs.Prelude.{slots}
 use Rattle.q_logic.proofs.Common.{test-false}
 use Rattle.q_blocked.specs.declared.plan.Stage.{Stage}
-use Rattle.q_blocked.specs.Growths.{IsGrowing, IsAsked, IsCovered}
+use Rattle.q_blocked.specs.Growths.{IsGrowing, IsAsked, IsCovered, HasReplayed}
 use Rattle.q_blocked.proofs.ReachedSets.{reached-begun, covered-tautology}
 use Rattle.q_blocked.proofs.SetGrowth.{growing-begun}
 use Rattle.q_blocked.proofs.AskedPlaces.{asked-begun}
@@ -24,8 +24,8 @@ returns-then-is_tautology-clause-decided c =
           (covered-tautology P X C C [] (length C) (reached-begun P X C c.clause_of-clause.ensures.within) (c.is_tautology.ensures.0 c.if-is_tautology.true)))),
     )
 
-pub covers-requires-clause-growing : goal.covers-requires-clause-growing
-covers-requires-clause-growing c =
+pub use_hint-requires : goal.use_hint-requires
+use_hint-requires c =
     let P = c.args.kernel.now.prefix in
     let X = others c.args.c (slots c.args.kernel.now) in
     let C : Clause = c.clause_of-clause.result.now in
@@ -40,3 +40,9 @@ covers-requires-clause-growing c =
           (growing-begun P X C c.clause_of-clause.ensures.within (test-false c.is_tautology.result c.is_tautology.ensures c.if-is_tautology.false))))),
       subst (λ (S : Clause). IsAsked X S g.asked.items) (sym e.set) (asked-begun X C g.asked.items e.asked),
     )
+
+pub returns-then-branch-clause-decided : goal.returns-then-branch-clause-decided
+returns-then-branch-clause-decided c = subst (λ (b : Bool). HasReplayed c.args.kernel.now c.args.c c.use_hint.new.search.growth b) c.if-branch.true c.in_ok-use_hint.ensures.replayed
+
+pub covers-requires-clause-growing : goal.covers-requires-clause-growing
+covers-requires-clause-growing c = subst (λ (b : Bool). HasReplayed c.args.kernel.now c.args.c c.use_hint.new.search.growth b) c.if-branch.false c.in_ok-use_hint.ensures.replayed
