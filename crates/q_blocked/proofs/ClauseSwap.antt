@@ -2,7 +2,7 @@
 use Rattle.std.proofs.Common.{◌≡◌, ◌≢◌, ◌≤◌, ◌+◌, ◌*◌, ◌∙◌, ℕ, None, inl, inr, arith, refl, sym, subst, Some, Option, length, ◌∷◌}
 use Rattle.q_kernel.proofs.Basics.{ℕ-cases, some-same}
 use Rattle.q_logic.specs.Prelude.{Literal, Clause, Prefix, IsIn, Implied, ExistsPivot, add, delete, one_less, first_of, Slots, slot, set_slot, live, others}
-use Rattle.q_logic.proofs.Common.{live-slot, others-slot, implied-subsumed, implied-more_clauses, IsIn-alike, alike-sym, exists_pivot-fewer, live-without}
+use Rattle.q_logic.proofs.Common.{live-slot, others-slot, implied-subsumed, implied-more_clauses, IsIn-alike, alike-sym, exists_pivot-fewer, live-gone}
 use Rattle.q_log.specs.Texts.{step_text}
 use Rattle.q_kernel.specs.Prelude.{Seen, slots, formula_in, IsSound, MayAdd, MayDelete, IsAdded, IsDeleted}
 use Rattle.q_kernel.proofs.SlotLists.{alike-others, slot-set_other, live-same}
@@ -138,7 +138,7 @@ module _ (k m : Seen) (c e : ℕ) (T : Clause) (on : Option Literal) (s : IsSoun
   pub replaced : (n : Seen) → HasLeft m n c → IsReplaced k n c T e
   replaced n d = record {
     there = subst (λ (L : Slots). slot L e ≡ Some T) (sym d.change) (slot-set_other c e None (slots m) (λ q. away (sym q)) ∙ a.there);
-    beside = sym (live-without (slots n) e) ∙ (live-same (set_slot e None (slots n)) (set_slot c None (slots k)) each ∙ live-without (slots k) c);
+    beside = sym (live-gone (slots n) e) ∙ (live-same (set_slot e None (slots n)) (set_slot c None (slots k)) each ∙ live-gone (slots k) c);
     led = led-through k m n a.logged.led d.led;
     prefix = d.prefix ∙ a.prefix;
     words = let x = a.words in let y = d.room.words in omega arith;

@@ -2,8 +2,8 @@
 use Rattle.std.proofs.Common.{◌≡◌, ◌≢◌, ℕ, zero, suc, ◌<◌, List, [], ◌∷◌, ◌++◌, ◌⊎◌, inl, inr, refl, sym, ap, ◌∙◌, subst, Option, None, Some, slice_get, set, get_or, length, arith}
 use Rattle.q_logic.specs.Prelude.{Clause, Slots, slot, set_slot, live, others, one_less}
 use Rattle.q_logic.proofs.ClauseCounts.{one_less-same}
-use Rattle.q_logic.proofs.HintedRuns.{live-added, live-gone, live-changed, left-alike}
-use Rattle.q_logic.proofs.Common.{alike-sym, alike-trans, alike-cons}
+use Rattle.q_logic.proofs.HintedRuns.{live-added, live-changed, left-alike}
+use Rattle.q_logic.proofs.Common.{alike-sym, alike-trans, alike-cons, live-gone}
 use Rattle.q_prop.specs.Slots.{Holds, filled, IsPut}
 use Rattle.q_prop.proofs.HintSteps.{Holds-slot}
 use Rattle.q_prop.proofs.Literals.{ℕ-cases}

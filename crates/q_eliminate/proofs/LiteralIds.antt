@@ -2,11 +2,11 @@
 use Rattle.std.proofs.lemmas.List.Elements.{All-contains}
 use Rattle.std.proofs.Common.{◌≡◌, ◌+◌, ℕ, All, Contains, zero, suc, Bool, true, false, cond, List, [], ◌∷◌, length, get_or, Option, None, Some, inl, inr, arith, refl, sym, ap, ◌∙◌, subst}
 use Rattle.q_logic.specs.Prelude.{Literal, Clause, Matrix, IsIn, clause_eq, copies, has, with_literal, without_literal, OccursIn, Slots, slot, set_slot, live, others, put_first, clauses_at}
-use Rattle.q_logic.proofs.Common.{SameClauses, alike-refl, alike-trans, alike-sym, alike-cons, clause_eq-sound, slot-alike, has-IsIn, IsIn-has}
+use Rattle.q_logic.proofs.Common.{SameClauses, alike-refl, alike-trans, alike-sym, alike-cons, clause_eq-sound, slot-alike, has-IsIn, IsIn-has, live-gone}
 use Rattle.q_kernel.specs.Prelude.{Seen, slots, HoldsLiteral, AreOnce, IsHolder}
 use Rattle.q_kernel.proofs.Basics.{ℕ-cases, none-some}
 use Rattle.q_kernel.proofs.DistinctMembers.{Contains-none, Contains-here, Contains-further, Contains-first}
-use Rattle.q_kernel.proofs.SlotLists.{slot-set_other, live-gone, IsIn-slot}
+use Rattle.q_kernel.proofs.SlotLists.{slot-set_other, IsIn-slot}
 use Rattle.q_rule.proofs.RuleResults.{slot-none}
 use Rattle.q_eliminate.specs.Sides.{AreIdsOf}
 

@@ -1,13 +1,12 @@
 -- The two clauses of the bridge come, and go.
 use Rattle.std.proofs.Common.{◌≡◌, ◌≤◌, ◌<◌, ◌+◌, ◌*◌, ℕ, Bool, true, false, cond, eqb, [], ◌∷◌, ◌++◌, inl, inr, arith, refl, sym, ap, ◌∙◌, subst, Option, Some, None, length}
 use Rattle.q_logic.specs.Prelude.{Literal, IsBelow, negation, Clause, Matrix, Prefix, IsIn, ArePairs, is_bound, outer_or_same, keeps, outer, ExistsPivot, Implied, standard, IsInLimits, size_of, has_variable, add, delete, one_less, Within, first_of, is_tautology, put_unless_tautology, Slots, slot, live, others, formula_of, merge, Mergeable, merged, renamed}
-use Rattle.q_logic.proofs.Common.{IsIn-append_left, live-slot, slot-alike, insert-length, IsIn-outer_in, IsIn-put_unless, Ordered, insert-ordered, ordered-pairs, existential-is_bound, implied-tautology, implied-more_clauses, pure-pivot, SameClauses, IsIn-alike, alike-sym, alike-trans, alike-cons, alike-uncons, alike-swap, one_less-first, one_less-same, exists_pivot-fewer}
-use Rattle.q_logic.proofs.ChangeRuns.{IsIn-right}
+use Rattle.q_logic.proofs.Common.{IsIn-append_left, live-slot, slot-alike, insert-length, IsIn-outer_in, IsIn-put_unless, Ordered, insert-ordered, ordered-pairs, existential-is_bound, implied-tautology, implied-more_clauses, pure-pivot, SameClauses, IsIn-alike, alike-sym, alike-trans, alike-cons, alike-uncons, alike-swap, one_less-first, one_less-same, exists_pivot-fewer, IsIn-append_right, live-gone}
 use Rattle.q_logic.proofs.MergeRun.{joined-implied, outer_or_same-is_bound, has_var-IsIn, renamed-free, renamed-length}
 use Rattle.q_log.specs.Texts.{step_text}
 use Rattle.q_kernel.specs.Prelude.{Seen, slots, formula_in, IsSound, Applies, MayAdd, IsAdded, MayDelete, IsDeleted, IsLed}
 use Rattle.q_logic.specs.declared.rule_bounds.Bounds.{Bounds}
-use Rattle.q_kernel.proofs.SlotLists.{length-set_slot, slot-below, slot-set_other, live-gone, alike-added, size-gone, size-parts}
+use Rattle.q_kernel.proofs.SlotLists.{length-set_slot, slot-below, slot-set_other, alike-added, size-gone, size-parts}
 use Rattle.q_kernel.proofs.KernelRuns.{led-through, sizes-alike}
 use Rattle.q_kernel.proofs.TextCosts.{first-first, cost-add, cost-delete, within-small, proper-small}
 use Rattle.q_rule.specs.Becoming.{IsChanged}
@@ -206,7 +205,7 @@ module _ (keep gone : Literal) (M : Matrix) (free : (D : Clause) → IsIn D M �
 
       go : (D : Clause) → IsIn D (back_clause keep gone ∷ M) → IsIn (negation gone) D → Implied (back_clause keep gone ∷ M) (over_clause keep gone ++ outer k.prefix (negation gone) D)
       go D (inl e) i = implied-tautology (back_clause keep gone ∷ M) (over_clause keep gone ++ outer k.prefix (negation gone) D)
-          (keep, IsIn-right keep (over_clause keep gone) (outer k.prefix (negation gone) D) (IsIn-outer_in k.prefix (negation gone) D keep (subst (λ (x : Clause). IsIn keep x) (sym e) (back-first keep gone)) kept), IsIn-append_left (negation keep) (over_clause keep gone) (outer k.prefix (negation gone) D) (over-first keep gone))
+          (keep, IsIn-append_right keep (over_clause keep gone) (outer k.prefix (negation gone) D) (IsIn-outer_in k.prefix (negation gone) D keep (subst (λ (x : Clause). IsIn keep x) (sym e) (back-first keep gone)) kept), IsIn-append_left (negation keep) (over_clause keep gone) (outer k.prefix (negation gone) D) (over-first keep gone))
       go D (inr m) i = absurd (not_there D m (negation gone) refl i)
 
   back_pivot : ExistsPivot k.prefix M (back_clause keep gone) (negation gone)

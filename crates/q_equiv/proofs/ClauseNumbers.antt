@@ -88,7 +88,7 @@ no_clause w l [] h = omega arith
 no_clause w l (C ∷ X) h = go (has l C) refl (no_clause w l X (λ D m. h D (inr m)))
   where
     go : (b : Bool) → has l C ≡ b → weight w (with_literal l X) ≤ 0 → weight w (cond b (C ∷ with_literal l X) (with_literal l X)) ≤ 0
-    go true e i = absurd (h C (inl refl) (Rattle.q_logic.proofs.NumberedClauses.has-IsIn l C e))
+    go true e i = absurd (h C (inl refl) (Rattle.q_logic.proofs.ClauseLemmas.has-IsIn l C e))
     go false e i = i
 
 -- Where each clause with a literal has one of the ids.

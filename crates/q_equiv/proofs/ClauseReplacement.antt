@@ -2,10 +2,10 @@
 use Rattle.std.proofs.Common.{◌≡◌, ◌≢◌, ◌≤◌, ◌<◌, ◌+◌, ◌*◌, ℕ, Bool, true, false, ◌||◌, [], ◌∷◌, inl, inr, arith, refl, sym, ap, ◌∙◌, subst, Option, Some, None, length, true≢false}
 use Rattle.std.proofs.lemmas.Option.{same_Some}
 use Rattle.q_logic.specs.Prelude.{Literal, negation, literal_eq, Clause, Matrix, Prefix, IsIn, Implied, add, delete, one_less, first_of, has, is_tautology, IsTautology, Slots, slot, live, others}
-use Rattle.q_logic.proofs.Common.{literal_eq-itself, literal_eq-negation, IsIn-has, live-slot, slot-alike, implied-more_clauses, negation-negation, SameClauses, IsIn-alike, alike-refl, alike-sym, alike-trans, alike-cons, alike-uncons, alike-swap}
+use Rattle.q_logic.proofs.Common.{literal_eq-itself, literal_eq-negation, IsIn-has, live-slot, slot-alike, implied-more_clauses, negation-negation, SameClauses, IsIn-alike, alike-refl, alike-sym, alike-trans, alike-cons, alike-uncons, alike-swap, live-gone}
 use Rattle.q_log.specs.Texts.{step_text}
 use Rattle.q_kernel.specs.Prelude.{Seen, slots, formula_in, IsSound, MayAdd, IsAdded, MayDelete, IsDeleted}
-use Rattle.q_kernel.proofs.SlotLists.{length-set_slot, slot-below, slot-set_other, live-gone, alike-added, alike-others}
+use Rattle.q_kernel.proofs.SlotLists.{length-set_slot, slot-below, slot-set_other, alike-added, alike-others}
 use Rattle.q_kernel.proofs.KernelRuns.{led-through}
 use Rattle.q_kernel.proofs.TextCosts.{first-first, cost-add, cost-delete, within-small, proper-small, proper-in_order}
 use Rattle.q_equiv.specs.Changing.{MayReplace, IsReplaced}

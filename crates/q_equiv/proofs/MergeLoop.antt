@@ -1,10 +1,10 @@
 -- Turn by turn keep takes the place of gone.
 use Rattle.std.proofs.Common.{◌≡◌, ◌≢◌, ◌≤◌, ◌⊎◌, ℕ, Bool, true, false, cond, eqb, [], ◌∷◌, inl, inr, arith, refl, sym, ap, ◌∙◌, subst, Option, Some, None, true≢false}
 use Rattle.q_logic.specs.Prelude.{Literal, negation, literal_eq, Clause, Matrix, IsIn, has_variable, one_less, clause_eq, is_tautology, put_unless_tautology, Slots, slot, set_slot, live, others, merged, merged_one, renamed, copies}
-use Rattle.q_logic.proofs.Common.{literal_eq-itself, literal_eq-negation, slot-alike, insert-IsIn, IsIn-insert, clause_eq-sound, SameClauses, clause_eq-itself, IsIn-alike, IsIn-copies, alike-refl, alike-sym, alike-trans, alike-cons, alike-uncons, alike-swap, one_less-alike}
+use Rattle.q_logic.proofs.Common.{literal_eq-itself, literal_eq-negation, slot-alike, insert-IsIn, IsIn-insert, clause_eq-sound, SameClauses, clause_eq-itself, IsIn-alike, IsIn-copies, alike-refl, alike-sym, alike-trans, alike-cons, alike-uncons, alike-swap, one_less-alike, live-gone}
 use Rattle.q_logic.proofs.MergeRun.{renamed-free}
 use Rattle.q_kernel.specs.Prelude.{Seen, slots}
-use Rattle.q_kernel.proofs.SlotLists.{slot-set_other, live-gone, IsIn-slot}
+use Rattle.q_kernel.proofs.SlotLists.{slot-set_other, IsIn-slot}
 use Rattle.q_rule.proofs.RuleResults.{slot-none}
 use Rattle.q_equiv.specs.declared.bridge.Bridge.{Bridge}
 use Rattle.q_equiv.specs.Changing.{over_clause, back_clause, IsBridged}

@@ -1,7 +1,7 @@
 -- A literal leaves clause after clause, and may still leave the others.
 use Rattle.std.proofs.Common.{◌≡◌, ◌⊎◌, ◌≤◌, ◌<◌, ◌+◌, ◌*◌, ℕ, true, ◌∷◌, length, Some, sym, ap, ◌∙◌, subst, inl, inr, arith, refl}
 use Rattle.q_logic.specs.Prelude.{Literal, negation, Clause, Matrix, Prefix, IsIn, is_universal, without, Reached, with_literal, each_without, drop_literal, size_of, Slots, slot, set_slot, live, others}
-use Rattle.q_logic.proofs.Common.{IsIn-alike, reached-more, IsIn-has, without-IsIn, live-without}
+use Rattle.q_logic.proofs.Common.{IsIn-alike, reached-more, IsIn-has, without-IsIn, live-gone}
 use Rattle.q_log.specs.Texts.{step_text}
 use Rattle.q_kernel.specs.Prelude.{Seen, slots, IsSound, MayDrop, IsDropped, IsLed}
 use Rattle.q_kernel.proofs.KernelRuns.{led-itself, led-through}
@@ -22,7 +22,7 @@ pub losing-begun : (l : Literal) (k : Seen) → MayLose k l → IsLosing l k k
 losing-begun l k m = record { may = m; led = led-itself k; prefix = refl; same = refl; bytes = λ later h. h }
 
 others-in : (N : Slots) (c : ℕ) (D : Clause) → IsIn D (others c N) → IsIn D (live N)
-others-in N c D m = gone-in N c D (subst (λ (X : Matrix). IsIn D X) (sym (live-without N c)) m)
+others-in N c D m = gone-in N c D (subst (λ (X : Matrix). IsIn D X) (sym (live-gone N c)) m)
 
 module _ (l : Literal) (N : Slots) (c : ℕ) (E : Clause) (there : slot N c ≡ Some E) where
   after-in : (D : Clause) → IsIn D (live (set_slot c (Some (without l E)) N)) → (D ≡ without l E) ⊎ IsIn D (live N)

@@ -2,9 +2,8 @@
 use Rattle.std.proofs.Common.{◌≡◌, ℕ, suc, Bool, true, false, cond, List, [], ◌∷◌, ◌++◌, append-nil, append_assoc, refl, sym, ◌∙◌, ap, subst, inl, inr, arith, Option, None, Some}
 use Rattle.std.specs.Prelude.{slice_get}
 use Rattle.q_logic.specs.Prelude.{Literal, Clause, Prefix, IsIn, outer, has, copies, every_outer, OutersOf, Slots}
-use Rattle.q_logic.proofs.UniversalPivot.{has-IsIn, IsIn-has}
 use Rattle.q_logic.proofs.Outers.{every_outer-count, every_outer-same}
-use Rattle.q_logic.proofs.Common.{IsIn-Contains, Contains-IsIn, copies-append}
+use Rattle.q_logic.proofs.Common.{IsIn-Contains, Contains-IsIn, copies-append, has-IsIn, IsIn-has}
 use Rattle.q_prop.specs.Slots.{Holds, filled, without}
 use Rattle.q_prop.specs.Lists.{IsDistinct}
 use Rattle.q_prop.proofs.SlotLemmas.{without-le, without-here, without-other, slice_get-Contains}

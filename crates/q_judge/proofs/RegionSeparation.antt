@@ -1,7 +1,7 @@
 -- What regions tell, and that they stay right.
 use Rattle.std.proofs.Common.{◌≡◌, ◌⊎◌, ◌<◌, ◌≤◌, ◌+◌, ℕ, true, false, eqb, length, set, slice_get, List, ◌∷◌, Some, None, sym, ◌∙◌, ap, subst, inl, inr, arith, true≢false}
 use Rattle.q_logic.specs.Prelude.{Literal, negation, Clause, Matrix, Prefix, IsIn, Closed, Distinct, is_bound, is_existential, is_universal, outer_or_same, inner_existential, without, Reached, Reducible, IsAbsent, insert_after, removed_from, Slots}
-use Rattle.q_logic.proofs.Common.{bound_of_u, inner_of, IsIn-Contains, Contains-IsIn, without-IsIn, IsIn-alike}
+use Rattle.q_logic.proofs.Common.{inner_of, IsIn-Contains, Contains-IsIn, without-IsIn, IsIn-alike, universal-is_bound}
 use Rattle.q_prop.specs.Slots.{filled, Holds, IsPut}
 use Rattle.q_prop.proofs.SlotLemmas.{slice_get-in, slice_get-there, slice_get-set_here, slice_get-set_other, slice_get-Contains, Contains-slice_get}
 use Rattle.q_judge.specs.Regions.{region_of, IsCoarser, RegionMap, IsRegional, AreRegions, AreRegionsOf}
@@ -18,7 +18,7 @@ regional-of P R r D h j k a b s t = h j a s ∙ sym (h k b t)
 -- What is reached from a clause whose inner literals lie in a region has its own there.
 module _ (P : Prefix) (X : Matrix) (R : RegionMap) (C : Clause) (l : Literal) (r : ℕ) (all : AreRegions P X R) (t : is_universal P R.var ≡ true) (u : is_universal P l.var ≡ true) (o : outer_or_same P R.var l.var ≡ true) (one : (k : Literal) → IsIn k C → inner_existential P l.var k.var ≡ true → region_of R.labels k.var ≡ r) where
   wider : (k : Literal) → inner_existential P l.var k.var ≡ true → inner_existential P R.var k.var ≡ true
-  wider k h = inner-nested P R.var l.var k.var (bound_of_u P R.var t) (bound_of_u P l.var u) o h
+  wider k h = inner-nested P R.var l.var k.var (universal-is_bound P R.var t) (universal-is_bound P l.var u) o h
 
   inside : (D : Clause) → Reached P X C l D → (k : Literal) → IsIn k D → inner_existential P l.var k.var ≡ true → region_of R.labels k.var ≡ r
   inside D Reached.first k m s = one k m s
@@ -53,8 +53,8 @@ regions-coarser P X R S e f all t D m j k a b s r =
 -- Regions for a variable serve what it is outer or same to.
 pub regions-nested : (P : Prefix) (X : Matrix) (R : RegionMap) (w : ℕ) → is_universal P R.var ≡ true → outer_or_same P R.var w ≡ true → AreRegions P X R → AreRegions P X (record { var = w; labels = R.labels })
 regions-nested P X R w t o all u D m j k a b s r =
-    let v = bound_of_u P R.var t in
-    let x = bound_of_u P w u in
+    let v = universal-is_bound P R.var t in
+    let x = universal-is_bound P w u in
     all t D m j k a b (inner-nested P R.var w j.var v x o s) (inner-nested P R.var w k.var v x o r)
 
 -- A variable comes or goes that no clause holds.

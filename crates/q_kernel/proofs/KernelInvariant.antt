@@ -1,7 +1,7 @@
 -- What holds of a kernel stays when a clause comes, goes or is shortened.
 use Rattle.std.proofs.Common.{◌≡◌, ◌≢◌, ◌⊎◌, ◌≤◌, ◌<◌, ◌+◌, ◌-◌, ◌*◌, ℕ, Bool, true, false, ◌&&◌, ◌||◌, if◌then◌else◌, [], ◌∷◌, length, set, inl, inr, arith, refl, sym, ap, ◌∙◌, subst, Option, Some, None, true≢false}
 use Rattle.q_logic.specs.Prelude.{Literal, IsBelow, pack, Clause, Matrix, Prefix, IsIn, ArePairs, IsProper, without, Within, copies, has_variable, occurs, Slots, slot, set_slot, live, others, formula_of}
-use Rattle.q_logic.proofs.Common.{without-IsIn, occurs_var-find, occurs_var-IsIn, AllByRecursion-IsIn, slot-alike}
+use Rattle.q_logic.proofs.Common.{without-IsIn, occurs_var-find, occurs_var-IsIn, AllByRecursion-IsIn, slot-alike, live-gone}
 use Rattle.q_log.proofs.StepLengths.{in_front-length}
 use Rattle.q_arena.specs.Prelude.{Chains, Has, Clauses}
 use Rattle.q_arena.proofs.NumberCases.{ℕ-cases, some-same, none-some}
@@ -12,7 +12,7 @@ use Rattle.q_kernel.specs.Listing.{is_listed, with_clause, without_clause}
 use Rattle.q_kernel.specs.Linking.{AreLinked, HasLists}
 use Rattle.q_kernel.specs.Invariant.{IsRoomy, IsCounted, IsKernel, empty_ones}
 use Rattle.q_kernel.specs.Singles.{unit_ones}
-use Rattle.q_kernel.proofs.SlotLists.{same-bool, set_slot-set, length-set_slot, slot-below, slot-set_same, slot-set_other, IsIn-slot, slot-IsIn, alike-added, alike-replaced, live-same, live-gone, length-added, size-added, units-added, length-gone, size-gone, units-gone, length-replaced, size-replaced, units-replaced}
+use Rattle.q_kernel.proofs.SlotLists.{same-bool, set_slot-set, length-set_slot, slot-below, slot-set_same, slot-set_other, IsIn-slot, slot-IsIn, alike-added, alike-replaced, live-same, length-added, size-added, units-added, length-gone, size-gone, units-gone, length-replaced, size-replaced, units-replaced}
 use Rattle.q_kernel.proofs.PlaceLists.{place-occurs, clause-place, occurs-added, occurs-replaced, occurs-beside, has_variable-without}
 use Rattle.q_kernel.proofs.OccurrenceChanges.{has-listed, listed-has}
 use Rattle.q_kernel.proofs.GroupChanges.{uses-same, occurring-here, occurring-other}

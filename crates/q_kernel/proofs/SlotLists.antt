@@ -3,7 +3,7 @@ use Rattle.std.proofs.Common.{◌≡◌, ◌≢◌, ◌≤◌, ◌<◌, ◌+◌,
 use Rattle.q_logic.specs.Prelude.{Clause, Matrix, IsIn, Literal, Slots, slot, set_slot, live, others, put_first, numbered, size_of, literals_in, one_less, has_empty}
 use Rattle.q_arena.specs.Prelude.{live_in}
 use Rattle.q_kernel.specs.Singles.{unit_ones, units_in}
-use Rattle.q_logic.proofs.Common.{slot-alike, live-slot, live-without, SameClauses, alike-sym, alike-trans, alike-cons, alike-uncons, one_less-alike, IsIn-alike}
+use Rattle.q_logic.proofs.Common.{slot-alike, live-slot, SameClauses, alike-sym, alike-trans, alike-cons, alike-uncons, one_less-alike, IsIn-alike, live-gone}
 
 -- As lists.
 pub slot-get : (N : Slots) (c : ℕ) → slot N c ≡ get_or N c None
@@ -37,10 +37,6 @@ slot-set_other zero zero o (p ∷ N) n = absurd (n refl)
 slot-set_other zero (suc d) o (p ∷ N) n = refl
 slot-set_other (suc c) zero o (p ∷ N) n = refl
 slot-set_other (suc c) (suc d) o (p ∷ N) n = slot-set_other c d o N (λ e. n (ap suc e))
-
--- All clauses after a change.
-pub live-gone : (N : Slots) (c : ℕ) → live (set_slot c None N) ≡ others c N
-live-gone N c = live-without N c
 
 pub others-set : (N : Slots) (c : ℕ) (o : Option Clause) → others c (set_slot c o N) ≡ others c N
 others-set [] c o = refl

@@ -1,12 +1,13 @@
 -- How many variables occur, what is left of a prefix without the idle ones, and its greatest variable.
 use Rattle.std.proofs.Common.{◌≡◌, ◌⊎◌, ◌↔◌, ◌≤◌, ◌<◌, ◌+◌, ℕ, suc, Bool, true, false, cond, eqb, not, ◌&&◌, List, [], ◌∷◌, length, inl, inr, arith, refl, sym, ap, ◌∙◌, subst, true≢false}
 use Rattle.std.proofs.lemmas.Bool.Decides.{nat_tests}
+use Rattle.std.proofs.lemmas.Bool.{and_from}
 use Rattle.std.specs.List.{AllByRecursion}
 use Rattle.q_logic.specs.declared.formulas.Bound.{Bound}
 use Rattle.q_logic.specs.Prelude.{IsProper, Prefix, Matrix, PrenexFormula, is_exists, is_bound, is_existential, is_universal, Distinct, insert_after, removed_from, occurs, occurring, one_if, existentials_in, universals_in, greatest, larger_of}
 use Rattle.q_logic.specs.declared.formulas.Quant.{Quant}
 use Rattle.q_logic.specs.declared.formulas.Quant.TheVariants.{Exists}
-use Rattle.q_logic.proofs.Decided.{and-parts, and-both}
+use Rattle.q_logic.proofs.Decided.{and-parts}
 use Rattle.q_arena.specs.Prelude.{Has, AreApart, AreBelow, without}
 use Rattle.q_arena.proofs.NumberCases.{ℕ-cases}
 use Rattle.q_arena.proofs.RingPaths.{Misses-not, Misses-from}
@@ -99,7 +100,7 @@ chosen-members q occ (b ∷ P) d v = go (picked q occ b) refl (chosen-members q 
     back : (of_quant q (b ∷ P) v ≡ true) × (occ v ≡ true) → ((v ≡ b.var) × (picked q occ b ≡ true)) ⊎ ((of_quant q P v ≡ true) × (occ v ≡ true))
     back r = elim (ℕ-cases b.var v) [
       | inl e ↦ let t : eqb b.var v ≡ true = grind (arith, nat_tests) in
-          inl (sym e, and-both (q b.quant) (occ b.var) (sym (ap (λ (t : Bool). cond t (q b.quant) (of_quant q P v)) t) ∙ r.0) (ap occ e ∙ r.1))
+          inl (sym e, and_from (q b.quant) (occ b.var) (sym (ap (λ (t : Bool). cond t (q b.quant) (of_quant q P v)) t) ∙ r.0) (ap occ e ∙ r.1))
       | inr n ↦ let t : eqb b.var v ≡ false = grind (arith, nat_tests) in
           inr (sym (ap (λ (t : Bool). cond t (q b.quant) (of_quant q P v)) t) ∙ r.0, r.1)
     ]

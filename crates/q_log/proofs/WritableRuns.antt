@@ -128,7 +128,7 @@ tidy-one_less C (E ∷ X) m = go (clause_eq E C) refl m (tidy-one_less C X)
   where
     go : (b : Bool) → clause_eq E C ≡ b → (C ≡ E) ⊎ IsIn C X → (IsIn C X → SameClauses (tidy X) (clause_of C ∷ tidy (one_less C X))) → SameClauses (clause_of E ∷ tidy X) (clause_of C ∷ tidy (cond b X (E ∷ one_less C X)))
     go true q n ih = subst (λ (D : Clause). SameClauses (clause_of E ∷ tidy X) (clause_of D ∷ tidy X)) (clause_eq-sound E C q) (alike-refl (clause_of E ∷ tidy X))
-    go false q (inl e) ih = let z : clause_eq E C ≡ true = subst (λ y. clause_eq y C ≡ true) e (Rattle.q_logic.proofs.JustifiedRuns.clause_eq-itself C) in absurd (cc)
+    go false q (inl e) ih = let z : clause_eq E C ≡ true = subst (λ y. clause_eq y C ≡ true) e (Rattle.q_logic.proofs.Runs.clause_eq-itself C) in absurd (cc)
     go false q (inr n) ih =
         alike-trans (clause_of E ∷ tidy X) (clause_of E ∷ clause_of C ∷ tidy (one_less C X)) (clause_of C ∷ clause_of E ∷ tidy (one_less C X))
         (alike-cons (clause_of E) (tidy X) (clause_of C ∷ tidy (one_less C X)) (ih n)) (alike-swap (clause_of E) (clause_of C) (tidy (one_less C X)))

@@ -1,8 +1,8 @@
 -- What one turn of a loop leaves of the change that is still to come, and what is left at the end.
 use Rattle.std.proofs.Common.{◌≡◌, ◌≤◌, ◌+◌, ℕ, zero, suc, Bool, true, false, cond, [], ◌∷◌, ◌⊎◌, inl, inr, arith, refl, sym, ap, ◌∙◌, subst, Option, Some, None, length, true≢false}
 use Rattle.q_logic.specs.Prelude.{Literal, negation, literal_eq, Clause, Matrix, IsIn, without, Implied, has, with_literal, without_literal, each_without, OccursIn, Slots, slot, set_slot, live, others, put_first, size_of}
-use Rattle.q_logic.proofs.Common.{literal_eq-sound, literal_eq-itself, literal_eq-negation, without-same, has-IsIn, IsIn-has, live-slot, without-other, IsIn-without, without-IsIn, has_none, implied-hidden, implied-subsumed, folded, folded-set, IsIn-alike}
-use Rattle.q_kernel.proofs.SlotLists.{alike-replaced, live-gone}
+use Rattle.q_logic.proofs.Common.{literal_eq-sound, literal_eq-itself, literal_eq-negation, without-same, has-IsIn, IsIn-has, live-slot, without-other, IsIn-without, without-IsIn, has_none, implied-hidden, implied-subsumed, folded, folded-set, IsIn-alike, live-gone}
+use Rattle.q_kernel.proofs.SlotLists.{alike-replaced}
 
 pub not_in-without : (l : Literal) (C : Clause) → has l (without l C) ≡ false
 not_in-without l C = has_none l (without l C) (λ m. let a : literal_eq l l ≡ false = without-other l C l m in let b : literal_eq l l ≡ true = literal_eq-itself l in absurd (true≢false (sym b ∙ a)))

@@ -2,7 +2,7 @@
 use Rattle.std.proofs.Common.{◌≡◌, ◌≤◌, ◌+◌, ◌*◌, ℕ, Bool, true, false, cond, [], ◌∷◌, arith, refl, sym, ap, ◌∙◌, subst, Some, length, true≢false}
 use Rattle.q_logic.specs.Prelude.{Literal, negation, Clause, Matrix, Prefix, PrenexFormula, IsIn, without, standard, IsInLimits, size_of, delete, drop_literal, first_of, with_literal, without_literal, each_without, Slots, slot, set_slot, live, others, formula_of, swept, has_empty, occurring, occurs, IsSwept, change, result_of, assigned, head_of, shortened, AreAlike}
 use Rattle.q_logic.specs.Targets as theory
-use Rattle.q_logic.proofs.Common.{occurs_var-find, occurs_var-IsIn, SameClauses, IsIn-alike, alike-sym, alike-refl, sweep-twice, swept-in_limits, live-without}
+use Rattle.q_logic.proofs.Common.{occurs_var-find, occurs_var-IsIn, SameClauses, IsIn-alike, alike-sym, alike-refl, sweep-twice, swept-in_limits, live-gone}
 use Rattle.q_log.specs.Texts.{step_text}
 use Rattle.q_kernel.specs.Prelude.{Seen, slots, formula_in, IsSound, HasSweepBytes, IsLed, IsDeleted, IsDropped}
 use Rattle.q_kernel.proofs.SlotLists.{has_empty-alike, alike-replaced, size-replaced}
@@ -44,7 +44,7 @@ changed-by old new t X e h = record {
 pub changed-tautology : (old new : Seen) (c : ℕ) → IsSound old → IsInLimits standard (formula_in old) → CanChange old → IsDeleted old new c first_of → IsChanged old new (theory.tautology c)
 changed-tautology old new c s h b d = record {
   led = d.logged.led;
-  alike = record { prefix = sym d.prefix; clauses = subst (λ (X : Matrix). SameClauses X (live (slots new))) (ap live d.change ∙ live-without (slots old) c) (alike-refl (live (slots new))) };
+  alike = record { prefix = sym d.prefix; clauses = subst (λ (X : Matrix). SameClauses X (live (slots new))) (ap live d.change ∙ live-gone (slots old) c) (alike-refl (live (slots new))) };
   limits = limits-gone old new c d.clause d.was d.change d.prefix h;
   bytes = subst (λ P. 16 * (size_of (live (slots new)) + length P) ≤ new.spare_bytes) (sym d.prefix)
       (bytes-deleted (size_of (live (slots old))) (size_of (live (slots new))) (length d.clause) (length old.prefix) old.spare_bytes new.spare_bytes (length (step_text (delete (first_of d.clause) d.clause)))
