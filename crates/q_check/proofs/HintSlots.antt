@@ -1,8 +1,8 @@
 -- Hints by their numbers, and by the slots of these.
 use Rattle.std.proofs.Common.{◌≡◌, ◌≢◌, ◌↔◌, ℕ, zero, suc, List, [], ◌∷◌, inl, inr, refl, sym, ap, ◌∙◌, subst, Option, None, Some, get_or, set, map, length}
+use Rattle.std.proofs.lemmas.Bool.{cases_eq}
 use Rattle.q_logic.specs.Prelude.{Literal, Clause, Follows, Chained, Slots, slot, set_slot, negations}
 use Rattle.q_prop.specs.Slots.{without}
-use Rattle.q_prop.proofs.Literals.{ℕ-cases}
 use Rattle.q_check.specs.HintChecks.{place_at}
 use Rattle.q_check.specs.Numbers.{IsAt, look, numbered_by, AreNumbered, left_out, place_in}
 use Rattle.q_check.proofs.NumberedSteps.{numbered-slot}
@@ -72,7 +72,7 @@ module _ (s : Slots) (ps : List (Option ℕ)) (a : AreNumbered s ps) where
 
   gone-placed : (m n : ℕ) (o p : Option ℕ) → get_or ps m None ≡ o → get_or ps n None ≡ p →
       slot (set_slot m None (numbered_by s ps)) n ≡ slot (without s o) (placed s p)
-  gone-placed m n o p e f = elim (ℕ-cases n m) [
+  gone-placed m n o p e f = elim (cases_eq n m) [
     | inl q ↦ here q o p e f
     | inr d ↦ gone-other (numbered_by s ps) m n d ∙ placed-one n ∙ ap (λ (r : Option ℕ). slot s (placed s r)) f ∙ sym (other d o p e f)
   ]

@@ -1,6 +1,7 @@
 -- What is in the grammar is read.
 use Rattle.std.proofs.Common.{◌≡◌, ◌≢◌, ℕ, zero, suc, ◌+◌, ◌<◌, ◌≤◌, ◌==◌, nat_lt, nat_le, Bool, true, false, List, [], ◌∷◌, ◌++◌, length, map, Ok, Err, Result, refl, ap, sym, ◌∙◌, arith, pos, add-one, add-zero, append_assoc, append-nil, if◌then◌else◌, length-append, zero-add, take}
 use Rattle.std.proofs.lemmas.Bool.Decides.{nat_tests}
+use Rattle.std.proofs.lemmas.Bool.{le-leb}
 use Rattle.std.specs.List.{AllByRecursion}
 use Rattle.q_logic.specs.declared.formulas.Bound.{Bound}
 use Rattle.q_logic.specs.declared.limits.Limits.{Limits}
@@ -54,9 +55,6 @@ not-above n v h = grind (arith, nat_tests)
 
 not-full : (n k : ℕ) → n < k → nat_le k n ≡ false
 not-full n k h = grind (arith, nat_tests)
-
-le-test : (n k : ℕ) → n ≤ k → nat_le n k ≡ true
-le-test n k h = grind (arith, nat_tests)
 
 not-zero : (n : ℕ) → 1 ≤ n → (n == 0) ≡ false
 not-zero n h = grind (arith, nat_tests)
@@ -169,7 +167,7 @@ read-text m t h =
     ∙ (ap (λ r. kinds_read m r (clauses_kinds t.clauses)) (read-sets m t.vars t.count [] t.sets h.bounds h.once)
     ∙ (read-clauses m t.vars t.count 0 (sets_bounds t.sets) [] t.clauses h.lits f c ∙ rw z refl))))
 
-length-map-clause : (cs : List (List Literal)) → length (map clause_of cs) ≡ length cs
+pub length-map-clause : (cs : List (List Literal)) → length (map clause_of cs) ≡ length cs
 length-map-clause [] = refl
 length-map-clause (c ∷ cs) = ap suc (length-map-clause cs)
 
@@ -181,7 +179,7 @@ ended m t n h =
 -- what is in the grammar is read, as its formula
 pub grammar_is_read : (m : Limits) (bytes : List ℕ) (f : PrenexFormula) → Dimacs m bytes f → parse m bytes ≡ Ok f
 grammar_is_read m bytes f h =
-    let s : nat_le (length bytes) m.bytes ≡ true = le-test (length bytes) m.bytes h.short in
+    let s : nat_le (length bytes) m.bytes ≡ true = le-leb (length bytes) m.bytes h.short in
     let r = without-lines m nothing_read (inside Outside h.text.vars h.text.count (total h.text.clauses) (sets_bounds h.text.sets) (map clause_of h.text.clauses) []) (tokens_of bytes)
     (ap (kinds_read m (Ok nothing_read)) h.tokens ∙ read-text m h.text h.lawful) in
     within-limit (nat_le (length bytes) m.bytes) s (at_last (line_after bytes) (tokens_read m (Ok nothing_read) (tokens_of bytes))) (past_limit (line_after (take m.bytes bytes)) (tokens_read m (Ok nothing_read) (tokens_ended (take m.bytes bytes))))

@@ -1,9 +1,10 @@
 -- Marks of variables, and lists with one more at their end.
-use Rattle.std.proofs.Common.{◌≡◌, ◌≢◌, ℕ, ◌<◌, ◌==◌, ◌||◌, Bool, true, false, cond, List, [], ◌∷◌, ◌++◌, length, get_or, set, slice_index_or, refl, ap, sym, ◌∙◌, arith, inl, inr, get_or-set_same, get_or-set_other}
+use Rattle.std.proofs.Common.{◌≡◌, ◌≢◌, ℕ, ◌<◌, ◌==◌, ◌||◌, Bool, true, false, List, [], ◌∷◌, ◌++◌, length, get_or, set, slice_index_or, refl, ap, sym, ◌∙◌, arith, inl, inr, get_or-set_same, get_or-set_other}
 use Rattle.std.proofs.lemmas.Bool.Decides.{nat_tests, eqb_tells}
 use Rattle.std.specs.List.{AllByRecursion}
 use Rattle.q_logic.specs.declared.formulas.Bound.{Bound}
 use Rattle.q_logic.specs.Prelude.{Literal, Matrix, Prefix, Clause, ArePairs, is_bound}
+use Rattle.q_logic.proofs.Common.{cond-or}
 use Rattle.q_dimacs.specs.Building.{occurs, occurs_in}
 
 pub or_false : (a : Bool) → a || false ≡ a
@@ -30,10 +31,6 @@ marked marks i v h = elim (eqb_tells i v) [
   | inl e ↦ (let f : i ≡ v = e.1 in rw (e.0, ← f, get_or-set_same) (sym (or-comm (get_or marks i false) true)))
   | inr e ↦ (let n : v ≢ i = λ x. e.1 (sym x) in rw (e.0, get_or-set_other) (sym (or-false (get_or marks v false))))
 ]
-
-pub cond-or : (a b : Bool) → cond a true b ≡ a || b
-cond-or true b = refl
-cond-or false b = refl
 
 pub is_bound-push : (p : Prefix) (q : Bound) (v : ℕ) → is_bound (p ++ q ∷ []) v ≡ (is_bound p v || (q.var == v))
 is_bound-push [] q v = cond-or (q.var == v) false ∙ or-false (q.var == v)

@@ -1,5 +1,5 @@
 -- Outer clauses as they are gathered for a pivot, slot by slot and group by group.
-use Rattle.std.proofs.Common.{◌≡◌, ◌↔◌, ◌⊎◌, ℕ, zero, suc, ◌+◌, ◌<◌, ◌≤◌, Bool, List, [], ◌∷◌, ◌++◌, Option, Some, Contains, slice_get, take, drop, Result, Ok, Err, IfOk, IsTrue, sym, subst, inl, inr, arith, zero-le, suc-le-suc, le_of_suc-le-suc, not-suc-le-zero}
+use Rattle.std.proofs.Common.{◌≡◌, ◌↔◌, ℕ, zero, suc, ◌+◌, ◌<◌, ◌≤◌, List, [], ◌∷◌, ◌++◌, Option, Some, Contains, slice_get, take, drop, sym, subst, inl, inr, arith, le_of_suc-le-suc, not-suc-le-zero}
 use Rattle.std.proofs.lemmas.List.{take-append-drop}
 use Rattle.std.proofs.lemmas.List.Elements.{Contains-append_left, Contains-append_right, Contains-push, Contains-push_cases}
 use Rattle.q_logic.specs.Prelude.{Clause, Prefix, IsIn, Slots, outer, Implied}
@@ -65,16 +65,6 @@ resolve-holders P S q slots h = (
       let same = one_clause S n D o.0 (without-le S q.skip n D e) o.1 in
       r D (held-in (without S q.skip) n D e) (subst (λ (E : Clause). IsIn q.m E) (sym same) o.2)),
 )
-
-pub ok-iff : {E A B : Type 0} (r : Result Bool E) → A ↔ B → IfOk r (λ y. IsTrue y ↔ A) → IfOk r (λ y. IsTrue y ↔ B)
-ok-iff (Ok y) e x = (λ h. e.0 (x.0 h), λ b. x.1 (e.1 b))
-ok-iff (Err f) e x = tt
-
--- a place before another, or not
-pub before-or-not : (j k : ℕ) → (j < k) ⊎ (k ≤ j)
-before-or-not j zero = inr zero-le
-before-or-not zero (suc k) = inl (suc-le-suc zero-le)
-before-or-not (suc j) (suc k) = elim (before-or-not j k) [ inl l ↦ inl (suc-le-suc l) | inr g ↦ inr (suc-le-suc g) ]
 
 -- an item of a range
 pub in-range : (xs : List ℕ) (s k j n : ℕ) → s ≤ j → j < s + k → slice_get xs j ≡ Some n → Contains (take k (drop s xs)) n

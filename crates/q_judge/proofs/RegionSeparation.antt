@@ -1,9 +1,11 @@
 -- What regions tell, and that they stay right.
 use Rattle.std.proofs.Common.{◌≡◌, ◌⊎◌, ◌<◌, ◌≤◌, ◌+◌, ℕ, true, false, eqb, length, set, slice_get, List, ◌∷◌, Some, None, sym, ◌∙◌, ap, subst, inl, inr, arith, true≢false}
+use Rattle.std.proofs.lemmas.Bool.{ne_eqb}
+use Rattle.std.proofs.lemmas.Option.{slice_get_within}
 use Rattle.q_logic.specs.Prelude.{Literal, negation, Clause, Matrix, Prefix, IsIn, Closed, Distinct, is_bound, is_existential, is_universal, outer_or_same, inner_existential, without, Reached, Reducible, IsAbsent, insert_after, removed_from, Slots}
 use Rattle.q_logic.proofs.Common.{inner_of, IsIn-Contains, Contains-IsIn, without-IsIn, IsIn-alike, universal-is_bound}
 use Rattle.q_prop.specs.Slots.{filled, Holds, IsPut}
-use Rattle.q_prop.proofs.SlotLemmas.{slice_get-in, slice_get-there, slice_get-set_here, slice_get-set_other, slice_get-Contains, Contains-slice_get}
+use Rattle.q_prop.proofs.SlotLemmas.{slice_get-there, slice_get-set_here, slice_get-set_other, slice_get-Contains, Contains-slice_get}
 use Rattle.q_judge.specs.Regions.{region_of, IsCoarser, RegionMap, IsRegional, AreRegions, AreRegionsOf}
 use Rattle.q_judge.proofs.SlotCollections.{held-in, left-in, put-same}
 use Rattle.q_judge.proofs.InnerVariables.{inner-nested, inserted-inner, inserted-universal, removed-inner, removed-universal}
@@ -61,9 +63,6 @@ regions-nested P X R w t o all u D m j k a b s r =
 unlike : (P : Prefix) (X : Matrix) (v : ℕ) → Closed P X → is_bound P v ≡ false → (D : Clause) → IsIn D X → (k : Literal) → IsIn k D → k.var ≡ v → ⊥
 unlike P X v h n D m k a e = true≢false (sym (h D m k a) ∙ ap (is_bound P) e ∙ n)
 
-unlike-eqb : (a b : ℕ) → (a ≡ b → ⊥) → eqb a b ≡ false
-unlike-eqb a b n = grind arith
-
 module _ (P : Prefix) (X : Matrix) (R S : RegionMap) (v : ℕ) (closed : Closed P X) (absent : is_bound P v ≡ false) (e : S.var ≡ R.var) (same : (x : ℕ) → (x ≡ v → ⊥) → region_of S.labels x ≡ region_of R.labels x) (all : AreRegions P X R) where
   alike : (D : Clause) → IsIn D X → (k : Literal) → IsIn k D → region_of S.labels k.var ≡ region_of R.labels k.var
   alike D m k a = same k.var (unlike P X v closed absent D m k a)
@@ -77,7 +76,7 @@ module _ (P : Prefix) (X : Matrix) (R S : RegionMap) (v : ℕ) (closed : Closed 
 pub regions-inserted : (P : Prefix) (X : Matrix) (R : RegionMap) (w v : ℕ) → is_existential P w ≡ true → Closed P X → is_bound P v ≡ false → AreRegions P X R → AreRegions (insert_after w v P) X R
 regions-inserted P X R w v e closed n all t D m j k a b s r =
     let u = inserted-universal w v P R.var n t in
-    let other : (i : Literal) → IsIn i D → eqb i.var v ≡ false = λ i h. unlike-eqb i.var v (unlike P X v closed n D m i h) in
+    let other : (i : Literal) → IsIn i D → eqb i.var v ≡ false = λ i h. ne_eqb i.var v (unlike P X v closed n D m i h) in
     all u.1 D m j k a b (inserted-inner w v P e R.var j.var u.0 (other j a) s) (inserted-inner w v P e R.var k.var u.0 (other k b) r)
 
 pub regions-removed : (P : Prefix) (X : Matrix) (R : RegionMap) (v : ℕ) → Distinct P → IsAbsent X v → AreRegions P X R → AreRegions (removed_from v P) X R
@@ -153,5 +152,5 @@ module _ {A : Type 0} (Q S : A → Type 0) where
   pub half-ended : (n : ℕ) (Rs : List A) → length Rs ≤ n → AreHalf Q S n Rs → (R : A) → IsIn R Rs → S R
   half-ended n Rs l h R m =
       let p = slice_get-Contains Rs R (IsIn-Contains R Rs m) in
-      let b = slice_get-in Rs p.0 R p.1 in
+      let b = slice_get_within Rs p.0 R p.1 in
       (h p.0 R p.1).0 (omega arith)

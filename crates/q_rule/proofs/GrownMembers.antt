@@ -9,11 +9,6 @@ module _ {X : Type 0} where
   member-place (x ∷ xs) k (inl e) = (0, omega arith, ap Some (sym e))
   member-place (x ∷ xs) k (inr m) = let r = member-place xs k m in (suc r.0, (let h = r.1 in omega arith), r.2)
 
-  pub place-member : (xs : List X) (j : ℕ) (k : X) → slice_get xs j ≡ Some k → IsIn k xs
-  place-member [] j k e = absurd (cc)
-  place-member (x ∷ xs) zero k e = inl (cc)
-  place-member (x ∷ xs) (suc j) k e = inr (place-member xs j k e)
-
   -- a place of the longer list that lies in the shorter one
   pub before_growth : (xs ys : List X) (j : ℕ) (k : X) → j < length xs → slice_get (xs ++ ys) j ≡ Some k → slice_get xs j ≡ Some k
   before_growth [] ys j k l e = absurd (omega arith)
