@@ -9,15 +9,12 @@ use Rattle.q_aiger.specs.Symbols.{is_used, is_free_name, with_name, all_named, A
 use Rattle.q_aiger.specs.Grammar.{IsLabelled, AreNames}
 use Rattle.q_aiger.proofs.LongerNames.{IsFree, free, apart-none, apart-more, zero-at}
 use Rattle.q_aiger.proofs.ResolvedOperands.{variables}
+use Rattle.q_aiger.proofs.LineParts.{all-weaker}
 
 abbrev pub given : Result (List ℕ) ℕ → List (ℕ × ℕ) → Result (List ℕ) ℕ
 given (Err c) es = Err c
 given (Ok ns) [] = Ok ns
 given (Ok ns) (p ∷ es) = given (with_name ns p.0 p.1) es
-
-all-map : {X : Type 0} (P Q : X → Type 0) (xs : List X) → ((x : X) → P x → Q x) → AllByRecursion P xs → AllByRecursion Q xs
-all-map P Q [] f h = tt
-all-map P Q (x ∷ xs) f h = (f x h.0, all-map P Q xs f h.1)
 
 all-both : {X : Type 0} (P Q R : X → Type 0) (xs : List X) → ((x : X) → P x → Q x → R x) → AllByRecursion P xs → AllByRecursion Q xs → AllByRecursion R xs
 all-both P Q R [] f h k = tt
@@ -82,10 +79,10 @@ names-given (p ∷ es) ns t e = go (with_name ns p.0 p.1) refl (names-given es)
               let ne : j ≢ p.0 = λ q. absurd (let z : get_or ns j 0 ≡ 0 = subst (λ (k : ℕ). get_or ns k 0 ≡ 0) (sym q) was in omega arith) in
               let o = other j ne in
               g.kept j (omega arith) ∙ o;
-          once = (all-map (λ q. get_or ms q.0 0 ≡ 0) (λ q. p.0 ≢ q.0) es (λ q z eq. absurd (let y : get_or ms p.0 0 ≡ 0 = subst (λ (k : ℕ). get_or ms k 0 ≡ 0) (sym eq) z in omega arith)) g.unnamed, g.once);
+          once = (all-weaker (λ q. get_or ms q.0 0 ≡ 0) (λ q. p.0 ≢ q.0) es (λ q z eq. absurd (let y : get_or ms p.0 0 ≡ 0 = subst (λ (k : ℕ). get_or ms k 0 ≡ 0) (sym eq) z in omega arith)) g.unnamed, g.once);
           unnamed = (
             was,
-            all-map (λ q. get_or ms q.0 0 ≡ 0) (λ q. get_or ns q.0 0 ≡ 0) es (λ q z. elim (cases_eq q.0 p.0) [
+            all-weaker (λ q. get_or ms q.0 0 ≡ 0) (λ q. get_or ns q.0 0 ≡ 0) es (λ q z. elim (cases_eq q.0 p.0) [
               | inl eq ↦ subst (λ (k : ℕ). get_or ns k 0 ≡ 0) (sym eq) was
               | inr ne ↦ sym (other q.0 ne) ∙ z
             ]) g.unnamed,

@@ -12,6 +12,7 @@ use Rattle.q_carry.specs.Standing.{look_at, AreLiterals}
 use Rattle.q_carry.specs.Copied.{or_zero}
 use Rattle.q_carry.specs.Made.{universals, outputs_for, IsOpened, IsNamed}
 use Rattle.q_carry.proofs.LiteralRows.{literals-kept, inputs-kept, literals-put}
+use Rattle.q_carry.proofs.CircuitCopies.{or-zero-there}
 
 bound-other : (b : Bound) (Q : Prefix) (v : ℕ) → is_bound (b ∷ Q) v ≡ false → (eqb b.var v ≡ false) × (is_bound Q v ≡ false)
 bound-other b Q v h = go (eqb b.var v) refl h
@@ -128,10 +129,6 @@ named-exists a made made2 tb Q b l e n el ei eg eo = record {
   gates = eg ∙ n.gates;
   outputs = eo ∙ ap (λ (xs : List NamedOutput). xs ++ record { name = b.var; operand = operand_of l } ∷ []) n.outputs ∙ ap (λ (m : ℕ). outputs_for tb Q ++ record { name = b.var; operand = operand_of m } ∷ []) el ∙ sym (outputs-exists tb Q b e);
 }
-
-or-zero-there : (a : Net) (m : Option ℕ) → ((l : ℕ) → m ≡ Some l → IsLiteral a l) → IsLiteral a (or_zero m)
-or-zero-there a None h = tt
-or-zero-there a (Some l) h = h l refl
 
 pub named-there : (a : Net) (made : CertificateView) (tb : List (Option ℕ)) (Q : Prefix) (v l : ℕ) → IsNamed a made tb Q → AreLiterals a tb → l ≡ or_zero (look_at tb v) → IsLiteral (net_of made) l
 named-there a made tb Q v l n li e =

@@ -16,7 +16,7 @@ use Rattle.q_dimacs.specs.Building.{formula_of}
 use Rattle.q_dimacs.specs.Reading.{Gathered, step_of, problem, format, vars_of, count_of, with_vars, with_count, number, literal, end_of, nothing_read}
 use Rattle.q_dimacs.specs.Dimacs.{Dimacs, vars_kinds, sets_kinds, clauses_kinds, letter, vars_bounds, sets_bounds, total, IsVar}
 use Rattle.q_text.specs.Tokens.{literals_kinds}
-use Rattle.q_dimacs.proofs.GrammarIsRead.{kinds_read, kinds-err, inside}
+use Rattle.q_dimacs.proofs.GrammarIsRead.{kinds_read, kinds-err, inside, length-map-clause}
 use Rattle.q_text.specs.declared.tokens.Token.{Token}
 use Rattle.q_text.specs.Texts.{tokens_of, tokens_ended, line_after}
 use Rattle.q_dimacs.specs.declared.error.ReadError.{ReadError}
@@ -409,10 +409,6 @@ parse-ok m bytes f h = go (nat_le (length bytes) m.bytes) refl h where
   go : (t : Bool) → nat_le (length bytes) m.bytes ≡ t → (if t then at_last (line_after bytes) (tokens_read m (Ok nothing_read) (tokens_of bytes)) else past_limit (line_after (take m.bytes bytes)) (tokens_read m (Ok nothing_read) (tokens_ended (take m.bytes bytes)))) ≡ Ok f → Ended m bytes f
   go true e g = last (tokens_read m (Ok nothing_read) (tokens_of bytes)) refl (leb-true (length bytes) m.bytes e) g
   go false e g = none (tokens_read m (Ok nothing_read) (tokens_ended (take m.bytes bytes))) (line_after (take m.bytes bytes)) g
-
-length-map-clause : (cs : List (List Literal)) → length (map clause_of cs) ≡ length cs
-length-map-clause [] = refl
-length-map-clause (c ∷ cs) = ap suc (length-map-clause cs)
 
 all-ended : (v c n : ℕ) (p : Prefix) (x : Matrix) → end_of (inside Outside v c n p x []) ≡ None → c ≤ length x
 all-ended v c n p x e = go (nat_lt (length x) c) refl e where

@@ -57,11 +57,11 @@ literals-shown : (T : ℕ) (ls : List Literal) → T < 2 ^ 31 → AllByRecursion
 literals-shown T [] s h = tt
 literals-shown T (l ∷ ls) s h = (literal-shown T l s h.0, literals-shown T ls s h.1)
 
-all-left : {X : Type 0} (Q : X → Type 0) (xs ys : List X) → AllByRecursion Q (xs ++ ys) → AllByRecursion Q xs
+pub all-left : {X : Type 0} (Q : X → Type 0) (xs ys : List X) → AllByRecursion Q (xs ++ ys) → AllByRecursion Q xs
 all-left Q [] ys h = tt
 all-left Q (x ∷ xs) ys h = (h.0, all-left Q xs ys h.1)
 
-all-right : {X : Type 0} (Q : X → Type 0) (xs ys : List X) → AllByRecursion Q (xs ++ ys) → AllByRecursion Q ys
+pub all-right : {X : Type 0} (Q : X → Type 0) (xs ys : List X) → AllByRecursion Q (xs ++ ys) → AllByRecursion Q ys
 all-right Q [] ys h = h
 all-right Q (x ∷ xs) ys h = all-right Q xs ys h.1
 

@@ -8,10 +8,11 @@ use Rattle.q_prop.specs.Slots.{Holds, filled, without}
 use Rattle.q_prop.specs.Tails.{AreImplied}
 use Rattle.q_prop.proofs.ListMembers.{Contains-nil, Contains-take}
 use Rattle.q_prop.proofs.SlotLemmas.{without-le, slice_get-take_in, Contains-slice_get}
+use Rattle.q_prop.proofs.BucketLemmas.{same-clause}
 use Rattle.q_judge.specs.Pivots.{resolvent, IsGathered, AreGathered, ResolveAt}
 use Rattle.q_judge.specs.Warrants.{AreHolders, Resolves}
 use Rattle.q_judge.specs.declared.pivots.Question.{Question}
-use Rattle.q_judge.proofs.SlotCollections.{held-in, in-held, one_clause}
+use Rattle.q_judge.proofs.SlotCollections.{held-in, in-held}
 
 module _ (P : Prefix) (s : Slots) (q : Question) where
   pub gathered-none : AreGathered P s q [] []
@@ -35,7 +36,7 @@ module _ (P : Prefix) (s : Slots) (q : Question) where
         | inr m ↦ inr (Contains-append_left old (outer P q.m h.0 ∷ []) (outer P q.m D) m)
       ]
       | inr f ↦
-          let same = one_clause s n D h.0 (subst (λ (j : ℕ). Holds s j D) (sym f) e) h.1 in
+          let same = same-clause s n D h.0 (subst (λ (j : ℕ). Holds s j D) (sym f) e) h.1 in
           inr (subst (λ (E : Clause). Contains (old ++ outer P q.m h.0 ∷ []) (outer P q.m E)) (sym same) (Contains-push old (outer P q.m h.0)))
     ];
     no_other = λ t c. elim (Contains-push_cases old (outer P q.m h.0) t c) [
@@ -62,7 +63,7 @@ resolve-holders P S q slots h = (
       r n.0 D (h.all_there n.0 D (without-le S q.skip n.0 D n.1) m) n.1),
   (λ r n D c e.
       let o = h.no_other n c in
-      let same = one_clause S n D o.0 (without-le S q.skip n D e) o.1 in
+      let same = same-clause S n D o.0 (without-le S q.skip n D e) o.1 in
       r D (held-in (without S q.skip) n D e) (subst (λ (E : Clause). IsIn q.m E) (sym same) o.2)),
 )
 

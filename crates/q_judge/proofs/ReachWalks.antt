@@ -6,8 +6,9 @@ use Rattle.q_logic.specs.Prelude.{Literal, negation, Clause, Prefix, IsIn, Slots
 use Rattle.q_logic.proofs.Common.{before_or_at}
 use Rattle.q_prop.specs.Slots.{Holds, filled, without}
 use Rattle.q_prop.proofs.SlotLemmas.{without-le, slice_get-Contains, Contains-slice_get}
+use Rattle.q_prop.proofs.BucketLemmas.{same-clause}
 use Rattle.q_judge.specs.Warrants.{AreHolders}
-use Rattle.q_judge.proofs.SlotCollections.{held-in, in-held, one_clause}
+use Rattle.q_judge.proofs.SlotCollections.{held-in, in-held}
 use Rattle.q_judge.specs.Walks.{is_inner, IsWidened, IsWorkedOff, IsGrown, IsFollowed, IsVisited}
 
 pub Contains-grown : (old new added : List Literal) (k : Literal) → new ≡ old ++ added → Contains old k → Contains new k
@@ -50,12 +51,12 @@ module _ (P : Prefix) (u : Literal) where
   followed-none s n old h = (grown-same (Holds s n) old, λ E e. absurd (h E e))
 
   pub followed-held : (s : Slots) (n : ℕ) (C : Clause) (old : List Literal) → Holds s n C → IsIn u C → IsFollowed P s u n old old true
-  followed-held s n C old h m = (grown-same (Holds s n) old, λ E e. inl (subst (λ (x : Clause). IsIn u x) (one_clause s n C E h e) m))
+  followed-held s n C old h m = (grown-same (Holds s n) old, λ E e. inl (subst (λ (x : Clause). IsIn u x) (same-clause s n C E h e) m))
 
   pub followed-widened : (s : Slots) (n : ℕ) (C : Clause) (old new : List Literal) → Holds s n C → (IsIn u C → ⊥) → (IsIn (negation u) C → ⊥) → IsWidened P u C old new → IsFollowed P s u n old new true
   followed-widened s n C old new h a b w = (
     record { added = w.added; is = w.is; from = λ k m. elim (w.no_other k m) [ inl x ↦ inl x | inr x ↦ inr (C, h, a, x.0, x.1) ] },
-    (λ E e. let q = one_clause s n C E h e in inr ((λ m. b (subst (λ (x : Clause). IsIn (negation u) x) (sym q) m)), (λ k m t. w.all_there k (subst (λ (x : Clause). IsIn k x) (sym q) m) t))),
+    (λ E e. let q = same-clause s n C E h e in inr ((λ m. b (subst (λ (x : Clause). IsIn (negation u) x) (sym q) m)), (λ k m t. w.all_there k (subst (λ (x : Clause). IsIn k x) (sym q) m) t))),
   )
 
   pub settled-more : (old new added : List Literal) (E : Clause) → new ≡ old ++ added → IsWorkedOff P u old E → IsWorkedOff P u new E
@@ -97,7 +98,7 @@ module _ (P : Prefix) (u : Literal) where
         | inr a ↦
             let n = a.1.1 in
             let o = h.no_other n (Contains-slice_get slots a.1.0 n a.1.3) in
-            inr (a.0, (held-in (without t skip) n a.0 a.1.4, subst (λ (x : Clause). IsIn (negation k) x) (one_clause t n o.0 a.0 o.1 (without-le t skip n a.0 a.1.4)) o.2), a.2, a.3, a.4)
+            inr (a.0, (held-in (without t skip) n a.0 a.1.4, subst (λ (x : Clause). IsIn (negation k) x) (same-clause t n o.0 a.0 o.1 (without-le t skip n a.0 a.1.4)) o.2), a.2, a.3, a.4)
       ];
     },
     (λ E d m.
@@ -110,4 +111,4 @@ module _ (P : Prefix) (u : Literal) where
   pub visited-not : (t : Slots) (skip : Option ℕ) (k : Literal) (slots : List ℕ) (i n : ℕ) (old mid new : List Literal) → AreHolders t (negation k) slots → slice_get slots i ≡ Some n → IsFollowed P (without t skip) u n mid new false → IsVisited P (filled (without t skip)) u k old new false
   visited-not t skip k slots i n old mid new h e f =
       let o = h.no_other n (Contains-slice_get slots i n e) in
-      (f.0, held-in (without t skip) n f.0 f.1, subst (λ (x : Clause). IsIn (negation k) x) (one_clause t n o.0 f.0 o.1 (without-le t skip n f.0 f.1)) o.2, f.2, f.3)
+      (f.0, held-in (without t skip) n f.0 f.1, subst (λ (x : Clause). IsIn (negation k) x) (same-clause t n o.0 f.0 o.1 (without-le t skip n f.0 f.1)) o.2, f.2, f.3)

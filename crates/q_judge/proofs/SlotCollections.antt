@@ -1,5 +1,5 @@
 -- The clauses in slots as a collection.
-use Rattle.std.proofs.Common.{◌≡◌, ℕ, zero, suc, ◌+◌, [], ◌∷◌, ◌++◌, Option, None, Some, slice_get, set, length, refl, sym, ◌∙◌, ap, inl, inr, arith}
+use Rattle.std.proofs.Common.{◌≡◌, ℕ, zero, suc, ◌+◌, [], ◌∷◌, ◌++◌, Option, None, Some, slice_get, set, length, refl, ◌∙◌, ap, inl, inr, arith}
 use Rattle.q_logic.specs.Prelude.{Clause, Matrix, IsIn, one_less, literals_in, copies, Slots}
 use Rattle.q_logic.proofs.Common.{IsIn-Contains, Contains-IsIn, SameClauses, alike-sym, alike-trans, copies-append, alike-uncons, one_less-alike, same-sizes}
 use Rattle.q_prop.specs.Slots.{filled, without, Holds, IsPut}
@@ -10,10 +10,6 @@ held-in s n C h = Contains-IsIn C (filled s) (filled-in s n C h)
 
 pub in-held : (s : Slots) (C : Clause) → IsIn C (filled s) → (n : ℕ) × Holds s n C
 in-held s C m = filled-cases s C (IsIn-Contains C (filled s) m)
-
--- a slot has one clause
-pub one_clause : (s : Slots) (n : ℕ) (C D : Clause) → Holds s n C → Holds s n D → C ≡ D
-one_clause s n C D e f = let g : Some (Some C) ≡ Some (Some D) = sym e ∙ f in cc
 
 filled-append : (s t : Slots) → filled (s ++ t) ≡ filled s ++ filled t
 filled-append [] t = refl

@@ -61,7 +61,7 @@ alike-changed N c C D h = alike-sym (live (set_slot c (Some D) N)) (D ∷ one_le
     (alike-cons D (others c N) (one_less C (live N)) (alike-others N c C h)))
 
 -- Slots with one clause at each number have the same clauses in the same order.
-live-none : (N : Slots) → ((c : ℕ) → slot N c ≡ None) → live N ≡ []
+pub live-none : (N : Slots) → ((c : ℕ) → slot N c ≡ None) → live N ≡ []
 live-none [] h = refl
 live-none (o ∷ N) h = let e : o ≡ None = h 0 in subst (λ (q : Option Clause). put_first q (live N) ≡ []) (sym e) (live-none N (λ c. h (suc c)))
 

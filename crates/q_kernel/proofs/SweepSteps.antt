@@ -7,7 +7,7 @@ use Rattle.q_log.specs.Texts.{step_text}
 use Rattle.q_log.proofs.WritableRuns.{first-of}
 use Rattle.q_kernel.specs.Kernels.{Seen, slots, formula_in}
 use Rattle.q_kernel.specs.Changes.{MayStep}
-use Rattle.q_kernel.proofs.SlotLists.{slot-IsIn, slot-set_same, slot-set_other, alike-others, IsIn-has_empty, size-gone}
+use Rattle.q_kernel.proofs.SlotLists.{slot-IsIn, slot-set_same, slot-set_other, alike-others, IsIn-has_empty, size-gone, live-none}
 use Rattle.q_kernel.proofs.TextCosts.{cost-delete, cost-remove, proper-in_order, proper-small, proper-var}
 
 -- What sweeping leaves.
@@ -139,13 +139,9 @@ alone-deleted N kept from id C a least s d = record {
       | inr f ↦ least c f l
     ]
 
-live-no : (N : Slots) → ((c : ℕ) → slot N c ≡ None) → live N ≡ []
-live-no [] h = refl
-live-no (o ∷ N) h = let e : o ≡ None = h 0 in subst (λ (q : Option Clause). put_first q (live N) ≡ []) (sym e) (live-no N (λ c. h (suc c)))
-
 pub live-single : (N : Slots) (c : ℕ) (C : Clause) → slot N c ≡ Some C → ((d : ℕ) → d ≢ c → slot N d ≡ None) → live N ≡ C ∷ []
 live-single [] c C s h = grind arith
-live-single (o ∷ N) zero C s h = subst (λ (q : Option Clause). put_first q (live N) ≡ C ∷ []) (sym s) (ap (λ (X : Matrix). C ∷ X) (live-no N (λ d. h (suc d) (later d))))
+live-single (o ∷ N) zero C s h = subst (λ (q : Option Clause). put_first q (live N) ≡ C ∷ []) (sym s) (ap (λ (X : Matrix). C ∷ X) (live-none N (λ d. h (suc d) (later d))))
   where
     later : (d : ℕ) → suc d ≢ 0
     later d e = absurd (omega arith)

@@ -18,10 +18,11 @@ use Rattle.q_prop.specs.Rows.{Watchers, IsPushed}
 use Rattle.q_prop.proofs.RowLemmas.{HasEntry-pushed}
 use Rattle.q_prop.specs.Lists.{AreTaken}
 use Rattle.q_prop.specs.Working.{AreInRows, IsKept, AreListed, IsRooted, AreStanding}
-use Rattle.q_prop.proofs.SlotLemmas.{filled-in, filled-cases, without-le, without-here, without-other, slice_get-set_other, slice_get-set_here, same_slice_get}
+use Rattle.q_prop.proofs.SlotLemmas.{filled-in, filled-cases, without-le, without-here, without-other, slice_get-set_other, slice_get-set_here}
 use Rattle.q_prop.proofs.WatchLemmas.{IsWithin, IsWatched-none}
 use Rattle.q_prop.proofs.PropagationEnd.{kept_watched}
 use Rattle.q_prop.proofs.CompleteRoot.{derived_nothing, derived_over, AreListed-kept, IsChain-append, IsChain-more}
+use Rattle.q_prop.proofs.BucketLemmas.{same-clause}
 
 pub none_watched : (done known : List Literal) (s : Slots) (pairs : List (Option Pair)) → AllWatched done known s pairs → AllWatched [] [] s pairs
 none_watched done known s pairs w b c p e f = IsWatched-none done known [] c p (w b c p e f)
@@ -58,9 +59,6 @@ pub without-derived : (s : Slots) (skip : Option ℕ) (root : List Literal) → 
 without-derived s skip root d =
     derived_over (filled (without s skip)) (filled s) root
     (λ c m. let n = filled-cases (without s skip) c m in filled-in s n.0 c (without-le s skip n.0 c n.1)) d
-
-same_clause : (s : Slots) (n : ℕ) (c d : Clause) → Holds s n c → Holds s n d → c ≡ d
-same_clause s n c d e f = let h : Some c ≡ Some d = same_slice_get s n (Some c) (Some d) e f in cc
 
 -- a slot that doubles gives what this one does, where its clause has but one literal that is not false
 given_of : (s : Slots) (n : ℕ) (l : Literal) (m : ℕ) (known : List Literal) → IsDoubled s n l m → (Contains known (negation l) → ⊥) → ((d : Clause) → Holds s m d → IsUnit known d l) → IsGiven s n known
@@ -152,7 +150,7 @@ module _ (s : Slots) (at' : ℕ) (root : List Literal) (spare : IsSpare s at' ro
     record {
       units = λ k m. absurd (Contains-nil k m);
       within = λ k m. absurd (Contains-nil k m);
-      enough = λ d e. enough_same [] c d (same_clause s at' c d here e) (record { is = inl o });
+      enough = λ d e. enough_same [] c d (same-clause s at' c d here e) (record { is = inl o });
     },
   )
   base_of_clause c here (inr (inl u)) = (
@@ -160,7 +158,7 @@ module _ (s : Slots) (at' : ℕ) (root : List Literal) (spare : IsSpare s at' ro
     record {
       units = λ k m. absurd (Contains-nil k m);
       within = λ k m. absurd (Contains-nil k m);
-      enough = λ d e. enough_same [] c d (same_clause s at' c d here e) (record { is = inr (inl u) });
+      enough = λ d e. enough_same [] c d (same-clause s at' c d here e) (record { is = inr (inl u) });
     },
   )
   base_of_clause c here (inr (inr g)) =
@@ -169,7 +167,7 @@ module _ (s : Slots) (at' : ℕ) (root : List Literal) (spare : IsSpare s at' ro
         record {
           units = r.1.units;
           within = r.1.within;
-          enough = λ d e. enough_same r.0 c d (same_clause s at' c d here e) (record { is = inr (inr (g, r.1.covered)) });
+          enough = λ d e. enough_same r.0 c d (same-clause s at' c d here e) (record { is = inr (inr (g, r.1.covered)) });
         },
       )
 

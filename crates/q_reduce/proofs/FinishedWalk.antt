@@ -3,8 +3,8 @@ use Rattle.std.proofs.Common.{◌≡◌, ◌⊎◌, ℕ, zero, suc, ◌+◌, ◌
 use Rattle.std.proofs.lemmas.Option.{same_Some}
 use Rattle.q_logic.specs.Prelude.{Literal, negation, Clause, Matrix, Prefix, IsIn, is_universal, inner_existential, Reached, Reducible}
 use Rattle.q_logic.proofs.ClosureSearch.{closed-reducible, Reaching, hit-reached, hit-not_reducible}
-use Rattle.q_logic.proofs.Common.{before_or_at, slice_get-IsIn}
-use Rattle.q_rule.proofs.GrownMembers.{member-place, before_growth, IsIn-grown}
+use Rattle.q_logic.proofs.Common.{before_or_at, slice_get-IsIn, IsIn-slice_get, slice_get-before}
+use Rattle.q_rule.proofs.GrownMembers.{IsIn-grown}
 use Rattle.q_reduce.specs.Walks.{IsWidened, IsWorkedOff, IsVisited}
 use Rattle.q_reduce.proofs.ReachWalks.{worked_off-more}
 
@@ -42,7 +42,7 @@ module _ (P : Prefix) (X : Matrix) (C : Clause) (u : Literal) where
       longer = let n = ap length v.0.is in let m = Rattle.std.proofs.Common.length-append old v.0.added in omega arith
 
       was : (j : ℕ) (i : Literal) → j < length old → slice_get new j ≡ Some i → slice_get old j ≡ Some i
-      was j i l f = before_growth old v.0.added j i l (subst (λ (xs : List Literal). slice_get xs j ≡ Some i) v.0.is f)
+      was j i l f = slice_get-before old v.0.added j i l (subst (λ (xs : List Literal). slice_get xs j ≡ Some i) v.0.is f)
 
       here : (j : ℕ) (i : Literal) → j ≡ head → slice_get new j ≡ Some i → i ≡ k
       here j i b f = same_Some i k (sym (was j i (omega arith) f) ∙ (ap (slice_get old) b ∙ e))
@@ -57,4 +57,4 @@ module _ (P : Prefix) (X : Matrix) (C : Clause) (u : Literal) where
       (record { none = λ E d f k i h o. elim (worked_off k i E d h) [ inl a ↦ f a | inr a ↦ a.0 o ] })
     where
       worked_off : (k : Literal) → IsIn k known → (E : Clause) → IsIn E X → IsIn (negation k) E → IsWorkedOff P u known E
-      worked_off k i E d h = let j = member-place known k i in w.visited j.0 k (let z = j.1 in omega arith) j.2 E d h
+      worked_off k i E d h = let j = IsIn-slice_get known k i in w.visited j.0 k (let z = j.1 in omega arith) j.2 E d h

@@ -3,8 +3,9 @@ use Rattle.std.proofs.lemmas.Option.{slice_get_within}
 use Rattle.q_logic.specs.Prelude.{Clause}
 use Rattle.q_logic.proofs.Common.{before_or_at}
 use Rattle.q_prop.specs.Slots.{Holds}
+use Rattle.q_prop.proofs.BucketLemmas.{same-clause}
 use Rattle.q_judge.specs.Regions.{IsRegional}
-use Rattle.q_judge.proofs.SlotCollections.{in-held, one_clause}
+use Rattle.q_judge.proofs.SlotCollections.{in-held}
 use Rattle.q_judge.proofs.regions.Regions.are_right.Goals as goal
 use Rattle.q_judge.proofs.regions.Regions.are_right.Goals.{in-Some+else-not-fit, in_default}
 
@@ -18,7 +19,7 @@ loop-at-preserved c n D h e = elim (before_or_at n c.loop-at.at h) [
       let there = subst (λ (m : ℕ). Holds c.args.store.now m D) q e in
       elim c.match-slot.branch [
         | in-Some+else-not-fit w ↦
-            subst (λ (E : Clause). IsRegional c.args.scope.now c.args.self.now E) (one_clause c.args.store.now c.loop-at.at w.in-Some.clause.now D w.in-Some.ensures there) (w.fit.ensures w.if-not-fit.false)
+            subst (λ (E : Clause). IsRegional c.args.scope.now c.args.self.now E) (same-clause c.args.store.now c.loop-at.at w.in-Some.clause.now D w.in-Some.ensures there) (w.fit.ensures w.if-not-fit.false)
         | in_default w ↦ absurd (w.in_default.ensures D there)
       ]
 ]
