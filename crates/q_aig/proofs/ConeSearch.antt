@@ -1,20 +1,11 @@
 -- A search through a cone.
-use Rattle.std.proofs.Common.{◌≡◌, ◌≢◌, ◌⊎◌, ℕ, zero, suc, ◌+◌, ◌<◌, ◌≤◌, Bool, true, false, List, [], ◌∷◌, length, map, get_or, set, refl, sym, ap, ◌∙◌, subst, inl, inr, arith, Option, Some, None}
+use Rattle.std.proofs.Common.{◌≡◌, ℕ, zero, suc, ◌+◌, ◌<◌, ◌≤◌, Bool, true, false, List, [], ◌∷◌, length, map, get_or, set, refl, sym, ap, ◌∙◌, subst, inl, inr, arith, Option, Some, None}
 use Rattle.std.proofs.lemmas.List.{length-set, get_or-set_same, get_or-set_other, get_or_past}
-use Rattle.std.proofs.lemmas.Bool.{cases_lt, both_ways, cases_Bool}
+use Rattle.std.proofs.lemmas.Bool.{cases_lt, both_ways, cases_Bool, cases_eq}
 use Rattle.q_logic.specs.Prelude.{GateNode, falsum, input_at, gate_at, IsThere, AreGates}
 use Rattle.q_aig.specs.Nets.{operand_of, gate_of}
 use Rattle.q_aig.specs.Walking.{pair_at, IsInCone, root, left, right, IsSearched, IsFoundBy, IsMet, IsDone, marked_count, IsQueue, IsMeeting, IsExploring, AreLeft}
 use Rattle.q_aig.proofs.Nets.{part-there, IsThere-more}
-
-ℕ-cases : (m n : ℕ) → (m ≡ n) ⊎ (m ≢ n)
-ℕ-cases m n = elim (cases_lt m n) [
-  | inl a ↦ inr (λ e. absurd (omega arith))
-  | inr a ↦ elim (cases_lt n m) [
-    | inl b ↦ inr (λ e. absurd (omega arith))
-    | inr b ↦ inl (omega arith)
-  ]
-]
 
 pub count-le : (ms : List Bool) → marked_count ms ≤ length ms
 count-le [] = omega arith
@@ -41,7 +32,7 @@ count-none (true ∷ ms) h = absurd (both_ways true (h 0) refl)
 count-none (false ∷ ms) h = count-none ms (λ g. h (suc g))
 
 pub set-kept : (ms : List Bool) (g x : ℕ) → get_or ms x false ≡ true → get_or (set ms g true) x false ≡ true
-set-kept ms g x e = elim (ℕ-cases x g) [
+set-kept ms g x e = elim (cases_eq x g) [
   | inl q ↦ elim (cases_lt g (length ms)) [
     | inl a ↦ subst (λ (y : ℕ). get_or (set ms g true) y false ≡ true) (sym q) (get_or-set_same ms g true false a)
     | inr a ↦ absurd (both_ways (get_or ms x false) (get_or_past ms x false (omega arith)) e)
@@ -76,7 +67,7 @@ queue-more ms qs tail g q lt e =
     record {
       room = omega arith;
       count = ap (λ (n : ℕ). n + 1) c ∙ sym (count-set ms g lt e);
-      queued = λ j h. elim (ℕ-cases j tail) [
+      queued = λ j h. elim (cases_eq j tail) [
         | inl s ↦
             let here : get_or (set qs tail g) j 0 ≡ g = subst (λ (y : ℕ). get_or (set qs tail g) y 0 ≡ g) (sym s) (get_or-set_same qs tail g 0 room) in
             let lt2 : g < length (set ms g true) = omega arith in (
@@ -90,7 +81,7 @@ queue-more ms qs tail g q lt e =
               subst (λ (y : ℕ). get_or (set ms g true) y false ≡ true) (sym same) (set-kept ms g (get_or qs j 0) old.1),
             )
       ];
-      marked = λ x h. elim (ℕ-cases x g) [
+      marked = λ x h. elim (cases_eq x g) [
         | inl s ↦ (tail, omega arith, get_or-set_same qs tail g 0 room ∙ sym s)
         | inr n ↦
             let old = q.marked x (sym (get_or-set_other ms g x true false n) ∙ h) in
@@ -148,7 +139,7 @@ explore-more gates l allowed ms qs tail f head x lt d = record {
   in_cone = x.in_cone;
   strange = x.strange;
   start = x.start;
-  done = λ j h. elim (ℕ-cases j head) [
+  done = λ j h. elim (cases_eq j head) [
     | inl e ↦ subst (λ (i : ℕ). IsDone allowed ms f (pair_at gates (get_or qs i 0))) (sym e) d
     | inr n ↦ x.done j (omega arith)
   ];
@@ -182,7 +173,7 @@ explored gates l allowed ms qs tail (Some f) x = record {
 }
 
 pub left-more : (ms : List Bool) (qs : List ℕ) (tail j : ℕ) → AreLeft ms qs tail j → AreLeft (set ms (get_or qs j 0) false) qs tail (j + 1)
-left-more ms qs tail j h g e = elim (ℕ-cases g (get_or qs j 0)) [
+left-more ms qs tail j h g e = elim (cases_eq g (get_or qs j 0)) [
   | inl s ↦ elim (cases_lt g (length ms)) [
     | inl a ↦
         let here : get_or (set ms (get_or qs j 0) false) g false ≡ false = subst (λ (y : ℕ). get_or (set ms y false) g false ≡ false) s (get_or-set_same ms g false false a) in
@@ -194,7 +185,7 @@ left-more ms qs tail j h g e = elim (ℕ-cases g (get_or qs j 0)) [
   | inr n ↦
       let r = h g (sym (get_or-set_other ms (get_or qs j 0) g false false n) ∙ e) in
       let a : j ≤ r.0 = r.1 in
-      elim (ℕ-cases r.0 j) [
+      elim (cases_eq r.0 j) [
         | inl q ↦ absurd (n (sym r.3 ∙ ap (λ (i : ℕ). get_or qs i 0) q))
         | inr q ↦ (r.0, omega arith, r.2, r.3)
       ]

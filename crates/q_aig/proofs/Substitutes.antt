@@ -3,6 +3,7 @@ use Rattle.std.proofs.Common.{◌≡◌, ℕ, ◌+◌, ◌<◌, Bool, true, fals
 use Rattle.std.proofs.lemmas.List.{length_push, length-map, map_push, get_or_append_left, get_or_past, get_or_push}
 use Rattle.std.proofs.lemmas.Bool.{cases_lt}
 use Rattle.q_logic.specs.Prelude.{Circuit, value_of, inverter, conjunction, gate_at, Operand, Gate, IsThere, AreGates, node_tree, operand_tree, gate_trees}
+use Rattle.q_logic.proofs.Common.{not-not}
 use Rattle.q_aig.specs.Nets.{Net, operand_of, turned, gate_of, IsLiteral, tree_at, IsNew, IsNet}
 use Rattle.q_aig.specs.Sound.{IsSound}
 use Rattle.q_aig.specs.Serving.{Serves, IsConjunction}
@@ -37,10 +38,6 @@ serves-swap s t = record {
   values = λ A. and-comm (value_of s A) (value_of t A);
   reads = λ u h. elim h [ inl a ↦ inr a | inr b ↦ inl b ];
 }
-
-not-not : (a : Bool) → not (not a) ≡ a
-not-not true = refl
-not-not false = refl
 
 -- the tree of an operand turned round
 turned-tree : (n : Bool) (t : Circuit) → Serves (cond (not n) (inverter t) t) (inverter (cond n (inverter t) t))

@@ -2,7 +2,7 @@
 use Rattle.std.proofs.Common.{◌≡◌, ℕ, ◌+◌, ◌≤◌, ◌*◌, suc, Some, cond, Bool, true, false, nat_le, List, [], ◌∷◌, ◌++◌, length, map, take, refl, ap, sym, ◌∙◌, arith, subst, Result, Ok, Err, length-append}
 use Rattle.std.specs.List.{AllByRecursion, AllZip}
 use Rattle.std.proofs.lemmas.List.{length-map, length-replicate}
-use Rattle.std.proofs.lemmas.Bool.Decides.{nat_tests}
+use Rattle.std.proofs.lemmas.Bool.{le-leb}
 use Rattle.q_logic.specs.Prelude.{Operand, Gate, NamedOutput, CertificateView}
 use Rattle.q_text.specs.Texts.{line_after}
 use Rattle.q_aiger.specs.Lines.{lines_of, clipped}
@@ -38,9 +38,6 @@ both-gates t [] [] h = tt
 both-gates t [] (g ∷ gs) h = h
 both-gates t (d ∷ ds) [] h = h
 both-gates t (d ∷ ds) (g ∷ gs) h = ((is-operand t d.left g.left h.0.0, is-operand t d.right g.right h.0.1), both-gates t ds gs h.1)
-
-le-true : (a b : ℕ) → a ≤ b → nat_le a b ≡ true
-le-true a b h = grind (arith, nat_tests)
 
 -- From the grammar to the reader.
 circuits-of : (h : Header) (t : Text) (w : CertificateView) → h.inputs ≡ length t.inputs → IsLawful t → Means t w → circuits_of h (st (variables t) t.outputs (pairs_of t.gates)) (record { inputs = w.inputs; outputs = map (λ o. o.name) w.outputs }) ≡ Ok w
@@ -134,7 +131,7 @@ file-parsed bytes w f =
     } in
     ap (λ (ls : List (List ℕ)). and_then (on_line 1 (header_of (first_line ls))) (λ h. and_then (few_bytes bytes h) (items_in (line_after bytes) (other_lines ls)))) s.lines
     ∙ (ap (λ r. and_then (on_line 1 r) (λ h. and_then (few_bytes bytes h) (items_in (line_after bytes) (s.inputs ++ (s.outputs ++ (s.gates ++ (s.symbols ++ s.behind))))))) head
-    ∙ (ap (λ x. and_then (cond x (Ok (record { max = f.text.max; inputs = length f.text.inputs; outputs = length f.text.outputs; gates = length f.text.gates })) (Err (line_after (take 1099511627776 bytes), 9))) (items_in (line_after bytes) (s.inputs ++ (s.outputs ++ (s.gates ++ (s.symbols ++ s.behind)))))) (le-true (length bytes) 1099511627776 f.short)
+    ∙ (ap (λ x. and_then (cond x (Ok (record { max = f.text.max; inputs = length f.text.inputs; outputs = length f.text.outputs; gates = length f.text.gates })) (Err (line_after (take 1099511627776 bytes), 9))) (items_in (line_after bytes) (s.inputs ++ (s.outputs ++ (s.gates ++ (s.symbols ++ s.behind)))))) (le-leb (length bytes) 1099511627776 f.short)
     ∙ body-parsed (line_after bytes) (s.inputs ++ (s.outputs ++ (s.gates ++ (s.symbols ++ s.behind)))) f.text (record { max = f.text.max; inputs = length f.text.inputs; outputs = length f.text.outputs; gates = length f.text.gates }) w b refl few f.lawful f.means))
 
 -- From the reader to the grammar.

@@ -2,7 +2,7 @@
 use Rattle.std.proofs.Common.{◌≡◌, ◌≢◌, ℕ, zero, suc, ◌+◌, ◌-◌, ◌*◌, ◌/◌, ◌%◌, ◌<◌, ◌≤◌, ◌^◌, ◌==◌, cond, max, min, Bool, true, false, eqb, nat_le, List, [], ◌∷◌, ◌++◌, length, map, get_or, refl, ap, sym, ◌∙◌, arith, subst, inl, inr, append-nil, append_assoc, length-append}
 use Rattle.std.specs.List.{AllByRecursion, AllZip}
 use Rattle.std.proofs.lemmas.List.{length-map, get_or_append_left, get_or-append_right}
-use Rattle.std.proofs.lemmas.Bool.{cases_lt}
+use Rattle.std.proofs.lemmas.Bool.{cases_lt, leb-true, leb-false}
 use Rattle.q_logic.specs.Prelude.{ArePairs, GateNode, falsum, input_at, gate_at, Operand, Gate, NamedOutput, CertificateView, IsThere, AreGates}
 use Rattle.q_gates.specs.Gates.{no_gate}
 use Rattle.q_aiger.specs.Lines.{lines_of}
@@ -161,12 +161,6 @@ outputs-said-by c kept (o ∷ os) h = (operand-said c kept o.operand h.0, output
 abbrev KnownGate : ℕ → List ℕ → Gate → Type 0
 KnownGate n kept g = Known n kept g.left.node × Known n kept g.right.node
 
-le-is : (a b : ℕ) → nat_le a b ≡ true → a ≤ b
-le-is a b e = grind arith
-
-gt-is : (a b : ℕ) → nat_le a b ≡ false → b < a
-gt-is a b e = grind arith
-
 gate-said : (c : CertificateView) (kept : List ℕ) (j : ℕ) (g : Gate) → KnownGate (length c.inputs) kept g → IsGate (text_of c kept) (definition_of (length c.inputs) kept j g) (turned_gate (length c.inputs) kept g)
 gate-said c kept j g h = go (nat_le (literal_of (length c.inputs) kept g.right) (literal_of (length c.inputs) kept g.left)) refl
   where
@@ -175,12 +169,12 @@ gate-said c kept j g h = go (nat_le (literal_of (length c.inputs) kept g.right) 
 
     go : (b : Bool) → nat_le (literal_of (length c.inputs) kept g.right) (literal_of (length c.inputs) kept g.left) ≡ b → IsGate (text_of c kept) (definition_of (length c.inputs) kept j g) (cond b (moved_gate kept g) (record { left = moved kept g.right; right = moved kept g.left }))
     go true e =
-        let le = le-is (literal_of (length c.inputs) kept g.right) (literal_of (length c.inputs) kept g.left) e in
+        let le = leb-true (literal_of (length c.inputs) kept g.right) (literal_of (length c.inputs) kept g.left) e in
         let x : max (literal_of (length c.inputs) kept g.left) (literal_of (length c.inputs) kept g.right) ≡ literal_of (length c.inputs) kept g.left = omega arith in
         let y : min (literal_of (length c.inputs) kept g.left) (literal_of (length c.inputs) kept g.right) ≡ literal_of (length c.inputs) kept g.right = omega arith in
         (subst (λ (l : ℕ). IsOperand (text_of c kept) l (moved kept g.left)) (sym x) (operand-said c kept g.left h.0), subst (λ (l : ℕ). IsOperand (text_of c kept) l (moved kept g.right)) (sym y) (operand-said c kept g.right h.1))
     go false e =
-        let le = gt-is (literal_of (length c.inputs) kept g.right) (literal_of (length c.inputs) kept g.left) e in
+        let le = leb-false (literal_of (length c.inputs) kept g.right) (literal_of (length c.inputs) kept g.left) e in
         let x : max (literal_of (length c.inputs) kept g.left) (literal_of (length c.inputs) kept g.right) ≡ literal_of (length c.inputs) kept g.right = omega arith in
         let y : min (literal_of (length c.inputs) kept g.left) (literal_of (length c.inputs) kept g.right) ≡ literal_of (length c.inputs) kept g.left = omega arith in
         (subst (λ (l : ℕ). IsOperand (text_of c kept) l (moved kept g.right)) (sym x) (operand-said c kept g.right h.1), subst (λ (l : ℕ). IsOperand (text_of c kept) l (moved kept g.left)) (sym y) (operand-said c kept g.left h.0))

@@ -3,11 +3,12 @@ use Rattle.std.proofs.Common.{◌≡◌, ℕ, zero, suc, ◌+◌, ◌*◌, ◌<�
 use Rattle.std.specs.List.{AllByRecursion, AllZip}
 use Rattle.std.specs.Fmt.{decimal}
 use Rattle.q_logic.specs.Prelude.{Gate, NamedOutput}
+use Rattle.q_logic.proofs.Common.{all-append}
 use Rattle.q_gates.specs.Gates.{no_gate}
 use Rattle.q_aiger.specs.Lines.{words, lines_of}
 use Rattle.q_aiger.specs.Writing.{literal_of, number_word, number_line, header_line, input_lines, output_lines, gate_text, gate_lines, symbol_line, symbol_lines}
 use Rattle.q_aiger.specs.Grammar.{Definition, Label, of_input, of_output, AreNumbers, IsLine, IsSymbol, Says, input_numbers, output_numbers, gate_numbers, input_labels, output_labels}
-use Rattle.q_aiger.proofs.LineParts.{IsInside, IsPlain, all-append, line-of, word-space, word-last, shown, shown-inside, shown-plain}
+use Rattle.q_aiger.proofs.LineParts.{IsInside, IsPlain, line-of, word-space, word-last, shown, shown-inside, shown-plain}
 
 -- a line of one number
 pub one-said : (n : ℕ) → n < 2 ^ 64 → IsLine (decimal n) (n ∷ [])

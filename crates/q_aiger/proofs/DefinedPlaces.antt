@@ -1,12 +1,9 @@
 -- The places of variables among those that are defined.
 use Rattle.std.proofs.Common.{◌≡◌, ◌≢◌, ℕ, zero, suc, ◌+◌, ◌<◌, Bool, true, false, cond, eqb, is_some, List, [], ◌∷◌, ◌++◌, length, get_or, refl, ap, sym, ◌∙◌, arith, subst, Option, Some, None, inl, inr, length-append}
-use Rattle.std.proofs.lemmas.Bool.{cases_lt}
+use Rattle.std.proofs.lemmas.Bool.{cases_lt, eqb-true}
 use Rattle.std.proofs.lemmas.List.{length_push, get_or_append_left, get_or_push, get_or_at}
 use Rattle.q_aiger.specs.Items.{place_of, raised}
 use Rattle.q_aiger.specs.Grammar.{AreOnce}
-
-eqb-same : (a b : ℕ) → eqb a b ≡ true → a ≡ b
-eqb-same a b e = grind arith
 
 eqb-other : (a b : ℕ) → eqb a b ≡ false → a ≢ b
 eqb-other a b e = grind arith
@@ -19,7 +16,7 @@ place-some (d ∷ ds) v k e = go (eqb d v) refl (place_of ds v) refl (place-some
     go true q p r ih =
         let f : Some 0 ≡ Some k = ap (λ b. cond b (Some 0) (raised (place_of ds v))) (sym q) ∙ e in
         let z : 0 ≡ k = cc in
-        subst (λ (k : ℕ). (k < length (d ∷ ds)) × (get_or (d ∷ ds) k 0 ≡ v)) z (omega arith, eqb-same d v q)
+        subst (λ (k : ℕ). (k < length (d ∷ ds)) × (get_or (d ∷ ds) k 0 ≡ v)) z (omega arith, eqb-true d v q)
     go false q None r ih = absurd (let f : None ≡ Some k = ap raised (sym r) ∙ (ap (λ b. cond b (Some 0) (raised (place_of ds v))) (sym q) ∙ e) in cc)
     go false q (Some j) r ih =
         let f : Some (suc j) ≡ Some k = ap raised (sym r) ∙ (ap (λ b. cond b (Some 0) (raised (place_of ds v))) (sym q) ∙ e) in

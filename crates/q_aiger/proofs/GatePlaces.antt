@@ -1,9 +1,10 @@
 -- Gates and outputs at their places in an order.
 use Rattle.std.proofs.Common.{◌≡◌, ◌≢◌, inl, inr, ℕ, zero, suc, ◌+◌, ◌<◌, ◌≤◌, Bool, true, false, List, [], ◌∷◌, ◌++◌, length, map, take, get_or, set, refl, ap, sym, ◌∙◌, arith, subst, Some, add-one}
 use Rattle.std.proofs.Math.Seq.{take-suc}
-use Rattle.std.proofs.lemmas.List.{length-map, get_or-map, get_or-take, length-take-le, get_or-set_same, get_or-set_other, length_push, get_or_append_left, get_or_push}
-use Rattle.std.proofs.lemmas.Bool.{cases_lt}
+use Rattle.std.proofs.lemmas.List.{length-map, get_or-map, get_or-take, length-take-le, get_or-set_same, get_or-set_other, length_push, get_or_append_left, get_or_push, map_push}
+use Rattle.std.proofs.lemmas.Bool.{cases_lt, cases_eq}
 use Rattle.q_logic.specs.Prelude.{GateNode, falsum, input_at, gate_at, Operand, Gate, NamedOutput, CertificateView, IsThere}
+use Rattle.q_logic.proofs.Common.{taken-all}
 use Rattle.q_aig.specs.Prelude.{operand_of}
 use Rattle.q_gates.specs.Gates.{no_gate}
 use Rattle.q_aiger.specs.Cones.{place_in}
@@ -16,7 +17,6 @@ use Rattle.q_gates.specs.declared.gate.Gate.{Gate as GateCode}
 use Rattle.q_gates.specs.declared.gate.Operand.{Operand as OperandCode}
 use Rattle.q_gates.specs.Gates.{operand_view, gate_view, gates_view}
 use Rattle.q_aiger.specs.Standing.{operands_view}
-use Rattle.q_gates.proofs.Cases.{ℕ-cases}
 
 abbrev Once : List ℕ → Type 0
 Once xs = (i j : ℕ) → i < length xs → j < length xs → get_or xs i 0 ≡ get_or xs j 0 → i ≡ j
@@ -82,21 +82,17 @@ all-ready ps order n falsum f t = tt
 all-ready ps order n (input_at i) f t = t
 all-ready ps order n (gate_at h) f t = let s = f.all h t in (s.0, s.1, s.2)
 
-map-push : {X Y : Type 0} (f : X → Y) (xs : List X) (x : X) → map f (xs ++ x ∷ []) ≡ map f xs ++ f x ∷ []
-map-push f [] x = refl
-map-push f (y ∷ xs) x = ap (λ z. f y ∷ z) (map-push f xs x)
-
 pub first-more : (order : List ℕ) (ps : List Gate) (k : ℕ) → k < length order → first_gates order ps (k + 1) ≡ first_gates order ps k ++ moved_gate order (get_or ps (get_or order k 0) no_gate) ∷ []
 first-more order ps k lt =
     ap (first_gates order ps) (add-one k)
     ∙ (ap (map (λ g. moved_gate order (get_or ps g no_gate))) (take-suc order k 0 lt)
-    ∙ map-push (λ g. moved_gate order (get_or ps g no_gate)) (take k order) (get_or order k 0))
+    ∙ map_push (λ g. moved_gate order (get_or ps g no_gate)) (take k order) (get_or order k 0))
 
 pub length-first : (order : List ℕ) (ps : List Gate) (k : ℕ) → k ≤ length order → length (first_gates order ps k) ≡ k
 length-first order ps k le = length-map (take k order) (λ g. moved_gate order (get_or ps g no_gate)) ∙ length-take-le k order le
 
 pub row-more : (order row : List ℕ) (k lit : ℕ) → Once order → IsGateRow order k row → k < length order → get_or order k 0 < length row → operand_of lit ≡ plain (gate_at k) → IsGateRow order (k + 1) (set row (get_or order k 0) lit)
-row-more order row k lit o g lt room e j b = elim (ℕ-cases j k) [
+row-more order row k lit o g lt room e j b = elim (cases_eq j k) [
   | inl q ↦ subst (λ y. operand_of (get_or (set row (get_or order k 0) lit) (get_or order y 0) 0) ≡ plain (gate_at y)) (sym q)
       (ap operand_of (get_or-set_same row (get_or order k 0) lit 0 room) ∙ e)
   | inr q ↦ ap operand_of (get_or-set_other row (get_or order k 0) (get_or order j 0) lit 0 (λ s. q (o j k (omega arith) lt s))) ∙ g j (omega arith)
@@ -195,12 +191,6 @@ outputs-length inputs row names outputs same =
     let b = named-length names (operands_view outputs) (omega arith) in
     omega arith
 
-pub take-all : {X : Type 0} (xs : List X) (k : ℕ) → length xs ≤ k → take k xs ≡ xs
-take-all [] zero h = refl
-take-all [] (suc k) h = refl
-take-all (x ∷ xs) zero h = absurd (omega arith)
-take-all (x ∷ xs) (suc k) h = ap (λ y. x ∷ y) (take-all xs k (omega arith))
-
 pub operand-there : (n m : ℕ) (outputs : List OperandCode) (k : ℕ) (d : OperandCode) (P : Operand → Type 0) → k < length outputs → P (get_or (operands_view outputs) k (plain falsum)) → P (operand_view (get_or outputs k d))
 operand-there n m outputs k d P lt h = subst P (get_or-map operand_view outputs k d (plain falsum) lt) h
 
@@ -210,7 +200,7 @@ whole i g o = record { inputs = i; gates = g; outputs = o }
 pub made-all : (r : CertificateView) (order inputs names row_in row : List ℕ) (ps : List Gate) (os : List Operand) (n : ℕ) → r.inputs ≡ inputs → r.gates ≡ first_gates order ps (length order) → r.outputs ≡ map (output_through row_in row) (with_names names os) → IsInputRow n row_in → IsGateRow order (length order) row → IsFullOrder ps order → AreOperandsThere n (length ps) os → r ≡ sorted_circuits order (record { inputs = inputs; gates = ps; outputs = with_names names os })
 made-all r order inputs names row_in row ps os n ei eg eo i g f t =
     ap (λ (x : List ℕ). whole x r.gates r.outputs) ei
-    ∙ (ap (λ (x : List Gate). whole inputs x r.outputs) (eg ∙ ap (map (λ g. moved_gate order (get_or ps g no_gate))) (take-all order (length order) (omega arith)))
+    ∙ (ap (λ (x : List Gate). whole inputs x r.outputs) (eg ∙ ap (map (λ g. moved_gate order (get_or ps g no_gate))) (taken-all order (length order) (omega arith)))
     ∙ ap (whole inputs (map (λ g. moved_gate order (get_or ps g no_gate)) order)) (eo ∙ outputs-moved row_in row order names os (λ k lt. through-moved row_in row order n (length order) (get_or os k (plain falsum)) i g f.sorted.once (omega arith) (all-ready ps order n (get_or os k (plain falsum)).node f (t k lt)))))
 
 pub made-there : (order row_in row : List ℕ) (ps : List Gate) (os : List Operand) (n : ℕ) (ains : List ℕ) (agates : List Gate) → length ains ≡ n → agates ≡ first_gates order ps (length order) → IsInputRow n row_in → IsGateRow order (length order) row → IsFullOrder ps order → AreOperandsThere n (length ps) os → (k : ℕ) → k < length os → IsThere (length ains) (length agates) (through row_in row (get_or os k (plain falsum))).node

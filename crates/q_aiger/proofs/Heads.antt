@@ -1,24 +1,21 @@
 -- The header, as the reader and the grammar have it.
-use Rattle.std.proofs.Common.{◌≡◌, ℕ, ◌+◌, ◌≤◌, ◌==◌, cond, Bool, true, false, eqb, nat_lt, List, [], ◌∷◌, refl, ap, sym, ◌∙◌, arith, subst, Option, Some, None, Result, Ok, Err}
-use Rattle.std.proofs.lemmas.Bool.Decides.{nat_tests}
+use Rattle.std.proofs.Common.{◌≡◌, ℕ, ◌+◌, ◌≤◌, ◌==◌, cond, Bool, true, false, nat_lt, List, [], ◌∷◌, refl, ap, sym, ◌∙◌, arith, subst, Option, Some, None, Result, Ok, Err}
+use Rattle.std.proofs.lemmas.Bool.{eqb-true, ltb-false, le-ltb}
+use Rattle.q_logic.proofs.Booleans.{both-left, both-right}
 use Rattle.q_text.specs.Words.{digits}
 use Rattle.q_aiger.specs.Lines.{clipped, words}
 use Rattle.q_aiger.specs.Headers.{Counts, is_aag, counts_with, counts_of, Header, header_with, header_of}
 use Rattle.q_aiger.specs.Grammar.{AreNumbers}
-use Rattle.q_aiger.proofs.LongerNames.{and-left, and-right}
-
-eqb-same : (a b : ℕ) → eqb a b ≡ true → a ≡ b
-eqb-same a b e = grind arith
 
 aag-is : (w : List ℕ) → is_aag w ≡ true → w ≡ 97 ∷ 97 ∷ 103 ∷ []
 aag-is [] e = absurd (cc)
 aag-is (a ∷ []) e = absurd (cc)
 aag-is (a ∷ b ∷ []) e = absurd (cc)
 aag-is (a ∷ b ∷ c ∷ []) e =
-    let p = eqb-same a 97 (and-left _ _ e) in
-    let e1 = and-right (a == 97) _ e in
-    let q = eqb-same b 97 (and-left _ _ e1) in
-    let r = eqb-same c 103 (and-right (b == 97) _ e1) in
+    let p = eqb-true a 97 (both-left _ _ e) in
+    let e1 = both-right (a == 97) _ e in
+    let q = eqb-true b 97 (both-left _ _ e1) in
+    let r = eqb-true c 103 (both-right (b == 97) _ e1) in
     ap (λ (x : ℕ). x ∷ b ∷ c ∷ []) p ∙ (ap (λ (x : ℕ). 97 ∷ x ∷ c ∷ []) q ∙ ap (λ (x : ℕ). 97 ∷ 97 ∷ x ∷ []) r)
 aag-is (a ∷ b ∷ c ∷ d ∷ bs) e = absurd (cc)
 
@@ -71,12 +68,6 @@ counted (t ∷ m ∷ i ∷ l ∷ o ∷ a ∷ []) c e = go (is_aag t) refl
         }
 counted (t ∷ m ∷ i ∷ l ∷ o ∷ a ∷ x ∷ ws) c e = absurd (cc)
 
-above : (a b : ℕ) → nat_lt a b ≡ false → b ≤ a
-above a b e = grind arith
-
-lt-false : (a b : ℕ) → b ≤ a → nat_lt a b ≡ false
-lt-false a b h = grind (arith, nat_tests)
-
 pub record IsHead (l : List ℕ) (h : Header) : Type 0 where
   pub outputs : ℕ
   pub numbers : List (List ℕ)
@@ -107,8 +98,8 @@ head-read l h e = go (counts_of (words l)) refl
             let g : Ok (record { max = c.max; inputs = c.inputs; outputs = clipped c.outputs; gates = c.gates }) ≡ Ok h = ap (λ x. cond x (Err 9) (Ok (record { max = c.max; inputs = c.inputs; outputs = clipped c.outputs; gates = c.gates }))) (sym s) ∙ (ap (λ x. cond x (Err 3) (cond (nat_lt 268435456 c.max) (Err 9) (Ok (record { max = c.max; inputs = c.inputs; outputs = clipped c.outputs; gates = c.gates })))) (sym r) ∙ (ap (λ x. cond x (Err 1) (cond (nat_lt 0 c.latches) (Err 3) (cond (nat_lt 268435456 c.max) (Err 9) (Ok (record { max = c.max; inputs = c.inputs; outputs = clipped c.outputs; gates = c.gates }))))) (sym p) ∙ f)) in
             let z : ◌≡◌ {A = Header} (record { max = c.max; inputs = c.inputs; outputs = clipped c.outputs; gates = c.gates }) h = cc in
             let k = counted (words l) c q in
-            let none : c.latches ≡ 0 = (let w = above 0 c.latches r in omega arith) in
-            let room : c.inputs + c.latches + c.gates ≤ c.max = above c.max (c.inputs + c.latches + c.gates) p in
+            let none : c.latches ≡ 0 = (let w = ltb-false 0 c.latches r in omega arith) in
+            let room : c.inputs + c.latches + c.gates ≤ c.max = ltb-false c.max (c.inputs + c.latches + c.gates) p in
             subst (IsHead l) z (record {
               outputs = c.outputs;
               numbers = k.numbers;
@@ -116,7 +107,7 @@ head-read l h e = go (counts_of (words l)) refl
               are = subst (λ (n : ℕ). AreNumbers k.numbers (c.max ∷ c.inputs ∷ n ∷ c.outputs ∷ c.gates ∷ [])) none k.are;
               clipped = refl;
               room = omega arith;
-              max = above 268435456 c.max s;
+              max = ltb-false 268435456 c.max s;
             })
 
 -- The other way.
@@ -137,8 +128,8 @@ numbers-counted (u ∷ v ∷ w ∷ x ∷ y ∷ z ∷ ws) m i o a h = absurd h.1.
 pub read-head : (l : List ℕ) (ws : List (List ℕ)) (m i o a : ℕ) → words l ≡ (97 ∷ 97 ∷ 103 ∷ []) ∷ ws → AreNumbers ws (m ∷ i ∷ 0 ∷ o ∷ a ∷ []) → i + a ≤ m → m ≤ 268435456 → o ≤ 576460752303423488 → header_of l ≡ Ok (record { max = m; inputs = i; outputs = o; gates = a })
 read-head l ws m i o a s h room max few =
     let n = numbers-counted ws m i o a h in
-    let p = lt-false m (i + 0 + a) (omega arith) in
-    let q = lt-false 268435456 m max in
+    let p = le-ltb m (i + 0 + a) (omega arith) in
+    let q = le-ltb 268435456 m max in
     let z : clipped o ≡ o = omega arith in
     ap (λ x. header_with (counts_of x)) s
     ∙ (ap header_with n

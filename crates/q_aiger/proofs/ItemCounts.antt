@@ -1,7 +1,7 @@
 -- How many items there are once all lines have stood, and where their operands are.
 use Rattle.std.proofs.Common.{◌≡◌, inl, inr, ℕ, zero, suc, ◌+◌, ◌-◌, ◌/◌, ◌<◌, ◌≤◌, Bool, true, false, ◌&&◌, cond, nat_lt, is_some, List, [], ◌∷◌, ◌++◌, length, refl, ap, sym, ◌∙◌, arith, subst, Option, Some, None, Result, Ok, Err}
 use Rattle.std.proofs.lemmas.List.{length_push}
-use Rattle.std.proofs.lemmas.Bool.{cases_lt}
+use Rattle.std.proofs.lemmas.Bool.{cases_lt, ltb-false}
 use Rattle.q_aiger.specs.Headers.{Header}
 use Rattle.q_aiger.specs.Lines.{words}
 use Rattle.q_aiger.specs.Items.{Items, Behind, place_of, is_left, is_right, one_number, three_numbers, with_input, with_output, with_gate, with_line, follow, items_from, items_of, IsOnTheWay}
@@ -72,16 +72,13 @@ gate-on h s t (Some (l, a, b)) k e le ge w = go (is_left h.max l && (is_right h.
 lt-is : (a b : ℕ) → nat_lt a b ≡ true → a < b
 lt-is a b e = grind arith
 
-le-is : (a b : ℕ) → nat_lt a b ≡ false → b ≤ a
-le-is a b e = grind arith
-
 line-on : (h : Header) (s t : Items) (ws : List (List ℕ)) (k : ℕ) → with_line h s ws ≡ Ok t → IsOnTheWay h s (suc k) → IsOnTheWay h t k
 line-on h s t ws k e w = go (nat_lt (length s.defined) h.inputs) refl (nat_lt (length s.outputs) h.outputs) refl
   where
     go : (a : Bool) → nat_lt (length s.defined) h.inputs ≡ a → (b : Bool) → nat_lt (length s.outputs) h.outputs ≡ b → IsOnTheWay h t k
     go true p b q = input-on h s t (one_number ws) k (ap (λ x. cond x (with_input h s (one_number ws)) (cond (nat_lt (length s.outputs) h.outputs) (with_output h s (one_number ws)) (with_gate h s (three_numbers ws)))) (sym p) ∙ e) (lt-is _ _ p) w
-    go false p true q = output-on h s t (one_number ws) k (ap (λ x. cond x (with_output h s (one_number ws)) (with_gate h s (three_numbers ws))) (sym q) ∙ (ap (λ x. cond x (with_input h s (one_number ws)) (cond (nat_lt (length s.outputs) h.outputs) (with_output h s (one_number ws)) (with_gate h s (three_numbers ws)))) (sym p) ∙ e)) (le-is _ _ p) (lt-is _ _ q) w
-    go false p false q = gate-on h s t (three_numbers ws) k (ap (λ x. cond x (with_output h s (one_number ws)) (with_gate h s (three_numbers ws))) (sym q) ∙ (ap (λ x. cond x (with_input h s (one_number ws)) (cond (nat_lt (length s.outputs) h.outputs) (with_output h s (one_number ws)) (with_gate h s (three_numbers ws)))) (sym p) ∙ e)) (le-is _ _ p) (le-is _ _ q) w
+    go false p true q = output-on h s t (one_number ws) k (ap (λ x. cond x (with_output h s (one_number ws)) (with_gate h s (three_numbers ws))) (sym q) ∙ (ap (λ x. cond x (with_input h s (one_number ws)) (cond (nat_lt (length s.outputs) h.outputs) (with_output h s (one_number ws)) (with_gate h s (three_numbers ws)))) (sym p) ∙ e)) (ltb-false _ _ p) (lt-is _ _ q) w
+    go false p false q = gate-on h s t (three_numbers ws) k (ap (λ x. cond x (with_output h s (one_number ws)) (with_gate h s (three_numbers ws))) (sym q) ∙ (ap (λ x. cond x (with_input h s (one_number ws)) (cond (nat_lt (length s.outputs) h.outputs) (with_output h s (one_number ws)) (with_gate h s (three_numbers ws)))) (sym p) ∙ e)) (ltb-false _ _ p) (ltb-false _ _ q) w
 
 items-on : (h : Header) (e n : ℕ) (s : Items) (k : ℕ) (ls : List (List ℕ)) (b : Behind) → items_from h e n s k ls ≡ Ok b → IsOnTheWay h s k → IsOnTheWay h b.items 0 × (b.line + length b.lines ≡ n + length ls)
 items-on h e n s zero ls b q w =

@@ -1,18 +1,16 @@
 -- The lines of inputs, outputs and gates: what the reader takes of them is what the grammar has.
 use Rattle.std.proofs.Common.{◌≡◌, ◌≢◌, ℕ, ◌+◌, ◌*◌, ◌/◌, ◌%◌, ◌<◌, ◌≤◌, ◌==◌, ◌&&◌, Bool, true, false, cond, nat_lt, nat_le, is_some, List, [], ◌∷◌, ◌++◌, length, get_or, refl, ap, sym, ◌∙◌, arith, subst, Option, Some, None, Ok, Err}
 use Rattle.std.proofs.lemmas.Bool.Decides.{nat_tests}
+use Rattle.std.proofs.lemmas.Bool.{leb-true}
+use Rattle.q_logic.proofs.Booleans.{both-left, both-right}
 use Rattle.q_aiger.specs.Headers.{Header}
 use Rattle.q_aiger.specs.Items.{Items, place_of, is_left, is_right, one_number, three_numbers, with_input, with_output, with_gate, with_line}
 use Rattle.q_aiger.specs.Grammar.{Definition, AreNumbers, IsVar, IsLiteral, IsDefinition}
 use Rattle.q_aiger.proofs.NumberLines.{one-line, line-one, three-line, line-three}
-use Rattle.q_aiger.proofs.LongerNames.{and-left, and-right}
 use Rattle.q_aiger.proofs.DefinedPlaces.{none-there, place-none, fresh}
 
 abbrev pub st : List ℕ → List ℕ → List (ℕ × ℕ) → Items
 st ds os ps = record { defined = ds; outputs = os; operands = ps }
-
-le-is : (a b : ℕ) → nat_le a b ≡ true → a ≤ b
-le-is a b e = grind arith
 
 even-is : (l : ℕ) → (l % 2 == 0) ≡ true → 2 * (l / 2) ≡ l
 even-is l e = let z : l % 2 ≡ 0 = zero-is (l % 2) e in omega arith
@@ -27,10 +25,10 @@ record IsLeft (max l : ℕ) : Type 0 where
 
 left-is : (max l : ℕ) → is_left max l ≡ true → IsLeft max l
 left-is max l e =
-    let a : nat_le 2 l ≡ true = and-left _ _ e in
-    let e1 = and-right (nat_le 2 l) _ e in
-    let b : nat_le l (2 * max) ≡ true = and-left _ _ e1 in
-    record { low = le-is 2 l a; high = le-is l (2 * max) b; even = even-is l (and-right (nat_le l (2 * max)) _ e1) }
+    let a : nat_le 2 l ≡ true = both-left _ _ e in
+    let e1 = both-right (nat_le 2 l) _ e in
+    let b : nat_le l (2 * max) ≡ true = both-left _ _ e1 in
+    record { low = leb-true 2 l a; high = leb-true l (2 * max) b; even = even-is l (both-right (nat_le l (2 * max)) _ e1) }
 
 is-left : (max v : ℕ) → IsVar max v → is_left max (2 * v) ≡ true
 is-left max v h =
@@ -46,19 +44,13 @@ is-left max v h =
     le-true a b h = grind (arith, nat_tests)
 
 right-is : (max l : ℕ) → is_right max l ≡ true → IsLiteral max l
-right-is max l e = le-is l (2 * max + 1) e
+right-is max l e = leb-true l (2 * max + 1) e
 
 is-right : (max l : ℕ) → IsLiteral max l → is_right max l ≡ true
 is-right max l h = grind (arith, nat_tests)
 
 half : (v : ℕ) → (2 * v) / 2 ≡ v
 half v = omega arith
-
-pub lt-true : (a b : ℕ) → a < b → nat_lt a b ≡ true
-lt-true a b h = grind (arith, nat_tests)
-
-pub lt-false : (a b : ℕ) → b ≤ a → nat_lt a b ≡ false
-lt-false a b h = grind (arith, nat_tests)
 
 -- which kind of line comes next
 pub line-input : (h : Header) (s : Items) (ws : List (List ℕ)) → nat_lt (length s.defined) h.inputs ≡ true → with_line h s ws ≡ with_input h s (one_number ws)
@@ -175,13 +167,13 @@ gate-taken h ds os ps ws t small e = numbers (three_numbers ws) refl
         go true p false r =
             let f : Ok (st (ds ++ (l / 2) ∷ []) os (ps ++ (a, b) ∷ [])) ≡ Ok t = ap (λ x. cond x (Err 4) (Ok (st (ds ++ (l / 2) ∷ []) os (ps ++ (a, b) ∷ [])))) (sym r) ∙ (ap (λ x. cond x (cond (is_some (place_of ds (l / 2))) (Err 4) (Ok (st (ds ++ (l / 2) ∷ []) os (ps ++ (a, b) ∷ [])))) (Err 2)) (sym p) ∙ g) in
             let z : st (ds ++ (l / 2) ∷ []) os (ps ++ (a, b) ∷ []) ≡ t = cc in
-            let i = left-is h.max l (and-left _ _ p) in
+            let i = left-is h.max l (both-left _ _ p) in
             let low : 2 ≤ l = i.low in
             let high : l ≤ 2 * h.max = i.high in
             let even : 2 * (l / 2) ≡ l = i.even in
-            let p1 = and-right (is_left h.max l) _ p in
-            let ra : a ≤ 2 * h.max + 1 = right-is h.max a (and-left _ _ p1) in
-            let rb : b ≤ 2 * h.max + 1 = right-is h.max b (and-right (is_right h.max a) _ p1) in
+            let p1 = both-right (is_left h.max l) _ p in
+            let ra : a ≤ 2 * h.max + 1 = right-is h.max a (both-left _ _ p1) in
+            let rb : b ≤ 2 * h.max + 1 = right-is h.max b (both-right (is_right h.max a) _ p1) in
             record {
               gate = record { var = l / 2; left = a; right = b };
               spelled = subst (λ (k : ℕ). AreNumbers ws (k ∷ a ∷ b ∷ [])) (sym even) (three-line ws l a b q (omega arith) (omega arith) (omega arith));

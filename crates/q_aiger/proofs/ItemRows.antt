@@ -2,12 +2,13 @@
 use Rattle.std.proofs.Common.{◌≡◌, ℕ, zero, suc, ◌+◌, ◌≤◌, List, [], ◌∷◌, ◌++◌, length, map, refl, ap, sym, ◌∙◌, arith, subst, Result, Ok, Err, append-nil, append_assoc}
 use Rattle.std.specs.List.{AllByRecursion, AllZip}
 use Rattle.std.proofs.lemmas.List.{length_push}
+use Rattle.std.proofs.lemmas.Bool.{le-ltb, lt-ltb}
 use Rattle.q_aiger.specs.Headers.{Header}
 use Rattle.q_aiger.specs.Lines.{words}
 use Rattle.q_aiger.specs.Items.{Items, Behind, one_number, three_numbers, with_input, with_output, with_gate, with_line, follow, items_from}
 use Rattle.q_aiger.specs.Grammar.{Definition, IsLine, input_numbers, output_numbers, gate_numbers, IsVar, IsLiteral, IsDefinition, AreOnce}
 use Rattle.q_aiger.proofs.DefinedPlaces.{once-push, once-fresh}
-use Rattle.q_aiger.proofs.ItemLines.{st, lt-true, lt-false, line-input, line-output, line-gate, InputTaken, input-taken, input-takes, OutputTaken, output-taken, output-takes, GateTaken, gate-taken, gate-takes}
+use Rattle.q_aiger.proofs.ItemLines.{st, line-input, line-output, line-gate, InputTaken, input-taken, input-takes, OutputTaken, output-taken, output-takes, GateTaken, gate-taken, gate-takes}
 
 abbrev pub vars_of : List Definition → List ℕ
 vars_of gs = map (λ g. g.var) gs
@@ -49,7 +50,7 @@ inputs-read h e n ds (suc k) r (suc m) [] b small c em o q = absurd (cc)
 inputs-read h e n ds (suc k) r (suc m) (l ∷ ls) b small c em o q = go (with_input h (st ds [] []) (one_number (words l))) refl (λ v. inputs-read h e (n + 1) (ds ++ v ∷ []) k r m ls b small)
   where
     step : with_line h (st ds [] []) (words l) ≡ with_input h (st ds [] []) (one_number (words l))
-    step = line-input h (st ds [] []) (words l) (lt-true (length ds) h.inputs (omega arith))
+    step = line-input h (st ds [] []) (words l) (lt-ltb (length ds) h.inputs (omega arith))
 
     go : (x : Result Items ℕ) → with_input h (st ds [] []) (one_number (words l)) ≡ x → ((v : ℕ) → length (ds ++ v ∷ []) + k ≡ h.inputs → m ≡ k + r → AreOnce (ds ++ v ∷ []) → items_from h e (n + 1) (st (ds ++ v ∷ []) [] []) m ls ≡ Ok b → InputsRead h e (ds ++ v ∷ []) k r ls b) → InputsRead h e ds (suc k) r (l ∷ ls) b
     go (Err x) p ih = absurd (let f : Err (n, x) ≡ Ok b = ap (λ y. follow n y (λ t. items_from h e (n + 1) t m ls)) (sym (step ∙ p)) ∙ q in cc)
@@ -103,7 +104,7 @@ outputs-read h e n ds os (suc k) r (suc m) [] b small d c em q = absurd (cc)
 outputs-read h e n ds os (suc k) r (suc m) (l ∷ ls) b small d c em q = go (with_output h (st ds os []) (one_number (words l))) refl (λ v. outputs-read h e (n + 1) ds (os ++ v ∷ []) k r m ls b small d)
   where
     step : with_line h (st ds os []) (words l) ≡ with_output h (st ds os []) (one_number (words l))
-    step = line-output h (st ds os []) (words l) (lt-false (length ds) h.inputs (omega arith)) (lt-true (length os) h.outputs (omega arith))
+    step = line-output h (st ds os []) (words l) (le-ltb (length ds) h.inputs (omega arith)) (lt-ltb (length os) h.outputs (omega arith))
 
     go : (x : Result Items ℕ) → with_output h (st ds os []) (one_number (words l)) ≡ x → ((v : ℕ) → length (os ++ v ∷ []) + k ≡ h.outputs → m ≡ k + r → items_from h e (n + 1) (st ds (os ++ v ∷ []) []) m ls ≡ Ok b → OutputsRead h e ds (os ++ v ∷ []) k r ls b) → OutputsRead h e ds os (suc k) r (l ∷ ls) b
     go (Err x) p ih = absurd (let f : Err (n, x) ≡ Ok b = ap (λ y. follow n y (λ t. items_from h e (n + 1) t m ls)) (sym (step ∙ p)) ∙ q in cc)
@@ -158,7 +159,7 @@ gates-read h e n ds os ps (suc k) [] b small d c o q = absurd (cc)
 gates-read h e n ds os ps (suc k) (l ∷ ls) b small d c o q = go (with_gate h (st ds os ps) (three_numbers (words l))) refl (λ g. gates-read h e (n + 1) (ds ++ g.var ∷ []) os (ps ++ (g.left, g.right) ∷ []) k ls b small)
   where
     step : with_line h (st ds os ps) (words l) ≡ with_gate h (st ds os ps) (three_numbers (words l))
-    step = line-gate h (st ds os ps) (words l) (lt-false (length ds) h.inputs d) (lt-false (length os) h.outputs (omega arith))
+    step = line-gate h (st ds os ps) (words l) (le-ltb (length ds) h.inputs d) (le-ltb (length os) h.outputs (omega arith))
 
     go : (x : Result Items ℕ) → with_gate h (st ds os ps) (three_numbers (words l)) ≡ x → ((g : Definition) → h.inputs ≤ length (ds ++ g.var ∷ []) → length os ≡ h.outputs → AreOnce (ds ++ g.var ∷ []) → items_from h e (n + 1) (st (ds ++ g.var ∷ []) os (ps ++ (g.left, g.right) ∷ [])) k ls ≡ Ok b → GatesRead h (ds ++ g.var ∷ []) os (ps ++ (g.left, g.right) ∷ []) k ls b) → GatesRead h ds os ps (suc k) (l ∷ ls) b
     go (Err x) p ih = absurd (let f : Err (n, x) ≡ Ok b = ap (λ y. follow n y (λ t. items_from h e (n + 1) t k ls)) (sym (step ∙ p)) ∙ q in cc)
@@ -191,7 +192,7 @@ read-inputs h e n ds [] r m (l ∷ lines) rest small c em s b o = absurd s
 read-inputs h e n ds (v ∷ vs) r m [] rest small c em s b o = absurd s
 read-inputs h e n ds (v ∷ vs) r zero (l ∷ lines) rest small c em s b o = absurd (omega arith)
 read-inputs h e n ds (v ∷ vs) r (suc m) (l ∷ lines) rest small c em s b o =
-    let step = line-input h (st ds [] []) (words l) (lt-true (length ds) h.inputs (omega arith)) ∙ input-takes h ds (words l) v small s.0 b.0 (once-fresh ds v vs o) in
+    let step = line-input h (st ds [] []) (words l) (lt-ltb (length ds) h.inputs (omega arith)) ∙ input-takes h ds (words l) v small s.0 b.0 (once-fresh ds v vs o) in
     let len = length_push ds v in
     let a = append_assoc ds (v ∷ []) vs in
     let i = read-inputs h e (n + 1) (ds ++ v ∷ []) vs r m lines rest small (omega arith) (omega arith) s.1 b.1 (subst AreOnce (sym a) o) in
@@ -205,7 +206,7 @@ read-outputs h e n ds os [] r m (l ∷ lines) rest small d c em s b = absurd s
 read-outputs h e n ds os (v ∷ vs) r m [] rest small d c em s b = absurd s
 read-outputs h e n ds os (v ∷ vs) r zero (l ∷ lines) rest small d c em s b = absurd (omega arith)
 read-outputs h e n ds os (v ∷ vs) r (suc m) (l ∷ lines) rest small d c em s b =
-    let step = line-output h (st ds os []) (words l) (lt-false (length ds) h.inputs (omega arith)) (lt-true (length os) h.outputs (omega arith)) ∙ output-takes h ds os (words l) v small s.0 b.0 in
+    let step = line-output h (st ds os []) (words l) (le-ltb (length ds) h.inputs (omega arith)) (lt-ltb (length os) h.outputs (omega arith)) ∙ output-takes h ds os (words l) v small s.0 b.0 in
     let len = length_push os v in
     let a = append_assoc os (v ∷ []) vs in
     let i = read-outputs h e (n + 1) ds (os ++ v ∷ []) vs r m lines rest small d (omega arith) (omega arith) s.1 b.1 in
@@ -221,7 +222,7 @@ read-gates h e n ds os ps [] k (l ∷ lines) rest small d c em s b o = absurd s
 read-gates h e n ds os ps (g ∷ gs) k [] rest small d c em s b o = absurd s
 read-gates h e n ds os ps (g ∷ gs) zero (l ∷ lines) rest small d c em s b o = absurd (omega arith)
 read-gates h e n ds os ps (g ∷ gs) (suc k) (l ∷ lines) rest small d c em s b o =
-    let step = line-gate h (st ds os ps) (words l) (lt-false (length ds) h.inputs d) (lt-false (length os) h.outputs (omega arith)) ∙ gate-takes h ds os ps (words l) g small s.0 b.0 (once-fresh ds g.var (vars_of gs) o) in
+    let step = line-gate h (st ds os ps) (words l) (le-ltb (length ds) h.inputs d) (le-ltb (length os) h.outputs (omega arith)) ∙ gate-takes h ds os ps (words l) g small s.0 b.0 (once-fresh ds g.var (vars_of gs) o) in
     let len = length_push ds g.var in
     let a = append_assoc ds (g.var ∷ []) (vars_of gs) in
     let a2 = append_assoc ps ((g.left, g.right) ∷ []) (pairs_of gs) in

@@ -3,21 +3,18 @@ use Rattle.std.proofs.Common.{◌≡◌, ◌≢◌, ◌⊎◌, ℕ, suc, ◌<◌
 use Rattle.std.specs.List.{AllByRecursion}
 use Rattle.std.proofs.lemmas.List.{length-set, length-replicate, get_or-set_same, get_or-set_other, ext_get_or}
 use Rattle.std.proofs.lemmas.Bool.Decides.{nat_tests}
+use Rattle.std.proofs.lemmas.Bool.{cases_eq}
 use Rattle.q_logic.specs.Prelude.{ArePairs}
-use Rattle.q_gates.proofs.Cases.{ℕ-cases}
 use Rattle.q_aiger.specs.Symbols.{is_used, is_free_name, with_name, all_named, AreApart}
 use Rattle.q_aiger.specs.Grammar.{IsLabelled, AreNames}
 use Rattle.q_aiger.proofs.LongerNames.{IsFree, free, apart-none, apart-more, zero-at}
 use Rattle.q_aiger.proofs.ResolvedOperands.{variables}
+use Rattle.q_aiger.proofs.LineParts.{all-weaker}
 
 abbrev pub given : Result (List ℕ) ℕ → List (ℕ × ℕ) → Result (List ℕ) ℕ
 given (Err c) es = Err c
 given (Ok ns) [] = Ok ns
 given (Ok ns) (p ∷ es) = given (with_name ns p.0 p.1) es
-
-all-map : {X : Type 0} (P Q : X → Type 0) (xs : List X) → ((x : X) → P x → Q x) → AllByRecursion P xs → AllByRecursion Q xs
-all-map P Q [] f h = tt
-all-map P Q (x ∷ xs) f h = (f x h.0, all-map P Q xs f h.1)
 
 all-both : {X : Type 0} (P Q R : X → Type 0) (xs : List X) → ((x : X) → P x → Q x → R x) → AllByRecursion P xs → AllByRecursion Q xs → AllByRecursion R xs
 all-both P Q R [] f h k = tt
@@ -82,20 +79,20 @@ names-given (p ∷ es) ns t e = go (with_name ns p.0 p.1) refl (names-given es)
               let ne : j ≢ p.0 = λ q. absurd (let z : get_or ns j 0 ≡ 0 = subst (λ (k : ℕ). get_or ns k 0 ≡ 0) (sym q) was in omega arith) in
               let o = other j ne in
               g.kept j (omega arith) ∙ o;
-          once = (all-map (λ q. get_or ms q.0 0 ≡ 0) (λ q. p.0 ≢ q.0) es (λ q z eq. absurd (let y : get_or ms p.0 0 ≡ 0 = subst (λ (k : ℕ). get_or ms k 0 ≡ 0) (sym eq) z in omega arith)) g.unnamed, g.once);
+          once = (all-weaker (λ q. get_or ms q.0 0 ≡ 0) (λ q. p.0 ≢ q.0) es (λ q z eq. absurd (let y : get_or ms p.0 0 ≡ 0 = subst (λ (k : ℕ). get_or ms k 0 ≡ 0) (sym eq) z in omega arith)) g.unnamed, g.once);
           unnamed = (
             was,
-            all-map (λ q. get_or ms q.0 0 ≡ 0) (λ q. get_or ns q.0 0 ≡ 0) es (λ q z. elim (ℕ-cases q.0 p.0) [
+            all-weaker (λ q. get_or ms q.0 0 ≡ 0) (λ q. get_or ns q.0 0 ≡ 0) es (λ q z. elim (cases_eq q.0 p.0) [
               | inl eq ↦ subst (λ (k : ℕ). get_or ns k 0 ≡ 0) (sym eq) was
               | inr ne ↦ sym (other q.0 ne) ∙ z
             ]) g.unnamed,
           );
           labels = ((omega arith, g.kept p.0 (omega arith) ∙ here), g.labels);
           source = λ j. elim (g.source j) [
-            | inl s ↦ elim (ℕ-cases j p.0) [ inl eq ↦ inr (inl (sym eq)) | inr ne ↦ inl (s ∙ other j ne) ]
+            | inl s ↦ elim (cases_eq j p.0) [ inl eq ↦ inr (inl (sym eq)) | inr ne ↦ inl (s ∙ other j ne) ]
             | inr s ↦ inr (inr s)
           ];
-          small = λ h. g.small (λ j. elim (ℕ-cases j p.0) [
+          small = λ h. g.small (λ j. elim (cases_eq j p.0) [
             | inl eq ↦ subst (λ (k : ℕ). get_or ms k 0 ≤ 16777215) (sym eq) (omega arith)
             | inr ne ↦ let o = other j ne in let k = h j in omega arith
           ]);
@@ -187,14 +184,14 @@ give (p ∷ es) ns t v a h =
     let other : (j : ℕ) → j ≢ p.0 → get_or (set ns p.0 p.1) j 0 ≡ get_or ns j 0 = λ j ne. get_or-set_other ns p.0 j p.1 0 ne in
     let r = give es (set ns p.0 p.1) t v a (record {
       size = length-set ns p.0 p.1 ∙ s;
-      part = λ j. elim (ℕ-cases j p.0) [
+      part = λ j. elim (cases_eq j p.0) [
         | inl eq ↦ inr (subst (λ (k : ℕ). get_or (set ns p.0 p.1) k 0 ≡ get_or t k 0) (sym eq) (here ∙ sym is))
         | inr ne ↦ elim (h.part j) [ inl z ↦ inl (other j ne ∙ z) | inr z ↦ inr (other j ne ∙ z) ]
       ];
       once = h.once.1;
       unnamed = all-both (λ q. p.0 ≢ q.0) (λ q. get_or ns q.0 0 ≡ 0) (λ q. get_or (set ns p.0 p.1) q.0 0 ≡ 0) es (λ q ne z. other q.0 (λ e. ne (sym e)) ∙ z) h.once.0 h.unnamed.1;
       labels = h.labels.1;
-      source = λ j lj. elim (ℕ-cases j p.0) [
+      source = λ j lj. elim (cases_eq j p.0) [
         | inl eq ↦ inl (subst (λ (k : ℕ). get_or (set ns p.0 p.1) k 0 ≡ get_or t k 0) (sym eq) (here ∙ sym is))
         | inr ne ↦ elim (h.source j lj) [
           | inl z ↦ inl (other j ne ∙ z)

@@ -1,12 +1,13 @@
 -- Names, with one more.
-use Rattle.std.proofs.Common.{◌≡◌, inl, inr, ℕ, zero, suc, ◌<◌, ◌≤◌, Bool, true, false, not, ◌||◌, cond, eqb, List, [], ◌∷◌, length, get_or, set, replicate, refl, ap, sym, ◌∙◌, arith, subst, ◌&&◌, nat_lt, nat_le, Result, Ok, Err, OnOk, is_err}
-use Rattle.std.proofs.lemmas.Bool.{both_ways}
+use Rattle.std.proofs.Common.{◌≡◌, inl, inr, ℕ, zero, suc, ◌<◌, ◌≤◌, Bool, true, false, not, ◌||◌, cond, eqb, List, [], ◌∷◌, length, get_or, set, replicate, refl, ap, sym, ◌∙◌, arith, subst, nat_lt, nat_le, Result, Ok, Err, OnOk, is_err}
+use Rattle.std.proofs.lemmas.Bool.{both_ways, cases_eq}
 use Rattle.std.proofs.lemmas.List.{length-set, get_or-set_same, get_or-set_other}
 use Rattle.std.specs.List.{list_any}
 use Rattle.std.specs.HashSet.{HashSet, contains}
+use Rattle.q_logic.proofs.Common.{or-swap, cond-or}
+use Rattle.q_logic.proofs.Booleans.{both-left, both-right}
 use Rattle.q_aiger.specs.Symbols.{is_used, is_free_name, AreApart}
 use Rattle.q_aiger.specs.Naming.{AreUsed}
-use Rattle.q_gates.proofs.Cases.{ℕ-cases}
 
 pub unused-none : (n v : ℕ) → 1 ≤ v → is_used (replicate n 0) v ≡ false
 unused-none zero v h = refl
@@ -19,12 +20,6 @@ zero-at (suc n) (suc i) = zero-at n i
 
 pub apart-none : (n : ℕ) → AreApart (replicate n 0)
 apart-none n i j a b h e = absurd (let z = zero-at n i in omega arith)
-
-or-swap : (a b c : Bool) → a || (b || c) ≡ b || (a || c)
-or-swap true true c = refl
-or-swap true false c = refl
-or-swap false true c = refl
-or-swap false false c = refl
 
 pub used-more : (names : List ℕ) (i v w : ℕ) → i < length names → get_or names i 0 ≡ 0 → 1 ≤ w → is_used (set names i v) w ≡ eqb v w || is_used names w
 used-more [] i v w lt e h = absurd (omega arith)
@@ -47,14 +42,14 @@ apart-more names i v a u j k bj bk h e =
     let l = length-set names i v in
     let lj : j < length names = omega arith in
     let lk : k < length names = omega arith in
-    elim (ℕ-cases j i) [
-      | inl p ↦ elim (ℕ-cases k i) [
+    elim (cases_eq j i) [
+      | inl p ↦ elim (cases_eq k i) [
         | inl q ↦ p ∙ sym q
         | inr q ↦
             let here : get_or (set names i v) j 0 ≡ v = subst (λ (x : ℕ). get_or (set names i v) x 0 ≡ v) (sym p) (get_or-set_same names i v 0 (omega arith)) in
             absurd (both_ways (is_used names v) u (used-at names k v lk (sym (get_or-set_other names i k v 0 q) ∙ (sym e ∙ here))))
       ]
-      | inr p ↦ elim (ℕ-cases k i) [
+      | inr p ↦ elim (cases_eq k i) [
         | inl q ↦
             let here : get_or (set names i v) k 0 ≡ v = subst (λ (x : ℕ). get_or (set names i v) x 0 ≡ v) (sym q) (get_or-set_same names i v 0 (omega arith)) in
             absurd (both_ways (is_used names v) u (used-at names j v lj (sym (get_or-set_other names i j v 0 p) ∙ (e ∙ here))))
@@ -67,14 +62,6 @@ apart-more names i v a u j k bj bk h e =
 pub on-ok : {X E : Type 0} {P : Type 0} (r : Result X E) → is_err r ≡ false → OnOk r P → P
 on-ok (Ok x) e h = h
 on-ok (Err x) e h = absurd (both_ways true e refl)
-
-pub and-left : (a b : Bool) → a && b ≡ true → a ≡ true
-and-left true b e = refl
-and-left false b e = absurd (both_ways false refl e)
-
-pub and-right : (a b : Bool) → a && b ≡ true → b ≡ true
-and-right true b e = e
-and-right false b e = absurd (both_ways false refl e)
 
 not-is : (a : Bool) → not a ≡ true → a ≡ false
 not-is true e = absurd (both_ways false refl e)
@@ -89,30 +76,26 @@ pub record IsFree (names : List ℕ) (i v : ℕ) : Type 0 where
 
 pub free : (names : List ℕ) (i v : ℕ) → is_free_name names i v ≡ true → IsFree names i v
 free names i v e =
-    let a : nat_lt i (length names) ≡ true = and-left _ _ e in
-    let e1 = and-right (nat_lt i (length names)) _ e in
-    let b : nat_le 1 v ≡ true = and-left _ _ e1 in
-    let e2 = and-right (nat_le 1 v) _ e1 in
-    let m : nat_le v 16777215 ≡ true = and-left _ _ e2 in
-    let e3 = and-right (nat_le v 16777215) _ e2 in
-    let d : eqb (get_or names i 0) 0 ≡ true = and-left _ _ e3 in
+    let a : nat_lt i (length names) ≡ true = both-left _ _ e in
+    let e1 = both-right (nat_lt i (length names)) _ e in
+    let b : nat_le 1 v ≡ true = both-left _ _ e1 in
+    let e2 = both-right (nat_le 1 v) _ e1 in
+    let m : nat_le v 16777215 ≡ true = both-left _ _ e2 in
+    let e3 = both-right (nat_le v 16777215) _ e2 in
+    let d : eqb (get_or names i 0) 0 ≡ true = both-left _ _ e3 in
     record {
       there = grind arith;
       variable = grind arith;
       most = grind arith;
       unnamed = grind arith;
-      unused = not-is (is_used names v) (and-right (eqb (get_or names i 0) 0) _ e3);
+      unused = not-is (is_used names v) (both-right (eqb (get_or names i 0) 0) _ e3);
     }
-
-or-cond : (a b : Bool) → cond a true b ≡ a || b
-or-cond true b = refl
-or-cond false b = refl
 
 pub names-given : {S : Type 0} (used used2 : HashSet ℕ S) (names : List ℕ) (i v : ℕ) → AreUsed used names → is_free_name names i v ≡ true → ((q : ℕ) → contains eqb used2 q ≡ cond (eqb v q) true (contains eqb used q)) → AreUsed used2 (set names i v)
 names-given used used2 names i v a e u =
     let f = free names i v e in
     record {
-      known = λ w h. u w ∙ (or-cond (eqb v w) (contains eqb used w) ∙ (ap (λ b. eqb v w || b) (a.known w h) ∙ sym (used-more names i v w f.there f.unnamed h)));
+      known = λ w h. u w ∙ (cond-or (eqb v w) (contains eqb used w) ∙ (ap (λ b. eqb v w || b) (a.known w h) ∙ sym (used-more names i v w f.there f.unnamed h)));
       apart = apart-more names i v a.apart f.unused;
     }
 

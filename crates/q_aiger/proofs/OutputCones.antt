@@ -1,13 +1,12 @@
 -- Marking what outputs are made of, and gathering what is marked.
 use Rattle.std.proofs.Common.{◌≡◌, ◌⊎◌, ℕ, zero, suc, ◌+◌, ◌-◌, ◌<◌, ◌≤◌, Bool, true, false, List, [], ◌∷◌, ◌++◌, length, get_or, set, refl, sym, ap, ◌∙◌, subst, inl, inr, arith, slice_get, Some, map, Result, Ok, Err, IfOk}
 use Rattle.std.proofs.lemmas.List.{length-set, get_or-set_same, get_or-set_other, get_or_past, length_push, get_or_append_left, get_or_push, length-map, get_or-map, get_or_default, get_or_read}
-use Rattle.std.proofs.lemmas.Bool.{cases_lt, both_ways}
+use Rattle.std.proofs.lemmas.Bool.{cases_lt, both_ways, cases_eq}
 use Rattle.std.proofs.lemmas.Option.{get_or_from_slice_get}
 use Rattle.q_logic.specs.Prelude.{GateNode, falsum, input_at, gate_at, Gate, IsThere, CertificateView, NamedOutput}
 use Rattle.q_aig.specs.Prelude.{Net, operand_of, gate_of, output_of, net_of, AreOutputs, no_output as unnamed, IsMarked}
 use Rattle.q_aig.specs.declared.output.Output.{Output}
 use Rattle.q_gates.specs.Gates.{no_gate}
-use Rattle.q_gates.proofs.Cases.{ℕ-cases}
 use Rattle.q_aig.proofs.ConeSearch.{set-kept}
 use Rattle.q_aiger.specs.Cones.{no_output, IsPart, output, left, right, AreCones, place_in, with_mark, IsMarking, ArePlaced, HasCones}
 
@@ -34,7 +33,7 @@ mark-done k ms (gate_at g) h = get_or-set_same ms g true false h
 pub mark-only : (ms : List Bool) (n : GateNode) (x : ℕ) → get_or (with_mark ms n) x false ≡ true → (get_or ms x false ≡ true) ⊎ (n ≡ gate_at x)
 mark-only ms falsum x e = inl e
 mark-only ms (input_at i) x e = inl e
-mark-only ms (gate_at g) x e = elim (ℕ-cases x g) [
+mark-only ms (gate_at g) x e = elim (cases_eq x g) [
   | inl q ↦ inr (ap gate_at (sym q))
   | inr n ↦ inl (sym (get_or-set_other ms g x true false n) ∙ e)
 ]
@@ -59,7 +58,7 @@ marking-output c ms k inputs n m lt e th =
         | inl a ↦ m.parts g a
         | inr q ↦ subst (IsPart c) (sym e ∙ q) (output k lt)
       ];
-      roots = λ i b. elim (ℕ-cases i k) [
+      roots = λ i b. elim (cases_eq i k) [
         | inl q ↦ subst (λ (j : ℕ). IsMarked (with_mark ms n) (get_or c.outputs j no_output).operand.node) (sym q) (subst (IsMarked (with_mark ms n)) e (mark-done inputs ms n (subst (λ (z : ℕ). IsThere inputs z n) (sym r) th)))
         | inr q ↦ mark-kept ms n (get_or c.outputs i no_output).operand.node (m.roots i (omega arith))
       ];
@@ -73,11 +72,11 @@ marking-plain c ms k g m e = record {
   room = m.room;
   parts = m.parts;
   roots = m.roots;
-  lefts = λ x b h. elim (ℕ-cases x g) [
+  lefts = λ x b h. elim (cases_eq x g) [
     | inl q ↦ absurd (both_ways (get_or ms g false) e (subst (λ (y : ℕ). get_or ms y false ≡ true) q h))
     | inr q ↦ m.lefts x (omega arith) h
   ];
-  rights = λ x b h. elim (ℕ-cases x g) [
+  rights = λ x b h. elim (cases_eq x g) [
     | inl q ↦ absurd (both_ways (get_or ms g false) e (subst (λ (y : ℕ). get_or ms y false ≡ true) q h))
     | inr q ↦ m.rights x (omega arith) h
   ];
@@ -112,11 +111,11 @@ marking-gate c ms k g inputs a m lt e at tl tr =
         | inr y ↦ subst (IsPart c) y pr
       ];
       roots = λ i b. kept (get_or c.outputs i no_output).operand.node (m.roots i b);
-      lefts = λ x b h. elim (ℕ-cases x g) [
+      lefts = λ x b h. elim (cases_eq x g) [
         | inl q ↦ subst (λ (y : ℕ). IsMarked ms2 (get_or c.gates y no_gate).left.node) (sym q) (subst (λ (b : Gate). IsMarked ms2 b.left.node) (sym is) dl)
         | inr q ↦ kept (get_or c.gates x no_gate).left.node (m.lefts x (omega arith) (only x h b))
       ];
-      rights = λ x b h. elim (ℕ-cases x g) [
+      rights = λ x b h. elim (cases_eq x g) [
         | inl q ↦ subst (λ (y : ℕ). IsMarked ms2 (get_or c.gates y no_gate).right.node) (sym q) (subst (λ (b : Gate). IsMarked ms2 b.right.node) (sym is) dr)
         | inr q ↦ kept (get_or c.gates x no_gate).right.node (m.rights x (omega arith) (only x h b))
       ];
@@ -150,7 +149,7 @@ placed-plain ms g kept places p e = record {
   ascending = p.ascending;
   marked = p.marked;
   below = λ i b. let h = p.below i b in omega arith;
-  all = λ x b h. elim (ℕ-cases x g) [
+  all = λ x b h. elim (cases_eq x g) [
     | inl q ↦ absurd (both_ways (get_or ms g false) e (subst (λ (y : ℕ). get_or ms y false ≡ true) q h))
     | inr q ↦ p.all x (omega arith) h
   ];
@@ -180,7 +179,7 @@ placed-more ms g kept places p lt e =
         | inl y ↦ let s = p.below i y in let ei = early i y in omega arith
         | inr y ↦ let ei = last i (omega arith) in omega arith
       ];
-      all = λ x b h. elim (ℕ-cases x g) [
+      all = λ x b h. elim (cases_eq x g) [
         | inl q ↦ (length kept, omega arith, last (length kept) refl ∙ sym q, subst (λ (y : ℕ). get_or (set places g (length kept)) y 0 ≡ length kept) (sym q) (get_or-set_same places g (length kept) 0 (omega arith)))
         | inr q ↦
             let s = p.all x (omega arith) h in
@@ -188,7 +187,7 @@ placed-more ms g kept places p lt e =
             (s.0, omega arith, early s.0 s.1 ∙ s.2, get_or-set_other places g x (length kept) 0 q ∙ s.3)
       ];
       few = omega arith;
-      small = λ x. elim (ℕ-cases x g) [
+      small = λ x. elim (cases_eq x g) [
         | inl q ↦ let s : get_or (set places g (length kept)) x 0 ≡ length kept = subst (λ (y : ℕ). get_or (set places g (length kept)) y 0 ≡ length kept) (sym q) (get_or-set_same places g (length kept) 0 (omega arith)) in omega arith
         | inr q ↦ let s = get_or-set_other places g x (length kept) 0 q in let h = p.small x in omega arith
       ];

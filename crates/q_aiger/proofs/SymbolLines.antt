@@ -1,17 +1,15 @@
 -- Symbol lines: what the reader takes of them is what the grammar has.
-use Rattle.std.proofs.Common.{◌≡◌, ℕ, ◌+◌, ◌<◌, ◌≤◌, ◌==◌, ◌&&◌, cond, Bool, true, false, eqb, List, [], ◌∷◌, ◌++◌, length, refl, ap, sym, ◌∙◌, arith, subst, Option, Some, None, Result, Ok, Err}
+use Rattle.std.proofs.Common.{◌≡◌, ℕ, ◌+◌, ◌<◌, ◌≤◌, ◌==◌, ◌&&◌, cond, Bool, true, false, List, [], ◌∷◌, ◌++◌, length, refl, ap, sym, ◌∙◌, arith, subst, Option, Some, None, Result, Ok, Err}
 use Rattle.std.specs.List.{AllZip}
 use Rattle.std.proofs.lemmas.List.{length-set}
+use Rattle.std.proofs.lemmas.Bool.{eqb-true}
+use Rattle.q_logic.proofs.Booleans.{both-left, both-right}
 use Rattle.q_aiger.specs.Lines.{words, number}
 use Rattle.q_aiger.specs.Items.{follow}
 use Rattle.q_aiger.specs.Symbols.{Symbol, nothing, comment, input_name, output_name, strange, input_symbol, output_symbol, is_c, symbol_of, Names, with_name, all_named, names_at_end, with_inputs, with_outputs, symbol_turn, names_from}
 use Rattle.q_aiger.specs.Grammar.{Label, blank, of_input, of_output, IsSymbol, Says, IsEnd, input_labels, output_labels}
-use Rattle.q_aiger.proofs.LongerNames.{and-left, and-right}
 use Rattle.q_aiger.proofs.NumberLines.{number-digits, digits-number}
 use Rattle.q_aiger.proofs.Labels.{given, named, IsNamed}
-
-eqb-same : (a b : ℕ) → eqb a b ≡ true → a ≡ b
-eqb-same a b e = grind arith
 
 record IsRead (letter : ℕ) (ws : List (List ℕ)) (i v : ℕ) : Type 0 where
   left : List ℕ
@@ -29,7 +27,7 @@ IsSaid ws strange = Unit {0}
 
 c-is : (w : List ℕ) → is_c w ≡ true → w ≡ 99 ∷ []
 c-is [] e = absurd (cc)
-c-is (b ∷ []) e = ap (λ x. x ∷ []) (eqb-same b 99 e)
+c-is (b ∷ []) e = ap (λ x. x ∷ []) (eqb-true b 99 e)
 c-is (b ∷ c ∷ bs) e = absurd (cc)
 
 said : (ws : List (List ℕ)) → IsSaid ws (symbol_of ws)
@@ -55,8 +53,8 @@ said ((b ∷ bs) ∷ v ∷ []) = go (b == 105) refl (b == 111) refl
     output e None p None q = tt
 
     go : (s : Bool) → (b == 105) ≡ s → (t : Bool) → (b == 111) ≡ t → IsSaid ((b ∷ bs) ∷ v ∷ []) (cond s (input_symbol (number bs) (number v)) (cond t (output_symbol (number bs) (number v)) strange))
-    go true p t q = input (eqb-same b 105 p) (number bs) refl (number v) refl
-    go false p true q = output (eqb-same b 111 q) (number bs) refl (number v) refl
+    go true p t q = input (eqb-true b 105 p) (number bs) refl (number v) refl
+    go false p true q = output (eqb-true b 111 q) (number bs) refl (number v) refl
     go false p false q = tt
 said ([] ∷ v ∷ x ∷ ws) = tt
 said ((b ∷ bs) ∷ v ∷ x ∷ ws) = tt
@@ -90,8 +88,8 @@ ended e s t ls h q = go (all_named s.inputs && all_named s.outputs) refl
           end = h;
           inputs = refl;
           outputs = refl;
-          inputs_named = and-left _ _ p;
-          outputs_named = and-right (all_named s.inputs) _ p;
+          inputs_named = both-left _ _ p;
+          outputs_named = both-right (all_named s.inputs) _ p;
         })
 
 symbol-exact : (letter : ℕ) (l : List ℕ) (ns ms : List ℕ) (i v : ℕ) → length ns ≤ 576460752303423488 → IsRead letter (words l) i v → IsNamed ns i v ms → IsSymbol letter l i v

@@ -3,6 +3,7 @@ use Rattle.std.proofs.Common.{◌≡◌, ℕ, zero, suc, ◌+◌, ◌-◌, ◌*�
 use Rattle.std.specs.List.{AllByRecursion, AllZip}
 use Rattle.std.proofs.lemmas.List.{length-map, get_or_append_left, get_or-append_right, get_or-append-add}
 use Rattle.std.proofs.lemmas.Bool.Decides.{nat_tests}
+use Rattle.std.proofs.lemmas.Bool.{le-ltb, lt-ltb}
 use Rattle.q_logic.specs.Prelude.{GateNode, falsum, input_at, gate_at, Operand, Gate, NamedOutput}
 use Rattle.q_aiger.specs.Items.{place_of}
 use Rattle.q_aiger.specs.Operands.{node_at, node_in, signed, operand_in, follow_operand, outputs_from, gate_with, follow_gate, gates_from}
@@ -15,12 +16,6 @@ var-at : (gs : List Definition) (g : ℕ) → get_or (vars_of gs) g 0 ≡ (get_o
 var-at [] g = refl
 var-at (d ∷ gs) zero = refl
 var-at (d ∷ gs) (suc g) = var-at gs g
-
-lt-true : (a b : ℕ) → a < b → nat_lt a b ≡ true
-lt-true a b h = grind (arith, nat_tests)
-
-lt-false : (a b : ℕ) → b ≤ a → nat_lt a b ≡ false
-lt-false a b h = grind (arith, nat_tests)
 
 positive : (v : ℕ) → 1 ≤ v → eqb v 0 ≡ false
 positive v h = grind (arith, nat_tests)
@@ -41,7 +36,7 @@ stands-node t v n l (input i lt e) =
     let len = length-append t.inputs (vars_of t.gates) in
     let p = place-is (variables t) v i l.once (omega arith) (get_or_append_left t.inputs (vars_of t.gates) 0 i lt ∙ e) in
     ap (λ b. cond b (Some falsum) (node_at (length t.inputs) (place_of (variables t) v))) (positive v low)
-    ∙ (ap (node_at (length t.inputs)) p ∙ ap (λ b. Some (cond b (input_at i) (gate_at (i - length t.inputs)))) (lt-true i (length t.inputs) lt))
+    ∙ (ap (node_at (length t.inputs)) p ∙ ap (λ b. Some (cond b (input_at i) (gate_at (i - length t.inputs)))) (lt-ltb i (length t.inputs) lt))
 stands-node t v n l (gate g lt e) =
     let low : 1 ≤ v = subst (λ (x : ℕ). 1 ≤ x) e (all-at (λ d. IsVar t.max d.var) t.gates no_definition g (all-vars t.gates l.gates) lt).0 in
     let len = length-append t.inputs (vars_of t.gates) in
@@ -51,7 +46,7 @@ stands-node t v n l (gate g lt e) =
     let z : length t.inputs + g - length t.inputs ≡ g = omega arith in
     ap (λ b. cond b (Some falsum) (node_at (length t.inputs) (place_of (variables t) v))) (positive v low)
     ∙ (ap (node_at (length t.inputs)) p
-    ∙ (ap (λ b. Some (cond b (input_at (length t.inputs + g)) (gate_at (length t.inputs + g - length t.inputs)))) (lt-false (length t.inputs + g) (length t.inputs) (omega arith))
+    ∙ (ap (λ b. Some (cond b (input_at (length t.inputs + g)) (gate_at (length t.inputs + g - length t.inputs)))) (le-ltb (length t.inputs + g) (length t.inputs) (omega arith))
     ∙ ap (λ k. Some (gate_at k)) z))
   where
     all-vars : (gs : List Definition) → AllByRecursion (λ g. IsVar t.max g.var × (g.left ≤ 2 * t.max + 1) × (g.right ≤ 2 * t.max + 1)) gs → AllByRecursion (λ d. IsVar t.max d.var) gs

@@ -1,10 +1,11 @@
 -- What is said of the commands over circuits, put together.
 use Rattle.std.proofs.Common.{◌≡◌, inl, inr, ℕ, List, [], sym, ap, ◌∙◌, subst, Option, Some, unwrap_or}
-use Rattle.q_logic.specs.Prelude.{PrenexFormula, Holds, trees_of, Strategy}
+use Rattle.q_logic.specs.Prelude.{PrenexFormula, Holds, trees_of}
 use Rattle.q_logic.specs.Herbrands.{HerbrandOf}
 use Rattle.q_logic.proofs.Falsity.{herbrand-false}
 use Rattle.q_logic.proofs.Common.{Run-justified, from_skolem}
 use Rattle.q_logic.proofs.Repeated.{run-true_to}
+use Rattle.q_rebuild.proofs.AlikeAccepted.{same-strategy}
 use Rattle.q_io.specs.Files.{Disk, bytes_at}
 use Rattle.q_aiger.specs.Writing.{IsCanonical}
 use Rattle.q_aiger.specs.Alike.{AreAlike}
@@ -38,9 +39,6 @@ fails n before k F f t =
 
 some-same : (d e : Disk) → Some d ≡ Some e → d ≡ e
 some-same d e h = cc
-
-same-strategy : (s t : Strategy) → ((x : ℕ) → s x ≡ t x) → s ≡ t
-same-strategy s t h = λ i x. h x i
 
 -- the certificate that was written
 held : (n : RefuteFiles) (before after : Disk) (gates : ℕ) → IsWhole gates n before (Some after) → AreHerbrand n before → (F : PrenexFormula) → IsFileOf (bytes_at before n.input) F → HoldsHerbrand (bytes_at after n.cert) F

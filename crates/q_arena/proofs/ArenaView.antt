@@ -1,10 +1,9 @@
 -- What a caller sees, after a change of the rows.
-use Rattle.std.proofs.Common.{◌≡◌, ℕ, zero, suc, ◌+◌, ◌<◌, ◌≤◌, List, [], ◌∷◌, length, map, set, get_or, slice_get, None, Some, refl, sym, ◌∙◌, ap, subst, inl, inr, arith, le_of_suc-le-suc, not-suc-le-zero}
+use Rattle.std.proofs.Common.{◌≡◌, ℕ, zero, suc, ◌+◌, ◌<◌, ◌≤◌, List, [], ◌∷◌, length, map, set, get_or, slice_get, None, Some, refl, sym, ◌∙◌, ap, subst, inl, inr, arith}
 use Rattle.std.specs.Prelude.{if◌then◌else◌, nat_lt}
 use Rattle.std.proofs.lemmas.List.{ext_get_or, get_or-set_same, get_or-set_other, get_or_past}
 use Rattle.std.proofs.lemmas.Bool.Decides.{nat_tests}
-use Rattle.std.proofs.lemmas.Bool.{cases_lt}
-use Rattle.q_arena.proofs.NumberCases.{ℕ-cases}
+use Rattle.std.proofs.lemmas.Bool.{cases_lt, cases_eq}
 use Rattle.q_arena.proofs.ListNeighbours.{following-here, following-later}
 use Rattle.q_arena.specs.declared.rings.Link.{Link}
 use Rattle.q_arena.specs.Nodes.{node_at, base, blank, IsTagged}
@@ -56,7 +55,7 @@ lists-with p h q g room l ys e lh r =
     let ig : i < length h = omega (arith, ih, m, e) in
     let is : get_or (lists_of q g) i [] ≡ with_list (rings_of (node_at p h) base) l ys i =
     list-is q g i ∙ ring-is (node_at q g) base room (length h) (with_list (rings_of (node_at p h) base) l ys) r i ig in
-    elim (ℕ-cases i l) [
+    elim (cases_eq i l) [
       | inl x ↦ is ∙ with_list-here (rings_of (node_at p h) base) l i ys x ∙ sym (subst (λ (k : ℕ). get_or (set (lists_of p h) l ys) k [] ≡ ys) (sym x) (get_or-set_same (lists_of p h) l ys [] (omega (arith, n, lh))))
       | inr x ↦ is ∙ with_list-other (rings_of (node_at p h) base) l i ys x ∙ sym (list-is p h i) ∙ sym (get_or-set_other (lists_of p h) l i ys [] x)
     ])
@@ -82,7 +81,7 @@ tags-set p h q g r f a n e e' few al same t =
     let was : get_or (tags_of p) i 0 ≡ (node_at p h i).tag = get_or-mapped tag blank p i ∙ ap tag (sym (node_at-place p h i ib)) in
     let tagged = t.tag i in
     let before = same i ib in
-    elim (ℕ-cases i a) [
+    elim (cases_eq i a) [
       | inl x ↦
           let here : (node_at r f i).tag ≡ n = grind (arith, nat_tests, tagged, x) in
           is ∙ here ∙ sym (subst (λ (k : ℕ). get_or (set (tags_of p) a n) k 0 ≡ n) (sym x) (get_or-set_same (tags_of p) a n 0 (omega (arith, lp, al))))
@@ -90,11 +89,6 @@ tags-set p h q g r f a n e e' few al same t =
           let there : (node_at r f i).tag ≡ (node_at q g i).tag = grind (arith, nat_tests, tagged, x) in
           is ∙ there ∙ before ∙ sym was ∙ sym (get_or-set_other (tags_of p) a i n 0 x)
     ])
-
-pub get_or-any : {X : Type 0} (xs : List X) (i : ℕ) (d e : X) → i < length xs → get_or xs i d ≡ get_or xs i e
-get_or-any [] i d e h = absurd (not-suc-le-zero h)
-get_or-any (x ∷ xs) zero d e h = refl
-get_or-any (x ∷ xs) (suc i) d e h = get_or-any xs i d e (le_of_suc-le-suc h)
 
 -- the rows hold lists again
 pub AreSound-with : (p h q g : List Link) (L : ℕ → List ℕ) → AreSound p h → length q ≡ length p → length g ≡ length h → AreRings (node_at q g) base (length p) (length h) L → AreSound q g
@@ -150,7 +144,7 @@ following-of s b room x (y ∷ ys) z p rb bz w a h k =
     let f = first-of s b room p ys z rb bz w.1 (subst (λ (i : ℕ). IsPath s i ys z) e k.2) in
     let d : following p (y ∷ ys) ≡ slice_get ys 0 = following-here p y ys e in
     d ∙ f in
-    elim (ℕ-cases y p) [
+    elim (cases_eq y p) [
       | inl e ↦ here e
       | inr n ↦ elim h [
         | inl e ↦ here (sym e)

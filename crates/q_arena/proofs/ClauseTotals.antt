@@ -1,8 +1,8 @@
 -- Sums over the clauses, and over the ids in use.
 use Rattle.std.proofs.Common.{◌≡◌, ◌≢◌, ℕ, zero, suc, ◌+◌, ◌<◌, Bool, true, false, List, [], ◌∷◌, length, map, set, get_or, Option, None, Some, refl, sym, ◌∙◌, ap, subst, inl, inr, arith}
 use Rattle.std.proofs.lemmas.List.{get_or-set_same, get_or-set_other}
+use Rattle.std.proofs.lemmas.Bool.{cases_eq}
 use Rattle.q_logic.specs.Prelude.{Literal}
-use Rattle.q_arena.proofs.NumberCases.{ℕ-cases}
 use Rattle.q_arena.specs.declared.slots.Slot.{Slot}
 use Rattle.q_arena.specs.Rings.{Has, AreApart}
 use Rattle.q_arena.specs.Layout.{slot_at, size_of, Order, AreLaid}
@@ -54,7 +54,7 @@ module _ (f : Option (List Literal) → ℕ) (none : f None ≡ 0) where
       let rest = total-used g is cs' a.1
       (λ j h. rw (length-set' cs i None) (b j (inr h)))
       (λ j h. ap f (get_or-set_other cs i j None None (other j h)) ∙ e j (inr h))
-      (λ j h. elim (ℕ-cases j i) [
+      (λ j h. elim (cases_eq j i) [
         | inl q ↦ subst (λ (k : ℕ). get_or cs' k None ≡ None) (sym q) (get_or-set_same cs i None None il)
         | inr d ↦ get_or-set_other cs i j None None d ∙ n j (λ k. elim k [ inl q ↦ d q | inr u ↦ h u ])
       ]) in

@@ -1,8 +1,8 @@
 -- The clauses that stand in the words.
-use Rattle.std.proofs.Common.{◌≡◌, ◌≢◌, ◌⊎◌, ℕ, zero, suc, ◌+◌, ◌-◌, ◌<◌, ◌≤◌, Bool, true, false, List, [], ◌∷◌, ◌++◌, length, map, set, get_or, take, drop, Option, None, Some, refl, sym, ◌∙◌, ap, subst, inl, inr, arith, length-drop, length-append}
+use Rattle.std.proofs.Common.{◌≡◌, ◌≢◌, ◌⊎◌, ℕ, zero, suc, ◌+◌, ◌-◌, ◌<◌, ◌≤◌, true, false, List, [], ◌∷◌, ◌++◌, length, map, set, get_or, take, drop, Option, None, Some, refl, sym, ◌∙◌, ap, subst, inl, inr, arith, length-drop, length-append}
 use Rattle.std.proofs.lemmas.List.{ext_get_or, get_or-set_same, get_or-set_other, get_or_past, get_or-take, get_or-drop, length-take-le, get_or_append_left, get_or-append_right}
-use Rattle.std.proofs.lemmas.Bool.{cases_lt}
-use Rattle.q_arena.proofs.NumberCases.{ℕ-cases, none-some, some-same}
+use Rattle.std.proofs.lemmas.Bool.{cases_lt, cases_eq, cases_Bool}
+use Rattle.std.proofs.lemmas.Option.{same_Some, none-some}
 use Rattle.q_logic.specs.Prelude.{Literal, IsBelow, ArePairs}
 use Rattle.std.specs.List.{AllByRecursion}
 use Rattle.q_arena.specs.declared.slots.Slot.{Slot}
@@ -52,13 +52,9 @@ clause-live w slots i e = clause-is w slots i ∙ clause_in-live w (slot_at slot
 pub clause-free : (w : List Literal) (slots : List Slot) (i : ℕ) → (slot_at slots i).live ≡ false → get_or (map (clause_in w) slots) i None ≡ None
 clause-free w slots i e = clause-is w slots i ∙ clause_in-free w (slot_at slots i) e
 
-Bool-cases : (b : Bool) → (b ≡ true) ⊎ (b ≡ false)
-Bool-cases true = inl refl
-Bool-cases false = inr refl
-
 -- a clause that is there is live
 pub live-of : (w : List Literal) (slots : List Slot) (i : ℕ) (c : List Literal) → get_or (map (clause_in w) slots) i None ≡ Some c → (slot_at slots i).live ≡ true
-live-of w slots i c e = elim (Bool-cases (slot_at slots i).live) [
+live-of w slots i c e = elim (cases_Bool (slot_at slots i).live) [
   | inl a ↦ a
   | inr b ↦ let d : Some c ≡ None = sym e ∙ clause-free w slots i b in absurd (cc)
 ]
@@ -73,7 +69,7 @@ clauses-set v w slots i x c il f e =
     let b = length-mapped (clause_in w) no_slot slots in
     let s = length-set' slots i x in
     ext_get_or None (map (clause_in v) (set slots i x)) (set (map (clause_in w) slots) i c) (rw length-set' (a ∙ s ∙ sym b)) (λ j h.
-    elim (ℕ-cases j i) [
+    elim (cases_eq j i) [
       | inl q ↦
           let here : get_or (map (clause_in v) (set slots i x)) i None ≡ c = clause-is v (set slots i x) i ∙ ap (clause_in v) (get_or-set_same slots i x no_slot il) ∙ e in
           let there : get_or (set (map (clause_in w) slots) i c) i None ≡ c = get_or-set_same (map (clause_in w) slots) i c None (omega (arith, b, il)) in
@@ -81,7 +77,7 @@ clauses-set v w slots i x c il f e =
       | inr n ↦
           let same : slot_at (set slots i x) j ≡ slot_at slots j = get_or-set_other slots i j x no_slot n in
           let other = get_or-set_other (map (clause_in w) slots) i j c None n in
-          let eq : clause_in v (slot_at slots j) ≡ clause_in w (slot_at slots j) = elim (Bool-cases (slot_at slots j).live) [
+          let eq : clause_in v (slot_at slots j) ≡ clause_in w (slot_at slots j) = elim (cases_Bool (slot_at slots j).live) [
             | inl l ↦ clause_in-live v (slot_at slots j) l ∙ ap (λ (p : List Literal). Some p) (f j n l) ∙ sym (clause_in-live w (slot_at slots j) l)
             | inr l ↦ clause_in-free v (slot_at slots j) l ∙ sym (clause_in-free w (slot_at slots j) l)
           ] in
@@ -133,7 +129,7 @@ module _ (w : List Literal) (slots : List Slot) (ids : Order) (end total : ℕ) 
   pub clause-length : (i : ℕ) (c : List Literal) → get_or (map (clause_in w) slots) i None ≡ Some c → length c ≡ (slot_at slots i).len
   clause-length i c e =
       let l = live-of w slots i c e in
-      let same = some-same (piece w (slot_at slots i).start (slot_at slots i).len) c (sym (clause-live w slots i l) ∙ e) in
+      let same = same_Some (piece w (slot_at slots i).start (slot_at slots i).len) c (sym (clause-live w slots i l) ∙ e) in
       ap length (sym same) ∙ length-piece w (slot_at slots i).start (slot_at slots i).len (live-room (length w) slots ids end total i a l)
 
   pub clause-within : (i : ℕ) (c : List Literal) → get_or (map (clause_in w) slots) i None ≡ Some c → get_or (map (λ (s : Slot). s.start) slots) i 0 + length c ≤ length w
@@ -161,7 +157,7 @@ pub ordered-same : (xs ys : List (Option (List Literal))) → xs ≡ ys → AreO
 ordered-same xs ys e o = rw e o
 
 pub ordered-set : (cs : List (Option (List Literal))) (i : ℕ) (o : Option (List Literal)) → AreOrdered cs → ((c : List Literal) → o ≡ Some c → ArePairs IsBelow c) → AreOrdered (set cs i o)
-ordered-set cs i o h f j c e = elim (ℕ-cases j i) [
+ordered-set cs i o h f j c e = elim (cases_eq j i) [
   | inl q ↦ elim (cases_lt i (length cs)) [
     | inl l ↦ f c (sym (get_or-set_same cs i o None l) ∙ subst (λ (k : ℕ). get_or (set cs i o) k None ≡ Some c) q e)
     | inr g ↦ absurd (none-some c (sym (get_or_past (set cs i o) j None (rw (length-set', q) g)) ∙ e))

@@ -1,13 +1,12 @@
 -- Words that clauses have, up to a place of the row.
 use Rattle.std.proofs.Common.{◌≡◌, ◌≢◌, ◌⊎◌, ℕ, ◌+◌, ◌<◌, ◌≤◌, List, [], ◌∷◌, length, map, get_or, Option, None, Some, refl, sym, ◌∙◌, ap, subst, inl, inr, arith}
-use Rattle.std.proofs.lemmas.Bool.{cases_lt}
+use Rattle.std.proofs.lemmas.Bool.{cases_lt, cases_eq}
 use Rattle.q_logic.specs.Prelude.{Literal}
 use Rattle.q_arena.specs.declared.slots.Slot.{Slot}
 use Rattle.q_arena.specs.Rings.{Has}
 use Rattle.q_arena.specs.Layout.{slot_at, top_of, size_of, below, IsStack, Order, AreLaid}
 use Rattle.q_arena.specs.Gaps.{first_gap}
 use Rattle.q_arena.specs.Seen.{Clauses, clause_in, clause_at, start_at, piece, IsWord, IsFilled, IsEnd, words_in}
-use Rattle.q_arena.proofs.NumberCases.{ℕ-cases}
 use Rattle.q_arena.proofs.Layouts.{live-room, live-within, stack-below, stack-sides, Has-below'}
 use Rattle.q_arena.proofs.GapLemmas.{gap-full, gap-low, gap-in}
 use Rattle.q_arena.proofs.ClauseWords.{clause-live, live-of, clause-length, start-is, length-piece}
@@ -73,7 +72,7 @@ module _ (w : List Literal) (slots : List Slot) (ids : Order) (end total : ℕ) 
             let uj = used-of word.id word.clause word.live in
             let sj = start-here word.id in
             let nj = length-of word.id word.clause word.live in
-            elim (ℕ-cases word.id id) [
+            elim (cases_eq word.id id) [
               | inl q ↦ let z : start_at v word.id ≡ start_at v id = ap (start_at v) q in omega (arith, z, start, low, word.begins)
               | inr n ↦ elim (stack-sides s id word.id ids.used a.stack u uj n) [
                 | inl b ↦ omega (arith, b, sj, nj, word.ends)

@@ -1,11 +1,12 @@
 -- An id without a clause is in the list of free ids.
-use Rattle.std.proofs.Common.{◌≡◌, ◌⊎◌, ℕ, ◌<◌, refl, Bool, true, false, List, [], ◌∷◌, ◌++◌, length, map, None, get_or, inl, inr, arith, sym, ◌∙◌, length-append}
+use Rattle.std.proofs.Common.{◌≡◌, ◌⊎◌, ℕ, ◌<◌, refl, true, false, List, [], ◌∷◌, ◌++◌, length, map, None, get_or, inl, inr, arith, sym, ◌∙◌, length-append}
+use Rattle.std.proofs.lemmas.Option.{none-some}
+use Rattle.std.proofs.lemmas.Bool.{cases_eq, cases_Bool}
 use Rattle.q_logic.specs.Prelude.{Literal}
 use Rattle.q_arena.specs.declared.slots.Slot.{Slot}
 use Rattle.q_arena.specs.Rings.{Has, Misses, AreApart, AreBelow}
 use Rattle.q_arena.specs.Layout.{no_slot, slot_at, Order, AreLaid}
 use Rattle.q_arena.specs.Seen.{clause_in}
-use Rattle.q_arena.proofs.NumberCases.{ℕ-cases, none-some}
 use Rattle.q_arena.proofs.RingLemmas.{length-below}
 use Rattle.q_arena.proofs.Layouts.{live-below}
 use Rattle.q_arena.proofs.ArenaView.{length-mapped}
@@ -13,7 +14,7 @@ use Rattle.q_arena.proofs.ClauseWords.{clause-live}
 
 is-there : (n : ℕ) (ys : List ℕ) → Has ys n ⊎ Misses n ys
 is-there n [] = inr tt
-is-there n (y ∷ ys) = elim (ℕ-cases n y) [
+is-there n (y ∷ ys) = elim (cases_eq n y) [
   | inl e ↦ inl (inl e)
   | inr d ↦ elim (is-there n ys) [
     | inl h ↦ inl (inr h)
@@ -58,12 +59,8 @@ free-has room slots ids end total l au af one i h dead =
       | inr f ↦ f
     ]
 
-Bool-cases : (b : Bool) → (b ≡ true) ⊎ (b ≡ false)
-Bool-cases true = inl refl
-Bool-cases false = inr refl
-
 not_live : (w : List Literal) (slots : List Slot) (i : ℕ) → get_or (map (clause_in w) slots) i None ≡ None → (slot_at slots i).live ≡ false
-not_live w slots i e = elim (Bool-cases (slot_at slots i).live) [
+not_live w slots i e = elim (cases_Bool (slot_at slots i).live) [
   | inl t ↦ absurd (none-some _ (sym e ∙ clause-live w slots i t))
   | inr f ↦ f
 ]

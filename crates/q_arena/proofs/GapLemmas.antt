@@ -2,8 +2,8 @@
 use Rattle.std.proofs.Common.{◌≡◌, ◌≢◌, ◌⊎◌, ℕ, ◌+◌, ◌<◌, ◌≤◌, List, [], ◌∷◌, Option, None, Some, refl, sym, ◌∙◌, ap, subst, inl, inr, arith}
 use Rattle.std.specs.Prelude.{nat_lt}
 use Rattle.std.proofs.lemmas.Bool.Decides.{nat_tests}
-use Rattle.std.proofs.lemmas.Bool.{cases_lt}
-use Rattle.q_arena.proofs.NumberCases.{ℕ-cases, none-some}
+use Rattle.std.proofs.lemmas.Bool.{cases_lt, cases_eq}
+use Rattle.std.proofs.lemmas.Option.{none-some}
 use Rattle.q_arena.proofs.ListNeighbours.{preceding-none, preceding-first}
 use Rattle.q_arena.specs.declared.slots.Slot.{Slot}
 use Rattle.q_arena.specs.Layout.{top_of, IsStack, size_of, below}
@@ -129,7 +129,7 @@ module _ (s t : ℕ → Slot) where
             ] in
             lhs ∙ x.1 ∙ sym (past-stays s x.0 i (above i (j ∷ js)) low) ∙ ap (λ (o : Option ℕ). gap_past s o i (above i (j ∷ js))) (sym x.1)
       ] in
-      elim (ℕ-cases j i) [
+      elim (cases_eq j i) [
         | inl q ↦ here q
         | inr n ↦ elim h [
           | inl q ↦ here (sym q)
@@ -171,7 +171,7 @@ module _ (s t : ℕ → Slot) where
   gap-slide i [] k a e f es el = absurd (gap-in s [] i e)
   gap-slide i (j ∷ js) k a e f es el =
       let le : top_of s js ≤ (s j).start = k.0 in
-      elim (ℕ-cases j i) [
+      elim (cases_eq j i) [
         | inl q ↦
             let m : Misses i js = subst (λ (x : ℕ). Misses x js) q a.0 in
             let same : (x : ℕ) → Has js x → t x ≡ s x = λ x g. f x (λ r. Misses-not i x js m g (sym r)) in
@@ -258,7 +258,7 @@ module _ (s : ℕ → Slot) where
             let low : (s x.0).start ≤ (s i).start = rw (← q) (omega arith) in
             lhs ∙ x.1 ∙ sym (gone-stays s x.0 i up n low) ∙ ap (λ (o : Option ℕ). gap_gone s o i up) (sym s1)
       ] in
-      elim (ℕ-cases j i) [
+      elim (cases_eq j i) [
         | inl q ↦ here q
         | inr n ↦ elim h [
           | inl q ↦ here (sym q)
@@ -297,7 +297,7 @@ module _ (s : ℕ → Slot) where
                     let back = ap (λ (o : Option ℕ). gap_gone s o i up) (sym s1) in
                     let room = gap-some s js x.0 k.1 x.1 in
                     let keep : first_gap s (without i js) ≡ Some x.0 → first_gap s (without i (j ∷ js)) ≡ Some x.0 = λ e. lhs ∙ ap (λ (o : Option ℕ). or_else o (when (nat_lt (size_of s (without i js)) (s j).start) j)) e in
-                    elim (ℕ-cases x.0 i) [
+                    elim (cases_eq x.0 i) [
                       | inl q ↦ rise (omega arith) (i0 ∙ gone-itself s x.0 i (above i js) q) ∙ sym (gone-itself s x.0 i up q) ∙ back
                       | inr m ↦ elim (cases_lt 0 (s i).len) [
                         | inl pos ↦ elim (cases_lt (s i).start (s x.0).start) [

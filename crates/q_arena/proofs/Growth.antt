@@ -1,8 +1,7 @@
 -- More places and heads.
 use Rattle.std.proofs.Common.{◌≡◌, ◌≢◌, ℕ, zero, suc, ◌+◌, ◌-◌, ◌<◌, ◌≤◌, List, [], ◌∷◌, ◌++◌, length, get_or, refl, sym, ◌∙◌, ap, subst, inl, inr, arith, length-append}
 use Rattle.std.proofs.lemmas.List.{get_or_append_left, get_or-append_right, get_or_past}
-use Rattle.std.proofs.lemmas.Bool.{cases_lt}
-use Rattle.q_arena.proofs.NumberCases.{ℕ-cases}
+use Rattle.std.proofs.lemmas.Bool.{cases_lt, cases_eq}
 use Rattle.q_arena.specs.declared.rings.Link.{Link}
 use Rattle.q_arena.specs.Nodes.{node_at, base, blank}
 use Rattle.q_arena.specs.Rings.{IsPath, walk, Has, Misses, AreBelow, IsRing, AreRings, AreSound, rings_of}
@@ -89,7 +88,7 @@ module _ (places heads : List Link) (x : Link) where
       }
 
   pub lists-head : AreSound places heads → length heads < base → x ≡ record { next = base + length heads; prev = base + length heads; tag = 0 } → (l : ℕ) → get_or (lists_of places (heads ++ x ∷ [])) l [] ≡ get_or (lists_of places heads) l []
-  lists-head s few e l = elim (ℕ-cases l (length heads)) [
+  lists-head s few e l = elim (cases_eq l (length heads)) [
     | inl q ↦
         let tag : (node_at places (heads ++ x ∷ []) (base + length heads)).tag ≡ 0 = ap (λ (k : Link). k.tag) (node-new ∙ e) in
         let now : rings_of (node_at places (heads ++ x ∷ [])) base (length heads) ≡ [] = ap (λ (k : ℕ). walk (node_at places (heads ++ x ∷ [])) k (node_at places (heads ++ x ∷ []) (base + length heads)).next) tag in

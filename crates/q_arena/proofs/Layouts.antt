@@ -2,8 +2,7 @@
 use Rattle.std.proofs.Common.{◌≡◌, ◌≢◌, ◌⊎◌, ℕ, ◌+◌, ◌-◌, ◌<◌, ◌≤◌, true, false, List, [], ◌∷◌, length, get_or, set, None, Some, slice_get, refl, sym, ◌∙◌, ap, subst, inl, inr, arith, true≢false}
 use Rattle.std.proofs.lemmas.List.{get_or-set_same, get_or-set_other, get_or_past}
 use Rattle.std.proofs.lemmas.Bool.Decides.{nat_tests}
-use Rattle.std.proofs.lemmas.Bool.{cases_lt}
-use Rattle.q_arena.proofs.NumberCases.{ℕ-cases}
+use Rattle.std.proofs.lemmas.Bool.{cases_lt, cases_eq}
 use Rattle.q_arena.proofs.ListNeighbours.{following-here, following-later}
 use Rattle.q_arena.specs.declared.slots.Slot.{Slot}
 use Rattle.q_arena.specs.Layout.{end_in, no_slot, slot_at, top_of, below, IsStack, size_of, Order, AreLaid}
@@ -15,7 +14,7 @@ use Rattle.q_arena.proofs.ArenaView.{length-set'}
 
 pub without-gone : (p : ℕ) (ys : List ℕ) → AreApart ys → Has (without p ys) p → ⊥
 without-gone p [] a h = h
-without-gone p (y ∷ ys) a h = elim (ℕ-cases y p) [
+without-gone p (y ∷ ys) a h = elim (cases_eq y p) [
   | inl e ↦ Misses-not y p ys a.0 (subst (λ (xs : List ℕ). Has xs p) (without-first p y ys e) h) e
   | inr n ↦ elim (subst (λ (xs : List ℕ). Has xs p) (without-later p y ys n) h) [
     | inl e ↦ n (sym e)
@@ -25,7 +24,7 @@ without-gone p (y ∷ ys) a h = elim (ℕ-cases y p) [
 
 pub Has-kept : (p q : ℕ) (ys : List ℕ) → Has ys q → q ≢ p → Has (without p ys) q
 Has-kept p q [] h n = absurd h
-Has-kept p q (y ∷ ys) h n = elim (ℕ-cases y p) [
+Has-kept p q (y ∷ ys) h n = elim (cases_eq y p) [
   | inl e ↦ elim h [
     | inl f ↦ absurd (n (f ∙ e))
     | inr i ↦ subst (λ (xs : List ℕ). Has xs q) (sym (without-first p y ys e)) i
@@ -38,7 +37,7 @@ Has-kept p q (y ∷ ys) h n = elim (ℕ-cases y p) [
 
 -- a place taken out of one of several lists is in none
 pub gone : (ls : List (List ℕ)) (l p : ℕ) → ((i : ℕ) → AreApart (get_or ls i [])) → ((i j q : ℕ) → Has (get_or ls i []) q → Has (get_or ls j []) q → i ≡ j) → Has (get_or ls l []) p → (m : ℕ) → Has (get_or (set ls l (without p (get_or ls l []))) m []) p → ⊥
-gone ls l p apart one h m k = elim (ℕ-cases m l) [
+gone ls l p apart one h m k = elim (cases_eq m l) [
   | inl e ↦ elim (cases_lt l (length ls)) [
     | inl lt ↦
         let k' = subst (λ (i : ℕ). Has (get_or (set ls l (without p (get_or ls l []))) i []) p) e k in
@@ -71,21 +70,21 @@ module _ (s t : ℕ → Slot) where
 module _ (s : ℕ → Slot) where
   pub top-without : (p : ℕ) (is : List ℕ) → IsStack s is → top_of s (without p is) ≤ top_of s is
   top-without p [] k = omega arith
-  top-without p (i ∷ is) k = elim (ℕ-cases i p) [
+  top-without p (i ∷ is) k = elim (cases_eq i p) [
     | inl e ↦ rw (without-first p i is e) (let le : top_of s is ≤ (s i).start = k.0 in omega arith)
     | inr n ↦ rw (without-later p i is n) (omega arith)
   ]
 
   pub stack-without : (p : ℕ) (is : List ℕ) → IsStack s is → IsStack s (without p is)
   stack-without p [] k = tt
-  stack-without p (i ∷ is) k = elim (ℕ-cases i p) [
+  stack-without p (i ∷ is) k = elim (cases_eq i p) [
     | inl e ↦ rw (without-first p i is e) k.1
     | inr n ↦ rw (without-later p i is n) (let le : top_of s is ≤ (s i).start = k.0 in let d = top-without p is k.1 in omega arith, stack-without p is k.1)
   ]
 
   pub size-without : (p : ℕ) (is : List ℕ) → Has is p → size_of s is ≡ (s p).len + size_of s (without p is)
   size-without p [] h = absurd h
-  size-without p (i ∷ is) h = elim (ℕ-cases i p) [
+  size-without p (i ∷ is) h = elim (cases_eq i p) [
     | inl e ↦ rw (without-first p i is e) (ap (λ (k : ℕ). (s k).len + size_of s is) e)
     | inr n ↦ rw (without-later p i is n) (elim h [
       | inl e ↦ absurd (n (sym e))
@@ -165,7 +164,7 @@ AreLaid-add room slots ids new end total i n a h eu ef ap' fits =
         | inl e ↦ ap (λ (k : ℕ). (t k).live) e ∙ ap (λ (k : Slot). k.live) here
         | inr v ↦ ap (λ (k : Slot). k.live) (same j v) ∙ a.live j v
       ];
-      lives = λ j l. subst (λ (xs : List ℕ). Has xs j) (sym eu) (elim (ℕ-cases j i) [
+      lives = λ j l. subst (λ (xs : List ℕ). Has xs j) (sym eu) (elim (cases_eq j i) [
         | inl e ↦ inl e
         | inr m ↦ inr (a.lives j (sym (ap (λ (k : Slot). k.live) (slot-set_other slots i j x m)) ∙ l))
       ]);
@@ -207,7 +206,7 @@ AreLaid-delete room slots ids new end total i x a h eu ef ex =
         few = let f : length slots ≤ 4294967295 = a.few in let l = length-set' slots i x in omega arith;
         whole = rw eu (omega arith);
         live = λ j u. let v = rw eu at u in ap (λ (k : Slot). k.live) (same j v) ∙ a.live j (Has-without i j ids.used v);
-        lives = λ j l. subst (λ (xs : List ℕ). Has xs j) (sym eu) (elim (ℕ-cases j i) [
+        lives = λ j l. subst (λ (xs : List ℕ). Has xs j) (sym eu) (elim (cases_eq j i) [
           | inl e ↦ absurd (true≢false (sym l ∙ ap (λ (k : ℕ). (t k).live) e ∙ dead))
           | inr m ↦ Has-kept i j ids.used (a.lives j (sym (ap (λ (k : Slot). k.live) (slot-set_other slots i j x m)) ∙ l)) m
         ]);
@@ -248,14 +247,14 @@ below-later i j is e = grind (arith, nat_tests)
 
 pub Has-below' : (i j : ℕ) (is : List ℕ) → Has (below i is) j → Has is j
 Has-below' i j [] h = absurd h
-Has-below' i j (k ∷ is) h = elim (ℕ-cases k i) [
+Has-below' i j (k ∷ is) h = elim (cases_eq k i) [
   | inl e ↦ inr (subst (λ (xs : List ℕ). Has xs j) (below-here i k is e) h)
   | inr n ↦ inr (Has-below' i j is (subst (λ (xs : List ℕ). Has xs j) (below-later i k is n) h))
 ]
 
 pub following-below : (i : ℕ) (is : List ℕ) → Has is i → following i is ≡ slice_get (below i is) 0
 following-below i [] h = absurd h
-following-below i (j ∷ is) h = elim (ℕ-cases j i) [
+following-below i (j ∷ is) h = elim (cases_eq j i) [
   | inl e ↦ following-here i j is e ∙ ap (λ (xs : List ℕ). slice_get xs 0) (sym (below-here i j is e))
   | inr n ↦ following-later i j is n ∙ elim h [
     | inl e ↦ absurd (n (sym e))
@@ -265,7 +264,7 @@ following-below i (j ∷ is) h = elim (ℕ-cases j i) [
 
 pub below-top : (s : ℕ → Slot) (i : ℕ) (is : List ℕ) → IsStack s is → Has is i → top_of s (below i is) ≤ (s i).start
 below-top s i [] k h = absurd h
-below-top s i (j ∷ is) k h = elim (ℕ-cases j i) [
+below-top s i (j ∷ is) k h = elim (cases_eq j i) [
   | inl e ↦ rw (below-here i j is e, ← e) k.0
   | inr n ↦ rw (below-later i j is n) (elim h [
     | inl e ↦ absurd (n (sym e))
@@ -285,7 +284,7 @@ stack-moved s t i (j ∷ is) k a h f b u =
     let top = top-same s t is same in
     let b' : top_of s is ≤ (t i).start = rw (← below-here i j is e) b in
     (rw e u, (rw (top, e) b', stack-same s t is same k.1)) in
-    elim (ℕ-cases j i) [
+    elim (cases_eq j i) [
       | inl e ↦ here e
       | inr n ↦ elim h [
         | inl e ↦ here (sym e)
@@ -325,11 +324,11 @@ AreLaid-moved room slots ids end total total' i x a h l b u e =
         within = omega arith;
         few = let f : length slots ≤ 4294967295 = a.few in let q = length-set' slots i x in omega arith;
         whole = omega arith;
-        live = λ j g. elim (ℕ-cases j i) [
+        live = λ j g. elim (cases_eq j i) [
           | inl q ↦ ap (λ (k : ℕ). (t k).live) q ∙ ap (λ (k : Slot). k.live) here ∙ l
           | inr n ↦ ap (λ (k : Slot). k.live) (other j n) ∙ a.live j g
         ];
-        lives = λ j g. elim (ℕ-cases j i) [
+        lives = λ j g. elim (cases_eq j i) [
           | inl q ↦ subst (λ (k : ℕ). Has ids.used k) (sym q) h
           | inr n ↦ a.lives j (sym (ap (λ (k : Slot). k.live) (other j n)) ∙ g)
         ];
@@ -343,7 +342,7 @@ AreLaid-moved room slots ids end total total' i x a h l b u e =
 
 pub stack-below : (s : ℕ → Slot) (i : ℕ) (is : List ℕ) → IsStack s is → IsStack s (below i is)
 stack-below s i [] k = tt
-stack-below s i (j ∷ is) k = elim (ℕ-cases j i) [
+stack-below s i (j ∷ is) k = elim (cases_eq j i) [
   | inl e ↦ rw (below-here i j is e) k.1
   | inr n ↦ rw (below-later i j is n) (stack-below s i is k.1)
 ]
@@ -353,7 +352,7 @@ pub stack-sides : (s : ℕ → Slot) (i j : ℕ) (is : List ℕ) → IsStack s i
 stack-sides s i j [] k h g n = absurd h
 stack-sides s i j (m ∷ is) k h g n =
     let le : top_of s is ≤ (s m).start = k.0 in
-    elim (ℕ-cases m i) [
+    elim (cases_eq m i) [
       | inl e ↦ rw (below-here i m is e) (elim g [
         | inl f ↦ absurd (n (f ∙ e))
         | inr b ↦ inl (stack-in s is j k.1 b)
@@ -370,7 +369,7 @@ stack-sides s i j (m ∷ is) k h g n =
 -- a clause is not before itself
 pub below-misses : (i : ℕ) (is : List ℕ) → AreApart is → Has (below i is) i → ⊥
 below-misses i [] a h = h
-below-misses i (j ∷ is) a h = elim (ℕ-cases j i) [
+below-misses i (j ∷ is) a h = elim (cases_eq j i) [
   | inl e ↦ Misses-not j i is a.0 (subst (λ (xs : List ℕ). Has xs i) (below-here i j is e) h) e
   | inr n ↦ below-misses i is a.1 (subst (λ (xs : List ℕ). Has xs i) (below-later i j is n) h)
 ]

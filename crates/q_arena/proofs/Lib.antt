@@ -1,4 +1,3 @@
-pub mod NumberCases
 pub mod ListNeighbours
 pub mod RingJoins
 pub mod RingPaths

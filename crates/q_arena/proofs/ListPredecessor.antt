@@ -2,7 +2,7 @@
 use Rattle.std.proofs.Common.{◌≡◌, ℕ, ◌+◌, ◌<◌, ◌≤◌, List, [], ◌∷◌, length, get_or, None, Some, sym, ◌∙◌, ap, subst, inl, inr, arith}
 use Rattle.std.specs.Prelude.{if◌then◌else◌, nat_lt}
 use Rattle.std.proofs.lemmas.Bool.Decides.{nat_tests}
-use Rattle.q_arena.proofs.NumberCases.{ℕ-cases}
+use Rattle.std.proofs.lemmas.Bool.{cases_eq}
 use Rattle.q_arena.proofs.ListNeighbours.{preceding-here, preceding-later, preceding-none}
 use Rattle.q_arena.specs.declared.rings.Link.{Link}
 use Rattle.q_arena.specs.Nodes.{node_at, base, blank}
@@ -14,7 +14,7 @@ use Rattle.q_arena.proofs.ArenaView.{node_at-place, list-is, Has-head, place-in}
 
 from-prev : (s : ℕ → Link) (p j : ℕ) (ys : List ℕ) (z : ℕ) → IsPath s j ys z → Has ys p → preceding_from p j ys ≡ Some (s p).prev
 from-prev s p j [] z w h = absurd h
-from-prev s p j (k ∷ ks) z w h = elim (ℕ-cases k p) [
+from-prev s p j (k ∷ ks) z w h = elim (cases_eq k p) [
   | inl e ↦ preceding-here p j k ks e ∙ ap (λ (x : ℕ). Some x) (sym w.1 ∙ ap (λ (x : ℕ). (s x).prev) e)
   | inr n ↦ preceding-later p j k ks n ∙ elim h [
     | inl e ↦ absurd (n (sym e))
@@ -34,7 +34,7 @@ preceding-of s b room x (y ∷ ys) z p rb bx w a h k =
     let first : p ≡ y → preceding p (y ∷ ys) ≡ (if nat_lt (s p).prev b then Some (s p).prev else None) = λ e.
     let v : (s p).prev ≡ x = ap (λ (q : ℕ). (s q).prev) e ∙ k.1 in
     preceding-none p y ys (subst (λ (q : ℕ). Misses q ys) (sym e) a.0) ∙ None-if b (s p).prev (omega arith) in
-    elim (ℕ-cases p y) [
+    elim (cases_eq p y) [
       | inl e ↦ first e
       | inr n ↦ elim h [
         | inl e ↦ first e

@@ -1,7 +1,7 @@
 -- Rings under an insertion after a node.
 use Rattle.std.proofs.Common.{◌≡◌, ◌≢◌, ◌⊎◌, ℕ, suc, ◌+◌, ◌<◌, ◌≤◌, List, [], ◌∷◌, length, refl, sym, ◌∙◌, ap, subst, inl, inr, arith}
 use Rattle.std.proofs.lemmas.Bool.Decides.{nat_tests}
-use Rattle.q_arena.proofs.NumberCases.{ℕ-cases}
+use Rattle.std.proofs.lemmas.Bool.{cases_eq}
 use Rattle.q_arena.specs.declared.rings.Link.{Link}
 use Rattle.q_arena.specs.Nodes.{IsJoined, IsTagged}
 use Rattle.q_arena.specs.Rings.{IsPath, Has, Misses, AreApart, AreBelow, with_next, IsRing, AreRings, with_list}
@@ -17,7 +17,7 @@ with_next-later a p y ys n = grind (arith, nat_tests)
 
 pub Has-with_next : (a p q : ℕ) (ys : List ℕ) → Has (with_next a p ys) q → (q ≡ p) ⊎ Has ys q
 Has-with_next a p q [] h = absurd h
-Has-with_next a p q (y ∷ ys) h = elim (ℕ-cases y a) [
+Has-with_next a p q (y ∷ ys) h = elim (cases_eq y a) [
   | inl e ↦ elim (subst (λ (xs : List ℕ). Has xs q) (with_next-here a p y ys e) h) [
     | inl f ↦ inr (inl f)
     | inr g ↦ elim g [ inl f ↦ inl f | inr i ↦ inr (inr i) ]
@@ -30,7 +30,7 @@ Has-with_next a p q (y ∷ ys) h = elim (ℕ-cases y a) [
 
 pub length-with_next : (a p : ℕ) (ys : List ℕ) → Has ys a → length (with_next a p ys) ≡ suc (length ys)
 length-with_next a p [] h = absurd h
-length-with_next a p (y ∷ ys) h = elim (ℕ-cases y a) [
+length-with_next a p (y ∷ ys) h = elim (cases_eq y a) [
   | inl e ↦ rw (with_next-here a p y ys e) refl
   | inr n ↦ rw (with_next-later a p y ys n) (elim h [
     | inl e ↦ absurd (n (sym e))
@@ -40,7 +40,7 @@ length-with_next a p (y ∷ ys) h = elim (ℕ-cases y a) [
 
 AreApart-with_next : (a p : ℕ) (ys : List ℕ) → AreApart ys → Misses p ys → AreApart (with_next a p ys)
 AreApart-with_next a p [] d m = tt
-AreApart-with_next a p (y ∷ ys) d m = elim (ℕ-cases y a) [
+AreApart-with_next a p (y ∷ ys) d m = elim (cases_eq y a) [
   | inl e ↦ rw (with_next-here a p y ys e) (((λ f. m.0 (sym f)), d.0), (m.1, d.1))
   | inr n ↦ rw (with_next-later a p y ys n) (
     Misses-from y (with_next a p ys) (λ h. elim (Has-with_next a p y ys h) [
@@ -53,7 +53,7 @@ AreApart-with_next a p (y ∷ ys) d m = elim (ℕ-cases y a) [
 
 AreBelow-with_next : (a p n : ℕ) (ys : List ℕ) → AreBelow n ys → p < n → AreBelow n (with_next a p ys)
 AreBelow-with_next a p n [] b l = tt
-AreBelow-with_next a p n (y ∷ ys) b l = elim (ℕ-cases y a) [
+AreBelow-with_next a p n (y ∷ ys) b l = elim (cases_eq y a) [
   | inl e ↦ rw (with_next-here a p y ys e) (b.0, (l, b.1))
   | inr m ↦ rw (with_next-later a p y ys m) (b.0, AreBelow-with_next a p n ys b.1 l)
 ]
@@ -86,7 +86,7 @@ IsPath-after s t u a p j k x (y ∷ ys) z xp pz mx mp mz d h w =
     let xa : x ≢ a = Misses-not x a (y ∷ ys) mx h in
     let forth : (u x).next ≡ y = next_other t u p (s a).next x k xp ∙ next_other s t a p x j xa ∙ w.0 in
     let back : y ≢ (s a).next → (u y).prev ≡ x = λ n. prev_other t u p (s a).next y k n ∙ prev_other s t a p y j yp ∙ w.1 in
-    elim (ℕ-cases y a) [
+    elim (cases_eq y a) [
       | inl e ↦
           let n : y ≢ (s a).next = subst (λ (q : ℕ). y ≢ (s q).next) e (elim (first_in s y ys z w.2) [
             | inl i ↦ Misses-not y (s y).next ys d.0 i
@@ -128,7 +128,7 @@ AreRings-after s t u v base room heads L l a p n r rb lh pr ha f j k nt g =
     let second = IsRing-kept t u room (base + m) (L m) p (s a).next k (fresh m mh) (off s base room heads L r rb l m (s a).next lh mh x (next_in s (base + l) (L l) (base + l) a old.path ha)) first in
     IsRing-tagged u v room (base + m) (L m) (base + l) (n + 1) g (λ e. x (omega arith)) second in
     record {
-      each = λ m mh. elim (ℕ-cases m l) [
+      each = λ m mh. elim (cases_eq m l) [
         | inl e ↦ rw (with_list-here L l m (with_next a p (L l)) e) (subst (λ (i : ℕ). IsRing v room (base + i) (with_next a p (L l))) (sym e) here)
         | inr x ↦ rw (with_list-other L l m (with_next a p (L l)) x) (other m mh x)
       ];

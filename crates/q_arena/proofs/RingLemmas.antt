@@ -1,7 +1,7 @@
 -- Rings under a push in front and a removal.
 use Rattle.std.proofs.Common.{◌≡◌, ◌≢◌, ◌⊎◌, ℕ, zero, suc, ◌+◌, ◌<◌, ◌≤◌, List, [], ◌∷◌, length, refl, sym, ◌∙◌, ap, subst, inl, inr, arith}
 use Rattle.std.proofs.lemmas.Bool.Decides.{nat_tests}
-use Rattle.q_arena.proofs.NumberCases.{ℕ-cases}
+use Rattle.std.proofs.lemmas.Bool.{cases_eq}
 use Rattle.q_arena.specs.declared.rings.Link.{Link}
 use Rattle.q_arena.specs.Nodes.{IsJoined, IsTagged}
 use Rattle.q_arena.specs.Rings.{IsPath, walk, Has, Misses, AreApart, AreBelow, without, IsRing, AreRings, rings_of, with_list}
@@ -38,12 +38,12 @@ one_with heads l L ys lh one new k m p kh mh a b =
       | inl o ↦ absurd (n (sym (one l j p lh jh o y)))
       | inr f ↦ absurd (f j jh y)
     ] in
-    elim (ℕ-cases k l) [
-      | inl e ↦ elim (ℕ-cases m l) [
+    elim (cases_eq k l) [
+      | inl e ↦ elim (cases_eq m l) [
         | inl f ↦ e ∙ sym f
         | inr f ↦ both k m e f kh mh (in' k e a) (at' m f b)
       ]
-      | inr e ↦ elim (ℕ-cases m l) [
+      | inr e ↦ elim (cases_eq m l) [
         | inl f ↦ sym (both m k f e mh kh (in' m f b) (at' k e a))
         | inr f ↦ one k m p kh mh (at' k e a) (at' m f b)
       ]
@@ -110,7 +110,7 @@ AreRings-with s t u v base room heads L l p r rb lh pr f j k g =
     let second = IsRing-kept t u room (base + m) (L m) p (s (base + l)).next k (fresh m mh) (off s base room heads L r rb l m (s (base + l)).next lh mh n (first_in s (base + l) (L l) (base + l) old.path)) first in
     IsRing-tagged u v room (base + m) (L m) (base + l) ((s (base + l)).tag + 1) g (λ e. n (omega arith)) second in
     record {
-      each = λ m mh. elim (ℕ-cases m l) [
+      each = λ m mh. elim (cases_eq m l) [
         | inl e ↦ rw (with_list-here L l m (p ∷ L l) e) (subst (λ (i : ℕ). IsRing v room (base + i) (p ∷ L l)) (sym e) here)
         | inr n ↦ rw (with_list-other L l m (p ∷ L l) n) (other m mh n)
       ];
@@ -122,7 +122,7 @@ AreRings-with s t u v base room heads L l p r rb lh pr f j k g =
 
 pub Has-without : (p q : ℕ) (ys : List ℕ) → Has (without p ys) q → Has ys q
 Has-without p q [] h = h
-Has-without p q (y ∷ ys) h = elim (ℕ-cases y p) [
+Has-without p q (y ∷ ys) h = elim (cases_eq y p) [
   | inl e ↦ inr (subst (λ (xs : List ℕ). Has xs q) (without-first p y ys e) h)
   | inr n ↦ elim (subst (λ (xs : List ℕ). Has xs q) (without-later p y ys n) h) [
     | inl e ↦ inl e
@@ -135,21 +135,21 @@ Misses-without p x ys m = Misses-from x (without p ys) (λ h. Misses-not x x ys 
 
 pub AreApart-without : (p : ℕ) (ys : List ℕ) → AreApart ys → AreApart (without p ys)
 AreApart-without p [] a = tt
-AreApart-without p (y ∷ ys) a = elim (ℕ-cases y p) [
+AreApart-without p (y ∷ ys) a = elim (cases_eq y p) [
   | inl e ↦ rw (without-first p y ys e) a.1
   | inr n ↦ rw (without-later p y ys n) (Misses-without p y ys a.0, AreApart-without p ys a.1)
 ]
 
 AreBelow-without : (p n : ℕ) (ys : List ℕ) → AreBelow n ys → AreBelow n (without p ys)
 AreBelow-without p n [] a = tt
-AreBelow-without p n (y ∷ ys) a = elim (ℕ-cases y p) [
+AreBelow-without p n (y ∷ ys) a = elim (cases_eq y p) [
   | inl e ↦ rw (without-first p y ys e) a.1
   | inr m ↦ rw (without-later p y ys m) (a.0, AreBelow-without p n ys a.1)
 ]
 
 pub length-without : (p : ℕ) (ys : List ℕ) → Has ys p → length ys ≡ suc (length (without p ys))
 length-without p [] h = absurd h
-length-without p (y ∷ ys) h = elim (ℕ-cases y p) [
+length-without p (y ∷ ys) h = elim (cases_eq y p) [
   | inl e ↦ rw (without-first p y ys e) refl
   | inr n ↦ rw (without-later p y ys n) (elim h [
     | inl e ↦ absurd (n (sym e))
@@ -183,7 +183,7 @@ AreRings-without s t v base room heads L l p n r rb lh hp j c g =
     (off s base room heads L r rb l m (s p).next lh mh x (next_in s (base + l) (L l) (base + l) p old.path hp))
     (r.each m mh)) in
     record {
-      each = λ m mh. elim (ℕ-cases m l) [
+      each = λ m mh. elim (cases_eq m l) [
         | inl e ↦ rw (with_list-here L l m (without p (L l)) e) (subst (λ (i : ℕ). IsRing v room (base + i) (without p (L l))) (sym e) here)
         | inr x ↦ rw (with_list-other L l m (without p (L l)) x) (other m mh x)
       ];
@@ -226,7 +226,7 @@ length-below (suc n) ys a b =
 
     Has-cases : (n : ℕ) (zs : List ℕ) → Has zs n ⊎ Misses n zs
     Has-cases n [] = inr tt
-    Has-cases n (z ∷ zs) = elim (ℕ-cases n z) [
+    Has-cases n (z ∷ zs) = elim (cases_eq n z) [
       | inl e ↦ inl (inl e)
       | inr d ↦ elim (Has-cases n zs) [
         | inl h ↦ inl (inr h)
@@ -236,7 +236,7 @@ length-below (suc n) ys a b =
 
     without-misses : (n : ℕ) (zs : List ℕ) → AreApart zs → Misses n (without n zs)
     without-misses n [] a = tt
-    without-misses n (z ∷ zs) a = elim (ℕ-cases z n) [
+    without-misses n (z ∷ zs) a = elim (cases_eq z n) [
       | inl e ↦ rw (without-first n z zs e) (subst (λ (k : ℕ). Misses k zs) e a.0)
       | inr d ↦ rw (without-later n z zs d) (λ e. d (sym e), without-misses n zs a.1)
     ]

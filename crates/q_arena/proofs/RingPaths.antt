@@ -1,7 +1,7 @@
 -- Ways along nodes, under joins.
 use Rattle.std.proofs.Common.{◌≡◌, ◌≢◌, ◌⊎◌, ℕ, List, [], ◌∷◌, length, refl, sym, ◌∙◌, ap, subst, inl, inr, arith}
 use Rattle.std.proofs.lemmas.Bool.Decides.{nat_tests}
-use Rattle.q_arena.proofs.NumberCases.{ℕ-cases}
+use Rattle.std.proofs.lemmas.Bool.{cases_eq}
 use Rattle.q_arena.specs.declared.rings.Link.{Link}
 use Rattle.q_arena.specs.Nodes.{IsJoined}
 use Rattle.q_arena.specs.Rings.{IsPath, walk, Has, Misses, AreApart, without}
@@ -87,7 +87,7 @@ IsPath-without s t p j x (y ∷ ys) z mx a mz h w =
       prev_other s t (s p).prev (s p).next y j after ∙ w.1,
       IsPath-without s t p j y ys z a.0 a.1 mz.1 i w.2,
     ) in
-    elim (ℕ-cases y p) [
+    elim (cases_eq y p) [
       | inl e ↦ here e
       | inr n ↦ elim h [
         | inl e ↦ here (sym e)

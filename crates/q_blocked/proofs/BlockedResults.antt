@@ -3,7 +3,7 @@ use Rattle.std.proofs.Common.{◌≡◌, ◌≤◌, ◌+◌, ◌*◌, ℕ, ◌�
 use Rattle.q_logic.specs.declared.rule_bounds.Bounds.{Bounds}
 use Rattle.q_logic.specs.Prelude.{Literal, Clause, Matrix, Prefix, IsIn, without, standard, IsInLimits, size_of, delete, Slots, slot, live, others, formula_of, Fits, Applicable, change, shortened}
 use Rattle.q_logic.specs.Targets as theory
-use Rattle.q_logic.proofs.Common.{SameClauses, alike-refl, live-without}
+use Rattle.q_logic.proofs.Common.{SameClauses, alike-refl, live-gone}
 use Rattle.q_log.specs.Texts.{step_text}
 use Rattle.q_kernel.specs.Prelude.{Seen, slots, formula_in, IsSound, SameView, IsDeleted, IsDropped}
 use Rattle.q_rule.specs.Becoming.{CanChange, IsChanged}
@@ -29,7 +29,7 @@ fits-applies B k t h f = record { fits = f; in_limits = change-limits B k.prefix
 pub changed-blocked : (old new : Seen) (c : ℕ) (l : Literal) → IsSound old → IsInLimits standard (formula_in old) → CanChange old → ((C : Clause) → slot (slots old) c ≡ Some C → IsIn l C) → IsDeleted old new c (λ C. Some l) → IsChanged old new (theory.blocked c l)
 changed-blocked old new c l s h b held d = record {
   led = d.logged.led;
-  alike = record { prefix = sym d.prefix; clauses = subst (λ (X : Matrix). SameClauses X (live (slots new))) (ap live d.change ∙ live-without (slots old) c) (alike-refl (live (slots new))) };
+  alike = record { prefix = sym d.prefix; clauses = subst (λ (X : Matrix). SameClauses X (live (slots new))) (ap live d.change ∙ live-gone (slots old) c) (alike-refl (live (slots new))) };
   limits = limits-gone old new c d.clause d.was d.change d.prefix h;
   bytes = subst (λ P. 16 * (size_of (live (slots new)) + length P) ≤ new.spare_bytes) (sym d.prefix)
       (bytes-deleted (size_of (live (slots old))) (size_of (live (slots new))) (length d.clause) (length old.prefix) old.spare_bytes new.spare_bytes (length (step_text (delete (Some l) d.clause)))

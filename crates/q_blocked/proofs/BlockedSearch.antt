@@ -1,13 +1,13 @@
 -- What a search for targets has seen.
 use Rattle.std.proofs.Common.{◌≡◌, ◌≤◌, ℕ, true, false, Option, Some, None, refl, sym, ◌∙◌, ap, List, subst, true≢false}
 use Rattle.std.specs.Option.{is_some}
+use Rattle.std.proofs.lemmas.Option.{same_Some}
 use Rattle.q_logic.specs.declared.rule_bounds.Bounds.{Bounds}
 use Rattle.q_logic.specs.Prelude.{Literal, negation, Clause, IsIn, is_existential, slot, others, place, Fits}
 use Rattle.q_logic.specs.Blocking.{AllClash}
 use Rattle.q_logic.specs.Targets as theory
 use Rattle.q_logic.proofs.Common.{universal-not_existential}
 use Rattle.q_kernel.specs.Prelude.{Seen, slots, IsLive}
-use Rattle.q_kernel.proofs.Basics.{some-same}
 use Rattle.q_blocked.specs.declared.target.Target.{Target}
 use Rattle.q_blocked.specs.declared.target.Target.TheVariants.{Blocked, BlockedForall, Cover}
 use Rattle.q_blocked.specs.Targets.{target_of}
@@ -36,7 +36,7 @@ pub found-pivot : (k : Seen) (c : ℕ) (C : Clause) → slot (slots k) c ≡ Som
 found-pivot k c C there h = found-none target_of k (IsPivotOf c) none
   where
     in_it : (d : ℕ) (D : Clause) (l : Literal) → d ≡ c → slot (slots k) d ≡ Some D → IsIn l D → IsIn l C
-    in_it d D l q e m = subst (λ (E : Clause). IsIn l E) (some-same D C (sym e ∙ (ap (slot (slots k)) q ∙ there))) m
+    in_it d D l q e m = subst (λ (E : Clause). IsIn l E) (same_Some D C (sym e ∙ (ap (slot (slots k)) q ∙ there))) m
 
     none : (t : Target) → IsPivotOf c t → (B : Bounds) → Fits B k.prefix (slots k) (target_of t) → ⊥
     none (Blocked d l) q B f = h l (in_it d f.0 l q f.1 f.2) (Blocked d l) (q, refl) B f
@@ -62,13 +62,13 @@ none-of k c l a b = found-none target_of k (IsOn c l) none
 
 pub none-existential : (k : Seen) (c : ℕ) (l : Literal) (C : Clause) → slot (slots k) c ≡ Some C → is_existential k.prefix l.var ≡ true → (AllClash k.prefix (others c (slots k)) l C → ⊥) → IsFound target_of k (IsOn c l) None
 none-existential k c l C there e n = none-of k c l
-    (λ B f. n (subst (λ (E : Clause). AllClash k.prefix (others c (slots k)) l E) (some-same f.0 C (sym f.1 ∙ there)) f.4))
+    (λ B f. n (subst (λ (E : Clause). AllClash k.prefix (others c (slots k)) l E) (same_Some f.0 C (sym f.1 ∙ there)) f.4))
     (λ B f. true≢false (sym e ∙ universal-not_existential k.prefix l.var f.3))
 
 pub none-universal : (k : Seen) (c : ℕ) (l : Literal) (C : Clause) → slot (slots k) c ≡ Some C → is_existential k.prefix l.var ≡ false → ((IsIn (negation l) C → ⊥) → AllClash k.prefix (others c (slots k)) l C → ⊥) → IsFound target_of k (IsOn c l) None
 none-universal k c l C there e n = none-of k c l
     (λ B f. true≢false (sym f.3 ∙ e))
-    (λ B f. let q = some-same f.0 C (sym f.1 ∙ there) in n (λ m. f.4 (subst (λ (E : Clause). IsIn (negation l) E) (sym q) m)) (subst (λ (E : Clause). AllClash k.prefix (others c (slots k)) l E) q f.5))
+    (λ B f. let q = same_Some f.0 C (sym f.1 ∙ there) in n (λ m. f.4 (subst (λ (E : Clause). IsIn (negation l) E) (sym q) m)) (subst (λ (E : Clause). AllClash k.prefix (others c (slots k)) l E) q f.5))
 
 -- At a clause there are its literals, and the clause as a whole.
 pub found-of : (k : Seen) (c : ℕ) (o : Option Target) → is_some o ≡ true → IsFound target_of k (IsPivotOf c) o → IsFound target_of k (IsAt target_of c) o

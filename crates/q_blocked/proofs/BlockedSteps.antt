@@ -1,15 +1,12 @@
 -- When the steps of blocked clauses are valid.
-use Rattle.std.proofs.Common.{◌≡◌, ◌≤◌, ◌+◌, ◌*◌, ℕ, true, inl, inr, arith, refl, Some, length}
+use Rattle.std.proofs.Common.{◌≡◌, ◌≤◌, ◌+◌, ◌*◌, ℕ, true, inl, inr, refl, Some, length}
 use Rattle.q_logic.specs.Prelude.{Literal, negation, Clause, IsIn, is_existential, is_universal, delete, drop_literal, one_less, slot, live, others}
 use Rattle.q_logic.specs.Blocking.{AllClash}
 use Rattle.q_logic.proofs.Common.{IsIn-alike, alike-sym, blocked-pivot, blocked_forall-pivot}
 use Rattle.q_log.specs.Texts.{step_text}
 use Rattle.q_kernel.specs.Prelude.{Seen, slots, IsSound, MayDelete, MayDrop}
 use Rattle.q_kernel.proofs.SlotLists.{alike-others}
-use Rattle.q_rule.proofs.RuleSteps.{clause-in, clause-within, delete-cost, drop-cost}
-
-enough : (a b c : ℕ) → a ≤ b → b ≤ c → a ≤ c
-enough a b c h i = omega arith
+use Rattle.q_rule.proofs.RuleSteps.{clause-in, clause-within, delete-cost, drop-cost, enough}
 
 module _ (k : Seen) (id : ℕ) (C : Clause) (s : IsSound k) (there : slot (slots k) id ≡ Some C) where
   -- the clauses that are left are the others

@@ -1,7 +1,7 @@
 -- The clause of the literals before a place.
 use Rattle.std.proofs.Common.{◌≡◌, ◌≤◌, ◌<◌, ℕ, zero, suc, List, [], ◌∷◌, slice_get, Some, take, length, inl, inr, arith}
-use Rattle.q_logic.specs.Prelude.{Literal, Prefix, IsIn, clause_of, IsSubset, Within}
-use Rattle.q_logic.proofs.Common.{insert-length, IsIn-clause_of, clause_of-IsIn}
+use Rattle.q_logic.specs.Prelude.{Literal, Prefix, IsIn, IsSubset, Within}
+use Rattle.q_logic.proofs.Common.{IsIn-clause_of, clause_of-IsIn, clause_of-length}
 use Rattle.q_blocked.specs.Plans.{front}
 
 pub take-in : {X : Type 0} (xs : List X) (n : ℕ) (k : X) → IsIn k (take n xs) → IsIn k xs
@@ -27,12 +27,8 @@ take-short [] (suc n) = omega arith
 take-short (x ∷ xs) zero = omega arith
 take-short (x ∷ xs) (suc n) = let i = take-short xs n in omega arith
 
-clause_of-short : (ls : List Literal) → length (clause_of ls) ≤ length ls
-clause_of-short [] = omega arith
-clause_of-short (l ∷ ls) = let i = clause_of-short ls in let j = insert-length l (clause_of ls) in omega arith
-
 pub front-short : (S : List Literal) (n : ℕ) → length (front S n) ≤ n
-front-short S n = let i = clause_of-short (take n S) in let j = take-short S n in omega arith
+front-short S n = let i = clause_of-length (take n S) in let j = take-short S n in omega arith
 
 pub front-in : (S : List Literal) (n : ℕ) (k : Literal) → IsIn k (front S n) → IsIn k (take n S)
 front-in S n k m = IsIn-clause_of k (take n S) m

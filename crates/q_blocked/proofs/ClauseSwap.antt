@@ -1,14 +1,16 @@
 -- A clause comes in the place of a smaller one, and a clause goes.
 use Rattle.std.proofs.Common.{◌≡◌, ◌≢◌, ◌≤◌, ◌+◌, ◌*◌, ◌∙◌, ℕ, None, inl, inr, arith, refl, sym, subst, Some, Option, length, ◌∷◌}
-use Rattle.q_kernel.proofs.Basics.{ℕ-cases, some-same}
+use Rattle.std.proofs.lemmas.Option.{same_Some}
+use Rattle.std.proofs.lemmas.Bool.{cases_eq}
 use Rattle.q_logic.specs.Prelude.{Literal, Clause, Prefix, IsIn, Implied, ExistsPivot, add, delete, one_less, first_of, Slots, slot, set_slot, live, others}
-use Rattle.q_logic.proofs.Common.{live-slot, others-slot, implied-subsumed, implied-more_clauses, IsIn-alike, alike-sym, exists_pivot-fewer, live-without}
+use Rattle.q_logic.proofs.Common.{live-slot, others-slot, implied-subsumed, implied-more_clauses, IsIn-alike, alike-sym, exists_pivot-fewer, live-gone}
 use Rattle.q_log.specs.Texts.{step_text}
+use Rattle.q_log.proofs.WritableRuns.{first-of}
 use Rattle.q_kernel.specs.Prelude.{Seen, slots, formula_in, IsSound, MayAdd, MayDelete, IsAdded, IsDeleted}
 use Rattle.q_kernel.proofs.SlotLists.{alike-others, slot-set_other, live-same}
 use Rattle.q_kernel.proofs.KernelRuns.{led-through}
-use Rattle.q_kernel.proofs.TextCosts.{AreSmall, first-first, cost-add, within-small}
-use Rattle.q_rule.proofs.RuleSteps.{clause-in, clause-within, delete-cost, implied-cost}
+use Rattle.q_kernel.proofs.TextCosts.{AreSmall, cost-add, within-small}
+use Rattle.q_rule.proofs.RuleSteps.{clause-in, clause-within, delete-cost, implied-cost, enough}
 use Rattle.q_blocked.specs.Plans.{MayGo, MayReplace, IsReplaced, MayLeave, HasLeft}
 use Rattle.q_rule.proofs.IdClauses.{others-find}
 
@@ -26,7 +28,7 @@ module _ (N : Slots) (c e : ℕ) (S T : Clause) (free : slot N e ≡ None) (ther
   pub others-is : (D : Clause) → IsIn D (others c M) → IsIn D (T ∷ others c N)
   others-is D m =
       let r = others-find M c D m in
-      elim (ℕ-cases r.0 e) [
+      elim (cases_eq r.0 e) [
         | inl q ↦ let z : Some T ≡ Some D = sym new ∙ subst (λ (x : ℕ). slot M x ≡ Some D) q r.2 in inl (cc)
         | inr n ↦ inr (others-slot N r.0 c D r.1 (sym (stays r.0 n) ∙ r.2))
       ]
@@ -36,9 +38,6 @@ module _ (N : Slots) (c e : ℕ) (S T : Clause) (free : slot N e ≡ None) (ther
     | inl q ↦ others-slot M e c D (λ z. apart (sym z)) (subst (λ (x : Clause). slot M e ≡ Some x) (sym q) new)
     | inr i ↦ let r = others-find N c D i in others-slot M r.0 c D r.1 (stays r.0 (λ q. let z : None ≡ Some D = sym free ∙ subst (λ (x : ℕ). slot N x ≡ Some D) q r.2 in absurd (cc)) ∙ r.2)
   ]
-
-enough : (a b c : ℕ) → a ≤ b → b ≤ c → a ≤ c
-enough a b c h i = omega arith
 
 -- A clause may go that goes beside the others.
 module _ (k : Seen) (c : ℕ) (C : Clause) (s : IsSound k) (there : slot (slots k) c ≡ Some C) where
@@ -52,7 +51,7 @@ module _ (k : Seen) (c : ℕ) (C : Clause) (s : IsSound k) (there : slot (slots 
   may-go_implied i b = record {
     clause = C;
     there = there;
-    first = first-first C;
+    first = first-of C;
     step = record {
       valid = (clause-within k c C s there, clause-in k c C s there, inl (implied-more_clauses (others c (slots k)) (one_less C (live (slots k))) C other-left i));
       bytes = enough (length (step_text (delete (first_of C) C))) (16 * (length C + 1)) k.spare_bytes (implied-cost k c C s there) b;
@@ -76,11 +75,11 @@ left-by old new c p C there cost d = record {
   led = d.logged.led;
   prefix = d.prefix;
   room = d.room;
-  bytes = λ S e. total S (some-same S C (sym e ∙ there));
+  bytes = λ S e. total S (same_Some S C (sym e ∙ there));
 }
   where
     is : d.clause ≡ C
-    is = some-same d.clause C (sym d.was ∙ there)
+    is = same_Some d.clause C (sym d.was ∙ there)
 
     count : (a b cost n : ℕ) → a ≡ b + cost → cost ≤ 16 * (n + 1) → a ≤ b + 16 * (n + 1)
     count a b cost n e h = omega arith
@@ -93,10 +92,10 @@ left-by old new c p C there cost d = record {
 pub may-come : (k : Seen) (c : ℕ) (T : Clause) (on : Option Literal) → IsSound k → MayReplace k c T on → MayAdd k (first_of T) T
 may-come k c T on s h = record {
   ordered = h.ordered;
-  first = first-first T;
+  first = first-of T;
   step = record {
     valid = (h.within, inl (implied-subsumed (live (slots k)) h.smaller T (live-slot (slots k) c h.smaller h.there) h.larger), h.limits);
-    bytes = enough (length (step_text (add (first_of T) T))) (16 * (length T + 1)) k.spare_bytes (cost-add (first_of T) T h.ordered (first-first T) (within-small (formula_in k) T s.proper h.within)) (part (16 * (length T + 1)) (16 * (length h.smaller + 1)) k.spare_bytes h.bytes);
+    bytes = enough (length (step_text (add (first_of T) T))) (16 * (length T + 1)) k.spare_bytes (cost-add (first_of T) T h.ordered (first-of T) (within-small (formula_in k) T s.proper h.within)) (part (16 * (length T + 1)) (16 * (length h.smaller + 1)) k.spare_bytes h.bytes);
   };
   words = h.words;
   ids = h.ids;
@@ -111,7 +110,7 @@ module _ (k m : Seen) (c e : ℕ) (T : Clause) (on : Option Literal) (s : IsSoun
   small = within-small (formula_in k) T s.proper h.within
 
   came-cost : length (step_text (add (first_of T) T)) ≤ 16 * (length T + 1)
-  came-cost = cost-add (first_of T) T h.ordered (first-first T) small
+  came-cost = cost-add (first_of T) T h.ordered (first-of T) small
 
   left-is : (D : Clause) → IsIn D (others c (slots m)) → IsIn D (T ∷ others c (slots k))
   left-is = others-is (slots k) c e h.smaller T a.free h.there (slots m) a.change a.there
@@ -138,12 +137,12 @@ module _ (k m : Seen) (c e : ℕ) (T : Clause) (on : Option Literal) (s : IsSoun
   pub replaced : (n : Seen) → HasLeft m n c → IsReplaced k n c T e
   replaced n d = record {
     there = subst (λ (L : Slots). slot L e ≡ Some T) (sym d.change) (slot-set_other c e None (slots m) (λ q. away (sym q)) ∙ a.there);
-    beside = sym (live-without (slots n) e) ∙ (live-same (set_slot e None (slots n)) (set_slot c None (slots k)) each ∙ live-without (slots k) c);
+    beside = sym (live-gone (slots n) e) ∙ (live-same (set_slot e None (slots n)) (set_slot c None (slots k)) each ∙ live-gone (slots k) c);
     led = led-through k m n a.logged.led d.led;
     prefix = d.prefix ∙ a.prefix;
     words = let x = a.words in let y = d.room.words in omega arith;
     ids = let x = a.ids in let y = d.room.ids in omega arith;
-    bytes = λ S q. let z : S ≡ h.smaller = some-same S h.smaller (sym q ∙ h.there) in
+    bytes = λ S q. let z : S ≡ h.smaller = same_Some S h.smaller (sym q ∙ h.there) in
         total (length T) (length S) k.spare_bytes m.spare_bytes n.spare_bytes (length (step_text (add (first_of T) T))) a.logged.bytes came-cost
         (d.bytes S (subst (λ (x : Clause). slot (slots m) c ≡ Some x) (sym z) (smaller-there (slots k) c e h.smaller T a.free h.there (slots m) a.change a.there)));
   }
@@ -158,13 +157,13 @@ module _ (k m : Seen) (c e : ℕ) (T : Clause) (on : Option Literal) (s : IsSoun
       gone-slot N d = Rattle.q_rule.proofs.RuleResults.slot-none d N
 
       rest : (j : ℕ) → j ≢ e → slot (set_slot c None (slots m)) j ≡ slot (set_slot c None (slots k)) j
-      rest j n1 = elim (ℕ-cases j c) [
+      rest j n1 = elim (cases_eq j c) [
         | inl q ↦ subst (λ (x : ℕ). slot (set_slot c None (slots m)) x ≡ slot (set_slot c None (slots k)) x) (sym q) (gone-slot (slots m) c ∙ sym (gone-slot (slots k) c))
         | inr n2 ↦ slot-set_other c j None (slots m) n2 ∙ (stays (slots k) c e h.smaller T a.free h.there (slots m) a.change a.there j n1 ∙ sym (slot-set_other c j None (slots k) n2))
       ]
 
       each : (j : ℕ) → slot (set_slot e None (slots n)) j ≡ slot (set_slot c None (slots k)) j
-      each j = elim (ℕ-cases j e) [
+      each j = elim (cases_eq j e) [
         | inl q ↦ subst (λ (x : ℕ). slot (set_slot e None (slots n)) x ≡ slot (set_slot c None (slots k)) x) (sym q) (gone-slot (slots n) e ∙ sym (slot-set_other c e None (slots k) (λ q. away (sym q)) ∙ a.free))
         | inr n1 ↦ slot-set_other e j None (slots n) n1 ∙ subst (λ (L : Slots). slot L j ≡ slot (set_slot c None (slots k)) j) (sym d.change) (rest j n1)
       ]

@@ -1,10 +1,10 @@
 -- A pass over the literals of a set, in search of covered ones.
 use Rattle.std.proofs.Common.{◌≡◌, ◌+◌, ◌<◌, ◌≤◌, ℕ, Bool, true, false, List, take, length, get_or, slice_get, Some, inl, inr, refl, sym, ◌∙◌, subst, true≢false}
+use Rattle.std.proofs.lemmas.Option.{same_Some}
 use Rattle.q_logic.specs.Prelude.{Literal, Clause, IsIn, others}
 use Rattle.q_logic.specs.Covering.{Covers}
 use Rattle.q_kernel.specs.Prelude.{Seen, slots}
 use Rattle.q_logic.proofs.Common.{taken-cases, taken-all}
-use Rattle.q_kernel.proofs.Basics.{some-same}
 use Rattle.q_blocked.specs.declared.growth.Growth.{Growth}
 use Rattle.q_blocked.specs.declared.progress.Progress.{Progress}
 use Rattle.q_blocked.specs.declared.progress.Progress.TheVariants.{Ended, Grown, Unchanged}
@@ -60,7 +60,7 @@ units-turned k c old now new Ended w h u = u
 units-turned k c old now new Grown w h u = u
 units-turned k c old now new Unchanged w h u =
     let p : Growing k c now × (now.set ≡ old.set) × (now.worked ≡ old.worked) × ((l : Literal) → IsIn l old.set → IsPassive k.prefix (others c (slots k)) old.set l) × (now.asked.items ≡ old.asked.items) = h in
-    λ D f. subst (λ (E : Clause). Covers k.prefix (others c (slots k)) E → ⊥) (some-same p.0.0 D (sym p.0.1 ∙ f))
+    λ D f. subst (λ (E : Clause). Covers k.prefix (others c (slots k)) E → ⊥) (same_Some p.0.0 D (sym p.0.1 ∙ f))
     (growing-closed k c p.0.0 now.set now.plan.stages.items now.base now.worked p.0.2
     (subst (λ (n : ℕ). length now.set ≤ n) (sym p.2) (subst (λ (S : Clause). length S ≤ old.worked) (sym p.1) w))
     u.1

@@ -3,7 +3,7 @@ use Rattle.std.proofs.Common.{◌≡◌, ◌≤◌, ◌<◌, ◌+◌, ◌*◌, �
 use Rattle.std.proofs.Math.Seq.{drop-cons}
 use Rattle.q_logic.specs.Prelude.{Literal, Clause, Matrix, Prefix, standard, IsInLimits, greatest, size_of, Within, literals_in, slot, live, others, formula_of}
 use Rattle.q_logic.specs.Targets as theory
-use Rattle.q_logic.proofs.Common.{clause_of-ordered, pairs-ordered, bounded-length, SameClauses, alike-refl, live-without}
+use Rattle.q_logic.proofs.Common.{clause_of-ordered, pairs-ordered, bounded-length, SameClauses, alike-refl, live-gone}
 use Rattle.q_kernel.specs.Prelude.{Seen, slots, formula_in, IsLed}
 use Rattle.q_kernel.proofs.SlotLists.{length-others, literals-others, size-others}
 use Rattle.q_kernel.proofs.KernelRuns.{led-itself, led-through}
@@ -150,4 +150,4 @@ module _ (old now : Seen) (c id : ℕ) (p : Plan) (i : ℕ) (past : length p.sta
   }
     where
       left : live (slots next) ≡ others c (slots old)
-      left = ap live d.change ∙ (live-without (slots now) id ∙ h.beside)
+      left = ap live d.change ∙ (live-gone (slots now) id ∙ h.beside)

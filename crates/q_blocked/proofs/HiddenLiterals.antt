@@ -2,8 +2,7 @@
 use Rattle.std.proofs.Common.{◌≡◌, ◌≢◌, ◌⊎◌, [], ◌∷◌, ◌++◌, inl, inr, refl, sym, subst}
 use Rattle.q_logic.specs.Prelude.{Literal, negation, Clause, Matrix, IsIn, IsSubset, IsTautology}
 use Rattle.q_logic.specs.Covering.{Hidden}
-use Rattle.q_logic.proofs.CoverRun.{in_or_not}
-use Rattle.q_logic.proofs.Common.{IsIn-append, IsIn-append_left, IsIn-append_right, negation-negation}
+use Rattle.q_logic.proofs.Common.{IsIn-append, IsIn-append_left, IsIn-append_right, negation-negation, same_or_not}
 use Rattle.q_blocked.specs.Walks.{GivesNone, Gives}
 
 -- by its only literal outside
@@ -18,15 +17,9 @@ gives-only S D k m h n = record {
 pub gives-first : (S D : Clause) (k : Literal) → IsIn k D → IsSubset D S → (IsTautology S → ⊥) → Gives S D (negation k)
 gives-first S D k m h n = gives-only S D k m (λ j i d. h j i) (λ i. n (k, h k m, i))
 
-pub same_or : (j k : Literal) → (j ≡ k) ⊎ (j ≢ k)
-same_or j k = elim (in_or_not j (k ∷ [])) [
-  | inl m ↦ elim m [ inl e ↦ inl e | inr none ↦ absurd none ]
-  | inr n ↦ inr (λ e. n (inl e))
-]
-
 -- a literal outside, which is then the only one
 only : (S D : Clause) (k new : Literal) → IsIn k D → (IsIn k S → ⊥) → ((j : Literal) → IsIn j D → j ≢ negation new → IsIn j S) → k ≡ negation new
-only S D k new m n h = elim (same_or k (negation new)) [ inl e ↦ e | inr d ↦ absurd (n (h k m d)) ]
+only S D k new m n h = elim (same_or_not k (negation new)) [ inl e ↦ e | inr d ↦ absurd (n (h k m d)) ]
 
 pub gives_none-another : (S D : Clause) (k : Literal) → IsIn k D → (IsIn k S → ⊥) → (((j : Literal) → IsIn j D → j ≢ k → IsIn j S) → ⊥) → GivesNone S D
 gives_none-another S D k m n a new i h = let e = only S D k new m n h in absurd (a (λ j x d. h j x (λ q. d (subst (λ (y : Literal). j ≡ y) (sym e) q))))
@@ -63,7 +56,7 @@ hidden-growth X S D new m g = record {
 -- a literal of the clause other than one, or none
 pub other_or : (D : Clause) (j : Literal) → ((k : Literal) × IsIn k D × (k ≢ j)) ⊎ ((k : Literal) → IsIn k D → k ≡ j)
 other_or [] j = inr (λ k m. absurd m)
-other_or (i ∷ D) j = elim (same_or i j) [
+other_or (i ∷ D) j = elim (same_or_not i j) [
   | inr d ↦ inl (i, inl refl, d)
   | inl e ↦ elim (other_or D j) [
     | inl r ↦ inl (r.0, inr r.1, r.2)

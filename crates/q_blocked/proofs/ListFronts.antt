@@ -1,11 +1,7 @@
 -- Beginnings of a list, and members by places.
-use Rattle.std.proofs.Common.{◌≡◌, ℕ, zero, suc, ◌+◌, ◌<◌, List, [], ◌∷◌, ◌++◌, take, slice_get, Some, get_or, length, refl, sym, ap, arith}
-use Rattle.std.proofs.lemmas.List.{take_more}
+use Rattle.std.proofs.Common.{◌≡◌, ℕ, zero, suc, ◌<◌, List, [], ◌∷◌, slice_get, Some, get_or, length, sym, ap, arith}
 
 module _ {X : Type 0} where
-  pub taken : (xs : List X) (n : ℕ) (y : X) → n < length xs → y ≡ get_or xs n y → take (n + 1) xs ≡ take n xs ++ y ∷ []
-  taken xs n y h e = let t = take_more xs n y h in rw (t, ← e) refl
-
   pub get-place : (xs : List X) (j : ℕ) (k : X) → j < length xs → k ≡ get_or xs j k → slice_get xs j ≡ Some k
   get-place [] j k h e = absurd (omega arith)
   get-place (x ∷ xs) zero k h e = ap Some (sym e)

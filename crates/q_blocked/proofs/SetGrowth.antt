@@ -4,7 +4,7 @@ use Rattle.std.proofs.lemmas.List.{take-append-le, append_assoc}
 use Rattle.q_logic.specs.Prelude.{Literal, negation, Clause, Matrix, Prefix, IsIn, is_bound, IsSubset, IsTautology, Within, Slots, others}
 use Rattle.q_logic.specs.Covering.{Covered, Grows, Ends, Covers}
 use Rattle.q_logic.proofs.CoverRun.{closed-covers_none, in_or_not}
-use Rattle.q_logic.proofs.Common.{IsIn-append, IsIn-append_left, IsIn-append_right, live-slot, negation-negation, taken-cases, taken-all}
+use Rattle.q_logic.proofs.Common.{IsIn-append, IsIn-append_left, IsIn-append_right, live-slot, negation-negation, taken-cases, taken-all, same_or_not}
 use Rattle.q_logic.proofs.CoverOrder.{covers-more}
 use Rattle.q_kernel.specs.Prelude.{Seen, slots, IsSound}
 use Rattle.q_blocked.specs.declared.growth.Growth.{Growth}
@@ -14,7 +14,7 @@ use Rattle.q_blocked.specs.Walks.{IsBeside, GivesNone, GivesNoneAt, Gives}
 use Rattle.q_blocked.specs.Growths.{IsGrowing, IsPushed, IsPassive, UnitsGiveNone, Growing, HasSpread}
 use Rattle.q_rule.proofs.IdClauses.{others-find}
 use Rattle.q_blocked.proofs.ListFronts.{place-get}
-use Rattle.q_blocked.proofs.HiddenLiterals.{other_or, same_or}
+use Rattle.q_blocked.proofs.HiddenLiterals.{other_or}
 use Rattle.q_blocked.proofs.ClauseFronts.{take-in}
 use Rattle.q_blocked.proofs.ReachedSets.{reached-begun, reached-hidden, reached-staged, reached-covered}
 
@@ -52,7 +52,7 @@ gives_none-less H G S D w f new m h = f new m (λ j i d. w j (h j i d))
 
 -- the clause that gave a literal gives no other
 pub gives_none-given : (S D : Clause) (new : Literal) → Gives S D new → (IsIn (negation new) (S ++ new ∷ []) → ⊥) → GivesNoneAt S (S ++ new ∷ []) D
-gives_none-given S D new g n k m h = elim (same_or k new) [
+gives_none-given S D new g n k m h = elim (same_or_not k new) [
   | inl e ↦ IsIn-append_right k S (new ∷ []) (inl e)
   | inr d ↦ absurd (n (IsIn-append_left (negation new) S (new ∷ []) (h (negation new) g.negated (λ e. d (sym (negation-negation k) ∙ (ap negation (sym e) ∙ negation-negation new))))))
 ]

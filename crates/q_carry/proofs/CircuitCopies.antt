@@ -2,6 +2,7 @@
 use Rattle.std.proofs.Common.{◌≡◌, ◌⊎◌, ℕ, ◌+◌, ◌<◌, Bool, true, false, cond, eqb, List, [], ◌∷◌, ◌++◌, length, map, get_or, slice_get, inl, inr, add-one, arith, refl, sym, ap, ◌∙◌, subst, Option, Some, None}
 use Rattle.std.proofs.lemmas.List.{length_push, get_or_append_left, get_or_push, get_or_past}
 use Rattle.std.proofs.lemmas.Bool.{cases_lt, both_ways}
+use Rattle.std.proofs.lemmas.Option.{slice_get_within, get_or_from_slice_get}
 use Rattle.q_logic.specs.Prelude.{Circuit, constant, inverter, input, GateNode, falsum, input_at, gate_at, Operand, Gate, IsThere, AreGates, node_tree, operand_tree, gate_tree, gate_trees, output_named, tree_of_some}
 use Rattle.q_aig.specs.declared.output.Output.{Output}
 use Rattle.q_aig.specs.Prelude.{Net, IsLiteral, tree_at, operand_of, gate_of, IsNet, no_output, output_of, Serves, IsConjunction}
@@ -9,7 +10,6 @@ use Rattle.q_aig.proofs.Nets.{tree-at-gate}
 use Rattle.q_aig.proofs.Substitutes.{serves-self, serves-same, serves-then, serves-conjunction}
 use Rattle.q_carry.specs.Standing.{look_at, AreLiterals, Stands, InputsAt}
 use Rattle.q_carry.specs.Copied.{IsNeeded, root, left, right, IsMarked, AreMarking, or_zero, copied_plain, copied_operand, tree_of_gate, ReadsOnly, marked_upto, AreCopied, strategy_of, IsCopy, ArePlaced}
-use Rattle.q_carry.proofs.LongerLists.{slice_get-below, slice_get-is}
 use Rattle.q_carry.proofs.LiteralRows.{operand-there, operand-serves, inputs-kept, stands-put, literals-put}
 use Rattle.q_carry.proofs.CircuitParts.{grown-none, grown-then, grown-by}
 
@@ -21,7 +21,7 @@ marked-kept ms ms2 (gate_at g) k h = k g h
 pub marking-none : (gates : List Gate) (os : List Output) (ms : List Bool) → ((g : ℕ) → get_or ms g false ≡ false) → AreMarking gates os ms 0 (length gates)
 marking-none gates os ms un = record {
   outputs = λ i h. absurd (omega arith);
-  closed = λ g x h m e. absurd (let b = slice_get-below gates g x e in omega arith);
+  closed = λ g x h m e. absurd (let b = slice_get_within gates g x e in omega arith);
   needed = λ g m. absurd (both_ways (get_or ms g false) (un g) m);
 }
 
@@ -76,7 +76,7 @@ copy-serves old n ins row U marks k l o t m i h e r =
         subst (λ (p : Option ℕ). Serves (tree_at n (or_zero p)) (input (get_or old.inputs j 0))) (sym q.1) (serves-same _ _ q.2)
     by-node (gate_at g) t m r = h g t m r
 
-or-zero-there : (n : Net) (m : Option ℕ) → ((l : ℕ) → m ≡ Some l → IsLiteral n l) → IsLiteral n (or_zero m)
+pub or-zero-there : (n : Net) (m : Option ℕ) → ((l : ℕ) → m ≡ Some l → IsLiteral n l) → IsLiteral n (or_zero m)
 or-zero-there n None h = tt
 or-zero-there n (Some l) h = h l refl
 
@@ -90,9 +90,9 @@ copy-there names n ins row l o e li lr = operand-there n (copied_plain names ins
 
 pub gate-is : (old : Net) (g : ℕ) (x : Gate) → AreGates (length old.inputs) 0 old.gates → slice_get old.gates g ≡ Some x → tree_of_gate old g ≡ gate_tree old.inputs (gate_trees old.inputs [] old.gates) x
 gate-is old g x o e =
-    let t : get_or (gate_trees old.inputs [] old.gates) (0 + g) (Circuit.constant false) ≡ gate_tree old.inputs (gate_trees old.inputs [] old.gates) (get_or old.gates g x) = tree-at-gate old.inputs [] old.gates g x o (slice_get-below old.gates g x e) in
+    let t : get_or (gate_trees old.inputs [] old.gates) (0 + g) (Circuit.constant false) ≡ gate_tree old.inputs (gate_trees old.inputs [] old.gates) (get_or old.gates g x) = tree-at-gate old.inputs [] old.gates g x o (slice_get_within old.gates g x e) in
     let z : 0 + g ≡ g = omega arith in
-    let m : get_or old.gates g x ≡ x = slice_get-is old.gates g x x e in
+    let m : get_or old.gates g x ≡ x = get_or_from_slice_get old.gates g x x e in
     subst (λ (i : ℕ). get_or (gate_trees old.inputs [] old.gates) i (Circuit.constant false) ≡ gate_tree old.inputs (gate_trees old.inputs [] old.gates) x) z
     (subst (λ (y : Gate). get_or (gate_trees old.inputs [] old.gates) (0 + g) (Circuit.constant false) ≡ gate_tree old.inputs (gate_trees old.inputs [] old.gates) y) m t)
 

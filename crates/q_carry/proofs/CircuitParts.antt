@@ -1,5 +1,5 @@
 -- Parts of circuits, one step further.
-use Rattle.std.proofs.Common.{◌≡◌, ◌⊎◌, ℕ, zero, suc, ◌+◌, ◌-◌, ◌≤◌, Bool, true, false, cond, eqb, List, [], ◌∷◌, ◌++◌, length, inl, inr, arith, refl, sym, ap, ◌∙◌, subst, Option, Some, None}
+use Rattle.std.proofs.Common.{◌≡◌, ℕ, ◌+◌, ◌-◌, ◌≤◌, Bool, true, false, cond, eqb, List, [], ◌∷◌, ◌++◌, length, inl, inr, arith, refl, sym, ap, ◌∙◌, subst, Option, Some, None}
 use Rattle.std.proofs.lemmas.List.{length_push}
 use Rattle.q_logic.specs.Prelude.{Literal, Clause, Circuit, constant, inverter, conjunction, disjunction, Operand, IsThere, falsum, operand_tree, gate_trees, Strategy, literals_in, all_of, raised, pivoted, pivot, removed, freshened, with_circuit}
 use Rattle.q_aig.specs.Prelude.{Net, IsLiteral, tree_at, operand_of, turned, Keeps, Serves, IsConjunction}
@@ -9,7 +9,7 @@ use Rattle.q_carry.specs.Standing.{look_at, AreLiterals, literal_operand, Stands
 use Rattle.q_carry.specs.Growing.{IsGrown, IsDisjunction, IsRaised, IsSomeOf, IsAllOf}
 use Rattle.q_carry.specs.Undone.{IsUndone}
 use Rattle.q_carry.proofs.Folds.{serves-disjunction, some_of-last, all_of-last, literals-last, IsIn-last}
-use Rattle.q_logic.proofs.Common.{IsIn-append_left}
+use Rattle.q_logic.proofs.Common.{IsIn-append_left, none_or_some}
 use Rattle.q_carry.proofs.LiteralRows.{literals-kept, at-kept, literal-serves, stands-put, literals-put}
 
 pub keeps-then : (a b c : Net) → Keeps a b → Keeps b c → Keeps a c
@@ -88,10 +88,6 @@ all-none a ins tb l e f = record {
   serves = λ U c h v. true-serves a l e f;
 }
 
-pub none-or-some : (n : ℕ) → (n ≡ 0) ⊎ (1 ≤ n)
-none-or-some zero = inl refl
-none-or-some (suc n) = inr (omega arith)
-
 pub same-gates : (a b : Net) → a ≡ b → length a.gates ≡ length b.gates
 same-gates a b e = ap (λ (n : Net). length n.gates) e
 
@@ -106,7 +102,7 @@ all-more old now mid new ins tb Os O l p r li lt s t c free =
             let x : length now.gates ≤ length old.gates + (literals_in Os + (length Os - 1)) = s.grown.gates in
             let y : length mid.gates ≤ length now.gates + length O = t.grown.gates in
             let z : length new.gates ≤ length mid.gates + 1 = c.gates in
-            elim (none-or-some (length Os)) [
+            elim (none_or_some (length Os)) [
               | inl e ↦ let f : length new.gates ≡ length mid.gates = same-gates new mid (free (s.constant e)) in omega arith
               | inr e ↦ omega arith
             ];
@@ -133,7 +129,7 @@ undone-pivot old mid new ins tb tb2 k Os a h r li lt is al ra free put = record 
     gates =
         let x : length mid.gates ≤ length old.gates + (literals_in Os + (length Os - 1)) = al.grown.gates in
         let y : length new.gates ≤ length mid.gates + 1 = ra.grown.gates in
-        elim (none-or-some (length Os)) [
+        elim (none_or_some (length Os)) [
           | inl e ↦ let f : length new.gates ≡ length mid.gates = same-gates new mid (free (al.constant e)) in omega arith
           | inr e ↦ omega arith
         ];

@@ -5,13 +5,14 @@ use Rattle.std.proofs.lemmas.List.{take_more, get_or-set_same, get_or-set_other}
 use Rattle.q_logic.specs.declared.formulas.Quant.{Quant}
 use Rattle.q_logic.specs.declared.formulas.Quant.TheVariants.{Forall}
 use Rattle.q_logic.specs.Prelude.{Prefix, is_exists, is_universal, Distinct, CertificateView, trees_of}
+use Rattle.q_logic.proofs.Common.{distinct-at}
 use Rattle.q_aig.specs.Prelude.{Net, AreDistinct, tree_at, net_of}
 use Rattle.q_aig.specs.Cones.{ReadsAt}
 use Rattle.q_carry.specs.Standing.{look_at}
 use Rattle.q_carry.specs.Tabled.{ArePlaces, AreAllowedBy}
 use Rattle.q_carry.specs.Peaks.{IsPeak, AreDepths}
 use Rattle.q_carry.specs.Testing.{IsFirstIn}
-use Rattle.q_carry.proofs.PrefixInputs.{no_bound, distinct-at}
+use Rattle.q_carry.proofs.PrefixInputs.{no_bound}
 use Rattle.q_carry.proofs.VariableTables.{is_universal-last2}
 use Rattle.q_carry.proofs.InputReads.{from-input}
 

@@ -2,6 +2,7 @@
 use Rattle.std.proofs.Common.{◌≡◌, ◌⊎◌, ℕ, zero, suc, ◌+◌, ◌<◌, ◌&&◌, Bool, true, false, not, cond, eqb, List, [], ◌∷◌, ◌++◌, length, map, get_or, take, slice_get, inl, inr, arith, refl, sym, ap, ◌∙◌, subst, Option, Some, None}
 use Rattle.std.proofs.lemmas.Bool.{cases_Bool, both_ways, cases_lt}
 use Rattle.std.proofs.lemmas.List.{get_or-map, length-map, length_push, get_or_append_left, get_or_past, get_or_push}
+use Rattle.std.proofs.lemmas.Option.{get_or_from_slice_get}
 use Rattle.q_logic.specs.declared.formulas.Bound.{Bound}
 use Rattle.q_logic.specs.Prelude.{Prefix, is_exists, is_existential, is_universal, universal_before, Distinct, Circuit, Reads, inverter, GateNode, falsum, input_at, gate_at, Operand, Gate, IsThere, AreGates, node_tree, operand_tree, gate_tree, gate_trees, NamedOutput, CertificateView, output_named, tree_of_some, trees_of, or_input, circuit_of, given, Lawful}
 use Rattle.q_aig.specs.declared.output.Output.{Output}
@@ -12,7 +13,6 @@ use Rattle.q_carry.specs.Refusals.{first_missing, first_strange, input_name, Rea
 use Rattle.q_carry.specs.Testing.{name_at, IsFirstIn, IsFirstOver}
 use Rattle.q_logic.proofs.CertificateTrees.{length-gate_trees}
 use Rattle.q_aig.proofs.Nets.{IsThere-more}
-use Rattle.q_carry.proofs.LongerLists.{slice_get-is}
 use Rattle.q_carry.proofs.NamedCertificates.{named-at}
 use Rattle.q_carry.proofs.PrefixInputs.{no_bound}
 use Rattle.q_carry.proofs.VariableTables.{before-take}
@@ -81,7 +81,7 @@ outer-more c P p lt o h j b jl e q = elim (cases_lt j p) [
   | inl a ↦ h j b a e q
   | inr a ↦
       let s : j ≡ p = omega arith in
-      let g : get_or P p no_bound ≡ b = slice_get-is P p b no_bound (subst (λ (i : ℕ). slice_get P i ≡ Some b) s e) in
+      let g : get_or P p no_bound ≡ b = get_or_from_slice_get P p b no_bound (subst (λ (i : ℕ). slice_get P i ≡ Some b) s e) in
       subst (λ (w : Bound). IsOuter P c w.var) g o
 ]
 
@@ -90,7 +90,7 @@ outer-skip c P p n h j b jl e q = elim (cases_lt j p) [
   | inl a ↦ h j b a e q
   | inr a ↦
       let s : j ≡ p = omega arith in
-      let g : get_or P p no_bound ≡ b = slice_get-is P p b no_bound (subst (λ (i : ℕ). slice_get P i ≡ Some b) s e) in
+      let g : get_or P p no_bound ≡ b = get_or_from_slice_get P p b no_bound (subst (λ (i : ℕ). slice_get P i ≡ Some b) s e) in
       absurd (both_ways (is_exists b.quant) (subst (λ (w : Bound). is_exists w.quant ≡ false) g n) q)
 ]
 

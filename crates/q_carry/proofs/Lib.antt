@@ -1,4 +1,3 @@
-pub mod BoundVariables
 pub mod Folds
 pub mod LongerLists
 pub mod LiteralRows

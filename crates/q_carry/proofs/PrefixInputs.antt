@@ -6,27 +6,13 @@ use Rattle.q_logic.specs.declared.formulas.Quant.{Quant}
 use Rattle.q_logic.specs.declared.formulas.Quant.TheVariants.{Exists, Forall}
 use Rattle.q_logic.specs.declared.formulas.Bound.{Bound}
 use Rattle.q_logic.specs.Prelude.{Prefix, is_exists, is_universal, is_bound, Distinct, input, NamedOutput, CertificateView}
+use Rattle.q_logic.proofs.Common.{distinct-at}
 use Rattle.q_aig.specs.Prelude.{Net, IsLiteral, tree_at, operand_of, IsNew, Keeps, net_of, IsNewName}
-use Rattle.q_carry.proofs.BoundVariables.{get-bound}
 use Rattle.q_carry.specs.Standing.{look_at, AreLiterals}
 use Rattle.q_carry.specs.Copied.{or_zero}
 use Rattle.q_carry.specs.Made.{universals, outputs_for, IsOpened, IsNamed}
 use Rattle.q_carry.proofs.LiteralRows.{literals-kept, inputs-kept, literals-put}
-
-pub distinct-at : (P : Prefix) (i : ℕ) (d : Bound) → Distinct P → i < length P → is_bound (take i P) (get_or P i d).var ≡ false
-distinct-at [] i d di h = absurd (omega arith)
-distinct-at (b ∷ P) zero d di h = refl
-distinct-at (b ∷ P) (suc i) d di h =
-    let r : is_bound (take i P) (get_or P i d).var ≡ false = distinct-at P i d di.1 (omega arith) in
-    let a : is_bound P (get_or P i d).var ≡ true = get-bound P i d (omega arith) in
-    let n : is_bound P b.var ≡ false = di.0 in
-    go (eqb b.var (get_or P i d).var) refl r a n
-  where
-    go : (t : Bool) → eqb b.var (get_or P i d).var ≡ t → is_bound (take i P) (get_or P i d).var ≡ false → is_bound P (get_or P i d).var ≡ true → is_bound P b.var ≡ false → cond t true (is_bound (take i P) (get_or P i d).var) ≡ false
-    go true e r a n =
-        let q : b.var ≡ (get_or P i d).var = grind arith in
-        absurd (both_ways (is_bound P b.var) n (subst (λ (x : ℕ). is_bound P x ≡ true) (sym q) a))
-    go false e r a n = r
+use Rattle.q_carry.proofs.CircuitCopies.{or-zero-there}
 
 bound-other : (b : Bound) (Q : Prefix) (v : ℕ) → is_bound (b ∷ Q) v ≡ false → (eqb b.var v ≡ false) × (is_bound Q v ≡ false)
 bound-other b Q v h = go (eqb b.var v) refl h
@@ -143,10 +129,6 @@ named-exists a made made2 tb Q b l e n el ei eg eo = record {
   gates = eg ∙ n.gates;
   outputs = eo ∙ ap (λ (xs : List NamedOutput). xs ++ record { name = b.var; operand = operand_of l } ∷ []) n.outputs ∙ ap (λ (m : ℕ). outputs_for tb Q ++ record { name = b.var; operand = operand_of m } ∷ []) el ∙ sym (outputs-exists tb Q b e);
 }
-
-or-zero-there : (a : Net) (m : Option ℕ) → ((l : ℕ) → m ≡ Some l → IsLiteral a l) → IsLiteral a (or_zero m)
-or-zero-there a None h = tt
-or-zero-there a (Some l) h = h l refl
 
 pub named-there : (a : Net) (made : CertificateView) (tb : List (Option ℕ)) (Q : Prefix) (v l : ℕ) → IsNamed a made tb Q → AreLiterals a tb → l ≡ or_zero (look_at tb v) → IsLiteral (net_of made) l
 named-there a made tb Q v l n li e =

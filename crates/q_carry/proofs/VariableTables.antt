@@ -8,13 +8,13 @@ use Rattle.q_logic.specs.declared.formulas.Bound.{Bound}
 use Rattle.q_logic.specs.Prelude.{Prefix, is_exists, is_existential, is_universal, is_bound, universal_before, Distinct, Circuit, CertificateView, trees_of, given}
 use Rattle.q_aig.specs.Prelude.{Net, AreDistinct}
 use Rattle.q_logic.proofs.Truth.{none_bound}
-use Rattle.q_carry.proofs.BoundVariables.{get-bound, unbound-universal}
+use Rattle.q_logic.proofs.Common.{unbound-universal, get_or-is_bound, distinct-at}
 use Rattle.q_carry.specs.Standing.{look_at}
 use Rattle.q_carry.specs.Tabled.{Matches, ArePlacesUpto, ArePlaces, is_there, AreExistentials, AreAllowedBy}
 use Rattle.q_carry.specs.Refusals.{first_missing}
-use Rattle.q_carry.proofs.PrefixInputs.{no_bound, distinct-at}
+use Rattle.q_carry.proofs.PrefixInputs.{no_bound}
 
-is_existential-last : (Q : Prefix) (b : Bound) (x : ℕ) → is_bound Q b.var ≡ false → is_existential (Q ++ b ∷ []) x ≡ cond (eqb x b.var) (is_exists b.quant) (is_existential Q x)
+pub is_existential-last : (Q : Prefix) (b : Bound) (x : ℕ) → is_bound Q b.var ≡ false → is_existential (Q ++ b ∷ []) x ≡ cond (eqb x b.var) (is_exists b.quant) (is_existential Q x)
 is_existential-last [] b x h = go (eqb b.var x) refl
   where
     go : (t : Bool) → eqb b.var x ≡ t → cond t (is_exists b.quant) false ≡ cond (eqb x b.var) (is_exists b.quant) false
@@ -107,7 +107,7 @@ before-take [] p u d lt = absurd (omega arith)
 before-take (b ∷ P) zero u d lt = let e : eqb b.var b.var ≡ true = grind arith in ap (λ (t : Bool). cond t false (cond (eqb b.var u) (not (is_exists b.quant) && is_bound P b.var) (universal_before P u b.var))) e
 before-take (b ∷ P) (suc p) u d lt =
     let r = before-take P p u d.1 (omega arith) in
-    let bd : is_bound P (get_or P p no_bound).var ≡ true = get-bound P p no_bound (omega arith) in
+    let bd : is_bound P (get_or P p no_bound).var ≡ true = get_or-is_bound P p no_bound (omega arith) in
     let n : is_bound P b.var ≡ false = d.0 in
     let e : eqb b.var (get_or P p no_bound).var ≡ false = differ bd n in
     ap (λ (t : Bool). cond t false (cond (eqb b.var u) (not (is_exists b.quant) && is_bound P (get_or P p no_bound).var) (universal_before P u (get_or P p no_bound).var))) e ∙ go (eqb b.var u) bd r

@@ -10,7 +10,8 @@ use Rattle.std.proofs.lemmas.List.Kept.{IsStrictlySortedBy-dedup, Contains-dedup
 use Rattle.std.proofs.lemmas.List.Sorted.{Contains-permutation, IsPermutation-sym}
 use Rattle.std.proofs.lemmas.Bool.Decides.{nat_tests}
 use Rattle.q_logic.specs.Prelude.{Literal, Clause, IsIn, Slots, slot, has, numbers_with}
-use Rattle.q_logic.proofs.Common.{has-IsIn, IsIn-has, IsIn-Contains, Contains-IsIn}
+use Rattle.q_logic.proofs.Common.{has-IsIn, IsIn-Contains, Contains-IsIn}
+use Rattle.q_logic.proofs.HintedRuns.{numbers-IsIn}
 
 abbrev Ascends : List ℕ → Type 0
 Ascends [] = Unit {0}
@@ -58,23 +59,6 @@ with-in m n (Some C ∷ N) k i = go (has m C) refl (λ j. with-in m (n + 1) N k 
     go true q ih (inl e) = (zero, C, e ∙ (omega arith), refl, has-IsIn m C q)
     go true q ih (inr j) = let r = ih j in (suc r.0, r.1, r.2 ∙ (omega arith), r.3, r.4)
     go false q ih j = let r = ih j in (suc r.0, r.1, r.2 ∙ (omega arith), r.3, r.4)
-
-pub in-with : (m : Literal) (n : ℕ) (N : Slots) (h : ℕ) (D : Clause) → slot N h ≡ Some D → IsIn m D → IsIn (n + h) (numbers_with m n N)
-in-with m n [] h D e i = cc
-in-with m n (None ∷ N) zero D e i = cc
-in-with m n (None ∷ N) (suc h) D e i = subst (λ k. IsIn k (numbers_with m (n + 1) N)) (omega arith) (in-with m (n + 1) N h D e i)
-in-with m n (Some C ∷ N) zero D e i =
-    let same : C ≡ D = cc in
-    let t : has m C ≡ true = rw same (IsIn-has m D i) in
-    let z : n + 0 ≡ n = omega arith in
-    rw (t, z) (inl refl)
-in-with m n (Some C ∷ N) (suc h) D e i =
-    let s : IsIn (n + suc h) (numbers_with m (n + 1) N) = subst (λ k. IsIn k (numbers_with m (n + 1) N)) (omega arith) (in-with m (n + 1) N h D e i) in
-    go (has m C) s
-  where
-    go : (b : Bool) → IsIn (n + suc h) (numbers_with m (n + 1) N) → IsIn (n + suc h) (cond b (n ∷ numbers_with m (n + 1) N) (numbers_with m (n + 1) N))
-    go true s = inr s
-    go false s = s
 
 above : (n : ℕ) (xs : List ℕ) → ((k : ℕ) → IsIn k xs → n < k) → AllByRecursion (λ y. n < y) xs
 above n [] f = tt
@@ -130,7 +114,7 @@ sorted-with m N old sorted p s f g =
     (λ k h.
     let c = Contains-permutation sorted old k (IsPermutation-sym old sorted p) (Contains-from_dedup (λ x y. x == y) sorted k (IsIn-Contains k (dedup (λ x y. x == y) sorted) h)) in
     let r = f k c in
-    subst (λ (i : ℕ). IsIn i (numbers_with m 0 N)) (omega arith) (in-with m 0 N k r.0 r.1 r.2))
+    subst (λ (i : ℕ). IsIn i (numbers_with m 0 N)) (omega arith) (numbers-IsIn m 0 N k r.0 r.1 r.2))
     (λ k h.
     let r = with-in m 0 N k h in
     let e : slot N k ≡ Some r.1 = subst (λ (i : ℕ). slot N i ≡ Some r.1) (let q = r.2 in omega arith) r.3 in

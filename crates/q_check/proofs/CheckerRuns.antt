@@ -3,11 +3,7 @@ use Rattle.std.proofs.Common.{List, [], ◌∷◌, ◌++◌, refl, sym, ap, ◌�
 use Rattle.q_logic.specs.declared.limits.Limits.{Limits}
 use Rattle.q_logic.specs.Prelude.{PrenexFormula, Prefix, SameBlocks, blocks, standard, ProofStep, Valid, after, ValidSteps, SameFormula, Run, AreAlike, UndoEntry, Entries, Undos}
 use Rattle.q_check.specs.Alike.{Leads}
-use Rattle.q_logic.proofs.Common.{alike_swapped, alike_through, alike_valid, alike_after, alike_entries}
-
-valid_more : (m : Limits) (F : PrenexFormula) (ss : List ProofStep) (E : PrenexFormula) (s : ProofStep) → ValidSteps m F ss E → Valid m E s → ValidSteps m F (ss ++ s ∷ []) (after E s)
-valid_more m F [] E s v w = (subst (λ (G : PrenexFormula). Valid m G s) (sym v) w, ap (λ (G : PrenexFormula). after G s) v)
-valid_more m F (t ∷ ss) E s v w = (v.0, valid_more m (after F t) ss E s v.1 w)
+use Rattle.q_logic.proofs.Common.{alike_swapped, alike_through, alike_valid, alike_after, alike_entries, valid_more}
 
 undos_more : (m : Limits) (F : PrenexFormula) (ss : List ProofStep) (E : PrenexFormula) (s : ProofStep) (us es : List UndoEntry) → ValidSteps m F ss E → Undos F ss us → Entries E s es → Undos F (ss ++ s ∷ []) (us ++ es)
 undos_more m F [] E s us es v u e = (es, [], subst (λ (G : PrenexFormula). Entries G s es) (sym v) e, refl, ap (λ (ws : List UndoEntry). ws ++ es) u ∙ sym (append-nil es))

@@ -1,8 +1,9 @@
 -- The clauses of a formula, in the slots from 0 on, have the numbers from 1 on.
 use Rattle.std.proofs.Common.{◌≡◌, ℕ, zero, suc, ◌<◌, ◌≤◌, List, [], ◌∷◌, ◌++◌, ◌⊎◌, inl, inr, refl, sym, ap, ◌∙◌, subst, Option, None, Some, slice_get, take, length, arith, suc-le-suc, le_of_suc-le-suc, not-suc-le-zero}
+use Rattle.std.proofs.lemmas.Option.{slice_get_within}
 use Rattle.q_logic.specs.Prelude.{Clause, Matrix, Slots, slot, live, numbered}
 use Rattle.q_prop.specs.Slots.{Holds, filled}
-use Rattle.q_prop.proofs.SlotLemmas.{slice_get-in, slice_get-there, slice_get-push_cases, slice_get-append, slice_get-end, take-slice_get}
+use Rattle.q_prop.proofs.SlotLemmas.{slice_get-there, slice_get-push_cases, slice_get-append, slice_get-end, take-slice_get}
 use Rattle.q_logic.proofs.Common.{SameClauses, alike-refl}
 use Rattle.q_check.specs.Numbers.{IsAt, numbered_by, AreNumbered, counted}
 use Rattle.q_check.proofs.NumberedSteps.{numbered-append}
@@ -85,7 +86,7 @@ pub begun-numbered : (X : Matrix) (n : ℕ) → n ≡ length X → AreNumbered (
 begun-numbered X n e = record {
   held = λ m h i. held m h i;
   named = λ h D i.
-      let l = slice_get-in (numbered X) h (Some D) i in
+      let l = slice_get_within (numbered X) h (Some D) i in
       let q = length-numbered_matrix X in
       (suc h, at-counted n h (omega arith));
   apart = λ i j h a b. apart i j h a b;

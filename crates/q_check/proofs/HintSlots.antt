@@ -1,16 +1,12 @@
 -- Hints by their numbers, and by the slots of these.
 use Rattle.std.proofs.Common.{◌≡◌, ◌≢◌, ◌↔◌, ℕ, zero, suc, List, [], ◌∷◌, inl, inr, refl, sym, ap, ◌∙◌, subst, Option, None, Some, get_or, set, map, length}
+use Rattle.std.proofs.lemmas.Bool.{cases_eq}
 use Rattle.q_logic.specs.Prelude.{Literal, Clause, Follows, Chained, Slots, slot, set_slot, negations}
 use Rattle.q_prop.specs.Slots.{without}
-use Rattle.q_prop.proofs.Literals.{ℕ-cases}
 use Rattle.q_check.specs.HintChecks.{place_at}
 use Rattle.q_check.specs.Numbers.{IsAt, look, numbered_by, AreNumbered, left_out, place_in}
 use Rattle.q_check.proofs.NumberedSteps.{numbered-slot}
-
-pub found-at : (ps : List (Option ℕ)) (n h : ℕ) → get_or ps n None ≡ Some h → IsAt ps n h
-found-at [] n h e = cc
-found-at (q ∷ qs) zero h e = ap Some e
-found-at (q ∷ qs) (suc n) h e = found-at qs n h e
+use Rattle.q_check.proofs.SlotNumbers.{place-at}
 
 slot-past : (s : Slots) → slot s (length s) ≡ None
 slot-past [] = refl
@@ -72,7 +68,7 @@ module _ (s : Slots) (ps : List (Option ℕ)) (a : AreNumbered s ps) where
 
   gone-placed : (m n : ℕ) (o p : Option ℕ) → get_or ps m None ≡ o → get_or ps n None ≡ p →
       slot (set_slot m None (numbered_by s ps)) n ≡ slot (without s o) (placed s p)
-  gone-placed m n o p e f = elim (ℕ-cases n m) [
+  gone-placed m n o p e f = elim (cases_eq n m) [
     | inl q ↦ here q o p e f
     | inr d ↦ gone-other (numbered_by s ps) m n d ∙ placed-one n ∙ ap (λ (r : Option ℕ). slot s (placed s r)) f ∙ sym (other d o p e f)
   ]
@@ -90,7 +86,7 @@ module _ (s : Slots) (ps : List (Option ℕ)) (a : AreNumbered s ps) where
       other : n ≢ m → (o p : Option ℕ) → get_or ps m None ≡ o → get_or ps n None ≡ p → slot (without s o) (placed s p) ≡ slot s (placed s p)
       other d None p e f = refl
       other d (Some h) None e f = set-none s h (length s) (slot-past s) ∙ sym (slot-past s)
-      other d (Some h) (Some k) e f = set-other s h k None (λ q. d (sym (a.apart m n k (subst (λ (x : ℕ). IsAt ps m x) (sym q) (found-at ps m h e)) (found-at ps n k f))))
+      other d (Some h) (Some k) e f = set-other s h k None (λ q. d (sym (a.apart m n k (subst (λ (x : ℕ). IsAt ps m x) (sym q) (place-at ps m h e)) (place-at ps n k f))))
 
   pub placed-slot : (skip : Option ℕ) (n : ℕ) → slot (left_out skip (numbered_by s ps)) n ≡ slot (without s (place_in ps skip)) (place_at ps (length s) n)
   placed-slot None n = placed-one n ∙ ap (slot s) (sym (placed-at s ps n))

@@ -1,8 +1,8 @@
 -- Groups of hints, one for each clause that holds a literal.
 use Rattle.std.proofs.Common.{◌≡◌, ◌<◌, ◌≤◌, ◌+◌, ◌++◌, ℕ, zero, suc, List, [], ◌∷◌, Option, None, Some, inl, inr, refl, sym, ap, ◌∙◌, subst, map, length, arith}
+use Rattle.std.proofs.lemmas.Bool.{cases_eq}
 use Rattle.q_logic.specs.Prelude.{Literal, Clause, Prefix, IsIn, Chained, HintGroup, Resolved, numbers_with, Slots, slot, set_slot, outer}
 use Rattle.q_logic.specs.ProofParts.{group_at}
-use Rattle.q_prop.proofs.Literals.{ℕ-cases}
 use Rattle.q_check.specs.Numbers.{left_out}
 use Rattle.q_check.proofs.AscendingNumbers.{with-in}
 use Rattle.q_check.proofs.HintSlots.{gone-here, gone-other}
@@ -25,7 +25,7 @@ in-group (h ∷ gs) g (inr m) = let r = in-group gs g m in (suc r.0, (let l : r.
 -- a clause that stands beside the one left out stands there anyhow
 pub left-slot : (skip : Option ℕ) (N : Slots) (k : ℕ) (D : Clause) → slot (left_out skip N) k ≡ Some D → slot N k ≡ Some D
 left-slot None N k D e = e
-left-slot (Some n) N k D e = elim (ℕ-cases k n) [
+left-slot (Some n) N k D e = elim (cases_eq k n) [
   | inl q ↦ absurd (other (sym (gone-here N n) ∙ ap (slot (set_slot n None N)) (sym q) ∙ e))
   | inr d ↦ sym (gone-other N n k d) ∙ e
 ]
@@ -47,7 +47,7 @@ module _ (P : Prefix) (N : Slots) (base : Clause) (m : Literal) (gs : List HintG
       f w.1 there (r.each (group_at gs i) (group-in gs i l) w.1 there)
 
   pub groups-more : (at' : ℕ) → ((i : ℕ) → i < at' → IsGroupShown i) → IsGroupShown at' → (i : ℕ) → i < at' + 1 → IsGroupShown i
-  groups-more at' before here i l = elim (ℕ-cases i at') [
+  groups-more at' before here i l = elim (cases_eq i at') [
     | inl q ↦ subst IsGroupShown (sym q) here
     | inr d ↦ before i (omega (arith, d))
   ]

@@ -1,13 +1,14 @@
 -- Numbered clauses over clauses in slots: what steps make of them.
 use Rattle.std.proofs.Common.{◌≡◌, ◌≢◌, ℕ, zero, suc, ◌<◌, List, [], ◌∷◌, ◌++◌, ◌⊎◌, inl, inr, refl, sym, ap, ◌∙◌, subst, Option, None, Some, slice_get, set, get_or, length, arith}
+use Rattle.std.proofs.lemmas.Bool.{cases_eq}
+use Rattle.std.proofs.lemmas.Option.{slice_get_within}
 use Rattle.q_logic.specs.Prelude.{Clause, Slots, slot, set_slot, live, others, one_less}
 use Rattle.q_logic.proofs.ClauseCounts.{one_less-same}
-use Rattle.q_logic.proofs.HintedRuns.{live-added, live-gone, live-changed, left-alike}
-use Rattle.q_logic.proofs.Common.{alike-sym, alike-trans, alike-cons}
+use Rattle.q_logic.proofs.HintedRuns.{live-added, live-changed, left-alike}
+use Rattle.q_logic.proofs.Common.{alike-sym, alike-trans, alike-cons, live-gone}
 use Rattle.q_prop.specs.Slots.{Holds, filled, IsPut}
 use Rattle.q_prop.proofs.HintSteps.{Holds-slot}
-use Rattle.q_prop.proofs.Literals.{ℕ-cases}
-use Rattle.q_prop.proofs.SlotLemmas.{slice_get-in, slice_get-append, slice_get-end, slice_get-push_cases, slice_get-set_same, slice_get-set_other, slice_get-set_here, without-le, without-here}
+use Rattle.q_prop.proofs.SlotLemmas.{slice_get-append, slice_get-end, slice_get-push_cases, slice_get-set_same, slice_get-set_other, slice_get-set_here, without-le, without-here}
 use Rattle.q_judge.proofs.SlotCollections.{put-same, left-same}
 use Rattle.q_check.specs.Numbers.{IsAt, look, numbered_by, AreNumbered}
 
@@ -63,7 +64,7 @@ put-here s t k C (inl (e, f)) = rw (e, f) (slice_get-end s (Some C))
 put-here s t k C (inr (e, f)) = rw f (slice_get-set_same s k None (Some C) e)
 
 put-vacant : (s t : Slots) (k : ℕ) (C D : Clause) → IsPut s k C t → Holds s k D → ⊥
-put-vacant s t k C D (inl (e, f)) h = let l = slice_get-in s k (Some D) h in absurd (omega arith)
+put-vacant s t k C D (inl (e, f)) h = let l = slice_get_within s k (Some D) h in absurd (omega arith)
 put-vacant s t k C D (inr (e, f)) h = let g : Some None ≡ Some (Some D) = sym e ∙ h in cc
 
 put-kept : (s t : Slots) (k : ℕ) (C : Clause) (h : ℕ) (D : Clause) → IsPut s k C t → Holds s h D → Holds t h D
@@ -79,7 +80,7 @@ put-back s t k C h D (inl (e, f)) i =
       | inr b ↦ inl (b.0 ∙ sym e)
     ]
 put-back s t k C h D (inr (e, f)) i =
-    elim (ℕ-cases h k) [
+    elim (cases_eq h k) [
       | inl q ↦ inl q
       | inr d ↦ inr (sym (slice_get-set_other s k h (Some C) d) ∙ subst (λ (u : Slots). Holds u h D) f i)
     ]
@@ -131,7 +132,7 @@ module _ (s : Slots) (ps : List (Option ℕ)) (a : AreNumbered s ps) where
 -- What is at another number, or in another slot, stays.
 set-IsAt : (ps : List (Option ℕ)) (n m h : ℕ) → IsAt (set ps n None) m h → (m ≢ n) × IsAt ps m h
 set-IsAt ps n m h e =
-    elim (ℕ-cases m n) [
+    elim (cases_eq m n) [
       | inl q ↦ absurd (none (slice_get-set_here ps n None (Some h) (subst (λ (x : ℕ). slice_get (set ps n None) x ≡ Some (Some h)) q e)))
       | inr d ↦ (d, sym (slice_get-set_other ps n m None d) ∙ e)
     ]
@@ -174,7 +175,7 @@ module _ (s : Slots) (ps : List (Option ℕ)) (a : AreNumbered s ps) (n k : ℕ)
 
   -- the rest of the clause is put into another slot first
   put-besides : (t : Slots) (j : ℕ) (R : Clause) → IsPut s j R t → IsPut (set s k None) j R (set t k None)
-  put-besides t j R (inl (e, f)) = inl (e ∙ sym (length_set s k None), ap (λ (u : Slots). set u k None) f ∙ set_append s k None (Some R) (slice_get-in s k (Some C) here))
+  put-besides t j R (inl (e, f)) = inl (e ∙ sym (length_set s k None), ap (λ (u : Slots). set u k None) f ∙ set_append s k None (Some R) (slice_get_within s k (Some C) here))
     where
       length_set : (u : Slots) (i : ℕ) (o : Option Clause) → length (set u i o) ≡ length u
       length_set [] i o = refl
@@ -223,7 +224,7 @@ module _ (s : Slots) (ps : List (Option ℕ)) (a : AreNumbered s ps) (n k : ℕ)
 
     at_cases : (m h : ℕ) → IsAt (set ps n (Some j)) m h → ((m ≡ n) × (j ≡ h)) ⊎ IsAt (set ps n None) m h
     at_cases m h i =
-        elim (ℕ-cases m n) [
+        elim (cases_eq m n) [
           | inl e ↦ inl (e, inner (slice_get-set_here ps n (Some j) (Some h) (subst (λ (x : ℕ). IsAt (set ps n (Some j)) x h) e i)))
           | inr d ↦ inr (slice_get-set_other ps n m None d ∙ sym (slice_get-set_other ps n m (Some j) d) ∙ i)
         ]

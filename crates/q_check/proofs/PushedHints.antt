@@ -1,9 +1,9 @@
 -- Hints that are pushed one after the other, and groups.
-use Rattle.std.proofs.lemmas.List.{take_more}
-use Rattle.std.proofs.Common.{◌↔◌, arith, Bool, true, false, IsTrue, true≢false, not-suc-le-zero, le_of_suc-le-suc, OnOk, Result, Ok, Err, ◌<◌, ◌+◌, take, get_or, length, ◌≡◌, ◌≢◌, ℕ, zero, suc, List, [], ◌∷◌, ◌++◌, ◌⊎◌, inl, inr, refl, sym, ap, ◌∙◌, subst, Option, None, Some, append_assoc, map}
+use Rattle.std.proofs.lemmas.List.{take_more, get_or_default}
+use Rattle.std.proofs.Common.{◌↔◌, arith, Bool, true, false, IsTrue, true≢false, OnOk, Result, Ok, Err, ◌<◌, ◌+◌, take, get_or, length, ◌≡◌, ◌≢◌, ℕ, List, [], ◌∷◌, ◌++◌, ◌⊎◌, inl, inr, refl, sym, ap, ◌∙◌, subst, Option, None, Some, append_assoc, map}
 use Rattle.q_logic.specs.Prelude.{Literal, negation, Clause, IsIn, Prefix, HintGroup, ProofPart, numbers_with, Chained, outer, without, Implied, Reducible, FirstPivot, IsWarranted, IsDroppable, Slots, slot, live}
 use Rattle.q_logic.specs.declared.proof_part.ProofKind.TheVariants.{Implied as ByHints}
-use Rattle.q_logic.proofs.Common.{live-slot}
+use Rattle.q_logic.proofs.Common.{live-slot, get_or-IsIn}
 use Rattle.q_check.proofs.AscendingNumbers.{with-in}
 use Rattle.q_logic.specs.ProofParts.{hint_last, with_hint, with_group, begun_part}
 use Rattle.q_check.specs.Annotations.{hints_last, with_hints, with_hinted_group, implied_part}
@@ -75,18 +75,8 @@ targets-step gs targets i t hs e l q =
     ap (λ (xs : List ℕ). xs ++ t ∷ []) e ∙
     ap (λ (x : ℕ). take i targets ++ x ∷ []) q ∙ sym (take_more targets i t l)
 
-get-same : (xs : List ℕ) (i a b : ℕ) → i < length xs → get_or xs i a ≡ get_or xs i b
-get-same [] i a b l = absurd (not-suc-le-zero l)
-get-same (x ∷ xs) zero a b l = refl
-get-same (x ∷ xs) (suc i) a b l = get-same xs i a b (le_of_suc-le-suc l)
-
 pub same-at : (xs : List ℕ) (i a b : ℕ) → i < length xs → a ≡ get_or xs i a → b ≡ get_or xs i b → a ≡ b
-same-at xs i a b l p q = p ∙ get-same xs i a b l ∙ sym q
-
-at-in : (xs : List ℕ) (i d : ℕ) → i < length xs → IsIn (get_or xs i d) xs
-at-in [] i d l = absurd (not-suc-le-zero l)
-at-in (x ∷ xs) zero d l = inl refl
-at-in (x ∷ xs) (suc i) d l = inr (at-in xs i d (le_of_suc-le-suc l))
+same-at xs i a b l p q = p ∙ get_or_default xs i a b l ∙ sym q
 
 -- one clause that does not resolve
 pub unresolved : (P : Prefix) (N : Slots) (base : Clause) (m : Literal) (skip : Option ℕ) (targets : List ℕ) (i t : ℕ) (hints : List ℕ) (yes' : Bool) →
@@ -94,7 +84,7 @@ pub unresolved : (P : Prefix) (N : Slots) (base : Clause) (m : Literal) (skip : 
     ((D : Clause) → slot N t ≡ Some D → Explains (left_out skip N) (base ++ outer P m D) hints yes') →
     ((D : Clause) → IsIn D (live (left_out skip N)) → IsIn m D → Implied (live (left_out skip N)) (base ++ outer P m D)) → ⊥
 unresolved P N base m skip targets i t hints yes' e l q n x f =
-    let k : IsIn t (numbers_with m 0 (left_out skip N)) = subst (λ (xs : List ℕ). IsIn t xs) e (subst (λ (y : ℕ). IsIn y targets) (sym q) (at-in targets i t l)) in
+    let k : IsIn t (numbers_with m 0 (left_out skip N)) = subst (λ (xs : List ℕ). IsIn t xs) e (subst (λ (y : ℕ). IsIn y targets) (sym q) (get_or-IsIn targets i t l)) in
     let w = with-in m 0 (left_out skip N) t k in
     let there : slot (left_out skip N) t ≡ Some w.1 = subst (λ (j : ℕ). slot (left_out skip N) j ≡ Some w.1) (let p = w.2 in omega arith) w.3 in
     let not_it = subst (λ (b : Bool). Explains (left_out skip N) (base ++ outer P m w.1) hints b) n (x w.1 (left-slot skip N t w.1 there)) in

@@ -1,9 +1,9 @@
 -- The checkers of both profiles, step by step, and their ends.
 use Rattle.std.proofs.Common.{◌≡◌, inl, inr, ◌<◌, ◌==◌, ◌∙◌, refl, sym, ap, subst, arith, ℕ, Bool, true, false, List, [], ◌∷◌, ◌++◌, map, length, append-nil, length-append, Option, Some, None, Result, Ok, Err, IfOk, IfErr, OnOk, IsSome, IsSomeAnd, is_some}
 use Rattle.std.proofs.lemmas.Bool.Decides.{nat_tests}
-use Rattle.q_logic.specs.Prelude.{PrenexFormula, Prefix, Matrix, Hinted, HintedSteps, HintedValid, HintedCause, NumberedFormula, ProofPart, begun, plain, strip, hinted_after, standard, live, numbered, blocks, SameBlocks, ValidSteps, SameFormula, AreAlike, ProofStep, Valid, Cause, after, UndoEntry, Undos}
+use Rattle.q_logic.specs.Prelude.{PrenexFormula, Prefix, Matrix, Hinted, HintedSteps, HintedValid, HintedCause, NumberedFormula, ProofPart, begun, plain, strip, hinted_after, standard, numbered, blocks, SameBlocks, ValidSteps, SameFormula, AreAlike, ProofStep, Valid, Cause, after, UndoEntry, Undos}
 use Rattle.q_logic.specs.declared.limits.Limits.{Limits}
-use Rattle.q_logic.proofs.Common.{alike_itself, alike_swapped, alike_cause}
+use Rattle.q_logic.proofs.Common.{alike_itself, alike_swapped, alike_cause, live-numbered}
 use Rattle.q_logic.proofs.HintedRuns.{hinted-valid, hinted-after}
 use Rattle.q_hinted.specs.Logs.{Entry as BothEntry, plain_entry, hinted_entry, hinted_in}
 use Rattle.q_judge.specs.Tried.{IsEndRefusal}
@@ -19,11 +19,6 @@ use Rattle.q_command.specs.Judging.{AreBehind, ArePure, IsMade, SameTask, IsBehi
 use Rattle.q_command.specs.LazyCheckers.{IsHeld, first_in, IsReadyPlain, IsReadyHinted, IsNewPlain, new_hinted, HasSteppedPlain, HasSteppedHinted, IsEndedPlain, IsEndedHinted, hints_taken}
 use Rattle.q_command.specs.declared.judges.Judges.{Judges}
 use Rattle.q_command.proofs.LogEntries.{plain_in-append, hinted_in-append, steps_of-append, hinted_of-append, strip-append, hinted_in-plain, bare-plain, bare-hinted, stripped-steps, only-plain}
-
--- numbering changes no formula
-live-numbered : (X : Matrix) → live (numbered X) ≡ X
-live-numbered [] = refl
-live-numbered (C ∷ X) = ap (λ (Y : Matrix). C ∷ Y) (live-numbered X)
 
 pub plain-begun : (F : PrenexFormula) → plain (begun F) ≡ F
 plain-begun F = ap (λ (X : Matrix). let G : PrenexFormula = record { prefix = F.prefix; matrix = X } in G) (live-numbered F.matrix)

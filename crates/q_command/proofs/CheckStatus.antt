@@ -1,5 +1,6 @@
 -- When each status comes.
 use Rattle.std.proofs.Common.{◌≡◌, ◌⊎◌, ◌↔◌, inl, inr, ◌∙◌, refl, sym, ap, subst, arith, ℕ, List, [], ◌∷◌, Option, Some, None, Ok, Err, IfSome}
+use Rattle.std.proofs.lemmas.Option.{same_Some}
 use Rattle.q_logic.specs.Prelude.{PrenexFormula, IsFormula, standard, ProofStep, after, ValidSteps, SameFormula, Holds, Hinted, HintedSteps as AreValid, NumberedFormula, begun, plain, hinted_after}
 use Rattle.q_logic.proofs.HintedCauses.{HintedValid-no_cause}
 use Rattle.q_logic.proofs.Validity.{Valid-no_cause}
@@ -73,21 +74,18 @@ hinted-one : (N E L : NumberedFormula) (hs : List Hinted) → AreValid standard 
 hinted-one N E L [] v w = sym v ∙ w
 hinted-one N E L (h ∷ hs) v w = hinted-one (hinted_after N h.step h.proof) E L hs v.1 w.1
 
-some-same : {X : Type 0} (x y : X) → Some x ≡ Some y → x ≡ y
-some-same x y h = cc
-
 pub end_no_run : (log : List ℕ) (F G : PrenexFormula) (c : ℕ) → EndsElsewhere log F G c → LeadsTo log F G → ⊥
 end_no_run log F G c e (es, r) = go e.way r
   where
     go : IsPlainWay log F e.last ⊎ IsHintedWay log F e.last → IsRunLog log F G es → ⊥
     go (inl w) (inl r) =
-        let same : w.entries ≡ es = some-same w.entries es (sym w.is_log ∙ r.is_log) in
+        let same : w.entries ≡ es = same_Some w.entries es (sym w.is_log ∙ r.is_log) in
         let last : e.last ≡ r.run.last = valid-one F e.last r.run.last (steps_of es) (subst (λ x. ValidSteps standard F (steps_of x) e.last) same w.steps) r.run.steps in
         e.apart.differ (subst (λ (L : PrenexFormula). SameFormula L G) (sym last) r.run.same)
     go (inl w) (inr r) = not-both-profiles log w.entries r.hinted w.is_log r.is_log
     go (inr w) (inl r) = not-both-profiles log es w.hinted r.is_log w.is_log
     go (inr w) (inr r) =
-        let same : w.hinted ≡ r.hinted = some-same w.hinted r.hinted (sym w.is_log ∙ r.is_log) in
+        let same : w.hinted ≡ r.hinted = same_Some w.hinted r.hinted (sym w.is_log ∙ r.is_log) in
         let last : w.numbered ≡ r.run.last = hinted-one (begun F) w.numbered r.run.last (hinted_of r.hinted) (subst (λ x. AreValid standard (begun F) (hinted_of x) w.numbered) same w.steps) r.run.steps in
         e.apart.differ (subst (λ (L : PrenexFormula). SameFormula L G) (sym (w.last_is ∙ ap plain last)) r.run.same)
 

@@ -98,10 +98,6 @@ pub ok_then : {T E : Type 0} {P Q : T → Type 0} (r : Result T E) → IfOk r P 
 ok_then (Ok t) p h = h t p
 ok_then (Err e) p h = tt
 
-pub on_ok : {T E : Type 0} {P Q : Type 0} (r : Result T E) → OnOk r P → (P → Q) → OnOk r Q
-on_ok (Ok t) p h = h p
-on_ok (Err e) p h = tt
-
 pub err_then : {T E : Type 0} {P Q : E → Type 0} (r : Result T E) → IfErr r P → ((e : E) → P e → Q e) → IfErr r Q
 err_then (Ok t) p h = tt
 err_then (Err e) p h = h e p

@@ -1,12 +1,14 @@
 -- A formula that is read keeps the limits.
-use Rattle.std.proofs.Common.{◌≡◌, ◌≤◌, ◌+◌, ◌==◌, nat_lt, ℕ, zero, suc, Bool, true, false, if◌then◌else◌, List, [], ◌∷◌, ◌++◌, refl, sym, ap, subst, arith, length, map}
+use Rattle.std.proofs.Common.{◌≡◌, ◌≤◌, ◌+◌, ◌==◌, nat_lt, ℕ, zero, suc, Bool, true, false, if◌then◌else◌, List, [], ◌∷◌, ◌++◌, sym, subst, arith, length, map}
 use Rattle.std.specs.List.{AllByRecursion}
 use Rattle.q_logic.specs.declared.limits.Limits.{Limits}
 use Rattle.q_logic.specs.declared.formulas.Quant.TheVariants.{Exists}
 use Rattle.q_logic.specs.Prelude.{Literal, pack, Clause, Matrix, Prefix, PrenexFormula, insert, clause_of, literals_in, IsInLimits, greatest}
+use Rattle.q_logic.proofs.Common.{clause_of-length}
 use Rattle.q_dimacs.specs.Dimacs.{Dimacs, IsVar, total, sets_bounds, text_formula}
 use Rattle.q_dimacs.specs.Building as building
 use Rattle.q_dimacs.specs.Building.{bounds_from, is_free, greatest_in}
+use Rattle.q_dimacs.proofs.GrammarIsRead.{length-map-clause}
 
 insert-greatest : (l : Literal) (C : Clause) (k : ℕ) → l.var ≤ k → greatest_in C ≤ k → greatest_in (insert l C) ≤ k
 insert-greatest l [] k a b = omega arith
@@ -17,22 +19,9 @@ insert-greatest l (j ∷ C) k a b = go (nat_lt (pack l) (pack j)) (pack l == pac
     go false true ih = omega arith
     go false false ih = omega arith
 
-insert-length : (l : Literal) (C : Clause) → length (insert l C) ≤ suc (length C)
-insert-length l [] = omega arith
-insert-length l (j ∷ C) = go (nat_lt (pack l) (pack j)) (pack l == pack j) (insert-length l C)
-  where
-    go : (s t : Bool) → length (insert l C) ≤ suc (length C) → length (if s then l ∷ j ∷ C else (if t then j ∷ C else j ∷ insert l C)) ≤ suc (suc (length C))
-    go true t ih = omega arith
-    go false true ih = omega arith
-    go false false ih = omega arith
-
 clause-greatest : (v : ℕ) (ls : List Literal) → AllByRecursion (λ l. IsVar v l.var) ls → greatest_in (clause_of ls) ≤ v
 clause-greatest v [] h = omega arith
 clause-greatest v (l ∷ ls) h = insert-greatest l (clause_of ls) v h.0.1 (clause-greatest v ls h.1)
-
-clause-length : (ls : List Literal) → length (clause_of ls) ≤ length ls
-clause-length [] = omega arith
-clause-length (l ∷ ls) = let i : length (clause_of ls) ≤ length ls = clause-length ls in let j : length (insert l (clause_of ls)) ≤ suc (length (clause_of ls)) = insert-length l (clause_of ls) in omega arith
 
 matrix-greatest : (v : ℕ) (cs : List (List Literal)) → AllByRecursion (λ c. AllByRecursion (λ l. IsVar v l.var) c) cs → building.greatest (map clause_of cs) ≤ v
 matrix-greatest v [] h = omega arith
@@ -40,11 +29,7 @@ matrix-greatest v (c ∷ cs) h = let i : building.greatest (map clause_of cs) �
 
 matrix-literals : (cs : List (List Literal)) → literals_in (map clause_of cs) ≤ total cs
 matrix-literals [] = omega arith
-matrix-literals (c ∷ cs) = let i : literals_in (map clause_of cs) ≤ total cs = matrix-literals cs in let j : length (clause_of c) ≤ length c = clause-length c in omega arith
-
-matrix-clauses : (cs : List (List Literal)) → length (map clause_of cs) ≡ length cs
-matrix-clauses [] = refl
-matrix-clauses (c ∷ cs) = ap suc (matrix-clauses cs)
+matrix-literals (c ∷ cs) = let i : literals_in (map clause_of cs) ≤ total cs = matrix-literals cs in let j : length (clause_of c) ≤ length c = clause_of-length c in omega arith
 
 free-greatest : (t : ℕ → Bool) (v n k : ℕ) → v + n ≤ suc k → greatest (bounds_from t v n) ≤ k
 free-greatest t v zero k h = omega arith
@@ -71,7 +56,7 @@ dimacs-limits m bytes F d =
     let b : greatest p ≤ d.text.vars = sets-greatest d.text.vars p d.lawful.bounds in
     let vars : greatest (bounds_from (is_free p x) 1 (building.greatest x) ++ p) ≤ d.text.vars = append-greatest d.text.vars (bounds_from (is_free p x) 1 (building.greatest x)) p a b in
     let v : d.text.vars ≤ m.vars = d.lawful.vars in
-    let c : length x ≡ length d.text.clauses = matrix-clauses d.text.clauses in
+    let c : length x ≡ length d.text.clauses = length-map-clause d.text.clauses in
     let n : length d.text.clauses ≡ d.text.count = d.lawful.clauses in
     let k : d.text.count ≤ m.clauses = d.lawful.count in
     let l : literals_in x ≤ total d.text.clauses = matrix-literals d.text.clauses in

@@ -1,10 +1,12 @@
 -- The free variables of a formula.
-use Rattle.std.proofs.Common.{◌≡◌, ◌≢◌, ◌⊎◌, ℕ, zero, suc, ◌+◌, ◌<◌, ◌≤◌, ◌==◌, ◌||◌, Bool, true, false, cond, List, [], ◌∷◌, ◌++◌, refl, ap, sym, ◌∙◌, arith, add-zero, add-one, append-nil, subst, inl, inr, eq-eqb}
+use Rattle.std.proofs.Common.{◌≡◌, ◌≢◌, ◌⊎◌, ℕ, zero, suc, ◌+◌, ◌<◌, ◌≤◌, ◌==◌, Bool, true, false, cond, List, [], ◌∷◌, ◌++◌, refl, ap, sym, ◌∙◌, arith, add-zero, add-one, append-nil, subst, inl, inr, eq-eqb}
 use Rattle.std.specs.List.{AllByRecursion}
 use Rattle.q_logic.specs.Prelude.{Literal, ArePairs, IsBound, Clause, IsIn, Prefix, Matrix, is_bound}
 use Rattle.std.proofs.lemmas.Bool.Decides.{nat_tests, eqb_tells}
+use Rattle.std.proofs.lemmas.Bool.{or_left, or_right}
 use Rattle.q_logic.specs.declared.formulas.Bound.{Bound}
 use Rattle.q_logic.specs.declared.formulas.Quant.TheVariants.{Exists}
+use Rattle.q_logic.proofs.Common.{all-append}
 use Rattle.q_dimacs.specs.Building.{bounds_from, occurs, occurs_in, greatest, greatest_in}
 
 abbrev free_at : Bool → ℕ → Prefix
@@ -83,28 +85,16 @@ pub none-above : (x : Matrix) (k : ℕ) → greatest x < k → occurs x k ≡ fa
 none-above [] k h = refl
 none-above (c ∷ x) k h = rw (none-above-in c k (omega arith)) (none-above x k (omega arith))
 
-or-one : (a b : Bool) → a ≡ true → (a || b) ≡ true
-or-one true b e = refl
-or-one false b e = cc
-
-or-two : (a b : Bool) → b ≡ true → (a || b) ≡ true
-or-two true b e = refl
-or-two false b e = e
-
 -- the variable of each literal of a clause occurs
 occurs_in-IsIn : (C : Clause) (k : Literal) → IsIn k C → occurs_in C k.var ≡ true
 occurs_in-IsIn [] k m = elim m [ ]
 occurs_in-IsIn (l ∷ C) k (inl e) = let f : (l.var == k.var) ≡ true = eq-eqb l.var k.var (ap (λ (x : Literal). x.var) (sym e)) in rw f refl
-occurs_in-IsIn (l ∷ C) k (inr m) = or-two (l.var == k.var) (occurs_in C k.var) (occurs_in-IsIn C k m)
+occurs_in-IsIn (l ∷ C) k (inr m) = or_right (l.var == k.var) (occurs_in C k.var) (occurs_in-IsIn C k m)
 
 pub occurs-IsIn : (X : Matrix) (D : Clause) (k : Literal) → IsIn D X → IsIn k D → occurs X k.var ≡ true
 occurs-IsIn [] D k m n = elim m [ ]
-occurs-IsIn (C ∷ X) D k (inl e) n = or-one (occurs_in C k.var) (occurs X k.var) (occurs_in-IsIn C k (subst (λ (x : Clause). IsIn k x) e n))
-occurs-IsIn (C ∷ X) D k (inr m) n = or-two (occurs_in C k.var) (occurs X k.var) (occurs-IsIn X D k m n)
-
-pub all-append : {X : Type 0} (P : X → Type 0) (xs ys : List X) → AllByRecursion P xs → AllByRecursion P ys → AllByRecursion P (xs ++ ys)
-all-append P [] ys h k = k
-all-append P (x ∷ xs) ys h k = (h.0, all-append P xs ys h.1 k)
+occurs-IsIn (C ∷ X) D k (inl e) n = or_left (occurs_in C k.var) (occurs X k.var) (occurs_in-IsIn C k (subst (λ (x : Clause). IsIn k x) e n))
+occurs-IsIn (C ∷ X) D k (inr m) n = or_right (occurs_in C k.var) (occurs X k.var) (occurs-IsIn X D k m n)
 
 pub pairs-append : {X : Type 0} (R : X → X → Type 0) (xs ys : List X) → ArePairs R xs → ArePairs R ys → AllByRecursion (λ x. AllByRecursion (R x) ys) xs → ArePairs R (xs ++ ys)
 pairs-append R [] ys h k a = k
@@ -118,13 +108,6 @@ is-append-left (r ∷ p) q v (inr h) = inr (is-append-left p q v h)
 pub is-append-right : (p q : Prefix) (v : ℕ) → IsBound q v → IsBound (p ++ q) v
 is-append-right [] q v h = h
 is-append-right (r ∷ p) q v h = inr (is-append-right p q v h)
-
-pub bound-is : (p : Prefix) (v : ℕ) → is_bound p v ≡ true → IsBound p v
-bound-is [] v e = cc
-bound-is (q ∷ p) v e = go (eqb_tells q.var v) e (bound-is p v) where
-  go : ((q.var == v) ≡ true) × (q.var ≡ v) ⊎ ((q.var == v) ≡ false) × (q.var ≢ v) → cond (q.var == v) true (is_bound p v) ≡ true → (is_bound p v ≡ true → IsBound p v) → (q.var ≡ v) ⊎ IsBound p v
-  go (inl d) e ih = inl d.1
-  go (inr d) e ih = inr (ih (rw d.0 at e))
 
 pub apart : (p : Prefix) (v : ℕ) → is_bound p v ≡ false → AllByRecursion (λ r. v ≢ r.var) p
 apart [] v e = tt

@@ -1,6 +1,7 @@
 -- What is in the grammar is read.
 use Rattle.std.proofs.Common.{◌≡◌, ◌≢◌, ℕ, zero, suc, ◌+◌, ◌<◌, ◌≤◌, ◌==◌, nat_lt, nat_le, Bool, true, false, List, [], ◌∷◌, ◌++◌, length, map, Ok, Err, Result, refl, ap, sym, ◌∙◌, arith, pos, add-one, add-zero, append_assoc, append-nil, if◌then◌else◌, length-append, zero-add, take}
 use Rattle.std.proofs.lemmas.Bool.Decides.{nat_tests}
+use Rattle.std.proofs.lemmas.Bool.{le-leb}
 use Rattle.std.specs.List.{AllByRecursion}
 use Rattle.q_logic.specs.declared.formulas.Bound.{Bound}
 use Rattle.q_logic.specs.declared.limits.Limits.{Limits}
@@ -17,6 +18,8 @@ use Rattle.q_dimacs.specs.Reading.{Gathered, step_of, number, nothing_read}
 use Rattle.q_dimacs.specs.Offences.{tokens_read, at_line, at_last, past_limit, parse}
 use Rattle.q_text.specs.Texts.{tokens_of, tokens_ended, line_after}
 use Rattle.q_dimacs.specs.Dimacs.{Text, vars_kinds, sets_kinds, clauses_kinds, letter, spelled, vars_bounds, sets_bounds, total, IsVar, IsLawful, Dimacs, text_formula}
+use Rattle.q_dimacs.proofs.RoundTrip.{all-left, all-right}
+use Rattle.q_dimacs.proofs.PartsKept.{no_zero}
 use Rattle.q_text.specs.Tokens.{literals_kinds}
 
 abbrev kind_step : Limits → Result Gathered ℕ → TokenKind → Result Gathered ℕ
@@ -55,19 +58,13 @@ not-above n v h = grind (arith, nat_tests)
 not-full : (n k : ℕ) → n < k → nat_le k n ≡ false
 not-full n k h = grind (arith, nat_tests)
 
-le-test : (n k : ℕ) → n ≤ k → nat_le n k ≡ true
-le-test n k h = grind (arith, nat_tests)
-
-not-zero : (n : ℕ) → 1 ≤ n → (n == 0) ≡ false
-not-zero n h = grind (arith, nat_tests)
-
 read-literal : (m : Limits) (at : Place) (v c n : ℕ) (p : Prefix) (x : Matrix) (ls : List Literal) (l : Literal) → IsVar v l.var → n < m.lits
     → number m (inside at v c n p x ls) (number_of l) ≡ Ok (inside InClause v c (n + 1) p x (ls ++ l ∷ []))
 read-literal m at v c n p x ls l h k = go l.var l.negative h where
   go : (w : ℕ) (s : Bool) → IsVar v w → number m (inside at v c n p x ls) (number_of (record { var = w; negative = s })) ≡ Ok (inside InClause v c (n + 1) p x (ls ++ record { var = w; negative = s } ∷ []))
   go zero s h = absurd (let z = h.0 in omega arith)
   go (suc w) true h = rw (not-above (w + 1) v (let z = h.1 in omega arith), not-full n m.lits k) (ap (λ y. Ok (inside InClause v c (n + 1) p x (ls ++ record { var = y; negative = true } ∷ []))) (add-one w))
-  go (suc w) false h = rw (not-zero (suc w) h.0, not-above (suc w) v h.1, not-full n m.lits k) refl
+  go (suc w) false h = rw (no_zero (suc w) h.0, not-above (suc w) v h.1, not-full n m.lits k) refl
 
 read-rest : (m : Limits) (v c n : ℕ) (p : Prefix) (x : Matrix) (ls ms : List Literal) → AllByRecursion (λ l. IsVar v l.var) ms → n + length ms ≤ m.lits
     → kinds_read m (Ok (inside InClause v c n p x ls)) (literals_kinds ms) ≡ Ok (inside Outside v c (n + length ms) p (x ++ clause_of (ls ++ ms) ∷ []) [])
@@ -120,21 +117,13 @@ read-vars : (m : Limits) (v c : ℕ) (q : Quant) (p rest : Prefix) (vs : List �
     → kinds_read m (Ok (inside (InSet q) v c 0 p [] [])) (vars_kinds vs) ≡ Ok (inside Outside v c 0 (p ++ vars_bounds q vs) [] [])
 read-vars m v c q p rest [] h d = rw append-nil refl
 read-vars m v c q p rest (w ∷ vs) h d =
-    let z = not-zero w h.0.0 in
+    let z = no_zero w h.0.0 in
     let n = not-above w v h.0.1 in
     let u = unbound p (vars_bounds q vs ++ rest) (record { quant = q; var = w }) d in
     let a = append_assoc p (record { quant = q; var = w } ∷ []) (vars_bounds q vs ++ rest) in
     let b = append_assoc p (record { quant = q; var = w } ∷ []) (vars_bounds q vs) in
     let one : kind_step m (Ok (inside (InSet q) v c 0 p [] [])) (Number (pos w)) ≡ Ok (inside (InSet q) v c 0 (p ++ record { quant = q; var = w } ∷ []) [] []) = rw (z, n, u) refl in
     ap (λ r. kinds_read m r (vars_kinds vs)) one ∙ (read-vars m v c q (p ++ record { quant = q; var = w } ∷ []) rest vs h.1 (rw a d) ∙ rw b refl)
-
-all-split-left : {X : Type 0} (Q : X → Type 0) (xs ys : List X) → AllByRecursion Q (xs ++ ys) → AllByRecursion Q xs
-all-split-left Q [] ys h = tt
-all-split-left Q (x ∷ xs) ys h = (h.0, all-split-left Q xs ys h.1)
-
-all-split-right : {X : Type 0} (Q : X → Type 0) (xs ys : List X) → AllByRecursion Q (xs ++ ys) → AllByRecursion Q ys
-all-split-right Q [] ys h = h
-all-split-right Q (x ∷ xs) ys h = all-split-right Q xs ys h.1
 
 begin-set : (m : Limits) (v c : ℕ) (q : Quant) (p : Prefix) → kind_step m (Ok (inside Outside v c 0 p [] [])) (letter q) ≡ Ok (inside (InSet q) v c 0 p [] [])
 begin-set m v c Exists p = refl
@@ -144,12 +133,12 @@ read-sets : (m : Limits) (v c : ℕ) (p : Prefix) (ss : List Block) → AllByRec
     → kinds_read m (Ok (inside Outside v c 0 p [] [])) (sets_kinds ss) ≡ Ok (inside Outside v c 0 (p ++ sets_bounds ss) [] [])
 read-sets m v c p [] h d = rw append-nil refl
 read-sets m v c p (s ∷ ss) h d =
-    let one = read-vars m v c s.quant p (sets_bounds ss) s.vars (all-split-left (λ b. IsVar v b.var) (vars_bounds s.quant s.vars) (sets_bounds ss) h) d in
+    let one = read-vars m v c s.quant p (sets_bounds ss) s.vars (all-left (λ b. IsVar v b.var) (vars_bounds s.quant s.vars) (sets_bounds ss) h) d in
     let a = append_assoc p (vars_bounds s.quant s.vars) (sets_bounds ss) in
     ap (λ r. kinds_read m r (vars_kinds s.vars ++ sets_kinds ss)) (begin-set m v c s.quant p)
     ∙ (kinds-append m (Ok (inside (InSet s.quant) v c 0 p [] [])) (vars_kinds s.vars) (sets_kinds ss)
     ∙ (ap (λ r. kinds_read m r (sets_kinds ss)) one
-    ∙ (read-sets m v c (p ++ vars_bounds s.quant s.vars) ss (all-split-right (λ b. IsVar v b.var) (vars_bounds s.quant s.vars) (sets_bounds ss) h) (rw a d) ∙ rw a refl)))
+    ∙ (read-sets m v c (p ++ vars_bounds s.quant s.vars) ss (all-right (λ b. IsVar v b.var) (vars_bounds s.quant s.vars) (sets_bounds ss) h) (rw a d) ∙ rw a refl)))
 
 read-vars-number : (m : Limits) (v : ℕ) → nat_lt m.vars v ≡ false → kind_step m (Ok (inside Vars 0 0 0 [] [] [])) (Number (pos v)) ≡ Ok (inside Count v 0 0 [] [] [])
 read-vars-number m v e = rw e refl
@@ -169,7 +158,7 @@ read-text m t h =
     ∙ (ap (λ r. kinds_read m r (clauses_kinds t.clauses)) (read-sets m t.vars t.count [] t.sets h.bounds h.once)
     ∙ (read-clauses m t.vars t.count 0 (sets_bounds t.sets) [] t.clauses h.lits f c ∙ rw z refl))))
 
-length-map-clause : (cs : List (List Literal)) → length (map clause_of cs) ≡ length cs
+pub length-map-clause : (cs : List (List Literal)) → length (map clause_of cs) ≡ length cs
 length-map-clause [] = refl
 length-map-clause (c ∷ cs) = ap suc (length-map-clause cs)
 
@@ -181,7 +170,7 @@ ended m t n h =
 -- what is in the grammar is read, as its formula
 pub grammar_is_read : (m : Limits) (bytes : List ℕ) (f : PrenexFormula) → Dimacs m bytes f → parse m bytes ≡ Ok f
 grammar_is_read m bytes f h =
-    let s : nat_le (length bytes) m.bytes ≡ true = le-test (length bytes) m.bytes h.short in
+    let s : nat_le (length bytes) m.bytes ≡ true = le-leb (length bytes) m.bytes h.short in
     let r = without-lines m nothing_read (inside Outside h.text.vars h.text.count (total h.text.clauses) (sets_bounds h.text.sets) (map clause_of h.text.clauses) []) (tokens_of bytes)
     (ap (kinds_read m (Ok nothing_read)) h.tokens ∙ read-text m h.text h.lawful) in
     within-limit (nat_le (length bytes) m.bytes) s (at_last (line_after bytes) (tokens_read m (Ok nothing_read) (tokens_of bytes))) (past_limit (line_after (take m.bytes bytes)) (tokens_read m (Ok nothing_read) (tokens_ended (take m.bytes bytes))))

@@ -1,13 +1,15 @@
 -- The formula that is made of the parts.
-use Rattle.std.proofs.Common.{◌≡◌, ◌≢◌, ◌⊎◌, ℕ, suc, ◌+◌, ◌<◌, ◌≤◌, ◌^◌, ◌&&◌, not, Bool, true, false, List, [], ◌∷◌, ◌++◌, length, slice_index_or, refl, sym, ◌∙◌, arith, subst, inl, inr, nat_le}
+use Rattle.std.proofs.Common.{◌≡◌, ◌≢◌, ℕ, suc, ◌+◌, ◌<◌, ◌≤◌, ◌^◌, ◌&&◌, not, Bool, true, false, List, [], ◌∷◌, ◌++◌, length, slice_index_or, refl, sym, ◌∙◌, arith, subst, inl, inr, nat_le}
 use Rattle.std.proofs.Math.ListN.{get_or-eq_default}
 use Rattle.std.proofs.lemmas.Bool.Decides.{nat_tests}
+use Rattle.std.proofs.lemmas.Bool.{and_left}
 use Rattle.std.specs.List.{AllByRecursion}
 use Rattle.q_logic.specs.Prelude.{Literal, Matrix, Prefix, AreEnds, AreLawful, IsBound, IsProper, clauses_between, is_bound}
 use Rattle.q_dimacs.specs.Building.{formula_of, is_free, is_marked_free, occurs, greatest, bounds_from, AreParts}
-use Rattle.q_logic.proofs.Common.{IsBound-is_bound, pairs-Distinct, proper-lawful}
+use Rattle.q_logic.proofs.Common.{IsBound-is_bound, pairs-Distinct, proper-lawful, none_or_some, all-append}
+use Rattle.q_logic.proofs.FormulaParts.{is_bound-IsBound}
 use Rattle.q_dimacs.proofs.VariableMarks.{or_false}
-use Rattle.q_dimacs.proofs.FreeVariables.{bounds-same, bounds-trim, bounds-all, bounds-distinct, bounds-has, none-above, occurs-IsIn, all-append, pairs-append, is-append-left, is-append-right, bound-is, apart}
+use Rattle.q_dimacs.proofs.FreeVariables.{bounds-same, bounds-trim, bounds-all, bounds-distinct, bounds-has, none-above, occurs-IsIn, pairs-append, is-append-left, is-append-right, apart}
 
 and-left : (a b : Bool) → (a && b) ≡ true → a ≡ true
 and-left true b e = refl
@@ -18,18 +20,11 @@ not-true true true e = cc
 not-true true false e = refl
 not-true false b e = cc
 
-and-false : (a b : Bool) → a ≡ false → (a && b) ≡ false
-and-false true b e = cc
-and-false false b e = refl
-
 le-of : {a b : ℕ} → nat_le a b ≡ true → a ≤ b
 le-of {a} {b} e = grind (arith, nat_tests)
 
 lt-of : {a b : ℕ} → nat_le a b ≡ false → b < a
 lt-of {a} {b} e = grind (arith, nat_tests)
-
-zero-or : (v : ℕ) → (v ≡ 0) ⊎ (1 ≤ v)
-zero-or v = grind arith
 
 module _ (prefix : Prefix) (bound : List Bool) (matrix : Matrix) (used : List Bool) (h : AreParts prefix bound matrix used []) where
   free-same : (v : ℕ) → is_marked_free bound used v ≡ is_free prefix matrix v
@@ -39,13 +34,13 @@ module _ (prefix : Prefix) (bound : List Bool) (matrix : Matrix) (used : List Bo
   used-occurs v = h.uses v ∙ or_false (occurs matrix v)
 
   free-past : (k : ℕ) → 0 + length used ≤ k → is_free prefix matrix k ≡ false
-  free-past k l = and-false (occurs matrix k) (not (is_bound prefix k)) (sym (used-occurs k) ∙ get_or-eq_default used false (let g : length used ≤ k = omega arith in g))
+  free-past k l = and_left (occurs matrix k) (not (is_bound prefix k)) (sym (used-occurs k) ∙ get_or-eq_default used false (let g : length used ≤ k = omega arith in g))
 
   free-above : (k : ℕ) → 0 + suc (greatest matrix) ≤ k → is_free prefix matrix k ≡ false
-  free-above k l = and-false (occurs matrix k) (not (is_bound prefix k)) (none-above matrix k (omega arith))
+  free-above k l = and_left (occurs matrix k) (not (is_bound prefix k)) (none-above matrix k (omega arith))
 
   free-zero : is_free prefix matrix 0 ≡ false
-  free-zero = and-false (occurs matrix 0) (not (is_bound prefix 0)) (sym (used-occurs 0) ∙ h.never)
+  free-zero = and_left (occurs matrix 0) (not (is_bound prefix 0)) (sym (used-occurs 0) ∙ h.never)
 
   first-out : bounds_from (is_free prefix matrix) 0 (suc (greatest matrix)) ≡ bounds_from (is_free prefix matrix) 1 (greatest matrix)
   first-out = rw free-zero refl
@@ -62,7 +57,7 @@ module _ (prefix : Prefix) (bound : List Bool) (matrix : Matrix) (used : List Bo
     go false f = lt-of f
 
   one-le : (v : ℕ) → occurs matrix v ≡ true → 1 ≤ v
-  one-le v e = elim (zero-or v) [
+  one-le v e = elim (none_or_some v) [
     | inl z ↦ absurd (let n : occurs matrix 0 ≡ false = sym (used-occurs 0) ∙ h.never in let f : occurs matrix 0 ≡ true = subst (λ k. occurs matrix k ≡ true) z e in cc)
     | inr g ↦ g
   ]
@@ -79,7 +74,7 @@ module _ (prefix : Prefix) (bound : List Bool) (matrix : Matrix) (used : List Bo
   bound-of : (v : ℕ) → occurs matrix v ≡ true → IsBound all-bounds v
   bound-of v e = go (is_bound prefix v) refl where
     go : (b : Bool) → is_bound prefix v ≡ b → IsBound all-bounds v
-    go true f = is-append-right (bounds_from (is_free prefix matrix) 1 (greatest matrix)) prefix v (bound-is prefix v f)
+    go true f = is-append-right (bounds_from (is_free prefix matrix) 1 (greatest matrix)) prefix v (is_bound-IsBound prefix v f)
     go false f = is-append-left (bounds_from (is_free prefix matrix) 1 (greatest matrix)) prefix v
         (bounds-has (is_free prefix matrix) 1 (greatest matrix) v (one-le v e) (le-greatest v e) (rw (e, f) refl))
 

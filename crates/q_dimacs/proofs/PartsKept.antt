@@ -8,7 +8,7 @@ use Rattle.q_dimacs.proofs.VariableMarks.{marked, is_bound-push, occurs_in-push,
 use Rattle.q_logic.proofs.Common.{clause_of-ordered}
 use Rattle.q_dimacs.proofs.SetVariables.{occurs_in-clause_of}
 
-no_zero : (v : ℕ) → 1 ≤ v → (v == 0) ≡ false
+pub no_zero : (v : ℕ) → 1 ≤ v → (v == 0) ≡ false
 no_zero v h = grind (arith, nat_tests)
 
 module _ (prefix : Prefix) (bound : List Bool) (matrix : Matrix) (used : List Bool) (pending : List Literal) (h : AreParts prefix bound matrix used pending) where

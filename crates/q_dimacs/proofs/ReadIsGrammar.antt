@@ -1,6 +1,7 @@
 -- What is read is in the grammar.
 use Rattle.std.proofs.Common.{◌≡◌, ◌≢◌, ◌⊎◌, ℕ, zero, suc, ◌+◌, ◌<◌, ◌≤◌, ◌==◌, nat_lt, nat_le, Bool, true, false, cond, List, [], ◌∷◌, ◌++◌, length, map, Ok, Err, Result, Option, Some, None, refl, ap, sym, ◌∙◌, arith, ℤ, pos, negsuc, add-one, add-zero, append_assoc, append-nil, if◌then◌else◌, inl, inr, length-append, eqb-true, take}
 use Rattle.std.proofs.lemmas.Bool.Decides.{nat_tests}
+use Rattle.std.proofs.lemmas.Bool.{leb-true, leb-false, ltb-false}
 use Rattle.std.specs.List.{AllByRecursion}
 use Rattle.q_logic.specs.declared.formulas.Bound.{Bound}
 use Rattle.q_logic.specs.declared.limits.Limits.{Limits}
@@ -15,7 +16,7 @@ use Rattle.q_dimacs.specs.Building.{formula_of}
 use Rattle.q_dimacs.specs.Reading.{Gathered, step_of, problem, format, vars_of, count_of, with_vars, with_count, number, literal, end_of, nothing_read}
 use Rattle.q_dimacs.specs.Dimacs.{Dimacs, vars_kinds, sets_kinds, clauses_kinds, letter, vars_bounds, sets_bounds, total, IsVar}
 use Rattle.q_text.specs.Tokens.{literals_kinds}
-use Rattle.q_dimacs.proofs.GrammarIsRead.{kinds_read, kinds-err, inside}
+use Rattle.q_dimacs.proofs.GrammarIsRead.{kinds_read, kinds-err, inside, length-map-clause}
 use Rattle.q_text.specs.declared.tokens.Token.{Token}
 use Rattle.q_text.specs.Texts.{tokens_of, tokens_ended, line_after}
 use Rattle.q_dimacs.specs.declared.error.ReadError.{ReadError}
@@ -49,12 +50,6 @@ pub record FromOutside (m : Limits) (d : Gathered) (v c n : ℕ) (p : Prefix) (x
 bad : {X : Type 0} (m : Limits) (c : ℕ) (ks : List TokenKind) (d : Gathered) → kinds_read m (Err c) ks ≡ Ok d → X
 bad m c ks d h = absurd (let e = kinds-err m c ks in cc)
 
-above-var : (v w : ℕ) → nat_lt v w ≡ false → w ≤ v
-above-var v w e = grind (arith, nat_tests)
-
-below-lits : (k n : ℕ) → nat_le k n ≡ false → n < k
-below-lits k n e = grind (arith, nat_tests)
-
 -- one literal more
 abbrev pub After : Limits → Gathered → ℕ → ℕ → ℕ → Prefix → Matrix → List Literal → List TokenKind → Type 0
 After m d v c n p x ls ks = kinds_read m (Ok (inside InClause v c n p x ls)) ks ≡ Ok d → FromClause m d v c n p x ls ks
@@ -78,9 +73,9 @@ with-literal m d at v c n w s p x ls ks o h ih = go (nat_lt v w) (nat_le m.lits 
         cs = r.cs;
         kinds = ap (λ js. Number (number_of l) ∷ js) r.kinds;
         is = r.is ∙ rw (q, a) refl;
-        lits = ((o, above-var v w e), r.lits);
+        lits = ((o, ltb-false v w e), r.lits);
         later = r.later;
-        few = λ k. let z = r.few (let y = below-lits m.lits n f in omega arith) in omega arith;
+        few = λ k. let z = r.few (let y = leb-false m.lits n f in omega arith) in omega arith;
         full = r.full;
       }
 
@@ -203,7 +198,7 @@ from-first m d v c n p x z ks r h = go (nat_le c (length x)) refl h where
         late = λ k. refl;
         bounds = tt;
         once = λ k. rw append-nil k;
-        full = λ k. f.full (below-lits c (length x) e);
+        full = λ k. f.full (leb-false c (length x) e);
       }
 
 -- a number in a set
@@ -233,7 +228,7 @@ from-var m d q v c n p x w ks l r h = go (w == 0) (nat_lt v w) (is_bound p w) re
         lits = s.lits;
         few = s.few;
         full = s.full;
-        bounds = ((one-of w e, above-var v w f), s.bounds);
+        bounds = ((one-of w e, ltb-false v w f), s.bounds);
         once = λ k. rw a at (s.once (Pairs-push (λ q r. q.var ≢ r.var) p o k (differs p o i)));
       }
 
@@ -344,7 +339,7 @@ from-count m d v (k ∷ ks) e h = elim (is-count m (inside Count v 0 0 [] [] [])
   go : (n : ℕ) → k ≡ Number (pos n) → (t : Bool) → nat_lt m.clauses n ≡ t → kinds_read m (with_count (inside Count v 0 0 [] [] []) (cond t (Err 8) (Ok n))) ks ≡ Ok d
       → (c : ℕ) × (rest : List TokenKind) × (k ∷ ks ≡ Number (pos c) ∷ rest) × (c ≤ m.clauses) × FromOutside m d v c 0 [] [] rest
   go n i true f g = bad m 8 ks d g
-  go n i false f g = (n, ks, ap (λ j. j ∷ ks) i, above-var m.clauses n f, (reads_back m d ks e).outside v n 0 [] [] g)
+  go n i false f g = (n, ks, ap (λ j. j ∷ ks) i, ltb-false m.clauses n f, (reads_back m d ks e).outside v n 0 [] [] g)
 
 from-vars : (m : Limits) (d : Gathered) (ks : List TokenKind) → end_of d ≡ None → kinds_read m (Ok (inside Vars 0 0 0 [] [] [])) ks ≡ Ok d
     → (v : ℕ) × (rest : List TokenKind) × (ks ≡ Number (pos v) ∷ rest) × (v ≤ m.vars) × (kinds_read m (Ok (inside Count v 0 0 [] [] [])) rest ≡ Ok d)
@@ -356,7 +351,7 @@ from-vars m d (k ∷ ks) e h = elim (is-vars m (inside Vars 0 0 0 [] [] []) k) [
   go : (n : ℕ) → k ≡ Number (pos n) → (t : Bool) → nat_lt m.vars n ≡ t → kinds_read m (with_vars (inside Vars 0 0 0 [] [] []) (cond t (Err 8) (Ok n))) ks ≡ Ok d
       → (v : ℕ) × (rest : List TokenKind) × (k ∷ ks ≡ Number (pos v) ∷ rest) × (v ≤ m.vars) × (kinds_read m (Ok (inside Count v 0 0 [] [] [])) rest ≡ Ok d)
   go n i true f g = bad m 8 ks d g
-  go n i false f g = (n, ks, ap (λ j. j ∷ ks) i, above-var m.vars n f, g)
+  go n i false f g = (n, ks, ap (λ j. j ∷ ks) i, ltb-false m.vars n f, g)
 
 from-format : (m : Limits) (d : Gathered) (ks : List TokenKind) → end_of d ≡ None → kinds_read m (Ok (inside Format 0 0 0 [] [] [])) ks ≡ Ok d
     → (rest : List TokenKind) × (ks ≡ Cnf ∷ rest) × (kinds_read m (Ok (inside Vars 0 0 0 [] [] [])) rest ≡ Ok d)
@@ -398,9 +393,6 @@ pub record Ended (m : Limits) (bytes : List ℕ) (f : PrenexFormula) : Type 0 wh
   pub end : end_of d ≡ None
   pub formula : f ≡ formula_of d.parts.bounds d.parts.clauses
 
-test-le : (a b : ℕ) → nat_le a b ≡ true → a ≤ b
-test-le a b e = grind (arith, nat_tests)
-
 parse-ok : (m : Limits) (bytes : List ℕ) (f : PrenexFormula) → parse m bytes ≡ Ok f → Ended m bytes f
 parse-ok m bytes f h = go (nat_le (length bytes) m.bytes) refl h where
   last : (r : Result Gathered ReadError) → tokens_read m (Ok nothing_read) (tokens_of bytes) ≡ r → length bytes ≤ m.bytes → at_last (line_after bytes) r ≡ Ok f → Ended m bytes f
@@ -415,18 +407,14 @@ parse-ok m bytes f h = go (nat_le (length bytes) m.bytes) refl h where
   none (Ok d) n g = cc
 
   go : (t : Bool) → nat_le (length bytes) m.bytes ≡ t → (if t then at_last (line_after bytes) (tokens_read m (Ok nothing_read) (tokens_of bytes)) else past_limit (line_after (take m.bytes bytes)) (tokens_read m (Ok nothing_read) (tokens_ended (take m.bytes bytes)))) ≡ Ok f → Ended m bytes f
-  go true e g = last (tokens_read m (Ok nothing_read) (tokens_of bytes)) refl (test-le (length bytes) m.bytes e) g
+  go true e g = last (tokens_read m (Ok nothing_read) (tokens_of bytes)) refl (leb-true (length bytes) m.bytes e) g
   go false e g = none (tokens_read m (Ok nothing_read) (tokens_ended (take m.bytes bytes))) (line_after (take m.bytes bytes)) g
-
-length-map-clause : (cs : List (List Literal)) → length (map clause_of cs) ≡ length cs
-length-map-clause [] = refl
-length-map-clause (c ∷ cs) = ap suc (length-map-clause cs)
 
 all-ended : (v c n : ℕ) (p : Prefix) (x : Matrix) → end_of (inside Outside v c n p x []) ≡ None → c ≤ length x
 all-ended v c n p x e = go (nat_lt (length x) c) refl e where
   go : (t : Bool) → nat_lt (length x) c ≡ t → cond {A = Option ℕ} t (Some 6) None ≡ None → c ≤ length x
   go true f g = absurd (cc)
-  go false f g = above-var (length x) c f
+  go false f g = ltb-false (length x) c f
 
 pub read_is_grammar : (m : Limits) (bytes : List ℕ) (f : PrenexFormula) → parse m bytes ≡ Ok f → Dimacs m bytes f
 read_is_grammar m bytes f h =

@@ -1,21 +1,16 @@
 -- Literals that rise from one to the next are in order.
-use Rattle.std.proofs.Common.{◌≡◌, ℕ, ◌<◌, ◌≤◌, ◌+◌, nat_lt, true, List, [], ◌∷◌, ◌++◌, length, take, get_or, arith, add-one, subst, sym, ◌∙◌, ap}
-use Rattle.std.proofs.lemmas.Bool.Decides.{nat_tests}
+use Rattle.std.proofs.Common.{◌≡◌, ℕ, ◌<◌, ◌≤◌, ◌+◌, List, [], ◌∷◌, ◌++◌, length, take, get_or, arith, add-one, subst, sym, ◌∙◌, ap}
+use Rattle.std.proofs.lemmas.Bool.{lt-ltb}
 use Rattle.std.proofs.Math.Seq.{take-suc}
 use Rattle.std.specs.List.{AllByRecursion}
 use Rattle.q_logic.specs.Prelude.{Literal, IsBelow, pack, ArePairs}
+use Rattle.q_logic.proofs.ClauseSets.{below-pack}
 use Rattle.q_dimacs.proofs.VariableMarks.{All-push, Pairs-push}
 
 -- in order, and the last one at most
 pub record IsRising (ls : List Literal) (last : ℕ) : Type 0 where
   pub ordered : ArePairs IsBelow ls
   pub most : AllByRecursion (λ k. pack k ≤ last) ls
-
-below-test : (k l : Literal) → nat_lt (pack k) (pack l) ≡ true → IsBelow k l
-below-test k l e = grind (arith, nat_tests)
-
-lt-test : (m n : ℕ) → m < n → nat_lt m n ≡ true
-lt-test m n h = grind (arith, nat_tests)
 
 between : (a b c : ℕ) → a ≤ b → b < c → a < c
 between a b c h k = omega arith
@@ -25,7 +20,7 @@ below-le a b c h k = omega arith
 
 all-below : (ls : List Literal) (last : ℕ) (y : Literal) → AllByRecursion (λ k. pack k ≤ last) ls → last < pack y → AllByRecursion (λ k. IsBelow k y) ls
 all-below [] last y h l = tt
-all-below (x ∷ xs) last y h l = (below-test x y (lt-test (pack x) (pack y) (between (pack x) last (pack y) h.0 l)), all-below xs last y h.1 l)
+all-below (x ∷ xs) last y h l = (below-pack x y (lt-ltb (pack x) (pack y) (between (pack x) last (pack y) h.0 l)), all-below xs last y h.1 l)
 
 all-most : (ls : List Literal) (last n : ℕ) → AllByRecursion (λ k. pack k ≤ last) ls → last < n → AllByRecursion (λ k. pack k ≤ n) ls
 all-most [] last n h l = tt

@@ -7,8 +7,9 @@ use Rattle.q_logic.specs.declared.formulas.Bound.{Bound}
 use Rattle.q_logic.specs.declared.limits.Limits.{Limits}
 use Rattle.q_logic.specs.declared.formulas.Quant.{Quant}
 use Rattle.q_logic.specs.declared.formulas.Quant.TheVariants.{Exists, Forall}
-use Rattle.q_logic.specs.Prelude.{Literal, IsBelow, number_of, Clause, Matrix, Prefix, PrenexFormula, IsIn, Block, blocks, push_block, is_bound, Distinct, Closed, ArePairs, IsProper, AreModerate, clause_of}
+use Rattle.q_logic.specs.Prelude.{Literal, IsBelow, number_of, Clause, Matrix, Prefix, PrenexFormula, IsIn, Block, blocks, push_block, is_bound, Closed, ArePairs, IsProper, AreModerate, clause_of}
 use Rattle.q_logic.proofs.Common.{clause_of-ordered_clause}
+use Rattle.q_logic.proofs.FormulaParts.{Distinct-pairs}
 use Rattle.q_text.specs.declared.tokens.Token.{Token}
 use Rattle.q_text.specs.declared.tokens.TokenKind.{TokenKind}
 use Rattle.q_text.specs.declared.tokens.TokenKind.TheVariants.{Number, P, Cnf}
@@ -22,7 +23,7 @@ use Rattle.q_text.proofs.Decimals.{IsShown, token_of, number-space, count-line, 
 use Rattle.q_dimacs.specs.Building.{occurs, occurs_in, is_free, greatest, formula_of}
 use Rattle.q_dimacs.specs.Dimacs.{Text, letter, vars_kinds, sets_kinds, clauses_kinds, spelled, vars_bounds, sets_bounds, IsVar, text_formula, Dimacs}
 use Rattle.q_dimacs.specs.Writing.{block_text, blocks_text, clause_text, matrix_text, greatest_bound, header_text, formula_text, KeepsLimits}
-use Rattle.q_dimacs.proofs.FreeVariables.{bounds-none, apart}
+use Rattle.q_dimacs.proofs.FreeVariables.{bounds-none}
 
 abbrev kinds : List Token → List TokenKind
 kinds ts = map (λ t. t.kind) ts
@@ -56,11 +57,11 @@ literals-shown : (T : ℕ) (ls : List Literal) → T < 2 ^ 31 → AllByRecursion
 literals-shown T [] s h = tt
 literals-shown T (l ∷ ls) s h = (literal-shown T l s h.0, literals-shown T ls s h.1)
 
-all-left : {X : Type 0} (Q : X → Type 0) (xs ys : List X) → AllByRecursion Q (xs ++ ys) → AllByRecursion Q xs
+pub all-left : {X : Type 0} (Q : X → Type 0) (xs ys : List X) → AllByRecursion Q (xs ++ ys) → AllByRecursion Q xs
 all-left Q [] ys h = tt
 all-left Q (x ∷ xs) ys h = (h.0, all-left Q xs ys h.1)
 
-all-right : {X : Type 0} (Q : X → Type 0) (xs ys : List X) → AllByRecursion Q (xs ++ ys) → AllByRecursion Q ys
+pub all-right : {X : Type 0} (Q : X → Type 0) (xs ys : List X) → AllByRecursion Q (xs ++ ys) → AllByRecursion Q ys
 all-right Q [] ys h = h
 all-right Q (x ∷ xs) ys h = all-right Q xs ys h.1
 
@@ -154,10 +155,6 @@ matrix-within : (Q : Prefix) (T : ℕ) (X : Matrix) → AllByRecursion (λ q. Is
 matrix-within Q T [] h f = tt
 matrix-within Q T (C ∷ X) h f = (clause-within Q T C h (f C (inl refl)), matrix-within Q T X h (λ D i. f D (inr i)))
 
-distinct-pairs : (Q : Prefix) → Distinct Q → ArePairs (λ q r. q.var ≢ r.var) Q
-distinct-pairs [] h = tt
-distinct-pairs (b ∷ Q) h = (apart Q b.var h.0, distinct-pairs Q h.1)
-
 -- no variable of the clauses is free
 none-in : (Q : Prefix) (C : Clause) (v : ℕ) → ((k : Literal) → IsIn k C → is_bound Q k.var ≡ true) → is_bound Q v ≡ false → occurs_in C v ≡ false
 none-in Q [] v f e = refl
@@ -224,7 +221,7 @@ written_is_read m F a h k =
         count = k.clauses;
         clauses = refl;
         bounds = subst (AllByRecursion (λ q. IsVar T q.var)) (sym b) w;
-        once = subst (ArePairs (λ q r. q.var ≢ r.var)) (sym b) (distinct-pairs F.prefix h.formula.distinct);
+        once = subst (ArePairs (λ q r. q.var ≢ r.var)) (sym b) (Distinct-pairs F.prefix h.formula.distinct);
         lits = matrix-within F.prefix T F.matrix w h.formula.closed;
         few = k.lits;
       };

@@ -2,6 +2,7 @@
 use Rattle.std.proofs.Common.{◌≡◌, ℕ, ◌==◌, ◌||◌, nat_lt, Bool, true, false, cond, List, [], ◌∷◌, refl, ap, ◌∙◌, arith}
 use Rattle.std.proofs.lemmas.Bool.Decides.{nat_tests}
 use Rattle.q_logic.specs.Prelude.{Literal, pack, Clause, insert, clause_of}
+use Rattle.q_logic.proofs.Common.{or-swap}
 use Rattle.q_dimacs.specs.Building.{occurs_in}
 
 -- the three cases of an insertion
@@ -14,11 +15,6 @@ same_var l k e = grind (arith, nat_tests)
 or-again : (a b : Bool) → a || b ≡ a || (a || b)
 or-again true b = refl
 or-again false b = refl
-
-or-swap : (a b c : Bool) → a || (b || c) ≡ b || (a || c)
-or-swap true true c = refl
-or-swap true false c = refl
-or-swap false b c = refl
 
 pub occurs_in-insert : (l : Literal) (c : Clause) (v : ℕ) → occurs_in (insert l c) v ≡ ((l.var == v) || occurs_in c v)
 occurs_in-insert l [] v = refl

@@ -1,18 +1,15 @@
 -- Marks of variables, and lists with one more at their end.
-use Rattle.std.proofs.Common.{◌≡◌, ◌≢◌, ℕ, ◌<◌, ◌==◌, ◌||◌, Bool, true, false, cond, List, [], ◌∷◌, ◌++◌, length, get_or, set, slice_index_or, refl, ap, sym, ◌∙◌, arith, inl, inr, get_or-set_same, get_or-set_other}
+use Rattle.std.proofs.Common.{◌≡◌, ◌≢◌, ℕ, ◌<◌, ◌==◌, ◌||◌, Bool, true, false, List, [], ◌∷◌, ◌++◌, length, get_or, set, slice_index_or, refl, ap, sym, ◌∙◌, arith, inl, inr, get_or-set_same, get_or-set_other}
 use Rattle.std.proofs.lemmas.Bool.Decides.{nat_tests, eqb_tells}
 use Rattle.std.specs.List.{AllByRecursion}
 use Rattle.q_logic.specs.declared.formulas.Bound.{Bound}
 use Rattle.q_logic.specs.Prelude.{Literal, Matrix, Prefix, Clause, ArePairs, is_bound}
+use Rattle.q_logic.proofs.Common.{cond-or}
 use Rattle.q_dimacs.specs.Building.{occurs, occurs_in}
 
 pub or_false : (a : Bool) → a || false ≡ a
 or_false true = refl
 or_false false = refl
-
-or-false : (a : Bool) → a || false ≡ a
-or-false true = refl
-or-false false = refl
 
 or-assoc : (a b c : Bool) → (a || b) || c ≡ a || (b || c)
 or-assoc true b c = refl
@@ -28,26 +25,22 @@ or-comm false false = refl
 pub marked : (marks : List Bool) (i v : ℕ) → i < length marks → slice_index_or (set marks i true) v false ≡ (slice_index_or marks v false || (i == v))
 marked marks i v h = elim (eqb_tells i v) [
   | inl e ↦ (let f : i ≡ v = e.1 in rw (e.0, ← f, get_or-set_same) (sym (or-comm (get_or marks i false) true)))
-  | inr e ↦ (let n : v ≢ i = λ x. e.1 (sym x) in rw (e.0, get_or-set_other) (sym (or-false (get_or marks v false))))
+  | inr e ↦ (let n : v ≢ i = λ x. e.1 (sym x) in rw (e.0, get_or-set_other) (sym (or_false (get_or marks v false))))
 ]
 
-pub cond-or : (a b : Bool) → cond a true b ≡ a || b
-cond-or true b = refl
-cond-or false b = refl
-
 pub is_bound-push : (p : Prefix) (q : Bound) (v : ℕ) → is_bound (p ++ q ∷ []) v ≡ (is_bound p v || (q.var == v))
-is_bound-push [] q v = cond-or (q.var == v) false ∙ or-false (q.var == v)
+is_bound-push [] q v = cond-or (q.var == v) false ∙ or_false (q.var == v)
 is_bound-push (r ∷ p) q v =
     cond-or (r.var == v) (is_bound (p ++ q ∷ []) v)
     ∙ (ap (λ x. (r.var == v) || x) (is_bound-push p q v)
     ∙ (sym (or-assoc (r.var == v) (is_bound p v) (q.var == v)) ∙ ap (λ x. x || (q.var == v)) (sym (cond-or (r.var == v) (is_bound p v)))))
 
 pub occurs_in-push : (ls : List Literal) (l : Literal) (v : ℕ) → occurs_in (ls ++ l ∷ []) v ≡ (occurs_in ls v || (l.var == v))
-occurs_in-push [] l v = or-false (l.var == v)
+occurs_in-push [] l v = or_false (l.var == v)
 occurs_in-push (k ∷ ls) l v = ap (λ x. (k.var == v) || x) (occurs_in-push ls l v) ∙ sym (or-assoc (k.var == v) (occurs_in ls v) (l.var == v))
 
 pub occurs-push : (x : Matrix) (c : Clause) (v : ℕ) → occurs (x ++ c ∷ []) v ≡ (occurs x v || occurs_in c v)
-occurs-push [] c v = or-false (occurs_in c v)
+occurs-push [] c v = or_false (occurs_in c v)
 occurs-push (d ∷ x) c v = ap (λ y. occurs_in d v || y) (occurs-push x c v) ∙ sym (or-assoc (occurs_in d v) (occurs x v) (occurs_in c v))
 
 pub or_more : (a b c : Bool) → (a || b) || c ≡ a || (b || c)

@@ -3,19 +3,19 @@ use Rattle.std.proofs.Common.{◌≡◌, ◌≤◌, ◌<◌, ◌+◌, ◌++◌, 
 use Rattle.std.proofs.lemmas.List.{append-nil}
 use Rattle.q_logic.specs.Prelude.{Literal, IsBelow, negation, Clause, Matrix, Prefix, IsIn, ArePairs, without, size_of, Slots, slot, live, put_first, clauses_at, IsTautology, put_unless_tautology, Within, first_of, resolvent, resolve_one, resolve_all}
 use Rattle.q_logic.proofs.EliminateRun.{resolvent-implied}
-use Rattle.q_logic.proofs.Common.{pairs-ordered, ordered-pairs, union-ordered, without-ordered, SameClauses, alike-refl, alike-trans, alike-append, alike-append_swap, union-IsIn, live-slot, without-IsIn}
+use Rattle.q_logic.proofs.Common.{pairs-ordered, ordered-pairs, union-ordered, without-ordered, SameClauses, alike-refl, alike-trans, alike-append, alike-append_swap, union-IsIn, live-slot, without-IsIn, is_tautology-whole, is_tautology-none, length-set_slot, slot-below, same-sizes}
 use Rattle.q_kernel.specs.Prelude.{Seen, slots, formula_in, IsSound, MayAdd, IsAdded}
-use Rattle.q_kernel.proofs.TextCosts.{cost-add, first-first, within-small}
-use Rattle.q_kernel.proofs.KernelRuns.{led-itself, led-through, sizes-alike}
-use Rattle.q_kernel.proofs.SlotLists.{slot-below, slot-set_other, length-set_slot, alike-added}
+use Rattle.q_kernel.proofs.TextCosts.{cost-add, within-small}
+use Rattle.q_kernel.proofs.KernelRuns.{led-itself, led-through}
+use Rattle.q_kernel.proofs.SlotLists.{slot-set_other, alike-added}
 use Rattle.q_rule.proofs.RuleSteps.{clause-within}
 use Rattle.q_eliminate.specs.Growing.{CanGrow, HasGrown}
 use Rattle.q_eliminate.proofs.GainCounts.{literals-append, put-plain, put-tautology}
-use Rattle.q_eliminate.proofs.ClauseUnions.{tautology-told, plain-told}
 use Rattle.q_eliminate.specs.Sides.{clause_or_none, clause_in, IsParent, AreParents}
 use Rattle.q_eliminate.proofs.IdWalks.{id-in, at-next, at-member}
 use Rattle.q_eliminate.proofs.ResolventOrder.{put-apart}
 use Rattle.q_logic.proofs.MeasureFalls.{size-append}
+use Rattle.q_log.proofs.WritableRuns.{first-of}
 
 -- the literals of a resolvent are bound
 pub resolvent-within : (P : Prefix) (l : Literal) (C D : Clause) → Within P C → Within P D → Within P (resolvent l C D)
@@ -33,11 +33,11 @@ may-come k l c d C D s e f o n g =
     let U = resolvent l C D in
     let w : Within k.prefix U = resolvent-within k.prefix l C D (clause-within k c C s e) (clause-within k d D s f) in
     let r : ArePairs IsBelow U = resolvent-ordered l C D o in
-    let b = cost-add (first_of U) U r (first-first U) (within-small (formula_in k) U s.proper w) in
+    let b = cost-add (first_of U) U r (first-of U) (within-small (formula_in k) U s.proper w) in
     let g1 = g.words in let g2 = g.ids in let g3 = g.bytes in
     record {
       ordered = r;
-      first = first-first U;
+      first = first-of U;
       step = record {
         valid = (w, inl (resolvent-implied (live (slots k)) l C D (live-slot (slots k) c C e) (live-slot (slots k) d D f) n), g.limits);
         bytes = omega arith;
@@ -48,7 +48,7 @@ may-come k l c d C D s e f o n g =
 
 pub has-come : (old new : Seen) (U : Clause) (id : ℕ) → ArePairs IsBelow U → IsSound old → Within old.prefix U → IsAdded old new (first_of U) U id → HasGrown old new (U ∷ [])
 has-come old new U id o s w h =
-    let b = cost-add (first_of U) U o (first-first U) (within-small (formula_in old) U s.proper w) in
+    let b = cost-add (first_of U) U o (first-of U) (within-small (formula_in old) U s.proper w) in
     let n : id < length (slots old) = subst (λ (k : ℕ). id < k) (ap length h.change ∙ length-set_slot id (Some U) (slots old)) (slot-below (slots new) id U h.there) in
     let x = h.words in let y = h.ids in let z = h.logged.bytes in
     record {
@@ -76,10 +76,10 @@ module _ (N : Slots) (l : Literal) (c d : ℕ) (C D : Clause) (e : slot N c ≡ 
   told-resolvent = ap (λ (X : Clause). put_unless_tautology (resolvent l X (clause_in N d)) []) in-first ∙ ap (λ (Y : Clause). put_unless_tautology (resolvent l C Y) []) in-second
 
   pub told-plain : (U : Clause) → U ≡ resolvent l C D → (IsTautology U → ⊥) → put_unless_tautology (resolvent l (clause_in N c) (clause_in N d)) [] ≡ resolvent l C D ∷ []
-  told-plain U u n = told-resolvent ∙ put-plain (resolvent l C D) [] (plain-told (resolvent l C D) (λ t. n (subst IsTautology (sym u) t)))
+  told-plain U u n = told-resolvent ∙ put-plain (resolvent l C D) [] (is_tautology-none (resolvent l C D) (λ t. n (subst IsTautology (sym u) t)))
 
   pub told-tautology : (U : Clause) → U ≡ resolvent l C D → IsTautology U → put_unless_tautology (resolvent l (clause_in N c) (clause_in N d)) [] ≡ []
-  told-tautology U u t = told-resolvent ∙ put-tautology (resolvent l C D) [] (tautology-told (resolvent l C D) (subst IsTautology u t))
+  told-tautology U u t = told-resolvent ∙ put-tautology (resolvent l C D) [] (is_tautology-whole (resolvent l C D) (subst IsTautology u t))
 
 pub come-none : (k : Seen) → HasGrown k k []
 come-none k = record { led = led-itself k; prefix = refl; kept = λ c C e. e; clauses = λ C. refl; words = omega arith; ids = omega arith; bytes = omega arith }
@@ -118,7 +118,7 @@ can-rest a b V W g h =
     let g1 = g.words in let g2 = g.ids in let g3 = g.bytes in let g4 = g.limits.clauses in let g5 = g.limits.lits in
     let l1 = length-append (V ++ W) A in let l2 = length-append W B in let l3 = length-append V A in
     let t1 = literals-append (V ++ W) A in let t2 = literals-append W B in let t3 = literals-append V A in
-    let e = sizes-alike B (V ++ A) h.clauses in
+    let e = same-sizes B (V ++ A) h.clauses in
     let e0 = e.0 in let e1 = e.1 in
     let h1 = h.words in let h2 = h.ids in let h3 = h.bytes in
     record { words = omega arith; ids = omega arith; bytes = omega arith; limits = record { clauses = omega arith; lits = omega arith } }

@@ -1,18 +1,15 @@
 -- Two clauses merged in literal order.
 use Rattle.std.proofs.Common.{◌≡◌, ◌<◌, ◌≤◌, ◌+◌, ◌++◌, ◌⊎◌, ℕ, zero, suc, Bool, true, false, cond, [], ◌∷◌, length, drop, get_or, inl, inr, arith, refl, sym, ap, ◌∙◌, subst}
 use Rattle.std.proofs.lemmas.Bool.Decides.{nat_tests}
-use Rattle.std.proofs.lemmas.List.{append-nil}
+use Rattle.std.proofs.lemmas.List.{append-nil, drop_all}
 use Rattle.q_logic.specs.Prelude.{Literal, IsBelow, literal_eq, pack, Clause, IsIn, without, union}
-use Rattle.q_logic.proofs.Common.{literal_eq-sound, Ordered, Before, without-ordered, without-IsIn}
-use Rattle.q_rule.proofs.MarkChanges.{pack-apart}
-use Rattle.q_eliminate.proofs.IdWalks.{next-item, no-item}
+use Rattle.q_logic.proofs.Common.{literal_eq-sound, Ordered, Before, without-ordered, without-IsIn, IsIn-drop, pack-same}
+use Rattle.q_logic.proofs.ClauseSets.{below-trans}
+use Rattle.q_eliminate.proofs.IdWalks.{next-item}
 use Rattle.q_eliminate.proofs.ClauseUnions.{union-none, union-first, union-second, union-both}
 
 below-code : (a b : Literal) → pack a < pack b → IsBelow a b
 below-code a b h = grind (arith, nat_tests)
-
-below-trans : (a b c : Literal) → IsBelow a b → IsBelow b c → IsBelow a c
-below-trans a b c h k = grind arith
 
 before-all : (a b : Literal) (D : Clause) → pack a < pack b → Ordered (b ∷ D) → Before a (b ∷ D)
 before-all a b D h o j (inl e) = subst (λ (z : Literal). IsBelow a z) (sym e) (below-code a b h)
@@ -50,12 +47,6 @@ drop-ordered [] (suc i) o = o
 drop-ordered (k ∷ C) zero o = o
 drop-ordered (k ∷ C) (suc i) o = drop-ordered C i o.1
 
-drop-member : (C : Clause) (i : ℕ) (k : Literal) → IsIn k (drop i C) → IsIn k C
-drop-member [] zero k m = m
-drop-member [] (suc i) k m = m
-drop-member (j ∷ C) zero k m = m
-drop-member (j ∷ C) (suc i) k m = inr (drop-member C i k m)
-
 -- The same at places of two clauses.
 module _ (l n : Literal) (C D : Clause) (i j : ℕ) (a b : Literal) (oC : Ordered C) (oD : Ordered D) (hi : i < length C) (hj : j < length D) (ea : a ≡ get_or C i a) (eb : b ≡ get_or D j b) where
   left : drop i C ≡ a ∷ drop (i + 1) C
@@ -82,15 +73,15 @@ module _ (l n : Literal) (C D : Clause) (i j : ℕ) (a b : Literal) (oC : Ordere
   pub next-both : pack a ≤ pack b → pack b ≤ pack a → (IsIn n C → ⊥) → (IsIn l D → ⊥) → union (without l (drop i C)) (without n (drop j D)) ≡ without n (b ∷ []) ++ union (without l (drop (i + 1) C)) (without n (drop (j + 1) D))
   next-both h g x y =
       let c : pack a ≡ pack b = omega arith in
-      let e = pack-apart a b c in
+      let e = pack-same a b c in
       whole ∙ merge-both l n a b (drop (i + 1) C) (drop (j + 1) D) ordered_left ordered_right e
-      (λ q. y (drop-member D j l (subst (λ (X : Clause). IsIn l X) (sym right) (inl (sym q ∙ e)))))
-      (λ q. x (drop-member C i n (subst (λ (X : Clause). IsIn n X) (sym left) (inl (sym q ∙ sym e)))))
+      (λ q. y (IsIn-drop D j l (subst (λ (X : Clause). IsIn l X) (sym right) (inl (sym q ∙ e)))))
+      (λ q. x (IsIn-drop C i n (subst (λ (X : Clause). IsIn n X) (sym left) (inl (sym q ∙ sym e)))))
 
 -- Where one clause is used up.
 pub merged-end : (l n : Literal) (C D : Clause) (i j : ℕ) → Ordered C → (length C ≤ i) ⊎ (length D ≤ j) → union (without l (drop i C)) (without n (drop j D)) ≡ without l (drop i C) ++ without n (drop j D)
-merged-end l n C D i j o (inl h) = ap (λ (X : Clause). union (without l X) (without n (drop j D))) (no-item C i h) ∙ sym (ap (λ (X : Clause). without l X ++ without n (drop j D)) (no-item C i h))
+merged-end l n C D i j o (inl h) = ap (λ (X : Clause). union (without l X) (without n (drop j D))) (drop_all i C h) ∙ sym (ap (λ (X : Clause). without l X ++ without n (drop j D)) (drop_all i C h))
 merged-end l n C D i j o (inr h) =
-    ap (λ (Y : Clause). union (without l (drop i C)) (without n Y)) (no-item D j h)
+    ap (λ (Y : Clause). union (without l (drop i C)) (without n Y)) (drop_all j D h)
     ∙ (union-none (without l (drop i C)) (without-ordered l (drop i C) (drop-ordered C i o))
-    ∙ (sym (append-nil (without l (drop i C))) ∙ sym (ap (λ (Y : Clause). without l (drop i C) ++ without n Y) (no-item D j h))))
+    ∙ (sym (append-nil (without l (drop i C))) ∙ sym (ap (λ (Y : Clause). without l (drop i C) ++ without n Y) (drop_all j D h))))

@@ -2,15 +2,11 @@
 use Rattle.std.proofs.Common.{◌≡◌, ◌<◌, ◌+◌, ◌==◌, nat_lt, ℕ, Bool, true, false, cond, [], ◌∷◌, length, None, Some, inl, inr, arith, refl, sym, ap, ◌∙◌, subst, true≢false}
 use Rattle.std.proofs.lemmas.Bool.Decides.{nat_tests}
 use Rattle.q_logic.specs.Prelude.{Literal, IsBelow, negation, pack, Clause, IsIn, insert, has, union, missing, negated_in, IsTautology, is_tautology, IsSubset}
-use Rattle.q_logic.specs.UsualBounds.{usual}
-use Rattle.q_logic.proofs.Common.{not_itself_below, not_below, has_none, negation-negation, Ordered, Before, union-ordered, ordered-same, union-IsIn, IsIn-union, is_tautology-sound, has-IsIn, IsIn-has, IsIn-has_not}
-use Rattle.q_logic.proofs.Decided.{negated_in-is, is-negated_in, decided-tautology}
+use Rattle.q_logic.proofs.Common.{not_itself_below, not_below, has_none, negation-negation, Ordered, Before, union-ordered, ordered-same, union-IsIn, IsIn-union, has-IsIn, IsIn-has, IsIn-has_not, codes-grow, is_tautology-whole, is_tautology-none}
+use Rattle.q_logic.proofs.Decided.{negated_in-is, is-negated_in}
 use Rattle.q_eliminate.specs.Gains.{joined_length}
 
 -- A literal put into a clause that is in order.
-codes-grow : (j k : Literal) → IsBelow j k → pack j < pack k
-codes-grow j k h = grind arith
-
 insert-least : (k : Literal) (C : Clause) → Before k C → insert k C ≡ k ∷ C
 insert-least k [] b = refl
 insert-least k (j ∷ C) b = let l : pack k < pack j = codes-grow k j (b j (inl refl)) in let t : nat_lt (pack k) (pack j) ≡ true = grind (arith, nat_tests) in ap (λ (s : Bool). cond s (k ∷ j ∷ C) (cond (pack k == pack j) (j ∷ C) (j ∷ insert k C))) t
@@ -79,19 +75,8 @@ union-swap A B o p = ordered-same (union A B) (union B A) (union-ordered A B p) 
 pub joined-length : (A B : Clause) → Ordered A → Ordered B → length (union A B) ≡ length A + length (missing B A)
 joined-length A B o p = ap length (union-swap A B o p) ∙ union-length A B o p
 
--- A tautology, where a literal of one clause is negated in the other.
-pub tautology-told : (C : Clause) → IsTautology C → is_tautology C ≡ true
-tautology-told C t = (decided-tautology usual [] (Some C ∷ []) 0).1 (C, refl, t)
-
-pub plain-told : (C : Clause) → (IsTautology C → ⊥) → is_tautology C ≡ false
-plain-told C n = go (is_tautology C) refl
-  where
-    go : (b : Bool) → is_tautology C ≡ b → b ≡ false
-    go true e = absurd (n (is_tautology-sound C e))
-    go false e = refl
-
 pub joined-clash : (A B : Clause) → negated_in B A ≡ true → is_tautology (union A B) ≡ true
-joined-clash A B h = let r = negated_in-is B A h in tautology-told (union A B) (r.0, IsIn-union A B r.0 (inr r.1), IsIn-union A B (negation r.0) (inl r.2))
+joined-clash A B h = let r = negated_in-is B A h in is_tautology-whole (union A B) (r.0, IsIn-union A B r.0 (inr r.1), IsIn-union A B (negation r.0) (inl r.2))
 
 pub joined-plain : (A B : Clause) → (IsTautology A → ⊥) → (IsTautology B → ⊥) → negated_in B A ≡ false → IsTautology (union A B) → ⊥
 joined-plain A B a b h (k, m, n) = elim (union-IsIn A B k m) [
@@ -121,6 +106,6 @@ module _ (A B : Clause) where
   pub joined-some : (n : ℕ) → Ordered A → Ordered B → (IsTautology A → ⊥) → (IsTautology B → ⊥) → joined_length A B ≡ Some n → (is_tautology (union A B) ≡ false) × (length (union A B) ≡ n)
   joined-some n o p a b e =
       let t = told-some (negated_in B A) (length A + length (missing B A)) n e in (
-        plain-told (union A B) (joined-plain A B a b t.0),
+        is_tautology-none (union A B) (joined-plain A B a b t.0),
         joined-length A B o p ∙ t.1,
       )

@@ -67,12 +67,6 @@ module _ {X : Type 0} where
       go (y ∷ C) zero h e = ap (λ (z : X). z ∷ C) (sym e)
       go (y ∷ C) (suc i) h e = go C i (omega arith) e
 
-  pub no-item : (C : List X) (i : ℕ) → length C ≤ i → drop i C ≡ []
-  no-item [] zero h = refl
-  no-item [] (suc i) h = refl
-  no-item (y ∷ C) zero h = absurd (omega arith)
-  no-item (y ∷ C) (suc i) h = no-item C i (omega arith)
-
 -- the literals from a place on, but one
 pub but-skipped : (C : Clause) (i : ℕ) (k out : Literal) → i < length C → k ≡ get_or C i k → k ≡ out → without out (drop i C) ≡ without out (drop (i + 1) C)
 but-skipped C i k out h e q =

@@ -1,12 +1,14 @@
 -- The clauses of some ids, and the ids of the clauses with a literal.
 use Rattle.std.proofs.lemmas.List.Elements.{All-contains}
+use Rattle.std.proofs.lemmas.Option.{none-some}
+use Rattle.std.proofs.lemmas.Bool.{cases_eq}
 use Rattle.std.proofs.Common.{◌≡◌, ◌+◌, ℕ, All, Contains, zero, suc, Bool, true, false, cond, List, [], ◌∷◌, length, get_or, Option, None, Some, inl, inr, arith, refl, sym, ap, ◌∙◌, subst}
 use Rattle.q_logic.specs.Prelude.{Literal, Clause, Matrix, IsIn, clause_eq, copies, has, with_literal, without_literal, OccursIn, Slots, slot, set_slot, live, others, put_first, clauses_at}
-use Rattle.q_logic.proofs.Common.{SameClauses, alike-refl, alike-trans, alike-sym, alike-cons, clause_eq-sound, slot-alike, has-IsIn, IsIn-has}
+use Rattle.q_logic.proofs.Common.{SameClauses, alike-refl, alike-trans, alike-sym, alike-cons, clause_eq-sound, slot-alike, has-IsIn, IsIn-has, live-gone}
+use Rattle.q_logic.proofs.HintChains.{live-number}
 use Rattle.q_kernel.specs.Prelude.{Seen, slots, HoldsLiteral, AreOnce, IsHolder}
-use Rattle.q_kernel.proofs.Basics.{ℕ-cases, none-some}
 use Rattle.q_kernel.proofs.DistinctMembers.{Contains-none, Contains-here, Contains-further, Contains-first}
-use Rattle.q_kernel.proofs.SlotLists.{slot-set_other, live-gone, IsIn-slot}
+use Rattle.q_kernel.proofs.SlotLists.{slot-set_other}
 use Rattle.q_rule.proofs.RuleResults.{slot-none}
 use Rattle.q_eliminate.specs.Sides.{AreIdsOf}
 
@@ -63,14 +65,14 @@ with-first l N c C e m = subst (λ (X : Matrix). SameClauses (with_literal l (li
     (with-same l (live N) (C ∷ others c N) (slot-alike N c C e)))
 
 picked : (l : Literal) (ids : List ℕ) (N : Slots) → AreOnce ids → ((c : ℕ) → Contains ids c → (C : Clause) × (slot N c ≡ Some C) × IsIn l C) → ((c : ℕ) (C : Clause) → slot N c ≡ Some C → IsIn l C → Contains ids c) → SameClauses (clauses_at N ids) (with_literal l (live N))
-picked l [] N a h g = subst (λ (X : Matrix). SameClauses [] X) (sym (with-none l (live N) (λ (D, i, m). let r = IsIn-slot N D i in Contains-none r.0 (g r.0 D r.1 m)))) (alike-refl [])
+picked l [] N a h g = subst (λ (X : Matrix). SameClauses [] X) (sym (with-none l (live N) (λ (D, i, m). let r = live-number N D i in Contains-none r.0 (g r.0 D r.1 m)))) (alike-refl [])
 picked l (c ∷ cs) N a h g =
     let held = h c (Contains-here c cs) in
     let C = held.0 in
     let N' = set_slot c None N in
     let i : SameClauses (clauses_at N' cs) (with_literal l (live N')) = picked l cs N' a.1
     (λ d m. let r = h d (Contains-further c cs d m) in (r.0, slot-set_other c d None N (λ e. a.0 (subst (λ (x : ℕ). Contains cs x) e m)) ∙ r.1, r.2))
-    (λ d D e m. elim (ℕ-cases d c) [
+    (λ d D e m. elim (cases_eq d c) [
       | inl q ↦ absurd (none-some D (sym (slot-none c N) ∙ subst (λ (x : ℕ). slot N' x ≡ Some D) q e))
       | inr n ↦ elim (Contains-first c cs d (g d D (sym (slot-set_other c d None N n) ∙ e) m)) [ inl q ↦ absurd (n q) | inr r ↦ r ]
     ]) in

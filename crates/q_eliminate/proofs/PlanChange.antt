@@ -3,11 +3,10 @@ use Rattle.std.proofs.Common.{◌≡◌, ◌≤◌, ◌+◌, ◌++◌, ◌⊎◌
 use Rattle.q_logic.specs.declared.rule_bounds.Bounds.{Bounds}
 use Rattle.q_logic.specs.Prelude.{Literal, negation, Matrix, Prefix, PrenexFormula, IsIn, positive, is_bound, ExistsPivot, standard, IsInLimits, greatest, size_of, Slots, slot, live, formula_of, clauses_at, literals_in, with_literal, AllOuter, resolve_all}
 use Rattle.q_logic.specs.Targets as theory
-use Rattle.q_logic.proofs.Common.{negation-negation, SameClauses, alike-refl, alike-trans, alike-append, size-alike}
+use Rattle.q_logic.proofs.Common.{negation-negation, SameClauses, alike-refl, alike-trans, alike-append, size-alike, existential-is_bound, same-sizes}
 use Rattle.q_kernel.specs.Prelude.{Seen, slots, formula_in, SameView, HasSweepBytes, Applies}
-use Rattle.q_kernel.proofs.KernelRuns.{led-through, sizes-alike}
+use Rattle.q_kernel.proofs.KernelRuns.{led-through}
 use Rattle.q_kernel.proofs.SlotLists.{size-parts}
-use Rattle.q_rule.proofs.Quantifiers.{bound-existential}
 use Rattle.q_rule.specs.Becoming.{IsChanged}
 use Rattle.q_eliminate.specs.declared.plan.Plan.{Plan}
 use Rattle.q_eliminate.specs.declared.sides.Sides.{Sides}
@@ -25,7 +24,7 @@ module _ (B : Bounds) (k : Seen) (x : ℕ) (p : Plan) (s : Sides) (a : Applies B
   split = (apply-may B k x a).split
 
   pub plan-bound : is_bound k.prefix x ≡ true
-  plan-bound = bound-existential k.prefix x a.fits.existential
+  plan-bound = existential-is_bound k.prefix x a.fits.existential
 
   pub plan-parents : AreParents (slots k) (positive x) s.positive.items
   plan-parents c m = let r = d.positive.held c m in record { clause = r.0; there = r.1; held = r.2; plain = λ n. split.no_tautology r.0 (Rattle.q_logic.proofs.NumberedClauses.live-slot (slots k) c r.0 r.1) (inl r.2) (positive x, r.2, n) }
@@ -55,7 +54,7 @@ module _ (B : Bounds) (k : Seen) (x : ℕ) (p : Plan) (s : Sides) (a : Applies B
   pub plan-room : IsInLimits standard (formula_in k) → HasRoomFor k p → CanGrow k (resolve_all (positive x) (clauses_at (slots k) s.positive.items) (clauses_at (slots k) s.negative.items))
   plan-room b r =
       let W = resolve_all (positive x) (clauses_at (slots k) s.positive.items) (clauses_at (slots k) s.negative.items) in
-      let e = sizes-alike W (resolvents_on (positive x) (live (slots k))) same in
+      let e = same-sizes W (resolvents_on (positive x) (live (slots k))) same in
       let e0 = e.0 in let e1 = e.1 in
       let c = h.clauses in let n = h.lits in
       let f = plan-few in let f0 = f.0 in let f1 = f.1 in
@@ -101,7 +100,7 @@ module _ (B : Bounds) (k : Seen) (x : ℕ) (p : Plan) (s : Sides) (a : Applies B
         let pre : m.prefix ≡ k.prefix = o.prefix ∙ g.prefix in
         let c : SameClauses E (live (slots m)) = subst (λ (X : Matrix). SameClauses E X) (sym o.clauses)
         (eliminated-rest k.prefix (live (slots k)) (positive x) split a.fits.existential (live (slots n)) grown (negation p.outer) sign p.outer (sym (negation-negation p.outer))) in
-        let e = sizes-alike E (live (slots m)) c in
+        let e = same-sizes E (live (slots m)) c in
         let e0 = e.0 in let e1 = e.1 in
         let l0 = a.in_limits.clauses in let l1 = a.in_limits.lits in
         record {

@@ -1,13 +1,12 @@
 -- The clauses of a variable, by ids and as parts of the matrix.
-use Rattle.std.proofs.Common.{◌≡◌, ◌↔◌, ◌≤◌, ◌<◌, ◌+◌, ◌++◌, ◌⊎◌, ℕ, Bool, true, false, cond, List, [], ◌∷◌, length, Option, None, Some, inl, inr, arith, refl, sym, ap, ◌∙◌, subst, length-append, eqb, true≢false}
+use Rattle.std.proofs.Common.{◌≡◌, ◌↔◌, ◌≤◌, ◌<◌, ◌+◌, ◌++◌, ◌⊎◌, ℕ, true, false, List, [], ◌∷◌, length, Option, None, Some, inl, inr, arith, refl, sym, ap, ◌∙◌, subst, length-append, eqb, true≢false}
 use Rattle.std.proofs.lemmas.Option.{same_Some}
 use Rattle.std.specs.List.{AllByRecursion}
-use Rattle.q_logic.proofs.Common.{size-alike, SameClauses, IsIn-alike, alike-refl, alike-sym, alike-trans, alike-append, IsIn-with, IsIn-in_with, has-IsIn, with-alike, live-slot}
-use Rattle.q_logic.proofs.MeasureFalls.{size-append}
-use Rattle.q_logic.specs.Prelude.{Literal, negation, Clause, Matrix, Prefix, IsIn, size_of, Slots, live, put_first, formula_of, clauses_at, literals_in, has, with_literal, without_literal, OccursIn, standard, IsInLimits, AllOuter, resolve_all}
+use Rattle.q_logic.proofs.Common.{size-alike, SameClauses, IsIn-alike, alike-refl, alike-sym, alike-trans, alike-append, IsIn-with, IsIn-in_with, with-alike, live-slot, same-sizes}
+use Rattle.q_logic.proofs.MeasureFalls.{size-append, with_without}
+use Rattle.q_logic.specs.Prelude.{Literal, negation, Clause, Matrix, Prefix, IsIn, size_of, Slots, live, put_first, formula_of, clauses_at, literals_in, with_literal, without_literal, OccursIn, standard, IsInLimits, AllOuter, resolve_all}
 use Rattle.q_kernel.specs.Prelude.{Seen, slots, formula_in}
 use Rattle.q_kernel.proofs.SlotLists.{size-parts}
-use Rattle.q_kernel.proofs.KernelRuns.{sizes-alike}
 use Rattle.q_rule.proofs.LoopChanges.{with-less}
 use Rattle.q_eliminate.specs.Sides.{AreLive, AreIdsOf}
 use Rattle.q_eliminate.specs.declared.counting.Gain.{Gain}
@@ -47,20 +46,10 @@ pub side-plain : (k : Seen) (l : Literal) (ids : List ℕ) → AreIdsOf k l ids 
 side-plain k l ids a h D m n = all-member IsPlain (clauses_at (slots k) ids) D h (member-side k l ids D a m n)
 
 -- Where no clause holds both signs, the clauses fall into those with the literal, those with its negation, and the others.
-apart-with : (l n : Literal) (X : Matrix) → ((D : Clause) → IsIn D X → IsIn l D → IsIn n D → ⊥) → with_literal n (without_literal l X) ≡ with_literal n X
-apart-with l n [] h = refl
-apart-with l n (D ∷ X) h = go (has l D) refl (has n D) refl (apart-with l n X (λ E m. h E (inr m)))
-  where
-    go : (a : Bool) → has l D ≡ a → (b : Bool) → has n D ≡ b → with_literal n (without_literal l X) ≡ with_literal n X → with_literal n (cond a (without_literal l X) (D ∷ without_literal l X)) ≡ cond b (D ∷ with_literal n X) (with_literal n X)
-    go true p true q i = absurd (h D (inl refl) (has-IsIn l D p) (has-IsIn n D q))
-    go true p false q i = i
-    go false p true q i = rw q (ap (λ (Y : Matrix). D ∷ Y) i)
-    go false p false q i = rw q i
-
 pub parted : (l : Literal) (X : Matrix) → ((D : Clause) → IsIn D X → IsIn l D → IsIn (negation l) D → ⊥) → SameClauses X (with_literal l X ++ (with_literal (negation l) X ++ others_on l X))
 parted l X h = alike-trans X (with_literal l X ++ without_literal l X) (with_literal l X ++ (with_literal (negation l) X ++ others_on l X)) (with-alike l X)
     (alike-append (with_literal l X) (with_literal l X) (without_literal l X) (with_literal (negation l) X ++ others_on l X) (alike-refl (with_literal l X))
-    (subst (λ (W : Matrix). SameClauses (without_literal l X) (W ++ others_on l X)) (apart-with l (negation l) X h) (with-alike (negation l) (without_literal l X))))
+    (subst (λ (W : Matrix). SameClauses (without_literal l X) (W ++ others_on l X)) (with_without l (negation l) X h) (with-alike (negation l) (without_literal l X))))
 
 -- no clause holds both signs
 pub split-apart : (P : Prefix) (X : Matrix) (l : Literal) → IsSplit P X l → (D : Clause) → IsIn D X → IsIn l D → IsIn (negation l) D → ⊥
@@ -129,15 +118,15 @@ module _ (k : Seen) (l : Literal) (ids others : List ℕ) (a : AreIdsOf k l ids)
       let A = with_literal l X in
       let B = with_literal (negation l) X in
       let R = others_on l X in
-      let p = sizes-alike X (A ++ (B ++ R)) (parted l X (split-apart k.prefix X l t)) in
+      let p = same-sizes X (A ++ (B ++ R)) (parted l X (split-apart k.prefix X l t)) in
       let x = p.0 in
       let y = p.1 in
       let l1 = length-append A (B ++ R) in
       let l2 = length-append B R in
       let t1 = literals-append A (B ++ R) in
       let t2 = literals-append B R in
-      let ca = sizes-alike (clauses_at (slots k) ids) A a.clauses in
-      let cb = sizes-alike (clauses_at (slots k) others) B b.clauses in
+      let ca = same-sizes (clauses_at (slots k) ids) A a.clauses in
+      let cb = same-sizes (clauses_at (slots k) others) B b.clauses in
       let ca0 = ca.0 in let ca1 = ca.1 in let cb0 = cb.0 in let cb1 = cb.1 in
       let na = at-length (slots k) ids (live-ids k l ids a) in
       let nb = at-length (slots k) others (live-ids k (negation l) others b) in
@@ -169,7 +158,7 @@ module _ (k : Seen) (l : Literal) (ids others : List ℕ) (a : AreIdsOf k l ids)
   -- the gain is that of the resolvents
   pub gain-told : (bound : ℕ) (g : Gain) → IsGain no_gain (resolve_all l (clauses_at (slots k) ids) (clauses_at (slots k) others)) bound (Some g) → (g.clauses ≡ length (resolvents_on l (live (slots k)))) × (g.lits ≡ literals_in (resolvents_on l (live (slots k)))) × (g.clauses + g.lits ≤ bound)
   gain-told bound g h =
-      let e = sizes-alike (resolve_all l (clauses_at (slots k) ids) (clauses_at (slots k) others)) (resolvents_on l (live (slots k))) sides-resolvents in
+      let e = same-sizes (resolve_all l (clauses_at (slots k) ids) (clauses_at (slots k) others)) (resolvents_on l (live (slots k))) sides-resolvents in
       let e0 = e.0 in let e1 = e.1 in
       let c = h.clauses g refl in let n = h.lits g refl in
       (omega arith, omega arith, h.within g refl)

@@ -1,9 +1,9 @@
 -- Walks along clauses of two literals.
-use Rattle.std.proofs.Common.{◌≡◌, ◌⊎◌, ℕ, Contains, zero, suc, ◌+◌, ◌<◌, ◌≤◌, List, [], ◌∷◌, ◌++◌, slice_get, length, Some, refl, sym, ◌∙◌, ap, subst, inl, inr, arith, append-nil, append_assoc}
+use Rattle.std.proofs.Common.{◌≡◌, ◌⊎◌, ℕ, Contains, ◌+◌, ◌<◌, ◌≤◌, List, [], ◌∷◌, ◌++◌, slice_get, length, Some, refl, sym, ◌∙◌, ap, subst, inl, inr, arith, append-nil, append_assoc}
 use Rattle.q_logic.specs.Prelude.{Literal, negation, Clause, Matrix, IsIn, Slots, slot, live, Binary, Joined}
-use Rattle.q_logic.proofs.Common.{live-slot, IsIn-append_left, IsIn-append, IsIn-append_right}
+use Rattle.q_logic.proofs.Common.{live-slot, IsIn-append_left, IsIn-append, IsIn-append_right, before_or_at, slice_get-IsIn, IsIn-slice_get, slice_get-before}
 use Rattle.q_logic.proofs.ClosureSearch.{joined-further}
-use Rattle.q_kernel.proofs.SlotLists.{IsIn-slot}
+use Rattle.q_logic.proofs.HintChains.{live-number}
 use Rattle.q_kernel.proofs.DistinctMembers.{Contains-none, Contains-last}
 use Rattle.q_equiv.specs.Walks.{level_of, NeverRise, IsSpread}
 use Rattle.q_equiv.proofs.BinaryClauses.{binary-in, binary-own}
@@ -70,7 +70,7 @@ module _ (levels : List ℕ) (N : Slots) (x : Literal) where
   spreading-done ids old new has f = record {
     added = f.added;
     is = f.is;
-    all_there = λ y b l. let d = IsIn-slot N b.clause b.there in f.all_there d.0 b.clause y (has d.0 (b.clause, d.1, b.first)) d.1 (binary-own (live N) x y b) l;
+    all_there = λ y b l. let d = live-number N b.clause b.there in f.all_there d.0 b.clause y (has d.0 (b.clause, d.1, b.first)) d.1 (binary-own (live N) x y b) l;
     no_other = f.no_other;
   }
 
@@ -80,24 +80,6 @@ pub record IsWalk (levels : List ℕ) (X : Matrix) (p : Literal) (head : ℕ) (k
   pub linked : (k : Literal) → IsIn k known → Joined X k p
   pub level : (k : Literal) → IsIn k known → level_of levels k ≡ level_of levels p
   pub expanded : (j : ℕ) (x y : Literal) → j < head → slice_get known j ≡ Some x → Binary X x y → level_of levels y ≡ level_of levels x → IsIn y known
-
-pub member-place : (xs : List Literal) (k : Literal) → IsIn k xs → (j : ℕ) × (j < length xs) × (slice_get xs j ≡ Some k)
-member-place [] k m = absurd m
-member-place (x ∷ xs) k (inl e) = (0, omega arith, ap Some (sym e))
-member-place (x ∷ xs) k (inr m) = let r = member-place xs k m in (suc r.0, (let h = r.1 in omega arith), r.2)
-
-pub place-member : (xs : List Literal) (j : ℕ) (k : Literal) → slice_get xs j ≡ Some k → IsIn k xs
-place-member [] j k e = absurd (cc)
-place-member (x ∷ xs) zero k e = inl (cc)
-place-member (x ∷ xs) (suc j) k e = inr (place-member xs j k e)
-
-pub earlier : (n i : ℕ) → n < i + 1 → (n < i) ⊎ (n ≡ i)
-earlier n i h = grind arith
-
-before_growth : (xs ys : List Literal) (j : ℕ) (k : Literal) → j < length xs → slice_get (xs ++ ys) j ≡ Some k → slice_get xs j ≡ Some k
-before_growth [] ys j k l e = absurd (omega arith)
-before_growth (x ∷ xs) ys zero k l e = e
-before_growth (x ∷ xs) ys (suc j) k l e = before_growth xs ys j k (omega arith) e
 
 -- Levels along a way.
 pub joined-level : (levels : List ℕ) (X : Matrix) (q x : Literal) → NeverRise levels X → Joined X q x → level_of levels q ≤ level_of levels x
@@ -118,13 +100,13 @@ module _ (levels : List ℕ) (X : Matrix) (p : Literal) where
     begun = grown-in old new s.added p s.is w.begun;
     linked = λ j m. elim (s.no_other j m) [
       | inl a ↦ w.linked j a
-      | inr b ↦ joined-further X k j p (w.linked k (place-member old head k e)) b.0
+      | inr b ↦ joined-further X k j p (w.linked k (slice_get-IsIn old head k e)) b.0
     ];
     level = λ j m. elim (s.no_other j m) [
       | inl a ↦ w.level j a
-      | inr b ↦ b.1 ∙ w.level k (place-member old head k e)
+      | inr b ↦ b.1 ∙ w.level k (slice_get-IsIn old head k e)
     ];
-    expanded = λ j x y l f b i. elim (earlier j head l) [
+    expanded = λ j x y l f b i. elim (before_or_at j head l) [
       | inl a ↦ grown-in old new s.added y s.is (w.expanded j x y a (was j x (omega arith) f) b i)
       | inr a ↦
           let h = here j x a f in
@@ -133,7 +115,7 @@ module _ (levels : List ℕ) (X : Matrix) (p : Literal) where
   }
     where
       was : (j : ℕ) (i : Literal) → j < length old → slice_get new j ≡ Some i → slice_get old j ≡ Some i
-      was j i l f = before_growth old s.added j i l (subst (λ (xs : List Literal). slice_get xs j ≡ Some i) s.is f)
+      was j i l f = slice_get-before old s.added j i l (subst (λ (xs : List Literal). slice_get xs j ≡ Some i) s.is f)
 
       here : (j : ℕ) (i : Literal) → j ≡ head → slice_get new j ≡ Some i → i ≡ k
       here j i a f = let z : Some i ≡ Some k = sym (was j i (omega arith) f) ∙ (ap (slice_get old) a ∙ e) in cc
@@ -148,7 +130,7 @@ module _ (levels : List ℕ) (X : Matrix) (p : Literal) where
         where
           next : IsIn x known → Binary X x y → Joined X q y → IsIn y known
           next m h i =
-              let r = member-place known x m in
+              let r = IsIn-slice_get known x m in
               let low = joined-level levels X q y f i in
               let high = f x y h in
               let at = w.level x m in

@@ -1,15 +1,15 @@
 -- The two clauses of the bridge come, and go.
 use Rattle.std.proofs.Common.{◌≡◌, ◌≤◌, ◌<◌, ◌+◌, ◌*◌, ℕ, Bool, true, false, cond, eqb, [], ◌∷◌, ◌++◌, inl, inr, arith, refl, sym, ap, ◌∙◌, subst, Option, Some, None, length}
 use Rattle.q_logic.specs.Prelude.{Literal, IsBelow, negation, Clause, Matrix, Prefix, IsIn, ArePairs, is_bound, outer_or_same, keeps, outer, ExistsPivot, Implied, standard, IsInLimits, size_of, has_variable, add, delete, one_less, Within, first_of, is_tautology, put_unless_tautology, Slots, slot, live, others, formula_of, merge, Mergeable, merged, renamed}
-use Rattle.q_logic.proofs.Common.{IsIn-append_left, live-slot, slot-alike, insert-length, IsIn-outer_in, IsIn-put_unless, Ordered, insert-ordered, ordered-pairs, existential-is_bound, implied-tautology, implied-more_clauses, pure-pivot, SameClauses, IsIn-alike, alike-sym, alike-trans, alike-cons, alike-uncons, alike-swap, one_less-first, one_less-same, exists_pivot-fewer}
-use Rattle.q_logic.proofs.ChangeRuns.{IsIn-right}
+use Rattle.q_logic.proofs.Common.{IsIn-append_left, live-slot, slot-alike, insert-length, IsIn-outer_in, IsIn-put_unless, Ordered, insert-ordered, ordered-pairs, existential-is_bound, implied-tautology, implied-more_clauses, pure-pivot, SameClauses, IsIn-alike, alike-sym, alike-trans, alike-cons, alike-uncons, alike-swap, one_less-first, one_less-same, exists_pivot-fewer, IsIn-append_right, live-gone, length-set_slot, slot-below, same-sizes}
 use Rattle.q_logic.proofs.MergeRun.{joined-implied, outer_or_same-is_bound, has_var-IsIn, renamed-free, renamed-length}
 use Rattle.q_log.specs.Texts.{step_text}
+use Rattle.q_log.proofs.WritableRuns.{first-of}
 use Rattle.q_kernel.specs.Prelude.{Seen, slots, formula_in, IsSound, Applies, MayAdd, IsAdded, MayDelete, IsDeleted, IsLed}
 use Rattle.q_logic.specs.declared.rule_bounds.Bounds.{Bounds}
-use Rattle.q_kernel.proofs.SlotLists.{length-set_slot, slot-below, slot-set_other, live-gone, alike-added, size-gone, size-parts}
-use Rattle.q_kernel.proofs.KernelRuns.{led-through, sizes-alike}
-use Rattle.q_kernel.proofs.TextCosts.{first-first, cost-add, cost-delete, within-small, proper-small}
+use Rattle.q_kernel.proofs.SlotLists.{slot-set_other, alike-added, size-gone, size-parts}
+use Rattle.q_kernel.proofs.KernelRuns.{led-through}
+use Rattle.q_kernel.proofs.TextCosts.{cost-add, cost-delete, within-small, proper-small}
 use Rattle.q_rule.specs.Becoming.{IsChanged}
 use Rattle.q_rule.proofs.RuleResults.{IsLess, less-limits}
 use Rattle.q_rule.proofs.RemovalLoops.{size-deleted, bytes-deleted}
@@ -59,18 +59,18 @@ module _ (keep gone : Literal) (k : Seen) (fits : Mergeable k.prefix (live (slot
 
   over_cost : length (step_text (add (first_of (over_clause keep gone)) (over_clause keep gone))) ≤ 48
   over_cost =
-      let c = cost-add (first_of (over_clause keep gone)) (over_clause keep gone) (over-ordered keep gone) (first-first (over_clause keep gone)) (within-small (formula_in k) (over_clause keep gone) s.proper over_within) in
+      let c = cost-add (first_of (over_clause keep gone)) (over_clause keep gone) (over-ordered keep gone) (first-of (over_clause keep gone)) (within-small (formula_in k) (over_clause keep gone) s.proper over_within) in
       let l = over-short keep gone in omega arith
 
   back_cost : length (step_text (add (first_of (back_clause keep gone)) (back_clause keep gone))) ≤ 48
   back_cost =
-      let c = cost-add (first_of (back_clause keep gone)) (back_clause keep gone) (back-ordered keep gone) (first-first (back_clause keep gone)) (within-small (formula_in k) (back_clause keep gone) s.proper back_within) in
+      let c = cost-add (first_of (back_clause keep gone)) (back_clause keep gone) (back-ordered keep gone) (first-of (back_clause keep gone)) (within-small (formula_in k) (back_clause keep gone) s.proper back_within) in
       let l = back-short keep gone in omega arith
 
   pub may-add_over : MayAdd k (first_of (over_clause keep gone)) (over_clause keep gone)
   may-add_over = record {
     ordered = over-ordered keep gone;
-    first = first-first (over_clause keep gone);
+    first = first-of (over_clause keep gone);
     step = record {
       valid = (
         over_within,
@@ -95,12 +95,12 @@ module _ (keep gone : Literal) (k : Seen) (fits : Mergeable k.prefix (live (slot
 
     pub may-add_back : MayAdd mid (first_of (back_clause keep gone)) (back_clause keep gone)
     may-add_back =
-        let e = sizes-alike (live (slots mid)) (over_clause keep gone ∷ live (slots k)) mid_clauses in
+        let e = same-sizes (live (slots mid)) (over_clause keep gone ∷ live (slots k)) mid_clauses in
         let l = over-short keep gone in
         let m = back-short keep gone in
         record {
           ordered = back-ordered keep gone;
-          first = first-first (back_clause keep gone);
+          first = first-of (back_clause keep gone);
           step = record {
             valid = (
               (λ j n. mid_bound j (back_within j n)),
@@ -137,7 +137,7 @@ module _ (keep gone : Literal) (k : Seen) (fits : Mergeable k.prefix (live (slot
       built =
           let l = over-short keep gone in
           let m = back-short keep gone in
-          let e = sizes-alike (live (slots new)) (over_clause keep gone ∷ back_clause keep gone ∷ live (slots k)) new_clauses in
+          let e = same-sizes (live (slots new)) (over_clause keep gone ∷ back_clause keep gone ∷ live (slots k)) new_clauses in
           record {
             led = led-through k mid new a.logged.led b.logged.led;
             prefix = b.prefix ∙ a.prefix;
@@ -206,7 +206,7 @@ module _ (keep gone : Literal) (M : Matrix) (free : (D : Clause) → IsIn D M �
 
       go : (D : Clause) → IsIn D (back_clause keep gone ∷ M) → IsIn (negation gone) D → Implied (back_clause keep gone ∷ M) (over_clause keep gone ++ outer k.prefix (negation gone) D)
       go D (inl e) i = implied-tautology (back_clause keep gone ∷ M) (over_clause keep gone ++ outer k.prefix (negation gone) D)
-          (keep, IsIn-right keep (over_clause keep gone) (outer k.prefix (negation gone) D) (IsIn-outer_in k.prefix (negation gone) D keep (subst (λ (x : Clause). IsIn keep x) (sym e) (back-first keep gone)) kept), IsIn-append_left (negation keep) (over_clause keep gone) (outer k.prefix (negation gone) D) (over-first keep gone))
+          (keep, IsIn-append_right keep (over_clause keep gone) (outer k.prefix (negation gone) D) (IsIn-outer_in k.prefix (negation gone) D keep (subst (λ (x : Clause). IsIn keep x) (sym e) (back-first keep gone)) kept), IsIn-append_left (negation keep) (over_clause keep gone) (outer k.prefix (negation gone) D) (over-first keep gone))
       go D (inr m) i = absurd (not_there D m (negation gone) refl i)
 
   back_pivot : ExistsPivot k.prefix M (back_clause keep gone) (negation gone)
@@ -301,7 +301,7 @@ module _ (keep gone : Literal) (M : Matrix) (free : (D : Clause) → IsIn D M �
 -- All steps together make the change.
 pub merge-changed : (keep gone : Literal) (old new : Seen) → IsInLimits standard (formula_in old) → IsLed old new → new.prefix ≡ old.prefix → SameClauses (live (slots new)) (merged keep gone (live (slots old))) → 16 * (size_of (live (slots new)) + length new.prefix) ≤ new.spare_bytes → IsChanged old new (merge keep gone)
 merge-changed keep gone old new limits led p s b =
-    let e = sizes-alike (live (slots new)) (merged keep gone (live (slots old))) s in
+    let e = same-sizes (live (slots new)) (merged keep gone (live (slots old))) s in
     let l = merged-less keep gone (live (slots old)) in
     record {
       led = led;

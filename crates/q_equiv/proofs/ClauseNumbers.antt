@@ -1,9 +1,11 @@
 -- Numbers of clauses, all together.
 use Rattle.std.proofs.Common.{◌≡◌, ◌≤◌, Contains, ◌+◌, ◌⊎◌, ℕ, zero, suc, Bool, true, false, cond, eqb, not, ◌||◌, List, [], ◌∷◌, ◌++◌, inl, inr, arith, refl, sym, ap, ◌∙◌, subst, Option, Some, None, length}
+use Rattle.std.proofs.lemmas.Option.{none-some}
+use Rattle.std.proofs.lemmas.Bool.{cases_eq}
 use Rattle.q_logic.specs.Prelude.{Literal, negation, Clause, Matrix, IsIn, has_variable, has, with_literal, one_less, clause_eq, copies, Slots, slot, set_slot, live}
 use Rattle.q_logic.proofs.Common.{clause_eq-sound, weight, IsIn-has, SameClauses, clause_eq-itself, IsIn-alike, IsIn-copies, alike-trans, alike-uncons, one_less-alike}
-use Rattle.q_kernel.proofs.Basics.{ℕ-cases, none-some}
-use Rattle.q_kernel.proofs.SlotLists.{IsIn-slot, slot-set_other}
+use Rattle.q_logic.proofs.HintChains.{live-number}
+use Rattle.q_kernel.proofs.SlotLists.{slot-set_other}
 use Rattle.q_kernel.proofs.DistinctMembers.{Contains-none, Contains-first}
 use Rattle.q_rule.proofs.RuleResults.{slot-none}
 use Rattle.q_equiv.specs.Changing.{total_with, one}
@@ -74,7 +76,7 @@ weight-gone w l (Some C ∷ N) (suc c) = go (has l C) (weight-gone w l N c)
     go false i = i
 
 weight_at-gone : (w : Clause → ℕ) (N : Slots) (c d : ℕ) → weight_at w (slot (set_slot c None N) d) ≤ weight_at w (slot N d)
-weight_at-gone w N c d = elim (ℕ-cases d c) [
+weight_at-gone w N c d = elim (cases_eq d c) [
   | inl e ↦ subst (λ (x : ℕ). weight_at w (slot (set_slot c None N) x) ≤ weight_at w (slot N x)) (sym e) (subst (λ o. weight_at w o ≤ weight_at w (slot N c)) (sym (slot-none c N)) (omega arith))
   | inr n ↦ subst (λ o. weight_at w o ≤ weight_at w (slot N d)) (sym (slot-set_other c d None N n)) (omega arith)
 ]
@@ -88,12 +90,12 @@ no_clause w l [] h = omega arith
 no_clause w l (C ∷ X) h = go (has l C) refl (no_clause w l X (λ D m. h D (inr m)))
   where
     go : (b : Bool) → has l C ≡ b → weight w (with_literal l X) ≤ 0 → weight w (cond b (C ∷ with_literal l X) (with_literal l X)) ≤ 0
-    go true e i = absurd (h C (inl refl) (Rattle.q_logic.proofs.NumberedClauses.has-IsIn l C e))
+    go true e i = absurd (h C (inl refl) (Rattle.q_logic.proofs.ClauseLemmas.has-IsIn l C e))
     go false e i = i
 
 -- Where each clause with a literal has one of the ids.
 pub weight-listed : (w : Clause → ℕ) (l : Literal) (N : Slots) (ds : List ℕ) → ((d : ℕ) → ((D : Clause) × (slot N d ≡ Some D) × IsIn l D) → Contains ds d) → weight w (with_literal l (live N)) ≤ total_at w N ds
-weight-listed w l N [] h = no_clause w l (live N) (λ D m i. let d = IsIn-slot N D m in Contains-none d.0 (h d.0 (D, d.1, i)))
+weight-listed w l N [] h = no_clause w l (live N) (λ D m i. let d = live-number N D m in Contains-none d.0 (h d.0 (D, d.1, i)))
 weight-listed w l N (c ∷ ds) h =
     let M : Slots = set_slot c None N in
     let i : weight w (with_literal l (live M)) ≤ total_at w M ds = weight-listed w l M ds fewer in
@@ -102,7 +104,7 @@ weight-listed w l N (c ∷ ds) h =
     omega arith
   where
     fewer : (d : ℕ) → ((D : Clause) × (slot (set_slot c None N) d ≡ Some D) × IsIn l D) → Contains ds d
-    fewer d (D, e, i) = elim (ℕ-cases d c) [
+    fewer d (D, e, i) = elim (cases_eq d c) [
       | inl f ↦ absurd (none-some D (sym (slot-none c N) ∙ (ap (slot (set_slot c None N)) (sym f) ∙ e)))
       | inr n ↦ elim (Contains-first c ds d (h d (D, sym (slot-set_other c d None N n) ∙ e, i))) [ inl g ↦ absurd (n g) | inr g ↦ g ]
     ]

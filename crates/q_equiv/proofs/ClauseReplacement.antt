@@ -1,36 +1,15 @@
 -- A clause in the place of another one.
-use Rattle.std.proofs.Common.{◌≡◌, ◌≢◌, ◌≤◌, ◌<◌, ◌+◌, ◌*◌, ℕ, Bool, true, false, ◌||◌, [], ◌∷◌, inl, inr, arith, refl, sym, ap, ◌∙◌, subst, Option, Some, None, length, true≢false}
+use Rattle.std.proofs.Common.{◌≡◌, ◌≢◌, ◌≤◌, ◌<◌, ◌+◌, ◌*◌, ℕ, true, false, ◌∷◌, inl, arith, sym, ap, ◌∙◌, subst, Option, Some, None, length}
 use Rattle.std.proofs.lemmas.Option.{same_Some}
-use Rattle.q_logic.specs.Prelude.{Literal, negation, literal_eq, Clause, Matrix, Prefix, IsIn, Implied, add, delete, one_less, first_of, has, is_tautology, IsTautology, Slots, slot, live, others}
-use Rattle.q_logic.proofs.Common.{literal_eq-itself, literal_eq-negation, IsIn-has, live-slot, slot-alike, implied-more_clauses, negation-negation, SameClauses, IsIn-alike, alike-refl, alike-sym, alike-trans, alike-cons, alike-uncons, alike-swap}
+use Rattle.q_logic.specs.Prelude.{Clause, Matrix, Prefix, IsIn, Implied, add, delete, one_less, first_of, is_tautology, Slots, slot, live, others}
+use Rattle.q_logic.proofs.Common.{live-slot, slot-alike, implied-more_clauses, SameClauses, IsIn-alike, alike-refl, alike-sym, alike-trans, alike-cons, alike-uncons, alike-swap, live-gone, length-set_slot, slot-below}
 use Rattle.q_log.specs.Texts.{step_text}
+use Rattle.q_log.proofs.WritableRuns.{first-of}
 use Rattle.q_kernel.specs.Prelude.{Seen, slots, formula_in, IsSound, MayAdd, IsAdded, MayDelete, IsDeleted}
-use Rattle.q_kernel.proofs.SlotLists.{length-set_slot, slot-below, slot-set_other, live-gone, alike-added, alike-others}
+use Rattle.q_kernel.proofs.SlotLists.{slot-set_other, alike-added, alike-others}
 use Rattle.q_kernel.proofs.KernelRuns.{led-through}
-use Rattle.q_kernel.proofs.TextCosts.{first-first, cost-add, cost-delete, within-small, proper-small, proper-in_order}
+use Rattle.q_kernel.proofs.TextCosts.{cost-add, cost-delete, within-small, proper-small, proper-in_order}
 use Rattle.q_equiv.specs.Changing.{MayReplace, IsReplaced}
-
--- Tautologies.
-not_both : (k j : Literal) → k ≡ j → negation k ≡ j → ⊥
-not_both k j e f = let a = literal_eq-negation k in let b : literal_eq k (negation k) ≡ true = subst (λ (z : Literal). literal_eq k z ≡ true) (e ∙ sym f) (literal_eq-itself k) in true≢false (sym b ∙ a)
-
-pub tautology-is : (C : Clause) → IsTautology C → is_tautology C ≡ true
-tautology-is [] (k, m, n) = absurd m
-tautology-is (j ∷ C) (k, inl e, inl f) = absurd (not_both k j e f)
-tautology-is (j ∷ C) (k, inl e, inr n) = let h : has (negation j) C ≡ true = IsIn-has (negation j) C (subst (λ (z : Literal). IsIn (negation z) C) e n) in rw h refl
-tautology-is (j ∷ C) (k, inr m, inl f) = let h : has (negation j) C ≡ true = IsIn-has (negation j) C (subst (λ (z : Literal). IsIn z C) (sym (negation-negation k) ∙ ap negation f) m) in rw h refl
-tautology-is (j ∷ C) (k, inr m, inr n) = let h : is_tautology C ≡ true = tautology-is C (k, m, n) in go (has (negation j) C) h
-  where
-    go : (b : Bool) → is_tautology C ≡ true → (b || is_tautology C) ≡ true
-    go true h = refl
-    go false h = h
-
-pub not_tautology : (C : Clause) → (IsTautology C → ⊥) → is_tautology C ≡ false
-not_tautology C h = go (is_tautology C) refl
-  where
-    go : (b : Bool) → is_tautology C ≡ b → b ≡ false
-    go true e = absurd (h (Rattle.q_logic.proofs.JoinedClauses.is_tautology-sound C e))
-    go false e = refl
 
 none : (C : Clause) → (let o : Option Clause = None in o ≡ Some C) → ⊥
 none C e = cc
@@ -40,17 +19,17 @@ module _ (old : Seen) (id : ℕ) (R : Clause) (h : MayReplace old id R) (s : IsS
   inside = live-slot (slots old) id h.clause h.there
 
   cost : length (step_text (delete (first_of h.clause) h.clause)) ≤ 16 * (length h.clause + 1)
-  cost = cost-delete (first_of h.clause) h.clause (proper-in_order (formula_in old) h.clause s.proper inside) (first-first h.clause) (proper-small (formula_in old) h.clause s.proper inside)
+  cost = cost-delete (first_of h.clause) h.clause (proper-in_order (formula_in old) h.clause s.proper inside) (first-of h.clause) (proper-small (formula_in old) h.clause s.proper inside)
 
   cost_new : length (step_text (add (first_of R) R)) ≤ 16 * (length R + 1)
-  cost_new = cost-add (first_of R) R h.ordered (first-first R) (within-small (formula_in old) R s.proper h.within)
+  cost_new = cost-add (first_of R) R h.ordered (first-of R) (within-small (formula_in old) R s.proper h.within)
 
   -- where the new one is a tautology
   pub may-go_alone : is_tautology R ≡ true → MayDelete old id first_of
   may-go_alone t = record {
     clause = h.clause;
     there = h.there;
-    first = first-first h.clause;
+    first = first-of h.clause;
     step = record {
       valid = (
         (λ j m. s.proper.formula.closed h.clause inside j m),
@@ -78,7 +57,7 @@ module _ (old : Seen) (id : ℕ) (R : Clause) (h : MayReplace old id R) (s : IsS
   pub may-come : MayAdd old (first_of R) R
   may-come = record {
     ordered = h.ordered;
-    first = first-first R;
+    first = first-of R;
     step = record {
       valid = (h.within, inl h.may_come, h.limits);
       bytes = let c = cost_new in let b = h.bytes in omega arith;
@@ -117,7 +96,7 @@ module _ (old : Seen) (id : ℕ) (R : Clause) (h : MayReplace old id R) (s : IsS
         record {
           clause = C;
           there = still;
-          first = first-first C;
+          first = first-of C;
           step = record {
             valid = (
               (λ k m. subst (λ (P : Prefix). Rattle.q_logic.specs.Prefixes.is_bound P k.var ≡ true) (sym a.prefix) (s.proper.formula.closed C inside k m)),

@@ -3,7 +3,7 @@ use Rattle.std.proofs.Common.{◌≡◌, ◌≢◌, ◌≤◌, ◌<◌, ◌+◌,
 use Rattle.std.proofs.lemmas.Option.{same_Some}
 use Rattle.q_logic.specs.Prelude.{Literal, IsBelow, negation, Clause, Matrix, IsIn, ArePairs, Slots, slot, live}
 use Rattle.q_logic.proofs.Common.{negation-negation}
-use Rattle.q_kernel.proofs.SlotLists.{IsIn-slot}
+use Rattle.q_logic.proofs.HintChains.{live-number}
 use Rattle.q_equiv.specs.Walks.{level_of, NeverRise}
 use Rattle.q_equiv.proofs.BinaryClauses.{binary-own, pair-other}
 
@@ -36,7 +36,7 @@ pair-falls levels (i ∷ j ∷ []) a b n e f g h x y w = elim w.there [
     go (inr (inr z)) m = absurd z
 
 pub all-fall : (levels : List ℕ) (N : Slots) → ((c : ℕ) (D : Clause) → slot N c ≡ Some D → NeverRise levels (D ∷ [])) → NeverRise levels (live N)
-all-fall levels N h x y b = let d = IsIn-slot N b.clause b.there in h d.0 b.clause d.1 x y (binary-own (live N) x y b)
+all-fall levels N h x y b = let d = live-number N b.clause b.there in h d.0 b.clause d.1 x y (binary-own (live N) x y b)
 
 pub none-rise : (X : Matrix) → NeverRise [] X
 none-rise X x y b = omega arith

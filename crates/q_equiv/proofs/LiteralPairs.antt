@@ -1,5 +1,5 @@
 -- Both literals of a variable may go, or neither.
-use Rattle.std.proofs.Common.{◌≡◌, ◌≤◌, ◌↔◌, Result, Ok, Err, IfOk, IsTrue, ℕ, Bool, true, false, not, List, refl, sym, ◌∙◌, ap, subst, inl, inr, arith}
+use Rattle.std.proofs.Common.{◌≡◌, ◌≤◌, ℕ, Bool, true, false, not, List, refl, sym, ◌∙◌, ap, subst, inl, inr, arith}
 use Rattle.q_logic.specs.Prelude.{Literal, negation, Matrix, Prefix, IsIn, Binary, Joined, Mergeable, merge, place, Fits, live, greatest, standard, IsInLimits}
 use Rattle.q_logic.specs.declared.rule_bounds.Bounds.{Bounds}
 use Rattle.q_logic.proofs.Common.{existential-is_bound, is_bound-greatest, negation-negation}
@@ -76,8 +76,3 @@ turned-mergeable P X keep gone s j = (
   λ t. record { different = s.different; existential = s.existential; kept_outer = s.kept_outer; to_gone = back-way X keep gone t; to_keep = j },
   λ m. joined-turned X gone keep m.to_gone,
 )
-
--- A test of one thing is a test of another one that is as good.
-pub same-test : {E : Type 0} (P Q : Type 0) (answer : Result Bool E) → P ↔ Q → IfOk answer (λ b. IsTrue b ↔ P) → IfOk answer (λ b. IsTrue b ↔ Q)
-same-test P Q (Ok b) h f = ((λ t. h.0 (f.0 t)), (λ q. f.1 (h.1 q)))
-same-test P Q (Err e) h f = f

@@ -1,10 +1,12 @@
 -- Turn by turn keep takes the place of gone.
 use Rattle.std.proofs.Common.{◌≡◌, ◌≢◌, ◌≤◌, ◌⊎◌, ℕ, Bool, true, false, cond, eqb, [], ◌∷◌, inl, inr, arith, refl, sym, ap, ◌∙◌, subst, Option, Some, None, true≢false}
-use Rattle.q_logic.specs.Prelude.{Literal, negation, literal_eq, Clause, Matrix, IsIn, has_variable, one_less, clause_eq, is_tautology, put_unless_tautology, Slots, slot, set_slot, live, others, merged, merged_one, renamed, copies}
-use Rattle.q_logic.proofs.Common.{literal_eq-itself, literal_eq-negation, slot-alike, insert-IsIn, IsIn-insert, clause_eq-sound, SameClauses, clause_eq-itself, IsIn-alike, IsIn-copies, alike-refl, alike-sym, alike-trans, alike-cons, alike-uncons, alike-swap, one_less-alike}
+use Rattle.q_logic.specs.Prelude.{Literal, negation, Clause, Matrix, IsIn, has_variable, one_less, clause_eq, is_tautology, put_unless_tautology, Slots, slot, set_slot, live, others, merged, merged_one, renamed, copies}
+use Rattle.q_logic.proofs.Common.{slot-alike, insert-IsIn, IsIn-insert, clause_eq-sound, SameClauses, clause_eq-itself, IsIn-alike, IsIn-copies, alike-refl, alike-sym, alike-trans, alike-cons, alike-uncons, alike-swap, one_less-alike, live-gone, not-negation}
 use Rattle.q_logic.proofs.MergeRun.{renamed-free}
+use Rattle.q_logic.proofs.ClauseLoops.{no_var}
+use Rattle.q_logic.proofs.HintChains.{live-number}
 use Rattle.q_kernel.specs.Prelude.{Seen, slots}
-use Rattle.q_kernel.proofs.SlotLists.{slot-set_other, live-gone, IsIn-slot}
+use Rattle.q_kernel.proofs.SlotLists.{slot-set_other}
 use Rattle.q_rule.proofs.RuleResults.{slot-none}
 use Rattle.q_equiv.specs.declared.bridge.Bridge.{Bridge}
 use Rattle.q_equiv.specs.Changing.{over_clause, back_clause, IsBridged}
@@ -83,12 +85,8 @@ module _ (keep gone : Literal) where
   merged-none [] h = refl
   merged-none (C ∷ X) h = let e : has_variable gone.var C ≡ false = h C (inl refl) in rw e (ap (λ (Y : Matrix). C ∷ Y) (merged-none X (λ D m. h D (inr m))))
 
-  without_variable : (v : ℕ) (C : Clause) → ((k : Literal) → IsIn k C → eqb k.var v ≡ false) → has_variable v C ≡ false
-  without_variable v [] h = refl
-  without_variable v (k ∷ C) h = let a : eqb k.var v ≡ false = h k (inl refl) in let b : has_variable v C ≡ false = without_variable v C (λ j m. h j (inr m)) in rw (a, b) refl
-
   pub renamed-without : (C : Clause) → eqb keep.var gone.var ≡ false → has_variable gone.var (renamed keep gone C) ≡ false
-  renamed-without C d = without_variable gone.var (renamed keep gone C) (renamed-free keep gone C d)
+  renamed-without C d = no_var gone.var (renamed keep gone C) (renamed-free keep gone C d)
 
   -- a renamed clause stays as it is
   pub merged-put : (C : Clause) (X : Matrix) → eqb keep.var gone.var ≡ false → has_variable gone.var C ≡ true → merged keep gone (put_unless_tautology (renamed keep gone C) X) ≡ merged keep gone (C ∷ X)
@@ -111,7 +109,7 @@ two-apart N a b A B e f n =
 -- what is left when two are out
 pub IsIn-left : (N : Slots) (a b : ℕ) (D : Clause) → IsIn D (live (set_slot b None (set_slot a None N))) → (c : ℕ) × (c ≢ a) × (c ≢ b) × (slot N c ≡ Some D)
 IsIn-left N a b D m =
-    let r = IsIn-slot (set_slot b None (set_slot a None N)) D m in
+    let r = live-number (set_slot b None (set_slot a None N)) D m in
     let p : r.0 ≢ b = λ e. gone (sym (slot-none b (set_slot a None N)) ∙ (ap (slot (set_slot b None (set_slot a None N))) (sym e) ∙ r.1)) in
     let s : slot (set_slot a None N) r.0 ≡ Some D = sym (slot-set_other b r.0 None (set_slot a None N) p) ∙ r.1 in
     let q : r.0 ≢ a = λ e. gone (sym (slot-none a N) ∙ (ap (slot (set_slot a None N)) (sym e) ∙ s)) in
@@ -139,14 +137,11 @@ back-first keep gone = IsIn-insert keep (negation gone ∷ []) keep (inl refl)
 pub back-second : (keep gone : Literal) → IsIn (negation gone) (back_clause keep gone)
 back-second keep gone = IsIn-insert keep (negation gone ∷ []) (negation gone) (inr (inl refl))
 
-other_sign : (k : Literal) → k ≡ negation k → ⊥
-other_sign k e = let a = literal_eq-negation k in let b : literal_eq k (negation k) ≡ true = subst (λ (z : Literal). literal_eq k z ≡ true) e (literal_eq-itself k) in true≢false (sym b ∙ a)
-
 pub bridge-apart : (keep gone : Literal) (k : Seen) (b : Bridge) → eqb keep.var gone.var ≡ false → IsBridged keep gone k b → b.back ≢ b.over
 bridge-apart keep gone k b d h e =
     let same : back_clause keep gone ≡ over_clause keep gone = one_of (sym h.back ∙ (ap (slot (slots k)) e ∙ h.over)) in
     elim (over-cases keep gone keep (subst (λ (C : Clause). IsIn keep C) same (back-first keep gone))) [
-      | inl f ↦ other_sign keep f
+      | inl f ↦ not-negation keep f
       | inr f ↦ let v : keep.var ≡ gone.var = ap (λ (x : Literal). x.var) f in let z : eqb gone.var gone.var ≡ false = subst (λ (n : ℕ). eqb n gone.var ≡ false) v d in grind arith
     ]
   where

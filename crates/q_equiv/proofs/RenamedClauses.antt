@@ -1,11 +1,11 @@
 -- One turn: a clause is renamed. And what is left at the end.
 use Rattle.std.proofs.Common.{◌≡◌, ◌≢◌, ◌≤◌, ◌+◌, ◌*◌, ◌⊎◌, ℕ, Bool, true, false, cond, [], ◌∷◌, inl, inr, arith, refl, sym, ap, ◌∙◌, subst, Some, None, length}
 use Rattle.q_logic.specs.Prelude.{Literal, negation, Clause, Matrix, Prefix, IsIn, is_bound, has_variable, literals_in, Within, is_tautology, put_unless_tautology, Slots, slot, set_slot, live, others, merged, renamed, renamed_literal}
-use Rattle.q_logic.proofs.Common.{live-slot, others-slot, slot-alike, insert-IsIn, put_unless-IsIn, put_unless-more, ordered-pairs, renamed-ordered, SameClauses, IsIn-alike, alike-refl, alike-sym, alike-trans, alike-cons, alike-uncons, alike-swap}
+use Rattle.q_logic.proofs.Common.{live-slot, others-slot, slot-alike, insert-IsIn, put_unless-IsIn, put_unless-more, ordered-pairs, renamed-ordered, SameClauses, IsIn-alike, alike-refl, alike-sym, alike-trans, alike-cons, alike-uncons, alike-swap, live-gone, same-sizes}
 use Rattle.q_logic.proofs.MergeRun.{Linked, renamed_literal-cases, renamed-implied, implied-by_renamed, renamed-length, outer_or_same-is_bound}
 use Rattle.q_kernel.specs.Prelude.{Seen, slots, IsSound, IsLed}
-use Rattle.q_kernel.proofs.SlotLists.{slot-set_other, live-gone, length-others, literals-others, size-parts}
-use Rattle.q_kernel.proofs.KernelRuns.{led-through, led-itself, sizes-alike}
+use Rattle.q_kernel.proofs.SlotLists.{slot-set_other, length-others, literals-others, size-parts}
+use Rattle.q_kernel.proofs.KernelRuns.{led-through, led-itself}
 use Rattle.q_equiv.specs.declared.bridge.Bridge.{Bridge}
 use Rattle.q_equiv.specs.Changing.{CanStandFor, over_clause, back_clause, total_with, one, size, HasRenamingRoom, IsBridged, IsRenamed, MayReplace, IsReplaced}
 use Rattle.q_equiv.proofs.ClauseNumbers.{total-alike}
@@ -124,7 +124,7 @@ module _ (keep gone : Literal) (b : Bridge) (now : Seen) (stands : CanStandFor n
 
     counts : (length (live (slots new)) ≤ length (live (slots now))) × (literals_in (live (slots new)) ≤ literals_in (live (slots now)))
     counts =
-        let e = sizes-alike (live (slots new)) (put_unless_tautology (renamed keep gone C) (others id (slots now))) h.clauses in
+        let e = same-sizes (live (slots new)) (put_unless_tautology (renamed keep gone C) (others id (slots now))) h.clauses in
         let a = length-put (renamed keep gone C) (others id (slots now)) in
         let c = literals-put (renamed keep gone C) (others id (slots now)) in
         let x = length-others (slots now) id C there in

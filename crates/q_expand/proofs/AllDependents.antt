@@ -5,10 +5,11 @@ use Rattle.q_logic.proofs.Common.{weight, has-IsIn, IsIn-has, has_variable-IsIn,
 use Rattle.q_logic.proofs.LeastClosure.{expansion_vars-least}
 use Rattle.q_logic.proofs.ExpandPrefix.{AllE, below}
 use Rattle.q_logic.proofs.ExpandLinks.{minus}
+use Rattle.q_logic.proofs.HintChains.{live-number}
 use Rattle.q_kernel.specs.Lists.{Has}
 use Rattle.q_kernel.specs.Prelude.{holders_of, Seen, slots, IsSound, formula_in}
 use Rattle.q_kernel.proofs.TextCosts.{proper-in_order}
-use Rattle.q_kernel.proofs.SlotLists.{IsIn-slot, size-parts}
+use Rattle.q_kernel.proofs.SlotLists.{size-parts}
 use Rattle.q_expand.specs.Dependents.{Walked, tally, IsWhole}
 use Rattle.q_expand.proofs.ClauseWeights.{tally-all}
 use Rattle.q_expand.proofs.HolderIds.{holders-counted}
@@ -86,7 +87,7 @@ module _ (k : Seen) (u : ℕ) (r : Walked) (s : IsSound k) (w : IsWhole k u r) w
   -- no clause holds u and its negation
   pub clean-whole : (D : Clause) → IsIn D (live (slots k)) → IsIn (positive u) D → IsIn (minus u) D → ⊥
   clean-whole D m p n =
-      let c = IsIn-slot (slots k) D m in
+      let c = live-number (slots k) D m in
       w.dependents.clean c.0 D (w.all_met c.0 D c.1 (variable-connected k.prefix (live (slots k)) u D (has_variable-IsIn D (positive u) p))) c.1 p n
 
   pub vars-existential : AllE k.prefix (expansion_vars k.prefix (live (slots k)) u)

@@ -1,9 +1,11 @@
 -- What the steps of an expansion take: words, ids, variables and bytes of the log.
 use Rattle.std.proofs.Common.{◌≡◌, ◌≤◌, ◌+◌, ◌*◌, ℕ, Bool, true, false, cond, List, [], ◌∷◌, ◌++◌, length, refl, arith}
 use Rattle.q_logic.proofs.MeasureFalls.{size-append}
-use Rattle.q_logic.specs.Prelude.{Literal, Clause, Matrix, insert, size_of, has, positive, first_of, without, ProofStep, add, delete, drop_literal, fresh, remove_variable, shares, copied, copied_literal}
+use Rattle.q_logic.specs.Prelude.{Literal, Clause, Matrix, insert, size_of, has, positive, first_of, without, ProofStep, add, delete, drop_literal, fresh, remove_variable, shares, copied}
 use Rattle.q_logic.proofs.Common.{insert-length, without-shorter, rise, one, weight, FreshUpTo}
 use Rattle.q_logic.proofs.ExpandLinks.{minus}
+use Rattle.q_logic.proofs.MeasureFallsExpand.{copied-length}
+use Rattle.q_logic.proofs.Heights.{fresh-append}
 use Rattle.q_expand.specs.Tracks.{price, words_for, ids_for, vars_for, total, AreReserved}
 use Rattle.q_expand.specs.Steps.{each_with, copy_step, of_sign, linked, link_steps, unlink_steps, over_copies, split_steps, all_split, course}
 use Rattle.q_expand.proofs.ExpansionBounds.{long}
@@ -57,10 +59,6 @@ link-length u a b =
     omega arith
 
 -- Steps for each clause.
-copied-length : (V : List ℕ) (t : ℕ) (C : Clause) → length (copied V t C) ≤ length C
-copied-length V t [] = omega arith
-copied-length V t (k ∷ C) = let i = copied-length V t C in let j = insert-length (copied_literal V t k) (copied V t C) in omega arith
-
 over-length : (u : ℕ) (V : List ℕ) (t : ℕ) (D : Clause) → length (over_copies u V t D) ≤ length D + 1
 over-length u V t D =
     let i = insert-length (minus u) (copied V t (without (minus u) D)) in
@@ -193,14 +191,6 @@ rise-words (fresh v x ∷ ss) = let i = rise-words ss in omega arith
 rise-words (remove_variable v ∷ ss) = let i = rise-words ss in omega arith
 
 -- The fresh variables.
-fresh-append : (m : ℕ) (ss more : List ProofStep) → FreshUpTo m ss → FreshUpTo m more → FreshUpTo m (ss ++ more)
-fresh-append m [] more f g = g
-fresh-append m (add p C ∷ ss) more f g = fresh-append m ss more f g
-fresh-append m (delete p C ∷ ss) more f g = fresh-append m ss more f g
-fresh-append m (drop_literal l C ∷ ss) more f g = fresh-append m ss more f g
-fresh-append m (fresh v x ∷ ss) more f g = (f.0, f.1, fresh-append m ss more f.2 g)
-fresh-append m (remove_variable v ∷ ss) more f g = fresh-append m ss more f g
-
 fresh-copies : (V : List ℕ) (t m : ℕ) → 1 ≤ t → t + length V ≤ m + 1 → FreshUpTo m (each_with copy_step V t)
 fresh-copies [] t m o l = tt
 fresh-copies (x ∷ V) t m o l = (o, omega arith, fresh-copies V (t + 1) m (omega arith) (omega arith))

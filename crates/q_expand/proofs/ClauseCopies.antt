@@ -3,9 +3,8 @@ use Rattle.std.proofs.Common.{◌≡◌, ◌⊎◌, ◌≤◌, ◌<◌, ◌+◌,
 use Rattle.std.proofs.lemmas.Bool.Decides.{nat_tests}
 use Rattle.q_logic.proofs.ExpandPrefix.{copy_of-out}
 use Rattle.q_logic.specs.Prelude.{Literal, IsBelow, pack, Clause, IsIn, insert, ArePairs, in_list, copy_of, copied_literal, copied}
-use Rattle.q_logic.proofs.Common.{copied-IsIn}
-use Rattle.q_rule.proofs.MarkChanges.{pack-apart}
-use Rattle.q_expand.proofs.HolderIds.{below-itself, below-member}
+use Rattle.q_logic.proofs.Common.{copied-IsIn, pack-same, before-self}
+use Rattle.q_expand.proofs.HolderIds.{below-member}
 
 -- copies are t or more, and below t is what has none
 copy-above : (V : List ℕ) (t x : ℕ) → in_list x V ≡ true → t ≤ copy_of V t x
@@ -40,7 +39,7 @@ insert-new l (k ∷ C) n = go (nat_lt (pack l) (pack k)) (pack l == pack k) refl
   where
     go : (a b : Bool) → (pack l == pack k) ≡ b → length (insert l C) ≡ length C + 1 → length (cond a (l ∷ k ∷ C) (cond b (k ∷ C) (k ∷ insert l C))) ≡ length (k ∷ C) + 1
     go true b e i = omega arith
-    go false true e i = absurd (n (inl (pack-apart l k (grind (arith, nat_tests)))))
+    go false true e i = absurd (n (inl (pack-same l k (grind (arith, nat_tests)))))
     go false false e i = omega arith
 
 pub copied-long : (V : List ℕ) (t : ℕ) (C : Clause) → ArePairs IsBelow C → ((k : Literal) → IsIn k C → k.var < t) → length (copied V t C) ≡ length C
@@ -56,4 +55,4 @@ copied-long V t (k ∷ C) o h =
         let v : k.var ≡ r.0.var = copy-apart V t t k.var r.0.var (omega arith) (h k (inl refl)) (h r.0 (inr r.1)) (ap (λ (x : Literal). x.var) r.2) in
         let s : k.negative ≡ r.0.negative = ap (λ (x : Literal). x.negative) r.2 in
         let q : k ≡ r.0 = λ i. record { var = v i; negative = s i } in
-        below-itself k (below-member (IsBelow k) C k o.0 (subst (λ (x : Literal). IsIn x C) (sym q) r.1))
+        before-self k (below-member (IsBelow k) C k o.0 (subst (λ (x : Literal). IsIn x C) (sym q) r.1))

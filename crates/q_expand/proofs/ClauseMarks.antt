@@ -1,9 +1,9 @@
 -- Marks of clauses that come and go.
 use Rattle.std.proofs.Common.{◌≡◌, ◌⊎◌, ℕ, zero, suc, ◌<◌, ◌≤◌, Bool, true, false, List, [], ◌∷◌, ◌++◌, length, get_or, set, drop, sym, ◌∙◌, subst, refl, inl, inr, arith, true≢false, get_or-set_same, get_or-set_other}
-use Rattle.q_kernel.proofs.Basics.{ℕ-cases}
+use Rattle.std.proofs.lemmas.Bool.{cases_eq}
+use Rattle.q_logic.proofs.Common.{mark_room}
 use Rattle.q_kernel.specs.Lists.{Has, Misses, AreApart}
 use Rattle.q_kernel.proofs.LiteralLists.{Has-last}
-use Rattle.q_rule.proofs.MarkChanges.{mark_room}
 use Rattle.q_expand.specs.Ids.{AreNoted}
 
 pub Has-left : (xs ys : List ℕ) (p : ℕ) → Has xs p → Has (xs ++ ys) p
@@ -29,7 +29,7 @@ noted-along marks more ids e h c = rw (e c) (h c)
 
 pub noted-pushed : (marks : List Bool) (ids : List ℕ) (c : ℕ) → c < length marks → AreNoted marks ids → AreNoted (set marks c true) (ids ++ c ∷ [])
 noted-pushed marks ids c room h k =
-    elim (ℕ-cases c k) [
+    elim (cases_eq c k) [
       | inl e ↦ (
         λ m. subst (λ (j : ℕ). Has (ids ++ c ∷ []) j) e (Has-end ids c),
         λ m. rw (← e) (get_or-set_same marks c true false room),
@@ -59,7 +59,7 @@ same_item (x ∷ xs) (suc j) a b h e f = same_item xs j a b (omega arith) e f
 
 pub unnoted-more : (marks : List Bool) (ids : List ℕ) (i c : ℕ) → i < length ids → c ≡ get_or ids i 0 → c < length marks → AreNotedFrom marks ids i → AreNotedFrom (set marks c false) ids (suc i)
 unnoted-more marks ids i c within is room h k m =
-    elim (ℕ-cases c k) [
+    elim (cases_eq c k) [
       | inl e ↦ absurd (true≢false (sym m ∙ rw (← e) (get_or-set_same marks c false false room)))
       | inr n ↦ elim (next_has ids i k within (h k (sym (get_or-set_other marks c k false false (λ e. n (sym e))) ∙ m))) [
         | inl e ↦ absurd (n (same_item ids i c k within is e))

@@ -1,7 +1,7 @@
 -- What is to become of a clause, and the clauses that come of it.
 use Rattle.std.proofs.Common.{◌≡◌, ◌≤◌, ◌<◌, ◌+◌, ℕ, suc, Bool, true, false, cond, List, [], ◌∷◌, ◌++◌, length, take, get_or, Some, None, Option, refl, sym, ◌∙◌, ap, subst, arith, true≢false, append_assoc, append-nil}
 use Rattle.q_logic.specs.Prelude.{Literal, IsBelow, negation, literal_eq, Clause, Matrix, IsIn, insert, clause_of, has, positive, ProofStep, without, ArePairs, Slots, slot, put_first, clauses_at, shares, copied, copied_literal}
-use Rattle.q_logic.proofs.Common.{IsIn-has, has_none}
+use Rattle.q_logic.proofs.Common.{IsIn-has, has_none, taken}
 use Rattle.q_expand.specs.declared.splitting.Part.TheVariants.{Turns, Splits}
 use Rattle.q_expand.specs.Steps.{over_copies, split_steps, steps_for, all_split}
 
@@ -63,9 +63,6 @@ without-append l (k ∷ C) D = go (literal_eq k l) (without-append l C D)
     go : (b : Bool) → without l (C ++ D) ≡ without l C ++ without l D → cond b (without l (C ++ D)) (k ∷ without l (C ++ D)) ≡ cond b (without l C) (k ∷ without l C) ++ without l D
     go true i = i
     go false i = ap (λ (ks : List Literal). k ∷ ks) i
-
-pub taken : (xs : List Literal) (n : ℕ) (y : Literal) → n < length xs → y ≡ get_or xs n y → take (n + 1) xs ≡ take n xs ++ y ∷ []
-taken xs n y h e = let t = Rattle.std.proofs.lemmas.List.take_more xs n y h in rw (t, ← e) refl
 
 -- what a loop has written
 pub over-begun : (u : ℕ) (V : List ℕ) (t : ℕ) → negation (positive u) ∷ [] ≡ negation (positive u) ∷ imaged V t (without (negation (positive u)) [])

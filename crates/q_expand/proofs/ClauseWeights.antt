@@ -1,10 +1,11 @@
 -- Weights of clauses, by ids and in all.
 use Rattle.std.proofs.Common.{◌≡◌, ◌≤◌, ℕ, zero, suc, ◌+◌, List, [], ◌∷◌, ◌++◌, sym, ◌∙◌, ap, subst, refl, inl, inr, arith, Some, None, Option}
+use Rattle.std.proofs.lemmas.Bool.{cases_eq}
 use Rattle.q_logic.specs.Prelude.{Clause, Matrix, IsIn, Slots, slot, set_slot, live}
 use Rattle.q_kernel.specs.Lists.{Has, Misses, AreApart}
-use Rattle.q_kernel.proofs.Basics.{ℕ-cases}
-use Rattle.q_kernel.proofs.SlotLists.{slot-set_other, IsIn-slot}
+use Rattle.q_kernel.proofs.SlotLists.{slot-set_other}
 use Rattle.q_logic.proofs.Common.{weight}
+use Rattle.q_logic.proofs.HintChains.{live-number}
 use Rattle.q_rule.proofs.RuleResults.{slot-none}
 use Rattle.q_expand.specs.Dependents.{weigh, tally}
 
@@ -43,7 +44,7 @@ none-weighs w [] h = refl
 none-weighs w (C ∷ X) h = let i = none-weighs w X (λ D m. h D (inr m)) in let e = h C (inl refl) in omega arith
 
 pub slot-fewer : (c d : ℕ) (N : Slots) (C : Clause) → slot (set_slot c None N) d ≡ Some C → (d ≡ c → ⊥) × (slot N d ≡ Some C)
-slot-fewer c d N C e = elim (ℕ-cases d c) [
+slot-fewer c d N C e = elim (cases_eq d c) [
   | inl f ↦ absurd (none_some C (sym (subst (λ (x : ℕ). slot (set_slot c None N) x ≡ None) (sym f) (slot-none c N)) ∙ e))
   | inr n ↦ (n, sym (slot-set_other c d None N n) ∙ e)
 ]
@@ -53,7 +54,7 @@ slot-fewer c d N C e = elim (ℕ-cases d c) [
 
 -- ids that have all that weighs anything weigh as much as all
 pub tally-all : (w : Clause → ℕ) (cs : List ℕ) (N : Slots) → AreApart cs → ((c : ℕ) (C : Clause) → slot N c ≡ Some C → (Has cs c → ⊥) → w C ≡ 0) → tally w N cs ≡ weight w (live N)
-tally-all w [] N a h = sym (none-weighs w (live N) (λ C m. let r = IsIn-slot N C m in h r.0 C r.1 (λ x. x)))
+tally-all w [] N a h = sym (none-weighs w (live N) (λ C m. let r = live-number N C m in h r.0 C r.1 (λ x. x)))
 tally-all w (c ∷ cs) N a h =
     let i = tally-all w cs (set_slot c None N) a.1 (λ d C e n. let r = slot-fewer c d N C e in h d C r.1 (λ m. elim m [ inl f ↦ r.0 f | inr g ↦ n g ])) in
     let e = tally-without w N c cs a.0 in

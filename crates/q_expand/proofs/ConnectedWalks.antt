@@ -1,9 +1,10 @@
 -- Walks over what is connected to a universal variable.
 use Rattle.std.proofs.Common.{◌≡◌, ◌≢◌, ◌⊎◌, ◌≤◌, ◌+◌, ℕ, Bool, true, false, not, cond, List, [], ◌∷◌, ◌++◌, length, Some, refl, sym, ◌∙◌, ap, subst, inl, inr, arith, append-nil, append_assoc, true≢false}
 use Rattle.std.proofs.lemmas.Bool.Decides.{nat_tests}
-use Rattle.q_logic.specs.Prelude.{Literal, negation, Clause, Matrix, Prefix, IsIn, has_variable, positive, Slots, slot, live, inner_existential, Spread, size_of}
+use Rattle.q_logic.specs.Prelude.{Literal, negation, Clause, Matrix, Prefix, IsIn, has_variable, positive, slot, live, inner_existential, Spread, size_of}
 use Rattle.q_logic.proofs.Common.{IsIn-append_left, has_variable-IsIn, weight}
 use Rattle.q_logic.proofs.MeasureFalls.{var_is}
+use Rattle.q_rule.proofs.IdClauses.{slot-one}
 use Rattle.q_kernel.specs.Lists.{Has}
 use Rattle.q_kernel.specs.Prelude.{Seen, slots}
 use Rattle.q_kernel.proofs.LiteralLists.{Has-last}
@@ -11,9 +12,6 @@ use Rattle.q_kernel.proofs.SlotLists.{slot-IsIn, size-gone}
 use Rattle.q_expand.specs.Dependents.{Walked, IsConnected, tally, size_beside, one_beside, IsSpread, AreDependents, IsLarger, nothing_met, IsWidened, IsMet}
 use Rattle.q_expand.proofs.ClauseMarks.{Has-left, Has-end, apart-end}
 use Rattle.q_expand.proofs.ClauseWeights.{tally-end, tally-most}
-
-one : (N : Slots) (n : ℕ) (C D : Clause) → slot N n ≡ Some C → slot N n ≡ Some D → C ≡ D
-one N n C D e f = let g : Some C ≡ Some D = sym e ∙ f in cc
 
 has_variable-none : (u : ℕ) (D : Clause) → ((k : Literal) → IsIn k D → k.var ≡ u → ⊥) → has_variable u D ≡ false
 has_variable-none u [] h = refl
@@ -60,7 +58,7 @@ module _ (k : Seen) (u : ℕ) where
   spread-on C m (i, h, inl e) j n t = Spread.starts C i j m h e n t
   spread-on C m (i, h, inr s) j n t = Spread.spreads C i j m h refl n t s
 
-  -- one more clause
+  -- slot-one more clause
   pub dependents-more : (c : ℕ) (C : Clause) (old new : Walked) → slot (slots k) c ≡ Some C → IsConnected k.prefix (live (slots k)) u C → (IsIn (positive u) C → IsIn (negation (positive u)) C → ⊥) → (Has old.met c → ⊥)
       → IsWidened k.prefix u C old.vars new.vars → new.met ≡ old.met ++ c ∷ [] → new.size ≡ old.size + size_beside u C → new.others ≡ old.others + one_beside u C
       → AreDependents k u old → IsMet k u c old new
@@ -86,7 +84,7 @@ module _ (k : Seen) (u : ℕ) where
       there d h = Has-last c d old.met (subst (λ (xs : List ℕ). Has xs d) met h)
 
       same : (d : ℕ) (D : Clause) → d ≡ c → slot (slots k) d ≡ Some D → C ≡ D
-      same d D f s = one (slots k) c C D e (subst (λ (x : ℕ). slot (slots k) x ≡ Some D) f s)
+      same d D f s = slot-one (slots k) c C D e (subst (λ (x : ℕ). slot (slots k) x ≡ Some D) f s)
 
       grown : (j : Literal) → IsIn j old.vars → IsIn j new.vars
       grown j m = rw w.is (IsIn-append_left j old.vars w.added m)

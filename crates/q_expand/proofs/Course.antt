@@ -1,8 +1,7 @@
 -- The steps of an expansion, all in one: they lead to the clauses that the universal variable keeps apart.
 use Rattle.std.proofs.Common.{◌≡◌, ◌+◌, ℕ, Bool, true, false, List, [], ◌∷◌, ◌++◌, refl, sym, ◌∙◌, ap, subst, inl, inr, arith, Some, None, Option}
 use Rattle.q_logic.specs.Prelude.{Clause, Matrix, Prefix, IsIn, copies, ProofStep, greatest, Slots, slot, live, put_first, formula_of, clauses_at, shares, expansion_vars, insert_all, Expandable}
-use Rattle.q_logic.proofs.Common.{live-slot, SameClauses, Reaches, copies-append, reaches-alike, reaches-append, reaches-end, above-greatest, Expansion}
-use Rattle.q_logic.proofs.ChangeRuns.{IsIn-right}
+use Rattle.q_logic.proofs.Common.{live-slot, SameClauses, Reaches, copies-append, reaches-alike, reaches-append, reaches-end, above-greatest, Expansion, IsIn-append_right}
 use Rattle.q_logic.proofs.ExpandPrefix.{reaches-freshes}
 use Rattle.q_logic.proofs.ExpandLinks.{links, reaches-links, reaches-unlinks}
 use Rattle.q_kernel.specs.Prelude.{Seen, slots, IsSound}
@@ -95,7 +94,7 @@ module _ (k : Seen) (u : ℕ) (r : Walked) (s : IsSound k) (w : IsWhole k u r) (
   splits =
       reaches-alike Q (W ++ (R ++ L)) (L ++ X) (all_split u V t W) (formula_of Q (L ++ parted u V t X)) start
       (reaches-end Q (parted u V t W ++ (R ++ L)) (L ++ parted u V t X) (formula_of Q (W ++ (R ++ L))) (all_split u V t W) end
-      (reaches-parted Q X u V t facts W (R ++ L) (λ D m. clauses-live (slots k) r.met D m) (λ D m. IsIn-right D R L m)))
+      (reaches-parted Q X u V t facts W (R ++ L) (λ D m. clauses-live (slots k) r.met D m) (λ D m. IsIn-append_right D R L m)))
 
   begun : Reaches (formula_of k.prefix X) (each_with copy_step V t) (formula_of Q X)
   begun = subst (λ (ss : List ProofStep). Reaches (formula_of k.prefix X) ss (formula_of Q X)) (copies-are V t) (reaches-freshes V t k.prefix X (vars-existential k u r s w) (above-greatest k.prefix))

@@ -1,7 +1,8 @@
 -- Equal clauses, literal by literal.
 use Rattle.std.proofs.Common.{◌≡◌, ◌≤◌, ◌<◌, ◌+◌, ℕ, zero, suc, [], ◌∷◌, length, get_or, refl, sym, ◌∙◌, subst, inl, inr, arith}
-use Rattle.q_expand.proofs.WholeWalk.{earlier}
 use Rattle.q_logic.specs.Prelude.{Literal, Clause}
+use Rattle.q_logic.proofs.Common.{before_or_at}
+use Rattle.q_logic.proofs.LiteralNeighbours.{item-same}
 
 -- the literals before a place are equal
 pub record AreSame (C D : Clause) (i : ℕ) : Type 0 where
@@ -10,18 +11,13 @@ pub record AreSame (C D : Clause) (i : ℕ) : Type 0 where
 pub same-begun : (C D : Clause) → AreSame C D 0
 same-begun C D = record { same = λ j k h e. absurd (omega arith) }
 
-item-one : (C : Clause) (n : ℕ) (j k : Literal) → n < length C → j ≡ get_or C n j → k ≡ get_or C n k → j ≡ k
-item-one [] n j k h e f = absurd (omega arith)
-item-one (x ∷ C) zero j k h e f = e ∙ sym f
-item-one (x ∷ C) (suc n) j k h e f = item-one C n j k (omega arith) e f
-
 pub same-more : (C D : Clause) (i : ℕ) (a b : Literal) → i < length C → a ≡ get_or C i a → b ≡ get_or D i b → a ≡ b → AreSame C D i → AreSame C D (i + 1)
 same-more C D i a b w e f g h = record {
-  same = λ j k l m. elim (earlier j i l) [
+  same = λ j k l m. elim (before_or_at j i l) [
     | inl before ↦ h.same j k before m
     | inr is ↦
         let n : k ≡ get_or C i k = subst (λ (x : ℕ). k ≡ get_or C x k) is m in
-        let q : k ≡ b = item-one C i k a w n e ∙ g in
+        let q : k ≡ b = item-same C i k a w n e ∙ g in
         subst (λ (x : ℕ). k ≡ get_or D x k) (sym is) (subst (λ (x : Literal). x ≡ get_or D i x) (sym q) f)
   ];
 }
@@ -40,4 +36,4 @@ same-all (x ∷ C) (y ∷ D) (suc i) e h s =
     λ i. f i ∷ g i
 
 pub same-not : (C D : Clause) (i : ℕ) (a b : Literal) → i < length C → a ≡ get_or C i a → b ≡ get_or D i b → C ≡ D → a ≡ b
-same-not C D i a b w e f q = item-one C i a b w e (subst (λ (x : Clause). b ≡ get_or x i b) (sym q) f)
+same-not C D i a b w e f q = item-same C i a b w e (subst (λ (x : Clause). b ≡ get_or x i b) (sym q) f)

@@ -3,8 +3,8 @@ use Rattle.std.proofs.Common.{◌≡◌, ◌⊎◌, ◌≤◌, ◌<◌, ◌+◌,
 use Rattle.std.proofs.lemmas.Option.{same_Some}
 use Rattle.std.proofs.lemmas.Bool.Decides.{nat_tests}
 use Rattle.q_logic.specs.Prelude.{Literal, Clause, Matrix, Prefix, IsIn, Distinct, has_variable, size_of, live, clauses_of, in_list, shares, expansion_vars, touched_neither, Spread, Expandable}
-use Rattle.q_logic.proofs.Common.{weight, has_variable-IsIn, Once, next-once, expansion_vars-fixed}
-use Rattle.q_logic.proofs.LeastClosure.{expansion_vars-least}
+use Rattle.q_logic.proofs.Common.{weight, has_variable-IsIn, Once, next-once, expansion_vars-fixed, has_variable-find}
+use Rattle.q_logic.proofs.LeastClosure.{expansion_vars-least, shares-of, find_shared}
 use Rattle.q_kernel.specs.Lists.{Has, Misses, AreApart, without}
 use Rattle.q_kernel.proofs.Basics.{Misses-not, Misses-from}
 use Rattle.q_kernel.proofs.Basics.{AreApart-without, length-without}
@@ -68,38 +68,16 @@ vars-apart (k ∷ ks) n l = (
   vars-apart ks (λ j m. n j (inr m)) l.1,
 )
 
--- A clause with a variable of the list shares it.
-pub shares-held : (V : List ℕ) (C : Clause) (k : Literal) → IsIn k C → in_list k.var V ≡ true → shares V C ≡ true
-shares-held V [] k m h = absurd m
-shares-held V (j ∷ C) k (inl e) h = let z : in_list j.var V ≡ true = subst (λ (x : Literal). in_list x.var V ≡ true) e h in grind arith
-shares-held V (j ∷ C) k (inr m) h = let i : shares V C ≡ true = shares-held V C k m h in grind arith
-
-pub held-shares : (V : List ℕ) (C : Clause) → shares V C ≡ true → (k : Literal) × IsIn k C × (in_list k.var V ≡ true)
-held-shares V [] h = absurd (true≢false (sym h))
-held-shares V (j ∷ C) h = go (in_list j.var V) refl (held-shares V C) h
-  where
-    go : (b : Bool) → in_list j.var V ≡ b → (shares V C ≡ true → (k : Literal) × IsIn k C × (in_list k.var V ≡ true)) → (b || shares V C) ≡ true → (k : Literal) × IsIn k (j ∷ C) × (in_list k.var V ≡ true)
-    go true e i h = (j, inl refl, e)
-    go false e i h = let r = i h in (r.0, inr r.1, r.2)
-
-pub variable-held-by : (u : ℕ) (C : Clause) → has_variable u C ≡ true → (k : Literal) × IsIn k C × (k.var ≡ u)
-variable-held-by u [] h = absurd (true≢false (sym h))
-variable-held-by u (j ∷ C) h = go (eqb j.var u) refl (variable-held-by u C) h
-  where
-    go : (b : Bool) → eqb j.var u ≡ b → (has_variable u C ≡ true → (k : Literal) × IsIn k C × (k.var ≡ u)) → (b || has_variable u C) ≡ true → (k : Literal) × IsIn k (j ∷ C) × (k.var ≡ u)
-    go true e i h = (j, inl refl, (grind (arith, nat_tests)))
-    go false e i h = let r = i h in (r.0, inr r.1, r.2)
-
 -- Connected clauses without u share.
 pub connected-shares : (P : Prefix) (X : Matrix) (u : ℕ) (C : Clause) → IsConnected P X u C → has_variable u C ≡ false → shares (expansion_vars P X u) C ≡ true
 connected-shares P X u C (j, m, inl e) n = absurd (true≢false (sym (subst (λ (x : ℕ). has_variable x C ≡ true) e (has_variable-IsIn C j m)) ∙ n))
-connected-shares P X u C (j, m, inr s) n = shares-held (expansion_vars P X u) C j m ((expansion_vars-least P X u j.var).1 s)
+connected-shares P X u C (j, m, inr s) n = shares-of (expansion_vars P X u) C j m ((expansion_vars-least P X u j.var).1 s)
 
 pub shares-connected : (P : Prefix) (X : Matrix) (u : ℕ) (C : Clause) → shares (expansion_vars P X u) C ≡ true → IsConnected P X u C
-shares-connected P X u C h = let r = held-shares (expansion_vars P X u) C h in (r.0, r.1, inr ((expansion_vars-least P X u r.0.var).0 r.2))
+shares-connected P X u C h = let r = find_shared (expansion_vars P X u) C h in (r.0, r.1, inr ((expansion_vars-least P X u r.0.var).0 r.2))
 
 pub variable-connected : (P : Prefix) (X : Matrix) (u : ℕ) (C : Clause) → has_variable u C ≡ true → IsConnected P X u C
-variable-connected P X u C h = let r = variable-held-by u C h in (r.0, r.1, inl r.2)
+variable-connected P X u C h = let r = has_variable-find u C h in (r.0, r.1, inl r.2)
 
 -- The weight of the touched clauses with neither.
 abbrev pub if_neither : (Clause → ℕ) → ℕ → List ℕ → Clause → ℕ

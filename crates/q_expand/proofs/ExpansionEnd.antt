@@ -1,13 +1,13 @@
 -- Once u has left all clauses, they are those of the expansion.
 use Rattle.std.proofs.Common.{◌≡◌, ◌<◌, ◌≤◌, ℕ, Bool, true, false, cond, List, [], ◌∷◌, ◌++◌, refl, sym, ◌∙◌, ap, subst, inl, inr, arith, true≢false}
 use Rattle.q_logic.specs.Prelude.{Literal, literal_eq, IsBelow, Clause, Matrix, Prefix, IsIn, ArePairs, insert, clause_of, has, each_without, positive, without, in_list, shares, copy_of, copied, copied_literal, expanded}
-use Rattle.q_logic.proofs.Common.{literal_eq-itself, clause_of-ordered_clause, IsIn-has_not, without-same, without-IsIn, without-other, Expansion, copied-IsIn, has_none}
+use Rattle.q_logic.proofs.Common.{literal_eq-itself, clause_of-ordered_clause, IsIn-has_not, without-same, without-IsIn, without-other, Expansion, copied-IsIn, has_none, without-in_order}
 use Rattle.q_logic.proofs.ExpandPrefix.{CopyOf, copy_of-in, copy_of-out}
 use Rattle.q_logic.proofs.ExpandLinks.{minus}
 use Rattle.q_logic.proofs.ExpandParts.{without-insert}
-use Rattle.q_kernel.proofs.KernelRuns.{without-in_order}
+use Rattle.q_logic.proofs.LeastClosure.{shares-of}
+use Rattle.q_logic.proofs.ExpandRun.{no_literal}
 use Rattle.q_expand.specs.Steps.{over_copies}
-use Rattle.q_expand.proofs.ExpansionBounds.{shares-held}
 use Rattle.q_expand.proofs.ExpansionRun.{parted_one, parted}
 
 -- u and not u leave all clauses
@@ -66,18 +66,11 @@ module _ (Q : Prefix) (X : Matrix) (u : ℕ) (V : List ℕ) (t : ℕ) (x : Expan
       go : ((j : Literal) × IsIn j D × (l ≡ copied_literal V t j)) → ⊥
       go (j, a, e) = one j a e (in_list j.var V) refl
 
-  others : (l : Literal) (D : Clause) → has l D ≡ false → (j : Literal) → IsIn j D → literal_eq j l ≡ false
-  others l D h j a = go (literal_eq j l) refl
-    where
-      go : (b : Bool) → literal_eq j l ≡ b → literal_eq j l ≡ false
-      go true q = absurd (IsIn-has_not l D h (subst (λ (y : Literal). IsIn y D) (Rattle.q_logic.proofs.ClauseLemmas.literal_eq-sound j l q) a))
-      go false q = q
-
   over-done : (D : Clause) → has (positive u) D ≡ false → without (minus u) (without (positive u) (over_copies u V t D)) ≡ copied V t (without (minus u) D)
   over-done D p =
       let C = without (minus u) D in
       let a : has (minus u) (copied V t C) ≡ false = no_own (minus u) C refl (literal_eq-itself (minus u)) (λ j m. without-other (minus u) D j m) in
-      let b : has (positive u) (copied V t C) ≡ false = no_own (positive u) C refl (literal_eq-itself (positive u)) (λ j m. others (positive u) D p j (without-IsIn (minus u) D j m)) in
+      let b : has (positive u) (copied V t C) ≡ false = no_own (positive u) C refl (literal_eq-itself (positive u)) (λ j m. no_literal (positive u) D p j (without-IsIn (minus u) D j m)) in
       let c : has (positive u) (insert (minus u) (copied V t C)) ≡ false = has_none (positive u) (insert (minus u) (copied V t C)) (λ m. elim (Rattle.q_logic.proofs.JoinedClauses.insert-IsIn (minus u) (copied V t C) (positive u) m) [
         | inl e ↦ true≢false (ap (λ (y : Literal). y.negative) (sym e))
         | inr i ↦ IsIn-has_not (positive u) (copied V t C) b i
@@ -102,7 +95,7 @@ module _ (Q : Prefix) (X : Matrix) (u : ℕ) (V : List ℕ) (t : ℕ) (x : Expan
           ∙ sym (copied-same V t (without (minus u) D) (without-in_order (minus u) D (ordered D m)) (λ k i. unshared k (without-IsIn (minus u) D k i) (in_list k.var V) refl)))
         where
           unshared : (k : Literal) → IsIn k D → (b : Bool) → in_list k.var V ≡ b → in_list k.var V ≡ false
-          unshared k i true e = absurd (true≢false (sym (shares-held V D k i e) ∙ q))
+          unshared k i true e = absurd (true≢false (sym (shares-of V D k i e) ∙ q))
           unshared k i false e = e
       go false p false q false r = ap (λ (C : Clause). C ∷ []) (ap (without (minus u)) (without-same (positive u) D p) ∙ without-same (minus u) D r)
 

@@ -1,7 +1,7 @@
 -- What an expansion stands on, over the prefix with the copies.
 use Rattle.std.proofs.Common.{◌≡◌, ◌⊎◌, ◌<◌, ◌+◌, ℕ, Bool, true, false, ◌||◌, List, refl, sym, ◌∙◌, subst, inl, inr}
 use Rattle.q_logic.specs.Prelude.{Literal, Clause, Matrix, Prefix, IsIn, is_bound, is_existential, outer_or_same, Distinct, has_variable, has, positive, greatest, shares, touches, inner_existential, expansion_vars, insert_all, Expandable}
-use Rattle.q_logic.proofs.Common.{has-IsIn, has_variable-IsIn, expansion_vars-closed, expansion_vars-inner, expansion_vars-fixed, Once, next-once, above-greatest, inner-parts, all_inner, all_e, AllInner, originals-of, bound_of_u, Expansion}
+use Rattle.q_logic.proofs.Common.{has-IsIn, has_variable-IsIn, expansion_vars-closed, expansion_vars-inner, expansion_vars-fixed, Once, next-once, above-greatest, inner-parts, all_inner, all_e, AllInner, originals-of, Expansion, universal-is_bound}
 use Rattle.q_logic.proofs.ExpandPrefix.{Above, AllE, below, inserted-is_existential, inserted-is_universal, inserted-is_bound, inserted-outer, inserted-copies}
 use Rattle.q_logic.proofs.ExpandLinks.{minus}
 
@@ -41,7 +41,7 @@ expansion-facts expand P X u d bound h = record {
     once = subst Once (expansion_vars-fixed P X u) (next-once P P X u (expansion_vars P X u) d)
 
     ub : is_bound P u ≡ true
-    ub = bound_of_u P u h.universal
+    ub = universal-is_bound P u h.universal
 
     ul : u < greatest P + 1
     ul = below P (greatest P + 1) u a ub

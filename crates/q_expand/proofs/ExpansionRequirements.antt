@@ -61,7 +61,7 @@ vars-place P (y ∷ V) a (suc i) x e = vars-place P V a.1 i x e
 
 module _ (B : Bounds) (k : Seen) (u : ℕ) (r : Walked) (s : IsSound k) (w : IsWhole k u r) (a : Applies B k (expand_universal u)) where
   pub u-bound : is_bound k.prefix u ≡ true
-  u-bound = Rattle.q_logic.proofs.ExpandClosure.bound_of_u k.prefix u a.fits.universal
+  u-bound = Rattle.q_logic.proofs.PrefixOrder.universal-is_bound k.prefix u a.fits.universal
 
   pub u-range : (1 ≤ u) × (u < 2147483648)
   u-range = proper-var (formula_in k) u s.proper u-bound

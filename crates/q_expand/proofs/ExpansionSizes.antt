@@ -1,14 +1,13 @@
 -- The greatest variable, the clauses and the literals of an expansion.
 use Rattle.std.proofs.Common.{◌≡◌, ◌<◌, ◌+◌, ℕ, Bool, true, false, cond, not, ◌&&◌, List, [], ◌∷◌, length, refl, sym, ◌∙◌, subst, inl, inr, arith, true≢false, length-append}
 use Rattle.q_logic.specs.Prelude.{Literal, IsBelow, Clause, Matrix, Prefix, IsIn, ArePairs, has, with_literal, positive, literals_in, insert_after, has_variable, without, greatest, larger_of, clauses_of, shares, copied, expanded, touched_neither, insert_all}
-use Rattle.q_logic.proofs.Common.{has-IsIn, without-IsIn, existential-is_bound, has_variable-IsIn, IsIn-has_not}
+use Rattle.q_logic.proofs.Common.{has-IsIn, without-IsIn, existential-is_bound, has_variable-IsIn, without-in_order}
 use Rattle.q_logic.proofs.ExpandLinks.{minus}
 use Rattle.q_logic.proofs.ExpandPrefix.{Above, AllE, alle-insert, above-insert}
+use Rattle.q_logic.proofs.MeasureFallsExpand.{has_var-none}
 use Rattle.q_kernel.proofs.VariableCounts.{greatest-inserted}
 use Rattle.q_kernel.proofs.KernelInvariant.{length-shorter}
-use Rattle.q_kernel.proofs.KernelRuns.{without-in_order}
 use Rattle.q_expand.proofs.ClauseCopies.{copied-long}
-use Rattle.q_expand.proofs.ConnectedWalks.{variable-held}
 
 -- The copies are the greatest variables.
 pub greatest-all : (V : List ℕ) (g : ℕ) (P : Prefix) → AllE P V → Above P (g + 1) → greatest P ≡ g → greatest (insert_all V (g + 1) P) ≡ g + length V
@@ -22,9 +21,6 @@ greatest-all (x ∷ V) g P e a q =
     larger : (p n r : ℕ) → r ≡ larger_of p n → p ≡ g → n ≡ g + 1 → r ≡ g + 1
     larger p n r e f h = omega arith
 
-neither : (u : ℕ) (D : Clause) → has (positive u) D ≡ false → has (minus u) D ≡ false → has_variable u D ≡ false
-neither u D p q = variable-held u D (IsIn-has_not (positive u) D p) (IsIn-has_not (minus u) D q)
-
 pub expanded-clauses : (u : ℕ) (V : List ℕ) (t : ℕ) (X : Matrix) → length (expanded u V t X) ≡ length X + length (touched_neither u V X)
 expanded-clauses u V t [] = refl
 expanded-clauses u V t (D ∷ X) = go (has (positive u) D) refl (has (minus u) D) refl (shares V D) (expanded-clauses u V t X)
@@ -37,8 +33,8 @@ expanded-clauses u V t (D ∷ X) = go (has (positive u) D) refl (has (minus u) D
         ≡ length (D ∷ X) + length (cond (not (has_variable u D) && s) (D ∷ touched_neither u V X) (touched_neither u V X))
     go true p b q s i = let h = held (positive u) refl p in rw h (omega arith)
     go false p true q s i = let h = held (minus u) refl q in rw h (omega arith)
-    go false p false q true i = let h = neither u D p q in rw h (omega arith)
-    go false p false q false i = let h = neither u D p q in rw h (omega arith)
+    go false p false q true i = let h = has_var-none u D p q in rw h (omega arith)
+    go false p false q false i = let h = has_var-none u D p q in rw h (omega arith)
 
 pub expanded-lits : (u : ℕ) (V : List ℕ) (t : ℕ) (X : Matrix) → ((D : Clause) → IsIn D X → has (positive u) D ≡ true → has (minus u) D ≡ false) → ((D : Clause) → IsIn D X → ArePairs IsBelow D) → ((D : Clause) → IsIn D X → (k : Literal) → IsIn k D → k.var < t)
     → literals_in (expanded u V t X) + length (clauses_of u X) ≡ literals_in X + literals_in (touched_neither u V X)
@@ -69,5 +65,5 @@ expanded-lits u V t X c o h =
         go true p true q s i = absurd (true≢false (sym q ∙ c D (inl refl) p))
         go true p false q s i = let v = held (positive u) refl p in let z = shorter (positive u) p in rw v (omega arith)
         go false p true q s i = let v = held (minus u) refl q in let z = shorter (minus u) q in let y = long (minus u) in rw v (omega arith)
-        go false p false q true i = let v = neither u D p q in let y = copied-long V t D (o D (inl refl)) (h D (inl refl)) in rw v (omega arith)
-        go false p false q false i = let v = neither u D p q in rw v (omega arith)
+        go false p false q true i = let v = has_var-none u D p q in let y = copied-long V t D (o D (inl refl)) (h D (inl refl)) in rw v (omega arith)
+        go false p false q false i = let v = has_var-none u D p q in rw v (omega arith)

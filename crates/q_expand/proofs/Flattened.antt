@@ -2,8 +2,8 @@
 use Rattle.std.proofs.Common.{◌≡◌, ◌⊎◌, ◌≤◌, ◌+◌, ℕ, Bool, true, false, cond, List, [], ◌∷◌, ◌++◌, refl, sym, ◌∙◌, ap, subst, inl, inr, arith, true≢false, append_assoc, Some, None, Option}
 use Rattle.q_logic.specs.Prelude.{Literal, Clause, Matrix, IsIn, without, copies, has, each_without, positive, clause_eq, one_less, Slots, slot, set_slot, live, put_first, clauses_at, shares}
 use Rattle.q_logic.proofs.Common.{clause_eq-sound, weight, SameClauses, clause_eq-itself, IsIn-copies, IsIn-alike, alike-refl, alike-sym, alike-trans, alike-append, copies-append, one_less-first, one_less-same}
+use Rattle.q_logic.proofs.HintChains.{live-number}
 use Rattle.q_kernel.specs.Lists.{Has, AreApart}
-use Rattle.q_kernel.proofs.SlotLists.{IsIn-slot}
 use Rattle.q_expand.specs.Dependents.{weigh, tally}
 use Rattle.q_expand.proofs.ClauseWeights.{weight-gone, tally-without, slot-fewer}
 use Rattle.q_expand.proofs.ExpansionRun.{parted_one, parted}
@@ -120,4 +120,4 @@ beside-slot (d ∷ cs) N c C e =
     (s.1, λ h. elim h [ inl f ↦ s.0 f | inr g ↦ r.1 g ])
 
 pub beside-from : (cs : List ℕ) (N : Slots) (C : Clause) → IsIn C (live (apart_from cs N)) → (c : ℕ) × (slot N c ≡ Some C) × (Has cs c → ⊥)
-beside-from cs N C m = let r = IsIn-slot (apart_from cs N) C m in let s = beside-slot cs N r.0 C r.1 in (r.0, s.0, s.1)
+beside-from cs N C m = let r = live-number (apart_from cs N) C m in let s = beside-slot cs N r.0 C r.1 in (r.0, s.0, s.1)

@@ -1,8 +1,8 @@
 -- A literal has as many ids as clauses hold it.
-use Rattle.std.proofs.Common.{◌≡◌, ◌<◌, ◌+◌, ℕ, zero, suc, Bool, true, false, cond, List, [], ◌∷◌, length, get_or, Some, refl, sym, ◌∙◌, ap, subst, inl, inr, arith, true≢false}
+use Rattle.std.proofs.Common.{◌≡◌, ◌<◌, ◌+◌, ℕ, zero, suc, Bool, true, false, cond, List, [], ◌∷◌, length, get_or, Some, refl, sym, ◌∙◌, ap, subst, inl, inr, arith}
 use Rattle.std.proofs.lemmas.List.Elements.{All-contains}
 use Rattle.std.specs.List.{AllByRecursion}
-use Rattle.q_logic.specs.Prelude.{Literal, IsBelow, Clause, Matrix, IsIn, has, with_literal, Slots, slot, live}
+use Rattle.q_logic.specs.Prelude.{Literal, Clause, Matrix, IsIn, has, with_literal, Slots, slot, live}
 use Rattle.q_logic.proofs.Common.{weight, has-IsIn, IsIn-has}
 use Rattle.q_kernel.specs.Lists.{Has}
 use Rattle.q_kernel.specs.Prelude.{Seen, slots, IsSound, HoldsLiteral, holders_of, IsHolder}
@@ -10,10 +10,6 @@ use Rattle.q_kernel.proofs.HolderLists.{holders-hold, holders-all, holders-once}
 use Rattle.q_kernel.proofs.DistinctMembers.{Contains-Has, Has-Contains}
 use Rattle.q_expand.specs.Dependents.{weigh, tally}
 use Rattle.q_expand.proofs.ClauseWeights.{tally-all}
-
-pub below-itself : (l : Literal) → IsBelow l l → ⊥
-below-itself l (inl b) = omega arith
-below-itself l (inr b) = true≢false (sym b.1 ∙ b.2)
 
 pub below-member : (R : Literal → Type 0) (C : Clause) (k : Literal) → AllByRecursion R C → IsIn k C → R k
 below-member R [] k a m = absurd m

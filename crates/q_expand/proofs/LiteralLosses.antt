@@ -1,13 +1,14 @@
 -- A literal leaves clause after clause, and may still leave the others.
 use Rattle.std.proofs.Common.{◌≡◌, ◌⊎◌, ◌≤◌, ◌<◌, ◌+◌, ◌*◌, ℕ, true, ◌∷◌, length, Some, sym, ap, ◌∙◌, subst, inl, inr, arith, refl}
-use Rattle.q_logic.specs.Prelude.{Literal, negation, Clause, Matrix, Prefix, IsIn, is_universal, without, Reached, with_literal, each_without, drop_literal, size_of, Slots, slot, set_slot, live, others}
-use Rattle.q_logic.proofs.Common.{IsIn-alike, reached-more, IsIn-has, without-IsIn, live-without}
+use Rattle.q_logic.specs.Prelude.{Literal, negation, Clause, Prefix, IsIn, is_universal, without, Reached, with_literal, each_without, drop_literal, size_of, Slots, slot, set_slot, live, others}
+use Rattle.q_logic.proofs.Common.{IsIn-alike, reached-more, IsIn-has, without-IsIn, others-live}
+use Rattle.q_logic.proofs.HintedRuns.{live-changed}
 use Rattle.q_log.specs.Texts.{step_text}
 use Rattle.q_kernel.specs.Prelude.{Seen, slots, IsSound, MayDrop, IsDropped, IsLed}
-use Rattle.q_kernel.proofs.KernelRuns.{led-itself, led-through}
-use Rattle.q_kernel.proofs.SlotLists.{alike-replaced, slot-IsIn}
+use Rattle.q_kernel.proofs.KernelRuns.{led-itself, led-through, lost-literal}
+use Rattle.q_kernel.proofs.SlotLists.{slot-IsIn}
 use Rattle.q_rule.proofs.RuleSteps.{may-drop_reducible, drop-cost}
-use Rattle.q_rule.proofs.LoopChanges.{gone-in, turn-shorter, with-shorter, each_without-none}
+use Rattle.q_rule.proofs.LoopChanges.{turn-shorter, with-shorter, each_without-none}
 use Rattle.q_expand.specs.Apart.{MayLose, HasLost}
 
 -- so far
@@ -21,14 +22,11 @@ pub record IsLosing (l : Literal) (old now : Seen) : Type 0 where
 pub losing-begun : (l : Literal) (k : Seen) → MayLose k l → IsLosing l k k
 losing-begun l k m = record { may = m; led = led-itself k; prefix = refl; same = refl; bytes = λ later h. h }
 
-others-in : (N : Slots) (c : ℕ) (D : Clause) → IsIn D (others c N) → IsIn D (live N)
-others-in N c D m = gone-in N c D (subst (λ (X : Matrix). IsIn D X) (sym (live-without N c)) m)
-
 module _ (l : Literal) (N : Slots) (c : ℕ) (E : Clause) (there : slot N c ≡ Some E) where
   after-in : (D : Clause) → IsIn D (live (set_slot c (Some (without l E)) N)) → (D ≡ without l E) ⊎ IsIn D (live N)
-  after-in D m = elim (IsIn-alike (live (set_slot c (Some (without l E)) N)) (without l E ∷ others c N) (alike-replaced N c E (without l E) there) D m) [
+  after-in D m = elim (IsIn-alike (live (set_slot c (Some (without l E)) N)) (without l E ∷ others c N) (live-changed N c E (without l E) there) D m) [
     | inl e ↦ inl e
-    | inr i ↦ inr (others-in N c D i)
+    | inr i ↦ inr (others-live N c D i)
   ]
 
   abbrev Good : Prefix → Clause → Type 0
@@ -43,9 +41,6 @@ module _ (l : Literal) (N : Slots) (c : ℕ) (E : Clause) (there : slot N c ≡ 
       go (inl q) (inr d) = inr (E, slot-IsIn N c E there, h, Reached.next E2 k (without-IsIn l E k (subst (λ (x : Clause). IsIn k x) q j)) n e o d f Reached.first)
       go (inr (A, a, b, s)) (inr d) = inr (A, a, b, Reached.next E2 k j n e o d f s)
 
-not_own : (l : Literal) (C : Clause) → IsIn l (without l C) → ⊥
-not_own l C m = Rattle.std.proofs.Common.true≢false (sym (IsIn-has l (without l C) m) ∙ Rattle.q_rule.proofs.LoopChanges.not_in-without l C)
-
 -- one clause less
 pub lose-more : (l : Literal) (k n : Seen) (c : ℕ) (E : Clause) → slot (slots k) c ≡ Some E → IsIn l E → slots n ≡ set_slot c (Some (without l E)) (slots k) → n.prefix ≡ k.prefix → MayLose k l → MayLose n l
 lose-more l k n c E there h change p m = record {
@@ -54,7 +49,7 @@ lose-more l k n c E there h change p m = record {
       let i2 : IsIn C (live (set_slot c (Some (without l E)) (slots k))) = subst (λ (M : Slots). IsIn C (live M)) change i in
       let r2 : Reached k.prefix (live (set_slot c (Some (without l E)) (slots k))) C l D = subst (λ (P : Prefix). Reached P (live (set_slot c (Some (without l E)) (slots k))) C l D) p (subst (λ (M : Slots). Reached n.prefix (live M) C l D) change r) in
       elim (after-in l (slots k) c E there C i2) [
-        | inl q ↦ not_own l E (subst (λ (y : Clause). IsIn l y) q j)
+        | inl q ↦ lost-literal l E (subst (λ (y : Clause). IsIn l y) q j)
         | inr d ↦ elim (good l (slots k) c E there k.prefix C d j h D r2) [
           | inl q ↦ m.none E E (slot-IsIn (slots k) c E there) h Reached.first (without-IsIn l E (negation l) (subst (λ (y : Clause). IsIn (negation l) y) q x))
           | inr g ↦ m.none g.0 D g.1 g.2 g.3 x
@@ -66,7 +61,7 @@ pub may-lose : (l : Literal) (k : Seen) (c : ℕ) (C : Clause) → IsSound k →
 may-lose l k c C s there h m b = may-drop_reducible k c C s there l (record {
   universal_literal = m.universal;
   in_clause = h;
-  no_negation = λ D r. m.none C D (slot-IsIn (slots k) c C there) h (reached-more k.prefix (others c (slots k)) (live (slots k)) C l (λ E i. others-in (slots k) c E i) D r);
+  no_negation = λ D r. m.none C D (slot-IsIn (slots k) c C there) h (reached-more k.prefix (others c (slots k)) (live (slots k)) C l (λ E i. others-live (slots k) c E i) D r);
 }) b
 
 spent : (w t len x spare left cost : ℕ) → t + (len + 1) ≡ w → 16 * w + x ≤ spare → spare ≡ left + cost → cost ≤ 16 * (len + 1) → 16 * t + x ≤ left

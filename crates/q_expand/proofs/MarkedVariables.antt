@@ -1,12 +1,12 @@
 -- The variables of the dependents, as a walk over the prefix reads them.
-use Rattle.std.proofs.Common.{◌≡◌, ◌+◌, ℕ, zero, suc, Bool, true, false, cond, List, [], ◌∷◌, ◌++◌, take, drop, slice_get, Some, None, refl, sym, ◌∙◌, ap, subst, arith, add-one, append-nil}
+use Rattle.std.proofs.Common.{◌≡◌, ◌+◌, ℕ, zero, suc, Bool, true, false, cond, List, [], ◌∷◌, ◌++◌, take, drop, slice_get, Some, None, refl, sym, ◌∙◌, ap, subst, add-one, append-nil}
 use Rattle.q_logic.specs.declared.formulas.Bound.{Bound}
 use Rattle.q_logic.specs.Prelude.{Literal, Prefix, IsIn, is_bound, Distinct, has, positive, live, expansion_vars}
 use Rattle.q_logic.proofs.Common.{has-IsIn, IsIn-has}
 use Rattle.q_logic.proofs.LeastClosure.{marked, expansion_vars-marked}
 use Rattle.q_prefix.specs.Order.{bound_after}
 use Rattle.q_kernel.specs.Prelude.{Seen, slots}
-use Rattle.q_kernel.proofs.PrefixWalks.{after-front}
+use Rattle.q_kernel.proofs.PrefixWalks.{after-front, bound-in}
 use Rattle.q_expand.specs.Dependents.{Walked, IsWhole}
 
 abbrev pub among : List Literal → ℕ → Bool
@@ -35,12 +35,8 @@ here P i b e = let r = go P i e in rw add-one r
     go (x ∷ P) zero e = (ap (λ (y : Bound). y ∷ []) (one x e), ap (λ (y : Bound). y ∷ P) (one x e))
     go (x ∷ P) (suc i) e = let r = go P i e in (ap (λ (xs : Prefix). x ∷ xs) r.0, ap (λ (xs : Prefix). x ∷ xs) r.1)
 
-bound-here : (P R : Prefix) (b : Bound) → is_bound (P ++ b ∷ R) b.var ≡ true
-bound-here [] R b = grind (arith, Rattle.std.proofs.lemmas.Bool.Decides.nat_tests)
-bound-here (x ∷ P) R b = let i : is_bound (P ++ b ∷ R) b.var ≡ true = bound-here P R b in grind arith
-
 pub here-bound : (P : Prefix) (i : ℕ) (b : Bound) → slice_get P i ≡ Some b → is_bound P b.var ≡ true
-here-bound P i b e = let r = here P i b e in subst (λ (R : Prefix). is_bound R b.var ≡ true) (sym r.1) (bound-here (take i P) (drop (i + 1) P) b)
+here-bound P i b e = let r = here P i b e in subst (λ (R : Prefix). is_bound R b.var ≡ true) (sym r.1) (bound-in (take i P) (drop (i + 1) P) b)
 
 get-drop : (P : Prefix) (i : ℕ) → slice_get (drop i P) 0 ≡ slice_get P i
 get-drop [] zero = refl

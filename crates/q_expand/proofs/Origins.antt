@@ -1,11 +1,12 @@
 -- The clauses that come of an expansion's split: none with u is connected to one with not u.
 use Rattle.std.proofs.Common.{◌≡◌, ◌⊎◌, ◌≤◌, ◌<◌, ℕ, Bool, true, false, cond, List, [], ◌∷◌, refl, sym, ◌∙◌, subst, inl, inr, arith, true≢false}
-use Rattle.q_logic.specs.Prelude.{Literal, negation, literal_eq, Clause, Matrix, Prefix, IsIn, is_existential, insert, has, positive, without, in_list, shares, inner_existential, copy_of, copied, copied_literal, Reached, each_without}
-use Rattle.q_logic.proofs.Common.{IsIn-append, literal_eq-sound, literal_eq-itself, universal-not_existential, insert-IsIn, IsIn-insert, without-IsIn, has-IsIn, IsIn-has, IsIn-has_not, Expansion, copied-IsIn, not_in_list, ClassU, ClassM, ClassA, Classes, inner_of}
+use Rattle.q_logic.specs.Prelude.{Literal, literal_eq, Clause, Matrix, Prefix, IsIn, is_existential, insert, has, positive, without, in_list, shares, inner_existential, copy_of, copied, copied_literal, Reached, each_without}
+use Rattle.q_logic.proofs.Common.{IsIn-append, literal_eq-itself, universal-not_existential, insert-IsIn, IsIn-insert, without-IsIn, has-IsIn, IsIn-has, IsIn-has_not, Expansion, copied-IsIn, not_in_list, ClassU, ClassM, ClassA, Classes}
 use Rattle.q_logic.proofs.ExpandPrefix.{CopyOf, copy_of-in, copy_of-out}
 use Rattle.q_logic.proofs.ExpandLinks.{minus, Guarded}
+use Rattle.q_logic.proofs.LeastClosure.{shares-of}
+use Rattle.q_logic.proofs.ExpandRun.{no_literal, reached_u, reached_m}
 use Rattle.q_expand.specs.Steps.{over_copies}
-use Rattle.q_expand.proofs.ExpansionBounds.{shares-held}
 use Rattle.q_expand.proofs.ExpansionRun.{parted_one, parted}
 
 module _ (Q : Prefix) (X : Matrix) (u : ℕ) (V : List ℕ) (t : ℕ) (x : Expansion Q X u V t) where
@@ -58,18 +59,11 @@ module _ (Q : Prefix) (X : Matrix) (u : ℕ) (V : List ℕ) (t : ℕ) (x : Expan
     where
       go : Kind E → IsIn (positive u) E
       go (Kind.kept n p) = has-IsIn (positive u) E p
-      go (Kind.rest n p q) = absurd (true≢false (sym (shares-held V E k i h) ∙ q))
+      go (Kind.rest n p q) = absurd (true≢false (sym (shares-of V E k i h) ∙ q))
       go (Kind.over D n p q e) = absurd (true≢false (sym h ∙ over-free D k (subst (λ (y : Clause). IsIn k y) e i)))
       go (Kind.beside D n p r q e) = subst (λ (y : Clause). IsIn (positive u) y) (sym e) (IsIn-insert (positive u) D (positive u) (inl refl))
 
   -- Three sides: over the originals, over the copies, and neither.
-  no_literal : (l : Literal) (D : Clause) → has l D ≡ false → (k : Literal) → IsIn k D → literal_eq k l ≡ false
-  no_literal l D h k m = go (literal_eq k l) refl
-    where
-      go : (b : Bool) → literal_eq k l ≡ b → literal_eq k l ≡ false
-      go true q = absurd (IsIn-has_not l D h (subst (λ (y : Literal). IsIn y D) (literal_eq-sound k l q) m))
-      go false q = q
-
   side-kept : (D : Clause) → IsIn D X → has (positive u) D ≡ true → ClassU Q u V t D
   side-kept D m p k i = (x.below D m k i, x.closed D m (inl p) k i, no_literal (minus u) D (x.not_both D m p) k i)
 
@@ -114,7 +108,7 @@ module _ (Q : Prefix) (X : Matrix) (u : ℕ) (V : List ℕ) (t : ℕ) (x : Expan
   unshared D s k i = go (in_list k.var V) refl
     where
       go : (b : Bool) → in_list k.var V ≡ b → in_list k.var V ≡ false
-      go true q = absurd (true≢false (sym (shares-held V D k i q) ∙ s))
+      go true q = absurd (true≢false (sym (shares-of V D k i q) ∙ s))
       go false q = q
 
   side-rest : (D : Clause) → IsIn D X → shares V D ≡ false → ClassA Q u V t D
@@ -147,28 +141,6 @@ module _ (Q : Prefix) (X : Matrix) (u : ℕ) (V : List ℕ) (t : ℕ) (x : Expan
   kind-minus E (Kind.rest n p q) m = side-minus E n p q m
   kind-minus E (Kind.over D n p q e) m = subst (ClassM Q u V t) (sym e) (side-over D n p q)
   kind-minus E (Kind.beside D n p r q e) m = absurd (own (minus u) E (λ k i. (side-beside D n r q k (subst (λ (y : Clause). IsIn k y) e i)).2) m)
-
-  -- from the originals a link leads to the originals, and from the copies to the copies
-  reached_u : (Z : Matrix) (C : Clause) → Classes Q u V t Z → ClassU Q u V t C → (D : Clause) → Reached Q Z C (positive u) D → ClassU Q u V t D
-  reached_u Z C cs c D Reached.first = c
-  reached_u Z C cs c E (Reached.next {D = D} E2 k m n e o inZ f r) = go (reached_u Z C cs c D r) (cs E2 inZ)
-    where
-      go : ClassU Q u V t D → ClassU Q u V t E2 ⊎ (ClassM Q u V t E2 ⊎ ClassA Q u V t E2) → ClassU Q u V t E2
-      go d (inl y) = y
-      go d (inr (inl y)) = let a : in_list k.var V ≡ true = (d k m).1 (inner_of Q u k.var e o) in let b : in_list k.var V ≡ false = (y (negation k) n).0 in absurd (true≢false (sym a ∙ b))
-      go d (inr (inr y)) = let a : in_list k.var V ≡ true = (d k m).1 (inner_of Q u k.var e o) in let b : in_list k.var V ≡ false = (y (negation k) n).1 in absurd (true≢false (sym a ∙ b))
-
-  reached_m : (Z : Matrix) (C : Clause) → Classes Q u V t Z → ClassM Q u V t C → (D : Clause) → Reached Q Z C (minus u) D → ClassM Q u V t D
-  reached_m Z C cs c D Reached.first = c
-  reached_m Z C cs c E (Reached.next {D = D} E2 k m n e o inZ f r) = go (reached_m Z C cs c D r) (cs E2 inZ)
-    where
-      no : ClassM Q u V t D → k.var < t → ⊥
-      no d l = true≢false (sym (inner_of Q u k.var e o) ∙ (d k m).1 l)
-
-      go : ClassM Q u V t D → ClassU Q u V t E2 ⊎ (ClassM Q u V t E2 ⊎ ClassA Q u V t E2) → ClassM Q u V t E2
-      go d (inl y) = absurd (no d (y (negation k) n).0)
-      go d (inr (inl y)) = y
-      go d (inr (inr y)) = absurd (no d (y (negation k) n).0)
 
   -- u may leave all clauses, and then not u
   pub apart-positive : (Z : Matrix) → ((E : Clause) → IsIn E Z → Kind E) → (C D : Clause) → IsIn C Z → IsIn (positive u) C → Reached Q Z C (positive u) D → IsIn (minus u) D → ⊥

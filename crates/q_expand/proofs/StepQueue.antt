@@ -1,12 +1,12 @@
 -- Steps to come are taken one by one.
 use Rattle.std.proofs.Common.{◌≡◌, ◌≢◌, ◌≤◌, ◌<◌, ◌+◌, ◌*◌, ℕ, List, [], ◌∷◌, ◌++◌, length, Some, None, Option, sym, ◌∙◌, ap, subst, inl, inr, arith, append_assoc}
+use Rattle.std.proofs.lemmas.Bool.{cases_eq}
 use Rattle.q_logic.specs.Prelude.{Literal, IsBelow, Clause, PrenexFormula, ArePairs, ProofStep, add, delete, drop_literal, fresh, Valid, after, IsFirst, standard, slot, AreAlike}
-use Rattle.q_logic.proofs.Common.{existential-is_bound}
+use Rattle.q_logic.proofs.Common.{existential-is_bound, alike_swapped, alike_through}
 use Rattle.q_log.specs.Texts.{step_text}
-use Rattle.q_kernel.proofs.Basics.{ℕ-cases}
 use Rattle.q_kernel.specs.Prelude.{Seen, slots, formula_in, IsSound, MayAdd, IsAdded, MayDelete, IsDeleted, MayFresh, IsFreshened}
 use Rattle.q_kernel.proofs.TextCosts.{cost-add, cost-delete, cost-fresh, proper-var, within-small, proper-in_order}
-use Rattle.q_kernel.proofs.KernelRuns.{steps-same, alike-through, alike-turned, alike-after_add, alike-after_delete, alike-after_fresh, led-through, led-itself}
+use Rattle.q_kernel.proofs.KernelRuns.{steps-same, alike-after_add, alike-after_delete, alike-after_fresh, led-through, led-itself}
 use Rattle.q_kernel.proofs.SlotLists.{slot-set_other, slot-IsIn}
 use Rattle.q_expand.specs.Tracks.{price, words_for, ids_for, vars_for, total, IsReserved, AreReserved, IsOnTrack, CanTake, HasTaken, KeepsClauses}
 
@@ -47,7 +47,7 @@ track-on k n s cheap a b w i v g rest later G h =
     record {
       last = r.0;
       valid = r.1;
-      alike = alike-through r.0 h.last G (alike-turned h.last r.0 r.2) h.alike;
+      alike = alike_through r.0 h.last G (alike_swapped h.last r.0 r.2) h.alike;
       bytes = most (length (step_text s)) (price s) (total price rest) later k.spare_bytes n.spare_bytes cheap h.bytes b;
       words = less (words_for s) (total words_for rest) k.arena.spare_words n.arena.spare_words h.words w;
       ids = less (ids_for s) (total ids_for rest) k.arena.spare_ids n.arena.spare_ids h.ids i;
@@ -87,7 +87,7 @@ add-took k n p C id s o f c a = record {
 }
 
 pub add-keeps : (k n : Seen) (p : Option Literal) (C : Clause) (id : ℕ) → IsAdded k n p C id → KeepsClauses k n
-add-keeps k n p C id a c D e = elim (ℕ-cases c id) [
+add-keeps k n p C id a c D e = elim (cases_eq c id) [
   | inl f ↦ absurd (none_some D (sym (subst (λ (x : ℕ). slot (slots k) x ≡ None) (sym f) a.free) ∙ e))
   | inr d ↦ ap (λ N. slot N c) a.change ∙ (slot-set_other id c (Some C) (slots k) d ∙ e)
 ]

@@ -1,17 +1,17 @@
 -- The steps of an expansion are still to come where there is room, and what they lead to.
 use Rattle.std.proofs.Common.{◌≡◌, ◌≤◌, ◌+◌, ◌*◌, ℕ, Bool, true, false, cond, eqb, List, [], ◌∷◌, length, sym, ◌∙◌, ap, subst, arith, Some, None, Option}
-use Rattle.q_logic.proofs.Common.{size-alike, one, weight, rise, weight-with, reaches-valid, SameClauses, IsIn-alike, Expansion}
+use Rattle.q_logic.proofs.Common.{size-alike, one, weight, rise, weight-with, reaches-valid, SameClauses, IsIn-alike, Expansion, same-sizes}
 use Rattle.q_rule.proofs.LoopChanges.{with-less}
 use Rattle.q_logic.specs.declared.formulas.Quant.TheVariants.{Exists}
 use Rattle.q_logic.specs.declared.rule_bounds.Bounds.{Bounds}
-use Rattle.q_logic.specs.Prelude.{Literal, Clause, Matrix, Prefix, IsIn, PrenexFormula, is_universal, copies, AreAlike, Reached, size_of, with_literal, each_without, positive, insert_after, literals_in, standard, greatest, IsInLimits, Slots, slot, live, put_first, formula_of, clauses_at, insert_all, expanded, expand_universal}
+use Rattle.q_logic.specs.Prelude.{Clause, Matrix, Prefix, IsIn, PrenexFormula, is_universal, copies, AreAlike, Reached, size_of, with_literal, each_without, positive, insert_after, literals_in, standard, greatest, IsInLimits, Slots, slot, live, put_first, formula_of, clauses_at, insert_all, expanded, expand_universal}
 use Rattle.q_logic.proofs.ExpandLinks.{minus}
+use Rattle.q_logic.proofs.MeasureFalls.{each_without-smaller}
 use Rattle.q_kernel.specs.Prelude.{Seen, slots, formula_in, IsSound, IsLed, Applies}
 use Rattle.q_kernel.proofs.TextCosts.{proper-in_order}
-use Rattle.q_kernel.proofs.KernelRuns.{sizes-alike, led-through}
+use Rattle.q_kernel.proofs.KernelRuns.{led-through}
 use Rattle.q_kernel.proofs.SlotLists.{size-parts}
 use Rattle.q_rule.specs.Becoming.{IsChanged}
-use Rattle.q_rule.proofs.RuleResults.{each_without-less}
 use Rattle.q_expand.specs.Apart.{MayLose, HasLost}
 use Rattle.q_expand.specs.Dependents.{Walked, IsWhole, tally}
 use Rattle.q_expand.specs.Rooms.{HasRoom}
@@ -49,15 +49,6 @@ length-after w v (b ∷ P) = go (eqb b.var w) (length-after w v P)
 length-all : (V : List ℕ) (t : ℕ) (P : Prefix) → length (insert_all V t P) ≤ length P + length V
 length-all [] t P = omega arith
 length-all (x ∷ V) t P = let i = length-all V (t + 1) (insert_after x t P) in let j = length-after x t P in omega arith
-
-without-size : (l : Literal) (X : Matrix) → size_of (each_without l X) ≤ size_of X
-without-size l X =
-    let h = each_without-less l X in
-    let a = h.clauses in
-    let b = h.lits in
-    let c = size-parts X in
-    let d = size-parts (each_without l X) in
-    omega arith
 
 -- bytes for what comes after the steps
 abbrev pub later_of : Seen → ℕ → ℕ
@@ -178,7 +169,7 @@ module _ (B : Bounds) (k : Seen) (u : ℕ) (r : Walked) (s : IsSound k) (w : IsW
       }
 
       less-second : size_of (live (slots p)) ≤ 4 * size_of (live (slots k))
-      less-second = let i = small in let j = without-size (positive u) (live (slots n)) in subst (λ (Y : Matrix). size_of Y ≤ 4 * size_of (live (slots k))) (sym g.matrix) (omega arith)
+      less-second = let i = small in let j = each_without-smaller (positive u) (live (slots n)) in subst (λ (Y : Matrix). size_of Y ≤ 4 * size_of (live (slots k))) (sym g.matrix) (omega arith)
 
       later-second : 16 * (8 * size_of (live (slots k)) + (length k.prefix + length r.vars)) ≤ p.spare_bytes
       later-second = g.bytes (16 * (8 * size_of (live (slots k)) + (length k.prefix + length r.vars))) (let i = with-less (positive u) (live (slots n)) in let j = small in let b = h.bytes in omega arith)
@@ -211,13 +202,13 @@ module _ (B : Bounds) (k : Seen) (u : ℕ) (r : Walked) (s : IsSound k) (w : IsW
               ∙ ap (copies C) (sym matrix))
 
           sizes : (length (expanded u (vars_in k u) (first_in k) (live (slots k))) ≡ length (live (slots f))) × (literals_in (expanded u (vars_in k u) (first_in k) (live (slots k))) ≡ literals_in (live (slots f)))
-          sizes = sizes-alike (expanded u (vars_in k u) (first_in k) (live (slots k))) (live (slots f)) same
+          sizes = same-sizes (expanded u (vars_in k u) (first_in k) (live (slots k))) (live (slots f)) same
 
           left : 16 * (4 * size_of (live (slots k)) + (length k.prefix + length r.vars)) ≤ f.spare_bytes
           left = e.bytes (16 * (4 * size_of (live (slots k)) + (length k.prefix + length r.vars))) (let i = with-less (minus u) (live (slots p)) in let j = less-second in let b = later-second in omega arith)
 
           less : size_of (live (slots f)) ≤ 4 * size_of (live (slots k))
-          less = let i = less-second in let j = without-size (minus u) (live (slots p)) in subst (λ (Y : Matrix). size_of Y ≤ 4 * size_of (live (slots k))) (sym e.matrix) (omega arith)
+          less = let i = less-second in let j = each_without-smaller (minus u) (live (slots p)) in subst (λ (Y : Matrix). size_of Y ≤ 4 * size_of (live (slots k))) (sym e.matrix) (omega arith)
 
           long-prefix : length f.prefix ≤ length k.prefix + length r.vars
           long-prefix = let i = length-all V t P in let q = vars-number k u r s w in subst (λ (R : Prefix). length R ≤ length k.prefix + length r.vars) (sym prefix) (omega arith)

@@ -1,31 +1,14 @@
 -- A walk that ends has met all that is connected.
-use Rattle.std.proofs.Common.{◌≡◌, ◌⊎◌, ℕ, zero, suc, ◌+◌, ◌<◌, ◌≤◌, Bool, true, false, not, List, [], ◌∷◌, ◌++◌, slice_get, Some, length, refl, sym, ◌∙◌, ap, subst, inl, inr, arith, length-append}
+use Rattle.std.proofs.Common.{◌≡◌, ℕ, ◌+◌, ◌<◌, ◌≤◌, Bool, true, false, not, List, slice_get, Some, length, refl, sym, ◌∙◌, ap, subst, inl, inr, arith, length-append}
 use Rattle.std.proofs.lemmas.Option.{same_Some}
 use Rattle.q_logic.specs.Prelude.{Literal, negation, Clause, IsIn, positive, slot, live, Spread}
 use Rattle.q_logic.proofs.MeasureFalls.{var_is}
+use Rattle.q_logic.proofs.Common.{before_or_at, IsIn-slice_get, slice_get-before}
+use Rattle.q_logic.proofs.HintChains.{live-number}
 use Rattle.q_kernel.specs.Lists.{Has}
 use Rattle.q_kernel.specs.Prelude.{Seen, slots}
-use Rattle.q_kernel.proofs.SlotLists.{IsIn-slot}
 use Rattle.q_expand.specs.Dependents.{Walked, IsConnected, AreDependents, IsLarger, HasMet, IsWhole, IsVisited}
 use Rattle.q_expand.specs.declared.dependents.Room.{Room}
-
-member-place : (xs : List Literal) (k : Literal) → IsIn k xs → (j : ℕ) × (j < length xs) × (slice_get xs j ≡ Some k)
-member-place [] k m = absurd m
-member-place (x ∷ xs) k (inl e) = (0, omega arith, ap Some (sym e))
-member-place (x ∷ xs) k (inr m) = let r = member-place xs k m in (suc r.0, (let h = r.1 in omega arith), r.2)
-
-pub place-member : (xs : List Literal) (j : ℕ) (k : Literal) → slice_get xs j ≡ Some k → IsIn k xs
-place-member [] j k e = absurd (cc)
-place-member (x ∷ xs) zero k e = inl (cc)
-place-member (x ∷ xs) (suc j) k e = inr (place-member xs j k e)
-
-pub earlier : (n i : ℕ) → n < i + 1 → (n < i) ⊎ (n ≡ i)
-earlier n i h = grind arith
-
-before_growth : (xs ys : List Literal) (j : ℕ) (k : Literal) → j < length xs → slice_get (xs ++ ys) j ≡ Some k → slice_get xs j ≡ Some k
-before_growth [] ys j k l e = absurd (omega arith)
-before_growth (x ∷ xs) ys zero k l e = e
-before_growth (x ∷ xs) ys (suc j) k l e = before_growth xs ys j k (omega arith) e
 
 not-not : (b : Bool) → not (not b) ≡ b
 not-not true = refl
@@ -58,14 +41,14 @@ module _ (k : Seen) (u : ℕ) where
     within = let a = ap length v.larger.vars in let d = length-append old.vars v.larger.added in omega arith;
     dependents = v.dependents;
     own = (larger-met old new (positive u) v.larger w.own.0, larger-met old new (negation (positive u)) v.larger w.own.1);
-    visited = λ j i h f. elim (earlier j head h) [
+    visited = λ j i h f. elim (before_or_at j head h) [
       | inl a ↦ let o = w.visited j i a (was j i (let q = w.within in omega arith) f) in (larger-met old new i v.larger o.0, larger-met old new (negation i) v.larger o.1)
       | inr a ↦ subst (λ (x : Literal). HasMet k new x × HasMet k new (negation x)) (sym (here j i a f)) (v.met, n)
     ];
   }
     where
       was : (j : ℕ) (i : Literal) → j < length old.vars → slice_get new.vars j ≡ Some i → slice_get old.vars j ≡ Some i
-      was j i h f = before_growth old.vars v.larger.added j i h (subst (λ (xs : List Literal). slice_get xs j ≡ Some i) v.larger.vars f)
+      was j i h f = slice_get-before old.vars v.larger.added j i h (subst (λ (xs : List Literal). slice_get xs j ≡ Some i) v.larger.vars f)
 
       here : (j : ℕ) (i : Literal) → j ≡ head → slice_get new.vars j ≡ Some i → i ≡ l
       here j i a f = same_Some i l (sym (was j i (omega arith) f) ∙ (ap (slice_get old.vars) a ∙ e))
@@ -81,7 +64,7 @@ module _ (k : Seen) (u : ℕ) where
 
       by_var : (v c : ℕ) (C : Clause) (j : Literal) → IsIn (positive v) r.vars → slot (slots k) c ≡ Some C → IsIn j C → j.var ≡ v → Has r.met c
       by_var v c C j i e m f =
-          let p = member-place r.vars (positive v) i in
+          let p = IsIn-slice_get r.vars (positive v) i in
           let o = w.visited p.0 (positive v) (let b = p.1 in omega arith) p.2 in
           elim (var_is j v f) [
             | inl g ↦ o.0 c C e (subst (λ (x : Literal). IsIn x C) g m)
@@ -90,10 +73,10 @@ module _ (k : Seen) (u : ℕ) where
 
       closed : (v : ℕ) → Spread k.prefix (live (slots k)) u v → IsIn (positive v) r.vars
       closed v (Spread.starts D j i m a e b t) =
-          let s = IsIn-slot (slots k) D m in
+          let s = live-number (slots k) D m in
           w.dependents.spread s.0 D (by_u s.0 D j s.1 a e) s.1 i b t
       closed v (Spread.spreads {w = x} D j i m a e b t q) =
-          let s = IsIn-slot (slots k) D m in
+          let s = live-number (slots k) D m in
           w.dependents.spread s.0 D (by_var x s.0 D j (closed x q) s.1 a e) s.1 i b t
 
       all : (c : ℕ) (C : Clause) → slot (slots k) c ≡ Some C → IsConnected k.prefix (live (slots k)) u C → Has r.met c

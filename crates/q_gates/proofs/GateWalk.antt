@@ -2,18 +2,17 @@
 use Rattle.std.proofs.Common.{◌≡◌, ◌≢◌, ◌⊎◌, ℕ, zero, suc, ◌+◌, ◌-◌, ◌<◌, ◌≤◌, Bool, true, false, eqb, List, [], ◌∷◌, ◌++◌, length, get_or, set, refl, sym, ap, ◌∙◌, subst, inl, inr, arith, Option, Some, None}
 use Rattle.std.specs.Option.{option_to_list}
 use Rattle.std.proofs.lemmas.List.{get_or_default, length-set, get_or-set_same, get_or-set_other, get_or_past, length_push, get_or_append_left, get_or_push}
-use Rattle.std.proofs.lemmas.Bool.{cases_lt, both_ways, cases_Bool}
+use Rattle.std.proofs.lemmas.Bool.{cases_lt, both_ways, cases_Bool, cases_eq}
 use Rattle.q_logic.specs.Prelude.{Gate}
 use Rattle.q_gates.specs.Gates.{no_gate}
 use Rattle.q_gates.specs.Uses.{Parts, parts_of, part_at, Uses, DependsOn, direct, further, AreDefined, IsOrder, IsFullOrder}
-use Rattle.q_gates.proofs.Cases.{ℕ-cases}
 use Rattle.q_gates.specs.Sorting.{is_marked, unmarked_count, IsWalk}
 
 pub set-same : (ms : List Bool) (g : ℕ) → g < length ms → is_marked (set ms g true) g ≡ true
 set-same ms g lt = get_or-set_same ms g true false lt
 
 pub set-kept : (ms : List Bool) (g x : ℕ) → g < length ms → is_marked ms x ≡ true → is_marked (set ms g true) x ≡ true
-set-kept ms g x lt e = elim (ℕ-cases x g) [
+set-kept ms g x lt e = elim (cases_eq x g) [
   | inl q ↦ subst (λ (y : ℕ). is_marked (set ms g true) y ≡ true) (sym q) (set-same ms g lt)
   | inr n ↦ get_or-set_other ms g x true false n ∙ e
 ]
@@ -60,7 +59,7 @@ walk-push ps opened closed stack order h w lt o c u =
     record {
       opened_room = omega arith;
       closed_room = w.closed_room;
-      on_stack = λ g a b. elim (ℕ-cases g h) [
+      on_stack = λ g a b. elim (cases_eq g h) [
         | inl q ↦ (length stack, omega arith, last (length stack) refl ∙ sym q)
         | inr n ↦
             let s = w.on_stack g (sym (get_or-set_other opened h g true false n) ∙ a) b in
@@ -114,7 +113,7 @@ walk-pop ps opened closed stack order t w d =
     record {
       opened_room = w.opened_room;
       closed_room = omega arith;
-      on_stack = λ g a b. elim (ℕ-cases g t) [
+      on_stack = λ g a b. elim (cases_eq g t) [
         | inl q ↦ absurd (both_ways (is_marked (set closed t true) g) b (subst (λ (x : ℕ). is_marked (set closed t true) x ≡ true) (sym q) (set-same closed t tlc)))
         | inr n ↦
             let s = w.on_stack g a (sym (get_or-set_other closed t g true false n) ∙ b) in
@@ -159,7 +158,7 @@ walk-pop ps opened closed stack order t w d =
               (r.0, omega arith, oearly r.0 r.1 ∙ r.2)
         ];
       };
-      listed = λ g e. elim (ℕ-cases g t) [
+      listed = λ g e. elim (cases_eq g t) [
         | inl q ↦ (length order, omega arith, olast (length order) refl ∙ sym q)
         | inr n ↦
             let r = w.listed g (sym (get_or-set_other closed t g true false n) ∙ e) in
@@ -170,7 +169,7 @@ walk-pop ps opened closed stack order t w d =
         | inl a ↦ subst (λ (x : ℕ). is_marked (set closed t true) x ≡ true) (sym (oearly i a)) (set-kept closed t (get_or order i 0) tlc (w.listed_closed i a))
         | inr a ↦ subst (λ (x : ℕ). is_marked (set closed t true) x ≡ true) (sym (olast i (omega arith))) (set-same closed t tlc)
       ];
-      closed_opened = λ g e. elim (ℕ-cases g t) [
+      closed_opened = λ g e. elim (cases_eq g t) [
         | inl q ↦ subst (λ (x : ℕ). is_marked opened x ≡ true) (sym q) to
         | inr n ↦ w.closed_opened g (sym (get_or-set_other closed t g true false n) ∙ e)
       ];

@@ -1,4 +1,3 @@
-pub mod Cases
 pub mod GateWalk
 pub mod SearchSteps
 pub mod LowerGates

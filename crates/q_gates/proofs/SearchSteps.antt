@@ -1,12 +1,11 @@
 -- The search, one step further.
 use Rattle.std.proofs.Common.{◌≡◌, ◌⊎◌, ℕ, ◌+◌, ◌<◌, Bool, true, false, eqb, List, [], ◌∷◌, ◌++◌, length, get_or, set, refl, sym, ap, ◌∙◌, subst, inl, inr, arith, Option, Some}
 use Rattle.std.proofs.lemmas.List.{length-set, get_or-set_other, length_push, get_or_append_left, get_or_push}
-use Rattle.std.proofs.lemmas.Bool.{cases_lt, both_ways}
+use Rattle.std.proofs.lemmas.Bool.{cases_lt, both_ways, cases_eq}
 use Rattle.q_gates.specs.Uses.{Parts, Uses, DependsOn, direct, further, AreDefined}
 use Rattle.q_gates.specs.Sorting.{is_marked}
 use Rattle.q_gates.specs.Spreading.{IsSpent, IsSpread, IsStacked}
 use Rattle.std.specs.Option.{option_to_list}
-use Rattle.q_gates.proofs.Cases.{ℕ-cases}
 use Rattle.q_gates.proofs.GateWalk.{set-kept, set-same, defined, popped-same}
 
 pub spread-mark : (ps : Parts) (k : ℕ) (marks : List Bool) (stack stack2 : List ℕ) (g h : ℕ) → IsSpread ps k marks stack g → (g ≡ k) ⊎ DependsOn ps k g → Uses ps g h → h < length ps → stack2 ≡ stack ++ h ∷ [] → IsSpread ps k (set marks h true) stack2 g
@@ -21,7 +20,7 @@ spread-mark ps k marks stack stack2 g h s from u lt e =
     ] in
     subst (λ (st : List ℕ). IsSpread ps k (set marks h true) st g) (sym e) (record {
       room = omega arith;
-      reached = λ x m. elim (ℕ-cases x h) [
+      reached = λ x m. elim (cases_eq x h) [
         | inl q ↦ subst (DependsOn ps k) (sym q) d
         | inr n ↦ s.reached x (sym (get_or-set_other marks h x true false n) ∙ m)
       ];
@@ -29,7 +28,7 @@ spread-mark ps k marks stack stack2 g h s from u lt e =
         | inl a ↦ subst (λ (x : ℕ). is_marked (set marks h true) x ≡ true) (sym (get_or_append_left stack (h ∷ []) 0 i a)) (set-kept marks h (get_or stack i 0) hl (s.stacked i a))
         | inr a ↦ subst (λ (x : ℕ). is_marked (set marks h true) x ≡ true) (sym (get_or_push stack h 0 i (omega arith))) (set-same marks h hl)
       ];
-      spent = λ x m. elim (ℕ-cases x h) [
+      spent = λ x m. elim (cases_eq x h) [
         | inl q ↦ inl (length stack, omega arith, get_or_push stack h 0 (length stack) refl ∙ sym q)
         | inr n ↦ elim (s.spent x (elim m [ inl a ↦ inl a | inr b ↦ inr (sym (get_or-set_other marks h x true false n) ∙ b) ])) [
           | inl a ↦ inl (a.0, (let al : a.0 < length stack = a.1 in omega arith), get_or_append_left stack (h ∷ []) 0 a.0 a.1 ∙ a.2)

@@ -1,10 +1,10 @@
 -- The clauses of a generated formula: over its prefix, in literal order, and few.
-use Rattle.std.proofs.Common.{◌≡◌, ◌≤◌, ◌<◌, ◌+◌, ◌*◌, ◌/◌, ◌%◌, ℕ, suc, Bool, true, false, nat_lt, ◌==◌, List, [], ◌∷◌, inl, inr, ap, arith, length, if◌then◌else◌}
+use Rattle.std.proofs.Common.{◌≡◌, ◌≤◌, ◌<◌, ◌+◌, ◌*◌, ◌/◌, ◌%◌, ℕ, List, ◌∷◌, inl, inr, ap, arith, length}
 use Rattle.std.specs.List.{AllByRecursion}
 use Rattle.rand_core.specs.Pcg32Seed.{pcg32_seed}
 use Rattle.rand_pcg.specs.Pcg.{pcg32, pcg32_of_seed}
-use Rattle.q_logic.specs.Prelude.{Literal, IsBelow, pack, Clause, IsIn, insert, clause_of, ArePairs, IsProper, literals_in, standard, IsInLimits, greatest}
-use Rattle.q_logic.proofs.Common.{clause_of-ordered, IsIn-clause_of, AllByRecursion-IsIn}
+use Rattle.q_logic.specs.Prelude.{Literal, IsBelow, Clause, IsIn, clause_of, ArePairs, IsProper, literals_in, standard, IsInLimits, greatest}
+use Rattle.q_logic.proofs.Common.{clause_of-ordered, IsIn-clause_of, AllByRecursion-IsIn, clause_of-length}
 use Rattle.q_gen.specs.Generated.{literal_of, drawn_by, clauses_by, prefix_of, words_of, Generated}
 use Rattle.q_gen.proofs.GeneratedPrefix.{AreFrom, prefix-from, from-bound, from-distinct, from-ranges, from-greatest}
 use Rattle.q_gen.proofs.RandomWords.{length-words}
@@ -56,22 +56,6 @@ proper-by width w s words =
 
 -- how many clauses and literals there are
 
-insert-length : (l : Literal) (C : Clause) → length (insert l C) ≤ suc (length C)
-insert-length l [] = omega arith
-insert-length l (j ∷ C) = go (nat_lt (pack l) (pack j)) (pack l == pack j) (insert-length l C)
-  where
-    go : (s t : Bool) → length (insert l C) ≤ suc (length C) → length (if s then l ∷ j ∷ C else (if t then j ∷ C else j ∷ insert l C)) ≤ suc (suc (length C))
-    go true t h = omega arith
-    go false true h = omega arith
-    go false false h = omega arith
-
-clause-length : (ls : List Literal) → length (clause_of ls) ≤ length ls
-clause-length [] = omega arith
-clause-length (l ∷ ls) =
-    let i : length (clause_of ls) ≤ length ls = clause-length ls in
-    let j : length (insert l (clause_of ls)) ≤ suc (length (clause_of ls)) = insert-length l (clause_of ls) in
-    omega arith
-
 few-clauses : (width : ℕ) (words : List ℕ) → length (clauses_by width words) ≤ length words
 few-clauses width (a ∷ b ∷ c ∷ d ∷ words) = let i : length (clauses_by width words) ≤ length words = few-clauses width words in omega arith
 few-clauses width _ = omega arith
@@ -79,7 +63,7 @@ few-clauses width _ = omega arith
 few-literals : (width : ℕ) (words : List ℕ) → literals_in (clauses_by width words) ≤ length words
 few-literals width (a ∷ b ∷ c ∷ d ∷ words) =
     let i : literals_in (clauses_by width words) ≤ length words = few-literals width words in
-    let j : length (clause_of (drawn_by width a b c d)) ≤ 4 = clause-length (drawn_by width a b c d) in
+    let j : length (clause_of (drawn_by width a b c d)) ≤ 4 = clause_of-length (drawn_by width a b c d) in
     omega arith
 few-literals width _ = omega arith
 

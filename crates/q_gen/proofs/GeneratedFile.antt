@@ -1,15 +1,10 @@
 -- The file of a generated formula, created and written.
-use Rattle.std.proofs.Common.{◌≡◌, inl, inr, ℕ, List, [], ◌++◌, refl, ap, ◌∙◌, subst, take, Option, Some, None, unwrap_or, IfSome}
-use Rattle.q_io.specs.Files.{Disk, OthersStay, bytes_at, Empties, MayEmpty, Appends, AppendsPart}
+use Rattle.std.proofs.Common.{◌≡◌, inl, inr, ℕ, List, [], ◌++◌, refl, ap, ◌∙◌, take, Option, Some, None, unwrap_or, IfSome}
+use Rattle.q_io.specs.Files.{Disk, bytes_at, Empties, MayEmpty, Appends, AppendsPart}
+use Rattle.q_io.proofs.StoreContents.{at_some, others-through}
 use Rattle.q_dimacs.specs.Writing.{formula_text}
 use Rattle.q_gen.specs.Generated.{Generated}
 use Rattle.q_gen.specs.Outputs.{HoldsGenerated, HoldsGeneratedPart}
-
-at_some : {D : Type 0} (P : D → Type 0) (o : Option D) → IfSome o P → (d : D) → o ≡ Some d → P d
-at_some P o h d e = let k : IfSome (Some d) P = subst (λ x. IfSome x P) e h in k
-
-others-through : (name : List ℕ) (a b c : Disk) → OthersStay name a b → OthersStay name b c → OthersStay name a c
-others-through name a b c h k q n = k q n ∙ h q n
 
 pub untouched : (name : List ℕ) (seed size : ℕ) (held : Option Disk) → IfSome held (λ disk. HoldsGeneratedPart name seed size disk held)
 untouched name seed size None = tt

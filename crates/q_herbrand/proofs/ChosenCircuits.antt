@@ -1,22 +1,20 @@
 -- Circuits taken out of the draft, one further.
-use Rattle.std.proofs.Common.{◌≡◌, ℕ, ◌+◌, ◌<◌, Bool, true, false, cond, eqb, List, [], ◌∷◌, ◌++◌, length, get_or, take, arith, refl, sym, ap, ◌∙◌, subst, Option, Some, None}
+use Rattle.std.proofs.Common.{◌≡◌, ℕ, ◌+◌, ◌<◌, Bool, true, false, cond, eqb, List, [], length, get_or, take, arith, refl, sym, ap, ◌∙◌, subst, Option, Some, None}
 use Rattle.std.proofs.lemmas.List.{take_more}
-use Rattle.q_logic.specs.declared.formulas.Bound.{Bound}
+use Rattle.std.proofs.lemmas.Option.{same_Some}
 use Rattle.q_logic.specs.declared.formulas.Quant.TheVariants.{Exists, Forall}
-use Rattle.q_logic.specs.Prelude.{Prefix, Distinct, is_bound, is_exists, is_existential}
+use Rattle.q_logic.specs.Prelude.{Prefix, Distinct, is_exists, is_existential}
+use Rattle.q_logic.proofs.Common.{distinct-at}
 use Rattle.q_aig.specs.Prelude.{Net, IsLiteral, operand_of}
 use Rattle.q_carry.specs.Prelude.{look_at, AreLiterals, is_there}
 use Rattle.q_carry.proofs.CircuitCopies.{copy-there}
-use Rattle.q_carry.proofs.PrefixInputs.{no_bound, distinct-at}
-use Rattle.q_carry.proofs.VariableTables.{existentials-forall}
+use Rattle.q_carry.proofs.PrefixInputs.{no_bound}
+use Rattle.q_carry.proofs.VariableTables.{existentials-forall, is_existential-last}
 use Rattle.q_slots.specs.declared.slots.Slots.{Slots}
 use Rattle.q_slots.specs.declared.building.Settled.{Settled}
 use Rattle.q_slots.specs.Settled.{AreRows}
 use Rattle.q_herbrand.specs.declared.drafting.Draft.{Draft}
 use Rattle.q_herbrand.specs.Drafted.{IsBuiltFrom, IsChosen}
-
-some-same : (m n : ℕ) → Some m ≡ Some n → m ≡ n
-some-same m n e = cc
 
 pub chosen-none : (d : Draft) (m : Settled) → IsChosen [] d m []
 chosen-none d m = record { existentials = λ x. refl; built = λ x k e. absurd (cc) }
@@ -28,17 +26,6 @@ chosen-forall P i d m row dist lt q c = record {
   existentials = existentials-forall P i row dist lt q c.existentials;
   built = c.built;
 }
-
-existential-push : (Q : Prefix) (b : Bound) (x : ℕ) → is_bound Q b.var ≡ false →
-    is_existential (Q ++ b ∷ []) x ≡ cond (eqb x b.var) (is_exists b.quant) (is_existential Q x)
-existential-push [] b x h = go (eqb b.var x) refl
-  where
-    go : (t : Bool) → eqb b.var x ≡ t →
-        cond t (is_exists b.quant) false ≡ cond (eqb x b.var) (is_exists b.quant) false
-    go true e = let f : eqb x b.var ≡ true = grind arith in ap (λ (c : Bool). cond c (is_exists b.quant) false) (sym f)
-    go false e =
-        let f : eqb x b.var ≡ false = grind arith in ap (λ (c : Bool). cond c (is_exists b.quant) false) (sym f)
-existential-push (a ∷ Q) b x h = grind (arith, existential-push Q b x)
 
 pub chosen-exists : (P : Prefix) (i : ℕ) (d : Draft) (m : Settled) (row row2 : List (Option ℕ)) (k : ℕ) →
     Distinct P → i < length P → (get_or P i no_bound).quant ≡ Exists → IsChosen (take i P) d m row →
@@ -57,7 +44,7 @@ chosen-exists P i d m row row2 k dist lt q c b put = record {
         let p : is_existential (take (i + 1) P) x ≡ cond (eqb x (get_or P i no_bound).var) true
         (is_existential (take i P) x) =
         ap (λ (Q : Prefix). is_existential Q x) (take_more P i no_bound lt)
-        ∙ existential-push (take i P) (get_or P i no_bound) x (distinct-at P i no_bound dist lt)
+        ∙ is_existential-last (take i P) (get_or P i no_bound) x (distinct-at P i no_bound dist lt)
         ∙ ap (λ (s : Bool). cond (eqb x (get_or P i no_bound).var) s (is_existential (take i P) x)) q2 in
         split (eqb x (get_or P i no_bound).var) ∙ sym p
       where
@@ -69,7 +56,7 @@ chosen-exists P i d m row row2 k dist lt q c b put = record {
         IsBuiltFrom d m (look_at d.tables.circuits.items x) n
     made x n e true f =
         let z : (get_or P i no_bound).var ≡ x = grind arith in
-        let w : k ≡ n = some-same k n (sym (put x ∙ ap (λ (s : Bool). cond s (Some k) (look_at row x)) f) ∙ e) in
+        let w : k ≡ n = same_Some k n (sym (put x ∙ ap (λ (s : Bool). cond s (Some k) (look_at row x)) f) ∙ e) in
         subst (λ (y : ℕ). IsBuiltFrom d m (look_at d.tables.circuits.items y) n) z
         (subst (IsBuiltFrom d m (look_at d.tables.circuits.items (get_or P i no_bound).var)) w b)
     made x n e false f =

@@ -1,26 +1,19 @@
 -- Literals made false where others are, one step further; and entries that need no copy.
-use Rattle.std.proofs.Common.{◌≡◌, ℕ, ◌+◌, ◌-◌, ◌≤◌, Bool, true, false, not, ◌&&◌, cond, eqb, List, [], ◌∷◌, ◌++◌, length, get_or, drop, inl, inr, arith, refl, sym, ap, ◌∙◌, subst, Option, Some, None}
+use Rattle.std.proofs.Common.{◌≡◌, ℕ, ◌+◌, ◌-◌, ◌≤◌, Bool, true, false, not, cond, eqb, List, [], ◌∷◌, ◌++◌, length, get_or, drop, inl, inr, arith, refl, sym, ap, ◌∙◌, subst, Option, Some, None}
 use Rattle.std.proofs.lemmas.List.{length_push, drop_more}
+use Rattle.std.proofs.lemmas.Option.{same_Some}
 use Rattle.q_logic.specs.Prelude.{Literal, negation, Clause, Circuit, value_of, inverter, conjunction, Strategy, literal_circuit, raised, pivot, removed as undo_removed}
 use Rattle.q_logic.proofs.Common.{IsIn-append_left}
 use Rattle.q_aig.specs.Prelude.{Net, IsLiteral, tree_at, operand_of, turned, Serves, IsConjunction}
 use Rattle.q_aig.proofs.Substitutes.{serves-self, serves-same, serves-then, serves-inverter, serves-conjunction, turned-serves}
 use Rattle.q_carry.specs.Prelude.{look_at, AreLiterals, literal_operand, Stands, IsRaised, IsUndone}
-use Rattle.q_carry.proofs.Folds.{IsIn-last}
+use Rattle.q_carry.proofs.Folds.{IsIn-last, and-start, and-assoc}
 use Rattle.q_carry.proofs.LiteralRows.{literals-kept, at-kept, literal-serves, stands-put, literals-put}
 use Rattle.q_carry.proofs.CircuitParts.{grown-none, grown-then, grown-by, raise-more}
 use Rattle.q_logic.specs.Reversals.{none_of, lowered_one, lowered_by, turned as turned_entry, plain, removed}
 use Rattle.q_herbrand.specs.Inputs.{has_input}
 use Rattle.q_herbrand.specs.Parts.{IsNoneOf, IsLoweredOne, AreLowered}
 use Rattle.q_herbrand.specs.Carried.{IsCarried}
-
-and-start : (b : Bool) → (true && b) ≡ (b && true)
-and-start true = refl
-and-start false = refl
-
-and-assoc : (a b c : Bool) → ((a && b) && c) ≡ (a && (b && c))
-and-assoc true b c = refl
-and-assoc false b c = refl
 
 none_of-last : (c : Strategy) (C : Clause) (k : Literal) →
     Serves (conjunction (none_of c C) (inverter (literal_circuit c k))) (none_of c (C ++ k ∷ []))
@@ -58,15 +51,12 @@ none-more old now new ins tb C k l m n r li lt s e t d =
     }
 
 -- One literal.
-some-same : (m n : ℕ) → Some m ≡ Some n → m ≡ n
-some-same m n e = cc
-
 pub lowered-put : (old new : Net) (ins tb tb2 : List (Option ℕ)) (k : Literal) (a q r : ℕ) → AreLiterals old ins →
     AreLiterals old tb → look_at tb k.var ≡ Some a → IsRaised old new (not k.negative) a q r →
     ((x : ℕ) → look_at tb2 x ≡ cond (eqb x k.var) (Some r) (look_at tb x)) → IsLoweredOne old new ins tb tb2 q k
 lowered-put old new ins tb tb2 k a q r li lt is ra put = record {
   grown = ra.grown;
-  literals = literals-put new tb tb2 k.var (Some r) put (λ l e. subst (IsLiteral new) (some-same r l e) ra.there)
+  literals = literals-put new tb tb2 k.var (Some r) put (λ l e. subst (IsLiteral new) (same_Some r l e) ra.there)
       (literals-kept old new tb ra.grown.kept lt);
   at = λ U c h g sq.
       stands-put new ins tb tb2 U c (lowered_one h k c) k.var (Some r) put (λ x e. rw e)

@@ -1,7 +1,8 @@
 -- A slot filled, and a new one in its place.
 use Rattle.std.proofs.Common.{◌≡◌, ◌≢◌, ◌⊎◌, ℕ, ◌+◌, ◌<◌, ◌≤◌, Bool, true, false, cond, eqb, List, [], ◌∷◌, ◌++◌, length, get_or, set, inl, inr, arith, refl, sym, ap, ◌∙◌, subst, Option, Some, None}
 use Rattle.std.proofs.lemmas.List.{length_push, length-set, get_or_append_left, get_or_push, get_or_past, get_or-set_same, get_or-set_other}
-use Rattle.std.proofs.lemmas.Bool.{cases_lt}
+use Rattle.std.proofs.lemmas.Bool.{cases_lt, cases_eq, ne_eqb, eq-eqb}
+use Rattle.std.proofs.lemmas.Option.{same_Some}
 use Rattle.q_logic.specs.Prelude.{Circuit, input, Reads, replaced, Strategy, circuit_of, given, or_input, map_circuit, reread}
 use Rattle.q_aig.specs.Prelude.{Net, IsLiteral, tree_at, IsNet, Keeps, Serves}
 use Rattle.q_aig.proofs.Substitutes.{serves-same, serves-then}
@@ -9,41 +10,24 @@ use Rattle.q_carry.specs.Prelude.{look_at, IsGrown}
 use Rattle.q_carry.proofs.InputReads.{net-inputs}
 use Rattle.q_carry.proofs.LiteralRows.{literals-kept, inputs-kept, literals-put}
 use Rattle.q_carry.proofs.CircuitParts.{keeps-then}
+use Rattle.q_carry.proofs.NamedCertificates.{not-given}
 use Rattle.q_slots.specs.declared.slots.Slots.{Slots}
 use Rattle.q_slots.specs.Under.{under, twice}
 use Rattle.q_slots.specs.Slots.{AreSlots, AreOwned, IsRenewed, slot_at, owner_at}
 use Rattle.q_slots.proofs.ReplacedInputs.{replaced-under, under-same, twice-serves, replaced-unread, replaced-itself, replaced-other}
-use Rattle.q_slots.proofs.GateCounts.{same-or}
 use Rattle.q_herbrand.specs.Inputs.{has_input}
 use Rattle.q_herbrand.specs.Following.{tree_of_literal, standing, AreUnder, Follows, IsReady}
 use Rattle.q_herbrand.proofs.SubstitutedCircuits.{serves-replaced}
-
-some-same : (m n : ℕ) → Some m ≡ Some n → m ≡ n
-some-same m n e = cc
-
-pub other-is : (x y : ℕ) → x ≢ y → eqb x y ≡ false
-other-is x y n = go (eqb x y) refl
-  where
-    go : (b : Bool) → eqb x y ≡ b → eqb x y ≡ false
-    go true e = absurd (n (grind arith))
-    go false e = e
-
-pub same-is : (x y : ℕ) → x ≡ y → eqb x y ≡ true
-same-is x y e = grind arith
-
-not-given : (o : Option Circuit) → given o ≡ false → o ≡ None
-not-given None e = refl
-not-given (Some t) e = absurd (cc)
 
 -- another circuit for one slot
 abbrev pub with_slot : ℕ → Circuit → (ℕ → Circuit) → ℕ → Circuit
 with_slot n t r x = cond (eqb x n) t (r x)
 
 pub with-same : (n : ℕ) (t : Circuit) (r : ℕ → Circuit) → with_slot n t r n ≡ t
-with-same n t r = ap (λ (b : Bool). cond b t (r n)) (same-is n n refl)
+with-same n t r = ap (λ (b : Bool). cond b t (r n)) (eq-eqb n n refl)
 
 pub with-other : (n : ℕ) (t : Circuit) (r : ℕ → Circuit) (x : ℕ) → x ≢ n → with_slot n t r x ≡ r x
-with-other n t r x d = ap (λ (b : Bool). cond b t (r x)) (other-is x n d)
+with-other n t r x d = ap (λ (b : Bool). cond b t (r x)) (ne_eqb x n d)
 
 module _ (a a1 b : Net) (ins tb tb1 : List (Option ℕ)) (z z1 z2 : Slots) (v lit to k : ℕ) (net : IsNet a) (ready :
     IsReady a ins tb z) (vl : v < length z.current.items) (hv : has_input ins v ≡ true) (new : IsRenewed a a1 tb
@@ -121,7 +105,7 @@ module _ (a a1 b : Net) (ins tb tb1 : List (Option ℕ)) (z z1 z2 : Slots) (v li
       ((s < length z.definitions.items) × (s ≢ slot_at z.current.items v) ×
       (look_at z.definitions.items s ≡ None)) ⊎ (s ≡ length z.definitions.items)
   empty-before s h e = elim (cases_lt s (length z.definitions.items)) [
-    | inl l ↦ elim (same-or s (slot_at z.current.items v)) [
+    | inl l ↦ elim (cases_eq s (slot_at z.current.items v)) [
       | inl q ↦ absurd (let f : None ≡ Some to = sym e ∙ ap (look_at z2.definitions.items) q ∙ filled-is in cc)
       | inr n ↦ inl (l, n, sym (other-is-kept s n l) ∙ e)
     ]
@@ -131,15 +115,15 @@ module _ (a a1 b : Net) (ins tb tb1 : List (Option ℕ)) (z z1 z2 : Slots) (v li
   slots-next : AreSlots b z2
   slots-next = record {
     room = owners-room ∙ sym room;
-    literals = λ s l e. elim (same-or s (slot_at z.current.items v)) [
-      | inl q ↦ subst (IsLiteral b) (some-same to l (sym filled-is ∙ ap (look_at z2.definitions.items) (sym q) ∙ e)) lt
+    literals = λ s l e. elim (cases_eq s (slot_at z.current.items v)) [
+      | inl q ↦ subst (IsLiteral b) (same_Some to l (sym filled-is ∙ ap (look_at z2.definitions.items) (sym q) ∙ e)) lt
       | inr n ↦ elim (cases_lt s (length z.definitions.items)) [
         | inl h ↦ (kept l (ready.slots.literals s l (sym (other-is-kept s n h) ∙ e))).0
         | inr h ↦ absurd (none-past s l h e)
       ]
     ];
     names = names;
-    there = λ w wl. elim (same-or w v) [
+    there = λ w wl. elim (cases_eq w v) [
       | inl q ↦ let f : slot_at z2.current.items w ≡ length z.definitions.items =
           ap (slot_at z2.current.items) q ∙ slot-new in let r = room in omega arith
       | inr n ↦
@@ -148,7 +132,7 @@ module _ (a a1 b : Net) (ins tb tb1 : List (Option ℕ)) (z z1 z2 : Slots) (v li
           let r = room in
           omega arith
     ];
-    empty = λ w wl. elim (same-or w v) [
+    empty = λ w wl. elim (cases_eq w v) [
       | inl q ↦ ap (look_at z2.definitions.items) (ap (slot_at z2.current.items) q ∙ slot-new) ∙ new-is
       | inr n ↦
           let wl2 : w < length z.current.items = (let c = current-room in omega arith) in
@@ -156,7 +140,7 @@ module _ (a a1 b : Net) (ins tb tb1 : List (Option ℕ)) (z z1 z2 : Slots) (v li
           ∙ other-is-kept (slot_at z.current.items w) (apart w wl2 n) (ready.slots.there w wl2)
           ∙ ready.slots.empty w wl2
     ];
-    owned = λ w wl. elim (same-or w v) [
+    owned = λ w wl. elim (cases_eq w v) [
       | inl q ↦ ap (owner_at z2.owners.items) (ap (slot_at z2.current.items) q ∙ slot-new) ∙ owner-new ∙ sym q
       | inr n ↦
           let wl2 : w < length z.current.items = (let c = current-room in omega arith) in
@@ -180,7 +164,7 @@ module _ (a a1 b : Net) (ins tb tb1 : List (Option ℕ)) (z z1 z2 : Slots) (v li
   }
     where
       none-past : (s l : ℕ) → length z.definitions.items ≤ s → look_at z2.definitions.items s ≡ Some l → ⊥
-      none-past s l h e = elim (same-or s (length z.definitions.items)) [
+      none-past s l h e = elim (cases_eq s (length z.definitions.items)) [
         | inl q ↦ let f : None ≡ Some l = sym new-is ∙ ap (look_at z2.definitions.items) (sym q) ∙ e in cc
         | inr n ↦
             let past : look_at z2.definitions.items s ≡ None =
@@ -213,7 +197,7 @@ module _ (a a1 b : Net) (ins tb tb1 : List (Option ℕ)) (z z1 z2 : Slots) (v li
     literals = literals-kept a b ins kept ready.literals;
     at = inputs-kept a b ins (has_input ins) kept ready.literals ready.at;
     circuits = literals-put b tb tb1 v (Some lit) new.circuits
-        (λ l e. subst (IsLiteral b) (some-same lit l e) (grown.kept lit new.there).0)
+        (λ l e. subst (IsLiteral b) (same_Some lit l e) (grown.kept lit new.there).0)
         (literals-kept a b tb kept ready.circuits);
     within = λ w h. let l = ready.within w h in let c = current-room in omega arith;
   }
@@ -263,7 +247,7 @@ module _ (a a1 b : Net) (ins tb tb1 : List (Option ℕ)) (z z1 z2 : Slots) (v li
           ∙ sym (replaced-under v (twice (under now (tree_at b to))) w.resolution q)
 
       next-to : under next (tree_at b to) ≡ under now (tree_at b to)
-      next-to = under-same next now (tree_at b to) (λ x r. go x (clear x r) (same-or x (length z.definitions.items)))
+      next-to = under-same next now (tree_at b to) (λ x r. go x (clear x r) (cases_eq x (length z.definitions.items)))
         where
           go : (x : ℕ) → (x ≡ length z.definitions.items) ⊎ (Reads (w.resolution x) v → ⊥) →
               (x ≡ length z.definitions.items) ⊎ (x ≢ length z.definitions.items) → next x ≡ now x
@@ -301,7 +285,7 @@ module _ (a a1 b : Net) (ins tb tb1 : List (Option ℕ)) (z z1 z2 : Slots) (v li
           (s < length z.definitions.items) × (look_at z.definitions.items s ≡ Some l)
       filled-before s l n e = elim (cases_lt s (length z.definitions.items)) [
         | inl h ↦ (h, sym (other-is-kept s n h) ∙ e)
-        | inr h ↦ elim (same-or s (length z.definitions.items)) [
+        | inr h ↦ elim (cases_eq s (length z.definitions.items)) [
           | inl q ↦ absurd (let f : None ≡ Some l = sym new-is ∙ ap (look_at z2.definitions.items) (sym q) ∙ e in cc)
           | inr m ↦
               let past : look_at z2.definitions.items s ≡ None =
@@ -311,9 +295,9 @@ module _ (a a1 b : Net) (ins tb tb1 : List (Option ℕ)) (z z1 z2 : Slots) (v li
       ]
 
       next-filled : (s l : ℕ) → look_at z2.definitions.items s ≡ Some l → next s ≡ twice (under next (tree_at b l))
-      next-filled s l e = elim (same-or s (slot_at z.current.items v)) [
+      next-filled s l e = elim (cases_eq s (slot_at z.current.items v)) [
         | inl q ↦
-            let tl : to ≡ l = some-same to l (sym filled-is ∙ ap (look_at z2.definitions.items) (sym q) ∙ e) in
+            let tl : to ≡ l = same_Some to l (sym filled-is ∙ ap (look_at z2.definitions.items) (sym q) ∙ e) in
             ap next q ∙ next-is (slot_at z.current.items v) before
             ∙ ap (replaced v (twice (under now (tree_at b to))))
             (w.resolved.empty (slot_at z.current.items v) before (ready.slots.empty v vl)
@@ -335,7 +319,7 @@ module _ (a a1 b : Net) (ins tb tb1 : List (Option ℕ)) (z z1 z2 : Slots) (v li
       new-circuit : standing b tb1 v ≡ Some (input (length z.definitions.items))
       new-circuit =
           let p : look_at tb1 v ≡ Some lit =
-          new.circuits v ∙ ap (λ (q : Bool). cond q (Some lit) (look_at tb v)) (same-is v v refl) in
+          new.circuits v ∙ ap (λ (q : Bool). cond q (Some lit) (look_at tb v)) (eq-eqb v v refl) in
           ap (tree_of_literal b) p ∙ ap Some ((grown.kept lit new.there).1 ∙ new.tree)
 
       old-circuit : (x : ℕ) (q : Circuit) → x ≢ v → standing a tb x ≡ Some q → (l : ℕ) × IsLiteral a l ×
@@ -348,7 +332,7 @@ module _ (a a1 b : Net) (ins tb tb1 : List (Option ℕ)) (z z1 z2 : Slots) (v li
           go (Some l) f g =
               let il : IsLiteral a l = ready.circuits x l f in
               let p : look_at tb1 x ≡ Some l = new.circuits x
-              ∙ ap (λ (q : Bool). cond q (Some lit) (look_at tb x)) (other-is x v n) ∙ f in
+              ∙ ap (λ (q : Bool). cond q (Some lit) (look_at tb x)) (ne_eqb x v n) ∙ f in
               (l, il, cc, ap (tree_of_literal b) p ∙ ap Some (kept l il).1)
 
       reread-circuit : (x : ℕ) → x ≢ v → circuit_of (reread v t c) x ≡ replaced v t (circuit_of c x)
@@ -366,7 +350,7 @@ module _ (a a1 b : Net) (ins tb tb1 : List (Option ℕ)) (z z1 z2 : Slots) (v li
           go (Some q) = refl
 
       under-next : AreUnder next (has_input ins) (standing b tb1) (reread v t c)
-      under-next x h = elim (same-or x v) [
+      under-next x h = elim (cases_eq x v) [
         | inl e ↦ subst (λ (y : ℕ). (q : Circuit) × (standing b tb1 y ≡ Some q) × Serves (under next q)
             (circuit_of (reread v t c) y)) (sym e) (
               input (length z.definitions.items),

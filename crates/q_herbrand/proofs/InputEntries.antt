@@ -2,6 +2,7 @@
 use Rattle.std.proofs.Common.{◌≡◌, ◌⊎◌, ℕ, ◌+◌, ◌<◌, Bool, true, false, cond, eqb, List, [], ◌∷◌, ◌++◌, length, get_or, take, map, inl, inr, arith, refl, sym, ap, ◌∙◌, subst, Option, Some, None}
 use Rattle.std.proofs.lemmas.List.{length_push, length-map, get_or-map, get_or_append_left, get_or_push, take_more}
 use Rattle.std.proofs.lemmas.Bool.{cases_lt}
+use Rattle.std.proofs.lemmas.Option.{same_Some}
 use Rattle.q_logic.specs.declared.formulas.Bound.{Bound}
 use Rattle.q_logic.specs.Prelude.{Prefix, is_exists, is_existential, input, input_at, Operand, IsThere, operand_tree, gate_trees}
 use Rattle.q_logic.proofs.Common.{IsIn-append}
@@ -13,9 +14,6 @@ use Rattle.q_herbrand.specs.Inputs.{has_input, AreInputs, IsAdded, AreOpened, Ar
 pub there-is : (m : Option ℕ) → is_there m ≡ true → (l : ℕ) × (m ≡ Some l)
 there-is None h = absurd (cc)
 there-is (Some l) h = (l, refl)
-
-some-same : (m n : ℕ) → Some m ≡ Some n → m ≡ n
-some-same m n e = cc
 
 pub added-there : (a : Net) (ins : List (Option ℕ)) (v l : ℕ) → AreInputs a.inputs ins → look_at ins v ≡ Some l →
     IsAdded a a ins ins v
@@ -59,7 +57,7 @@ added-new a b ins ins2 v l i ei eg o put = record {
         (k : ℕ) × (k < length b.inputs) × (get_or b.inputs k 0 ≡ x) ×
         (operand_of m ≡ record { node = input_at k; negated = false })
     sound x m e true q =
-        let z : l ≡ m = some-same l m (sym (itself x q) ∙ e) in
+        let z : l ≡ m = same_Some l m (sym (itself x q) ∙ e) in
         let y : v ≡ x = grind arith in (
           length a.inputs,
           subst (λ (xs : List ℕ). length a.inputs < length xs) (sym ei) (omega (arith, len)),
@@ -168,7 +166,7 @@ fresh-more a b c ins ins1 ins2 rs r v is f d = record {
   fresh = λ w m. elim (IsIn-append (freshened w) rs (r ∷ []) m) [
     | inl h ↦ d.kept w (f.fresh w h)
     | inr h ↦ elim h [
-      | inl e ↦ let z : v ≡ w = some-same v w (sym is ∙ fresh-is r w e) in
+      | inl e ↦ let z : v ≡ w = same_Some v w (sym is ∙ fresh-is r w e) in
           subst (λ (y : ℕ). has_input ins2 y ≡ true) z d.here
       | inr e ↦ absurd e
     ]

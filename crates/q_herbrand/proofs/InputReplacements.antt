@@ -1,32 +1,31 @@
 -- Entries that put a circuit in place of an input: its slot is filled.
 use Rattle.std.proofs.Common.{◌≡◌, ◌≢◌, ◌⊎◌, ℕ, ◌+◌, ◌-◌, ◌<◌, ◌≤◌, Bool, true, false, cond, eqb, List, length, set, inl, inr, arith, refl, sym, ap, ◌∙◌, subst, Option, Some, None}
+use Rattle.std.proofs.lemmas.Option.{same_Some}
+use Rattle.std.proofs.lemmas.Bool.{cases_eq, ne_eqb, eq-eqb}
 use Rattle.q_logic.specs.Prelude.{Literal, Clause, IsIn, Circuit, constant, input, inverter, conjunction, disjunction, Reads, Strategy, circuit_of, given, or_input, literals_in, all_of, falsum}
 use Rattle.q_logic.specs.Reversals.{Reversal, added, freshened, lifted}
-use Rattle.q_logic.proofs.Common.{Reads-all_of}
+use Rattle.q_logic.proofs.Common.{Reads-all_of, none_or_some}
 use Rattle.q_aig.specs.Prelude.{Net, IsLiteral, tree_at, operand_of, IsNet, Serves}
 use Rattle.q_aig.proofs.Substitutes.{serves-same, serves-then}
 use Rattle.q_carry.specs.Prelude.{OutersCovered, look_at, AreLiterals, IsAt, IsGrown, IsAllOf, IsRaised}
 use Rattle.q_carry.proofs.InputReads.{net-inputs}
 use Rattle.q_carry.proofs.LiteralRows.{inputs-kept, literals-kept, literals-put}
-use Rattle.q_carry.proofs.CircuitParts.{grown-none, keeps-then, raise-more, constant-there, false-serves, none-or-some, same-gates}
+use Rattle.q_carry.proofs.CircuitParts.{grown-none, keeps-then, raise-more, constant-there, false-serves, same-gates}
+use Rattle.q_carry.proofs.NamedCertificates.{not-given}
 use Rattle.q_slots.specs.declared.slots.Slots.{Slots}
 use Rattle.q_slots.specs.Under.{under}
 use Rattle.q_slots.specs.Slots.{IsRenewed, slot_at}
 use Rattle.q_slots.proofs.ReplacedInputs.{under-same, Reads-through, serves-under}
-use Rattle.q_slots.proofs.GateCounts.{same-or}
 use Rattle.q_herbrand.specs.Inputs.{has_input}
 use Rattle.q_herbrand.specs.Covered.{EntryCovered, OutersClear}
 use Rattle.q_herbrand.specs.Following.{tree_of_literal, standing, AreUnder, Follows, IsReady, IsTaken}
 use Rattle.q_herbrand.proofs.SlotCircuits.{standing-at, under-covered, all-under, raised-under}
-use Rattle.q_herbrand.proofs.FilledSlots.{same-is, other-is, with_slot, with-same, with-other, ready-next, follows-next}
-
-some-same : (m n : ℕ) → Some m ≡ Some n → m ≡ n
-some-same m n e = cc
+use Rattle.q_herbrand.proofs.FilledSlots.{with_slot, with-same, with-other, ready-next, follows-next}
 
 pub renewed-literals : (a b : Net) (tb tb1 : List (Option ℕ)) (z z1 : Slots) (v l : ℕ) → AreLiterals a tb →
     IsRenewed a b tb tb1 z z1 v l → AreLiterals b tb1
 renewed-literals a b tb tb1 z z1 v l h r = literals-put b tb tb1 v (Some l) r.circuits
-    (λ k e. subst (IsLiteral b) (some-same l k e) r.there) (literals-kept a b tb r.kept h)
+    (λ k e. subst (IsLiteral b) (same_Some l k e) r.there) (literals-kept a b tb r.kept h)
 
 -- An entry on a variable that is no input asks for what cannot be.
 pub taken-absent : (a : Net) (ins tb : List (Option ℕ)) (z : Slots) (r : Reversal) (v : ℕ) → IsReady a ins tb z →
@@ -75,7 +74,7 @@ module _ (a a1 mid b : Net) (ins tb tb1 : List (Option ℕ)) (z z1 z2 : Slots) (
   costs =
       let x : length mid.gates ≤ length a1.gates + (literals_in Os + (length Os - 1)) = al.grown.gates in
       let y : length b.gates ≤ length mid.gates + 1 = ra.grown.gates in
-      elim (none-or-some (length Os)) [
+      elim (none_or_some (length Os)) [
         | inl e ↦ let f : length b.gates ≡ length mid.gates = same-gates b mid (free (al.constant e)) in omega arith
         | inr e ↦ omega arith
       ]
@@ -92,13 +91,9 @@ module _ (a a1 mid b : Net) (ins tb tb1 : List (Option ℕ)) (z z1 z2 : Slots) (
     abbrev now : ℕ → Circuit
     now = with_slot (length z.definitions.items) (input l.var) w.resolution
 
-    not-given : (o : Option Circuit) → given o ≡ false → o ≡ None
-    not-given None e = refl
-    not-given (Some t) e = absurd (cc)
-
     here : standing a1 tb1 l.var ≡ Some (input (length z.definitions.items))
     here =
-        let e : eqb l.var l.var ≡ true = same-is l.var l.var refl in
+        let e : eqb l.var l.var ≡ true = eq-eqb l.var l.var refl in
         let p : look_at tb1 l.var ≡ Some lit =
         new.circuits l.var ∙ ap (λ (s : Bool). cond s (Some lit) (look_at tb l.var)) e in
         ap (tree_of_literal a1) p ∙ ap Some new.tree
@@ -114,7 +109,7 @@ module _ (a a1 mid b : Net) (ins tb tb1 : List (Option ℕ)) (z z1 z2 : Slots) (
         go (Some k) f g =
             let il : IsLiteral a k = q.circuits x k f in
             let p : look_at tb1 x ≡ Some k = new.circuits x
-            ∙ ap (λ (s : Bool). cond s (Some lit) (look_at tb x)) (other-is x l.var n) ∙ f in
+            ∙ ap (λ (s : Bool). cond s (Some lit) (look_at tb x)) (ne_eqb x l.var n) ∙ f in
             let t2 : tree_at a k ≡ t = cc in (
               ap (tree_of_literal a1) p ∙ ap Some ((new.kept k il).1 ∙ t2),
               λ u r.
@@ -125,7 +120,7 @@ module _ (a a1 mid b : Net) (ins tb tb1 : List (Option ℕ)) (z z1 z2 : Slots) (
             )
 
     under-now : AreUnder now (has_input ins) (standing a1 tb1) c
-    under-now x h = elim (same-or x l.var) [
+    under-now x h = elim (cases_eq x l.var) [
       | inl e ↦ subst (λ (y : ℕ). (t : Circuit) × (standing a1 tb1 y ≡ Some t) × Serves (under now t)
           (circuit_of c y)) (sym e) (
             input (length z.definitions.items),
@@ -180,7 +175,7 @@ module _ (a a1 mid b : Net) (ins tb tb1 : List (Option ℕ)) (z z1 z2 : Slots) (
         through : (O : Clause) → IsIn O Os → (k : Literal) → IsIn k O →
             Reads (circuit_of (standing a1 tb1) k.var) x →
             (x ≡ length z.definitions.items) ⊎ (Reads (w.resolution x) l.var → ⊥)
-        through O i k j g = elim (same-or k.var l.var) [
+        through O i k j g = elim (cases_eq k.var l.var) [
           | inl e ↦
               let y : circuit_of (standing a1 tb1) k.var ≡ input (length z.definitions.items) =
               ap (circuit_of (standing a1 tb1)) e ∙ ap (or_input l.var) here in

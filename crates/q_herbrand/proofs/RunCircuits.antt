@@ -4,13 +4,12 @@ use Rattle.std.proofs.lemmas.Bool.{cases_Bool, both_ways}
 use Rattle.q_logic.specs.declared.formulas.Quant.{Quant}
 use Rattle.q_logic.specs.declared.formulas.Quant.TheVariants.{Exists, Forall}
 use Rattle.q_logic.specs.Prelude.{Literal, negation, Prefix, Clause, Matrix, IsIn, PrenexFormula, is_exists, is_existential, is_universal, is_bound, outer_or_same, Distinct, IsFormula, Assignment, Circuit, value_of, constant, replaced, CertificateView, trees_of, Strategy, circuit_of, outcome, Lawful, given, or_input, map_circuit, reread, keeps, ProofStep, add, delete, drop_literal, fresh, remove_variable, one_less, insert_after, removed_from, after, Run, OutersOf}
-use Rattle.q_logic.proofs.Common.{IsIn-outer, circuit_of-none, IsIn-append_left, IsIn-append_right, Justified, JustifiedSteps, JustifiedRun, Run-justified, is_bound-universal, existential-is_bound, outer_existential-free, universal-not_existential, insert-is_existential, removed-is_existential, removed-unbound, one_less-IsIn, at_or_other, after-formula}
+use Rattle.q_logic.proofs.Common.{IsIn-outer, circuit_of-none, IsIn-append_left, IsIn-append_right, Justified, JustifiedSteps, JustifiedRun, Run-justified, is_bound-universal, existential-is_bound, outer_existential-free, universal-not_existential, insert-is_existential, removed-is_existential, removed-unbound, one_less-IsIn, at_or_other, after-formula, unbound-universal}
 use Rattle.q_logic.proofs.Outers.{outers-members}
 use Rattle.q_aig.specs.Prelude.{Net, tree_at, Serves}
 use Rattle.q_aig.proofs.Substitutes.{serves-same, serves-then}
 use Rattle.q_carry.specs.Prelude.{IsCovered, OutersCovered, look_at, IsAt, Stands, is_there, universals, existentials, IsNamed}
 use Rattle.q_carry.specs.Narrowed.{IsNarrowed}
-use Rattle.q_carry.proofs.BoundVariables.{unbound-universal}
 use Rattle.q_carry.proofs.NamedCertificates.{made-serves, made-lawful}
 use Rattle.q_slots.specs.declared.building.Settled.{Settled}
 use Rattle.q_slots.specs.Under.{under}

@@ -3,7 +3,7 @@ use Rattle.std.proofs.Common.{◌≡◌, true, List, [], ◌∷◌, ◌++◌, Op
 use Rattle.q_logic.specs.declared.limits.Limits.{Limits}
 use Rattle.q_logic.specs.Prelude.{Literal, negation, Clause, Matrix, Prefix, PrenexFormula, standard, formula_of, is_bound, Implied, ProofStep, add, delete, drop_literal, fresh, remove_variable, one_less, IsWarranted, Valid, after, ValidSteps, AreAlike}
 use Rattle.q_logic.specs.Reversals.{Reversal, IsExtended, Reversed, Reversals}
-use Rattle.q_logic.proofs.Common.{Within, implied-within, forall_pivot-within, outers-same, alike_swapped, alike_through, alike_valid, alike_after, existential-is_bound, SameClauses, IsIn-alike, alike-sym}
+use Rattle.q_logic.proofs.Common.{Within, implied-within, forall_pivot-within, outers-same, alike_swapped, alike_through, alike_valid, alike_after, existential-is_bound, SameClauses, IsIn-alike, alike-sym, valid_more}
 use Rattle.q_logic.proofs.ClauseCounts.{one_less-same}
 use Rattle.q_herbrand.specs.declared.reversal.Reversal.{Reversal as Entry}
 use Rattle.q_herbrand.specs.Entries.{entry_of, entries_of}
@@ -75,13 +75,6 @@ pub alike_extended : (F G : PrenexFormula) (t : ProofStep) → AreAlike F G → 
 alike_extended F G t a x =
     subst (λ (P : Prefix). IsExtended (formula_of P G.matrix) t) a.prefix
     (same_extended F.prefix F.matrix G.matrix a.clauses t x)
-
--- One step more.
-valid_more : (m : Limits) (F : PrenexFormula) (ss : List ProofStep) (E : PrenexFormula) (t : ProofStep) →
-    ValidSteps m F ss E → Valid m E t → ValidSteps m F (ss ++ t ∷ []) (after E t)
-valid_more m F [] E t v w =
-    (subst (λ (G : PrenexFormula). Valid m G t) (sym v) w, ap (λ (G : PrenexFormula). after G t) v)
-valid_more m F (u ∷ ss) E t v w = (v.0, valid_more m (after F u) ss E t v.1 w)
 
 reversals_more : (m : Limits) (F : PrenexFormula) (ss : List ProofStep) (E : PrenexFormula) (t : ProofStep)
     (rs es : List Reversal) → ValidSteps m F ss E → Reversals F ss rs → Reversed E t es →

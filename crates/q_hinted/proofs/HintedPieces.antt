@@ -85,10 +85,6 @@ next-leads v s new tokens piece n o a is r l g h rest =
     let m = answered a new T (to_come w (take n piece ++ rest)) rest k (goes-leads v.tokens tokens v.left v.place piece n o rest l g) in
     subst (λ (q : BothState). Leads a (to_come q (take n piece ++ rest)) (to_come new rest)) e m
 
-pub take-one : (bs : List ℕ) → 0 < length bs → take 1 bs ≡ get_or bs 0 0 ∷ []
-take-one [] h = absurd (omega arith)
-take-one (b ∷ bs) h = refl
-
 -- the state behind bytes that hand out nothing
 one-behind : (t : Tokens) (k b : ℕ) (s : Place) → handed t b ≡ None → (transition (state_of t (suc k) s None) b).state ≡ state_of (after t b) k s None
 one-behind t k b s e = rw (counted, sub-one, e) refl

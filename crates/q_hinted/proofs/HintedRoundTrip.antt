@@ -1,11 +1,13 @@
 -- The canonical text of steps with proof parts is read as these.
 use Rattle.std.proofs.Common.{◌≡◌, ◌≤◌, ◌+◌, ℕ, List, [], ◌∷◌, ◌++◌, map, length, Some, refl, sym, ap, ◌∙◌, arith, ℤ, pos, append_assoc}
 use Rattle.std.specs.List.{AllByRecursion}
+use Rattle.std.proofs.lemmas.List.{map-append}
 use Rattle.q_logic.specs.declared.proof_part.ProofKind.{ProofKind}
 use Rattle.q_logic.specs.declared.proof_part.ProofKind.TheVariants.{Nothing, Implied, Pivot, Reach}
 use Rattle.q_logic.specs.declared.steps.Kind.{Kind}
 use Rattle.q_logic.specs.declared.steps.Kind.TheVariants.{Add, Delete, Drop, Fresh, Remove}
 use Rattle.q_logic.specs.Prelude.{Hinted, HintGroup, ProofPart, Literal, number_of, kind_of, literals_of}
+use Rattle.q_logic.proofs.Common.{all-append}
 use Rattle.q_text.specs.declared.shape.Shape.{Shape}
 use Rattle.q_text.specs.declared.shape.Shape.TheVariants.{Start, Between}
 use Rattle.q_text.specs.declared.tokens.Token.{Token}
@@ -29,14 +31,6 @@ numbers-append : (xs ys : List ℤ) → numbers_text (xs ++ ys) ≡ numbers_text
 numbers-append [] ys = refl
 numbers-append (x ∷ xs) ys = ap (λ t. number_text x ++ t) (numbers-append xs ys) ∙ sym (append_assoc (number_text x) (numbers_text xs) (numbers_text ys))
 
-map-append : {A B : Type 0} (f : A → B) (xs ys : List A) → map f (xs ++ ys) ≡ map f xs ++ map f ys
-map-append f [] ys = refl
-map-append f (x ∷ xs) ys = ap (λ (zs : List _). f x ∷ zs) (map-append f xs ys)
-
-all-both : {A : Type 0} (Q : A → Type 0) (xs ys : List A) → AllByRecursion Q xs → AllByRecursion Q ys → AllByRecursion Q (xs ++ ys)
-all-both Q [] ys a b = b
-all-both Q (x ∷ xs) ys (h, a) b = (h, all-both Q xs ys a b)
-
 -- the numbers of a line are not clipped
 abbrev IsShort : ℕ → Type 0
 IsShort n = n ≤ 4611686018427387904
@@ -50,7 +44,7 @@ hints-short (h ∷ hs) (b, a) = (number-short h b, hints-short hs a)
 
 groups-short : (gs : List HintGroup) → AllByRecursion IsGroup gs → AllByRecursion IsShort (groups_numbers gs)
 groups-short [] a = tt
-groups-short (g ∷ gs) (b, a) = (number-short g.target b.0, all-both IsShort g.hints (0 ∷ groups_numbers gs) (hints-short g.hints b.1) (omega arith, groups-short gs a))
+groups-short (g ∷ gs) (b, a) = (number-short g.target b.0, all-append IsShort g.hints (0 ∷ groups_numbers gs) (hints-short g.hints b.1) (omega arith, groups-short gs a))
 
 proof-short : (k : ProofKind) (gs : List HintGroup) → AreGroups k gs → AllByRecursion IsShort (proof_numbers k gs)
 proof-short Nothing gs a = tt
@@ -108,7 +102,7 @@ numbers-read : (n : ℕ) (s : Shape) (k : Kind) (ls : List Literal) (t : ProofPa
     (map (token_of n) (map number_of ls) ++ token_of n (pos 0) ∷ []) ++ (plain_tokens n (part_numbers k t) ++ to_come (at (n + 1) Start) rest)
 numbers-read n s k ls t rest o a p =
     let zs = map number_of ls ++ map pos (line_numbers k t) in
-    let shown : AllByRecursion IsShown zs = all-both IsShown (map number_of ls) (map pos (line_numbers k t)) (all-shown ls a) (all-plain (line_numbers k t) (line-short k t p)) in
+    let shown : AllByRecursion IsShown zs = all-append IsShown (map number_of ls) (map pos (line_numbers k t)) (all-shown ls a) (all-plain (line_numbers k t) (line-short k t p)) in
     let text : literals_text ls ++ ((plain_text (line_numbers k t) ++ line_end) ++ rest) ≡ numbers_text zs ++ 48 ∷ 10 ∷ rest =
     ap (λ (xs : List ℕ). literals_text ls ++ xs) (append_assoc (plain_text (line_numbers k t)) line_end rest)
     ∙ (sym (append_assoc (literals_text ls) (plain_text (line_numbers k t)) (line_end ++ rest))

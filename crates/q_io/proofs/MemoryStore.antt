@@ -1,5 +1,5 @@
 -- What a store in memory holds at a name, read off its map.
-use Rattle.std.proofs.Common.{◌≡◌, ◌-◌, min, arith, ℕ, zero, suc, Bool, true, false, cond, List, [], ◌∷◌, ◌++◌, length, take, drop, refl, sym, ap, subst, ◌∙◌, Option, Some, None, option_map, is_some, unwrap_or, string_bytes, String, Vec, Result, Ok, Err, OnErr, inl, length-drop, append-nil}
+use Rattle.std.proofs.Common.{◌≡◌, ◌-◌, min, arith, ℕ, zero, suc, Bool, true, false, cond, List, [], ◌∷◌, ◌++◌, length, take, drop, refl, sym, ap, subst, ◌∙◌, Option, Some, None, option_map, unwrap_or, string_bytes, String, Vec, inl, length-drop, append-nil}
 use Rattle.std.specs.Ordering.{nat_cmp, is_eq}
 use Rattle.std.specs.Cmp.Lexicographic.{slice_cmp, nat_list_cmp_total}
 use Rattle.std.specs.FinMap as fin
@@ -33,10 +33,6 @@ put_same bs m n v u =
 pub put_others : (bs : List ℕ) (m n : BTreeMap (String Global) (Vec ℕ Global)) (w : Option (Vec ℕ Global)) → tree.UpdatesBy string_cmp (λ k. slice_cmp nat_cmp bs (string_bytes k)) m n w → OthersStay bs (disk_of m) (disk_of n)
 put_others bs m n w u q ne =
     get-disk_of n q ∙ ap (option_map (λ v. v.items)) (btree_map_updates_text bs m n w u q ∙ ap (λ b. cond b w (tree.get_by_text m q)) (false_from_ne_true (bytes_eq bs q) (λ e. ne (sym ((bytes_eq-Decides bs q).0 e))))) ∙ sym (get-disk_of m q)
-
-pub on_err : {T E P : Type 0} (r : Result T E) → P → OnErr r P
-on_err (Ok x) p = tt
-on_err (Err e) p = p
 
 pub same_disk : (m n : BTreeMap (String Global) (Vec ℕ Global)) → n.entries ≡ m.entries → disk_of n ≡ disk_of m
 same_disk m n e = ap (λ es. fin.from_entries {R = slice_cmp nat_cmp} (texts es)) e
@@ -114,10 +110,6 @@ pub stored_absent : (bs more : List ℕ) (m : BTreeMap (String Global) (Vec ℕ 
 stored_absent bs more m after absent is =
     let was : fin.get (disk_of m) bs ≡ None = get-disk_of m bs ∙ ap (option_map (λ v. v.items)) absent in
     is ∙ ap (λ o. Some (unwrap_or o [] ++ more)) (sym was)
-
-pub none_of : {X : Type 0} (o : Option X) → is_some o ≡ false → o ≡ None
-none_of None e = refl
-none_of (Some x) e = cc
 
 pub read_missing : (disk : Disk) (name : List ℕ) (place : ℕ) (old new : List ℕ) → fin.get disk name ≡ None → Reads disk name place old new 0
 read_missing disk name place old new missing =

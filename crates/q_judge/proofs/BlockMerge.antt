@@ -2,11 +2,13 @@
 use Rattle.std.proofs.Common.{◌≡◌, ◌≢◌, ◌⊎◌, ℕ, zero, suc, ◌+◌, ◌<◌, ◌≤◌, ◌^◌, Bool, true, false, cond, eqb, List, [], ◌∷◌, ◌++◌, Option, None, Some, get_or, set, slice_index_or, length, refl, sym, ◌∙◌, ap, subst, inl, inr, arith, true≢false}
 use Rattle.std.proofs.lemmas.Bool.Decides.{nat_tests}
 use Rattle.std.proofs.lemmas.List.{length-set, get_or-set_same, get_or-set_other}
+use Rattle.std.proofs.lemmas.Bool.{cases_eq, ne_eqb}
 use Rattle.q_logic.specs.declared.formulas.Bound.{Bound}
 use Rattle.q_logic.specs.Prelude.{Prefix, is_bound, same_quant, Distinct, IsNext}
+use Rattle.q_logic.proofs.Common.{is_bound-first, is_bound-later}
 use Rattle.q_judge.specs.declared.bindings.Binding.{Binding}
 use Rattle.q_judge.specs.Scopes.{binding_at, rank_at, rank_in, first_or, last_or, var_of, AreLinked, IsBindingOf, AreRanked, Follows, in_block, AreScoped, renumbered, with_rank, is_among, IsRun, IsMovable, IsMoved, HaveRoom}
-use Rattle.q_judge.proofs.BoundPieces.{equal-or, unequal, bound-cases, bound-here, bound-later, bound-left, bound-right, bound-either, distinct-left, distinct-right, few-below, last-bound}
+use Rattle.q_judge.proofs.BoundPieces.{bound-cases, bound-left, bound-right, bound-either, distinct-left, distinct-right, few-below, last-bound}
 use Rattle.q_judge.proofs.LinkedPrefixes.{linked-left, linked-right, binding-in}
 use Rattle.q_judge.proofs.BlockRanks.{ranked-rises, ranked-last, ranked-join, in_block-append, some-in_block, in_block-one}
 use Rattle.q_judge.proofs.BlockRuns.{block_vars, block_back, block-size, among-block, block-among, run-forward, back-size, among-back, back-among, run-back}
@@ -26,7 +28,7 @@ linked-room bindings P l v h = let r = binding-in (binding_at bindings) None P N
 
 in_block-none : (f : ℕ → ℕ) (r : ℕ) (P : Prefix) → ((v : ℕ) → is_bound P v ≡ true → f v ≢ r) → in_block f r P ≡ 0
 in_block-none f r [] h = refl
-in_block-none f r (b ∷ P) h = rw (unequal (f b.var) r (h b.var (bound-here b P))) (in_block-none f r P (λ v i. h v (bound-later b P v i)))
+in_block-none f r (b ∷ P) h = rw (ne_eqb (f b.var) r (h b.var (is_bound-first b P))) (in_block-none f r P (λ v i. h v (is_bound-later b P v i)))
 
 pub in_block-few : (f : ℕ → ℕ) (r : ℕ) (P : Prefix) → in_block f r P ≤ length P
 in_block-few f r [] = omega arith
@@ -42,11 +44,11 @@ in_block-two f r s (b ∷ P) n =
     let i : in_block f r P + in_block f s P ≤ length P = in_block-two f r s P n in
     let x = in_block-one f r b P in
     let y = in_block-one f s b P in
-    elim (equal-or (f b.var) r) [
-      | inl e ↦ let q : eqb (f b.var) r ≡ true = grind (arith, nat_tests) in let p : eqb (f b.var) s ≡ false = unequal (f b.var) s (λ k. n (sym e ∙ k)) in rw (q, p) (omega arith)
-      | inr e ↦ rw (unequal (f b.var) r e) (elim (equal-or (f b.var) s) [
+    elim (cases_eq (f b.var) r) [
+      | inl e ↦ let q : eqb (f b.var) r ≡ true = grind (arith, nat_tests) in let p : eqb (f b.var) s ≡ false = ne_eqb (f b.var) s (λ k. n (sym e ∙ k)) in rw (q, p) (omega arith)
+      | inr e ↦ rw (ne_eqb (f b.var) r e) (elim (cases_eq (f b.var) s) [
         | inl k ↦ let p : eqb (f b.var) s ≡ true = grind (arith, nat_tests) in rw p (omega arith)
-        | inr k ↦ rw (unequal (f b.var) s k) (omega arith)
+        | inr k ↦ rw (ne_eqb (f b.var) s k) (omega arith)
       ])
     ]
 
@@ -56,25 +58,25 @@ Merges f g from to P = (v : ℕ) → is_bound P v ≡ true → g v ≡ cond (eqb
 
 module _ (f g : ℕ → ℕ) (from to : ℕ) (apart : from ≢ to) where
   merged-from : (P : Prefix) → Merges f g from to P → in_block g from P ≡ 0
-  merged-from P m = in_block-none g from P (λ v i e. elim (equal-or (f v) from) [
+  merged-from P m = in_block-none g from P (λ v i e. elim (cases_eq (f v) from) [
     | inl k ↦ let q : eqb (f v) from ≡ true = grind (arith, nat_tests) in apart (sym (sym (m v i ∙ ap (λ (s : Bool). cond s to (f v)) q) ∙ e))
-    | inr k ↦ k (sym (m v i ∙ ap (λ (s : Bool). cond s to (f v)) (unequal (f v) from k)) ∙ e)
+    | inr k ↦ k (sym (m v i ∙ ap (λ (s : Bool). cond s to (f v)) (ne_eqb (f v) from k)) ∙ e)
   ])
 
   merged-to : (P : Prefix) → Merges f g from to P → in_block g to P ≡ in_block f to P + in_block f from P
   merged-to [] m = refl
   merged-to (b ∷ P) m =
-      let i : in_block g to P ≡ in_block f to P + in_block f from P = merged-to P (λ v k. m v (bound-later b P v k)) in
-      let e = m b.var (bound-here b P) in
-      elim (equal-or (f b.var) from) [
+      let i : in_block g to P ≡ in_block f to P + in_block f from P = merged-to P (λ v k. m v (is_bound-later b P v k)) in
+      let e = m b.var (is_bound-first b P) in
+      elim (cases_eq (f b.var) from) [
         | inl k ↦
             let q : eqb (f b.var) from ≡ true = grind (arith, nat_tests) in
             let h : g b.var ≡ to = e ∙ ap (λ (s : Bool). cond s to (f b.var)) q in
             let p : eqb (g b.var) to ≡ true = grind (arith, nat_tests) in
-            let n : eqb (f b.var) to ≡ false = unequal (f b.var) to (λ z. apart (sym k ∙ z)) in
+            let n : eqb (f b.var) to ≡ false = ne_eqb (f b.var) to (λ z. apart (sym k ∙ z)) in
             rw (p, q, n) (omega arith)
         | inr k ↦
-            let q : eqb (f b.var) from ≡ false = unequal (f b.var) from k in
+            let q : eqb (f b.var) from ≡ false = ne_eqb (f b.var) from k in
             let h : g b.var ≡ f b.var = e ∙ ap (λ (s : Bool). cond s to (f b.var)) q in
             rw (h, q) (go (eqb (f b.var) to) i)
       ]
@@ -86,17 +88,17 @@ module _ (f g : ℕ → ℕ) (from to : ℕ) (apart : from ≢ to) where
   merged-other : (r : ℕ) (P : Prefix) → r ≢ from → r ≢ to → Merges f g from to P → in_block g r P ≡ in_block f r P
   merged-other r [] n k m = refl
   merged-other r (b ∷ P) n k m =
-      let i : in_block g r P ≡ in_block f r P = merged-other r P n k (λ v j. m v (bound-later b P v j)) in
-      let e = m b.var (bound-here b P) in
-      elim (equal-or (f b.var) from) [
+      let i : in_block g r P ≡ in_block f r P = merged-other r P n k (λ v j. m v (is_bound-later b P v j)) in
+      let e = m b.var (is_bound-first b P) in
+      elim (cases_eq (f b.var) from) [
         | inl z ↦
             let q : eqb (f b.var) from ≡ true = grind (arith, nat_tests) in
             let h : g b.var ≡ to = e ∙ ap (λ (s : Bool). cond s to (f b.var)) q in
-            let p : eqb (g b.var) r ≡ false = unequal (g b.var) r (λ w. k (sym w ∙ h)) in
-            let o : eqb (f b.var) r ≡ false = unequal (f b.var) r (λ w. n (sym w ∙ z)) in
+            let p : eqb (g b.var) r ≡ false = ne_eqb (g b.var) r (λ w. k (sym w ∙ h)) in
+            let o : eqb (f b.var) r ≡ false = ne_eqb (f b.var) r (λ w. n (sym w ∙ z)) in
             rw (p, o) i
         | inr z ↦
-            let h : g b.var ≡ f b.var = e ∙ ap (λ (s : Bool). cond s to (f b.var)) (unequal (f b.var) from z) in
+            let h : g b.var ≡ f b.var = e ∙ ap (λ (s : Bool). cond s to (f b.var)) (ne_eqb (f b.var) from z) in
             rw (h, i) refl
       ]
 
@@ -104,9 +106,9 @@ module _ (f g : ℕ → ℕ) (from to : ℕ) (apart : from ≢ to) where
 ranked-map : (f g : ℕ → ℕ) (b : Bound) (P : Prefix) → ((x y : ℕ) → is_bound (b ∷ P) x ≡ true → is_bound (b ∷ P) y ≡ true → (f x ≡ f y → g x ≡ g y) × (f x < f y → g x < g y)) → AreRanked f (Some b) P → AreRanked g (Some b) P
 ranked-map f g b [] m h = tt
 ranked-map f g b (c ∷ P) m h =
-    let k = m b.var c.var (bound-here b (c ∷ P)) (bound-later b (c ∷ P) c.var (bound-here c P)) in (
+    let k = m b.var c.var (is_bound-first b (c ∷ P)) (is_bound-later b (c ∷ P) c.var (is_bound-first c P)) in (
       elim h.0 [ inl e ↦ inl (e.0, k.0 e.1) | inr e ↦ inr (e.0, k.1 e.1) ],
-      ranked-map f g c P (λ x y i j. m x y (bound-later b (c ∷ P) x i) (bound-later b (c ∷ P) y j)) h.1,
+      ranked-map f g c P (λ x y i j. m x y (is_bound-later b (c ∷ P) x i) (is_bound-later b (c ∷ P) y j)) h.1,
     )
 
 -- a block's last variable went, and these are beside it now
@@ -145,7 +147,7 @@ module _ (A : Prefix) (a c : Bound) (C : Prefix) (bindings : List (Option Bindin
   a-in = bound-left A (c ∷ C) a.var (last-in A m.last)
 
   c-in : is_bound (A ++ c ∷ C) c.var ≡ true
-  c-in = bound-right A (c ∷ C) c.var (bound-here c C)
+  c-in = bound-right A (c ∷ C) c.var (is_bound-first c C)
 
   counts-in : (v : ℕ) → is_bound (A ++ c ∷ C) v ≡ true → rank_at bindings v < length counts
   counts-in v i = positive-in counts (rank_at bindings v) (subst (λ (n : ℕ). 0 < n) (sym (m.counted (rank_at bindings v))) (some-in_block (rank_at bindings) (A ++ c ∷ C) v i))
@@ -182,14 +184,14 @@ module _ (A : Prefix) (a c : Bound) (C : Prefix) (bindings : List (Option Bindin
           omega (arith, x, y, z, m.counted (rank_at bindings a.var))
 
       all : (v : ℕ) (s : Binding) → binding_at bindings v ≡ Some s → is_bound (A ++ c ∷ C) v ≡ true → is_among (block_back (rank_at bindings) (rank_at bindings a.var) [] A) v ≡ eqb s.rank (rank_at bindings a.var)
-      all v s e i = elim (equal-or s.rank (rank_at bindings a.var)) [
+      all v s e i = elim (cases_eq s.rank (rank_at bindings a.var)) [
         | inl k ↦
             let q : eqb s.rank (rank_at bindings a.var) ≡ true = grind (arith, nat_tests) in
             rw q (elim (bound-either A (c ∷ C) v i) [
               | inl j ↦ back-among (rank_at bindings) (rank_at bindings a.var) [] A v j (binding-rank v s e ∙ k)
               | inr j ↦ let h = high v j in let l = m.less in let r = binding-rank v s e in absurd (omega (arith, h, l, r, k))
             ])
-        | inr k ↦ rw (unequal s.rank (rank_at bindings a.var) k) (go (is_among (block_back (rank_at bindings) (rank_at bindings a.var) [] A) v) refl k)
+        | inr k ↦ rw (ne_eqb s.rank (rank_at bindings a.var) k) (go (is_among (block_back (rank_at bindings) (rank_at bindings a.var) [] A) v) refl k)
       ]
         where
           go : (t : Bool) → is_among (block_back (rank_at bindings) (rank_at bindings a.var) [] A) v ≡ t → s.rank ≢ rank_at bindings a.var → t ≡ false
@@ -219,14 +221,14 @@ module _ (A : Prefix) (a c : Bound) (C : Prefix) (bindings : List (Option Bindin
           omega (arith, x, y, z, m.counted (rank_at bindings c.var))
 
       all : (v : ℕ) (s : Binding) → binding_at bindings v ≡ Some s → is_bound (A ++ c ∷ C) v ≡ true → is_among (block_vars (rank_at bindings) (rank_at bindings c.var) (c ∷ C)) v ≡ eqb s.rank (rank_at bindings c.var)
-      all v s e i = elim (equal-or s.rank (rank_at bindings c.var)) [
+      all v s e i = elim (cases_eq s.rank (rank_at bindings c.var)) [
         | inl k ↦
             let q : eqb s.rank (rank_at bindings c.var) ≡ true = grind (arith, nat_tests) in
             rw q (elim (bound-either A (c ∷ C) v i) [
               | inl j ↦ let h = low v j in let l = m.less in let r = binding-rank v s e in absurd (omega (arith, h, l, r, k))
               | inr j ↦ block-among (rank_at bindings) (rank_at bindings c.var) (c ∷ C) v j (binding-rank v s e ∙ k)
             ])
-        | inr k ↦ rw (unequal s.rank (rank_at bindings c.var) k) (go (is_among (block_vars (rank_at bindings) (rank_at bindings c.var) (c ∷ C)) v) refl k)
+        | inr k ↦ rw (ne_eqb s.rank (rank_at bindings c.var) k) (go (is_among (block_vars (rank_at bindings) (rank_at bindings c.var) (c ∷ C)) v) refl k)
       ]
         where
           go : (t : Bool) → is_among (block_vars (rank_at bindings) (rank_at bindings c.var) (c ∷ C)) v ≡ t → s.rank ≢ rank_at bindings c.var → t ≡ false
@@ -278,9 +280,9 @@ module _ (A : Prefix) (a c : Bound) (C : Prefix) (bindings : List (Option Bindin
 
       -- the new number of a variable
       now : (v : ℕ) → is_bound (A ++ c ∷ C) v ≡ true → ((rank_at bindings v ≡ from) × (rank_at bindings' v ≡ to)) ⊎ ((rank_at bindings v ≢ from) × (rank_at bindings' v ≡ rank_at bindings v))
-      now v i = elim (equal-or (rank_at bindings v) from) [
+      now v i = elim (cases_eq (rank_at bindings v) from) [
         | inl e ↦ let q : eqb (rank_at bindings v) from ≡ true = grind (arith, nat_tests) in inl (e, merges v i ∙ ap (λ (t : Bool). cond t to (rank_at bindings v)) q)
-        | inr e ↦ inr (e, merges v i ∙ ap (λ (t : Bool). cond t to (rank_at bindings v)) (unequal (rank_at bindings v) from e))
+        | inr e ↦ inr (e, merges v i ∙ ap (λ (t : Bool). cond t to (rank_at bindings v)) (ne_eqb (rank_at bindings v) from e))
       ]
 
       rises : (x y : ℕ) → is_bound (A ++ c ∷ C) x ≡ true → is_bound (A ++ c ∷ C) y ≡ true → ((rank_at bindings x ≤ rank_at bindings a.var) × (rank_at bindings y ≤ rank_at bindings a.var)) ⊎ ((rank_at bindings c.var ≤ rank_at bindings x) × (rank_at bindings c.var ≤ rank_at bindings y)) → (rank_at bindings x ≡ rank_at bindings y → rank_at bindings' x ≡ rank_at bindings' y) × (rank_at bindings x < rank_at bindings y → rank_at bindings' x < rank_at bindings' y)
@@ -343,9 +345,9 @@ module _ (A : Prefix) (a c : Bound) (C : Prefix) (bindings : List (Option Bindin
       to_in = elim way [ inl w ↦ subst (λ (n : ℕ). n < length counts) (sym w.1) (counts-in c.var c-in) | inr w ↦ subst (λ (n : ℕ). n < length counts) (sym w.1) (counts-in a.var a-in) ]
 
       counted : (r : ℕ) → get_or counts' r 0 ≡ in_block (rank_at bindings') r (A ++ c ∷ C)
-      counted r = ap (λ (xs : List ℕ). get_or xs r 0) k.counts_are ∙ elim (equal-or r to) [
+      counted r = ap (λ (xs : List ℕ). get_or xs r 0) k.counts_are ∙ elim (cases_eq r to) [
         | inl e ↦ rw e (get_or-set_same (set counts from 0) to (get_or counts to 0 + get_or counts from 0) 0 (subst (λ (n : ℕ). to < n) (sym (length-set counts from 0)) to_in) ∙ (let x = merged-to (rank_at bindings) (rank_at bindings') from to two (A ++ c ∷ C) merges in omega (arith, x, m.counted to, m.counted from)))
-        | inr e ↦ get_or-set_other (set counts from 0) to r (get_or counts to 0 + get_or counts from 0) 0 e ∙ elim (equal-or r from) [
+        | inr e ↦ get_or-set_other (set counts from 0) to r (get_or counts to 0 + get_or counts from 0) 0 e ∙ elim (cases_eq r from) [
           | inl q ↦ rw q (get_or-set_same counts from 0 0 from_in ∙ sym (merged-from (rank_at bindings) (rank_at bindings') from to two (A ++ c ∷ C) merges))
           | inr q ↦ get_or-set_other counts from r 0 0 q ∙ m.counted r ∙ sym (merged-other (rank_at bindings) (rank_at bindings') from to two r (A ++ c ∷ C) q e merges)
         ]

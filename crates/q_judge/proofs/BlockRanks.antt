@@ -5,8 +5,9 @@ use Rattle.q_logic.specs.declared.formulas.Quant.{Quant}
 use Rattle.q_logic.specs.declared.formulas.Quant.TheVariants.{Exists, Forall}
 use Rattle.q_logic.specs.declared.formulas.Bound.{Bound}
 use Rattle.q_logic.specs.Prelude.{Prefix, is_bound, same_quant, run_to, outer_or_same, IsNext}
+use Rattle.q_logic.proofs.Common.{is_bound-first, is_bound-later, same_quant-through}
 use Rattle.q_judge.specs.Scopes.{last_or, Follows, AreRanked, in_block, IsNumbered, next_rank}
-use Rattle.q_judge.proofs.BoundPieces.{bound-cases, bound-here, bound-later}
+use Rattle.q_judge.proofs.BoundPieces.{bound-cases}
 
 pub same_quant-sound : (p q : Quant) → same_quant p q ≡ true → p ≡ q
 same_quant-sound Exists Exists e = refl
@@ -17,17 +18,6 @@ same_quant-sound Forall Forall e = refl
 pub same_quant-itself : (q : Quant) → same_quant q q ≡ true
 same_quant-itself Exists = refl
 same_quant-itself Forall = refl
-
-pub same_quant-through : (a b c : Quant) → same_quant a b ≡ true → same_quant a c ≡ same_quant b c
-same_quant-through a b c e = ap (λ (q : Quant). same_quant q c) (same_quant-sound a b e)
-
-pub same_quant-two : (a b c : Quant) → same_quant a b ≡ false → same_quant b c ≡ false → same_quant a c ≡ true
-same_quant-two Exists Exists c e f = absurd (true≢false e)
-same_quant-two Exists Forall Exists e f = refl
-same_quant-two Exists Forall Forall e f = absurd (true≢false f)
-same_quant-two Forall Exists Exists e f = absurd (true≢false f)
-same_quant-two Forall Exists Forall e f = refl
-same_quant-two Forall Forall c e f = absurd (true≢false e)
 
 module _ (rank : ℕ → ℕ) where
   pub next-rises : (b c : Bound) → IsNext rank b c → rank b.var ≤ rank c.var
@@ -95,7 +85,7 @@ module _ (rank : ℕ → ℕ) where
   ranked-last o (b ∷ c ∷ A) x v h e i = elim (bound-cases b (c ∷ A) v i) [
     | inl f ↦
         let n : rank b.var ≤ rank c.var = next-rises b c h.1.0 in
-        let k : rank c.var ≤ rank x.var = ranked-last (Some b) (c ∷ A) x c.var h.1 e (bound-here c A) in
+        let k : rank c.var ≤ rank x.var = ranked-last (Some b) (c ∷ A) x c.var h.1 e (is_bound-first c A) in
         let y : rank b.var ≡ rank v = ap rank f in omega arith
     | inr k ↦ ranked-last (Some b) (c ∷ A) x v h.1 e k.1
   ]
@@ -143,8 +133,8 @@ module _ (rank : ℕ → ℕ) where
       either : (P Q : Prefix) → is_bound (P ++ Q) x ≡ true → (is_bound P x ≡ true) ⊎ (is_bound Q x ≡ true)
       either [] Q j = inr j
       either (d ∷ P) Q j = elim (bound-cases d (P ++ Q) x j) [
-        | inl q ↦ inl (subst (λ (w : ℕ). is_bound (d ∷ P) w ≡ true) q (bound-here d P))
-        | inr k ↦ elim (either P Q k.1) [ inl m ↦ inl (bound-later d P x m) | inr m ↦ inr m ]
+        | inl q ↦ inl (subst (λ (w : ℕ). is_bound (d ∷ P) w ≡ true) q (is_bound-first d P))
+        | inr k ↦ elim (either P Q k.1) [ inl m ↦ inl (is_bound-later d P x m) | inr m ↦ inr m ]
       ]
 
       joint : (o : Option Bound) → last_or A None ≡ o → Follows rank o c
@@ -171,7 +161,7 @@ module _ (rank : ℕ → ℕ) where
 
 pub ranked-same : (f g : ℕ → ℕ) (o : Option Bound) (P : Prefix) → ((v : ℕ) → is_bound P v ≡ true → f v ≡ g v) → ((b : Bound) → o ≡ Some b → f b.var ≡ g b.var) → AreRanked f o P → AreRanked g o P
 ranked-same f g o [] e k h = tt
-ranked-same f g o (c ∷ P) e k h = (first o k h.0, ranked-same f g (Some c) P (λ v i. e v (bound-later c P v i)) (λ b q. let r : c ≡ b = same c b q in subst (λ (d : Bound). f d.var ≡ g d.var) r (e c.var (bound-here c P))) h.1)
+ranked-same f g o (c ∷ P) e k h = (first o k h.0, ranked-same f g (Some c) P (λ v i. e v (is_bound-later c P v i)) (λ b q. let r : c ≡ b = same c b q in subst (λ (d : Bound). f d.var ≡ g d.var) r (e c.var (is_bound-first c P))) h.1)
   where
     same : (b c : Bound) → Some b ≡ Some c → b ≡ c
     same b c e = cc
@@ -180,7 +170,7 @@ ranked-same f g o (c ∷ P) e k h = (first o k h.0, ranked-same f g (Some c) P (
     first None k h = tt
     first (Some b) k h =
         let x = k b refl in
-        let y = e c.var (bound-here c P) in
+        let y = e c.var (is_bound-first c P) in
         elim h [
           | inl m ↦ inl (m.0, sym x ∙ m.1 ∙ y)
           | inr m ↦ let z : f b.var < f c.var = m.1 in inr (m.0, omega arith)
@@ -197,7 +187,7 @@ numbered-ranked rank b (c ∷ P) n e h = go (same_quant b.quant c.quant) refl h.
 
 pub in_block-same : (f g : ℕ → ℕ) (r : ℕ) (P : Prefix) → ((v : ℕ) → is_bound P v ≡ true → f v ≡ g v) → in_block f r P ≡ in_block g r P
 in_block-same f g r [] e = refl
-in_block-same f g r (b ∷ P) e = let x : f b.var ≡ g b.var = e b.var (bound-here b P) in let y : in_block f r P ≡ in_block g r P = in_block-same f g r P (λ v i. e v (bound-later b P v i)) in grind (arith, nat_tests)
+in_block-same f g r (b ∷ P) e = let x : f b.var ≡ g b.var = e b.var (is_bound-first b P) in let y : in_block f r P ≡ in_block g r P = in_block-same f g r P (λ v i. e v (is_bound-later b P v i)) in grind (arith, nat_tests)
 
 pub in_block-append : (f : ℕ → ℕ) (r : ℕ) (A C : Prefix) → in_block f r (A ++ C) ≡ in_block f r A + in_block f r C
 in_block-append f r [] C = omega arith
@@ -215,8 +205,8 @@ in_block-some f r [] h = absurd (omega arith)
 in_block-some f r (b ∷ P) h = go (eqb (f b.var) r) refl h (in_block-some f r P)
   where
     go : (c : Bool) → eqb (f b.var) r ≡ c → 0 < cond c (in_block f r P + 1) (in_block f r P) → (0 < in_block f r P → (x : ℕ) × (is_bound P x ≡ true) × (f x ≡ r)) → (x : ℕ) × (is_bound (b ∷ P) x ≡ true) × (f x ≡ r)
-    go true e h ih = (b.var, bound-here b P, grind (arith, nat_tests))
-    go false e h ih = let r = ih h in (r.0, bound-later b P r.0 r.1, r.2)
+    go true e h ih = (b.var, is_bound-first b P, grind (arith, nat_tests))
+    go false e h ih = let r = ih h in (r.0, is_bound-later b P r.0 r.1, r.2)
 
 pub some-in_block : (f : ℕ → ℕ) (P : Prefix) (v : ℕ) → is_bound P v ≡ true → 0 < in_block f (f v) P
 some-in_block f [] v h = absurd (true≢false (sym h))

@@ -1,11 +1,13 @@
 -- The variables of one block as a run of neighbours, from its first or from its last variable on.
 use Rattle.std.proofs.Common.{◌≡◌, ◌≢◌, ◌⊎◌, ℕ, suc, ◌+◌, ◌≤◌, Bool, true, false, cond, eqb, List, [], ◌∷◌, Option, None, Some, length, refl, sym, ◌∙◌, ap, subst, inl, inr, arith, true≢false}
 use Rattle.std.proofs.lemmas.Bool.Decides.{nat_tests}
+use Rattle.std.proofs.lemmas.Bool.{cases_eq, ne_eqb}
 use Rattle.q_logic.specs.declared.formulas.Bound.{Bound}
 use Rattle.q_logic.specs.Prelude.{Prefix, is_bound, Distinct}
+use Rattle.q_logic.proofs.Common.{is_bound-first, is_bound-later}
 use Rattle.q_judge.specs.declared.bindings.Binding.{Binding}
 use Rattle.q_judge.specs.Scopes.{last_or, var_of, AreLinked, AreRanked, in_block, is_among, beside, IsRun}
-use Rattle.q_judge.proofs.BoundPieces.{equal-or, unequal, bound-cases, bound-here, bound-later}
+use Rattle.q_judge.proofs.BoundPieces.{bound-cases}
 use Rattle.q_judge.proofs.BlockRanks.{next-rises, ranked-rises}
 
 module _ (rank : ℕ → ℕ) (from : ℕ) where
@@ -21,7 +23,7 @@ module _ (rank : ℕ → ℕ) (from : ℕ) where
 
   pub block-none : (P : Prefix) → ((v : ℕ) → is_bound P v ≡ true → rank v ≢ from) → block_vars P ≡ []
   block-none [] h = refl
-  block-none (b ∷ P) h = let n : eqb (rank b.var) from ≡ false = unequal (rank b.var) from (h b.var (bound-here b P)) in rw n (block-none P (λ v i. h v (bound-later b P v i)))
+  block-none (b ∷ P) h = let n : eqb (rank b.var) from ≡ false = ne_eqb (rank b.var) from (h b.var (is_bound-first b P)) in rw n (block-none P (λ v i. h v (is_bound-later b P v i)))
 
   pub block-size : (P : Prefix) → length (block_vars P) ≡ in_block rank from P
   block-size [] = refl
@@ -36,17 +38,17 @@ module _ (rank : ℕ → ℕ) (from : ℕ) where
   among-block (b ∷ P) v h = go (eqb (rank b.var) from) refl h (among-block P v)
     where
       go : (s : Bool) → eqb (rank b.var) from ≡ s → is_among (cond s (b.var ∷ block_vars P) (block_vars P)) v ≡ true → (is_among (block_vars P) v ≡ true → (is_bound P v ≡ true) × (rank v ≡ from)) → (is_bound (b ∷ P) v ≡ true) × (rank v ≡ from)
-      go true e i ih = elim (equal-or b.var v) [
-        | inl q ↦ (subst (λ (w : ℕ). is_bound (b ∷ P) w ≡ true) q (bound-here b P), (let x : rank b.var ≡ rank v = ap rank q in grind (arith, nat_tests)))
-        | inr q ↦ let r = ih (sym (ap (λ (s : Bool). cond s true (is_among (block_vars P) v)) (unequal b.var v q)) ∙ i) in (bound-later b P v r.0, r.1)
+      go true e i ih = elim (cases_eq b.var v) [
+        | inl q ↦ (subst (λ (w : ℕ). is_bound (b ∷ P) w ≡ true) q (is_bound-first b P), (let x : rank b.var ≡ rank v = ap rank q in grind (arith, nat_tests)))
+        | inr q ↦ let r = ih (sym (ap (λ (s : Bool). cond s true (is_among (block_vars P) v)) (ne_eqb b.var v q)) ∙ i) in (is_bound-later b P v r.0, r.1)
       ]
-      go false e i ih = let r = ih i in (bound-later b P v r.0, r.1)
+      go false e i ih = let r = ih i in (is_bound-later b P v r.0, r.1)
 
   pub block-among : (P : Prefix) (v : ℕ) → is_bound P v ≡ true → rank v ≡ from → is_among (block_vars P) v ≡ true
   block-among [] v h e = absurd (true≢false (sym h))
   block-among (b ∷ P) v h e = elim (bound-cases b P v h) [
     | inl q ↦ let x : rank b.var ≡ rank v = ap rank q in let y : eqb (rank b.var) from ≡ true = grind (arith, nat_tests) in let z : eqb b.var v ≡ true = grind (arith, nat_tests) in rw (y, z) refl
-    | inr k ↦ go (eqb (rank b.var) from) (unequal b.var v k.0) (block-among P v k.1 e)
+    | inr k ↦ go (eqb (rank b.var) from) (ne_eqb b.var v k.0) (block-among P v k.1 e)
   ]
     where
       go : (s : Bool) → eqb b.var v ≡ false → is_among (block_vars P) v ≡ true → is_among (cond s (b.var ∷ block_vars P) (block_vars P)) v ≡ true
@@ -66,7 +68,7 @@ module _ (rank : ℕ → ℕ) (from : ℕ) where
   run-forward f o c (x ∷ E) l d h e =
       let y : eqb (rank c.var) from ≡ true = grind (arith, nat_tests) in
       let up : rank c.var ≤ rank x.var = next-rises rank c x h.0 in
-      let rest : IsRun f true (Some x.var) (block_vars (x ∷ E)) = elim (equal-or (rank x.var) from) [
+      let rest : IsRun f true (Some x.var) (block_vars (x ∷ E)) = elim (cases_eq (rank x.var) from) [
         | inl q ↦ run-forward f (Some c) x E l.1 d.1 h.1 q
         | inr q ↦
             let n : block_vars (x ∷ E) ≡ [] = block-none (x ∷ E) (λ v i k. elim (bound-cases x E v i) [
@@ -93,13 +95,13 @@ module _ (rank : ℕ → ℕ) (from : ℕ) where
     where
       go : (s : Bool) → eqb (rank b.var) from ≡ s → is_among (block_back (cond s (b.var ∷ acc) acc) P) v ≡ true → (is_among (block_back (b.var ∷ acc) P) v ≡ true → (is_among (b.var ∷ acc) v ≡ true) ⊎ ((is_bound P v ≡ true) × (rank v ≡ from))) → (is_among (block_back acc P) v ≡ true → (is_among acc v ≡ true) ⊎ ((is_bound P v ≡ true) × (rank v ≡ from))) → (is_among acc v ≡ true) ⊎ ((is_bound (b ∷ P) v ≡ true) × (rank v ≡ from))
       go true e i g ih = elim (g i) [
-        | inl k ↦ elim (equal-or b.var v) [
-          | inl q ↦ inr (subst (λ (w : ℕ). is_bound (b ∷ P) w ≡ true) q (bound-here b P), (let x : rank b.var ≡ rank v = ap rank q in grind (arith, nat_tests)))
-          | inr q ↦ inl (sym (ap (λ (s : Bool). cond s true (is_among acc v)) (unequal b.var v q)) ∙ k)
+        | inl k ↦ elim (cases_eq b.var v) [
+          | inl q ↦ inr (subst (λ (w : ℕ). is_bound (b ∷ P) w ≡ true) q (is_bound-first b P), (let x : rank b.var ≡ rank v = ap rank q in grind (arith, nat_tests)))
+          | inr q ↦ inl (sym (ap (λ (s : Bool). cond s true (is_among acc v)) (ne_eqb b.var v q)) ∙ k)
         ]
-        | inr k ↦ inr (bound-later b P v k.0, k.1)
+        | inr k ↦ inr (is_bound-later b P v k.0, k.1)
       ]
-      go false e i g ih = elim (ih i) [ inl k ↦ inl k | inr k ↦ inr (bound-later b P v k.0, k.1) ]
+      go false e i g ih = elim (ih i) [ inl k ↦ inl k | inr k ↦ inr (is_bound-later b P v k.0, k.1) ]
 
   pub acc-back : (acc : List ℕ) (P : Prefix) (v : ℕ) → is_among acc v ≡ true → is_among (block_back acc P) v ≡ true
   acc-back acc [] v h = h
@@ -123,19 +125,19 @@ module _ (rank : ℕ → ℕ) (from : ℕ) where
   -- from the last variable of the block on, where no variable has a greater number
   pub run-back : (f : ℕ → Option Binding) (acc : List ℕ) (o : Option Bound) (P : Prefix) (n : Option ℕ) → IsRun f false (var_of o) acc → ((v : ℕ) → is_bound P v ≡ true → is_among acc v ≡ false) → Distinct P → AreLinked f o P n → AreRanked rank o P → ((v : ℕ) → is_bound P v ≡ true → rank v ≤ from) → (acc ≡ []) ⊎ ((v : ℕ) → is_bound P v ≡ true → from ≤ rank v) → IsRun f false (var_of (last_or P o)) (block_back acc P)
   run-back f acc o [] n r apart d l h low w = r
-  run-back f acc o (b ∷ P) n r apart d l h low w = elim (equal-or (rank b.var) from) [
+  run-back f acc o (b ∷ P) n r apart d l h low w = elim (cases_eq (rank b.var) from) [
     | inl e ↦
         let y : eqb (rank b.var) from ≡ true = grind (arith, nat_tests) in
         rw y (run-back f (b.var ∷ acc) (Some b) P n
-        (refl, apart b.var (bound-here b P), l.0.binding, l.0.there, subst (λ (m : Option ℕ). IsRun f false m acc) (sym l.0.before) r)
-        (λ v i. let q : eqb b.var v ≡ false = unequal b.var v (λ k. true≢false (sym i ∙ ap (is_bound P) (sym k) ∙ d.0)) in rw q (apart v (bound-later b P v i)))
-        d.1 l.1 h.1 (λ v i. low v (bound-later b P v i))
+        (refl, apart b.var (is_bound-first b P), l.0.binding, l.0.there, subst (λ (m : Option ℕ). IsRun f false m acc) (sym l.0.before) r)
+        (λ v i. let q : eqb b.var v ≡ false = ne_eqb b.var v (λ k. true≢false (sym i ∙ ap (is_bound P) (sym k) ∙ d.0)) in rw q (apart v (is_bound-later b P v i)))
+        d.1 l.1 h.1 (λ v i. low v (is_bound-later b P v i))
         (inr (λ v i. subst (λ (m : ℕ). m ≤ rank v) e (ranked-rises rank b P v h.1 i))))
     | inr e ↦
-        let y : eqb (rank b.var) from ≡ false = unequal (rank b.var) from e in
+        let y : eqb (rank b.var) from ≡ false = ne_eqb (rank b.var) from e in
         let z : acc ≡ [] = elim w [
           | inl k ↦ k
-          | inr k ↦ absurd (let p : from ≤ rank b.var = k b.var (bound-here b P) in let q : rank b.var ≤ from = low b.var (bound-here b P) in e (omega arith))
+          | inr k ↦ absurd (let p : from ≤ rank b.var = k b.var (is_bound-first b P) in let q : rank b.var ≤ from = low b.var (is_bound-first b P) in e (omega arith))
         ] in
-        rw y (run-back f acc (Some b) P n (subst (λ (m : List ℕ). IsRun f false (Some b.var) m) (sym z) tt) (λ v i. apart v (bound-later b P v i)) d.1 l.1 h.1 (λ v i. low v (bound-later b P v i)) (inl z))
+        rw y (run-back f acc (Some b) P n (subst (λ (m : List ℕ). IsRun f false (Some b.var) m) (sym z) tt) (λ v i. apart v (is_bound-later b P v i)) d.1 l.1 h.1 (λ v i. low v (is_bound-later b P v i)) (inl z))
   ]

@@ -1,21 +1,12 @@
 -- What a prefix binds, and how it falls into pieces.
 use Rattle.std.proofs.Common.{◌≡◌, ◌≢◌, ◌⊎◌, ℕ, zero, suc, ◌<◌, ◌≤◌, Bool, true, false, cond, not, eqb, [], ◌∷◌, ◌++◌, Some, Option, length, refl, sym, ◌∙◌, ap, subst, inl, inr, arith, true≢false}
 use Rattle.std.proofs.lemmas.Bool.Decides.{nat_tests}
+use Rattle.std.proofs.lemmas.Bool.{cases_eq, ne_eqb}
 use Rattle.q_logic.specs.declared.formulas.Quant.TheVariants.{Exists}
 use Rattle.q_logic.specs.declared.formulas.Bound.{Bound}
 use Rattle.q_logic.specs.Prelude.{Prefix, is_bound, is_existential, is_universal, is_exists, Distinct, removed_from, insert_after}
 use Rattle.q_judge.specs.Scopes.{last_or, HaveRoom}
-use Rattle.q_logic.proofs.Common.{removed-distinct, removed-is_bound, removed-unbound}
-
-pub equal-or : (a b : ℕ) → (a ≡ b) ⊎ (a ≢ b)
-equal-or a b = go (eqb a b) refl
-  where
-    go : (c : Bool) → eqb a b ≡ c → (a ≡ b) ⊎ (a ≢ b)
-    go true e = inl (grind (arith, nat_tests))
-    go false e = inr (λ f. grind (arith, nat_tests))
-
-pub unequal : (a b : ℕ) → a ≢ b → eqb a b ≡ false
-unequal a b n = grind (arith, nat_tests)
+use Rattle.q_logic.proofs.Common.{removed-distinct, removed-is_bound, removed-unbound, is_bound-first, is_bound-later}
 
 pub universal-not : (P : Prefix) (v : ℕ) → is_bound P v ≡ true → is_universal P v ≡ not (is_existential P v)
 universal-not [] v h = absurd (true≢false (sym h))
@@ -25,10 +16,6 @@ universal-not (b ∷ P) v h = go (eqb b.var v) refl h (universal-not P v)
     go true e j ih = refl
     go false e j ih = ih j
 
-pub unbound-universal : (P : Prefix) (v : ℕ) → is_bound P v ≡ false → is_universal P v ≡ false
-unbound-universal [] v h = refl
-unbound-universal (b ∷ P) v h = grind (arith, nat_tests, unbound-universal P v)
-
 pub bound-cases : (b : Bound) (P : Prefix) (a : ℕ) → is_bound (b ∷ P) a ≡ true → (b.var ≡ a) ⊎ ((b.var ≢ a) × (is_bound P a ≡ true))
 bound-cases b P a i = go (eqb b.var a) refl i
   where
@@ -36,29 +23,23 @@ bound-cases b P a i = go (eqb b.var a) refl i
     go true e k = inl (grind (arith, nat_tests))
     go false e k = inr ((λ f. grind (arith, nat_tests)), k)
 
-pub bound-here : (b : Bound) (P : Prefix) → is_bound (b ∷ P) b.var ≡ true
-bound-here b P = grind (arith, nat_tests)
-
-pub bound-later : (b : Bound) (P : Prefix) (v : ℕ) → is_bound P v ≡ true → is_bound (b ∷ P) v ≡ true
-bound-later b P v h = grind (arith, nat_tests)
-
 pub bound-left : (A C : Prefix) (v : ℕ) → is_bound A v ≡ true → is_bound (A ++ C) v ≡ true
 bound-left [] C v h = absurd (true≢false (sym h))
 bound-left (b ∷ A) C v h = elim (bound-cases b A v h) [
-  | inl e ↦ subst (λ (w : ℕ). is_bound (b ∷ A ++ C) w ≡ true) e (bound-here b (A ++ C))
-  | inr k ↦ bound-later b (A ++ C) v (bound-left A C v k.1)
+  | inl e ↦ subst (λ (w : ℕ). is_bound (b ∷ A ++ C) w ≡ true) e (is_bound-first b (A ++ C))
+  | inr k ↦ is_bound-later b (A ++ C) v (bound-left A C v k.1)
 ]
 
 pub bound-right : (A C : Prefix) (v : ℕ) → is_bound C v ≡ true → is_bound (A ++ C) v ≡ true
 bound-right [] C v h = h
-bound-right (b ∷ A) C v h = bound-later b (A ++ C) v (bound-right A C v h)
+bound-right (b ∷ A) C v h = is_bound-later b (A ++ C) v (bound-right A C v h)
 
 pub bound-either : (A C : Prefix) (v : ℕ) → is_bound (A ++ C) v ≡ true → (is_bound A v ≡ true) ⊎ (is_bound C v ≡ true)
 bound-either [] C v h = inr h
 bound-either (b ∷ A) C v h = elim (bound-cases b (A ++ C) v h) [
-  | inl e ↦ inl (subst (λ (w : ℕ). is_bound (b ∷ A) w ≡ true) e (bound-here b A))
+  | inl e ↦ inl (subst (λ (w : ℕ). is_bound (b ∷ A) w ≡ true) e (is_bound-first b A))
   | inr k ↦ elim (bound-either A C v k.1) [
-    | inl m ↦ inl (bound-later b A v m)
+    | inl m ↦ inl (is_bound-later b A v m)
     | inr m ↦ inr m
   ]
 ]
@@ -133,13 +114,13 @@ last-append (b ∷ A) C o = last-append A C (Some b)
 
 -- the last variable is in the prefix
 pub last-bound : (b : Bound) (A : Prefix) (o : Option Bound) → (x : Bound) × (last_or (b ∷ A) o ≡ Some x) × (is_bound (b ∷ A) x.var ≡ true)
-last-bound b [] o = (b, refl, bound-here b [])
-last-bound b (c ∷ A) o = let r = last-bound c A (Some b) in (r.0, r.1, bound-later b (c ∷ A) r.0.var r.2)
+last-bound b [] o = (b, refl, is_bound-first b [])
+last-bound b (c ∷ A) o = let r = last-bound c A (Some b) in (r.0, r.1, is_bound-later b (c ∷ A) r.0.var r.2)
 
 -- distinct variables below a number are no more than it
 pub few-below : (n : ℕ) (P : Prefix) → Distinct P → HaveRoom P n → length P ≤ n
 few-below zero [] d h = omega arith
-few-below zero (b ∷ P) d h = let z : b.var < 0 = h b.var (bound-here b P) in absurd (omega arith)
+few-below zero (b ∷ P) d h = let z : b.var < 0 = h b.var (is_bound-first b P) in absurd (omega arith)
 few-below (suc n) P d h = go (is_bound P n) refl (few-below n)
   where
     shorter : (Q : Prefix) (v : ℕ) → is_bound Q v ≡ true → length Q ≡ suc (length (removed_from v Q))
@@ -151,7 +132,7 @@ few-below (suc n) P d h = go (is_bound P n) refl (few-below n)
         turn false q k ih = ap suc (ih k)
 
     under : (Q : Prefix) → ((v : ℕ) → is_bound Q v ≡ true → v < suc n) → is_bound Q n ≡ false → HaveRoom Q n
-    under Q g f v i = elim (equal-or v n) [
+    under Q g f v i = elim (cases_eq v n) [
       | inl e ↦ absurd (true≢false (sym i ∙ ap (is_bound Q) e ∙ f))
       | inr e ↦ let l : v < suc n = g v i in omega arith
     ]
@@ -160,9 +141,9 @@ few-below (suc n) P d h = go (is_bound P n) refl (few-below n)
     go false e ih = let i : length P ≤ n = ih P d (under P h e) in omega arith
     go true e ih =
         let gone = removed-unbound n P d in
-        let kept : (v : ℕ) → is_bound (removed_from n P) v ≡ true → v < suc n = λ v i. elim (equal-or v n) [
+        let kept : (v : ℕ) → is_bound (removed_from n P) v ≡ true → v < suc n = λ v i. elim (cases_eq v n) [
           | inl q ↦ absurd (true≢false (sym i ∙ ap (is_bound (removed_from n P)) q ∙ gone))
-          | inr q ↦ h v (sym (removed-is_bound n P v (unequal v n q)) ∙ i)
+          | inr q ↦ h v (sym (removed-is_bound n P v (ne_eqb v n q)) ∙ i)
         ] in
         let i : length (removed_from n P) ≤ n = ih (removed_from n P) (removed-distinct n P d) (under (removed_from n P) kept gone) in
         let s = shorter P n e in

@@ -1,9 +1,11 @@
 -- A walk that ends tells which literals may go.
 use Rattle.std.proofs.Common.{◌≡◌, ℕ, zero, suc, ◌+◌, ◌<◌, ◌≤◌, Bool, true, false, List, [], ◌∷◌, ◌++◌, Contains, slice_get, Some, length, refl, sym, ◌∙◌, ap, subst, inl, inr, arith, true≢false}
+use Rattle.std.proofs.lemmas.Option.{same_Some, slice_get_within}
 use Rattle.q_logic.specs.Prelude.{Literal, negation, Clause, Matrix, Prefix, IsIn, is_existential, is_universal, outer_or_same, Reached, Reducible}
-use Rattle.q_prop.proofs.SlotLemmas.{slice_get-in, slice_get-Contains, Contains-slice_get}
+use Rattle.q_logic.proofs.Common.{before_or_at}
+use Rattle.q_prop.proofs.SlotLemmas.{slice_get-Contains, Contains-slice_get}
 use Rattle.q_judge.specs.Walks.{is_inner, IsWidened, IsWorkedOff, IsVisited}
-use Rattle.q_judge.proofs.ReachWalks.{Contains-grown, earlier, settled-more}
+use Rattle.q_judge.proofs.ReachWalks.{Contains-grown, settled-more}
 
 module _ (P : Prefix) (X : Matrix) (C : Clause) (u : Literal) where
   -- an inner literal of a clause that is reached
@@ -40,9 +42,6 @@ module _ (P : Prefix) (X : Matrix) (C : Clause) (u : Literal) where
   in-linked : (old : List Literal) (k : Literal) (head : ℕ) → IsWalk head old → Contains old k → IsLinked k
   in-linked old k head w m = w.linked k m
 
-  same_some : (n k : Literal) → Some n ≡ Some k → n ≡ k
-  same_some n k e = cc
-
   pub walk-more : (head : ℕ) (k : Literal) (old new : List Literal) → IsWalk head old → slice_get old head ≡ Some k → IsVisited P X u k old new true → IsWalk (head + 1) new
   walk-more head k old new w e v = record {
     begun = λ j m t. Contains-grown old new v.0.added j v.0.is (w.begun j m t);
@@ -50,13 +49,13 @@ module _ (P : Prefix) (X : Matrix) (C : Clause) (u : Literal) where
       | inl a ↦ w.linked j a
       | inr a ↦ (a.0, next-reached k (w.linked k (Contains-slice_get old head k e)) a.0 a.1.0 a.1.1 a.2, a.3, a.4)
     ];
-    visited = λ j i l f E d m. elim (earlier j head l) [
+    visited = λ j i l f E d m. elim (before_or_at j head l) [
       | inl z ↦
-          let o = slice_get-Contains-at old new v.0.added j i v.0.is (let y = slice_get-in old head k e in omega arith) f in
+          let o = slice_get-Contains-at old new v.0.added j i v.0.is (let y = slice_get_within old head k e in omega arith) f in
           settled-more P u old new v.0.added E v.0.is (w.visited j i z o E d m)
       | inr z ↦
-          let o = slice_get-Contains-at old new v.0.added j i v.0.is (let y = slice_get-in old head k e in omega arith) f in
-          let q : i ≡ k = same_some i k (sym o ∙ ap (slice_get old) z ∙ e) in
+          let o = slice_get-Contains-at old new v.0.added j i v.0.is (let y = slice_get_within old head k e in omega arith) f in
+          let q : i ≡ k = same_Some i k (sym o ∙ ap (slice_get old) z ∙ e) in
           v.1 E d (subst (λ (x : Literal). IsIn (negation x) E) q m)
     ];
   }
@@ -79,7 +78,7 @@ module _ (P : Prefix) (X : Matrix) (C : Clause) (u : Literal) where
       let i = kept head known w past n B r in
       let m = i.1 k a (parts-inner k p q) in
       let j = slice_get-Contains known k m in
-      elim (w.visited j.0 k (let z = slice_get-in known j.0 k j.1 in omega arith) j.1 E d b) [
+      elim (w.visited j.0 k (let z = slice_get_within known j.0 k j.1 in omega arith) j.1 E d b) [
         | inl x ↦ absurd (h x)
         | inr x ↦ x
       ]

@@ -2,14 +2,15 @@
 use Rattle.std.proofs.Common.{◌≡◌, ◌≢◌, ℕ, ◌+◌, ◌<◌, ◌≤◌, Bool, true, false, cond, eqb, List, [], ◌∷◌, ◌++◌, Option, None, Some, get_or, set, length, refl, sym, ◌∙◌, ap, subst, inl, inr, arith, true≢false}
 use Rattle.std.proofs.lemmas.Bool.Decides.{nat_tests}
 use Rattle.std.proofs.lemmas.List.{get_or-set_same, get_or-set_other}
+use Rattle.std.proofs.lemmas.Bool.{cases_eq, ne_eqb}
 use Rattle.q_logic.specs.declared.formulas.Quant.{Quant}
 use Rattle.q_logic.specs.declared.formulas.Quant.TheVariants.{Exists, Forall}
 use Rattle.q_logic.specs.declared.formulas.Bound.{Bound}
 use Rattle.q_logic.specs.Prelude.{Prefix, is_bound, is_existential, is_exists, same_quant, Distinct, insert_after}
-use Rattle.q_logic.proofs.Common.{insert-distinct, existential-is_bound}
+use Rattle.q_logic.proofs.Common.{insert-distinct, existential-is_bound, is_bound-first, is_bound-later}
 use Rattle.q_judge.specs.declared.bindings.Binding.{Binding}
 use Rattle.q_judge.specs.Scopes.{binding_at, rank_at, rank_in, first_or, last_or, var_of, AreLinked, AreRanked, in_block, AreScoped, with_after, with_before, is_there}
-use Rattle.q_judge.proofs.BoundPieces.{equal-or, unequal, bound-cases, bound-here, bound-later, bound-left, bound-right, bound-either, few-below, IsSplit, split-at, inserted-split, distinct-apart, distinct-right}
+use Rattle.q_judge.proofs.BoundPieces.{bound-cases, bound-left, bound-right, bound-either, few-below, IsSplit, split-at, inserted-split, distinct-apart, distinct-right}
 use Rattle.q_judge.proofs.LinkedPrefixes.{linked-left, linked-right, linked-join, linked-same, linked-before}
 use Rattle.q_judge.proofs.BlockRanks.{ranked-left, ranked-right, ranked-join, ranked-same, ranked-like, in_block-same, in_block-append, in_block-one}
 use Rattle.q_judge.proofs.BlockMerge.{linked-room, in_block-few}
@@ -63,17 +64,17 @@ module _ (P : Prefix) (first : Option ℕ) (bindings : List (Option Binding)) (c
     in-outer x h = bound-left sp.outer (sp.bound ∷ sp.inner) x h
 
     in-inner : (x : ℕ) → is_bound sp.inner x ≡ true → is_bound (sp.outer ++ sp.bound ∷ sp.inner) x ≡ true
-    in-inner x h = bound-right sp.outer (sp.bound ∷ sp.inner) x (bound-later sp.bound sp.inner x h)
+    in-inner x h = bound-right sp.outer (sp.bound ∷ sp.inner) x (is_bound-later sp.bound sp.inner x h)
 
     b-in : is_bound (sp.outer ++ sp.bound ∷ sp.inner) sp.bound.var ≡ true
-    b-in = bound-right sp.outer (sp.bound ∷ sp.inner) sp.bound.var (bound-here sp.bound sp.inner)
+    b-in = bound-right sp.outer (sp.bound ∷ sp.inner) sp.bound.var (is_bound-first sp.bound sp.inner)
 
     after-there : s.after ≡ first_or sp.inner None
     after-there = after-is sp.outer sp.bound sp.inner first bindings counts a' s e'
 
     -- w is no variable but its own
     at-w : (x : ℕ) → x ≢ sp.bound.var → is_there (Some w) x ≡ false
-    at-w x h = unequal w x (λ q. h (sym q ∙ sym sp.var))
+    at-w x h = ne_eqb w x (λ q. h (sym q ∙ sym sp.var))
 
     on-outer : (x : ℕ) → is_bound sp.outer x ≡ true → binding_at bindings' x ≡ binding_at bindings x
     on-outer x h =
@@ -85,7 +86,7 @@ module _ (P : Prefix) (first : Option ℕ) (bindings : List (Option Binding)) (c
         inner-free x h = go (is_bound sp.inner x) refl
           where
             go : (t : Bool) → is_bound sp.inner x ≡ t → t ≡ false
-            go true q = absurd (true≢false (sym (bound-later sp.bound sp.inner x q) ∙ distinct-apart sp.outer (sp.bound ∷ sp.inner) a'.distinct x h))
+            go true q = absurd (true≢false (sym (is_bound-later sp.bound sp.inner x q) ∙ distinct-apart sp.outer (sp.bound ∷ sp.inner) a'.distinct x h))
             go false q = refl
 
     on-inner : (x : ℕ) → is_bound sp.inner x ≡ true → binding_at bindings' x ≡ cond (is_there (first_or sp.inner None) x) (with_before (var_of (Some n)) (binding_at bindings x)) (binding_at bindings x)
@@ -134,15 +135,15 @@ module _ (P : Prefix) (first : Option ℕ) (bindings : List (Option Binding)) (c
         none x q = cc
 
     come-only : (x : ℕ) (t : Binding) → binding_at bindings' x ≡ Some t → is_bound (sp.outer ++ sp.bound ∷ n ∷ sp.inner) x ≡ true
-    come-only x t q = elim (equal-or x v) [
-      | inl z ↦ bound-right sp.outer (sp.bound ∷ n ∷ sp.inner) x (bound-later sp.bound (n ∷ sp.inner) x (subst (λ (y : ℕ). is_bound (n ∷ sp.inner) y ≡ true) (sym z) (bound-here n sp.inner)))
+    come-only x t q = elim (cases_eq x v) [
+      | inl z ↦ bound-right sp.outer (sp.bound ∷ n ∷ sp.inner) x (is_bound-later sp.bound (n ∷ sp.inner) x (subst (λ (y : ℕ). is_bound (n ∷ sp.inner) y ≡ true) (sym z) (is_bound-first n sp.inner)))
       | inr z ↦
           let r = relinked-some (Some w) (Some v) s.after (Some v) x (binding_at bindings x) t (sym (other x z) ∙ q) in
           elim (bound-either sp.outer (sp.bound ∷ sp.inner) x (a'.only x r.0 r.1)) [
             | inl h ↦ bound-left sp.outer (sp.bound ∷ n ∷ sp.inner) x h
             | inr h ↦ bound-right sp.outer (sp.bound ∷ n ∷ sp.inner) x (elim (bound-cases sp.bound sp.inner x h) [
-              | inl y ↦ subst (λ (u : ℕ). is_bound (sp.bound ∷ n ∷ sp.inner) u ≡ true) y (bound-here sp.bound (n ∷ sp.inner))
-              | inr y ↦ bound-later sp.bound (n ∷ sp.inner) x (bound-later n sp.inner x y.1)
+              | inl y ↦ subst (λ (u : ℕ). is_bound (sp.bound ∷ n ∷ sp.inner) u ≡ true) y (is_bound-first sp.bound (n ∷ sp.inner))
+              | inr y ↦ is_bound-later sp.bound (n ∷ sp.inner) x (is_bound-later n sp.inner x y.1)
             ])
           ]
     ]
@@ -159,7 +160,7 @@ module _ (P : Prefix) (first : Option ℕ) (bindings : List (Option Binding)) (c
         omega (arith, x, y, z, u, p, q, t)
 
     come-counted : (r : ℕ) → get_or counts' r 0 ≡ in_block (rank_at bindings') r (sp.outer ++ sp.bound ∷ n ∷ sp.inner)
-    come-counted r = ap (λ (xs : List ℕ). get_or xs r 0) k ∙ elim (equal-or r s.rank) [
+    come-counted r = ap (λ (xs : List ℕ). get_or xs r 0) k ∙ elim (cases_eq r s.rank) [
       | inl z ↦
           let x = one-more s.rank in
           let q : eqb s.rank s.rank ≡ true = grind (arith, nat_tests) in
@@ -167,7 +168,7 @@ module _ (P : Prefix) (first : Option ℕ) (bindings : List (Option Binding)) (c
           rw z (get_or-set_same counts s.rank (get_or counts s.rank 0 + 1) 0 come-counts ∙ omega (arith, x, y, a'.counted s.rank))
       | inr z ↦
           let x = one-more r in
-          let q : eqb s.rank r ≡ false = unequal s.rank r (λ p. z (sym p)) in
+          let q : eqb s.rank r ≡ false = ne_eqb s.rank r (λ p. z (sym p)) in
           let y = ap (λ (t : Bool). cond {A = ℕ} t 1 0) q in
           get_or-set_other counts s.rank r (get_or counts s.rank 0 + 1) 0 z ∙ omega (arith, x, y, a'.counted r)
     ]

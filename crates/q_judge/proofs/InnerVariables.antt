@@ -5,9 +5,9 @@ use Rattle.q_logic.specs.Prelude.{Prefix, inner_existential, insert_after, remov
 use Rattle.q_logic.specs.Prefixes.{place, OuterOrSame, Distinct, is_bound, is_existential, is_universal, run_to, outer_or_same}
 use Rattle.q_logic.proofs.PrefixPlaces.{outer_or_same-places, places-outer_or_same}
 use Rattle.q_logic.proofs.MergeRun.{outer_or_same-is_bound}
-use Rattle.q_logic.proofs.Common.{inner-parts, inner_of, insert-is_existential, removed-is_existential, removed-unbound}
+use Rattle.q_logic.proofs.Common.{inner-parts, inner_of, insert-is_existential, removed-is_existential, removed-unbound, unbound-universal, insert-is_universal, removed-is_universal}
 use Rattle.q_logic.proofs.ExpandPrefix.{insert-outer}
-use Rattle.q_judge.proofs.BoundPieces.{unbound-universal}
+use Rattle.q_logic.proofs.Prefixes.{inserted-not_universal}
 
 below_or_not : (a b : ℕ) → (a ≤ b) ⊎ (b ≤ a)
 below_or_not a b = grind arith
@@ -48,21 +48,13 @@ module _ (w v : ℕ) (P : Prefix) (e : is_existential P w ≡ true) where
   pub inserted-inner : (x k : ℕ) → eqb x v ≡ false → eqb k v ≡ false → inner_existential (insert_after w v P) x k ≡ true → inner_existential P x k ≡ true
   inserted-inner x k n m h = inner-less (insert_after w v P) P x x k (insert-is_existential w v P k m) (λ o. insert-outer w v P k x e m n ∙ o) h
 
-inserted-itself : (w v : ℕ) (P : Prefix) → is_bound P v ≡ false → is_universal (insert_after w v P) v ≡ false
-inserted-itself w v [] n = refl
-inserted-itself w v (b ∷ P) n = let z : is_bound P v ≡ false → is_universal P v ≡ false = unbound-universal P v in grind (arith, inserted-itself w v P)
-
-inserted-other : (w v : ℕ) (P : Prefix) (x : ℕ) → eqb x v ≡ false → is_universal (insert_after w v P) x ≡ is_universal P x
-inserted-other w v [] x n = refl
-inserted-other w v (b ∷ P) x n = grind (arith, inserted-other w v P x)
-
 -- what is universal then was so before, and is another variable
 pub inserted-universal : (w v : ℕ) (P : Prefix) (x : ℕ) → is_bound P v ≡ false → is_universal (insert_after w v P) x ≡ true → (eqb x v ≡ false) × (is_universal P x ≡ true)
 inserted-universal w v P x n h = go (eqb x v) refl
   where
     go : (b : Bool) → eqb x v ≡ b → (eqb x v ≡ false) × (is_universal P x ≡ true)
-    go true q = let z : is_universal (insert_after w v P) v ≡ false = inserted-itself w v P n in absurd (let y : x ≡ v = grind arith in true≢false (sym h ∙ ap (is_universal (insert_after w v P)) y ∙ z))
-    go false q = (q, sym (inserted-other w v P x q) ∙ h)
+    go true q = let z : is_universal (insert_after w v P) v ≡ false = inserted-not_universal w v P n in absurd (let y : x ≡ v = grind arith in true≢false (sym h ∙ ap (is_universal (insert_after w v P)) y ∙ z))
+    go false q = (q, sym (insert-is_universal w v P x q) ∙ h)
 
 -- a variable that goes
 removed-run : (v : ℕ) (q : Quant) (P : Prefix) (a : ℕ) → eqb a v ≡ false → run_to q P a ≡ true → run_to q (removed_from v P) a ≡ true
@@ -73,10 +65,6 @@ removed-outer : (v : ℕ) (P : Prefix) (a c : ℕ) → eqb a v ≡ false → eqb
 removed-outer v [] a c n m o = o
 removed-outer v (b ∷ P) a c n m o = grind (arith, removed-outer v P a c, removed-run v b.quant P a)
 
-removed-other : (v : ℕ) (P : Prefix) (x : ℕ) → eqb x v ≡ false → is_universal (removed_from v P) x ≡ is_universal P x
-removed-other v [] x n = refl
-removed-other v (b ∷ P) x n = grind (arith, removed-other v P x)
-
 pub removed-inner : (v : ℕ) (P : Prefix) (x k : ℕ) → eqb x v ≡ false → eqb k v ≡ false → inner_existential (removed_from v P) x k ≡ true → inner_existential P x k ≡ true
 removed-inner v P x k n m h = inner-less (removed_from v P) P x x k (removed-is_existential v P k m) (λ o. removed-outer v P k x m n o) h
 
@@ -85,4 +73,4 @@ removed-universal v P x d h = go (eqb x v) refl
   where
     go : (b : Bool) → eqb x v ≡ b → (eqb x v ≡ false) × (is_universal P x ≡ true)
     go true q = let z : is_universal (removed_from v P) v ≡ false = unbound-universal (removed_from v P) v (removed-unbound v P d) in absurd (let y : x ≡ v = grind arith in true≢false (sym h ∙ ap (is_universal (removed_from v P)) y ∙ z))
-    go false q = (q, sym (removed-other v P x q) ∙ h)
+    go false q = (q, sym (removed-is_universal v P x q) ∙ h)

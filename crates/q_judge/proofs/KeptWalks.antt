@@ -1,14 +1,16 @@
 -- Walks that are kept: what they tell, and what a step leaves of them.
-use Rattle.std.proofs.Common.{◌≡◌, ◌<◌, ◌≤◌, ◌+◌, ℕ, true, false, eqb, set, length, take, slice_get, List, [], ◌∷◌, ◌++◌, None, Some, refl, sym, ◌∙◌, ap, subst, inl, inr, arith, true≢false, append_assoc, zero, suc}
+use Rattle.std.proofs.Common.{◌≡◌, ◌<◌, ◌≤◌, ◌+◌, ℕ, true, false, set, length, take, slice_get, List, [], ◌∷◌, ◌++◌, None, Some, refl, sym, ◌∙◌, ap, subst, inl, inr, arith, append_assoc, zero, suc}
 use Rattle.std.proofs.Math.Seq.{take-append_seam}
+use Rattle.std.proofs.lemmas.Option.{same_Some, slice_get_within}
 use Rattle.q_logic.specs.Prelude.{Literal, negation, Clause, Matrix, Prefix, IsIn, Closed, Distinct, is_bound, is_existential, is_universal, Slots, Reached, Reducible, IsAbsent, insert_after, removed_from}
-use Rattle.q_logic.proofs.Common.{IsIn-alike}
+use Rattle.q_logic.proofs.Common.{IsIn-alike, before_or_at}
+use Rattle.q_logic.proofs.Runs.{unbound_free}
 use Rattle.q_prop.specs.Slots.{filled, IsPut}
-use Rattle.q_prop.proofs.SlotLemmas.{slice_get-in, slice_get-Contains, Contains-slice_get}
+use Rattle.q_prop.proofs.SlotLemmas.{slice_get-Contains, Contains-slice_get}
 use Rattle.q_judge.specs.Walks.{is_inner, IsWidened, IsWorkedOff, IsVisited, HasInner, IsBorne, IsShut, WalkMap, IsEnclosed, AreEnclosed}
 use Rattle.q_judge.proofs.SlotCollections.{left-in, put-same}
 use Rattle.q_judge.proofs.InnerVariables.{inserted-inner, inserted-universal, removed-inner, removed-universal}
-use Rattle.q_judge.proofs.ReachWalks.{Contains-grown, earlier, settled-more}
+use Rattle.q_judge.proofs.ReachWalks.{Contains-grown, settled-more}
 
 module _ (P : Prefix) (X : Matrix) (C : Clause) (u : Literal) (known : List Literal) (lacks : IsIn (negation u) C → ⊥) (inside : HasInner P u known C) (shut : IsShut P X u known) where
   -- what every reached clause keeps
@@ -52,9 +54,6 @@ module _ (P : Prefix) (X : Matrix) (C : Clause) (u : Literal) (begun : List Lite
       go (x ∷ xs) ys zero i l f = f
       go (x ∷ xs) ys (suc j) i l f = go xs ys j i (omega arith) f
 
-  same_some : (n k : Literal) → Some n ≡ Some k → n ≡ k
-  same_some n k e = cc
-
   pub going-begun : (known : List Literal) → IsShut P X u begun → IsWidened P u C begun known → IsGoingOn P X C u begun (length begun) known
   going-begun known shut w = record {
     added = w.added;
@@ -68,13 +67,13 @@ module _ (P : Prefix) (X : Matrix) (C : Clause) (u : Literal) (begun : List Lite
     added = w.added ++ v.0.added;
     is = v.0.is ∙ ap (λ (xs : List Literal). xs ++ v.0.added) w.is ∙ append_assoc begun w.added v.0.added;
     inner = λ j m t. Contains-grown old new v.0.added j v.0.is (w.inner j m t);
-    visited = λ j i l f E d m. elim (earlier j head l) [
+    visited = λ j i l f E d m. elim (before_or_at j head l) [
       | inl z ↦
-          let o = before old v.0.added new j i v.0.is (let y = slice_get-in old head k e in omega arith) f in
+          let o = before old v.0.added new j i v.0.is (let y = slice_get_within old head k e in omega arith) f in
           settled-more P u old new v.0.added E v.0.is (w.visited j i z o E d m)
       | inr z ↦
-          let o = before old v.0.added new j i v.0.is (let y = slice_get-in old head k e in omega arith) f in
-          let q : i ≡ k = same_some i k (sym o ∙ ap (slice_get old) z ∙ e) in
+          let o = before old v.0.added new j i v.0.is (let y = slice_get_within old head k e in omega arith) f in
+          let q : i ≡ k = same_Some i k (sym o ∙ ap (slice_get old) z ∙ e) in
           v.1 E d (subst (λ (x : Literal). IsIn (negation x) E) q m)
     ];
   }
@@ -83,7 +82,7 @@ module _ (P : Prefix) (X : Matrix) (C : Clause) (u : Literal) (begun : List Lite
   pub going-ended : (head : ℕ) (known : List Literal) → IsGoingOn P X C u begun head known → length known ≤ head → IsShut P X u known
   going-ended head known w past k E m d n =
       let j = slice_get-Contains known k m in
-      w.visited j.0 k (let z = slice_get-in known j.0 k j.1 in omega arith) j.1 E d n
+      w.visited j.0 k (let z = slice_get_within known j.0 k j.1 in omega arith) j.1 E d n
 
   pub going-back : (head : ℕ) (known : List Literal) → IsGoingOn P X C u begun head known → IsShut P X u begun → IsShut P X u (take (length begun) known)
   going-back head known w shut = subst (λ (xs : List Literal). IsShut P X u xs) (sym (ap (take (length begun)) w.is ∙ take-append_seam begun w.added)) shut
@@ -92,12 +91,6 @@ module _ (P : Prefix) (X : Matrix) (C : Clause) (u : Literal) (begun : List Lite
 pub enclosed-more : (P : Prefix) (X : Matrix) (R : WalkMap) (C : Clause) → IsBorne P R.literal R.known C → IsEnclosed P X R → IsEnclosed P (C ∷ X) R
 enclosed-more P X R C borne all t k E m (inl e) n = subst (λ (D : Clause). IsWorkedOff P R.literal R.known D) (sym e) (borne t k m (subst (λ (D : Clause). IsIn (negation k) D) e n))
 enclosed-more P X R C borne all t k E m (inr i) n = all t k E m i n
-
-unlike-eqb : (a b : ℕ) → (a ≡ b → ⊥) → eqb a b ≡ false
-unlike-eqb a b n = grind arith
-
-unlike : (P : Prefix) (X : Matrix) (v : ℕ) → Closed P X → is_bound P v ≡ false → (D : Clause) → IsIn D X → (k : Literal) → IsIn k D → eqb k.var v ≡ false
-unlike P X v h n D m k a = unlike-eqb k.var v (λ e. true≢false (sym (h D m k a) ∙ ap (is_bound P) e ∙ n))
 
 -- fewer literals are inner
 worked-fewer : (P Q : Prefix) (u : Literal) (known : List Literal) (E : Clause) → ((k : Literal) → IsIn k E → is_inner Q u k ≡ true → is_inner P u k ≡ true) → IsWorkedOff P u known E → IsWorkedOff Q u known E
@@ -123,7 +116,7 @@ module _ (P : Prefix) (Rs : List WalkMap) where
   pub walks-inserted : (X : Matrix) (w v : ℕ) → is_existential P w ≡ true → Closed P X → is_bound P v ≡ false → AreEnclosed P X Rs → AreEnclosed (insert_after w v P) X Rs
   walks-inserted X w v e closed n all R r t k E m i h =
       let u = inserted-universal w v P R.literal.var n t in
-      worked-fewer P (insert_after w v P) R.literal R.known E (λ j a s. inserted-inner w v P e R.literal.var j.var u.0 (unlike P X v closed n E i j a) s) (all R r u.1 k E m i h)
+      worked-fewer P (insert_after w v P) R.literal R.known E (λ j a s. inserted-inner w v P e R.literal.var j.var u.0 (unbound_free P X v closed n E i j a) s) (all R r u.1 k E m i h)
 
   pub walks-removed : (X : Matrix) (v : ℕ) → Distinct P → IsAbsent X v → AreEnclosed P X Rs → AreEnclosed (removed_from v P) X Rs
   walks-removed X v d absent all R r t k E m i h =

@@ -1,9 +1,9 @@
 -- The variables of a run get another number, one after the other.
 use Rattle.std.proofs.Common.{◌≡◌, ◌≢◌, ℕ, suc, Bool, true, false, cond, eqb, List, [], ◌∷◌, Option, None, Some, length, refl, sym, ◌∙◌, ap, subst, inl, inr, arith, true≢false}
 use Rattle.std.proofs.lemmas.Bool.Decides.{nat_tests}
+use Rattle.std.proofs.lemmas.Bool.{cases_eq, ne_eqb}
 use Rattle.q_judge.specs.declared.bindings.Binding.{Binding}
 use Rattle.q_judge.specs.Scopes.{is_among, is_there, with_rank, renumbered, beside, IsRun}
-use Rattle.q_judge.proofs.BoundPieces.{equal-or, unequal}
 
 pub run-same : (f g : ℕ → Option Binding) (forward : Bool) (o : Option ℕ) (S : List ℕ) → ((v : ℕ) → is_among S v ≡ true → g v ≡ f v) → IsRun f forward o S → IsRun g forward o S
 run-same f g forward o [] e r = tt
@@ -35,13 +35,13 @@ ahead-turn f g forward to at' next left goal a e n = go a.vars a.run a.size a.re
       vars = S;
       run = subst (λ (o : Option ℕ). IsRun g forward o S) (sym (n x r.2 r.0 r.3)) (run-same f g forward (beside forward r.2) S same r.4);
       size = omega (arith, z);
-      reaches = λ v. elim (equal-or x v) [
+      reaches = λ v. elim (cases_eq x v) [
         | inl q ↦
             let p : is_among S v ≡ false = subst (λ (w : ℕ). is_among S w ≡ false) q r.1 in
             let t : is_there at' v ≡ true = ap (λ (o : Option ℕ). is_there o v) r.0 ∙ true-at x v q in
             ap (λ (b : Bool). cond b (with_rank to (g v)) (g v)) p ∙ e v ∙ ap (λ (b : Bool). cond b (with_rank to (f v)) (f v)) (t ∙ sym (among-at x v q)) ∙ h v
         | inr q ↦
-            let t : is_there at' v ≡ false = ap (λ (o : Option ℕ). is_there o v) r.0 ∙ unequal x v q in
+            let t : is_there at' v ≡ false = ap (λ (o : Option ℕ). is_there o v) r.0 ∙ ne_eqb x v q in
             let k : g v ≡ f v = e v ∙ ap (λ (b : Bool). cond b (with_rank to (f v)) (f v)) t in
             (λ j. cond (is_among S v) (with_rank to (k j)) (k j)) ∙ ap (λ (b : Bool). cond b (with_rank to (f v)) (f v)) (sym (among-off x v q)) ∙ h v
       ];
@@ -54,10 +54,10 @@ ahead-turn f g forward to at' next left goal a e n = go a.vars a.run a.size a.re
         among-at x v q = ap (λ (b : Bool). cond b true (is_among S v)) (true-at x v q)
 
         among-off : (x v : ℕ) → x ≢ v → is_among (x ∷ S) v ≡ is_among S v
-        among-off x v q = ap (λ (b : Bool). cond b true (is_among S v)) (unequal x v q)
+        among-off x v q = ap (λ (b : Bool). cond b true (is_among S v)) (ne_eqb x v q)
 
         same : (v : ℕ) → is_among S v ≡ true → g v ≡ f v
-        same v i = e v ∙ ap (λ (b : Bool). cond b (with_rank to (f v)) (f v)) (ap (λ (o : Option ℕ). is_there o v) r.0 ∙ unequal x v (λ q. true≢false (sym (subst (λ (w : ℕ). is_among S w ≡ true) (sym q) i) ∙ r.1)))
+        same v i = e v ∙ ap (λ (b : Bool). cond b (with_rank to (f v)) (f v)) (ap (λ (o : Option ℕ). is_there o v) r.0 ∙ ne_eqb x v (λ q. true≢false (sym (subst (λ (w : ℕ). is_among S w ≡ true) (sym q) i) ∙ r.1)))
 
 pub ahead-done : (f : ℕ → Option Binding) (forward : Bool) (to : ℕ) (at' : Option ℕ) (goal : ℕ → Option Binding) → IsAhead f forward to at' 0 goal → (v : ℕ) → f v ≡ goal v
 ahead-done f forward to at' goal a v = go a.vars a.size (a.reaches v)

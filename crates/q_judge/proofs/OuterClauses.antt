@@ -2,14 +2,14 @@
 use Rattle.std.proofs.Common.{◌≡◌, ℕ, suc, Bool, true, false, cond, List, [], ◌∷◌, ◌++◌, append-nil, append_assoc, refl, sym, ◌∙◌, ap, subst, inl, inr, arith, Option, None, Some}
 use Rattle.std.specs.Prelude.{slice_get}
 use Rattle.q_logic.specs.Prelude.{Literal, Clause, Prefix, IsIn, outer, has, copies, every_outer, OutersOf, Slots}
-use Rattle.q_logic.proofs.UniversalPivot.{has-IsIn, IsIn-has}
 use Rattle.q_logic.proofs.Outers.{every_outer-count, every_outer-same}
-use Rattle.q_logic.proofs.Common.{IsIn-Contains, Contains-IsIn, copies-append}
+use Rattle.q_logic.proofs.Common.{IsIn-Contains, Contains-IsIn, copies-append, has-IsIn, IsIn-has}
 use Rattle.q_prop.specs.Slots.{Holds, filled, without}
 use Rattle.q_prop.specs.Lists.{IsDistinct}
 use Rattle.q_prop.proofs.SlotLemmas.{without-le, without-here, without-other, slice_get-Contains}
+use Rattle.q_prop.proofs.BucketLemmas.{same-clause}
 use Rattle.q_judge.specs.Warrants.{AreHolders}
-use Rattle.q_judge.proofs.SlotCollections.{in-held, one_clause, emptied-same}
+use Rattle.q_judge.proofs.SlotCollections.{in-held, emptied-same}
 
 -- the outer clause of what stands in a slot
 abbrev pub outer_at : Prefix → Literal → Option (Option Clause) → List Clause
@@ -117,5 +117,5 @@ collected-outers P s skip m slots os h v O =
     held = record {
       once = h.once;
       all_there = λ n D e i. Contains-IsIn n slots (h.all_there n D (without-le s skip n D e) i);
-      no_other = λ n D i e. let r = h.no_other n (IsIn-Contains n slots i) in subst (λ (E : Clause). IsIn m E) (one_clause s n r.0 D r.1 (without-le s skip n D e)) r.2;
+      no_other = λ n D i e. let r = h.no_other n (IsIn-Contains n slots i) in subst (λ (E : Clause). IsIn m E) (same-clause s n r.0 D r.1 (without-le s skip n D e)) r.2;
     }

@@ -1,5 +1,5 @@
 -- Outer clauses as they are gathered for a pivot, slot by slot and group by group.
-use Rattle.std.proofs.Common.{◌≡◌, ◌↔◌, ◌⊎◌, ℕ, zero, suc, ◌+◌, ◌<◌, ◌≤◌, Bool, List, [], ◌∷◌, ◌++◌, Option, Some, Contains, slice_get, take, drop, Result, Ok, Err, IfOk, IsTrue, sym, subst, inl, inr, arith, zero-le, suc-le-suc, le_of_suc-le-suc, not-suc-le-zero}
+use Rattle.std.proofs.Common.{◌≡◌, ◌↔◌, ℕ, zero, suc, ◌+◌, ◌<◌, ◌≤◌, List, [], ◌∷◌, ◌++◌, Option, Some, Contains, slice_get, take, drop, sym, subst, inl, inr, arith, le_of_suc-le-suc, not-suc-le-zero}
 use Rattle.std.proofs.lemmas.List.{take-append-drop}
 use Rattle.std.proofs.lemmas.List.Elements.{Contains-append_left, Contains-append_right, Contains-push, Contains-push_cases}
 use Rattle.q_logic.specs.Prelude.{Clause, Prefix, IsIn, Slots, outer, Implied}
@@ -8,10 +8,11 @@ use Rattle.q_prop.specs.Slots.{Holds, filled, without}
 use Rattle.q_prop.specs.Tails.{AreImplied}
 use Rattle.q_prop.proofs.ListMembers.{Contains-nil, Contains-take}
 use Rattle.q_prop.proofs.SlotLemmas.{without-le, slice_get-take_in, Contains-slice_get}
+use Rattle.q_prop.proofs.BucketLemmas.{same-clause}
 use Rattle.q_judge.specs.Pivots.{resolvent, IsGathered, AreGathered, ResolveAt}
 use Rattle.q_judge.specs.Warrants.{AreHolders, Resolves}
 use Rattle.q_judge.specs.declared.pivots.Question.{Question}
-use Rattle.q_judge.proofs.SlotCollections.{held-in, in-held, one_clause}
+use Rattle.q_judge.proofs.SlotCollections.{held-in, in-held}
 
 module _ (P : Prefix) (s : Slots) (q : Question) where
   pub gathered-none : AreGathered P s q [] []
@@ -35,7 +36,7 @@ module _ (P : Prefix) (s : Slots) (q : Question) where
         | inr m ↦ inr (Contains-append_left old (outer P q.m h.0 ∷ []) (outer P q.m D) m)
       ]
       | inr f ↦
-          let same = one_clause s n D h.0 (subst (λ (j : ℕ). Holds s j D) (sym f) e) h.1 in
+          let same = same-clause s n D h.0 (subst (λ (j : ℕ). Holds s j D) (sym f) e) h.1 in
           inr (subst (λ (E : Clause). Contains (old ++ outer P q.m h.0 ∷ []) (outer P q.m E)) (sym same) (Contains-push old (outer P q.m h.0)))
     ];
     no_other = λ t c. elim (Contains-push_cases old (outer P q.m h.0) t c) [
@@ -62,19 +63,9 @@ resolve-holders P S q slots h = (
       r n.0 D (h.all_there n.0 D (without-le S q.skip n.0 D n.1) m) n.1),
   (λ r n D c e.
       let o = h.no_other n c in
-      let same = one_clause S n D o.0 (without-le S q.skip n D e) o.1 in
+      let same = same-clause S n D o.0 (without-le S q.skip n D e) o.1 in
       r D (held-in (without S q.skip) n D e) (subst (λ (E : Clause). IsIn q.m E) (sym same) o.2)),
 )
-
-pub ok-iff : {E A B : Type 0} (r : Result Bool E) → A ↔ B → IfOk r (λ y. IsTrue y ↔ A) → IfOk r (λ y. IsTrue y ↔ B)
-ok-iff (Ok y) e x = (λ h. e.0 (x.0 h), λ b. x.1 (e.1 b))
-ok-iff (Err f) e x = tt
-
--- a place before another, or not
-pub before-or-not : (j k : ℕ) → (j < k) ⊎ (k ≤ j)
-before-or-not j zero = inr zero-le
-before-or-not zero (suc k) = inl (suc-le-suc zero-le)
-before-or-not (suc j) (suc k) = elim (before-or-not j k) [ inl l ↦ inl (suc-le-suc l) | inr g ↦ inr (suc-le-suc g) ]
 
 -- an item of a range
 pub in-range : (xs : List ℕ) (s k j n : ℕ) → s ≤ j → j < s + k → slice_get xs j ≡ Some n → Contains (take k (drop s xs)) n

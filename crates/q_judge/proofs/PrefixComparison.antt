@@ -3,6 +3,7 @@ use Rattle.std.proofs.Common.{◌≡◌, ℕ, Bool, true, false, ◌&&◌, eqb, 
 use Rattle.std.proofs.lemmas.Bool.Decides.{nat_tests}
 use Rattle.q_logic.specs.declared.formulas.Bound.{Bound}
 use Rattle.q_logic.specs.Prelude.{bool_eq, Prefix, IsIn, is_bound, is_exists, blocks, SameBlocks}
+use Rattle.q_logic.proofs.Common.{bool_eq-sound}
 use Rattle.q_judge.specs.declared.bindings.Binding.{Binding}
 use Rattle.q_judge.specs.Scopes.{binding_at, first_or, AreLinked, AreNumbered, IsNumbered, rank_at, rank_in, is_same_binding}
 use Rattle.q_judge.proofs.PrefixFacts.{binding-bound, no_binding-unbound}
@@ -26,11 +27,6 @@ scoped-numbered P bindings counts a = go P a.numbered (λ c m. linked-kind (bind
     go : (P : Prefix) → IsNumbered (rank_at bindings) None 0 P → ((c : Bound) → IsIn c P → kind_at bindings c.var ≡ is_exists c.quant) → AreBlocksNumbered (rank_at bindings) (kind_at bindings) 0 (blocks P)
     go [] h k = tt
     go (b ∷ P) h k = blocks-numbered (rank_at bindings) (kind_at bindings) b P k 0 h.0 h.1
-
-bool_eq-sound : (a b : Bool) → bool_eq a b ≡ true → a ≡ b
-bool_eq-sound true b e = sym e
-bool_eq-sound false true e = absurd (true≢false (sym e))
-bool_eq-sound false false e = refl
 
 bool_eq-itself : (a b : Bool) → a ≡ b → bool_eq a b ≡ true
 bool_eq-itself true b e = sym e

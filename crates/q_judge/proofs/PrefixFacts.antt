@@ -6,8 +6,9 @@ use Rattle.q_logic.specs.declared.formulas.Bound.{Bound}
 use Rattle.q_logic.specs.Prelude.{Prefix, is_bound, is_existential, is_universal, is_exists, outer_or_same}
 use Rattle.q_judge.specs.declared.bindings.Binding.{Binding}
 use Rattle.q_judge.specs.Scopes.{binding_at, rank_at, AreLinked, AreScoped}
-use Rattle.q_judge.proofs.BoundPieces.{universal-not, unbound-universal}
+use Rattle.q_judge.proofs.BoundPieces.{universal-not}
 use Rattle.q_logic.proofs.Truth.{none_bound}
+use Rattle.q_logic.proofs.Common.{unbound-universal}
 use Rattle.q_judge.proofs.LinkedPrefixes.{binding-in}
 use Rattle.q_judge.proofs.BlockRanks.{ranked-outer}
 use Rattle.q_judge.proofs.VariableRemoval.{same_binding}

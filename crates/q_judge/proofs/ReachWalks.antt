@@ -1,18 +1,18 @@
 -- Walks, literal by literal and clause by clause.
 use Rattle.std.proofs.Common.{◌≡◌, ◌⊎◌, ℕ, ◌+◌, ◌<◌, ◌≤◌, true, false, List, [], ◌∷◌, ◌++◌, Contains, slice_get, Some, Option, length, sym, ◌∙◌, ap, subst, inl, inr, arith, append-nil, append_assoc}
 use Rattle.std.proofs.lemmas.List.Elements.{Contains-append_left, Contains-push, Contains-push_cases}
+use Rattle.std.proofs.lemmas.Option.{same_Some, slice_get_within}
 use Rattle.q_logic.specs.Prelude.{Literal, negation, Clause, Prefix, IsIn, Slots}
+use Rattle.q_logic.proofs.Common.{before_or_at}
 use Rattle.q_prop.specs.Slots.{Holds, filled, without}
-use Rattle.q_prop.proofs.SlotLemmas.{without-le, slice_get-in, slice_get-Contains, Contains-slice_get}
+use Rattle.q_prop.proofs.SlotLemmas.{without-le, slice_get-Contains, Contains-slice_get}
+use Rattle.q_prop.proofs.BucketLemmas.{same-clause}
 use Rattle.q_judge.specs.Warrants.{AreHolders}
-use Rattle.q_judge.proofs.SlotCollections.{held-in, in-held, one_clause}
+use Rattle.q_judge.proofs.SlotCollections.{held-in, in-held}
 use Rattle.q_judge.specs.Walks.{is_inner, IsWidened, IsWorkedOff, IsGrown, IsFollowed, IsVisited}
 
 pub Contains-grown : (old new added : List Literal) (k : Literal) → new ≡ old ++ added → Contains old k → Contains new k
 Contains-grown old new added k e m = rw e (Contains-append_left old added k m)
-
-pub earlier : (n i : ℕ) → n < i + 1 → (n < i) ⊎ (n ≡ i)
-earlier n i h = grind arith
 
 module _ (P : Prefix) (u : Literal) where
   pub widened-begun : (old : List Literal) → IsWidened P u [] old old
@@ -51,12 +51,12 @@ module _ (P : Prefix) (u : Literal) where
   followed-none s n old h = (grown-same (Holds s n) old, λ E e. absurd (h E e))
 
   pub followed-held : (s : Slots) (n : ℕ) (C : Clause) (old : List Literal) → Holds s n C → IsIn u C → IsFollowed P s u n old old true
-  followed-held s n C old h m = (grown-same (Holds s n) old, λ E e. inl (subst (λ (x : Clause). IsIn u x) (one_clause s n C E h e) m))
+  followed-held s n C old h m = (grown-same (Holds s n) old, λ E e. inl (subst (λ (x : Clause). IsIn u x) (same-clause s n C E h e) m))
 
   pub followed-widened : (s : Slots) (n : ℕ) (C : Clause) (old new : List Literal) → Holds s n C → (IsIn u C → ⊥) → (IsIn (negation u) C → ⊥) → IsWidened P u C old new → IsFollowed P s u n old new true
   followed-widened s n C old new h a b w = (
     record { added = w.added; is = w.is; from = λ k m. elim (w.no_other k m) [ inl x ↦ inl x | inr x ↦ inr (C, h, a, x.0, x.1) ] },
-    (λ E e. let q = one_clause s n C E h e in inr ((λ m. b (subst (λ (x : Clause). IsIn (negation u) x) (sym q) m)), (λ k m t. w.all_there k (subst (λ (x : Clause). IsIn k x) (sym q) m) t))),
+    (λ E e. let q = same-clause s n C E h e in inr ((λ m. b (subst (λ (x : Clause). IsIn (negation u) x) (sym q) m)), (λ k m t. w.all_there k (subst (λ (x : Clause). IsIn k x) (sym q) m) t))),
   )
 
   pub settled-more : (old new added : List Literal) (E : Clause) → new ≡ old ++ added → IsWorkedOff P u old E → IsWorkedOff P u new E
@@ -78,15 +78,12 @@ module _ (P : Prefix) (u : Literal) where
   pub following-begun : (s : Slots) (slots : List ℕ) (old : List Literal) → IsFollowing s slots 0 old old
   following-begun s slots old = record { grown = grown-same (λ E. (j : ℕ) × (n : ℕ) × (j < 0) × (slice_get slots j ≡ Some n) × Holds s n E) old; settled = λ j n E l e h. absurd (omega arith) }
 
-  same_some : (n k : ℕ) → Some n ≡ Some k → n ≡ k
-  same_some n k e = cc
-
   pub following-more : (s : Slots) (slots : List ℕ) (i n : ℕ) (old mid new : List Literal) → IsFollowing s slots i old mid → slice_get slots i ≡ Some n → IsFollowed P s u n mid new true → IsFollowing s slots (i + 1) old new
   following-more s slots i n old mid new f e h = record {
     grown = grown-through (λ E. (j : ℕ) × (k : ℕ) × (j < i + 1) × (slice_get slots j ≡ Some k) × Holds s k E) (Holds s n) old mid new (λ E g. (i, n, omega arith, e, g)) (record { added = f.grown.added; is = f.grown.is; from = λ k m. elim (f.grown.from k m) [ inl a ↦ inl a | inr a ↦ inr (a.0, (a.1.0, a.1.1, (let z : a.1.0 < i = a.1.2 in omega arith), a.1.3, a.1.4), a.2, a.3, a.4) ] }) h.0;
-    settled = λ j k E l g o. elim (earlier j i l) [
+    settled = λ j k E l g o. elim (before_or_at j i l) [
       | inl z ↦ settled-more mid new h.0.added E h.0.is (f.settled j k E z g o)
-      | inr z ↦ h.1 E (subst (λ (x : ℕ). Holds s x E) (same_some k n (sym g ∙ ap (slice_get slots) z ∙ e)) o)
+      | inr z ↦ h.1 E (subst (λ (x : ℕ). Holds s x E) (same_Some k n (sym g ∙ ap (slice_get slots) z ∙ e)) o)
     ];
   }
 
@@ -101,17 +98,17 @@ module _ (P : Prefix) (u : Literal) where
         | inr a ↦
             let n = a.1.1 in
             let o = h.no_other n (Contains-slice_get slots a.1.0 n a.1.3) in
-            inr (a.0, (held-in (without t skip) n a.0 a.1.4, subst (λ (x : Clause). IsIn (negation k) x) (one_clause t n o.0 a.0 o.1 (without-le t skip n a.0 a.1.4)) o.2), a.2, a.3, a.4)
+            inr (a.0, (held-in (without t skip) n a.0 a.1.4, subst (λ (x : Clause). IsIn (negation k) x) (same-clause t n o.0 a.0 o.1 (without-le t skip n a.0 a.1.4)) o.2), a.2, a.3, a.4)
       ];
     },
     (λ E d m.
         let n = in-held (without t skip) E d in
         let c = h.all_there n.0 E (without-le t skip n.0 E n.1) m in
         let j = slice_get-Contains slots n.0 c in
-        f.settled j.0 n.0 E (let z = slice_get-in slots j.0 n.0 j.1 in omega arith) j.1 n.1),
+        f.settled j.0 n.0 E (let z = slice_get_within slots j.0 n.0 j.1 in omega arith) j.1 n.1),
   )
 
   pub visited-not : (t : Slots) (skip : Option ℕ) (k : Literal) (slots : List ℕ) (i n : ℕ) (old mid new : List Literal) → AreHolders t (negation k) slots → slice_get slots i ≡ Some n → IsFollowed P (without t skip) u n mid new false → IsVisited P (filled (without t skip)) u k old new false
   visited-not t skip k slots i n old mid new h e f =
       let o = h.no_other n (Contains-slice_get slots i n e) in
-      (f.0, held-in (without t skip) n f.0 f.1, subst (λ (x : Clause). IsIn (negation k) x) (one_clause t n o.0 f.0 o.1 (without-le t skip n f.0 f.1)) o.2, f.2, f.3)
+      (f.0, held-in (without t skip) n f.0 f.1, subst (λ (x : Clause). IsIn (negation k) x) (same-clause t n o.0 f.0 o.1 (without-le t skip n f.0 f.1)) o.2, f.2, f.3)

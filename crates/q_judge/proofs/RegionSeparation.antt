@@ -1,9 +1,11 @@
 -- What regions tell, and that they stay right.
 use Rattle.std.proofs.Common.{◌≡◌, ◌⊎◌, ◌<◌, ◌≤◌, ◌+◌, ℕ, true, false, eqb, length, set, slice_get, List, ◌∷◌, Some, None, sym, ◌∙◌, ap, subst, inl, inr, arith, true≢false}
+use Rattle.std.proofs.lemmas.Bool.{ne_eqb}
+use Rattle.std.proofs.lemmas.Option.{slice_get_within}
 use Rattle.q_logic.specs.Prelude.{Literal, negation, Clause, Matrix, Prefix, IsIn, Closed, Distinct, is_bound, is_existential, is_universal, outer_or_same, inner_existential, without, Reached, Reducible, IsAbsent, insert_after, removed_from, Slots}
-use Rattle.q_logic.proofs.Common.{bound_of_u, inner_of, IsIn-Contains, Contains-IsIn, without-IsIn, IsIn-alike}
+use Rattle.q_logic.proofs.Common.{inner_of, IsIn-Contains, Contains-IsIn, without-IsIn, IsIn-alike, universal-is_bound}
 use Rattle.q_prop.specs.Slots.{filled, Holds, IsPut}
-use Rattle.q_prop.proofs.SlotLemmas.{slice_get-in, slice_get-there, slice_get-set_here, slice_get-set_other, slice_get-Contains, Contains-slice_get}
+use Rattle.q_prop.proofs.SlotLemmas.{slice_get-there, slice_get-set_here, slice_get-set_other, slice_get-Contains, Contains-slice_get}
 use Rattle.q_judge.specs.Regions.{region_of, IsCoarser, RegionMap, IsRegional, AreRegions, AreRegionsOf}
 use Rattle.q_judge.proofs.SlotCollections.{held-in, left-in, put-same}
 use Rattle.q_judge.proofs.InnerVariables.{inner-nested, inserted-inner, inserted-universal, removed-inner, removed-universal}
@@ -18,7 +20,7 @@ regional-of P R r D h j k a b s t = h j a s ∙ sym (h k b t)
 -- What is reached from a clause whose inner literals lie in a region has its own there.
 module _ (P : Prefix) (X : Matrix) (R : RegionMap) (C : Clause) (l : Literal) (r : ℕ) (all : AreRegions P X R) (t : is_universal P R.var ≡ true) (u : is_universal P l.var ≡ true) (o : outer_or_same P R.var l.var ≡ true) (one : (k : Literal) → IsIn k C → inner_existential P l.var k.var ≡ true → region_of R.labels k.var ≡ r) where
   wider : (k : Literal) → inner_existential P l.var k.var ≡ true → inner_existential P R.var k.var ≡ true
-  wider k h = inner-nested P R.var l.var k.var (bound_of_u P R.var t) (bound_of_u P l.var u) o h
+  wider k h = inner-nested P R.var l.var k.var (universal-is_bound P R.var t) (universal-is_bound P l.var u) o h
 
   inside : (D : Clause) → Reached P X C l D → (k : Literal) → IsIn k D → inner_existential P l.var k.var ≡ true → region_of R.labels k.var ≡ r
   inside D Reached.first k m s = one k m s
@@ -53,16 +55,13 @@ regions-coarser P X R S e f all t D m j k a b s r =
 -- Regions for a variable serve what it is outer or same to.
 pub regions-nested : (P : Prefix) (X : Matrix) (R : RegionMap) (w : ℕ) → is_universal P R.var ≡ true → outer_or_same P R.var w ≡ true → AreRegions P X R → AreRegions P X (record { var = w; labels = R.labels })
 regions-nested P X R w t o all u D m j k a b s r =
-    let v = bound_of_u P R.var t in
-    let x = bound_of_u P w u in
+    let v = universal-is_bound P R.var t in
+    let x = universal-is_bound P w u in
     all t D m j k a b (inner-nested P R.var w j.var v x o s) (inner-nested P R.var w k.var v x o r)
 
 -- A variable comes or goes that no clause holds.
 unlike : (P : Prefix) (X : Matrix) (v : ℕ) → Closed P X → is_bound P v ≡ false → (D : Clause) → IsIn D X → (k : Literal) → IsIn k D → k.var ≡ v → ⊥
 unlike P X v h n D m k a e = true≢false (sym (h D m k a) ∙ ap (is_bound P) e ∙ n)
-
-unlike-eqb : (a b : ℕ) → (a ≡ b → ⊥) → eqb a b ≡ false
-unlike-eqb a b n = grind arith
 
 module _ (P : Prefix) (X : Matrix) (R S : RegionMap) (v : ℕ) (closed : Closed P X) (absent : is_bound P v ≡ false) (e : S.var ≡ R.var) (same : (x : ℕ) → (x ≡ v → ⊥) → region_of S.labels x ≡ region_of R.labels x) (all : AreRegions P X R) where
   alike : (D : Clause) → IsIn D X → (k : Literal) → IsIn k D → region_of S.labels k.var ≡ region_of R.labels k.var
@@ -77,7 +76,7 @@ module _ (P : Prefix) (X : Matrix) (R S : RegionMap) (v : ℕ) (closed : Closed 
 pub regions-inserted : (P : Prefix) (X : Matrix) (R : RegionMap) (w v : ℕ) → is_existential P w ≡ true → Closed P X → is_bound P v ≡ false → AreRegions P X R → AreRegions (insert_after w v P) X R
 regions-inserted P X R w v e closed n all t D m j k a b s r =
     let u = inserted-universal w v P R.var n t in
-    let other : (i : Literal) → IsIn i D → eqb i.var v ≡ false = λ i h. unlike-eqb i.var v (unlike P X v closed n D m i h) in
+    let other : (i : Literal) → IsIn i D → eqb i.var v ≡ false = λ i h. ne_eqb i.var v (unlike P X v closed n D m i h) in
     all u.1 D m j k a b (inserted-inner w v P e R.var j.var u.0 (other j a) s) (inserted-inner w v P e R.var k.var u.0 (other k b) r)
 
 pub regions-removed : (P : Prefix) (X : Matrix) (R : RegionMap) (v : ℕ) → Distinct P → IsAbsent X v → AreRegions P X R → AreRegions (removed_from v P) X R
@@ -153,5 +152,5 @@ module _ {A : Type 0} (Q S : A → Type 0) where
   pub half-ended : (n : ℕ) (Rs : List A) → length Rs ≤ n → AreHalf Q S n Rs → (R : A) → IsIn R Rs → S R
   half-ended n Rs l h R m =
       let p = slice_get-Contains Rs R (IsIn-Contains R Rs m) in
-      let b = slice_get-in Rs p.0 R p.1 in
+      let b = slice_get_within Rs p.0 R p.1 in
       (h p.0 R p.1).0 (omega arith)

@@ -2,12 +2,14 @@
 use Rattle.std.proofs.Common.{◌≡◌, ◌≢◌, ◌⊎◌, ℕ, zero, suc, ◌+◌, ◌<◌, ◌≤◌, Bool, true, false, cond, eqb, List, [], ◌∷◌, ◌++◌, Option, None, Some, slice_get, get_or, set, take, drop, length, refl, sym, ◌∙◌, ap, subst, inl, inr, arith, true≢false}
 use Rattle.std.proofs.lemmas.Bool.Decides.{nat_tests}
 use Rattle.std.proofs.lemmas.List.{length-set, get_or-set_same, get_or-set_other}
+use Rattle.std.proofs.lemmas.Bool.{cases_eq, ne_eqb}
 use Rattle.q_logic.specs.declared.formulas.Quant.{Quant}
 use Rattle.q_logic.specs.declared.formulas.Bound.{Bound}
 use Rattle.q_logic.specs.Prelude.{Prefix, is_bound, Distinct, same_quant}
+use Rattle.q_logic.proofs.Common.{is_bound-first}
 use Rattle.q_judge.specs.declared.bindings.Binding.{Binding}
 use Rattle.q_judge.specs.Scopes.{binding_at, rank_at, rank_in, first_or, last_or, var_of, AreLinked, AreRanked, next_rank, IsNumbered, in_block, AreNumbered}
-use Rattle.q_judge.proofs.BoundPieces.{equal-or, unequal, bound-here, bound-later, bound-left, bound-right, distinct-apart, last-append}
+use Rattle.q_judge.proofs.BoundPieces.{bound-left, bound-right, distinct-apart, last-append}
 use Rattle.q_judge.proofs.LinkedPrefixes.{linked-join, linked-same}
 use Rattle.q_judge.proofs.BlockMerge.{in_block-few}
 use Rattle.q_judge.proofs.BlockRanks.{numbered-ranked, in_block-same, in_block-append, in_block-one}
@@ -76,7 +78,7 @@ module _ (A : Prefix) (b : Bound) (D : Prefix) (d : Distinct (A ++ b ∷ D)) (ro
     last_is = sym (last-append A (b ∷ []) None);
     linked = linked-join (binding_at bindings') None A (b ∷ []) (first_or D None) (linked-same (binding_at bindings) (binding_at bindings') None A (Some b.var) (λ v i. other v (apart v i)) h.linked) (record { binding = s; there = here; quant = refl; before = ap var_of h.last_is; after = refl }, tt);
     only = only;
-    numbered = λ f a n. subst (λ (P : Prefix). IsNumbered f None 0 P) (sym (append-one A b D)) (h.numbered f (λ v i. a v (bound-left A (b ∷ []) v i) ∙ ap rank_in (other v (apart v i))) (a b.var (bound-right A (b ∷ []) b.var (bound-here b [])) ∙ ap rank_in here, n));
+    numbered = λ f a n. subst (λ (P : Prefix). IsNumbered f None 0 P) (sym (append-one A b D)) (h.numbered f (λ v i. a v (bound-left A (b ∷ []) v i) ∙ ap rank_in (other v (apart v i))) (a b.var (bound-right A (b ∷ []) b.var (is_bound-first b [])) ∙ ap rank_in here, n));
     counted = counted;
     low = inr (let z : m ≤ length A = next-low last rank (length A) b.quant h.low in let y = length-one A b in omega (arith, z, y));
   }
@@ -97,11 +99,11 @@ module _ (A : Prefix) (b : Bound) (D : Prefix) (d : Distinct (A ++ b ∷ D)) (ro
       other v n = get_or-set_other bindings b.var v (Some s) None n
 
       apart : (v : ℕ) → is_bound A v ≡ true → v ≢ b.var
-      apart v i e = true≢false (sym (bound-here b D) ∙ ap (is_bound (b ∷ D)) (sym e) ∙ distinct-apart A (b ∷ D) d v i)
+      apart v i e = true≢false (sym (is_bound-first b D) ∙ ap (is_bound (b ∷ D)) (sym e) ∙ distinct-apart A (b ∷ D) d v i)
 
       only : (v : ℕ) (t : Binding) → binding_at bindings' v ≡ Some t → is_bound (A ++ b ∷ []) v ≡ true
-      only v t e = elim (equal-or v b.var) [
-        | inl z ↦ bound-right A (b ∷ []) v (subst (λ (w : ℕ). is_bound (b ∷ []) w ≡ true) (sym z) (bound-here b []))
+      only v t e = elim (cases_eq v b.var) [
+        | inl z ↦ bound-right A (b ∷ []) v (subst (λ (w : ℕ). is_bound (b ∷ []) w ≡ true) (sym z) (is_bound-first b []))
         | inr z ↦ bound-left A (b ∷ []) v (h.only v t (sym (other v z) ∙ e))
       ]
 
@@ -114,7 +116,7 @@ module _ (A : Prefix) (b : Bound) (D : Prefix) (d : Distinct (A ++ b ∷ D)) (ro
           omega (arith, x, y, z, t)
 
       counted : (r : ℕ) → get_or (set counts m (get_or counts m 0 + 1)) r 0 ≡ in_block (rank_at bindings') r (A ++ b ∷ [])
-      counted r = elim (equal-or r m) [
+      counted r = elim (cases_eq r m) [
         | inl z ↦
             let x = one-more m in
             let q : eqb m m ≡ true = same m in
@@ -122,7 +124,7 @@ module _ (A : Prefix) (b : Bound) (D : Prefix) (d : Distinct (A ++ b ∷ D)) (ro
             rw z (get_or-set_same counts m (get_or counts m 0 + 1) 0 (subst (λ (n : ℕ). m < n) (sym h.wide) in_kinds) ∙ omega (arith, x, y, h.counted m))
         | inr z ↦
             let x = one-more r in
-            let q : eqb m r ≡ false = unequal m r (λ p. z (sym p)) in
+            let q : eqb m r ≡ false = ne_eqb m r (λ p. z (sym p)) in
             let y = ap (λ (t : Bool). cond {A = ℕ} t 1 0) q in
             get_or-set_other counts m r (get_or counts m 0 + 1) 0 z ∙ omega (arith, x, y, h.counted r)
       ]
@@ -190,8 +192,3 @@ first-drop [] zero = refl
 first-drop [] (suc i) = refl
 first-drop (b ∷ P) zero = refl
 first-drop (b ∷ P) (suc i) = first-drop P i
-
-pub get-bound : (P : Prefix) (i : ℕ) (e : Bound) → i < length P → is_bound P (get_or P i e).var ≡ true
-get-bound [] i e h = absurd (omega arith)
-get-bound (b ∷ P) zero e h = bound-here b P
-get-bound (b ∷ P) (suc i) e h = bound-later b P (get_or P i e).var (get-bound P i e (omega arith))

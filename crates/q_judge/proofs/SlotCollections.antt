@@ -1,26 +1,15 @@
 -- The clauses in slots as a collection.
-use Rattle.std.proofs.Common.{◌≡◌, ℕ, zero, suc, ◌+◌, ◌<◌, List, [], ◌∷◌, ◌++◌, Option, None, Some, slice_get, get_or, set, length, refl, sym, ◌∙◌, ap, inl, inr, arith}
+use Rattle.std.proofs.Common.{◌≡◌, ℕ, zero, suc, ◌+◌, [], ◌∷◌, ◌++◌, Option, None, Some, slice_get, set, length, refl, ◌∙◌, ap, inl, inr, arith}
 use Rattle.q_logic.specs.Prelude.{Clause, Matrix, IsIn, one_less, literals_in, copies, Slots}
-use Rattle.q_logic.proofs.Common.{IsIn-Contains, Contains-IsIn, SameClauses, alike-sym, alike-trans, copies-append, alike-uncons, one_less-alike}
+use Rattle.q_logic.proofs.Common.{IsIn-Contains, Contains-IsIn, SameClauses, alike-sym, alike-trans, copies-append, alike-uncons, one_less-alike, same-sizes}
 use Rattle.q_prop.specs.Slots.{filled, without, Holds, IsPut}
 use Rattle.q_prop.proofs.SlotLemmas.{filled-in, filled-cases, without-le}
-use Rattle.q_logic.proofs.ClauseCounts.{same-sizes}
-
--- an item does not depend on what stands past the end
-pub whichever : (xs : List ℕ) (i d e : ℕ) → i < length xs → get_or xs i d ≡ get_or xs i e
-whichever [] i d e h = absurd (omega arith)
-whichever (x ∷ xs) zero d e h = refl
-whichever (x ∷ xs) (suc i) d e h = whichever xs i d e (omega arith)
 
 pub held-in : (s : Slots) (n : ℕ) (C : Clause) → Holds s n C → IsIn C (filled s)
 held-in s n C h = Contains-IsIn C (filled s) (filled-in s n C h)
 
 pub in-held : (s : Slots) (C : Clause) → IsIn C (filled s) → (n : ℕ) × Holds s n C
 in-held s C m = filled-cases s C (IsIn-Contains C (filled s) m)
-
--- a slot has one clause
-pub one_clause : (s : Slots) (n : ℕ) (C D : Clause) → Holds s n C → Holds s n D → C ≡ D
-one_clause s n C D e f = let g : Some (Some C) ≡ Some (Some D) = sym e ∙ f in cc
 
 filled-append : (s t : Slots) → filled (s ++ t) ≡ filled s ++ filled t
 filled-append [] t = refl

@@ -2,7 +2,7 @@
 -- clauses and literals are counted.
 use Rattle.std.specs.List.{AllByRecursion}
 use Rattle.std.proofs.Common.{cond, Bool, [], ◌≡◌, ◌+◌, ◌-◌, ℕ, ◌∷◌, None, Some, inl, inr, arith, subst, set, length, true, false}
-use Rattle.q_logic.specs.Prelude.{Literal, IsBelow, literal_eq, ArePairs, Clause, Matrix, Prefix, IsIn, Slots, without, is_bound, is_existential, Closed, Within, IsAbsent, fresh, remove_variable, insert_after, removed_from}
+use Rattle.q_logic.specs.Prelude.{Literal, IsBelow, literal_eq, Clause, Matrix, Prefix, IsIn, Slots, without, is_bound, is_existential, Closed, Within, IsAbsent, fresh, remove_variable, insert_after, removed_from}
 use Rattle.q_logic.proofs.Common.{IsIn-alike, without-shorter, after-formula, without-IsIn}
 use Rattle.q_prop.specs.Slots.{filled, Holds, IsPut}
 use Rattle.q_judge.specs.Tried.{IsCounted}
@@ -72,11 +72,3 @@ all-without l j (k ∷ C) a = go (literal_eq k l) (all-without l j C a.1)
     go : (b : Bool) → AllByRecursion (IsBelow j) (without l C) → AllByRecursion (IsBelow j) (cond b (without l C) (k ∷ without l C))
     go true i = i
     go false i = (a.0, i)
-
-pub ordered-without : (l : Literal) (C : Clause) → ArePairs IsBelow C → ArePairs IsBelow (without l C)
-ordered-without l [] o = o
-ordered-without l (k ∷ C) o = go (literal_eq k l) (ordered-without l C o.1)
-  where
-    go : (b : Bool) → ArePairs IsBelow (without l C) → ArePairs IsBelow (cond b (without l C) (k ∷ without l C))
-    go true i = i
-    go false i = (all-without l k C o.0, i)

@@ -2,25 +2,26 @@
 use Rattle.std.proofs.Common.{◌≡◌, ◌≢◌, ◌⊎◌, ℕ, ◌+◌, ◌-◌, ◌<◌, Bool, true, false, cond, eqb, List, [], ◌∷◌, ◌++◌, Option, None, Some, get_or, set, length, refl, sym, ◌∙◌, ap, subst, inl, inr, arith, true≢false}
 use Rattle.std.proofs.lemmas.Bool.Decides.{nat_tests}
 use Rattle.std.proofs.lemmas.List.{get_or-set_same, get_or-set_other}
+use Rattle.std.proofs.lemmas.Bool.{cases_eq, ne_eqb}
 use Rattle.q_logic.specs.declared.formulas.Bound.{Bound}
 use Rattle.q_logic.specs.Prelude.{Prefix, is_bound, same_quant, Distinct}
-use Rattle.q_logic.proofs.Common.{removed-distinct}
+use Rattle.q_logic.proofs.Common.{removed-distinct, is_bound-first, is_bound-later, same_quant-two}
 use Rattle.q_judge.specs.declared.bindings.Binding.{Binding}
 use Rattle.q_judge.specs.Scopes.{binding_at, rank_at, rank_in, first_or, last_or, var_of, AreLinked, IsBindingOf, AreRanked, Follows, in_block, AreScoped, with_after, with_before, is_there, first_after}
-use Rattle.q_judge.proofs.BoundPieces.{equal-or, unequal, bound-cases, bound-here, bound-later, bound-left, bound-right, bound-either, distinct-apart, distinct-left, distinct-right, not-bound, last-bound, removed-split}
+use Rattle.q_judge.proofs.BoundPieces.{bound-cases, bound-left, bound-right, bound-either, distinct-apart, distinct-left, distinct-right, not-bound, last-bound, removed-split}
 use Rattle.q_judge.proofs.LinkedPrefixes.{linked-left, linked-right, linked-join, linked-after, linked-before}
-use Rattle.q_judge.proofs.BlockRanks.{ranked-left, ranked-right, ranked-gone, ranked-without_ends, ranked-same, same_quant-two, in_block-same, in_block-append, in_block-one, in_block-some, some-in_block}
+use Rattle.q_judge.proofs.BlockRanks.{ranked-left, ranked-right, ranked-gone, ranked-without_ends, ranked-same, in_block-same, in_block-append, in_block-one, in_block-some, some-in_block}
 use Rattle.q_judge.proofs.BlockMerge.{positive-in, IsMeeting}
 
 pub first-not : (C : Prefix) (w : ℕ) → is_bound C w ≡ false → is_there (first_or C None) w ≡ false
 first-not [] w h = refl
-first-not (c ∷ C) w h = unequal c.var w (λ e. true≢false (sym (bound-here c C) ∙ ap (is_bound (c ∷ C)) e ∙ h))
+first-not (c ∷ C) w h = ne_eqb c.var w (λ e. true≢false (sym (is_bound-first c C) ∙ ap (is_bound (c ∷ C)) e ∙ h))
 
 pub last-not : (A : Prefix) (w : ℕ) → is_bound A w ≡ false → is_there (var_of (last_or A None)) w ≡ false
 last-not [] w h = refl
 last-not (b ∷ A) w h =
     let r = last-bound b A None in
-    ap (λ (o : Option Bound). is_there (var_of o) w) r.1 ∙ unequal r.0.var w (λ e. true≢false (sym r.2 ∙ ap (is_bound (b ∷ A)) e ∙ h))
+    ap (λ (o : Option Bound). is_there (var_of o) w) r.1 ∙ ne_eqb r.0.var w (λ e. true≢false (sym r.2 ∙ ap (is_bound (b ∷ A)) e ∙ h))
 
 -- a binding with other links
 abbrev pub relinked : Option ℕ → Option ℕ → Option ℕ → Option ℕ → ℕ → Option Binding → Option Binding
@@ -83,14 +84,14 @@ module _ (A : Prefix) (b : Bound) (C : Prefix) (first : Option ℕ) (bindings : 
   rank-is = ap rank_in e
 
   pub not-outer : is_bound A b.var ≡ false
-  not-outer = not-bound A b.var (λ h. true≢false (sym (bound-here b C) ∙ distinct-apart A (b ∷ C) a.distinct b.var h))
+  not-outer = not-bound A b.var (λ h. true≢false (sym (is_bound-first b C) ∙ distinct-apart A (b ∷ C) a.distinct b.var h))
 
   pub not-inner : is_bound C b.var ≡ false
   not-inner = (distinct-right A (b ∷ C) a.distinct).0
 
   pub counts-there : (0 < get_or counts s.rank 0) × (s.rank < length counts)
   counts-there =
-      let x = some-in_block (rank_at bindings) (A ++ b ∷ C) b.var (bound-right A (b ∷ C) b.var (bound-here b C)) in
+      let x = some-in_block (rank_at bindings) (A ++ b ∷ C) b.var (bound-right A (b ∷ C) b.var (is_bound-first b C)) in
       let y : 0 < get_or counts s.rank 0 = subst (λ (n : ℕ). 0 < n) (sym (a.counted s.rank)) (subst (λ (r : ℕ). 0 < in_block (rank_at bindings) r (A ++ b ∷ C)) rank-is x) in
       (y, positive-in counts s.rank y)
 
@@ -102,7 +103,7 @@ module _ (A : Prefix) (b : Bound) (C : Prefix) (first : Option ℕ) (bindings : 
     in-inner w h q = true≢false (sym h ∙ ap (is_bound C) q ∙ not-inner)
 
     inner-apart : (w : ℕ) → is_bound A w ≡ true → is_bound C w ≡ false
-    inner-apart w h = not-bound C w (λ k. true≢false (sym (bound-later b C w k) ∙ distinct-apart A (b ∷ C) a.distinct w h))
+    inner-apart w h = not-bound C w (λ k. true≢false (sym (is_bound-later b C w k) ∙ distinct-apart A (b ∷ C) a.distinct w h))
 
     outer-apart : (w : ℕ) → is_bound C w ≡ true → is_bound A w ≡ false
     outer-apart w h = not-bound A w (λ k. true≢false (sym h ∙ inner-apart w k))
@@ -129,7 +130,7 @@ module _ (A : Prefix) (b : Bound) (C : Prefix) (first : Option ℕ) (bindings : 
     none_some t q = cc
 
     left-only : (w : ℕ) (t : Binding) → binding_at bindings' w ≡ Some t → is_bound (A ++ C) w ≡ true
-    left-only w t q = elim (equal-or w b.var) [
+    left-only w t q = elim (cases_eq w b.var) [
       | inl z ↦ absurd (none_some t (sym gone ∙ ap (binding_at bindings') (sym z) ∙ q))
       | inr z ↦
           let r = relinked-some s.before s.after s.after s.before w (binding_at bindings w) t (sym (other w z) ∙ q) in
@@ -158,7 +159,7 @@ module _ (A : Prefix) (b : Bound) (C : Prefix) (first : Option ℕ) (bindings : 
         omega (arith, x, y, z, u, w)
 
     left-counted : (counts' : List ℕ) → counts' ≡ set counts s.rank (get_or counts s.rank 0 - 1) → (r : ℕ) → get_or counts' r 0 ≡ in_block (rank_at bindings') r (A ++ C)
-    left-counted counts' k r = ap (λ (xs : List ℕ). get_or xs r 0) k ∙ elim (equal-or r s.rank) [
+    left-counted counts' k r = ap (λ (xs : List ℕ). get_or xs r 0) k ∙ elim (cases_eq r s.rank) [
       | inl z ↦
           let x = one-less s.rank in
           let q : eqb s.rank s.rank ≡ true = grind (arith, nat_tests) in
@@ -166,7 +167,7 @@ module _ (A : Prefix) (b : Bound) (C : Prefix) (first : Option ℕ) (bindings : 
           rw z (get_or-set_same counts s.rank (get_or counts s.rank 0 - 1) 0 counts-there.1 ∙ omega (arith, x, y, a.counted s.rank))
       | inr z ↦
           let x = one-less r in
-          let q : eqb s.rank r ≡ false = unequal s.rank r (λ p. z (sym p)) in
+          let q : eqb s.rank r ≡ false = ne_eqb s.rank r (λ p. z (sym p)) in
           let y = ap (λ (t : Bool). cond {A = ℕ} t 1 0) q in
           get_or-set_other counts s.rank r (get_or counts s.rank 0 - 1) 0 z ∙ omega (arith, x, y, a.counted r)
     ]
@@ -222,7 +223,7 @@ module _ (A : Prefix) (b : Bound) (C : Prefix) (first : Option ℕ) (bindings : 
         linked = subst (λ (E : Prefix). AreLinked (binding_at bindings') None (A ++ E) None) q l.linked;
         only = λ v t h. subst (λ (E : Prefix). is_bound (A ++ E) v ≡ true) q (l.only v t h);
         outer = ranked-same (rank_at bindings) (rank_at bindings') None A (λ v h. l.ranks v (bound-left A C v h)) (λ w h. absurd (no_bound w h)) (ranked-left (rank_at bindings) None A (b ∷ C) a.ranked);
-        inner = ranked-same (rank_at bindings) (rank_at bindings') (Some y) D (λ v h. l.ranks v (in-C v (bound-later y D v h))) (λ w h. subst (λ (u : Bound). rank_at bindings u.var ≡ rank_at bindings' u.var) (alike y w h) (l.ranks y.var y-in)) second.1;
+        inner = ranked-same (rank_at bindings) (rank_at bindings') (Some y) D (λ v h. l.ranks v (in-C v (is_bound-later y D v h))) (λ w h. subst (λ (u : Bound). rank_at bindings u.var ≡ rank_at bindings' u.var) (alike y w h) (l.ranks y.var y-in)) second.1;
         less = (let m = l.ranks x.var x-in in let n = l.ranks y.var y-in in omega (arith, m, n, low.1, high.1));
         same = same_quant-two x.quant b.quant y.quant low.0 high.0;
         counted = λ r. subst (λ (E : Prefix). get_or counts' r 0 ≡ in_block (rank_at bindings') r (A ++ E)) q (l.counted r);
@@ -238,7 +239,7 @@ module _ (A : Prefix) (b : Bound) (C : Prefix) (first : Option ℕ) (bindings : 
           in-C v h = bound-right A C v (subst (λ (E : Prefix). is_bound E v ≡ true) (sym q) h)
 
           y-in : is_bound (A ++ C) y.var ≡ true
-          y-in = in-C y.var (bound-here y D)
+          y-in = in-C y.var (is_bound-first y D)
 
           last-in : (B : Prefix) → last_or B None ≡ Some x → is_bound B x.var ≡ true
           last-in [] h = absurd (no_bound x h)

@@ -1,8 +1,9 @@
 -- Clauses that are put under the ids 0, 1, 2 and so on.
 use Rattle.std.proofs.Common.{◌≡◌, ◌≢◌, ◌⊎◌, ◌≤◌, ◌<◌, ◌+◌, ℕ, zero, suc, [], ◌∷◌, ◌++◌, length, take, get_or, inl, inr, arith, refl, sym, ap, ◌∙◌, subst, Option, Some, None, add-one, not-suc-le-zero, le_of_suc-le-suc}
+use Rattle.std.proofs.lemmas.Bool.{cases_eq}
 use Rattle.q_logic.specs.Prelude.{Clause, Matrix, Slots, slot, set_slot, live, numbered, put_first}
-use Rattle.q_arena.proofs.NumberCases.{ℕ-cases}
-use Rattle.q_kernel.proofs.SlotLists.{slot-set_same, slot-set_other, live-same, live-numbered}
+use Rattle.q_logic.proofs.Common.{live-numbered}
+use Rattle.q_kernel.proofs.SlotLists.{slot-set_same, slot-set_other, live-same}
 
 -- The first clauses stand under their ids, and nothing else is there.
 abbrev pub AreFirst : Slots → Matrix → ℕ → Type 0
@@ -33,7 +34,7 @@ pub first-free : (N : Slots) (X : Matrix) (k : ℕ) → AreFirst N X k → slot 
 first-free N X k h = h k ∙ numbered-past X k k (omega arith)
 
 pub first-more : (N : Slots) (X : Matrix) (k : ℕ) (d : Clause) → k < length X → k < length N → AreFirst N X k → AreFirst (set_slot k (Some (get_or X k d)) N) X (k + 1)
-first-more N X k d h b f c = subst (λ (n : ℕ). slot (set_slot k (Some (get_or X k d)) N) c ≡ slot (numbered (take n X)) c) (sym (add-one k)) (elim (ℕ-cases c k) [
+first-more N X k d h b f c = subst (λ (n : ℕ). slot (set_slot k (Some (get_or X k d)) N) c ≡ slot (numbered (take n X)) c) (sym (add-one k)) (elim (cases_eq c k) [
   | inl e ↦ subst (λ (n : ℕ). slot (set_slot k (Some (get_or X k d)) N) n ≡ slot (numbered (take (suc k) X)) n) (sym e) (slot-set_same k (Some (get_or X k d)) N b ∙ sym (numbered-here X k d h))
   | inr n ↦ slot-set_other k c (Some (get_or X k d)) N n ∙ (f c ∙ either (split c n))
 ])

@@ -1,12 +1,12 @@
 -- The three groups stay those of the prefix, when variables start to occur or stop, come or go.
 use Rattle.std.proofs.Common.{◌≡◌, ◌≢◌, ◌⊎◌, ◌↔◌, ℕ, Bool, true, false, cond, eqb, not, List, [], ◌∷◌, inl, inr, arith, refl, sym, ap, ◌∙◌, subst, Some, None, true≢false}
 use Rattle.std.proofs.lemmas.Bool.Decides.{nat_tests}
+use Rattle.std.proofs.lemmas.Bool.{cases_eq, ne_eqb}
 use Rattle.q_logic.specs.declared.formulas.Quant.{Quant}
 use Rattle.q_logic.specs.declared.formulas.Quant.TheVariants.{Exists, Forall}
 use Rattle.q_logic.specs.Prelude.{Prefix, is_exists, is_bound, is_existential, is_universal, Distinct, insert_after, removed_from}
-use Rattle.q_logic.proofs.Common.{insert-is_bound, insert-is_existential, insert-itself, removed-is_bound, removed-is_existential, removed-unbound, existential-is_bound}
+use Rattle.q_logic.proofs.Common.{insert-is_bound, insert-is_existential, insert-itself, removed-is_bound, removed-is_existential, removed-unbound, existential-is_bound, universal-is_bound, insert-is_universal, removed-is_universal}
 use Rattle.q_arena.specs.Prelude.{Has, AreApart, without}
-use Rattle.q_arena.proofs.NumberCases.{ℕ-cases}
 use Rattle.q_arena.proofs.RingPaths.{Misses-from}
 use Rattle.q_arena.proofs.RingLemmas.{Has-without, AreApart-without}
 use Rattle.q_arena.proofs.Layouts.{without-gone, Has-kept}
@@ -49,25 +49,6 @@ quant-universal (b ∷ P) v q h = go (eqb b.var v) h (quant-universal P v q)
     go true h ih = ap (λ (r : Quant). not (is_exists r)) (quant-same b.quant q h)
     go false h ih = ih h
 
-pub universal-bound : (P : Prefix) (v : ℕ) → is_universal P v ≡ true → is_bound P v ≡ true
-universal-bound [] v h = grind arith
-universal-bound (b ∷ P) v h = go (eqb b.var v) h (universal-bound P v)
-  where
-    go : (t : Bool) → cond t (not (is_exists b.quant)) (is_universal P v) ≡ true → (is_universal P v ≡ true → is_bound P v ≡ true) → cond t true (is_bound P v) ≡ true
-    go true h ih = refl
-    go false h ih = ih h
-
-removed-is_universal : (v : ℕ) (P : Prefix) (x : ℕ) → eqb x v ≡ false → is_universal (removed_from v P) x ≡ is_universal P x
-removed-is_universal v [] x n = refl
-removed-is_universal v (b ∷ P) x n = grind (arith, removed-is_universal v P x)
-
-insert-is_universal : (w v : ℕ) (P : Prefix) (x : ℕ) → eqb x v ≡ false → is_universal (insert_after w v P) x ≡ is_universal P x
-insert-is_universal w v [] x n = refl
-insert-is_universal w v (b ∷ P) x n = grind (arith, insert-is_universal w v P x)
-
-other-number : (x v : ℕ) → x ≢ v → eqb x v ≡ false
-other-number x v n = grind (arith, nat_tests)
-
 -- Which variables occur, after a change at one.
 pub occurring-here : (v : ℕ) (b : Bool) (occ : ℕ → Bool) (w : ℕ) → w ≡ v → with_occurring v b occ w ≡ b
 occurring-here v b occ w e = grind (arith, nat_tests)
@@ -76,7 +57,7 @@ pub occurring-other : (v : ℕ) (b : Bool) (occ : ℕ → Bool) (w : ℕ) → w 
 occurring-other v b occ w n = grind (arith, nat_tests)
 
 pub occurring-same : (v : ℕ) (b : Bool) (occ : ℕ → Bool) → occ v ≡ b → (w : ℕ) → with_occurring v b occ w ≡ occ w
-occurring-same v b occ e w = elim (ℕ-cases w v) [
+occurring-same v b occ e w = elim (cases_eq w v) [
   | inl q ↦ occurring-here v b occ w q ∙ (sym e ∙ ap occ (sym q))
   | inr n ↦ occurring-other v b occ w n
 ]
@@ -87,7 +68,7 @@ module _ (g : Groups) (P : Prefix) (occ more : ℕ → Bool) (same : (v : ℕ) �
   uses-same = record {
     idle = λ v. ((λ h. let r : (is_bound P v ≡ true) × (occ v ≡ false) = (u.idle v).0 h in (r.0, same v r.0 ∙ r.1)), (λ h. (u.idle v).1 (h.0, sym (same v h.0) ∙ h.1)));
     existentials = λ v. ((λ h. let r : (is_existential P v ≡ true) × (occ v ≡ true) = (u.existentials v).0 h in (r.0, same v (existential-is_bound P v r.0) ∙ r.1)), (λ h. (u.existentials v).1 (h.0, sym (same v (existential-is_bound P v h.0)) ∙ h.1)));
-    universals = λ v. ((λ h. let r : (is_universal P v ≡ true) × (occ v ≡ true) = (u.universals v).0 h in (r.0, same v (universal-bound P v r.0) ∙ r.1)), (λ h. (u.universals v).1 (h.0, sym (same v (universal-bound P v h.0)) ∙ h.1)));
+    universals = λ v. ((λ h. let r : (is_universal P v ≡ true) × (occ v ≡ true) = (u.universals v).0 h in (r.0, same v (universal-is_bound P v r.0) ∙ r.1)), (λ h. (u.universals v).1 (h.0, sym (same v (universal-is_bound P v h.0)) ∙ h.1)));
     apart_idle = u.apart_idle;
     apart_existentials = u.apart_existentials;
     apart_universals = u.apart_universals;
@@ -98,7 +79,7 @@ module _ (g : Groups) (P : Prefix) (occ : ℕ → Bool) (u : AreUses g P occ) (v
   pub group-bound : IsGrouped g v → is_bound P v ≡ true
   group-bound (inl h) = ((u.idle v).0 h).0
   group-bound (inr (inl h)) = existential-is_bound P v ((u.existentials v).0 h).0
-  group-bound (inr (inr h)) = universal-bound P v ((u.universals v).0 h).0
+  group-bound (inr (inr h)) = universal-is_bound P v ((u.universals v).0 h).0
 
   pub not-grouped : is_bound P v ≡ false → IsGrouped g v → ⊥
   not-grouped n h = true≢false (sym (group-bound h) ∙ n)
@@ -130,7 +111,7 @@ module _ (ys : List ℕ) (of occ : ℕ → Bool) (v : ℕ) where
   put-holds b o h w = (into, from)
     where
       into : Has (v ∷ ys) w → (of w ≡ true) × (with_occurring v b occ w ≡ b)
-      into x = elim (ℕ-cases w v) [
+      into x = elim (cases_eq w v) [
         | inl e ↦ (ap of e ∙ o, occurring-here v b occ w e)
         | inr n ↦ elim x [
           | inl e ↦ absurd (n e)
@@ -139,7 +120,7 @@ module _ (ys : List ℕ) (of occ : ℕ → Bool) (v : ℕ) where
       ]
 
       from : (of w ≡ true) × (with_occurring v b occ w ≡ b) → Has (v ∷ ys) w
-      from r = elim (ℕ-cases w v) [
+      from r = elim (cases_eq w v) [
         | inl e ↦ inl e
         | inr n ↦ inr ((h w).1 (r.0, sym (occurring-other v b occ w n) ∙ r.1))
       ]
@@ -148,13 +129,13 @@ module _ (ys : List ℕ) (of occ : ℕ → Bool) (v : ℕ) where
   taken-holds b c d a h w = (into, from)
     where
       into : Has (without v ys) w → (of w ≡ true) × (with_occurring v c occ w ≡ b)
-      into x = elim (ℕ-cases w v) [
+      into x = elim (cases_eq w v) [
         | inl e ↦ absurd (without-gone v ys a (subst (λ (k : ℕ). Has (without v ys) k) e x))
         | inr n ↦ let r : (of w ≡ true) × (occ w ≡ b) = (h w).0 (Has-without v w ys x) in (r.0, occurring-other v c occ w n ∙ r.1)
       ]
 
       from : (of w ≡ true) × (with_occurring v c occ w ≡ b) → Has (without v ys) w
-      from r = elim (ℕ-cases w v) [
+      from r = elim (cases_eq w v) [
         | inl e ↦ absurd (d (sym r.1 ∙ occurring-here v c occ w e))
         | inr n ↦ Has-kept v w ys ((h w).1 (r.0, sym (occurring-other v c occ w n) ∙ r.1)) n
       ]
@@ -163,13 +144,13 @@ module _ (ys : List ℕ) (of occ : ℕ → Bool) (v : ℕ) where
   other-holds b c o h w = (into, from)
     where
       into : Has ys w → (of w ≡ true) × (with_occurring v c occ w ≡ b)
-      into x = elim (ℕ-cases w v) [
+      into x = elim (cases_eq w v) [
         | inl e ↦ absurd (true≢false (sym ((h w).0 x).0 ∙ (ap of e ∙ o)))
         | inr n ↦ let r : (of w ≡ true) × (occ w ≡ b) = (h w).0 x in (r.0, occurring-other v c occ w n ∙ r.1)
       ]
 
       from : (of w ≡ true) × (with_occurring v c occ w ≡ b) → Has ys w
-      from r = elim (ℕ-cases w v) [
+      from r = elim (cases_eq w v) [
         | inl e ↦ absurd (true≢false (sym r.0 ∙ (ap of e ∙ o)))
         | inr n ↦ (h w).1 (r.0, sym (occurring-other v c occ w n) ∙ r.1)
       ]
@@ -235,7 +216,7 @@ module _ (g n : Groups) (P : Prefix) (occ : ℕ → Bool) (v : ℕ) (u : AreUses
   kept-holds ys of off s a f k w = (λ x. let r : (of w ≡ true) × (occ w ≡ true) = (k w).0 x in (s w (a w r.0 r.1) ∙ r.0, r.1), from)
     where
       from : (off w ≡ true) × (occ w ≡ true) → Has ys w
-      from r = elim (ℕ-cases w v) [
+      from r = elim (cases_eq w v) [
         | inl e ↦ absurd (true≢false (sym r.0 ∙ (ap off e ∙ f)))
         | inr m ↦ (k w).1 (sym (s w m) ∙ r.0, r.1)
       ]
@@ -254,26 +235,26 @@ module _ (g n : Groups) (P : Prefix) (occ : ℕ → Bool) (v : ℕ) (u : AreUses
   left-holds w = (into, from)
     where
       into : Has (without v g.idle) w → (is_bound (removed_from v P) w ≡ true) × (occ w ≡ false)
-      into x = elim (ℕ-cases w v) [
+      into x = elim (cases_eq w v) [
         | inl e ↦ absurd (without-gone v g.idle u.apart_idle (subst (λ (k : ℕ). Has (without v g.idle) k) e x))
-        | inr m ↦ let r : (is_bound P w ≡ true) × (occ w ≡ false) = (u.idle w).0 (Has-without v w g.idle x) in (removed-is_bound v P w (other-number w v m) ∙ r.0, r.1)
+        | inr m ↦ let r : (is_bound P w ≡ true) × (occ w ≡ false) = (u.idle w).0 (Has-without v w g.idle x) in (removed-is_bound v P w (ne_eqb w v m) ∙ r.0, r.1)
       ]
 
       from : (is_bound (removed_from v P) w ≡ true) × (occ w ≡ false) → Has (without v g.idle) w
-      from r = elim (ℕ-cases w v) [
+      from r = elim (cases_eq w v) [
         | inl e ↦ absurd (true≢false (sym r.0 ∙ (ap (is_bound (removed_from v P)) e ∙ gone)))
-        | inr m ↦ Has-kept v w g.idle ((u.idle w).1 (sym (removed-is_bound v P w (other-number w v m)) ∙ r.0, r.1)) m
+        | inr m ↦ Has-kept v w g.idle ((u.idle w).1 (sym (removed-is_bound v P w (ne_eqb w v m)) ∙ r.0, r.1)) m
       ]
 
   pub uses-removed : n.idle ≡ without v g.idle → n.existentials ≡ g.existentials → n.universals ≡ g.universals → AreUses n (removed_from v P) occ
   uses-removed i e a = record {
     idle = λ w. subst (λ (ys : List ℕ). Has ys w ↔ ((is_bound (removed_from v P) w ≡ true) × (occ w ≡ false))) (sym i) (left-holds w);
     existentials = λ w. subst (λ (ys : List ℕ). Has ys w ↔ ((is_existential (removed_from v P) w ≡ true) × (occ w ≡ true))) (sym e)
-        (kept-holds g.existentials (is_existential P) (is_existential (removed_from v P)) (λ x m. removed-is_existential v P x (other-number x v m)) (λ x b o. occurring-not x o)
+        (kept-holds g.existentials (is_existential P) (is_existential (removed_from v P)) (λ x m. removed-is_existential v P x (ne_eqb x v m)) (λ x b o. occurring-not x o)
         (not_true (is_existential (removed_from v P) v) (λ t. true≢false (sym (existential-is_bound (removed_from v P) v t) ∙ gone))) u.existentials w);
     universals = λ w. subst (λ (ys : List ℕ). Has ys w ↔ ((is_universal (removed_from v P) w ≡ true) × (occ w ≡ true))) (sym a)
-        (kept-holds g.universals (is_universal P) (is_universal (removed_from v P)) (λ x m. removed-is_universal v P x (other-number x v m)) (λ x b o. occurring-not x o)
-        (not_true (is_universal (removed_from v P) v) (λ t. true≢false (sym (universal-bound (removed_from v P) v t) ∙ gone))) u.universals w);
+        (kept-holds g.universals (is_universal P) (is_universal (removed_from v P)) (λ x m. removed-is_universal v P x (ne_eqb x v m)) (λ x b o. occurring-not x o)
+        (not_true (is_universal (removed_from v P) v) (λ t. true≢false (sym (universal-is_bound (removed_from v P) v t) ∙ gone))) u.universals w);
     apart_idle = subst AreApart (sym i) (AreApart-without v g.idle u.apart_idle);
     apart_existentials = subst AreApart (sym e) u.apart_existentials;
     apart_universals = subst AreApart (sym a) u.apart_universals;
@@ -288,18 +269,18 @@ module _ (g n : Groups) (P : Prefix) (occ : ℕ → Bool) (v w : ℕ) (u : AreUs
   come-holds x = (into, from)
     where
       into : Has (v ∷ g.idle) x → (is_bound (insert_after w v P) x ≡ true) × (occ x ≡ false)
-      into y = elim (ℕ-cases x v) [
+      into y = elim (cases_eq x v) [
         | inl e ↦ (ap (is_bound (insert_after w v P)) e ∙ fresh_bound, ap occ e ∙ o)
         | inr m ↦ elim y [
           | inl e ↦ absurd (m e)
-          | inr i ↦ let r : (is_bound P x ≡ true) × (occ x ≡ false) = (u.idle x).0 i in (insert-is_bound w v P x (other-number x v m) ∙ r.0, r.1)
+          | inr i ↦ let r : (is_bound P x ≡ true) × (occ x ≡ false) = (u.idle x).0 i in (insert-is_bound w v P x (ne_eqb x v m) ∙ r.0, r.1)
         ]
       ]
 
       from : (is_bound (insert_after w v P) x ≡ true) × (occ x ≡ false) → Has (v ∷ g.idle) x
-      from r = elim (ℕ-cases x v) [
+      from r = elim (cases_eq x v) [
         | inl e ↦ inl e
-        | inr m ↦ inr ((u.idle x).1 (sym (insert-is_bound w v P x (other-number x v m)) ∙ r.0, r.1))
+        | inr m ↦ inr ((u.idle x).1 (sym (insert-is_bound w v P x (ne_eqb x v m)) ∙ r.0, r.1))
       ]
 
   stay-holds : (ys : List ℕ) (of on : ℕ → Bool) → ((x : ℕ) → x ≢ v → on x ≡ of x) → Holds ys of occ true → Holds ys on occ true
@@ -312,9 +293,9 @@ module _ (g n : Groups) (P : Prefix) (occ : ℕ → Bool) (v w : ℕ) (u : AreUs
   uses-freshened i e a = record {
     idle = λ x. subst (λ (ys : List ℕ). Has ys x ↔ ((is_bound (insert_after w v P) x ≡ true) × (occ x ≡ false))) (sym i) (come-holds x);
     existentials = λ x. subst (λ (ys : List ℕ). Has ys x ↔ ((is_existential (insert_after w v P) x ≡ true) × (occ x ≡ true))) (sym e)
-        (stay-holds g.existentials (is_existential P) (is_existential (insert_after w v P)) (λ y m. insert-is_existential w v P y (other-number y v m)) u.existentials x);
+        (stay-holds g.existentials (is_existential P) (is_existential (insert_after w v P)) (λ y m. insert-is_existential w v P y (ne_eqb y v m)) u.existentials x);
     universals = λ x. subst (λ (ys : List ℕ). Has ys x ↔ ((is_universal (insert_after w v P) x ≡ true) × (occ x ≡ true))) (sym a)
-        (stay-holds g.universals (is_universal P) (is_universal (insert_after w v P)) (λ y m. insert-is_universal w v P y (other-number y v m)) u.universals x);
+        (stay-holds g.universals (is_universal P) (is_universal (insert_after w v P)) (λ y m. insert-is_universal w v P y (ne_eqb y v m)) u.universals x);
     apart_idle = subst AreApart (sym i) (put-apart v g.idle (λ x. true≢false (sym ((u.idle v).0 x).0 ∙ f)) u.apart_idle);
     apart_existentials = subst AreApart (sym e) u.apart_existentials;
     apart_universals = subst AreApart (sym a) u.apart_universals;

@@ -2,15 +2,16 @@
 use Rattle.std.proofs.Common.{◌≡◌, ◌≢◌, ℕ, zero, suc, ◌+◌, ◌<◌, All, Contains, get_or, List, [], ◌∷◌, length, slice_get, Option, None, Some, refl, sym, ◌∙◌, ap, subst, inl, inr, arith}
 use Rattle.std.specs.List.{AllByRecursion}
 use Rattle.std.proofs.lemmas.Bool.Decides.{nat_tests}
+use Rattle.std.proofs.lemmas.Option.{same_Some, none-some}
+use Rattle.std.proofs.lemmas.Bool.{cases_eq}
 use Rattle.q_logic.specs.Prelude.{Literal, IsBelow, Clause, live, ArePairs}
-use Rattle.q_logic.proofs.Common.{not_itself_below, AllByRecursion-IsIn}
+use Rattle.q_logic.proofs.Common.{not_itself_below, AllByRecursion-IsIn, get_or-IsIn}
 use Rattle.q_arena.specs.Prelude.{Has, AreApart, start_at, Chains, following}
-use Rattle.q_arena.proofs.NumberCases.{ℕ-cases, none-some, some-same}
 use Rattle.q_arena.proofs.RingPaths.{Misses-not, Misses-from}
 use Rattle.q_arena.proofs.ListNeighbours.{following-here, following-later, following-has}
 use Rattle.q_occ.specs.Places.{places_of, IsPlaceIn, no_lit}
 use Rattle.q_kernel.specs.Kernels.{Seen, slots, HoldsLiteral, IsSound}
-use Rattle.q_kernel.proofs.PlaceLists.{place-clause, get-IsIn}
+use Rattle.q_kernel.proofs.PlaceLists.{place-clause}
 use Rattle.q_kernel.proofs.SlotLists.{slot-get, slot-IsIn}
 use Rattle.q_kernel.specs.Visits.{since, since_place, owners_at, holders_of, holders_since, IsWalk, IsHolder}
 
@@ -31,12 +32,12 @@ since-behind y (Some p) ys h = since-later p y ys (h p refl)
 
 first-has : (q : ℕ) (ys : List ℕ) → slice_get ys 0 ≡ Some q → Has ys q
 first-has q [] e = absurd (none-some q e)
-first-has q (y ∷ ys) e = inl (sym (some-same y q e))
+first-has q (y ∷ ys) e = inl (sym (same_Some y q e))
 
 -- A step gives the place at which the walk stands.
 pub since-step : (p : ℕ) (ys : List ℕ) → AreApart ys → Has ys p → since p ys ≡ p ∷ since_place (following p ys) ys
 since-step p [] a h = absurd h
-since-step p (y ∷ ys) a h = elim (ℕ-cases y p) [
+since-step p (y ∷ ys) a h = elim (cases_eq y p) [
   | inl e ↦
       let rest : since_place (following p (y ∷ ys)) (y ∷ ys) ≡ ys =
       ap (λ (o : Option ℕ). since_place o (y ∷ ys)) (following-here p y ys e)
@@ -84,7 +85,7 @@ owners-apart o (p ∷ ps) f a = (
 
 -- In a clause a literal stands at one index.
 index-misses : (l d : Literal) (C : Clause) (j : ℕ) → AllByRecursion (IsBelow l) C → j < length C → get_or C j d ≡ l → ⊥
-index-misses l d C j b h e = not_itself_below l (get_or C j d) (sym e) (AllByRecursion-IsIn (IsBelow l) C (get_or C j d) b (get-IsIn C j d h))
+index-misses l d C j b h e = not_itself_below l (get_or C j d) (sym e) (AllByRecursion-IsIn (IsBelow l) C (get_or C j d) b (get_or-IsIn C j d h))
 
 index-one : (C : Clause) (l d : Literal) (i j : ℕ) → ArePairs IsBelow C → i < length C → j < length C → get_or C i d ≡ l → get_or C j d ≡ l → i ≡ j
 index-one [] l d i j o a b e f = absurd (omega arith)
@@ -101,7 +102,7 @@ place-one k l p q s h i e =
     let same : a.0 ≡ b.0 = sym a.3 ∙ (e ∙ b.3) in
     let c : IsPlaceIn k.arena b.0 l p = subst (λ (id : ℕ). IsPlaceIn k.arena id l p) same a.2 in
     let d : IsPlaceIn k.arena b.0 l q = b.2 in
-    let C : c.clause ≡ d.clause = some-same c.clause d.clause (sym c.live ∙ d.live) in
+    let C : c.clause ≡ d.clause = same_Some c.clause d.clause (sym c.live ∙ d.live) in
     let o : ArePairs IsBelow d.clause = AllByRecursion-IsIn (ArePairs IsBelow) (live (slots k)) d.clause s.proper.ordered (slot-IsIn (slots k) b.0 d.clause (slot-get k.arena.clauses b.0 ∙ d.live)) in
     let n : c.at_index ≡ d.at_index = index-one d.clause l no_lit c.at_index d.at_index o (subst (λ (D : Clause). c.at_index < length D) C c.in_range) d.in_range (subst (λ (D : Clause). get_or D c.at_index no_lit ≡ l) C c.of) d.of in
     c.is ∙ (ap (λ (x : ℕ). start_at k.arena b.0 + x) n ∙ sym d.is)

@@ -1,17 +1,21 @@
 -- A view that is kept over several calls.
 use Rattle.std.proofs.Common.{◌≡◌, ◌≢◌, ◌≤◌, ◌<◌, ◌+◌, ℕ, Bool, true, false, cond, if◌then◌else◌, ◌==◌, [], ◌∷◌, length, refl, sym, ap, ◌∙◌, subst, inl, inr, arith, Some, None}
 use Rattle.std.proofs.lemmas.Bool.Decides.{nat_tests}
+use Rattle.std.proofs.lemmas.Option.{same_Some}
+use Rattle.std.proofs.lemmas.Bool.{cases_eq}
 use Rattle.q_logic.specs.Prelude.{Clause, Matrix, Prefix, IsProper, is_bound, removed_from, first_of, size_of, swept, has_empty, occurs, occurring, falsity, Slots, slot, set_slot, live, formula_of}
-use Rattle.q_arena.proofs.NumberCases.{ℕ-cases, some-same}
+use Rattle.q_logic.proofs.Common.{length-set_slot}
+use Rattle.q_logic.proofs.HintChains.{live-number}
+use Rattle.q_logic.proofs.SweepRun.{has_empty-IsIn, occurring-none}
 use Rattle.q_kernel.specs.Changes.{IsDeleted, IsRemoved}
 use Rattle.q_kernel.specs.Invariant.{IsSweeping}
 use Rattle.q_kernel.proofs.KernelRuns.{led-itself, led-through}
 use Rattle.q_kernel.proofs.VariableCounts.{occurring-removed}
-use Rattle.q_kernel.proofs.SweepSteps.{spare-after_delete, spare-after_remove, IsAlone, alone-first, alone-kept, alone-deleted, occurring-none}
+use Rattle.q_kernel.proofs.SweepSteps.{spare-after_delete, spare-after_remove, IsAlone, alone-first, alone-kept, alone-deleted}
 use Rattle.q_arena.specs.Prelude.{Clauses, live_in, AreSameClauses}
 use Rattle.q_kernel.specs.Kernels.{Seen, slots, formula_in, SameView, KeepsRoom, HasSweepBytes}
 use Rattle.q_kernel.specs.Visits.{IsLive}
-use Rattle.q_kernel.proofs.SlotLists.{live-same, live_in-length, slot-get, length-set_slot, IsIn-slot, has_empty-IsIn}
+use Rattle.q_kernel.proofs.SlotLists.{live-same, live_in-length, slot-get}
 
 -- the same clauses at other places
 pub view-clauses : (a b : Seen) → ((c : ℕ) → slot (slots b) c ≡ slot (slots a) c) → b.prefix ≡ a.prefix → b.text ≡ a.text → SameView a b
@@ -75,7 +79,7 @@ cleared-first k kept e b = record { alone = alone-first (slots k) kept e; prefix
 
 pub cleared-more : (start now new : Seen) (kept from id : ℕ) (C : Clause) → IsProper (formula_in now) → IsCleared start now kept from → ((c : ℕ) → from ≤ c → c < id → slot (slots now) c ≡ None) → slot (slots now) id ≡ Some C
     → (id ≡ kept → new ≡ now) → (id ≢ kept → IsDeleted now new id first_of) → IsCleared start new kept (id + 1)
-cleared-more start now new kept from id C p k none e same gone = elim (ℕ-cases id kept) [
+cleared-more start now new kept from id C p k none e same gone = elim (cases_eq id kept) [
   | inl q ↦ subst (λ (n : Seen). IsCleared start n kept (id + 1)) (sym (same q)) (record { alone = alone-kept (slots now) kept from id k.alone none q; prefix = k.prefix; long = k.long; swept = k.swept })
   | inr n ↦
       let d : IsDeleted now new id first_of = gone n in
@@ -119,10 +123,10 @@ pub record IsNotEmpty (N : Slots) (c : ℕ) : Type 0 where
   pub full : slot N c ≡ Some [] → ⊥
 
 pub not-empty-all : (N : Slots) → ((c : ℕ) → IsLive N c → IsNotEmpty N c) → has_empty (live N) ≡ true → ⊥
-not-empty-all N f h = let r : (c : ℕ) × (slot N c ≡ Some []) = IsIn-slot N [] (has_empty-IsIn (live N) h) in (f r.0 (record { there = ([], r.1) })).full r.1
+not-empty-all N f h = let r : (c : ℕ) × (slot N c ≡ Some []) = live-number N [] (has_empty-IsIn (live N) h) in (f r.0 (record { there = ([], r.1) })).full r.1
 
 pub not-empty-one : (N : Slots) (id : ℕ) (C : Clause) → slot N id ≡ Some C → length C ≢ 0 → IsNotEmpty N id
-not-empty-one N id C e n = record { full = λ q. n (ap length (some-same C [] (sym e ∙ q))) }
+not-empty-one N id C e n = record { full = λ q. n (ap length (same_Some C [] (sym e ∙ q))) }
 
 pub not-zero : (n : ℕ) (b : Bool) → b ≡ (n == 0) → b ≡ false → n ≢ 0
 not-zero n b e f = λ q. absurd (clash n q (sym e ∙ f))

@@ -1,10 +1,15 @@
 -- What holds of a kernel stays when a clause comes, goes or is shortened.
 use Rattle.std.proofs.Common.{◌≡◌, ◌≢◌, ◌⊎◌, ◌≤◌, ◌<◌, ◌+◌, ◌-◌, ◌*◌, ℕ, Bool, true, false, ◌&&◌, ◌||◌, if◌then◌else◌, [], ◌∷◌, length, set, inl, inr, arith, refl, sym, ap, ◌∙◌, subst, Option, Some, None, true≢false}
+use Rattle.std.proofs.lemmas.Option.{same_Some, none-some}
+use Rattle.std.proofs.lemmas.Bool.{cases_eq}
 use Rattle.q_logic.specs.Prelude.{Literal, IsBelow, pack, Clause, Matrix, Prefix, IsIn, ArePairs, IsProper, without, Within, copies, has_variable, occurs, Slots, slot, set_slot, live, others, formula_of}
-use Rattle.q_logic.proofs.Common.{without-IsIn, occurs_var-find, occurs_var-IsIn, AllByRecursion-IsIn, slot-alike}
+use Rattle.q_logic.proofs.Common.{without-IsIn, occurs_var-find, occurs_var-IsIn, AllByRecursion-IsIn, slot-alike, live-gone, without-in_order, length-set_slot, slot-below}
+use Rattle.q_logic.proofs.Booleans.{same_truth}
+use Rattle.q_logic.proofs.HintedRuns.{live-changed}
+use Rattle.q_logic.proofs.HintChains.{live-number}
+use Rattle.q_logic.proofs.FormulaParts.{each-IsIn}
 use Rattle.q_log.proofs.StepLengths.{in_front-length}
 use Rattle.q_arena.specs.Prelude.{Chains, Has, Clauses}
-use Rattle.q_arena.proofs.NumberCases.{ℕ-cases, some-same, none-some}
 use Rattle.q_occ.specs.Places.{places_of, KeepsRoom}
 use Rattle.q_prefix.specs.Order.{FlatPrefix}
 use Rattle.q_kernel.specs.Uses.{Groups, AreUses, with_occurring}
@@ -12,15 +17,14 @@ use Rattle.q_kernel.specs.Listing.{is_listed, with_clause, without_clause}
 use Rattle.q_kernel.specs.Linking.{AreLinked, HasLists}
 use Rattle.q_kernel.specs.Invariant.{IsRoomy, IsCounted, IsKernel, empty_ones}
 use Rattle.q_kernel.specs.Singles.{unit_ones}
-use Rattle.q_kernel.proofs.SlotLists.{same-bool, set_slot-set, length-set_slot, slot-below, slot-set_same, slot-set_other, IsIn-slot, slot-IsIn, alike-added, alike-replaced, live-same, live-gone, length-added, size-added, units-added, length-gone, size-gone, units-gone, length-replaced, size-replaced, units-replaced}
+use Rattle.q_kernel.proofs.SlotLists.{set_slot-set, slot-set_same, slot-set_other, slot-IsIn, alike-added, live-same, length-added, size-added, units-added, length-gone, size-gone, units-gone, length-replaced, size-replaced, units-replaced}
 use Rattle.q_kernel.proofs.PlaceLists.{place-occurs, clause-place, occurs-added, occurs-replaced, occurs-beside, has_variable-without}
 use Rattle.q_kernel.proofs.OccurrenceChanges.{has-listed, listed-has}
 use Rattle.q_kernel.proofs.GroupChanges.{uses-same, occurring-here, occurring-other}
-use Rattle.q_kernel.proofs.KernelRuns.{all-members, without-in_order}
 
 -- The lists tell which variables occur.
 pub listed-occurs : (o : Chains) (a : Clauses) → AreLinked o a → (v : ℕ) → is_listed o v ≡ occurs v (live a.clauses)
-listed-occurs o a x v = same-bool (is_listed o v) (occurs v (live a.clauses)) over back
+listed-occurs o a x v = same_truth (is_listed o v) (occurs v (live a.clauses)) over back
   where
     over : is_listed o v ≡ true → occurs v (live a.clauses) ≡ true
     over h =
@@ -30,7 +34,7 @@ listed-occurs o a x v = same-bool (is_listed o v) (occurs v (live a.clauses)) ov
     back : occurs v (live a.clauses) ≡ true → is_listed o v ≡ true
     back h =
         let r : (D : Clause) × (k : Literal) × IsIn D (live a.clauses) × IsIn k D × (k.var ≡ v) = occurs_var-find v (live a.clauses) h in
-        let s : (c : ℕ) × (slot a.clauses c ≡ Some r.0) = IsIn-slot a.clauses r.0 r.2 in
+        let s : (c : ℕ) × (slot a.clauses c ≡ Some r.0) = live-number a.clauses r.0 r.2 in
         let p : (p : ℕ) × Has (places_of o r.1) p = clause-place o a x r.1 s.0 r.0 s.1 r.3 in
         subst (λ (w : ℕ). is_listed o w ≡ true) r.4 (has-listed o r.1 p.0 p.1)
 
@@ -40,8 +44,8 @@ changed-slots a b id d e = e ∙ sym (set_slot-set id d a.clauses)
 -- Members after a change at one number.
 member-cases : (N : Slots) (id : ℕ) (d : Option Clause) (D : Clause) → IsIn D (live (set_slot id d N)) → (d ≡ Some D) ⊎ IsIn D (live N)
 member-cases N id d D m =
-    let r : (c : ℕ) × (slot (set_slot id d N) c ≡ Some D) = IsIn-slot (set_slot id d N) D m in
-    elim (ℕ-cases r.0 id) [
+    let r : (c : ℕ) × (slot (set_slot id d N) c ≡ Some D) = live-number (set_slot id d N) D m in
+    elim (cases_eq r.0 id) [
       | inl e ↦
           let f : slot (set_slot id d N) id ≡ Some D = subst (λ (c : ℕ). slot (set_slot id d N) c ≡ Some D) e r.1 in
           let l : id < length (set_slot id d N) = slot-below (set_slot id d N) id D f in
@@ -55,7 +59,7 @@ pub proper-clauses : (P : Prefix) (X Y : Matrix) → IsProper (formula_of P X) �
 proper-clauses P X Y p f = record {
   formula = record { distinct = p.formula.distinct; closed = λ D m k i. (f D m).1 k i };
   ranges = p.ranges;
-  ordered = all-members (ArePairs IsBelow) Y (λ D m. (f D m).0);
+  ordered = each-IsIn (ArePairs IsBelow) Y (λ D m. (f D m).0);
 }
 
 pub clause-proper : (P : Prefix) (X : Matrix) (D : Clause) → IsProper (formula_of P X) → IsIn D X → ArePairs IsBelow D × Within P D
@@ -120,7 +124,7 @@ module _ (g : Groups) (P : Prefix) (o q : Chains) (a b : Clauses) (x : AreLinked
           ∙ ap (λ (t : Bool). t || occurs v (others id a.clauses)) (has_variable-without v l C n) ∙ sym (occurs-beside v a.clauses id C e) ∙ sym (listed-occurs o a x v)
 
       same : (v : ℕ) → is_listed q v ≡ with_occurring l.var (is_listed o l.var && is_listed q l.var) (is_listed o) v
-      same v = elim (ℕ-cases v l.var) [
+      same v = elim (cases_eq v l.var) [
         | inl i ↦ ap (is_listed q) i ∙ ap (λ (t : Bool). t && is_listed q l.var) (sym held) ∙ sym (occurring-here l.var (is_listed o l.var && is_listed q l.var) (is_listed o) v i)
         | inr n ↦ left v n ∙ sym (occurring-other l.var (is_listed o l.var && is_listed q l.var) (is_listed o) v n)
       ]
@@ -175,7 +179,7 @@ counted-shorter N id C D n s e u h f k = record {
   size = let l = size-replaced N id C D h in let b = counted-bounds N id C n s e u h k in omega (arith, k.size);
   empties =
       let l = copies-gone N id C h in
-      let m : copies [] (live (set_slot id (Some D) N)) ≡ copies [] (D ∷ others id N) = alike-replaced N id C D h [] in
+      let m : copies [] (live (set_slot id (Some D) N)) ≡ copies [] (D ∷ others id N) = live-changed N id C D h [] in
       let i = copies-first D (others id N) in
       let z : empty_ones C ≡ 0 = not_empty C f in
       omega (arith, k.empties);
@@ -222,7 +226,7 @@ module _ (P : FlatPrefix) (a : Clauses) (o : Chains) (g : Groups) (n s e u t mos
     kernel-put C z il ec ord win us =
         let es : b.clauses ≡ set_slot id (Some C) a.clauses = changed-slots a b id (Some C) ec in
         record {
-          proper = subst (λ (N : Slots). IsProper (formula_of P.bounds (live N))) (sym es) (proper-set P.bounds a.clauses id (Some C) k.proper (λ D d. subst (λ (E : Clause). ArePairs IsBelow E × Within P.bounds E) (some-same C D d) (ord, win)));
+          proper = subst (λ (N : Slots). IsProper (formula_of P.bounds (live N))) (sym es) (proper-set P.bounds a.clauses id (Some C) k.proper (λ D d. subst (λ (E : Clause). ArePairs IsBelow E × Within P.bounds E) (same_Some C D d) (ord, win)));
           linked = y;
           roomy = changed-roomy;
           grouped = grouped-added h P.bounds o q a b k.linked y id C z il es (us (is_listed o) k.grouped);
@@ -250,7 +254,7 @@ module _ (P : FlatPrefix) (a : Clauses) (o : Chains) (g : Groups) (n s e u t mos
         let es : b.clauses ≡ set_slot id (Some D) a.clauses = changed-slots a b id (Some D) ec in
         let w = clause-proper P.bounds (live a.clauses) C k.proper (slot-IsIn a.clauses id C z) in
         record {
-          proper = subst (λ (N : Slots). IsProper (formula_of P.bounds (live N))) (sym es) (proper-set P.bounds a.clauses id (Some D) k.proper (λ E d. subst (λ (F : Clause). ArePairs IsBelow F × Within P.bounds F) (some-same D E d) (without-in_order l C w.0, λ j i. w.1 j (without-IsIn l C j i))));
+          proper = subst (λ (N : Slots). IsProper (formula_of P.bounds (live N))) (sym es) (proper-set P.bounds a.clauses id (Some D) k.proper (λ E d. subst (λ (F : Clause). ArePairs IsBelow F × Within P.bounds F) (same_Some D E d) (without-in_order l C w.0, λ j i. w.1 j (without-IsIn l C j i))));
           linked = y;
           roomy = changed-roomy;
           grouped = grouped-shorter h P.bounds o q a b k.linked y id C l m z es (us (is_listed o) k.grouped);

@@ -1,50 +1,24 @@
 -- How valid steps lead from one kernel to another, up to the order of clauses.
-use Rattle.std.proofs.Common.{◌≡◌, ◌≤◌, ◌<◌, ◌+◌, ◌*◌, ◌^◌, ℕ, suc, Bool, true, false, cond, eqb, List, [], ◌∷◌, ◌++◌, length, inl, inr, arith, refl, sym, ap, ◌∙◌, subst, Option, Some, None, append_assoc}
+use Rattle.std.proofs.Common.{◌≡◌, ◌≤◌, ◌<◌, ◌+◌, ◌*◌, ◌^◌, ℕ, Bool, true, false, cond, eqb, List, [], ◌∷◌, ◌++◌, length, inl, inr, arith, refl, sym, ap, ◌∙◌, subst, Option, Some, None, append_assoc}
 use Rattle.std.proofs.lemmas.List.{append-nil}
 use Rattle.std.specs.List.{AllByRecursion}
 use Rattle.q_logic.specs.declared.limits.Limits.{Limits}
 use Rattle.q_logic.specs.declared.formulas.Bound.{Bound}
 use Rattle.q_logic.specs.declared.formulas.Quant.TheVariants.{Exists}
-use Rattle.q_logic.specs.Prelude.{Literal, IsBelow, literal_eq, Clause, Matrix, Prefix, IsIn, PrenexFormula, ArePairs, IsProper, without, IsFormula, Implied, standard, ProofStep, add, delete, drop_literal, fresh, remove_variable, Valid, after, KeepsLimits, clause_eq, one_less, insert_after, removed_from, literals_in, ValidSteps, copies, AreAlike, Slots, slot, set_slot, live, formula_of}
-use Rattle.q_logic.proofs.Common.{Justified, Valid-justified, SameClauses, alike-refl, alike-sym, alike-trans, alike-cons, one_less-same, one_less-alike, IsIn-alike, IsIn-copies, valid-alike, alike-uncons, clause_eq-sound, one_less-IsIn, after-formula, AllByRecursion-IsIn, pairs-ordered, ordered-pairs, without-ordered, implied-subsumed, without-other, literal_eq-itself, without-IsIn, length-one_less, literals-one_less}
+use Rattle.q_logic.specs.Prelude.{Literal, IsBelow, literal_eq, Clause, Matrix, Prefix, IsIn, PrenexFormula, ArePairs, IsProper, without, IsFormula, Implied, standard, ProofStep, add, delete, drop_literal, fresh, remove_variable, Valid, after, KeepsLimits, clause_eq, one_less, insert_after, removed_from, literals_in, ValidSteps, AreAlike, Slots, slot, set_slot, live, formula_of}
+use Rattle.q_logic.proofs.Common.{Justified, Valid-justified, SameClauses, alike-refl, alike-sym, alike-cons, one_less-same, valid-alike, clause_eq-sound, one_less-IsIn, after-formula, AllByRecursion-IsIn, implied-subsumed, without-other, literal_eq-itself, without-IsIn, without-in_order, length-set_slot, slot-below, same-sizes, alike_itself, alike_swapped, alike_through, alike_valid}
+use Rattle.q_logic.proofs.HintedRuns.{left-alike}
+use Rattle.q_logic.proofs.FormulaParts.{each-IsIn}
 use Rattle.q_log.specs.Texts.{IsLogged, step_text, steps_text}
 use Rattle.q_kernel.specs.Kernels.{Seen, slots, formula_in, SameView}
 use Rattle.q_kernel.specs.Changes.{IsLed}
-use Rattle.q_kernel.proofs.SlotLists.{slot-below, slot-IsIn, alike-added, alike-deleted, alike-changed, length-set_slot}
-
--- Alike formulas.
-pub alike-itself : (F : PrenexFormula) → AreAlike F F
-alike-itself F = record { prefix = refl; clauses = λ C. refl }
-
-pub alike-turned : (F G : PrenexFormula) → AreAlike F G → AreAlike G F
-alike-turned F G a = record { prefix = sym a.prefix; clauses = λ C. sym (a.clauses C) }
-
-pub alike-through : (F G H : PrenexFormula) → AreAlike F G → AreAlike G H → AreAlike F H
-alike-through F G H a b = record { prefix = a.prefix ∙ b.prefix; clauses = λ C. a.clauses C ∙ b.clauses C }
+use Rattle.q_kernel.proofs.SlotLists.{slot-IsIn, alike-added, alike-changed}
 
 pub alike-equal : (F G : PrenexFormula) → F ≡ G → AreAlike F G
-alike-equal F G e = subst (AreAlike F) e (alike-itself F)
-
--- They have as many clauses and literals.
-pub sizes-alike : (X Y : Matrix) → SameClauses X Y → (length X ≡ length Y) × (literals_in X ≡ literals_in Y)
-sizes-alike [] [] s = (refl, refl)
-sizes-alike [] (D ∷ Y) s = let z : 1 ≤ copies D (D ∷ Y) = IsIn-copies D (D ∷ Y) (inl refl) in let e : copies D [] ≡ copies D (D ∷ Y) = s D in absurd (none (copies D (D ∷ Y)) z e)
-  where
-    none : (n : ℕ) → 1 ≤ n → 0 ≡ n → ⊥
-    none n z e = omega arith
-sizes-alike (C ∷ X) Y s =
-    let m : IsIn C Y = IsIn-alike (C ∷ X) Y s C (inl refl) in
-    let i : (length X ≡ length (one_less C Y)) × (literals_in X ≡ literals_in (one_less C Y)) = sizes-alike X (one_less C Y) (alike-uncons C X (one_less C Y) (alike-trans (C ∷ X) Y (C ∷ one_less C Y) s (one_less-alike C Y m))) in
-    (ends (length X) (length (one_less C Y)) (length Y) i.0 (length-one_less C Y m), sums (length C) (literals_in X) (literals_in (one_less C Y)) (literals_in Y) i.1 (literals-one_less C Y m))
-  where
-    ends : (x y n : ℕ) → x ≡ y → n ≡ 1 + y → suc x ≡ n
-    ends x y n e f = omega arith
-
-    sums : (c x y n : ℕ) → x ≡ y → n ≡ c + y → c + x ≡ n
-    sums c x y n e f = omega arith
+alike-equal F G e = subst (AreAlike F) e (alike_itself F)
 
 limits-alike : (m : Limits) (X Y : Matrix) → SameClauses X Y → KeepsLimits m X → KeepsLimits m Y
-limits-alike m X Y s k = let e : (length X ≡ length Y) × (literals_in X ≡ literals_in Y) = sizes-alike X Y s in record {
+limits-alike m X Y s k = let e : (length X ≡ length Y) × (literals_in X ≡ literals_in Y) = same-sizes X Y s in record {
   clauses = subst (λ (n : ℕ). n ≤ 4 * m.clauses) e.0 k.clauses;
   lits = subst (λ (n : ℕ). n ≤ 4 * m.lits) e.1 k.lits;
 }
@@ -56,9 +30,6 @@ valid-matrix m P X Y (delete p C) a v = let j : Justified (formula_of P Y) (dele
 valid-matrix m P X Y (drop_literal l C) a v = let j : Justified (formula_of P Y) (drop_literal l C) = valid-alike P X Y (drop_literal l C) a (v.1, v.2) in (v.0, j.0, j.1)
 valid-matrix m P X Y (fresh v w) a h = h
 valid-matrix m P X Y (remove_variable v) a h = valid-alike P X Y (remove_variable v) a h
-
-pub valid-same : (m : Limits) (F G : PrenexFormula) (s : ProofStep) → AreAlike F G → Valid m F s → Valid m G s
-valid-same m F G s a v = subst (λ (P : Prefix). Valid m (formula_of P G.matrix) s) a.prefix (valid-matrix m F.prefix F.matrix G.matrix s a.clauses v)
 
 -- And it leaves alike formulas.
 after-matrix : (P : Prefix) (X Y : Matrix) (s : ProofStep) → SameClauses X Y → Justified (formula_of P X) s → AreAlike (after (formula_of P X) s) (after (formula_of P Y) s)
@@ -75,7 +46,7 @@ pub steps-same : (m : Limits) (F G : PrenexFormula) (ss : List ProofStep) (E : P
 steps-same m F G [] E a r = (G, refl, subst (λ (D : PrenexFormula). AreAlike D G) r a)
 steps-same m F G (s ∷ ss) E a r =
     let i : (H : PrenexFormula) × ValidSteps m (after G s) ss H × AreAlike E H = steps-same m (after F s) (after G s) ss E (after-same m F G s a r.0) r.1 in
-    (i.0, (valid-same m F G s a r.0, i.1), i.2)
+    (i.0, (alike_valid m F G s a r.0, i.1), i.2)
 
 -- Lists of steps, one after the other.
 pub steps-append : (m : Limits) (F : PrenexFormula) (ss : List ProofStep) (E : PrenexFormula) (tt : List ProofStep) (G : PrenexFormula) → ValidSteps m F ss E → ValidSteps m E tt G → ValidSteps m F (ss ++ tt) G
@@ -86,7 +57,7 @@ pub steps_text-append : (ss tt : List ProofStep) → steps_text (ss ++ tt) ≡ s
 steps_text-append [] tt = refl
 steps_text-append (s ∷ ss) tt = ap (λ (t : List ℕ). step_text s ++ t) (steps_text-append ss tt) ∙ sym (append_assoc (step_text s) (steps_text ss) (steps_text tt))
 
-logged-append : (ss tt : List ProofStep) → AllByRecursion IsLogged ss → AllByRecursion IsLogged tt → AllByRecursion IsLogged (ss ++ tt)
+pub logged-append : (ss tt : List ProofStep) → AllByRecursion IsLogged ss → AllByRecursion IsLogged tt → AllByRecursion IsLogged (ss ++ tt)
 logged-append [] tt a b = b
 logged-append (s ∷ ss) tt a b = (a.0, logged-append ss tt a.1 b)
 
@@ -95,7 +66,7 @@ pub led-alike : (a b : Seen) → AreAlike (formula_in a) (formula_in b) → b.te
 led-alike a b h t = record { steps = []; logged = tt; text = t ∙ sym (append-nil a.text); last = formula_in a; valid = refl; alike = h }
 
 pub led-itself : (a : Seen) → IsLed a a
-led-itself a = led-alike a a (alike-itself (formula_in a)) refl
+led-itself a = led-alike a a (alike_itself (formula_in a)) refl
 
 pub led-view : (a b : Seen) → SameView a b → IsLed a b
 led-view a b v = led-alike a b (alike-equal (formula_in a) (formula_in b) (sym v.formula)) v.text
@@ -103,14 +74,14 @@ led-view a b v = led-alike a b (alike-equal (formula_in a) (formula_in b) (sym v
 -- One way after another.
 pub led-through : (a b c : Seen) → IsLed a b → IsLed b c → IsLed a c
 led-through a b c f g =
-    let i : (H : PrenexFormula) × ValidSteps standard f.last g.steps H × AreAlike g.last H = steps-same standard (formula_in b) f.last g.steps g.last (alike-turned f.last (formula_in b) f.alike) g.valid in
+    let i : (H : PrenexFormula) × ValidSteps standard f.last g.steps H × AreAlike g.last H = steps-same standard (formula_in b) f.last g.steps g.last (alike_swapped f.last (formula_in b) f.alike) g.valid in
     record {
       steps = f.steps ++ g.steps;
       logged = logged-append f.steps g.steps f.logged g.logged;
       text = g.text ∙ (ap (λ (t : List ℕ). t ++ steps_text g.steps) f.text ∙ (append_assoc a.text (steps_text f.steps) (steps_text g.steps) ∙ ap (λ (t : List ℕ). a.text ++ t) (sym (steps_text-append f.steps g.steps))));
       last = i.0;
       valid = steps-append standard (formula_in a) f.steps f.last g.steps i.0 f.valid i.1;
-      alike = alike-through i.0 g.last (formula_in c) (alike-turned g.last i.0 i.2) g.alike;
+      alike = alike_through i.0 g.last (formula_in c) (alike_swapped g.last i.0 i.2) g.alike;
     }
 
 -- One step.
@@ -146,7 +117,7 @@ alike-after_add a b p C id free change there prefix =
     (alike-sym (live (set_slot id (Some C) (slots a))) (C ∷ live (slots a)) (alike-added (slots a) id C free n))
 
 pub alike-after_delete : (a b : Seen) (p : Option Literal) (C : Clause) (id : ℕ) → slot (slots a) id ≡ Some C → slots b ≡ set_slot id None (slots a) → b.prefix ≡ a.prefix → AreAlike (after (formula_in a) (delete p C)) (formula_in b)
-alike-after_delete a b p C id was change prefix = prefix-alike a b (one_less C (live (slots a))) (set_slot id None (slots a)) prefix change (alike-deleted (slots a) id C was)
+alike-after_delete a b p C id was change prefix = prefix-alike a b (one_less C (live (slots a))) (set_slot id None (slots a)) prefix change (left-alike (slots a) id C was)
 
 pub alike-after_drop : (a b : Seen) (l : Literal) (C : Clause) (id : ℕ) → slot (slots a) id ≡ Some C → slots b ≡ set_slot id (Some (without l C)) (slots a) → b.prefix ≡ a.prefix → AreAlike (after (formula_in a) (drop_literal l C)) (formula_in b)
 alike-after_drop a b l C id was change prefix = prefix-alike a b (without l C ∷ one_less C (live (slots a))) (set_slot id (Some (without l C)) (slots a)) prefix change (alike-changed (slots a) id C (without l C) was)
@@ -158,7 +129,7 @@ pub alike-after_remove : (a b : Seen) (v : ℕ) → b.prefix ≡ removed_from v 
 alike-after_remove a b v prefix change = record { prefix = sym prefix; clauses = subst (λ (K : Slots). SameClauses (live (slots a)) (live K)) (sym change) (alike-refl (live (slots a))) }
 
 -- A clause that loses a literal in two steps.
-lost-literal : (l : Literal) (C : Clause) → IsIn l (without l C) → ⊥
+pub lost-literal : (l : Literal) (C : Clause) → IsIn l (without l C) → ⊥
 lost-literal l C m = let a : literal_eq l l ≡ false = without-other l C l m in let b : literal_eq l l ≡ true = literal_eq-itself l in grind arith
 
 not-same : (l : Literal) (C : Clause) → IsIn l C → clause_eq (without l C) C ≡ false
@@ -210,10 +181,6 @@ IsOrderedStep (drop_literal l C) = Unit {0}
 IsOrderedStep (fresh v w) = Unit {0}
 IsOrderedStep (remove_variable v) = Unit {0}
 
-pub all-members : {X : Type 0} (R : X → Type 0) (xs : List X) → ((x : X) → IsIn x xs → R x) → AllByRecursion R xs
-all-members R [] h = tt
-all-members R (x ∷ xs) h = (h x (inl refl), all-members R xs (λ y m. h y (inr m)))
-
 abbrev InRange : Bound → Type 0
 InRange q = (1 ≤ q.var) × (q.var < 2 ^ 31)
 
@@ -243,11 +210,8 @@ after-ranges F (fresh x w) r v = inserted-ranges w x F.prefix (v.positive, small
     small x h = omega arith
 after-ranges F (remove_variable x) r v = removed-ranges x F.prefix r
 
-pub without-in_order : (l : Literal) (C : Clause) → ArePairs IsBelow C → ArePairs IsBelow (without l C)
-without-in_order l C o = ordered-pairs (without l C) (without-ordered l C (pairs-ordered C o))
-
 less-ordered : (C : Clause) (X : Matrix) → AllByRecursion (ArePairs IsBelow) X → AllByRecursion (ArePairs IsBelow) (one_less C X)
-less-ordered C X o = all-members (ArePairs IsBelow) (one_less C X) (λ D m. AllByRecursion-IsIn (ArePairs IsBelow) X D o (one_less-IsIn C X D m))
+less-ordered C X o = each-IsIn (ArePairs IsBelow) (one_less C X) (λ D m. AllByRecursion-IsIn (ArePairs IsBelow) X D o (one_less-IsIn C X D m))
 
 after-ordered : (F : PrenexFormula) (s : ProofStep) → AllByRecursion (ArePairs IsBelow) F.matrix → Valid standard F s → IsOrderedStep s → AllByRecursion (ArePairs IsBelow) (after F s).matrix
 after-ordered F (add p C) o v h = (h, o)

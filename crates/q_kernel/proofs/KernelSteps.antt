@@ -1,12 +1,14 @@
 -- One step of a kernel: its text comes behind the log, and then the formula is changed.
 use Rattle.std.proofs.Common.{◌≡◌, ◌≢◌, ◌≤◌, ◌+◌, ◌++◌, ℕ, Bool, true, false, cond, eqb, List, [], ◌∷◌, length, inl, inr, arith, refl, sym, ap, ◌∙◌, subst, Option, Some, None, true≢false, append_assoc}
 use Rattle.std.proofs.lemmas.Bool.Decides.{nat_tests}
+use Rattle.std.proofs.lemmas.Option.{same_Some}
+use Rattle.std.proofs.lemmas.Bool.{cases_eq}
 use Rattle.q_logic.specs.declared.formulas.Quant.TheVariants.{Exists, Forall}
 use Rattle.q_logic.specs.Prelude.{Literal, Clause, Matrix, Prefix, IsIn, standard, IsProper, without, is_bound, is_existential, is_exists, add, delete, drop_literal, fresh, remove_variable, Valid, insert_after, removed_from, IsAbsent, first_of, IsFirst, occurs, greatest, larger_of, Slots, slot, set_slot, live, formula_of}
 use Rattle.q_logic.proofs.Common.{occurs_var-find, existential-is_bound, insert-is_bound, removed-is_bound, removed-unbound}
 use Rattle.q_log.specs.Texts.{step_text}
+use Rattle.q_log.proofs.WritableRuns.{first-of}
 use Rattle.q_arena.specs.Prelude.{Chains, Has, without as gone, Clauses}
-use Rattle.q_arena.proofs.NumberCases.{ℕ-cases, some-same}
 use Rattle.q_prefix.specs.Order.{FlatPrefix, quant_of, with_after}
 use Rattle.q_kernel.specs.Kernels.{Seen, slots, formula_in}
 use Rattle.q_kernel.specs.Changes.{MayStep, HasLogged, MayAdd, IsAdded, MayDelete, IsDeleted, MayDrop, IsDropped, MayShrink, IsShrunk}
@@ -19,7 +21,6 @@ use Rattle.q_kernel.proofs.KernelInvariant.{listed-occurs}
 use Rattle.q_kernel.proofs.GroupChanges.{uses-freshened, uses-removed}
 use Rattle.q_kernel.proofs.LoggedSteps.{logged-add, logged-delete, logged-drop, logged-shorter}
 use Rattle.q_kernel.proofs.SlotLists.{slot-IsIn}
-use Rattle.q_kernel.proofs.TextCosts.{first-first}
 
 -- the text of a step has come behind the log, and nothing else is changed
 pub record HasText (old mid : Seen) (t : List ℕ) : Type 0 where
@@ -54,7 +55,7 @@ is-added old mid new p C id proper m z h k =
 
 -- what a caller promised of a clause holds of the one that stands there
 pub may-delete-there : (k : Seen) (id : ℕ) (p : Clause → Option Literal) (C : Clause) → MayDelete k id p → slot (slots k) id ≡ Some C → MayStep k (delete (p C) C)
-may-delete-there k id p C m e = subst (λ (D : Clause). MayStep k (delete (p D) D)) (some-same m.clause C (sym m.there ∙ e)) m.step
+may-delete-there k id p C m e = subst (λ (D : Clause). MayStep k (delete (p D) D)) (same_Some m.clause C (sym m.there ∙ e)) m.step
 
 pub is-deleted : (old mid new : Seen) (id : ℕ) (p : Clause → Option Literal) (C : Clause) → IsProper (formula_in old) → IsFirst (p C) C → Valid standard (formula_in old) (delete (p C) C) → slot (slots old) id ≡ Some C → HasText old mid (step_text (delete (p C) C)) → IsTakenOut mid new id → IsDeleted old new id p
 is-deleted old mid new id p C proper f v e h k =
@@ -74,7 +75,7 @@ is-deleted old mid new id p C proper f v e h k =
 
 pub deleted-as : (old new : Seen) (id : ℕ) (p : Option Literal) (q : Clause → Option Literal) (C : Clause) → slot (slots old) id ≡ Some C → p ≡ q C → IsDeleted old new id (λ D. p) → IsDeleted old new id q
 deleted-as old new id p q C e f d =
-    let same : p ≡ q d.clause = subst (λ (D : Clause). p ≡ q D) (some-same C d.clause (sym e ∙ d.was)) f in
+    let same : p ≡ q d.clause = subst (λ (D : Clause). p ≡ q D) (same_Some C d.clause (sym e ∙ d.was)) f in
     record {
       clause = d.clause;
       was = d.was;
@@ -86,10 +87,10 @@ deleted-as old new id p q C e f d =
 
 -- the first literal that a caller promised
 pub may-delete-first : (k : Seen) (id : ℕ) (p : Clause → Option Literal) (C : Clause) → MayDelete k id p → slot (slots k) id ≡ Some C → IsFirst (p C) C
-may-delete-first k id p C m e = subst (λ (D : Clause). IsFirst (p D) D) (some-same m.clause C (sym m.there ∙ e)) m.first
+may-delete-first k id p C m e = subst (λ (D : Clause). IsFirst (p D) D) (same_Some m.clause C (sym m.there ∙ e)) m.first
 
 pub may-drop-there : (k : Seen) (id : ℕ) (l : Literal) (C : Clause) → MayDrop k id l → slot (slots k) id ≡ Some C → MayStep k (drop_literal l C)
-may-drop-there k id l C m e = subst (λ (D : Clause). MayStep k (drop_literal l D)) (some-same m.clause C (sym m.there ∙ e)) m.step
+may-drop-there k id l C m e = subst (λ (D : Clause). MayStep k (drop_literal l D)) (same_Some m.clause C (sym m.there ∙ e)) m.step
 
 pub dropped-held : (k : Seen) (id : ℕ) (l : Literal) (C : Clause) → MayStep k (drop_literal l C) → IsIn l C
 dropped-held k id l C m = elim m.valid.2 [
@@ -127,7 +128,7 @@ pub record MayShorten (k : Seen) (l : Literal) (C : Clause) : Type 0 where
   pub bytes : length (shorter_text l C) + length (longer_text C) ≤ k.spare_bytes
 
 pub may-shrink-there : (k : Seen) (id : ℕ) (l : Literal) (C : Clause) → MayShrink k id l → slot (slots k) id ≡ Some C → MayShorten k l C
-may-shrink-there k id l C m e = subst (λ (D : Clause). MayShorten k l D) (some-same m.clause C (sym m.there ∙ e)) (record { held = m.held; valid = m.valid; bytes = m.bytes })
+may-shrink-there k id l C m e = subst (λ (D : Clause). MayShorten k l D) (same_Some m.clause C (sym m.there ∙ e)) (record { held = m.held; valid = m.valid; bytes = m.bytes })
 
 pub is-shrunk : (old mid new : Seen) (id : ℕ) (l : Literal) (C : Clause) → IsProper (formula_in old) → MayShorten old l C → slot (slots old) id ≡ Some C → mid.prefix ≡ old.prefix → mid.arena ≡ old.arena → mid.spare_vars ≡ old.spare_vars → mid.greatest ≡ old.greatest
     → mid.text ≡ (old.text ++ shorter_text l C) ++ longer_text C → old.spare_bytes ≡ mid.spare_bytes + (length (shorter_text l C) + length (longer_text C)) → IsShortened mid new id l → IsShrunk old new id l
@@ -145,7 +146,7 @@ is-shrunk old mid new id l C proper m e mp ma mv mg mt mb k =
       prefix = prefix;
       text = text;
       bytes = omega (arith, mb, k.rest.bytes);
-      led = led-shrunk old new (first_of (without l C)) (first_of C) l C id (logged-shorter (formula_in old) l C proper (slot-IsIn (slots old) id C e)) (logged-delete (formula_in old) (first_of C) C proper (slot-IsIn (slots old) id C e) (first-first C)) proper.formula m.held m.valid text e change prefix;
+      led = led-shrunk old new (first_of (without l C)) (first_of C) l C id (logged-shorter (formula_in old) l C proper (slot-IsIn (slots old) id C e)) (logged-delete (formula_in old) (first_of C) C proper (slot-IsIn (slots old) id C e) (first-of C)) proper.formula m.held m.valid text e change prefix;
       room = record { words = omega (arith, k.kept.words); ids = omega (arith, k.kept.ids); vars = omega (arith, k.rest.vars, mv); greatest = omega (arith, k.rest.greatest, mg) };
     }
 
@@ -203,7 +204,7 @@ module _ (P Q : FlatPrefix) (a : Clauses) (o : Chains) (g h : Groups) (n s e u t
       lists = k.roomy.lists;
       rows = omega (arith, k.roomy.rows);
       marks = omega (arith, k.roomy.marks);
-      vars = λ x b. elim (ℕ-cases x v) [
+      vars = λ x b. elim (cases_eq x v) [
         | inl i ↦ omega arith
         | inr d ↦ k.roomy.vars x (sym (insert-is_bound w v P.bounds x (different x d)) ∙ subst (λ (R : Prefix). is_bound R x ≡ true) eq b)
       ];
@@ -228,7 +229,7 @@ module _ (P Q : FlatPrefix) (a : Clauses) (o : Chains) (g h : Groups) (n s e u t
       marks = omega (arith, k.roomy.marks);
       vars = λ x b.
           let b' : is_bound (removed_from v P.bounds) x ≡ true = subst (λ (R : Prefix). is_bound R x ≡ true) eq b in
-          elim (ℕ-cases x v) [
+          elim (cases_eq x v) [
             | inl i ↦ absurd (true≢false (sym b' ∙ ap (is_bound (removed_from v P.bounds)) i ∙ removed-unbound v P.bounds k.proper.formula.distinct))
             | inr d ↦ k.roomy.vars x (sym (removed-is_bound v P.bounds x (different x d)) ∙ b')
           ];

@@ -1,17 +1,17 @@
 -- The lists stay exact while a clause comes, goes or moves.
 use Rattle.std.proofs.Common.{◌≡◌, ◌≢◌, ◌⊎◌, ℕ, suc, ◌+◌, ◌<◌, ◌≤◌, Bool, true, false, cond, List, [], ◌∷◌, length, get_or, set, Option, None, Some, refl, sym, ◌∙◌, ap, subst, inl, inr, arith, true≢false}
 use Rattle.std.proofs.lemmas.List.{get_or-set_same, get_or-set_other, get_or_past}
-use Rattle.std.proofs.lemmas.Bool.{cases_lt}
+use Rattle.std.proofs.lemmas.Bool.{cases_lt, cases_eq}
 use Rattle.std.proofs.lemmas.Bool.Decides.{nat_tests}
 use Rattle.std.specs.List.{sum_by}
 use Rattle.std.proofs.lemmas.List.Sums.{sum_by-set}
+use Rattle.std.proofs.lemmas.Option.{same_Some, none-some}
 use Rattle.q_logic.specs.Prelude.{Literal, pack, unpack, literal_eq, Clause, IsIn, without}
 use Rattle.q_logic.proofs.Codes.{pack_unpack}
+use Rattle.q_logic.proofs.Common.{get_or-IsIn}
 use Rattle.q_arena.specs.Prelude.{Chains, list_at, HasSameLists, HasSameOwners, Has, Clauses, clause_at, start_at, AreSameClauses}
-use Rattle.q_arena.proofs.NumberCases.{ℕ-cases, some-same, none-some}
 use Rattle.q_occ.specs.Places.{places_of, no_lit, IsPlaceIn, AreExact, with_linked, IsUnlinked, IsLinked, IsReserved, KeepsRoom}
 use Rattle.q_kernel.specs.Linking.{AreLinked, AreLinkedBut, HasLists}
-use Rattle.q_kernel.proofs.PlaceLists.{get-IsIn}
 
 -- Which clauses are linked.
 but-here : (id i : ℕ) → i ≡ id → with_linked id false (λ j. true) i ≡ false
@@ -24,7 +24,7 @@ but-not : (id i : ℕ) → with_linked id false (λ j. true) i ≡ true → i �
 but-not id i h e = true≢false (sym h ∙ but-here id i e)
 
 again-all : (id i : ℕ) → with_linked id true (with_linked id false (λ j. true)) i ≡ true
-again-all id i = elim (ℕ-cases i id) [
+again-all id i = elim (cases_eq i id) [
   | inl e ↦ grind (arith, nat_tests)
   | inr n ↦ grind (arith, nat_tests)
 ]
@@ -83,8 +83,8 @@ clause-place a id C l e m =
 
 pub place-IsIn : (a : Clauses) (id : ℕ) (C : Clause) (l : Literal) (p : ℕ) → clause_at a id ≡ Some C → IsPlaceIn a id l p → IsIn l C
 place-IsIn a id C l p e w =
-    let s : w.clause ≡ C = some-same w.clause C (sym w.live ∙ e) in
-    subst (λ (D : Clause). IsIn l D) s (subst (λ (k : Literal). IsIn k w.clause) w.of (get-IsIn w.clause w.at_index no_lit w.in_range))
+    let s : w.clause ≡ C = same_Some w.clause C (sym w.live ∙ e) in
+    subst (λ (D : Clause). IsIn l D) s (subst (λ (k : Literal). IsIn k w.clause) w.of (get_or-IsIn w.clause w.at_index no_lit w.in_range))
 
 pub has-lists : (o : Chains) (a : Clauses) (id : ℕ) (C : Clause) → AreLinked o a → clause_at a id ≡ Some C → HasLists o C
 has-lists o a id C x e l m =

@@ -1,9 +1,9 @@
 -- The ids that a walk over the live clauses has still to give.
 use Rattle.std.proofs.Common.{◌≡◌, ℕ, zero, suc, ◌+◌, ◌<◌, ◌≤◌, All, Contains, List, [], ◌∷◌, ◌++◌, length, drop, Option, None, Some, refl, sym, ◌∙◌, ap, subst, inl, inr, arith}
 use Rattle.std.proofs.Math.Seq.{drop-drop}
+use Rattle.std.proofs.lemmas.Option.{none-some}
 use Rattle.q_logic.specs.Prelude.{Clause, Matrix, Slots, slot, live, clauses_at, put_first}
 use Rattle.q_arena.specs.Prelude.{Has, AreApart}
-use Rattle.q_arena.proofs.NumberCases.{none-some}
 use Rattle.q_arena.proofs.RingPaths.{Misses-from}
 use Rattle.q_kernel.specs.Visits.{IsLive, AreOnce, live_from}
 use Rattle.q_kernel.proofs.DistinctMembers.{once-apart}

@@ -2,10 +2,10 @@
 use Rattle.std.proofs.Common.{◌≡◌, ◌≤◌, ◌<◌, ◌^◌, ℕ, Bool, true, false, cond, [], ◌∷◌, inl, inr, arith, refl, Option, Some, None}
 use Rattle.std.specs.List.{AllByRecursion}
 use Rattle.q_logic.specs.Prelude.{Literal, IsBelow, literal_eq, Clause, IsIn, PrenexFormula, ArePairs, IsProper, without, is_bound, standard, add, delete, drop_literal, fresh, remove_variable, Within, Valid, IsFirst, first_of, in_front}
-use Rattle.q_logic.proofs.Common.{without-IsIn}
+use Rattle.q_logic.proofs.Common.{without-IsIn, without-in_order}
 use Rattle.q_log.specs.Texts.{IsLogged}
-use Rattle.q_kernel.proofs.TextCosts.{proper-var, proper-in_order, first-first}
-use Rattle.q_kernel.proofs.KernelRuns.{without-in_order}
+use Rattle.q_log.proofs.WritableRuns.{first-of}
+use Rattle.q_kernel.proofs.TextCosts.{proper-var, proper-in_order}
 
 abbrev InRange : Literal → Type 0
 InRange l = (1 ≤ l.var) × (l.var < 2 ^ 31)
@@ -36,7 +36,7 @@ pub logged-drop : (F : PrenexFormula) (l : Literal) (C : Clause) → IsProper F 
 logged-drop F l C p m i = record { step = (proper-in_order F C p m, i); numbers = front-range F (Some l) C p (p.formula.closed C m) i }
 
 pub logged-shorter : (F : PrenexFormula) (l : Literal) (C : Clause) → IsProper F → IsIn C F.matrix → IsLogged (add (first_of (without l C)) (without l C))
-logged-shorter F l C p m = logged-add F (first_of (without l C)) (without l C) p (λ k i. p.formula.closed C m k (without-IsIn l C k i)) (without-in_order l C (proper-in_order F C p m)) (first-first (without l C))
+logged-shorter F l C p m = logged-add F (first_of (without l C)) (without l C) p (λ k i. p.formula.closed C m k (without-IsIn l C k i)) (without-in_order l C (proper-in_order F C p m)) (first-of (without l C))
 
 pub logged-fresh : (F : PrenexFormula) (v w : ℕ) → IsProper F → Valid standard F (fresh v w) → is_bound F.prefix w ≡ true → IsLogged (fresh v w)
 logged-fresh F v w p h e = record { step = tt; numbers = ((h.positive, small v h.within), (proper-var F w p e, tt)) }

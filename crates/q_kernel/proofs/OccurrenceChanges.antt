@@ -1,12 +1,12 @@
 -- Variables that start and stop to occur as lists grow and shrink.
 use Rattle.std.proofs.Common.{◌≡◌, ◌≢◌, ℕ, zero, suc, ◌+◌, ◌<◌, Bool, true, false, ◌&&◌, ◌||◌, not, eqb, if◌then◌else◌, List, [], ◌∷◌, length, get_or, take, refl, sym, ◌∙◌, ap, subst, inl, inr, arith, add-one}
 use Rattle.std.proofs.lemmas.Bool.Decides.{nat_tests}
-use Rattle.q_logic.specs.Prelude.{Literal, negation, Clause, Prefix, IsIn, has_variable}
+use Rattle.std.proofs.lemmas.Bool.{cases_eq}
+use Rattle.q_logic.specs.Prelude.{Literal, negation, Clause, Prefix, has_variable}
 use Rattle.q_arena.specs.Prelude.{Chains, Has}
 use Rattle.q_occ.specs.Places.{places_of}
 use Rattle.q_kernel.specs.Uses.{Groups, AreUses, with_occurring}
 use Rattle.q_kernel.specs.Listing.{is_listed, with_clause, without_clause}
-use Rattle.q_arena.proofs.NumberCases.{ℕ-cases}
 use Rattle.q_kernel.proofs.GroupChanges.{uses-same, occurring-here, occurring-other}
 
 none-listed : (o : Chains) (v : ℕ) (b : Bool) → length (places_of o (record { var = v; negative = b })) ≡ 0 → length (places_of o (record { var = v; negative = not b })) ≡ 0 → is_listed o v ≡ false
@@ -42,11 +42,6 @@ listed-has o v h = go (places_of o (record { var = v; negative = true })) refl
     go (y ∷ ys) e = (record { var = v; negative = true }, refl, y, subst (λ (xs : List ℕ). Has xs y) (sym e) (inl refl))
 
 -- One more literal of a clause.
-pub item-IsIn : (C : Clause) (k : ℕ) (d : Literal) → k < length C → IsIn (get_or C k d) C
-item-IsIn [] k d h = absurd (omega arith)
-item-IsIn (l ∷ C) zero d h = inl refl
-item-IsIn (l ∷ C) (suc k) d h = inr (item-IsIn C k d (omega arith))
-
 or-next : (a b c d e : Bool) → d ≡ (b || c) → e ≡ (a || d) → e ≡ ((a || b) || c)
 or-next a b c d e p q = grind arith
 
@@ -83,7 +78,7 @@ module _ (g : Groups) (P : Prefix) (C : Clause) (occ : ℕ → Bool) (k : ℕ) (
   vanish-more o u = uses-same g P (with_occurring l.var (without_clause (take k C) o occ l.var && is_listed o l.var) (without_clause (take k C) o occ)) (without_clause (take (k + 1) C) o occ) (λ v b. same v) u
     where
       same : (v : ℕ) → without_clause (take (k + 1) C) o occ v ≡ with_occurring l.var (without_clause (take k C) o occ l.var && is_listed o l.var) (without_clause (take k C) o occ) v
-      same v = elim (ℕ-cases v l.var) [
+      same v = elim (cases_eq v l.var) [
         | inl q ↦ subst (λ (w : ℕ). without_clause (take (k + 1) C) o occ w ≡ with_occurring l.var (without_clause (take k C) o occ l.var && is_listed o l.var) (without_clause (take k C) o occ) w) (sym q) here
         | inr n ↦ other v n
       ]

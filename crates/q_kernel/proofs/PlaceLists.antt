@@ -1,18 +1,16 @@
 -- What the lists of places tell of the clauses: which hold a literal, and which variables occur.
-use Rattle.std.proofs.Common.{◌≡◌, ◌≢◌, ◌≤◌, ◌<◌, ◌+◌, ℕ, zero, suc, Bool, true, false, ◌&&◌, ◌||◌, eqb, List, [], ◌∷◌, length, get_or, inl, inr, arith, refl, sym, ap, ◌∙◌, subst, Some, None, true≢false, not-suc-le-zero, le_of_suc-le-suc}
+use Rattle.std.proofs.Common.{◌≡◌, ◌≢◌, ◌≤◌, ◌<◌, ◌+◌, ℕ, suc, Bool, true, false, ◌&&◌, ◌||◌, eqb, List, [], ◌∷◌, length, get_or, inl, inr, arith, refl, sym, ap, ◌∙◌, subst, Some, None}
 use Rattle.std.proofs.lemmas.Bool.Decides.{nat_tests}
 use Rattle.q_logic.specs.Prelude.{Literal, literal_eq, bool_eq, Clause, Matrix, IsIn, without, has_variable, occurs, Slots, slot, set_slot, live, others}
-use Rattle.q_logic.proofs.Common.{SameClauses, IsIn-alike, alike-sym, occurs_var-find, occurs_var-IsIn, without-IsIn, IsIn-without, slot-alike}
+use Rattle.q_logic.proofs.Common.{SameClauses, IsIn-alike, alike-sym, occurs_var-find, occurs_var-IsIn, without-IsIn, IsIn-without, slot-alike, has_variable-find, has_variable-IsIn, get_or-IsIn}
+use Rattle.q_logic.proofs.Booleans.{same_truth}
+use Rattle.q_logic.proofs.HintedRuns.{live-changed}
+use Rattle.q_logic.proofs.HintChains.{live-number}
 use Rattle.q_arena.specs.Prelude.{Has, Chains, Clauses, start_at}
 use Rattle.q_occ.specs.Places.{no_lit, places_of, IsPlaceIn, AreExact}
-use Rattle.q_kernel.proofs.SlotLists.{same-bool, slot-get, IsIn-slot, slot-IsIn, alike-added, alike-replaced}
+use Rattle.q_kernel.proofs.SlotLists.{slot-get, slot-IsIn, alike-added}
 
 -- A literal at a place of a clause is one of its literals, and the other way round.
-pub get-IsIn : (C : Clause) (i : ℕ) (d : Literal) → i < length C → IsIn (get_or C i d) C
-get-IsIn [] i d h = absurd (not-suc-le-zero h)
-get-IsIn (k ∷ C) zero d h = inl refl
-get-IsIn (k ∷ C) (suc i) d h = inr (get-IsIn C i d (le_of_suc-le-suc h))
-
 pub IsIn-get : (C : Clause) (l d : Literal) → IsIn l C → (i : ℕ) × (i < length C) × (get_or C i d ≡ l)
 IsIn-get [] l d m = elim m [ ]
 IsIn-get (k ∷ C) l d (inl e) = (0, omega arith, sym e)
@@ -35,7 +33,7 @@ module _ (o : Chains) (a : Clauses) (x : AreAll o a) where
   place-clause l p h =
       let r : (id : ℕ) × (true ≡ true) × IsPlaceIn a id l p × (get_or o.owners p 0 ≡ id) = x.listed l p h in
       let i : IsPlaceIn a r.0 l p = r.2 in
-      (i.clause, subst (λ (c : ℕ). slot a.clauses c ≡ Some i.clause) (sym r.3) (slot-get a.clauses r.0 ∙ i.live), subst (λ (k : Literal). IsIn k i.clause) i.of (get-IsIn i.clause i.at_index no_lit i.in_range))
+      (i.clause, subst (λ (c : ℕ). slot a.clauses c ≡ Some i.clause) (sym r.3) (slot-get a.clauses r.0 ∙ i.live), subst (λ (k : Literal). IsIn k i.clause) i.of (get_or-IsIn i.clause i.at_index no_lit i.in_range))
 
   pub clause-place : (l : Literal) (c : ℕ) (C : Clause) → slot a.clauses c ≡ Some C → IsIn l C → (p : ℕ) × Has (places_of o l) p
   clause-place l c C e m =
@@ -45,7 +43,7 @@ module _ (o : Chains) (a : Clauses) (x : AreAll o a) where
   -- An empty list: no clause holds the literal.
   pub empty-none : (l : Literal) → places_of o l ≡ [] → (D : Clause) → IsIn D (live a.clauses) → IsIn l D → ⊥
   empty-none l e D m i =
-      let s : (c : ℕ) × (slot a.clauses c ≡ Some D) = IsIn-slot a.clauses D m in
+      let s : (c : ℕ) × (slot a.clauses c ≡ Some D) = live-number a.clauses D m in
       let p : (p : ℕ) × Has (places_of o l) p = clause-place l s.0 D s.1 i in
       subst (λ (ys : List ℕ). Has ys p.0) e p.1
 
@@ -65,7 +63,7 @@ module _ (o : Chains) (a : Clauses) (x : AreAll o a) where
 
 -- Variables occur by the clauses alone, and not by their order.
 pub occurs-alike : (v : ℕ) (X Y : Matrix) → SameClauses X Y → occurs v X ≡ occurs v Y
-occurs-alike v X Y s = same-bool (occurs v X) (occurs v Y) (over X Y s) (over Y X (alike-sym X Y s))
+occurs-alike v X Y s = same_truth (occurs v X) (occurs v Y) (over X Y s) (over Y X (alike-sym X Y s))
   where
     over : (A B : Matrix) → SameClauses A B → occurs v A ≡ true → occurs v B ≡ true
     over A B t h = let r : (D : Clause) × (k : Literal) × IsIn D A × IsIn k D × (k.var ≡ v) = occurs_var-find v A h in
@@ -75,30 +73,16 @@ pub occurs-added : (v : ℕ) (N : Slots) (c : ℕ) (D : Clause) → slot N c ≡
 occurs-added v N c D h b = occurs-alike v (live (set_slot c (Some D) N)) (D ∷ live N) (alike-added N c D h b)
 
 pub occurs-replaced : (v : ℕ) (N : Slots) (c : ℕ) (C D : Clause) → slot N c ≡ Some C → occurs v (live (set_slot c (Some D) N)) ≡ (has_variable v D || occurs v (others c N))
-occurs-replaced v N c C D h = occurs-alike v (live (set_slot c (Some D) N)) (D ∷ others c N) (alike-replaced N c C D h)
+occurs-replaced v N c C D h = occurs-alike v (live (set_slot c (Some D) N)) (D ∷ others c N) (live-changed N c C D h)
 
 pub occurs-beside : (v : ℕ) (N : Slots) (c : ℕ) (C : Clause) → slot N c ≡ Some C → occurs v (live N) ≡ (has_variable v C || occurs v (others c N))
 occurs-beside v N c C h = occurs-alike v (live N) (C ∷ others c N) (slot-alike N c C h)
-
--- A clause loses a literal: at most its variable stops to occur.
-has_variable-find : (v : ℕ) (C : Clause) → has_variable v C ≡ true → (k : Literal) × IsIn k C × (k.var ≡ v)
-has_variable-find v [] h = absurd (true≢false (sym h))
-has_variable-find v (j ∷ C) h = go (eqb j.var v) refl h (has_variable-find v C)
-  where
-    go : (b : Bool) → eqb j.var v ≡ b → (b || has_variable v C) ≡ true → (has_variable v C ≡ true → (k : Literal) × IsIn k C × (k.var ≡ v)) → (k : Literal) × IsIn k (j ∷ C) × (k.var ≡ v)
-    go true q t ih = (j, inl refl, grind arith)
-    go false q t ih = let r : (k : Literal) × IsIn k C × (k.var ≡ v) = ih t in (r.0, inr r.1, r.2)
-
-has_variable-IsIn : (C : Clause) (k : Literal) → IsIn k C → has_variable k.var C ≡ true
-has_variable-IsIn [] k m = elim m [ ]
-has_variable-IsIn (j ∷ C) k (inl e) = let z : k.var ≡ j.var = ap (λ (y : Literal). y.var) e in grind arith
-has_variable-IsIn (j ∷ C) k (inr m) = let i : has_variable k.var C ≡ true = has_variable-IsIn C k m in grind arith
 
 other-literal : (k l : Literal) → k.var ≢ l.var → literal_eq k l ≡ false
 other-literal k l n = let e : eqb k.var l.var ≡ false = grind (arith, nat_tests) in ap (λ (b : Bool). b && bool_eq k.negative l.negative) e
 
 pub has_variable-without : (v : ℕ) (l : Literal) (C : Clause) → v ≢ l.var → has_variable v (without l C) ≡ has_variable v C
-has_variable-without v l C n = same-bool (has_variable v (without l C)) (has_variable v C) back over
+has_variable-without v l C n = same_truth (has_variable v (without l C)) (has_variable v C) back over
   where
     over : has_variable v C ≡ true → has_variable v (without l C) ≡ true
     over h = let r : (k : Literal) × IsIn k C × (k.var ≡ v) = has_variable-find v C h in

@@ -2,10 +2,11 @@
 use Rattle.std.proofs.Common.{◌≡◌, ◌↔◌, ◌≤◌, ◌<◌, ◌+◌, ◌-◌, ◌*◌, ℕ, zero, suc, Bool, true, false, ◌||◌, cond, eqb, List, [], ◌∷◌, ◌++◌, length, get_or, slice_get, take, drop, inl, inr, arith, refl, sym, ap, ◌∙◌, subst, Some, None, add-one, true≢false, append_assoc, length-append}
 use Rattle.std.proofs.lemmas.List.{append-nil}
 use Rattle.std.proofs.lemmas.Bool.Decides.{nat_tests}
+use Rattle.std.proofs.lemmas.Option.{same_Some, none-some}
+use Rattle.std.proofs.lemmas.Bool.{cases_eq}
 use Rattle.q_logic.specs.declared.formulas.Bound.{Bound}
 use Rattle.q_logic.specs.Prelude.{Clause, Matrix, Prefix, is_bound, Distinct, literals_in, greatest, pack, IsProper, Slots, live, formula_of, size_of, copies, occurs}
 use Rattle.q_arena.specs.Prelude.{Has, Chains, list_at, Clauses}
-use Rattle.q_arena.proofs.NumberCases.{ℕ-cases, some-same, none-some}
 use Rattle.q_prefix.specs.Order.{FlatPrefix, bound_after}
 use Rattle.q_kernel.specs.Uses.{Groups, AreUses, IsGrouped}
 use Rattle.q_kernel.proofs.VariableCounts.{greatest-bound}
@@ -15,12 +16,12 @@ use Rattle.q_kernel.specs.Invariant.{IsKernel}
 use Rattle.q_kernel.specs.Singles.{units_in}
 use Rattle.q_kernel.proofs.KernelInvariant.{listed-occurs}
 use Rattle.q_kernel.proofs.GroupChanges.{uses-same}
-use Rattle.q_logic.proofs.Common.{is_bound-greatest}
+use Rattle.q_logic.proofs.Common.{is_bound-greatest, get_or-is_bound, distinct-at}
 
 -- The number of literals, from the front.
 literals-suc : (X : Matrix) (k : ℕ) (C : Clause) → slice_get X k ≡ Some C → literals_in (drop k X) ≡ length C + literals_in (drop (suc k) X)
 literals-suc [] k C e = absurd (let z : None ≡ Some C = e in cc)
-literals-suc (D ∷ X) zero C e = let q : D ≡ C = some-same D C e in ap (λ (E : Clause). length E + literals_in X) q
+literals-suc (D ∷ X) zero C e = let q : D ≡ C = same_Some D C e in ap (λ (E : Clause). length E + literals_in X) q
 literals-suc (D ∷ X) (suc k) C e = literals-suc X k C e
 
 pub literals-next : (X : Matrix) (k : ℕ) (C : Clause) → slice_get X k ≡ Some C → literals_in (drop k X) ≡ length C + literals_in (drop (k + 1) X)
@@ -28,19 +29,19 @@ literals-next X k C e = literals-suc X k C e ∙ ap (λ (n : ℕ). length C + li
 
 -- A number with no variable from it on upwards.
 pub top-lower : (P : Prefix) (top : ℕ) → greatest P ≤ top → 0 < top → is_bound P top ≡ false → greatest P ≤ top - 1
-top-lower P top h p n = elim (ℕ-cases (greatest P) top) [
+top-lower P top h p n = elim (cases_eq (greatest P) top) [
   | inl e ↦ absurd (true≢false (sym (subst (λ (v : ℕ). is_bound P v ≡ true) e (greatest-bound P (omega arith))) ∙ n))
   | inr d ↦ omega arith
 ]
 
 -- What follows a variable.
-bound-in : (xs P : Prefix) (b : Bound) → is_bound (xs ++ b ∷ P) b.var ≡ true
+pub bound-in : (xs P : Prefix) (b : Bound) → is_bound (xs ++ b ∷ P) b.var ≡ true
 bound-in [] P b = grind (arith, nat_tests)
 bound-in (x ∷ xs) P b = let i : is_bound (xs ++ b ∷ P) b.var ≡ true = bound-in xs P b in grind arith
 
 pub after-front : (xs P : Prefix) (b : Bound) → Distinct (xs ++ b ∷ P) → bound_after (xs ++ b ∷ P) b.var ≡ slice_get P 0
 after-front [] P b d = let t : eqb b.var b.var ≡ true = grind (arith, nat_tests) in ap (λ (t : Bool). cond t (slice_get P 0) (bound_after P b.var)) t
-after-front (x ∷ xs) P b d = elim (ℕ-cases x.var b.var) [
+after-front (x ∷ xs) P b d = elim (cases_eq x.var b.var) [
   | inl e ↦ absurd (true≢false (sym (subst (λ (v : ℕ). is_bound (xs ++ b ∷ P) v ≡ true) (sym e) (bound-in xs P b)) ∙ d.0))
   | inr n ↦
       let t : eqb x.var b.var ≡ false = grind (arith, nat_tests) in
@@ -68,23 +69,8 @@ after-none xs [] P e f = sym (append-nil xs) ∙ e
 after-none xs (x ∷ rest) P e f = absurd (let z : None ≡ Some x = f in cc)
 
 -- The first variables of a prefix.
-member-bound : (P : Prefix) (k : ℕ) (d : Bound) → k < length P → is_bound P (get_or P k d).var ≡ true
-member-bound [] k d h = absurd (omega arith)
-member-bound (b ∷ P) zero d h = grind (arith, nat_tests)
-member-bound (b ∷ P) (suc k) d h = let i : is_bound P (get_or P k d).var ≡ true = member-bound P k d (omega arith) in grind arith
-
 pub item-bound : (P : Prefix) (k : ℕ) (d b : Bound) → k < length P → b ≡ get_or P k d → is_bound P b.var ≡ true
-item-bound P k d b h e = subst (λ (q : Bound). is_bound P q.var ≡ true) (sym e) (member-bound P k d h)
-
-not-before : (P : Prefix) (k : ℕ) (d : Bound) → Distinct P → k < length P → is_bound (take k P) (get_or P k d).var ≡ false
-not-before [] k d a h = absurd (omega arith)
-not-before (b ∷ P) zero d a h = refl
-not-before (b ∷ P) (suc k) d a h = elim (ℕ-cases b.var (get_or P k d).var) [
-  | inl e ↦ absurd (true≢false (sym (subst (λ (v : ℕ). is_bound P v ≡ true) (sym e) (member-bound P k d (omega arith))) ∙ a.0))
-  | inr n ↦
-      let t : eqb b.var (get_or P k d).var ≡ false = grind (arith, nat_tests) in
-      ap (λ (t : Bool). cond t true (is_bound (take k P) (get_or P k d).var)) t ∙ not-before P k d a.1 (omega arith)
-]
+item-bound P k d b h e = subst (λ (q : Bound). is_bound P q.var ≡ true) (sym e) (get_or-is_bound P k d h)
 
 next-bound : (P : Prefix) (k : ℕ) (d : Bound) (v : ℕ) → k < length P → is_bound (take (suc k) P) v ≡ (is_bound (take k P) v || eqb (get_or P k d).var v)
 next-bound [] k d v h = absurd (omega arith)
@@ -106,7 +92,7 @@ pub record AreIdle (g : Groups) (P : Prefix) : Type 0 where
   pub universals : g.universals ≡ []
 
 pub idle-absent : (g : Groups) (P : Prefix) (k : ℕ) (d b : Bound) → Distinct P → k < length P → b ≡ get_or P k d → AreIdle g (take k P) → IsGrouped g b.var → ⊥
-idle-absent g P k d b a h e i (inl x) = true≢false (sym ((i.idle b.var).0 x) ∙ subst (λ (q : Bound). is_bound (take k P) q.var ≡ false) (sym e) (not-before P k d a h))
+idle-absent g P k d b a h e i (inl x) = true≢false (sym ((i.idle b.var).0 x) ∙ subst (λ (q : Bound). is_bound (take k P) q.var ≡ false) (sym e) (distinct-at P k d a h))
 idle-absent g P k d b a h e i (inr (inl x)) = subst (λ (ys : List ℕ). Has ys b.var) i.existentials x
 idle-absent g P k d b a h e i (inr (inr x)) = subst (λ (ys : List ℕ). Has ys b.var) i.universals x
 
@@ -125,7 +111,7 @@ idle-more g n P k d b h e i ei ee eu = record {
     into v (inr x) = let t : is_bound (take k P) v ≡ true = (i.idle v).0 x in let m = next v in grind arith
 
     from : (v : ℕ) → is_bound (take (k + 1) P) v ≡ true → Has (b.var ∷ g.idle) v
-    from v x = elim (ℕ-cases v b.var) [
+    from v x = elim (cases_eq v b.var) [
       | inl q ↦ inl q
       | inr q ↦
           let t : eqb b.var v ≡ false = grind (arith, nat_tests) in
@@ -155,5 +141,5 @@ kernel-bare P a o g most proper clauses room empty lists rows marks uses top =
 -- A clause at a place.
 pub slice-item : (X : Matrix) (k : ℕ) (d C : Clause) → slice_get X k ≡ Some C → get_or X k d ≡ C
 slice-item [] k d C e = absurd (let z : None ≡ Some C = e in cc)
-slice-item (D ∷ X) zero d C e = some-same D C e
+slice-item (D ∷ X) zero d C e = same_Some D C e
 slice-item (D ∷ X) (suc k) d C e = slice-item X k d C e

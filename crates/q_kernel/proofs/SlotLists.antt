@@ -1,9 +1,13 @@
 -- Numbered clauses as std's lists, and what a change at one number does to them.
-use Rattle.std.proofs.Common.{◌≡◌, ◌≢◌, ◌≤◌, ◌<◌, ◌+◌, ℕ, zero, suc, Bool, true, false, [], ◌∷◌, inl, inr, arith, refl, sym, ap, ◌∙◌, subst, Option, Some, None, length, set, get_or, le_of_suc-le-suc, not-suc-le-zero}
-use Rattle.q_logic.specs.Prelude.{Clause, Matrix, IsIn, Literal, Slots, slot, set_slot, live, others, put_first, numbered, size_of, literals_in, one_less, has_empty}
+use Rattle.std.proofs.Common.{◌≡◌, ◌≢◌, ◌≤◌, ◌<◌, ◌+◌, ℕ, zero, suc, true, [], ◌∷◌, inl, inr, arith, refl, sym, ap, ◌∙◌, subst, Option, Some, None, length, set, get_or, le_of_suc-le-suc, not-suc-le-zero}
+use Rattle.q_logic.specs.Prelude.{Clause, Matrix, IsIn, Literal, Slots, slot, set_slot, live, others, put_first, size_of, literals_in, one_less, has_empty}
 use Rattle.q_arena.specs.Prelude.{live_in}
 use Rattle.q_kernel.specs.Singles.{unit_ones, units_in}
-use Rattle.q_logic.proofs.Common.{slot-alike, live-slot, live-without, SameClauses, alike-sym, alike-trans, alike-cons, alike-uncons, one_less-alike, IsIn-alike}
+use Rattle.q_logic.proofs.Common.{slot-alike, live-slot, SameClauses, alike-sym, alike-trans, alike-cons, alike-uncons, one_less-alike, IsIn-alike, live-gone, slot-below}
+use Rattle.q_logic.proofs.Booleans.{same_truth}
+use Rattle.q_logic.proofs.HintedRuns.{live-changed}
+use Rattle.q_logic.proofs.HintChains.{live-number}
+use Rattle.q_logic.proofs.SweepRun.{has_empty-IsIn}
 
 -- As lists.
 pub slot-get : (N : Slots) (c : ℕ) → slot N c ≡ get_or N c None
@@ -16,16 +20,6 @@ set_slot-set c o [] = refl
 set_slot-set zero o (p ∷ N) = refl
 set_slot-set (suc c) o (p ∷ N) = ap (λ (M : Slots). p ∷ M) (set_slot-set c o N)
 
-pub length-set_slot : (c : ℕ) (o : Option Clause) (N : Slots) → length (set_slot c o N) ≡ length N
-length-set_slot c o [] = refl
-length-set_slot zero o (p ∷ N) = refl
-length-set_slot (suc c) o (p ∷ N) = ap suc (length-set_slot c o N)
-
-pub slot-below : (N : Slots) (c : ℕ) (C : Clause) → slot N c ≡ Some C → c < length N
-slot-below [] c C h = grind arith
-slot-below (o ∷ N) zero C h = omega arith
-slot-below (o ∷ N) (suc c) C h = let i : c < length N = slot-below N c C h in omega arith
-
 pub slot-set_same : (c : ℕ) (o : Option Clause) (N : Slots) → c < length N → slot (set_slot c o N) c ≡ o
 slot-set_same c o [] h = absurd (not-suc-le-zero h)
 slot-set_same zero o (p ∷ N) h = refl
@@ -37,10 +31,6 @@ slot-set_other zero zero o (p ∷ N) n = absurd (n refl)
 slot-set_other zero (suc d) o (p ∷ N) n = refl
 slot-set_other (suc c) zero o (p ∷ N) n = refl
 slot-set_other (suc c) (suc d) o (p ∷ N) n = slot-set_other c d o N (λ e. n (ap suc e))
-
--- All clauses after a change.
-pub live-gone : (N : Slots) (c : ℕ) → live (set_slot c None N) ≡ others c N
-live-gone N c = live-without N c
 
 pub others-set : (N : Slots) (c : ℕ) (o : Option Clause) → others c (set_slot c o N) ≡ others c N
 others-set [] c o = refl
@@ -56,9 +46,6 @@ pub alike-set : (N : Slots) (c : ℕ) (D : Clause) → c < length N → SameClau
 alike-set N c D h = subst (λ (X : Matrix). SameClauses (live (set_slot c (Some D) N)) (D ∷ X)) (others-set N c (Some D))
     (slot-alike (set_slot c (Some D) N) c D (slot-set_same c (Some D) N h))
 
-pub alike-replaced : (N : Slots) (c : ℕ) (C D : Clause) → slot N c ≡ Some C → SameClauses (live (set_slot c (Some D) N)) (D ∷ others c N)
-alike-replaced N c C D h = alike-set N c D (slot-below N c C h)
-
 pub alike-added : (N : Slots) (c : ℕ) (D : Clause) → slot N c ≡ None → c < length N → SameClauses (live (set_slot c (Some D) N)) (D ∷ live N)
 alike-added N c D h b = subst (λ (X : Matrix). SameClauses (live (set_slot c (Some D) N)) (D ∷ X)) (others-none N c h) (alike-set N c D b)
 
@@ -68,16 +55,13 @@ alike-others N c C h = alike-uncons C (others c N) (one_less C (live N))
     (alike-trans (C ∷ others c N) (live N) (C ∷ one_less C (live N)) (alike-sym (live N) (C ∷ others c N) (slot-alike N c C h))
     (one_less-alike C (live N) (live-slot N c C h)))
 
-pub alike-deleted : (N : Slots) (c : ℕ) (C : Clause) → slot N c ≡ Some C → SameClauses (one_less C (live N)) (live (set_slot c None N))
-alike-deleted N c C h = subst (SameClauses (one_less C (live N))) (sym (live-gone N c)) (alike-sym (others c N) (one_less C (live N)) (alike-others N c C h))
-
 pub alike-changed : (N : Slots) (c : ℕ) (C D : Clause) → slot N c ≡ Some C → SameClauses (D ∷ one_less C (live N)) (live (set_slot c (Some D) N))
 alike-changed N c C D h = alike-sym (live (set_slot c (Some D) N)) (D ∷ one_less C (live N))
-    (alike-trans (live (set_slot c (Some D) N)) (D ∷ others c N) (D ∷ one_less C (live N)) (alike-replaced N c C D h)
+    (alike-trans (live (set_slot c (Some D) N)) (D ∷ others c N) (D ∷ one_less C (live N)) (live-changed N c C D h)
     (alike-cons D (others c N) (one_less C (live N)) (alike-others N c C h)))
 
 -- Slots with one clause at each number have the same clauses in the same order.
-live-none : (N : Slots) → ((c : ℕ) → slot N c ≡ None) → live N ≡ []
+pub live-none : (N : Slots) → ((c : ℕ) → slot N c ≡ None) → live N ≡ []
 live-none [] h = refl
 live-none (o ∷ N) h = let e : o ≡ None = h 0 in subst (λ (q : Option Clause). put_first q (live N) ≡ []) (sym e) (live-none N (λ c. h (suc c)))
 
@@ -87,19 +71,8 @@ live-same (o ∷ M) [] h = live-none (o ∷ M) h
 live-same (o ∷ M) (p ∷ N) h = let e : o ≡ p = h 0 in subst (λ (q : Option Clause). put_first o (live M) ≡ put_first q (live N)) e (ap (put_first o) (live-same M N (λ c. h (suc c))))
 
 -- Members.
-pub IsIn-slot : (N : Slots) (D : Clause) → IsIn D (live N) → (c : ℕ) × (slot N c ≡ Some D)
-IsIn-slot [] D m = elim m [ ]
-IsIn-slot (None ∷ N) D m = let i : (c : ℕ) × (slot N c ≡ Some D) = IsIn-slot N D m in (suc i.0, i.1)
-IsIn-slot (Some C ∷ N) D (inl e) = (0, ap Some (sym e))
-IsIn-slot (Some C ∷ N) D (inr m) = let i : (c : ℕ) × (slot N c ≡ Some D) = IsIn-slot N D m in (suc i.0, i.1)
-
 pub slot-IsIn : (N : Slots) (c : ℕ) (D : Clause) → slot N c ≡ Some D → IsIn D (live N)
 slot-IsIn N c D h = live-slot N c D h
-
--- A clause numbered in order.
-pub live-numbered : (X : Matrix) → live (numbered X) ≡ X
-live-numbered [] = refl
-live-numbered (C ∷ X) = ap (λ (Y : Matrix). C ∷ Y) (live-numbered X)
 
 -- Counts.
 pub live_in-length : (N : Slots) → live_in N ≡ length (live N)
@@ -213,28 +186,17 @@ units-find ((l ∷ k ∷ C) ∷ X) h = let i : (j : Literal) × IsIn (j ∷ []) 
 pub units-some : (N : Slots) → 1 ≤ units_in (live N) → (c : ℕ) × (l : Literal) × (slot N c ≡ Some (l ∷ []))
 units-some N h =
     let i : (l : Literal) × IsIn (l ∷ []) (live N) = units-find (live N) h in
-    let j : (c : ℕ) × (slot N c ≡ Some (i.0 ∷ [])) = IsIn-slot N (i.0 ∷ []) i.1 in
+    let j : (c : ℕ) × (slot N c ≡ Some (i.0 ∷ [])) = live-number N (i.0 ∷ []) i.1 in
     (j.0, i.0, j.1)
 
 -- The empty clause.
-pub has_empty-IsIn : (X : Matrix) → has_empty X ≡ true → IsIn [] X
-has_empty-IsIn [] h = grind arith
-has_empty-IsIn ([] ∷ X) h = inl refl
-has_empty-IsIn ((k ∷ C) ∷ X) h = inr (has_empty-IsIn X h)
-
 pub IsIn-has_empty : (X : Matrix) → IsIn [] X → has_empty X ≡ true
 IsIn-has_empty [] m = elim m [ ]
 IsIn-has_empty ([] ∷ X) m = refl
 IsIn-has_empty ((k ∷ C) ∷ X) (inl e) = grind arith
 IsIn-has_empty ((k ∷ C) ∷ X) (inr m) = IsIn-has_empty X m
 
-pub same-bool : (a b : Bool) → (a ≡ true → b ≡ true) → (b ≡ true → a ≡ true) → a ≡ b
-same-bool true true f g = refl
-same-bool false false f g = refl
-same-bool true false f g = sym (f refl)
-same-bool false true f g = g refl
-
 pub has_empty-alike : (X Y : Matrix) → SameClauses X Y → has_empty X ≡ has_empty Y
-has_empty-alike X Y s = same-bool (has_empty X) (has_empty Y)
+has_empty-alike X Y s = same_truth (has_empty X) (has_empty Y)
     (λ h. IsIn-has_empty Y (IsIn-alike X Y s [] (has_empty-IsIn X h)))
     (λ h. IsIn-has_empty X (IsIn-alike Y X (alike-sym X Y s) [] (has_empty-IsIn Y h)))

@@ -1,19 +1,16 @@
 -- Sweeping step by step: the clauses beside an empty one go, and then the idle variables.
 use Rattle.std.proofs.Common.{◌≡◌, ◌≢◌, ◌⊎◌, ◌≤◌, ◌<◌, ◌+◌, ◌*◌, ℕ, zero, suc, Bool, true, false, cond, eqb, List, [], ◌∷◌, length, slice_get, inl, inr, arith, refl, sym, ap, ◌∙◌, subst, Option, Some, None, true≢false, not-suc-le-zero}
-use Rattle.q_logic.specs.Prelude.{Literal, Clause, Matrix, Prefix, IsIn, PrenexFormula, IsProper, is_bound, standard, delete, remove_variable, Valid, one_less, removed_from, first_of, copies, has_empty, occurs, occurring, size_of, Slots, slot, set_slot, live, others, put_first}
-use Rattle.q_logic.proofs.Common.{IsIn-alike, copies-IsIn, IsIn-copies, others-slot, implied-subsumed}
-use Rattle.q_logic.proofs.SweepRun.{occurs_var-of}
+use Rattle.q_logic.specs.Prelude.{Literal, Clause, Matrix, Prefix, IsIn, PrenexFormula, IsProper, is_bound, standard, delete, remove_variable, Valid, one_less, removed_from, first_of, copies, has_empty, occurs, size_of, Slots, slot, set_slot, live, others, put_first}
+use Rattle.q_logic.proofs.Common.{IsIn-alike, copies-IsIn, IsIn-copies, others-slot, implied-subsumed, before_or_at, slot-below}
+use Rattle.q_logic.proofs.SweepRun.{occurs_var-of, has_empty-IsIn}
 use Rattle.q_log.specs.Texts.{step_text}
+use Rattle.q_log.proofs.WritableRuns.{first-of}
 use Rattle.q_kernel.specs.Kernels.{Seen, slots, formula_in}
 use Rattle.q_kernel.specs.Changes.{MayStep}
-use Rattle.q_kernel.proofs.SlotLists.{slot-IsIn, slot-set_same, slot-set_other, slot-below, alike-others, has_empty-IsIn, IsIn-has_empty, size-gone}
-use Rattle.q_kernel.proofs.TextCosts.{cost-delete, cost-remove, first-first, proper-in_order, proper-small, proper-var}
+use Rattle.q_kernel.proofs.SlotLists.{slot-IsIn, slot-set_same, slot-set_other, alike-others, IsIn-has_empty, size-gone, live-none}
+use Rattle.q_kernel.proofs.TextCosts.{cost-delete, cost-remove, proper-in_order, proper-small, proper-var}
 
 -- What sweeping leaves.
-pub occurring-none : (P : Prefix) → occurring P ([] ∷ []) ≡ []
-occurring-none [] = refl
-occurring-none (b ∷ P) = occurring-none P
-
 pub counted-empty : (X : Matrix) → 1 ≤ copies [] X → has_empty X ≡ true
 counted-empty X h = IsIn-has_empty X (copies-IsIn [] X h)
 
@@ -41,7 +38,7 @@ may-delete k kept c C f e s n b = record {
 }
   where
     delete-cost : (k : Seen) (c : ℕ) (C : Clause) → IsProper (formula_in k) → slot (slots k) c ≡ Some C → length (step_text (delete (first_of C) C)) ≤ 16 * (length C + 1)
-    delete-cost k c C f s = let m : IsIn C (live (slots k)) = slot-IsIn (slots k) c C s in cost-delete (first_of C) C (proper-in_order (formula_in k) C f m) (first-first C) (proper-small (formula_in k) C f m)
+    delete-cost k c C f s = let m : IsIn C (live (slots k)) = slot-IsIn (slots k) c C s in cost-delete (first_of C) C (proper-in_order (formula_in k) C f m) (first-of C) (proper-small (formula_in k) C f m)
 
     room : (s t p b n d : ℕ) → s ≡ t + (n + 1) → d ≤ 16 * (n + 1) → 16 * (s + p) ≤ b → d ≤ b
     room s t p b n d e f g = omega arith
@@ -52,7 +49,7 @@ pub spare-after_delete : (k : Seen) (c : ℕ) (C : Clause) (new : ℕ) → IsPro
 spare-after_delete k c C new f s b e =
     let m : IsIn C (live (slots k)) = slot-IsIn (slots k) c C s in
     left (size_of (live (slots k))) (size_of (live (set_slot c None (slots k)))) (length k.prefix) k.spare_bytes new (length C) (length (step_text (delete (first_of C) C))) (size-gone (slots k) c C s)
-    (cost-delete (first_of C) C (proper-in_order (formula_in k) C f m) (first-first C) (proper-small (formula_in k) C f m)) b e
+    (cost-delete (first_of C) C (proper-in_order (formula_in k) C f m) (first-of C) (proper-small (formula_in k) C f m)) b e
   where
     left : (s t p b r n d : ℕ) → s ≡ t + (n + 1) → d ≤ 16 * (n + 1) → 16 * (s + p) ≤ b → b ≡ r + d → 16 * (t + p) ≤ r
     left s t p b r n d e f g h = omega arith
@@ -102,14 +99,11 @@ pub record IsAlone (N : Slots) (kept from : ℕ) : Type 0 where
 pub alone-first : (N : Slots) (kept : ℕ) → slot N kept ≡ Some [] → IsAlone N kept 0
 alone-first N kept e = record { there = e; gone = λ c h n. absurd (not-suc-le-zero h) }
 
-case-below : (c id : ℕ) → c < id + 1 → (c < id) ⊎ (c ≡ id)
-case-below c id h = grind arith
-
 -- the empty clause itself, or one that has been deleted
 pub alone-kept : (N : Slots) (kept from id : ℕ) → IsAlone N kept from → ((c : ℕ) → from ≤ c → c < id → slot N c ≡ None) → id ≡ kept → IsAlone N kept (id + 1)
 alone-kept N kept from id a least e = record {
   there = a.there;
-  gone = λ c h n. elim (case-below c id h) [
+  gone = λ c h n. elim (before_or_at c id h) [
     | inl l ↦ below c l n
     | inr q ↦ absurd (n (q ∙ e))
   ];
@@ -127,7 +121,7 @@ alone-kept N kept from id a least e = record {
 pub alone-deleted : (N : Slots) (kept from id : ℕ) (C : Clause) → IsAlone N kept from → ((c : ℕ) → from ≤ c → c < id → slot N c ≡ None) → slot N id ≡ Some C → id ≢ kept → IsAlone (set_slot id None N) kept (id + 1)
 alone-deleted N kept from id C a least s d = record {
   there = slot-set_other id kept None N (λ e. d (sym e)) ∙ a.there;
-  gone = λ c h n. elim (case-below c id h) [
+  gone = λ c h n. elim (before_or_at c id h) [
     | inl l ↦ slot-set_other id c None N (apart c l) ∙ below c l n
     | inr q ↦ ap (slot (set_slot id None N)) q ∙ slot-set_same id None N (slot-below N id C s)
   ];
@@ -145,13 +139,9 @@ alone-deleted N kept from id C a least s d = record {
       | inr f ↦ least c f l
     ]
 
-live-no : (N : Slots) → ((c : ℕ) → slot N c ≡ None) → live N ≡ []
-live-no [] h = refl
-live-no (o ∷ N) h = let e : o ≡ None = h 0 in subst (λ (q : Option Clause). put_first q (live N) ≡ []) (sym e) (live-no N (λ c. h (suc c)))
-
 pub live-single : (N : Slots) (c : ℕ) (C : Clause) → slot N c ≡ Some C → ((d : ℕ) → d ≢ c → slot N d ≡ None) → live N ≡ C ∷ []
 live-single [] c C s h = grind arith
-live-single (o ∷ N) zero C s h = subst (λ (q : Option Clause). put_first q (live N) ≡ C ∷ []) (sym s) (ap (λ (X : Matrix). C ∷ X) (live-no N (λ d. h (suc d) (later d))))
+live-single (o ∷ N) zero C s h = subst (λ (q : Option Clause). put_first q (live N) ≡ C ∷ []) (sym s) (ap (λ (X : Matrix). C ∷ X) (live-none N (λ d. h (suc d) (later d))))
   where
     later : (d : ℕ) → suc d ≢ 0
     later d e = absurd (omega arith)

@@ -7,6 +7,7 @@ use Rattle.q_log.specs.Texts.{step_text, literals_text}
 use Rattle.q_text.specs.Numbers.{number_text, line_end}
 use Rattle.q_log.proofs.StepLengths.{step_text-short, in_front-length}
 use Rattle.q_log.proofs.LiteralTexts.{literal-short}
+use Rattle.q_log.proofs.WritableRuns.{first-of}
 
 -- Literals whose variables the code can hold.
 abbrev pub AreSmall : List Literal → Type 0
@@ -36,10 +37,6 @@ length-front (Some l) C o f = in_front-length l C o f
 at-length : (t n k : ℕ) → n ≡ k → t ≤ 16 * (n + 1) → t ≤ 16 * (k + 1)
 at-length t n k e h = omega arith
 
-pub first-first : (C : Clause) → IsFirst (first_of C) C
-first-first [] = refl
-first-first (l ∷ C) = inl refl
-
 pub cost-add : (p : Option Literal) (C : Clause) → ArePairs IsBelow C → IsFirst p C → AreSmall C → length (step_text (add p C)) ≤ 16 * (length C + 1)
 cost-add p C o f a = at-length (length (step_text (add p C))) (length (in_front p C)) (length C) (length-front p C o f) (step_text-short (add p C) (small-front p C f a))
 
@@ -53,8 +50,8 @@ cost-drop l C o m a = at-length (length (step_text (drop_literal l C))) (length 
 pub cost-shrink : (l : Literal) (C : Clause) → ArePairs IsBelow C → ArePairs IsBelow (without l C) → AreSmall C
     → length (step_text (add (first_of (without l C)) (without l C))) + length (step_text (delete (first_of C) C)) ≤ 32 * (length C + 1)
 cost-shrink l C o p a = both (length (step_text (add (first_of (without l C)) (without l C)))) (length (step_text (delete (first_of C) C))) (length (without l C)) (length C)
-    (cost-add (first_of (without l C)) (without l C) p (first-first (without l C)) (small-without l C a))
-    (cost-delete (first_of C) C o (first-first C) a) (without-shorter l C)
+    (cost-add (first_of (without l C)) (without l C) p (first-of (without l C)) (small-without l C a))
+    (cost-delete (first_of C) C o (first-of C) a) (without-shorter l C)
   where
     both : (s t m n : ℕ) → s ≤ 16 * (m + 1) → t ≤ 16 * (n + 1) → m ≤ n → s + t ≤ 32 * (n + 1)
     both s t m n x y z = omega arith

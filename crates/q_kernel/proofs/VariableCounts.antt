@@ -1,14 +1,14 @@
 -- How many variables occur, what is left of a prefix without the idle ones, and its greatest variable.
 use Rattle.std.proofs.Common.{◌≡◌, ◌⊎◌, ◌↔◌, ◌≤◌, ◌<◌, ◌+◌, ℕ, suc, Bool, true, false, cond, eqb, not, ◌&&◌, List, [], ◌∷◌, length, inl, inr, arith, refl, sym, ap, ◌∙◌, subst, true≢false}
 use Rattle.std.proofs.lemmas.Bool.Decides.{nat_tests}
+use Rattle.std.proofs.lemmas.Bool.{and_from, cases_eq}
 use Rattle.std.specs.List.{AllByRecursion}
 use Rattle.q_logic.specs.declared.formulas.Bound.{Bound}
 use Rattle.q_logic.specs.Prelude.{IsProper, Prefix, Matrix, PrenexFormula, is_exists, is_bound, is_existential, is_universal, Distinct, insert_after, removed_from, occurs, occurring, one_if, existentials_in, universals_in, greatest, larger_of}
 use Rattle.q_logic.specs.declared.formulas.Quant.{Quant}
 use Rattle.q_logic.specs.declared.formulas.Quant.TheVariants.{Exists}
-use Rattle.q_logic.proofs.Decided.{and-parts, and-both}
+use Rattle.q_logic.proofs.Decided.{and-parts}
 use Rattle.q_arena.specs.Prelude.{Has, AreApart, AreBelow, without}
-use Rattle.q_arena.proofs.NumberCases.{ℕ-cases}
 use Rattle.q_arena.proofs.RingPaths.{Misses-not, Misses-from}
 use Rattle.q_arena.proofs.RingLemmas.{Has-without, AreApart-without, length-without, length-below}
 use Rattle.q_arena.proofs.Layouts.{without-gone, Has-kept}
@@ -83,7 +83,7 @@ chosen-members q occ [] d v = ((λ h. elim h [ ]), (λ r. absurd (true≢false (
 chosen-members q occ (b ∷ P) d v = go (picked q occ b) refl (chosen-members q occ P d.1 v)
   where
     other : is_bound P v ≡ true → eqb b.var v ≡ false
-    other h = elim (ℕ-cases b.var v) [
+    other h = elim (cases_eq b.var v) [
       | inl e ↦ absurd (true≢false (sym h ∙ subst (λ (k : ℕ). is_bound P k ≡ false) e d.0))
       | inr n ↦ grind (arith, nat_tests)
     ]
@@ -97,9 +97,9 @@ chosen-members q occ (b ∷ P) d v = go (picked q occ b) refl (chosen-members q 
         (ap (λ (t : Bool). cond t (q b.quant) (of_quant q P v)) t ∙ r.0, ap occ e ∙ r.1)
 
     back : (of_quant q (b ∷ P) v ≡ true) × (occ v ≡ true) → ((v ≡ b.var) × (picked q occ b ≡ true)) ⊎ ((of_quant q P v ≡ true) × (occ v ≡ true))
-    back r = elim (ℕ-cases b.var v) [
+    back r = elim (cases_eq b.var v) [
       | inl e ↦ let t : eqb b.var v ≡ true = grind (arith, nat_tests) in
-          inl (sym e, and-both (q b.quant) (occ b.var) (sym (ap (λ (t : Bool). cond t (q b.quant) (of_quant q P v)) t) ∙ r.0) (ap occ e ∙ r.1))
+          inl (sym e, and_from (q b.quant) (occ b.var) (sym (ap (λ (t : Bool). cond t (q b.quant) (of_quant q P v)) t) ∙ r.0) (ap occ e ∙ r.1))
       | inr n ↦ let t : eqb b.var v ≡ false = grind (arith, nat_tests) in
           inr (sym (ap (λ (t : Bool). cond t (q b.quant) (of_quant q P v)) t) ∙ r.0, r.1)
     ]
@@ -192,7 +192,7 @@ module _ (g : Groups) (P : Prefix) (X : Matrix) (u : AreUses g P (λ v. occurs v
 -- An idle variable that leaves changes nothing of what sweeping leaves.
 pub occurring-removed : (v : ℕ) (P : Prefix) (X : Matrix) → occurs v X ≡ false → occurring (removed_from v P) X ≡ occurring P X
 occurring-removed v [] X o = refl
-occurring-removed v (b ∷ P) X o = elim (ℕ-cases b.var v) [
+occurring-removed v (b ∷ P) X o = elim (cases_eq b.var v) [
   | inl e ↦
       let t : eqb b.var v ≡ true = grind (arith, nat_tests) in
       let f : occurs b.var X ≡ false = subst (λ (k : ℕ). occurs k X ≡ false) (sym e) o in
@@ -208,7 +208,7 @@ larger-right m n = omega arith
 
 pub greatest-bound : (P : Prefix) → 1 ≤ greatest P → is_bound P (greatest P) ≡ true
 greatest-bound [] h = grind arith
-greatest-bound (b ∷ P) h = elim (ℕ-cases (larger_of b.var (greatest P)) b.var) [
+greatest-bound (b ∷ P) h = elim (cases_eq (larger_of b.var (greatest P)) b.var) [
   | inl e ↦ grind (arith, nat_tests)
   | inr n ↦
       let e : larger_of b.var (greatest P) ≡ greatest P = omega arith in

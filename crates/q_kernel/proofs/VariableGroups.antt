@@ -1,8 +1,8 @@
 -- The three lists of variables, after a variable came into one or left it.
 use Rattle.std.proofs.Common.{◌≡◌, ◌≢◌, ◌≤◌, ◌<◌, ◌⊎◌, ℕ, List, [], ◌∷◌, length, set, get_or, inl, inr, arith, sym, ap, ◌∙◌, subst}
 use Rattle.std.proofs.lemmas.List.{get_or-set_same, get_or-set_other}
+use Rattle.std.proofs.lemmas.Bool.{cases_eq}
 use Rattle.q_arena.specs.Prelude.{Has, AreApart, without, Chains, list_at}
-use Rattle.q_arena.proofs.NumberCases.{ℕ-cases}
 use Rattle.q_arena.proofs.ArenaView.{length-set'}
 use Rattle.q_arena.proofs.RingLemmas.{Has-without}
 use Rattle.q_arena.proofs.Layouts.{gone}
@@ -25,7 +25,7 @@ not-head h m a b e = absurd (omega arith)
 -- A variable left one of the lists.
 module _ (c n : Chains) (h v : ℕ) (t : AreTagged c) (b : h < 3) (e : n.lists ≡ set c.lists h (without v (list_at c h))) where
   left : (m w : ℕ) → Has (list_at n m) w → Has (list_at c m) w
-  left m w x = elim (ℕ-cases m h) [
+  left m w x = elim (cases_eq m h) [
     | inl q ↦
         let heads : 3 ≤ length c.lists = t.heads in
         let y = subst (λ (k : ℕ). Has (list_at n k) w) q x in
@@ -48,7 +48,7 @@ module _ (c n : Chains) (h v : ℕ) (t : AreTagged c) (b : h < 3) (e : n.lists �
 -- A variable came into one of the lists.
 module _ (c n : Chains) (h v : ℕ) (t : AreTagged c) (b : h < 3) (fresh : (m : ℕ) → Has (list_at c m) v → ⊥) (r : v < length c.owners) (e : n.lists ≡ set c.lists h (v ∷ list_at c h)) (o : n.owners ≡ set c.owners v h) where
   came : (m w : ℕ) → Has (list_at n m) w → ((m ≡ h) × (w ≡ v)) ⊎ Has (list_at c m) w
-  came m w x = elim (ℕ-cases m h) [
+  came m w x = elim (cases_eq m h) [
     | inl q ↦
         let heads : 3 ≤ length c.lists = t.heads in
         let y = subst (λ (k : ℕ). Has (list_at n k) w) q x in

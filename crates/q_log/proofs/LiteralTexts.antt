@@ -1,11 +1,12 @@
 -- The text of literals, one by one, and its length.
-use Rattle.std.proofs.Common.{◌≡◌, ℕ, suc, zero, ◌+◌, ◌^◌, ◌<◌, ◌≤◌, Bool, true, false, cond, List, [], ◌∷◌, ◌++◌, length, get_or, drop, refl, ap, arith, not-suc-le-zero, le_of_suc-le-suc, add-one, ℤ, pos, negsuc, inl, inr, Option, Some, None, length-append}
+use Rattle.std.proofs.Common.{◌≡◌, ℕ, suc, zero, ◌+◌, ◌^◌, ◌<◌, ◌≤◌, Bool, true, false, cond, List, [], ◌∷◌, ◌++◌, length, get_or, drop, refl, ap, arith, not-suc-le-zero, le_of_suc-le-suc, add-one, ℤ, pos, negsuc, Option, Some, None, length-append}
 use Rattle.std.specs.Int.Signed.{mag}
 use Rattle.std.proofs.lemmas.Bool.Decides.{nat_tests}
 use Rattle.std.specs.Fmt.{signed_decimal}
 use Rattle.std.proofs.lemmas.Fmt.{length_signed_le}
 use Rattle.std.specs.List.{AllByRecursion}
 use Rattle.q_logic.specs.Prelude.{Literal, literal_eq, number_of, pack, IsBelow, Clause, ArePairs, without, ProofStep, add, delete, drop_literal, fresh, remove_variable, IsStep, IsFirst, in_front, literals_of}
+use Rattle.q_logic.proofs.Common.{codes-grow, without-in_order}
 use Rattle.q_text.specs.Numbers.{number_text}
 pub use Rattle.q_text.proofs.LiteralLengths.{literal-short}
 use Rattle.q_log.specs.Texts.{literals_text}
@@ -46,13 +47,9 @@ without-done [] l = refl
 without-done (k ∷ ls) l = without-done ls l
 
 -- of literals in order, one at a later place has a greater code, so that there are few
-below-pack : (k l : Literal) → IsBelow k l → pack k < pack l
-below-pack k l (inl h) = grind (arith, nat_tests)
-below-pack k l (inr h) = rw (h.1, h.2) (omega arith)
-
 above-all : (k : Literal) (n : ℕ) (ls : List Literal) → n ≤ pack k → AllByRecursion (IsBelow k) ls → AllByRecursion (λ m. suc n ≤ pack m) ls
 above-all k n [] h a = tt
-above-all k n (l ∷ ls) h (a, as_) = (let e = below-pack k l a in omega arith, above-all k n ls h as_)
+above-all k n (l ∷ ls) h (a, as_) = (let e = codes-grow k l a in omega arith, above-all k n ls h as_)
 
 place-below : (ls : List Literal) (n i : ℕ) (d : Literal) → AllByRecursion (λ l. n ≤ pack l) ls → ArePairs IsBelow ls → i < length ls → n + i ≤ pack (get_or ls i d)
 place-below [] n i d a p h = absurd (not-suc-le-zero h)
@@ -85,21 +82,13 @@ without-all R l (k ∷ C) (a, as_) = go (literal_eq k l) (without-all R l C as_)
     go true ih = ih
     go false ih = (a, ih)
 
-pub without-ordered : (l : Literal) (C : Clause) → ArePairs IsBelow C → ArePairs IsBelow (without l C)
-without-ordered l [] p = tt
-without-ordered l (k ∷ C) (a, p) = go (literal_eq k l) (without-ordered l C p)
-  where
-    go : (b : Bool) → ArePairs IsBelow (without l C) → ArePairs IsBelow (cond b (without l C) (k ∷ without l C))
-    go true ih = ih
-    go false ih = (without-all (IsBelow k) l C a, ih)
-
 front-ordered : (p : Option Literal) (C : Clause) → ArePairs IsBelow C → IsFirst p C → ArePairs IsBelow (drop 1 (in_front p C))
 front-ordered None C o f = rw f tt
-front-ordered (Some l) C o f = without-ordered l C o
+front-ordered (Some l) C o f = without-in_order l C o
 
 pub step-ordered : (s : ProofStep) → IsStep s → ArePairs IsBelow (drop 1 (literals_of s))
 step-ordered (add p C) h = front-ordered p C h.0 h.1
 step-ordered (delete p C) h = front-ordered p C h.0 h.1
-step-ordered (drop_literal l C) h = without-ordered l C h.0
+step-ordered (drop_literal l C) h = without-in_order l C h.0
 step-ordered (fresh v w) h = (tt, tt)
 step-ordered (remove_variable v) h = tt

@@ -3,9 +3,10 @@ use Rattle.std.proofs.Common.{◌≡◌, ◌≤◌, ◌<◌, ◌+◌, ◌*◌, �
 use Rattle.std.specs.List.{AllByRecursion}
 use Rattle.q_logic.specs.declared.limits.Limits.{Limits}
 use Rattle.q_logic.specs.declared.formulas.Quant.TheVariants.{Exists}
-use Rattle.q_logic.specs.Prelude.{Literal, IsBelow, negation, pack, Clause, Matrix, Prefix, IsIn, PrenexFormula, blocks, SameBlocks, is_bound, ArePairs, IsProper, insert, clause_of, Chain, begin, more, Conflicts, negations, Implied, outer, without, ExistsPivot, ForallPivot, Reached, Reducible, has, ProofStep, add, delete, drop_literal, fresh, remove_variable, Valid, after, one_less, clause_eq, KeepsLimits, literals_in, Within, IsWarranted, IsDroppable, insert_after, removed_from, IsFirst, first_of, in_front, copies, ValidSteps, Run, standard, formula_of}
-use Rattle.q_logic.proofs.Common.{IsIn-append, IsIn-append_left, IsIn-outer, IsIn-append_right, IsIn-outer_in, without-other, has-IsIn, IsIn-has, existential-is_bound, pairs-ordered, ordered-pairs, without-ordered, clause_of-ordered, IsIn-clause_of, clause_of-IsIn, is_clause_of, clause_of-ordered_clause, IsIn-without, without-IsIn, clause_eq-sound, length-one_less, literals-one_less, SameClauses, IsIn-copies, IsIn-alike, alike-refl, alike-sym, alike-trans, alike-cons, alike-uncons, alike-swap, one_less-alike, SameBlocks-refl, AllByRecursion-IsIn}
+use Rattle.q_logic.specs.Prelude.{Literal, IsBelow, negation, Clause, Matrix, Prefix, IsIn, PrenexFormula, blocks, SameBlocks, is_bound, ArePairs, IsProper, clause_of, Chain, begin, more, Conflicts, negations, Implied, outer, without, ExistsPivot, ForallPivot, Reached, Reducible, has, ProofStep, add, delete, drop_literal, fresh, remove_variable, Valid, after, one_less, clause_eq, KeepsLimits, literals_in, Within, IsWarranted, IsDroppable, insert_after, removed_from, IsFirst, first_of, in_front, ValidSteps, Run, standard, formula_of}
+use Rattle.q_logic.proofs.Common.{IsIn-append, IsIn-append_left, IsIn-outer, IsIn-append_right, IsIn-outer_in, without-other, has-IsIn, IsIn-has, existential-is_bound, pairs-ordered, ordered-pairs, without-ordered, clause_of-ordered, IsIn-clause_of, clause_of-IsIn, is_clause_of, clause_of-ordered_clause, IsIn-without, without-IsIn, clause_eq-sound, SameClauses, IsIn-alike, alike-refl, alike-sym, alike-trans, alike-cons, alike-uncons, alike-swap, one_less-alike, SameBlocks-refl, AllByRecursion-IsIn, clause_of-length, same-sizes}
 use Rattle.q_logic.proofs.InOrder.{AreInOrder}
+use Rattle.q_logic.proofs.ClauseCounts.{no_copies}
 use Rattle.q_log.specs.Texts.{IsLogged}
 
 -- clauses with the same literals
@@ -128,7 +129,7 @@ tidy-one_less C (E ∷ X) m = go (clause_eq E C) refl m (tidy-one_less C X)
   where
     go : (b : Bool) → clause_eq E C ≡ b → (C ≡ E) ⊎ IsIn C X → (IsIn C X → SameClauses (tidy X) (clause_of C ∷ tidy (one_less C X))) → SameClauses (clause_of E ∷ tidy X) (clause_of C ∷ tidy (cond b X (E ∷ one_less C X)))
     go true q n ih = subst (λ (D : Clause). SameClauses (clause_of E ∷ tidy X) (clause_of D ∷ tidy X)) (clause_eq-sound E C q) (alike-refl (clause_of E ∷ tidy X))
-    go false q (inl e) ih = let z : clause_eq E C ≡ true = subst (λ y. clause_eq y C ≡ true) e (Rattle.q_logic.proofs.JustifiedRuns.clause_eq-itself C) in absurd (cc)
+    go false q (inl e) ih = let z : clause_eq E C ≡ true = subst (λ y. clause_eq y C ≡ true) e (Rattle.q_logic.proofs.Runs.clause_eq-itself C) in absurd (cc)
     go false q (inr n) ih =
         alike-trans (clause_of E ∷ tidy X) (clause_of E ∷ clause_of C ∷ tidy (one_less C X)) (clause_of C ∷ clause_of E ∷ tidy (one_less C X))
         (alike-cons (clause_of E) (tidy X) (clause_of C ∷ tidy (one_less C X)) (ih n)) (alike-swap (clause_of E) (clause_of C) (tidy (one_less C X)))
@@ -139,10 +140,6 @@ less-tidy C X Y a m =
     alike-uncons (clause_of C) (one_less (clause_of C) Y) (tidy (one_less C X))
     (alike-trans (clause_of C ∷ one_less (clause_of C) Y) Y (clause_of C ∷ tidy (one_less C X)) (alike-sym Y (clause_of C ∷ one_less (clause_of C) Y) (one_less-alike (clause_of C) Y there))
     (alike-trans Y (tidy X) (clause_of C ∷ tidy (one_less C X)) a (tidy-one_less C X m)))
-
-no_copies : (Y : Matrix) → ((C : Clause) → 0 ≡ copies C Y) → Y ≡ []
-no_copies [] h = refl
-no_copies (D ∷ Y) h = let z : 1 ≤ copies D (D ∷ Y) = IsIn-copies D (D ∷ Y) (inl refl) in let e : 0 ≡ copies D (D ∷ Y) = h D in absurd (omega arith)
 
 tidy-alike : (X Y : Matrix) → SameClauses X Y → SameClauses (tidy X) (tidy Y)
 tidy-alike [] Y a = let e : Y ≡ [] = no_copies Y a in rw e (alike-refl [])
@@ -159,36 +156,11 @@ tidy-same (C ∷ X) h = rw (clause_of-ordered_clause C (h C (inl refl)), tidy-sa
 
 -- sizes
 
-same-sizes : (X Y : Matrix) → SameClauses X Y → (length X ≡ length Y) × (literals_in X ≡ literals_in Y)
-same-sizes [] Y s = let e : Y ≡ [] = no_copies Y s in rw e (refl, refl)
-same-sizes (C ∷ X) Y s =
-    let m : IsIn C Y = IsIn-alike (C ∷ X) Y s C (inl refl) in
-    let a : length Y ≡ 1 + length (one_less C Y) = length-one_less C Y m in
-    let b : literals_in Y ≡ length C + literals_in (one_less C Y) = literals-one_less C Y m in
-    let i : (length X ≡ length (one_less C Y)) × (literals_in X ≡ literals_in (one_less C Y)) = same-sizes X (one_less C Y) (alike-uncons C X (one_less C Y) (alike-trans (C ∷ X) Y (C ∷ one_less C Y) s (one_less-alike C Y m))) in
-    (omega (arith, a, i.0), omega (arith, b, i.1))
-
-insert-length : (l : Literal) (C : Clause) → length (insert l C) ≤ suc (length C)
-insert-length l [] = omega arith
-insert-length l (j ∷ C) = go (Rattle.std.proofs.Common.nat_lt (pack l) (pack j)) (Rattle.std.proofs.Common.nat_eq (pack l) (pack j)) (insert-length l C)
-  where
-    go : (s t : Bool) → length (insert l C) ≤ suc (length C) → length (cond s (l ∷ j ∷ C) (cond t (j ∷ C) (j ∷ insert l C))) ≤ suc (suc (length C))
-    go true t h = omega arith
-    go false true h = omega arith
-    go false false h = omega arith
-
-clause-length : (ls : List Literal) → length (clause_of ls) ≤ length ls
-clause-length [] = omega arith
-clause-length (l ∷ ls) =
-    let i : length (clause_of ls) ≤ length ls = clause-length ls in
-    let j : length (insert l (clause_of ls)) ≤ suc (length (clause_of ls)) = insert-length l (clause_of ls) in
-    omega arith
-
 tidy-sizes : (X : Matrix) → (length (tidy X) ≡ length X) × (literals_in (tidy X) ≤ literals_in X)
 tidy-sizes [] = (refl, omega arith)
 tidy-sizes (C ∷ X) =
     let i : (length (tidy X) ≡ length X) × (literals_in (tidy X) ≤ literals_in X) = tidy-sizes X in
-    let c : length (clause_of C) ≤ length C = clause-length C in
+    let c : length (clause_of C) ≤ length C = clause_of-length C in
     (ap suc i.0, omega (arith, i.1))
 
 tidy-limits : (m : Limits) (X Y : Matrix) → SameClauses Y (tidy X) → KeepsLimits m X → KeepsLimits m Y
@@ -293,7 +265,7 @@ fronted : (P : Prefix) (p : Option Literal) (C : Clause) → InRange P → Withi
 fronted P None C r w f = each IsSmall C (λ k m. bound-range P k.var r (w k m))
 fronted P (Some l) C r w f = (bound-range P l.var r (w l f), each IsSmall (without l C) (λ k m. bound-range P k.var r (w k (without-IsIn l C k m))))
 
-first-of : (C : Clause) → IsFirst (first_of C) C
+pub first-of : (C : Clause) → IsFirst (first_of C) C
 first-of [] = refl
 first-of (k ∷ C) = inl refl
 

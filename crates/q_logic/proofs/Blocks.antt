@@ -1,9 +1,8 @@
 -- Formulas with the same blocks and the same clauses.
 use Rattle.std.proofs.Common.{◌≡◌, ◌↔◌, ℕ, ◌≤◌, Bool, true, false, cond, not, ◌&&◌, eqb, List, [], ◌∷◌, inl, inr, arith, refl, sym, ap, ◌∙◌, subst}
 use Rattle.q_logic.specs.declared.formulas.Bound.{Bound}
-use Rattle.q_logic.specs.Prelude.{literal_eq, Prefix, Clause, Matrix, IsIn, PrenexFormula, is_exists, is_existential, is_bound, universal_before, Block, push_block, blocks, SameBlocks, Strategy, Lawful, SkolemOf, clause_eq, copies, SameFormula}
-use Rattle.q_logic.proofs.ClauseLemmas.{literal_eq-itself}
-use Rattle.q_logic.proofs.Runs.{clause_eq-sound}
+use Rattle.q_logic.specs.Prelude.{Prefix, Clause, IsIn, PrenexFormula, is_exists, is_existential, is_bound, universal_before, Block, push_block, blocks, SameBlocks, Strategy, Lawful, SkolemOf, copies, SameFormula}
+use Rattle.q_logic.proofs.Runs.{IsIn-copies, copies-IsIn, SameBlocks-refl}
 
 abbrev pub among : ℕ → List ℕ → Bool
 among x [] = false
@@ -122,26 +121,6 @@ same-before (B ∷ Bs) (C ∷ Cs) u x s =
     let i : block_before Bs u x ≡ block_before Cs u x = same-before Bs Cs u x s.2 in
     let q : B.quant ≡ C.quant = s.0 in grind arith
 
-clause_eq-itself : (C : Clause) → clause_eq C C ≡ true
-clause_eq-itself [] = refl
-clause_eq-itself (k ∷ C) =
-    let a : literal_eq k k ≡ true = literal_eq-itself k in
-    let i : clause_eq C C ≡ true = clause_eq-itself C in grind arith
-
-copies-IsIn : (C : Clause) (X : Matrix) → 1 ≤ copies C X → IsIn C X
-copies-IsIn C [] h = grind arith
-copies-IsIn C (D ∷ X) h = go (clause_eq D C) refl (copies-IsIn C X)
-  where
-    go : (b : Bool) → clause_eq D C ≡ b → (1 ≤ copies C X → IsIn C X) → IsIn C (D ∷ X)
-    go true q ih = inl (sym (clause_eq-sound D C q))
-    go false q ih = inr (ih (grind arith))
-
-IsIn-copies : (C : Clause) (X : Matrix) → IsIn C X → 1 ≤ copies C X
-IsIn-copies C [] m = elim m [ ]
-IsIn-copies C (D ∷ X) (inl e) =
-    let z : clause_eq D C ≡ true = subst (λ y. clause_eq y C ≡ true) e (clause_eq-itself C) in grind arith
-IsIn-copies C (D ∷ X) (inr m) = let z : 1 ≤ copies C X = IsIn-copies C X m in grind arith
-
 pub IsIn-same : (F G : PrenexFormula) (D : Clause) → SameFormula F G → IsIn D F.matrix → IsIn D G.matrix
 IsIn-same F G D s m =
     copies-IsIn D G.matrix (let z : 1 ≤ copies D F.matrix = IsIn-copies D F.matrix m in
@@ -176,13 +155,8 @@ pub skolem-same : (F G : PrenexFormula) (c : Strategy) → SameFormula F G → S
 skolem-same F G c s sk =
     record { lawful = lawful-same F G c s sk.lawful; wins = λ A D m. sk.wins A D (IsIn-same F G D s m) }
 
--- Each formula is the same as itself.
-pub SameBlocks-itself : (Bs : List Block) → SameBlocks Bs Bs
-SameBlocks-itself [] = tt
-SameBlocks-itself (B ∷ Bs) = (refl, (λ x. ((λ m. m), (λ m. m))), SameBlocks-itself Bs)
-
 pub Same-itself : (F : PrenexFormula) → SameFormula F F
-Same-itself F = record { same_blocks = SameBlocks-itself (blocks F.prefix); same_clauses = λ C. refl }
+Same-itself F = record { same_blocks = SameBlocks-refl (blocks F.prefix); same_clauses = λ C. refl }
 
 SameBlocks-sym : (Bs Cs : List Block) → SameBlocks Bs Cs → SameBlocks Cs Bs
 SameBlocks-sym [] [] s = s

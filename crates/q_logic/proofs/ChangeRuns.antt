@@ -2,7 +2,7 @@
 use Rattle.std.proofs.Common.{◌≡◌, true, List, [], ◌∷◌, ◌++◌, ◌⊎◌, inl, inr, refl, sym, ap, subst, Option, Some, None}
 use Rattle.q_logic.specs.Prelude.{Literal, Clause, Matrix, Prefix, IsIn, PrenexFormula, is_bound, Implied, ForallPivot, without, Reducible, ProofStep, add, delete, drop_literal, FirstPivot, copies, formula_of}
 use Rattle.q_logic.proofs.JustifiedRuns.{SameClauses, Reaches}
-use Rattle.q_logic.proofs.ClauseLemmas.{IsIn-append_left, IsIn-append}
+use Rattle.q_logic.proofs.ClauseLemmas.{IsIn-append_left, IsIn-append, IsIn-append_right}
 use Rattle.q_logic.proofs.JustifiedRuns.{one_less-first, alike-refl, reaches-alike, alike-trans, alike-sym, alike-swap, alike-cons, reaches-end}
 
 abbrev pub Each : {X : Type 0} → (X → Type 0) → List X → Type 0
@@ -37,16 +37,16 @@ abbrev pub adds : (Clause → Option Literal) → Matrix → List ProofStep
 adds p [] = []
 adds p (C ∷ X) = add (p C) C ∷ adds p X
 
-alike-turn : (C : Clause) (X Y : Matrix) → SameClauses (X ++ (C ∷ Y)) (C ∷ (X ++ Y))
-alike-turn C [] Y = alike-refl (C ∷ Y)
-alike-turn C (D ∷ X) Y = alike-trans (D ∷ (X ++ (C ∷ Y))) (D ∷ C ∷ (X ++ Y)) (C ∷ D ∷ (X ++ Y)) (alike-cons D (X ++ (C ∷ Y)) (C ∷ (X ++ Y)) (alike-turn C X Y)) (alike-swap D C (X ++ Y))
+pub alike-turned : (C : Clause) (X Y : Matrix) → SameClauses (X ++ (C ∷ Y)) (C ∷ (X ++ Y))
+alike-turned C [] Y = alike-refl (C ∷ Y)
+alike-turned C (D ∷ X) Y = alike-trans (D ∷ (X ++ (C ∷ Y))) (D ∷ C ∷ (X ++ Y)) (C ∷ D ∷ (X ++ Y)) (alike-cons D (X ++ (C ∷ Y)) (C ∷ (X ++ Y)) (alike-turned C X Y)) (alike-swap D C (X ++ Y))
 
 -- The clauses X come.
 pub reaches-adds : (P : Prefix) (p : Clause → Option Literal) (X Y : Matrix) → ((C : Clause) → IsIn C X → (k : Literal) → IsIn k C → is_bound P k.var ≡ true) → ((C : Clause) → IsIn C X → (Z : Matrix) → ((D : Clause) → IsIn D Y → IsIn D Z) → ((D : Clause) → IsIn D Z → IsIn D (X ++ Y)) → MayGo P p C Z) → Reaches (formula_of P Y) (adds p X) (formula_of P (X ++ Y))
 reaches-adds P p [] Y w h = (refl, alike-refl Y)
 reaches-adds P p (C ∷ X) Y w h = (
   (w C (inl refl), h C (inl refl) Y (λ D m. m) (λ D m. inr (there D m))),
-  reaches-end P (X ++ (C ∷ Y)) ((C ∷ X) ++ Y) (formula_of P (C ∷ Y)) (adds p X) (alike-turn C X Y)
+  reaches-end P (X ++ (C ∷ Y)) ((C ∷ X) ++ Y) (formula_of P (C ∷ Y)) (adds p X) (alike-turned C X Y)
       (reaches-adds P p X (C ∷ Y) (λ D m. w D (inr m)) (λ D m Z f g. h D (inr m) Z (λ E n. f E (inr n)) (λ E n. turned E (g E n)))),
 )
   where
@@ -72,15 +72,8 @@ abbrev pub replaces : (Clause → Clause) → Matrix → List ProofStep
 replaces f [] = []
 replaces f (C ∷ X) = add (least (f C)) (f C) ∷ delete (least C) C ∷ replaces f X
 
-pub IsIn-right : {X : Type 0} (x : X) (xs ys : List X) → IsIn x ys → IsIn x (xs ++ ys)
-IsIn-right x [] ys m = m
-IsIn-right x (y ∷ xs) ys m = inr (IsIn-right x xs ys m)
-
-pub alike-turned : (C : Clause) (X Y : Matrix) → SameClauses (X ++ (C ∷ Y)) (C ∷ (X ++ Y))
-alike-turned C X Y = alike-turn C X Y
-
 pub IsIn-turned : (C : Clause) (X Y : Matrix) (D : Clause) → IsIn D (X ++ (C ∷ Y)) → IsIn D (C ∷ (X ++ Y))
-IsIn-turned C X Y D m = elim (IsIn-append D X (C ∷ Y) m) [ inl a ↦ inr (IsIn-append_left D X Y a) | inr (inl e) ↦ inl e | inr (inr a) ↦ inr (IsIn-right D X Y a) ]
+IsIn-turned C X Y D m = elim (IsIn-append D X (C ∷ Y) m) [ inl a ↦ inr (IsIn-append_left D X Y a) | inr (inl e) ↦ inl e | inr (inr a) ↦ inr (IsIn-append_right D X Y a) ]
 
 -- Each clause of X becomes another one.
 pub reaches-replaces : (P : Prefix) (f : Clause → Clause) (X Y : Matrix)
@@ -90,12 +83,12 @@ pub reaches-replaces : (P : Prefix) (f : Clause → Clause) (X Y : Matrix)
     → Reaches (formula_of P (X ++ Y)) (replaces f X) (formula_of P (mapped f X ++ Y))
 reaches-replaces P f [] Y w h g = (refl, alike-refl Y)
 reaches-replaces P f (C ∷ X) Y w h g = (
-  (w C (inl refl), inl (h C (inl refl) (C ∷ (X ++ Y)) (inl refl) (λ D m. inr (IsIn-right D X Y m)))),
+  (w C (inl refl), inl (h C (inl refl) (C ∷ (X ++ Y)) (inl refl) (λ D m. inr (IsIn-append_right D X Y m)))),
   reaches-alike P (C ∷ f C ∷ (X ++ Y)) (f C ∷ C ∷ (X ++ Y)) (delete (least C) C ∷ replaces f X) (formula_of P (mapped f (C ∷ X) ++ Y)) (alike-swap C (f C) (X ++ Y))
       (step-first P (least C) C (f C ∷ (X ++ Y)) (replaces f X) (formula_of P (mapped f (C ∷ X) ++ Y))
-      (inl (g C (inl refl) (f C ∷ (X ++ Y)) (inl refl) (λ D m. inr (IsIn-right D X Y m))))
-      (reaches-alike P (X ++ (f C ∷ Y)) (f C ∷ (X ++ Y)) (replaces f X) (formula_of P (mapped f (C ∷ X) ++ Y)) (alike-turn (f C) X Y)
-      (reaches-end P (mapped f X ++ (f C ∷ Y)) (mapped f (C ∷ X) ++ Y) (formula_of P (X ++ (f C ∷ Y))) (replaces f X) (alike-turn (f C) (mapped f X) Y)
+      (inl (g C (inl refl) (f C ∷ (X ++ Y)) (inl refl) (λ D m. inr (IsIn-append_right D X Y m))))
+      (reaches-alike P (X ++ (f C ∷ Y)) (f C ∷ (X ++ Y)) (replaces f X) (formula_of P (mapped f (C ∷ X) ++ Y)) (alike-turned (f C) X Y)
+      (reaches-end P (mapped f X ++ (f C ∷ Y)) (mapped f (C ∷ X) ++ Y) (formula_of P (X ++ (f C ∷ Y))) (replaces f X) (alike-turned (f C) (mapped f X) Y)
       (reaches-replaces P f X (f C ∷ Y) (λ D m. w D (inr m)) (λ D m Z i s. h D (inr m) Z i (λ E n. s E (inr n))) (λ D m Z i s. g D (inr m) Z i (λ E n. s E (inr n))))))),
 )
 
@@ -112,17 +105,17 @@ pub reaches-drops : (P : Prefix) (l : Literal) (X Y : Matrix)
     → Reaches (formula_of P (X ++ Y)) (drops l X) (formula_of P (mapped (without l) X ++ Y))
 reaches-drops P l [] Y h = (refl, alike-refl Y)
 reaches-drops P l (C ∷ X) Y h = (
-  (inl refl, subst (λ W. MayDrop P l C W) (sym (one_less-first C (X ++ Y))) (h C (inl refl) (X ++ Y) (λ D m. inr (IsIn-right D (mapped (without l) X) ((C ∷ X) ++ Y) (inr m))))),
+  (inl refl, subst (λ W. MayDrop P l C W) (sym (one_less-first C (X ++ Y))) (h C (inl refl) (X ++ Y) (λ D m. inr (IsIn-append_right D (mapped (without l) X) ((C ∷ X) ++ Y) (inr m))))),
   subst (λ W. Reaches (formula_of P (without l C ∷ W)) (drops l X) (formula_of P (mapped (without l) (C ∷ X) ++ Y))) (sym (one_less-first C (X ++ Y)))
-      (reaches-alike P (X ++ (without l C ∷ Y)) (without l C ∷ (X ++ Y)) (drops l X) (formula_of P (mapped (without l) (C ∷ X) ++ Y)) (alike-turn (without l C) X Y)
-      (reaches-end P (mapped (without l) X ++ (without l C ∷ Y)) (mapped (without l) (C ∷ X) ++ Y) (formula_of P (X ++ (without l C ∷ Y))) (drops l X) (alike-turn (without l C) (mapped (without l) X) Y)
+      (reaches-alike P (X ++ (without l C ∷ Y)) (without l C ∷ (X ++ Y)) (drops l X) (formula_of P (mapped (without l) (C ∷ X) ++ Y)) (alike-turned (without l C) X Y)
+      (reaches-end P (mapped (without l) X ++ (without l C ∷ Y)) (mapped (without l) (C ∷ X) ++ Y) (formula_of P (X ++ (without l C ∷ Y))) (drops l X) (alike-turned (without l C) (mapped (without l) X) Y)
       (reaches-drops P l X (without l C ∷ Y) (λ D m Z s. h D (inr m) Z (λ E n. place E (s E n)))))),
 )
   where
     place : (E : Clause) → IsIn E (mapped (without l) X ++ (X ++ (without l C ∷ Y))) → IsIn E (mapped (without l) (C ∷ X) ++ ((C ∷ X) ++ Y))
     place E m = elim (IsIn-append E (mapped (without l) X) (X ++ (without l C ∷ Y)) m) [
       | inl a ↦ inr (IsIn-append_left E (mapped (without l) X) ((C ∷ X) ++ Y) a)
-      | inr b ↦ elim (IsIn-turned (without l C) X Y E b) [ inl e ↦ inl e | inr n ↦ inr (IsIn-right E (mapped (without l) X) ((C ∷ X) ++ Y) (inr n)) ]
+      | inr b ↦ elim (IsIn-turned (without l C) X Y E b) [ inl e ↦ inl e | inr n ↦ inr (IsIn-append_right E (mapped (without l) X) ((C ∷ X) ++ Y) (inr n)) ]
     ]
 
 -- One step.

@@ -53,7 +53,7 @@ ends-push from (e ∷ ends) n m h l = (h.0, ends-push e ends n m h.1 l)
 range-front : (xs ys : List Literal) (a b : ℕ) → b ≤ length xs → slice_range (xs ++ ys) a b ≡ slice_range xs a b
 range-front xs ys a b h = grind (arith, common_steps)
 
-range-back : (xs ys : List Literal) → slice_range (xs ++ ys) (length xs) (length (xs ++ ys)) ≡ ys
+pub range-back : (xs ys : List Literal) → slice_range (xs ++ ys) (length xs) (length (xs ++ ys)) ≡ ys
 range-back xs ys = grind (arith, common_steps)
 
 pub clauses-push : (lits c : List Literal) (from : ℕ) (ends : List ℕ) → AreEnds from ends (length lits) →

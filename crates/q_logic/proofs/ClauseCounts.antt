@@ -1,8 +1,8 @@
 -- How often a clause stands in a matrix.
 use Rattle.std.proofs.Common.{◌≡◌, ◌≤◌, ◌+◌, Bool, true, false, cond, [], ◌∷◌, ◌⊎◌, inl, inr, arith, refl, sym, ap, subst, length}
 use Rattle.q_logic.specs.Prelude.{Clause, Matrix, IsIn, clause_eq, one_less, literals_in, copies}
-use Rattle.q_logic.proofs.Runs.{clause_eq-sound}
-use Rattle.q_logic.proofs.JustifiedRuns.{SameClauses, clause_eq-itself, IsIn-copies, IsIn-alike, alike-sym, alike-trans, alike-uncons, one_less-alike}
+use Rattle.q_logic.proofs.Runs.{clause_eq-sound, clause_eq-itself, IsIn-copies}
+use Rattle.q_logic.proofs.JustifiedRuns.{SameClauses, IsIn-alike, alike-sym, alike-trans, alike-uncons, one_less-alike}
 
 -- Of a clause that is not there none goes.
 pub one_less-none : (C : Clause) (X : Matrix) → (IsIn C X → ⊥) → one_less C X ≡ X
@@ -44,7 +44,7 @@ one_less-sizes C (E ∷ X) m = go (clause_eq E C) refl m (one_less-sizes C X)
     go false q (inl e) ih = let z : clause_eq E C ≡ true = subst (λ y. clause_eq y C ≡ true) e (clause_eq-itself C) in absurd (grind arith)
     go false q (inr n) ih = let i : (length X ≡ length (one_less C X) + 1) × (literals_in X ≡ literals_in (one_less C X) + length C) = ih n in (omega (arith, i.0), omega (arith, i.1))
 
-no_copies : (X : Matrix) → ((C : Clause) → 0 ≡ copies C X) → X ≡ []
+pub no_copies : (X : Matrix) → ((C : Clause) → 0 ≡ copies C X) → X ≡ []
 no_copies [] h = refl
 no_copies (D ∷ X) h = let z : 1 ≤ copies D (D ∷ X) = IsIn-copies D (D ∷ X) (inl refl) in let e : 0 ≡ copies D (D ∷ X) = h D in absurd (omega arith)
 

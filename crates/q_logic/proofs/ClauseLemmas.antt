@@ -1,6 +1,6 @@
 -- Members, literals and the trees of clauses.
-use Rattle.std.proofs.Common.{◌≡◌, ℕ, Bool, true, false, cond, List, [], ◌∷◌, ◌++◌, ◌⊎◌, inl, inr, arith, refl, sym, ap, ◌∙◌, subst, Option, Some, None}
-use Rattle.q_logic.specs.Prelude.{Literal, negation, literal_eq, Prefix, Clause, IsIn, Assignment, LiteralTrue, ClauseTrue, signed, Circuit, value_of, Reads, Strategy, circuit_of, or_input, given, outcome, keeps, outer, literal_circuit, some_of, all_of}
+use Rattle.std.proofs.Common.{◌≡◌, ℕ, Bool, true, false, cond, List, [], ◌∷◌, ◌++◌, ◌⊎◌, inl, inr, arith, refl, sym, ap, ◌∙◌, subst, Option, Some, None, eqb}
+use Rattle.q_logic.specs.Prelude.{Literal, negation, literal_eq, Prefix, Clause, IsIn, Assignment, LiteralTrue, ClauseTrue, signed, Circuit, value_of, Reads, Strategy, circuit_of, or_input, given, outcome, keeps, outer, literal_circuit, some_of, all_of, has, has_variable}
 
 pub IsIn-append_left : {X : Type 0} (x : X) (xs ys : List X) → IsIn x xs → IsIn x (xs ++ ys)
 IsIn-append_left x [] ys h = elim h [ ]
@@ -124,3 +124,40 @@ circuit_of-none c x = go (c x)
     go : (o : Option Circuit) → given o ≡ false → or_input x o ≡ Circuit.input x
     go None h = refl
     go (Some t) h = grind arith
+
+pub not-negation : (l : Literal) → l ≡ negation l → ⊥
+not-negation l e =
+    let a = literal_eq-negation l in
+    let b : literal_eq l (negation l) ≡ true = subst (λ (z : Literal). literal_eq l z ≡ true) e (literal_eq-itself l) in
+    let z : true ≡ false = sym b ∙ a in
+    absurd (cc)
+
+pub has-IsIn : (l : Literal) (D : Clause) → has l D ≡ true → IsIn l D
+has-IsIn l [] h = grind arith
+has-IsIn l (k ∷ D) h = go (literal_eq k l) refl (has-IsIn l D)
+  where
+    go : (b : Bool) → literal_eq k l ≡ b → (has l D ≡ true → IsIn l D) → (l ≡ k) ⊎ IsIn l D
+    go true q ih = inl (sym (literal_eq-sound k l q))
+    go false q ih = inr (ih (grind arith))
+
+pub IsIn-has : (l : Literal) (D : Clause) → IsIn l D → has l D ≡ true
+IsIn-has l [] m = elim m [ ]
+IsIn-has l (k ∷ D) (inl e) = let z : literal_eq k l ≡ true = subst (λ y. literal_eq y l ≡ true) e (literal_eq-itself l) in grind arith
+IsIn-has l (k ∷ D) (inr m) = let z : has l D ≡ true = IsIn-has l D m in grind arith
+
+pub has_variable-find : (v : ℕ) (C : Clause) → has_variable v C ≡ true → (k : Literal) × IsIn k C × (k.var ≡ v)
+has_variable-find v [] h = grind arith
+has_variable-find v (j ∷ C) h = go (eqb j.var v) refl (has_variable-find v C)
+  where
+    go : (b : Bool) → eqb j.var v ≡ b → (has_variable v C ≡ true → (k : Literal) × IsIn k C × (k.var ≡ v)) → (k : Literal) × IsIn k (j ∷ C) × (k.var ≡ v)
+    go true q ih = (j, inl refl, grind arith)
+    go false q ih = let r : (k : Literal) × IsIn k C × (k.var ≡ v) = ih (grind arith) in (r.0, inr r.1, r.2)
+
+pub has_variable-IsIn : (D : Clause) (k : Literal) → IsIn k D → has_variable k.var D ≡ true
+has_variable-IsIn [] k m = elim m [ ]
+has_variable-IsIn (j ∷ D) k (inl e) = let z : k.var ≡ j.var = ap (λ y. y.var) e in grind arith
+has_variable-IsIn (j ∷ D) k (inr m) = let i : has_variable k.var D ≡ true = has_variable-IsIn D k m in grind arith
+
+pub IsIn-append_right : {X : Type 0} (x : X) (xs ys : List X) → IsIn x ys → IsIn x (xs ++ ys)
+IsIn-append_right x [] ys m = m
+IsIn-append_right x (y ∷ xs) ys m = inr (IsIn-append_right x xs ys m)

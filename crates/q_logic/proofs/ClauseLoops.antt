@@ -1,15 +1,11 @@
 -- For loops over numbered clauses: each turn keeps the change that is still to come, and at the end nothing is left to change.
 use Rattle.std.proofs.Common.{◌≡◌, ℕ, zero, suc, Bool, true, false, cond, eqb, [], ◌∷◌, inl, inr, arith, refl, sym, ap, ◌∙◌, subst, Option, Some, None}
-use Rattle.q_logic.specs.Prelude.{has_variable, Literal, negation, literal_eq, Clause, Matrix, IsIn, without, has, without_literal, each_without, is_tautology, Slots, slot, set_slot, live, others, put_first, merged, merged_one, renamed}
-use Rattle.q_logic.proofs.NumberedClauses.{without_literal-slot, without-same, has-IsIn}
+use Rattle.q_logic.specs.Prelude.{has_variable, Literal, negation, literal_eq, Clause, Matrix, IsIn, without, has, without_literal, each_without, is_tautology, Slots, slot, set_slot, live, put_first, merged, merged_one, renamed}
+use Rattle.q_logic.proofs.NumberedClauses.{without_literal-slot, without-same}
 use Rattle.q_logic.proofs.JoinedClauses.{without-other}
 use Rattle.q_logic.proofs.ExpandRun.{has_none}
 use Rattle.q_logic.proofs.MergeRun.{renamed-free}
-
-pub live-without : (N : Slots) (c : ℕ) → live (set_slot c None N) ≡ others c N
-live-without [] c = refl
-live-without (p ∷ N) zero = refl
-live-without (p ∷ N) (suc c) = ap (put_first p) (live-without N c)
+use Rattle.q_logic.proofs.ClauseLemmas.{has-IsIn}
 
 -- A function of matrices that goes clause by clause does not see a change that it does not see at one clause.
 abbrev pub folded : (Clause → Matrix → Matrix) → Matrix → Matrix
@@ -46,7 +42,7 @@ merged-folded keep gone (D ∷ X) = ap (merged_one keep gone D) (merged-folded k
 pub turn-pure : (l : Literal) (N : Slots) (c : ℕ) (C : Clause) → slot N c ≡ Some C → has l C ≡ true → without_literal l (live (set_slot c None N)) ≡ without_literal l (live N)
 turn-pure l N c C s h = without_literal-folded l (live (set_slot c None N)) ∙ (folded-set (drop_with l) N c C None s (λ X. rw h refl) ∙ sym (without_literal-folded l (live N)))
 
-has_not-without : (l : Literal) (C : Clause) → has l (without l C) ≡ false
+pub has_not-without : (l : Literal) (C : Clause) → has l (without l C) ≡ false
 has_not-without l C = has_none l (without l C) (λ m. let a : literal_eq l l ≡ false = without-other l C l m in let b : literal_eq l l ≡ true = Rattle.q_logic.proofs.ClauseLemmas.literal_eq-itself l in grind arith)
 
 -- A turn of Unit: a clause loses not l, or goes.
@@ -77,7 +73,7 @@ turn-unit_shorter l N c C s h = assigned-folded l (live (set_slot c (Some (witho
 abbrev pub renamed_slot : Literal → Literal → Clause → Option Clause
 renamed_slot keep gone C = cond (is_tautology (renamed keep gone C)) None (Some (renamed keep gone C))
 
-no_var : (v : ℕ) (C : Clause) → ((k : Literal) → IsIn k C → eqb k.var v ≡ false) → has_variable v C ≡ false
+pub no_var : (v : ℕ) (C : Clause) → ((k : Literal) → IsIn k C → eqb k.var v ≡ false) → has_variable v C ≡ false
 no_var v [] h = refl
 no_var v (k ∷ C) h = let a : eqb k.var v ≡ false = h k (inl refl) in let b : has_variable v C ≡ false = no_var v C (λ j m. h j (inr m)) in rw (a, b) refl
 

@@ -9,7 +9,7 @@ use Rattle.q_logic.specs.Prelude.{Literal, IsBelow, pack, Clause, IsIn, ArePairs
 abbrev placed : Bool → Bool → Literal → Literal → Clause → Clause
 placed t s l k C = cond t (l ∷ k ∷ C) (cond s (k ∷ C) (k ∷ insert l C))
 
-below-pack : (k l : Literal) → nat_lt (pack k) (pack l) ≡ true → IsBelow k l
+pub below-pack : (k l : Literal) → nat_lt (pack k) (pack l) ≡ true → IsBelow k l
 below-pack k l e = grind (arith, nat_tests)
 
 above-pack : (k l : Literal) → nat_lt (pack l) (pack k) ≡ false → (pack l == pack k) ≡ false → IsBelow k l
@@ -18,7 +18,7 @@ above-pack k l e f = grind (arith, nat_tests)
 pub same-pack : (k l : Literal) → (pack k == pack l) ≡ true → k ≡ l
 same-pack k l e = grind (arith, nat_tests)
 
-below-trans : (a b c : Literal) → IsBelow a b → IsBelow b c → IsBelow a c
+pub below-trans : (a b c : Literal) → IsBelow a b → IsBelow b c → IsBelow a c
 below-trans a b c h k = grind arith
 
 pub not_below : (k l : Literal) → IsBelow k l → IsBelow l k → ⊥

@@ -1,9 +1,8 @@
 -- A growing set of literals is closed after as many turns as there are literals.
 use Rattle.std.proofs.Common.{◌≡◌, ◌≤◌, ℕ, zero, suc, ◌+◌, ◌-◌, Bool, true, false, eqb, [], ◌∷◌, ◌++◌, ◌⊎◌, inl, inr, arith, refl, subst, length}
 use Rattle.q_logic.specs.Prelude.{Literal, literal_eq, Clause, Matrix, IsIn, without, IsSubset, size_of, IsBelow}
-use Rattle.q_logic.proofs.ClauseLemmas.{literal_eq-sound}
+use Rattle.q_logic.proofs.ClauseLemmas.{literal_eq-sound, IsIn-has}
 use Rattle.q_logic.proofs.UniversalPivot.{IsIn-without}
-use Rattle.q_logic.proofs.NumberedClauses.{IsIn-has}
 use Rattle.q_logic.proofs.CoverRun.{in_or_not}
 use Rattle.q_logic.proofs.MeasureFalls.{without-less}
 use Rattle.q_logic.proofs.ClauseSets.{not_itself_below}

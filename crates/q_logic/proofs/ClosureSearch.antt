@@ -1,7 +1,8 @@
 -- What a search for joined literals or for a reach has to show.
-use Rattle.std.proofs.Common.{◌≡◌, ℕ, true, false, List, refl}
+use Rattle.std.proofs.Common.{◌≡◌, true, false, List}
 use Rattle.q_logic.specs.Prelude.{Literal, negation, Clause, Matrix, Prefix, IsIn, is_existential, is_universal, outer_or_same, Reducible, Reached, Joined, Binary, inner_existential}
 use Rattle.q_logic.proofs.ExpandClosure.{inner-parts}
+use Rattle.q_logic.proofs.ExpandRun.{inner_of}
 
 -- A list that is closed under the clauses of two literals holds all that its members are joined to.
 pub joined-in : (X : Matrix) (q p : Literal) (L : List Literal) → ((x y : Literal) → IsIn x L → Binary X x y → IsIn y L) → IsIn p L → Joined X q p → IsIn q L
@@ -21,9 +22,6 @@ pub record ClosedLiterals (P : Prefix) (X : Matrix) (C : Clause) (l : Literal) (
 pub record NoneHit (X : Matrix) (l : Literal) (K : List Literal) : Type 0 where
   pub none : (E : Clause) → IsIn E X → (IsIn l E → ⊥) → (k : Literal) → IsIn k K → IsIn (negation k) E → IsIn (negation l) E → ⊥
 
-inner-both : (P : Prefix) (u v : ℕ) → is_existential P v ≡ true → outer_or_same P v u ≡ false → inner_existential P u v ≡ true
-inner-both P u v e o = rw (e, o) refl
-
 abbrev Kept : Prefix → Matrix → Literal → List Literal → Clause → Type 0
 Kept P X l K D = ((j : Literal) → IsIn j D → inner_existential P l.var j.var ≡ true → IsIn j K) × (IsIn (negation l) D → ⊥)
 
@@ -32,7 +30,7 @@ reached-kept P X C l K c h n D Reached.first = (c.of_first, n)
 reached-kept P X C l K c h n E (Reached.next {D = D} E2 k m i e o inX f r) = go (reached-kept P X C l K c h n D r)
   where
     go : Kept P X l K D → Kept P X l K E2
-    go d = let a : IsIn k K = d.0 k m (inner-both P l.var k.var e o) in (c.of_hit E2 inX f k a i, h.none E2 inX f k a i)
+    go d = let a : IsIn k K = d.0 k m (inner_of P l.var k.var e o) in (c.of_hit E2 inX f k a i, h.none E2 inX f k a i)
 
 -- Closed, and nothing that is hit holds not l: reducible.
 pub closed-reducible : (P : Prefix) (X : Matrix) (C : Clause) (l : Literal) (K : List Literal) → is_universal P l.var ≡ true → IsIn l C → (IsIn (negation l) C → ⊥) → ClosedLiterals P X C l K → NoneHit X l K → Reducible P X C l

@@ -5,14 +5,14 @@ use Rattle.q_logic.specs.Prelude.{Literal, negation, literal_eq, Clause, Matrix,
 use Rattle.q_logic.specs.Blocking.{Clashes, AllClash}
 use Rattle.q_logic.specs.Covering.{Hidden, Covered, InEach, Grows, Ends, Covers}
 use Rattle.q_logic.proofs.JustifiedRuns.{SameClauses, Reaches}
-use Rattle.q_logic.proofs.ClauseLemmas.{literal_eq-itself, IsIn-append_left, IsIn-outer}
+use Rattle.q_logic.proofs.ClauseLemmas.{literal_eq-itself, IsIn-append_left, IsIn-outer, has-IsIn, IsIn-append_right}
 use Rattle.q_logic.proofs.JustifiedRuns.{alike-refl, alike-sym, alike-swap, reaches-alike, IsIn-alike}
 use Rattle.q_logic.proofs.ImpliedClauses.{implied-subsumed, implied-tautology, implied-hidden_new}
-use Rattle.q_logic.proofs.ChangeRuns.{least, IsIn-right, reaches-delete, step-first}
+use Rattle.q_logic.proofs.ChangeRuns.{least, reaches-delete, step-first}
 use Rattle.q_logic.proofs.JoinedClauses.{union-IsIn, IsIn-union}
 use Rattle.q_logic.proofs.LiteralOrder.{Ordered, union-ordered, bounded-length}
 use Rattle.q_logic.proofs.Heights.{rise, weight, one, FreshUpTo, Way, weight-slot}
-use Rattle.q_logic.proofs.NumberedClauses.{slot-alike, has-IsIn, IsIn-has_not}
+use Rattle.q_logic.proofs.NumberedClauses.{slot-alike, IsIn-has_not}
 use Rattle.q_logic.proofs.PlainRuns.{blocked-pivot}
 
 pub in_or_not : (k : Literal) (S : Clause) → IsIn k S ⊎ (IsIn k S → ⊥)
@@ -128,13 +128,13 @@ covered-pivot P X S T h = record { existential_pivot = h.existential; in_clause 
     taut O m = (h.on, IsIn-append_left h.on S O h.there, IsIn-append_left (negation h.on) S O m)
 
     clashing : (D : Clause) → Clashes P h.on S D → IsTautology (S ++ outer P (negation h.on) D)
-    clashing D (k, a, b) = (k, IsIn-right k S (outer P (negation h.on) D) a, IsIn-append_left (negation k) S (outer P (negation h.on) D) b)
+    clashing D (k, a, b) = (k, IsIn-append_right k S (outer P (negation h.on) D) a, IsIn-append_left (negation k) S (outer P (negation h.on) D) b)
 
     go : (D : Clause) → IsIn D (T ∷ X) → IsIn (negation h.on) D → Implied (T ∷ X) (S ++ outer P (negation h.on) D)
     go D (inl e) n = implied-tautology (T ∷ X) (S ++ outer P (negation h.on) D) (taut (outer P (negation h.on) D) (itself D e n))
     go D (inr m) n = elim (clash_or_not P h.on S D) [
       | inl c ↦ implied-tautology (T ∷ X) (S ++ outer P (negation h.on) D) (clashing D c)
-      | inr c ↦ implied-subsumed (T ∷ X) T (S ++ outer P (negation h.on) D) (inl refl) (λ k i. elim ((h.grown k).0 i) [ inl e ↦ IsIn-right k S (outer P (negation h.on) D) (e D m n c) | inr j ↦ IsIn-append_left k S (outer P (negation h.on) D) j ])
+      | inr c ↦ implied-subsumed (T ∷ X) T (S ++ outer P (negation h.on) D) (inl refl) (λ k i. elim ((h.grown k).0 i) [ inl e ↦ IsIn-append_right k S (outer P (negation h.on) D) (e D m n c) | inr j ↦ IsIn-append_left k S (outer P (negation h.on) D) j ])
     ]
 
 -- The same literals.

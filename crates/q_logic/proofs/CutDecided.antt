@@ -1,15 +1,14 @@
 -- The plain program decides what is reducible.
 use Rattle.std.proofs.Common.{◌≡◌, ◌↔◌, ◌≤◌, ℕ, zero, suc, ◌+◌, Bool, true, false, cond, ◌&&◌, not, [], ◌∷◌, ◌++◌, ◌⊎◌, inl, inr, arith, refl, sym, ap, ◌∙◌, subst, length}
+use Rattle.std.proofs.lemmas.Bool.{and_from}
 use Rattle.q_logic.specs.Prelude.{insert, Literal, negation, Clause, Matrix, Prefix, IsIn, is_universal, Reducible, Reached, IsSubset, has, union, negated_in, size_of, inner_existential}
 use Rattle.q_logic.specs.Rules.Cut.{inner_literals, is_hit, reach_once, reach_often, none_hit, reducible}
-use Rattle.q_logic.proofs.ClauseLemmas.{IsIn-append_left}
-use Rattle.q_logic.proofs.NumberedClauses.{has-IsIn, IsIn-has}
+use Rattle.q_logic.proofs.ClauseLemmas.{IsIn-append_left, has-IsIn, IsIn-has, IsIn-append_right}
 use Rattle.q_logic.proofs.JoinedClauses.{union-IsIn, IsIn-union, insert-IsIn, IsIn-insert}
-use Rattle.q_logic.proofs.ChangeRuns.{IsIn-right}
 use Rattle.q_logic.proofs.LiteralOrder.{Ordered, insert-ordered, union-ordered}
 use Rattle.q_logic.proofs.ClosureSearch.{ClosedLiterals, NoneHit, closed-reducible, Reaching, hit-reached, hit-not_reducible}
 use Rattle.q_logic.proofs.ClosureRounds.{Growing, iterated, iterated-closed, lits, lits-length}
-use Rattle.q_logic.proofs.Decided.{and-parts, and-both, not-parts, not-both, negated_in-is, is-negated_in}
+use Rattle.q_logic.proofs.Decided.{and-parts, not-parts, not-both, negated_in-is, is-negated_in}
 
 inner_lits-IsIn : (P : Prefix) (u : ℕ) (C : Clause) (k : Literal) → IsIn k (inner_literals P u C) → IsIn k C × (inner_existential P u k.var ≡ true)
 inner_lits-IsIn P u [] k m = elim m [ ]
@@ -44,7 +43,7 @@ is_hit-is : (l : Literal) (K D : Clause) → is_hit l K D ≡ true → Hit l K D
 is_hit-is l K D h = let r : (not (has l D) ≡ true) × (negated_in K D ≡ true) = and-parts (not (has l D)) (negated_in K D) h in ((λ m. not-parts (has l D) r.0 (IsIn-has l D m)), negated_in-is K D r.1)
 
 is-is_hit : (l : Literal) (K D : Clause) → Hit l K D → is_hit l K D ≡ true
-is-is_hit l K D h = and-both (not (has l D)) (negated_in K D) (not-both (has l D) (λ e. h.0 (has-IsIn l D e))) (is-negated_in K D h.1)
+is-is_hit l K D h = and_from (not (has l D)) (negated_in K D) (not-both (has l D) (λ e. h.0 (has-IsIn l D e))) (is-negated_in K D h.1)
 
 length-app : (C D : Clause) → length (C ++ D) ≡ length C + length D
 length-app [] D = grind arith
@@ -95,7 +94,7 @@ reach_once-ordered P l (D ∷ X) K o = go (is_hit l K D) (reach_once-ordered P l
 lits-in : (X : Matrix) (D : Clause) → IsIn D X → IsSubset D (lits X)
 lits-in [] D m k i = elim m [ ]
 lits-in (E ∷ X) D (inl e) k i = IsIn-append_left k E (lits X) (subst (IsIn k) e i)
-lits-in (E ∷ X) D (inr n) k i = IsIn-right k E (lits X) (lits-in X D n k i)
+lits-in (E ∷ X) D (inr n) k i = IsIn-append_right k E (lits X) (lits-in X D n k i)
 
 reach-growing : (P : Prefix) (l : Literal) (X : Matrix) (C : Clause) → Growing (reach_once P l X) (C ++ lits X)
 reach-growing P l X C = record {
@@ -107,7 +106,7 @@ reach-growing P l X C = record {
   ordered = reach_once-ordered P l X;
   inside = λ S w k m. elim (reach_once-sound P l X S k m) [
     | inl a ↦ w k a
-    | inr r ↦ IsIn-right k C (lits X) (lits-in X r.0 r.1 k (inner_lits-IsIn P l.var r.0 k r.3).0)
+    | inr r ↦ IsIn-append_right k C (lits X) (lits-in X r.0 r.1 k (inner_lits-IsIn P l.var r.0 k r.3).0)
   ];
 }
 
@@ -135,12 +134,12 @@ none_hit-is l X K h = record { none = λ E m f k i n j. all X h E m (f, (k, i, n
     all : (Y : Matrix) → none_hit l Y K ≡ true → (E : Clause) → IsIn E Y → Hit l K E → IsIn (negation l) E → ⊥
     all [] h E m t j = elim m [ ]
     all (D ∷ Y) h E (inl e) t j = not-parts (is_hit l K D && has (negation l) D) (and-parts (not (is_hit l K D && has (negation l) D)) (none_hit l Y K) h).0
-        (and-both (is_hit l K D) (has (negation l) D) (is-is_hit l K D (subst (Hit l K) e t)) (IsIn-has (negation l) D (subst (IsIn (negation l)) e j)))
+        (and_from (is_hit l K D) (has (negation l) D) (is-is_hit l K D (subst (Hit l K) e t)) (IsIn-has (negation l) D (subst (IsIn (negation l)) e j)))
     all (D ∷ Y) h E (inr m) t j = all Y (and-parts (not (is_hit l K D && has (negation l) D)) (none_hit l Y K) h).1 E m t j
 
 is-none_hit : (l : Literal) (X : Matrix) (K : Clause) → ((E : Clause) → IsIn E X → Hit l K E → IsIn (negation l) E → ⊥) → none_hit l X K ≡ true
 is-none_hit l [] K h = refl
-is-none_hit l (D ∷ X) K h = and-both (not (is_hit l K D && has (negation l) D)) (none_hit l X K)
+is-none_hit l (D ∷ X) K h = and_from (not (is_hit l K D && has (negation l) D)) (none_hit l X K)
     (not-both (is_hit l K D && has (negation l) D) (λ e. let r : (is_hit l K D ≡ true) × (has (negation l) D ≡ true) = and-parts (is_hit l K D) (has (negation l) D) e in h D (inl refl) (is_hit-is l K D r.0) (has-IsIn (negation l) D r.1)))
     (is-none_hit l X K (λ E m. h E (inr m)))
 
@@ -177,7 +176,7 @@ decided-reducible P X C l = (there, back)
         closed-reducible P X C l K a.0 (has-IsIn l C b.0) (λ m. not-parts (has (negation l) C) c.0 (IsIn-has (negation l) C m)) lits_closed (none_hit-is l X K (subst (λ L. none_hit l X L ≡ true) same c.1))
 
     back : Reducible P X C l → reducible P X C l ≡ true
-    back h = and-both (is_universal P l.var) (has l C && (not (has (negation l) C) && none_hit l X (reach_often (length C + size_of X) P l X (inner_literals P l.var C)))) h.universal_literal
-        (and-both (has l C) (not (has (negation l) C) && none_hit l X (reach_often (length C + size_of X) P l X (inner_literals P l.var C))) (IsIn-has l C h.in_clause)
-        (and-both (not (has (negation l) C)) (none_hit l X (reach_often (length C + size_of X) P l X (inner_literals P l.var C))) (not-both (has (negation l) C) (λ e. h.no_negation C Reached.first (has-IsIn (negation l) C e)))
+    back h = and_from (is_universal P l.var) (has l C && (not (has (negation l) C) && none_hit l X (reach_often (length C + size_of X) P l X (inner_literals P l.var C)))) h.universal_literal
+        (and_from (has l C) (not (has (negation l) C) && none_hit l X (reach_often (length C + size_of X) P l X (inner_literals P l.var C))) (IsIn-has l C h.in_clause)
+        (and_from (not (has (negation l) C)) (none_hit l X (reach_often (length C + size_of X) P l X (inner_literals P l.var C))) (not-both (has (negation l) C) (λ e. h.no_negation C Reached.first (has-IsIn (negation l) C e)))
         (subst (λ L. none_hit l X L ≡ true) (sym same) (is-none_hit l X K (λ E m t j. hit-not_reducible P X C l E t.1.0 (iterated-reaching (length C + size_of X) P X C l t.1.0 t.1.1) m t.0 t.1.2 j h)))))

@@ -1,5 +1,6 @@
 -- The plain programs decide the conditions of most targets.
 use Rattle.std.proofs.Common.{◌≡◌, ◌≢◌, ◌↔◌, ◌≤◌, ℕ, ◌+◌, Bool, true, false, ◌||◌, ◌&&◌, not, eqb, [], ◌∷◌, ◌⊎◌, inl, inr, arith, refl, sym, ap, ◌∙◌, subst, Option, Some, None, length}
+use Rattle.std.proofs.lemmas.Bool.{and_from}
 use Rattle.q_logic.specs.Prelude.{positive, occurs, Literal, negation, literal_eq, Clause, Matrix, Prefix, IsIn, is_existential, is_universal, is_bound, outer_or_same, outer, Slots, slot, live, others, tautology, unit, pure, subsumed, strengthen, blocked, blocked_forall, eliminate, expand_universal, size_of, Fits}
 use Rattle.q_logic.specs.declared.rule_bounds.Bounds.{Bounds}
 use Rattle.q_logic.specs.Sets.{has, is_tautology, IsTautology, IsSubset, OccursIn, at_most, all_in, literal_occurs, negated_in}
@@ -10,8 +11,7 @@ use Rattle.q_logic.specs.Deciding.{fits}
 use Rattle.q_logic.specs.Rule.{if_some}
 use Rattle.q_logic.specs.Rules.Unit.{is_unit}
 use Rattle.q_logic.specs.Rules.Strengthen.{strengthens}
-use Rattle.q_logic.proofs.ClauseLemmas.{literal_eq-sound, literal_eq-itself}
-use Rattle.q_logic.proofs.NumberedClauses.{has-IsIn, IsIn-has}
+use Rattle.q_logic.proofs.ClauseLemmas.{literal_eq-sound, literal_eq-itself, has-IsIn, IsIn-has}
 use Rattle.q_logic.proofs.JoinedClauses.{is_tautology-sound}
 use Rattle.q_logic.proofs.Measures.{occurs_var-find, occurs_var-IsIn}
 use Rattle.q_logic.proofs.MeasureFalls.{var_is}
@@ -19,9 +19,6 @@ use Rattle.q_logic.proofs.MeasureFalls.{var_is}
 pub and-parts : (a b : Bool) → (a && b) ≡ true → (a ≡ true) × (b ≡ true)
 and-parts true b h = (refl, h)
 and-parts false b h = grind arith
-
-pub and-both : (a b : Bool) → a ≡ true → b ≡ true → (a && b) ≡ true
-and-both a b p q = rw (p, q) refl
 
 pub or-parts : (a b : Bool) → (a || b) ≡ true → (a ≡ true) ⊎ (b ≡ true)
 or-parts true b h = inl refl
@@ -47,7 +44,7 @@ if_some-is f (Some C) h = (C, refl, h)
 pub is-if_some : (f : Clause → Bool) (o : Option Clause) (C : Clause) → o ≡ Some C → f C ≡ true → if_some f o ≡ true
 is-if_some f o C e h = subst (λ p. if_some f p ≡ true) (sym e) h
 
-is_tautology-whole : (C : Clause) → IsTautology C → is_tautology C ≡ true
+pub is_tautology-whole : (C : Clause) → IsTautology C → is_tautology C ≡ true
 is_tautology-whole [] t = elim t.1 [ ]
 is_tautology-whole (j ∷ C) (k, inl e, inl f) = absurd (no k (e ∙ sym f))
   where
@@ -64,7 +61,7 @@ all_in-is (j ∷ C) D h k (inr m) = all_in-is C D (and-parts (has j D) (all_in C
 
 is-all_in : (C D : Clause) → IsSubset C D → all_in C D ≡ true
 is-all_in [] D w = refl
-is-all_in (j ∷ C) D w = and-both (has j D) (all_in C D) (IsIn-has j D (w j (inl refl))) (is-all_in C D (λ k m. w k (inr m)))
+is-all_in (j ∷ C) D w = and_from (has j D) (all_in C D) (IsIn-has j D (w j (inl refl))) (is-all_in C D (λ k m. w k (inr m)))
 
 occurs_literal-is : (l : Literal) (X : Matrix) → literal_occurs l X ≡ true → OccursIn l X
 occurs_literal-is l [] h = grind arith
@@ -92,7 +89,7 @@ all_clash-is P (E ∷ X) l S h D (inl e) n = subst (Clashes P l S) (sym e) (elim
 
 is-all_clash : (P : Prefix) (X : Matrix) (l : Literal) (S : Clause) → AllClash P X l S → all_clash P X l S ≡ true
 is-all_clash P [] l S h = refl
-is-all_clash P (E ∷ X) l S h = and-both (not (has (negation l) E) || clashes P l S E) (all_clash P X l S) (go (has (negation l) E) refl) (is-all_clash P X l S (λ D m. h D (inr m)))
+is-all_clash P (E ∷ X) l S h = and_from (not (has (negation l) E) || clashes P l S E) (all_clash P X l S) (go (has (negation l) E) refl) (is-all_clash P X l S (λ D m. h D (inr m)))
   where
     go : (b : Bool) → has (negation l) E ≡ b → (not b || clashes P l S E) ≡ true
     go false q = refl
@@ -109,12 +106,12 @@ strengthens-is l (j ∷ C) D h k (inl e) n = elim (or-parts (literal_eq j (negat
 
 is-strengthens : (l : Literal) (C D : Clause) → ((k : Literal) → IsIn k C → k ≢ negation l → IsIn k D × (k ≢ l)) → strengthens l C D ≡ true
 is-strengthens l [] D h = refl
-is-strengthens l (j ∷ C) D h = and-both (literal_eq j (negation l) || (has j D && not (literal_eq j l))) (strengthens l C D) (go (literal_eq j (negation l)) refl) (is-strengthens l C D (λ k m. h k (inr m)))
+is-strengthens l (j ∷ C) D h = and_from (literal_eq j (negation l) || (has j D && not (literal_eq j l))) (strengthens l C D) (go (literal_eq j (negation l)) refl) (is-strengthens l C D (λ k m. h k (inr m)))
   where
     go : (b : Bool) → literal_eq j (negation l) ≡ b → (b || (has j D && not (literal_eq j l))) ≡ true
     go true q = refl
     go false q = let r : IsIn j D × (j ≢ l) = h j (inl refl) (λ e. let z : literal_eq j (negation l) ≡ true = subst (λ y. literal_eq y (negation l) ≡ true) (sym e) (literal_eq-itself (negation l)) in grind arith) in
-        and-both (has j D) (not (literal_eq j l)) (IsIn-has j D r.0) (not-both (literal_eq j l) (λ e. r.1 (literal_eq-sound j l e)))
+        and_from (has j D) (not (literal_eq j l)) (IsIn-has j D r.0) (not-both (literal_eq j l) (λ e. r.1 (literal_eq-sound j l e)))
 
 differ-is : (c d : ℕ) → not (eqb c d) ≡ true → c ≢ d
 differ-is c d h e = let z : eqb c d ≡ true = grind arith in not-parts (eqb c d) h z
@@ -144,7 +141,7 @@ decided-pure B P N l = (
   (λ h. let r : (is_bound P l.var ≡ true) × ((literal_occurs l (live N) && not (literal_occurs (negation l) (live N))) ≡ true) = and-parts (is_bound P l.var) (literal_occurs l (live N) && not (literal_occurs (negation l) (live N))) h in
       let s : (literal_occurs l (live N) ≡ true) × (not (literal_occurs (negation l) (live N)) ≡ true) = and-parts (literal_occurs l (live N)) (not (literal_occurs (negation l) (live N))) r.1 in
       (r.0, occurs_literal-is l (live N) s.0, λ o. not-parts (literal_occurs (negation l) (live N)) s.1 (is-occurs_literal (negation l) (live N) o))),
-  λ h. and-both (is_bound P l.var) (literal_occurs l (live N) && not (literal_occurs (negation l) (live N))) h.0 (and-both (literal_occurs l (live N)) (not (literal_occurs (negation l) (live N))) (is-occurs_literal l (live N) h.1) (not-both (literal_occurs (negation l) (live N)) (λ o. h.2 (occurs_literal-is (negation l) (live N) o)))),
+  λ h. and_from (is_bound P l.var) (literal_occurs l (live N) && not (literal_occurs (negation l) (live N))) h.0 (and_from (literal_occurs l (live N)) (not (literal_occurs (negation l) (live N))) (is-occurs_literal l (live N) h.1) (not-both (literal_occurs (negation l) (live N)) (λ o. h.2 (occurs_literal-is (negation l) (live N) o)))),
 )
 
 pub decided-subsumed : (B : Bounds) (P : Prefix) (N : Slots) (c d : ℕ) → (fits B P N (subsumed c d) ≡ true) ↔ Fits B P N (subsumed c d)
@@ -153,7 +150,7 @@ decided-subsumed B P N c d = (
       let s : (C : Clause) × (slot N c ≡ Some C) × (if_some (all_in C) (slot N d) ≡ true) = if_some-is (λ C. if_some (all_in C) (slot N d)) (slot N c) r.1 in
       let t : (D : Clause) × (slot N d ≡ Some D) × (all_in s.0 D ≡ true) = if_some-is (all_in s.0) (slot N d) s.2 in
       (s.0, t.0, differ-is c d r.0, s.1, t.1, all_in-is s.0 t.0 t.2)),
-  λ h. and-both (not (eqb c d)) (if_some (λ C. if_some (all_in C) (slot N d)) (slot N c)) (is-differ c d h.2)
+  λ h. and_from (not (eqb c d)) (if_some (λ C. if_some (all_in C) (slot N d)) (slot N c)) (is-differ c d h.2)
       (is-if_some (λ C. if_some (all_in C) (slot N d)) (slot N c) h.0 h.3 (is-if_some (all_in h.0) (slot N d) h.1 h.4 (is-all_in h.0 h.1 h.5))),
 )
 
@@ -164,7 +161,7 @@ decided-blocked B P N c l = (
       let b : (is_existential P l.var ≡ true) × (all_clash P (others c N) l s.0 ≡ true) = and-parts (is_existential P l.var) (all_clash P (others c N) l s.0) a.1 in
       (s.0, s.1, has-IsIn l s.0 a.0, b.0, all_clash-is P (others c N) l s.0 b.1)),
   λ h. is-if_some (λ C. has l C && (is_existential P l.var && all_clash P (others c N) l C)) (slot N c) h.0 h.1
-      (and-both (has l h.0) (is_existential P l.var && all_clash P (others c N) l h.0) (IsIn-has l h.0 h.2) (and-both (is_existential P l.var) (all_clash P (others c N) l h.0) h.3 (is-all_clash P (others c N) l h.0 h.4))),
+      (and_from (has l h.0) (is_existential P l.var && all_clash P (others c N) l h.0) (IsIn-has l h.0 h.2) (and_from (is_existential P l.var) (all_clash P (others c N) l h.0) h.3 (is-all_clash P (others c N) l h.0 h.4))),
 )
 
 pub decided-blocked_forall : (B : Bounds) (P : Prefix) (N : Slots) (c : ℕ) (l : Literal) → (fits B P N (blocked_forall c l) ≡ true) ↔ Fits B P N (blocked_forall c l)
@@ -175,9 +172,9 @@ decided-blocked_forall B P N c l = (
       let d : (not (has (negation l) s.0) ≡ true) × (all_clash P (others c N) l s.0 ≡ true) = and-parts (not (has (negation l) s.0)) (all_clash P (others c N) l s.0) b.1 in
       (s.0, s.1, has-IsIn l s.0 a.0, b.0, (λ m. not-parts (has (negation l) s.0) d.0 (IsIn-has (negation l) s.0 m)), all_clash-is P (others c N) l s.0 d.1)),
   λ h. is-if_some (λ C. has l C && (is_universal P l.var && (not (has (negation l) C) && all_clash P (others c N) l C))) (slot N c) h.0 h.1
-      (and-both (has l h.0) (is_universal P l.var && (not (has (negation l) h.0) && all_clash P (others c N) l h.0)) (IsIn-has l h.0 h.2)
-      (and-both (is_universal P l.var) (not (has (negation l) h.0) && all_clash P (others c N) l h.0) h.3
-      (and-both (not (has (negation l) h.0)) (all_clash P (others c N) l h.0) (not-both (has (negation l) h.0) (λ e. h.4 (has-IsIn (negation l) h.0 e))) (is-all_clash P (others c N) l h.0 h.5)))),
+      (and_from (has l h.0) (is_universal P l.var && (not (has (negation l) h.0) && all_clash P (others c N) l h.0)) (IsIn-has l h.0 h.2)
+      (and_from (is_universal P l.var) (not (has (negation l) h.0) && all_clash P (others c N) l h.0) h.3
+      (and_from (not (has (negation l) h.0)) (all_clash P (others c N) l h.0) (not-both (has (negation l) h.0) (λ e. h.4 (has-IsIn (negation l) h.0 e))) (is-all_clash P (others c N) l h.0 h.5)))),
 )
 
 pub decided-strengthen : (B : Bounds) (P : Prefix) (N : Slots) (c d : ℕ) (l : Literal) → (fits B P N (strengthen c d l) ≡ true) ↔ Fits B P N (strengthen c d l)
@@ -188,27 +185,27 @@ decided-strengthen B P N c d l = (
       let a : (has l t.0 ≡ true) × ((has (negation l) s.0 && strengthens l s.0 t.0) ≡ true) = and-parts (has l t.0) (has (negation l) s.0 && strengthens l s.0 t.0) t.2 in
       let b : (has (negation l) s.0 ≡ true) × (strengthens l s.0 t.0 ≡ true) = and-parts (has (negation l) s.0) (strengthens l s.0 t.0) a.1 in
       (s.0, t.0, differ-is c d r.0, s.1, t.1, has-IsIn l t.0 a.0, has-IsIn (negation l) s.0 b.0, strengthens-is l s.0 t.0 b.1)),
-  λ h. and-both (not (eqb c d)) (if_some (λ C. if_some (λ D. has l D && (has (negation l) C && strengthens l C D)) (slot N d)) (slot N c)) (is-differ c d h.2)
+  λ h. and_from (not (eqb c d)) (if_some (λ C. if_some (λ D. has l D && (has (negation l) C && strengthens l C D)) (slot N d)) (slot N c)) (is-differ c d h.2)
       (is-if_some (λ C. if_some (λ D. has l D && (has (negation l) C && strengthens l C D)) (slot N d)) (slot N c) h.0 h.3
       (is-if_some (λ D. has l D && (has (negation l) h.0 && strengthens l h.0 D)) (slot N d) h.1 h.4
-      (and-both (has l h.1) (has (negation l) h.0 && strengthens l h.0 h.1) (IsIn-has l h.1 h.5) (and-both (has (negation l) h.0) (strengthens l h.0 h.1) (IsIn-has (negation l) h.0 h.6) (is-strengthens l h.0 h.1 h.7))))),
+      (and_from (has l h.1) (has (negation l) h.0 && strengthens l h.0 h.1) (IsIn-has l h.1 h.5) (and_from (has (negation l) h.0) (strengthens l h.0 h.1) (IsIn-has (negation l) h.0 h.6) (is-strengthens l h.0 h.1 h.7))))),
 )
 
-leb-is : (m n : ℕ) → at_most m n ≡ true → m ≤ n
-leb-is m n h = grind arith
+pub at_most-is : (m n : ℕ) → at_most m n ≡ true → m ≤ n
+at_most-is m n h = grind arith
 
-is-leb : (m n : ℕ) → m ≤ n → at_most m n ≡ true
-is-leb m n h = grind arith
+pub is-at_most : (m n : ℕ) → m ≤ n → at_most m n ≡ true
+is-at_most m n h = grind arith
 
 no_tautology-is : (l : Literal) (X : Matrix) → no_tautology l X ≡ true → (D : Clause) → IsIn D X → IsIn l D → IsTautology D → ⊥
 no_tautology-is l [] h D m i t = elim m [ ]
 no_tautology-is l (E ∷ X) h D (inr m) i t = no_tautology-is l X (and-parts (not (has l E && is_tautology E)) (no_tautology l X) h).1 D m i t
 no_tautology-is l (E ∷ X) h D (inl e) i t = not-parts (has l E && is_tautology E) (and-parts (not (has l E && is_tautology E)) (no_tautology l X) h).0
-    (and-both (has l E) (is_tautology E) (IsIn-has l E (subst (IsIn l) e i)) (is_tautology-whole E (subst IsTautology e t)))
+    (and_from (has l E) (is_tautology E) (IsIn-has l E (subst (IsIn l) e i)) (is_tautology-whole E (subst IsTautology e t)))
 
 is-no_tautology : (l : Literal) (X : Matrix) → ((D : Clause) → IsIn D X → IsIn l D → IsTautology D → ⊥) → no_tautology l X ≡ true
 is-no_tautology l [] h = refl
-is-no_tautology l (E ∷ X) h = and-both (not (has l E && is_tautology E)) (no_tautology l X)
+is-no_tautology l (E ∷ X) h = and_from (not (has l E && is_tautology E)) (no_tautology l X)
     (not-both (has l E && is_tautology E) (λ k. let r : (has l E ≡ true) × (is_tautology E ≡ true) = and-parts (has l E) (is_tautology E) k in h E (inl refl) (has-IsIn l E r.0) (is_tautology-sound E r.1)))
     (is-no_tautology l X (λ D m. h D (inr m)))
 
@@ -216,11 +213,11 @@ no_both-is : (u : ℕ) (X : Matrix) → no_both u X ≡ true → (D : Clause) �
 no_both-is u [] h D m i t = elim m [ ]
 no_both-is u (E ∷ X) h D (inr m) i t = no_both-is u X (and-parts (not (has (positive u) E && has (negation (positive u)) E)) (no_both u X) h).1 D m i t
 no_both-is u (E ∷ X) h D (inl e) i t = not-parts (has (positive u) E && has (negation (positive u)) E) (and-parts (not (has (positive u) E && has (negation (positive u)) E)) (no_both u X) h).0
-    (and-both (has (positive u) E) (has (negation (positive u)) E) (IsIn-has (positive u) E (subst (IsIn (positive u)) e i)) (IsIn-has (negation (positive u)) E (subst (IsIn (negation (positive u))) e t)))
+    (and_from (has (positive u) E) (has (negation (positive u)) E) (IsIn-has (positive u) E (subst (IsIn (positive u)) e i)) (IsIn-has (negation (positive u)) E (subst (IsIn (negation (positive u))) e t)))
 
 is-no_both : (u : ℕ) (X : Matrix) → ((D : Clause) → IsIn D X → IsIn (positive u) D → IsIn (negation (positive u)) D → ⊥) → no_both u X ≡ true
 is-no_both u [] h = refl
-is-no_both u (E ∷ X) h = and-both (not (has (positive u) E && has (negation (positive u)) E)) (no_both u X)
+is-no_both u (E ∷ X) h = and_from (not (has (positive u) E && has (negation (positive u)) E)) (no_both u X)
     (not-both (has (positive u) E && has (negation (positive u)) E) (λ k. let r : (has (positive u) E ≡ true) × (has (negation (positive u)) E ≡ true) = and-parts (has (positive u) E) (has (negation (positive u)) E) k in h E (inl refl) (has-IsIn (positive u) E r.0) (has-IsIn (negation (positive u)) E r.1)))
     (is-no_both u X (λ D m. h D (inr m)))
 
@@ -231,7 +228,7 @@ all_outer-is P l (j ∷ C) h k (inr m) = all_outer-is P l C (and-parts (outer_or
 
 is-all_outer : (P : Prefix) (l : Literal) (C : Clause) → ((k : Literal) → IsIn k C → outer_or_same P k.var l.var ≡ true) → all_outer P l C ≡ true
 is-all_outer P l [] h = refl
-is-all_outer P l (j ∷ C) h = and-both (outer_or_same P j.var l.var) (all_outer P l C) (h j (inl refl)) (is-all_outer P l C (λ k m. h k (inr m)))
+is-all_outer P l (j ∷ C) h = and_from (outer_or_same P j.var l.var) (all_outer P l C) (h j (inl refl)) (is-all_outer P l C (λ k m. h k (inr m)))
 
 outer_side-is : (P : Prefix) (l : Literal) (X : Matrix) → outer_side P l X ≡ true → AllOuter P l X
 outer_side-is P l [] h D m = elim m [ ]
@@ -241,7 +238,7 @@ outer_side-is P l (E ∷ X) h D (inl e) = λ i k n. elim (or-parts (not (has l E
 
 is-outer_side : (P : Prefix) (l : Literal) (X : Matrix) → AllOuter P l X → outer_side P l X ≡ true
 is-outer_side P l [] h = refl
-is-outer_side P l (E ∷ X) h = and-both (not (has l E) || all_outer P l E) (outer_side P l X) (go (has l E) refl) (is-outer_side P l X (λ D m. h D (inr m)))
+is-outer_side P l (E ∷ X) h = and_from (not (has l E) || all_outer P l E) (outer_side P l X) (go (has l E) refl) (is-outer_side P l X (λ D m. h D (inr m)))
   where
     go : (b : Bool) → has l E ≡ b → (not b || all_outer P l E) ≡ true
     go false q = refl
@@ -286,16 +283,16 @@ decided-eliminate B P N x = (there, back)
           occurs = (occurs-var x X).0 b.0;
           no_tautology = λ D m i t. elim i [ inl y ↦ no_tautology-is p X c.0 D m y t | inr z ↦ no_tautology-is n X d.0 D m z t ];
           outer_side = elim (or-parts (outer_side P p X) (outer_side P n X) f.0) [ inl y ↦ inl (outer_side-is P p X y) | inr z ↦ inr (outer_side-is P n X z) ];
-          small = leb-is (size_of (resolvents x X)) (size_of (clauses_of x X) + B.grow) f.1;
+          small = at_most-is (size_of (resolvents x X)) (size_of (clauses_of x X) + B.grow) f.1;
         }
 
     back : Fits B P N (eliminate x) → fits B P N (eliminate x) ≡ true
-    back h = and-both (is_existential P x) (occurs x X && (no_tautology p X && (no_tautology n X && (O && L)))) h.existential
-        (and-both (occurs x X) (no_tautology p X && (no_tautology n X && (O && L))) ((occurs-var x X).1 h.occurs)
-        (and-both (no_tautology p X) (no_tautology n X && (O && L)) (is-no_tautology p X (λ D m i t. h.no_tautology D m (inl i) t))
-        (and-both (no_tautology n X) (O && L) (is-no_tautology n X (λ D m i t. h.no_tautology D m (inr i) t))
-        (and-both O L (or-either (outer_side P p X) (outer_side P n X) (elim h.outer_side [ inl y ↦ inl (is-outer_side P p X y) | inr z ↦ inr (is-outer_side P n X z) ]))
-        (is-leb (size_of (resolvents x X)) (size_of (clauses_of x X) + B.grow) h.small)))))
+    back h = and_from (is_existential P x) (occurs x X && (no_tautology p X && (no_tautology n X && (O && L)))) h.existential
+        (and_from (occurs x X) (no_tautology p X && (no_tautology n X && (O && L))) ((occurs-var x X).1 h.occurs)
+        (and_from (no_tautology p X) (no_tautology n X && (O && L)) (is-no_tautology p X (λ D m i t. h.no_tautology D m (inl i) t))
+        (and_from (no_tautology n X) (O && L) (is-no_tautology n X (λ D m i t. h.no_tautology D m (inr i) t))
+        (and_from O L (or-either (outer_side P p X) (outer_side P n X) (elim h.outer_side [ inl y ↦ inl (is-outer_side P p X y) | inr z ↦ inr (is-outer_side P n X z) ]))
+        (is-at_most (size_of (resolvents x X)) (size_of (clauses_of x X) + B.grow) h.small)))))
 
 pub decided-expand : (B : Bounds) (P : Prefix) (N : Slots) (u : ℕ) → (fits B P N (expand_universal u) ≡ true) ↔ Fits B P N (expand_universal u)
 decided-expand B P N u = (there, back)
@@ -319,12 +316,19 @@ decided-expand B P N u = (there, back)
           universal = a.0;
           occurs = (occurs-var u X).0 b.0;
           no_tautology = no_both-is u X c.0;
-          few = leb-is (length (expansion_vars P X u)) B.expand d.0;
-          small = leb-is (size_of (touched_neither u (expansion_vars P X u) X)) (B.expand + length (clauses_of u X)) d.1;
+          few = at_most-is (length (expansion_vars P X u)) B.expand d.0;
+          small = at_most-is (size_of (touched_neither u (expansion_vars P X u) X)) (B.expand + length (clauses_of u X)) d.1;
         }
 
     back : Fits B P N (expand_universal u) → fits B P N (expand_universal u) ≡ true
-    back h = and-both (is_universal P u) (occurs u X && (no_both u X && (F && L))) h.universal
-        (and-both (occurs u X) (no_both u X && (F && L)) ((occurs-var u X).1 h.occurs)
-        (and-both (no_both u X) (F && L) (is-no_both u X h.no_tautology)
-        (and-both F L (is-leb (length (expansion_vars P X u)) B.expand h.few) (is-leb (size_of (touched_neither u (expansion_vars P X u) X)) (B.expand + length (clauses_of u X)) h.small))))
+    back h = and_from (is_universal P u) (occurs u X && (no_both u X && (F && L))) h.universal
+        (and_from (occurs u X) (no_both u X && (F && L)) ((occurs-var u X).1 h.occurs)
+        (and_from (no_both u X) (F && L) (is-no_both u X h.no_tautology)
+        (and_from F L (is-at_most (length (expansion_vars P X u)) B.expand h.few) (is-at_most (size_of (touched_neither u (expansion_vars P X u) X)) (B.expand + length (clauses_of u X)) h.small))))
+
+pub is_tautology-none : (C : Clause) → (IsTautology C → ⊥) → is_tautology C ≡ false
+is_tautology-none C n = go (is_tautology C) refl
+  where
+    go : (b : Bool) → is_tautology C ≡ b → b ≡ false
+    go true e = absurd (n (is_tautology-sound C e))
+    go false e = refl

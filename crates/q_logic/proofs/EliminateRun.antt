@@ -4,11 +4,11 @@ use Rattle.q_logic.specs.Prelude.{positive, Literal, negation, literal_eq, Claus
 use Rattle.q_logic.specs.declared.rule_bounds.Bounds.{Bounds}
 use Rattle.q_logic.proofs.Heights.{weight, one, Way, modest-append, modest-adds, modest-deletes}
 use Rattle.q_logic.proofs.JustifiedRuns.{SameClauses, Reaches}
-use Rattle.q_logic.proofs.ClauseLemmas.{literal_eq-sound, literal_eq-itself, IsIn-append_left, IsIn-append}
+use Rattle.q_logic.proofs.ClauseLemmas.{literal_eq-sound, literal_eq-itself, IsIn-append_left, IsIn-append, IsIn-append_right}
 use Rattle.q_logic.proofs.UniversalPivot.{IsIn-without, without-IsIn}
 use Rattle.q_logic.proofs.JustifiedRuns.{alike-sym, copies-append, reaches-alike, reaches-append}
 use Rattle.q_logic.proofs.ImpliedClauses.{implied-subsumed, implied-tautology, implied-hidden, same_or_not}
-use Rattle.q_logic.proofs.ChangeRuns.{deletes, adds, least, IsIn-right, reaches-deletes, reaches-adds}
+use Rattle.q_logic.proofs.ChangeRuns.{deletes, adds, least, reaches-deletes, reaches-adds}
 use Rattle.q_logic.proofs.NumberedClauses.{with-alike, IsIn-with, IsIn-without_literal, IsIn-in_with, without_literal-swap}
 use Rattle.q_logic.proofs.JoinedClauses.{union-IsIn, IsIn-union, IsIn-outer_in, without-other, IsIn-put_unless, put_unless-IsIn, put_unless-more}
 use Rattle.q_logic.proofs.PlainRuns.{pure-pivot}
@@ -37,7 +37,7 @@ pub resolve_all-in : (l : Literal) (X Y : Matrix) (C D : Clause) → IsIn C X �
 resolve_all-in l [] Y C D m n = elim m [ ]
 resolve_all-in l (E ∷ X) Y C D (inl e) n = subst (λ y. IsTautology (resolvent l y D) ⊎ IsIn (resolvent l y D) (resolve_all l (E ∷ X) Y)) (sym e)
     (elim (resolve_one-in l E Y D n) [ inl t ↦ inl t | inr i ↦ inr (IsIn-append_left (resolvent l E D) (resolve_one l E Y) (resolve_all l X Y) i) ])
-resolve_all-in l (E ∷ X) Y C D (inr m) n = elim (resolve_all-in l X Y C D m n) [ inl t ↦ inl t | inr i ↦ inr (IsIn-right (resolvent l C D) (resolve_one l E Y) (resolve_all l X Y) i) ]
+resolve_all-in l (E ∷ X) Y C D (inr m) n = elim (resolve_all-in l X Y C D m n) [ inl t ↦ inl t | inr i ↦ inr (IsIn-append_right (resolvent l C D) (resolve_one l E Y) (resolve_all l X Y) i) ]
 
 -- A resolvent is implied.
 pub resolvent-implied : (Z : Matrix) (l : Literal) (C D : Clause) → IsIn C Z → IsIn D Z → IsIn (negation l) D → Implied Z (resolvent l C D)
@@ -81,7 +81,7 @@ eliminated-pivot P X V Z C m q outer_side r inC onC f g = record { existential_p
             inside : (k : Literal) → IsIn k U → IsIn k (C ++ outer P (negation m) D)
             inside k i = elim (w k i) [
               | inl c ↦ IsIn-append_left k C (outer P (negation m) D) c
-              | inr d ↦ IsIn-right k C (outer P (negation m) D) (IsIn-outer_in P (negation m) D k d.0 (let o : outer_or_same P k.var m.var ≡ true = outer_side D a n k d.0 in let e : literal_eq k (negation m) ≡ false = d.1 in grind arith))
+              | inr d ↦ IsIn-append_right k C (outer P (negation m) D) (IsIn-outer_in P (negation m) D k d.0 (let o : outer_or_same P k.var m.var ≡ true = outer_side D a n k d.0 in let e : literal_eq k (negation m) ≡ false = d.1 in grind arith))
             ]
 
 -- The clauses A on m go by m, then those B on the other literal by it; the rest R and V stay.
@@ -93,7 +93,7 @@ eliminated : (P : Prefix) (X V A B R : Matrix) (m : Literal) → is_existential 
     → Reaches (formula_of P (A ++ (B ++ (R ++ V)))) (deletes (λ C. Some m) A ++ deletes (λ C. Some (negation m)) B) (formula_of P (R ++ V))
 eliminated P X V A B R m q o r a b c v =
     reaches-append (formula_of P (A ++ (B ++ (R ++ V)))) (deletes (λ C. Some m) A) (deletes (λ C. Some (negation m)) B) (formula_of P (B ++ (R ++ V))) (formula_of P (R ++ V))
-    (reaches-deletes P (λ C. Some m) A (B ++ (R ++ V)) (λ C i Z f g. inr (m, refl, eliminated-pivot P X V Z C m q o r (a C i).0 (a C i).1 (λ D n. f D (IsIn-right D B (R ++ V) (IsIn-right D R V n))) (λ D n. where_from D (g D n)))))
+    (reaches-deletes P (λ C. Some m) A (B ++ (R ++ V)) (λ C i Z f g. inr (m, refl, eliminated-pivot P X V Z C m q o r (a C i).0 (a C i).1 (λ D n. f D (IsIn-append_right D B (R ++ V) (IsIn-append_right D R V n))) (λ D n. where_from D (g D n)))))
     (reaches-deletes P (λ C. Some (negation m)) B (R ++ V) (λ C i Z f g. inr (negation m, refl, pure-pivot P Z C (negation m) (b C i).1 q (λ D n. none D (g D n)))))
   where
     where_from : (D : Clause) → IsIn D (A ++ (B ++ (R ++ V))) → IsIn D X ⊎ IsIn D V

@@ -1,10 +1,11 @@
 -- A prefix with its quantifiers exchanged: what holds of Skolem functions over it holds of Herbrand functions.
-use Rattle.std.proofs.Common.{◌≡◌, ℕ, Bool, true, false, not, [], ◌∷◌, refl, sym, ap, ◌∙◌}
+use Rattle.std.proofs.Common.{◌≡◌, ℕ, not, [], ◌∷◌, refl, sym, ap, ◌∙◌}
 use Rattle.q_logic.specs.declared.formulas.Quant.{Quant}
 use Rattle.q_logic.specs.declared.formulas.Quant.TheVariants.{Exists, Forall}
 use Rattle.q_logic.specs.Prelude.{Prefix, is_exists, is_existential, is_universal, is_bound, universal_before, same_quant, run_to, outer_or_same, Distinct, Strategy, Lawful}
 use Rattle.q_logic.specs.Exchanging.{other_quant, exchanged}
 use Rattle.q_logic.specs.Herbrands.{existential_before, LawfulHerbrand}
+use Rattle.q_logic.proofs.Booleans.{not-not}
 
 other-exists : (q : Quant) → is_exists (other_quant q) ≡ not (is_exists q)
 other-exists Exists = refl
@@ -15,10 +16,6 @@ other-same Exists Exists = refl
 other-same Exists Forall = refl
 other-same Forall Exists = refl
 other-same Forall Forall = refl
-
-not-not : (b : Bool) → not (not b) ≡ b
-not-not true = refl
-not-not false = refl
 
 pub exchanged-existential : (P : Prefix) (x : ℕ) → is_existential (exchanged P) x ≡ is_universal P x
 exchanged-existential [] x = refl

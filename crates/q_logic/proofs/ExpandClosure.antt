@@ -4,15 +4,15 @@ use Rattle.q_logic.specs.Prelude.{has_variable, positive, Literal, Clause, Prefi
 use Rattle.q_logic.specs.declared.rule_bounds.Bounds.{Bounds}
 use Rattle.q_logic.specs.Expanding.{Expandable, in_list, shares, touches, touched_with, next_vars, grown_vars, expansion_vars, inner_existential, insert_all, expanded}
 use Rattle.q_logic.proofs.JustifiedRuns.{Reaches}
-use Rattle.q_logic.proofs.PrefixOrder.{existential-is_bound, universal-not_existential}
+use Rattle.q_logic.proofs.PrefixOrder.{existential-is_bound, universal-not_existential, universal-is_bound}
 use Rattle.q_logic.proofs.JustifiedRuns.{reaches-append}
-use Rattle.q_logic.proofs.NumberedClauses.{has-IsIn}
 use Rattle.q_logic.proofs.LiteralOrder.{is_bound-greatest}
 use Rattle.q_logic.proofs.ExpandPrefix.{Above, AllE, below, inserted-is_existential, inserted-is_universal, inserted-is_bound, inserted-outer, inserted-copies, inserted-distinct, freshes, reaches-freshes, outer_or_same-inner}
 use Rattle.q_logic.proofs.ExpandLinks.{minus, Originals}
 use Rattle.q_logic.proofs.Heights.{weight, one, Way, modest-append, modest-more, weight-one, weight-length}
 use Rattle.q_logic.proofs.ExpandSize.{steps-modest, greatest-inserted, freshes-modest}
 use Rattle.q_logic.proofs.ExpandRun.{Expansion, expand_steps, expand_from}
+use Rattle.q_logic.proofs.ClauseLemmas.{has-IsIn, has_variable-IsIn}
 
 abbrev InOf : List ℕ → List ℕ → Type 0
 InOf V W = (v : ℕ) → in_list v V ≡ true → in_list v W ≡ true
@@ -174,11 +174,6 @@ touched_with-of v u V (E ∷ X) D (inr m) h t = let i : touched_with v u V X ≡
     go true i = refl
     go false i = i
 
-pub has_variable-IsIn : (D : Clause) (k : Literal) → IsIn k D → has_variable k.var D ≡ true
-has_variable-IsIn [] k m = elim m [ ]
-has_variable-IsIn (j ∷ D) k (inl e) = let z : k.var ≡ j.var = ap (λ y. y.var) e in grind arith
-has_variable-IsIn (j ∷ D) k (inr m) = let i : has_variable k.var D ≡ true = has_variable-IsIn D k m in grind arith
-
 -- The computed list is closed.
 pub expansion_vars-closed : (P : Prefix) (X : Matrix) (u : ℕ) (D : Clause) → IsIn D X → touches u (expansion_vars P X u) D ≡ true → (k : Literal) → IsIn k D → is_bound P k.var ≡ true → inner_existential P u k.var ≡ true → in_list k.var (expansion_vars P X u) ≡ true
 expansion_vars-closed P X u D m t k i b h = subst (λ V. in_list k.var V ≡ true) (expansion_vars-fixed P X u)
@@ -262,10 +257,6 @@ originals-of P u t W (x ∷ V) e a q b h o = (
     differ true z = let y : u ≡ x = grind arith in let w : is_universal P x ≡ true = subst (λ v. is_universal P v ≡ true) y q in let n : is_existential P x ≡ false = universal-not_existential P x w in let m : is_existential P x ≡ true = (inner-parts P u x h.0).0 in grind arith
     differ false z = z
 
-pub bound_of_u : (P : Prefix) (v : ℕ) → is_universal P v ≡ true → is_bound P v ≡ true
-bound_of_u [] v h = h
-bound_of_u (b ∷ P) v h = grind (arith, bound_of_u P v)
-
 pub expand_on : (expand : ℕ) (P : Prefix) (X : Matrix) (u : ℕ) → Distinct P → ((D : Clause) → IsIn D X → (k : Literal) → IsIn k D → is_bound P k.var ≡ true) → Expandable expand P X u →
     Reaches (formula_of P X) (freshes (expansion_vars P X u) (greatest P + 1) ++ expand_steps u (expansion_vars P X u) (greatest P + 1) X) (formula_of (insert_all (expansion_vars P X u) (greatest P + 1) P) (expanded u (expansion_vars P X u) (greatest P + 1) X))
 expand_on expand P X u d closed h =
@@ -293,7 +284,7 @@ expand_on expand P X u d closed h =
     once = subst Once (expansion_vars-fixed P X u) (next-once P P X u (expansion_vars P X u) d)
 
     ub : is_bound P u ≡ true
-    ub = bound_of_u P u h.universal
+    ub = universal-is_bound P u h.universal
 
     ul : u < greatest P + 1
     ul = below P (greatest P + 1) u a ub

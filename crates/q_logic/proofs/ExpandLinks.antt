@@ -2,14 +2,15 @@
 use Rattle.std.proofs.Common.{◌≡◌, ◌≤◌, ◌<◌, ℕ, ◌+◌, Bool, true, false, not, eqb, List, [], ◌∷◌, ◌++◌, ◌⊎◌, inl, inr, arith, refl, sym, ap, ◌∙◌, subst, Some}
 use Rattle.q_logic.specs.Prelude.{insert, positive, Literal, negation, literal_eq, Clause, Prefix, Matrix, IsIn, is_bound, is_existential, outer_or_same, Implied, keeps, outer, ExistsPivot, without, ProofStep, add, delete, formula_of, in_list, copied_literal, copied}
 use Rattle.q_logic.proofs.JustifiedRuns.{SameClauses, Reaches}
-use Rattle.q_logic.proofs.ClauseLemmas.{literal_eq-sound, IsIn-append_left, IsIn-append}
+use Rattle.q_logic.proofs.ClauseLemmas.{literal_eq-sound, IsIn-append_left, IsIn-append, IsIn-append_right}
 use Rattle.q_logic.proofs.PrefixOrder.{existential-is_bound}
 use Rattle.q_logic.proofs.UniversalPivot.{IsIn-without}
 use Rattle.q_logic.proofs.JustifiedRuns.{alike-refl, alike-trans, alike-cons, alike-swap, reaches-end}
 use Rattle.q_logic.proofs.ImpliedClauses.{implied-subsumed, implied-tautology, implied-hidden_new, implied-longer}
-use Rattle.q_logic.proofs.ChangeRuns.{IsIn-right, alike-turned, step-first}
+use Rattle.q_logic.proofs.ChangeRuns.{alike-turned, step-first}
 use Rattle.q_logic.proofs.JoinedClauses.{insert-IsIn, IsIn-insert, IsIn-outer_in}
 use Rattle.q_logic.proofs.ExpandPrefix.{Copies, CopyOf, copy_of-in, copy_of-out}
+use Rattle.q_logic.proofs.Booleans.{not-not}
 
 abbrev pub lit : ℕ → Bool → Literal
 lit x b = record { var = x; negative = b }
@@ -48,10 +49,6 @@ links-in Z u (x ∷ V) t f = (both, links-in Z u V (t + 1) (λ D m. f D (inr (in
     both : (b : Bool) → IsIn (link u (lit t b) (lit x (not b))) Z
     both false = f (link u (lit t false) (lit x true)) (inl refl)
     both true = f (link u (lit t true) (lit x false)) (inr (inl refl))
-
-not-not : (b : Bool) → not (not b) ≡ b
-not-not true = refl
-not-not false = refl
 
 -- From a copy to the original and back.
 from_copied : (Z : Matrix) (u : ℕ) (V : List ℕ) (t : ℕ) (k : Literal) (S : Clause) → Copies (Link Z u) V t → IsIn (minus u) S → IsIn (copied_literal V t k) S → Implied Z (k ∷ S) → Implied Z S
@@ -177,7 +174,7 @@ reaches-links Q u (x ∷ V) t Z ub ul c o v = (
         go D (inl e) i = implied-tautology (L1 ∷ Z) (L2 ++ outer Q (lit t false) D) (
           lit x false,
           IsIn-append_left (lit x false) L2 (outer Q (lit t false) D) (link-last u (lit t true) (lit x false)),
-          IsIn-right (lit x true) L2 (outer Q (lit t false) D) (IsIn-outer_in Q (lit t false) D (lit x true) (subst (IsIn (lit x true)) (sym e) (link-last u (lit t false) (lit x true))) kept),
+          IsIn-append_right (lit x true) L2 (outer Q (lit t false) D) (IsIn-outer_in Q (lit t false) D (lit x true) (subst (IsIn (lit x true)) (sym e) (link-last u (lit t false) (lit x true))) kept),
         )
         go D (inr m) i = absurd (no_t D m (lit t false) refl i)
 
@@ -274,11 +271,11 @@ reaches-unlinks Q u (x ∷ V) t Z ul c o g =
         go D (inl e) i = implied-tautology (L2 ∷ W) (L1 ++ outer Q (lit x false) D) (
           lit t false,
           IsIn-append_left (lit t false) L1 (outer Q (lit x false) D) (link-first u (lit t false) (lit x true)),
-          IsIn-right (lit t true) L1 (outer Q (lit x false) D) (IsIn-outer_in Q (lit x false) D (lit t true) (subst (IsIn (lit t true)) (sym e) (link-first u (lit t true) (lit x false))) kept),
+          IsIn-append_right (lit t true) L1 (outer Q (lit x false) D) (IsIn-outer_in Q (lit x false) D (lit t true) (subst (IsIn (lit t true)) (sym e) (link-first u (lit t true) (lit x false))) kept),
         )
         go D (inr m) i = implied-tautology (L2 ∷ W) (L1 ++ outer Q (lit x false) D) (
           positive u,
-          IsIn-right (positive u) L1 (outer Q (lit x false) D) (IsIn-outer_in Q (lit x false) D (positive u) (guarded false D m i) (kept_u false)),
+          IsIn-append_right (positive u) L1 (outer Q (lit x false) D) (IsIn-outer_in Q (lit x false) D (positive u) (guarded false D m i) (kept_u false)),
           IsIn-append_left (minus u) L1 (outer Q (lit x false) D) (link-minus u (lit t false) (lit x true)),
         )
 
@@ -288,6 +285,6 @@ reaches-unlinks Q u (x ∷ V) t Z ul c o g =
         go : (D : Clause) → IsIn D W → IsIn (lit x true) D → Implied W (L2 ++ outer Q (lit x true) D)
         go D m i = implied-tautology W (L2 ++ outer Q (lit x true) D) (
           positive u,
-          IsIn-right (positive u) L2 (outer Q (lit x true) D) (IsIn-outer_in Q (lit x true) D (positive u) (guarded true D m i) (kept_u true)),
+          IsIn-append_right (positive u) L2 (outer Q (lit x true) D) (IsIn-outer_in Q (lit x true) D (positive u) (guarded true D m i) (kept_u true)),
           IsIn-append_left (minus u) L2 (outer Q (lit x true) D) (link-minus u (lit t true) (lit x false)),
         )

@@ -3,7 +3,7 @@ use Rattle.std.proofs.Common.{◌≡◌, ◌≤◌, ◌<◌, ℕ, ◌+◌, Bool,
 use Rattle.q_logic.specs.declared.formulas.Quant.{Quant}
 use Rattle.q_logic.specs.Prelude.{Prefix, Matrix, is_bound, is_existential, is_universal, outer_or_same, run_to, Distinct, ProofStep, fresh, insert_after, formula_of, insert_all, in_list, copy_of}
 use Rattle.q_logic.proofs.JustifiedRuns.{Reaches}
-use Rattle.q_logic.proofs.Prefixes.{insert-is_bound, insert-is_existential, insert-itself, insert-distinct}
+use Rattle.q_logic.proofs.Prefixes.{insert-is_bound, insert-is_existential, insert-itself, insert-distinct, insert-is_universal}
 use Rattle.q_logic.proofs.PrefixOrder.{existential-is_bound}
 use Rattle.q_logic.proofs.JustifiedRuns.{alike-refl}
 
@@ -59,10 +59,6 @@ inserted-is_existential (x ∷ V) t P h a w l = let n : eqb w t ≡ false = grin
 pub inserted-is_bound : (V : List ℕ) (t : ℕ) (P : Prefix) → AllE P V → Above P t → (w : ℕ) → w < t → is_bound (insert_all V t P) w ≡ is_bound P w
 inserted-is_bound [] t P h a w l = refl
 inserted-is_bound (x ∷ V) t P h a w l = let n : eqb w t ≡ false = grind arith in inserted-is_bound V (t + 1) (insert_after x t P) (alle-insert P x t V a h.1) (above-insert P x t a) w (grind arith) ∙ insert-is_bound x t P w n
-
-insert-is_universal : (w v : ℕ) (P : Prefix) (x : ℕ) → eqb x v ≡ false → is_universal (insert_after w v P) x ≡ is_universal P x
-insert-is_universal w v [] x n = refl
-insert-is_universal w v (b ∷ P) x n = grind (arith, insert-is_universal w v P x)
 
 pub inserted-is_universal : (V : List ℕ) (t : ℕ) (P : Prefix) → AllE P V → Above P t → (w : ℕ) → w < t → is_universal (insert_all V t P) w ≡ is_universal P w
 inserted-is_universal [] t P h a w l = refl

@@ -2,13 +2,13 @@
 use Rattle.std.proofs.Common.{◌≡◌, ◌≤◌, ◌<◌, ℕ, ◌+◌, Bool, true, false, eqb, List, [], ◌∷◌, ◌++◌, ◌⊎◌, inl, inr, arith, refl, sym, ap, ◌∙◌, subst}
 use Rattle.q_logic.specs.Prelude.{insert, positive, Literal, negation, literal_eq, Clause, Prefix, Matrix, IsIn, PrenexFormula, is_bound, is_existential, is_universal, outer_or_same, Implied, without, Reducible, Reached, ProofStep, copies, has, formula_of, in_list, shares, inner_existential, copy_of, copied_literal, copied, expanded}
 use Rattle.q_logic.proofs.JustifiedRuns.{SameClauses, Reaches}
-use Rattle.q_logic.proofs.ClauseLemmas.{literal_eq-sound, literal_eq-itself, IsIn-append_left, IsIn-append}
+use Rattle.q_logic.proofs.ClauseLemmas.{literal_eq-sound, literal_eq-itself, IsIn-append_left, IsIn-append, has-IsIn, IsIn-append_right}
 use Rattle.q_logic.proofs.PrefixOrder.{existential-is_bound, universal-not_existential}
 use Rattle.q_logic.proofs.UniversalPivot.{without-IsIn}
 use Rattle.q_logic.proofs.JustifiedRuns.{alike-sym, copies-append, reaches-alike, reaches-append, reaches-end}
 use Rattle.q_logic.proofs.ImpliedClauses.{implied-subsumed, implied-hidden}
-use Rattle.q_logic.proofs.ChangeRuns.{least, mapped, adds, deletes, replaces, drops, IsIn-right, reaches-adds, reaches-deletes, reaches-replaces, reaches-drops}
-use Rattle.q_logic.proofs.NumberedClauses.{has-IsIn, IsIn-has_not}
+use Rattle.q_logic.proofs.ChangeRuns.{least, mapped, adds, deletes, replaces, drops, reaches-adds, reaches-deletes, reaches-replaces, reaches-drops}
+use Rattle.q_logic.proofs.NumberedClauses.{IsIn-has_not}
 use Rattle.q_logic.proofs.JoinedClauses.{insert-IsIn, IsIn-insert, without-other}
 use Rattle.q_logic.proofs.ExpandPrefix.{Copies, CopyOf, copy_of-in, copy_of-out}
 use Rattle.q_logic.proofs.ExpandLinks.{lit, minus, links, link_steps, unlink_steps, links-in, over_copies, over_copies-implied, implied-by_copies, VarsBelow, Originals, Guarded, reaches-links, reaches-unlinks}
@@ -36,7 +36,7 @@ originals-in Q u t (y ∷ V) x o h = go (eqb y x) refl (λ k. originals-in Q u t
     go true q ih = let e : y ≡ x = grind arith in subst (Original Q u t) e (o.0.0, o.0.2, o.0.3)
     go false q ih = ih (grind arith)
 
-shares-IsIn : (V : List ℕ) (D : Clause) → shares V D ≡ false → (k : Literal) → IsIn k D → in_list k.var V ≡ false
+pub shares-IsIn : (V : List ℕ) (D : Clause) → shares V D ≡ false → (k : Literal) → IsIn k D → in_list k.var V ≡ false
 shares-IsIn V [] h k m = elim m [ ]
 shares-IsIn V (j ∷ D) h k (inl e) = subst (λ y. in_list y.var V ≡ false) (sym e) (grind arith)
 shares-IsIn V (j ∷ D) h k (inr m) = shares-IsIn V D (grind arith) k m
@@ -62,7 +62,7 @@ Classes Q u V t Z = (D : Clause) → IsIn D Z → ClassU Q u V t D ⊎ (ClassM Q
 pub inner_of : (Q : Prefix) (u v : ℕ) → is_existential Q v ≡ true → outer_or_same Q v u ≡ false → inner_existential Q u v ≡ true
 inner_of Q u v e o = rw (e, o) refl
 
-reached_u : (Q : Prefix) (u : ℕ) (V : List ℕ) (t : ℕ) (Z : Matrix) (C : Clause) → Classes Q u V t Z → ClassU Q u V t C → (D : Clause) → Reached Q Z C (positive u) D → ClassU Q u V t D
+pub reached_u : (Q : Prefix) (u : ℕ) (V : List ℕ) (t : ℕ) (Z : Matrix) (C : Clause) → Classes Q u V t Z → ClassU Q u V t C → (D : Clause) → Reached Q Z C (positive u) D → ClassU Q u V t D
 reached_u Q u V t Z C cs c D Reached.first = c
 reached_u Q u V t Z C cs c E (Reached.next {D = D} E2 k m n e o inZ f r) = go (reached_u Q u V t Z C cs c D r) (cs E2 inZ)
   where
@@ -71,7 +71,7 @@ reached_u Q u V t Z C cs c E (Reached.next {D = D} E2 k m n e o inZ f r) = go (r
     go d (inr (inl x)) = let a : in_list k.var V ≡ true = (d k m).1 (inner_of Q u k.var e o) in let b : in_list k.var V ≡ false = (x (negation k) n).0 in grind arith
     go d (inr (inr x)) = let a : in_list k.var V ≡ true = (d k m).1 (inner_of Q u k.var e o) in let b : in_list k.var V ≡ false = (x (negation k) n).1 in grind arith
 
-reached_m : (Q : Prefix) (u : ℕ) (V : List ℕ) (t : ℕ) (Z : Matrix) (C : Clause) → Classes Q u V t Z → ClassM Q u V t C → (D : Clause) → Reached Q Z C (minus u) D → ClassM Q u V t D
+pub reached_m : (Q : Prefix) (u : ℕ) (V : List ℕ) (t : ℕ) (Z : Matrix) (C : Clause) → Classes Q u V t Z → ClassM Q u V t C → (D : Clause) → Reached Q Z C (minus u) D → ClassM Q u V t D
 reached_m Q u V t Z C cs c D Reached.first = c
 reached_m Q u V t Z C cs c E (Reached.next {D = D} E2 k m n e o inZ f r) = go (reached_m Q u V t Z C cs c D r) (cs E2 inZ)
   where
@@ -118,7 +118,7 @@ not_in_list Q u t V v o h = go (in_list v V) refl
     go true q = let r : Original Q u t v = originals-in Q u t V v o q in let l : v < t = r.1 in let n : eqb v u ≡ false = r.2 in elim h [ inl a ↦ grind arith | inr e ↦ grind arith ]
     go false q = q
 
-no_literal : (l : Literal) (D : Clause) → has l D ≡ false → (k : Literal) → IsIn k D → literal_eq k l ≡ false
+pub no_literal : (l : Literal) (D : Clause) → has l D ≡ false → (k : Literal) → IsIn k D → literal_eq k l ≡ false
 no_literal l D h k m = go (literal_eq k l) refl
   where
     go : (b : Bool) → literal_eq k l ≡ b → literal_eq k l ≡ false
@@ -213,7 +213,7 @@ added : (Q : Prefix) (X : Matrix) (u : ℕ) (V : List ℕ) (t : ℕ) → Expansi
 added Q X u V t x = reaches-adds Q least (mapped (over_copies u V t) (both_parts u V X)) (links u V t ++ X)
     (λ C m k i. let r : (E : Clause) × IsIn E (both_parts u V X) × (C ≡ over_copies u V t E) = mapped-IsIn (over_copies u V t) (both_parts u V X) C m in copied-is_bound Q X u V t x r.0 (both-IsIn u V X r.0 r.1).0 k (subst (IsIn k) r.2 i))
     (λ C m Z f g. let r : (E : Clause) × IsIn E (both_parts u V X) × (C ≡ over_copies u V t E) = mapped-IsIn (over_copies u V t) (both_parts u V X) C m in
-    inl (subst (Implied Z) (sym r.2) (over_copies-implied Z u V t r.0 (links-in Z u V t (λ D i. f D (IsIn-append_left D (links u V t) X i))) (f r.0 (IsIn-right r.0 (links u V t) X (both-IsIn u V X r.0 r.1).0)))))
+    inl (subst (Implied Z) (sym r.2) (over_copies-implied Z u V t r.0 (links-in Z u V t (λ D i. f D (IsIn-append_left D (links u V t) X i))) (f r.0 (IsIn-append_right r.0 (links u V t) X (both-IsIn u V X r.0 r.1).0)))))
 
 deleted : (Q : Prefix) (X : Matrix) (u : ℕ) (V : List ℕ) (t : ℕ) → Expansion Q X u V t → (Y : Matrix) → ((D : Clause) → IsIn D (links u V t) → IsIn D Y) → ((D : Clause) → IsIn D (mapped (over_copies u V t) (both_parts u V X)) → IsIn D Y)
     → Reaches (formula_of Q (with_minus u V X ++ Y)) (deletes least (with_minus u V X)) (formula_of Q Y)
@@ -230,7 +230,7 @@ replaced Q X u V t x Y l b = reaches-replaces Q (insert (positive u)) (sharing u
     (λ C m Z i f. implied-hidden Z (insert (positive u) C) C (positive u) i (IsIn-insert (positive u) C (positive u) (inl refl))
     (λ j n d. elim (insert-IsIn (positive u) C j n) [ inl e ↦ absurd (d e) | inr k ↦ k ])
     (implied-by_copies Z u V t C (minus u ∷ C) (links-in Z u V t (λ D k. f D (l D k)))
-    (f (over_copies u V t C) (b (over_copies u V t C) (IsIn-mapped (over_copies u V t) (both_parts u V X) C (IsIn-right C (with_minus u V X) (sharing u V X) m))))
+    (f (over_copies u V t C) (b (over_copies u V t C) (IsIn-mapped (over_copies u V t) (both_parts u V X) C (IsIn-append_right C (with_minus u V X) (sharing u V X) m))))
     (inl refl) (λ k n. inr (without-IsIn (minus u) C k n))))
 
 -- What the parts are in the end.
@@ -347,7 +347,7 @@ expand_from Q X u V t x =
     (added Q X u V t x)
     (reaches-alike Q (N ++ (M ++ Y2)) (B ++ (L ++ X)) (deletes least N ++ (replaces (insert (positive u)) M ++ (unlink_steps u V t ++ (drops (positive u) U ++ drops (minus u) B)))) E (first-alike u V X L B)
     (reaches-append (formula_of Q (N ++ (M ++ Y2))) (deletes least N) (replaces (insert (positive u)) M ++ (unlink_steps u V t ++ (drops (positive u) U ++ drops (minus u) B))) (formula_of Q (M ++ Y2)) E
-    (deleted Q X u V t x (M ++ Y2) (λ D m. IsIn-right D M Y2 (links_in D m)) (λ D m. IsIn-right D M Y2 (copies_in D m)))
+    (deleted Q X u V t x (M ++ Y2) (λ D m. IsIn-append_right D M Y2 (links_in D m)) (λ D m. IsIn-append_right D M Y2 (copies_in D m)))
     (reaches-append (formula_of Q (M ++ Y2)) (replaces (insert (positive u)) M) (unlink_steps u V t ++ (drops (positive u) U ++ drops (minus u) B)) (formula_of Q (mapped (insert (positive u)) M ++ Y2)) E
     (replaced Q X u V t x Y2 links_in copies_in)
     (reaches-alike Q (L ++ (U ++ (R ++ B))) (mapped (insert (positive u)) M ++ Y2) (unlink_steps u V t ++ (drops (positive u) U ++ drops (minus u) B)) E (alike-sym (mapped (insert (positive u)) M ++ Y2) (L ++ (U ++ (R ++ B))) (second-alike A (mapped (insert (positive u)) M) R L B))
@@ -390,10 +390,10 @@ expand_from Q X u V t x =
     E = formula_of Q (expanded u V t X)
 
     links_in : (D : Clause) → IsIn D (links u V t) → IsIn D (with_u u V X ++ (apart u V X ++ (mapped (over_copies u V t) (both_parts u V X) ++ links u V t)))
-    links_in D m = IsIn-right D A (R ++ (B ++ L)) (IsIn-right D R (B ++ L) (IsIn-right D B L m))
+    links_in D m = IsIn-append_right D A (R ++ (B ++ L)) (IsIn-append_right D R (B ++ L) (IsIn-append_right D B L m))
 
     copies_in : (D : Clause) → IsIn D (mapped (over_copies u V t) (both_parts u V X)) → IsIn D (with_u u V X ++ (apart u V X ++ (mapped (over_copies u V t) (both_parts u V X) ++ links u V t)))
-    copies_in D m = IsIn-right D A (R ++ (B ++ L)) (IsIn-right D R (B ++ L) (IsIn-append_left D B L m))
+    copies_in D m = IsIn-append_right D A (R ++ (B ++ L)) (IsIn-append_right D R (B ++ L) (IsIn-append_left D B L m))
 
     in_u : (D : Clause) → IsIn D (with_u u V X ++ mapped (insert (positive u)) (sharing u V X)) → ClassU Q u V t D × IsIn (positive u) D
     in_u D m = classes-u Q X u V t x D m

@@ -4,8 +4,7 @@ use Rattle.q_logic.specs.declared.formulas.Quant.TheVariants.{Exists}
 use Rattle.q_logic.specs.Prelude.{Literal, Prefix, Clause, IsIn, PrenexFormula, is_exists, is_bound, run_to, universal_before, IsFormula, Strategy, circuit_of, outcome, Lawful, SkolemOf, ProofStep, UndoEntry, Back, Undos}
 use Rattle.q_logic.specs.Truth.{Assignment, ClauseTrue, MatrixTrue, LiteralTrue, signed}
 use Rattle.q_logic.proofs.Justified.{JustifiedRun}
-use Rattle.q_logic.proofs.ClauseLemmas.{IsIn-append, IsIn-append_left}
-use Rattle.q_logic.proofs.ImpliedClauses.{IsIn-append_right}
+use Rattle.q_logic.proofs.ClauseLemmas.{IsIn-append, IsIn-append_left, IsIn-append_right}
 use Rattle.q_logic.proofs.PrefixOrder.{existential-is_bound}
 use Rattle.q_logic.proofs.TreeValues.{value_of-agree}
 use Rattle.q_logic.proofs.Soundness.{rebuilt-skolem, has_skolem, from_skolem}

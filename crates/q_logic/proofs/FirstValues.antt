@@ -7,8 +7,7 @@ use Rattle.q_logic.specs.Prelude.{Prefix, PrenexFormula, is_exists, is_bound, ru
 use Rattle.q_logic.specs.Truth.{Assignment, MatrixTrue, with_value, by_quant, Game, HoldsUnder}
 use Rattle.q_logic.proofs.Truth.{MatrixTrue-closed}
 use Rattle.q_logic.specs.Moves.{later, first_values, Wins}
-use Rattle.q_logic.proofs.ClauseLemmas.{IsIn-append, IsIn-append_left}
-use Rattle.q_logic.proofs.ImpliedClauses.{IsIn-append_right}
+use Rattle.q_logic.proofs.ClauseLemmas.{IsIn-append, IsIn-append_left, IsIn-append_right}
 use Rattle.q_logic.proofs.FirstMoves.{values-set, set-values}
 
 -- Both are played alike.

@@ -4,6 +4,7 @@ use Rattle.std.proofs.lemmas.List.{drop-drop, take-append-drop}
 use Rattle.std.proofs.Math.Seq.{drop-length}
 use Rattle.std.specs.List.{AllByRecursion}
 use Rattle.q_logic.proofs.ClauseLemmas.{IsIn-append}
+use Rattle.q_logic.proofs.Lists.{slice_get-IsIn}
 use Rattle.q_logic.specs.declared.formulas.Bound.{Bound}
 use Rattle.q_logic.specs.Prelude.{Literal, IsBelow, Clause, Prefix, IsIn, PrenexFormula, is_bound, Distinct, AreEnds, AreLawful, ArePairs, IsBound, IsProper, clauses_between, Within}
 
@@ -79,11 +80,6 @@ lawful-proper P lits ends h =
 
 -- one clause of a matrix
 
-slice_get-IsIn : {X : Type 0} (xs : List X) (at : ℕ) (x : X) → slice_get xs at ≡ Some x → IsIn x xs
-slice_get-IsIn [] at x e = absurd (cc)
-slice_get-IsIn (y ∷ xs) zero x e = inl (cc)
-slice_get-IsIn (y ∷ xs) (suc at) x e = inr (slice_get-IsIn xs at x e)
-
 pub proper-ordered : (F : PrenexFormula) (at : ℕ) (C : Clause) → IsProper F →
     slice_get F.matrix at ≡ Some C → ArePairs IsBelow C
 proper-ordered F at C h e =
@@ -123,7 +119,7 @@ clause-there lits from (e ∷ ends) k h m =
         ih (subst (IsIn k) past b) in
         (r.0, inr r.1, r.2)
 
-each-IsIn : {X : Type 0} (R : X → Type 0) (xs : List X) → ((x : X) → IsIn x xs → R x) → AllByRecursion R xs
+pub each-IsIn : {X : Type 0} (R : X → Type 0) (xs : List X) → ((x : X) → IsIn x xs → R x) → AllByRecursion R xs
 each-IsIn R [] h = tt
 each-IsIn R (x ∷ xs) h = (h x (inl refl), each-IsIn R xs (λ y m. h y (inr m)))
 
@@ -134,7 +130,7 @@ unbound-apart b (r ∷ P) h = ((λ e. differs e), unbound-apart b P (grind arith
     differs : b.var ≡ r.var → ⊥
     differs e = grind arith
 
-Distinct-pairs : (P : Prefix) → Distinct P → ArePairs (λ q r. q.var ≢ r.var) P
+pub Distinct-pairs : (P : Prefix) → Distinct P → ArePairs (λ q r. q.var ≢ r.var) P
 Distinct-pairs [] h = tt
 Distinct-pairs (b ∷ P) h = (unbound-apart b P h.0, Distinct-pairs P h.1)
 

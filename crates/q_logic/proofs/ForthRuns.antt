@@ -13,7 +13,7 @@ use Rattle.q_logic.proofs.Outers.{outers-members}
 use Rattle.q_logic.proofs.Pivot.{outers-near}
 use Rattle.q_logic.proofs.Propagation.{implied-true}
 use Rattle.q_logic.proofs.Runs.{one_less-IsIn}
-use Rattle.q_logic.proofs.Soundness.{after-formula}
+use Rattle.q_logic.proofs.Soundness.{after-formula, same_first}
 use Rattle.q_logic.proofs.Exchanged.{other-same, lawful-exchanged, exchanged-lawful}
 use Rattle.q_logic.proofs.Falsity.{matrix_either}
 use Rattle.q_logic.proofs.ForthPivots.{added-lawful, added-carries, turned-lawful, turned-carries}
@@ -40,9 +40,6 @@ implied-carries P X C c i h = record { lawful = h.lawful; loses = λ A. less (ou
           | inl t ↦ absurd (subst (λ D. ClauseTrue M D → ⊥) e f (implied-true M X C i t))
           | inr g ↦ g
         ]
-
-same_first : (p : Option Literal) (l m : Literal) → p ≡ Some l → p ≡ Some m → l ≡ m
-same_first p l m e f = cc
 
 pub pivot_of : (F : PrenexFormula) (C : Clause) (p : Option Literal) (l : Literal) → p ≡ Some l → ¬ Implied F.matrix C →
     Implied F.matrix C ⊎ FirstPivot F.prefix F.matrix C p → ExistsPivot F.prefix F.matrix C l

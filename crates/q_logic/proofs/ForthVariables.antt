@@ -5,7 +5,7 @@ use Rattle.q_logic.specs.Prelude.{Literal, Prefix, Clause, Matrix, IsIn, is_exis
 use Rattle.q_logic.specs.Skolems.{Strategy, or_input, given, map_circuit, reread, outcome, Skolem, Lawful}
 use Rattle.q_logic.specs.Herbrands.{MatrixFalse, LawfulHerbrand, Herbrand}
 use Rattle.q_logic.specs.Exchanging.{other_quant, exchanged}
-use Rattle.q_logic.proofs.Prefixes.{insert-distinct}
+use Rattle.q_logic.proofs.Prefixes.{insert-distinct, inserted-not_universal}
 use Rattle.q_logic.proofs.Runs.{unbound_free, removed-lawful, removed-on, with_circuit-other}
 use Rattle.q_logic.proofs.UniversalPivot.{outcome-reread}
 use Rattle.q_logic.proofs.Exchanged.{exchanged-existential, exchanged-distinct, lawful-exchanged, exchanged-lawful}
@@ -38,15 +38,6 @@ exchanged-removed v (b ∷ P) = go (eqb b.var v) (exchanged-removed v P)
         cond c (exchanged P) (record { quant = other_quant b.quant; var = b.var } ∷ removed_from v (exchanged P))
     go true i = refl
     go false i = ap (λ (Q : Prefix). record { quant = other_quant b.quant; var = b.var } ∷ Q) i
-
-inserted-not_universal : (w v : ℕ) (P : Prefix) → is_bound P v ≡ false →
-    is_universal (insert_after w v P) v ≡ false
-inserted-not_universal w v [] n = refl
-inserted-not_universal w v (b ∷ P) n = grind (arith, inserted-not_universal w v P, not_bound P v)
-  where
-    not_bound : (P : Prefix) (v : ℕ) → is_bound P v ≡ false → is_universal P v ≡ false
-    not_bound [] v h = refl
-    not_bound (b ∷ P) v h = grind (arith, not_bound P v)
 
 pub fresh-lawful : (P : Prefix) (v w : ℕ) (c : Strategy) → Distinct P → is_bound P v ≡ false →
     LawfulHerbrand (insert_after w v P) c → LawfulHerbrand P (reread v (constant false) c)

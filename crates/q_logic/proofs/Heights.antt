@@ -1,11 +1,11 @@
 -- How large the formulas along a run get: what its steps add at most, and that steps which add little keep the checker's limits.
 use Rattle.std.proofs.Common.{◌≡◌, ◌≤◌, ℕ, ◌+◌, ◌-◌, ◌*◌, Bool, true, false, cond, List, [], ◌∷◌, ◌++◌, ◌⊎◌, inl, inr, arith, refl, subst, Option, Some, None, zero, suc, length}
 use Rattle.q_logic.specs.Prelude.{Literal, Clause, Matrix, IsIn, PrenexFormula, IsFormula, without, ProofStep, add, delete, drop_literal, fresh, remove_variable, after, clause_eq, one_less, literals_in, Within, ValidSteps, Run, blocks, SameBlocks, standard, has, with_literal, without_literal, Slots, slot, live, others, put_first}
-use Rattle.q_logic.proofs.Runs.{clause_eq-sound}
+use Rattle.q_logic.proofs.Runs.{clause_eq-sound, clause_eq-itself, SameBlocks-refl}
 use Rattle.q_logic.proofs.NumberedClauses.{live-slot}
 use Rattle.q_logic.proofs.Soundness.{after-formula}
 use Rattle.q_logic.proofs.JoinedClauses.{without-shorter}
-use Rattle.q_logic.proofs.JustifiedRuns.{Reaches, Alike, clause_eq-itself, SameBlocks-refl}
+use Rattle.q_logic.proofs.JustifiedRuns.{Reaches, Alike}
 use Rattle.q_logic.proofs.ChangeRuns.{deletes, adds, drops, replaces, mapped}
 
 -- How much a list of steps adds at most, by a weight of clauses, at any time.
@@ -58,7 +58,7 @@ rise-append w (drop_literal l C ∷ ss) rest = rise-append w ss rest
 rise-append w (fresh v x ∷ ss) rest = rise-append w ss rest
 rise-append w (remove_variable v ∷ ss) rest = rise-append w ss rest
 
-fresh-append : (m : ℕ) (ss rest : List ProofStep) → FreshUpTo m ss → FreshUpTo m rest → FreshUpTo m (ss ++ rest)
+pub fresh-append : (m : ℕ) (ss rest : List ProofStep) → FreshUpTo m ss → FreshUpTo m rest → FreshUpTo m (ss ++ rest)
 fresh-append m [] rest f g = g
 fresh-append m (add p C ∷ ss) rest f g = fresh-append m ss rest f g
 fresh-append m (delete p C ∷ ss) rest f g = fresh-append m ss rest f g

@@ -2,7 +2,8 @@
 use Rattle.std.proofs.Common.{◌≡◌, ◌≢◌, ℕ, zero, suc, Bool, true, false, List, [], ◌∷◌, ◌⊎◌, ◌↔◌, inl, inr, arith, refl, sym, ap, ◌∙◌, subst, Option, Some, None}
 use Rattle.q_logic.specs.Prelude.{Literal, negation, Clause, Matrix, IsIn, Slots, slot, live, Chain, begin, more, Conflicts, negations, Implied, IsTautology, has, IsRefuted, LeavesOne, Follows, Chained}
 use Rattle.q_logic.proofs.ImpliedClauses.{negation-negation, same_or_not, implied-tautology}
-use Rattle.q_logic.proofs.NumberedClauses.{live-slot, has-IsIn, IsIn-has_not}
+use Rattle.q_logic.proofs.NumberedClauses.{live-slot, IsIn-has_not}
+use Rattle.q_logic.proofs.ClauseLemmas.{has-IsIn}
 
 -- From a chain the hints lead to a conflict.
 abbrev Ends : Matrix → List Literal → Type 0

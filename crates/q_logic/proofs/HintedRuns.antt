@@ -1,16 +1,12 @@
 -- Steps with proof parts are valid steps, with the same results.
-use Rattle.std.proofs.Common.{◌≡◌, ℕ, zero, suc, ◌+◌, Bool, true, false, cond, List, [], ◌∷◌, ◌++◌, map, inl, inr, arith, refl, sym, ap, ◌∙◌, subst, Option, Some, None}
+use Rattle.std.proofs.Common.{◌≡◌, ℕ, zero, suc, ◌+◌, Bool, true, false, cond, List, [], ◌∷◌, ◌++◌, map, inl, inr, arith, refl, sym, ◌∙◌, subst, Option, Some, None}
 use Rattle.q_logic.specs.declared.limits.Limits.{Limits}
-use Rattle.q_logic.specs.Prelude.{standard, Literal, negation, Clause, Matrix, Prefix, IsIn, PrenexFormula, Slots, slot, set_slot, live, numbered, others, put_first, outer, without, Implied, AreAlike, ValidSteps, Run, has, ProofStep, add, delete, drop_literal, fresh, remove_variable, Valid, after, one_less, IsWarranted, IsDroppable, NumberedFormula, begun, plain, beside, HintGroup, ProofPart, numbers_with, Resolved, Shows, ShowsDrop, HintedValid, hinted_after, Hinted, strip, HintedSteps, HintedRun}
+use Rattle.q_logic.specs.Prelude.{standard, Literal, negation, Clause, Prefix, IsIn, PrenexFormula, Slots, slot, set_slot, live, others, outer, without, Implied, AreAlike, ValidSteps, Run, has, ProofStep, add, delete, drop_literal, fresh, remove_variable, Valid, after, one_less, IsWarranted, IsDroppable, NumberedFormula, begun, plain, beside, HintGroup, ProofPart, numbers_with, Resolved, Shows, ShowsDrop, HintedValid, hinted_after, Hinted, strip, HintedSteps, HintedRun}
 use Rattle.q_logic.proofs.JustifiedRuns.{SameClauses, IsIn-alike, alike-refl, alike-sym, alike-trans, alike-cons, alike-uncons, alike-swap, one_less-alike}
-use Rattle.q_logic.proofs.NumberedClauses.{slot-alike, live-slot, IsIn-has}
+use Rattle.q_logic.proofs.NumberedClauses.{slot-alike, live-slot, live-gone, live-numbered}
 use Rattle.q_logic.proofs.AlikeFormulas.{warranted-within, droppable-within, alike_valid, alike_after, alike_through, alike_swapped}
 use Rattle.q_logic.proofs.HintChains.{chained-implied, live-number}
-
-pub live-gone : (N : Slots) (n : ℕ) → live (set_slot n None N) ≡ others n N
-live-gone [] n = refl
-live-gone (o ∷ N) zero = refl
-live-gone (o ∷ N) (suc n) = ap (put_first o) (live-gone N n)
+use Rattle.q_logic.proofs.ClauseLemmas.{IsIn-has}
 
 pub live-changed : (N : Slots) (n : ℕ) (C E : Clause) → slot N n ≡ Some C → SameClauses (live (set_slot n (Some E) N)) (E ∷ others n N)
 live-changed [] n C E h = cc
@@ -36,7 +32,7 @@ left-alike N n C h =
     (alike-sym (live N) (C ∷ one_less C (live N)) (one_less-alike C (live N) (live-slot N n C h))) (slot-alike N n C h) in
     rw live-gone (alike-uncons C (one_less C (live N)) (others n N) s)
 
-numbers-IsIn : (m : Literal) (n : ℕ) (N : Slots) (h : ℕ) (D : Clause) → slot N h ≡ Some D → IsIn m D → IsIn (n + h) (numbers_with m n N)
+pub numbers-IsIn : (m : Literal) (n : ℕ) (N : Slots) (h : ℕ) (D : Clause) → slot N h ≡ Some D → IsIn m D → IsIn (n + h) (numbers_with m n N)
 numbers-IsIn m n [] h D e i = cc
 numbers-IsIn m n (None ∷ N) zero D e i = cc
 numbers-IsIn m n (None ∷ N) (suc h) D e i =
@@ -138,13 +134,9 @@ hinted-steps m F A (h ∷ hs) E a (v, rest) =
     let r = hinted-steps m now (after A h.step) hs E b rest in
     (r.0, (alike_valid m (plain F) A h.step a (hinted-valid m F h.step h.proof v), r.1), r.2)
 
-begun-plain : (X : Matrix) → live (numbered X) ≡ X
-begun-plain [] = refl
-begun-plain (C ∷ X) = ap (λ Y. C ∷ Y) (begun-plain X)
-
 pub hinted-run : (F G : PrenexFormula) (hs : List Hinted) → HintedRun F hs G → Run F (strip hs) G
 hinted-run F G hs r =
-    let a : AreAlike (plain (begun F)) F = record { prefix = refl; clauses = rw begun-plain (alike-refl F.matrix) } in
+    let a : AreAlike (plain (begun F)) F = record { prefix = refl; clauses = rw live-numbered (alike-refl F.matrix) } in
     let s = hinted-steps standard (begun F) F hs r.last a r.steps in
     record {
       last = s.0;

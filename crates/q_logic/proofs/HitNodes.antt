@@ -5,10 +5,11 @@ use Rattle.q_logic.specs.declared.formulas.Bound.{Bound}
 use Rattle.q_logic.specs.Prelude.{Literal, negation, literal_eq, bool_eq, Clause, Matrix, Prefix, IsIn, is_bound, is_existential, has, Circuit, constant, input, inverter, conjunction, value_of, Reads, Test, Node, Tally, explored, one_more, plus, then_second, by_verdict, leaf, worse, nothing}
 use Rattle.q_logic.specs.Truth.{Assignment, signed, with_value, ClauseTrue, MatrixTrue}
 use Rattle.q_logic.specs.Skolems.{circuit_of, or_input, given, outcome, Lawful, Skolem}
-use Rattle.q_logic.proofs.NumberedClauses.{has-IsIn}
 use Rattle.q_logic.specs.declared.verdict.Verdict.{Verdict}
 use Rattle.q_logic.specs.declared.verdict.Verdict.TheVariants.{Lost, Won, Open}
 use Rattle.q_logic.proofs.SearchCounts.{few}
+use Rattle.q_logic.proofs.ClauseLemmas.{has-IsIn}
+use Rattle.q_logic.proofs.WonSearch.{both-won, own-sign}
 use Rattle.q_logic.specs.Branches.{known_both, known_signed, known, Claim, as_prefix, is_input, is_missing, literal_value, is_one, is_zero, has_one, all_zero, both_missing, clause_verdict, verdict, search_of, branches, is_false, first_false, denial, counter_at, AreFed}
 
 -- the assignments agree where the prefix binds nothing
@@ -213,13 +214,6 @@ won-clause q P A B C l fed ag h = go (has_one q P A C) refl (both_missing q C) r
         pick r.0 r.1 r.2 (signed r.0.negative (outcome q.circuits B r.0.var)) refl
     go false e false i h = absurd (none (all_zero q P A C) h)
 
-both-won : (v w : Verdict) → worse v w ≡ Won → (v ≡ Won) × (w ≡ Won)
-both-won Lost w h = absurd (cc)
-both-won Won w h = (refl, h)
-both-won Open Lost h = absurd (cc)
-both-won Open Won h = absurd (cc)
-both-won Open Open h = absurd (cc)
-
 won-matrix : (q : Claim) (P : Prefix) (A B : Assignment) (X : Matrix) → Lawful q.formula.prefix q.circuits → AreFed q →
     ((u : ℕ) → is_input q u ≡ true → is_bound P u ≡ false → B u ≡ A u) → verdict q X P A ≡ Won →
     MatrixTrue (outcome q.circuits B) X
@@ -377,10 +371,6 @@ zero-at q P A (j ∷ C) k h (inl e) =
     let z : is_zero (literal_value q P A j) ≡ true = grind arith in
     subst (λ (x : Literal). literal_value q P A x ≡ Some false) (sym e) (zero-false (literal_value q P A j) z)
 zero-at q P A (j ∷ C) k h (inr i) = zero-at q P A C k (grind arith) i
-
-own-sign : (x : Bool) → signed x x ≡ false
-own-sign true = refl
-own-sign false = refl
 
 -- The denial makes the literals of a missing universal false.
 sign-after : (j : Literal) (C : Clause) (k : Literal) → has (negation j) C ≡ false → IsIn k C → eqb j.var k.var ≡ true → signed k.negative j.negative ≡ false

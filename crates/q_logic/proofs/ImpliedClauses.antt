@@ -1,5 +1,5 @@
 -- The three ways in which the clauses of the rules are implied: by a clause within, as a tautology, by a hidden literal.
-use Rattle.std.proofs.Common.{◌≡◌, ◌≢◌, Bool, true, false, not, List, [], ◌∷◌, ◌++◌, ◌⊎◌, inl, inr, arith, refl, sym, ap, subst}
+use Rattle.std.proofs.Common.{◌≡◌, ◌≢◌, Bool, true, false, not, List, [], ◌∷◌, ◌⊎◌, inl, inr, arith, refl, sym, ap, subst}
 use Rattle.q_logic.specs.Prelude.{Literal, negation, literal_eq, Clause, Matrix, IsIn, Chain, begin, more, negations, Implied, IsSubset, IsTautology}
 use Rattle.q_logic.proofs.ClauseLemmas.{literal_eq-sound, literal_eq-itself}
 use Rattle.q_logic.proofs.Propagation.{implied-same}
@@ -15,10 +15,6 @@ pub IsIn-inverter : (S : Clause) (k : Literal) → IsIn k S → IsIn (negation k
 IsIn-inverter [] k m = elim m [ ]
 IsIn-inverter (j ∷ S) k (inl e) = inl (ap negation e)
 IsIn-inverter (j ∷ S) k (inr m) = inr (IsIn-inverter S k m)
-
-pub IsIn-append_right : {X : Type 0} (x : X) (xs ys : List X) → IsIn x ys → IsIn x (xs ++ ys)
-IsIn-append_right x [] ys m = m
-IsIn-append_right x (y ∷ xs) ys m = inr (IsIn-append_right x xs ys m)
 
 -- Equal or not.
 pub same_or_not : (j k : Literal) → (j ≡ k) ⊎ (j ≢ k)

@@ -1,7 +1,7 @@
 -- Membership and length of clauses that are put together.
-use Rattle.std.proofs.Common.{◌≡◌, ◌≤◌, ◌+◌, length, Bool, true, false, cond, [], ◌∷◌, ◌⊎◌, inl, inr, arith, refl, sym, subst, nat_lt, ◌==◌}
-use Rattle.q_logic.specs.Prelude.{insert, Literal, negation, literal_eq, pack, Clause, Matrix, Prefix, IsIn, keeps, outer, without, has, union, is_tautology, IsTautology, put_unless_tautology}
-use Rattle.q_logic.proofs.NumberedClauses.{has-IsIn}
+use Rattle.std.proofs.Common.{◌≡◌, ◌≤◌, ◌+◌, length, Bool, true, false, cond, [], ◌∷◌, ◌⊎◌, inl, inr, arith, refl, sym, subst, nat_lt, ◌==◌, List}
+use Rattle.q_logic.specs.Prelude.{insert, Literal, negation, literal_eq, pack, Clause, Matrix, Prefix, IsIn, keeps, outer, without, has, union, is_tautology, IsTautology, put_unless_tautology, clause_of}
+use Rattle.q_logic.proofs.ClauseLemmas.{has-IsIn}
 
 pub insert-IsIn : (l : Literal) (C : Clause) (k : Literal) → IsIn k (insert l C) → (k ≡ l) ⊎ IsIn k C
 insert-IsIn l C k m = Rattle.q_logic.proofs.ClauseSets.IsIn-insert k l C m
@@ -84,3 +84,10 @@ insert-length l (k ∷ C) = let i : length (insert l C) ≤ length C + 1 = inser
     go true b i = grind arith
     go false true i = grind arith
     go false false i = grind arith
+
+pub clause_of-length : (ls : List Literal) → length (clause_of ls) ≤ length ls
+clause_of-length [] = omega arith
+clause_of-length (l ∷ ls) =
+    let i : length (clause_of ls) ≤ length ls = clause_of-length ls in
+    let j : length (insert l (clause_of ls)) ≤ length (clause_of ls) + 1 = insert-length l (clause_of ls) in
+    omega arith

@@ -2,10 +2,8 @@
 use Rattle.std.proofs.Common.{◌≡◌, ◌≢◌, ◌↔◌, ◌≤◌, ℕ, zero, suc, Bool, true, false, cond, [], ◌∷◌, ◌⊎◌, inl, inr, arith, refl, sym, ap, ◌∙◌, subst, length}
 use Rattle.q_logic.specs.Prelude.{Literal, negation, Clause, Matrix, IsIn, IsSubset, has, size_of, IsBelow}
 use Rattle.q_logic.specs.Merging.{Joined, Binary, pair_from, join_once, join_often, joined}
-use Rattle.q_logic.proofs.ClauseLemmas.{IsIn-append_left}
-use Rattle.q_logic.proofs.NumberedClauses.{has-IsIn, IsIn-has}
+use Rattle.q_logic.proofs.ClauseLemmas.{IsIn-append_left, has-IsIn, IsIn-has, IsIn-append_right}
 use Rattle.q_logic.proofs.JoinedClauses.{union-IsIn, IsIn-union}
-use Rattle.q_logic.proofs.ChangeRuns.{IsIn-right}
 use Rattle.q_logic.proofs.LiteralOrder.{Ordered, union-ordered}
 use Rattle.q_logic.proofs.ClosureSearch.{joined-in, joined-further}
 use Rattle.q_logic.proofs.ImpliedClauses.{negation-negation}
@@ -115,7 +113,7 @@ join_once-ordered (D ∷ X) S o = union-ordered (pair_from D S) (join_once X S) 
 join_once-inside : (p : Literal) (Z X : Matrix) (S : Clause) → ((k : Literal) → IsIn k (lits X) → IsIn k (lits Z)) → IsSubset S (p ∷ lits Z) → IsSubset (join_once X S) (p ∷ lits Z)
 join_once-inside p Z [] S f w k m = w k m
 join_once-inside p Z (D ∷ X) S f w k m = elim (union-IsIn (pair_from D S) (join_once X S) k m)
-    [ inl y ↦ inr (f k (IsIn-append_left k D (lits X) (pair_from-lits D S k y))) | inr z ↦ join_once-inside p Z X S (λ j n. f j (IsIn-right j D (lits X) n)) w k z ]
+    [ inl y ↦ inr (f k (IsIn-append_left k D (lits X) (pair_from-lits D S k y))) | inr z ↦ join_once-inside p Z X S (λ j n. f j (IsIn-append_right j D (lits X) n)) w k z ]
 
 join-growing : (X : Matrix) (p : Literal) → Growing (join_once X) (p ∷ lits X)
 join-growing X p = record { inflates = join_once-keeps X; monotone = join_once-monotone X; ordered = join_once-ordered X; inside = λ S w. join_once-inside p X X S (λ k m. m) w }

@@ -1,10 +1,9 @@
 -- How justified steps compose, up to the order of clauses.
 use Rattle.std.proofs.Common.{◌≡◌, ◌≤◌, ◌+◌, Bool, true, false, cond, List, [], ◌∷◌, ◌++◌, ◌⊎◌, inl, inr, arith, refl, sym, ap, ◌∙◌, subst, Option}
-use Rattle.q_logic.specs.Prelude.{Literal, negation, literal_eq, Clause, Matrix, Prefix, IsIn, PrenexFormula, blocks, Block, SameBlocks, Implied, outer, ExistsPivot, ForallPivot, without, Reducible, Reached, ProofStep, add, delete, drop_literal, fresh, remove_variable, after, clause_eq, one_less, FirstPivot, copies, formula_of}
+use Rattle.q_logic.specs.Prelude.{Literal, negation, Clause, Matrix, Prefix, IsIn, PrenexFormula, blocks, SameBlocks, Implied, outer, ExistsPivot, ForallPivot, without, Reducible, Reached, ProofStep, add, delete, drop_literal, fresh, remove_variable, after, clause_eq, one_less, FirstPivot, copies, formula_of}
 use Rattle.q_logic.proofs.Justified.{Justified, JustifiedSteps, JustifiedRun}
-use Rattle.q_logic.proofs.ClauseLemmas.{literal_eq-itself}
 use Rattle.q_logic.proofs.Propagation.{implied-same}
-use Rattle.q_logic.proofs.Runs.{clause_eq-sound}
+use Rattle.q_logic.proofs.Runs.{clause_eq-sound, clause_eq-itself, IsIn-copies, copies-IsIn, SameBlocks-refl}
 
 abbrev pub SameClauses : Matrix → Matrix → Type 0
 SameClauses X Y = (C : Clause) → copies C X ≡ copies C Y
@@ -15,23 +14,6 @@ Alike F G = (F.prefix ≡ G.prefix) × SameClauses F.matrix G.matrix
 abbrev pub Reaches : PrenexFormula → List ProofStep → PrenexFormula → Type 0
 Reaches F [] G = Alike F G
 Reaches F (s ∷ ss) G = Justified F s × Reaches (after F s) ss G
-
-pub clause_eq-itself : (C : Clause) → clause_eq C C ≡ true
-clause_eq-itself [] = refl
-clause_eq-itself (k ∷ C) = let a : literal_eq k k ≡ true = literal_eq-itself k in let i : clause_eq C C ≡ true = clause_eq-itself C in grind arith
-
-pub IsIn-copies : (C : Clause) (X : Matrix) → IsIn C X → 1 ≤ copies C X
-IsIn-copies C [] m = elim m [ ]
-IsIn-copies C (D ∷ X) (inl e) = let z : clause_eq D C ≡ true = subst (λ y. clause_eq y C ≡ true) e (clause_eq-itself C) in grind arith
-IsIn-copies C (D ∷ X) (inr m) = let z : 1 ≤ copies C X = IsIn-copies C X m in grind arith
-
-pub copies-IsIn : (C : Clause) (X : Matrix) → 1 ≤ copies C X → IsIn C X
-copies-IsIn C [] h = grind arith
-copies-IsIn C (D ∷ X) h = go (clause_eq D C) refl (copies-IsIn C X)
-  where
-    go : (b : Bool) → clause_eq D C ≡ b → (1 ≤ copies C X → IsIn C X) → IsIn C (D ∷ X)
-    go true q ih = inl (sym (clause_eq-sound D C q))
-    go false q ih = inr (ih (grind arith))
 
 pub IsIn-alike : (X Y : Matrix) → SameClauses X Y → (D : Clause) → IsIn D X → IsIn D Y
 IsIn-alike X Y s D m = copies-IsIn D Y (let z : 1 ≤ copies D X = IsIn-copies D X m in subst (λ n. 1 ≤ n) (s D) z)
@@ -138,10 +120,6 @@ reaches-end P X Y F (s ∷ ss) a r = (r.0, reaches-end P X Y (after F s) ss a r.
 reaches-steps : (F : PrenexFormula) (ss : List ProofStep) (G : PrenexFormula) → Reaches F ss G → (E : PrenexFormula) × JustifiedSteps F ss E × Alike E G
 reaches-steps F [] G r = (F, refl, r)
 reaches-steps F (s ∷ ss) G r = let i : (E : PrenexFormula) × JustifiedSteps (after F s) ss E × Alike E G = reaches-steps (after F s) ss G r.1 in (i.0, (r.0, i.1), i.2)
-
-pub SameBlocks-refl : (Bs : List Block) → SameBlocks Bs Bs
-SameBlocks-refl [] = tt
-SameBlocks-refl (B ∷ Bs) = (refl, (λ x. ((λ m. m), (λ m. m))), SameBlocks-refl Bs)
 
 -- They are a run.
 pub reaches-run : (F : PrenexFormula) (ss : List ProofStep) (G : PrenexFormula) → Reaches F ss G → JustifiedRun F ss G

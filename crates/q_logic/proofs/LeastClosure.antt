@@ -3,17 +3,11 @@ use Rattle.std.proofs.Common.{◌≡◌, ◌↔◌, ℕ, zero, suc, Bool, true, 
 use Rattle.q_logic.specs.Prelude.{has_variable, Literal, Clause, Prefix, Matrix, IsIn, is_bound}
 use Rattle.q_logic.specs.Expanding.{in_list, shares, touched_with, next_vars, grown_vars, expansion_vars, inner_existential, Spread}
 use Rattle.q_logic.proofs.PrefixOrder.{existential-is_bound}
-use Rattle.q_logic.proofs.ExpandClosure.{next-in, expansion_vars-fixed, next-inner, inner-parts, expansion_vars-closed, has_variable-IsIn}
+use Rattle.q_logic.proofs.ExpandClosure.{next-in, expansion_vars-fixed, next-inner, inner-parts, expansion_vars-closed}
+use Rattle.q_logic.proofs.Booleans.{same_truth}
+use Rattle.q_logic.proofs.ClauseLemmas.{has_variable-find, has_variable-IsIn}
 
-find_var : (v : ℕ) (D : Clause) → has_variable v D ≡ true → (k : Literal) × IsIn k D × (k.var ≡ v)
-find_var v [] h = grind arith
-find_var v (j ∷ C) h = go (eqb j.var v) refl (find_var v C)
-  where
-    go : (b : Bool) → eqb j.var v ≡ b → (has_variable v C ≡ true → (k : Literal) × IsIn k C × (k.var ≡ v)) → (k : Literal) × IsIn k (j ∷ C) × (k.var ≡ v)
-    go true q ih = (j, inl refl, grind arith)
-    go false q ih = let r : (k : Literal) × IsIn k C × (k.var ≡ v) = ih (grind arith) in (r.0, inr r.1, r.2)
-
-find_shared : (V : List ℕ) (D : Clause) → shares V D ≡ true → (k : Literal) × IsIn k D × (in_list k.var V ≡ true)
+pub find_shared : (V : List ℕ) (D : Clause) → shares V D ≡ true → (k : Literal) × IsIn k D × (in_list k.var V ≡ true)
 find_shared V [] h = grind arith
 find_shared V (j ∷ C) h = go (in_list j.var V) refl (find_shared V C)
   where
@@ -58,12 +52,12 @@ grown-spread (suc n) P X u v h = go (find_touched v u (grown_vars n P X u) X (ne
     i = (next-inner P P X u (grown_vars n P X u) v h).0
 
     go : ((D : Clause) × IsIn D X × (has_variable v D ≡ true) × ((has_variable u D ≡ true) ⊎ (shares (grown_vars n P X u) D ≡ true))) → ((w : ℕ) → in_list w (grown_vars n P X u) ≡ true → Spread P X u w) → Spread P X u v
-    go (D, m, a, inl b) ih = let k : (k : Literal) × IsIn k D × (k.var ≡ v) = find_var v D a in let j : (k : Literal) × IsIn k D × (k.var ≡ u) = find_var u D b in
+    go (D, m, a, inl b) ih = let k : (k : Literal) × IsIn k D × (k.var ≡ v) = has_variable-find v D a in let j : (k : Literal) × IsIn k D × (k.var ≡ u) = has_variable-find u D b in
         subst (Spread P X u) k.2 (Spread.starts D j.0 k.0 m j.1 j.2 k.1 (subst (λ y. inner_existential P u y ≡ true) (sym k.2) i))
-    go (D, m, a, inr b) ih = let k : (k : Literal) × IsIn k D × (k.var ≡ v) = find_var v D a in let j : (k : Literal) × IsIn k D × (in_list k.var (grown_vars n P X u) ≡ true) = find_shared (grown_vars n P X u) D b in
+    go (D, m, a, inr b) ih = let k : (k : Literal) × IsIn k D × (k.var ≡ v) = has_variable-find v D a in let j : (k : Literal) × IsIn k D × (in_list k.var (grown_vars n P X u) ≡ true) = find_shared (grown_vars n P X u) D b in
         subst (Spread P X u) k.2 (Spread.spreads D j.0 k.0 m j.1 refl k.1 (subst (λ y. inner_existential P u y ≡ true) (sym k.2) i) (ih j.0.var j.2))
 
-shares-of : (V : List ℕ) (D : Clause) (j : Literal) → IsIn j D → in_list j.var V ≡ true → shares V D ≡ true
+pub shares-of : (V : List ℕ) (D : Clause) (j : Literal) → IsIn j D → in_list j.var V ≡ true → shares V D ≡ true
 shares-of V [] j m h = elim m [ ]
 shares-of V (i ∷ D) j (inl e) h = let z : in_list i.var V ≡ true = subst (λ y. in_list y.var V ≡ true) e h in grind arith
 shares-of V (i ∷ D) j (inr m) h = let z : shares V D ≡ true = shares-of V D j m h in grind arith
@@ -100,12 +94,6 @@ marked-next f (b ∷ Q) P X u V h = let i : marked f Q ≡ next_vars Q P X u V =
         go : (c : Bool) → cond c true (is_bound Q v) ≡ true
         go true = refl
         go false = k
-
-same_truth : (a b : Bool) → (a ≡ true → b ≡ true) → (b ≡ true → a ≡ true) → a ≡ b
-same_truth true true f g = refl
-same_truth true false f g = sym (f refl)
-same_truth false true f g = g refl
-same_truth false false f g = refl
 
 pub expansion_vars-marked : (P : Prefix) (X : Matrix) (u : ℕ) (f : ℕ → Bool) → ((v : ℕ) → is_bound P v ≡ true → (f v ≡ true) ↔ Spread P X u v) → marked f P ≡ expansion_vars P X u
 expansion_vars-marked P X u f h = marked-next f P P X u (expansion_vars P X u) (λ v b. same_truth (f v) (inner_existential P u v && touched_with v u (expansion_vars P X u) X) (there v b) (back v b)) ∙ expansion_vars-fixed P X u

@@ -1,4 +1,8 @@
 pub mod Common
+pub mod Numbers
+pub mod Booleans
+pub mod Lists
+pub mod Results
 pub mod Justified
 pub mod Codes
 pub mod PrefixOrder

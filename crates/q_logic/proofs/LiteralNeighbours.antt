@@ -15,7 +15,7 @@ other-begun C = record { other = λ n j k h e f. absurd (omega arith) }
 last_or : (n i : ℕ) → suc n < i + 1 → (suc n < i) ⊎ (suc n ≡ i)
 last_or n i h = grind arith
 
-item-same : (C : Clause) (n : ℕ) (j k : Literal) → n < length C → j ≡ get_or C n j → k ≡ get_or C n k → j ≡ k
+pub item-same : (C : Clause) (n : ℕ) (j k : Literal) → n < length C → j ≡ get_or C n j → k ≡ get_or C n k → j ≡ k
 item-same [] n j k h e f = absurd (omega arith)
 item-same (x ∷ C) zero j k h e f = e ∙ sym f
 item-same (x ∷ C) (suc n) j k h e f = item-same C n j k (omega arith) e f
@@ -63,7 +63,7 @@ first_below : (x y : Literal) → IsBelow x y → x.var ≢ y.var → x.var < y.
 first_below x y (inl b) n = b
 first_below x y (inr b) n = absurd (n b.0)
 
-not_own : (k x : Literal) → k ≡ x → negation k ≡ x → ⊥
+pub not_own : (k x : Literal) → k ≡ x → negation k ≡ x → ⊥
 not_own k x e f = let a = literal_eq-negation k in let b : literal_eq k (negation k) ≡ true = subst (λ (z : Literal). literal_eq k z ≡ true) (e ∙ sym f) (literal_eq-itself k) in let z : true ≡ false = sym b ∙ a in absurd (cc)
 
 pub neighbours-none : (C : Clause) → ArePairs IsBelow C → AreOther C (length C) → IsTautology C → ⊥

@@ -72,7 +72,7 @@ code-at_most P k b = let l : k.var ≤ greatest P = is_bound-greatest P k.var b 
     go true e l = grind arith
     go false e l = grind arith
 
-codes-grow : (j k : Literal) → IsBelow j k → pack j < pack k
+pub codes-grow : (j k : Literal) → IsBelow j k → pack j < pack k
 codes-grow j k h = grind arith
 
 ordered-fits : (T : Clause) (a b : ℕ) → a ≤ b → Ordered T → ((k : Literal) → IsIn k T → (a ≤ pack k) × (pack k < b)) → length T + a ≤ b
@@ -95,3 +95,6 @@ bounded-length P T o b = last (length T) (2 * greatest P + 2) (ordered-fits T 0 
   where
     last : (t m : ℕ) → t + 0 ≤ m → t ≤ m
     last t m i = omega arith
+
+pub without-in_order : (l : Literal) (C : Clause) → ArePairs IsBelow C → ArePairs IsBelow (without l C)
+without-in_order l C o = ordered-pairs (without l C) (without-ordered l C (pairs-ordered C o))

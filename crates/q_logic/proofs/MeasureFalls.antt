@@ -3,10 +3,10 @@ use Rattle.std.proofs.Common.{◌≡◌, ◌≤◌, ℕ, ◌+◌, Bool, true, fa
 use Rattle.q_logic.specs.Prelude.{positive, Literal, negation, literal_eq, Clause, Prefix, Matrix, IsIn, PrenexFormula, is_existential, without, has, with_literal, without_literal, each_without, OccursIn, is_tautology, formula_of, Slots, slot, live, others, renamed, renamed_literal, merged, Joined, Mergeable, measure_of, size_of, existentials_in, universals_in, resolvent, resolvents, clauses_of, clauses_not_of, Eliminable, has_variable, occurs, shortened}
 use Rattle.q_logic.specs.declared.rule_bounds.Bounds.{Bounds}
 use Rattle.q_logic.proofs.JustifiedRuns.{SameClauses}
-use Rattle.q_logic.proofs.ClauseLemmas.{literal_eq-itself, IsIn-append}
+use Rattle.q_logic.proofs.ClauseLemmas.{literal_eq-itself, IsIn-append, has-IsIn, IsIn-has}
 use Rattle.q_logic.proofs.UniversalPivot.{without-IsIn}
 use Rattle.q_logic.proofs.JustifiedRuns.{IsIn-alike, alike-sym}
-use Rattle.q_logic.proofs.NumberedClauses.{slot-alike, with-alike, has-IsIn, IsIn-has, IsIn-with, IsIn-without_literal}
+use Rattle.q_logic.proofs.NumberedClauses.{slot-alike, with-alike, IsIn-with, IsIn-without_literal}
 use Rattle.q_logic.proofs.JoinedClauses.{insert-IsIn, union-IsIn, without-other, without-shorter}
 use Rattle.q_logic.proofs.MergeRun.{renamed-length, renamed_all, renamed_all-free, without_var-free, merged-alike, renamed_literal-cases, with_var, without_var}
 use Rattle.q_logic.proofs.EliminateRun.{resolve_all-IsIn}
@@ -61,7 +61,7 @@ without_literal-less l (E ∷ X) D m i = go (has l E) refl m (λ n. without_lite
     go false q (inl e) ih s = let z : has l E ≡ true = IsIn-has l E (subst (IsIn l) e i) in grind arith
     go false q (inr n) ih s = let j : size_of (without_literal l X) + 1 ≤ size_of X = ih n in grind arith
 
-each_without-smaller : (l : Literal) (X : Matrix) → size_of (each_without l X) ≤ size_of X
+pub each_without-smaller : (l : Literal) (X : Matrix) → size_of (each_without l X) ≤ size_of X
 each_without-smaller l [] = grind arith
 each_without-smaller l (D ∷ X) = let i : size_of (each_without l X) ≤ size_of X = each_without-smaller l X in let w : length (without l D) ≤ length D = without-shorter l D in grind arith
 
@@ -160,7 +160,7 @@ pub size-append : (X Y : Matrix) → size_of (X ++ Y) ≡ size_of X + size_of Y
 size-append [] Y = grind arith
 size-append (C ∷ X) Y = let i : size_of (X ++ Y) ≡ size_of X + size_of Y = size-append X Y in grind arith
 
-with_without : (j l : Literal) (X : Matrix) → ((D : Clause) → IsIn D X → IsIn j D → IsIn l D → ⊥) → with_literal l (without_literal j X) ≡ with_literal l X
+pub with_without : (j l : Literal) (X : Matrix) → ((D : Clause) → IsIn D X → IsIn j D → IsIn l D → ⊥) → with_literal l (without_literal j X) ≡ with_literal l X
 with_without j l [] h = refl
 with_without j l (D ∷ X) h = go (has j D) refl (has l D) refl (with_without j l X (λ E m. h E (inr m)))
   where

@@ -3,24 +3,25 @@ use Rattle.std.proofs.Common.{◌≡◌, ◌≤◌, ◌<◌, ℕ, ◌+◌, ◌*�
 use Rattle.q_logic.specs.Prelude.{insert, has_variable, occurs, positive, Literal, literal_eq, Clause, Prefix, Matrix, IsIn, is_bound, is_universal, is_exists, without, insert_after, has, with_literal, formula_of, measure_of, size_of, one_if, existentials_in, universals_in, clauses_of, in_list, shares, copied, copied_literal, copy_of, expanded, touched_neither, insert_all, expansion_vars, Expandable, greatest}
 use Rattle.q_logic.specs.declared.rule_bounds.Bounds.{Bounds}
 use Rattle.std.proofs.Math.Nat.{mul-le-mul_left}
-use Rattle.q_logic.specs.declared.formulas.Bound.{Bound}
 use Rattle.q_logic.specs.declared.formulas.Quant.TheVariants.{Exists}
-use Rattle.q_logic.proofs.ClauseLemmas.{literal_eq-itself}
+use Rattle.q_logic.proofs.ClauseLemmas.{literal_eq-itself, has-IsIn}
 use Rattle.q_logic.proofs.UniversalPivot.{without-IsIn}
-use Rattle.q_logic.proofs.NumberedClauses.{has-IsIn, IsIn-has_not, without-same}
+use Rattle.q_logic.proofs.NumberedClauses.{IsIn-has_not, without-same}
 use Rattle.q_logic.proofs.JoinedClauses.{without-other, insert-length}
 use Rattle.q_logic.proofs.Measures.{occurs_var-IsIn, occurs_var-find}
 use Rattle.q_logic.proofs.ExpandPrefix.{Above, AllE, Copies, CopyOf, below, copy_of-in, copy_of-out, inserted-copies}
 use Rattle.q_logic.proofs.ExpandLinks.{minus}
 use Rattle.q_logic.proofs.ExpandRun.{copied-IsIn}
-use Rattle.q_logic.proofs.ExpandClosure.{all_inner, all_e, above-greatest, bound_of_u, expansion_vars-inner}
+use Rattle.q_logic.proofs.ExpandClosure.{all_inner, all_e, above-greatest, expansion_vars-inner}
 use Rattle.q_logic.proofs.MeasureFalls.{without-less, var_is}
+use Rattle.q_logic.proofs.PrefixOrder.{universal-is_bound}
+use Rattle.q_logic.proofs.Prefixes.{is_bound-first, is_bound-later}
 
-copied-length : (V : List ℕ) (t : ℕ) (C : Clause) → length (copied V t C) ≤ length C
+pub copied-length : (V : List ℕ) (t : ℕ) (C : Clause) → length (copied V t C) ≤ length C
 copied-length V t [] = grind arith
 copied-length V t (k ∷ C) = let i : length (copied V t C) ≤ length C = copied-length V t C in let j : length (insert (copied_literal V t k) (copied V t C)) ≤ length (copied V t C) + 1 = insert-length (copied_literal V t k) (copied V t C) in grind arith
 
-has_var-none : (u : ℕ) (D : Clause) → has (positive u) D ≡ false → has (minus u) D ≡ false → has_variable u D ≡ false
+pub has_var-none : (u : ℕ) (D : Clause) → has (positive u) D ≡ false → has (minus u) D ≡ false → has_variable u D ≡ false
 has_var-none u [] p q = refl
 has_var-none u (k ∷ D) p q = let i : has_variable u D ≡ false = has_var-none u D (grind arith) (grind arith) in go k.negative refl i
   where
@@ -87,16 +88,6 @@ all-universals (x ∷ V) t P Y = all-universals V (t + 1) (insert_after x t P) Y
 -- Only the variables of the prefix count.
 abbrev BoundIn : Prefix → Matrix → Matrix → Type 0
 BoundIn P Y X = (v : ℕ) → is_bound P v ≡ true → occurs v Y ≡ true → occurs v X ≡ true
-
-is_bound-later : (b : Bound) (P : Prefix) (v : ℕ) → is_bound P v ≡ true → is_bound (b ∷ P) v ≡ true
-is_bound-later b P v h = go (eqb b.var v)
-  where
-    go : (c : Bool) → cond c true (is_bound P v) ≡ true
-    go true = refl
-    go false = h
-
-is_bound-first : (b : Bound) (P : Prefix) → is_bound (b ∷ P) b.var ≡ true
-is_bound-first b P = let e : eqb b.var b.var ≡ true = grind arith in rw e refl
 
 existentials-is_bound : (P : Prefix) (X Y : Matrix) → BoundIn P Y X → existentials_in P Y ≤ existentials_in P X
 existentials-is_bound [] X Y h = grind arith
@@ -222,7 +213,7 @@ falls-expand B P X u h = count B.grow B.expand (size_of X) (size_of X1) (existen
     c = inserted-copies V t P e a
 
     ub : is_bound P u ≡ true
-    ub = bound_of_u P u h.universal
+    ub = universal-is_bound P u h.universal
 
     both : (D : Clause) → IsIn D X → has (positive u) D ≡ true → has (minus u) D ≡ false
     both D m p = go (has (minus u) D) refl

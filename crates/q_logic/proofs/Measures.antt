@@ -4,37 +4,25 @@ use Rattle.q_logic.specs.declared.rule_bounds.Bounds.{Bounds}
 use Rattle.std.proofs.Math.Nat.{mul-le-mul_left}
 use Rattle.q_logic.specs.Prelude.{Literal, Clause, Prefix, Matrix, IsIn, PrenexFormula, is_existential, is_exists, one_less, clause_eq, formula_of, size_of, measure_of, one_if, existentials_in, universals_in, occurring, swept, has_empty, occurs, has_variable}
 use Rattle.q_logic.proofs.JustifiedRuns.{SameClauses}
-use Rattle.q_logic.proofs.Runs.{clause_eq-sound}
-use Rattle.q_logic.proofs.JustifiedRuns.{IsIn-alike, alike-sym, alike-trans, alike-uncons, one_less-alike, clause_eq-itself}
+use Rattle.q_logic.proofs.Runs.{clause_eq-sound, clause_eq-itself}
+use Rattle.q_logic.proofs.JustifiedRuns.{IsIn-alike, alike-sym, alike-trans, alike-uncons, one_less-alike}
+use Rattle.q_logic.proofs.ClauseLemmas.{has_variable-find, has_variable-IsIn}
 
 -- The variables of Y occur in X.
 abbrev pub VarsIn : Matrix → Matrix → Type 0
 VarsIn Y X = (v : ℕ) → occurs v Y ≡ true → occurs v X ≡ true
-
-has_var-find : (v : ℕ) (C : Clause) → has_variable v C ≡ true → (k : Literal) × IsIn k C × (k.var ≡ v)
-has_var-find v [] h = grind arith
-has_var-find v (j ∷ C) h = go (eqb j.var v) refl (has_var-find v C)
-  where
-    go : (b : Bool) → eqb j.var v ≡ b → (has_variable v C ≡ true → (k : Literal) × IsIn k C × (k.var ≡ v)) → (k : Literal) × IsIn k (j ∷ C) × (k.var ≡ v)
-    go true q ih = (j, inl refl, grind arith)
-    go false q ih = let r : (k : Literal) × IsIn k C × (k.var ≡ v) = ih (grind arith) in (r.0, inr r.1, r.2)
 
 pub occurs_var-find : (v : ℕ) (X : Matrix) → occurs v X ≡ true → (D : Clause) × (k : Literal) × IsIn D X × IsIn k D × (k.var ≡ v)
 occurs_var-find v [] h = grind arith
 occurs_var-find v (E ∷ X) h = go (has_variable v E) refl (occurs_var-find v X)
   where
     go : (b : Bool) → has_variable v E ≡ b → (occurs v X ≡ true → (D : Clause) × (k : Literal) × IsIn D X × IsIn k D × (k.var ≡ v)) → (D : Clause) × (k : Literal) × IsIn D (E ∷ X) × IsIn k D × (k.var ≡ v)
-    go true q ih = let r : (k : Literal) × IsIn k E × (k.var ≡ v) = has_var-find v E q in (E, r.0, inl refl, r.1, r.2)
+    go true q ih = let r : (k : Literal) × IsIn k E × (k.var ≡ v) = has_variable-find v E q in (E, r.0, inl refl, r.1, r.2)
     go false q ih = let r : (D : Clause) × (k : Literal) × IsIn D X × IsIn k D × (k.var ≡ v) = ih (grind arith) in (r.0, r.1, inr r.2, r.3, r.4)
-
-has_var-IsIn : (D : Clause) (k : Literal) → IsIn k D → has_variable k.var D ≡ true
-has_var-IsIn [] k m = elim m [ ]
-has_var-IsIn (j ∷ D) k (inl e) = let z : k.var ≡ j.var = ap (λ y. y.var) e in grind arith
-has_var-IsIn (j ∷ D) k (inr m) = let i : has_variable k.var D ≡ true = has_var-IsIn D k m in grind arith
 
 pub occurs_var-IsIn : (X : Matrix) (D : Clause) (k : Literal) → IsIn D X → IsIn k D → occurs k.var X ≡ true
 occurs_var-IsIn [] D k m i = elim m [ ]
-occurs_var-IsIn (E ∷ X) D k (inl e) i = let a : has_variable k.var E ≡ true = has_var-IsIn E k (subst (IsIn k) e i) in rw a refl
+occurs_var-IsIn (E ∷ X) D k (inl e) i = let a : has_variable k.var E ≡ true = has_variable-IsIn E k (subst (IsIn k) e i) in rw a refl
 occurs_var-IsIn (E ∷ X) D k (inr m) i = let a : occurs k.var X ≡ true = occurs_var-IsIn X D k m i in grind arith
 
 pub vars-in : (Y X : Matrix) → ((D : Clause) → IsIn D Y → (k : Literal) → IsIn k D → occurs k.var X ≡ true) → VarsIn Y X

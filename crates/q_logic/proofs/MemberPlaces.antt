@@ -1,18 +1,14 @@
 -- Members of a list by places, and what a test tells.
-use Rattle.std.proofs.Common.{◌≡◌, ◌⊎◌, ℕ, zero, suc, ◌+◌, ◌<◌, ◌≤◌, Bool, true, false, not, List, [], ◌∷◌, ◌++◌, take, get_or, length, refl, sym, ap, subst, inl, inr, arith}
-use Rattle.std.proofs.lemmas.List.{take_more}
+use Rattle.std.proofs.Common.{◌≡◌, ◌⊎◌, ℕ, zero, suc, ◌+◌, ◌<◌, ◌≤◌, Bool, true, false, not, List, [], ◌∷◌, take, get_or, length, refl, sym, ap, subst, inl, inr, arith}
 use Rattle.q_logic.specs.Prelude.{IsIn}
-use Rattle.q_logic.proofs.ClauseLemmas.{IsIn-append, IsIn-append_left}
-use Rattle.q_logic.proofs.ImpliedClauses.{IsIn-append_right}
+use Rattle.q_logic.proofs.ClauseLemmas.{IsIn-append, IsIn-append_left, IsIn-append_right}
+use Rattle.q_logic.proofs.Lists.{taken}
 
 module _ {X : Type 0} where
   pub item-in : (xs : List X) (i : ℕ) (k : X) → i < length xs → k ≡ get_or xs i k → IsIn k xs
   item-in [] i k h e = absurd (omega arith)
   item-in (x ∷ xs) zero k h e = inl e
   item-in (x ∷ xs) (suc i) k h e = inr (item-in xs i k (omega arith) e)
-
-  taken : (xs : List X) (n : ℕ) (y : X) → n < length xs → y ≡ get_or xs n y → take (n + 1) xs ≡ take n xs ++ y ∷ []
-  taken xs n y h e = let t = take_more xs n y h in rw (t, ← e) refl
 
   -- members of a beginning that is longer by one
   pub taken-cases : (xs : List X) (n : ℕ) (y k : X) → n < length xs → y ≡ get_or xs n y → IsIn k (take (n + 1) xs) → IsIn k (take n xs) ⊎ (k ≡ y)

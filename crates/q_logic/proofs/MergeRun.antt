@@ -4,11 +4,11 @@ use Rattle.q_logic.specs.Prelude.{insert, has_variable, Literal, negation, liter
 use Rattle.q_logic.specs.declared.rule_bounds.Bounds.{Bounds}
 use Rattle.q_logic.specs.declared.formulas.Quant.{Quant}
 use Rattle.q_logic.proofs.JustifiedRuns.{SameClauses, Reaches}
-use Rattle.q_logic.proofs.ClauseLemmas.{literal_eq-sound, IsIn-append_left, IsIn-append}
+use Rattle.q_logic.proofs.ClauseLemmas.{literal_eq-sound, IsIn-append_left, IsIn-append, IsIn-append_right}
 use Rattle.q_logic.proofs.PrefixOrder.{existential-is_bound}
 use Rattle.q_logic.proofs.JustifiedRuns.{alike-refl, alike-trans, alike-sym, alike-cons, alike-swap, reaches-alike, reaches-append, reaches-end}
 use Rattle.q_logic.proofs.ImpliedClauses.{implied-subsumed, implied-tautology, implied-hidden, implied-hidden_new, implied-longer, negation-negation}
-use Rattle.q_logic.proofs.ChangeRuns.{least, IsIn-right, reaches-delete, step-first, alike-turned}
+use Rattle.q_logic.proofs.ChangeRuns.{least, reaches-delete, step-first, alike-turned}
 use Rattle.q_logic.proofs.Heights.{rise, weight, one, FreshUpTo, Modest, Way, modest-append}
 use Rattle.q_logic.proofs.JoinedClauses.{insert-length, insert-IsIn, IsIn-insert, is_tautology-sound, IsIn-outer_in}
 use Rattle.q_logic.proofs.PlainRuns.{pure-pivot}
@@ -122,7 +122,7 @@ reaches-renamed P keep gone (C ∷ W) Y w h = go (is_tautology (renamed keep gon
     R = renamed keep gone C
 
     more : (V : Matrix) → Linked (V ++ Y) keep gone
-    more V = record { keep_gives_gone = IsIn-right (pair (negation keep) gone) V Y h.keep_gives_gone; gone_gives_keep = IsIn-right (pair keep (negation gone)) V Y h.gone_gives_keep }
+    more V = record { keep_gives_gone = IsIn-append_right (pair (negation keep) gone) V Y h.keep_gives_gone; gone_gives_keep = IsIn-append_right (pair keep (negation gone)) V Y h.gone_gives_keep }
 
     front : (D : Clause) (V : Matrix) → Linked V keep gone → Linked (D ∷ V) keep gone
     front D V g = record { keep_gives_gone = inr g.keep_gives_gone; gone_gives_keep = inr g.gone_gives_keep }
@@ -358,7 +358,7 @@ merge_on P X keep gone closed h = (
 
         go : (D : Clause) → IsIn D (E2 ∷ (A ++ R)) → IsIn (negation gone) D → Implied (E2 ∷ (A ++ R)) (E1 ++ outer P (negation gone) D)
         go D (inl e) i = implied-tautology (E2 ∷ (A ++ R)) (E1 ++ outer P (negation gone) D)
-            (keep, IsIn-right keep E1 (outer P (negation gone) D) (IsIn-outer_in P (negation gone) D keep (subst (IsIn keep) (sym e) (pair-first keep (negation gone))) kept), IsIn-append_left (negation keep) E1 (outer P (negation gone) D) (pair-first (negation keep) gone))
+            (keep, IsIn-append_right keep E1 (outer P (negation gone) D) (IsIn-outer_in P (negation gone) D keep (subst (IsIn keep) (sym e) (pair-first keep (negation gone))) kept), IsIn-append_left (negation keep) E1 (outer P (negation gone) D) (pair-first (negation keep) gone))
         go D (inr m) i = absurd (not_there D m (negation gone) refl i)
 
     pivot2 : ExistsPivot P (A ++ R) E2 (negation gone)

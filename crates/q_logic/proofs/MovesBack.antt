@@ -68,7 +68,7 @@ all-agree c d A [] h = refl
 all-agree c d A (O ∷ Os) h =
     ap₂ ◌&&◌ (some-agree c d A O (h O (inl refl))) (all-agree c d A Os (λ P i. h P (inr i)))
 
-raised-agree : (n : Bool) (h i : Circuit) (A : Assignment) → value_of h A ≡ value_of i A → (x : ℕ)
+pub raised-agree : (n : Bool) (h i : Circuit) (A : Assignment) → value_of h A ≡ value_of i A → (x : ℕ)
     (o p : Option Circuit) → given o ≡ given p → value_of (or_input x o) A ≡ value_of (or_input x p) A →
     (given (raised n h o) ≡ given (raised n i p)) ×
     (value_of (or_input x (raised n h o)) A ≡ value_of (or_input x (raised n i p)) A)

@@ -1,8 +1,8 @@
 -- Numbered clauses as collections, and the clauses with and without a literal.
-use Rattle.std.proofs.Common.{◌≡◌, ◌≢◌, ℕ, zero, suc, Bool, true, false, cond, [], ◌∷◌, ◌++◌, ◌⊎◌, inl, inr, arith, refl, sym, ap, subst, Option, Some, None}
-use Rattle.q_logic.specs.Prelude.{Literal, literal_eq, Clause, Matrix, IsIn, without, has, with_literal, without_literal, each_without, Slots, slot, live, others, put_first}
+use Rattle.std.proofs.Common.{◌≡◌, ◌≢◌, ℕ, zero, suc, Bool, true, false, cond, [], ◌∷◌, ◌++◌, ◌⊎◌, inl, inr, arith, refl, sym, ap, subst, Option, Some, None, ◌<◌, length}
+use Rattle.q_logic.specs.Prelude.{Literal, literal_eq, Clause, Matrix, IsIn, without, has, with_literal, without_literal, each_without, Slots, slot, live, others, put_first, set_slot, numbered}
 use Rattle.q_logic.proofs.JustifiedRuns.{SameClauses}
-use Rattle.q_logic.proofs.ClauseLemmas.{literal_eq-sound, literal_eq-itself}
+use Rattle.q_logic.proofs.ClauseLemmas.{literal_eq-itself, has-IsIn, IsIn-has}
 use Rattle.q_logic.proofs.JustifiedRuns.{alike-refl, alike-trans, alike-sym, alike-cons, alike-swap, IsIn-alike}
 use Rattle.q_logic.proofs.ChangeRuns.{mapped, alike-turned}
 
@@ -34,19 +34,6 @@ others-live (Some C ∷ N) zero D m = inr m
 others-live (None ∷ N) (suc c) D m = others-live N c D m
 others-live (Some C ∷ N) (suc c) D (inl e) = inl e
 others-live (Some C ∷ N) (suc c) D (inr m) = inr (others-live N c D m)
-
-pub has-IsIn : (l : Literal) (D : Clause) → has l D ≡ true → IsIn l D
-has-IsIn l [] h = grind arith
-has-IsIn l (k ∷ D) h = go (literal_eq k l) refl (has-IsIn l D)
-  where
-    go : (b : Bool) → literal_eq k l ≡ b → (has l D ≡ true → IsIn l D) → (l ≡ k) ⊎ IsIn l D
-    go true q ih = inl (sym (literal_eq-sound k l q))
-    go false q ih = inr (ih (grind arith))
-
-pub IsIn-has : (l : Literal) (D : Clause) → IsIn l D → has l D ≡ true
-IsIn-has l [] m = elim m [ ]
-IsIn-has l (k ∷ D) (inl e) = let z : literal_eq k l ≡ true = subst (λ y. literal_eq y l ≡ true) e (literal_eq-itself l) in grind arith
-IsIn-has l (k ∷ D) (inr m) = let z : has l D ≡ true = IsIn-has l D m in grind arith
 
 pub IsIn-has_not : (l : Literal) (D : Clause) → has l D ≡ false → IsIn l D → ⊥
 IsIn-has_not l D h m = let z : has l D ≡ true = IsIn-has l D m in grind arith
@@ -124,3 +111,22 @@ without_literal-swap j l (D ∷ X) = go (has j D) refl (has l D) refl (without_l
     go true p false q ih = rw p ih
     go false p true q ih = rw q ih
     go false p false q ih = rw (p, q) (ap (λ Y. D ∷ Y) ih)
+
+pub length-set_slot : (c : ℕ) (o : Option Clause) (N : Slots) → length (set_slot c o N) ≡ length N
+length-set_slot c o [] = refl
+length-set_slot zero o (p ∷ N) = refl
+length-set_slot (suc c) o (p ∷ N) = ap suc (length-set_slot c o N)
+
+pub slot-below : (N : Slots) (c : ℕ) (C : Clause) → slot N c ≡ Some C → c < length N
+slot-below [] c C h = grind arith
+slot-below (o ∷ N) zero C h = omega arith
+slot-below (o ∷ N) (suc c) C h = let i : c < length N = slot-below N c C h in omega arith
+
+pub live-gone : (N : Slots) (n : ℕ) → live (set_slot n None N) ≡ others n N
+live-gone [] n = refl
+live-gone (o ∷ N) zero = refl
+live-gone (o ∷ N) (suc n) = ap (put_first o) (live-gone N n)
+
+pub live-numbered : (X : Matrix) → live (numbered X) ≡ X
+live-numbered [] = refl
+live-numbered (C ∷ X) = ap (λ (Y : Matrix). C ∷ Y) (live-numbered X)

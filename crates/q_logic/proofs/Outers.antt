@@ -1,10 +1,10 @@
 -- Outer clauses, one for each clause that holds a literal, copies counted.
 use Rattle.std.proofs.Common.{◌≡◌, ℕ, ◌+◌, ◌≤◌, Bool, true, false, cond, [], ◌∷◌, List, ◌⊎◌, inl, inr, arith, refl, sym, ap, ◌∙◌, subst}
 use Rattle.q_logic.specs.Prelude.{Literal, Clause, Matrix, Prefix, IsIn, outer, has, clause_eq, one_less, copies, every_outer, OutersOf}
-use Rattle.q_logic.proofs.Runs.{clause_eq-sound}
+use Rattle.q_logic.proofs.Runs.{clause_eq-sound, clause_eq-itself, IsIn-copies, copies-IsIn}
 use Rattle.q_logic.proofs.Pivot.{AreOuters}
 use Rattle.q_logic.proofs.UniversalPivot.{every_outer-there, every_outer-from}
-use Rattle.q_logic.proofs.JustifiedRuns.{SameClauses, IsIn-copies, copies-IsIn, IsIn-alike, clause_eq-itself, alike-uncons, alike-trans, one_less-alike}
+use Rattle.q_logic.proofs.JustifiedRuns.{SameClauses, IsIn-alike, alike-uncons, alike-trans, one_less-alike}
 
 -- Each has the members of the other.
 pub outers-members : (P : Prefix) (X : Matrix) (m : Literal) (Os : List Clause) → OutersOf P X m Os →

@@ -4,12 +4,12 @@ use Rattle.q_logic.specs.declared.rule_bounds.Bounds.{Bounds}
 use Rattle.q_logic.specs.Prelude.{Literal, negation, literal_eq, Clause, Matrix, Prefix, IsIn, is_bound, is_existential, is_universal, Implied, keeps, outer, ExistsPivot, ForallPivot, without, Reducible, Reached, ProofStep, add, delete, drop_literal, with_literal, without_literal, each_without, IsTautology, OccursIn, formula_of, Slots, live, others, Target, tautology, unit, cut, pure, subsumed, strengthen, blocked, blocked_forall, Fits, change, assigned, head_of, shortened}
 use Rattle.q_logic.specs.Blocking.{Clashes, AllClash}
 use Rattle.q_logic.proofs.JustifiedRuns.{SameClauses, Reaches}
-use Rattle.q_logic.proofs.ClauseLemmas.{literal_eq-sound, literal_eq-itself, IsIn-append_left, IsIn-append, IsIn-outer}
+use Rattle.q_logic.proofs.ClauseLemmas.{literal_eq-sound, literal_eq-itself, IsIn-append_left, IsIn-append, IsIn-outer, IsIn-append_right}
 use Rattle.q_logic.proofs.UniversalPivot.{IsIn-without, without-IsIn}
 use Rattle.q_logic.proofs.PrefixOrder.{is_bound-universal}
 use Rattle.q_logic.proofs.JustifiedRuns.{alike-refl, alike-trans, alike-sym, alike-cons, IsIn-alike, reaches-append, reaches-alike, reaches-end}
 use Rattle.q_logic.proofs.ImpliedClauses.{implied-subsumed, implied-tautology, implied-hidden, implied-hidden_new}
-use Rattle.q_logic.proofs.ChangeRuns.{deletes, replaces, drops, mapped, least, IsIn-right, alike-turned, reaches-deletes, reaches-replaces, reaches-drops, reaches-delete, reaches-drop, reaches-replace}
+use Rattle.q_logic.proofs.ChangeRuns.{deletes, replaces, drops, mapped, least, alike-turned, reaches-deletes, reaches-replaces, reaches-drops, reaches-delete, reaches-drop, reaches-replace}
 use Rattle.q_logic.proofs.JoinedClauses.{without-shorter}
 use Rattle.q_logic.proofs.Heights.{Way, one, weight, modest-append, modest-more, modest-delete, modest-deletes, modest-drops, modest-replaces, weight-mapped, weight-with, weight-without, weight-others, weight-slot}
 use Rattle.q_logic.proofs.NumberedClauses.{slot-alike, live-slot, others-slot, with-alike, each_without-alike, IsIn-with, IsIn-without_literal, IsIn-each_without, without_literal-slot}
@@ -19,7 +19,7 @@ pub blocked-pivot : (P : Prefix) (X : Matrix) (C : Clause) (l : Literal) → IsI
 blocked-pivot P X C l m e h = record { existential_pivot = e; in_clause = m; implied = λ D i n. implied-tautology X (C ++ outer P (negation l) D) (both D (h D i n)) }
   where
     both : (D : Clause) → Clashes P l C D → IsTautology (C ++ outer P (negation l) D)
-    both D (k, a, b) = (k, IsIn-right k C (outer P (negation l) D) a, IsIn-append_left (negation k) C (outer P (negation l) D) b)
+    both D (k, a, b) = (k, IsIn-append_right k C (outer P (negation l) D) a, IsIn-append_left (negation k) C (outer P (negation l) D) b)
 
 -- The negation of a literal of an outer clause is not the pivot.
 outer_not_pivot : (P : Prefix) (l k : Literal) (D : Clause) → IsIn k (outer P (negation l) D) → literal_eq (negation k) l ≡ false
@@ -32,7 +32,7 @@ pub blocked_forall-pivot : (P : Prefix) (X : Matrix) (C : Clause) (l : Literal) 
 blocked_forall-pivot P X C l m e no_neg h = record { universal_pivot = e; in_clause = m; not_negated = no_neg; implied = λ D i n. implied-tautology X (without l C ++ outer P (negation l) D) (both D (h D i n)) }
   where
     both : (D : Clause) → Clashes P l C D → IsTautology (without l C ++ outer P (negation l) D)
-    both D (k, a, b) = (k, IsIn-right k (without l C) (outer P (negation l) D) a, IsIn-append_left (negation k) (without l C) (outer P (negation l) D) (IsIn-without l C (negation k) b (outer_not_pivot P l k D a)))
+    both D (k, a, b) = (k, IsIn-append_right k (without l C) (outer P (negation l) D) a, IsIn-append_left (negation k) (without l C) (outer P (negation l) D) (IsIn-without l C (negation k) b (outer_not_pivot P l k D a)))
 
 -- Where no clause holds not l.
 pub pure-pivot : (P : Prefix) (X : Matrix) (C : Clause) (l : Literal) → IsIn l C → is_existential P l.var ≡ true → ((D : Clause) → IsIn D X → IsIn (negation l) D → ⊥) → ExistsPivot P X C l

@@ -104,3 +104,11 @@ pub is_bound-universal : (P : Prefix) (x : ℕ) → is_bound P x ≡ true → is
     is_universal P x ≡ true
 is_bound-universal [] x h e = h
 is_bound-universal (b ∷ P) x h e = grind (arith, is_bound-universal P x)
+
+pub universal-is_bound : (P : Prefix) (v : ℕ) → is_universal P v ≡ true → is_bound P v ≡ true
+universal-is_bound [] v h = h
+universal-is_bound (b ∷ P) v h = grind (arith, universal-is_bound P v)
+
+pub unbound-universal : (P : Prefix) (v : ℕ) → is_bound P v ≡ false → is_universal P v ≡ false
+unbound-universal [] v h = refl
+unbound-universal (b ∷ P) v h = grind (arith, unbound-universal P v)

@@ -12,7 +12,7 @@ same_quant-sound Exists Forall h = grind arith
 same_quant-sound Forall Exists h = grind arith
 same_quant-sound Forall Forall h = refl
 
-same_quant-itself : (q : Quant) → same_quant q q ≡ true
+pub same_quant-itself : (q : Quant) → same_quant q q ≡ true
 same_quant-itself Exists = refl
 same_quant-itself Forall = refl
 
@@ -77,3 +77,17 @@ places-outer_or_same (b ∷ P) a v n m o = go (eqb b.var a) (eqb b.var v) n m o 
         places-run_to b.quant P a n (λ i h. f (suc i) (omega arith) (omega arith))
     go false false n m (inl h) ih = ih n m (inl (omega arith))
     go false false n m (inr f) ih = ih n m (inr (λ i h k. f (suc i) (omega arith) (omega arith)))
+
+pub same_quant-through : (a b c : Quant) → same_quant a b ≡ true → same_quant a c ≡ same_quant b c
+same_quant-through Exists Exists c e = refl
+same_quant-through Exists Forall c e = absurd (cc)
+same_quant-through Forall Exists c e = absurd (cc)
+same_quant-through Forall Forall c e = refl
+
+pub same_quant-two : (a b c : Quant) → same_quant a b ≡ false → same_quant b c ≡ false → same_quant a c ≡ true
+same_quant-two Exists Exists c e f = absurd (cc)
+same_quant-two Exists Forall Exists e f = refl
+same_quant-two Exists Forall Forall e f = absurd (cc)
+same_quant-two Forall Exists Exists e f = absurd (cc)
+same_quant-two Forall Exists Forall e f = refl
+same_quant-two Forall Forall c e f = absurd (cc)

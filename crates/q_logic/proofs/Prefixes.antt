@@ -1,7 +1,10 @@
 -- Prefixes that gain or lose a variable.
-use Rattle.std.proofs.Common.{◌≡◌, ℕ, Bool, true, false, cond, eqb, [], ◌∷◌, arith, refl, ◌∙◌}
+use Rattle.std.proofs.Common.{◌≡◌, ℕ, Bool, true, false, cond, eqb, [], ◌∷◌, arith, refl, ◌∙◌, zero, suc, ◌<◌, length, take, get_or, sym, subst}
+use Rattle.std.proofs.lemmas.Bool.{both_ways}
 use Rattle.q_logic.specs.declared.formulas.Quant.TheVariants.{Exists}
-use Rattle.q_logic.specs.Prelude.{Prefix, is_existential, is_bound, universal_before, Distinct, insert_after, removed_from}
+use Rattle.q_logic.specs.declared.formulas.Bound.{Bound}
+use Rattle.q_logic.specs.Prelude.{Prefix, is_existential, is_bound, universal_before, Distinct, insert_after, removed_from, is_universal}
+use Rattle.q_logic.proofs.PrefixOrder.{unbound-universal}
 
 pub insert-is_bound : (w v : ℕ) (P : Prefix) (x : ℕ) → eqb x v ≡ false →
     is_bound (insert_after w v P) x ≡ is_bound P x
@@ -78,3 +81,45 @@ removed-distinct v (b ∷ P) d = go (eqb b.var v) refl (removed-distinct v P d.1
         Distinct (cond c P (b ∷ removed_from v P))
     go true q ih = d.1
     go false q ih = (below b.var P d.0, ih)
+
+pub insert-is_universal : (w v : ℕ) (P : Prefix) (x : ℕ) → eqb x v ≡ false → is_universal (insert_after w v P) x ≡ is_universal P x
+insert-is_universal w v [] x n = refl
+insert-is_universal w v (b ∷ P) x n = grind (arith, insert-is_universal w v P x)
+
+pub removed-is_universal : (v : ℕ) (P : Prefix) (x : ℕ) → eqb x v ≡ false → is_universal (removed_from v P) x ≡ is_universal P x
+removed-is_universal v [] x n = refl
+removed-is_universal v (b ∷ P) x n = grind (arith, removed-is_universal v P x)
+
+pub inserted-not_universal : (w v : ℕ) (P : Prefix) → is_bound P v ≡ false → is_universal (insert_after w v P) v ≡ false
+inserted-not_universal w v [] n = refl
+inserted-not_universal w v (b ∷ P) n = grind (arith, inserted-not_universal w v P, unbound-universal P v)
+
+pub is_bound-first : (b : Bound) (P : Prefix) → is_bound (b ∷ P) b.var ≡ true
+is_bound-first b P = let e : eqb b.var b.var ≡ true = grind arith in rw e refl
+
+pub is_bound-later : (b : Bound) (P : Prefix) (v : ℕ) → is_bound P v ≡ true → is_bound (b ∷ P) v ≡ true
+is_bound-later b P v h = go (eqb b.var v)
+  where
+    go : (c : Bool) → cond c true (is_bound P v) ≡ true
+    go true = refl
+    go false = h
+
+pub get_or-is_bound : (P : Prefix) (i : ℕ) (d : Bound) → i < length P → is_bound P (get_or P i d).var ≡ true
+get_or-is_bound [] i d h = absurd (omega arith)
+get_or-is_bound (b ∷ P) zero d h = is_bound-first b P
+get_or-is_bound (b ∷ P) (suc i) d h = is_bound-later b P (get_or P i d).var (get_or-is_bound P i d (omega arith))
+
+pub distinct-at : (P : Prefix) (i : ℕ) (d : Bound) → Distinct P → i < length P → is_bound (take i P) (get_or P i d).var ≡ false
+distinct-at [] i d di h = absurd (omega arith)
+distinct-at (b ∷ P) zero d di h = refl
+distinct-at (b ∷ P) (suc i) d di h =
+    let r : is_bound (take i P) (get_or P i d).var ≡ false = distinct-at P i d di.1 (omega arith) in
+    let a : is_bound P (get_or P i d).var ≡ true = get_or-is_bound P i d (omega arith) in
+    let n : is_bound P b.var ≡ false = di.0 in
+    go (eqb b.var (get_or P i d).var) refl r a n
+  where
+    go : (t : Bool) → eqb b.var (get_or P i d).var ≡ t → is_bound (take i P) (get_or P i d).var ≡ false → is_bound P (get_or P i d).var ≡ true → is_bound P b.var ≡ false → cond t true (is_bound (take i P) (get_or P i d).var) ≡ false
+    go true e r a n =
+        let q : b.var ≡ (get_or P i d).var = grind arith in
+        absurd (both_ways (is_bound P b.var) n (subst (λ (x : ℕ). is_bound P x ≡ true) (sym q) a))
+    go false e r a n = r

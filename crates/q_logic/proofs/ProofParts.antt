@@ -2,12 +2,13 @@
 use Rattle.std.proofs.Common.{◌≡◌, ℕ, zero, suc, ◌+◌, Bool, true, false, List, [], ◌∷◌, ◌++◌, map, inl, inr, arith, refl, sym, ap, ◌∙◌, subst, Option, Some, None}
 use Rattle.q_logic.specs.declared.limits.Limits.{Limits}
 use Rattle.q_logic.specs.Prelude.{Literal, negation, Clause, Prefix, IsIn, Slots, slot, live, outer, without, Implied, has, ProofStep, add, delete, drop_literal, fresh, remove_variable, Valid, one_less, IsWarranted, IsDroppable, Chained, NumberedFormula, plain, beside, HintGroup, ProofPart, numbers_with, Resolved, Shows, ShowsDrop, HintedValid}
-use Rattle.q_logic.proofs.NumberedClauses.{live-slot, has-IsIn}
+use Rattle.q_logic.proofs.NumberedClauses.{live-slot}
 use Rattle.q_logic.specs.declared.proof_part.ProofKind.TheVariants.{Nothing, Pivot, Reach}
 use Rattle.q_logic.specs.declared.proof_part.ProofKind.TheVariants.{Implied as ByHints}
 use Rattle.q_logic.proofs.AlikeFormulas.{warranted-within, droppable-within}
 use Rattle.q_logic.proofs.HintChains.{implied-chained, live-number}
 use Rattle.q_logic.proofs.HintedRuns.{forward, backward}
+use Rattle.q_logic.proofs.ClauseLemmas.{has-IsIn}
 
 -- groups for the clauses that hold m, numbered from n on
 pub record Grouped (P : Prefix) (N M : Slots) (base : Clause) (m : Literal) (n : ℕ) : Type 0 where

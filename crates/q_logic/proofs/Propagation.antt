@@ -102,7 +102,7 @@ chain-same X Y S T K x s (more {K = M} h D inX inD rest ch) =
       λ k m. elim m [ inl e ↦ inl e | inr i ↦ inr (r.2 k i) ],
     )
 
-IsIn-negations : (S T : Clause) → ((k : Literal) → IsIn k S → IsIn k T) → (k : Literal) →
+pub IsIn-negations : (S T : Clause) → ((k : Literal) → IsIn k S → IsIn k T) → (k : Literal) →
     IsIn k (negations S) → IsIn k (negations T)
 IsIn-negations [] T h k m = elim m [ ]
 IsIn-negations (j ∷ S) T h k (inl e) = subst (λ y. IsIn y (negations T)) (sym e) (there T (h j (inl refl)))

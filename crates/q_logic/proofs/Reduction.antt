@@ -4,11 +4,11 @@ use Rattle.q_logic.specs.Prelude.{Literal, negation, literal_eq, Prefix, Clause,
 use Rattle.q_logic.specs.Truth.{Assignment, LiteralTrue, ClauseTrue, MatrixTrue, signed, with_value}
 use Rattle.q_logic.specs.Skolems.{Strategy, circuit_of, or_input, given, outcome, Skolem}
 use Rattle.q_logic.specs.Reach.{Reached, Reducible, ReachedByVariable, ReducibleByVariable}
-use Rattle.q_logic.proofs.ClauseLemmas.{literal_eq-sound, circuit_of-none}
+use Rattle.q_logic.proofs.ClauseLemmas.{literal_eq-sound, circuit_of-none, has-IsIn, IsIn-has}
 use Rattle.q_logic.proofs.PrefixOrder.{universal-not_existential}
 use Rattle.q_logic.proofs.Propagation.{Holds-negation}
 use Rattle.q_logic.proofs.TreeValues.{value_of-replaced, Reads-replaced, value_of-agree}
-use Rattle.q_logic.proofs.UniversalPivot.{has-IsIn, IsIn-has, IsIn-without, outer_kept}
+use Rattle.q_logic.proofs.UniversalPivot.{IsIn-without, outer_kept}
 
 by_variable-reached : (P : Prefix) (X : Matrix) (C : Clause) (l : Literal) (D : Clause) →
     Reached P X C l D → ReachedByVariable P X C l.var D

@@ -6,8 +6,9 @@ use Rattle.q_logic.specs.declared.formulas.Quant.TheVariants.{Exists, Forall}
 use Rattle.q_logic.specs.Prelude.{Prefix, IsIn, PrenexFormula, is_bound, same_quant, Distinct, IsFormula, Block, push_block, blocks, SameBlocks, ProofStep, SameFormula}
 use Rattle.q_logic.specs.Truth.{Assignment, with_value, by_quant, Game, Holds, MatrixTrue}
 use Rattle.q_logic.proofs.Justified.{JustifiedRun}
-use Rattle.q_logic.proofs.Blocks.{among, among-IsIn, block_bound, blocks-is_bound, same-is_bound, IsIn-same, Same-sym, SameBlocks-itself}
+use Rattle.q_logic.proofs.Blocks.{among, among-IsIn, block_bound, blocks-is_bound, same-is_bound, IsIn-same, Same-sym}
 use Rattle.q_logic.proofs.Soundness.{same-true, steps-true, steps-formula}
+use Rattle.q_logic.proofs.Runs.{SameBlocks-refl}
 
 -- each variable at its last place
 abbrev once : Prefix → Prefix
@@ -240,7 +241,7 @@ joins b (B ∷ Bs) h e = go (same_quant b.quant B.quant) h
               | inr j ↦ j
             ]),
           )),
-          SameBlocks-itself Bs,
+          SameBlocks-refl Bs,
         )
     go false k = absurd (clash e (k.0 b.var (inl refl)))
       where

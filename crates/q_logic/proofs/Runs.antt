@@ -1,13 +1,14 @@
 -- Runs keep the truth, and undo lists give Skolem functions back.
-use Rattle.std.proofs.Common.{◌≡◌, ℕ, Bool, true, false, cond, eqb, [], ◌∷◌, ◌⊎◌, inl, inr, arith, refl, sym, ap, ◌∙◌, subst, Option, Some, None}
-use Rattle.q_logic.specs.Prelude.{Literal, Prefix, Clause, Matrix, IsIn, is_existential, is_bound, universal_before, Distinct, Closed, Circuit, constant, value_of, Reads, replaced, without, clause_eq, one_less, insert_after, removed_from, with_circuit}
+use Rattle.std.proofs.Common.{◌≡◌, ℕ, Bool, true, false, cond, eqb, [], ◌∷◌, ◌⊎◌, inl, inr, arith, refl, sym, ap, ◌∙◌, subst, Option, Some, None, ◌≤◌, List, ◌++◌}
+use Rattle.q_logic.specs.Prelude.{Literal, Prefix, Clause, Matrix, IsIn, is_existential, is_bound, universal_before, Distinct, Closed, Circuit, constant, value_of, Reads, replaced, without, clause_eq, one_less, insert_after, removed_from, with_circuit, literal_eq, copies, Block, SameBlocks, PrenexFormula, ProofStep, ValidSteps, Valid, after}
 use Rattle.q_logic.specs.Truth.{Assignment, ClauseTrue, MatrixTrue, signed, with_value}
 use Rattle.q_logic.specs.Skolems.{Strategy, circuit_of, or_input, given, map_circuit, reread, outcome, Skolem, Lawful}
-use Rattle.q_logic.proofs.ClauseLemmas.{literal_eq-sound}
+use Rattle.q_logic.proofs.ClauseLemmas.{literal_eq-sound, literal_eq-itself}
 use Rattle.q_logic.proofs.UniversalPivot.{without-IsIn, given-reread, outcome-reread}
 use Rattle.q_logic.proofs.Truth.{none_bound, universal_before-is_bound}
 use Rattle.q_logic.proofs.TreeValues.{Reads-replaced}
 use Rattle.q_logic.proofs.Prefixes.{insert-is_existential, insert-itself, insert-universal_before, insert-not_before, removed-is_existential, removed-unbound, removed-universal_before}
+use Rattle.q_logic.specs.declared.limits.Limits.{Limits}
 
 pub clause_eq-sound : (C D : Clause) → clause_eq C D ≡ true → C ≡ D
 clause_eq-sound [] [] h = refl
@@ -311,3 +312,29 @@ removed-on P X v c di free sk =
         ap (λ o. value_of (or_input w.0.var o) A) (with_circuit-other v None r0 w.0.var q) ∙
         outcome-reread v (constant false) c A w.0.var q in
         (w.0, w.1, ap (signed w.0.negative) e ∙ w.2)
+
+pub clause_eq-itself : (C : Clause) → clause_eq C C ≡ true
+clause_eq-itself [] = refl
+clause_eq-itself (k ∷ C) = let a : literal_eq k k ≡ true = literal_eq-itself k in let i : clause_eq C C ≡ true = clause_eq-itself C in grind arith
+
+pub IsIn-copies : (C : Clause) (X : Matrix) → IsIn C X → 1 ≤ copies C X
+IsIn-copies C [] m = elim m [ ]
+IsIn-copies C (D ∷ X) (inl e) = let z : clause_eq D C ≡ true = subst (λ y. clause_eq y C ≡ true) e (clause_eq-itself C) in grind arith
+IsIn-copies C (D ∷ X) (inr m) = let z : 1 ≤ copies C X = IsIn-copies C X m in grind arith
+
+pub copies-IsIn : (C : Clause) (X : Matrix) → 1 ≤ copies C X → IsIn C X
+copies-IsIn C [] h = grind arith
+copies-IsIn C (D ∷ X) h = go (clause_eq D C) refl (copies-IsIn C X)
+  where
+    go : (b : Bool) → clause_eq D C ≡ b → (1 ≤ copies C X → IsIn C X) → IsIn C (D ∷ X)
+    go true q ih = inl (sym (clause_eq-sound D C q))
+    go false q ih = inr (ih (grind arith))
+
+pub SameBlocks-refl : (Bs : List Block) → SameBlocks Bs Bs
+SameBlocks-refl [] = tt
+SameBlocks-refl (B ∷ Bs) = (refl, (λ x. ((λ m. m), (λ m. m))), SameBlocks-refl Bs)
+
+-- One step more.
+pub valid_more : (m : Limits) (F : PrenexFormula) (ss : List ProofStep) (E : PrenexFormula) (s : ProofStep) → ValidSteps m F ss E → Valid m E s → ValidSteps m F (ss ++ s ∷ []) (after E s)
+valid_more m F [] E s v w = (subst (λ (G : PrenexFormula). Valid m G s) (sym v) w, ap (λ (G : PrenexFormula). after G s) v)
+valid_more m F (t ∷ ss) E s v w = (v.0, valid_more m (after F t) ss E s v.1 w)

@@ -23,7 +23,7 @@ without-IsIn_other l m (k ∷ C) h = go (literal_eq k l) refl h (without-IsIn_ot
     go false q (inl e) ih = inr (inl e)
     go false q (inr h) ih = elim (ih h) [ inl e ↦ inl e | inr d ↦ inr (inr d) ]
 
-without-above : (l : Literal) (C : Clause) → AllByRecursion (IsBelow l) C → without l C ≡ C
+pub without-above : (l : Literal) (C : Clause) → AllByRecursion (IsBelow l) C → without l C ≡ C
 without-above l [] a = refl
 without-above l (k ∷ C) a = go (literal_eq k l) refl (without-above l C a.1)
   where

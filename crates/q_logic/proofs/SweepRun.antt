@@ -69,12 +69,12 @@ reaches-removes (b ∷ P) X d = subst (λ ss. Reaches (formula_of (b ∷ P) X) s
     last true q = (refl, alike-refl X)
     last false q = let e : eqb b.var b.var ≡ true = grind arith in ((rw e refl, occurs_var-of b.var X q), (rw e refl, alike-refl X))
 
-has_empty-IsIn : (X : Matrix) → has_empty X ≡ true → IsIn [] X
+pub has_empty-IsIn : (X : Matrix) → has_empty X ≡ true → IsIn [] X
 has_empty-IsIn [] h = grind arith
 has_empty-IsIn ([] ∷ X) h = inl refl
 has_empty-IsIn ((k ∷ C) ∷ X) h = inr (has_empty-IsIn X h)
 
-occurring-none : (P : Prefix) → occurring P ([] ∷ []) ≡ []
+pub occurring-none : (P : Prefix) → occurring P ([] ∷ []) ≡ []
 occurring-none [] = refl
 occurring-none (b ∷ P) = occurring-none P
 

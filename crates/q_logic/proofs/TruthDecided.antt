@@ -4,6 +4,7 @@ use Rattle.q_logic.specs.declared.formulas.Quant.{Quant}
 use Rattle.q_logic.specs.declared.formulas.Quant.TheVariants.{Exists, Forall}
 use Rattle.q_logic.specs.Prelude.{Prefix, Clause, Matrix}
 use Rattle.q_logic.specs.Truth.{Assignment, LiteralTrue, ClauseTrue, MatrixTrue, HoldsUnder, by_quant, with_value, literal_true, clause_true, matrix_true, one_or_both, is_true_under}
+use Rattle.q_logic.proofs.Booleans.{both-left, both-right}
 
 pub clause_true-sound : (A : Assignment) (C : Clause) → clause_true A C ≡ true → ClauseTrue A C
 clause_true-sound A [] h = grind arith
@@ -23,14 +24,6 @@ clause_true-complete A (k ∷ C) (j, inr m, t) = go (literal_true A k) (clause_t
     go : (b : Bool) → clause_true A C ≡ true → b || clause_true A C ≡ true
     go true h = refl
     go false h = h
-
-both-left : (a b : Bool) → a && b ≡ true → a ≡ true
-both-left true b h = refl
-both-left false b h = h
-
-both-right : (a b : Bool) → a && b ≡ true → b ≡ true
-both-right true b h = h
-both-right false b h = grind arith
 
 both : (a b : Bool) → a ≡ true → b ≡ true → a && b ≡ true
 both a b g h = grind arith

@@ -3,26 +3,11 @@ use Rattle.std.proofs.Common.{◌≡◌, ℕ, Bool, true, false, cond, ◌||◌,
 use Rattle.q_logic.specs.Prelude.{Literal, negation, literal_eq, Prefix, Clause, Matrix, IsIn, is_existential, is_universal, universal_before, outer_or_same, Circuit, input, inverter, conjunction, disjunction, value_of, Reads, replaced, keeps, outer, ForallPivot, without, has, all_of, every_outer}
 use Rattle.q_logic.specs.Truth.{Assignment, LiteralTrue, ClauseTrue, MatrixTrue, signed, with_value}
 use Rattle.q_logic.specs.Skolems.{Strategy, circuit_of, or_input, given, map_circuit, reread, outcome, Skolem, Lawful}
-use Rattle.q_logic.proofs.ClauseLemmas.{literal_eq-sound, literal_eq-itself, IsIn-append, IsIn-outer, all_of-true, all_of-false, Reads-all_of, circuit_of-none}
+use Rattle.q_logic.proofs.ClauseLemmas.{literal_eq-sound, IsIn-append, IsIn-outer, all_of-true, all_of-false, Reads-all_of, circuit_of-none, has-IsIn, IsIn-has}
 use Rattle.q_logic.proofs.PrefixOrder.{outer_or_same-is_bound, outer_existential-free, before_outer_existential-before, outer_universal-before_inner, universal-not_existential}
 use Rattle.q_logic.proofs.Pivot.{Near, AreOuters, outers-near}
 use Rattle.q_logic.proofs.Propagation.{implied-true}
 use Rattle.q_logic.proofs.TreeValues.{value_of-replaced, Reads-replaced, value_of-agree}
-
-pub has-IsIn : (l : Literal) (D : Clause) → has l D ≡ true → IsIn l D
-has-IsIn l [] h = grind arith
-has-IsIn l (k ∷ D) h = go (literal_eq k l) refl (has-IsIn l D)
-  where
-    go : (b : Bool) → literal_eq k l ≡ b → (has l D ≡ true → IsIn l D) → IsIn l (k ∷ D)
-    go true e ih = inl (sym (literal_eq-sound k l e))
-    go false e ih = inr (ih (grind arith))
-
-pub IsIn-has : (l : Literal) (D : Clause) → IsIn l D → has l D ≡ true
-IsIn-has l [] m = elim m [ ]
-IsIn-has l (k ∷ D) (inl e) =
-    let z : literal_eq k l ≡ true = subst (λ j. literal_eq j l ≡ true) e (literal_eq-itself l) in
-    grind arith
-IsIn-has l (k ∷ D) (inr m) = let z : has l D ≡ true = IsIn-has l D m in grind arith
 
 pub IsIn-without : (l : Literal) (C : Clause) (k : Literal) → IsIn k C → literal_eq k l ≡ false →
     IsIn k (without l C)

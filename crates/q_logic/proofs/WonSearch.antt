@@ -56,7 +56,7 @@ avoids-sign k (j ∷ C) v e h =
     same false true h = absurd (cc)
     same false false h = refl
 
-own-sign : (x : Bool) → signed x x ≡ false
+pub own-sign : (x : Bool) → signed x x ≡ false
 own-sign true = refl
 own-sign false = refl
 

@@ -1,15 +1,12 @@
 -- The lists of the linked clauses, where one more is linked or one is unlinked.
 use Rattle.std.proofs.Common.{◌≡◌, ◌≢◌, ◌⊎◌, ℕ, ◌+◌, ◌-◌, ◌<◌, ◌≤◌, Bool, true, false, true≢false, List, length, get_or, Some, refl, sym, ◌∙◌, ap, subst, inl, inr, arith}
-use Rattle.std.proofs.lemmas.Bool.{cases_lt}
+use Rattle.std.proofs.lemmas.Bool.{cases_lt, cases_eq}
 use Rattle.std.proofs.lemmas.Bool.Decides.{nat_tests}
-use Rattle.q_logic.specs.Prelude.{Literal, pack, unpack}
-use Rattle.q_logic.proofs.Codes.{unpack_pack}
+use Rattle.std.proofs.lemmas.Option.{same_Some}
+use Rattle.q_logic.specs.Prelude.{Literal, pack}
+use Rattle.q_logic.proofs.Common.{pack-same}
 use Rattle.q_arena.specs.Prelude.{Has, Chains, list_at, Clauses, clause_at, start_at}
-use Rattle.q_arena.proofs.NumberCases.{ℕ-cases, some-same}
 use Rattle.q_occ.specs.Places.{no_lit, IsPlaceUpto, IsLinkedUpto, IsUnlinkedUpto, AreOwnedUpto, IsPlaceIn, AreExact, with_linked, IsUnlinked, IsLinked, IsReserved, IsLinking, IsUnlinking}
-
-pack-same : (l m : Literal) → pack l ≡ pack m → l ≡ m
-pack-same l m e = sym (unpack_pack l) ∙ ap unpack e ∙ unpack_pack m
 
 with-here : (id : ℕ) (b : Bool) (linked : ℕ → Bool) (i : ℕ) → i ≡ id → with_linked id b linked i ≡ b
 with-here id b linked i e = grind (arith, nat_tests)
@@ -30,7 +27,7 @@ module _ (a : Clauses) (id : ℕ) (lits : List Literal) (start : ℕ) (e : claus
 
   from : (l : Literal) (p : ℕ) → IsPlaceIn a id l p → IsPlaceUpto lits start (length lits) (pack l) p
   from l p h =
-      let same : h.clause ≡ lits = some-same h.clause lits (sym h.live ∙ e) in
+      let same : h.clause ≡ lits = same_Some h.clause lits (sym h.live ∙ e) in
       record {
         at_index = h.at_index;
         in_range = subst (λ (c : List Literal). h.at_index < length c) same h.in_range;
@@ -106,7 +103,7 @@ module _ (a : Clauses) (id : ℕ) (lits : List Literal) (start : ℕ) (e : claus
 pub exact-linked : (o n : Chains) (a : Clauses) (id : ℕ) → IsUnlinked o a id → IsLinking o n a id → (linked : ℕ → Bool) → AreExact o a linked → AreExact n a (with_linked id true linked)
 exact-linked o n a id u g linked x =
     let now = with_linked id true linked in
-    let still : (i : ℕ) → linked i ≡ true → now i ≡ true = λ i t. elim (ℕ-cases i id) [
+    let still : (i : ℕ) → linked i ≡ true → now i ≡ true = λ i t. elim (cases_eq i id) [
       | inl q ↦ with-here id true linked i q
       | inr d ↦ with-other id true linked i d ∙ t
     ] in
@@ -117,7 +114,7 @@ exact-linked o n a id u g linked x =
             (r.0, still r.0 r.1, r.2, g.owners p (λ m y. u m (pack l) p y b) ∙ r.3)
         | inr b ↦ (id, with-here id true linked id refl, b, g.owner l p b)
       ];
-      all = λ i l p t h. (g.lists l p).1 (elim (ℕ-cases i id) [
+      all = λ i l p t h. (g.lists l p).1 (elim (cases_eq i id) [
         | inl q ↦ inr (subst (λ (k : ℕ). IsPlaceIn a k l p) q h)
         | inr d ↦ inl (x.all i l p (sym (with-other id true linked i d) ∙ t) h)
       ]);

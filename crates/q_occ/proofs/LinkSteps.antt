@@ -1,8 +1,7 @@
 -- One more literal linked or unlinked.
 use Rattle.std.proofs.Common.{◌≡◌, ◌≢◌, ◌⊎◌, ℕ, ◌+◌, ◌<◌, ◌≤◌, List, [], ◌∷◌, length, get_or, set, refl, sym, ◌∙◌, ap, subst, inl, inr, arith}
 use Rattle.std.proofs.lemmas.List.{get_or-set_same, get_or-set_other, get_or_past}
-use Rattle.std.proofs.lemmas.Bool.{cases_lt}
-use Rattle.q_arena.proofs.NumberCases.{ℕ-cases}
+use Rattle.std.proofs.lemmas.Bool.{cases_lt, cases_eq}
 use Rattle.q_logic.specs.Prelude.{Literal, pack}
 use Rattle.q_arena.specs.Prelude.{Has, AreApart, without, Chains, list_at}
 use Rattle.q_arena.proofs.RingLemmas.{Has-without}
@@ -22,11 +21,11 @@ linked-more old now new lits start k h before eh hh e l p =
       | inl a ↦ inl a
       | inr b ↦ inr (wider b)
     ] in
-    let into : Has (list_at now l) p → Has (list_at new l) p = λ g. elim (ℕ-cases l h) [
+    let into : Has (list_at now l) p → Has (list_at new l) p = λ g. elim (cases_eq l h) [
       | inl q ↦ subst (λ (xs : List ℕ). Has xs p) (sym (here q)) (inr (subst (λ (i : ℕ). Has (list_at now i) p) q g))
       | inr n ↦ subst (λ (xs : List ℕ). Has xs p) (sym (there n)) g
     ] in (
-      λ g. elim (ℕ-cases l h) [
+      λ g. elim (cases_eq l h) [
         | inl q ↦ elim (subst (λ (xs : List ℕ). Has xs p) (here q) g) [
           | inl i ↦ inr (record { at_index = k; in_range = omega arith; is = i; of = sym eh ∙ sym q })
           | inr i ↦ from (subst (λ (j : ℕ). Has (list_at now j) p) (sym q) i)
@@ -35,7 +34,7 @@ linked-more old now new lits start k h before eh hh e l p =
       ],
       λ g. elim g [
         | inl a ↦ into ((before l p).1 (inl a))
-        | inr b ↦ elim (ℕ-cases b.at_index k) [
+        | inr b ↦ elim (cases_eq b.at_index k) [
           | inl i ↦
               let q : l ≡ h = sym (ap (λ (j : ℕ). pack (get_or lits j no_lit)) (sym i) ∙ b.of) ∙ sym eh in
               subst (λ (xs : List ℕ). Has xs p) (sym (here q)) (inl (b.is ∙ ap (λ (j : ℕ). start + j) i))
@@ -51,7 +50,7 @@ pub owned-more : (old now new : List ℕ) (start k id : ℕ) → AreOwnedUpto ol
 owned-more old now new start k id a lt e =
     let other : (p : ℕ) → p ≢ start + k → get_or new p 0 ≡ get_or now p 0 = λ p n. ap (λ (xs : List ℕ). get_or xs p 0) e ∙ get_or-set_other now (start + k) p id 0 n in
     record {
-      within = λ p l u. elim (ℕ-cases p (start + k)) [
+      within = λ p l u. elim (cases_eq p (start + k)) [
         | inl q ↦ ap (λ (xs : List ℕ). get_or xs p 0) e ∙ subst (λ (i : ℕ). get_or (set now (start + k) id) i 0 ≡ id) (sym q) (get_or-set_same now (start + k) id 0 lt)
         | inr n ↦ other p n ∙ a.within p l (omega arith)
       ];
@@ -79,7 +78,7 @@ unlinked-more old now new start k h before there apart one e l p =
         | inr b ↦ inr (omega arith)
       ],
     ) in (
-      λ g. elim (ℕ-cases l h) [
+      λ g. elim (cases_eq l h) [
         | inl q ↦
             let i = subst (λ (xs : List ℕ). Has xs p) (here q) g in
             narrow (subst (λ (j : ℕ). Has (list_at now j) p) (sym q) (Has-without (start + k) p (list_at now h) i))
@@ -94,7 +93,7 @@ unlinked-more old now new start k h before there apart one e l p =
             | inr b ↦ absurd (omega arith)
           ] in
           let was = (before l p).1 (g.0, elim g.1 [ inl a ↦ inl a | inr b ↦ inr (omega arith) ]) in
-          elim (ℕ-cases l h) [
+          elim (cases_eq l h) [
             | inl q ↦ subst (λ (xs : List ℕ). Has xs p) (sym (here q)) (Has-kept (start + k) p (list_at now h) (subst (λ (j : ℕ). Has (list_at now j) p) q was) away)
             | inr n ↦ subst (λ (xs : List ℕ). Has xs p) (sym (other n)) was
           ],

@@ -1,21 +1,13 @@
 -- What follows a literal in a clause that is in order.
-use Rattle.std.proofs.Common.{◌≡◌, ◌⊎◌, ◌∙◌, ℕ, zero, suc, ◌+◌, ◌<◌, ◌≤◌, Bool, [], ◌∷◌, length, get_or, drop, refl, sym, subst, inl, inr, arith, add-one}
-use Rattle.std.proofs.lemmas.Bool.Decides.{nat_tests}
+use Rattle.std.proofs.Common.{◌≡◌, ◌⊎◌, ◌∙◌, ℕ, zero, suc, ◌+◌, ◌<◌, ◌≤◌, [], ◌∷◌, length, get_or, drop, sym, subst, inl, inr, arith, add-one}
 use Rattle.std.specs.List.{AllByRecursion}
 use Rattle.q_logic.specs.Prelude.{Literal, IsBelow, pack, Clause, IsIn, ArePairs}
-use Rattle.q_logic.proofs.Common.{IsIn-drop_within}
+use Rattle.q_logic.proofs.Common.{IsIn-drop_within, codes-grow}
 use Rattle.q_ordered.specs.Looks.{IsLeastFrom}
-
-pub below-pack : (j k : Literal) → IsBelow j k → pack j < pack k
-below-pack j k b = go j.negative refl k.negative refl b
-  where
-    go : (a : Bool) → j.negative ≡ a → (c : Bool) → k.negative ≡ c → IsBelow j k → pack j < pack k
-    go a e c f (inl h) = grind (arith, nat_tests)
-    go a e c f (inr h) = let x = h.0 in let y = h.1 in let z = h.2 in grind (arith, nat_tests)
 
 pub all-below : (k j : Literal) (C : Clause) → AllByRecursion (IsBelow k) C → IsIn j C → pack k < pack j
 all-below k j [] a m = absurd m
-all-below k j (x ∷ C) a (inl e) = subst (λ (z : Literal). pack k < pack z) (sym e) (below-pack k x a.0)
+all-below k j (x ∷ C) a (inl e) = subst (λ (z : Literal). pack k < pack z) (sym e) (codes-grow k x a.0)
 all-below k j (x ∷ C) a (inr m) = all-below k j C a.1 m
 
 -- a literal from a place on is the one there, or comes after it
@@ -32,11 +24,6 @@ pub at-place : (C : Clause) (i : ℕ) (k : Literal) → i < length C → k ≡ g
 at-place [] i k h e = absurd (omega arith)
 at-place (x ∷ C) zero k h e = inl e
 at-place (x ∷ C) (suc i) k h e = at-place C i k (omega arith) e
-
-pub dropped-in : (C : Clause) (i : ℕ) (k : Literal) → IsIn k (drop i C) → IsIn k C
-dropped-in [] i k m = absurd (let z = IsIn-drop_within k [] i m in omega arith)
-dropped-in (x ∷ C) zero k m = m
-dropped-in (x ∷ C) (suc i) k m = inr (dropped-in C i k m)
 
 pub dropped-more : (C : Clause) (i : ℕ) (k : Literal) → IsIn k (drop (i + 1) C) → IsIn k (drop i C)
 dropped-more C i k m = go C i (rw add-one at m)

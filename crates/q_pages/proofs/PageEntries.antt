@@ -1,22 +1,13 @@
 -- What stands at a number of a row, after a change of its pages.
-use Rattle.std.proofs.Common.{◌≡◌, ◌≢◌, ℕ, zero, suc, ◌∷◌, not-suc-le-zero, le_of_suc-le-suc, ◌+◌, ◌*◌, ◌/◌, ◌%◌, ◌<◌, ◌≤◌, List, [], length, get_or, set, map, refl, sym, ◌∙◌, ap, arith, inl, inr}
+use Rattle.std.proofs.Common.{◌≡◌, ◌≢◌, ℕ, ◌+◌, ◌*◌, ◌/◌, ◌%◌, ◌<◌, ◌≤◌, List, length, get_or, set, map, refl, sym, ◌∙◌, ap, arith, inl, inr}
 use Rattle.std.specs.Prelude.{true, false, nat_lt, ◌⊎◌}
-use Rattle.std.proofs.lemmas.Bool.{cases_lt}
+use Rattle.std.proofs.lemmas.Bool.{cases_lt, cases_eq}
 use Rattle.std.proofs.lemmas.Bool.Decides.{nat_tests}
 use Rattle.std.proofs.lemmas.List.{length-set, ext_get_or, get_or-set_same, get_or-set_other, get_or_past}
 use Rattle.q_pages.specs.Rows.{item_at, IsMade}
 use Rattle.q_pages.specs.Tables.{IsFreePage, page_of}
 use Rattle.q_pages.specs.Layout.{entry, row_of, IsSound}
 use Rattle.q_pages.proofs.FilledRows.{length-values, value-at, mapped-at}
-
-pub ℕ-cases : (n m : ℕ) → (n ≡ m) ⊎ (n ≢ m)
-ℕ-cases n m = elim (cases_lt n m) [
-  | inl l ↦ inr (λ e. absurd (omega arith))
-  | inr g ↦ elim (cases_lt m n) [
-    | inl l ↦ inr (λ e. absurd (omega arith))
-    | inr h ↦ inl (omega arith)
-  ]
-]
 
 module _ {T : Type 0} (none : T) (pages : List ℕ) (items : List T) where
   pub length-row : length (row_of none pages items).items ≡ 1024 * length pages
@@ -136,20 +127,20 @@ module _ {T : Type 0} (none : T) (pages : List ℕ) (items : List T) (s : IsSoun
 
   pub sound-made : IsSound none (set pages k q) items
   sound-made = record {
-    within = λ l lh. elim (ℕ-cases l k) [
+    within = λ l lh. elim (cases_eq l k) [
       | inl e ↦ (let h = ap (λ (m : ℕ). get_or (set pages k q) m 0) e ∙ here in omega arith)
       | inr n ↦ (let w = s.within l (omega (arith, long, lh)) in let o = other l n in omega arith)
     ];
-    free = λ p r h f. s.free p r h (λ l lh e. elim (ℕ-cases l k) [
+    free = λ p r h f. s.free p r h (λ l lh e. elim (cases_eq l k) [
       | inl x ↦ sym e ∙ ap (λ (m : ℕ). get_or pages m 0) x ∙ was
       | inr n ↦ f l (omega (arith, long, lh)) (other l n ∙ e)
     ]);
-    apart = λ a b ah bh e o. elim (ℕ-cases a k) [
-      | inl x ↦ elim (ℕ-cases b k) [
+    apart = λ a b ah bh e o. elim (cases_eq a k) [
+      | inl x ↦ elim (cases_eq b k) [
         | inl y ↦ x ∙ sym y
         | inr m ↦ (let h = ap (λ (m : ℕ). get_or (set pages k q) m 0) x ∙ here in let i = other b m in let w = new b (omega (arith, long, bh)) in absurd (omega arith))
       ]
-      | inr n ↦ elim (ℕ-cases b k) [
+      | inr n ↦ elim (cases_eq b k) [
         | inl y ↦ (let h = ap (λ (m : ℕ). get_or (set pages k q) m 0) y ∙ here in let i = other a n in let w = new a (omega (arith, long, ah)) in absurd (omega arith))
         | inr m ↦ s.apart a b (omega (arith, long, ah)) (omega (arith, long, bh)) (sym (other a n) ∙ e ∙ other b m) (omega (arith, other a n, o))
       ]
@@ -158,7 +149,7 @@ module _ {T : Type 0} (none : T) (pages : List ℕ) (items : List T) (s : IsSoun
   }
 
   pub items-made : (row_of none (set pages k q) items).items ≡ (row_of none pages items).items
-  items-made = items-same none pages (set pages k q) items items long (λ i ih. elim (ℕ-cases (i / 1024) k) [
+  items-made = items-same none pages (set pages k q) items items long (λ i ih. elim (cases_eq (i / 1024) k) [
     | inl e ↦
         let now : page_of (set pages k q) i ≡ q = ap (λ (m : ℕ). get_or (set pages k q) m 0) e ∙ here in
         let old : page_of pages i ≡ 0 = ap (λ (m : ℕ). get_or pages m 0) e ∙ was in
@@ -170,7 +161,7 @@ module _ {T : Type 0} (none : T) (pages : List ℕ) (items : List T) (s : IsSoun
   pub made-made : (i : ℕ) → IsMade (row_of none pages items) i → IsMade (row_of none (set pages k q) items) i
   made-made i m =
       let w = made-in none pages items i m in
-      in-made none (set pages k q) items i (let a = w.0 in omega (arith, a, long)) (elim (ℕ-cases (i / 1024) k) [
+      in-made none (set pages k q) items i (let a = w.0 in omega (arith, a, long)) (elim (cases_eq (i / 1024) k) [
         | inl e ↦ (let h = ap (λ (m : ℕ). get_or (set pages k q) m 0) e ∙ here in omega (arith, h, some))
         | inr n ↦ (let o = other (i / 1024) n in let a = w.1 in omega (arith, o, a))
       ])
@@ -209,7 +200,7 @@ module _ {T : Type 0} (none : T) (pages : List ℕ) (items : List T) (s : IsSoun
       let ls = length-set (row_of none pages items).items i x in
       ext_get_or none (row_of none pages (set items place x)).items (set (row_of none pages items).items i x) (m ∙ sym n ∙ sym ls) (λ j jh.
       let jl : j < 1024 * length pages = omega (arith, jh, m) in
-      item-in none pages (set items place x) j jl ∙ elim (ℕ-cases j i) [
+      item-in none pages (set items place x) j jl ∙ elim (cases_eq j i) [
         | inl e ↦
             let at' : entry none pages (set items place x) j ≡ x = ap (λ (k : ℕ). entry none pages (set items place x) k) e ∙ get_or-set_same items place x none place-in in
             at' ∙ sym (ap (λ (k : ℕ). get_or (set (row_of none pages items).items i x) k none) e ∙ get_or-set_same (row_of none pages items).items i x none (omega (arith, n, ih)))
@@ -220,8 +211,3 @@ module _ {T : Type 0} (none : T) (pages : List ℕ) (items : List T) (s : IsSoun
             d (omega arith) in
             get_or-set_other items place (page_of pages j * 1024 + j % 1024) x none apart ∙ sym (item-in none pages items j jl) ∙ sym (get_or-set_other (row_of none pages items).items i j x none d)
       ])
-
-pub get_or-any : {X : Type 0} (xs : List X) (i : ℕ) (d e : X) → i < length xs → get_or xs i d ≡ get_or xs i e
-get_or-any [] i d e h = absurd (not-suc-le-zero h)
-get_or-any (x ∷ xs) zero d e h = refl
-get_or-any (x ∷ xs) (suc i) d e h = get_or-any xs i d e (le_of_suc-le-suc h)

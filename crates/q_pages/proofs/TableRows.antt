@@ -1,11 +1,11 @@
 -- Rows whose places a table gives.
 use Rattle.std.proofs.Common.{◌≡◌, ◌≢◌, ℕ, ◌+◌, ◌*◌, ◌/◌, ◌%◌, ◌<◌, ◌≤◌, List, length, get_or, set, refl, sym, ◌∙◌, ap, subst, arith, inl, inr}
-use Rattle.std.proofs.lemmas.Bool.{cases_lt}
+use Rattle.std.proofs.lemmas.Bool.{cases_lt, cases_eq}
 use Rattle.std.proofs.lemmas.List.{length-set, get_or-set_same, get_or-set_other, get_or_past}
 use Rattle.q_pages.specs.Rows.{item_at}
 use Rattle.q_pages.specs.Tables.{page_of, place_in, IsFreePage, IsGiven, HasFreePages, IsTable}
 use Rattle.q_pages.specs.Layout.{row_of}
-use Rattle.q_pages.proofs.PageEntries.{ℕ-cases, item-in, item-past}
+use Rattle.q_pages.proofs.PageEntries.{item-in, item-past}
 
 pub places-apart : (pages : List ℕ) (last : ℕ) → IsTable pages last → (i j : ℕ) → 0 < page_of pages i → place_in pages i ≡ place_in pages j → i ≡ j
 places-apart pages last t i j h e =
@@ -53,16 +53,16 @@ module _ (pages more : List ℕ) (last k : ℕ) (t : IsTable pages last) (long :
   table-made =
       let u : IsTable more last = table-extended pages more last t long same in
       record {
-        below = λ l lh. elim (ℕ-cases l k) [
+        below = λ l lh. elim (cases_eq l k) [
           | inl e ↦ (let h = at-k l e in omega arith)
           | inr n ↦ (let b = u.below l (omega (arith, lh, longer)) in let o = other l n in omega arith)
         ];
-        apart = λ a b ah bh e o. elim (ℕ-cases a k) [
-          | inl x ↦ elim (ℕ-cases b k) [
+        apart = λ a b ah bh e o. elim (cases_eq a k) [
+          | inl x ↦ elim (cases_eq b k) [
             | inl y ↦ x ∙ sym y
             | inr m ↦ (let h = at-k a x in let i = other b m in let w = u.below b (omega (arith, longer, bh)) in absurd (omega arith))
           ]
-          | inr n ↦ elim (ℕ-cases b k) [
+          | inr n ↦ elim (cases_eq b k) [
             | inl y ↦ (let h = at-k b y in let i = other a n in let w = u.below a (omega (arith, longer, ah)) in absurd (omega arith))
             | inr m ↦ u.apart a b (omega (arith, longer, ah)) (omega (arith, longer, bh)) (sym (other a n) ∙ e ∙ other b m) (omega (arith, other a n, o))
           ]
@@ -72,7 +72,7 @@ module _ (pages more : List ℕ) (last k : ℕ) (t : IsTable pages last) (long :
   pub given-made : IsGiven pages (set more k (last + 1))
   given-made = record {
     long = omega (arith, longer, long);
-    kept = λ l. elim (ℕ-cases l k) [
+    kept = λ l. elim (cases_eq l k) [
       | inl e ↦ inr (ap (λ (m : ℕ). get_or pages m 0) e ∙ was, λ m mh f. (let b = t.below m mh in let h = at-k l e in absurd (omega arith)))
       | inr n ↦ inl (other l n ∙ same l)
     ];

@@ -1,8 +1,8 @@
 -- Two blocks that meet become one.
 use Rattle.std.proofs.Common.{◌≡◌, ◌≢◌, ℕ, ◌≤◌, ◌<◌, List, [], ◌∷◌, length, Option, Some, refl, sym, ◌∙◌, subst, inl, inr, arith}
 use Rattle.std.specs.Prelude.{reverse}
+use Rattle.std.proofs.lemmas.Bool.{cases_eq}
 use Rattle.q_arena.specs.Prelude.{Has, AreApart, Chains, list_at, following}
-use Rattle.q_arena.proofs.NumberCases.{ℕ-cases}
 use Rattle.q_arena.proofs.RingLemmas.{Has-without}
 use Rattle.q_prefix.specs.declared.marks.Mark.{Mark}
 use Rattle.q_prefix.specs.Order.{IsRanked, rank_of, bound_of, bounds_of, IsParted}
@@ -24,7 +24,7 @@ rises marks (u ∷ us) r = (
 -- a block that is renamed whole
 renamed-whole : (rank now : ℕ → ℕ) (block : List ℕ) (from to v : ℕ) → (Has block v → rank v ≡ from) → (rank v ≡ from → Has block v)
     → (Has block v → now v ≡ to) → ((Has block v → ⊥) → now v ≡ rank v) → now v ≡ renamed from to (rank v)
-renamed-whole rank now block from to v f g b o = elim (ℕ-cases (rank v) from) [
+renamed-whole rank now block from to v f g b o = elim (cases_eq (rank v) from) [
   | inl e ↦ b (g e) ∙ sym (renamed-at from to (rank v) e)
   | inr n ↦ o (λ h. n (f h)) ∙ sym (renamed-off from to (rank v) n)
 ]

@@ -1,13 +1,13 @@
 -- A prefix that is filled from its last bound on.
 use Rattle.std.proofs.Common.{◌≡◌, ◌⊎◌, ℕ, zero, suc, ◌+◌, ◌<◌, ◌≤◌, Bool, true, false, List, [], ◌∷◌, length, drop, get_or, slice_get, Some, refl, sym, ◌∙◌, ap, inl, inr, arith, not-suc-le-zero}
+use Rattle.std.proofs.lemmas.Option.{same_Some, none-some}
 use Rattle.q_logic.specs.declared.formulas.Bound.{Bound}
 use Rattle.q_logic.specs.Prelude.{same_quant, Distinct, greatest}
 use Rattle.q_prefix.specs.Order.{IsRankBefore, IsFirstRank}
-use Rattle.q_arena.proofs.NumberCases.{none-some, some-same}
 
 pub greatest-least : (B : List Bound) (k : ℕ) (b : Bound) → slice_get B k ≡ Some b → b.var ≤ greatest B
 greatest-least [] k b e = absurd (none-some b e)
-greatest-least (c ∷ B) zero b e = let v = ap (λ (x : Bound). x.var) (some-same c b e) in omega arith
+greatest-least (c ∷ B) zero b e = let v = ap (λ (x : Bound). x.var) (same_Some c b e) in omega arith
 greatest-least (c ∷ B) (suc k) b e = let i = greatest-least B k b e in omega arith
 
 pub drop-at : (B : List Bound) (k : ℕ) (d : Bound) → k < length B → drop k B ≡ get_or B k d ∷ drop (k + 1) B

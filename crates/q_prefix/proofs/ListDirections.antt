@@ -2,9 +2,10 @@
 use Rattle.std.proofs.Common.{◌≡◌, ◌≢◌, ◌⊎◌, ℕ, List, [], ◌∷◌, ◌++◌, slice_get, Option, None, Some, refl, sym, ◌∙◌, ap, subst, inl, inr}
 use Rattle.std.specs.Prelude.{reverse}
 use Rattle.std.proofs.lemmas.Grind.{reverse_onto}
+use Rattle.std.proofs.lemmas.Option.{same_Some, none-some}
+use Rattle.std.proofs.lemmas.Bool.{cases_eq}
 use Rattle.q_arena.specs.Prelude.{Has, Misses, AreApart, without, following, preceding, preceding_from}
 use Rattle.q_arena.specs.Gaps.{or_else}
-use Rattle.q_arena.proofs.NumberCases.{ℕ-cases, some-same, none-some}
 use Rattle.q_arena.proofs.RingPaths.{Misses-not, Misses-from, without-first, without-later}
 use Rattle.q_arena.proofs.RingLemmas.{Has-without}
 use Rattle.q_arena.proofs.ListNeighbours.{following-here, following-later, preceding-here, preceding-later, preceding-none, preceding-first}
@@ -44,7 +45,7 @@ AreOrdered R (u ∷ vars) = ((v : ℕ) → Has vars v → R u v) × AreOrdered R
 
 pub ordered-without : (R : ℕ → ℕ → Type 0) (p : ℕ) (vars : List ℕ) → AreOrdered R vars → AreOrdered R (without p vars)
 ordered-without R p [] o = tt
-ordered-without R p (u ∷ vars) o = elim (ℕ-cases u p) [
+ordered-without R p (u ∷ vars) o = elim (cases_eq u p) [
   | inl e ↦ rw (without-first p u vars e) o.1
   | inr n ↦ rw (without-later p u vars n) ((λ v h. o.0 v (Has-without p v vars h)), ordered-without R p vars o.1)
 ]
@@ -73,7 +74,7 @@ apart-reverse vars a = ordered-apart (reverse vars) (ordered-reverse (λ u v. u 
 
 following-append : (v j : ℕ) (xs : List ℕ) → Has xs v → following v (xs ++ (j ∷ [])) ≡ or_else (following v xs) (Some j)
 following-append v j [] h = absurd h
-following-append v j (x ∷ xs) h = elim (ℕ-cases x v) [
+following-append v j (x ∷ xs) h = elim (cases_eq x v) [
   | inl e ↦ following-here v x (xs ++ (j ∷ [])) e ∙ first xs ∙ ap (λ (o : Option ℕ). or_else o (Some j)) (sym (following-here v x xs e))
   | inr n ↦ elim h [
     | inl e ↦ absurd (n (sym e))
@@ -103,18 +104,18 @@ preceding-reverse (j ∷ js) v a h = elim h [
 -- a variable precedes what follows it
 pub following-preceding : (vars : List ℕ) (x y : ℕ) → AreApart vars → following x vars ≡ Some y → preceding y vars ≡ Some x
 following-preceding [] x y a e = absurd (none-some y e)
-following-preceding (u ∷ us) x y a e = elim (ℕ-cases u x) [
+following-preceding (u ∷ us) x y a e = elim (cases_eq u x) [
   | inl q ↦ first us (sym (following-here x u us q) ∙ e) ∙ ap (λ (k : ℕ). Some k) q
   | inr n ↦ later us (following-preceding us x y a.1 (sym (following-later x u us n) ∙ e)) a.1
 ]
   where
     first : (us : List ℕ) → slice_get us 0 ≡ Some y → preceding_from y u us ≡ Some u
     first [] e = absurd (none-some y e)
-    first (c ∷ cs) e = preceding-here y u c cs (some-same c y e)
+    first (c ∷ cs) e = preceding-here y u c cs (same_Some c y e)
 
     later : (us : List ℕ) → preceding y us ≡ Some x → AreApart us → preceding_from y u us ≡ Some x
     later [] e a = absurd (none-some x e)
-    later (c ∷ cs) e a = elim (ℕ-cases c y) [
+    later (c ∷ cs) e a = elim (cases_eq c y) [
       | inl q ↦ absurd (none-some x (sym (preceding-none y c cs (subst (λ (k : ℕ). Misses k cs) q a.0)) ∙ e))
       | inr n ↦ preceding-later y u c cs n ∙ e
     ]
@@ -122,16 +123,16 @@ following-preceding (u ∷ us) x y a e = elim (ℕ-cases u x) [
 -- the neighbours of a variable that goes stand side by side
 pub preceding-has : (v u x : ℕ) (us : List ℕ) → preceding_from v u us ≡ Some x → Has (u ∷ us) x
 preceding-has v u x [] e = absurd (none-some x e)
-preceding-has v u x (c ∷ cs) e = elim (ℕ-cases c v) [
-  | inl q ↦ inl (some-same x u (sym e ∙ preceding-here v u c cs q))
+preceding-has v u x (c ∷ cs) e = elim (cases_eq c v) [
+  | inl q ↦ inl (same_Some x u (sym e ∙ preceding-here v u c cs q))
   | inr n ↦ inr (preceding-has v c x cs (sym (preceding-later v u c cs n) ∙ e))
 ]
 
 meeting : (gone u : ℕ) (us : List ℕ) (x y : ℕ) → AreApart (u ∷ us) → preceding_from gone u us ≡ Some x → following gone us ≡ Some y → following x (u ∷ without gone us) ≡ Some y
 meeting gone u [] x y a p f = absurd (none-some x p)
-meeting gone u (c ∷ cs) x y a p f = elim (ℕ-cases c gone) [
+meeting gone u (c ∷ cs) x y a p f = elim (cases_eq c gone) [
   | inl q ↦
-      let ux : u ≡ x = some-same u x (sym (preceding-here gone u c cs q) ∙ p) in
+      let ux : u ≡ x = same_Some u x (sym (preceding-here gone u c cs q) ∙ p) in
       rw (without-first gone c cs q) (following-here x u cs ux ∙ sym (following-here gone c cs q) ∙ f)
   | inr n ↦
       let p' : preceding_from gone c cs ≡ Some x = sym (preceding-later gone u c cs n) ∙ p in
@@ -141,7 +142,7 @@ meeting gone u (c ∷ cs) x y a p f = elim (ℕ-cases c gone) [
 
 pub meet-beside : (vars : List ℕ) (gone x y : ℕ) → AreApart vars → preceding gone vars ≡ Some x → following gone vars ≡ Some y → following x (without gone vars) ≡ Some y
 meet-beside [] gone x y a p f = absurd (none-some x p)
-meet-beside (u ∷ us) gone x y a p f = elim (ℕ-cases u gone) [
+meet-beside (u ∷ us) gone x y a p f = elim (cases_eq u gone) [
   | inl e ↦ absurd (none-some x (sym (preceding-none gone u us (subst (λ (k : ℕ). Misses k us) e a.0)) ∙ p))
   | inr n ↦ rw (without-later gone u us n) (meeting gone u us x y a p (sym (following-later gone u us n) ∙ f))
 ]

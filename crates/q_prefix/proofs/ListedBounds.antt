@@ -1,32 +1,26 @@
 -- The bounds of a list of variables.
 use Rattle.std.proofs.Common.{◌≡◌, ◌≢◌, ℕ, ◌<◌, Bool, true, false, true≢false, cond, eqb, List, [], ◌∷◌, slice_get, None, Some, refl, sym, ◌∙◌, ap, inl, inr, arith}
+use Rattle.std.proofs.lemmas.Bool.{cases_eq, ne_eqb, eq-eqb}
 use Rattle.q_logic.specs.declared.formulas.Quant.{Quant}
 use Rattle.q_logic.specs.declared.formulas.Bound.{Bound}
 use Rattle.q_logic.specs.Prelude.{IsIn, is_bound, removed_from}
 use Rattle.q_arena.specs.Prelude.{Has, without, with_next, following}
-use Rattle.q_arena.proofs.NumberCases.{ℕ-cases}
 use Rattle.q_arena.proofs.ListNeighbours.{following-here, following-later}
 use Rattle.q_arena.proofs.RingPaths.{without-first, without-later}
 use Rattle.q_arena.proofs.RingInsertion.{with_next-here, with_next-later}
 use Rattle.q_prefix.specs.declared.marks.Mark.{Mark}
 use Rattle.q_prefix.specs.Order.{quant_of, bound_after, with_after, Binds, IsRankedFrom, IsRanked, mark_at, bound_of, bounds_of}
 
-eqb-same : (a b : ℕ) → a ≡ b → eqb a b ≡ true
-eqb-same a b e = grind arith
-
-eqb-other : (a b : ℕ) → a ≢ b → eqb a b ≡ false
-eqb-other a b n = grind arith
-
 pub cond-same : {X : Type 0} (a b : ℕ) (x y : X) → a ≡ b → cond (eqb a b) x y ≡ x
-cond-same a b x y e = ap (λ (t : Bool). cond t x y) (eqb-same a b e)
+cond-same a b x y e = ap (λ (t : Bool). cond t x y) (eq-eqb a b e)
 
 pub cond-other : {X : Type 0} (a b : ℕ) (x y : X) → a ≢ b → cond (eqb a b) x y ≡ y
-cond-other a b x y n = ap (λ (t : Bool). cond t x y) (eqb-other a b n)
+cond-other a b x y n = ap (λ (t : Bool). cond t x y) (ne_eqb a b n)
 
 module _ (marks : List Mark) where
   pub bound-has : (L : List ℕ) (v : ℕ) → Has L v → is_bound (bounds_of marks L) v ≡ true
   bound-has [] v h = absurd h
-  bound-has (u ∷ L) v h = elim (ℕ-cases u v) [
+  bound-has (u ∷ L) v h = elim (cases_eq u v) [
     | inl e ↦ cond-same u v true (is_bound (bounds_of marks L) v) e
     | inr n ↦ cond-other u v true (is_bound (bounds_of marks L) v) n ∙ elim h [
       | inl e ↦ absurd (n (sym e))
@@ -36,7 +30,7 @@ module _ (marks : List Mark) where
 
   pub has-bound : (L : List ℕ) (v : ℕ) → is_bound (bounds_of marks L) v ≡ true → Has L v
   has-bound [] v h = absurd (true≢false (sym h))
-  has-bound (u ∷ L) v h = elim (ℕ-cases u v) [
+  has-bound (u ∷ L) v h = elim (cases_eq u v) [
     | inl e ↦ inl (sym e)
     | inr n ↦ inr (has-bound L v (sym (cond-other u v true (is_bound (bounds_of marks L) v) n) ∙ h))
   ]
@@ -48,7 +42,7 @@ module _ (marks : List Mark) where
 
   pub quant-has : (L : List ℕ) (v : ℕ) → Has L v → quant_of (bounds_of marks L) v ≡ Some (mark_at marks v).quant
   quant-has [] v h = absurd h
-  quant-has (u ∷ L) v h = elim (ℕ-cases u v) [
+  quant-has (u ∷ L) v h = elim (cases_eq u v) [
     | inl e ↦ cond-same u v (Some (mark_at marks u).quant) (quant_of (bounds_of marks L) v) e ∙ ap (λ (k : ℕ). Some (mark_at marks k).quant) e
     | inr n ↦ cond-other u v (Some (mark_at marks u).quant) (quant_of (bounds_of marks L) v) n ∙ elim h [
       | inl e ↦ absurd (n (sym e))
@@ -71,21 +65,21 @@ module _ (marks : List Mark) where
 
   pub after-none : (L : List ℕ) (v : ℕ) → following v L ≡ None → bound_after (bounds_of marks L) v ≡ None
   after-none [] v e = refl
-  after-none (u ∷ L) v e = elim (ℕ-cases u v) [
+  after-none (u ∷ L) v e = elim (cases_eq u v) [
     | inl q ↦ cond-same u v (slice_get (bounds_of marks L) 0) (bound_after (bounds_of marks L) v) q ∙ first-none L (sym (following-here v u L q) ∙ e)
     | inr n ↦ cond-other u v (slice_get (bounds_of marks L) 0) (bound_after (bounds_of marks L) v) n ∙ after-none L v (sym (following-later v u L n) ∙ e)
   ]
 
   pub after-some : (L : List ℕ) (v u : ℕ) → following v L ≡ Some u → bound_after (bounds_of marks L) v ≡ Some (bound_of marks u)
   after-some [] v u e = let d : None ≡ Some u = e in absurd (cc)
-  after-some (x ∷ L) v u e = elim (ℕ-cases x v) [
+  after-some (x ∷ L) v u e = elim (cases_eq x v) [
     | inl q ↦ cond-same x v (slice_get (bounds_of marks L) 0) (bound_after (bounds_of marks L) v) q ∙ first-some L u (sym (following-here v x L q) ∙ e)
     | inr n ↦ cond-other x v (slice_get (bounds_of marks L) 0) (bound_after (bounds_of marks L) v) n ∙ after-some L v u (sym (following-later v x L n) ∙ e)
   ]
 
   pub bounds-without : (L : List ℕ) (v : ℕ) → bounds_of marks (without v L) ≡ removed_from v (bounds_of marks L)
   bounds-without [] v = refl
-  bounds-without (u ∷ L) v = elim (ℕ-cases u v) [
+  bounds-without (u ∷ L) v = elim (cases_eq u v) [
     | inl e ↦ ap (bounds_of marks) (without-first v u L e) ∙ sym (cond-same u v (bounds_of marks L) (bound_of marks u ∷ removed_from v (bounds_of marks L)) e)
     | inr n ↦ ap (bounds_of marks) (without-later v u L n) ∙ ap (λ (p : List Bound). bound_of marks u ∷ p) (bounds-without L v)
         ∙ sym (cond-other u v (bounds_of marks L) (bound_of marks u ∷ removed_from v (bounds_of marks L)) n)
@@ -96,7 +90,7 @@ module _ (marks : List Mark) where
   bounds-with (u ∷ L) w v =
       let x : List Bound = bound_of marks u ∷ bound_of marks v ∷ bounds_of marks L in
       let y : List Bound = bound_of marks u ∷ with_after (bound_of marks v) w (bounds_of marks L) in
-      elim (ℕ-cases u w) [
+      elim (cases_eq u w) [
         | inl e ↦ ap (bounds_of marks) (with_next-here w v u L e) ∙ sym (cond-same u w x y e)
         | inr n ↦ ap (bounds_of marks) (with_next-later w v u L n) ∙ ap (λ (p : List Bound). bound_of marks u ∷ p) (bounds-with L w v) ∙ sym (cond-other u w x y n)
       ]

@@ -1,8 +1,9 @@
 -- The variables of a block get another rank, one after the other.
 use Rattle.std.proofs.Common.{◌≡◌, ◌≢◌, ◌⊎◌, ℕ, suc, ◌<◌, true, false, Bool, List, [], ◌∷◌, length, slice_get, Option, None, Some, refl, sym, ◌∙◌, ap, subst, inl, inr, arith}
 use Rattle.std.proofs.lemmas.Bool.Decides.{nat_tests}
+use Rattle.std.proofs.lemmas.Option.{same_Some, none-some}
+use Rattle.std.proofs.lemmas.Bool.{cases_eq}
 use Rattle.q_arena.specs.Prelude.{Has, AreApart, following}
-use Rattle.q_arena.proofs.NumberCases.{ℕ-cases, some-same, none-some}
 use Rattle.q_arena.proofs.RingPaths.{Misses-not}
 use Rattle.q_prefix.specs.Blocks.{ahead, onward, in_front, block_from, of_rank, mate_of}
 use Rattle.q_arena.proofs.ListNeighbours.{following-here, following-later, following-has, followed-has}
@@ -33,7 +34,7 @@ onward_of (Some w) vars = onward w vars
 
 onward-next : (vars : List ℕ) (v : ℕ) → AreApart vars → Has vars v → onward v vars ≡ v ∷ onward_of (following v vars) vars
 onward-next [] v a h = absurd h
-onward-next (u ∷ vars) v a h = elim (ℕ-cases u v) [
+onward-next (u ∷ vars) v a h = elim (cases_eq u v) [
   | inl e ↦
       let rest : onward_of (following v (u ∷ vars)) (u ∷ vars) ≡ vars = ap (λ (o : Option ℕ). onward_of o (u ∷ vars)) (following-here v u vars e) ∙ first vars a in
       onward-here v u vars e ∙ ap (λ (k : ℕ). k ∷ vars) e ∙ ap (λ (xs : List ℕ). v ∷ xs) (sym rest)
@@ -53,14 +54,14 @@ onward-next (u ∷ vars) v a h = elim (ℕ-cases u v) [
 
 onward-has : (vars : List ℕ) (v u : ℕ) → Has (onward v vars) u → Has vars u
 onward-has [] v u h = h
-onward-has (w ∷ vars) v u h = elim (ℕ-cases w v) [
+onward-has (w ∷ vars) v u h = elim (cases_eq w v) [
   | inl e ↦ subst (λ (xs : List ℕ). Has xs u) (onward-here v w vars e) h
   | inr n ↦ inr (onward-has vars v u (subst (λ (xs : List ℕ). Has xs u) (onward-later v w vars n) h))
 ]
 
 apart-onward : (vars : List ℕ) (v : ℕ) → AreApart vars → AreApart (onward v vars)
 apart-onward [] v a = tt
-apart-onward (u ∷ vars) v a = elim (ℕ-cases u v) [
+apart-onward (u ∷ vars) v a = elim (cases_eq u v) [
   | inl e ↦ rw (onward-here v u vars e) a
   | inr n ↦ rw (onward-later v u vars n) (apart-onward vars v a.1)
 ]
@@ -80,7 +81,7 @@ front-none rank r u vars n = grind (arith, nat_tests)
 
 pub front-rank : (rank : ℕ → ℕ) (r : ℕ) (vars : List ℕ) (v : ℕ) → Has (in_front rank r vars) v → rank v ≡ r
 front-rank rank r [] v h = absurd h
-front-rank rank r (u ∷ vars) v h = elim (ℕ-cases (rank u) r) [
+front-rank rank r (u ∷ vars) v h = elim (cases_eq (rank u) r) [
   | inl e ↦ elim (subst (λ (xs : List ℕ). Has xs v) (front-here rank r u vars e) h) [
     | inl q ↦ ap rank q ∙ e
     | inr i ↦ front-rank rank r vars v i
@@ -92,7 +93,7 @@ front-same : (r s : ℕ → ℕ) (n : ℕ) (vars : List ℕ) → ((v : ℕ) → 
 front-same r s n [] f = refl
 front-same r s n (u ∷ vars) f =
     let e : s u ≡ r u = f u (inl refl) in
-    elim (ℕ-cases (r u) n) [
+    elim (cases_eq (r u) n) [
       | inl q ↦ front-here s n u vars (e ∙ q) ∙ ap (λ (xs : List ℕ). u ∷ xs) (front-same r s n vars (λ v h. f v (inr h))) ∙ sym (front-here r n u vars q)
       | inr d ↦ front-none s n u vars (λ q. d (sym e ∙ q)) ∙ sym (front-none r n u vars d)
     ]
@@ -118,14 +119,14 @@ block-next rank vars v a h =
     rest None e = refl
     rest (Some w) e =
         let i = following-has v w vars e in
-        elim (ℕ-cases (rank w) (rank v)) [
+        elim (cases_eq (rank w) (rank v)) [
           | inl q ↦ ap (λ (r : ℕ). in_front rank r (onward w vars)) (sym q) ∙ ap (λ (o : Option ℕ). block_of rank o vars) (sym (ranked-here rank (rank v) w q))
           | inr n ↦ ap (in_front rank (rank v)) (onward-next vars w a i) ∙ front-none rank (rank v) w (onward_of (following w vars) vars) n ∙ ap (λ (o : Option ℕ). block_of rank o vars) (sym (ranked-off rank (rank v) w n))
         ]
 
 mate-follows : (rank : ℕ → ℕ) (r w : ℕ) (o : Option ℕ) → of_rank rank r o ≡ Some w → o ≡ Some w
 mate-follows rank r w None e = absurd (none-some w e)
-mate-follows rank r w (Some k) e = elim (ℕ-cases (rank k) r) [
+mate-follows rank r w (Some k) e = elim (cases_eq (rank k) r) [
   | inl q ↦ sym (ranked-here rank r k q) ∙ e
   | inr n ↦ absurd (none-some w (sym (ranked-off rank r k n) ∙ e))
 ]
@@ -152,7 +153,7 @@ pub record IsRenaming (vars : List ℕ) (old now : ℕ → ℕ) (start : ℕ) (a
 
 pub renaming-begun : (vars : List ℕ) (old : ℕ → ℕ) (start to : ℕ) → Has vars start → IsRenaming vars old old start (Some start) to
 renaming-begun vars old start to h = record {
-  there = λ v e. subst (Has vars) (some-same start v e) h;
+  there = λ v e. subst (Has vars) (same_Some start v e) h;
   within = λ v i. i;
   block = λ v i. inl i;
   others = λ v f. refl;
@@ -185,7 +186,7 @@ module _ (vars : List ℕ) (now next : ℕ → ℕ) (v : ℕ) (a : AreApart vars
       record {
         there = λ w q. mate-has now vars v w (sym m ∙ q);
         within = λ u i. r.within u (back u (inr i));
-        block = λ u i. elim (ℕ-cases u v) [
+        block = λ u i. elim (cases_eq u v) [
           | inl q ↦ inr (ap next q ∙ t)
           | inr n ↦ elim (r.block u i) [
             | inl k ↦ elim (subst (λ (xs : List ℕ). Has xs u) now-left k) [
@@ -214,20 +215,20 @@ module _ (rank : ℕ → ℕ) (R : ℕ → ℕ → Type 0) (r : ℕ) (mid : (u v
 
   ordered-next : (x y : ℕ) (vars : List ℕ) → AreOrdered R vars → following x vars ≡ Some y → R x y
   ordered-next x y [] o f = absurd (none-some y f)
-  ordered-next x y (u ∷ vars) o f = elim (ℕ-cases u x) [
+  ordered-next x y (u ∷ vars) o f = elim (cases_eq u x) [
     | inl e ↦ subst (λ (k : ℕ). R k y) e (o.0 y (first vars (sym (following-here x u vars e) ∙ f)))
     | inr n ↦ ordered-next x y vars o.1 (sym (following-later x u vars n) ∙ f)
   ]
     where
       first : (vars : List ℕ) → slice_get vars 0 ≡ Some y → Has vars y
       first [] e = absurd (none-some y e)
-      first (w ∷ ws) e = inl (sym (some-same w y e))
+      first (w ∷ ws) e = inl (sym (same_Some w y e))
 
   -- and from their first one on a walk meets them all
   pub covered : (vars : List ℕ) (x y v : ℕ) → AreOrdered R vars → following x vars ≡ Some y → rank x ≢ r → rank y ≡ r → Has vars v → rank v ≡ r → Has (in_front rank r (onward y vars)) v
   covered [] x y v o f d e h q = absurd h
   covered (u ∷ vars) x y v o f d e h q =
-      let off : rank u ≢ r = λ k. d (elim (ℕ-cases u x) [
+      let off : rank u ≢ r = λ k. d (elim (cases_eq u x) [
         | inl c ↦ ap rank (sym c) ∙ k
         | inr n ↦
             let f' : following x vars ≡ Some y = sym (following-later x u vars n) ∙ f in
@@ -235,7 +236,7 @@ module _ (rank : ℕ → ℕ) (R : ℕ → ℕ → Type 0) (r : ℕ) (mid : (u v
       ]) in
       let i : Has vars v = elim h [ inl k ↦ absurd (off (ap rank (sym k) ∙ q)) | inr i ↦ i ] in
       let uy : u ≢ y = λ k. off (ap rank k ∙ e) in
-      rw (onward-later y u vars uy) (elim (ℕ-cases u x) [
+      rw (onward-later y u vars uy) (elim (cases_eq u x) [
         | inl c ↦ first vars o.1 (sym (following-here x u vars c) ∙ f) i
         | inr n ↦ covered vars x y v o.1 (sym (following-later x u vars n) ∙ f) d e i q
       ])
@@ -243,5 +244,5 @@ module _ (rank : ℕ → ℕ) (R : ℕ → ℕ → Type 0) (r : ℕ) (mid : (u v
       first : (vars : List ℕ) → AreOrdered R vars → slice_get vars 0 ≡ Some y → Has vars v → Has (in_front rank r (onward y vars)) v
       first [] o s i = absurd i
       first (w ∷ ws) o s i =
-          let wy : w ≡ y = some-same w y s in
+          let wy : w ≡ y = same_Some w y s in
           rw (onward-here y w ws wy) (covered-from w ws v o (ap rank wy ∙ e) i q)

@@ -1,12 +1,12 @@
 -- A prefix that gains or loses a variable.
 use Rattle.std.proofs.Common.{◌≡◌, ◌≢◌, ◌⊎◌, ℕ, ◌<◌, ◌≤◌, true, false, true≢false, List, [], ◌∷◌, length, set, get_or, slice_get, Option, Some, refl, sym, ◌∙◌, ap, subst, inl, inr, arith}
 use Rattle.std.proofs.lemmas.List.{get_or-set_same, get_or-set_other, get_or_past}
-use Rattle.std.proofs.lemmas.Bool.{cases_lt}
+use Rattle.std.proofs.lemmas.Bool.{cases_lt, cases_eq}
+use Rattle.std.proofs.lemmas.Option.{same_Some, none-some}
 use Rattle.q_logic.specs.declared.formulas.Quant.{Quant}
 use Rattle.q_logic.specs.declared.formulas.Bound.{Bound}
 use Rattle.q_logic.specs.Prelude.{IsIn, same_quant, removed_from}
 use Rattle.q_arena.specs.Prelude.{Has, Misses, AreApart, without, with_next, Chains, HasSameLists, list_at, following, preceding, preceding_from}
-use Rattle.q_arena.proofs.NumberCases.{ℕ-cases, some-same, none-some}
 use Rattle.q_arena.proofs.RingPaths.{without-first, without-later}
 use Rattle.q_arena.proofs.RingLemmas.{Has-without}
 use Rattle.q_arena.proofs.Layouts.{without-gone, Has-kept}
@@ -40,14 +40,14 @@ prefix-grown o n marks v m p mb vl hl ol others from into r =
     record {
       heads = rw hl p.heads;
       others = λ k g. others k g ∙ p.others k g;
-      bound = λ u h. elim (ℕ-cases u v) [
+      bound = λ u h. elim (cases_eq u v) [
         | inl e ↦ ap (λ (k : ℕ). (mark_at (set marks v m) k).bound) e ∙ ap (λ (k : Mark). k.bound) (mark-set_here marks v m vl) ∙ mb
         | inr d ↦ ap (λ (k : Mark). k.bound) (mark-set_other marks v u m d) ∙ elim (from u h) [
           | inl e ↦ absurd (d e)
           | inr i ↦ p.bound u i
         ]
       ];
-      bounds = λ u h. elim (ℕ-cases u v) [
+      bounds = λ u h. elim (cases_eq u v) [
         | inl e ↦ into u (inl e)
         | inr d ↦ into u (inr (p.bounds u (sym (ap (λ (k : Mark). k.bound) (mark-set_other marks v u m d)) ∙ h)))
       ];
@@ -115,16 +115,16 @@ module _ (marks : List Mark) (v : ℕ) where
 
   beside-between : (u : ℕ) (us : List ℕ) (x y : ℕ) → preceding_from v u us ≡ Some x → following v us ≡ Some y → IsBetween (bound_of marks x) v (bound_of marks y) (bound_of marks u) (bounds_of marks us)
   beside-between u [] x y e f = absurd (none-some x e)
-  beside-between u (c ∷ cs) x y e f = elim (ℕ-cases c v) [
+  beside-between u (c ∷ cs) x y e f = elim (cases_eq c v) [
     | inl q ↦
-        let ux : u ≡ x = some-same u x (sym (preceding-here v u c cs q) ∙ e) in
+        let ux : u ≡ x = same_Some u x (sym (preceding-here v u c cs q) ∙ e) in
         inl (ap (bound_of marks) ux, q, starts cs (sym (following-here v c cs q) ∙ f))
     | inr n ↦ inr (n, beside-between c cs x y (sym (preceding-later v u c cs n) ∙ e) (sym (following-later v c cs n) ∙ f))
   ]
     where
       starts : (cs : List ℕ) → slice_get cs 0 ≡ Some y → StartsWith (bound_of marks y) (bounds_of marks cs)
       starts [] h = absurd (none-some y h)
-      starts (d ∷ ds) h = ap (bound_of marks) (some-same d y h)
+      starts (d ∷ ds) h = ap (bound_of marks) (same_Some d y h)
 
 between-rises : (rank : ℕ → ℕ) (x : Bound) (v : ℕ) (y b : Bound) (p : List Bound) → IsRankedFrom rank b p → IsBetween x v y b p → rank x.var ≤ rank y.var
 between-rises rank x v y b [] r k = absurd k
@@ -152,7 +152,7 @@ module _ (marks : List Mark) (gone : ℕ) where
       → ((x y : ℕ) → preceding gone vars ≡ Some x → following gone vars ≡ Some y → (same_quant (mark_at marks x).quant (mark_at marks y).quant ≡ false) ⊎ (rank_of marks x ≡ rank_of marks y))
       → IsRanked (rank_of marks) (bounds_of marks (without gone vars))
   kept [] a h r f = tt
-  kept (u ∷ us) a h r f = elim (ℕ-cases u gone) [
+  kept (u ∷ us) a h r f = elim (cases_eq u gone) [
     | inl e ↦ rw (without-first gone u us e) (ranked-tail (rank_of marks) (bound_of marks u) (bounds_of marks us) r)
     | inr n ↦
         let g : (x y : Bound) → IsBetween x gone y (bound_of marks u) (bounds_of marks us) → (same_quant x.quant y.quant ≡ false) ⊎ (rank_of marks x.var ≡ rank_of marks y.var) = λ x y k.
@@ -171,7 +171,7 @@ module _ (marks : List Mark) (gone : ℕ) where
       → (f : ℕ → ℕ) → (rank_of marks x < rank_of marks y → IsJoint f (rank_of marks x) (rank_of marks y))
       → IsRanked (λ v. f (rank_of marks v)) (bounds_of marks (without gone vars))
   joined [] a h r x y p q s d f j = tt
-  joined (u ∷ us) a h r x y p q s d f j = elim (ℕ-cases u gone) [
+  joined (u ∷ us) a h r x y p q s d f j = elim (cases_eq u gone) [
     | inl e ↦ absurd (none-some x (sym (preceding-none gone u us (subst (λ (k : ℕ). Misses k us) e a.0)) ∙ p))
     | inr n ↦
         let k = beside-between marks gone u us x y p (sym (following-later gone u us n) ∙ q) in
@@ -201,7 +201,7 @@ module _ (order : Chains) (marks : List Mark) (before after : Option ℕ) (p : I
 
 new-has : (w v : ℕ) (L : List ℕ) → Has L w → Has (with_next w v L) v
 new-has w v [] h = absurd h
-new-has w v (u ∷ L) h = elim (ℕ-cases u w) [
+new-has w v (u ∷ L) h = elim (cases_eq u w) [
   | inl e ↦ rw (with_next-here w v u L e) (inr (inl refl))
   | inr n ↦ rw (with_next-later w v u L n) (elim h [
     | inl e ↦ absurd (n (sym e))
@@ -211,7 +211,7 @@ new-has w v (u ∷ L) h = elim (ℕ-cases u w) [
 
 old-has : (w v u : ℕ) (L : List ℕ) → Has L u → Has (with_next w v L) u
 old-has w v u [] h = absurd h
-old-has w v u (x ∷ L) h = elim (ℕ-cases x w) [
+old-has w v u (x ∷ L) h = elim (cases_eq x w) [
   | inl e ↦ rw (with_next-here w v x L e) (elim h [ inl f ↦ inl f | inr i ↦ inr (inr i) ])
   | inr n ↦ rw (with_next-later w v x L n) (elim h [ inl f ↦ inl f | inr i ↦ inr (old-has w v u L i) ])
 ]
@@ -337,7 +337,7 @@ module _ (o n : Chains) (marks more last : List Mark) (v : ℕ) (p : IsPrefix o 
     heads = let a = p.heads in let b = ap length lists in let c = length-set' o.lists 0 (without v (list_at o 0)) in omega (arith, a, b, c);
     others = λ k g. others' k g ∙ p.others k g;
     bound = λ u h. let r = in-old u h in ap (λ (m : Mark). m.bound) (same u r.1) ∙ bound u ∙ p.bound u r.0;
-    bounds = λ u h. elim (ℕ-cases u v) [
+    bounds = λ u h. elim (cases_eq u v) [
       | inl e ↦ absurd (true≢false (sym h ∙ ap (λ (k : ℕ). (mark_at last k).bound) e ∙ gone))
       | inr d ↦
           let old : Has (list_at o 0) u = p.bounds u (sym (bound u) ∙ sym (ap (λ (m : Mark). m.bound) (same u d)) ∙ h) in
@@ -366,4 +366,4 @@ parted o n marks v p lists apart there before after e f = record {
 
 -- what holds of the two neighbours
 pub at-beside : (P : ℕ → ℕ → Type 0) (before after : Option ℕ) (a b : ℕ) → before ≡ Some a → after ≡ Some b → P a b → (x y : ℕ) → before ≡ Some x → after ≡ Some y → P x y
-at-beside P before after a b e f p x y g h = subst (λ (k : ℕ). P k y) (some-same a x (sym e ∙ g)) (subst (P a) (some-same b y (sym f ∙ h)) p)
+at-beside P before after a b e f p x y g h = subst (λ (k : ℕ). P k y) (same_Some a x (sym e ∙ g)) (subst (P a) (same_Some b y (sym f ∙ h)) p)

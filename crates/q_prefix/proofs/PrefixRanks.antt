@@ -2,26 +2,13 @@
 use Rattle.std.proofs.Common.{◌≡◌, ◌≢◌, ◌⊎◌, ℕ, ◌<◌, ◌≤◌, true, false, List, [], ◌∷◌, refl, sym, ◌∙◌, ap, inl, inr, arith, true≢false}
 use Rattle.std.specs.Prelude.{if◌then◌else◌, nat_le, ◌==◌}
 use Rattle.std.proofs.lemmas.Bool.Decides.{nat_tests}
-use Rattle.q_arena.proofs.NumberCases.{ℕ-cases}
+use Rattle.std.proofs.lemmas.Bool.{cases_eq}
 use Rattle.q_logic.specs.declared.formulas.Quant.{Quant}
 use Rattle.q_logic.specs.declared.formulas.Quant.TheVariants.{Exists, Forall}
 use Rattle.q_logic.specs.declared.formulas.Bound.{Bound}
 use Rattle.q_logic.specs.Prelude.{same_quant, run_to, outer_or_same, IsNext, IsIn, removed_from}
+use Rattle.q_logic.proofs.Common.{same_quant-through, same_quant-two}
 use Rattle.q_prefix.specs.Order.{Binds, IsRankedFrom, IsRanked, with_after}
-
-pub same_quant-trans : (a b c : Quant) → same_quant a b ≡ true → same_quant a c ≡ same_quant b c
-same_quant-trans Exists Exists c e = refl
-same_quant-trans Exists Forall c e = absurd (true≢false (sym e))
-same_quant-trans Forall Exists c e = absurd (true≢false (sym e))
-same_quant-trans Forall Forall c e = refl
-
-same_quant-two : (a b c : Quant) → same_quant a b ≡ false → same_quant b c ≡ false → same_quant a c ≡ true
-same_quant-two Exists Exists c e f = absurd (true≢false e)
-same_quant-two Exists Forall Exists e f = refl
-same_quant-two Exists Forall Forall e f = absurd (true≢false f)
-same_quant-two Forall Exists Exists e f = absurd (true≢false f)
-same_quant-two Forall Exists Forall e f = refl
-same_quant-two Forall Forall c e f = absurd (true≢false e)
 
 module _ (rank : ℕ → ℕ) where
   pub next-le : (b c : Bound) → IsNext rank b c → rank b.var ≤ rank c.var
@@ -40,13 +27,13 @@ module _ (rank : ℕ → ℕ) where
   runs-rank : (q : Quant) (b : Bound) (p : List Bound) (a : ℕ) → same_quant q b.quant ≡ true → IsRankedFrom rank b p → Binds p a → run_to q p a ≡ nat_le (rank a) (rank b.var)
   runs-rank q b [] a s r i = absurd i
   runs-rank q b (c ∷ p) a s r i =
-      let qc = same_quant-trans q b.quant c.quant s in
+      let qc = same_quant-through q b.quant c.quant s in
       elim r.0 [
         | inl e ↦
             let here : same_quant q c.quant ≡ true = qc ∙ e.0 in
             let rest : Binds p a → run_to q p a ≡ nat_le (rank a) (rank c.var) = λ j. runs-rank q c p a here r.1 j in
             let eq : rank b.var ≡ rank c.var = e.1 in
-            elim (ℕ-cases c.var a) [
+            elim (cases_eq c.var a) [
               | inl f ↦ let ra : rank c.var ≡ rank a = ap rank f in grind (arith, nat_tests)
               | inr n ↦ elim i [
                 | inl g ↦ absurd (n (sym g))
@@ -69,7 +56,7 @@ module _ (rank : ℕ → ℕ) where
 
   choose : (b : Bound) (p : List Bound) (a v : ℕ) → Binds (b ∷ p) a → Binds (b ∷ p) v → (Binds p a → Binds p v → outer_or_same p a v ≡ nat_le (rank a) (rank v)) → (Binds p v → rank b.var ≤ rank v) → (Binds p a → run_to b.quant p a ≡ nat_le (rank a) (rank b.var)) → outer_or_same (b ∷ p) a v ≡ nat_le (rank a) (rank v)
   choose b p a v i j rest first run =
-      elim (ℕ-cases b.var a) [
+      elim (cases_eq b.var a) [
         | inl e ↦
             let le : rank a ≤ rank v = elim j [
               | inl f ↦ rw (f, e) (omega arith)
@@ -78,7 +65,7 @@ module _ (rank : ℕ → ℕ) where
             grind (arith, nat_tests)
         | inr n ↦ elim i [
           | inl e ↦ absurd (n (sym e))
-          | inr k ↦ elim (ℕ-cases b.var v) [
+          | inr k ↦ elim (cases_eq b.var v) [
             | inl f ↦ let x = run k in let y : rank b.var ≡ rank v = ap rank f in grind (arith, nat_tests)
             | inr m ↦ elim j [
               | inl f ↦ absurd (m (sym f))
@@ -200,7 +187,7 @@ module _ (rank f : ℕ → ℕ) (r1 r2 : ℕ) (j : IsJoint f r1 r2) where
 -- a variable goes, and its neighbours keep their ranks
 pub next-through : (rank : ℕ → ℕ) (b c d : Bound) → IsNext rank b c → IsNext rank c d → same_quant b.quant d.quant ≡ false ⊎ (rank b.var ≡ rank d.var) → IsNext rank b d
 next-through rank b c d m n h = elim m [
-  | inl e ↦ let x : rank b.var ≡ rank c.var = e.1 in let q = same_quant-trans b.quant c.quant d.quant e.0 in elim n [
+  | inl e ↦ let x : rank b.var ≡ rank c.var = e.1 in let q = same_quant-through b.quant c.quant d.quant e.0 in elim n [
     | inl f ↦ inl (q ∙ f.0, e.1 ∙ f.1)
     | inr l ↦ let y : rank c.var < rank d.var = l.1 in inr (q ∙ l.0, omega arith)
   ]
@@ -219,7 +206,7 @@ next-through rank b c d m n h = elim m [
 -- a variable goes that does not stand between two variables of one block to be
 pub ranked-gone : (rank : ℕ → ℕ) (v : ℕ) (b : Bound) (p : List Bound) → IsRankedFrom rank b p → ((x y : Bound) → IsBetween x v y b p → (same_quant x.quant y.quant ≡ false) ⊎ (rank x.var ≡ rank y.var)) → IsRankedFrom rank b (removed_from v p)
 ranked-gone rank v b [] r h = tt
-ranked-gone rank v b (c ∷ p) r h = elim (ℕ-cases c.var v) [
+ranked-gone rank v b (c ∷ p) r h = elim (cases_eq c.var v) [
   | inl e ↦ rw (without-here v c p e) (last p r h e)
   | inr n ↦ rw (without-there v c p n) (r.0, ranked-gone rank v c p r.1 (λ x y k. h x y (inr (n, k))))
 ]
@@ -239,7 +226,7 @@ module _ (rank : ℕ → ℕ) (n : Bound) (w : ℕ) (e : rank n.var ≡ rank w) 
   tail : (b : Bound) (p : List Bound) → same_quant b.quant n.quant ≡ true → rank b.var ≡ rank n.var → IsRankedFrom rank b p → IsRankedFrom rank n p
   tail b [] s rn r = tt
   tail b (c ∷ p) s rn r =
-      let q = same_quant-trans b.quant n.quant c.quant s in (
+      let q = same_quant-through b.quant n.quant c.quant s in (
         elim r.0 [
           | inl x ↦ inl (sym q ∙ x.0, sym rn ∙ x.1)
           | inr x ↦ let y : rank b.var < rank c.var = x.1 in inr (sym q ∙ x.0, omega arith)
@@ -249,7 +236,7 @@ module _ (rank : ℕ → ℕ) (n : Bound) (w : ℕ) (e : rank n.var ≡ rank w) 
 
   deep : (b : Bound) (p : List Bound) → ((c : Bound) → IsIn c p → c.var ≡ w → same_quant c.quant n.quant ≡ true) → IsRankedFrom rank b p → IsRankedFrom rank b (with_after n w p)
   deep b [] f r = tt
-  deep b (c ∷ p) f r = elim (ℕ-cases c.var w) [
+  deep b (c ∷ p) f r = elim (cases_eq c.var w) [
     | inl q ↦
         let s = f c (inl refl) q in
         let rn : rank c.var ≡ rank n.var = ap rank q ∙ sym e in
@@ -259,7 +246,7 @@ module _ (rank : ℕ → ℕ) (n : Bound) (w : ℕ) (e : rank n.var ≡ rank w) 
 
   pub ranked-joined : (p : List Bound) → IsRanked rank p → ((c : Bound) → IsIn c p → c.var ≡ w → same_quant c.quant n.quant ≡ true) → IsRanked rank (with_after n w p)
   ranked-joined [] r f = tt
-  ranked-joined (b ∷ p) r f = elim (ℕ-cases b.var w) [
+  ranked-joined (b ∷ p) r f = elim (cases_eq b.var w) [
     | inl q ↦
         let s = f b (inl refl) q in
         let rn : rank b.var ≡ rank n.var = ap rank q ∙ sym e in

@@ -1,13 +1,12 @@
 -- The root, and what is asked above it.
-use Rattle.std.proofs.Common.{◌≡◌, ◌↔◌, ℕ, ◌+◌, ◌<◌, ◌≤◌, Bool, true, false, List, [], ◌∷◌, ◌++◌, Option, None, Some, Contains, slice_get, take, map, get_or, length, refl, sym, ◌∙◌, ap, inl, inr, arith, append_assoc, append-nil, take_all, Result, Ok, Err, IfOk, MatchBool, IsTrue}
+use Rattle.std.proofs.Common.{◌≡◌, ◌↔◌, ℕ, ◌+◌, ◌<◌, ◌≤◌, Bool, true, false, List, [], ◌∷◌, ◌++◌, Option, None, Some, Contains, slice_get, take, map, get_or, length, refl, ◌∙◌, ap, inl, inr, arith, append_assoc, append-nil, take_all, Result, Ok, Err, IfOk, MatchBool, IsTrue}
 use Rattle.std.proofs.lemmas.List.Elements.{Contains-append_left, Contains-append_right, Contains-append_cases, Contains-push, Contains-push_cases}
-use Rattle.std.proofs.lemmas.List.{take_more}
+use Rattle.std.proofs.lemmas.Bool.{cases_eq}
 use Rattle.q_logic.specs.Prelude.{Literal, negation, Clause, Matrix, Implied, Slots}
 use Rattle.q_prop.proofs.ChainDefinition.{is_implied, implied_of}
 use Rattle.q_prop.specs.Chains.{IsChain, IsDerived, HasOpposites, HasFalsified, IsImplied}
 use Rattle.q_prop.proofs.ListMembers.{Contains-along, Contains-nil, Contains-take, Contains-map, Contains-map_cases}
-use Rattle.q_prop.proofs.Literals.{ℕ-cases}
-use Rattle.q_logic.proofs.Common.{negation-negation}
+use Rattle.q_logic.proofs.Common.{negation-negation, taken}
 use Rattle.q_prop.specs.Search.{AreQuiet}
 use Rattle.q_prop.proofs.Chains.{no_opposites-push}
 use Rattle.q_prop.specs.declared.pairs.Pair.{Pair}
@@ -46,7 +45,7 @@ AreTrue-more s singles done known more w t j at' c h e f =
 
 pub AreTrue-next : (s : Slots) (singles : List ℕ) (done at' : ℕ) (known : List Literal) → slice_get singles done ≡ Some at' → AreTrue s singles done known → ((c : Clause) → Holds s at' c → IsSingle known c) → AreTrue s singles (done + 1) known
 AreTrue-next s singles done at' known here t new j b c h e f =
-    elim (ℕ-cases j done) [
+    elim (cases_eq j done) [
       | inl q ↦
           let same : at' ≡ b = same_slice_get singles done at' b here (rw q at e) in
           new c (rw (← same) at f)
@@ -212,12 +211,9 @@ pub empty_none : (c : Clause) → None ≡ slice_get c 0 → (k : Literal) → C
 empty_none [] e k h = Contains-nil k h
 empty_none (l ∷ c) e k h = cc
 
-take_step : (xs : List Literal) (i : ℕ) (l : Literal) → i < length xs → l ≡ get_or xs i l → take (i + 1) xs ≡ take i xs ++ l ∷ []
-take_step xs i l room e = take_more xs i l room ∙ ap (λ (z : Literal). take i xs ++ z ∷ []) (sym e)
-
 module _ (root lits : List Literal) (i : ℕ) (l : Literal) (known : List Literal) (room : i < length lits) (e : l ≡ get_or lits i l) (a : IsAssumed root (take i lits) known) where
   l_in : Contains lits l
-  l_in = Contains-take lits (i + 1) l (rw (take_step lits i l room e) (Contains-push (take i lits) l))
+  l_in = Contains-take lits (i + 1) l (rw (taken lits i l room e) (Contains-push (take i lits) l))
 
   pub assumed_clash : Contains known l → Clashes root lits
   assumed_clash h =
@@ -233,15 +229,15 @@ module _ (root lits : List Literal) (i : ℕ) (l : Literal) (known : List Litera
   no_other_more k m =
       let r = Contains-map_cases negation (take i lits) k m in
       Contains-along (map negation (take (i + 1) lits)) (negation r.0) k r.2
-      (Contains-map negation (take (i + 1) lits) r.0 (rw (take_step lits i l room e) (Contains-append_left (take i lits) (l ∷ []) r.0 r.1)))
+      (Contains-map negation (take (i + 1) lits) r.0 (rw (taken lits i l room e) (Contains-append_left (take i lits) (l ∷ []) r.0 r.1)))
 
   l_negated : Contains (map negation (take (i + 1) lits)) (negation l)
-  l_negated = Contains-map negation (take (i + 1) lits) l (rw (take_step lits i l room e) (Contains-push (take i lits) l))
+  l_negated = Contains-map negation (take (i + 1) lits) l (rw (taken lits i l room e) (Contains-push (take i lits) l))
 
   pub assumed_same : Contains known (negation l) → IsAssumed root (take (i + 1) lits) known
   assumed_same h = record {
     consistent = a.consistent;
-    assumed = λ k m. elim (Contains-push_cases (take i lits) l k (rw (take_step lits i l room e) at m)) [
+    assumed = λ k m. elim (Contains-push_cases (take i lits) l k (rw (taken lits i l room e) at m)) [
       | inl b ↦ a.assumed k b
       | inr f ↦ rw (← f) h
     ];
@@ -254,7 +250,7 @@ module _ (root lits : List Literal) (i : ℕ) (l : Literal) (known : List Litera
   pub assumed_push : (Contains known l → ⊥) → IsAssumed root (take (i + 1) lits) (known ++ negation l ∷ [])
   assumed_push new = record {
     consistent = no_opposites-push known (negation l) a.consistent (λ h. new (Contains-along known (negation (negation l)) l (negation-negation l) h));
-    assumed = λ k m. elim (Contains-push_cases (take i lits) l k (rw (take_step lits i l room e) at m)) [
+    assumed = λ k m. elim (Contains-push_cases (take i lits) l k (rw (taken lits i l room e) at m)) [
       | inl b ↦ Contains-append_left known (negation l ∷ []) (negation k) (a.assumed k b)
       | inr f ↦ rw (← f) (Contains-push known (negation l))
     ];

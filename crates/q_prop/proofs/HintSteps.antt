@@ -1,8 +1,7 @@
 -- What hints say, step by step.
-use Rattle.std.proofs.Common.{◌≡◌, ◌≢◌, ◌↔◌, ◌<◌, ◌+◌, ℕ, zero, suc, Bool, false, List, [], ◌∷◌, ◌++◌, Option, None, Some, Contains, take, drop, map, length, get_or, refl, sym, ap, ◌∙◌, subst, inl, inr, arith, IsTrue, add-one, drop-cons, eqb, eq-eqb, ◌≤◌, Result, Ok, Err, IfOk, zero-le, suc-le-suc, le_of_suc-le-suc, not-suc-le-zero}
+use Rattle.std.proofs.Common.{◌≡◌, ◌≢◌, ◌↔◌, ◌<◌, ◌+◌, ℕ, zero, suc, Bool, false, List, [], ◌∷◌, ◌++◌, Option, None, Some, Contains, drop, map, length, get_or, refl, sym, ap, ◌∙◌, subst, inl, inr, arith, IsTrue, add-one, drop-cons, eqb, eq-eqb, ◌≤◌, Result, Ok, Err, IfOk, zero-le, suc-le-suc, le_of_suc-le-suc, not-suc-le-zero}
 use Rattle.std.proofs.lemmas.Bool.{false≢true}
 use Rattle.std.proofs.lemmas.Bool.Decides.{nat_tests}
-use Rattle.std.proofs.lemmas.List.{take_more}
 use Rattle.std.proofs.lemmas.List.Elements.{Contains-append_left, Contains-push, Contains-push_cases}
 use Rattle.q_logic.specs.Prelude.{Literal, negation, Clause, IsIn, Slots, slot, negations, IsTautology, IsRefuted, LeavesOne, Follows, Chained}
 use Rattle.q_logic.proofs.Common.{negation-negation, IsIn-inverter, IsIn-Contains, Contains-IsIn}
@@ -14,9 +13,6 @@ use Rattle.q_prop.specs.Working.{Clashes, IsAssumed}
 use Rattle.q_prop.specs.declared.chain.Left.TheVariants.{Nothing, One}
 use Rattle.q_prop.specs.Hinting.{IsLeft, left_in, IsOther, IsNoOther, IsLearned}
 use Rattle.q_prop.proofs.ListMembers.{Contains-along, Contains-nil, Contains-map_cases}
-
-pub take-step : (xs : List Literal) (i : ℕ) (l : Literal) → i < length xs → l ≡ get_or xs i l → take (i + 1) xs ≡ take i xs ++ l ∷ []
-take-step xs i l room e = take_more xs i l room ∙ ap (λ (z : Literal). take i xs ++ z ∷ []) (sym e)
 
 pub left-known : (known : List Literal) (c : Clause) (o : Option Literal) (l : Literal) → IsLeft known c (left_in o) → Contains known (negation l) → IsLeft known (c ++ l ∷ []) (left_in o)
 left-known known c None l h m = λ k i. elim (Contains-push_cases c l k i) [

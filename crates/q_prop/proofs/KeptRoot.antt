@@ -2,10 +2,11 @@
 use Rattle.std.proofs.Common.{◌≡◌, ◌≢◌, ◌⊎◌, ◌↔◌, ℕ, zero, suc, List, [], ◌∷◌, ◌++◌, Option, None, Some, Contains, set, take, length, refl, sym, ◌∙◌, ap, inl, inr, arith, append_assoc, take_all, not-suc-le-zero}
 use Rattle.std.proofs.lemmas.List.Elements.{Contains-append_left, Contains-append_right, Contains-append_cases}
 use Rattle.std.proofs.lemmas.List.{length-set}
+use Rattle.std.proofs.lemmas.Bool.{cases_eq}
 use Rattle.q_logic.specs.Prelude.{Literal, negation, Clause, Slots}
+use Rattle.q_logic.proofs.Common.{same_or_not}
 use Rattle.q_prop.specs.Chains.{IsForced, IsUnit, IsChain, IsDerived, HasOpposites, HasFalsified}
 use Rattle.q_prop.proofs.ListMembers.{Contains-nil, Contains-along, Contains-here, Contains-there, Contains-cons_cases}
-use Rattle.q_prop.proofs.Literals.{Literal-cases, ℕ-cases}
 use Rattle.q_prop.specs.Supports.{IsDoubled, IsGiven, IsSupport, IsSpare, IsUnitBeside}
 use Rattle.q_prop.specs.declared.supports.Support.TheVariants.{Doubled}
 use Rattle.q_prop.specs.Search.{IsOpen, IsUnset}
@@ -17,10 +18,11 @@ use Rattle.q_prop.specs.Rows.{Watchers, IsPushed}
 use Rattle.q_prop.proofs.RowLemmas.{HasEntry-pushed}
 use Rattle.q_prop.specs.Lists.{AreTaken}
 use Rattle.q_prop.specs.Working.{AreInRows, IsKept, AreListed, IsRooted, AreStanding}
-use Rattle.q_prop.proofs.SlotLemmas.{filled-in, filled-cases, without-le, without-here, without-other, slice_get-set_other, slice_get-set_here, same_slice_get}
+use Rattle.q_prop.proofs.SlotLemmas.{filled-in, filled-cases, without-le, without-here, without-other, slice_get-set_other, slice_get-set_here}
 use Rattle.q_prop.proofs.WatchLemmas.{IsWithin, IsWatched-none}
 use Rattle.q_prop.proofs.PropagationEnd.{kept_watched}
 use Rattle.q_prop.proofs.CompleteRoot.{derived_nothing, derived_over, AreListed-kept, IsChain-append, IsChain-more}
+use Rattle.q_prop.proofs.BucketLemmas.{same-clause}
 
 pub none_watched : (done known : List Literal) (s : Slots) (pairs : List (Option Pair)) → AllWatched done known s pairs → AllWatched [] [] s pairs
 none_watched done known s pairs w b c p e f = IsWatched-none done known [] c p (w b c p e f)
@@ -57,9 +59,6 @@ pub without-derived : (s : Slots) (skip : Option ℕ) (root : List Literal) → 
 without-derived s skip root d =
     derived_over (filled (without s skip)) (filled s) root
     (λ c m. let n = filled-cases (without s skip) c m in filled-in s n.0 c (without-le s skip n.0 c n.1)) d
-
-same_clause : (s : Slots) (n : ℕ) (c d : Clause) → Holds s n c → Holds s n d → c ≡ d
-same_clause s n c d e f = let h : Some c ≡ Some d = same_slice_get s n (Some c) (Some d) e f in cc
 
 -- a slot that doubles gives what this one does, where its clause has but one literal that is not false
 given_of : (s : Slots) (n : ℕ) (l : Literal) (m : ℕ) (known : List Literal) → IsDoubled s n l m → (Contains known (negation l) → ⊥) → ((d : Clause) → Holds s m d → IsUnit known d l) → IsGiven s n known
@@ -110,7 +109,7 @@ module _ (s : Slots) (at' : ℕ) (root : List Literal) (spare : IsSpare s at' ro
   units_of c (a ∷ d) l u h =
       let r = units_of c d l (λ k m. u k (Contains-there a d k m)) (λ k m. h k (Contains-there a d k m)) in
       let here = Contains-here a d in
-      elim (Literal-cases a l) [
+      elim (same_or_not a l) [
         | inl e ↦ (
           r.0,
           record {
@@ -151,7 +150,7 @@ module _ (s : Slots) (at' : ℕ) (root : List Literal) (spare : IsSpare s at' ro
     record {
       units = λ k m. absurd (Contains-nil k m);
       within = λ k m. absurd (Contains-nil k m);
-      enough = λ d e. enough_same [] c d (same_clause s at' c d here e) (record { is = inl o });
+      enough = λ d e. enough_same [] c d (same-clause s at' c d here e) (record { is = inl o });
     },
   )
   base_of_clause c here (inr (inl u)) = (
@@ -159,7 +158,7 @@ module _ (s : Slots) (at' : ℕ) (root : List Literal) (spare : IsSpare s at' ro
     record {
       units = λ k m. absurd (Contains-nil k m);
       within = λ k m. absurd (Contains-nil k m);
-      enough = λ d e. enough_same [] c d (same_clause s at' c d here e) (record { is = inr (inl u) });
+      enough = λ d e. enough_same [] c d (same-clause s at' c d here e) (record { is = inr (inl u) });
     },
   )
   base_of_clause c here (inr (inr g)) =
@@ -168,7 +167,7 @@ module _ (s : Slots) (at' : ℕ) (root : List Literal) (spare : IsSpare s at' ro
         record {
           units = r.1.units;
           within = r.1.within;
-          enough = λ d e. enough_same r.0 c d (same_clause s at' c d here e) (record { is = inr (inr (g, r.1.covered)) });
+          enough = λ d e. enough_same r.0 c d (same-clause s at' c d here e) (record { is = inr (inr (g, r.1.covered)) });
         },
       )
 
@@ -190,7 +189,7 @@ module _ (s : Slots) (at' : ℕ) (root : List Literal) (spare : IsSpare s at' ro
     given_forced : (known : List Literal) (l : Literal) → IsWithin base known → IsWithin known root → (f : IsForced (filled s) known l) → Holds s at' f.clause → (g : IsGiven s at' root) → ((k : Literal) → Contains g.doubled.clause k → k ≢ g.literal → Contains f.clause k ⊎ Contains base (negation k)) → IsForced (filled (without s (Some at'))) known l
     given_forced known l held within f here g covered =
         let d = g.doubled in
-        elim (Literal-cases g.literal l) [
+        elim (same_or_not g.literal l) [
           | inl e ↦ record {
             clause = d.clause;
             of_matrix = filled-in (without s (Some at')) g.slot d.clause d.elsewhere;
@@ -204,15 +203,15 @@ module _ (s : Slots) (at' : ℕ) (root : List Literal) (spare : IsSpare s at' ro
     spare_forced : (known : List Literal) (l : Literal) → Contains root l → IsWithin base known → IsWithin known root → IsForced (filled s) known l → IsForced (filled (without s (Some at'))) known l
     spare_forced known l there held within f =
         let n = filled-cases s f.clause f.of_matrix in
-        elim (ℕ-cases n.0 at') [
+        elim (cases_eq n.0 at') [
           | inl e ↦
               let here : Holds s at' f.clause = rw e at n.1 in
               elim (based.enough f.clause here).is [
-                | inl o ↦ absurd (elim (Literal-cases o.first l) [
+                | inl o ↦ absurd (elim (same_or_not o.first l) [
                   | inl g ↦ o.second_open (within (negation o.second) (f.others o.second o.has_second (λ h. o.differ (g ∙ sym h))))
                   | inr g ↦ o.first_open (within (negation o.first) (f.others o.first o.has_first g))
                 ])
-                | inr (inl u) ↦ absurd (elim (Literal-cases u.literal l) [
+                | inr (inl u) ↦ absurd (elim (same_or_not u.literal l) [
                   | inl g ↦ u.not_true (Contains-along root l u.literal (sym g) there)
                   | inr g ↦ u.not_false (within (negation u.literal) (f.others u.literal u.has g))
                 ])
@@ -246,7 +245,7 @@ module _ (s : Slots) (at' : ℕ) (root : List Literal) (spare : IsSpare s at' ro
   falsified_spare f = (
     f.0,
     (let n = filled-cases s f.0 f.1 in
-        elim (ℕ-cases n.0 at') [
+        elim (cases_eq n.0 at') [
           | inl e ↦
               let here : Holds s at' f.0 = rw e at n.1 in
               absurd (elim (spare f.0 here) [
@@ -332,7 +331,7 @@ pub rooted_cleared : (s : Slots) (at' : ℕ) (pairs : List (Option Pair)) (singl
 rooted_cleared s at' pairs singles done root head r = record {
   ready = record {
     consistent = r.ready.consistent;
-    watched = λ b c p e f. elim (ℕ-cases b at') [
+    watched = λ b c p e f. elim (cases_eq b at') [
       | inl g ↦ absurd (none_pair p (slice_get-set_here pairs at' None (Some p) (rw g at f)))
       | inr d ↦ r.ready.watched b c p e (sym (slice_get-set_other pairs at' b None d) ∙ f)
     ];
@@ -340,7 +339,7 @@ rooted_cleared s at' pairs singles done root head r = record {
   head_in = r.head_in;
   listed = record {
     same_length = length-set pairs at' None ∙ r.listed.same_length;
-    listed = λ b c e f. elim (ℕ-cases b at') [
+    listed = λ b c e f. elim (cases_eq b at') [
       | inl g ↦ absurd (without-here s at' c (rw g at e))
       | inr d ↦ r.listed.listed b c e (sym (slice_get-set_other pairs at' b None d) ∙ f)
     ];
@@ -362,7 +361,7 @@ covered_pushed t pairs rows rows' l e p covered' b c q h g =
 
 -- an empty slot needs no entry
 pub covered_cleared : (t : Slots) (n : ℕ) (pairs : List (Option Pair)) (rows : Watchers) → AreInRows t pairs rows → AreInRows (without t (Some n)) (set pairs n None) rows
-covered_cleared t n pairs rows covered' b c q h g = elim (ℕ-cases b n) [
+covered_cleared t n pairs rows covered' b c q h g = elim (cases_eq b n) [
   | inl s ↦ absurd (without-here t n c (rw s at h))
   | inr d ↦ covered' b c q (without-le t (Some n) b c h) (sym (slice_get-set_other pairs n b None d) ∙ g)
 ]

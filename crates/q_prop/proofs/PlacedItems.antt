@@ -1,18 +1,19 @@
 -- Items put at places.
 use Rattle.std.proofs.Common.{◌≡◌, ◌≢◌, ◌⊎◌, ℕ, ◌<◌, ◌≤◌, List, [], ◌∷◌, None, Some, slice_get, length, length-append, sym, ◌∙◌, inl, inr, arith}
 use Rattle.std.proofs.lemmas.List.{length-set}
+use Rattle.std.proofs.lemmas.Bool.{cases_eq}
+use Rattle.std.proofs.lemmas.Option.{slice_get_within}
 use Rattle.q_logic.specs.Prelude.{Clause, Slots}
 use Rattle.q_prop.specs.Slots.{Holds, IsPut, IsPlaced}
-use Rattle.q_prop.proofs.Literals.{ℕ-cases}
-use Rattle.q_prop.proofs.SlotLemmas.{slice_get-in, slice_get-append, slice_get-end, slice_get-push_cases, slice_get-set_same, slice_get-set_other, slice_get-set_here, slice_get-there}
+use Rattle.q_prop.proofs.SlotLemmas.{slice_get-append, slice_get-end, slice_get-push_cases, slice_get-set_same, slice_get-set_other, slice_get-set_here, slice_get-there}
 
 module _ {A : Type 0} (xs : List A) (n : ℕ) (y : A) (xs' : List A) where
   pub placed-cases : IsPlaced xs n y xs' → (m : ℕ) (z : A) → slice_get xs' m ≡ Some z → ((m ≢ n) × (slice_get xs m ≡ Some z)) ⊎ ((m ≡ n) × (y ≡ z))
   placed-cases (inl (at', is)) m z e = elim (slice_get-push_cases xs y z m (rw is at e)) [
-    | inl f ↦ inl ((λ s. let inside : m < length xs = slice_get-in xs m z f in omega (arith, inside, s, at')), f)
+    | inl f ↦ inl ((λ s. let inside : m < length xs = slice_get_within xs m z f in omega (arith, inside, s, at')), f)
     | inr f ↦ inr (f.0 ∙ sym at', f.1)
   ]
-  placed-cases (inr (less, is)) m z e = elim (ℕ-cases m n) [
+  placed-cases (inr (less, is)) m z e = elim (cases_eq m n) [
     | inl s ↦ inr (s, slice_get-set_here xs n y z (rw (is, s) at e))
     | inr d ↦ inl (d, sym (slice_get-set_other xs n m y d) ∙ rw is at e)
   ]
@@ -41,14 +42,14 @@ placed-same_length xs xs' ys ys' n x y (inr (a, is)) (inl (b, is2)) e = absurd (
 
 pub put-placed : (s : Slots) (n : ℕ) (c : Clause) (s' : Slots) → IsPut s n c s' → IsPlaced s n (Some c) s'
 put-placed s n c s' (inl h) = inl h
-put-placed s n c s' (inr h) = inr (slice_get-in s n None h.0, h.1)
+put-placed s n c s' (inr h) = inr (slice_get_within s n None h.0, h.1)
 
 module _ (s : Slots) (n : ℕ) (d : Clause) (s' : Slots) (put : IsPut s n d s') where
   pub put-vacant : (c : Clause) → Holds s n c → ⊥
   put-vacant c e = go put
     where
       go : IsPut s n d s' → ⊥
-      go (inl h) = let inside = slice_get-in s n (Some c) e in let k = h.0 in omega (arith, inside, k)
+      go (inl h) = let inside = slice_get_within s n (Some c) e in let k = h.0 in omega (arith, inside, k)
       go (inr h) = let k = h.0 in cc
 
   pub put-cases : (b : ℕ) (c : Clause) → Holds s' b c → ((b ≢ n) × Holds s b c) ⊎ ((b ≡ n) × (d ≡ c))

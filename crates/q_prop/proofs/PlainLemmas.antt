@@ -2,8 +2,9 @@
 use Rattle.std.proofs.Common.{◌≡◌, ◌↔◌, ◌<◌, ◌≤◌, ◌+◌, ℕ, Bool, true, false, List, [], ◌∷◌, ◌++◌, Option, None, Some, Contains, length, refl, sym, ap, ◌∙◌, subst, inl, inr, arith, append_assoc, append-nil, length-append, length-set, IsTrue}
 use Rattle.std.proofs.lemmas.List.Elements.{Contains-append_left, Contains-push, Contains-push_cases}
 use Rattle.q_logic.specs.Prelude.{Literal, negation, Clause, Matrix, IsIn, Slots, live, Implied, IsTautology, Follows, Chained}
-use Rattle.q_logic.proofs.Common.{IsIn-Contains, Contains-IsIn}
-use Rattle.std.proofs.lemmas.Bool.{false≢true}
+use Rattle.q_logic.proofs.Common.{IsIn-Contains, Contains-IsIn, same_or_not}
+use Rattle.std.proofs.lemmas.Bool.{false≢true, cases_eq}
+use Rattle.std.proofs.lemmas.Option.{slice_get_within}
 use Rattle.q_logic.proofs.HintChains.{follows-same, chained-implied}
 use Rattle.q_prop.specs.Chains.{IsFalsified, HasOpposites}
 use Rattle.q_prop.specs.Search.{IsOpen, IsQuiet, AreQuiet}
@@ -16,11 +17,10 @@ use Rattle.q_prop.proofs.ListMembers.{Contains-along, Contains-map_cases}
 use Rattle.q_prop.proofs.ChainDefinition.{implied_of}
 use Rattle.q_prop.proofs.CompleteRoot.{complete_not_implied}
 use Rattle.q_prop.proofs.UnknownLiterals.{missing}
-use Rattle.q_prop.proofs.Literals.{Literal-cases, ℕ-cases}
 use Rattle.q_prop.proofs.Chains.{no_opposites-push}
 use Rattle.q_prop.proofs.HintSteps.{Holds-slot, refuted, leaves_one, assumed-chained}
 use Rattle.q_prop.proofs.PropagationEnd.{IsReached-refl, IsReached-trans, IsReached-budget, IsReached-within}
-use Rattle.q_prop.proofs.SlotLemmas.{filled-in, filled-cases, slice_get-in}
+use Rattle.q_prop.proofs.SlotLemmas.{filled-in, filled-cases}
 
 pub led-refl : (s : Slots) (k : List Literal) (h : List ℕ) → (HasOpposites k → ⊥) → IsLed s k h k h
 led-refl s k h c = record { added = []; is = sym (append-nil h); follows = λ hs f. f; reached = IsReached-refl (filled s) k; consistent = c }
@@ -85,7 +85,7 @@ ended-look s n k h i e f = record { added = n ∷ []; is = e; follows = (f.0, Ho
 pub quiet-open : (k : List Literal) (c : Clause) → IsOpen k c → IsQuiet k c
 quiet-open k c o = record {
   not_falsified = λ f. o.first_open (f o.first o.has_first);
-  nothing_new = λ l i u. elim (Literal-cases o.first l) [
+  nothing_new = λ l i u. elim (same_or_not o.first l) [
     | inl e ↦ absurd (o.second_open (u o.second o.has_second (λ q. o.differ (e ∙ sym q))))
     | inr n ↦ absurd (o.first_open (u o.first o.has_first n))
   ];
@@ -94,7 +94,7 @@ quiet-open k c o = record {
 pub quiet-one : (k : List Literal) (c : Clause) (l : Literal) → IsLeft k c (One l) → Contains k l → IsQuiet k c
 quiet-one k c l h m = record {
   not_falsified = λ f. h.1 (f l h.0);
-  nothing_new = λ j i u. elim (Literal-cases l j) [
+  nothing_new = λ j i u. elim (same_or_not l j) [
     | inl e ↦ Contains-along k l j e m
     | inr n ↦ absurd (h.1 (u l h.0 n))
   ];
@@ -115,7 +115,7 @@ module _ (s : Slots) (i : ℕ) (k : List Literal) (h : List ℕ) (m : List Liter
   passed-quiet n l false p q = (
     q.0 ∙ p.0,
     q.1 ∙ p.1,
-    λ b c below holds. elim (ℕ-cases b i) [
+    λ b c below holds. elim (cases_eq b i) [
       | inl e ↦ rw p.0 at (q.2 c (rw e at holds))
       | inr ne ↦ p.2 b c (omega arith) holds
     ],
@@ -131,7 +131,7 @@ module _ (s : Slots) (i : ℕ) (k : List Literal) (h : List ℕ) (m : List Liter
     p.0,
     p.1,
     λ c inside. let n = filled-cases s c inside in
-        let room = slice_get-in s n.0 (Some c) n.1 in p.2 n.0 c (omega arith) n.1,
+        let room = slice_get_within s n.0 (Some c) n.1 in p.2 n.0 c (omega arith) n.1,
   )
 
 pub without-length : (s : Slots) (skip : Option ℕ) → length (without s skip) ≡ length s

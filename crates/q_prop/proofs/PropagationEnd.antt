@@ -1,10 +1,11 @@
 -- From one literal to the next, and to the end.
 use Rattle.std.proofs.Common.{◌≡◌, ◌⊎◌, ℕ, suc, ◌+◌, ◌≤◌, List, [], ◌∷◌, ◌++◌, Option, None, Some, slice_get, take, length, refl, sym, ◌∙◌, ap, inl, inr, arith, append_assoc, append-nil, length-append, add-one}
 use Rattle.q_logic.specs.Prelude.{Literal, negation, Clause, Matrix, Slots}
+use Rattle.q_logic.proofs.Common.{same_or_not}
 use Rattle.q_prop.specs.Chains.{HasOpposites}
-use Rattle.q_prop.proofs.Literals.{Literal-cases}
 use Rattle.q_prop.specs.Search.{IsQuiet, AreQuiet}
 use Rattle.std.proofs.lemmas.List.Elements.{Contains-append_left}
+use Rattle.std.proofs.lemmas.Option.{slice_get_within}
 use Rattle.q_prop.proofs.UnknownLiterals.{missing, missing-lt}
 use Rattle.q_prop.specs.declared.pairs.Pair.{Pair}
 use Rattle.q_prop.specs.Watches.{IsWatched, AllWatched}
@@ -13,7 +14,7 @@ use Rattle.q_prop.specs.declared.rows.Entry.{Entry}
 use Rattle.q_prop.specs.Rows.{Watchers, row_of, HasEntry, entry_of}
 use Rattle.q_prop.specs.Working.{IsWorking, IsGrown, IsNew, AreNew, IsReached, IsReady, AreInRows, IsKept, AreListed, AreTrue}
 use Rattle.q_prop.proofs.WatchLemmas.{IsWithin, IsWatched-apart, IsWatched-quiet, IsSingle-quiet}
-use Rattle.q_prop.proofs.SlotLemmas.{take-slice_get, slice_get-in, slice_get-there, without-le, filled-cases, slice_get-Contains}
+use Rattle.q_prop.proofs.SlotLemmas.{take-slice_get, slice_get-there, without-le, filled-cases, slice_get-Contains}
 
 AreNew-push : (x : Matrix) (known added : List Literal) (l : Literal) → AreNew x known added → IsNew x (known ++ added) l → AreNew x known (added ++ l ∷ [])
 AreNew-push x known [] l h n = (rw append-nil at n, tt)
@@ -92,9 +93,9 @@ kept_watched s few known a b w k all n c p e f = k.floors few w n c e (λ q g. a
 start_watch : (t : Slots) (head : ℕ) (lit : Literal) (known : List Literal) (pairs : List (Option Pair)) (rows : Watchers) → AreInRows t pairs rows → slice_get known head ≡ Some lit → (at' : ℕ) (c : Clause) (p : Pair) → Holds t at' c → slice_get pairs at' ≡ Some (Some p) → IsWatched (take head known) known c p → IsWatched (take (suc head) known) known c p ⊎ (HasEntry (row_of rows (negation lit)) 0 at' c × IsWatched (take head known) known c p)
 start_watch t head lit known pairs rows covered' h at' c p d e g =
     let covered = covered' at' c p d e in
-    elim (Literal-cases p.first (negation lit)) [
+    elim (same_or_not p.first (negation lit)) [
       | inl q ↦ inr (rw q at covered.0, g)
-      | inr n ↦ elim (Literal-cases p.second (negation lit)) [
+      | inr n ↦ elim (same_or_not p.second (negation lit)) [
         | inl q ↦ inr (rw q at covered.1, g)
         | inr m ↦ inl (rw (take-slice_get known head lit h) (IsWatched-apart (take head known) known lit c p n m g))
       ]
@@ -115,7 +116,7 @@ IsWorking-end s head lit i known pairs rows w past = record {
     | inr r ↦
         let x = r.0 in
         let j = x.2 in
-        let inside = slice_get-in (row_of rows (negation lit)) j.0 (entry_of at' x.0) j.2 in
+        let inside = slice_get_within (row_of rows (negation lit)) j.0 (entry_of at' x.0) j.2 in
         absurd (omega (arith, inside, past, j.1))
   ];
 }
@@ -124,13 +125,13 @@ IsWorking-end s head lit i known pairs rows w past = record {
 pub complete_store : (s : Slots) (known root : List Literal) (pairs : List (Option Pair)) (singles : List ℕ) → (HasOpposites known → ⊥) → AllWatched known known s pairs → AreListed s pairs singles → IsWithin root known → AreTrue s singles (length singles) root → AreQuiet known (filled s)
 complete_store s known root pairs singles consistent watched listed within true' c h =
     let n = filled-cases s c h in
-    let inside = slice_get-in s n.0 (Some c) n.1 in
+    let inside = slice_get_within s n.0 (Some c) n.1 in
     let o = slice_get-there pairs n.0 (rw listed.same_length inside) in
     complete_slot s known root pairs singles consistent watched listed within true' c n.0 n.1 o.0 o.1
   where
     complete_slot : (s : Slots) (known root : List Literal) (pairs : List (Option Pair)) (singles : List ℕ) → (HasOpposites known → ⊥) → AllWatched known known s pairs → AreListed s pairs singles → IsWithin root known → AreTrue s singles (length singles) root → (c : Clause) (n : ℕ) → Holds s n c → (o : Option Pair) → slice_get pairs n ≡ Some o → IsQuiet known c
     complete_slot s known root pairs singles consistent watched listed within true' c n e None f =
         let j = slice_get-Contains singles n (listed.listed n c e f) in
-        let single = true' j.0 n c (slice_get-in singles j.0 n j.1) j.1 e in
+        let single = true' j.0 n c (slice_get_within singles j.0 n j.1) j.1 e in
         IsSingle-quiet known c consistent (listed.short n c (listed.listed n c e f) e) (record { literal = single.literal; is_in = single.is_in; is_known = within single.literal single.is_known })
     complete_slot s known root pairs singles consistent watched listed within true' c n e (Some p) f = IsWatched-quiet known c p consistent (watched n c p e f)

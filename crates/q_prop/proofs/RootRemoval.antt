@@ -2,11 +2,12 @@
 use Rattle.std.proofs.Common.{◌≡◌, ◌≢◌, ◌⊎◌, ◌↔◌, ℕ, Bool, IsTrue, List, [], ◌∷◌, ◌++◌, Option, None, Some, Contains, slice_get, take, set, length, min, sym, ◌∙◌, ap, inl, inr, arith, append_assoc, take_all}
 use Rattle.std.proofs.Math.Nat.{min-eq_left, min-eq_right}
 use Rattle.std.proofs.lemmas.List.Elements.{Contains-append_left, Contains-push, Contains-push_cases}
+use Rattle.std.proofs.lemmas.Bool.{cases_eq}
+use Rattle.std.proofs.lemmas.Option.{slice_get_within}
 use Rattle.q_logic.specs.Prelude.{Literal, negation, Clause, Slots}
 use Rattle.q_prop.specs.Chains.{IsForced, IsUnit, IsChain, IsDerived, HasOpposites, HasFalsified}
 use Rattle.q_prop.proofs.ListMembers.{Contains-nil, Contains-along, Contains-here, Contains-there, Contains-cons_cases}
-use Rattle.q_prop.proofs.Literals.{Literal-cases, ℕ-cases}
-use Rattle.q_logic.proofs.Common.{negation-negation}
+use Rattle.q_logic.proofs.Common.{negation-negation, same_or_not}
 use Rattle.q_prop.specs.declared.pairs.Pair.{Pair}
 use Rattle.q_prop.specs.Slots.{Holds, filled, without}
 use Rattle.q_prop.specs.Marks.{IsTaken}
@@ -14,7 +15,7 @@ use Rattle.q_prop.specs.Lists.{AreTaken}
 use Rattle.q_prop.specs.Supports.{IsAlone, IsApart, IsHung, IsLoosened, AreUnitsKnown}
 use Rattle.q_prop.specs.Watches.{HasTrue, IsWatched, AllWatched}
 use Rattle.q_prop.specs.Working.{IsKept, IsRooted}
-use Rattle.q_prop.proofs.SlotLemmas.{slice_get-in, slice_get-there, slice_get-Contains, filled-in, filled-cases, without-le, without-here, without-other}
+use Rattle.q_prop.proofs.SlotLemmas.{slice_get-there, slice_get-Contains, filled-in, filled-cases, without-le, without-here, without-other}
 use Rattle.q_prop.proofs.WatchLemmas.{IsWithin, IsWatched-none, IsWatched-more, IsWatched-less, IsWatched-true}
 use Rattle.q_prop.proofs.CompleteRoot.{derived_same, AreTrue-more, AreListed-kept}
 use Rattle.q_prop.proofs.KeptRoot.{IsLost, listed_without, listed_fewer, none_watched, without-rooted, derived_spare, falsified_spare, rooted_fewer, rooted_cleared, rooted_zero}
@@ -25,7 +26,7 @@ pub taken_of : (l : Literal) (old : List Literal) → (new : List Literal) × Is
 taken_of l [] = ([], record { members = λ k. (λ m. absurd (Contains-nil k m), λ m. m.0); shorter = omega arith })
 taken_of l (a ∷ old) =
     let r = taken_of l old in
-    elim (Literal-cases a l) [
+    elim (same_or_not a l) [
       | inl e ↦ (
         r.0,
         record {
@@ -73,7 +74,7 @@ pub units_known : (s : Slots) (n : ℕ) (pairs : List (Option Pair)) (singles : 
 units_known s n pairs singles root head r k b =
     let m = filled-cases (without s (Some n)) (k ∷ []) b in
     let here = without-le s (Some n) m.0 (k ∷ []) m.1 in
-    let place = slice_get-there pairs m.0 (let i = slice_get-in s m.0 (Some (k ∷ [])) here in omega (arith, i, r.listed.same_length)) in
+    let place = slice_get-there pairs m.0 (let i = slice_get_within s m.0 (Some (k ∷ [])) here in omega (arith, i, r.listed.same_length)) in
     known_at m.0 here place.0 place.1
   where
     one : (l : Literal) → Contains (k ∷ []) l → k ≡ l
@@ -85,12 +86,12 @@ units_known s n pairs singles root head r k b =
         absurd (w.differ (sym (one p.first w.first_in) ∙ one p.second w.second_in))
     known_at m here None e =
         let j = slice_get-Contains singles m (r.listed.listed m (k ∷ []) here e) in
-        let t = r.singles_true j.0 m (k ∷ []) (slice_get-in singles j.0 m j.1) j.1 here in
+        let t = r.singles_true j.0 m (k ∷ []) (slice_get_within singles j.0 m j.1) j.1 here in
         Contains-along root t.literal k (sym (one t.literal t.is_in)) t.is_known
 
 Contains-cases : (c : Clause) (l : Literal) → Contains c l ⊎ (Contains c l → ⊥)
 Contains-cases [] l = inr (Contains-nil l)
-Contains-cases (a ∷ c) l = elim (Literal-cases a l) [
+Contains-cases (a ∷ c) l = elim (same_or_not a l) [
   | inl e ↦ inl (Contains-along (a ∷ c) a l e (Contains-here a c))
   | inr n ↦ elim (Contains-cases c l) [
     | inl i ↦ inl (Contains-there a c l i)
@@ -113,7 +114,7 @@ module _ (s : Slots) (n : ℕ) (l : Literal) (old new : List Literal) (hung : Is
   met_forced : (before after : List Literal) (a : Literal) → IsWithin before old → (m : ℕ) (c : Clause) → Holds s m c → Contains c (negation l) → Contains c a → IsUnit before c a → IsForced (filled (without s (Some n))) after a
   met_forced before after a within m c e i in' u =
       let t = hung.met m c e i in
-      elim (Literal-cases t.0 a) [
+      elim (same_or_not t.0 a) [
         | inl g ↦ record {
           clause = t.0 ∷ [];
           of_matrix = t.2;
@@ -127,7 +128,7 @@ module _ (s : Slots) (n : ℕ) (l : Literal) (old new : List Literal) (hung : Is
   forced_taken : (before after : List Literal) (a : Literal) → a ≢ l → ((k : Literal) → Contains before k → k ≢ l → Contains after k) → IsWithin before old → IsForced (filled s) before a → IsForced (filled (without s (Some n))) after a
   forced_taken before after a d inside within f =
       let m = filled-cases s f.clause f.of_matrix in
-      elim (ℕ-cases m.0 n) [
+      elim (cases_eq m.0 n) [
         | inl e ↦
             let has = hung.has f.clause (rw e at m.1) in
             absurd (consistent (l, known, within (negation l) (f.others l has (λ g. d (sym g)))))
@@ -179,7 +180,7 @@ module _ (s : Slots) (n : ℕ) (l : Literal) (old new : List Literal) (hung : Is
   chain_taken before after [] inside within h = ([], tt, λ k. (λ m. absurd (Contains-nil k m), λ m. absurd (Contains-nil k m.0)))
   chain_taken before after (a ∷ ls) inside within h =
       let within' : IsWithin ((before ++ a ∷ []) ++ ls) old = λ k m. within k (rw append_assoc at m) in
-      elim (Literal-cases a l) [
+      elim (same_or_not a l) [
         | inl e ↦ taken_here after ls a e (chain_taken (before ++ a ∷ []) after ls
             (λ k m d. elim (Contains-push_cases before a k m) [ inl b ↦ inside k b d | inr g ↦ absurd (d (sym g ∙ e)) ])
             within' h.1)
@@ -210,7 +211,7 @@ module _ (s : Slots) (n : ℕ) (l : Literal) (old new : List Literal) (hung : Is
   pub falsified_taken : HasFalsified (filled s) old → HasFalsified (filled (without s (Some n))) new
   falsified_taken f =
       let m = filled-cases s f.0 f.1 in
-      elim (ℕ-cases m.0 n) [
+      elim (cases_eq m.0 n) [
         | inl e ↦ absurd (consistent (l, known, f.2 l (hung.has f.0 (rw e at m.1))))
         | inr q ↦ elim (Contains-cases f.0 (negation l)) [
           | inl i ↦ let t = hung.met m.0 f.0 m.1 i in absurd (consistent (t.0, t.3, f.2 t.0 t.1))
@@ -281,7 +282,7 @@ module _ (s : Slots) (n : ℕ) (l : Literal) (old new : List Literal) (hung : Is
 
     same_back : (k : Literal) → Contains old k ↔ Contains (new ++ l ∷ []) k
     same_back k = (
-      λ m. elim (Literal-cases k l) [
+      λ m. elim (same_or_not k l) [
         | inl e ↦ Contains-along (new ++ l ∷ []) l k (sym e) (Contains-push new l)
         | inr d ↦ Contains-append_left new (l ∷ []) k ((taken.members k).1 (m, d))
       ],
@@ -294,7 +295,7 @@ module _ (s : Slots) (n : ℕ) (l : Literal) (old new : List Literal) (hung : Is
     module _ (pairs' : List (Option Pair)) (kept : IsKept s new pairs pairs') where
       -- the slot's own clause is true by the literal
       watched_kept : AllWatched old old s pairs'
-      watched_kept b c q e f = elim (ℕ-cases b n) [
+      watched_kept b c q e f = elim (cases_eq b n) [
         | inl g ↦
             let w = kept.floors [] (λ k h. absurd (Contains-nil k h)) b c e (λ p h. IsWatched-none old old [] c p (old_watched b c p e h)) q f in
             IsWatched-true [] old old c q (l, hung.has c (rw g at e), known) (IsWatched-none [] [] old c q w)

@@ -2,14 +2,14 @@
 use Rattle.std.proofs.Common.{◌≡◌, ◌≢◌, ℕ, ◌<◌, ◌≤◌, List, [], ◌∷◌, ◌++◌, Some, false, Contains, slice_get, set, length, refl, sym, ◌∙◌, ap, subst, inl, inr, arith}
 use Rattle.std.proofs.Math.Dec.{eqb}
 use Rattle.std.specs.List.{AllByRecursion, IsDistinct}
-use Rattle.std.proofs.lemmas.Bool.{eqb-true, ne_eqb}
+use Rattle.std.proofs.lemmas.Bool.{eqb-true, ne_eqb, cases_eq}
 use Rattle.std.proofs.lemmas.Map.Keys.{IsDistinct-cons}
 use Rattle.std.proofs.lemmas.Map.Views.{Contains-from_any}
 use Rattle.std.proofs.lemmas.Map.Steps.{length-le_from_distinct_below}
+use Rattle.std.proofs.lemmas.Option.{slice_get_within}
 use Rattle.q_prop.specs.Buckets.{IsWalk}
-use Rattle.q_prop.proofs.Literals.{ℕ-cases}
 use Rattle.q_prop.proofs.ListMembers.{Contains-here, Contains-there, Contains-nil, Contains-cons_cases, Contains-along}
-use Rattle.q_prop.proofs.SlotLemmas.{slice_get-in, slice_get-append, slice_get-set_same, slice_get-set_other, same_slice_get}
+use Rattle.q_prop.proofs.SlotLemmas.{slice_get-append, slice_get-set_same, slice_get-set_other, same_slice_get}
 
 -- what is set at a slot that is not on the way changes nothing
 pub walk-other : (nexts : List ℕ) (at' : ℕ) (xs : List ℕ) (p v : ℕ) → IsWalk nexts at' xs → (Contains xs p → ⊥) → IsWalk (set nexts p v) at' xs
@@ -25,19 +25,19 @@ walk-more nexts more at' (x ∷ xs) w = (w.0, w.1, slice_get-append nexts more a
 pub walk-below : (nexts : List ℕ) (at' : ℕ) (xs : List ℕ) (m : ℕ) → IsWalk nexts at' xs → Contains xs m → m < length nexts
 walk-below nexts at' [] m w h = absurd (Contains-nil m h)
 walk-below nexts at' (x ∷ xs) m w h = elim (Contains-cons_cases x xs m h) [
-  | inl e ↦ let b = slice_get-in nexts at' w.0 w.2 in omega (arith, b, w.1, e)
+  | inl e ↦ let b = slice_get_within nexts at' w.0 w.2 in omega (arith, b, w.1, e)
   | inr t ↦ walk-below nexts w.0 xs m w.3 t
 ]
 
 module _ (nexts : List ℕ) (short : length nexts ≤ 4294967295) where
   -- a walk from a slot begins with it
   pub walk-head : (at' : ℕ) (xs : List ℕ) (next : ℕ) → IsWalk nexts at' xs → slice_get nexts at' ≡ Some next → (ys : List ℕ) × (xs ≡ at' ∷ ys) × IsWalk nexts next ys
-  walk-head at' [] next w e = absurd (let b = slice_get-in nexts at' next e in omega (arith, b, w, short))
+  walk-head at' [] next w e = absurd (let b = slice_get_within nexts at' next e in omega (arith, b, w, short))
   walk-head at' (x ∷ xs) next w e = (xs, ap (λ (z : ℕ). z ∷ xs) w.1, subst (λ z. IsWalk nexts z xs) (same_slice_get nexts at' w.0 next w.2 e) w.3)
 
   pub walk-unique : (at' : ℕ) (xs ys : List ℕ) → IsWalk nexts at' xs → IsWalk nexts at' ys → xs ≡ ys
   walk-unique at' [] [] v w = refl
-  walk-unique at' [] (y ∷ ys) v w = absurd (let b = slice_get-in nexts at' w.0 w.2 in omega (arith, b, v, short))
+  walk-unique at' [] (y ∷ ys) v w = absurd (let b = slice_get_within nexts at' w.0 w.2 in omega (arith, b, v, short))
   walk-unique at' (x ∷ xs) ys v w =
       let t = walk-head at' ys v.0 w v.2 in
       let same = walk-unique v.0 xs t.0 v.3 t.2 in
@@ -90,7 +90,7 @@ module _ (nexts : List ℕ) (short : length nexts ≤ 4294967295) where
   -- one is left out: the slot before it leads to the one behind it
   pub walk-cut : (p n a : ℕ) → slice_get nexts p ≡ Some n → slice_get nexts n ≡ Some a → (at' : ℕ) (xs : List ℕ) → IsWalk nexts at' xs → Contains xs p → (ys : List ℕ) × IsWalk (set nexts p a) at' ys × ((m : ℕ) → Contains ys m → Contains xs m × (m ≢ n)) × ((m : ℕ) → Contains xs m → m ≢ n → Contains ys m)
   walk-cut p n a hp hn at' [] w h = absurd (Contains-nil p h)
-  walk-cut p n a hp hn at' (x ∷ xs) w h = elim (ℕ-cases x p) [
+  walk-cut p n a hp hn at' (x ∷ xs) w h = elim (cases_eq x p) [
     | inl e ↦
         let atp : at' ≡ p = sym w.1 ∙ e in
         let nx : w.0 ≡ n = same_slice_get nexts at' w.0 n w.2 (ap (slice_get nexts) atp ∙ hp) in

@@ -1,9 +1,11 @@
 -- Clauses in one row of literals, the last one appended.
 use Rattle.std.proofs.Common.{◌≡◌, suc, List, [], ◌∷◌, ◌++◌, map, length, refl}
+use Rattle.std.proofs.lemmas.List.{map-append}
 use Rattle.q_logic.specs.Prelude.{Literal}
+use Rattle.q_logic.proofs.ClauseBounds.{range-back}
 use Rattle.q_prop.specs.Tails.{tail_of, AreSpans}
 use Rattle.q_prop.specs.declared.tails.Span.{Span}
-use Rattle.q_prop.proofs.PieceLemmas.{range-front, range-end, map-append}
+use Rattle.q_prop.proofs.PieceLemmas.{range-front}
 
 spans-front : (row lits : List Literal) (spans : List Span) → AreSpans row spans → map (tail_of (row ++ lits)) spans ≡ map (tail_of row) spans
 spans-front row lits [] w = refl
@@ -15,4 +17,4 @@ spans-front row lits (p ∷ spans) w =
 
 pub pushed_tails : (row lits : List Literal) (spans : List Span) (p : Span) → p.start ≡ length row → p.end ≡ length (row ++ lits) → AreSpans row spans → map (tail_of (row ++ lits)) (spans ++ p ∷ []) ≡ map (tail_of row) spans ++ lits ∷ []
 pushed_tails row lits spans p s e w =
-    rw (map-append (tail_of (row ++ lits)) spans (p ∷ []), spans-front row lits spans w, s, e, range-end row lits) refl
+    rw (map-append (tail_of (row ++ lits)) spans (p ∷ []), spans-front row lits spans w, s, e, range-back row lits) refl

@@ -2,13 +2,13 @@
 use Rattle.std.proofs.Common.{◌⊎◌, ℕ, ◌+◌, ◌<◌, ◌≤◌, List, [], ◌∷◌, ◌++◌, Contains, sym, inl, inr, arith}
 use Rattle.std.proofs.lemmas.List.Elements.{Contains-append_left, Contains-push}
 use Rattle.q_logic.specs.Prelude.{Literal, Clause, Matrix}
+use Rattle.q_logic.proofs.Common.{same_or_not}
 use Rattle.q_prop.proofs.ListMembers.{Contains-here, Contains-there, Contains-nil, Contains-cons_cases, Contains-along}
-use Rattle.q_prop.proofs.Literals.{Literal-cases}
 
 Known-cases : (known : List Literal) (l : Literal) → Contains known l ⊎ (Contains known l → ⊥)
 Known-cases [] l = inr (Contains-nil l)
 Known-cases (k ∷ known) l =
-    elim (Literal-cases k l) [
+    elim (same_or_not k l) [
       | inl e ↦ inl (Contains-along (k ∷ known) k l e (Contains-here k known))
       | inr n ↦ elim (Known-cases known l) [
         | inl h ↦ inl (Contains-there k known l h)

@@ -1,12 +1,12 @@
 -- Rows of watches whose places a table gives.
 use Rattle.std.proofs.Common.{◌≡◌, ◌≢◌, ℕ, ◌+◌, ◌*◌, ◌/◌, ◌%◌, ◌<◌, List, [], ◌∷◌, ◌++◌, length, get_or, refl, sym, ◌∙◌, ap, arith, inl, inr}
+use Rattle.std.proofs.lemmas.Bool.{cases_eq}
 use Rattle.q_logic.specs.Prelude.{Literal, pack}
+use Rattle.q_logic.proofs.Common.{pack-same}
 use Rattle.q_pages.specs.Tables.{page_of, place_in, HasFreePages, IsGiven}
 use Rattle.q_pages.proofs.TableRows.{given-free, given-items, put-free, place-made}
 use Rattle.q_prop.specs.declared.rows.Entry.{Entry}
 use Rattle.q_prop.specs.Rows.{Watchers, row_of, spot_of, IsPushed, AreSameRows, AreOthers}
-use Rattle.q_prop.proofs.Literals.{ℕ-cases}
-use Rattle.q_prop.proofs.MarkLemmas.{pack-apart}
 
 abbrev pub watchers : List (List Entry) → List ℕ → Watchers
 watchers lists table = record { lists = lists; table = table }
@@ -18,7 +18,7 @@ module _ (t : List ℕ) (K M : List (List Entry)) (l : Literal) (apart : (i j : 
   changed-free = put-free [] t K M (pack l) made others free
 
   pub changed-others : (k : Literal) → k ≢ l → get_or M (place_in t (pack k)) [] ≡ get_or K (place_in t (pack k)) []
-  changed-others k n = others (place_in t (pack k)) (λ e. n (sym (pack-apart l k (apart (pack l) (pack k) made (sym e)))))
+  changed-others k n = others (place_in t (pack k)) (λ e. n (sym (pack-same l k (apart (pack l) (pack k) made (sym e)))))
 
 -- a row with an entry has a page of its own
 pub row-made : (t : List ℕ) (K : List (List Entry)) (l : Literal) (i : ℕ) → HasFreePages [] t K → i < length (get_or K (place_in t (pack l)) []) → 0 < page_of t (pack l)
@@ -51,7 +51,7 @@ module _ (t u : List ℕ) (K L : List (List Entry)) (given : IsGiven t u) (free 
     }
 
     pub not-pushed : get_or M (place_in u (pack l)) [] ≡ get_or L (place_in u (pack l)) [] → AreSameRows (watchers K t) (watchers M u)
-    not-pushed h k = elim (ℕ-cases (place_in u (pack k)) (place_in u (pack l))) [
+    not-pushed h k = elim (cases_eq (place_in u (pack k)) (place_in u (pack l))) [
       | inl e ↦ ap (λ (p : ℕ). get_or M p []) e ∙ h ∙ sym (ap (λ (p : ℕ). get_or L p []) e) ∙ room-same k
       | inr n ↦ others (place_in u (pack k)) n ∙ room-same k
     ]

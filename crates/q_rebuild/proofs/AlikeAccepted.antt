@@ -4,7 +4,7 @@ use Rattle.q_logic.specs.Prelude.{PrenexFormula, CertificateView, trees_of, Stra
 use Rattle.q_carry.proofs.AlikeFit.{fits-alike}
 use Rattle.q_rebuild.specs.Refusals.{IsAccepted}
 
-same-strategy : (s t : Strategy) → ((x : ℕ) → s x ≡ t x) → s ≡ t
+pub same-strategy : (s t : Strategy) → ((x : ℕ) → s x ≡ t x) → s ≡ t
 same-strategy s t h = λ i x. h x i
 
 module _ (c d : CertificateView) (inputs : c.inputs ≡ d.inputs) (names : map (λ o. o.name) c.outputs ≡ map (λ o. o.name) d.outputs) (trees : (x : ℕ) → trees_of c x ≡ trees_of d x) where

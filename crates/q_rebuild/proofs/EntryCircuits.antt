@@ -1,24 +1,16 @@
 -- Along a run, whatever an entry of the undo list holds has a circuit or is a universal of the first formula.
-use Rattle.std.proofs.Common.{◌≡◌, ℕ, Bool, true, false, cond, eqb, List, [], ◌∷◌, ◌++◌, inl, inr, arith, refl, sym, ◌∙◌, subst}
+use Rattle.std.proofs.Common.{◌≡◌, ℕ, Bool, true, false, cond, List, [], ◌∷◌, ◌++◌, inl, inr, arith, sym, ◌∙◌, subst}
 use Rattle.std.proofs.lemmas.Bool.{cases_Bool}
 use Rattle.q_logic.specs.Prelude.{Literal, negation, Prefix, Clause, IsIn, PrenexFormula, is_existential, is_universal, is_bound, IsFormula, Distinct, Strategy, Lawful, ProofStep, add, delete, drop_literal, fresh, remove_variable, one_less, insert_after, removed_from, after, UndoEntry, pivot, removed, freshened, Back, Entries, OutersOf, Undos}
-use Rattle.q_logic.proofs.Common.{JustifiedSteps, JustifiedRun, IsIn-outer, one_less-IsIn, at_or_other, is_bound-universal, removed-unbound, after-formula, rebuilt-lawful}
+use Rattle.q_logic.proofs.Common.{JustifiedSteps, JustifiedRun, IsIn-outer, one_less-IsIn, at_or_other, is_bound-universal, removed-unbound, after-formula, rebuilt-lawful, universal-is_bound, removed-is_universal}
 use Rattle.q_logic.proofs.Blocks.{lawful-same, Same-itself}
 use Rattle.q_logic.proofs.Outers.{outers-members}
 use Rattle.q_carry.specs.Prelude.{IsCovered, OutersCovered, EntryCovered}
 use Rattle.q_rebuild.specs.TakenBack.{AreCovered}
 
-universal-is_bound : (P : Prefix) (x : ℕ) → is_universal P x ≡ true → is_bound P x ≡ true
-universal-is_bound [] x h = h
-universal-is_bound (b ∷ P) x h = grind (arith, universal-is_bound P x)
-
 insert-universal : (w v : ℕ) (P : Prefix) (x : ℕ) → is_universal (insert_after w v P) x ≡ true → is_universal P x ≡ true
 insert-universal w v [] x h = h
 insert-universal w v (b ∷ P) x h = grind (arith, insert-universal w v P x)
-
-removed-is_universal : (v : ℕ) (P : Prefix) (x : ℕ) → eqb x v ≡ false → is_universal (removed_from v P) x ≡ is_universal P x
-removed-is_universal v [] x n = refl
-removed-is_universal v (b ∷ P) x n = grind (arith, removed-is_universal v P x)
 
 removed-universal : (v : ℕ) (P : Prefix) → Distinct P → (x : ℕ) → is_universal (removed_from v P) x ≡ true → is_universal P x ≡ true
 removed-universal v P d = at_or_other v (λ x. is_universal (removed_from v P) x ≡ true → is_universal P x ≡ true)

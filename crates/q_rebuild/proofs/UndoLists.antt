@@ -1,8 +1,9 @@
 -- Two undo lists of the same steps take circuits back alike: only the order of outer clauses differs, and it says nothing.
-use Rattle.std.proofs.Common.{◌≡◌, ℕ, Bool, true, false, cond, not, ◌&&◌, eqb, List, [], ◌∷◌, ◌++◌, inl, inr, arith, refl, sym, ap, ap₂, ◌∙◌, subst, Option, Some, None}
+use Rattle.std.proofs.Common.{◌≡◌, ℕ, Bool, true, false, cond, eqb, List, [], ◌∷◌, ◌++◌, inl, inr, refl, sym, ap, ◌∙◌, subst, Option, Some, None}
 use Rattle.q_logic.specs.Prelude.{Literal, negation, Clause, IsIn, PrenexFormula, is_existential, Assignment, ClauseTrue, signed, Circuit, constant, value_of, Strategy, or_input, given, outcome, one_less, ProofStep, add, delete, drop_literal, fresh, remove_variable, after, all_of, raised, pivoted, OutersOf, PivotEntry, UndoEntry, pivot, removed, freshened, with_circuit, Back, Entries, Undos}
 use Rattle.q_logic.specs.Moves.{AgreeAt}
 use Rattle.q_logic.proofs.Common.{all_of-true, all_of-false, IsIn-alike, same_first, Back-append}
+use Rattle.q_logic.proofs.MovesBack.{raised-agree}
 
 -- they agree everywhere
 abbrev pub Alike : Strategy → Strategy → Assignment → Type 0
@@ -29,16 +30,6 @@ all-alike c d A Os Ps h to from = go (value_of (all_of c Os) A) refl (value_of (
         let w = all_of-false c A Os p in
         absurd (w.2 (clause-alike d c A (alike-sym c d A h) w.0 (all_of-true d A Ps q w.0 (to w.0 w.1))))
 
-raised-alike : (n : Bool) (h i : Circuit) (A : Assignment) → value_of h A ≡ value_of i A → (x : ℕ)
-    (o p : Option Circuit) → given o ≡ given p → value_of (or_input x o) A ≡ value_of (or_input x p) A →
-    (given (raised n h o) ≡ given (raised n i p)) ×
-    (value_of (or_input x (raised n h o)) A ≡ value_of (or_input x (raised n i p)) A)
-raised-alike n h i A e x None None g v = (refl, refl)
-raised-alike n h i A e x None (Some t) g v = absurd (grind arith)
-raised-alike n h i A e x (Some t) None g v = absurd (grind arith)
-raised-alike true h i A e x (Some t) (Some s) g v = (refl, ap₂ ◌&&◌ v (ap not e))
-raised-alike false h i A e x (Some t) (Some s) g v = (refl, ap₂ (λ a b. not (not a && not b)) v e)
-
 pivot-alike : (l : Literal) (Os Ps : List Clause) (c d : Strategy) (A : Assignment) → Alike c d A →
     value_of (all_of c Os) A ≡ value_of (all_of d Ps) A → Alike (pivoted l Os c) (pivoted l Ps d) A
 pivot-alike l Os Ps c d A h e x = go (eqb x l.var) (h x)
@@ -47,7 +38,7 @@ pivot-alike l Os Ps c d A h e x = go (eqb x l.var) (h x)
         (given (cond z (raised l.negative (all_of c Os) (c x)) (c x)) ≡ given (cond z (raised l.negative (all_of d Ps) (d x)) (d x))) ×
         (value_of (or_input x (cond z (raised l.negative (all_of c Os) (c x)) (c x))) A ≡
         value_of (or_input x (cond z (raised l.negative (all_of d Ps) (d x)) (d x))) A)
-    go true a = raised-alike l.negative (all_of c Os) (all_of d Ps) A e x (c x) (d x) a.0 a.1
+    go true a = raised-agree l.negative (all_of c Os) (all_of d Ps) A e x (c x) (d x) a.0 a.1
     go false a = a
 
 circuit-alike : (v : ℕ) (o : Option Circuit) (c d : Strategy) (A : Assignment) → Alike c d A →

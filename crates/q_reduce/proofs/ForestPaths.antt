@@ -1,14 +1,13 @@
 -- Paths lead on, and a literal stays where one leads to its negation.
 use Rattle.std.proofs.Common.{◌≡◌, ◌≢◌, ◌⊎◌, ◌≤◌, ◌<◌, ◌+◌, ℕ, true, Some, List, sym, ap, subst, inl, inr, arith}
+use Rattle.std.proofs.lemmas.Bool.{cases_eq}
 use Rattle.q_logic.specs.Prelude.{Literal, negation, Clause, Prefix, IsIn, is_bound, outer_or_same, Slots, slot, others, Reached, Reducible}
-use Rattle.q_logic.proofs.Common.{negation-negation}
+use Rattle.q_logic.proofs.Common.{negation-negation, universal-is_bound}
 use Rattle.q_logic.proofs.ClosureSearch.{hit-reached}
-use Rattle.q_kernel.proofs.Basics.{ℕ-cases}
 use Rattle.q_kernel.proofs.SlotLists.{slot-IsIn}
 use Rattle.q_kernel.specs.Prelude.{Seen, slots}
 use Rattle.q_rule.proofs.IdClauses.{slot-one}
 use Rattle.q_rule.proofs.OuterOrder.{inner-through}
-use Rattle.q_rule.proofs.Quantifiers.{bound-universal}
 use Rattle.q_reduce.specs.declared.place.Place.{Place}
 use Rattle.q_reduce.specs.declared.place.Place.TheVariants.{Outside, Root, Below}
 use Rattle.q_reduce.specs.Paths.{AreJoined, Lacks, Leads, there, on, IsNear, among, beside, HoldsUniversal, Stays}
@@ -17,7 +16,7 @@ use Rattle.q_reduce.proofs.ReachWalks.{lacking-beside}
 use Rattle.q_reduce.proofs.ForestAncestors.{parent-level, parent-above, above-level, above-through, top-parent}
 
 pub asked-bound : (P : Prefix) (N : Slots) (c : ℕ) (u : Literal) → HoldsUniversal P N c u → is_bound P u.var ≡ true
-asked-bound P N c u q = bound-universal P u.var q.3
+asked-bound P N c u q = universal-is_bound P u.var q.3
 
 pub joined-turned : (P : Prefix) (N : Slots) (v c d : ℕ) → AreJoined P N v c d → AreJoined P N v d c
 joined-turned P N v c d j = record {
@@ -93,7 +92,7 @@ module _ (P : Prefix) (N : Slots) (u : Literal) (F : ForestMap) (f : IsForest P 
     climbed _ a (up z b) l =
         let p = parent_of F.places z in
         let g : IsAbove F.places p to = above-through F.places f.levels p z to (parent-above F.places f.levels z) a in
-        elim (ℕ-cases z from) [
+        elim (cases_eq z from) [
           | inl e ↦ inr (subst (λ (x : ℕ). Leads P N u x) e l)
           | inr n ↦ elim (zero_or_more (depth_of F.places z)) [
             | inl e ↦ climbed p g b (subst (λ (x : ℕ). Leads P N u x) (sym (top-parent F.places f.levels z e)) l)

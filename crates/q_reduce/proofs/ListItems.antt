@@ -1,13 +1,8 @@
 -- Items of a list.
-use Rattle.std.proofs.Common.{◌<◌, ℕ, zero, suc, get_or, length, List, [], ◌∷◌, take, drop, refl, inl, inr, arith}
+use Rattle.std.proofs.Common.{ℕ, zero, suc, List, [], ◌∷◌, take, drop, inl, inr}
 use Rattle.std.specs.List.{remove}
 use Rattle.q_logic.specs.Prelude.{IsIn}
 use Rattle.q_logic.proofs.Common.{IsIn-append}
-
-pub number-at : (xs : List ℕ) (i d : ℕ) → i < length xs → IsIn (get_or xs i d) xs
-number-at [] i d h = absurd (omega arith)
-number-at (x ∷ xs) zero d h = inl refl
-number-at (x ∷ xs) (suc i) d h = inr (number-at xs i d (omega arith))
 
 take-in : {X : Type 0} (i : ℕ) (xs : List X) (x : X) → IsIn x (take i xs) → IsIn x xs
 take-in zero xs x m = absurd m

@@ -1,11 +1,12 @@
 -- Walks, literal by literal and clause by clause.
 use Rattle.std.proofs.Common.{◌≡◌, ◌⊎◌, ℕ, Bool, true, false, List, [], ◌∷◌, ◌++◌, Some, Contains, sym, ◌∙◌, ap, subst, inl, inr, append-nil, append_assoc}
 use Rattle.q_logic.specs.Prelude.{Literal, negation, Clause, Prefix, IsIn, inner_existential, Slots, slot, live, others}
-use Rattle.q_logic.proofs.Common.{others-slot, IsIn-append_left, IsIn-append, IsIn-append_right}
-use Rattle.q_kernel.proofs.SlotLists.{IsIn-slot, slot-IsIn}
+use Rattle.q_logic.proofs.Common.{others-slot, IsIn-append_left, IsIn-append, IsIn-append_right, others-live}
+use Rattle.q_logic.proofs.HintChains.{live-number}
+use Rattle.q_kernel.proofs.SlotLists.{slot-IsIn}
 use Rattle.q_kernel.proofs.DistinctMembers.{Contains-none, Contains-last}
 use Rattle.q_rule.proofs.GrownMembers.{IsIn-grown}
-use Rattle.q_rule.proofs.IdClauses.{slot-one, others-live}
+use Rattle.q_rule.proofs.IdClauses.{slot-one}
 use Rattle.q_reduce.specs.Walks.{IsWidened, IsWorkedOff, IsGrown, Stands, IsFollowed, IsVisited}
 
 module _ (P : Prefix) (u : Literal) where
@@ -87,7 +88,7 @@ module _ (P : Prefix) (u : Literal) where
 
   -- once each clause with the literal came
   pub following-visited : (N : Slots) (k : Literal) (came : List ℕ) (old new : List Literal) → ((d : ℕ) (E : Clause) → slot N d ≡ Some E → IsIn (negation k) E → Contains came d) → IsFollowing N (λ E. IsIn E (live N) × IsIn (negation k) E) came old new → IsVisited P (live N) u k old new true
-  following-visited N k came old new has f = (f.grown, (λ E m i. let d = IsIn-slot N E m in f.worked_off d.0 E (has d.0 E d.1 i) d.1))
+  following-visited N k came old new has f = (f.grown, (λ E m i. let d = live-number N E m in f.worked_off d.0 E (has d.0 E d.1 i) d.1))
 
   -- a clause that was followed and holds the negation of u
   pub visited-not : (N : Slots) (d : ℕ) (k : Literal) (D : Clause) (old mid new : List Literal) → slot N d ≡ Some D → IsIn (negation k) D → IsFollowed P N u d mid new false → IsVisited P (live N) u k old new false
@@ -105,7 +106,7 @@ module _ (P : Prefix) (u : Literal) where
   -- A clause that lacks u stands beside one that holds it.
   pub lacking-beside : (N : Slots) (c : ℕ) (C E : Clause) → slot N c ≡ Some C → IsIn u C → IsIn E (live N) → (IsIn u E → ⊥) → IsIn E (others c N)
   lacking-beside N c C E h m i n =
-      let d = IsIn-slot N E i in
+      let d = live-number N E i in
       others-slot N d.0 c E (λ e. n (subst (λ (x : Clause). IsIn u x) (slot-one N c C E h (subst (λ (x : ℕ). slot N x ≡ Some E) e d.1)) m)) d.1
 
   -- So what a walk meets, it meets beside the clause that is asked about.

@@ -1,9 +1,10 @@
 -- What a search has seen.
-use Rattle.std.proofs.Common.{◌≡◌, ◌⊎◌, ◌≤◌, ◌<◌, ℕ, true, [], ◌∷◌, Option, None, refl, inl, inr, arith}
+use Rattle.std.proofs.Common.{◌≡◌, ◌≤◌, ◌<◌, ℕ, true, [], ◌∷◌, Option, None, refl, inl, inr, arith}
 use Rattle.std.specs.Option.{is_some}
+use Rattle.std.proofs.lemmas.Bool.{cases_lt}
 use Rattle.q_logic.specs.declared.rule_bounds.Bounds.{Bounds}
 use Rattle.q_logic.specs.Prelude.{greatest, IsProper, place, Fits}
-use Rattle.q_logic.proofs.Common.{is_bound-greatest}
+use Rattle.q_logic.proofs.Common.{is_bound-greatest, none_or_some}
 use Rattle.q_kernel.specs.Prelude.{Seen, slots, formula_in, IsLive}
 use Rattle.q_kernel.proofs.TextCosts.{proper-var}
 use Rattle.q_kernel.proofs.VariableCounts.{greatest-bound}
@@ -13,9 +14,6 @@ use Rattle.q_reduce.specs.Targets.{target_of}
 use Rattle.q_rule.proofs.RuleSearch.{IsPassed, found-more, found-none}
 use Rattle.q_rule.specs.Searching.{IsFound, IsAt}
 use Rattle.q_reduce.specs.Searches.{IsOfClause, IsOfVariable, IsBetween}
-
-none_or_some : (n : ℕ) → (n ≡ 0) ⊎ (1 ≤ n)
-none_or_some n = grind arith
 
 pub greatest-small : (k : Seen) → IsProper (formula_in k) → greatest k.prefix < 2147483648
 greatest-small k h = elim (none_or_some (greatest k.prefix)) [
@@ -39,14 +37,11 @@ tried-behind k start g h = found-none target_of k (λ t. start ≤ place (target
 pub passed-between : (k : Seen) (from end at' : ℕ) → end ≤ at' → IsPassed target_of k from at' → IsFound target_of k (IsBetween from end) None
 passed-between k from end at' l d = found-none target_of k (IsBetween from end) (λ t q B f. d.none t q.order (let h = q.before in omega arith) B f)
 
-below_or_not : (a b : ℕ) → (a < b) ⊎ (b ≤ a)
-below_or_not a b = grind arith
-
 -- Nothing before a number, and what is found behind it.
 pub found-behind : (k : Seen) (from end start : ℕ) (o : Option Target) → from ≤ start → ((n : ℕ) → from ≤ n → end ≤ n → start ≤ n) → IsFound target_of k (IsBetween from end) None → IsFound target_of k (λ t. start ≤ place (target_of t)) o → IsFound target_of k (λ t. from ≤ place (target_of t)) o
 found-behind k from end start o up least a b = record {
   some = λ t e. let r = b.some t e in ((let h = r.0 in omega arith), r.1);
-  none = λ e t l B f. elim (below_or_not (place (target_of t)) end) [
+  none = λ e t l B f. elim (cases_lt (place (target_of t)) end) [
     | inl low ↦ a.none refl t (record { order = l; before = low }) B f
     | inr high ↦ b.none e t (least (place (target_of t)) l high) B f
   ];

@@ -1,14 +1,15 @@
 -- What regions tell, and that they stay right.
-use Rattle.std.proofs.Common.{◌≡◌, ◌≤◌, ◌<◌, ◌⊎◌, ℕ, zero, suc, Bool, true, false, cond, get_or, length, List, [], ◌∷◌, Option, Some, None, Result, Ok, Err, refl, sym, ◌∙◌, subst, inl, inr, arith, true≢false}
+use Rattle.std.proofs.Common.{◌≡◌, ◌≤◌, ◌<◌, ℕ, zero, suc, Bool, true, false, cond, get_or, length, List, [], ◌∷◌, Option, Some, None, Result, Ok, Err, refl, sym, ◌∙◌, subst, inl, inr, arith, true≢false}
 use Rattle.std.specs.List.Sorted.{IsBinarySearchResult}
 use Rattle.std.specs.Ordering.{nat_cmp}
 use Rattle.std.specs.Result.{is_ok}
 use Rattle.std.proofs.lemmas.List.Sorted.{searched}
+use Rattle.std.proofs.lemmas.Bool.{cases_lt}
 use Rattle.q_logic.specs.declared.rule_bounds.Bounds.{Bounds}
 use Rattle.q_logic.specs.Prelude.{Literal, negation, Clause, Matrix, Prefix, PrenexFormula, IsIn, without, is_existential, is_universal, outer_or_same, inner_existential, Reached, Reducible, first, next, IsSubset, without_literal, each_without, Slots, slot, live, others, swept, has_empty, falsity, occurring, change, assigned, head_of, shortened, AreAlike}
 use Rattle.q_logic.proofs.Common.{inner_of, live-slot, IsIn-without_literal, without-IsIn, IsIn-alike, alike-sym}
+use Rattle.q_logic.proofs.HintChains.{live-number}
 use Rattle.q_kernel.specs.Prelude.{Seen, slots, formula_in, SameView, IsTaken, IsLive}
-use Rattle.q_kernel.proofs.SlotLists.{IsIn-slot}
 use Rattle.q_reduce.specs.declared.target.Target.{Target}
 use Rattle.q_reduce.specs.declared.target.Target.TheVariants.{Tautology, Unit, Cut, Pure}
 use Rattle.q_reduce.specs.Targets.{target_of}
@@ -27,9 +28,6 @@ number-place [] x m = absurd m
 number-place (y ∷ xs) x (inl e) = (0, omega arith, sym e)
 number-place (y ∷ xs) x (inr m) = let r = number-place xs x m in (suc r.0, (let h = r.1 in omega arith), r.2)
 
-below_or_not : (a b : ℕ) → (a < b) ⊎ (b ≤ a)
-below_or_not a b = grind arith
-
 pub found-member : (xs : List ℕ) (x : ℕ) (r : Result ℕ ℕ) → ((i j : ℕ) → i ≤ j → j < length xs → get_or xs i 0 ≤ get_or xs j 0) → IsBinarySearchResult (λ y. nat_cmp y x) xs r → (is_ok r ≡ true → IsIn x xs) × (IsIn x xs → is_ok r ≡ true)
 found-member xs x (Ok i) up h = let s = searched xs x (Ok i) h up in ((λ t. number-in xs x i s.0 s.1), (λ m. refl))
 found-member xs x (Err i) up h =
@@ -38,7 +36,7 @@ found-member xs x (Err i) up h =
       (λ m.
           let k = number-place xs x m in
           let e : get_or xs k.0 0 ≡ x = k.2 in
-          elim (below_or_not k.0 i) [
+          elim (cases_lt k.0 i) [
             | inl l ↦ let z : get_or xs k.0 0 < x = s.1 k.0 l in absurd (omega arith)
             | inr l ↦ let z : x < get_or xs k.0 0 = s.2 k.0 l k.1 in absurd (omega arith)
           ]),
@@ -175,4 +173,4 @@ pub verified-one : (P : Prefix) (N : Slots) (R : RegionMap) (w d : ℕ) (D : Cla
 verified-one P N R w d D e h = record { regional = λ E f. subst (λ (x : Clause). IsRegional P R w x) (slot-one N d D E e f) h }
 
 pub verified-all : (P : Prefix) (N : Slots) (R : RegionMap) (w : ℕ) → ((d : ℕ) → IsLive N d → IsVerified P N R w d) → (D : Clause) → IsIn D (live N) → IsRegional P R w D
-verified-all P N R w h D m = let d = IsIn-slot N D m in (h d.0 (record { there = (D, d.1) })).regional D d.1
+verified-all P N R w h D m = let d = live-number N D m in (h d.0 (record { there = (D, d.1) })).regional D d.1

@@ -1,6 +1,5 @@
 pub mod MarkChanges
 pub mod Quantifiers
-pub mod OccurrenceSteps
 pub mod OuterOrder
 pub mod LoopChanges
 pub mod RuleSteps

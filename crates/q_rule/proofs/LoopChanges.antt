@@ -1,11 +1,9 @@
 -- What one turn of a loop leaves of the change that is still to come, and what is left at the end.
 use Rattle.std.proofs.Common.{◌≡◌, ◌≤◌, ◌+◌, ℕ, zero, suc, Bool, true, false, cond, [], ◌∷◌, ◌⊎◌, inl, inr, arith, refl, sym, ap, ◌∙◌, subst, Option, Some, None, length, true≢false}
 use Rattle.q_logic.specs.Prelude.{Literal, negation, literal_eq, Clause, Matrix, IsIn, without, Implied, has, with_literal, without_literal, each_without, OccursIn, Slots, slot, set_slot, live, others, put_first, size_of}
-use Rattle.q_logic.proofs.Common.{literal_eq-sound, literal_eq-itself, literal_eq-negation, without-same, has-IsIn, IsIn-has, live-slot, without-other, IsIn-without, without-IsIn, has_none, implied-hidden, implied-subsumed, folded, folded-set, IsIn-alike}
-use Rattle.q_kernel.proofs.SlotLists.{alike-replaced, live-gone}
-
-pub not_in-without : (l : Literal) (C : Clause) → has l (without l C) ≡ false
-not_in-without l C = has_none l (without l C) (λ m. let a : literal_eq l l ≡ false = without-other l C l m in let b : literal_eq l l ≡ true = literal_eq-itself l in absurd (true≢false (sym b ∙ a)))
+use Rattle.q_logic.proofs.Common.{literal_eq-sound, literal_eq-negation, without-same, has-IsIn, IsIn-has, live-slot, IsIn-without, without-IsIn, has_none, implied-hidden, implied-subsumed, folded, folded-set, IsIn-alike, live-gone}
+use Rattle.q_logic.proofs.ClauseLoops.{has_not-without}
+use Rattle.q_logic.proofs.HintedRuns.{live-changed}
 
 -- A literal goes from one clause.
 each_without-folded : (l : Literal) (X : Matrix) → each_without l X ≡ folded (λ D Y. without l D ∷ Y) X
@@ -13,7 +11,7 @@ each_without-folded l [] = refl
 each_without-folded l (D ∷ X) = ap (λ (Y : Matrix). without l D ∷ Y) (each_without-folded l X)
 
 pub turn-shorter : (l : Literal) (N : Slots) (c : ℕ) (C : Clause) → slot N c ≡ Some C → each_without l (live (set_slot c (Some (without l C)) N)) ≡ each_without l (live N)
-turn-shorter l N c C s = each_without-folded l (live (set_slot c (Some (without l C)) N)) ∙ (folded-set (λ D Y. without l D ∷ Y) N c C (Some (without l C)) s (λ X. ap (λ (D : Clause). D ∷ X) (without-same l (without l C) (not_in-without l C))) ∙ sym (each_without-folded l (live N)))
+turn-shorter l N c C s = each_without-folded l (live (set_slot c (Some (without l C)) N)) ∙ (folded-set (λ D Y. without l D ∷ Y) N c C (Some (without l C)) s (λ X. ap (λ (D : Clause). D ∷ X) (without-same l (without l C) (has_not-without l C))) ∙ sym (each_without-folded l (live N)))
 
 -- Where no clause holds the literal.
 pub each_without-none : (l : Literal) (X : Matrix) → (OccursIn l X → ⊥) → each_without l X ≡ X
@@ -43,7 +41,7 @@ without-swap l (D ∷ X) = rw (has-kept l D) (go (has l D) (without-swap l X))
 -- Neither leaves the literal's negation.
 pub each_without-gone : (l : Literal) (X : Matrix) → OccursIn l (each_without l X) → ⊥
 each_without-gone l [] (D, m, i) = m
-each_without-gone l (E ∷ X) (D, inl e, i) = true≢false (sym (IsIn-has l (without l E) (subst (λ (x : Clause). IsIn l x) e i)) ∙ not_in-without l E)
+each_without-gone l (E ∷ X) (D, inl e, i) = true≢false (sym (IsIn-has l (without l E) (subst (λ (x : Clause). IsIn l x) e i)) ∙ has_not-without l E)
 each_without-gone l (E ∷ X) (D, inr m, i) = each_without-gone l X (D, m, i)
 
 -- The clauses after a turn.
@@ -56,7 +54,7 @@ gone-in (Some C ∷ N) (suc c) D (inl e) = inl e
 gone-in (Some C ∷ N) (suc c) D (inr m) = inr (gone-in N c D m)
 
 pub shorter-in : (l k : Literal) (N : Slots) (c : ℕ) (C : Clause) → slot N c ≡ Some C → OccursIn k (live (set_slot c (Some (without l C)) N)) → OccursIn k (live N)
-shorter-in l k N c C e (D, m, i) = elim (IsIn-alike (live (set_slot c (Some (without l C)) N)) (without l C ∷ others c N) (alike-replaced N c C (without l C) e) D m) [
+shorter-in l k N c C e (D, m, i) = elim (IsIn-alike (live (set_slot c (Some (without l C)) N)) (without l C ∷ others c N) (live-changed N c C (without l C) e) D m) [
   | inl f ↦ (C, live-slot N c C e, without-IsIn l C k (subst (λ (x : Clause). IsIn k x) f i))
   | inr o ↦ (D, gone-in N c D (subst (λ (X : Matrix). IsIn D X) (sym (live-gone N c)) o), i)
 ]
@@ -64,7 +62,7 @@ shorter-in l k N c C e (D, m, i) = elim (IsIn-alike (live (set_slot c (Some (wit
 -- The literals and clauses with a literal after it has left one.
 pub with-shorter : (l : Literal) (N : Slots) (c : ℕ) (C : Clause) → slot N c ≡ Some C → has l C ≡ true → size_of (with_literal l (live (set_slot c (Some (without l C)) N))) + (length C + 1) ≡ size_of (with_literal l (live N))
 with-shorter l [] c C e h = absurd (cc)
-with-shorter l (o ∷ N) zero C e h = subst (λ (p : Option Clause). size_of (with_literal l (without l C ∷ live N)) + (length C + 1) ≡ size_of (with_literal l (put_first p (live N)))) (sym e) (rw (h, not_in-without l C) (omega arith))
+with-shorter l (o ∷ N) zero C e h = subst (λ (p : Option Clause). size_of (with_literal l (without l C ∷ live N)) + (length C + 1) ≡ size_of (with_literal l (put_first p (live N)))) (sym e) (rw (h, has_not-without l C) (omega arith))
 with-shorter l (None ∷ N) (suc c) C e h = with-shorter l N c C e h
 with-shorter l (Some D ∷ N) (suc c) C e h = go (has l D) (with-shorter l N c C e h)
   where

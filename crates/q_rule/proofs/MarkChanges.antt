@@ -1,13 +1,9 @@
 -- Marks that come and go.
-use Rattle.std.proofs.Common.{◌≡◌, ℕ, zero, suc, suc-le-suc, zero-le, ◌<◌, ◌≤◌, Bool, true, false, List, [], ◌∷◌, ◌++◌, length, get_or, set, drop, sym, ◌∙◌, ap, subst, refl, inl, inr, arith, true≢false, get_or-set_same, get_or-set_other}
-use Rattle.std.proofs.lemmas.Bool.Decides.{nat_tests}
-use Rattle.q_kernel.proofs.Basics.{ℕ-cases}
+use Rattle.std.proofs.Common.{◌≡◌, ℕ, zero, suc, ◌<◌, ◌≤◌, Bool, true, false, List, [], ◌∷◌, ◌++◌, length, get_or, set, drop, sym, ◌∙◌, ap, subst, refl, inl, inr, arith, true≢false, get_or-set_same, get_or-set_other}
+use Rattle.std.proofs.lemmas.Bool.{cases_eq}
 use Rattle.q_logic.specs.Prelude.{Literal, pack, IsIn}
-use Rattle.q_logic.proofs.Common.{IsIn-append, IsIn-append_left, IsIn-append_right, IsIn-drop_next, IsIn-drop_within}
+use Rattle.q_logic.proofs.Common.{IsIn-append, IsIn-append_left, IsIn-append_right, IsIn-drop_next, IsIn-drop_within, mark_room, pack-same}
 use Rattle.q_rule.specs.Marks.{IsMarked}
-
-pub pack-apart : (k l : Literal) → pack k ≡ pack l → k ≡ l
-pack-apart k l e = grind (arith, nat_tests)
 
 -- the marks may be in a longer row
 pub marked-along : (marks more : List Bool) (lits : List Literal) → ((k : ℕ) → get_or more k false ≡ get_or marks k false) → IsMarked marks lits → IsMarked more lits
@@ -18,9 +14,9 @@ marked-none l = (λ m. absurd (true≢false (sym m)), λ m. absurd m)
 
 pub marked-pushed : (marks : List Bool) (lits : List Literal) (l : Literal) → pack l < length marks → IsMarked marks lits → IsMarked (set marks (pack l) true) (lits ++ l ∷ [])
 marked-pushed marks lits l room h k =
-    elim (ℕ-cases (pack l) (pack k)) [
+    elim (cases_eq (pack l) (pack k)) [
       | inl e ↦ (
-        λ m. subst (λ (j : Literal). IsIn j (lits ++ l ∷ [])) (pack-apart l k e) (IsIn-append_right l lits (l ∷ []) (inl refl)),
+        λ m. subst (λ (j : Literal). IsIn j (lits ++ l ∷ [])) (pack-same l k e) (IsIn-append_right l lits (l ∷ []) (inl refl)),
         λ m. rw (← e) (get_or-set_same marks (pack l) true false room),
       )
       | inr n ↦
@@ -34,11 +30,6 @@ marked-pushed marks lits l room h k =
           )
     ]
 
-pub mark_room : (marks : List Bool) (n : ℕ) → get_or marks n false ≡ true → n < length marks
-mark_room [] n e = absurd (true≢false (sym e))
-mark_room (b ∷ marks) zero e = suc-le-suc zero-le
-mark_room (b ∷ marks) (suc n) e = suc-le-suc (mark_room marks n e)
-
 -- only literals from a place on are marked
 abbrev pub IsMarkedFrom : List Bool → List Literal → ℕ → Type 0
 IsMarkedFrom marks lits i = (l : Literal) → get_or marks (pack l) false ≡ true → IsIn l (drop i lits)
@@ -50,7 +41,7 @@ same_item (x ∷ xs) (suc j) a b h e f = same_item xs j a b (omega arith) e f
 
 pub unmarked-more : (marks : List Bool) (lits : List Literal) (i : ℕ) (l : Literal) → i < length lits → l ≡ get_or lits i l → pack l < length marks → IsMarkedFrom marks lits i → IsMarkedFrom (set marks (pack l) false) lits (suc i)
 unmarked-more marks lits i l within is room h k m =
-    elim (ℕ-cases (pack l) (pack k)) [
+    elim (cases_eq (pack l) (pack k)) [
       | inl e ↦ absurd (true≢false (sym m ∙ rw (← e) (get_or-set_same marks (pack l) false false room)))
       | inr n ↦ elim (IsIn-drop_next k lits i (h k (sym (get_or-set_other marks (pack l) (pack k) false false (λ e. n (sym e))) ∙ m))) [
         | inl e ↦ absurd (n (ap pack (same_item lits i l k within is e)))

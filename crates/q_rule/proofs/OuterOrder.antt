@@ -3,8 +3,7 @@ use Rattle.std.proofs.Common.{◌≡◌, ℕ, Bool, true, false, cond, [], ◌�
 use Rattle.q_logic.specs.declared.formulas.Quant.{Quant}
 use Rattle.q_logic.specs.declared.formulas.Quant.TheVariants.{Exists, Forall}
 use Rattle.q_logic.specs.Prelude.{Matrix, Prefix, is_bound, is_existential, is_universal, same_quant, run_to, outer_or_same, inner_existential, occurs, occurring}
-use Rattle.q_logic.proofs.Common.{inner-parts, inner_of}
-use Rattle.q_rule.proofs.Quantifiers.{bound-existential, bound-universal}
+use Rattle.q_logic.proofs.Common.{inner-parts, inner_of, universal-is_bound, existential-is_bound}
 
 same_quant-run : (q p : Quant) (P : Prefix) (a : ℕ) → same_quant q p ≡ true → run_to q P a ≡ run_to p P a
 same_quant-run Exists Exists P a h = refl
@@ -57,7 +56,7 @@ module _ (X : Matrix) where
     where
       go : (c : Bool) → occurs b.var X ≡ c → is_existential (cond c (b ∷ occurring P X) (occurring P X)) v ≡ true → (is_existential (occurring P X) v ≡ true → is_existential P v ≡ true) → is_existential (b ∷ P) v ≡ true
       go true e h i = grind arith
-      go false e h i = let o : occurs v X ≡ true = occurring-occurs P v (bound-existential (occurring P X) v h) in let r : is_existential P v ≡ true = i h in grind arith
+      go false e h i = let o : occurs v X ≡ true = occurring-occurs P v (existential-is_bound (occurring P X) v h) in let r : is_existential P v ≡ true = i h in grind arith
 
   pub occurring-universal : (P : Prefix) (v : ℕ) → is_universal (occurring P X) v ≡ true → is_universal P v ≡ true
   occurring-universal [] v h = h
@@ -65,7 +64,7 @@ module _ (X : Matrix) where
     where
       go : (c : Bool) → occurs b.var X ≡ c → is_universal (cond c (b ∷ occurring P X) (occurring P X)) v ≡ true → (is_universal (occurring P X) v ≡ true → is_universal P v ≡ true) → is_universal (b ∷ P) v ≡ true
       go true e h i = grind arith
-      go false e h i = let o : occurs v X ≡ true = occurring-occurs P v (bound-universal (occurring P X) v h) in let r : is_universal P v ≡ true = i h in grind arith
+      go false e h i = let o : occurs v X ≡ true = occurring-occurs P v (universal-is_bound (occurring P X) v h) in let r : is_universal P v ≡ true = i h in grind arith
 
   occurring-run : (q : Quant) (P : Prefix) (a : ℕ) → occurs a X ≡ true → run_to q P a ≡ true → run_to q (occurring P X) a ≡ true
   occurring-run q [] a o r = r
@@ -91,7 +90,7 @@ module _ (X : Matrix) where
       go : (b : Bool) → outer_or_same P v u ≡ b → b ≡ false
       go true e =
           let p = inner-parts (occurring P X) u v h in
-          absurd (true≢false (sym (occurring-outer P v u (occurring-occurs P v (bound-existential (occurring P X) v p.0)) (occurring-occurs P u (bound-universal (occurring P X) u t)) e) ∙ p.1))
+          absurd (true≢false (sym (occurring-outer P v u (occurring-occurs P v (existential-is_bound (occurring P X) v p.0)) (occurring-occurs P u (universal-is_bound (occurring P X) u t)) e) ∙ p.1))
       go false e = refl
 
   occurring-keeps : (P : Prefix) (v : ℕ) → occurs v X ≡ true → is_existential P v ≡ true → is_existential (occurring P X) v ≡ true
@@ -115,4 +114,4 @@ module _ (X : Matrix) where
   occurring-stays P w v t o h =
       let p = inner-parts P w v h in
       inner_of (occurring P X) w v (occurring-keeps P v o p.0)
-      (occurring-later P w v (occurring-universal P w t) p.0 (occurring-occurs P w (bound-universal (occurring P X) w t)) o p.1)
+      (occurring-later P w v (occurring-universal P w t) p.0 (occurring-occurs P w (universal-is_bound (occurring P X) w t)) o p.1)

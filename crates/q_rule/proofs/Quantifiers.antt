@@ -1,8 +1,8 @@
 -- The quantifier of a variable tells whether it is existential or universal.
-use Rattle.std.proofs.Common.{◌≡◌, ℕ, Bool, true, false, cond, not, eqb, [], ◌∷◌, Some, refl, sym, true≢false}
+use Rattle.std.proofs.Common.{◌≡◌, ℕ, Bool, true, false, cond, not, eqb, [], ◌∷◌, Some, refl}
 use Rattle.q_logic.specs.declared.formulas.Quant.{Quant}
 use Rattle.q_logic.specs.declared.formulas.Quant.TheVariants.{Exists, Forall}
-use Rattle.q_logic.specs.Prelude.{Prefix, is_bound, is_existential, is_universal, is_exists}
+use Rattle.q_logic.specs.Prelude.{Prefix, is_existential, is_universal, is_exists}
 use Rattle.q_prefix.specs.Order.{quant_of}
 use Rattle.q_rule.specs.Quants.{is_some_exists, is_some_forall}
 
@@ -29,19 +29,3 @@ universal-told (b ∷ P) v = go (eqb b.var v) (universal-told P v)
     go : (t : Bool) → is_some_forall (quant_of P v) ≡ is_universal P v → is_some_forall (cond t (Some b.quant) (quant_of P v)) ≡ cond t (not (is_exists b.quant)) (is_universal P v)
     go true h = universal b.quant
     go false h = h
-
-pub bound-universal : (P : Prefix) (v : ℕ) → is_universal P v ≡ true → is_bound P v ≡ true
-bound-universal [] v h = h
-bound-universal (b ∷ P) v h = go (eqb b.var v) h (bound-universal P v)
-  where
-    go : (t : Bool) → cond t (not (is_exists b.quant)) (is_universal P v) ≡ true → (is_universal P v ≡ true → is_bound P v ≡ true) → cond t true (is_bound P v) ≡ true
-    go true h i = refl
-    go false h i = i h
-
-pub bound-existential : (P : Prefix) (v : ℕ) → is_existential P v ≡ true → is_bound P v ≡ true
-bound-existential [] v h = absurd (true≢false (sym h))
-bound-existential (b ∷ P) v h = go (eqb b.var v) h (bound-existential P v)
-  where
-    go : (t : Bool) → cond t (is_exists b.quant) (is_existential P v) ≡ true → (is_existential P v ≡ true → is_bound P v ≡ true) → cond t true (is_bound P v) ≡ true
-    go true h i = refl
-    go false h i = i h

@@ -1,15 +1,15 @@
 -- When each step of the rules is valid, and what it costs.
 use Rattle.std.proofs.Common.{◌≡◌, ◌≤◌, ◌+◌, ◌*◌, ℕ, suc, true, [], ◌∷◌, inl, inr, arith, refl, Some, length}
 use Rattle.q_logic.specs.Prelude.{Literal, IsBelow, negation, Clause, IsIn, ArePairs, without, is_existential, is_universal, Reducible, standard, IsInLimits, add, delete, drop_literal, one_less, literals_in, Within, KeepsLimits, first_of, IsTautology, OccursIn, slot, live, others}
-use Rattle.q_logic.proofs.Common.{live-slot, without-shorter, without-IsIn, implied-tautology, IsIn-alike, reducible-fewer, alike-sym, one_less-IsIn, pure-pivot, pure-reducible}
+use Rattle.q_logic.proofs.Common.{live-slot, without-shorter, without-IsIn, implied-tautology, IsIn-alike, reducible-fewer, alike-sym, one_less-IsIn, pure-pivot, pure-reducible, without-in_order}
 use Rattle.q_log.specs.Texts.{step_text}
+use Rattle.q_log.proofs.WritableRuns.{first-of}
 use Rattle.q_kernel.specs.Prelude.{Seen, slots, formula_in, IsSound, MayDelete, MayDrop, MayShrink}
 use Rattle.q_kernel.proofs.SlotLists.{alike-others, literals-others}
-use Rattle.q_kernel.proofs.KernelRuns.{without-in_order}
-use Rattle.q_kernel.proofs.TextCosts.{AreSmall, first-first, cost-delete, cost-drop, cost-shrink, proper-small, proper-in_order}
+use Rattle.q_kernel.proofs.TextCosts.{AreSmall, cost-delete, cost-drop, cost-shrink, proper-small, proper-in_order}
 use Rattle.q_rule.proofs.LoopChanges.{unit-shorter}
 
-enough : (a b c : ℕ) → a ≤ b → b ≤ c → a ≤ c
+pub enough : (a b c : ℕ) → a ≤ b → b ≤ c → a ≤ c
 enough a b c h i = omega arith
 
 -- A clause of a sound kernel.
@@ -30,7 +30,7 @@ module _ (k : Seen) (id : ℕ) (C : Clause) (s : IsSound k) (there : slot (slots
   delete-cost l m = cost-delete (Some l) C clause-ordered m clause-small
 
   pub implied-cost : length (step_text (delete (first_of C) C)) ≤ 16 * (length C + 1)
-  implied-cost = cost-delete (first_of C) C clause-ordered (first-first C) clause-small
+  implied-cost = cost-delete (first_of C) C clause-ordered (first-of C) clause-small
 
   pub drop-cost : (l : Literal) → IsIn l C → length (step_text (drop_literal l C)) ≤ 16 * (length C + 1)
   drop-cost l m = cost-drop l C clause-ordered m clause-small
@@ -43,7 +43,7 @@ module _ (k : Seen) (id : ℕ) (C : Clause) (s : IsSound k) (there : slot (slots
   may-go_tautology t b = record {
     clause = C;
     there = there;
-    first = first-first C;
+    first = first-of C;
     step = record {
       valid = (clause-within, clause-in, inl (implied-tautology (one_less C (live (slots k))) C t));
       bytes = enough (length (step_text (delete (first_of C) C))) (16 * (length C + 1)) k.spare_bytes implied-cost b;

@@ -2,11 +2,12 @@
 use Rattle.std.proofs.Common.{◌≡◌, ◌≤◌, ◌+◌, ◌*◌, ℕ, Bool, true, false, cond, [], ◌∷◌, arith, refl, sym, ap, ◌∙◌, subst, Some, length, true≢false}
 use Rattle.q_logic.specs.Prelude.{Literal, negation, Clause, Matrix, Prefix, PrenexFormula, IsIn, without, standard, IsInLimits, size_of, delete, drop_literal, first_of, with_literal, without_literal, each_without, Slots, slot, set_slot, live, others, formula_of, swept, has_empty, occurring, occurs, IsSwept, change, result_of, assigned, head_of, shortened, AreAlike}
 use Rattle.q_logic.specs.Targets as theory
-use Rattle.q_logic.proofs.Common.{occurs_var-find, occurs_var-IsIn, SameClauses, IsIn-alike, alike-sym, alike-refl, sweep-twice, swept-in_limits, live-without}
+use Rattle.q_logic.proofs.Common.{occurs_var-find, occurs_var-IsIn, SameClauses, IsIn-alike, alike-sym, alike-refl, sweep-twice, swept-in_limits, live-gone, alike_itself}
+use Rattle.q_logic.proofs.HintedRuns.{live-changed}
 use Rattle.q_log.specs.Texts.{step_text}
 use Rattle.q_kernel.specs.Prelude.{Seen, slots, formula_in, IsSound, HasSweepBytes, IsLed, IsDeleted, IsDropped}
-use Rattle.q_kernel.proofs.SlotLists.{has_empty-alike, alike-replaced, size-replaced}
-use Rattle.q_kernel.proofs.KernelRuns.{alike-itself, led-through}
+use Rattle.q_kernel.proofs.SlotLists.{has_empty-alike, size-replaced}
+use Rattle.q_kernel.proofs.KernelRuns.{led-through}
 use Rattle.q_rule.specs.Becoming.{CanChange, HasBecome, IsChanged, HasResult}
 use Rattle.q_rule.proofs.LoopChanges.{with-less}
 use Rattle.q_rule.proofs.RuleSteps.{implied-cost, drop-cost}
@@ -44,7 +45,7 @@ changed-by old new t X e h = record {
 pub changed-tautology : (old new : Seen) (c : ℕ) → IsSound old → IsInLimits standard (formula_in old) → CanChange old → IsDeleted old new c first_of → IsChanged old new (theory.tautology c)
 changed-tautology old new c s h b d = record {
   led = d.logged.led;
-  alike = record { prefix = sym d.prefix; clauses = subst (λ (X : Matrix). SameClauses X (live (slots new))) (ap live d.change ∙ live-without (slots old) c) (alike-refl (live (slots new))) };
+  alike = record { prefix = sym d.prefix; clauses = subst (λ (X : Matrix). SameClauses X (live (slots new))) (ap live d.change ∙ live-gone (slots old) c) (alike-refl (live (slots new))) };
   limits = limits-gone old new c d.clause d.was d.change d.prefix h;
   bytes = subst (λ P. 16 * (size_of (live (slots new)) + length P) ≤ new.spare_bytes) (sym d.prefix)
       (bytes-deleted (size_of (live (slots old))) (size_of (live (slots new))) (length d.clause) (length old.prefix) old.spare_bytes new.spare_bytes (length (step_text (delete (first_of d.clause) d.clause)))
@@ -55,7 +56,7 @@ pub changed-cut : (old new : Seen) (c : ℕ) (l : Literal) → IsSound old → I
 changed-cut old new c l s h b held d = record {
   led = d.logged.led;
   alike = subst (λ o. AreAlike (formula_of old.prefix (shortened l o (others c (slots old)))) (formula_in new)) (sym d.was)
-      (record { prefix = sym d.prefix; clauses = subst (λ (N : Slots). SameClauses (without l d.clause ∷ others c (slots old)) (live N)) (sym d.change) (alike-sym (live (set_slot c (Some (without l d.clause)) (slots old))) (without l d.clause ∷ others c (slots old)) (alike-replaced (slots old) c d.clause (without l d.clause) d.was)) });
+      (record { prefix = sym d.prefix; clauses = subst (λ (N : Slots). SameClauses (without l d.clause ∷ others c (slots old)) (live N)) (sym d.change) (alike-sym (live (set_slot c (Some (without l d.clause)) (slots old))) (without l d.clause ∷ others c (slots old)) (live-changed (slots old) c d.clause (without l d.clause) d.was)) });
   limits = limits-shorter old new c l d.clause d.was d.change d.prefix h;
   bytes = subst (λ P. 16 * (size_of (live (slots new)) + length P) ≤ new.spare_bytes) (sym d.prefix)
       (dropped (size_of (live (slots old))) (size_of (live (slots new))) (length d.clause) (length old.prefix) old.spare_bytes new.spare_bytes (length (step_text (drop_literal l d.clause)))
@@ -91,7 +92,7 @@ pub swept-alike : (F G : PrenexFormula) → AreAlike F G → AreAlike (swept F) 
 swept-alike F G a = subst (λ (P : Prefix). AreAlike (swept F) (swept (formula_of P G.matrix))) a.prefix (rw (← has_empty-alike F.matrix G.matrix a.clauses) (go (has_empty F.matrix)))
   where
     go : (b : Bool) → AreAlike (cond b (formula_of [] ([] ∷ [])) (formula_of (occurring F.prefix F.matrix) F.matrix)) (cond b (formula_of [] ([] ∷ [])) (formula_of (occurring F.prefix G.matrix) G.matrix))
-    go true = alike-itself (formula_of [] ([] ∷ []))
+    go true = alike_itself (formula_of [] ([] ∷ []))
     go false = record { prefix = occurring-same F.prefix F.matrix G.matrix a.clauses; clauses = a.clauses }
 
 -- The sweep at the end.

@@ -17,7 +17,7 @@ use Rattle.q_check.specs.Checked.{IsRefusal}
 use Rattle.q_command.specs.Refusals.{log_refused, step_refused}
 use Rattle.q_command.specs.declared.outcome.Outcome.{Outcome}
 use Rattle.q_command.specs.declared.outcome.Outcome.TheVariants.{Verified, RefusedLine, RefusedEnd, RefusedInput, ReadFault, NoMemory}
-use Rattle.q_command.proofs.AuditSteps.{front-of}
+use Rattle.q_command.proofs.AuditSteps.{front-of, left-over}
 use Rattle.q_command.proofs.BothCheckers.{ends-apart}
 use Rattle.q_command.proofs.WholeLogs.{bad-plain, offence-plain}
 use Rattle.q_run_annotate.specs.Annotates.{IsAnnotation, LogRefuses}
@@ -84,9 +84,6 @@ advances_step old new bytes n s o some g next left =
     }
 
 -- the front of a piece was read, and no step ended in it, or one
-left-over : (left new n : ℕ) (piece : List ℕ) → n ≤ length piece → new + n ≡ left → new + length (take n piece) ≡ left
-left-over left new n piece h e = let l : length (take n piece) ≡ n = length-take-le n piece h in omega (arith, l, e)
-
 pub advances_passed : (old : Reading) (r : LogState) (piece : List ℕ) (n : ℕ) (o : Option (ℕ × ProofStep)) → IsOpen old → o ≡ None → ((rest : List ℕ) → reading.Leads (Ok o) (to_come old.reader (take n piece ++ rest)) (to_come r rest)) → r.left + n ≡ old.reader.left → (0 < n) × (n ≤ length piece) → Advances old (record { reader = r; scribe = old.scribe }) (take n piece)
 advances_passed old r piece n o open-now q h left w =
     advances_nothing old (record { reader = r; scribe = old.scribe }) (take n piece) open-now refl

@@ -4,6 +4,7 @@ use Rattle.std.specs.List.{AllByRecursion}
 use Rattle.q_logic.specs.declared.limits.Limits.{Limits}
 use Rattle.q_logic.specs.declared.proof_part.ProofKind.{ProofKind}
 use Rattle.q_logic.specs.Prelude.{Literal, negation, Clause, Prefix, IsIn, Follows, Chained, NumberedFormula, HintGroup, ProofPart, Resolved, Shows, ShowsDrop, HintedValid, hinted_after, numbers_with, Slots, slot, set_slot, without, negations, kind_of, ProofStep, add, delete, drop_literal, fresh, remove_variable, standard}
+use Rattle.q_logic.proofs.Common.{length-set_slot, slot-below}
 use Rattle.q_hinted.specs.Parts.{IsNumber, IsGroup, AreGroups, IsPartOf}
 use Rattle.q_check.specs.Annotations.{Annotating, HasForm}
 use Rattle.q_hinted.specs.Texts.{hinted_text}
@@ -12,18 +13,13 @@ use Rattle.q_run_annotate.specs.declared.scribe.Scribe.{Scribe}
 use Rattle.q_check.proofs.AscendingNumbers.{with-in}
 use Rattle.q_check.proofs.HintNumbers.{slot-emptied}
 
-slot-within : (N : Slots) (n : ℕ) (D : Clause) → slot N n ≡ Some D → n < length N
-slot-within [] n D e = cc
-slot-within (o ∷ N) zero D e = suc-le-suc zero-le
-slot-within (o ∷ N) (suc n) D e = suc-le-suc (slot-within N n D e)
-
 -- each clause of the formula has a number that a log can hold
 AreNumbers : Slots → Type 0
 AreNumbers N = (n : ℕ) (D : Clause) → slot N n ≡ Some D → IsNumber n
 
 pub numbers-fit : (N : Slots) → slot N 0 ≡ None → length N < 2 ^ 62 → (n : ℕ) (D : Clause) → slot N n ≡ Some D → IsNumber n
 numbers-fit N z l zero D e = let q : None ≡ Some D = sym z ∙ e in cc
-numbers-fit N z l (suc n) D e = let w = slot-within N (suc n) D e in (suc-le-suc zero-le, (omega arith))
+numbers-fit N z l (suc n) D e = let w = slot-below N (suc n) D e in (suc-le-suc zero-le, (omega arith))
 
 module _ (N : Slots) (f : (n : ℕ) (D : Clause) → slot N n ≡ Some D → IsNumber n) where
   follows-numbers : (K : List Literal) (hs : List ℕ) → Follows N K hs → AllByRecursion IsNumber hs
@@ -71,11 +67,6 @@ part-fits m F (drop_literal q C) t v f z l = (
 )
 part-fits m F (fresh v w) t h f z l = f
 part-fits m F (remove_variable v) t h f z l = f
-
-length-set_slot : (n : ℕ) (o : Option Clause) (N : Slots) → length (set_slot n o N) ≡ length N
-length-set_slot n o [] = refl
-length-set_slot zero o (x ∷ N) = refl
-length-set_slot (suc n) o (x ∷ N) = ap suc (length-set_slot n o N)
 
 length-more : (N : Slots) (o : Option Clause) → length (N ++ o ∷ []) ≡ suc (length N)
 length-more [] o = refl

@@ -11,8 +11,9 @@ use Rattle.q_logic.specs.Decisions.{verdict}
 use Rattle.q_sched.specs.Settled.{IsSettled}
 use Rattle.q_simplify.specs.declared.report.Ending.{Ending}
 use Rattle.q_simplify.specs.declared.report.Ending.TheVariants as ending
-use Rattle.q_simplify.specs.Logs.{HoldsFront, MayHoldSteps}
+use Rattle.q_simplify.specs.Logs.{MayHoldSteps}
 use Rattle.q_simplify.specs.Results.{EndsAs, HoldsRun, HoldsPart}
+use Rattle.q_simplify.proofs.BothFiles.{kept-run, whole-front}
 use Rattle.q_command.specs.Checks.{IsFileOf}
 use Rattle.q_command.specs.Texts.{MayHoldCircuits}
 use Rattle.q_run_solve.specs.declared.solved.Solved.{Solved}
@@ -30,19 +31,6 @@ ends-settled ending.Spent F G h = absurd h.1
 -- the bytes of a name that holds some
 pub held-bytes : (disk : Disk) (name text : List ℕ) → map.get disk name ≡ Some text → bytes_at disk name ≡ text
 held-bytes disk name text e = ap (λ (o : Option (List ℕ)). unwrap_or o []) e
-
-stays-run : (F G : PrenexFormula) (name : List ℕ) (c d : Disk) → map.get d name ≡ map.get c name → HoldsRun F G name c → HoldsRun F G name d
-stays-run F G name c d e h = record { steps = h.steps; run = h.run; logged = h.logged; bytes = e ∙ h.bytes }
-
-whole-front : (F G : PrenexFormula) (name : List ℕ) (d : Disk) → HoldsRun F G name d → HoldsFront F name d
-whole-front F G name d h = record {
-  steps = h.steps;
-  logged = h.logged;
-  last = h.run.last;
-  valid = h.run.steps;
-  part = length (steps_text h.steps);
-  bytes = held-bytes d name (steps_text h.steps) h.bytes ∙ sym (take-length (steps_text h.steps));
-}
 
 -- the text of the log in memory
 log-text : (F G : PrenexFormula) (m : Disk) → (s : IsSimplified F G m) → bytes_at m log_name ≡ steps_text s.log.steps
@@ -91,7 +79,7 @@ module _ (n : SolveFiles) (before : Disk) (F G : PrenexFormula) (m : Disk) (inpu
     settled = r.settled;
     truth = r.truth;
     out_is = k n.output oc ∙ r.out_is;
-    log_is = stays-run F G n.log c d (k n.log lc) r.log_is;
+    log_is = kept-run F G n.log c d (k n.log lc) r.log_is;
     few = r.few;
     others = λ q x y z. k q z ∙ r.others q x y z;
   }

@@ -1,5 +1,5 @@
 -- The last of a list is the first of its reverse.
-use Rattle.std.proofs.Common.{◌≡◌, ◌<◌, ◌+◌, ◌∙◌, sym, ap, arith, ℕ, Bool, suc, List, [], ◌∷◌, ◌++◌, length, take, drop, reverse, get_or, set, Result, Ok, Err, OnErr, drop-cons}
+use Rattle.std.proofs.Common.{◌≡◌, ◌<◌, ◌+◌, ◌∙◌, sym, ap, arith, ℕ, Bool, suc, List, [], ◌∷◌, ◌++◌, length, take, drop, reverse, get_or, set, drop-cons}
 use Rattle.std.proofs.lemmas.List.{take-append-drop, length-take-le, reverse-append}
 use Rattle.std.proofs.Math.Seq.{set-append_seam}
 use Rattle.std.proofs.Math.ListN.{drop_of_length-le}
@@ -33,7 +33,3 @@ asks_last asked last heard items n b w P len is rose p =
       rises = rose;
       holds = p;
     }
-
-pub on_err : {T E P : Type 0} (r : Result T E) → P → OnErr r P
-on_err (Ok x) p = tt
-on_err (Err e) p = p

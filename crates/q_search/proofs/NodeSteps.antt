@@ -98,7 +98,7 @@ pub record IsGoing (old now : Walk) (budget left : Option ℕ) : Type 0 where
 abbrev pub left_to_do : Walk → ℕ
 left_to_do w = 2 * (outlook w.test w.prefix w.path nothing).decisions + zeros w.path
 
-along-none : (P : Prefix) (A : Assignment) → along P [] A ≡ A
+pub along-none : (P : Prefix) (A : Assignment) → along P [] A ≡ A
 along-none [] A = refl
 along-none (b ∷ P) A = refl
 

@@ -11,12 +11,6 @@ pub drop-step : {X Y : Type 0} (f : List X → Y) (xs : List X) (i : ℕ) (x : X
     f (drop i xs) ≡ f (x ∷ drop (i + 1) xs)
 drop-step f xs i x h e = ap f (rw add-one (drop-cons xs i x h ∙ ap (λ y. y ∷ drop (suc i) xs) (sym e)))
 
-pub drop-none : {X : Type 0} (xs : List X) (i : ℕ) → length xs ≤ i → drop i xs ≡ []
-drop-none [] zero h = refl
-drop-none [] (suc i) h = refl
-drop-none (x ∷ xs) zero h = absurd (omega arith)
-drop-none (x ∷ xs) (suc i) h = drop-none xs i (omega arith)
-
 pub place-bound : (P : Prefix) (v : ℕ) → is_bound P v ≡ true → place P v < length P
 place-bound [] v h = absurd (cc)
 place-bound (b ∷ P) v h = go (eqb b.var v) h (place-bound P v)

@@ -21,10 +21,10 @@ use Rattle.q_simplify.proofs.LogFile.{take-front}
 use Rattle.q_simplify.proofs.StopReasons.{swept-numbered}
 
 -- the log stays where another file is written
-kept-run : (F G : PrenexFormula) (ln : List ℕ) (c d : Disk) → map.get d ln ≡ map.get c ln → HoldsRun F G ln c → HoldsRun F G ln d
+pub kept-run : (F G : PrenexFormula) (ln : List ℕ) (c d : Disk) → map.get d ln ≡ map.get c ln → HoldsRun F G ln c → HoldsRun F G ln d
 kept-run F G ln c d e h = record { steps = h.steps; run = h.run; logged = h.logged; bytes = e ∙ h.bytes }
 
-whole-front : (F G : PrenexFormula) (ln : List ℕ) (d : Disk) → HoldsRun F G ln d → HoldsFront F ln d
+pub whole-front : (F G : PrenexFormula) (ln : List ℕ) (d : Disk) → HoldsRun F G ln d → HoldsFront F ln d
 whole-front F G ln d h =
     record {
       steps = h.steps;

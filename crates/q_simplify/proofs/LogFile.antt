@@ -1,21 +1,16 @@
 -- What the file of the log and the kernel say together, through the changes of both.
 use Rattle.std.proofs.Common.{◌≡◌, inr, ℕ, suc, ◌+◌, List, [], ◌∷◌, ◌++◌, refl, sym, ap, ◌∙◌, subst, arith, length, take, append_assoc, append-nil, Option, Some, unwrap_or, IfSome, Result, Err}
-use Rattle.std.specs.List.{AllByRecursion}
-use Rattle.q_logic.specs.Prelude.{Prefix, PrenexFormula, blocks, SameBlocks, ProofStep, standard, AreAlike, SameFormula, ValidSteps}
+use Rattle.q_logic.specs.Prelude.{Prefix, PrenexFormula, blocks, SameBlocks, standard, AreAlike, SameFormula, ValidSteps}
 use Rattle.q_io.specs.Files.{Disk, Later, RoseFor, bytes_at, Empties, Appends, AppendsPart}
 use Rattle.q_io.specs.declared.error.DeviceError.{DeviceError}
 use Rattle.q_io.specs.declared.error.DeviceError.TheVariants.{Failed}
-use Rattle.q_log.specs.Texts.{IsLogged, steps_text}
+use Rattle.q_log.specs.Texts.{steps_text}
 use Rattle.q_kernel.specs.Prelude.{Seen, slots, formula_in, SameView, IsLed}
-use Rattle.q_logic.proofs.Common.{SameBlocks-refl}
+use Rattle.q_logic.proofs.Common.{SameBlocks-refl, alike_itself, alike_swapped, alike_through}
 use Rattle.q_simplify.specs.Logs.{HasLog, LeavesLog, LogGoesOn}
 use Rattle.q_simplify.specs.Results.{LeadsTo}
 use Rattle.q_io.proofs.StoreContents.{at_some, others-through}
-use Rattle.q_kernel.proofs.KernelRuns.{alike-itself, alike-through, alike-turned, steps-same, steps-append, steps_text-append}
-
-logged-append : (ss ts : List ProofStep) → AllByRecursion IsLogged ss → AllByRecursion IsLogged ts → AllByRecursion IsLogged (ss ++ ts)
-logged-append [] ts h k = k
-logged-append (s ∷ ss) ts h k = (h.0, logged-append ss ts h.1 k)
+use Rattle.q_kernel.proofs.KernelRuns.{steps-same, steps-append, steps_text-append, logged-append}
 
 -- alike formulas are the same for the end of a run
 alike-same : (E G : PrenexFormula) → AreAlike E G → SameFormula E G
@@ -33,13 +28,13 @@ has_log-begin F name before k after e f t =
       text = t;
       last = F;
       valid = refl;
-      alike = subst (λ (G : PrenexFormula). AreAlike F G) (sym f) (alike-itself F);
+      alike = subst (λ (G : PrenexFormula). AreAlike F G) (sym f) (alike_itself F);
       others = e.others;
     }
 
 pub has_log-led : (F : PrenexFormula) (name : List ℕ) (before : Disk) (j k : Seen) (after : Option Disk) → HasLog F name before j after → IsLed j k → HasLog F name before k after
 has_log-led F name before j k after h d =
-    let i : (H : PrenexFormula) × ValidSteps standard h.last d.steps H × AreAlike d.last H = steps-same standard (formula_in j) h.last d.steps d.last (alike-turned h.last (formula_in j) h.alike) d.valid in
+    let i : (H : PrenexFormula) × ValidSteps standard h.last d.steps H × AreAlike d.last H = steps-same standard (formula_in j) h.last d.steps d.last (alike_swapped h.last (formula_in j) h.alike) d.valid in
     let text : h.bytes ++ k.text ≡ steps_text (h.steps ++ d.steps) =
     ap (λ t. h.bytes ++ t) d.text ∙ (sym (append_assoc h.bytes j.text (steps_text d.steps)) ∙ (ap (λ t. t ++ steps_text d.steps) h.text ∙ sym (steps_text-append h.steps d.steps))) in
     record {
@@ -52,7 +47,7 @@ has_log-led F name before j k after h d =
       text = text;
       last = i.0;
       valid = steps-append standard F h.steps h.last d.steps i.0 h.valid i.1;
-      alike = alike-through i.0 d.last (formula_in k) (alike-turned d.last i.0 i.2) d.alike;
+      alike = alike_through i.0 d.last (formula_in k) (alike_swapped d.last i.0 i.2) d.alike;
       others = h.others;
     }
 

@@ -4,8 +4,8 @@ use Rattle.q_logic.specs.declared.rule_bounds.Bounds.{Bounds}
 use Rattle.q_logic.specs.Prelude.{Clause, Prefix, PrenexFormula, standard, IsInLimits, Slots, slot, live, others, numbered, Target, Applicable}
 use Rattle.q_logic.proofs.RuleLaws.{Renumbering, Renumbered}
 use Rattle.q_logic.proofs.LawsOf.{laws_of}
+use Rattle.q_logic.proofs.Common.{live-numbered}
 use Rattle.q_sched.specs.Settled.{NoneApplies}
-pub use Rattle.q_kernel.proofs.SlotLists.{live-numbered}
 
 -- where the clause of a number of `numbered (live N)` stands in N
 abbrev number_in : Slots → ℕ → ℕ

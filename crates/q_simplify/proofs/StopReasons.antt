@@ -2,6 +2,7 @@
 use Rattle.std.proofs.Common.{◌≡◌, ◌↔◌, ℕ, [], ◌∷◌, refl, sym, ap, ◌∙◌, subst}
 use Rattle.q_logic.specs.declared.rule_bounds.Bounds.{Bounds}
 use Rattle.q_logic.specs.Prelude.{Matrix, PrenexFormula, live, numbered, formula_of, IsSwept, swept, falsity, measure_of}
+use Rattle.q_logic.proofs.Common.{live-numbered}
 use Rattle.q_kernel.specs.Prelude.{Seen, slots, formula_in}
 use Rattle.q_simplify.specs.declared.options.Options.{Options}
 use Rattle.q_simplify.specs.declared.report.Ending.{Ending}
@@ -12,7 +13,7 @@ use Rattle.q_sched.specs.Settled.{IsSettled, IsDone}
 use Rattle.q_sched.specs.Drives.{IsSpentAt}
 use Rattle.q_simplify.specs.Stops.{Stops}
 use Rattle.q_simplify.specs.Results.{EndsAs, ends_as, by_clauses}
-use Rattle.q_simplify.proofs.NumberIndependence.{live-numbered, none-numbered, numbered-none}
+use Rattle.q_simplify.proofs.NumberIndependence.{none-numbered, numbered-none}
 
 -- a formula is that of its clauses numbered in their order
 pub swept-numbered : (F : PrenexFormula) → IsSwept F → swept (formula_of F.prefix (live (numbered F.matrix))) ≡ formula_of F.prefix (live (numbered F.matrix))

@@ -4,8 +4,6 @@ use Rattle.q_logic.specs.declared.rule_bounds.Bounds.{Bounds}
 use Rattle.q_logic.specs.Prelude.{PrenexFormula, IsSwept, standard, IsInLimits, measure_of, Target, Applicable}
 use Rattle.q_io.specs.Files.{Disk}
 use Rattle.q_kernel.specs.Prelude.{Seen, slots, formula_in, IsReady, IsTaken}
-use Rattle.q_reduce.specs.Learned.{Learned, IsFitFor}
-use Rattle.q_reduce.proofs.LearnedKept.{fit-same}
 use Rattle.q_sched.specs.declared.turns.Turn.{Turn}
 use Rattle.q_sched.specs.declared.turns.Turn.TheVariants as turn
 use Rattle.q_sched.specs.Settled.{IsDone}
@@ -29,9 +27,6 @@ ready-same j k e r =
 
 pub ready-flushed : (j k : Seen) → k.prefix ≡ j.prefix → slots k ≡ slots j → IsReady j → IsReady k
 ready-flushed j k p s r = ready-same j k (same-formula j k p s) r
-
-pub fit-flushed : (j k : Seen) (s : Learned) → k.prefix ≡ j.prefix → slots k ≡ slots j → IsFitFor j s → IsFitFor k s
-fit-flushed j k s p e h = fit-same j k s p e h
 
 -- the moves so far go on after each turn, over what no turn changes of the drive
 spent-framed : (e d : Driving) (F : PrenexFormula) → SameFrame e d → (¬ IsSpentAt d.budget d.first_measure (measure_of d.bounds F)) → ¬ IsSpentAt e.budget e.first_measure (measure_of e.bounds F)

@@ -2,15 +2,14 @@
 use Rattle.std.proofs.Common.{◌≡◌, ℕ, ◌+◌, ◌-◌, ◌<◌, ◌≤◌, Bool, true, false, cond, ltb, List, [], ◌∷◌, ◌++◌, length, get_or, set, slice_get, take, inl, inr, arith, refl, sym, ap, ◌∙◌, subst, Option, Some, None, MatchOption}
 use Rattle.std.proofs.lemmas.List.{length-set, get_or-set_same, get_or-set_other, get_or_past, take_more}
 use Rattle.std.proofs.Math.Seq.{take-length}
-use Rattle.std.proofs.lemmas.Bool.{cases_lt}
-use Rattle.std.proofs.lemmas.Option.{get_or_from_slice_get}
+use Rattle.std.proofs.lemmas.Bool.{cases_lt, cases_eq}
+use Rattle.std.proofs.lemmas.Option.{get_or_from_slice_get, same_Some, slice_get_within}
 use Rattle.q_logic.specs.Prelude.{Circuit, constant, GateNode, falsum, input_at, gate_at, Operand, Gate, IsThere, node_tree, operand_tree, gate_tree, gate_trees}
 use Rattle.q_aig.specs.Prelude.{Net, IsLiteral, tree_at, operand_of, gate_of, IsNet, Keeps, Serves, IsConjunction}
 use Rattle.q_aig.proofs.Substitutes.{serves-self, serves-same, serves-then, serves-conjunction}
 use Rattle.q_aig.proofs.Nets.{IsThere-more, AreGates-at}
 use Rattle.q_carry.specs.Prelude.{look_at, AreLiterals, InputsAt, is_there, IsGrown, or_zero, copied_plain, copied_operand, tree_of_gate}
-use Rattle.q_carry.proofs.LongerLists.{slice_get-below}
-use Rattle.q_carry.proofs.CircuitCopies.{copy-there, gate-is}
+use Rattle.q_carry.proofs.CircuitCopies.{copy-there, gate-is, or-zero-there}
 use Rattle.q_carry.proofs.LiteralRows.{operand-serves, literals-kept}
 use Rattle.q_carry.proofs.CircuitParts.{grown-none, grown-then, grown-by}
 use Rattle.q_gates.specs.Uses.{part_at, Uses}
@@ -21,7 +20,7 @@ use Rattle.q_slots.specs.Slots.{AreSlots, AreOwned, IsResolved, owner_at}
 use Rattle.q_slots.specs.Nodes.{node_part, filled_part}
 use Rattle.q_slots.specs.Settled.{gates_among, row_literal, NodeStands, AreRows, AreBuilt, IsBuilt, IsCopied, IsSettled, IsOrdered}
 use Rattle.q_slots.proofs.ReplacedInputs.{under-operand, serves-twice}
-use Rattle.q_slots.proofs.GateCounts.{same-or, among-last, among-most}
+use Rattle.q_slots.proofs.GateCounts.{among-last, among-most}
 
 -- An operand of the draft, by its node.
 pub operand-stands : (draft now : Net) (m : Settled) (r : ℕ → Circuit) (k : ℕ) (o : Operand) →
@@ -59,21 +58,14 @@ gate-copied draft before after m gate l r a b c net e ea eb h = record {
       (serves-same _ _ (sym (ap (under q) t))));
 }
 
-or-zero-there : (n : Net) (m : Option ℕ) → ((l : ℕ) → m ≡ Some l → IsLiteral n l) → IsLiteral n (or_zero m)
-or-zero-there n None h = tt
-or-zero-there n (Some l) h = h l refl
-
-some-same : (m n : ℕ) → Some m ≡ Some n → m ≡ n
-some-same m n e = cc
-
 set-literals : (n : Net) (row row2 : List (Option ℕ)) (s l : ℕ) → row2 ≡ set row s (Some l) → AreLiterals n row →
     IsLiteral n l → AreLiterals n row2
-set-literals n row row2 s l e li h x k q = elim (same-or x s) [
+set-literals n row row2 s l e li h x k q = elim (cases_eq x s) [
   | inl same ↦ elim (cases_lt s (length row)) [
     | inl lt ↦
         let w : look_at row2 x ≡ Some l = ap (λ (xs : List (Option ℕ)). look_at xs x) e
         ∙ ap (look_at (set row s (Some l))) same ∙ get_or-set_same row s (Some l) None lt in
-        subst (IsLiteral n) (some-same l k (sym w ∙ q)) h
+        subst (IsLiteral n) (same_Some l k (sym w ∙ q)) h
     | inr le ↦
         let w : look_at row2 x ≡ None = ap (λ (xs : List (Option ℕ)). look_at xs x) e
         ∙ get_or_past (set row s (Some l)) x None (let z = length-set row s (Some l) in omega arith) in
@@ -162,7 +154,7 @@ gate-built draft before after z m m2 node gate lit rows le is lt c es eg =
         slots_room = ap length es ∙ rows.slots_room;
         gates_room = ap length eg ∙ length-set m.gates.items gate lit ∙ room;
         slots = subst (AreLiterals after) (sym es) (literals-kept before after m.slots.items c.grown.kept rows.slots);
-        gates = λ g. elim (same-or g gate) [
+        gates = λ g. elim (cases_eq g gate) [
           | inl same ↦ subst (IsLiteral after) (sym (ap (λ (j : ℕ). get_or m2.gates.items j 0) same ∙ here)) c.there
           | inr other ↦ subst (IsLiteral after) (sym (ap (λ (xs : List ℕ). get_or xs g 0) eg
               ∙ get_or-set_other m.gates.items gate g lit 0 other))
@@ -234,7 +226,7 @@ module _ (draft base now new : Net) (z : Slots) (m m2 : Settled) (order : List �
       get_or order n 0 ≡ length z.definitions.items + g → (x : Gate) → slice_get draft.gates g ≡ Some x →
       NodeStands draft now m r x.left.node × NodeStands draft now m r x.right.node
   gate-before r q g e x w =
-      let gl : g < length draft.gates = slice_get-below draft.gates g x w in
+      let gl : g < length draft.gates = slice_get_within draft.gates g x w in
       let at : get_or draft.gates g x ≡ x = get_or_from_slice_get draft.gates g x x w in
       let both = AreGates-at (length draft.inputs) 0 draft.gates g x net.ordered gl in
       let tl : IsThere (length draft.inputs) (0 + g) x.left.node =
@@ -308,12 +300,12 @@ settled draft base now z m order s o b = record {
         node_part (length z.definitions.items) draft.inputs x ≡ Some h → h < length o.nodes
     in-order h falsum t f = absurd (cc)
     in-order h (input_at i) t f =
-        let e : get_or draft.inputs i 0 ≡ h = some-same (get_or draft.inputs i 0) h f in
+        let e : get_or draft.inputs i 0 ≡ h = same_Some (get_or draft.inputs i 0) h f in
         let lt = s.names i t in
         let room : length o.nodes ≡ length z.definitions.items + length draft.gates = o.are.room in
         omega arith
     in-order h (gate_at g) t f =
-        let e : length z.definitions.items + g ≡ h = some-same (length z.definitions.items + g) h f in
+        let e : length z.definitions.items + g ≡ h = same_Some (length z.definitions.items + g) h f in
         let room : length o.nodes ≡ length z.definitions.items + length draft.gates = o.are.room in
         let lt : g < length draft.gates = t in
         omega arith

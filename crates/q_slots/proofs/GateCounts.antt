@@ -1,13 +1,6 @@
 -- How many nodes of an order are gates.
-use Rattle.std.proofs.Common.{◌≡◌, ◌≢◌, ◌⊎◌, ℕ, zero, suc, ◌+◌, ◌<◌, ◌≤◌, Bool, true, false, cond, eqb, ltb, List, [], ◌∷◌, ◌++◌, length, get_or, inl, inr, arith, refl, sym, ap, ◌∙◌, subst}
+use Rattle.std.proofs.Common.{◌≡◌, ◌≢◌, ℕ, zero, suc, ◌+◌, ◌<◌, ◌≤◌, Bool, true, false, cond, eqb, ltb, List, [], ◌∷◌, ◌++◌, length, get_or, arith, refl, sym, ap, ◌∙◌, subst}
 use Rattle.q_slots.specs.Settled.{gates_among}
-
-pub same-or : (x y : ℕ) → (x ≡ y) ⊎ (x ≢ y)
-same-or x y = go (eqb x y) refl
-  where
-    go : (b : Bool) → eqb x y ≡ b → (x ≡ y) ⊎ (x ≢ y)
-    go true e = inl (grind arith)
-    go false e = inr (λ q. absurd (grind arith))
 
 pub among-last : (k : ℕ) (xs : List ℕ) (x : ℕ) →
     gates_among k (xs ++ x ∷ []) ≡ gates_among k xs + cond (ltb x k) 0 1

@@ -1,6 +1,7 @@
 -- Circuits with a circuit in place of each input.
 use Rattle.std.proofs.Common.{◌≡◌, ℕ, ◌+◌, ◌≤◌, Bool, true, false, not, ◌&&◌, cond, eqb, inl, inr, arith, refl, sym, ap, ap₂, ◌∙◌}
 use Rattle.q_logic.specs.Prelude.{Assignment, Circuit, constant, input, inverter, conjunction, value_of, Reads, replaced}
+use Rattle.q_logic.proofs.Common.{not-not}
 use Rattle.q_aig.specs.Prelude.{Serves}
 use Rattle.q_slots.specs.Under.{under, twice}
 
@@ -51,10 +52,6 @@ pub under-operand : (r : ℕ → Circuit) (b : Bool) (t : Circuit) →
     under r (cond b (inverter t) t) ≡ cond b (inverter (under r t)) (under r t)
 under-operand r true t = refl
 under-operand r false t = refl
-
-not-not : (a : Bool) → not (not a) ≡ a
-not-not true = refl
-not-not false = refl
 
 pub twice-serves : (t : Circuit) → Serves (twice t) t
 twice-serves t = record { values = λ A. not-not (value_of t A); reads = λ u h. h }

@@ -2,12 +2,11 @@
 use Rattle.std.proofs.Common.{◌≡◌, ◌⊎◌, ℕ, ◌+◌, ◌-◌, ◌<◌, ◌≤◌, Bool, true, false, cond, ltb, List, [], ◌∷◌, ◌++◌, length, get_or, slice_get, inl, inr, arith, refl, sym, ap, ◌∙◌, subst, Option, Some, None}
 use Rattle.std.proofs.lemmas.List.{length_push, get_or_append_left, get_or_push, get_or_past}
 use Rattle.std.proofs.lemmas.Bool.{cases_lt}
-use Rattle.std.proofs.lemmas.Option.{slice_get-get_or, get_or_from_slice_get}
+use Rattle.std.proofs.lemmas.Option.{slice_get-get_or, get_or_from_slice_get, same_Some, slice_get_within}
 use Rattle.q_logic.specs.Prelude.{Circuit, GateNode, falsum, input_at, gate_at, Operand, Gate, IsThere, node_tree, operand_tree, gate_tree, gate_trees}
 use Rattle.q_aig.specs.Prelude.{Net, tree_at, operand_of, IsNet}
 use Rattle.q_aig.proofs.Nets.{IsThere-more, AreGates-at}
 use Rattle.q_carry.specs.Prelude.{look_at, tree_of_gate}
-use Rattle.q_carry.proofs.LongerLists.{slice_get-below}
 use Rattle.q_carry.proofs.CircuitCopies.{gate-is}
 use Rattle.q_gates.specs.Gates.{no_gate}
 use Rattle.q_gates.specs.Uses.{Parts, part_at, parts_of, Uses, DependsOn, direct, further, AreDefined}
@@ -82,7 +81,7 @@ nodes-all a k ds ps ps2 e s g =
       slots = λ i lt. g.kept i (omega arith) ∙ s.parts i lt
           ∙ ap (λ (n : ℕ). (filled_part n a.inputs (look_at ds i), None)) e;
       gates = λ i x q.
-          let lt : i < length a.gates = slice_get-below a.gates i x q in
+          let lt : i < length a.gates = slice_get_within a.gates i x q in
           ap (λ (n : ℕ). part_at ps2 (n + i)) (sym room) ∙ g.parts i x lt q
           ∙ ap (λ (n : ℕ). (node_part n a.inputs x.left.node, node_part n a.inputs x.right.node)) e;
     }
@@ -110,9 +109,6 @@ gate-circuit a k r g =
     ap (λ (b : Bool). cond b (r (k + g)) (under r (tree_of_gate a (k + g - k)))) (above-is (k + g) k (omega arith))
     ∙ ap (λ (j : ℕ). under r (tree_of_gate a j)) e
 
-option-same : (x y : ℕ) → Some x ≡ Some y → x ≡ y
-option-same x y e = cc
-
 part-used : (a : Net) (k : ℕ) (r : ℕ → Circuit) (n : GateNode) (h : ℕ) →
     ((i : ℕ) → i < length a.inputs → get_or a.inputs i 0 < k) → IsThere (length a.inputs) (length a.gates) n →
     node_part k a.inputs n ≡ Some h →
@@ -120,13 +116,13 @@ part-used : (a : Net) (k : ℕ) (r : ℕ → Circuit) (n : GateNode) (h : ℕ) �
     (rank a k r h ≤ size (under r (node_tree a.inputs (gate_trees a.inputs [] a.gates) n)))
 part-used a k r falsum h names t e = absurd (cc)
 part-used a k r (input_at i) h names t e =
-    let q : get_or a.inputs i 0 ≡ h = option-same (get_or a.inputs i 0) h e in
+    let q : get_or a.inputs i 0 ≡ h = same_Some (get_or a.inputs i 0) h e in
     let lt : get_or a.inputs i 0 < k = names i t in
     let c : rank a k r h ≡ size (r h) = ap size (slot-circuit a k r h (omega arith)) in
     let d : size (r (get_or a.inputs i 0)) ≡ size (r h) = ap (λ (x : ℕ). size (r x)) q in
     (omega arith, omega arith)
 part-used a k r (gate_at g) h names t e =
-    let q : k + g ≡ h = option-same (k + g) h e in
+    let q : k + g ≡ h = same_Some (k + g) h e in
     let c : rank a k r (k + g) ≡ size (under r (tree_of_gate a g)) = ap size (gate-circuit a k r g) in
     let d : rank a k r (k + g) ≡ rank a k r h = ap (rank a k r) q in
     (omega arith, omega arith)

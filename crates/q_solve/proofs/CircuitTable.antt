@@ -1,7 +1,7 @@
 -- The table of circuits, one variable further, and the certificate that it gives.
 use Rattle.std.proofs.Common.{◌≡◌, ℕ, zero, suc, ◌+◌, ◌-◌, ◌<◌, ◌≤◌, Bool, true, false, cond, ◌&&◌, eqb, inl, inr, List, [], ◌∷◌, length, drop, get_or, map, refl, sym, ap, ◌∙◌, subst, arith, Option, Some, None}
 use Rattle.std.proofs.lemmas.List.{drop_more, drop_all}
-use Rattle.std.proofs.lemmas.Bool.{cases_Bool}
+use Rattle.std.proofs.lemmas.Bool.{cases_Bool, eqb-true}
 use Rattle.q_logic.specs.declared.formulas.Bound.{Bound}
 use Rattle.q_logic.specs.Prelude.{Prefix, PrenexFormula, Assignment, Circuit, value_of, NamedOutput, CertificateView, trees_of, Strategy, circuit_of, or_input, outcome, where_true, strategy_of, Lawful, SkolemOf, nothing}
 use Rattle.q_logic.specs.Prefixes.{is_exists, is_existential, is_universal, is_bound, place, Distinct, IsFormula}
@@ -10,8 +10,8 @@ use Rattle.q_logic.proofs.Truth.{none_bound}
 use Rattle.q_logic.proofs.Common.{existential-is_bound, MatrixTrue-agree}
 use Rattle.q_logic.proofs.PickedCircuits.{circuits-skolem}
 use Rattle.q_aig.specs.Prelude.{Net, tree_at, Serves}
-use Rattle.q_search.specs.Paths.{along}
 use Rattle.q_search.specs.Walks.{Walk}
+use Rattle.q_search.proofs.NodeSteps.{along-none}
 use Rattle.q_carry.specs.Prelude.{look_at, Stands, IsAt}
 use Rattle.q_carry.proofs.NamedCertificates.{existentials-named, not-given, made-serves, made-lawful}
 use Rattle.q_solve.specs.declared.picks.Pick.{Pick}
@@ -21,7 +21,6 @@ use Rattle.q_solve.specs.Waiting.{IsServing, IsWonAt}
 use Rattle.q_solve.specs.Written.{AreEntries, IsEntering, IsWritten}
 use Rattle.q_solve.specs.Found.{IsAnswer}
 use Rattle.q_solve.proofs.GrownRows.{below-more}
-use Rattle.q_solve.proofs.JoinedCircuits.{same-of}
 
 pub entering-start : (P : Prefix) (row : List Pick) (n : ℕ) (table : List (Option ℕ)) → n ≡ length P → table ≡ [] → IsRow 0 row → AreBelow (suc (length P)) row → IsEntering P row row n table
 entering-start P row n table e t r b = record {
@@ -41,7 +40,7 @@ entered-one b Q row m l tb tb2 d h e put x = put x ∙ go (is_exists b.quant) (e
         cond (q && s) (Some l) (look_at tb x) ≡ cond (cond t q (is_existential Q x)) (Some (lit_at row (suc (m + cond t 0 (suc (place Q x)))))) None
     go true true p true r k = ap Some (e ∙ ap (lit_at row) (let z : suc m ≡ suc (m + 0) = omega arith in z))
     go false true p true r k =
-        let s : b.var ≡ x = same-of b.var x r in
+        let s : b.var ≡ x = eqb-true b.var x r in
         let n : is_existential Q x ≡ false = none_bound Q x (subst (λ (v : ℕ). is_bound Q v ≡ false) s d) in
         k ∙ ap (λ (c : Bool). cond c (Some (lit_at row (suc (suc m + place Q x)))) None) n
     go q true p false r k = absurd (apart x b.var p r)
@@ -87,11 +86,6 @@ pub entering-end : (P : Prefix) (row left : List Pick) (before : ℕ) (tb : List
 entering-end P row left before tb h z =
     let e : before ≡ 0 = omega arith in
     subst (λ (i : ℕ). AreEntries (drop i P) i row tb) e h.entries
-
--- the root
-along-none : (P : Prefix) (A : Assignment) → along P [] A ≡ A
-along-none [] A = refl
-along-none (b ∷ P) A = refl
 
 stands : (a : Net) (P : Prefix) (row : List Pick) (c : ℕ → Circuit) (tb : List (Option ℕ)) (low : ℕ) → IsServing a P low row c → AreEntries P 0 row tb → (x : ℕ) → Stands a (strategy_of P c x) (look_at tb x)
 stands a P row c tb low s h x = subst (λ (m : Option ℕ). Stands a (where_true (is_existential P x) (c x)) m) (sym (h x)) (go (is_existential P x) refl)

@@ -1,6 +1,7 @@
 -- From a side to its decision.
 use Rattle.std.proofs.Common.{◌≡◌, ℕ, suc, ◌<◌, Bool, true, false, cond, not, eqb, List, [], ◌∷◌, ◌++◌, length, refl, sym, ap, ◌∙◌, subst, arith, Option, Some}
 use Rattle.std.proofs.lemmas.List.{length_push}
+use Rattle.std.proofs.lemmas.Bool.{eqb-true}
 use Rattle.q_logic.specs.declared.formulas.Quant.{Quant}
 use Rattle.q_logic.specs.declared.formulas.Quant.TheVariants.{Exists, Forall}
 use Rattle.q_logic.specs.declared.verdict.Verdict.TheVariants.{Won, Lost, Open}
@@ -23,7 +24,6 @@ use Rattle.q_solve.specs.Joins.{IsJoined}
 use Rattle.q_solve.specs.Waiting.{IsServing, IsWaiting, side_won, side_circuits, IsReady, found_here, IsWonAt, IsLostAt}
 use Rattle.q_solve.specs.Passes.{SameGraph, IsMerged, IsPassed, CanPass, IsDropped, has_second}
 use Rattle.q_solve.proofs.GrownRows.{below-push, row-weaker, row-push, lit-push, lit-above}
-use Rattle.q_solve.proofs.JoinedCircuits.{same-of}
 use Rattle.q_solve.proofs.WaitingCircuits.{waiting-kept, FirstWaits, LastWaits, waiting-last, found-open, circuits-open, found-won, found-lost, circuits-won, place-here, place-other, universal-here}
 
 pub passed-at : (p q : Quant) (v w : Bool) (x depth : ℕ) (old new : Circuits) → p ≡ q → v ≡ w → IsPassed q w x depth old new → IsPassed p v x depth old new
@@ -50,7 +50,7 @@ serve-zero a P m x row c e s = record {
     go : (y : ℕ) (t : Bool) → eqb y x ≡ t → Serves (tree_at a (lit_at row (suc (place P y)))) (c y) →
         Serves (tree_at a (lit_at row (suc (place P y)))) (cond t (constant false) (c y))
     go y true q r =
-        let g : y ≡ x = same-of y x q in
+        let g : y ≡ x = eqb-true y x q in
         let k : suc (place P y) ≡ suc m = ap (λ (z : ℕ). suc (place P z)) g ∙ ap suc e in
         let n : lit_at row (suc (place P y)) ≡ 0 = lit-above (suc (suc m)) (suc (place P y)) row s.order (omega arith) in
         subst (λ (l : ℕ). Serves (tree_at a l) (constant false)) (sym n) (serves-self (constant false))
@@ -82,14 +82,14 @@ serve-one a P m x row c b e s = record {
         Serves (tree_at a (cond r 1 (lit_at row (suc (place P y))))) (cond t (constant true) (c y))
     go y h true q true p z = one-serves a
     go y h true q false p z =
-        let g : y ≡ x = same-of y x q in
+        let g : y ≡ x = eqb-true y x q in
         let k : place P y ≡ m = ap (place P) g ∙ e in
         absurd (apart m (place P y) (sym k) p)
       where
         apart : (i j : ℕ) → i ≡ j → eqb (suc i) (suc j) ≡ false → ⊥
         apart i j f n = grind arith
     go y h false q true p z =
-        let k : suc m ≡ suc (place P y) = same-of (suc m) (suc (place P y)) p in
+        let k : suc m ≡ suc (place P y) = eqb-true (suc m) (suc (place P y)) p in
         let i : place P y ≡ place P x = omega arith in
         let g : y ≡ x = place-other P y x h i in
         absurd (apart y x g q)

@@ -1,16 +1,15 @@
 -- Clauses that are counted and entered.
-use Rattle.std.proofs.Common.{IsTrue, ◌↔◌, not, ◌≡◌, ℕ, suc, ◌+◌, ◌<◌, ◌≤◌, inl, inr, Bool, true, false, cond, ◌&&◌, eqb, List, [], ◌∷◌, ◌++◌, length, drop, get_or, slice_get, Some, refl, sym, ap, ◌∙◌, subst, arith}
+use Rattle.std.proofs.Common.{IsTrue, ◌↔◌, ◌≡◌, ℕ, suc, ◌+◌, ◌<◌, ◌≤◌, inl, inr, Bool, true, false, cond, ◌&&◌, eqb, List, [], ◌∷◌, ◌++◌, length, drop, get_or, slice_get, Some, refl, sym, ap, ◌∙◌, subst, arith}
 use Rattle.std.proofs.lemmas.Bool.{cases_lt, cases_eq}
-use Rattle.std.proofs.lemmas.List.{get_or_past, length_push, get_or_push, get_or_append_left}
+use Rattle.std.proofs.lemmas.List.{get_or_past, length_push, get_or_push, get_or_append_left, drop_all}
 use Rattle.std.proofs.lemmas.Option.{get_or_from_slice_get}
-use Rattle.q_logic.specs.Prelude.{Literal, literal_eq, bool_eq, negation, Clause, Prefix, PrenexFormula, IsIn, has, is_tautology, IsTautology, nothing}
+use Rattle.q_logic.specs.Prelude.{Literal, literal_eq, bool_eq, Clause, Prefix, PrenexFormula, is_tautology, IsTautology, nothing}
 use Rattle.q_logic.specs.Prefixes.{is_bound, place}
 use Rattle.q_logic.specs.declared.verdict.Standing.{Standing}
 use Rattle.q_logic.specs.Decisions.{is_true, standing}
-use Rattle.q_logic.proofs.Decided.{or-either}
-use Rattle.q_logic.proofs.Common.{IsIn-has, negation-negation, is_tautology-sound}
+use Rattle.q_logic.proofs.Common.{is_tautology-sound, is_tautology-whole}
 use Rattle.q_search.specs.Paths.{along, rest_of}
-use Rattle.q_search.proofs.PathValues.{drop-step, drop-none}
+use Rattle.q_search.proofs.PathValues.{drop-step}
 use Rattle.q_counts.specs.declared.counts.Count.{Count}
 use Rattle.q_counts.specs.Counting.{if_so, is_chosen, how_many, count_of, times, times_in, clause_at, count_at, row_at, IsGrown}
 use Rattle.q_counts.proofs.CountChanges.{times-append, none-and, so-few}
@@ -183,20 +182,8 @@ loaded-all F s row j l e = record {
 }
 
 -- a clause that holds a variable in both signs
-tautology-whole : (C : Clause) → IsTautology C → is_tautology C ≡ true
-tautology-whole [] t = elim t.1 [ ]
-tautology-whole (j ∷ C) (k, inl e, inl f) = absurd (let z = ap (λ (l : Literal). l.negative) (e ∙ sym f) in no-own k.negative z)
-  where
-    no-own : (b : Bool) → b ≡ not b → ⊥
-    no-own true h = absurd (cc)
-    no-own false h = absurd (cc)
-tautology-whole (j ∷ C) (k, inl e, inr n) = or-either (has (negation j) C) (is_tautology C) (inl (IsIn-has (negation j) C (subst (λ (l : Literal). IsIn (negation l) C) e n)))
-tautology-whole (j ∷ C) (k, inr m, inl f) =
-    or-either (has (negation j) C) (is_tautology C) (inl (IsIn-has (negation j) C (subst (λ (l : Literal). IsIn l C) (sym (negation-negation k) ∙ ap negation f) m)))
-tautology-whole (j ∷ C) (k, inr m, inr n) = or-either (has (negation j) C) (is_tautology C) (inr (tautology-whole C (k, m, n)))
-
 pub tautology-told : (C : Clause) (r : Bool) → (IsTrue r ↔ IsTautology C) → r ≡ is_tautology C
-tautology-told C true h = sym (tautology-whole C (h.0 refl))
+tautology-told C true h = sym (is_tautology-whole C (h.0 refl))
 tautology-told C false h = go (is_tautology C) refl
   where
     go : (b : Bool) → is_tautology C ≡ b → false ≡ b
@@ -222,8 +209,8 @@ counting-more g C c d i k s h l e q n =
 
 pub counting-all : (g : Literal → Standing) (C : Clause) (c : Count) (i : ℕ) → IsCounting g C c i → length C ≤ i → c ≡ count_of g C
 counting-all g C c i h l =
-    let t : c.trues + 0 ≡ how_many is_true g C = ap (λ (D : Clause). c.trues + how_many is_true g D) (sym (drop-none C i l)) ∙ h.trues in
-    let o : c.opens + 0 ≡ how_many is_chosen g C = ap (λ (D : Clause). c.opens + how_many is_chosen g D) (sym (drop-none C i l)) ∙ h.opens in
+    let t : c.trues + 0 ≡ how_many is_true g C = ap (λ (D : Clause). c.trues + how_many is_true g D) (sym (drop_all i C l)) ∙ h.trues in
+    let o : c.opens + 0 ≡ how_many is_chosen g C = ap (λ (D : Clause). c.opens + how_many is_chosen g D) (sym (drop_all i C l)) ∙ h.opens in
     let a : c.trues ≡ how_many is_true g C = omega arith in
     let b : c.opens ≡ how_many is_chosen g C = omega arith in
     let d : c.both ≡ is_tautology C = h.both in

@@ -110,9 +110,3 @@ taken-none row at depth n r b =
         let d : get_or row at p ∷ drop (at + 1) row ≡ p ∷ qs = sym (drop_more row at p lt) ∙ e in
         let g : p ≡ get_or row at p = cc in
         n lt p g f
-
--- what was read, whatever the default
-pub read-at : {X : Type 0} (xs : List X) (i : ℕ) (x d : X) → i < length xs → x ≡ get_or xs i x → x ≡ get_or xs i d
-read-at [] i x d h e = absurd (omega arith)
-read-at (y ∷ xs) zero x d h e = e
-read-at (y ∷ xs) (suc i) x d h e = read-at xs i x d (omega arith) e

@@ -1,6 +1,6 @@
 -- Joins, place by place.
 use Rattle.std.proofs.Common.{◌≡◌, ℕ, suc, ◌<◌, ◌≤◌, Bool, true, false, not, ◌&&◌, cond, eqb, max, List, [], ◌∷◌, ◌++◌, refl, sym, ◌∙◌, subst, inl, inr, arith}
-use Rattle.std.proofs.lemmas.Bool.{cases_lt}
+use Rattle.std.proofs.lemmas.Bool.{cases_lt, eqb-true}
 use Rattle.q_logic.specs.Prelude.{value_of, inverter, conjunction}
 use Rattle.q_aig.specs.Prelude.{Net, IsLiteral, tree_at, operand_of, turned, Keeps, Serves, IsConjunction}
 use Rattle.q_aig.proofs.Substitutes.{serves-same, serves-then, serves-inverter, serves-conjunction, turned-serves}
@@ -115,9 +115,6 @@ least-of low end a b e f g z = elim (cases_lt a b) [
   | inr l ↦ let m : low ≤ a = f (omega arith) in omega arith
 ]
 
-pub same-of : (m n : ℕ) → eqb m n ≡ true → m ≡ n
-same-of m n e = grind arith
-
 below-other : (k end : ℕ) → k ≤ end → eqb end k ≡ false → k < end
 below-other k end le e = grind arith
 
@@ -217,7 +214,7 @@ joining-more old now new u low end end2 l x y second first s t s2 t2 joined join
       where
         go : (b : Bool) → eqb end k ≡ b → Serves (tree_at new (cond b l (lit_at joined k))) (chosen old u (lit_at second k) (lit_at first k))
         go true e =
-            let f : end ≡ k = same-of end k e in
+            let f : end ≡ k = eqb-true end k e in
             subst (λ (m : ℕ). Serves (tree_at new l) (chosen old u (lit_at second m) (lit_at first m))) f placed
         go false e = other k le e
 

@@ -1,6 +1,7 @@
 -- Circuits that wait along a path.
 use Rattle.std.proofs.Common.{◌≡◌, ℕ, suc, Bool, true, false, cond, not, eqb, List, [], ◌∷◌, ◌++◌, length, refl, sym, ap, ◌∙◌, subst, arith}
 use Rattle.std.proofs.lemmas.List.{same_from_push}
+use Rattle.std.proofs.lemmas.Bool.{eqb-true}
 use Rattle.q_logic.specs.declared.formulas.Quant.{Quant}
 use Rattle.q_logic.specs.declared.formulas.Quant.TheVariants.{Exists, Forall}
 use Rattle.q_logic.specs.declared.formulas.Bound.{Bound}
@@ -9,13 +10,14 @@ use Rattle.q_logic.specs.declared.verdict.Verdict.TheVariants.{Won, Lost, Open}
 use Rattle.q_logic.specs.Prelude.{Prefix, Assignment, with_value, Circuit, constant, Test, Tally, explored, goes_on, then_second, by_verdict, one_more, plus, leaf, nothing}
 use Rattle.q_logic.specs.Prefixes.{is_exists, is_bound, is_universal, place, Distinct}
 use Rattle.q_logic.specs.Decisions.{circuits_at, joined, is_open}
+use Rattle.q_logic.proofs.Common.{universal-is_bound}
 use Rattle.q_aig.specs.Prelude.{Net, Keeps}
 use Rattle.q_aig.proofs.Substitutes.{serves-then}
 use Rattle.q_search.specs.Paths.{rest_of, said}
 use Rattle.q_solve.specs.declared.picks.Pick.{Pick}
 use Rattle.q_solve.specs.Picks.{lit_at}
 use Rattle.q_solve.specs.Waiting.{IsServing, IsWaiting, side_won, side_circuits}
-use Rattle.q_solve.proofs.JoinedCircuits.{kept-serves, same-of}
+use Rattle.q_solve.proofs.JoinedCircuits.{kept-serves}
 
 -- later gates change nothing
 pub serving-kept : (a b : Net) (P : Prefix) (low : ℕ) (row : List Pick) (c : ℕ → Circuit) → Keeps a b → IsServing a P low row c → IsServing b P low row c
@@ -147,14 +149,6 @@ rest-bound (c ∷ P) (v ∷ vs) b R e =
     go true i = refl
     go false i = i
 
-universal-is_bound : (P : Prefix) (x : ℕ) → is_universal P x ≡ true → is_bound P x ≡ true
-universal-is_bound [] x h = absurd (cc)
-universal-is_bound (b ∷ P) x h = go (eqb b.var x) h (universal-is_bound P x)
-  where
-    go : (t : Bool) → cond t (not (is_exists b.quant)) (is_universal P x) ≡ true → (is_universal P x ≡ true → is_bound P x ≡ true) → cond t true (is_bound P x) ≡ true
-    go true h f = refl
-    go false h f = f h
-
 pub place-here : (P : Prefix) (vs : List Bool) (b : Bound) (R : Prefix) → Distinct P → rest_of P vs ≡ b ∷ R → place P b.var ≡ length vs
 place-here [] [] b R d e = absurd (cc)
 place-here (c ∷ P) [] b R d e =
@@ -173,7 +167,7 @@ place-other (c ∷ P) x y b e = go (eqb c.var x) refl (eqb c.var y) refl b e (pl
   where
     go : (s : Bool) → eqb c.var x ≡ s → (t : Bool) → eqb c.var y ≡ t → cond s true (is_bound P x) ≡ true → cond s 0 (suc (place P x)) ≡ cond t 0 (suc (place P y)) →
         (is_bound P x ≡ true → place P x ≡ place P y → x ≡ y) → x ≡ y
-    go true p true q b e r = (let h : c.var ≡ x = same-of c.var x p in let g : c.var ≡ y = same-of c.var y q in sym h ∙ g)
+    go true p true q b e r = (let h : c.var ≡ x = eqb-true c.var x p in let g : c.var ≡ y = eqb-true c.var y q in sym h ∙ g)
     go true p false q b e r = absurd (omega arith)
     go false p true q b e r = absurd (omega arith)
     go false p false q b e r = r b (omega arith)

@@ -1,8 +1,7 @@
 -- A clause within another one is no longer than that.
 use Rattle.std.proofs.Common.{◌≡◌, ◌≢◌, ◌≤◌, ◌<◌, ◌⊎◌, ℕ, Bool, true, false, [], ◌∷◌, length, refl, sym, ap, ◌∙◌, subst, inl, inr, arith, true≢false}
 use Rattle.q_logic.specs.Prelude.{Literal, IsBelow, negation, literal_eq, pack, Clause, IsIn, ArePairs, without, IsSubset}
-use Rattle.q_logic.proofs.Common.{literal_eq-sound, literal_eq-itself, same_or_not, without-other, IsIn-without, without-IsIn}
-use Rattle.q_kernel.proofs.KernelRuns.{without-in_order}
+use Rattle.q_logic.proofs.Common.{literal_eq-sound, literal_eq-itself, same_or_not, without-other, IsIn-without, without-IsIn, without-in_order}
 use Rattle.q_kernel.proofs.KernelInvariant.{length-shorter}
 use Rattle.q_subsume.specs.Looks.{IsTurnedWithin}
 use Rattle.q_ordered.proofs.OrderedClauses.{all-below}

@@ -1,22 +1,12 @@
 -- What the tests of two clauses tell of a target.
-use Rattle.std.proofs.Common.{◌≡◌, ◌≢◌, ◌↔◌, ℕ, Bool, true, false, not, Option, Some, None, IsTrue, refl, sym, ap, ◌∙◌, subst, true≢false}
+use Rattle.std.proofs.Common.{◌≡◌, ◌≢◌, ◌↔◌, ℕ, Bool, true, false, not, Option, Some, None, IsTrue, refl, sym, ap, subst, true≢false}
 use Rattle.std.specs.Option.{is_some}
+use Rattle.std.proofs.lemmas.Option.{same_Some}
 use Rattle.q_logic.specs.declared.rule_bounds.Bounds.{Bounds}
-use Rattle.q_logic.specs.Prelude.{Literal, negation, literal_eq, Clause, Prefix, IsIn, IsSubset, Slots, slot, subsumed, strengthen, Fits}
-use Rattle.q_logic.proofs.Common.{literal_eq-itself, literal_eq-negation}
+use Rattle.q_logic.specs.Prelude.{Literal, negation, Clause, Prefix, IsIn, IsSubset, Slots, slot, subsumed, strengthen, Fits}
+use Rattle.q_logic.proofs.Common.{not-negation}
+use Rattle.q_rule.proofs.IdClauses.{slot-one}
 use Rattle.q_subsume.specs.Looks.{AreTwo, IsTurnedWithin}
-
-pub not-negation : (l : Literal) → l ≡ negation l → ⊥
-not-negation l e =
-    let a = literal_eq-negation l in
-    let b : literal_eq l (negation l) ≡ true = subst (λ (z : Literal). literal_eq l z ≡ true) e (literal_eq-itself l) in
-    true≢false (sym b ∙ a)
-
-same_literal : (j k : Literal) → Some j ≡ Some k → j ≡ k
-same_literal j k e = cc
-
-same_clause : (N : Slots) (c : ℕ) (C D : Clause) → slot N c ≡ Some C → slot N c ≡ Some D → C ≡ D
-same_clause N c C D e f = let g : Some C ≡ Some D = sym e ∙ f in cc
 
 no_literal : (k : Literal) → None ≡ Some k → ⊥
 no_literal k e = cc
@@ -44,7 +34,7 @@ pub turned-told : (C D : Clause) (l : Literal) (o : Option Literal) (b : Bool) �
 turned-told C D l o b s held some none = (
   (λ t. record {
     held = held.0;
-    rest = λ k m n. (none (said-none o b s t) k m (λ e. n (sym (same_literal (negation l) k e))), (λ e. held.1 (subst (λ (x : Literal). IsIn x C) e m)));
+    rest = λ k m n. (none (said-none o b s t) k m (λ e. n (sym (same_Some (negation l) k e))), (λ e. held.1 (subst (λ (x : Literal). IsIn x C) e m)));
   }),
   (λ h. said-some o b s (λ k e. let r = some k e in r.2 (h.rest k r.0 (λ f. r.1 (ap Some (sym f)))).0)),
 )
@@ -57,15 +47,15 @@ not-turned C D l m h = (h.rest l m (not-negation l)).1 refl
 pub subsumed-told : (B : Bounds) (P : Prefix) (N : Slots) (c d : ℕ) (C D : Clause) (b : Bool) → AreTwo N c d → slot N c ≡ Some C → slot N d ≡ Some D → IsTrue b ↔ IsSubset C D → IsTrue b ↔ Fits B P N (subsumed c d)
 subsumed-told B P N c d C D b two e f h = (
   (λ t. (C, D, two.apart, e, f, h.0 t)),
-  (λ (E, G, n, g, i, w). h.1 (subst (λ (x : Clause). IsSubset x D) (same_clause N c E C g e) (subst (λ (x : Clause). IsSubset E x) (same_clause N d G D i f) w))),
+  (λ (E, G, n, g, i, w). h.1 (subst (λ (x : Clause). IsSubset x D) (slot-one N c E C g e) (subst (λ (x : Clause). IsSubset E x) (slot-one N d G D i f) w))),
 )
 
 pub strengthen-told : (B : Bounds) (P : Prefix) (N : Slots) (c d : ℕ) (l : Literal) (C D : Clause) (b : Bool) → AreTwo N c d → slot N c ≡ Some C → slot N d ≡ Some D → IsTrue b ↔ (IsIn (negation l) C × IsTurnedWithin C D l) → IsTrue b ↔ Fits B P N (strengthen c d l)
 strengthen-told B P N c d l C D b two e f h = (
   (λ t. let r = h.0 t in (C, D, two.apart, e, f, r.1.held, r.0, r.1.rest)),
   (λ (E, G, n, g, i, inD, inC, w). h.1 (
-    subst (λ (x : Clause). IsIn (negation l) x) (same_clause N c E C g e) inC,
-    subst (λ (x : Clause). IsTurnedWithin x D l) (same_clause N c E C g e) (subst (λ (x : Clause). IsTurnedWithin E x l) (same_clause N d G D i f) (record { held = inD; rest = w })),
+    subst (λ (x : Clause). IsIn (negation l) x) (slot-one N c E C g e) inC,
+    subst (λ (x : Clause). IsTurnedWithin x D l) (slot-one N c E C g e) (subst (λ (x : Clause). IsTurnedWithin E x l) (slot-one N d G D i f) (record { held = inD; rest = w })),
   )),
 )
 

@@ -3,18 +3,16 @@ use Rattle.std.proofs.Common.{◌≡◌, ◌≢◌, ◌≤◌, ◌+◌, ◌*◌,
 use Rattle.q_logic.specs.Prelude.{Literal, negation, literal_eq, Clause, Matrix, IsIn, without, Implied, standard, IsInLimits, size_of, add, delete, one_less, literals_in, KeepsLimits, first_of, IsSubset, Slots, slot, set_slot, live, others, formula_of, shortened, AreAlike}
 use Rattle.q_logic.specs.Targets as theory
 use Rattle.q_logic.proofs.Common.{literal_eq-sound, others-slot, live-slot, without-shorter, IsIn-without, without-IsIn, implied-subsumed, implied-hidden_new, SameClauses, IsIn-alike, alike-sym}
+use Rattle.q_logic.proofs.HintedRuns.{live-changed}
 use Rattle.q_log.specs.Texts.{step_text}
+use Rattle.q_log.proofs.WritableRuns.{first-of}
 use Rattle.q_kernel.specs.Prelude.{Seen, slots, formula_in, IsSound, MayDelete, MayShrink, IsDeleted, IsShrunk}
-use Rattle.q_kernel.proofs.SlotLists.{alike-others, alike-replaced, literals-others, size-replaced, size-gone}
-use Rattle.q_kernel.proofs.TextCosts.{first-first}
+use Rattle.q_kernel.proofs.SlotLists.{alike-others, literals-others, size-replaced, size-gone}
 use Rattle.q_rule.specs.Becoming.{CanChange, IsChanged}
-use Rattle.q_rule.proofs.RuleSteps.{clause-in, clause-within, implied-cost, shrink-cost}
+use Rattle.q_rule.proofs.RuleSteps.{clause-in, clause-within, implied-cost, shrink-cost, enough}
 use Rattle.q_rule.proofs.RemovalLoops.{limits-shorter}
 use Rattle.q_rule.proofs.TargetChanges.{changed-tautology}
 use Rattle.q_subsume.specs.Looks.{IsTurnedWithin}
-
-enough : (a b c : ℕ) → a ≤ b → b ≤ c → a ≤ c
-enough a b c h i = omega arith
 
 -- Beside the clause C, which holds the negation of l and whose other literals are in D, l may leave D.
 pub turned-implied : (X : Matrix) (C D : Clause) (l : Literal) → IsIn C X → IsIn D X → IsIn (negation l) C → IsTurnedWithin C D l → Implied X (without l D)
@@ -40,7 +38,7 @@ module _ (k : Seen) (c d : ℕ) (C D : Clause) (s : IsSound k) (apart : c ≢ d)
   may-go_subsumed w b = record {
     clause = D;
     there = there;
-    first = first-first D;
+    first = first-of D;
     step = record {
       valid = (clause-within k d D s there, clause-in k d D s there, inl (implied-subsumed (one_less D (live (slots k))) C D inner-left w));
       bytes = enough (length (step_text (delete (first_of D) D))) (16 * (length D + 1)) k.spare_bytes (implied-cost k d D s there) b;
@@ -76,7 +74,7 @@ pub changed-strengthen : (old new : Seen) (c d : ℕ) (l : Literal) → IsSound 
 changed-strengthen old new c d l s h b g = record {
   led = g.led;
   alike = subst (λ o. AreAlike (formula_of old.prefix (shortened l o (others d (slots old)))) (formula_in new)) (sym g.was)
-      (record { prefix = sym g.prefix; clauses = subst (λ (N : Slots). SameClauses (without l g.clause ∷ others d (slots old)) (live N)) (sym g.change) (alike-sym (live (set_slot d (Some (without l g.clause)) (slots old))) (without l g.clause ∷ others d (slots old)) (alike-replaced (slots old) d g.clause (without l g.clause) g.was)) });
+      (record { prefix = sym g.prefix; clauses = subst (λ (N : Slots). SameClauses (without l g.clause ∷ others d (slots old)) (live N)) (sym g.change) (alike-sym (live (set_slot d (Some (without l g.clause)) (slots old))) (without l g.clause ∷ others d (slots old)) (live-changed (slots old) d g.clause (without l g.clause) g.was)) });
   limits = limits-shorter old new d l g.clause g.was g.change g.prefix h;
   bytes = subst (λ P. 16 * (size_of (live (slots new)) + length P) ≤ new.spare_bytes) (sym g.prefix)
       (shrunk (size_of (live (slots old))) (size_of (live (slots new))) (length g.clause) (length old.prefix) old.spare_bytes new.spare_bytes (length (step_text (add (first_of (without l g.clause)) (without l g.clause))) + length (step_text (delete (first_of g.clause) g.clause)))

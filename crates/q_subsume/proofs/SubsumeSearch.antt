@@ -1,9 +1,10 @@
 -- What a search has seen.
 use Rattle.std.proofs.Common.{◌≡◌, ◌≢◌, ◌⊎◌, ◌≤◌, ◌<◌, ◌+◌, ◌++◌, ℕ, List, Bool, true, false, cond, [], ◌∷◌, Option, Some, None, length, refl, sym, ap, ◌∙◌, subst, inl, inr, arith, true≢false}
 use Rattle.std.specs.Option.{is_some}
+use Rattle.std.proofs.lemmas.Bool.{cases_lt}
 use Rattle.q_logic.specs.declared.rule_bounds.Bounds.{Bounds}
 use Rattle.q_logic.specs.Prelude.{Literal, IsBelow, negation, Clause, Matrix, Prefix, IsIn, ArePairs, IsSubset, Slots, slot, live, others, formula_of, IsSwept, has_empty, occurring, falsity, place, Fits}
-use Rattle.q_logic.proofs.Common.{same_or_not, negation-negation, live-slot, others-slot}
+use Rattle.q_logic.proofs.Common.{same_or_not, negation-negation, live-slot, others-slot, before_or_at}
 use Rattle.q_kernel.specs.Prelude.{Seen, slots, formula_in, HoldsLiteral, IsLive}
 use Rattle.q_kernel.proofs.SlotLists.{length-others, IsIn-has_empty}
 use Rattle.q_subsume.specs.declared.target.Target.{Target}
@@ -13,14 +14,8 @@ use Rattle.q_subsume.specs.Looks.{IsTurnedWithin}
 use Rattle.q_subsume.specs.Searches.{IsBetween, IsBy, IsBehind, IsBefore, IsAmong}
 use Rattle.q_rule.specs.Searching.{IsFound}
 use Rattle.q_rule.proofs.RuleSearch.{found-none, is_some-not}
+use Rattle.q_rule.proofs.IdClauses.{slot-one, slot-none}
 use Rattle.q_subsume.proofs.ClauseLengths.{within-length, turned-length}
-
--- Two clauses.
-pub one : (N : Slots) (n : ℕ) (C D : Clause) → slot N n ≡ Some C → slot N n ≡ Some D → C ≡ D
-one N n C D e f = let g : Some C ≡ Some D = sym e ∙ f in cc
-
-no_clause : (N : Slots) (c : ℕ) (C : Clause) → slot N c ≡ None → slot N c ≡ Some C → ⊥
-no_clause N c C e f = let g : None ≡ Some C = sym e ∙ f in cc
 
 -- what a target says of the clauses of its numbers
 pub record Says (C D : Clause) (t : Target) : Type 0 where
@@ -28,23 +23,23 @@ pub record Says (C D : Clause) (t : Target) : Type 0 where
 
 pub told : (B : Bounds) (P : Prefix) (N : Slots) (c d : ℕ) (C D : Clause) (t : Target) → slot N c ≡ Some C → slot N d ≡ Some D → IsBetween c d t → Fits B P N (target_of t) → Says C D t
 told B P N c d C D (Subsumed a b) e f q (E, G, n, g, i, w) =
-    let u : E ≡ C = one N c E C (subst (λ (x : ℕ). slot N x ≡ Some E) q.inner g) e in
-    let v : G ≡ D = one N d G D (subst (λ (x : ℕ). slot N x ≡ Some G) q.other i) f in
+    let u : E ≡ C = slot-one N c E C (subst (λ (x : ℕ). slot N x ≡ Some E) q.inner g) e in
+    let v : G ≡ D = slot-one N d G D (subst (λ (x : ℕ). slot N x ≡ Some G) q.other i) f in
     record { told = inl (subst (λ (x : Clause). IsSubset x D) u (subst (λ (x : Clause). IsSubset E x) v w)) }
 told B P N c d C D (Strengthen a b l) e f q (E, G, n, g, i, inD, inC, w) =
-    let u : E ≡ C = one N c E C (subst (λ (x : ℕ). slot N x ≡ Some E) q.inner g) e in
-    let v : G ≡ D = one N d G D (subst (λ (x : ℕ). slot N x ≡ Some G) q.other i) f in
+    let u : E ≡ C = slot-one N c E C (subst (λ (x : ℕ). slot N x ≡ Some E) q.inner g) e in
+    let v : G ≡ D = slot-one N d G D (subst (λ (x : ℕ). slot N x ≡ Some G) q.other i) f in
     let h : IsTurnedWithin E G l = record { held = inD; rest = w } in
     record { told = inr (l, refl, subst (λ (x : Clause). IsIn (negation l) x) u inC, subst (λ (x : Clause). IsTurnedWithin x D l) u (subst (λ (x : Clause). IsTurnedWithin E x l) v h)) }
 
--- a longer clause lies in no shorter one
+-- a longer clause lies in no shorter slot-one
 pub longer-none : (k : Seen) (c d : ℕ) (C D : Clause) → slot (slots k) c ≡ Some C → slot (slots k) d ≡ Some D → ArePairs IsBelow C → ArePairs IsBelow D → length D < length C → (t : Target) → IsBetween c d t → (B : Bounds) → Fits B k.prefix (slots k) (target_of t) → ⊥
 longer-none k c d C D e f o p h t q B g = elim ((told B k.prefix (slots k) c d C D t e f q g).told) [
   | inl w ↦ let z = within-length C D o p w in absurd (omega arith)
   | inr r ↦ let z = turned-length C D r.0 o p r.2 r.3 in absurd (omega arith)
 ]
 
--- a literal of C that D lacks is the one that is turned
+-- a literal of C that D lacks is the slot-one that is turned
 missing-turned : (C D : Clause) (m l : Literal) → IsIn m C → (IsIn m D → ⊥) → IsTurnedWithin C D l → negation m ≡ l
 missing-turned C D m l i n w = elim (same_or_not m (negation l)) [
   | inl e ↦ ap negation e ∙ negation-negation l
@@ -78,10 +73,10 @@ found-among k c from d l o s held h = record {
 -- Where c lies in d, d holds a literal of c or its negation.
 either : (B : Bounds) (k : Seen) (c : ℕ) (C : Clause) (m : Literal) (t : Target) → slot (slots k) c ≡ Some C → IsIn m C → inner_of t ≡ c → Fits B k.prefix (slots k) (target_of t) → HoldsLiteral k (place (target_of t)) m ⊎ HoldsLiteral k (place (target_of t)) (negation m)
 either B k c C m (Subsumed a b) e i q (E, G, n, g, j, w) =
-    let u : C ≡ E = one (slots k) c C E e (subst (λ (x : ℕ). slot (slots k) x ≡ Some E) q g) in
+    let u : C ≡ E = slot-one (slots k) c C E e (subst (λ (x : ℕ). slot (slots k) x ≡ Some E) q g) in
     inl (G, j, w m (subst (λ (x : Clause). IsIn m x) u i))
 either B k c C m (Strengthen a b l) e i q (E, G, n, g, j, inD, inC, w) =
-    let u : C ≡ E = one (slots k) c C E e (subst (λ (x : ℕ). slot (slots k) x ≡ Some E) q g) in
+    let u : C ≡ E = slot-one (slots k) c C E e (subst (λ (x : ℕ). slot (slots k) x ≡ Some E) q g) in
     elim (same_or_not m (negation l)) [
       | inl f ↦ inr (G, j, subst (λ (x : Literal). IsIn x G) (sym (ap negation f ∙ negation-negation l)) inD)
       | inr d ↦ inl (G, j, (w m (subst (λ (x : Clause). IsIn m x) u i) d).0)
@@ -136,7 +131,7 @@ inner-live B k (Strengthen a b l) f = record { there = (f.0, f.3) }
 pub tried-behind : (k : Seen) (start from : ℕ) → ((c : ℕ) → (start ≤ c) × IsLive (slots k) c → IsTried k from c) → IsFound target_of k (IsBehind start from) None
 tried-behind k start from h = found-none target_of k (IsBehind start from) (λ t q B f. (h (inner_of t) (q.behind, inner-live B k t f)).none.none refl t (record { inner = refl; order = q.order }) B f)
 
--- Clauses one after the other: those from one number on and before another.
+-- Clauses slot-one after the other: those from slot-one number on and before another.
 pub record ArePassed (k : Seen) (start from at' : ℕ) : Type 0 where
   pub order : start ≤ at'
   pub none : (t : Target) → start ≤ inner_of t → inner_of t < at' → from ≤ place (target_of t) → (B : Bounds) → Fits B k.prefix (slots k) (target_of t) → ⊥
@@ -144,16 +139,10 @@ pub record ArePassed (k : Seen) (start from at' : ℕ) : Type 0 where
 pub passed-begun : (k : Seen) (start from : ℕ) → ArePassed k start from start
 passed-begun k start from = record { order = omega arith; none = λ t l h m B f. absurd (omega arith) }
 
-below_or_not : (a b : ℕ) → (a < b) ⊎ (b ≤ a)
-below_or_not a b = grind arith
-
-before_or_at : (a p : ℕ) → a < p + 1 → (a < p) ⊎ (a ≡ p)
-before_or_at a p h = grind arith
-
 -- a target whose inner number has no clause does not fit
 inner-none : (B : Bounds) (k : Seen) (t : Target) → slot (slots k) (inner_of t) ≡ None → Fits B k.prefix (slots k) (target_of t) → ⊥
-inner-none B k (Subsumed a b) e f = no_clause (slots k) a f.0 e f.3
-inner-none B k (Strengthen a b l) e f = no_clause (slots k) a f.0 e f.3
+inner-none B k (Subsumed a b) e f = slot-none (slots k) a f.0 e f.3
+inner-none B k (Strengthen a b l) e f = slot-none (slots k) a f.0 e f.3
 
 pub dead-none : (k : Seen) (c from : ℕ) → (((C : Clause) × (slot (slots k) c ≡ Some C)) → ⊥) → (t : Target) → IsBy c from t → (B : Bounds) → Fits B k.prefix (slots k) (target_of t) → ⊥
 dead-none k c from n (Subsumed a b) q B f = n (f.0, subst (λ (x : ℕ). slot (slots k) x ≡ Some f.0) q.inner f.3)
@@ -163,7 +152,7 @@ pub passed-more : (k : Seen) (start from at' c : ℕ) → at' ≤ c → ((d : �
 passed-more k start from at' c up between h d = record {
   order = let z = d.order in omega arith;
   none = λ t s n m B f. elim (before_or_at (inner_of t) c n) [
-    | inl before ↦ elim (below_or_not (inner_of t) at') [
+    | inl before ↦ elim (cases_lt (inner_of t) at') [
       | inl low ↦ d.none t s low m B f
       | inr high ↦ inner-none B k t (between (inner_of t) high before) f
     ]
@@ -176,7 +165,7 @@ passed-before k end from at' l d = found-none target_of k (IsBefore end from) (�
 
 -- Once round all clauses.
 pub passed-round : (k : Seen) (start from : ℕ) → IsFound target_of k (IsBehind start from) None → IsFound target_of k (IsBefore start from) None → IsFound target_of k (λ t. from ≤ place (target_of t)) None
-passed-round k start from a b = found-none target_of k (λ t. from ≤ place (target_of t)) (λ t m B f. elim (below_or_not (inner_of t) start) [
+passed-round k start from a b = found-none target_of k (λ t. from ≤ place (target_of t)) (λ t m B f. elim (cases_lt (inner_of t) start) [
   | inl low ↦ b.none refl t (record { before = low; order = m }) B f
   | inr high ↦ a.none refl t (record { behind = high; order = m }) B f
 ])

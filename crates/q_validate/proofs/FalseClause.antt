@@ -1,8 +1,9 @@
 -- Literals that show which clause is false.
 use Rattle.std.proofs.Common.{◌≡◌, ℕ, Bool, true, false, cond, not, eqb, List, [], ◌∷◌, Option, Some, None, inl, inr, refl, sym, ap, ◌∙◌, subst, arith}
-use Rattle.q_logic.specs.Prelude.{Literal, Clause, Prefix, PrenexFormula, IsIn, is_exists, is_bound, is_existential, is_universal, universal_before, IsFormula, Assignment, signed, LiteralTrue, ClauseTrue, Circuit, value_of, Strategy, circuit_of, or_input, given, outcome, Lawful, CertificateView, trees_of}
+use Rattle.q_logic.specs.Prelude.{Literal, Clause, Prefix, PrenexFormula, IsIn, is_exists, is_bound, is_existential, is_universal, IsFormula, Assignment, signed, LiteralTrue, ClauseTrue, Circuit, value_of, Strategy, circuit_of, or_input, given, outcome, Lawful, CertificateView, trees_of}
 use Rattle.q_logic.specs.Branches.{true_literals, claim_of, search_of, counter, counter_at}
-use Rattle.q_logic.proofs.Common.{value_of-agree}
+use Rattle.q_logic.proofs.Common.{value_of-agree, is_bound-universal}
+use Rattle.q_carry.proofs.NamedCertificates.{before-universal}
 use Rattle.q_validate.specs.Answers.{Falsify}
 
 -- what a true literal says of its variable
@@ -30,14 +31,6 @@ told (b ∷ P) A B h u e = go (is_exists b.quant) (eqb b.var u) refl h e (told P
         subst (λ (v : ℕ). A v ≡ B v) s (same-value (A b.var) (B b.var) (h (record { var = b.var; negative = not (B b.var) }) (inl refl)))
     go false false q h e f = f (λ k i. h k (inr i)) u e
 
-before-universal : (P : Prefix) (u x : ℕ) → universal_before P u x ≡ true → is_universal P u ≡ true
-before-universal [] u x h = h
-before-universal (b ∷ P) u x h = grind (arith, before-universal P u x)
-
-bound-universal : (P : Prefix) (x : ℕ) → is_bound P x ≡ true → is_existential P x ≡ false → is_universal P x ≡ true
-bound-universal [] x b e = b
-bound-universal (c ∷ P) x b e = grind (arith, bound-universal P x)
-
 -- The outcome hangs on the universals alone.
 outcome-same : (P : Prefix) (c : Strategy) (A B : Assignment) → Lawful P c → ((u : ℕ) → is_universal P u ≡ true → A u ≡ B u) →
     (x : ℕ) → is_bound P x ≡ true → outcome c A x ≡ outcome c B x
@@ -49,7 +42,7 @@ outcome-same P c A B l h x b = go (is_existential P x) refl
 
     go : (e : Bool) → is_existential P x ≡ e → outcome c A x ≡ outcome c B x
     go true e = value_of-agree (circuit_of c x) A B (λ u r. h u (before-universal P u x (l.reads x e u r)))
-    go false e = input (c x) (l.trees x ∙ e) (h x (bound-universal P x b e))
+    go false e = input (c x) (l.trees x ∙ e) (h x (is_bound-universal P x b e))
 
 -- The literals that tell a counterexample show it.
 pub literals-falsify : (F : PrenexFormula) (c : Strategy) (B : Assignment) → IsFormula F → Lawful F.prefix c →

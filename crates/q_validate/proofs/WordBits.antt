@@ -8,6 +8,7 @@ use Rattle.std.proofs.Math.Pow.{pow_mono}
 use Rattle.std.proofs.lemmas.Option.{slice_get_past}
 use Rattle.q_logic.specs.Prelude.{bool_eq}
 use Rattle.q_logic.specs.Branches.{is_zero, is_one, known_both}
+use Rattle.q_logic.proofs.Common.{bool_eq-sound}
 use Rattle.q_validate.specs.Words.{bit, path_within, path_to, Tells}
 use Rattle.q_validate.specs.declared.words.TheConstants.{ZEROS, ONES}
 use Rattle.q_validate.specs.declared.words.Known.{Known}
@@ -65,12 +66,6 @@ all_below-one (suc n) t h m l = go (eqb m n) refl (all_below-one n t (parts (t n
     go : (b : Bool) → eqb m n ≡ b → (m < n → t m ≡ true) → t m ≡ true
     go true e f = let s : m ≡ n = grind arith in rw s (parts (t n) (all_below n t) h).0
     go false e f = f (let d : eqb m n ≡ false = e in grind arith)
-
-bool_eq-sound : (a b : Bool) → bool_eq a b ≡ true → a ≡ b
-bool_eq-sound true true h = refl
-bool_eq-sound true false h = absurd (cc)
-bool_eq-sound false true h = absurd (cc)
-bool_eq-sound false false h = refl
 
 -- the words of the inputs, all at once
 input_test : ℕ → ℕ → Bool

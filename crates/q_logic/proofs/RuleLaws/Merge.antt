@@ -1,5 +1,6 @@
 -- The laws of Merge: over the two clauses that join both literals each clause is implied in its new form.
 use Rattle.std.proofs.Common.{◌≡◌, ◌↔◌, ◌+◌, Bool, true, false, not, ◌&&◌, eqb, length, arith, refl, ap, subst}
+use Rattle.std.proofs.lemmas.Bool.{and_from}
 use Rattle.q_logic.specs.declared.rule_bounds.Bounds.{Bounds}
 use Rattle.q_logic.specs.Prelude.{Literal, Matrix, Prefix, is_existential, outer_or_same, Slots, live, formula_of, merge, Fits, change}
 use Rattle.q_logic.specs.Merging.{merged, joined, Mergeable}
@@ -9,7 +10,7 @@ use Rattle.q_logic.proofs.Ways.{at-most, clauses-weight, lits-weight}
 use Rattle.q_logic.proofs.InOrder.{merged-order}
 use Rattle.q_logic.proofs.MeasureFalls.{falls-merge}
 use Rattle.q_logic.proofs.MergeRun.{merge-run}
-use Rattle.q_logic.proofs.Decided.{and-parts, and-both}
+use Rattle.q_logic.proofs.Decided.{and-parts}
 use Rattle.q_logic.proofs.JoinedDecided.{decided-joined, AllOrdered}
 use Rattle.q_logic.proofs.RuleLaws.{Laws, false_true}
 
@@ -40,10 +41,10 @@ decided-merge B P N keep gone o = (there, back)
         record { different = differ a.0; existential = b.0; kept_outer = c.0; to_gone = (decided-joined (live N) keep gone o).0 d.0; to_keep = (decided-joined (live N) gone keep o).0 d.1 }
 
     back : Mergeable P (live N) keep gone → fits B P N (merge keep gone) ≡ true
-    back h = and-both (not (eqb keep.var gone.var)) (E && (O && (J && K))) (let z : eqb keep.var gone.var ≡ false = h.different in grind arith)
-        (and-both E (O && (J && K)) h.existential
-        (and-both O (J && K) h.kept_outer
-        (and-both J K ((decided-joined (live N) keep gone o).1 h.to_gone) ((decided-joined (live N) gone keep o).1 h.to_keep))))
+    back h = and_from (not (eqb keep.var gone.var)) (E && (O && (J && K))) (let z : eqb keep.var gone.var ≡ false = h.different in grind arith)
+        (and_from E (O && (J && K)) h.existential
+        (and_from O (J && K) h.kept_outer
+        (and_from J K ((decided-joined (live N) keep gone o).1 h.to_gone) ((decided-joined (live N) gone keep o).1 h.to_keep))))
 
 pub laws : (keep : Literal) (gone : Literal) → Laws (merge keep gone)
 laws keep gone = record {

@@ -2,13 +2,14 @@ use Rattle.std.proofs.Common.{◌≡◌, ◌∙◌, ◌++◌, ◌∷◌, [], ap,
 use Rattle.std.proofs.Math.Seq.{take-suc}
 use Rattle.std.proofs.lemmas.List.{get_or-take, length-take-le, length-map}
 use Rattle.q_logic.specs.Prelude.{NamedOutput, Operand, IsThere}
+use Rattle.q_logic.proofs.Common.{taken-all}
 use Rattle.q_aig.specs.Prelude.{operand_of, output_of, no_output}
 use Rattle.q_gates.specs.declared.gate.Source.TheVariants.{Constant}
 use Rattle.q_aiger.specs.Circuits.{with_names}
 use Rattle.q_gates.specs.Gates.{operand_view}
 use Rattle.q_aiger.specs.Standing.{operands_view}
 use Rattle.q_aiger.specs.Making.{through, output_through}
-use Rattle.q_aiger.proofs.GatePlaces.{named, output-at, outputs-length, take-all, operand-there}
+use Rattle.q_aiger.proofs.GatePlaces.{named, output-at, outputs-length, operand-there}
 use Rattle.q_aiger.proofs.making.name_outputs.Goals as goal
 
 pub literal-requires : goal.literal-requires
@@ -53,4 +54,4 @@ loop-at-preserved c = record {
 pub returns-clause-outputs : goal.returns-clause-outputs
 returns-clause-outputs c =
     let len = outputs-length c.args.rows.now.inputs.items c.args.rows.now.gates.items c.args.names.now c.args.outputs.now c.requires.same in
-    c.loop-at.invariant.outputs ∙ take-all (map (output_through c.args.rows.now.inputs.items c.args.rows.now.gates.items) (with_names c.args.names.now (operands_view c.args.outputs.now))) c.loop-at.at (omega arith)
+    c.loop-at.invariant.outputs ∙ taken-all (map (output_through c.args.rows.now.inputs.items c.args.rows.now.gates.items) (with_names c.args.names.now (operands_view c.args.outputs.now))) c.loop-at.at (omega arith)

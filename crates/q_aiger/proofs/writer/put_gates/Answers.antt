@@ -1,8 +1,9 @@
 use Rattle.std.proofs.Common.{◌≡◌, ◌∙◌, ap, length, get_or, arith, List, ℕ}
+use Rattle.q_logic.proofs.Common.{on_err}
 use Rattle.q_aig.specs.Prelude.{Net}
 use Rattle.q_aiger.proofs.OutputCones.{gate-parts}
 use Rattle.q_aiger.proofs.UnwrittenTexts.{gates-step, extends-append}
-use Rattle.q_text.proofs.LongerTexts.{extends-more, on-err}
+use Rattle.q_text.proofs.LongerTexts.{extends-more}
 use Rattle.q_aiger.proofs.writer.put_gates.Goals as goal
 
 pub literal-left-requires-clause-part : goal.literal-left-requires-clause-part
@@ -12,7 +13,7 @@ pub literal-right-requires-clause-part : goal.literal-right-requires-clause-part
 literal-right-requires-clause-part c = (gate-parts c.args.certificate.now c.aig-aig.result.now c.args.cones.now.kept.items c.loop-place.place _ c.operands-left.result c.aig-aig.ensures c.requires.cones (omega arith) (ap (λ (xs : List ℕ). get_or xs c.loop-place.place 0) c.deref-gate-items.ensures.value) c.operands-left.ensures.value).1
 
 pub returns-in_err-put_gate-clause-err : goal.returns-in_err-put_gate-clause-err
-returns-in_err-put_gate-clause-err c = on-err c.from_residual.result (extends-more _ _ _ c.loop-place.invariant.before c.in_err-put_gate.ensures.err)
+returns-in_err-put_gate-clause-err c = on_err c.from_residual.result (extends-more _ _ _ c.loop-place.invariant.before c.in_err-put_gate.ensures.err)
 
 pub loop-place-preserved : goal.loop-place-preserved
 loop-place-preserved c =

@@ -1,12 +1,13 @@
 use Rattle.std.proofs.Common.{arith, map}
+use Rattle.q_logic.proofs.Common.{on_err}
 use Rattle.q_aig.specs.Prelude.{output_of}
 use Rattle.q_aiger.specs.Writing.{names_of}
 use Rattle.q_aiger.proofs.UnwrittenTexts.{symbols-step, length-names, name-at, extends-append}
-use Rattle.q_text.proofs.LongerTexts.{extends-more, on-err}
+use Rattle.q_text.proofs.LongerTexts.{extends-more}
 use Rattle.q_aiger.proofs.writer.put_output_symbols.Goals as goal
 
 pub returns-in_err-put_symbol-clause-err : goal.returns-in_err-put_symbol-clause-err
-returns-in_err-put_symbol-clause-err c = on-err c.from_residual.result (extends-more _ _ _ c.loop-place.invariant.before c.in_err-put_symbol.ensures.err)
+returns-in_err-put_symbol-clause-err c = on_err c.from_residual.result (extends-more _ _ _ c.loop-place.invariant.before c.in_err-put_symbol.ensures.err)
 
 pub loop-place-preserved : goal.loop-place-preserved
 loop-place-preserved c =

@@ -1,16 +1,17 @@
 use Rattle.std.proofs.Common.{◌≡◌, ap, length, map, arith}
 use Rattle.std.proofs.lemmas.List.{length-map}
+use Rattle.q_logic.proofs.Common.{on_err}
 use Rattle.q_aig.specs.Prelude.{output_of}
 use Rattle.q_aiger.proofs.OutputCones.{output-part}
 use Rattle.q_aiger.proofs.UnwrittenTexts.{outputs-step, extends-append}
-use Rattle.q_text.proofs.LongerTexts.{extends-more, on-err}
+use Rattle.q_text.proofs.LongerTexts.{extends-more}
 use Rattle.q_aiger.proofs.writer.put_outputs.Goals as goal
 
 pub literal-requires-clause-part : goal.literal-requires-clause-part
 literal-requires-clause-part c = (output-part c.args.certificate.now c.outputs-output-items.result.now c.loop-output.output-index _ c.outputs-output-items.ensures.value c.loop-output-test.true).0
 
 pub returns-in_err-put_line-clause-err : goal.returns-in_err-put_line-clause-err
-returns-in_err-put_line-clause-err c = on-err c.from_residual.result (extends-more _ _ _ c.loop-output.invariant.before c.in_err-put_line.ensures.err)
+returns-in_err-put_line-clause-err c = on_err c.from_residual.result (extends-more _ _ _ c.loop-output.invariant.before c.in_err-put_line.ensures.err)
 
 pub loop-output-preserved : goal.loop-output-preserved
 loop-output-preserved c =

@@ -1,7 +1,7 @@
 use Rattle.std.proofs.Common.{◌∙◌, sym, subst}
+use Rattle.std.proofs.lemmas.Option.{same_Some}
 use Rattle.q_logic.specs.UsualBounds.{usual}
 use Rattle.q_logic.specs.Prelude.{Clause, IsIn}
-use Rattle.q_kernel.proofs.Basics.{some-same}
 use Rattle.q_rule.proofs.TargetChanges.{change-clause}
 use Rattle.q_blocked.proofs.BlockedSteps.{may-drop_blocked}
 use Rattle.q_blocked.proofs.BlockedResults.{changed-blocked_forall}
@@ -17,4 +17,4 @@ pub returns : goal.returns
 returns c =
     let f = c.requires.fits usual in
     changed-blocked_forall c.args.kernel.now c.drop_pivot.new.self c.args.c c.args.l c.sound.ensures c.requires.limits c.requires.bytes
-    (λ C e. subst (λ (x : Clause). IsIn c.args.l x) (some-same f.0 C (sym f.1 ∙ e)) f.2) c.drop_pivot.ensures
+    (λ C e. subst (λ (x : Clause). IsIn c.args.l x) (same_Some f.0 C (sym f.1 ∙ e)) f.2) c.drop_pivot.ensures

@@ -1,7 +1,6 @@
 use Rattle.std.proofs.Common.{◌∙◌, ◌++◌, ◌∷◌, [], sym, ap}
 use Rattle.q_logic.specs.Prelude.{Clause}
-use Rattle.q_logic.proofs.Common.{taken-all}
-use Rattle.q_blocked.proofs.ListFronts.{taken}
+use Rattle.q_logic.proofs.Common.{taken-all, taken}
 use Rattle.q_blocked.proofs.clashing.fill.Goals as goal
 
 pub loop-k-preserved : goal.loop-k-preserved

@@ -1,9 +1,9 @@
 use Rattle.std.proofs.Common.{◌≡◌, ◌∙◌, ◌↔◌, List, Bool, true, false, Some, take, slice_get, sym, ap, subst, inl, inr}
+use Rattle.std.proofs.lemmas.Option.{same_Some}
 use Rattle.q_logic.specs.Prelude.{Literal, Clause, Matrix, Prefix, IsIn, is_existential, others}
 use Rattle.q_logic.specs.Blocking.{AllClash}
 use Rattle.q_logic.proofs.CoverRun.{in_or_not}
 use Rattle.q_kernel.specs.Prelude.{slots}
-use Rattle.q_kernel.proofs.Basics.{some-same}
 use Rattle.q_blocked.specs.Walks.{IsLooked, CoversNothing}
 use Rattle.q_blocked.specs.Growths.{IsPassive, CoveredBy}
 use Rattle.q_blocked.proofs.ClauseFronts.{place-front}
@@ -38,7 +38,7 @@ returns-then-is_bare c =
       c.requires.growing,
       Rattle.std.proofs.Common.refl,
       Rattle.std.proofs.Common.refl,
-      λ l e. subst (λ (j : Literal). IsPassive k.prefix X S j) (some-same c.at-l.result l (sym c.at-l.ensures ∙ e)) (passive k.prefix X S K c.at-l.result n h),
+      λ l e. subst (λ (j : Literal). IsPassive k.prefix X S j) (same_Some c.at-l.result l (sym c.at-l.ensures ∙ e)) (passive k.prefix X S K c.at-l.result n h),
       Rattle.std.proofs.Common.refl,
     )
 
@@ -51,7 +51,7 @@ returns-then-covers_nothing c =
       c.requires.growing,
       Rattle.std.proofs.Common.refl,
       Rattle.std.proofs.Common.refl,
-      λ l e. subst (λ (j : Literal). IsPassive k.prefix X S j) (some-same c.at-l.result l (sym c.at-l.ensures ∙ e)) (λ x. h),
+      λ l e. subst (λ (j : Literal). IsPassive k.prefix X S j) (same_Some c.at-l.result l (sym c.at-l.ensures ∙ e)) (λ x. h),
       Rattle.std.proofs.Common.refl,
     )
 
@@ -64,7 +64,7 @@ cover_by-requires-clause-found c l e =
     let new = c.end_stage-2.new.growth in
     let q : new.set ≡ S = c.end_stage-2.ensures.set in
     let f : new.found.items ≡ K = ap (λ v. v.items) c.end_stage-2.ensures.found in
-    let i : c.at-l.result ≡ l = some-same c.at-l.result l (sym c.at-l.ensures ∙ subst (λ (T : Clause). slice_get T c.args.place ≡ Some l) q e) in
+    let i : c.at-l.result ≡ l = same_Some c.at-l.result l (sym c.at-l.ensures ∙ subst (λ (T : Clause). slice_get T c.args.place ≡ Some l) q e) in
     let x : is_existential k.prefix c.at-l.result.var ≡ true = rw c.var.ensures.value at (sym c.is_existential.ensures ∙ c.if-not-is_existential.false) in
     let h : IsLooked k.prefix X c.at-l.result S K true = subst (λ (b : Bool). IsLooked k.prefix X c.at-l.result S K b) c.if-not-branch.false c.in_ok-covered_at.ensures in
     let s = c.is_bare.ensures.some c.if-is_bare.false in

@@ -1,7 +1,6 @@
 use Rattle.std.proofs.Common.{◌∙◌, ◌++◌, ◌∷◌, [], sym, ap, take, append_assoc, append-nil}
 use Rattle.q_logic.specs.Prelude.{Clause}
-use Rattle.q_logic.proofs.Common.{taken-all}
-use Rattle.q_blocked.proofs.ListFronts.{taken}
+use Rattle.q_logic.proofs.Common.{taken-all, taken}
 use Rattle.q_blocked.proofs.cover.push_all.Goals as goal
 
 pub loop-k-init : goal.loop-k-init

@@ -1,8 +1,9 @@
 use Rattle.std.proofs.Common.{◌≤◌, ◌∙◌, Option, sym, subst, arith, true≢false}
 use Rattle.q_logic.specs.Prelude.{place}
+use Rattle.q_logic.proofs.Common.{none_of}
 use Rattle.q_kernel.proofs.ForLoops.{live-turn, turn, each-came, All-more}
 use Rattle.q_rule.specs.Searching.{IsFound, IsAt}
-use Rattle.q_rule.proofs.RuleSearch.{found-more, none-is}
+use Rattle.q_rule.proofs.RuleSearch.{found-more}
 use Rattle.q_blocked.specs.declared.target.Target.{Target}
 use Rattle.q_blocked.specs.Targets.{target_of}
 use Rattle.q_blocked.proofs.BlockedSearch.{IsTried, tried-all}
@@ -22,7 +23,7 @@ returns-then-is_some c =
 pub loop-c-preserved : goal.loop-c-preserved
 loop-c-preserved c =
     let k = c.args.kernel.now in
-    let none = subst (λ (o : Option Target). IsFound target_of k (IsAt target_of c.in-Some.c) o) (none-is c.in_ok-found.found (sym c.is_some.ensures ∙ c.if-is_some.false)) c.in_ok-found.ensures.found in
+    let none = subst (λ (o : Option Target). IsFound target_of k (IsAt target_of c.in-Some.c) o) (none_of c.in_ok-found.found (sym c.is_some.ensures ∙ c.if-is_some.false)) c.in_ok-found.ensures.found in
     record {
       tried = All-more (IsTried k) c.loop-c.yielded c.in-Some.c c.loop-c.invariant.tried (record { none = none });
       units = c.in_ok-found.ensures.units;

@@ -1,8 +1,7 @@
 use Rattle.std.proofs.Common.{◌≡◌, ◌∙◌, sym, ap, subst, Some, inl, inr}
 use Rattle.q_logic.specs.Prelude.{Literal, Clause, IsIn}
 use Rattle.q_blocked.specs.Searches.{IsOn}
-use Rattle.q_logic.proofs.Common.{item-in, taken-cases, taken-all}
-use Rattle.q_rule.proofs.RuleSearch.{none-is}
+use Rattle.q_logic.proofs.Common.{item-in, taken-cases, taken-all, none_of}
 use Rattle.q_blocked.proofs.BlockedSearch.{AreNone, found-on, found-pivot}
 use Rattle.q_blocked.proofs.find.find_pivot.Goals as goal
 
@@ -22,7 +21,7 @@ loop-l-init c l m = absurd m
 pub loop-l-preserved : goal.loop-l-preserved
 loop-l-preserved c k m t q B f = elim (taken-cases c.lits-clause.result.now c.loop-l.l-index c.l-item.result k c.loop-l-test.true c.l-item.is m) [
   | inl a ↦ c.loop-l.invariant k a t q B f
-  | inr e ↦ c.target_on-found.ensures.none (none-is c.target_on-found.result (sym c.is_some.ensures ∙ c.if-is_some.false)) t (subst (λ (l : Literal). IsOn c.args.c l t) e q) B f
+  | inr e ↦ c.target_on-found.ensures.none (none_of c.target_on-found.result (sym c.is_some.ensures ∙ c.if-is_some.false)) t (subst (λ (l : Literal). IsOn c.args.c l t) e q) B f
 ]
 
 pub returns : goal.returns

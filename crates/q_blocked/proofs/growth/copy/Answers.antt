@@ -1,7 +1,7 @@
 use Rattle.std.proofs.Common.{◌∙◌, ◌++◌, ◌∷◌, [], ◌<◌, length, sym, ap, arith}
 use Rattle.q_logic.specs.Prelude.{Clause}
-use Rattle.q_logic.proofs.Common.{taken-all}
-use Rattle.q_blocked.proofs.ListFronts.{taken, place-get}
+use Rattle.q_logic.proofs.Common.{taken-all, taken}
+use Rattle.q_blocked.proofs.ListFronts.{place-get}
 use Rattle.q_blocked.proofs.growth.copy.Goals as goal
 
 pub loop-place-preserved : goal.loop-place-preserved

@@ -1,7 +1,7 @@
 use Rattle.std.proofs.Common.{◌≡◌, ◌+◌, ◌++◌, ◌∷◌, [], take, sym, subst, List, inl}
 use Rattle.q_logic.specs.Prelude.{Clause}
+use Rattle.q_logic.proofs.Common.{take-slice_get}
 use Rattle.q_carry.specs.Growing.{IsAllOf}
-use Rattle.q_carry.proofs.LongerLists.{take-slice_get}
 use Rattle.q_carry.proofs.CircuitParts.{all-more}
 use Rattle.q_carry.proofs.parts.all_of.Goals as goal
 

@@ -1,9 +1,9 @@
 use Rattle.std.proofs.Common.{◌≡◌, ◌<◌, ℕ, List, Some, None, length, arith, sym, subst, ap, ◌∙◌, get_or}
+use Rattle.std.proofs.lemmas.Option.{slice_get_within}
 use Rattle.q_logic.specs.Prelude.{CertificateView, is_exists}
 use Rattle.q_aig.specs.Prelude.{Net}
 use Rattle.q_carry.specs.Refusals.{IsTooInner, input_name}
 use Rattle.q_carry.specs.Testing.{IsFirstIn}
-use Rattle.q_carry.proofs.LongerLists.{slice_get-below}
 use Rattle.q_carry.proofs.PrefixInputs.{no_bound}
 use Rattle.q_carry.proofs.VariableTables.{allowed-forall, allowed-exists}
 use Rattle.q_carry.proofs.InputReads.{too-inner, outer-here, outer-more, outer-skip}
@@ -47,4 +47,4 @@ loop-i-preserved c = elim c.match-prefix-i.branch [
 ]
 
 pub returns-clause-found : goal.returns-clause-found
-returns-clause-found c = λ j b e q. c.loop-i.invariant.outer j b (let l = slice_get-below c.args.prefix.now j b e in omega arith) e q
+returns-clause-found c = λ j b e q. c.loop-i.invariant.outer j b (let l = slice_get_within c.args.prefix.now j b e in omega arith) e q

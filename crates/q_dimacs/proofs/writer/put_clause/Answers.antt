@@ -1,12 +1,13 @@
 use Rattle.std.proofs.Common.{◌+◌, ◌≤◌, arith, map, length, length-append}
 use Rattle.q_logic.specs.Prelude.{number_of}
+use Rattle.q_logic.proofs.Common.{on_err}
 use Rattle.q_text.specs.Numbers.{number_text, numbers_text, line_end}
 use Rattle.q_dimacs.proofs.UnwrittenLists.{literal-next, next-fits}
-use Rattle.q_text.proofs.LongerTexts.{extends-more, on-err}
+use Rattle.q_text.proofs.LongerTexts.{extends-more}
 use Rattle.q_dimacs.proofs.writer.put_clause.Goals as goal
 
 pub returns-in_err-put_literal-clause-err : goal.returns-in_err-put_literal-clause-err
-returns-in_err-put_literal-clause-err c = on-err c.from_residual.result (extends-more _ _ _ c.loop-lit.invariant.before c.in_err-put_literal.ensures.err)
+returns-in_err-put_literal-clause-err c = on_err c.from_residual.result (extends-more _ _ _ c.loop-lit.invariant.before c.in_err-put_literal.ensures.err)
 
 pub returns-in_err-put_literal-clause-room : goal.returns-in_err-put_literal-clause-room
 returns-in_err-put_literal-clause-room c = λ h.

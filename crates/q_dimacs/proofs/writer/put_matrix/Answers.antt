@@ -1,11 +1,12 @@
 use Rattle.std.proofs.Common.{◌++◌, ◌∙◌, ◌+◌, ap, sym, append_assoc, drop, ◌≤◌, length, arith}
+use Rattle.q_logic.proofs.Common.{on_err}
 use Rattle.q_dimacs.specs.Writing.{clause_text, matrix_text}
 use Rattle.q_dimacs.proofs.UnwrittenLists.{extends-append, matrix-next, next-fits}
-use Rattle.q_text.proofs.LongerTexts.{extends-more, on-err}
+use Rattle.q_text.proofs.LongerTexts.{extends-more}
 use Rattle.q_dimacs.proofs.writer.put_matrix.Goals as goal
 
 pub returns-in_err-put_clause-clause-err : goal.returns-in_err-put_clause-clause-err
-returns-in_err-put_clause-clause-err c = on-err c.from_residual.result (extends-more _ _ _ c.loop-at.invariant.before c.in_err-put_clause.ensures.err)
+returns-in_err-put_clause-clause-err c = on_err c.from_residual.result (extends-more _ _ _ c.loop-at.invariant.before c.in_err-put_clause.ensures.err)
 
 pub loop-at-preserved : goal.loop-at-preserved
 loop-at-preserved c =

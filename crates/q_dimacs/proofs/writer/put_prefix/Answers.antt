@@ -1,9 +1,10 @@
 use Rattle.std.proofs.Common.{◌+◌, ◌≤◌, ◌++◌, ◌∙◌, [], ap, sym, append-nil, arith, length, get_or, None}
 use Rattle.q_logic.specs.declared.formulas.Bound.{Bound}
 use Rattle.q_logic.specs.declared.formulas.Quant.TheVariants.{Exists}
+use Rattle.q_logic.proofs.Common.{on_err}
 use Rattle.q_dimacs.specs.Writing.{bound_text, bounds_text, closing}
 use Rattle.q_dimacs.proofs.UnwrittenLists.{bounds-done, bounds-next, blocks-bounds, next-fits}
-use Rattle.q_text.proofs.LongerTexts.{extends-more, on-err}
+use Rattle.q_text.proofs.LongerTexts.{extends-more}
 use Rattle.q_dimacs.proofs.writer.put_prefix.Goals as goal
 
 -- a bound at no place
@@ -11,10 +12,10 @@ abbrev none : Bound
 none = record { quant = Exists; var = 0 }
 
 pub returns-in_err-put_bound-clause-err : goal.returns-in_err-put_bound-clause-err
-returns-in_err-put_bound-clause-err c = on-err c.from_residual.result (extends-more _ _ _ c.loop-bound.invariant.before c.in_err-put_bound.ensures.err)
+returns-in_err-put_bound-clause-err c = on_err c.from_residual.result (extends-more _ _ _ c.loop-bound.invariant.before c.in_err-put_bound.ensures.err)
 
 pub returns-in_err-put_closing-clause-err : goal.returns-in_err-put_closing-clause-err
-returns-in_err-put_closing-clause-err c = on-err c.from_residual-in_err-put_closing.result (extends-more _ _ _ c.loop-bound.invariant.before c.in_err-put_closing.ensures.err)
+returns-in_err-put_closing-clause-err c = on_err c.from_residual-in_err-put_closing.result (extends-more _ _ _ c.loop-bound.invariant.before c.in_err-put_closing.ensures.err)
 
 pub returns-clause-ok : goal.returns-clause-ok
 returns-clause-ok c =

@@ -1,8 +1,7 @@
 use Rattle.std.proofs.Common.{◌≡◌, ◌+◌, ◌++◌, ◌∷◌, length, drop, get_or, Option, sym, ap, ◌∙◌, subst, arith}
 use Rattle.q_logic.specs.Prelude.{Literal, IsBelow, negation, Clause, Matrix, ArePairs, without, resolve_all, clauses_at}
-use Rattle.q_logic.proofs.Common.{without-shorter}
+use Rattle.q_logic.proofs.Common.{without-shorter, without-in_order}
 use Rattle.q_kernel.specs.Prelude.{slots}
-use Rattle.q_kernel.proofs.KernelRuns.{without-in_order}
 use Rattle.q_eliminate.specs.declared.counting.Gain.{Gain}
 use Rattle.q_eliminate.specs.Gains.{no_gain, joined, IsGain}
 use Rattle.q_eliminate.specs.Plans.{IsPlain}

@@ -1,22 +1,22 @@
 use Rattle.std.proofs.Common.{◌≡◌, ◌∙◌, ℕ, List, true, sym, subst}
 use Rattle.q_logic.specs.Prelude.{Literal, negation, is_bound, live}
+use Rattle.q_logic.proofs.Common.{existential-is_bound}
 use Rattle.q_kernel.specs.Prelude.{slots, formula_in}
 use Rattle.q_kernel.proofs.TextCosts.{proper-var}
-use Rattle.q_rule.proofs.Quantifiers.{bound-existential}
 use Rattle.q_eliminate.specs.Plans.{MayGo, IsPlanOf}
 use Rattle.q_eliminate.specs.Sides.{AreIdsOf, AreSidesOf}
 use Rattle.q_eliminate.proofs.EliminateConditions.{may-apply, apply-may}
 use Rattle.q_eliminate.proofs.plan.make_plan.Goals as goal
 
 pub new-lit-requires-clause-positive : goal.new-lit-requires-clause-positive
-new-lit-requires-clause-positive c = (proper-var (formula_in c.args.kernel.now) c.args.x c.sound.ensures.proper (bound-existential c.args.kernel.now.prefix c.args.x (sym c.is_existential.ensures ∙ c.if-not-is_existential.false))).0
+new-lit-requires-clause-positive c = (proper-var (formula_in c.args.kernel.now) c.args.x c.sound.ensures.proper (existential-is_bound c.args.kernel.now.prefix c.args.x (sym c.is_existential.ensures ∙ c.if-not-is_existential.false))).0
 
 pub new-lit-requires-clause-small : goal.new-lit-requires-clause-small
-new-lit-requires-clause-small c = (proper-var (formula_in c.args.kernel.now) c.args.x c.sound.ensures.proper (bound-existential c.args.kernel.now.prefix c.args.x (sym c.is_existential.ensures ∙ c.if-not-is_existential.false))).1
+new-lit-requires-clause-small c = (proper-var (formula_in c.args.kernel.now) c.args.x c.sound.ensures.proper (existential-is_bound c.args.kernel.now.prefix c.args.x (sym c.is_existential.ensures ∙ c.if-not-is_existential.false))).1
 
 pub plan_on-requires-clause-bound : goal.plan_on-requires-clause-bound
 plan_on-requires-clause-bound c = subst (λ (l : Literal). is_bound c.args.kernel.now.prefix l.var ≡ true) (sym c.new-lit.ensures)
-    (bound-existential c.args.kernel.now.prefix c.args.x (sym c.is_existential.ensures ∙ c.if-not-is_existential.false))
+    (existential-is_bound c.args.kernel.now.prefix c.args.x (sym c.is_existential.ensures ∙ c.if-not-is_existential.false))
 
 pub plan_on-requires-clause-ids : goal.plan_on-requires-clause-ids
 plan_on-requires-clause-ids c = subst (λ (ids : List ℕ). AreIdsOf c.args.kernel.now c.new-lit.result ids) (sym c.deref.ensures.value) c.in_ok-gather.ensures.positive

@@ -1,7 +1,7 @@
 use Rattle.std.proofs.Common.{sym, inl, inr}
 use Rattle.q_logic.specs.Prelude.{negation}
+use Rattle.q_logic.proofs.Common.{none_of}
 use Rattle.q_kernel.specs.Prelude.{HoldsLiteral}
-use Rattle.q_rule.proofs.RuleSearch.{none-is}
 use Rattle.q_equiv.proofs.ClauseNumbers.{variable-literal, literal-variable}
 use Rattle.q_equiv.proofs.bridge.next_clause.Goals as goal
 
@@ -18,7 +18,7 @@ returns-clause-some c id e =
 
 pub returns-clause-none : goal.returns-clause-none
 returns-clause-none c e d C s h = elim (variable-literal c.args.gone C h) [
-  | inl m ↦ c.clause_beside-found.ensures.none (none-is c.clause_beside-found.result (sym c.if-is_some.ensures)) d (C, s, m)
+  | inl m ↦ c.clause_beside-found.ensures.none (none_of c.clause_beside-found.result (sym c.if-is_some.ensures)) d (C, s, m)
   | inr m ↦
       let f = rw c.negated.ensures at c.clause_beside.ensures.none in
       f e d (C, s, m)

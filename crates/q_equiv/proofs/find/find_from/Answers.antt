@@ -1,8 +1,8 @@
 use Rattle.std.proofs.Common.{◌≡◌, ◌≤◌, ℕ, sym, ◌∙◌, inl, inr, arith}
 use Rattle.q_logic.specs.Prelude.{place}
-use Rattle.q_rule.proofs.RuleSearch.{found-more, found-none, none-is}
+use Rattle.q_logic.proofs.Common.{before_or_at, none_of}
+use Rattle.q_rule.proofs.RuleSearch.{found-more, found-none}
 use Rattle.q_equiv.specs.Targets.{target_of}
-use Rattle.q_equiv.proofs.BinaryWalks.{earlier}
 use Rattle.q_equiv.proofs.LiteralPairs.{place-bound}
 use Rattle.q_equiv.proofs.find.find_from.Goals as goal
 
@@ -16,9 +16,9 @@ returns-then-is_some c = found-more target_of c.args.kernel.now (λ t. place (ta
 pub loop-var-preserved : goal.loop-var-preserved
 loop-var-preserved c = record {
   falling = c.in_ok-found.ensures.falling;
-  none = λ t low high B f. elim (earlier (place (target_of t)) c.loop-var.var high) [
+  none = λ t low high B f. elim (before_or_at (place (target_of t)) c.loop-var.var high) [
     | inl l ↦ c.loop-var.invariant.none t low l B f
-    | inr e ↦ c.in_ok-found.ensures.found.none (none-is c.in_ok-found.found (sym c.is_some.ensures ∙ c.if-is_some.false)) t e B f
+    | inr e ↦ c.in_ok-found.ensures.found.none (none_of c.in_ok-found.found (sym c.is_some.ensures ∙ c.if-is_some.false)) t e B f
   ];
 }
 

@@ -2,8 +2,7 @@ use Rattle.std.proofs.Common.{◌≡◌, slice_get, sym, ◌∙◌, ap, subst, i
 use Rattle.std.proofs.lemmas.Option.{same_Some}
 use Rattle.q_logic.specs.Prelude.{Literal, negation, IsIn, live, Mergeable}
 use Rattle.q_kernel.specs.Prelude.{slots}
-use Rattle.q_logic.proofs.Common.{test-false}
-use Rattle.q_equiv.proofs.BinaryWalks.{earlier, place-member, member-place}
+use Rattle.q_logic.proofs.Common.{test-false, before_or_at, slice_get-IsIn, IsIn-slice_get}
 use Rattle.q_equiv.proofs.LiteralPairs.{back-way, both-gathered}
 use Rattle.q_equiv.proofs.find.pick.Goals as goal
 use Rattle.q_equiv.proofs.find.pick.Goals.{else-has-via-then-has+else-can_stand_for, else-has-via-else-has}
@@ -20,7 +19,7 @@ returns-then-can_stand_for c =
       existential = s.existential;
       kept_outer = s.kept_outer;
       to_gone = back-way X keep c.args.gone (c.requires.3.linked (negation keep) b);
-      to_keep = c.requires.2.linked keep (place-member c.args.there.now c.loop-place.place keep c.at-keep.ensures);
+      to_keep = c.requires.2.linked keep (slice_get-IsIn c.args.there.now c.loop-place.place keep c.at-keep.ensures);
     } in
     record {
       some = λ x e. subst (λ (y : Literal). Mergeable k.prefix X y c.args.gone) (same_Some keep x e) m;
@@ -28,7 +27,7 @@ returns-then-can_stand_for c =
     }
 
 pub loop-place-preserved : goal.loop-place-preserved
-loop-place-preserved c j x low e m = elim (earlier j c.loop-place.place low) [
+loop-place-preserved c j x low e m = elim (before_or_at j c.loop-place.place low) [
   | inl l ↦ c.loop-place.invariant j x l e m
   | inr q ↦
       let k = c.args.kernel.now in
@@ -49,6 +48,6 @@ returns c = record {
   none = λ e keep m.
       let k = c.args.kernel.now in
       let both = both-gathered c.requires.0 k.prefix (live (slots k)) keep c.args.gone c.args.there.now c.args.back.now c.requires.1 c.requires.2 c.requires.3 m in
-      let r = member-place c.args.there.now keep both.0 in
+      let r = IsIn-slice_get c.args.there.now keep both.0 in
       c.loop-place.invariant r.0 keep (let l = r.1 in omega arith) r.2 m;
 }

@@ -1,6 +1,7 @@
 use Rattle.q_logic.specs.Prelude.{live, Mergeable}
+use Rattle.q_logic.proofs.Common.{ok-iff}
 use Rattle.q_kernel.specs.Prelude.{slots}
-use Rattle.q_equiv.proofs.LiteralPairs.{turned-mergeable, same-test}
+use Rattle.q_equiv.proofs.LiteralPairs.{turned-mergeable}
 use Rattle.q_equiv.proofs.merge.fits.Goals as goal
 
 pub returns : goal.returns
@@ -9,4 +10,4 @@ returns c =
     let s = c.can_stand_for.ensures.0 c.if-not-can_stand_for.false in
     let there = c.in_ok-is_joined.ensures.0 c.if-not-branch.false in
     let turned = rw c.negated-2.ensures at (rw c.negated.ensures at c.is_joined-2.ensures) in
-    same-test _ (Mergeable k.prefix (live (slots k)) c.args.keep c.args.gone) c.is_joined-2.result (turned-mergeable k.prefix (live (slots k)) c.args.keep c.args.gone s there) turned
+    ok-iff _ (Mergeable k.prefix (live (slots k)) c.args.keep c.args.gone) c.is_joined-2.result (turned-mergeable k.prefix (live (slots k)) c.args.keep c.args.gone s there) turned

@@ -1,8 +1,8 @@
 use Rattle.std.proofs.Common.{◌∙◌, sym}
 use Rattle.std.proofs.lemmas.Option.{same_Some}
 use Rattle.q_logic.proofs.Common.{test-false}
+use Rattle.q_logic.proofs.HintChains.{live-number}
 use Rattle.q_kernel.specs.Prelude.{slots, HoldsLiteral}
-use Rattle.q_kernel.proofs.SlotLists.{IsIn-slot}
 use Rattle.q_kernel.proofs.ForLoops.{holder-turn, each-came, All-more}
 use Rattle.q_expand.proofs.OtherClauses.{IsOther}
 use Rattle.q_expand.proofs.changing.find_clause.Goals as goal
@@ -17,6 +17,6 @@ loop-id-preserved c =
 
 pub returns-clause-none : goal.returns-clause-none
 returns-clause-none c e m =
-    let s = IsIn-slot (slots c.args.kernel.now) c.args.clause.now m in
+    let s = live-number (slots c.args.kernel.now) c.args.clause.now m in
     let o : IsOther (slots c.args.kernel.now) c.args.clause.now s.0 = each-came _ (IsOther (slots c.args.kernel.now) c.args.clause.now) _ c.holders-id-items.ensures.all c.into_iter-id-iterator.ensures.into_iter_gives c.loop-id.yielded_by c.in-None.ensures.steps.0 c.loop-id.invariant s.0 (c.args.clause.now, s.1, c.requires) in
     o.other s.1

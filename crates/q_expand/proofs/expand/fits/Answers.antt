@@ -1,17 +1,17 @@
 use Rattle.std.proofs.Common.{◌≡◌, ◌≤◌, length, arith, sym, subst, ◌∙◌, true≢false}
 use Rattle.q_logic.specs.Prelude.{Literal, live, clauses_of}
+use Rattle.q_logic.proofs.Common.{universal-is_bound}
 use Rattle.q_kernel.specs.Prelude.{slots, formula_in}
 use Rattle.q_kernel.proofs.TextCosts.{proper-var}
-use Rattle.q_kernel.proofs.GroupChanges.{universal-bound}
 use Rattle.q_expand.specs.Dependents.{IsWhole}
 use Rattle.q_expand.proofs.AllDependents.{whole-expandable, occurs-own}
 use Rattle.q_expand.proofs.expand.fits.Goals as goal
 
 pub new-lit-requires-clause-positive : goal.new-lit-requires-clause-positive
-new-lit-requires-clause-positive c = (proper-var (formula_in c.args.kernel.now) c.args.u c.sound.ensures.proper (universal-bound c.args.kernel.now.prefix c.args.u (sym c.is_universal.ensures ∙ c.if-not-is_universal.false))).0
+new-lit-requires-clause-positive c = (proper-var (formula_in c.args.kernel.now) c.args.u c.sound.ensures.proper (universal-is_bound c.args.kernel.now.prefix c.args.u (sym c.is_universal.ensures ∙ c.if-not-is_universal.false))).0
 
 pub new-lit-requires-clause-small : goal.new-lit-requires-clause-small
-new-lit-requires-clause-small c = let h = (proper-var (formula_in c.args.kernel.now) c.args.u c.sound.ensures.proper (universal-bound c.args.kernel.now.prefix c.args.u (sym c.is_universal.ensures ∙ c.if-not-is_universal.false))).1 in omega (arith, h)
+new-lit-requires-clause-small c = let h = (proper-var (formula_in c.args.kernel.now) c.args.u c.sound.ensures.proper (universal-is_bound c.args.kernel.now.prefix c.args.u (sym c.is_universal.ensures ∙ c.if-not-is_universal.false))).1 in omega (arith, h)
 
 pub returns-then-own-eq0-clause-applies : goal.returns-then-own-eq0-clause-applies
 returns-then-own-eq0-clause-applies c =
@@ -20,7 +20,7 @@ returns-then-own-eq0-clause-applies c =
     ((λ t. absurd (true≢false (sym t))), (λ a. absurd (let o = occurs-own c.args.u (live (slots k)) a.fits.occurs in omega (arith, o, n))))
 
 pub grow-requires-clause-bound : goal.grow-requires-clause-bound
-grow-requires-clause-bound c = rw c.new-lit.ensures (universal-bound c.args.kernel.now.prefix c.args.u (sym c.is_universal.ensures ∙ c.if-not-is_universal.false))
+grow-requires-clause-bound c = rw c.new-lit.ensures (universal-is_bound c.args.kernel.now.prefix c.args.u (sym c.is_universal.ensures ∙ c.if-not-is_universal.false))
 
 pub returns-clause-applies : goal.returns-clause-applies
 returns-clause-applies c =

@@ -1,7 +1,7 @@
 use Rattle.std.proofs.Common.{◌≡◌, ◌≤◌, ◌<◌, ◌+◌, ℕ, ap, arith}
 use Rattle.q_logic.specs.declared.rule_bounds.Bounds.{Bounds}
 use Rattle.q_logic.specs.Prelude.{greatest, place, expand_universal}
-use Rattle.q_logic.proofs.Common.{bound_of_u, is_bound-greatest}
+use Rattle.q_logic.proofs.Common.{is_bound-greatest, universal-is_bound}
 use Rattle.q_kernel.specs.Prelude.{Seen, Applies}
 use Rattle.q_expand.specs.declared.target.Target.{Target}
 use Rattle.q_expand.specs.declared.target.Target.TheVariants.{Expand}
@@ -10,7 +10,7 @@ use Rattle.q_expand.proofs.find.find_from.Goals as goal
 
 passed : (B : Bounds) (k : Seen) (from to end : ℕ) → end ≡ greatest k.prefix + 1 → end ≤ to → ((v : ℕ) → from ≤ v → v < to → Applies B k (expand_universal v) → ⊥) → (t : Target) → from ≤ place (target_of t) → Applies B k (target_of t) → ⊥
 passed B k from to end e g h (Expand v) p a =
-    let b = is_bound-greatest k.prefix v (bound_of_u k.prefix v a.fits.universal) in
+    let b = is_bound-greatest k.prefix v (universal-is_bound k.prefix v a.fits.universal) in
     h v p (omega arith) a
 
 pub returns : goal.returns

@@ -1,8 +1,7 @@
 use Rattle.std.proofs.Common.{◌≡◌, ◌∙◌, ◌∷◌, ◌++◌, [], List, take, length, arith, sym, ap}
 use Rattle.std.proofs.lemmas.List.{length-take-le}
 use Rattle.q_logic.specs.Prelude.{Literal, clause_of, insert}
-use Rattle.q_logic.proofs.Common.{clause_of-ordered_clause, taken-all}
-use Rattle.q_expand.proofs.ClauseParts.{taken}
+use Rattle.q_logic.proofs.Common.{clause_of-ordered_clause, taken-all, taken}
 use Rattle.q_expand.proofs.splitting.put_with.Goals as goal
 
 pub push_reserved-requires-in-loop-k : goal.push_reserved-requires-in-loop-k

@@ -1,9 +1,9 @@
 use Rattle.std.proofs.Common.{◌≡◌, ◌∙◌, ap, List, ℕ, ◌++◌}
 use Rattle.q_logic.specs.Prelude.{PrenexFormula}
+use Rattle.q_logic.proofs.Common.{on_err}
 use Rattle.q_dimacs.specs.Writing.{formula_text}
 use Rattle.q_gen.specs.Generated.{Generated}
 use Rattle.std.proofs.lemmas.Result.{on_ok_weaker, on_err_weaker}
-use Rattle.q_text.proofs.LongerTexts.{on-err}
 use Rattle.q_gen.proofs.GeneratedFile.{untouched, not_created, whole, part}
 use Rattle.q_gen.proofs.output.write_generated.Goals as goal
 
@@ -14,7 +14,7 @@ pub returns-in_default-write-clause-part : goal.returns-in_default-write-clause-
 returns-in_default-write-clause-part g c = untouched c.args.name.now c.args.seed c.args.size (g.F.Files.held c.args.files.now)
 
 pub returns-in_err-create-clause-part : goal.returns-in_err-create-clause-part
-returns-in_err-create-clause-part g c = on-err c.from_residual.result (not_created c.args.name.now c.args.seed c.args.size _ _ c.in_err-create.ensures.err)
+returns-in_err-create-clause-part g c = on_err c.from_residual.result (not_created c.args.name.now c.args.seed c.args.size _ _ c.in_err-create.ensures.err)
 
 pub returns-clause-whole : goal.returns-clause-whole
 returns-clause-whole g c =

@@ -1,7 +1,7 @@
 use Rattle.std.proofs.Common.{◌≡◌, ◌+◌, ◌++◌, ◌∷◌, [], take, sym, subst}
 use Rattle.q_logic.specs.Prelude.{Clause}
+use Rattle.q_logic.proofs.Common.{taken}
 use Rattle.q_aig.proofs.Substitutes.{turned-there}
-use Rattle.q_carry.proofs.LongerLists.{take-item}
 use Rattle.q_carry.proofs.LiteralRows.{literals-kept, literal-there}
 use Rattle.q_herbrand.specs.Parts.{IsNoneOf}
 use Rattle.q_herbrand.proofs.FalseLiterals.{none-more}
@@ -20,7 +20,7 @@ and-requires-clause-b c =
 pub loop-k-preserved : goal.loop-k-preserved
 loop-k-preserved c =
     let e : take (c.loop-k.k-index + 1) c.args.clause.now ≡ take c.loop-k.k-index
-    c.args.clause.now ++ c.k-item.result ∷ [] = take-item c.args.clause.now c.loop-k.k-index c.k-item.result
+    c.args.clause.now ++ c.k-item.result ∷ [] = taken c.args.clause.now c.loop-k.k-index c.k-item.result
     c.loop-k-test.true c.k-item.is in
     subst (λ (O : Clause). IsNoneOf c.args.aig.now c.and.new.self c.args.tables.now.inputs.items
     c.args.tables.now.circuits.items O c.in_ok-none.none) (sym e)

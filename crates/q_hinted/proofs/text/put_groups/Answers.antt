@@ -1,13 +1,14 @@
 use Rattle.std.proofs.Common.{◌++◌, ◌+◌, ◌∙◌, ap, sym, append_assoc, drop}
-use Rattle.q_text.proofs.LongerTexts.{extends-more, on-err}
+use Rattle.q_text.proofs.LongerTexts.{extends-more}
 use Rattle.q_logic.specs.ProofParts.{group_at}
+use Rattle.q_logic.proofs.Common.{on_err}
 use Rattle.q_hinted.specs.Parts.{groups_numbers}
 use Rattle.q_hinted.specs.Texts.{plain_text}
 use Rattle.q_hinted.proofs.NumberTexts.{extends-append, group_numbers, groups-next}
 use Rattle.q_hinted.proofs.text.put_groups.Goals as goal
 
 pub returns-in_err-put_group-clause-err : goal.returns-in_err-put_group-clause-err
-returns-in_err-put_group-clause-err c = on-err c.from_residual.result (extends-more _ _ _ c.loop-at.invariant.before c.in_err-put_group.ensures.err)
+returns-in_err-put_group-clause-err c = on_err c.from_residual.result (extends-more _ _ _ c.loop-at.invariant.before c.in_err-put_group.ensures.err)
 
 pub loop-at-preserved : goal.loop-at-preserved
 loop-at-preserved c =

@@ -1,5 +1,6 @@
 use Rattle.std.proofs.Common.{sym, ◌∙◌, rules}
-use Rattle.q_io.proofs.MemoryStore.{on_err, put_others, extended, as_it_was, stored_absent, none_of}
+use Rattle.q_logic.proofs.Common.{none_of, on_err}
+use Rattle.q_io.proofs.MemoryStore.{put_others, extended, as_it_was, stored_absent}
 use Rattle.q_io.proofs.names.extend.Goals as goal
 
 pub returns-in_err-extend_from_slice-in-Some-clause-err :

@@ -1,6 +1,6 @@
-use Rattle.q_io.proofs.MemoryStore.{on_err}
 use Rattle.q_io.proofs.StoreContents.{not_created, written_whole, written_part}
 use Rattle.std.proofs.lemmas.Result.{on_ok_weaker, on_err_weaker}
+use Rattle.q_logic.proofs.Common.{on_err}
 use Rattle.q_io.proofs.whole.write_whole.Goals as goal
 
 pub returns-in_err-create-clause-part : goal.returns-in_err-create-clause-part

@@ -2,10 +2,11 @@ use Rattle.std.proofs.Common.{◌∙◌, ◌++◌, ◌∷◌, ◌<◌, ◌≤◌
 use Rattle.q_logic.specs.declared.formulas.Quant.TheVariants.{Exists}
 use Rattle.q_logic.specs.declared.formulas.Bound.{Bound}
 use Rattle.q_logic.specs.Prelude.{Prefix, Distinct}
+use Rattle.q_logic.proofs.Common.{get_or-is_bound}
 use Rattle.q_pages.specs.Rows.{KeepsPages}
 use Rattle.q_judge.specs.declared.bindings.Binding.{Binding}
 use Rattle.q_judge.specs.Scopes.{next_rank, AreNumbered}
-use Rattle.q_judge.proofs.ScopedPrefix.{IsScoping, scoping-taken, scoping-few, scoping-low, scoping-done, take-past, drop-past, take-next, drop-here, take-drop, take-size, first-drop, get-bound}
+use Rattle.q_judge.proofs.ScopedPrefix.{IsScoping, scoping-taken, scoping-few, scoping-low, scoping-done, take-past, drop-past, take-next, drop-here, take-drop, take-size, first-drop}
 use Rattle.q_judge.proofs.bindings.binding_all.Goals as goal
 
 -- what is to come begins with the next variable
@@ -22,7 +23,7 @@ pub take_binding-numbering-requires-clause-room : goal.take_binding-numbering-re
 take_binding-numbering-requires-clause-room c =
     let d : Bound = record { quant = Exists; var = 0 } in
     let v = (get_or c.args.prefix.now c.loop-i.i d).var in
-    c.loop-i.invariant.0.made v (c.requires.room v (get-bound c.args.prefix.now c.loop-i.i d c.loop-i-test.true))
+    c.loop-i.invariant.0.made v (c.requires.room v (get_or-is_bound c.args.prefix.now c.loop-i.i d c.loop-i-test.true))
 
 pub take_binding-numbering-requires-clause-few : goal.take_binding-numbering-requires-clause-few
 take_binding-numbering-requires-clause-few c =
@@ -58,7 +59,7 @@ loop-i-preserved c =
       kept,
       rw (t.bindings, t.counts, t.numbering, f, add-one, take-next P i d c.loop-i-test.true)
           (scoping-taken (take i P) b (drop (suc i) P) u (length c.args.bindings.now.items) (length c.args.counts.now.items) s.bindings.items s.counts.items s.numbering.last s.numbering.rank h
-          (c.requires.room b.var (get-bound P i d c.loop-i-test.true)).0 (omega (arith, low, size, c.requires.counts, c.loop-i-test.true))),
+          (c.requires.room b.var (get_or-is_bound P i d c.loop-i-test.true)).0 (omega (arith, low, size, c.requires.counts, c.loop-i-test.true))),
     )
 
 done : (P : Prefix) (i room kinds : ℕ) (bindings : List (Option Binding)) (counts : List ℕ) (last : Option Bound) (rank : ℕ) → Distinct P → length P ≤ i → IsScoping (take i P) (drop i P) room kinds bindings counts last rank → AreNumbered P bindings counts

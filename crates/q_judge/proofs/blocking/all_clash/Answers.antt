@@ -1,9 +1,10 @@
 use Rattle.std.proofs.Common.{ℕ, ◌++◌, get_or, sym, subst, inl, inr}
+use Rattle.std.proofs.lemmas.List.{get_or_default}
 use Rattle.q_logic.specs.Prelude.{IsIn, outer}
 use Rattle.q_logic.proofs.Common.{implied-tautology, taken-cases, taken-all, Contains-IsIn}
 use Rattle.q_prop.specs.Slots.{Holds, filled, without}
 use Rattle.q_prop.proofs.SlotLemmas.{without-le}
-use Rattle.q_judge.proofs.SlotCollections.{in-held, whichever}
+use Rattle.q_judge.proofs.SlotCollections.{in-held}
 use Rattle.q_judge.proofs.blocking.all_clash.Goals as goal
 
 pub loop-at-init : goal.loop-at-init
@@ -13,7 +14,7 @@ pub loop-at-preserved : goal.loop-at-preserved
 loop-at-preserved c n m D h =
     let xs = c.slots_of-at-items.result.now in
     let i = c.loop-at.at-index in
-    elim (taken-cases xs i (get_or xs i 0) n c.loop-at-test.true (whichever xs i 0 (get_or xs i 0) c.loop-at-test.true) m) [
+    elim (taken-cases xs i (get_or xs i 0) n c.loop-at-test.true (get_or_default xs i 0 (get_or xs i 0) c.loop-at-test.true) m) [
       | inl b ↦ c.loop-at.invariant n b D h
       | inr q ↦ c.clashes_at.ensures c.if-not-clashes_at.false D (subst (λ (x : ℕ). Holds (without c.args.store.now c.args.skip) x D) q h)
     ]

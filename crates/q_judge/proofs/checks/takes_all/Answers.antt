@@ -1,9 +1,9 @@
 use Rattle.std.proofs.Common.{◌≡◌, ◌≤◌, ◌+◌, ℕ, zero, suc, true, [], ◌∷◌, Some, None, set, take, length, slice_get, refl, sym, ◌∙◌, ap, arith, add-one, true≢false}
+use Rattle.std.proofs.lemmas.Option.{slice_get_within}
 use Rattle.q_logic.specs.Prelude.{Clause, Matrix, IsIn, clause_eq, copies, Slots}
 use Rattle.q_prop.specs.Slots.{filled}
-use Rattle.q_prop.proofs.SlotLemmas.{slice_get-in, take-slice_get}
-use Rattle.q_logic.proofs.ClauseCounts.{same-sizes}
-use Rattle.q_logic.proofs.Common.{clause_eq-itself, copies-IsIn, copies-append}
+use Rattle.q_prop.proofs.SlotLemmas.{take-slice_get}
+use Rattle.q_logic.proofs.Common.{clause_eq-itself, copies-IsIn, copies-append, same-sizes}
 use Rattle.q_judge.proofs.SlotCollections.{emptied-same, left-sizes, in-held}
 use Rattle.q_judge.proofs.checks.takes_all.Goals as goal
 
@@ -32,7 +32,7 @@ returns-then-clauses c = (
 )
 
 pub delete-requires : goal.delete-requires
-delete-requires c = slice_get-in c.loop-at.store c.in-Some.slot (Some c.clause.result.now) c.in-Some.ensures
+delete-requires c = slice_get_within c.loop-at.store c.in-Some.slot (Some c.clause.result.now) c.in-Some.ensures
 
 pub loop-at-preserved : goal.loop-at-preserved
 loop-at-preserved c =

@@ -1,4 +1,5 @@
-use Rattle.q_judge.proofs.PivotOuters.{resolve-holders, ok-iff}
+use Rattle.q_logic.proofs.Common.{ok-iff}
+use Rattle.q_judge.proofs.PivotOuters.{resolve-holders}
 use Rattle.q_judge.proofs.pivots.resolves.Goals as goal
 
 pub returns-clause-exact : goal.returns-clause-exact

@@ -1,5 +1,6 @@
+use Rattle.q_logic.proofs.Common.{ok-iff}
 use Rattle.q_prop.specs.Slots.{without}
-use Rattle.q_judge.proofs.PivotOuters.{gathered-exact, ok-iff}
+use Rattle.q_judge.proofs.PivotOuters.{gathered-exact}
 use Rattle.q_judge.proofs.pivots.resolves_group.Goals as goal
 
 pub returns-clause-exact : goal.returns-clause-exact

@@ -1,6 +1,6 @@
 use Rattle.std.proofs.Common.{Some, sym, subst, ◌∙◌}
+use Rattle.std.proofs.lemmas.Option.{same_Some}
 use Rattle.q_logic.specs.Prelude.{Clause, without}
-use Rattle.q_arena.proofs.NumberCases.{some-same}
 use Rattle.q_kernel.specs.Linking.{HasLists}
 use Rattle.q_kernel.proofs.ListUpdates.{changed-but, starts-same, clause-set, clause-within, has-lists, lists-kept, lists-shorter}
 use Rattle.q_kernel.proofs.links.shorten.Goals as goal
@@ -29,4 +29,4 @@ link-requires-clause-lists c = λ E f.
     let there = clause-set a c.drop_lit.new.self c.args.id (Some D) (clause-within a c.args.id C e) (c.drop_lit.ensures.clauses C e) in
     let h = has-lists c.args.occ.now a c.args.id C c.requires.linked e in
     let k = lists-shorter c.unlink.new.occ c.args.lit C (lists-kept c.args.occ.now c.unlink.new.occ C c.unlink.ensures.kept h) in
-    subst (λ (X : Clause). HasLists c.unlink.new.occ X) (some-same D E (sym there ∙ f)) k
+    subst (λ (X : Clause). HasLists c.unlink.new.occ X) (same_Some D E (sym there ∙ f)) k

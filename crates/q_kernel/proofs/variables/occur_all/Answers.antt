@@ -1,15 +1,16 @@
 use Rattle.std.proofs.Common.{ℕ, true, sym, ◌∙◌, subst, arith, take}
 use Rattle.std.proofs.lemmas.List.{take_all}
 use Rattle.q_logic.specs.Prelude.{Clause, IsIn, Literal}
+use Rattle.q_logic.proofs.Common.{get_or-IsIn}
 use Rattle.q_kernel.specs.Uses.{AreUses, with_occurring}
 use Rattle.q_kernel.specs.Listing.{with_clause}
-use Rattle.q_kernel.proofs.OccurrenceChanges.{item-IsIn, occur-more}
+use Rattle.q_kernel.proofs.OccurrenceChanges.{occur-more}
 use Rattle.q_kernel.proofs.variables.occur_all.Goals as goal
 
 pub start-requires-clause-bound : goal.start-requires-clause-bound
 start-requires-clause-bound c =
     let l = c.lit-item.result in
-    rw c.var.ensures.value (c.requires.within l (subst (λ (k : Literal). IsIn k c.args.lits.now) (sym c.lit-item.is) (item-IsIn c.args.lits.now c.loop-lit.lit-index l c.loop-lit-test.true)))
+    rw c.var.ensures.value (c.requires.within l (subst (λ (k : Literal). IsIn k c.args.lits.now) (sym c.lit-item.is) (get_or-IsIn c.args.lits.now c.loop-lit.lit-index l c.loop-lit-test.true)))
 
 pub loop-lit-preserved : goal.loop-lit-preserved
 loop-lit-preserved c =

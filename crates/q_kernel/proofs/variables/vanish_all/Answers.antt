@@ -1,15 +1,16 @@
 use Rattle.std.proofs.Common.{sym, ◌∙◌, subst, arith, take}
 use Rattle.std.proofs.lemmas.List.{take_all}
 use Rattle.q_logic.specs.Prelude.{Clause, IsIn, Literal}
+use Rattle.q_logic.proofs.Common.{get_or-IsIn}
 use Rattle.q_kernel.specs.Uses.{AreUses}
 use Rattle.q_kernel.specs.Listing.{without_clause}
-use Rattle.q_kernel.proofs.OccurrenceChanges.{item-IsIn, vanish-more}
+use Rattle.q_kernel.proofs.OccurrenceChanges.{vanish-more}
 use Rattle.q_kernel.proofs.variables.vanish_all.Goals as goal
 
 pub vanish-requires-clause-bound : goal.vanish-requires-clause-bound
 vanish-requires-clause-bound c =
     let l = c.lit-item.result in
-    (c.requires.within l (subst (λ (k : Literal). IsIn k c.args.lits.now) (sym c.lit-item.is) (item-IsIn c.args.lits.now c.loop-lit.lit-index l c.loop-lit-test.true)))
+    (c.requires.within l (subst (λ (k : Literal). IsIn k c.args.lits.now) (sym c.lit-item.is) (get_or-IsIn c.args.lits.now c.loop-lit.lit-index l c.loop-lit-test.true)))
 
 pub loop-lit-preserved : goal.loop-lit-preserved
 loop-lit-preserved c =

@@ -1,7 +1,7 @@
 use Rattle.std.proofs.Common.{◌≡◌, Some, sym, subst, inl, inr}
 use Rattle.q_logic.specs.Prelude.{Literal, Clause, IsIn}
-use Rattle.q_logic.proofs.Common.{item-in, taken-cases, taken-all}
-use Rattle.q_ordered.proofs.OrderedClauses.{dropped-in, left-here, left-on}
+use Rattle.q_logic.proofs.Common.{item-in, taken-cases, taken-all, IsIn-drop}
+use Rattle.q_ordered.proofs.OrderedClauses.{left-here, left-on}
 use Rattle.q_ordered.proofs.missing.first_missing.Goals as goal
 
 same : (k j : Literal) → Some k ≡ Some j → k ≡ j
@@ -26,7 +26,7 @@ loop-k-preserved c =
     record {
       passed = λ j m n. elim (taken-cases C c.loop-k.k-index k j c.loop-k-test.true c.k-item.is m) [
         | inl a ↦ c.loop-k.invariant.passed j a n
-        | inr e ↦ subst (λ (x : Literal). IsIn x D) (sym e) (dropped-in D c.skip_to-at.result k (c.lacks.ensures.no c.if-lacks.false (subst (λ (x : Literal). c.args.aside.now ≡ Some x → ⊥) e n)))
+        | inr e ↦ subst (λ (x : Literal). IsIn x D) (sym e) (IsIn-drop D c.skip_to-at.result k (c.lacks.ensures.no c.if-lacks.false (subst (λ (x : Literal). c.args.aside.now ≡ Some x → ⊥) e n)))
       ];
       rest = left-on C c.loop-k.k-index k D c.loop-k.at c.skip_to-at.result c.requires.ordered c.loop-k-test.true c.k-item.is c.skip_to-at.ensures.kept c.loop-k.invariant.rest;
     }

@@ -2,13 +2,14 @@ use Rattle.std.proofs.Common.{take, take_all, Contains, arith}
 use Rattle.q_prop.proofs.SlotLemmas.{test_fails}
 use Rattle.q_prop.proofs.ListMembers.{Contains-take}
 use Rattle.q_logic.specs.Prelude.{negation}
-use Rattle.q_prop.proofs.HintSteps.{take-step, left-known, left-one, left-open, item-in}
+use Rattle.q_logic.proofs.Common.{taken}
+use Rattle.q_prop.proofs.HintSteps.{left-known, left-one, left-open, item-in}
 use Rattle.q_prop.proofs.chain.left_of.Goals as goal
 
 pub loop-lit-preserved-then-has : goal.loop-lit-preserved-then-has
 loop-lit-preserved-then-has c =
     let m : Contains c.args.trail.now (negation c.lit-item.result) = rw c.negated.ensures at (c.has.ensures.0 c.if-has.true) in
-    rw (take-step c.args.clause.now c.loop-lit.lit-index c.lit-item.result c.loop-lit-test.true c.lit-item.is)
+    rw (taken c.args.clause.now c.loop-lit.lit-index c.lit-item.result c.loop-lit-test.true c.lit-item.is)
     (left-known c.args.trail.now (take c.loop-lit.lit-index c.args.clause.now) c.loop-lit.left c.lit-item.result c.loop-lit.invariant m)
 
 pub returns-then-is_other : goal.returns-then-is_other
@@ -21,7 +22,7 @@ returns-then-is_other c =
 
 pub loop-lit-preserved : goal.loop-lit-preserved
 loop-lit-preserved c =
-    rw (take-step c.args.clause.now c.loop-lit.lit-index c.lit-item.result c.loop-lit-test.true c.lit-item.is)
+    rw (taken c.args.clause.now c.loop-lit.lit-index c.lit-item.result c.loop-lit-test.true c.lit-item.is)
     (left-one c.args.trail.now (take c.loop-lit.lit-index c.args.clause.now) c.loop-lit.left c.lit-item.result c.loop-lit.invariant c.if-is_other.ensures
     (rw c.negated.ensures at (test_fails c.has.result (Contains c.args.trail.now c.negated.result) c.has.ensures c.if-has.false)))
 

@@ -1,10 +1,11 @@
 use Rattle.std.proofs.Common.{◌++◌, arith, refl, sym, ◌∙◌, subst, true≢false, inl, inr}
+use Rattle.std.proofs.lemmas.Bool.{cases_eq}
+use Rattle.std.proofs.lemmas.Option.{slice_get_within}
 use Rattle.q_logic.specs.Prelude.{Clause, Implied}
 use Rattle.q_prop.specs.Slots.{without, filled}
 use Rattle.q_prop.proofs.PropagationSteps.{moved-trans}
 use Rattle.q_prop.proofs.AssumedLevels.{level_kept}
-use Rattle.q_prop.proofs.Literals.{ℕ-cases}
-use Rattle.q_prop.proofs.SlotLemmas.{same_slice_get, slice_get-in, slice_get-Contains, Contains-slice_get}
+use Rattle.q_prop.proofs.SlotLemmas.{same_slice_get, slice_get-Contains, Contains-slice_get}
 use Rattle.q_prop.proofs.level.each_above.Goals as goal
 
 pub is_above-requires-clause-level : goal.is_above-requires-clause-level
@@ -33,7 +34,7 @@ loop-i-preserved c =
     let v = c.args.level.now in (
       c.is_above.ensures.same ∙ c.loop-i.invariant.0,
       moved-trans c.args.trail.now c.args.trail.now c.args.watched.now c.loop-i.watched c.is_above.new.watched (λ l h. h) c.loop-i.invariant.1 (rw c.loop-i.invariant.0 at c.is_above.ensures.moved),
-      (λ j t l e. elim (ℕ-cases j c.loop-i.i) [
+      (λ j t l e. elim (cases_eq j c.loop-i.i) [
         | inl q ↦
             let same = same_slice_get c.args.tails.now c.loop-i.i c.tail.result.now t c.tail.ensures (rw q at e) in
             subst (λ (z : Clause). Implied (filled (without c.args.watched.now.clauses.slots v.skip)) (v.lits.now ++ z)) same (x.0 c.if-not-branch.false)
@@ -45,7 +46,7 @@ pub returns-clause-exact : goal.returns-clause-exact
 returns-clause-exact c = (
   (λ _ t h.
       let j = slice_get-Contains c.args.tails.now t h in
-      let inside = slice_get-in c.args.tails.now j.0 t j.1 in
+      let inside = slice_get_within c.args.tails.now j.0 t j.1 in
       c.loop-i.invariant.2 j.0 t (omega (arith, inside, c.loop-i-test.false, c.len-i-end.ensures)) j.1),
   (λ all. refl),
 )

@@ -1,9 +1,9 @@
 use Rattle.std.proofs.Common.{◌≡◌, ◌∙◌, sym, subst}
+use Rattle.std.proofs.lemmas.Option.{same_Some}
 use Rattle.q_logic.specs.declared.rule_bounds.Bounds.{Bounds}
 use Rattle.q_logic.specs.UsualBounds.{usual}
 use Rattle.q_logic.specs.Prelude.{Clause, Prefix, IsIn, Slots, Fits}
 use Rattle.q_kernel.specs.Prelude.{slots}
-use Rattle.q_kernel.proofs.Basics.{some-same}
 use Rattle.q_reduce.specs.declared.target.Target.{Target}
 use Rattle.q_reduce.specs.declared.target.Target.TheVariants.{Tautology, Unit, Cut, Pure}
 use Rattle.q_reduce.specs.Targets.{target_of}
@@ -61,4 +61,4 @@ returns-in-Cut c =
     let f = at k.prefix (slots k) c.args.target.now (Cut c.in-Cut.c c.in-Cut.l) c.in-Cut.is c.requires.fits in
     subst (λ (t : Target). IsChanged k c.drop_reach.new.self (target_of t)) (sym c.in-Cut.is)
     (changed-cut k c.drop_reach.new.self c.in-Cut.c c.in-Cut.l c.sound.ensures c.requires.limits c.requires.bytes
-    (λ C e. subst (λ (x : Clause). IsIn c.in-Cut.l x) (some-same f.0 C (sym f.1 ∙ e)) f.2.in_clause) c.drop_reach.ensures)
+    (λ C e. subst (λ (x : Clause). IsIn c.in-Cut.l x) (same_Some f.0 C (sym f.1 ∙ e)) f.2.in_clause) c.drop_reach.ensures)

@@ -1,8 +1,9 @@
 use Rattle.std.proofs.Common.{◌≡◌, ◌∙◌, ◌≤◌, sym, subst, None, Option}
 use Rattle.q_logic.specs.Prelude.{place}
+use Rattle.q_logic.proofs.Common.{none_of}
 use Rattle.q_kernel.proofs.ForLoops.{turn, each-came, All-more}
 use Rattle.q_rule.specs.Searching.{IsFound}
-use Rattle.q_rule.proofs.RuleSearch.{found-more, none-is}
+use Rattle.q_rule.proofs.RuleSearch.{found-more}
 use Rattle.q_reduce.specs.Targets.{target_of}
 use Rattle.q_reduce.specs.declared.target.Target.{Target}
 use Rattle.q_reduce.specs.Searches.{IsOfClause}
@@ -18,7 +19,7 @@ returns-then-is_some-clause-found c =
 pub loop-c-preserved : goal.loop-c-preserved
 loop-c-preserved c =
     let k = c.args.kernel.now in
-    let e : c.in_ok-found.found ≡ None = none-is c.in_ok-found.found (sym c.is_some.ensures ∙ c.if-is_some.false) in
+    let e : c.in_ok-found.found ≡ None = none_of c.in_ok-found.found (sym c.is_some.ensures ∙ c.if-is_some.false) in
     let none = subst (λ (o : Option Target). IsFound target_of k (IsOfClause c.in-Some.c) o) e c.in_ok-found.ensures.found in
     record {
       tried = All-more (IsTried k) c.loop-c.yielded c.in-Some.c c.loop-c.invariant.tried (record { none = none });

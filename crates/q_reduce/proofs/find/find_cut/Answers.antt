@@ -1,9 +1,9 @@
 use Rattle.std.proofs.Common.{◌≡◌, ◌∙◌, ℕ, sym, refl, subst, true≢false, inl, inr, Some}
+use Rattle.std.proofs.lemmas.Option.{same_Some}
 use Rattle.q_logic.specs.declared.rule_bounds.Bounds.{Bounds}
 use Rattle.q_logic.specs.Prelude.{Literal, Clause, IsIn, slot, Fits}
 use Rattle.q_logic.specs.Targets as theory
 use Rattle.q_kernel.specs.Prelude.{Seen, slots}
-use Rattle.q_kernel.proofs.Basics.{some-same}
 use Rattle.q_reduce.specs.declared.target.Target.{Target}
 use Rattle.q_reduce.specs.declared.target.Target.TheVariants.{Tautology, Unit, Cut, Pure}
 use Rattle.q_reduce.specs.Targets.{target_of}
@@ -39,5 +39,5 @@ returns-clause-found c =
     none k c C e h (Unit d) q B f = q
     none k c C e h (Cut d l) q B f =
         let g : Fits B k.prefix (slots k) (theory.cut c l) = subst (λ (x : ℕ). Fits B k.prefix (slots k) (theory.cut x l)) q f in
-        h l (subst (λ (D : Clause). IsIn l D) (some-same g.0 C (sym g.1 ∙ e)) g.2.in_clause) B g
+        h l (subst (λ (D : Clause). IsIn l D) (same_Some g.0 C (sym g.1 ∙ e)) g.2.in_clause) B g
     none k c C e h (Pure l) q B f = q

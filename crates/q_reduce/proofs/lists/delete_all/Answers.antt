@@ -1,7 +1,7 @@
 use Rattle.std.proofs.Common.{◌≡◌, true, sym, ◌∙◌, refl, subst, arith}
+use Rattle.std.proofs.lemmas.Option.{same_Some}
 use Rattle.q_logic.specs.Prelude.{Clause, IsIn, is_existential}
 use Rattle.q_kernel.specs.Prelude.{HoldsLiteral}
-use Rattle.q_kernel.proofs.Basics.{some-same}
 use Rattle.q_rule.proofs.RuleSteps.{may-go_pure}
 use Rattle.q_rule.proofs.RemovalLoops.{deleting-more, deleting-done, size-deleted, clause-bytes}
 use Rattle.q_reduce.proofs.lists.delete_all.Goals as goal
@@ -35,7 +35,7 @@ loop-id-preserved c =
     let k = c.loop-id.kernel in
     let held : HoldsLiteral k c.in-Some.id c.args.l = c.in-Some.ensures.some c.in-Some.id refl in
     deleting-more c.args.l c.args.kernel.now k c.delete_pivot.new.self c.in-Some.id c.sound.ensures
-    (λ C e. subst (λ (x : Clause). IsIn c.args.l x) (some-same held.0 C (sym held.1 ∙ e)) held.2)
+    (λ C e. subst (λ (x : Clause). IsIn c.args.l x) (same_Some held.0 C (sym held.1 ∙ e)) held.2)
     c.loop-id.invariant c.delete_pivot.ensures
 
 pub returns : goal.returns

@@ -2,9 +2,9 @@ use Rattle.std.proofs.Common.{◌≡◌, true, sym, ◌∙◌, refl, subst}
 use Rattle.q_logic.specs.Prelude.{negation, Clause, IsIn, is_universal, Slots, live, OccursIn, drop_literal}
 use Rattle.q_log.specs.Texts.{step_text}
 use Rattle.std.proofs.Common.{length}
+use Rattle.std.proofs.lemmas.Option.{same_Some}
 use Rattle.q_kernel.specs.Prelude.{slots, HoldsLiteral}
 use Rattle.q_kernel.proofs.KernelRuns.{led-itself}
-use Rattle.q_kernel.proofs.Basics.{some-same}
 use Rattle.q_rule.proofs.RuleSteps.{may-drop_pure, drop-cost}
 use Rattle.q_rule.proofs.LoopChanges.{shorter-in}
 use Rattle.q_rule.proofs.RemovalLoops.{clearing-bytes, clearing-more, clearing-done, with-falls}
@@ -29,14 +29,14 @@ loop-id-smaller c =
     let k = c.loop-id.kernel in
     let held : HoldsLiteral k c.in-Some.id c.args.l = c.in-Some.ensures.some c.in-Some.id refl in
     let d = c.drop_reach.ensures in
-    with-falls c.args.l k c.drop_reach.new.self c.in-Some.id d.clause d.was (subst (λ (x : Clause). IsIn c.args.l x) (some-same held.0 d.clause (sym held.1 ∙ d.was)) held.2) d.change
+    with-falls c.args.l k c.drop_reach.new.self c.in-Some.id d.clause d.was (subst (λ (x : Clause). IsIn c.args.l x) (same_Some held.0 d.clause (sym held.1 ∙ d.was)) held.2) d.change
 
 pub loop-id-preserved : goal.loop-id-preserved
 loop-id-preserved c =
     let k = c.loop-id.kernel in
     let held : HoldsLiteral k c.in-Some.id c.args.l = c.in-Some.ensures.some c.in-Some.id refl in
     let d = c.drop_reach.ensures in
-    let m : IsIn c.args.l d.clause = subst (λ (x : Clause). IsIn c.args.l x) (some-same held.0 d.clause (sym held.1 ∙ d.was)) held.2 in
+    let m : IsIn c.args.l d.clause = subst (λ (x : Clause). IsIn c.args.l x) (same_Some held.0 d.clause (sym held.1 ∙ d.was)) held.2 in
     record {
       clearing = clearing-more 16 c.args.l c.args.kernel.now k c.drop_reach.new.self c.in-Some.id (length (step_text (drop_literal c.args.l d.clause))) d.clause d.was m d.change d.prefix d.logged.led d.logged.bytes
           (drop-cost k c.in-Some.id d.clause c.sound.ensures d.was c.args.l m) c.loop-id.invariant.clearing;

@@ -1,6 +1,6 @@
 use Rattle.std.proofs.Common.{◌≡◌, ◌≤◌, ℕ, IsTrue, nat_eq, inl, inr, arith}
 use Rattle.std.proofs.lemmas.Bool.Decides.{nat_tests}
-use Rattle.q_kernel.proofs.Basics.{ℕ-cases}
+use Rattle.std.proofs.lemmas.Bool.{cases_eq}
 use Rattle.q_logic.specs.Prelude.{Literal, negation, OccursIn, live}
 use Rattle.q_logic.proofs.Common.{live-slot}
 use Rattle.q_kernel.specs.Prelude.{Seen, slots, HoldsLiteral}
@@ -27,7 +27,7 @@ returns-then-count-gt0 c =
         here,
         λ (D, m, i). none (is_zero n t) D m i,
       ),
-      λ h. elim (ℕ-cases n 0) [
+      λ h. elim (cases_eq n 0) [
         | inl e ↦ zero_is n e
         | inr d ↦ absurd (h.2 (occurs k (negation c.args.l) (some (let z : 1 ≤ n = omega arith in z))))
       ],

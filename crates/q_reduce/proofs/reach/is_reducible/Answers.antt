@@ -1,7 +1,7 @@
 use Rattle.std.proofs.Common.{◌≡◌, ◌∙◌, ◌<◌, ◌≤◌, true, false, Some, [], length, sym, subst, arith, refl, true≢false}
+use Rattle.std.proofs.lemmas.Option.{same_Some}
 use Rattle.q_logic.specs.Prelude.{negation, Clause, IsIn, slot, others}
 use Rattle.q_kernel.specs.Prelude.{slots}
-use Rattle.q_kernel.proofs.Basics.{some-same}
 use Rattle.q_reduce.specs.Walks.{IsWidened}
 use Rattle.q_reduce.proofs.ReachWalks.{visited-beside}
 use Rattle.q_reduce.proofs.FinishedWalk.{IsWalk, walk-begun, walk-more, walk-refuted, walk-ended}
@@ -14,13 +14,13 @@ loop-head-init c = begun
     begun C e =
         let k = c.args.kernel.now in
         let w = rw c.clear.ensures at c.in_ok-push_inner.ensures in
-        let q = some-same c.clause_of.result.now C (sym c.clause_of.ensures.clause ∙ e) in
+        let q = same_Some c.clause_of.result.now C (sym c.clause_of.ensures.clause ∙ e) in
         walk-begun k.prefix (others c.args.c (slots k)) C c.args.lit c.push_inner.new.queue (subst (λ (x : Clause). IsWidened k.prefix c.args.lit x [] c.push_inner.new.queue) q w)
 
 pub returns-then-head-len : goal.returns-then-head-len
 returns-then-head-len c C e =
     let k = c.args.kernel.now in
-    let q = some-same c.requires.live.0 C (sym c.requires.live.1 ∙ e) in
+    let q = same_Some c.requires.live.0 C (sym c.requires.live.1 ∙ e) in
     let m : IsIn c.args.lit C = subst (λ (x : Clause). IsIn c.args.lit x) q c.requires.live.2 in
     let past : length c.loop-head.queue ≤ c.loop-head.head = omega (arith, c.if-head-len.true, c.len.ensures) in
     let r = walk-ended k.prefix (others c.args.c (slots k)) C c.args.lit c.loop-head.head c.loop-head.queue (c.loop-head.invariant C e) past c.requires.universal m (λ n. c.requires.live.3 (subst (λ (x : Clause). IsIn (negation c.args.lit) x) (sym q) n)) in

@@ -1,18 +1,18 @@
 use Rattle.std.proofs.Common.{◌≡◌, ◌≢◌, ◌+◌, ◌∷◌, [], ℕ, Some, sym, ◌∙◌, ap, refl, subst, length}
+use Rattle.std.proofs.lemmas.Option.{same_Some}
 use Rattle.q_logic.specs.Prelude.{Literal, negation, Clause, IsIn, without, Slots, slot, add, delete, first_of}
 use Rattle.q_logic.proofs.Common.{live-slot}
 use Rattle.q_log.specs.Texts.{step_text}
 use Rattle.q_kernel.specs.Prelude.{slots, HoldsLiteral, MayShrink, IsShrunk}
 use Rattle.q_kernel.proofs.KernelRuns.{led-itself}
 use Rattle.q_kernel.proofs.SlotLists.{slot-set_other}
-use Rattle.q_kernel.proofs.Basics.{some-same}
 use Rattle.q_rule.proofs.RuleSteps.{may-shrink_unit, shrink-cost}
 use Rattle.q_rule.proofs.RemovalLoops.{clearing-bytes, clearing-more, clearing-done, with-falls, not_own}
 use Rattle.q_reduce.proofs.unit.shrink_all.Goals as goal
 
 -- the clause that was shortened is not the unit clause
 other : (N : Slots) (c id : ℕ) (l : Literal) (C : Clause) → slot N c ≡ Some (l ∷ []) → slot N id ≡ Some C → IsIn (negation l) C → c ≢ id
-other N c id l C u e m q = not_own l C m (some-same C (l ∷ []) (sym e ∙ (ap (slot N) (sym q) ∙ u)))
+other N c id l C u e m q = not_own l C m (same_Some C (l ∷ []) (sym e ∙ (ap (slot N) (sym q) ∙ u)))
 
 pub loop-id-init : goal.loop-id-init
 loop-id-init c = record {
@@ -33,7 +33,7 @@ loop-id-smaller c =
     let k = c.loop-id.kernel in
     let held : HoldsLiteral k c.in-Some.id (negation c.args.l) = subst (λ (x : Literal). HoldsLiteral k c.in-Some.id x) c.negated-gone.ensures (c.in-Some.ensures.some c.in-Some.id refl) in
     let d : IsShrunk k c.shrink.new.self c.in-Some.id (negation c.args.l) = subst (λ (x : Literal). IsShrunk k c.shrink.new.self c.in-Some.id x) c.negated-gone.ensures c.shrink.ensures in
-    with-falls (negation c.args.l) k c.shrink.new.self c.in-Some.id d.clause d.was (subst (λ (x : Clause). IsIn (negation c.args.l) x) (some-same held.0 d.clause (sym held.1 ∙ d.was)) held.2) d.change
+    with-falls (negation c.args.l) k c.shrink.new.self c.in-Some.id d.clause d.was (subst (λ (x : Clause). IsIn (negation c.args.l) x) (same_Some held.0 d.clause (sym held.1 ∙ d.was)) held.2) d.change
 
 pub loop-id-preserved : goal.loop-id-preserved
 loop-id-preserved c =
@@ -41,7 +41,7 @@ loop-id-preserved c =
     let m = negation c.args.l in
     let held : HoldsLiteral k c.in-Some.id m = subst (λ (x : Literal). HoldsLiteral k c.in-Some.id x) c.negated-gone.ensures (c.in-Some.ensures.some c.in-Some.id refl) in
     let d : IsShrunk k c.shrink.new.self c.in-Some.id m = subst (λ (x : Literal). IsShrunk k c.shrink.new.self c.in-Some.id x) c.negated-gone.ensures c.shrink.ensures in
-    let i : IsIn m d.clause = subst (λ (x : Clause). IsIn m x) (some-same held.0 d.clause (sym held.1 ∙ d.was)) held.2 in
+    let i : IsIn m d.clause = subst (λ (x : Clause). IsIn m x) (same_Some held.0 d.clause (sym held.1 ∙ d.was)) held.2 in
     record {
       clearing = clearing-more 32 m c.args.kernel.now k c.shrink.new.self c.in-Some.id (length (step_text (add (first_of (without m d.clause)) (without m d.clause))) + length (step_text (delete (first_of d.clause) d.clause))) d.clause d.was i d.change d.prefix d.led d.bytes
           (shrink-cost k c.in-Some.id d.clause c.sound.ensures d.was m) c.loop-id.invariant.clearing;

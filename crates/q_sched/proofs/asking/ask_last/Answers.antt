@@ -1,5 +1,6 @@
 use Rattle.std.proofs.Common.{arith}
-use Rattle.q_sched.proofs.ReversedLists.{asks_last, on_err}
+use Rattle.q_logic.proofs.Common.{on_err}
+use Rattle.q_sched.proofs.ReversedLists.{asks_last}
 use Rattle.q_sched.proofs.asking.ask_last.Goals as goal
 
 pub returns-in_err-reply-clause-err_list : goal.returns-in_err-reply-clause-err_list

@@ -1,9 +1,10 @@
 use Rattle.std.proofs.Common.{◌∙◌, ap, Err}
 use Rattle.std.proofs.lemmas.Result.{err_from_is_err_and}
+use Rattle.q_reduce.proofs.LearnedKept.{fit-same}
 use Rattle.q_io.specs.declared.error.DeviceError.TheVariants.{NoMemory}
 use Rattle.q_io.proofs.FaultCounts.{later_still, rose_later}
 use Rattle.q_simplify.proofs.LogFile.{has_log-left, stopped}
-use Rattle.q_simplify.proofs.TurnEffects.{has_log-turned, moves-turned, moves-flushed, stops-settled, stops-spent, ready-flushed, fit-flushed}
+use Rattle.q_simplify.proofs.TurnEffects.{has_log-turned, moves-turned, moves-flushed, stops-settled, stops-spent, ready-flushed}
 use Rattle.q_simplify.proofs.driving.take_turns.Goals as goal
 
 pub returns-in_err-next_turn-clause-goes_on : goal.returns-in_err-next_turn-clause-goes_on
@@ -31,7 +32,7 @@ loop-files-preserved-in-Continue-branch-3 g c =
       };
       ready = ready-flushed c.next_turn.new.kernel c.flush.new.kernel c.flush.ensures.prefix c.flush.ensures.clauses c.next_turn.ensures.ready;
       moves = moves-flushed _ _ _ _ c.next_turn.new.kernel c.flush.new.kernel c.flush.ensures.prefix c.flush.ensures.clauses (moves-turned c.in_ok-next_turn.field-0 _ _ _ c.loop-files.kernel c.next_turn.new.kernel c.loop-files.invariant.frame c.in_ok-next_turn.ensures.turned.ends c.loop-files.invariant.moves);
-      fit = fit-flushed c.next_turn.new.kernel c.flush.new.kernel _ c.flush.ensures.prefix c.flush.ensures.clauses c.next_turn.ensures.fit;
+      fit = fit-same c.next_turn.new.kernel c.flush.new.kernel _ c.flush.ensures.prefix c.flush.ensures.clauses c.next_turn.ensures.fit;
       log = λ G first h. c.in_ok-flush-in-Moved.ensures.goes_on.log G first (has_log-turned c.in_ok-next_turn.field-0 _ G c.args.log.now first c.loop-files.kernel c.next_turn.new.kernel (g.F.Files.held c.loop-files.files) c.in_ok-next_turn.ensures.turned.ends (c.loop-files.invariant.log G first h));
       later = later_still _ _ _ _ _ c.loop-files.invariant.later c.in_ok-flush-in-Moved.ensures.goes_on.later;
     }

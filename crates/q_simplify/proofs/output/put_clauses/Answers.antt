@@ -1,9 +1,9 @@
 use Rattle.std.proofs.Common.{List, ℕ, ◌++◌, arith}
+use Rattle.q_logic.proofs.Common.{on_err}
 use Rattle.q_io.specs.Files.{Disk, MayHoldFront}
 use Rattle.q_dimacs.specs.Writing.{matrix_text}
 use Rattle.q_simplify.specs.Outputs.{HoldsSome}
 use Rattle.q_io.proofs.FaultCounts.{later_still, later_at_once}
-use Rattle.q_io.proofs.MemoryStore.{on_err}
 use Rattle.q_simplify.proofs.Putting.{come-none, come-more, come-stopped, come-failed, come-all}
 use Rattle.q_simplify.proofs.output.put_clauses.Goals as goal
 

@@ -1,4 +1,4 @@
-use Rattle.q_io.proofs.MemoryStore.{on_err}
+use Rattle.q_logic.proofs.Common.{on_err}
 use Rattle.q_simplify.proofs.Putting.{holds-part, holds-put}
 use Rattle.q_simplify.proofs.output.put_piece.Goals as goal
 

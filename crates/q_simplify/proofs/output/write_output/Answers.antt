@@ -1,9 +1,9 @@
 use Rattle.std.proofs.Common.{◌∙◌, ap, List, ℕ, ◌++◌}
-use Rattle.q_io.proofs.MemoryStore.{on_err}
 use Rattle.q_io.proofs.StoreContents.{untouched, not_created}
 use Rattle.q_dimacs.specs.Writing.{formula_text, front_text}
 use Rattle.q_simplify.proofs.Putting.{output-stopped, output-last, output-whole, on_both}
 use Rattle.std.proofs.lemmas.Result.{on_err_weaker}
+use Rattle.q_logic.proofs.Common.{on_err}
 use Rattle.q_simplify.proofs.output.write_output.Goals as goal
 
 pub returns-in_err-put_front-clause-part : goal.returns-in_err-put_front-clause-part

@@ -1,6 +1,6 @@
+use Rattle.q_logic.proofs.Common.{on_err}
 use Rattle.q_io.specs.Files.{Disk, Empties}
 use Rattle.q_simplify.specs.Logs.{LeavesLog}
-use Rattle.q_io.proofs.MemoryStore.{on_err}
 use Rattle.q_kernel.specs.Prelude.{formula_in}
 use Rattle.q_simplify.proofs.LogFile.{has_log-left, has_log-whole}
 use Rattle.q_simplify.proofs.KernelWork.{swept-ready, begin-left, begin-swept, no_bytes, reports}

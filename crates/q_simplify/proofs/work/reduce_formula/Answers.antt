@@ -1,8 +1,8 @@
 use Rattle.std.proofs.Common.{subst}
 use Rattle.std.proofs.lemmas.Result.{IfOk-weaker, on_err_weaker}
 use Rattle.q_io.specs.Files.{Disk, Empties}
-use Rattle.q_io.proofs.MemoryStore.{on_err}
 use Rattle.q_logic.specs.Prelude.{PrenexFormula}
+use Rattle.q_logic.proofs.Common.{on_err}
 use Rattle.q_simplify.specs.Logs.{LeavesLog}
 use Rattle.q_simplify.specs.Results.{LeadsTo}
 use Rattle.q_simplify.proofs.KernelWork.{begin-formula_left}

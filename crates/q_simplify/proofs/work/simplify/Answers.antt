@@ -1,5 +1,5 @@
 use Rattle.std.proofs.lemmas.Option.{IfSome_then}
-use Rattle.q_io.proofs.MemoryStore.{on_err}
+use Rattle.q_logic.proofs.Common.{on_err}
 use Rattle.q_simplify.proofs.BothFiles.{simplifies, leaves-not_created, leaves-log, leaves-part}
 use Rattle.q_simplify.proofs.work.simplify.Goals as goal
 

@@ -1,6 +1,7 @@
 use Rattle.std.proofs.Common.{◌≤◌, length, sym, ap, ◌∙◌, arith}
+use Rattle.q_search.proofs.PathValues.{read-at}
 use Rattle.q_solve.specs.declared.picks.Pick.{Pick}
-use Rattle.q_solve.proofs.GrownRows.{taken-none, read-at}
+use Rattle.q_solve.proofs.GrownRows.{taken-none}
 use Rattle.q_solve.proofs.picks.take.Goals as goal
 use Rattle.q_solve.proofs.picks.take.Goals.{then-at-row-via-then-at-row, then-at-row-via-else-at-row+then-row-at}
 

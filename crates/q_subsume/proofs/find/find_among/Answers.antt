@@ -1,6 +1,6 @@
 use Rattle.std.proofs.Common.{◌∙◌, sym}
+use Rattle.q_logic.proofs.Common.{none_of}
 use Rattle.q_kernel.proofs.ForLoops.{holder-turn, each-came, All-more}
-use Rattle.q_rule.proofs.RuleSearch.{none-is}
 use Rattle.q_subsume.proofs.SubsumeSearch.{IsSeen, seen-all, found-among}
 use Rattle.q_subsume.proofs.find.find_among.Goals as goal
 
@@ -14,7 +14,7 @@ returns-then-is_some c =
 
 pub loop-d-preserved : goal.loop-d-preserved
 loop-d-preserved c =
-    let none = c.look-found.ensures.none (none-is c.look-found.result (sym c.is_some.ensures ∙ c.if-is_some.false)) in
+    let none = c.look-found.ensures.none (none_of c.look-found.result (sym c.is_some.ensures ∙ c.if-is_some.false)) in
     All-more (IsSeen c.args.kernel.now c.args.c c.args.from) c.loop-d.yielded c.in-Some.d c.loop-d.invariant (record { none = none })
 
 pub returns : goal.returns

@@ -1,7 +1,8 @@
 use Rattle.std.proofs.Common.{◌∙◌, ◌≤◌, Option, sym, subst, arith}
+use Rattle.q_logic.proofs.Common.{none_of}
 use Rattle.q_kernel.proofs.ForLoops.{live-turn, turn, each-came, All-more}
 use Rattle.q_rule.specs.Searching.{IsFound}
-use Rattle.q_rule.proofs.RuleSearch.{found-more, none-is}
+use Rattle.q_rule.proofs.RuleSearch.{found-more}
 use Rattle.q_subsume.specs.Targets.{target_of}
 use Rattle.q_subsume.specs.declared.target.Target.{Target}
 use Rattle.q_subsume.specs.Searches.{IsBy, IsBehind}
@@ -20,7 +21,7 @@ returns-then-is_some c =
 pub loop-c-preserved : goal.loop-c-preserved
 loop-c-preserved c =
     let k = c.args.kernel.now in
-    let none = subst (λ (o : Option Target). IsFound target_of k (IsBy c.in-Some.c c.args.from) o) (none-is c.find_by-found.result (sym c.is_some.ensures ∙ c.if-is_some.false)) c.find_by-found.ensures in
+    let none = subst (λ (o : Option Target). IsFound target_of k (IsBy c.in-Some.c c.args.from) o) (none_of c.find_by-found.result (sym c.is_some.ensures ∙ c.if-is_some.false)) c.find_by-found.ensures in
     All-more (IsTried k c.args.from) c.loop-c.yielded c.in-Some.c c.loop-c.invariant (record { none = none })
 
 pub returns : goal.returns

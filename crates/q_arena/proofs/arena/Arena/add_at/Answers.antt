@@ -1,4 +1,5 @@
 use Rattle.std.proofs.Common.{◌≡◌, ◌≢◌, ◌+◌, ◌-◌, ◌<◌, ◌≤◌, sym, ◌∙◌, ap, arith, length, map, None, Some, Option, List, subst, ℕ, true, set, get_or}
+use Rattle.std.proofs.lemmas.Option.{same_Some}
 use Rattle.q_logic.specs.Prelude.{Literal, IsBelow, ArePairs}
 use Rattle.q_arena.specs.Rings.{Has, AreApart, without}
 use Rattle.q_arena.proofs.RingLemmas.{length-without}
@@ -9,7 +10,6 @@ use Rattle.q_arena.specs.Gaps.{IsSound}
 use Rattle.q_arena.specs.Seen.{piece, clause_in}
 use Rattle.q_arena.proofs.Layouts.{live-within, total-within, AreLaid-add, slot-set_other, slot-set_here}
 use Rattle.q_arena.proofs.ClauseWords.{live-of, clause-is, clauses-set, piece-moved, piece-is, blank_lit, start-is, ordered-same, ordered-set}
-use Rattle.q_arena.proofs.NumberCases.{some-same}
 use Rattle.q_arena.proofs.Layouts.{stack-same, top-same}
 use Rattle.q_arena.proofs.GapLemmas.{gap-add, gap-same}
 use Rattle.q_arena.proofs.arena.Arena.add_at.Goals as goal
@@ -71,7 +71,7 @@ invariant_of-self c =
     let gap = gap-add t id i.ids.used st start ∙ gap-same (slot_at i.slots.items) t i.ids.used same in
     let now = clauses-added a id there c.write.new.words.items c.args.lits.now c.write.ensures.len (rw (← c.self.view_is) at c.requires.words) c.write.ensures.there c.write.ensures.below in
     record {
-      ordered = ordered-same _ _ now (ordered-set _ id _ a.ordered (λ d' e. subst (ArePairs IsBelow) (some-same _ d' e) c.requires.ordered));
+      ordered = ordered-same _ _ now (ordered-set _ id _ a.ordered (λ d' e. subst (ArePairs IsBelow) (same_Some _ d' e) c.requires.ordered));
       known = rw (c.take.ensures.used, a.known) (sym gap);
       few_words = rw c.write.ensures.len a.few_words;
       laid =

@@ -1,5 +1,6 @@
 use Rattle.std.proofs.Common.{◌≡◌, ◌≤◌, ◌-◌, ◌∷◌, sym, ◌∙◌, ap, arith, length, map, Some, None, Option, List, subst, refl, ℕ, false, set, get_or}
 use Rattle.std.proofs.lemmas.List.{get_or_default}
+use Rattle.std.proofs.lemmas.Option.{none-some}
 use Rattle.q_logic.specs.Prelude.{Literal}
 use Rattle.q_arena.specs.Rings.{Has, without}
 use Rattle.q_arena.specs.declared.slots.Slot.{Slot}
@@ -9,7 +10,6 @@ use Rattle.q_arena.specs.Seen.{clause_in}
 use Rattle.q_arena.proofs.Layouts.{used-below, AreLaid-delete, slot-set_other, without-gone}
 use Rattle.q_arena.proofs.MovedClauses.{Stands, stands}
 use Rattle.q_arena.proofs.ClauseWords.{live-of, clauses-set, starts-same, ordered-same, ordered-set}
-use Rattle.q_arena.proofs.NumberCases.{none-some}
 use Rattle.q_arena.proofs.GapLemmas.{gap-delete, gap-same}
 use Rattle.q_arena.proofs.arena.Arena.delete.Goals as goal
 

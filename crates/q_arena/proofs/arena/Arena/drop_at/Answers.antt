@@ -1,4 +1,5 @@
 use Rattle.std.proofs.Common.{◌≡◌, ◌+◌, ◌-◌, ◌<◌, ◌≤◌, sym, ◌∙◌, ap, arith, length, map, None, Some, Option, List, subst, refl, ℕ, true, set, get_or}
+use Rattle.std.proofs.lemmas.Option.{same_Some}
 use Rattle.q_logic.specs.Prelude.{Literal, IsBelow, ArePairs}
 use Rattle.q_arena.specs.declared.slots.Slot.{Slot}
 use Rattle.q_arena.specs.Layout.{slot_at, top_of, Order, AreLaid}
@@ -9,7 +10,6 @@ use Rattle.q_arena.proofs.Layouts.{used-below, AreLaid-moved, slot-set_other, sl
 use Rattle.q_arena.proofs.GapLemmas.{gap-drop}
 use Rattle.q_arena.proofs.MovedClauses.{Stands, stands, others-stay}
 use Rattle.q_arena.proofs.ClauseWords.{blank_lit, live-of, clause-live, clauses-set, piece-without, length-piece, starts-same, ordered-same, ordered-set, pairs-without_at}
-use Rattle.q_arena.proofs.NumberCases.{some-same}
 use Rattle.q_arena.proofs.arena.Arena.drop_at.Goals as goal
 
 -- The clause in the slot x loses the literal at k.
@@ -30,7 +30,7 @@ module _ {words : List Literal} {slots : List Slot} {ids : Order} {end total : �
       let l = live-of words slots id c there in
       let m = stands a id l in
       let here : Some (piece words (slot_at slots id).start (slot_at slots id).len) ≡ Some c = sym (clause-live words slots id l) ∙ there in
-      let is = some-same (piece words (slot_at slots id).start (slot_at slots id).len) c here in
+      let is = same_Some (piece words (slot_at slots id).start (slot_at slots id).len) c here in
       let n = length-piece words (slot_at slots id).start (slot_at slots id).len m.within in
       record {
         live = l;
@@ -128,7 +128,7 @@ invariant_of-self c =
     let m = loses a id k C x q c.requires.2 c.slot_of-slot.ensures in
     let now = clauses-shorter a id k C x m c.move_down.new.words.items c.move_down.ensures.len c.move_down.ensures.moved c.move_down.ensures.below c.move_down.ensures.above in
     record {
-      ordered = ordered-same _ _ now (ordered-set _ id _ a.ordered (λ d' e. subst (ArePairs IsBelow) (some-same _ d' e) (pairs-without_at IsBelow k C (a.ordered id C q))));
+      ordered = ordered-same _ _ now (ordered-set _ id _ a.ordered (λ d' e. subst (ArePairs IsBelow) (same_Some _ d' e) (pairs-without_at IsBelow k C (a.ordered id C q))));
       laid = rw (c.end_of-self-inside.ensures, c.move_down.ensures.len) (laid-shorter a id k C x m).1;
       few_words = rw c.move_down.ensures.len a.few_words;
       known = rw (c.gap_after_drop-gap.ensures, c.after-up.ensures, a.known) (sym (gap-shorter a id k C x m));
@@ -148,6 +148,6 @@ returns-clause-starts c =
 pub returns-clause-clauses : goal.returns-clause-clauses
 returns-clause-clauses c = λ d e.
     let x = c.slot_of-slot.result in
-    let same = some-same c.requires.0 d (sym c.requires.1 ∙ e) in
+    let same = same_Some c.requires.0 d (sym c.requires.1 ∙ e) in
     let m = loses c.self.invariant c.args.id c.args.k d x (rw (← c.self.view_is) at e) (rw (← same) c.requires.2) c.slot_of-slot.ensures in
     rw (← c.self.view_is) (clauses-shorter c.self.invariant c.args.id c.args.k d x m c.move_down.new.words.items c.move_down.ensures.len c.move_down.ensures.moved c.move_down.ensures.below c.move_down.ensures.above)

@@ -1,14 +1,14 @@
 use Rattle.std.proofs.Common.{◌≡◌, sym, ◌∙◌, subst, Some, inl, inr, true≢false, arith}
 use Rattle.std.proofs.lemmas.Bool.{cases_lt}
+use Rattle.std.proofs.lemmas.Option.{same_Some}
 use Rattle.q_arena.specs.Seen.{Clauses, clause_at, IsLive}
-use Rattle.q_arena.proofs.NumberCases.{some-same}
 use Rattle.q_arena.proofs.Layouts.{live-below}
 use Rattle.q_arena.proofs.ClauseWords.{live-of}
 use Rattle.q_arena.proofs.arena.Arena.next_live.Goals as goal
 
 pub returns-then-live-clause-least : goal.returns-then-live-clause-least
 returns-then-live-clause-least c = λ id k e f l x.
-    let same = some-same c.loop-id.id id e in
+    let same = same_Some c.loop-id.id id e in
     c.loop-id.invariant k f (omega (arith, same, l)) x
 
 pub loop-id-preserved : goal.loop-id-preserved

@@ -1,7 +1,7 @@
 use Rattle.std.proofs.Common.{sym, ◌∙◌, ap, subst, arith}
+use Rattle.std.proofs.lemmas.Option.{same_Some}
 use Rattle.q_arena.specs.Layout.{slot_at}
 use Rattle.q_arena.specs.Seen.{piece, IsLive, IsFirstPastDead, Clauses}
-use Rattle.q_arena.proofs.NumberCases.{some-same}
 use Rattle.q_arena.proofs.Layouts.{live-below}
 use Rattle.q_arena.proofs.ClauseWords.{clause-live}
 use Rattle.q_arena.proofs.FilledWords.{gap-words}
@@ -32,5 +32,5 @@ returns-clause-some c = λ id e.
     let live : IsLive c.args.self.now g = rw (← c.self.view_is) (piece i.words.items (slot_at i.slots.items g).start (slot_at i.slots.items g).len, clause-live i.words.items i.slots.items g l) in
     let there : IsFirstPastDead c.args.self.now g = record { live = live; dead = words.0; first = words.1 } in (
       rw (← c.self.view_is) (omega (arith, less, c.self.invariant.laid.top, c.self.invariant.laid.whole)),
-      subst (IsFirstPastDead c.args.self.now) (some-same g id e) there,
+      subst (IsFirstPastDead c.args.self.now) (same_Some g id e) there,
     )

@@ -1,8 +1,7 @@
 use Rattle.std.proofs.Common.{◌≡◌, ◌∙◌, ◌+◌, ◌<◌, ◌≤◌, ◌++◌, ◌∷◌, [], List, length, take, get_or, sym, ap, subst, arith}
-use Rattle.q_logic.proofs.Common.{taken-all}
+use Rattle.q_logic.proofs.Common.{taken-all, taken}
 use Rattle.q_blocked.specs.declared.plan.Stage.{Stage}
 use Rattle.q_blocked.specs.Plans.{words_of}
-use Rattle.q_blocked.proofs.ListFronts.{taken}
 use Rattle.q_blocked.proofs.plan.Plan.size.Goals as goal
 
 words_of-last : (ss : List Stage) (s : Stage) → words_of (ss ++ s ∷ []) ≡ words_of ss + s.to

@@ -1,5 +1,5 @@
 use Rattle.std.proofs.Common.{◌∙◌, ap, subst, sym, ◌<◌, ◌^◌, ◌+◌, ℕ}
-use Rattle.q_command.proofs.FilePieces.{on_ok}
+use Rattle.q_check.proofs.PushedHints.{on_ok-then}
 use Rattle.q_command.proofs.BothCheckers.{answer-hinted, refusal-hinted, held-ok, held-err, filled-hinted-some, filled-hints}
 use Rattle.q_command.proofs.judges.Judges.step_hinted.Goals as goal
 
@@ -13,7 +13,7 @@ step-requires-clause-hints c =
 
 pub returns-clause-taken : goal.returns-clause-taken
 returns-clause-taken c =
-    on_ok c.step.result c.step.ensures.taken
+    on_ok-then c.step.result c.step.ensures.taken
     (λ e. e ∙ ap (λ (n : ℕ). n + 1) (filled-hints c.args.self.now.keeps_undo c.args.self.now.origin c.args.self.now.hinted c.fill.new.self c.in_ok-fill.ensures.ready))
 
 pub returns-clause-behind : goal.returns-clause-behind

@@ -1,6 +1,7 @@
 use Rattle.std.proofs.Common.{◌≡◌, ◌≤◌, ◌<◌, length, Some, slice_get, refl, ap, subst, inr, arith}
+use Rattle.q_logic.proofs.Common.{slice_get-IsIn}
 use Rattle.q_expand.specs.Dependents.{Walked}
-use Rattle.q_expand.proofs.WholeWalk.{walk-begun, walk-more, walk-ended, place-member}
+use Rattle.q_expand.proofs.WholeWalk.{walk-begun, walk-more, walk-ended}
 use Rattle.q_expand.proofs.dependents.Dependents.grow.Goals as goal
 
 pub loop-head-init : goal.loop-head-init
@@ -16,7 +17,7 @@ returns-then-head-len-clause-whole c t =
 
 pub visit_both-requires-in-loop-head : goal.visit_both-requires-in-loop-head
 visit_both-requires-in-loop-head c =
-    let i = place-member c.loop-head.self.vars c.loop-head.head c.at-next.result (subst (λ (w : Walked). slice_get w.vars c.loop-head.head ≡ Some c.at-next.result) c.self.view_is c.at-next.ensures) in
+    let i = slice_get-IsIn c.loop-head.self.vars c.loop-head.head c.at-next.result (subst (λ (w : Walked). slice_get w.vars c.loop-head.head ≡ Some c.at-next.result) c.self.view_is c.at-next.ensures) in
     record {
       sign = c.requires.sign;
       bound = c.requires.bound;

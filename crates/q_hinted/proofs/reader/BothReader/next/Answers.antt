@@ -1,6 +1,7 @@
 use Rattle.std.proofs.Common.{get_or, Ok, Err, Some, None, sym, ◌+◌, ◌∙◌}
+use Rattle.q_log.proofs.LogPieces.{take-one}
 use Rattle.q_hinted.proofs.Fewer.{taken-fewer}
-use Rattle.q_hinted.proofs.HintedPieces.{take-one, reads-more, stops-behind, answer-leads}
+use Rattle.q_hinted.proofs.HintedPieces.{reads-more, stops-behind, answer-leads}
 use Rattle.q_hinted.proofs.reader.BothReader.next.Goals as goal
 
 pub returns-in-Ok-clause-next : goal.returns-in-Ok-clause-next

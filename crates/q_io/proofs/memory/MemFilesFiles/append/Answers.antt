@@ -1,4 +1,5 @@
-use Rattle.q_io.proofs.MemoryStore.{on_err, appended_front, part_of_front}
+use Rattle.q_logic.proofs.Common.{on_err}
+use Rattle.q_io.proofs.MemoryStore.{appended_front, part_of_front}
 use Rattle.q_io.proofs.memory.MemFilesFiles.append.Goals as goal
 
 pub returns-in_err-append-in-Some-clause-err : goal.returns-in_err-append-in-Some-clause-err

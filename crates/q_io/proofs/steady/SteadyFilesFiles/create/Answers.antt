@@ -1,5 +1,6 @@
 use Rattle.std.proofs.Common.{◌∙◌}
-use Rattle.q_io.proofs.MemoryStore.{on_err, unchanged_may_empty, emptied}
+use Rattle.q_logic.proofs.Common.{on_err}
+use Rattle.q_io.proofs.MemoryStore.{unchanged_may_empty, emptied}
 use Rattle.q_io.proofs.steady.SteadyFilesFiles.create.Goals as goal
 
 pub returns-in_err-store-clause-err : goal.returns-in_err-store-clause-err

@@ -1,11 +1,11 @@
 use Rattle.std.proofs.Common.{◌∷◌, Some, arith, inr, subst}
+use Rattle.std.proofs.lemmas.Option.{slice_get_within}
 use Rattle.q_logic.specs.Prelude.{Clause, IsIn, without}
-use Rattle.q_logic.proofs.Common.{without-IsIn, without-shorter}
+use Rattle.q_logic.proofs.Common.{without-IsIn, without-shorter, without-in_order}
 use Rattle.q_prop.specs.Slots.{filled}
 use Rattle.q_judge.proofs.KeptWalks.{walks-shrunk, walks-fewer}
-use Rattle.q_prop.proofs.SlotLemmas.{slice_get-in}
 use Rattle.q_judge.proofs.RegionSeparation.{all-shrunk}
-use Rattle.q_judge.proofs.SlotFormula.{counted-shrunk, ordered-without}
+use Rattle.q_judge.proofs.SlotFormula.{counted-shrunk}
 use Rattle.q_judge.proofs.SlotCollections.{left-sizes, held-in}
 use Rattle.q_judge.proofs.TriedSteps.{put-holds}
 use Rattle.q_judge.proofs.ledger.Ledger.shorten.Goals as goal
@@ -13,7 +13,7 @@ use Rattle.q_judge.proofs.ledger.Ledger.shorten.Goals as goal
 pub add-requires : goal.add-requires
 add-requires c =
     let r = c.requires.rest in
-    record { ordered = rw r.1 (ordered-without r.0 c.args.clause.now c.requires.ordered) }
+    record { ordered = rw r.1 (without-in_order r.0 c.args.clause.now c.requires.ordered) }
 
 pub delete-requires : goal.delete-requires
 delete-requires c =
@@ -22,7 +22,7 @@ delete-requires c =
     let r = c.requires.rest in
     let h = rw (← c.self.view_is) at c.requires.there in
     let p = rw r.1 at c.in_ok-new.ensures.ok in
-    slice_get-in c.add.new.self c.args.at (Some C) (put-holds s c.add.new.self c.args.at c.in_ok-new.new C (without r.0 C) p h)
+    slice_get_within c.add.new.self c.args.at (Some C) (put-holds s c.add.new.self c.args.at c.in_ok-new.new C (without r.0 C) p h)
 
 pub overflow_sub-self : goal.overflow_sub-self
 overflow_sub-self c = let r = c.requires.rest in rw r.1 (without-shorter r.0 c.args.clause.now)

@@ -1,10 +1,11 @@
 use Rattle.std.proofs.Common.{ℕ, Some, subst, inl, inr, arith}
+use Rattle.std.proofs.lemmas.Option.{slice_get_within}
 use Rattle.q_logic.specs.Prelude.{Clause}
+use Rattle.q_logic.proofs.Common.{before_or_at}
 use Rattle.q_prop.specs.Slots.{Holds}
-use Rattle.q_prop.proofs.SlotLemmas.{slice_get-in}
+use Rattle.q_prop.proofs.BucketLemmas.{same-clause}
 use Rattle.q_judge.specs.Regions.{IsRegional}
-use Rattle.q_judge.proofs.SlotCollections.{in-held, one_clause}
-use Rattle.q_judge.proofs.ReachWalks.{earlier}
+use Rattle.q_judge.proofs.SlotCollections.{in-held}
 use Rattle.q_judge.proofs.regions.Regions.are_right.Goals as goal
 use Rattle.q_judge.proofs.regions.Regions.are_right.Goals.{in-Some+else-not-fit, in_default}
 
@@ -12,13 +13,13 @@ pub loop-at-init : goal.loop-at-init
 loop-at-init c n D h e = absurd (omega arith)
 
 pub loop-at-preserved : goal.loop-at-preserved
-loop-at-preserved c n D h e = elim (earlier n c.loop-at.at h) [
+loop-at-preserved c n D h e = elim (before_or_at n c.loop-at.at h) [
   | inl a ↦ c.loop-at.invariant n D a e
   | inr q ↦
       let there = subst (λ (m : ℕ). Holds c.args.store.now m D) q e in
       elim c.match-slot.branch [
         | in-Some+else-not-fit w ↦
-            subst (λ (E : Clause). IsRegional c.args.scope.now c.args.self.now E) (one_clause c.args.store.now c.loop-at.at w.in-Some.clause.now D w.in-Some.ensures there) (w.fit.ensures w.if-not-fit.false)
+            subst (λ (E : Clause). IsRegional c.args.scope.now c.args.self.now E) (same-clause c.args.store.now c.loop-at.at w.in-Some.clause.now D w.in-Some.ensures there) (w.fit.ensures w.if-not-fit.false)
         | in_default w ↦ absurd (w.in_default.ensures D there)
       ]
 ]
@@ -26,5 +27,5 @@ loop-at-preserved c n D h e = elim (earlier n c.loop-at.at h) [
 pub returns : goal.returns
 returns c t u D m =
     let n = in-held c.args.store.now D m in
-    let h = slice_get-in c.args.store.now n.0 (Some D) n.1 in
+    let h = slice_get_within c.args.store.now n.0 (Some D) n.1 in
     c.loop-at.invariant n.0 D (omega (arith, h, c.loop-at-test.false, c.slots-at-end.ensures)) n.1

@@ -1,8 +1,10 @@
 use Rattle.std.proofs.Common.{◌≡◌, ℕ, true, get_or, sym, subst, inl, inr}
+use Rattle.std.proofs.lemmas.List.{get_or_default}
 use Rattle.q_logic.specs.Prelude.{Clause, IsIn, inner_existential}
 use Rattle.q_logic.proofs.Common.{Contains-IsIn, taken-cases, taken-all}
 use Rattle.q_prop.specs.Slots.{Holds}
-use Rattle.q_judge.proofs.SlotCollections.{in-held, one_clause, whichever}
+use Rattle.q_prop.proofs.BucketLemmas.{same-clause}
+use Rattle.q_judge.proofs.SlotCollections.{in-held}
 use Rattle.q_judge.proofs.regions.Regions.part.Goals as goal
 use Rattle.q_judge.proofs.regions.Regions.part.Goals.{in-Some+else-not-has_none, in_default}
 
@@ -13,13 +15,13 @@ pub loop-at-preserved : goal.loop-at-preserved
 loop-at-preserved c n m D h k a t r =
     let xs = c.slots_of-at-items.result.now in
     let i = c.loop-at.at-index in
-    elim (taken-cases xs i (get_or xs i 0) n c.loop-at-test.true (whichever xs i 0 (get_or xs i 0) c.loop-at-test.true) m) [
+    elim (taken-cases xs i (get_or xs i 0) n c.loop-at-test.true (get_or_default xs i 0 (get_or xs i 0) c.loop-at-test.true) m) [
       | inl b ↦ c.loop-at.invariant n b D h k a t r
       | inr q ↦
           let there = subst (λ (x : ℕ). Holds c.args.store.now x D) q h in
           elim c.match-slot.branch [
             | in-Some+else-not-has_none w ↦
-                let e = one_clause c.args.store.now (get_or xs i 0) D w.in-Some.clause.now there w.in-Some.ensures in
+                let e = same-clause c.args.store.now (get_or xs i 0) D w.in-Some.clause.now there w.in-Some.ensures in
                 w.has_none.ensures w.if-not-has_none.false k (subst (λ (E : Clause). IsIn k E) e a) (subst (λ (x : ℕ). inner_existential c.args.scope.now x k.var ≡ true) (sym w.var.ensures.value) t) r
             | in_default w ↦ w.in_default.ensures D there
           ]

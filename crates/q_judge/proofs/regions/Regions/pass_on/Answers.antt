@@ -1,18 +1,18 @@
 use Rattle.std.proofs.Common.{◌≡◌, ◌∙◌, true, sym}
 use Rattle.q_logic.specs.Prelude.{is_universal, outer_or_same}
-use Rattle.q_logic.proofs.Common.{bound_of_u}
+use Rattle.q_logic.proofs.Common.{universal-is_bound}
 use Rattle.q_judge.specs.Regions.{RegionMap}
 use Rattle.q_judge.proofs.RegionSeparation.{regions-nested}
 use Rattle.q_judge.proofs.regions.Regions.pass_on.Goals as goal
 
 pub serve-requires : goal.serve-requires
-serve-requires c = bound_of_u c.args.scope.now c.args.w (sym c.is_universal.ensures ∙ c.if-is_universal.true)
+serve-requires c = universal-is_bound c.args.scope.now c.args.w (sym c.is_universal.ensures ∙ c.if-is_universal.true)
 
 pub outer_or_same-requires-clause-first : goal.outer_or_same-requires-clause-first
-outer_or_same-requires-clause-first c = bound_of_u c.args.scope.now c.args.w (sym c.is_universal.ensures ∙ c.if-is_universal.true)
+outer_or_same-requires-clause-first c = universal-is_bound c.args.scope.now c.args.w (sym c.is_universal.ensures ∙ c.if-is_universal.true)
 
 pub outer_or_same-requires-clause-second : goal.outer_or_same-requires-clause-second
-outer_or_same-requires-clause-second c = bound_of_u c.args.scope.now c.self.inside.var (rw (← c.self.view_is) at c.serve.ensures.universal c.if-serve.true)
+outer_or_same-requires-clause-second c = universal-is_bound c.args.scope.now c.self.inside.var (rw (← c.self.view_is) at c.serve.ensures.universal c.if-serve.true)
 
 pub returns-then-outer_or_same : goal.returns-then-outer_or_same
 returns-then-outer_or_same c =

@@ -1,19 +1,19 @@
+use Rattle.q_logic.proofs.Common.{universal-is_bound}
 use Rattle.q_prop.specs.Slots.{filled}
-use Rattle.q_logic.proofs.Common.{bound_of_u}
 use Rattle.q_judge.proofs.RegionSeparation.{reducible-apart}
 use Rattle.q_judge.proofs.regions.Regions.separate.Goals as goal
 
 pub serve-requires : goal.serve-requires
-serve-requires c = rw c.var.ensures.value (bound_of_u c.args.scope.now c.args.lit.var c.requires.universal)
+serve-requires c = rw c.var.ensures.value (universal-is_bound c.args.scope.now c.args.lit.var c.requires.universal)
 
 pub region_in-region-requires : goal.region_in-region-requires
-region_in-region-requires c = rw c.var-2.ensures.value (bound_of_u c.args.scope.now c.args.lit.var c.requires.universal)
+region_in-region-requires c = rw c.var-2.ensures.value (universal-is_bound c.args.scope.now c.args.lit.var c.requires.universal)
 
 pub has_one-requires : goal.has_one-requires
-has_one-requires c = rw c.var-3.ensures.value (bound_of_u c.args.scope.now c.args.lit.var c.requires.universal)
+has_one-requires c = rw c.var-3.ensures.value (universal-is_bound c.args.scope.now c.args.lit.var c.requires.universal)
 
 pub part-requires : goal.part-requires
-part-requires c = rw c.negated.ensures (bound_of_u c.args.scope.now c.args.lit.var c.requires.universal)
+part-requires c = rw c.negated.ensures (universal-is_bound c.args.scope.now c.args.lit.var c.requires.universal)
 
 pub returns-then-has_one : goal.returns-then-has_one
 returns-then-has_one c t =

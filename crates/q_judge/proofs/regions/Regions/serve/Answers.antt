@@ -1,6 +1,6 @@
 use Rattle.std.proofs.Common.{◌∙◌, sym}
-use Rattle.q_logic.proofs.Common.{bound_of_u}
+use Rattle.q_logic.proofs.Common.{universal-is_bound}
 use Rattle.q_judge.proofs.regions.Regions.serve.Goals as goal
 
 pub outer_or_same-requires-clause-first : goal.outer_or_same-requires-clause-first
-outer_or_same-requires-clause-first c = bound_of_u c.args.scope.now c.self.inside.var (sym c.is_universal.ensures ∙ c.if-is_universal.true)
+outer_or_same-requires-clause-first c = universal-is_bound c.args.scope.now c.self.inside.var (sym c.is_universal.ensures ∙ c.if-is_universal.true)

@@ -1,9 +1,9 @@
 use Rattle.std.proofs.Common.{◌≡◌, ◌∙◌, ℕ, Bool, true, false, refl, sym, subst, true≢false}
 use Rattle.std.specs.Prelude.{IsTrue, List, Option}
 use Rattle.q_logic.specs.Prelude.{Prefix, blocks, SameBlocks}
+use Rattle.q_logic.proofs.Common.{SameBlocks-refl}
 use Rattle.q_judge.specs.declared.bindings.Binding.{Binding}
 use Rattle.q_judge.specs.Scopes.{AreNumbered, is_same_binding, binding_at}
-use Rattle.q_logic.proofs.Blocks.{SameBlocks-itself}
 use Rattle.q_judge.proofs.PrefixComparison.{bindings-blocks, blocks-bindings}
 use Rattle.q_judge.proofs.scope.Scope.has_blocks_of.Goals as goal
 
@@ -15,7 +15,7 @@ pub returns-then-are_equal : goal.returns-then-are_equal
 returns-then-are_equal c =
     let own : c.in_ok-own.own.items ≡ c.args.prefix.now = sym c.deref.ensures.value ∙ c.are_equal.ensures c.if-are_equal.true in
     let same : c.args.self.now ≡ c.args.prefix.now = sym c.in_ok-own.ensures.same ∙ own in
-    subst (λ (P : Prefix). (IsTrue true → SameBlocks (blocks c.args.self.now) (blocks P)) × (SameBlocks (blocks c.args.self.now) (blocks P) → IsTrue true)) same ((λ t. SameBlocks-itself (blocks c.args.self.now)), (λ h. refl))
+    subst (λ (P : Prefix). (IsTrue true → SameBlocks (blocks c.args.self.now) (blocks P)) × (SameBlocks (blocks c.args.self.now) (blocks P) → IsTrue true)) same ((λ t. SameBlocks-refl (blocks c.args.self.now)), (λ h. refl))
 
 pub returns : goal.returns
 returns c =

@@ -1,6 +1,6 @@
 use Rattle.std.proofs.Common.{length, ap, refl, rules, arith}
+use Rattle.q_logic.proofs.Common.{slot-below}
 use Rattle.q_kernel.specs.Kernels.{slots}
-use Rattle.q_kernel.proofs.SlotLists.{slot-below}
 use Rattle.q_kernel.proofs.LiveIds.{ids-step, ids-end}
 use Rattle.q_kernel.proofs.ids.IdsIterator.next.Goals as goal
 

@@ -1,7 +1,7 @@
 use Rattle.q_logic.specs.Prelude.{first_of}
+use Rattle.q_log.proofs.WritableRuns.{first-of}
 use Rattle.q_kernel.proofs.KernelSizes.{slot-live, live-slot}
 use Rattle.q_kernel.proofs.KernelSteps.{may-delete-there, deleted-as}
-use Rattle.q_kernel.proofs.TextCosts.{first-first}
 use Rattle.q_kernel.proofs.kernel.Kernel.delete_implied.Goals as goal
 
 pub lits-requires : goal.lits-requires
@@ -15,7 +15,7 @@ delete-requires c =
     let m = rw (← c.self.view_is) at c.requires in
     let e = slot-live c.self.inside.arena c.args.id C c.lits.ensures.clause in
     let s = may-delete-there _ c.args.id first_of C m e in
-    rw (← c.self.view_is) (record { clause = C; there = e; first = rw c.first_of-first.ensures (first-first C); step = rw c.first_of-first.ensures s })
+    rw (← c.self.view_is) (record { clause = C; there = e; first = rw c.first_of-first.ensures (first-of C); step = rw c.first_of-first.ensures s })
 
 pub returns : goal.returns
 returns c =

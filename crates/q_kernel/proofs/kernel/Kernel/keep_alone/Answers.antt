@@ -1,9 +1,9 @@
 use Rattle.std.proofs.Common.{◌≤◌, length, refl, sym, arith}
+use Rattle.q_logic.proofs.Common.{slot-below}
+use Rattle.q_log.proofs.WritableRuns.{first-of}
 use Rattle.q_kernel.specs.Kernels.{slots}
-use Rattle.q_kernel.proofs.SlotLists.{slot-below}
 use Rattle.q_kernel.proofs.SweepSteps.{may-delete, alone-live}
 use Rattle.q_kernel.proofs.KeptView.{cleared-first, cleared-more}
-use Rattle.q_kernel.proofs.TextCosts.{first-first}
 use Rattle.q_kernel.proofs.kernel.Kernel.keep_alone.Goals as goal
 
 pub loop-id-init : goal.loop-id-init
@@ -13,7 +13,7 @@ pub delete_other-requires : goal.delete_other-requires
 delete_other-requires c = λ n.
     let r = c.in-Some.ensures.some c.in-Some.id refl in
     let k = c.loop-id.self in
-    record { clause = r.1; there = r.2; first = first-first r.1; step = may-delete k c.args.kept c.in-Some.id r.1 c.sound.ensures.proper c.loop-id.invariant.alone.there r.2 (λ q. n (sym q)) c.loop-id.invariant.swept.bytes }
+    record { clause = r.1; there = r.2; first = first-of r.1; step = may-delete k c.args.kept c.in-Some.id r.1 c.sound.ensures.proper c.loop-id.invariant.alone.there r.2 (λ q. n (sym q)) c.loop-id.invariant.swept.bytes }
 
 pub overflow_add-from : goal.overflow_add-from
 overflow_add-from c =

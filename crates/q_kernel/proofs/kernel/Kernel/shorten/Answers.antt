@@ -1,7 +1,7 @@
 use Rattle.std.proofs.Common.{◌≡◌, ◌≤◌, ◌+◌, ◌-◌, ℕ, set, Some, ap, arith, refl, sym, ◌∙◌}
+use Rattle.std.proofs.lemmas.Option.{same_Some}
 use Rattle.q_logic.specs.Prelude.{slot, live, set_slot, Literal, IsBelow, Clause, IsIn, ArePairs, without, Within}
 use Rattle.q_arena.specs.Prelude.{Chains, Clauses, clause_at}
-use Rattle.q_arena.proofs.NumberCases.{some-same}
 use Rattle.q_prefix.specs.Order.{FlatPrefix}
 use Rattle.q_kernel.specs.Uses.{Groups}
 use Rattle.q_kernel.specs.Invariant.{empty_ones, IsKernel}
@@ -70,7 +70,7 @@ overflow_add-self c =
     let D : Clause = without c.args.lit r.0 in
     let m = loses c.self.invariant c.args.id c.args.lit r in
     let there = then-there c.self.inside.arena c.shorten.new.arena c.args.id c.args.lit r.0 m.there (c.shorten.ensures.clauses r.0 m.there) in
-    let same = some-same c.lits-lits.result.now D (sym c.lits-lits.ensures.clause ∙ there) in
+    let same = same_Some c.lits-lits.result.now D (sym c.lits-lits.ensures.clause ∙ there) in
     let v = c.empty_ones-empty.ensures.value ∙ ap empty_ones same in
     omega (arith, m.empties, v, c.self.ranges)
 
@@ -80,7 +80,7 @@ overflow_add-self-2 c =
     let D : Clause = without c.args.lit r.0 in
     let m = loses c.self.invariant c.args.id c.args.lit r in
     let there = then-there c.self.inside.arena c.shorten.new.arena c.args.id c.args.lit r.0 m.there (c.shorten.ensures.clauses r.0 m.there) in
-    let same = some-same c.lits-lits.result.now D (sym c.lits-lits.ensures.clause ∙ there) in
+    let same = same_Some c.lits-lits.result.now D (sym c.lits-lits.ensures.clause ∙ there) in
     let v = c.empty_ones-empty.ensures.value ∙ ap empty_ones same in
     let w = c.unit_ones.ensures.value ∙ ap unit_ones same in
     omega (arith, m.after, v, w, c.empty_ones-empty.ensures.small, m.size, c.self.ranges)
@@ -91,7 +91,7 @@ overflow_sub-self-2 c =
     let D : Clause = without c.args.lit r.0 in
     let m = loses c.self.invariant c.args.id c.args.lit r in
     let there = then-there c.self.inside.arena c.shorten.new.arena c.args.id c.args.lit r.0 m.there (c.shorten.ensures.clauses r.0 m.there) in
-    let same = some-same c.lits-lits.result.now D (sym c.lits-lits.ensures.clause ∙ there) in
+    let same = same_Some c.lits-lits.result.now D (sym c.lits-lits.ensures.clause ∙ there) in
     let v = c.empty_ones-empty.ensures.value ∙ ap empty_ones same in
     omega (arith, m.units, v, m.unit)
 
@@ -101,7 +101,7 @@ invariant_of-self c =
     let r = rw (← c.self.view_is) at c.requires in
     let m = loses c.self.invariant c.args.id c.args.lit r in
     let changed = c.shorten.ensures.clauses r.0 m.there in
-    let same = some-same c.lits-lits.result.now (without c.args.lit r.0) (sym c.lits-lits.ensures.clause ∙ then-there k.arena c.shorten.new.arena c.args.id c.args.lit r.0 m.there changed) in
+    let same = same_Some c.lits-lits.result.now (without c.args.lit r.0) (sym c.lits-lits.ensures.clause ∙ then-there k.arena c.shorten.new.arena c.args.id c.args.lit r.0 m.there changed) in
     rw (c.empty_ones-empty.ensures.value, c.unit_ones.ensures.value, same)
     (kernel-shorter k.prefix k.arena k.occ k.uses k.count k.size k.empties k.units k.top k.greatest c.self.invariant c.shorten.new.arena c.shorten.new.occ c.vanish.new.uses c.args.id
     c.shorten.ensures.linked c.shorten.ensures.room c.shorten.ensures.kept c.vanish.ensures.room r.0 c.args.lit r.2 r.1 changed c.vanish.ensures.occurring)

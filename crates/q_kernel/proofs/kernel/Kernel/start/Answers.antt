@@ -1,8 +1,9 @@
 use Rattle.std.proofs.Common.{◌≡◌, ◌≤◌, ◌+◌, length, get_or, Some, sym, ◌∙◌, ap, subst, arith}
 use Rattle.q_logic.specs.Prelude.{Clause, Slots, set_slot}
+use Rattle.q_logic.proofs.Common.{length-set_slot}
 use Rattle.q_kernel.specs.Kernels.{slots}
 use Rattle.q_kernel.proofs.FirstIds.{AreFirst, first-free, first-more, first-all, first-live}
-use Rattle.q_kernel.proofs.SlotLists.{slot-get, length-set_slot}
+use Rattle.q_kernel.proofs.SlotLists.{slot-get}
 use Rattle.q_kernel.proofs.PrefixWalks.{literals-next, slice-item}
 use Rattle.q_kernel.proofs.kernel.Kernel.start.Goals as goal
 

@@ -1,9 +1,9 @@
 use Rattle.std.proofs.Common.{arith, sym, ◌∙◌, ap, subst, ℕ, ◌*◌, ◌/◌, ◌<◌, get_or, set, length, ◌≡◌, refl}
-use Rattle.std.proofs.lemmas.List.{length-set}
+use Rattle.std.proofs.lemmas.List.{length-set, get_or_default}
 use Rattle.q_pages.specs.Rows.{Row, IsMade, KeepsPages}
 use Rattle.q_pages.specs.Layout.{row_of}
 use Rattle.q_pages.specs.Tables.{page_of}
-use Rattle.q_pages.proofs.PageEntries.{length-row, in-made, sound-filled, row-filled, items-made, made-made, now-made, get_or-any}
+use Rattle.q_pages.proofs.PageEntries.{length-row, in-made, sound-filled, row-filled, items-made, made-made, now-made}
 use Rattle.q_pages.proofs.pages.Pages.make.Goals as goal
 
 pub index-requires : goal.index-requires
@@ -18,7 +18,7 @@ returns-then-index-ne0-clause-made g c =
     let items = c.self.inside.items.items in
     let n = length-row none pages items in
     let ih : c.args.at < 1024 * length pages = omega (arith, n, rw (← c.self.view_is) at c.requires) in
-    let page : c.index.result.now ≡ page_of pages c.args.at = c.index.ensures ∙ get_or-any pages (c.args.at / 1024) c.index.result.now 0 (omega (arith, ih)) in
+    let page : c.index.result.now ≡ page_of pages c.args.at = c.index.ensures ∙ get_or_default pages (c.args.at / 1024) c.index.result.now 0 (omega (arith, ih)) in
     rw (← c.self.view_is) (in-made none pages items c.args.at ih (omega (arith, page, c.if-index-ne0.true)))
 
 pub index_mut-requires : goal.index_mut-requires
@@ -35,7 +35,7 @@ returns-clause-made g c =
     let n = length-row none pages items in
     let ih : c.args.at < 1024 * length pages = omega (arith, n, rw (← c.self.view_is) at c.requires) in
     let kh : c.args.at / 1024 < length pages = omega (arith, ih) in
-    let was : get_or pages (c.args.at / 1024) 0 ≡ 0 = sym (get_or-any pages (c.args.at / 1024) c.index.result.now 0 kh) ∙ sym c.index.ensures ∙ omega (arith, c.if-index-ne0.false) in
+    let was : get_or pages (c.args.at / 1024) 0 ≡ 0 = sym (get_or_default pages (c.args.at / 1024) c.index.result.now 0 kh) ∙ sym c.index.ensures ∙ omega (arith, c.if-index-ne0.false) in
     let w = c.self.invariant.within (c.args.at / 1024) kh in
     let s = sound-filled none pages items filled c.self.invariant c.fill.ensures.kept c.fill.ensures.same in
     let number : c.len-page.result ≡ length items = omega (arith, c.len-page.ensures, c.self.inside.items.ok.0) in
@@ -53,7 +53,7 @@ returns-clause-kept g c =
     let n = length-row none pages items in
     let ih : c.args.at < 1024 * length pages = omega (arith, n, rw (← c.self.view_is) at c.requires) in
     let kh : c.args.at / 1024 < length pages = omega (arith, ih) in
-    let was : get_or pages (c.args.at / 1024) 0 ≡ 0 = sym (get_or-any pages (c.args.at / 1024) c.index.result.now 0 kh) ∙ sym c.index.ensures ∙ omega (arith, c.if-index-ne0.false) in
+    let was : get_or pages (c.args.at / 1024) 0 ≡ 0 = sym (get_or_default pages (c.args.at / 1024) c.index.result.now 0 kh) ∙ sym c.index.ensures ∙ omega (arith, c.if-index-ne0.false) in
     let w = c.self.invariant.within (c.args.at / 1024) kh in
     let s = sound-filled none pages items filled c.self.invariant c.fill.ensures.kept c.fill.ensures.same in
     let number : c.len-page.result ≡ length items = omega (arith, c.len-page.ensures, c.self.inside.items.ok.0) in
@@ -77,7 +77,7 @@ returns-clause-items g c =
     let n = length-row none pages items in
     let ih : c.args.at < 1024 * length pages = omega (arith, n, rw (← c.self.view_is) at c.requires) in
     let kh : c.args.at / 1024 < length pages = omega (arith, ih) in
-    let was : get_or pages (c.args.at / 1024) 0 ≡ 0 = sym (get_or-any pages (c.args.at / 1024) c.index.result.now 0 kh) ∙ sym c.index.ensures ∙ omega (arith, c.if-index-ne0.false) in
+    let was : get_or pages (c.args.at / 1024) 0 ≡ 0 = sym (get_or_default pages (c.args.at / 1024) c.index.result.now 0 kh) ∙ sym c.index.ensures ∙ omega (arith, c.if-index-ne0.false) in
     let w = c.self.invariant.within (c.args.at / 1024) kh in
     let s = sound-filled none pages items filled c.self.invariant c.fill.ensures.kept c.fill.ensures.same in
     let number : c.len-page.result ≡ length items = omega (arith, c.len-page.ensures, c.self.inside.items.ok.0) in

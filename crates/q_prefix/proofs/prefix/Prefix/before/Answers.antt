@@ -1,4 +1,5 @@
 use Rattle.std.proofs.Common.{◌≡◌, sym, ◌∙◌, ap, subst, true, Some}
+use Rattle.std.proofs.lemmas.Option.{same_Some}
 use Rattle.q_logic.specs.declared.formulas.Bound.{Bound}
 use Rattle.q_logic.specs.Prelude.{is_bound}
 use Rattle.q_arena.specs.Prelude.{list_at, preceding}
@@ -6,7 +7,6 @@ use Rattle.q_prefix.specs.Order.{FlatPrefix}
 use Rattle.q_prefix.proofs.ListedBounds.{has-bound, bound-has}
 use Rattle.q_prefix.proofs.PrecedingVariables.{before-some, before-none, before-has}
 use Rattle.q_prefix.proofs.VariableWalks.{bound-is}
-use Rattle.q_arena.proofs.NumberCases.{some-same}
 use Rattle.q_prefix.proofs.prefix.Prefix.before.Goals as goal
 
 pub prev-requires : goal.prev-requires
@@ -39,7 +39,7 @@ returns-clause-there c b e =
     let there = has-bound marks vars c.args.var (subst (λ (p : FlatPrefix). is_bound p.bounds c.args.var ≡ true) (sym c.self.view_is) c.requires) in
     let before : preceding c.args.var vars ≡ Some c.in_ok-before.before = sym (c.prev.ensures 0 there) ∙ c.in_ok-before.was in
     let q = c.bound.ensures.var in
-    let same = some-same c.bound.result b e in
+    let same = same_Some c.bound.result b e in
     rw (← c.self.view_is) (rw (← same, q) (bound-has marks vars c.in_ok-before.before (before-has vars c.args.var c.in_ok-before.before before)))
 
 pub returns-in_err-before-clause-value : goal.returns-in_err-before-clause-value

@@ -1,6 +1,7 @@
 use Rattle.std.proofs.Common.{◌≡◌, Some, slice_get, ap, sym, ◌∙◌, ℕ, arith, Contains}
+use Rattle.std.proofs.lemmas.Option.{slice_get_within}
 use Rattle.q_prop.specs.Buckets.{bucket_of, first_of, IsWalk}
-use Rattle.q_prop.proofs.SlotLemmas.{slice_get-in, slice_get-at}
+use Rattle.q_prop.proofs.SlotLemmas.{slice_get-at}
 use Rattle.q_prop.proofs.BucketLemmas.{first_of-within, short-set, in-bucket, slot-within, chained-first, chained-cut}
 use Rattle.q_prop.proofs.buckets.Buckets.remove.Goals as goal
 
@@ -14,7 +15,7 @@ pub index_mut-requires : goal.index_mut-requires
 index_mut-requires c =
     let b = c.args.self.now in
     let hp : slice_get b.nexts.items c.in-Some.place ≡ Some c.args.slot = rw c.deref.ensures.value at c.in-Some.ensures.0 in
-    let inside = slice_get-in b.nexts.items c.in-Some.place c.args.slot hp in
+    let inside = slice_get_within b.nexts.items c.in-Some.place c.args.slot hp in
     omega (arith, inside, b.nexts.ok.0)
 
 pub index_mut-requires-in-None : goal.index_mut-requires-in-None

@@ -1,14 +1,15 @@
 use Rattle.std.proofs.Common.{[], ◌++◌, arith, refl}
+use Rattle.std.proofs.lemmas.Option.{slice_get_within}
 use Rattle.q_prop.specs.Slots.{filled, without}
 use Rattle.q_prop.proofs.CompleteRoot.{empty_implied}
-use Rattle.q_prop.proofs.SlotLemmas.{filled-in, slice_get-in, slice_get-Contains}
+use Rattle.q_prop.proofs.SlotLemmas.{filled-in, slice_get-Contains}
 use Rattle.q_prop.proofs.store.Store.all_implied.Goals as goal
 
 pub returns-then-len-eq0-clause-exact : goal.returns-then-len-eq0-clause-exact
 returns-then-len-eq0-clause-exact c = (
   (λ _ t h.
       let j = slice_get-Contains c.args.tails.now t h in
-      let inside = slice_get-in c.args.tails.now j.0 t j.1 in
+      let inside = slice_get_within c.args.tails.now j.0 t j.1 in
       absurd (omega (arith, inside, c.len.ensures, c.if-len-eq0.true))),
   (λ all. refl),
 )

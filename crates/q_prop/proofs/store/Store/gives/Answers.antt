@@ -1,6 +1,7 @@
 use Rattle.std.proofs.Common.{◌∙◌, get_or, inl, inr, arith, not-suc-le-zero}
-use Rattle.q_prop.proofs.Literals.{ℕ-cases}
-use Rattle.q_prop.proofs.SlotLemmas.{slice_get-at, slice_get-in, slice_get-Contains, same_slice_get}
+use Rattle.std.proofs.lemmas.Bool.{cases_eq}
+use Rattle.std.proofs.lemmas.Option.{slice_get_within}
+use Rattle.q_prop.proofs.SlotLemmas.{slice_get-at, slice_get-Contains, same_slice_get}
 use Rattle.q_prop.proofs.store.Store.gives.Goals as goal
 
 pub loop-other-init : goal.loop-other-init
@@ -11,7 +12,7 @@ loop-other-preserved c j k h e n =
     let part = c.args.part.now in
     let i = c.loop-other.other-index in
     let item = c.other-item.result in
-    elim (ℕ-cases j i) [
+    elim (cases_eq j i) [
       | inl q ↦
           let same = c.other-item.is ∙ same_slice_get part i (get_or part i item) k (slice_get-at part i item c.loop-other-test.true) (rw q at e) in
           let g = rw same at (c.is_given.ensures c.if-not-is_given.false) in
@@ -22,4 +23,4 @@ loop-other-preserved c j k h e n =
 pub returns : goal.returns
 returns c _ k m n =
     let p = slice_get-Contains c.args.part.now k m in
-    c.loop-other.invariant p.0 k (let inside = slice_get-in c.args.part.now p.0 k p.1 in omega (arith, inside, c.loop-other-test.false)) p.1 n
+    c.loop-other.invariant p.0 k (let inside = slice_get_within c.args.part.now p.0 k p.1 in omega (arith, inside, c.loop-other-test.false)) p.1 n

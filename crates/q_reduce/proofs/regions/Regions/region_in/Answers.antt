@@ -1,6 +1,6 @@
 use Rattle.std.proofs.Common.{◌≡◌, ◌∙◌, true, sym, ap, subst, inl, inr, true≢false}
+use Rattle.std.proofs.lemmas.Option.{same_Some}
 use Rattle.q_logic.specs.Prelude.{Literal, inner_existential}
-use Rattle.q_kernel.proofs.Basics.{some-same}
 use Rattle.q_reduce.specs.Regions.{region_of}
 use Rattle.q_logic.proofs.Common.{item-in, taken-cases}
 use Rattle.q_reduce.proofs.regions.Regions.region_in.Goals as goal
@@ -11,7 +11,7 @@ returns-then-is_inner-clause-some c r e =
       c.k-item.result,
       item-in c.args.clause.now c.loop-k.k-index c.k-item.result c.loop-k-test.true c.k-item.is,
       ap (inner_existential P c.args.u) (sym c.var.ensures.value) ∙ (sym c.is_inner.ensures ∙ c.if-is_inner.true),
-      ap (region_of c.args.self.now) (sym c.var-then-is_inner.ensures.value) ∙ (sym c.region_of.ensures ∙ some-same c.region_of.result r e),
+      ap (region_of c.args.self.now) (sym c.var-then-is_inner.ensures.value) ∙ (sym c.region_of.ensures ∙ same_Some c.region_of.result r e),
     )
 
 pub loop-k-preserved : goal.loop-k-preserved

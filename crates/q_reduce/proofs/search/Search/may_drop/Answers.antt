@@ -1,8 +1,8 @@
 use Rattle.std.proofs.Common.{List, ◌∙◌, sym, refl, subst, true≢false}
+use Rattle.std.proofs.lemmas.Option.{same_Some}
 use Rattle.q_logic.specs.Prelude.{Clause, IsIn}
+use Rattle.q_logic.proofs.Common.{universal-is_bound}
 use Rattle.q_kernel.specs.Prelude.{slots}
-use Rattle.q_kernel.proofs.Basics.{some-same}
-use Rattle.q_rule.proofs.Quantifiers.{bound-universal}
 use Rattle.q_reduce.specs.Forests.{ForestMap, AreForestsOf}
 use Rattle.q_reduce.proofs.AbsentNegation.{absent-reducible}
 use Rattle.q_reduce.proofs.ForestPaths.{leads-stays}
@@ -11,19 +11,19 @@ use Rattle.q_reduce.proofs.search.Search.may_drop.Goals as goal
 pub returns-then-count-eq0-clause-yes : goal.returns-then-count-eq0-clause-yes
 returns-then-count-eq0-clause-yes c C e =
     let k = c.args.kernel.now in
-    let q = some-same c.requires.live.0 C (sym c.requires.live.1 ∙ e) in
+    let q = same_Some c.requires.live.0 C (sym c.requires.live.1 ∙ e) in
     let m : IsIn c.args.lit C = subst (λ (x : Clause). IsIn c.args.lit x) q c.requires.live.2 in
     let none = rw c.negated.ensures at c.count.ensures.none in
     ((λ t. absent-reducible k.prefix (slots k) c.args.c C c.args.lit e c.requires.universal m (none c.if-count-eq0.true)), (λ r. refl))
 
 pub keep-requires-clause-bound : goal.keep-requires-clause-bound
-keep-requires-clause-bound c = bound-universal c.args.kernel.now.prefix c.args.lit.var c.requires.universal
+keep-requires-clause-bound c = universal-is_bound c.args.kernel.now.prefix c.args.lit.var c.requires.universal
 
 pub learn-requires-clause-bound : goal.learn-requires-clause-bound
-learn-requires-clause-bound c = rw c.var.ensures.value (bound-universal c.args.kernel.now.prefix c.args.lit.var c.requires.universal)
+learn-requires-clause-bound c = rw c.var.ensures.value (universal-is_bound c.args.kernel.now.prefix c.args.lit.var c.requires.universal)
 
 pub note-requires-clause-bound : goal.note-requires-clause-bound
-note-requires-clause-bound c = rw c.var-else-reducible.ensures.value (bound-universal c.args.kernel.now.prefix c.args.lit.var c.requires.universal)
+note-requires-clause-bound c = rw c.var-else-reducible.ensures.value (universal-is_bound c.args.kernel.now.prefix c.args.lit.var c.requires.universal)
 
 pub keep-requires-clause-right : goal.keep-requires-clause-right
 keep-requires-clause-right c = let fit = rw (← c.self.view_is) at c.requires.fit in fit.forests

@@ -1,0 +1,14 @@
+-- What holds of an option or a result.
+use Rattle.std.proofs.Common.{◌≡◌, ◌↔◌, Bool, true, false, Option, Some, None, is_some, Result, Ok, Err, IfOk, OnErr, IsTrue, refl}
+
+pub none_of : {X : Type 0} (o : Option X) → is_some o ≡ false → o ≡ None
+none_of None e = refl
+none_of (Some x) e = cc
+
+pub on_err : {X E P : Type 0} (r : Result X E) → P → OnErr r P
+on_err (Ok x) p = tt
+on_err (Err e) p = p
+
+pub ok-iff : {E A B : Type 0} (r : Result Bool E) → A ↔ B → IfOk r (λ y. IsTrue y ↔ A) → IfOk r (λ y. IsTrue y ↔ B)
+ok-iff (Ok y) e x = (λ h. e.0 (x.0 h), λ b. x.1 (e.1 b))
+ok-iff (Err f) e x = tt
