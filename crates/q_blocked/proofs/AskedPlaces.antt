@@ -2,7 +2,7 @@
 use Rattle.std.proofs.Common.{◌≡◌, ◌⊎◌, ◌+◌, ◌<◌, ◌≤◌, ℕ, zero, suc, List, [], ◌∷◌, ◌++◌, slice_get, Some, length, inl, inr, sym, ap, subst, arith, length-append}
 use Rattle.q_logic.specs.Prelude.{Literal, Clause, Matrix, Prefix, IsIn, IsTautology}
 use Rattle.q_logic.proofs.Common.{IsIn-append, IsIn-append_left, IsIn-append_right}
-use Rattle.q_rule.proofs.RuleSearch.{before_or_at}
+use Rattle.q_logic.proofs.Common.{before_or_at}
 use Rattle.q_blocked.specs.Walks.{Gives}
 use Rattle.q_blocked.specs.Growths.{IsGiven, IsAsked, HasPlaces, IsPassive}
 use Rattle.q_blocked.proofs.HiddenClosure.{given-closed}
