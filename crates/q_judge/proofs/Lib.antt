@@ -12,6 +12,7 @@ pub mod ScopedPrefix
 pub mod SameBlocks
 pub mod PrefixComparison
 pub mod SlotCollections
+pub mod LeftOut
 pub mod OuterLiterals
 pub mod OuterClauses
 pub mod ReachWalks

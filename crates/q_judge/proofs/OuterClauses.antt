@@ -7,8 +7,7 @@ use Rattle.q_logic.proofs.Common.{IsIn-Contains, Contains-IsIn, copies-append, h
 use Rattle.q_prop.specs.Slots.{Holds, filled, without}
 use Rattle.q_prop.specs.Lists.{IsDistinct}
 use Rattle.q_prop.proofs.SlotLemmas.{without-le, without-here, without-other, slice_get-Contains}
-use Rattle.q_prop.proofs.BucketLemmas.{same-clause}
-use Rattle.q_judge.specs.Warrants.{AreHolders}
+use Rattle.q_judge.specs.Warrants.{AreSlotsOf}
 use Rattle.q_judge.proofs.SlotCollections.{in-held, emptied-same}
 
 -- the outer clause of what stands in a slot
@@ -70,26 +69,20 @@ every_outer-none P m (D ∷ X) h = go (has m D) refl (every_outer-none P m X (λ
     go true e ih = absurd (h D (inl refl) (has-IsIn m D e))
     go false e ih = ih
 
--- the slots have the clauses that hold m
-pub record AreSlotsOf (s : Slots) (m : Literal) (slots : List ℕ) : Type 0 where
-  pub once : IsDistinct slots
-  pub all_there : (n : ℕ) (D : Clause) → Holds s n D → IsIn m D → IsIn n slots
-  pub no_other : (n : ℕ) (D : Clause) → IsIn n slots → Holds s n D → IsIn m D
-
 -- slot by slot, one outer clause for each clause that holds m
 collected-counts : (P : Prefix) (m : Literal) (slots : List ℕ) (s : Slots) → AreSlotsOf s m slots → (O : Clause) → copies O (collected P s m slots) ≡ copies O (every_outer P m (filled s))
 collected-counts P m [] s h O =
-    ap (λ (os : List Clause). copies O os) (sym (every_outer-none P m (filled s) (λ D d i. let n = in-held s D d in h.all_there n.0 D n.1 i)))
+    ap (λ (os : List Clause). copies O os) (sym (every_outer-none P m (filled s) (λ D d i. let n = in-held s D d in Contains-IsIn n.0 [] (h.all_there n.0 D n.1 i))))
 collected-counts P m (n ∷ slots) s h O = go (slice_get s n) refl (λ t g. collected-counts P m slots t g O)
   where
     less : (t : Slots) → ((k : ℕ) (D : Clause) → Holds t k D → Holds s k D) → ((D : Clause) → Holds t n D → ⊥) → AreSlotsOf t m slots
     less t f none = record {
       once = distinct-tail n slots h.once;
-      all_there = λ k D e i. elim (h.all_there k D (f k D e) i) [
+      all_there = λ k D e i. elim (Contains-IsIn k (n ∷ slots) (h.all_there k D (f k D e) i)) [
         | inl z ↦ absurd (none D (subst (λ (j : ℕ). Holds t j D) z e))
-        | inr j ↦ j
+        | inr j ↦ IsIn-Contains k slots j
       ];
-      no_other = λ k D i e. h.no_other k D (inr i) (f k D e);
+      no_other = λ k D i e. h.no_other k D (IsIn-Contains k (n ∷ slots) (inr (Contains-IsIn k slots i))) (f k D e);
     }
 
     go : (o : Option (Option Clause)) → slice_get s n ≡ o → ((t : Slots) → AreSlotsOf t m slots → copies O (collected P t m slots) ≡ copies O (every_outer P m (filled t))) →
@@ -102,20 +95,12 @@ collected-counts P m (n ∷ slots) s h O = go (slice_get s n) refl (λ t g. coll
         let a = collected-other P s t m slots (λ k j. sym (without-other s n k (λ z. distinct-head n slots h.once (subst (λ (y : ℕ). IsIn y slots) z j)))) in
         let b = every_outer-same P m (filled s) (C ∷ filled t) (emptied-same s n C e) O in
         let c = every_outer-count P m C (filled t) O in
-        let d : has m C ≡ true = IsIn-has m C (h.no_other n C (inl refl) e) in
+        let d : has m C ≡ true = IsIn-has m C (h.no_other n C (IsIn-Contains n (n ∷ slots) (inl refl)) e) in
         let f : every_outer P m (C ∷ []) ≡ outer P m C ∷ [] = ap (λ (y : Bool). cond y (outer P m C ∷ []) []) d in
         let g = copies-append O (outer P m C ∷ []) (collected P s m slots) in
         let k = ap (λ (os : List Clause). copies O os) f in
         let l = ap (λ (os : List Clause). copies O os) a in
         omega (arith, i, b, c, g, k, l)
 
-pub collected-outers : (P : Prefix) (s : Slots) (skip : Option ℕ) (m : Literal) (slots : List ℕ) (os : List Clause) → AreHolders s m slots → os ≡ collected P (without s skip) m slots → OutersOf P (filled (without s skip)) m os
-collected-outers P s skip m slots os h v O =
-    ap (λ (xs : List Clause). copies O xs) v ∙ collected-counts P m slots (without s skip) held O
-  where
-    held : AreSlotsOf (without s skip) m slots
-    held = record {
-      once = h.once;
-      all_there = λ n D e i. Contains-IsIn n slots (h.all_there n D (without-le s skip n D e) i);
-      no_other = λ n D i e. let r = h.no_other n (IsIn-Contains n slots i) in subst (λ (E : Clause). IsIn m E) (same-clause s n r.0 D r.1 (without-le s skip n D e)) r.2;
-    }
+pub collected-outers : (P : Prefix) (s : Slots) (m : Literal) (slots : List ℕ) (os : List Clause) → AreSlotsOf s m slots → os ≡ collected P s m slots → OutersOf P (filled s) m os
+collected-outers P s m slots os h v O = ap (λ (xs : List Clause). copies O xs) v ∙ collected-counts P m slots s h O

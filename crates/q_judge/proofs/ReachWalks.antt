@@ -1,13 +1,13 @@
 -- Walks, literal by literal and clause by clause.
-use Rattle.std.proofs.Common.{◌≡◌, ◌⊎◌, ℕ, ◌+◌, ◌<◌, ◌≤◌, true, false, List, [], ◌∷◌, ◌++◌, Contains, slice_get, Some, Option, length, sym, ◌∙◌, ap, subst, inl, inr, arith, append-nil, append_assoc}
+use Rattle.std.proofs.Common.{◌≡◌, ◌⊎◌, ℕ, ◌+◌, ◌<◌, ◌≤◌, true, false, List, [], ◌∷◌, ◌++◌, Contains, slice_get, Some, length, sym, ◌∙◌, ap, subst, inl, inr, arith, append-nil, append_assoc}
 use Rattle.std.proofs.lemmas.List.Elements.{Contains-append_left, Contains-push, Contains-push_cases}
 use Rattle.std.proofs.lemmas.Option.{same_Some, slice_get_within}
 use Rattle.q_logic.specs.Prelude.{Literal, negation, Clause, Prefix, IsIn, Slots}
 use Rattle.q_logic.proofs.Common.{before_or_at}
-use Rattle.q_prop.specs.Slots.{Holds, filled, without}
-use Rattle.q_prop.proofs.SlotLemmas.{without-le, slice_get-Contains, Contains-slice_get}
 use Rattle.q_prop.proofs.BucketLemmas.{same-clause}
-use Rattle.q_judge.specs.Warrants.{AreHolders}
+use Rattle.q_prop.specs.Slots.{Holds, filled}
+use Rattle.q_prop.proofs.SlotLemmas.{slice_get-Contains, Contains-slice_get}
+use Rattle.q_judge.specs.Warrants.{AreSlotsOf}
 use Rattle.q_judge.proofs.SlotCollections.{held-in, in-held}
 use Rattle.q_judge.specs.Walks.{is_inner, IsWidened, IsWorkedOff, IsGrown, IsFollowed, IsVisited}
 
@@ -88,8 +88,8 @@ module _ (P : Prefix) (u : Literal) where
   }
 
   -- all slots with the negation of a literal were followed
-  pub following-visited : (t : Slots) (skip : Option ℕ) (k : Literal) (slots : List ℕ) (i : ℕ) (old new : List Literal) → AreHolders t (negation k) slots → length slots ≤ i → IsFollowing (without t skip) slots i old new → IsVisited P (filled (without t skip)) u k old new true
-  following-visited t skip k slots i old new h past f = (
+  pub following-visited : (s : Slots) (k : Literal) (slots : List ℕ) (i : ℕ) (old new : List Literal) → AreSlotsOf s (negation k) slots → length slots ≤ i → IsFollowing s slots i old new → IsVisited P (filled s) u k old new true
+  following-visited s k slots i old new h past f = (
     record {
       added = f.grown.added;
       is = f.grown.is;
@@ -97,18 +97,15 @@ module _ (P : Prefix) (u : Literal) where
         | inl a ↦ inl a
         | inr a ↦
             let n = a.1.1 in
-            let o = h.no_other n (Contains-slice_get slots a.1.0 n a.1.3) in
-            inr (a.0, (held-in (without t skip) n a.0 a.1.4, subst (λ (x : Clause). IsIn (negation k) x) (same-clause t n o.0 a.0 o.1 (without-le t skip n a.0 a.1.4)) o.2), a.2, a.3, a.4)
+            inr (a.0, (held-in s n a.0 a.1.4, h.no_other n a.0 (Contains-slice_get slots a.1.0 n a.1.3) a.1.4), a.2, a.3, a.4)
       ];
     },
     (λ E d m.
-        let n = in-held (without t skip) E d in
-        let c = h.all_there n.0 E (without-le t skip n.0 E n.1) m in
-        let j = slice_get-Contains slots n.0 c in
+        let n = in-held s E d in
+        let j = slice_get-Contains slots n.0 (h.all_there n.0 E n.1 m) in
         f.settled j.0 n.0 E (let z = slice_get_within slots j.0 n.0 j.1 in omega arith) j.1 n.1),
   )
 
-  pub visited-not : (t : Slots) (skip : Option ℕ) (k : Literal) (slots : List ℕ) (i n : ℕ) (old mid new : List Literal) → AreHolders t (negation k) slots → slice_get slots i ≡ Some n → IsFollowed P (without t skip) u n mid new false → IsVisited P (filled (without t skip)) u k old new false
-  visited-not t skip k slots i n old mid new h e f =
-      let o = h.no_other n (Contains-slice_get slots i n e) in
-      (f.0, held-in (without t skip) n f.0 f.1, subst (λ (x : Clause). IsIn (negation k) x) (same-clause t n o.0 f.0 o.1 (without-le t skip n f.0 f.1)) o.2, f.2, f.3)
+  pub visited-not : (s : Slots) (k : Literal) (slots : List ℕ) (i n : ℕ) (old mid new : List Literal) → AreSlotsOf s (negation k) slots → slice_get slots i ≡ Some n → IsFollowed P s u n mid new false → IsVisited P (filled s) u k old new false
+  visited-not s k slots i n old mid new h e f =
+      (f.0, held-in s n f.0 f.1, h.no_other n f.0 (Contains-slice_get slots i n e) f.1, f.2, f.3)

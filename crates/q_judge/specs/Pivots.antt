@@ -1,8 +1,12 @@
 -- Outer clauses as they are gathered for a pivot, over slots.
-use Rattle.std.specs.Prelude.{◌≡◌, ◌⊎◌, ℕ, List, [], ◌∷◌, ◌++◌, Contains}
+use Rattle.std.specs.Prelude.{◌≡◌, ◌⊎◌, ℕ, List, [], ◌∷◌, ◌++◌, Contains, Result}
 use Rattle.q_logic.specs.Prelude.{Clause, Prefix, Slots, outer, Implied, IsTautology}
-use Rattle.q_prop.specs.Slots.{Holds, filled}
+use Rattle.q_prop.specs.Slots.{Holds, filled, without}
+use Rattle.q_judge.specs.declared.error.CheckError.{CheckError}
+use Rattle.q_judge.specs.declared.pivots.Candidate.{Candidate}
 use Rattle.q_judge.specs.declared.pivots.Question.{Question}
+use Rattle.q_judge.specs.declared.pivots.Warrant.{Warrant}
+use Rattle.q_judge.specs.Warrants.{IsAnswered}
 
 -- the base joined with the outer clause
 abbrev pub resolvent : Prefix → Question → Clause → Clause
@@ -22,3 +26,7 @@ pub record AreGathered (P : Prefix) (s : Slots) (q : Question) (slots : List ℕ
 -- the base joined with the outer clause of each of the slots' clauses is implied
 abbrev pub ResolveAt : Prefix → Slots → Question → List ℕ → Type 0
 ResolveAt P s q slots = (at' : ℕ) (D : Clause) → Contains slots at' → Holds s at' D → Implied (filled s) (resolvent P q D)
+
+-- why the clause may come or go over the slots but its own, or the refusal
+abbrev pub IsJudged : Prefix → Slots → Candidate → Result Warrant CheckError → Type 0
+IsJudged P s k r = IsAnswered P (filled (without s k.skip)) k.clause.now k.first r

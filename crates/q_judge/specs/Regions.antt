@@ -23,6 +23,14 @@ pub record RegionMap : Type 0 where
   pub var : ℕ
   pub labels : Labelled
 
+-- the clause has its literals that are inner to a variable in the region
+abbrev pub HasAllIn : Prefix → ℕ → Labelled → ℕ → Clause → Type 0
+HasAllIn P u L region D = (k : Literal) → IsIn k D → inner_existential P u k.var ≡ true → region_of L k.var ≡ region
+
+-- the clause has none of them in the region
+abbrev pub HasNoneIn : Prefix → ℕ → Labelled → ℕ → Clause → Type 0
+HasNoneIn P u L region D = (k : Literal) → IsIn k D → inner_existential P u k.var ≡ true → region_of L k.var ≡ region → ⊥
+
 -- the clause has its inner literals in one region
 abbrev pub IsRegional : Prefix → RegionMap → Clause → Type 0
 IsRegional P R D =

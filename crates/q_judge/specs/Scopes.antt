@@ -135,6 +135,10 @@ with_rank r (Some s) = Some (record { rank = r; quant = s.quant; before = s.befo
 abbrev pub renumbered : ℕ → ℕ → Option Binding → Option Binding
 renumbered from to o = cond (eqb (rank_in o) from) (with_rank to o) o
 
+-- the bindings of some variables have changed, and no others
+abbrev pub HaveChanged : (ℕ → Bool) → (Option Binding → Option Binding) → List (Option Binding) → List (Option Binding) → Type 0
+HaveChanged test change old new = (v : ℕ) → binding_at new v ≡ cond (test v) (change (binding_at old v)) (binding_at old v)
+
 abbrev pub is_among : List ℕ → ℕ → Bool
 is_among [] v = false
 is_among (x ∷ S) v = cond (eqb x v) true (is_among S v)

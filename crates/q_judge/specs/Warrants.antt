@@ -14,6 +14,12 @@ pub record AreHolders (s : Slots) (m : Literal) (slots : List ℕ) : Type 0 wher
   pub no_other : (at : ℕ) → Contains slots at → (D : Clause) × Holds s at D × IsIn m D
   pub once : IsDistinct slots
 
+-- the slots of the clauses that hold the literal, each once, where empty slots may be among them
+pub record AreSlotsOf (s : Slots) (m : Literal) (slots : List ℕ) : Type 0 where
+  pub all_there : (at : ℕ) (D : Clause) → Holds s at D → IsIn m D → Contains slots at
+  pub no_other : (at : ℕ) (D : Clause) → Contains slots at → Holds s at D → IsIn m D
+  pub once : IsDistinct slots
+
 -- with each clause that holds m the literals, joined with its outer clause, are implied
 abbrev pub Resolves : Prefix → Matrix → List Literal → Literal → Type 0
 Resolves P X base m = (D : Clause) → IsIn D X → IsIn m D → Implied X (base ++ outer P m D)

@@ -1,14 +1,14 @@
 //! Walks that are kept: where one has been, the next one for its literal need not look.
 ghost use Rattle.std.specs.Prelude.{◌≡◌, ◌∷◌, ◌<◌, ℕ, [], true, length, Some, IfOk, Contains, IsTrue};
-ghost use Rattle.q_logic.specs.Prelude.{Literal, negation, Matrix, Prefix, IsIn, Closed, is_bound, is_universal, Reducible, Within};
+ghost use Rattle.q_logic.specs.Prelude.{Literal, negation, Matrix, Prefix, IsIn, is_bound, is_universal, Reducible, Within};
 ghost use Rattle.q_prop.specs.Slots.{filled};
 ghost use Rattle.q_judge.specs.Walks.{is_inner, HasInner, IsWorkedOff, IsBorne, IsShut, IsEnclosed, AreEnclosed};
 
-use crate::pivots::slots_of;
 use crate::reach::{lies_inside, push_inner, visit};
 use crate::scope::Scope;
+use crate::view::View;
 use q_logic::{Lit, NoMemory, holds};
-use q_prop::{Store, Trail};
+use q_prop::Trail;
 use std::alloc::Global;
 use std::marker::Model;
 
@@ -58,7 +58,8 @@ impl Walk {
     // Begins anew where the walk is for another literal.
     fn turn_to(&mut self, lit: Lit)
         ensures literal { self.new.literal ≡ lit }
-        ensures walk { (P : Prefix) (X : Matrix) → IsEnclosed P X self.old → IsEnclosed P X self.new }
+        ensures walk { (P : Prefix) (X : Matrix) → IsEnclosed P X self.old →
+            IsEnclosed P X self.new }
     {
         if self.is_for(lit) {
             return;
@@ -72,7 +73,8 @@ impl Walk {
         requires held { IsIn lit clause.now }
         requires universal { is_universal scope.now lit.var ≡ true }
         requires not_negated { IsIn (negation lit) clause.now → ⊥ }
-        ensures { (X : Matrix) → IsTrue result → IsEnclosed scope.now X self.now → Reducible scope.now X clause.now lit }
+        ensures { (X : Matrix) → IsTrue result → IsEnclosed scope.now X self.now →
+            Reducible scope.now X clause.now lit }
     {
         self.is_for(lit) && has_inner(scope, clause, lit, &self.known)
     }
@@ -80,7 +82,8 @@ impl Walk {
     /// Keeps the walk right where a clause comes: one that leads elsewhere ends it.
     pub fn take(&mut self, scope: &Scope, clause: &[Lit])
         requires within { Within scope.now clause.now }
-        ensures { (X : Matrix) → IsEnclosed scope.now X self.old → IsEnclosed scope.now (clause.now ∷ X) self.new }
+        ensures { (X : Matrix) → IsEnclosed scope.now X self.old →
+            IsEnclosed scope.now (clause.now ∷ X) self.new }
     {
         if !bears(scope, clause, self.lit, &self.known) {
             self.known.truncate(0);
@@ -90,23 +93,22 @@ impl Walk {
     /// Goes on from a clause, over so many literals at most; whether this told that the literal may leave the clause.
     pub fn extend(
         &mut self,
-        store: &Store,
-        scope: &Scope,
+        view: &View,
         clause: &[Lit],
         lit: Lit,
         most: usize,
     ) -> Result<bool, NoMemory>
-        requires closed { Closed scope.now (filled store.now) }
-        requires within { Within scope.now clause.now }
+        requires within { Within view.now.prefix clause.now }
         requires held { IsIn lit clause.now }
-        requires universal { is_universal scope.now lit.var ≡ true }
+        requires universal { is_universal view.now.prefix lit.var ≡ true }
         requires not_negated { IsIn (negation lit) clause.now → ⊥ }
-        requires walk { IsEnclosed scope.now (filled store.now) self.old }
-        ensures walk { IsEnclosed scope.now (filled store.now) self.new }
-        ensures told { IfOk result (λ yes. IsTrue yes → Reducible scope.now (filled store.now) clause.now lit) }
+        requires walk { IsEnclosed view.now.prefix (filled view.now.slots) self.old }
+        ensures walk { IsEnclosed view.now.prefix (filled view.now.slots) self.new }
+        ensures told { IfOk result (λ yes. IsTrue yes →
+            Reducible view.now.prefix (filled view.now.slots) clause.now lit) }
     {
         self.turn_to(lit);
-        match go_on(&mut self.known, store, scope, clause, lit, most) {
+        match go_on(&mut self.known, view, clause, lit, most) {
             Ok(told) => Ok(told),
             Err(error) => {
                 self.known.truncate(0);
@@ -151,7 +153,8 @@ impl RecentWalks {
         requires held { IsIn lit clause.now }
         requires universal { is_universal scope.now lit.var ≡ true }
         requires not_negated { IsIn (negation lit) clause.now → ⊥ }
-        ensures { (X : Matrix) → IsTrue result → AreEnclosed scope.now X self.now → Reducible scope.now X clause.now lit }
+        ensures { (X : Matrix) → IsTrue result → AreEnclosed scope.now X self.now →
+            Reducible scope.now X clause.now lit }
     {
         for walk in &self.walks {
             if walk.tells(scope, clause, lit) {
@@ -164,7 +167,8 @@ impl RecentWalks {
     /// Keeps the walks right where a clause comes.
     pub fn take(&mut self, scope: &Scope, clause: &[Lit])
         requires within { Within scope.now clause.now }
-        ensures { (X : Matrix) → AreEnclosed scope.now X self.old → AreEnclosed scope.now (clause.now ∷ X) self.new }
+        ensures { (X : Matrix) → AreEnclosed scope.now X self.old →
+            AreEnclosed scope.now (clause.now ∷ X) self.new }
     {
         for at in 0..self.walks.len() {
             self.walks[at].take(scope, clause);
@@ -173,31 +177,26 @@ impl RecentWalks {
 
     /// Goes on with the walk for the literal from a clause; whether this told that the literal may leave the clause. It
     /// goes over as many literals as there are clauses with the negation, so that it costs no more than to ask regions.
-    pub fn extend(
-        &mut self,
-        store: &Store,
-        scope: &Scope,
-        clause: &[Lit],
-        lit: Lit,
-    ) -> Result<bool, NoMemory>
-        requires closed { Closed scope.now (filled store.now) }
-        requires within { Within scope.now clause.now }
+    pub fn extend(&mut self, view: &View, clause: &[Lit], lit: Lit) -> Result<bool, NoMemory>
+        requires within { Within view.now.prefix clause.now }
         requires held { IsIn lit clause.now }
-        requires universal { is_universal scope.now lit.var ≡ true }
+        requires universal { is_universal view.now.prefix lit.var ≡ true }
         requires not_negated { IsIn (negation lit) clause.now → ⊥ }
-        requires walks { AreEnclosed scope.now (filled store.now) self.old }
-        ensures walks { AreEnclosed scope.now (filled store.now) self.new }
-        ensures told { IfOk result (λ yes. IsTrue yes → Reducible scope.now (filled store.now) clause.now lit) }
+        requires walks { AreEnclosed view.now.prefix (filled view.now.slots) self.old }
+        ensures walks { AreEnclosed view.now.prefix (filled view.now.slots) self.new }
+        ensures told { IfOk result (λ yes. IsTrue yes →
+            Reducible view.now.prefix (filled view.now.slots) clause.now lit) }
     {
         let at = self.choose(lit)?;
-        let most = slots_of(store, lit.negated()).len();
-        self.walks[at].extend(store, scope, clause, lit, most)
+        let most = view.slots_of(lit.negated()).len();
+        self.walks[at].extend(view, clause, lit, most)
     }
 
     // The place of a walk for the literal. Where there is none, and no room, it is that of the one that was begun first.
     fn choose(&mut self, lit: Lit) -> Result<usize, NoMemory>
         ensures place { IfOk result (λ at. at < length self.new) }
-        ensures walks { (P : Prefix) (X : Matrix) → AreEnclosed P X self.old → AreEnclosed P X self.new }
+        ensures walks { (P : Prefix) (X : Matrix) → AreEnclosed P X self.old →
+            AreEnclosed P X self.new }
     {
         if let Some(at) = self.place_of(lit) {
             return Ok(at);
@@ -233,21 +232,21 @@ fn next(at: usize, len: usize) -> usize
 // Goes on with a walk from a clause, over so many literals at most; whether it ended.
 fn go_on(
     known: &mut Trail,
-    store: &Store,
-    scope: &Scope,
+    view: &View,
     clause: &[Lit],
     u: Lit,
     most: usize,
 ) -> Result<bool, NoMemory>
-    requires closed { Closed scope.now (filled store.now) }
-    requires bound { is_bound scope.now u.var ≡ true }
-    requires within { Within scope.now clause.now }
-    requires shut { IsShut scope.now (filled store.now) u known.old }
-    ensures shut { IfOk result (λ yes. IsShut scope.now (filled store.now) u known.new) }
-    ensures inner { IfOk result (λ yes. IsTrue yes → HasInner scope.now u known.new clause.now) }
+    requires bound { is_bound view.now.prefix u.var ≡ true }
+    requires within { Within view.now.prefix clause.now }
+    requires shut { IsShut view.now.prefix (filled view.now.slots) u known.old }
+    ensures shut { IfOk result (λ yes.
+        IsShut view.now.prefix (filled view.now.slots) u known.new) }
+    ensures inner { IfOk result (λ yes. IsTrue yes →
+        HasInner view.now.prefix u known.new clause.now) }
 {
     let begun = known.len();
-    push_inner(known, scope, clause, u)?;
+    push_inner(known, view.scope(), clause, u)?;
     for head in begun..usize::MAX {
         if head >= known.len() {
             return Ok(true);
@@ -256,7 +255,7 @@ fn go_on(
             known.truncate(begun);
             return Ok(false);
         }
-        if !visit(store, scope, known, None, head, u)? {
+        if !visit(view, known, head, u)? {
             known.truncate(0);
             return Ok(false);
         }
@@ -290,7 +289,8 @@ fn is_met(scope: &Scope, k: Lit, u: Lit, known: &Trail) -> bool
 
 // Whether the clause holds none of the negations of the known literals.
 fn lacks_all(clause: &[Lit], known: &Trail) -> bool
-    ensures { IsTrue result → (k : Literal) → Contains known.now k → IsIn (negation k) clause.now → ⊥ }
+    ensures { IsTrue result → (k : Literal) → Contains known.now k →
+        IsIn (negation k) clause.now → ⊥ }
 {
     for k in clause {
         if known.has(k.negated()) {

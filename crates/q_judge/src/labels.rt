@@ -3,9 +3,8 @@ ghost use Rattle.std.specs.Prelude.{◌≡◌, ◌<◌, ℕ, true, cond, eqb, le
 ghost use Rattle.q_logic.specs.Prelude.{Literal, IsIn, is_bound};
 ghost use Rattle.q_judge.specs.Regions.{label_of, region_of, IsCoarser};
 
-use crate::scope::Scope;
+use crate::view::View;
 use q_logic::{Lit, NoMemory};
-use q_prop::Store;
 use std::alloc::Global;
 use std::marker::Model;
 
@@ -18,6 +17,13 @@ pub struct Labels {
     live: Vec<bool>,
     // the slots whose clauses were met while labels are made
     met: Vec<bool>,
+}
+
+// A label, and the variable to which all that get it are inner.
+#[derive(Clone, Copy)]
+struct Spread {
+    w: u32,
+    label: u32,
 }
 
 impl Model for Labels {
@@ -79,7 +85,8 @@ impl Labels {
 
     // Lets a region be one with the region 0.
     fn unite(&mut self, region: u32)
-        ensures { (v : ℕ) → region_of self.new v ≡ cond (eqb (region_of self.old v) region) 0 (region_of self.old v) }
+        ensures { (v : ℕ) → region_of self.new v
+            ≡ cond (eqb (region_of self.old v) region) 0 (region_of self.old v) }
     {
         if let Some(live) = self.live.get_mut(region as usize) {
             *live = false;
@@ -108,22 +115,16 @@ impl Labels {
     /// Gives a label to each existential variable that is inner to w and occurs, the same one where clauses
     /// connect them. This costs the size of the formula. Which labels they are is not promised: they are to
     /// be verified.
-    pub fn make(
-        &mut self,
-        store: &Store,
-        scope: &Scope,
-        queue: &mut Vec<u32>,
-        w: u32,
-    ) -> Result<(), NoMemory>
-        requires { is_bound scope.now w ≡ true }
+    pub fn make(&mut self, view: &View, queue: &mut Vec<u32>, w: u32) -> Result<(), NoMemory>
+        requires { is_bound view.now.prefix w ≡ true }
     {
         self.forget();
         self.met.clear();
-        self.met.resize(store.slots(), false)?;
-        for at in 0..store.slots() {
-            self.spread(store, scope, queue, w, at)?;
+        self.met.resize(view.slots(), false)?;
+        for at in 0..view.slots() {
+            self.spread(view, queue, w, at)?;
         }
-        self.live.resize(store.slots().saturating_add(1), true)?;
+        self.live.resize(view.slots().saturating_add(1), true)?;
         Ok(())
     }
 
@@ -131,24 +132,27 @@ impl Labels {
     // from 1.
     fn spread(
         &mut self,
-        store: &Store,
-        scope: &Scope,
+        view: &View,
         queue: &mut Vec<u32>,
         w: u32,
         at: usize,
     ) -> Result<(), NoMemory>
-        requires { is_bound scope.now w ≡ true }
+        requires { is_bound view.now.prefix w ≡ true }
     {
         let Ok(slot) = u32::try_from(at) else {
             return Ok(());
         };
         queue.clear();
         self.meet(queue, slot)?;
+        let spread = Spread {
+            w,
+            label: slot.saturating_add(1),
+        };
         for head in 0..usize::MAX {
             let Some(next) = queue.get(head).copied() else {
                 return Ok(());
             };
-            self.visit(store, scope, queue, w, next, slot.saturating_add(1))?;
+            self.visit(view, queue, next, spread)?;
         }
         Ok(())
     }
@@ -156,23 +160,21 @@ impl Labels {
     // Labels the inner variables of a clause, and puts the clauses with those that had no label into the queue.
     fn visit(
         &mut self,
-        store: &Store,
-        scope: &Scope,
+        view: &View,
         queue: &mut Vec<u32>,
-        w: u32,
         slot: u32,
-        label: u32,
+        spread: Spread,
     ) -> Result<(), NoMemory>
-        requires { is_bound scope.now w ≡ true }
+        requires { is_bound view.now.prefix spread.w ≡ true }
     {
-        let Some(clause) = store.slot(slot as usize) else {
+        let Some(clause) = view.clause(slot as usize) else {
             return Ok(());
         };
         for k in clause {
-            if scope.is_inner(k.var(), w) && self.label_of(k.var()) == 0 {
-                self.put(k.var(), label)?;
-                self.meet_all(queue, store.holders(*k))?;
-                self.meet_all(queue, store.holders(k.negated()))?;
+            if view.scope().is_inner(k.var(), spread.w) && self.label_of(k.var()) == 0 {
+                self.put(k.var(), spread.label)?;
+                self.meet_all(queue, view.slots_of(*k))?;
+                self.meet_all(queue, view.slots_of(k.negated()))?;
             }
         }
         Ok(())
@@ -199,7 +201,8 @@ impl Labels {
 
 // Variables behind the last one with a label have the label 0.
 fn make_room(labels: &mut Vec<u32>, var: u32) -> Result<(), NoMemory>
-    ensures same { (v : ℕ) → slice_index_or labels.new.items v 0 ≡ slice_index_or labels.old.items v 0 }
+    ensures same { (v : ℕ) →
+        slice_index_or labels.new.items v 0 ≡ slice_index_or labels.old.items v 0 }
     ensures room { OnOk result (var < length labels.new.items) }
 {
     let end = var as usize + 1;

@@ -5,7 +5,7 @@ ghost use Rattle.q_logic.specs.Prelude.{Clause, Matrix, IsIn, Chained, AreModera
 ghost use Rattle.q_prop.specs.Slots.{filled, Holds, IsPut};
 ghost use Rattle.q_prop.specs.Slots.{without as without_slot};
 ghost use Rattle.q_judge.specs.Entries.{IsPivotEntry};
-ghost use Rattle.q_judge.specs.Ledgers.{slotted, formula_in};
+ghost use Rattle.q_judge.specs.Ledgers.{slotted, formula_in, clauses_but};
 ghost use Rattle.q_judge.specs.Tried.{IsEndRefusal};
 ghost use Rattle.q_judge.specs.Warrants.{IsAnswered, Resolves};
 
@@ -13,11 +13,14 @@ use crate::blocking::is_blocked_first;
 use crate::checks::{compare, has_room, sum_of};
 use crate::error::CheckError;
 use crate::kept_walks::RecentWalks;
-use crate::pivots::{Buffers, Warrant, permit_of, push_outer, resolves, warrant_of};
+use crate::pivots::{
+    Buffers, Candidate, Question, Warrant, permit_of, push_outer, resolves, warrant_of,
+};
 use crate::reach::reduces;
 use crate::recent::RecentRegions;
 use crate::scope::Scope;
 use crate::undo::{Undo, collect_outers, pivot_entry};
+use crate::view::View;
 use q_logic::{Clauses, Formula, Limits, Lit, NoMemory, holds};
 use q_prop::Store;
 use std::alloc::Global;
@@ -47,7 +50,10 @@ impl Model for Ledger {
 
     ghost view = { λ b. record { prefix = b.scope; slots = b.store } };
 
-    ghost invariant = { λ b. IsCounted (record { prefix = b.scope; matrix = filled b.store }) b.clauses b.lits × AreRegionsOf b.scope (filled b.store) b.recent × AreEnclosed b.scope (filled b.store) b.walks };
+    ghost invariant = { λ b.
+        IsCounted (record { prefix = b.scope; matrix = filled b.store }) b.clauses b.lits
+        × AreRegionsOf b.scope (filled b.store) b.recent
+        × AreEnclosed b.scope (filled b.store) b.walks };
 }
 
 impl Ledger {
@@ -100,7 +106,8 @@ impl Ledger {
     /// Whether the literals are implied by propagation, over the clauses of all slots but one.
     pub fn implied(&mut self, lits: &[Lit], skip: Option<usize>) -> Result<bool, NoMemory>
         ensures same { self.new ≡ self.old }
-        ensures exact { IfOk result (λ yes. IsTrue yes ↔ Implied (filled (without_slot self.old.slots skip)) lits.now) }
+        ensures exact { IfOk result (λ yes. IsTrue yes ↔
+            Implied (clauses_but self.old skip) lits.now) }
     {
         self.store.implied(lits, skip)
     }
@@ -113,7 +120,8 @@ impl Ledger {
         slots: &[usize],
     ) -> Result<bool, NoMemory>
         ensures same { self.new ≡ self.old }
-        ensures exact { IfOk result (λ yes. IsTrue yes ↔ Chained (without_slot self.old.slots skip) lits.now slots.now) }
+        ensures exact { IfOk result (λ yes. IsTrue yes ↔
+            Chained (without_slot self.old.slots skip) lits.now slots.now) }
     {
         self.store.chain(lits, skip, slots)
     }
@@ -126,9 +134,11 @@ impl Ledger {
         slots: &mut Vec<usize>,
     ) -> Result<bool, NoMemory>
         ensures same { self.new ≡ self.old }
-        ensures exact { IfOk result (λ yes. IsTrue yes ↔ Implied (filled (without_slot self.old.slots skip)) lits.now) }
+        ensures exact { IfOk result (λ yes. IsTrue yes ↔
+            Implied (clauses_but self.old skip) lits.now) }
         ensures shown { IfOk result (λ yes.
-            MatchBool yes (Chained (without_slot self.old.slots skip) lits.now slots.new.items) (slots.new.items ≡ [])) }
+            MatchBool yes (Chained (without_slot self.old.slots skip) lits.now slots.new.items)
+            (slots.new.items ≡ [])) }
     {
         self.store.explain(lits, skip, slots)
     }
@@ -142,7 +152,8 @@ impl Ledger {
         joined: &mut Vec<Lit>,
     ) -> Result<(), NoMemory>
         requires { is_bound self.now.prefix m.var ≡ true }
-        ensures { OnOk result ((C : Clause) → Holds self.now.slots at C → joined.new.items ≡ base.now ++ outer self.now.prefix m C) }
+        ensures { OnOk result ((C : Clause) → Holds self.now.slots at C →
+            joined.new.items ≡ base.now ++ outer self.now.prefix m C) }
     {
         joined.clear();
         joined.extend_from_slice(base)?;
@@ -163,16 +174,15 @@ impl Ledger {
         requires within { Within self.old.prefix clause.now }
         requires first { IsFirst first clause.now }
         ensures same { self.new ≡ self.old }
-        ensures exact { IsAnswered self.old.prefix (filled (without_slot self.old.slots skip)) clause.now first result }
+        ensures exact { IsAnswered self.old.prefix (clauses_but self.old skip) clause.now first
+            result }
     {
-        warrant_of(
-            &mut self.store,
-            &self.scope,
-            &mut self.buffers,
+        let candidate = Candidate {
             skip,
             clause,
             first,
-        )
+        };
+        warrant_of(&mut self.store, &self.scope, &mut self.buffers, &candidate)
     }
 
     /// Whether the clause may come or go, over the slots but one; refused where nothing speaks for it. Why is not told: a
@@ -186,17 +196,17 @@ impl Ledger {
         requires within { Within self.old.prefix clause.now }
         requires first { IsFirst first clause.now }
         ensures same { self.new ≡ self.old }
-        ensures ok { OnOk result (IsWarranted self.old.prefix (filled (without_slot self.old.slots skip)) clause.now first) }
-        ensures refused { IfErr result (λ e. IsAnswered self.old.prefix (filled (without_slot self.old.slots skip)) clause.now first (Err e)) }
+        ensures ok { OnOk result
+            (IsWarranted self.old.prefix (clauses_but self.old skip) clause.now first) }
+        ensures refused { IfErr result (λ e.
+            IsAnswered self.old.prefix (clauses_but self.old skip) clause.now first (Err e)) }
     {
-        permit_of(
-            &mut self.store,
-            &self.scope,
-            &mut self.buffers,
+        let candidate = Candidate {
             skip,
             clause,
             first,
-        )
+        };
+        permit_of(&mut self.store, &self.scope, &mut self.buffers, &candidate)
     }
 
     /// Whether the first literal blocks the clause, over the slots but one: each resolvent is a tautology. Takes no
@@ -204,25 +214,22 @@ impl Ledger {
     pub fn is_blocked(&self, skip: Option<usize>, clause: &[Lit], first: &Option<Lit>) -> bool
         requires within { Within self.now.prefix clause.now }
         requires first { IsFirst first.now clause.now }
-        ensures { IsTrue result → FirstPivot self.now.prefix (filled (without_slot self.now.slots skip)) clause.now first.now }
+        ensures { IsTrue result →
+            FirstPivot self.now.prefix (clauses_but self.now skip) clause.now first.now }
     {
-        is_blocked_first(&self.store, &self.scope, skip, clause, first)
+        let others = View::new(&self.store, &self.scope, skip);
+        is_blocked_first(&others, clause, first)
     }
 
     /// Whether the literals, joined with the outer clause of each clause that holds m, are implied, over the slots but one.
     pub fn resolves(&mut self, skip: Option<usize>, base: &[Lit], m: Lit) -> Result<bool, NoMemory>
         requires { is_bound self.old.prefix m.var ≡ true }
         ensures same { self.new ≡ self.old }
-        ensures exact { IfOk result (λ yes. IsTrue yes ↔ Resolves self.old.prefix (filled (without_slot self.old.slots skip)) base.now m) }
+        ensures exact { IfOk result (λ yes. IsTrue yes ↔
+            Resolves self.old.prefix (clauses_but self.old skip) base.now m) }
     {
-        resolves(
-            &mut self.store,
-            &self.scope,
-            &mut self.buffers,
-            skip,
-            base,
-            m,
-        )
+        let question = Question { skip, base, m };
+        resolves(&mut self.store, &self.scope, &mut self.buffers, &question)
     }
 
     /// Whether the literal may go from the clause in a slot. `rest` is the clause without the literal.
@@ -237,7 +244,8 @@ impl Ledger {
         requires held { IsIn lit clause.now }
         requires rest { rest.now ≡ without lit clause.now }
         ensures same { self.new ≡ self.old }
-        ensures exact { IfOk result (λ yes. IsTrue yes ↔ IsDroppable self.old.prefix (filled (without_slot self.old.slots (Some at))) clause.now lit) }
+        ensures exact { IfOk result (λ yes. IsTrue yes ↔
+            IsDroppable self.old.prefix (clauses_but self.old (Some at)) clause.now lit) }
     {
         if !self.may_go(clause, lit) {
             return Ok(false);
@@ -253,7 +261,8 @@ impl Ledger {
 
     // Whether the literal is universal, and its negation not in the clause.
     fn may_go(&self, clause: &[Lit], lit: Lit) -> bool
-        ensures yes { IsTrue result → (is_universal self.now.prefix lit.var ≡ true) × (IsIn (negation lit) clause.now → ⊥) }
+        ensures yes { IsTrue result → (is_universal self.now.prefix lit.var ≡ true)
+            × (IsIn (negation lit) clause.now → ⊥) }
         ensures no { (X : Matrix) → IsDroppable self.now.prefix X clause.now lit → IsTrue result }
     {
         self.scope.is_universal(lit.var()) && !holds(clause, lit.negated())
@@ -265,7 +274,8 @@ impl Ledger {
         requires held { IsIn lit clause.now }
         requires universal { is_universal self.old.prefix lit.var ≡ true }
         ensures same { self.new ≡ self.old }
-        ensures exact { IfOk result (λ yes. IsTrue yes ↔ Reducible self.old.prefix (filled (without_slot self.old.slots (Some at))) clause.now lit) }
+        ensures exact { IfOk result (λ yes. IsTrue yes ↔
+            Reducible self.old.prefix (clauses_but self.old (Some at)) clause.now lit) }
     {
         if !self.may_go(clause, lit) {
             return Ok(false);
@@ -282,7 +292,8 @@ impl Ledger {
         requires held { IsIn lit clause.now }
         requires universal { is_universal self.now.prefix lit.var ≡ true }
         requires not_negated { IsIn (negation lit) clause.now → ⊥ }
-        ensures { IsTrue result → Reducible self.now.prefix (filled (without_slot self.now.slots (Some at))) clause.now lit }
+        ensures { IsTrue result →
+            Reducible self.now.prefix (clauses_but self.now (Some at)) clause.now lit }
     {
         self.walks.tell(&self.scope, clause, lit)
     }
@@ -294,9 +305,11 @@ impl Ledger {
         requires universal { is_universal self.old.prefix lit.var ≡ true }
         requires not_negated { IsIn (negation lit) clause.now → ⊥ }
         ensures same { self.new ≡ self.old }
-        ensures told { IfOk result (λ yes. IsTrue yes → Reducible self.old.prefix (filled (without_slot self.old.slots (Some at))) clause.now lit) }
+        ensures told { IfOk result (λ yes. IsTrue yes →
+            Reducible self.old.prefix (clauses_but self.old (Some at)) clause.now lit) }
     {
-        let told = self.walks.extend(&self.store, &self.scope, clause, lit)?;
+        let whole = View::new(&self.store, &self.scope, None);
+        let told = self.walks.extend(&whole, clause, lit)?;
         Ok(told)
     }
 
@@ -306,49 +319,58 @@ impl Ledger {
         requires held { IsIn lit clause.now }
         requires universal { is_universal self.old.prefix lit.var ≡ true }
         ensures same { self.new ≡ self.old }
-        ensures exact { IfOk result (λ yes. IsTrue yes ↔ Reducible self.old.prefix (filled (without_slot self.old.slots (Some at))) clause.now lit) }
+        ensures exact { IfOk result (λ yes. IsTrue yes ↔
+            Reducible self.old.prefix (clauses_but self.old (Some at)) clause.now lit) }
     {
-        reduces(
-            &self.store,
-            &self.scope,
-            &mut self.recent,
-            &mut self.buffers,
-            Some(at),
-            clause,
-            lit,
-        )
+        let reducible = self.reduces(at, clause, lit)?;
+        if reducible {
+            self.learn(lit.var())?;
+        }
+        Ok(reducible)
+    }
+
+    // The same, without what regions learn of it.
+    fn reduces(&mut self, at: usize, clause: &[Lit], lit: Lit) -> Result<bool, NoMemory>
+        requires within { Within self.old.prefix clause.now }
+        requires held { IsIn lit clause.now }
+        requires universal { is_universal self.old.prefix lit.var ≡ true }
+        ensures same { self.new ≡ self.old }
+        ensures exact { IfOk result (λ yes. IsTrue yes ↔
+            Reducible self.old.prefix (clauses_but self.old (Some at)) clause.now lit) }
+    {
+        let others = View::new(&self.store, &self.scope, Some(at));
+        reduces(&others, &self.recent, &mut self.buffers.trail, clause, lit)
+    }
+
+    // Regions learn of a walk for the variable that found nothing.
+    fn learn(&mut self, var: u32) -> Result<(), NoMemory>
+        requires { is_bound self.old.prefix var ≡ true }
+        ensures { self.new ≡ self.old }
+    {
+        let whole = View::new(&self.store, &self.scope, None);
+        self.recent.learn(&whole, &mut self.buffers, var)
     }
 
     /// The outer clauses on m of the clauses that hold m, in the slots but one.
     pub fn outers(&mut self, skip: Option<usize>, m: Lit) -> Result<Clauses, NoMemory>
         requires { is_bound self.old.prefix m.var ≡ true }
         ensures same { self.new ≡ self.old }
-        ensures exact { IfOk result (λ c. OutersOf self.old.prefix (filled (without_slot self.old.slots skip)) m c) }
+        ensures exact { IfOk result (λ c.
+            OutersOf self.old.prefix (clauses_but self.old skip) m c) }
     {
-        collect_outers(
-            self.alloc,
-            &mut self.buffers.outers.joined,
-            &self.store,
-            &self.scope,
-            skip,
-            m,
-        )
+        let others = View::new(&self.store, &self.scope, skip);
+        collect_outers(self.alloc, &others, &mut self.buffers.outers.joined, m)
     }
 
     /// What a deletion by the pivot leaves.
     pub fn pivot_entry(&mut self, at: usize, pivot: Option<Lit>) -> Result<Option<Undo>, NoMemory>
         requires { (l : Literal) → pivot ≡ Some l → is_bound self.old.prefix l.var ≡ true }
         ensures same { self.new ≡ self.old }
-        ensures exact { IfOk result (λ u. IsPivotEntry self.old.prefix (filled (without_slot self.old.slots (Some at))) pivot u) }
+        ensures exact { IfOk result (λ u.
+            IsPivotEntry self.old.prefix (clauses_but self.old (Some at)) pivot u) }
     {
-        pivot_entry(
-            self.alloc,
-            &mut self.buffers.outers.joined,
-            &self.store,
-            &self.scope,
-            at,
-            pivot,
-        )
+        let others = View::new(&self.store, &self.scope, Some(at));
+        pivot_entry(self.alloc, &others, &mut self.buffers.outers.joined, pivot)
     }
 
     /// Puts a clause into an empty slot, which may be a new one.
@@ -372,7 +394,8 @@ impl Ledger {
     /// Empties the slot of the clause. Takes no memory.
     pub fn delete(&mut self, at: usize, clause: &[Lit])
         requires { Holds self.old.slots at clause.now }
-        ensures { self.new ≡ record { prefix = self.old.prefix; slots = slice_set self.old.slots at None } }
+        ensures { self.new
+            ≡ record { prefix = self.old.prefix; slots = slice_set self.old.slots at None } }
     {
         self.store.delete(at);
         self.clauses -= 1;
@@ -384,7 +407,8 @@ impl Ledger {
         requires there { Holds self.old.slots at clause.now }
         requires ordered { ArePairs IsBelow clause.now }
         requires rest { (l : Literal) × (rest.now ≡ without l clause.now) }
-        ensures ok { IfOk result (λ k. (t : Slots) × IsPut self.old.slots k rest.now t × (self.new ≡ record { prefix = self.old.prefix; slots = slice_set t at None })) }
+        ensures ok { IfOk result (λ k. (t : Slots) × IsPut self.old.slots k rest.now t
+            × (self.new ≡ record { prefix = self.old.prefix; slots = slice_set t at None })) }
         ensures err { OnErr result (self.new ≡ self.old) }
     {
         self.walks.take(&self.scope, rest);
@@ -398,7 +422,8 @@ impl Ledger {
     pub fn insert(&mut self, v: u32, w: u32) -> Result<(), NoMemory>
         requires absent { is_bound self.old.prefix v ≡ false }
         requires there { is_existential self.old.prefix w ≡ true }
-        ensures ok { OnOk result (self.new ≡ record { prefix = insert_after w v self.old.prefix; slots = self.old.slots }) }
+        ensures ok { OnOk result (self.new
+            ≡ record { prefix = insert_after w v self.old.prefix; slots = self.old.slots }) }
         ensures err { OnErr result (self.new ≡ self.old) }
     {
         self.recent.inherit(v, w)?;
@@ -410,7 +435,8 @@ impl Ledger {
     pub fn remove(&mut self, var: u32)
         requires bound { is_bound self.old.prefix var ≡ true }
         requires absent { IsAbsent (filled self.old.slots) var }
-        ensures { self.new ≡ record { prefix = removed_from var self.old.prefix; slots = self.old.slots } }
+        ensures { self.new
+            ≡ record { prefix = removed_from var self.old.prefix; slots = self.old.slots } }
     {
         self.recent.leave(&self.scope, var);
         self.scope.remove(var);

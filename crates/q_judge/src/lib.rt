@@ -17,6 +17,7 @@ mod recent;
 mod regions;
 mod scope;
 mod undo;
+mod view;
 
 pub use checks::{
     binds_all, compare, first_lit, has_room, is_absent, load_clause, load_rest, slot_of, sum_of,
@@ -24,8 +25,9 @@ pub use checks::{
 };
 pub use error::{Cause, CheckError};
 pub use ledger::Ledger;
-pub use pivots::{Buffers, Warrant, clause_at, push_outer, resolves, slots_of, warrant_of};
+pub use pivots::{Buffers, Candidate, Question, Warrant, push_outer, resolves, warrant_of};
 pub use reach::reduces;
 pub use recent::RecentRegions;
 pub use scope::Scope;
 pub use undo::{Undo, Undos, collect_outers, fresh_entry, kept_pivot, pivot_entry, removed_entry};
+pub use view::View;

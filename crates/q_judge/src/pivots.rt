@@ -1,13 +1,14 @@
 //! Whether a clause may come or go: implied, or by a pivot.
-ghost use Rattle.std.specs.Prelude.{◌≡◌, ◌↔◌, ◌++◌, [], true, Err, OnOk, IfOk, IfErr, IsTrue, MatchOption};
-ghost use Rattle.q_logic.specs.Prelude.{Clause, Closed, is_bound, Implied, keeps, outer, IsWarranted, Within, IsFirst};
-ghost use Rattle.q_prop.specs.Slots.{Holds, filled, without};
-ghost use Rattle.q_judge.specs.Pivots.{IsGathered, AreGathered, ResolveAt};
-ghost use Rattle.q_judge.specs.Warrants.{AreHolders, IsAnswered, Resolves};
+ghost use Rattle.std.specs.Prelude.{◌≡◌, ◌↔◌, ◌++◌, [], true, Err, OnOk, IfOk, IfErr, IsTrue};
+ghost use Rattle.q_logic.specs.Prelude.{Closed, is_bound, keeps, outer, IsWarranted, Within, IsFirst};
+ghost use Rattle.q_prop.specs.Slots.{filled, without};
+ghost use Rattle.q_judge.specs.Pivots.{IsGathered, AreGathered, ResolveAt, IsJudged};
+ghost use Rattle.q_judge.specs.Warrants.{AreHolders, Resolves};
 
 use crate::blocking::{clashes, is_blocked_first};
 use crate::error::{Cause, CheckError};
 use crate::scope::Scope;
+use crate::view::View;
 use q_logic::{Lit, NoMemory};
 use q_prop::{Store, Tails, Trail};
 use std::alloc::Global;
@@ -22,10 +23,18 @@ pub enum Warrant {
 /// What is asked of a pivot: whether the base, joined with the outer clause of each clause that holds m, is implied, over
 /// the slots but one.
 #[derive(Clone, Copy)]
-pub(crate) struct Question<'a> {
-    pub(crate) skip: Option<usize>,
-    pub(crate) base: &'a [Lit],
-    pub(crate) m: Lit,
+pub struct Question<'a> {
+    pub skip: Option<usize>,
+    pub base: &'a [Lit],
+    pub m: Lit,
+}
+
+/// A clause that is to come or go over the slots but one, and the literal that stood first in it.
+#[derive(Clone, Copy)]
+pub struct Candidate<'a> {
+    pub skip: Option<usize>,
+    pub clause: &'a [Lit],
+    pub first: Option<Lit>,
 }
 
 /// Outer clauses, and room for the next one.
@@ -104,33 +113,21 @@ pub fn push_outer(
     Ok(())
 }
 
-/// The clause in a slot that is not the one left out.
-pub fn clause_at<'a>(store: &'a Store, skip: Option<usize>, at: usize) -> Option<&'a [Lit]>
-    ensures { MatchOption result ((d : Clause) → Holds (without store.now skip) at d → ⊥) (λ r. Holds (without store.now skip) at r.now) }
-{
-    if let Some(left_out) = skip {
-        if left_out == at {
-            return None;
-        }
-    }
-    store.slot(at)
-}
-
 // Appends the outer clause of the clause in a slot, unless it clashes with the base.
 fn gather_outer(
-    store: &Store,
-    scope: &Scope,
+    view: &View,
     question: &Question,
     at: usize,
     outers: &mut Outers,
 ) -> Result<(), NoMemory>
-    requires closed { Closed scope.now (filled store.now) }
-    requires bound { is_bound scope.now question.now.m.var ≡ true }
-    ensures { OnOk result (IsGathered scope.now (without store.now question.now.skip) question.now at outers.old.tails outers.new.tails) }
+    requires { is_bound view.now.prefix question.now.m.var ≡ true }
+    ensures { OnOk result (IsGathered view.now.prefix view.now.slots question.now at
+        outers.old.tails outers.new.tails) }
 {
-    let Some(clause) = clause_at(store, question.skip, at) else {
+    let Some(clause) = view.clause(at) else {
         return Ok(());
     };
+    let scope = view.scope();
     if clashes(scope, question.base, clause, question.m) {
         return Ok(());
     }
@@ -141,19 +138,18 @@ fn gather_outer(
 
 // The outer clauses of the clauses in these slots, but of those that clash with the base.
 fn gather_outers(
-    store: &Store,
-    scope: &Scope,
+    view: &View,
     question: &Question,
     slots: &[u32],
     outers: &mut Outers,
 ) -> Result<(), NoMemory>
-    requires closed { Closed scope.now (filled store.now) }
-    requires bound { is_bound scope.now question.now.m.var ≡ true }
-    ensures { OnOk result (AreGathered scope.now (without store.now question.now.skip) question.now slots.now outers.new.tails) }
+    requires { is_bound view.now.prefix question.now.m.var ≡ true }
+    ensures { OnOk result (AreGathered view.now.prefix view.now.slots question.now slots.now
+        outers.new.tails) }
 {
     outers.tails.clear();
     for at in slots {
-        gather_outer(store, scope, question, *at as usize, outers)?;
+        gather_outer(view, question, *at as usize, outers)?;
     }
     Ok(())
 }
@@ -169,29 +165,30 @@ fn resolves_group(
     requires closed { Closed scope.now (filled store.old) }
     requires bound { is_bound scope.now question.now.m.var ≡ true }
     ensures same { store.new ≡ store.old }
-    ensures exact { IfOk result (λ yes. IsTrue yes ↔ ResolveAt scope.now (without store.old question.now.skip) question.now slots.now) }
+    ensures exact { IfOk result (λ yes. IsTrue yes ↔
+        ResolveAt scope.now (without store.old question.now.skip) question.now slots.now) }
 {
-    gather_outers(store, scope, question, slots, outers)?;
+    let view = View::new(store, scope, question.skip);
+    gather_outers(&view, question, slots, outers)?;
     store.all_implied(question.base, &outers.tails, question.skip)
 }
 
-/// Whether the literals, joined with the outer clause of each clause that holds m, are implied.
+/// Whether the base, joined with the outer clause of each clause that holds m, is implied.
 pub fn resolves(
     store: &mut Store,
     scope: &Scope,
     buffers: &mut Buffers,
-    skip: Option<usize>,
-    base: &[Lit],
-    m: Lit,
+    question: &Question,
 ) -> Result<bool, NoMemory>
     requires closed { Closed scope.now (filled store.old) }
-    requires bound { is_bound scope.now m.var ≡ true }
+    requires bound { is_bound scope.now question.now.m.var ≡ true }
     ensures same { store.new ≡ store.old }
-    ensures exact { IfOk result (λ yes. IsTrue yes ↔ Resolves scope.now (filled (without store.old skip)) base.now m) }
+    ensures exact { IfOk result (λ yes. IsTrue yes ↔
+        Resolves scope.now (filled (without store.old question.now.skip)) question.now.base.now
+        question.now.m) }
 {
-    collect_holders(store, m, &mut buffers.slots)?;
-    let question = Question { skip, base, m };
-    resolves_all(store, scope, &question, &buffers.slots, &mut buffers.outers)
+    collect_holders(store, question.m, &mut buffers.slots)?;
+    resolves_all(store, scope, question, &buffers.slots, &mut buffers.outers)
 }
 
 // The same for the clauses in these slots.
@@ -209,7 +206,8 @@ fn resolves_all(
     requires closed { Closed scope.now (filled store.old) }
     requires bound { is_bound scope.now question.now.m.var ≡ true }
     ensures same { store.new ≡ store.old }
-    ensures exact { IfOk result (λ yes. IsTrue yes ↔ ResolveAt scope.now (without store.old question.now.skip) question.now slots.now) }
+    ensures exact { IfOk result (λ yes. IsTrue yes ↔
+        ResolveAt scope.now (without store.old question.now.skip) question.now slots.now) }
 {
     let mut from = 0;
     let mut size = 1;
@@ -224,21 +222,24 @@ fn resolves_all(
     Ok(true)
 }
 
-/// Why the clause may come or go, over the slots but one; refused where nothing speaks for it.
+/// Why the clause may come or go; refused where nothing speaks for it.
 pub fn warrant_of(
     store: &mut Store,
     scope: &Scope,
     buffers: &mut Buffers,
-    skip: Option<usize>,
-    clause: &[Lit],
-    first: Option<Lit>,
+    candidate: &Candidate,
 ) -> Result<Warrant, CheckError>
     requires closed { Closed scope.now (filled store.old) }
-    requires within { Within scope.now clause.now }
-    requires first { IsFirst first clause.now }
+    requires within { Within scope.now candidate.now.clause.now }
+    requires first { IsFirst candidate.now.first candidate.now.clause.now }
     ensures same { store.new ≡ store.old }
-    ensures exact { IsAnswered scope.now (filled (without store.old skip)) clause.now first result }
+    ensures exact { IsJudged scope.now store.old candidate.now result }
 {
+    let Candidate {
+        skip,
+        clause,
+        first,
+    } = *candidate;
     if store.implied(clause, skip)? {
         return Ok(Warrant::Propagation);
     }
@@ -248,32 +249,38 @@ pub fn warrant_of(
     if !scope.is_existential(pivot.var()) {
         return Err(Cause::Unwarranted.refusal());
     }
-    if !resolves(store, scope, buffers, skip, clause, pivot.negated())? {
+    let question = Question {
+        skip,
+        base: clause,
+        m: pivot.negated(),
+    };
+    if !resolves(store, scope, buffers, &question)? {
         return Err(Cause::Unwarranted.refusal());
     }
     Ok(Warrant::Pivot)
 }
 
-/// Whether the clause may come or go, over the slots but one; refused as by `warrant_of`. What blocks it is looked for
-/// first, since that takes no propagation.
+/// Whether the clause may come or go; refused as by `warrant_of`. What blocks it is looked for first, since that takes no
+/// propagation.
 pub fn permit_of(
     store: &mut Store,
     scope: &Scope,
     buffers: &mut Buffers,
-    skip: Option<usize>,
-    clause: &[Lit],
-    first: Option<Lit>,
+    candidate: &Candidate,
 ) -> Result<(), CheckError>
     requires closed { Closed scope.now (filled store.old) }
-    requires within { Within scope.now clause.now }
-    requires first { IsFirst first clause.now }
+    requires within { Within scope.now candidate.now.clause.now }
+    requires first { IsFirst candidate.now.first candidate.now.clause.now }
     ensures same { store.new ≡ store.old }
-    ensures ok { OnOk result (IsWarranted scope.now (filled (without store.old skip)) clause.now first) }
-    ensures refused { IfErr result (λ e. IsAnswered scope.now (filled (without store.old skip)) clause.now first (Err e)) }
+    ensures ok { OnOk result
+        (IsWarranted scope.now (filled (without store.old candidate.now.skip))
+        candidate.now.clause.now candidate.now.first) }
+    ensures refused { IfErr result (λ e. IsJudged scope.now store.old candidate.now (Err e)) }
 {
-    if is_blocked_first(store, scope, skip, clause, &first) {
+    let view = View::new(store, scope, candidate.skip);
+    if is_blocked_first(&view, candidate.clause, &candidate.first) {
         return Ok(());
     }
-    warrant_of(store, scope, buffers, skip, clause, first)?;
+    warrant_of(store, scope, buffers, candidate)?;
     Ok(())
 }

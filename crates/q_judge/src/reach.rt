@@ -1,77 +1,66 @@
 //! Whether a clause may lose a universal literal.
-ghost use Rattle.std.specs.Prelude.{◌≡◌, ◌↔◌, ◌<◌, ◌∷◌, ℕ, true, length, None, Some, OnOk, IfOk, IsTrue, slice_get};
-ghost use Rattle.q_logic.specs.Prelude.{Literal, negation, Clause, IsIn, Closed, is_bound, is_universal, Reducible, Within};
+ghost use Rattle.std.specs.Prelude.{◌≡◌, ◌↔◌, ◌<◌, ◌∷◌, true, length, Some, OnOk, IfOk, IsTrue, slice_get};
+ghost use Rattle.q_logic.specs.Prelude.{Literal, negation, Clause, IsIn, is_bound, is_universal, Reducible, Within};
 ghost use Rattle.q_prop.specs.Slots.{filled};
-ghost use Rattle.q_prop.specs.Slots.{without as without_slot};
 ghost use Rattle.q_judge.specs.Regions.{AreRegionsOf};
 ghost use Rattle.q_judge.specs.Walks.{is_inner, IsWidened, IsFollowed, IsVisited};
 
-use crate::pivots::{Buffers, clause_at, slots_of};
 use crate::recent::RecentRegions;
 use crate::scope::Scope;
+use crate::view::View;
 use q_logic::{Lit, NoMemory, holds};
-use q_prop::{Store, Trail};
+use q_prop::Trail;
 
-/// Whether the universal literal may go from the clause by its reach alone, beside the slots but its own. Regions learn
-/// of it.
+/// Whether the universal literal may go from the clause by its reach alone, beside the other clauses. The trail is
+/// left with what a walk met.
 pub fn reduces(
-    store: &Store,
-    scope: &Scope,
-    recent: &mut RecentRegions,
-    buffers: &mut Buffers,
-    skip: Option<usize>,
+    view: &View,
+    recent: &RecentRegions,
+    trail: &mut Trail,
     clause: &[Lit],
     lit: Lit,
 ) -> Result<bool, NoMemory>
-    requires closed { Closed scope.now (filled store.now) }
-    requires within { Within scope.now clause.now }
+    requires within { Within view.now.prefix clause.now }
     requires held { IsIn lit clause.now }
-    requires universal { is_universal scope.now lit.var ≡ true }
-    requires regions { AreRegionsOf scope.now (filled store.now) recent.old }
-    ensures regions { AreRegionsOf scope.now (filled store.now) recent.new }
-    ensures exact { IfOk result (λ yes. IsTrue yes ↔ Reducible scope.now (filled (without_slot store.now skip)) clause.now lit) }
+    requires universal { is_universal view.now.prefix lit.var ≡ true }
+    requires regions { AreRegionsOf view.now.prefix (filled view.now.slots) recent.now }
+    ensures { IfOk result (λ yes. IsTrue yes ↔
+        Reducible view.now.prefix (filled view.now.slots) clause.now lit) }
 {
     if holds(clause, lit.negated()) {
         return Ok(false);
     }
-    let trail = &mut buffers.trail;
-    let reducible = is_reducible(store, scope, recent, trail, skip, clause, lit)?;
-    if reducible {
-        recent.learn(store, scope, buffers, lit.var())?;
-    }
-    Ok(reducible)
+    is_reducible(view, recent, trail, clause, lit)
 }
 
 // Whether no clause that is reached from the clause holds the literal's negation. Regions are asked once the walk
 // went on from as many literals as there are clauses with the negation, so that this costs no more than the walk.
 fn is_reducible(
-    store: &Store,
-    scope: &Scope,
+    view: &View,
     recent: &RecentRegions,
     trail: &mut Trail,
-    skip: Option<usize>,
     clause: &[Lit],
     lit: Lit,
 ) -> Result<bool, NoMemory>
-    requires closed { Closed scope.now (filled store.now) }
-    requires within { Within scope.now clause.now }
+    requires within { Within view.now.prefix clause.now }
     requires held { IsIn lit clause.now }
-    requires universal { is_universal scope.now lit.var ≡ true }
+    requires universal { is_universal view.now.prefix lit.var ≡ true }
     requires not_negated { IsIn (negation lit) clause.now → ⊥ }
-    requires regions { AreRegionsOf scope.now (filled store.now) recent.now }
-    ensures { IfOk result (λ yes. IsTrue yes ↔ Reducible scope.now (filled (without_slot store.now skip)) clause.now lit) }
+    requires regions { AreRegionsOf view.now.prefix (filled view.now.slots) recent.now }
+    ensures { IfOk result (λ yes. IsTrue yes ↔
+        Reducible view.now.prefix (filled view.now.slots) clause.now lit) }
 {
     trail.truncate(0);
-    push_inner(trail, scope, clause, lit)?;
-    let opposite = slots_of(store, lit.negated()).len();
+    push_inner(trail, view.scope(), clause, lit)?;
+    let opposite = view.slots_of(lit.negated()).len();
     for head in 0..usize::MAX {
         if head >= trail.len() {
             return Ok(true);
         }
-        if head == opposite && recent.separate(store, scope, clause, lit) {
+        if head == opposite && recent.separate(view, clause, lit) {
             return Ok(true);
         }
-        if !visit(store, scope, trail, skip, head, lit)? {
+        if !visit(view, trail, head, lit)? {
             return Ok(false);
         }
     }
@@ -80,23 +69,16 @@ fn is_reducible(
 }
 
 // Follows the clauses that hold the negation of a literal; whether none holds the negation of u.
-pub(crate) fn visit(
-    store: &Store,
-    scope: &Scope,
-    trail: &mut Trail,
-    skip: Option<usize>,
-    head: usize,
-    u: Lit,
-) -> Result<bool, NoMemory>
-    requires closed { Closed scope.now (filled store.now) }
-    requires bound { is_bound scope.now u.var ≡ true }
+pub(crate) fn visit(view: &View, trail: &mut Trail, head: usize, u: Lit) -> Result<bool, NoMemory>
+    requires bound { is_bound view.now.prefix u.var ≡ true }
     requires head { head < length trail.old }
-    ensures { IfOk result (λ yes. (k : Literal) → slice_get trail.old head ≡ Some k → IsVisited scope.now (filled (without_slot store.now skip)) u k trail.old trail.new yes) }
+    ensures { IfOk result (λ yes. (k : Literal) → slice_get trail.old head ≡ Some k →
+        IsVisited view.now.prefix (filled view.now.slots) u k trail.old trail.new yes) }
 {
     let lit = trail.at(head);
-    let slots = slots_of(store, lit.negated());
+    let slots = view.slots_of(lit.negated());
     for i in 0..slots.len() {
-        if !follow(store, scope, trail, skip, slots[i] as usize, u)? {
+        if !follow(view, trail, slots[i] as usize, u)? {
             return Ok(false);
         }
     }
@@ -105,19 +87,12 @@ pub(crate) fn visit(
 
 // Puts the inner literals of the clause in a slot on the trail, unless it holds u; whether it does not
 // hold the negation of u then.
-fn follow(
-    store: &Store,
-    scope: &Scope,
-    trail: &mut Trail,
-    skip: Option<usize>,
-    at: usize,
-    u: Lit,
-) -> Result<bool, NoMemory>
-    requires closed { Closed scope.now (filled store.now) }
-    requires bound { is_bound scope.now u.var ≡ true }
-    ensures { IfOk result (λ yes. IsFollowed scope.now (without_slot store.now skip) u at trail.old trail.new yes) }
+fn follow(view: &View, trail: &mut Trail, at: usize, u: Lit) -> Result<bool, NoMemory>
+    requires { is_bound view.now.prefix u.var ≡ true }
+    ensures { IfOk result (λ yes.
+        IsFollowed view.now.prefix view.now.slots u at trail.old trail.new yes) }
 {
-    let Some(clause) = clause_at(store, skip, at) else {
+    let Some(clause) = view.clause(at) else {
         return Ok(true);
     };
     if holds(clause, u) {
@@ -126,7 +101,7 @@ fn follow(
     if holds(clause, u.negated()) {
         return Ok(false);
     }
-    push_inner(trail, scope, clause, u)?;
+    push_inner(trail, view.scope(), clause, u)?;
     Ok(true)
 }
 

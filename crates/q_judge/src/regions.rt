@@ -1,19 +1,18 @@
 //! Regions of variables, which tell that a literal may be dropped without a walk.
 ghost use Rattle.std.specs.Prelude.{◌≡◌, ◌∷◌, ℕ, true, IsTrue};
-ghost use Rattle.q_logic.specs.Prelude.{Literal, negation, Clause, Matrix, Prefix, IsIn, is_bound, is_universal, outer_or_same, inner_existential, Reducible};
+ghost use Rattle.q_logic.specs.Prelude.{Literal, negation, Clause, Matrix, Prefix, IsIn, is_bound, is_universal, outer_or_same, Reducible};
 ghost use Rattle.q_prop.specs.Slots.{filled};
-ghost use Rattle.q_judge.specs.Regions.{region_of, IsRegional, AreRegions};
+ghost use Rattle.q_judge.specs.Regions.{region_of, HasAllIn, HasNoneIn, IsRegional, AreRegions};
 
 use crate::labels::Labels;
-use crate::pivots::slots_of;
 use crate::scope::Scope;
+use crate::view::View;
 use q_logic::{Lit, NoMemory};
-use q_prop::Store;
 use std::alloc::Global;
 use std::marker::Model;
 
-/// Regions for one universal variable: the existential literals of a clause that are inner to it lie in one region. So they serve
-/// each variable to which it is outer or same.
+/// Regions for one universal variable: the existential literals of a clause that are inner to it lie in one region. So
+/// they serve each variable to which it is outer or same.
 #[derive(Drop)]
 pub struct Regions {
     var: u32,
@@ -41,41 +40,38 @@ impl Regions {
     }
 
     /// Makes regions. It costs the size of the formula.
-    pub fn make(
-        &mut self,
-        store: &Store,
-        scope: &Scope,
-        queue: &mut Vec<u32>,
-    ) -> Result<(), NoMemory>
-        requires { is_bound scope.now self.old.var ≡ true }
-        ensures { AreRegions scope.now (filled store.now) self.new }
+    pub fn make(&mut self, view: &View, queue: &mut Vec<u32>) -> Result<(), NoMemory>
+        requires { is_bound view.now.prefix self.old.var ≡ true }
+        ensures { AreRegions view.now.prefix (filled view.now.slots) self.new }
     {
-        let made = self.labels.make(store, scope, queue, self.var);
-        if made.is_err() || !self.are_right(store, scope) {
+        let made = self.labels.make(view, queue, self.var);
+        if made.is_err() || !self.are_right(view) {
             self.labels.forget();
         }
         made
     }
 
     /// Whether the regions tell that a literal is reducible in its clause.
-    pub fn separate(&self, store: &Store, scope: &Scope, clause: &[Lit], lit: Lit) -> bool
+    pub fn separate(&self, view: &View, clause: &[Lit], lit: Lit) -> bool
         requires held { IsIn lit clause.now }
-        requires universal { is_universal scope.now lit.var ≡ true }
+        requires universal { is_universal view.now.prefix lit.var ≡ true }
         requires not_negated { IsIn (negation lit) clause.now → ⊥ }
-        requires regions { AreRegions scope.now (filled store.now) self.now }
-        ensures { IsTrue result → Reducible scope.now (filled store.now) clause.now lit }
+        requires regions { AreRegions view.now.prefix (filled view.now.slots) self.now }
+        ensures { IsTrue result →
+            Reducible view.now.prefix (filled view.now.slots) clause.now lit }
     {
+        let scope = view.scope();
         if !self.serve(scope, lit.var()) {
             return false;
         }
         let region = self.region_in(scope, clause, lit.var());
-        self.has_one(scope, clause, lit.var(), region)
-            && self.part(store, scope, lit.negated(), region)
+        self.has_one(scope, clause, lit.var(), region) && self.part(view, lit.negated(), region)
     }
 
     /// Keeps the regions right where a clause comes: those that it joins become one.
     pub fn take(&mut self, scope: &Scope, clause: &[Lit])
-        ensures { (X : Matrix) → AreRegions scope.now X self.old → AreRegions scope.now (clause.now ∷ X) self.new }
+        ensures { (X : Matrix) → AreRegions scope.now X self.old →
+            AreRegions scope.now (clause.now ∷ X) self.new }
     {
         if scope.is_universal(self.var) && !self.fit(scope, clause) {
             self.labels.merge(clause);
@@ -84,7 +80,8 @@ impl Regions {
 
     /// Lets the regions be for a neighbour in the block where they are for this variable, which is about to go.
     pub fn leave(&mut self, scope: &Scope, var: u32)
-        ensures { (X : Matrix) → AreRegions scope.now X self.old → AreRegions scope.now X self.new }
+        ensures { (X : Matrix) → AreRegions scope.now X self.old →
+            AreRegions scope.now X self.new }
     {
         if self.var != var {
             return;
@@ -100,7 +97,8 @@ impl Regions {
 
     // Lets the regions be for another variable of the block.
     fn pass_on(&mut self, scope: &Scope, w: u32)
-        ensures { (X : Matrix) → AreRegions scope.now X self.old → AreRegions scope.now X self.new }
+        ensures { (X : Matrix) → AreRegions scope.now X self.old →
+            AreRegions scope.now X self.new }
     {
         if scope.is_universal(w) && self.serve(scope, w) && scope.outer_or_same(w, self.var) {
             self.var = w;
@@ -110,7 +108,8 @@ impl Regions {
     /// Puts a fresh variable v into the region of w.
     pub fn inherit(&mut self, v: u32, w: u32) -> Result<(), NoMemory>
         ensures var { self.new.var ≡ self.old.var }
-        ensures others { (x : ℕ) → (x ≡ v → ⊥) → region_of self.new.labels x ≡ region_of self.old.labels x }
+        ensures others { (x : ℕ) → (x ≡ v → ⊥) →
+            region_of self.new.labels x ≡ region_of self.old.labels x }
     {
         self.labels.inherit(v, w)
     }
@@ -145,7 +144,7 @@ impl Regions {
     // Whether the literals that are inner to u lie in the region.
     fn has_one(&self, scope: &Scope, clause: &[Lit], u: u32, region: u32) -> bool
         requires { is_bound scope.now u ≡ true }
-        ensures { IsTrue result → (k : Literal) → IsIn k clause.now → inner_existential scope.now u k.var ≡ true → region_of self.now.labels k.var ≡ region }
+        ensures { IsTrue result → HasAllIn scope.now u self.now.labels region clause.now }
     {
         for k in clause {
             if scope.is_inner(k.var(), u) && self.region_of(k.var()) != region {
@@ -158,7 +157,7 @@ impl Regions {
     // Whether none of the literals that are inner to u lies in the region.
     fn has_none(&self, scope: &Scope, clause: &[Lit], u: u32, region: u32) -> bool
         requires { is_bound scope.now u ≡ true }
-        ensures { IsTrue result → (k : Literal) → IsIn k clause.now → inner_existential scope.now u k.var ≡ true → region_of self.now.labels k.var ≡ region → ⊥ }
+        ensures { IsTrue result → HasNoneIn scope.now u self.now.labels region clause.now }
     {
         for k in clause {
             if scope.is_inner(k.var(), u) && self.region_of(k.var()) == region {
@@ -169,13 +168,14 @@ impl Regions {
     }
 
     // Whether no clause with the literal has another literal, inner to it, in the region.
-    fn part(&self, store: &Store, scope: &Scope, m: Lit, region: u32) -> bool
-        requires { is_bound scope.now m.var ≡ true }
-        ensures { IsTrue result → (D : Clause) → IsIn D (filled store.now) → IsIn m D → (k : Literal) → IsIn k D → inner_existential scope.now m.var k.var ≡ true → region_of self.now.labels k.var ≡ region → ⊥ }
+    fn part(&self, view: &View, m: Lit, region: u32) -> bool
+        requires { is_bound view.now.prefix m.var ≡ true }
+        ensures { IsTrue result → (D : Clause) → IsIn D (filled view.now.slots) → IsIn m D →
+            HasNoneIn view.now.prefix m.var self.now.labels region D }
     {
-        for at in slots_of(store, m) {
-            if let Some(clause) = store.slot(*at as usize) {
-                if !self.has_none(scope, clause, m.var(), region) {
+        for at in view.slots_of(m) {
+            if let Some(clause) = view.clause(*at as usize) {
+                if !self.has_none(view.scope(), clause, m.var(), region) {
                     return false;
                 }
             }
@@ -193,13 +193,13 @@ impl Regions {
     }
 
     // Whether each clause does.
-    fn are_right(&self, store: &Store, scope: &Scope) -> bool
-        requires { is_bound scope.now self.now.var ≡ true }
-        ensures { IsTrue result → AreRegions scope.now (filled store.now) self.now }
+    fn are_right(&self, view: &View) -> bool
+        requires { is_bound view.now.prefix self.now.var ≡ true }
+        ensures { IsTrue result → AreRegions view.now.prefix (filled view.now.slots) self.now }
     {
-        for at in 0..store.slots() {
-            if let Some(clause) = store.slot(at) {
-                if !self.fit(scope, clause) {
+        for at in 0..view.slots() {
+            if let Some(clause) = view.clause(at) {
+                if !self.fit(view.scope(), clause) {
                     return false;
                 }
             }

@@ -1,13 +1,12 @@
 //! What a check leaves, with which circuits are taken back over its steps.
 ghost use Rattle.std.specs.Prelude.{◌≡◌, ◌∷◌, [], map, IfOk, Some, true, if◌then◌else◌, ◌&&◌};
-ghost use Rattle.q_logic.specs.Prelude.{Literal, Closed, is_bound, OutersOf, freshened, removed};
-ghost use Rattle.q_prop.specs.Slots.{filled, without};
+ghost use Rattle.q_logic.specs.Prelude.{Literal, is_bound, OutersOf, freshened, removed};
+ghost use Rattle.q_prop.specs.Slots.{filled};
 ghost use Rattle.q_judge.specs.Entries.{entries_of, IsPivotEntry, kept_pivot as pivot_kept};
 
-use crate::pivots::{Warrant, clause_at, push_outer, slots_of};
-use crate::scope::Scope;
+use crate::pivots::{Warrant, push_outer};
+use crate::view::View;
 use q_logic::{Clauses, Lit, NoMemory};
-use q_prop::Store;
 use std::alloc::Global;
 use std::marker::Model;
 
@@ -52,25 +51,22 @@ impl Undos {
     }
 }
 
-/// The outer clauses on m of the clauses that hold m, in the slots but one. Each is gathered in `outer` first.
+/// The outer clauses on m of the clauses that hold m. Each is gathered in `outer` first.
 pub fn collect_outers(
     alloc: Global,
+    view: &View,
     outer: &mut Vec<Lit>,
-    store: &Store,
-    scope: &Scope,
-    skip: Option<usize>,
     m: Lit,
 ) -> Result<Clauses, NoMemory>
-    requires closed { Closed scope.now (filled store.now) }
-    requires bound { is_bound scope.now m.var ≡ true }
-    ensures { IfOk result (λ c. OutersOf scope.now (filled (without store.now skip)) m c) }
+    requires { is_bound view.now.prefix m.var ≡ true }
+    ensures { IfOk result (λ c. OutersOf view.now.prefix (filled view.now.slots) m c) }
 {
-    let slots = slots_of(store, m);
+    let slots = view.slots_of(m);
     let mut outers = Clauses::new(alloc);
     for at in slots {
-        if let Some(clause) = clause_at(store, skip, *at as usize) {
+        if let Some(clause) = view.clause(*at as usize) {
             outer.clear();
-            push_outer(outer, scope, clause, m)?;
+            push_outer(outer, view.scope(), clause, m)?;
             outers.push(outer)?;
         }
     }
@@ -87,23 +83,21 @@ pub fn kept_pivot(keep: bool, warrant: Warrant, first: Option<Lit>) -> Option<Li
     }
 }
 
-/// What a deletion by the pivot leaves.
+/// What a deletion by the pivot leaves, beside the clauses that stay.
 pub fn pivot_entry(
     alloc: Global,
+    view: &View,
     joined: &mut Vec<Lit>,
-    store: &Store,
-    scope: &Scope,
-    at: usize,
     pivot: Option<Lit>,
 ) -> Result<Option<Undo>, NoMemory>
-    requires closed { Closed scope.now (filled store.now) }
-    requires bound { (l : Literal) → pivot ≡ Some l → is_bound scope.now l.var ≡ true }
-    ensures { IfOk result (λ u. IsPivotEntry scope.now (filled (without store.now (Some at))) pivot u) }
+    requires { (l : Literal) → pivot ≡ Some l → is_bound view.now.prefix l.var ≡ true }
+    ensures { IfOk result (λ u.
+        IsPivotEntry view.now.prefix (filled view.now.slots) pivot u) }
 {
     let Some(pivot) = pivot else {
         return Ok(None);
     };
-    let outer = collect_outers(alloc, joined, store, scope, Some(at), pivot.negated())?;
+    let outer = collect_outers(alloc, view, joined, pivot.negated())?;
     Ok(Some(Undo::Pivot { pivot, outer }))
 }
 

@@ -2,8 +2,7 @@ use Rattle.std.proofs.Common.{ℕ, ◌++◌, get_or, sym, subst, inl, inr}
 use Rattle.std.proofs.lemmas.List.{get_or_default}
 use Rattle.q_logic.specs.Prelude.{IsIn, outer}
 use Rattle.q_logic.proofs.Common.{implied-tautology, taken-cases, taken-all, Contains-IsIn}
-use Rattle.q_prop.specs.Slots.{Holds, filled, without}
-use Rattle.q_prop.proofs.SlotLemmas.{without-le}
+use Rattle.q_prop.specs.Slots.{Holds, filled}
 use Rattle.q_judge.proofs.SlotCollections.{in-held}
 use Rattle.q_judge.proofs.blocking.all_clash.Goals as goal
 
@@ -16,13 +15,13 @@ loop-at-preserved c n m D h =
     let i = c.loop-at.at-index in
     elim (taken-cases xs i (get_or xs i 0) n c.loop-at-test.true (get_or_default xs i 0 (get_or xs i 0) c.loop-at-test.true) m) [
       | inl b ↦ c.loop-at.invariant n b D h
-      | inr q ↦ c.clashes_at.ensures c.if-not-clashes_at.false D (subst (λ (x : ℕ). Holds (without c.args.store.now c.args.skip) x D) q h)
+      | inr q ↦ c.clashes_at.ensures c.if-not-clashes_at.false D (subst (λ (x : ℕ). Holds c.args.view.now.slots x D) q h)
     ]
 
 pub returns : goal.returns
 returns c t D d m =
-    let s = c.args.store.now in
+    let s = c.args.view.now.slots in
     let xs = c.slots_of-at-items.result.now in
-    let n = in-held (without s c.args.skip) D d in
-    let l = Contains-IsIn n.0 xs (c.slots_of-at-items.ensures.all_there n.0 D (without-le s c.args.skip n.0 D n.1) m) in
-    implied-tautology (filled (without s c.args.skip)) (c.args.clause.now ++ outer c.args.scope.now c.args.m D) (c.loop-at.invariant n.0 (subst (λ ys. IsIn n.0 ys) (sym (taken-all xs c.loop-at.at-index c.loop-at-test.false)) l) D n.1)
+    let n = in-held s D d in
+    let l = Contains-IsIn n.0 xs (c.slots_of-at-items.ensures.all_there n.0 D n.1 m) in
+    implied-tautology (filled s) (c.args.clause.now ++ outer c.args.view.now.prefix c.args.m D) (c.loop-at.invariant n.0 (subst (λ ys. IsIn n.0 ys) (sym (taken-all xs c.loop-at.at-index c.loop-at-test.false)) l) D n.1)

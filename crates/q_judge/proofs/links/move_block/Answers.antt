@@ -12,7 +12,7 @@ any-default (x ∷ xs) (suc i) d e h = any-default xs i d e (omega arith)
 pub returns : goal.returns
 returns c =
     let r = c.requires in
-    let from = c.args.from in
+    let from = c.args.block.rank in
     let to = c.args.to in
     let counts = c.args.counts.now.items in
     let size : c.index-size.result.now ≡ get_or counts from 0 = c.index-size.ensures ∙ any-default counts from c.index-size.result.now 0 r.from_in in

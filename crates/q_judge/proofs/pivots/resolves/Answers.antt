@@ -5,5 +5,5 @@ use Rattle.q_judge.proofs.pivots.resolves.Goals as goal
 pub returns-clause-exact : goal.returns-clause-exact
 returns-clause-exact c =
     ok-iff c.resolves_all.result
-    (resolve-holders c.args.scope.now c.args.store.now (record { skip = c.args.skip; base = c.args.base; m = c.args.m }) c.collect_holders.new.slots.items c.in_ok-collect_holders.ensures)
+    (resolve-holders c.args.scope.now c.args.store.now c.args.question.now c.collect_holders.new.slots.items c.in_ok-collect_holders.ensures)
     (rw c.deref.ensures.value at c.resolves_all.ensures.exact)

@@ -16,8 +16,8 @@ unresolved P X C p k e f i (inr (l, g, h)) = f (subst (λ (j : Literal). Resolve
 pub returns-then-not-branch-clause-exact : goal.returns-then-not-branch-clause-exact
 returns-then-not-branch-clause-exact c =
     let x = rw (c.in_ok-implied.ensures.same, c.negated.ensures) at c.in_ok-resolves.ensures.exact in
-    let X = filled (without c.args.store.now c.args.skip) in
+    let X = filled (without c.args.store.now c.args.candidate.now.skip) in
     rw c.refusal-then-not-branch.ensures (
       refl,
-      unresolved c.args.scope.now X c.args.clause.now c.args.first c.in-Some.pivot c.in-Some.is (test-false c.in_ok-resolves.field-0 x c.if-not-branch.true) (test-false c.in_ok-implied.field-0 c.in_ok-implied.ensures.exact c.if-branch.false),
+      unresolved c.args.scope.now X c.args.candidate.now.clause.now c.args.candidate.now.first c.in-Some.pivot c.in-Some.is (test-false c.in_ok-resolves.field-0 x c.if-not-branch.true) (test-false c.in_ok-implied.field-0 c.in_ok-implied.ensures.exact c.if-branch.false),
     )

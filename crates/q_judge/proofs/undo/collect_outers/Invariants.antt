@@ -1,7 +1,6 @@
 use Rattle.std.proofs.Common.{◌≡◌, take}
-use Rattle.q_prop.specs.Slots.{without}
 use Rattle.q_judge.proofs.OuterClauses.{collected}
 use Rattle.q_judge.proofs.undo.collect_outers.Given as goal
 
 abbrev pub invariant-loop-at : goal.invariant-loop-at
-invariant-loop-at l = l.outers ≡ collected l.scope (without l.store l.skip) l.m (take l.at-index l.slots)
+invariant-loop-at l = l.outers ≡ collected l.view.prefix l.view.slots l.m (take l.at-index l.slots)

@@ -9,8 +9,8 @@ use Rattle.q_judge.proofs.kept_walks.RecentWalks.extend.Goals as goal
 pub extend-requires-clause-walk : goal.extend-requires-clause-walk
 extend-requires-clause-walk c =
     let Rs = c.self.inside.walks.items in
-    let P = c.args.scope.now in
-    let X = filled c.args.store.now in
+    let P = c.args.view.now.prefix in
+    let X = filled c.args.view.now.slots in
     let n = c.in_ok-at.at in
     let W = c.index_mut.result.now in
     let was = subst (λ (Ys : List WalkMap). AreEnclosed P X Ys) (sym c.self.view_is) (c.choose.ensures.walks P X c.requires.walks) in
@@ -20,8 +20,8 @@ extend-requires-clause-walk c =
 pub returns-clause-walks : goal.returns-clause-walks
 returns-clause-walks c =
     let Rs = c.self.inside.walks.items in
-    let P = c.args.scope.now in
-    let X = filled c.args.store.now in
+    let P = c.args.view.now.prefix in
+    let X = filled c.args.view.now.slots in
     let n = c.in_ok-at.at in
     let was = subst (λ (Ys : List WalkMap). AreEnclosed P X Ys) (sym c.self.view_is) (c.choose.ensures.walks P X c.requires.walks) in
     let l = subst (λ (Ys : List WalkMap). n < length Ys) (sym c.self.view_is) c.in_ok-at.ensures.place in

@@ -8,8 +8,8 @@ use Rattle.q_judge.proofs.kept_walks.Walk.extend.Goals as goal
 pub go_on-requires-clause-shut : goal.go_on-requires-clause-shut
 go_on-requires-clause-shut c =
     let i = c.self.inside in
-    let P = c.args.scope.now in
-    let X = filled c.args.store.now in
+    let P = c.args.view.now.prefix in
+    let X = filled c.args.view.now.slots in
     let R : WalkMap = record { literal = i.lit; known = i.known } in
     let e = rw (← c.self.view_is) at c.turn_to.ensures.literal in
     let all = rw (← c.self.view_is) at (c.turn_to.ensures.walk P X c.requires.walk) in
@@ -19,8 +19,8 @@ pub returns-in-Ok-clause-walk : goal.returns-in-Ok-clause-walk
 returns-in-Ok-clause-walk c t =
     let i = c.self.inside in
     let e = rw (← c.self.view_is) at c.turn_to.ensures.literal in
-    subst (λ (l : Literal). IsShut c.args.scope.now (filled c.args.store.now) l c.go_on.new.known) (sym e) c.in-Ok.ensures.shut
+    subst (λ (l : Literal). IsShut c.args.view.now.prefix (filled c.args.view.now.slots) l c.go_on.new.known) (sym e) c.in-Ok.ensures.shut
 
 pub returns-in-Ok-clause-told : goal.returns-in-Ok-clause-told
 returns-in-Ok-clause-told c t =
-    inside-reducible c.args.scope.now (filled c.args.store.now) c.args.clause.now c.args.lit c.go_on.new.known c.requires.not_negated (c.in-Ok.ensures.inner t) c.in-Ok.ensures.shut c.requires.universal c.requires.held
+    inside-reducible c.args.view.now.prefix (filled c.args.view.now.slots) c.args.clause.now c.args.lit c.go_on.new.known c.requires.not_negated (c.in-Ok.ensures.inner t) c.in-Ok.ensures.shut c.requires.universal c.requires.held

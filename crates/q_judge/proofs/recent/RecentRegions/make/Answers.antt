@@ -13,8 +13,8 @@ removed-first (S ∷ Rs) R m = inr m
 
 pub returns : goal.returns
 returns c =
-    let P = c.args.scope.now in
-    let X = filled c.args.store.now in
+    let P = c.args.view.now.prefix in
+    let X = filled c.args.view.now.slots in
     let all = subst (λ (Rs : List RegionMap). AreRegionsOf P X Rs) (sym c.self.view_is) c.requires.regions in
     let kept : AreRegionsOf P X c.if-len-ge-MOST.self-inside.recent.items = elim c.if-len-ge-MOST.branch [
       | then-len-ge-MOST w ↦ rw (w.self-inside-is, w.remove.ensures.items) (λ R m. all R (removed-first c.self.inside.recent.items R m))

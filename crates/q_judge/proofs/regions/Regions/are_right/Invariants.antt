@@ -5,4 +5,4 @@ use Rattle.q_judge.specs.Regions.{IsRegional}
 use Rattle.q_judge.proofs.regions.Regions.are_right.Given as goal
 
 abbrev pub invariant-loop-at : goal.invariant-loop-at
-invariant-loop-at l = (n : ℕ) (D : Clause) → n < l.at → Holds l.store n D → IsRegional l.scope l.self D
+invariant-loop-at l = (n : ℕ) (D : Clause) → n < l.at → Holds l.view.slots n D → IsRegional l.view.prefix l.self D
