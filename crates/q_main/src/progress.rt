@@ -2,6 +2,7 @@
 ghost use Rattle.std.specs.Prelude.{◌≡◌};
 
 use crate::board::Board;
+use q_blocked::Step;
 use q_kernel::Kernel;
 use q_sched::{Guide, Move, Proposal};
 use std::rc::Rc;
@@ -92,5 +93,9 @@ impl<G: Guide> Guide for Progress<G> {
         if !taken {
             self.refused();
         }
+    }
+
+    fn hint(&self) -> &[Step] {
+        self.guide.hint()
     }
 }

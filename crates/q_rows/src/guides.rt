@@ -6,6 +6,7 @@ ghost use Rattle.q_logic.specs.Prelude.{Rose};
 
 use crate::row_targets::{RowTarget, row_target_of};
 use crate::trouble::Trouble;
+use q_blocked::Step;
 use q_kernel::{ClauseId, Kernel};
 use q_logic::Bounds;
 use q_reduce::Target as Reduce;
@@ -97,6 +98,13 @@ impl Plan {
             Plan::Touched(guide) => guide.told(taken),
         }
     }
+
+    fn hint(&self) -> &[Step] {
+        match self {
+            Plan::Touched(guide) => guide.hint(),
+            _ => &[],
+        }
+    }
 }
 
 fn remembered(id: &mut Option<ClauseId>, kernel: &Kernel) -> Proposal {
@@ -134,6 +142,10 @@ impl Guide for RowGuide {
     fn told(&mut self, taken: bool) {
         self.heard = taken;
         self.plan.told(taken);
+    }
+
+    fn hint(&self) -> &[Step] {
+        self.plan.hint()
     }
 }
 

@@ -61,6 +61,7 @@ fn consult(
         Proposal::Done => Ok(Reply::Over),
         Proposal::NoMemory => Err(NoMemory),
         Proposal::Take(target) => {
+            searches.suggest(&target, guide.hint());
             let reply = follow(&target, kernel, searches, bounds)?;
             guide.told(matches!(reply, Reply::Taken));
             Ok(reply)

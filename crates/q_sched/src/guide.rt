@@ -8,6 +8,7 @@ ghost use Rattle.q_logic.specs.Prelude.{Rose};
 ghost use Rattle.q_sched.specs.declared.guide.Proposal.{Proposal};
 
 use crate::moves::Move;
+use q_blocked::Step;
 use q_kernel::Kernel;
 
 /// What a guide proposes to do next.
@@ -43,4 +44,10 @@ pub trait Guide: Drop {
         ensures asked { asked self.new ≡ asked self.old }
         ensures last { last self.new ≡ last self.old }
         ensures heard { heard self.new ≡ taken };
+
+    /// The steps by which the clause of its last proposal is covered, where it proposed a covered clause and knows them. They are
+    /// tested as the proposal is, and spare the drive the search for them.
+    fn hint(&self) -> &[Step] {
+        &[]
+    }
 }

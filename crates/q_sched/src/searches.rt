@@ -7,6 +7,7 @@ ghost use Rattle.q_sched.specs.Moves.{target_of};
 ghost use Rattle.q_sched.specs.Searching.{FindsOf, FindsAny};
 
 use crate::moves::{Move, RULES, Rule};
+use q_blocked::Step;
 use q_kernel::{Kernel, Taken};
 use q_logic::{Bounds, NoMemory};
 use q_rule::Rules;
@@ -53,6 +54,15 @@ impl Searches {
         ensures { self.new ≡ nothing_learned }
     {
         self.plain.forget();
+    }
+
+    /// Takes the steps by which the clause of a target may be covered, for the next call with this target. They are tested there.
+    pub(crate) fn suggest(&mut self, target: &Move, steps: &[Step])
+        ensures { self.new ≡ self.old }
+    {
+        if let Move::Block(q_blocked::Target::Cover { c }) = target {
+            self.blocked.suggest(*c, steps);
+        }
     }
 
     /// Whether a target applies.

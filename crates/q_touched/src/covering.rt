@@ -7,7 +7,7 @@ use crate::lists::{gather, lits_of};
 use crate::lits::Lits;
 use crate::marked::Marked;
 use crate::watch::{Pass, Watch};
-use q_blocked::{Search, Target};
+use q_blocked::{Search, Step, Target};
 use q_kernel::{ClauseId, Kernel};
 use q_logic::NoMemory;
 use q_rule::Rules;
@@ -101,5 +101,10 @@ impl Covering {
             }
         }
         Ok(None)
+    }
+
+    /// The steps by which the target was covered that `next` gave last.
+    pub(crate) fn steps(&self) -> &[Step] {
+        self.search.steps()
     }
 }

@@ -19,6 +19,7 @@ ghost use Rattle.q_kernel.specs.Prelude.{IsReady};
 
 use crate::parts::Parts;
 use crate::watch::Watch;
+use q_blocked::Step;
 use q_kernel::Kernel;
 use q_logic::{Bounds, NoMemory};
 use q_sched::Move;
@@ -81,6 +82,11 @@ impl<W: Watch> Strategy<W> {
     /// A target was taken.
     pub(crate) fn moved(&mut self) {
         self.has_moved = true;
+    }
+
+    /// The steps by which the clause is covered that was proposed last.
+    pub(crate) fn hint(&self) -> &[Step] {
+        self.parts.covering.steps()
     }
 
     /// What to try next.

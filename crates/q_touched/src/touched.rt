@@ -5,6 +5,7 @@ ghost use Rattle.q_sched.specs.declared.guide.Proposal.TheVariants.{Done};
 
 use crate::strategy::Strategy;
 use crate::watch::Watch;
+use q_blocked::Step;
 use q_kernel::Kernel;
 use q_logic::{Bounds, NoMemory};
 use q_sched::{Guide, Move, Proposal};
@@ -61,5 +62,9 @@ impl<W: Watch> Guide for Touched<W> {
         if taken {
             self.strategy.moved();
         }
+    }
+
+    fn hint(&self) -> &[Step] {
+        self.strategy.hint()
     }
 }
