@@ -56,7 +56,7 @@ pub record IsAsked (X : Matrix) (S : Clause) (places : List ℕ) : Type 0 where
 abbrev pub HasPlaces : List ℕ → ℕ → ℕ → List ℕ → Type 0
 HasPlaces old from to new = (i : ℕ) → IsIn i new ↔ (IsIn i old ⊎ ((from ≤ i) × (i < to)))
 
--- so for the clause of an id of a kernel
+-- a growth of the clause of an id of a kernel that may go on, and one that has ended
 abbrev pub Growing : Seen → ℕ → Growth → Type 0
 Growing k c g = (C : Clause) × (slot (slots k) c ≡ Some C) × IsGrowing k.prefix (others c (slots k)) C g.set g.plan.stages.items g.base g.worked × IsAsked (others c (slots k)) g.set g.asked.items
 
