@@ -51,8 +51,11 @@ pub fn is_exists(quant: Quant) -> bool
 
 /// Whether the variables have the same bindings but for their neighbours.
 pub fn are_same_bindings(mine: &BindingRow, others: &BindingRow) -> bool
-    ensures yes { result ≡ true → (v : ℕ) → is_same_binding (binding_at mine.now.items v) (binding_at others.now.items v) ≡ true }
-    ensures no { result ≡ false → (v : ℕ) × (is_same_binding (binding_at mine.now.items v) (binding_at others.now.items v) ≡ false) }
+    ensures yes { result ≡ true → (v : ℕ) → is_same_binding (binding_at mine.now.items v)
+        (binding_at others.now.items v) ≡ true }
+    ensures no { result ≡ false
+        → (v : ℕ) × (is_same_binding (binding_at mine.now.items v) (binding_at others.now.items v)
+        ≡ false) }
 {
     let end = mine.len().max(others.len());
     for var in 0..end {
@@ -157,12 +160,25 @@ fn take_binding(
 ) -> Numbering
     requires small { numbering.rank < 2 ^ 63 }
     requires room { IsMade bindings.old bound.var }
-    requires counts { next_rank numbering.last numbering.rank bound.quant < length counts.old.items }
-    requires few { slice_index_or counts.old.items (next_rank numbering.last numbering.rank bound.quant) 0 < 2 ^ 63 }
-    ensures bindings { bindings.new.items ≡ slice_set bindings.old.items bound.var (Some (record { rank = next_rank numbering.last numbering.rank bound.quant; quant = bound.quant; before = var_of numbering.last; after = after })) }
+    requires counts { next_rank numbering.last numbering.rank bound.quant
+        < length counts.old.items }
+    requires few { slice_index_or counts.old.items
+        (next_rank numbering.last numbering.rank bound.quant) 0 < 2 ^ 63 }
+    ensures bindings { bindings.new.items ≡ slice_set bindings.old.items bound.var
+        (Some (record {
+          rank = next_rank numbering.last numbering.rank bound.quant;
+          quant = bound.quant;
+          before = var_of numbering.last;
+          after = after;
+        })) }
     ensures kept { KeepsPages bindings.old bindings.new }
-    ensures counts { counts.new.items ≡ slice_set counts.old.items (next_rank numbering.last numbering.rank bound.quant) (slice_index_or counts.old.items (next_rank numbering.last numbering.rank bound.quant) 0 + 1) }
-    ensures numbering { result ≡ record { last = Some bound; rank = next_rank numbering.last numbering.rank bound.quant } }
+    ensures counts { counts.new.items ≡ slice_set counts.old.items
+        (next_rank numbering.last numbering.rank bound.quant) (slice_index_or counts.old.items
+        (next_rank numbering.last numbering.rank bound.quant) 0 + 1) }
+    ensures numbering { result ≡ record {
+      last = Some bound;
+      rank = next_rank numbering.last numbering.rank bound.quant;
+    } }
 {
     let rank = rank_after(numbering, bound.quant);
     let before = match numbering.last {

@@ -91,7 +91,8 @@ pub fn sum_of(lits: u64, clause: &[Lit]) -> Result<u64, NoMemory>
 /// Whether one more clause keeps the checker's limits, four times those of a file.
 pub fn has_room(limits: Limits, clauses: u64, lits: u64, clause: &[Lit]) -> bool
     requires { AreModerate limits }
-    ensures { IsTrue result ↔ ((clauses + 1 ≤ 4 * limits.clauses) × (length clause.now + lits ≤ 4 * limits.lits)) }
+    ensures { IsTrue result ↔ ((clauses + 1 ≤ 4 * limits.clauses)
+        × (length clause.now + lits ≤ 4 * limits.lits)) }
 {
     let most = 4 * limits.lits;
     let more = clause.len() as u64;
@@ -108,8 +109,14 @@ pub fn compare(
     output: &Formula,
 ) -> Result<(), CheckError>
     requires { clauses ≡ length (filled store.old) }
-    ensures same { OnOk result (SameFormula (record { prefix = scope.now; matrix = filled store.old }) output.now) }
-    ensures refused { IfErr result (IsEndRefusal (record { prefix = scope.now; matrix = filled store.old }) output.now) }
+    ensures same { OnOk result (SameFormula (record {
+      prefix = scope.now;
+      matrix = filled store.old;
+    }) output.now) }
+    ensures refused { IfErr result (IsEndRefusal (record {
+      prefix = scope.now;
+      matrix = filled store.old;
+    }) output.now) }
 {
     if !scope.has_blocks_of(alloc, output.prefix())? {
         return Err(Cause::OtherBlocks.refusal());
@@ -123,7 +130,8 @@ pub fn compare(
 // Takes each clause of the formula out of the store; whether all were there and none is left.
 fn takes_all(store: &mut Store, clauses: u64, output: &Formula) -> bool
     requires { clauses ≡ length (filled store.old) }
-    ensures { IsTrue result ↔ ((C : Clause) → copies C (filled store.old) ≡ copies C output.now.matrix) }
+    ensures { IsTrue result ↔ ((C : Clause) → copies C (filled store.old)
+        ≡ copies C output.now.matrix) }
 {
     if clauses != output.clauses() as u64 {
         return false;

@@ -30,7 +30,8 @@ impl Model for Scope {
 
     ghost view = { λ s. bounds_from s.bindings.items s.first (length s.bindings.items) };
 
-    ghost invariant = { λ s. AreScoped (bounds_from s.bindings.items s.first (length s.bindings.items)) s.first s.bindings.items s.counts.items };
+    ghost invariant = { λ s. AreScoped (bounds_from s.bindings.items s.first
+        (length s.bindings.items)) s.first s.bindings.items s.counts.items };
 }
 
 impl Scope {
@@ -151,7 +152,8 @@ impl Scope {
     /// Whether the two have the same blocks, each as a set. Where they are the same list, no table by variable is made.
     pub fn has_blocks_of(&self, alloc: Global, prefix: &[Bound]) -> Result<bool, NoMemory>
         requires { Distinct prefix.now }
-        ensures { IfOk result (λ yes. IsTrue yes ↔ SameBlocks (blocks self.now) (blocks prefix.now)) }
+        ensures { IfOk result (λ yes. IsTrue yes ↔ SameBlocks (blocks self.now)
+            (blocks prefix.now)) }
     {
         let own = self.bounds(alloc)?;
         if are_equal(&own, prefix) {
@@ -209,7 +211,9 @@ fn push_bound(
     bindings: &BindingRow,
     at: Option<u32>,
 ) -> Result<Option<u32>, NoMemory>
-    ensures { IfOk result (λ next. (n : ℕ) → bounds.new.items ++ bounds_from bindings.now.items next n ≡ bounds.old.items ++ bounds_from bindings.now.items at (suc n)) }
+    ensures { IfOk result (λ next. (n : ℕ)
+        → bounds.new.items ++ bounds_from bindings.now.items next n ≡ bounds.old.items
+        ++ bounds_from bindings.now.items at (suc n)) }
 {
     let Some(var) = at else { return Ok(None) };
     let Some(binding) = binding_of(bindings, var) else {
@@ -226,7 +230,8 @@ fn count_down(counts: &mut Vec<usize>, rank: usize) -> usize
     requires inside { rank < length counts.old.items }
     requires some { 0 < slice_index_or counts.old.items rank 0 }
     ensures left { result ≡ slice_index_or counts.old.items rank 0 - 1 }
-    ensures counts { counts.new.items ≡ slice_set counts.old.items rank (slice_index_or counts.old.items rank 0 - 1) }
+    ensures counts { counts.new.items ≡ slice_set counts.old.items rank
+        (slice_index_or counts.old.items rank 0 - 1) }
 {
     let left = counts[rank] - 1;
     counts[rank] = left;
