@@ -1,8 +1,8 @@
 //! The links between neighbours, and what the numbers of blocks become where two blocks meet.
-ghost use Rattle.std.specs.Prelude.{◌≡◌, ◌⊎◌, ℕ, List, Bool, true, false, cond, length, None, Some, Option};
+ghost use Rattle.std.specs.Prelude.{◌≡◌, ◌⊎◌, ℕ, List, true, false, length, None, Some, Option};
 ghost use Rattle.q_judge.specs.declared.bindings.Binding.{Binding as AnyBinding};
 ghost use Rattle.q_pages.specs.Rows.{KeepsPages};
-ghost use Rattle.q_judge.specs.Scopes.{HaveChanged, first_after, binding_at, rank_at, is_there, is_among, with_after, with_before, with_rank, renumbered, beside, IsRun, IsMovable, IsMoved};
+ghost use Rattle.q_judge.specs.Scopes.{HaveChanged, first_after, binding_at, rank_at, is_there, is_among, with_after, with_before, with_rank, beside, IsRun, IsMovable, IsMoved};
 
 use crate::binding_row::BindingRow;
 use crate::bindings::{Binding, binding_of, rank_of};

@@ -69,8 +69,8 @@ impl Buffers {
     }
 }
 
-/// The slots whose clauses hold the literal.
-pub fn slots_of<'a>(store: &'a Store, lit: Lit) -> &'a [u32]
+// The slots whose clauses hold the literal.
+fn slots_of<'a>(store: &'a Store, lit: Lit) -> &'a [u32]
     ensures { AreHolders store.now lit result.now }
 {
     store.holders(lit)

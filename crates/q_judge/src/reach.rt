@@ -1,6 +1,6 @@
 //! Whether a clause may lose a universal literal.
-ghost use Rattle.std.specs.Prelude.{◌≡◌, ◌↔◌, ◌<◌, ◌∷◌, true, length, Some, OnOk, IfOk, IsTrue, slice_get};
-ghost use Rattle.q_logic.specs.Prelude.{Literal, negation, Clause, IsIn, is_bound, is_universal, Reducible, Within};
+ghost use Rattle.std.specs.Prelude.{◌≡◌, ◌↔◌, ◌<◌, true, length, Some, OnOk, IfOk, IsTrue, slice_get};
+ghost use Rattle.q_logic.specs.Prelude.{Literal, negation, IsIn, is_bound, is_universal, Reducible, Within};
 ghost use Rattle.q_prop.specs.Slots.{filled};
 ghost use Rattle.q_judge.specs.Regions.{AreRegionsOf};
 ghost use Rattle.q_judge.specs.Walks.{is_inner, IsWidened, IsFollowed, IsVisited};

@@ -1,6 +1,6 @@
 //! Regions of variables, which tell that a literal may be dropped without a walk.
 ghost use Rattle.std.specs.Prelude.{◌≡◌, ◌∷◌, ℕ, true, IsTrue};
-ghost use Rattle.q_logic.specs.Prelude.{Literal, negation, Clause, Matrix, Prefix, IsIn, is_bound, is_universal, outer_or_same, Reducible};
+ghost use Rattle.q_logic.specs.Prelude.{negation, Clause, Matrix, Prefix, IsIn, is_bound, is_universal, outer_or_same, Reducible};
 ghost use Rattle.q_prop.specs.Slots.{filled};
 ghost use Rattle.q_judge.specs.Regions.{region_of, HasAllIn, HasNoneIn, IsRegional, AreRegions};
 

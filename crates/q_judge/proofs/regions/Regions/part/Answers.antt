@@ -1,4 +1,4 @@
-use Rattle.std.proofs.Common.{ℕ, true, get_or, sym, subst, inl, inr}
+use Rattle.std.proofs.Common.{ℕ, get_or, sym, subst, inl, inr}
 use Rattle.std.proofs.lemmas.List.{get_or_default}
 use Rattle.q_logic.specs.Prelude.{Clause, IsIn}
 use Rattle.q_logic.proofs.Common.{Contains-IsIn, taken-cases, taken-all}
