@@ -69,8 +69,8 @@ impl Growth {
         self.plan.stages.clear();
         self.base = clause.len();
         self.worked = 0;
-        self.steps.clear();
         self.asked.clear();
+        self.steps.clear();
         add_places(&mut self.asked, 0, clause.len())
     }
 
