@@ -3,11 +3,11 @@ pub mod LogBytes
 pub mod LogRoundTrip
 pub mod LogSpelledIsRead
 pub mod LogReadIsSpelled
-mod WritableRuns
+pub mod WritableRuns
 mod ResultOrder
 pub mod LiteralTexts
 pub mod StepLengths
 pub mod HandedSteps
 pub mod LeastInFront
-mod LogPieces
+pub mod LogPieces
 mod Fewer
