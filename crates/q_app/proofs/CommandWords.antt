@@ -11,15 +11,12 @@ use Rattle.q_app.specs.declared.settings.Setting.TheVariants as setting
 use Rattle.q_app.specs.declared.settings.Settings.{Settings}
 use Rattle.q_command.specs.Names.{ThreeNames, three}
 use Rattle.q_app.specs.Words.{Request, up_to, number_of, behind, set, setting_by, setting_of, with_setting, with_word, with_words, nothing_set, options_of, scale_of, scale_by, generate_to, generate_of, demo_by, demo_of}
-use Rattle.q_app.specs.Operands.{Differ, DifferFour, are_different, fourth, is_fourth, just_three, three_names, two_names}
+use Rattle.q_app.specs.Operands.{Differ, DifferFour, are_different, fourth, is_fourth, just_three, texts, three_names, two_names}
 use Rattle.q_app.specs.Commands.{by_verb, request}
 
 pub none-stays : (ws : List (List ℕ)) → None ≡ with_words None ws
 none-stays [] = refl
 none-stays (w ∷ ws) = none-stays ws
-
-abbrev pub texts : List (String Global) → List (List ℕ)
-texts ws = map (λ w. string_bytes w) ws
 
 -- the settings behind one more word
 pub next-word : (s : Option Settings) (ws : List (String Global)) (i : ℕ) (w : String Global) → i < length ws → w ≡ get_or ws i w → with_words s (texts (drop i ws)) ≡ with_words (with_word s (string_bytes w)) (texts (drop (suc i) ws))

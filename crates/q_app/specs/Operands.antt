@@ -1,7 +1,12 @@
 -- The names that operands are.
-use Rattle.std.specs.Prelude.{◌≢◌, ℕ, Bool, not, ◌&&◌, cond, List, [], ◌∷◌, Option, Some, None}
+use Rattle.std.specs.Prelude.{◌≢◌, ℕ, Bool, not, ◌&&◌, cond, List, [], ◌∷◌, map, Option, Some, None, String, string_bytes}
+use Rattle.std.specs.declared.alloc.Global.{Global}
 use Rattle.std.specs.Str.{bytes_eq}
 use Rattle.q_command.specs.Names.{ThreeNames, three}
+
+-- the bytes of each word
+abbrev pub texts : List (String Global) → List (List ℕ)
+texts ws = map (λ w. string_bytes w) ws
 
 abbrev pub are_different : List ℕ → List ℕ → List ℕ → Bool
 are_different a b c = not (bytes_eq a b) && not (bytes_eq a c) && not (bytes_eq b c)

@@ -1,5 +1,5 @@
 -- What `rebuild` says and leaves, over the files before and after.
-use Rattle.std.specs.Prelude.{◌≡◌, ◌≢◌, ◌⊎◌, ℕ, List, Option, Some, true}
+use Rattle.std.specs.Prelude.{◌≡◌, ◌≢◌, ◌⊎◌, ℕ, List, [], ◌∷◌, Option, Some, true}
 use Rattle.q_logic.specs.Prelude.{PrenexFormula, CertificateView, trees_of, SkolemOf, UndoEntry}
 use Rattle.q_io.specs.Files.{Disk, HoldsBytes, MayHoldFront, bytes_at}
 use Rattle.q_aiger.specs.Circuits.{AreCircuits, Offence}
@@ -90,6 +90,14 @@ Rebuilds NoMemory n before after = (after ≡ Some before) ⊎ IsPart n before a
 
 abbrev pub five : List ℕ → List ℕ → List ℕ → List ℕ → List ℕ → FiveNames
 five i o l s c = record { input = i; output = o; log = l; skolem = s; cert = c }
+
+-- the names of the files that are read
+abbrev pub names_read : FiveNames → List (List ℕ)
+names_read n = n.input ∷ n.output ∷ n.log ∷ n.skolem ∷ []
+
+-- the names of the files that are written
+abbrev pub names_written : FiveNames → List (List ℕ)
+names_written n = n.cert ∷ []
 
 -- reading failed
 abbrev pub FaultsReading : Rebuilt → Type 0

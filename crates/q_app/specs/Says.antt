@@ -1,26 +1,29 @@
 -- What a run does: the status that it gives, what the files hold then, the faults that it may answer, the lines that it puts.
 use Rattle.std.specs.Prelude.{◌≡◌, ◌⊎◌, ◌≤◌, ℕ, true, false, List, [], ◌∷◌, ◌++◌, take, Option, Some, None, IfSome}
 use Rattle.q_io.specs.Files.{Disk, RoseAmong, bytes_at}
+use Rattle.q_io.specs.declared.files.Files as files
+use Rattle.q_io.specs.declared.files.Sink as sinks
 use Rattle.q_logic.specs.Prelude.{Rose}
 use Rattle.q_command.specs.Statuses.{passes}
-use Rattle.q_command.specs.Sinks.{SinkView, IsDue, Says}
+use Rattle.q_command.specs.Names.{names_read as read_by_check}
+use Rattle.q_command.specs.Sinks.{SinkView, IsDue, Says, view_sink}
 use Rattle.q_app.specs.Answers.{status_of_answer, line_of_answer}
 use Rattle.q_app.specs.Words.{Command, checking, simplifying, rebuilding, generating, solving, annotating, refuting, validating, Request}
 use Rattle.q_command.specs.Checks.{AnswersExactly, Checks}
 use Rattle.q_app.specs.Simplifying.{Ends, SimplifiesExactly}
-use Rattle.q_app.specs.Rebuilds.{Rebuilds, RebuildsExactly}
+use Rattle.q_app.specs.Rebuilds.{Rebuilds, RebuildsExactly, names_read as read_by_rebuild, names_written as written_by_rebuild}
 use Rattle.q_app.specs.Generating.{Generates, GeneratesExactly}
 use Rattle.q_command.specs.declared.outcome.Outcome.{Outcome}
 use Rattle.q_app.specs.declared.simplified.Simplified.{Simplified}
 use Rattle.q_app.specs.declared.rebuilt.Rebuilt.{Rebuilt}
 use Rattle.q_app.specs.declared.generated.Generated.{Generated}
-use Rattle.q_run_validate.specs.Validates.{Validates, ValidatesExactly}
+use Rattle.q_run_validate.specs.Validates.{Validates, ValidatesExactly, names_read as read_by_validate}
 use Rattle.q_run_validate.specs.declared.validated.Validated.{Validated}
-use Rattle.q_run_refute.specs.Refutes.{Refutes, RefutesExactly}
+use Rattle.q_run_refute.specs.Refutes.{Refutes, RefutesExactly, names_read as read_by_refute, names_written as written_by_refute}
 use Rattle.q_run_refute.specs.declared.refuted.Refuted.{Refuted}
-use Rattle.q_run_annotate.specs.Annotates.{Annotates, AnnotatesExactly}
+use Rattle.q_run_annotate.specs.Annotates.{Annotates, AnnotatesExactly, names_read as read_by_annotate, names_written as written_by_annotate}
 use Rattle.q_run_annotate.specs.declared.annotated.Annotated.{Annotated}
-use Rattle.q_run_solve.specs.Solves.{Solves, SolvesExactly}
+use Rattle.q_run_solve.specs.Solves.{Solves, SolvesExactly, names_read as read_by_solve, names_written as written_by_solve}
 use Rattle.q_run_solve.specs.declared.solved.Solved.{Solved}
 use Rattle.q_app.specs.declared.answer.Answer.{Answer}
 use Rattle.q_app.specs.declared.answer.Answer.TheVariants as answer
@@ -70,25 +73,25 @@ Gives (Some (validating n b)) given before after = ValidatesExactly given n b be
 -- the names of the files that a command reads
 abbrev pub names_read : Option Command → List (List ℕ)
 names_read None = []
-names_read (Some (checking n)) = n.input ∷ n.output ∷ n.log ∷ []
+names_read (Some (checking n)) = read_by_check n
 names_read (Some (simplifying n p)) = n.input ∷ []
-names_read (Some (rebuilding n)) = n.input ∷ n.output ∷ n.log ∷ n.skolem ∷ []
+names_read (Some (rebuilding n)) = read_by_rebuild n
 names_read (Some (generating k name)) = []
-names_read (Some (solving n b)) = n.input ∷ []
-names_read (Some (annotating n)) = n.input ∷ n.output ∷ n.log ∷ []
-names_read (Some (refuting n)) = n.input ∷ n.output ∷ n.log ∷ n.herbrand ∷ []
-names_read (Some (validating n b)) = n.input ∷ n.cert ∷ []
+names_read (Some (solving n b)) = read_by_solve n
+names_read (Some (annotating n)) = read_by_annotate n
+names_read (Some (refuting n)) = read_by_refute n
+names_read (Some (validating n b)) = read_by_validate n
 
 -- the names of the files that a command writes
 abbrev pub names_written : Option Command → List (List ℕ)
 names_written None = []
 names_written (Some (checking n)) = []
 names_written (Some (simplifying n p)) = n.output ∷ n.log ∷ []
-names_written (Some (rebuilding n)) = n.cert ∷ []
+names_written (Some (rebuilding n)) = written_by_rebuild n
 names_written (Some (generating k name)) = name ∷ []
-names_written (Some (solving n b)) = n.output ∷ n.log ∷ n.cert ∷ []
-names_written (Some (annotating n)) = n.hinted ∷ []
-names_written (Some (refuting n)) = n.cert ∷ []
+names_written (Some (solving n b)) = written_by_solve n
+names_written (Some (annotating n)) = written_by_annotate n
+names_written (Some (refuting n)) = written_by_refute n
 names_written (Some (validating n b)) = []
 
 -- of a command that changes no file
@@ -110,9 +113,10 @@ pub record Devices : Type 0 where
   pub write_faults : List ℕ → ℕ
   pub sink : SinkView
 
-abbrev pub devices : {F : Type 0} → (F → Option Disk) → (F → List ℕ → ℕ) → (F → List ℕ → ℕ) → F → SinkView → Devices
-devices held reads writes files sink =
-    record { held = held files; read_faults = reads files; write_faults = writes files; sink = sink }
+-- the files and the sink, by what their traits tell
+abbrev pub devices : {F S : Type 0} → files.Ghosts F → sinks.Ghosts S → F → S → Devices
+devices store sink at out =
+    record { held = store.held at; read_faults = store.read_faults at; write_faults = store.write_faults at; sink = view_sink sink out }
 
 -- what a command does: the status that it gives and what the files hold then; a fault is given only where a count of faults
 -- rose, of a file that it reads or writes or of the sink; files that are only read stay, also where they don't tell what

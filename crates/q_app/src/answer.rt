@@ -48,8 +48,7 @@ impl Answer {
 /// Puts the line of an answer.
 pub(crate) fn say<S: Sink>(out: &mut S, answer: &Answer) -> Status
     ensures { IsSaid (line_of_answer answer.now) (status_of_answer answer.now) result
-        (view_sink S.written S.faults S.wants out.old)
-        (view_sink S.written S.faults S.wants out.new) }
+        (view_sink S.Sink out.old) (view_sink S.Sink out.new) }
 {
     match answer {
         Answer::Usage => put(out, Status::Usage, b"usage\n"),

@@ -1,7 +1,7 @@
 // Operands: names of files, which differ, and what stands behind them.
-ghost use Rattle.std.specs.Prelude.{◌≡◌, map, option_map, string_bytes, IfSome, Some};
+ghost use Rattle.std.specs.Prelude.{◌≡◌, option_map, IfSome, Some};
 ghost use Rattle.q_command.specs.Names.{three_of};
-ghost use Rattle.q_app.specs.Operands.{Differ, DifferFour, are_different as spec_are_different, fourth, is_fourth as spec_is_fourth, just_three, three_names as spec_three_names, two_names as spec_two_names};
+ghost use Rattle.q_app.specs.Operands.{Differ, DifferFour, are_different as spec_are_different, fourth, is_fourth as spec_is_fourth, just_three, three_names as spec_three_names, two_names as spec_two_names, texts};
 ghost use Rattle.q_app.specs.Words.{budget_in};
 
 use crate::settings::Settings;
@@ -22,9 +22,8 @@ pub(crate) struct Begun<'a> {
 
 /// The names, where they differ.
 pub(crate) fn three_names(operands: &[String]) -> Option<Begun>
-    ensures names { option_map (λ o.
-        (three_of o.names, map (λ w. string_bytes w) o.rest.now)) result
-        ≡ spec_three_names (map (λ w. string_bytes w) operands.now) }
+    ensures names { option_map (λ o. (three_of o.names, texts o.rest.now)) result
+        ≡ spec_three_names (texts operands.now) }
     ensures apart { IfSome result (λ o. Differ (three_of o.names)) }
 {
     if operands.len() < 3 {
@@ -45,7 +44,7 @@ pub(crate) fn three_names(operands: &[String]) -> Option<Begun>
 /// The three names that the operands are.
 pub(crate) fn only_names(operands: &[String]) -> Option<Names>
     ensures names { option_map (λ o. three_of o) result
-        ≡ just_three (spec_three_names (map (λ w. string_bytes w) operands.now)) }
+        ≡ just_three (spec_three_names (texts operands.now)) }
     ensures apart { IfSome result (λ o. Differ (three_of o)) }
 {
     let Some(begun) = three_names(operands) else {
@@ -67,9 +66,8 @@ pub(crate) struct Pair<'a> {
 
 /// The names, where they differ.
 pub(crate) fn two_names(operands: &[String]) -> Option<Pair>
-    ensures { option_map (λ o.
-        (o.first.now, o.second.now, map (λ w. string_bytes w) o.rest.now)) result
-        ≡ spec_two_names (map (λ w. string_bytes w) operands.now) }
+    ensures { option_map (λ o. (o.first.now, o.second.now, texts o.rest.now)) result
+        ≡ spec_two_names (texts operands.now) }
 {
     if operands.len() < 2 {
         return None;
@@ -103,9 +101,8 @@ fn is_fourth(names: Names, last: &str) -> bool
 // The fourth name, where it differs from three.
 fn fourth_of<'a>(names: Names<'a>, rest: &'a [String]) -> Option<Four<'a>>
     requires { Differ (three_of names) }
-    ensures names { option_map (λ o.
-        (three_of o.names, o.last.now, map (λ w. string_bytes w) o.rest.now)) result
-        ≡ fourth (Some (three_of names.entry, map (λ w. string_bytes w) rest.now)) }
+    ensures names { option_map (λ o. (three_of o.names, o.last.now, texts o.rest.now)) result
+        ≡ fourth (Some (three_of names.entry, texts rest.now)) }
     ensures apart { IfSome result (λ o. DifferFour (three_of o.names) o.last.now) }
 {
     if rest.len() == 0 {
@@ -124,9 +121,8 @@ fn fourth_of<'a>(names: Names<'a>, rest: &'a [String]) -> Option<Four<'a>>
 
 /// The names, where they differ.
 pub(crate) fn four_names(operands: &[String]) -> Option<Four>
-    ensures names { option_map (λ o.
-        (three_of o.names, o.last.now, map (λ w. string_bytes w) o.rest.now)) result
-        ≡ fourth (spec_three_names (map (λ w. string_bytes w) operands.now)) }
+    ensures names { option_map (λ o. (three_of o.names, o.last.now, texts o.rest.now)) result
+        ≡ fourth (spec_three_names (texts operands.now)) }
     ensures apart { IfSome result (λ o. DifferFour (three_of o.names) o.last.now) }
 {
     match three_names(operands) {
@@ -137,7 +133,7 @@ pub(crate) fn four_names(operands: &[String]) -> Option<Four>
 
 /// The budget that these words set, if they set nothing else.
 pub(crate) fn budget_of(words: &[String]) -> Option<Option<u64>>
-    ensures { result ≡ budget_in (map (λ w. string_bytes w) words.now) }
+    ensures { result ≡ budget_in (texts words.now) }
 {
     match Settings::of(words) {
         Some(settings) => settings.only_budget(),

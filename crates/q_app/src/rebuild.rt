@@ -1,11 +1,11 @@
 // `rebuild`: the log is checked as by `check`, with what it leaves to undo; then the circuits of OUT are read and
 // carried back, and the circuits of IN are written. Nothing is created before all refusals are past.
-ghost use Rattle.std.specs.Prelude.{◌≡◌, IfOk, IfErr, IfSome, IsErrOf, true, [], ◌∷◌};
-ghost use Rattle.q_logic.specs.Prelude.{PrenexFormula};
-ghost use Rattle.q_io.specs.Files.{OnlyReads, RoseAmong, RoseFor, bytes_at};
+ghost use Rattle.std.specs.Prelude.{◌≡◌, IfOk, IfErr, IfSome, IsErrOf, true};
+ghost use Rattle.q_io.specs.Files.{RoseAmong, RoseFor, bytes_at};
+ghost use Rattle.q_command.specs.Reading.{OnlyReadsFiles};
 ghost use Rattle.q_command.specs.Checks.{LeadsBack};
 ghost use Rattle.q_app.specs.Commands.{five_of};
-ghost use Rattle.q_app.specs.Rebuilds.{AreCarried, CircuitsFail, FaultsReading, IsOfCircuits, Puts, Rebuilds, failed_write as write_failed, no_circuits, refused_circuits as circuits_refused};
+ghost use Rattle.q_app.specs.Rebuilds.{AreCarried, CircuitsFail, FaultsReading, IsOfCircuits, Puts, Rebuilds, failed_write as write_failed, no_circuits, refused_circuits as circuits_refused, names_read};
 
 use crate::rebuild_words::RebuildNames;
 use crate::rebuilt::Rebuilt;
@@ -65,7 +65,7 @@ fn carry_back<F: Files>(
     ensures of_circuits { IfErr result IsOfCircuits }
     ensures fault { IsErrOf result Rebuilt.ReadFault
         → RoseFor F.read_faults skolem.now files.old files.new }
-    ensures only_reads { OnlyReads F.held F.read_faults F.write_faults files.old files.new }
+    ensures only_reads { OnlyReadsFiles F.Files files.old files.new }
 {
     let mut given = match read_circuits(alloc, files, skolem) {
         Ok(given) => given,
@@ -101,9 +101,7 @@ pub(crate) fn rebuild_files<F: Files>(alloc: Global, files: &mut F, names: Rebui
     ensures rebuilds { IfSome (F.held files.old) (λ disk.
         Rebuilds result (five_of names.entry) disk (F.held files.new)) }
     ensures read_fault { FaultsReading result
-        → RoseAmong F.read_faults
-        (names.entry.input.now ∷ names.entry.output.now ∷ names.entry.log.now
-        ∷ names.entry.skolem.now ∷ []) files.old files.new }
+        → RoseAmong F.read_faults (names_read (five_of names.entry)) files.old files.new }
     ensures write_fault { result ≡ Rebuilt.WriteFault
         → RoseFor F.write_faults names.entry.cert.now files.old files.new }
 {

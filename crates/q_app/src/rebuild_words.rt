@@ -1,6 +1,7 @@
-ghost use Rattle.std.specs.Prelude.{◌≡◌, ◌&&◌, map, option_map, string_bytes};
+ghost use Rattle.std.specs.Prelude.{◌≡◌, ◌&&◌, option_map};
 ghost use Rattle.q_app.specs.Rebuilds.{five};
 ghost use Rattle.q_app.specs.RebuildWords.{are_four as spec_are_four, is_new as spec_is_new, rebuild_names};
+ghost use Rattle.q_app.specs.Operands.{texts};
 
 /// The names of the five files of `rebuild`.
 #[derive(Clone, Copy)]
@@ -16,7 +17,7 @@ pub(crate) struct RebuildNames<'a> {
 pub(crate) fn parse_rebuild(operands: &[String]) -> Option<RebuildNames>
     ensures { option_map
         (λ o. five o.input.now o.output.now o.log.now o.skolem.now o.cert.now) result
-        ≡ rebuild_names (map (λ w. string_bytes w) operands.now) }
+        ≡ rebuild_names (texts operands.now) }
 {
     if operands.len() != 5 {
         return None;
@@ -51,8 +52,8 @@ fn are_four(a: &str, b: &str, c: &str, d: &str) -> bool
 }
 
 fn are_apart(a: &str, b: &str, c: &str, d: &str, e: &str) -> bool
-    ensures { result ≡ (spec_is_new a.now b.now c.now d.now e.now
-        && spec_are_four b.now c.now d.now e.now) }
+    ensures { result
+        ≡ (spec_is_new a.now b.now c.now d.now e.now && spec_are_four b.now c.now d.now e.now) }
 {
     is_new(a, b, c, d, e) && are_four(b, c, d, e)
 }

@@ -1,6 +1,7 @@
 // The options of `simplify`.
-ghost use Rattle.std.specs.Prelude.{◌≡◌, ◌≢◌, ◌≤◌, ◌++◌, List, ℕ, map, option_map, string_bytes, Some};
+ghost use Rattle.std.specs.Prelude.{◌≡◌, ◌≢◌, ◌≤◌, option_map, Some};
 ghost use Rattle.q_app.specs.Words.{behind, bounds_of, nothing_set, number_of, only_budget, options_of, setting_of, with_setting, with_word, with_words};
+ghost use Rattle.q_app.specs.Operands.{texts};
 
 use q_logic::Bounds;
 use q_simplify::Options;
@@ -122,7 +123,7 @@ impl Settings {
 
     /// The settings of these words.
     pub fn of(words: &[String]) -> Option<Settings>
-        ensures { result ≡ with_words (Some nothing_set) (map (λ w. string_bytes w) words.now) }
+        ensures { result ≡ with_words (Some nothing_set) (texts words.now) }
     {
         let mut settings = Settings::none();
         for word in words {

@@ -1,9 +1,6 @@
 // `simplify`: IN is read whole, then the formula is simplified into OUT and LOG.
-ghost use Rattle.std.specs.Prelude.{◌≡◌, ◌≢◌, IfOk, IfErr, IfSome, IsErrOf, [], ◌∷◌};
-ghost use Rattle.q_logic.specs.Prelude.{standard, IsInLimits, IsProper};
-ghost use Rattle.q_io.specs.Files.{Later, OnlyReads, RoseAmong, RoseFor, bytes_at};
-ghost use Rattle.q_dimacs.specs.Dimacs.{Dimacs};
-ghost use Rattle.q_command.specs.Inputs.{IsRefused};
+ghost use Rattle.std.specs.Prelude.{◌≡◌, ◌≢◌, IfSome, [], ◌∷◌};
+ghost use Rattle.q_io.specs.Files.{Later, RoseAmong, RoseFor};
 ghost use Rattle.q_app.specs.Refusals.{failure_of, refusal_of};
 ghost use Rattle.q_app.specs.Simplifying.{Ends};
 

@@ -1,14 +1,13 @@
 // The top call.
-ghost use Rattle.std.specs.Prelude.{◌≡◌, ◌≢◌, ◌≤◌, ◌⊎◌, map, string_bytes, Some, None};
+ghost use Rattle.std.specs.Prelude.{◌≡◌, ◌≢◌, ◌≤◌, ◌⊎◌, Some, None};
 ghost use Rattle.q_app.specs.Words.{annotating, checking, demo, generating, rebuilding, refuting, simplifying, solving, validating};
 ghost use Rattle.q_command.specs.Names.{three, three_of};
-ghost use Rattle.q_app.specs.Operands.{Differ, DifferFour};
+ghost use Rattle.q_app.specs.Operands.{Differ, DifferFour, texts};
 ghost use Rattle.q_run_validate.specs.Validates.{files_of as validate_files_of};
 ghost use Rattle.q_run_refute.specs.Refutes.{files_of as refute_files_of};
 ghost use Rattle.q_run_annotate.specs.Annotates.{files_of as annotate_files_of};
 ghost use Rattle.q_run_solve.specs.Solves.{files_of as solve_files_of};
 ghost use Rattle.q_app.specs.Commands.{IsFit, commands_of, five_of, request};
-ghost use Rattle.q_command.specs.Sinks.{view_sink};
 ghost use Rattle.q_app.specs.Says.{AreLater, Does, InTurn, Runs, devices};
 ghost use Rattle.q_app.specs.Promises.{AnswerComes, DemoPasses, SimplifyEnds};
 
@@ -31,19 +30,35 @@ use q_sched::Guide;
 use q_simplify::Options;
 use std::alloc::Global;
 
+// What `simplify` is asked for.
+#[derive(Clone, Copy)]
+struct Simplification<'a> {
+    names: Names<'a>,
+    options: Options,
+}
+
+// What `solve` is asked for.
+#[derive(Clone, Copy)]
+struct Solving<'a> {
+    names: SolveNames<'a>,
+    budget: Option<u64>,
+}
+
+// What `demo` is asked for.
+#[derive(Clone, Copy)]
+struct Demonstration<'a> {
+    scale: Scale,
+    names: Names<'a>,
+}
+
 // The commands one by one: what each does, and then its line.
 
 fn run_check<F: Files, S: Sink>(alloc: Global, files: &mut F, out: &mut S, names: Names) -> Status
     ensures runs { Runs (Some (checking (three_of names.entry)))
-        (devices F.held F.read_faults F.write_faults files.old
-        (view_sink S.written S.faults S.wants out.old)) result
-        (devices F.held F.read_faults F.write_faults files.new
-        (view_sink S.written S.faults S.wants out.new)) }
+        (devices F.Files S.Sink files.old out.old) result
+        (devices F.Files S.Sink files.new out.new) }
     ensures later { AreLater
-        (devices F.held F.read_faults F.write_faults files.old
-        (view_sink S.written S.faults S.wants out.old))
-        (devices F.held F.read_faults F.write_faults files.new
-        (view_sink S.written S.faults S.wants out.new)) }
+        (devices F.Files S.Sink files.old out.old) (devices F.Files S.Sink files.new out.new) }
 {
     let outcome = check(alloc, files, names);
     say(out, &Answer::Check(outcome))
@@ -53,23 +68,17 @@ fn run_simplify<F: Files, S: Sink>(
     alloc: Global,
     files: &mut F,
     out: &mut S,
-    names: Names,
-    options: &Options,
+    asked: Simplification,
     guides: Vec<Box<dyn Guide>>,
 ) -> Status
-    requires names { Differ (three_of names) }
-    ensures runs { Runs (Some (simplifying (three_of names.entry) options.now))
-        (devices F.held F.read_faults F.write_faults files.old
-        (view_sink S.written S.faults S.wants out.old)) result
-        (devices F.held F.read_faults F.write_faults files.new
-        (view_sink S.written S.faults S.wants out.new)) }
+    requires names { Differ (three_of asked.names) }
+    ensures runs { Runs (Some (simplifying (three_of asked.entry.names) asked.entry.options))
+        (devices F.Files S.Sink files.old out.old) result
+        (devices F.Files S.Sink files.new out.new) }
     ensures later { AreLater
-        (devices F.held F.read_faults F.write_faults files.old
-        (view_sink S.written S.faults S.wants out.old))
-        (devices F.held F.read_faults F.write_faults files.new
-        (view_sink S.written S.faults S.wants out.new)) }
+        (devices F.Files S.Sink files.old out.old) (devices F.Files S.Sink files.new out.new) }
 {
-    let outcome = simplify_file(alloc, files, names, options, guides);
+    let outcome = simplify_file(alloc, files, asked.names, &asked.options, guides);
     say(out, &Answer::Simplify(outcome))
 }
 
@@ -80,10 +89,8 @@ fn run_rebuild<F: Files, S: Sink>(
     names: RebuildNames,
 ) -> Status
     ensures { Runs (Some (rebuilding (five_of names.entry)))
-        (devices F.held F.read_faults F.write_faults files.old
-        (view_sink S.written S.faults S.wants out.old)) result
-        (devices F.held F.read_faults F.write_faults files.new
-        (view_sink S.written S.faults S.wants out.new)) }
+        (devices F.Files S.Sink files.old out.old) result
+        (devices F.Files S.Sink files.new out.new) }
 {
     let outcome = rebuild_files(alloc, files, names);
     say(out, &Answer::Rebuild(outcome))
@@ -98,15 +105,10 @@ fn run_generate<F: Files, S: Sink>(
 ) -> Status
     requires { scale.size ≤ 100000 }
     ensures runs { Runs (Some (generating scale output.now))
-        (devices F.held F.read_faults F.write_faults files.old
-        (view_sink S.written S.faults S.wants out.old)) result
-        (devices F.held F.read_faults F.write_faults files.new
-        (view_sink S.written S.faults S.wants out.new)) }
+        (devices F.Files S.Sink files.old out.old) result
+        (devices F.Files S.Sink files.new out.new) }
     ensures later { AreLater
-        (devices F.held F.read_faults F.write_faults files.old
-        (view_sink S.written S.faults S.wants out.old))
-        (devices F.held F.read_faults F.write_faults files.new
-        (view_sink S.written S.faults S.wants out.new)) }
+        (devices F.Files S.Sink files.old out.old) (devices F.Files S.Sink files.new out.new) }
 {
     let outcome = generate_file(alloc, files, scale, output);
     say(out, &Answer::Generate(outcome))
@@ -120,10 +122,8 @@ fn run_validate<F: Files, S: Sink>(
     budget: Option<u64>,
 ) -> Status
     ensures { Runs (Some (validating (validate_files_of names.entry) budget))
-        (devices F.held F.read_faults F.write_faults files.old
-        (view_sink S.written S.faults S.wants out.old)) result
-        (devices F.held F.read_faults F.write_faults files.new
-        (view_sink S.written S.faults S.wants out.new)) }
+        (devices F.Files S.Sink files.old out.old) result
+        (devices F.Files S.Sink files.new out.new) }
 {
     let outcome = validate_files(alloc, files, names, budget);
     say(out, &Answer::Validate(outcome))
@@ -136,10 +136,8 @@ fn run_refute<F: Files, S: Sink>(
     names: RefuteNames,
 ) -> Status
     ensures { Runs (Some (refuting (refute_files_of names.entry)))
-        (devices F.held F.read_faults F.write_faults files.old
-        (view_sink S.written S.faults S.wants out.old)) result
-        (devices F.held F.read_faults F.write_faults files.new
-        (view_sink S.written S.faults S.wants out.new)) }
+        (devices F.Files S.Sink files.old out.old) result
+        (devices F.Files S.Sink files.new out.new) }
 {
     let outcome = refute_files(alloc, files, names);
     say(out, &Answer::Refute(outcome))
@@ -152,10 +150,8 @@ fn run_annotate<F: Files, S: Sink>(
     names: AnnotateNames,
 ) -> Status
     ensures { Runs (Some (annotating (annotate_files_of names.entry)))
-        (devices F.held F.read_faults F.write_faults files.old
-        (view_sink S.written S.faults S.wants out.old)) result
-        (devices F.held F.read_faults F.write_faults files.new
-        (view_sink S.written S.faults S.wants out.new)) }
+        (devices F.Files S.Sink files.old out.old) result
+        (devices F.Files S.Sink files.new out.new) }
 {
     let outcome = annotate_files(alloc, files, names);
     say(out, &Answer::Annotate(outcome))
@@ -165,18 +161,17 @@ fn run_solve<F: Files, S: Sink>(
     alloc: Global,
     files: &mut F,
     out: &mut S,
-    names: SolveNames,
-    budget: Option<u64>,
+    asked: Solving,
     guides: Vec<Box<dyn Guide>>,
 ) -> Status
-    requires { DifferFour (three names.input.now names.output.now names.log.now) names.cert.now }
-    ensures { Runs (Some (solving (solve_files_of names.entry) budget))
-        (devices F.held F.read_faults F.write_faults files.old
-        (view_sink S.written S.faults S.wants out.old)) result
-        (devices F.held F.read_faults F.write_faults files.new
-        (view_sink S.written S.faults S.wants out.new)) }
+    requires { DifferFour
+        (three asked.names.input.now asked.names.output.now asked.names.log.now)
+        asked.names.cert.now }
+    ensures { Runs (Some (solving (solve_files_of asked.entry.names) asked.entry.budget))
+        (devices F.Files S.Sink files.old out.old) result
+        (devices F.Files S.Sink files.new out.new) }
 {
-    let outcome = solve_files(alloc, files, names, budget, guides);
+    let outcome = solve_files(alloc, files, asked.names, asked.budget, guides);
     say(out, &Answer::Solve(outcome))
 }
 
@@ -185,24 +180,23 @@ fn run_demo<F: Files, S: Sink>(
     alloc: Global,
     files: &mut F,
     out: &mut S,
-    scale: Scale,
-    names: Names,
+    asked: Demonstration,
     guides: Vec<Box<dyn Guide>>,
 ) -> Status
-    requires small { scale.size ≤ 100000 }
-    requires names { Differ (three_of names) }
-    ensures { InTurn (demo scale (three_of names.entry))
-        (devices F.held F.read_faults F.write_faults files.old
-        (view_sink S.written S.faults S.wants out.old)) result
-        (devices F.held F.read_faults F.write_faults files.new
-        (view_sink S.written S.faults S.wants out.new)) }
+    requires small { asked.scale.size ≤ 100000 }
+    requires names { Differ (three_of asked.names) }
+    ensures { InTurn (demo asked.entry.scale (three_of asked.entry.names))
+        (devices F.Files S.Sink files.old out.old) result
+        (devices F.Files S.Sink files.new out.new) }
 {
+    let Demonstration { scale, names } = asked;
     let made = run_generate(alloc, files, out, scale, names.input);
     if !made.passes() {
         return made;
     }
     let options = Settings::none().options();
-    let simplified = run_simplify(alloc, files, out, names, &options, guides);
+    let simplify = Simplification { names, options };
+    let simplified = run_simplify(alloc, files, out, simplify, guides);
     if !simplified.passes() {
         return simplified;
     }
@@ -218,23 +212,26 @@ fn run_command<F: Files, S: Sink>(
 ) -> Status
     requires { IsFit command }
     ensures { InTurn (commands_of command.entry)
-        (devices F.held F.read_faults F.write_faults files.old
-        (view_sink S.written S.faults S.wants out.old)) result
-        (devices F.held F.read_faults F.write_faults files.new
-        (view_sink S.written S.faults S.wants out.new)) }
+        (devices F.Files S.Sink files.old out.old) result
+        (devices F.Files S.Sink files.new out.new) }
 {
     match command {
         Command::Check { names } => run_check(alloc, files, out, names),
         Command::Simplify { names, options } => {
-            run_simplify(alloc, files, out, names, &options, guides)
+            let asked = Simplification { names, options };
+            run_simplify(alloc, files, out, asked, guides)
         }
         Command::Rebuild { names } => run_rebuild(alloc, files, out, names),
         Command::Generate { scale, output } => run_generate(alloc, files, out, scale, output),
         Command::Validate { names, budget } => run_validate(alloc, files, out, names, budget),
         Command::Refute { names } => run_refute(alloc, files, out, names),
         Command::Annotate { names } => run_annotate(alloc, files, out, names),
-        Command::Solve { names, budget } => run_solve(alloc, files, out, names, budget, guides),
-        Command::Demo { scale, names } => run_demo(alloc, files, out, scale, names, guides),
+        Command::Solve { names, budget } => {
+            run_solve(alloc, files, out, Solving { names, budget }, guides)
+        }
+        Command::Demo { scale, names } => {
+            run_demo(alloc, files, out, Demonstration { scale, names }, guides)
+        }
     }
 }
 
@@ -250,34 +247,26 @@ pub fn run<F: Files, S: Sink>(
     guides: Vec<Box<dyn Guide>>,
 ) -> Status
     // `Usage` comes exactly where the words ask for nothing, but for a sink that fails.
-    ensures usage { result ≡ Status.Usage → request (map (λ w. string_bytes w) words.now) ≡ None }
-    ensures no_command { request (map (λ w. string_bytes w) words.now) ≡ None →
-        (result ≡ Status.Usage) ⊎ (result ≡ Status.WriteFault) ⊎ (result ≡ Status.NoMemory) }
+    ensures usage { result ≡ Status.Usage → request (texts words.now) ≡ None }
+    ensures no_command { request (texts words.now) ≡ None
+        → (result ≡ Status.Usage) ⊎ (result ≡ Status.WriteFault) ⊎ (result ≡ Status.NoMemory) }
 
     // When each status comes, what the files hold then, which faults are answered and which lines are put.
-    ensures does { Does (request (map (λ w. string_bytes w) words.now))
-        (devices F.held F.read_faults F.write_faults files.old
-        (view_sink S.written S.faults S.wants out.old)) result
-        (devices F.held F.read_faults F.write_faults files.new
-        (view_sink S.written S.faults S.wants out.new)) }
+    ensures does { Does (request (texts words.now))
+        (devices F.Files S.Sink files.old out.old) result
+        (devices F.Files S.Sink files.new out.new) }
 
     // `simplify` ends, memory and faults aside; each command answers, and `demo` passes, where no fault comes, or memory is
     // wanting.
-    ensures simplify_ends { SimplifyEnds (request (map (λ w. string_bytes w) words.now))
-        (devices F.held F.read_faults F.write_faults files.old
-        (view_sink S.written S.faults S.wants out.old)) result
-        (devices F.held F.read_faults F.write_faults files.new
-        (view_sink S.written S.faults S.wants out.new)) }
-    ensures answer_comes { AnswerComes (request (map (λ w. string_bytes w) words.now))
-        (devices F.held F.read_faults F.write_faults files.old
-        (view_sink S.written S.faults S.wants out.old)) result
-        (devices F.held F.read_faults F.write_faults files.new
-        (view_sink S.written S.faults S.wants out.new)) }
-    ensures demo_passes { DemoPasses (request (map (λ w. string_bytes w) words.now))
-        (devices F.held F.read_faults F.write_faults files.old
-        (view_sink S.written S.faults S.wants out.old)) result
-        (devices F.held F.read_faults F.write_faults files.new
-        (view_sink S.written S.faults S.wants out.new)) }
+    ensures simplify_ends { SimplifyEnds (request (texts words.now))
+        (devices F.Files S.Sink files.old out.old) result
+        (devices F.Files S.Sink files.new out.new) }
+    ensures answer_comes { AnswerComes (request (texts words.now))
+        (devices F.Files S.Sink files.old out.old) result
+        (devices F.Files S.Sink files.new out.new) }
+    ensures demo_passes { DemoPasses (request (texts words.now))
+        (devices F.Files S.Sink files.old out.old) result
+        (devices F.Files S.Sink files.new out.new) }
 {
     texts_are_read();
     generated_is_read();

@@ -1,9 +1,8 @@
 // The words of the command line.
-ghost use Rattle.std.specs.Prelude.{◌≡◌, ◌≢◌, ◌≤◌, map, option_map, string_bytes, IfSome, Some};
+ghost use Rattle.std.specs.Prelude.{◌≡◌, ◌≢◌, ◌≤◌, option_map, IfSome, Some};
 ghost use Rattle.q_app.specs.RebuildWords.{rebuild_names};
 ghost use Rattle.q_app.specs.Words.{annotate_of, check_of, demo_by, demo_of, generate_of, refute_of, scale_of as spec_scale_of, simplify_of, solve_of, validate_of};
-ghost use Rattle.q_app.specs.Operands.{fourth, just_three, three_names as spec_three_names, two_names as spec_two_names};
-ghost use Rattle.q_command.specs.Names.{three_of};
+ghost use Rattle.q_app.specs.Operands.{fourth, just_three, three_names as spec_three_names, two_names as spec_two_names, texts};
 ghost use Rattle.q_app.specs.Commands.{IsFit, bounds_in, by_verb as spec_by_verb, commands_of, request};
 
 use crate::operands::{budget_of, four_names, only_names, three_names, two_names};
@@ -63,8 +62,7 @@ pub(crate) enum Command<'a> {
 
 /// The command that the words are, if they are one.
 pub(crate) fn parse(words: &[String]) -> Option<Command>
-    ensures request { option_map (λ o.
-        commands_of o) result ≡ request (map (λ w. string_bytes w) words.now) }
+    ensures request { option_map (λ o. commands_of o) result ≡ request (texts words.now) }
     ensures fit { IfSome result IsFit }
 {
     if words.len() == 0 {
@@ -75,7 +73,7 @@ pub(crate) fn parse(words: &[String]) -> Option<Command>
 
 fn by_verb<'a>(verb: &str, operands: &'a [String]) -> Option<Command<'a>>
     ensures request { option_map (λ o. commands_of o) result
-        ≡ spec_by_verb verb.now (map (λ w. string_bytes w) operands.now) }
+        ≡ spec_by_verb verb.now (texts operands.now) }
     ensures fit { IfSome result IsFit }
 {
     if verb == "check" {
@@ -113,7 +111,7 @@ fn by_verb<'a>(verb: &str, operands: &'a [String]) -> Option<Command<'a>>
 
 fn parse_check(operands: &[String]) -> Option<Command>
     ensures request { option_map (λ o. commands_of o) result
-        ≡ check_of (just_three (spec_three_names (map (λ w. string_bytes w) operands.now))) }
+        ≡ check_of (just_three (spec_three_names (texts operands.now))) }
     ensures fit { IfSome result IsFit }
 {
     match only_names(operands) {
@@ -123,9 +121,8 @@ fn parse_check(operands: &[String]) -> Option<Command>
 }
 
 fn parse_simplify(operands: &[String]) -> Option<Command>
-    ensures request { option_map (λ o.
-        commands_of o) result ≡ simplify_of
-        (spec_three_names (map (λ w. string_bytes w) operands.now)) }
+    ensures request { option_map (λ o. commands_of o) result
+        ≡ simplify_of (spec_three_names (texts operands.now)) }
     ensures fit { IfSome result IsFit }
 {
     let Some(begun) = three_names(operands) else {
@@ -141,9 +138,8 @@ fn parse_simplify(operands: &[String]) -> Option<Command>
 }
 
 fn parse_validate(operands: &[String]) -> Option<Command>
-    ensures request { option_map (λ o.
-        commands_of o) result ≡ validate_of
-        (spec_two_names (map (λ w. string_bytes w) operands.now)) }
+    ensures request { option_map (λ o. commands_of o) result
+        ≡ validate_of (spec_two_names (texts operands.now)) }
     ensures fit { IfSome result IsFit }
 {
     let Some(pair) = two_names(operands) else {
@@ -160,8 +156,8 @@ fn parse_validate(operands: &[String]) -> Option<Command>
 }
 
 fn parse_refute(operands: &[String]) -> Option<Command>
-    ensures request { option_map (λ o.
-        commands_of o) result ≡ refute_of (rebuild_names (map (λ w. string_bytes w) operands.now)) }
+    ensures request { option_map (λ o. commands_of o) result
+        ≡ refute_of (rebuild_names (texts operands.now)) }
     ensures fit { IfSome result IsFit }
 {
     match parse_rebuild(operands) {
@@ -179,9 +175,8 @@ fn parse_refute(operands: &[String]) -> Option<Command>
 }
 
 fn parse_annotate(operands: &[String]) -> Option<Command>
-    ensures request { option_map (λ o.
-        commands_of o) result ≡ annotate_of
-        (fourth (spec_three_names (map (λ w. string_bytes w) operands.now))) }
+    ensures request { option_map (λ o. commands_of o) result
+        ≡ annotate_of (fourth (spec_three_names (texts operands.now))) }
     ensures fit { IfSome result IsFit }
 {
     let Some(four) = four_names(operands) else {
@@ -201,9 +196,8 @@ fn parse_annotate(operands: &[String]) -> Option<Command>
 }
 
 fn parse_solve(operands: &[String]) -> Option<Command>
-    ensures request { option_map (λ o.
-        commands_of o) result ≡ solve_of
-        (fourth (spec_three_names (map (λ w. string_bytes w) operands.now))) }
+    ensures request { option_map (λ o. commands_of o) result
+        ≡ solve_of (fourth (spec_three_names (texts operands.now))) }
     ensures fit { IfSome result IsFit }
 {
     let Some(four) = four_names(operands) else {
@@ -241,8 +235,7 @@ fn scale_of(seed: &str, size: &str) -> Option<Scale>
 }
 
 fn parse_generate(operands: &[String]) -> Option<Command>
-    ensures request { option_map (λ o.
-        commands_of o) result ≡ generate_of (map (λ w. string_bytes w) operands.now) }
+    ensures request { option_map (λ o. commands_of o) result ≡ generate_of (texts operands.now) }
     ensures fit { IfSome result IsFit }
 {
     if operands.len() != 3 {
@@ -259,9 +252,8 @@ fn parse_generate(operands: &[String]) -> Option<Command>
 
 fn demo_over(scale: Scale, operands: &[String]) -> Option<Command>
     requires { scale.size ≤ 100000 }
-    ensures request { option_map (λ o.
-        commands_of o) result ≡ demo_by (Some scale)
-        (just_three (spec_three_names (map (λ w. string_bytes w) operands.now))) }
+    ensures request { option_map (λ o. commands_of o) result
+        ≡ demo_by (Some scale) (just_three (spec_three_names (texts operands.now))) }
     ensures fit { IfSome result IsFit }
 {
     match only_names(operands) {
@@ -271,8 +263,7 @@ fn demo_over(scale: Scale, operands: &[String]) -> Option<Command>
 }
 
 fn parse_demo(operands: &[String]) -> Option<Command>
-    ensures request { option_map (λ o.
-        commands_of o) result ≡ demo_of (map (λ w. string_bytes w) operands.now) }
+    ensures request { option_map (λ o. commands_of o) result ≡ demo_of (texts operands.now) }
     ensures fit { IfSome result IsFit }
 {
     if operands.len() < 2 {
@@ -286,7 +277,7 @@ fn parse_demo(operands: &[String]) -> Option<Command>
 
 /// The bounds of the simplification that the words ask for, and the defaults where they ask for none.
 pub fn bounds_of(words: &[String]) -> Bounds
-    ensures { result ≡ bounds_in (request (map (λ w. string_bytes w) words.now)) }
+    ensures { result ≡ bounds_in (request (texts words.now)) }
 {
     match parse(words) {
         Some(Command::Simplify { options, .. }) => options.bounds,

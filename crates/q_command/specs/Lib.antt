@@ -2,6 +2,7 @@ pub mod Statuses
 pub mod Lines
 pub mod Sinks
 pub mod Names
+pub mod Reading
 pub mod Inputs
 pub mod Logs
 pub mod Refusals

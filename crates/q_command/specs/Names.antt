@@ -1,5 +1,6 @@
 -- The names of the three files of a log.
-use Rattle.std.specs.Prelude.{ℕ, List}
+use Rattle.std.specs.Prelude.{ℕ, List, [], ◌∷◌, Option, IfSome}
+use Rattle.q_io.specs.Files.{Disk, bytes_at}
 use Rattle.q_command.specs.declared.names.Names.{Names}
 
 -- the names of IN, OUT and LOG
@@ -13,3 +14,11 @@ three i o l = record { input = i; output = o; log = l }
 
 abbrev pub three_of : Names → ThreeNames
 three_of n = three n.input.now n.output.now n.log.now
+
+-- the names of the files that are read
+abbrev pub names_read : ThreeNames → List (List ℕ)
+names_read n = n.input ∷ n.output ∷ n.log ∷ []
+
+-- of the bytes of the three files this is so, where the files tell what they hold
+abbrev pub OfThree : Option Disk → ThreeNames → (List ℕ → List ℕ → List ℕ → Type 0) → Type 0
+OfThree held n P = IfSome held (λ disk. P (bytes_at disk n.input) (bytes_at disk n.output) (bytes_at disk n.log))

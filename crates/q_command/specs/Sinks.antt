@@ -1,6 +1,7 @@
 -- A line that is put into a sink, and the status that is given with it.
 use Rattle.std.specs.Prelude.{◌≡◌, ◌⊎◌, ◌≤◌, ℕ, List, ◌++◌, take, Option, Some, IfSome}
 use Rattle.q_logic.specs.Prelude.{Rose}
+use Rattle.q_io.specs.declared.files.Sink as sinks
 use Rattle.q_command.specs.declared.status.Status.{Status}
 use Rattle.q_command.specs.declared.status.Status.TheVariants as status
 
@@ -10,8 +11,9 @@ pub record SinkView : Type 0 where
   pub faults : ℕ
   pub wants : ℕ
 
-abbrev pub view_sink : {S : Type 0} → (S → Option (List ℕ)) → (S → ℕ) → (S → ℕ) → S → SinkView
-view_sink written faults wants out = record { written = written out; faults = faults out; wants = wants out }
+-- the sink, by what its trait tells
+abbrev pub view_sink : {S : Type 0} → sinks.Ghosts S → S → SinkView
+view_sink told out = record { written = told.written out; faults = told.faults out; wants = told.wants out }
 
 -- the sink's own call failed, or it found no memory: that count rose, and the status says so
 abbrev pub SinkFails : Status → SinkView → SinkView → Type 0

@@ -1,7 +1,8 @@
 // A log is tried step by step, while it is read.
 ghost use Rattle.std.specs.Prelude.{◌≡◌, ◌≤◌, ◌<◌, ◌+◌, List, ℕ, length, take, IfOk, IfErr, OnOk, IfSome, IsErrOf, [], ◌++◌, drop};
 ghost use Rattle.q_logic.specs.Prelude.{PrenexFormula};
-ghost use Rattle.q_io.specs.Files.{OnlyReads, RoseFor, bytes_at};
+ghost use Rattle.q_io.specs.Files.{RoseFor, bytes_at};
+ghost use Rattle.q_command.specs.Reading.{OnlyReadsFiles};
 ghost use Rattle.q_command.specs.Checks.{IsUnverified};
 ghost use Rattle.q_command.specs.LazyCheckers.{IsHeld};
 ghost use Rattle.q_command.specs.Audits.{IsOpen, Advances, Refuses, HasTaken, HasEnded, HasLeft, HasFailed, Passes, Concludes, IsStarted};
@@ -128,7 +129,7 @@ impl Audit {
         ensures unverified { IfErr result IsUnverified }
         ensures fault { IsErrOf result Outcome.ReadFault
             → RoseFor F.read_faults name.now files.old files.new }
-        ensures only_reads { OnlyReads F.held F.read_faults F.write_faults files.old files.new }
+        ensures only_reads { OnlyReadsFiles F.Files files.old files.new }
     {
         let count = match files.read(name, at, buffer) {
             Ok(count) => count,

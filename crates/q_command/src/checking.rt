@@ -1,7 +1,9 @@
 // `check`: IN and OUT are read whole, and each step of LOG is tried as it is read.
-ghost use Rattle.std.specs.Prelude.{◌≡◌, ◌<◌, length, IfOk, IfErr, IfSome, IsErrOf, [], ◌∷◌};
+ghost use Rattle.std.specs.Prelude.{◌≡◌, ◌<◌, length, IfOk, IfErr, IfSome, IsErrOf};
 ghost use Rattle.q_logic.specs.Prelude.{PrenexFormula, IsProper, IsFormula};
-ghost use Rattle.q_io.specs.Files.{OnlyReads, RoseAmong, RoseFor, bytes_at};
+ghost use Rattle.q_io.specs.Files.{RoseAmong, RoseFor, bytes_at};
+ghost use Rattle.q_command.specs.Names.{OfThree, three_of, names_read};
+ghost use Rattle.q_command.specs.Reading.{OnlyReadsFiles};
 ghost use Rattle.q_command.specs.Audits.{IsWithEnds, LogIsTaken};
 ghost use Rattle.q_command.specs.LazyCheckers.{IsHeld};
 ghost use Rattle.q_command.specs.Taken.{AreRun};
@@ -28,8 +30,8 @@ fn refused_input(role: Role, error: InputError) -> Outcome
     }
 }
 
-/// The formula of an operand, read through the buffer, or what there is to say of it.
-pub fn read_operand<F: Files>(
+// The formula of an operand, read through the buffer, or what there is to say of it.
+fn read_operand<F: Files>(
     alloc: Global,
     files: &mut F,
     role: Role,
@@ -45,7 +47,7 @@ pub fn read_operand<F: Files>(
     ensures early { IfErr result IsEarly }
     ensures fault { IsErrOf result Outcome.ReadFault
         → RoseFor F.read_faults name.now files.old files.new }
-    ensures only_reads { OnlyReads F.held F.read_faults F.write_faults files.old files.new }
+    ensures only_reads { OnlyReadsFiles F.Files files.old files.new }
 {
     match read_formula(alloc, files, name, buffer) {
         Ok(formula) => Ok(formula),
@@ -53,35 +55,47 @@ pub fn read_operand<F: Files>(
     }
 }
 
-// Tries the log, from the formula of IN, which `origin` holds, to that of OUT.
+// A log is to lead from the formula of IN, which `origin` holds, to that of OUT, and this is kept of it.
+#[derive(Drop)]
+struct Claim<'a> {
+    origin: Origin,
+    output: &'a Formula,
+    keep: Keep,
+}
+
+// Tries the log, from the formula of IN to that of OUT.
 fn check_log<F: Files>(
     alloc: Global,
     files: &mut F,
     name: &str,
     buffer: &mut [u8],
-    origin: Origin,
-    output: &Formula,
-    keep: Keep,
+    claim: Claim,
 ) -> Result<Passed, Outcome>
     requires room { 0 < length buffer.old }
     ensures taken { IfOk result (λ p.
-        (input : PrenexFormula) → IsHeld input origin
+        (input : PrenexFormula) → IsHeld input claim.entry.origin
         → IfSome (F.held files.old) (λ disk.
-        LogIsTaken keep (bytes_at disk name.now) input output.now p)) }
+        LogIsTaken claim.entry.keep (bytes_at disk name.now) input claim.entry.output.now p)) }
     ensures held { IfOk result (λ p.
-        (input : PrenexFormula) → IsHeld input origin → IsHeld input p.origin) }
-    ensures run { IfOk result (λ p. (input : PrenexFormula) → IsHeld input origin →
-        LeadsBack keep.undo input output.now p.undo) }
-    ensures kept { IfOk result (λ p. (input : PrenexFormula) → IsHeld input origin →
-        AreRun keep.steps input output.now p.taken.items) }
+        (input : PrenexFormula) → IsHeld input claim.entry.origin → IsHeld input p.origin) }
+    ensures run { IfOk result (λ p. (input : PrenexFormula) → IsHeld input claim.entry.origin →
+        LeadsBack claim.entry.keep.undo input claim.entry.output.now p.undo) }
+    ensures kept { IfOk result (λ p. (input : PrenexFormula) → IsHeld input claim.entry.origin →
+        AreRun claim.entry.keep.steps input claim.entry.output.now p.taken.items) }
     ensures says { IfErr result (λ o.
-        (input : PrenexFormula) → IsHeld input origin
-        → IfSome (F.held files.old) (λ disk. LogSays o input output.now (bytes_at disk name.now))) }
+        (input : PrenexFormula) → IsHeld input claim.entry.origin
+        → IfSome (F.held files.old)
+        (λ disk. LogSays o input claim.entry.output.now (bytes_at disk name.now))) }
     ensures unverified { IfErr result IsUnverified }
     ensures fault { IsErrOf result Outcome.ReadFault
         → RoseFor F.read_faults name.now files.old files.new }
-    ensures only_reads { OnlyReads F.held F.read_faults F.write_faults files.old files.new }
+    ensures only_reads { OnlyReadsFiles F.Files files.old files.new }
 {
+    let Claim {
+        origin,
+        output,
+        keep,
+    } = claim;
     let Ok(mut audit) = Audit::start(alloc, origin, keep) else {
         return Err(Outcome::NoMemory);
     };
@@ -97,32 +111,29 @@ fn check_log<F: Files>(
 
 /// The formulas of IN and OUT.
 #[derive(Drop)]
-pub(crate) struct Ends {
+pub struct Ends {
     pub from: Formula,
     pub to: Formula,
 }
 
-// What the files IN and OUT hold, read through the buffer.
-fn read_ends<F: Files>(
+/// What the files IN and OUT hold, read through the buffer.
+pub fn read_ends<F: Files>(
     alloc: Global,
     files: &mut F,
     names: Names,
     buffer: &mut [u8],
 ) -> Result<Ends, Outcome>
     requires room { 0 < length buffer.old }
-    ensures formulas { IfOk result (λ e. IfSome (F.held files.old) (λ disk.
-        AreEnds (bytes_at disk names.entry.input.now) (bytes_at disk names.entry.output.now) e)) }
+    ensures formulas { IfOk result
+        (λ e. OfThree (F.held files.old) (three_of names.entry) (λ i o l. AreEnds i o e)) }
     ensures proper { IfOk result (λ e. IsFormula e.from) }
-    ensures checks { IfErr result (λ o.
-        IfSome (F.held files.old) (λ disk.
-        Checks o (bytes_at disk names.entry.input.now) (bytes_at disk names.entry.output.now)
-        (bytes_at disk names.entry.log.now))) }
+    ensures checks { IfErr result
+        (λ o. OfThree (F.held files.old) (three_of names.entry) (Checks o)) }
+    ensures early { IfErr result IsEarly }
     ensures unverified { IfErr result IsUnverified }
     ensures fault { IsErrOf result Outcome.ReadFault
-        → RoseAmong F.read_faults
-        (names.entry.input.now ∷ names.entry.output.now ∷ names.entry.log.now ∷ []) files.old
-        files.new }
-    ensures only_reads { OnlyReads F.held F.read_faults F.write_faults files.old files.new }
+        → RoseAmong F.read_faults (names_read (three_of names.entry)) files.old files.new }
+    ensures only_reads { OnlyReadsFiles F.Files files.old files.new }
 {
     let from = match read_operand(alloc, files, Role::In, names.input, buffer) {
         Ok(formula) => formula,
@@ -171,23 +182,17 @@ fn check_files<F: Files>(
     keep: Keep,
 ) -> Result<Checked, Outcome>
     requires room { 0 < length buffer.old }
-    ensures passes { IfOk result (λ c.
-        IfSome (F.held files.old) (λ disk.
-        FilesPass keep (bytes_at disk names.entry.input.now) (bytes_at disk names.entry.output.now)
-        (bytes_at disk names.entry.log.now) c)) }
+    ensures passes { IfOk result
+        (λ c. OfThree (F.held files.old) (three_of names.entry) (λ i o l. FilesPass keep i o l c)) }
     ensures run { IfOk result (λ c. LeadsBack keep.undo c.from c.to c.undo) }
     ensures kept { IfOk result (λ c. AreRun keep.steps c.from c.to c.taken.items) }
     ensures proper { IfOk result (λ c. IsFormula c.from) }
-    ensures checks { IfErr result (λ o.
-        IfSome (F.held files.old) (λ disk.
-        Checks o (bytes_at disk names.entry.input.now) (bytes_at disk names.entry.output.now)
-        (bytes_at disk names.entry.log.now))) }
+    ensures checks { IfErr result
+        (λ o. OfThree (F.held files.old) (three_of names.entry) (Checks o)) }
     ensures unverified { IfErr result IsUnverified }
     ensures fault { IsErrOf result Outcome.ReadFault
-        → RoseAmong F.read_faults
-        (names.entry.input.now ∷ names.entry.output.now ∷ names.entry.log.now ∷ []) files.old
-        files.new }
-    ensures only_reads { OnlyReads F.held F.read_faults F.write_faults files.old files.new }
+        → RoseAmong F.read_faults (names_read (three_of names.entry)) files.old files.new }
+    ensures only_reads { OnlyReadsFiles F.Files files.old files.new }
 {
     let Ends { from, to } = match read_ends(alloc, files, names, buffer) {
         Ok(ends) => ends,
@@ -196,7 +201,12 @@ fn check_files<F: Files>(
     let Ok(origin) = Origin::new(alloc, from, true) else {
         return Err(Outcome::NoMemory);
     };
-    match check_log(alloc, files, names.log, buffer, origin, &to, keep) {
+    let claim = Claim {
+        origin,
+        output: &to,
+        keep,
+    };
+    match check_log(alloc, files, names.log, buffer, claim) {
         Ok(passed) => with_ends(passed, to),
         Err(outcome) => Err(outcome),
     }
@@ -209,23 +219,17 @@ pub fn verify<F: Files>(
     names: Names,
     keep: Keep,
 ) -> Result<Checked, Outcome>
-    ensures passes { IfOk result (λ c.
-        IfSome (F.held files.old) (λ disk.
-        FilesPass keep (bytes_at disk names.entry.input.now) (bytes_at disk names.entry.output.now)
-        (bytes_at disk names.entry.log.now) c)) }
+    ensures passes { IfOk result
+        (λ c. OfThree (F.held files.old) (three_of names.entry) (λ i o l. FilesPass keep i o l c)) }
     ensures run { IfOk result (λ c. LeadsBack keep.undo c.from c.to c.undo) }
     ensures kept { IfOk result (λ c. AreRun keep.steps c.from c.to c.taken.items) }
     ensures proper { IfOk result (λ c. IsFormula c.from) }
-    ensures checks { IfErr result (λ o.
-        IfSome (F.held files.old) (λ disk.
-        Checks o (bytes_at disk names.entry.input.now) (bytes_at disk names.entry.output.now)
-        (bytes_at disk names.entry.log.now))) }
+    ensures checks { IfErr result
+        (λ o. OfThree (F.held files.old) (three_of names.entry) (Checks o)) }
     ensures unverified { IfErr result IsUnverified }
     ensures fault { IsErrOf result Outcome.ReadFault
-        → RoseAmong F.read_faults
-        (names.entry.input.now ∷ names.entry.output.now ∷ names.entry.log.now ∷ []) files.old
-        files.new }
-    ensures only_reads { OnlyReads F.held F.read_faults F.write_faults files.old files.new }
+        → RoseAmong F.read_faults (names_read (three_of names.entry)) files.old files.new }
+    ensures only_reads { OnlyReadsFiles F.Files files.old files.new }
 {
     match vec![in alloc; 0u8; PIECE] {
         Ok(mut room) => check_files(alloc, files, names, &mut room, keep),
@@ -241,24 +245,16 @@ fn count_steps<F: Files>(
     buffer: &mut [u8],
 ) -> Result<u64, Outcome>
     requires room { 0 < length buffer.old }
-    ensures verified { IfOk result (λ n.
-        IfSome (F.held files.old) (λ disk.
-        Checks (Outcome.Verified n) (bytes_at disk names.entry.input.now)
-        (bytes_at disk names.entry.output.now) (bytes_at disk names.entry.log.now))) }
-    ensures truth { IfOk result (λ n.
-        IfSome (F.held files.old) (λ disk.
-        HaveOneTruth (bytes_at disk names.entry.input.now)
-        (bytes_at disk names.entry.output.now))) }
-    ensures checks { IfErr result (λ o.
-        IfSome (F.held files.old) (λ disk.
-        Checks o (bytes_at disk names.entry.input.now) (bytes_at disk names.entry.output.now)
-        (bytes_at disk names.entry.log.now))) }
+    ensures verified { IfOk result
+        (λ n. OfThree (F.held files.old) (three_of names.entry) (Checks (Outcome.Verified n))) }
+    ensures truth { IfOk result
+        (λ n. OfThree (F.held files.old) (three_of names.entry) (λ i o l. HaveOneTruth i o)) }
+    ensures checks { IfErr result
+        (λ o. OfThree (F.held files.old) (three_of names.entry) (Checks o)) }
     ensures unverified { IfErr result IsUnverified }
     ensures fault { IsErrOf result Outcome.ReadFault
-        → RoseAmong F.read_faults
-        (names.entry.input.now ∷ names.entry.output.now ∷ names.entry.log.now ∷ []) files.old
-        files.new }
-    ensures only_reads { OnlyReads F.held F.read_faults F.write_faults files.old files.new }
+        → RoseAmong F.read_faults (names_read (three_of names.entry)) files.old files.new }
+    ensures only_reads { OnlyReadsFiles F.Files files.old files.new }
 {
     let Ends { from, to } = match read_ends(alloc, files, names, buffer) {
         Ok(ends) => ends,
@@ -271,7 +267,12 @@ fn count_steps<F: Files>(
         undo: false,
         steps: false,
     };
-    match check_log(alloc, files, names.log, buffer, origin, &to, nothing) {
+    let claim = Claim {
+        origin,
+        output: &to,
+        keep: nothing,
+    };
+    match check_log(alloc, files, names.log, buffer, claim) {
         Ok(passed) => Ok(passed.steps),
         Err(outcome) => Err(outcome),
     }
@@ -279,19 +280,13 @@ fn count_steps<F: Files>(
 
 /// The outcome of `check` over the files of these names.
 pub fn check<F: Files>(alloc: Global, files: &mut F, names: Names) -> Outcome
-    ensures checks { IfSome (F.held files.old) (λ disk.
-        Checks result (bytes_at disk names.entry.input.now) (bytes_at disk names.entry.output.now)
-        (bytes_at disk names.entry.log.now)) }
+    ensures checks { OfThree (F.held files.old) (three_of names.entry) (Checks result) }
     ensures truth { IfVerified result
-        (IfSome (F.held files.old) (λ disk.
-        HaveOneTruth (bytes_at disk names.entry.input.now)
-        (bytes_at disk names.entry.output.now))) }
+        (OfThree (F.held files.old) (three_of names.entry) (λ i o l. HaveOneTruth i o)) }
     ensures fault { result ≡ Outcome.ReadFault
-        → RoseAmong F.read_faults
-        (names.entry.input.now ∷ names.entry.output.now ∷ names.entry.log.now ∷ []) files.old
-        files.new }
+        → RoseAmong F.read_faults (names_read (three_of names.entry)) files.old files.new }
     ensures held { F.held files.new ≡ F.held files.old }
-    ensures only_reads { OnlyReads F.held F.read_faults F.write_faults files.old files.new }
+    ensures only_reads { OnlyReadsFiles F.Files files.old files.new }
 {
     let Ok(mut room) = vec![in alloc; 0u8; PIECE] else {
         return Outcome::NoMemory;

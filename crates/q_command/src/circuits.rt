@@ -1,6 +1,7 @@
 // The circuits of a file, and the file of circuits.
 ghost use Rattle.std.specs.Prelude.{◌≡◌, IfOk, IfErr, IfSome, IsErrOf};
-ghost use Rattle.q_io.specs.Files.{OnlyReads, RoseFor, bytes_at};
+ghost use Rattle.q_io.specs.Files.{RoseFor, bytes_at};
+ghost use Rattle.q_command.specs.Reading.{OnlyReadsFiles};
 ghost use Rattle.q_aiger.specs.Circuits.{AreCircuits};
 ghost use Rattle.q_command.specs.Texts.{HoldsCircuits, IsNoText, LeavesCircuits, failed_read, refused_text};
 
@@ -48,7 +49,7 @@ pub fn read_circuits<F: Files>(
         (λ disk. IsNoText e (bytes_at disk name.now))) }
     ensures fault { IsErrOf result CircuitsError.Fault
         → RoseFor F.read_faults name.now files.old files.new }
-    ensures only_reads { OnlyReads F.held F.read_faults F.write_faults files.old files.new }
+    ensures only_reads { OnlyReadsFiles F.Files files.old files.new }
 {
     let text = match read_whole(alloc, files, name) {
         Ok(text) => text,

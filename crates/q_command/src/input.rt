@@ -1,7 +1,8 @@
 // A formula file is read whole, in pieces.
 ghost use Rattle.std.specs.Prelude.{◌≡◌, ◌≤◌, ◌<◌, ◌+◌, List, ℕ, length, IfOk, IfErr, IfSome, IsErrOf};
 ghost use Rattle.q_logic.specs.Prelude.{standard, IsInLimits, IsProper};
-ghost use Rattle.q_io.specs.Files.{OnlyReads, RoseFor, bytes_at};
+ghost use Rattle.q_io.specs.Files.{RoseFor, bytes_at};
+ghost use Rattle.q_command.specs.Reading.{OnlyReadsFiles};
 ghost use Rattle.q_dimacs.specs.Dimacs.{Dimacs};
 ghost use Rattle.q_dimacs.specs.Scanning.{HasRead};
 ghost use Rattle.q_command.specs.Inputs.{HasFed, HasFront, IsReading, IsRefused, device_error, read_error};
@@ -59,7 +60,7 @@ fn feed_piece<F: Files>(
         IsRefused e (bytes_at disk name.now))) }
     ensures fault { IsErrOf result InputError.Fault
         → RoseFor F.read_faults name.now files.old files.new }
-    ensures only_reads { OnlyReads F.held F.read_faults F.write_faults files.old files.new }
+    ensures only_reads { OnlyReadsFiles F.Files files.old files.new }
 {
     let count = match files.read(name, at, buffer) {
         Ok(count) => count,
@@ -103,7 +104,7 @@ pub(crate) fn read_formula<F: Files>(
         (λ disk. IsRefused e (bytes_at disk name.now))) }
     ensures fault { IsErrOf result InputError.Fault
         → RoseFor F.read_faults name.now files.old files.new }
-    ensures only_reads { OnlyReads F.held F.read_faults F.write_faults files.old files.new }
+    ensures only_reads { OnlyReadsFiles F.Files files.old files.new }
 {
     let mut reader = match Reader::new(alloc, Limits::standard()) {
         Ok(reader) => reader,
@@ -129,7 +130,7 @@ pub fn read_input<F: Files>(alloc: Global, files: &mut F, name: &str) -> Result<
         (λ disk. IsRefused e (bytes_at disk name.now))) }
     ensures fault { IsErrOf result InputError.Fault
         → RoseFor F.read_faults name.now files.old files.new }
-    ensures only_reads { OnlyReads F.held F.read_faults F.write_faults files.old files.new }
+    ensures only_reads { OnlyReadsFiles F.Files files.old files.new }
 {
     match vec![in alloc; 0u8; PIECE] {
         Ok(mut room) => read_formula(alloc, files, name, &mut room),

@@ -18,7 +18,7 @@ mod trial;
 mod whole_file;
 
 pub use audit::Keep;
-pub use checking::{Checked, check, read_operand, verify};
+pub use checking::{Checked, Ends, check, read_ends, verify};
 pub use circuits::{CircuitsError, read_circuits, write_circuits};
 pub use input::{InputError, read_input};
 pub use line::{Line, number_line, numbers_line, place, put, words_line};

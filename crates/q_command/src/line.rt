@@ -66,8 +66,7 @@ pub fn place(words: &str, line: u64, cause: u8) -> Line
 
 /// Puts a line. The answer is the status that is due, or why the line could not be put.
 pub fn put<S: Sink>(out: &mut S, due: Status, line: &[u8]) -> Status
-    ensures { IsSaid line.now due result (view_sink S.written S.faults S.wants out.old)
-        (view_sink S.written S.faults S.wants out.new) }
+    ensures { IsSaid line.now due result (view_sink S.Sink out.old) (view_sink S.Sink out.new) }
 {
     match out.put(line) {
         Ok(()) => due,

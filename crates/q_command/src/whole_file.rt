@@ -1,6 +1,7 @@
 // Files that are read whole.
 ghost use Rattle.std.specs.Prelude.{◌≡◌, ◌≤◌, ◌<◌, length, true, IfOk, IfSome, IsErrOf};
-ghost use Rattle.q_io.specs.Files.{OnlyReads, RoseFor, bytes_at};
+ghost use Rattle.q_io.specs.Files.{RoseFor, bytes_at};
+ghost use Rattle.q_command.specs.Reading.{OnlyReadsFiles};
 ghost use Rattle.q_command.specs.Texts.{HasAppended, HasLineEnd, IsTextOf};
 
 use crate::input::PIECE;
@@ -22,7 +23,7 @@ fn append_piece<F: Files>(
         (λ disk. HasAppended (bytes_at disk name.now) at n text.old.items text.new.items)) }
     ensures fault { IsErrOf result DeviceError.Failed
         → RoseFor F.read_faults name.now files.old files.new }
-    ensures only_reads { OnlyReads F.held F.read_faults F.write_faults files.old files.new }
+    ensures only_reads { OnlyReadsFiles F.Files files.old files.new }
 {
     let count = files.read(name, at, buffer)?;
     text.extend_from_slice(&buffer[..count])?;
@@ -65,7 +66,7 @@ fn read_through<F: Files>(
         (λ disk. IsTextOf (bytes_at disk name.now) text.items)) }
     ensures fault { IsErrOf result DeviceError.Failed
         → RoseFor F.read_faults name.now files.old files.new }
-    ensures only_reads { OnlyReads F.held F.read_faults F.write_faults files.old files.new }
+    ensures only_reads { OnlyReadsFiles F.Files files.old files.new }
 {
     let mut text = Vec::new(alloc);
     let mut at = 0u64;
@@ -89,7 +90,7 @@ pub fn read_whole<F: Files>(
         (λ disk. IsTextOf (bytes_at disk name.now) text.items)) }
     ensures fault { IsErrOf result DeviceError.Failed
         → RoseFor F.read_faults name.now files.old files.new }
-    ensures only_reads { OnlyReads F.held F.read_faults F.write_faults files.old files.new }
+    ensures only_reads { OnlyReadsFiles F.Files files.old files.new }
 {
     let mut room = vec![in alloc; 0u8; PIECE]?;
     read_through(alloc, files, name, &mut room)

@@ -21,7 +21,7 @@ use Rattle.q_command.proofs.AuditSteps.{front-of}
 use Rattle.q_command.proofs.BothCheckers.{ends-apart}
 use Rattle.q_command.proofs.WholeLogs.{bad-plain, offence-plain}
 use Rattle.q_run_annotate.specs.Annotates.{IsAnnotation, LogRefuses}
-use Rattle.q_run_annotate.specs.Readings.{IsOpen, IsUnderWay, Stands, IsSoFar, Goes, Convicts, EndsAs, IsEndOutcome, Advances, Stops, Refuses, HasTaken, Ends, Passes, Concludes, IsStarted}
+use Rattle.q_run_annotate.specs.Readings.{IsOpen, IsUnderWay, Stands, IsSoFar, Goes, Convicts, EndsAs, IsEndOutcome, Advances, Stops, Refuses, HasTaken, HasEnded, Passes, Concludes, IsStarted}
 use Rattle.q_run_annotate.specs.declared.reading.Reading.{Reading}
 use Rattle.q_run_annotate.specs.declared.scribe.HintedText.{HintedText}
 use Rattle.q_run_annotate.specs.declared.scribe.Scribe.{Scribe}
@@ -210,14 +210,14 @@ refuses_whole : (file : List ℕ) (place : ℕ) (first old : Reading) (w : Outco
 refuses_whole file place first old w f r = subst (λ xs. Refuses w first xs) (take-append-drop place file) (refuses_later first old (take place file) (drop place file) w f.front r)
 
 -- the log ends without a step more, or with one
-pub ended_now : (a : Reading) → to_come a.reader [] ≡ logs.finished → Ends a a.scribe
+pub ended_now : (a : Reading) → to_come a.reader [] ≡ logs.finished → HasEnded a a.scribe
 ended_now a e F text s = record {
   entries = s.entries;
   is_log = ap (logs.read standard.bytes) (sym (append-nil text)) ∙ (s.log [] ∙ (ap (logs.behind s.entries) e ∙ ap (λ (xs : List Entry). let x : logs.Parsed = record { steps = xs; refused = None } in x) (append-nil s.entries)));
   so_far = s.so_far;
 }
 
-pub ended_step : (a : Reading) (t : Scribe) (n : ℕ) (p : ProofStep) → Goes p a.scribe t → to_come a.reader [] ≡ logs.onto (n, p) logs.finished → Ends a t
+pub ended_step : (a : Reading) (t : Scribe) (n : ℕ) (p : ProofStep) → Goes p a.scribe t → to_come a.reader [] ≡ logs.onto (n, p) logs.finished → HasEnded a t
 ended_step a t n p g r F text s = record {
   entries = s.entries ++ (n, p) ∷ [];
   is_log = ap (logs.read standard.bytes) (sym (append-nil text)) ∙ (s.log [] ∙ ap (logs.behind s.entries) r);
@@ -228,7 +228,7 @@ ended_step a t n p g r F text s = record {
 is_whole : (text : List ℕ) (es : List Entry) → logs.read standard.bytes text ≡ record { steps = es; refused = None } → logs.Steps standard.bytes text ≡ Some es
 is_whole text es r = ap (λ (o : logs.Parsed). logs.all_or_none o.refused o.steps) r
 
-pub passes_end : (a : Reading) (s : Scribe) (G : PrenexFormula) (t : HintedText) → Ends a s → EndsAs s G t → Passes a G t
+pub passes_end : (a : Reading) (s : Scribe) (G : PrenexFormula) (t : HintedText) → HasEnded a s → EndsAs s G t → Passes a G t
 passes_end a s G t e h F text st =
     let x = e F text st in
     record {
@@ -238,7 +238,7 @@ passes_end a s G t e h F text st =
       hinted = ends-hinted F G x.entries s t.text.items x.so_far h.same h.text;
     }
 
-pub concludes_end : (a : Reading) (s : Scribe) (G : PrenexFormula) (w : Outcome) → Ends a s → IsEndOutcome w (plain s.annotator.formula) G → Concludes w a G
+pub concludes_end : (a : Reading) (s : Scribe) (G : PrenexFormula) (w : Outcome) → HasEnded a s → IsEndOutcome w (plain s.annotator.formula) G → Concludes w a G
 concludes_end a s G (Verified n) e h F text st = absurd h
 concludes_end a s G (RefusedLine n c) e h F text st = absurd h
 concludes_end a s G (RefusedEnd c) e h F text st =

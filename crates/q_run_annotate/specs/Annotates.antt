@@ -1,5 +1,5 @@
 -- What `annotate` says and leaves, over the files before and after.
-use Rattle.std.specs.Prelude.{◌≡◌, ◌⊎◌, ℕ, List, Option, Some, length}
+use Rattle.std.specs.Prelude.{◌≡◌, ◌⊎◌, ℕ, List, [], ◌∷◌, Option, Some, length}
 use Rattle.std.specs.List.{AllByRecursion}
 use Rattle.q_logic.specs.Prelude.{PrenexFormula, Hinted, HintedRun, strip, standard, kind_of, ProofStep}
 use Rattle.q_dimacs.specs.Offences.{Offence}
@@ -27,6 +27,14 @@ pub record AnnotateFiles : Type 0 where
 
 abbrev pub files_of : AnnotateNames → AnnotateFiles
 files_of n = record { input = n.input.now; output = n.output.now; log = n.log.now; hinted = n.hinted.now }
+
+-- the names of the files that are read
+abbrev pub names_read : AnnotateFiles → List (List ℕ)
+names_read n = n.input ∷ n.output ∷ n.log ∷ []
+
+-- the names of the files that are written
+abbrev pub names_written : AnnotateFiles → List (List ℕ)
+names_written n = n.hinted ∷ []
 
 -- the canonical text of a hinted log that leads from F to G, and whose steps are these
 pub record IsHintedLog (F G : PrenexFormula) (ss : List ProofStep) (text : List ℕ) : Type 0 where
@@ -80,6 +88,10 @@ PlainChecks (outcome.RefusedInput Out n c) i o l = (F : PrenexFormula) × IsFile
 PlainChecks outcome.ReadFault i o l = Unit {0}
 PlainChecks outcome.NoMemory i o l = Unit {0}
 
+-- why HINTED is not written, of the files as they were
+abbrev pub NotAnnotated : Outcome → AnnotateFiles → Disk → Type 0
+NotAnnotated o n before = PlainChecks o (bytes_at before n.input) (bytes_at before n.output) (bytes_at before n.log)
+
 -- the files hold formulas, and this is the text of LOG's steps with hints
 abbrev pub IsAnnotated : AnnotateFiles → Disk → ℕ → List ℕ → Type 0
 IsAnnotated n before steps text =
@@ -101,7 +113,7 @@ IsPart n before after =
 abbrev pub Annotates : Annotated → AnnotateFiles → Disk → Option Disk → Type 0
 Annotates (Written k) n before after = IsWhole k n before after
 Annotates (Unverified o) n before after =
-    IsUnverified o × PlainChecks o (bytes_at before n.input) (bytes_at before n.output) (bytes_at before n.log) × (after ≡ Some before)
+    IsUnverified o × NotAnnotated o n before × (after ≡ Some before)
 Annotates WriteFault n before after = IsPart n before after
 Annotates NoMemory n before after = (after ≡ Some before) ⊎ IsPart n before after
 

@@ -117,8 +117,8 @@ pub record IsAllOf (F : PrenexFormula) (log : List ℕ) (s : Scribe) : Type 0 wh
   pub so_far : IsSoFar F entries s
 
 -- the log has come to its end
-abbrev pub Ends : Reading → Scribe → Type 0
-Ends r s = (F : PrenexFormula) → (log : List ℕ) → Stands F r log → IsAllOf F log s
+abbrev pub HasEnded : Reading → Scribe → Type 0
+HasEnded r s = (F : PrenexFormula) → (log : List ℕ) → Stands F r log → IsAllOf F log s
 
 -- the log leads to the output, and this is its text with hints
 abbrev pub Passes : Reading → PrenexFormula → HintedText → Type 0

@@ -1,15 +1,16 @@
 // IN and OUT are read whole, LOG is read once, upward, and HINTED is created when all is checked.
-ghost use Rattle.std.specs.Prelude.{◌≡◌, ◌<◌, length, IfOk, IfErr, IfSome, IsErrOf, [], ◌∷◌};
-ghost use Rattle.q_io.specs.Files.{OnlyReads, RoseAmong, bytes_at};
+ghost use Rattle.std.specs.Prelude.{◌≡◌, ◌<◌, length, IfOk, IfErr, IfSome, IsErrOf};
+ghost use Rattle.q_io.specs.Files.{RoseAmong};
+ghost use Rattle.q_command.specs.Reading.{OnlyReadsFiles};
 ghost use Rattle.q_command.specs.Checks.{IsUnverified};
-ghost use Rattle.q_run_annotate.specs.Annotates.{Annotates, IsAnnotated, PlainChecks, files_of};
+ghost use Rattle.q_run_annotate.specs.Annotates.{Annotates, IsAnnotated, files_of, names_read, names_written, NotAnnotated};
 ghost use Rattle.q_run_annotate.specs.AnnotatedLines.{status_of_annotated};
 
 use crate::annotated::Annotated;
 use crate::names::AnnotateNames;
 use crate::reading::read_log;
 use crate::scribe::HintedText;
-use q_command::{Outcome, Role, Status, read_operand};
+use q_command::{Names, Outcome, Status, read_ends};
 use q_io::{DeviceError, Files, write_whole};
 use std::alloc::Global;
 
@@ -26,26 +27,23 @@ fn hint_files<F: Files>(
     requires room { 0 < length buffer.old }
     ensures annotated { IfOk result (λ t. IfSome (F.held files.old)
         (λ disk. IsAnnotated (files_of names.entry) disk t.steps t.text.items)) }
-    ensures refused { IfErr result (λ o.
-        IfSome (F.held files.old) (λ disk.
-        PlainChecks o (bytes_at disk names.entry.input.now) (bytes_at disk names.entry.output.now)
-        (bytes_at disk names.entry.log.now))) }
+    ensures refused { IfErr result
+        (λ o. IfSome (F.held files.old) (NotAnnotated o (files_of names.entry))) }
     ensures unverified { IfErr result IsUnverified }
     ensures fault { IsErrOf result Outcome.ReadFault
-        → RoseAmong F.read_faults
-        (names.entry.input.now ∷ names.entry.output.now ∷ names.entry.log.now ∷ []) files.old
-        files.new }
-    ensures only_reads { OnlyReads F.held F.read_faults F.write_faults files.old files.new }
+        → RoseAmong F.read_faults (names_read (files_of names.entry)) files.old files.new }
+    ensures only_reads { OnlyReadsFiles F.Files files.old files.new }
 {
-    let from = match read_operand(alloc, files, Role::In, names.input, buffer) {
-        Ok(formula) => formula,
+    let three = Names {
+        input: names.input,
+        output: names.output,
+        log: names.log,
+    };
+    let ends = match read_ends(alloc, files, three, buffer) {
+        Ok(ends) => ends,
         Err(outcome) => return Err(outcome),
     };
-    let to = match read_operand(alloc, files, Role::Out, names.output, buffer) {
-        Ok(formula) => formula,
-        Err(outcome) => return Err(outcome),
-    };
-    read_log(alloc, files, names.log, buffer, &from, &to)
+    read_log(alloc, files, names.log, buffer, &ends)
 }
 
 fn hint_with_room<F: Files>(
@@ -55,16 +53,12 @@ fn hint_with_room<F: Files>(
 ) -> Result<HintedText, Outcome>
     ensures annotated { IfOk result (λ t. IfSome (F.held files.old)
         (λ disk. IsAnnotated (files_of names.entry) disk t.steps t.text.items)) }
-    ensures refused { IfErr result (λ o.
-        IfSome (F.held files.old) (λ disk.
-        PlainChecks o (bytes_at disk names.entry.input.now) (bytes_at disk names.entry.output.now)
-        (bytes_at disk names.entry.log.now))) }
+    ensures refused { IfErr result
+        (λ o. IfSome (F.held files.old) (NotAnnotated o (files_of names.entry))) }
     ensures unverified { IfErr result IsUnverified }
     ensures fault { IsErrOf result Outcome.ReadFault
-        → RoseAmong F.read_faults
-        (names.entry.input.now ∷ names.entry.output.now ∷ names.entry.log.now ∷ []) files.old
-        files.new }
-    ensures only_reads { OnlyReads F.held F.read_faults F.write_faults files.old files.new }
+        → RoseAmong F.read_faults (names_read (files_of names.entry)) files.old files.new }
+    ensures only_reads { OnlyReadsFiles F.Files files.old files.new }
 {
     match vec![in alloc; 0u8; PIECE] {
         Ok(mut room) => hint_files(alloc, files, names, &mut room),
@@ -77,11 +71,9 @@ pub fn annotate_files<F: Files>(alloc: Global, files: &mut F, names: AnnotateNam
     ensures annotates { IfSome (F.held files.old) (λ disk.
         Annotates result (files_of names.entry) disk (F.held files.new)) }
     ensures read_fault { status_of_annotated result ≡ Status.ReadFault
-        → RoseAmong F.read_faults
-        (names.entry.input.now ∷ names.entry.output.now ∷ names.entry.log.now ∷ []) files.old
-        files.new }
-    ensures write_fault { status_of_annotated result ≡ Status.WriteFault →
-        RoseAmong F.write_faults (names.entry.hinted.now ∷ []) files.old files.new }
+        → RoseAmong F.read_faults (names_read (files_of names.entry)) files.old files.new }
+    ensures write_fault { status_of_annotated result ≡ Status.WriteFault
+        → RoseAmong F.write_faults (names_written (files_of names.entry)) files.old files.new }
 {
     let hinted = match hint_with_room(alloc, files, names) {
         Ok(hinted) => hinted,

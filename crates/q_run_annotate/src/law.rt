@@ -1,4 +1,4 @@
-ghost use Rattle.std.specs.Prelude.{◌≡◌, ◌≢◌, ◌≤◌, List, ℕ, length, Some};
+ghost use Rattle.std.specs.Prelude.{◌≡◌, ◌≢◌, ◌≤◌, ℕ, length, Some};
 ghost use Rattle.q_io.specs.Files.{Disk, bytes_at};
 ghost use Rattle.q_command.specs.Checks.{IsVerified};
 ghost use Rattle.q_run_annotate.specs.Annotates.{AnnotateFiles, IsWhole, SaysVerified};

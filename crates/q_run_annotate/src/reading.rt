@@ -1,13 +1,13 @@
 // The log is read once, upward: each step is tried as soon as it is read.
 ghost use Rattle.std.specs.Prelude.{◌≡◌, ◌≤◌, ◌<◌, ◌+◌, List, ℕ, length, take, drop, IfOk, IfErr, OnOk, IfSome, IsErrOf, [], ◌++◌};
-ghost use Rattle.q_logic.specs.Prelude.{PrenexFormula};
-ghost use Rattle.q_io.specs.Files.{OnlyReads, RoseFor, bytes_at};
+ghost use Rattle.q_io.specs.Files.{RoseFor, bytes_at};
+ghost use Rattle.q_command.specs.Reading.{OnlyReadsFiles};
 ghost use Rattle.q_command.specs.Checks.{IsUnverified};
 ghost use Rattle.q_run_annotate.specs.Annotates.{IsAnnotation, LogRefuses};
-ghost use Rattle.q_run_annotate.specs.Readings.{IsOpen, IsStarted, Advances, Refuses, HasTaken, Ends, Passes, Concludes};
+ghost use Rattle.q_run_annotate.specs.Readings.{IsOpen, IsStarted, Advances, Refuses, HasTaken, HasEnded, Passes, Concludes};
 
 use crate::scribe::{HintedText, Scribe};
-use q_command::{Outcome, log_refusal};
+use q_command::{Ends, Outcome, log_refusal};
 use q_io::{DeviceError, Files};
 use q_log::LogReader;
 use q_logic::{Formula, Limits, NoMemory};
@@ -95,7 +95,7 @@ impl Reading {
         ensures unverified { IfErr result IsUnverified }
         ensures fault { IsErrOf result Outcome.ReadFault
             → RoseFor F.read_faults name.now files.old files.new }
-        ensures only_reads { OnlyReads F.held F.read_faults F.write_faults files.old files.new }
+        ensures only_reads { OnlyReadsFiles F.Files files.old files.new }
     {
         let count = match files.read(name, at, buffer) {
             Ok(count) => count,
@@ -111,7 +111,7 @@ impl Reading {
     // Tries the step that the end of the log makes whole, if there is one.
     fn take_last(self) -> Result<Scribe, Outcome>
         requires { IsOpen self }
-        ensures ended { IfOk result (Ends self) }
+        ensures ended { IfOk result (HasEnded self) }
         ensures refused { IfErr result (λ o. Refuses o self []) }
         ensures unverified { IfErr result IsUnverified }
         ensures fault { IsErrOf result Outcome.ReadFault → ⊥ }
@@ -148,26 +148,26 @@ pub(crate) fn read_log<F: Files>(
     files: &mut F,
     name: &str,
     buffer: &mut [u8],
-    input: &Formula,
-    output: &Formula,
+    ends: &Ends,
 ) -> Result<HintedText, Outcome>
     requires room { 0 < length buffer.old }
     ensures annotation { IfOk result (λ t. IfSome (F.held files.old)
-        (λ disk. IsAnnotation (bytes_at disk name.now) t.steps input.now output.now t.text.items)) }
+        (λ disk. IsAnnotation (bytes_at disk name.now) t.steps ends.now.from ends.now.to
+        t.text.items)) }
     ensures refused { IfErr result (λ o. IfSome (F.held files.old)
-        (λ disk. LogRefuses o input.now output.now (bytes_at disk name.now))) }
+        (λ disk. LogRefuses o ends.now.from ends.now.to (bytes_at disk name.now))) }
     ensures unverified { IfErr result IsUnverified }
     ensures fault { IsErrOf result Outcome.ReadFault
         → RoseFor F.read_faults name.now files.old files.new }
-    ensures only_reads { OnlyReads F.held F.read_faults F.write_faults files.old files.new }
+    ensures only_reads { OnlyReadsFiles F.Files files.old files.new }
 {
-    let Ok(mut reading) = Reading::start(alloc, input) else {
+    let Ok(mut reading) = Reading::start(alloc, &ends.from) else {
         return Err(Outcome::NoMemory);
     };
     let mut at = 0u64;
     loop {
         match reading.read_piece(files, name, at, buffer) {
-            Ok(0) => return reading.finish(output),
+            Ok(0) => return reading.finish(&ends.to),
             Ok(count) => at += count as u64,
             Err(outcome) => return Err(outcome),
         }

@@ -1,5 +1,5 @@
 -- What `refute` says and leaves, over the files before and after.
-use Rattle.std.specs.Prelude.{◌≡◌, ◌≢◌, ◌⊎◌, ℕ, List, Option, Some}
+use Rattle.std.specs.Prelude.{◌≡◌, ◌≢◌, ◌⊎◌, ℕ, List, [], ◌∷◌, Option, Some}
 use Rattle.q_logic.specs.Prelude.{PrenexFormula, CertificateView, trees_of}
 use Rattle.q_logic.specs.Herbrands.{HerbrandOf}
 use Rattle.q_logic.specs.Reversals.{Reversal, Reversals, NoneExtended}
@@ -45,6 +45,14 @@ files_of n = record {
   herbrand = n.herbrand.now;
   cert = n.cert.now;
 }
+
+-- the names of the files that are read
+abbrev pub names_read : RefuteFiles → List (List ℕ)
+names_read n = n.input ∷ n.output ∷ n.log ∷ n.herbrand ∷ []
+
+-- the names of the files that are written
+abbrev pub names_written : RefuteFiles → List (List ℕ)
+names_written n = n.cert ∷ []
 
 -- IN and OUT hold formulas, and LOG leads from one to the other by these steps
 pub record OfRun (n : RefuteFiles) (disk : Disk) (P : PrenexFormula → List Entry → PrenexFormula → Type 0) : Type 0 where

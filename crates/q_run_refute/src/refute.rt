@@ -1,11 +1,12 @@
 //! `refute` over files: the log with its end, then its extended drops, then the circuits, then the work, in this order.
 //! The first refusal, fault or want of memory decides. CERT is created once all refusals are past.
-ghost use Rattle.std.specs.Prelude.{◌≡◌, IfOk, IfErr, IfSome, IsErrOf, true, [], ◌∷◌};
-ghost use Rattle.q_io.specs.Files.{OnlyReads, RoseAmong, RoseFor, bytes_at};
+ghost use Rattle.std.specs.Prelude.{◌≡◌, IfOk, IfErr, IfSome, IsErrOf, true};
+ghost use Rattle.q_io.specs.Files.{RoseAmong, RoseFor, bytes_at};
+ghost use Rattle.q_command.specs.Reading.{OnlyReadsFiles};
 ghost use Rattle.q_logic.specs.Reversals.{Reversals as ReversalsOf};
 ghost use Rattle.q_command.specs.Logs.{steps_of};
 ghost use Rattle.q_command.specs.Taken.{AreRun, entries_of};
-ghost use Rattle.q_run_refute.specs.Refutes.{AreCarried, CircuitsFail, FaultsReading, IsOfCircuits, Puts, Refutes, failed_write as write_failed, files_of, no_circuits as circuits_missing, refused_circuits as circuits_refused, not_reversed as reversed_not};
+ghost use Rattle.q_run_refute.specs.Refutes.{AreCarried, CircuitsFail, FaultsReading, IsOfCircuits, Puts, Refutes, failed_write as write_failed, files_of, no_circuits as circuits_missing, refused_circuits as circuits_refused, not_reversed as reversed_not, names_read, names_written};
 ghost use Rattle.q_run_refute.specs.Reversing.{IsUnreversed};
 ghost use Rattle.q_run_refute.specs.RefutedLines.{status_of_refuted};
 
@@ -93,7 +94,7 @@ fn carry_back<F: Files>(
     ensures of_circuits { IfErr result IsOfCircuits }
     ensures fault { IsErrOf result Refuted.ReadFault
         → RoseFor F.read_faults herbrand.now files.old files.new }
-    ensures only_reads { OnlyReads F.held F.read_faults F.write_faults files.old files.new }
+    ensures only_reads { OnlyReadsFiles F.Files files.old files.new }
 {
     let mut given = match read_circuits(alloc, files, herbrand) {
         Ok(given) => given,
@@ -129,9 +130,7 @@ fn refute_in_order<F: Files>(alloc: Global, files: &mut F, names: RefuteNames) -
     ensures refutes { IfSome (F.held files.old) (λ disk.
         Refutes result (files_of names.entry) disk (F.held files.new)) }
     ensures read_fault { FaultsReading result
-        → RoseAmong F.read_faults
-        (names.entry.input.now ∷ names.entry.output.now ∷ names.entry.log.now
-        ∷ names.entry.herbrand.now ∷ []) files.old files.new }
+        → RoseAmong F.read_faults (names_read (files_of names.entry)) files.old files.new }
     ensures write_fault { result ≡ Refuted.WriteFault
         → RoseFor F.write_faults names.entry.cert.now files.old files.new }
 {
@@ -163,11 +162,9 @@ pub fn refute_files<F: Files>(alloc: Global, files: &mut F, names: RefuteNames) 
     ensures refutes { IfSome (F.held files.old) (λ disk.
         Refutes result (files_of names.entry) disk (F.held files.new)) }
     ensures read_fault { status_of_refuted result ≡ Status.ReadFault
-        → RoseAmong F.read_faults
-        (names.entry.input.now ∷ names.entry.output.now ∷ names.entry.log.now
-        ∷ names.entry.herbrand.now ∷ []) files.old files.new }
-    ensures write_fault { status_of_refuted result ≡ Status.WriteFault →
-        RoseAmong F.write_faults (names.entry.cert.now ∷ []) files.old files.new }
+        → RoseAmong F.read_faults (names_read (files_of names.entry)) files.old files.new }
+    ensures write_fault { status_of_refuted result ≡ Status.WriteFault
+        → RoseAmong F.write_faults (names_written (files_of names.entry)) files.old files.new }
 {
     let refuted = refute_in_order(alloc, files, names);
     refuted

@@ -81,8 +81,7 @@ impl Refuted {
     /// Puts the line.
     pub fn say<S: Sink>(&self, out: &mut S) -> Status
         ensures { IsSaid (line_of_refuted self.now) (status_of_refuted self.now) result
-            (view_sink S.written S.faults S.wants out.old)
-            (view_sink S.written S.faults S.wants out.new) }
+            (view_sink S.Sink out.old) (view_sink S.Sink out.new) }
     {
         put(out, self.status(), self.line().as_str().as_bytes())
     }

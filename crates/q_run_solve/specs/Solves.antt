@@ -1,5 +1,5 @@
 -- What `solve` says and leaves, over the files before and after.
-use Rattle.std.specs.Prelude.{◌≡◌, ◌≢◌, ◌⊎◌, ◌↔◌, ◌<◌, ◌^◌, ℕ, List, length, map as each, take, Option, Some}
+use Rattle.std.specs.Prelude.{◌≡◌, ◌≢◌, ◌⊎◌, ◌↔◌, ◌<◌, ◌^◌, ℕ, List, [], ◌∷◌, length, map as each, take, Option, Some}
 use Rattle.std.specs.FinMap as map
 use Rattle.q_logic.specs.Prelude.{PrenexFormula, standard, Holds, CertificateView, trees_of, SkolemOf}
 use Rattle.q_logic.specs.Decisions.{decisions}
@@ -35,6 +35,14 @@ pub record SolveFiles : Type 0 where
 
 abbrev pub files_of : SolveNames → SolveFiles
 files_of n = record { input = n.input.now; output = n.output.now; log = n.log.now; cert = n.cert.now }
+
+-- the names of the files that are read
+abbrev pub names_read : SolveFiles → List (List ℕ)
+names_read n = n.input ∷ []
+
+-- the names of the files that are written
+abbrev pub names_written : SolveFiles → List (List ℕ)
+names_written n = n.output ∷ n.log ∷ n.cert ∷ []
 
 -- all names but these three are as before
 abbrev pub OthersKept : SolveFiles → Disk → Disk → Type 0

@@ -6,7 +6,7 @@ ghost use Rattle.q_io.specs.Files.{RoseAmong, Later, bytes_at};
 ghost use Rattle.q_command.specs.declared.status.Status.TheVariants as status;
 ghost use Rattle.q_run_solve.specs.SolvedLines.{status_of_solved};
 ghost use Rattle.q_run_solve.specs.Reduces.{IsReducedTo, HoldsBoth, MayHoldBoth, out_name, log_name};
-ghost use Rattle.q_run_solve.specs.Solves.{Solves, files_of, refusal_of};
+ghost use Rattle.q_run_solve.specs.Solves.{Solves, files_of, refusal_of, names_read, names_written};
 
 use crate::concluding::{conclude, unwritten};
 use crate::leaving::{text_of, write_both};
@@ -42,11 +42,9 @@ pub fn solve_files<F: Files>(
     ensures solves { IfSome (F.held files.old) (λ disk.
         Solves result (files_of names.entry) budget disk (F.held files.new)) }
     ensures read_fault { status_of_solved result ≡ status.ReadFault
-        → RoseAmong F.read_faults (names.entry.input.now ∷ []) files.old files.new }
+        → RoseAmong F.read_faults (names_read (files_of names.entry)) files.old files.new }
     ensures write_fault { status_of_solved result ≡ status.WriteFault
-        → RoseAmong F.write_faults
-        (names.entry.output.now ∷ names.entry.log.now ∷ names.entry.cert.now ∷ []) files.old
-        files.new }
+        → RoseAmong F.write_faults (names_written (files_of names.entry)) files.old files.new }
 {
     let formula = match read_input(alloc, files, names.input) {
         Ok(formula) => formula,
@@ -75,9 +73,7 @@ fn settle<F: Files>(
         → Solves result (files_of names.entry) budget disk (F.held files.new)) }
     ensures reading { status_of_solved result ≡ status.ReadFault → ⊥ }
     ensures cause { status_of_solved result ≡ status.WriteFault
-        → RoseAmong F.write_faults
-        (names.entry.output.now ∷ names.entry.log.now ∷ names.entry.cert.now ∷ []) files.old
-        files.new }
+        → RoseAmong F.write_faults (names_written (files_of names.entry)) files.old files.new }
 {
     match leave(files, names, reduced) {
         Ok(()) => conclude(alloc, files, names.cert, &reduced.checked, budget),

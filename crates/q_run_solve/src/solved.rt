@@ -53,8 +53,7 @@ impl Solved {
     /// Puts the line of the outcome.
     pub fn say<S: Sink>(&self, out: &mut S) -> Status
         ensures { IsSaid (line_of_solved self.now) (status_of_solved self.now) result
-            (view_sink S.written S.faults S.wants out.old)
-            (view_sink S.written S.faults S.wants out.new) }
+            (view_sink S.Sink out.old) (view_sink S.Sink out.new) }
     {
         put(out, self.status(), self.line().as_str().as_bytes())
     }

@@ -1,5 +1,5 @@
 -- What `validate` says of its files.
-use Rattle.std.specs.Prelude.{◌≡◌, ◌≢◌, ◌⊎◌, ℕ, List, Option, Some}
+use Rattle.std.specs.Prelude.{◌≡◌, ◌≢◌, ◌⊎◌, ℕ, List, [], ◌∷◌, Option, Some}
 use Rattle.q_logic.specs.Prelude.{Literal, standard, PrenexFormula, CertificateView, trees_of, SkolemOf}
 use Rattle.q_logic.specs.Branches.{claim_of, branches}
 use Rattle.q_io.specs.Files.{Disk, bytes_at}
@@ -33,6 +33,10 @@ pub record ValidateFiles : Type 0 where
 
 abbrev pub files_of : ValidateNames → ValidateFiles
 files_of n = record { input = n.input.now; cert = n.cert.now }
+
+-- the names of the files that are read
+abbrev pub names_read : ValidateFiles → List (List ℕ)
+names_read n = n.input ∷ n.cert ∷ []
 
 -- the outcome of a failed reading or of a refusal
 abbrev pub refused_input : InputError → Validated

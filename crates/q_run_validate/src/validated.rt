@@ -48,8 +48,7 @@ impl Validated {
     /// Puts the line of the outcome.
     pub fn say<S: Sink>(&self, out: &mut S) -> Status
         ensures { IsSaid (line_of_validated self.now) (status_of_validated self.now) result
-            (view_sink S.written S.faults S.wants out.old)
-            (view_sink S.written S.faults S.wants out.new) }
+            (view_sink S.Sink out.old) (view_sink S.Sink out.new) }
     {
         match self {
             Validated::Valid => put(out, Status::Done, b"valid\n"),

@@ -1,7 +1,7 @@
 use Rattle.std.proofs.Common.{◌∙◌, sym, ap, arith, drop, Some, List, ℕ}
 use Rattle.q_command.specs.Names.{three_of}
-use Rattle.q_app.specs.Operands.{fourth}
-use Rattle.q_app.proofs.CommandWords.{texts, texts-length, one_word, fourth-few, fourth-same, fourth-other, differ-four, rest_of}
+use Rattle.q_app.specs.Operands.{fourth, texts}
+use Rattle.q_app.proofs.CommandWords.{texts-length, one_word, fourth-few, fourth-same, fourth-other, differ-four, rest_of}
 use Rattle.q_app.proofs.operands.fourth_of.Goals as goal
 
 pub returns-then-rest-eq0-clause-names : goal.returns-then-rest-eq0-clause-names

@@ -1,7 +1,7 @@
 use Rattle.std.proofs.Common.{◌∙◌, sym, ap, Some, List, ℕ, arith, drop}
 use Rattle.q_command.specs.Names.{three}
-use Rattle.q_app.specs.Operands.{three_names}
-use Rattle.q_app.proofs.CommandWords.{texts, texts-length, three_words, few_names, same_names, other_names, rest_of, differ}
+use Rattle.q_app.specs.Operands.{three_names, texts}
+use Rattle.q_app.proofs.CommandWords.{texts-length, three_words, few_names, same_names, other_names, rest_of, differ}
 use Rattle.q_app.proofs.operands.three_names.Goals as goal
 
 pub returns-then-operands-lt3-clause-names : goal.returns-then-operands-lt3-clause-names

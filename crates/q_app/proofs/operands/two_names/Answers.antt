@@ -1,6 +1,6 @@
 use Rattle.std.proofs.Common.{◌∙◌, sym, ap, arith, drop, Some, List, ℕ}
-use Rattle.q_app.specs.Operands.{two_names}
-use Rattle.q_app.proofs.CommandWords.{texts, texts-length, two_words, few_for_two, two-same, two-other, rest_of}
+use Rattle.q_app.specs.Operands.{two_names, texts}
+use Rattle.q_app.proofs.CommandWords.{texts-length, two_words, few_for_two, two-same, two-other, rest_of}
 use Rattle.q_app.proofs.operands.two_names.Goals as goal
 
 pub returns-then-operands-lt2 : goal.returns-then-operands-lt2

@@ -1,6 +1,7 @@
 use Rattle.std.proofs.Common.{◌∙◌, sym, ap, arith}
 use Rattle.q_app.specs.RebuildWords.{rebuild_names}
-use Rattle.q_app.proofs.CommandWords.{texts, texts-length, all_five}
+use Rattle.q_app.specs.Operands.{texts}
+use Rattle.q_app.proofs.CommandWords.{texts-length, all_five}
 use Rattle.q_app.proofs.RebuildOperands.{not_five, equal_names, five_names}
 use Rattle.q_app.proofs.rebuild_words.parse_rebuild.Goals as goal
 

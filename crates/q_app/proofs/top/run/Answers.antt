@@ -1,6 +1,5 @@
 use Rattle.std.proofs.Common.{subst, sym, ◌∙◌, refl, inl, None}
 use Rattle.q_app.specs.Words.{Request}
-use Rattle.q_command.specs.Sinks.{view_sink}
 use Rattle.q_app.specs.Says.{Does, devices}
 use Rattle.q_app.specs.declared.answer.Answer.TheVariants as answer
 use Rattle.q_app.proofs.CommandSequence.{in_turn-usage}
@@ -13,21 +12,21 @@ returns-in-Some-clause-usage g c = λ e. absurd (in_turn-usage _ _ _ _ c.run_com
 
 pub returns-in-Some-clause-does : goal.returns-in-Some-clause-does
 returns-in-Some-clause-does g c =
-    subst (λ (r : Request). Does r (devices g.F.Files.held g.F.Files.read_faults g.F.Files.write_faults c.args.files.now (view_sink g.S.Sink.written g.S.Sink.faults g.S.Sink.wants c.args.out.now)) c.run_command.result (devices g.F.Files.held g.F.Files.read_faults g.F.Files.write_faults c.run_command.new.files (view_sink g.S.Sink.written g.S.Sink.faults g.S.Sink.wants c.run_command.new.out)))
+    subst (λ (r : Request). Does r (devices g.F.Files g.S.Sink c.args.files.now c.args.out.now) c.run_command.result (devices g.F.Files g.S.Sink c.run_command.new.files c.run_command.new.out))
     c.in-Some.ensures.request c.run_command.ensures
 
 pub returns-in-None-clause-does : goal.returns-in-None-clause-does
 returns-in-None-clause-does g c =
-    subst (λ (r : Request). Does r (devices g.F.Files.held g.F.Files.read_faults g.F.Files.write_faults c.args.files.now (view_sink g.S.Sink.written g.S.Sink.faults g.S.Sink.wants c.args.out.now)) c.say.result (devices g.F.Files.held g.F.Files.read_faults g.F.Files.write_faults c.args.files.now (view_sink g.S.Sink.written g.S.Sink.faults g.S.Sink.wants c.say.new.out))) c.in-None.ensures.request
-    (said-usage (devices g.F.Files.held g.F.Files.read_faults g.F.Files.write_faults c.args.files.now (view_sink g.S.Sink.written g.S.Sink.faults g.S.Sink.wants c.args.out.now)) (devices g.F.Files.held g.F.Files.read_faults g.F.Files.write_faults c.args.files.now (view_sink g.S.Sink.written g.S.Sink.faults g.S.Sink.wants c.say.new.out)) c.say.result refl c.say.ensures.answer c.say.ensures.says)
+    subst (λ (r : Request). Does r (devices g.F.Files g.S.Sink c.args.files.now c.args.out.now) c.say.result (devices g.F.Files g.S.Sink c.args.files.now c.say.new.out)) c.in-None.ensures.request
+    (said-usage (devices g.F.Files g.S.Sink c.args.files.now c.args.out.now) (devices g.F.Files g.S.Sink c.args.files.now c.say.new.out) c.say.result refl c.say.ensures.answer c.say.ensures.says)
 
 pub returns-in-Some-clause-simplify_ends : goal.returns-in-Some-clause-simplify_ends
 returns-in-Some-clause-simplify_ends g c =
-    simplify-ends c.texts_are_read.ensures c.in-Some.command _ (devices g.F.Files.held g.F.Files.read_faults g.F.Files.write_faults c.args.files.now (view_sink g.S.Sink.written g.S.Sink.faults g.S.Sink.wants c.args.out.now)) c.run_command.result (devices g.F.Files.held g.F.Files.read_faults g.F.Files.write_faults c.run_command.new.files (view_sink g.S.Sink.written g.S.Sink.faults g.S.Sink.wants c.run_command.new.out)) c.in-Some.ensures.fit (sym c.in-Some.ensures.request) c.run_command.ensures
+    simplify-ends c.texts_are_read.ensures c.in-Some.command _ (devices g.F.Files g.S.Sink c.args.files.now c.args.out.now) c.run_command.result (devices g.F.Files g.S.Sink c.run_command.new.files c.run_command.new.out) c.in-Some.ensures.fit (sym c.in-Some.ensures.request) c.run_command.ensures
 
 pub returns-in-Some-clause-answer_comes : goal.returns-in-Some-clause-answer_comes
 returns-in-Some-clause-answer_comes g c =
-    answer-comes c.in-Some.command _ (devices g.F.Files.held g.F.Files.read_faults g.F.Files.write_faults c.args.files.now (view_sink g.S.Sink.written g.S.Sink.faults g.S.Sink.wants c.args.out.now)) c.run_command.result (devices g.F.Files.held g.F.Files.read_faults g.F.Files.write_faults c.run_command.new.files (view_sink g.S.Sink.written g.S.Sink.faults g.S.Sink.wants c.run_command.new.out)) (sym c.in-Some.ensures.request) c.run_command.ensures
+    answer-comes c.in-Some.command _ (devices g.F.Files g.S.Sink c.args.files.now c.args.out.now) c.run_command.result (devices g.F.Files g.S.Sink c.run_command.new.files c.run_command.new.out) (sym c.in-Some.ensures.request) c.run_command.ensures
 
 pub returns-in-None-clause-simplify_ends : goal.returns-in-None-clause-simplify_ends
 returns-in-None-clause-simplify_ends g c = λ n o e. absurd (nothing-asked _ _ c.in-None.ensures.request e)
@@ -37,7 +36,7 @@ returns-in-None-clause-answer_comes g c = λ k e. absurd (nothing-asked _ _ c.in
 
 pub returns-in-Some-clause-demo_passes : goal.returns-in-Some-clause-demo_passes
 returns-in-Some-clause-demo_passes g c =
-    demo-passes c.texts_are_read.ensures c.generated_is_read.ensures c.in-Some.command _ (devices g.F.Files.held g.F.Files.read_faults g.F.Files.write_faults c.args.files.now (view_sink g.S.Sink.written g.S.Sink.faults g.S.Sink.wants c.args.out.now)) c.run_command.result (devices g.F.Files.held g.F.Files.read_faults g.F.Files.write_faults c.run_command.new.files (view_sink g.S.Sink.written g.S.Sink.faults g.S.Sink.wants c.run_command.new.out)) c.in-Some.ensures.fit (sym c.in-Some.ensures.request) c.run_command.ensures
+    demo-passes c.texts_are_read.ensures c.generated_is_read.ensures c.in-Some.command _ (devices g.F.Files g.S.Sink c.args.files.now c.args.out.now) c.run_command.result (devices g.F.Files g.S.Sink c.run_command.new.files c.run_command.new.out) c.in-Some.ensures.fit (sym c.in-Some.ensures.request) c.run_command.ensures
 
 pub returns-in-None-clause-demo_passes : goal.returns-in-None-clause-demo_passes
 returns-in-None-clause-demo_passes g c = λ k n e. absurd (nothing-asked _ _ c.in-None.ensures.request e)

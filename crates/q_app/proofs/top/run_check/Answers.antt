@@ -1,7 +1,6 @@
 use Rattle.std.proofs.Common.{refl}
 use Rattle.q_app.specs.Words.{checking}
 use Rattle.q_command.specs.Names.{three_of}
-use Rattle.q_command.specs.Sinks.{view_sink}
 use Rattle.q_app.specs.Says.{devices}
 use Rattle.q_app.specs.declared.answer.Answer.TheVariants as answer
 use Rattle.q_command.proofs.FilePieces.{if_some_2}
@@ -14,8 +13,8 @@ pub returns-clause-runs : goal.returns-clause-runs
 returns-clause-runs g c =
     let o = c.check-outcome.result in
     said (checking (three_of c.args.names)) (answer.Check c.check-outcome.result)
-    (devices g.F.Files.held g.F.Files.read_faults g.F.Files.write_faults c.args.files.now (view_sink g.S.Sink.written g.S.Sink.faults g.S.Sink.wants c.args.out.now))
-    (devices g.F.Files.held g.F.Files.read_faults g.F.Files.write_faults c.check-outcome.new.files (view_sink g.S.Sink.written g.S.Sink.faults g.S.Sink.wants c.say.new.out))
+    (devices g.F.Files g.S.Sink c.args.files.now c.args.out.now)
+    (devices g.F.Files g.S.Sink c.check-outcome.new.files c.say.new.out)
     c.say.result (o, refl, c.check-outcome.ensures.checks) c.say.ensures.answer c.say.ensures.says
     (if_some_2 (g.F.Files.held c.args.files.now) c.check-outcome.ensures.checks (if_verified-some c.check-outcome.result (g.F.Files.held c.args.files.now) _ c.check-outcome.ensures.truth)
     (λ disk h t. answers _ _ _ _ _ h t c.say.ensures.answer))

@@ -1,42 +1,41 @@
 use Rattle.std.proofs.Common.{sym, subst}
 use Rattle.q_app.specs.declared.words.Command.{Command as Parsed}
-use Rattle.q_command.specs.Sinks.{view_sink}
 use Rattle.q_app.specs.Says.{InTurn, devices}
 use Rattle.q_app.specs.Commands.{commands_of}
 use Rattle.q_app.proofs.top.run_command.Goals as goal
 
 pub returns-in-Check : goal.returns-in-Check
 returns-in-Check g c =
-    subst (λ (k : Parsed). InTurn (commands_of k) (devices g.F.Files.held g.F.Files.read_faults g.F.Files.write_faults c.args.files.now (view_sink g.S.Sink.written g.S.Sink.faults g.S.Sink.wants c.args.out.now)) c.run_check.result (devices g.F.Files.held g.F.Files.read_faults g.F.Files.write_faults c.run_check.new.files (view_sink g.S.Sink.written g.S.Sink.faults g.S.Sink.wants c.run_check.new.out))) (sym c.in-Check.is) c.run_check.ensures.runs
+    subst (λ (k : Parsed). InTurn (commands_of k) (devices g.F.Files g.S.Sink c.args.files.now c.args.out.now) c.run_check.result (devices g.F.Files g.S.Sink c.run_check.new.files c.run_check.new.out)) (sym c.in-Check.is) c.run_check.ensures.runs
 
 pub returns-in-Simplify : goal.returns-in-Simplify
 returns-in-Simplify g c =
-    subst (λ (k : Parsed). InTurn (commands_of k) (devices g.F.Files.held g.F.Files.read_faults g.F.Files.write_faults c.args.files.now (view_sink g.S.Sink.written g.S.Sink.faults g.S.Sink.wants c.args.out.now)) c.run_simplify.result (devices g.F.Files.held g.F.Files.read_faults g.F.Files.write_faults c.run_simplify.new.files (view_sink g.S.Sink.written g.S.Sink.faults g.S.Sink.wants c.run_simplify.new.out))) (sym c.in-Simplify.is) c.run_simplify.ensures.runs
+    subst (λ (k : Parsed). InTurn (commands_of k) (devices g.F.Files g.S.Sink c.args.files.now c.args.out.now) c.run_simplify.result (devices g.F.Files g.S.Sink c.run_simplify.new.files c.run_simplify.new.out)) (sym c.in-Simplify.is) c.run_simplify.ensures.runs
 
 pub returns-in-Rebuild : goal.returns-in-Rebuild
 returns-in-Rebuild g c =
-    subst (λ (k : Parsed). InTurn (commands_of k) (devices g.F.Files.held g.F.Files.read_faults g.F.Files.write_faults c.args.files.now (view_sink g.S.Sink.written g.S.Sink.faults g.S.Sink.wants c.args.out.now)) c.run_rebuild.result (devices g.F.Files.held g.F.Files.read_faults g.F.Files.write_faults c.run_rebuild.new.files (view_sink g.S.Sink.written g.S.Sink.faults g.S.Sink.wants c.run_rebuild.new.out))) (sym c.in-Rebuild.is) c.run_rebuild.ensures
+    subst (λ (k : Parsed). InTurn (commands_of k) (devices g.F.Files g.S.Sink c.args.files.now c.args.out.now) c.run_rebuild.result (devices g.F.Files g.S.Sink c.run_rebuild.new.files c.run_rebuild.new.out)) (sym c.in-Rebuild.is) c.run_rebuild.ensures
 
 pub returns-in-Generate : goal.returns-in-Generate
 returns-in-Generate g c =
-    subst (λ (k : Parsed). InTurn (commands_of k) (devices g.F.Files.held g.F.Files.read_faults g.F.Files.write_faults c.args.files.now (view_sink g.S.Sink.written g.S.Sink.faults g.S.Sink.wants c.args.out.now)) c.run_generate.result (devices g.F.Files.held g.F.Files.read_faults g.F.Files.write_faults c.run_generate.new.files (view_sink g.S.Sink.written g.S.Sink.faults g.S.Sink.wants c.run_generate.new.out))) (sym c.in-Generate.is) c.run_generate.ensures.runs
+    subst (λ (k : Parsed). InTurn (commands_of k) (devices g.F.Files g.S.Sink c.args.files.now c.args.out.now) c.run_generate.result (devices g.F.Files g.S.Sink c.run_generate.new.files c.run_generate.new.out)) (sym c.in-Generate.is) c.run_generate.ensures.runs
 
 pub returns-in-Validate : goal.returns-in-Validate
 returns-in-Validate g c =
-    subst (λ (k : Parsed). InTurn (commands_of k) (devices g.F.Files.held g.F.Files.read_faults g.F.Files.write_faults c.args.files.now (view_sink g.S.Sink.written g.S.Sink.faults g.S.Sink.wants c.args.out.now)) c.run_validate.result (devices g.F.Files.held g.F.Files.read_faults g.F.Files.write_faults c.run_validate.new.files (view_sink g.S.Sink.written g.S.Sink.faults g.S.Sink.wants c.run_validate.new.out))) (sym c.in-Validate.is) c.run_validate.ensures
+    subst (λ (k : Parsed). InTurn (commands_of k) (devices g.F.Files g.S.Sink c.args.files.now c.args.out.now) c.run_validate.result (devices g.F.Files g.S.Sink c.run_validate.new.files c.run_validate.new.out)) (sym c.in-Validate.is) c.run_validate.ensures
 
 pub returns-in-Refute : goal.returns-in-Refute
 returns-in-Refute g c =
-    subst (λ (k : Parsed). InTurn (commands_of k) (devices g.F.Files.held g.F.Files.read_faults g.F.Files.write_faults c.args.files.now (view_sink g.S.Sink.written g.S.Sink.faults g.S.Sink.wants c.args.out.now)) c.run_refute.result (devices g.F.Files.held g.F.Files.read_faults g.F.Files.write_faults c.run_refute.new.files (view_sink g.S.Sink.written g.S.Sink.faults g.S.Sink.wants c.run_refute.new.out))) (sym c.in-Refute.is) c.run_refute.ensures
+    subst (λ (k : Parsed). InTurn (commands_of k) (devices g.F.Files g.S.Sink c.args.files.now c.args.out.now) c.run_refute.result (devices g.F.Files g.S.Sink c.run_refute.new.files c.run_refute.new.out)) (sym c.in-Refute.is) c.run_refute.ensures
 
 pub returns-in-Annotate : goal.returns-in-Annotate
 returns-in-Annotate g c =
-    subst (λ (k : Parsed). InTurn (commands_of k) (devices g.F.Files.held g.F.Files.read_faults g.F.Files.write_faults c.args.files.now (view_sink g.S.Sink.written g.S.Sink.faults g.S.Sink.wants c.args.out.now)) c.run_annotate.result (devices g.F.Files.held g.F.Files.read_faults g.F.Files.write_faults c.run_annotate.new.files (view_sink g.S.Sink.written g.S.Sink.faults g.S.Sink.wants c.run_annotate.new.out))) (sym c.in-Annotate.is) c.run_annotate.ensures
+    subst (λ (k : Parsed). InTurn (commands_of k) (devices g.F.Files g.S.Sink c.args.files.now c.args.out.now) c.run_annotate.result (devices g.F.Files g.S.Sink c.run_annotate.new.files c.run_annotate.new.out)) (sym c.in-Annotate.is) c.run_annotate.ensures
 
 pub returns-in-Solve : goal.returns-in-Solve
 returns-in-Solve g c =
-    subst (λ (k : Parsed). InTurn (commands_of k) (devices g.F.Files.held g.F.Files.read_faults g.F.Files.write_faults c.args.files.now (view_sink g.S.Sink.written g.S.Sink.faults g.S.Sink.wants c.args.out.now)) c.run_solve.result (devices g.F.Files.held g.F.Files.read_faults g.F.Files.write_faults c.run_solve.new.files (view_sink g.S.Sink.written g.S.Sink.faults g.S.Sink.wants c.run_solve.new.out))) (sym c.in-Solve.is) c.run_solve.ensures
+    subst (λ (k : Parsed). InTurn (commands_of k) (devices g.F.Files g.S.Sink c.args.files.now c.args.out.now) c.run_solve.result (devices g.F.Files g.S.Sink c.run_solve.new.files c.run_solve.new.out)) (sym c.in-Solve.is) c.run_solve.ensures
 
 pub returns-in-Demo : goal.returns-in-Demo
 returns-in-Demo g c =
-    subst (λ (k : Parsed). InTurn (commands_of k) (devices g.F.Files.held g.F.Files.read_faults g.F.Files.write_faults c.args.files.now (view_sink g.S.Sink.written g.S.Sink.faults g.S.Sink.wants c.args.out.now)) c.run_demo.result (devices g.F.Files.held g.F.Files.read_faults g.F.Files.write_faults c.run_demo.new.files (view_sink g.S.Sink.written g.S.Sink.faults g.S.Sink.wants c.run_demo.new.out))) (sym c.in-Demo.is) c.run_demo.ensures
+    subst (λ (k : Parsed). InTurn (commands_of k) (devices g.F.Files g.S.Sink c.args.files.now c.args.out.now) c.run_demo.result (devices g.F.Files g.S.Sink c.run_demo.new.files c.run_demo.new.out)) (sym c.in-Demo.is) c.run_demo.ensures

@@ -6,16 +6,16 @@ use Rattle.q_app.proofs.top.run_demo.Goals as goal
 
 pub returns-then-not-passes : goal.returns-then-not-passes
 returns-then-not-passes g c =
-    stops (generating c.args.scale c.args.names.input.now) (simplifying (three_of c.args.names) (options_of nothing_set)) (checking (three_of c.args.names) ∷ []) _ _ _ c.run_generate-made.ensures.runs c.run_generate-made.ensures.later (sym c.passes.ensures ∙ c.if-not-passes.true)
+    stops (generating c.args.asked.scale c.args.asked.names.input.now) (simplifying (three_of c.args.asked.names) (options_of nothing_set)) (checking (three_of c.args.asked.names) ∷ []) _ _ _ c.run_generate-made.ensures.runs c.run_generate-made.ensures.later (sym c.passes.ensures ∙ c.if-not-passes.true)
 
 pub returns-then-not-passes-2 : goal.returns-then-not-passes-2
 returns-then-not-passes-2 g c =
     let options : c.options-options.result ≡ options_of nothing_set = c.options-options.ensures ∙ ap options_of c.none.ensures in
-    goes_on (generating c.args.scale c.args.names.input.now) (simplifying (three_of c.args.names) (options_of nothing_set)) (checking (three_of c.args.names) ∷ []) _ _ _ _ _ c.run_generate-made.ensures.runs c.run_generate-made.ensures.later c.run_simplify-simplified.ensures.later (sym c.passes.ensures ∙ c.if-not-passes.false)
-    (stops (simplifying (three_of c.args.names) (options_of nothing_set)) (checking (three_of c.args.names)) [] _ _ _ (options-same _ _ _ _ _ _ options c.run_simplify-simplified.ensures.runs) c.run_simplify-simplified.ensures.later (sym c.passes-2.ensures ∙ c.if-not-passes-2.true))
+    goes_on (generating c.args.asked.scale c.args.asked.names.input.now) (simplifying (three_of c.args.asked.names) (options_of nothing_set)) (checking (three_of c.args.asked.names) ∷ []) _ _ _ _ _ c.run_generate-made.ensures.runs c.run_generate-made.ensures.later c.run_simplify-simplified.ensures.later (sym c.passes.ensures ∙ c.if-not-passes.false)
+    (stops (simplifying (three_of c.args.asked.names) (options_of nothing_set)) (checking (three_of c.args.asked.names)) [] _ _ _ (options-same _ _ _ _ _ _ options c.run_simplify-simplified.ensures.runs) c.run_simplify-simplified.ensures.later (sym c.passes-2.ensures ∙ c.if-not-passes-2.true))
 
 pub returns : goal.returns
 returns g c =
     let options : c.options-options.result ≡ options_of nothing_set = c.options-options.ensures ∙ ap options_of c.none.ensures in
-    goes_on (generating c.args.scale c.args.names.input.now) (simplifying (three_of c.args.names) (options_of nothing_set)) (checking (three_of c.args.names) ∷ []) _ _ _ _ _ c.run_generate-made.ensures.runs c.run_generate-made.ensures.later (later-still _ _ _ c.run_simplify-simplified.ensures.later c.run_check.ensures.later) (sym c.passes.ensures ∙ c.if-not-passes.false)
-    (goes_on (simplifying (three_of c.args.names) (options_of nothing_set)) (checking (three_of c.args.names)) [] _ _ _ _ _ (options-same _ _ _ _ _ _ options c.run_simplify-simplified.ensures.runs) c.run_simplify-simplified.ensures.later c.run_check.ensures.later (sym c.passes-2.ensures ∙ c.if-not-passes-2.false) c.run_check.ensures.runs)
+    goes_on (generating c.args.asked.scale c.args.asked.names.input.now) (simplifying (three_of c.args.asked.names) (options_of nothing_set)) (checking (three_of c.args.asked.names) ∷ []) _ _ _ _ _ c.run_generate-made.ensures.runs c.run_generate-made.ensures.later (later-still _ _ _ c.run_simplify-simplified.ensures.later c.run_check.ensures.later) (sym c.passes.ensures ∙ c.if-not-passes.false)
+    (goes_on (simplifying (three_of c.args.asked.names) (options_of nothing_set)) (checking (three_of c.args.asked.names)) [] _ _ _ _ _ (options-same _ _ _ _ _ _ options c.run_simplify-simplified.ensures.runs) c.run_simplify-simplified.ensures.later c.run_check.ensures.later (sym c.passes-2.ensures ∙ c.if-not-passes-2.false) c.run_check.ensures.runs)

@@ -12,11 +12,11 @@ pub returns-clause-runs : goal.returns-clause-runs
 returns-clause-runs g c =
     let o = c.generate_file-outcome.result in
     said (generating c.args.scale c.args.output.now) (answer.Generate c.generate_file-outcome.result)
-    (devices g.F.Files.held g.F.Files.read_faults g.F.Files.write_faults c.args.files.now (view_sink g.S.Sink.written g.S.Sink.faults g.S.Sink.wants c.args.out.now))
-    (devices g.F.Files.held g.F.Files.read_faults g.F.Files.write_faults c.generate_file-outcome.new.files (view_sink g.S.Sink.written g.S.Sink.faults g.S.Sink.wants c.say.new.out))
+    (devices g.F.Files g.S.Sink c.args.files.now c.args.out.now)
+    (devices g.F.Files g.S.Sink c.generate_file-outcome.new.files c.say.new.out)
     c.say.result (o, refl, c.generate_file-outcome.ensures.generates) c.say.ensures.answer c.say.ensures.says
     (IfSome_then (g.F.Files.held c.args.files.now) c.generate_file-outcome.ensures.generates
-    (λ disk h. generate-answers c.say.result c.args.scale c.args.output.now disk _ c.generate_file-outcome.result (view_sink g.S.Sink.written g.S.Sink.faults g.S.Sink.wants c.args.out.now) (view_sink g.S.Sink.written g.S.Sink.faults g.S.Sink.wants c.say.new.out) h c.say.ensures.answer))
+    (λ disk h. generate-answers c.say.result c.args.scale c.args.output.now disk _ c.generate_file-outcome.result (view_sink g.S.Sink c.args.out.now) (view_sink g.S.Sink c.say.new.out) h c.say.ensures.answer))
     (generate-usage o) (λ e. absurd (generate-read o e)) (λ e. c.generate_file-outcome.ensures.write_fault (generate-write o e)) tt
 
 pub returns-clause-later : goal.returns-clause-later

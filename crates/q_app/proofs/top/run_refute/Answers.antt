@@ -13,9 +13,9 @@ pub returns : goal.returns
 returns g c =
     let o = c.refute_files-outcome.result in
     said (refuting (files_of c.args.names)) (answer.Refute c.refute_files-outcome.result)
-    (devices g.F.Files.held g.F.Files.read_faults g.F.Files.write_faults c.args.files.now (view_sink g.S.Sink.written g.S.Sink.faults g.S.Sink.wants c.args.out.now))
-    (devices g.F.Files.held g.F.Files.read_faults g.F.Files.write_faults c.refute_files-outcome.new.files (view_sink g.S.Sink.written g.S.Sink.faults g.S.Sink.wants c.say.new.out))
+    (devices g.F.Files g.S.Sink c.args.files.now c.args.out.now)
+    (devices g.F.Files g.S.Sink c.refute_files-outcome.new.files c.say.new.out)
     c.say.result (o, refl, c.refute_files-outcome.ensures.refutes) c.say.ensures.answer c.say.ensures.says
     (IfSome_then (g.F.Files.held c.args.files.now) c.refute_files-outcome.ensures.refutes
-    (λ disk h. refute-answers c.say.result (files_of c.args.names) disk _ c.refute_files-outcome.result (view_sink g.S.Sink.written g.S.Sink.faults g.S.Sink.wants c.args.out.now) (view_sink g.S.Sink.written g.S.Sink.faults g.S.Sink.wants c.say.new.out) h c.say.ensures.answer))
+    (λ disk h. refute-answers c.say.result (files_of c.args.names) disk _ c.refute_files-outcome.result (view_sink g.S.Sink c.args.out.now) (view_sink g.S.Sink c.say.new.out) h c.say.ensures.answer))
     (refute-usage o) c.refute_files-outcome.ensures.read_fault c.refute_files-outcome.ensures.write_fault tt

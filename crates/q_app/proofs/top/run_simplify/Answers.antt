@@ -12,12 +12,12 @@ use Rattle.q_app.proofs.top.run_simplify.Goals as goal
 pub returns-clause-runs : goal.returns-clause-runs
 returns-clause-runs g c =
     let o = c.simplify_file-outcome.result in
-    said (simplifying (three_of c.args.names) c.args.options.now) (answer.Simplify c.simplify_file-outcome.result)
-    (devices g.F.Files.held g.F.Files.read_faults g.F.Files.write_faults c.args.files.now (view_sink g.S.Sink.written g.S.Sink.faults g.S.Sink.wants c.args.out.now))
-    (devices g.F.Files.held g.F.Files.read_faults g.F.Files.write_faults c.simplify_file-outcome.new.files (view_sink g.S.Sink.written g.S.Sink.faults g.S.Sink.wants c.say.new.out))
+    said (simplifying (three_of c.args.asked.names) c.args.asked.options) (answer.Simplify c.simplify_file-outcome.result)
+    (devices g.F.Files g.S.Sink c.args.files.now c.args.out.now)
+    (devices g.F.Files g.S.Sink c.simplify_file-outcome.new.files c.say.new.out)
     c.say.result (o, refl, c.simplify_file-outcome.ensures.ends) c.say.ensures.answer c.say.ensures.says
     (IfSome_then (g.F.Files.held c.args.files.now) c.simplify_file-outcome.ensures.ends
-    (λ disk h. simplify-answers c.say.result c.args.options.now c.args.names.input.now c.args.names.output.now c.args.names.log.now disk _ c.simplify_file-outcome.result (view_sink g.S.Sink.written g.S.Sink.faults g.S.Sink.wants c.args.out.now) (view_sink g.S.Sink.written g.S.Sink.faults g.S.Sink.wants c.say.new.out) h c.say.ensures.answer))
+    (λ disk h. simplify-answers c.say.result c.args.asked.options c.args.asked.names.input.now c.args.asked.names.output.now c.args.asked.names.log.now disk _ c.simplify_file-outcome.result (view_sink g.S.Sink c.args.out.now) (view_sink g.S.Sink c.say.new.out) h c.say.ensures.answer))
     (simplify-usage o) (λ e. c.simplify_file-outcome.ensures.read_fault (simplify-read o e)) (λ e. c.simplify_file-outcome.ensures.write_fault (simplify-write o e)) tt
 
 pub returns-clause-later : goal.returns-clause-later

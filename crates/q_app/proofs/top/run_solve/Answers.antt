@@ -12,10 +12,10 @@ use Rattle.q_app.proofs.top.run_solve.Goals as goal
 pub returns : goal.returns
 returns g c =
     let o = c.solve_files-outcome.result in
-    said (solving (files_of c.args.names) c.args.budget) (answer.Solve c.solve_files-outcome.result)
-    (devices g.F.Files.held g.F.Files.read_faults g.F.Files.write_faults c.args.files.now (view_sink g.S.Sink.written g.S.Sink.faults g.S.Sink.wants c.args.out.now))
-    (devices g.F.Files.held g.F.Files.read_faults g.F.Files.write_faults c.solve_files-outcome.new.files (view_sink g.S.Sink.written g.S.Sink.faults g.S.Sink.wants c.say.new.out))
+    said (solving (files_of c.args.asked.names) c.args.asked.budget) (answer.Solve c.solve_files-outcome.result)
+    (devices g.F.Files g.S.Sink c.args.files.now c.args.out.now)
+    (devices g.F.Files g.S.Sink c.solve_files-outcome.new.files c.say.new.out)
     c.say.result (o, refl, c.solve_files-outcome.ensures.solves) c.say.ensures.answer c.say.ensures.says
     (IfSome_then (g.F.Files.held c.args.files.now) c.solve_files-outcome.ensures.solves
-    (λ disk h. solve-answers c.say.result (files_of c.args.names) c.args.budget disk _ c.solve_files-outcome.result (view_sink g.S.Sink.written g.S.Sink.faults g.S.Sink.wants c.args.out.now) (view_sink g.S.Sink.written g.S.Sink.faults g.S.Sink.wants c.say.new.out) h c.say.ensures.answer))
+    (λ disk h. solve-answers c.say.result (files_of c.args.asked.names) c.args.asked.budget disk _ c.solve_files-outcome.result (view_sink g.S.Sink c.args.out.now) (view_sink g.S.Sink c.say.new.out) h c.say.ensures.answer))
     (solve-usage o) c.solve_files-outcome.ensures.read_fault c.solve_files-outcome.ensures.write_fault tt

@@ -13,9 +13,9 @@ pub returns : goal.returns
 returns g c =
     let o = c.validate_files-outcome.result in
     said (validating (files_of c.args.names) c.args.budget) (answer.Validate c.validate_files-outcome.result)
-    (devices g.F.Files.held g.F.Files.read_faults g.F.Files.write_faults c.args.files.now (view_sink g.S.Sink.written g.S.Sink.faults g.S.Sink.wants c.args.out.now))
-    (devices g.F.Files.held g.F.Files.read_faults g.F.Files.write_faults c.validate_files-outcome.new.files (view_sink g.S.Sink.written g.S.Sink.faults g.S.Sink.wants c.say.new.out))
+    (devices g.F.Files g.S.Sink c.args.files.now c.args.out.now)
+    (devices g.F.Files g.S.Sink c.validate_files-outcome.new.files c.say.new.out)
     c.say.result (o, refl, c.validate_files-outcome.ensures.validates) c.say.ensures.answer c.say.ensures.says
     (IfSome_then (g.F.Files.held c.args.files.now) c.validate_files-outcome.ensures.validates
-    (λ disk h. validate-answers c.say.result (files_of c.args.names) c.args.budget disk _ c.validate_files-outcome.result (view_sink g.S.Sink.written g.S.Sink.faults g.S.Sink.wants c.args.out.now) (view_sink g.S.Sink.written g.S.Sink.faults g.S.Sink.wants c.say.new.out) h c.say.ensures.answer))
+    (λ disk h. validate-answers c.say.result (files_of c.args.names) c.args.budget disk _ c.validate_files-outcome.result (view_sink g.S.Sink c.args.out.now) (view_sink g.S.Sink c.say.new.out) h c.say.ensures.answer))
     (validate-usage o) c.validate_files-outcome.ensures.read_fault c.validate_files-outcome.ensures.write_fault c.validate_files-outcome.ensures.held

@@ -1,6 +1,7 @@
 use Rattle.std.proofs.Common.{◌∙◌, sym, ap, arith, drop}
 use Rattle.q_app.specs.Commands.{by_verb, request}
-use Rattle.q_app.proofs.CommandWords.{texts, texts-length, one_word, no_words, rest_of, request-is}
+use Rattle.q_app.specs.Operands.{texts}
+use Rattle.q_app.proofs.CommandWords.{texts-length, one_word, no_words, rest_of, request-is}
 use Rattle.q_app.proofs.words.parse.Goals as goal
 
 pub returns-then-words-eq0-clause-request : goal.returns-then-words-eq0-clause-request

@@ -1,8 +1,8 @@
 use Rattle.std.proofs.Common.{◌∙◌, sym, ap, arith, drop, List, ℕ, Option, Some}
 use Rattle.q_app.specs.declared.words.Scale.{Scale}
-use Rattle.q_app.specs.Operands.{three_names, just_three}
+use Rattle.q_app.specs.Operands.{three_names, just_three, texts}
 use Rattle.q_app.specs.Words.{demo_by, demo_of}
-use Rattle.q_app.proofs.CommandWords.{texts, texts-length, two_words, few_for_demo, demo-is, rest_of}
+use Rattle.q_app.proofs.CommandWords.{texts-length, two_words, few_for_demo, demo-is, rest_of}
 use Rattle.q_app.proofs.words.parse_demo.Goals as goal
 
 pub returns-then-operands-lt2-clause-request : goal.returns-then-operands-lt2-clause-request

@@ -1,6 +1,7 @@
 use Rattle.std.proofs.Common.{◌∙◌, sym, ap, arith, drop}
 use Rattle.q_app.specs.Words.{generate_of, generate_to}
-use Rattle.q_app.proofs.CommandWords.{texts, texts-length, two_words, all_three, not_three, generate-is, generate-none}
+use Rattle.q_app.specs.Operands.{texts}
+use Rattle.q_app.proofs.CommandWords.{texts-length, two_words, all_three, not_three, generate-is, generate-none}
 use Rattle.q_app.proofs.words.parse_generate.Goals as goal
 
 pub returns-then-operands-ne3-clause-request : goal.returns-then-operands-ne3-clause-request

@@ -21,32 +21,32 @@ returns-in-Ok-eq0-clause-says g c =
     let taken = at_same _ _ _ c.loop-audit.invariant.only_reads.same c.in-Ok-eq0.ensures.taken in
     err_then c.finish.result c.finish.ensures.refused
     (λ w h input held. if_some_2 (g.F.Files.held c.args.files.now) c.loop-audit.invariant.front taken
-    (λ disk f p. log_says c.in-Ok.audit c.read_piece.new.self c.args.keep input c.args.output.now (bytes_at disk c.args.name.now) w (c.in-Ok.ensures.start input held) (tries_end _ _ _ _ _ _ c.in-Ok-eq0.field-0-test f p) h))
+    (λ disk f p. log_says c.in-Ok.audit c.read_piece.new.self c.args.claim.keep input c.args.claim.output.now (bytes_at disk c.args.name.now) w (c.in-Ok.ensures.start input held) (tries_end _ _ _ _ _ _ c.in-Ok-eq0.field-0-test f p) h))
 
 pub returns-in-Ok-eq0-clause-run : goal.returns-in-Ok-eq0-clause-run
 returns-in-Ok-eq0-clause-run g c =
     let all = advances_through _ _ _ c.loop-audit.invariant.advanced c.in-Ok-eq0.ensures.advances in
     ok_then c.finish.result c.finish.ensures.passed
-    (λ p h input held. leads_back c.in-Ok.audit c.read_piece.new.self c.args.keep input c.args.output.now p (c.in-Ok.ensures.start input held) all h)
+    (λ p h input held. leads_back c.in-Ok.audit c.read_piece.new.self c.args.claim.keep input c.args.claim.output.now p (c.in-Ok.ensures.start input held) all h)
 
 pub returns-in-Ok-eq0-clause-held : goal.returns-in-Ok-eq0-clause-held
 returns-in-Ok-eq0-clause-held g c =
     let all = advances_through _ _ _ c.loop-audit.invariant.advanced c.in-Ok-eq0.ensures.advances in
     ok_then c.finish.result c.finish.ensures.passed
-    (λ p h input held. log_origin c.in-Ok.audit c.read_piece.new.self c.args.keep input c.args.output.now p (c.in-Ok.ensures.start input held) all h)
+    (λ p h input held. log_origin c.in-Ok.audit c.read_piece.new.self c.args.claim.keep input c.args.claim.output.now p (c.in-Ok.ensures.start input held) all h)
 
 pub returns-in-Ok-eq0-clause-kept : goal.returns-in-Ok-eq0-clause-kept
 returns-in-Ok-eq0-clause-kept g c =
     let all = advances_through _ _ _ c.loop-audit.invariant.advanced c.in-Ok-eq0.ensures.advances in
     ok_then c.finish.result c.finish.ensures.passed
-    (λ p h input held. kept_run c.in-Ok.audit c.read_piece.new.self c.args.keep input c.args.output.now p (c.in-Ok.ensures.start input held) all h)
+    (λ p h input held. kept_run c.in-Ok.audit c.read_piece.new.self c.args.claim.keep input c.args.claim.output.now p (c.in-Ok.ensures.start input held) all h)
 
 pub returns-in-Ok-eq0-clause-taken : goal.returns-in-Ok-eq0-clause-taken
 returns-in-Ok-eq0-clause-taken g c =
     let taken = at_same _ _ _ c.loop-audit.invariant.only_reads.same c.in-Ok-eq0.ensures.taken in
     ok_then c.finish.result c.finish.ensures.passed
     (λ p h input held. if_some_2 (g.F.Files.held c.args.files.now) c.loop-audit.invariant.front taken
-    (λ disk f q. log_is_taken c.in-Ok.audit c.read_piece.new.self c.args.keep input c.args.output.now (bytes_at disk c.args.name.now) p (c.in-Ok.ensures.start input held) (tries_end _ _ _ _ _ _ c.in-Ok-eq0.field-0-test f q) h))
+    (λ disk f q. log_is_taken c.in-Ok.audit c.read_piece.new.self c.args.claim.keep input c.args.claim.output.now (bytes_at disk c.args.name.now) p (c.in-Ok.ensures.start input held) (tries_end _ _ _ _ _ _ c.in-Ok-eq0.field-0-test f q) h))
 
 pub loop-audit-preserved : goal.loop-audit-preserved
 loop-audit-preserved g c =
@@ -63,7 +63,7 @@ pub returns-in-Err-clause-says : goal.returns-in-Err-clause-says
 returns-in-Err-clause-says g c = λ input held.
     let refused = at_same _ _ _ c.loop-audit.invariant.only_reads.same c.in-Err.ensures.refused in
     if_some_2 (g.F.Files.held c.args.files.now) c.loop-audit.invariant.front refused
-    (λ disk f r. log_refuses c.in-Ok.audit c.args.keep input c.args.output.now (bytes_at disk c.args.name.now) c.in-Err.outcome (c.in-Ok.ensures.start input held) (refuses_whole _ _ _ _ _ f r))
+    (λ disk f r. log_refuses c.in-Ok.audit c.args.claim.keep input c.args.claim.output.now (bytes_at disk c.args.name.now) c.in-Err.outcome (c.in-Ok.ensures.start input held) (refuses_whole _ _ _ _ _ f r))
 
 pub returns-in-Ok-eq0-clause-only_reads : goal.returns-in-Ok-eq0-clause-only_reads
 returns-in-Ok-eq0-clause-only_reads g c = reads_still _ _ _ _ _ _ c.loop-audit.invariant.only_reads c.read_piece.ensures.only_reads

@@ -1,7 +1,8 @@
 use Rattle.std.proofs.Common.{◌∙◌, sym, ap, drop, suc, Some, Option, List, ℕ}
 use Rattle.q_app.specs.declared.settings.Settings.{Settings}
 use Rattle.q_app.specs.Words.{with_words, with_setting, setting_of}
-use Rattle.q_app.proofs.CommandWords.{texts, next-word, none-stays}
+use Rattle.q_app.specs.Operands.{texts}
+use Rattle.q_app.proofs.CommandWords.{next-word, none-stays}
 use Rattle.q_app.proofs.settings.Settings.of.Goals as goal
 
 pub returns-in-None : goal.returns-in-None
