@@ -144,7 +144,7 @@ module _ (Q : Prefix) (X : Matrix) (u : ℕ) (V : List ℕ) (t : ℕ) (x : Expan
 
   -- u may leave all clauses, and then not u
   pub apart-positive : (Z : Matrix) → ((E : Clause) → IsIn E Z → Kind E) → (C D : Clause) → IsIn C Z → IsIn (positive u) C → Reached Q Z C (positive u) D → IsIn (minus u) D → ⊥
-  apart-positive Z z C D m i r n = own (minus u) D (λ k j. (reached_u Z C (kinds-classes Z z) (kind-positive C (z C m) i) D r k j).2) n
+  apart-positive Z z C D m i r n = own (minus u) D (λ k j. (reached_u Q u V t Z C (kinds-classes Z z) (kind-positive C (z C m) i) D r k j).2) n
 
   shorter-classes : (Z : Matrix) → Classes Q u V t Z → Classes Q u V t (each_without (positive u) Z)
   shorter-classes [] h E m = absurd m
@@ -166,4 +166,4 @@ module _ (Q : Prefix) (X : Matrix) (u : ℕ) (V : List ℕ) (t : ℕ) (x : Expan
       let j : IsIn (minus u) s.0 = without-IsIn (positive u) s.0 (minus u) (subst (λ (y : Clause). IsIn (minus u) y) s.2 i) in
       let side = kind-minus s.0 (z s.0 s.1) j in
       let c : ClassM Q u V t C = λ k a. side k (without-IsIn (positive u) s.0 k (subst (λ (y : Clause). IsIn k y) s.2 a)) in
-      own (positive u) D (λ k a. (reached_m (each_without (positive u) Z) C (shorter-classes Z (kinds-classes Z z)) c D r k a).2) n
+      own (positive u) D (λ k a. (reached_m Q u V t (each_without (positive u) Z) C (shorter-classes Z (kinds-classes Z z)) c D r k a).2) n
