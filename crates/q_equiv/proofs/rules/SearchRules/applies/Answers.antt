@@ -13,7 +13,7 @@ returns-clause-yes c =
     let k = c.args.kernel.now in
     let t : Target = merge c.keep.result c.gone.result in
     let e : t ≡ target_of c.args.target.now = merge-target c.args.target.now c.keep.result c.gone.result c.keep.ensures c.gone.ensures in
-    ok-iff _ (Applies B k (target_of c.args.target.now)) c.fits.result (
+    ok-iff {B = Applies B k (target_of c.args.target.now)} c.fits.result (
       (λ m. subst (λ (T : Target). Applies B k T) e (merge-applies B k c.keep.result c.gone.result c.requires.ready.limits m)),
       (λ a. (subst (λ (T : Target). Applies B k T) (sym e) a).fits),
     ) c.fits.ensures
