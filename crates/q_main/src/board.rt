@@ -283,6 +283,24 @@ impl Board {
         }
     }
 
+    /// Says which file could not be read on, and from which byte on. A command that meets such a fault puts `read fault` alone.
+    pub(crate) fn say_read_fault(&self, name: &str, place: u64) {
+        self.wipe();
+        let _ = eprintln!(self.rt; "celdrinn: reading '{name}' failed behind byte {place}");
+    }
+
+    /// Says which file could not be written on.
+    pub(crate) fn say_write_fault(&self, name: &str) {
+        self.wipe();
+        let _ = eprintln!(self.rt; "celdrinn: writing '{name}' failed; the disk may be full");
+    }
+
+    /// Says that a line could not be printed.
+    pub(crate) fn say_print_fault(&self) {
+        self.wipe();
+        let _ = eprintln!(self.rt; "celdrinn: writing to standard output failed");
+    }
+
     // Says how large a formula was.
     fn say_sizes(&self, when: &str, sizes: Option<Sizes>) {
         if let Some(sizes) = sizes {

@@ -1,10 +1,10 @@
-//! Files whose bytes are counted on a board.
+//! Files whose bytes are counted on a board, and whose faults it names.
 ghost use Rattle.std.specs.Prelude.{◌≡◌};
 
 use crate::board::Board;
 use q_io::{DeviceError, Files};
 
-/// These files, with what was read and written noted.
+/// These files, with what was read and written noted, and what failed said.
 #[derive(Drop)]
 pub(crate) struct Watched<'a, F: Files + Drop> {
     files: F,
@@ -28,8 +28,11 @@ impl<'a, F: Files + Drop> Files for Watched<'a, F> {
 
     fn read(&mut self, name: &str, at: u64, buf: &mut [u8]) -> Result<usize, DeviceError> {
         let result = self.files.read(name, at, buf);
-        if let Ok(count) = result {
-            self.board.note_read(name, at.saturating_add(count as u64));
+        match result {
+            Ok(count) => self.board.note_read(name, at.saturating_add(count as u64)),
+            // a file that can't be opened is named before the program starts
+            Err(DeviceError::Failed) if at > 0 => self.board.say_read_fault(name, at),
+            Err(_) => {}
         }
         result
     }
@@ -41,7 +44,11 @@ impl<'a, F: Files + Drop> Files for Watched<'a, F> {
 
     fn append(&mut self, name: &str, bytes: &[u8]) -> Result<(), DeviceError> {
         let result = self.files.append(name, bytes);
-        self.board.note_written(bytes);
+        match result {
+            Ok(()) => self.board.note_written(bytes),
+            Err(DeviceError::Failed) => self.board.say_write_fault(name),
+            Err(DeviceError::NoMemory) => {}
+        }
         result
     }
 }

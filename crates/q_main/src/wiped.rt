@@ -87,10 +87,10 @@ impl<'a> Print for Wiped<'a> {
     fn write_some(&self, bytes: &[u8]) -> io::Result<usize> {
         self.board.wipe();
         let result = self.rt.write_some(bytes);
-        if let Ok(count) = result {
-            if count <= bytes.len() {
-                self.remember(&bytes[..count]);
-            }
+        match result {
+            Ok(count) if count <= bytes.len() => self.remember(&bytes[..count]),
+            Ok(_) => {}
+            Err(_) => self.board.say_print_fault(),
         }
         result
     }
