@@ -15,6 +15,10 @@ three i o l = record { input = i; output = o; log = l }
 abbrev pub three_of : Names → ThreeNames
 three_of n = three n.input.now n.output.now n.log.now
 
+-- the names of IN and OUT
+abbrev pub ends_of : ThreeNames → List (List ℕ)
+ends_of n = n.input ∷ n.output ∷ []
+
 -- the names of the files that are read
 abbrev pub names_read : ThreeNames → List (List ℕ)
 names_read n = n.input ∷ n.output ∷ n.log ∷ []

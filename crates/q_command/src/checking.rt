@@ -2,7 +2,7 @@
 ghost use Rattle.std.specs.Prelude.{◌≡◌, ◌<◌, length, IfOk, IfErr, IfSome, IsErrOf};
 ghost use Rattle.q_logic.specs.Prelude.{PrenexFormula, IsProper, IsFormula};
 ghost use Rattle.q_io.specs.Files.{RoseAmong, RoseFor, bytes_at};
-ghost use Rattle.q_command.specs.Names.{OfThree, three_of, names_read};
+ghost use Rattle.q_command.specs.Names.{OfThree, ends_of, three_of, names_read};
 ghost use Rattle.q_command.specs.Reading.{OnlyReadsFiles};
 ghost use Rattle.q_command.specs.Audits.{IsWithEnds, LogIsTaken};
 ghost use Rattle.q_command.specs.LazyCheckers.{IsHeld};
@@ -126,13 +126,13 @@ pub fn read_ends<F: Files>(
     requires room { 0 < length buffer.old }
     ensures formulas { IfOk result
         (λ e. OfThree (F.held files.old) (three_of names.entry) (λ i o l. AreEnds i o e)) }
-    ensures proper { IfOk result (λ e. IsFormula e.from) }
+    ensures proper { IfOk result (λ e. IsProper e.from × IsProper e.to) }
     ensures checks { IfErr result
         (λ o. OfThree (F.held files.old) (three_of names.entry) (Checks o)) }
     ensures early { IfErr result IsEarly }
     ensures unverified { IfErr result IsUnverified }
     ensures fault { IsErrOf result Outcome.ReadFault
-        → RoseAmong F.read_faults (names_read (three_of names.entry)) files.old files.new }
+        → RoseAmong F.read_faults (ends_of (three_of names.entry)) files.old files.new }
     ensures only_reads { OnlyReadsFiles F.Files files.old files.new }
 {
     let from = match read_operand(alloc, files, Role::In, names.input, buffer) {

@@ -14,7 +14,7 @@ pub returns-in-Ok-check_log-clause-truth : goal.returns-in-Ok-check_log-clause-t
 returns-in-Ok-check_log-clause-truth g c =
     let held = held-first c.in-Ok.ends.from c.in-Ok-new.origin c.in-Ok-new.ensures in
     truth_taken _ (g.F.Files.held c.args.files.now) (λ disk. bytes_at disk c.args.names.input.now) (λ disk. bytes_at disk c.args.names.output.now) (λ disk. bytes_at disk c.args.names.log.now)
-    c.in-Ok.ends c.in-Ok-check_log.passed c.in-Ok.ensures.proper c.in-Ok.ensures.formulas (at_same _ _ _ c.in-Ok.ensures.only_reads.same (c.in-Ok-check_log.ensures.taken c.in-Ok.ends.from held))
+    c.in-Ok.ends c.in-Ok-check_log.passed c.in-Ok.ensures.proper.0.formula c.in-Ok.ensures.formulas (at_same _ _ _ c.in-Ok.ensures.only_reads.same (c.in-Ok-check_log.ensures.taken c.in-Ok.ends.from held))
 
 pub returns-clause-checks : goal.returns-clause-checks
 returns-clause-checks g c =
