@@ -1,5 +1,5 @@
 -- Marking what outputs are made of, and gathering what is marked.
-use Rattle.std.proofs.Common.{◌≡◌, ◌⊎◌, ℕ, zero, suc, ◌+◌, ◌-◌, ◌<◌, ◌≤◌, Bool, true, false, List, [], ◌∷◌, ◌++◌, length, get_or, set, refl, sym, ap, ◌∙◌, subst, inl, inr, arith, slice_get, Some, map, Result, Ok, Err, IfOk}
+use Rattle.std.proofs.Common.{◌≡◌, ◌⊎◌, ℕ, zero, suc, ◌+◌, ◌-◌, ◌<◌, ◌≤◌, Bool, true, false, List, [], ◌∷◌, ◌++◌, length, get_or, set, refl, sym, ap, ◌∙◌, subst, inl, inr, arith, slice_get, Some, map}
 use Rattle.std.proofs.lemmas.List.{length-set, get_or-set_same, get_or-set_other, get_or_past, length_push, get_or_append_left, get_or_push, length-map, get_or-map, get_or_default, get_or_read}
 use Rattle.std.proofs.lemmas.Bool.{cases_lt, both_ways, cases_eq}
 use Rattle.std.proofs.lemmas.Option.{get_or_from_slice_get}
@@ -273,10 +273,6 @@ gate-parts c n kept k g p e a lt is at =
     let r : get_or c.gates (get_or kept k 0) no_gate ≡ gate_of p = subst (λ (x : ℕ). get_or c.gates x no_gate ≡ gate_of p) is q in
     let pa = a.parts k lt in
     (subst (λ (x : Gate). IsPart c x.left.node) r (left (get_or kept k 0) pa), subst (λ (x : Gate). IsPart c x.right.node) r (right (get_or kept k 0) pa), r)
-
-pub when-ok : {X E : Type 0} {P Q : X → Type 0} (r : Result X E) → IfOk r P → ((x : X) → P x → Q x) → IfOk r Q
-when-ok (Ok x) h f = f x h
-when-ok (Err e) h f = tt
 
 -- what was read at a place
 pub bit-read : (ms : List Bool) (n g : ℕ) (b d : Bool) → n ≡ length ms → g < n → b ≡ get_or ms g b → b ≡ d → get_or ms g false ≡ d

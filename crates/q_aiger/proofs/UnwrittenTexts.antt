@@ -1,5 +1,5 @@
 -- Texts that grow, and what is left to write of a list behind a place of it.
-use Rattle.std.proofs.Common.{◌≡◌, ℕ, zero, suc, ◌+◌, ◌-◌, ◌*◌, ◌<◌, ◌≤◌, List, [], ◌∷◌, ◌++◌, map, length, drop, get_or, Result, Ok, Err, OnErr, refl, ap, sym, ◌∙◌, add-one, append_assoc, append-nil, not-suc-le-zero, le_of_suc-le-suc, arith}
+use Rattle.std.proofs.Common.{◌≡◌, ℕ, zero, suc, ◌+◌, ◌-◌, ◌*◌, ◌<◌, List, [], ◌∷◌, ◌++◌, map, length, drop, get_or, Result, Ok, Err, OnErr, refl, ap, sym, ◌∙◌, add-one, append_assoc, append-nil, not-suc-le-zero, le_of_suc-le-suc, arith}
 use Rattle.q_logic.specs.Prelude.{NamedOutput, Gate}
 use Rattle.q_aig.specs.Prelude.{output_of}
 use Rattle.q_aig.specs.declared.output.Output.{Output}
@@ -47,12 +47,6 @@ symbols-next letter j vs i h = rw (add-one i) (at vs i h)
     at [] i h = absurd (not-suc-le-zero h)
     at (v ∷ vs) zero h = refl
     at (v ∷ vs) (suc i) h = at vs i (le_of_suc-le-suc h)
-
-pub drop-all : {X : Type 0} (xs : List X) (i : ℕ) → length xs ≤ i → drop i xs ≡ []
-drop-all [] zero h = refl
-drop-all [] (suc i) h = refl
-drop-all (x ∷ xs) zero h = absurd (omega arith)
-drop-all (x ∷ xs) (suc i) h = drop-all xs i (omega arith)
 
 pub outputs-step : (now next start : List ℕ) (n : ℕ) (kept : List ℕ) (os : List NamedOutput) (k r : ℕ) (o : NamedOutput) → next ≡ now ++ number_line r → r ≡ literal_of n kept o.operand → o ≡ get_or os k no_output → k < length os → now ++ output_lines n kept (drop k os) ≡ start → next ++ output_lines n kept (drop (k + 1) os) ≡ start
 outputs-step now next start n kept os k r o e f g lt h =

@@ -1,7 +1,7 @@
 -- The places of a set whose literals are asked about.
-use Rattle.std.proofs.Common.{◌≡◌, ◌⊎◌, ◌+◌, ◌<◌, ◌≤◌, ℕ, zero, suc, List, [], ◌∷◌, ◌++◌, slice_get, Some, length, inl, inr, sym, ap, subst, arith, length-append}
+use Rattle.std.proofs.Common.{◌≡◌, ◌⊎◌, ◌+◌, ◌≤◌, ℕ, suc, List, [], ◌∷◌, ◌++◌, slice_get, Some, length, inl, inr, sym, subst, arith, length-append}
 use Rattle.q_logic.specs.Prelude.{Literal, Clause, Matrix, Prefix, IsIn, IsTautology}
-use Rattle.q_logic.proofs.Common.{IsIn-append, IsIn-append_left, IsIn-append_right}
+use Rattle.q_logic.proofs.Common.{IsIn-append, IsIn-append_left, IsIn-append_right, IsIn-slice_get, slice_get-append}
 use Rattle.q_logic.proofs.Common.{before_or_at}
 use Rattle.q_blocked.specs.Walks.{Gives}
 use Rattle.q_blocked.specs.Growths.{IsGiven, IsAsked, HasPlaces, IsPassive}
@@ -9,16 +9,6 @@ use Rattle.q_blocked.proofs.HiddenClosure.{given-closed}
 
 -- Places of a list, and of a longer one.
 module _ {X : Type 0} where
-  place-of : (xs : List X) (k : X) → IsIn k xs → (i : ℕ) × (i < length xs) × (slice_get xs i ≡ Some k)
-  place-of [] k m = absurd m
-  place-of (x ∷ xs) k (inl e) = (0, omega arith, ap Some (sym e))
-  place-of (x ∷ xs) k (inr m) = let r = place-of xs k m in (suc r.0, (let h = r.1 in omega arith), r.2)
-
-  place-before : (xs ys : List X) (i : ℕ) (k : X) → slice_get xs i ≡ Some k → slice_get (xs ++ ys) i ≡ Some k
-  place-before [] ys i k e = absurd (cc)
-  place-before (x ∷ xs) ys zero k e = e
-  place-before (x ∷ xs) ys (suc i) k e = place-before xs ys i k e
-
   place-behind : (xs ys : List X) (i : ℕ) (k : X) → slice_get ys i ≡ Some k → (j : ℕ) × (j ≡ length xs + i) × (slice_get (xs ++ ys) j ≡ Some k)
   place-behind [] ys i k e = (i, omega arith, e)
   place-behind (x ∷ xs) ys i k e = let r = place-behind xs ys i k e in (suc r.0, (let h = r.1 in omega arith), r.2)
@@ -46,12 +36,12 @@ places-one old from to now next l e h i = (
 pub asked-begun : (X : Matrix) (C : Clause) (places : List ℕ) → HasPlaces [] 0 (length C) places → IsAsked X C places
 asked-begun X C places h = record {
   inside = λ i m. elim ((h i).0 m) [ inl none ↦ absurd none | inr r ↦ r.1 ];
-  each = λ l m. let r = place-of C l m in inl (r.0, (h r.0).1 (inr ((omega arith), r.1)), r.2);
+  each = λ l m. let r = IsIn-slice_get C l m in inl (r.0, (h r.0).1 (inr ((omega arith), r.1)), r.2);
 }
 
 -- What was asked about or given still is where the set grows.
 asked-more : (X : Matrix) (S K : Clause) (old new : List ℕ) (l : Literal) → ((i : ℕ) → IsIn i old → IsIn i new) → ((i : ℕ) × IsIn i old × (slice_get S i ≡ Some l)) ⊎ IsGiven X S l → ((i : ℕ) × IsIn i new × (slice_get (S ++ K) i ≡ Some l)) ⊎ IsGiven X (S ++ K) l
-asked-more X S K old new l w (inl (i, m, e)) = inl (i, w i m, place-before S K i l e)
+asked-more X S K old new l w (inl (i, m, e)) = inl (i, w i m, slice_get-append S K i l e)
 asked-more X S K old new l w (inr g) = inr (record { giver = g.giver; there = g.there; negated = g.negated; others_in = λ j m d. IsIn-append_left j S K (g.others_in j m d) })
 
 -- a literal came hidden
@@ -73,7 +63,7 @@ asked-covered X S K old new h a = record {
   inside = λ i m. elim ((h i).0 m) [ inl o ↦ (let z = a.inside i o in let l = length-append S K in omega arith) | inr r ↦ r.1 ];
   each = λ l m. elim (IsIn-append l S K m) [
     | inl i ↦ asked-more X S K old new l (λ j n. (h j).1 (inl n)) (a.each l i)
-    | inr i ↦ let r = place-of K l i in let s = place-behind S K r.0 l r.2 in inl (s.0, (h s.0).1 (inr (let e = s.1 in let z = r.1 in let n = length-append S K in (omega arith, omega arith))), s.2)
+    | inr i ↦ let r = IsIn-slice_get K l i in let s = place-behind S K r.0 l r.2 in inl (s.0, (h s.0).1 (inr (let e = s.1 in let z = r.1 in let n = length-append S K in (omega arith, omega arith))), s.2)
   ];
 }
 

@@ -1,15 +1,8 @@
 -- The clause of the literals before a place.
 use Rattle.std.proofs.Common.{◌≡◌, ◌≤◌, ◌<◌, ℕ, zero, suc, List, [], ◌∷◌, slice_get, Some, take, length, inl, inr, arith}
 use Rattle.q_logic.specs.Prelude.{Literal, Prefix, IsIn, IsSubset, Within}
-use Rattle.q_logic.proofs.Common.{IsIn-clause_of, clause_of-IsIn, clause_of-length}
+use Rattle.q_logic.proofs.Common.{IsIn-clause_of, clause_of-IsIn, clause_of-length, IsIn-take}
 use Rattle.q_blocked.specs.Plans.{front}
-
-pub take-in : {X : Type 0} (xs : List X) (n : ℕ) (k : X) → IsIn k (take n xs) → IsIn k xs
-take-in [] zero k m = m
-take-in [] (suc n) k m = m
-take-in (x ∷ xs) zero k m = absurd m
-take-in (x ∷ xs) (suc n) k (inl e) = inl e
-take-in (x ∷ xs) (suc n) k (inr m) = inr (take-in xs n k m)
 
 pub take-less : {X : Type 0} (xs : List X) (m n : ℕ) (k : X) → m ≤ n → IsIn k (take m xs) → IsIn k (take n xs)
 take-less [] zero zero k h i = i
@@ -40,7 +33,7 @@ pub front-larger : (S : List Literal) (m n : ℕ) → m ≤ n → IsSubset (fron
 front-larger S m n h k i = in-front S n k (take-less S m n k h (front-in S m k i))
 
 pub front-within : (P : Prefix) (S : List Literal) (n : ℕ) → Within P S → Within P (front S n)
-front-within P S n w k m = w k (take-in S n k (front-in S n k m))
+front-within P S n w k m = w k (IsIn-take S n k (front-in S n k m))
 
 pub place-front : {X : Type 0} (xs : List X) (j n : ℕ) (k : X) → slice_get xs j ≡ Some k → j < n → IsIn k (take n xs)
 place-front [] j n k e h = absurd (cc)

@@ -3,11 +3,11 @@ use Rattle.std.proofs.Common.{◌≡◌, ◌≢◌, ◌≤◌, ◌+◌, ◌*◌,
 use Rattle.std.proofs.lemmas.Option.{same_Some}
 use Rattle.std.proofs.lemmas.Bool.{cases_eq}
 use Rattle.q_logic.specs.Prelude.{Literal, Clause, Prefix, IsIn, Implied, ExistsPivot, add, delete, one_less, first_of, Slots, slot, set_slot, live, others}
-use Rattle.q_logic.proofs.Common.{live-slot, others-slot, implied-subsumed, implied-more_clauses, IsIn-alike, alike-sym, exists_pivot-fewer, live-gone}
+use Rattle.q_logic.proofs.Common.{live-slot, others-slot, implied-subsumed, implied-more_clauses, IsIn-alike, alike-sym, exists_pivot-fewer, live-gone, slot-set_other, slot-set_none}
 use Rattle.q_log.specs.Texts.{step_text}
 use Rattle.q_log.proofs.WritableRuns.{first-of}
 use Rattle.q_kernel.specs.Prelude.{Seen, slots, formula_in, IsSound, MayAdd, MayDelete, IsAdded, IsDeleted}
-use Rattle.q_kernel.proofs.SlotLists.{alike-others, slot-set_other, live-same}
+use Rattle.q_kernel.proofs.SlotLists.{alike-others, live-same}
 use Rattle.q_kernel.proofs.KernelRuns.{led-through}
 use Rattle.q_kernel.proofs.TextCosts.{AreSmall, cost-add, within-small}
 use Rattle.q_rule.proofs.RuleSteps.{clause-in, clause-within, delete-cost, implied-cost, enough}
@@ -154,7 +154,7 @@ module _ (k m : Seen) (c e : ℕ) (T : Clause) (on : Option Literal) (s : IsSoun
       total t s b left last cost e f g = omega arith
 
       gone-slot : (N : Slots) (d : ℕ) → slot (set_slot d None N) d ≡ None
-      gone-slot N d = Rattle.q_rule.proofs.RuleResults.slot-none d N
+      gone-slot N d = slot-set_none d N
 
       rest : (j : ℕ) → j ≢ e → slot (set_slot c None (slots m)) j ≡ slot (set_slot c None (slots k)) j
       rest j n1 = elim (cases_eq j c) [

@@ -1,6 +1,7 @@
 -- A covered clause goes, stage by stage.
-use Rattle.std.proofs.Common.{◌≡◌, ◌≤◌, ◌<◌, ◌+◌, ◌*◌, ◌^◌, ℕ, zero, suc, List, [], ◌∷◌, drop, length, get_or, arith, refl, sym, ap, ◌∙◌, subst, Some, None, Option, add-one}
+use Rattle.std.proofs.Common.{◌≡◌, ◌≤◌, ◌<◌, ◌+◌, ◌*◌, ◌^◌, ℕ, suc, List, ◌∷◌, drop, length, get_or, arith, refl, sym, ap, ◌∙◌, subst, Some, None, Option, add-one}
 use Rattle.std.proofs.Math.Seq.{drop-cons}
+use Rattle.std.proofs.lemmas.List.{drop_all}
 use Rattle.q_logic.specs.Prelude.{Literal, Clause, Matrix, Prefix, standard, IsInLimits, greatest, size_of, Within, literals_in, slot, live, others, formula_of}
 use Rattle.q_logic.specs.Targets as theory
 use Rattle.q_logic.proofs.Common.{clause_of-ordered, pairs-ordered, bounded-length, SameClauses, alike-refl, live-gone}
@@ -120,14 +121,8 @@ module _ (old now : Seen) (c id : ℕ) (p : Plan) (i : ℕ) (s : Stage) (more : 
 
 -- The last one goes.
 module _ (old now : Seen) (c id : ℕ) (p : Plan) (i : ℕ) (past : length p.stages.items ≤ i) (h : IsStaged old now c id p i) where
-  none-left : {X : Type 0} (xs : List X) (n : ℕ) → length xs ≤ n → drop n xs ≡ []
-  none-left [] zero l = refl
-  none-left [] (suc n) l = refl
-  none-left (x ∷ xs) zero l = absurd (omega arith)
-  none-left (x ∷ xs) (suc n) l = none-left xs n (omega arith)
-
   ended : h.from ≡ h.to
-  ended = subst (λ (ss : List Stage). IsWay old.prefix (others c (slots old)) p.lits.items h.from ss h.to) (none-left p.stages.items i past) h.way
+  ended = subst (λ (ss : List Stage). IsWay old.prefix (others c (slots old)) p.lits.items h.from ss h.to) (drop_all i p.stages.items past) h.way
 
   pub may-leave_last : MayLeave now id p.last
   may-leave_last = record {

@@ -4,13 +4,13 @@ use Rattle.std.proofs.lemmas.List.{take-append-le}
 use Rattle.q_logic.specs.Prelude.{Literal, negation, literal_eq, Clause, Matrix, Prefix, IsIn, is_bound, is_existential, Implied, keeps, outer, ExistsPivot, IsSubset, IsTautology, Within}
 use Rattle.q_logic.specs.Blocking.{Clashes, AllClash}
 use Rattle.q_logic.specs.Covering.{Covered, InEach, Covers}
-use Rattle.q_logic.proofs.Common.{literal_eq-itself, IsIn-append, IsIn-append_left, IsIn-outer, IsIn-append_right, implied-longer, implied-subsumed, implied-tautology, implied-hidden_new, taken-all}
+use Rattle.q_logic.proofs.Common.{literal_eq-itself, IsIn-append, IsIn-append_left, IsIn-outer, IsIn-append_right, implied-longer, implied-subsumed, implied-tautology, implied-hidden_new, taken-all, IsIn-take}
 use Rattle.q_logic.proofs.CoverRun.{clash_or_not}
 use Rattle.q_blocked.specs.declared.plan.Stage.{Stage}
 use Rattle.q_blocked.specs.Plans.{front, MayGo, IsWay}
 use Rattle.q_blocked.specs.Growths.{Falls, IsReached, IsCovered}
 use Rattle.q_blocked.specs.Walks.{Gives}
-use Rattle.q_blocked.proofs.ClauseFronts.{take-in, front-in, in-front}
+use Rattle.q_blocked.proofs.ClauseFronts.{front-in, in-front}
 use Rattle.q_blocked.proofs.HiddenLiterals.{hidden-growth}
 
 -- Ways over longer lists, and longer ways.
@@ -104,7 +104,7 @@ module _ (P : Prefix) (X : Matrix) (C S : Clause) (ss : List Stage) (base : ℕ)
     where
       goes : Implied (front S (length S) ∷ X) (front S base)
       goes = r.falls (front S (length S) ∷ X) (λ D m. inr m) (front S base) (λ k m. in-base k m)
-          (implied-subsumed (front S (length S) ∷ X) (front S (length S)) (front S base ++ S) (inl refl) (λ k m. IsIn-append_right k (front S base) S (take-in S (length S) k (front-in S (length S) k m))))
+          (implied-subsumed (front S (length S) ∷ X) (front S (length S)) (front S base ++ S) (inl refl) (λ k m. IsIn-append_right k (front S base) S (IsIn-take S (length S) k (front-in S (length S) k m))))
 
   -- a tautology ends it
   pub covered-tautology : IsTautology S → IsCovered P X C S ss base None
@@ -119,7 +119,7 @@ module _ (P : Prefix) (X : Matrix) (C S : Clause) (ss : List Stage) (base : ℕ)
   -- a pivot of the last stage, where all clauses clash
   pub covered-blocked : (l : Literal) → IsIn l (take base S) → is_existential P l.var ≡ true → AllClash P X l S → IsCovered P X C S ss base (Some l)
   covered-blocked l m e all = record {
-    covers = r.back (Covers.ended S (inr (l, take-in S base l m, e, all)));
+    covers = r.back (Covers.ended S (inr (l, IsIn-take S base l m, e, all)));
     begins = r.begins;
     within = r.within;
     way = r.way;
@@ -160,7 +160,7 @@ module _ (P : Prefix) (X : Matrix) (C S : Clause) (ss : List Stage) (base : ℕ)
     }
       where
         whole : (k : Literal) → IsIn k (front T (length T)) → IsIn k T
-        whole k x = take-in T (length T) k (front-in T (length T) k x)
+        whole k x = IsIn-take T (length T) k (front-in T (length T) k x)
 
         held : (D : Clause) → IsIn D (front T (length T) ∷ X) → IsIn (negation h.on) D → Implied (front T (length T) ∷ X) ((front T base ++ outer P (negation h.on) D) ++ S)
         held D (inl e) n = implied-tautology (front T (length T) ∷ X) ((front T base ++ outer P (negation h.on) D) ++ S) (

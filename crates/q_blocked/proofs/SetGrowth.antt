@@ -4,7 +4,7 @@ use Rattle.std.proofs.lemmas.List.{take-append-le, append_assoc}
 use Rattle.q_logic.specs.Prelude.{Literal, negation, Clause, Matrix, Prefix, IsIn, is_bound, IsSubset, IsTautology, Within, Slots, others}
 use Rattle.q_logic.specs.Covering.{Covered, Grows, Ends, Covers}
 use Rattle.q_logic.proofs.CoverRun.{closed-covers_none, in_or_not}
-use Rattle.q_logic.proofs.Common.{IsIn-append, IsIn-append_left, IsIn-append_right, live-slot, negation-negation, taken-cases, taken-all, same_or_not}
+use Rattle.q_logic.proofs.Common.{IsIn-append, IsIn-append_left, IsIn-append_right, live-slot, negation-negation, taken-cases, taken-all, same_or_not, IsIn-take}
 use Rattle.q_logic.proofs.CoverOrder.{covers-more}
 use Rattle.q_kernel.specs.Prelude.{Seen, slots, IsSound}
 use Rattle.q_blocked.specs.declared.growth.Growth.{Growth}
@@ -15,7 +15,6 @@ use Rattle.q_blocked.specs.Growths.{IsGrowing, IsPushed, IsPassive, UnitsGiveNon
 use Rattle.q_rule.proofs.IdClauses.{others-find}
 use Rattle.q_blocked.proofs.ListFronts.{place-get}
 use Rattle.q_blocked.proofs.HiddenLiterals.{other_or}
-use Rattle.q_blocked.proofs.ClauseFronts.{take-in}
 use Rattle.q_blocked.proofs.ReachedSets.{reached-begun, reached-hidden, reached-staged, reached-covered}
 
 -- S is closed where all its literals have been looked at
@@ -93,7 +92,7 @@ growing-walked P X C S K ss base worked k more at' f g = record {
     ]
 
     go : (D : Clause) → IsIn D X → (j : Literal) → IsIn j (take (worked + 1) (S ++ K)) → IsIn j D → IsIn k D ⊎ (IsIn k D → ⊥) → GivesNoneAt (take (worked + 1) (S ++ K)) (S ++ K) D
-    go D i j x y (inl m) new o h = let r : GivesNoneAt (take (worked + 1) (S ++ K)) (S ++ K) D = subst (λ (H : Clause). GivesNoneAt H (S ++ K) D) (sym e) (gives_none-less (take (worked + 1) S) S (S ++ K) D (λ l z. take-in S (worked + 1) l z) (f D (i, m))) in r new o h
+    go D i j x y (inl m) new o h = let r : GivesNoneAt (take (worked + 1) (S ++ K)) (S ++ K) D = subst (λ (H : Clause). GivesNoneAt H (S ++ K) D) (sym e) (gives_none-less (take (worked + 1) S) S (S ++ K) D (λ l z. IsIn-take S (worked + 1) l z) (f D (i, m))) in r new o h
     go D i j x y (inr n) new m h = elim (before j x) [
       | inl a ↦ g.gives_none D i j a y new m (λ l z d. elim (before l (h l z d)) [ inl b ↦ b | inr q ↦ absurd (n (subst (λ (v : Literal). IsIn v D) q z)) ])
       | inr q ↦ absurd (n (subst (λ (v : Literal). IsIn v D) q y))
@@ -180,4 +179,4 @@ growing-closed k c C S ss base worked g past units passive cov =
     passive (covers-more k.prefix (others c (slots k)) C cov S (within C g.reached.begins))
   where
     within : (D : Clause) → take (length D) S ≡ D → IsSubset D S
-    within D e l m = take-in S (length D) l (subst (λ (H : Clause). IsIn l H) (sym e) m)
+    within D e l m = IsIn-take S (length D) l (subst (λ (H : Clause). IsIn l H) (sym e) m)

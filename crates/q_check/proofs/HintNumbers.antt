@@ -1,7 +1,7 @@
 -- Hints by slots and hints by numbers.
 use Rattle.std.proofs.Common.{◌≡◌, ◌≢◌, ◌↔◌, ℕ, zero, suc, List, [], ◌∷◌, ◌++◌, ◌⊎◌, inl, inr, refl, sym, ap, ◌∙◌, subst, Option, None, Some, slice_get, get_or, set, Bool, true, false, IsTrue, MatchBool}
 use Rattle.q_logic.specs.Prelude.{Literal, Clause, IsIn, Follows, Chained, Slots, slot, set_slot, live, Implied, negations}
-use Rattle.q_logic.proofs.Common.{implied-within, live-slot}
+use Rattle.q_logic.proofs.Common.{implied-within, live-slot, slot-set_other}
 use Rattle.q_logic.proofs.HintChains.{live-number}
 use Rattle.q_prop.specs.Slots.{Holds, filled, without}
 use Rattle.q_prop.proofs.HintSteps.{slot-Holds, Holds-slot}
@@ -15,13 +15,6 @@ pub record AreLinked (S N : Slots) (ps : List (Option ℕ)) : Type 0 where
   pub there : (h : ℕ) (D : Clause) → slot S h ≡ Some D → (n : ℕ) × IsAt ps n h × (slot N n ≡ Some D)
   pub back : (n : ℕ) (D : Clause) → slot N n ≡ Some D → (h : ℕ) × IsAt ps n h × (slot S h ≡ Some D)
   pub apart : (m n h : ℕ) → IsAt ps m h → IsAt ps n h → m ≡ n
-
-pub slot-set_other : (N : Slots) (n m : ℕ) (o : Option Clause) → m ≢ n → slot (set_slot n o N) m ≡ slot N m
-slot-set_other [] n m o d = refl
-slot-set_other (x ∷ N) zero zero o d = absurd (d refl)
-slot-set_other (x ∷ N) zero (suc m) o d = refl
-slot-set_other (x ∷ N) (suc n) zero o d = refl
-slot-set_other (x ∷ N) (suc n) (suc m) o d = slot-set_other N n m o (λ e. d (ap suc e))
 
 pub slot-emptied : (N : Slots) (n m : ℕ) (D : Clause) → slot (set_slot n None N) m ≡ Some D → (m ≢ n) × (slot N m ≡ Some D)
 slot-emptied [] n m D e = cc
@@ -49,7 +42,7 @@ module _ (s : Slots) (ps : List (Option ℕ)) (a : AreNumbered s ps) where
         let g = slot-Holds (without s (Some k)) h D e in
         let m = a.named h D (without-le s (Some k) h D g) in
         let d : m.0 ≢ n = λ q. without-here s k D (subst (λ (x : ℕ). Holds (without s (Some k)) x D) (IsAt-one ps n h k (subst (λ (x : ℕ). IsAt ps x h) q m.1) i) g) in
-        (m.0, m.1, slot-set_other (numbered_by s ps) n m.0 None d ∙ numbered-at s ps m.0 h m.1 ∙ Holds-slot s h D (without-le s (Some k) h D g));
+        (m.0, m.1, slot-set_other n m.0 None (numbered_by s ps) d ∙ numbered-at s ps m.0 h m.1 ∙ Holds-slot s h D (without-le s (Some k) h D g));
     back = λ m D e.
         let r = slot-emptied (numbered_by s ps) n m D e in
         let h = numbered-back s ps m D r.1 in

@@ -2,6 +2,7 @@
 use Rattle.std.proofs.Common.{◌≡◌, ◌≢◌, ◌↔◌, ℕ, zero, suc, List, [], ◌∷◌, inl, inr, refl, sym, ap, ◌∙◌, subst, Option, None, Some, get_or, set, map, length}
 use Rattle.std.proofs.lemmas.Bool.{cases_eq}
 use Rattle.q_logic.specs.Prelude.{Literal, Clause, Follows, Chained, Slots, slot, set_slot, negations}
+use Rattle.q_logic.proofs.Common.{slot-set_none, slot-set_other}
 use Rattle.q_prop.specs.Slots.{without}
 use Rattle.q_check.specs.HintChecks.{place_at}
 use Rattle.q_check.specs.Numbers.{IsAt, look, numbered_by, AreNumbered, left_out, place_in}
@@ -31,18 +32,6 @@ set-none (p ∷ s) zero (suc k) e = e
 set-none (p ∷ s) (suc h) zero e = e
 set-none (p ∷ s) (suc h) (suc k) e = set-none s h k e
 
-pub gone-here : (N : Slots) (n : ℕ) → slot (set_slot n None N) n ≡ None
-gone-here [] n = refl
-gone-here (o ∷ N) zero = refl
-gone-here (o ∷ N) (suc n) = gone-here N n
-
-pub gone-other : (N : Slots) (n k : ℕ) → k ≢ n → slot (set_slot n None N) k ≡ slot N k
-gone-other [] n k d = refl
-gone-other (p ∷ N) zero zero d = absurd (d refl)
-gone-other (p ∷ N) zero (suc k) d = refl
-gone-other (p ∷ N) (suc n) zero d = refl
-gone-other (p ∷ N) (suc n) (suc k) d = gone-other N n k (λ e. d (ap suc e))
-
 some-same : (h k : ℕ) → Some h ≡ Some k → h ≡ k
 some-same h k e = cc
 
@@ -70,14 +59,14 @@ module _ (s : Slots) (ps : List (Option ℕ)) (a : AreNumbered s ps) where
       slot (set_slot m None (numbered_by s ps)) n ≡ slot (without s o) (placed s p)
   gone-placed m n o p e f = elim (cases_eq n m) [
     | inl q ↦ here q o p e f
-    | inr d ↦ gone-other (numbered_by s ps) m n d ∙ placed-one n ∙ ap (λ (r : Option ℕ). slot s (placed s r)) f ∙ sym (other d o p e f)
+    | inr d ↦ slot-set_other m n None (numbered_by s ps) d ∙ placed-one n ∙ ap (λ (r : Option ℕ). slot s (placed s r)) f ∙ sym (other d o p e f)
   ]
     where
       here : n ≡ m → (o p : Option ℕ) → get_or ps m None ≡ o → get_or ps n None ≡ p → slot (set_slot m None (numbered_by s ps)) n ≡ slot (without s o) (placed s p)
       here q o p e f =
           let same : o ≡ p = sym e ∙ ap (λ (k : ℕ). get_or ps k None) (sym q) ∙ f in
           subst (λ (k : ℕ). slot (set_slot m None (numbered_by s ps)) k ≡ slot (without s o) (placed s p)) (sym q)
-          (gone-here (numbered_by s ps) m ∙ sym (subst (λ (r : Option ℕ). slot (without s o) (placed s r) ≡ None) same (none o)))
+          (slot-set_none m (numbered_by s ps) ∙ sym (subst (λ (r : Option ℕ). slot (without s o) (placed s r) ≡ None) same (none o)))
         where
           none : (r : Option ℕ) → slot (without s r) (placed s r) ≡ None
           none None = slot-past s

@@ -3,9 +3,9 @@ use Rattle.std.proofs.Common.{◌≡◌, ◌<◌, ◌≤◌, ◌+◌, ◌++◌, 
 use Rattle.std.proofs.lemmas.Bool.{cases_eq}
 use Rattle.q_logic.specs.Prelude.{Literal, Clause, Prefix, IsIn, Chained, HintGroup, Resolved, numbers_with, Slots, slot, set_slot, outer}
 use Rattle.q_logic.specs.ProofParts.{group_at}
+use Rattle.q_logic.proofs.Common.{slot-set_none, slot-set_other}
 use Rattle.q_check.specs.Numbers.{left_out}
 use Rattle.q_check.proofs.AscendingNumbers.{with-in}
-use Rattle.q_check.proofs.HintSlots.{gone-here, gone-other}
 
 group-in : (gs : List HintGroup) (i : ℕ) → i < length gs → IsIn (group_at gs i) gs
 group-in [] i l = absurd (omega arith)
@@ -26,8 +26,8 @@ in-group (h ∷ gs) g (inr m) = let r = in-group gs g m in (suc r.0, (let l : r.
 pub left-slot : (skip : Option ℕ) (N : Slots) (k : ℕ) (D : Clause) → slot (left_out skip N) k ≡ Some D → slot N k ≡ Some D
 left-slot None N k D e = e
 left-slot (Some n) N k D e = elim (cases_eq k n) [
-  | inl q ↦ absurd (other (sym (gone-here N n) ∙ ap (slot (set_slot n None N)) (sym q) ∙ e))
-  | inr d ↦ sym (gone-other N n k d) ∙ e
+  | inl q ↦ absurd (other (sym (slot-set_none n N) ∙ ap (slot (set_slot n None N)) (sym q) ∙ e))
+  | inr d ↦ sym (slot-set_other n k None N d) ∙ e
 ]
   where
     other : None ≡ Some D → ⊥

@@ -10,10 +10,8 @@ use Rattle.q_prop.specs.Slots.{Holds, filled, IsPut}
 use Rattle.q_prop.proofs.HintSteps.{Holds-slot}
 use Rattle.q_prop.proofs.SlotLemmas.{slice_get-append, slice_get-end, slice_get-push_cases, slice_get-set_same, slice_get-set_other, slice_get-set_here, without-le, without-here}
 use Rattle.q_judge.proofs.SlotCollections.{put-same, left-same}
+use Rattle.q_judge.proofs.TriedSteps.{put-holds}
 use Rattle.q_check.specs.Numbers.{IsAt, look, numbered_by, AreNumbered}
-
-same_option : (C D : Clause) → Some C ≡ Some D → C ≡ D
-same_option C D e = cc
 
 same_place : (n m : ℕ) → Some (Some n) ≡ Some (Some m) → n ≡ m
 same_place n m e = cc
@@ -67,12 +65,6 @@ put-vacant : (s t : Slots) (k : ℕ) (C D : Clause) → IsPut s k C t → Holds 
 put-vacant s t k C D (inl (e, f)) h = let l = slice_get_within s k (Some D) h in absurd (omega arith)
 put-vacant s t k C D (inr (e, f)) h = let g : Some None ≡ Some (Some D) = sym e ∙ h in cc
 
-put-kept : (s t : Slots) (k : ℕ) (C : Clause) (h : ℕ) (D : Clause) → IsPut s k C t → Holds s h D → Holds t h D
-put-kept s t k C h D (inl (e, f)) i = rw f (slice_get-append s (Some C ∷ []) h (Some D) i)
-put-kept s t k C h D (inr (e, f)) i =
-    let d : h ≢ k = λ q. put-vacant s t k C D (inr (e, f)) (subst (λ (m : ℕ). Holds s m D) q i) in
-    rw f (slice_get-set_other s k h (Some C) d ∙ i)
-
 put-back : (s t : Slots) (k : ℕ) (C : Clause) (h : ℕ) (D : Clause) → IsPut s k C t → Holds t h D → (h ≡ k) ⊎ Holds s h D
 put-back s t k C h D (inl (e, f)) i =
     elim (slice_get-push_cases s (Some C) (Some D) h (subst (λ (u : Slots). Holds u h D) f i)) [
@@ -92,7 +84,7 @@ module _ (s : Slots) (ps : List (Option ℕ)) (a : AreNumbered s ps) where
   put-looks : (t : Slots) (k : ℕ) (C : Clause) → IsPut s k C t → numbered_by t ps ≡ numbered_by s ps
   put-looks t k C p = look-same s t ps (λ n h i.
       let d = a.held n h i in
-      Holds-slot t h d.0 (put-kept s t k C h d.0 p d.1) ∙ sym (Holds-slot s h d.0 d.1))
+      Holds-slot t h d.0 (put-holds s t h k d.0 C p d.1) ∙ sym (Holds-slot s h d.0 d.1))
 
   pub put-numbers : (t : Slots) (k : ℕ) (C : Clause) → IsPut s k C t → numbered_by t (ps ++ Some k ∷ []) ≡ numbered_by s ps ++ Some C ∷ []
   put-numbers t k C p =
@@ -104,7 +96,7 @@ module _ (s : Slots) (ps : List (Option ℕ)) (a : AreNumbered s ps) where
   pub put-numbered : (t : Slots) (k : ℕ) (C : Clause) → IsPut s k C t → AreNumbered t (ps ++ Some k ∷ [])
   put-numbered t k C p = record {
     held = λ n h i. elim (slice_get-push_cases ps (Some k) (Some h) n i) [
-      | inl e ↦ let d = a.held n h e in (d.0, put-kept s t k C h d.0 p d.1)
+      | inl e ↦ let d = a.held n h e in (d.0, put-holds s t h k d.0 C p d.1)
       | inr e ↦ (C, subst (λ (m : ℕ). Holds t m C) (same_inner k h e.1) (put-here s t k C p))
     ];
     named = λ h D i. elim (put-back s t k C h D p i) [
@@ -239,7 +231,7 @@ module _ (s : Slots) (ps : List (Option ℕ)) (a : AreNumbered s ps) (n k : ℕ)
         record {
           held = λ m h i. elim (at_cases m h i) [
             | inl e ↦ (R, subst (λ (x : ℕ). Holds u x R) e.1 (put-here (set s k None) u j R q))
-            | inr i' ↦ let d = g.held m h i' in (d.0, put-kept (set s k None) u j R h d.0 q d.1)
+            | inr i' ↦ let d = g.held m h i' in (d.0, put-holds (set s k None) u h j d.0 R q d.1)
           ];
           named = λ h D i. elim (put-back (set s k None) u j R h D q i) [
             | inl e ↦ (n, subst (λ (x : ℕ). IsAt (set ps n (Some j)) n x) (sym e) (slice_get-set_same ps n (Some k) (Some j) there))

@@ -1,6 +1,6 @@
 -- Hints that are pushed one after the other, and groups.
 use Rattle.std.proofs.lemmas.List.{take_more, get_or_default}
-use Rattle.std.proofs.Common.{◌↔◌, arith, Bool, true, false, IsTrue, true≢false, OnOk, Result, Ok, Err, ◌<◌, ◌+◌, take, get_or, length, ◌≡◌, ◌≢◌, ℕ, List, [], ◌∷◌, ◌++◌, ◌⊎◌, inl, inr, refl, sym, ap, ◌∙◌, subst, Option, None, Some, append_assoc, map}
+use Rattle.std.proofs.Common.{◌↔◌, arith, Bool, true, false, IsTrue, true≢false, ◌<◌, ◌+◌, take, get_or, length, ◌≡◌, ◌≢◌, ℕ, List, [], ◌∷◌, ◌++◌, ◌⊎◌, inl, inr, refl, sym, ap, ◌∙◌, subst, Option, None, Some, append_assoc, map}
 use Rattle.q_logic.specs.Prelude.{Literal, negation, Clause, IsIn, Prefix, HintGroup, ProofPart, numbers_with, Chained, outer, without, Implied, Reducible, FirstPivot, IsWarranted, IsDroppable, Slots, slot, live}
 use Rattle.q_logic.specs.declared.proof_part.ProofKind.TheVariants.{Implied as ByHints}
 use Rattle.q_logic.proofs.Common.{live-slot, get_or-IsIn}
@@ -62,10 +62,6 @@ implied-hinted n ns = ap (λ (gs : List HintGroup). record { kind = ByHints; num
 pub pushed-some : (gs : List HintGroup) (g : HintGroup) → gs ++ g ∷ [] ≢ []
 pushed-some [] g e = cc
 pushed-some (x ∷ gs) g e = cc
-
-pub on_ok-then : {T E P Q : Type 0} → (r : Result T E) → OnOk r P → (P → Q) → OnOk r Q
-on_ok-then (Ok x) p f = f p
-on_ok-then (Err x) p f = tt
 
 -- One more group.
 pub targets-step : (gs : List HintGroup) (targets : List ℕ) (i t : ℕ) (hs : List ℕ) → map (λ (g : HintGroup). g.target) gs ≡ take i targets → i < length targets →

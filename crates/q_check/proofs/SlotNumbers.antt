@@ -1,9 +1,9 @@
 -- What slots say of clauses, told of their numbers.
-use Rattle.std.proofs.Common.{◌≡◌, ◌↔◌, inl, inr, ℕ, zero, suc, ◌*◌, ◌+◌, not-suc-le-zero, le_of_suc-le-suc, take, ◌≤◌, Bool, List, [], ◌∷◌, ◌++◌, Option, None, Some, IsTrue, Contains, MatchOption, Result, Ok, Err, IfOk, length, get_or, set, refl, sym, ap, ◌∙◌, subst}
+use Rattle.std.proofs.Common.{◌≡◌, ◌↔◌, inl, inr, ℕ, zero, suc, ◌*◌, ◌+◌, not-suc-le-zero, le_of_suc-le-suc, take, ◌≤◌, Bool, List, [], ◌∷◌, ◌++◌, Option, None, Some, IsTrue, Contains, MatchOption, length, get_or, set, refl, sym, ap, ◌∙◌, subst}
 use Rattle.std.proofs.lemmas.List.Elements.{Contains-push_cases}
 use Rattle.q_logic.specs.declared.limits.Limits.{Limits}
 use Rattle.q_logic.specs.Prelude.{Literal, Clause, Prefix, IsIn, Slots, slot, set_slot, live, Reducible, KeepsLimits, IsAbsent, literals_in}
-use Rattle.q_logic.proofs.Common.{reducible-within, IsIn-Contains, Contains-IsIn}
+use Rattle.q_logic.proofs.Common.{reducible-within, IsIn-Contains, Contains-IsIn, slot-set_other}
 use Rattle.q_logic.proofs.ClauseCounts.{same-sizes}
 use Rattle.q_prop.specs.Holders.{IsHolder}
 use Rattle.q_prop.specs.Slots.{Holds, filled, without}
@@ -12,7 +12,7 @@ use Rattle.q_prop.proofs.ListMembers.{Contains-along}
 use Rattle.q_judge.proofs.SlotCollections.{in-held}
 use Rattle.q_check.specs.Numbers.{IsAt, numbered_by, AreNumbered, left_out, HasNamed, HaveNamed}
 use Rattle.q_check.proofs.NumberedSteps.{numbered-at, numbered-back}
-use Rattle.q_check.proofs.HintNumbers.{AreLinked, linked, linked-forth, linked-back, slot-set_other, slot-emptied}
+use Rattle.q_check.proofs.HintNumbers.{AreLinked, linked, linked-forth, linked-back, slot-emptied}
 
 pub place-at : (ps : List (Option ℕ)) (n k : ℕ) → get_or ps n None ≡ Some k → IsAt ps n k
 place-at [] n k e = cc
@@ -81,10 +81,6 @@ module _ (s : Slots) (ps : List (Option ℕ)) (a : AreNumbered s ps) where
             (linked-forth (without s (Some k)) (set_slot n None (numbered_by s ps)) ps w),
       )
 
-pub if_ok-same : {E : Type 0} → (r : Result Bool E) → {A B : Type 0} → A ↔ B → IfOk r (λ yes. IsTrue yes ↔ A) → IfOk r (λ yes. IsTrue yes ↔ B)
-if_ok-same (Ok b) e h = ((λ t. e.0 (h.0 t)), (λ x. h.1 (e.1 x)))
-if_ok-same (Err x) e h = tt
-
 -- Names that have come.
 pub have-none : (ps : List (Option ℕ)) (skip : Option ℕ) (xs : List ℕ) → xs ≡ [] → HaveNamed ps [] skip xs
 have-none ps skip xs e k = (
@@ -113,7 +109,7 @@ take-whole (x ∷ xs) (suc n) l = ap (λ (ys : List ℕ). x ∷ ys) (take-whole 
 -- what is at a number that is not left out
 kept-slot : (skip : Option ℕ) (N : Slots) (k : ℕ) (D : Clause) → (skip ≡ Some k → ⊥) → slot N k ≡ Some D → slot (left_out skip N) k ≡ Some D
 kept-slot None N k D d e = e
-kept-slot (Some j) N k D d e = slot-set_other N j k None (λ q. d (ap (λ (i : ℕ). Some i) (sym q))) ∙ e
+kept-slot (Some j) N k D d e = slot-set_other j k None N (λ q. d (ap (λ (i : ℕ). Some i) (sym q))) ∙ e
 
 left-slot : (skip : Option ℕ) (N : Slots) (k : ℕ) (D : Clause) → slot (left_out skip N) k ≡ Some D → (skip ≡ Some k → ⊥) × (slot N k ≡ Some D)
 left-slot None N k D e = ((λ q. cc), e)

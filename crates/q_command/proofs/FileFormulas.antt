@@ -1,25 +1,14 @@
 -- What a file holds is a formula: no variable is free, and none is bound twice.
-use Rattle.std.proofs.Common.{◌≡◌, ◌≢◌, inl, inr, ℕ, ◌+◌, ◌<◌, ◌≤◌, ◌&&◌, not, Bool, true, false, eqb, nat_le, List, [], ◌∷◌, ◌++◌, map, refl, sym, ap, subst, arith}
+use Rattle.std.proofs.Common.{◌≡◌, ◌≢◌, inl, inr, ℕ, ◌+◌, ◌<◌, ◌≤◌, ◌&&◌, not, Bool, true, false, nat_le, List, [], ◌∷◌, ◌++◌, map, refl, sym, subst, arith}
 use Rattle.std.proofs.lemmas.Bool.Decides.{nat_tests}
-use Rattle.std.proofs.lemmas.Bool.{or_left, or_right}
 use Rattle.std.specs.List.{AllByRecursion}
 use Rattle.q_logic.specs.Prelude.{Literal, Clause, Matrix, Prefix, PrenexFormula, IsIn, standard, is_bound, Distinct, IsFormula, ArePairs, IsBound, clause_of}
 use Rattle.q_logic.proofs.Common.{IsBound-is_bound, pairs-Distinct, AllByRecursion-IsIn, IsIn-clause_of}
 use Rattle.q_logic.proofs.FormulaParts.{is_bound-IsBound}
-use Rattle.q_dimacs.specs.Building.{occurs_in, occurs, greatest, bounds_from, is_free}
+use Rattle.q_dimacs.specs.Building.{occurs, greatest, bounds_from, is_free}
 use Rattle.q_dimacs.specs.Dimacs.{IsVar, IsLawful, Text, sets_bounds, text_formula}
-use Rattle.q_dimacs.proofs.FreeVariables.{bounds-all, bounds-distinct, bounds-has, none-above, pairs-append, is-append-left, is-append-right, apart}
+use Rattle.q_dimacs.proofs.FreeVariables.{bounds-all, bounds-distinct, bounds-has, none-above, pairs-append, is-append-left, is-append-right, apart, occurs-IsIn}
 use Rattle.q_command.specs.Checks.{IsFileOf}
-
-member-occurs : (k : Literal) (C : Clause) → IsIn k C → occurs_in C k.var ≡ true
-member-occurs k [] h = elim h [ ]
-member-occurs k (l ∷ C) (inl e) = or_left (eqb l.var k.var) (occurs_in C k.var) (let v : k.var ≡ l.var = ap (λ (m : Literal). m.var) e in grind arith)
-member-occurs k (l ∷ C) (inr h) = or_right (eqb l.var k.var) (occurs_in C k.var) (member-occurs k C h)
-
-clause-occurs : (k : Literal) (C : Clause) (X : Matrix) → IsIn C X → IsIn k C → occurs X k.var ≡ true
-clause-occurs k C [] m h = elim m [ ]
-clause-occurs k C (D ∷ X) (inl e) h = or_left (occurs_in D k.var) (occurs X k.var) (member-occurs k D (subst (IsIn k) e h))
-clause-occurs k C (D ∷ X) (inr m) h = or_right (occurs_in D k.var) (occurs X k.var) (clause-occurs k C X m h)
 
 -- each literal of the matrix is written in some clause of the text
 positive : (n : ℕ) (k : Literal) (C : Clause) (cs : List (List Literal)) → AllByRecursion (λ c. AllByRecursion (λ l. IsVar n l.var) c) cs → IsIn C (map clause_of cs) → IsIn k C → 1 ≤ k.var
@@ -64,7 +53,7 @@ text-formula : (t : Text) → IsLawful standard t → IsFormula (text_formula t)
 text-formula t h = record {
   distinct = distinct-all (sets_bounds t.sets) (map clause_of t.clauses) h.once;
   closed = λ D m k n. IsBound-is_bound (text_formula t).prefix k.var
-      (bound-there (sets_bounds t.sets) (map clause_of t.clauses) k.var (positive t.vars k D t.clauses h.lits m n) (clause-occurs k D (map clause_of t.clauses) m n));
+      (bound-there (sets_bounds t.sets) (map clause_of t.clauses) k.var (positive t.vars k D t.clauses h.lits m n) (occurs-IsIn (map clause_of t.clauses) D k m n));
 }
 
 pub file-formula : (bytes : List ℕ) (F : PrenexFormula) → IsFileOf bytes F → IsFormula F

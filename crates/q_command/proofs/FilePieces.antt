@@ -1,5 +1,5 @@
 -- A file that is read in pieces.
-use Rattle.std.proofs.Common.{◌≡◌, ◌≤◌, ◌+◌, ◌∙◌, refl, sym, ap, subst, arith, ℕ, List, [], ◌++◌, length, take, drop, Option, Some, None, Result, Ok, Err, IfSome, OnOk, IfOk, IfErr, IsErrOf, length-drop, length-append}
+use Rattle.std.proofs.Common.{◌≡◌, ◌≤◌, ◌+◌, ◌∙◌, refl, sym, ap, subst, arith, ℕ, List, [], ◌++◌, length, take, drop, Option, Some, None, Result, Ok, Err, IfSome, IfOk, IfErr, IsErrOf, length-drop, length-append}
 use Rattle.std.proofs.Math.Seq.{take-add, take-length}
 use Rattle.std.proofs.lemmas.List.{take-append-drop}
 use Rattle.q_logic.specs.Prelude.{standard, IsInLimits, PrenexFormula}
@@ -14,10 +14,6 @@ use Rattle.q_command.specs.Inputs.{IsReading, HasFront, HasFed, IsRefused, read_
 pub if_some : {D : Type 0} {P : D → Type 0} (o : Option D) → ((d : D) → P d) → IfSome o P
 if_some None h = tt
 if_some (Some d) h = h d
-
-pub if_some_1 : {D : Type 0} {P Q : D → Type 0} (o : Option D) → IfSome o P → ((d : D) → P d → Q d) → IfSome o Q
-if_some_1 None p h = tt
-if_some_1 (Some d) p h = h d p
 
 pub if_some_2 : {D : Type 0} {P Q R : D → Type 0} (o : Option D) → IfSome o P → IfSome o Q → ((d : D) → P d → Q d → R d) → IfSome o R
 if_some_2 None p q h = tt
@@ -94,14 +90,6 @@ pub err_goes : {T E D : Type 0} {P : E → Type 0} (Q : E → D → Type 0) (r :
 err_goes Q (Ok t) o p h = tt
 err_goes Q (Err e) o p h = h e p
 
-pub ok_then : {T E : Type 0} {P Q : T → Type 0} (r : Result T E) → IfOk r P → ((t : T) → P t → Q t) → IfOk r Q
-ok_then (Ok t) p h = h t p
-ok_then (Err e) p h = tt
-
 pub err_then : {T E : Type 0} {P Q : E → Type 0} (r : Result T E) → IfErr r P → ((e : E) → P e → Q e) → IfErr r Q
 err_then (Ok t) p h = tt
 err_then (Err e) p h = h e p
-
-pub on_both : {T E P Q R : Type 0} (r : Result T E) → OnOk r P → OnOk r Q → (P → Q → R) → OnOk r R
-on_both (Ok x) p q h = h p q
-on_both (Err e) p q h = tt

@@ -3,11 +3,10 @@ use Rattle.std.proofs.Common.{◌≡◌, ◌≤◌, ◌<◌, ◌+◌, ◌*◌, �
 use Rattle.std.specs.Int.Signed.{mag}
 use Rattle.std.specs.Fmt.{decimal, signed_decimal}
 use Rattle.std.proofs.lemmas.Fmt.{length-decimal-le, length_signed_le}
-use Rattle.std.specs.List.{AllByRecursion}
 use Rattle.q_logic.specs.declared.formulas.Quant.{Quant}
 use Rattle.q_logic.specs.declared.formulas.Quant.TheVariants.{Exists, Forall}
 use Rattle.q_logic.specs.Prelude.{Literal, number_of, Clause, Matrix, Prefix, IsIn, PrenexFormula, blocks, is_bound, same_quant, Distinct, IsProper, literals_in, removed_from, standard, AreModerate, IsInLimits, greatest}
-use Rattle.q_logic.proofs.Common.{removed-is_bound, removed-unbound, removed-distinct, is_bound-greatest}
+use Rattle.q_logic.proofs.Common.{removed-is_bound, removed-unbound, removed-distinct, is_bound-greatest, bound-range, InRange}
 use Rattle.q_text.proofs.LiteralLengths.{literal-short}
 use Rattle.q_text.specs.Numbers.{number_text, numbers_text, line_end}
 use Rattle.q_dimacs.specs.Dimacs.{Dimacs, total}
@@ -52,9 +51,6 @@ few-bound (suc n) (b ∷ P) d h =
 
 -- texts
 
-abbrev pub InRange : Prefix → Type 0
-InRange P = AllByRecursion (λ q. (1 ≤ q.var) × (q.var < 2 ^ 31)) P
-
 pub greatest-same : (P : Prefix) → greatest_bound P ≤ greatest P
 greatest-same [] = omega arith
 greatest-same (b ∷ P) = let i : greatest_bound P ≤ greatest P = greatest-same P in omega arith
@@ -62,14 +58,6 @@ greatest-same (b ∷ P) = let i : greatest_bound P ≤ greatest P = greatest-sam
 pub total-same : (X : Matrix) → total X ≡ literals_in X
 total-same [] = refl
 total-same (C ∷ X) = ap (λ n. length C + n) (total-same X)
-
-pub bound-range : (P : Prefix) (v : ℕ) → InRange P → is_bound P v ≡ true → (1 ≤ v) × (v < 2 ^ 31)
-bound-range [] v h e = absurd (cc)
-bound-range (b ∷ P) v h e = go (eqb b.var v) refl e (bound-range P v h.1)
-  where
-    go : (t : Bool) → eqb b.var v ≡ t → cond t true (is_bound P v) ≡ true → (is_bound P v ≡ true → (1 ≤ v) × (v < 2 ^ 31)) → (1 ≤ v) × (v < 2 ^ 31)
-    go true q f ih = let z : b.var ≡ v = grind arith in subst (λ (n : ℕ). (1 ≤ n) × (n < 2 ^ 31)) z h.0
-    go false q f ih = ih f
 
 pub numbers-short : (C : Clause) → ((k : Literal) → IsIn k C → k.var < 2 ^ 31) → length (numbers_text (map number_of C)) ≤ 12 * length C
 numbers-short [] h = omega arith

@@ -6,10 +6,6 @@ use Rattle.q_logic.specs.declared.formulas.Quant.TheVariants.{Exists, Forall}
 use Rattle.q_logic.specs.Prelude.{Literal, number_of, Clause, Matrix, Prefix, Block, blocks, push_block}
 use Rattle.q_text.specs.Numbers.{number_text, numbers_text, line_end}
 use Rattle.q_dimacs.specs.Writing.{quant_text, blocks_text, clause_text, matrix_text, bound_text, closing, bounds_text}
-use Rattle.q_text.specs.Texts.{Extends}
-
-pub extends-append : (a b c : List ℕ) → Extends a b → Extends a (b ++ c)
-extends-append a b c h = record { rest = h.rest ++ c; is = ap (λ x. x ++ c) h.is ∙ append_assoc a h.rest c }
 
 -- what is written next fits where all that is left fits
 pub next-fits : (a r b w x y : List ℕ) → a ++ r ≡ b ++ w → r ≡ x ++ y → length a + length x ≤ length b + length w

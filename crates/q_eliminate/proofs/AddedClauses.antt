@@ -3,11 +3,11 @@ use Rattle.std.proofs.Common.{◌≡◌, ◌≤◌, ◌<◌, ◌+◌, ◌++◌, 
 use Rattle.std.proofs.lemmas.List.{append-nil}
 use Rattle.q_logic.specs.Prelude.{Literal, IsBelow, negation, Clause, Matrix, Prefix, IsIn, ArePairs, without, size_of, Slots, slot, live, put_first, clauses_at, IsTautology, put_unless_tautology, Within, first_of, resolvent, resolve_one, resolve_all}
 use Rattle.q_logic.proofs.EliminateRun.{resolvent-implied}
-use Rattle.q_logic.proofs.Common.{pairs-ordered, ordered-pairs, union-ordered, without-ordered, SameClauses, alike-refl, alike-trans, alike-append, alike-append_swap, union-IsIn, live-slot, without-IsIn, is_tautology-whole, is_tautology-none, length-set_slot, slot-below, same-sizes}
+use Rattle.q_logic.proofs.Common.{pairs-ordered, ordered-pairs, union-ordered, without-ordered, SameClauses, alike-refl, alike-trans, alike-append, alike-append_swap, union-IsIn, live-slot, without-IsIn, is_tautology-whole, is_tautology-none, length-set_slot, slot-below, same-sizes, slot-set_other}
 use Rattle.q_kernel.specs.Prelude.{Seen, slots, formula_in, IsSound, MayAdd, IsAdded}
 use Rattle.q_kernel.proofs.TextCosts.{cost-add, within-small}
 use Rattle.q_kernel.proofs.KernelRuns.{led-itself, led-through}
-use Rattle.q_kernel.proofs.SlotLists.{slot-set_other, alike-added}
+use Rattle.q_kernel.proofs.SlotLists.{alike-added}
 use Rattle.q_rule.proofs.RuleSteps.{clause-within}
 use Rattle.q_eliminate.specs.Growing.{CanGrow, HasGrown}
 use Rattle.q_eliminate.proofs.GainCounts.{literals-append, put-plain, put-tautology}

@@ -1,10 +1,10 @@
 -- Clauses that go, one after the other.
 use Rattle.std.proofs.Common.{◌≡◌, ◌≤◌, ◌+◌, ◌*◌, ℕ, inr, arith, refl, sym, ap, ◌∙◌, subst, Some, length}
 use Rattle.q_logic.specs.Prelude.{Literal, negation, Clause, Matrix, Prefix, IsIn, ExistsPivot, size_of, Slots, slot, live, others, without_literal, OccursIn, delete, one_less}
-use Rattle.q_logic.proofs.Common.{turn-pure, IsIn-alike, one_less-IsIn, IsIn-has, without_literal-slot, IsIn-without_literal}
+use Rattle.q_logic.proofs.Common.{turn-pure, IsIn-alike, one_less-IsIn, IsIn-has, without_literal-slot, IsIn-without_literal, live-slot}
 use Rattle.q_log.specs.Texts.{step_text}
 use Rattle.q_kernel.specs.Prelude.{Seen, slots, HasSweepBytes, IsSound, IsLed, MayDelete, IsDeleted}
-use Rattle.q_kernel.proofs.SlotLists.{alike-others, slot-IsIn}
+use Rattle.q_kernel.proofs.SlotLists.{alike-others}
 use Rattle.q_kernel.proofs.KernelRuns.{led-itself, led-through}
 use Rattle.q_rule.proofs.RemovalLoops.{size-deleted, bytes-deleted, clause-bytes}
 use Rattle.q_rule.proofs.RuleSteps.{clause-within, delete-cost}
@@ -25,7 +25,7 @@ shrinking-begun m k b = record { led = led-itself k; prefix = refl; same = refl;
 -- The next one may go.
 pub may-shrink : (m : Literal) (old now : Seen) (id : ℕ) (C : Clause) → MayGoBy old m → IsShrinking m old now → IsSound now → slot (slots now) id ≡ Some C → IsIn m C → MayDelete now id (λ D. Some m)
 may-shrink m old now id C may s sound e i =
-    let here : IsIn C (live (slots now)) = slot-IsIn (slots now) id C e in
+    let here : IsIn C (live (slots now)) = live-slot (slots now) id C e in
     let Z = one_less C (live (slots now)) in
     let pivot : ExistsPivot old.prefix Z C m = may C (s.within C here) i Z
     (λ D j. left D (subst (λ (X : Matrix). IsIn D X) (sym s.same) j))

@@ -4,12 +4,10 @@ use Rattle.std.proofs.lemmas.Option.{none-some}
 use Rattle.std.proofs.lemmas.Bool.{cases_eq}
 use Rattle.std.proofs.Common.{◌≡◌, ◌+◌, ℕ, All, Contains, zero, suc, Bool, true, false, cond, List, [], ◌∷◌, length, get_or, Option, None, Some, inl, inr, arith, refl, sym, ap, ◌∙◌, subst}
 use Rattle.q_logic.specs.Prelude.{Literal, Clause, Matrix, IsIn, clause_eq, copies, has, with_literal, without_literal, OccursIn, Slots, slot, set_slot, live, others, put_first, clauses_at}
-use Rattle.q_logic.proofs.Common.{SameClauses, alike-refl, alike-trans, alike-sym, alike-cons, clause_eq-sound, slot-alike, has-IsIn, IsIn-has, live-gone}
+use Rattle.q_logic.proofs.Common.{SameClauses, alike-refl, alike-trans, alike-sym, alike-cons, clause_eq-sound, slot-alike, has-IsIn, IsIn-has, live-gone, slot-set_other, slot-set_none}
 use Rattle.q_logic.proofs.HintChains.{live-number}
 use Rattle.q_kernel.specs.Prelude.{Seen, slots, HoldsLiteral, AreOnce, IsHolder}
 use Rattle.q_kernel.proofs.DistinctMembers.{Contains-none, Contains-here, Contains-further, Contains-first}
-use Rattle.q_kernel.proofs.SlotLists.{slot-set_other}
-use Rattle.q_rule.proofs.RuleResults.{slot-none}
 use Rattle.q_eliminate.specs.Sides.{AreIdsOf}
 
 -- Clauses with and without a literal, as collections.
@@ -73,7 +71,7 @@ picked l (c ∷ cs) N a h g =
     let i : SameClauses (clauses_at N' cs) (with_literal l (live N')) = picked l cs N' a.1
     (λ d m. let r = h d (Contains-further c cs d m) in (r.0, slot-set_other c d None N (λ e. a.0 (subst (λ (x : ℕ). Contains cs x) e m)) ∙ r.1, r.2))
     (λ d D e m. elim (cases_eq d c) [
-      | inl q ↦ absurd (none-some D (sym (slot-none c N) ∙ subst (λ (x : ℕ). slot N' x ≡ Some D) q e))
+      | inl q ↦ absurd (none-some D (sym (slot-set_none c N) ∙ subst (λ (x : ℕ). slot N' x ≡ Some D) q e))
       | inr n ↦ elim (Contains-first c cs d (g d D (sym (slot-set_other c d None N n) ∙ e) m)) [ inl q ↦ absurd (n q) | inr r ↦ r ]
     ]) in
     let j : SameClauses (clauses_at N cs) (with_literal l (live N')) = subst (λ (X : Matrix). SameClauses X (with_literal l (live N'))) (at-others N c cs a.0) i in

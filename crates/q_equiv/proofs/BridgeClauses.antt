@@ -1,13 +1,13 @@
 -- The two clauses of the bridge come, and go.
 use Rattle.std.proofs.Common.{◌≡◌, ◌≤◌, ◌<◌, ◌+◌, ◌*◌, ℕ, Bool, true, false, cond, eqb, [], ◌∷◌, ◌++◌, inl, inr, arith, refl, sym, ap, ◌∙◌, subst, Option, Some, None, length}
 use Rattle.q_logic.specs.Prelude.{Literal, IsBelow, negation, Clause, Matrix, Prefix, IsIn, ArePairs, is_bound, outer_or_same, keeps, outer, ExistsPivot, Implied, standard, IsInLimits, size_of, has_variable, add, delete, one_less, Within, first_of, is_tautology, put_unless_tautology, Slots, slot, live, others, formula_of, merge, Mergeable, merged, renamed}
-use Rattle.q_logic.proofs.Common.{IsIn-append_left, live-slot, slot-alike, insert-length, IsIn-outer_in, IsIn-put_unless, Ordered, insert-ordered, ordered-pairs, existential-is_bound, implied-tautology, implied-more_clauses, pure-pivot, SameClauses, IsIn-alike, alike-sym, alike-trans, alike-cons, alike-uncons, alike-swap, one_less-first, one_less-same, exists_pivot-fewer, IsIn-append_right, live-gone, length-set_slot, slot-below, same-sizes}
+use Rattle.q_logic.proofs.Common.{IsIn-append_left, live-slot, slot-alike, insert-length, IsIn-outer_in, IsIn-put_unless, Ordered, insert-ordered, ordered-pairs, existential-is_bound, implied-tautology, implied-more_clauses, pure-pivot, SameClauses, IsIn-alike, alike-sym, alike-trans, alike-cons, alike-uncons, alike-swap, one_less-first, one_less-same, exists_pivot-fewer, IsIn-append_right, live-gone, length-set_slot, slot-below, same-sizes, slot-set_other}
 use Rattle.q_logic.proofs.MergeRun.{joined-implied, outer_or_same-is_bound, has_var-IsIn, renamed-free, renamed-length}
 use Rattle.q_log.specs.Texts.{step_text}
 use Rattle.q_log.proofs.WritableRuns.{first-of}
 use Rattle.q_kernel.specs.Prelude.{Seen, slots, formula_in, IsSound, Applies, MayAdd, IsAdded, MayDelete, IsDeleted, IsLed}
 use Rattle.q_logic.specs.declared.rule_bounds.Bounds.{Bounds}
-use Rattle.q_kernel.proofs.SlotLists.{slot-set_other, alike-added, size-gone, size-parts}
+use Rattle.q_kernel.proofs.SlotLists.{alike-added, size-gone, size-parts}
 use Rattle.q_kernel.proofs.KernelRuns.{led-through}
 use Rattle.q_kernel.proofs.TextCosts.{cost-add, cost-delete, within-small, proper-small}
 use Rattle.q_rule.specs.Becoming.{IsChanged}

@@ -3,11 +3,9 @@ use Rattle.std.proofs.Common.{◌≡◌, ◌≤◌, Contains, ◌+◌, ◌⊎◌
 use Rattle.std.proofs.lemmas.Option.{none-some}
 use Rattle.std.proofs.lemmas.Bool.{cases_eq}
 use Rattle.q_logic.specs.Prelude.{Literal, negation, Clause, Matrix, IsIn, has_variable, has, with_literal, one_less, clause_eq, copies, Slots, slot, set_slot, live}
-use Rattle.q_logic.proofs.Common.{clause_eq-sound, weight, IsIn-has, SameClauses, clause_eq-itself, IsIn-alike, IsIn-copies, alike-trans, alike-uncons, one_less-alike}
+use Rattle.q_logic.proofs.Common.{clause_eq-sound, weight, IsIn-has, SameClauses, clause_eq-itself, IsIn-alike, IsIn-copies, alike-trans, alike-uncons, one_less-alike, slot-set_other, slot-set_none}
 use Rattle.q_logic.proofs.HintChains.{live-number}
-use Rattle.q_kernel.proofs.SlotLists.{slot-set_other}
 use Rattle.q_kernel.proofs.DistinctMembers.{Contains-none, Contains-first}
-use Rattle.q_rule.proofs.RuleResults.{slot-none}
 use Rattle.q_equiv.specs.Changing.{total_with, one}
 
 -- A literal's variable in a clause.
@@ -27,15 +25,6 @@ variable-literal l (k ∷ C) h = go (eqb k.var l.var) refl h (variable-literal l
     go : (b : Bool) → eqb k.var l.var ≡ b → (b || has_variable l.var C) ≡ true → (has_variable l.var C ≡ true → IsIn l C ⊎ IsIn (negation l) C) → IsIn l (k ∷ C) ⊎ IsIn (negation l) (k ∷ C)
     go true e h f = elim (same_or_negated k l (grind arith)) [ inl g ↦ inl (inl (sym g)) | inr g ↦ inr (inl (sym g)) ]
     go false e h f = elim (f h) [ inl m ↦ inl (inr m) | inr m ↦ inr (inr m) ]
-
-pub literal-variable : (l : Literal) (C : Clause) → IsIn l C → has_variable l.var C ≡ true
-literal-variable l [] m = absurd m
-literal-variable l (k ∷ C) (inl e) = let v : l.var ≡ k.var = ap (λ (x : Literal). x.var) e in grind arith
-literal-variable l (k ∷ C) (inr m) = let h : has_variable l.var C ≡ true = literal-variable l C m in go (eqb k.var l.var) h
-  where
-    go : (b : Bool) → has_variable l.var C ≡ true → (b || has_variable l.var C) ≡ true
-    go true h = refl
-    go false h = h
 
 -- Through the clauses of ids.
 abbrev pub weight_at : (Clause → ℕ) → Option Clause → ℕ
@@ -77,7 +66,7 @@ weight-gone w l (Some C ∷ N) (suc c) = go (has l C) (weight-gone w l N c)
 
 weight_at-gone : (w : Clause → ℕ) (N : Slots) (c d : ℕ) → weight_at w (slot (set_slot c None N) d) ≤ weight_at w (slot N d)
 weight_at-gone w N c d = elim (cases_eq d c) [
-  | inl e ↦ subst (λ (x : ℕ). weight_at w (slot (set_slot c None N) x) ≤ weight_at w (slot N x)) (sym e) (subst (λ o. weight_at w o ≤ weight_at w (slot N c)) (sym (slot-none c N)) (omega arith))
+  | inl e ↦ subst (λ (x : ℕ). weight_at w (slot (set_slot c None N) x) ≤ weight_at w (slot N x)) (sym e) (subst (λ o. weight_at w o ≤ weight_at w (slot N c)) (sym (slot-set_none c N)) (omega arith))
   | inr n ↦ subst (λ o. weight_at w o ≤ weight_at w (slot N d)) (sym (slot-set_other c d None N n)) (omega arith)
 ]
 
@@ -105,7 +94,7 @@ weight-listed w l N (c ∷ ds) h =
   where
     fewer : (d : ℕ) → ((D : Clause) × (slot (set_slot c None N) d ≡ Some D) × IsIn l D) → Contains ds d
     fewer d (D, e, i) = elim (cases_eq d c) [
-      | inl f ↦ absurd (none-some D (sym (slot-none c N) ∙ (ap (slot (set_slot c None N)) (sym f) ∙ e)))
+      | inl f ↦ absurd (none-some D (sym (slot-set_none c N) ∙ (ap (slot (set_slot c None N)) (sym f) ∙ e)))
       | inr n ↦ elim (Contains-first c ds d (h d (D, sym (slot-set_other c d None N n) ∙ e, i))) [ inl g ↦ absurd (n g) | inr g ↦ g ]
     ]
 

@@ -2,11 +2,11 @@
 use Rattle.std.proofs.Common.{◌≡◌, ◌≢◌, ◌≤◌, ◌<◌, ◌+◌, ◌*◌, ℕ, true, false, ◌∷◌, inl, arith, sym, ap, ◌∙◌, subst, Option, Some, None, length}
 use Rattle.std.proofs.lemmas.Option.{same_Some}
 use Rattle.q_logic.specs.Prelude.{Clause, Matrix, Prefix, IsIn, Implied, add, delete, one_less, first_of, is_tautology, Slots, slot, live, others}
-use Rattle.q_logic.proofs.Common.{live-slot, slot-alike, implied-more_clauses, SameClauses, IsIn-alike, alike-refl, alike-sym, alike-trans, alike-cons, alike-uncons, alike-swap, live-gone, length-set_slot, slot-below}
+use Rattle.q_logic.proofs.Common.{live-slot, slot-alike, implied-more_clauses, SameClauses, IsIn-alike, alike-refl, alike-sym, alike-trans, alike-cons, alike-uncons, alike-swap, live-gone, length-set_slot, slot-below, slot-set_other}
 use Rattle.q_log.specs.Texts.{step_text}
 use Rattle.q_log.proofs.WritableRuns.{first-of}
 use Rattle.q_kernel.specs.Prelude.{Seen, slots, formula_in, IsSound, MayAdd, IsAdded, MayDelete, IsDeleted}
-use Rattle.q_kernel.proofs.SlotLists.{slot-set_other, alike-added, alike-others}
+use Rattle.q_kernel.proofs.SlotLists.{alike-added, alike-others}
 use Rattle.q_kernel.proofs.KernelRuns.{led-through}
 use Rattle.q_kernel.proofs.TextCosts.{cost-add, cost-delete, within-small, proper-small, proper-in_order}
 use Rattle.q_equiv.specs.Changing.{MayReplace, IsReplaced}

@@ -1,13 +1,11 @@
 -- Turn by turn keep takes the place of gone.
 use Rattle.std.proofs.Common.{◌≡◌, ◌≢◌, ◌≤◌, ◌⊎◌, ℕ, Bool, true, false, cond, eqb, [], ◌∷◌, inl, inr, arith, refl, sym, ap, ◌∙◌, subst, Option, Some, None, true≢false}
 use Rattle.q_logic.specs.Prelude.{Literal, negation, Clause, Matrix, IsIn, has_variable, one_less, clause_eq, is_tautology, put_unless_tautology, Slots, slot, set_slot, live, others, merged, merged_one, renamed, copies}
-use Rattle.q_logic.proofs.Common.{slot-alike, insert-IsIn, IsIn-insert, clause_eq-sound, SameClauses, clause_eq-itself, IsIn-alike, IsIn-copies, alike-refl, alike-sym, alike-trans, alike-cons, alike-uncons, alike-swap, one_less-alike, live-gone, not-negation}
+use Rattle.q_logic.proofs.Common.{slot-alike, insert-IsIn, IsIn-insert, clause_eq-sound, SameClauses, clause_eq-itself, IsIn-alike, IsIn-copies, alike-refl, alike-sym, alike-trans, alike-cons, alike-uncons, alike-swap, one_less-alike, live-gone, not-negation, slot-set_other, slot-set_none}
 use Rattle.q_logic.proofs.MergeRun.{renamed-free}
 use Rattle.q_logic.proofs.ClauseLoops.{no_var}
 use Rattle.q_logic.proofs.HintChains.{live-number}
 use Rattle.q_kernel.specs.Prelude.{Seen, slots}
-use Rattle.q_kernel.proofs.SlotLists.{slot-set_other}
-use Rattle.q_rule.proofs.RuleResults.{slot-none}
 use Rattle.q_equiv.specs.declared.bridge.Bridge.{Bridge}
 use Rattle.q_equiv.specs.Changing.{over_clause, back_clause, IsBridged}
 
@@ -110,9 +108,9 @@ two-apart N a b A B e f n =
 pub IsIn-left : (N : Slots) (a b : ℕ) (D : Clause) → IsIn D (live (set_slot b None (set_slot a None N))) → (c : ℕ) × (c ≢ a) × (c ≢ b) × (slot N c ≡ Some D)
 IsIn-left N a b D m =
     let r = live-number (set_slot b None (set_slot a None N)) D m in
-    let p : r.0 ≢ b = λ e. gone (sym (slot-none b (set_slot a None N)) ∙ (ap (slot (set_slot b None (set_slot a None N))) (sym e) ∙ r.1)) in
+    let p : r.0 ≢ b = λ e. gone (sym (slot-set_none b (set_slot a None N)) ∙ (ap (slot (set_slot b None (set_slot a None N))) (sym e) ∙ r.1)) in
     let s : slot (set_slot a None N) r.0 ≡ Some D = sym (slot-set_other b r.0 None (set_slot a None N) p) ∙ r.1 in
-    let q : r.0 ≢ a = λ e. gone (sym (slot-none a N) ∙ (ap (slot (set_slot a None N)) (sym e) ∙ s)) in
+    let q : r.0 ≢ a = λ e. gone (sym (slot-set_none a N) ∙ (ap (slot (set_slot a None N)) (sym e) ∙ s)) in
     (r.0, q, p, sym (slot-set_other a r.0 None N q) ∙ s)
   where
     gone : (let o : Option Clause = None in o ≡ Some D) → ⊥

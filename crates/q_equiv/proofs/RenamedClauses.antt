@@ -1,10 +1,10 @@
 -- One turn: a clause is renamed. And what is left at the end.
 use Rattle.std.proofs.Common.{◌≡◌, ◌≢◌, ◌≤◌, ◌+◌, ◌*◌, ◌⊎◌, ℕ, Bool, true, false, cond, [], ◌∷◌, inl, inr, arith, refl, sym, ap, ◌∙◌, subst, Some, None, length}
 use Rattle.q_logic.specs.Prelude.{Literal, negation, Clause, Matrix, Prefix, IsIn, is_bound, has_variable, literals_in, Within, is_tautology, put_unless_tautology, Slots, slot, set_slot, live, others, merged, renamed, renamed_literal}
-use Rattle.q_logic.proofs.Common.{live-slot, others-slot, slot-alike, insert-IsIn, put_unless-IsIn, put_unless-more, ordered-pairs, renamed-ordered, SameClauses, IsIn-alike, alike-refl, alike-sym, alike-trans, alike-cons, alike-uncons, alike-swap, live-gone, same-sizes}
+use Rattle.q_logic.proofs.Common.{live-slot, others-slot, slot-alike, insert-IsIn, put_unless-IsIn, put_unless-more, ordered-pairs, renamed-ordered, SameClauses, IsIn-alike, alike-refl, alike-sym, alike-trans, alike-cons, alike-uncons, alike-swap, live-gone, same-sizes, slot-set_other}
 use Rattle.q_logic.proofs.MergeRun.{Linked, renamed_literal-cases, renamed-implied, implied-by_renamed, renamed-length, outer_or_same-is_bound}
 use Rattle.q_kernel.specs.Prelude.{Seen, slots, IsSound, IsLed}
-use Rattle.q_kernel.proofs.SlotLists.{slot-set_other, length-others, literals-others, size-parts}
+use Rattle.q_kernel.proofs.SlotLists.{length-others, literals-others, size-parts}
 use Rattle.q_kernel.proofs.KernelRuns.{led-through, led-itself}
 use Rattle.q_equiv.specs.declared.bridge.Bridge.{Bridge}
 use Rattle.q_equiv.specs.Changing.{CanStandFor, over_clause, back_clause, total_with, one, size, HasRenamingRoom, IsBridged, IsRenamed, MayReplace, IsReplaced}
@@ -68,9 +68,6 @@ module _ (keep gone : Literal) (b : Bridge) (now : Seen) (stands : CanStandFor n
   R : Clause
   R = renamed keep gone C
 
-  shorter : length (renamed keep gone C) ≤ length C
-  shorter = renamed-length keep gone C
-
   free : has_variable gone.var (renamed keep gone C) ≡ false
   free = renamed-without keep gone C stands.different
 
@@ -90,7 +87,7 @@ module _ (keep gone : Literal) (b : Bridge) (now : Seen) (stands : CanStandFor n
   may-rename s =
       let m : IsIn C (live (slots now)) = live-slot (slots now) id C there in
       let w : Within now.prefix C = λ k i. s.proper.formula.closed C m k i in
-      let l = shorter in
+      let l = renamed-length keep gone C in
       let tl = total-slot length gone.var (slots now) id C there held in
       let to = total-slot one gone.var (slots now) id C there held in
       let ts = total-slot size gone.var (slots now) id C there held in
@@ -129,12 +126,12 @@ module _ (keep gone : Literal) (b : Bridge) (now : Seen) (stands : CanStandFor n
         let c = literals-put (renamed keep gone C) (others id (slots now)) in
         let x = length-others (slots now) id C there in
         let y = literals-others (slots now) id C there in
-        let l = shorter in
+        let l = renamed-length keep gone C in
         (omega (arith, e.0), omega (arith, e.1))
 
     room_stays : HasRenamingRoom new gone.var
     room_stays =
-        let l = shorter in
+        let l = renamed-length keep gone C in
         let n = counts in
         record {
           words = let t = total-renamed length in let a = room.words in let c = h.words in omega arith;

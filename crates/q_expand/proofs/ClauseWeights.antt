@@ -3,10 +3,8 @@ use Rattle.std.proofs.Common.{◌≡◌, ◌≤◌, ℕ, zero, suc, ◌+◌, Lis
 use Rattle.std.proofs.lemmas.Bool.{cases_eq}
 use Rattle.q_logic.specs.Prelude.{Clause, Matrix, IsIn, Slots, slot, set_slot, live}
 use Rattle.q_kernel.specs.Lists.{Has, Misses, AreApart}
-use Rattle.q_kernel.proofs.SlotLists.{slot-set_other}
-use Rattle.q_logic.proofs.Common.{weight}
+use Rattle.q_logic.proofs.Common.{weight, slot-set_other, slot-set_none}
 use Rattle.q_logic.proofs.HintChains.{live-number}
-use Rattle.q_rule.proofs.RuleResults.{slot-none}
 use Rattle.q_expand.specs.Dependents.{weigh, tally}
 
 pub tally-append : (w : Clause → ℕ) (N : Slots) (xs ys : List ℕ) → tally w N (xs ++ ys) ≡ tally w N xs + tally w N ys
@@ -45,7 +43,7 @@ none-weighs w (C ∷ X) h = let i = none-weighs w X (λ D m. h D (inr m)) in let
 
 pub slot-fewer : (c d : ℕ) (N : Slots) (C : Clause) → slot (set_slot c None N) d ≡ Some C → (d ≡ c → ⊥) × (slot N d ≡ Some C)
 slot-fewer c d N C e = elim (cases_eq d c) [
-  | inl f ↦ absurd (none_some C (sym (subst (λ (x : ℕ). slot (set_slot c None N) x ≡ None) (sym f) (slot-none c N)) ∙ e))
+  | inl f ↦ absurd (none_some C (sym (subst (λ (x : ℕ). slot (set_slot c None N) x ≡ None) (sym f) (slot-set_none c N)) ∙ e))
   | inr n ↦ (n, sym (slot-set_other c d None N n) ∙ e)
 ]
   where

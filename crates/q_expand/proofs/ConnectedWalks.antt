@@ -2,13 +2,13 @@
 use Rattle.std.proofs.Common.{◌≡◌, ◌≢◌, ◌⊎◌, ◌≤◌, ◌+◌, ℕ, Bool, true, false, not, cond, List, [], ◌∷◌, ◌++◌, length, Some, refl, sym, ◌∙◌, ap, subst, inl, inr, arith, append-nil, append_assoc, true≢false}
 use Rattle.std.proofs.lemmas.Bool.Decides.{nat_tests}
 use Rattle.q_logic.specs.Prelude.{Literal, negation, Clause, Matrix, Prefix, IsIn, has_variable, positive, slot, live, inner_existential, Spread, size_of}
-use Rattle.q_logic.proofs.Common.{IsIn-append_left, has_variable-IsIn, weight}
+use Rattle.q_logic.proofs.Common.{IsIn-append_left, has_variable-IsIn, weight, live-slot}
 use Rattle.q_logic.proofs.MeasureFalls.{var_is}
 use Rattle.q_rule.proofs.IdClauses.{slot-one}
 use Rattle.q_kernel.specs.Lists.{Has}
 use Rattle.q_kernel.specs.Prelude.{Seen, slots}
 use Rattle.q_kernel.proofs.LiteralLists.{Has-last}
-use Rattle.q_kernel.proofs.SlotLists.{slot-IsIn, size-gone}
+use Rattle.q_kernel.proofs.SlotLists.{size-gone}
 use Rattle.q_expand.specs.Dependents.{Walked, IsConnected, tally, size_beside, one_beside, IsSpread, AreDependents, IsLarger, nothing_met, IsWidened, IsMet}
 use Rattle.q_expand.proofs.ClauseMarks.{Has-left, Has-end, apart-end}
 use Rattle.q_expand.proofs.ClauseWeights.{tally-end, tally-most}
@@ -66,7 +66,7 @@ module _ (k : Seen) (u : ℕ) where
     dependents = record {
       linked = λ j m. elim (w.from j m) [
         | inl i ↦ r.linked j i
-        | inr i ↦ subst (λ (x : Literal). (x.negative ≡ false) × Spread k.prefix (live (slots k)) u x.var) (sym i.3) (refl, spread-on C (slot-IsIn (slots k) c C e) con i.0 i.1 i.2)
+        | inr i ↦ subst (λ (x : Literal). (x.negative ≡ false) × Spread k.prefix (live (slots k)) u x.var) (sym i.3) (refl, spread-on C (live-slot (slots k) c C e) con i.0 i.1 i.2)
       ];
       lone = w.lone r.lone;
       apart = rw met (apart-end old.met c r.apart fresh);

@@ -1,7 +1,7 @@
 -- The steps of an expansion lead to clauses that the universal variable keeps apart.
-use Rattle.std.proofs.Common.{◌≡◌, ◌+◌, ℕ, Bool, true, false, cond, List, [], ◌∷◌, ◌++◌, Some, refl, sym, ◌∙◌, ap, subst, inl, inr, arith, append_assoc}
+use Rattle.std.proofs.Common.{◌≡◌, ◌+◌, ℕ, Bool, true, false, cond, List, [], ◌∷◌, ◌++◌, Some, refl, sym, ◌∙◌, ap, subst, inl, inr, append_assoc}
 use Rattle.q_logic.specs.Prelude.{Literal, Clause, Matrix, Prefix, IsIn, is_bound, insert, has, positive, first_of, ProofStep, add, delete, fresh, copies, without, formula_of, in_list, shares, copy_of, copied, copied_literal}
-use Rattle.q_logic.proofs.Common.{SameClauses, Reaches, alike-refl, alike-trans, alike-cons, alike-swap, copies-append, reaches-alike, reaches-append, reaches-end, implied-subsumed, implied-hidden, existential-is_bound, insert-IsIn, IsIn-insert, without-IsIn, has-IsIn, Expansion, copied-IsIn, IsIn-append_right}
+use Rattle.q_logic.proofs.Common.{Reaches, alike-refl, alike-trans, alike-cons, alike-swap, reaches-alike, reaches-append, reaches-end, implied-subsumed, implied-hidden, existential-is_bound, insert-IsIn, IsIn-insert, without-IsIn, has-IsIn, Expansion, copied-IsIn, IsIn-append_right, alike-swap_front}
 use Rattle.q_logic.proofs.ChangeRuns.{reaches-delete}
 use Rattle.q_logic.proofs.ExpandPrefix.{CopyOf, copy_of-in, copy_of-out, freshes}
 use Rattle.q_logic.proofs.ExpandLinks as theory
@@ -83,21 +83,13 @@ module _ (Q : Prefix) (X : Matrix) (u : ℕ) (V : List ℕ) (t : ℕ) (x : Expan
         ),
       )
 
-  turned : (A B C : Matrix) → SameClauses (B ++ (A ++ C)) (A ++ (B ++ C))
-  turned A B C D =
-      let a = copies-append D B (A ++ C) in
-      let b = copies-append D A C in
-      let d = copies-append D A (B ++ C) in
-      let e = copies-append D B C in
-      omega arith
-
   -- the clauses one after the other
   pub reaches-parted : (W Y : Matrix) → ((D : Clause) → IsIn D W → IsIn D X) → ((L : Clause) → IsIn L (links u V t) → IsIn L Y) → Reaches (formula_of Q (W ++ Y)) (all_split u V t W) (formula_of Q (parted u V t W ++ Y))
   reaches-parted [] Y m l = (refl, alike-refl Y)
   reaches-parted (D ∷ W) Y m l =
       reaches-append (formula_of Q (D ∷ (W ++ Y))) (split_steps u V t D) (all_split u V t W) (formula_of Q (parted_one u V t D ++ (W ++ Y))) (formula_of Q (parted u V t (D ∷ W) ++ Y))
       (reaches-one D (W ++ Y) (m D (inl refl)) (λ L i. IsIn-append_right L W Y (l L i)))
-      (reaches-alike Q (W ++ (parted_one u V t D ++ Y)) (parted_one u V t D ++ (W ++ Y)) (all_split u V t W) (formula_of Q (parted u V t (D ∷ W) ++ Y)) (turned (parted_one u V t D) W Y)
+      (reaches-alike Q (W ++ (parted_one u V t D ++ Y)) (parted_one u V t D ++ (W ++ Y)) (all_split u V t W) (formula_of Q (parted u V t (D ∷ W) ++ Y)) (alike-swap_front W (parted_one u V t D) Y)
       (reaches-end Q (parted u V t W ++ (parted_one u V t D ++ Y)) (parted u V t (D ∷ W) ++ Y) (formula_of Q (W ++ (parted_one u V t D ++ Y))) (all_split u V t W)
-      (λ C. turned (parted_one u V t D) (parted u V t W) Y C ∙ ap (copies C) (sym (append_assoc (parted_one u V t D) (parted u V t W) Y)))
+      (λ C. alike-swap_front (parted u V t W) (parted_one u V t D) Y C ∙ ap (copies C) (sym (append_assoc (parted_one u V t D) (parted u V t W) Y)))
       (reaches-parted W (parted_one u V t D ++ Y) (λ E i. m E (inr i)) (λ L i. IsIn-append_right L (parted_one u V t D) Y (l L i)))))

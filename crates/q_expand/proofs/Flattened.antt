@@ -1,44 +1,12 @@
 -- What is made clause by clause does not depend on the order of the clauses.
-use Rattle.std.proofs.Common.{◌≡◌, ◌⊎◌, ◌≤◌, ◌+◌, ℕ, Bool, true, false, cond, List, [], ◌∷◌, ◌++◌, refl, sym, ◌∙◌, ap, subst, inl, inr, arith, true≢false, append_assoc, Some, None, Option}
-use Rattle.q_logic.specs.Prelude.{Literal, Clause, Matrix, IsIn, without, copies, has, each_without, positive, clause_eq, one_less, Slots, slot, set_slot, live, put_first, clauses_at, shares}
-use Rattle.q_logic.proofs.Common.{clause_eq-sound, weight, SameClauses, clause_eq-itself, IsIn-copies, IsIn-alike, alike-refl, alike-sym, alike-trans, alike-append, copies-append, one_less-first, one_less-same}
+use Rattle.std.proofs.Common.{◌≡◌, ◌+◌, ℕ, Bool, true, false, cond, List, [], ◌∷◌, ◌++◌, refl, sym, ◌∙◌, ap, inl, inr, arith, true≢false, append_assoc, Some, None, Option}
+use Rattle.q_logic.specs.Prelude.{Literal, Clause, Matrix, IsIn, without, copies, has, each_without, positive, clause_eq, Slots, slot, set_slot, live, put_first, clauses_at, shares}
+use Rattle.q_logic.proofs.Common.{weight, SameClauses, copies-append, flat, flat-same}
 use Rattle.q_logic.proofs.HintChains.{live-number}
 use Rattle.q_kernel.specs.Lists.{Has, AreApart}
 use Rattle.q_expand.specs.Dependents.{weigh, tally}
 use Rattle.q_expand.proofs.ClauseWeights.{weight-gone, tally-without, slot-fewer}
 use Rattle.q_expand.proofs.ExpansionRun.{parted_one, parted}
-
-abbrev pub flat : (Clause → Matrix) → Matrix → Matrix
-flat f [] = []
-flat f (D ∷ X) = f D ++ flat f X
-
-flat-out : (f : Clause → Matrix) (D : Clause) (Y : Matrix) → IsIn D Y → SameClauses (flat f Y) (f D ++ flat f (one_less D Y))
-flat-out f D [] m C = absurd m
-flat-out f D (E ∷ Y) m C = go (clause_eq E D) refl m (λ n. flat-out f D Y n C)
-  where
-    go : (b : Bool) → clause_eq E D ≡ b → (D ≡ E) ⊎ IsIn D Y → (IsIn D Y → copies C (flat f Y) ≡ copies C (f D ++ flat f (one_less D Y))) → copies C (f E ++ flat f Y) ≡ copies C (f D ++ flat f (cond b Y (E ∷ one_less D Y)))
-    go true q n ih = ap (λ (y : Clause). copies C (f y ++ flat f Y)) (clause_eq-sound E D q)
-    go false q (inl e) ih = absurd (true≢false (sym (subst (λ (y : Clause). clause_eq y D ≡ true) e (clause_eq-itself D)) ∙ q))
-    go false q (inr n) ih =
-        let i = ih n in
-        let a = copies-append C (f E) (flat f Y) in
-        let b = copies-append C (f D) (flat f (one_less D Y)) in
-        let c = copies-append C (f D) (f E ++ flat f (one_less D Y)) in
-        let d = copies-append C (f E) (flat f (one_less D Y)) in
-        omega arith
-
-pub flat-same : (f : Clause → Matrix) (X Y : Matrix) → SameClauses X Y → SameClauses (flat f X) (flat f Y)
-flat-same f [] [] s = alike-refl []
-flat-same f [] (D ∷ Y) s = let i = IsIn-copies D (D ∷ Y) (inl refl) in let e = s D in absurd (none (copies D (D ∷ Y)) i e)
-  where
-    none : (n : ℕ) → 1 ≤ n → 0 ≡ n → ⊥
-    none n i e = omega arith
-flat-same f (D ∷ X) Y s =
-    let m = IsIn-alike (D ∷ X) Y s D (inl refl) in
-    let t : SameClauses X (one_less D Y) = subst (λ (Z : Matrix). SameClauses Z (one_less D Y)) (one_less-first D X) (one_less-same D (D ∷ X) Y s (inl refl)) in
-    alike-trans (f D ++ flat f X) (f D ++ flat f (one_less D Y)) (flat f Y)
-    (alike-append (f D) (f D) (flat f X) (flat f (one_less D Y)) (alike-refl (f D)) (flat-same f X (one_less D Y) t))
-    (alike-sym (flat f Y) (f D ++ flat f (one_less D Y)) (flat-out f D Y m))
 
 -- a literal leaves the same clauses
 without-flat : (l : Literal) (X : Matrix) → flat (λ D. without l D ∷ []) X ≡ each_without l X

@@ -1,12 +1,11 @@
 -- A literal leaves clause after clause, and may still leave the others.
 use Rattle.std.proofs.Common.{◌≡◌, ◌⊎◌, ◌≤◌, ◌<◌, ◌+◌, ◌*◌, ℕ, true, ◌∷◌, length, Some, sym, ap, ◌∙◌, subst, inl, inr, arith, refl}
 use Rattle.q_logic.specs.Prelude.{Literal, negation, Clause, Prefix, IsIn, is_universal, without, Reached, with_literal, each_without, drop_literal, size_of, Slots, slot, set_slot, live, others}
-use Rattle.q_logic.proofs.Common.{IsIn-alike, reached-more, IsIn-has, without-IsIn, others-live}
+use Rattle.q_logic.proofs.Common.{IsIn-alike, reached-more, IsIn-has, without-IsIn, others-live, live-slot}
 use Rattle.q_logic.proofs.HintedRuns.{live-changed}
 use Rattle.q_log.specs.Texts.{step_text}
 use Rattle.q_kernel.specs.Prelude.{Seen, slots, IsSound, MayDrop, IsDropped, IsLed}
 use Rattle.q_kernel.proofs.KernelRuns.{led-itself, led-through, lost-literal}
-use Rattle.q_kernel.proofs.SlotLists.{slot-IsIn}
 use Rattle.q_rule.proofs.RuleSteps.{may-drop_reducible, drop-cost}
 use Rattle.q_rule.proofs.LoopChanges.{turn-shorter, with-shorter, each_without-none}
 use Rattle.q_expand.specs.Apart.{MayLose, HasLost}
@@ -38,7 +37,7 @@ module _ (l : Literal) (N : Slots) (c : ℕ) (E : Clause) (there : slot N c ≡ 
     where
       go : Good P B → (E2 ≡ without l E) ⊎ IsIn E2 (live N) → Good P E2
       go b (inl q) = inl q
-      go (inl q) (inr d) = inr (E, slot-IsIn N c E there, h, Reached.next E2 k (without-IsIn l E k (subst (λ (x : Clause). IsIn k x) q j)) n e o d f Reached.first)
+      go (inl q) (inr d) = inr (E, live-slot N c E there, h, Reached.next E2 k (without-IsIn l E k (subst (λ (x : Clause). IsIn k x) q j)) n e o d f Reached.first)
       go (inr (A, a, b, s)) (inr d) = inr (A, a, b, Reached.next E2 k j n e o d f s)
 
 -- one clause less
@@ -51,7 +50,7 @@ lose-more l k n c E there h change p m = record {
       elim (after-in l (slots k) c E there C i2) [
         | inl q ↦ lost-literal l E (subst (λ (y : Clause). IsIn l y) q j)
         | inr d ↦ elim (good l (slots k) c E there k.prefix C d j h D r2) [
-          | inl q ↦ m.none E E (slot-IsIn (slots k) c E there) h Reached.first (without-IsIn l E (negation l) (subst (λ (y : Clause). IsIn (negation l) y) q x))
+          | inl q ↦ m.none E E (live-slot (slots k) c E there) h Reached.first (without-IsIn l E (negation l) (subst (λ (y : Clause). IsIn (negation l) y) q x))
           | inr g ↦ m.none g.0 D g.1 g.2 g.3 x
         ]
       ];
@@ -61,7 +60,7 @@ pub may-lose : (l : Literal) (k : Seen) (c : ℕ) (C : Clause) → IsSound k →
 may-lose l k c C s there h m b = may-drop_reducible k c C s there l (record {
   universal_literal = m.universal;
   in_clause = h;
-  no_negation = λ D r. m.none C D (slot-IsIn (slots k) c C there) h (reached-more k.prefix (others c (slots k)) (live (slots k)) C l (λ E i. others-live (slots k) c E i) D r);
+  no_negation = λ D r. m.none C D (live-slot (slots k) c C there) h (reached-more k.prefix (others c (slots k)) (live (slots k)) C l (λ E i. others-live (slots k) c E i) D r);
 }) b
 
 spent : (w t len x spare left cost : ℕ) → t + (len + 1) ≡ w → 16 * w + x ≤ spare → spare ≡ left + cost → cost ≤ 16 * (len + 1) → 16 * t + x ≤ left

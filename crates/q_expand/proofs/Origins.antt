@@ -5,7 +5,7 @@ use Rattle.q_logic.proofs.Common.{IsIn-append, literal_eq-itself, universal-not_
 use Rattle.q_logic.proofs.ExpandPrefix.{CopyOf, copy_of-in, copy_of-out}
 use Rattle.q_logic.proofs.ExpandLinks.{minus, Guarded}
 use Rattle.q_logic.proofs.LeastClosure.{shares-of}
-use Rattle.q_logic.proofs.ExpandRun.{no_literal, reached_u, reached_m}
+use Rattle.q_logic.proofs.ExpandRun.{no_literal, reached_u, reached_m, shares-IsIn}
 use Rattle.q_expand.specs.Steps.{over_copies}
 use Rattle.q_expand.proofs.ExpansionRun.{parted_one, parted}
 
@@ -104,18 +104,11 @@ module _ (Q : Prefix) (X : Matrix) (u : ℕ) (V : List ℕ) (t : ℕ) (x : Expan
       go : ((j : Literal) × IsIn j (without (minus u) D) × (k ≡ copied_literal V t j)) → Fine k
       go (j, a, e) = subst Fine (sym e) (one j (without-IsIn (minus u) D j a) (in_list j.var V) refl)
 
-  unshared : (D : Clause) → shares V D ≡ false → (k : Literal) → IsIn k D → in_list k.var V ≡ false
-  unshared D s k i = go (in_list k.var V) refl
-    where
-      go : (b : Bool) → in_list k.var V ≡ b → in_list k.var V ≡ false
-      go true q = absurd (true≢false (sym (shares-of V D k i q) ∙ s))
-      go false q = q
-
   side-rest : (D : Clause) → IsIn D X → shares V D ≡ false → ClassA Q u V t D
-  side-rest D m s k i = (x.below D m k i, unshared D s k i)
+  side-rest D m s k i = (x.below D m k i, shares-IsIn V D s k i)
 
   side-minus : (D : Clause) → IsIn D X → has (positive u) D ≡ false → shares V D ≡ false → IsIn (minus u) D → ClassM Q u V t D
-  side-minus D m p s n k i = plain D m p (inl (IsIn-has (minus u) D n)) k i (unshared D s k i)
+  side-minus D m p s n k i = plain D m p (inl (IsIn-has (minus u) D n)) k i (shares-IsIn V D s k i)
 
   -- the sides of all clauses, of those with u, and of those with not u
   pub kinds-classes : (Z : Matrix) → ((E : Clause) → IsIn E Z → Kind E) → Classes Q u V t Z

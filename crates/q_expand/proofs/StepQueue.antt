@@ -2,12 +2,11 @@
 use Rattle.std.proofs.Common.{◌≡◌, ◌≢◌, ◌≤◌, ◌<◌, ◌+◌, ◌*◌, ℕ, List, [], ◌∷◌, ◌++◌, length, Some, None, Option, sym, ◌∙◌, ap, subst, inl, inr, arith, append_assoc}
 use Rattle.std.proofs.lemmas.Bool.{cases_eq}
 use Rattle.q_logic.specs.Prelude.{Literal, IsBelow, Clause, PrenexFormula, ArePairs, ProofStep, add, delete, drop_literal, fresh, Valid, after, IsFirst, standard, slot, AreAlike}
-use Rattle.q_logic.proofs.Common.{existential-is_bound, alike_swapped, alike_through}
+use Rattle.q_logic.proofs.Common.{existential-is_bound, alike_swapped, alike_through, live-slot, slot-set_other}
 use Rattle.q_log.specs.Texts.{step_text}
 use Rattle.q_kernel.specs.Prelude.{Seen, slots, formula_in, IsSound, MayAdd, IsAdded, MayDelete, IsDeleted, MayFresh, IsFreshened}
 use Rattle.q_kernel.proofs.TextCosts.{cost-add, cost-delete, cost-fresh, proper-var, within-small, proper-in_order}
 use Rattle.q_kernel.proofs.KernelRuns.{steps-same, alike-after_add, alike-after_delete, alike-after_fresh, led-through, led-itself}
-use Rattle.q_kernel.proofs.SlotLists.{slot-set_other, slot-IsIn}
 use Rattle.q_expand.specs.Tracks.{price, words_for, ids_for, vars_for, total, IsReserved, AreReserved, IsOnTrack, CanTake, HasTaken, KeepsClauses}
 
 pub took-none : (k : Seen) → HasTaken k k []
@@ -105,7 +104,7 @@ delete-may k id q C s e f (rest, later, G, h) =
       step = record {
         valid = h.valid.0;
         bytes = enough (length (step_text (delete (q C) C))) (16 * (length C + 1)) k.spare_bytes (total price rest + later)
-            (cost-delete (q C) C (proper-in_order (formula_in k) C s.proper (slot-IsIn (slots k) id C e)) f (within-small (formula_in k) C s.proper h.valid.0.0)) (let b = h.bytes in omega arith);
+            (cost-delete (q C) C (proper-in_order (formula_in k) C s.proper (live-slot (slots k) id C e)) f (within-small (formula_in k) C s.proper h.valid.0.0)) (let b = h.bytes in omega arith);
       };
     }
 
@@ -113,7 +112,7 @@ pub delete-took : (k n : Seen) (id : ℕ) (q : Clause → Option Literal) (C : C
 delete-took k n id q C s e f c d = subst (λ (D : Clause). HasTaken k n (delete (q D) D ∷ [])) same (record {
   led = d.logged.led;
   track = track-on k n (delete (q d.clause) d.clause)
-      (cost-delete (q d.clause) d.clause (proper-in_order (formula_in k) d.clause s.proper (slot-IsIn (slots k) id d.clause d.was)) (subst (λ (D : Clause). IsFirst (q D) D) (sym same) f) (within-small (formula_in k) d.clause s.proper (s.proper.formula.closed d.clause (slot-IsIn (slots k) id d.clause d.was))))
+      (cost-delete (q d.clause) d.clause (proper-in_order (formula_in k) d.clause s.proper (live-slot (slots k) id d.clause d.was)) (subst (λ (D : Clause). IsFirst (q D) D) (sym same) f) (within-small (formula_in k) d.clause s.proper (s.proper.formula.closed d.clause (live-slot (slots k) id d.clause d.was))))
       (alike-after_delete k n (q d.clause) d.clause id d.was d.change d.prefix) d.logged.bytes (let w = d.room.words in omega arith) (let w = d.room.ids in omega arith) (let w = d.room.vars in omega arith) d.room.greatest;
 })
   where

@@ -1,5 +1,5 @@
 -- A walk that ends has met all that is connected.
-use Rattle.std.proofs.Common.{◌≡◌, ℕ, ◌+◌, ◌<◌, ◌≤◌, Bool, true, false, not, List, slice_get, Some, length, refl, sym, ◌∙◌, ap, subst, inl, inr, arith, length-append}
+use Rattle.std.proofs.Common.{◌≡◌, ℕ, ◌+◌, ◌<◌, ◌≤◌, false, not, List, slice_get, Some, length, refl, sym, ◌∙◌, ap, subst, inl, inr, arith, length-append}
 use Rattle.std.proofs.lemmas.Option.{same_Some}
 use Rattle.q_logic.specs.Prelude.{Literal, negation, Clause, IsIn, positive, slot, live, Spread}
 use Rattle.q_logic.proofs.MeasureFalls.{var_is}
@@ -9,10 +9,6 @@ use Rattle.q_kernel.specs.Lists.{Has}
 use Rattle.q_kernel.specs.Prelude.{Seen, slots}
 use Rattle.q_expand.specs.Dependents.{Walked, IsConnected, AreDependents, IsLarger, HasMet, IsWhole, IsVisited}
 use Rattle.q_expand.specs.declared.dependents.Room.{Room}
-
-not-not : (b : Bool) → not (not b) ≡ b
-not-not true = refl
-not-not false = refl
 
 module _ (k : Seen) (u : ℕ) where
   -- the variables before the head were visited

@@ -4,6 +4,7 @@ use Rattle.std.proofs.lemmas.List.{length_push, length-set, get_or_append_left, 
 use Rattle.std.proofs.lemmas.Bool.{cases_lt, cases_eq, ne_eqb, eq-eqb}
 use Rattle.std.proofs.lemmas.Option.{same_Some}
 use Rattle.q_logic.specs.Prelude.{Circuit, input, Reads, replaced, Strategy, circuit_of, given, or_input, map_circuit, reread}
+use Rattle.q_logic.proofs.UniversalPivot.{given-reread}
 use Rattle.q_aig.specs.Prelude.{Net, IsLiteral, tree_at, IsNet, Keeps, Serves}
 use Rattle.q_aig.proofs.Substitutes.{serves-same, serves-then}
 use Rattle.q_carry.specs.Prelude.{look_at, IsGrown}
@@ -342,13 +343,6 @@ module _ (a a1 b : Net) (ins tb tb1 : List (Option ℕ)) (z z1 z2 : Slots) (v li
           go None = sym (replaced-other v t x n)
           go (Some q) = refl
 
-      given-reread : (x : ℕ) → given (reread v t c x) ≡ given (c x)
-      given-reread x = go (c x)
-        where
-          go : (o : Option Circuit) → given (map_circuit (replaced v t) o) ≡ given o
-          go None = refl
-          go (Some q) = refl
-
       under-next : AreUnder next (has_input ins) (standing b tb1) (reread v t c)
       under-next x h = elim (cases_eq x v) [
         | inl e ↦ subst (λ (y : ℕ). (q : Circuit) × (standing b tb1 y ≡ Some q) × Serves (under next q)
@@ -362,7 +356,7 @@ module _ (a a1 b : Net) (ins tb tb1 : List (Option ℕ)) (z z1 z2 : Slots) (v li
             )
         | inr n ↦
             let old : (given (c x) ≡ true) ⊎ (has_input ins x ≡ true) =
-            elim h [ inl p ↦ inl (sym (given-reread x) ∙ p) | inr p ↦ inr p ] in
+            elim h [ inl p ↦ inl (sym (given-reread v t c x) ∙ p) | inr p ↦ inr p ] in
             let u = w.circuits x old in
             let o = old-circuit x u.0 n u.1 in (
               tree_at a o.0,

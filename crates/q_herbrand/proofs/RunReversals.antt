@@ -3,8 +3,9 @@ use Rattle.std.proofs.Common.{◌≡◌, true, List, [], ◌∷◌, ◌++◌, Op
 use Rattle.q_logic.specs.declared.limits.Limits.{Limits}
 use Rattle.q_logic.specs.Prelude.{Literal, negation, Clause, Matrix, Prefix, PrenexFormula, standard, formula_of, is_bound, Implied, ProofStep, add, delete, drop_literal, fresh, remove_variable, one_less, IsWarranted, Valid, after, ValidSteps, AreAlike}
 use Rattle.q_logic.specs.Reversals.{Reversal, IsExtended, Reversed, Reversals}
-use Rattle.q_logic.proofs.Common.{Within, implied-within, forall_pivot-within, outers-same, alike_swapped, alike_through, alike_valid, alike_after, existential-is_bound, SameClauses, IsIn-alike, alike-sym, valid_more}
+use Rattle.q_logic.proofs.Common.{implied-within, forall_pivot-within, outers-same, alike_swapped, alike_through, alike_valid, alike_after, existential-is_bound, SameClauses, IsIn-alike, alike-sym, valid_more}
 use Rattle.q_logic.proofs.ClauseCounts.{one_less-same}
+use Rattle.q_logic.proofs.AlikeFormulas.{less-within}
 use Rattle.q_herbrand.specs.declared.reversal.Reversal.{Reversal as Entry}
 use Rattle.q_herbrand.specs.Entries.{entry_of, entries_of}
 use Rattle.q_herbrand.specs.Trails.{Trailed, HasGrownBy, HasNoted}
@@ -30,30 +31,17 @@ warranted-first P X C p (inr (k, f, v)) n e = none (sym e ∙ f)
 
 -- Over formulas that are alike, steps have the same reversals.
 module _ (P : Prefix) (X Y : Matrix) (s : SameClauses X Y) where
-  here : Within X Y
-  here = IsIn-alike X Y s
-
-  back : Within Y X
-  back = IsIn-alike Y X (alike-sym X Y s)
-
-  less : (C : Clause) → Within (one_less C X) (one_less C Y)
-  less C = IsIn-alike (one_less C X) (one_less C Y) (one_less-same C X Y s)
-
-  less_back : (C : Clause) → Within (one_less C Y) (one_less C X)
-  less_back C =
-      IsIn-alike (one_less C Y) (one_less C X) (alike-sym (one_less C X) (one_less C Y) (one_less-same C X Y s))
-
   same_reversed : (t : ProofStep) (rs : List Reversal) → Reversed (formula_of P X) t rs → Reversed (formula_of P Y) t rs
-  same_reversed (add p C) rs (inl e) = inl (implied-within X Y C here e.0, e.1)
+  same_reversed (add p C) rs (inl e) = inl (implied-within X Y C (IsIn-alike X Y s) e.0, e.1)
   same_reversed (add p C) rs (inr (n, (l, os, f, o, g))) =
-      inr ((λ i. n (implied-within Y X C back i)), (l, os, f, outers-same P X Y (negation l) os s o, g))
+      inr ((λ i. n (implied-within Y X C (IsIn-alike Y X (alike-sym X Y s)) i)), (l, os, f, outers-same P X Y (negation l) os s o, g))
   same_reversed (delete p C) rs e = e
   same_reversed (drop_literal l C) rs (inl (v, (os, o, e))) = inl (
-    forall_pivot-within P (one_less C X) (one_less C Y) C l (less C) (less_back C) v,
+    forall_pivot-within P (one_less C X) (one_less C Y) C l (less-within X Y s C) (less-within Y X (alike-sym X Y s) C) v,
     (os, outers-same P (one_less C X) (one_less C Y) (negation l) os (one_less-same C X Y s) o, e),
   )
   same_reversed (drop_literal l C) rs (inr (n, p, e)) =
-      inr ((λ v. n (forall_pivot-within P (one_less C Y) (one_less C X) C l (less_back C) (less C) v)), p, e)
+      inr ((λ v. n (forall_pivot-within P (one_less C Y) (one_less C X) C l (less-within Y X (alike-sym X Y s) C) (less-within X Y s C) v)), p, e)
   same_reversed (fresh v w) rs e = e
   same_reversed (remove_variable v) rs e = e
 
@@ -61,7 +49,7 @@ module _ (P : Prefix) (X Y : Matrix) (s : SameClauses X Y) where
   same_extended (add p C) x = x
   same_extended (delete p C) x = x
   same_extended (drop_literal l C) x =
-      ((λ v. x.0 (forall_pivot-within P (one_less C Y) (one_less C X) C l (less_back C) (less C) v)), x.1)
+      ((λ v. x.0 (forall_pivot-within P (one_less C Y) (one_less C X) C l (less-within Y X (alike-sym X Y s) C) (less-within X Y s C) v)), x.1)
   same_extended (fresh v w) x = x
   same_extended (remove_variable v) x = x
 

@@ -1,5 +1,5 @@
 -- Circuits over slots, one entry further.
-use Rattle.std.proofs.Common.{◌≡◌, ◌⊎◌, ℕ, ◌+◌, ◌≤◌, ◌<◌, Bool, true, false, not, cond, eqb, List, [], ◌∷◌, length, get_or, inl, inr, arith, refl, sym, ap, ◌∙◌, subst, Option, Some, None, Result, Ok, Err, OnOk}
+use Rattle.std.proofs.Common.{◌≡◌, ◌⊎◌, ℕ, ◌+◌, ◌≤◌, ◌<◌, Bool, true, false, not, cond, eqb, List, [], ◌∷◌, length, get_or, inl, inr, arith, refl, sym, ap, ◌∙◌, subst, Option, Some, None}
 use Rattle.q_logic.specs.Prelude.{Literal, negation, Clause, IsIn, Circuit, constant, inverter, conjunction, disjunction, Strategy, circuit_of, given, or_input, literal_circuit, some_of, all_of, raised, with_circuit}
 use Rattle.q_logic.specs.Reversals.{Reversal, none_of, lowered_by, turned, plain, removed, carried, Forth}
 use Rattle.q_aig.specs.Prelude.{Net, tree_at, Keeps, Serves}
@@ -225,11 +225,6 @@ pub taken-removed : (a b : Net) (ins tb tb2 : List (Option ℕ)) (z : Slots) (v 
     IsCarried a b ins tb tb2 (removed v) → IsTaken a b ins tb tb2 z z (removed v)
 taken-removed a b ins tb tb2 z v q d = taken-standing a b ins tb tb2 z (removed v) q d
     (λ r own c u w o. (tt, put-under r (has_input ins) own c v (constant false) u (serves-self (constant false))))
-
--- What holds of a good result.
-pub on-ok : {T E : Type 0} (r : Result T E) (P Q : Type 0) → (P → Q) → OnOk r P → OnOk r Q
-on-ok (Ok x) P Q f h = f h
-on-ok (Err e) P Q f h = h
 
 -- Entries, one further.
 pub taken-none : (a : Net) (ins tb : List (Option ℕ)) (z : Slots) → IsReady a ins tb z → AreTaken a a ins tb tb z z []

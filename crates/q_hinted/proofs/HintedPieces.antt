@@ -6,8 +6,9 @@ use Rattle.std.proofs.lemmas.List.{length-take-le, take_rest}
 use Rattle.q_text.specs.declared.tokens.Token.{Token}
 use Rattle.q_text.specs.declared.tokens.Tokens.{Tokens}
 use Rattle.q_text.specs.declared.runs.LiteralWord.{LiteralWord}
-use Rattle.q_text.specs.Tokens.{after, all_handed, handed, line_of, listed}
+use Rattle.q_text.specs.Tokens.{after, all_handed, handed, line_of}
 use Rattle.q_text.specs.Pieces.{after_all, behind_literal, literal_token, Goes}
+use Rattle.q_text.proofs.TokenLaw.{none-listed, rest-listed}
 use Rattle.q_log.specs.declared.error.LogError.{LogError}
 use Rattle.q_log.specs.declared.error.LogError.TheVariants.{BadLine, Limit, NoMemory}
 use Rattle.q_hinted.specs.Grammar.{Place, leads, place_move}
@@ -19,14 +20,6 @@ use Rattle.q_hinted.proofs.HintedBytes.{byte-leads, after-refusal, token-refused
 abbrev pub state_of : Tokens → ℕ → Place → Option LogError → BothState
 state_of t k s f = record { tokens = t; left = k; place = s; refused = f }
 
-none-of : (o : Option Token) (ts : List Token) → listed o ++ ts ≡ [] → o ≡ None
-none-of None ts e = refl
-none-of (Some t) ts e = cc
-
-rest-of : (o : Option Token) (ts : List Token) → listed o ++ ts ≡ [] → ts ≡ []
-rest-of None ts e = e
-rest-of (Some t) ts e = cc
-
 one-silent : (t : Tokens) (k b : ℕ) (s : Place) (rest : List ℕ) → handed t b ≡ None → to_come (state_of t (suc k) s None) (b ∷ rest) ≡ to_come (state_of (after t b) k s None) rest
 one-silent t k b s rest e =
     subst (λ (o : Option Token). let T = token_transition (state_of (after t b) k s None) o in Leads T.answer (to_come (state_of t (suc k) s None) (b ∷ rest)) (to_come T.state rest)) e (byte-leads t k b s rest)
@@ -36,8 +29,8 @@ silent t k s [] rest l e = let z : k - 0 ≡ k = omega arith in rw z refl
 silent t zero s (b ∷ bs) rest l e = absurd (omega arith)
 silent t (suc k) s (b ∷ bs) rest l e =
     let z : k - length bs ≡ suc k - suc (length bs) = omega arith in
-    one-silent t k b s (bs ++ rest) (none-of (handed t b) (all_handed (after t b) bs) e)
-    ∙ (silent (after t b) k s bs rest (omega arith) (rest-of (handed t b) (all_handed (after t b) bs) e) ∙ ap (λ j. to_come (state_of (after_all (after t b) bs) j s None) rest) z)
+    one-silent t k b s (bs ++ rest) (none-listed (handed t b) (all_handed (after t b) bs) e)
+    ∙ (silent (after t b) k s bs rest (omega arith) (rest-listed (handed t b) (all_handed (after t b) bs) e) ∙ ap (λ j. to_come (state_of (after_all (after t b) bs) j s None) rest) z)
 
 last-leads : (mid new : Tokens) (k b : ℕ) (s : Place) (o : Option Token) (rest : List ℕ) → new ≡ after mid b → o ≡ handed mid b →
     let T = token_transition (state_of new k s None) o in
@@ -97,8 +90,8 @@ silent-behind t k s [] rest l e = let z : k - 0 ≡ k = omega arith in rw z refl
 silent-behind t zero s (b ∷ bs) rest l e = absurd (omega arith)
 silent-behind t (suc k) s (b ∷ bs) rest l e =
     let z : k - length bs ≡ suc k - suc (length bs) = omega arith in
-    ap (λ (q : BothState). behind q (bs ++ rest)) (one-behind t k b s (none-of (handed t b) (all_handed (after t b) bs) e))
-    ∙ (silent-behind (after t b) k s bs rest (omega arith) (rest-of (handed t b) (all_handed (after t b) bs) e) ∙ ap (λ j. behind (state_of (after_all (after t b) bs) j s None) rest) z)
+    ap (λ (q : BothState). behind q (bs ++ rest)) (one-behind t k b s (none-listed (handed t b) (all_handed (after t b) bs) e))
+    ∙ (silent-behind (after t b) k s bs rest (omega arith) (rest-listed (handed t b) (all_handed (after t b) bs) e) ∙ ap (λ j. behind (state_of (after_all (after t b) bs) j s None) rest) z)
 
 last-behind : (mid new : Tokens) (k b : ℕ) (s : Place) (o : Option Token) → new ≡ after mid b → o ≡ handed mid b → behind (state_of mid (suc k) s None) (b ∷ []) ≡ (token_transition (state_of new k s None) o).state
 last-behind mid new k b s o g h = turned ∙ (ap (λ (y : Tokens). (token_transition (state_of y k s None) (handed mid b)).state) (sym g) ∙ ap (λ (x : Option Token). (token_transition (state_of new k s None) x).state) (sym h))

@@ -1,9 +1,8 @@
 -- The text of numbers, part by part.
-use Rattle.std.proofs.Common.{◌≡◌, ℕ, zero, suc, ◌+◌, ◌<◌, List, [], ◌∷◌, ◌++◌, length, drop, pos, Result, Ok, Err, OnOk, refl, sym, ap, ◌∙◌, append_assoc, append-nil, add-one, arith}
+use Rattle.std.proofs.Common.{◌≡◌, ℕ, zero, suc, ◌+◌, ◌<◌, List, [], ◌∷◌, ◌++◌, length, drop, pos, refl, sym, ap, ◌∙◌, append_assoc, append-nil, add-one, arith}
 use Rattle.q_logic.specs.Prelude.{HintGroup}
 use Rattle.q_logic.specs.ProofParts.{group_at}
 use Rattle.q_text.specs.Numbers.{number_text}
-use Rattle.q_text.specs.Texts.{Extends}
 use Rattle.q_hinted.specs.Parts.{groups_numbers}
 use Rattle.q_hinted.specs.Texts.{plain_text}
 
@@ -37,11 +36,3 @@ groups-at (g ∷ gs) (suc i) h = groups-at gs i (omega arith)
 pub groups-next : (gs : List HintGroup) (i : ℕ) → i < length gs →
     plain_text (groups_numbers (drop i gs)) ≡ plain_text (group_numbers (group_at gs i).target (group_at gs i).hints) ++ plain_text (groups_numbers (drop (i + 1) gs))
 groups-next gs i h = rw add-one (groups-at gs i h)
-
-pub extends-append : (a b c : List ℕ) → Extends a b → Extends a (b ++ c)
-extends-append a b c h = record { rest = h.rest ++ c; is = ap (λ x. x ++ c) h.is ∙ append_assoc a h.rest c }
-
--- what is known of an answer may be told otherwise
-pub on-ok : {X E P Q : Type 0} (r : Result X E) → (P → Q) → OnOk r P → OnOk r Q
-on-ok (Ok x) f p = f p
-on-ok (Err e) f p = p

@@ -5,7 +5,7 @@ use Rattle.q_logic.specs.declared.formulas.Quant.{Quant}
 use Rattle.q_logic.specs.declared.formulas.Quant.TheVariants.{Exists, Forall}
 use Rattle.q_logic.specs.declared.formulas.Bound.{Bound}
 use Rattle.q_logic.specs.Prelude.{Prefix, is_bound, same_quant, run_to, outer_or_same, IsNext}
-use Rattle.q_logic.proofs.Common.{is_bound-first, is_bound-later, same_quant-through}
+use Rattle.q_logic.proofs.Common.{is_bound-first, is_bound-later, same_quant-through, next-rises}
 use Rattle.q_judge.specs.Scopes.{last_or, Follows, AreRanked, in_block, IsNumbered, next_rank}
 use Rattle.q_judge.proofs.BoundPieces.{bound-cases}
 
@@ -15,21 +15,11 @@ same_quant-sound Exists Forall e = absurd (true≢false (sym e))
 same_quant-sound Forall Exists e = absurd (true≢false (sym e))
 same_quant-sound Forall Forall e = refl
 
-pub same_quant-itself : (q : Quant) → same_quant q q ≡ true
-same_quant-itself Exists = refl
-same_quant-itself Forall = refl
-
 module _ (rank : ℕ → ℕ) where
-  pub next-rises : (b c : Bound) → IsNext rank b c → rank b.var ≤ rank c.var
-  next-rises b c n = elim n [
-    | inl e ↦ let x : rank b.var ≡ rank c.var = e.1 in omega arith
-    | inr e ↦ let x : rank b.var < rank c.var = e.1 in omega arith
-  ]
-
   pub ranked-rises : (b : Bound) (P : Prefix) (v : ℕ) → AreRanked rank (Some b) P → is_bound P v ≡ true → rank b.var ≤ rank v
   ranked-rises b [] v h i = absurd (true≢false (sym i))
   ranked-rises b (c ∷ P) v h i =
-      let n : rank b.var ≤ rank c.var = next-rises b c h.0 in
+      let n : rank b.var ≤ rank c.var = next-rises rank b c h.0 in
       elim (bound-cases c P v i) [
         | inl e ↦ let x : rank c.var ≡ rank v = ap rank e in omega arith
         | inr k ↦ let x : rank c.var ≤ rank v = ranked-rises c P v h.1 k.1 in omega arith
@@ -84,7 +74,7 @@ module _ (rank : ℕ → ℕ) where
       same b c e = cc
   ranked-last o (b ∷ c ∷ A) x v h e i = elim (bound-cases b (c ∷ A) v i) [
     | inl f ↦
-        let n : rank b.var ≤ rank c.var = next-rises b c h.1.0 in
+        let n : rank b.var ≤ rank c.var = next-rises rank b c h.1.0 in
         let k : rank c.var ≤ rank x.var = ranked-last (Some b) (c ∷ A) x c.var h.1 e (is_bound-first c A) in
         let y : rank b.var ≡ rank v = ap rank f in omega arith
     | inr k ↦ ranked-last (Some b) (c ∷ A) x v h.1 e k.1
@@ -141,8 +131,8 @@ module _ (rank : ℕ → ℕ) where
       joint None q = tt
       joint (Some a) q =
           let m : IsNext rank a b = subst (λ (p : Option Bound). Follows rank p b) q r.0 in
-          let up : rank a.var ≤ rank b.var = next-rises a b m in
-          let down : rank b.var ≤ rank c.var = next-rises b c r.1.0 in
+          let up : rank a.var ≤ rank b.var = next-rises rank a b m in
+          let down : rank b.var ≤ rank c.var = next-rises rank b c r.1.0 in
           next-through a b c m r.1.0 (elim (either A (c ∷ C) i) [
             | inl j ↦ let y : rank x ≤ rank a.var = low a q j in let z : rank x ≡ rank b.var = e in inl (omega arith)
             | inr j ↦ let y : rank c.var ≤ rank x = high j in let z : rank x ≡ rank b.var = e in inr (omega arith)

@@ -4,11 +4,11 @@ use Rattle.std.proofs.lemmas.Bool.Decides.{nat_tests}
 use Rattle.std.proofs.lemmas.Bool.{cases_eq, ne_eqb}
 use Rattle.q_logic.specs.declared.formulas.Bound.{Bound}
 use Rattle.q_logic.specs.Prelude.{Prefix, is_bound, Distinct}
-use Rattle.q_logic.proofs.Common.{is_bound-first, is_bound-later}
+use Rattle.q_logic.proofs.Common.{is_bound-first, is_bound-later, next-rises}
 use Rattle.q_judge.specs.declared.bindings.Binding.{Binding}
 use Rattle.q_judge.specs.Scopes.{last_or, var_of, AreLinked, AreRanked, in_block, is_among, beside, IsRun}
 use Rattle.q_judge.proofs.BoundPieces.{bound-cases}
-use Rattle.q_judge.proofs.BlockRanks.{next-rises, ranked-rises}
+use Rattle.q_judge.proofs.BlockRanks.{ranked-rises}
 
 module _ (rank : ℕ → ℕ) (from : ℕ) where
   -- the variables of a block, in order

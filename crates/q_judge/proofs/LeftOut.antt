@@ -1,6 +1,5 @@
 -- What stands in slots of which one may be left out.
-use Rattle.std.proofs.Common.{◌≡◌, ℕ, List, length, Option, None, Some, MatchOption, refl, subst, Contains}
-use Rattle.std.proofs.lemmas.List.{length-set}
+use Rattle.std.proofs.Common.{ℕ, List, Option, None, Some, MatchOption, subst, Contains}
 use Rattle.q_logic.specs.Prelude.{Literal, Clause, Prefix, IsIn, Slots, Closed, Within}
 use Rattle.q_logic.proofs.Common.{IsIn-Contains, Contains-IsIn}
 use Rattle.q_prop.specs.Holders.{IsHolder}
@@ -10,10 +9,6 @@ use Rattle.q_prop.proofs.SlotLemmas.{without-le}
 use Rattle.q_prop.proofs.BucketLemmas.{same-clause}
 use Rattle.q_judge.specs.Warrants.{AreSlotsOf}
 use Rattle.q_judge.proofs.SlotCollections.{held-in, left-in}
-
-pub length-left : (s : Slots) (skip : Option ℕ) → length (without s skip) ≡ length s
-length-left s None = refl
-length-left s (Some n) = length-set s n None
 
 pub closed-left : (P : Prefix) (s : Slots) (skip : Option ℕ) → Closed P (filled s) → Closed P (filled (without s skip))
 closed-left P s skip h D m = h D (left-in s skip D m)

@@ -16,9 +16,6 @@ filled-append [] t = refl
 filled-append (None ∷ s) t = filled-append s t
 filled-append (Some C ∷ s) t = ap (λ (X : Matrix). C ∷ X) (filled-append s t)
 
-same_some : (C D : Clause) → Some C ≡ Some D → C ≡ D
-same_some C D e = cc
-
 -- a slot that is emptied gives one copy
 pub emptied-same : (s : Slots) (n : ℕ) (C : Clause) → Holds s n C → SameClauses (filled s) (C ∷ filled (set s n None))
 emptied-same [] n C h D = cc

@@ -2,8 +2,8 @@
 use Rattle.std.proofs.Common.{◌≡◌, ◌≢◌, ◌⊎◌, ◌≤◌, ◌<◌, ◌+◌, ℕ, zero, suc, [], ◌∷◌, ◌++◌, length, take, get_or, inl, inr, arith, refl, sym, ap, ◌∙◌, subst, Option, Some, None, add-one, not-suc-le-zero, le_of_suc-le-suc}
 use Rattle.std.proofs.lemmas.Bool.{cases_eq}
 use Rattle.q_logic.specs.Prelude.{Clause, Matrix, Slots, slot, set_slot, live, numbered, put_first}
-use Rattle.q_logic.proofs.Common.{live-numbered}
-use Rattle.q_kernel.proofs.SlotLists.{slot-set_same, slot-set_other, live-same}
+use Rattle.q_logic.proofs.Common.{live-numbered, slot-set_other}
+use Rattle.q_kernel.proofs.SlotLists.{slot-set_same, live-same}
 
 -- The first clauses stand under their ids, and nothing else is there.
 abbrev pub AreFirst : Slots → Matrix → ℕ → Type 0

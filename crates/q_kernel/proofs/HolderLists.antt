@@ -5,14 +5,14 @@ use Rattle.std.proofs.lemmas.Bool.Decides.{nat_tests}
 use Rattle.std.proofs.lemmas.Option.{same_Some, none-some}
 use Rattle.std.proofs.lemmas.Bool.{cases_eq}
 use Rattle.q_logic.specs.Prelude.{Literal, IsBelow, Clause, live, ArePairs}
-use Rattle.q_logic.proofs.Common.{not_itself_below, AllByRecursion-IsIn, get_or-IsIn}
+use Rattle.q_logic.proofs.Common.{not_itself_below, AllByRecursion-IsIn, get_or-IsIn, live-slot}
 use Rattle.q_arena.specs.Prelude.{Has, AreApart, start_at, Chains, following}
 use Rattle.q_arena.proofs.RingPaths.{Misses-not, Misses-from}
 use Rattle.q_arena.proofs.ListNeighbours.{following-here, following-later, following-has}
 use Rattle.q_occ.specs.Places.{places_of, IsPlaceIn, no_lit}
 use Rattle.q_kernel.specs.Kernels.{Seen, slots, HoldsLiteral, IsSound}
 use Rattle.q_kernel.proofs.PlaceLists.{place-clause}
-use Rattle.q_kernel.proofs.SlotLists.{slot-get, slot-IsIn}
+use Rattle.q_kernel.proofs.SlotLists.{slot-get}
 use Rattle.q_kernel.specs.Visits.{since, since_place, owners_at, holders_of, holders_since, IsWalk, IsHolder}
 
 since-here : (p y : ℕ) (ys : List ℕ) → y ≡ p → since p (y ∷ ys) ≡ y ∷ ys
@@ -103,7 +103,7 @@ place-one k l p q s h i e =
     let c : IsPlaceIn k.arena b.0 l p = subst (λ (id : ℕ). IsPlaceIn k.arena id l p) same a.2 in
     let d : IsPlaceIn k.arena b.0 l q = b.2 in
     let C : c.clause ≡ d.clause = same_Some c.clause d.clause (sym c.live ∙ d.live) in
-    let o : ArePairs IsBelow d.clause = AllByRecursion-IsIn (ArePairs IsBelow) (live (slots k)) d.clause s.proper.ordered (slot-IsIn (slots k) b.0 d.clause (slot-get k.arena.clauses b.0 ∙ d.live)) in
+    let o : ArePairs IsBelow d.clause = AllByRecursion-IsIn (ArePairs IsBelow) (live (slots k)) d.clause s.proper.ordered (live-slot (slots k) b.0 d.clause (slot-get k.arena.clauses b.0 ∙ d.live)) in
     let n : c.at_index ≡ d.at_index = index-one d.clause l no_lit c.at_index d.at_index o (subst (λ (D : Clause). c.at_index < length D) C c.in_range) d.in_range (subst (λ (D : Clause). get_or D c.at_index no_lit ≡ l) C c.of) d.of in
     c.is ∙ (ap (λ (x : ℕ). start_at k.arena b.0 + x) n ∙ sym d.is)
 

@@ -3,7 +3,7 @@ use Rattle.std.proofs.Common.{◌≡◌, ◌≢◌, ◌⊎◌, ◌≤◌, ◌<�
 use Rattle.std.proofs.lemmas.Option.{same_Some, none-some}
 use Rattle.std.proofs.lemmas.Bool.{cases_eq}
 use Rattle.q_logic.specs.Prelude.{Literal, IsBelow, pack, Clause, Matrix, Prefix, IsIn, ArePairs, IsProper, without, Within, copies, has_variable, occurs, Slots, slot, set_slot, live, others, formula_of}
-use Rattle.q_logic.proofs.Common.{without-IsIn, occurs_var-find, occurs_var-IsIn, AllByRecursion-IsIn, slot-alike, live-gone, without-in_order, length-set_slot, slot-below}
+use Rattle.q_logic.proofs.Common.{without-IsIn, occurs_var-find, occurs_var-IsIn, AllByRecursion-IsIn, slot-alike, live-gone, without-in_order, length-set_slot, slot-below, live-slot, slot-set_other}
 use Rattle.q_logic.proofs.Booleans.{same_truth}
 use Rattle.q_logic.proofs.HintedRuns.{live-changed}
 use Rattle.q_logic.proofs.HintChains.{live-number}
@@ -17,7 +17,7 @@ use Rattle.q_kernel.specs.Listing.{is_listed, with_clause, without_clause}
 use Rattle.q_kernel.specs.Linking.{AreLinked, HasLists}
 use Rattle.q_kernel.specs.Invariant.{IsRoomy, IsCounted, IsKernel, empty_ones}
 use Rattle.q_kernel.specs.Singles.{unit_ones}
-use Rattle.q_kernel.proofs.SlotLists.{set_slot-set, slot-set_same, slot-set_other, slot-IsIn, alike-added, live-same, length-added, size-added, units-added, length-gone, size-gone, units-gone, length-replaced, size-replaced, units-replaced}
+use Rattle.q_kernel.proofs.SlotLists.{set_slot-set, slot-set_same, alike-added, live-same, length-added, size-added, units-added, length-gone, size-gone, units-gone, length-replaced, size-replaced, units-replaced}
 use Rattle.q_kernel.proofs.PlaceLists.{place-occurs, clause-place, occurs-added, occurs-replaced, occurs-beside, has_variable-without}
 use Rattle.q_kernel.proofs.OccurrenceChanges.{has-listed, listed-has}
 use Rattle.q_kernel.proofs.GroupChanges.{uses-same, occurring-here, occurring-other}
@@ -51,7 +51,7 @@ member-cases N id d D m =
           let l : id < length (set_slot id d N) = slot-below (set_slot id d N) id D f in
           let k : id < length N = subst (λ (n : ℕ). id < n) (length-set_slot id d N) l in
           inl (sym (slot-set_same id d N k) ∙ f)
-      | inr n ↦ inr (slot-IsIn N r.0 D (sym (slot-set_other id r.0 d N n) ∙ r.1))
+      | inr n ↦ inr (live-slot N r.0 D (sym (slot-set_other id r.0 d N n) ∙ r.1))
     ]
 
 -- The formula stays a proper one.
@@ -117,7 +117,7 @@ module _ (g : Groups) (P : Prefix) (o q : Chains) (a b : Clauses) (x : AreLinked
   grouped-shorter C l m e s u = uses-same g P (with_occurring l.var (is_listed o l.var && is_listed q l.var) (is_listed o)) (is_listed q) (λ v n. same v) u
     where
       held : is_listed o l.var ≡ true
-      held = listed-occurs o a x l.var ∙ occurs_var-IsIn (live a.clauses) C l (slot-IsIn a.clauses id C e) m
+      held = listed-occurs o a x l.var ∙ occurs_var-IsIn (live a.clauses) C l (live-slot a.clauses id C e) m
 
       left : (v : ℕ) → v ≢ l.var → is_listed q v ≡ is_listed o v
       left v n = listed-occurs q b y v ∙ ap (λ (N : Slots). occurs v (live N)) s ∙ occurs-replaced v a.clauses id C (without l C) e
@@ -252,7 +252,7 @@ module _ (P : FlatPrefix) (a : Clauses) (o : Chains) (g : Groups) (n s e u t mos
     kernel-shorter C l m z ec us =
         let D : Clause = without l C in
         let es : b.clauses ≡ set_slot id (Some D) a.clauses = changed-slots a b id (Some D) ec in
-        let w = clause-proper P.bounds (live a.clauses) C k.proper (slot-IsIn a.clauses id C z) in
+        let w = clause-proper P.bounds (live a.clauses) C k.proper (live-slot a.clauses id C z) in
         record {
           proper = subst (λ (N : Slots). IsProper (formula_of P.bounds (live N))) (sym es) (proper-set P.bounds a.clauses id (Some D) k.proper (λ E d. subst (λ (F : Clause). ArePairs IsBelow F × Within P.bounds F) (same_Some D E d) (without-in_order l C w.0, λ j i. w.1 j (without-IsIn l C j i))));
           linked = y;

@@ -6,13 +6,13 @@ use Rattle.q_logic.specs.declared.limits.Limits.{Limits}
 use Rattle.q_logic.specs.declared.formulas.Bound.{Bound}
 use Rattle.q_logic.specs.declared.formulas.Quant.TheVariants.{Exists}
 use Rattle.q_logic.specs.Prelude.{Literal, IsBelow, literal_eq, Clause, Matrix, Prefix, IsIn, PrenexFormula, ArePairs, IsProper, without, IsFormula, Implied, standard, ProofStep, add, delete, drop_literal, fresh, remove_variable, Valid, after, KeepsLimits, clause_eq, one_less, insert_after, removed_from, literals_in, ValidSteps, AreAlike, Slots, slot, set_slot, live, formula_of}
-use Rattle.q_logic.proofs.Common.{Justified, Valid-justified, SameClauses, alike-refl, alike-sym, alike-cons, one_less-same, valid-alike, clause_eq-sound, one_less-IsIn, after-formula, AllByRecursion-IsIn, implied-subsumed, without-other, literal_eq-itself, without-IsIn, without-in_order, length-set_slot, slot-below, same-sizes, alike_itself, alike_swapped, alike_through, alike_valid}
+use Rattle.q_logic.proofs.Common.{Justified, Valid-justified, SameClauses, alike-refl, alike-sym, alike-cons, one_less-same, valid-alike, clause_eq-sound, one_less-IsIn, after-formula, AllByRecursion-IsIn, implied-subsumed, without-other, literal_eq-itself, without-IsIn, without-in_order, length-set_slot, slot-below, same-sizes, alike_itself, alike_swapped, alike_through, alike_valid, live-slot}
 use Rattle.q_logic.proofs.HintedRuns.{left-alike}
 use Rattle.q_logic.proofs.FormulaParts.{each-IsIn}
 use Rattle.q_log.specs.Texts.{IsLogged, step_text, steps_text}
 use Rattle.q_kernel.specs.Kernels.{Seen, slots, formula_in, SameView}
 use Rattle.q_kernel.specs.Changes.{IsLed}
-use Rattle.q_kernel.proofs.SlotLists.{slot-IsIn, alike-added, alike-changed}
+use Rattle.q_kernel.proofs.SlotLists.{alike-added, alike-changed}
 
 pub alike-equal : (F G : PrenexFormula) → F ≡ G → AreAlike F G
 alike-equal F G e = subst (AreAlike F) e (alike_itself F)
@@ -164,7 +164,7 @@ led-dropped a b l C id g v t was change prefix = led-step a b (drop_literal l C)
 
 pub led-shrunk : (a b : Seen) (p q : Option Literal) (l : Literal) (C : Clause) (id : ℕ) → IsLogged (add p (without l C)) → IsLogged (delete q C) → IsFormula (formula_in a) → IsIn l C → Valid standard (formula_in a) (add p (without l C)) → b.text ≡ a.text ++ (step_text (add p (without l C)) ++ step_text (delete q C)) → slot (slots a) id ≡ Some C → slots b ≡ set_slot id (Some (without l C)) (slots a) → b.prefix ≡ a.prefix → IsLed a b
 led-shrunk a b p q l C id g h f m v t was change prefix = led-two a b (add p (without l C)) (delete q C) g h v
-    (valid-longer (formula_in a) p q l C f m (slot-IsIn (slots a) id C was)) t
+    (valid-longer (formula_in a) p q l C f m (live-slot (slots a) id C was)) t
     (alike-after_shrink a b p q l C id m was change prefix)
 
 pub led-freshened : (a b : Seen) (v w : ℕ) → IsLogged (fresh v w) → Valid standard (formula_in a) (fresh v w) → b.text ≡ a.text ++ step_text (fresh v w) → b.prefix ≡ insert_after w v a.prefix → slots b ≡ slots a → IsLed a b

@@ -24,8 +24,8 @@ size-small a room dead last e w within r few ids few_ids =
       | inr t ↦ let b = within t.0 t.1 t.2 in let q : last ≡ start_at a t.0 + length t.1 = t.3 in omega arith
     ]
 
-pub live-slot : (a : Clauses) (id : ℕ) (C : Clause) → slot a.clauses id ≡ Some C → clause_at a id ≡ Some C
-live-slot a id C e = sym (slot-get a.clauses id) ∙ e
+pub clause_at-slot : (a : Clauses) (id : ℕ) (C : Clause) → slot a.clauses id ≡ Some C → clause_at a id ≡ Some C
+clause_at-slot a id C e = sym (slot-get a.clauses id) ∙ e
 
 pub slot-live : (a : Clauses) (id : ℕ) (C : Clause) → clause_at a id ≡ Some C → slot a.clauses id ≡ Some C
 slot-live a id C e = slot-get a.clauses id ∙ e
@@ -35,7 +35,7 @@ not_live-slot a id n = go (slot a.clauses id) refl
   where
     go : (o : Option Clause) → slot a.clauses id ≡ o → o ≡ None
     go None e = refl
-    go (Some C) e = absurd (n (C, live-slot a id C e))
+    go (Some C) e = absurd (n (C, clause_at-slot a id C e))
 
 -- no more empty clauses than clauses
 copies-few : (C : Clause) (X : Matrix) → copies C X ≤ length X

@@ -5,7 +5,7 @@ use Rattle.std.proofs.lemmas.Option.{same_Some}
 use Rattle.std.proofs.lemmas.Bool.{cases_eq}
 use Rattle.q_logic.specs.declared.formulas.Quant.TheVariants.{Exists, Forall}
 use Rattle.q_logic.specs.Prelude.{Literal, Clause, Matrix, Prefix, IsIn, standard, IsProper, without, is_bound, is_existential, is_exists, add, delete, drop_literal, fresh, remove_variable, Valid, insert_after, removed_from, IsAbsent, first_of, IsFirst, occurs, greatest, larger_of, Slots, slot, set_slot, live, formula_of}
-use Rattle.q_logic.proofs.Common.{occurs_var-find, existential-is_bound, insert-is_bound, removed-is_bound, removed-unbound}
+use Rattle.q_logic.proofs.Common.{occurs_var-find, existential-is_bound, insert-is_bound, removed-is_bound, removed-unbound, live-slot}
 use Rattle.q_log.specs.Texts.{step_text}
 use Rattle.q_log.proofs.WritableRuns.{first-of}
 use Rattle.q_arena.specs.Prelude.{Chains, Has, without as gone, Clauses}
@@ -20,7 +20,6 @@ use Rattle.q_kernel.proofs.VariableCounts.{greatest-inserted}
 use Rattle.q_kernel.proofs.KernelInvariant.{listed-occurs}
 use Rattle.q_kernel.proofs.GroupChanges.{uses-freshened, uses-removed}
 use Rattle.q_kernel.proofs.LoggedSteps.{logged-add, logged-delete, logged-drop, logged-shorter}
-use Rattle.q_kernel.proofs.SlotLists.{slot-IsIn}
 
 -- the text of a step has come behind the log, and nothing else is changed
 pub record HasText (old mid : Seen) (t : List ℕ) : Type 0 where
@@ -146,7 +145,7 @@ is-shrunk old mid new id l C proper m e mp ma mv mg mt mb k =
       prefix = prefix;
       text = text;
       bytes = omega (arith, mb, k.rest.bytes);
-      led = led-shrunk old new (first_of (without l C)) (first_of C) l C id (logged-shorter (formula_in old) l C proper (slot-IsIn (slots old) id C e)) (logged-delete (formula_in old) (first_of C) C proper (slot-IsIn (slots old) id C e) (first-of C)) proper.formula m.held m.valid text e change prefix;
+      led = led-shrunk old new (first_of (without l C)) (first_of C) l C id (logged-shorter (formula_in old) l C proper (live-slot (slots old) id C e)) (logged-delete (formula_in old) (first_of C) C proper (live-slot (slots old) id C e) (first-of C)) proper.formula m.held m.valid text e change prefix;
       room = record { words = omega (arith, k.kept.words); ids = omega (arith, k.kept.ids); vars = omega (arith, k.rest.vars, mv); greatest = omega (arith, k.rest.greatest, mg) };
     }
 

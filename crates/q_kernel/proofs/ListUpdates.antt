@@ -1,14 +1,14 @@
 -- The lists stay exact while a clause comes, goes or moves.
-use Rattle.std.proofs.Common.{◌≡◌, ◌≢◌, ◌⊎◌, ℕ, suc, ◌+◌, ◌<◌, ◌≤◌, Bool, true, false, cond, List, [], ◌∷◌, length, get_or, set, Option, None, Some, refl, sym, ◌∙◌, ap, subst, inl, inr, arith, true≢false}
+use Rattle.std.proofs.Common.{◌≡◌, ◌≢◌, ◌⊎◌, ℕ, suc, ◌+◌, ◌<◌, ◌≤◌, Bool, true, false, List, [], ◌∷◌, length, get_or, set, Option, None, Some, refl, sym, ◌∙◌, ap, subst, inl, inr, arith, true≢false}
 use Rattle.std.proofs.lemmas.List.{get_or-set_same, get_or-set_other, get_or_past}
 use Rattle.std.proofs.lemmas.Bool.{cases_lt, cases_eq}
 use Rattle.std.proofs.lemmas.Bool.Decides.{nat_tests}
 use Rattle.std.specs.List.{sum_by}
 use Rattle.std.proofs.lemmas.List.Sums.{sum_by-set}
 use Rattle.std.proofs.lemmas.Option.{same_Some, none-some}
-use Rattle.q_logic.specs.Prelude.{Literal, pack, unpack, literal_eq, Clause, IsIn, without}
+use Rattle.q_logic.specs.Prelude.{Literal, pack, unpack, Clause, IsIn, without}
 use Rattle.q_logic.proofs.Codes.{pack_unpack}
-use Rattle.q_logic.proofs.Common.{get_or-IsIn}
+use Rattle.q_logic.proofs.Common.{get_or-IsIn, without-IsIn}
 use Rattle.q_arena.specs.Prelude.{Chains, list_at, HasSameLists, HasSameOwners, Has, Clauses, clause_at, start_at, AreSameClauses}
 use Rattle.q_occ.specs.Places.{places_of, no_lit, IsPlaceIn, AreExact, with_linked, IsUnlinked, IsLinked, IsReserved, KeepsRoom}
 use Rattle.q_kernel.specs.Linking.{AreLinked, AreLinkedBut, HasLists}
@@ -94,17 +94,8 @@ has-lists o a id C x e l m =
 pub lists-kept : (o q : Chains) (C : Clause) → KeepsRoom o q → HasLists o C → HasLists q C
 lists-kept o q C k h l m = let r : pack l < length o.lists = h l m in omega (arith, k.lists)
 
-IsIn-without : (j l : Literal) (C : Clause) → IsIn j (without l C) → IsIn j C
-IsIn-without j l [] m = elim m [ ]
-IsIn-without j l (k ∷ C) m = go (literal_eq k l) m (IsIn-without j l C)
-  where
-    go : (b : Bool) → IsIn j (cond b (without l C) (k ∷ without l C)) → (IsIn j (without l C) → IsIn j C) → (j ≡ k) ⊎ IsIn j C
-    go true m ih = inr (ih m)
-    go false (inl e) ih = inl e
-    go false (inr m) ih = inr (ih m)
-
 pub lists-shorter : (o : Chains) (l : Literal) (C : Clause) → HasLists o C → HasLists o (without l C)
-lists-shorter o l C h j m = h j (IsIn-without j l C m)
+lists-shorter o l C h j m = h j (without-IsIn l C j m)
 
 -- Live clauses stand apart.
 abbrev pub StandApart : Clauses → Type 0

@@ -2,13 +2,13 @@
 use Rattle.std.proofs.Common.{◌≡◌, ◌≢◌, ◌≤◌, ◌<◌, ◌+◌, ℕ, suc, Bool, true, false, ◌&&◌, ◌||◌, eqb, List, [], ◌∷◌, length, get_or, inl, inr, arith, refl, sym, ap, ◌∙◌, subst, Some, None}
 use Rattle.std.proofs.lemmas.Bool.Decides.{nat_tests}
 use Rattle.q_logic.specs.Prelude.{Literal, literal_eq, bool_eq, Clause, Matrix, IsIn, without, has_variable, occurs, Slots, slot, set_slot, live, others}
-use Rattle.q_logic.proofs.Common.{SameClauses, IsIn-alike, alike-sym, occurs_var-find, occurs_var-IsIn, without-IsIn, IsIn-without, slot-alike, has_variable-find, has_variable-IsIn, get_or-IsIn}
+use Rattle.q_logic.proofs.Common.{SameClauses, IsIn-alike, alike-sym, occurs_var-find, occurs_var-IsIn, without-IsIn, IsIn-without, slot-alike, has_variable-find, has_variable-IsIn, get_or-IsIn, live-slot}
 use Rattle.q_logic.proofs.Booleans.{same_truth}
 use Rattle.q_logic.proofs.HintedRuns.{live-changed}
 use Rattle.q_logic.proofs.HintChains.{live-number}
 use Rattle.q_arena.specs.Prelude.{Has, Chains, Clauses, start_at}
 use Rattle.q_occ.specs.Places.{no_lit, places_of, IsPlaceIn, AreExact}
-use Rattle.q_kernel.proofs.SlotLists.{slot-get, slot-IsIn, alike-added}
+use Rattle.q_kernel.proofs.SlotLists.{slot-get, alike-added}
 
 -- A literal at a place of a clause is one of its literals, and the other way round.
 pub IsIn-get : (C : Clause) (l d : Literal) → IsIn l C → (i : ℕ) × (i < length C) × (get_or C i d ≡ l)
@@ -59,7 +59,7 @@ module _ (o : Chains) (a : Clauses) (x : AreAll o a) where
 
   -- A variable occurs where one of its two literals has a place.
   pub place-occurs : (l : Literal) (p : ℕ) → Has (places_of o l) p → occurs l.var (live a.clauses) ≡ true
-  place-occurs l p h = let r : (C : Clause) × (slot a.clauses (get_or o.owners p 0) ≡ Some C) × IsIn l C = place-clause l p h in occurs_var-IsIn (live a.clauses) r.0 l (slot-IsIn a.clauses (get_or o.owners p 0) r.0 r.1) r.2
+  place-occurs l p h = let r : (C : Clause) × (slot a.clauses (get_or o.owners p 0) ≡ Some C) × IsIn l C = place-clause l p h in occurs_var-IsIn (live a.clauses) r.0 l (live-slot a.clauses (get_or o.owners p 0) r.0 r.1) r.2
 
 -- Variables occur by the clauses alone, and not by their order.
 pub occurs-alike : (v : ℕ) (X Y : Matrix) → SameClauses X Y → occurs v X ≡ occurs v Y

@@ -1,5 +1,5 @@
 -- Numbered clauses as std's lists, and what a change at one number does to them.
-use Rattle.std.proofs.Common.{◌≡◌, ◌≢◌, ◌≤◌, ◌<◌, ◌+◌, ℕ, zero, suc, true, [], ◌∷◌, inl, inr, arith, refl, sym, ap, ◌∙◌, subst, Option, Some, None, length, set, get_or, le_of_suc-le-suc, not-suc-le-zero}
+use Rattle.std.proofs.Common.{◌≡◌, ◌≤◌, ◌<◌, ◌+◌, ℕ, zero, suc, true, [], ◌∷◌, inl, inr, arith, refl, sym, ap, ◌∙◌, subst, Option, Some, None, length, set, get_or, le_of_suc-le-suc, not-suc-le-zero}
 use Rattle.q_logic.specs.Prelude.{Clause, Matrix, IsIn, Literal, Slots, slot, set_slot, live, others, put_first, size_of, literals_in, one_less, has_empty}
 use Rattle.q_arena.specs.Prelude.{live_in}
 use Rattle.q_kernel.specs.Singles.{unit_ones, units_in}
@@ -24,13 +24,6 @@ pub slot-set_same : (c : ℕ) (o : Option Clause) (N : Slots) → c < length N �
 slot-set_same c o [] h = absurd (not-suc-le-zero h)
 slot-set_same zero o (p ∷ N) h = refl
 slot-set_same (suc c) o (p ∷ N) h = slot-set_same c o N (le_of_suc-le-suc h)
-
-pub slot-set_other : (c d : ℕ) (o : Option Clause) (N : Slots) → d ≢ c → slot (set_slot c o N) d ≡ slot N d
-slot-set_other c d o [] n = refl
-slot-set_other zero zero o (p ∷ N) n = absurd (n refl)
-slot-set_other zero (suc d) o (p ∷ N) n = refl
-slot-set_other (suc c) zero o (p ∷ N) n = refl
-slot-set_other (suc c) (suc d) o (p ∷ N) n = slot-set_other c d o N (λ e. n (ap suc e))
 
 pub others-set : (N : Slots) (c : ℕ) (o : Option Clause) → others c (set_slot c o N) ≡ others c N
 others-set [] c o = refl
@@ -69,10 +62,6 @@ pub live-same : (M N : Slots) → ((c : ℕ) → slot M c ≡ slot N c) → live
 live-same [] N h = sym (live-none N (λ c. sym (h c)))
 live-same (o ∷ M) [] h = live-none (o ∷ M) h
 live-same (o ∷ M) (p ∷ N) h = let e : o ≡ p = h 0 in subst (λ (q : Option Clause). put_first o (live M) ≡ put_first q (live N)) e (ap (put_first o) (live-same M N (λ c. h (suc c))))
-
--- Members.
-pub slot-IsIn : (N : Slots) (c : ℕ) (D : Clause) → slot N c ≡ Some D → IsIn D (live N)
-slot-IsIn N c D h = live-slot N c D h
 
 -- Counts.
 pub live_in-length : (N : Slots) → live_in N ≡ length (live N)

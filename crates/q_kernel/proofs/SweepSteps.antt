@@ -1,13 +1,13 @@
 -- Sweeping step by step: the clauses beside an empty one go, and then the idle variables.
 use Rattle.std.proofs.Common.{◌≡◌, ◌≢◌, ◌⊎◌, ◌≤◌, ◌<◌, ◌+◌, ◌*◌, ℕ, zero, suc, Bool, true, false, cond, eqb, List, [], ◌∷◌, length, slice_get, inl, inr, arith, refl, sym, ap, ◌∙◌, subst, Option, Some, None, true≢false, not-suc-le-zero}
 use Rattle.q_logic.specs.Prelude.{Literal, Clause, Matrix, Prefix, IsIn, PrenexFormula, IsProper, is_bound, standard, delete, remove_variable, Valid, one_less, removed_from, first_of, copies, has_empty, occurs, size_of, Slots, slot, set_slot, live, others, put_first}
-use Rattle.q_logic.proofs.Common.{IsIn-alike, copies-IsIn, IsIn-copies, others-slot, implied-subsumed, before_or_at, slot-below}
+use Rattle.q_logic.proofs.Common.{IsIn-alike, copies-IsIn, IsIn-copies, others-slot, implied-subsumed, before_or_at, slot-below, live-slot, slot-set_other}
 use Rattle.q_logic.proofs.SweepRun.{occurs_var-of, has_empty-IsIn}
 use Rattle.q_log.specs.Texts.{step_text}
 use Rattle.q_log.proofs.WritableRuns.{first-of}
 use Rattle.q_kernel.specs.Kernels.{Seen, slots, formula_in}
 use Rattle.q_kernel.specs.Changes.{MayStep}
-use Rattle.q_kernel.proofs.SlotLists.{slot-IsIn, slot-set_same, slot-set_other, alike-others, IsIn-has_empty, size-gone, live-none}
+use Rattle.q_kernel.proofs.SlotLists.{slot-set_same, alike-others, IsIn-has_empty, size-gone, live-none}
 use Rattle.q_kernel.proofs.TextCosts.{cost-delete, cost-remove, proper-in_order, proper-small, proper-var}
 
 -- What sweeping leaves.
@@ -24,7 +24,7 @@ counted-full X e = go (has_empty X) refl
 -- A clause beside an empty one may go.
 pub valid-beside_empty : (F : PrenexFormula) (N : Slots) (kept c : ℕ) (C : Clause) (p : Option Literal) → IsProper F → F.matrix ≡ live N → slot N kept ≡ Some [] → slot N c ≡ Some C → kept ≢ c → Valid standard F (delete p C)
 valid-beside_empty F N kept c C p f e k s n =
-    let m : IsIn C F.matrix = subst (λ (X : Matrix). IsIn C X) (sym e) (slot-IsIn N c C s) in
+    let m : IsIn C F.matrix = subst (λ (X : Matrix). IsIn C X) (sym e) (live-slot N c C s) in
     let o : IsIn [] (one_less C (live N)) = IsIn-alike (others c N) (one_less C (live N)) (alike-others N c C s) [] (others-slot N kept c [] n k) in
     (λ j i. f.formula.closed C m j i, m, inl (implied-subsumed (one_less C F.matrix) [] C (subst (λ (X : Matrix). IsIn [] (one_less C X)) (sym e) o) (λ j i. elim i [ ])))
 
@@ -38,7 +38,7 @@ may-delete k kept c C f e s n b = record {
 }
   where
     delete-cost : (k : Seen) (c : ℕ) (C : Clause) → IsProper (formula_in k) → slot (slots k) c ≡ Some C → length (step_text (delete (first_of C) C)) ≤ 16 * (length C + 1)
-    delete-cost k c C f s = let m : IsIn C (live (slots k)) = slot-IsIn (slots k) c C s in cost-delete (first_of C) C (proper-in_order (formula_in k) C f m) (first-of C) (proper-small (formula_in k) C f m)
+    delete-cost k c C f s = let m : IsIn C (live (slots k)) = live-slot (slots k) c C s in cost-delete (first_of C) C (proper-in_order (formula_in k) C f m) (first-of C) (proper-small (formula_in k) C f m)
 
     room : (s t p b n d : ℕ) → s ≡ t + (n + 1) → d ≤ 16 * (n + 1) → 16 * (s + p) ≤ b → d ≤ b
     room s t p b n d e f g = omega arith
@@ -47,7 +47,7 @@ pub spare-after_delete : (k : Seen) (c : ℕ) (C : Clause) (new : ℕ) → IsPro
     → 16 * (size_of (live (slots k)) + length k.prefix) ≤ k.spare_bytes → k.spare_bytes ≡ new + length (step_text (delete (first_of C) C))
     → 16 * (size_of (live (set_slot c None (slots k))) + length k.prefix) ≤ new
 spare-after_delete k c C new f s b e =
-    let m : IsIn C (live (slots k)) = slot-IsIn (slots k) c C s in
+    let m : IsIn C (live (slots k)) = live-slot (slots k) c C s in
     left (size_of (live (slots k))) (size_of (live (set_slot c None (slots k)))) (length k.prefix) k.spare_bytes new (length C) (length (step_text (delete (first_of C) C))) (size-gone (slots k) c C s)
     (cost-delete (first_of C) C (proper-in_order (formula_in k) C f m) (first-of C) (proper-small (formula_in k) C f m)) b e
   where

@@ -1,12 +1,13 @@
 -- What was to come where some bytes came is the answer to them, and then what is to come now.
-use Rattle.std.proofs.Common.{◌≡◌, ◌<◌, ◌≤◌, ℕ, zero, suc, ◌-◌, List, [], ◌∷◌, ◌++◌, length, take, get_or, Result, Ok, Err, Option, Some, None, refl, sym, ap, ◌∙◌, arith, subst, add-one, append_assoc}
+use Rattle.std.proofs.Common.{◌≡◌, ◌<◌, ◌≤◌, ℕ, zero, suc, ◌-◌, List, [], ◌∷◌, ◌++◌, length, take, get_or, Result, Ok, Err, Option, None, refl, sym, ap, ◌∙◌, arith, subst, add-one, append_assoc}
 use Rattle.std.proofs.Math.Seq.{take-suc}
 use Rattle.std.proofs.lemmas.List.{length-take-le}
 use Rattle.q_logic.specs.Prelude.{ProofStep}
 use Rattle.q_text.specs.declared.tokens.Token.{Token}
 use Rattle.q_text.specs.declared.tokens.Tokens.{Tokens}
-use Rattle.q_text.specs.Tokens.{after, all_handed, handed, listed}
+use Rattle.q_text.specs.Tokens.{after, all_handed, handed}
 use Rattle.q_text.specs.Pieces.{after_all, Goes}
+use Rattle.q_text.proofs.TokenLaw.{none-listed, rest-listed}
 use Rattle.q_log.specs.declared.error.LogError.{LogError}
 use Rattle.q_log.specs.declared.error.LogError.TheVariants.{BadLine, Limit, NoMemory}
 use Rattle.q_log.specs.Grammar.{OpenStep}
@@ -17,14 +18,6 @@ use Rattle.q_log.proofs.LogBytes.{byte-leads, after-refusal}
 abbrev pub state_of : Tokens → ℕ → Option OpenStep → Option LogError → LogState
 state_of t k s f = record { tokens = t; left = k; begun = s; refused = f }
 
-none-of : (o : Option Token) (ts : List Token) → listed o ++ ts ≡ [] → o ≡ None
-none-of None ts e = refl
-none-of (Some t) ts e = cc
-
-rest-of : (o : Option Token) (ts : List Token) → listed o ++ ts ≡ [] → ts ≡ []
-rest-of None ts e = e
-rest-of (Some t) ts e = cc
-
 one-silent : (t : Tokens) (k b : ℕ) (s : Option OpenStep) (rest : List ℕ) → handed t b ≡ None → to_come (state_of t (suc k) s None) (b ∷ rest) ≡ to_come (state_of (after t b) k s None) rest
 one-silent t k b s rest e =
     subst (λ (o : Option Token). let T = token_transition (state_of (after t b) k s None) o in Leads T.answer (to_come (state_of t (suc k) s None) (b ∷ rest)) (to_come T.state rest)) e (byte-leads t k b s rest)
@@ -34,8 +27,8 @@ silent t k s [] rest l e = let z : k - 0 ≡ k = omega arith in rw z refl
 silent t zero s (b ∷ bs) rest l e = absurd (omega arith)
 silent t (suc k) s (b ∷ bs) rest l e =
     let z : k - length bs ≡ suc k - suc (length bs) = omega arith in
-    one-silent t k b s (bs ++ rest) (none-of (handed t b) (all_handed (after t b) bs) e)
-    ∙ (silent (after t b) k s bs rest (omega arith) (rest-of (handed t b) (all_handed (after t b) bs) e) ∙ ap (λ j. to_come (state_of (after_all (after t b) bs) j s None) rest) z)
+    one-silent t k b s (bs ++ rest) (none-listed (handed t b) (all_handed (after t b) bs) e)
+    ∙ (silent (after t b) k s bs rest (omega arith) (rest-listed (handed t b) (all_handed (after t b) bs) e) ∙ ap (λ j. to_come (state_of (after_all (after t b) bs) j s None) rest) z)
 
 last-leads : (mid new : Tokens) (k b : ℕ) (s : Option OpenStep) (o : Option Token) (rest : List ℕ) → new ≡ after mid b → o ≡ handed mid b →
     let T = token_transition (state_of new k s None) o in

@@ -3,10 +3,11 @@ use Rattle.std.proofs.Common.{◌≡◌, ◌≤◌, ◌<◌, ◌+◌, ◌*◌, �
 use Rattle.std.specs.List.{AllByRecursion}
 use Rattle.q_logic.specs.declared.limits.Limits.{Limits}
 use Rattle.q_logic.specs.declared.formulas.Quant.TheVariants.{Exists}
-use Rattle.q_logic.specs.Prelude.{Literal, IsBelow, negation, Clause, Matrix, Prefix, IsIn, PrenexFormula, blocks, SameBlocks, is_bound, ArePairs, IsProper, clause_of, Chain, begin, more, Conflicts, negations, Implied, outer, without, ExistsPivot, ForallPivot, Reached, Reducible, has, ProofStep, add, delete, drop_literal, fresh, remove_variable, Valid, after, one_less, clause_eq, KeepsLimits, literals_in, Within, IsWarranted, IsDroppable, insert_after, removed_from, IsFirst, first_of, in_front, ValidSteps, Run, standard, formula_of}
-use Rattle.q_logic.proofs.Common.{IsIn-append, IsIn-append_left, IsIn-outer, IsIn-append_right, IsIn-outer_in, without-other, has-IsIn, IsIn-has, existential-is_bound, pairs-ordered, ordered-pairs, without-ordered, clause_of-ordered, IsIn-clause_of, clause_of-IsIn, is_clause_of, clause_of-ordered_clause, IsIn-without, without-IsIn, clause_eq-sound, SameClauses, IsIn-alike, alike-refl, alike-sym, alike-trans, alike-cons, alike-uncons, alike-swap, one_less-alike, SameBlocks-refl, AllByRecursion-IsIn, clause_of-length, same-sizes}
+use Rattle.q_logic.specs.Prelude.{Literal, IsBelow, negation, Clause, Matrix, Prefix, IsIn, PrenexFormula, blocks, SameBlocks, ArePairs, IsProper, clause_of, Chain, begin, more, Conflicts, negations, Implied, outer, without, ExistsPivot, ForallPivot, Reached, Reducible, has, ProofStep, add, delete, drop_literal, fresh, remove_variable, Valid, after, one_less, clause_eq, KeepsLimits, literals_in, Within, IsWarranted, IsDroppable, insert_after, removed_from, IsFirst, first_of, in_front, ValidSteps, Run, standard, formula_of}
+use Rattle.q_logic.proofs.Common.{IsIn-append, IsIn-append_left, IsIn-outer, IsIn-append_right, IsIn-outer_in, without-other, has-IsIn, IsIn-has, existential-is_bound, pairs-ordered, ordered-pairs, without-ordered, clause_of-ordered, IsIn-clause_of, clause_of-IsIn, is_clause_of, clause_of-ordered_clause, IsIn-without, without-IsIn, clause_eq-sound, SameClauses, IsIn-alike, alike-refl, alike-sym, alike-trans, alike-cons, alike-uncons, alike-swap, one_less-alike, SameBlocks-refl, AllByRecursion-IsIn, clause_of-length, same-sizes, InRange, bound-range}
 use Rattle.q_logic.proofs.InOrder.{AreInOrder}
 use Rattle.q_logic.proofs.ClauseCounts.{no_copies}
+use Rattle.q_logic.proofs.Propagation.{IsIn-negations}
 use Rattle.q_log.specs.Texts.{IsLogged}
 
 -- clauses with the same literals
@@ -22,21 +23,6 @@ same-clause_of C = ((λ k m. clause_of-IsIn k C m), (λ k m. IsIn-clause_of k C 
 
 -- what propagation gives, it gives over clauses with the same literals
 
-IsIn-negations : (k : Literal) (S : Clause) → IsIn k (negations S) → (j : Literal) × IsIn j S × (k ≡ negation j)
-IsIn-negations k [] m = elim m [ ]
-IsIn-negations k (j ∷ S) (inl e) = (j, inl refl, e)
-IsIn-negations k (j ∷ S) (inr m) = let r : (i : Literal) × IsIn i S × (k ≡ negation i) = IsIn-negations k S m in (r.0, inr r.1, r.2)
-
-negations-IsIn : (j : Literal) (S : Clause) → IsIn j S → IsIn (negation j) (negations S)
-negations-IsIn j [] m = elim m [ ]
-negations-IsIn j (i ∷ S) (inl e) = inl (ap (λ (l : Literal). negation l) e)
-negations-IsIn j (i ∷ S) (inr m) = inr (negations-IsIn j S m)
-
-negations-more : (S T : Clause) → ((k : Literal) → IsIn k S → IsIn k T) → (k : Literal) → IsIn k (negations S) → IsIn k (negations T)
-negations-more S T f k m =
-    let r : (j : Literal) × IsIn j S × (k ≡ negation j) = IsIn-negations k S m in
-    subst (λ (l : Literal). IsIn l (negations T)) (sym r.2) (negations-IsIn r.0 T (f r.0 r.1))
-
 chain-over : (X Y : Matrix) (s t K : List Literal) → Covered X Y → ((k : Literal) → IsIn k s → IsIn k t) → Chain X s K → (L : List Literal) × Chain Y t L × ((k : Literal) → IsIn k K → IsIn k L)
 chain-over X Y s t K c f begin = (t, begin, f)
 chain-over X Y s t K c f (more {K = J} k D inX inD rest ch) =
@@ -46,7 +32,7 @@ chain-over X Y s t K c f (more {K = J} k D inX inD rest ch) =
 
 implied-over : (X Y : Matrix) (S T : Clause) → Covered X Y → ((k : Literal) → IsIn k S → IsIn k T) → Implied X S → Implied Y T
 implied-over X Y S T c f (K, ch, conflict) =
-    let r : (L : List Literal) × Chain Y (negations T) L × ((k : Literal) → IsIn k K → IsIn k L) = chain-over X Y (negations S) (negations T) K c (negations-more S T f) ch in
+    let r : (L : List Literal) × Chain Y (negations T) L × ((k : Literal) → IsIn k K → IsIn k L) = chain-over X Y (negations S) (negations T) K c (IsIn-negations S T f) ch in
     (r.0, r.1, go r.0 r.2 conflict)
   where
     go : (L : List Literal) → ((k : Literal) → IsIn k K → IsIn k L) → Conflicts X K → Conflicts Y L
@@ -242,17 +228,6 @@ tidied-after m P X Y (fresh v w) a h = (refl, a)
 tidied-after m P X Y (remove_variable v) a h = (refl, a)
 
 -- they are steps that a log can hold
-
-abbrev pub InRange : Prefix → Type 0
-InRange P = AllByRecursion (λ q. (1 ≤ q.var) × (q.var < 2 ^ 31)) P
-
-bound-range : (P : Prefix) (v : ℕ) → InRange P → is_bound P v ≡ true → (1 ≤ v) × (v < 2 ^ 31)
-bound-range [] v h e = absurd (cc)
-bound-range (b ∷ P) v h e = go (eqb b.var v) refl e (bound-range P v h.1)
-  where
-    go : (t : Bool) → eqb b.var v ≡ t → cond t true (is_bound P v) ≡ true → (is_bound P v ≡ true → (1 ≤ v) × (v < 2 ^ 31)) → (1 ≤ v) × (v < 2 ^ 31)
-    go true q f ih = let z : b.var ≡ v = grind arith in subst (λ (n : ℕ). (1 ≤ n) × (n < 2 ^ 31)) z h.0
-    go false q f ih = ih f
 
 each : (P : Literal → Type 0) (ls : List Literal) → ((k : Literal) → IsIn k ls → P k) → AllByRecursion P ls
 each P [] h = tt

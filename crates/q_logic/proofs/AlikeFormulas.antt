@@ -42,28 +42,19 @@ droppable-within P X Y C l f g (inr h) = inr (reducible-within P X Y C l g h)
 pub outers-same : (P : Prefix) (X Y : Matrix) (m : Literal) (os : List Clause) → SameClauses X Y → OutersOf P X m os → OutersOf P Y m os
 outers-same P X Y m os s h O = h O ∙ every_outer-same P m X Y s O
 
+pub less-within : (X Y : Matrix) → SameClauses X Y → (C : Clause) → Within (one_less C X) (one_less C Y)
+less-within X Y s C = IsIn-alike (one_less C X) (one_less C Y) (one_less-same C X Y s)
+
 module _ (P : Prefix) (X Y : Matrix) (s : SameClauses X Y) where
-  here : Within X Y
-  here = IsIn-alike X Y s
-
-  back : Within Y X
-  back = IsIn-alike Y X (alike-sym X Y s)
-
-  less : (C : Clause) → Within (one_less C X) (one_less C Y)
-  less C = IsIn-alike (one_less C X) (one_less C Y) (one_less-same C X Y s)
-
-  less_back : (C : Clause) → Within (one_less C Y) (one_less C X)
-  less_back C = IsIn-alike (one_less C Y) (one_less C X) (alike-sym (one_less C X) (one_less C Y) (one_less-same C X Y s))
-
   more_limits : (C : Clause) (m : Limits) → KeepsLimits m (C ∷ X) → KeepsLimits m (C ∷ Y)
   more_limits C m h = let z : (length (C ∷ X) ≡ length (C ∷ Y)) × (literals_in (C ∷ X) ≡ literals_in (C ∷ Y)) = same-sizes (C ∷ X) (C ∷ Y) (alike-cons C X Y s) in record { clauses = subst (λ n. n ≤ 4 * m.clauses) z.0 h.clauses; lits = subst (λ n. n ≤ 4 * m.lits) z.1 h.lits }
 
   same_valid : (m : Limits) (s : ProofStep) → Valid m (of P X) s → Valid m (of P Y) s
-  same_valid m (add p C) v = (v.0, warranted-within P X Y C p here back v.1, more_limits C m v.2)
-  same_valid m (delete p C) v = (v.0, here C v.1, warranted-within P (one_less C X) (one_less C Y) C p (less C) (less_back C) v.2)
-  same_valid m (drop_literal l C) v = (v.0, here C v.1, droppable-within P (one_less C X) (one_less C Y) C l (less C) (less_back C) v.2)
+  same_valid m (add p C) v = (v.0, warranted-within P X Y C p (IsIn-alike X Y s) (IsIn-alike Y X (alike-sym X Y s)) v.1, more_limits C m v.2)
+  same_valid m (delete p C) v = (v.0, IsIn-alike X Y s C v.1, warranted-within P (one_less C X) (one_less C Y) C p (less-within X Y s C) (less-within Y X (alike-sym X Y s) C) v.2)
+  same_valid m (drop_literal l C) v = (v.0, IsIn-alike X Y s C v.1, droppable-within P (one_less C X) (one_less C Y) C l (less-within X Y s C) (less-within Y X (alike-sym X Y s) C) v.2)
   same_valid m (fresh v w) h = h
-  same_valid m (remove_variable v) h = (h.0, λ D d. h.1 D (back D d))
+  same_valid m (remove_variable v) h = (h.0, λ D d. h.1 D (IsIn-alike Y X (alike-sym X Y s) D d))
 
   same_after : (s : ProofStep) → AreAlike (after (of P X) s) (after (of P Y) s)
   same_after (add p C) = record { prefix = refl; clauses = alike-cons C X Y s }
@@ -74,8 +65,8 @@ module _ (P : Prefix) (X Y : Matrix) (s : SameClauses X Y) where
 
   same_entries : (s : ProofStep) (us : List UndoEntry) → Entries (of P X) s us → Entries (of P Y) s us
   same_entries (add p C) us e = e
-  same_entries (delete p C) us (inl e) = inl (implied-within (one_less C X) (one_less C Y) C (less C) e.0, e.1)
-  same_entries (delete p C) us (inr (n, (l, os, f, o, g))) = inr ((λ i. n (implied-within (one_less C Y) (one_less C X) C (less_back C) i)), (l, os, f, outers-same P (one_less C X) (one_less C Y) (negation l) os (one_less-same C X Y s) o, g))
+  same_entries (delete p C) us (inl e) = inl (implied-within (one_less C X) (one_less C Y) C (less-within X Y s C) e.0, e.1)
+  same_entries (delete p C) us (inr (n, (l, os, f, o, g))) = inr ((λ i. n (implied-within (one_less C Y) (one_less C X) C (less-within Y X (alike-sym X Y s) C) i)), (l, os, f, outers-same P (one_less C X) (one_less C Y) (negation l) os (one_less-same C X Y s) o, g))
   same_entries (drop_literal l C) us e = e
   same_entries (fresh v w) us e = e
   same_entries (remove_variable v) us e = e
@@ -87,17 +78,17 @@ module _ (P : Prefix) (X Y : Matrix) (s : SameClauses X Y) where
   -- what is wrong over one matrix is wrong over the other
   same_wrong : (m : Limits) (t : ProofStep) (n : ℕ) → IsWrong m (of P X) t n → IsWrong m (of P Y) t n
   same_wrong m (add p C) n (inl w) = inl w
-  same_wrong m (add p C) n (inr (inl w)) = inr (inl (w.0, λ v. w.1 (warranted-within P Y X C p (back P X Y s) (here P X Y s) v)))
+  same_wrong m (add p C) n (inr (inl w)) = inr (inl (w.0, λ v. w.1 (warranted-within P Y X C p (IsIn-alike Y X swapped) (IsIn-alike X Y s) v)))
   same_wrong m (add p C) n (inr (inr w)) = inr (inr (w.0, λ v. w.1 (more_limits P Y X swapped C m v)))
   same_wrong m (delete p C) n (inl w) = inl w
-  same_wrong m (delete p C) n (inr (inl w)) = inr (inl (w.0, λ v. w.1 (back P X Y s C v)))
-  same_wrong m (delete p C) n (inr (inr w)) = inr (inr (w.0, λ v. w.1 (warranted-within P (one_less C Y) (one_less C X) C p (less_back P X Y s C) (less P X Y s C) v)))
+  same_wrong m (delete p C) n (inr (inl w)) = inr (inl (w.0, λ v. w.1 (IsIn-alike Y X swapped C v)))
+  same_wrong m (delete p C) n (inr (inr w)) = inr (inr (w.0, λ v. w.1 (warranted-within P (one_less C Y) (one_less C X) C p (less-within Y X swapped C) (less-within X Y s C) v)))
   same_wrong m (drop_literal l C) n (inl w) = inl w
-  same_wrong m (drop_literal l C) n (inr (inl w)) = inr (inl (w.0, λ v. w.1 (back P X Y s C v)))
-  same_wrong m (drop_literal l C) n (inr (inr w)) = inr (inr (w.0, λ v. w.1 (droppable-within P (one_less C Y) (one_less C X) C l (less_back P X Y s C) (less P X Y s C) v)))
+  same_wrong m (drop_literal l C) n (inr (inl w)) = inr (inl (w.0, λ v. w.1 (IsIn-alike Y X swapped C v)))
+  same_wrong m (drop_literal l C) n (inr (inr w)) = inr (inr (w.0, λ v. w.1 (droppable-within P (one_less C Y) (one_less C X) C l (less-within Y X swapped C) (less-within X Y s C) v)))
   same_wrong m (fresh v w) n h = h
   same_wrong m (remove_variable v) n (inl w) = inl w
-  same_wrong m (remove_variable v) n (inr w) = inr (w.0, λ h. w.1 (λ D d. h D (here P X Y s D d)))
+  same_wrong m (remove_variable v) n (inr w) = inr (w.0, λ h. w.1 (λ D d. h D (IsIn-alike X Y s D d)))
 
 pub alike_itself : (F : PrenexFormula) → AreAlike F F
 alike_itself F = record { prefix = refl; clauses = λ C. refl }

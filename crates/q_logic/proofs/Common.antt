@@ -2,13 +2,14 @@
 pub use Rattle.q_logic.proofs.Numbers.{before_or_at, none_or_some}
 pub use Rattle.q_logic.proofs.Booleans.{not-not, or-swap, cond-or, bool_eq-sound}
 pub use Rattle.q_logic.proofs.Lists.{all-append, get_or-IsIn, slice_get-IsIn, IsIn-slice_get}
-pub use Rattle.q_logic.proofs.Lists.{slice_get-before, IsIn-drop, taken, take-slice_get, mark_room}
-pub use Rattle.q_logic.proofs.Results.{none_of, on_err, ok-iff}
+pub use Rattle.q_logic.proofs.Lists.{slice_get-before, slice_get-append, IsIn-drop, IsIn-take, taken}
+pub use Rattle.q_logic.proofs.Lists.{take-slice_get, mark_room}
+pub use Rattle.q_logic.proofs.Results.{none_of, on_err, ok-iff, ok_then, on_both}
 pub use Rattle.q_logic.proofs.Justified.{Run-justified, JustifiedRun, Justified, JustifiedSteps}
 pub use Rattle.q_logic.proofs.Justified.{Valid-justified}
 pub use Rattle.q_logic.proofs.Codes.{pack-same}
 pub use Rattle.q_logic.proofs.PrefixOrder.{existential-is_bound, is_bound-universal}
-pub use Rattle.q_logic.proofs.PrefixOrder.{universal-not_existential, outer_existential-free}
+pub use Rattle.q_logic.proofs.PrefixOrder.{universal-not_existential, outer_existential-free, next-rises}
 pub use Rattle.q_logic.proofs.PrefixOrder.{universal-is_bound, unbound-universal}
 pub use Rattle.q_logic.proofs.ClauseLemmas.{IsIn-append, IsIn-append_left, literal_eq-itself}
 pub use Rattle.q_logic.proofs.ClauseLemmas.{literal_eq-sound, IsIn-outer, literal_eq-negation}
@@ -34,19 +35,21 @@ pub use Rattle.q_logic.proofs.MemberPlaces.{test-false, taken-all, item-in, take
 pub use Rattle.q_logic.proofs.MemberPlaces.{taken-more, test-not}
 pub use Rattle.q_logic.proofs.ClauseSets.{clause_of-ordered_clause, IsIn-clause_of, clause_of-ordered}
 pub use Rattle.q_logic.proofs.ClauseSets.{not_itself_below, clause_of-IsIn, is_clause_of, not_below}
-pub use Rattle.q_logic.proofs.FormulaParts.{AllByRecursion-IsIn, proper-lawful, IsBound-is_bound}
-pub use Rattle.q_logic.proofs.FormulaParts.{pairs-Distinct}
+pub use Rattle.q_logic.proofs.FormulaParts.{AllByRecursion-IsIn, proper-lawful, IsBound-is_bound, InRange}
+pub use Rattle.q_logic.proofs.FormulaParts.{pairs-Distinct, bound-range}
 pub use Rattle.q_logic.proofs.JustifiedRuns.{IsIn-alike, SameClauses, alike-sym, alike-trans}
 pub use Rattle.q_logic.proofs.JustifiedRuns.{alike-refl, alike-cons, alike-uncons, one_less-alike}
 pub use Rattle.q_logic.proofs.JustifiedRuns.{alike-swap, copies-append, alike-append, alike-append_swap}
 pub use Rattle.q_logic.proofs.JustifiedRuns.{one_less-same, Reaches, exists_pivot-fewer, one_less-first}
 pub use Rattle.q_logic.proofs.JustifiedRuns.{reaches-alike, reaches-append, reaches-end, reached-more}
 pub use Rattle.q_logic.proofs.JustifiedRuns.{reducible-fewer, valid-alike}
+pub use Rattle.q_logic.proofs.ClauseByClause.{flat, flat-first, flat-same, alike-swap_front}
 pub use Rattle.q_logic.proofs.ImpliedClauses.{negation-negation, implied-subsumed, implied-tautology}
 pub use Rattle.q_logic.proofs.ImpliedClauses.{implied-more_clauses, implied-hidden, implied-hidden_new}
 pub use Rattle.q_logic.proofs.ImpliedClauses.{implied-longer, same_or_not, IsIn-inverter}
 pub use Rattle.q_logic.proofs.NumberedClauses.{live-slot, others-slot, slot-alike, IsIn-has_not}
 pub use Rattle.q_logic.proofs.NumberedClauses.{IsIn-without_literal, IsIn-with, IsIn-in_with}
+pub use Rattle.q_logic.proofs.NumberedClauses.{slot-set_other, slot-set_none}
 pub use Rattle.q_logic.proofs.NumberedClauses.{without-same, with-alike, without_literal-slot}
 pub use Rattle.q_logic.proofs.NumberedClauses.{without_literal-swap, live-gone, length-set_slot}
 pub use Rattle.q_logic.proofs.NumberedClauses.{slot-below, others-live, live-numbered}

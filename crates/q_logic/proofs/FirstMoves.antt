@@ -76,7 +76,7 @@ set_first-formula F a f =
       | inr z ↦ absurd z
     ]
 
-signed-value : (b v : Bool) → signed (not b) v ≡ true → v ≡ b
+pub signed-value : (b v : Bool) → signed (not b) v ≡ true → v ≡ b
 signed-value true v h = h
 signed-value false true h = absurd (grind arith)
 signed-value false false h = refl

@@ -1,10 +1,10 @@
 -- Parts that are lawful make a formula.
-use Rattle.std.proofs.Common.{◌≡◌, ◌≢◌, ◌⊎◌, ℕ, zero, suc, Bool, true, false, cond, eqb, List, [], ◌∷◌, take, drop, slice_get, slice_range, Some, inl, inr, refl, sym, subst, arith, ◌-◌, ◌≤◌, ap, ◌∙◌, length, ◌+◌}
+use Rattle.std.proofs.Common.{◌≡◌, ◌≢◌, ◌⊎◌, ℕ, Bool, true, false, cond, eqb, List, [], ◌∷◌, take, drop, slice_get, slice_range, Some, inl, inr, refl, sym, subst, arith, ◌-◌, ◌≤◌, ◌<◌, ◌^◌, ap, ◌∙◌, length, ◌+◌}
 use Rattle.std.proofs.lemmas.List.{drop-drop, take-append-drop}
 use Rattle.std.proofs.Math.Seq.{drop-length}
 use Rattle.std.specs.List.{AllByRecursion}
 use Rattle.q_logic.proofs.ClauseLemmas.{IsIn-append}
-use Rattle.q_logic.proofs.Lists.{slice_get-IsIn}
+use Rattle.q_logic.proofs.Lists.{slice_get-IsIn, IsIn-drop, IsIn-take}
 use Rattle.q_logic.specs.declared.formulas.Bound.{Bound}
 use Rattle.q_logic.specs.Prelude.{Literal, IsBelow, Clause, Prefix, IsIn, PrenexFormula, is_bound, Distinct, AreEnds, AreLawful, ArePairs, IsBound, IsProper, clauses_between, Within}
 
@@ -22,6 +22,18 @@ is_bound-IsBound (b ∷ P) v h = go (eqb b.var v) refl h (is_bound-IsBound P v)
     go true e h ih = inl (grind arith)
     go false e h ih = inr (ih h)
 
+-- variables that the code can hold
+abbrev pub InRange : Prefix → Type 0
+InRange P = AllByRecursion (λ q. (1 ≤ q.var) × (q.var < 2 ^ 31)) P
+
+pub bound-range : (P : Prefix) (v : ℕ) → InRange P → is_bound P v ≡ true → (1 ≤ v) × (v < 2 ^ 31)
+bound-range [] v h e = absurd (cc)
+bound-range (b ∷ P) v h e = go (eqb b.var v) refl e (bound-range P v h.1)
+  where
+    go : (t : Bool) → eqb b.var v ≡ t → cond t true (is_bound P v) ≡ true → (is_bound P v ≡ true → (1 ≤ v) × (v < 2 ^ 31)) → (1 ≤ v) × (v < 2 ^ 31)
+    go true q f ih = let z : b.var ≡ v = grind arith in subst (λ (n : ℕ). (1 ≤ n) × (n < 2 ^ 31)) z h.0
+    go false q f ih = ih f
+
 apart-unbound : (b : Bound) (P : Prefix) → AllByRecursion (λ r. b.var ≢ r.var) P → is_bound P b.var ≡ false
 apart-unbound b [] h = refl
 apart-unbound b (r ∷ P) h = let n : b.var ≢ r.var = h.0 in grind (arith, apart-unbound b P h.1)
@@ -32,22 +44,9 @@ pairs-Distinct (b ∷ P) h = (apart-unbound b P h.0, pairs-Distinct P h.1)
 
 -- members of a part are members of the whole
 
-IsIn-drop : {X : Type 0} (x : X) (n : ℕ) (xs : List X) → IsIn x (drop n xs) → IsIn x xs
-IsIn-drop x zero [] m = m
-IsIn-drop x (suc n) [] m = m
-IsIn-drop x zero (y ∷ xs) m = m
-IsIn-drop x (suc n) (y ∷ xs) m = inr (IsIn-drop x n xs m)
-
-IsIn-take : {X : Type 0} (x : X) (n : ℕ) (xs : List X) → IsIn x (take n xs) → IsIn x xs
-IsIn-take x zero [] m = m
-IsIn-take x (suc n) [] m = m
-IsIn-take x zero (y ∷ xs) m = elim m [ ]
-IsIn-take x (suc n) (y ∷ xs) (inl e) = inl e
-IsIn-take x (suc n) (y ∷ xs) (inr m) = inr (IsIn-take x n xs m)
-
 IsIn-slice_range : {X : Type 0} (x : X) (from to : ℕ) (xs : List X) → IsIn x (slice_range xs from to) →
     IsIn x xs
-IsIn-slice_range x from to xs m = IsIn-drop x from xs (IsIn-take x _ (drop from xs) m)
+IsIn-slice_range x from to xs m = IsIn-drop xs from x (IsIn-take (drop from xs) _ x m)
 
 pub IsIn-clauses_between : (lits : List Literal) (from : ℕ) (ends : List ℕ) (D : Clause) (k : Literal) →
     IsIn D (clauses_between lits from ends) → IsIn k D → IsIn k lits

@@ -30,6 +30,7 @@ pub mod FormulaParts
 pub mod TruthDecided
 pub mod Validity
 pub mod JustifiedRuns
+pub mod ClauseByClause
 pub mod ImpliedClauses
 pub mod ChangeRuns
 pub mod NumberedClauses

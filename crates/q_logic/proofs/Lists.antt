@@ -29,11 +29,23 @@ slice_get-before [] ys i x l e = absurd (omega arith)
 slice_get-before (y ∷ xs) ys zero x l e = e
 slice_get-before (y ∷ xs) ys (suc i) x l e = slice_get-before xs ys i x (omega arith) e
 
+pub slice_get-append : {X : Type 0} (xs ys : List X) (i : ℕ) (x : X) → slice_get xs i ≡ Some x → slice_get (xs ++ ys) i ≡ Some x
+slice_get-append [] ys i x e = absurd (cc)
+slice_get-append (y ∷ xs) ys zero x e = e
+slice_get-append (y ∷ xs) ys (suc i) x e = slice_get-append xs ys i x e
+
 pub IsIn-drop : {X : Type 0} (xs : List X) (i : ℕ) (x : X) → IsIn x (drop i xs) → IsIn x xs
 IsIn-drop [] zero x m = m
 IsIn-drop [] (suc i) x m = m
 IsIn-drop (y ∷ xs) zero x m = m
 IsIn-drop (y ∷ xs) (suc i) x m = inr (IsIn-drop xs i x m)
+
+pub IsIn-take : {X : Type 0} (xs : List X) (i : ℕ) (x : X) → IsIn x (take i xs) → IsIn x xs
+IsIn-take [] zero x m = m
+IsIn-take [] (suc i) x m = m
+IsIn-take (y ∷ xs) zero x m = elim m [ ]
+IsIn-take (y ∷ xs) (suc i) x (inl e) = inl e
+IsIn-take (y ∷ xs) (suc i) x (inr m) = inr (IsIn-take xs i x m)
 
 pub taken : {X : Type 0} (xs : List X) (n : ℕ) (y : X) → n < length xs → y ≡ get_or xs n y → take (n + 1) xs ≡ take n xs ++ y ∷ []
 taken xs n y h e = let t = take_more xs n y h in rw (t, ← e) refl

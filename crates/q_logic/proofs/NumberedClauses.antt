@@ -35,6 +35,19 @@ others-live (None ∷ N) (suc c) D m = others-live N c D m
 others-live (Some C ∷ N) (suc c) D (inl e) = inl e
 others-live (Some C ∷ N) (suc c) D (inr m) = inr (others-live N c D m)
 
+-- Another clause at a number, or none.
+pub slot-set_other : (c d : ℕ) (o : Option Clause) (N : Slots) → d ≢ c → slot (set_slot c o N) d ≡ slot N d
+slot-set_other c d o [] n = refl
+slot-set_other zero zero o (p ∷ N) n = absurd (n refl)
+slot-set_other zero (suc d) o (p ∷ N) n = refl
+slot-set_other (suc c) zero o (p ∷ N) n = refl
+slot-set_other (suc c) (suc d) o (p ∷ N) n = slot-set_other c d o N (λ e. n (ap suc e))
+
+pub slot-set_none : (c : ℕ) (N : Slots) → slot (set_slot c None N) c ≡ None
+slot-set_none c [] = refl
+slot-set_none zero (o ∷ N) = refl
+slot-set_none (suc c) (o ∷ N) = slot-set_none c N
+
 pub IsIn-has_not : (l : Literal) (D : Clause) → has l D ≡ false → IsIn l D → ⊥
 IsIn-has_not l D h m = let z : has l D ≡ true = IsIn-has l D m in grind arith
 

@@ -1,8 +1,9 @@
 -- The order of a prefix.
-use Rattle.std.proofs.Common.{◌≡◌, ℕ, true, false, [], ◌∷◌, arith, refl}
+use Rattle.std.proofs.Common.{◌≡◌, ◌<◌, ◌≤◌, ℕ, true, false, [], ◌∷◌, inl, inr, arith, refl}
 use Rattle.q_logic.specs.declared.formulas.Quant.{Quant}
 use Rattle.q_logic.specs.declared.formulas.Quant.TheVariants.{Exists, Forall}
-use Rattle.q_logic.specs.Prelude.{Prefix, is_existential, is_universal, is_bound, universal_before, run_to, outer_or_same}
+use Rattle.q_logic.specs.Prelude.{Prefix, is_existential, is_universal, is_bound, universal_before, run_to, outer_or_same, IsNext}
+use Rattle.q_logic.specs.declared.formulas.Bound.{Bound}
 
 pub existential-is_bound : (P : Prefix) (v : ℕ) → is_existential P v ≡ true → is_bound P v ≡ true
 existential-is_bound [] v h = h
@@ -112,3 +113,10 @@ universal-is_bound (b ∷ P) v h = grind (arith, universal-is_bound P v)
 pub unbound-universal : (P : Prefix) (v : ℕ) → is_bound P v ≡ false → is_universal P v ≡ false
 unbound-universal [] v h = refl
 unbound-universal (b ∷ P) v h = grind (arith, unbound-universal P v)
+
+-- The next bound of a prefix has no lower rank.
+pub next-rises : (rank : ℕ → ℕ) (b c : Bound) → IsNext rank b c → rank b.var ≤ rank c.var
+next-rises rank b c n = elim n [
+  | inl e ↦ let x : rank b.var ≡ rank c.var = e.1 in omega arith
+  | inr l ↦ let x : rank b.var < rank c.var = l.1 in omega arith
+]

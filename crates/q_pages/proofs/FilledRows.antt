@@ -1,5 +1,5 @@
 -- Rows made of the values of numbers.
-use Rattle.std.proofs.Common.{◌≡◌, ℕ, zero, suc, ◌+◌, ◌<◌, List, [], ◌∷◌, length, get_or, map, refl, ◌∙◌, ap, arith, le_of_suc-le-suc, not-suc-le-zero}
+use Rattle.std.proofs.Common.{◌≡◌, ℕ, zero, suc, ◌+◌, ◌<◌, length, get_or, refl, ◌∙◌, ap, arith, le_of_suc-le-suc, not-suc-le-zero}
 use Rattle.q_pages.specs.Layout.{values_from}
 
 module _ {T : Type 0} (f : ℕ → T) where
@@ -13,13 +13,3 @@ module _ {T : Type 0} (f : ℕ → T) where
   value-at k (suc n) (suc i) d h =
       let e : suc k + i ≡ k + suc i = omega arith in
       value-at (suc k) n i d (le_of_suc-le-suc h) ∙ ap f e
-
-module _ {X Y : Type 0} (f : X → Y) (d : X) where
-  pub mapped-at : (xs : List X) (i : ℕ) → get_or (map f xs) i (f d) ≡ f (get_or xs i d)
-  mapped-at [] i = refl
-  mapped-at (x ∷ xs) zero = refl
-  mapped-at (x ∷ xs) (suc i) = mapped-at xs i
-
-  pub length-mapped : (xs : List X) → length (map f xs) ≡ length xs
-  length-mapped [] = refl
-  length-mapped (x ∷ xs) = ap suc (length-mapped xs)

@@ -4,10 +4,11 @@ use Rattle.std.specs.Prelude.{true, false, nat_lt, ◌⊎◌}
 use Rattle.std.proofs.lemmas.Bool.{cases_lt, cases_eq}
 use Rattle.std.proofs.lemmas.Bool.Decides.{nat_tests}
 use Rattle.std.proofs.lemmas.List.{length-set, ext_get_or, get_or-set_same, get_or-set_other, get_or_past}
+use Rattle.std.proofs.Math.ListN.{get_or-map}
 use Rattle.q_pages.specs.Rows.{item_at, IsMade}
 use Rattle.q_pages.specs.Tables.{IsFreePage, page_of}
 use Rattle.q_pages.specs.Layout.{entry, row_of, IsSound}
-use Rattle.q_pages.proofs.FilledRows.{length-values, value-at, mapped-at}
+use Rattle.q_pages.proofs.FilledRows.{length-values, value-at}
 
 module _ {T : Type 0} (none : T) (pages : List ℕ) (items : List T) where
   pub length-row : length (row_of none pages items).items ≡ 1024 * length pages
@@ -22,7 +23,7 @@ module _ {T : Type 0} (none : T) (pages : List ℕ) (items : List T) where
   item-past i h = get_or_past (row_of none pages items).items i none (rw length-row h)
 
   made-is : (i : ℕ) → get_or (row_of none pages items).made (i / 1024) false ≡ nat_lt 0 (page_of pages i)
-  made-is i = mapped-at (λ p. nat_lt 0 p) 0 pages (i / 1024)
+  made-is i = get_or-map (λ p. nat_lt 0 p) pages (i / 1024) 0
 
   pub made-in : (i : ℕ) → IsMade (row_of none pages items) i → (i < 1024 * length pages) × (0 < page_of pages i)
   made-in i m =

@@ -6,6 +6,7 @@ use Rattle.std.proofs.lemmas.Option.{same_Some, none-some}
 use Rattle.q_logic.specs.declared.formulas.Quant.{Quant}
 use Rattle.q_logic.specs.declared.formulas.Bound.{Bound}
 use Rattle.q_logic.specs.Prelude.{IsIn, same_quant, removed_from}
+use Rattle.q_logic.proofs.Common.{next-rises, same_quant-itself}
 use Rattle.q_arena.specs.Prelude.{Has, Misses, AreApart, without, with_next, Chains, HasSameLists, list_at, following, preceding, preceding_from}
 use Rattle.q_arena.proofs.RingPaths.{without-first, without-later}
 use Rattle.q_arena.proofs.RingLemmas.{Has-without}
@@ -14,7 +15,7 @@ use Rattle.q_arena.proofs.ArenaView.{length-set'}
 use Rattle.q_arena.proofs.RingInsertion.{with_next-here, with_next-later, Has-with_next}
 use Rattle.q_prefix.specs.declared.marks.Mark.{Mark}
 use Rattle.q_prefix.specs.Order.{Binds, with_after, IsRankedFrom, IsRanked, IsRankBefore, no_mark, mark_at, bound_of, rank_of, bounds_of, IsPrefix, IsParted}
-use Rattle.q_prefix.proofs.PrefixRanks.{IsBetween, StartsWith, IsJoint, next-le, quant-self, ranked-gone, ranked-merged, ranked-joined}
+use Rattle.q_prefix.proofs.PrefixRanks.{IsBetween, StartsWith, IsJoint, ranked-gone, ranked-merged, ranked-joined}
 use Rattle.q_arena.proofs.ListNeighbours.{following-here, following-later, preceding-here, preceding-later, preceding-none}
 use Rattle.q_prefix.proofs.ListedBounds.{bounds-without, bounds-with, in-bounds, bounds-same, ranked-same, has-binds}
 
@@ -138,8 +139,8 @@ between-rises rank x v y b (c ∷ p) r k = elim k [
     first (d ∷ q) r a =
         let bx : rank b.var ≡ rank x.var = ap (λ (z : Bound). rank z.var) a.0 in
         let dy : rank d.var ≡ rank y.var = ap (λ (z : Bound). rank z.var) a.2 in
-        let m = next-le rank b c r.0 in
-        let n = next-le rank c d r.1.0 in
+        let m = next-rises rank b c r.0 in
+        let n = next-rises rank c d r.1.0 in
         omega (arith, bx, dy, m, n)
 
 pub ranked-tail : (rank : ℕ → ℕ) (b : Bound) (p : List Bound) → IsRankedFrom rank b p → IsRanked rank p
@@ -243,7 +244,7 @@ module _ (o n : Chains) (marks : List Mark) (v w : ℕ) (m : Mark) (p : IsPrefix
       let f : (c : Bound) → IsIn c (bounds_of more (list_at o 0)) → c.var ≡ w → same_quant c.quant (mark_at more v).quant ≡ true = λ c i cw.
       let b = (in-bounds more (list_at o 0) c i).1 in
       let cq : c.quant ≡ (mark_at more v).quant = ap (λ (z : Bound). z.quant) b ∙ ap (λ (k : ℕ). (mark_at more k).quant) cw ∙ sym q in
-      ap (λ (z : Quant). same_quant z (mark_at more v).quant) cq ∙ quant-self (rank_of more) (mark_at more v).quant in
+      ap (λ (z : Quant). same_quant z (mark_at more v).quant) cq ∙ same_quant-itself (mark_at more v).quant in
       let joined' = ranked-joined (rank_of more) (bound_of more v) w e (bounds_of more (list_at o 0)) r f in
       let ranked' : IsRanked (rank_of more) (bounds_of more (list_at n 0)) = rw (list-inserted, bounds-with more (list_at o 0) w v) joined' in
       prefix-grown o n marks v m p (ap (λ (k : Mark). k.bound) mark ∙ p.bound w there) vl

@@ -4,22 +4,15 @@ use Rattle.std.specs.Prelude.{if◌then◌else◌, nat_le, ◌==◌}
 use Rattle.std.proofs.lemmas.Bool.Decides.{nat_tests}
 use Rattle.std.proofs.lemmas.Bool.{cases_eq}
 use Rattle.q_logic.specs.declared.formulas.Quant.{Quant}
-use Rattle.q_logic.specs.declared.formulas.Quant.TheVariants.{Exists, Forall}
 use Rattle.q_logic.specs.declared.formulas.Bound.{Bound}
 use Rattle.q_logic.specs.Prelude.{same_quant, run_to, outer_or_same, IsNext, IsIn, removed_from}
-use Rattle.q_logic.proofs.Common.{same_quant-through, same_quant-two}
+use Rattle.q_logic.proofs.Common.{same_quant-through, same_quant-two, next-rises, same_quant-itself}
 use Rattle.q_prefix.specs.Order.{Binds, IsRankedFrom, IsRanked, with_after}
 
 module _ (rank : ℕ → ℕ) where
-  pub next-le : (b c : Bound) → IsNext rank b c → rank b.var ≤ rank c.var
-  next-le b c n = elim n [
-    | inl e ↦ let x : rank b.var ≡ rank c.var = e.1 in omega arith
-    | inr l ↦ let x : rank b.var < rank c.var = l.1 in omega arith
-  ]
-
   pub rank-rises : (b : Bound) (p : List Bound) (v : ℕ) → IsRankedFrom rank b p → Binds p v → rank b.var ≤ rank v
   rank-rises b [] v r i = absurd i
-  rank-rises b (c ∷ p) v r i = let n = next-le b c r.0 in elim i [
+  rank-rises b (c ∷ p) v r i = let n = next-rises rank b c r.0 in elim i [
     | inl e ↦ rw e n
     | inr j ↦ let d = rank-rises c p v r.1 j in omega arith
   ]
@@ -50,10 +43,6 @@ module _ (rank : ℕ → ℕ) where
             grind (arith, nat_tests)
       ]
 
-  pub quant-self : (q : Quant) → same_quant q q ≡ true
-  quant-self Exists = refl
-  quant-self Forall = refl
-
   choose : (b : Bound) (p : List Bound) (a v : ℕ) → Binds (b ∷ p) a → Binds (b ∷ p) v → (Binds p a → Binds p v → outer_or_same p a v ≡ nat_le (rank a) (rank v)) → (Binds p v → rank b.var ≤ rank v) → (Binds p a → run_to b.quant p a ≡ nat_le (rank a) (rank b.var)) → outer_or_same (b ∷ p) a v ≡ nat_le (rank a) (rank v)
   choose b p a v i j rest first run =
       elim (cases_eq b.var a) [
@@ -83,7 +72,7 @@ module _ (rank : ℕ → ℕ) where
   outer-from b (c ∷ p) a v r i j =
       let rest : Binds (c ∷ p) a → Binds (c ∷ p) v → outer_or_same (c ∷ p) a v ≡ nat_le (rank a) (rank v) = outer-from c p a v r.1 in
       let first : Binds (c ∷ p) v → rank b.var ≤ rank v = λ k. rank-rises b (c ∷ p) v r k in
-      let run : Binds (c ∷ p) a → run_to b.quant (c ∷ p) a ≡ nat_le (rank a) (rank b.var) = λ k. runs-rank b.quant b (c ∷ p) a (quant-self b.quant) r k in
+      let run : Binds (c ∷ p) a → run_to b.quant (c ∷ p) a ≡ nat_le (rank a) (rank b.var) = λ k. runs-rank b.quant b (c ∷ p) a (same_quant-itself b.quant) r k in
       choose b (c ∷ p) a v i j rest first run
 
 pub outer-by-rank : (rank : ℕ → ℕ) (p : List Bound) (a v : ℕ) → IsRanked rank p → Binds p a → Binds p v → outer_or_same p a v ≡ nat_le (rank a) (rank v)
@@ -141,7 +130,7 @@ module _ (rank f : ℕ → ℕ) (r1 r2 : ℕ) (j : IsJoint f r1 r2) where
   ranked-above d [] h r = tt
   ranked-above d (e ∷ q) h r =
       let rest : r2 ≤ rank e.var → IsRankedFrom (λ v. f (rank v)) e q = λ k. ranked-above e q k r.1 in
-      let n = next-le rank d e r.0 in (
+      let n = next-rises rank d e r.0 in (
         elim r.0 [
           | inl s ↦ inl (s.0, ap f s.1)
           | inr l ↦ inr (l.0, j.high (rank d.var) (rank e.var) h l.1)
@@ -153,7 +142,7 @@ module _ (rank f : ℕ → ℕ) (r1 r2 : ℕ) (j : IsJoint f r1 r2) where
   between-rank x v y b [] r h = absurd h
   between-rank x v y b (c ∷ p) r h = elim h [
     | inl e ↦ rw e.0 (omega arith)
-    | inr k ↦ let d = between-rank x v y c p r.1 k.1 in let n = next-le rank b c r.0 in omega arith
+    | inr k ↦ let d = between-rank x v y c p r.1 k.1 in let n = next-rises rank b c r.0 in omega arith
   ]
 
   -- the last variable of its block goes, and the blocks beside it become one

@@ -2,9 +2,8 @@
 use Rattle.std.proofs.Common.{◌≡◌, ◌≢◌, ◌⊎◌, ◌≤◌, ◌<◌, ◌+◌, ℕ, true, Some, List, sym, ap, subst, inl, inr, arith}
 use Rattle.std.proofs.lemmas.Bool.{cases_eq}
 use Rattle.q_logic.specs.Prelude.{Literal, negation, Clause, Prefix, IsIn, is_bound, outer_or_same, Slots, slot, others, Reached, Reducible}
-use Rattle.q_logic.proofs.Common.{negation-negation, universal-is_bound}
+use Rattle.q_logic.proofs.Common.{negation-negation, universal-is_bound, live-slot}
 use Rattle.q_logic.proofs.ClosureSearch.{hit-reached}
-use Rattle.q_kernel.proofs.SlotLists.{slot-IsIn}
 use Rattle.q_kernel.specs.Prelude.{Seen, slots}
 use Rattle.q_rule.proofs.IdClauses.{slot-one}
 use Rattle.q_rule.proofs.OuterOrder.{inner-through}
@@ -52,7 +51,7 @@ module _ (P : Prefix) (N : Slots) (u : Literal) where
 
   module _ (c : ℕ) (h : HoldsUniversal P N c u) where
     apart : (C : Clause) → slot N c ≡ Some C → (X : Clause) (x : ℕ) → slot N x ≡ Some X → (IsIn u X → ⊥) → IsIn X (others c N)
-    apart C e X x s n = lacking-beside P u N c C X e (subst (λ (D : Clause). IsIn u D) (slot-one N c h.0 C h.1 e) h.2) (slot-IsIn N x X s) n
+    apart C e X x s n = lacking-beside P u N c C X e (subst (λ (D : Clause). IsIn u D) (slot-one N c h.0 C h.1 e) h.2) (live-slot N x X s) n
 
     met : (x : ℕ) → Leads P N u x → (C : Clause) → slot N c ≡ Some C → (X : Clause) → slot N x ≡ Some X → Reached P (others c N) C u X → Reducible P (others c N) C u → ⊥
     met _ (there x D e m) C s X f r red = red.no_negation X r (subst (λ (Y : Clause). IsIn (negation u) Y) (slot-one N x D X e f) m)

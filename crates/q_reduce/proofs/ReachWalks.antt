@@ -1,9 +1,8 @@
 -- Walks, literal by literal and clause by clause.
 use Rattle.std.proofs.Common.{◌≡◌, ◌⊎◌, ℕ, Bool, true, false, List, [], ◌∷◌, ◌++◌, Some, Contains, sym, ◌∙◌, ap, subst, inl, inr, append-nil, append_assoc}
 use Rattle.q_logic.specs.Prelude.{Literal, negation, Clause, Prefix, IsIn, inner_existential, Slots, slot, live, others}
-use Rattle.q_logic.proofs.Common.{others-slot, IsIn-append_left, IsIn-append, IsIn-append_right, others-live}
+use Rattle.q_logic.proofs.Common.{others-slot, IsIn-append_left, IsIn-append, IsIn-append_right, others-live, live-slot}
 use Rattle.q_logic.proofs.HintChains.{live-number}
-use Rattle.q_kernel.proofs.SlotLists.{slot-IsIn}
 use Rattle.q_kernel.proofs.DistinctMembers.{Contains-none, Contains-last}
 use Rattle.q_rule.proofs.GrownMembers.{IsIn-grown}
 use Rattle.q_rule.proofs.IdClauses.{slot-one}
@@ -94,14 +93,14 @@ module _ (P : Prefix) (u : Literal) where
   pub visited-not : (N : Slots) (d : ℕ) (k : Literal) (D : Clause) (old mid new : List Literal) → slot N d ≡ Some D → IsIn (negation k) D → IsFollowed P N u d mid new false → IsVisited P (live N) u k old new false
   visited-not N d k D old mid new h m f = (
     f.0,
-    slot-IsIn N d f.0 f.1,
+    live-slot N d f.0 f.1,
     subst (λ (x : Clause). IsIn (negation k) x) (slot-one N d D f.0 h f.1) m,
     f.2,
     f.3,
   )
 
   pub stands-held : (N : Slots) (d : ℕ) (l : Literal) (D E : Clause) → slot N d ≡ Some D → IsIn l D → Stands N d E → IsIn E (live N) × IsIn l E
-  stands-held N d l D E h m b = (slot-IsIn N d E b, subst (λ (x : Clause). IsIn l x) (slot-one N d D E h b) m)
+  stands-held N d l D E h m b = (live-slot N d E b, subst (λ (x : Clause). IsIn l x) (slot-one N d D E h b) m)
 
   -- A clause that lacks u stands beside one that holds it.
   pub lacking-beside : (N : Slots) (c : ℕ) (C E : Clause) → slot N c ≡ Some C → IsIn u C → IsIn E (live N) → (IsIn u E → ⊥) → IsIn E (others c N)

@@ -1,16 +1,16 @@
 -- What is common to the targets of all rules: how a change keeps the limits, what depends on the clause of each id alone, and
 -- when a target was taken.
-use Rattle.std.proofs.Common.{◌≡◌, ◌≤◌, ◌+◌, ℕ, zero, suc, Bool, true, false, cond, [], ◌∷◌, inl, inr, arith, refl, sym, ap, ◌∙◌, subst, Some, None, length}
+use Rattle.std.proofs.Common.{◌≡◌, ◌≤◌, ◌+◌, ℕ, Bool, true, false, cond, [], ◌∷◌, inl, inr, arith, refl, sym, ap, ◌∙◌, subst, Some, None, length}
 use Rattle.std.proofs.lemmas.Bool.{cases_eq}
 use Rattle.q_logic.specs.declared.rule_bounds.Bounds.{Bounds}
 use Rattle.q_logic.specs.Prelude.{Literal, Clause, Matrix, Prefix, PrenexFormula, without, standard, IsInLimits, measure_of, literals_in, has, without_literal, each_without, Slots, slot, set_slot, live, others, formula_of, swept, Target, Fits, Applicable, change, result_of, AreAlike}
-use Rattle.q_logic.proofs.Common.{without-shorter, live-gone}
+use Rattle.q_logic.proofs.Common.{without-shorter, live-gone, slot-set_other, slot-set_none}
 use Rattle.q_logic.proofs.MeasureFalls.{measure-alike}
 use Rattle.q_logic.proofs.RuleLaws.{Renumbering, Renumbered}
 use Rattle.q_logic.proofs.LawsOf.{laws_of}
 use Rattle.q_logic.proofs.TargetRuns.{target-falls}
 use Rattle.q_kernel.specs.Prelude.{Seen, slots, formula_in, SameView, IsReady, IsTaken}
-use Rattle.q_kernel.proofs.SlotLists.{length-others, literals-others, live-same, slot-set_other}
+use Rattle.q_kernel.proofs.SlotLists.{length-others, literals-others, live-same}
 use Rattle.q_kernel.proofs.KernelRuns.{led-through, led-view}
 use Rattle.q_rule.specs.Becoming.{HasResult}
 
@@ -53,17 +53,12 @@ shortened-less l N c C e = record {
 }
 
 -- The same clause of each id.
-pub slot-none : (c : ℕ) (N : Slots) → slot (set_slot c None N) c ≡ None
-slot-none c [] = refl
-slot-none zero (o ∷ N) = refl
-slot-none (suc c) (o ∷ N) = slot-none c N
-
 pub others-same : (M N : Slots) (c : ℕ) → ((d : ℕ) → slot N d ≡ slot M d) → others c M ≡ others c N
 others-same M N c s = sym (live-gone M c) ∙ (live-same (set_slot c None M) (set_slot c None N) same ∙ live-gone N c)
   where
     same : (d : ℕ) → slot (set_slot c None M) d ≡ slot (set_slot c None N) d
     same d = elim (cases_eq d c) [
-      | inl e ↦ subst (λ (x : ℕ). slot (set_slot c None M) x ≡ slot (set_slot c None N) x) (sym e) (slot-none c M ∙ sym (slot-none c N))
+      | inl e ↦ subst (λ (x : ℕ). slot (set_slot c None M) x ≡ slot (set_slot c None N) x) (sym e) (slot-set_none c M ∙ sym (slot-set_none c N))
       | inr n ↦ slot-set_other c d None M n ∙ (sym (s d) ∙ sym (slot-set_other c d None N n))
     ]
 

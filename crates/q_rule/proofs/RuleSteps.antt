@@ -85,7 +85,7 @@ module _ (k : Seen) (id : ℕ) (C : Clause) (s : IsSound k) (there : slot (slots
   }
 
   -- one clause more keeps far within the limits
-  one-more : (l : Literal) → IsInLimits standard (formula_in k) → KeepsLimits standard (without l C ∷ live (slots k))
+  pub one-more : (l : Literal) → IsInLimits standard (formula_in k) → KeepsLimits standard (without l C ∷ live (slots k))
   one-more l h = record {
     clauses = few (length (live (slots k))) h.clauses;
     lits = some (length (without l C)) (length C) (literals_in (live (slots k))) (literals_in (others id (slots k))) (without-shorter l C) h.lits (literals-others (slots k) id C there);

@@ -1,13 +1,14 @@
 -- What the changes of a target leave.
-use Rattle.std.proofs.Common.{◌≡◌, ◌≤◌, ◌+◌, ◌*◌, ℕ, Bool, true, false, cond, [], ◌∷◌, arith, refl, sym, ap, ◌∙◌, subst, Some, length, true≢false}
-use Rattle.q_logic.specs.Prelude.{Literal, negation, Clause, Matrix, Prefix, PrenexFormula, IsIn, without, standard, IsInLimits, size_of, delete, drop_literal, first_of, with_literal, without_literal, each_without, Slots, slot, set_slot, live, others, formula_of, swept, has_empty, occurring, occurs, IsSwept, change, result_of, assigned, head_of, shortened, AreAlike}
+use Rattle.std.proofs.Common.{◌≡◌, ◌≤◌, ◌+◌, ◌*◌, ℕ, Bool, true, false, cond, [], ◌∷◌, arith, refl, sym, ap, ◌∙◌, subst, Some, length}
+use Rattle.q_logic.specs.Prelude.{Literal, negation, Clause, Matrix, Prefix, PrenexFormula, IsIn, without, standard, IsInLimits, size_of, delete, drop_literal, first_of, with_literal, without_literal, each_without, Slots, slot, set_slot, live, others, formula_of, swept, has_empty, occurring, IsSwept, change, result_of, assigned, head_of, shortened, AreAlike}
 use Rattle.q_logic.specs.Targets as theory
-use Rattle.q_logic.proofs.Common.{occurs_var-find, occurs_var-IsIn, SameClauses, IsIn-alike, alike-sym, alike-refl, sweep-twice, swept-in_limits, live-gone, alike_itself}
+use Rattle.q_logic.proofs.Common.{SameClauses, alike-sym, alike-refl, sweep-twice, swept-in_limits, live-gone, alike_itself}
 use Rattle.q_logic.proofs.HintedRuns.{live-changed}
 use Rattle.q_log.specs.Texts.{step_text}
 use Rattle.q_kernel.specs.Prelude.{Seen, slots, formula_in, IsSound, HasSweepBytes, IsLed, IsDeleted, IsDropped}
 use Rattle.q_kernel.proofs.SlotLists.{has_empty-alike, size-replaced}
 use Rattle.q_kernel.proofs.KernelRuns.{led-through}
+use Rattle.q_kernel.proofs.PlaceLists.{occurs-alike}
 use Rattle.q_rule.specs.Becoming.{CanChange, HasBecome, IsChanged, HasResult}
 use Rattle.q_rule.proofs.LoopChanges.{with-less}
 use Rattle.q_rule.proofs.RuleSteps.{implied-cost, drop-cost}
@@ -72,21 +73,9 @@ pub changed-unit : (old new : Seen) (c : ℕ) (l : Literal) → slot (slots old)
 changed-unit old new c l e h = changed-by old new (theory.unit c) (each_without (negation l) (without_literal l (live (slots old)))) (ap (λ o. formula_of old.prefix (assigned (head_of o) (live (slots old)))) e) h
 
 -- Sweeping alike formulas.
-occurs-alike : (X Y : Matrix) (v : ℕ) → SameClauses X Y → occurs v X ≡ true → occurs v Y ≡ true
-occurs-alike X Y v s h = let r = occurs_var-find v X h in subst (λ (u : ℕ). occurs u Y ≡ true) r.4 (occurs_var-IsIn Y r.0 r.1 (IsIn-alike X Y s r.0 r.2) r.3)
-
-occurs-same : (X Y : Matrix) (v : ℕ) → SameClauses X Y → occurs v X ≡ occurs v Y
-occurs-same X Y v s = go (occurs v X) refl (occurs v Y) refl
-  where
-    go : (a : Bool) → occurs v X ≡ a → (b : Bool) → occurs v Y ≡ b → a ≡ b
-    go true p true q = refl
-    go false p false q = refl
-    go true p false q = absurd (true≢false (sym (occurs-alike X Y v s p) ∙ q))
-    go false p true q = absurd (true≢false (sym (occurs-alike Y X v (alike-sym X Y s) q) ∙ p))
-
 occurring-same : (P : Prefix) (X Y : Matrix) → SameClauses X Y → occurring P X ≡ occurring P Y
 occurring-same [] X Y s = refl
-occurring-same (b ∷ P) X Y s = let e = occurs-same X Y b.var s in let i = occurring-same P X Y s in rw (e, i) refl
+occurring-same (b ∷ P) X Y s = let e = occurs-alike b.var X Y s in let i = occurring-same P X Y s in rw (e, i) refl
 
 pub swept-alike : (F G : PrenexFormula) → AreAlike F G → AreAlike (swept F) (swept G)
 swept-alike F G a = subst (λ (P : Prefix). AreAlike (swept F) (swept (formula_of P G.matrix))) a.prefix (rw (← has_empty-alike F.matrix G.matrix a.clauses) (go (has_empty F.matrix)))

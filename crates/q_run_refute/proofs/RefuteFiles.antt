@@ -18,6 +18,7 @@ use Rattle.q_command.specs.declared.checking.Checked.{Checked}
 use Rattle.q_command.specs.declared.outcome.Outcome.{Outcome}
 use Rattle.q_command.specs.declared.outcome.Outcome.TheVariants as outcome
 use Rattle.q_command.specs.declared.status.Status.TheVariants as status
+use Rattle.q_command.proofs.OutcomeStatus.{check-read}
 use Rattle.q_run_refute.specs.Refutes.{RefuteFiles, OfRun, Brings, AreRefused, AreCarried, CircuitsFail, FaultsReading, IsOfCircuits, IsPart, Puts, Refutes, not_reversed}
 use Rattle.q_run_refute.specs.Reversing.{IsUnreversed}
 use Rattle.q_run_refute.specs.RefutedLines.{status_of_refuted}
@@ -123,17 +124,9 @@ module _ (keep : Keep) (steps : keep.steps ≡ true) (n : RefuteFiles) (before :
       written-refutes NoMemory (inr h) = inr (part h)
 
 -- which outcomes give the statuses of faults
-reading-outcome : (o : Outcome) → status_of o ≡ status.ReadFault → o ≡ outcome.ReadFault
-reading-outcome (outcome.Verified n) e = cc
-reading-outcome (outcome.RefusedLine n c) e = cc
-reading-outcome (outcome.RefusedEnd c) e = cc
-reading-outcome (outcome.RefusedInput r n c) e = cc
-reading-outcome outcome.ReadFault e = refl
-reading-outcome outcome.NoMemory e = cc
-
 pub reading-status : (r : Refuted) → status_of_refuted r ≡ status.ReadFault → FaultsReading r
 reading-status (Written g) e = cc
-reading-status (Unverified o) e = inr (ap (λ (w : Outcome). Unverified w) (reading-outcome o e))
+reading-status (Unverified o) e = inr (ap (λ (w : Outcome). Unverified w) (check-read o e))
 reading-status (Extended n) e = cc
 reading-status (RefusedText k c) e = cc
 reading-status (MissingOutput v) e = cc

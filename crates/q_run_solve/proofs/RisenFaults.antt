@@ -1,10 +1,10 @@
 -- Faults that rose.
-use Rattle.std.proofs.Common.{◌≡◌, inl, inr, refl, sym, ◌∙◌, ℕ, ◌≤◌, arith, List, [], ◌∷◌, Err}
+use Rattle.std.proofs.Common.{◌≡◌, inl, inr, refl, sym, ◌∙◌, ℕ, List, [], ◌∷◌, Err}
 use Rattle.std.specs.Prelude.{IsErrOf}
-use Rattle.q_logic.specs.Prelude.{Rose}
 use Rattle.q_io.specs.Files.{Later, RoseFor, RoseAmong}
 use Rattle.q_io.specs.declared.error.DeviceError.{DeviceError}
 use Rattle.q_io.specs.declared.error.DeviceError.TheVariants as device
+use Rattle.q_io.proofs.FaultCounts.{rose_later}
 use Rattle.q_command.specs.declared.status.Status.TheVariants as status
 use Rattle.q_run_solve.specs.declared.solved.Solved.{Solved}
 use Rattle.q_run_solve.specs.declared.solved.Solved.TheVariants as solved
@@ -12,9 +12,6 @@ use Rattle.q_run_solve.specs.SolvedLines.{status_of_solved}
 use Rattle.q_run_solve.specs.Solves.{failed_write, refusal_of}
 use Rattle.q_command.specs.declared.input.InputError.{InputError}
 use Rattle.q_command.specs.declared.input.InputError.TheVariants as reading
-
-rose-later : (a b c : ℕ) → b ≤ a → Rose a c → Rose b c
-rose-later a b c le h = omega arith
 
 write-is : (o : Solved) → status_of_solved o ≡ status.WriteFault → o ≡ solved.WriteFault
 write-is (solved.True g) e = absurd (cc)
@@ -36,13 +33,13 @@ read-is solved.NoMemory e = absurd (cc)
 
 -- CERT could not be written
 pub cert-rose : {X : Type 0} (read write : X → List ℕ → ℕ) (on ln cn : List ℕ) (before mid after : X) (o : Solved) → Later read write before mid → (o ≡ solved.WriteFault → RoseFor write cn mid after) → status_of_solved o ≡ status.WriteFault → RoseAmong write (on ∷ ln ∷ cn ∷ []) before after
-cert-rose read write on ln cn before mid after o l h e = inr (inr (rose-later (write mid cn) (write before cn) (write after cn) (l.write cn) (h (write-is o e))))
+cert-rose read write on ln cn before mid after o l h e = inr (inr (rose_later (write before cn) (write mid cn) (write after cn) (l.write cn) (h (write-is o e))))
 
 -- files that were only read before
 pub three-later : {X : Type 0} (read write : X → List ℕ → ℕ) (on ln cn : List ℕ) (before mid after : X) → Later read write before mid → RoseAmong write (on ∷ ln ∷ cn ∷ []) mid after → RoseAmong write (on ∷ ln ∷ cn ∷ []) before after
-three-later read write on ln cn before mid after l (inl a) = inl (rose-later (write mid on) (write before on) (write after on) (l.write on) a)
-three-later read write on ln cn before mid after l (inr (inl a)) = inr (inl (rose-later (write mid ln) (write before ln) (write after ln) (l.write ln) a))
-three-later read write on ln cn before mid after l (inr (inr a)) = inr (inr (rose-later (write mid cn) (write before cn) (write after cn) (l.write cn) a))
+three-later read write on ln cn before mid after l (inl a) = inl (rose_later (write before on) (write mid on) (write after on) (l.write on) a)
+three-later read write on ln cn before mid after l (inr (inl a)) = inr (inl (rose_later (write before ln) (write mid ln) (write after ln) (l.write ln) a))
+three-later read write on ln cn before mid after l (inr (inr a)) = inr (inr (rose_later (write before cn) (write mid cn) (write after cn) (l.write cn) a))
 
 -- a refusal is no fault of writing, and a fault of reading only where there was one
 pub refusal-writes : (o : Solved) (x : InputError) → o ≡ refusal_of x → status_of_solved o ≡ status.WriteFault → ⊥

@@ -1,6 +1,7 @@
 -- The parts of the work, together.
 use Rattle.std.proofs.Common.{◌≡◌, ◌≢◌, ◌∙◌, inl, inr, sym, ap, subst, ℕ, List, get_or, true, arith, Option, Some, None, IfSome}
 use Rattle.std.specs.FinMap as map
+use Rattle.std.proofs.lemmas.Option.{IfSome_then}
 use Rattle.q_logic.specs.declared.rule_bounds.Bounds.{Bounds}
 use Rattle.q_logic.specs.UsualBounds.{usual}
 use Rattle.q_logic.specs.Prelude.{PrenexFormula, standard}
@@ -14,7 +15,7 @@ use Rattle.q_command.specs.declared.audit.Keep.{Keep}
 use Rattle.q_command.specs.declared.checking.Checked.{Checked}
 use Rattle.q_command.specs.Checks.{FilesPass, LeadsBack, IsFileOf}
 use Rattle.q_command.proofs.CheckStatus.{one_formula}
-use Rattle.q_command.proofs.FilePieces.{if_some_1, if_some_2}
+use Rattle.q_command.proofs.FilePieces.{if_some_2}
 use Rattle.q_run_solve.specs.declared.solved.Solved.{Solved}
 use Rattle.q_run_solve.specs.declared.solved.Solved.TheVariants as solved
 use Rattle.q_command.specs.declared.input.InputError.{InputError}
@@ -65,12 +66,12 @@ reduced-to F m m2 k c e (G, s) p b d =
 pub solved-all : (n : SolveFiles) (r : Reduced) (due : Solved) (budget : Option ℕ) (h1 h2 h3 : Option Disk) → n.output ≢ n.cert → n.log ≢ n.cert → IsReducedTo r.checked.from r →
     IfSome h1 (λ disk. HoldsBoth n.output n.log (bytes_at r.memory out_name) (bytes_at r.memory log_name) disk h2) → IfSome h2 (λ disk. Concludes due n.cert budget r.checked.from r.checked.to disk h3) →
     IfSome h1 (λ disk. Dimacs standard (bytes_at disk n.input) r.checked.from → Solves due n budget disk h3)
-solved-all n r due budget h1 h2 h3 oc lc t b k = if_some_1 h1 b (λ disk w f. concluded n disk r.checked.from r.checked.to r.memory f t.made oc lc due budget h2 h3 w (at_some _ h2 k w.disk w.told))
+solved-all n r due budget h1 h2 h3 oc lc t b k = IfSome_then h1 b (λ disk w f. concluded n disk r.checked.from r.checked.to r.memory f t.made oc lc due budget h2 h3 w (at_some _ h2 k w.disk w.told))
 
 pub left-all : (n : SolveFiles) (r : Reduced) (due : Solved) (e : DeviceError) (budget : Option ℕ) (h1 h2 : Option Disk) → n.output ≢ n.cert → n.log ≢ n.cert → IsReducedTo r.checked.from r → due ≡ failed_write e →
     IfSome h1 (λ disk. MayHoldBoth n.output n.log (bytes_at r.memory out_name) (bytes_at r.memory log_name) disk h2) →
     IfSome h1 (λ disk. Dimacs standard (bytes_at disk n.input) r.checked.from → Solves due n budget disk h2)
-left-all n r due e budget h1 h2 oc lc t d b = if_some_1 h1 b (λ disk w f. subst (λ (x : Solved). Solves x n budget disk h2) (sym d) (go e disk (left-part n disk r.checked.from r.checked.to r.memory f t.made oc lc h2 w)))
+left-all n r due e budget h1 h2 oc lc t d b = IfSome_then h1 b (λ disk w f. subst (λ (x : Solved). Solves x n budget disk h2) (sym d) (go e disk (left-part n disk r.checked.from r.checked.to r.memory f t.made oc lc h2 w)))
   where
     go : (e : DeviceError) → (disk : Disk) → IsLeft n disk h2 → Solves (failed_write e) n budget disk h2
     go device.Failed disk w = w

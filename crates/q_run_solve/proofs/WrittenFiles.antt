@@ -2,13 +2,13 @@
 use Rattle.std.proofs.Common.{◌≡◌, ◌≢◌, ◌⊎◌, inl, inr, ◌∙◌, sym, ap, ℕ, List, [], length, take, unwrap_or, Option, Some, IfSome}
 use Rattle.std.proofs.Math.Seq.{take-length}
 use Rattle.std.specs.FinMap as map
+use Rattle.std.proofs.lemmas.Option.{IfSome_then}
 use Rattle.q_io.specs.Files.{Disk, HoldsBytes, MayHoldFront, bytes_at}
 use Rattle.q_io.proofs.StoreContents.{at_some}
-use Rattle.q_command.proofs.FilePieces.{if_some_1}
 use Rattle.q_run_solve.specs.Reduces.{HoldsBoth, MayHoldBoth}
 
 pub first-part : (on ln ot lt : List ℕ) (held after : Option Disk) → on ≢ ln → IfSome held (λ disk. MayHoldFront ln lt disk after) → IfSome held (λ disk. MayHoldBoth on ln ot lt disk after)
-first-part on ln ot lt held after n h = if_some_1 held h (λ before m. record {
+first-part on ln ot lt held after n h = IfSome_then held h (λ before m. record {
   disk = m.disk;
   told = m.told;
   log_is = m.bytes;
@@ -17,7 +17,7 @@ first-part on ln ot lt held after n h = if_some_1 held h (λ before m. record {
 })
 
 pub second-part : (on ln ot lt : List ℕ) (held mid after : Option Disk) → on ≢ ln → IfSome held (λ disk. HoldsBytes ln lt disk mid) → IfSome mid (λ disk. MayHoldFront on ot disk after) → IfSome held (λ disk. MayHoldBoth on ln ot lt disk after)
-second-part on ln ot lt held mid after n h k = if_some_1 held h (λ before m. go before m (at_some _ mid k m.disk m.told))
+second-part on ln ot lt held mid after n h k = IfSome_then held h (λ before m. go before m (at_some _ mid k m.disk m.told))
   where
     go : (before : Disk) → (m : HoldsBytes ln lt before mid) → MayHoldFront on ot m.disk after → MayHoldBoth on ln ot lt before after
     go before m t = record {
@@ -36,7 +36,7 @@ second-part on ln ot lt held mid after n h k = if_some_1 held h (λ before m. go
         out (inr p) = inr (t.others ln (λ e. n (sym e)) ∙ m.bytes, p)
 
 pub both-whole : (on ln ot lt : List ℕ) (held mid after : Option Disk) → on ≢ ln → IfSome held (λ disk. HoldsBytes ln lt disk mid) → IfSome mid (λ disk. HoldsBytes on ot disk after) → IfSome held (λ disk. HoldsBoth on ln ot lt disk after)
-both-whole on ln ot lt held mid after n h k = if_some_1 held h (λ before m. go before m (at_some _ mid k m.disk m.told))
+both-whole on ln ot lt held mid after n h k = IfSome_then held h (λ before m. go before m (at_some _ mid k m.disk m.told))
   where
     go : (before : Disk) → (m : HoldsBytes ln lt before mid) → HoldsBytes on ot m.disk after → HoldsBoth on ln ot lt before after
     go before m t = record {

@@ -1,5 +1,5 @@
 -- A text that goes into its file in pieces.
-use Rattle.std.proofs.Common.{◌≡◌, ◌≤◌, ◌<◌, ◌+◌, inl, inr, ℕ, zero, suc, List, [], ◌∷◌, ◌++◌, length, take, drop, slice_get, refl, sym, ap, ◌∙◌, subst, arith, append_assoc, append-nil, Option, Some, None, unwrap_or, IfSome, Result, Ok, Err, OnOk}
+use Rattle.std.proofs.Common.{◌≡◌, ◌≤◌, ◌<◌, ◌+◌, inl, inr, ℕ, zero, suc, List, [], ◌∷◌, ◌++◌, length, take, drop, slice_get, refl, sym, ap, ◌∙◌, subst, arith, append_assoc, append-nil, Option, Some, None, unwrap_or, IfSome}
 use Rattle.q_logic.specs.Prelude.{Clause, Matrix, PrenexFormula, blocks}
 use Rattle.q_io.specs.Files.{Disk, bytes_at, Appends, AppendsPart, Empties, HoldsBytes, MayHoldFront}
 use Rattle.q_io.proofs.StoreContents.{at_some, others-through}
@@ -127,10 +127,6 @@ come-failed name front old mid X at C before held after e t f h =
 pub come-all : (name front pending : List ℕ) (X : Matrix) (at : ℕ) (before : Disk) (after : Option Disk) → length X ≤ at → HaveCome name front pending X at before after → HoldsSome name (front ++ matrix_text X) pending before after
 come-all name front pending X at before after l h =
     subst (λ (t : List ℕ). HoldsSome name t pending before after) (sym (append-nil h.text) ∙ (ap (λ (xs : List ℕ). h.text ++ xs) (sym (matrix-done X at l)) ∙ h.left)) h.some
-
-pub on_both : {T E P Q R : Type 0} (r : Result T E) → (P → Q → R) → OnOk r P → OnOk r Q → OnOk r R
-on_both (Ok x) f p q = f p q
-on_both (Err e) f p q = tt
 
 -- the whole output, from an empty file on
 pub output-stopped : (F : PrenexFormula) (name text : List ℕ) (held mid after : Option Disk) → text ≡ front_text F → IfSome held (λ disk. Empties name disk mid) → ((front : List ℕ) → (before : Disk) → HoldsSome name front text before mid → MayHoldFront name (front ++ matrix_text F.matrix) before after) → IfSome held (λ disk. MayHoldFront name (formula_text F) disk after)

@@ -1,15 +1,15 @@
 -- When the steps of both targets are valid, and what they leave.
-use Rattle.std.proofs.Common.{◌≡◌, ◌≢◌, ◌≤◌, ◌+◌, ◌*◌, ◌⊎◌, ℕ, suc, Bool, true, false, ◌∷◌, inl, inr, arith, refl, sym, subst, Some, length}
-use Rattle.q_logic.specs.Prelude.{Literal, negation, literal_eq, Clause, Matrix, IsIn, without, Implied, standard, IsInLimits, size_of, add, delete, one_less, literals_in, KeepsLimits, first_of, IsSubset, Slots, slot, set_slot, live, others, formula_of, shortened, AreAlike}
+use Rattle.std.proofs.Common.{◌≡◌, ◌≢◌, ◌≤◌, ◌+◌, ◌*◌, ◌⊎◌, ℕ, Bool, true, false, ◌∷◌, inl, inr, arith, refl, sym, subst, Some, length}
+use Rattle.q_logic.specs.Prelude.{Literal, negation, literal_eq, Clause, Matrix, IsIn, without, Implied, standard, IsInLimits, size_of, add, delete, one_less, first_of, IsSubset, Slots, slot, set_slot, live, others, formula_of, shortened, AreAlike}
 use Rattle.q_logic.specs.Targets as theory
 use Rattle.q_logic.proofs.Common.{literal_eq-sound, others-slot, live-slot, without-shorter, IsIn-without, without-IsIn, implied-subsumed, implied-hidden_new, SameClauses, IsIn-alike, alike-sym}
 use Rattle.q_logic.proofs.HintedRuns.{live-changed}
 use Rattle.q_log.specs.Texts.{step_text}
 use Rattle.q_log.proofs.WritableRuns.{first-of}
 use Rattle.q_kernel.specs.Prelude.{Seen, slots, formula_in, IsSound, MayDelete, MayShrink, IsDeleted, IsShrunk}
-use Rattle.q_kernel.proofs.SlotLists.{alike-others, literals-others, size-replaced, size-gone}
+use Rattle.q_kernel.proofs.SlotLists.{alike-others, size-replaced, size-gone}
 use Rattle.q_rule.specs.Becoming.{CanChange, IsChanged}
-use Rattle.q_rule.proofs.RuleSteps.{clause-in, clause-within, implied-cost, shrink-cost, enough}
+use Rattle.q_rule.proofs.RuleSteps.{clause-in, clause-within, implied-cost, shrink-cost, enough, one-more}
 use Rattle.q_rule.proofs.RemovalLoops.{limits-shorter}
 use Rattle.q_rule.proofs.TargetChanges.{changed-tautology}
 use Rattle.q_subsume.specs.Looks.{IsTurnedWithin}
@@ -45,24 +45,12 @@ module _ (k : Seen) (c d : ℕ) (C D : Clause) (s : IsSound k) (apart : c ≢ d)
     };
   }
 
-  one-more : (l : Literal) → IsInLimits standard (formula_in k) → KeepsLimits standard (without l D ∷ live (slots k))
-  one-more l h = record {
-    clauses = few (length (live (slots k))) h.clauses;
-    lits = some (length (without l D)) (length D) (literals_in (live (slots k))) (literals_in (others d (slots k))) (without-shorter l D) h.lits (literals-others (slots k) d D there);
-  }
-    where
-      few : (n : ℕ) → n ≤ 33554432 → suc n ≤ 4 * 33554432
-      few n h = omega arith
-
-      some : (a c n m : ℕ) → a ≤ c → n ≤ 134217728 → n ≡ m + c → a + n ≤ 4 * 134217728
-      some a c n m i h e = omega arith
-
   pub may-shrink_turned : (l : Literal) → IsIn (negation l) C → IsTurnedWithin C D l → IsInLimits standard (formula_in k) → 32 * (length D + 1) ≤ k.spare_bytes → MayShrink k d l
   may-shrink_turned l n w h b = record {
     clause = D;
     there = there;
     held = w.held;
-    valid = ((λ j i. clause-within k d D s there j (without-IsIn l D j i)), inl (turned-implied (live (slots k)) C D l (live-slot (slots k) c C here) (clause-in k d D s there) n w), one-more l h);
+    valid = ((λ j i. clause-within k d D s there j (without-IsIn l D j i)), inl (turned-implied (live (slots k)) C D l (live-slot (slots k) c C here) (clause-in k d D s there) n w), one-more k d D s there l h);
     bytes = enough (length (step_text (add (first_of (without l D)) (without l D))) + length (step_text (delete (first_of D) D))) (32 * (length D + 1)) k.spare_bytes (shrink-cost k d D s there l) b;
   }
 

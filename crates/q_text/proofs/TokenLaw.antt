@@ -1,5 +1,5 @@
 -- What comes from the start on are the tokens of the whole text.
-use Rattle.std.proofs.Common.{◌≡◌, ℕ, ◌+◌, ◌-◌, ◌*◌, Bool, true, false, cond, List, [], ◌∷◌, ◌++◌, map, None, refl, ap, sym, ◌∙◌, subst, ◌==◌, ◌||◌, if◌then◌else◌, append_assoc, append-nil, eqb-true}
+use Rattle.std.proofs.Common.{◌≡◌, ℕ, ◌+◌, ◌-◌, ◌*◌, Bool, true, false, cond, List, [], ◌∷◌, ◌++◌, map, Option, Some, None, refl, ap, sym, ◌∙◌, subst, ◌==◌, ◌||◌, if◌then◌else◌, append_assoc, append-nil, eqb-true}
 use Rattle.q_text.specs.declared.shape.Shape.{Shape}
 use Rattle.q_text.specs.declared.shape.Shape.TheVariants.{Start, Comment, Between, Minus, Digits, C, Cn, Q, Qr, Qra, Word}
 use Rattle.q_text.specs.declared.tokens.Token.{Token}
@@ -37,6 +37,15 @@ at n s = record { line = n; shape = s }
 ended : (n : ℕ) (w : List ℕ) → listed (token_in (kind_in (shape_of w)) n) ≡ map (token_at n) (word_before w [])
 ended n [] = refl
 ended n (b ∷ bs) = ap (λ k. listed (token_in k n)) (shape_of-kind b bs)
+
+-- what is listed in front of tokens, where none come
+pub none-listed : (o : Option Token) (ts : List Token) → listed o ++ ts ≡ [] → o ≡ None
+none-listed None ts e = refl
+none-listed (Some t) ts e = cc
+
+pub rest-listed : (o : Option Token) (ts : List Token) → listed o ++ ts ≡ [] → ts ≡ []
+rest-listed None ts e = e
+rest-listed (Some t) ts e = cc
 
 ended-before : (n : ℕ) (w : List ℕ) (ws : List (List ℕ)) → map (token_at n) (word_before w ws) ≡ map (token_at n) (word_before w []) ++ map (token_at n) ws
 ended-before n [] ws = refl

@@ -3,15 +3,9 @@ use Rattle.std.proofs.Common.{◌≡◌, ℕ, Bool, true, false, cond, not, eqb,
 use Rattle.q_logic.specs.Prelude.{Literal, Clause, Prefix, PrenexFormula, IsIn, is_exists, is_bound, is_existential, is_universal, IsFormula, Assignment, signed, LiteralTrue, ClauseTrue, Circuit, value_of, Strategy, circuit_of, or_input, given, outcome, Lawful, CertificateView, trees_of}
 use Rattle.q_logic.specs.Branches.{true_literals, claim_of, search_of, counter, counter_at}
 use Rattle.q_logic.proofs.Common.{value_of-agree, is_bound-universal}
+use Rattle.q_logic.proofs.FirstMoves.{signed-value}
 use Rattle.q_carry.proofs.NamedCertificates.{before-universal}
 use Rattle.q_validate.specs.Answers.{Falsify}
-
--- what a true literal says of its variable
-same-value : (a b : Bool) → signed (not b) a ≡ true → a ≡ b
-same-value true true h = refl
-same-value true false h = absurd (cc)
-same-value false true h = absurd (cc)
-same-value false false h = refl
 
 -- Where the literals are true, each universal has the value that they tell.
 told : (P : Prefix) (A B : Assignment) → ((k : Literal) → IsIn k (true_literals P B) → LiteralTrue A k) →
@@ -28,7 +22,7 @@ told (b ∷ P) A B h u e = go (is_exists b.quant) (eqb b.var u) refl h e (told P
     go true false q h e f = f h u e
     go false true q h e f =
         let s : b.var ≡ u = grind arith in
-        subst (λ (v : ℕ). A v ≡ B v) s (same-value (A b.var) (B b.var) (h (record { var = b.var; negative = not (B b.var) }) (inl refl)))
+        subst (λ (v : ℕ). A v ≡ B v) s (signed-value (B b.var) (A b.var) (h (record { var = b.var; negative = not (B b.var) }) (inl refl)))
     go false false q h e f = f (λ k i. h k (inr i)) u e
 
 -- The outcome hangs on the universals alone.

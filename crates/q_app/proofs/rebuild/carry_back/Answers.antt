@@ -1,6 +1,7 @@
 use Rattle.std.proofs.Common.{◌∙◌, ap, sym, subst, Err}
+use Rattle.std.proofs.lemmas.Option.{IfSome_then}
 use Rattle.q_io.specs.Files.{bytes_at}
-use Rattle.q_command.proofs.FilePieces.{if_some_1, err-is}
+use Rattle.q_command.proofs.FilePieces.{err-is}
 use Rattle.q_app.specs.Rebuilds.{CircuitsFail}
 use Rattle.q_app.specs.declared.rebuilt.Rebuilt.{Rebuilt}
 use Rattle.q_app.proofs.RebuildFiles.{no_text-fails, no_circuits-fault}
@@ -8,7 +9,7 @@ use Rattle.q_app.proofs.rebuild.carry_back.Goals as goal
 
 pub returns-in-Err-clause-refused : goal.returns-in-Err-clause-refused
 returns-in-Err-clause-refused g c =
-    if_some_1 (g.F.Files.held c.args.files.now) c.in-Err.ensures.refused
+    IfSome_then (g.F.Files.held c.args.files.now) c.in-Err.ensures.refused
     (λ disk h. subst (λ (r : Rebuilt). CircuitsFail r c.args.checked.now.to (bytes_at disk c.args.skolem.now)) (sym c.unread.ensures.is) (no_text-fails c.in-Err.error c.args.checked.now.to (bytes_at disk c.args.skolem.now) h))
 
 pub returns-in-Err-clause-fault : goal.returns-in-Err-clause-fault

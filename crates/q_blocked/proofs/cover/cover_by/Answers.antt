@@ -1,10 +1,10 @@
 use Rattle.std.proofs.Common.{◌≡◌, ◌∙◌, ◌∷◌, ◌++◌, [], ℕ, List, Some, length, take, sym, ap, subst}
 use Rattle.q_logic.specs.Prelude.{Literal, negation, Clause, IsIn, IsTautology, others}
-use Rattle.q_logic.proofs.Common.{IsIn-append_right, test-false}
+use Rattle.q_logic.proofs.Common.{IsIn-append_right, test-false, IsIn-take}
 use Rattle.q_kernel.specs.Prelude.{slots}
 use Rattle.q_blocked.specs.declared.plan.Stage.{Stage}
 use Rattle.q_blocked.specs.Growths.{IsGrowing, IsAsked, HasPlaces, IsCovered}
-use Rattle.q_blocked.proofs.ClauseFronts.{take-in, place-front}
+use Rattle.q_blocked.proofs.ClauseFronts.{place-front}
 use Rattle.q_blocked.proofs.CoveredLiterals.{covered-growth}
 use Rattle.q_blocked.proofs.ReachedSets.{covered-opposed}
 use Rattle.q_blocked.proofs.SetGrowth.{growing-covered, others-within}
@@ -29,7 +29,7 @@ returns-then-opposes c =
       r.0,
       r.1,
       subst (λ (T : Clause). IsCovered k.prefix X r.0 T g.plan.stages.items g.base (Some l)) (sym e)
-          (covered-opposed k.prefix X r.0 S g.plan.stages.items g.base r.2.reached K (covered-growth k.prefix X l S q.some.0 K q.existential (take-in S g.base l m) q.some.1 q.looked) m (others-within k c.args.c c.sound.ensures) t),
+          (covered-opposed k.prefix X r.0 S g.plan.stages.items g.base r.2.reached K (covered-growth k.prefix X l S q.some.0 K q.existential (IsIn-take S g.base l m) q.some.1 q.looked) m (others-within k c.args.c c.sound.ensures) t),
     )
 
 pub returns : goal.returns
@@ -60,7 +60,7 @@ returns c =
           (subst (λ (ss : List Stage). IsGrowing k.prefix X r.0 (S ++ K) ss new.base new.worked) (sym stages)
           (subst (λ (n : ℕ). IsGrowing k.prefix X r.0 (S ++ K) (g.plan.stages.items ++ stage ∷ []) n new.worked) (sym (c.in_ok-note.ensures.base ∙ f))
           (subst (λ (n : ℕ). IsGrowing k.prefix X r.0 (S ++ K) (g.plan.stages.items ++ stage ∷ []) z n) (sym c.in_ok-note.ensures.worked)
-          (growing-covered k.prefix X r.0 S g.plan.stages.items g.base g.worked r.2 K (covered-growth k.prefix X l S q.some.0 K q.existential (take-in S g.base l m) q.some.1 q.looked) m (others-within k c.args.c c.sound.ensures) n)))),
+          (growing-covered k.prefix X r.0 S g.plan.stages.items g.base g.worked r.2 K (covered-growth k.prefix X l S q.some.0 K q.existential (IsIn-take S g.base l m) q.some.1 q.looked) m (others-within k c.args.c c.sound.ensures) n)))),
       subst (λ (T : Clause). IsAsked X T new.asked.items) (sym (c.in_ok-note.ensures.set ∙ e))
           (subst (λ (xs : List ℕ). IsAsked X (S ++ K) xs) (sym asked) (asked-covered X S K g.asked.items c.add_places.new.places.items places r.3)),
     )

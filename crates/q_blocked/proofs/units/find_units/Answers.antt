@@ -1,9 +1,8 @@
 use Rattle.std.proofs.Common.{◌≡◌, ◌∙◌, ℕ, List, [], ◌∷◌, Contains, Some, inl, inr, refl, sym, ap, subst, arith}
 use Rattle.std.proofs.lemmas.List.Elements.{Contains-push_cases}
 use Rattle.q_logic.specs.Prelude.{Literal, IsBelow, Clause, IsIn, slot, live, ArePairs}
-use Rattle.q_logic.proofs.Common.{AllByRecursion-IsIn, not_itself_below}
+use Rattle.q_logic.proofs.Common.{AllByRecursion-IsIn, not_itself_below, live-slot}
 use Rattle.q_kernel.specs.Prelude.{slots}
-use Rattle.q_kernel.proofs.SlotLists.{slot-IsIn}
 use Rattle.q_kernel.proofs.ForLoops.{live-turn, all-came}
 use Rattle.q_blocked.specs.Units.{IsSingle}
 use Rattle.q_blocked.proofs.units.find_units.Goals as goal
@@ -34,5 +33,5 @@ returns c d D e s =
 pub returns-then-units-eq0 : goal.returns-then-units-eq0
 returns-then-units-eq0 c d D e s =
     let k = c.args.kernel.now in
-    let one = single-one D s (AllByRecursion-IsIn (ArePairs IsBelow) (live (slots k)) D c.sound.ensures.proper.ordered (slot-IsIn (slots k) d D e)) in
+    let one = single-one D s (AllByRecursion-IsIn (ArePairs IsBelow) (live (slots k)) D c.sound.ensures.proper.ordered (live-slot (slots k) d D e)) in
     absurd (c.units.ensures.none (omega (arith, c.if-units-eq0.true)) d s.0 (e ∙ ap (λ (C : Clause). Some C) one))

@@ -1,8 +1,9 @@
+use Rattle.q_logic.proofs.Common.{ok_then}
 use Rattle.q_io.specs.Files.{bytes_at}
 use Rattle.q_command.specs.Checks.{LeadsBack}
 use Rattle.q_command.specs.Taken.{AreRun}
 use Rattle.q_command.specs.declared.checking.Checked.{Checked}
-use Rattle.q_command.proofs.FilePieces.{at_same, ok_then}
+use Rattle.q_command.proofs.FilePieces.{at_same}
 use Rattle.q_command.proofs.LogEnd.{ends-as, files_pass, files_say, held-first}
 use Rattle.q_command.proofs.checking.check_files.Goals as goal
 

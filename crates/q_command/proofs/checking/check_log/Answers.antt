@@ -1,7 +1,8 @@
 use Rattle.std.proofs.Common.{[], arith}
+use Rattle.q_logic.proofs.Common.{ok_then}
 use Rattle.q_io.specs.Files.{bytes_at}
 use Rattle.q_io.proofs.FaultCounts.{reads_at_once, reads_still, rose_later}
-use Rattle.q_command.proofs.FilePieces.{if_some, if_some_2, at_same, err_of, err_then, ok_then}
+use Rattle.q_command.proofs.FilePieces.{if_some, if_some_2, at_same, err_of, err_then}
 use Rattle.q_command.proofs.AuditSteps.{advances_begin, advances_through, tries_begin, tries_more, tries_end, refuses_whole}
 use Rattle.q_command.proofs.LogEnd.{kept_run, leads_back, log_origin, log_is_taken, log_says, log_refuses}
 use Rattle.q_command.proofs.checking.check_log.Goals as goal

@@ -1,8 +1,9 @@
 use Rattle.std.proofs.Common.{arith, inl}
+use Rattle.std.proofs.lemmas.Option.{IfSome_then}
 use Rattle.q_io.specs.Files.{bytes_at}
 use Rattle.q_io.proofs.FaultCounts.{reads_still}
 use Rattle.q_command.specs.Texts.{IsTextOf}
-use Rattle.q_command.proofs.FilePieces.{if_some_1, if_some_2, at_same, ok_goes}
+use Rattle.q_command.proofs.FilePieces.{if_some_2, at_same, ok_goes}
 use Rattle.q_command.proofs.WholeFiles.{front-more, front-end, front-long}
 use Rattle.q_command.proofs.whole_file.read_through.Goals as goal
 
@@ -23,4 +24,4 @@ returns-in-Ok-eq0-clause-bytes g c =
 pub returns-clause-bytes : goal.returns-clause-bytes
 returns-clause-bytes g c =
     ok_goes (λ t disk. IsTextOf (bytes_at disk c.args.name.now) t.items) c.long_front.result (g.F.Files.held c.args.files.now) c.long_front.ensures.front
-    (λ t p. if_some_1 (g.F.Files.held c.args.files.now) c.loop-at.invariant.front (λ disk f. front-long _ _ _ _ c.loop-at-test.false f p.0 p.1))
+    (λ t p. IfSome_then (g.F.Files.held c.args.files.now) c.loop-at.invariant.front (λ disk f. front-long _ _ _ _ c.loop-at-test.false f p.0 p.1))

@@ -1,8 +1,8 @@
 use Rattle.std.proofs.Common.{◌++◌, ◌∙◌, ◌+◌, ap, sym, append_assoc, drop, ◌≤◌, length, arith}
 use Rattle.q_logic.proofs.Common.{on_err}
 use Rattle.q_dimacs.specs.Writing.{clause_text, matrix_text}
-use Rattle.q_dimacs.proofs.UnwrittenLists.{extends-append, matrix-next, next-fits}
-use Rattle.q_text.proofs.LongerTexts.{extends-more}
+use Rattle.q_dimacs.proofs.UnwrittenLists.{matrix-next, next-fits}
+use Rattle.q_text.proofs.LongerTexts.{extends-more, extends-append}
 use Rattle.q_dimacs.proofs.writer.put_matrix.Goals as goal
 
 pub returns-in_err-put_clause-clause-err : goal.returns-in_err-put_clause-clause-err

@@ -1,10 +1,10 @@
 use Rattle.std.proofs.Common.{◌++◌, ◌+◌, ◌∙◌, ap, sym, append_assoc, drop}
-use Rattle.q_text.proofs.LongerTexts.{extends-more}
+use Rattle.q_text.proofs.LongerTexts.{extends-more, extends-append}
 use Rattle.q_logic.specs.ProofParts.{group_at}
 use Rattle.q_logic.proofs.Common.{on_err}
 use Rattle.q_hinted.specs.Parts.{groups_numbers}
 use Rattle.q_hinted.specs.Texts.{plain_text}
-use Rattle.q_hinted.proofs.NumberTexts.{extends-append, group_numbers, groups-next}
+use Rattle.q_hinted.proofs.NumberTexts.{group_numbers, groups-next}
 use Rattle.q_hinted.proofs.text.put_groups.Goals as goal
 
 pub returns-in_err-put_group-clause-err : goal.returns-in_err-put_group-clause-err

@@ -1,11 +1,10 @@
 use Rattle.std.proofs.Common.{◌≡◌, ◌≢◌, ◌+◌, ◌∷◌, [], ℕ, Some, sym, ◌∙◌, ap, refl, subst, length}
 use Rattle.std.proofs.lemmas.Option.{same_Some}
 use Rattle.q_logic.specs.Prelude.{Literal, negation, Clause, IsIn, without, Slots, slot, add, delete, first_of}
-use Rattle.q_logic.proofs.Common.{live-slot}
+use Rattle.q_logic.proofs.Common.{live-slot, slot-set_other}
 use Rattle.q_log.specs.Texts.{step_text}
 use Rattle.q_kernel.specs.Prelude.{slots, HoldsLiteral, MayShrink, IsShrunk}
 use Rattle.q_kernel.proofs.KernelRuns.{led-itself}
-use Rattle.q_kernel.proofs.SlotLists.{slot-set_other}
 use Rattle.q_rule.proofs.RuleSteps.{may-shrink_unit, shrink-cost}
 use Rattle.q_rule.proofs.RemovalLoops.{clearing-bytes, clearing-more, clearing-done, with-falls, not_own}
 use Rattle.q_reduce.proofs.unit.shrink_all.Goals as goal

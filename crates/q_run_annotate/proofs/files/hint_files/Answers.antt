@@ -1,11 +1,12 @@
-use Rattle.q_command.proofs.FilePieces.{if_some_1, if_some_2, at_same, err_goes, ok_goes}
+use Rattle.std.proofs.lemmas.Option.{IfSome_then}
+use Rattle.q_command.proofs.FilePieces.{if_some_2, at_same, err_goes, ok_goes}
 use Rattle.q_run_annotate.proofs.AnnotateOutcome.{between_ends, early_checks, log_checks}
 use Rattle.q_run_annotate.specs.Annotates.{files_of}
 use Rattle.q_run_annotate.proofs.files.hint_files.Goals as goal
 
 pub returns-in-Err-clause-refused : goal.returns-in-Err-clause-refused
 returns-in-Err-clause-refused g c =
-    if_some_1 (g.F.Files.held c.args.files.now) c.in-Err.ensures.checks (λ disk h. early_checks c.in-Err.outcome _ _ _ c.in-Err.ensures.early h)
+    IfSome_then (g.F.Files.held c.args.files.now) c.in-Err.ensures.checks (λ disk h. early_checks c.in-Err.outcome _ _ _ c.in-Err.ensures.early h)
 
 pub returns-clause-annotated : goal.returns-clause-annotated
 returns-clause-annotated g c =

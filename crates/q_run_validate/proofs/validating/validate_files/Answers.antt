@@ -1,6 +1,7 @@
 use Rattle.std.proofs.Common.{◌≡◌, ◌∙◌, inl, inr, ap, subst, Err}
+use Rattle.std.proofs.lemmas.Option.{IfSome_then}
 use Rattle.q_io.proofs.FaultCounts.{rose_later}
-use Rattle.q_command.proofs.FilePieces.{if_some_1, if_some_2, at_same}
+use Rattle.q_command.proofs.FilePieces.{if_some_2, at_same}
 use Rattle.q_command.specs.declared.status.Status.TheVariants as status
 use Rattle.q_run_validate.specs.ValidatedLines.{status_of_validated}
 use Rattle.q_run_validate.specs.Validates.{files_of}
@@ -12,7 +13,7 @@ pub returns-in-Err-clause-validates : goal.returns-in-Err-clause-validates
 returns-in-Err-clause-validates g c =
     says-files c.refused_input.result (files_of c.args.names) c.args.budget (g.F.Files.held c.args.files.now) (g.F.Files.held c.read_input.new.files)
     c.in-Err.ensures.only_reads.same
-    (if_some_1 (g.F.Files.held c.args.files.now) c.in-Err.ensures.refused
+    (IfSome_then (g.F.Files.held c.args.files.now) c.in-Err.ensures.refused
     (λ disk r. input-says c.in-Err.error c.refused_input.result (files_of c.args.names) c.args.budget disk c.refused_input.ensures r))
 
 pub returns-in-Err-clause-read_fault : goal.returns-in-Err-clause-read_fault

@@ -1,9 +1,9 @@
 use Rattle.std.proofs.Common.{◌∙◌, ap, List, ℕ, ◌++◌}
 use Rattle.q_io.proofs.StoreContents.{untouched, not_created}
 use Rattle.q_dimacs.specs.Writing.{formula_text, front_text}
-use Rattle.q_simplify.proofs.Putting.{output-stopped, output-last, output-whole, on_both}
+use Rattle.q_simplify.proofs.Putting.{output-stopped, output-last, output-whole}
 use Rattle.std.proofs.lemmas.Result.{on_err_weaker}
-use Rattle.q_logic.proofs.Common.{on_err}
+use Rattle.q_logic.proofs.Common.{on_err, on_both}
 use Rattle.q_simplify.proofs.output.write_output.Goals as goal
 
 pub returns-in_err-put_front-clause-part : goal.returns-in_err-put_front-clause-part
@@ -20,7 +20,7 @@ returns-in_err-put_clauses-clause-part g c =
 pub returns-clause-whole : goal.returns-clause-whole
 returns-clause-whole g c =
     let text = c.in_ok-put_front.ensures.ok ∙ ap (λ (xs : List ℕ). xs ++ front_text c.args.formula.now) c.new-text.ensures.items in
-    on_both c.put_piece.result (λ goes_on short. output-whole c.args.formula.now c.args.name.now c.put_front.new.text.items c.put_clauses.new.text.items c.put_piece.new.text.items _ _ _ _ text c.in_ok-create.ensures.empty c.in_ok-put_clauses.ensures.goes_on goes_on short) c.put_piece.ensures.goes_on c.put_piece.ensures.short
+    on_both c.put_piece.result c.put_piece.ensures.goes_on c.put_piece.ensures.short (λ goes_on short. output-whole c.args.formula.now c.args.name.now c.put_front.new.text.items c.put_clauses.new.text.items c.put_piece.new.text.items _ _ _ _ text c.in_ok-create.ensures.empty c.in_ok-put_clauses.ensures.goes_on goes_on short)
 
 pub returns-clause-part : goal.returns-clause-part
 returns-clause-part g c =

@@ -1,5 +1,6 @@
 use Rattle.std.proofs.Common.{◌∙◌, sym}
-use Rattle.q_check.proofs.SlotNumbers.{has-place, reducible, if_ok-same}
+use Rattle.q_logic.proofs.Common.{ok-iff}
+use Rattle.q_check.proofs.SlotNumbers.{has-place, reducible}
 use Rattle.q_check.proofs.numbered.NumberedBook.is_reducible.Goals as goal
 
 pub returns-in_default-clause-exact : goal.returns-in_default-clause-exact
@@ -10,5 +11,5 @@ returns-in_default-clause-exact c =
 
 pub returns-clause-exact : goal.returns-clause-exact
 returns-clause-exact c =
-    rw (← c.self.view_is) (if_ok-same c.is_reducible.result
+    rw (← c.self.view_is) (ok-iff c.is_reducible.result
     (reducible c.self.inside.ledger.slots c.self.inside.numbers c.self.invariant c.self.inside.ledger.prefix c.args.clause.now c.args.lit c.args.number c.in-Some.at (sym c.in-Some.ensures)) c.is_reducible.ensures.exact)

@@ -1,10 +1,10 @@
 use Rattle.std.proofs.Common.{take}
+use Rattle.std.proofs.lemmas.Option.{IfSome_then}
 use Rattle.q_io.specs.Files.{bytes_at}
-use Rattle.q_command.proofs.FilePieces.{if_some_1}
 use Rattle.q_command.proofs.AuditSteps.{refuses_file}
 use Rattle.q_command.proofs.audit.Audit.read_piece.Goals as goal
 
 pub returns-in-Err-clause-refused : goal.returns-in-Err-clause-refused
 returns-in-Err-clause-refused g c =
-    if_some_1 (g.F.Files.held c.args.files.now) c.in-Ok.ensures.bytes
+    IfSome_then (g.F.Files.held c.args.files.now) c.in-Ok.ensures.bytes
     (λ disk r. refuses_file c.args.self.now (bytes_at disk c.args.name.now) c.args.at c.in-Ok.count (take c.in-Ok.count c.read.new.buf) c.in-Err.outcome r.copied c.in-Err.ensures.refused)

@@ -1,6 +1,7 @@
 use Rattle.std.proofs.Common.{◌∙◌, sym}
+use Rattle.q_logic.proofs.Common.{ok_then}
 use Rattle.q_hinted.specs.Logs.{hinted_in}
-use Rattle.q_command.proofs.FilePieces.{err_then, ok_then}
+use Rattle.q_command.proofs.FilePieces.{err_then}
 use Rattle.q_command.proofs.BothCheckers.{hinted-passed, hinted-stopped, none-hinted, plain-passed, plain-stopped}
 use Rattle.q_command.proofs.judges.Judges.finish.Goals as goal
 

@@ -1,8 +1,9 @@
 use Rattle.std.proofs.Common.{subst, Option, ◌∷◌, ◌++◌, [], sym}
 use Rattle.q_logic.specs.Prelude.{ProofPart}
+use Rattle.q_logic.proofs.Common.{on_both}
 use Rattle.q_hinted.specs.Logs.{hinted_in}
 use Rattle.q_command.specs.Judging.{AreBehind, IsRefusedBehind, plain_in}
-use Rattle.q_command.proofs.FilePieces.{err_then, on_both}
+use Rattle.q_command.proofs.FilePieces.{err_then}
 use Rattle.q_command.proofs.BothCheckers.{behind-plain, behind-hinted}
 use Rattle.q_command.proofs.judges.Judges.step.Goals as goal
 

@@ -1,7 +1,7 @@
 use Rattle.std.proofs.Common.{ℕ, List, Contains, sym, subst, inl, inr}
+use Rattle.q_logic.proofs.Common.{live-slot}
 use Rattle.q_kernel.specs.Lists.{Has}
 use Rattle.q_kernel.specs.Prelude.{slots, HoldsLiteral}
-use Rattle.q_kernel.proofs.SlotLists.{slot-IsIn}
 use Rattle.q_kernel.proofs.DistinctMembers.{Contains-none, Contains-last}
 use Rattle.q_kernel.proofs.ForLoops.{holder-turn, all-came}
 use Rattle.q_expand.specs.Dependents.{IsMet}
@@ -25,7 +25,7 @@ meet-requires-clause-live c =
 pub returns-then-not-branch-clause-refused : goal.returns-then-not-branch-clause-refused
 returns-then-not-branch-clause-refused c t x =
     let b = c.in_ok-meet.ensures.both c.if-not-branch.true in
-    x.no_tautology b.0 (slot-IsIn (slots c.args.kernel.now) c.in-Some.c b.0 b.1) b.2 b.3
+    x.no_tautology b.0 (live-slot (slots c.args.kernel.now) c.in-Some.c b.0 b.1) b.2 b.3
 
 pub returns-then-not-fits-clause-refused : goal.returns-then-not-fits-clause-refused
 returns-then-not-fits-clause-refused c t =

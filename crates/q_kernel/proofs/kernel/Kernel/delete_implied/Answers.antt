@@ -1,13 +1,13 @@
 use Rattle.q_logic.specs.Prelude.{first_of}
 use Rattle.q_log.proofs.WritableRuns.{first-of}
-use Rattle.q_kernel.proofs.KernelSizes.{slot-live, live-slot}
+use Rattle.q_kernel.proofs.KernelSizes.{slot-live, clause_at-slot}
 use Rattle.q_kernel.proofs.KernelSteps.{may-delete-there, deleted-as}
 use Rattle.q_kernel.proofs.kernel.Kernel.delete_implied.Goals as goal
 
 pub lits-requires : goal.lits-requires
 lits-requires c =
     let m = rw (← c.self.view_is) at c.requires in
-    (m.clause, live-slot c.self.inside.arena c.args.id m.clause m.there)
+    (m.clause, clause_at-slot c.self.inside.arena c.args.id m.clause m.there)
 
 pub delete-requires : goal.delete-requires
 delete-requires c =

@@ -1,6 +1,7 @@
 use Rattle.std.proofs.Common.{◌≡◌, ◌≤◌, ◌+◌, ◌-◌, ℕ, set, Some, ap, arith, refl, sym, ◌∙◌}
 use Rattle.std.proofs.lemmas.Option.{same_Some}
 use Rattle.q_logic.specs.Prelude.{slot, live, set_slot, Literal, IsBelow, Clause, IsIn, ArePairs, without, Within}
+use Rattle.q_logic.proofs.Common.{live-slot}
 use Rattle.q_arena.specs.Prelude.{Chains, Clauses, clause_at}
 use Rattle.q_prefix.specs.Order.{FlatPrefix}
 use Rattle.q_kernel.specs.Uses.{Groups}
@@ -8,8 +9,7 @@ use Rattle.q_kernel.specs.Invariant.{empty_ones, IsKernel}
 use Rattle.q_kernel.specs.Singles.{unit_ones}
 use Rattle.q_kernel.proofs.KernelInvariant.{kernel-shorter, changed-slots, clause-proper, counted-bounds, counted-shorter, length-shorter, unit-shorter}
 use Rattle.q_kernel.proofs.ListUpdates.{clause-set, clause-within}
-use Rattle.q_kernel.proofs.KernelSizes.{live-slot, counts-small}
-use Rattle.q_kernel.proofs.SlotLists.{slot-IsIn}
+use Rattle.q_kernel.proofs.KernelSizes.{clause_at-slot, counts-small}
 use Rattle.q_kernel.proofs.kernel.Kernel.shorten.Goals as goal
 
 -- The clause C loses the literal l: where it stands, and what the counts become.
@@ -27,12 +27,12 @@ module _ {P : FlatPrefix} {a : Clauses} {o : Chains} {g : Groups} {n s e u t mos
   loses r =
       let C : Clause = r.0 in
       let D : Clause = without l C in
-      let w = clause-proper P.bounds (live a.clauses) C k.proper (slot-IsIn a.clauses id C r.1) in
+      let w = clause-proper P.bounds (live a.clauses) C k.proper (live-slot a.clauses id C r.1) in
       let less = length-shorter l C w.0 r.2 in
       let b = counted-bounds a.clauses id C n s e u r.1 k.counted in
       let small = counts-small (live (set_slot id (Some D) a.clauses)) n (s - 1) (e + empty_ones D) (u + unit_ones D - empty_ones D) (counted-shorter a.clauses id C D n s e u r.1 less k.counted) in
       record {
-        there = live-slot a id C r.1;
+        there = clause_at-slot a id C r.1;
         proper = w;
         size = omega (arith, b.1);
         units = b.3;
@@ -110,7 +110,7 @@ pub returns : goal.returns
 returns c =
     let k = c.self.inside in
     rw (← c.self.view_is) (record {
-      change = λ C e. changed-slots k.arena c.shorten.new.arena c.args.id (Some (without c.args.lit C)) (c.shorten.ensures.clauses C (live-slot k.arena c.args.id C e));
+      change = λ C e. changed-slots k.arena c.shorten.new.arena c.args.id (Some (without c.args.lit C)) (c.shorten.ensures.clauses C (clause_at-slot k.arena c.args.id C e));
       kept = record { words = c.shorten.ensures.words; ids = omega (arith, c.shorten.ensures.ids) };
       rest = record { prefix = refl; text = refl; vars = refl; greatest = refl; bytes = refl };
     })

@@ -1,12 +1,12 @@
 use Rattle.std.proofs.Common.{◌++◌, refl, ◌∙◌, ap, arith, List, ℕ}
-use Rattle.q_kernel.proofs.KernelSizes.{slot-live, live-slot}
+use Rattle.q_kernel.proofs.KernelSizes.{slot-live, clause_at-slot}
 use Rattle.q_kernel.proofs.KernelSteps.{may-shrink-there, is-shrunk, longer_text}
 use Rattle.q_kernel.proofs.kernel.Kernel.shrink.Goals as goal
 
 pub lits-lits-requires : goal.lits-lits-requires
 lits-lits-requires c =
     let m = rw (← c.self.view_is) at c.requires in
-    (m.clause, live-slot c.self.inside.arena c.args.id m.clause m.there)
+    (m.clause, clause_at-slot c.self.inside.arena c.args.id m.clause m.there)
 
 pub append_shorter-requires-clause-room : goal.append_shorter-requires-clause-room
 append_shorter-requires-clause-room c =

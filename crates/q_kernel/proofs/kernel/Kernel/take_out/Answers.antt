@@ -1,25 +1,25 @@
 use Rattle.std.proofs.Common.{None, arith, refl}
 use Rattle.q_logic.specs.Prelude.{live}
+use Rattle.q_logic.proofs.Common.{live-slot}
 use Rattle.q_kernel.proofs.KernelInvariant.{kernel-gone, changed-slots, clause-proper, counted-bounds}
-use Rattle.q_kernel.proofs.KernelSizes.{slot-live, live-slot}
-use Rattle.q_kernel.proofs.SlotLists.{slot-IsIn}
+use Rattle.q_kernel.proofs.KernelSizes.{slot-live, clause_at-slot}
 use Rattle.q_kernel.proofs.kernel.Kernel.take_out.Goals as goal
 
 pub unlink-requires-clause-live : goal.unlink-requires-clause-live
 unlink-requires-clause-live c =
     let r = rw (← c.self.view_is) at c.requires in
-    (r.0, live-slot c.self.inside.arena c.args.id r.0 r.1)
+    (r.0, clause_at-slot c.self.inside.arena c.args.id r.0 r.1)
 
 pub lits-lits-requires : goal.lits-lits-requires
 lits-lits-requires c =
     let r = rw (← c.self.view_is) at c.requires in
-    (r.0, live-slot c.self.inside.arena c.args.id r.0 r.1)
+    (r.0, clause_at-slot c.self.inside.arena c.args.id r.0 r.1)
 
 pub vanish_all-requires-clause-within : goal.vanish_all-requires-clause-within
 vanish_all-requires-clause-within c =
     let k = c.self.inside in
     let C = c.lits-lits.result.now in
-    (clause-proper k.prefix.bounds (live k.arena.clauses) C c.self.invariant.proper (slot-IsIn k.arena.clauses c.args.id C (slot-live k.arena c.args.id C c.lits-lits.ensures.clause))).1
+    (clause-proper k.prefix.bounds (live k.arena.clauses) C c.self.invariant.proper (live-slot k.arena.clauses c.args.id C (slot-live k.arena c.args.id C c.lits-lits.ensures.clause))).1
 
 pub overflow_sub-self : goal.overflow_sub-self
 overflow_sub-self c =

@@ -1,4 +1,5 @@
-use Rattle.q_command.proofs.FilePieces.{err_then, ok_then}
+use Rattle.q_logic.proofs.Common.{ok_then}
+use Rattle.q_command.proofs.FilePieces.{err_then}
 use Rattle.q_run_annotate.proofs.AnnotatedSteps.{passes_end, concludes_end, concludes_last}
 use Rattle.q_run_annotate.proofs.reading.Reading.finish.Goals as goal
 
