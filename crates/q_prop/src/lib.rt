@@ -5,6 +5,7 @@
 mod buckets;
 mod chain;
 mod clauses;
+mod glance;
 mod holders;
 mod level;
 mod lists;
