@@ -35,8 +35,19 @@ pub(crate) fn answers(
     requires { AreModerate limits }
 {
     let steps = steps_of(alloc, log)?;
+    answers_from(alloc, formula, limits, &steps)
+}
+
+fn answers_from(
+    alloc: Global,
+    formula: &Formula,
+    limits: Limits,
+    steps: &[Step],
+) -> Result<Vec<u8>, Trouble>
+    requires { AreModerate limits }
+{
     let mut checker = begin(alloc, formula, limits)?;
-    answers_to(alloc, &mut checker, &steps)
+    answers_to(alloc, &mut checker, steps)
 }
 
 fn answers_to(alloc: Global, checker: &mut Checker, steps: &[Step]) -> Result<Vec<u8>, Trouble> {
@@ -88,9 +99,14 @@ fn verified(
     output: &Formula,
 ) -> Result<Verified, Trouble> {
     let steps = steps_of(alloc, log)?;
+    end(checked(alloc, formula, &steps)?, output)
+}
+
+// The checker that has taken all steps.
+fn checked(alloc: Global, formula: &Formula, steps: &[Step]) -> Result<Checker, Trouble> {
     let mut checker = begin(alloc, formula, Limits::standard())?;
-    take_all(&mut checker, &steps)?;
-    end(checker, output)
+    take_all(&mut checker, steps)?;
+    Ok(checker)
 }
 
 fn take_all(checker: &mut Checker, steps: &[Step]) -> Result<(), Trouble> {

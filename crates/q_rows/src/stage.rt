@@ -74,10 +74,20 @@ impl Stage {
         let Some(more) = rest.strip_prefix("+ ") else {
             return Err(Trouble::Unreadable("a line"));
         };
-        let more = self.text(more)?;
-        let mut bytes = self.held(first)?;
-        bytes.extend_from_slice(&more)?;
+        let bytes = self.longer(first, more)?;
         self.desk.put(first, &bytes)
+    }
+
+    // The bytes of a file, and those of a text behind them.
+    fn longer(&self, name: &str, more: &str) -> Result<Vec<u8>, Trouble> {
+        let mut bytes = self.held(name)?;
+        self.extend(&mut bytes, more)?;
+        Ok(bytes)
+    }
+
+    fn extend(&self, bytes: &mut Vec<u8>, more: &str) -> Result<(), Trouble> {
+        let more = self.text(more)?;
+        Ok(bytes.extend_from_slice(&more)?)
     }
 
     // The bytes of a text: `same as NAME`, `N times TEXT`, or lines.
@@ -135,13 +145,20 @@ impl Stage {
 
     // A command: its words, and wanted its status and the line that it puts.
     fn run(&mut self, words: &str, wanted: &str) -> Result<(), Trouble> {
-        let words = words_of(self.alloc, words)?;
-        let said = self.desk.run(&words)?;
+        let said = self.said(words)?;
         let (code, line) = wanted.split_once(' ').unwrap_or((wanted, ""));
-        let got = said.status.code();
-        let status = format!(in self.alloc; "{got}")?;
         self.compare_lines(line, &said)?;
-        compare(self.alloc, code.as_bytes(), status.as_bytes())
+        self.compare_status(code, said.status.code())
+    }
+
+    fn said(&mut self, words: &str) -> Result<Said, Trouble> {
+        let words = words_of(self.alloc, words)?;
+        self.desk.run(&words)
+    }
+
+    fn compare_status(&self, wanted: &str, got: u8) -> Result<(), Trouble> {
+        let got = format!(in self.alloc; "{got}")?;
+        compare(self.alloc, wanted.as_bytes(), got.as_bytes())
     }
 
     // A line that ends with ` ..` is wanted as far as it goes.
