@@ -1,5 +1,5 @@
 use Rattle.std.proofs.Common.{◌∙◌, ap, subst, sym, ◌<◌, ◌^◌, ◌+◌, ℕ}
-use Rattle.q_check.proofs.PushedHints.{on_ok-then}
+use Rattle.std.proofs.lemmas.Result.{on_ok_weaker}
 use Rattle.q_command.proofs.BothCheckers.{answer-hinted, refusal-hinted, held-ok, held-err, filled-hinted-some, filled-hints}
 use Rattle.q_command.proofs.judges.Judges.step_hinted.Goals as goal
 
@@ -13,8 +13,9 @@ step-requires-clause-hints c =
 
 pub returns-clause-taken : goal.returns-clause-taken
 returns-clause-taken c =
-    on_ok-then c.step.result c.step.ensures.taken
+    on_ok_weaker c.step.result
     (λ e. e ∙ ap (λ (n : ℕ). n + 1) (filled-hints c.args.self.now.keeps_undo c.args.self.now.origin c.args.self.now.hinted c.fill.new.self c.in_ok-fill.ensures.ready))
+    c.step.ensures.taken
 
 pub returns-clause-behind : goal.returns-clause-behind
 returns-clause-behind c =
