@@ -27,6 +27,9 @@ use q_logic::{Lit, NoMemory};
 /// A glance is worth its while where a row is longer.
 const LONG: usize = 64;
 
+/// And where no more literals are assumed: to count the rows of many costs too much.
+const FEW: usize = 2;
+
 /// It passes by rows that are longer.
 const SHORT: usize = 16;
 
@@ -46,6 +49,9 @@ pub fn glance(
     ensures falsified { IfOk result (λ conflict. IsTrue conflict
         → HasFalsified (filled (without watched.now.clauses.slots skip)) trail.new) }
 {
+    if trail.len() > base.saturating_add(FEW) {
+        return Ok(false);
+    }
     let longest = longest_row(watched, trail, base);
     if longest <= LONG {
         return Ok(false);
