@@ -9,9 +9,10 @@
 //! left, or is falsified. Nothing is watched otherwise, and no literal counts as worked off, so propagation
 //! goes on from the base, and loses nothing.
 //!
-//! Cost: one count for each literal above the base. Where some row is long, as many rows of at most `SHORT` entries as
-//! a fourth of it has, so no more than a few times what the long row costs. With a fixed number of rows (16) a ring of
-//! 1,333 takes 2.8 times the visits, since merges lie behind each other on paths of any length.
+//! Cost: a comparison where more than `FEW` literals stand above the base, else one count for each. Where some row is long,
+//! as many rows of at most `SHORT` entries as a fourth of it has, so no more than a few times what the long row
+//! costs. With a fixed number of rows (16) a ring of 1,333 takes 2.8 times the visits, since merges lie behind each
+//! other on paths of any length. With a count for any number of literals the check of an adder takes 2 % more.
 ghost use Rattle.std.specs.Prelude.{IfOk, IsTrue};
 ghost use Rattle.q_prop.specs.Chains.{HasFalsified};
 ghost use Rattle.q_prop.specs.Slots.{filled, without};
@@ -27,7 +28,7 @@ use q_logic::{Lit, NoMemory};
 /// A glance is worth its while where a row is longer.
 const LONG: usize = 64;
 
-/// And where no more literals are assumed: to count the rows of many costs too much.
+/// And where no more literals stand above the base: the clauses of a merge have two.
 const FEW: usize = 2;
 
 /// It passes by rows that are longer.
