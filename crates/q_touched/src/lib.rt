@@ -11,6 +11,7 @@ mod eliminating;
 mod expanding;
 mod lists;
 mod lits;
+mod looks;
 mod marked;
 mod merging;
 mod parts;
