@@ -9,6 +9,7 @@ mod covering;
 mod cutting;
 mod eliminating;
 mod expanding;
+mod impatient;
 mod lists;
 mod lits;
 mod looks;
@@ -21,5 +22,6 @@ mod subsuming;
 mod touched;
 mod watch;
 
+pub use impatient::Impatient;
 pub use touched::Touched;
 pub use watch::{Pass, Quiet, Watch};

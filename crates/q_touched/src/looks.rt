@@ -1,11 +1,12 @@
 //! When clauses were looked at last, and when literals were touched last.
 //!
-//! A clause waits for each of its literals that is touched: once while lists are short and once when they may be long, and again
-//! where it was looked at behind the touch, later in the same batch. Once it was looked at, all touches before that are done
-//! with. A stamp for each literal and one for each clause tell it. What is closed may grow again where another literal of its
-//! set was touched; but for such a touch no clause is gathered, and the search behind all guides looks at all of them.
+//! A clause is gathered for each of its literals that is touched. Some come again: a literal with a long list waits until short
+//! ones are done, and what is taken in a batch touches clauses that are looked at later in the same batch. Once a clause was
+//! looked at, all touches before are done with: a number for each literal and one for each clause tell it. (Where another
+//! literal of its set was touched, more may come now. For such a touch no clause is gathered; the search behind all guides
+//! looks at all of them.)
 //!
-//! Nothing has to be right here: where a stamp is wrong, a clause is looked at once more, or left to that search.
+//! Nothing has to be right here: by a wrong number a clause is looked at once more, or left to that search.
 
 use crate::lists::{index_of, lits_of};
 use q_kernel::{ClauseId, Kernel};
@@ -14,9 +15,9 @@ use std::alloc::Global;
 
 #[derive(Drop)]
 pub(crate) struct Looks {
-    // how often the kernel was lent so far, 0 before the first time
+    // how often looks began
     now: u32,
-    // by index of the literal, and by id of the clause; 0 where it never was
+    // what `now` was, by index of the literal and by id of the clause; 0 for those that never were
     touched: Vec<u32>,
     looked: Vec<u32>,
 }
@@ -31,8 +32,11 @@ impl Looks {
         }
     }
 
-    /// The literal is touched.
+    /// The literal is touched. Before the first look nothing has to be noted.
     pub(crate) fn touch(&mut self, index: u32) -> Result<(), NoMemory> {
+        if self.now == 0 {
+            return Ok(());
+        }
         put_stamp(&mut self.touched, index, self.now)
     }
 
