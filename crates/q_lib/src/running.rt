@@ -6,7 +6,7 @@ use q_app::{Status, bounds_of, run};
 use q_io::{SteadyFiles, SteadySink};
 use q_logic::NoMemory;
 use q_sched::{FewestFirst, Guide, ShortestFirst};
-use q_touched::{Quiet, Touched};
+use q_touched::{Impatient, Quiet, Touched};
 use std::alloc::Global;
 
 // What a command left: its status, the files and its line.
@@ -99,8 +99,10 @@ fn command(alloc: Global, words: &[String], files: SteadyFiles) -> Result<Left, 
     let touched = Touched::new(alloc, bounds_of(words), Quiet);
     let mut guides: Vec<Box<dyn Guide>> = Vec::new(alloc);
     guides.push(Box::new(alloc, touched)?)?;
-    guides.push(Box::new(alloc, FewestFirst::new())?)?;
-    guides.push(Box::new(alloc, ShortestFirst::new())?)?;
+    let fewest = Impatient::new(FewestFirst::new());
+    guides.push(Box::new(alloc, fewest)?)?;
+    let shortest = Impatient::new(ShortestFirst::new());
+    guides.push(Box::new(alloc, shortest)?)?;
     let status = run(alloc, words, &mut files, &mut line, guides);
     Ok(Left {
         status,

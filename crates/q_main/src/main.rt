@@ -16,7 +16,7 @@ use q_app::{Status, bounds_of, run};
 use q_io::{DiskFiles, Files, Sink, StdSink};
 use q_logic::NoMemory;
 use q_sched::{FewestFirst, Guide, ShortestFirst};
-use q_touched::Touched;
+use q_touched::{Impatient, Touched};
 use std::alloc::Global;
 use std::fs::File;
 use std::process::ExitCode;
@@ -65,8 +65,8 @@ fn shares_of(board: &Rc<Board>) -> Result<Shares, NoMemory> {
 }
 
 // Runs a command. Three guides are asked which target is tried next: first the one that looks where something changed, which
-// finds nearly all of them, and then the two plain ones. They are made here, where they are handed on, since a function that
-// makes a boxed guide and answers with it proves less than it seems to.
+// finds nearly all of them, and then the two plain ones, each until a few of its proposals in a row were refused. They are made
+// here, where they are handed on, since a function that makes a boxed guide and answers with it proves less than it seems to.
 fn run_guided<F: Files, S: Sink>(
     alloc: Global,
     words: &[String],
@@ -78,8 +78,10 @@ fn run_guided<F: Files, S: Sink>(
     let touched = Touched::new(alloc, bounds_of(words), teller);
     let mut guides: Vec<Box<dyn Guide>> = Vec::new(alloc);
     guides.push(Box::new(alloc, Progress::new(touched, first, false))?)?;
-    guides.push(Box::new(alloc, Progress::new(FewestFirst::new(), second, false))?)?;
-    guides.push(Box::new(alloc, Progress::new(ShortestFirst::new(), third, true))?)?;
+    let fewest = Impatient::new(FewestFirst::new());
+    guides.push(Box::new(alloc, Progress::new(fewest, second, false))?)?;
+    let shortest = Impatient::new(ShortestFirst::new());
+    guides.push(Box::new(alloc, Progress::new(shortest, third, true))?)?;
     Ok(run(alloc, words, files, out, guides))
 }
 

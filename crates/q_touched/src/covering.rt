@@ -2,9 +2,11 @@
 //!
 //! Such a test costs more than any other, so it comes after the other rules, and only clauses near a change are tested:
 //! those with a literal whose negation stands in one clause less, or that stands in a clause that came or became shorter.
-//! They are gathered at once and tested one by one, short ones first.
+//! They are gathered at once and tested one by one, short ones first. One that was tested since its literals were touched last is
+//! passed by (`looks.rt`).
 use crate::lists::{gather, lits_of};
 use crate::lits::Lits;
+use crate::looks::Looks;
 use crate::marked::Marked;
 use crate::watch::{Pass, Watch};
 use q_blocked::{Search, Step, Target};
@@ -20,6 +22,7 @@ pub(crate) struct Covering {
     batch: Vec<(u32, ClauseId)>,
     gathered: Marked,
     ids: Vec<ClauseId>,
+    looks: Looks,
     search: Search,
 }
 
@@ -31,12 +34,14 @@ impl Covering {
             batch: Vec::new(alloc),
             gathered: Marked::new(alloc),
             ids: Vec::new(alloc),
+            looks: Looks::new(alloc),
             search: Search::new(alloc),
         }
     }
 
     /// The literal stands near a change.
     pub(crate) fn touch(&mut self, index: u32) -> Result<(), NoMemory> {
+        self.looks.touch(index)?;
         self.waiting.push(index)
     }
 
@@ -91,11 +96,16 @@ impl Covering {
         watch: &W,
     ) -> Result<Option<Target>, NoMemory> {
         self.search.forget();
+        self.looks.begin();
         for _turn in 0..self.batch.len() {
             let Some((_, c)) = self.batch.pop() else {
                 return Ok(None);
             };
+            if self.looks.is_done_with(kernel, c) {
+                continue;
+            }
             watch.look(Pass::Cover, kernel);
+            self.looks.look(c)?;
             if self.search.covers(kernel, c)? {
                 return Ok(Some(Target::Cover { c }));
             }

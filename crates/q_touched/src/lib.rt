@@ -9,8 +9,10 @@ mod covering;
 mod cutting;
 mod eliminating;
 mod expanding;
+mod impatient;
 mod lists;
 mod lits;
+mod looks;
 mod marked;
 mod merging;
 mod parts;
@@ -20,5 +22,6 @@ mod subsuming;
 mod touched;
 mod watch;
 
+pub use impatient::Impatient;
 pub use touched::Touched;
 pub use watch::{Pass, Quiet, Watch};
