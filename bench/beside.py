@@ -6,7 +6,7 @@
 
 OTHER takes the words `simplify IN OUT LOG`. GENERATORS is a Python program with the words `list` and `gen FAMILY SIZE FILE`; its list has a line
 for each family, and under it the sizes of each class. Both programs run in turn, each so often as --times says (3), and the least processor time counts.
-A run is stopped after --seconds (20); no instance has more than --clauses clauses (1,000,000). With --check each log is checked as well, once.
+A run is stopped after --seconds (20); no instance has more than --clauses clauses (1,000,000). With --check each log is checked as well, once; a refusal stands behind the time.
 
 The table has for each instance: times, their ratio, peak memory, measures, bytes of the logs. Below stand, over the instances where the other program
 takes 0.1 seconds or more: the median ratio, the geometric mean, the ratios above 3; and for each family the growth of both between its two largest sizes, as
@@ -58,6 +58,11 @@ def clauses_of(path):
 
 def shown(seconds):
     return "stopped" if seconds is None else f"{seconds:.3f}"
+
+
+def checked(seconds, line):
+    """The time of `check`, and its line where that is a refusal."""
+    return shown(seconds) if seconds is None or line.startswith("verified ") else f"{shown(seconds)} {line}"
 
 
 def measure(folder, path, ours, other, options):
@@ -112,7 +117,7 @@ def main(words):
                 ratio = a[0] / b[0] if a[0] and b[0] else None
                 rows.append((family, size, count, a[0], b[0], ratio))
                 put(f"| {family} {size} | {count:,} | {shown(a[0])} | {shown(b[0])} | {'' if ratio is None else f'{ratio:.2f}'} | {a[1]:.0f} | {b[1]:.0f} | {a[2]} | {b[2]} | {a[3]:,} | {b[3]:,} |"
-                    + (f" {shown(row['check'][0]) if 'check' in row else ''} |" if options["check"] else ""))
+                    + (f" {checked(row['check'][0], row['check'][2]) if 'check' in row else ''} |" if options["check"] else ""))
                 if a[0] is None and b[0] is None:
                     break
     put("")
