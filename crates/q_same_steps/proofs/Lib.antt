@@ -1,0 +1,4 @@
+pub mod SameBlocks
+pub mod SameSteps
+pub mod Composing
+pub mod MadeSteps

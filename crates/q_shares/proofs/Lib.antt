@@ -1,0 +1,2 @@
+pub mod SharedRuns
+pub mod HintedSharedRuns
