@@ -127,6 +127,12 @@ goes_on (Stopped e) = false
 goes_on Finished = true
 goes_on Reading = true
 
+-- the verdict has been read
+abbrev pub has_finished : Standing → Bool
+has_finished (Stopped e) = false
+has_finished Finished = true
+has_finished Reading = false
+
 abbrev pub Feeds : {X : Type 0} → Result X TraceError → Scan → Scan → Type 0
 Feeds (Ok x) all new = (new ≡ all) × (goes_on all.standing ≡ true)
 Feeds (Err e) all new = FeedFails e all new
