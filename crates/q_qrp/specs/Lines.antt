@@ -1,6 +1,6 @@
 -- The lines of a resolution proof: what a trace in the format QRP says. The format is that of QRPcert (Niemetz, Preiner,
 -- Lonsing, Seidl, Biere 2012), which DepQBF writes.
-use Rattle.std.specs.Prelude.{ℕ, List, [], ◌∷◌, Option, Some, None}
+use Rattle.std.specs.Prelude.{◌≡◌, ◌<◌, ℕ, List, [], ◌∷◌, slice_get, Option, Some, None}
 use Rattle.q_logic.specs.Prelude.{Literal}
 use Rattle.q_qrp.specs.declared.trace.Row.{Row}
 use Rattle.q_qrp.specs.declared.trace.Verdict.{Verdict}
@@ -28,3 +28,11 @@ row_of (Some l) = Some l.row
 abbrev pub literals_of : Option Line → Option (List Literal)
 literals_of None = None
 literals_of (Some l) = Some l.literals
+
+-- the numbers of the lines rise
+abbrev pub AreRising : List Line → Type 0
+AreRising lines = (i j : ℕ) → (a b : Line) → i < j → slice_get lines i ≡ Some a → slice_get lines j ≡ Some b → a.row.id < b.row.id
+
+-- the same of rows
+abbrev pub IsBefore : Row → Row → Type 0
+IsBefore a b = a.id < b.id

@@ -1,6 +1,7 @@
 -- What one word does to what has been read of a trace, and which offence it is otherwise.
-use Rattle.std.specs.Prelude.{ℕ, ◌+◌, ◌==◌, nat_lt, nat_le, List, [], ◌∷◌, ◌++◌, if◌then◌else◌, Bool, true, false, Result, Ok, Err, pos, negsuc, Option, Some, None}
-use Rattle.q_logic.specs.Prelude.{Literal}
+use Rattle.std.specs.Prelude.{◌≡◌, ◌<◌, ℕ, ◌+◌, ◌==◌, nat_lt, nat_le, List, [], ◌∷◌, ◌++◌, length, if◌then◌else◌, Bool, true, false, Result, Ok, Err, pos, negsuc, Option, Some, None}
+use Rattle.std.specs.List.{AllByRecursion}
+use Rattle.q_logic.specs.Prelude.{Literal, ArePairs}
 use Rattle.q_text.specs.declared.tokens.TokenKind.{TokenKind}
 use Rattle.q_text.specs.declared.tokens.TokenKind.TheVariants.{Number, P, Cnf, Qrat, E, A, D, U, R, Other}
 use Rattle.q_qrp.specs.declared.words.Spoken.{Spoken}
@@ -13,6 +14,7 @@ use Rattle.q_qrp.specs.declared.builder.Signed.{Signed}
 use Rattle.q_qrp.specs.declared.builder.Place.{Place}
 use Rattle.q_qrp.specs.declared.builder.Place.TheVariants.{Problem, Format, First, Second, Sets, InSet, Lines, Literals, After, Answer, Done}
 use Rattle.q_qrp.specs.Words.{qrp_name, sat_name, unsat_name, unknown_name}
+use Rattle.q_qrp.specs.Lines.{IsBefore}
 use Rattle.q_qrp.specs.Causes.{bad_word, not_rising, limit}
 
 -- what the words so far have given: what stands next, the lines that have ended, and the line that has begun
@@ -150,3 +152,26 @@ step_at (Done v n) g w = Ok g
 -- one more word
 abbrev pub step_of : Gathered → Spoken → Result Gathered ℕ
 step_of g w = step_at g.place g w
+
+-- a line has begun and has not ended
+abbrev pub is_open : Place → Bool
+is_open Problem = false
+is_open Format = false
+is_open First = false
+is_open Second = false
+is_open Sets = false
+is_open InSet = false
+is_open Lines = false
+is_open Literals = true
+is_open After = true
+is_open Answer = false
+is_open (Done v n) = false
+
+-- above the numbers of the lines that have ended, by that of the line that began last
+abbrev pub above : Bool → ℕ → ℕ
+above inside n = if inside then n else n + 1
+
+pub record IsGathered (g : Gathered) : Type 0 where
+  pub even : length g.rows ≡ length g.terms
+  pub rising : ArePairs IsBefore g.rows
+  pub below : AllByRecursion (λ r. r.id < above (is_open g.place) g.row.id) g.rows

@@ -1,6 +1,7 @@
 // What the words of a trace give, word by word.
-ghost use Rattle.std.specs.Prelude.{◌≡◌, ◌<◌, ◌^◌, IfOk, Ok};
-ghost use Rattle.q_qrp.specs.Reading.{nothing_read, number_in, plain_in, problem, format, counted, in_set, number_of_line, line_or_answer, set_or_line, in_literals, in_antecedents, one_more, verdict_named, answered, step_of, ended_line};
+ghost use Rattle.std.specs.Prelude.{◌≡◌, ◌<◌, ◌^◌, IfOk, Ok, false};
+ghost use Rattle.q_qrp.specs.declared.builder.Place.{Place};
+ghost use Rattle.q_qrp.specs.Reading.{is_open, nothing_read, number_in, plain_in, problem, format, counted, in_set, number_of_line, line_or_answer, set_or_line, in_literals, in_antecedents, one_more, verdict_named, answered, step_of, ended_line};
 ghost use Rattle.q_qrp.specs.Steps.{IsNumber, Steps, error_at};
 ghost use Rattle.q_qrp.specs.Scanning.{is_done, proof_in};
 
@@ -74,8 +75,8 @@ pub struct Builder {
 }
 
 impl Model for Builder {
-    ghost use Rattle.std.specs.Prelude.{◌≡◌, length};
-    ghost use Rattle.q_qrp.specs.Reading.{Gathered};
+    ghost use Rattle.q_qrp.specs.declared.builder.Place.{Place};
+    ghost use Rattle.q_qrp.specs.Reading.{is_open, Gathered, IsGathered};
 
     ghost Value = { Gathered };
 
@@ -87,7 +88,13 @@ impl Model for Builder {
       pending = b.pending;
     } };
 
-    ghost invariant = { λ b. length b.rows.items ≡ length b.terms };
+    ghost invariant = { λ b. IsGathered (record {
+      place = b.place;
+      rows = b.rows.items;
+      terms = b.terms;
+      row = b.row;
+      pending = b.pending;
+    }) };
 }
 
 /// A number of a trace.
@@ -214,12 +221,21 @@ impl Builder {
         }
     }
 
+    // Goes on outside of lines.
+    #[inline(always)]
+    fn go(&mut self, place: Place)
+        requires { is_open place ≡ false }
+        ensures { self.new ≡ record self.old { place = place } }
+    {
+        self.place = place;
+    }
+
     fn problem(&mut self, kind: TokenKind) -> Result<(), Fault>
         ensures { Steps result (problem self.old kind) self.new }
     {
         match kind {
             TokenKind::P => {
-                self.place = Place::Format;
+                self.go(Place::Format);
                 Ok(())
             }
             _ => Err(Fault::Refused(Cause::BadWord)),
@@ -232,15 +248,16 @@ impl Builder {
         if name != QRP {
             return Err(Fault::Refused(Cause::BadWord));
         }
-        self.place = Place::First;
+        self.go(Place::First);
         Ok(())
     }
 
     fn counted(&mut self, next: Place, kind: TokenKind) -> Result<(), Fault>
+        requires { is_open next ≡ false }
         ensures { Steps result (counted self.old next kind) self.new }
     {
         plain(kind)?;
-        self.place = next;
+        self.go(next);
         Ok(())
     }
 
@@ -249,7 +266,7 @@ impl Builder {
     {
         let var = plain(kind)?;
         if var == 0 {
-            self.place = Place::Sets;
+            self.go(Place::Sets);
         }
         Ok(())
     }
@@ -259,7 +276,7 @@ impl Builder {
     {
         match kind {
             TokenKind::E | TokenKind::A => {
-                self.place = Place::InSet;
+                self.go(Place::InSet);
                 Ok(())
             }
             _ => self.line_or_answer(line, kind),
@@ -272,7 +289,7 @@ impl Builder {
     {
         match kind {
             TokenKind::R => {
-                self.place = Place::Answer;
+                self.go(Place::Answer);
                 Ok(())
             }
             _ => self.number_of_line(line, kind),
@@ -302,6 +319,7 @@ impl Builder {
 
     #[inline(always)]
     fn in_literals(&mut self, kind: TokenKind) -> Result<(), Fault>
+        requires { self.old.place ≡ Place.Literals }
         ensures { Steps result (in_literals self.old kind) self.new }
     {
         let signed = number(kind)?;
@@ -315,6 +333,7 @@ impl Builder {
 
     #[inline(always)]
     fn in_antecedents(&mut self, kind: TokenKind) -> Result<(), Fault>
+        requires { self.old.place ≡ Place.After }
         ensures { Steps result (in_antecedents self.old kind) self.new }
     {
         let id = plain(kind)?;
@@ -331,6 +350,7 @@ impl Builder {
     }
 
     fn end_line(&mut self) -> Result<(), Fault>
+        requires { self.old.place ≡ Place.After }
         ensures { Steps result (Ok (ended_line self.old)) self.new }
     {
         if self.rows.reserve(1).is_err() {
@@ -348,7 +368,7 @@ impl Builder {
         match verdict_named(name) {
             None => Err(Fault::Refused(Cause::BadWord)),
             Some(verdict) => {
-                self.place = Place::Done(verdict, line);
+                self.go(Place::Done(verdict, line));
                 Ok(())
             }
         }

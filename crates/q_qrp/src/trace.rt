@@ -1,6 +1,7 @@
 //! A resolution proof as a program holds it: one row of literals, and for each line what else it says.
 ghost use Rattle.std.specs.Prelude.{◌≡◌, ◌<◌, length, slice_get, Some};
-ghost use Rattle.q_qrp.specs.Lines.{row_of, lines_of, literals_of};
+ghost use Rattle.q_logic.specs.Prelude.{ArePairs};
+ghost use Rattle.q_qrp.specs.Lines.{AreRising, IsBefore, row_of, lines_of, literals_of};
 
 use q_logic::{Clauses, Lit};
 use std::marker::Model;
@@ -40,7 +41,8 @@ pub struct Trace {
 
 impl Model for Trace {
     ghost use Rattle.std.specs.Prelude.{◌≡◌, length};
-    ghost use Rattle.q_qrp.specs.Lines.{Proof, lines_of};
+    ghost use Rattle.q_logic.specs.Prelude.{ArePairs};
+    ghost use Rattle.q_qrp.specs.Lines.{IsBefore, Proof, lines_of};
 
     ghost Value = { Proof };
 
@@ -50,12 +52,13 @@ impl Model for Trace {
       place = t.place;
     } };
 
-    ghost invariant = { λ t. length t.rows.items ≡ length t.terms };
+    ghost invariant = { λ t. (length t.rows.items ≡ length t.terms) × ArePairs IsBefore t.rows.items };
 }
 
 impl Trace {
     pub(crate) fn new(rows: Vec<Row>, terms: Clauses, verdict: Verdict, place: u64) -> Trace
-        requires { length rows.items ≡ length terms }
+        requires even { length rows.items ≡ length terms }
+        requires rising { ArePairs IsBefore rows.items }
         ensures { result ≡ record {
           lines = lines_of rows.items terms;
           verdict = verdict;
@@ -104,5 +107,12 @@ impl Trace {
         ensures { Some result.now ≡ literals_of (slice_get self.now.lines at) }
     {
         self.terms.clause(at)
+    }
+
+    /// A law on each trace: the numbers of its lines rise.
+    pub fn rises(&self)
+        ensures { AreRising self.now.lines }
+    {
+        let _ = &self.rows;
     }
 }

@@ -5,7 +5,7 @@ use Rattle.q_qrp.proofs.trace.Trace.row.Goals as goal
 
 pub index-requires : goal.index-requires
 index-requires c =
-    let i = c.self.invariant in
+    let i = c.self.invariant.0 in
     let l = lines-length c.self.inside.rows.items c.self.inside.terms i in
     let v = c.self.view_is in
     let r = rw (sym v) at c.requires in
@@ -13,7 +13,7 @@ index-requires c =
 
 pub returns : goal.returns
 returns c =
-    let i = c.self.invariant in
+    let i = c.self.invariant.0 in
     let l = lines-length c.self.inside.rows.items c.self.inside.terms i in
     let v = c.self.view_is in
     let r = rw (sym v) at c.requires in
