@@ -1,0 +1,5 @@
+mod TraceLines
+pub mod WordLaw
+mod FedBytes
+mod FeedLaw
+mod PieceReads
