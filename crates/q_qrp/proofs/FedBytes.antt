@@ -40,6 +40,11 @@ fed-next s [] i l = absurd (not-suc-le-zero l)
 fed-next s (b ∷ bs) zero l = refl
 fed-next s (b ∷ bs) (suc i) l = fed-next (byte_step s b) bs i (le_of_suc-le-suc l)
 
+pub only-finished : (t : Standing) → has_finished t ≡ true → t ≡ Finished
+only-finished (Stopped e) h = cc
+only-finished Finished h = refl
+only-finished Reading h = cc
+
 -- the verdict came within the front of the piece
 pub finished-early : (s mid : Scan) (bs : List ℕ) (i : ℕ) → mid ≡ fed s (take i bs) → has_finished mid.standing ≡ true → (mid ≡ fed s bs) × (goes_on (fed s bs).standing ≡ true)
 finished-early s mid bs i m h =
@@ -47,11 +52,6 @@ finished-early s mid bs i m h =
     let all : fed s bs ≡ mid =
     ap (fed s) (sym (take-append-drop i bs)) ∙ (fed-more s (take i bs) (drop i bs) ∙ (ap (λ t. fed t (drop i bs)) (sym m) ∙ fed-finished mid (drop i bs) f)) in
     (sym all, ap (λ (t : Scan). goes_on t.standing) all ∙ ap goes_on f)
-  where
-    only-finished : (t : Standing) → has_finished t ≡ true → t ≡ Finished
-    only-finished (Stopped e) h = cc
-    only-finished Finished h = refl
-    only-finished Reading h = cc
 
 -- what goes on and has not finished still reads
 pub still-reading : (t : Standing) → goes_on t ≡ true → has_finished t ≡ false → t ≡ Reading

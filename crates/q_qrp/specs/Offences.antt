@@ -1,5 +1,5 @@
 -- The proof of a whole text, or its first offence from the left.
-use Rattle.std.specs.Prelude.{◌++◌, ◌≡◌, ℕ, nat_le, List, [], ◌∷◌, length, take, if◌then◌else◌, Result, Ok, Err, Option, Some, None}
+use Rattle.std.specs.Prelude.{◌++◌, ◌≡◌, ◌≤◌, ℕ, nat_le, List, [], ◌∷◌, length, take, if◌then◌else◌, Result, Ok, Err, Option, Some, None}
 use Rattle.q_text.specs.Texts.{line_after}
 use Rattle.q_qrp.specs.declared.words.Spoken.{Spoken}
 use Rattle.q_qrp.specs.declared.error.TraceError.{TraceError}
@@ -50,6 +50,10 @@ TraceOf most bytes p = parse most bytes ≡ Ok p
 -- the reader has read on by this piece
 abbrev pub ReadsOn : Scan → List ℕ → Scan → Type 0
 ReadsOn old piece new = (most : ℕ) → (bytes : List ℕ) → HasRead most bytes old → HasRead most (bytes ++ piece) new
+
+-- what has been read and this piece keep the limit on bytes
+abbrev pub StaysWithin : Scan → List ℕ → Type 0
+StaysWithin old piece = (most : ℕ) → (bytes : List ℕ) → HasRead most bytes old → length (bytes ++ piece) ≤ most
 
 -- a refusal is the first offence of each text that begins with what has been read and this piece
 abbrev pub RefusesBehind : {X : Type 0} → Result X TraceError → Scan → List ℕ → Type 0

@@ -1,9 +1,9 @@
-ghost use Rattle.std.specs.Prelude.{◌≡◌, ℕ, ◌≤◌, ◌^◌, List, [], Err, IfOk, IfErr, OnOk, true};
+ghost use Rattle.std.specs.Prelude.{◌≡◌, ℕ, ◌≤◌, ◌^◌, List, [], Err, IfOk, IfErr, OnOk, true, false};
 ghost use Rattle.q_qrp.specs.declared.reader.Standing.{Standing};
 ghost use Rattle.q_qrp.specs.Causes.{no_verdict};
 ghost use Rattle.q_qrp.specs.Reading.{step_of};
 ghost use Rattle.q_qrp.specs.Scanning.{Answers, Feeds, HasRead, byte_step, fed, goes_on, has_finished, outcome, proof_in, word_step};
-ghost use Rattle.q_qrp.specs.Offences.{ProofOf, ReadsOn, RefusesAll, RefusesBehind, at_last, at_line, proof_or};
+ghost use Rattle.q_qrp.specs.Offences.{ProofOf, ReadsOn, RefusesAll, RefusesBehind, StaysWithin, at_last, at_line, proof_or};
 
 use crate::builder::Builder;
 use crate::error::{Cause, TraceError};
@@ -73,6 +73,10 @@ impl TraceReader {
         ensures read { OnOk result (ReadsOn self.old piece.now self.new) }
         ensures refused { RefusesBehind result self.old piece.now }
 
+        // Before the verdict it has not passed the limit on bytes.
+        ensures within { OnOk result (has_finished self.new.standing ≡ false
+            → StaysWithin self.old piece.now) }
+
         // What has stopped the reader stops it for good.
         ensures stopped { IfErr result (λ e. self.new.standing ≡ Standing.Stopped e) }
         ensures lasting_answer { (e : TraceError) → self.old.standing ≡ Standing.Stopped e
@@ -94,7 +98,10 @@ impl TraceReader {
 
     /// The verdict has been read.
     pub fn is_finished(&self) -> bool
-        ensures { result ≡ has_finished self.now.standing }
+        ensures value { result ≡ has_finished self.now.standing }
+
+        // What follows changes nothing.
+        ensures lasting { result ≡ true → (rest : List ℕ) → ReadsOn self.now rest self.now }
     {
         matches!(self.standing, Standing::Finished)
     }

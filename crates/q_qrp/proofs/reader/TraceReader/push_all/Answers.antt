@@ -5,7 +5,7 @@ use Rattle.q_qrp.proofs.FedBytes.{finished-early, feeds-later, fed-next}
 use Rattle.q_qrp.proofs.reader.TraceReader.push_all.Goals as goal
 
 pub returns-then-is_finished : goal.returns-then-is_finished
-returns-then-is_finished c = finished-early c.args.self.now c.loop-byte.self c.args.piece.now c.loop-byte.byte-index c.loop-byte.invariant.0 (sym c.is_finished.ensures ∙ c.if-is_finished.true)
+returns-then-is_finished c = finished-early c.args.self.now c.loop-byte.self c.args.piece.now c.loop-byte.byte-index c.loop-byte.invariant.0 (sym c.is_finished.ensures.value ∙ c.if-is_finished.true)
 
 pub returns-in_err-push : goal.returns-in_err-push
 returns-in_err-push c =
