@@ -1,0 +1,4 @@
+pub mod Derivations
+pub mod Extracted
+pub mod Testing
+pub mod Traces

@@ -1,0 +1,6 @@
+mod TraceLines
+pub mod WordLaw
+mod FedBytes
+mod ByteLimit
+mod FeedLaw
+mod PieceReads
