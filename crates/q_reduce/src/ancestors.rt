@@ -22,7 +22,7 @@ impl Forest {
             sides.now.ends.items }
         ensures { IsTrue result → Leads kernel.now.prefix (slots kernel.now) lit c }
     {
-        self.is_for(kernel, lit.var()) && self.connects(kernel, sides, lit)
+        self.serves(kernel, lit.var()) && self.connects(kernel, sides, lit)
     }
 
     // Whether a path leads from one of the starts to one of the ends, by no other clause with the literal than its first.

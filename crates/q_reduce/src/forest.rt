@@ -5,6 +5,9 @@
 //! has to stay where the path in the forest from c to a clause with the negation of l has no other clause with l. All edges are
 //! verified once, when the forest is made, and are right for this kernel alone. Where few clauses hold l, each is asked whether
 //! it stands on the path (`ancestors.rt`); else the path is climbed edge by edge (`paths.rt`).
+//!
+//! What is inner to a universal is inner to all that are outer to it. So a forest for one block serves for all outer blocks; it only
+//! has fewer edges than one of their own.
 ghost use Rattle.std.specs.Prelude.{◌≡◌, ◌⊎◌, ◌+◌, true, IfOk, IsTrue};
 ghost use Rattle.q_logic.specs.Prelude.{is_bound, outer_or_same};
 ghost use Rattle.q_kernel.specs.Prelude.{slots};
@@ -47,11 +50,16 @@ impl Forest {
         }
     }
 
-    /// Whether the forest is for the block of a variable.
-    pub(crate) fn is_for(&self, kernel: &Kernel, var: u32) -> bool
+    /// Whether the forest serves for a variable: it is for its block, or for one inside that.
+    pub(crate) fn serves(&self, kernel: &Kernel, var: u32) -> bool
         ensures { IsTrue result → outer_or_same kernel.now.prefix var self.now.block ≡ true }
     {
-        is_outer(kernel, self.block, var) && is_outer(kernel, var, self.block)
+        is_outer(kernel, var, self.block)
+    }
+
+    /// Whether the forest is for the block of a variable.
+    pub(crate) fn is_for(&self, kernel: &Kernel, var: u32) -> bool {
+        self.serves(kernel, var) && is_outer(kernel, self.block, var)
     }
 
     pub(crate) fn place(&self, c: ClauseId) -> Place
@@ -264,8 +272,8 @@ fn is_edge(kernel: &Kernel, c: ClauseId, lit: Lit, d: ClauseId, u: u32) -> bool
     holds(kernel.lits(c), lit) && holds(kernel.lits(d), lit.negated())
 }
 
-// Whether a stands before b in the prefix, or in its block.
-fn is_outer(kernel: &Kernel, a: u32, b: u32) -> bool
+/// Whether a stands before b in the prefix, or in its block.
+pub(crate) fn is_outer(kernel: &Kernel, a: u32, b: u32) -> bool
     ensures { IsTrue result → outer_or_same kernel.now.prefix a b ≡ true }
 {
     let prefix = kernel.prefix();

@@ -5,11 +5,11 @@ ghost use Rattle.q_kernel.specs.Prelude.{slots};
 ghost use Rattle.q_reduce.specs.Paths.{Leads, AreSides};
 ghost use Rattle.q_reduce.specs.Forests.{ForestMap, AreForestsOf};
 
-use crate::forest::Forest;
+use crate::forest::{Forest, is_outer};
 use crate::sides::Sides;
 use q_kernel::{ClauseId, Kernel};
 use q_logic::{Lit, NoMemory};
-use q_rule::Queue;
+use q_rule::{Queue, is_universal};
 use std::alloc::Global;
 use std::marker::Model;
 
@@ -25,8 +25,8 @@ const STEPS: usize = 64;
 // A walk that looks at so many times as many clauses costs more than a longer path.
 const DEAR: usize = 16;
 
-/// Forests of the blocks that walks asked about, at most two of a block: what holds up a path in the one may be no part of the
-/// other.
+/// Forests, at most two of a block: what holds up a path in the one may be no part of the other. The first two are for the
+/// innermost universal block, since they serve for all; where they tell too little, the blocks that walks asked about get their own.
 #[derive(Drop)]
 pub struct Forests {
     alloc: Global,
@@ -134,21 +134,35 @@ impl Forests {
             return Ok(());
         }
         self.looked = 0;
-        let mut forest = self.free(self.worn(kernel, var));
-        if forest.build(kernel, queue, c, var)? {
+        let block = self.block_to_make(kernel, var);
+        let mut forest = self.free(self.worn(kernel, block));
+        if forest.build(kernel, queue, c, block)? {
             self.forests.push(forest)?;
         }
         Ok(())
     }
 
-    // Whether there is a forest for the block of a variable.
+    // Whether there is a forest that serves for a variable.
     fn knows(&self, kernel: &Kernel, var: u32) -> bool {
         for forest in &self.forests {
-            if forest.is_for(kernel, var) {
+            if forest.serves(kernel, var) {
                 return true;
             }
         }
         false
+    }
+
+    // A variable of the block for which a forest is to be made next.
+    fn block_to_make(&self, kernel: &Kernel, var: u32) -> u32
+        requires bound { is_bound kernel.now.prefix var ≡ true }
+        ensures { is_bound kernel.now.prefix result ≡ true }
+    {
+        let inner = innermost(kernel, var);
+        if self.worn(kernel, inner).is_some() {
+            var
+        } else {
+            inner
+        }
     }
 
     // The place of the older forest for the block of a variable, where there are two.
@@ -194,6 +208,29 @@ fn connect(forests: &[Forest], sides: &Sides, kernel: &Kernel, c: ClauseId, lit:
         }
     }
     false
+}
+
+// A universal variable of the innermost block.
+fn innermost(kernel: &Kernel, var: u32) -> u32
+    requires bound { is_bound kernel.now.prefix var ≡ true }
+    ensures { is_bound kernel.now.prefix result ≡ true }
+{
+    let mut inner = var;
+    for other in 1..=kernel.greatest_var() {
+        inner = inner_of(kernel, inner, other);
+    }
+    inner
+}
+
+// The second variable, if it is a universal one of the block of the first or inside that; else the first.
+fn inner_of(kernel: &Kernel, first: u32, second: u32) -> u32
+    requires bound { is_bound kernel.now.prefix first ≡ true }
+    ensures { is_bound kernel.now.prefix result ≡ true }
+{
+    if is_universal(kernel, second) && is_outer(kernel, first, second) {
+        return second;
+    }
+    first
 }
 
 // So many clauses may be looked at before a forest is made. The first time it is less, for without one each walk is a long one.

@@ -18,7 +18,7 @@ impl Forest {
         requires { IsForest kernel.now.prefix (slots kernel.now) self.now }
         ensures { IsTrue result → Leads kernel.now.prefix (slots kernel.now) lit c }
     {
-        if !self.is_for(kernel, lit.var()) {
+        if !self.serves(kernel, lit.var()) {
             return false;
         }
         let mut tries = 0;

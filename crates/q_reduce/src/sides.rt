@@ -2,8 +2,11 @@
 //!
 //! What holds up the path in a forest between two clauses mostly stands beside one of them. Then a path leads from a clause
 //! beside the first one to a clause beside the other.
-ghost use Rattle.std.specs.Prelude.{◌≡◌, ◌⊎◌, ℕ, true, OnOk};
-ghost use Rattle.q_logic.specs.Prelude.{IsIn, is_bound};
+//!
+//! It costs the same for a long clause as for a short one: of its literals no more are gone through once enough clauses were
+//! found, and whether it holds the literal that is asked about is told by that literal's list where this is shorter.
+ghost use Rattle.std.specs.Prelude.{◌≡◌, ◌⊎◌, ℕ, true, Some, OnOk, IsTrue};
+ghost use Rattle.q_logic.specs.Prelude.{Clause, IsIn, is_bound, slot};
 ghost use Rattle.q_kernel.specs.Prelude.{slots, HoldsLiteral};
 ghost use Rattle.q_reduce.specs.Paths.{AreJoined, Lacks, IsNear, AreSides};
 
@@ -22,6 +25,9 @@ const ENDS: usize = 16;
 
 // So many clauses with one literal are taken beside a clause.
 const BESIDE: usize = 4;
+
+// So many literals of a clause are gone through.
+const LITERALS: usize = 64;
 
 /// Clauses from which a path may start, and clauses at which it may end.
 #[derive(Drop)]
@@ -82,16 +88,17 @@ fn put_around(
             return Ok(());
         }
         let c = list[at];
-        put_beside(kernel, c, u, list)?;
+        put_beside(kernel, c, u, most, list)?;
     }
     Ok(())
 }
 
-// Puts clauses that are joined to one, and lack u, behind a list.
+// Puts clauses that are joined to one, and lack u, behind a list, until it has so many.
 fn put_beside(
     kernel: &Kernel,
     c: ClauseId,
     u: Lit,
+    most: usize,
     list: &mut Vec<ClauseId>,
 ) -> Result<(), NoMemory>
     requires { is_bound kernel.now.prefix u.var ≡ true }
@@ -102,7 +109,12 @@ fn put_beside(
     if !kernel.live(c) {
         return Ok(());
     }
+    let mut tries = 0;
     for k in kernel.lits(c) {
+        if tries >= LITERALS || list.len() >= most {
+            return Ok(());
+        }
+        tries += 1;
         if is_inner(kernel, k.var(), u.var()) {
             put_free(kernel, k.negated(), u, BESIDE, list)?;
         }
@@ -127,9 +139,26 @@ fn put_free(
             return Ok(());
         }
         tries += 1;
-        if !holds(kernel.lits(d), u) && !list.contains(&d) {
+        if lacks(kernel, d, u) && !list.contains(&d) {
             list.push(d)?;
         }
     }
     Ok(())
+}
+
+// Whether a clause does not hold a literal. It costs the shorter one of the clause and the literal's list.
+fn lacks(kernel: &Kernel, d: ClauseId, u: Lit) -> bool
+    requires { (D : Clause) × (slot (slots kernel.now) d ≡ Some D) }
+    ensures { IsTrue result → Lacks (slots kernel.now) d u }
+{
+    let clause = kernel.lits(d);
+    if clause.len() <= kernel.count(u) as usize {
+        return !holds(clause, u);
+    }
+    for x in kernel.holders(u) {
+        if x == d {
+            return false;
+        }
+    }
+    true
 }

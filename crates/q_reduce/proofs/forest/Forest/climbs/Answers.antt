@@ -5,7 +5,7 @@ use Rattle.q_kernel.proofs.ForLoops.{holder-turn}
 use Rattle.q_reduce.proofs.forest.Forest.climbs.Goals as goal
 
 pub joins-requires-clause-block : goal.joins-requires-clause-block
-joins-requires-clause-block c = subst (λ (v : ℕ). outer_or_same c.args.kernel.now.prefix v c.args.self.now.block ≡ true) c.var.ensures.value (c.is_for.ensures c.if-not-is_for.false)
+joins-requires-clause-block c = subst (λ (v : ℕ). outer_or_same c.args.kernel.now.prefix v c.args.self.now.block ≡ true) c.var.ensures.value (c.serves.ensures c.if-not-serves.false)
 
 pub joins-requires-clause-negation : goal.joins-requires-clause-negation
 joins-requires-clause-negation c =
