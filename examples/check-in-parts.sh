@@ -20,9 +20,11 @@ while getopts p:j:s: option; do
 done
 shift $((OPTIND - 1))
 parts=${parts:-$jobs}
-in=${1:-$here/parity.qdimacs}
-out=${2:-$here/parity-out.qdimacs}
-log=${3:-$here/parity.qrat}
+case $parts$jobs in *[!0-9]*) echo "usage: $0 [-p PARTS] [-j JOBS] [-s HOST,HOST..] [IN OUT LOG]" >&2 && exit 64 ;; esac
+[ "$parts" -gt 0 ] || parts=1
+take "${1:-$here/parity.qdimacs}" && in=$file
+take "${2:-$here/parity-out.qdimacs}" && out=$file
+take "${3:-$here/parity.qrat}" && log=$file
 [ -z "$hosts" ] || has parallel || skip "GNU parallel" parallel
 
 # Whole steps are counted, since a step may have several lines.

@@ -5,10 +5,10 @@
 # Usage: examples/circuit-to-qdimacs.sh BLIF PARAMETERS >FORMULA
 set -u
 here=$(cd "$(dirname "$0")" && pwd)
-exec 3>&1 >&2
+[ "${1-}" = --help ] || exec 3>&1 >&2
 . "$here/common.sh"
 find_abc
-circuit=${1:-$here/multiplexer.blif}
+take "${1:-$here/multiplexer.blif}" && circuit=$file
 parameters=${2:-2}
 
 # ABC writes the formula beside the circuit, under its name

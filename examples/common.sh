@@ -1,6 +1,14 @@
 # shellcheck shell=sh
 # What the scripts of this folder share; each of them reads it and runs nothing of it by itself. `here` is the folder.
 # CELDRINN names the program, where it is neither the launcher of this repository nor on the PATH.
+
+# `--help` prints the lines at the head of a script.
+case ${1-} in
+    --help | -h)
+        sed -n -e '1d' -e '/^#/!q' -e 's/^# \{0,1\}//p' "$0"
+        exit 0
+        ;;
+esac
 celdrinn=${CELDRINN:-$here/../celdrinn}
 [ -f "$celdrinn" ] || celdrinn=celdrinn
 command -v "$celdrinn" >/dev/null || {
@@ -16,10 +24,45 @@ trap 'exit 143' TERM
 
 has() { command -v "$1" >/dev/null; }
 
+# Whether the program has a command: releases differ.
+has_command() { "$celdrinn" help "$1" >/dev/null 2>&1; }
+
 # Ends the script where a tool is missing: its name and Debian's package.
 skip() {
     echo "skipped: $1 is not installed (on Debian: apt-get install $2)"
     exit 0
+}
+
+# Writes a packed file as it was before, by its name.
+unpack() {
+    case $1 in
+        *.gz) gzip -dc <"$1" ;;
+        *.bz2) bzip2 -dc <"$1" ;;
+        *.xz | *.lzma) xz -dc <"$1" ;;
+        *.zst) zstd -q -dc <"$1" ;;
+        *) cat <"$1" ;;
+    esac
+}
+
+# Sets `file` to a name under which awk and solvers take a file, as often as they like: what is packed or comes from a pipe is stored,
+# and a folder stands before a name such as `n=4`, which awk would take for an assignment, or `-x`, an option.
+taken=0
+take() {
+    file=$1
+    [ "$file" != - ] || file=/dev/stdin
+    { [ -r "$file" ] && [ ! -d "$file" ]; } || { echo "can't read '$1'" >&2 && exit 4; }
+    case $file in -* | [!/.]*=*) file=./$file ;; esac
+    case $file in *.gz | *.bz2 | *.xz | *.lzma | *.zst) ;; *) [ ! -f "$file" ] || return 0 ;; esac
+    taken=$((taken + 1))
+    unpack "$file" >"$work/taken$taken" || { echo "can't unpack '$1'" >&2 && exit 4; }
+    file=$work/taken$taken
+}
+
+# Ends the script where a file that is written would be one that is read: their names.
+keep_apart() {
+    [ "$1" = "$2" ] || [ "$1" -ef "$2" ] || return 0
+    echo "'$1' and '$2' are one file, which would be written over" >&2
+    exit 64
 }
 
 # Sets `abc` to ABC's name, which is another one in Debian.

@@ -2,23 +2,27 @@
 # Prints values for the outermost existentials of a formula under which it stays true. The formula is simplified, DepQBF says
 # such values for what is left, and `rebuild` carries them back: what the other circuits say doesn't matter, so they are 0.
 # With --check, DepQBF is asked whether the formula is true with these values as unit clauses.
-# Ends with 10 for true, 20 for false, 0 for no answer. Usage: examples/first-moves.sh [--check] [IN [OPTION-OF-SIMPLIFY ..]]
+# Ends with 10 for true, 20 for false, 0 for no answer.
+# Usage: examples/first-moves.sh [--check] [IN [OPTION-OF-SIMPLIFY ..]]
 set -u
 here=$(cd "$(dirname "$0")" && pwd)
 . "$here/common.sh"
 check=
 [ "${1:-}" != --check ] || { check=yes && shift; }
 in=${1:-$here/random.qdimacs}
+take "$in"
 [ $# -eq 0 ] || shift
 [ $# -gt 0 ] || set -- --grow=16
 
 # The existentials of a formula that are bound in its prefix behind a universal, one a line.
 inner_existentials() {
     awk '
-        $1 ~ /^c/ || $1 == "p" { next }
-        { sub(/\r$/, "")
-          for (i = 1; i <= NF; i++) {
-            if ($i == "e" || $i == "a") set = $i
+        { gsub(/\r/, " ") }
+        /^[ \t]*c/ { next }
+        { for (i = 1; i <= NF; i++) {
+            if (heading > 0) heading--
+            else if ($i == "p") heading = 3
+            else if ($i == "e" || $i == "a") set = $i
             else if (set == "") exit
             else if ($i == 0) set = ""
             else if (set == "a") behind = 1
@@ -32,7 +36,7 @@ with_clauses() {
     cat "$2"
 }
 
-line=$("$celdrinn" simplify "$in" "$work/out" "$work/log" "$@")
+line=$("$celdrinn" simplify "$file" "$work/out" "$work/log" "$@")
 status=$?
 echo "simplify: $line"
 : >"$work/values"
@@ -52,11 +56,11 @@ case $status in
 esac
 
 constants "$work/values" "$work/out" >"$work/skolem"
-line=$("$celdrinn" rebuild "$in" "$work/out" "$work/log" "$work/skolem" "$work/cert") || { echo "rebuild: $line"; exit 1; }
+line=$("$celdrinn" rebuild "$file" "$work/out" "$work/log" "$work/skolem" "$work/cert") || { echo "rebuild: $line"; exit 1; }
 echo "rebuild: $line"
 
 # What no universal stands before has a constant as its circuit.
-inner_existentials "$in" >"$work/inner"
+inner_existentials "$file" >"$work/inner"
 outputs_of "$work/cert" >"$work/outputs"
 awk 'FILENAME == ARGV[1] { inner[$1] = 1; next }
     !($1 in inner) { print ($2 == 1 ? "V " : "V -") $1 " 0" }' "$work/inner" "$work/outputs" >"$work/moves"
@@ -66,7 +70,7 @@ cat "$work/moves"
 if [ -n "$check" ]; then
     has depqbf || skip DepQBF depqbf
     sed 's/^V //' "$work/moves" >"$work/units"
-    with_clauses "$in" "$work/units" >"$work/set"
+    with_clauses "$file" "$work/units" >"$work/set"
     { depqbf "$work/set" >"$work/again"; } 2>/dev/null
     case $? in
         10) echo "check: true with these values" ;;

@@ -5,7 +5,7 @@
 set -u
 here=$(cd "$(dirname "$0")" && pwd)
 . "$here/common.sh"
-in=${1:-$here/random.qdimacs}
+take "${1:-$here/random.qdimacs}" && in=$file
 cc=
 for name in cc gcc clang; do
     has $name && cc=$name && break
@@ -15,8 +15,8 @@ done
 # In a checkout the library is in dist/, where it is installed in lib/ beside include/.
 library= header=
 for folder in "${CELDRINN_LIBRARY:-}" "$here/../dist" "$here/../../../../lib" /usr/local/lib /usr/lib; do
-    for file in "$folder/libceldrinn.a" "$folder/libceldrinn-x86_64-linux.a"; do
-        [ -n "$library" ] || { [ -f "$file" ] && library=$file; }
+    for archive in "$folder/libceldrinn.a" "$folder/libceldrinn-x86_64-linux.a"; do
+        [ -n "$library" ] || { [ -f "$archive" ] && library=$archive; }
     done
 done
 for folder in "${CELDRINN_LIBRARY:-}" "$here/../packaging" "$here/../../../../include" /usr/local/include /usr/include; do

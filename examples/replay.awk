@@ -99,9 +99,10 @@ function read_log(text) {
 
 /^[ \t\r]*c/ { next }
 {
+    gsub(/\r/, " ")
     if (FILENAME != ARGV[1] && !ended) { ended = 1; end_formula() }
     # a number that the log breaks off in is not known whole
-    for (i = 1; i <= NF; i++) if ($i != "\r") { if (ended) read_log($i); else read_formula($i) }
+    for (i = 1; i <= NF; i++) { if (ended) read_log($i); else read_formula($i) }
 }
 END {
     if (failed) exit 1

@@ -6,7 +6,7 @@ set -u
 here=$(cd "$(dirname "$0")" && pwd)
 . "$here/common.sh"
 find_abc
-circuit=${1:-$here/multiplexer.blif}
+take "${1:-$here/multiplexer.blif}" && circuit=$file
 parameters=${2:-2}
 
 formula=$work/formula.qdimacs

@@ -4,12 +4,13 @@
 # Usage: examples/sizes.sh FORMULA ..
 set -u
 here=$(cd "$(dirname "$0")" && pwd)
+. "$here/common.sh"
 [ $# -gt 0 ] || set -- "$here/random.qdimacs" "$here/lamp.qdimacs"
 for formula; do
-    awk -v name="$formula" '
+    take "$formula"
+    NAME=$formula awk '
         /^[ \t\r]*c/ { next }
-        { for (i = 1; i <= NF; i++) {
-            if ($i == "\r") continue
+        { gsub(/\r/, " "); for (i = 1; i <= NF; i++) {
             if (heading > 0) heading--
             else if ($i == "p") heading = 3
             else if ($i == "a" || $i == "e") set = $i
@@ -21,6 +22,6 @@ for formula; do
             for (v in occurs) { variables++; if (!(v in of)) blocks = 1; else if (of[v] == "a") universals++ }
             last = blocks ? "e" : ""
             for (k = 1; k <= bound; k++) if (order[k] in occurs && of[order[k]] != last) { last = of[order[k]]; blocks++ }
-            print name ": " clauses + 0 " clauses, " literals + 0 " literals, " variables + 0 " variables (" variables - universals " existential, " universals + 0 " universal) in " blocks + 0 " blocks"
-        }' "$formula"
+            print ENVIRON["NAME"] ": " clauses + 0 " clauses, " literals + 0 " literals, " variables + 0 " variables (" variables - universals " existential, " universals + 0 " universal) in " blocks + 0 " blocks"
+        }' "$file"
 done

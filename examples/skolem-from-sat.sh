@@ -1,13 +1,16 @@
 #!/bin/sh
 # Skolem functions of a formula of whose simplified form only existential variables are left: a SAT solver's model gives a
 # constant for each of them, and rebuild carries these circuits back to the formula.
-# They are written to CERT, or printed. Usage: examples/skolem-from-sat.sh [FORMULA [CERT]]
+# They are written to CERT, or printed.
+# Usage: examples/skolem-from-sat.sh [FORMULA [CERT]]
 set -u
 here=$(cd "$(dirname "$0")" && pwd)
 . "$here/common.sh"
 in=${1:-$here/one-block.qdimacs}
+take "$in"
+keep_apart "$in" "${2:-$work/cert}"
 
-"$celdrinn" simplify "$in" "$work/out" "$work/log"
+"$celdrinn" simplify "$file" "$work/out" "$work/log"
 case $? in
     0 | 10) ;;
     20) echo "$in is false: there are no Skolem functions" && exit 0 ;;
@@ -28,5 +31,5 @@ esac
 # OUT may use the number of a variable of IN that is gone for a new one, so its model is no assignment of IN; rebuild carries it
 # back.
 constants "$work/model" "$work/out" >"$work/skolem"
-"$celdrinn" rebuild "$in" "$work/out" "$work/log" "$work/skolem" "${2:-$work/cert}" || exit 1
+"$celdrinn" rebuild "$file" "$work/out" "$work/log" "$work/skolem" "${2:-$work/cert}" || exit 1
 [ -n "${2:-}" ] || cat "$work/cert"

@@ -6,6 +6,7 @@ set -u
 here=$(cd "$(dirname "$0")" && pwd)
 . "$here/common.sh"
 in=${1:-$here/random.qdimacs}
+take "$in"
 [ $# -eq 0 ] || shift
 [ $# -gt 0 ] || set -- --grow=16
 out=$work/out.qdimacs
@@ -24,7 +25,7 @@ solve() {
     solve_sat "$work/out.cnf" "$work/answer"
 }
 
-line=$("$celdrinn" simplify "$in" "$out" "$log" "$@")
+line=$("$celdrinn" simplify "$file" "$out" "$log" "$@")
 status=$?
 echo "simplify: $line"
 by=celdrinn
@@ -37,7 +38,7 @@ case $status in
     *) exit "$status" ;;
 esac
 
-checked=$("$celdrinn" check "$in" "$out" "$log") || { echo "check: $checked" && exit 1; }
+checked=$("$celdrinn" check "$file" "$out" "$log") || { echo "check: $checked" && exit 1; }
 echo "check: $checked"
 case $status in
     10) echo "$in is true (by $by)" ;;

@@ -1,7 +1,8 @@
 #!/bin/sh
 # Finds two lookup tables of three inputs, one for the sum and one for the carry, of which a chain makes an adder: a circuit that
 # compares the chain with an adder becomes a formula, Celdrinn simplifies it, a SAT solver decides what is left (where something
-# is), and the tables are read off the rebuilt circuits, which are checked. Usage: examples/synthesize-adder.sh [BITS]
+# is), and the tables are read off the rebuilt circuits, which are checked.
+# Usage: examples/synthesize-adder.sh [BITS]
 set -u
 here=$(cd "$(dirname "$0")" && pwd)
 . "$here/common.sh"

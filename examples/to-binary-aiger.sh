@@ -1,11 +1,13 @@
 #!/bin/sh
 # Writes a circuit file in binary AIGER, which ABC and other tools read: circuits as `rebuild`, `refute` and `solve` write them, with
-# the inputs first and the gates in order. Usage: examples/to-binary-aiger.sh [CIRCUITS [BINARY]]
+# the inputs first and the gates in order.
+# Usage: examples/to-binary-aiger.sh [CIRCUITS [BINARY]]
 set -u
 here=$(cd "$(dirname "$0")" && pwd)
 . "$here/common.sh"
-in=${1:-$here/equivalence.aag}
+take "${1:-$here/equivalence.aag}" && in=$file
 to=${2:-$work/circuits.aig}
+keep_apart "$in" "$to"
 
 # A gate is the differences of its numbers, each as bytes of seven bits, the lowest first; all but the last byte have their highest bit.
 # Bytes come as octal numbers, since not every awk can print them, and printf makes them.

@@ -19,5 +19,5 @@ cp -R celdrinn VERSION README.md CHANGELOG.md LICENSE CITATION.cff Makefile comp
 cp packaging/install.sh packaging/version.sh packaging/celdrinn.h "$work/$name/packaging/" || exit 1
 cp -R crates/q_rows/args crates/q_rows/data crates/q_rows/stdout "$work/$name/crates/q_rows/" || exit 1
 # one owner, one date, one order: the same files make the same archive
-tar -C "$work" --sort=name --owner=0 --group=0 --numeric-owner --mtime="@${SOURCE_DATE_EPOCH:-0}" -cf "$work/tar" "$name" || exit 1
+tar -C "$work" --sort=name --owner=0 --group=0 --numeric-owner --mtime="@${SOURCE_DATE_EPOCH:-$(git log -1 --format=%ct 2>/dev/null || echo 1700000000)}" -cf "$work/tar" "$name" || exit 1
 gzip -9n "$work/tar" && mv "$work/tar.gz" "$to/$name.tar.gz" && echo "$to/$name.tar.gz"
