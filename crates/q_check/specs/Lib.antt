@@ -3,3 +3,4 @@ pub mod Checked
 pub mod Numbers
 pub mod Annotations
 pub mod HintChecks
+pub mod Replays

@@ -1,11 +1,14 @@
 //! The checker: a formula, and what the steps so far leave.
-ghost use Rattle.std.specs.Prelude.{◌≡◌, [], IfOk, IfErr, OnOk, OnErr};
-ghost use Rattle.q_logic.specs.Prelude.{AreModerate, SameFormula, AreAlike, Valid, after};
+ghost use Rattle.std.specs.Prelude.{◌≡◌, ◌↔◌, [], false, IsTrue, IfOk, IfErr, OnOk, OnErr};
+ghost use Rattle.q_logic.specs.Prelude.{AreModerate, SameFormula, AreAlike, IsIn, Valid, after};
 ghost use Rattle.q_judge.specs.declared.error.CheckError.TheVariants.{NoMemory as MemoryError};
 ghost use Rattle.q_judge.specs.Ledgers.{formula_in};
 ghost use Rattle.q_judge.specs.Tried.{IsEndRefusal, IsTried};
 ghost use Rattle.q_check.specs.Checked.{HasGrown, IsRefusal};
+ghost use Rattle.q_same_steps.specs.Making.{Applies};
+ghost use Rattle.q_check.specs.Replays.{IsUnfitFor};
 
+use crate::passing::make;
 use crate::rows::{Settings, StepRows};
 use crate::tries;
 use q_judge::{CheckError, Ledger, Undo, Undos, first_lit, load_clause, load_rest};
@@ -87,6 +90,26 @@ impl Checker {
             self.undo.push_reserved(entry);
         }
         Ok(())
+    }
+
+    /// Makes the step if it can be made, whether or not it is valid: another one judges it. What the undo list notes needs a judgement, so
+    /// it isn't kept. After an error the checker is as before.
+    pub fn pass(&mut self, step: &Step) -> Result<(), CheckError>
+        requires { self.old.keeps ≡ false }
+        ensures fit { OnOk result (Applies self.old.limits self.old.formula step.now) }
+        ensures after { OnOk result (AreAlike (after self.old.formula step.now) self.new.formula) }
+        ensures kept { (self.new.limits ≡ self.old.limits) × (self.new.keeps ≡ self.old.keeps) × (self.new.undo ≡ self.old.undo) }
+        ensures refused { IfErr result (IsUnfitFor self.old.limits self.old.formula step.now) }
+        ensures unchanged { OnErr result (self.new ≡ self.old) }
+    {
+        make(&mut self.ledger, &mut self.rows, self.settings.limits, step)
+    }
+
+    /// Whether the empty clause is there, so that the formula is false.
+    pub fn has_empty(&self) -> bool
+        ensures { IsTrue result ↔ IsIn [] self.now.formula.matrix }
+    {
+        self.ledger.store().find(&[]).is_some()
     }
 
     /// Ends the check: blocks and clauses are those of the output, in any order.

@@ -1,2 +1,3 @@
 pub mod Refuting
 pub mod Refusing
+pub mod FirstEmpty
