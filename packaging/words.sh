@@ -205,7 +205,7 @@ END
 # The list: what a command does stands beside it, where there is room, else below it.
 awk -F '\t' '
     FNR == NR { if ($1 == "command") { name[++n] = "  " $2 " " $4; text[n] = $6 } next }
-    /^where / { print; print ""; inside = 1; put(); next }
+    /^where .<command>/ { print; print ""; inside = 1; put(); next }
     inside && /^  help / { inside = 0 }
     inside { next }
     { print }
