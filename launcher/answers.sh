@@ -16,10 +16,11 @@ finish() {
 }
 
 # A signal ends the program, and then the launcher as if it had none of this.
-child=''
+child='' beside=''
 stop() {
     trap - EXIT
     [ -z "$child" ] || kill -TERM "$child" 2>/dev/null
+    [ -z "$beside" ] || kill -TERM "$beside" 2>/dev/null
     [ -z "$child" ] || wait "$child" 2>/dev/null
     end_streams 2>/dev/null
     [ -z "$work" ] || rm -rf "$work"
@@ -176,6 +177,7 @@ start() {
     # shellcheck disable=SC2086
     case $command in
         mend) run_mended "$@" ;;
+        simplify) if [ -n "$best" ]; then run_best "$@"; else run "$command" "$@" $passed; fi ;;
         *) run "$command" "$@" $passed ;;
     esac
     end_streams
