@@ -1,35 +1,41 @@
 # Completion of celdrinn's words in bash. Load it by: source completion/celdrinn.bash
+# It is made by packaging/words.sh.
 _celdrinn() {
-    local word=${COMP_WORDS[COMP_CWORD]}
-    local command=${COMP_WORDS[1]-}
+    local word=${COMP_WORDS[COMP_CWORD]} command=${COMP_WORDS[1]-} kinds='' options='' place=0 k
     COMPREPLY=()
     if [ "$COMP_CWORD" -eq 1 ]; then
-        mapfile -t COMPREPLY < <(compgen -W "simplify check rebuild annotate refute validate solve gen demo help --help --version" -- "$word")
-    elif [ "$command" = help ]; then
-        [ "$COMP_CWORD" -eq 2 ] && mapfile -t COMPREPLY < <(compgen -W "simplify check rebuild annotate refute validate solve gen demo causes" -- "$word")
-    elif [ "$command" = gen ] || [ "$command" = demo ]; then
-        # a seed and a size come first, and they are numbers
-        if [ "$COMP_CWORD" -eq 4 ] || { [ "$command" = demo ] && [[ $COMP_CWORD =~ ^[56]$ ]]; }; then
-            compopt -o filenames
-            mapfile -t COMPREPLY < <(compgen -f -- "$word")
-        fi
-    else
-        # so many names come first, and then options
-        local names=3 options=
-        case $command in
-            simplify) options="--budget= --grow= --expand=" ;;
-            rebuild | refute) names=5 ;;
-            annotate) names=4 ;;
-            validate) names=2 options="--budget=" ;;
-            solve) names=4 options="--budget=" ;;
-        esac
-        if [ "$COMP_CWORD" -le $((names + 1)) ]; then
-            compopt -o filenames
-            mapfile -t COMPREPLY < <(compgen -f -- "$word")
-        elif [ -n "$options" ] && [[ $word != = && ${COMP_WORDS[COMP_CWORD - 1]} != = ]]; then
-            compopt -o nospace
-            mapfile -t COMPREPLY < <(compgen -W "$options" -- "$word")
-        fi
+        mapfile -t COMPREPLY < <(compgen -W "simplify check rebuild annotate refute validate solve gen demo mend help --help --version" -- "$word")
+        return
+    fi
+    case $command in
+        help)
+            [ "$COMP_CWORD" -eq 2 ] && mapfile -t COMPREPLY < <(compgen -W "simplify check rebuild annotate refute validate solve gen demo mend causes" -- "$word")
+            return
+            ;;
+        simplify) kinds=fff options="--budget= --grow= --expand= --best --force --quiet --verbose" ;;
+        check) kinds=fff options="--quiet --verbose" ;;
+        rebuild) kinds=fffff options="--force --quiet --verbose" ;;
+        annotate) kinds=ffff options="--force --quiet --verbose" ;;
+        refute) kinds=fffff options="--force --quiet --verbose" ;;
+        validate) kinds=ff options="--budget= --quiet --verbose" ;;
+        solve) kinds=ffff options="--budget= --force --quiet --verbose" ;;
+        gen) kinds=nnf options="--quiet --verbose" ;;
+        demo) kinds=nnfff options="--quiet --verbose" ;;
+        mend) kinds=ff options="--force --quiet --verbose" ;;
+        *) return ;;
+    esac
+    if [[ $word == -* ]]; then
+        compopt -o nospace
+        mapfile -t COMPREPLY < <(compgen -W "$options" -- "$word")
+        return
+    fi
+    # options may stand anywhere, so names are counted; bash takes the sign and the number behind an option for words of their own
+    for ((k = 2; k < COMP_CWORD; k++)); do
+        [[ ${COMP_WORDS[k]} == -* || ${COMP_WORDS[k]} == = || ${COMP_WORDS[k - 1]} == = ]] || place=$((place + 1))
+    done
+    if [[ $word != = && ${COMP_WORDS[COMP_CWORD - 1]} != = && ${kinds:place:1} == f ]]; then
+        compopt -o filenames
+        mapfile -t COMPREPLY < <(compgen -f -- "$word")
     fi
 }
 complete -F _celdrinn celdrinn ./celdrinn

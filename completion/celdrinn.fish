@@ -1,34 +1,43 @@
 # Completion of celdrinn's words in fish. Load it by: source completion/celdrinn.fish
+# It is made by packaging/words.sh.
 
-# Whether the word at the cursor is a name of a file: so many names come first, of which some are numbers, and then options.
+# Whether the word at the cursor is a name of a file. Options may stand anywhere, so names are counted.
 function __celdrinn_wants_file
     set -l given (commandline -opc)
-    set -l place (math (count $given) - 1)
-    set -l first 1
-    set -l last 3
+    set -l kinds
     switch "$given[2]"
-        case simplify check
-        case rebuild refute
-            set last 5
-        case annotate solve
-            set last 4
+        case simplify
+            set kinds f f f
+        case check
+            set kinds f f f
+        case rebuild
+            set kinds f f f f f
+        case annotate
+            set kinds f f f f
+        case refute
+            set kinds f f f f f
         case validate
-            set last 2
+            set kinds f f
+        case solve
+            set kinds f f f f
         case gen
-            set first 3
+            set kinds n n f
         case demo
-            set first 3
-            set last 5
+            set kinds n n f f f
+        case mend
+            set kinds f f
         case '*'
             return 1
     end
-    test $place -ge $first -a $place -le $last
+    set -l names (string match -v -- '-*' $given[3..-1])
+    set -l place (math (count $names) + 1)
+    test $place -le (count $kinds); and test "$kinds[$place]" = f
 end
 
 # Whether options of this command may stand at the cursor.
 function __celdrinn_wants_option
     set -l given (commandline -opc)
-    contains -- "$given[2]" $argv; and not __celdrinn_wants_file
+    contains -- "$given[2]" $argv
 end
 
 function __celdrinn_is_first
@@ -43,20 +52,25 @@ end
 complete -c celdrinn -f
 complete -c celdrinn -n __celdrinn_wants_file -F
 for where in __celdrinn_is_first __celdrinn_is_help
-    complete -c celdrinn -n $where -a simplify -d 'Write a simpler formula and a log of every change'
-    complete -c celdrinn -n $where -a check -d 'Check that a log leads from one formula to the other'
-    complete -c celdrinn -n $where -a rebuild -d 'Carry Skolem circuits of the output back to the input'
-    complete -c celdrinn -n $where -a annotate -d 'Check a log and write it with hints'
-    complete -c celdrinn -n $where -a refute -d 'Carry Herbrand circuits of a false output back to the input'
-    complete -c celdrinn -n $where -a validate -d 'Say whether circuits are Skolem functions'
-    complete -c celdrinn -n $where -a solve -d 'Simplify and decide a small formula'
-    complete -c celdrinn -n $where -a gen -d 'Write a formula made from a number'
-    complete -c celdrinn -n $where -a demo -d 'gen, simplify and check, one after the other'
+    complete -c celdrinn -n $where -a simplify -d 'writes a simpler formula OUT and a QRAT log of every change'
+    complete -c celdrinn -n $where -a check -d 'checks that LOG leads from IN to OUT by valid steps'
+    complete -c celdrinn -n $where -a rebuild -d 'carries Skolem circuits of OUT back to circuits of IN'
+    complete -c celdrinn -n $where -a annotate -d 'checks LOG and writes it with hints'
+    complete -c celdrinn -n $where -a refute -d 'carries Herbrand circuits of a false OUT back to IN'
+    complete -c celdrinn -n $where -a validate -d 'says whether circuits are Skolem functions of IN'
+    complete -c celdrinn -n $where -a solve -d 'simplifies and decides a small formula, with circuits'
+    complete -c celdrinn -n $where -a gen -d 'writes a random formula of SIZE clauses'
+    complete -c celdrinn -n $where -a demo -d 'does gen, simplify and check, one after the other'
+    complete -c celdrinn -n $where -a mend -d 'writes a formula anew where it is not quite of the form that is read'
 end
-complete -c celdrinn -n __celdrinn_is_help -a causes -d 'What the causes of a refusal mean'
-complete -c celdrinn -n __celdrinn_is_first -a help -d 'Print the commands, or the options of one'
-complete -c celdrinn -n __celdrinn_is_first -l help -d 'Print the commands'
-complete -c celdrinn -n __celdrinn_is_first -l version -d 'Print the version and what it was proved with'
-complete -c celdrinn -n '__celdrinn_wants_option simplify validate solve' -a --budget= -d 'Stop after so much'
-complete -c celdrinn -n '__celdrinn_wants_option simplify' -a --grow= -d 'By how much an elimination may let the formula grow'
-complete -c celdrinn -n '__celdrinn_wants_option simplify' -a --expand= -d 'By how much an expansion may let the formula grow'
+complete -c celdrinn -n __celdrinn_is_help -a causes -d 'what the causes of a refusal mean'
+complete -c celdrinn -n __celdrinn_is_first -a help -d 'prints the commands, or the options of one'
+complete -c celdrinn -n __celdrinn_is_first -l help -d 'prints the commands'
+complete -c celdrinn -n __celdrinn_is_first -l version -d 'prints the version and what it was proved with'
+complete -c celdrinn -n '__celdrinn_wants_option simplify validate solve' -a --budget= -d 'stops after so much'
+complete -c celdrinn -n '__celdrinn_wants_option simplify' -a --grow= -d 'by how much an elimination may let the formula grow'
+complete -c celdrinn -n '__celdrinn_wants_option simplify' -a --expand= -d 'by how much an expansion may let the formula grow'
+complete -c celdrinn -n '__celdrinn_wants_option simplify' -a --best -d 'tries large expansions beside it, for so many seconds, and keeps the better end'
+complete -c celdrinn -n '__celdrinn_wants_option simplify rebuild annotate refute solve mend' -a --force -d 'writes over a formula that is there'
+complete -c celdrinn -n '__celdrinn_wants_option simplify check rebuild annotate refute validate solve gen demo mend' -a --quiet -d 'says nothing that is no answer'
+complete -c celdrinn -n '__celdrinn_wants_option simplify check rebuild annotate refute validate solve gen demo mend' -a --verbose -d 'says what it does, wherever standard error leads'

@@ -55,6 +55,7 @@ rm -rf "$lib"
 put 755 "$lib" celdrinn
 put_as 755 "$program" "$lib/program"
 put 644 "$lib" VERSION
+put 644 "$lib/launcher" launcher/*
 put 644 "$lib/help" help/*.txt
 # The library for programs in C, where it is there.
 if [ -f dist/libceldrinn-x86_64-linux.a ]; then

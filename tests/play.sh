@@ -13,9 +13,11 @@ mkdir "$work/bin"
 ln -s "${CELDRINN:-$top/celdrinn}" "$work/bin/celdrinn"
 PATH=$work/bin:$PATH
 CELDRINN_PROGRESS=0
+# where a checkout is called, what the launcher notes goes with the rest
+XDG_CACHE_HOME=$work/cache
 CELDRINN=$work/bin/celdrinn
 examples=${EXAMPLES:-$top/examples}
-export PATH CELDRINN CELDRINN_PROGRESS examples top
+export PATH CELDRINN CELDRINN_PROGRESS XDG_CACHE_HOME examples top
 passed=0 failed=0 skipped=0
 
 # Closes a row: `name` is it, `why` says what is wrong, `missing` what is missing.

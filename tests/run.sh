@@ -45,6 +45,15 @@ play_version() {
     fi
 }
 
+# The completions and the list of commands are what the table of words says.
+play_words() {
+    if packaging/words.sh --check >"$work/words" 2>&1; then
+        echo "ok the completions and the help are those of launcher/words.txt"
+    else
+        echo "wrong words: $(head -n 1 "$work/words")"
+    fi
+}
+
 # What is played is an installation, so that nothing is built.
 packaging/install.sh "$work/there" || exit 1
 CELDRINN=${CELDRINN:-$work/there/bin/celdrinn}
@@ -54,6 +63,7 @@ if [ -x bench/sources.sh ] && [ "$(bench/sources.sh)" != "$(cat dist/SOURCES)" ]
 fi
 play_rows >"$work/rows" && count "$work/rows"
 play_version >"$work/versions" && count "$work/versions"
+play_words >"$work/said" && count "$work/said"
 tests/pages.sh README.md docs/TUTORIAL.md >"$work/pages.rows"
 for table in tests/*.rows "$work/pages.rows"; do
     tests/play.sh "$table" | sed '$d' >"$work/table"

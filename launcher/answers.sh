@@ -1,0 +1,196 @@
+# shellcheck shell=sh
+# Runs the program, and says what its answer means: the program's words speak of IN and OUT, and here stand the names of the files and the
+# numbers that are wrong, in the form `NAME:LINE: ..` at which editors jump.
+
+# Prints a line and ends with a status.
+answer() {
+    if ! printf '%s\n' "$1" 2>/dev/null; then
+        say "writing to standard output failed"
+        finish 5
+    fi
+    finish "$2"
+}
+finish() {
+    [ -z "$work" ] || rm -rf "$work"
+    exit "$1"
+}
+
+# A signal ends the program, and then the launcher as if it had none of this.
+child='' beside=''
+stop() {
+    trap - EXIT
+    [ -z "$child" ] || kill -TERM "$child" 2>/dev/null
+    [ -z "$beside" ] || kill -TERM "$beside" 2>/dev/null
+    [ -z "$child" ] || wait "$child" 2>/dev/null
+    end_streams 2>/dev/null
+    [ -z "$work" ] || rm -rf "$work"
+    trap - "$1"
+    kill -"$1" $$
+}
+
+# The program ends with the launcher, however that ends, where the system can see to it.
+tie() {
+    tied=
+    if setpriv --pdeathsig TERM true 2>/dev/null; then tied='setpriv --pdeathsig TERM'; fi
+}
+
+# Runs the program with the words of a command, and sets `line`, `status`, and `words`, a file with what it said, or nothing where that
+# went to a terminal.
+run() {
+    words=
+    case ${CELDRINN_PROGRESS-} in
+        0) words=$work/words ;;
+        1) ;;
+        *) [ -t 2 ] || words=$work/words ;;
+    esac
+    # A limit on the size of files makes a write fail, and doesn't kill the program.
+    trap '' XFSZ 2>/dev/null
+    # Large pages, where the system has them: look-ups all over a large formula wait less for memory.
+    GLIBC_TUNABLES=${GLIBC_TUNABLES:-glibc.malloc.hugetlb=1}
+    export GLIBC_TUNABLES
+    tie
+    spare_number && eval "exec $number<&0"
+    (
+        eval "exec <&$number" && close_ours
+        [ -z "$words" ] || exec 2>"$words"
+        exec $tied "$program" "$@" >"$work/line"
+    ) &
+    child=$!
+    wait "$child"
+    status=$?
+    child=
+    line=$(cat "$work/line")
+    [ -z "$line" ] || return 0
+    [ "$status" -gt 128 ] || starts "$program" || { say "$why_not" && finish 70; }
+    say "the program ended with $status and no answer"
+    finish "$status"
+}
+
+# Mends a formula from standard input, whose name is said: what it is then goes to files, and what is said to `notes`. Fails where there is doubt.
+mends() {
+    LC_ALL=C tr '\000\r\f\v\032' '\001 \002\002\003' |
+        NAME=$1 LC_ALL=C awk -v body="$work/body" -v head="$work/head" -v count="$work/count" -f "$parts/mend.awk" 2>"$work/notes"
+}
+
+# The name that a role has in this call.
+named() { eval "printf '%s' \"\${name_$1-}\""; }
+
+# Says where and why: a name, perhaps a line, and words.
+tell() {
+    if [ $# -gt 2 ]; then printf '%s:%s: %s\n' "$1" "$2" "$3"; else printf '%s: %s\n' "$1" "$2"; fi >&2
+}
+
+# The program's words behind the place that they name, where they were kept.
+kept_words() { [ -z "$words" ] || sed -n -e 's/^celdrinn: [^:]*, line [0-9]*: //p' "$words" | head -n 1; }
+
+# What is wrong in a line of a file: its role, kind, line and cause.
+explain_line() {
+    name=$(named "$1")
+    kept=$(kept_words)
+    more=
+    if [ -f "$name" ]; then
+        more=$(unpacked "$name" 2>/dev/null | LC_ALL=C tr '\000\r' '\001 ' | LC_ALL=C awk -v kind="$2" -v at="$3" -v cause="$4" -f "$parts/explain.awk" 2>/dev/null)
+        [ "$2" != formula ] || ! unpacked "$name" 2>/dev/null | mends "$name" || more="$more; 'celdrinn mend $name OUT' writes it anew"
+    fi
+    [ -z "$kept" ] || [ -z "$more" ] || kept="$kept: "
+    [ -n "$kept$more" ] || kept="the first offence is here"
+    tell "$name" "$3" "$kept$more"
+}
+
+# Says of an answer what it means.
+explain() {
+    # shellcheck disable=SC2086
+    set -- $line
+    case $line in
+        input\ IN\ line*) explain_line IN formula "$4" "$6" ;;
+        input\ OUT\ line*) explain_line OUT formula "$4" "$6" ;;
+        refused\ line*) explain_line "$(log_role)" log "$3" "$5" ;;
+        refused\ end\ cause\ 9) tell "$(named LOG)" "all its steps are valid, but they end with other quantifier blocks than $(named OUT) has" ;;
+        refused\ end\ cause\ 10) tell "$(named LOG)" "all its steps are valid, but they end with other clauses than $(named OUT) has" ;;
+        refused\ end\ cause\ 11) tell "$(named PROOF)" "no step of it makes the empty clause" ;;
+        extended\ line*) explain_line "$(log_role)" log "$3" extended ;;
+        circuits\ line*) explain_line "$(circuits_role)" circuits "$3" "$5" ;;
+        circuits\ missing*) tell "$(named "$(circuits_role)")" "variable $3 of $(named "$(formula_role)") needs a circuit, and here is none" ;;
+        circuits\ strange\ output*) tell "$(named "$(circuits_role)")" "here is a circuit for $4, which needs none in $(named "$(formula_role)")" ;;
+        circuits\ strange\ input*) tell "$(named "$(circuits_role)")" "a circuit reads $4, which none of $(named "$(formula_role)") can depend on" ;;
+        circuits\ *\ reads*) tell "$(named "$(circuits_role)")" "the circuit of $2 reads $4, which does not stand before $2 in $(named "$(formula_role)")" ;;
+        circuits\ of\ a\ false*) tell "$(named OUT)" "the empty clause stands here, so it is false and has no Skolem functions ('celdrinn refute' is for false formulas)" ;;
+        circuits\ of\ a\ true*) tell "$(named OUT)" "no clause stands here, so it is true and has no Herbrand functions ('celdrinn rebuild' is for true formulas)" ;;
+        unknown) say "the budget was spent before there was an answer; a larger --budget may give one, and without it there is no bound" ;;
+        'too large') say "what would be written is larger than is read" ;;
+        'no memory') say "memory ran out; a smaller --budget or --expand wants less" ;;
+        'write fault' | 'read fault') explain_fault ;;
+        usage) ;;
+        *) [ -z "$words" ] || cat "$words" >&2 ;;
+    esac
+}
+# The program says which file a write failed in, but not which one could not be opened.
+explain_fault() {
+    if [ -z "$words" ]; then return; fi
+    if [ -s "$words" ]; then
+        sed "s#$work/\([A-Z]*\)'#\1'#" "$words" >&2
+    elif [ "$line" = 'write fault' ]; then
+        for role in OUT LOG CERT HINTED IN; do
+            name=$(named $role)
+            why=
+            case $name in '' | - | none) continue ;; esac
+            [ -e "$name" ] || why=$(LC_ALL=C dd if=/dev/null of="$name" count=0 2>&1 | sed -n 's/^dd: .*: //p')
+            [ -z "$why" ] || say "can't write '$name': $why"
+        done
+    fi
+}
+log_role() { if [ -n "${name_PROOF-}" ]; then echo PROOF; elif [ -n "${name_TRACE-}" ]; then echo TRACE; else echo LOG; fi; }
+circuits_role() { case $command in rebuild) echo SKOLEM ;; refute) echo HERBRAND ;; *) echo CERT ;; esac; }
+formula_role() { case $command in rebuild | refute) echo OUT ;; *) echo IN ;; esac; }
+
+is_told=''
+
+# Starts a command with its operands and names: `start OPERAND NAME ..`
+start() {
+    find_program
+    work=$(mktemp -d) || finish 5
+    trap 'stop INT' INT
+    trap 'stop TERM' TERM
+    trap 'stop HUP' HUP
+    trap 'stop QUIT' QUIT
+    trap 'rm -rf "$work"' EXIT
+    case $quiet$verbose in
+        yes*) CELDRINN_PROGRESS=0 && export CELDRINN_PROGRESS ;;
+        *yes) CELDRINN_PROGRESS=1 && export CELDRINN_PROGRESS ;;
+    esac
+    for name; do
+        case $name in /dev/fd/[3-9] | /proc/self/fd/[3-9]) given_numbers=$given_numbers${name##*/} ;; esac
+    done
+    count=$#
+    while [ "$count" -gt 0 ]; do
+        divide "$1"
+        eval "name_$role=\$2"
+        case $kind in
+            '<') read_by "$2" "$role" ;;
+            '>') write_by "$2" "$role" ;;
+            *) way=$2 ;;
+        esac
+        shift 2
+        count=$((count - 2))
+        set -- "$@" "$way"
+    done
+    # shellcheck disable=SC2086
+    case $command in
+        mend) run_mended "$@" ;;
+        simplify) if [ -n "$best" ]; then run_best "$@"; else run "$command" "$@" $passed; fi ;;
+        *) run "$command" "$@" $passed ;;
+    esac
+    end_streams
+    case $status in 0 | 2 | 10 | 20) pack_empty || write_failed=yes ;; esac
+    if [ -n "$read_failed" ]; then
+        say "a packed file could not be unpacked to its end"
+        answer 'read fault' 4
+    elif [ -n "$write_failed" ] && [ "$status" -ne 3 ]; then
+        say "a file could not be packed to its end"
+        answer 'write fault' 5
+    fi
+    [ -n "$is_told" ] || explain
+    # a line that stands beside a formula on standard error is of no use to who wants none
+    if [ -n "$is_moved" ] && [ -n "$quiet" ]; then finish "$status"; fi
+    answer "$line" "$status"
+}
