@@ -4,3 +4,5 @@ mod FedBytes
 mod ByteLimit
 mod FeedLaw
 mod PieceReads
+mod GrammarIsRead
+mod ReadIsGrammar

@@ -5,3 +5,4 @@ pub mod Reading
 pub mod Steps
 pub mod Scanning
 pub mod Offences
+pub mod Grammar

@@ -4,10 +4,12 @@
 
 mod builder;
 mod error;
+mod law;
 mod reader;
 mod trace;
 mod words;
 
 pub use error::{Cause, TraceError};
+pub use law::grammar_is_read;
 pub use reader::TraceReader;
 pub use trace::{Antecedents, Row, Trace, Verdict};
