@@ -16,11 +16,15 @@ use Rattle.q_app.specs.declared.words.Scale.{Scale}
 use Rattle.q_app.specs.Operands.{Differ}
 use Rattle.q_app.specs.Simplifying.{IsEnded, SimplifiesExactly}
 use Rattle.q_app.specs.Words.{checking, simplifying, generating, demo, options_of, nothing_set}
-use Rattle.q_app.specs.Says.{Devices, Runs, AreLater, InTurn}
-use Rattle.q_app.specs.Completeness.{IsFaultless, IsFaultlessDemo, IsShortLog, OrNoMemory, DemoCompletesAlways}
+use Rattle.q_command.specs.Devices.{Devices, AreLater}
+use Rattle.q_command.specs.Told.{Runs, IsFaultless, OrNoMemory}
+use Rattle.q_command.proofs.ToldLaws.{ToldLaws, wants, exact}
+use Rattle.q_app.specs.Told.{told}
+use Rattle.q_app.specs.Says.{InTurn}
+use Rattle.q_app.specs.Completeness.{IsFaultlessDemo, IsShortLog, DemoCompletesAlways}
 use Rattle.q_app.proofs.VerifiedFiles.{AreReread, verified}
 use Rattle.q_app.proofs.CommandSequence.{later-still}
-use Rattle.q_app.proofs.FaultFree.{wants, exact, answers}
+use Rattle.q_app.proofs.FaultFree.{laws}
 
 -- the text of a generated formula is read as this formula
 abbrev pub AreGenerated : Type 0
@@ -44,14 +48,14 @@ passed-ended s (inr (inr (inr e))) n p = n e
 
 module _ (reread : AreReread) (made : AreGenerated) (k : Scale) (n : ThreeNames) (before after : Devices) (small : k.size ≤ 100000) (d : Differ n) (q : IsFaultlessDemo n before after) (short : IsShortLog n.log after.held) where
   -- no part of a run without a fault has one
-  making-faultless : (b : Devices) → AreLater b after → IsFaultless (generating k n.input) before b
+  making-faultless : (b : Devices) → AreLater b after → IsFaultless (told (generating k n.input)) before b
   making-faultless b m = record {
     reads = λ r. r;
     writes = λ r. q.writes (inl (rose-over _ _ _ _ (omega arith) (m.write n.input) r));
     sink = λ r. q.sink (rose-over _ _ _ _ (omega arith) m.sink r);
   }
 
-  simplifying-faultless : (a b : Devices) → AreLater before a → AreLater b after → IsFaultless (simplifying n (options_of nothing_set)) a b
+  simplifying-faultless : (a b : Devices) → AreLater before a → AreLater b after → IsFaultless (told (simplifying n (options_of nothing_set))) a b
   simplifying-faultless a b l m = record {
     reads = λ r. q.reads (inl (rose-over _ _ _ _ (l.read n.input) (m.read n.input) r));
     writes = λ r. elim r [
@@ -61,7 +65,7 @@ module _ (reread : AreReread) (made : AreGenerated) (k : Scale) (n : ThreeNames)
     sink = λ r. q.sink (rose-over _ _ _ _ l.sink m.sink r);
   }
 
-  checking-faultless : (a : Devices) → AreLater before a → IsFaultless (checking n) a after
+  checking-faultless : (a : Devices) → AreLater before a → IsFaultless (told (checking n)) a after
   checking-faultless a l = record {
     reads = λ r. elim r [
       | inl o ↦ q.reads (inl (rose-over _ _ _ _ (l.read n.input) (omega arith) o))
@@ -73,24 +77,24 @@ module _ (reread : AreReread) (made : AreGenerated) (k : Scale) (n : ThreeNames)
   }
 
   -- the log is the one that was written, so it is verified
-  checked : (given second : Status) (a b : Devices) (one : Disk) → a.held ≡ Some one → AreLater before b → SimplifiesExactly second (options_of nothing_set) n.input n.output n.log one b.held → IsEnded second → Runs (Some (checking n)) b given after → OrNoMemory given status.Done
+  checked : (given second : Status) (a b : Devices) (one : Disk) → a.held ≡ Some one → AreLater before b → SimplifiesExactly second (options_of nothing_set) n.input n.output n.log one b.held → IsEnded second → Runs (told (checking n)) b given after → OrNoMemory given status.Done
   checked given second a b one t l x e r =
       let w = x.ended e in
       let s = w.1.2 in
       let two : Disk = s.disk in
-      let told : b.held ≡ Some two = s.told in
-      let limit : length (bytes_at two n.log) ≤ 1099511627776 = short two (r.unchanged ∙ told) in
+      let stands : b.held ≡ Some two = s.told in
+      let limit : length (bytes_at two n.log) ≤ 1099511627776 = short two (r.unchanged ∙ stands) in
       let good : IsVerified (bytes_at two n.input) (bytes_at two n.output) (bytes_at two n.log) =
-      verified reread (options_of nothing_set) w.1.0 w.0 n.input n.output n.log one two d.input_output d.input_log w.1.1 (subst (λ (o : Option Disk). Simplifies (options_of nothing_set) w.1.0 w.0 n.output n.log one o) told s) limit in
-      let g : AnswersExactly given (bytes_at two n.input) (bytes_at two n.output) (bytes_at two n.log) = at_some _ b.held r.gives two told in
-      exact given status.Done _ (wants (checking n) b given after r (checking-faultless b l)) g.verified good
+      verified reread (options_of nothing_set) w.1.0 w.0 n.input n.output n.log one two d.input_output d.input_log w.1.1 (subst (λ (o : Option Disk). Simplifies (options_of nothing_set) w.1.0 w.0 n.output n.log one o) stands s) limit in
+      let g : AnswersExactly given (bytes_at two n.input) (bytes_at two n.output) (bytes_at two n.log) = at_some _ b.held r.gives two stands in
+      exact given status.Done _ (wants (told (checking n)) b given after r (checking-faultless b l)) g.verified good
 
   -- from the simplification on
   simplified : (given : Status) (a : Devices) (one : Disk) → a.held ≡ Some one → AreLater before a → IsFileOf (bytes_at one n.input) (Generated k.seed k.size) → InTurn (simplifying n (options_of nothing_set) ∷ checking n ∷ []) a given after → OrNoMemory given status.Done
   simplified given a one t l f (second, b, r, u, v, rest) =
       let x : SimplifiesExactly second (options_of nothing_set) n.input n.output n.log one b.held = at_some _ a.held r.gives one t in
-      let m = wants (simplifying n (options_of nothing_set)) a second b r (simplifying-faultless a b l v) in
-      let y = answers (simplifying n (options_of nothing_set)) one second b.held m x (Generated k.seed k.size) f in
+      let m = wants (told (simplifying n (options_of nothing_set))) a second b r (simplifying-faultless a b l v) in
+      let y = (laws (simplifying n (options_of nothing_set))).answers second one b.held m x (Generated k.seed k.size) f in
       go y.0 (y.1 tt) x rest
     where
       go : (IsEnded second ⊎ (second ≡ status.NoMemory)) → second ≢ status.Spent → SimplifiesExactly second (options_of nothing_set) n.input n.output n.log one b.held → ((passes second ≡ true) × InTurn (checking n ∷ []) b given after) ⊎ ((passes second ≡ false) × (given ≡ second) × (after ≡ b)) → OrNoMemory given status.Done
@@ -103,8 +107,8 @@ module _ (reread : AreReread) (made : AreGenerated) (k : Scale) (n : ThreeNames)
   shown : (given : Status) (disk : Disk) → before.held ≡ Some disk → InTurn (demo k n) before given after → OrNoMemory given status.Done
   shown given disk t (first, a, r, u, v, rest) =
       let x = at_some _ before.held r.gives disk t in
-      let m = wants (generating k n.input) before first a r (making-faultless a v) in
-      go (answers (generating k n.input) disk first a.held m x) rest
+      let m = wants (told (generating k n.input)) before first a r (making-faultless a v) in
+      go ((laws (generating k n.input)).answers first disk a.held m x) rest
     where
       go : OrNoMemory first status.Done → ((passes first ≡ true) × InTurn (simplifying n (options_of nothing_set) ∷ checking n ∷ []) a given after) ⊎ ((passes first ≡ false) × (given ≡ first) × (after ≡ a)) → OrNoMemory given status.Done
       go (inl e) (inl (p, i)) =

@@ -5,8 +5,10 @@ use Rattle.q_io.specs.Files.{Disk}
 use Rattle.q_dimacs.specs.Writing.{formula_text}
 use Rattle.q_gen.specs.Generated as gen
 use Rattle.q_gen.specs.Outputs.{HoldsGenerated, HoldsGeneratedPart}
-use Rattle.q_app.specs.Generating.{status_of_generated, Generates, GeneratesExactly}
+use Rattle.q_app.specs.Generating.{status_of_generated, Generates, GeneratesExactly, told}
 use Rattle.q_command.specs.Sinks.{SinkView, IsDue}
+use Rattle.q_command.proofs.ToldLaws.{ToldLaws}
+use Rattle.q_app.proofs.CommandLines.{generate-usage}
 use Rattle.q_app.specs.declared.words.Scale.{Scale}
 use Rattle.q_app.specs.declared.generated.Generated.{Generated}
 use Rattle.q_app.specs.declared.generated.Generated.TheVariants.{Written, WriteFault, NoMemory}
@@ -43,3 +45,10 @@ module _ (given : Status) (k : Scale) (name : List ℕ) (before : Disk) (after :
   generate-answers due old new h (inl e) = due-answers due h e
   generate-answers due old new h (inr (inl e)) = failed (inl e.0) (stands due h)
   generate-answers due old new h (inr (inr e)) = failed (inr e.0) (stands due h)
+
+pub laws : (k : Scale) (name : List ℕ) → ToldLaws (told k name)
+laws k name = record {
+  gives = λ o given disk after old new h d. generate-answers given k name disk after o old new h d;
+  no_usage = generate-usage;
+  answers = λ given disk after m g. elim g.any [ inl e ↦ inl e | inr (inl e) ↦ inr (m (inr (inl e))) | inr (inr e) ↦ inr e ];
+}

@@ -9,12 +9,12 @@ use Rattle.q_io.specs.declared.error.DeviceError.TheVariants as device
 use Rattle.q_command.specs.declared.circuits.CircuitsError.{CircuitsError}
 use Rattle.q_command.specs.declared.circuits.CircuitsError.TheVariants as unread
 use Rattle.q_command.specs.Texts.{IsNoText, LeavesCircuits, MayHoldCircuits}
-use Rattle.q_app.specs.Rebuilds.{FiveNames, five, AreCarried, AreRefused, Fails, CircuitsFail, FaultsReading, IsOfCircuits, IsPart, Puts, Rebuilds, failed_write, no_circuits}
+use Rattle.q_app.specs.Rebuilds.{FiveNames, error_of, five, AreCarried, AreRefused, Fails, CircuitsFail, FaultsReading, IsOfCircuits, IsPart, Puts, Rebuilds, failed_write, no_circuits}
 use Rattle.q_command.specs.declared.checking.Checked.{Checked}
 use Rattle.q_rebuild.specs.declared.error.RebuildError.{RebuildError}
 use Rattle.q_rebuild.specs.declared.error.RebuildError.TheVariants as refusal
 use Rattle.q_app.specs.declared.rebuilt.Rebuilt.{Rebuilt}
-use Rattle.q_app.specs.declared.rebuilt.Rebuilt.TheVariants.{Written, Unverified, RefusedText, MissingOutput, StrangeOutput, StrangeInput, Reads, FalseOutput, ReadFault, WriteFault, NoMemory}
+use Rattle.q_app.specs.declared.rebuilt.Rebuilt.TheVariants.{Written, Unverified, RefusedText, RefusedCircuits, FalseOutput, ReadFault, WriteFault, NoMemory}
 
 -- what `rebuild` has kept of the log
 abbrev undo_alone : Keep
@@ -42,10 +42,7 @@ module _ (n : FiveNames) (before : Disk) (after : Option Disk) (c : Checked) (ma
   }
   rebuilds (Unverified o) h = elim h [ ]
   rebuilds (RefusedText k c) h = elim h [ ]
-  rebuilds (MissingOutput v) h = elim h [ ]
-  rebuilds (StrangeOutput v) h = elim h [ ]
-  rebuilds (StrangeInput v) h = elim h [ ]
-  rebuilds (Reads v u) h = elim h [ ]
+  rebuilds (RefusedCircuits w) h = elim h [ ]
   rebuilds FalseOutput h = elim h [ ]
   rebuilds ReadFault h = elim h [ ]
   rebuilds WriteFault h = part h
@@ -104,10 +101,7 @@ module _ (n : FiveNames) (before : Disk) (after : Option Disk) (c : Checked) (p 
     h,
     same,
   )
-  failing (MissingOutput v) h = (refused (refusal.MissingOutput v) h, same)
-  failing (StrangeOutput v) h = (refused (refusal.StrangeOutput v) h, same)
-  failing (StrangeInput v) h = (refused (refusal.StrangeInput v) h, same)
-  failing (Reads v u) h = (refused (refusal.Reads v u) h, same)
+  failing (RefusedCircuits w) h = (refused (error_of w) h, same)
   failing FalseOutput h = (refused refusal.FalseOutput h, same)
   failing ReadFault h = same
   failing WriteFault h = absurd h

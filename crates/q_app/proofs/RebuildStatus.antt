@@ -16,13 +16,17 @@ use Rattle.q_command.specs.Checks.{Checks, IsFileOf, IsUnverified, IsVerified, M
 use Rattle.q_app.specs.RebuiltLines.{status_of_rebuilt}
 use Rattle.q_command.specs.Sinks.{SinkView, IsDue}
 use Rattle.q_command.specs.Statuses.{status_of}
-use Rattle.q_app.specs.Rebuilds.{FiveNames, OfCircuits, IsWhole, IsPart, AreRefused, OfVerified, Rebuilds, AreNoCircuits, IsUnfit, AreFitting, AreSkolem, IsUntouched, RebuildsExactly}
+use Rattle.q_app.specs.Rebuilds.{FiveNames, error_of, OfCircuits, IsWhole, IsPart, AreRefused, OfVerified, Rebuilds, AreNoCircuits, IsUnfit, AreFitting, AreSkolem, IsUntouched, RebuildsExactly, told}
 use Rattle.q_command.specs.declared.outcome.Outcome.{Outcome}
 use Rattle.q_command.specs.declared.status.Status.{Status}
+use Rattle.q_command.specs.declared.unfit.Unfit.{Unfit}
+use Rattle.q_command.specs.declared.unfit.Unfit.TheVariants as unfit
 use Rattle.q_command.specs.declared.status.Status.TheVariants as status
 use Rattle.q_app.specs.declared.rebuilt.Rebuilt.{Rebuilt}
-use Rattle.q_app.specs.declared.rebuilt.Rebuilt.TheVariants.{Written, Unverified, RefusedText, MissingOutput, StrangeOutput, StrangeInput, Reads, FalseOutput, ReadFault, WriteFault, NoMemory}
+use Rattle.q_app.specs.declared.rebuilt.Rebuilt.TheVariants.{Written, Unverified, RefusedText, RefusedCircuits, FalseOutput, ReadFault, WriteFault, NoMemory}
 use Rattle.q_command.proofs.FileFormulas.{file-formula}
+use Rattle.q_command.proofs.ToldLaws.{ToldLaws, exact}
+use Rattle.q_app.proofs.CommandLines.{rebuild-usage}
 use Rattle.q_command.proofs.CheckStatus.{answers, one_formula, unverified-truth, unverified-not_done, unverified-not_circuits, verified-run, verified-formulas}
 
 -- circuits of one file are such as a formula of one file may have, or none are
@@ -185,23 +189,23 @@ module _ (answer : Status) (n : FiveNames) (before : Disk) (after : Option Disk)
       })
   stands (Unverified o) h = inl h.2
   stands (RefusedText k c) h = inl h.2
-  stands (MissingOutput v) h = inl h.1
-  stands (StrangeOutput v) h = inl h.1
-  stands (StrangeInput v) h = inl h.1
-  stands (Reads v u) h = inl h.1
+  stands (RefusedCircuits w) h = inl h.1
   stands FalseOutput h = inl h.1
   stands ReadFault h = inl h
   stands WriteFault h = inr h
   stands NoMemory h = h
 
+  not-memory : (w : Unfit) → error_of w ≡ refusal.NoMemory → ⊥
+  not-memory (unfit.MissingOutput v) e = cc
+  not-memory (unfit.StrangeOutput v) e = cc
+  not-memory (unfit.StrangeInput v) e = cc
+  not-memory (unfit.Reads v u) e = cc
+
   due-answers : (due : Rebuilt) → Rebuilds due n before after → answer ≡ status_of_rebuilt due → Result
   due-answers (Written g) h e = whole g h e
   due-answers (Unverified o) h e = unverified o h.0 h.1 h.2 e
   due-answers (RefusedText k c) h e = refused (inl (h.0, offence-none (bytes_at before n.skolem) k c h.1)) h.2 e
-  due-answers (MissingOutput v) h e = refused-cause (refusal.MissingOutput v) (λ x. cc) h.0 h.1 e
-  due-answers (StrangeOutput v) h e = refused-cause (refusal.StrangeOutput v) (λ x. cc) h.0 h.1 e
-  due-answers (StrangeInput v) h e = refused-cause (refusal.StrangeInput v) (λ x. cc) h.0 h.1 e
-  due-answers (Reads v u) h e = refused-cause (refusal.Reads v u) (λ x. cc) h.0 h.1 e
+  due-answers (RefusedCircuits w) h e = refused-cause (error_of w) (not-memory w) h.0 h.1 e
   due-answers FalseOutput h e = refused-cause refusal.FalseOutput (λ x. cc) h.0 h.1 e
   due-answers ReadFault h e = faulty (inl e) (λ x. h) (λ x. inl h)
   due-answers WriteFault h e = faulty (inr (inl e)) (λ x. let w : status.WriteFault ≡ status.ReadFault = sym e ∙ x in cc) (λ x. inr h)
@@ -211,3 +215,10 @@ module _ (answer : Status) (n : FiveNames) (before : Disk) (after : Option Disk)
   rebuild-answers due old new h (inl e) = due-answers due h e
   rebuild-answers due old new h (inr (inl e)) = faulty (inr (inl e.0)) (λ x. let w : status.WriteFault ≡ status.ReadFault = sym e.0 ∙ x in cc) (λ x. stands due h)
   rebuild-answers due old new h (inr (inr e)) = faulty (inr (inr e.0)) (λ x. let w : status.NoMemory ≡ status.ReadFault = sym e.0 ∙ x in cc) (λ x. stands due h)
+
+pub laws : (n : FiveNames) → ToldLaws (told n)
+laws n = record {
+  gives = λ o given disk after old new h d. rebuild-answers given n disk after o old new h d;
+  no_usage = rebuild-usage;
+  answers = λ given disk after m g. exact given status.Done _ m g.done;
+}

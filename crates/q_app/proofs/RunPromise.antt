@@ -5,12 +5,15 @@ use Rattle.q_simplify.specs.declared.options.Options.{Options}
 use Rattle.q_command.specs.Names.{ThreeNames, three_of}
 use Rattle.q_command.specs.declared.status.Status.{Status}
 use Rattle.q_app.specs.declared.words.Command.{Command as Parsed}
-use Rattle.q_app.specs.declared.words.Command.TheVariants.{Check, Simplify, Rebuild, Generate, Solve, Annotate, Refute, Validate, Demo}
+use Rattle.q_app.specs.declared.words.Command.TheVariants.{Simplify, Demo}
 use Rattle.q_app.specs.declared.words.Scale.{Scale}
 use Rattle.q_app.specs.Operands.{Differ}
 use Rattle.q_app.specs.Words.{Command, simplifying, demo, Request}
 use Rattle.q_app.specs.Commands.{IsFit, commands_of}
-use Rattle.q_app.specs.Says.{Devices, Runs, InTurn}
+use Rattle.q_command.specs.Devices.{Devices}
+use Rattle.q_command.specs.Told.{Runs}
+use Rattle.q_app.specs.Told.{told}
+use Rattle.q_app.specs.Says.{InTurn}
 use Rattle.q_app.specs.Promises.{SimplifyEnds, AnswerComes, DemoPasses}
 use Rattle.q_app.proofs.VerifiedFiles.{AreReread}
 use Rattle.q_app.proofs.ThreeCommands.{simplified}
@@ -18,7 +21,7 @@ use Rattle.q_app.proofs.FaultFree.{completes}
 use Rattle.q_app.proofs.DemoPasses.{AreGenerated, demo-completes}
 
 -- the only command of a request
-the-command : (cs : List Command) (c : Command) (before : Devices) (given : Status) (after : Devices) → cs ≡ c ∷ [] → InTurn cs before given after → Runs (Some c) before given after
+the-command : (cs : List Command) (c : Command) (before : Devices) (given : Status) (after : Devices) → cs ≡ c ∷ [] → InTurn cs before given after → Runs (told c) before given after
 the-command cs c before given after e h = subst (λ (ds : List Command). InTurn ds before given after) e h
 
 requested : (r : Option (List Command)) (cs ds : List Command) → r ≡ Some cs → r ≡ Some ds → cs ≡ ds
@@ -27,14 +30,7 @@ requested r cs ds e f = let w : Some cs ≡ Some ds = sym e ∙ f in cc
 -- the names of a simplification differ
 differ-in : (k : Parsed) (n : ThreeNames) (o : Options) → IsFit k → commands_of k ≡ simplifying n o ∷ [] → Differ n
 differ-in (Simplify m p) n o f e = let w : three_of m ≡ n = cc in subst (λ (x : ThreeNames). Differ x) w f
-differ-in (Check m) n o f e = cc
-differ-in (Rebuild m) n o f e = cc
-differ-in (Generate k m) n o f e = cc
-differ-in (Validate m b) n o f e = cc
-differ-in (Refute m) n o f e = cc
-differ-in (Annotate m) n o f e = cc
-differ-in (Solve m b) n o f e = cc
-differ-in (Demo k m) n o f e = cc
+differ-in k n o f e = cc
 
 pub simplify-ends : AreReread → (k : Parsed) (r : Request) (before : Devices) (given : Status) (after : Devices) → IsFit k → r ≡ Some (commands_of k) → InTurn (commands_of k) before given after → SimplifyEnds r before given after
 simplify-ends reread k r before given after f e h n o w =
@@ -53,14 +49,7 @@ demo-in (Demo j m) k n f e =
     let v : j ≡ k = cc in
     let w : three_of m ≡ n = cc in
     (subst (λ (x : Scale). x.size ≤ 100000) v f.0, subst (λ (x : ThreeNames). Differ x) w f.1)
-demo-in (Check m) k n f e = cc
-demo-in (Simplify m o) k n f e = cc
-demo-in (Rebuild m) k n f e = cc
-demo-in (Generate j m) k n f e = cc
-demo-in (Validate m b) k n f e = cc
-demo-in (Refute m) k n f e = cc
-demo-in (Annotate m) k n f e = cc
-demo-in (Solve m b) k n f e = cc
+demo-in p k n f e = cc
 
 pub demo-passes : AreReread → AreGenerated → (p : Parsed) (r : Request) (before : Devices) (given : Status) (after : Devices) → IsFit p → r ≡ Some (commands_of p) → InTurn (commands_of p) before given after → DemoPasses r before given after
 demo-passes reread made p r before given after f e h k n w =

@@ -10,8 +10,11 @@ use Rattle.q_simplify.specs.declared.report.Ending.TheVariants as ending
 use Rattle.q_simplify.specs.Results.{IsEnoughFor}
 use Rattle.q_simplify.proofs.BothFiles.{leaves-whole, never-spent}
 use Rattle.q_app.specs.Statuses.{status_of_ending, status_of_simplified}
+use Rattle.q_command.specs.Names.{ThreeNames}
 use Rattle.q_command.specs.Sinks.{SinkView, IsDue}
-use Rattle.q_app.specs.Simplifying.{IsWritten, IsLeft, Ends, IsEnded, SimplifiesExactly}
+use Rattle.q_command.proofs.ToldLaws.{ToldLaws}
+use Rattle.q_app.proofs.CommandLines.{simplify-usage}
+use Rattle.q_app.specs.Simplifying.{IsWritten, IsLeft, Ends, IsEnded, SimplifiesExactly, told}
 use Rattle.q_command.specs.declared.status.Status.{Status}
 use Rattle.q_command.specs.declared.status.Status.TheVariants as status
 use Rattle.q_app.specs.declared.simplified.Simplified.{Simplified}
@@ -133,3 +136,11 @@ module _ (answer : Status) (o : Options) (i on ln : List ℕ) (before : Disk) (a
   simplify-answers due old new h (inl e) = due-answers due h e
   simplify-answers due old new h (inr (inl e)) = write-fault (stands due h) e.0
   simplify-answers due old new h (inr (inr e)) = no-memory (stands due h) e.0
+
+pub laws : (n : ThreeNames) (o : Options) → ToldLaws (told n o)
+laws n o = record {
+  gives = λ due given disk after old new h d. simplify-answers given o n.input n.output n.log disk after due old new h d;
+  no_usage = simplify-usage;
+  answers = λ given disk after m g F f.
+      (elim g.any [ inl e ↦ inl e | inr (inl e) ↦ absurd (g.refused.0 e F f) | inr (inr e) ↦ inr (m e) ], g.enough F f);
+}

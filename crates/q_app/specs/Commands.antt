@@ -49,27 +49,17 @@ commands_of (Demo k n) = demo k (three_of n)
 
 -- such a command can be done: its numbers are within their limits, and its names differ
 abbrev pub IsFit : Parsed → Type 0
-IsFit (Check n) = Unit {0}
 IsFit (Simplify n p) = Differ (three_of n)
-IsFit (Rebuild n) = Unit {0}
 IsFit (Generate k o) = k.size ≤ 100000
-IsFit (Validate n b) = Unit {0}
-IsFit (Refute n) = Unit {0}
-IsFit (Annotate n) = Unit {0}
 IsFit (Solve n b) = DifferFour (three n.input.now n.output.now n.log.now) n.cert.now
 IsFit (Demo k n) = (k.size ≤ 100000) × Differ (three_of n)
+IsFit other = Unit {0}
 
 -- the bounds of the first simplification, and without one the defaults
 abbrev pub first_bounds : List Command → Bounds
 first_bounds [] = (options_of nothing_set).bounds
-first_bounds (checking n ∷ cs) = first_bounds cs
 first_bounds (simplifying n p ∷ cs) = p.bounds
-first_bounds (rebuilding n ∷ cs) = first_bounds cs
-first_bounds (generating k o ∷ cs) = first_bounds cs
-first_bounds (solving n b ∷ cs) = first_bounds cs
-first_bounds (annotating n ∷ cs) = first_bounds cs
-first_bounds (refuting n ∷ cs) = first_bounds cs
-first_bounds (validating n b ∷ cs) = first_bounds cs
+first_bounds (c ∷ cs) = first_bounds cs
 
 abbrev pub bounds_in : Request → Bounds
 bounds_in None = (options_of nothing_set).bounds

@@ -1,7 +1,8 @@
 -- What `gen` says and leaves.
-use Rattle.std.specs.Prelude.{◌≡◌, ◌⊎◌, ℕ, List, ◌++◌, codes, decimal, Option}
+use Rattle.std.specs.Prelude.{◌≡◌, ◌⊎◌, ℕ, List, [], ◌∷◌, ◌++◌, codes, decimal, Option}
 use Rattle.q_io.specs.Files.{Disk}
 use Rattle.q_gen.specs.Outputs.{HoldsGenerated, HoldsGeneratedPart}
+use Rattle.q_command.specs.Told.{Told, OrNoMemory}
 use Rattle.q_app.specs.declared.words.Scale.{Scale}
 use Rattle.q_app.specs.declared.generated.Generated.{Generated}
 use Rattle.q_app.specs.declared.generated.Generated.TheVariants.{Written, WriteFault, NoMemory}
@@ -29,3 +30,15 @@ pub record GeneratesExactly (given : Status) (k : Scale) (name : List ℕ) (befo
   pub done : given ≡ status.Done → HoldsGenerated name k.seed k.size before after
   pub left : (given ≡ status.WriteFault) ⊎ (given ≡ status.NoMemory) → HoldsGeneratedPart name k.seed k.size before after
   pub any : (given ≡ status.Done) ⊎ (given ≡ status.WriteFault) ⊎ (given ≡ status.NoMemory)
+
+abbrev pub told : Scale → List ℕ → Told
+told k name = record {
+  Outcome = Generated;
+  status_of = status_of_generated;
+  line_of = line_of_generated;
+  says = λ o disk after. Generates o k name disk after;
+  gives = λ given disk after. GeneratesExactly given k name disk after;
+  answers = λ disk given. OrNoMemory given status.Done;
+  reads = [];
+  writes = name ∷ [];
+}

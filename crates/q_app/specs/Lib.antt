@@ -9,7 +9,7 @@ pub mod Rebuilds
 pub mod RebuildWords
 pub mod Generating
 pub mod Commands
-pub mod Answers
+pub mod Told
 pub mod Says
 pub mod Headline
 pub mod Further

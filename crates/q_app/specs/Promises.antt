@@ -8,9 +8,11 @@ use Rattle.q_command.specs.Names.{ThreeNames}
 use Rattle.q_command.specs.declared.status.Status.{Status}
 use Rattle.q_app.specs.declared.words.Scale.{Scale}
 use Rattle.q_app.specs.Words.{Command, simplifying, demo, Request}
-use Rattle.q_app.specs.Says.{Devices}
+use Rattle.q_command.specs.Devices.{Devices}
+use Rattle.q_command.specs.Told.{Completes}
+use Rattle.q_app.specs.Told.{told}
 use Rattle.q_app.specs.Headline.{EndsRight}
-use Rattle.q_app.specs.Completeness.{Completes, DemoCompletes}
+use Rattle.q_app.specs.Completeness.{DemoCompletes}
 
 -- where the words ask for `simplify` and IN holds a formula, it ends, memory and faults aside, whatever the guides and the budget:
 -- with a formula that is true exactly where that of IN is, and with a log that `check` accepts
@@ -26,4 +28,4 @@ DemoPasses r before given after =
 
 -- where the words ask for one command, its answer comes if no fault does, or memory is wanting
 abbrev pub AnswerComes : Request → Devices → Status → Devices → Type 0
-AnswerComes r before given after = (c : Command) → r ≡ Some (c ∷ []) → Completes c before given after
+AnswerComes r before given after = (c : Command) → r ≡ Some (c ∷ []) → Completes (told c) before given after

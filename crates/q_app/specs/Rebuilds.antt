@@ -10,9 +10,12 @@ use Rattle.q_rebuild.specs.Moves.{KeepsMoves}
 use Rattle.q_rebuild.specs.Refusals.{IsRefused, IsAccepted}
 use Rattle.q_io.specs.declared.error.DeviceError.{DeviceError}
 use Rattle.q_io.specs.declared.error.DeviceError.TheVariants as device
+use Rattle.q_command.specs.declared.unfit.Unfit.{Unfit}
+use Rattle.q_command.specs.declared.unfit.Unfit.TheVariants as unfit
 use Rattle.q_command.specs.declared.circuits.CircuitsError.{CircuitsError}
 use Rattle.q_command.specs.declared.circuits.CircuitsError.TheVariants as unread
 use Rattle.q_command.specs.Texts.{HoldsCircuits, MayHoldCircuits}
+use Rattle.q_command.specs.Told.{Told, OrNoMemory}
 use Rattle.q_rebuild.specs.declared.error.RebuildError.{RebuildError}
 use Rattle.q_rebuild.specs.declared.error.RebuildError.TheVariants as refusal
 use Rattle.q_command.specs.Checks.{Checks, IsFileOf, IsNoFormula, IsNoRun, IsUnverified, IsVerified, LogPasses, Exactly, MayCome}
@@ -20,8 +23,9 @@ use Rattle.q_command.specs.declared.checking.Checked.{Checked}
 use Rattle.q_command.specs.declared.outcome.Outcome.TheVariants as outcome
 use Rattle.q_command.specs.declared.status.Status.{Status}
 use Rattle.q_command.specs.declared.status.Status.TheVariants as status
+use Rattle.q_app.specs.RebuiltLines.{status_of_rebuilt, line_of_rebuilt}
 use Rattle.q_app.specs.declared.rebuilt.Rebuilt.{Rebuilt}
-use Rattle.q_app.specs.declared.rebuilt.Rebuilt.TheVariants.{Written, Unverified, RefusedText, MissingOutput, StrangeOutput, StrangeInput, Reads, FalseOutput, ReadFault, WriteFault, NoMemory}
+use Rattle.q_app.specs.declared.rebuilt.Rebuilt.TheVariants.{Written, Unverified, RefusedText, RefusedCircuits, FalseOutput, ReadFault, WriteFault, NoMemory}
 
 -- the names of the five files
 pub record FiveNames : Type 0 where
@@ -72,6 +76,13 @@ IsPart n before after =
 abbrev pub AreRefused : RebuildError → FiveNames → Disk → Type 0
 AreRefused e n before = OfCircuits n before (λ F G us given. IsRefused G given e)
 
+-- the reason, as the crate below tells it
+abbrev pub error_of : Unfit → RebuildError
+error_of (unfit.MissingOutput v) = refusal.MissingOutput v
+error_of (unfit.StrangeOutput v) = refusal.StrangeOutput v
+error_of (unfit.StrangeInput v) = refusal.StrangeInput v
+error_of (unfit.Reads v u) = refusal.Reads v u
+
 -- what there is to say, and what the files hold then
 abbrev pub Rebuilds : Rebuilt → FiveNames → Disk → Option Disk → Type 0
 Rebuilds (Written g) n before after = IsWhole g n before after
@@ -79,10 +90,7 @@ Rebuilds (Unverified o) n before after =
     IsUnverified o × Checks o (bytes_at before n.input) (bytes_at before n.output) (bytes_at before n.log) × (after ≡ Some before)
 Rebuilds (RefusedText k c) n before after =
     IsVerified (bytes_at before n.input) (bytes_at before n.output) (bytes_at before n.log) × Offence (bytes_at before n.skolem) k c × (after ≡ Some before)
-Rebuilds (MissingOutput v) n before after = AreRefused (refusal.MissingOutput v) n before × (after ≡ Some before)
-Rebuilds (StrangeOutput v) n before after = AreRefused (refusal.StrangeOutput v) n before × (after ≡ Some before)
-Rebuilds (StrangeInput v) n before after = AreRefused (refusal.StrangeInput v) n before × (after ≡ Some before)
-Rebuilds (Reads v u) n before after = AreRefused (refusal.Reads v u) n before × (after ≡ Some before)
+Rebuilds (RefusedCircuits w) n before after = AreRefused (error_of w) n before × (after ≡ Some before)
 Rebuilds FalseOutput n before after = AreRefused refusal.FalseOutput n before × (after ≡ Some before)
 Rebuilds ReadFault n before after = after ≡ Some before
 Rebuilds WriteFault n before after = IsPart n before after
@@ -108,10 +116,7 @@ abbrev pub IsOfCircuits : Rebuilt → Type 0
 IsOfCircuits (Written g) = ⊥
 IsOfCircuits (Unverified o) = ⊥
 IsOfCircuits (RefusedText k c) = Unit {0}
-IsOfCircuits (MissingOutput v) = Unit {0}
-IsOfCircuits (StrangeOutput v) = Unit {0}
-IsOfCircuits (StrangeInput v) = Unit {0}
-IsOfCircuits (Reads v u) = Unit {0}
+IsOfCircuits (RefusedCircuits w) = Unit {0}
 IsOfCircuits FalseOutput = Unit {0}
 IsOfCircuits ReadFault = Unit {0}
 IsOfCircuits WriteFault = ⊥
@@ -126,10 +131,7 @@ abbrev pub CircuitsFail : Rebuilt → PrenexFormula → List ℕ → Type 0
 CircuitsFail (Written g) G bytes = ⊥
 CircuitsFail (Unverified o) G bytes = ⊥
 CircuitsFail (RefusedText k c) G bytes = Offence bytes k c
-CircuitsFail (MissingOutput v) G bytes = Fails (refusal.MissingOutput v) G bytes
-CircuitsFail (StrangeOutput v) G bytes = Fails (refusal.StrangeOutput v) G bytes
-CircuitsFail (StrangeInput v) G bytes = Fails (refusal.StrangeInput v) G bytes
-CircuitsFail (Reads v u) G bytes = Fails (refusal.Reads v u) G bytes
+CircuitsFail (RefusedCircuits w) G bytes = Fails (error_of w) G bytes
 CircuitsFail FalseOutput G bytes = Fails refusal.FalseOutput G bytes
 CircuitsFail ReadFault G bytes = Unit {0}
 CircuitsFail WriteFault G bytes = ⊥
@@ -141,10 +143,10 @@ no_circuits unread.Fault = ReadFault
 no_circuits unread.NoMemory = NoMemory
 
 abbrev pub refused_circuits : RebuildError → Rebuilt
-refused_circuits (refusal.MissingOutput v) = MissingOutput v
-refused_circuits (refusal.StrangeOutput v) = StrangeOutput v
-refused_circuits (refusal.StrangeInput v) = StrangeInput v
-refused_circuits (refusal.Reads v u) = Reads v u
+refused_circuits (refusal.MissingOutput v) = RefusedCircuits (unfit.MissingOutput v)
+refused_circuits (refusal.StrangeOutput v) = RefusedCircuits (unfit.StrangeOutput v)
+refused_circuits (refusal.StrangeInput v) = RefusedCircuits (unfit.StrangeInput v)
+refused_circuits (refusal.Reads v u) = RefusedCircuits (unfit.Reads v u)
 refused_circuits refusal.FalseOutput = FalseOutput
 refused_circuits refusal.NoMemory = NoMemory
 
@@ -163,10 +165,7 @@ abbrev pub Puts : Rebuilt → CertificateView → List ℕ → Disk → Option D
 Puts (Written g) made name before after = HoldsCircuits made g name before after
 Puts (Unverified o) made name before after = ⊥
 Puts (RefusedText k c) made name before after = ⊥
-Puts (MissingOutput v) made name before after = ⊥
-Puts (StrangeOutput v) made name before after = ⊥
-Puts (StrangeInput v) made name before after = ⊥
-Puts (Reads v u) made name before after = ⊥
+Puts (RefusedCircuits w) made name before after = ⊥
 Puts FalseOutput made name before after = ⊥
 Puts ReadFault made name before after = ⊥
 Puts WriteFault made name before after = MayHoldCircuits made name before after
@@ -213,3 +212,16 @@ pub record RebuildsExactly (answer : Status) (n : FiveNames) (before : Disk) (af
   pub circuits_refused : Exactly answer status.CircuitsRefused (AreNoCircuits n before)
   pub untouched : IsUntouched answer → after ≡ Some before
   pub left : (answer ≡ status.WriteFault) ⊎ (answer ≡ status.NoMemory) → (after ≡ Some before) ⊎ IsPart n before after
+
+-- the command; circuits of OUT are carried back where the log leads there and none of the refusals applies
+abbrev pub told : FiveNames → Told
+told n = record {
+  Outcome = Rebuilt;
+  status_of = status_of_rebuilt;
+  line_of = line_of_rebuilt;
+  says = λ o disk after. Rebuilds o n disk after;
+  gives = λ given disk after. RebuildsExactly given n disk after;
+  answers = λ disk given. AreFitting n disk → OrNoMemory given status.Done;
+  reads = names_read n;
+  writes = names_written n;
+}

@@ -1,7 +1,8 @@
 -- The line and the status of `rebuild`, by its outcome.
 use Rattle.std.specs.Prelude.{ℕ, List, ◌++◌, codes, decimal}
 use Rattle.q_app.specs.declared.rebuilt.Rebuilt.{Rebuilt}
-use Rattle.q_app.specs.declared.rebuilt.Rebuilt.TheVariants.{Written, Unverified, RefusedText, MissingOutput, StrangeOutput, StrangeInput, Reads, FalseOutput, ReadFault, WriteFault, NoMemory}
+use Rattle.q_app.specs.declared.rebuilt.Rebuilt.TheVariants.{Written, Unverified, RefusedText, RefusedCircuits, FalseOutput, ReadFault, WriteFault, NoMemory}
+use Rattle.q_command.specs.Unfits.{line_of_unfit}
 use Rattle.q_command.specs.declared.status.Status.{Status}
 use Rattle.q_command.specs.declared.status.Status.TheVariants as status
 use Rattle.q_command.specs.Statuses.{status_of}
@@ -11,10 +12,7 @@ abbrev pub status_of_rebuilt : Rebuilt → Status
 status_of_rebuilt (Written n) = status.Done
 status_of_rebuilt (Unverified o) = status_of o
 status_of_rebuilt (RefusedText n c) = status.CircuitsRefused
-status_of_rebuilt (MissingOutput v) = status.CircuitsRefused
-status_of_rebuilt (StrangeOutput v) = status.CircuitsRefused
-status_of_rebuilt (StrangeInput v) = status.CircuitsRefused
-status_of_rebuilt (Reads v u) = status.CircuitsRefused
+status_of_rebuilt (RefusedCircuits w) = status.CircuitsRefused
 status_of_rebuilt FalseOutput = status.CircuitsRefused
 status_of_rebuilt ReadFault = status.ReadFault
 status_of_rebuilt WriteFault = status.WriteFault
@@ -24,10 +22,7 @@ abbrev pub line_of_rebuilt : Rebuilt → List ℕ
 line_of_rebuilt (Written n) = codes "rebuilt " ++ decimal n ++ codes "\n"
 line_of_rebuilt (Unverified o) = line_of o
 line_of_rebuilt (RefusedText n c) = codes "circuits line " ++ decimal n ++ codes " cause " ++ decimal c ++ codes "\n"
-line_of_rebuilt (MissingOutput v) = codes "circuits missing " ++ decimal v ++ codes "\n"
-line_of_rebuilt (StrangeOutput v) = codes "circuits strange output " ++ decimal v ++ codes "\n"
-line_of_rebuilt (StrangeInput v) = codes "circuits strange input " ++ decimal v ++ codes "\n"
-line_of_rebuilt (Reads v u) = codes "circuits " ++ decimal v ++ codes " reads " ++ decimal u ++ codes "\n"
+line_of_rebuilt (RefusedCircuits w) = line_of_unfit w
 line_of_rebuilt FalseOutput = codes "circuits of a false output\n"
 line_of_rebuilt ReadFault = codes "read fault\n"
 line_of_rebuilt WriteFault = codes "write fault\n"

@@ -1,5 +1,5 @@
 -- What `simplify` says and leaves, over the files before and after.
-use Rattle.std.specs.Prelude.{◌≡◌, ◌≢◌, ◌⊎◌, ℕ, List, Option, Some}
+use Rattle.std.specs.Prelude.{◌≡◌, ◌≢◌, ◌⊎◌, ℕ, List, [], ◌∷◌, Option, Some}
 use Rattle.q_logic.specs.Prelude.{PrenexFormula, standard, measure_of}
 use Rattle.q_io.specs.Files.{Disk, bytes_at}
 use Rattle.q_dimacs.specs.Offences.{Offence}
@@ -7,7 +7,10 @@ use Rattle.q_simplify.specs.declared.options.Options.{Options}
 use Rattle.q_simplify.specs.declared.report.Report.{Report}
 use Rattle.q_simplify.specs.Results.{IsEnoughFor, Simplifies, Leaves}
 use Rattle.q_command.specs.Checks.{IsFileOf, IsNoFormula, Exactly, MayCome}
-use Rattle.q_app.specs.Statuses.{status_of_ending}
+use Rattle.q_command.specs.Names.{ThreeNames}
+use Rattle.q_command.specs.Told.{Told}
+use Rattle.q_app.specs.Lines.{line_of_simplified}
+use Rattle.q_app.specs.Statuses.{status_of_ending, status_of_simplified}
 use Rattle.q_command.specs.declared.status.Status.{Status}
 use Rattle.q_command.specs.declared.status.Status.TheVariants as status
 use Rattle.q_app.specs.declared.simplified.Simplified.{Simplified}
@@ -48,3 +51,18 @@ pub record SimplifiesExactly (answer : Status) (o : Options) (input output log :
   pub left : (answer ≡ status.WriteFault) ⊎ (answer ≡ status.NoMemory) →
       (after ≡ Some before) ⊎ IsLeft input output log before after
   pub any : IsEnded answer ⊎ (answer ≡ status.InputRefused) ⊎ MayCome answer
+
+-- the command; a formula is simplified, and no budget that its measure does not pass is spent
+abbrev pub told : ThreeNames → Options → Told
+told n o = record {
+  Outcome = Simplified;
+  status_of = status_of_simplified;
+  line_of = line_of_simplified;
+  says = λ due disk after. Ends due o n.input n.output n.log disk after;
+  gives = λ given disk after. SimplifiesExactly given o n.input n.output n.log disk after;
+  answers = λ disk given.
+      (F : PrenexFormula) → IsFileOf (bytes_at disk n.input) F →
+      (IsEnded given ⊎ (given ≡ status.NoMemory)) × (IsEnoughFor o.budget (measure_of o.bounds F) → given ≢ status.Spent);
+  reads = n.input ∷ [];
+  writes = n.output ∷ n.log ∷ [];
+}

@@ -1,7 +1,6 @@
 //! The top call: all that the program does, over files and a sink.
 #![tactic(auto)]
 
-mod answer;
 mod gen_file;
 mod generated;
 mod laws;
@@ -15,7 +14,6 @@ mod simplify;
 mod top;
 mod words;
 
-pub use answer::Answer;
 pub use generated::Generated;
 pub use laws::{
     completeness, first_moves_make_first_moves, further, headline, simplified_is_verified,

@@ -10,7 +10,9 @@ ghost use Rattle.q_app.specs.Rebuilds.{AreCarried, CircuitsFail, FaultsReading, 
 use crate::rebuild_words::RebuildNames;
 use crate::rebuilt::Rebuilt;
 use q_aig::Certificate;
-use q_command::{Checked, CircuitsError, Keep, Names, read_circuits, verify, write_circuits};
+use q_command::{
+    Checked, CircuitsError, Keep, Names, Unfit, read_circuits, verify, write_circuits,
+};
 use q_io::{DeviceError, Files};
 use q_rebuild::{RebuildError, rebuild};
 use std::alloc::Global;
@@ -26,15 +28,24 @@ fn unread(error: CircuitsError) -> Rebuilt
     }
 }
 
+fn unfit(why: Unfit) -> Rebuilt
+    ensures { result ≡ Rebuilt.RefusedCircuits why }
+{
+    Rebuilt::RefusedCircuits { why }
+}
+
 fn refused_circuits(error: RebuildError) -> Rebuilt
     ensures is { result ≡ circuits_refused error }
     ensures of_circuits { IsOfCircuits result }
 {
     match error {
-        RebuildError::MissingOutput { var } => Rebuilt::MissingOutput { var },
-        RebuildError::StrangeOutput { var } => Rebuilt::StrangeOutput { var },
-        RebuildError::StrangeInput { var } => Rebuilt::StrangeInput { var },
-        RebuildError::Reads { var, universal } => Rebuilt::Reads { var, universal },
+        RebuildError::MissingOutput { var } => unfit(Unfit::MissingOutput { var }),
+        RebuildError::StrangeOutput { var } => unfit(Unfit::StrangeOutput { var }),
+        RebuildError::StrangeInput { var } => unfit(Unfit::StrangeInput { var }),
+        RebuildError::Reads { var, universal } => unfit(Unfit::Reads {
+            var,
+            input: universal,
+        }),
         RebuildError::FalseOutput => Rebuilt::FalseOutput,
         RebuildError::NoMemory => Rebuilt::NoMemory,
     }

@@ -2,7 +2,7 @@ ghost use Rattle.std.specs.Prelude.{◌≡◌};
 ghost use Rattle.q_command.specs.Sinks.{IsSaid, view_sink};
 ghost use Rattle.q_app.specs.RebuiltLines.{line_of_rebuilt, status_of_rebuilt};
 
-use q_command::{Line, Outcome, Status, number_line, numbers_line, place, put, words_line};
+use q_command::{Line, Outcome, Status, Unfit, number_line, place, put, words_line};
 use q_io::Sink;
 
 /// What there is to say at the end of `rebuild`.
@@ -14,10 +14,8 @@ pub enum Rebuilt {
     Unverified { why: Outcome },
     /// The file is no text of circuits.
     RefusedText { line: u64, cause: u8 },
-    MissingOutput { var: u32 },
-    StrangeOutput { var: u32 },
-    StrangeInput { var: u32 },
-    Reads { var: u32, universal: u32 },
+    /// The circuits are none of the formula of OUT.
+    RefusedCircuits { why: Unfit },
     FalseOutput,
     ReadFault,
     WriteFault,
@@ -32,10 +30,7 @@ impl Rebuilt {
             Rebuilt::Written { .. } => Status::Done,
             Rebuilt::Unverified { why } => why.status(),
             Rebuilt::RefusedText { .. } => Status::CircuitsRefused,
-            Rebuilt::MissingOutput { .. } => Status::CircuitsRefused,
-            Rebuilt::StrangeOutput { .. } => Status::CircuitsRefused,
-            Rebuilt::StrangeInput { .. } => Status::CircuitsRefused,
-            Rebuilt::Reads { .. } => Status::CircuitsRefused,
+            Rebuilt::RefusedCircuits { .. } => Status::CircuitsRefused,
             Rebuilt::FalseOutput => Status::CircuitsRefused,
             Rebuilt::ReadFault => Status::ReadFault,
             Rebuilt::WriteFault => Status::WriteFault,
@@ -50,17 +45,7 @@ impl Rebuilt {
             Rebuilt::Written { gates } => number_line("rebuilt ", gates),
             Rebuilt::Unverified { why } => why.line(),
             Rebuilt::RefusedText { line, cause } => place("circuits line ", line, cause),
-            Rebuilt::MissingOutput { var } => number_line("circuits missing ", u64::from(var)),
-            Rebuilt::StrangeOutput { var } => {
-                number_line("circuits strange output ", u64::from(var))
-            }
-            Rebuilt::StrangeInput { var } => number_line("circuits strange input ", u64::from(var)),
-            Rebuilt::Reads { var, universal } => numbers_line(
-                "circuits ",
-                u64::from(var),
-                " reads ",
-                u64::from(universal),
-            ),
+            Rebuilt::RefusedCircuits { why } => why.line(),
             Rebuilt::FalseOutput => words_line("circuits of a false output\n"),
             Rebuilt::ReadFault => words_line("read fault\n"),
             Rebuilt::WriteFault => words_line("write fault\n"),

@@ -1,31 +1,29 @@
 // The top call.
-ghost use Rattle.std.specs.Prelude.{◌≡◌, ◌≢◌, ◌≤◌, ◌⊎◌, Some, None};
-ghost use Rattle.q_app.specs.Words.{annotating, checking, demo, generating, rebuilding, refuting, simplifying, solving, validating};
-ghost use Rattle.q_command.specs.Names.{three, three_of};
-ghost use Rattle.q_app.specs.Operands.{Differ, DifferFour, texts};
-ghost use Rattle.q_run_validate.specs.Validates.{files_of as validate_files_of};
-ghost use Rattle.q_run_refute.specs.Refutes.{files_of as refute_files_of};
-ghost use Rattle.q_run_annotate.specs.Annotates.{files_of as annotate_files_of};
-ghost use Rattle.q_run_solve.specs.Solves.{files_of as solve_files_of};
+ghost use Rattle.std.specs.Prelude.{◌≡◌, ◌≢◌, ◌≤◌, ◌⊎◌, None};
+ghost use Rattle.q_command.specs.Devices.{AreLater, devices};
+ghost use Rattle.q_command.specs.Names.{three_of};
+ghost use Rattle.q_command.specs.Told.{Runs};
 ghost use Rattle.q_app.specs.Commands.{IsFit, commands_of, five_of, request};
-ghost use Rattle.q_app.specs.Says.{AreLater, Does, InTurn, Runs, devices};
+ghost use Rattle.q_app.specs.Operands.{Differ, texts};
 ghost use Rattle.q_app.specs.Promises.{AnswerComes, DemoPasses, SimplifyEnds};
+ghost use Rattle.q_app.specs.Says.{Does, InTurn};
+ghost use Rattle.q_app.specs.Told.{told};
+ghost use Rattle.q_app.specs.Words.{checking, demo, generating, rebuilding, simplifying};
 
-use crate::answer::{Answer, say};
 use crate::gen_file::generate_file;
 use crate::rebuild::rebuild_files;
 use crate::rebuild_words::RebuildNames;
 use crate::settings::Settings;
 use crate::simplify::simplify_file;
 use crate::words::{Command, Scale, parse};
-use q_command::{Names, Status, check};
+use q_command::{Names, Status, check, put};
 use q_gen::generated_is_read;
 use q_io::{Files, Sink};
 use q_log::texts_are_read;
-use q_run_annotate::{AnnotateNames, annotate_files};
-use q_run_refute::{RefuteNames, refute_files};
-use q_run_solve::{SolveNames, solve_files};
-use q_run_validate::{ValidateNames, validate_files};
+use q_run_annotate::run as run_annotate;
+use q_run_refute::run as run_refute;
+use q_run_solve::run as run_solve;
+use q_run_validate::run as run_validate;
 use q_sched::Guide;
 use q_simplify::Options;
 use std::alloc::Global;
@@ -37,13 +35,6 @@ struct Simplification<'a> {
     options: Options,
 }
 
-// What `solve` is asked for.
-#[derive(Clone, Copy)]
-struct Solving<'a> {
-    names: SolveNames<'a>,
-    budget: Option<u64>,
-}
-
 // What `demo` is asked for.
 #[derive(Clone, Copy)]
 struct Demonstration<'a> {
@@ -51,17 +42,16 @@ struct Demonstration<'a> {
     names: Names<'a>,
 }
 
-// The commands one by one: what each does, and then its line.
+// The commands that are not crates of their own: what each does, and then its line.
 
 fn run_check<F: Files, S: Sink>(alloc: Global, files: &mut F, out: &mut S, names: Names) -> Status
-    ensures runs { Runs (Some (checking (three_of names.entry)))
+    ensures runs { Runs (told (checking (three_of names.entry)))
         (devices F.Files S.Sink files.old out.old) result
         (devices F.Files S.Sink files.new out.new) }
     ensures later { AreLater
         (devices F.Files S.Sink files.old out.old) (devices F.Files S.Sink files.new out.new) }
 {
-    let outcome = check(alloc, files, names);
-    say(out, &Answer::Check(outcome))
+    check(alloc, files, names).say(out)
 }
 
 fn run_simplify<F: Files, S: Sink>(
@@ -72,14 +62,13 @@ fn run_simplify<F: Files, S: Sink>(
     guides: Vec<Box<dyn Guide>>,
 ) -> Status
     requires names { Differ (three_of asked.names) }
-    ensures runs { Runs (Some (simplifying (three_of asked.entry.names) asked.entry.options))
+    ensures runs { Runs (told (simplifying (three_of asked.entry.names) asked.entry.options))
         (devices F.Files S.Sink files.old out.old) result
         (devices F.Files S.Sink files.new out.new) }
     ensures later { AreLater
         (devices F.Files S.Sink files.old out.old) (devices F.Files S.Sink files.new out.new) }
 {
-    let outcome = simplify_file(alloc, files, asked.names, &asked.options, guides);
-    say(out, &Answer::Simplify(outcome))
+    simplify_file(alloc, files, asked.names, &asked.options, guides).say(out)
 }
 
 fn run_rebuild<F: Files, S: Sink>(
@@ -88,12 +77,11 @@ fn run_rebuild<F: Files, S: Sink>(
     out: &mut S,
     names: RebuildNames,
 ) -> Status
-    ensures { Runs (Some (rebuilding (five_of names.entry)))
+    ensures { Runs (told (rebuilding (five_of names.entry)))
         (devices F.Files S.Sink files.old out.old) result
         (devices F.Files S.Sink files.new out.new) }
 {
-    let outcome = rebuild_files(alloc, files, names);
-    say(out, &Answer::Rebuild(outcome))
+    rebuild_files(alloc, files, names).say(out)
 }
 
 fn run_generate<F: Files, S: Sink>(
@@ -104,75 +92,13 @@ fn run_generate<F: Files, S: Sink>(
     output: &str,
 ) -> Status
     requires { scale.size ≤ 100000 }
-    ensures runs { Runs (Some (generating scale output.now))
+    ensures runs { Runs (told (generating scale output.now))
         (devices F.Files S.Sink files.old out.old) result
         (devices F.Files S.Sink files.new out.new) }
     ensures later { AreLater
         (devices F.Files S.Sink files.old out.old) (devices F.Files S.Sink files.new out.new) }
 {
-    let outcome = generate_file(alloc, files, scale, output);
-    say(out, &Answer::Generate(outcome))
-}
-
-fn run_validate<F: Files, S: Sink>(
-    alloc: Global,
-    files: &mut F,
-    out: &mut S,
-    names: ValidateNames,
-    budget: Option<u64>,
-) -> Status
-    ensures { Runs (Some (validating (validate_files_of names.entry) budget))
-        (devices F.Files S.Sink files.old out.old) result
-        (devices F.Files S.Sink files.new out.new) }
-{
-    let outcome = validate_files(alloc, files, names, budget);
-    say(out, &Answer::Validate(outcome))
-}
-
-fn run_refute<F: Files, S: Sink>(
-    alloc: Global,
-    files: &mut F,
-    out: &mut S,
-    names: RefuteNames,
-) -> Status
-    ensures { Runs (Some (refuting (refute_files_of names.entry)))
-        (devices F.Files S.Sink files.old out.old) result
-        (devices F.Files S.Sink files.new out.new) }
-{
-    let outcome = refute_files(alloc, files, names);
-    say(out, &Answer::Refute(outcome))
-}
-
-fn run_annotate<F: Files, S: Sink>(
-    alloc: Global,
-    files: &mut F,
-    out: &mut S,
-    names: AnnotateNames,
-) -> Status
-    ensures { Runs (Some (annotating (annotate_files_of names.entry)))
-        (devices F.Files S.Sink files.old out.old) result
-        (devices F.Files S.Sink files.new out.new) }
-{
-    let outcome = annotate_files(alloc, files, names);
-    say(out, &Answer::Annotate(outcome))
-}
-
-fn run_solve<F: Files, S: Sink>(
-    alloc: Global,
-    files: &mut F,
-    out: &mut S,
-    asked: Solving,
-    guides: Vec<Box<dyn Guide>>,
-) -> Status
-    requires { DifferFour
-        (three asked.names.input.now asked.names.output.now asked.names.log.now)
-        asked.names.cert.now }
-    ensures { Runs (Some (solving (solve_files_of asked.entry.names) asked.entry.budget))
-        (devices F.Files S.Sink files.old out.old) result
-        (devices F.Files S.Sink files.new out.new) }
-{
-    let outcome = solve_files(alloc, files, asked.names, asked.budget, guides);
-    say(out, &Answer::Solve(outcome))
+    generate_file(alloc, files, scale, output).say(out)
 }
 
 // `gen`, `simplify` and `check` one after the other, up to the first that does not pass.
@@ -226,9 +152,7 @@ fn run_command<F: Files, S: Sink>(
         Command::Validate { names, budget } => run_validate(alloc, files, out, names, budget),
         Command::Refute { names } => run_refute(alloc, files, out, names),
         Command::Annotate { names } => run_annotate(alloc, files, out, names),
-        Command::Solve { names, budget } => {
-            run_solve(alloc, files, out, Solving { names, budget }, guides)
-        }
+        Command::Solve { names, budget } => { run_solve(alloc, files, out, names, budget, guides) }
         Command::Demo { scale, names } => {
             run_demo(alloc, files, out, Demonstration { scale, names }, guides)
         }
@@ -272,6 +196,6 @@ pub fn run<F: Files, S: Sink>(
     generated_is_read();
     match parse(words) {
         Some(command) => run_command(alloc, files, out, command, guides),
-        None => say(out, &Answer::Usage),
+        None => put(out, Status::Usage, b"usage\n"),
     }
 }

@@ -6,7 +6,8 @@ use Rattle.q_command.specs.Statuses.{code_of}
 use Rattle.q_command.specs.declared.status.Status.{Status}
 use Rattle.q_command.specs.declared.status.Status.TheVariants as status
 use Rattle.q_app.specs.Commands.{request}
-use Rattle.q_app.specs.Says.{Devices, Does}
+use Rattle.q_command.specs.Devices.{Devices}
+use Rattle.q_app.specs.Says.{Does}
 
 -- files and a sink in memory, which never fail
 abbrev pub memory : Disk → SteadyText → Devices

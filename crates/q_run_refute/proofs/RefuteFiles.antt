@@ -19,11 +19,11 @@ use Rattle.q_command.specs.declared.outcome.Outcome.{Outcome}
 use Rattle.q_command.specs.declared.outcome.Outcome.TheVariants as outcome
 use Rattle.q_command.specs.declared.status.Status.TheVariants as status
 use Rattle.q_command.proofs.OutcomeStatus.{check-read}
-use Rattle.q_run_refute.specs.Refutes.{RefuteFiles, OfRun, Brings, AreRefused, AreCarried, CircuitsFail, FaultsReading, IsOfCircuits, IsPart, Puts, Refutes, not_reversed}
+use Rattle.q_run_refute.specs.Refutes.{error_of, RefuteFiles, OfRun, Brings, AreRefused, AreCarried, CircuitsFail, FaultsReading, IsOfCircuits, IsPart, Puts, Refutes, not_reversed}
 use Rattle.q_run_refute.specs.Reversing.{IsUnreversed}
 use Rattle.q_run_refute.specs.RefutedLines.{status_of_refuted}
 use Rattle.q_run_refute.specs.declared.refuted.Refuted.{Refuted}
-use Rattle.q_run_refute.specs.declared.refuted.Refuted.TheVariants.{Written, Unverified, Extended, RefusedText, MissingOutput, StrangeOutput, StrangeInput, Reads, TrueOutput, ReadFault, WriteFault, NoMemory}
+use Rattle.q_run_refute.specs.declared.refuted.Refuted.TheVariants.{Written, Unverified, Extended, RefusedText, RefusedCircuits, TrueOutput, ReadFault, WriteFault, NoMemory}
 use Rattle.q_run_refute.specs.declared.reversing.Unreversed.{Unreversed}
 use Rattle.q_run_refute.specs.declared.reversing.Unreversed.TheVariants as reversing
 
@@ -81,10 +81,7 @@ module _ (keep : Keep) (steps : keep.steps ≡ true) (n : RefuteFiles) (before :
     circuits-refutes (Extended line) i h same = elim h [ ]
     circuits-refutes (RefusedText k z) i h same =
         (of_run (reversals-none_extended c.from (steps_of (kept c)) rs reversals), h, same)
-    circuits-refutes (MissingOutput v) i (given, a, h) same = (refused (refusal.MissingOutput v) given a h, same)
-    circuits-refutes (StrangeOutput v) i (given, a, h) same = (refused (refusal.StrangeOutput v) given a h, same)
-    circuits-refutes (StrangeInput v) i (given, a, h) same = (refused (refusal.StrangeInput v) given a h, same)
-    circuits-refutes (Reads v e) i (given, a, h) same = (refused (refusal.Reads v e) given a h, same)
+    circuits-refutes (RefusedCircuits w) i (given, a, h) same = (refused (error_of w) given a h, same)
     circuits-refutes TrueOutput i (given, a, h) same = (refused refusal.TrueOutput given a h, same)
     circuits-refutes ReadFault i h same = same
     circuits-refutes WriteFault i h same = elim h [ ]
@@ -113,10 +110,7 @@ module _ (keep : Keep) (steps : keep.steps ≡ true) (n : RefuteFiles) (before :
       written-refutes (Unverified o) h = elim h [ ]
       written-refutes (Extended line) h = elim h [ ]
       written-refutes (RefusedText k z) h = elim h [ ]
-      written-refutes (MissingOutput v) h = elim h [ ]
-      written-refutes (StrangeOutput v) h = elim h [ ]
-      written-refutes (StrangeInput v) h = elim h [ ]
-      written-refutes (Reads v e) h = elim h [ ]
+      written-refutes (RefusedCircuits w) h = elim h [ ]
       written-refutes TrueOutput h = elim h [ ]
       written-refutes ReadFault h = elim h [ ]
       written-refutes WriteFault h = part h
@@ -129,10 +123,7 @@ reading-status (Written g) e = cc
 reading-status (Unverified o) e = inr (ap (λ (w : Outcome). Unverified w) (check-read o e))
 reading-status (Extended n) e = cc
 reading-status (RefusedText k c) e = cc
-reading-status (MissingOutput v) e = cc
-reading-status (StrangeOutput v) e = cc
-reading-status (StrangeInput v) e = cc
-reading-status (Reads v u) e = cc
+reading-status (RefusedCircuits w) e = cc
 reading-status TrueOutput e = cc
 reading-status ReadFault e = inl refl
 reading-status WriteFault e = cc
@@ -151,10 +142,7 @@ writing-status (Written g) e = cc
 writing-status (Unverified o) e = absurd (writing-outcome o e)
 writing-status (Extended n) e = cc
 writing-status (RefusedText k c) e = cc
-writing-status (MissingOutput v) e = cc
-writing-status (StrangeOutput v) e = cc
-writing-status (StrangeInput v) e = cc
-writing-status (Reads v u) e = cc
+writing-status (RefusedCircuits w) e = cc
 writing-status TrueOutput e = cc
 writing-status ReadFault e = cc
 writing-status WriteFault e = refl

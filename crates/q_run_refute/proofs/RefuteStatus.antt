@@ -19,14 +19,17 @@ use Rattle.q_command.specs.Statuses.{status_of}
 use Rattle.q_command.specs.declared.outcome.Outcome.{Outcome}
 use Rattle.q_command.specs.declared.outcome.Outcome.TheVariants as outcome
 use Rattle.q_command.specs.declared.status.Status.{Status}
+use Rattle.q_command.specs.declared.unfit.Unfit.{Unfit}
+use Rattle.q_command.specs.declared.unfit.Unfit.TheVariants as unfit
 use Rattle.q_command.specs.declared.status.Status.TheVariants as status
 use Rattle.q_command.proofs.FileFormulas.{file-formula}
+use Rattle.q_command.proofs.ToldLaws.{ToldLaws, exact}
 use Rattle.q_command.proofs.WholeLogs.{one_log}
 use Rattle.q_command.proofs.CheckStatus.{answers, one_formula, unverified-truth, unverified-not_done, unverified-not_circuits, verified-run, verified-formulas}
-use Rattle.q_run_refute.specs.Refutes.{RefuteFiles, OfRun, OfCircuits, OfPlainRun, IsPlainRun, IsExtendedAt, HasExtended, IsWhole, IsPart, AreRefused, Refutes, AreNoCircuits, IsUnfit, AreFitting, AreHerbrand, IsUntouched, RefutesExactly}
+use Rattle.q_run_refute.specs.Refutes.{RefuteFiles, error_of, OfRun, OfCircuits, OfPlainRun, IsPlainRun, IsExtendedAt, HasExtended, IsWhole, IsPart, AreRefused, Refutes, AreNoCircuits, IsUnfit, AreFitting, AreHerbrand, IsUntouched, RefutesExactly, told}
 use Rattle.q_run_refute.specs.RefutedLines.{status_of_refuted}
 use Rattle.q_run_refute.specs.declared.refuted.Refuted.{Refuted}
-use Rattle.q_run_refute.specs.declared.refuted.Refuted.TheVariants.{Written, Unverified, Extended, RefusedText, MissingOutput, StrangeOutput, StrangeInput, Reads, TrueOutput, ReadFault, WriteFault, NoMemory}
+use Rattle.q_run_refute.specs.declared.refuted.Refuted.TheVariants.{Written, Unverified, Extended, RefusedText, RefusedCircuits, TrueOutput, ReadFault, WriteFault, NoMemory}
 use Rattle.q_run_refute.proofs.NotedSteps.{plain-not_extended}
 
 -- circuits of one file are such as a formula of one file may have, or none are
@@ -267,24 +270,24 @@ module _ (answer : Status) (n : RefuteFiles) (before : Disk) (after : Option Dis
   stands (Unverified o) h = inl h.2
   stands (Extended line) h = inl h.1
   stands (RefusedText k c) h = inl h.2
-  stands (MissingOutput v) h = inl h.1
-  stands (StrangeOutput v) h = inl h.1
-  stands (StrangeInput v) h = inl h.1
-  stands (Reads v u) h = inl h.1
+  stands (RefusedCircuits w) h = inl h.1
   stands TrueOutput h = inl h.1
   stands ReadFault h = inl h
   stands WriteFault h = inr h
   stands NoMemory h = h
+
+  not-memory : (w : Unfit) → error_of w ≡ refusal.NoMemory → ⊥
+  not-memory (unfit.MissingOutput v) e = cc
+  not-memory (unfit.StrangeOutput v) e = cc
+  not-memory (unfit.StrangeInput v) e = cc
+  not-memory (unfit.Reads v u) e = cc
 
   due-answers : (due : Refuted) → Refutes due n before after → answer ≡ status_of_refuted due → Result
   due-answers (Written g) h e = whole g h e
   due-answers (Unverified o) h e = unverified o h.0 h.1 h.2 e
   due-answers (Extended line) h e = extended-at line h.0 h.1 e
   due-answers (RefusedText k c) h e = refused (inl (h.0, offence-none (bytes_at before n.herbrand) k c h.1)) h.2 e
-  due-answers (MissingOutput v) h e = refused-cause (refusal.MissingOutput v) (λ x. cc) h.0 h.1 e
-  due-answers (StrangeOutput v) h e = refused-cause (refusal.StrangeOutput v) (λ x. cc) h.0 h.1 e
-  due-answers (StrangeInput v) h e = refused-cause (refusal.StrangeInput v) (λ x. cc) h.0 h.1 e
-  due-answers (Reads v u) h e = refused-cause (refusal.Reads v u) (λ x. cc) h.0 h.1 e
+  due-answers (RefusedCircuits w) h e = refused-cause (error_of w) (not-memory w) h.0 h.1 e
   due-answers TrueOutput h e = refused-cause refusal.TrueOutput (λ x. cc) h.0 h.1 e
   due-answers ReadFault h e = faulty (inl e) (λ x. h) (λ x. inl h)
   due-answers WriteFault h e =
@@ -318,11 +321,15 @@ refute-usage (Written g) e = cc
 refute-usage (Unverified o) e = outcome-usage o e
 refute-usage (Extended n) e = cc
 refute-usage (RefusedText k c) e = cc
-refute-usage (MissingOutput v) e = cc
-refute-usage (StrangeOutput v) e = cc
-refute-usage (StrangeInput v) e = cc
-refute-usage (Reads v u) e = cc
+refute-usage (RefusedCircuits w) e = cc
 refute-usage TrueOutput e = cc
 refute-usage ReadFault e = cc
 refute-usage WriteFault e = cc
 refute-usage NoMemory e = cc
+
+pub laws : (n : RefuteFiles) → ToldLaws (told n)
+laws n = record {
+  gives = λ o given disk after old new h d. refute-answers given n disk after o old new h d;
+  no_usage = refute-usage;
+  answers = λ given disk after m g. (exact given status.Done _ m g.done, exact given status.Extended _ m g.extended);
+}

@@ -1,21 +1,19 @@
 -- The line and the status of `refute`, by its outcome.
 use Rattle.std.specs.Prelude.{ℕ, List, ◌++◌, codes, decimal}
+use Rattle.q_command.specs.Unfits.{line_of_unfit}
 use Rattle.q_command.specs.declared.status.Status.{Status}
 use Rattle.q_command.specs.declared.status.Status.TheVariants as status
 use Rattle.q_command.specs.Statuses.{status_of}
 use Rattle.q_command.specs.Lines.{line_of}
 use Rattle.q_run_refute.specs.declared.refuted.Refuted.{Refuted}
-use Rattle.q_run_refute.specs.declared.refuted.Refuted.TheVariants.{Written, Unverified, Extended, RefusedText, MissingOutput, StrangeOutput, StrangeInput, Reads, TrueOutput, ReadFault, WriteFault, NoMemory}
+use Rattle.q_run_refute.specs.declared.refuted.Refuted.TheVariants.{Written, Unverified, Extended, RefusedText, RefusedCircuits, TrueOutput, ReadFault, WriteFault, NoMemory}
 
 abbrev pub status_of_refuted : Refuted → Status
 status_of_refuted (Written n) = status.Done
 status_of_refuted (Unverified o) = status_of o
 status_of_refuted (Extended n) = status.Extended
 status_of_refuted (RefusedText n c) = status.CircuitsRefused
-status_of_refuted (MissingOutput v) = status.CircuitsRefused
-status_of_refuted (StrangeOutput v) = status.CircuitsRefused
-status_of_refuted (StrangeInput v) = status.CircuitsRefused
-status_of_refuted (Reads v e) = status.CircuitsRefused
+status_of_refuted (RefusedCircuits w) = status.CircuitsRefused
 status_of_refuted TrueOutput = status.CircuitsRefused
 status_of_refuted ReadFault = status.ReadFault
 status_of_refuted WriteFault = status.WriteFault
@@ -26,10 +24,7 @@ line_of_refuted (Written n) = codes "refuted " ++ decimal n ++ codes "\n"
 line_of_refuted (Unverified o) = line_of o
 line_of_refuted (Extended n) = codes "extended line " ++ decimal n ++ codes "\n"
 line_of_refuted (RefusedText n c) = codes "circuits line " ++ decimal n ++ codes " cause " ++ decimal c ++ codes "\n"
-line_of_refuted (MissingOutput v) = codes "circuits missing " ++ decimal v ++ codes "\n"
-line_of_refuted (StrangeOutput v) = codes "circuits strange output " ++ decimal v ++ codes "\n"
-line_of_refuted (StrangeInput v) = codes "circuits strange input " ++ decimal v ++ codes "\n"
-line_of_refuted (Reads v e) = codes "circuits " ++ decimal v ++ codes " reads " ++ decimal e ++ codes "\n"
+line_of_refuted (RefusedCircuits w) = line_of_unfit w
 line_of_refuted TrueOutput = codes "circuits of a true output\n"
 line_of_refuted ReadFault = codes "read fault\n"
 line_of_refuted WriteFault = codes "write fault\n"

@@ -16,18 +16,22 @@ use Rattle.q_herbrand.specs.declared.error.HerbrandError.TheVariants as refusal
 use Rattle.q_command.specs.Checks.{Checks, IsFileOf, IsNoFormula, IsNoRun, IsRunLog, IsUnverified, Exactly, MayCome}
 use Rattle.q_command.specs.Logs.{Entry, steps_of}
 use Rattle.q_command.specs.Texts.{HoldsCircuits, MayHoldCircuits}
+use Rattle.q_command.specs.Told.{Told, OrNoMemory}
 use Rattle.q_command.specs.declared.checking.Checked.{Checked}
+use Rattle.q_command.specs.declared.unfit.Unfit.{Unfit}
+use Rattle.q_command.specs.declared.unfit.Unfit.TheVariants as unfit
 use Rattle.q_command.specs.declared.circuits.CircuitsError.{CircuitsError}
 use Rattle.q_command.specs.declared.circuits.CircuitsError.TheVariants as unread
 use Rattle.q_command.specs.declared.outcome.Outcome.TheVariants as outcome
 use Rattle.q_command.specs.declared.status.Status.{Status}
 use Rattle.q_command.specs.declared.status.Status.TheVariants as status
 use Rattle.q_run_refute.specs.Extended.{FirstExtended}
+use Rattle.q_run_refute.specs.RefutedLines.{status_of_refuted, line_of_refuted}
 use Rattle.q_run_refute.specs.declared.names.RefuteNames.{RefuteNames}
 use Rattle.q_run_refute.specs.declared.reversing.Unreversed.{Unreversed}
 use Rattle.q_run_refute.specs.declared.reversing.Unreversed.TheVariants as reversing
 use Rattle.q_run_refute.specs.declared.refuted.Refuted.{Refuted}
-use Rattle.q_run_refute.specs.declared.refuted.Refuted.TheVariants.{Written, Unverified, Extended, RefusedText, MissingOutput, StrangeOutput, StrangeInput, Reads, TrueOutput, ReadFault, WriteFault, NoMemory}
+use Rattle.q_run_refute.specs.declared.refuted.Refuted.TheVariants.{Written, Unverified, Extended, RefusedText, RefusedCircuits, TrueOutput, ReadFault, WriteFault, NoMemory}
 
 -- the names of the five files
 pub record RefuteFiles : Type 0 where
@@ -117,6 +121,13 @@ IsPart n before after =
 abbrev pub AreRefused : HerbrandError → RefuteFiles → Disk → Type 0
 AreRefused e n before = OfCircuits n before (λ F G rs given. IsRefused G given e)
 
+-- the reason, as the crate below tells it
+abbrev pub error_of : Unfit → HerbrandError
+error_of (unfit.MissingOutput v) = refusal.MissingOutput v
+error_of (unfit.StrangeOutput v) = refusal.StrangeOutput v
+error_of (unfit.StrangeInput v) = refusal.StrangeInput v
+error_of (unfit.Reads v u) = refusal.Reads v u
+
 -- what there is to say, and what the files hold then
 abbrev pub Refutes : Refuted → RefuteFiles → Disk → Option Disk → Type 0
 Refutes (Written g) n before after = IsWhole g n before after
@@ -126,10 +137,7 @@ Refutes (Unverified o) n before after =
 Refutes (Extended line) n before after = IsExtendedAt line n before × (after ≡ Some before)
 Refutes (RefusedText k c) n before after =
     IsPlainRun n before × Offence (bytes_at before n.herbrand) k c × (after ≡ Some before)
-Refutes (MissingOutput v) n before after = AreRefused (refusal.MissingOutput v) n before × (after ≡ Some before)
-Refutes (StrangeOutput v) n before after = AreRefused (refusal.StrangeOutput v) n before × (after ≡ Some before)
-Refutes (StrangeInput v) n before after = AreRefused (refusal.StrangeInput v) n before × (after ≡ Some before)
-Refutes (Reads v e) n before after = AreRefused (refusal.Reads v e) n before × (after ≡ Some before)
+Refutes (RefusedCircuits w) n before after = AreRefused (error_of w) n before × (after ≡ Some before)
 Refutes TrueOutput n before after = AreRefused refusal.TrueOutput n before × (after ≡ Some before)
 Refutes ReadFault n before after = after ≡ Some before
 Refutes WriteFault n before after = IsPart n before after
@@ -145,10 +153,7 @@ IsOfCircuits (Written g) = ⊥
 IsOfCircuits (Unverified o) = ⊥
 IsOfCircuits (Extended n) = ⊥
 IsOfCircuits (RefusedText k c) = Unit {0}
-IsOfCircuits (MissingOutput v) = Unit {0}
-IsOfCircuits (StrangeOutput v) = Unit {0}
-IsOfCircuits (StrangeInput v) = Unit {0}
-IsOfCircuits (Reads v e) = Unit {0}
+IsOfCircuits (RefusedCircuits w) = Unit {0}
 IsOfCircuits TrueOutput = Unit {0}
 IsOfCircuits ReadFault = Unit {0}
 IsOfCircuits WriteFault = ⊥
@@ -164,10 +169,7 @@ CircuitsFail (Written g) G bytes = ⊥
 CircuitsFail (Unverified o) G bytes = ⊥
 CircuitsFail (Extended n) G bytes = ⊥
 CircuitsFail (RefusedText k c) G bytes = Offence bytes k c
-CircuitsFail (MissingOutput v) G bytes = Fails (refusal.MissingOutput v) G bytes
-CircuitsFail (StrangeOutput v) G bytes = Fails (refusal.StrangeOutput v) G bytes
-CircuitsFail (StrangeInput v) G bytes = Fails (refusal.StrangeInput v) G bytes
-CircuitsFail (Reads v e) G bytes = Fails (refusal.Reads v e) G bytes
+CircuitsFail (RefusedCircuits w) G bytes = Fails (error_of w) G bytes
 CircuitsFail TrueOutput G bytes = Fails refusal.TrueOutput G bytes
 CircuitsFail ReadFault G bytes = Unit {0}
 CircuitsFail WriteFault G bytes = ⊥
@@ -179,10 +181,10 @@ no_circuits unread.Fault = ReadFault
 no_circuits unread.NoMemory = NoMemory
 
 abbrev pub refused_circuits : HerbrandError → Refuted
-refused_circuits (refusal.MissingOutput v) = MissingOutput v
-refused_circuits (refusal.StrangeOutput v) = StrangeOutput v
-refused_circuits (refusal.StrangeInput v) = StrangeInput v
-refused_circuits (refusal.Reads v e) = Reads v e
+refused_circuits (refusal.MissingOutput v) = RefusedCircuits (unfit.MissingOutput v)
+refused_circuits (refusal.StrangeOutput v) = RefusedCircuits (unfit.StrangeOutput v)
+refused_circuits (refusal.StrangeInput v) = RefusedCircuits (unfit.StrangeInput v)
+refused_circuits (refusal.Reads v e) = RefusedCircuits (unfit.Reads v e)
 refused_circuits refusal.TrueOutput = TrueOutput
 refused_circuits refusal.NoMemory = NoMemory
 
@@ -205,10 +207,7 @@ Puts (Written g) made name before after = HoldsCircuits made g name before after
 Puts (Unverified o) made name before after = ⊥
 Puts (Extended n) made name before after = ⊥
 Puts (RefusedText k c) made name before after = ⊥
-Puts (MissingOutput v) made name before after = ⊥
-Puts (StrangeOutput v) made name before after = ⊥
-Puts (StrangeInput v) made name before after = ⊥
-Puts (Reads v e) made name before after = ⊥
+Puts (RefusedCircuits w) made name before after = ⊥
 Puts TrueOutput made name before after = ⊥
 Puts ReadFault made name before after = ⊥
 Puts WriteFault made name before after = MayHoldCircuits made name before after
@@ -255,3 +254,17 @@ pub record RefutesExactly (given : Status) (n : RefuteFiles) (before : Disk) (af
   pub circuits_refused : Exactly given status.CircuitsRefused (AreNoCircuits n before)
   pub untouched : IsUntouched given → after ≡ Some before
   pub left : (given ≡ status.WriteFault) ⊎ (given ≡ status.NoMemory) → (after ≡ Some before) ⊎ IsPart n before after
+
+-- the command; a verified log with fitting circuits is carried back, and one with an extended drop is not
+abbrev pub told : RefuteFiles → Told
+told n = record {
+  Outcome = Refuted;
+  status_of = status_of_refuted;
+  line_of = line_of_refuted;
+  says = λ o disk after. Refutes o n disk after;
+  gives = λ given disk after. RefutesExactly given n disk after;
+  answers = λ disk given.
+      (AreFitting n disk → OrNoMemory given status.Done) × (HasExtended n disk → OrNoMemory given status.Extended);
+  reads = names_read n;
+  writes = names_written n;
+}

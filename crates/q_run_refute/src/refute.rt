@@ -15,7 +15,7 @@ use crate::refuted::Refuted;
 use crate::reversing::{Unreversed, reversals_of};
 use q_aig::Certificate;
 use q_command::{
-    Checked, CircuitsError, Keep, Names, Status, read_circuits, verify, write_circuits,
+    Checked, CircuitsError, Keep, Names, Status, Unfit, read_circuits, verify, write_circuits,
 };
 use q_herbrand::{HerbrandError, Reversals, refute};
 use q_io::{DeviceError, Files};
@@ -32,15 +32,24 @@ fn no_circuits(error: CircuitsError) -> Refuted
     }
 }
 
+fn unfit(why: Unfit) -> Refuted
+    ensures { result ≡ Refuted.RefusedCircuits why }
+{
+    Refuted::RefusedCircuits { why }
+}
+
 fn refused_circuits(error: HerbrandError) -> Refuted
     ensures is { result ≡ circuits_refused error }
     ensures of_circuits { IsOfCircuits result }
 {
     match error {
-        HerbrandError::MissingOutput { var } => Refuted::MissingOutput { var },
-        HerbrandError::StrangeOutput { var } => Refuted::StrangeOutput { var },
-        HerbrandError::StrangeInput { var } => Refuted::StrangeInput { var },
-        HerbrandError::Reads { var, existential } => Refuted::Reads { var, existential },
+        HerbrandError::MissingOutput { var } => unfit(Unfit::MissingOutput { var }),
+        HerbrandError::StrangeOutput { var } => unfit(Unfit::StrangeOutput { var }),
+        HerbrandError::StrangeInput { var } => unfit(Unfit::StrangeInput { var }),
+        HerbrandError::Reads { var, existential } => unfit(Unfit::Reads {
+            var,
+            input: existential,
+        }),
         HerbrandError::TrueOutput => Refuted::TrueOutput,
         HerbrandError::NoMemory => Refuted::NoMemory,
     }

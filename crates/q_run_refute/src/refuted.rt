@@ -3,7 +3,7 @@ ghost use Rattle.std.specs.Prelude.{◌≡◌};
 ghost use Rattle.q_command.specs.Sinks.{IsSaid, view_sink};
 ghost use Rattle.q_run_refute.specs.RefutedLines.{line_of_refuted, status_of_refuted};
 
-use q_command::{Line, Outcome, Status, number_line, numbers_line, place, put, words_line};
+use q_command::{Line, Outcome, Status, Unfit, number_line, place, put, words_line};
 use q_io::Sink;
 
 /// What there is to say at the end of `refute`.
@@ -17,14 +17,8 @@ pub enum Refuted {
     Extended { line: u64 },
     /// The file is no text of circuits.
     RefusedText { line: u64, cause: u8 },
-    /// A universal has no circuit.
-    MissingOutput { var: u32 },
-    /// A circuit is named as no universal.
-    StrangeOutput { var: u32 },
-    /// A circuit reads what is no existential.
-    StrangeInput { var: u32 },
-    /// A circuit reads an existential that does not stand before its variable.
-    Reads { var: u32, existential: u32 },
+    /// The circuits are none of the formula of OUT: outputs are its universals, and inputs existentials before them.
+    RefusedCircuits { why: Unfit },
     /// The formula of OUT has no clause.
     TrueOutput,
     ReadFault,
@@ -41,10 +35,7 @@ impl Refuted {
             Refuted::Unverified { why } => why.status(),
             Refuted::Extended { .. } => Status::Extended,
             Refuted::RefusedText { .. } => Status::CircuitsRefused,
-            Refuted::MissingOutput { .. } => Status::CircuitsRefused,
-            Refuted::StrangeOutput { .. } => Status::CircuitsRefused,
-            Refuted::StrangeInput { .. } => Status::CircuitsRefused,
-            Refuted::Reads { .. } => Status::CircuitsRefused,
+            Refuted::RefusedCircuits { .. } => Status::CircuitsRefused,
             Refuted::TrueOutput => Status::CircuitsRefused,
             Refuted::ReadFault => Status::ReadFault,
             Refuted::WriteFault => Status::WriteFault,
@@ -60,17 +51,7 @@ impl Refuted {
             Refuted::Unverified { why } => why.line(),
             Refuted::Extended { line } => number_line("extended line ", line),
             Refuted::RefusedText { line, cause } => place("circuits line ", line, cause),
-            Refuted::MissingOutput { var } => number_line("circuits missing ", u64::from(var)),
-            Refuted::StrangeOutput { var } => {
-                number_line("circuits strange output ", u64::from(var))
-            }
-            Refuted::StrangeInput { var } => number_line("circuits strange input ", u64::from(var)),
-            Refuted::Reads { var, existential } => numbers_line(
-                "circuits ",
-                u64::from(var),
-                " reads ",
-                u64::from(existential),
-            ),
+            Refuted::RefusedCircuits { why } => why.line(),
             Refuted::TrueOutput => words_line("circuits of a true output\n"),
             Refuted::ReadFault => words_line("read fault\n"),
             Refuted::WriteFault => words_line("write fault\n"),

@@ -1,17 +1,19 @@
 -- When each status of `solve` comes.
-use Rattle.std.proofs.Common.{◌≡◌, ◌≢◌, ◌⊎◌, inl, inr, ◌∙◌, sym, ap, ℕ, List, [], length, unwrap_or, Option, Some}
+use Rattle.std.proofs.Common.{◌≡◌, ◌≢◌, ◌⊎◌, inl, inr, ◌∙◌, sym, ap, subst, ℕ, List, [], length, unwrap_or, Option, Some, None}
 use Rattle.std.proofs.Math.Seq.{take-length}
 use Rattle.q_logic.specs.Prelude.{PrenexFormula, standard}
 use Rattle.q_io.specs.Files.{Disk, bytes_at}
 use Rattle.q_dimacs.specs.Offences.{Offence}
+use Rattle.q_search.specs.Budgets.{IsBelow}
 use Rattle.q_command.specs.Sinks.{SinkView, IsDue}
 use Rattle.q_command.specs.declared.status.Status.{Status}
 use Rattle.q_command.specs.declared.status.Status.TheVariants as status
 use Rattle.q_command.proofs.CheckStatus.{no_offence}
+use Rattle.q_command.proofs.ToldLaws.{ToldLaws}
 use Rattle.q_run_solve.specs.declared.solved.Solved.{Solved}
 use Rattle.q_run_solve.specs.declared.solved.Solved.TheVariants.{True, False, Unknown, RefusedInput, ReadFault, WriteFault, NoMemory}
 use Rattle.q_run_solve.specs.SolvedLines.{status_of_solved}
-use Rattle.q_run_solve.specs.Solves.{SolveFiles, HoldsAnswer, IsDone, IsLeft, IsTrueAnswer, IsFalseAnswer, IsNoAnswer, Solves, IsEnded, Answers, SolvesExactly}
+use Rattle.q_run_solve.specs.Solves.{SolveFiles, HoldsAnswer, IsDone, IsLeft, IsTrueAnswer, IsFalseAnswer, IsNoAnswer, Solves, IsEnded, Answers, SolvesExactly, told}
 use Rattle.q_run_solve.proofs.KeptFiles.{whole-left}
 
 ended-not_refused : (s : Status) → IsEnded s → s ≢ status.InputRefused
@@ -151,3 +153,17 @@ module _ (given : Status) (n : SolveFiles) (budget : Option ℕ) (before : Disk)
   solve-answers due old new h (inl e) = due-answers due h e
   solve-answers due old new h (inr (inl e)) = write-fault (stands due h) e.0
   solve-answers due old new h (inr (inr e)) = no-memory (stands due h) e.0
+
+-- a budget that is not given is spent nowhere
+no-budget : (b : Option ℕ) (n : ℕ) → b ≡ None → IsBelow b n → ⊥
+no-budget b n e h = subst (λ (o : Option ℕ). IsBelow o n) e h
+
+pub laws : (n : SolveFiles) (budget : Option ℕ) → ToldLaws (told n budget)
+laws n budget = record {
+  gives = λ o given disk after old new h d. solve-answers given n budget disk after o old new h d;
+  no_usage = solve-usage;
+  answers = λ given disk after m g F f. (
+    elim g.any [ inl e ↦ inl e | inr (inl e) ↦ absurd (g.refused.0 e F f) | inr (inr e) ↦ inr (m e) ],
+    (λ e u. let d = g.ended (inr (inr u)) in no-budget budget _ e (d.holds.unknown.0 u)),
+  );
+}

@@ -1,5 +1,5 @@
 -- What `solve` says and leaves, over the files before and after.
-use Rattle.std.specs.Prelude.{◌≡◌, ◌≢◌, ◌⊎◌, ◌↔◌, ◌<◌, ◌^◌, ℕ, List, [], ◌∷◌, length, map as each, take, Option, Some}
+use Rattle.std.specs.Prelude.{◌≡◌, ◌≢◌, ◌⊎◌, ◌↔◌, ◌<◌, ◌^◌, ℕ, List, [], ◌∷◌, length, map as each, take, Option, Some, None}
 use Rattle.std.specs.FinMap as map
 use Rattle.q_logic.specs.Prelude.{PrenexFormula, standard, Holds, CertificateView, trees_of, SkolemOf}
 use Rattle.q_logic.specs.Decisions.{decisions}
@@ -21,10 +21,12 @@ use Rattle.q_command.specs.declared.input.InputError.{InputError}
 use Rattle.q_command.specs.declared.input.InputError.TheVariants as reading
 use Rattle.q_command.specs.Checks.{IsFileOf, IsNoFormula, Exactly, MayCome}
 use Rattle.q_command.specs.Texts.{HoldsCircuits, MayHoldCircuits}
+use Rattle.q_command.specs.Told.{Told}
 use Rattle.q_run_solve.specs.declared.names.SolveNames.{SolveNames}
 use Rattle.q_run_solve.specs.declared.solved.Solved.{Solved}
 use Rattle.q_run_solve.specs.declared.solved.Solved.TheVariants.{True, False, Unknown, RefusedInput, ReadFault, WriteFault, NoMemory}
 use Rattle.q_run_solve.specs.Reduces.{plain_options}
+use Rattle.q_run_solve.specs.SolvedLines.{status_of_solved, line_of_solved}
 
 -- the names of the four files
 pub record SolveFiles : Type 0 where
@@ -188,3 +190,18 @@ pub record SolvesExactly (given : Status) (n : SolveFiles) (budget : Option ℕ)
   pub untouched : (given ≡ status.InputRefused) ⊎ (given ≡ status.ReadFault) → after ≡ Some before
   pub left : (given ≡ status.WriteFault) ⊎ (given ≡ status.NoMemory) → (after ≡ Some before) ⊎ IsLeft n before after
   pub any : IsEnded given ⊎ (given ≡ status.InputRefused) ⊎ MayCome given
+
+-- the command; a formula is true, false, or the budget is spent
+abbrev pub told : SolveFiles → Option ℕ → Told
+told n budget = record {
+  Outcome = Solved;
+  status_of = status_of_solved;
+  line_of = line_of_solved;
+  says = λ o disk after. Solves o n budget disk after;
+  gives = λ given disk after. SolvesExactly given n budget disk after;
+  answers = λ disk given.
+      (F : PrenexFormula) → IsFileOf (bytes_at disk n.input) F →
+      (IsEnded given ⊎ (given ≡ status.NoMemory)) × (budget ≡ None → given ≢ status.Unknown);
+  reads = names_read n;
+  writes = names_written n;
+}

@@ -3,6 +3,7 @@
 //! public contracts alone.
 #![tactic(auto)]
 
+mod command;
 mod concluding;
 mod laws;
 mod leaving;
@@ -11,6 +12,7 @@ mod reducing;
 mod solve;
 mod solved;
 
+pub use command::run;
 pub use laws::statuses_are_exact;
 pub use names::SolveNames;
 pub use solve::solve_files;

@@ -1,7 +1,7 @@
 use Rattle.std.proofs.Common.{subst, sym, ◌∙◌, refl, inl, None}
 use Rattle.q_app.specs.Words.{Request}
-use Rattle.q_app.specs.Says.{Does, devices}
-use Rattle.q_app.specs.declared.answer.Answer.TheVariants as answer
+use Rattle.q_command.specs.Devices.{devices}
+use Rattle.q_app.specs.Says.{Does}
 use Rattle.q_app.proofs.CommandSequence.{in_turn-usage}
 use Rattle.q_app.proofs.CommandLines.{said-usage}
 use Rattle.q_app.proofs.RunPromise.{simplify-ends, answer-comes, demo-passes, nothing-asked}
@@ -17,8 +17,8 @@ returns-in-Some-clause-does g c =
 
 pub returns-in-None-clause-does : goal.returns-in-None-clause-does
 returns-in-None-clause-does g c =
-    subst (λ (r : Request). Does r (devices g.F.Files g.S.Sink c.args.files.now c.args.out.now) c.say.result (devices g.F.Files g.S.Sink c.args.files.now c.say.new.out)) c.in-None.ensures.request
-    (said-usage (devices g.F.Files g.S.Sink c.args.files.now c.args.out.now) (devices g.F.Files g.S.Sink c.args.files.now c.say.new.out) c.say.result refl c.say.ensures.answer c.say.ensures.says)
+    subst (λ (r : Request). Does r (devices g.F.Files g.S.Sink c.args.files.now c.args.out.now) c.put.result (devices g.F.Files g.S.Sink c.args.files.now c.put.new.out)) c.in-None.ensures.request
+    (said-usage (devices g.F.Files g.S.Sink c.args.files.now c.args.out.now) (devices g.F.Files g.S.Sink c.args.files.now c.put.new.out) c.put.result refl c.put.ensures)
 
 pub returns-in-Some-clause-simplify_ends : goal.returns-in-Some-clause-simplify_ends
 returns-in-Some-clause-simplify_ends g c =

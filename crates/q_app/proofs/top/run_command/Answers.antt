@@ -1,6 +1,7 @@
 use Rattle.std.proofs.Common.{sym, subst}
+use Rattle.q_command.specs.Devices.{devices}
 use Rattle.q_app.specs.declared.words.Command.{Command as Parsed}
-use Rattle.q_app.specs.Says.{InTurn, devices}
+use Rattle.q_app.specs.Says.{InTurn}
 use Rattle.q_app.specs.Commands.{commands_of}
 use Rattle.q_app.proofs.top.run_command.Goals as goal
 

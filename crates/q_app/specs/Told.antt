@@ -1,0 +1,21 @@
+-- What is told of each command: each in the file of its own.
+use Rattle.q_command.specs.Checks as check
+use Rattle.q_command.specs.Told.{Told}
+use Rattle.q_app.specs.Simplifying as simplify
+use Rattle.q_app.specs.Rebuilds as rebuild
+use Rattle.q_app.specs.Generating as generate
+use Rattle.q_run_solve.specs.Solves as solve
+use Rattle.q_run_annotate.specs.Annotates as annotate
+use Rattle.q_run_refute.specs.Refutes as refute
+use Rattle.q_run_validate.specs.Validates as validate
+use Rattle.q_app.specs.Words.{Command, checking, simplifying, rebuilding, generating, solving, annotating, refuting, validating}
+
+abbrev pub told : Command → Told
+told (checking n) = check.told n
+told (simplifying n o) = simplify.told n o
+told (rebuilding n) = rebuild.told n
+told (generating k name) = generate.told k name
+told (solving n b) = solve.told n b
+told (annotating n) = annotate.told n
+told (refuting n) = refute.told n
+told (validating n b) = validate.told n b
