@@ -26,6 +26,13 @@ pub(crate) struct Entry {
     pub before: ClauseId,
 }
 
+impl Entry {
+    /// Whether a clause that hangs here may lie in one of that shape, but for a literal that is turned.
+    pub(crate) fn may_lie_in(&self, shape: &Entry) -> bool {
+        self.len <= shape.len && self.signature & !shape.signature == 0
+    }
+}
+
 #[derive(Drop)]
 pub(crate) struct ClauseIndex {
     entries: Vec<Entry>,

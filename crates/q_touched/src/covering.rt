@@ -3,11 +3,12 @@
 //! Such a test costs more than any other, so it comes after the other rules, and only clauses near a change are tested:
 //! those with a literal whose negation stands in one clause less, or that stands in a clause that came or became shorter.
 //! They are gathered at once and tested one by one, short ones first. One that was tested since its literals were touched last is
-//! passed by (`looks.rt`).
+//! passed by (`looks.rt`). Many are tested at one kernel before the first of those that are covered goes (`span.rt`).
 use crate::lists::{gather, lits_of};
 use crate::lits::Lits;
 use crate::looks::Looks;
 use crate::marked::Marked;
+use crate::span::Span;
 use crate::watch::{Pass, Watch};
 use q_blocked::{Search, Step, Target};
 use q_kernel::{ClauseId, Kernel};
@@ -24,6 +25,7 @@ pub(crate) struct Covering {
     ids: Vec<ClauseId>,
     looks: Looks,
     search: Search,
+    span: Span,
 }
 
 impl Covering {
@@ -36,6 +38,7 @@ impl Covering {
             ids: Vec::new(alloc),
             looks: Looks::new(alloc),
             search: Search::new(alloc),
+            span: Span::new(alloc),
         }
     }
 
@@ -88,18 +91,53 @@ impl Covering {
         Ok(())
     }
 
-    /// A target that applies, among the clauses that were gathered. The kernel is the same for all of them, so what one test
-    /// has learned of it serves for the next one.
+    /// A target that applies, among the clauses that were gathered.
     pub(crate) fn next<W: Watch>(
         &mut self,
         kernel: &Kernel,
         watch: &W,
     ) -> Result<Option<Target>, NoMemory> {
+        let found = self.hand_out(kernel)?;
+        if found.is_some() {
+            return Ok(found);
+        }
+        for _ in 0..self.batch.len() {
+            self.fill(kernel, watch)?;
+            let found = self.hand_out(kernel)?;
+            if found.is_some() {
+                return Ok(found);
+            }
+        }
+        Ok(None)
+    }
+
+    // The next clause of the span that is covered still, by its steps or by others.
+    fn hand_out(&mut self, kernel: &Kernel) -> Result<Option<Target>, NoMemory> {
+        for _ in 0..self.span.left() {
+            let Some(c) = self.span.hand_out() else {
+                return Ok(None);
+            };
+            self.search.forget();
+            self.search.suggest(c, self.span.steps());
+            if self.search.covers(kernel, c)? {
+                return Ok(Some(Target::Cover { c }));
+            }
+        }
+        Ok(None)
+    }
+
+    // Fills a span with clauses that were gathered. The kernel is the same for all of them, so what one test has learned of it
+    // serves for the next one.
+    fn fill<W: Watch>(&mut self, kernel: &Kernel, watch: &W) -> Result<(), NoMemory> {
+        self.span.begin();
         self.search.forget();
         self.looks.begin();
         for _turn in 0..self.batch.len() {
+            if self.span.is_full() {
+                return Ok(());
+            }
             let Some((_, c)) = self.batch.pop() else {
-                return Ok(None);
+                return Ok(());
             };
             if self.looks.is_done_with(kernel, c) {
                 continue;
@@ -107,10 +145,10 @@ impl Covering {
             watch.look(Pass::Cover, kernel);
             self.looks.look(c)?;
             if self.search.covers(kernel, c)? {
-                return Ok(Some(Target::Cover { c }));
+                self.span.put(c, self.search.steps())?;
             }
         }
-        Ok(None)
+        Ok(())
     }
 
     /// The steps by which the target was covered that `next` gave last.

@@ -17,6 +17,7 @@ mod marked;
 mod merging;
 mod parts;
 mod plain;
+mod span;
 mod strategy;
 mod subsuming;
 mod touched;

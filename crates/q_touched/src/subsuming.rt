@@ -6,7 +6,7 @@
 ghost use Rattle.q_kernel.specs.Prelude.{IsReady};
 
 use crate::clause_index::{ClauseIndex, Entry, signature_of};
-use crate::lists::{gather, index_of, lits_of, places_of};
+use crate::lists::{gather, index_of, lit_at, lits_of, places_of};
 use crate::marked::Marked;
 use crate::watch::{Pass, Watch};
 use q_kernel::{ClauseId, Kernel};
@@ -176,6 +176,10 @@ impl Subsuming {
     }
 
     fn find(&mut self, kernel: &Kernel, d: ClauseId) -> Result<Option<Target>, NoMemory> {
+        if !kernel.live(d) {
+            self.index.take_out(d);
+            return Ok(None);
+        }
         let clause = lits_of(kernel, d);
         fill(&mut self.set, clause)?;
         let shape = Entry {
@@ -199,19 +203,21 @@ impl Subsuming {
         Ok(best)
     }
 
-    // A target by a clause that hangs at one literal. One that subsumes is better.
-    fn scan(&self, kernel: &Kernel, d: ClauseId, shape: &Entry, home: u32) -> Option<Target> {
+    // A target by a clause that hangs at one literal. One that subsumes is better. Behind so many clauses as hold the literal some
+    // of those that hang there are gone: these are taken out, so that none is met twice.
+    fn scan(&mut self, kernel: &Kernel, d: ClauseId, shape: &Entry, home: u32) -> Option<Target> {
         let mut best = None;
-        if home == 0 {
-            return best;
-        }
+        let live = places_at(kernel, home);
         let mut c = self.index.first(home);
-        for _ in 0..self.index.len() {
+        for met in 0..self.index.len() {
             let entry = self.index.entry(c);
-            if entry.home != home {
+            if home == 0 || entry.home != home {
                 return best;
             }
-            if c != d && entry.len <= shape.len && entry.signature & !shape.signature == 0 {
+            let fits = c != d && entry.may_lie_in(shape);
+            if (fits || met >= live) && !kernel.live(c) {
+                self.index.take_out(c);
+            } else if fits {
                 match self.lie(kernel, c) {
                     Lying::Outside => {}
                     Lying::Within => return Some(Target::Subsumed { c, d }),
@@ -278,6 +284,14 @@ impl Subsuming {
             Lying::Turned(l) => self.batch.push(Target::Strengthen { c, d, l })?,
         }
         Ok(())
+    }
+}
+
+// How many clauses hold the literal of an index.
+fn places_at(kernel: &Kernel, index: u32) -> usize {
+    match lit_at(index) {
+        Some(lit) => kernel.count(lit) as usize,
+        None => 0,
     }
 }
 
