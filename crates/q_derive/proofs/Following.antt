@@ -126,10 +126,11 @@ further-same P L a b T ds es e f = subst (IsFurther P L a b T) e f
 -- A leaf.
 pub leaf-further : (P : Prefix) (L : List Literal → Type 0) (lines : List Line) (ds : List Drop) (T : List Literal) →
     IsDerived P L lines ds → L T → (more : List Line) × IsFurther P L lines more T ds
-leaf-further P L lines ds T d l =
-    (lines ++ record { literals = T; reason = leaf } ∷ [],
-    further-same P L lines (lines ++ record { literals = T; reason = leaf } ∷ []) T (ds ++ []) ds (append-nil ds)
-    (further-by P L lines ds [] (record { literals = T; reason = leaf }) d l refl))
+leaf-further P L lines ds T d l = (
+  lines ++ record { literals = T; reason = leaf } ∷ [],
+  further-same P L lines (lines ++ record { literals = T; reason = leaf } ∷ []) T (ds ++ []) ds (append-nil ds)
+      (further-by P L lines ds [] (record { literals = T; reason = leaf }) d l refl),
+)
 
 -- More literals.
 drops-none : (S T : List Literal) → ((k : Literal) → IsIn k S → IsIn k T) → drops_to S T ≡ []
@@ -143,11 +144,12 @@ pub weaker-further : (P : Prefix) (L : List Literal → Type 0) (lines : List Li
     (more : List Line) × IsFurther P L lines more T ds
 weaker-further P L lines ds S T d h w =
     let b : IsBefore lines (length lines) h.0 S = before-of lines S h in
-    let same : literals_of (slice_get lines h.0) ≡ S = ap literals_of b.2 ∙ b.3 in
-    (lines ++ record { literals = T; reason = reduce h.0 } ∷ [],
-    further-same P L lines (lines ++ record { literals = T; reason = reduce h.0 } ∷ []) T (ds ++ []) ds (append-nil ds)
-    (further-by P L lines ds [] (record { literals = T; reason = reduce h.0 }) d
-    (S, b, λ g m. inl (w g m)) (ap (λ X. drops_to X T) same ∙ drops-none S T w)))
+    let same : literals_of (slice_get lines h.0) ≡ S = ap literals_of b.2 ∙ b.3 in (
+      lines ++ record { literals = T; reason = reduce h.0 } ∷ [],
+      further-same P L lines (lines ++ record { literals = T; reason = reduce h.0 } ∷ []) T (ds ++ []) ds (append-nil ds)
+          (further-by P L lines ds [] (record { literals = T; reason = reduce h.0 }) d
+          (S, b, λ g m. inl (w g m)) (ap (λ X. drops_to X T) same ∙ drops-none S T w)),
+    )
 
 -- A resolvent, or the one line, and maybe more literals.
 abbrev pub AreThere : List Line → Parents → Type 0
@@ -170,13 +172,18 @@ parent-further P L lines ds nothing R T d h p w = absurd p
 parent-further P L lines ds missing R T d h p w = absurd p
 parent-further P L lines ds (single S) R T d h p w =
     weaker-further P L lines ds S T d h (λ k m. w k (subst (IsIn k) (sym p) m))
-parent-further P L lines ds (double S U) R T d h (k, v, e) w =
-    (lines ++ record { literals = T; reason = resolve h.0.0 h.1.0 k } ∷ [],
-    further-same P L lines (lines ++ record { literals = T; reason = resolve h.0.0 h.1.0 k } ∷ []) T (ds ++ []) ds (append-nil ds)
-    (further-by P L lines ds [] (record { literals = T; reason = resolve h.0.0 h.1.0 k }) d
-    (S, U, before-of lines S h.0, before-of lines U h.1,
-    rest-of S k T (λ j m. w j (subst (IsIn j) (sym e) (IsIn-append_left j (without k S) (without (negation k) U) m))),
-    rest-of U (negation k) T (λ j m. w j (subst (IsIn j) (sym e) (IsIn-append_right j (without k S) (without (negation k) U) m)))) refl))
+parent-further P L lines ds (double S U) R T d h (k, v, e) w = (
+  lines ++ record { literals = T; reason = resolve h.0.0 h.1.0 k } ∷ [],
+  further-same P L lines (lines ++ record { literals = T; reason = resolve h.0.0 h.1.0 k } ∷ []) T (ds ++ []) ds (append-nil ds)
+      (further-by P L lines ds [] (record { literals = T; reason = resolve h.0.0 h.1.0 k }) d (
+        S,
+        U,
+        before-of lines S h.0,
+        before-of lines U h.1,
+        rest-of S k T (λ j m. w j (subst (IsIn j) (sym e) (IsIn-append_left j (without k S) (without (negation k) U) m))),
+        rest-of U (negation k) T (λ j m. w j (subst (IsIn j) (sym e) (IsIn-append_right j (without k S) (without (negation k) U) m))),
+      ) refl),
+)
 
 -- A reduction: what goes stands behind what stays.
 drops-all : (G S Ts : List Literal) → ((k : Literal) → IsIn k S → IsIn k G) → ((k : Literal) → IsIn k Ts → has k G ≡ false) →
@@ -200,10 +207,11 @@ shed-further : (P : Prefix) (L : List Literal → Type 0) (lines : List Line) (d
     (more : List Line) × IsFurther P L lines more G (ds ++ drops_of Ts G)
 shed-further P L lines ds G Ts d h a =
     let b : IsBefore lines (length lines) h.0 (G ++ Ts) = before-of lines (G ++ Ts) h in
-    let same : literals_of (slice_get lines h.0) ≡ G ++ Ts = ap literals_of b.2 ∙ b.3 in
-    (lines ++ record { literals = G; reason = reduce h.0 } ∷ [],
-    further-by P L lines ds (drops_of Ts G) (record { literals = G; reason = reduce h.0 }) d
-    (G ++ Ts, b, red) (ap (λ X. drops_to X G) same ∙ drops-all G G Ts (λ k m. m) absent))
+    let same : literals_of (slice_get lines h.0) ≡ G ++ Ts = ap literals_of b.2 ∙ b.3 in (
+      lines ++ record { literals = G; reason = reduce h.0 } ∷ [],
+      further-by P L lines ds (drops_of Ts G) (record { literals = G; reason = reduce h.0 }) d
+          (G ++ Ts, b, red) (ap (λ X. drops_to X G) same ∙ drops-all G G Ts (λ k m. m) absent),
+    )
   where
     red : IsReduced P (G ++ Ts) G
     red g m = elim (IsIn-append g G Ts m) [
@@ -225,9 +233,11 @@ pub inner-further : (P : Prefix) (L : List Literal → Type 0) (lines : List Lin
 inner-further P L lines ds from R T G Ts d h p w v a =
     let x = parent-further P L lines ds from R (G ++ Ts) d h p w in
     let y = shed-further P L x.0 ds G Ts x.1.derived x.1.there a in
-    let z = weaker-further P L y.0 (ds ++ drops_of Ts G) G T y.1.derived y.1.there v in
-    (z.0, further-then P L lines y.0 z.0 G T (ds ++ drops_of Ts G) (ds ++ drops_of Ts G)
-    (further-then P L lines x.0 y.0 (G ++ Ts) G ds (ds ++ drops_of Ts G) x.1 y.1) z.1)
+    let z = weaker-further P L y.0 (ds ++ drops_of Ts G) G T y.1.derived y.1.there v in (
+      z.0,
+      further-then P L lines y.0 z.0 G T (ds ++ drops_of Ts G) (ds ++ drops_of Ts G)
+          (further-then P L lines x.0 y.0 (G ++ Ts) G ds (ds ++ drops_of Ts G) x.1 y.1) z.1,
+    )
 
 -- The drops of lines that are turned round.
 has-turned : (k : Literal) (T : List Literal) → has (negation k) (turned_all T) ≡ has k T

@@ -128,16 +128,20 @@ same-over guards more (f ∷ row) w =
 pub more-guards : (old new : Drops) (T : List Literal) → AreSound old → new.guards ≡ old.guards ++ T ∷ [] →
     new.row ≡ old.row → new.last ≡ old.last →
     IsMore old new [] × (slice_get new.guards (length old.guards) ≡ Some T) × (length old.guards < length new.guards)
-more-guards old new T h g r l = (record {
-  drops =
-      ap (λ row. map (drop_of new.guards) row.items) r ∙ ap (λ gs. map (drop_of gs) old.row.items) g ∙
-      same-over old.guards (T ∷ []) old.row.items h.within ∙ sym (append-nil (drops_in old));
-  sound = record {
-    chained = subst (λ row. AreChained row.items new.last.items) (sym r) (subst (λ last. AreChained old.row.items last.items) (sym l) h.chained);
-    within = λ i f e. let z : f.guard < length old.guards = h.within i f (subst (λ row. slice_get row.items i ≡ Some f) r e) in
-        let n : length new.guards ≡ length old.guards + 1 = ap length g ∙ length_push old.guards T in omega arith;
-  };
-}, ap (λ gs. slice_get gs (length old.guards)) g ∙ at-end old.guards, let n : length new.guards ≡ length old.guards + 1 = ap length g ∙ length_push old.guards T in omega arith)
+more-guards old new T h g r l = (
+  record {
+    drops =
+        ap (λ row. map (drop_of new.guards) row.items) r ∙ ap (λ gs. map (drop_of gs) old.row.items) g ∙
+        same-over old.guards (T ∷ []) old.row.items h.within ∙ sym (append-nil (drops_in old));
+    sound = record {
+      chained = subst (λ row. AreChained row.items new.last.items) (sym r) (subst (λ last. AreChained old.row.items last.items) (sym l) h.chained);
+      within = λ i f e. let z : f.guard < length old.guards = h.within i f (subst (λ row. slice_get row.items i ≡ Some f) r e) in
+          let n : length new.guards ≡ length old.guards + 1 = ap length g ∙ length_push old.guards T in omega arith;
+    };
+  },
+  ap (λ gs. slice_get gs (length old.guards)) g ∙ at-end old.guards,
+  let n : length new.guards ≡ length old.guards + 1 = ap length g ∙ length_push old.guards T in omega arith,
+)
   where
     at-end : (gs : List (List Literal)) → slice_get (gs ++ T ∷ []) (length gs) ≡ Some T
     at-end [] = refl
@@ -170,7 +174,10 @@ no-fall [] e (suc i) f h = cc
 no-fall (x ∷ row) e i f h = cc
 
 pub none-sound : (d : Drops) → d.row.items ≡ [] → d.last.items ≡ [] → AreSound d × (drops_in d ≡ [])
-none-sound d e f = (record {
-  chained = chained-none d.row.items d.last.items e f;
-  within = λ i g h. absurd (no-fall d.row.items e i g h);
-}, ap (map (drop_of d.guards)) e)
+none-sound d e f = (
+  record {
+    chained = chained-none d.row.items d.last.items e f;
+    within = λ i g h. absurd (no-fall d.row.items e i g h);
+  },
+  ap (map (drop_of d.guards)) e,
+)

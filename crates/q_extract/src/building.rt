@@ -45,12 +45,7 @@ fn make(
 }
 
 /// The circuit of a variable.
-pub fn decide(
-    aig: &mut Aig,
-    tables: &Tables,
-    drops: &Drops,
-    var: u32,
-) -> Result<u64, NoMemory>
+pub fn decide(aig: &mut Aig, tables: &Tables, drops: &Drops, var: u32) -> Result<u64, NoMemory>
     requires inputs { AreLiterals aig.old tables.now.inputs.items }
     requires circuits { AreLiterals aig.old tables.now.circuits.items }
     requires drops { AreSound drops.now }
@@ -63,7 +58,13 @@ pub fn decide(
     while let Some(place) = at {
         end = place as usize;
         let fall = drops.row[end];
-        circuit = make(aig, tables, fall.lit, drops.guards.clause(fall.guard), circuit)?;
+        circuit = make(
+            aig,
+            tables,
+            fall.lit,
+            drops.guards.clause(fall.guard),
+            circuit,
+        )?;
         at = fall.before;
     }
     Ok(circuit)

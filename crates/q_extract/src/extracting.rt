@@ -14,12 +14,7 @@ use q_logic::{Bound, NoMemory, Quant};
 use std::alloc::Global;
 
 // The circuit of a variable, if it is an existential.
-fn enter(
-    aig: &mut Aig,
-    tables: &mut Tables,
-    drops: &Drops,
-    bound: Bound,
-) -> Result<(), NoMemory>
+fn enter(aig: &mut Aig, tables: &mut Tables, drops: &Drops, bound: Bound) -> Result<(), NoMemory>
     requires inputs { AreLiterals aig.old tables.old.inputs.items }
     requires circuits { AreLiterals aig.old tables.old.circuits.items }
     requires drops { AreSound drops.now }
