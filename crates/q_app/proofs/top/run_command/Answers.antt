@@ -23,19 +23,19 @@ returns-in-Generate g c =
 
 pub returns-in-Validate : goal.returns-in-Validate
 returns-in-Validate g c =
-    subst (λ (k : Parsed). InTurn (commands_of k) (devices g.F.Files g.S.Sink c.args.files.now c.args.out.now) c.run_validate.result (devices g.F.Files g.S.Sink c.run_validate.new.files c.run_validate.new.out)) (sym c.in-Validate.is) c.run_validate.ensures
+    subst (λ (k : Parsed). InTurn (commands_of k) (devices g.F.Files g.S.Sink c.args.files.now c.args.out.now) c.run.result (devices g.F.Files g.S.Sink c.run.new.files c.run.new.out)) (sym c.in-Validate.is) c.run.ensures
 
 pub returns-in-Refute : goal.returns-in-Refute
 returns-in-Refute g c =
-    subst (λ (k : Parsed). InTurn (commands_of k) (devices g.F.Files g.S.Sink c.args.files.now c.args.out.now) c.run_refute.result (devices g.F.Files g.S.Sink c.run_refute.new.files c.run_refute.new.out)) (sym c.in-Refute.is) c.run_refute.ensures
+    subst (λ (k : Parsed). InTurn (commands_of k) (devices g.F.Files g.S.Sink c.args.files.now c.args.out.now) c.run-in-Refute.result (devices g.F.Files g.S.Sink c.run-in-Refute.new.files c.run-in-Refute.new.out)) (sym c.in-Refute.is) c.run-in-Refute.ensures
 
 pub returns-in-Annotate : goal.returns-in-Annotate
 returns-in-Annotate g c =
-    subst (λ (k : Parsed). InTurn (commands_of k) (devices g.F.Files g.S.Sink c.args.files.now c.args.out.now) c.run_annotate.result (devices g.F.Files g.S.Sink c.run_annotate.new.files c.run_annotate.new.out)) (sym c.in-Annotate.is) c.run_annotate.ensures
+    subst (λ (k : Parsed). InTurn (commands_of k) (devices g.F.Files g.S.Sink c.args.files.now c.args.out.now) c.run-in-Annotate.result (devices g.F.Files g.S.Sink c.run-in-Annotate.new.files c.run-in-Annotate.new.out)) (sym c.in-Annotate.is) c.run-in-Annotate.ensures
 
 pub returns-in-Solve : goal.returns-in-Solve
 returns-in-Solve g c =
-    subst (λ (k : Parsed). InTurn (commands_of k) (devices g.F.Files g.S.Sink c.args.files.now c.args.out.now) c.run_solve.result (devices g.F.Files g.S.Sink c.run_solve.new.files c.run_solve.new.out)) (sym c.in-Solve.is) c.run_solve.ensures
+    subst (λ (k : Parsed). InTurn (commands_of k) (devices g.F.Files g.S.Sink c.args.files.now c.args.out.now) c.run-in-Solve.result (devices g.F.Files g.S.Sink c.run-in-Solve.new.files c.run-in-Solve.new.out)) (sym c.in-Solve.is) c.run-in-Solve.ensures
 
 pub returns-in-Demo : goal.returns-in-Demo
 returns-in-Demo g c =
