@@ -21,8 +21,8 @@
 //! grows, and the set only grows, so this stays so.
 //!
 //! Most looks find nothing, and for the reason of the last look, at this clause or at one before. So it is noted and
-//! asked first: two clauses with `not l` that have nothing in common beyond the set (`pairs.rt`), the place in a long
-//! clause of a literal whose negation is in the set (`nothing_hidden.rt`). What is noted is tested each time, so it may be out of
+//! asked first: two clauses with `not l` that have nothing in common beyond the set (`pairs.rt`), the places in a long
+//! clause of two literals that were not in the set (`nothing_hidden.rt`). What is noted is tested each time, so it may be out of
 //! date.
 //!
 //! **The steps** (`plan.rt`, `covering.rt`). A stage is a larger clause that comes, after which the smaller one goes.

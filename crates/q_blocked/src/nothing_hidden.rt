@@ -1,5 +1,5 @@
 //! Long clauses that give a set no hidden literal, as few of their literals show.
-ghost use Rattle.std.specs.Prelude.{◌≡◌, ◌<◌, ℕ, length, slice_get, true, Some, IfOk};
+ghost use Rattle.std.specs.Prelude.{◌≡◌, ◌≢◌, ◌↔◌, true, IfOk, IsTrue};
 ghost use Rattle.q_logic.specs.Prelude.{Literal, Clause, IsIn, IsTautology};
 ghost use Rattle.q_kernel.specs.Prelude.{slots};
 ghost use Rattle.q_blocked.specs.Walks.{IsBeside, GivesNone};
@@ -12,11 +12,23 @@ use std::alloc::Global;
 // A shorter clause is looked at as a whole.
 const LONG: usize = 6;
 
-/// For each long clause the place of a literal that was not in a set. It may be out of date: it is tested where it is
+/// Two places in a clause.
+#[derive(Clone, Copy)]
+struct Places {
+    first: usize,
+    second: usize,
+}
+
+const START: Places = Places {
+    first: 0,
+    second: 0,
+};
+
+/// For each long clause the places of two literals that were not in a set. They may be out of date: they are tested where they are
 /// used.
 #[derive(Drop)]
 pub struct Hints {
-    places: Vec<usize>,
+    places: Vec<Places>,
 }
 
 impl Hints {
@@ -26,67 +38,74 @@ impl Hints {
         }
     }
 
-    fn of(&self, d: ClauseId) -> usize {
-        self.places.get(d as usize).copied().unwrap_or(0)
+    fn of(&self, d: ClauseId) -> Places {
+        self.places.get(d as usize).copied().unwrap_or(START)
     }
 
-    fn note(&mut self, d: ClauseId, place: usize) -> Result<(), NoMemory> {
+    fn note(&mut self, d: ClauseId, places: Places) -> Result<(), NoMemory> {
         let at = d as usize;
         if self.places.len() <= at {
-            self.places.resize(at + 1, 0)?;
+            self.places.resize(at + 1, START)?;
         }
-        self.places[at] = place;
+        self.places[at] = places;
         Ok(())
     }
 }
 
-// Whether the negation of the literal at a place is in the set.
-fn is_opposed(clause: &[Lit], set: &Queue, place: usize) -> bool
-    requires { IsTautology set.now → ⊥ }
-    ensures { result ≡ true → GivesNone set.now clause.now }
+// Whether two literals of a clause are two, and none of them in the set.
+#[inline(always)]
+fn are_two_outside(set: &Queue, first: Lit, second: Lit) -> bool
+    ensures { IsTrue result ↔ ((IsIn first set.now → ⊥) × (IsIn second set.now → ⊥)
+        × (second ≢ first)) }
 {
-    if place >= clause.len() {
-        return false;
+    !set.has(first) && !set.has(second) && !second.is(first)
+}
+
+/// Whether two literals of a clause show that it gives the set nothing: both because they are outside, which is mostly so and asked
+/// first, or one whose negation is in the set.
+#[inline(always)]
+pub(crate) fn are_quiet(set: &Queue, first: Lit, second: Lit) -> bool
+    requires { IsTautology set.now → ⊥ }
+    ensures { result ≡ true → (D : Clause) → IsIn first D → IsIn second D → GivesNone set.now D }
+{
+    if are_two_outside(set, first, second) {
+        return true;
     }
-    let k = clause[place];
-    set.has(k.negated())
+    if set.has(first.negated()) {
+        return true;
+    }
+    set.has(second.negated())
 }
 
 // The place of the first literal from a place on that is not in the set.
-fn outside_from(clause: &[Lit], set: &Queue, from: usize) -> Option<usize>
-    ensures { (i : ℕ) → result ≡ Some i
-        → (i < length clause.now)
-        × ((k : Literal) → slice_get clause.now i ≡ Some k → IsIn k set.now → ⊥) }
-{
+fn outside_from(clause: &[Lit], set: &Queue, from: usize) -> Option<usize> {
     for place in from..clause.len() {
-        let k = clause[place];
-        if !set.has(k) {
+        if !set.has(clause[place]) {
             return Some(place);
         }
     }
     None
 }
 
-// Whether the clause shows that it gives nothing: by its first literal outside the set from a place on, whose negation
-// is there, or by a second one.
-fn shows_none(clause: &[Lit], set: &Queue, from: usize) -> bool
-    ensures { result ≡ true → GivesNone set.now clause.now }
-{
-    let Some(first) = outside_from(clause, set, from) else {
-        return false;
-    };
-    let k = clause[first];
-    if set.has(k.negated()) {
-        return true;
-    }
-    let Some(second) = outside_from(clause, set, first + 1) else {
-        return false;
-    };
-    let j = clause[second];
-    !j.is(k)
+// The places of the first two literals that are not in the set, or of the only one.
+fn outside(clause: &[Lit], set: &Queue) -> Option<Places> {
+    let first = outside_from(clause, set, 0)?;
+    let second = outside_from(clause, set, first.saturating_add(1)).unwrap_or(first);
+    Some(Places { first, second })
 }
 
-// The same for a long clause, whose place of last time is tried first.
+// Whether the literals at two places show that the clause gives nothing.
+fn shows_none(clause: &[Lit], set: &Queue, places: Places) -> bool
+    requires { IsTautology set.now → ⊥ }
+    ensures { result ≡ true → GivesNone set.now clause.now }
+{
+    if places.first >= clause.len() || places.second >= clause.len() {
+        return false;
+    }
+    are_quiet(set, clause[places.first], clause[places.second])
+}
+
+// Whether a long clause shows that it gives nothing, by the literals of last time or by those that are found now.
 fn long_gives_none(
     clause: &[Lit],
     set: &Queue,
@@ -96,14 +115,14 @@ fn long_gives_none(
     requires { IsTautology set.now → ⊥ }
     ensures { IfOk result (λ yes. yes ≡ true → GivesNone set.now clause.now) }
 {
-    if is_opposed(clause, set, hints.of(d)) {
+    if shows_none(clause, set, hints.of(d)) {
         return Ok(true);
     }
-    let Some(first) = outside_from(clause, set, 0) else {
+    let Some(places) = outside(clause, set) else {
         return Ok(false);
     };
-    hints.note(d, first)?;
-    Ok(shows_none(clause, set, first))
+    hints.note(d, places)?;
+    Ok(shows_none(clause, set, places))
 }
 
 /// Whether the clause of an id is long, and a look at few of its literals shows that it gives the set no hidden literal; or is c, or

@@ -8,35 +8,11 @@ ghost use Rattle.q_blocked.specs.Growths.{Growing, HasSpread};
 
 use crate::growth::Growth;
 use crate::hidden::{give, take_hidden};
+use crate::nothing_hidden::are_quiet;
 use q_kernel::{ClauseId, Kernel};
 use q_logic::{Lit, NoMemory};
 use q_rule::Queue;
 use q_snapshot::Entry;
-
-// Whether two literals of a clause are two, and none of them in the set.
-#[inline(always)]
-fn are_two_outside(set: &Queue, first: Lit, second: Lit) -> bool
-    ensures { IsTrue result ↔ ((IsIn first set.now → ⊥) × (IsIn second set.now → ⊥)
-        × (second ≢ first)) }
-{
-    !set.has(first) && !set.has(second) && !second.is(first)
-}
-
-// Whether two literals of a clause show that it gives the set nothing: both because they are outside, which is mostly so and asked
-// first, or one whose negation is in the set.
-#[inline(always)]
-fn are_quiet(set: &Queue, first: Lit, second: Lit) -> bool
-    requires { IsTautology set.now → ⊥ }
-    ensures { result ≡ true → (D : Clause) → IsIn first D → IsIn second D → GivesNone set.now D }
-{
-    if are_two_outside(set, first, second) {
-        return true;
-    }
-    if set.has(first.negated()) {
-        return true;
-    }
-    set.has(second.negated())
-}
 
 // Whether the clause of an entry in the row of k has two literals, k in the set and the other one outside. Then it gives the
 // negation of the other one, and need not be looked at.

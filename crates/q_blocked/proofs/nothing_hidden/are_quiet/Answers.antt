@@ -1,7 +1,7 @@
 use Rattle.std.proofs.Common.{◌≡◌, ◌↔◌, true}
 use Rattle.q_logic.specs.Prelude.{negation, IsIn}
 use Rattle.q_blocked.proofs.HiddenLiterals.{gives_none-opposed, gives_none-two}
-use Rattle.q_blocked.proofs.spreading.are_quiet.Goals as goal
+use Rattle.q_blocked.proofs.nothing_hidden.are_quiet.Goals as goal
 
 pub returns-then-are_two_outside : goal.returns-then-are_two_outside
 returns-then-are_two_outside c t D a b = let r = c.are_two_outside.ensures.0 c.if-are_two_outside.true in gives_none-two c.args.set.now D c.args.first c.args.second a r.0 b r.1 r.2

@@ -1,0 +1,9 @@
+pub mod HeldLiterals
+pub mod GateParts
+pub mod Translated
+pub mod MadeRows
+pub mod WholeMiters
+pub mod TurnedPrefix
+pub mod CertificateOutputs
+pub mod GivenCircuits
+pub mod SumBounds

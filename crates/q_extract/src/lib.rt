@@ -1,0 +1,11 @@
+//! Circuits of what a resolution proof takes away: the drops as a program holds them, and the certificate that they give.
+//!
+//! `specs/Rows` says how drops are held, `specs/Built` what their circuits are.
+#![tactic(auto)]
+
+mod building;
+mod drops;
+mod extracting;
+
+pub use drops::{Drops, Fall, no_drops, take_away};
+pub use extracting::extract;
