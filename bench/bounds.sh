@@ -1,4 +1,4 @@
-#!/bin/sh
+#!/usr/bin/env bash
 # Measures which bounds of `simplify` help a solver: for each formula DepQBF alone, and after `simplify` with three pairs of bounds, each call
 # with so many processor seconds. One line a formula goes to bench/out/bounds.tsv; what is printed is a table of the sums.
 # Usage: bench/bounds.sh [SECONDS [FAMILY=SIZE,SIZE,.. ..]]

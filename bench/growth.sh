@@ -27,7 +27,8 @@ slope() {
 }
 
 echo "family size steps bytes simplify check slope"
-for family in ${*:-refuted free cover equal completion}; do
+[ $# -gt 0 ] || set -- refuted free cover equal completion
+for family; do
     before=0 smaller=0
     for size in $(sizes "$family"); do
         bench/families.py "$family" "$size" "$work/in"

@@ -4,7 +4,7 @@
 # fault, and is listed. Needs a C compiler. Usage: bench/refused.sh [PROGRAM]
 set -u
 export CELDRINN_PROGRESS=0
-cd "$(dirname "$0")/.."
+cd "$(dirname "$0")/.." || exit 1
 program=$(realpath "${1:-dist/celdrinn-x86_64-linux}")
 examples=$(realpath examples)
 work=$(mktemp -d)

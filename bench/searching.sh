@@ -1,4 +1,4 @@
-#!/bin/sh
+#!/usr/bin/env bash
 # The searches of `solve` and `validate` beside C++ programs of the same searches (search.cpp, blocks.cpp): processor seconds and peaks.
 #   bench/searching.sh [solve|validate] [BUDGET]
 # CELDRINN names the program. Of `solve` the time of `simplify` on the same formula is taken off; the other program is timed after reading.
