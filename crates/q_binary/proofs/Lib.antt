@@ -1,0 +1,4 @@
+pub mod BinaryProofs
+pub mod ByteSteps
+pub mod GroupValues
+pub mod FormSteps

@@ -1,0 +1,4 @@
+pub mod BinaryProofs
+pub mod Reading
+pub mod Builders
+pub mod Forms
