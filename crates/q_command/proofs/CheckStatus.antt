@@ -150,7 +150,7 @@ if_verified-some ReadFault (Some d) P h = tt
 if_verified-some NoMemory None P h = tt
 if_verified-some NoMemory (Some d) P h = tt
 
-one_truth : (i o : List ℕ) (F G : PrenexFormula) → IsFileOf i F → IsFileOf o G → Holds F ↔ Holds G → HaveOneTruth i o
+pub one_truth : (i o : List ℕ) (F G : PrenexFormula) → IsFileOf i F → IsFileOf o G → Holds F ↔ Holds G → HaveOneTruth i o
 one_truth i o F G f g t A B a b =
     subst (λ (H : PrenexFormula). Holds H ↔ Holds B) (one_formula i F A f a) (subst (λ (H : PrenexFormula). Holds F ↔ Holds H) (one_formula o G B g b) t)
 

@@ -10,3 +10,5 @@ pub mod WholeFiles
 pub mod FileFormulas
 pub mod PutLines
 pub mod OutcomeStatus
+pub mod ToldLaws
+pub mod CheckLaws

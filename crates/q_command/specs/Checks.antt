@@ -1,12 +1,17 @@
 -- What `check` answers over the bytes of its three files.
-use Rattle.std.specs.Prelude.{◌≡◌, ◌⊎◌, ◌↔◌, ℕ, Bool, true, List, length, Some}
+use Rattle.std.specs.Prelude.{◌≡◌, ◌⊎◌, ◌↔◌, ℕ, Bool, true, List, [], length, Some}
 use Rattle.q_logic.specs.Prelude.{PrenexFormula, HintedRun, HintedSteps as AreValid, NumberedFormula, begun, plain, standard, ProofStep, ValidSteps, Run, Holds, UndoEntry, Undos}
+use Rattle.q_io.specs.Files.{bytes_at}
 use Rattle.q_dimacs.specs.Dimacs.{Dimacs}
 use Rattle.q_dimacs.specs.Offences.{Offence}
 use Rattle.q_log.specs.Logs.{Steps}
 use Rattle.q_hinted.specs.Logs.{HintedSteps}
 use Rattle.q_command.specs.Logs.{Entry, HintedEntry, steps_of, hinted_of, stripped, EndsApart, IsRefusedAt}
 use Rattle.q_command.specs.Taken.{entries_of}
+use Rattle.q_command.specs.Lines.{line_of}
+use Rattle.q_command.specs.Names.{ThreeNames, names_read}
+use Rattle.q_command.specs.Statuses.{status_of}
+use Rattle.q_command.specs.Told.{Told, OrNoMemory}
 use Rattle.q_command.specs.declared.audit.Keep.{Keep}
 use Rattle.q_command.specs.declared.checking.Checked.{Checked}
 use Rattle.q_command.specs.declared.checking.Ends.{Ends}
@@ -183,3 +188,18 @@ pub record AnswersExactly (answer : Status) (i o l : List ℕ) : Type 0 where
   pub truth : answer ≡ status.Done → HaveOneTruth i o
   pub log_refused : Exactly answer status.LogRefused (IsNoRun i o l)
   pub input_refused : Exactly answer status.InputRefused (IsNoFormula i ⊎ IsNoFormula o)
+
+-- the command; a log that leads from IN to OUT is verified, another one refused
+abbrev pub told : ThreeNames → Told
+told n = record {
+  Outcome = Outcome;
+  status_of = status_of;
+  line_of = line_of;
+  says = λ o disk after. Checks o (bytes_at disk n.input) (bytes_at disk n.output) (bytes_at disk n.log);
+  gives = λ given disk after. AnswersExactly given (bytes_at disk n.input) (bytes_at disk n.output) (bytes_at disk n.log);
+  answers = λ disk given.
+      (IsVerified (bytes_at disk n.input) (bytes_at disk n.output) (bytes_at disk n.log) → OrNoMemory given status.Done)
+      × (IsNoRun (bytes_at disk n.input) (bytes_at disk n.output) (bytes_at disk n.log) → OrNoMemory given status.LogRefused);
+  reads = names_read n;
+  writes = [];
+}

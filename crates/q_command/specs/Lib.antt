@@ -13,3 +13,6 @@ pub mod Trials
 pub mod Audits
 pub mod Checks
 pub mod Texts
+pub mod Devices
+pub mod Told
+pub mod Unfits

@@ -13,7 +13,7 @@ use q_logic::{Formula, Limits};
 use std::alloc::Global;
 
 /// How many bytes of a file are read at once.
-pub(crate) const PIECE: usize = 65_536;
+pub const PIECE: usize = 65_536;
 
 /// Why there is no formula.
 #[derive(Clone, Copy, Debug, PartialEq, Eq)]

@@ -16,9 +16,10 @@ use Rattle.q_command.specs.declared.outcome.Role.TheVariants.{In, Out}
 use Rattle.q_command.specs.declared.status.Status.{Status}
 use Rattle.q_command.specs.declared.status.Status.TheVariants as status
 use Rattle.q_command.proofs.CheckStatus.{carried, line_no_run, end_no_run, no_offence}
+use Rattle.q_command.proofs.ToldLaws.{ToldLaws, exact}
 use Rattle.q_command.proofs.WholeLogs.{profile-told}
 use Rattle.q_run_annotate.specs.AnnotatedLines.{status_of_annotated}
-use Rattle.q_run_annotate.specs.Annotates.{AnnotateFiles, IsWhole, IsPart, IsPlainVerified, IsNoPlainRun, LeadsPlain, EndsPlain, PlainChecks, Annotates, AnnotatesExactly}
+use Rattle.q_run_annotate.specs.Annotates.{AnnotateFiles, IsWhole, IsPart, IsPlainVerified, IsNoPlainRun, LeadsPlain, EndsPlain, PlainChecks, Annotates, AnnotatesExactly, told}
 use Rattle.q_run_annotate.specs.declared.annotated.Annotated.{Annotated}
 use Rattle.q_run_annotate.specs.declared.annotated.Annotated.TheVariants.{Written, Unverified, WriteFault, NoMemory}
 
@@ -177,3 +178,10 @@ annotate-usage (Unverified outcome.ReadFault) e = cc
 annotate-usage (Unverified outcome.NoMemory) e = cc
 annotate-usage WriteFault e = cc
 annotate-usage NoMemory e = cc
+
+pub laws : (n : AnnotateFiles) → ToldLaws (told n)
+laws n = record {
+  gives = λ o given disk after old new h d. annotate-answers given n disk after o old new h d;
+  no_usage = annotate-usage;
+  answers = λ given disk after m g. (exact given status.Done _ m g.done, exact given status.LogRefused _ m g.log_refused);
+}

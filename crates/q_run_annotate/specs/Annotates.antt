@@ -9,11 +9,13 @@ use Rattle.q_hinted.specs.Parts.{IsPartOf}
 use Rattle.q_hinted.specs.Texts.{log_text}
 use Rattle.q_command.specs.Checks.{Checks, IsFileOf, IsNoFormula, IsPlainRunLog, IsPlainWay, IsUnverified, OfFormulas, Exactly}
 use Rattle.q_command.specs.Logs.{Entry, steps_of, EndsApart, IsRefusedPlain}
+use Rattle.q_command.specs.Told.{Told, OrNoMemory}
 use Rattle.q_command.specs.declared.outcome.Outcome.{Outcome}
 use Rattle.q_command.specs.declared.outcome.Outcome.TheVariants as outcome
 use Rattle.q_command.specs.declared.outcome.Role.TheVariants.{In, Out}
 use Rattle.q_command.specs.declared.status.Status.{Status}
 use Rattle.q_command.specs.declared.status.Status.TheVariants as status
+use Rattle.q_run_annotate.specs.AnnotatedLines.{status_of_annotated, line_of_annotated}
 use Rattle.q_run_annotate.specs.declared.names.AnnotateNames.{AnnotateNames}
 use Rattle.q_run_annotate.specs.declared.annotated.Annotated.{Annotated}
 use Rattle.q_run_annotate.specs.declared.annotated.Annotated.TheVariants.{Written, Unverified, WriteFault, NoMemory}
@@ -132,3 +134,18 @@ pub record AnnotatesExactly (given : Status) (n : AnnotateFiles) (before : Disk)
 -- what `check` says of the files where it verified so many steps
 abbrev pub SaysVerified : ℕ → List ℕ → List ℕ → List ℕ → Type 0
 SaysVerified k i o l = Checks (outcome.Verified k) i o l
+
+-- the command; a plain log that leads there gets hints, another one is refused
+abbrev pub told : AnnotateFiles → Told
+told n = record {
+  Outcome = Annotated;
+  status_of = status_of_annotated;
+  line_of = line_of_annotated;
+  says = λ o disk after. Annotates o n disk after;
+  gives = λ given disk after. AnnotatesExactly given n disk after;
+  answers = λ disk given.
+      (IsPlainVerified (bytes_at disk n.input) (bytes_at disk n.output) (bytes_at disk n.log) → OrNoMemory given status.Done)
+      × (IsNoPlainRun (bytes_at disk n.input) (bytes_at disk n.output) (bytes_at disk n.log) → OrNoMemory given status.LogRefused);
+  reads = names_read n;
+  writes = names_written n;
+}

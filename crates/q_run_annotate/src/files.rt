@@ -10,12 +10,9 @@ use crate::annotated::Annotated;
 use crate::names::AnnotateNames;
 use crate::reading::read_log;
 use crate::scribe::HintedText;
-use q_command::{Names, Outcome, Status, read_ends};
+use q_command::{Names, Outcome, PIECE, Status, read_ends};
 use q_io::{DeviceError, Files, write_whole};
 use std::alloc::Global;
-
-// How many bytes of a file are read at once.
-const PIECE: usize = 65_536;
 
 // The text with hints, read through the buffer.
 fn hint_files<F: Files>(

@@ -5,6 +5,7 @@
 
 mod annotated;
 mod boxed;
+mod command;
 mod files;
 mod law;
 mod names;
@@ -12,6 +13,7 @@ mod reading;
 mod scribe;
 
 pub use annotated::Annotated;
+pub use command::run;
 pub use files::annotate_files;
 pub use law::annotated_is_verified;
 pub use names::AnnotateNames;

@@ -17,7 +17,7 @@ use Rattle.q_validate.specs.Refusals.{IsRefused}
 use Rattle.q_run_validate.specs.ValidatedLines.{status_of_validated}
 use Rattle.q_run_validate.specs.Validates.{ValidateFiles, IsFormulaFile, Judges, Says, Validates, refused_input, refused_text, refused_circuits}
 use Rattle.q_run_validate.specs.declared.validated.Validated.{Validated}
-use Rattle.q_run_validate.specs.declared.validated.Validated.TheVariants.{Valid, Invalid, Unknown, RefusedInput, RefusedText, MissingOutput, StrangeOutput, StrangeInput, Reads, ReadFault, NoMemory}
+use Rattle.q_run_validate.specs.declared.validated.Validated.TheVariants.{Valid, Invalid, Unknown, RefusedInput, RefusedText, RefusedCircuits, ReadFault, NoMemory}
 
 -- a refusal of circuits is what the outcome says
 pub refused-judges : (e : ValidateError) (o : Validated) (F : PrenexFormula) (c : CertificateView) (budget : Option ℕ) → o ≡ refused_circuits e →
@@ -38,10 +38,7 @@ judged-says (Invalid line) n budget disk F c f a h = record { formula = F; given
 judged-says Unknown n budget disk F c f a h = record { formula = F; given = c; is_input = f; circuits = a; holds = h }
 judged-says (RefusedInput k e) n budget disk F c f a h = absurd h
 judged-says (RefusedText k e) n budget disk F c f a h = absurd h
-judged-says (MissingOutput v) n budget disk F c f a h = record { formula = F; given = c; is_input = f; circuits = a; holds = h }
-judged-says (StrangeOutput v) n budget disk F c f a h = record { formula = F; given = c; is_input = f; circuits = a; holds = h }
-judged-says (StrangeInput v) n budget disk F c f a h = record { formula = F; given = c; is_input = f; circuits = a; holds = h }
-judged-says (Reads v u) n budget disk F c f a h = record { formula = F; given = c; is_input = f; circuits = a; holds = h }
+judged-says (RefusedCircuits w) n budget disk F c f a h = record { formula = F; given = c; is_input = f; circuits = a; holds = h }
 judged-says ReadFault n budget disk F c f a h = absurd h
 judged-says NoMemory n budget disk F c f a h = tt
 
@@ -51,10 +48,7 @@ judged-not_fault (Invalid line) F c budget h e = cc
 judged-not_fault Unknown F c budget h e = cc
 judged-not_fault (RefusedInput k x) F c budget h e = h
 judged-not_fault (RefusedText k x) F c budget h e = h
-judged-not_fault (MissingOutput v) F c budget h e = cc
-judged-not_fault (StrangeOutput v) F c budget h e = cc
-judged-not_fault (StrangeInput v) F c budget h e = cc
-judged-not_fault (Reads v u) F c budget h e = cc
+judged-not_fault (RefusedCircuits w) F c budget h e = cc
 judged-not_fault ReadFault F c budget h e = h
 judged-not_fault NoMemory F c budget h e = cc
 
@@ -65,10 +59,7 @@ never-write (Invalid line) e = cc
 never-write Unknown e = cc
 never-write (RefusedInput k c) e = cc
 never-write (RefusedText k c) e = cc
-never-write (MissingOutput v) e = cc
-never-write (StrangeOutput v) e = cc
-never-write (StrangeInput v) e = cc
-never-write (Reads v u) e = cc
+never-write (RefusedCircuits w) e = cc
 never-write ReadFault e = cc
 never-write NoMemory e = cc
 

@@ -17,13 +17,16 @@ use Rattle.q_validate.specs.declared.error.ValidateError.TheVariants as refusal
 use Rattle.q_command.specs.Checks.{IsFileOf, IsNoFormula, MayCome, Exactly}
 use Rattle.q_command.specs.Sinks.{SinkView, IsDue}
 use Rattle.q_command.specs.declared.status.Status.{Status}
+use Rattle.q_command.specs.declared.unfit.Unfit.{Unfit}
+use Rattle.q_command.specs.declared.unfit.Unfit.TheVariants as unfit
 use Rattle.q_command.specs.declared.status.Status.TheVariants as status
 use Rattle.q_command.proofs.CheckStatus.{one_formula, no_offence}
+use Rattle.q_command.proofs.ToldLaws.{ToldLaws, exact}
 use Rattle.q_command.proofs.FileFormulas.{file-formula}
 use Rattle.q_run_validate.specs.ValidatedLines.{status_of_validated}
-use Rattle.q_run_validate.specs.Validates.{ValidateFiles, OfFiles, IsFormulaFile, Says, Validates, IsCut, IsUnfit, AreValid, AreInvalid, AreUndecided, AreNoCircuits, ValidatesExactly}
+use Rattle.q_run_validate.specs.Validates.{ValidateFiles, error_of, OfFiles, IsFormulaFile, Says, Validates, IsCut, IsUnfit, AreValid, AreInvalid, AreUndecided, AreNoCircuits, ValidatesExactly, told}
 use Rattle.q_run_validate.specs.declared.validated.Validated.{Validated}
-use Rattle.q_run_validate.specs.declared.validated.Validated.TheVariants.{Valid, Invalid, Unknown, RefusedInput, RefusedText, MissingOutput, StrangeOutput, StrangeInput, Reads, ReadFault, NoMemory}
+use Rattle.q_run_validate.specs.declared.validated.Validated.TheVariants.{Valid, Invalid, Unknown, RefusedInput, RefusedText, RefusedCircuits, ReadFault, NoMemory}
 
 -- what the files hold is told by the formula, the claim and what fits
 pub record IsSame (F G : PrenexFormula) (c d : CertificateView) : Type 0 where
@@ -171,6 +174,12 @@ module _ (given : Status) (n : ValidateFiles) (budget : Option ℕ) (before : Di
   refused-cause c d x same e =
       refused (inr (record { formula = x.formula; given = x.given; is_input = x.is_input; circuits = x.circuits; holds = (c, d, x.holds) })) same e
 
+  not-memory : (w : Unfit) → error_of w ≡ refusal.NoMemory → ⊥
+  not-memory (unfit.MissingOutput v) e = cc
+  not-memory (unfit.StrangeOutput v) e = cc
+  not-memory (unfit.StrangeInput v) e = cc
+  not-memory (unfit.Reads v u) e = cc
+
   due-answers : (o : Validated) → Says o n budget before → after ≡ Some before → given ≡ status_of_validated o → Result
   due-answers Valid h same e =
       valid (record { formula = h.formula; given = h.given; is_input = h.is_input; circuits = h.circuits; holds = (h.holds.1.1, h.holds.1.0) }) same e
@@ -181,10 +190,7 @@ module _ (given : Status) (n : ValidateFiles) (budget : Option ℕ) (before : Di
       undecided (record { formula = h.formula; given = h.given; is_input = h.is_input; circuits = h.circuits; holds = h.holds }) same e
   due-answers (RefusedInput k c) h same e = no-formula (λ F f. no_offence (bytes_at before n.input) F k c h f) same e
   due-answers (RefusedText k c) h same e = refused (inl (h.0, offence-none (bytes_at before n.cert) k c h.1)) same e
-  due-answers (MissingOutput v) h same e = refused-cause (refusal.MissingOutput v) (λ x. cc) h same e
-  due-answers (StrangeOutput v) h same e = refused-cause (refusal.StrangeOutput v) (λ x. cc) h same e
-  due-answers (StrangeInput v) h same e = refused-cause (refusal.StrangeInput v) (λ x. cc) h same e
-  due-answers (Reads v u) h same e = refused-cause (refusal.Reads v u) (λ x. cc) h same e
+  due-answers (RefusedCircuits w) h same e = refused-cause (error_of w) (not-memory w) h same e
   due-answers ReadFault h same e = fault (inl e) same
   due-answers NoMemory h same e = fault (inr (inr e)) same
 
@@ -199,9 +205,13 @@ validate-usage (Invalid line) e = cc
 validate-usage Unknown e = cc
 validate-usage (RefusedInput k c) e = cc
 validate-usage (RefusedText k c) e = cc
-validate-usage (MissingOutput v) e = cc
-validate-usage (StrangeOutput v) e = cc
-validate-usage (StrangeInput v) e = cc
-validate-usage (Reads v u) e = cc
+validate-usage (RefusedCircuits w) e = cc
 validate-usage ReadFault e = cc
 validate-usage NoMemory e = cc
+
+pub laws : (n : ValidateFiles) (budget : Option ℕ) → ToldLaws (told n budget)
+laws n budget = record {
+  gives = λ o given disk after old new h d. validate-answers given n budget disk after o old new h d;
+  no_usage = validate-usage;
+  answers = λ given disk after m g. (exact given status.Done _ m g.done, exact given status.Invalid _ m g.invalid, exact given status.Unknown _ m g.unknown);
+}

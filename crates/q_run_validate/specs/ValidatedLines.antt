@@ -2,10 +2,11 @@
 use Rattle.std.specs.Prelude.{ℕ, List, [], ◌∷◌, ◌++◌, codes, decimal}
 use Rattle.std.specs.Fmt.{signed_decimal}
 use Rattle.q_logic.specs.Prelude.{Literal, number_of}
+use Rattle.q_command.specs.Unfits.{line_of_unfit}
 use Rattle.q_command.specs.declared.status.Status.{Status}
 use Rattle.q_command.specs.declared.status.Status.TheVariants as status
 use Rattle.q_run_validate.specs.declared.validated.Validated.{Validated}
-use Rattle.q_run_validate.specs.declared.validated.Validated.TheVariants.{Valid, Invalid, Unknown, RefusedInput, RefusedText, MissingOutput, StrangeOutput, StrangeInput, Reads, ReadFault, NoMemory}
+use Rattle.q_run_validate.specs.declared.validated.Validated.TheVariants.{Valid, Invalid, Unknown, RefusedInput, RefusedText, RefusedCircuits, ReadFault, NoMemory}
 
 abbrev pub literal_text : Literal → List ℕ
 literal_text k = codes " " ++ signed_decimal (number_of k)
@@ -24,10 +25,7 @@ status_of_validated (Invalid text) = status.Invalid
 status_of_validated Unknown = status.Unknown
 status_of_validated (RefusedInput n c) = status.InputRefused
 status_of_validated (RefusedText n c) = status.CircuitsRefused
-status_of_validated (MissingOutput v) = status.CircuitsRefused
-status_of_validated (StrangeOutput v) = status.CircuitsRefused
-status_of_validated (StrangeInput v) = status.CircuitsRefused
-status_of_validated (Reads v u) = status.CircuitsRefused
+status_of_validated (RefusedCircuits w) = status.CircuitsRefused
 status_of_validated ReadFault = status.ReadFault
 status_of_validated NoMemory = status.NoMemory
 
@@ -37,9 +35,6 @@ line_of_validated (Invalid text) = text.items
 line_of_validated Unknown = codes "unknown\n"
 line_of_validated (RefusedInput n c) = codes "input IN line " ++ decimal n ++ codes " cause " ++ decimal c ++ codes "\n"
 line_of_validated (RefusedText n c) = codes "circuits line " ++ decimal n ++ codes " cause " ++ decimal c ++ codes "\n"
-line_of_validated (MissingOutput v) = codes "circuits missing " ++ decimal v ++ codes "\n"
-line_of_validated (StrangeOutput v) = codes "circuits strange output " ++ decimal v ++ codes "\n"
-line_of_validated (StrangeInput v) = codes "circuits strange input " ++ decimal v ++ codes "\n"
-line_of_validated (Reads v u) = codes "circuits " ++ decimal v ++ codes " reads " ++ decimal u ++ codes "\n"
+line_of_validated (RefusedCircuits w) = line_of_unfit w
 line_of_validated ReadFault = codes "read fault\n"
 line_of_validated NoMemory = codes "no memory\n"

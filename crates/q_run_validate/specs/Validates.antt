@@ -15,16 +15,19 @@ use Rattle.q_validate.specs.declared.validating.Answer.TheVariants as answer
 use Rattle.q_validate.specs.declared.error.ValidateError.{ValidateError}
 use Rattle.q_validate.specs.declared.error.ValidateError.TheVariants as refusal
 use Rattle.q_command.specs.Checks.{IsFileOf, IsNoFormula, Exactly}
+use Rattle.q_command.specs.Told.{Told, OrNoMemory}
 use Rattle.q_command.specs.declared.input.InputError.{InputError}
 use Rattle.q_command.specs.declared.input.InputError.TheVariants as input
+use Rattle.q_command.specs.declared.unfit.Unfit.{Unfit}
+use Rattle.q_command.specs.declared.unfit.Unfit.TheVariants as unfit
 use Rattle.q_command.specs.declared.circuits.CircuitsError.{CircuitsError}
 use Rattle.q_command.specs.declared.circuits.CircuitsError.TheVariants as text
 use Rattle.q_command.specs.declared.status.Status.{Status}
 use Rattle.q_command.specs.declared.status.Status.TheVariants as status
 use Rattle.q_run_validate.specs.declared.names.ValidateNames.{ValidateNames}
 use Rattle.q_run_validate.specs.declared.validated.Validated.{Validated}
-use Rattle.q_run_validate.specs.declared.validated.Validated.TheVariants.{Valid, Invalid, Unknown, RefusedInput, RefusedText, MissingOutput, StrangeOutput, StrangeInput, Reads, ReadFault, NoMemory}
-use Rattle.q_run_validate.specs.ValidatedLines.{invalid_line}
+use Rattle.q_run_validate.specs.declared.validated.Validated.TheVariants.{Valid, Invalid, Unknown, RefusedInput, RefusedText, RefusedCircuits, ReadFault, NoMemory}
+use Rattle.q_run_validate.specs.ValidatedLines.{invalid_line, status_of_validated, line_of_validated}
 
 -- the names of the two files
 pub record ValidateFiles : Type 0 where
@@ -49,11 +52,18 @@ refused_text (text.Refused k c) = RefusedText k c
 refused_text text.Fault = ReadFault
 refused_text text.NoMemory = NoMemory
 
+-- the reason, as the crate below tells it
+abbrev pub error_of : Unfit → ValidateError
+error_of (unfit.MissingOutput v) = refusal.MissingOutput v
+error_of (unfit.StrangeOutput v) = refusal.StrangeOutput v
+error_of (unfit.StrangeInput v) = refusal.StrangeInput v
+error_of (unfit.Reads v u) = refusal.Reads v u
+
 abbrev pub refused_circuits : ValidateError → Validated
-refused_circuits (refusal.MissingOutput v) = MissingOutput v
-refused_circuits (refusal.StrangeOutput v) = StrangeOutput v
-refused_circuits (refusal.StrangeInput v) = StrangeInput v
-refused_circuits (refusal.Reads v u) = Reads v u
+refused_circuits (refusal.MissingOutput v) = RefusedCircuits (unfit.MissingOutput v)
+refused_circuits (refusal.StrangeOutput v) = RefusedCircuits (unfit.StrangeOutput v)
+refused_circuits (refusal.StrangeInput v) = RefusedCircuits (unfit.StrangeInput v)
+refused_circuits (refusal.Reads v u) = RefusedCircuits (unfit.Reads v u)
 refused_circuits refusal.NoMemory = NoMemory
 
 -- the circuits fit, and this is the answer
@@ -68,10 +78,7 @@ Judges (Invalid line) F c budget =
 Judges Unknown F c budget = Answers answer.Unknown F c budget
 Judges (RefusedInput k e) F c budget = ⊥
 Judges (RefusedText k e) F c budget = ⊥
-Judges (MissingOutput v) F c budget = IsRefused F c (refusal.MissingOutput v)
-Judges (StrangeOutput v) F c budget = IsRefused F c (refusal.StrangeOutput v)
-Judges (StrangeInput v) F c budget = IsRefused F c (refusal.StrangeInput v)
-Judges (Reads v u) F c budget = IsRefused F c (refusal.Reads v u)
+Judges (RefusedCircuits w) F c budget = IsRefused F c (error_of w)
 Judges ReadFault F c budget = ⊥
 Judges NoMemory F c budget = Unit {0}
 
@@ -93,10 +100,7 @@ Says (Invalid line) n budget disk = OfFiles n disk (λ F c. Judges (Invalid line
 Says Unknown n budget disk = OfFiles n disk (λ F c. Judges Unknown F c budget)
 Says (RefusedInput k e) n budget disk = Offence standard (bytes_at disk n.input) k e
 Says (RefusedText k e) n budget disk = IsFormulaFile (bytes_at disk n.input) × CircuitsOffence (bytes_at disk n.cert) k e
-Says (MissingOutput v) n budget disk = OfFiles n disk (λ F c. Judges (MissingOutput v) F c budget)
-Says (StrangeOutput v) n budget disk = OfFiles n disk (λ F c. Judges (StrangeOutput v) F c budget)
-Says (StrangeInput v) n budget disk = OfFiles n disk (λ F c. Judges (StrangeInput v) F c budget)
-Says (Reads v u) n budget disk = OfFiles n disk (λ F c. Judges (Reads v u) F c budget)
+Says (RefusedCircuits w) n budget disk = OfFiles n disk (λ F c. Judges (RefusedCircuits w) F c budget)
 Says ReadFault n budget disk = Unit {0}
 Says NoMemory n budget disk = Unit {0}
 
@@ -134,3 +138,19 @@ pub record ValidatesExactly (given : Status) (n : ValidateFiles) (budget : Optio
   pub circuits_refused : Exactly given status.CircuitsRefused (AreNoCircuits n before)
   pub input_refused : Exactly given status.InputRefused (IsNoFormula (bytes_at before n.input))
   pub untouched : after ≡ Some before
+
+-- the command; a budget that is not spent leaves an answer
+abbrev pub told : ValidateFiles → Option ℕ → Told
+told n budget = record {
+  Outcome = Validated;
+  status_of = status_of_validated;
+  line_of = line_of_validated;
+  says = λ o disk after. Validates o n budget disk after;
+  gives = λ given disk after. ValidatesExactly given n budget disk after;
+  answers = λ disk given.
+      (AreValid n budget disk → OrNoMemory given status.Done)
+      × (AreInvalid n budget disk → OrNoMemory given status.Invalid)
+      × (AreUndecided n budget disk → OrNoMemory given status.Unknown);
+  reads = names_read n;
+  writes = [];
+}

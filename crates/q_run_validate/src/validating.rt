@@ -9,7 +9,7 @@ use crate::names::ValidateNames;
 use crate::text::invalid_line;
 use crate::validated::Validated;
 use q_aig::Certificate;
-use q_command::{CircuitsError, InputError, read_circuits, read_input};
+use q_command::{CircuitsError, InputError, Unfit, read_circuits, read_input};
 use q_io::Files;
 use q_logic::{Formula, Lits};
 use q_validate::{Answer, ValidateError, validate};
@@ -35,14 +35,23 @@ fn refused_text(error: CircuitsError) -> Validated
     }
 }
 
+fn unfit(why: Unfit) -> Validated
+    ensures { result ≡ Validated.RefusedCircuits why }
+{
+    Validated::RefusedCircuits { why }
+}
+
 fn refused_circuits(error: ValidateError) -> Validated
     ensures { result ≡ circuits_refused error }
 {
     match error {
-        ValidateError::MissingOutput { var } => Validated::MissingOutput { var },
-        ValidateError::StrangeOutput { var } => Validated::StrangeOutput { var },
-        ValidateError::StrangeInput { var } => Validated::StrangeInput { var },
-        ValidateError::Reads { var, universal } => Validated::Reads { var, universal },
+        ValidateError::MissingOutput { var } => unfit(Unfit::MissingOutput { var }),
+        ValidateError::StrangeOutput { var } => unfit(Unfit::StrangeOutput { var }),
+        ValidateError::StrangeInput { var } => unfit(Unfit::StrangeInput { var }),
+        ValidateError::Reads { var, universal } => unfit(Unfit::Reads {
+            var,
+            input: universal,
+        }),
         ValidateError::NoMemory => Validated::NoMemory,
     }
 }
