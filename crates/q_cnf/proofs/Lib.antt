@@ -1,0 +1,2 @@
+pub mod ReadCnf
+pub mod CnfText
