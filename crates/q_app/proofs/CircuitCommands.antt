@@ -18,10 +18,10 @@ use Rattle.q_command.proofs.CheckStatus.{one_formula}
 use Rattle.q_command.proofs.WholeLogs.{run_of}
 use Rattle.q_command.proofs.FileFormulas.{file-formula}
 use Rattle.q_run_validate.specs.Validates.{ValidateFiles, ValidatesExactly}
-use Rattle.q_run_refute.specs.Refutes.{RefuteFiles, AreHerbrand, IsWhole, RefutesExactly}
+use Rattle.q_run_refute.specs.Refutes.{RefuteFiles, AreHerbrand, IsWhole}
 use Rattle.q_run_solve.specs.Solves.{SolveFiles, HoldsAnswer, SolvesExactly}
 use Rattle.q_app.specs.Headline.{HoldsSkolem}
-use Rattle.q_app.specs.Further.{HoldsHerbrand, IsRefutation, SaysTruth, Further}
+use Rattle.q_app.specs.Further.{HoldsHerbrand, SaysTruth, Further}
 
 validated : (answer : Status) (n : ValidateFiles) (budget : Option ℕ) (before : Disk) (after : Option Disk) → ValidatesExactly answer n budget before after → answer ≡ status.Done → (F : PrenexFormula) → IsFileOf (bytes_at before n.input) F → Holds F
 validated answer n budget before after h e F f =

@@ -1,16 +1,13 @@
 -- The words of the command line.
-use Rattle.std.proofs.Common.{◌≡◌, ◌≢◌, ◌≤◌, ◌<◌, ℕ, zero, suc, Bool, true, false, not, ◌&&◌, cond, if◌then◌else◌, nat_le, is_some, unwrap_or, List, [], ◌∷◌, refl, sym, ap, ◌∙◌, subst, arith, length, get_or, drop, map, Option, Some, None, codes, String, string_bytes, drop-cons, take, ◌-◌, length-drop}
+use Rattle.std.proofs.Common.{◌≡◌, ◌≢◌, ◌≤◌, ◌<◌, ℕ, zero, suc, Bool, true, false, not, ◌&&◌, List, [], ◌∷◌, refl, sym, ap, ◌∙◌, subst, arith, length, get_or, drop, Option, Some, None, String, string_bytes, drop-cons, take, ◌-◌, length-drop}
 use Rattle.std.proofs.lemmas.List.{length-map}
 use Rattle.std.proofs.Math.Seq.{take-length}
 use Rattle.std.proofs.lemmas.Slice.Eq.{bytes_eq-Decides}
 use Rattle.std.specs.declared.alloc.Global.{Global}
 use Rattle.std.specs.Str.{bytes_eq}
-use Rattle.q_text.specs.Words.{digits}
-use Rattle.q_app.specs.declared.settings.Setting.{Setting}
-use Rattle.q_app.specs.declared.settings.Setting.TheVariants as setting
 use Rattle.q_app.specs.declared.settings.Settings.{Settings}
 use Rattle.q_command.specs.Names.{ThreeNames, three}
-use Rattle.q_app.specs.Words.{Request, up_to, number_of, behind, set, setting_by, setting_of, with_setting, with_word, with_words, nothing_set, options_of, scale_of, scale_by, generate_to, generate_of, demo_by, demo_of}
+use Rattle.q_app.specs.Words.{with_word, with_words, scale_of, generate_to, generate_of, demo_by, demo_of}
 use Rattle.q_app.specs.Operands.{Differ, DifferFour, are_different, fourth, is_fourth, just_three, texts, three_names, two_names}
 use Rattle.q_app.specs.Commands.{by_verb, request}
 

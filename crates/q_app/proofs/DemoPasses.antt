@@ -18,7 +18,7 @@ use Rattle.q_app.specs.Simplifying.{IsEnded, SimplifiesExactly}
 use Rattle.q_app.specs.Words.{checking, simplifying, generating, demo, options_of, nothing_set}
 use Rattle.q_command.specs.Devices.{Devices, AreLater}
 use Rattle.q_command.specs.Told.{Runs, IsFaultless, OrNoMemory}
-use Rattle.q_command.proofs.ToldLaws.{ToldLaws, wants, exact}
+use Rattle.q_command.proofs.ToldLaws.{wants, exact}
 use Rattle.q_app.specs.Told.{told}
 use Rattle.q_app.specs.Says.{InTurn}
 use Rattle.q_app.specs.Completeness.{IsFaultlessDemo, IsShortLog, DemoCompletesAlways}

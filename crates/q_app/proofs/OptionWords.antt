@@ -1,8 +1,5 @@
 -- The options of `simplify`: numbers, names and settings.
-use Rattle.std.proofs.Common.{◌≡◌, ◌≢◌, ◌≤◌, ◌<◌, ◌+◌, ◌-◌, ◌*◌, ◌/◌, ℕ, Bool, true, false, nat_le, ◌&&◌, ◌==◌, eqb, cond, List, [], ◌∷◌, ◌++◌, refl, sym, ap, ◌∙◌, subst, arith, length, drop, get_or, Option, Some, None, if◌then◌else◌, suc, drop-cons, Bor, option_map, MatchOption, inl, inr, ◌⊎◌}
-use Rattle.std.specs.Bool.{Decides}
-use Rattle.std.proofs.lemmas.Slice.Eq.{strip_prefix_is}
-use Rattle.std.proofs.lemmas.Bool.Decides.{Decides-eqb}
+use Rattle.std.proofs.Common.{◌≡◌, ◌≢◌, ◌≤◌, ◌<◌, ◌+◌, ◌-◌, ◌*◌, ℕ, Bool, true, false, nat_le, ◌==◌, List, [], ◌∷◌, ◌++◌, refl, sym, ap, ◌∙◌, subst, arith, length, drop, get_or, Option, Some, None, if◌then◌else◌, suc, drop-cons, Bor, MatchOption}
 use Rattle.q_text.specs.Words.{is_digit, digits_behind, digits}
 use Rattle.q_app.specs.Words.{behind, up_to, number_of}
 

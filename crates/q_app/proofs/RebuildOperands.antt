@@ -1,7 +1,7 @@
 -- The operands of `rebuild`.
-use Rattle.std.proofs.Common.{◌≡◌, ◌≢◌, ℕ, Bool, true, false, ◌&&◌, cond, List, [], ◌∷◌, refl, sym, ap, length, Option, Some, None}
-use Rattle.q_app.specs.Rebuilds.{FiveNames, five}
-use Rattle.q_app.specs.RebuildWords.{is_new, are_four, apart, rebuild_names}
+use Rattle.std.proofs.Common.{◌≡◌, ◌≢◌, ℕ, Bool, true, false, ◌&&◌, cond, List, [], ◌∷◌, refl, sym, ap, length, Some, None}
+use Rattle.q_app.specs.Rebuilds.{five}
+use Rattle.q_app.specs.RebuildWords.{is_new, are_four, rebuild_names}
 
 pub not_five : (ws : List (List ℕ)) → length ws ≢ 5 → None ≡ rebuild_names ws
 unfolding rebuild_names

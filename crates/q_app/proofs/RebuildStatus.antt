@@ -1,13 +1,13 @@
 -- When each status of `rebuild` comes.
-use Rattle.std.proofs.Common.{◌≡◌, ◌⊎◌, inl, inr, ◌∙◌, refl, sym, ap, subst, ℕ, List, [], length, unwrap_or, Option, Some, None}
+use Rattle.std.proofs.Common.{◌≡◌, ◌⊎◌, inl, inr, ◌∙◌, sym, ap, subst, ℕ, List, [], length, unwrap_or, Option, Some}
 use Rattle.std.proofs.Math.Seq.{take-length}
-use Rattle.q_logic.specs.Prelude.{PrenexFormula, UndoEntry, CertificateView, trees_of, SkolemOf, IsFormula}
+use Rattle.q_logic.specs.Prelude.{PrenexFormula, UndoEntry, CertificateView}
 use Rattle.q_io.specs.Files.{Disk, bytes_at}
-use Rattle.q_rebuild.specs.Refusals.{IsRefused, IsAccepted}
+use Rattle.q_rebuild.specs.Refusals.{IsAccepted}
 use Rattle.q_rebuild.specs.declared.error.RebuildError.{RebuildError}
 use Rattle.q_rebuild.specs.declared.error.RebuildError.TheVariants as refusal
-use Rattle.q_aiger.specs.Circuits.{AreCircuits, Offence}
-use Rattle.q_aiger.specs.Alike.{AreAlike, IsNoCircuits}
+use Rattle.q_aiger.specs.Circuits.{AreCircuits}
+use Rattle.q_aiger.specs.Alike.{AreAlike}
 use Rattle.q_aiger.proofs.GateOrders.{one-meaning, offence-none}
 use Rattle.q_rebuild.proofs.AlikeAccepted.{accepted-alike}
 use Rattle.q_rebuild.proofs.SkolemAccepted.{skolem-accepted}
@@ -16,7 +16,7 @@ use Rattle.q_command.specs.Checks.{Checks, IsFileOf, IsUnverified, IsVerified, M
 use Rattle.q_app.specs.RebuiltLines.{status_of_rebuilt}
 use Rattle.q_command.specs.Sinks.{SinkView, IsDue}
 use Rattle.q_command.specs.Statuses.{status_of}
-use Rattle.q_app.specs.Rebuilds.{FiveNames, error_of, OfCircuits, IsWhole, IsPart, AreRefused, OfVerified, Rebuilds, AreNoCircuits, IsUnfit, AreFitting, AreSkolem, IsUntouched, RebuildsExactly, told}
+use Rattle.q_app.specs.Rebuilds.{FiveNames, error_of, OfCircuits, IsWhole, IsPart, AreRefused, OfVerified, Rebuilds, AreNoCircuits, IsUnfit, AreFitting, AreSkolem, RebuildsExactly, told}
 use Rattle.q_command.specs.declared.outcome.Outcome.{Outcome}
 use Rattle.q_command.specs.declared.status.Status.{Status}
 use Rattle.q_command.specs.declared.unfit.Unfit.{Unfit}

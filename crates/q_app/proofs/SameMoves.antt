@@ -1,14 +1,13 @@
 -- Two calls of `rebuild` on one log.
-use Rattle.std.proofs.Common.{◌≡◌, ℕ, List, Option, refl, subst}
-use Rattle.q_logic.specs.Prelude.{PrenexFormula, CertificateView, trees_of, Lawful, Undos}
-use Rattle.q_io.specs.Files.{Disk, bytes_at}
+use Rattle.std.proofs.Common.{◌≡◌, ℕ, List, refl, subst}
+use Rattle.q_logic.specs.Prelude.{PrenexFormula, trees_of, Lawful, Undos}
+use Rattle.q_io.specs.Files.{bytes_at}
 use Rattle.q_rebuild.specs.Rebuilt.{IsRebuilt}
 use Rattle.q_command.specs.Checks.{IsFileOf, IsRunLog}
 use Rattle.q_command.specs.Logs.{Entry, steps_of}
 use Rattle.q_command.proofs.CheckStatus.{one_formula}
 use Rattle.q_command.proofs.WholeLogs.{one_log, run_of}
-use Rattle.q_app.specs.Rebuilds.{FiveNames, IsWhole}
-use Rattle.q_app.specs.FirstMoves.{AreOfOneLog, FirstMoves}
+use Rattle.q_app.specs.FirstMoves.{FirstMoves}
 
 pub first-moves : FirstMoves
 first-moves n m g h d e x y s w v k A agree =

@@ -14,11 +14,11 @@ use Rattle.q_simplify.specs.declared.report.Report.{Report}
 use Rattle.q_simplify.specs.declared.report.Ending.{Ending}
 use Rattle.q_simplify.specs.declared.report.Ending.TheVariants as ending
 use Rattle.q_simplify.specs.Results.{EndsAs, Simplifies}
-use Rattle.q_command.specs.Checks.{IsFileOf, IsVerified, AnswersExactly}
-use Rattle.q_app.specs.Simplifying.{IsEnded, SimplifiesExactly}
-use Rattle.q_app.specs.Rebuilds.{FiveNames, AreSkolem, IsWhole, RebuildsExactly}
+use Rattle.q_command.specs.Checks.{IsFileOf, IsVerified}
+use Rattle.q_app.specs.Simplifying.{SimplifiesExactly}
+use Rattle.q_app.specs.Rebuilds.{FiveNames, AreSkolem, IsWhole}
 use Rattle.q_app.specs.Statuses.{status_of_ending}
-use Rattle.q_app.specs.Headline.{IsAcceptedByCheck, IsSimplified, EndsRight, HoldsSkolem, IsCarriedBack, Headline}
+use Rattle.q_app.specs.Headline.{IsAcceptedByCheck, IsSimplified, EndsRight, HoldsSkolem, Headline}
 use Rattle.q_command.specs.declared.status.Status.{Status}
 use Rattle.q_command.specs.declared.status.Status.TheVariants as status
 use Rattle.q_command.proofs.CheckStatus.{one_formula}

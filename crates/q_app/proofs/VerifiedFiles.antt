@@ -1,5 +1,5 @@
 -- The files that `simplify` left, as `check` reads them.
-use Rattle.std.proofs.Common.{◌≡◌, ◌≢◌, ◌≤◌, ◌+◌, ◌∷◌, inl, refl, sym, ap, ◌∙◌, subst, ℕ, List, [], length, Option, Some, unwrap_or}
+use Rattle.std.proofs.Common.{◌≡◌, ◌≢◌, ◌≤◌, ◌+◌, ◌∷◌, inl, refl, sym, ap, ◌∙◌, subst, ℕ, List, [], length, Some, unwrap_or}
 use Rattle.std.specs.List.{AllByRecursion}
 use Rattle.q_logic.specs.Prelude.{PrenexFormula, standard, ProofStep, Run}
 use Rattle.q_io.specs.Files.{Disk, bytes_at}

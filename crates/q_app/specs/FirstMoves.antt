@@ -1,5 +1,5 @@
 -- First moves over files: what two calls of `rebuild` make of circuits that agree in the first rounds.
-use Rattle.std.specs.Prelude.{◌≡◌, ℕ, List, Option}
+use Rattle.std.specs.Prelude.{◌≡◌, ℕ, Option}
 use Rattle.q_logic.specs.Prelude.{Assignment, CertificateView, trees_of}
 use Rattle.q_logic.specs.Moves.{Agree}
 use Rattle.q_io.specs.Files.{Disk, bytes_at}

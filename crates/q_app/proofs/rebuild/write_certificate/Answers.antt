@@ -1,4 +1,4 @@
-use Rattle.std.proofs.Common.{◌∙◌, ap, sym, subst, Err, IfSome}
+use Rattle.std.proofs.Common.{◌∙◌, ap, sym, subst, Err}
 use Rattle.std.proofs.lemmas.Option.{IfSome_then}
 use Rattle.q_app.specs.Rebuilds.{Puts}
 use Rattle.q_app.specs.declared.rebuilt.Rebuilt.{Rebuilt}

@@ -1,4 +1,4 @@
-use Rattle.std.proofs.Common.{subst, sym, ◌∙◌, refl, inl, None}
+use Rattle.std.proofs.Common.{subst, sym, refl}
 use Rattle.q_app.specs.Words.{Request}
 use Rattle.q_command.specs.Devices.{devices}
 use Rattle.q_app.specs.Says.{Does}
