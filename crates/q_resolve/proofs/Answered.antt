@@ -1,0 +1,242 @@
+-- What follows of a trace from what the judge found.
+use Rattle.std.proofs.Common.{◌≡◌, ◌↔◌, ℕ, zero, suc, ◌<◌, ◌≤◌, Bool, true, false, ◌&&◌, List, [], ◌∷◌, ◌++◌, ◌⊎◌, inl, inr, length, map, arith, refl, sym, ap, ap₂, ◌∙◌, subst, slice_get, Option, Some, None}
+use Rattle.std.proofs.lemmas.List.{append-nil}
+use Rattle.std.proofs.lemmas.Option.{slice_get_within}
+use Rattle.q_logic.specs.Prelude.{Literal, negation, Prefix, Matrix, PrenexFormula, IsIn, IsSubset, is_existential, IsFormula, Distinct, Assignment, value_of, Strategy, circuit_of, or_input, outcome, Lawful, SkolemOf, CertificateView, trees_of, has}
+use Rattle.q_logic.specs.Exchanging.{exchanged}
+use Rattle.q_logic.specs.Herbrands.{HerbrandOf}
+use Rattle.q_logic.proofs.Common.{MatrixTrue-agree}
+use Rattle.q_logic.proofs.Exchanged.{exchanged-lawful, exchanged-distinct}
+use Rattle.q_logic.proofs.Falsity.{MatrixFalse-agree}
+use Rattle.q_carry.proofs.NamedCertificates.{not-given}
+use Rattle.q_derive.specs.Derivations.{Line, Reason, leaf, resolve, reduce, Follows, IsDerivation, IsAnyDerivation, IsTermProof, IsRefutation, IsHitting, HoldsClause, HasEmpty}
+use Rattle.q_derive.specs.Extracted.{Drop, drops, circuits_by, circuits_of, turned, turned_drop, AreBehind}
+use Rattle.q_derive.specs.Traces.{Entry, Parents, nothing, missing, single, double, parents, literals_in, IsParent, IsLeaf, IsInner, AreBound, Stands, IsRight, InCone, end, further, IsEnd, IsEndless, IsTrace, IsOneOf}
+use Rattle.q_derive.proofs.Winning.{derived-lawful, proof-skolem, any-derivation, drops-behind}
+use Rattle.q_derive.proofs.Turning.{refutation-herbrand, refutation-any}
+use Rattle.q_derive.proofs.Following.{HasLine, leaf-further, drops-turned}
+use Rattle.q_extract.specs.Built.{IsExtracted}
+use Rattle.q_extract.specs.Rows.{drops_in}
+use Rattle.q_extract.specs.declared.drops.Drops.{Drops}
+use Rattle.q_resolve.specs.declared.leaves.Owner.{Owner}
+use Rattle.q_resolve.specs.declared.leaves.Owner.TheVariants.{Exists, Forall}
+use Rattle.q_resolve.specs.declared.fault.Fault.{Fault}
+use Rattle.q_resolve.specs.declared.fault.Fault.TheVariants.{Unbound, Missing, NoLeaf, NoPivot, Merged, Lost, Shed}
+use Rattle.q_resolve.specs.Faults.{IsFault, IsLeastFault, HasParents}
+use Rattle.q_resolve.specs.Leaves.{MayStand, prefix_for}
+use Rattle.q_resolve.specs.Reduced.{sided, sided_drop}
+use Rattle.q_qrp.specs.Lines.{Proof}
+use Rattle.q_resolve.specs.declared.judged.Judged.{Judged}
+use Rattle.q_resolve.specs.declared.judged.Judged.TheVariants.{Proved, Refused}
+use Rattle.q_resolve.specs.Judged.{entries_of, parents_at, sources_in, AreRight, IsFirst, IsRefusal, IsProofOf, Decide, IsMadeFor, IsAnswer}
+use Rattle.q_resolve.specs.Derived.{IsDerivedFrom, IsStood}
+
+-- a line with a fault is not right
+fault-wrong : (P : Prefix) (L : List Literal → Type 0) (from : Parents) (T : List Literal) (f : Fault) → IsFault P L from T f →
+    AreBound P T → Stands P L from T → ⊥
+fault-wrong P L from T Unbound (k, m, e) b s = let z = b k m in cc
+fault-wrong P L from T Missing (e, n) b s = n (subst (λ (x : Parents). Stands P L x T) e s)
+fault-wrong P L from T NoLeaf (e, n) b s = n (subst (λ (x : Parents). Stands P L x T) e s)
+fault-wrong P L nothing T NoPivot (h, n) b s = h
+fault-wrong P L missing T NoPivot (h, n) b s = h
+fault-wrong P L (single S) T NoPivot (h, n) b s = n s.reduced.0 s.reduced.1
+fault-wrong P L (double S U) T NoPivot (h, n) b s = n s.reduced.0 s.reduced.1
+fault-wrong P L nothing T Merged (h, n) b s = h
+fault-wrong P L missing T Merged (h, n) b s = h
+fault-wrong P L (single S) T Merged (h, n) b s = elim n [ inl m ↦ s.plain m | inr m ↦ s.apart m ]
+fault-wrong P L (double S U) T Merged (h, n) b s = elim n [ inl m ↦ s.plain m | inr m ↦ s.apart m ]
+fault-wrong P L nothing T Lost (h, n) b s = h
+fault-wrong P L missing T Lost (h, n) b s = h
+fault-wrong P L (single S) T Lost (h, n) b s = n s.reduced.0 s.reduced.1 s.reduced.2
+fault-wrong P L (double S U) T Lost (h, n) b s = n s.reduced.0 s.reduced.1 s.reduced.2
+fault-wrong P L nothing T Shed (h, n) b s = h
+fault-wrong P L missing T Shed (h, n) b s = h
+fault-wrong P L (single S) T Shed (h, n) b s = n s.reduced.0 s.reduced.1 s.reduced.2 s.reduced.3
+fault-wrong P L (double S U) T Shed (h, n) b s = n s.reduced.0 s.reduced.1 s.reduced.2 s.reduced.3
+
+pub proof-is : (o : Owner) (F : PrenexFormula) (es : List Entry) → IsTrace (prefix_for o F.prefix) (MayStand o F.matrix) es → IsProofOf o F es
+proof-is Exists F es t = t
+proof-is Forall F es t = t
+
+pub proof-from : (o : Owner) (F : PrenexFormula) (es : List Entry) → IsProofOf o F es → IsTrace (prefix_for o F.prefix) (MayStand o F.matrix) es
+proof-from Exists F es t = t
+proof-from Forall F es t = t
+
+pub first-wrong : (o : Owner) (F : PrenexFormula) (es : List Entry) (n : ℕ) (f : Fault) → IsFirst o (prefix_for o F.prefix) F.matrix es n f →
+    IsProofOf o F es → ⊥
+first-wrong o F es n f (c, l, r, a) p = go (slice_get es n) refl
+  where
+    t : IsTrace (prefix_for o F.prefix) (MayStand o F.matrix) es
+    t = proof-from o F es p
+
+    none : (xs : List Entry) (i : ℕ) → i < length xs → slice_get xs i ≡ None → ⊥
+    none [] i lt e = omega arith
+    none (x ∷ xs) zero lt e = cc
+    none (x ∷ xs) (suc i) lt e = none xs i (omega arith) e
+
+    go : (x : Option Entry) → slice_get es n ≡ x → ⊥
+    go None e = none es n l e
+    go (Some e) q =
+        let w = t.right n c e q in
+        let z = subst (λ (x : Option Entry). IsLeastFault (prefix_for o F.prefix) (MayStand o F.matrix) (parents es n (sources_in x)) (literals_in x) f) q a in
+        fault-wrong (prefix_for o F.prefix) (MayStand o F.matrix) (parents es n e.sources) e.literals f z.there w.bound w.stands
+
+-- traces without an end
+cone-end : (es : List Entry) (n : ℕ) → InCone es n → (m : ℕ) × IsEnd es m
+cone-end es n (end m e) = (m, e)
+cone-end es n (further m e a c s d h) = cone-end es _ c
+
+pub endless-wrong : (o : Owner) (F : PrenexFormula) (es : List Entry) → IsEndless es → (MayStand o F.matrix [] → ⊥) → IsProofOf o F es → ⊥
+endless-wrong o F es e n p = n ((proof-from o F es p).ends e)
+
+pub endless-proof : (o : Owner) (F : PrenexFormula) (es : List Entry) → IsEndless es → MayStand o F.matrix [] → IsProofOf o F es
+endless-proof o F es e l = proof-is o F es (record {
+  right = λ n c x h. absurd (let r = cone-end es n c in e r.0 r.1.empty.0 r.1.empty.1 r.1.empty.2);
+  ends = λ h. l;
+})
+
+pub ended-proof : (o : Owner) (F : PrenexFormula) (es : List Entry) (n : ℕ) → IsEnd es n → AreRight o (prefix_for o F.prefix) F.matrix es (length es) →
+    IsProofOf o F es
+ended-proof o F es n e r = proof-is o F es (record {
+  right = λ m c x h. r m (slice_get_within es m x h) c x h;
+  ends = λ h. absurd (h n e.empty.0 e.empty.1 e.empty.2);
+})
+
+-- circuits of a derivation
+same-outcome : (P : Prefix) (c d : Strategy) → Lawful P c → Lawful P d →
+    ((x : ℕ) → is_existential P x ≡ true → (A : Assignment) → value_of (circuit_of c x) A ≡ value_of (circuit_of d x) A) →
+    (A : Assignment) (x : ℕ) → outcome c A x ≡ outcome d A x
+same-outcome P c d lc ld v A x = go (is_existential P x) refl
+  where
+    go : (b : Bool) → is_existential P x ≡ b → outcome c A x ≡ outcome d A x
+    go true e = v x e A
+    go false e =
+        let m : c x ≡ None = not-given (c x) (lc.trees x ∙ e) in
+        let n : d x ≡ None = not-given (d x) (ld.trees x ∙ e) in
+        ap (λ o. value_of (or_input x o) A) m ∙ sym (ap (λ o. value_of (or_input x o) A) n)
+
+same-values : (P : Prefix) (lines : List Line) (made : CertificateView) → Distinct P → IsAnyDerivation P lines → IsExtracted P (drops lines) made →
+    (A : Assignment) (y : ℕ) → outcome (circuits_of P lines) A y ≡ outcome (trees_of made) A y
+same-values P lines made di de x A y =
+    sym (same-outcome P (trees_of made) (circuits_of P lines) x.lawful (derived-lawful P lines di de) x.values A y)
+
+skolem-made : (F : PrenexFormula) (lines : List Line) (made : CertificateView) → IsFormula F → IsTermProof F lines →
+    IsExtracted F.prefix (drops lines) made → SkolemOf F (trees_of made)
+skolem-made F lines made f p x = record {
+  lawful = x.lawful;
+  wins = λ A. MatrixTrue-agree (outcome (circuits_of F.prefix lines) A) (outcome (trees_of made) A) F.matrix
+      (same-values F.prefix lines made f.distinct (any-derivation F.prefix (IsHitting F.matrix) lines p.follows) x A)
+      ((proof-skolem F lines f p).wins A);
+}
+
+herbrand-made : (F : PrenexFormula) (lines : List Line) (made : CertificateView) → IsFormula F → IsRefutation F lines →
+    IsExtracted (exchanged F.prefix) (drops (turned lines)) made → HerbrandOf F (trees_of made)
+herbrand-made F lines made f p x = record {
+  lawful = exchanged-lawful F.prefix (trees_of made) x.lawful;
+  loses = λ A. MatrixFalse-agree (outcome (circuits_of (exchanged F.prefix) (turned lines)) A) (outcome (trees_of made) A) F.matrix
+      (same-values (exchanged F.prefix) (turned lines) made (exchanged-distinct F.prefix f.distinct) (refutation-any F lines p) x A)
+      ((refutation-herbrand F lines f p).loses A);
+}
+
+-- both sides
+follows-map : (P : Prefix) (L M : List Literal → Type 0) (lines : List Line) (n : ℕ) (T : List Literal) (r : Reason) →
+    ((S : List Literal) → L S → M S) → Follows P L lines n T r → Follows P M lines n T r
+follows-map P L M lines n T leaf h f = h T f
+follows-map P L M lines n T (resolve i j k) h f = f
+follows-map P L M lines n T (reduce i) h f = f
+
+literals-own : (T : List Literal) → map (sided Exists) T ≡ T
+literals-own [] = refl
+literals-own (k ∷ T) = ap (λ (xs : List Literal). k ∷ xs) (literals-own T)
+
+drops-own : (ds : List Drop) → map (sided_drop Exists) ds ≡ ds
+drops-own [] = refl
+drops-own (d ∷ ds) = ap₂ (λ (x : Drop) (xs : List Drop). x ∷ xs) (ap (λ (T : List Literal). record { literal = d.literal; kept = T }) (literals-own d.kept)) (drops-own ds)
+
+drops-other : (ds : List Drop) → map (sided_drop Forall) ds ≡ map turned_drop ds
+drops-other [] = refl
+drops-other (d ∷ ds) = ap (λ (xs : List Drop). turned_drop d ∷ xs) (drops-other ds)
+
+-- a derivation that ends, with what it takes away
+pub record IsFinished (o : Owner) (F : PrenexFormula) (lines : List Line) (ds : List Drop) : Type 0 where
+  pub derivation : IsDerivation (prefix_for o F.prefix) (MayStand o F.matrix) lines
+  pub same : ds ≡ map (sided_drop o) (drops lines)
+  pub ends : HasEmpty lines
+
+refuted : (F : PrenexFormula) (lines : List Line) (ds : List Drop) → IsFinished Forall F lines ds → IsRefutation F lines
+refuted F lines ds h = record {
+  follows = λ n line e. follows-map (exchanged F.prefix) (IsOneOf F.matrix) (HoldsClause F.matrix) lines n line.literals line.reason
+      (λ S x. (x.0, x.1, x.2)) (h.derivation n line e);
+  ends = h.ends;
+}
+
+pub finished-behind : (o : Owner) (F : PrenexFormula) (lines : List Line) (ds : List Drop) → IsFinished o F lines ds → AreBehind (prefix_for o F.prefix) ds
+finished-behind Exists F lines ds h =
+    subst (AreBehind F.prefix) (sym (h.same ∙ drops-own (drops lines)))
+    (drops-behind F.prefix lines (any-derivation F.prefix (IsHitting F.matrix) lines h.derivation))
+finished-behind Forall F lines ds h =
+    subst (AreBehind (exchanged F.prefix)) (sym (h.same ∙ drops-other (drops lines) ∙ sym (drops-turned lines)))
+    (drops-behind (exchanged F.prefix) (turned lines) (refutation-any F lines (refuted F lines ds h)))
+
+pub finished-decides : (o : Owner) (F : PrenexFormula) (lines : List Line) (ds : List Drop) (made : CertificateView) → IsFormula F →
+    IsFinished o F lines ds → IsExtracted (prefix_for o F.prefix) ds made → IsMadeFor (prefix_for o F.prefix) made × Decide o F made
+finished-decides o F lines ds made f h x = (record { inputs = x.inputs; outputs = x.outputs; lawful = x.lawful }, go o h x)
+  where
+    go : (o : Owner) → IsFinished o F lines ds → IsExtracted (prefix_for o F.prefix) ds made → Decide o F made
+    go Exists h x =
+        skolem-made F lines made f (record { follows = h.derivation; ends = h.ends })
+        (subst (λ (xs : List Drop). IsExtracted F.prefix xs made) (h.same ∙ drops-own (drops lines)) x)
+    go Forall h x =
+        herbrand-made F lines made f (refuted F lines ds h)
+        (subst (λ (xs : List Drop). IsExtracted (exchanged F.prefix) xs made) (h.same ∙ drops-other (drops lines) ∙ sym (drops-turned lines)) x)
+
+pub finished-cone : (o : Owner) (F : PrenexFormula) (es : List Entry) (n : ℕ) (d : Drops) → IsEnd es n →
+    (h : IsDerivedFrom o (prefix_for o F.prefix) F.matrix es (length es) d) → IsFinished o F h.lines (drops_in d)
+finished-cone o F es n d e h = record {
+  derivation = h.derivation;
+  same = h.same;
+  ends = let r = h.covers n (slice_get_within es n e.empty.0 e.empty.1) (end n e) e.empty.0 e.empty.1 in (r.0, r.1, r.2, r.3 ∙ e.empty.2);
+}
+
+pub finished-leaf : (o : Owner) (F : PrenexFormula) (ds : List Drop) → ds ≡ [] → MayStand o F.matrix [] → (lines : List Line) × IsFinished o F lines ds
+finished-leaf o F ds e l =
+    let r = leaf-further (prefix_for o F.prefix) (MayStand o F.matrix) [] [] [] (record { derivation = λ n line h. absurd (cc); same = refl }) l in
+    (r.0, record { derivation = r.1.derived.derivation; same = e ∙ sym (ap (map (sided_drop o)) r.1.derived.same); ends = r.1.there })
+
+-- what the judge says in the end
+pub refused-endless : (o : Owner) (F : PrenexFormula) (proof : Proof) → IsEndless (entries_of proof.lines) → (MayStand o F.matrix [] → ⊥) →
+    IsAnswer o F proof (Refused proof.place 5)
+refused-endless o F proof e n = (endless-wrong o F (entries_of proof.lines) e n, inl (e, n, refl, refl))
+
+pub refused-line : (o : Owner) (F : PrenexFormula) (proof : Proof) (P : Prefix) (n : ℕ) (f : Fault) (j : Judged) → P ≡ prefix_for o F.prefix →
+    IsFirst o P F.matrix (entries_of proof.lines) n f → IsRefusal proof n f j → IsAnswer o F proof j
+refused-line o F proof P n f (Proved made) e h r = absurd r
+refused-line o F proof P n f (Refused line cause) e h (l, s, p, q) =
+    let w : IsFirst o (prefix_for o F.prefix) F.matrix (entries_of proof.lines) n f = subst (λ (Q : Prefix). IsFirst o Q F.matrix (entries_of proof.lines) n f) e h in
+    (first-wrong o F (entries_of proof.lines) n f w, inr (n, l, f, s, p, q, w))
+
+pub proved-endless : (o : Owner) (F : PrenexFormula) (proof : Proof) (P : Prefix) (ds : List Drop) (made : CertificateView) → P ≡ prefix_for o F.prefix → IsFormula F →
+    IsEndless (entries_of proof.lines) → MayStand o F.matrix [] → ds ≡ [] → IsExtracted P ds made → IsAnswer o F proof (Proved made)
+proved-endless o F proof P ds made e f h l d x =
+    let z = finished-leaf o F ds d l in
+    let r = finished-decides o F z.0 ds made f z.1 (subst (λ (Q : Prefix). IsExtracted Q ds made) e x) in
+    (endless-proof o F (entries_of proof.lines) h l, r.0, r.1)
+
+pub proved-ended : (o : Owner) (F : PrenexFormula) (proof : Proof) (P : Prefix) (n : ℕ) (d : Drops) (made : CertificateView) → P ≡ prefix_for o F.prefix → IsFormula F →
+    IsEnd (entries_of proof.lines) n → IsStood o P F.matrix (entries_of proof.lines) (length (entries_of proof.lines)) d → IsExtracted P (drops_in d) made →
+    IsAnswer o F proof (Proved made)
+proved-ended o F proof P n d made e f h s x =
+    let es = entries_of proof.lines in
+    let t : IsStood o (prefix_for o F.prefix) F.matrix es (length es) d = subst (λ (Q : Prefix). IsStood o Q F.matrix es (length es) d) e s in
+    let r = finished-decides o F t.derived.lines (drops_in d) made f (finished-cone o F es n d h t.derived) (subst (λ (Q : Prefix). IsExtracted Q (drops_in d) made) e x) in
+    (ended-proof o F es n h t.right, r.0, r.1)
+
+pub ended-behind : (o : Owner) (F : PrenexFormula) (proof : Proof) (P : Prefix) (n : ℕ) (d : Drops) → P ≡ prefix_for o F.prefix →
+    IsEnd (entries_of proof.lines) n → IsStood o P F.matrix (entries_of proof.lines) (length (entries_of proof.lines)) d → AreBehind P (drops_in d)
+ended-behind o F proof P n d e h s =
+    let es = entries_of proof.lines in
+    let t : IsStood o (prefix_for o F.prefix) F.matrix es (length es) d = subst (λ (Q : Prefix). IsStood o Q F.matrix es (length es) d) e s in
+    subst (λ (Q : Prefix). AreBehind Q (drops_in d)) (sym e) (finished-behind o F t.derived.lines (drops_in d) (finished-cone o F es n d h t.derived))
+
+pub none-behind : (P : Prefix) (ds : List Drop) → ds ≡ [] → AreBehind P ds
+none-behind P ds e = subst (AreBehind P) (sym e) (λ d m. absurd m)

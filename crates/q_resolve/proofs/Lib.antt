@@ -1,0 +1,11 @@
+pub mod MarkChanges
+pub mod Scanned
+pub mod Reduced
+pub mod Joined
+pub mod Standing
+pub mod LineFaults
+pub mod Lined
+pub mod Deriving
+pub mod Coned
+pub mod Stood
+pub mod Answered

@@ -1,0 +1,10 @@
+use Rattle.std.proofs.Common.{◌∙◌, sym}
+use Rattle.q_resolve.specs.Judged.{entries_of}
+use Rattle.q_resolve.proofs.Deriving.{earlier-there}
+use Rattle.q_resolve.proofs.finding.find_both.Goals as goal
+
+pub returns-in-Some-find-clause-before : goal.returns-in-Some-find-clause-before
+returns-in-Some-find-clause-before c = (
+  (earlier-there (entries_of c.args.trace.now.lines) c.args.n c.args.first c.in-Some.i (sym c.find.ensures ∙ c.in-Some.is)).0,
+  (earlier-there (entries_of c.args.trace.now.lines) c.args.n c.args.second c.in-Some-find.j (sym c.find-in-Some.ensures ∙ c.in-Some-find.is)).0,
+)
