@@ -1,0 +1,3 @@
+mod TracePieces
+mod ExtractFiles
+mod ExtractStatus

@@ -1,0 +1,3 @@
+pub mod TraceFiles
+pub mod ExtractedLines
+pub mod Extracts
