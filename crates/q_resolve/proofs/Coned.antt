@@ -122,38 +122,47 @@ marked-one es n a i old h lt = (length-set old i true, both)
       )
       | inr f ↦
           let other = get_or-set_other old i j true false (λ e. f (sym e)) in (
-        λ m. inl (sym other ∙ m),
-        λ m. elim m [
-          | inl k ↦ other ∙ k
-          | inr (b, s, q) ↦ absurd (f (let z : earlier es n b ≡ Some i = subst (λ x. earlier es n x ≡ Some i) s h in let w : Some i ≡ Some j = sym z ∙ q in cc))
-        ],
-      )
+            λ m. inl (sym other ∙ m),
+            λ m. elim m [
+              | inl k ↦ other ∙ k
+              | inr (b, s, q) ↦ absurd (f (let z : earlier es n b ≡ Some i = subst (λ x. earlier es n x ≡ Some i) s h in let w : Some i ≡ Some j = sym z ∙ q in cc))
+            ],
+          )
     ]
 
 pub marked-none : (es : List Entry) (n a : ℕ) (old : List Bool) → earlier es n a ≡ None → AreMarkedBy es n (one a) old old
-marked-none es n a old h = (refl, λ j. (λ m. inl m, λ m. elim m [
-  | inl k ↦ k
-  | inr (b, s, q) ↦ absurd (let z : earlier es n b ≡ None = subst (λ x. earlier es n x ≡ None) s h in let w : None ≡ Some j = sym z ∙ q in cc)
-]))
+marked-none es n a old h = (
+  refl,
+  λ j. (
+    λ m. inl m,
+    λ m. elim m [
+      | inl k ↦ k
+      | inr (b, s, q) ↦ absurd (let z : earlier es n b ≡ None = subst (λ x. earlier es n x ≡ None) s h in let w : None ≡ Some j = sym z ∙ q in cc)
+    ],
+  ),
+)
 
 pub marked-nothing : (es : List Entry) (n : ℕ) (old : List Bool) → AreMarkedBy es n none old old
 marked-nothing es n old = (refl, λ j. (λ m. inl m, λ m. elim m [ inl k ↦ k | inr (b, s, q) ↦ absurd s ]))
 
 pub marked-two : (es : List Entry) (n a b : ℕ) (old mid new : List Bool) → AreMarkedBy es n (one a) old mid → AreMarkedBy es n (one b) mid new →
     AreMarkedBy es n (two a b) old new
-marked-two es n a b old mid new f g = (g.0 ∙ f.0, λ j. (
-  λ m. elim ((g.1 j).0 m) [
-    | inl k ↦ elim ((f.1 j).0 k) [ inl i ↦ inl i | inr (x, s, q) ↦ inr (x, inl s, q) ]
-    | inr (x, s, q) ↦ inr (x, inr s, q)
-  ],
-  λ m. elim m [
-    | inl k ↦ (g.1 j).1 (inl ((f.1 j).1 (inl k)))
-    | inr (x, s, q) ↦ elim s [
-      | inl t ↦ (g.1 j).1 (inl ((f.1 j).1 (inr (x, t, q))))
-      | inr t ↦ (g.1 j).1 (inr (x, t, q))
-    ]
-  ],
-))
+marked-two es n a b old mid new f g = (
+  g.0 ∙ f.0,
+  λ j. (
+    λ m. elim ((g.1 j).0 m) [
+      | inl k ↦ elim ((f.1 j).0 k) [ inl i ↦ inl i | inr (x, s, q) ↦ inr (x, inl s, q) ]
+      | inr (x, s, q) ↦ inr (x, inr s, q)
+    ],
+    λ m. elim m [
+      | inl k ↦ (g.1 j).1 (inl ((f.1 j).1 (inl k)))
+      | inr (x, s, q) ↦ elim s [
+        | inl t ↦ (g.1 j).1 (inl ((f.1 j).1 (inr (x, t, q))))
+        | inr t ↦ (g.1 j).1 (inr (x, t, q))
+      ]
+    ],
+  ),
+)
 
 pub marked-start : (es : List Entry) (top : ℕ) (marks : List Bool) → IsEnd es top → length marks ≡ length es → top < length marks →
     ((i : ℕ) → get_or marks i false ≡ false) → IsMarkedDown es top 0 (set marks top true)

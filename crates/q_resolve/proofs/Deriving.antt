@@ -68,8 +68,7 @@ of-one o P X es n e lines a i right has c s m h =
     let r = earlier-there es n a i h in
     let d : InCone es i = further i e a c s m h in
     let w = right i r.0 d r.1 r.2 in
-    let t : literals_in (slice_get es i) ≡ r.1.literals = ap literals_in r.2 in
-    (
+    let t : literals_in (slice_get es i) ≡ r.1.literals = ap literals_in r.2 in (
       subst (AreBound P) (sym t) w.bound,
       subst (λ (T : List Literal). IsMerged P T → ⊥) (sym t) (right-plain P (MayStand o X) (parents es i r.1.sources) r.1.literals w.stands),
       subst (HasLine lines) (sym t) (has i r.0 d r.1 r.2),
@@ -209,7 +208,7 @@ inner-step o P X es n e old new from h s a c (R, p, noted) =
     let w = noted (plain-parent o P X h.lines from R a c p) in
     let x = w.2 in
     let r = inner-further P (MayStand o X) h.lines (drops h.lines) from R e.literals w.0 w.1 (record { derivation = h.derivation; same = refl })
-        (there-of-them o P X h.lines from a) p x.whole x.kept (record { owned = x.apart.owned; alone = x.apart.alone; behind = x.apart.behind }) in
+    (there-of-them o P X h.lines from a) p x.whole x.kept (record { owned = x.apart.owned; alone = x.apart.alone; behind = x.apart.behind }) in
     more-derived o P X es n e old new h r.0 (drops_of w.1 w.0) s r.1 x.drops
 
 pub derived-step : (o : Owner) (P : Prefix) (X : Matrix) (es : List Entry) (n : ℕ) (e : Entry) (old new : Drops) → AreRight o P X es n →

@@ -12,16 +12,22 @@ pub joined-none : (old : List Literal) → IsJoined old [] old
 joined-none old k = (λ m. inl m, λ m. elim m [ inl i ↦ i | inr i ↦ absurd i ])
 
 pub joined-had : (old : List Literal) (l : Literal) → IsIn l old → IsJoined old (l ∷ []) old
-joined-had old l h k = (λ m. inl m, λ m. elim m [
-  | inl i ↦ i
-  | inr i ↦ elim i [ inl e ↦ subst (λ (x : Literal). IsIn x old) (sym e) h | inr n ↦ absurd n ]
-])
+joined-had old l h k = (
+  λ m. inl m,
+  λ m. elim m [
+    | inl i ↦ i
+    | inr i ↦ elim i [ inl e ↦ subst (λ (x : Literal). IsIn x old) (sym e) h | inr n ↦ absurd n ]
+  ],
+)
 
 pub joined-one : (old new : List Literal) (l : Literal) → new ≡ old ++ l ∷ [] → IsJoined old (l ∷ []) new
-joined-one old new l e k = (λ m. IsIn-append k old (l ∷ []) (subst (IsIn k) e m), λ m. subst (IsIn k) (sym e) (elim m [
-  | inl i ↦ IsIn-append_left k old (l ∷ []) i
-  | inr i ↦ IsIn-append_right k old (l ∷ []) i
-]))
+joined-one old new l e k = (
+  λ m. IsIn-append k old (l ∷ []) (subst (IsIn k) e m),
+  λ m. subst (IsIn k) (sym e) (elim m [
+    | inl i ↦ IsIn-append_left k old (l ∷ []) i
+    | inr i ↦ IsIn-append_right k old (l ∷ []) i
+  ]),
+)
 
 pub joined-then : (a b c xs ys zs : List Literal) → xs ++ ys ≡ zs → IsJoined a xs b → IsJoined b ys c → IsJoined a zs c
 joined-then a b c xs ys zs e f g k = (
@@ -61,9 +67,9 @@ pub resolved : (S U : List Literal) (k : Literal) (empty mid new : List Literal)
     IsJoined mid (without (negation k) U) new → IsSame (resolvent S U k) new
 resolved S U k empty mid new z f g j =
     let h = joined-then empty mid new (without k S) (without (negation k) U) (resolvent S U k) refl f g j in (
-  λ m. elim (h.0 m) [ inl i ↦ absurd (subst (IsIn j) z i) | inr i ↦ i ],
-  λ m. h.1 (inr m),
-)
+      λ m. elim (h.0 m) [ inl i ↦ absurd (subst (IsIn j) z i) | inr i ↦ i ],
+      λ m. h.1 (inr m),
+    )
 
 -- before a place, and not
 pub front-last : (P : Prefix) (at : ℕ) (xs : List Literal) (x : Literal) → front_of P at (xs ++ x ∷ []) ≡ front_of P at xs ++ front_of P at (x ∷ [])

@@ -121,11 +121,14 @@ lost-next P S U T V k w n j m p h = elim (one-more V k j m) [
 shed-next : (P : Prefix) (S U T V : List Literal) (k : Literal) → ((j : Literal) × IsPivot P S U j × IsKept P (resolvent S U j) T) →
     ((j : Literal) → IsIn j V → IsPivot P S U j → IsKept P (resolvent S U j) T → IsShed P (resolvent S U j) T → ⊥) →
     (IsPivot P S U k → IsKept P (resolvent S U k) T → IsShed P (resolvent S U k) T → ⊥) → IsWorst P S U T (V ++ k ∷ []) Shed
-shed-next P S U T V k x w n = (x, λ j m p h s. elim (one-more V k j m) [
-  | inl i ↦ w j i p h s
-  | inr e ↦ n (subst (IsPivot P S U) e p) (subst (λ (x : Literal). IsKept P (resolvent S U x) T) e h)
-      (subst (λ (x : Literal). IsShed P (resolvent S U x) T) e s)
-])
+shed-next P S U T V k x w n = (
+  x,
+  λ j m p h s. elim (one-more V k j m) [
+    | inl i ↦ w j i p h s
+    | inr e ↦ n (subst (IsPivot P S U) e p) (subst (λ (x : Literal). IsKept P (resolvent S U x) T) e h)
+        (subst (λ (x : Literal). IsShed P (resolvent S U x) T) e s)
+  ],
+)
 
 pub worst-next : (o : Owner) (P : Prefix) (S U T V : List Literal) (k : Literal) (old new : Drops) (f g : Fault) → IsWorst P S U T V f →
     IsTrial o P S U k T old new (Some g) → IsWorst P S U T (V ++ k ∷ []) (later_of f g) × (new ≡ old)

@@ -101,8 +101,13 @@ least-there P T (k ∷ R) n h = go (is_away P T k) refl (nat_lt (place P k.var) 
 
     here : Below → is_away P T k ≡ true → (l : Bool) → nat_lt (outermost_from P T R (place P k.var)) (place P k.var) ≡ l → Found (place P k.var)
     here ih a true e = later ih (place P k.var) ((below-decides (outermost_from P T R (place P k.var)) (place P k.var)).0 e)
-    here ih a false e = (k, inl refl, a, let i = least-below P T R (place P k.var) in
-        let l : (outermost_from P T R (place P k.var) < place P k.var) → ⊥ = λ q. (let z : nat_lt (outermost_from P T R (place P k.var)) (place P k.var) ≡ true = (below-decides (outermost_from P T R (place P k.var)) (place P k.var)).1 q in cc) in grind arith)
+    here ih a false e = (
+      k,
+      inl refl,
+      a,
+      let i = least-below P T R (place P k.var) in
+          let l : (outermost_from P T R (place P k.var) < place P k.var) → ⊥ = λ q. (let z : nat_lt (outermost_from P T R (place P k.var)) (place P k.var) ≡ true = (below-decides (outermost_from P T R (place P k.var)) (place P k.var)).1 q in cc) in grind arith,
+    )
 
     go : (b : Bool) → is_away P T k ≡ b → (c : Bool) → nat_lt (place P k.var) n ≡ c → outermost_from P T R (cond b (cond c (place P k.var) n) n) < n →
         Below → Found (cond b (cond c (place P k.var) n) n)
@@ -135,7 +140,7 @@ shed-is P R T e g m o = go (has g T) refl
 pub unshed-is : (P : Prefix) (R T : List Literal) → AreBound P R → every (λ (k : Literal). is_front P (outermost P T R) k) R ≡ false → IsShed P R T → ⊥
 unshed-is P R T b e h =
     let all : ((k : Literal) → IsIn k R → is_front P (outermost P T R) k ≡ true) → ⊥ =
-        λ f. (let z : every (λ (k : Literal). is_front P (outermost P T R) k) R ≡ true = (every-decides (λ (k : Literal). is_front P (outermost P T R) k) (λ (k : Literal). is_front P (outermost P T R) k ≡ true) R (λ k. (λ q. q, λ q. q))).1 f in cc) in
+    λ f. (let z : every (λ (k : Literal). is_front P (outermost P T R) k) R ≡ true = (every-decides (λ (k : Literal). is_front P (outermost P T R) k) (λ (k : Literal). is_front P (outermost P T R) k ≡ true) R (λ k. (λ q. q, λ q. q))).1 f in cc) in
     all each
   where
     each : (k : Literal) → IsIn k R → is_front P (outermost P T R) k ≡ true
@@ -200,12 +205,16 @@ sided-drops o (k ∷ Ts) G = ap (λ (ds : List Drop). record { literal = sided o
 -- nothing is taken away, or all from the outermost place on
 pub noted-nothing : (o : Owner) (P : Prefix) (R T : List Literal) (old new : Drops) → AreBound P R → IsKept P R T → length P ≤ outermost P T R →
     drops_in new ≡ drops_in old ++ [] → IsNoted o P R T old new
-noted-nothing o P R T old new b kept le e not-merged = (R, [], record {
-  whole = λ k m. IsIn-append_left k R [] m;
-  kept = all;
-  apart = record { owned = λ g m. absurd m; alone = λ g m. absurd m; behind = λ g m. absurd m };
-  drops = e;
-})
+noted-nothing o P R T old new b kept le e not-merged = (
+  R,
+  [],
+  record {
+    whole = λ k m. IsIn-append_left k R [] m;
+    kept = all;
+    apart = record { owned = λ g m. absurd m; alone = λ g m. absurd m; behind = λ g m. absurd m };
+    drops = e;
+  },
+)
   where
     all : (k : Literal) → IsIn k R → IsIn k T
     all k m = elim (true-or (is_existential P k.var)) [ inl o ↦ go o (has k T) refl | inr o ↦ kept k m o ]
@@ -220,12 +229,16 @@ pub noted-taken : (o : Owner) (P : Prefix) (R T : List Literal) (old new : Drops
     every (λ (k : Literal). is_front P (outermost P T R) k) R ≡ true →
     drops_in new ≡ drops_in old ++ drops_of (map (sided o) (back_of P (outermost P T R) R)) (map (sided o) (front_of P (outermost P T R) R)) →
     IsNoted o P R T old new
-noted-taken o P R T old new kept clear e not-merged = (front_of P at R, back_of P at R, record {
-  whole = front-or-back P at R;
-  kept = within;
-  apart = record { owned = owned; alone = alone; behind = behind };
-  drops = e ∙ ap (λ (ds : List Drop). drops_in old ++ ds) (sided-drops o (back_of P at R) (front_of P at R));
-})
+noted-taken o P R T old new kept clear e not-merged = (
+  front_of P at R,
+  back_of P at R,
+  record {
+    whole = front-or-back P at R;
+    kept = within;
+    apart = record { owned = owned; alone = alone; behind = behind };
+    drops = e ∙ ap (λ (ds : List Drop). drops_in old ++ ds) (sided-drops o (back_of P at R) (front_of P at R));
+  },
+)
   where
     at : ℕ
     at = outermost P T R
@@ -247,10 +260,15 @@ noted-taken o P R T old new kept clear e not-merged = (front_of P at R, back_of 
     ]
 
     alone : (g : Literal) → IsIn g (back_of P at R) → IsIn (negation g) (front_of P at R ++ back_of P at R) → ⊥
-    alone g m i = not-merged (g, owned g m, (back-in P at R g m).0, elim (IsIn-append (negation g) (front_of P at R) (back_of P at R) i) [
-      | inl x ↦ (front-in P at R (negation g) x).0
-      | inr x ↦ (back-in P at R (negation g) x).0
-    ])
+    alone g m i = not-merged (
+      g,
+      owned g m,
+      (back-in P at R g m).0,
+      elim (IsIn-append (negation g) (front_of P at R) (back_of P at R) i) [
+        | inl x ↦ (front-in P at R (negation g) x).0
+        | inr x ↦ (back-in P at R (negation g) x).0
+      ],
+    )
 
     behind : (g : Literal) → IsIn g (back_of P at R) → (k : Literal) → IsIn k (front_of P at R) → place P k.var < place P g.var
     behind g m k i = let a = (back-in P at R g m).1 in let b = (front-in P at R k i).1 in omega arith

@@ -226,20 +226,38 @@ pub fn judge_line(
     match found {
         Found::Nothing => {
             let fault = judge_leaf(
-                formula, prefix, seats, owner, &desk.own, term, Fault::NoLeaf,
+                formula,
+                prefix,
+                seats,
+                owner,
+                &desk.own,
+                term,
+                Fault::NoLeaf,
             );
             Ok(fault)
         }
         Found::Gone => {
             let fault = judge_leaf(
-                formula, prefix, seats, owner, &desk.own, term, Fault::Missing,
+                formula,
+                prefix,
+                seats,
+                owner,
+                &desk.own,
+                term,
+                Fault::Missing,
             );
             Ok(fault)
         }
         Found::Single(i) => {
             let source = trace.literals(i);
             let fault = judge_single(
-                &mut desk.away, prefix, seats, owner, &desk.own, term, source,
+                &mut desk.away,
+                prefix,
+                seats,
+                owner,
+                &desk.own,
+                term,
+                source,
             )?;
             Ok(fault)
         }
@@ -247,8 +265,16 @@ pub fn judge_line(
             let first = trace.literals(i);
             let second = trace.literals(j);
             let fault = judge_double(
-                &mut desk.away, &mut desk.parent, &mut desk.second, prefix, seats, owner,
-                &desk.own, term, first, second,
+                &mut desk.away,
+                &mut desk.parent,
+                &mut desk.second,
+                prefix,
+                seats,
+                owner,
+                &desk.own,
+                term,
+                first,
+                second,
             )?;
             Ok(fault)
         }

@@ -107,7 +107,12 @@ fn is_taken(prefix: &[Bound], seats: &[Option<u64>], marked: &Marked, lit: Lit) 
 }
 
 /// The place of the outermost literal of the owner that is not among the marked ones, or the length of the prefix.
-pub fn outermost_taken(prefix: &[Bound], seats: &[Option<u64>], marked: &Marked, parent: &[Lit]) -> u64
+pub fn outermost_taken(
+    prefix: &[Bound],
+    seats: &[Option<u64>],
+    marked: &Marked,
+    parent: &[Lit],
+) -> u64
     requires { AreSeats prefix.now seats.now }
     ensures { result ≡ outermost prefix.now marked.now parent.now }
 {

@@ -12,8 +12,7 @@ pub returns-then-not-is_pivot : goal.returns-then-not-is_pivot
 returns-then-not-is_pivot c =
     let P = c.args.prefix.now in
     let k = c.args.pivot in
-    let f : c.is_pivot.result ≡ false = let x = c.if-not-is_pivot.true in grind arith in
-    (
+    let f : c.is_pivot.result ≡ false = let x = c.if-not-is_pivot.true in grind arith in (
       pivot-no P c.args.first.now c.args.second.now k (sym (ap (λ (U : List Literal). is_turning P U k) c.requires.marked) ∙ sym c.is_pivot.ensures ∙ f),
       refl,
     )

@@ -23,7 +23,7 @@ loop-k-preserved c =
     let k = c.k-item.result in
     let e : take (c.loop-k.k-index + 1) S ≡ V ++ k ∷ [] = taken S c.loop-k.k-index k c.loop-k-test.true c.k-item.is in
     let t : IsTrial c.args.owner P S U k T c.loop-k.away.drops c.try_pivot.new.away.drops (Some c.in-Some.found) =
-        subst (IsTrial c.args.owner P S U k T c.loop-k.away.drops c.try_pivot.new.away.drops) c.in-Some.is c.in_ok-tried.ensures in
+    subst (IsTrial c.args.owner P S U k T c.loop-k.away.drops c.try_pivot.new.away.drops) c.in-Some.is c.in_ok-tried.ensures in
     let r = worst-next c.args.owner P S U T V k c.loop-k.away.drops c.try_pivot.new.away.drops c.loop-k.fault c.in-Some.found c.loop-k.invariant.worst t in
     record {
       worst = subst (IsWorst P S U T (take (c.loop-k.k-index + 1) S)) (sym c.later-fault.ensures) (subst (λ (W : List Literal). IsWorst P S U T W (later_of c.loop-k.fault c.in-Some.found)) (sym e) r.0);

@@ -16,8 +16,7 @@ returns-then-not-is_clear_before c =
     let R = c.args.parent.now in
     let T = c.args.marked.now in
     let f : c.is_clear_before.result ≡ false = let x = c.if-not-is_clear_before.true in grind arith in
-    let a = c.outermost_taken-at.ensures in
-    (
+    let a = c.outermost_taken-at.ensures in (
       kept-is P R T (sym c.loses.ensures ∙ c.if-loses.false),
       unshed-is P R T c.requires.bound (sym (ap (λ n. every (λ (k : Literal). is_front P n k) R) a) ∙ sym c.is_clear_before.ensures ∙ f),
       refl,
@@ -31,8 +30,7 @@ returns-in_ok-put_away c =
     let t : c.is_clear_before.result ≡ true = let x = c.if-not-is_clear_before.false in grind arith in
     let a = c.outermost_taken-at.ensures in
     let kept = kept-is P R T (sym c.loses.ensures ∙ c.if-loses.false) in
-    let clear : every (λ (k : Literal). is_front P (outermost P T R) k) R ≡ true = sym (ap (λ n. every (λ (k : Literal). is_front P n k) R) a) ∙ sym c.is_clear_before.ensures ∙ t in
-    (
+    let clear : every (λ (k : Literal). is_front P (outermost P T R) k) R ≡ true = sym (ap (λ n. every (λ (k : Literal). is_front P n k) R) a) ∙ sym c.is_clear_before.ensures ∙ t in (
       kept,
       shed-is P R T clear,
       c.in_ok-put_away.ensures.sound,
@@ -48,8 +46,7 @@ returns-else-at-prefix c =
     let a = c.outermost_taken-at.ensures in
     let kept = kept-is P R T (sym c.loses.ensures ∙ c.if-loses.false) in
     let clear : every (λ (k : Literal). is_front P (outermost P T R) k) R ≡ true = sym (ap (λ n. every (λ (k : Literal). is_front P n k) R) a) ∙ sym c.is_clear_before.ensures ∙ t in
-    let le : length P ≤ outermost P T R = let x = c.if-at-prefix.false in omega arith in
-    (
+    let le : length P ≤ outermost P T R = let x = c.if-at-prefix.false in omega arith in (
       kept,
       shed-is P R T clear,
       c.requires.sound,

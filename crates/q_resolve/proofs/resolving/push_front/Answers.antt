@@ -22,14 +22,14 @@ loop-k-preserved c =
           let h : place P x.var < at = (let z = w.if-seat-at.true in let s = c.seat.ensures in omega arith) in
           let n : front_of P at (x ∷ []) ≡ x ∷ [] = front-yes P at x h in
           let m : w.push.new.self.items ≡ c.loop-k.row.items ++ map (sided o) (front_of P at (x ∷ [])) =
-              w.in_ok-push.ensures.items ∙ ap (λ (k : Literal). c.loop-k.row.items ++ k ∷ []) w.side.ensures ∙ sym (ap (λ (ys : List Literal). c.loop-k.row.items ++ map (sided o) ys) n) in
+          w.in_ok-push.ensures.items ∙ ap (λ (k : Literal). c.loop-k.row.items ++ k ∷ []) w.side.ensures ∙ sym (ap (λ (ys : List Literal). c.loop-k.row.items ++ map (sided o) ys) n) in
           ap (λ r. r.items) w.row-is ∙
           row-more (front_of P at) (front-last P at) o c.args.row.now.items c.loop-k.row.items w.push.new.self.items xs (take (c.loop-k.k-index + 1) R) x e c.loop-k.invariant m
       | else-seat-at w ↦
           let h : at ≤ place P x.var = (let z = w.if-seat-at.false in let s = c.seat.ensures in omega arith) in
           let n : front_of P at (x ∷ []) ≡ [] = front-no P at x h in
           let m : c.loop-k.row.items ≡ c.loop-k.row.items ++ map (sided o) (front_of P at (x ∷ [])) =
-              sym (ap (λ (ys : List Literal). c.loop-k.row.items ++ map (sided o) ys) n ∙ append-nil c.loop-k.row.items) in
+          sym (ap (λ (ys : List Literal). c.loop-k.row.items ++ map (sided o) ys) n ∙ append-nil c.loop-k.row.items) in
           ap (λ r. r.items) w.row-is ∙
           row-more (front_of P at) (front-last P at) o c.args.row.now.items c.loop-k.row.items c.loop-k.row.items xs (take (c.loop-k.k-index + 1) R) x e c.loop-k.invariant m
     ]
