@@ -11,6 +11,7 @@ use Rattle.q_run_validate.specs.Validates.{ValidateFiles}
 use Rattle.q_run_refute.specs.Refutes.{RefuteFiles}
 use Rattle.q_run_annotate.specs.Annotates.{AnnotateFiles}
 use Rattle.q_run_solve.specs.Solves.{SolveFiles}
+use Rattle.q_run_extract.specs.Extracts.{ExtractFiles}
 use Rattle.q_app.specs.declared.words.Scale.{Scale}
 use Rattle.q_app.specs.declared.settings.Setting.{Setting}
 use Rattle.q_app.specs.declared.settings.Setting.TheVariants as setting
@@ -26,6 +27,7 @@ pub data Command : Type 0 where
   annotating : AnnotateFiles → Command
   refuting : RefuteFiles → Command
   validating : ValidateFiles → Option ℕ → Command
+  extracting : ExtractFiles → Command
 
 -- what the words ask for: commands that are done one after the other; none where they are not understood
 abbrev pub Request : Type 0
@@ -186,3 +188,8 @@ solve_with n (Some b) = alone (solving n b)
 abbrev pub solve_of : Option (ThreeNames × List ℕ × List (List ℕ)) → Request
 solve_of None = None
 solve_of (Some (n, c, words)) = solve_with (record { input = n.input; output = n.output; log = n.log; cert = c }) (budget_in words)
+
+-- `extract IN TRACE CERT`
+abbrev pub extract_of : Option ThreeNames → Request
+extract_of None = None
+extract_of (Some n) = alone (extracting (record { input = n.input; trace = n.output; cert = n.log }))

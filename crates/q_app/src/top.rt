@@ -21,6 +21,7 @@ use q_gen::generated_is_read;
 use q_io::{Files, Sink};
 use q_log::texts_are_read;
 use q_run_annotate::run as run_annotate;
+use q_run_extract::run as run_extract;
 use q_run_refute::run as run_refute;
 use q_run_solve::run as run_solve;
 use q_run_validate::run as run_validate;
@@ -153,6 +154,7 @@ fn run_command<F: Files, S: Sink>(
         Command::Refute { names } => run_refute(alloc, files, out, names),
         Command::Annotate { names } => run_annotate(alloc, files, out, names),
         Command::Solve { names, budget } => { run_solve(alloc, files, out, names, budget, guides) }
+        Command::Extract { names } => run_extract(alloc, files, out, names),
         Command::Demo { scale, names } => {
             run_demo(alloc, files, out, Demonstration { scale, names }, guides)
         }

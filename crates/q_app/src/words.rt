@@ -1,7 +1,7 @@
 // The words of the command line.
 ghost use Rattle.std.specs.Prelude.{◌≡◌, ◌≢◌, ◌≤◌, option_map, IfSome, Some};
 ghost use Rattle.q_app.specs.RebuildWords.{rebuild_names};
-ghost use Rattle.q_app.specs.Words.{annotate_of, check_of, demo_by, demo_of, generate_of, refute_of, scale_of as spec_scale_of, simplify_of, solve_of, validate_of};
+ghost use Rattle.q_app.specs.Words.{annotate_of, check_of, demo_by, demo_of, extract_of, generate_of, refute_of, scale_of as spec_scale_of, simplify_of, solve_of, validate_of};
 ghost use Rattle.q_app.specs.Operands.{fourth, just_three, three_names as spec_three_names, two_names as spec_two_names, texts};
 ghost use Rattle.q_app.specs.Commands.{IsFit, bounds_in, by_verb as spec_by_verb, commands_of, request};
 
@@ -11,6 +11,7 @@ use crate::settings::{Settings, number};
 use q_command::Names;
 use q_logic::Bounds;
 use q_run_annotate::AnnotateNames;
+use q_run_extract::ExtractNames;
 use q_run_refute::RefuteNames;
 use q_run_solve::SolveNames;
 use q_run_validate::ValidateNames;
@@ -53,6 +54,9 @@ pub(crate) enum Command<'a> {
     Solve {
         names: SolveNames<'a>,
         budget: Option<u64>,
+    },
+    Extract {
+        names: ExtractNames<'a>,
     },
     Demo {
         scale: Scale,
@@ -102,6 +106,9 @@ fn by_verb<'a>(verb: &str, operands: &'a [String]) -> Option<Command<'a>>
     }
     if verb == "solve" {
         return parse_solve(operands);
+    }
+    if verb == "extract" {
+        return parse_extract(operands);
     }
     if verb == "demo" {
         return parse_demo(operands);
@@ -211,6 +218,23 @@ fn parse_solve(operands: &[String]) -> Option<Command>
     };
     match budget_of(four.rest) {
         Some(budget) => Some(Command::Solve { names, budget }),
+        None => None,
+    }
+}
+
+fn parse_extract(operands: &[String]) -> Option<Command>
+    ensures request { option_map (λ o. commands_of o) result
+        ≡ extract_of (just_three (spec_three_names (texts operands.now))) }
+    ensures fit { IfSome result IsFit }
+{
+    match only_names(operands) {
+        Some(names) => Some(Command::Extract {
+            names: ExtractNames {
+                input: names.input,
+                trace: names.output,
+                cert: names.log,
+            },
+        }),
         None => None,
     }
 }
