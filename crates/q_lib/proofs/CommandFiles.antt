@@ -1,5 +1,5 @@
 -- A command over files is one over some files of which so much is known.
-use Rattle.std.proofs.Common.{◌≡◌, ℕ, List, ◌×◌, subst}
+use Rattle.std.proofs.Common.{◌≡◌, ℕ, List, subst}
 use Rattle.q_io.specs.Files.{Disk}
 use Rattle.q_io.specs.Memory.{SteadyText}
 use Rattle.q_command.specs.declared.status.Status.{Status}

@@ -1,5 +1,5 @@
 //! A command with its words, over files in memory.
-ghost use Rattle.std.specs.Prelude.{◌≡◌, ◌++◌, ◌∷◌, [], ◌×◌, List, ℕ, IfOk, OnOk};
+ghost use Rattle.std.specs.Prelude.{◌≡◌, ◌++◌, ◌∷◌, [], List, ℕ, IfOk, OnOk};
 ghost use Rattle.q_app.specs.Operands.{texts};
 ghost use Rattle.q_lib.specs.Calls.{Ran, HoldsJust, option};
 

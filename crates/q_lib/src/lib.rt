@@ -7,7 +7,7 @@ mod job;
 mod options;
 mod running;
 
-ghost use Rattle.std.specs.Prelude.{◌≡◌, ◌×◌, ◌∷◌, [], codes};
+ghost use Rattle.std.specs.Prelude.{◌≡◌, ◌∷◌, [], codes};
 ghost use Rattle.q_io.specs.Files.{bytes_at};
 ghost use Rattle.q_lib.specs.Calls.{Called, Copied, IsNothing, option, option_words, over_three};
 

@@ -1,5 +1,5 @@
 //! Each command over files in memory.
-ghost use Rattle.std.specs.Prelude.{◌∷◌, ◌×◌, [], codes, IfOk};
+ghost use Rattle.std.specs.Prelude.{◌∷◌, [], codes, IfOk};
 ghost use Rattle.q_lib.specs.Calls.{RanOver, option, option_words, over_three};
 
 use crate::job::{Job, Left};
