@@ -1,1 +1,2 @@
+mod FilesHeld
 mod CommandFiles

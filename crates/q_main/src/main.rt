@@ -1,6 +1,15 @@
 //! The program: the words of the command line, the real disk and standard output.
 #![tactic(auto)]
 
+ghost use Rattle.std.specs.Prelude.{◌≡◌, drop, IfOk, OnErr};
+ghost use Rattle.std.specs.Process.{exit_status};
+ghost use Rattle.q_command.specs.Statuses.{code_of};
+ghost use Rattle.q_app.specs.Commands.{request};
+ghost use Rattle.q_app.specs.Operands.{texts};
+ghost use Rattle.q_command.specs.Devices.{devices};
+ghost use Rattle.q_app.specs.Says.{Does};
+ghost use Rattle.q_main.specs.Exits.{Exits};
+
 mod board;
 mod explained;
 mod progress;
@@ -35,13 +44,24 @@ fn hold_number(rt: &HostRuntime) -> Held {
     File::open(rt, "/").ok()
 }
 
-// The words after the program's name.
-fn words<R: std::rt::Env + AllocGlobal>(rt: &R) -> io::Result<Vec<String>> {
-    let mut words = Vec::new(rt.alloc());
-    for word in env::args(rt)?.skip(1) {
-        words.push(word)?;
+// The program's name, and the words after it.
+fn arguments<R: std::rt::Env + AllocGlobal>(rt: &R) -> io::Result<Vec<String>> {
+    let mut arguments = Vec::new(rt.alloc());
+    for argument in env::args(rt)? {
+        arguments.push(argument)?;
     }
-    Ok(words)
+    Ok(arguments)
+}
+
+// The words after the program's name.
+fn words(arguments: &[String]) -> &[String]
+    ensures { result.now ≡ drop 1 arguments.now }
+{
+    if arguments.is_empty() {
+        arguments
+    } else {
+        &arguments[1..]
+    }
 }
 
 // A word that is no text makes no command.
@@ -73,7 +93,13 @@ fn run_guided<F: Files, S: Sink>(
     files: &mut F,
     out: &mut S,
     shares: Shares,
-) -> Result<Status, NoMemory> {
+) -> Result<Status, NoMemory>
+    ensures does { IfOk result (λ given. Does (request (texts words.now))
+        (devices F.Files S.Sink files.old out.old) given
+        (devices F.Files S.Sink files.new out.new)) }
+    ensures nothing { OnErr result (devices F.Files S.Sink files.new out.new
+        ≡ devices F.Files S.Sink files.old out.old) }
+{
     let (first, second, third, teller) = shares;
     let touched = Touched::new(alloc, bounds_of(words), teller);
     let mut guides: Vec<Box<dyn Guide>> = Vec::new(alloc);
@@ -85,28 +111,51 @@ fn run_guided<F: Files, S: Sink>(
     Ok(run(alloc, words, files, out, guides))
 }
 
-fn run_words(rt: &HostRuntime, words: &[String]) -> Result<Status, NoMemory> {
+fn exit_of(status: Status) -> ExitCode
+    ensures { exit_status result ≡ code_of status }
+{
+    ExitCode::from(status.code())
+}
+
+// Does what the arguments ask for, over any files and any sink. The exit status is that of what was done.
+fn exit_over<F: Files, S: Sink>(
+    alloc: Global,
+    arguments: &[String],
+    files: &mut F,
+    out: &mut S,
+    shares: Shares,
+) -> ExitCode
+    ensures { Exits (texts arguments.now) (devices F.Files S.Sink files.old out.old)
+        (exit_status result) (devices F.Files S.Sink files.new out.new) }
+{
+    match run_guided(alloc, words(arguments), files, out, shares) {
+        Ok(status) => exit_of(status),
+        Err(NoMemory) => exit_of(Status::NoMemory),
+    }
+}
+
+// Does it over the real disk and standard output.
+fn exit_on_disk(rt: &HostRuntime, arguments: &[String]) -> Result<ExitCode, NoMemory> {
     let board = Rc::new(rt.alloc(), Board::new(*rt))?;
     let shares = shares_of(&board)?;
     let mut files = Watched::new(DiskFiles::new(rt), &board);
     let wiped = Wiped::new(rt, &board);
     let mut out = StdSink::new(&wiped);
-    let status = run_guided(rt.alloc(), words, &mut files, &mut out, shares);
+    let exit = exit_over(rt.alloc(), arguments, &mut files, &mut out, shares);
     board.finish();
     wiped.explain();
-    status
+    Ok(exit)
 }
 
 fn main(rt: HostRuntime) -> ExitCode {
     let _input = hold_number(&rt);
     let _output = hold_number(&rt);
     let _error = hold_number(&rt);
-    let status = match words(&rt) {
-        Ok(words) => match run_words(&rt, &words) {
-            Ok(status) => status,
-            Err(NoMemory) => Status::NoMemory,
+    match arguments(&rt) {
+        Ok(arguments) => match exit_on_disk(&rt, &arguments) {
+            Ok(exit) => exit,
+            Err(NoMemory) => exit_of(Status::NoMemory),
         },
-        Err(error) => without_words(error),
-    };
-    ExitCode::from(status.code())
+        Err(error) => exit_of(without_words(error)),
+    }
 }

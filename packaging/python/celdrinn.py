@@ -1,0 +1,476 @@
+"""Celdrinn from Python: a proved preprocessor for quantified Boolean formulas. One file, the standard library alone.
+
+    >>> import celdrinn
+    >>> r = celdrinn.simplify([[1, 2], [-1, -2]], [("a", [1]), ("e", [2])])
+    >>> r.truth, r.clauses
+    (True, [])
+    >>> cert = r.rebuild()            # Skolem functions of the input
+    >>> cert({1: True})
+    {2: False}
+
+A clause is an iterable of non-zero ints, a prefix a list of blocks ("a" or "e", variables), from the outermost in. Variables of no block
+are existential and come first.
+
+Two back ends give the same answers: the shared library (CELDRINN_LIBRARY names it, else libceldrinn.so.1 is looked for beside this file
+and where the system has its libraries), and the program (CELDRINN names it, else `celdrinn` of the PATH). The library is taken where it
+is found. Each call can be interrupted with Ctrl-C, and `seconds` limits it.
+"""
+from __future__ import annotations
+
+import ctypes
+import ctypes.util
+import os
+import re
+import shutil
+import subprocess
+import tempfile
+import threading
+from dataclasses import dataclass, field
+from typing import Dict, Iterable, List, Mapping, Optional, Sequence, Tuple, Union
+
+Block = Tuple[str, List[int]]
+Clauses = Iterable[Iterable[int]]
+Prefix = Sequence[Tuple[str, Iterable[int]]]
+
+__all__ = ["simplify", "check", "rebuild", "refute", "annotate", "validate", "solve", "read", "write", "version", "Simplified", "Certificate",
+           "CeldrinnError", "FormulaError", "LogError", "CircuitError", "OutOfMemory", "Stopped", "NotFound"]
+
+
+# --- errors ---
+
+class CeldrinnError(Exception):
+    """An answer that is no result. `text` is the line that the program would print, `status` its exit status; `line` and `cause` are the
+    place and the number of a refusal, and None where there is none."""
+
+    def __init__(self, text: str, status: int):
+        super().__init__(text)
+        self.text, self.status = text, status
+        place = re.search(r"line (\d+) cause (\d+)", text)
+        self.line: Optional[int] = int(place[1]) if place else None
+        self.cause: Optional[int] = int(place[2]) if place else None
+
+
+class FormulaError(CeldrinnError):
+    """What was given is no formula, or an argument is out of range."""
+
+
+class LogError(CeldrinnError):
+    """The log doesn't lead from the one formula to the other, or can't be carried back."""
+
+
+class CircuitError(CeldrinnError):
+    """The circuits are none, or don't fit the formula."""
+
+
+class OutOfMemory(CeldrinnError, MemoryError):
+    """There was not enough memory."""
+
+
+class Stopped(CeldrinnError):
+    """A limit came before there was anything to hand out."""
+
+
+class NotFound(CeldrinnError):
+    """Neither the library nor the program was found, or not the one that was asked for."""
+
+
+_ERRORS = {1: LogError, 3: FormulaError, 6: OutOfMemory, 7: CircuitError, 8: LogError, 64: FormulaError}
+
+
+# --- texts ---
+
+def write(clauses: Clauses, prefix: Prefix = ()) -> bytes:
+    """The formula as QDIMACS."""
+    largest = 0
+    blocks: List[Block] = []
+    for quantifier, variables in prefix:
+        row = list(variables)
+        if quantifier not in ("a", "e"):
+            raise FormulaError(f"a quantifier is 'a' or 'e', not {quantifier!r}", 64)
+        if not row:
+            continue
+        if min(row) <= 0:
+            raise FormulaError("a variable is above 0", 64)
+        largest = max(largest, max(row))
+        if blocks and blocks[-1][0] == quantifier:  # QDIMACS wants them to alternate
+            blocks[-1][1].extend(row)
+        else:
+            blocks.append((quantifier, row))
+    rows = []
+    for clause in clauses:
+        row = list(clause)
+        if 0 in row:
+            raise FormulaError("a clause holds no 0", 64)
+        if row:
+            largest = max(largest, max(row), -min(row))
+        rows.append(" ".join(map(str, row + [0])))
+    head = [f"p cnf {largest} {len(rows)}"]
+    head += [f"{q} {' '.join(map(str, vs))} 0" for q, vs in blocks]
+    return ("\n".join(head + rows) + "\n").encode()
+
+
+def read(text: bytes) -> Tuple[List[List[int]], List[Block]]:
+    """Clauses and prefix of a text in QDIMACS. It is read loosely: `simplify` of the text says whether it is a formula."""
+    words: List[str] = []
+    for row in text.decode().splitlines():
+        if not row.lstrip().startswith(("c", "p")):
+            words += row.split()
+    prefix: List[Block] = []
+    clauses: List[List[int]] = []
+    numbers: List[int] = []
+    for word in words:
+        if word in ("a", "e"):
+            prefix.append((word, []))
+            numbers = prefix[-1][1]
+        elif word == "0":
+            if not prefix or numbers is not prefix[-1][1]:
+                clauses.append(numbers)
+            numbers = []
+        else:
+            numbers.append(int(word))
+    return clauses, prefix
+
+
+class Certificate:
+    """Circuits in ASCII AIGER: called with values of the inputs, they give those of the outputs."""
+
+    def __init__(self, text: bytes):
+        self.text = text
+        lines = text.decode().splitlines()
+        _, _, i, latches, o, a = lines[0].split()[:6]
+        if latches != "0":
+            raise CircuitError("circuits have no latches", 7)
+        inputs, outputs, gates = int(i), int(o), int(a)
+        literals = [int(x) for x in lines[1:1 + inputs]]
+        roots = [int(x) for x in lines[1 + inputs:1 + inputs + outputs]]
+        behind = 1 + inputs + outputs + gates
+        self._gates = [tuple(map(int, x.split())) for x in lines[behind - gates:behind]]
+        names = dict(x.split(None, 1) for x in lines[behind:] if x[:1] in ("i", "o"))
+        self._inputs = {int(names.get(f"i{k}", k)): x for k, x in enumerate(literals)}
+        self._outputs = {int(names.get(f"o{k}", k)): x for k, x in enumerate(roots)}
+
+    @property
+    def inputs(self) -> List[int]:
+        """The variables that are read."""
+        return list(self._inputs)
+
+    @property
+    def outputs(self) -> List[int]:
+        """The variables that have a circuit."""
+        return list(self._outputs)
+
+    @property
+    def gates(self) -> int:
+        return len(self._gates)
+
+    def __call__(self, values: Mapping[int, bool]) -> Dict[int, bool]:
+        at = {0: False, 1: True}
+
+        def put(literal: int, value: bool) -> None:
+            at[literal], at[literal ^ 1] = value, not value
+
+        for variable, literal in self._inputs.items():
+            put(literal, bool(values.get(variable, False)))
+        for gate, left, right in self._gates:
+            put(gate, at[left] and at[right])
+        return {variable: at[literal] for variable, literal in self._outputs.items()}
+
+    def __repr__(self) -> str:
+        return f"<Certificate of {len(self._outputs)} functions, {len(self._gates)} gates>"
+
+
+Circuits = Union[bytes, Certificate]
+
+
+def _constants(model: Union[Mapping[int, bool], Iterable[int]], variables: Iterable[int]) -> bytes:
+    """Circuits without inputs: each variable has its value in a model (literals, or a mapping), and 0 where it has none."""
+    true = {v for v, b in model.items() if b} if isinstance(model, Mapping) else {x for x in model if x > 0}
+    row = list(variables)
+    lines = [f"aag 0 0 0 {len(row)} 0"] + ["1" if v in true else "0" for v in row]
+    return ("\n".join(lines + [f"o{k} {v}" for k, v in enumerate(row)]) + "\n").encode()
+
+
+# --- the two back ends ---
+
+@dataclass
+class _Answer:
+    """What a command answers: its exit status, its line, and the files that it made."""
+
+    status: int
+    line: str
+    files: Dict[str, bytes]
+
+    def wanted(self, *statuses: int) -> "_Answer":
+        """Itself, where it has one of these statuses; else its error is raised."""
+        if self.status in statuses:
+            return self
+        if self.line.startswith("stopped"):
+            raise Stopped(self.line, self.status)
+        raise _ERRORS.get(self.status, CeldrinnError)(self.line or f"status {self.status}", self.status)
+
+
+# Which files a command takes, in the order of its words, and which it makes.
+_TAKES = {"simplify": ["IN"], "check": ["IN", "OUT", "LOG"], "rebuild": ["IN", "OUT", "LOG", "SKOLEM"],
+          "refute": ["IN", "OUT", "LOG", "HERBRAND"], "annotate": ["IN", "OUT", "LOG"], "validate": ["IN", "CERT"], "solve": ["IN"]}
+_MAKES = {"simplify": ["OUT", "LOG"], "rebuild": ["CERT"], "refute": ["CERT"], "annotate": ["HINTED"], "solve": ["OUT", "LOG", "CERT"]}
+
+
+class _Program:
+    def __init__(self, path: str):
+        self.path = path
+
+    def run(self, verb: str, texts: Sequence[bytes], options: Mapping[str, int], seconds: Optional[float]) -> _Answer:
+        """One command over files in a folder of its own."""
+        names = _TAKES[verb] + _MAKES.get(verb, [])
+        with tempfile.TemporaryDirectory(prefix="celdrinn-") as folder:
+            for name, text in zip(_TAKES[verb], texts):
+                with open(os.path.join(folder, name), "wb") as it:
+                    it.write(text)
+            words = [self.path, verb, *names, *(f"--{name}={value}" for name, value in options.items())]
+            try:
+                done = subprocess.run(words, cwd=folder, stdin=subprocess.DEVNULL, stdout=subprocess.PIPE, stderr=subprocess.DEVNULL,
+                                      timeout=seconds, env={**os.environ, "CELDRINN_PROGRESS": "0"})
+            except subprocess.TimeoutExpired:
+                return _Answer(6, "stopped: time is over", {})
+            files = {}
+            for name in _MAKES.get(verb, []):
+                path = os.path.join(folder, name)
+                if os.path.exists(path):
+                    with open(path, "rb") as it:
+                        files[name] = it.read()
+            return _Answer(done.returncode, done.stdout.decode().strip(), files)
+
+
+class _Library:
+    def __init__(self, path: str):
+        self.path = path
+        lib = ctypes.CDLL(path)
+        c, i, z, p, u = ctypes.c_void_p, ctypes.c_int, ctypes.c_size_t, ctypes.c_char_p, ctypes.c_uint64
+        to_size = ctypes.POINTER(z)
+        for name, result, arguments in (
+                ("version", p, []), ("new", c, []), ("free", None, [c]), ("limit_seconds", None, [c, ctypes.c_double]), ("stop", None, [c]),
+                ("set", i, [c, p, u]), ("text", i, [c, p, z]), ("given", i, [c, p, z, p, z]), ("do_simplify", i, [c]), ("do_check", i, [c]),
+                ("do_rebuild", i, [c, p, z]), ("do_refute", i, [c, p, z]), ("do_annotate", i, [c]), ("do_validate", i, [c, p, z, u]),
+                ("do_solve", i, [c, u]), ("line", p, [c]), ("out_text", c, [c, to_size]), ("log_text", c, [c, to_size]),
+                ("cert_text", c, [c, to_size]), ("hinted_text", c, [c, to_size])):
+            call = getattr(lib, "celdrinn_" + name)
+            call.restype, call.argtypes = result, arguments
+            setattr(self, name, call)
+
+    def run(self, verb: str, texts: Sequence[bytes], options: Mapping[str, int], seconds: Optional[float]) -> _Answer:
+        """One command by the library's handle."""
+        handle = self.new()
+        if not handle:
+            raise OutOfMemory("no memory", 6)
+        try:
+            status = self.text(handle, texts[0], len(texts[0]))
+            if status == 0 and verb in ("check", "rebuild", "refute", "annotate"):
+                status = self.given(handle, texts[1], len(texts[1]), texts[2], len(texts[2]))
+            if status == 0 and verb == "simplify":
+                for name, value in options.items():
+                    status = status or self.set(handle, name.encode(), value)
+            if status == 0:
+                self.limit_seconds(handle, seconds or 0.0)
+                status = self._beside(handle, verb, self._arguments(verb, texts, options))
+            line = self.line(handle).decode()
+            return _Answer(status, line, {name: self._bytes(name, handle) for name in _MAKES.get(verb, [])})
+        finally:
+            self.free(handle)
+
+    @staticmethod
+    def _arguments(verb: str, texts: Sequence[bytes], options: Mapping[str, int]) -> List[object]:
+        most = 2 ** 64 - 1
+        if verb in ("rebuild", "refute"):
+            return [texts[3], len(texts[3])]
+        if verb == "validate":
+            return [texts[1], len(texts[1]), options.get("budget", most)]
+        return [options.get("budget", most)] if verb == "solve" else []
+
+    def _bytes(self, name: str, handle: int) -> bytes:
+        length = ctypes.c_size_t()
+        at = getattr(self, name.lower() + "_text")(handle, ctypes.byref(length))
+        return ctypes.string_at(at, length.value)
+
+    def _beside(self, handle: int, verb: str, arguments: Sequence[object]) -> int:
+        """The call may take long. It runs beside the caller, who can be interrupted: ctypes lets other threads run meanwhile."""
+        call = getattr(self, "do_" + verb)
+        if threading.current_thread() is not threading.main_thread():
+            return call(handle, *arguments)
+        # an Event, since Thread.join says of a thread that it ended where a signal interrupts it (CPython 3.10 to 3.12 at least)
+        answers: List[int] = []
+        done = threading.Event()
+
+        def work() -> None:
+            try:
+                answers.append(call(handle, *arguments))
+            finally:
+                done.set()
+
+        threading.Thread(target=work, daemon=True).start()
+        try:
+            while not done.wait(0.5):
+                pass
+        except BaseException:
+            self.stop(handle)
+            while not done.is_set():
+                try:
+                    done.wait()
+                except KeyboardInterrupt:
+                    pass
+            raise
+        return answers[0]
+
+
+_libraries: Dict[str, _Library] = {}
+
+
+def _library() -> Optional[_Library]:
+    beside = os.path.join(os.path.dirname(os.path.abspath(__file__)), "libceldrinn.so.1")
+    for path in (os.environ.get("CELDRINN_LIBRARY"), beside, ctypes.util.find_library("celdrinn")):
+        if path and (os.sep not in path or os.path.exists(path)):
+            if path not in _libraries:
+                _libraries[path] = _Library(path)
+            return _libraries[path]
+    return None
+
+
+def _program() -> Optional[_Program]:
+    path = os.environ.get("CELDRINN") or shutil.which("celdrinn")
+    return _Program(path) if path else None
+
+
+def _backend(name: Optional[str]) -> Union[_Library, _Program]:
+    if name not in (None, "library", "program"):
+        raise FormulaError(f"a back end is 'library' or 'program', not {name!r}", 64)
+    found = (_library() if name != "program" else None) or (_program() if name != "library" else None)
+    if found is None:
+        raise NotFound(f"the {name or 'library libceldrinn.so.1 or the program celdrinn'} is not found", 127)
+    return found
+
+
+def version() -> str:
+    """What answers, and its version."""
+    library = _library()
+    return library.version().decode() if library else "program " + getattr(_program(), "path", "not found")
+
+
+def _run(verb: str, texts: Sequence[bytes], seconds: Optional[float], backend: Optional[str], **options: Optional[int]) -> _Answer:
+    chosen = {name: value for name, value in options.items() if value is not None}
+    for name, value in chosen.items():
+        if not 0 <= value <= (2 ** 64 - 1 if name == "budget" else 10000):
+            raise FormulaError(f"{name}={value} is out of range", 64)
+    return _backend(backend).run(verb, texts, chosen, seconds)
+
+
+def _source(clauses: Union[Clauses, bytes], prefix: Prefix) -> bytes:
+    return bytes(clauses) if isinstance(clauses, (bytes, bytearray)) else write(clauses, prefix)
+
+
+def _circuits(given: Circuits) -> bytes:
+    return given.text if isinstance(given, Certificate) else bytes(given)
+
+
+# --- what is offered ---
+
+@dataclass
+class Simplified:
+    """What `simplify` left. `status` is settled, true, false, spent or stopped; `truth` is None where it is not known."""
+
+    status: str
+    line: str
+    source: bytes = field(repr=False)
+    out: bytes = field(repr=False)
+    log: bytes = field(repr=False)
+    backend: Optional[str] = field(default=None, repr=False)
+
+    @property
+    def truth(self) -> Optional[bool]:
+        return {"true": True, "false": False}.get(self.status)
+
+    @property
+    def measures(self) -> Optional[Tuple[int, int]]:
+        """The measure before and after, where the run ended by itself."""
+        words = self.line.split()
+        return (int(words[1]), int(words[2])) if len(words) == 3 and words[1].isdigit() else None
+
+    @property
+    def clauses(self) -> List[List[int]]:
+        return read(self.out)[0]
+
+    @property
+    def prefix(self) -> List[Block]:
+        return read(self.out)[1]
+
+    def check(self) -> int:
+        """The number of steps of the log, which is checked; LogError where it is refused."""
+        return check(self.source, self.out, self.log, backend=self.backend)
+
+    def rebuild(self, skolem: Union[Circuits, Mapping[int, bool], Iterable[int]] = ()) -> Certificate:
+        """Skolem functions of the input, from those of what is left: circuits, or where no universal is left, a solver's model."""
+        if not isinstance(skolem, (bytes, bytearray, Certificate)):
+            prefix = self.prefix
+            if any(q == "a" for q, _ in prefix):
+                raise CircuitError("universals are left: circuits are wanted, not a model", 7)
+            skolem = _constants(skolem, [v for _, vs in prefix for v in vs])
+        return rebuild(self.source, self.out, self.log, skolem, backend=self.backend)
+
+    def refute(self, herbrand: Circuits = b"aag 0 0 0 0 0\n") -> Certificate:
+        """Herbrand functions of the input, from those of what is left; none are wanted where the empty clause is left."""
+        return refute(self.source, self.out, self.log, herbrand, backend=self.backend)
+
+    def annotate(self) -> bytes:
+        """The log with hints, which is checked much faster."""
+        return annotate(self.source, self.out, self.log, backend=self.backend)
+
+
+def simplify(clauses: Union[Clauses, bytes], prefix: Prefix = (), *, grow: Optional[int] = None, expand: Optional[int] = None,
+             budget: Optional[int] = None, seconds: Optional[float] = None, backend: Optional[str] = None) -> Simplified:
+    """Takes rules as long as one applies.
+
+    clauses: lists of ints, or a QDIMACS text as bytes. grow, expand, budget: as the program's options. seconds: where this limit comes
+    first, the status is "stopped", and what is left is what the steps so far led to (library), or Stopped is raised (program).
+    backend: "library" or "program"; the one that is found, if nothing is said."""
+    source = _source(clauses, prefix)
+    answer = _run("simplify", [source], seconds, backend, grow=grow, expand=expand, budget=budget).wanted(0, 2, 10, 20)
+    return Simplified(answer.line.split()[0].rstrip(":"), answer.line, source, answer.files["OUT"], answer.files["LOG"], backend)
+
+
+def check(source: bytes, out: bytes, log: bytes, *, seconds: Optional[float] = None, backend: Optional[str] = None) -> int:
+    """The number of steps of a log that leads from one formula to the other; LogError or FormulaError where it doesn't."""
+    return int(_run("check", [source, out, log], seconds, backend).wanted(0).line.split()[1])
+
+
+def rebuild(source: bytes, out: bytes, log: bytes, skolem: Circuits, *, seconds: Optional[float] = None,
+            backend: Optional[str] = None) -> Certificate:
+    """Skolem functions of a formula from those of what a log led to."""
+    return Certificate(_run("rebuild", [source, out, log, _circuits(skolem)], seconds, backend).wanted(0).files["CERT"])
+
+
+def refute(source: bytes, out: bytes, log: bytes, herbrand: Circuits, *, seconds: Optional[float] = None,
+           backend: Optional[str] = None) -> Certificate:
+    """Herbrand functions of a false formula from those of what a log led to."""
+    return Certificate(_run("refute", [source, out, log, _circuits(herbrand)], seconds, backend).wanted(0).files["CERT"])
+
+
+def annotate(source: bytes, out: bytes, log: bytes, *, seconds: Optional[float] = None, backend: Optional[str] = None) -> bytes:
+    """A log with hints of a log that is right."""
+    return _run("annotate", [source, out, log], seconds, backend).wanted(0).files["HINTED"]
+
+
+def validate(source: bytes, cert: Circuits, *, budget: Optional[int] = None, seconds: Optional[float] = None,
+             backend: Optional[str] = None) -> Union[bool, None, List[int]]:
+    """True where the circuits are Skolem functions of the formula; a list of literals, values of the universals that make a clause false,
+    where they are not; None where the budget was too small."""
+    answer = _run("validate", [source, _circuits(cert)], seconds, backend, budget=budget).wanted(0, 9, 12)
+    if answer.status == 9:
+        return [int(word) for word in answer.line.split()[1:] if word != "0"]
+    return True if answer.status == 0 else None
+
+
+def solve(clauses: Union[Clauses, bytes], prefix: Prefix = (), *, budget: Optional[int] = None, seconds: Optional[float] = None,
+          backend: Optional[str] = None) -> Tuple[Optional[bool], Optional[Certificate]]:
+    """The truth value of a small formula, and Skolem functions where it is true; None where the budget was too small."""
+    answer = _run("solve", [_source(clauses, prefix)], seconds, backend, budget=budget).wanted(10, 12, 20)
+    if answer.status == 10:
+        return True, Certificate(answer.files["CERT"])
+    return (False, None) if answer.status == 20 else (None, None)

@@ -1,0 +1,151 @@
+"""Plays the module for Python: the library beside the program, and both beside brute force. One line a row: `ok NAME` or `wrong NAME`.
+Usage: CELDRINN=.. CELDRINN_LIBRARY=.. PYTHONPATH=.. python3 test.py [COUNT]"""
+import itertools
+import random
+import sys
+import threading
+import time
+
+import celdrinn
+
+
+def formula(r, is_large):
+    """Small enough for brute force; or such that something is mostly left."""
+    blocks, v = [], 1
+    for _ in range(r.randint(1, 4)):
+        n = r.randint(1, 4) * (3 if is_large else 1)
+        q = r.choice("ae") if not blocks else ("a" if blocks[-1][0] == "e" else "e")
+        blocks.append((q, list(range(v, v + n))))
+        v += n
+    free = r.choice((0, 0, 1))
+    if blocks[-1][0] == "a" and is_large:
+        blocks.append(("e", list(range(v, v + 12))))
+        v += 12
+    inner = blocks[-1][1]
+    clauses = []
+    for _ in range(r.randint(3 * v, 4 * v) if is_large else r.randint(0, 18)):
+        row = r.sample(range(1, v + free), min(v - 1, 3 if is_large else r.randint(1, 4)))
+        if is_large and row[0] not in inner:
+            row = list(dict.fromkeys(row + [r.choice(inner)]))
+        clauses.append([r.choice((1, -1)) * x for x in row])
+    if r.random() < 0.05:
+        clauses.append([])
+    return clauses, blocks, v + free - 1
+
+
+def truth(clauses, blocks, top):
+    named = {x for _, vs in blocks for x in vs}
+    order = [("e", x) for x in range(1, top + 1) if x not in named] + [(q, x) for q, vs in blocks for x in vs]
+
+    def go(i, values):
+        if any(all(values.get(abs(k)) is (k < 0) for k in c) for c in clauses):
+            return False
+        if i == len(order):
+            return True
+        q, x = order[i]
+        results = (go(i + 1, {**values, x: b}) for b in (False, True))
+        return any(results) if q == "e" else all(results)
+
+    return go(0, {})
+
+
+def are_skolem(clauses, blocks, cert):
+    universals = [x for q, vs in blocks if q == "a" for x in vs]
+    for bits in itertools.product((False, True), repeat=len(universals)):
+        values = dict(zip(universals, bits))
+        values.update(cert(values))
+        if not all(any(values.get(abs(k), False) is (k > 0) for k in c) for c in clauses):
+            return False
+    return True
+
+
+def play_formula(r, k):
+    """One random formula, by the library and by the program."""
+    is_large = k % 3 == 2
+    clauses, blocks, top = formula(r, is_large)
+    options = {}
+    if k % 2 == 0:
+        options = {name: r.randint(0, most) for name, most in (("grow", 40), ("expand", 40), ("budget", 60)) if r.random() < 0.7}
+    a = celdrinn.simplify(clauses, blocks, backend="library", **options)
+    b = celdrinn.simplify(clauses, blocks, backend="program", **options)
+    assert (a.status, a.line, a.out, a.log) == (b.status, b.line, b.out, b.log), "library and program differ"
+    assert a.check() == b.check() == a.log.count(b"\n"), "the number of steps"
+    assert a.annotate() == b.annotate(), "hints differ"
+    if is_large:
+        return
+    is_true = truth(clauses, blocks, top)
+    assert a.truth in (None, is_true), "truth"
+    answer, skolem = celdrinn.solve(a.out, backend="library")
+    assert answer is is_true, "solve"
+    if is_true:
+        cert = a.rebuild(skolem)
+        assert cert.text == b.rebuild(skolem).text, "circuits differ"
+        assert are_skolem(clauses, blocks, cert), "circuits are wrong"
+        assert celdrinn.validate(a.source, cert, backend="library") is True, "validate"
+    elif a.status == "false":
+        try:
+            assert a.refute().text == b.refute().text, "Herbrand circuits differ"
+        except celdrinn.LogError as error:
+            assert error.status == 8, "refute"
+
+
+def play_formulas(count):
+    r = random.Random(7)
+    for k in range(count):
+        play_formula(r, k)
+
+
+def play_errors():
+    for wrong, kind, place in (((b"p cnf 1 1\n1 x 0\n",), celdrinn.FormulaError, (2, 2)), (([[1, 0]],), celdrinn.FormulaError, (None, None)),
+                               (([[1]], [("x", [1])]), celdrinn.FormulaError, (None, None))):
+        try:
+            celdrinn.simplify(*wrong)
+        except kind as error:
+            assert (error.line, error.cause) == place, error
+        else:
+            raise AssertionError(wrong)
+    good = celdrinn.simplify([[1, 2], [-1, -2]], [("a", [1]), ("e", [2])])
+    try:
+        celdrinn.check(good.source, good.out, good.log[:-2])
+    except celdrinn.LogError:
+        pass
+    else:
+        raise AssertionError("a cut log")
+    assert celdrinn.validate(good.source, b"aag 1 1 0 1 0\n2\n2\ni0 1\no0 2\n") in ([1], [-1]), "values"
+
+
+def play_texts():
+    text = b"c a lamp\np cnf 2 2\na 1 0\ne 2 0\n1\n2 0 -1 -2 0\n"
+    assert celdrinn.read(text) == ([[1, 2], [-1, -2]], [("a", [1]), ("e", [2])])
+    assert celdrinn.write(*celdrinn.read(text)) == b"p cnf 2 2\na 1 0\ne 2 0\n1 2 0\n-1 -2 0\n"
+
+
+def play_limits():
+    """A limit of time, and two threads."""
+    r = random.Random(9)
+    big = celdrinn.write([[r.choice((1, -1)) * x for x in r.sample(range(1, 10000), 3)] for _ in range(30000)])
+    answers = []
+    threads = [threading.Thread(target=lambda: answers.append(celdrinn.simplify(big, backend="library"))) for _ in range(2)]
+    start = time.perf_counter()
+    for thread in threads:
+        thread.start()
+    for thread in threads:
+        thread.join()
+    whole = time.perf_counter() - start
+    assert answers[0].out == answers[1].out and answers[0].log == answers[1].log, "threads differ"
+    part = celdrinn.simplify(big, seconds=whole / 8, backend="library")
+    assert part.status in ("stopped", "settled") and part.check() == part.log.count(b"\n"), part
+
+
+def main():
+    count = int(sys.argv[1]) if len(sys.argv) > 1 else 150
+    for name, play in ((f"{count} formulas in Python", lambda: play_formulas(count)), ("errors in Python", play_errors),
+                       ("texts in Python", play_texts), ("limits and threads in Python", play_limits)):
+        try:
+            play()
+            print("ok", name)
+        except Exception as error:  # a row that is wrong says why
+            print(f"wrong {name}: {type(error).__name__} {error}")
+
+
+main()
