@@ -1,4 +1,4 @@
-use Rattle.std.proofs.Common.{◌≡◌, ◌∙◌, sym, ap, subst, refl}
+use Rattle.std.proofs.Common.{◌≡◌, ◌∙◌, sym, ap, subst, Err}
 use Rattle.q_logic.specs.Prelude.{Prefix, CertificateView, Distinct, trees_of}
 use Rattle.q_carry.specs.Prelude.{Fits}
 use Rattle.q_encode.specs.Sides.{turned}
@@ -41,4 +41,4 @@ returns-in-Err-TooLarge-clause-refused c =
     let e : c.deref.result.now ≡ turned c.args.side c.args.formula.now.prefix =
     c.deref.ensures.value ∙ c.in-Ok.ensures ∙ ap (turned c.args.side) c.prefix.ensures.value in
     (fits-turned c.args.side c.args.formula.now.prefix c.deref.result.now c.args.given.now e c.in-Ok-test.ensures.fits,
-    λ s. c.in-Err-TooLarge.ensures.too_large refl (subst (λ (x : CertificateView). IsSmall c.args.side c.args.formula.now x) (sym c.in-Ok-test.ensures.unchanged) s))
+    λ s. c.in-Err-TooLarge.ensures.too_large (ap Err c.in-Err-TooLarge.field-0-is) (subst (λ (x : CertificateView). IsSmall c.args.side c.args.formula.now x) (sym c.in-Ok-test.ensures.unchanged) s))
