@@ -1,0 +1,3 @@
+pub mod GateCounts
+pub mod MiterOutcome
+pub mod MiterStatus

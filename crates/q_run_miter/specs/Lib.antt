@@ -1,0 +1,2 @@
+pub mod MiteredLines
+pub mod Mitering
