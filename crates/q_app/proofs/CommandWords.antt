@@ -8,7 +8,7 @@ use Rattle.std.specs.Str.{bytes_eq}
 use Rattle.q_app.specs.declared.settings.Settings.{Settings}
 use Rattle.q_command.specs.Names.{ThreeNames, three}
 use Rattle.q_app.specs.Words.{with_word, with_words, scale_of, generate_to, generate_of, demo_by, demo_of}
-use Rattle.q_app.specs.Operands.{Differ, DifferFour, are_different, fourth, is_fourth, just_three, texts, three_names, two_names}
+use Rattle.q_app.specs.Operands.{Differ, DifferFour, are_different, flag_in, fourth, is_fourth, just_three, texts, three_names, two_names}
 use Rattle.q_app.specs.Commands.{by_verb, request}
 
 pub none-stays : (ws : List (List ℕ)) → None ≡ with_words None ws
@@ -149,6 +149,29 @@ two-same a b ws e = rw e refl
 pub two-other : (a b : List ℕ) (ws : List (List ℕ)) → bytes_eq a b ≡ false → Some (a, b, ws) ≡ two_names (a ∷ b ∷ ws)
 unfolding two_names
 two-other a b ws e = rw e refl
+
+-- one word that may stand there
+pub only_word : (ws : List (String Global)) (a : String Global) (v : List ℕ) → length ws ≡ 1 → a ≡ get_or ws 0 a → v ≡ string_bytes a → texts ws ≡ v ∷ []
+only_word ws a v h p x = one_word ws a v (omega arith) p x ∙ ap (λ (t : List (String Global)). v ∷ texts t) (none_left ws 1 h)
+
+pub no_flag : (flag : List ℕ) (ws : List (List ℕ)) → length ws ≡ 0 → Some false ≡ flag_in flag ws
+unfolding flag_in
+no_flag flag [] h = refl
+no_flag flag (w ∷ ws) h = absurd (omega arith)
+
+pub more_words : (flag : List ℕ) (ws : List (List ℕ)) → 1 < length ws → None ≡ flag_in flag ws
+unfolding flag_in
+more_words flag [] h = absurd (omega arith)
+more_words flag (w ∷ []) h = absurd (omega arith)
+more_words flag (w ∷ v ∷ ws) h = refl
+
+pub flag-set : (flag w : List ℕ) → bytes_eq w flag ≡ true → Some true ≡ flag_in flag (w ∷ [])
+unfolding flag_in
+flag-set flag w e = rw e refl
+
+pub flag-other : (flag w : List ℕ) → bytes_eq w flag ≡ false → None ≡ flag_in flag (w ∷ [])
+unfolding flag_in
+flag-other flag w e = rw e refl
 
 -- a fourth name behind three
 pub fourth-none : None ≡ fourth None

@@ -1,5 +1,5 @@
 -- The names that operands are.
-use Rattle.std.specs.Prelude.{◌≢◌, ℕ, Bool, not, ◌&&◌, cond, List, [], ◌∷◌, map, Option, Some, None, String, string_bytes}
+use Rattle.std.specs.Prelude.{◌≢◌, ℕ, Bool, true, false, not, ◌&&◌, cond, List, [], ◌∷◌, map, Option, Some, None, String, string_bytes}
 use Rattle.std.specs.declared.alloc.Global.{Global}
 use Rattle.std.specs.Str.{bytes_eq}
 use Rattle.q_command.specs.Names.{ThreeNames, three}
@@ -39,6 +39,12 @@ unfoldable pub fourth : Option (ThreeNames × List (List ℕ)) → Option (Three
 fourth None = None
 fourth (Some (n, [])) = None
 fourth (Some (n, word ∷ words)) = cond (is_fourth n word) (Some (n, word, words)) None
+
+-- whether the only word is this one; none where there are other words
+unfoldable pub flag_in : List ℕ → List (List ℕ) → Option Bool
+flag_in flag [] = Some false
+flag_in flag (word ∷ []) = cond (bytes_eq word flag) (Some true) None
+flag_in flag (word ∷ other ∷ words) = None
 
 -- the three names differ
 pub record Differ (n : ThreeNames) : Type 0 where

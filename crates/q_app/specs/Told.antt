@@ -9,7 +9,8 @@ use Rattle.q_run_annotate.specs.Annotates as annotate
 use Rattle.q_run_refute.specs.Refutes as refute
 use Rattle.q_run_validate.specs.Validates as validate
 use Rattle.q_run_extract.specs.Extracts as extract
-use Rattle.q_app.specs.Words.{Command, checking, simplifying, rebuilding, generating, solving, annotating, refuting, validating, extracting}
+use Rattle.q_run_miter.specs.Mitering as miter
+use Rattle.q_app.specs.Words.{Command, checking, simplifying, rebuilding, generating, solving, annotating, refuting, validating, mitering, extracting}
 
 abbrev pub told : Command → Told
 told (checking n) = check.told n
@@ -20,4 +21,5 @@ told (solving n b) = solve.told n b
 told (annotating n) = annotate.told n
 told (refuting n) = refute.told n
 told (validating n b) = validate.told n b
+told (mitering n s) = miter.told n s
 told (extracting n) = extract.told n

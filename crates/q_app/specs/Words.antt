@@ -1,16 +1,19 @@
 -- The words of the command line.
-use Rattle.std.specs.Prelude.{ℕ, ◌||◌, ◌==◌, ◌^◌, ◌-◌, min, nat_le, if◌then◌else◌, is_some, unwrap_or, List, [], ◌∷◌, Option, Some, None, codes}
+use Rattle.std.specs.Prelude.{ℕ, Bool, true, false, ◌||◌, ◌==◌, ◌^◌, ◌-◌, min, nat_le, if◌then◌else◌, is_some, unwrap_or, List, [], ◌∷◌, Option, Some, None, codes}
 use Rattle.std.proofs.Common.{arith}
 use Rattle.q_logic.specs.declared.rule_bounds.Bounds.{Bounds}
 use Rattle.q_text.specs.Words.{digits}
 use Rattle.q_simplify.specs.declared.options.Options.{Options}
 use Rattle.q_command.specs.Names.{ThreeNames}
-use Rattle.q_app.specs.Operands.{just_three, three_names}
+use Rattle.q_app.specs.Operands.{flag_in, just_three, three_names}
 use Rattle.q_app.specs.Rebuilds.{FiveNames}
 use Rattle.q_run_validate.specs.Validates.{ValidateFiles}
 use Rattle.q_run_refute.specs.Refutes.{RefuteFiles}
 use Rattle.q_run_annotate.specs.Annotates.{AnnotateFiles}
 use Rattle.q_run_solve.specs.Solves.{SolveFiles}
+use Rattle.q_encode.specs.declared.side.Side.{Side}
+use Rattle.q_encode.specs.declared.side.Side.TheVariants as side
+use Rattle.q_run_miter.specs.Mitering.{MiterFiles}
 use Rattle.q_run_extract.specs.Extracts.{ExtractFiles}
 use Rattle.q_app.specs.declared.words.Scale.{Scale}
 use Rattle.q_app.specs.declared.settings.Setting.{Setting}
@@ -27,6 +30,7 @@ pub data Command : Type 0 where
   annotating : AnnotateFiles → Command
   refuting : RefuteFiles → Command
   validating : ValidateFiles → Option ℕ → Command
+  mitering : MiterFiles → Side → Command
   extracting : ExtractFiles → Command
 
 -- what the words ask for: commands that are done one after the other; none where they are not understood
@@ -193,3 +197,17 @@ solve_of (Some (n, c, words)) = solve_with (record { input = n.input; output = n
 abbrev pub extract_of : Option ThreeNames → Request
 extract_of None = None
 extract_of (Some n) = alone (extracting (record { input = n.input; trace = n.output; cert = n.log }))
+
+-- `miter IN CERT OUT`, where `--herbrand` may follow
+abbrev pub side_of : Bool → Side
+side_of true = side.Herbrand
+side_of false = side.Skolem
+
+abbrev pub miter_with : MiterFiles → Option Bool → Request
+miter_with n None = None
+miter_with n (Some h) = alone (mitering n (side_of h))
+
+abbrev pub miter_of : Option (ThreeNames × List (List ℕ)) → Request
+miter_of None = None
+miter_of (Some (n, words)) =
+    miter_with (record { input = n.input; cert = n.output; output = n.log }) (flag_in (codes "--herbrand") words)

@@ -1,7 +1,7 @@
 // Operands: names of files, which differ, and what stands behind them.
 ghost use Rattle.std.specs.Prelude.{◌≡◌, option_map, IfSome, Some};
 ghost use Rattle.q_command.specs.Names.{three_of};
-ghost use Rattle.q_app.specs.Operands.{Differ, DifferFour, are_different as spec_are_different, fourth, is_fourth as spec_is_fourth, just_three, three_names as spec_three_names, two_names as spec_two_names, texts};
+ghost use Rattle.q_app.specs.Operands.{Differ, DifferFour, are_different as spec_are_different, flag_in, fourth, is_fourth as spec_is_fourth, just_three, three_names as spec_three_names, two_names as spec_two_names, texts};
 ghost use Rattle.q_app.specs.Words.{budget_in};
 
 use crate::settings::Settings;
@@ -129,6 +129,22 @@ pub(crate) fn four_names(operands: &[String]) -> Option<Four>
         Some(begun) => fourth_of(begun.names, begun.rest),
         None => None,
     }
+}
+
+/// Whether the only word is this one, if there are no other words.
+pub(crate) fn flag_of(words: &[String], flag: &str) -> Option<bool>
+    ensures { result ≡ flag_in flag.now (texts words.now) }
+{
+    if words.len() == 0 {
+        return Some(false);
+    }
+    if words.len() > 1 {
+        return None;
+    }
+    if words[0].as_str() == flag {
+        return Some(true);
+    }
+    None
 }
 
 /// The budget that these words set, if they set nothing else.

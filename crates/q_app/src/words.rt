@@ -1,17 +1,18 @@
 // The words of the command line.
 ghost use Rattle.std.specs.Prelude.{◌≡◌, ◌≢◌, ◌≤◌, option_map, IfSome, Some};
 ghost use Rattle.q_app.specs.RebuildWords.{rebuild_names};
-ghost use Rattle.q_app.specs.Words.{annotate_of, check_of, demo_by, demo_of, extract_of, generate_of, refute_of, scale_of as spec_scale_of, simplify_of, solve_of, validate_of};
+ghost use Rattle.q_app.specs.Words.{annotate_of, check_of, demo_by, demo_of, extract_of, generate_of, miter_of, refute_of, scale_of as spec_scale_of, side_of as spec_side_of, simplify_of, solve_of, validate_of};
 ghost use Rattle.q_app.specs.Operands.{fourth, just_three, three_names as spec_three_names, two_names as spec_two_names, texts};
 ghost use Rattle.q_app.specs.Commands.{IsFit, bounds_in, by_verb as spec_by_verb, commands_of, request};
 
-use crate::operands::{budget_of, four_names, only_names, three_names, two_names};
+use crate::operands::{budget_of, flag_of, four_names, only_names, three_names, two_names};
 use crate::rebuild_words::{RebuildNames, parse_rebuild};
 use crate::settings::{Settings, number};
 use q_command::Names;
 use q_logic::Bounds;
 use q_run_annotate::AnnotateNames;
 use q_run_extract::ExtractNames;
+use q_run_miter::{MiterNames, Side};
 use q_run_refute::RefuteNames;
 use q_run_solve::SolveNames;
 use q_run_validate::ValidateNames;
@@ -57,6 +58,10 @@ pub(crate) enum Command<'a> {
     },
     Extract {
         names: ExtractNames<'a>,
+    },
+    Miter {
+        names: MiterNames<'a>,
+        side: Side,
     },
     Demo {
         scale: Scale,
@@ -109,6 +114,9 @@ fn by_verb<'a>(verb: &str, operands: &'a [String]) -> Option<Command<'a>>
     }
     if verb == "extract" {
         return parse_extract(operands);
+    }
+    if verb == "miter" {
+        return parse_miter(operands);
     }
     if verb == "demo" {
         return parse_demo(operands);
@@ -234,6 +242,38 @@ fn parse_extract(operands: &[String]) -> Option<Command>
                 trace: names.output,
                 cert: names.log,
             },
+        }),
+        None => None,
+    }
+}
+
+fn side_of(herbrand: bool) -> Side
+    ensures { result ≡ spec_side_of herbrand }
+{
+    if herbrand {
+        Side::Herbrand
+    } else {
+        Side::Skolem
+    }
+}
+
+fn parse_miter(operands: &[String]) -> Option<Command>
+    ensures request { option_map (λ o. commands_of o) result
+        ≡ miter_of (spec_three_names (texts operands.now)) }
+    ensures fit { IfSome result IsFit }
+{
+    let Some(begun) = three_names(operands) else {
+        return None;
+    };
+    let names = MiterNames {
+        input: begun.names.input,
+        cert: begun.names.output,
+        output: begun.names.log,
+    };
+    match flag_of(begun.rest, "--herbrand") {
+        Some(herbrand) => Some(Command::Miter {
+            names,
+            side: side_of(herbrand),
         }),
         None => None,
     }

@@ -109,12 +109,7 @@ fn write_miter<F: Files>(alloc: Global, files: &mut F, output: &str, clauses: &C
 }
 
 /// What there is to say of `miter` over the files of these names.
-pub fn miter_files<F: Files>(
-    alloc: Global,
-    files: &mut F,
-    names: MiterNames,
-    side: Side,
-) -> Mitered
+pub fn miter_files<F: Files>(alloc: Global, files: &mut F, names: MiterNames, side: Side) -> Mitered
     ensures miters { IfSome (F.held files.old) (λ disk.
         Miters result side (files_of names.entry) disk (F.held files.new)) }
     ensures read_fault { status_of_mitered result ≡ status.ReadFault

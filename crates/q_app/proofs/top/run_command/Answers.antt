@@ -41,6 +41,10 @@ pub returns-in-Extract : goal.returns-in-Extract
 returns-in-Extract g c =
     subst (λ (k : Parsed). InTurn (commands_of k) (devices g.F.Files g.S.Sink c.args.files.now c.args.out.now) c.run-in-Extract.result (devices g.F.Files g.S.Sink c.run-in-Extract.new.files c.run-in-Extract.new.out)) (sym c.in-Extract.is) c.run-in-Extract.ensures
 
+pub returns-in-Miter : goal.returns-in-Miter
+returns-in-Miter g c =
+    subst (λ (k : Parsed). InTurn (commands_of k) (devices g.F.Files g.S.Sink c.args.files.now c.args.out.now) c.run-in-Miter.result (devices g.F.Files g.S.Sink c.run-in-Miter.new.files c.run-in-Miter.new.out)) (sym c.in-Miter.is) c.run-in-Miter.ensures
+
 pub returns-in-Demo : goal.returns-in-Demo
 returns-in-Demo g c =
     subst (λ (k : Parsed). InTurn (commands_of k) (devices g.F.Files g.S.Sink c.args.files.now c.args.out.now) c.run_demo.result (devices g.F.Files g.S.Sink c.run_demo.new.files c.run_demo.new.out)) (sym c.in-Demo.is) c.run_demo.ensures

@@ -39,6 +39,7 @@ returns-in-Ok-encode-clause-made c =
 pub returns-in-Err-TooLarge-clause-refused : goal.returns-in-Err-TooLarge-clause-refused
 returns-in-Err-TooLarge-clause-refused c =
     let e : c.deref.result.now ≡ turned c.args.side c.args.formula.now.prefix =
-    c.deref.ensures.value ∙ c.in-Ok.ensures ∙ ap (turned c.args.side) c.prefix.ensures.value in
-    (fits-turned c.args.side c.args.formula.now.prefix c.deref.result.now c.args.given.now e c.in-Ok-test.ensures.fits,
-    λ s. c.in-Err-TooLarge.ensures.too_large (ap Err c.in-Err-TooLarge.field-0-is) (subst (λ (x : CertificateView). IsSmall c.args.side c.args.formula.now x) (sym c.in-Ok-test.ensures.unchanged) s))
+    c.deref.ensures.value ∙ c.in-Ok.ensures ∙ ap (turned c.args.side) c.prefix.ensures.value in (
+      fits-turned c.args.side c.args.formula.now.prefix c.deref.result.now c.args.given.now e c.in-Ok-test.ensures.fits,
+      λ s. c.in-Err-TooLarge.ensures.too_large (ap Err c.in-Err-TooLarge.field-0-is) (subst (λ (x : CertificateView). IsSmall c.args.side c.args.formula.now x) (sym c.in-Ok-test.ensures.unchanged) s),
+    )
