@@ -38,6 +38,8 @@ take "$1" && in=$file
 cert=${2:-/dev/null}
 keep_apart "$1" "$cert"
 if [ -f "$cert" ] && grep -q '^p cnf' <"$cert"; then usage "'$cert' is a formula, and CERT would be written over it"; fi
+case $cert in */*) folder=${cert%/*}/ ;; *) folder=. ;; esac
+[ -w "$cert" ] || { [ ! -e "$cert" ] && [ -w "$folder" ]; } || { echo "can't write '$cert'" >&2 && exit 5; }
 
 note() { echo "$*" >&2; }
 limited() { (ulimit -t "$seconds" && exec "$@"); }
