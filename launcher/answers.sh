@@ -97,6 +97,29 @@ explain_line() {
     tell "$name" "$3" "$kept$more"
 }
 
+# What is wrong in a trace, by the cause.
+trace_words() {
+    case $1 in
+        1) echo "this can't stand here in a trace" ;;
+        2) echo "the trace ends before its verdict, so the solver was stopped" ;;
+        3) echo "the number of this line is not above that of the line before" ;;
+        4) echo "a variable of this line is not in $(named IN)" ;;
+        5) echo "no empty line, or one that names a line which does not stand before it, and can't stand by itself" ;;
+        6) echo "this line names no other, and can't stand by itself" ;;
+        7) echo "the two lines that this one names have no literal of the opponent's to resolve on" ;;
+        8) echo "a number or the trace is too large" ;;
+        9) echo "both signs of a variable: long-distance resolution is not read" ;;
+        10) echo "a literal of the opponent's is lost" ;;
+        11) echo "a literal is taken away before which not all of the opponent's stand" ;;
+    esac
+}
+explain_trace() {
+    found=
+    name=$(named TRACE)
+    [ ! -f "$name" ] || found=$(unpacked "$name" 2>/dev/null | LC_ALL=C tr '\000\r' '\001 ' | LC_ALL=C awk -v kind=trace -v at="$1" -v cause="$2" -f "$parts/explain.awk" 2>/dev/null)
+    tell "$name" "$1" "$(trace_words "$2")${found:+: $found}"
+}
+
 # Says of an answer what it means.
 explain() {
     # shellcheck disable=SC2086
@@ -104,7 +127,12 @@ explain() {
     case $line in
         input\ IN\ line*) explain_line IN formula "$4" "$6" ;;
         input\ OUT\ line*) explain_line OUT formula "$4" "$6" ;;
-        refused\ line*) explain_line "$(log_role)" log "$3" "$5" ;;
+        refused\ line*)
+            case $command in
+                extract) explain_trace "$3" "$5" ;;
+                *) explain_line "$(log_role)" log "$3" "$5" ;;
+            esac
+            ;;
         refused\ end\ cause\ 9) tell "$(named LOG)" "all its steps are valid, but they end with other quantifier blocks than $(named OUT) has" ;;
         refused\ end\ cause\ 10) tell "$(named LOG)" "all its steps are valid, but they end with other clauses than $(named OUT) has" ;;
         refused\ end\ cause\ 11) tell "$(named PROOF)" "no step of it makes the empty clause" ;;
@@ -116,7 +144,12 @@ explain() {
         circuits\ *\ reads*) tell "$(named "$(circuits_role)")" "the circuit of $2 reads $4, which does not stand before $2 in $(named "$(formula_role)")" ;;
         circuits\ of\ a\ false*) tell "$(named OUT)" "the empty clause stands here, so it is false and has no Skolem functions ('celdrinn refute' is for false formulas)" ;;
         circuits\ of\ a\ true*) tell "$(named OUT)" "no clause stands here, so it is true and has no Herbrand functions ('celdrinn rebuild' is for true formulas)" ;;
-        unknown) say "the budget was spent before there was an answer; a larger --budget may give one, and without it there is no bound" ;;
+        unknown)
+            case $command in
+                extract) tell "$(named TRACE)" "the solver did not know: the trace ends in 'r UNKNOWN'" ;;
+                *) say "the budget was spent before there was an answer; a larger --budget may give one, and without it there is no bound" ;;
+            esac
+            ;;
         'too large') say "what would be written is larger than is read" ;;
         'no memory') say "memory ran out; a smaller --budget or --expand wants less" ;;
         'write fault' | 'read fault') explain_fault ;;

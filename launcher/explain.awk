@@ -1,4 +1,4 @@
-# Says what is wrong in a line of a file, with its words and numbers. `kind` is formula, log or circuits, `at` the line and `cause` the number
+# Says what is wrong in a line of a file, with its words and numbers. `kind` is formula, log, trace or circuits, `at` the line and `cause` the number
 # of the refusal. It only says what was refused, and decides nothing. Bytes 0 come as 1.
 
 function is_number(t) { return t ~ /^-?[0-9]+$/ && t !~ /^-0+$/ }
@@ -21,6 +21,8 @@ function look_at_head() {
     if (head ~ /^#QCIR/) return "this is QCIR"
     if (head ~ /^\.model/ || head ~ /^\.inputs/) return "this is a circuit in BLIF: examples/circuit-to-qdimacs.sh makes a formula of it"
     if (head ~ /^p qrat/) return "this is a log with hints"
+    if (head ~ /^p bqrp/) return "this is a binary trace: depqbf writes a text with --trace=qrp"
+    if (head ~ /^p qrp/ && kind != "trace") return "this is a solver's trace, for 'celdrinn extract'"
     if (head ~ /^p +(wcnf|inccnf|qcnf|dqcnf)/) { split(head, word, " "); return "this is " word[2] ", another format" }
     if (head ~ /^[vVs] /) return "this is a solver's answer"
     return ""
