@@ -1,7 +1,7 @@
 #!/bin/sh
 # Says whether circuits are Skolem functions of a formula, as `celdrinn validate` does, but asks a SAT solver, which may be faster where the
 # circuits have many inputs. `celdrinn miter` writes a CNF that is false exactly where they are, the solver decides it, and `celdrinn disprove`
-# checks CaDiCaL's proof. Where the program has no such commands yet, the CNF is made by miter.awk, and the solver is trusted.
+# checks CaDiCaL's proof, once the program has that command; until then the solver is trusted.
 # Says `valid` and ends with 0, or `invalid` and values of universals under which a clause is false (by the solver alone), with 9.
 # Usage: examples/validate-with-sat.sh [IN CERT]
 set -u
@@ -10,17 +10,7 @@ here=$(cd "$(dirname "$0")" && pwd)
 take "${1:-$here/equivalence.qdimacs}" && in=$file
 take "${2:-$here/equivalence.aag}" && cert=$file
 
-if has_command miter; then
-    line=$("$celdrinn" miter "$in" "$cert" "$work/cnf") || { echo "$line" && exit 1; }
-else
-    # which circuits there are and what they read is looked at without a branch
-    line=$("$celdrinn" validate "$in" "$cert" --budget=0)
-    case $? in
-        0 | 9 | 12) ;;
-        *) echo "$line" && exit 1 ;;
-    esac
-    awk -f "$here/miter.awk" "$cert" "$in" >"$work/cnf" || exit 1
-fi
+line=$("$celdrinn" miter "$in" "$cert" "$work/cnf") || { echo "$line" && exit 1; }
 
 # Says of a model what it makes of the universals, each by the number that it has in the CNF too.
 universals() {
@@ -53,7 +43,7 @@ fi
 case $status in
     20) echo "valid (by $by)" ;;
     10)
-        if has_command miter; then echo "invalid$(universals "$work/model" "$in") (by $by)"; else echo "invalid (by $by)"; fi
+        echo "invalid$(universals "$work/model" "$in") (by $by)"
         exit 9
         ;;
     *) echo "$by gave no answer" && exit 1 ;;

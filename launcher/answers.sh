@@ -150,7 +150,7 @@ explain() {
                 *) say "the budget was spent before there was an answer; a larger --budget may give one, and without it there is no bound" ;;
             esac
             ;;
-        'too large') say "what would be written is larger than is read" ;;
+        'circuits too large') say "what would be written is larger than is read" ;;
         'no memory') say "memory ran out; a smaller --budget or --expand wants less" ;;
         'write fault' | 'read fault') explain_fault ;;
         usage) ;;
