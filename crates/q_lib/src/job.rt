@@ -29,6 +29,7 @@ pub(crate) struct Job {
 
 impl Job {
     /// A command of one word, which finds no file.
+    #[tactic(auto, using(crate::proofs::FilesHeld::none_held))]
     pub(crate) fn new(alloc: Global, verb: &str) -> Result<Job, NoMemory>
         ensures words { IfOk result (λ job. texts job.words.items ≡ verb.now ∷ []) }
         ensures files { IfOk result (λ job. HoldsJust [] job.files) }
@@ -66,6 +67,7 @@ impl Job {
     }
 
     /// One more word, which names a file of these bytes.
+    #[tactic(auto, using(crate::proofs::FilesHeld::put))]
     pub(crate) fn file(&mut self, name: &str, bytes: &[u8]) -> Result<(), NoMemory>
         ensures words { OnOk result (texts self.new.words.items
             ≡ texts self.old.words.items ++ name.now ∷ []) }

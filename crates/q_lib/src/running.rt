@@ -24,10 +24,7 @@ pub(crate) fn check(
     job.run()
 }
 
-pub(crate) fn simplify(
-    alloc: Global,
-    input: &[u8],
-) -> Result<Left, NoMemory>
+pub(crate) fn simplify(alloc: Global, input: &[u8]) -> Result<Left, NoMemory>
     ensures { IfOk result (λ left. RanOver (over_three (codes "simplify") [])
         ((codes "IN", input.now) ∷ [])
         left.status left.files left.line) }
@@ -133,11 +130,7 @@ pub(crate) fn validate(
     job.run()
 }
 
-pub(crate) fn solve(
-    alloc: Global,
-    budget: u64,
-    input: &[u8],
-) -> Result<Left, NoMemory>
+pub(crate) fn solve(alloc: Global, budget: u64, input: &[u8]) -> Result<Left, NoMemory>
     ensures { IfOk result (λ left. RanOver (over_three (codes "solve") (codes "CERT" ∷ option (codes "--budget=") budget ∷ []))
         ((codes "IN", input.now) ∷ [])
         left.status left.files left.line) }
@@ -151,11 +144,7 @@ pub(crate) fn solve(
     job.run()
 }
 
-pub(crate) fn generate(
-    alloc: Global,
-    seed: u64,
-    size: u32,
-) -> Result<Left, NoMemory>
+pub(crate) fn generate(alloc: Global, seed: u64, size: u32) -> Result<Left, NoMemory>
     ensures { IfOk result (λ left. RanOver (codes "gen" ∷ option [] seed ∷ option [] size ∷ codes "OUT" ∷ [])
         ([])
         left.status left.files left.line) }

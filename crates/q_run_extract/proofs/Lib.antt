@@ -1,3 +1,3 @@
 mod TracePieces
 mod ExtractFiles
-mod ExtractStatus
+pub mod ExtractStatus
