@@ -12,5 +12,5 @@ none_held disk e q = ap (λ (d : Disk). map.get d q) e ∙ map.get-empty _ q
 pub put : (held : List (List ℕ × List ℕ)) (name bytes : List ℕ) (before after : Disk) → map.get after name ≡ Some bytes → OthersStay name before after → HoldsJust held before → HoldsJust ((name, bytes) ∷ held) after
 put held name bytes before after stored others h q = go (bytes_eq name q) refl where
   go : (b : Bool) → bytes_eq name q ≡ b → map.get after q ≡ cond (bytes_eq name q) (Some bytes) (bytes_in held q)
-  go true e = rw e; subst (λ n. map.get after n ≡ Some bytes) ((bytes_eq-Decides name q).0 e) stored
-  go false e = rw e; others q (λ w. cc) ∙ h q
+  go true e = rw e (subst (λ (n : List ℕ). map.get after n ≡ Some bytes) ((bytes_eq-Decides name q).0 e) stored)
+  go false e = rw e (others q (λ w. let t : bytes_eq name q ≡ true = (bytes_eq-Decides name q).1 (sym w) in cc) ∙ h q)
