@@ -22,11 +22,15 @@ release() {
     chmod 755 "dist/$2-x86_64-linux"
 }
 
-# The library has the proved calls, and a layer in C over them.
+# The library has the calls; what they want of malloc, packaging/celdrinn_memory.c, is compiled and put beside them.
 release_library() {
     library=crates/q_lib/out/libq_lib.a
     is_built "$library" || (cd crates/q_lib && rt lib) || exit 1
-    packaging/library/build.sh "$library" dist || exit 1
+    to=$PWD/dist/libceldrinn-x86_64-linux.a
+    work=$(mktemp -d) || exit 1
+    ${CC:-cc} -O2 -fPIC -c -o "$work/celdrinn_memory.o" packaging/celdrinn_memory.c || exit 1
+    cp "$library" "$to" && ar rDs "$to" "$work/celdrinn_memory.o" || exit 1
+    rm -rf "$work"
 }
 
 before=$(bench/sources.sh)

@@ -16,8 +16,6 @@ esac
 
 lib=$root/lib/celdrinn
 archive=$root/lib/libceldrinn.a
-shared=$root/lib/libceldrinn.so.1
-config=$root/lib/pkgconfig/celdrinn.pc
 header=$root/include/celdrinn.h
 doc=$root/share/doc/celdrinn
 bash_completion=$root/share/bash-completion/completions/celdrinn
@@ -27,7 +25,7 @@ page=$root/share/man/man1/celdrinn.1
 
 if [ -n "$remove" ]; then
     rm -rf "$lib" "$doc"
-    rm -f "$root/bin/celdrinn" "$archive" "$shared" "${shared%.1}" "$config" "$header" "$bash_completion" "$zsh_completion" "$fish_completion" "$page"
+    rm -f "$root/bin/celdrinn" "$archive" "$header" "$bash_completion" "$zsh_completion" "$fish_completion" "$page"
     exit
 fi
 
@@ -63,13 +61,6 @@ put 644 "$lib/help" help/*.txt
 if [ -f dist/libceldrinn-x86_64-linux.a ]; then
     put_as 644 dist/libceldrinn-x86_64-linux.a "$archive"
     put_as 644 packaging/celdrinn.h "$header"
-fi
-if [ -f dist/libceldrinn-x86_64-linux.so.1 ]; then
-    put_as 755 dist/libceldrinn-x86_64-linux.so.1 "$shared"
-    ln -sf libceldrinn.so.1 "${shared%.1}" || exit 1
-    put_as 644 packaging/library/celdrinn.pc.in "$config"
-    version=$(sed -n '1s/^celdrinn //p' VERSION)
-    sed "s|@PREFIX@|$prefix|; s|@VERSION@|$version|" packaging/library/celdrinn.pc.in >"$config" || exit 1
 fi
 mkdir -p "$root/bin" && ln -sf ../lib/celdrinn/celdrinn "$root/bin/celdrinn" || exit 1
 put 644 "$doc" README.md CHANGELOG.md LICENSE CITATION.cff

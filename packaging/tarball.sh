@@ -15,11 +15,9 @@ mkdir -p "$work/$name/crates/q_rows" "$work/$name/dist" "$work/$name/packaging" 
 cp dist/celdrinn-x86_64-linux "$work/$name/program" || exit 1
 [ ! -f dist/rows-x86_64-linux ] || cp dist/rows-x86_64-linux "$work/$name/dist/" || exit 1
 cp -R celdrinn launcher VERSION README.md CHANGELOG.md LICENSE CITATION.cff Makefile completion docs examples help tests "$work/$name/" || exit 1
-for library in dist/libceldrinn-x86_64-linux.a dist/libceldrinn-x86_64-linux.so.1; do
-    [ ! -f "$library" ] || cp "$library" "$work/$name/dist/" || exit 1
-done
+[ ! -f dist/libceldrinn-x86_64-linux.a ] || cp dist/libceldrinn-x86_64-linux.a "$work/$name/dist/" || exit 1
 cp packaging/install.sh packaging/version.sh packaging/words.sh packaging/celdrinn.h "$work/$name/packaging/" || exit 1
-cp -R packaging/library packaging/python "$work/$name/packaging/" || exit 1
+cp -R packaging/python "$work/$name/packaging/" || exit 1
 cp -R crates/q_rows/args crates/q_rows/data crates/q_rows/stdout "$work/$name/crates/q_rows/" || exit 1
 # one owner, one date, one order: the same files make the same archive
 tar -C "$work" --sort=name --owner=0 --group=0 --numeric-owner --mtime="@${SOURCE_DATE_EPOCH:-$(git log -1 --format=%ct 2>/dev/null || echo 1700000000)}" -cf "$work/tar" "$name" || exit 1

@@ -11,20 +11,16 @@
 A clause is an iterable of non-zero ints, a prefix a list of blocks ("a" or "e", variables), from the outermost in. Variables of no block
 are existential and come first.
 
-Two back ends give the same answers: the shared library (CELDRINN_LIBRARY names it, else libceldrinn.so.1 is looked for beside this file
-and where the system has its libraries), and the program (CELDRINN names it, else `celdrinn` of the PATH). The library is taken where it
-is found. Each call can be interrupted with Ctrl-C, and `seconds` limits it.
+Each call runs the program, which CELDRINN names, else `celdrinn` of the PATH, over files in a folder of its own. It can be interrupted
+with Ctrl-C, and `seconds` limits it.
 """
 from __future__ import annotations
 
-import ctypes
-import ctypes.util
 import os
 import re
 import shutil
 import subprocess
 import tempfile
-import threading
 from dataclasses import dataclass, field
 from typing import Dict, Iterable, List, Mapping, Optional, Sequence, Tuple, Union
 
@@ -32,7 +28,7 @@ Block = Tuple[str, List[int]]
 Clauses = Iterable[Iterable[int]]
 Prefix = Sequence[Tuple[str, Iterable[int]]]
 
-__all__ = ["simplify", "check", "rebuild", "refute", "annotate", "validate", "solve", "read", "write", "version", "Simplified", "Certificate",
+__all__ = ["simplify", "check", "rebuild", "refute", "annotate", "validate", "solve", "read", "write", "Simplified", "Certificate",
            "CeldrinnError", "FormulaError", "LogError", "CircuitError", "OutOfMemory", "Stopped", "NotFound"]
 
 
@@ -71,7 +67,7 @@ class Stopped(CeldrinnError):
 
 
 class NotFound(CeldrinnError):
-    """Neither the library nor the program was found, or not the one that was asked for."""
+    """The program was not found."""
 
 
 _ERRORS = {1: LogError, 3: FormulaError, 6: OutOfMemory, 7: CircuitError, 8: LogError, 64: FormulaError}
@@ -190,7 +186,7 @@ def _constants(model: Union[Mapping[int, bool], Iterable[int]], variables: Itera
     return ("\n".join(lines + [f"o{k} {v}" for k, v in enumerate(row)]) + "\n").encode()
 
 
-# --- the two back ends ---
+# --- the program ---
 
 @dataclass
 class _Answer:
@@ -241,125 +237,19 @@ class _Program:
             return _Answer(done.returncode, done.stdout.decode().strip(), files)
 
 
-class _Library:
-    def __init__(self, path: str):
-        self.path = path
-        lib = ctypes.CDLL(path)
-        c, i, z, p, u = ctypes.c_void_p, ctypes.c_int, ctypes.c_size_t, ctypes.c_char_p, ctypes.c_uint64
-        to_size = ctypes.POINTER(z)
-        for name, result, arguments in (
-                ("version", p, []), ("new", c, []), ("free", None, [c]), ("limit_seconds", None, [c, ctypes.c_double]), ("stop", None, [c]),
-                ("set", i, [c, p, u]), ("text", i, [c, p, z]), ("given", i, [c, p, z, p, z]), ("do_simplify", i, [c]), ("do_check", i, [c]),
-                ("do_rebuild", i, [c, p, z]), ("do_refute", i, [c, p, z]), ("do_annotate", i, [c]), ("do_validate", i, [c, p, z, u]),
-                ("do_solve", i, [c, u]), ("line", p, [c]), ("out_text", c, [c, to_size]), ("log_text", c, [c, to_size]),
-                ("cert_text", c, [c, to_size]), ("hinted_text", c, [c, to_size])):
-            call = getattr(lib, "celdrinn_" + name)
-            call.restype, call.argtypes = result, arguments
-            setattr(self, name, call)
-
-    def run(self, verb: str, texts: Sequence[bytes], options: Mapping[str, int], seconds: Optional[float]) -> _Answer:
-        """One command by the library's handle."""
-        handle = self.new()
-        if not handle:
-            raise OutOfMemory("no memory", 6)
-        try:
-            status = self.text(handle, texts[0], len(texts[0]))
-            if status == 0 and verb in ("check", "rebuild", "refute", "annotate"):
-                status = self.given(handle, texts[1], len(texts[1]), texts[2], len(texts[2]))
-            if status == 0 and verb == "simplify":
-                for name, value in options.items():
-                    status = status or self.set(handle, name.encode(), value)
-            if status == 0:
-                self.limit_seconds(handle, seconds or 0.0)
-                status = self._beside(handle, verb, self._arguments(verb, texts, options))
-            line = self.line(handle).decode()
-            return _Answer(status, line, {name: self._bytes(name, handle) for name in _MAKES.get(verb, [])})
-        finally:
-            self.free(handle)
-
-    @staticmethod
-    def _arguments(verb: str, texts: Sequence[bytes], options: Mapping[str, int]) -> List[object]:
-        most = 2 ** 64 - 1
-        if verb in ("rebuild", "refute"):
-            return [texts[3], len(texts[3])]
-        if verb == "validate":
-            return [texts[1], len(texts[1]), options.get("budget", most)]
-        return [options.get("budget", most)] if verb == "solve" else []
-
-    def _bytes(self, name: str, handle: int) -> bytes:
-        length = ctypes.c_size_t()
-        at = getattr(self, name.lower() + "_text")(handle, ctypes.byref(length))
-        return ctypes.string_at(at, length.value)
-
-    def _beside(self, handle: int, verb: str, arguments: Sequence[object]) -> int:
-        """The call may take long. It runs beside the caller, who can be interrupted: ctypes lets other threads run meanwhile."""
-        call = getattr(self, "do_" + verb)
-        if threading.current_thread() is not threading.main_thread():
-            return call(handle, *arguments)
-        # an Event, since Thread.join says of a thread that it ended where a signal interrupts it (CPython 3.10 to 3.12 at least)
-        answers: List[int] = []
-        done = threading.Event()
-
-        def work() -> None:
-            try:
-                answers.append(call(handle, *arguments))
-            finally:
-                done.set()
-
-        threading.Thread(target=work, daemon=True).start()
-        try:
-            while not done.wait(0.5):
-                pass
-        except BaseException:
-            self.stop(handle)
-            while not done.is_set():
-                try:
-                    done.wait()
-                except KeyboardInterrupt:
-                    pass
-            raise
-        return answers[0]
-
-
-_libraries: Dict[str, _Library] = {}
-
-
-def _library() -> Optional[_Library]:
-    beside = os.path.join(os.path.dirname(os.path.abspath(__file__)), "libceldrinn.so.1")
-    for path in (os.environ.get("CELDRINN_LIBRARY"), beside, ctypes.util.find_library("celdrinn")):
-        if path and (os.sep not in path or os.path.exists(path)):
-            if path not in _libraries:
-                _libraries[path] = _Library(path)
-            return _libraries[path]
-    return None
-
-
-def _program() -> Optional[_Program]:
+def _program() -> _Program:
     path = os.environ.get("CELDRINN") or shutil.which("celdrinn")
-    return _Program(path) if path else None
+    if path is None:
+        raise NotFound("the program celdrinn is not found: name it in CELDRINN, or put it on the PATH", 127)
+    return _Program(path)
 
 
-def _backend(name: Optional[str]) -> Union[_Library, _Program]:
-    if name not in (None, "library", "program"):
-        raise FormulaError(f"a back end is 'library' or 'program', not {name!r}", 64)
-    found = (_library() if name != "program" else None) or (_program() if name != "library" else None)
-    if found is None:
-        raise NotFound(f"the {name or 'library libceldrinn.so.1 or the program celdrinn'} is not found", 127)
-    return found
-
-
-def version() -> str:
-    """What answers, and its version."""
-    library = _library()
-    return library.version().decode() if library else "program " + getattr(_program(), "path", "not found")
-
-
-def _run(verb: str, texts: Sequence[bytes], seconds: Optional[float], backend: Optional[str], **options: Optional[int]) -> _Answer:
+def _run(verb: str, texts: Sequence[bytes], seconds: Optional[float], **options: Optional[int]) -> _Answer:
     chosen = {name: value for name, value in options.items() if value is not None}
     for name, value in chosen.items():
         if not 0 <= value <= (2 ** 64 - 1 if name == "budget" else 10000):
             raise FormulaError(f"{name}={value} is out of range", 64)
-    return _backend(backend).run(verb, texts, chosen, seconds)
+    return _program().run(verb, texts, chosen, seconds)
 
 
 def _source(clauses: Union[Clauses, bytes], prefix: Prefix) -> bytes:
@@ -374,14 +264,13 @@ def _circuits(given: Circuits) -> bytes:
 
 @dataclass
 class Simplified:
-    """What `simplify` left. `status` is settled, true, false, spent or stopped; `truth` is None where it is not known."""
+    """What `simplify` left. `status` is settled, true, false or spent; `truth` is None where it is not known."""
 
     status: str
     line: str
     source: bytes = field(repr=False)
     out: bytes = field(repr=False)
     log: bytes = field(repr=False)
-    backend: Optional[str] = field(default=None, repr=False)
 
     @property
     def truth(self) -> Optional[bool]:
@@ -403,7 +292,7 @@ class Simplified:
 
     def check(self) -> int:
         """The number of steps of the log, which is checked; LogError where it is refused."""
-        return check(self.source, self.out, self.log, backend=self.backend)
+        return check(self.source, self.out, self.log)
 
     def rebuild(self, skolem: Union[Circuits, Mapping[int, bool], Iterable[int]] = ()) -> Certificate:
         """Skolem functions of the input, from those of what is left: circuits, or where no universal is left, a solver's model."""
@@ -412,65 +301,60 @@ class Simplified:
             if any(q == "a" for q, _ in prefix):
                 raise CircuitError("universals are left: circuits are wanted, not a model", 7)
             skolem = _constants(skolem, [v for _, vs in prefix for v in vs])
-        return rebuild(self.source, self.out, self.log, skolem, backend=self.backend)
+        return rebuild(self.source, self.out, self.log, skolem)
 
     def refute(self, herbrand: Circuits = b"aag 0 0 0 0 0\n") -> Certificate:
         """Herbrand functions of the input, from those of what is left; none are wanted where the empty clause is left."""
-        return refute(self.source, self.out, self.log, herbrand, backend=self.backend)
+        return refute(self.source, self.out, self.log, herbrand)
 
     def annotate(self) -> bytes:
         """The log with hints, which is checked much faster."""
-        return annotate(self.source, self.out, self.log, backend=self.backend)
+        return annotate(self.source, self.out, self.log)
 
 
 def simplify(clauses: Union[Clauses, bytes], prefix: Prefix = (), *, grow: Optional[int] = None, expand: Optional[int] = None,
-             budget: Optional[int] = None, seconds: Optional[float] = None, backend: Optional[str] = None) -> Simplified:
+             budget: Optional[int] = None, seconds: Optional[float] = None) -> Simplified:
     """Takes rules as long as one applies.
 
     clauses: lists of ints, or a QDIMACS text as bytes. grow, expand, budget: as the program's options. seconds: where this limit comes
-    first, the status is "stopped", and what is left is what the steps so far led to (library), or Stopped is raised (program).
-    backend: "library" or "program"; the one that is found, if nothing is said."""
+    first, Stopped is raised."""
     source = _source(clauses, prefix)
-    answer = _run("simplify", [source], seconds, backend, grow=grow, expand=expand, budget=budget).wanted(0, 2, 10, 20)
-    return Simplified(answer.line.split()[0].rstrip(":"), answer.line, source, answer.files["OUT"], answer.files["LOG"], backend)
+    answer = _run("simplify", [source], seconds, grow=grow, expand=expand, budget=budget).wanted(0, 2, 10, 20)
+    return Simplified(answer.line.split()[0].rstrip(":"), answer.line, source, answer.files["OUT"], answer.files["LOG"])
 
 
-def check(source: bytes, out: bytes, log: bytes, *, seconds: Optional[float] = None, backend: Optional[str] = None) -> int:
+def check(source: bytes, out: bytes, log: bytes, *, seconds: Optional[float] = None) -> int:
     """The number of steps of a log that leads from one formula to the other; LogError or FormulaError where it doesn't."""
-    return int(_run("check", [source, out, log], seconds, backend).wanted(0).line.split()[1])
+    return int(_run("check", [source, out, log], seconds).wanted(0).line.split()[1])
 
 
-def rebuild(source: bytes, out: bytes, log: bytes, skolem: Circuits, *, seconds: Optional[float] = None,
-            backend: Optional[str] = None) -> Certificate:
+def rebuild(source: bytes, out: bytes, log: bytes, skolem: Circuits, *, seconds: Optional[float] = None) -> Certificate:
     """Skolem functions of a formula from those of what a log led to."""
-    return Certificate(_run("rebuild", [source, out, log, _circuits(skolem)], seconds, backend).wanted(0).files["CERT"])
+    return Certificate(_run("rebuild", [source, out, log, _circuits(skolem)], seconds).wanted(0).files["CERT"])
 
 
-def refute(source: bytes, out: bytes, log: bytes, herbrand: Circuits, *, seconds: Optional[float] = None,
-           backend: Optional[str] = None) -> Certificate:
+def refute(source: bytes, out: bytes, log: bytes, herbrand: Circuits, *, seconds: Optional[float] = None) -> Certificate:
     """Herbrand functions of a false formula from those of what a log led to."""
-    return Certificate(_run("refute", [source, out, log, _circuits(herbrand)], seconds, backend).wanted(0).files["CERT"])
+    return Certificate(_run("refute", [source, out, log, _circuits(herbrand)], seconds).wanted(0).files["CERT"])
 
 
-def annotate(source: bytes, out: bytes, log: bytes, *, seconds: Optional[float] = None, backend: Optional[str] = None) -> bytes:
+def annotate(source: bytes, out: bytes, log: bytes, *, seconds: Optional[float] = None) -> bytes:
     """A log with hints of a log that is right."""
-    return _run("annotate", [source, out, log], seconds, backend).wanted(0).files["HINTED"]
+    return _run("annotate", [source, out, log], seconds).wanted(0).files["HINTED"]
 
 
-def validate(source: bytes, cert: Circuits, *, budget: Optional[int] = None, seconds: Optional[float] = None,
-             backend: Optional[str] = None) -> Union[bool, None, List[int]]:
+def validate(source: bytes, cert: Circuits, *, budget: Optional[int] = None, seconds: Optional[float] = None) -> Union[bool, None, List[int]]:
     """True where the circuits are Skolem functions of the formula; a list of literals, values of the universals that make a clause false,
     where they are not; None where the budget was too small."""
-    answer = _run("validate", [source, _circuits(cert)], seconds, backend, budget=budget).wanted(0, 9, 12)
+    answer = _run("validate", [source, _circuits(cert)], seconds, budget=budget).wanted(0, 9, 12)
     if answer.status == 9:
         return [int(word) for word in answer.line.split()[1:] if word != "0"]
     return True if answer.status == 0 else None
 
 
-def solve(clauses: Union[Clauses, bytes], prefix: Prefix = (), *, budget: Optional[int] = None, seconds: Optional[float] = None,
-          backend: Optional[str] = None) -> Tuple[Optional[bool], Optional[Certificate]]:
+def solve(clauses: Union[Clauses, bytes], prefix: Prefix = (), *, budget: Optional[int] = None, seconds: Optional[float] = None) -> Tuple[Optional[bool], Optional[Certificate]]:
     """The truth value of a small formula, and Skolem functions where it is true; None where the budget was too small."""
-    answer = _run("solve", [_source(clauses, prefix)], seconds, backend, budget=budget).wanted(10, 12, 20)
+    answer = _run("solve", [_source(clauses, prefix)], seconds, budget=budget).wanted(10, 12, 20)
     if answer.status == 10:
         return True, Certificate(answer.files["CERT"])
     return (False, None) if answer.status == 20 else (None, None)

@@ -3,8 +3,8 @@ use Rattle.std.proofs.Common.{◌≡◌, ℕ, List, subst}
 use Rattle.q_io.specs.Files.{Disk}
 use Rattle.q_io.specs.Memory.{SteadyText}
 use Rattle.q_command.specs.declared.status.Status.{Status}
-use Rattle.q_lib.specs.Calls.{Ran, RanOver, HoldsJust}
+use Rattle.q_lib.specs.Calls.{Ran, RanOver}
 
-pub over : (words asked : List (List ℕ)) (files : List (List ℕ × List ℕ)) (before : Disk) (given : Status) (after : Disk) (line : SteadyText) → words ≡ asked → HoldsJust files before → Ran words before given after line → RanOver asked files given after line
-over words asked files before given after line e h r =
+pub over : (words asked : List (List ℕ)) (Given : Disk → Type 0) (before : Disk) (given : Status) (after : Disk) (line : SteadyText) → words ≡ asked → Given before → Ran words before given after line → RanOver asked Given given after line
+over words asked Given before given after line e h r =
     record { before = before; holds = h; ran = subst (λ (ws : List (List ℕ)). Ran ws before given after line) e r }

@@ -1,2 +1,1 @@
-mod FilesHeld
 mod CommandFiles

@@ -1,11 +1,115 @@
-//! Each command over files in memory.
-ghost use Rattle.std.specs.Prelude.{◌∷◌, [], codes, IfOk};
-ghost use Rattle.q_lib.specs.Calls.{RanOver, option, option_words, over_three};
+//! One command over files in memory.
+ghost use Rattle.std.specs.Prelude.{◌≡◌, ◌++◌, ◌∷◌, [], map, string_bytes, codes, IfOk, OnOk};
+ghost use Rattle.q_lib.specs.Calls.{Ran, RanOver, HoldsFour, HoldsOne, HoldsThree, over_three};
 
-use crate::job::{Job, Left};
-use crate::options::Options;
+use q_app::{Status, bounds_of, run};
+use q_io::{SteadyFiles, SteadySink};
 use q_logic::NoMemory;
+use q_sched::{FewestFirst, Guide, ShortestFirst};
+use q_touched::{Impatient, Quiet, Touched};
 use std::alloc::Global;
+
+// What a command left: its status, the files and its line.
+#[derive(Drop)]
+pub(crate) struct Left {
+    pub status: Status,
+    pub files: SteadyFiles,
+    pub line: SteadySink,
+}
+
+fn push_word(words: &mut Vec<String>, alloc: Global, word: &str) -> Result<(), NoMemory>
+    ensures { OnOk result (map (λ w. string_bytes w) words.new.items ≡ map (λ w.
+        string_bytes w) words.old.items ++ word.now ∷ []) }
+{
+    words.push(String::from_str(alloc, word)?)?;
+    Ok(())
+}
+
+// The words of a command over IN, OUT and LOG.
+fn words_of(alloc: Global, verb: &str) -> Result<Vec<String>, NoMemory>
+    ensures { IfOk result (λ words.
+        map (λ w. string_bytes w) words.items ≡ over_three verb.now []) }
+{
+    let mut words = Vec::new(alloc);
+    push_word(&mut words, alloc, verb)?;
+    push_word(&mut words, alloc, "IN")?;
+    push_word(&mut words, alloc, "OUT")?;
+    push_word(&mut words, alloc, "LOG")?;
+    Ok(words)
+}
+
+// Files of which three hold these bytes.
+fn three_files(
+    alloc: Global,
+    input: &[u8],
+    output: &[u8],
+    log: &[u8],
+) -> Result<SteadyFiles, NoMemory>
+    ensures { IfOk result (λ disk. HoldsThree disk input.now output.now log.now) }
+{
+    let mut files = SteadyFiles::new(alloc);
+    files.put_file("IN", input)?;
+    files.put_file("OUT", output)?;
+    files.put_file("LOG", log)?;
+    Ok(files)
+}
+
+// A file of these bytes.
+fn one_file(alloc: Global, input: &[u8]) -> Result<SteadyFiles, NoMemory>
+    ensures { IfOk result (λ disk. HoldsOne input.now disk) }
+{
+    let mut files = SteadyFiles::new(alloc);
+    files.put_file("IN", input)?;
+    Ok(files)
+}
+
+// The files of `rebuild`.
+fn four_files(
+    alloc: Global,
+    input: &[u8],
+    output: &[u8],
+    log: &[u8],
+    skolem: &[u8],
+) -> Result<SteadyFiles, NoMemory>
+    ensures { IfOk result (λ disk. HoldsFour disk input.now output.now log.now skolem.now) }
+{
+    let mut files = three_files(alloc, input, output, log)?;
+    files.put_file("SKOLEM", skolem)?;
+    Ok(files)
+}
+
+// The words of `rebuild`.
+fn rebuild_words(alloc: Global) -> Result<Vec<String>, NoMemory>
+    ensures { IfOk result (λ words. map (λ w. string_bytes w) words.items
+        ≡ over_three (codes "rebuild") (codes "SKOLEM" ∷ codes "CERT" ∷ [])) }
+{
+    let mut words = words_of(alloc, "rebuild")?;
+    push_word(&mut words, alloc, "SKOLEM")?;
+    push_word(&mut words, alloc, "CERT")?;
+    Ok(words)
+}
+
+// Runs it. The guides are those of the program.
+fn command(alloc: Global, words: &[String], files: SteadyFiles) -> Result<Left, NoMemory>
+    ensures { IfOk result (λ left.
+        Ran (map (λ w. string_bytes w) words.now) files left.status left.files left.line) }
+{
+    let mut files = files;
+    let mut line = SteadySink::new(alloc);
+    let touched = Touched::new(alloc, bounds_of(words), Quiet);
+    let mut guides: Vec<Box<dyn Guide>> = Vec::new(alloc);
+    guides.push(Box::new(alloc, touched)?)?;
+    let fewest = Impatient::new(FewestFirst::new());
+    guides.push(Box::new(alloc, fewest)?)?;
+    let shortest = Impatient::new(ShortestFirst::new());
+    guides.push(Box::new(alloc, shortest)?)?;
+    let status = run(alloc, words, &mut files, &mut line, guides);
+    Ok(Left {
+        status,
+        files,
+        line,
+    })
+}
 
 pub(crate) fn check(
     alloc: Global,
@@ -14,26 +118,20 @@ pub(crate) fn check(
     log: &[u8],
 ) -> Result<Left, NoMemory>
     ensures { IfOk result (λ left. RanOver (over_three (codes "check") [])
-        ((codes "LOG", log.now) ∷ (codes "OUT", output.now) ∷ (codes "IN", input.now) ∷ [])
-        left.status left.files left.line) }
+        (λ disk. HoldsThree disk input.now output.now log.now) left.status left.files left.line) }
 {
-    let mut job = Job::new(alloc, "check")?;
-    job.file("IN", input)?;
-    job.file("OUT", output)?;
-    job.file("LOG", log)?;
-    job.run()
+    let files = three_files(alloc, input, output, log)?;
+    let words = words_of(alloc, "check")?;
+    command(alloc, &words, files)
 }
 
 pub(crate) fn simplify(alloc: Global, input: &[u8]) -> Result<Left, NoMemory>
     ensures { IfOk result (λ left. RanOver (over_three (codes "simplify") [])
-        ((codes "IN", input.now) ∷ [])
-        left.status left.files left.line) }
+        (λ disk. HoldsOne input.now disk) left.status left.files left.line) }
 {
-    let mut job = Job::new(alloc, "simplify")?;
-    job.file("IN", input)?;
-    job.word("OUT")?;
-    job.word("LOG")?;
-    job.run()
+    let files = one_file(alloc, input)?;
+    let words = words_of(alloc, "simplify")?;
+    command(alloc, &words, files)
 }
 
 pub(crate) fn rebuild(
@@ -43,115 +141,11 @@ pub(crate) fn rebuild(
     log: &[u8],
     skolem: &[u8],
 ) -> Result<Left, NoMemory>
-    ensures { IfOk result (λ left. RanOver (over_three (codes "rebuild") (codes "SKOLEM" ∷ codes "CERT" ∷ []))
-        ((codes "SKOLEM", skolem.now) ∷ (codes "LOG", log.now) ∷ (codes "OUT", output.now) ∷ (codes "IN", input.now) ∷ [])
-        left.status left.files left.line) }
+    ensures { IfOk result (λ left.
+        RanOver (over_three (codes "rebuild") (codes "SKOLEM" ∷ codes "CERT" ∷ [])) (λ disk.
+        HoldsFour disk input.now output.now log.now skolem.now) left.status left.files left.line) }
 {
-    let mut job = Job::new(alloc, "rebuild")?;
-    job.file("IN", input)?;
-    job.file("OUT", output)?;
-    job.file("LOG", log)?;
-    job.file("SKOLEM", skolem)?;
-    job.word("CERT")?;
-    job.run()
-}
-
-pub(crate) fn refute(
-    alloc: Global,
-    input: &[u8],
-    output: &[u8],
-    log: &[u8],
-    herbrand: &[u8],
-) -> Result<Left, NoMemory>
-    ensures { IfOk result (λ left. RanOver (over_three (codes "refute") (codes "HERBRAND" ∷ codes "CERT" ∷ []))
-        ((codes "HERBRAND", herbrand.now) ∷ (codes "LOG", log.now) ∷ (codes "OUT", output.now) ∷ (codes "IN", input.now) ∷ [])
-        left.status left.files left.line) }
-{
-    let mut job = Job::new(alloc, "refute")?;
-    job.file("IN", input)?;
-    job.file("OUT", output)?;
-    job.file("LOG", log)?;
-    job.file("HERBRAND", herbrand)?;
-    job.word("CERT")?;
-    job.run()
-}
-
-pub(crate) fn annotate(
-    alloc: Global,
-    input: &[u8],
-    output: &[u8],
-    log: &[u8],
-) -> Result<Left, NoMemory>
-    ensures { IfOk result (λ left. RanOver (over_three (codes "annotate") (codes "HINTED" ∷ []))
-        ((codes "LOG", log.now) ∷ (codes "OUT", output.now) ∷ (codes "IN", input.now) ∷ [])
-        left.status left.files left.line) }
-{
-    let mut job = Job::new(alloc, "annotate")?;
-    job.file("IN", input)?;
-    job.file("OUT", output)?;
-    job.file("LOG", log)?;
-    job.word("HINTED")?;
-    job.run()
-}
-
-pub(crate) fn simplify_with(
-    alloc: Global,
-    options: &Options,
-    input: &[u8],
-) -> Result<Left, NoMemory>
-    ensures { IfOk result (λ left. RanOver (over_three (codes "simplify") (option_words options.now))
-        ((codes "IN", input.now) ∷ [])
-        left.status left.files left.line) }
-{
-    let mut job = Job::new(alloc, "simplify")?;
-    job.file("IN", input)?;
-    job.word("OUT")?;
-    job.word("LOG")?;
-    job.number("--grow=", u64::from(options.grow))?;
-    job.number("--expand=", u64::from(options.expand))?;
-    job.number("--budget=", options.budget)?;
-    job.run()
-}
-
-pub(crate) fn validate(
-    alloc: Global,
-    budget: u64,
-    input: &[u8],
-    cert: &[u8],
-) -> Result<Left, NoMemory>
-    ensures { IfOk result (λ left. RanOver (codes "validate" ∷ codes "IN" ∷ codes "CERT" ∷ option (codes "--budget=") budget ∷ [])
-        ((codes "CERT", cert.now) ∷ (codes "IN", input.now) ∷ [])
-        left.status left.files left.line) }
-{
-    let mut job = Job::new(alloc, "validate")?;
-    job.file("IN", input)?;
-    job.file("CERT", cert)?;
-    job.number("--budget=", budget)?;
-    job.run()
-}
-
-pub(crate) fn solve(alloc: Global, budget: u64, input: &[u8]) -> Result<Left, NoMemory>
-    ensures { IfOk result (λ left. RanOver (over_three (codes "solve") (codes "CERT" ∷ option (codes "--budget=") budget ∷ []))
-        ((codes "IN", input.now) ∷ [])
-        left.status left.files left.line) }
-{
-    let mut job = Job::new(alloc, "solve")?;
-    job.file("IN", input)?;
-    job.word("OUT")?;
-    job.word("LOG")?;
-    job.word("CERT")?;
-    job.number("--budget=", budget)?;
-    job.run()
-}
-
-pub(crate) fn generate(alloc: Global, seed: u64, size: u32) -> Result<Left, NoMemory>
-    ensures { IfOk result (λ left. RanOver (codes "gen" ∷ option [] seed ∷ option [] size ∷ codes "OUT" ∷ [])
-        ([])
-        left.status left.files left.line) }
-{
-    let mut job = Job::new(alloc, "gen")?;
-    job.number("", seed)?;
-    job.number("", u64::from(size))?;
-    job.word("OUT")?;
-    job.run()
+    let files = four_files(alloc, input, output, log, skolem)?;
+    let words = rebuild_words(alloc)?;
+    command(alloc, &words, files)
 }

@@ -1,10 +1,8 @@
-"""Plays the module for Python: the library beside the program, and both beside brute force. One line a row: `ok NAME` or `wrong NAME`.
-Usage: CELDRINN=.. CELDRINN_LIBRARY=.. PYTHONPATH=.. python3 test.py [COUNT]"""
+"""Plays the module for Python beside brute force. One line a row: `ok NAME` or `wrong NAME`; status 1 where one is wrong.
+Usage: CELDRINN=.. PYTHONPATH=.. python3 test.py [COUNT]"""
 import itertools
 import random
 import sys
-import threading
-import time
 
 import celdrinn
 
@@ -60,31 +58,28 @@ def are_skolem(clauses, blocks, cert):
 
 
 def play_formula(r, k):
-    """One random formula, by the library and by the program."""
+    """One random formula, simplified, checked, and where it is small decided, with circuits that are carried back."""
     is_large = k % 3 == 2
     clauses, blocks, top = formula(r, is_large)
     options = {}
     if k % 2 == 0:
         options = {name: r.randint(0, most) for name, most in (("grow", 40), ("expand", 40), ("budget", 60)) if r.random() < 0.7}
-    a = celdrinn.simplify(clauses, blocks, backend="library", **options)
-    b = celdrinn.simplify(clauses, blocks, backend="program", **options)
-    assert (a.status, a.line, a.out, a.log) == (b.status, b.line, b.out, b.log), "library and program differ"
-    assert a.check() == b.check() == a.log.count(b"\n"), "the number of steps"
-    assert a.annotate() == b.annotate(), "hints differ"
+    a = celdrinn.simplify(clauses, blocks, **options)
+    assert a.check() == a.log.count(b"\n"), "the number of steps"
+    assert celdrinn.check(a.source, a.out, a.annotate()) == a.check(), "hints"
     if is_large:
         return
     is_true = truth(clauses, blocks, top)
     assert a.truth in (None, is_true), "truth"
-    answer, skolem = celdrinn.solve(a.out, backend="library")
+    answer, skolem = celdrinn.solve(a.out)
     assert answer is is_true, "solve"
     if is_true:
         cert = a.rebuild(skolem)
-        assert cert.text == b.rebuild(skolem).text, "circuits differ"
         assert are_skolem(clauses, blocks, cert), "circuits are wrong"
-        assert celdrinn.validate(a.source, cert, backend="library") is True, "validate"
+        assert celdrinn.validate(a.source, cert) is True, "validate"
     elif a.status == "false":
         try:
-            assert a.refute().text == b.refute().text, "Herbrand circuits differ"
+            a.refute()
         except celdrinn.LogError as error:
             assert error.status == 8, "refute"
 
@@ -121,31 +116,28 @@ def play_texts():
 
 
 def play_limits():
-    """A limit of time, and two threads."""
     r = random.Random(9)
-    big = celdrinn.write([[r.choice((1, -1)) * x for x in r.sample(range(1, 10000), 3)] for _ in range(30000)])
-    answers = []
-    threads = [threading.Thread(target=lambda: answers.append(celdrinn.simplify(big, backend="library"))) for _ in range(2)]
-    start = time.perf_counter()
-    for thread in threads:
-        thread.start()
-    for thread in threads:
-        thread.join()
-    whole = time.perf_counter() - start
-    assert answers[0].out == answers[1].out and answers[0].log == answers[1].log, "threads differ"
-    part = celdrinn.simplify(big, seconds=whole / 8, backend="library")
-    assert part.status in ("stopped", "settled") and part.check() == part.log.count(b"\n"), part
+    big = celdrinn.write([[r.choice((1, -1)) * x for x in r.sample(range(1, 100000), 3)] for _ in range(300000)])
+    try:
+        celdrinn.simplify(big, seconds=0.2)
+    except celdrinn.Stopped as error:
+        assert error.text == "stopped: time is over", error
+    else:
+        raise AssertionError("a limit of 0.2 seconds")
 
 
 def main():
     count = int(sys.argv[1]) if len(sys.argv) > 1 else 150
+    is_right = True
     for name, play in ((f"{count} formulas in Python", lambda: play_formulas(count)), ("errors in Python", play_errors),
-                       ("texts in Python", play_texts), ("limits and threads in Python", play_limits)):
+                       ("texts in Python", play_texts), ("a limit in Python", play_limits)):
         try:
             play()
             print("ok", name)
         except Exception as error:  # a row that is wrong says why
             print(f"wrong {name}: {type(error).__name__} {error}")
+            is_right = False
+    return 0 if is_right else 1
 
 
-main()
+sys.exit(main())
