@@ -16,7 +16,7 @@ finish() {
 }
 
 # A signal ends the program, and then the launcher as if it had none of this.
-child='' beside=''
+child='' beside='' within='' words=''
 stop() {
     trap - EXIT
     [ -z "$child" ] || kill -TERM "$child" 2>/dev/null
@@ -53,7 +53,7 @@ run() {
     (
         eval "exec <&$number" && close_ours
         [ -z "$words" ] || exec 2>"$words"
-        exec $tied "$program" "$@" >"$work/line"
+        exec $tied $within "$program" "$@" >"$work/line"
     ) &
     child=$!
     wait "$child"
@@ -61,6 +61,7 @@ run() {
     child=
     line=$(cat "$work/line")
     [ -z "$line" ] || return 0
+    case $status$within in 124?*) line=unknown status=12 && return ;; esac
     [ "$status" -gt 128 ] || starts "$program" || { say "$why_not" && finish 70; }
     say "the program ended with $status and no answer"
     finish "$status"
@@ -147,7 +148,8 @@ explain() {
         unknown)
             case $command in
                 extract) tell "$(named TRACE)" "the solver did not know: the trace ends in 'r UNKNOWN'" ;;
-                *) say "the budget was spent before there was an answer; a larger --budget may give one, and without it there is no bound" ;;
+                *) if [ -n "$seconds" ] && [ -z "$(cat "$work/line")" ]; then say "no answer within $seconds seconds" && return; fi
+                    say "the budget was spent before there was an answer; a larger --budget may give one, and without it there is no bound" ;;
             esac
             ;;
         'circuits too large') say "what would be written is larger than is read" ;;
@@ -187,9 +189,9 @@ start() {
     trap 'stop HUP' HUP
     trap 'stop QUIT' QUIT
     trap 'rm -rf "$work"' EXIT
-    case $quiet$verbose in
-        yes*) CELDRINN_PROGRESS=0 && export CELDRINN_PROGRESS ;;
-        *yes) CELDRINN_PROGRESS=1 && export CELDRINN_PROGRESS ;;
+    case $quiet:$verbose in
+        yes:*) CELDRINN_PROGRESS=0 && export CELDRINN_PROGRESS ;;
+        :yes) CELDRINN_PROGRESS=1 && export CELDRINN_PROGRESS ;;
     esac
     for name; do
         case $name in /dev/fd/[3-9] | /proc/self/fd/[3-9]) given_numbers=$given_numbers${name##*/} ;; esac
@@ -207,11 +209,14 @@ start() {
         count=$((count - 2))
         set -- "$@" "$way"
     done
+    [ -z "$seconds" ] || { set_deadline "$seconds" && allow; }
     # shellcheck disable=SC2086
     case $command in
         mend) run_mended "$@" ;;
+        certify) run_certify "$@" ;;
         simplify) if [ -n "$best" ]; then run_best "$@"; else run "$command" "$@" $passed; fi ;;
-        *) run "$command" "$@" $passed ;;
+        validate) if [ -n "$solver" ]; then run_decided "$@"; else run "$command" "$@" $passed; fi ;;
+        *) run "$command" "$@" $passed $herbrand ;;
     esac
     end_streams
     case $status in 0 | 2 | 10 | 20) pack_empty || write_failed=yes ;; esac
