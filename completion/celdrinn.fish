@@ -84,6 +84,7 @@ complete -c celdrinn -n '__celdrinn_wants_option simplify' -a --best -d 'tries l
 complete -c celdrinn -n '__celdrinn_wants_option validate' -a --with= -d 'asks a SAT solver, as cadical'
 complete -c celdrinn -n '__celdrinn_wants_option validate certify solve' -a --seconds= -d 'stops after so many seconds'
 complete -c celdrinn -n '__celdrinn_wants_option certify' -a --check -d 'tests the circuits once more'
+complete -c celdrinn -n '__celdrinn_wants_option simplify check rebuild annotate refute extract miter validate solve' -a --stats -d 'says at the end what was done, and what it took'
 complete -c celdrinn -n '__celdrinn_wants_option simplify rebuild annotate refute extract miter certify solve mend' -a --force -d 'writes over a formula that is there'
 complete -c celdrinn -n '__celdrinn_wants_option simplify check rebuild annotate refute extract miter validate certify solve gen demo mend' -a --quiet -d 'says nothing that is no answer'
 complete -c celdrinn -n '__celdrinn_wants_option simplify check rebuild annotate refute extract miter validate certify solve gen demo mend' -a --verbose -d 'says what it does, wherever standard error leads'

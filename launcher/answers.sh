@@ -43,6 +43,7 @@ run() {
         1) ;;
         *) [ -t 2 ] || words=$work/words ;;
     esac
+    [ -z "$stats" ] || words=$work/words
     # A limit on the size of files makes a write fail, and doesn't kill the program.
     trap '' XFSZ 2>/dev/null
     # Large pages, where the system has them: look-ups all over a large formula wait less for memory.
@@ -56,9 +57,11 @@ run() {
         exec $tied $within "$program" "$@" >"$work/line"
     ) &
     child=$!
+    [ -z "$stats" ] || begin_stats
     wait "$child"
     status=$?
     child=
+    [ -z "$stats" ] || end_stats
     line=$(cat "$work/line")
     [ -z "$line" ] || return 0
     case $status$within in 124?*) line=unknown status=12 && return ;; esac
@@ -193,6 +196,7 @@ start() {
         yes:*) CELDRINN_PROGRESS=0 && export CELDRINN_PROGRESS ;;
         :yes) CELDRINN_PROGRESS=1 && export CELDRINN_PROGRESS ;;
     esac
+    [ -z "$stats" ] || { CELDRINN_PROGRESS=1 && export CELDRINN_PROGRESS; }
     for name; do
         case $name in /dev/fd/[3-9] | /proc/self/fd/[3-9]) given_numbers=$given_numbers${name##*/} ;; esac
     done
@@ -227,6 +231,8 @@ start() {
         say "a file could not be packed to its end"
         answer 'write fault' 5
     fi
+    if [ -n "$stats" ]; then show_stats; fi
+    case $stats:$status in yes:0 | yes:2 | yes:10 | yes:20) is_told=yes ;; esac
     [ -n "$is_told" ] || explain
     # a line that stands beside a formula on standard error is of no use to who wants none
     if [ -n "$is_moved" ] && [ -n "$quiet" ]; then finish "$status"; fi
