@@ -13,7 +13,7 @@ _celdrinn() {
             return
             ;;
         simplify) kinds=fff options="--budget= --grow= --expand= --best --force --quiet --verbose" ;;
-        check) kinds=fff options="--quiet --verbose" ;;
+        check) kinds=fff options="--part= --quiet --verbose" ;;
         rebuild) kinds=fffff options="--force --quiet --verbose" ;;
         annotate) kinds=ffff options="--force --quiet --verbose" ;;
         refute) kinds=fffff options="--force --quiet --verbose" ;;
