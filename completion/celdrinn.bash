@@ -13,7 +13,7 @@ _celdrinn() {
             return
             ;;
         simplify) kinds=fff options="--budget= --grow= --expand= --best --stats --force --quiet --verbose" ;;
-        check) kinds=fff options="--stats --quiet --verbose" ;;
+        check) kinds=fff options="--part= --stats --quiet --verbose" ;;
         rebuild) kinds=fffff options="--stats --force --quiet --verbose" ;;
         annotate) kinds=ffff options="--stats --force --quiet --verbose" ;;
         refute) kinds=fffff options="--stats --force --quiet --verbose" ;;

@@ -79,6 +79,7 @@ complete -c celdrinn -n __celdrinn_is_first -l version -d 'prints the version an
 complete -c celdrinn -n '__celdrinn_wants_option simplify validate solve' -a --budget= -d 'stops after so much'
 complete -c celdrinn -n '__celdrinn_wants_option simplify' -a --grow= -d 'by how much an elimination may let the formula grow'
 complete -c celdrinn -n '__celdrinn_wants_option simplify' -a --expand= -d 'by how much an expansion may let the formula grow'
+complete -c celdrinn -n '__celdrinn_wants_option check' -a --part= -d 'judges every Nth block of 1,000 steps, and makes the others'
 complete -c celdrinn -n '__celdrinn_wants_option miter validate' -a --herbrand -d 'takes circuits of the universals'
 complete -c celdrinn -n '__celdrinn_wants_option simplify' -a --best -d 'tries large expansions beside it, for so many seconds, and keeps the better end'
 complete -c celdrinn -n '__celdrinn_wants_option validate' -a --with= -d 'asks a SAT solver, as cadical'

@@ -48,8 +48,8 @@ look_at_number() {
 # Looks at a share I/N.
 look_at_share() {
     case $2 in
-        */*/* | *[!0-9/]* | /* | */ | *[!/]0*/*) complain "$1 is a share as in $1=1/4, and '$2' is none" ;;
-        */*) if is_above "${2%/*}" "${2#*/}" || [ "${2%/*}" = 0 ]; then complain "$1: the parts are 1 to ${2#*/}"; fi ;;
+        */*/* | *[!0-9/]* | /* | */ | */0*) complain "$1 is a share as in $1=1/4, and '$2' is none" ;;
+        */*) if case ${2%/*} in *[!0]*) is_above "${2%/*}" "${2#*/}" ;; esac; then complain "$1: the parts are 1 to ${2#*/}"; fi ;;
         *) complain "$1 is a share as in $1=1/4, and '$2' is none" ;;
     esac
 }

@@ -1,5 +1,6 @@
 -- What is shown of each command, and that its answer comes where no fault does.
 use Rattle.q_command.proofs.CheckLaws as check
+use Rattle.q_command.proofs.PartStatus as part
 use Rattle.q_command.proofs.ToldLaws as law
 use Rattle.q_command.proofs.ToldLaws.{ToldLaws}
 use Rattle.q_run_solve.proofs.SolveStatus as solve
@@ -10,13 +11,14 @@ use Rattle.q_run_extract.proofs.ExtractStatus as extract
 use Rattle.q_run_miter.proofs.MiterStatus as miter
 use Rattle.q_app.specs.Completeness.{EachCompletes}
 use Rattle.q_app.specs.Told.{told}
-use Rattle.q_app.specs.Words.{Command, checking, simplifying, rebuilding, generating, solving, annotating, refuting, validating, mitering, extracting}
+use Rattle.q_app.specs.Words.{Command, checking, sharing, simplifying, rebuilding, generating, solving, annotating, refuting, validating, mitering, extracting}
 use Rattle.q_app.proofs.GenStatus as generate
 use Rattle.q_app.proofs.RebuildStatus as rebuild
 use Rattle.q_app.proofs.SimplifyStatus as simplify
 
 pub laws : (c : Command) → ToldLaws (told c)
 laws (checking n) = check.laws n
+laws (sharing n p) = part.laws n p
 laws (simplifying n o) = simplify.laws n o
 laws (rebuilding n) = rebuild.laws n
 laws (generating k name) = generate.laws k name

@@ -5,6 +5,7 @@ use Rattle.q_logic.specs.declared.rule_bounds.Bounds.{Bounds}
 use Rattle.q_text.specs.Words.{digits}
 use Rattle.q_simplify.specs.declared.options.Options.{Options}
 use Rattle.q_command.specs.Names.{ThreeNames}
+use Rattle.q_command.specs.declared.part.Part.{Part}
 use Rattle.q_app.specs.Operands.{flag_in, just_three, three_names}
 use Rattle.q_app.specs.Rebuilds.{FiveNames}
 use Rattle.q_run_validate.specs.Validates.{ValidateFiles}
@@ -23,6 +24,7 @@ use Rattle.q_app.specs.declared.settings.Settings.{Settings}
 -- one thing to be done, with the names of the files
 pub data Command : Type 0 where
   checking : ThreeNames → Command
+  sharing : ThreeNames → Part → Command
   simplifying : ThreeNames → Options → Command
   rebuilding : FiveNames → Command
   generating : Scale → List ℕ → Command
@@ -109,11 +111,6 @@ only_budget (Some s) = if is_some s.grow || is_some s.expand then None else Some
 -- the budget that words set, which set nothing else
 abbrev pub budget_in : List (List ℕ) → Option (Option ℕ)
 budget_in words = only_budget (with_words (Some nothing_set) words)
-
--- `check IN OUT LOG`
-abbrev pub check_of : Option ThreeNames → Request
-check_of None = None
-check_of (Some n) = alone (checking n)
 
 -- `simplify IN OUT LOG` with options
 abbrev pub with_settings : ThreeNames → Option Settings → Request

@@ -8,7 +8,7 @@ ghost use Rattle.q_app.specs.Operands.{Differ, texts};
 ghost use Rattle.q_app.specs.Promises.{AnswerComes, DemoPasses, SimplifyEnds};
 ghost use Rattle.q_app.specs.Says.{Does, InTurn};
 ghost use Rattle.q_app.specs.Told.{told};
-ghost use Rattle.q_app.specs.Words.{checking, demo, generating, rebuilding, simplifying};
+ghost use Rattle.q_app.specs.Words.{checking, sharing, demo, generating, rebuilding, simplifying};
 
 use crate::gen_file::generate_file;
 use crate::rebuild::rebuild_files;
@@ -16,7 +16,7 @@ use crate::rebuild_words::RebuildNames;
 use crate::settings::Settings;
 use crate::simplify::simplify_file;
 use crate::words::{Command, Scale, parse};
-use q_command::{Names, Status, check, put};
+use q_command::{Names, Part, Status, check, check_part, put};
 use q_gen::generated_is_read;
 use q_io::{Files, Sink};
 use q_log::texts_are_read;
@@ -54,6 +54,20 @@ fn run_check<F: Files, S: Sink>(alloc: Global, files: &mut F, out: &mut S, names
         (devices F.Files S.Sink files.old out.old) (devices F.Files S.Sink files.new out.new) }
 {
     check(alloc, files, names).say(out)
+}
+
+fn run_share<F: Files, S: Sink>(
+    alloc: Global,
+    files: &mut F,
+    out: &mut S,
+    names: Names,
+    part: Part,
+) -> Status
+    ensures { Runs (told (sharing (three_of names.entry) part))
+        (devices F.Files S.Sink files.old out.old) result
+        (devices F.Files S.Sink files.new out.new) }
+{
+    check_part(alloc, files, names, part).say(out)
 }
 
 fn run_simplify<F: Files, S: Sink>(
@@ -145,6 +159,7 @@ fn run_command<F: Files, S: Sink>(
 {
     match command {
         Command::Check { names } => run_check(alloc, files, out, names),
+        Command::Share { names, part } => run_share(alloc, files, out, names, part),
         Command::Simplify { names, options } => {
             let asked = Simplification { names, options };
             run_simplify(alloc, files, out, asked, guides)

@@ -2,7 +2,7 @@ use Rattle.std.proofs.Common.{◌+◌, ◌-◌, ◌≡◌, List, ℕ, IfSome}
 use Rattle.q_io.specs.Files.{OnlyReads, bytes_at}
 use Rattle.q_command.specs.Audits.{IsOpen, Advances}
 use Rattle.q_command.proofs.AuditSteps.{HasReached}
-use Rattle.q_command.proofs.checking.check_log.Given as goal
+use Rattle.q_command.proofs.checking.check_part_of_log.Given as goal
 
 abbrev pub invariant-loop-audit : goal.invariant-loop-audit
 invariant-loop-audit g l =
