@@ -11,7 +11,8 @@ use Rattle.q_run_refute.specs.Refutes as refute
 use Rattle.q_run_validate.specs.Validates as validate
 use Rattle.q_run_extract.specs.Extracts as extract
 use Rattle.q_run_miter.specs.Mitering as miter
-use Rattle.q_app.specs.Words.{Command, checking, sharing, simplifying, rebuilding, generating, solving, annotating, refuting, validating, mitering, extracting}
+use Rattle.q_app.specs.Words.{Command, checking, sharing, simplifying, rebuilding, generating, solving, annotating, refuting, validating, mitering, extracting, disproving}
+use Rattle.q_run_disprove.specs.Disproofs as disprove
 
 abbrev pub told : Command → Told
 told (checking n) = check.told n
@@ -25,3 +26,4 @@ told (refuting n) = refute.told n
 told (validating n b) = validate.told n b
 told (mitering n s) = miter.told n s
 told (extracting n) = extract.told n
+told (disproving n b) = disprove.told n b

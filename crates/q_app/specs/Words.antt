@@ -16,6 +16,7 @@ use Rattle.q_encode.specs.declared.side.Side.{Side}
 use Rattle.q_encode.specs.declared.side.Side.TheVariants as side
 use Rattle.q_run_miter.specs.Mitering.{MiterFiles}
 use Rattle.q_run_extract.specs.Extracts.{ExtractFiles}
+use Rattle.q_run_disprove.specs.Disproofs.{DisproveFiles}
 use Rattle.q_app.specs.declared.words.Scale.{Scale}
 use Rattle.q_app.specs.declared.settings.Setting.{Setting}
 use Rattle.q_app.specs.declared.settings.Setting.TheVariants as setting
@@ -34,6 +35,7 @@ pub data Command : Type 0 where
   validating : ValidateFiles → Option ℕ → Command
   mitering : MiterFiles → Side → Command
   extracting : ExtractFiles → Command
+  disproving : DisproveFiles → Bool → Command
 
 -- what the words ask for: commands that are done one after the other; none where they are not understood
 abbrev pub Request : Type 0
@@ -208,3 +210,12 @@ abbrev pub miter_of : Option (ThreeNames × List (List ℕ)) → Request
 miter_of None = None
 miter_of (Some (n, words)) =
     miter_with (record { input = n.input; cert = n.output; output = n.log }) (flag_in (codes "--herbrand") words)
+
+-- `disprove IN PROOF`, where `--binary` may follow
+abbrev pub disprove_with : DisproveFiles → Option Bool → Request
+disprove_with n None = None
+disprove_with n (Some b) = alone (disproving n b)
+
+abbrev pub disprove_of : Option (List ℕ × List ℕ × List (List ℕ)) → Request
+disprove_of None = None
+disprove_of (Some (i, p, words)) = disprove_with (record { input = i; proof = p }) (flag_in (codes "--binary") words)

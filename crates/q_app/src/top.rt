@@ -21,6 +21,7 @@ use q_gen::generated_is_read;
 use q_io::{Files, Sink};
 use q_log::texts_are_read;
 use q_run_annotate::run as run_annotate;
+use q_run_disprove::run as run_disprove;
 use q_run_extract::run as run_extract;
 use q_run_miter::run as run_miter;
 use q_run_refute::run as run_refute;
@@ -172,6 +173,7 @@ fn run_command<F: Files, S: Sink>(
         Command::Solve { names, budget } => { run_solve(alloc, files, out, names, budget, guides) }
         Command::Extract { names } => run_extract(alloc, files, out, names),
         Command::Miter { names, side } => run_miter(alloc, files, out, names, side),
+        Command::Disprove { names, binary } => run_disprove(alloc, files, out, names, binary),
         Command::Demo { scale, names } => {
             run_demo(alloc, files, out, Demonstration { scale, names }, guides)
         }
