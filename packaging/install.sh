@@ -65,10 +65,12 @@ fi
 mkdir -p "$root/bin" && ln -sf ../lib/celdrinn/celdrinn "$root/bin/celdrinn" || exit 1
 put 644 "$doc" README.md CHANGELOG.md LICENSE CITATION.cff
 put 644 "$doc/docs" docs/*.md
-for file in examples/*; do
+for file in examples/* examples/*/*; do
+    [ -f "$file" ] || continue
     mode=644
     [ ! -x "$file" ] || mode=755
-    put $mode "$doc/examples" "$file"
+    folder=${file%/*}
+    put $mode "$doc/$folder" "$file"
 done
 put_as 644 docs/celdrinn.1 "$page"
 put_as 644 completion/celdrinn.bash "$bash_completion"

@@ -1,3 +1,5 @@
+// Files of the real disk and standard output, as the traits of this crate have them. No contract can say what a disk holds: these
+// adapters tell no content, and what they do is shown by tests.
 ghost use Rattle.std.specs.Prelude.{◌≡◌, ◌≤◌, List, ℕ, None, IfOk, length};
 ghost use Rattle.q_logic.specs.Prelude.{Rose};
 
