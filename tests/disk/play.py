@@ -155,11 +155,13 @@ class Pipes:
             self.folder.write(name, held)
 
 
-def is_wanted(wanted, status, line):
-    """Whether a status and a line are those of a row."""
+def is_wanted(wanted, moved, status, line):
+    """Whether a status and a line are those of a row; behind other moves the numbers of a line may be others."""
     first, _, rest = wanted.partition(" ")
     if int(first) != status:
         return False
+    if moved:
+        return line.split(" ")[0] == rest.split(" ")[0]
     rest = rest.replace(" / ", "\n")
     return line.startswith(rest.removesuffix(" ..")) if rest.endswith(" ..") else line == rest
 
@@ -175,7 +177,7 @@ def play(folder, lines):
         file = re.match(r"([^\s:+]+)(: ?| \+ ?)(.*)\Z", line)
         if line.startswith("run "):
             answer = folder.run(doing.removeprefix("run ").split(" "))
-            if folder.limit is None and not is_wanted(wanted, *answer):
+            if folder.limit is None and not is_wanted(wanted, moved, *answer):
                 raise Wrong(f"{doing}: wanted {wanted}, came {answer[0]} {answer[1]}")
             moved = moved or doing.split(" ")[1] in MOVING
             steps.append((answer, {name: folder.read(name) for name in folder.names()}))
