@@ -4,7 +4,7 @@
     tests/disk/play.py PROGRAM TABLE ..
 
 A row's files are made in a folder, its commands are run there, and what they answer and leave is what the row wants of files in memory. Each row is played
-three times: over plain files; with what is read behind pipes that give few bytes at a time; and with a limit on the size of files, where each command
+three times: over plain files; with what is read behind pipes that give few bytes at a time, which leaves the same; and with a limit on the size of files, where each command
 does what it did, or says 'write fault' and leaves a front of what it left without a limit. Rows with planned faults, limits or guides are left to memory.
 One line is put for each row, and one that counts them.
 """
@@ -17,6 +17,8 @@ import sys
 import tempfile
 import threading
 
+# the program takes other moves than rows do, which name their guides: what these leave is compared with itself
+MOVING = ("simplify", "solve", "demo")
 MEMORY_ALONE = ("fault", "limits", "guide", "guides", "memory")
 # so many bytes come in pieces, and the others at once
 PIECE, FEW = 7, 70
@@ -153,11 +155,13 @@ class Pipes:
             self.folder.write(name, held)
 
 
-def is_wanted(wanted, status, line):
-    """Whether a status and a line are those of a row."""
+def is_wanted(wanted, moved, status, line):
+    """Whether a status and a line are those of a row; behind other moves the numbers of a line may be others."""
     first, _, rest = wanted.partition(" ")
     if int(first) != status:
         return False
+    if moved:
+        return line.split(" ")[0] == rest.split(" ")[0]
     rest = rest.replace(" / ", "\n")
     return line.startswith(rest.removesuffix(" ..")) if rest.endswith(" ..") else line == rest
 
@@ -166,18 +170,19 @@ def play(folder, lines):
     """Plays the lines of a row, and hands on what each of its commands answered and left."""
     for name in folder.names():
         os.remove(folder.path(name))
-    steps = []
+    steps, moved = [], False
     for line in lines:
         doing, _, wanted = line.partition(" =>")
         wanted = wanted.removeprefix(" ")
         file = re.match(r"([^\s:+]+)(: ?| \+ ?)(.*)\Z", line)
         if line.startswith("run "):
             answer = folder.run(doing.removeprefix("run ").split(" "))
-            if folder.limit is None and not is_wanted(wanted, *answer):
+            if folder.limit is None and not is_wanted(wanted, moved, *answer):
                 raise Wrong(f"{doing}: wanted {wanted}, came {answer[0]} {answer[1]}")
+            moved = moved or doing.split(" ")[1] in MOVING
             steps.append((answer, {name: folder.read(name) for name in folder.names()}))
         elif line.startswith("show "):
-            if folder.limit is None:
+            if folder.limit is None and not moved:
                 show(folder, doing.removeprefix("show "), wanted)
         elif file and not line.startswith(("read ", "log ")):
             held = Held(folder)
@@ -231,7 +236,8 @@ def play_row(folder, lines):
     plain = play(folder, lines)
     folder.pipes = True
     try:
-        play(folder, lines)
+        if play(folder, lines) != plain:
+            raise Wrong("behind pipes other files are left")
     finally:
         folder.pipes = False
     play_limited(folder, lines, plain)
