@@ -337,7 +337,7 @@ JUDGES = {"simplify": simplify, "check": check, "annotate": annotate, "rebuild":
 def judge(case, answer):
     """What is wrong with an answer, or None."""
     try:
-        want(answer.status >= 0, "no crash")
+        want(answer.status >= 0, "an end, and no crash")
         if case.fault and answer.status == 5:
             want(answer.line.split("\n")[-1] == "write fault", "'write fault'")
             refusal = first_refusal(case)

@@ -27,6 +27,7 @@ from commands import FOLDER, READS, WRITES, Answer, Case, judge
 
 HERE = os.path.dirname(os.path.realpath(__file__))
 PROGRAM = os.path.join(HERE, "..", "..", "dist", "celdrinn-x86_64-linux")
+LONGEST = 300
 FULL = "/dev/full"
 NOWHERE = "nowhere/file"
 
@@ -69,8 +70,11 @@ class Player:
         limit = (lambda: resource.setrlimit(resource.RLIMIT_FSIZE, (size, size))) if size is not None else None
         if case.fault and case.fault[1] == "folder":
             os.mkdir(self.path("folder"))
-        run = subprocess.run([self.program, *self.words(case)], cwd=self.folder, stdin=subprocess.DEVNULL, stdout=subprocess.PIPE,
-                             stderr=subprocess.DEVNULL, timeout=120, check=False, preexec_fn=limit, restore_signals=False)
+        try:
+            run = subprocess.run([self.program, *self.words(case)], cwd=self.folder, stdin=subprocess.DEVNULL, stdout=subprocess.PIPE,
+                                 stderr=subprocess.DEVNULL, timeout=LONGEST, check=False, preexec_fn=limit, restore_signals=False)
+        except subprocess.TimeoutExpired:
+            return Answer(-1, f"no end in {LONGEST} seconds", {})
         made = {}
         for name in WRITES[case.verb]:
             if os.path.isfile(self.path(name)):
@@ -264,6 +268,8 @@ def play(words, counts):
                 print(f"case {number} of seed {words.seed}: {wrong}, came {answer.status} '{answer.line}'")
                 print("\n".join(keep(player, shrink(player, case), words.keep)))
                 return False
+    except KeyboardInterrupt:
+        pass
     finally:
         player.close()
     return True
