@@ -1,11 +1,11 @@
 -- A proof that is read in pieces.
-use Rattle.std.proofs.Common.{◌≡◌, ◌≤◌, ◌<◌, ◌+◌, ◌-◌, ◌∙◌, refl, sym, ap, subst, arith, ℕ, Bool, List, [], ◌∷◌, ◌++◌, length, take, drop, Option, Some, None, Result, Ok, Err, inl, inr, append-nil, append_assoc, length-append, length-drop}
+use Rattle.std.proofs.Common.{◌≡◌, ◌≤◌, ◌<◌, ◌+◌, ◌-◌, ◌∙◌, refl, sym, ap, subst, arith, ℕ, List, [], ◌∷◌, ◌++◌, length, take, drop, Option, Some, None, Result, Ok, Err, inl, inr, append-nil, append_assoc, length-append, length-drop}
 use Rattle.std.proofs.lemmas.List.{take-append-drop, length-take-le}
 use Rattle.std.proofs.Math.Seq.{take-add, take-length}
-use Rattle.q_logic.specs.Prelude.{PrenexFormula, ProofStep}
+use Rattle.q_logic.specs.Prelude.{ProofStep}
 use Rattle.q_log.specs.declared.error.LogError.{LogError}
 use Rattle.q_log.specs.declared.error.LogError.TheVariants as log
-use Rattle.q_log.specs.Logs.{Parsed, behind, onto, finished, stopped}
+use Rattle.q_log.specs.Logs.{Parsed, behind, onto, finished}
 use Rattle.q_log.specs.Reading as reading
 use Rattle.q_binary.specs.Forms.{ProofState, IsStop, left_of, to_come}
 use Rattle.q_binary.specs.Forms as forms
@@ -140,7 +140,7 @@ tells_end_step a t n p open-now g r b F front s =
 pub tells_conclusion : (a : Reading) (r : Result (Option Entry) LogError) (w : Disproved) → IsOpen a → reading.Ends r (to_come a.reader []) → Concludes r a.refuter w → Tells w a []
 tells_conclusion a (Ok None) w o h c = subst (λ (x : Disproved). Tells x a []) (sym c) (tells_end a o h)
 tells_conclusion a (Ok (Some e)) w o h (inl c) = tells_last a w e o c h
-tells_conclusion a (Ok (Some e)) w o h (inr (c, t, g)) = subst (λ (x : Disproved). Tells x a []) (sym c) (tells_end_step a t e.0 e.1 o g h)
+tells_conclusion a (Ok (Some e)) w o h (inr (c, (t, g))) = subst (λ (x : Disproved). Tells x a []) (sym c) (tells_end_step a t e.0 e.1 o g h)
 tells_conclusion a (Err x) w o h c = tells_bad_end a x w o c h
 
 -- what is told of bytes that follow others

@@ -144,7 +144,10 @@ impl Reading {
         ensures tells { Tells result self [] }
         ensures fault { result ≡ Disproved.ReadFault → ⊥ }
     {
-        let Reading { reader, mut refuter } = self;
+        let Reading {
+            reader,
+            mut refuter,
+        } = self;
         conclude(&mut refuter, reader.finish())
     }
 }
