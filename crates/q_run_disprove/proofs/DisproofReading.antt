@@ -1,18 +1,18 @@
 -- A proof that is read in pieces.
-use Rattle.std.proofs.Common.{◌≡◌, ◌≤◌, ◌<◌, ◌+◌, ◌-◌, ◌∙◌, refl, sym, ap, subst, arith, ℕ, Bool, List, [], ◌∷◌, ◌++◌, length, take, drop, Option, Some, None, Ok, Err, append-nil, append_assoc, length-append, length-drop}
+use Rattle.std.proofs.Common.{◌≡◌, ◌≤◌, ◌<◌, ◌+◌, ◌-◌, ◌∙◌, refl, sym, ap, subst, arith, ℕ, List, [], ◌∷◌, ◌++◌, length, take, drop, Option, Some, None, Result, Ok, Err, inl, inr, append-nil, append_assoc, length-append, length-drop}
 use Rattle.std.proofs.lemmas.List.{take-append-drop, length-take-le}
 use Rattle.std.proofs.Math.Seq.{take-add, take-length}
-use Rattle.q_logic.specs.Prelude.{PrenexFormula, ProofStep}
+use Rattle.q_logic.specs.Prelude.{ProofStep}
 use Rattle.q_log.specs.declared.error.LogError.{LogError}
 use Rattle.q_log.specs.declared.error.LogError.TheVariants as log
-use Rattle.q_log.specs.Logs.{Parsed, behind, onto, finished, stopped}
+use Rattle.q_log.specs.Logs.{Parsed, behind, onto, finished}
 use Rattle.q_log.specs.Reading as reading
 use Rattle.q_binary.specs.Forms.{ProofState, IsStop, left_of, to_come}
 use Rattle.q_binary.specs.Forms as forms
 use Rattle.q_command.specs.Logs.{Entry}
 use Rattle.q_command.proofs.AuditSteps.{front-of, left-over}
 use Rattle.q_run_disprove.specs.Disproofs.{SaysOf, proof_of}
-use Rattle.q_run_disprove.specs.Readings.{Advances, Convicts, Goes, HasTaken, IsOpen, IsSoFar, IsUnderWay, Stands, Tells, log_refused}
+use Rattle.q_run_disprove.specs.Readings.{Advances, Concludes, Convicts, Goes, HasTaken, IsOpen, IsSoFar, IsUnderWay, Stands, Tells, log_refused}
 use Rattle.q_run_disprove.specs.declared.disproved.Disproved.{Disproved}
 use Rattle.q_run_disprove.specs.declared.disproved.Disproved.TheVariants as outcome
 use Rattle.q_run_disprove.specs.declared.reading.Reading.{Reading}
@@ -24,12 +24,6 @@ leads-none o before now e h = subst (λ x. (rest : List ℕ) → reading.Leads (
 
 pub leads-some : (o : Option Entry) (before now : List ℕ → Parsed) (e : Entry) → o ≡ Some e → ((rest : List ℕ) → reading.Leads (Ok o) (before rest) (now rest)) → (rest : List ℕ) → before rest ≡ onto e (now rest)
 leads-some o before now s e h = subst (λ x. (rest : List ℕ) → reading.Leads (Ok x) (before rest) (now rest)) e h
-
-pub ends-none : (o : Option Entry) (before : Parsed) → o ≡ None → reading.Ends (Ok o) before → before ≡ finished
-ends-none o before e h = subst (λ x. reading.Ends (Ok x) before) e h
-
-pub ends-some : (o : Option Entry) (before : Parsed) (e : Entry) → o ≡ Some e → reading.Ends (Ok o) before → before ≡ onto e finished
-ends-some o before s e h = subst (λ x. reading.Ends (Ok x) before) e h
 
 behind-behind : (xs ys : List Entry) (o : Parsed) → behind xs (behind ys o) ≡ behind (xs ++ ys) o
 behind-behind xs ys o = ap (λ (es : List Entry). let e : Parsed = record { steps = es; refused = o.refused } in e) (sym (append_assoc xs ys o.steps))
@@ -106,7 +100,7 @@ pub tells_piece : (a : Reading) (piece : List ℕ) (n : ℕ) (w : Disproved) (e 
 tells_piece a piece n w e now open-now h next rest =
     subst (λ (xs : List ℕ). Tells w a xs) (front-of n piece rest) (tells_step a (take n piece ++ (drop n piece ++ rest)) w e (now (drop n piece ++ rest)) open-now h (next (drop n piece ++ rest)))
 
-pub tells_last : (a : Reading) (w : Disproved) (e : Entry) → IsOpen a → Convicts w a.refuter.checker.formula a.refuter.steps e → to_come a.reader [] ≡ onto e finished → Tells w a []
+tells_last : (a : Reading) (w : Disproved) (e : Entry) → IsOpen a → Convicts w a.refuter.checker.formula a.refuter.steps e → to_come a.reader [] ≡ onto e finished → Tells w a []
 tells_last a w e open-now h next = tells_step a [] w e finished open-now h next
 
 -- what a line that is no step tells
@@ -129,19 +123,25 @@ stop-at-end (log.BadLine n) before h = h
 stop-at-end (log.Limit n) before h = h
 stop-at-end log.NoMemory before h = tt
 
-pub tells_bad_end : (a : Reading) (x : LogError) (w : Disproved) → IsOpen a → w ≡ log_refused x → reading.Ends (Err x) (to_come a.reader []) → Tells w a []
+tells_bad_end : (a : Reading) (x : LogError) (w : Disproved) → IsOpen a → w ≡ log_refused x → reading.Ends (Err x) (to_come a.reader []) → Tells w a []
 tells_bad_end a x w open-now q h = tells_stop a [] w x open-now q (stop-at-end x (to_come a.reader []) h)
 
 -- the proof ends without a step more, or with one
-pub tells_end : (a : Reading) → IsOpen a → to_come a.reader [] ≡ finished → Tells outcome.RefusedEnd a []
+tells_end : (a : Reading) → IsOpen a → to_come a.reader [] ≡ finished → Tells outcome.RefusedEnd a []
 tells_end a open-now e b F front s =
     subst (λ (p : Parsed). SaysOf outcome.RefusedEnd F p) (sym (s.proof [] ∙ ap (behind s.entries) e))
     (end-says F s.entries a.refuter s.so_far open-now.under_way.unlost)
 
-pub tells_end_step : (a : Reading) (t : Refuter) (n : ℕ) (p : ProofStep) → IsOpen a → Goes p a.refuter t → to_come a.reader [] ≡ onto (n, p) finished → Tells outcome.RefusedEnd a []
+tells_end_step : (a : Reading) (t : Refuter) (n : ℕ) (p : ProofStep) → IsOpen a → Goes p a.refuter t → to_come a.reader [] ≡ onto (n, p) finished → Tells outcome.RefusedEnd a []
 tells_end_step a t n p open-now g r b F front s =
     subst (λ (x : Parsed). SaysOf outcome.RefusedEnd F x) (sym (s.proof [] ∙ (ap (behind s.entries) r ∙ behind-behind s.entries ((n, p) ∷ []) finished)))
     (end-says F (s.entries ++ (n, p) ∷ []) t (goes-on F s.entries a.refuter s.so_far open-now.under_way.unlost n p t g) g.under_way.unlost)
+
+pub tells_conclusion : (a : Reading) (r : Result (Option Entry) LogError) (w : Disproved) → IsOpen a → reading.Ends r (to_come a.reader []) → Concludes r a.refuter w → Tells w a []
+tells_conclusion a (Ok None) w o h c = subst (λ (x : Disproved). Tells x a []) (sym c) (tells_end a o h)
+tells_conclusion a (Ok (Some e)) w o h (inl c) = tells_last a w e o c h
+tells_conclusion a (Ok (Some e)) w o h (inr (c, (t, g))) = subst (λ (x : Disproved). Tells x a []) (sym c) (tells_end_step a t e.0 e.1 o g h)
+tells_conclusion a (Err x) w o h c = tells_bad_end a x w o c h
 
 -- what is told of bytes that follow others
 tells_later : (a b : Reading) (xs ys : List ℕ) (w : Disproved) → Advances a b xs → Tells w b ys → Tells w a (xs ++ ys)

@@ -1,12 +1,12 @@
 -- Steps that are made from a formula on, and what the next one or the end tells.
-use Rattle.std.proofs.Common.{◌≡◌, ◌⊎◌, ◌+◌, ◌∙◌, refl, sym, ap, subst, arith, ℕ, suc, false, List, [], ◌∷◌, ◌++◌, length, append_assoc, length-append, Some, None, inl, inr}
+use Rattle.std.proofs.Common.{◌≡◌, ◌⊎◌, ◌+◌, refl, sym, ap, subst, arith, ℕ, suc, false, List, [], ◌∷◌, ◌++◌, length, length-append, Some, None, inl, inr}
 use Rattle.q_logic.specs.Prelude.{PrenexFormula, AreAlike, ProofStep, add, delete, drop_literal, fresh, remove_variable, after, standard}
 use Rattle.q_logic.specs.StepForms.{kind_of}
 use Rattle.q_logic.proofs.Common.{alike_swapped, alike_through, alike_after}
 use Rattle.q_logic.proofs.Runs.{one_less-IsIn}
 use Rattle.q_log.specs.declared.error.LogError.{LogError}
 use Rattle.q_log.specs.Logs.{Parsed, behind, onto, finished, stopped}
-use Rattle.q_refutation.specs.Refutations.{AreMadeUnlost, IsLost, MayBeMade, RefutedIn, RefusedAt}
+use Rattle.q_refutation.specs.Refutations.{AreMadeUnlost, IsLost, RefutedIn, RefusedAt}
 use Rattle.q_refutation.proofs.FirstEmpty.{alike_lost, alike_may, alike_bad, made-more, refuted-behind, refused-behind, refuted-now}
 use Rattle.q_command.specs.Logs.{Entry, steps_of, IsOffence}
 use Rattle.q_command.proofs.LogEntries.{steps_of-append}

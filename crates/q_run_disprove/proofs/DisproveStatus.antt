@@ -1,12 +1,12 @@
 -- When each status of `disprove` comes.
-use Rattle.std.proofs.Common.{◌≡◌, ◌≢◌, ◌⊎◌, inl, inr, ◌∙◌, refl, sym, subst, ℕ, Bool, false, Option, None, Some}
+use Rattle.std.proofs.Common.{◌≡◌, ◌≢◌, inl, inr, ◌∙◌, sym, subst, ℕ, Bool, false, Option, None, Some}
 use Rattle.q_logic.specs.Prelude.{PrenexFormula, Holds, standard}
 use Rattle.q_io.specs.Files.{Disk, bytes_at}
 use Rattle.q_log.specs.Logs.{Parsed}
 use Rattle.q_refutation.specs.Refutations.{RefusedAt}
 use Rattle.q_refutation.proofs.Refuting.{refutes-false}
 use Rattle.q_refutation.proofs.Refusing.{refutes-number, number-refutes, not-both}
-use Rattle.q_command.specs.Checks.{IsFileOf, IsNoFormula, MayCome, Exactly}
+use Rattle.q_command.specs.Checks.{IsNoFormula, MayCome, Exactly}
 use Rattle.q_command.specs.Logs.{steps_of}
 use Rattle.q_command.specs.Sinks.{SinkView, IsDue}
 use Rattle.q_command.specs.declared.status.Status.{Status}
@@ -15,7 +15,7 @@ use Rattle.q_command.proofs.CheckStatus.{one_formula, no_offence}
 use Rattle.q_command.proofs.FileFormulas.{file-formula}
 use Rattle.q_command.proofs.ToldLaws.{ToldLaws, exact}
 use Rattle.q_run_disprove.specs.DisprovedLines.{status_of_disproved}
-use Rattle.q_run_disprove.specs.Disproofs.{DisproveFiles, DisprovesExactly, Disproves, EndFails, InputIsFalse, IsDisproof, IsNoDisproof, IsRefutation, IsRefutationIn, LeadsNowhere, LineFails, OfFiles, Says, proof_of, told}
+use Rattle.q_run_disprove.specs.Disproofs.{DisproveFiles, DisprovesExactly, Disproves, EndFails, InputIsFalse, IsDisproof, IsNoDisproof, IsRefutation, LineFails, Says, proof_of, told}
 use Rattle.q_run_disprove.specs.declared.disproved.Disproved.{Disproved}
 use Rattle.q_run_disprove.specs.declared.disproved.Disproved.TheVariants as outcome
 

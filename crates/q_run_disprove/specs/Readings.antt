@@ -1,5 +1,5 @@
 -- A proof whose steps are made while it is read.
-use Rattle.std.specs.Prelude.{◌≡◌, ◌≤◌, ◌+◌, ℕ, Bool, true, false, List, [], ◌++◌, length, take, drop}
+use Rattle.std.specs.Prelude.{◌≡◌, ◌⊎◌, ◌≤◌, ◌+◌, ℕ, Bool, true, false, List, [], ◌++◌, length, take, drop, Option, None, Some, Result, Ok, Err}
 use Rattle.q_logic.specs.declared.steps.Kind.{Kind}
 use Rattle.q_logic.specs.declared.steps.Kind.TheVariants as kind
 use Rattle.q_logic.specs.Prelude.{PrenexFormula, AreAlike, ProofStep, after, standard}
@@ -76,6 +76,13 @@ Convicts outcome.RefusedEnd E k e = ⊥
 Convicts (outcome.RefusedInput n c) E k e = ⊥
 Convicts outcome.ReadFault E k e = ⊥
 Convicts outcome.NoMemory E k e = Unit {0}
+
+-- what the end of the proof tells: there is no step more, or one, or a line that is none
+abbrev pub Concludes : Result (Option Entry) LogError → Refuter → Disproved → Type 0
+Concludes (Ok None) t w = w ≡ outcome.RefusedEnd
+Concludes (Ok (Some e)) t w =
+    Convicts w t.checker.formula t.steps e ⊎ ((w ≡ outcome.RefusedEnd) × ((new : Refuter) × Goes e.1 t new))
+Concludes (Err x) t w = w ≡ log_refused x
 
 -- these steps are made from F on, and the empty clause was never there
 pub record IsSoFar (F : PrenexFormula) (es : List Entry) (t : Refuter) : Type 0 where

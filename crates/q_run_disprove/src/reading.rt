@@ -1,16 +1,16 @@
 // The proof is read once, forward, and no further than to the empty clause: each step is made as soon as it is read.
-ghost use Rattle.std.specs.Prelude.{◌≡◌, ◌≤◌, ◌<◌, ◌+◌, List, ℕ, length, take, drop, IfOk, IfErr, OnOk, IfSome, IsErrOf, [], ◌++◌};
+ghost use Rattle.std.specs.Prelude.{◌≡◌, ◌≤◌, ◌<◌, ◌+◌, ◌-◌, ◌^◌, List, ℕ, length, take, drop, IfOk, IfErr, OnOk, IfSome, IsErrOf, [], ◌++◌};
 ghost use Rattle.q_io.specs.Files.{RoseFor, bytes_at};
 ghost use Rattle.q_command.specs.Reading.{OnlyReadsFiles};
 ghost use Rattle.q_binary.specs.Forms.{left_of};
-ghost use Rattle.q_run_disprove.specs.Readings.{Advances, HasTaken, IsOpen, IsStarted, Tells, TellsAtOnce, log_refused};
+ghost use Rattle.q_run_disprove.specs.Readings.{Advances, Concludes, HasTaken, IsOpen, IsStarted, IsUnderWay, Tells, TellsAtOnce, log_refused};
 
 use crate::disproved::Disproved;
 use crate::refuter::Refuter;
 use q_binary::ProofReader;
 use q_io::{DeviceError, Files};
 use q_log::LogError;
-use q_logic::{Formula, Limits};
+use q_logic::{Formula, Limits, Step};
 use std::alloc::Global;
 
 /// The reader of a proof, and the formula behind the steps so far.
@@ -21,12 +21,30 @@ pub(crate) struct Reading {
 }
 
 fn log_refusal(error: LogError) -> Disproved
-    ensures { result ≡ log_refused error }
+    ensures is { result ≡ log_refused error }
+    ensures fault { result ≡ Disproved.ReadFault → ⊥ }
 {
     match error {
         LogError::BadLine { line } => Disproved::RefusedLine { line, cause: 1 },
         LogError::Limit { line } => Disproved::RefusedLine { line, cause: 8 },
         LogError::NoMemory => Disproved::NoMemory,
+    }
+}
+
+// What there is to say by the end of the proof, which may make a step whole.
+fn conclude(refuter: &mut Refuter, end: Result<Option<(u64, Step)>, LogError>) -> Disproved
+    requires under_way { IsUnderWay refuter.old }
+    requires few { refuter.old.steps < 2 ^ 64 - 1 }
+    ensures concludes { Concludes end refuter.old result }
+    ensures fault { result ≡ Disproved.ReadFault → ⊥ }
+{
+    match end {
+        Ok(None) => Disproved::RefusedEnd,
+        Ok(Some((line, step))) => match refuter.take(line, &step) {
+            Ok(()) => Disproved::RefusedEnd,
+            Err(outcome) => outcome,
+        },
+        Err(error) => log_refusal(error),
     }
 }
 
@@ -120,21 +138,17 @@ impl Reading {
         }
     }
 
-    // What there is to say where the proof has come to its end, which may make a step whole.
+    // What there is to say where the proof has come to its end.
     fn finish(self) -> Disproved
         requires { IsOpen self }
         ensures tells { Tells result self [] }
         ensures fault { result ≡ Disproved.ReadFault → ⊥ }
     {
-        let Reading { reader, mut refuter } = self;
-        match reader.finish() {
-            Ok(None) => Disproved::RefusedEnd,
-            Ok(Some((line, step))) => match refuter.take(line, &step) {
-                Ok(()) => Disproved::RefusedEnd,
-                Err(outcome) => outcome,
-            },
-            Err(error) => log_refusal(error),
-        }
+        let Reading {
+            reader,
+            mut refuter,
+        } = self;
+        conclude(&mut refuter, reader.finish())
     }
 }
 

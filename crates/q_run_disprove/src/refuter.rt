@@ -65,10 +65,7 @@ impl Refuter {
         if checker.has_empty() {
             return Err(Disproved::False { steps: 0 });
         }
-        Ok(Refuter {
-            checker,
-            steps: 0,
-        })
+        Ok(Refuter { checker, steps: 0 })
     }
 
     /// Makes a step if it may be made, and goes on if the empty clause is not there then.

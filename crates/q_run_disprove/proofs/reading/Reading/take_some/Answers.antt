@@ -24,4 +24,4 @@ returns-in-Err-take-clause-tells c =
 
 pub returns-in-Err-clause-tells : goal.returns-in-Err-clause-tells
 returns-in-Err-clause-tells c =
-    tells_offence c.args.self.now c.next.new.self c.args.piece.now c.in-Err.error c.log_refusal.result c.requires.goes_on c.log_refusal.ensures c.in-Err.ensures.next
+    tells_offence c.args.self.now c.next.new.self c.args.piece.now c.in-Err.error c.log_refusal.result c.requires.goes_on c.log_refusal.ensures.is c.in-Err.ensures.next
