@@ -66,10 +66,12 @@ mkdir -p "$root/bin" && ln -sf ../lib/celdrinn/celdrinn "$root/bin/celdrinn" || 
 put 644 "$doc" README.md CHANGELOG.md LICENSE CITATION.cff
 put 644 "$doc/docs" docs/*.md
 put 644 "$doc/docs/pictures" docs/pictures/*.svg
-for file in examples/*; do
+for file in examples/* examples/*/*; do
+    [ -f "$file" ] || continue
     mode=644
     [ ! -x "$file" ] || mode=755
-    put $mode "$doc/examples" "$file"
+    folder=${file%/*}
+    put $mode "$doc/$folder" "$file"
 done
 put 644 "$pages" docs/celdrinn.1 docs/man/*.1
 put_as 644 completion/celdrinn.bash "$bash_completion"

@@ -36,6 +36,15 @@ play_rows() {
     fi
 }
 
+# The same rows over a real folder, behind pipes and under limits on the size of files.
+play_disk() {
+    if ! command -v python3 >/dev/null; then
+        echo "skipped the rows over a real folder: there is no python3"
+        return
+    fi
+    python3 tests/disk/play.py dist/celdrinn-x86_64-linux crates/q_rows/data/*.rows | sed '$d'
+}
+
 # The figures of the release agree with each other.
 play_version() {
     if packaging/version.sh >"$work/version" 2>&1; then
@@ -80,6 +89,7 @@ if [ -x bench/sources.sh ] && [ "$(bench/sources.sh)" != "$(cat dist/SOURCES)" ]
     echo "note: the released programs in dist/ were built from other sources than these"
 fi
 play_rows >"$work/rows" && count "$work/rows"
+play_disk >"$work/disk" && count "$work/disk"
 play_version >"$work/versions" && count "$work/versions"
 play_words >"$work/said" && count "$work/said"
 play_man >"$work/said" && count "$work/said"

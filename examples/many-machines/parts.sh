@@ -1,0 +1,40 @@
+#!/bin/sh
+# What make and Slurm call for a check in parts: FOLDER has the line of each part that has ended, so a run that broke off goes on.
+# The environment has IN, OUT, LOG, PARTS and FOLDER, and in CELDRINN the program. FOLDER, and all other names, are to be seen from each machine.
+# Usage: parts.sh begin | run PART | missing | join
+set -u
+here=$(cd "$(dirname "$0")" && pwd)
+case $1 in
+    begin)
+        # lines of other files, or of another number of parts, are of no use
+        mkdir -p "$FOLDER" || exit 5
+        for name in "$IN" "$OUT" "$LOG"; do
+            { [ -r "$name" ] && [ -f "$name" ]; } || { echo "can't read '$name'" >&2 && exit 4; }
+        done
+        { echo "$PARTS" && ls -lL --time-style=full-iso "$IN" "$OUT" "$LOG"; } >"$FOLDER/now" || exit 5
+        cmp -s "$FOLDER/now" "$FOLDER/of" || rm -f "$FOLDER"/*.line "$FOLDER"/*.new
+        mv "$FOLDER/now" "$FOLDER/of"
+        ;;
+    run)
+        [ ! -s "$FOLDER/$2.line" ] || exit 0
+        "$CELDRINN" check "$IN" "$OUT" "$LOG" --part="$2/$PARTS" >"$FOLDER/$2.new"
+        status=$?
+        # what was killed has said nothing, and a fault of the machine is no answer
+        case $status in 0 | 1 | 3 | 64) mv "$FOLDER/$2.new" "$FOLDER/$2.line" ;; esac
+        exit $status
+        ;;
+    missing)
+        part=1
+        while [ $part -le "$PARTS" ]; do
+            [ -s "$FOLDER/$part.line" ] || echo $part
+            part=$((part + 1))
+        done
+        ;;
+    join)
+        for name in "$FOLDER"/*.line "$FOLDER"/*.new; do
+            [ -f "$name" ] || continue
+            part=${name##*/}
+            printf '%s\t%s\n' "${part%.*}" "$(head -n 1 "$name")"
+        done | awk -v parts="$PARTS" -f "$here/join.awk"
+        ;;
+esac
