@@ -43,7 +43,12 @@ run() {
         1) ;;
         *) [ -t 2 ] || words=$work/words ;;
     esac
-    [ -z "$stats" ] || words=$work/words
+    case $command:$stats in
+        *:yes) words=$work/words is_shown= ;;
+        simplify:* | solve:* | gen:* | demo:* | mend:*) is_shown= ;;
+        *) look_whether_shown ;;
+    esac
+    [ -z "$is_shown" ] || words=$work/words
     # A limit on the size of files makes a write fail, and doesn't kill the program.
     trap '' XFSZ 2>/dev/null
     # Large pages, where the system has them: look-ups all over a large formula wait less for memory.
@@ -54,14 +59,17 @@ run() {
     (
         eval "exec <&$number" && close_ours
         [ -z "$words" ] || exec 2>"$words"
+        [ -z "$is_shown" ] || { CELDRINN_PROGRESS=0 && export CELDRINN_PROGRESS; }
         exec $tied $within "$program" "$@" >"$work/line"
     ) &
     child=$!
     [ -z "$stats" ] || begin_stats
+    [ -z "$is_shown" ] || begin_report "$child"
     wait "$child"
     status=$?
     child=
     [ -z "$stats" ] || end_stats
+    [ -z "$is_shown" ] || end_report
     line=$(cat "$work/line")
     [ -z "$line" ] || return 0
     case $status$within in 124?*) line=unknown status=12 && return ;; esac

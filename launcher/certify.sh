@@ -10,14 +10,6 @@ first_span=4
 
 # A step that is shown as progress is.
 note() { [ -z "$is_shown" ] || say "$*"; }
-look_whether_shown() {
-    is_shown=
-    case ${CELDRINN_PROGRESS-} in
-        0) ;;
-        1) is_shown=yes ;;
-        *) [ ! -t 2 ] || is_shown=yes ;;
-    esac
-}
 
 # Ways that have come to an end, and whether one of the others did not have the time for it.
 ended=' ' pending=''

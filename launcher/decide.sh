@@ -14,29 +14,21 @@ call() {
     line=$(cat "$work/line")
 }
 
-# Runs a SAT solver on a CNF, and sets `status` to 10, 20 or something else; its model goes to a file. With a third word its proof goes through
-# a pipe to `disprove`, and `is_proved` says whether that found it right.
+# Runs a SAT solver on a CNF, and sets `status` to 10, 20 or something else; its model goes to a file. With a third word its proof is handed to
+# `disprove`, and `is_proved` says whether that found it right.
 solve_cnf() {
     is_proved=
-    if [ -z "${3-}" ]; then
-        (close_ours && tied_solver "$1" "$2") &
-        child=$!
-        wait "$child"
-        status=$?
-        child=
-        return
-    fi
-    [ -p "$work/proof" ] || mkfifo "$work/proof" || finish 5
-    (close_ours && tied_solver "$1" "$2" "$work/proof") &
-    beside=$!
-    call disprove "$1" "$work/proof"
-    judged=$status
-    # where nothing was read, the solver waits for who does
-    case $judged in 20) ;; *) { cat "$work/proof" >/dev/null & } 2>/dev/null && reader=$! ;; esac
-    wait "$beside"
+    # shellcheck disable=SC2086
+    (close_ours && tied_solver "$1" "$2" ${3:+"$work/proof"}) &
+    child=$!
+    wait "$child"
     status=$?
-    beside=
-    case $judged in 20) is_proved=yes ;; *) kill "$reader" 2>/dev/null && wait "$reader" 2>/dev/null ;; esac
+    child=
+    [ -n "${3-}" ] && [ $status -eq 20 ] || return 0
+    call disprove "$1" "$work/proof"
+    [ "$status" -ne 20 ] || is_proved=yes
+    rm -f "$work/proof"
+    status=20
 }
 tied_solver() {
     within="$tied $within"

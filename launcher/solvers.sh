@@ -34,7 +34,7 @@ allow() {
 become_sat_solver() {
     case ${1##*/} in
         minisat) exec $within "$1" -verb=0 "$2" "$3" >/dev/null 2>&1 ;;
-        cadical) exec $within "$1" -q "$2" ${4+"$4"} >"$3" 2>/dev/null ;;
+        cadical) exec $within "$1" -q ${4+--no-binary} "$2" ${4+"$4"} >"$3" 2>/dev/null ;;
         *) exec $within "$1" "$2" >"$3" 2>/dev/null ;;
     esac
 }

@@ -6,13 +6,15 @@
 begin_stats() {
     began=$(date +%s.%N)
     times >"$work/times.before"
-    (close_ours && watch_memory "$child" 2>/dev/null) &
+    (close_ours && watch_memory "$child" >/dev/null 2>&1) &
     watcher=$!
 }
-# Notes the largest memory of a process ten times a second, while it is there.
+# Notes the largest memory of a process, or of its child where it is `timeout`, ten times a second, while it is there.
 watch_memory() {
     while kill -0 "$1"; do
-        kilobytes=$(sed -n 's/^VmHWM:[^0-9]*\([0-9]*\).*/\1/p' "/proc/$1/status")
+        watched=$(cat "/proc/$1/task/$1/children")
+        watched=${watched%% *}
+        kilobytes=$(sed -n 's/^VmHWM:[^0-9]*\([0-9]*\).*/\1/p' "/proc/${watched:-$1}/status")
         [ -z "$kilobytes" ] || echo "$kilobytes" >"$work/peak"
         sleep 0.1
     done
