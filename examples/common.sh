@@ -28,9 +28,6 @@ trap 'rm -rf "$work"' EXIT
 trap 'exit 130' INT
 trap 'exit 143' TERM
 
-# Whether the program has a command: releases differ.
-has_command() { "$celdrinn" help "$1" >/dev/null 2>&1; }
-
 # Ends the script where a tool is missing: its name and Debian's package.
 skip() {
     echo "skipped: $1 is not installed (on Debian: apt-get install $2)"
