@@ -37,7 +37,7 @@ put out "$2"
 put log "$3"
 case $celdrinn in /*) ;; */*) celdrinn=$PWD/$celdrinn ;; esac
 set -- --will-cite -q --tag -j "$jobs" --halt "$halt"
-[ -z "$hosts" ] || set -- "$@" --sshlogin "$hosts" --workdir ... --cleanup --basefile in --basefile out --basefile log
+[ -z "$hosts" ] || set -- "$@" --sshlogin "$hosts" --workdir "celdrinn-${work##*.}" --cleanup --basefile in --basefile out --basefile log
 cd "$work" || exit 1
 seq "$parts" | parallel "$@" "$celdrinn" check in out log "--part={}/$parts" >lines
 awk -v parts="$parts" -f "$here/many-machines/join.awk" lines

@@ -12,7 +12,7 @@ BEGIN {
 
 # A refusal's place: a line comes before the end, and at one line the least cause counts.
 function place(words) {
-    return words[2] == "line" ? words[3] + words[5] / 1000 : 1e300 + words[4]
+    return words[2] == "line" ? words[3] + words[5] / 1000 : 1e15 + words[4]
 }
 
 $2 == "" || said[$1] { next }
