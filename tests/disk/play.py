@@ -110,14 +110,14 @@ class Folder:
 
 
 # how many names each command reads; what it writes may be read by a later line of the row
-READS = {"check": 3, "annotate": 3, "rebuild": 4, "refute": 4, "validate": 2, "miter": 2, "extract": 2, "simplify": 1, "solve": 1}
+READS = {"check": 3, "annotate": 3, "rebuild": 4, "refute": 4, "validate": 2, "disprove": 2, "miter": 2, "extract": 2, "simplify": 1, "solve": 1}
 
 
 class Pipes:
     """Pipes in place of the files that a command reads, for the time of its run."""
 
     def __init__(self, folder, words):
-        names = [w for w in words[1:] if not w.startswith("--")][:READS.get(words[0], 0)]
+        names = [w for w in words[1:] if not w.startswith("--")][: READS.get(words[0], 0) if words else 0]
         self.folder, self.held, self.threads = folder, {}, []
         for name in names:
             held = folder.read(name)
@@ -176,10 +176,11 @@ def play(folder, lines):
         wanted = wanted.removeprefix(" ")
         file = re.match(r"([^\s:+]+)(: ?| \+ ?)(.*)\Z", line)
         if line.startswith("run "):
-            answer = folder.run(doing.removeprefix("run ").split(" "))
+            words = doing.split(" ")[1:]
+            answer = folder.run(words)
             if folder.limit is None and not is_wanted(wanted, moved, *answer):
                 raise Wrong(f"{doing}: wanted {wanted}, came {answer[0]} {answer[1]}")
-            moved = moved or doing.split(" ")[1] in MOVING
+            moved = moved or words[:1] and words[0] in MOVING
             steps.append((answer, {name: folder.read(name) for name in folder.names()}))
         elif line.startswith("show "):
             if folder.limit is None and not moved:
