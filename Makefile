@@ -8,6 +8,7 @@ all:
 	@echo "make uninstall [PREFIX=..]    takes it away again"
 	@echo "make deb                      makes a Debian package"
 	@echo "make tarball                  makes an archive of what 'make install' needs"
+	@echo "make release                  makes both and their checksums in release/, twice, and compares them"
 	@echo "make prove                    proves and builds all anew, which takes Rattle's kit and an hour or more"
 
 test:
@@ -25,7 +26,10 @@ deb:
 tarball:
 	@packaging/tarball.sh
 
+release:
+	@packaging/release.sh
+
 prove:
 	@.ci/run
 
-.PHONY: all test install uninstall deb tarball prove
+.PHONY: all test install uninstall deb tarball release prove

@@ -18,9 +18,13 @@ function __celdrinn_wants_file
             set kinds f f f f f
         case extract
             set kinds f f f
+        case disprove
+            set kinds f f
         case miter
             set kinds f f f
         case validate
+            set kinds f f
+        case certify
             set kinds f f
         case solve
             set kinds f f f f
@@ -62,8 +66,10 @@ for where in __celdrinn_is_first __celdrinn_is_help
     complete -c celdrinn -n $where -a annotate -d 'checks LOG and writes it with hints'
     complete -c celdrinn -n $where -a refute -d 'carries Herbrand circuits of a false OUT back to IN'
     complete -c celdrinn -n $where -a extract -d 'makes circuits of a solvers trace'
+    complete -c celdrinn -n $where -a disprove -d 'says whether a SAT solvers proof, or a log, shows that IN is false'
     complete -c celdrinn -n $where -a miter -d 'writes clauses that are false exactly where circuits are right'
     complete -c celdrinn -n $where -a validate -d 'says whether circuits are Skolem functions of IN'
+    complete -c celdrinn -n $where -a certify -d 'gives an answer with a certificate, by solvers that nobody has to trust'
     complete -c celdrinn -n $where -a solve -d 'simplifies and decides a small formula, with circuits'
     complete -c celdrinn -n $where -a gen -d 'writes a random formula of SIZE clauses'
     complete -c celdrinn -n $where -a demo -d 'does gen, simplify and check, one after the other'
@@ -76,8 +82,14 @@ complete -c celdrinn -n __celdrinn_is_first -l version -d 'prints the version an
 complete -c celdrinn -n '__celdrinn_wants_option simplify validate solve' -a --budget= -d 'stops after so much'
 complete -c celdrinn -n '__celdrinn_wants_option simplify' -a --grow= -d 'by how much an elimination may let the formula grow'
 complete -c celdrinn -n '__celdrinn_wants_option simplify' -a --expand= -d 'by how much an expansion may let the formula grow'
-complete -c celdrinn -n '__celdrinn_wants_option miter' -a --herbrand -d 'takes circuits of the universals'
+complete -c celdrinn -n '__celdrinn_wants_option check' -a --part= -d 'judges every Nth block of 1,000 steps, and makes the others'
+complete -c celdrinn -n '__celdrinn_wants_option disprove' -a --binary -d 'reads as a binary proof what could be a text'
+complete -c celdrinn -n '__celdrinn_wants_option miter validate' -a --herbrand -d 'takes circuits of the universals'
 complete -c celdrinn -n '__celdrinn_wants_option simplify' -a --best -d 'tries large expansions beside it, for so many seconds, and keeps the better end'
-complete -c celdrinn -n '__celdrinn_wants_option simplify rebuild annotate refute extract miter solve mend' -a --force -d 'writes over a formula that is there'
-complete -c celdrinn -n '__celdrinn_wants_option simplify check rebuild annotate refute extract miter validate solve gen demo mend' -a --quiet -d 'says nothing that is no answer'
-complete -c celdrinn -n '__celdrinn_wants_option simplify check rebuild annotate refute extract miter validate solve gen demo mend' -a --verbose -d 'says what it does, wherever standard error leads'
+complete -c celdrinn -n '__celdrinn_wants_option validate' -a --with= -d 'asks a SAT solver, as cadical'
+complete -c celdrinn -n '__celdrinn_wants_option validate certify solve' -a --seconds= -d 'stops after so many seconds'
+complete -c celdrinn -n '__celdrinn_wants_option certify' -a --check -d 'tests the circuits once more'
+complete -c celdrinn -n '__celdrinn_wants_option simplify check rebuild annotate refute extract disprove miter validate solve' -a --stats -d 'says at the end what was done, and what it took'
+complete -c celdrinn -n '__celdrinn_wants_option simplify rebuild annotate refute extract miter certify solve mend' -a --force -d 'writes over a formula that is there'
+complete -c celdrinn -n '__celdrinn_wants_option simplify check rebuild annotate refute extract disprove miter validate certify solve gen demo mend' -a --quiet -d 'says nothing that is no answer'
+complete -c celdrinn -n '__celdrinn_wants_option simplify check rebuild annotate refute extract disprove miter validate certify solve gen demo mend' -a --verbose -d 'says what it does, wherever standard error leads'

@@ -1,8 +1,8 @@
 #!/bin/sh
-# Checks a SAT solver's proof that a CNF is unsatisfiable: CaDiCaL is asked for one, or PROOF is one that is there already (`-` is standard input).
-# `celdrinn disprove` reads proofs as solvers write them. Where the program has no such command yet, a log is made of the proof, which has to be
-# a text, and `celdrinn check` looks at it: it leads from the CNF to the empty clause.
-# With a second name the log is written there with hints, and checked once more by these.
+# Checks a SAT solver's proof that a CNF is unsatisfiable: CaDiCaL is asked for one, or PROOF is one that is there already, as text or in
+# binary (`-` is standard input). `celdrinn disprove` reads proofs as solvers write them.
+# With a second name a log is made of the proof, which has to be a text, and is written there with hints: it leads from the CNF to the empty
+# clause, and is checked once more by its hints.
 # Usage: examples/check-cadical-proof.sh [--proof=PROOF] [CNF [HINTED]]
 set -u
 here=$(cd "$(dirname "$0")" && pwd)
@@ -18,7 +18,10 @@ if [ -n "$proof" ]; then
 else
     has cadical || skip CaDiCaL cadical
     proof=$work/proof
-    cadical -q --no-binary "$in" "$proof" >"$work/answer"
+    form=
+    [ $# -lt 2 ] || form=--no-binary
+    # shellcheck disable=SC2086
+    cadical -q $form "$in" "$proof" >"$work/answer"
     case $? in
         20) ;;
         10) echo "$named is satisfiable: there is no proof to check" && exit 0 ;;
@@ -41,7 +44,7 @@ clauses() {
 # The clauses that the solver deletes stay: `check` wants a reason for each deletion. Once the empty clause is there, it is
 # the reason for all of them, so at the end all other clauses and all variables go, and of empty clauses all but one.
 make_log() {
-    [ "$(LC_ALL=C tr -d '\t\n\r -~' <"$proof" | wc -c)" -eq 0 ] || { echo "a proof in binary wants 'celdrinn disprove'" && exit 1; }
+    [ "$(LC_ALL=C tr -d '\t\n\r -~' <"$proof" | wc -c)" -eq 0 ] || { echo "hints are made of a proof that is a text" && exit 1; }
     clauses "$in" >"$work/clauses"
     grep -v '^[dc]' "$proof" >"$work/added"
     {
@@ -53,19 +56,10 @@ make_log() {
     printf 'p cnf 0 1\n0\n' >"$work/out"
 }
 
-if has_command disprove; then
-    "$celdrinn" disprove "$in" "$proof"
-    status=$?
-else
-    make_log
-    "$celdrinn" check "$in" "$work/out" "$work/log"
-    status=$?
-fi
-case $status in
-    0 | 20) echo "$named is unsatisfiable: the proof is right" ;;
-    *) exit 1 ;;
-esac
+"$celdrinn" disprove "$in" "$proof"
+[ $? -eq 20 ] || exit 1
+echo "$named is unsatisfiable: the proof is right"
 if [ $# -ge 2 ]; then
-    [ -f "$work/log" ] || make_log
+    make_log
     "$celdrinn" annotate "$in" "$work/out" "$work/log" "$2" && "$celdrinn" check "$in" "$work/out" "$2"
 fi

@@ -16,13 +16,17 @@ command -v "$celdrinn" >/dev/null || {
     exit 0
 }
 
+# What the launcher and the scripts share lies beside the launcher.
+parts=$(dirname "$(readlink -f "$(command -v "$celdrinn")")")/launcher
+[ -f "$parts/solvers.sh" ] || parts=$here/../launcher
+within=''
+. "$parts/solvers.sh"
+
 # A folder for files that nobody needs afterwards.
 work=$(mktemp -d) || exit 1
 trap 'rm -rf "$work"' EXIT
 trap 'exit 130' INT
 trap 'exit 143' TERM
-
-has() { command -v "$1" >/dev/null; }
 
 # Whether the program has a command: releases differ.
 has_command() { "$celdrinn" help "$1" >/dev/null 2>&1; }
@@ -76,30 +80,12 @@ find_abc() {
 # Solves a CNF with a SAT solver that is there, `by`: 10 for satisfiable, 20 for unsatisfiable; the model, as `v` lines, is put
 # into the second file.
 solve_sat() {
-    if has cadical; then
-        by=cadical
-        cadical -q "$1" >"$2"
-    elif has minisat; then
-        by=minisat
-        minisat -verb=0 "$1" "$2.minisat" >/dev/null 2>&1
-        found=$?
-        { [ ! -f "$2.minisat" ] || sed -n 's/^\(-\{0,1\}[0-9]\)/v \1/p' "$2.minisat"; } >"$2"
-        return $found
-    else
-        skip "CaDiCaL or MiniSat" cadical
-    fi
-}
-
-# Circuits that are constants, for the existentials of OUT (the second file): 1 for what a solver's `v` or `V` lines in the first
-# file say is true, and 0 for all others.
-constants() {
-    awk 'FILENAME == ARGV[1] { if ($1 == "v" || $1 == "V") for (i = 2; i <= NF; i++) if ($i > 0) is_true[$i] = 1; next }
-        $1 == "e" { for (i = 2; i < NF; i++) variable[count++] = $i }
-        END {
-            print "aag 0 0 0 " count + 0 " 0"
-            for (i = 0; i < count; i++) print (variable[i] in is_true) ? 1 : 0
-            for (i = 0; i < count; i++) print "o" i " " variable[i]
-        }' "$1" "$2"
+    find_sat_solver || skip "CaDiCaL or MiniSat" cadical
+    by=$sat
+    (become_sat_solver "$sat" "$1" "$2.said")
+    found=$?
+    model_of "$2.said" >"$2"
+    return $found
 }
 
 # The outputs of a circuit file, each on a line: its variable and its literal, which is 0 or 1 where the circuit is a constant.

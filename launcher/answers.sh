@@ -16,7 +16,7 @@ finish() {
 }
 
 # A signal ends the program, and then the launcher as if it had none of this.
-child='' beside=''
+child='' beside='' within='' words=''
 stop() {
     trap - EXIT
     [ -z "$child" ] || kill -TERM "$child" 2>/dev/null
@@ -43,6 +43,12 @@ run() {
         1) ;;
         *) [ -t 2 ] || words=$work/words ;;
     esac
+    case $command:$stats in
+        *:yes) words=$work/words is_shown= ;;
+        simplify:* | solve:* | gen:* | demo:* | mend:*) is_shown= ;;
+        *) look_whether_shown ;;
+    esac
+    [ -z "$is_shown" ] || words=$work/words
     # A limit on the size of files makes a write fail, and doesn't kill the program.
     trap '' XFSZ 2>/dev/null
     # Large pages, where the system has them: look-ups all over a large formula wait less for memory.
@@ -53,14 +59,20 @@ run() {
     (
         eval "exec <&$number" && close_ours
         [ -z "$words" ] || exec 2>"$words"
-        exec $tied "$program" "$@" >"$work/line"
+        [ -z "$is_shown" ] || { CELDRINN_PROGRESS=0 && export CELDRINN_PROGRESS; }
+        exec $tied $within "$program" "$@" >"$work/line"
     ) &
     child=$!
+    [ -z "$stats" ] || begin_stats
+    [ -z "$is_shown" ] || begin_report "$child"
     wait "$child"
     status=$?
     child=
+    [ -z "$stats" ] || end_stats
+    [ -z "$is_shown" ] || end_report
     line=$(cat "$work/line")
     [ -z "$line" ] || return 0
+    case $status$within in 124?*) line=unknown status=12 && return ;; esac
     [ "$status" -gt 128 ] || starts "$program" || { say "$why_not" && finish 70; }
     say "the program ended with $status and no answer"
     finish "$status"
@@ -147,7 +159,8 @@ explain() {
         unknown)
             case $command in
                 extract) tell "$(named TRACE)" "the solver did not know: the trace ends in 'r UNKNOWN'" ;;
-                *) say "the budget was spent before there was an answer; a larger --budget may give one, and without it there is no bound" ;;
+                *) if [ -n "$seconds" ] && [ -z "$(cat "$work/line")" ]; then say "no answer within $seconds seconds" && return; fi
+                    say "the budget was spent before there was an answer; a larger --budget may give one, and without it there is no bound" ;;
             esac
             ;;
         'circuits too large') say "what would be written is larger than is read" ;;
@@ -187,10 +200,11 @@ start() {
     trap 'stop HUP' HUP
     trap 'stop QUIT' QUIT
     trap 'rm -rf "$work"' EXIT
-    case $quiet$verbose in
-        yes*) CELDRINN_PROGRESS=0 && export CELDRINN_PROGRESS ;;
-        *yes) CELDRINN_PROGRESS=1 && export CELDRINN_PROGRESS ;;
+    case $quiet:$verbose in
+        yes:*) CELDRINN_PROGRESS=0 && export CELDRINN_PROGRESS ;;
+        :yes) CELDRINN_PROGRESS=1 && export CELDRINN_PROGRESS ;;
     esac
+    [ -z "$stats" ] || { CELDRINN_PROGRESS=1 && export CELDRINN_PROGRESS; }
     for name; do
         case $name in /dev/fd/[3-9] | /proc/self/fd/[3-9]) given_numbers=$given_numbers${name##*/} ;; esac
     done
@@ -207,11 +221,14 @@ start() {
         count=$((count - 2))
         set -- "$@" "$way"
     done
+    [ -z "$seconds" ] || { set_deadline "$seconds" && allow; }
     # shellcheck disable=SC2086
     case $command in
         mend) run_mended "$@" ;;
+        certify) run_certify "$@" ;;
         simplify) if [ -n "$best" ]; then run_best "$@"; else run "$command" "$@" $passed; fi ;;
-        *) run "$command" "$@" $passed ;;
+        validate) if [ -n "$solver" ]; then run_decided "$@"; else run "$command" "$@" $passed; fi ;;
+        *) run "$command" "$@" $passed $herbrand ;;
     esac
     end_streams
     case $status in 0 | 2 | 10 | 20) pack_empty || write_failed=yes ;; esac
@@ -222,6 +239,8 @@ start() {
         say "a file could not be packed to its end"
         answer 'write fault' 5
     fi
+    if [ -n "$stats" ]; then show_stats; fi
+    case $stats:$status in yes:0 | yes:2 | yes:10 | yes:20) is_told=yes ;; esac
     [ -n "$is_told" ] || explain
     # a line that stands beside a formula on standard error is of no use to who wants none
     if [ -n "$is_moved" ] && [ -n "$quiet" ]; then finish "$status"; fi

@@ -9,8 +9,7 @@ blocks() { sed -n '2,${/^[ae]/!q;p}' "$1" | wc -l; }
 run_best() {
     # $1 is what is read, $2 and $3 where the formula and the log go
     case $passed in *--expand=*) refuse "--best tries --expand=10000 beside the other options, so --expand can't be one of them" ;; esac
-    in=$1
-    if ! [ -f "$1" ]; then in=$work/given && cat <"$1" >"$in"; fi
+    store "$1" given && in=$file || return
     CELDRINN_PROGRESS=0
     export CELDRINN_PROGRESS
     tie

@@ -64,6 +64,17 @@ read_by() {
     readers="$readers $!"
 }
 
+# Sets `file` to a name under which a file can be read as often as one likes: what comes from a pipe or by a descriptor is stored.
+store() {
+    file=$1
+    case $1 in
+        /dev/stdin | /dev/fd/* | /proc/self/fd/*) ;;
+        *) [ ! -f "$1" ] || return 0 ;;
+    esac
+    file=$work/$2
+    { cat <"$1" >"$file"; } 2>/dev/null || { line='read fault' status=4 && return 1; }
+}
+
 # Sets `way` to the name under which the program writes a file. What goes to standard output goes through a pipe, and the line to standard
 # error. The launcher holds each pipe open for writing until the program has ended, so that no tool waits in vain for its first byte; it reads
 # none of them, so that the program is told where a tool has ended before it.

@@ -48,14 +48,14 @@ look_at_number() {
 # Looks at a share I/N.
 look_at_share() {
     case $2 in
-        */*/* | *[!0-9/]* | /* | */ | *[!/]0*/*) complain "$1 is a share as in $1=1/4, and '$2' is none" ;;
-        */*) if is_above "${2%/*}" "${2#*/}" || [ "${2%/*}" = 0 ]; then complain "$1: the parts are 1 to ${2#*/}"; fi ;;
+        */*/* | *[!0-9/]* | /* | */ | */0*) complain "$1 is a share as in $1=1/4, and '$2' is none" ;;
+        */*) if case ${2%/*} in *[!0]*) is_above "${2%/*}" "${2#*/}" ;; esac; then complain "$1: the parts are 1 to ${2#*/}"; fi ;;
         *) complain "$1 is a share as in $1=1/4, and '$2' is none" ;;
     esac
 }
 
 # Takes an option. What is the program's goes to `passed`; what is the launcher's sets a variable of its name.
-passed='' seen='' best='' force='' quiet='' verbose=''
+passed='' seen='' best='' force='' quiet='' verbose='' stats='' seconds='' solver='' herbrand='' check=''
 take_option() {
     option=${1%%=*}
     option=${option#--}
@@ -74,6 +74,7 @@ take_option() {
     case ${second# }:$1 in
         'flag :--'*=*) complain "--$option takes no number" && return ;;
         'flag :'* | *:--best) ;;
+        'word :'*) [ "${1#*=}" != "$1" ] && [ -n "${1#*=}" ] || { complain "'$1': a name follows behind '=', as in '--$option=cadical'" && return; } ;;
         *:"--$option") complain "'$1': the number follows behind '=', as in '$1=16'" && return ;;
         'share :'*) look_at_share "--$option" "${1#*=}" ;;
         *) second=${second# } && look_at_number "--$option" "${1#*=}" "${second% }" ;;
@@ -83,6 +84,11 @@ take_option() {
         force) force=yes ;;
         quiet) quiet=yes ;;
         verbose) verbose=yes ;;
+        check) check=yes ;;
+        stats) stats=yes ;;
+        with) solver=${1#*=} ;;
+        seconds) seconds=${1#*=} ;;
+        herbrand) herbrand=$1 ;;
         *) passed="$passed $1" ;;
     esac
 }

@@ -1,9 +1,9 @@
 /* Celdrinn, a proved preprocessor for quantified Boolean formulas, for programs in C.
  *
  * Each call is one run of the command of its name over files in memory, and answers its exit status: 0 done, 10 true, 20 false, 1 LOG
- * refused, 3 IN or OUT refused, 6 memory was wanting, 7 circuits refused, 8 a step that can't be carried back. What it makes is
- * copied to the front of the caller's buffers, each where it fits; `lengths` says how many bytes each has, also where its buffer was
- * too short. `line` is what the command would print. No pointer may be null, also where a length is 0; buffers don't overlap.
+ * refused, 3 IN or OUT refused, 6 memory was wanting, 7 circuits refused. What it makes is copied to the front of the caller's
+ * buffers, each where it fits; `lengths` says how many bytes each has, also where its buffer was too short, and 0 for what the call
+ * does not make. `line` is what the command would print. No pointer may be null, also where a length is 0; buffers don't overlap.
  * Memory comes from malloc, and all of it is given back before a call ends. */
 #ifndef CELDRINN_H
 #define CELDRINN_H

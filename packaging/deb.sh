@@ -7,7 +7,7 @@ cd "$(dirname "$0")/.." || exit 1
 command -v dpkg-deb >/dev/null || { echo "deb: dpkg-deb is not installed (on Debian: apt-get install dpkg)" >&2 && exit 1; }
 version=$(packaging/version.sh)-1 || exit 1
 maintainer="Celdrinn maintainers <maintainers@users.noreply.celdrinn.example>"
-SOURCE_DATE_EPOCH=${SOURCE_DATE_EPOCH:-$(git log -1 --format=%ct 2>/dev/null || date +%s)}
+SOURCE_DATE_EPOCH=$(packaging/date.sh)
 export SOURCE_DATE_EPOCH
 work=$(mktemp -d) || exit 1
 trap 'rm -rf "$work"' EXIT
@@ -34,7 +34,7 @@ rm "$doc/LICENSE"
     echo " -- $maintainer  $(LC_ALL=C date -u -R -d "@$SOURCE_DATE_EPOCH")"
 } | gzip -9n >"$doc/changelog.Debian.gz"
 gzip -9n <"$doc/CHANGELOG.md" >"$doc/changelog.gz" && rm "$doc/CHANGELOG.md" || exit 1
-gzip -9n "$root/usr/share/man/man1/celdrinn.1"
+gzip -9n "$root"/usr/share/man/man1/*.1
 # zsh and fish look for a package's completions elsewhere
 mkdir -p "$root/usr/share/zsh/vendor-completions" &&
     mv "$root/usr/share/zsh/site-functions/_celdrinn" "$root/usr/share/zsh/vendor-completions/" &&
@@ -49,7 +49,7 @@ Section: math
 Priority: optional
 Architecture: amd64
 Maintainer: $maintainer
-Installed-Size: $(du -k -s "$root/usr" | cut -f 1)
+Installed-Size: $(find "$root/usr" -type f -printf '%s\n' | awk '{ n += int(($1 + 1023) / 1024) } END { print n }')
 Depends: libc6 (>= 2.34)
 Suggests: depqbf, cadical, minisat, berkeley-abc
 Description: proved preprocessor for quantified Boolean formulas

@@ -21,11 +21,11 @@ doc=$root/share/doc/celdrinn
 bash_completion=$root/share/bash-completion/completions/celdrinn
 zsh_completion=$root/share/zsh/site-functions/_celdrinn
 fish_completion=$root/share/fish/vendor_completions.d/celdrinn.fish
-page=$root/share/man/man1/celdrinn.1
+pages=$root/share/man/man1
 
 if [ -n "$remove" ]; then
     rm -rf "$lib" "$doc"
-    rm -f "$root/bin/celdrinn" "$archive" "$header" "$bash_completion" "$zsh_completion" "$fish_completion" "$page"
+    rm -f "$root/bin/celdrinn" "$archive" "$header" "$bash_completion" "$zsh_completion" "$fish_completion" "$pages/celdrinn.1" "$pages"/celdrinn-*.1
     exit
 fi
 
@@ -65,12 +65,15 @@ fi
 mkdir -p "$root/bin" && ln -sf ../lib/celdrinn/celdrinn "$root/bin/celdrinn" || exit 1
 put 644 "$doc" README.md CHANGELOG.md LICENSE CITATION.cff
 put 644 "$doc/docs" docs/*.md
-for file in examples/*; do
+put 644 "$doc/docs/pictures" docs/pictures/*.svg
+for file in examples/* examples/*/*; do
+    [ -f "$file" ] || continue
     mode=644
     [ ! -x "$file" ] || mode=755
-    put $mode "$doc/examples" "$file"
+    folder=${file%/*}
+    put $mode "$doc/$folder" "$file"
 done
-put_as 644 docs/celdrinn.1 "$page"
+put 644 "$pages" docs/celdrinn.1 docs/man/*.1
 put_as 644 completion/celdrinn.bash "$bash_completion"
 put_as 644 completion/_celdrinn "$zsh_completion"
 put_as 644 completion/celdrinn.fish "$fish_completion"

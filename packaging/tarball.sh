@@ -12,13 +12,18 @@ trap 'rm -rf "$work"' EXIT
 umask 022
 
 mkdir -p "$work/$name/crates/q_rows" "$work/$name/dist" "$work/$name/packaging" || exit 1
-cp dist/celdrinn-x86_64-linux "$work/$name/program" || exit 1
+# in an archive the program lies beside the launcher
+program=dist/celdrinn-x86_64-linux
+[ -f "$program" ] || program=program
+cp "$program" "$work/$name/program" || exit 1
 [ ! -f dist/rows-x86_64-linux ] || cp dist/rows-x86_64-linux "$work/$name/dist/" || exit 1
 cp -R celdrinn launcher VERSION README.md CHANGELOG.md LICENSE CITATION.cff Makefile completion docs examples help tests "$work/$name/" || exit 1
 [ ! -f dist/libceldrinn-x86_64-linux.a ] || cp dist/libceldrinn-x86_64-linux.a "$work/$name/dist/" || exit 1
-cp packaging/install.sh packaging/version.sh packaging/words.sh packaging/celdrinn.h "$work/$name/packaging/" || exit 1
-cp -R packaging/python "$work/$name/packaging/" || exit 1
+cp -R packaging/* "$work/$name/packaging/" || exit 1
+find "$work/$name" -name __pycache__ -prune -exec rm -rf {} +
+packaging/date.sh >"$work/$name/packaging/date"
+chmod -R u+rwX,go+rX,go-w "$work/$name" || exit 1
 cp -R crates/q_rows/args crates/q_rows/data crates/q_rows/stdout "$work/$name/crates/q_rows/" || exit 1
 # one owner, one date, one order: the same files make the same archive
-tar -C "$work" --sort=name --owner=0 --group=0 --numeric-owner --mtime="@${SOURCE_DATE_EPOCH:-$(git log -1 --format=%ct 2>/dev/null || echo 1700000000)}" -cf "$work/tar" "$name" || exit 1
+tar -C "$work" --sort=name --owner=0 --group=0 --numeric-owner --mtime="@$(packaging/date.sh)" -cf "$work/tar" "$name" || exit 1
 gzip -9n "$work/tar" && mv "$work/tar.gz" "$to/$name.tar.gz" && echo "$to/$name.tar.gz"

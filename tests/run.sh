@@ -36,6 +36,15 @@ play_rows() {
     fi
 }
 
+# The same rows over a real folder, behind pipes and under limits on the size of files.
+play_disk() {
+    if ! command -v python3 >/dev/null; then
+        echo "skipped the rows over a real folder: there is no python3"
+        return
+    fi
+    python3 tests/disk/play.py dist/celdrinn-x86_64-linux crates/q_rows/data/*.rows | sed '$d'
+}
+
 # The figures of the release agree with each other.
 play_version() {
     if packaging/version.sh >"$work/version" 2>&1; then
@@ -54,6 +63,24 @@ play_words() {
     fi
 }
 
+# The manual pages of the commands are what their help says.
+play_man() {
+    if packaging/man.sh --check >"$work/man" 2>&1; then
+        echo "ok the manual pages are those of help/ and launcher/words.txt"
+    else
+        echo "wrong man: $(head -n 1 "$work/man")"
+    fi
+}
+
+# The pictures are those that their script draws.
+play_pictures() {
+    if packaging/pictures.sh --check >"$work/pictures" 2>&1; then
+        echo "ok the pictures are those that packaging/pictures.sh draws"
+    else
+        echo "wrong pictures: $(head -n 1 "$work/pictures")"
+    fi
+}
+
 # What is played is an installation, so that nothing is built.
 packaging/install.sh "$work/there" || exit 1
 CELDRINN=${CELDRINN:-$work/there/bin/celdrinn}
@@ -62,9 +89,12 @@ if [ -x bench/sources.sh ] && [ "$(bench/sources.sh)" != "$(cat dist/SOURCES)" ]
     echo "note: the released programs in dist/ were built from other sources than these"
 fi
 play_rows >"$work/rows" && count "$work/rows"
+play_disk >"$work/disk" && count "$work/disk"
 play_version >"$work/versions" && count "$work/versions"
 play_words >"$work/said" && count "$work/said"
-tests/pages.sh README.md docs/TUTORIAL.md >"$work/pages.rows"
+play_man >"$work/said" && count "$work/said"
+play_pictures >"$work/said" && count "$work/said"
+tests/pages.sh README.md docs/TUTORIAL.md docs/for-*.md >"$work/pages.rows"
 for table in tests/*.rows "$work/pages.rows"; do
     tests/play.sh "$table" | sed '$d' >"$work/table"
     count "$work/table"

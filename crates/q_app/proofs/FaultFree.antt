@@ -1,5 +1,6 @@
 -- What is shown of each command, and that its answer comes where no fault does.
 use Rattle.q_command.proofs.CheckLaws as check
+use Rattle.q_command.proofs.PartStatus as part
 use Rattle.q_command.proofs.ToldLaws as law
 use Rattle.q_command.proofs.ToldLaws.{ToldLaws}
 use Rattle.q_run_solve.proofs.SolveStatus as solve
@@ -8,15 +9,17 @@ use Rattle.q_run_refute.proofs.RefuteStatus as refute
 use Rattle.q_run_validate.proofs.ValidateStatus as validate
 use Rattle.q_run_extract.proofs.ExtractStatus as extract
 use Rattle.q_run_miter.proofs.MiterStatus as miter
+use Rattle.q_run_disprove.proofs.DisproveStatus as disprove
 use Rattle.q_app.specs.Completeness.{EachCompletes}
 use Rattle.q_app.specs.Told.{told}
-use Rattle.q_app.specs.Words.{Command, checking, simplifying, rebuilding, generating, solving, annotating, refuting, validating, mitering, extracting}
+use Rattle.q_app.specs.Words.{Command, checking, sharing, simplifying, rebuilding, generating, solving, annotating, refuting, validating, mitering, extracting, disproving}
 use Rattle.q_app.proofs.GenStatus as generate
 use Rattle.q_app.proofs.RebuildStatus as rebuild
 use Rattle.q_app.proofs.SimplifyStatus as simplify
 
 pub laws : (c : Command) → ToldLaws (told c)
 laws (checking n) = check.laws n
+laws (sharing n p) = part.laws n p
 laws (simplifying n o) = simplify.laws n o
 laws (rebuilding n) = rebuild.laws n
 laws (generating k name) = generate.laws k name
@@ -26,6 +29,7 @@ laws (refuting n) = refute.laws n
 laws (validating n b) = validate.laws n b
 laws (mitering n s) = miter.laws n s
 laws (extracting n) = extract.laws n
+laws (disproving n b) = disprove.laws n b
 
 pub completes : EachCompletes
 completes c before given after r = law.completes (told c) (laws c) before given after r

@@ -1,4 +1,5 @@
 pub mod OptionWords
+pub mod PartOptions
 pub mod CommandWords
 pub mod SimplifyStatus
 pub mod VerifiedFiles

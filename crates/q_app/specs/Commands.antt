@@ -4,23 +4,25 @@ use Rattle.std.specs.Str.{bytes_eq}
 use Rattle.q_logic.specs.declared.rule_bounds.Bounds.{Bounds}
 use Rattle.q_command.specs.Names.{three, three_of}
 use Rattle.q_app.specs.Rebuilds.{FiveNames, five}
-use Rattle.q_app.specs.Words.{Command, checking, simplifying, rebuilding, generating, solving, annotating, refuting, validating, mitering, extracting, Request, check_of, simplify_of, rebuild_of, generate_of, validate_of, refute_of, annotate_of, solve_of, miter_of, extract_of, demo, demo_of, nothing_set, options_of}
+use Rattle.q_app.specs.Words.{Command, checking, sharing, simplifying, rebuilding, generating, solving, annotating, refuting, validating, mitering, extracting, Request, simplify_of, rebuild_of, generate_of, validate_of, refute_of, annotate_of, solve_of, miter_of, extract_of, demo, demo_of, nothing_set, options_of, disproving, disprove_of}
 use Rattle.q_app.specs.Operands.{Differ, DifferFour, fourth, just_three, three_names, two_names}
 use Rattle.q_app.specs.RebuildWords.{rebuild_names}
+use Rattle.q_app.specs.PartWords.{check_of}
 use Rattle.q_run_validate.specs.Validates.{files_of as validate_files_of}
 use Rattle.q_run_refute.specs.Refutes.{files_of as refute_files_of}
 use Rattle.q_run_annotate.specs.Annotates.{files_of as annotate_files_of}
 use Rattle.q_run_solve.specs.Solves.{files_of as solve_files_of}
 use Rattle.q_run_miter.specs.Mitering.{files_of as miter_files_of}
 use Rattle.q_run_extract.specs.Extracts.{files_of as extract_files_of}
+use Rattle.q_run_disprove.specs.Disproofs.{files_of as disprove_files_of}
 use Rattle.q_app.specs.declared.rebuild_words.RebuildNames.{RebuildNames}
 use Rattle.q_app.specs.declared.words.Command.{Command as Parsed}
-use Rattle.q_app.specs.declared.words.Command.TheVariants.{Check, Simplify, Rebuild, Generate, Solve, Annotate, Refute, Validate, Miter, Extract, Demo}
+use Rattle.q_app.specs.declared.words.Command.TheVariants.{Check, Share, Simplify, Rebuild, Generate, Solve, Annotate, Refute, Validate, Miter, Extract, Demo, Disprove}
 
 -- by the verb and its operands; all else is no command
 abbrev pub by_verb : List ℕ → List (List ℕ) → Request
 by_verb verb operands =
-    cond (bytes_eq verb (codes "check")) (check_of (just_three (three_names operands)))
+    cond (bytes_eq verb (codes "check")) (check_of (three_names operands))
     (cond (bytes_eq verb (codes "simplify")) (simplify_of (three_names operands))
     (cond (bytes_eq verb (codes "rebuild")) (rebuild_of (rebuild_names operands))
     (cond (bytes_eq verb (codes "gen")) (generate_of operands)
@@ -30,7 +32,8 @@ by_verb verb operands =
     (cond (bytes_eq verb (codes "solve")) (solve_of (fourth (three_names operands)))
     (cond (bytes_eq verb (codes "extract")) (extract_of (just_three (three_names operands)))
     (cond (bytes_eq verb (codes "miter")) (miter_of (three_names operands))
-    (cond (bytes_eq verb (codes "demo")) (demo_of operands) None))))))))))
+    (cond (bytes_eq verb (codes "disprove")) (disprove_of (two_names operands))
+    (cond (bytes_eq verb (codes "demo")) (demo_of operands) None)))))))))))
 
 unfoldable pub request : List (List ℕ) → Request
 request [] = None
@@ -42,6 +45,7 @@ five_of n = five n.input.now n.output.now n.log.now n.skolem.now n.cert.now
 -- the commands by the names that were read
 abbrev pub commands_of : Parsed → List Command
 commands_of (Check n) = checking (three_of n) ∷ []
+commands_of (Share n p) = sharing (three_of n) p ∷ []
 commands_of (Simplify n p) = simplifying (three_of n) p ∷ []
 commands_of (Rebuild n) = rebuilding (five_of n) ∷ []
 commands_of (Generate k o) = generating k o.now ∷ []
@@ -51,6 +55,7 @@ commands_of (Annotate n) = annotating (annotate_files_of n) ∷ []
 commands_of (Solve n b) = solving (solve_files_of n) b ∷ []
 commands_of (Extract n) = extracting (extract_files_of n) ∷ []
 commands_of (Miter n s) = mitering (miter_files_of n) s ∷ []
+commands_of (Disprove n b) = disproving (disprove_files_of n) b ∷ []
 commands_of (Demo k n) = demo k (three_of n)
 
 -- such a command can be done: its numbers are within their limits, and its names differ

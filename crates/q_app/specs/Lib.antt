@@ -2,6 +2,7 @@ pub mod Statuses
 pub mod Lines
 pub mod Operands
 pub mod Words
+pub mod PartWords
 pub mod Refusals
 pub mod Simplifying
 pub mod RebuiltLines

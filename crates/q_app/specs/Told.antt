@@ -1,5 +1,6 @@
 -- What is told of each command: each in the file of its own.
 use Rattle.q_command.specs.Checks as check
+use Rattle.q_command.specs.Parts as part
 use Rattle.q_command.specs.Told.{Told}
 use Rattle.q_app.specs.Simplifying as simplify
 use Rattle.q_app.specs.Rebuilds as rebuild
@@ -10,10 +11,12 @@ use Rattle.q_run_refute.specs.Refutes as refute
 use Rattle.q_run_validate.specs.Validates as validate
 use Rattle.q_run_extract.specs.Extracts as extract
 use Rattle.q_run_miter.specs.Mitering as miter
-use Rattle.q_app.specs.Words.{Command, checking, simplifying, rebuilding, generating, solving, annotating, refuting, validating, mitering, extracting}
+use Rattle.q_app.specs.Words.{Command, checking, sharing, simplifying, rebuilding, generating, solving, annotating, refuting, validating, mitering, extracting, disproving}
+use Rattle.q_run_disprove.specs.Disproofs as disprove
 
 abbrev pub told : Command → Told
 told (checking n) = check.told n
+told (sharing n p) = part.told n p
 told (simplifying n o) = simplify.told n o
 told (rebuilding n) = rebuild.told n
 told (generating k name) = generate.told k name
@@ -23,3 +26,4 @@ told (refuting n) = refute.told n
 told (validating n b) = validate.told n b
 told (mitering n s) = miter.told n s
 told (extracting n) = extract.told n
+told (disproving n b) = disprove.told n b

@@ -5,6 +5,7 @@ use Rattle.q_logic.specs.declared.rule_bounds.Bounds.{Bounds}
 use Rattle.q_text.specs.Words.{digits}
 use Rattle.q_simplify.specs.declared.options.Options.{Options}
 use Rattle.q_command.specs.Names.{ThreeNames}
+use Rattle.q_command.specs.declared.part.Part.{Part}
 use Rattle.q_app.specs.Operands.{flag_in, just_three, three_names}
 use Rattle.q_app.specs.Rebuilds.{FiveNames}
 use Rattle.q_run_validate.specs.Validates.{ValidateFiles}
@@ -15,6 +16,7 @@ use Rattle.q_encode.specs.declared.side.Side.{Side}
 use Rattle.q_encode.specs.declared.side.Side.TheVariants as side
 use Rattle.q_run_miter.specs.Mitering.{MiterFiles}
 use Rattle.q_run_extract.specs.Extracts.{ExtractFiles}
+use Rattle.q_run_disprove.specs.Disproofs.{DisproveFiles}
 use Rattle.q_app.specs.declared.words.Scale.{Scale}
 use Rattle.q_app.specs.declared.settings.Setting.{Setting}
 use Rattle.q_app.specs.declared.settings.Setting.TheVariants as setting
@@ -23,6 +25,7 @@ use Rattle.q_app.specs.declared.settings.Settings.{Settings}
 -- one thing to be done, with the names of the files
 pub data Command : Type 0 where
   checking : ThreeNames → Command
+  sharing : ThreeNames → Part → Command
   simplifying : ThreeNames → Options → Command
   rebuilding : FiveNames → Command
   generating : Scale → List ℕ → Command
@@ -32,6 +35,7 @@ pub data Command : Type 0 where
   validating : ValidateFiles → Option ℕ → Command
   mitering : MiterFiles → Side → Command
   extracting : ExtractFiles → Command
+  disproving : DisproveFiles → Bool → Command
 
 -- what the words ask for: commands that are done one after the other; none where they are not understood
 abbrev pub Request : Type 0
@@ -109,11 +113,6 @@ only_budget (Some s) = if is_some s.grow || is_some s.expand then None else Some
 -- the budget that words set, which set nothing else
 abbrev pub budget_in : List (List ℕ) → Option (Option ℕ)
 budget_in words = only_budget (with_words (Some nothing_set) words)
-
--- `check IN OUT LOG`
-abbrev pub check_of : Option ThreeNames → Request
-check_of None = None
-check_of (Some n) = alone (checking n)
 
 -- `simplify IN OUT LOG` with options
 abbrev pub with_settings : ThreeNames → Option Settings → Request
@@ -211,3 +210,12 @@ abbrev pub miter_of : Option (ThreeNames × List (List ℕ)) → Request
 miter_of None = None
 miter_of (Some (n, words)) =
     miter_with (record { input = n.input; cert = n.output; output = n.log }) (flag_in (codes "--herbrand") words)
+
+-- `disprove IN PROOF`, where `--binary` may follow
+abbrev pub disprove_with : DisproveFiles → Option Bool → Request
+disprove_with n None = None
+disprove_with n (Some b) = alone (disproving n b)
+
+abbrev pub disprove_of : Option (List ℕ × List ℕ × List (List ℕ)) → Request
+disprove_of None = None
+disprove_of (Some (i, p, words)) = disprove_with (record { input = i; proof = p }) (flag_in (codes "--binary") words)

@@ -5,6 +5,7 @@ mod gen_file;
 mod generated;
 mod laws;
 mod operands;
+mod part_words;
 mod rebuild;
 mod rebuild_words;
 mod rebuilt;

@@ -46,8 +46,8 @@ pub(crate) fn number(text: &[u8], most: u64) -> Option<u64>
     Some(value)
 }
 
-// What stands behind a front, where the word begins with it.
-fn strip<'a>(word: &'a str, front: &[u8]) -> Option<&'a [u8]>
+/// What stands behind a front, where the word begins with it.
+pub(crate) fn strip<'a>(word: &'a str, front: &[u8]) -> Option<&'a [u8]>
     ensures { option_map (λ x. x.now) result ≡ behind front.now word.now }
 {
     match word.as_bytes().strip_prefix(front) {

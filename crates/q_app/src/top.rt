@@ -8,7 +8,7 @@ ghost use Rattle.q_app.specs.Operands.{Differ, texts};
 ghost use Rattle.q_app.specs.Promises.{AnswerComes, DemoPasses, SimplifyEnds};
 ghost use Rattle.q_app.specs.Says.{Does, InTurn};
 ghost use Rattle.q_app.specs.Told.{told};
-ghost use Rattle.q_app.specs.Words.{checking, demo, generating, rebuilding, simplifying};
+ghost use Rattle.q_app.specs.Words.{checking, sharing, demo, generating, rebuilding, simplifying};
 
 use crate::gen_file::generate_file;
 use crate::rebuild::rebuild_files;
@@ -16,11 +16,12 @@ use crate::rebuild_words::RebuildNames;
 use crate::settings::Settings;
 use crate::simplify::simplify_file;
 use crate::words::{Command, Scale, parse};
-use q_command::{Names, Status, check, put};
+use q_command::{Names, Part, Status, check, check_part, put};
 use q_gen::generated_is_read;
 use q_io::{Files, Sink};
 use q_log::texts_are_read;
 use q_run_annotate::run as run_annotate;
+use q_run_disprove::run as run_disprove;
 use q_run_extract::run as run_extract;
 use q_run_miter::run as run_miter;
 use q_run_refute::run as run_refute;
@@ -54,6 +55,20 @@ fn run_check<F: Files, S: Sink>(alloc: Global, files: &mut F, out: &mut S, names
         (devices F.Files S.Sink files.old out.old) (devices F.Files S.Sink files.new out.new) }
 {
     check(alloc, files, names).say(out)
+}
+
+fn run_share<F: Files, S: Sink>(
+    alloc: Global,
+    files: &mut F,
+    out: &mut S,
+    names: Names,
+    part: Part,
+) -> Status
+    ensures { Runs (told (sharing (three_of names.entry) part))
+        (devices F.Files S.Sink files.old out.old) result
+        (devices F.Files S.Sink files.new out.new) }
+{
+    check_part(alloc, files, names, part).say(out)
 }
 
 fn run_simplify<F: Files, S: Sink>(
@@ -145,6 +160,7 @@ fn run_command<F: Files, S: Sink>(
 {
     match command {
         Command::Check { names } => run_check(alloc, files, out, names),
+        Command::Share { names, part } => run_share(alloc, files, out, names, part),
         Command::Simplify { names, options } => {
             let asked = Simplification { names, options };
             run_simplify(alloc, files, out, asked, guides)
@@ -157,6 +173,7 @@ fn run_command<F: Files, S: Sink>(
         Command::Solve { names, budget } => { run_solve(alloc, files, out, names, budget, guides) }
         Command::Extract { names } => run_extract(alloc, files, out, names),
         Command::Miter { names, side } => run_miter(alloc, files, out, names, side),
+        Command::Disprove { names, binary } => run_disprove(alloc, files, out, names, binary),
         Command::Demo { scale, names } => {
             run_demo(alloc, files, out, Demonstration { scale, names }, guides)
         }

@@ -1,16 +1,19 @@
 // The words of the command line.
 ghost use Rattle.std.specs.Prelude.{◌≡◌, ◌≢◌, ◌≤◌, option_map, IfSome, Some};
 ghost use Rattle.q_app.specs.RebuildWords.{rebuild_names};
-ghost use Rattle.q_app.specs.Words.{annotate_of, check_of, demo_by, demo_of, extract_of, generate_of, miter_of, refute_of, scale_of as spec_scale_of, side_of as spec_side_of, simplify_of, solve_of, validate_of};
+ghost use Rattle.q_app.specs.PartWords.{check_of};
+ghost use Rattle.q_app.specs.Words.{annotate_of, demo_by, demo_of, extract_of, generate_of, miter_of, refute_of, scale_of as spec_scale_of, side_of as spec_side_of, simplify_of, solve_of, validate_of, disprove_of};
 ghost use Rattle.q_app.specs.Operands.{fourth, just_three, three_names as spec_three_names, two_names as spec_two_names, texts};
 ghost use Rattle.q_app.specs.Commands.{IsFit, bounds_in, by_verb as spec_by_verb, commands_of, request};
 
 use crate::operands::{budget_of, flag_of, four_names, only_names, three_names, two_names};
+use crate::part_words::part_of;
 use crate::rebuild_words::{RebuildNames, parse_rebuild};
 use crate::settings::{Settings, number};
-use q_command::Names;
+use q_command::{Names, Part};
 use q_logic::Bounds;
 use q_run_annotate::AnnotateNames;
+use q_run_disprove::DisproveNames;
 use q_run_extract::ExtractNames;
 use q_run_miter::{MiterNames, Side};
 use q_run_refute::RefuteNames;
@@ -30,6 +33,10 @@ pub(crate) struct Scale {
 pub(crate) enum Command<'a> {
     Check {
         names: Names<'a>,
+    },
+    Share {
+        names: Names<'a>,
+        part: Part,
     },
     Simplify {
         names: Names<'a>,
@@ -62,6 +69,10 @@ pub(crate) enum Command<'a> {
     Miter {
         names: MiterNames<'a>,
         side: Side,
+    },
+    Disprove {
+        names: DisproveNames<'a>,
+        binary: bool,
     },
     Demo {
         scale: Scale,
@@ -118,6 +129,9 @@ fn by_verb<'a>(verb: &str, operands: &'a [String]) -> Option<Command<'a>>
     if verb == "miter" {
         return parse_miter(operands);
     }
+    if verb == "disprove" {
+        return parse_disprove(operands);
+    }
     if verb == "demo" {
         return parse_demo(operands);
     }
@@ -126,11 +140,16 @@ fn by_verb<'a>(verb: &str, operands: &'a [String]) -> Option<Command<'a>>
 
 fn parse_check(operands: &[String]) -> Option<Command>
     ensures request { option_map (λ o. commands_of o) result
-        ≡ check_of (just_three (spec_three_names (texts operands.now))) }
+        ≡ check_of (spec_three_names (texts operands.now)) }
     ensures fit { IfSome result IsFit }
 {
-    match only_names(operands) {
-        Some(names) => Some(Command::Check { names }),
+    let Some(begun) = three_names(operands) else {
+        return None;
+    };
+    let names = begun.names;
+    match part_of(begun.rest) {
+        Some(Some(part)) => Some(Command::Share { names, part }),
+        Some(None) => Some(Command::Check { names }),
         None => None,
     }
 }
@@ -275,6 +294,24 @@ fn parse_miter(operands: &[String]) -> Option<Command>
             names,
             side: side_of(herbrand),
         }),
+        None => None,
+    }
+}
+
+fn parse_disprove(operands: &[String]) -> Option<Command>
+    ensures request { option_map (λ o. commands_of o) result
+        ≡ disprove_of (spec_two_names (texts operands.now)) }
+    ensures fit { IfSome result IsFit }
+{
+    let Some(pair) = two_names(operands) else {
+        return None;
+    };
+    let names = DisproveNames {
+        input: pair.first,
+        proof: pair.second,
+    };
+    match flag_of(pair.rest, "--binary") {
+        Some(binary) => Some(Command::Disprove { names, binary }),
         None => None,
     }
 }

@@ -1,3 +1,5 @@
+// Clauses in one row of words, as MiniSat keeps them. A deleted or shortened clause leaves dead words behind; sliding moves the
+// clauses down over them, one at a time and in the order of the row, so that a place changes only where its clause is slid.
 ghost use Rattle.std.specs.Prelude.{◌≡◌, ◌≢◌, ◌⊎◌, ◌↔◌, ◌≤◌, ◌<◌, ◌+◌, ◌-◌, ◌^◌, ◌∷◌, [], ℕ, length, slice_set, slice_index_or, OnOk, OnErr, List, None, Some, Option, IsTrue};
 ghost use Rattle.q_logic.specs.Prelude.{Literal, IsBelow, IsIn, ArePairs, without};
 ghost use Rattle.q_arena.specs.Seen.{Clauses, clause_at, start_at, without_at, IsLive, IsFree, IsEnd, IsFilled, IsFirstPastDead, live_in, words_in, AreSameClauses};

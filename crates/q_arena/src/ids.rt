@@ -1,3 +1,4 @@
+// The numbers of clauses in two linked lists: those in use, in the order of the row, and the free ones.
 ghost use Rattle.std.specs.Prelude.{◌≡◌, ◌≤◌, ◌<◌, ◌+◌, ◌++◌, ◌∷◌, [], ℕ, length, slice_get, OnOk, OnErr, None, Some};
 ghost use Rattle.q_arena.specs.Rings.{Has, AreApart, without};
 ghost use Rattle.q_arena.specs.Chains.{following, preceding};

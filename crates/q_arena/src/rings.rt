@@ -1,3 +1,5 @@
+// Doubly linked lists in one table, linked by number: each head stands in a ring with the places of its list, so that a place is
+// put in and taken out with no test of the ends. A place notes its owner, and a head how many places it has.
 ghost use Rattle.std.specs.Prelude.{◌≡◌, ◌≤◌, ◌<◌, ◌+◌, ◌-◌, ◌^◌, ◌++◌, ◌∷◌, [], ℕ, length, slice_index_or, slice_set, MatchOption, OnOk, OnErr, List, Contains, ◌⊎◌, vec_len, None, Some, if◌then◌else◌, nat_lt, slice_get, slice_index};
 ghost use Rattle.q_arena.specs.Nodes.{node_at, IsNode, IsPut, IsJoined, IsTagged, blank, base};
 ghost use Rattle.q_arena.specs.Rings.{IsRelisted, AreSound, AreApart, Has, without, with_next, rings_of};

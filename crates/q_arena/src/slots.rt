@@ -1,3 +1,5 @@
+// Where each clause stands in the row of words, and the changes of the row that an arena is made of: words are written, moved
+// down, and grown by.
 ghost use Rattle.std.specs.Prelude.{◌≡◌, ◌≢◌, ◌⊎◌, ◌≤◌, ◌<◌, ◌+◌, ◌-◌, ◌∷◌, [], ℕ, length, slice_index_or, OnOk, OnErr, None, Some};
 ghost use Rattle.q_logic.specs.Prelude.{Literal};
 ghost use Rattle.q_arena.specs.Rings.{Has, AreApart};

@@ -6,6 +6,7 @@ ghost use Rattle.q_kernel.specs.Prelude.{Seen, slots};
 ghost use Rattle.q_blocked.specs.Learned.{IsRightFor};
 
 use crate::cover::fits_cover;
+use crate::needed::leave_out;
 use crate::replay::Step;
 use crate::search::Search;
 use q_kernel::{ClauseId, Kernel};
@@ -20,14 +21,22 @@ impl Search {
         self.rows.forget();
     }
 
-    /// Whether a clause is covered. What is learned of the kernel serves for the next question on the same one.
+    /// Whether a clause is covered. What is learned of the kernel serves for the next question on the same one. Of the steps those stay
+    /// on which the end rests.
     pub fn covers(&mut self, kernel: &Kernel, c: ClauseId) -> Result<bool, NoMemory>
         requires { IsRightFor kernel.now self.old }
         ensures yes { IfOk result (λ yes.
             (B : Bounds) → IsTrue yes ↔ Fits B kernel.now.prefix (slots kernel.now) (cover c)) }
         ensures right { IsRightFor kernel.now self.new }
     {
-        fits_cover(kernel, self, c)
+        let yes = fits_cover(kernel, self, c);
+        leave_out(
+            kernel,
+            &self.growth.set,
+            &mut self.growth.steps,
+            &mut self.needed,
+        );
+        yes
     }
 
     /// The steps of the last growth. Where it ended, they are a hint for another search that tests the same clause.

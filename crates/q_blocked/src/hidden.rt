@@ -7,6 +7,7 @@ ghost use Rattle.q_snapshot.specs.Rows.{AreRowsOf};
 ghost use Rattle.q_blocked.specs.Units.{HasUnits};
 ghost use Rattle.q_blocked.specs.Growths.{Growing, HasSpread, HasClosed, HasUsedUnits};
 
+use crate::around::spread_next;
 use crate::growth::Growth;
 use crate::nothing_hidden::gives_none;
 use crate::progress::Progress;
@@ -134,8 +135,8 @@ pub(crate) fn take_hidden(
     Ok(ended)
 }
 
-// Grows by the hidden literals that the clauses with a literal of the set give: by its row, where that was made.
-fn spread(
+/// Grows by the hidden literals that the clauses with a literal of the set give: by its row, where that was made.
+pub(crate) fn spread(
     kernel: &Kernel,
     growth: &mut Growth,
     rows: &mut Rows,
@@ -155,8 +156,8 @@ fn spread(
     }
 }
 
-// The same where the row was not made yet.
-fn spread_anew(
+/// The same where the row was not made yet.
+pub(crate) fn spread_anew(
     kernel: &Kernel,
     growth: &mut Growth,
     rows: &mut Rows,
@@ -195,7 +196,8 @@ fn spread_list(kernel: &Kernel, growth: &mut Growth, c: ClauseId, k: Lit) -> Res
 }
 
 /// Grows by all hidden literals but those of clauses of one literal. The list of each literal is walked once, however
-/// the set grows: a clause gives nothing new until one of its literals comes. Yes where the growth ends.
+/// the set grows: a clause gives nothing new until one of its literals comes. A long one is gone around (`around.rt`). Yes where the
+/// growth ends.
 pub fn close(
     kernel: &Kernel,
     growth: &mut Growth,
@@ -209,7 +211,7 @@ pub fn close(
 {
     while growth.worked < growth.set.len() {
         let k = growth.set.at(growth.worked);
-        if spread(kernel, growth, rows, c, k)? {
+        if spread_next(kernel, growth, rows, c, k)? {
             return Ok(true);
         }
         growth.worked += 1;

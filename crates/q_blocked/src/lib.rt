@@ -1,6 +1,7 @@
 //! Blocked and covered clauses, and universal literals on which a clause is blocked.
 #![tactic(auto)]
 
+mod around;
 mod asking;
 mod blocked;
 mod clashing;
@@ -11,6 +12,7 @@ mod dispatch;
 mod find;
 mod growth;
 mod hidden;
+mod needed;
 mod nothing_hidden;
 mod pairs;
 mod plan;

@@ -5,6 +5,7 @@ ghost use Rattle.q_blocked.specs.Targets.{target_of};
 use crate::dispatch::{fits, take};
 use crate::find::find_from;
 use crate::growth::Growth;
+use crate::needed::Needed;
 use crate::replay::Hint;
 use crate::room::reserve;
 use crate::search::Search;
@@ -29,6 +30,7 @@ impl Rules for Search {
             hint: Hint::new(alloc),
             units: Units::new(alloc),
             rows: Rows::new(alloc),
+            needed: Needed::new(alloc),
             larger: Vec::new(alloc),
         }
     }

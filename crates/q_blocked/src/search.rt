@@ -1,5 +1,6 @@
 //! What searches lend each other.
 use crate::growth::Growth;
+use crate::needed::Needed;
 use crate::replay::Hint;
 use crate::units::Units;
 use q_logic::Lit;
@@ -16,6 +17,8 @@ pub struct Search {
     pub(crate) units: Units,
     /// The clauses that hold a literal, where many clauses were tested.
     pub(crate) rows: Rows,
+    /// Room for the steps on which a growth rests.
+    pub(crate) needed: Needed,
     /// Room for the larger clauses of a plan.
     pub(crate) larger: Vec<Lit>,
 }

@@ -2,8 +2,10 @@
 ghost use Rattle.std.specs.Prelude.{◌≡◌, ◌≢◌, ◌↔◌, true, IfOk, IsTrue};
 ghost use Rattle.q_logic.specs.Prelude.{Literal, negation, Clause, IsIn, IsTautology, others};
 ghost use Rattle.q_kernel.specs.Prelude.{slots};
-ghost use Rattle.q_snapshot.specs.Rows.{IsEntry, IsRow};
+ghost use Rattle.q_snapshot.specs.declared.entry.Entry.{Entry};
+ghost use Rattle.q_snapshot.specs.Rows.{IsEntry, IsRow, IsPairWith, IsPairRow};
 ghost use Rattle.q_blocked.specs.Walks.{IsBeside, GivesNone};
+ghost use Rattle.q_blocked.specs.Around.{IsAmong};
 ghost use Rattle.q_blocked.specs.Growths.{Growing, HasSpread};
 
 use crate::growth::Growth;
@@ -54,11 +56,32 @@ fn take_entry(
     Ok(ended)
 }
 
-/// Grows by the hidden literals that the clauses of the row of a literal give.
+// Grows by the hidden literals that the clauses of entries give.
 // Hot: this loop is most of what a covered clause costs. An entry is one step in a row and the marks of two literals, and
 // mostly says that the clause gives nothing, so that neither the clause nor its slot is met. Tried before: the lists of the
 // kernel, where each step waits for a link, an owner, a slot and a word; some 40 instructions a visit in place of some 20. Looking
 // for negations before literals outside took half as many again; reading the clauses of two literals, twice as long for each of them.
+fn spread_entries(
+    kernel: &Kernel,
+    growth: &mut Growth,
+    c: ClauseId,
+    k: Lit,
+    entries: &[Entry],
+) -> Result<bool, NoMemory>
+    requires growing { Growing kernel.now c growth.old }
+    requires each { (e : Entry) → IsIn e entries.now → IsEntry kernel.now k e }
+    ensures { IfOk result (HasSpread kernel.now c (IsAmong (slots kernel.now) c entries.now) growth.old
+        growth.new) }
+{
+    for entry in entries {
+        if take_entry(kernel, growth, c, k, entry)? {
+            return Ok(true);
+        }
+    }
+    Ok(false)
+}
+
+/// Grows by the hidden literals that the clauses of the row of a literal give.
 pub fn spread_row(
     kernel: &Kernel,
     growth: &mut Growth,
@@ -71,10 +94,23 @@ pub fn spread_row(
     ensures { IfOk result (HasSpread kernel.now c (λ E.
         IsIn E (others c (slots kernel.now)) × IsIn k E) growth.old growth.new) }
 {
-    for entry in row {
-        if take_entry(kernel, growth, c, k, entry)? {
-            return Ok(true);
-        }
-    }
-    Ok(false)
+    let ended = spread_entries(kernel, growth, c, k, row)?;
+    Ok(ended)
+}
+
+/// The same for those of them that have at most one other literal.
+pub fn spread_pairs(
+    kernel: &Kernel,
+    growth: &mut Growth,
+    c: ClauseId,
+    k: Lit,
+    pairs: &[Entry],
+) -> Result<bool, NoMemory>
+    requires growing { Growing kernel.now c growth.old }
+    requires pairs { IsPairRow kernel.now k pairs.now }
+    ensures { IfOk result (HasSpread kernel.now c (λ E.
+        IsIn E (others c (slots kernel.now)) × IsIn k E × IsPairWith k E) growth.old growth.new) }
+{
+    let ended = spread_entries(kernel, growth, c, k, pairs)?;
+    Ok(ended)
 }

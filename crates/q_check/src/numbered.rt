@@ -106,17 +106,18 @@ impl NumberedBook {
         self.ledger.is_reducible(at, clause, lit)
     }
 
-    /// Whether the first literal blocks the clause, over the clauses of all numbers but one: each resolvent is a tautology.
-    /// Takes no propagation.
-    pub fn is_blocked(&self, skip: Option<usize>, named: &Named) -> bool
-        requires within { Within self.now.prefix named.now.clause.now }
+    /// Whether the first literal is an evident pivot of the clause, over the clauses of all numbers but one: each resolvent is a
+    /// tautology or stands there. Takes no propagation, and is asked only where few clauses hold the opposite literal.
+    pub fn is_evident(&mut self, skip: Option<usize>, named: &Named) -> Result<bool, NoMemory>
+        requires within { Within self.old.prefix named.now.clause.now }
         requires first { IsFirst named.now.first named.now.clause.now }
-        ensures { IsTrue result →
-            IsWarranted self.now.prefix (live (left_out skip self.now.slots)) named.now.clause.now
-            named.now.first }
+        ensures same { self.new ≡ self.old }
+        ensures warranted { IfOk result (λ yes. IsTrue yes →
+            IsWarranted self.old.prefix (live (left_out skip self.old.slots)) named.now.clause.now
+            named.now.first) }
     {
         let left_out = skipped_slot(&self.numbers, skip);
-        self.ledger.is_blocked(left_out, named.clause, &named.first)
+        self.ledger.is_evident(left_out, named.clause, named.first)
     }
 
     /// Whether the literals are implied by propagation, over the clauses of all numbers but one; and hints that show it.

@@ -102,9 +102,9 @@ fn by_pivot(
     Ok(None)
 }
 
-// The same where the clause looks blocked. That is a guess alone: a pivot whose resolvents are tautologies needs neither
-// propagation nor hints.
-fn by_block(
+// The same where the pivot is evident. That is a guess alone: resolvents that are tautologies need no hints, and those that stand there
+// need one each.
+fn by_evident_pivot(
     book: &mut NumberedBook,
     rows: &mut HintRows,
     skip: Option<usize>,
@@ -117,7 +117,7 @@ fn by_block(
         × Shows book.old.prefix (left_out skip book.old.slots) named.now.clause.now named.now.first
         t)) }
 {
-    if book.is_blocked(skip, named) {
+    if book.is_evident(skip, named)? {
         return by_pivot(book, rows, skip, named);
     }
     Ok(None)
@@ -136,7 +136,7 @@ pub fn show(
     ensures shown { IsShown book.old.prefix (left_out skip book.old.slots)
         named.now.clause.now named.now.first (number_in skip) result }
 {
-    if let Some(proof) = by_block(book, rows, skip, named)? {
+    if let Some(proof) = by_evident_pivot(book, rows, skip, named)? {
         return Ok(proof);
     }
     if book.explained(named.clause, skip, &mut rows.hints)? {

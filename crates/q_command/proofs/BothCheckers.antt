@@ -1,9 +1,9 @@
 -- The checkers of both profiles, step by step, and their ends.
 use Rattle.std.proofs.Common.{◌≡◌, inl, inr, ◌<◌, ◌==◌, ◌∙◌, refl, sym, ap, subst, arith, ℕ, Bool, true, false, List, [], ◌∷◌, ◌++◌, map, length, append-nil, length-append, Option, Some, None, Result, Ok, Err, IfOk, IfErr, OnOk, IsSome, IsSomeAnd, is_some}
 use Rattle.std.proofs.lemmas.Bool.Decides.{nat_tests}
-use Rattle.q_logic.specs.Prelude.{PrenexFormula, Prefix, Matrix, Hinted, HintedSteps, HintedValid, HintedCause, NumberedFormula, ProofPart, begun, plain, strip, hinted_after, standard, numbered, blocks, SameBlocks, ValidSteps, SameFormula, AreAlike, ProofStep, Valid, Cause, after, UndoEntry, Undos}
+use Rattle.q_logic.specs.Prelude.{PrenexFormula, Prefix, Matrix, Hinted, HintedSteps, HintedValid, HintedCause, NumberedFormula, ProofPart, begun, plain, strip, hinted_after, standard, numbered, blocks, SameBlocks, SameFormula, AreAlike, ProofStep, Valid, Cause, after, UndoEntry, Undos}
 use Rattle.q_logic.specs.declared.limits.Limits.{Limits}
-use Rattle.q_logic.proofs.Common.{alike_itself, alike_swapped, alike_cause, live-numbered}
+use Rattle.q_logic.proofs.Common.{alike_itself, alike_swapped, live-numbered}
 use Rattle.q_logic.proofs.HintedRuns.{hinted-valid, hinted-after}
 use Rattle.q_hinted.specs.Logs.{Entry as BothEntry, plain_entry, hinted_entry, hinted_in}
 use Rattle.q_judge.specs.Tried.{IsEndRefusal}
@@ -12,13 +12,18 @@ use Rattle.q_judge.specs.declared.error.CheckError.TheVariants.{Refused, NoMemor
 use Rattle.q_check.specs.declared.checker.Verified.{Verified}
 use Rattle.q_check.specs.Alike.{Leads}
 use Rattle.q_check.specs.Checked.{Checked, HasGrown, IsRefusal}
+use Rattle.q_check.specs.Replays.{IsUnfitFor}
 use Rattle.q_check.specs.HintChecks.{HintChecked, IsHintRefusal}
 use Rattle.q_check.proofs.CheckerRuns.{leads_begin, leads_more, leads_undos}
+use Rattle.q_same_steps.specs.Making.{Applies, Unfit, made}
+use Rattle.q_shares.specs.Shares.{Share, AreMade, ShareRun, judged}
+use Rattle.q_command.specs.Parts.{IsWhole}
 use Rattle.q_command.specs.Logs.{Entry, HintedEntry, steps_of, hinted_of, EndsApart}
-use Rattle.q_command.specs.Judging.{AreBehind, ArePure, IsMade, SameTask, IsBehindPlain, IsBehindHinted, HasTakenPlain, HasTakenHinted, IsBadPlain, IsBadHinted, HavePassedPlain, HaveEndedPlain, HaveStoppedPlain, HavePassed, HaveStopped, Leaves, plain_in, bare}
-use Rattle.q_command.specs.LazyCheckers.{IsHeld, first_in, IsReadyPlain, IsReadyHinted, IsNewPlain, new_hinted, HasSteppedPlain, HasSteppedHinted, IsEndedPlain, IsEndedHinted, hints_taken}
+use Rattle.q_command.specs.Judging.{AreBehind, ArePure, IsFree, IsMade, LeadsMade, SameTask, IsBehindPlain, IsBehindHinted, HasTakenPlain, HasTakenHinted, IsBadPlain, IsBadHinted, HavePassedPlain, HaveEndedPlain, HaveStoppedPlain, HavePassed, HaveStopped, Leaves, plain_in, bare}
+use Rattle.q_command.specs.LazyCheckers.{IsHeld, first_in, IsReadyPlain, IsReadyHinted, IsNewPlain, IsSteppedPlain, KeepsNone, new_hinted, HasSteppedPlain, HasSteppedHinted, IsEndedPlain, IsEndedHinted, hints_taken}
 use Rattle.q_command.specs.declared.judges.Judges.{Judges}
-use Rattle.q_command.proofs.LogEntries.{plain_in-append, hinted_in-append, steps_of-append, hinted_of-append, strip-append, hinted_in-plain, bare-plain, bare-hinted, stripped-steps, only-plain}
+use Rattle.q_command.proofs.SharedSteps.{judged-cause, made_begin, made_more, whole-leads}
+use Rattle.q_command.proofs.LogEntries.{steps_of-length, plain_in-append, hinted_in-append, steps_of-append, hinted_of-append, strip-append, hinted_in-plain, bare-plain, bare-hinted, stripped-steps, only-plain}
 
 pub plain-begun : (F : PrenexFormula) → plain (begun F) ≡ F
 plain-begun F = ap (λ (X : Matrix). let G : PrenexFormula = record { prefix = F.prefix; matrix = X } in G) (live-numbered F.matrix)
@@ -28,45 +33,56 @@ pub grown-plain : (keep : Bool) (F G : PrenexFormula) (ss : List ProofStep) (s :
 grown-plain true F G ss s old new l u g k = subst (λ (us : List UndoEntry). Undos F (ss ++ s ∷ []) us) (sym g.2) (leads_undos standard F ss G s old g.0 l (u k) g.1)
 grown-plain false F G ss s old new l u g k = cc
 
-more-plain : (keep : Bool) (F : PrenexFormula) (ps : List Entry) (n : ℕ) (s : ProofStep) (G : PrenexFormula) (old : List UndoEntry) (new : Checked) → Leads standard F (steps_of ps) G → (keep ≡ true → Undos F (steps_of ps) old) → new.limits ≡ standard → new.keeps ≡ keep → Valid standard G s → AreAlike (after G s) new.formula → HasGrown keep G s old new.undo → HasTakenPlain keep F (ps ++ (n, s) ∷ []) new
-more-plain keep F ps n s G old new l u m k v a g =
+-- what the checker's answer says of the step, where the share tells whether it is judged
+abbrev Fits : Share → List Entry → PrenexFormula → ProofStep → Type 0
+Fits j ps G s = judged (j (length ps)) (Valid standard G s) (Applies standard G s)
+
+more-plain : (keep : Bool) (j : Share) (F : PrenexFormula) (ps : List Entry) (n : ℕ) (s : ProofStep) (G : PrenexFormula) (old : List UndoEntry) (new : Checked) → LeadsMade j F (steps_of ps) G → (keep ≡ true → IsWhole j → Undos F (steps_of ps) old) → new.limits ≡ standard → new.keeps ≡ keep → Fits j ps G s → AreAlike (after G s) new.formula → (j (length ps) ≡ true → HasGrown keep G s old new.undo) → HasTakenPlain keep j F (ps ++ (n, s) ∷ []) new
+more-plain keep j F ps n s G old new l u m k v a g =
     let e : steps_of (ps ++ (n, s) ∷ []) ≡ steps_of ps ++ s ∷ [] = steps_of-append ps ((n, s) ∷ []) in
+    let v' : judged (j (length (steps_of ps))) (Valid standard G s) (Applies standard G s) = subst (λ (i : ℕ). judged (j i) (Valid standard G s) (Applies standard G s)) (sym (steps_of-length ps)) v in
     record {
       some = omega (arith, length-append ps ((n, s) ∷ []));
       limits = m;
       keeps = k;
-      leads = subst (λ (ss : List ProofStep). Leads standard F ss new.formula) (sym e) (leads_more standard F (steps_of ps) G new.formula s l v a);
-      undone = λ t. subst (λ (ss : List ProofStep). Undos F ss new.undo) (sym e) (grown-plain keep F G (steps_of ps) s old new.undo l u g t);
+      leads = subst (λ (ss : List ProofStep). LeadsMade j F ss new.formula) (sym e) (made_more j F (steps_of ps) G new.formula s l v' a);
+      undone = λ t w. subst (λ (ss : List ProofStep). Undos F ss new.undo) (sym e)
+          (grown-plain keep F G (steps_of ps) s old new.undo (whole-leads j F (steps_of ps) G w l) (λ x. u x w) (g (w (length ps))) t);
     }
 
 -- by the checker that is there
-pub plain-goes-on : (keep : Bool) (F : PrenexFormula) (ps : List Entry) (n : ℕ) (s : ProofStep) (old new : Checked) → HasTakenPlain keep F ps old → Valid old.limits old.formula s → AreAlike (after old.formula s) new.formula → HasGrown old.keeps old.formula s old.undo new.undo → new.limits ≡ old.limits → new.keeps ≡ old.keeps → HasTakenPlain keep F (ps ++ (n, s) ∷ []) new
-plain-goes-on keep F ps n s old new h v a g m k =
-    more-plain keep F ps n s old.formula old.undo new h.leads h.undone (m ∙ h.limits) (k ∙ h.keeps)
-    (subst (λ (x : Limits). Valid x old.formula s) h.limits v) a (subst (λ (b : Bool). HasGrown b old.formula s old.undo new.undo) h.keeps g)
+plain-goes-on : (keep : Bool) (j : Share) (F : PrenexFormula) (ps : List Entry) (n : ℕ) (s : ProofStep) (t : Bool) (u : Unit) (old new : Checked) → t ≡ j (length ps) → HasTakenPlain keep j F ps old → IsSteppedPlain s t (Ok u) old new → HasTakenPlain keep j F (ps ++ (n, s) ∷ []) new
+plain-goes-on keep j F ps n s t u old new q h r =
+    more-plain keep j F ps n s old.formula old.undo new h.leads h.undone (r.limits ∙ h.limits) (r.keeps ∙ h.keeps)
+    (subst (λ (x : Limits). judged (j (length ps)) (Valid x old.formula s) (Applies x old.formula s)) h.limits
+    (subst (λ (b : Bool). judged b (Valid old.limits old.formula s) (Applies old.limits old.formula s)) q r.valid))
+    r.after (λ w. subst (λ (b : Bool). HasGrown b old.formula s old.undo new.undo) h.keeps (r.undo (q ∙ w)))
 
-pub plain-wrong : (keep : Bool) (F : PrenexFormula) (ps : List Entry) (s : ProofStep) (c : Checked) (e : CheckError) → HasTakenPlain keep F ps c → IsRefusal c.limits c.formula s e → IsBadPlain F ps s e
-plain-wrong keep F ps s c (Refused n) h r = record {
-  last = h.leads.last;
-  steps = h.leads.steps;
-  cause = alike_cause standard c.formula h.leads.last s n (alike_swapped h.leads.last c.formula h.leads.alike) (subst (λ (x : Limits). Cause x c.formula s n) h.limits r);
+-- a refusal, as it is said of a formula
+refused-plain : (b : Bool) (j : Share) (F : PrenexFormula) (ps : List Entry) (s : ProofStep) (c : Checked) (e : CheckError) → b ≡ j (length ps) → c.limits ≡ standard → LeadsMade j F (steps_of ps) c.formula → judged b (IsRefusal c.limits c.formula s e) (IsUnfitFor c.limits c.formula s e) → IsBadPlain j F ps s e
+refused-plain b j F ps s c (Refused n) q m l r = record {
+  steps = l.steps;
+  cause = subst (λ (x : Bool). judged x (Cause standard (made F (steps_of ps)) s n) (Unfit standard (made F (steps_of ps)) s n)) q
+      (judged-cause b standard c.formula (made F (steps_of ps)) s n (alike_swapped (made F (steps_of ps)) c.formula l.alike)
+      (subst (λ (x : Limits). judged b (Cause x c.formula s n) (Unfit x c.formula s n)) m (of-refused b r)));
 }
-plain-wrong keep F ps s c NoMemory h r = tt
+  where
+    of-refused : (b : Bool) → judged b (IsRefusal c.limits c.formula s (Refused n)) (IsUnfitFor c.limits c.formula s (Refused n)) → judged b (Cause c.limits c.formula s n) (Unfit c.limits c.formula s n)
+    of-refused true h = h
+    of-refused false h = h
+refused-plain b j F ps s c NoMemory q m l r = tt
 
 -- by a checker that was made for it
-pub plain-begins : (keep : Bool) (F : PrenexFormula) (ps : List Entry) (n : ℕ) (s : ProofStep) (first new : Checked) → ps ≡ [] → AreAlike F first.formula × (first.undo ≡ []) × (first.limits ≡ standard) × (first.keeps ≡ keep) → Valid first.limits first.formula s → AreAlike (after first.formula s) new.formula → HasGrown first.keeps first.formula s first.undo new.undo → new.limits ≡ first.limits → new.keeps ≡ first.keeps → HasTakenPlain keep F (ps ++ (n, s) ∷ []) new
-plain-begins keep F ps n s first new z (a, u, m, k) v b g p q =
-    subst (λ (xs : List Entry). HasTakenPlain keep F (xs ++ (n, s) ∷ []) new) (sym z)
-    (more-plain keep F [] n s first.formula first.undo new (leads_begin standard F first.formula a) (λ t. u) (p ∙ m) (q ∙ k)
-    (subst (λ (x : Limits). Valid x first.formula s) m v) b (subst (λ (t : Bool). HasGrown t first.formula s first.undo new.undo) k g))
+plain-begins : (keep : Bool) (j : Share) (F : PrenexFormula) (ps : List Entry) (n : ℕ) (s : ProofStep) (t : Bool) (u : Unit) (first new : Checked) → t ≡ j (length ps) → ps ≡ [] → IsNewPlain keep F first → IsSteppedPlain s t (Ok u) first new → HasTakenPlain keep j F (ps ++ (n, s) ∷ []) new
+plain-begins keep j F ps n s t u first new q z h r =
+    subst (λ (xs : List Entry). HasTakenPlain keep j F (xs ++ (n, s) ∷ []) new) (sym z)
+    (more-plain keep j F [] n s first.formula first.undo new (made_begin j F first.formula h.alike) (λ x w. h.undo) (r.limits ∙ h.limits) (r.keeps ∙ h.keeps)
+    (subst (λ (x : Limits). judged (j 0) (Valid x first.formula s) (Applies x first.formula s)) h.limits
+    (subst (λ (b : Bool). judged b (Valid first.limits first.formula s) (Applies first.limits first.formula s)) (q ∙ ap (λ (xs : List Entry). j (length xs)) z) r.valid))
+    r.after (λ w. subst (λ (b : Bool). HasGrown b first.formula s first.undo new.undo) h.keeps (r.undo ((q ∙ ap (λ (xs : List Entry). j (length xs)) z) ∙ w))))
 
-pub plain-wrong-first : (F : PrenexFormula) (ps : List Entry) (s : ProofStep) (c : Checked) (e : CheckError) → ps ≡ [] → AreAlike F c.formula → c.limits ≡ standard → IsRefusal c.limits c.formula s e → IsBadPlain F ps s e
-plain-wrong-first F ps s c (Refused n) z a m r = record {
-  last = F;
-  steps = subst (λ (xs : List Entry). ValidSteps standard F (steps_of xs) F) (sym z) refl;
-  cause = alike_cause standard c.formula F s n (alike_swapped F c.formula a) (subst (λ (x : Limits). Cause x c.formula s n) m r);
-}
-plain-wrong-first F ps s c NoMemory z a m r = tt
+begun-plain : (j : Share) (F : PrenexFormula) (ps : List Entry) (c : Checked) → ps ≡ [] → AreAlike F c.formula → LeadsMade j F (steps_of ps) c.formula
+begun-plain j F ps c z a = subst (λ (xs : List Entry). LeadsMade j F (steps_of xs) c.formula) (sym z) (made_begin j F c.formula a)
 
 -- one step with its proof part more
 steps-more : (N M : NumberedFormula) (hs : List Hinted) (h : Hinted) (E : NumberedFormula) → HintedSteps standard N hs M → HintedValid standard M h.step h.proof → E ≡ hinted_after M h.step h.proof → HintedSteps standard N (hs ++ h ∷ []) E
@@ -126,28 +142,28 @@ hinted-wrong-first keep F hs s t c (Refused n) z q r = record {
 hinted-wrong-first keep F hs s t c NoMemory z q r = tt
 
 -- a step goes to the checker of its profile
-pub behind-plain : (F : PrenexFormula) (old new : Judges) (es : List BothEntry) (n : ℕ) (s : ProofStep) → ((ps : List Entry) → (line : ℕ) → IsBehindPlain old.keeps_undo F ps old.plain → IsBehindPlain old.keeps_undo F (ps ++ (line, s) ∷ []) new.plain) → IsHeld F new.origin → SameTask old new → new.hinted ≡ old.hinted → AreBehind F old es → AreBehind F new (es ++ (n, s, None) ∷ [])
-behind-plain F old new es n s f held same h b =
-    let p : IsBehindPlain old.keeps_undo F (plain_in es ++ (n, s) ∷ []) new.plain = f (plain_in es) n b.plain in
-    let q : IsBehindPlain old.keeps_undo F (plain_in (es ++ (n, s, None) ∷ [])) new.plain = subst (λ (ps : List Entry). IsBehindPlain old.keeps_undo F ps new.plain) (sym (plain_in-append es ((n, s, None) ∷ []))) p in
+pub behind-plain : (d : Share) (F : PrenexFormula) (old new : Judges) (es : List BothEntry) (n : ℕ) (s : ProofStep) → (IsBehindPlain old.keeps_undo d F (plain_in es) old.plain → IsBehindPlain old.keeps_undo d F (plain_in es ++ (n, s) ∷ []) new.plain) → IsHeld F new.origin → SameTask old new → new.hinted ≡ old.hinted → AreBehind d F old es → AreBehind d F new (es ++ (n, s, None) ∷ [])
+behind-plain d F old new es n s f held same h b =
+    let p : IsBehindPlain old.keeps_undo d F (plain_in es ++ (n, s) ∷ []) new.plain = f b.plain in
+    let q : IsBehindPlain old.keeps_undo d F (plain_in (es ++ (n, s, None) ∷ [])) new.plain = subst (λ (ps : List Entry). IsBehindPlain old.keeps_undo d F ps new.plain) (sym (plain_in-append es ((n, s, None) ∷ []))) p in
     let i : hinted_in (es ++ (n, s, None) ∷ []) ≡ hinted_in es = hinted_in-append es ((n, s, None) ∷ []) ∙ append-nil (hinted_in es) in
     let j : IsBehindHinted old.keeps_undo F (hinted_in (es ++ (n, s, None) ∷ [])) new.hinted = subst (λ (o : Option HintChecked). IsBehindHinted old.keeps_undo F (hinted_in (es ++ (n, s, None) ∷ [])) o) (sym h) (subst (λ (hs : List HintedEntry). IsBehindHinted old.keeps_undo F hs old.hinted) (sym i) b.hinted) in
     record {
       origin = held;
-      plain = subst (λ (k : Bool). IsBehindPlain k F (plain_in (es ++ (n, s, None) ∷ [])) new.plain) (sym same.keeps) q;
+      plain = subst (λ (k : Bool). IsBehindPlain k d F (plain_in (es ++ (n, s, None) ∷ [])) new.plain) (sym same.keeps) q;
       hinted = subst (λ (k : Bool). IsBehindHinted k F (hinted_in (es ++ (n, s, None) ∷ [])) new.hinted) (sym same.keeps) j;
     }
 
-pub behind-hinted : (F : PrenexFormula) (old new : Judges) (es : List BothEntry) (n : ℕ) (s : ProofStep) (t : ProofPart) → ((hs : List HintedEntry) → (line : ℕ) → IsBehindHinted old.keeps_undo F hs old.hinted → IsBehindHinted old.keeps_undo F (hs ++ (line, record { step = s; proof = t }) ∷ []) new.hinted) → IsHeld F new.origin → SameTask old new → new.plain ≡ old.plain → AreBehind F old es → AreBehind F new (es ++ (n, s, Some t) ∷ [])
-behind-hinted F old new es n s t f held same h b =
+pub behind-hinted : (d : Share) (F : PrenexFormula) (old new : Judges) (es : List BothEntry) (n : ℕ) (s : ProofStep) (t : ProofPart) → ((hs : List HintedEntry) → (line : ℕ) → IsBehindHinted old.keeps_undo F hs old.hinted → IsBehindHinted old.keeps_undo F (hs ++ (line, record { step = s; proof = t }) ∷ []) new.hinted) → IsHeld F new.origin → SameTask old new → new.plain ≡ old.plain → AreBehind d F old es → AreBehind d F new (es ++ (n, s, Some t) ∷ [])
+behind-hinted d F old new es n s t f held same h b =
     let more : List BothEntry = es ++ (n, s, Some t) ∷ [] in
     let p : IsBehindHinted old.keeps_undo F (hinted_in es ++ (n, record { step = s; proof = t }) ∷ []) new.hinted = f (hinted_in es) n b.hinted in
     let q : IsBehindHinted old.keeps_undo F (hinted_in more) new.hinted = subst (λ (hs : List HintedEntry). IsBehindHinted old.keeps_undo F hs new.hinted) (sym (hinted_in-append es ((n, s, Some t) ∷ []))) p in
     let i : plain_in more ≡ plain_in es = plain_in-append es ((n, s, Some t) ∷ []) ∙ append-nil (plain_in es) in
-    let j : IsBehindPlain old.keeps_undo F (plain_in more) new.plain = subst (λ (o : Option Checked). IsBehindPlain old.keeps_undo F (plain_in more) o) (sym h) (subst (λ (ps : List Entry). IsBehindPlain old.keeps_undo F ps old.plain) (sym i) b.plain) in
+    let j : IsBehindPlain old.keeps_undo d F (plain_in more) new.plain = subst (λ (o : Option Checked). IsBehindPlain old.keeps_undo d F (plain_in more) o) (sym h) (subst (λ (ps : List Entry). IsBehindPlain old.keeps_undo d F ps old.plain) (sym i) b.plain) in
     record {
       origin = held;
-      plain = subst (λ (k : Bool). IsBehindPlain k F (plain_in more) new.plain) (sym same.keeps) j;
+      plain = subst (λ (k : Bool). IsBehindPlain k d F (plain_in more) new.plain) (sym same.keeps) j;
       hinted = subst (λ (k : Bool). IsBehindHinted k F (hinted_in more) new.hinted) (sym same.keeps) q;
     }
 
@@ -178,6 +194,31 @@ filled-plain-some keep o old new h =
     let p : (F : PrenexFormula) × IsHeld F o = some-held o in
     ready-plain-some keep p.0 old new (h p.0 p.1)
 
+-- an undo list that isn't kept stays so
+ready-plain-none : (keep : Bool) (F : PrenexFormula) (old new : Option Checked) → IsReadyPlain keep F old new → keep ≡ false → KeepsNone old → KeepsNone new
+ready-plain-none keep F (Some c) new h e k = subst (λ (o : Option Checked). KeepsNone o) (sym h) k
+ready-plain-none keep F None (Some c) h e k = h.keeps ∙ e
+ready-plain-none keep F None None h e k = absurd h
+
+pub filled-plain-none : (j : Judges) (new : Option Checked) → ((F : PrenexFormula) → IsHeld F j.origin → IsReadyPlain j.keeps_undo F j.plain new) → IsFree j → KeepsNone new
+filled-plain-none j new h f =
+    let p : (F : PrenexFormula) × IsHeld F j.origin = some-held j.origin in
+    ready-plain-none j.keeps_undo p.0 j.plain new (h p.0 p.1) f.keeps f.plain
+
+pub stepped-none : (s : ProofStep) (t : Bool) (r : Result Unit CheckError) (old new : Option Checked) → HasSteppedPlain s t r old new → KeepsNone old → KeepsNone new
+stepped-none s t r (Some c) (Some d) h k = h.keeps ∙ k
+stepped-none s t r (Some c) None h k = absurd h
+stepped-none s t r None new h k = absurd h
+
+-- and behind a step, of either profile
+pub free_after : (j k : Judges) (mid : Option Checked) (s : ProofStep) (t : Bool) (r : Result Unit CheckError) → ((F : PrenexFormula) → IsHeld F j.origin → IsReadyPlain j.keeps_undo F j.plain mid) → HasSteppedPlain s t r mid k.plain → k.keeps_undo ≡ j.keeps_undo → OnOk r (IsFree j → IsFree k)
+free_after j k mid s t (Ok u) h b e = λ f. record { keeps = e ∙ f.keeps; plain = stepped-none s t (Ok u) mid k.plain b (filled-plain-none j mid h f) }
+free_after j k mid s t (Err w) h b e = tt
+
+pub free_beside : (j k : Judges) (r : Result Unit CheckError) → SameTask j k → k.plain ≡ j.plain → OnOk r (IsFree j → IsFree k)
+free_beside j k (Ok u) s p = λ f. record { keeps = s.keeps ∙ f.keeps; plain = subst (λ (o : Option Checked). KeepsNone o) (sym p) f.plain }
+free_beside j k (Err w) s p = tt
+
 pub filled-hinted-some : (keep : Bool) (o : Option PrenexFormula) (old new : Option HintChecked) → ((F : PrenexFormula) → IsHeld F o → IsReadyHinted keep F old new) → IsSome new
 filled-hinted-some keep o old new h =
     let p : (F : PrenexFormula) × IsHeld F o = some-held o in
@@ -189,30 +230,30 @@ filled-hints keep o old new h =
     ready-hints keep p.0 old new (h p.0 p.1)
 
 -- the answer of the checker that was there, or of one that was made for the step
-goes-on-plain : (keep : Bool) (F : PrenexFormula) (s : ProofStep) (u : Unit) (c : Checked) (new : Option Checked) → HasSteppedPlain s (Ok u) (Some c) new → (ps : List Entry) (line : ℕ) → HasTakenPlain keep F ps c → IsBehindPlain keep F (ps ++ (line, s) ∷ []) new
-goes-on-plain keep F s u c (Some d) k ps line b = plain-goes-on keep F ps line s c d b k.valid k.after k.undo k.limits k.keeps
-goes-on-plain keep F s u c None k ps line b = absurd k
+goes-on-plain : (keep : Bool) (F : PrenexFormula) (s : ProofStep) (t : Bool) (u : Unit) (c : Checked) (new : Option Checked) → HasSteppedPlain s t (Ok u) (Some c) new → (j : Share) (ps : List Entry) (line : ℕ) → t ≡ j (length ps) → HasTakenPlain keep j F ps c → IsBehindPlain keep j F (ps ++ (line, s) ∷ []) new
+goes-on-plain keep F s t u c (Some d) k j ps line q b = plain-goes-on keep j F ps line s t u c d q b k
+goes-on-plain keep F s t u c None k j ps line q b = absurd k
 
-begins-plain : (keep : Bool) (F : PrenexFormula) (s : ProofStep) (u : Unit) (c : Checked) (new : Option Checked) → IsNewPlain keep F c → HasSteppedPlain s (Ok u) (Some c) new → (ps : List Entry) (line : ℕ) → ps ≡ [] → IsBehindPlain keep F (ps ++ (line, s) ∷ []) new
-begins-plain keep F s u c (Some d) h k ps line z = plain-begins keep F ps line s c d z (h.alike, h.undo, h.limits, h.keeps) k.valid k.after k.undo k.limits k.keeps
-begins-plain keep F s u c None h k ps line z = absurd k
+begins-plain : (keep : Bool) (F : PrenexFormula) (s : ProofStep) (t : Bool) (u : Unit) (c : Checked) (new : Option Checked) → IsNewPlain keep F c → HasSteppedPlain s t (Ok u) (Some c) new → (j : Share) (ps : List Entry) (line : ℕ) → t ≡ j (length ps) → ps ≡ [] → IsBehindPlain keep j F (ps ++ (line, s) ∷ []) new
+begins-plain keep F s t u c (Some d) h k j ps line q z = plain-begins keep j F ps line s t u c d q z h k
+begins-plain keep F s t u c None h k j ps line q z = absurd k
 
-pub answer-plain : (keep : Bool) (F : PrenexFormula) (s : ProofStep) (r : Result Unit CheckError) (old mid new : Option Checked) → IsReadyPlain keep F old mid → HasSteppedPlain s r mid new → OnOk r ((ps : List Entry) → (line : ℕ) → IsBehindPlain keep F ps old → IsBehindPlain keep F (ps ++ (line, s) ∷ []) new)
-answer-plain keep F s (Err e) old mid new h k = tt
-answer-plain keep F s (Ok u) (Some c) mid new h k = goes-on-plain keep F s u c new (subst (λ (o : Option Checked). HasSteppedPlain s (Ok u) o new) h k)
-answer-plain keep F s (Ok u) None (Some c) new h k = begins-plain keep F s u c new h k
-answer-plain keep F s (Ok u) None None new h k = absurd h
+pub answer-plain : (keep : Bool) (F : PrenexFormula) (s : ProofStep) (t : Bool) (r : Result Unit CheckError) (old mid new : Option Checked) → IsReadyPlain keep F old mid → HasSteppedPlain s t r mid new → OnOk r ((j : Share) → (ps : List Entry) → (line : ℕ) → t ≡ j (length ps) → IsBehindPlain keep j F ps old → IsBehindPlain keep j F (ps ++ (line, s) ∷ []) new)
+answer-plain keep F s t (Err e) old mid new h k = tt
+answer-plain keep F s t (Ok u) (Some c) mid new h k = goes-on-plain keep F s t u c new (subst (λ (o : Option Checked). HasSteppedPlain s t (Ok u) o new) h k)
+answer-plain keep F s t (Ok u) None (Some c) new h k = begins-plain keep F s t u c new h k
+answer-plain keep F s t (Ok u) None None new h k = absurd h
 
-refuses-plain : (keep : Bool) (F : PrenexFormula) (s : ProofStep) (e : CheckError) (c : Checked) (new : Option Checked) → HasSteppedPlain s (Err e) (Some c) new → IsRefusal c.limits c.formula s e
-refuses-plain keep F s e c (Some d) k = k.refused
-refuses-plain keep F s e c None k = absurd k
+refuses-plain : (s : ProofStep) (t : Bool) (e : CheckError) (c : Checked) (new : Option Checked) → HasSteppedPlain s t (Err e) (Some c) new → judged t (IsRefusal c.limits c.formula s e) (IsUnfitFor c.limits c.formula s e)
+refuses-plain s t e c (Some d) k = k.refused
+refuses-plain s t e c None k = absurd k
 
-pub refusal-plain : (keep : Bool) (F : PrenexFormula) (s : ProofStep) (r : Result Unit CheckError) (old mid new : Option Checked) → IsReadyPlain keep F old mid → HasSteppedPlain s r mid new → IfErr r (λ e. (ps : List Entry) → IsBehindPlain keep F ps old → IsBadPlain F ps s e)
-refusal-plain keep F s (Ok u) old mid new h k = tt
-refusal-plain keep F s (Err e) (Some c) mid new h k = λ ps b.
-    plain-wrong keep F ps s c e b (refuses-plain keep F s e c new (subst (λ (o : Option Checked). HasSteppedPlain s (Err e) o new) h k))
-refusal-plain keep F s (Err e) None (Some c) new h k = λ ps z. plain-wrong-first F ps s c e z h.alike h.limits (refuses-plain keep F s e c new k)
-refusal-plain keep F s (Err e) None None new h k = absurd h
+pub refusal-plain : (keep : Bool) (F : PrenexFormula) (s : ProofStep) (t : Bool) (r : Result Unit CheckError) (old mid new : Option Checked) → IsReadyPlain keep F old mid → HasSteppedPlain s t r mid new → IfErr r (λ e. (j : Share) → (ps : List Entry) → t ≡ j (length ps) → IsBehindPlain keep j F ps old → IsBadPlain j F ps s e)
+refusal-plain keep F s t (Ok u) old mid new h k = tt
+refusal-plain keep F s t (Err e) (Some c) mid new h k = λ j ps q b.
+    refused-plain t j F ps s c e q b.limits b.leads (refuses-plain s t e c new (subst (λ (o : Option Checked). HasSteppedPlain s t (Err e) o new) h k))
+refusal-plain keep F s t (Err e) None (Some c) new h k = λ j ps q z. refused-plain t j F ps s c e q h.limits (begun-plain j F ps c z h.alike) (refuses-plain s t e c new k)
+refusal-plain keep F s t (Err e) None None new h k = absurd h
 
 goes-on-hinted : (keep : Bool) (F : PrenexFormula) (s : ProofStep) (t : ProofPart) (u : Unit) (c : HintChecked) (new : Option HintChecked) → HasSteppedHinted s t (Ok u) (Some c) new → (hs : List HintedEntry) (line : ℕ) → HasTakenHinted keep F hs c → IsBehindHinted keep F (hs ++ (line, record { step = s; proof = t }) ∷ []) new
 goes-on-hinted keep F s t u c (Some d) k hs line b = hinted-goes-on keep F hs line s t c d b k.valid k.after k.undo k.limits k.keeps
@@ -239,19 +280,22 @@ refusal-hinted keep F s t (Err e) None mid new h k = λ hs z.
     hinted-wrong-first keep F hs s t (new_hinted keep F) e z refl (refuses-hinted s t e (new_hinted keep F) new (subst (λ (o : Option HintChecked). HasSteppedHinted s t (Err e) o new) h k))
 
 -- want of memory says nothing
-pub memory-plain : (F : PrenexFormula) (s : ProofStep) (e : CheckError) → e ≡ NoMemory → (ps : List Entry) → IsBadPlain F ps s e
-memory-plain F s e z ps = subst (λ (x : CheckError). IsBadPlain F ps s x) (sym z) tt
+pub memory-plain : (j : Share) (F : PrenexFormula) (s : ProofStep) (e : CheckError) → e ≡ NoMemory → (ps : List Entry) → IsBadPlain j F ps s e
+memory-plain j F s e z ps = subst (λ (x : CheckError). IsBadPlain j F ps s x) (sym z) tt
 
 pub memory-hinted : (F : PrenexFormula) (s : ProofStep) (t : ProofPart) (e : CheckError) → e ≡ NoMemory → (hs : List HintedEntry) → IsBadHinted F hs s t e
 memory-hinted F s t e z hs = subst (λ (x : CheckError). IsBadHinted F hs s t x) (sym z) tt
 
 -- before the first step
-pub made-behind : (F : PrenexFormula) (origin : Option PrenexFormula) (keep : Bool) (j : Judges) → IsHeld F origin → IsMade origin keep j → AreBehind F j []
-made-behind F origin keep j held m = record {
+pub made-behind : (d : Share) (F : PrenexFormula) (origin : Option PrenexFormula) (keep : Bool) (j : Judges) → IsHeld F origin → IsMade origin keep j → AreBehind d F j []
+made-behind d F origin keep j held m = record {
   origin = subst (λ (o : Option PrenexFormula). IsHeld F o) (sym m.origin_is) held;
-  plain = subst (λ (o : Option Checked). IsBehindPlain j.keeps_undo F [] o) (sym m.plain) refl;
+  plain = subst (λ (o : Option Checked). IsBehindPlain j.keeps_undo d F [] o) (sym m.plain) refl;
   hinted = subst (λ (o : Option HintChecked). IsBehindHinted j.keeps_undo F [] o) (sym m.hinted) refl;
 }
+
+pub made-free : (origin : Option PrenexFormula) (keep : Bool) (j : Judges) → IsMade origin keep j → keep ≡ false → IsFree j
+made-free origin keep j m e = record { keeps = m.keeps ∙ e; plain = subst (λ (o : Option Checked). KeepsNone o) (sym m.plain) tt }
 
 pub made-hints : (origin : Option PrenexFormula) (keep : Bool) (j : Judges) → IsMade origin keep j → hints_taken j.hinted ≡ 0
 made-hints origin keep j m = ap hints_taken m.hinted
@@ -272,26 +316,24 @@ ends-apart E f G c a (inr (ten, same, apart)) = record {
   why = inr (ten, subst (λ (P : Prefix). SameBlocks (blocks P) (blocks G.prefix)) (sym a.prefix) same);
 }
 
-pub plain-passes : (keep : Bool) (F : PrenexFormula) (ps : List Entry) (c : Checked) (G : PrenexFormula) (us : List UndoEntry) → HasTakenPlain keep F ps c → SameFormula c.formula G → us ≡ c.undo → HavePassedPlain keep F ps G us
-plain-passes keep F ps c G us h s u = record {
-  last = h.leads.last;
-  steps = h.leads.steps;
-  same = same_last h.leads.last c.formula G h.leads.alike s;
-  undone = λ k. subst (λ (vs : List UndoEntry). Undos F (steps_of ps) vs) (sym u) (h.undone k);
+pub plain-passes : (keep : Bool) (j : Share) (F : PrenexFormula) (ps : List Entry) (c : Checked) (G : PrenexFormula) (us : List UndoEntry) → HasTakenPlain keep j F ps c → SameFormula c.formula G → us ≡ c.undo → HavePassedPlain keep j F ps G us
+plain-passes keep j F ps c G us h s u = record {
+  run = record { steps = h.leads.steps; same = same_last (made F (steps_of ps)) c.formula G h.leads.alike s };
+  undone = λ k w. subst (λ (vs : List UndoEntry). Undos F (steps_of ps) vs) (sym u) (h.undone k w);
 }
 
-pub plain-passes-now : (keep : Bool) (F : PrenexFormula) (ps : List Entry) (f G : PrenexFormula) (us : List UndoEntry) → ps ≡ [] → AreAlike F f → SameFormula f G → us ≡ [] → HavePassedPlain keep F ps G us
-plain-passes-now keep F ps f G us z a s u =
-    subst (λ (xs : List Entry). HavePassedPlain keep F xs G us) (sym z) (record { last = F; steps = refl; same = same_last F f G a s; undone = λ k. u })
+pub plain-passes-now : (keep : Bool) (j : Share) (F : PrenexFormula) (ps : List Entry) (f G : PrenexFormula) (us : List UndoEntry) → ps ≡ [] → AreAlike F f → SameFormula f G → us ≡ [] → HavePassedPlain keep j F ps G us
+plain-passes-now keep j F ps f G us z a s u =
+    subst (λ (xs : List Entry). HavePassedPlain keep j F xs G us) (sym z) (record { run = record { steps = tt; same = same_last F f G a s }; undone = λ k w. u })
 
-pub plain-stops : (keep : Bool) (F : PrenexFormula) (ps : List Entry) (c : Checked) (G : PrenexFormula) (e : CheckError) → HasTakenPlain keep F ps c → IsEndRefusal c.formula G e → HaveStoppedPlain F ps G e
-plain-stops keep F ps c G (Refused n) h r = record { last = h.leads.last; steps = h.leads.steps; apart = ends-apart h.leads.last c.formula G n h.leads.alike r }
-plain-stops keep F ps c G NoMemory h r = tt
+pub plain-stops : (keep : Bool) (j : Share) (F : PrenexFormula) (ps : List Entry) (c : Checked) (G : PrenexFormula) (e : CheckError) → HasTakenPlain keep j F ps c → IsEndRefusal c.formula G e → HaveStoppedPlain j F ps G e
+plain-stops keep j F ps c G (Refused n) h r = record { steps = h.leads.steps; apart = ends-apart (made F (steps_of ps)) c.formula G n h.leads.alike r }
+plain-stops keep j F ps c G NoMemory h r = tt
 
-pub plain-stops-now : (F : PrenexFormula) (ps : List Entry) (f G : PrenexFormula) (e : CheckError) → ps ≡ [] → AreAlike F f → IsEndRefusal f G e → HaveStoppedPlain F ps G e
-plain-stops-now F ps f G (Refused n) z a r =
-    subst (λ (xs : List Entry). HaveEndedPlain F xs G n) (sym z) (record { last = F; steps = refl; apart = ends-apart F f G n a r })
-plain-stops-now F ps f G NoMemory z a r = tt
+pub plain-stops-now : (j : Share) (F : PrenexFormula) (ps : List Entry) (f G : PrenexFormula) (e : CheckError) → ps ≡ [] → AreAlike F f → IsEndRefusal f G e → HaveStoppedPlain j F ps G e
+plain-stops-now j F ps f G (Refused n) z a r =
+    subst (λ (xs : List Entry). HaveEndedPlain j F xs G n) (sym z) (record { steps = tt; apart = ends-apart F f G n a r })
+plain-stops-now j F ps f G NoMemory z a r = tt
 
 -- a checker of hints is there only where steps have proof parts, and then all have
 all-hinted-then : (es : List BothEntry) → 0 < length (hinted_in es) → ArePure es → es ≡ map hinted_entry (hinted_in es)
@@ -301,83 +343,90 @@ all-hinted-then es h (inl q) =
     let n : length (hinted_in es) ≡ 0 = ap length z in
     absurd (omega (arith, n, h))
 
-hinted-left : (keep : Bool) (F : PrenexFormula) (es : List BothEntry) (c : HintChecked) → HasTakenHinted keep F (hinted_in es) c → ArePure es → Leaves F es (plain c.formula)
-hinted-left keep F es c h p = inr (record { all = all-hinted-then es h.some p; numbered = c.formula; steps = h.steps; last_is = refl })
+hinted-left : (keep : Bool) (j : Share) (F : PrenexFormula) (es : List BothEntry) (c : HintChecked) → HasTakenHinted keep F (hinted_in es) c → ArePure es → Leaves j F es (plain c.formula)
+hinted-left keep j F es c h p = inr (record { all = all-hinted-then es h.some p; numbered = c.formula; steps = h.steps; last_is = refl })
 
 bare-steps : (es : List BothEntry) → es ≡ map hinted_entry (hinted_in es) → steps_of (bare es) ≡ strip (hinted_of (hinted_in es))
 bare-steps es q = ap (λ (xs : List BothEntry). steps_of (bare xs)) q ∙ (ap steps_of (bare-hinted (hinted_in es)) ∙ stripped-steps (hinted_in es))
 
-pub hinted-passes : (keep : Bool) (F : PrenexFormula) (es : List BothEntry) (c : HintChecked) (G : PrenexFormula) (us : List UndoEntry) → HasTakenHinted keep F (hinted_in es) c → ArePure es → SameFormula (plain c.formula) G → us ≡ c.undo → HavePassed keep F es G us
-hinted-passes keep F es c G us h p s u = record {
+pub hinted-passes : (keep : Bool) (j : Share) (F : PrenexFormula) (es : List BothEntry) (c : HintChecked) (G : PrenexFormula) (us : List UndoEntry) → HasTakenHinted keep F (hinted_in es) c → ArePure es → SameFormula (plain c.formula) G → us ≡ c.undo → HavePassed keep j F es G us
+hinted-passes keep j F es c G us h p s u = record {
   last = plain c.formula;
-  leaves = hinted-left keep F es c h p;
+  leaves = hinted-left keep j F es c h p;
   same = s;
-  undone = λ k. subst (λ (vs : List UndoEntry). Undos F (steps_of (bare es)) vs) (sym u) (subst (λ (ss : List ProofStep). Undos F ss c.undo) (sym (bare-steps es (all-hinted-then es h.some p))) (h.undone k));
+  undone = λ k w. subst (λ (vs : List UndoEntry). Undos F (steps_of (bare es)) vs) (sym u) (subst (λ (ss : List ProofStep). Undos F ss c.undo) (sym (bare-steps es (all-hinted-then es h.some p))) (h.undone k));
 }
 
-pub hinted-stops : (keep : Bool) (F : PrenexFormula) (es : List BothEntry) (c : HintChecked) (G : PrenexFormula) (e : CheckError) → HasTakenHinted keep F (hinted_in es) c → ArePure es → IsEndRefusal (plain c.formula) G e → HaveStopped F es G e
-hinted-stops keep F es c G (Refused n) h p r = record { last = plain c.formula; leaves = hinted-left keep F es c h p; apart = ends-apart (plain c.formula) (plain c.formula) G n (alike_itself (plain c.formula)) r }
-hinted-stops keep F es c G NoMemory h p r = tt
+pub hinted-stops : (keep : Bool) (j : Share) (F : PrenexFormula) (es : List BothEntry) (c : HintChecked) (G : PrenexFormula) (e : CheckError) → HasTakenHinted keep F (hinted_in es) c → ArePure es → IsEndRefusal (plain c.formula) G e → HaveStopped j F es G e
+hinted-stops keep j F es c G (Refused n) h p r = record { last = plain c.formula; leaves = hinted-left keep j F es c h p; apart = ends-apart (plain c.formula) (plain c.formula) G n (alike_itself (plain c.formula)) r }
+hinted-stops keep j F es c G NoMemory h p r = tt
 
 pub none-hinted : (keep : Bool) (F : PrenexFormula) (hs : List HintedEntry) (o : Option HintChecked) → is_some o ≡ false → IsBehindHinted keep F hs o → hs ≡ []
 none-hinted keep F hs None n b = b
 none-hinted keep F hs (Some c) n b = cc
 
 -- where there is no checker of hints, all steps are plain
-pub all-plain-passes : (keep : Bool) (F : PrenexFormula) (es : List BothEntry) (G : PrenexFormula) (us : List UndoEntry) → hinted_in es ≡ [] → HavePassedPlain keep F (plain_in es) G us → HavePassed keep F es G us
-all-plain-passes keep F es G us z h =
+pub all-plain-passes : (keep : Bool) (j : Share) (F : PrenexFormula) (es : List BothEntry) (G : PrenexFormula) (us : List UndoEntry) → hinted_in es ≡ [] → HavePassedPlain keep j F (plain_in es) G us → HavePassed keep j F es G us
+all-plain-passes keep j F es G us z h =
     let q : es ≡ map plain_entry (plain_in es) = only-plain es z in
     let b : bare es ≡ plain_in es = ap bare q ∙ bare-plain (plain_in es) in
     record {
-      last = h.last;
-      leaves = inl (record { all = q; steps = h.steps });
-      same = h.same;
-      undone = λ k. subst (λ (ps : List Entry). Undos F (steps_of ps) us) (sym b) (h.undone k);
+      last = made F (steps_of (plain_in es));
+      leaves = inl (record { all = q; steps = h.run.steps; last_is = refl });
+      same = h.run.same;
+      undone = λ k w. subst (λ (ps : List Entry). Undos F (steps_of ps) us) (sym b) (h.undone k w);
     }
 
-pub all-plain-stops : (F : PrenexFormula) (es : List BothEntry) (G : PrenexFormula) (e : CheckError) → hinted_in es ≡ [] → HaveStoppedPlain F (plain_in es) G e → HaveStopped F es G e
-all-plain-stops F es G (Refused n) z h = record { last = h.last; leaves = inl (record { all = only-plain es z; steps = h.steps }); apart = h.apart }
-all-plain-stops F es G NoMemory z h = tt
+pub all-plain-stops : (j : Share) (F : PrenexFormula) (es : List BothEntry) (G : PrenexFormula) (e : CheckError) → hinted_in es ≡ [] → HaveStoppedPlain j F (plain_in es) G e → HaveStopped j F es G e
+all-plain-stops j F es G (Refused n) z h = record { last = made F (steps_of (plain_in es)); leaves = inl (record { all = only-plain es z; steps = h.steps; last_is = refl }); apart = h.apart }
+all-plain-stops j F es G NoMemory z h = tt
+
+-- what is so of all plain steps at the end
+abbrev PassedAll : Option Checked → PrenexFormula → PrenexFormula → Verified → Type 0
+PassedAll old F G v = (keep : Bool) → (j : Share) → (ps : List Entry) → IsBehindPlain keep j F ps old → HavePassedPlain keep j F ps G v.undo
+
+abbrev StoppedAll : Option Checked → PrenexFormula → PrenexFormula → CheckError → Type 0
+StoppedAll old F G e = (keep : Bool) → (j : Share) → (ps : List Entry) → IsBehindPlain keep j F ps old → HaveStoppedPlain j F ps G e
 
 -- the answers of the ends
-pub ended-plain : (k : Bool) (F G : PrenexFormula) (r : Result Verified CheckError) (old new : Option Checked) → IsReadyPlain k F old new → IsSomeAnd new (IsEndedPlain G r) → IfOk r (λ v. (keep : Bool) → (ps : List Entry) → IsBehindPlain keep F ps old → HavePassedPlain keep F ps G v.undo)
+pub ended-plain : (k : Bool) (F G : PrenexFormula) (r : Result Verified CheckError) (old new : Option Checked) → IsReadyPlain k F old new → IsSomeAnd new (IsEndedPlain G r) → IfOk r (PassedAll old F G)
 ended-plain k F G (Err e) old new h q = tt
-ended-plain k F G (Ok v) (Some c) new h q = λ keep ps b.
+ended-plain k F G (Ok v) (Some c) new h q = λ keep j ps b.
     let w : IsEndedPlain G (Ok v) c = subst (λ (o : Option Checked). IsSomeAnd o (IsEndedPlain G (Ok v))) h q in
-    plain-passes keep F ps c G v.undo b w.same w.undo
-ended-plain k F G (Ok v) None (Some c) h q = λ keep ps z. plain-passes-now keep F ps c.formula G v.undo z h.alike q.same (q.undo ∙ h.undo)
+    plain-passes keep j F ps c G v.undo b w.same w.undo
+ended-plain k F G (Ok v) None (Some c) h q = λ keep j ps z. plain-passes-now keep j F ps c.formula G v.undo z h.alike q.same (q.undo ∙ h.undo)
 ended-plain k F G (Ok v) None None h q = absurd h
 
-pub stopped-plain : (k : Bool) (F G : PrenexFormula) (r : Result Verified CheckError) (old new : Option Checked) → IsReadyPlain k F old new → IsSomeAnd new (IsEndedPlain G r) → IfErr r (λ e. (keep : Bool) → (ps : List Entry) → IsBehindPlain keep F ps old → HaveStoppedPlain F ps G e)
+pub stopped-plain : (k : Bool) (F G : PrenexFormula) (r : Result Verified CheckError) (old new : Option Checked) → IsReadyPlain k F old new → IsSomeAnd new (IsEndedPlain G r) → IfErr r (StoppedAll old F G)
 stopped-plain k F G (Ok v) old new h q = tt
-stopped-plain k F G (Err e) (Some c) new h q = λ keep ps b.
+stopped-plain k F G (Err e) (Some c) new h q = λ keep j ps b.
     let w : IsEndedPlain G (Err e) c = subst (λ (o : Option Checked). IsSomeAnd o (IsEndedPlain G (Err e))) h q in
-    plain-stops keep F ps c G e b w.refused
-stopped-plain k F G (Err e) None (Some c) h q = λ keep ps z. plain-stops-now F ps c.formula G e z h.alike q.refused
+    plain-stops keep j F ps c G e b w.refused
+stopped-plain k F G (Err e) None (Some c) h q = λ keep j ps z. plain-stops-now j F ps c.formula G e z h.alike q.refused
 stopped-plain k F G (Err e) None None h q = absurd h
 
-pub memory-ends : (F : PrenexFormula) (ps : List Entry) (G : PrenexFormula) (e : CheckError) → e ≡ NoMemory → HaveStoppedPlain F ps G e
-memory-ends F ps G e z = subst (λ (x : CheckError). HaveStoppedPlain F ps G x) (sym z) tt
+pub memory-ends : (j : Share) (F : PrenexFormula) (ps : List Entry) (G : PrenexFormula) (e : CheckError) → e ≡ NoMemory → HaveStoppedPlain j F ps G e
+memory-ends j F ps G e z = subst (λ (x : CheckError). HaveStoppedPlain j F ps G x) (sym z) tt
 
-pub hinted-passed : (keep : Bool) (F : PrenexFormula) (es : List BothEntry) (o : Option HintChecked) (G : PrenexFormula) (r : Result Verified CheckError) (us : List UndoEntry) → IsSomeAnd o (IsEndedHinted G r) → IsBehindHinted keep F (hinted_in es) o → ArePure es → r ≡ Ok (record { undo = us }) → HavePassed keep F es G us
-hinted-passed keep F es None G r us k b p e = absurd k
-hinted-passed keep F es (Some c) G r us k b p e =
+pub hinted-passed : (keep : Bool) (j : Share) (F : PrenexFormula) (es : List BothEntry) (o : Option HintChecked) (G : PrenexFormula) (r : Result Verified CheckError) (us : List UndoEntry) → IsSomeAnd o (IsEndedHinted G r) → IsBehindHinted keep F (hinted_in es) o → ArePure es → r ≡ Ok (record { undo = us }) → HavePassed keep j F es G us
+hinted-passed keep j F es None G r us k b p e = absurd k
+hinted-passed keep j F es (Some c) G r us k b p e =
     let w : IsEndedHinted G (Ok (record { undo = us })) c = subst (λ (x : Result Verified CheckError). IsEndedHinted G x c) e k in
-    hinted-passes keep F es c G us b p w.same w.undo
+    hinted-passes keep j F es c G us b p w.same w.undo
 
-pub hinted-stopped : (keep : Bool) (F : PrenexFormula) (es : List BothEntry) (o : Option HintChecked) (G : PrenexFormula) (r : Result Verified CheckError) (w : CheckError) → IsSomeAnd o (IsEndedHinted G r) → IsBehindHinted keep F (hinted_in es) o → ArePure es → r ≡ Err w → HaveStopped F es G w
-hinted-stopped keep F es None G r w k b p e = absurd k
-hinted-stopped keep F es (Some c) G r w k b p e =
+pub hinted-stopped : (keep : Bool) (j : Share) (F : PrenexFormula) (es : List BothEntry) (o : Option HintChecked) (G : PrenexFormula) (r : Result Verified CheckError) (w : CheckError) → IsSomeAnd o (IsEndedHinted G r) → IsBehindHinted keep F (hinted_in es) o → ArePure es → r ≡ Err w → HaveStopped j F es G w
+hinted-stopped keep j F es None G r w k b p e = absurd k
+hinted-stopped keep j F es (Some c) G r w k b p e =
     let x : IsEndedHinted G (Err w) c = subst (λ (y : Result Verified CheckError). IsEndedHinted G y c) e k in
-    hinted-stops keep F es c G w b p x.refused
+    hinted-stops keep j F es c G w b p x.refused
 
-pub plain-passed : (keep : Bool) (F : PrenexFormula) (es : List BothEntry) (o : Option Checked) (G : PrenexFormula) (r : Result Verified CheckError) (us : List UndoEntry) → hinted_in es ≡ [] → IsBehindPlain keep F (plain_in es) o → IfOk r (λ v. (k : Bool) → (ps : List Entry) → IsBehindPlain k F ps o → HavePassedPlain k F ps G v.undo) → r ≡ Ok (record { undo = us }) → HavePassed keep F es G us
-plain-passed keep F es o G r us z b h e =
-    all-plain-passes keep F es G us z ((subst (λ (x : Result Verified CheckError). IfOk x (λ v. (k : Bool) → (ps : List Entry) → IsBehindPlain k F ps o → HavePassedPlain k F ps G v.undo)) e h) keep (plain_in es) b)
+pub plain-passed : (keep : Bool) (j : Share) (F : PrenexFormula) (es : List BothEntry) (o : Option Checked) (G : PrenexFormula) (r : Result Verified CheckError) (us : List UndoEntry) → hinted_in es ≡ [] → IsBehindPlain keep j F (plain_in es) o → IfOk r (PassedAll o F G) → r ≡ Ok (record { undo = us }) → HavePassed keep j F es G us
+plain-passed keep j F es o G r us z b h e =
+    all-plain-passes keep j F es G us z ((subst (λ (x : Result Verified CheckError). IfOk x (PassedAll o F G)) e h) keep j (plain_in es) b)
 
-pub plain-stopped : (keep : Bool) (F : PrenexFormula) (es : List BothEntry) (o : Option Checked) (G : PrenexFormula) (r : Result Verified CheckError) (w : CheckError) → hinted_in es ≡ [] → IsBehindPlain keep F (plain_in es) o → IfErr r (λ x. (k : Bool) → (ps : List Entry) → IsBehindPlain k F ps o → HaveStoppedPlain F ps G x) → r ≡ Err w → HaveStopped F es G w
-plain-stopped keep F es o G r w z b h e =
-    all-plain-stops F es G w z ((subst (λ (y : Result Verified CheckError). IfErr y (λ x. (k : Bool) → (ps : List Entry) → IsBehindPlain k F ps o → HaveStoppedPlain F ps G x)) e h) keep (plain_in es) b)
+pub plain-stopped : (keep : Bool) (j : Share) (F : PrenexFormula) (es : List BothEntry) (o : Option Checked) (G : PrenexFormula) (r : Result Verified CheckError) (w : CheckError) → hinted_in es ≡ [] → IsBehindPlain keep j F (plain_in es) o → IfErr r (StoppedAll o F G) → r ≡ Err w → HaveStopped j F es G w
+plain-stopped keep j F es o G r w z b h e =
+    all-plain-stops j F es G w z ((subst (λ (y : Result Verified CheckError). IfErr y (StoppedAll o F G)) e h) keep j (plain_in es) b)
 
 -- what is said for each formula that the place may hold
 pub held-ok : (o : Option PrenexFormula) (r : Result Unit CheckError) (P : PrenexFormula → Type 0) → ((F : PrenexFormula) → IsHeld F o → OnOk r (P F)) → OnOk r ((F : PrenexFormula) → IsHeld F o → P F)

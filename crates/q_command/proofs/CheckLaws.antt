@@ -1,5 +1,5 @@
 -- What is shown of `check`.
-use Rattle.std.proofs.Common.{◌≡◌, ℕ, List}
+use Rattle.std.proofs.Common.{◌≡◌, ℕ, List, Option, Some, None, IfSome}
 use Rattle.q_logic.proofs.Common.{Run-justified}
 use Rattle.q_logic.proofs.Repeated.{run-true_to}
 use Rattle.q_io.specs.Files.{bytes_at}
@@ -25,6 +25,16 @@ verified-truth (RefusedEnd c) i u l h = tt
 verified-truth (RefusedInput r n c) i u l h = tt
 verified-truth ReadFault i u l h = tt
 verified-truth NoMemory i u l h = tt
+
+-- the same where the files may tell nothing
+pub verified-truths : {D : Type 0} (w : Outcome) (o : Option D) (i u l : D → List ℕ) → IfSome o (λ d. Checks w (i d) (u d) (l d)) → IfVerified w (IfSome o (λ d. HaveOneTruth (i d) (u d)))
+verified-truths (Verified n) None i u l h = tt
+verified-truths (Verified n) (Some d) i u l h = verified-truth (Verified n) (i d) (u d) (l d) h
+verified-truths (RefusedLine n c) o i u l h = tt
+verified-truths (RefusedEnd c) o i u l h = tt
+verified-truths (RefusedInput r n c) o i u l h = tt
+verified-truths ReadFault o i u l h = tt
+verified-truths NoMemory o i u l h = tt
 
 pub laws : (n : ThreeNames) → ToldLaws (told n)
 laws n = record {

@@ -1,9 +1,11 @@
 pub mod FilePieces
 pub mod LogEntries
+pub mod SharedSteps
 pub mod BothCheckers
 pub mod WholeLogs
 pub mod AuditSteps
 pub mod LogEnd
+pub mod WholeShares
 pub mod CheckStatus
 pub mod FormulaLimits
 pub mod WholeFiles
@@ -12,3 +14,5 @@ pub mod PutLines
 pub mod OutcomeStatus
 pub mod ToldLaws
 pub mod CheckLaws
+pub mod PartStatus
+pub mod PartsVerify

@@ -1,5 +1,6 @@
 -- Steps of logs of either profile: those without proof parts, and those with them.
-use Rattle.std.proofs.Common.{◌≡◌, refl, ap, suc, List, [], ◌∷◌, ◌++◌, map, length, Option, Some, None}
+use Rattle.std.proofs.Common.{◌≡◌, ◌∙◌, refl, sym, ap, suc, List, [], ◌∷◌, ◌++◌, map, length, Option, Some, None}
+use Rattle.std.proofs.lemmas.List.{length-map}
 use Rattle.q_logic.specs.Prelude.{Hinted, ProofPart, strip, ProofStep}
 use Rattle.q_hinted.specs.Logs.{Entry as BothEntry, plain_entry, hinted_entry, hinted_in, if_hinted}
 use Rattle.q_command.specs.Logs.{Entry, HintedEntry, steps_of, hinted_of, stripped}
@@ -57,6 +58,10 @@ pub length-bare : (es : List BothEntry) → length (bare es) ≡ length es
 length-bare [] = refl
 length-bare (e ∷ es) = ap suc (length-bare es)
 
+pub steps_of-length : (es : List Entry) → length (steps_of es) ≡ length es
+steps_of-length [] = refl
+steps_of-length (e ∷ es) = ap suc (steps_of-length es)
+
 pub steps_of-append : (xs ys : List Entry) → steps_of (xs ++ ys) ≡ steps_of xs ++ steps_of ys
 steps_of-append [] ys = refl
 steps_of-append (e ∷ xs) ys = ap (λ (ss : List ProofStep). e.1 ∷ ss) (steps_of-append xs ys)
@@ -77,6 +82,14 @@ only-plain (e ∷ es) h = go e.2 h (only-plain es)
     go : (t : Option ProofPart) → if_hinted e.0 e.1 t (hinted_in es) ≡ [] → (hinted_in es ≡ [] → es ≡ map plain_entry (plain_in es)) → ((e.0, e.1, t) ∷ es) ≡ map plain_entry (if_plain e.0 e.1 t (plain_in es))
     go None k ih = ap (λ (xs : List BothEntry). (e.0, e.1, None) ∷ xs) (ih k)
     go (Some t) k ih = cc
+
+-- so many steps come before another, where all are plain
+pub plain-number : (es : List BothEntry) → hinted_in es ≡ [] → length (plain_in es) ≡ length es
+plain-number es h = sym (length-map (plain_in es) plain_entry) ∙ ap length (sym (only-plain es h))
+
+pub first-empty : {X : Type 0} (xs ys : List X) → xs ++ ys ≡ [] → xs ≡ []
+first-empty [] ys h = refl
+first-empty (x ∷ xs) ys h = cc
 
 -- a list with something in it is not empty
 pub not-empty : {X : Type 0} (xs ys : List X) (x : X) → xs ++ (x ∷ ys) ≡ [] → ⊥

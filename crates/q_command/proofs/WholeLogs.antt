@@ -1,8 +1,10 @@
 -- A whole log of either profile: its first token tells how it is read.
-use Rattle.std.proofs.Common.{◌≡◌, ◌⊎◌, inl, inr, ◌==◌, ◌∙◌, refl, sym, ap, subst, arith, ℕ, Bool, true, false, List, [], ◌∷◌, ◌++◌, map, length, if◌then◌else◌, Option, Some, None}
+use Rattle.std.proofs.Common.{◌≡◌, ◌⊎◌, inl, inr, ◌==◌, ◌+◌, ◌∙◌, refl, sym, ap, subst, arith, ℕ, suc, Bool, true, false, List, [], ◌∷◌, ◌++◌, map, length, if◌then◌else◌, Option, Some, None}
 use Rattle.std.proofs.lemmas.Bool.Decides.{nat_tests}
 use Rattle.q_logic.specs.Prelude.{PrenexFormula, HintedSteps as AreValid, HintedCause, NumberedFormula, ProofPart, begun, plain, strip, hinted_after, standard, ValidSteps, SameFormula, Run, ProofStep, Cause, after, UndoEntry}
 use Rattle.q_logic.proofs.HintedRuns.{hinted-run}
+use Rattle.q_same_steps.specs.Making.{Unfit, made}
+use Rattle.q_shares.specs.Shares.{Share, AreMade, ShareRun, count, judged}
 use Rattle.q_text.specs.declared.tokens.Token.{Token}
 use Rattle.q_text.specs.declared.tokens.TokenKind.{TokenKind}
 use Rattle.q_text.specs.declared.tokens.TokenKind.TheVariants.{Number, P, Cnf, Qrat, E, A, D, U, R, Other}
@@ -12,10 +14,11 @@ use Rattle.q_hinted.specs.Grammar.{first_profile}
 use Rattle.q_hinted.specs.Logs.{Entry as BothEntry, Entries, Profile, HintedSteps, all_or_none, profile_of, tokens_within, read_entries, plain_entries, plain_entry, hinted_entry, hinted_in}
 use Rattle.q_hinted.proofs.Profiles.{plain-read, no-steps, parts-read}
 use Rattle.q_command.specs.Logs.{Entry, HintedEntry, steps_of, hinted_of, stripped, IsOffence, IsFirstBad, IsFirstBadHinted, IsRefusedAt}
-use Rattle.q_command.specs.Checks.{IsRunLog, IsPlainWay, IsHintedWay, EndsElsewhere, LogPasses}
+use Rattle.q_command.specs.Checks.{IsRunLog, IsHintedWay}
+use Rattle.q_command.specs.Parts.{IsFirstBadShared, IsRefusedShared, IsShareLog, IsPlainShareWay, EndsElsewhereShared, LogPassesShared}
 use Rattle.q_command.specs.Judging.{ArePure, Leaves, HavePassed, HaveEnded, plain_in, bare}
-use Rattle.q_command.specs.Trials.{IsWrong}
-use Rattle.q_command.proofs.LogEntries.{plain_in-append, hinted_in-append, plain_in-plain, hinted_in-plain, plain_in-hinted, bare-plain, bare-hinted, stripped-steps, length-bare, not-empty}
+use Rattle.q_command.specs.Trials.{AreLike, IsWrong}
+use Rattle.q_command.proofs.LogEntries.{plain_in-append, hinted_in-append, plain_in-plain, hinted_in-plain, plain_in-hinted, bare-plain, bare-hinted, stripped-steps, first-empty, not-empty}
 use Rattle.q_command.proofs.BothCheckers.{plain-begun}
 
 pub profile-told : (limit : ℕ) (bytes : List ℕ) → (Profile limit bytes ≡ 1) ⊎ (Profile limit bytes ≡ 2)
@@ -68,10 +71,33 @@ says-pure log es r h = go (profile-told standard.bytes log)
     go (inl p) = inl (says-plain log es r h p).all
     go (inr p) = inr (says-hinted log es r h p)
 
+-- the steps before another are of its profile
+pub says-like : (log : List ℕ) (es : List BothEntry) (n : ℕ) (s : ProofStep) (x : Option ProofPart) (more : List BothEntry) (r : Option LogError) → Says log (es ++ (n, s, x) ∷ more) r → AreLike x es
+says-like log es n s x more r h = go x (says-pure log (es ++ (n, s, x) ∷ more) r h)
+  where
+    go : (x : Option ProofPart) → ArePure (es ++ (n, s, x) ∷ more) → AreLike x es
+    go None (inl q) =
+        first-empty (hinted_in es) (hinted_in more) (sym (hinted_in-append es ((n, s, None) ∷ more)) ∙ (ap hinted_in q ∙ hinted_in-plain (plain_in (es ++ (n, s, None) ∷ more))))
+    go None (inr q) =
+        absurd (not-empty (plain_in es) (plain_in more) (n, s) (sym (plain_in-append es ((n, s, None) ∷ more)) ∙ (ap plain_in q ∙ plain_in-hinted (hinted_in (es ++ (n, s, None) ∷ more)))))
+    go (Some t) (inl q) =
+        absurd (not-empty (hinted_in es) (hinted_in more) (n, record { step = s; proof = t }) (sym (hinted_in-append es ((n, s, Some t) ∷ more)) ∙ (ap hinted_in q ∙ hinted_in-plain (plain_in (es ++ (n, s, Some t) ∷ more)))))
+    go (Some t) (inr q) =
+        first-empty (plain_in es) (plain_in more) (sym (plain_in-append es ((n, s, Some t) ∷ more)) ∙ (ap plain_in q ∙ plain_in-hinted (hinted_in (es ++ (n, s, Some t) ∷ more))))
+
 -- a step that is not valid behind valid ones
 pub bad-plain : (F : PrenexFormula) (ps : List Entry) (n : ℕ) (s : ProofStep) (more : List Entry) (r : Option LogError) (c : ℕ) (L : PrenexFormula) → ValidSteps standard F (steps_of ps) L → Cause standard L s c → IsFirstBad F (ps ++ (n, s) ∷ more) r n c
 bad-plain F [] n s more r c L v w = inl (refl, subst (λ (G : PrenexFormula). Cause standard G s c) (sym v) w)
 bad-plain F (p ∷ ps) n s more r c L v w = inr (v.0, bad-plain (after F p.1) ps n s more r c L v.1 w)
+
+bad-shared : (j : Share) (k : ℕ) (F : PrenexFormula) (ps : List Entry) (n : ℕ) (s : ProofStep) (more : List Entry) (r : Option LogError) (c : ℕ) → AreMade j standard k F (steps_of ps) → judged (j (k + length ps)) (Cause standard (made F (steps_of ps)) s c) (Unfit standard (made F (steps_of ps)) s c) → IsFirstBadShared j k F (ps ++ (n, s) ∷ more) r n c
+bad-shared j k F [] n s more r c v w =
+    let z : k + 0 ≡ k = omega arith in
+    inl (refl, subst (λ (i : ℕ). judged (j i) (Cause standard F s c) (Unfit standard F s c)) z w)
+bad-shared j k F (p ∷ ps) n s more r c v w =
+    let z : k + suc (length ps) ≡ (k + 1) + length ps = omega arith in
+    let E : PrenexFormula = made (after F p.1) (steps_of ps) in
+    inr (v.0, bad-shared j (k + 1) (after F p.1) ps n s more r c v.1 (subst (λ (i : ℕ). judged (j i) (Cause standard E s c) (Unfit standard E s c)) z w))
 
 bad-hinted : (N : NumberedFormula) (hs : List HintedEntry) (n : ℕ) (s : ProofStep) (t : ProofPart) (more : List HintedEntry) (r : Option LogError) (c : ℕ) (L : NumberedFormula) → AreValid standard N (hinted_of hs) L → HintedCause standard L s t c → IsFirstBadHinted N (hs ++ (n, record { step = s; proof = t }) ∷ more) r n c
 bad-hinted N [] n s t more r c L v w = inl (refl, subst (λ (M : NumberedFormula). HintedCause standard M s t c) (sym v) w)
@@ -82,19 +108,29 @@ pub offence-plain : (F : PrenexFormula) (ps : List Entry) (r : Option LogError) 
 offence-plain F [] r n c L v o = o
 offence-plain F (p ∷ ps) r n c L v o = inr (v.0, offence-plain (after F p.1) ps r n c L v.1 o)
 
+offence-shared : (j : Share) (k : ℕ) (F : PrenexFormula) (ps : List Entry) (r : Option LogError) (n c : ℕ) → AreMade j standard k F (steps_of ps) → IsOffence r n c → IsFirstBadShared j k F ps r n c
+offence-shared j k F [] r n c v o = o
+offence-shared j k F (p ∷ ps) r n c v o = inr (v.0, offence-shared j (k + 1) (after F p.1) ps r n c v.1 o)
+
 offence-hinted : (N : NumberedFormula) (hs : List HintedEntry) (r : Option LogError) (n c : ℕ) (L : NumberedFormula) → AreValid standard N (hinted_of hs) L → IsOffence r n c → IsFirstBadHinted N hs r n c
 offence-hinted N [] r n c L v o = o
 offence-hinted N (h ∷ hs) r n c L v o = inr (v.0, offence-hinted (hinted_after N h.1.step h.1.proof) hs r n c L v.1 o)
 
 -- the log is refused at the step
-pub refused-at : (F : PrenexFormula) (log : List ℕ) (es : List BothEntry) (n : ℕ) (s : ProofStep) (x : Option ProofPart) (more : List BothEntry) (r : Option LogError) (c : ℕ) → Says log (es ++ (n, s, x) ∷ more) r → IsWrong F es s x c → IsRefusedAt F log n c
-refused-at F log es n s x more r c h w = go (profile-told standard.bytes log) x h w
+pub refused-at : (j : Share) (F : PrenexFormula) (log : List ℕ) (es : List BothEntry) (n : ℕ) (s : ProofStep) (x : Option ProofPart) (more : List BothEntry) (r : Option LogError) (c : ℕ) → Says log (es ++ (n, s, x) ∷ more) r → IsWrong j F es s x c → IsRefusedShared j F log n c
+refused-at j F log es n s x more r c h w = go (profile-told standard.bytes log) x h w
   where
-    go : (Profile standard.bytes log ≡ 1) ⊎ (Profile standard.bytes log ≡ 2) → (x : Option ProofPart) → Says log (es ++ (n, s, x) ∷ more) r → IsWrong F es s x c → IsRefusedAt F log n c
+    go : (Profile standard.bytes log ≡ 1) ⊎ (Profile standard.bytes log ≡ 2) → (x : Option ProofPart) → Says log (es ++ (n, s, x) ∷ more) r → IsWrong j F es s x c → IsRefusedShared j F log n c
     go (inl p) None h w =
         let a = says-plain log (es ++ (n, s, None) ∷ more) r h p in
         let e : (logs.read standard.bytes log).steps ≡ plain_in es ++ (n, s) ∷ plain_in more = a.steps ∙ plain_in-append es ((n, s, None) ∷ more) in
-        inl (p, subst (λ (ps : List Entry). IsFirstBad F ps (logs.read standard.bytes log).refused n c) (sym e) (bad-plain F (plain_in es) n s (plain_in more) (logs.read standard.bytes log).refused c w.last w.steps w.cause))
+        let t : length (plain_in es) ≡ 0 + length (plain_in es) = omega arith in
+        let E : PrenexFormula = made F (steps_of (plain_in es)) in
+        inl (
+          p,
+          subst (λ (ps : List Entry). IsFirstBadShared j 0 F ps (logs.read standard.bytes log).refused n c) (sym e)
+              (bad-shared j 0 F (plain_in es) n s (plain_in more) (logs.read standard.bytes log).refused c w.steps (subst (λ (i : ℕ). judged (j i) (Cause standard E s c) (Unfit standard E s c)) t w.cause)),
+        )
     go (inl p) (Some t) h w =
         let a = says-plain log (es ++ (n, s, Some t) ∷ more) r h p in
         let e : hinted_in es ++ (n, record { step = s; proof = t }) ∷ hinted_in more ≡ [] = sym (hinted_in-append es ((n, s, Some t) ∷ more)) ∙ (ap hinted_in a.all ∙ hinted_in-plain (plain_in (es ++ (n, s, Some t) ∷ more))) in
@@ -108,13 +144,13 @@ refused-at F log es n s x more r c h w = go (profile-told standard.bytes log) x 
         inr (p, subst (λ (hs : List HintedEntry). IsFirstBadHinted (begun F) hs (read_entries standard.bytes log).refused n c) (sym e) (bad-hinted (begun F) (hinted_in es) n s t (hinted_in more) (read_entries standard.bytes log).refused c w.last w.steps w.cause))
 
 -- the log is refused behind its steps
-pub offends-at : (F : PrenexFormula) (log : List ℕ) (es : List BothEntry) (r : Option LogError) (n c : ℕ) (L : PrenexFormula) (M : NumberedFormula) → Says log es r → ValidSteps standard F (steps_of (plain_in es)) L → AreValid standard (begun F) (hinted_of (hinted_in es)) M → IsOffence r n c → IsRefusedAt F log n c
-offends-at F log es r n c L M h v w o = go (profile-told standard.bytes log)
+pub offends-at : (j : Share) (F : PrenexFormula) (log : List ℕ) (es : List BothEntry) (r : Option LogError) (n c : ℕ) (M : NumberedFormula) → Says log es r → AreMade j standard 0 F (steps_of (plain_in es)) → AreValid standard (begun F) (hinted_of (hinted_in es)) M → IsOffence r n c → IsRefusedShared j F log n c
+offends-at j F log es r n c M h v w o = go (profile-told standard.bytes log)
   where
-    go : (Profile standard.bytes log ≡ 1) ⊎ (Profile standard.bytes log ≡ 2) → IsRefusedAt F log n c
+    go : (Profile standard.bytes log ≡ 1) ⊎ (Profile standard.bytes log ≡ 2) → IsRefusedShared j F log n c
     go (inl p) =
         let a = says-plain log es r h p in
-        inl (p, subst (λ (x : Option LogError). IsFirstBad F (logs.read standard.bytes log).steps x n c) (sym a.refused) (subst (λ (ps : List Entry). IsFirstBad F ps r n c) (sym a.steps) (offence-plain F (plain_in es) r n c L v o)))
+        inl (p, subst (λ (x : Option LogError). IsFirstBadShared j 0 F (logs.read standard.bytes log).steps x n c) (sym a.refused) (subst (λ (ps : List Entry). IsFirstBadShared j 0 F ps r n c) (sym a.steps) (offence-shared j 0 F (plain_in es) r n c v o)))
     go (inr p) = inr (p, subst (λ (x : Entries). IsFirstBadHinted (begun F) (hinted_in x.entries) x.refused n c) (sym h) (offence-hinted (begun F) (hinted_in es) r n c M w o))
 
 -- the steps of a whole log
@@ -135,51 +171,58 @@ bare-hinted-all : (es : List BothEntry) → es ≡ map hinted_entry (hinted_in e
 bare-hinted-all es q = ap bare q ∙ bare-hinted (hinted_in es)
 
 -- where there are neither plain steps nor others, no step was taken
-leaves-plain : (F : PrenexFormula) (es : List BothEntry) (L : PrenexFormula) → es ≡ map plain_entry (plain_in es) → Leaves F es L → ValidSteps standard F (steps_of (plain_in es)) L
-leaves-plain F es L q (inl a) = a.steps
-leaves-plain F es L q (inr a) =
+record LeavesMade (j : Share) (F : PrenexFormula) (es : List BothEntry) (L : PrenexFormula) : Type 0 where
+  steps : AreMade j standard 0 F (steps_of (plain_in es))
+  last_is : L ≡ made F (steps_of (plain_in es))
+
+leaves-plain : (j : Share) (F : PrenexFormula) (es : List BothEntry) (L : PrenexFormula) → es ≡ map plain_entry (plain_in es) → Leaves j F es L → LeavesMade j F es L
+leaves-plain j F es L q (inl a) = record { steps = a.steps; last_is = a.last_is }
+leaves-plain j F es L q (inr a) =
     let none : hinted_in es ≡ [] = ap hinted_in q ∙ hinted_in-plain (plain_in es) in
     let zero : plain_in es ≡ [] = ap plain_in a.all ∙ plain_in-hinted (hinted_in es) in
     let same : begun F ≡ a.numbered = subst (λ (hs : List HintedEntry). AreValid standard (begun F) (hinted_of hs) a.numbered) none a.steps in
-    let e : F ≡ L = sym (plain-begun F) ∙ (ap plain same ∙ sym a.last_is) in
-    subst (λ (ps : List Entry). ValidSteps standard F (steps_of ps) L) (sym zero) e
+    let e : L ≡ F = a.last_is ∙ (ap plain (sym same) ∙ plain-begun F) in
+    record {
+      steps = subst (λ (ps : List Entry). AreMade j standard 0 F (steps_of ps)) (sym zero) tt;
+      last_is = subst (λ (ps : List Entry). L ≡ made F (steps_of ps)) (sym zero) e;
+    }
 
 record LeavesNumbered (F : PrenexFormula) (es : List BothEntry) (L : PrenexFormula) : Type 0 where
   numbered : NumberedFormula
   steps : AreValid standard (begun F) (hinted_of (hinted_in es)) numbered
   last_is : L ≡ plain numbered
 
-leaves-hinted : (F : PrenexFormula) (es : List BothEntry) (L : PrenexFormula) → es ≡ map hinted_entry (hinted_in es) → Leaves F es L → LeavesNumbered F es L
-leaves-hinted F es L q (inr a) = record { numbered = a.numbered; steps = a.steps; last_is = a.last_is }
-leaves-hinted F es L q (inl a) =
+leaves-hinted : (j : Share) (F : PrenexFormula) (es : List BothEntry) (L : PrenexFormula) → es ≡ map hinted_entry (hinted_in es) → Leaves j F es L → LeavesNumbered F es L
+leaves-hinted j F es L q (inr a) = record { numbered = a.numbered; steps = a.steps; last_is = a.last_is }
+leaves-hinted j F es L q (inl a) =
     let zero : plain_in es ≡ [] = ap plain_in q ∙ plain_in-hinted (hinted_in es) in
     let none : hinted_in es ≡ [] = ap hinted_in a.all ∙ hinted_in-plain (plain_in es) in
-    let same : F ≡ L = subst (λ (ps : List Entry). ValidSteps standard F (steps_of ps) L) zero a.steps in
+    let same : L ≡ F = subst (λ (ps : List Entry). L ≡ made F (steps_of ps)) zero a.last_is in
     record {
       numbered = begun F;
       steps = subst (λ (hs : List HintedEntry). AreValid standard (begun F) (hinted_of hs) (begun F)) (sym none) refl;
-      last_is = sym same ∙ sym (plain-begun F);
+      last_is = same ∙ sym (plain-begun F);
     }
 
 -- the log leads to the output
-pub passes-whole : (keep : Bool) (F G : PrenexFormula) (log : List ℕ) (es : List BothEntry) (us : List UndoEntry) → Says log es None → HavePassed keep F es G us → (n : ℕ) → n ≡ length es → (p : LogPasses keep log F G n us) × (p.entries ≡ bare es)
-passes-whole keep F G log es us h w n k = (record { entries = bare es; leads = go (profile-told standard.bytes log); count = k ∙ sym (length-bare es); undone = w.undone }, refl)
+pub passes-whole : (keep : Bool) (j : Share) (F G : PrenexFormula) (log : List ℕ) (es : List BothEntry) (us : List UndoEntry) → Says log es None → HavePassed keep j F es G us → (n : ℕ) → n ≡ count j 0 (steps_of (bare es)) → (p : LogPassesShared j keep log F G n us) × (p.entries ≡ bare es)
+passes-whole keep j F G log es us h w n k = (record { entries = bare es; leads = go (profile-told standard.bytes log); counted = k; undone = w.undone }, refl)
   where
-    go : (Profile standard.bytes log ≡ 1) ⊎ (Profile standard.bytes log ≡ 2) → IsRunLog log F G (bare es)
+    go : (Profile standard.bytes log ≡ 1) ⊎ (Profile standard.bytes log ≡ 2) → IsShareLog j log F G (bare es)
     go (inl p) =
         let q = (says-plain log es None h p).all in
         let b = bare-plain-all es q in
+        let l = leaves-plain j F es w.last q w.leaves in
         inl (record {
           is_log = is-plain-log log es h p ∙ ap (λ (ps : List Entry). Some ps) (sym b);
-          run = record {
-            last = w.last;
-            steps = subst (λ (ps : List Entry). ValidSteps standard F (steps_of ps) w.last) (sym b) (leaves-plain F es w.last q w.leaves);
-            same = w.same;
-          };
+          run = subst (λ (ps : List Entry). ShareRun j F (steps_of ps) G) (sym b) (record {
+            steps = l.steps;
+            same = subst (λ (L : PrenexFormula). SameFormula L G) l.last_is w.same;
+          });
         })
     go (inr p) =
         let q = says-hinted log es None h p in
-        let l = leaves-hinted F es w.last q w.leaves in
+        let l = leaves-hinted j F es w.last q w.leaves in
         inr (record {
           hinted = hinted_in es;
           is_log = is-hinted-log log es h p;
@@ -192,16 +235,17 @@ passes-whole keep F G log es us h w n k = (record { entries = bare es; leads = g
         })
 
 -- the log leads elsewhere
-pub ends-whole : (F G : PrenexFormula) (log : List ℕ) (es : List BothEntry) (c : ℕ) → Says log es None → HaveEnded F es G c → EndsElsewhere log F G c
-ends-whole F G log es c h w = record { last = w.last; way = go (profile-told standard.bytes log); apart = w.apart }
+pub ends-whole : (j : Share) (F G : PrenexFormula) (log : List ℕ) (es : List BothEntry) (c : ℕ) → Says log es None → HaveEnded j F es G c → EndsElsewhereShared j log F G c
+ends-whole j F G log es c h w = record { last = w.last; way = go (profile-told standard.bytes log); apart = w.apart }
   where
-    go : (Profile standard.bytes log ≡ 1) ⊎ (Profile standard.bytes log ≡ 2) → IsPlainWay log F w.last ⊎ IsHintedWay log F w.last
+    go : (Profile standard.bytes log ≡ 1) ⊎ (Profile standard.bytes log ≡ 2) → IsPlainShareWay j log F w.last ⊎ IsHintedWay log F w.last
     go (inl p) =
         let q = (says-plain log es None h p).all in
-        inl (record { entries = plain_in es; is_log = is-plain-log log es h p; steps = leaves-plain F es w.last q w.leaves })
+        let l = leaves-plain j F es w.last q w.leaves in
+        inl (record { entries = plain_in es; is_log = is-plain-log log es h p; steps = l.steps; last_is = l.last_is })
     go (inr p) =
         let q = says-hinted log es None h p in
-        let l = leaves-hinted F es w.last q w.leaves in
+        let l = leaves-hinted j F es w.last q w.leaves in
         inr (record { hinted = hinted_in es; is_log = is-hinted-log log es h p; numbered = l.numbered; steps = l.steps; last_is = l.last_is })
 
 -- a log of hints has the second profile

@@ -182,6 +182,12 @@ MayCome s = (s ≡ status.ReadFault) ⊎ (s ≡ status.WriteFault) ⊎ (s ≡ st
 abbrev pub Exactly : Status → Status → Type 0 → Type 0
 Exactly answer s P = (answer ≡ s → P) × (P → (answer ≡ s) ⊎ MayCome answer)
 
+-- when each status comes that tells whether this is so of the formulas of IN and OUT
+pub record AnswersBy (P : PrenexFormula → PrenexFormula → Type 0) (answer : Status) (i o : List ℕ) : Type 0 where
+  pub verified : Exactly answer status.Done (OfFormulas i o P)
+  pub log_refused : Exactly answer status.LogRefused (OfFormulas i o (λ F G. ¬ P F G))
+  pub input_refused : Exactly answer status.InputRefused (IsNoFormula i ⊎ IsNoFormula o)
+
 -- when each status of `check` comes
 pub record AnswersExactly (answer : Status) (i o l : List ℕ) : Type 0 where
   pub verified : Exactly answer status.Done (IsVerified i o l)

@@ -1,10 +1,13 @@
 -- Places for checkers: what is in one, and what it does.
-use Rattle.std.specs.Prelude.{◌≡◌, ℕ, Bool, List, [], ◌∷◌, Option, None, Some, Result, IsSomeAnd, IfOk, IfErr, OnOk}
+use Rattle.std.specs.Prelude.{◌≡◌, ℕ, Bool, true, false, List, [], ◌∷◌, Option, None, Some, Result, IsSomeAnd, IfOk, IfErr, OnOk}
 use Rattle.q_logic.specs.Prelude.{PrenexFormula, HintedValid, ProofPart, begun, hinted_after, plain, standard, AreAlike, SameFormula, ProofStep, Valid, after}
+use Rattle.q_same_steps.specs.Making.{Applies}
+use Rattle.q_shares.specs.Shares.{judged}
 use Rattle.q_judge.specs.Tried.{IsEndRefusal}
 use Rattle.q_judge.specs.declared.error.CheckError.{CheckError}
 use Rattle.q_check.specs.Checked.{Checked, HasGrown, IsRefusal}
 use Rattle.q_check.specs.HintChecks.{HintChecked, IsHintRefusal}
+use Rattle.q_check.specs.Replays.{IsUnfitFor}
 use Rattle.q_check.specs.declared.checker.Verified.{Verified}
 
 abbrev pub first_in : {X : Type 0} → List X → Option X
@@ -40,14 +43,19 @@ abbrev pub IsReadyHinted : Bool → PrenexFormula → Option HintChecked → Opt
 IsReadyHinted keep F (Some c) new = new ≡ Some c
 IsReadyHinted keep F None new = new ≡ Some (new_hinted keep F)
 
--- what a checker answers to a plain step
-pub record IsSteppedPlain (s : ProofStep) (r : Result Unit CheckError) (old new : Checked) : Type 0 where
-  pub valid : OnOk r (Valid old.limits old.formula s)
+-- no undo list is kept here
+abbrev pub KeepsNone : Option Checked → Type 0
+KeepsNone None = Unit {0}
+KeepsNone (Some c) = c.keeps ≡ false
+
+-- what a checker answers to a plain step that it judges, or makes alone
+pub record IsSteppedPlain (s : ProofStep) (t : Bool) (r : Result Unit CheckError) (old new : Checked) : Type 0 where
+  pub valid : OnOk r (judged t (Valid old.limits old.formula s) (Applies old.limits old.formula s))
   pub after : OnOk r (AreAlike (after old.formula s) new.formula)
-  pub undo : OnOk r (HasGrown old.keeps old.formula s old.undo new.undo)
+  pub undo : t ≡ true → OnOk r (HasGrown old.keeps old.formula s old.undo new.undo)
   pub limits : new.limits ≡ old.limits
   pub keeps : new.keeps ≡ old.keeps
-  pub refused : IfErr r (IsRefusal old.limits old.formula s)
+  pub refused : IfErr r (λ e. judged t (IsRefusal old.limits old.formula s e) (IsUnfitFor old.limits old.formula s e))
 
 -- what a checker answers to a step with a proof part
 pub record IsSteppedHinted (s : ProofStep) (t : ProofPart) (r : Result Unit CheckError) (old new : HintChecked) : Type 0 where
@@ -59,10 +67,10 @@ pub record IsSteppedHinted (s : ProofStep) (t : ProofPart) (r : Result Unit Chec
   pub refused : IfErr r (IsHintRefusal old.limits old.formula s t)
 
 -- so does the checker that is here
-abbrev pub HasSteppedPlain : ProofStep → Result Unit CheckError → Option Checked → Option Checked → Type 0
-HasSteppedPlain s r (Some c) (Some d) = IsSteppedPlain s r c d
-HasSteppedPlain s r (Some c) None = ⊥
-HasSteppedPlain s r None new = ⊥
+abbrev pub HasSteppedPlain : ProofStep → Bool → Result Unit CheckError → Option Checked → Option Checked → Type 0
+HasSteppedPlain s t r (Some c) (Some d) = IsSteppedPlain s t r c d
+HasSteppedPlain s t r (Some c) None = ⊥
+HasSteppedPlain s t r None new = ⊥
 
 abbrev pub HasSteppedHinted : ProofStep → ProofPart → Result Unit CheckError → Option HintChecked → Option HintChecked → Type 0
 HasSteppedHinted s t r (Some c) (Some d) = IsSteppedHinted s t r c d

@@ -12,6 +12,7 @@ pub mod Judging
 pub mod Trials
 pub mod Audits
 pub mod Checks
+pub mod Parts
 pub mod Texts
 pub mod Devices
 pub mod Told

@@ -1,15 +1,17 @@
 // A log is tried step by step, while it is read.
-ghost use Rattle.std.specs.Prelude.{◌≡◌, ◌≤◌, ◌<◌, ◌+◌, List, ℕ, length, take, IfOk, IfErr, OnOk, IfSome, IsErrOf, [], ◌++◌, drop};
+ghost use Rattle.std.specs.Prelude.{◌≡◌, ◌≤◌, ◌<◌, ◌+◌, List, ℕ, false, length, take, IfOk, IfErr, OnOk, IfSome, IsErrOf, [], ◌++◌, drop};
 ghost use Rattle.q_logic.specs.Prelude.{PrenexFormula};
 ghost use Rattle.q_io.specs.Files.{RoseFor, bytes_at};
 ghost use Rattle.q_command.specs.Reading.{OnlyReadsFiles};
 ghost use Rattle.q_command.specs.Checks.{IsUnverified};
 ghost use Rattle.q_command.specs.LazyCheckers.{IsHeld};
+ghost use Rattle.q_command.specs.Parts.{share_of};
 ghost use Rattle.q_command.specs.Audits.{IsOpen, Advances, Refuses, HasTaken, HasEnded, HasLeft, HasFailed, Passes, Concludes, IsStarted};
 
 use crate::judges::Judges;
 use crate::origin::Origin;
 use crate::outcome::Outcome;
+use crate::part::Part;
 use crate::refusals::log_refusal;
 use crate::taken::{Taken, TakenStep};
 use crate::trial::Trial;
@@ -26,7 +28,8 @@ pub struct Keep {
     pub steps: bool,
 }
 
-/// What is left of a log whose steps are a run; on demand the formula that they begin with.
+/// What is left of a log that leads to the output, with the number of steps that were judged; on demand the formula that they begin
+/// with.
 #[derive(Drop)]
 pub(crate) struct Passed {
     pub origin: Origin,
@@ -44,9 +47,10 @@ pub(crate) struct Audit {
 
 impl Audit {
     /// Nothing is read, and the log begins with this formula.
-    pub fn start(alloc: Global, origin: Origin, keep: Keep) -> Result<Audit, NoMemory>
+    pub fn start(alloc: Global, origin: Origin, keep: Keep, part: Part) -> Result<Audit, NoMemory>
+        requires { (k : ℕ) → share_of part k ≡ false → keep.undo ≡ false }
         ensures start { IfOk result (λ a.
-            (F : PrenexFormula) → IsHeld F origin → IsStarted a keep F) }
+            (F : PrenexFormula) → IsHeld F origin → IsStarted a keep part F) }
         ensures left { IfOk result (λ a. a.reader.left ≡ 1099511627776) }
         ensures goes_on { IfOk result IsOpen }
     {
@@ -57,7 +61,11 @@ impl Audit {
         let taken = Taken::new(alloc, keep.steps);
         Ok(Audit {
             reader,
-            trial: Trial { judges, taken },
+            trial: Trial {
+                part,
+                judges,
+                taken,
+            },
         })
     }
 
@@ -183,11 +191,15 @@ fn end(trial: Trial, output: &Formula) -> Result<Passed, Outcome>
     ensures unverified { IfErr result IsUnverified }
     ensures fault { IsErrOf result Outcome.ReadFault → ⊥ }
 {
-    let Trial { judges, taken } = trial;
+    let Trial {
+        part: _,
+        judges,
+        taken,
+    } = trial;
     match judges.finish(output) {
         Ok(judged) => Ok(Passed {
             origin: judged.origin,
-            steps: taken.count,
+            steps: taken.judged,
             undo: judged.undo,
             taken: taken.steps,
         }),

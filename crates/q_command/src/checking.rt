@@ -1,19 +1,21 @@
 // `check`: IN and OUT are read whole, and each step of LOG is tried as it is read.
-ghost use Rattle.std.specs.Prelude.{◌≡◌, ◌<◌, length, IfOk, IfErr, IfSome, IsErrOf};
+ghost use Rattle.std.specs.Prelude.{◌≡◌, ◌<◌, List, ℕ, false, length, IfOk, IfErr, IfSome, IsErrOf};
 ghost use Rattle.q_logic.specs.Prelude.{PrenexFormula, IsProper, IsFormula};
 ghost use Rattle.q_io.specs.Files.{RoseAmong, RoseFor, bytes_at};
 ghost use Rattle.q_command.specs.Names.{OfThree, ends_of, three_of, names_read};
 ghost use Rattle.q_command.specs.Reading.{OnlyReadsFiles};
-ghost use Rattle.q_command.specs.Audits.{IsWithEnds, LogIsTaken};
+ghost use Rattle.q_command.specs.Audits.{IsWithEnds, LogIsShared, LogIsTaken};
 ghost use Rattle.q_command.specs.LazyCheckers.{IsHeld};
 ghost use Rattle.q_command.specs.Taken.{AreRun};
 ghost use Rattle.q_command.specs.Checks.{AreEnds, Checks, FilesPass, HaveOneTruth, IfVerified, IsEarly, IsFileOf, IsInputRefusal, IsUnverified, LeadsBack, LogSays, input_refused};
+ghost use Rattle.q_command.specs.Parts.{ChecksShared, LogSaysShared, share_of};
 
 use crate::audit::{Audit, Keep, Passed};
 use crate::input::{InputError, PIECE, read_formula};
 use crate::names::Names;
 use crate::origin::Origin;
 use crate::outcome::{Outcome, Role};
+use crate::part::Part;
 use crate::taken::TakenStep;
 use q_check::Undos;
 use q_io::Files;
@@ -63,6 +65,52 @@ struct Claim<'a> {
     keep: Keep,
 }
 
+// Tries the log, from the formula of IN to that of OUT, and judges a part of its steps.
+fn check_part_of_log<F: Files>(
+    alloc: Global,
+    files: &mut F,
+    name: &str,
+    buffer: &mut [u8],
+    claim: Claim,
+    part: Part,
+) -> Result<Passed, Outcome>
+    requires room { 0 < length buffer.old }
+    requires undo { (k : ℕ) → share_of part k ≡ false → claim.keep.undo ≡ false }
+    ensures taken { IfOk result (λ p.
+        (input : PrenexFormula) → IsHeld input claim.entry.origin
+        → IfSome (F.held files.old) (λ disk.
+        LogIsShared (share_of part) claim.entry.keep (bytes_at disk name.now) input
+        claim.entry.output.now p)) }
+    ensures leads { IfOk result (λ p.
+        (input : PrenexFormula) → IsHeld input claim.entry.origin → (log : List ℕ)
+        × LogIsShared (share_of part) claim.entry.keep log input claim.entry.output.now p) }
+    ensures says { IfErr result (λ o.
+        (input : PrenexFormula) → IsHeld input claim.entry.origin
+        → IfSome (F.held files.old) (λ disk.
+        LogSaysShared (share_of part) o input claim.entry.output.now (bytes_at disk name.now))) }
+    ensures unverified { IfErr result IsUnverified }
+    ensures fault { IsErrOf result Outcome.ReadFault
+        → RoseFor F.read_faults name.now files.old files.new }
+    ensures only_reads { OnlyReadsFiles F.Files files.old files.new }
+{
+    let Claim {
+        origin,
+        output,
+        keep,
+    } = claim;
+    let Ok(mut audit) = Audit::start(alloc, origin, keep, part) else {
+        return Err(Outcome::NoMemory);
+    };
+    let mut at = 0u64;
+    loop {
+        match audit.read_piece(files, name, at, buffer) {
+            Ok(0) => return audit.finish(output),
+            Ok(count) => at += count as u64,
+            Err(outcome) => return Err(outcome),
+        }
+    }
+}
+
 // Tries the log, from the formula of IN to that of OUT.
 fn check_log<F: Files>(
     alloc: Global,
@@ -91,22 +139,7 @@ fn check_log<F: Files>(
         → RoseFor F.read_faults name.now files.old files.new }
     ensures only_reads { OnlyReadsFiles F.Files files.old files.new }
 {
-    let Claim {
-        origin,
-        output,
-        keep,
-    } = claim;
-    let Ok(mut audit) = Audit::start(alloc, origin, keep) else {
-        return Err(Outcome::NoMemory);
-    };
-    let mut at = 0u64;
-    loop {
-        match audit.read_piece(files, name, at, buffer) {
-            Ok(0) => return audit.finish(output),
-            Ok(count) => at += count as u64,
-            Err(outcome) => return Err(outcome),
-        }
-    }
+    check_part_of_log(alloc, files, name, buffer, claim, Part::whole())
 }
 
 /// The formulas of IN and OUT.
@@ -237,21 +270,19 @@ pub fn verify<F: Files>(
     }
 }
 
-// The number of steps of a log that leads from IN to OUT. The formula of IN is let go once a checker has it.
+// The number of steps that are judged of a log that leads from IN to OUT. The formula of IN is let go once a checker has it.
 fn count_steps<F: Files>(
     alloc: Global,
     files: &mut F,
     names: Names,
     buffer: &mut [u8],
+    part: Part,
 ) -> Result<u64, Outcome>
     requires room { 0 < length buffer.old }
-    ensures verified { IfOk result
-        (λ n. OfThree (F.held files.old) (three_of names.entry) (Checks (Outcome.Verified n))) }
-    ensures truth { IfOk result
-        (λ n. OfThree (F.held files.old) (three_of names.entry) (λ i o l. HaveOneTruth i o)) }
-    ensures checks { IfErr result
-        (λ o. OfThree (F.held files.old) (three_of names.entry) (Checks o)) }
-    ensures unverified { IfErr result IsUnverified }
+    ensures verified { IfOk result (λ n. OfThree (F.held files.old) (three_of names.entry)
+        (ChecksShared (share_of part) (Outcome.Verified n))) }
+    ensures checks { IfErr result (λ o. OfThree (F.held files.old) (three_of names.entry)
+        (ChecksShared (share_of part) o)) }
     ensures fault { IsErrOf result Outcome.ReadFault
         → RoseAmong F.read_faults (names_read (three_of names.entry)) files.old files.new }
     ensures only_reads { OnlyReadsFiles F.Files files.old files.new }
@@ -272,9 +303,27 @@ fn count_steps<F: Files>(
         output: &to,
         keep: nothing,
     };
-    match check_log(alloc, files, names.log, buffer, claim) {
+    match check_part_of_log(alloc, files, names.log, buffer, claim, part) {
         Ok(passed) => Ok(passed.steps),
         Err(outcome) => Err(outcome),
+    }
+}
+
+/// The outcome of a part of `check` over the files of these names: all steps are made, and those of the part are judged.
+pub fn check_part<F: Files>(alloc: Global, files: &mut F, names: Names, part: Part) -> Outcome
+    ensures checks { OfThree (F.held files.old) (three_of names.entry)
+        (ChecksShared (share_of part) result) }
+    ensures fault { result ≡ Outcome.ReadFault
+        → RoseAmong F.read_faults (names_read (three_of names.entry)) files.old files.new }
+    ensures held { F.held files.new ≡ F.held files.old }
+    ensures only_reads { OnlyReadsFiles F.Files files.old files.new }
+{
+    let Ok(mut room) = vec![in alloc; 0u8; PIECE] else {
+        return Outcome::NoMemory;
+    };
+    match count_steps(alloc, files, names, &mut room, part) {
+        Ok(steps) => Outcome::Verified { steps },
+        Err(outcome) => outcome,
     }
 }
 
@@ -288,11 +337,5 @@ pub fn check<F: Files>(alloc: Global, files: &mut F, names: Names) -> Outcome
     ensures held { F.held files.new ≡ F.held files.old }
     ensures only_reads { OnlyReadsFiles F.Files files.old files.new }
 {
-    let Ok(mut room) = vec![in alloc; 0u8; PIECE] else {
-        return Outcome::NoMemory;
-    };
-    match count_steps(alloc, files, names, &mut room) {
-        Ok(steps) => Outcome::Verified { steps },
-        Err(outcome) => outcome,
-    }
+    check_part(alloc, files, names, Part::whole())
 }

@@ -1,10 +1,11 @@
 // The checkers of a log of either profile. A log tells its profile by its first token; here each step goes to the checker
 // that it asks for, and a checker is made at the first such step.
-ghost use Rattle.std.specs.Prelude.{◌≡◌, ◌≤◌, ◌<◌, ◌+◌, ◌∷◌, ◌++◌, ◌^◌, [], List, ℕ, Bool, Ok, Err, IfOk, IfErr, OnOk};
+ghost use Rattle.std.specs.Prelude.{◌≡◌, ◌≤◌, ◌<◌, ◌+◌, ◌∷◌, ◌++◌, ◌^◌, [], List, length, ℕ, Bool, false, Ok, Err, IfOk, IfErr, OnOk};
 ghost use Rattle.q_logic.specs.Prelude.{PrenexFormula, Hinted};
+ghost use Rattle.q_shares.specs.Shares.{Share};
 ghost use Rattle.q_hinted.specs.Logs.{Entry as BothEntry};
 ghost use Rattle.q_command.specs.Logs.{Entry};
-ghost use Rattle.q_command.specs.Judging.{AreBehind, ArePure, IsMade, IsRefusedBehind, IsBehindPlain, IsBehindHinted, IsBadPlain, IsBadHinted, HavePassed, HaveStopped, HavePassedPlain, HaveStoppedPlain, SameTask};
+ghost use Rattle.q_command.specs.Judging.{AreBehind, ArePure, IsFree, IsMade, IsTurn, IsRefusedBehind, IsBehindPlain, IsBehindHinted, IsBadPlain, IsBadHinted, HavePassed, HaveStopped, HavePassedPlain, HaveStoppedPlain, SameTask};
 ghost use Rattle.q_command.specs.LazyCheckers.{IsHeld, hints_taken};
 
 use crate::lazy::{LazyChecker, LazyHintChecker};
@@ -44,33 +45,46 @@ impl Judges {
         }
     }
 
-    /// Takes a step if it is valid; one with a proof part, if this shows it.
-    pub fn step(&mut self, step: &Step, proof: &Option<Proof>) -> Result<(), CheckError>
-        requires { hints_taken self.old.hinted < 2 ^ 61 }
+    /// Takes a step if it is valid, or, where it isn't judged, if it can be made; one with a proof part, if this shows it.
+    pub fn step(
+        &mut self,
+        step: &Step,
+        proof: &Option<Proof>,
+        judged: bool,
+    ) -> Result<(), CheckError>
+        requires hints { hints_taken self.old.hinted < 2 ^ 61 }
+        requires free { judged ≡ false → IsFree self.old }
         ensures behind { OnOk result
-            ((F : PrenexFormula) → (es : List BothEntry) → (line : ℕ) → AreBehind F self.old es
-            → AreBehind F self.new (es ++ (line, step.now, proof.now) ∷ [])) }
+            ((j : Share) → (F : PrenexFormula) → (es : List BothEntry) → (line : ℕ)
+            → IsTurn j es proof.now judged → AreBehind j F self.old es
+            → AreBehind j F self.new (es ++ (line, step.now, proof.now) ∷ [])) }
         ensures refused { IfErr result (λ e.
-            (F : PrenexFormula) → (es : List BothEntry) → AreBehind F self.old es
-            → IsRefusedBehind F es step.now proof.now e) }
+            (j : Share) → (F : PrenexFormula) → (es : List BothEntry)
+            → IsTurn j es proof.now judged → AreBehind j F self.old es
+            → IsRefusedBehind j F es step.now proof.now e) }
         ensures same { OnOk result (SameTask self.old self.new) }
+        ensures free { OnOk result (IsFree self.old → IsFree self.new) }
         ensures taken { OnOk result
             (hints_taken self.new.hinted ≤ hints_taken self.old.hinted + 1) }
     {
         match proof {
-            None => self.step_plain(step),
+            None => self.step_plain(step, judged),
             Some(proof) => self.step_hinted(step, proof),
         }
     }
 
-    fn step_plain(&mut self, step: &Step) -> Result<(), CheckError>
+    fn step_plain(&mut self, step: &Step, judged: bool) -> Result<(), CheckError>
+        requires { judged ≡ false → IsFree self.old }
         ensures behind { OnOk result
-            ((F : PrenexFormula) → IsHeld F self.old.origin → (ps : List Entry) → (line : ℕ)
-            → IsBehindPlain self.old.keeps_undo F ps self.old.plain
-            → IsBehindPlain self.old.keeps_undo F (ps ++ (line, step.now) ∷ []) self.new.plain) }
+            ((F : PrenexFormula) → IsHeld F self.old.origin → (j : Share) → (ps : List Entry)
+            → (line : ℕ) → judged ≡ j (length ps)
+            → IsBehindPlain self.old.keeps_undo j F ps self.old.plain
+            → IsBehindPlain self.old.keeps_undo j F (ps ++ (line, step.now) ∷ []) self.new.plain) }
         ensures refused { IfErr result (λ e.
-            (F : PrenexFormula) → IsHeld F self.old.origin → (ps : List Entry)
-            → IsBehindPlain self.old.keeps_undo F ps self.old.plain → IsBadPlain F ps step.now e) }
+            (F : PrenexFormula) → IsHeld F self.old.origin → (j : Share) → (ps : List Entry)
+            → judged ≡ j (length ps) → IsBehindPlain self.old.keeps_undo j F ps self.old.plain
+            → IsBadPlain j F ps step.now e) }
+        ensures free { OnOk result (IsFree self.old → IsFree self.new) }
         ensures origin { OnOk result
             ((F : PrenexFormula) → IsHeld F self.old.origin → IsHeld F self.new.origin) }
         ensures same { SameTask self.old self.new }
@@ -78,7 +92,7 @@ impl Judges {
     {
         self.plain.fill(self.alloc, &self.origin, self.keeps_undo)?;
         self.origin.release();
-        self.plain.step(step)
+        self.plain.step(step, judged)
     }
 
     fn step_hinted(&mut self, step: &Step, proof: &Proof) -> Result<(), CheckError>
@@ -107,12 +121,12 @@ impl Judges {
     /// Ends the check: blocks and clauses are those of the output, in any order.
     pub fn finish(self, output: &Formula) -> Result<Judged, CheckError>
         ensures passed { IfOk result (λ r.
-            (F : PrenexFormula) → (es : List BothEntry) → AreBehind F self es → ArePure es
-            → HavePassed self.keeps_undo F es output.now r.undo) }
+            (j : Share) → (F : PrenexFormula) → (es : List BothEntry) → AreBehind j F self es
+            → ArePure es → HavePassed self.keeps_undo j F es output.now r.undo) }
         ensures origin { IfOk result (λ r. r.origin ≡ self.origin) }
         ensures refused { IfErr result (λ e.
-            (F : PrenexFormula) → (es : List BothEntry) → AreBehind F self es → ArePure es
-            → HaveStopped F es output.now e) }
+            (j : Share) → (F : PrenexFormula) → (es : List BothEntry) → AreBehind j F self es
+            → ArePure es → HaveStopped j F es output.now e) }
     {
         let Judges {
             alloc,
@@ -137,11 +151,11 @@ fn finish_plain(
     output: &Formula,
 ) -> Result<Verified, CheckError>
     ensures passed { IfOk result (λ v.
-        (F : PrenexFormula) → IsHeld F origin.now → (keep : Bool) → (ps : List Entry)
-        → IsBehindPlain keep F ps plain → HavePassedPlain keep F ps output.now v.undo) }
+        (F : PrenexFormula) → IsHeld F origin.now → (keep : Bool) → (j : Share) → (ps : List Entry)
+        → IsBehindPlain keep j F ps plain → HavePassedPlain keep j F ps output.now v.undo) }
     ensures refused { IfErr result (λ e.
-        (F : PrenexFormula) → IsHeld F origin.now → (keep : Bool) → (ps : List Entry)
-        → IsBehindPlain keep F ps plain → HaveStoppedPlain F ps output.now e) }
+        (F : PrenexFormula) → IsHeld F origin.now → (keep : Bool) → (j : Share) → (ps : List Entry)
+        → IsBehindPlain keep j F ps plain → HaveStoppedPlain j F ps output.now e) }
 {
     plain.fill(alloc, origin, false)?;
     plain.finish(output)

@@ -1,8 +1,8 @@
 // Places for the checkers of a log. A checker stands in a row of at most one, so that who holds a place lets it go by one call.
-ghost use Rattle.std.specs.Prelude.{◌≡◌, ◌<◌, ◌+◌, ◌^◌, None, IsSome, IsSomeAnd, is_some, OnOk, IfErr};
+ghost use Rattle.std.specs.Prelude.{◌≡◌, ◌<◌, ◌+◌, ◌^◌, false, None, IsSome, IsSomeAnd, is_some, OnOk, IfErr};
 ghost use Rattle.q_judge.specs.declared.error.CheckError.TheVariants.{NoMemory as MemoryError};
 ghost use Rattle.q_logic.specs.Prelude.{PrenexFormula};
-ghost use Rattle.q_command.specs.LazyCheckers.{IsHeld, HasSteppedHinted, HasSteppedPlain, IsEndedHinted, IsEndedPlain, IsReadyHinted, IsReadyPlain, hints_taken};
+ghost use Rattle.q_command.specs.LazyCheckers.{IsHeld, HasSteppedHinted, HasSteppedPlain, IsEndedHinted, IsEndedPlain, IsReadyHinted, IsReadyPlain, KeepsNone, hints_taken};
 
 use crate::origin::Origin;
 use q_check::{CheckError, Checker, HintChecker, Verified};
@@ -59,12 +59,17 @@ impl LazyChecker {
         Ok(())
     }
 
-    /// A step of the checker that is here.
-    pub fn step(&mut self, step: &Step) -> Result<(), CheckError>
-        requires { IsSome self.old }
-        ensures { HasSteppedPlain step.now result self.old self.new }
+    /// A step of the checker that is here, which judges it, or makes it alone.
+    pub fn step(&mut self, step: &Step, judged: bool) -> Result<(), CheckError>
+        requires there { IsSome self.old }
+        requires free { judged ≡ false → KeepsNone self.old }
+        ensures { HasSteppedPlain step.now judged result self.old self.new }
     {
-        self.row[0].step(step)
+        if judged {
+            self.row[0].step(step)
+        } else {
+            self.row[0].pass(step)
+        }
     }
 
     /// The end of the checker that is here.

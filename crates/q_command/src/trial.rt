@@ -1,21 +1,20 @@
 // The steps of a log on trial: each is tried, counted, and on demand kept with its line.
-ghost use Rattle.std.specs.Prelude.{◌≡◌, ◌<◌, ◌-◌, ◌^◌, List, OnOk, IfErr, IsErrOf};
-ghost use Rattle.q_logic.specs.Prelude.{PrenexFormula};
-ghost use Rattle.q_hinted.specs.Logs.{Entry as BothEntry};
+ghost use Rattle.std.specs.Prelude.{◌≡◌, ◌<◌, ◌≤◌, ◌-◌, ◌^◌, OnOk, IfErr, IsErrOf};
 ghost use Rattle.q_command.specs.Checks.{IsUnverified};
-ghost use Rattle.q_command.specs.Judging.{AreBehind};
 ghost use Rattle.q_command.specs.LazyCheckers.{hints_taken};
-ghost use Rattle.q_command.specs.Trials.{HasTried, Convicts};
+ghost use Rattle.q_command.specs.Trials.{HasTried, ConvictsBehind, MayPass};
 
 use crate::judges::Judges;
 use crate::outcome::Outcome;
+use crate::part::Part;
 use crate::refusals::step_refusal;
 use crate::taken::Taken;
 use q_logic::{NoMemory, Proof, Step};
 
-/// The checkers behind the steps so far, and what is kept of these.
+/// The checkers behind the steps so far, what is kept of these, and which of them are judged here.
 #[derive(Drop)]
 pub(crate) struct Trial {
+    pub part: Part,
     pub judges: Judges,
     pub taken: Taken,
 }
@@ -30,15 +29,17 @@ impl Trial {
     ) -> Result<Option<Step>, Outcome>
         requires hints { hints_taken self.old.judges.hinted < 2 ^ 61 }
         requires count { self.old.taken.count < 2 ^ 64 - 1 }
+        requires fewer { self.old.taken.judged ≤ self.old.taken.count }
+        requires may { MayPass self.old }
         ensures tried { OnOk result (HasTried (line, step, proof.now) self.old self.new) }
         ensures refused { IfErr result (λ o.
-            (F : PrenexFormula) → (es : List BothEntry) → AreBehind F self.old.judges es
-            → Convicts o F es (line, step, proof.now)) }
+            ConvictsBehind o self.old (line, step, proof.now)) }
         ensures unverified { IfErr result IsUnverified }
         ensures fault { IsErrOf result Outcome.ReadFault → ⊥ }
     {
-        match self.judges.step(&step, proof) {
-            Ok(()) => match self.taken.add(line, step) {
+        let judged = self.part.judges(self.taken.count);
+        match self.judges.step(&step, proof, judged) {
+            Ok(()) => match self.taken.add(line, step, judged) {
                 Ok(back) => Ok(back),
                 Err(NoMemory) => Err(Outcome::NoMemory),
             },

@@ -1,3 +1,4 @@
+// Makes a formula of tokens: a small automaton of what may stand next, and for each token that may not the cause of its refusal.
 ghost use Rattle.std.specs.Prelude.{◌≡◌, ◌↔◌, ℕ, ◌≤◌, ◌<◌, ◌^◌, [], IsTrue, Ok, IfOk};
 ghost use Rattle.q_dimacs.specs.declared.builder.Place.{Place};
 ghost use Rattle.q_logic.specs.Prelude.{IsProper};

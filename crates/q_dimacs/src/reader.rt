@@ -1,3 +1,6 @@
+// Reads a formula from bytes that come in pieces, in one pass. The first offence is that of the grammar in `specs/`, whatever
+// follows it, and how the bytes are cut makes no difference.
+// Hot: literals and the 0 of a clause go past the tokens, by a look at the piece.
 ghost use Rattle.std.specs.Prelude.{◌≡◌, ℕ, ◌<◌, ◌≤◌, ◌-◌, length, ◌^◌, List, [], ◌++◌, true, Some, Err, IfOk, OnOk, IfErr, IfSome};
 ghost use Rattle.q_text.specs.Tokens.{line_of};
 ghost use Rattle.q_text.specs.Pieces.{literal_token, zero_token};

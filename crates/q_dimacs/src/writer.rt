@@ -1,3 +1,4 @@
+// The canonical text of a formula: header, a line for each block, a line for each clause.
 ghost use Rattle.std.specs.Prelude.{◌≡◌, ◌≤◌, ◌+◌, ◌++◌, ◌∷◌, [], OnOk, OnErr, IsOk, length, vec_len, vec_capacity, Option, Some, None, map};
 ghost use Rattle.q_logic.specs.Prelude.{number_of, blocks};
 ghost use Rattle.q_text.specs.Numbers.{number_text, numbers_text, line_end};

@@ -1,3 +1,4 @@
+// The clauses that a walk has met, in their order, and a mark for each.
 ghost use Rattle.std.specs.Prelude.{◌≡◌, ◌↔◌, ◌<◌, ◌++◌, ◌∷◌, [], ℕ, length, slice_get, OnOk, OnErr, Some, IsTrue, slice_index_or, vec_len, true, false};
 ghost use Rattle.q_kernel.specs.Lists.{Has, AreApart};
 ghost use Rattle.q_expand.specs.Ids.{AreNoted};

@@ -1,3 +1,5 @@
+// Makes steps with their proof parts of tokens. Which profile a log has is told by its first token; steps themselves are made by
+// the builder of plain logs.
 ghost use Rattle.std.specs.Prelude.{◌≡◌, ℕ, true, false, None, Some, Ok};
 ghost use Rattle.q_text.specs.Tokens.{is_zero};
 ghost use Rattle.q_text.specs.Pieces.{literal_token};

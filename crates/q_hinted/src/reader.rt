@@ -1,3 +1,5 @@
+// Reads a log of either profile from bytes that come in pieces, and hands out each step at the byte that ends it. The memory of
+// a step is given back and serves for the next.
 ghost use Rattle.std.specs.Prelude.{◌≡◌, ◌≤◌, ◌<◌, ◌+◌, ◌^◌, length, take, [], ◌∷◌, List, ℕ, Option, Some, None, Ok, Err, IfOk, IfErr, IfSome, true};
 ghost use Rattle.q_hinted.specs.Logs.{read_entries};
 ghost use Rattle.q_hinted.specs.Reading.{start, to_come, transition, behind, profile, profile_after, token_transition, Answers, Leads, Passes, Brings, Ends};

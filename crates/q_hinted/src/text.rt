@@ -1,3 +1,4 @@
+// The canonical text of a log with hints.
 ghost use Rattle.std.specs.Prelude.{◌≡◌, ◌++◌, ◌∷◌, [], pos, OnOk, OnErr};
 ghost use Rattle.q_logic.specs.Prelude.{kind_of};
 ghost use Rattle.q_text.specs.Numbers.{number_text};

@@ -1,3 +1,4 @@
+// Files in memory with planned faults, for tests and for callers in the same process.
 ghost use Rattle.std.specs.Prelude.{◌≡◌, ◌≤◌, ◌-◌, ◌++◌, ◌∷◌, ◌⊎◌, [], length, min, take, option_copied, IfOk, IfSome, IsErr, IsErrOf, IsSome, OnOk, OnErr, Some};
 ghost use Rattle.std.specs.FinMap as map;
 ghost use Rattle.q_io.specs.Files.{Appends, AppendsPart, Empties, MayEmpty, OthersStay, Reads, bytes_at};

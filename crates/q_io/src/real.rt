@@ -1,4 +1,8 @@
-ghost use Rattle.std.specs.Prelude.{◌≡◌, ◌≤◌, List, ℕ, None, IfOk, length};
+// Files of the real disk and standard output, as the traits of this crate have them. No contract can say what a disk holds: these
+// adapters tell no content, and what they do is shown by tests.
+ghost use Rattle.std.specs.Prelude.{◌≡◌, ◌↔◌, ◌≤◌, List, ℕ, None, IfOk, OnOk, length};
+ghost use Rattle.std.specs.Io.KnownBytes.{Appends};
+ghost use Rattle.std.specs.IoError.{error_kind};
 ghost use Rattle.q_logic.specs.Prelude.{Rose};
 
 use crate::error::DeviceError;
@@ -150,7 +154,9 @@ fn append_on<R: std::rt::Files + AllocGlobal>(
 }
 
 // Writes all the bytes. A write that takes none of those that are left is an error.
-fn write_all<W: Write>(out: &mut W, bytes: &[u8]) -> io::Result<()> {
+fn write_all<W: Write>(out: &mut W, bytes: &[u8]) -> io::Result<()>
+    ensures { OnOk result (Appends (W.contents out.old) (W.contents out.new) bytes.now) }
+{
     let mut rest = bytes;
     while !rest.is_empty() {
         let count = out.write(rest)?;
@@ -165,6 +171,7 @@ fn write_all<W: Write>(out: &mut W, bytes: &[u8]) -> io::Result<()> {
 // What a call answers for an error: memory may be wanting for a name, or in the system; all else is counted as a failure.
 fn counted(error: &io::Error, failures: &mut u64) -> DeviceError
     ensures cause { result ≡ DeviceError.Failed → Rose failures.old failures.new }
+    ensures memory { result ≡ DeviceError.NoMemory ↔ error_kind error.now ≡ ErrorKind.OutOfMemory }
     ensures later { failures.old ≤ failures.new }
 {
     if error.kind() == ErrorKind::OutOfMemory {

@@ -1,3 +1,4 @@
+// Sinks in memory: one that never fails, and one with planned faults.
 ghost use Rattle.std.specs.Prelude.{◌≡◌, ◌≤◌, ◌++◌, ◌∷◌, [], List, ℕ, Contains, IfOk, IsErrOf, OnErr, OnOk, Some};
 ghost use Rattle.q_io.specs.Files.{GrowsBy, GrowsByPart};
 ghost use Rattle.q_io.specs.Memory.{MemText, next};

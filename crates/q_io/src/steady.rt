@@ -1,3 +1,4 @@
+// Files in memory that never fail, so that what a command answers on them is what it answers where no fault comes.
 ghost use Rattle.std.specs.Prelude.{◌≡◌, ◌-◌, List, ℕ, length, min, option_copied, IfOk, OnOk, OnErr, Ok, Some};
 ghost use Rattle.std.specs.FinMap as map;
 ghost use Rattle.q_io.specs.Files.{Disk, OthersStay, Reads, bytes_at};

@@ -24,3 +24,4 @@ pub mod StartFormula
 pub mod InnerVariables
 pub mod RegionSeparation
 pub mod KeptWalks
+pub mod EvidentPivots

@@ -1,6 +1,7 @@
 -- Outer clauses as they are gathered for a pivot, over slots.
 use Rattle.std.specs.Prelude.{◌≡◌, ◌⊎◌, ℕ, List, [], ◌∷◌, ◌++◌, Contains, Result}
-use Rattle.q_logic.specs.Prelude.{Clause, Prefix, Slots, outer, Implied, IsTautology}
+use Rattle.q_logic.specs.Prelude.{Literal, negation, clause_of, Clause, Prefix, Slots, outer, Implied, IsTautology}
+use Rattle.q_logic.specs.Prelude.{without as others}
 use Rattle.q_prop.specs.Slots.{Holds, filled, without}
 use Rattle.q_judge.specs.declared.error.CheckError.{CheckError}
 use Rattle.q_judge.specs.declared.pivots.Candidate.{Candidate}
@@ -11,6 +12,10 @@ use Rattle.q_judge.specs.Warrants.{IsAnswered}
 -- the base joined with the outer clause
 abbrev pub resolvent : Prefix → Question → Clause → Clause
 resolvent P q D = q.base.now ++ outer P q.m D
+
+-- the resolvent on m that is looked up: the base without the opposite of m, and the outer clause
+abbrev pub looked_up : Prefix → Literal → Clause → Clause → Clause
+looked_up P m base D = clause_of (others (negation m) base ++ outer P m D)
 
 -- the outer clause of a slot's clause is appended, or clashes with the base
 abbrev pub IsGathered : Prefix → Slots → Question → ℕ → List Clause → List Clause → Type 0

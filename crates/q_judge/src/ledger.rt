@@ -9,9 +9,9 @@ ghost use Rattle.q_judge.specs.Ledgers.{slotted, formula_in, clauses_but};
 ghost use Rattle.q_judge.specs.Tried.{IsEndRefusal};
 ghost use Rattle.q_judge.specs.Warrants.{IsAnswered, Resolves};
 
-use crate::blocking::is_blocked_first;
 use crate::checks::{compare, has_room, sum_of};
 use crate::error::CheckError;
+use crate::evident::{is_evident_first, resolves_evidently};
 use crate::kept_walks::RecentWalks;
 use crate::pivots::{
     Buffers, Candidate, Question, Warrant, permit_of, push_outer, resolves, warrant_of,
@@ -186,7 +186,7 @@ impl Ledger {
     }
 
     /// Whether the clause may come or go, over the slots but one; refused where nothing speaks for it. Why is not told: a
-    /// clause that is blocked needs no propagation then.
+    /// clause with an evident pivot needs no propagation then.
     pub fn permit(
         &mut self,
         skip: Option<usize>,
@@ -209,16 +209,22 @@ impl Ledger {
         permit_of(&mut self.store, &self.scope, &mut self.buffers, &candidate)
     }
 
-    /// Whether the first literal blocks the clause, over the slots but one: each resolvent is a tautology. Takes no
-    /// propagation.
-    pub fn is_blocked(&self, skip: Option<usize>, clause: &[Lit], first: &Option<Lit>) -> bool
-        requires within { Within self.now.prefix clause.now }
-        requires first { IsFirst first.now clause.now }
-        ensures { IsTrue result →
-            FirstPivot self.now.prefix (clauses_but self.now skip) clause.now first.now }
+    /// Whether the first literal is an evident pivot of the clause, over the slots but one: each resolvent is a tautology or stands
+    /// there. Takes no propagation, and is asked only where few clauses hold the opposite literal.
+    pub fn is_evident(
+        &mut self,
+        skip: Option<usize>,
+        clause: &[Lit],
+        first: Option<Lit>,
+    ) -> Result<bool, NoMemory>
+        requires within { Within self.old.prefix clause.now }
+        requires first { IsFirst first clause.now }
+        ensures same { self.new ≡ self.old }
+        ensures pivot { IfOk result (λ yes. IsTrue yes →
+            FirstPivot self.old.prefix (clauses_but self.old skip) clause.now first) }
     {
         let others = View::new(&self.store, &self.scope, skip);
-        is_blocked_first(&others, clause, first)
+        is_evident_first(&others, &mut self.buffers.outers.joined, clause, first)
     }
 
     /// Whether the literals, joined with the outer clause of each clause that holds m, are implied, over the slots but one.
@@ -232,7 +238,8 @@ impl Ledger {
         resolves(&mut self.store, &self.scope, &mut self.buffers, &question)
     }
 
-    /// Whether the literal may go from the clause in a slot. `rest` is the clause without the literal.
+    /// Whether the literal may go from the clause in a slot. `rest` is the clause without the literal. What takes no propagation is asked
+    /// first: a walk that was kept, an evident pivot, and the reach.
     pub fn is_droppable(
         &mut self,
         at: usize,
@@ -253,10 +260,24 @@ impl Ledger {
         if self.is_told(at, clause, lit) {
             return Ok(true);
         }
-        if self.resolves(Some(at), rest, lit.negated())? {
+        if self.resolves_evidently(at, rest, lit.negated())? {
             return Ok(true);
         }
-        self.is_reducible(at, clause, lit)
+        if self.is_reducible(at, clause, lit)? {
+            return Ok(true);
+        }
+        self.resolves(Some(at), rest, lit.negated())
+    }
+
+    // Whether the literals, joined with the outer clause of each clause that holds m, are evidently implied, over the slots but one.
+    fn resolves_evidently(&mut self, at: usize, base: &[Lit], m: Lit) -> Result<bool, NoMemory>
+        requires { is_bound self.old.prefix m.var ≡ true }
+        ensures same { self.new ≡ self.old }
+        ensures resolved { IfOk result (λ yes. IsTrue yes →
+            Resolves self.old.prefix (clauses_but self.old (Some at)) base.now m) }
+    {
+        let others = View::new(&self.store, &self.scope, Some(at));
+        resolves_evidently(&others, &mut self.buffers.outers.joined, base, m)
     }
 
     // Whether the literal is universal, and its negation not in the clause.

@@ -7,6 +7,7 @@ mod bindings;
 mod blocking;
 mod checks;
 mod error;
+mod evident;
 mod kept_walks;
 mod labels;
 mod ledger;

@@ -5,8 +5,9 @@ ghost use Rattle.q_prop.specs.Slots.{filled, without};
 ghost use Rattle.q_judge.specs.Pivots.{IsGathered, AreGathered, ResolveAt, IsJudged};
 ghost use Rattle.q_judge.specs.Warrants.{AreHolders, Resolves};
 
-use crate::blocking::{clashes, is_blocked_first};
+use crate::blocking::clashes;
 use crate::error::{Cause, CheckError};
+use crate::evident::is_evident_first;
 use crate::scope::Scope;
 use crate::view::View;
 use q_logic::{Lit, NoMemory};
@@ -260,7 +261,7 @@ pub fn warrant_of(
     Ok(Warrant::Pivot)
 }
 
-/// Whether the clause may come or go; refused as by `warrant_of`. What blocks it is looked for first, since that takes no
+/// Whether the clause may come or go; refused as by `warrant_of`. An evident pivot is looked for first, since that takes no
 /// propagation.
 pub fn permit_of(
     store: &mut Store,
@@ -278,7 +279,12 @@ pub fn permit_of(
     ensures refused { IfErr result (λ e. IsJudged scope.now store.old candidate.now (Err e)) }
 {
     let view = View::new(store, scope, candidate.skip);
-    if is_blocked_first(&view, candidate.clause, &candidate.first) {
+    if is_evident_first(
+        &view,
+        &mut buffers.outers.joined,
+        candidate.clause,
+        candidate.first,
+    )? {
         return Ok(());
     }
     warrant_of(store, scope, buffers, candidate)?;

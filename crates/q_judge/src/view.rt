@@ -1,6 +1,6 @@
 //! What the tests of a step look at: a prefix, and the clauses in all slots or in all but one.
-ghost use Rattle.std.specs.Prelude.{◌≡◌, length, MatchOption};
-ghost use Rattle.q_logic.specs.Prelude.{Clause, Closed, Within};
+ghost use Rattle.std.specs.Prelude.{◌≡◌, ◌↔◌, Some, length, MatchOption, IsTrue};
+ghost use Rattle.q_logic.specs.Prelude.{Clause, IsIn, Closed, Within};
 ghost use Rattle.q_prop.specs.Slots.{Holds, filled, without};
 ghost use Rattle.q_judge.specs.Warrants.{AreSlotsOf};
 
@@ -60,6 +60,16 @@ impl<'a> View<'a> {
         clause_at(self.store, self.skip, at)
     }
 
+    /// Whether a slot with the clause is found, by one look-up. Where that is the slot left out, another one is not looked for.
+    pub fn finds(&self, lits: &[Lit]) -> bool
+        ensures { IsTrue result → IsIn lits.now (filled self.now.slots) }
+    {
+        match self.store.find(lits) {
+            Some(at) => !is_left_out(self.skip, at),
+            None => false,
+        }
+    }
+
     /// The slots of the clauses that hold the literal. The one that is left out may be among them.
     pub fn slots_of(&self, lit: Lit) -> &'a [u32]
         ensures { AreSlotsOf self.now.slots lit result.now }
@@ -73,10 +83,17 @@ fn clause_at<'a>(store: &'a Store, skip: Option<usize>, at: usize) -> Option<&'a
     ensures { MatchOption result ((d : Clause) → Holds (without store.now skip) at d → ⊥) (λ r.
         Holds (without store.now skip) at r.now) }
 {
-    if let Some(left_out) = skip {
-        if left_out == at {
-            return None;
-        }
+    if is_left_out(skip, at) {
+        return None;
     }
     store.slot(at)
+}
+
+fn is_left_out(skip: Option<usize>, at: usize) -> bool
+    ensures { IsTrue result ↔ (skip ≡ Some at) }
+{
+    match skip {
+        Some(left_out) => left_out == at,
+        None => false,
+    }
 }

@@ -1,3 +1,8 @@
+// The formula while it is simplified, and the log of what was done to it. Each change is one valid step of the proof: clauses
+// stand in the arena, their places in the lists of literals, the variables in the prefix, and the text of the step goes to the
+// pending bytes, all by one call. A rule reserves what it may need before its first step, so that from then on no step can fail
+// and nothing is left half done.
+// Hot: `holders`, `lits` and `count`, which every search asks; `compact` slides clauses down only where half of the words are dead.
 ghost use Rattle.std.specs.Prelude.{◌≡◌, ◌≢◌, ◌↔◌, ◌≤◌, ◌<◌, ◌+◌, ◌*◌, [], ◌∷◌, ◌++◌, if◌then◌else◌, ℕ, true, false, length, slice_get, slice_index_or, OnOk, OnErr, IfOk, None, Some, IsTrue};
 ghost use Rattle.q_logic.specs.Prelude.{Clause, IsIn, Literal, IsBelow, ArePairs, IsProper, first_of, slot, live, numbered, formula_of, greatest, size_of, measure_of, swept, has_empty, occurs, occurring, is_bound, remove_variable, Within};
 ghost use Rattle.q_arena.specs.Prelude.{live_in, words_in, IsFree, IsEnd, Has, following};

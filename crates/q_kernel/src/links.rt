@@ -1,3 +1,5 @@
+// Clauses come, go and shrink in the arena and in the lists of places at once, so that each place of a live clause stands in the
+// list of its literal, and no other place does.
 ghost use Rattle.std.specs.Prelude.{◌≡◌, ◌≤◌, ◌<◌, ◌+◌, ℕ, length, slice_set, Some, None};
 ghost use Rattle.std.specs.List.{sum_by};
 ghost use Rattle.q_logic.specs.Prelude.{IsBelow, Clause, IsIn, ArePairs, without};

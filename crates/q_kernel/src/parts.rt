@@ -1,3 +1,5 @@
+// What a kernel is made of when it begins: numbers of the formula that its tables need before the first clause is put in, and the
+// counts that are kept with each change.
 ghost use Rattle.std.specs.Prelude.{◌≡◌, ◌≤◌, ◌<◌, ◌+◌, ◌-◌, ℕ, [], IfOk, length, true, false};
 ghost use Rattle.q_logic.specs.Prelude.{Clause, is_bound, Distinct, first_of, greatest, literals_in};
 ghost use Rattle.q_kernel.specs.Uses.{AreUses};

@@ -1,3 +1,5 @@
+// The text of the steps that are not yet written to the log. Its room is a number beside the text, reserved before a rule is
+// taken, so that a step is appended without memory.
 ghost use Rattle.std.specs.Prelude.{◌≡◌, ◌≤◌, ◌+◌, ◌++◌, [], length, OnOk};
 ghost use Rattle.q_logic.specs.Prelude.{IsBelow, ArePairs};
 ghost use Rattle.q_log.specs.Texts.{step_text, written, shorter, IsWritable};

@@ -1,3 +1,5 @@
+// The variables of the prefix in three groups: idle ones, which no clause holds, and of the others the existentials and the
+// universals. Sweeping takes idle ones out, and the measure counts the other two groups; no call goes over the prefix for it.
 ghost use Rattle.std.specs.Prelude.{◌≡◌, ◌≤◌, ◌<◌, ◌⊎◌, [], ◌∷◌, ℕ, length, slice_get, OnOk, IfOk, Some};
 ghost use Rattle.q_arena.specs.Prelude.{Has, AreApart, without};
 ghost use Rattle.q_kernel.specs.Uses.{group_of, head_of, IsGrouped, IsStarted, IsStopped};

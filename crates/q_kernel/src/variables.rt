@@ -1,3 +1,4 @@
+// Which variables occur: what a clause that comes or goes does to the groups of `uses.rt`.
 ghost use Rattle.std.specs.Prelude.{◌≡◌, ◌&&◌, ℕ, Bool, true, false};
 ghost use Rattle.q_logic.specs.Prelude.{IsIn, is_bound, Within};
 ghost use Rattle.q_kernel.specs.Uses.{AreUses, with_occurring};

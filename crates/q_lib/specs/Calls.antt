@@ -1,6 +1,7 @@
 -- What a call does: a command of the program over files in memory, and what is copied out.
-use Rattle.std.specs.Prelude.{◌≡◌, ◌⊎◌, ◌<◌, ◌≤◌, ℕ, List, [], ◌∷◌, length, take, Some, codes}
-use Rattle.q_io.specs.Files.{Disk, bytes_at}
+use Rattle.std.specs.Prelude.{◌≡◌, ◌≢◌, ◌⊎◌, ◌<◌, ◌≤◌, ℕ, List, [], ◌∷◌, length, take, Some, None, codes}
+use Rattle.std.specs.FinMap as map
+use Rattle.q_io.specs.Files.{Disk}
 use Rattle.q_io.specs.Memory.{SteadyText}
 use Rattle.q_command.specs.Statuses.{code_of}
 use Rattle.q_command.specs.declared.status.Status.{Status}
@@ -8,6 +9,7 @@ use Rattle.q_command.specs.declared.status.Status.TheVariants as status
 use Rattle.q_app.specs.Commands.{request}
 use Rattle.q_command.specs.Devices.{Devices}
 use Rattle.q_app.specs.Says.{Does}
+use Rattle.q_lib.specs.declared.Lengths.{Lengths}
 
 -- files and a sink in memory, which never fail
 abbrev pub memory : Disk → SteadyText → Devices
@@ -29,20 +31,25 @@ pub record Copied (bytes old new : List ℕ) (len : ℕ) : Type 0 where
   pub fits : length bytes ≤ length old → take (length bytes) new ≡ bytes
   pub over : length old < length bytes → new ≡ old
 
--- the files IN, OUT and LOG hold these bytes
+-- IN holds these bytes, and no other name is held
+pub record HoldsOne (input : List ℕ) (disk : Disk) : Type 0 where
+  pub input_is : map.get disk (codes "IN") ≡ Some input
+  pub alone : (name : List ℕ) → name ≢ codes "IN" → map.get disk name ≡ None
+
+-- IN, OUT and LOG hold these bytes, and no other name is held
 pub record HoldsThree (disk : Disk) (input output log : List ℕ) : Type 0 where
-  pub input_is : bytes_at disk (codes "IN") ≡ input
-  pub output_is : bytes_at disk (codes "OUT") ≡ output
-  pub log_is : bytes_at disk (codes "LOG") ≡ log
+  pub input_is : map.get disk (codes "IN") ≡ Some input
+  pub output_is : map.get disk (codes "OUT") ≡ Some output
+  pub log_is : map.get disk (codes "LOG") ≡ Some log
+  pub alone : (name : List ℕ) → name ≢ codes "IN" → name ≢ codes "OUT" → name ≢ codes "LOG" → map.get disk name ≡ None
 
--- the file IN holds these bytes
-abbrev pub HoldsOne : List ℕ → Disk → Type 0
-HoldsOne input disk = bytes_at disk (codes "IN") ≡ input
-
--- and SKOLEM these
+-- the same with SKOLEM
 pub record HoldsFour (disk : Disk) (input output log skolem : List ℕ) : Type 0 where
-  pub three : HoldsThree disk input output log
-  pub skolem_is : bytes_at disk (codes "SKOLEM") ≡ skolem
+  pub input_is : map.get disk (codes "IN") ≡ Some input
+  pub output_is : map.get disk (codes "OUT") ≡ Some output
+  pub log_is : map.get disk (codes "LOG") ≡ Some log
+  pub skolem_is : map.get disk (codes "SKOLEM") ≡ Some skolem
+  pub alone : (name : List ℕ) → name ≢ codes "IN" → name ≢ codes "OUT" → name ≢ codes "LOG" → name ≢ codes "SKOLEM" → map.get disk name ≡ None
 
 -- the command of these words is done over some files of which this holds
 pub record RanOver (words : List (List ℕ)) (Given : Disk → Type 0) (given : Status) (after : Disk) (line : SteadyText) : Type 0 where
@@ -59,6 +66,10 @@ pub record Done (words : List (List ℕ)) (Given : Disk → Type 0) (code : ℕ)
   pub code_is : code ≡ code_of given
   pub kept : Kept after line.text
 
--- it is, or memory was wanting for it
-abbrev pub Called : List (List ℕ) → (Disk → Type 0) → ℕ → (Disk → List ℕ → Type 0) → Type 0
-Called words Given code Kept = Done words Given code Kept ⊎ (code ≡ code_of status.NoMemory)
+-- it is, or memory was wanting for it and this holds
+abbrev pub Called : List (List ℕ) → (Disk → Type 0) → ℕ → (Disk → List ℕ → Type 0) → Type 0 → Type 0
+Called words Given code Kept Untouched = Done words Given code Kept ⊎ ((code ≡ code_of status.NoMemory) × Untouched)
+
+-- no length is told
+abbrev pub no_lengths : Lengths
+no_lengths = record { output = 0; log = 0; line = 0 }

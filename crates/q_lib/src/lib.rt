@@ -5,9 +5,9 @@
 mod copying;
 mod running;
 
-ghost use Rattle.std.specs.Prelude.{◌∷◌, [], codes};
+ghost use Rattle.std.specs.Prelude.{◌≡◌, ◌∷◌, [], codes};
 ghost use Rattle.q_io.specs.Files.{bytes_at};
-ghost use Rattle.q_lib.specs.Calls.{Called, Copied, HoldsFour, HoldsOne, HoldsThree, over_three};
+ghost use Rattle.q_lib.specs.Calls.{Called, Copied, HoldsFour, HoldsOne, HoldsThree, no_lengths, over_three};
 
 use copying::{put, put_file};
 use q_app::Status;
@@ -41,7 +41,8 @@ pub extern "C" fn celdrinn_check(
 ) -> u8
     ensures { Called (over_three (codes "check") []) (λ disk.
         HoldsThree disk input.now output.now log.now) result (λ disk text.
-        Copied text line.old line.new lengths.new.line) }
+        Copied text line.old line.new lengths.new.line × (lengths.new.output ≡ 0)
+        × (lengths.new.log ≡ 0)) ((lengths.new ≡ no_lengths) × (line.new ≡ line.old)) }
 {
     *lengths = NOTHING;
     match check(alloc, input, output, log) {
@@ -66,7 +67,9 @@ pub extern "C" fn celdrinn_simplify(
     ensures { Called (over_three (codes "simplify") []) (λ disk. HoldsOne input.now disk) result
         (λ disk text. Copied text line.old line.new lengths.new.line
         × Copied (bytes_at disk (codes "OUT")) output.old output.new lengths.new.output
-        × Copied (bytes_at disk (codes "LOG")) log.old log.new lengths.new.log) }
+        × Copied (bytes_at disk (codes "LOG")) log.old log.new lengths.new.log)
+        ((lengths.new ≡ no_lengths) × (output.new ≡ output.old) × (log.new ≡ log.old)
+        × (line.new ≡ line.old)) }
 {
     *lengths = NOTHING;
     match simplify(alloc, input) {
@@ -96,7 +99,9 @@ pub extern "C" fn celdrinn_rebuild(
     ensures { Called (over_three (codes "rebuild") (codes "SKOLEM" ∷ codes "CERT" ∷ []))
         (λ disk. HoldsFour disk input.now output.now log.now skolem.now) result
         (λ disk text. Copied text line.old line.new lengths.new.line
-        × Copied (bytes_at disk (codes "CERT")) cert.old cert.new lengths.new.output) }
+        × Copied (bytes_at disk (codes "CERT")) cert.old cert.new lengths.new.output
+        × (lengths.new.log ≡ 0)) ((lengths.new ≡ no_lengths) × (cert.new ≡ cert.old)
+        × (line.new ≡ line.old)) }
 {
     *lengths = NOTHING;
     match rebuild(alloc, input, output, log, skolem) {

@@ -1,5 +1,6 @@
 //! One command over files in memory.
-ghost use Rattle.std.specs.Prelude.{◌≡◌, ◌++◌, ◌∷◌, [], map, string_bytes, codes, IfOk, OnOk};
+ghost use Rattle.std.specs.Prelude.{◌≡◌, ◌++◌, ◌∷◌, [], List, ℕ, None, map, string_bytes, codes, IfOk, OnOk};
+ghost use Rattle.std.specs.FinMap as store;
 ghost use Rattle.q_lib.specs.Calls.{Ran, RanOver, HoldsFour, HoldsOne, HoldsThree, over_three};
 
 use q_app::{Status, bounds_of, run};
@@ -38,6 +39,23 @@ fn words_of(alloc: Global, verb: &str) -> Result<Vec<String>, NoMemory>
     Ok(words)
 }
 
+// No files.
+fn no_files(alloc: Global) -> SteadyFiles
+    ensures { (name : List ℕ) → store.get result name ≡ None }
+{
+    let files = SteadyFiles::new(alloc);
+    files
+}
+
+// A file of these bytes.
+fn one_file(alloc: Global, input: &[u8]) -> Result<SteadyFiles, NoMemory>
+    ensures { IfOk result (λ disk. HoldsOne input.now disk) }
+{
+    let mut files = no_files(alloc);
+    files.put_file("IN", input)?;
+    Ok(files)
+}
+
 // Files of which three hold these bytes.
 fn three_files(
     alloc: Global,
@@ -47,19 +65,9 @@ fn three_files(
 ) -> Result<SteadyFiles, NoMemory>
     ensures { IfOk result (λ disk. HoldsThree disk input.now output.now log.now) }
 {
-    let mut files = SteadyFiles::new(alloc);
-    files.put_file("IN", input)?;
+    let mut files = one_file(alloc, input)?;
     files.put_file("OUT", output)?;
     files.put_file("LOG", log)?;
-    Ok(files)
-}
-
-// A file of these bytes.
-fn one_file(alloc: Global, input: &[u8]) -> Result<SteadyFiles, NoMemory>
-    ensures { IfOk result (λ disk. HoldsOne input.now disk) }
-{
-    let mut files = SteadyFiles::new(alloc);
-    files.put_file("IN", input)?;
     Ok(files)
 }
 

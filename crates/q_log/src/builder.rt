@@ -1,3 +1,4 @@
+// Makes steps of tokens: what both profiles of logs have in common.
 ghost use Rattle.std.specs.Prelude.{◌≡◌, ◌++◌, [], ◌∷◌, true, false, Some, None, is_some};
 ghost use Rattle.q_text.specs.Tokens.{is_zero, is_zero_ℤ};
 ghost use Rattle.q_text.specs.Pieces.{literal_token};

@@ -1,3 +1,5 @@
+// Reads a plain log from bytes that come in pieces, and hands out each step at the byte that ends it. The memory of a step is
+// given back and serves for the next.
 ghost use Rattle.std.specs.Prelude.{◌≡◌, ◌≤◌, ◌<◌, ◌+◌, ◌^◌, [], ◌∷◌, length, List, ℕ, Option, Some, None, Ok, Err, IfOk, IfErr};
 ghost use Rattle.q_log.specs.Logs.{read};
 ghost use Rattle.q_log.specs.Reading.{start, to_come, transition, Answers, Leads, Passes, Ends};

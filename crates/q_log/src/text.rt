@@ -1,3 +1,4 @@
+// The canonical text of a step, appended where there is room for it, and its length, by which room is made before.
 ghost use Rattle.std.specs.Prelude.{◌≡◌, ◌≤◌, ◌<◌, ◌+◌, ◌*◌, ◌^◌, ◌++◌, ◌∷◌, length, drop, vec_len, vec_capacity, OnOk, OnErr, IsOk};
 ghost use Rattle.q_logic.specs.Prelude.{IsBelow, number_of, ArePairs, without, literals_of};
 ghost use Rattle.q_text.specs.Numbers.{number_text};

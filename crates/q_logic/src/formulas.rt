@@ -1,3 +1,4 @@
+// A closed prenex formula: a flat prefix, and clauses in literal order.
 ghost use Rattle.std.specs.Prelude.{◌≡◌, ◌<◌, length, slice_get};
 ghost use Rattle.q_logic.specs.Literals.{IsBelow};
 ghost use Rattle.q_logic.specs.Parts.{AreLawful, ArePairs, IsProper, clauses_between};

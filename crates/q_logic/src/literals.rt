@@ -1,3 +1,4 @@
+// A literal in one word of 32 bits: the variable doubled, and one more where it is positive, so that codes ascend in literal order.
 ghost use Rattle.std.specs.Prelude.{◌≡◌, ◌≤◌, ◌<◌, ◌^◌, ◌↔◌, IsTrue};
 ghost use Rattle.q_logic.specs.Literals.{Literal, negation, pack, number_of};
 

@@ -1,3 +1,4 @@
+// Lists of literals, and clauses as lists in literal order without repetitions.
 ghost use Rattle.std.specs.Prelude.{◌≡◌, ◌↔◌, ◌++◌, List, [], ◌∷◌, length, OnOk, OnErr, IsTrue};
 ghost use Rattle.q_logic.specs.Clauses.{clause_of};
 ghost use Rattle.q_logic.specs.Formulas.{IsIn};

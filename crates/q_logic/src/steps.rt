@@ -1,3 +1,5 @@
+// Steps of a proof as values. The first literal of a clause is its pivot, so it stays in front; the others stand in literal order,
+// so that one clause with one pivot is one value.
 ghost use Rattle.std.specs.Prelude.{◌≡◌, ◌<◌, length, slice_index_or, List, [], ◌∷◌};
 ghost use Rattle.q_logic.specs.Formulas.{IsIn};
 ghost use Rattle.q_logic.specs.Literals.{IsBelow};

@@ -1,3 +1,4 @@
+// All places of one clause put into the lists of its literals, and taken out of them.
 ghost use Rattle.std.specs.Prelude.{◌≡◌, ◌≤◌, ◌<◌, ◌+◌, ◌^◌, ℕ, length, slice_index_or};
 ghost use Rattle.q_logic.specs.Prelude.{Literal, pack};
 ghost use Rattle.q_arena.specs.Prelude.{Has, list_at};

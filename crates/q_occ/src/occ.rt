@@ -1,3 +1,4 @@
+// The lists of occurrences: for each literal the places where clauses hold it, as rings of `q_arena`. A place knows its clause.
 ghost use Rattle.std.specs.Prelude.{◌≡◌, ◌≤◌, ◌<◌, ◌+◌, ◌*◌, ◌⊎◌, ℕ, Bool, true, false, length, slice_get, slice_index_or, OnOk, IfOk, None, Some};
 ghost use Rattle.q_logic.specs.Prelude.{Literal};
 ghost use Rattle.q_arena.specs.Prelude.{Has, AreApart, list_at, following, HasSameLists, HasSameOwners, IsLive};

@@ -1,3 +1,5 @@
+// A table by number that takes memory only where something was written, in pages. A formula of two clauses may name the variable
+// 16,777,215; a table in its size would take hundreds of megabytes.
 ghost use Rattle.std.specs.Prelude.{◌≡◌, ◌⊎◌, ◌≤◌, ◌<◌, ℕ, [], length, slice_index_or, slice_set, OnOk};
 ghost use Rattle.q_pages.specs.Rows.{item_at, IsMade, KeepsPages, HasSameItems};
 

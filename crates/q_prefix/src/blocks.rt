@@ -1,3 +1,5 @@
+// The ranks of blocks. Where the last variable of a block goes, the blocks beside it become one, and the smaller one takes the
+// rank of the other: so all renaming together takes at most n log n.
 ghost use Rattle.std.specs.Prelude.{◌≡◌, ◌≤◌, ◌<◌, ◌+◌, ◌∷◌, [], ℕ, List, length, slice_get, nat_le, Option, Some, None, true, false};
 ghost use Rattle.q_logic.specs.Prelude.{Distinct, same_quant};
 ghost use Rattle.q_logic.specs.declared.formulas.Bound.{Bound as BoundValue};

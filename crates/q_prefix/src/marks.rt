@@ -1,3 +1,4 @@
+// For each number whether it is bound, by which quantifier, and the rank of its block.
 ghost use Rattle.std.specs.Prelude.{◌≡◌, ◌⊎◌, ◌≢◌, ◌≤◌, ◌<◌, ℕ, Bool, length, OnOk};
 ghost use Rattle.q_logic.specs.Prelude.{same_quant};
 ghost use Rattle.q_prefix.specs.Order.{mark_at, rank_of};

@@ -1,3 +1,5 @@
+// The flat prefix as a linked list of variables, so that one goes or comes without a move of the others. Each variable has the
+// rank of its block, and ranks ascend to the inside: so the order of two variables is told by one comparison.
 ghost use Rattle.std.specs.Prelude.{◌≡◌, ◌≤◌, ◌<◌, ◌+◌, ◌⊎◌, ◌≢◌, ℕ, Bool, true, false, length, slice_get, OnOk, IfOk, Some, None};
 ghost use Rattle.q_logic.specs.Prelude.{greatest, is_bound, outer_or_same, Distinct, removed_from};
 ghost use Rattle.q_logic.specs.declared.formulas.Quant.{Quant as Quantifier};

@@ -1,3 +1,4 @@
+// The pair of literals that is watched in a clause.
 ghost use Rattle.q_prop.specs.Working.{IsOther};
 
 use q_logic::Lit;

@@ -1,3 +1,6 @@
+// Clauses in slots, and what propagation shows of them, kept from call to call: the trail of the root, or its conflict. A clause
+// that goes takes with it only what hangs on it: where its literal is forced by another slot too, or nothing rests on it, the root
+// stays; else it is found anew at the next question.
 ghost use Rattle.std.specs.Prelude.{◌≡◌, ◌↔◌, ◌<◌, ◌⊎◌, ◌++◌, ◌∷◌, [], length, slice_set, OnOk, OnErr, None, Some, Contains, IsTrue, MatchOption, IfOk, IfSome, ℕ, ◌≤◌, slice_get};
 ghost use Rattle.q_logic.specs.Prelude.{Clause, Implied, Literal};
 ghost use Rattle.q_prop.specs.Slots.{filled, without, Holds, IsPut, IsVacant};

@@ -1,3 +1,7 @@
+// Clauses in slots as the checker sees them: found by their literals, by a literal that they hold, and asked what they imply. A
+// bucket by the hash of the literals finds a clause, a list by literal its holders; both are tried, so a wrong bucket costs time
+// alone.
+// Hot: `implied`, which is nearly all of a long check.
 ghost use Rattle.std.specs.Prelude.{◌≡◌, ◌≢◌, ◌⊎◌, ◌↔◌, ◌<◌, [], MatchBool, length, slice_set, OnErr, None, IsTrue, MatchOption, IfSome, IfOk, ℕ, Contains, Some, ◌^◌, ◌≤◌};
 ghost use Rattle.q_logic.specs.Prelude.{Clause, Implied, Chained, Literal, negation};
 ghost use Rattle.q_prop.specs.Slots.{filled, without, Holds, IsPut, IsOrdered};

@@ -1,3 +1,5 @@
+// The literals that are known, in the order in which they came, with a mark for each literal, and beside it the slot that may have
+// forced it. The notes are guesses: who uses one tests it first.
 ghost use Rattle.std.specs.Prelude.{◌≡◌, ◌↔◌, ◌<◌, ◌+◌, ◌-◌, ◌++◌, ◌∷◌, [], length, slice_get, OnOk, OnErr, Some, Contains, IsTrue, MatchOption, ℕ, slice_index_or, vec_len, false, take};
 ghost use Rattle.q_logic.specs.Prelude.{pack};
 ghost use Rattle.q_prop.specs.Marks.{IsTaken};

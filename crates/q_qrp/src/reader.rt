@@ -1,3 +1,4 @@
+// Reads a resolution proof (QRP) from bytes that come in pieces, up to its verdict. How they are cut makes no difference.
 ghost use Rattle.std.specs.Prelude.{◌≡◌, ℕ, ◌≤◌, ◌^◌, List, [], Err, IfOk, IfErr, OnOk, true, false};
 ghost use Rattle.q_qrp.specs.declared.reader.Standing.{Standing};
 ghost use Rattle.q_qrp.specs.Causes.{no_verdict};

@@ -1,3 +1,5 @@
+// The literals that a walk has met, in their order, and a mark for each, so that a walk over a graph of literals is in proportion
+// to what it meets.
 ghost use Rattle.std.specs.Prelude.{◌≡◌, ◌↔◌, ◌<◌, ◌++◌, ◌∷◌, [], ℕ, length, slice_get, OnOk, OnErr, Some, IsTrue, slice_index_or, vec_len, true, false};
 ghost use Rattle.q_logic.specs.Prelude.{pack, IsIn};
 ghost use Rattle.q_rule.specs.Marks.{IsMarked};

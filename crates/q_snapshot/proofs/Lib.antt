@@ -1,2 +1,3 @@
 pub mod PassedEntries
 pub mod Others
+pub mod PairEntries

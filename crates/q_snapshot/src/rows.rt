@@ -1,7 +1,9 @@
 //! Rows of the clauses that hold a literal.
-ghost use Rattle.std.specs.Prelude.{OnOk, IfSome};
+ghost use Rattle.std.specs.Prelude.{◌≡◌, ◌↔◌, ◌⊎◌, OnOk, IfSome};
+ghost use Rattle.q_logic.specs.Prelude.{IsIn};
 ghost use Rattle.q_kernel.specs.Prelude.{Seen};
-ghost use Rattle.q_snapshot.specs.Rows.{IsRow, AreRowsOf};
+ghost use Rattle.q_snapshot.specs.declared.entry.Entry.{Entry};
+ghost use Rattle.q_snapshot.specs.Rows.{IsRow, IsPairRow, AreRowsOf};
 
 use crate::entry::{Entry, entry_of};
 use crate::places::Places;
@@ -9,15 +11,16 @@ use q_kernel::Kernel;
 use q_logic::{Lit, NoMemory};
 use std::alloc::Global;
 
-// So many walks are made along lists before the first row is. A row costs more than a walk, so a search that walks each list
+// So many clauses are met along lists before the first row is made. A row costs more than a walk, so a search that walks each list
 // once does without.
-const PATIENCE: u32 = 1_024;
+const PATIENCE: u64 = 16_384;
 
-/// The clauses that hold a literal.
+/// The clauses that hold a literal, and once more those among them that have at most one other literal.
 #[derive(Drop)]
 pub struct Row {
     pub lit: Lit,
     pub entries: Vec<Entry>,
+    pub pairs: Vec<Entry>,
 }
 
 /// The rows of the literals that were asked for. They take memory in proportion to the lists of these. Each is made by one
@@ -27,7 +30,7 @@ pub struct Rows {
     alloc: Global,
     rows: Vec<Row>,
     places: Places,
-    asked: u32,
+    asked: u64,
 }
 
 impl Rows {
@@ -55,16 +58,32 @@ impl Rows {
     pub fn row(&self, lit: Lit) -> Option<&[Entry]>
         ensures { IfSome result (λ es. (k : Seen) → AreRowsOf k self.now → IsRow k lit es.now) }
     {
+        match self.of(lit) {
+            Some(row) => Some(&row.entries),
+            None => None,
+        }
+    }
+
+    /// Those of them that have at most one other literal, where its row was made.
+    pub fn pairs(&self, lit: Lit) -> Option<&[Entry]>
+        ensures { IfSome result (λ es. (k : Seen) → AreRowsOf k self.now → IsPairRow k lit es.now) }
+    {
+        match self.of(lit) {
+            Some(row) => Some(&row.pairs),
+            None => None,
+        }
+    }
+
+    // What was made for a literal.
+    fn of(&self, lit: Lit) -> Option<&Row>
+        ensures { IfSome result (λ w. IsIn w.now self.now.rows.items × (w.now.lit ≡ lit)) }
+    {
         let at = self.places.of(lit);
         if at >= self.rows.len() {
             return None;
         }
         let row = &self.rows[at];
-        if row.lit.is(lit) {
-            Some(&row.entries)
-        } else {
-            None
-        }
+        if row.lit.is(lit) { Some(row) } else { None }
     }
 
     /// Makes the row of a literal, unless it stands. Where lists were walked too seldom, or where memory is wanting, it does not.
@@ -73,7 +92,7 @@ impl Rows {
         ensures { AreRowsOf kernel.now self.new }
     {
         if self.asked < PATIENCE {
-            self.asked += 1;
+            self.asked += u64::from(kernel.count(lit));
             return;
         }
         if self.row(lit).is_some() {
@@ -90,8 +109,14 @@ impl Rows {
     {
         let mut entries = Vec::with_capacity(self.alloc, kernel.count(lit) as usize)?;
         gather(kernel, lit, &mut entries)?;
+        let mut pairs = Vec::new(self.alloc);
+        pick_pairs(&entries, &mut pairs)?;
         self.places.note(lit, self.rows.len())?;
-        self.rows.push(Row { lit, entries })?;
+        self.rows.push(Row {
+            lit,
+            entries,
+            pairs,
+        })?;
         Ok(())
     }
 }
@@ -103,6 +128,31 @@ fn gather(kernel: &Kernel, lit: Lit, entries: &mut Vec<Entry>) -> Result<(), NoM
     entries.clear();
     for id in kernel.holders(lit) {
         entries.push(entry_of(kernel, id, lit))?;
+    }
+    Ok(())
+}
+
+// Puts an entry that names one literal twice to others.
+fn put_pair(pairs: &mut Vec<Entry>, entry: &Entry) -> Result<(), NoMemory>
+    ensures { OnOk result ((e : Entry) → IsIn e pairs.new.items
+        ↔ (IsIn e pairs.old.items
+        ⊎ ((e ≡ entry.now) × (entry.now.second ≡ entry.now.first)))) }
+{
+    if !entry.second.is(entry.first) {
+        return Ok(());
+    }
+    pairs.push(*entry)?;
+    Ok(())
+}
+
+// The entries that name one literal twice.
+fn pick_pairs(entries: &[Entry], pairs: &mut Vec<Entry>) -> Result<(), NoMemory>
+    ensures { OnOk result ((e : Entry)
+        → IsIn e pairs.new.items ↔ (IsIn e entries.now × (e.second ≡ e.first))) }
+{
+    pairs.clear();
+    for entry in entries {
+        put_pair(pairs, entry)?;
     }
     Ok(())
 }

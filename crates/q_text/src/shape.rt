@@ -1,3 +1,4 @@
+// What the bytes of a word have been so far, as an automaton: one step a byte, and at the end of the word its kind.
 ghost use Rattle.std.specs.Prelude.{◌≡◌, ◌+◌, ◌*◌, ◌≤◌, Some};
 ghost use Rattle.q_text.specs.Words.{clipped};
 ghost use Rattle.q_text.specs.Tokens.{grown, first_shape, after_blank, kind_in};

@@ -1,3 +1,6 @@
+// Divides a text into words, and numbers its lines. Formulas and logs are read by it, so comments, blanks and numbers of any
+// length are treated alike.
+// Hot: `next`, `literal` and `zero` take many bytes by one look at the piece.
 ghost use Rattle.std.specs.Prelude.{◌≡◌, ℕ, ◌+◌, ◌-◌, ◌<◌, ◌≤◌, ◌^◌, ◌++◌, ◌==◌, [], ◌∷◌, List, if◌then◌else◌, length, true, Some, IfSome};
 ghost use Rattle.q_text.specs.Words.{is_separator};
 ghost use Rattle.q_text.specs.Texts.{tokens_of};

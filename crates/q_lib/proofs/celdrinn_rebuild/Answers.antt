@@ -1,4 +1,4 @@
-use Rattle.std.proofs.Common.{subst, inl, List, ℕ}
+use Rattle.std.proofs.Common.{refl, subst, inl, List, ℕ}
 use Rattle.q_lib.specs.Calls.{Copied}
 use Rattle.q_lib.proofs.celdrinn_rebuild.Goals as goal
 
@@ -10,5 +10,5 @@ returns-in-Ok c =
       line = c.in-Ok.left.line;
       over = c.in-Ok.ensures;
       code_is = c.code.ensures;
-      kept = (subst (λ (text : List ℕ). Copied text c.args.line.now c.put-lengths.new.buffer c.put-lengths.result) c.bytes.ensures c.put-lengths.ensures, c.put_file-lengths.ensures);
+      kept = (subst (λ (text : List ℕ). Copied text c.args.line.now c.put-lengths.new.buffer c.put-lengths.result) c.bytes.ensures c.put-lengths.ensures, c.put_file-lengths.ensures, refl);
     })

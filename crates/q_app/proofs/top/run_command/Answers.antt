@@ -9,6 +9,10 @@ pub returns-in-Check : goal.returns-in-Check
 returns-in-Check g c =
     subst (λ (k : Parsed). InTurn (commands_of k) (devices g.F.Files g.S.Sink c.args.files.now c.args.out.now) c.run_check.result (devices g.F.Files g.S.Sink c.run_check.new.files c.run_check.new.out)) (sym c.in-Check.is) c.run_check.ensures.runs
 
+pub returns-in-Share : goal.returns-in-Share
+returns-in-Share g c =
+    subst (λ (k : Parsed). InTurn (commands_of k) (devices g.F.Files g.S.Sink c.args.files.now c.args.out.now) c.run_share.result (devices g.F.Files g.S.Sink c.run_share.new.files c.run_share.new.out)) (sym c.in-Share.is) c.run_share.ensures
+
 pub returns-in-Simplify : goal.returns-in-Simplify
 returns-in-Simplify g c =
     subst (λ (k : Parsed). InTurn (commands_of k) (devices g.F.Files g.S.Sink c.args.files.now c.args.out.now) c.run_simplify.result (devices g.F.Files g.S.Sink c.run_simplify.new.files c.run_simplify.new.out)) (sym c.in-Simplify.is) c.run_simplify.ensures.runs
@@ -44,6 +48,10 @@ returns-in-Extract g c =
 pub returns-in-Miter : goal.returns-in-Miter
 returns-in-Miter g c =
     subst (λ (k : Parsed). InTurn (commands_of k) (devices g.F.Files g.S.Sink c.args.files.now c.args.out.now) c.run-in-Miter.result (devices g.F.Files g.S.Sink c.run-in-Miter.new.files c.run-in-Miter.new.out)) (sym c.in-Miter.is) c.run-in-Miter.ensures
+
+pub returns-in-Disprove : goal.returns-in-Disprove
+returns-in-Disprove g c =
+    subst (λ (k : Parsed). InTurn (commands_of k) (devices g.F.Files g.S.Sink c.args.files.now c.args.out.now) c.run-in-Disprove.result (devices g.F.Files g.S.Sink c.run-in-Disprove.new.files c.run-in-Disprove.new.out)) (sym c.in-Disprove.is) c.run-in-Disprove.ensures
 
 pub returns-in-Demo : goal.returns-in-Demo
 returns-in-Demo g c =

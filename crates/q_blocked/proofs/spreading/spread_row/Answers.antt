@@ -1,49 +1,11 @@
-use Rattle.std.proofs.Common.{ℕ, List, Bool, false, sym, subst, inl, inr}
-use Rattle.q_logic.specs.Prelude.{IsIn}
+use Rattle.q_logic.specs.Prelude.{IsIn, others}
 use Rattle.q_kernel.specs.Prelude.{slots}
-use Rattle.q_logic.proofs.Common.{item-in, taken-cases, taken-all}
-use Rattle.q_rule.proofs.IdClauses.{others-find}
-use Rattle.q_snapshot.specs.declared.entry.Entry.{Entry}
-use Rattle.q_blocked.specs.Walks.{IsBeside}
-use Rattle.q_blocked.specs.Growths.{HasSpread}
-use Rattle.q_blocked.proofs.SetGrowth.{pushed-none, pushed-on, pushed-gives_none, pushed-less}
+use Rattle.q_blocked.specs.Around.{IsAmong}
+use Rattle.q_blocked.proofs.AroundRows.{spread-less, row-among}
 use Rattle.q_blocked.proofs.spreading.spread_row.Goals as goal
-
-pub loop-entry-init : goal.loop-entry-init
-loop-entry-init c = record { growing = c.requires.growing; pushed = pushed-none c.args.growth.now; gives_none = λ e m. absurd m }
-
-pub take_entry-requires-clause-entry : goal.take_entry-requires-clause-entry
-take_entry-requires-clause-entry c =
-    let e = c.entry-item.result in
-    c.requires.row.each e (item-in c.args.row.now c.loop-entry.entry-index e c.loop-entry-test.true c.entry-item.is)
-
-pub loop-entry-preserved : goal.loop-entry-preserved
-loop-entry-preserved c =
-    let k = c.args.kernel.now in
-    let first = c.args.growth.now in
-    let old = c.loop-entry.growth in
-    let new = c.take_entry.new.growth in
-    let row = c.args.row.now in
-    let item = c.entry-item.result in
-    let Q = IsBeside (slots k) c.args.c item.id in
-    let r : HasSpread k c.args.c Q old new false = subst (λ (b : Bool). HasSpread k c.args.c Q old new b) c.if-branch.false c.in_ok-take_entry.ensures in
-    record {
-      growing = r.0;
-      pushed = pushed-on first old new c.loop-entry.invariant.pushed r.1;
-      gives_none = λ e m D b. elim (taken-cases row c.loop-entry.entry-index item e c.loop-entry-test.true c.entry-item.is m) [
-        | inl a ↦ pushed-gives_none first old new D r.1 (c.loop-entry.invariant.gives_none e a D b)
-        | inr q ↦ pushed-less first old new.set D c.loop-entry.invariant.pushed (r.2 D (subst (λ (x : Entry). IsBeside (slots k) c.args.c x.id D) q b))
-      ];
-    }
 
 pub returns : goal.returns
 returns c =
     let k = c.args.kernel.now in
-    let row = c.args.row.now in (
-      c.loop-entry.invariant.growing,
-      c.loop-entry.invariant.pushed,
-      λ E m.
-          let d = others-find (slots k) c.args.c E m.0 in
-          let e = c.requires.row.all d.0 (E, d.2, m.1) in
-          c.loop-entry.invariant.gives_none e.0 (subst (λ (es : List Entry). IsIn e.0 es) (sym (taken-all row c.loop-entry.entry-index c.loop-entry-test.false)) e.1) E (subst (λ (x : ℕ). IsBeside (slots k) c.args.c x E) (sym e.2) (d.1, d.2)),
-    )
+    let es = c.args.row.now in
+    spread-less k c.args.c (IsAmong (slots k) c.args.c es) (λ E. IsIn E (others c.args.c (slots k)) × IsIn c.args.k E) c.args.growth.now c.spread_entries.new.growth c.in_ok-ended.ended (row-among k c.args.c c.args.k es c.requires.row) c.in_ok-ended.ensures

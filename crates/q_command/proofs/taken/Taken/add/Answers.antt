@@ -11,6 +11,7 @@ entries_of-append (t ∷ ts) us = ap (λ (es : List Entry). (t.line, t.step) ∷
 pub returns : goal.returns
 returns c = record {
   count = refl;
+  judged = c.one_more_if-self.ensures;
   keeps = refl;
   steps = λ k. ap entries_of c.in_ok-push.ensures.items ∙ entries_of-append c.args.self.now.steps.items _;
 }

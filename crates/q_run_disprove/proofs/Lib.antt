@@ -1,0 +1,4 @@
+pub mod DisproofSteps
+pub mod DisproofReading
+pub mod DisproveOutcome
+pub mod DisproveStatus

@@ -1,0 +1,3 @@
+pub mod DisprovedLines
+pub mod Disproofs
+pub mod Readings

@@ -1,0 +1,126 @@
+-- A proof whose steps are made while it is read.
+use Rattle.std.specs.Prelude.{◌≡◌, ◌⊎◌, ◌≤◌, ◌+◌, ℕ, Bool, true, false, List, [], ◌++◌, length, take, drop, Option, None, Some, Result, Ok, Err}
+use Rattle.q_logic.specs.declared.steps.Kind.{Kind}
+use Rattle.q_logic.specs.declared.steps.Kind.TheVariants as kind
+use Rattle.q_logic.specs.Prelude.{PrenexFormula, AreAlike, ProofStep, after, standard}
+use Rattle.q_log.specs.declared.error.LogError.{LogError}
+use Rattle.q_log.specs.declared.error.LogError.TheVariants as log
+use Rattle.q_log.specs.Logs.{behind}
+use Rattle.q_binary.specs.Forms.{left_of, to_come}
+use Rattle.q_judge.specs.declared.error.CheckError.{CheckError}
+use Rattle.q_judge.specs.declared.error.CheckError.TheVariants as check
+use Rattle.q_refutation.specs.Refutations.{AreMadeUnlost, BadCause, IsLost, MayBeMade}
+use Rattle.q_command.specs.Logs.{Entry, steps_of}
+use Rattle.q_run_disprove.specs.Disproofs.{SaysOf, proof_of}
+use Rattle.q_run_disprove.specs.declared.disproved.Disproved.{Disproved}
+use Rattle.q_run_disprove.specs.declared.disproved.Disproved.TheVariants as outcome
+use Rattle.q_run_disprove.specs.declared.reading.Reading.{Reading}
+use Rattle.q_run_disprove.specs.declared.refuter.Refuter.{Refuter}
+
+-- a step of this kind may bring the empty clause: one is added, or a clause loses a literal
+abbrev pub may_bring : Kind → Bool
+may_bring kind.Add = true
+may_bring kind.Delete = false
+may_bring kind.Drop = true
+may_bring kind.Fresh = false
+may_bring kind.Remove = false
+
+-- what is said of a proof that can't be read on, and of a step that can't be made
+abbrev pub log_refused : LogError → Disproved
+log_refused (log.BadLine n) = outcome.RefusedLine n 1
+log_refused (log.Limit n) = outcome.RefusedLine n 8
+log_refused log.NoMemory = outcome.NoMemory
+
+abbrev pub step_refused : ℕ → CheckError → Disproved
+step_refused n (check.Refused c) = outcome.RefusedLine n c
+step_refused n check.NoMemory = outcome.NoMemory
+
+-- memory may be missing at any time; a refusal carries the least cause
+abbrev pub IsBadFor : PrenexFormula → ProofStep → CheckError → Type 0
+IsBadFor F s (check.Refused n) = BadCause false standard F s n
+IsBadFor F s check.NoMemory = Unit {0}
+
+-- the checker has the limits of the program and keeps no undo list, and the empty clause is not there
+pub record IsUnderWay (t : Refuter) : Type 0 where
+  pub limits : t.checker.limits ≡ standard
+  pub keeps : t.checker.keeps ≡ false
+  pub unlost : ¬ IsLost t.checker.formula
+
+-- no step is made
+pub record IsBegun (F : PrenexFormula) (t : Refuter) : Type 0 where
+  pub under_way : IsUnderWay t
+  pub alike : AreAlike F t.checker.formula
+  pub none : t.steps ≡ 0
+
+-- what is said before the first step
+abbrev pub TellsAtOnce : PrenexFormula → Disproved → Type 0
+TellsAtOnce F (outcome.False n) = IsLost F × (n ≡ 0)
+TellsAtOnce F (outcome.RefusedLine n c) = ⊥
+TellsAtOnce F outcome.RefusedEnd = ⊥
+TellsAtOnce F (outcome.RefusedInput n c) = ⊥
+TellsAtOnce F outcome.ReadFault = ⊥
+TellsAtOnce F outcome.NoMemory = Unit {0}
+
+-- one step more is made, and the empty clause is not there
+pub record Goes (s : ProofStep) (old new : Refuter) : Type 0 where
+  pub may : MayBeMade false standard old.checker.formula s
+  pub alike : AreAlike (after old.checker.formula s) new.checker.formula
+  pub under_way : IsUnderWay new
+  pub steps : new.steps ≡ old.steps + 1
+
+-- what is said of a step behind k others: the empty clause comes by it, or it may not be made
+abbrev pub Convicts : Disproved → PrenexFormula → ℕ → Entry → Type 0
+Convicts (outcome.False n) E k e = MayBeMade false standard E e.1 × IsLost (after E e.1) × (n ≡ k + 1)
+Convicts (outcome.RefusedLine n c) E k e = (n ≡ e.0) × BadCause false standard E e.1 c
+Convicts outcome.RefusedEnd E k e = ⊥
+Convicts (outcome.RefusedInput n c) E k e = ⊥
+Convicts outcome.ReadFault E k e = ⊥
+Convicts outcome.NoMemory E k e = Unit {0}
+
+-- what the end of the proof tells: there is no step more, or one, or a line that is none
+abbrev pub Concludes : Result (Option Entry) LogError → Refuter → Disproved → Type 0
+Concludes (Ok None) t w = w ≡ outcome.RefusedEnd
+Concludes (Ok (Some e)) t w =
+    Convicts w t.checker.formula t.steps e ⊎ ((w ≡ outcome.RefusedEnd) × ((new : Refuter) × Goes e.1 t new))
+Concludes (Err x) t w = w ≡ log_refused x
+
+-- these steps are made from F on, and the empty clause was never there
+pub record IsSoFar (F : PrenexFormula) (es : List Entry) (t : Refuter) : Type 0 where
+  pub last : PrenexFormula
+  pub made : AreMadeUnlost false standard F (steps_of es) last
+  pub alike : AreAlike last t.checker.formula
+  pub count : t.steps ≡ length es
+
+-- there is room to count a step for each byte
+pub record IsOpen (r : Reading) : Type 0 where
+  pub under_way : IsUnderWay r.refuter
+  pub room : r.refuter.steps + left_of r.reader ≤ 1099511627776
+
+-- these bytes of the proof are read, and all steps in them are made
+pub record Stands (binary : Bool) (F : PrenexFormula) (r : Reading) (bytes : List ℕ) : Type 0 where
+  pub entries : List Entry
+  pub proof : (rest : List ℕ) → proof_of binary (bytes ++ rest) ≡ behind entries (to_come r.reader rest)
+  pub so_far : IsSoFar F entries r.refuter
+
+-- these bytes more are read
+pub record Advances (old new : Reading) (bytes : List ℕ) : Type 0 where
+  pub stands : (binary : Bool) → (F : PrenexFormula) → (front : List ℕ) → Stands binary F old front → Stands binary F new (front ++ bytes)
+  pub left : left_of new.reader + length bytes ≡ left_of old.reader
+  pub goes_on : IsOpen new
+
+-- it is so of the proof that has these bytes behind those that are read
+abbrev pub Tells : Disproved → Reading → List ℕ → Type 0
+Tells o r bytes =
+    (binary : Bool) → (F : PrenexFormula) → (front : List ℕ) → Stands binary F r front → SaysOf o F (proof_of binary (front ++ bytes))
+
+-- n bytes of the file were taken, from a place on
+pub record HasTaken (file : List ℕ) (place n : ℕ) (old new : Reading) : Type 0 where
+  pub piece : Advances old new (take n (drop place file))
+  pub left : n ≤ length (drop place file)
+  pub end : n ≡ 0 → length file ≤ place
+
+-- nothing is read yet, and the proof begins with the formula
+pub record IsStarted (binary : Bool) (F : PrenexFormula) (r : Reading) : Type 0 where
+  pub stands : Stands binary F r []
+  pub left : left_of r.reader ≡ 1099511627776
+  pub goes_on : IsOpen r

@@ -1,0 +1,25 @@
+// The command with its line.
+ghost use Rattle.q_command.specs.Devices.{devices};
+ghost use Rattle.q_command.specs.Told.{Runs};
+ghost use Rattle.q_run_disprove.specs.Disproofs.{files_of, told};
+
+use crate::disproving::disprove_files;
+use crate::names::DisproveNames;
+use q_command::Status;
+use q_io::{Files, Sink};
+use std::alloc::Global;
+
+/// Does `disprove` over the files of these names, and puts its line. Where `binary` is set, what can be either is a binary proof.
+pub fn run<F: Files, S: Sink>(
+    alloc: Global,
+    files: &mut F,
+    out: &mut S,
+    names: DisproveNames,
+    binary: bool,
+) -> Status
+    ensures { Runs (told (files_of names.entry) binary)
+        (devices F.Files S.Sink files.old out.old) result
+        (devices F.Files S.Sink files.new out.new) }
+{
+    disprove_files(alloc, files, names, binary).say(out)
+}

@@ -1,0 +1,68 @@
+// IN is read whole, and PROOF as far as it counts.
+ghost use Rattle.std.specs.Prelude.{◌≡◌, ◌≢◌, IfSome};
+ghost use Rattle.q_io.specs.Files.{RoseAmong, RoseFor, bytes_at};
+ghost use Rattle.q_command.specs.Reading.{OnlyReadsFiles};
+ghost use Rattle.q_command.specs.declared.status.Status.TheVariants as status;
+ghost use Rattle.q_run_disprove.specs.DisprovedLines.{status_of_disproved};
+ghost use Rattle.q_run_disprove.specs.Disproofs.{Disproves, SaysOf, files_of, names_read, proof_of, refused_input as input_refused};
+
+use crate::disproved::Disproved;
+use crate::names::DisproveNames;
+use crate::reading::{Reading, read_proof};
+use q_command::{InputError, PIECE, read_input};
+use q_io::Files;
+use q_logic::Formula;
+use std::alloc::Global;
+
+fn refused_input(error: InputError) -> Disproved
+    ensures { result ≡ input_refused error }
+{
+    match error {
+        InputError::Refused { line, cause } => Disproved::RefusedInput { line, cause },
+        InputError::Fault => Disproved::ReadFault,
+        InputError::NoMemory => Disproved::NoMemory,
+    }
+}
+
+// What there is to say of a formula and a proof.
+fn judge<F: Files>(
+    alloc: Global,
+    files: &mut F,
+    name: &str,
+    formula: Formula,
+    binary: bool,
+) -> Disproved
+    ensures says { IfSome (F.held files.old)
+        (λ disk. SaysOf result formula (proof_of binary (bytes_at disk name.now))) }
+    ensures fault { result ≡ Disproved.ReadFault
+        → RoseFor F.read_faults name.now files.old files.new }
+    ensures only_reads { OnlyReadsFiles F.Files files.old files.new }
+{
+    let Ok(mut room) = vec![in alloc; 0u8; PIECE] else {
+        return Disproved::NoMemory;
+    };
+    match Reading::start(alloc, formula, binary) {
+        Ok(reading) => read_proof(files, name, &mut room, reading),
+        Err(outcome) => outcome,
+    }
+}
+
+/// What there is to say of `disprove` over the files of these names.
+pub fn disprove_files<F: Files>(
+    alloc: Global,
+    files: &mut F,
+    names: DisproveNames,
+    binary: bool,
+) -> Disproved
+    ensures disproves { IfSome (F.held files.old) (λ disk.
+        Disproves result (files_of names.entry) binary disk (F.held files.new)) }
+    ensures read_fault { status_of_disproved result ≡ status.ReadFault
+        → RoseAmong F.read_faults (names_read (files_of names.entry)) files.old files.new }
+    ensures write_fault { status_of_disproved result ≢ status.WriteFault }
+    ensures held { F.held files.new ≡ F.held files.old }
+{
+    match read_input(alloc, files, names.input) {
+        Ok(formula) => judge(alloc, files, names.proof, formula, binary),
+        Err(error) => refused_input(error),
+    }
+}

@@ -1,0 +1,18 @@
+//! The command `disprove IN PROOF`: whether PROOF refutes the formula of IN. PROOF is a log of steps, or a proof as SAT solvers write
+//! it, as text or in binary. A deletion needs no reason, and nothing behind the empty clause is looked at.
+//!
+//! `specs/Disproofs` says what an outcome says of the files and when each status comes, `specs/DisprovedLines` what is put. No file
+//! changes.
+#![tactic(auto)]
+
+mod command;
+mod disproved;
+mod disproving;
+mod names;
+mod reading;
+mod refuter;
+
+pub use command::run;
+pub use disproved::Disproved;
+pub use disproving::disprove_files;
+pub use names::DisproveNames;

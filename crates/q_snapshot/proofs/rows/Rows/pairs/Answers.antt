@@ -1,0 +1,12 @@
+use Rattle.std.proofs.Common.{List, sym, subst}
+use Rattle.q_logic.specs.Prelude.{Literal}
+use Rattle.q_snapshot.specs.declared.entry.Entry.{Entry}
+use Rattle.q_snapshot.specs.Rows.{IsPairRow}
+use Rattle.q_snapshot.proofs.rows.Rows.pairs.Goals as goal
+
+pub returns-in-Some : goal.returns-in-Some
+returns-in-Some c k h =
+    let row = c.in-Some.row.now in
+    let r = c.in-Some.ensures in
+    subst (λ (es : List Entry). IsPairRow k c.args.lit es) (sym c.deref.ensures.value)
+    (subst (λ (l : Literal). IsPairRow k l row.pairs.items) r.1 (h row r.0).1)
