@@ -2,21 +2,21 @@
 # Checks one long log by several processes at once, which GNU parallel starts on this machine or on others. Each makes all steps, and judges
 # every so many blocks of 1,000; all together say what one check says. So the files are neither cut nor read twice.
 # Says `verified N`, or the refusal in the least line, and ends with 0 or 1; 12 where a part has not ended.
-# A part that is refused ends the others, so that another part might have been refused in an earlier line; with -k all go on, and the line is
-# that of `celdrinn check`. With -s the files are copied to each host once, and the program is there by the name in CELDRINN.
-# Usage: examples/many-machines/check-parallel.sh [-n PARTS] [-j JOBS] [-s HOST,HOST..] [-k] [IN OUT LOG]
+# With -f the first part that is refused ends the others: the log is wrong then, but another part might have been refused in an earlier line.
+# With -s the files are copied to each host once, and the program is there by the name in CELDRINN.
+# Usage: examples/many-machines/check-parallel.sh [-n PARTS] [-j JOBS] [-s HOST,HOST..] [-f] [IN OUT LOG]
 set -u
 here=$(cd "$(dirname "$0")/.." && pwd)
 . "$here/common.sh"
-usage() { echo "usage: $0 [-n PARTS] [-j JOBS] [-s HOST,HOST..] [-k] [IN OUT LOG]" >&2 && exit 64; }
+usage() { echo "usage: $0 [-n PARTS] [-j JOBS] [-s HOST,HOST..] [-f] [IN OUT LOG]" >&2 && exit 64; }
 jobs=$(nproc 2>/dev/null || echo 2)
-parts='' hosts='' halt=now,fail=1
-while getopts n:j:s:k option; do
+parts='' hosts='' halt=never
+while getopts n:j:s:f option; do
     case $option in
         n) parts=$OPTARG ;;
         j) jobs=$OPTARG ;;
         s) hosts=$OPTARG ;;
-        k) halt=never ;;
+        f) halt=now,fail=1 ;;
         *) usage ;;
     esac
 done

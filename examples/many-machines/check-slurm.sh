@@ -1,21 +1,21 @@
 #!/bin/sh
 # Checks one long log by a job array of Slurm: each job makes all steps, and judges every so many blocks of 1,000; all together say what one
 # check says. Says `verified N`, or the refusal in the least line, and ends with 0 or 1; 12 where a part has not ended.
-# FOLDER keeps the lines of parts that have ended, so a run that broke off goes on with the others. A part that is refused ends the others, so
-# that another part might have been refused in an earlier line; with -k all go on, and the line is that of `celdrinn check`. The three files,
-# FOLDER and the program are to be seen from each node. -o gives words to sbatch, as in -o '--partition=long --time=2:00:00 --mem=8G'.
-# Usage: examples/many-machines/check-slurm.sh [-n PARTS] [-d FOLDER] [-o OPTIONS] [-k] [IN OUT LOG]
+# FOLDER keeps the lines of parts that have ended, so a run that broke off goes on with the others. With -f the first part that is refused ends
+# the others: the log is wrong then, but another part might have been refused in an earlier line. The three files, FOLDER and the program are to
+# be seen from each node. -o gives words to sbatch, as in -o '--partition=long --time=2:00:00 --mem=8G'.
+# Usage: examples/many-machines/check-slurm.sh [-n PARTS] [-d FOLDER] [-o OPTIONS] [-f] [IN OUT LOG]
 set -u
 here=$(cd "$(dirname "$0")/.." && pwd)
 . "$here/common.sh"
-usage() { echo "usage: $0 [-n PARTS] [-d FOLDER] [-o OPTIONS] [-k] [IN OUT LOG]" >&2 && exit 64; }
-PARTS=4 FOLDER=parts GO_ON='' options=''
-while getopts n:d:o:k option; do
+usage() { echo "usage: $0 [-n PARTS] [-d FOLDER] [-o OPTIONS] [-f] [IN OUT LOG]" >&2 && exit 64; }
+PARTS=4 FOLDER=parts FIRST='' options=''
+while getopts n:d:o:f option; do
     case $option in
         n) PARTS=$OPTARG ;;
         d) FOLDER=$OPTARG ;;
         o) options=$OPTARG ;;
-        k) GO_ON=yes ;;
+        f) FIRST=yes ;;
         *) usage ;;
     esac
 done
@@ -27,7 +27,7 @@ has sbatch || skip Slurm slurm-wlm
 whole() { case $1 in /*) echo "$1" ;; *) echo "$PWD/$1" ;; esac; }
 IN=$(whole "$1") OUT=$(whole "$2") LOG=$(whole "$3") FOLDER=$(whole "$FOLDER") PARTS_SH=$here/many-machines/parts.sh
 case $celdrinn in */*) CELDRINN=$(whole "$celdrinn") ;; *) CELDRINN=$celdrinn ;; esac
-export IN OUT LOG PARTS FOLDER GO_ON CELDRINN PARTS_SH
+export IN OUT LOG PARTS FOLDER FIRST CELDRINN PARTS_SH
 "$PARTS_SH" begin || exit
 missing=$("$PARTS_SH" missing | paste -sd, -)
 if [ -n "$missing" ]; then
@@ -35,7 +35,7 @@ if [ -n "$missing" ]; then
     sbatch --wait --export=ALL --job-name=celdrinn --output=/dev/null --array="$missing" $options --wrap '
         "$PARTS_SH" run "$SLURM_ARRAY_TASK_ID"
         status=$?
-        [ $status -ne 1 ] || [ -n "$GO_ON" ] || scancel "$SLURM_ARRAY_JOB_ID"
+        [ $status -ne 1 ] || [ -z "$FIRST" ] || scancel "$SLURM_ARRAY_JOB_ID"
         exit $status' >&2
 fi
 "$PARTS_SH" join
