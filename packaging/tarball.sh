@@ -20,6 +20,7 @@ cp "$program" "$work/$name/program" || exit 1
 cp -R celdrinn launcher VERSION README.md CHANGELOG.md LICENSE CITATION.cff Makefile completion docs examples help tests "$work/$name/" || exit 1
 [ ! -f dist/libceldrinn-x86_64-linux.a ] || cp dist/libceldrinn-x86_64-linux.a "$work/$name/dist/" || exit 1
 cp -R packaging/* "$work/$name/packaging/" || exit 1
+rm -rf "$work/$name/packaging/lib/build"
 find "$work/$name" -name __pycache__ -prune -exec rm -rf {} +
 packaging/date.sh >"$work/$name/packaging/date"
 chmod -R u+rwX,go+rX,go-w "$work/$name" || exit 1
