@@ -100,13 +100,23 @@ explain_line() {
     name=$(named "$1")
     kept=$(kept_words)
     more=
-    if [ -f "$name" ]; then
-        more=$(unpacked "$name" 2>/dev/null | LC_ALL=C tr '\000\r' '\001 ' | LC_ALL=C awk -v kind="$2" -v at="$3" -v cause="$4" -f "$parts/explain.awk" 2>/dev/null)
+    if [ -s "$work/$1.why" ]; then
+        tell "$name" "this begins as binary AIGER does, but $(cat "$work/$1.why")"
+        return
+    fi
+    text=$name
+    [ ! -f "$work/$1.aag" ] || text=$work/$1.aag
+    if [ -f "$text" ]; then
+        more=$(unpacked "$text" 2>/dev/null | LC_ALL=C tr '\000\r' '\001 ' | LC_ALL=C awk -v kind="$2" -v at="$3" -v cause="$4" -v is_binary="${text#"$name"}" -f "$parts/explain.awk" 2>/dev/null)
         [ "$2" != formula ] || ! unpacked "$name" 2>/dev/null | mends "$name" || more="$more; 'celdrinn mend $name OUT' writes it anew"
     fi
     [ -z "$kept" ] || [ -z "$more" ] || kept="$kept: "
     [ -n "$kept$more" ] || kept="the first offence is here"
-    tell "$name" "$3" "$kept$more"
+    if [ "$text" = "$name" ]; then
+        tell "$name" "$3" "$kept$more"
+    else
+        tell "$name" "in line $3 of it as a text: $kept$more"
+    fi
 }
 
 # What is wrong in a trace, by the cause.
