@@ -45,10 +45,11 @@ run() {
     esac
     case $command:$stats in
         *:yes) words=$work/words is_shown= ;;
-        simplify:* | solve:* | gen:* | demo:* | mend:*) is_shown= ;;
+        simplify:* | gen:* | demo:* | mend:*) is_shown= ;;
         *) look_whether_shown ;;
     esac
-    [ -z "$is_shown" ] || words=$work/words
+    case $command in solve) is_quiet= ;; *) is_quiet=$is_shown ;; esac
+    [ -z "$is_quiet" ] || words=$work/words
     # A limit on the size of files makes a write fail, and doesn't kill the program.
     trap '' XFSZ 2>/dev/null
     # Large pages, where the system has them: look-ups all over a large formula wait less for memory.
@@ -59,7 +60,7 @@ run() {
     (
         eval "exec <&$number" && close_ours
         [ -z "$words" ] || exec 2>"$words"
-        [ -z "$is_shown" ] || { CELDRINN_PROGRESS=0 && export CELDRINN_PROGRESS; }
+        [ -z "$is_quiet" ] || { CELDRINN_PROGRESS=0 && export CELDRINN_PROGRESS; }
         exec $tied $within "$program" "$@" >"$work/line"
     ) &
     child=$!
@@ -199,7 +200,7 @@ log_role() { if [ -n "${name_PROOF-}" ]; then echo PROOF; elif [ -n "${name_TRAC
 circuits_role() { case $command in rebuild) echo SKOLEM ;; refute) echo HERBRAND ;; *) echo CERT ;; esac; }
 formula_role() { case $command in rebuild | refute) echo OUT ;; *) echo IN ;; esac; }
 
-is_told=''
+is_told='' last_read=''
 
 # Starts a command with its operands and names: `start OPERAND NAME ..`
 start() {
@@ -223,7 +224,10 @@ start() {
         divide "$1"
         eval "name_$role=\$2"
         case $kind in
-            '<') read_by "$2" "$role" ;;
+            '<')
+                read_by "$2" "$role"
+                last_read=$way
+                ;;
             '>') write_by "$2" "$role" ;;
             *) way=$2 ;;
         esac
