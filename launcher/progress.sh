@@ -45,15 +45,16 @@ behind_reading() {
     esac
 }
 
-# Sets `reads` and `read`, `writes` and `written` to the last file that a process has open for reading, and for writing: its number and name.
+# Sets `reads` and `read`, `writes` and `written` to the last file that a process has opened for reading, and for writing: its number and name. What
+# it has opened itself would be closed in a program that it starts (the bit 02000000); what it was given is not.
 find_files() {
     reads='' read='' writes='' written=''
     for link in /proc/"$1"/fd/*; do
         file=$(readlink "$link")
-        [ "${link##*/}" -gt 2 ] && [ ! -d "$file" ] || continue
-        case $(sed -n 's/^flags:.*\(.\)$/\1/p' "/proc/$1/fdinfo/${link##*/}") in
+        [ ! -d "$file" ] || continue
+        case $(sed -n 's/^flags:.*[2367].....\(.\)$/\1/p' "/proc/$1/fdinfo/${link##*/}") in
             0) reads=${link##*/} read=$file ;;
-            *) writes=${link##*/} written=$file ;;
+            1 | 2) writes=${link##*/} written=$file ;;
         esac
     done
 }
@@ -66,7 +67,7 @@ share_of() {
     [ "$at" -lt "$size" ] && echo "$((at * 100 / size)) % of ${3##*/} ($((at / 1000)) of $((size / 1000)) kB)"
 }
 
-# How far the file is read that a process reads: it, or the tool that unpacks it. Fails where it is read to its end.
+# How far the file is read that a process reads, or the tool behind its pipe. Fails where it is read to its end.
 share_read() {
     case $read in
         pipe:*) echo "a pipe is read" && return ;;
@@ -76,9 +77,12 @@ share_read() {
             return
             ;;
     esac
+    # our own pipe, into which a tool writes as long as it is there
     for process in $readers; do
-        file=$(readlink "/proc/$process/fd/0") && [ -f "$file" ] && [ "$(offset "$process" 0)" -gt 0 ] || continue
-        share_of "$process" 0 "$file" && return
+        [ "$(readlink "/proc/$process/fd/1")" = "$read" ] || continue
+        file=$(readlink "/proc/$process/fd/0")
+        if [ -f "$file" ]; then share_of "$process" 0 "$file"; else echo "a pipe is read"; fi
+        return
     done
     return 1
 }
