@@ -175,7 +175,12 @@ explain() {
             esac
             ;;
         'circuits too large') say "what would be written is larger than is read" ;;
-        'no memory') say "memory ran out; a smaller --budget or --expand wants less" ;;
+        'no memory')
+            case $command in
+                simplify | solve) say "memory ran out; a smaller --expand wants less, and --budget of simplify stops before" ;;
+                *) say "memory ran out" ;;
+            esac
+            ;;
         'write fault' | 'read fault') explain_fault ;;
         usage) ;;
         *) [ -z "$words" ] || cat "$words" >&2 ;;
