@@ -16,16 +16,24 @@ finish() {
 }
 
 # A signal ends the program, and then the launcher as if it had none of this.
-child='' beside='' within='' words=''
+child='' beside='' lanes='' within='' words=''
 stop() {
     trap - EXIT
     [ -z "$child" ] || kill -TERM "$child" 2>/dev/null
     [ -z "$beside" ] || kill -TERM "$beside" 2>/dev/null
+    end_lanes
     [ -z "$child" ] || wait "$child" 2>/dev/null
     end_streams 2>/dev/null
     [ -z "$work" ] || rm -rf "$work"
     trap - "$1"
     kill -"$1" $$
+}
+
+# Ends what the launcher does twice beside itself, with all that was started there.
+end_lanes() {
+    for process in $lanes; do kill -TERM "$process" 2>/dev/null; done
+    for process in $lanes; do wait "$process" 2>/dev/null; done
+    lanes=
 }
 
 # The program ends with the launcher, however that ends, where the system can see to it.

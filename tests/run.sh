@@ -99,7 +99,7 @@ play_version >"$work/versions" && count "$work/versions"
 play_words >"$work/said" && count "$work/said"
 play_man >"$work/said" && count "$work/said"
 play_pictures >"$work/said" && count "$work/said"
-tests/pages.sh README.md docs/TUTORIAL.md docs/for-*.md >"$work/pages.rows"
+tests/pages.sh README.md docs/TUTORIAL.md docs/A-CERTIFICATE.md docs/for-*.md >"$work/pages.rows"
 for table in tests/*.rows "$work/pages.rows"; do
     tests/play.sh "$table" >"$work/played"
     grep '^ok \|^wrong \|^skipped ' "$work/played" >"$work/table"
