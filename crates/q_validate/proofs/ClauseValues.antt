@@ -1,7 +1,6 @@
 -- The values of clauses, by those of their literals, and what they say of a node.
-use Rattle.std.proofs.Common.{◌≡◌, ◌+◌, ◌<◌, ◌++◌, ℕ, Bool, true, false, cond, ◌&&◌, ◌||◌, List, [], ◌∷◌, length, take, get_or, Option, Some, None, refl, sym, ap, ◌∙◌}
+use Rattle.std.proofs.Common.{◌≡◌, ◌+◌, ◌<◌, ◌++◌, ℕ, Bool, true, false, cond, ◌&&◌, ◌||◌, [], ◌∷◌, length, take, get_or, Option, Some, None, refl, sym, ap, ◌∙◌}
 use Rattle.std.proofs.lemmas.List.{take_more}
-use Rattle.q_logic.specs.declared.verdict.Verdict.{Verdict}
 use Rattle.q_logic.specs.declared.verdict.Verdict.TheVariants.{Lost, Won, Open}
 use Rattle.q_logic.specs.Prelude.{Literal, Clause, Matrix, Prefix, Assignment, worse}
 use Rattle.q_logic.specs.Branches.{Claim, known_both, is_zero, is_one, literal_value, has_one, all_zero, both_missing, clause_verdict, verdict}

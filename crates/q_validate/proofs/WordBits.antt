@@ -1,8 +1,8 @@
 -- Bits of words, and the words of inputs.
-use Rattle.std.proofs.Common.{◌≡◌, ◌+◌, ◌-◌, ◌*◌, ◌/◌, ◌%◌, ◌^◌, ◌<◌, ◌≤◌, ℕ, zero, suc, Bool, true, false, cond, not, ◌&&◌, ◌||◌, eqb, nat_lt, List, [], ◌∷◌, ◌++◌, length, get_or, slice_get, Option, Some, None, min, max, bit_and, bit_or, refl, sym, ap, ◌∙◌, arith, add-one, w64}
+use Rattle.std.proofs.Common.{◌≡◌, ◌+◌, ◌*◌, ◌/◌, ◌%◌, ◌^◌, ◌<◌, ◌≤◌, ℕ, zero, suc, Bool, true, false, cond, ◌&&◌, ◌||◌, eqb, nat_lt, List, [], ◌∷◌, ◌++◌, length, get_or, slice_get, Option, Some, None, min, max, bit_and, bit_or, refl, sym, ap, ◌∙◌, arith, add-one}
 use mir.Val.{bool_byte}
-use Rattle.std.specs.Int.{bit_at, bit_not}
-use Rattle.std.proofs.lemmas.Nat.Bits.{bit_at_and, bit_at_or, bit_at-lt, bit_at-zero, bit_at_ones, bit_at_not}
+use Rattle.std.specs.Int.{bit_at}
+use Rattle.std.proofs.lemmas.Nat.Bits.{bit_at_and, bit_at_or, bit_at-lt, bit_at-zero, bit_at_ones}
 use Rattle.std.proofs.Math.Nat.{pow-succ'}
 use Rattle.std.proofs.Math.Pow.{pow_mono}
 use Rattle.std.proofs.lemmas.Option.{slice_get_past}
@@ -29,11 +29,6 @@ max-bits (suc zero) (suc zero) l h = refl
 max-bits (suc zero) (suc (suc b)) l h = absurd (omega arith)
 max-bits (suc (suc a)) b l h = absurd (omega arith)
 
-not-bits : (a : ℕ) → a < 2 → eqb (1 - a) 1 ≡ not (eqb a 1)
-not-bits zero l = refl
-not-bits (suc zero) l = refl
-not-bits (suc (suc a)) l = absurd (omega arith)
-
 pub bit-and : (a b m : ℕ) → bit (bit_and a b) m ≡ bit a m && bit b m
 bit-and a b m = ap (λ n. eqb n 1) (bit_at_and a b m) ∙ min-bits (bit_at a m) (bit_at b m) (bit_at-lt a m) (bit_at-lt b m)
 
@@ -45,9 +40,6 @@ bit-zero m = ap (λ n. eqb n 1) (bit_at-zero m)
 
 pub bit-ones : (m : ℕ) → m < 64 → bit 18446744073709551615 m ≡ true
 bit-ones m h = ap (λ n. eqb n 1) (bit_at_ones 64 m h)
-
-pub bit-not : (a m : ℕ) → a < 2 ^ 64 → m < 64 → bit (bit_not w64 a) m ≡ not (bit a m)
-bit-not a m l h = ap (λ n. eqb n 1) (bit_at_not w64 a m l h) ∙ not-bits (bit_at a m) (bit_at-lt a m)
 
 -- a test of the first numbers
 all_below : ℕ → (ℕ → Bool) → Bool

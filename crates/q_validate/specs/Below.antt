@@ -1,5 +1,5 @@
 -- What is known of clauses and of a formula, and what is said of a node by that.
-use Rattle.std.specs.Prelude.{◌≡◌, ℕ, Bool, true, false, cond, List, [], ◌∷◌, Option, Some, None, slice_get, slice_index_or, length}
+use Rattle.std.specs.Prelude.{Bool, true, false, cond, [], ◌∷◌, Option, Some, None}
 use Rattle.q_logic.specs.declared.verdict.Verdict.{Verdict}
 use Rattle.q_logic.specs.declared.verdict.Verdict.TheVariants.{Lost, Won, Open}
 use Rattle.q_logic.specs.Prelude.{Clause, Matrix, Prefix, Assignment}

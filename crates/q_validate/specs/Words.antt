@@ -1,5 +1,5 @@
 -- Words with a bit for each node of a subtree.
-use Rattle.std.specs.Prelude.{◌≡◌, ◌<◌, ◌/◌, ◌%◌, ℕ, zero, suc, Bool, true, false, cond, eqb, nat_lt, List, [], ◌∷◌, ◌++◌, Option}
+use Rattle.std.specs.Prelude.{◌≡◌, ◌<◌, ◌/◌, ◌%◌, ℕ, zero, suc, Bool, cond, eqb, nat_lt, List, [], ◌∷◌, ◌++◌, Option}
 use Rattle.std.specs.Int.{bit_at}
 use Rattle.q_logic.specs.Branches.{is_zero, is_one}
 use Rattle.q_validate.specs.declared.words.Known.{Known}

@@ -1,7 +1,7 @@
 //! A node of the search for a false clause: the values of the first inputs. One pass over the gates tells what the clauses
 //! say of many nodes, and is kept while the search stays among these: of a *line*, down to the last input, where the
 //! search goes deep, or of a *block*, the five levels below a node, where it turns near its leaves. So n inputs that all
-//! get values cost one pass, and 32 leaves beside each other another.
+//! get values cost three passes, and 32 leaves beside each other one.
 ghost use Rattle.std.specs.Prelude.{◌≡◌, ◌≤◌, ◌<◌, ◌+◌, ◌++◌, ◌∷◌, [], ℕ, false, length, Some, None, IfOk, IfSome, OnOk, OnErr, MatchOption};
 ghost use Rattle.q_logic.specs.declared.verdict.Verdict.TheVariants.{Open};
 ghost use Rattle.q_logic.specs.Prelude.{is_existential, trees_of, given};
@@ -227,15 +227,9 @@ impl<'a> Node<'a> {
         Ok(line)
     }
 
-    // Whether the next leaf is likely to lie deeper than a block goes: after a 0 that led out of one, far from the last
-    // input, or after a 1 far above the last leaf.
+    // Whether the next leaf is likely to lie deeper than two blocks go.
     fn goes_deep(&self) -> bool {
-        let depth = self.path.len();
-        match self.path.last() {
-            None => false,
-            Some(true) => self.reach > depth + DEPTH,
-            Some(false) => self.certificate.aig().inputs().len() > depth + DEPTH,
-        }
+        self.leaves().saturating_sub(self.path.len()) > 2 * DEPTH + 1
     }
 
     // What the clauses say of the node, by what is there or by a new pass.

@@ -1,4 +1,4 @@
-use Rattle.std.proofs.Common.{◌≡◌, ◌++◌, [], Bool, List, ap, sym, ◌∙◌, subst}
+use Rattle.std.proofs.Common.{◌++◌, Bool, List, ap, sym, ◌∙◌, subst}
 use Rattle.std.proofs.lemmas.List.{append-nil}
 use Rattle.q_logic.specs.Branches.{is_false}
 use Rattle.q_validate.specs.Below.{verdict_of}

@@ -1,6 +1,4 @@
-use Rattle.std.proofs.Common.{◌++◌, ◌+◌, List, Bool, Option, take, length, arith, ap}
-use Rattle.std.proofs.lemmas.List.{take_all}
-use Rattle.q_logic.specs.Prelude.{Clause}
+use Rattle.std.proofs.Common.{◌++◌, ◌+◌, List, Bool, Option, take}
 use Rattle.q_validate.specs.Below.{known_literals, known_either}
 use Rattle.q_validate.specs.Stands.{claim_at, unset, values, literal_along}
 use Rattle.q_validate.proofs.ClauseValues.{literals-more}
