@@ -261,7 +261,7 @@ start() {
     end_streams
     case $status in 0 | 2 | 10 | 20) pack_empty || write_failed=yes ;; esac
     if [ -n "$read_failed" ]; then
-        say "a packed file could not be unpacked to its end"
+        say "a packed file, or one from a pipe, could not be read to its end"
         answer 'read fault' 4
     elif [ -n "$write_failed" ] && [ "$status" -ne 3 ]; then
         say "a file could not be packed to its end"

@@ -15,8 +15,12 @@ as_text() {
     fi
 }
 
-# Makes the text of a file, for a role; where it is none, the reason stays in the file `ROLE.why`.
-make_text() { as_text "$1" >"$work/$2.aag" 2>"$work/$2.why" || { rm -f "$work/$2.aag" && return 1; }; }
+# Makes the text of a file, for a role; where it is none, the reason stays in the file `ROLE.why`. Ends with 2 where the text could not be written.
+make_text() {
+    as_text "$1" >"$work/$2.aag" 2>"$work/$2.why" && return 0
+    rm -f "$work/$2.aag"
+    case $(cat "$work/$2.why") in byte\ *) return 1 ;; *) return 2 ;; esac
+}
 
 # Passes on what comes from a pipe, and its text where it is binary AIGER.
 pass_circuits() {
@@ -25,9 +29,12 @@ pass_circuits() {
     head=$(printf '\\0%s' $head)
     case $head in
         '\0141\0151\0147\0040')
-            { printf 'aig ' && cat; } >"$work/$1.given"
-            if make_text "$work/$1.given" "$1"; then exec cat "$work/$1.aag"; fi
-            exec cat "$work/$1.given"
+            { printf 'aig ' && cat; } >"$work/$1.given" && make_text "$work/$1.given" "$1"
+            case $? in
+                0) exec cat "$work/$1.aag" ;;
+                1) exec cat "$work/$1.given" ;;
+                *) : >"$work/$1.broken" ;;
+            esac
             ;;
         '\0') ;;
         *) printf %b "$head" && exec cat ;;
@@ -38,8 +45,13 @@ pass_circuits() {
 # packed comes from its tool. What can't be read is left to the program.
 read_circuits() {
     if [ -z "$packer" ] && [ -f "$way" ]; then
-        if is_binary_aiger "$way" && make_text "$way" "$2"; then way=$work/$2.aag; fi
-        return
+        is_binary_aiger "$way" || return 0
+        make_text "$way" "$2"
+        case $? in
+            0) way=$work/$2.aag ;;
+            2) say "the text of '$1' could not be written to a file for it" && answer 'read fault' 4 ;;
+        esac
+        return 0
     fi
     [ -r "$way" ] && [ ! -d "$way" ] || return 0
     from=$way way=$work/$2
@@ -50,10 +62,10 @@ read_circuits() {
         if [ -n "$packer" ]; then
             exec >"$way"
             { $packer -dc <"$1" || : >"$work/$2.broken"; } | pass_circuits "$2"
-            [ ! -e "$work/$2.broken" ]
         else
-            exec <"$from" >"$way" && pass_circuits "$2"
+            exec <"$from" >"$way" && (pass_circuits "$2")
         fi
+        [ ! -e "$work/$2.broken" ]
     ) &
     readers="$readers $!"
     eval "exec $number<&-"

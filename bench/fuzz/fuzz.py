@@ -29,6 +29,8 @@ from commands import FOLDER, READS, WRITES, Answer, Case, judge
 HERE = os.path.dirname(os.path.realpath(__file__))
 PROGRAM = os.path.join(HERE, "..", "..", "dist", "celdrinn-x86_64-linux")
 LONGEST = 300
+# of this program and of each call
+MOST_MEMORY = 4 << 30
 FULL = "/dev/full"
 NOWHERE = "nowhere/file"
 
@@ -227,16 +229,23 @@ def smaller(text):
             yield b"".join(lines[:at] + [b" ".join(words[:place] + words[place + 1:])] + lines[at + 1:])
 
 
+def smaller_cases(case):
+    """Cases with fewer options, lines or words, one after the other: all of them at once would not fit into memory."""
+    for word in case.options:
+        if word.startswith("--"):
+            yield case._replace(options=[o for o in case.options if o != word])
+    for name, held in case.files.items():
+        if isinstance(held, bytes):
+            for text in smaller(held):
+                yield case._replace(files={**case.files, name: text})
+
+
 def shrink(player, case, tries=2000):
     """A small case with a difference still."""
     going = True
     while going and tries > 0:
         going = False
-        candidates = [case._replace(options=[o for o in case.options if o != word]) for word in case.options if word.startswith("--")]
-        for name, held in case.files.items():
-            if isinstance(held, bytes):
-                candidates += [case._replace(files={**case.files, name: text}) for text in smaller(held)]
-        for candidate in candidates:
+        for candidate in smaller_cases(case):
             tries -= 1
             if tries <= 0:
                 break
@@ -294,7 +303,7 @@ def play(words, counts):
             wrong = judge(case, answer) or over_size(case, answer) or settled_again(player, case, answer)
             counts[kind_of(case), answer.status] += 1
             if wrong:
-                print(f"case {number} of seed {words.seed}: {wrong}, came {answer.status} '{answer.line}'")
+                print(f"case {number} of seed {words.seed}: {wrong}, came {answer.status} '{answer.line}'", flush=True)
                 print("\n".join(keep(player, shrink(player, case), words.keep)))
                 return False
     except KeyboardInterrupt:
@@ -332,6 +341,7 @@ def main():
     parser.add_argument("--program", default=PROGRAM)
     parser.add_argument("--keep", default="fuzz-difference")
     words = parser.parse_args()
+    resource.setrlimit(resource.RLIMIT_AS, (MOST_MEMORY, MOST_MEMORY))
     counts = collections.Counter()
     right = play(words, counts)
     show(counts, words.program)

@@ -182,6 +182,7 @@ class Run:
         self.clauses = dict(enumerate(formula.matrix, 1))
         self.next = len(self.clauses) + 1
         self.extended = None
+        self.order = Order(self.prefix)
 
     def rest(self, name):
         return [c for n, c in self.clauses.items() if n != name]
@@ -191,8 +192,7 @@ class Run:
 
     def cause(self, step):
         """The least cause for which a step without hints is not valid, or None."""
-        order = Order(self.prefix)
-        return self.cause_of_variables(step, order) or self.cause_of_clause(step, order)
+        return self.cause_of_variables(step, self.order) or self.cause_of_clause(step, self.order)
 
     def cause_of_variables(self, step, order):
         bound = order.quantifier
@@ -207,7 +207,7 @@ class Run:
 
     def making_cause(self, step):
         """The least cause for which a step can't be made, whoever judges it, or None."""
-        cause = self.cause_of_variables(step, Order(self.prefix))
+        cause = self.cause_of_variables(step, self.order)
         if cause or step.kind not in "du":
             return cause
         return 3 if self.name_of(frozenset(step.literals)) is None else None
@@ -240,7 +240,7 @@ class Run:
 
     def is_extended(self, step):
         """Whether a valid drop is neither by a universal pivot nor plain."""
-        order, clause, first = Order(self.prefix), frozenset(step.literals), step.literals[0]
+        order, clause, first = self.order, frozenset(step.literals), step.literals[0]
         inner = any(order.quantifier[abs(k)] == "e" and not order.outer_or_same(abs(k), abs(first)) for k in clause)
         rest = self.rest(self.name_of(clause))
         return (inner or -first in clause) and not self.is_universal_pivot(order, rest, clause, first)
@@ -260,12 +260,14 @@ class Run:
         elif step.kind == "e":
             at = next(i for i, (_, v) in enumerate(self.prefix) if v == step.literals[1])
             self.prefix.insert(at + 1, ("e", step.literals[0]))
+            self.order = Order(self.prefix)
         else:
             self.prefix = [(q, v) for q, v in self.prefix if v != step.literals[0]]
+            self.order = Order(self.prefix)
 
     def hinted_cause(self, hinted):
         """The least cause for a step with its proof part, or None."""
-        step, order = hinted.step, Order(self.prefix)
+        step, order = hinted.step, self.order
         cause = self.cause_of_variables(step, order)
         if cause or step.kind in "er":
             return cause
