@@ -43,6 +43,7 @@ if [ "${1:-solve}" = solve ]; then
     for pair in "23 150" "5 150" "11 150" "24 200" "25 200"; do
         # shellcheck disable=SC2086
         set -- $pair
+        rm -f "$work/in"
         "$celdrinn" gen "$1" "$2" "$work/in" >"$work/line"
         solved "gen-$1-$2"
     done
