@@ -22,9 +22,9 @@ _celdrinn() {
         miter) kinds=fff options="--herbrand --stats --force --quiet --verbose" ;;
         validate) kinds=ff options="--budget= --with= --herbrand --seconds= --stats --quiet --verbose" ;;
         certify) kinds=ff options="--seconds= --check --force --quiet --verbose" ;;
-        solve) kinds=ffff options="--budget= --seconds= --stats --force --quiet --verbose" ;;
-        gen) kinds=nnf options="--quiet --verbose" ;;
-        demo) kinds=nnfff options="--quiet --verbose" ;;
+        solve) kinds=ffff options="--budget= --grow= --expand= --seconds= --stats --force --quiet --verbose" ;;
+        gen) kinds=nnf options="--force --quiet --verbose" ;;
+        demo) kinds=nnfff options="--force --quiet --verbose" ;;
         mend) kinds=ff options="--force --quiet --verbose" ;;
         *) return ;;
     esac

@@ -59,6 +59,9 @@ take() {
     file=$work/taken$taken
 }
 
+# Sets `to` to a name under which a program writes a file, also where it begins as an option does.
+name_to() { case $1 in -?*) to=./$1 ;; *) to=$1 ;; esac; }
+
 # Ends the script where a file that is written would be one that is read: their names.
 keep_apart() {
     [ "$1" = "$2" ] || [ "$1" -ef "$2" ] || return 0

@@ -257,7 +257,10 @@ look() {
         refuse "too many words for $command: '$1'${many:-; see 'celdrinn help $command'}"
     fi
     inputs='' outputs='' log='' place=0
-    [ $# -lt 3 ] || log=$3
+    case $command in
+        simplify | solve) log=${3-} ;;
+        demo) log=${5-} ;;
+    esac
     count=$#
     for operand in $operands; do
         place=$((place + 1))
