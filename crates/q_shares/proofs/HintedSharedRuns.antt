@@ -5,7 +5,8 @@ use Rattle.q_logic.specs.Prelude.{PrenexFormula, IsIn, SameFormula, standard}
 use Rattle.q_logic.specs.Steps.{ProofStep, add, delete, drop_literal, fresh, remove_variable}
 use Rattle.q_logic.specs.Hinted.{NumberedFormula, ProofPart, Hinted, HintedValid, HintedSteps, HintedRun, hinted_after, begun, plain}
 use Rattle.q_shares.specs.Shares.{Share, judged, shares_of, AreDealt}
-use Rattle.q_shares.specs.HintedShares.{HintedApplies, hinted_made, AreHintedMade, HintedShareRun, AllSayHinted}
+use Rattle.q_same_steps.specs.HintedMaking.{HintedApplies, hinted_made}
+use Rattle.q_shares.specs.HintedShares.{AreHintedMade, HintedShareRun, AllSayHinted}
 use Rattle.q_shares.proofs.SharedRuns.{finds}
 
 hinted_valid-applies : (m : Limits) (F : NumberedFormula) (s : ProofStep) (t : ProofPart) → HintedValid m F s t → HintedApplies m F s t

@@ -1,0 +1,3 @@
+mod JoinedLogs
+mod JoinedFiles
+mod CheckedParts

@@ -1,0 +1,39 @@
+//! Laws on the definitions: each is the contract of a function that does nothing.
+ghost use Rattle.std.specs.Prelude.{◌≡◌, ◌≤◌, ◌⊎◌, ◌++◌, ℕ, List, Some, length};
+ghost use Rattle.q_logic.specs.Prelude.{standard};
+ghost use Rattle.q_log.specs.Logs.{Steps};
+ghost use Rattle.q_command.specs.Checks.{AnswersExactly, Checks, MayCome};
+ghost use Rattle.q_command.specs.Logs.{Entry as AnyEntry};
+ghost use Rattle.q_command.specs.declared.outcome.Outcome.TheVariants.{Verified};
+ghost use Rattle.q_command.specs.declared.status.Status.{Status as CheckStatus};
+ghost use Rattle.q_command.specs.declared.status.Status.TheVariants.{Done};
+ghost use Rattle.q_parts.specs.LogParts.{EndsLine, IsJoined};
+ghost use Rattle.q_parts.specs.CheckedParts.{AllChecked, IsPlain, PartFile, all_logs, all_steps, last_file};
+
+/// Where the first of two plain logs ends a line, both one behind the other are a log of the steps of both.
+pub fn logs_are_joined()
+    ensures { (limit : ℕ) → (first second : List ℕ) → (es us : List AnyEntry) → EndsLine first →
+        length (first ++ second) ≤ limit → Steps limit first ≡ Some es → Steps limit second ≡ Some us →
+        (both : List AnyEntry) × (Steps limit (first ++ second) ≡ Some both) × IsJoined es us both }
+{}
+
+/// Where `check` says `verified` of each part of a log without hints, its outcome over the whole log would be `verified` with the sum of the
+/// numbers, and a call of it answers so, but for faults and want of memory.
+pub fn checked_parts_are_checked()
+    ensures says { (input : List ℕ) → (p : PartFile) → (ps : List PartFile) → AllChecked input p ps →
+        length (all_logs p ps) ≤ standard.bytes →
+        Checks (Verified (all_steps p ps)) input (last_file p ps) (all_logs p ps) }
+    ensures answers { (answer : CheckStatus) → (input : List ℕ) → (p : PartFile) → (ps : List PartFile) →
+        AllChecked input p ps → length (all_logs p ps) ≤ standard.bytes →
+        AnswersExactly answer input (last_file p ps) (all_logs p ps) → (answer ≡ Done) ⊎ MayCome answer }
+{}
+
+/// Where `check` says `verified` of a log and of a first part of it, it would say so of the rest, whatever file with the right formula
+/// stands between.
+pub fn checked_logs_have_checked_parts()
+    ensures { (input middle output first second : List ℕ) → (k n : ℕ) → (us : List AnyEntry) →
+        EndsLine first → length (first ++ second) ≤ standard.bytes → IsPlain first →
+        Checks (Verified k) input middle first → Steps standard.bytes second ≡ Some us →
+        Checks (Verified n) input output (first ++ second) →
+        Checks (Verified (length us)) middle output second }
+{}
