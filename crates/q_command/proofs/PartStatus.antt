@@ -39,7 +39,7 @@ fit-no_unfit m F (fresh v x) n h w = w.1 h
 fit-no_unfit m F (remove_variable v) n h (inl w) = let e = h.0 in let f = w.1 in cc
 fit-no_unfit m F (remove_variable v) n h (inr w) = w.1 h.1
 
-right-or-wrong : (b : Bool) (m : Limits) (F : PrenexFormula) (s : ProofStep) (n : ℕ) → judged b (Valid m F s) (Applies m F s) → judged b (Cause m F s n) (Unfit m F s n) → ⊥
+pub right-or-wrong : (b : Bool) (m : Limits) (F : PrenexFormula) (s : ProofStep) (n : ℕ) → judged b (Valid m F s) (Applies m F s) → judged b (Cause m F s n) (Unfit m F s n) → ⊥
 right-or-wrong true m F s n v w = Valid-no_cause m F s n v w
 right-or-wrong false m F s n v w = fit-no_unfit m F s n v w.applies
 

@@ -1,3 +1,6 @@
 mod JoinedLogs
 mod JoinedFiles
 mod CheckedParts
+mod RisingLines
+mod RisingEntries
+mod LeastRefusals

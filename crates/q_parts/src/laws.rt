@@ -1,12 +1,15 @@
 //! Laws on the definitions: each is the contract of a function that does nothing.
-ghost use Rattle.std.specs.Prelude.{◌≡◌, ◌≤◌, ◌⊎◌, ◌++◌, ℕ, List, Some, length};
-ghost use Rattle.q_logic.specs.Prelude.{standard};
+ghost use Rattle.std.specs.Prelude.{◌≡◌, ◌≤◌, ◌<◌, ◌⊎◌, ◌++◌, ℕ, List, Some, length};
+ghost use Rattle.q_logic.specs.Prelude.{IsIn, standard};
 ghost use Rattle.q_log.specs.Logs.{Steps};
 ghost use Rattle.q_command.specs.Checks.{AnswersExactly, Checks, MayCome};
 ghost use Rattle.q_command.specs.Logs.{Entry as AnyEntry};
-ghost use Rattle.q_command.specs.declared.outcome.Outcome.TheVariants.{Verified};
+ghost use Rattle.q_command.specs.declared.outcome.Outcome.TheVariants.{RefusedEnd, RefusedLine, Verified};
 ghost use Rattle.q_command.specs.declared.status.Status.{Status as CheckStatus};
 ghost use Rattle.q_command.specs.declared.status.Status.TheVariants.{Done};
+ghost use Rattle.q_command.specs.Parts.{ChecksShared, share_of};
+ghost use Rattle.q_command.specs.declared.part.Part.{Part as AnyPart};
+ghost use Rattle.q_shares.specs.Shares.{Share, first_dealt};
 ghost use Rattle.q_parts.specs.LogParts.{EndsLine, IsJoined};
 ghost use Rattle.q_parts.specs.CheckedParts.{AllChecked, IsPlain, PartFile, all_logs, all_steps, last_file};
 
@@ -36,4 +39,18 @@ pub fn checked_logs_have_checked_parts()
         Checks (Verified k) input middle first → Steps standard.bytes second ≡ Some us →
         Checks (Verified n) input output (first ++ second) →
         Checks (Verified (length us)) middle output second }
+{}
+
+/// Where `check` would refuse a line, one of its parts says just that, and none says an earlier line: so the least line that parts refuse is
+/// that of `check`. Where `check` would refuse the end, so does each part.
+pub fn least_refusals_are_those_of_check()
+    ensures told { (parts line cause : ℕ) → (input output log : List ℕ) → 0 < parts →
+        Checks (RefusedLine line cause) input output log →
+        (j : Share) × IsIn j (first_dealt 1000 parts parts) × ChecksShared j (RefusedLine line cause) input output log }
+    ensures none_before { (p : AnyPart) → (line cause own other : ℕ) → (input output log : List ℕ) →
+        Checks (RefusedLine line cause) input output log →
+        ChecksShared (share_of p) (RefusedLine own other) input output log → line ≤ own }
+    ensures ends { (p : AnyPart) → (cause : ℕ) → (input output log : List ℕ) →
+        Checks (RefusedEnd cause) input output log →
+        ChecksShared (share_of p) (RefusedEnd cause) input output log }
 {}
