@@ -1,13 +1,13 @@
 -- What a step that is made on numbered clauses answers: the least cause, or what stands there then.
-use Rattle.std.proofs.Common.{◌≡◌, ◌∷◌, [], ℕ, Bool, true, false, Option, Some, None, inl, inr, arith, refl, sym, ◌∙◌, true≢false, Ok, Err}
+use Rattle.std.proofs.Common.{◌≡◌, ◌∷◌, [], ℕ, Bool, Option, Some, None, inl, inr, arith, refl, Ok, Err}
 use Rattle.q_logic.specs.declared.limits.Limits.{Limits}
 use Rattle.q_logic.specs.declared.proof_part.ProofKind.TheVariants.{Nothing}
-use Rattle.q_logic.specs.Prelude.{Literal, Clause, PrenexFormula, NumberedFormula, ProofPart, IsIn, hinted_after, plain, slot, set_slot, live, without, add, delete, drop_literal, fresh, remove_variable, Within, KeepsLimits}
+use Rattle.q_logic.specs.Prelude.{Literal, Clause, NumberedFormula, ProofPart, IsIn, plain, slot, set_slot, live, without, add, delete, drop_literal, fresh, remove_variable, Within, KeepsLimits}
 use Rattle.q_judge.specs.declared.undo.Undo.{Undo}
 use Rattle.q_judge.specs.declared.error.CheckError.{CheckError}
 use Rattle.q_judge.specs.declared.error.CheckError.TheVariants.{Refused, NoMemory}
 use Rattle.q_same_steps.specs.Making.{Unfit}
-use Rattle.q_same_steps.specs.HintedMaking.{HintedApplies, HintedUnfit}
+use Rattle.q_same_steps.specs.HintedMaking.{HintedUnfit}
 use Rattle.q_check.specs.HintChecks.{IsHintTried}
 use Rattle.q_check.specs.Annotations.{IsAnnotated}
 use Rattle.q_check.specs.Replays.{IsHintMade, IsNumberedStep, IsNumberedMade}

@@ -1,7 +1,7 @@
 -- The checkers of both profiles, step by step, and their ends.
 use Rattle.std.proofs.Common.{◌≡◌, inl, inr, ◌<◌, ◌==◌, ◌∙◌, refl, sym, ap, subst, arith, ℕ, Bool, true, false, List, [], ◌∷◌, ◌++◌, map, length, append-nil, length-append, Option, Some, None, Result, Ok, Err, IfOk, IfErr, OnOk, IsSome, IsSomeAnd, is_some}
 use Rattle.std.proofs.lemmas.Bool.Decides.{nat_tests}
-use Rattle.q_logic.specs.Prelude.{PrenexFormula, Prefix, Matrix, Hinted, HintedSteps, HintedValid, HintedCause, NumberedFormula, ProofPart, begun, plain, strip, hinted_after, standard, numbered, blocks, SameBlocks, SameFormula, AreAlike, ProofStep, Valid, Cause, after, UndoEntry, Undos}
+use Rattle.q_logic.specs.Prelude.{PrenexFormula, Prefix, Matrix, Hinted, HintedValid, NumberedFormula, ProofPart, begun, plain, strip, hinted_after, standard, numbered, blocks, SameBlocks, SameFormula, AreAlike, ProofStep, Valid, Cause, after, UndoEntry, Undos}
 use Rattle.q_logic.specs.declared.limits.Limits.{Limits}
 use Rattle.q_logic.proofs.Common.{alike_itself, alike_swapped, live-numbered}
 use Rattle.q_logic.proofs.HintedRuns.{hinted-valid, hinted-after}
@@ -16,7 +16,7 @@ use Rattle.q_check.specs.Replays.{IsUnfitFor, IsHintUnfitFor}
 use Rattle.q_check.specs.HintChecks.{HintChecked, IsHintRefusal}
 use Rattle.q_check.proofs.CheckerRuns.{leads_begin, leads_more, leads_undos}
 use Rattle.q_same_steps.specs.Making.{Applies, Unfit, made}
-use Rattle.q_same_steps.specs.HintedMaking.{HintedApplies, hinted_made}
+use Rattle.q_same_steps.specs.HintedMaking.{hinted_made}
 use Rattle.q_shares.specs.Shares.{Share, AreMade, ShareRun, judged}
 use Rattle.q_shares.specs.HintedShares.{AreHintedMade}
 use Rattle.q_command.specs.Parts.{IsWhole}

@@ -1,7 +1,7 @@
 -- Steps with proof parts of which a share is judged: how they grow, and the share that is the whole.
-use Rattle.std.proofs.Common.{◌≡◌, ◌+◌, ◌∙◌, inl, inr, sym, subst, arith, refl, ℕ, suc, Bool, true, false, List, [], ◌∷◌, ◌++◌, length}
+use Rattle.std.proofs.Common.{◌≡◌, ◌+◌, inl, inr, subst, arith, refl, ℕ, suc, Bool, true, false, List, [], ◌∷◌, ◌++◌, length}
 use Rattle.q_logic.specs.declared.limits.Limits.{Limits}
-use Rattle.q_logic.specs.Prelude.{Hinted, HintedCause, HintedSteps, HintedValid, NumberedFormula, ProofPart, hinted_after, begun, plain, standard, PrenexFormula, HintedRun}
+use Rattle.q_logic.specs.Prelude.{Hinted, HintedCause, HintedSteps, HintedValid, NumberedFormula, ProofPart, hinted_after, begun, standard, PrenexFormula, HintedRun}
 use Rattle.q_logic.specs.Steps.{ProofStep, add, delete, drop_literal, fresh, remove_variable}
 use Rattle.q_logic.proofs.HintedCauses.{HintedValid-no_cause}
 use Rattle.q_same_steps.specs.HintedMaking.{HintedApplies, IsHintedUnfit, HintedUnfit, hinted_made}

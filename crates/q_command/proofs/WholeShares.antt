@@ -1,6 +1,6 @@
 -- The share that is the whole log: what is said of it is what is said of the log.
 use Rattle.std.proofs.Common.{◌≡◌, ◌⊎◌, ◌+◌, ◌∙◌, inl, inr, refl, sym, subst, ℕ, Bool, true, List, [], ◌∷◌, Option, Some, None, IfSome}
-use Rattle.q_logic.specs.Prelude.{PrenexFormula, NumberedFormula, hinted_after, begun, plain, standard, Valid, Cause, ValidSteps, SameFormula, after, Run, UndoEntry}
+use Rattle.q_logic.specs.Prelude.{PrenexFormula, NumberedFormula, hinted_after, begun, standard, Valid, Cause, ValidSteps, SameFormula, after, Run, UndoEntry}
 use Rattle.q_same_steps.specs.Making.{Applies, Unfit, made}
 use Rattle.q_same_steps.specs.HintedMaking.{hinted_made}
 use Rattle.q_shares.specs.Shares.{Share, ShareRun, judged}

@@ -1,6 +1,6 @@
 -- What `check` answers of parts is what it answers of the log.
 use Rattle.std.proofs.Common.{◌≡◌, ◌≤◌, ◌⊎◌, ◌==◌, ◌++◌, ◌∙◌, ℕ, if◌then◌else◌, List, [], ◌∷◌, length, Some, None, inl, inr, sym, subst}
-use Rattle.q_logic.specs.Prelude.{PrenexFormula, standard}
+use Rattle.q_logic.specs.Prelude.{PrenexFormula, ProofStep, Run, standard}
 use Rattle.q_hinted.specs.Logs.{Profile, all_or_none, hinted_in, read_entries}
 use Rattle.q_command.specs.Logs.{Entry}
 use Rattle.q_command.specs.Checks.{Checks, IsHintedRunLog, IsRunLog, IsVerified, AnswersExactly, MayCome}
@@ -10,9 +10,10 @@ use Rattle.q_command.specs.declared.status.Status.TheVariants as status
 use Rattle.q_hinted.proofs.Profiles.{no-steps}
 use Rattle.q_log.specs.Logs.{Steps}
 use Rattle.q_command.proofs.WholeLogs.{profile-told}
-use Rattle.q_parts.specs.LogParts.{EndsLine}
+use Rattle.q_parts.specs.LogParts.{AreSameWords, EndsLine}
 use Rattle.q_parts.specs.CheckedParts.{PartFile, AllChecked, IsPlain, all_logs, all_steps, last_file}
 use Rattle.q_parts.proofs.JoinedLogs.{joined-steps}
+use Rattle.q_parts.proofs.SameWords.{same-words, same-length}
 use Rattle.q_parts.proofs.JoinedFiles.{AreVerified, IsVerifiedBy, all-verified, rest-verified}
 
 no-hints : (l : List ℕ) (F G : PrenexFormula) (es : List Entry) → IsPlain l → IsHintedRunLog l F G es → ⊥
@@ -84,3 +85,19 @@ checks-rest i m o a b k n us l h p v t w =
     let x = to_part i m a k p v in
     let j = joined-steps standard.bytes a b x.entries us l h x.is_log t in
     to_check m o b (length us) (rest-verified i m o a b k n us l h x t (to_part i o (a ++ b) n (some-plain (a ++ b) j.0 j.1) w))
+
+-- the same words
+pub checks-same : (i o l other : List ℕ) (n : ℕ) → AreSameWords l other → length l ≤ standard.bytes → length other ≤ standard.bytes → IsPlain l → Checks (Verified n) i o l → Checks (Verified n) i o other
+checks-same i o l other n w h k p c =
+    let v = to_part i o l n p c in
+    let s = same-words standard.bytes l other v.entries w h k v.is_log in
+    to_check i o other n (record {
+      from = v.from;
+      to = v.to;
+      is_input = v.is_input;
+      is_output = v.is_output;
+      entries = s.entries;
+      is_log = s.is_log;
+      run = subst (λ (ss : List ProofStep). Run v.from ss v.to) (sym s.same) v.run;
+      count = v.count ∙ sym (same-length v.entries s.entries s.same);
+    })

@@ -1,23 +1,20 @@
 -- Of the parts that refuse a log, one says what `check` says, and none says an earlier line.
-use Rattle.std.proofs.Common.{◌≡◌, ◌⊎◌, ◌≤◌, ◌+◌, inl, inr, refl, sym, subst, arith, ℕ, Bool, true, false, List, [], ◌∷◌, Option, Some, None}
+use Rattle.std.proofs.Common.{◌≡◌, ◌⊎◌, ◌≤◌, ◌+◌, inl, inr, sym, subst, arith, ℕ, Bool, true, false, List, [], ◌∷◌, Option, Some, None}
 use Rattle.q_logic.specs.declared.limits.Limits.{Limits}
-use Rattle.q_logic.specs.Prelude.{PrenexFormula, NumberedFormula, HintedValid, HintedCause, IsIn, ProofStep, ProofPart, SameFormula, Valid, ValidSteps, HintedSteps as AreValid, Cause, after, hinted_after, begun, plain, standard}
-use Rattle.q_logic.proofs.Validity.{Valid-no_cause}
-use Rattle.q_logic.proofs.HintedCauses.{HintedValid-no_cause}
-use Rattle.q_same_steps.specs.Making.{Applies, Unfit, made}
-use Rattle.q_same_steps.specs.HintedMaking.{HintedApplies, HintedUnfit, hinted_made}
+use Rattle.q_logic.specs.Prelude.{PrenexFormula, NumberedFormula, HintedValid, HintedCause, IsIn, ProofStep, ProofPart, Valid, Cause, after, hinted_after, begun, plain, standard}
+use Rattle.q_same_steps.specs.Making.{Applies, Unfit}
+use Rattle.q_same_steps.specs.HintedMaking.{HintedApplies, HintedUnfit}
 use Rattle.q_same_steps.proofs.MadeSteps.{valid-applies}
-use Rattle.q_shares.specs.Shares.{Share, AreDealt, AreMade, judged, shares_of}
-use Rattle.q_shares.specs.HintedShares.{AreHintedMade}
+use Rattle.q_shares.specs.Shares.{Share, AreDealt, judged}
 use Rattle.q_shares.proofs.SharedRuns.{finds, valid-made, valid-shared}
 use Rattle.q_shares.proofs.HintedSharedRuns.{hinted_valid-applies, hinted-made, hinted-shared}
 use Rattle.q_log.specs.declared.error.LogError.{LogError}
 use Rattle.q_log.specs.declared.error.LogError.TheVariants.{BadLine, Limit, NoMemory}
 use Rattle.q_log.specs.Logs as logs
-use Rattle.q_hinted.specs.Logs.{Profile, hinted_in, read_entries}
+use Rattle.q_hinted.specs.Logs.{hinted_in, read_entries}
 use Rattle.q_command.specs.Logs.{Entry, HintedEntry, steps_of, hinted_of, IsOffence, IsFirstBad, IsFirstBadHinted, IsRefusedAt}
-use Rattle.q_command.specs.Checks.{Checks, EndsElsewhere, IsPlainWay, IsHintedWay}
-use Rattle.q_command.specs.Parts.{ChecksShared, EndsElsewhereShared, IsFirstBadShared, IsFirstBadHintedShared, IsPlainShareWay, IsHintedShareWay, IsRefusedShared}
+use Rattle.q_command.specs.Checks.{Checks, IsPlainWay, IsHintedWay}
+use Rattle.q_command.specs.Parts.{ChecksShared, IsFirstBadShared, IsFirstBadHintedShared, IsPlainShareWay, IsHintedShareWay, IsRefusedShared}
 use Rattle.q_command.specs.declared.outcome.Outcome.TheVariants.{RefusedLine, RefusedEnd}
 use Rattle.q_command.proofs.CheckStatus.{carried}
 use Rattle.q_command.proofs.PartStatus.{right-or-wrong}

@@ -1,5 +1,6 @@
 mod JoinedLogs
 mod JoinedFiles
+mod SameWords
 mod CheckedParts
 mod RisingLines
 mod RisingEntries

@@ -1,5 +1,5 @@
 -- Lines rise in a log of either profile.
-use Rattle.std.proofs.Common.{◌≡◌, ◌≤◌, ◌==◌, ℕ, nat_lt, nat_le, Bool, true, false, List, [], ◌∷◌, length, take, if◌then◌else◌, Option, Some, None, refl, sym, subst, ℤ, pos, negsuc}
+use Rattle.std.proofs.Common.{◌≡◌, ◌≤◌, ◌==◌, ℕ, nat_le, Bool, true, false, List, [], ◌∷◌, length, take, if◌then◌else◌, Option, Some, None, refl, sym, subst, ℤ, pos, negsuc}
 use Rattle.q_logic.specs.declared.steps.Kind.{Kind}
 use Rattle.q_logic.specs.declared.steps.Kind.TheVariants.{Add, Delete, Drop, Fresh, Remove}
 use Rattle.q_logic.specs.declared.proof_part.ProofKind.TheVariants.{Implied, Pivot, Reach}
@@ -10,11 +10,11 @@ use Rattle.q_text.specs.declared.tokens.TokenKind.{TokenKind}
 use Rattle.q_text.specs.declared.tokens.TokenKind.TheVariants.{Number, P, Cnf, Qrat, E, A, D, U, R, Other}
 use Rattle.q_text.specs.Texts.{tokens_of, tokens_ended, line_after}
 use Rattle.q_log.specs.declared.error.LogError.{LogError}
-use Rattle.q_log.specs.Grammar.{OpenStep, Move, ends_step, goes_on, unfit, move}
+use Rattle.q_log.specs.Grammar.{Move, ends_step, goes_on, unfit, move}
 use Rattle.q_hinted.specs.declared.builder.Stage.{Stage}
 use Rattle.q_hinted.specs.declared.builder.Stage.TheVariants as stage
 use Rattle.q_hinted.specs.Grammar.{Place, nowhere, format, version, plain, steps, proving, EntryMove, hands, leads, misfit, place_move, in_plain, in_steps, behind_step, with_zero, with_number, kind_move, part_move, number_in, front_move, format_move, version_move, profile_move}
-use Rattle.q_hinted.specs.Logs.{Entry as BothEntry, Entries, follow, parsed, at_end, past_limit, open_end, read_entries, hinted_in, if_hinted}
+use Rattle.q_hinted.specs.Logs.{Entry as BothEntry, follow, parsed, at_end, past_limit, open_end, read_entries, hinted_in, if_hinted}
 use Rattle.q_command.specs.Logs.{HintedEntry}
 use Rattle.q_parts.proofs.RisingLines.{at-most, itself, AreRising, IsFrom, IsOfLine, from-earlier, origin, move-line, tokens-rising, ended-rising}
 

@@ -1,8 +1,7 @@
 -- Lines rise: those of the tokens of a text, and so those of the steps of a plain log and of its offence.
 use Rattle.std.proofs.Common.{◌≡◌, ◌≤◌, ◌==◌, ◌+◌, ℕ, nat_lt, nat_le, Bool, true, false, List, [], ◌∷◌, ◌++◌, length, take, if◌then◌else◌, Option, Some, None, refl, sym, subst, arith, ℤ, pos, negsuc}
-use Rattle.q_logic.specs.declared.steps.Kind.{Kind}
 use Rattle.q_logic.specs.declared.steps.Kind.TheVariants.{Add}
-use Rattle.q_logic.specs.Prelude.{ProofStep, step_of}
+use Rattle.q_logic.specs.Prelude.{step_of}
 use Rattle.q_text.specs.declared.tokens.Token.{Token}
 use Rattle.q_text.specs.declared.tokens.TokenKind.{TokenKind}
 use Rattle.q_text.specs.declared.tokens.TokenKind.TheVariants.{Number, P, Cnf, Qrat, E, A, D, U, R, Other}
@@ -10,12 +9,12 @@ use Rattle.q_text.specs.declared.shape.Shape.{Shape}
 use Rattle.q_text.specs.declared.shape.Shape.TheVariants.{Start}
 use Rattle.q_text.specs.Words.{is_separator}
 use Rattle.q_text.specs.Texts.{tokens_of, tokens_ended, line_from, line_after}
-use Rattle.q_text.specs.Tokens.{after, after_blank, grown, kind_in, listed, token_in, to_come, all_handed}
+use Rattle.q_text.specs.Tokens.{after_blank, grown, kind_in, listed, token_in, to_come, all_handed}
 use Rattle.q_text.proofs.TokenLaw.{at, from_start, handed-ended}
 use Rattle.q_log.specs.declared.error.LogError.{LogError}
 use Rattle.q_log.specs.declared.error.LogError.TheVariants.{BadLine, Limit, NoMemory}
-use Rattle.q_log.specs.Grammar.{OpenStep, Move, ends_step, goes_on, unfit, move, first_move, next_move, with_number, with_zero, with_literal, if_small, is_whole, has_room, empty_step}
-use Rattle.q_log.specs.Logs.{Parsed, follow, parsed, at_end, past_limit, read}
+use Rattle.q_log.specs.Grammar.{OpenStep, Move, ends_step, goes_on, unfit, move, first_move, next_move, with_number, is_whole, has_room, empty_step}
+use Rattle.q_log.specs.Logs.{follow, parsed, at_end, past_limit, read}
 use Rattle.q_command.specs.Logs.{Entry}
 
 -- the lines of tokens rise from n on, and none is behind the line m

@@ -10,7 +10,7 @@ ghost use Rattle.q_command.specs.declared.status.Status.TheVariants.{Done};
 ghost use Rattle.q_command.specs.Parts.{ChecksShared, share_of};
 ghost use Rattle.q_command.specs.declared.part.Part.{Part as AnyPart};
 ghost use Rattle.q_shares.specs.Shares.{Share, first_dealt};
-ghost use Rattle.q_parts.specs.LogParts.{EndsLine, IsJoined};
+ghost use Rattle.q_parts.specs.LogParts.{AreSameWords, EndsLine, IsJoined};
 ghost use Rattle.q_parts.specs.CheckedParts.{AllChecked, IsPlain, PartFile, all_logs, all_steps, last_file};
 
 /// Where the first of two plain logs ends a line, both one behind the other are a log of the steps of both.
@@ -39,6 +39,13 @@ pub fn checked_logs_have_checked_parts()
         Checks (Verified k) input middle first → Steps standard.bytes second ≡ Some us →
         Checks (Verified n) input output (first ++ second) →
         Checks (Verified (length us)) middle output second }
+{}
+
+/// Plain logs with the same words, on whatever lines, are verified alike.
+pub fn same_words_are_checked_alike()
+    ensures { (input output log other : List ℕ) → (number : ℕ) → AreSameWords log other →
+        length log ≤ standard.bytes → length other ≤ standard.bytes → IsPlain log →
+        Checks (Verified number) input output log → Checks (Verified number) input output other }
 {}
 
 /// Where `check` would refuse a line, one of its parts says just that, and none says an earlier line: so the least line that parts refuse is

@@ -7,5 +7,5 @@ mod laws;
 
 pub use laws::{
     checked_logs_have_checked_parts, checked_parts_are_checked, least_refusals_are_those_of_check,
-    logs_are_joined,
+    logs_are_joined, same_words_are_checked_alike,
 };
