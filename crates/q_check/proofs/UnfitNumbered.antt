@@ -89,14 +89,14 @@ module _ (m : Limits) (F : NumberedFormula) where
 
   module _ (G : NumberedFormula) where
     pub fresh-named : (v w : ℕ) (t : ProofPart) → IsAnnotated m F (fresh v w) G (Ok t) → IsNumberedMade m F (fresh v w) G (Ok tt)
-    fresh-named v w t h = record { proof = t; fits = h.0; after = h.1.0 }
+    fresh-named v w t h = record { proof = t; fits = h.0; after = h.1 }
 
     pub fresh-unnamed : (v w : ℕ) (e : CheckError) → IsAnnotated m F (fresh v w) G (Err e) → IsNumberedMade m F (fresh v w) G (Err e)
     fresh-unnamed v w (Refused n) h = (h.0, record { applies = h.1.applies; least = h.1.least })
     fresh-unnamed v w NoMemory h = h
 
     pub remove-named : (v : ℕ) (t : ProofPart) → IsAnnotated m F (remove_variable v) G (Ok t) → IsNumberedMade m F (remove_variable v) G (Ok tt)
-    remove-named v t h = record { proof = t; fits = h.0; after = h.1.0 }
+    remove-named v t h = record { proof = t; fits = h.0; after = h.1 }
 
     pub remove-unnamed : (v : ℕ) (e : CheckError) → IsAnnotated m F (remove_variable v) G (Err e) → IsNumberedMade m F (remove_variable v) G (Err e)
     remove-unnamed v (Refused n) h = (h.0, record { applies = h.1.applies; least = h.1.least })

@@ -50,8 +50,8 @@ fit-no_unfit m F (drop_literal l C) t n h (inr w) = w.1 h.1
 fit-no_unfit m F (fresh v x) t n h (inl w) = w.1 h.0
 fit-no_unfit m F (fresh v x) t n h (inr w) = w.1 h.1
 fit-no_unfit m F (remove_variable v) t n h (inl w) = let e = h.0 in let f = w.1 in cc
-fit-no_unfit m F (remove_variable v) t n h (inr (inl w)) = w.1 h.1.0
-fit-no_unfit m F (remove_variable v) t n h (inr (inr w)) = w.1 h.1.1
+fit-no_unfit m F (remove_variable v) t n h (inr (inl w)) = w.1 h.1
+fit-no_unfit m F (remove_variable v) t n h (inr (inr w)) = w.1 h.2
 
 pub hinted-right-or-wrong : (b : Bool) (m : Limits) (F : NumberedFormula) (s : ProofStep) (t : ProofPart) (n : ℕ) → Fits b m F s t → Fails b m F s t n → ⊥
 hinted-right-or-wrong true m F s t n v w = HintedValid-no_cause m F s t n v w
