@@ -1,5 +1,5 @@
 -- The checkers of both profiles, step by step, and their ends.
-use Rattle.std.proofs.Common.{◌≡◌, inl, inr, ◌<◌, ◌==◌, ◌∙◌, refl, sym, ap, subst, arith, ℕ, Bool, true, false, List, [], ◌∷◌, ◌++◌, map, length, append-nil, length-append, Option, Some, None, Result, Ok, Err, IfOk, IfErr, OnOk, IsSome, IsSomeAnd, is_some}
+use Rattle.std.proofs.Common.{◌≡◌, inl, inr, ◌<◌, ◌==◌, ◌+◌, ◌∙◌, refl, sym, ap, subst, arith, ℕ, Bool, true, false, List, [], ◌∷◌, ◌++◌, map, length, append-nil, length-append, Option, Some, None, Result, Ok, Err, IfOk, IfErr, OnOk, IsSome, IsSomeAnd, is_some}
 use Rattle.std.proofs.lemmas.Bool.Decides.{nat_tests}
 use Rattle.q_logic.specs.Prelude.{PrenexFormula, Prefix, Matrix, Hinted, HintedValid, NumberedFormula, ProofPart, begun, plain, strip, hinted_after, standard, numbered, blocks, SameBlocks, SameFormula, AreAlike, ProofStep, Valid, Cause, after, UndoEntry, Undos}
 use Rattle.q_logic.specs.declared.limits.Limits.{Limits}
@@ -94,7 +94,8 @@ more-hinted keep j F hs n s t N old new r q l u m k v a g =
     let E : NumberedFormula = hinted_made (begun F) (hinted_of hs) in
     let e : hinted_of (hs ++ (n, h) ∷ []) ≡ hinted_of hs ++ h ∷ [] = hinted_of-append hs ((n, h) ∷ []) in
     let d : strip (hinted_of (hs ++ (n, h) ∷ [])) ≡ strip (hinted_of hs) ++ s ∷ [] = ap strip e ∙ strip-append (hinted_of hs) (h ∷ []) in
-    let i : length hs ≡ 0 + length (hinted_of hs) = sym (hinted_of-length hs) in
+    let z : length (hinted_of hs) ≡ length hs = hinted_of-length hs in
+    let i : length hs ≡ 0 + length (hinted_of hs) = omega (arith, z) in
     let v' : FitsHinted (j (0 + length (hinted_of hs))) standard E s t = subst (λ (x : ℕ). FitsHinted (j x) standard E s t) i (subst (λ (M : NumberedFormula). FitsHinted (j (length hs)) standard M s t) q v) in
     record {
       some = omega (arith, length-append hs ((n, h) ∷ []));
