@@ -1,7 +1,8 @@
 #!/bin/sh
 # Checks one long log in parts, beside each other. The formulas between the parts are made by replay.awk, which is not trusted: a part
-# is verified only where its steps lead from the formula before it to the one behind it. So if all parts are verified, all these
-# formulas have one truth value.
+# is verified only where its steps lead from the formula before it to the one behind it. So if all parts are verified, `check` would
+# verify the parts one behind the other as one log from IN to OUT: a theorem (`checked_parts_are_checked` of crates/q_parts). That this
+# log has the words of LOG, one after the other, is compared. `check --part` needs no formulas between parts: examples/many-machines.
 # Says `verified N` and ends with 0 then; else it says what `check` says of the first part that is refused, and ends with 1.
 # GNU parallel is called where it is there, and may use other machines, on which CELDRINN (by this name) has to be; else xargs is.
 # Usage: examples/check-in-parts.sh [-p PARTS] [-j JOBS] [-s HOST,HOST..] [IN OUT LOG]
@@ -52,6 +53,31 @@ awk -v every=$(((steps + parts - 1) / parts)) -v total="$steps" -v dir="$work" -
 [ -f "$work/count" ] || exit 1
 read -r parts steps is_cut <"$work/count"
 [ "$is_cut" -eq 0 ] || { echo "refused: the log ends inside a step" && exit 1; }
+# What was checked are the steps of LOG: the words of the parts, one behind the other, are its words, but for zeros in front.
+k=1
+while [ -f "$work/$k.qrat" ]; do
+    cat "$work/$k.qrat"
+    k=$((k + 1))
+done >"$work/joined"
+awk -v joined="$work/joined" '
+    function word(    line) {
+        while (at >= words) {
+            if ((getline line <joined) <= 0) return ""
+            words = split(line, row)
+            at = 0
+        }
+        return row[++at]
+    }
+    function plain(text) {
+        while (text ~ /^-?0[0-9]/) sub(/0/, "", text)
+        return text
+    }
+    /^[ \t\r]*c/ { next }
+    {
+        gsub(/\r/, " ")
+        for (i = 1; i <= NF; i++) if (plain($i) "" != word() "") { other = 1; exit }
+    }
+    END { exit other || word() != "" }' "$log" || { echo "refused: the parts are not the log" && exit 1; }
 awk -v n="$parts" -v steps="$steps" '
     $1 == "verified" && NF == 2 { sum += $2; next }
     first == "" { first = "part " NR ": " $0 }
