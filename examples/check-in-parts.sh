@@ -9,6 +9,7 @@
 set -u
 here=$(cd "$(dirname "$0")" && pwd)
 . "$here/common.sh"
+replay=$parts/replay.awk
 jobs=$(nproc 2>/dev/null || echo 2)
 parts='' hosts=''
 while getopts p:j:s: option; do
@@ -49,7 +50,7 @@ check_parts() {
 }
 
 # A part is checked as soon as it is there. The first one begins with IN, and the last one has to end in OUT.
-awk -v every=$(((steps + parts - 1) / parts)) -v total="$steps" -v dir="$work" -f "$here/replay.awk" "$in" "$log" | (cd "$work" && check_parts >lines)
+awk -v every=$(((steps + parts - 1) / parts)) -v total="$steps" -v dir="$work" -f "$replay" "$in" "$log" | (cd "$work" && check_parts >lines)
 [ -f "$work/count" ] || exit 1
 read -r parts steps is_cut <"$work/count"
 [ "$is_cut" -eq 0 ] || { echo "refused: the log ends inside a step" && exit 1; }
