@@ -41,6 +41,7 @@ check_parts() {
         [ -z "$hosts" ] || set -- "$@" --sshlogin "$hosts" --workdir ... --cleanup --transferfile '{1}' --transferfile '{2}' --transferfile '{3}'
         parallel "$@" "$celdrinn" check '{1}' '{2}' '{3}'
     else
+        # shellcheck disable=SC2016 # the inner shell has these words
         xargs -n 3 -P "$jobs" sh -c '"$0" check "$1" "$2" "$3" >"$3.line"' "$celdrinn"
         k=1
         while [ -f "$k.qrat.line" ]; do
