@@ -12,7 +12,7 @@ _celdrinn() {
             [ "$COMP_CWORD" -eq 2 ] && mapfile -t COMPREPLY < <(compgen -W "simplify check rebuild annotate refute extract disprove miter validate certify solve gen demo mend causes" -- "$word")
             return
             ;;
-        simplify) kinds=fff options="--budget= --grow= --expand= --best --stats --force --quiet --verbose" ;;
+        simplify) kinds=fff options="--budget= --grow= --expand= --time= --best --stats --force --quiet --verbose" ;;
         check) kinds=fff options="--part= --stats --quiet --verbose" ;;
         rebuild) kinds=fffff options="--stats --force --quiet --verbose" ;;
         annotate) kinds=ffff options="--stats --force --quiet --verbose" ;;

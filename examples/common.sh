@@ -1,4 +1,4 @@
-# shellcheck shell=sh
+# shellcheck shell=sh disable=SC2034 # the scripts read what is set here
 # What the scripts of this folder share; each of them reads it and runs nothing of it by itself. `here` is the folder.
 # CELDRINN names the program, where it is neither the launcher of this repository nor on the PATH.
 

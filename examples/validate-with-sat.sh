@@ -18,4 +18,4 @@ case $#:$1 in
         set -- "$@" -- "$in" "$cert"
         ;;
 esac
-"$celdrinn" validate --with=$sat "$@"
+"$celdrinn" validate --with="$sat" "$@"

@@ -253,7 +253,15 @@ start() {
     case $command in
         mend) run_mended "$@" ;;
         certify) run_certify "$@" ;;
-        simplify) if [ -n "$best" ]; then run_best "$@"; else run "$command" "$@" $passed; fi ;;
+        simplify)
+            if [ -n "$best" ]; then
+                run_best "$@"
+            elif [ -n "$time" ]; then
+                run_timed "$@"
+            else
+                run "$command" "$@" $passed
+            fi
+            ;;
         solve) if [ -n "$bounded" ]; then run_solved "$@"; else run "$command" "$@" $passed; fi ;;
         validate) if [ -n "$solver" ]; then run_decided "$@"; else run "$command" "$@" $passed; fi ;;
         *) run "$command" "$@" $passed $herbrand ;;

@@ -11,25 +11,30 @@
 A clause is an iterable of non-zero ints, a prefix a list of blocks ("a" or "e", variables), from the outermost in. Variables of no block
 are existential and come first.
 
-Each call runs the program, which CELDRINN names, else `celdrinn` of the PATH, over files in a folder of its own. It can be interrupted
-with Ctrl-C, and `seconds` limits it.
+`simplify`, `check` and `rebuild` are calls of the shared library, where it is found: CELDRINN_LIBRARY names it, else libceldrinn.so.1 is
+looked for beside this file and where the system has its libraries; with CELDRINN_LIBRARY empty it is not used. All else, and what the
+library has no options for, runs the program, which CELDRINN names, else `celdrinn` of the PATH, over files in a folder of its own. Both
+do the same. A call can be interrupted with Ctrl-C, and `seconds` limits it.
 """
 from __future__ import annotations
 
+import ctypes
+import ctypes.util
 import os
 import re
 import shutil
 import subprocess
 import tempfile
+import threading
 from dataclasses import dataclass, field
-from typing import Dict, Iterable, List, Mapping, Optional, Sequence, Tuple, Union
+from typing import Any, Dict, Iterable, List, Mapping, Optional, Sequence, Tuple, Union
 
 Block = Tuple[str, List[int]]
 Clauses = Iterable[Iterable[int]]
 Prefix = Sequence[Tuple[str, Iterable[int]]]
 
 __all__ = ["simplify", "check", "rebuild", "refute", "annotate", "validate", "solve", "read", "write", "Simplified", "Certificate",
-           "CeldrinnError", "FormulaError", "LogError", "CircuitError", "OutOfMemory", "Stopped", "NotFound"]
+           "CeldrinnError", "FormulaError", "LogError", "CircuitError", "OutOfMemory", "Stopped", "NotFound", "version"]
 
 
 # --- errors ---
@@ -63,11 +68,14 @@ class OutOfMemory(CeldrinnError, MemoryError):
 
 
 class Stopped(CeldrinnError):
-    """A limit came before there was anything to hand out."""
+    """A limit came first. `result` is what the steps until then led to, where that is known: a `Simplified`, of which `check` tells
+    whether it is right; and else None."""
+
+    result: Optional["Simplified"] = None
 
 
 class NotFound(CeldrinnError):
-    """The program was not found."""
+    """What is asked for wants the program, and it was not found."""
 
 
 _ERRORS = {1: LogError, 3: FormulaError, 6: OutOfMemory, 7: CircuitError, 8: LogError, 64: FormulaError}
@@ -244,11 +252,132 @@ def _program() -> _Program:
     return _Program(path)
 
 
+# --- the library ---
+
+_OUT_OF_MEMORY, _USAGE = 6, 64
+
+
+class _Library:
+    """The shared library of packaging/lib. A call of it runs in a thread of its own, so that its caller can be interrupted meanwhile."""
+
+    def __init__(self, path: str):
+        self._lib = ctypes.CDLL(path)
+        handle, count, size, text = ctypes.c_void_p, ctypes.c_int, ctypes.c_size_t, ctypes.c_char_p
+        length = ctypes.POINTER(ctypes.c_size_t)
+        for name, result, arguments in (
+                ("version", text, []), ("new", handle, []), ("free", None, [handle]), ("limit_seconds", None, [handle, ctypes.c_double]),
+                ("stop", None, [handle]), ("set", count, [handle, text, ctypes.c_uint64]), ("text", count, [handle, text, size]),
+                ("results", count, [handle, text, size, text, size]), ("do_simplify", count, [handle]), ("do_check", count, [handle]),
+                ("do_rebuild", count, [handle, text, size]), ("line", text, [handle]), ("out_text", handle, [handle, length]),
+                ("log_text", handle, [handle, length]), ("cert_text", handle, [handle, length])):
+            call = getattr(self._lib, "celdrinn_" + name)
+            call.restype, call.argtypes = result, arguments
+        probe = self._call("new")
+        self._has_options = bool(probe) and self._call("set", probe, b"grow", 0) == 0
+        self._call("free", probe)
+
+    def version(self) -> str:
+        return self._call("version").decode()
+
+    def can(self, verb: str, options: Mapping[str, int]) -> bool:
+        return verb in ("simplify", "check", "rebuild") and (self._has_options or not options)
+
+    def run(self, verb: str, texts: Sequence[bytes], options: Mapping[str, int], seconds: Optional[float]) -> _Answer:
+        handle = self._call("new")
+        if not handle:
+            return _Answer(_OUT_OF_MEMORY, "no memory", {})
+        try:
+            status = self._prepare(handle, texts, options, seconds)
+            if status == 0:
+                status = self._work(handle, verb, texts)
+            line = self._call("line", handle).decode()
+            made = {name: self._bytes(name.lower() + "_text", handle) for name in _MAKES.get(verb, [])}
+            return _Answer(status, line, made)
+        finally:
+            self._call("free", handle)
+
+    def _call(self, name: str, *arguments: Any) -> Any:
+        return getattr(self._lib, "celdrinn_" + name)(*arguments)
+
+    def _bytes(self, name: str, handle: int) -> bytes:
+        length = ctypes.c_size_t()
+        at = self._call(name, handle, ctypes.byref(length))
+        return ctypes.string_at(at, length.value)
+
+    def _prepare(self, handle: int, texts: Sequence[bytes], options: Mapping[str, int], seconds: Optional[float]) -> int:
+        status = self._call("text", handle, texts[0], len(texts[0]))
+        for name, value in options.items():
+            status = status or self._call("set", handle, name.encode(), value)
+        self._call("limit_seconds", handle, seconds or 0.0)
+        if status == 0 and len(texts) > 1:
+            out, log = texts[1], texts[2]
+            status = self._call("results", handle, out, len(out), log, len(log))
+        return status
+
+    def _work(self, handle: int, verb: str, texts: Sequence[bytes]) -> int:
+        arguments = [texts[3], len(texts[3])] if verb == "rebuild" else []
+        if threading.current_thread() is not threading.main_thread():
+            return self._call("do_" + verb, handle, *arguments)
+        # An Event, since Thread.join says of a thread that it ended where a signal interrupts it (CPython 3.10 to 3.12 at least).
+        answer: List[int] = []
+        done = threading.Event()
+
+        def work() -> None:
+            try:
+                answer.append(self._call("do_" + verb, handle, *arguments))
+            finally:
+                done.set()
+
+        threading.Thread(target=work, daemon=True).start()
+        try:
+            while not done.wait(0.5):
+                pass
+        except BaseException:
+            self._call("stop", handle)
+            while not done.is_set():
+                try:
+                    done.wait()
+                except KeyboardInterrupt:
+                    pass
+            raise
+        return answer[0]
+
+
+_libraries: Dict[str, _Library] = {}
+
+
+def _library() -> Optional[_Library]:
+    beside = os.path.join(os.path.dirname(os.path.abspath(__file__)), "libceldrinn.so.1")
+    named = os.environ.get("CELDRINN_LIBRARY")
+    path = named if named is not None else beside if os.path.exists(beside) else ctypes.util.find_library("celdrinn")
+    if not path:
+        return None
+    if path not in _libraries:
+        try:
+            _libraries[path] = _Library(path)
+        except (OSError, AttributeError) as error:  # no such file, or a library of another ABI
+            if named is not None:
+                raise NotFound(f"the library {path} can't be used: {error}", 127) from None
+            return None
+    return _libraries[path]
+
+
+def version() -> str:
+    """That of the library, where it is found, else that of the program."""
+    library = _library()
+    if library is not None:
+        return library.version()
+    return subprocess.run([_program().path, "--version"], stdout=subprocess.PIPE, check=True).stdout.decode().splitlines()[0]
+
+
 def _run(verb: str, texts: Sequence[bytes], seconds: Optional[float], **options: Optional[int]) -> _Answer:
     chosen = {name: value for name, value in options.items() if value is not None}
     for name, value in chosen.items():
         if not 0 <= value <= (2 ** 64 - 1 if name == "budget" else 10000):
             raise FormulaError(f"{name}={value} is out of range", 64)
+    library = _library()
+    if library is not None and library.can(verb, chosen):
+        return library.run(verb, texts, chosen, seconds)
     return _program().run(verb, texts, chosen, seconds)
 
 
@@ -264,7 +393,8 @@ def _circuits(given: Circuits) -> bytes:
 
 @dataclass
 class Simplified:
-    """What `simplify` left. `status` is settled, true, false or spent; `truth` is None where it is not known."""
+    """What `simplify` left. `status` is settled, true, false or spent, or of a stopped call stopped; `truth` is None where it is not
+    known."""
 
     status: str
     line: str
@@ -317,10 +447,18 @@ def simplify(clauses: Union[Clauses, bytes], prefix: Prefix = (), *, grow: Optio
     """Takes rules as long as one applies.
 
     clauses: lists of ints, or a QDIMACS text as bytes. grow, expand, budget: as the program's options. seconds: where this limit comes
-    first, Stopped is raised."""
+    first, Stopped is raised; with the library its `result` has what was done until then."""
     source = _source(clauses, prefix)
-    answer = _run("simplify", [source], seconds, grow=grow, expand=expand, budget=budget).wanted(0, 2, 10, 20)
-    return Simplified(answer.line.split()[0].rstrip(":"), answer.line, source, answer.files["OUT"], answer.files["LOG"])
+    answer = _run("simplify", [source], seconds, grow=grow, expand=expand, budget=budget)
+    is_stopped = answer.line.startswith("stopped")
+    if not is_stopped or answer.status != 2:
+        answer.wanted(0, 2, 10, 20)
+    result = Simplified(answer.line.split()[0].rstrip(":"), answer.line, source, answer.files["OUT"], answer.files["LOG"])
+    if is_stopped:
+        stopped = Stopped(answer.line, answer.status)
+        stopped.result = result
+        raise stopped
+    return result
 
 
 def check(source: bytes, out: bytes, log: bytes, *, seconds: Optional[float] = None) -> int:

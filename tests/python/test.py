@@ -1,8 +1,13 @@
 """Plays the module for Python beside brute force. One line a row: `ok NAME` or `wrong NAME`; status 1 where one is wrong.
-Usage: CELDRINN=.. PYTHONPATH=.. python3 test.py [COUNT]"""
+Where CELDRINN_LIBRARY names the library, what it answers is compared with what the program does.
+Usage: CELDRINN=.. [CELDRINN_LIBRARY=..] PYTHONPATH=.. python3 test.py [COUNT]"""
+import _thread
 import itertools
+import os
 import random
 import sys
+import threading
+import time
 
 import celdrinn
 
@@ -57,6 +62,19 @@ def are_skolem(clauses, blocks, cert):
     return True
 
 
+def by_program(call, *arguments, **options):
+    """The same call by the program alone."""
+    library = os.environ.get("CELDRINN_LIBRARY")
+    os.environ["CELDRINN_LIBRARY"] = ""
+    try:
+        return call(*arguments, **options)
+    finally:
+        if library is None:
+            del os.environ["CELDRINN_LIBRARY"]
+        else:
+            os.environ["CELDRINN_LIBRARY"] = library
+
+
 def play_formula(r, k):
     """One random formula, simplified, checked, and where it is small decided, with circuits that are carried back."""
     is_large = k % 3 == 2
@@ -65,6 +83,9 @@ def play_formula(r, k):
     if k % 2 == 0:
         options = {name: r.randint(0, most) for name, most in (("grow", 40), ("expand", 40), ("budget", 60)) if r.random() < 0.7}
     a = celdrinn.simplify(clauses, blocks, **options)
+    if os.environ.get("CELDRINN_LIBRARY"):
+        b = by_program(celdrinn.simplify, clauses, blocks, **options)
+        assert (a.status, a.line, a.out, a.log) == (b.status, b.line, b.out, b.log), "library and program"
     assert a.check() == a.log.count(b"\n"), "the number of steps"
     assert celdrinn.check(a.source, a.out, a.annotate()) == a.check(), "hints"
     if is_large:
@@ -122,15 +143,50 @@ def play_limits():
         celdrinn.simplify(big, seconds=0.2)
     except celdrinn.Stopped as error:
         assert error.text == "stopped: time is over", error
+        assert error.result is None or error.result.check() == error.result.log.count(b"\n"), "what a stopped call left"
     else:
         raise AssertionError("a limit of 0.2 seconds")
+
+
+def play_interrupt():
+    """Ctrl-C ends a call soon, also one of the library."""
+    r = random.Random(11)
+    big = celdrinn.write([[r.choice((1, -1)) * x for x in r.sample(range(1, 200000), 3)] for _ in range(600000)])
+    began = []
+
+    def interrupt():
+        began.append(time.perf_counter())
+        _thread.interrupt_main()
+
+    timer = threading.Timer(0.5, interrupt)
+    timer.start()
+    try:
+        celdrinn.simplify(big)
+    except KeyboardInterrupt:
+        assert time.perf_counter() - began[0] < 10, "late"
+    else:
+        raise AssertionError("not interrupted")
+    assert celdrinn.simplify([[1]]).truth is True, "the next call"
+
+
+def play_threads():
+    r = random.Random(13)
+    source = celdrinn.write([[r.choice((1, -1)) * x for x in r.sample(range(1, 400), 3)] for _ in range(1200)])
+    answers = []
+    threads = [threading.Thread(target=lambda: answers.append(celdrinn.simplify(source))) for _ in range(3)]
+    for thread in threads:
+        thread.start()
+    for thread in threads:
+        thread.join()
+    assert len(answers) == 3 and len({(a.line, a.out, a.log) for a in answers}) == 1
 
 
 def main():
     count = int(sys.argv[1]) if len(sys.argv) > 1 else 150
     is_right = True
     for name, play in ((f"{count} formulas in Python", lambda: play_formulas(count)), ("errors in Python", play_errors),
-                       ("texts in Python", play_texts), ("a limit in Python", play_limits)):
+                       ("texts in Python", play_texts), ("a limit in Python", play_limits), ("Ctrl-C in Python", play_interrupt),
+                       ("threads in Python", play_threads)):
         try:
             play()
             print("ok", name)

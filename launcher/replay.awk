@@ -3,7 +3,7 @@
 # breaks off in is left out. A log with hints is refused. DIR/count gets the number of parts, of steps, and 1 where the log breaks off
 # inside a step, else 0. Where `total` says how many steps there are, a line is printed as soon as a part is there: the formula
 # before it, the one behind it, which is called out.qdimacs for the last part, and the steps.
-# Usage: awk -v every=N [-v total=N] -v dir=DIR -f examples/replay.awk IN LOG
+# Usage: awk -v every=N [-v total=N] -v dir=DIR -f launcher/replay.awk IN LOG
 
 # The literals of a clause in one order, each once: the name under which its copies are counted. `from` is the first one.
 function name_of(n, from,    i, j, lit, size, text) {
