@@ -1,4 +1,5 @@
-// The search of `validate`, unproved: one pass over the gates tells a node and the nodes of five levels below it, two words a gate.
+// The search of `validate`, unproved: one pass over the gates tells a node and the nodes of five levels below it, two words a gate, or
+// all nodes to which zeros lead from a node, one number a gate.
 // blocks IN CERT [BUDGET] prints the answer, the branches, the passes and the processor seconds of the search. It trusts that CERT
 // fits IN.
 // g++ -std=c++17 -O2 -o bench/out/blocks bench/blocks.cpp
@@ -14,6 +15,7 @@
 
 typedef uint64_t u64;
 struct Known { u64 zero, one; };
+struct Since { size_t after; bool value; };
 static const int DEPTH = 5;
 static u64 masks[2][DEPTH];
 
@@ -21,6 +23,7 @@ static std::vector<int> inputs;                     // names, in the order of th
 static std::vector<std::pair<unsigned, unsigned>> gates;  // operands as places: 2 * (1 + input or inputs + gate) + sign
 static std::vector<std::vector<std::pair<int, unsigned>>> clauses;  // sign and literal, or a missing universal where the literal is 0
 static std::vector<Known> row;
+static std::vector<Since> line_row;
 static unsigned long long passes = 0;
 
 static Known flip(Known k, bool sign) { return sign ? Known{k.one, k.zero} : k; }
@@ -50,6 +53,31 @@ static void survey(const std::vector<char> &path, size_t base, u64 &lost, u64 &w
         lost |= zero & ~one;
         won &= one;
     }
+}
+
+static Since both(Since a, Since b) {
+    if (a.value != b.value) return a.value ? b : a;
+    return (a.after < b.after) == a.value ? b : a;
+}
+
+static Since flip(Since s, bool sign) { return {s.after, s.value != sign}; }
+
+static Since look_down(const std::vector<char> &path) {
+    passes++;
+    line_row[0] = {0, false};
+    for (size_t i = 0; i < inputs.size(); i++) {
+        if (i < path.size()) line_row[1 + i] = {0, path[i] != 0};
+        else line_row[1 + i] = {i - path.size() + 1, false};
+    }
+    size_t at = 1 + inputs.size();
+    for (auto &g : gates) line_row[at++] = both(flip(line_row[g.first / 2], g.first & 1), flip(line_row[g.second / 2], g.second & 1));
+    Since all = {0, true};
+    for (auto &c : clauses) {
+        Since none = {0, true};
+        for (auto &l : c) none = both(none, flip(line_row[l.second / 2], (l.second & 1) == 0));
+        all = both(all, flip(none, true));
+    }
+    return all;
 }
 
 int main(int argc, char **argv) {
@@ -85,6 +113,7 @@ int main(int argc, char **argv) {
     }
     fclose(cert);
     row.resize(1 + i + a);
+    line_row.resize(1 + i + a);
     FILE *f = fopen(argv[1], "r");
     if (!f) return 1;
     std::vector<std::pair<int, unsigned>> clause;
@@ -104,17 +133,37 @@ int main(int argc, char **argv) {
     std::vector<char> path;
     unsigned long long branches = 0, budget = argc > 3 ? strtoull(argv[3], nullptr, 10) : ~0ull;
     u64 lost = 0, won = 0;
-    size_t base = ~(size_t)0;
+    size_t base = ~(size_t)0, line_base = ~(size_t)0, reach = 0;
+    Since line = {0, false};
     const char *answer = nullptr;
     while (!answer) {
-        if (base == ~(size_t)0 || path.size() - base > DEPTH) {
-            base = std::min(path.size(), inputs.size() > DEPTH ? inputs.size() - DEPTH : 0);
-            survey(path, base, lost, won);
+        size_t depth = path.size();
+        bool is_lost, is_won;
+        bool in_block = base != ~(size_t)0 && depth - base <= DEPTH;
+        if (!in_block && line_base == ~(size_t)0) {
+            size_t leaves = reach < depth ? inputs.size() : reach;
+            if (leaves > depth + 2 * DEPTH + 1) {
+                line_base = depth;
+                line = look_down(path);
+            } else {
+                base = std::min(depth, leaves > DEPTH ? leaves - DEPTH : 0);
+                survey(path, base, lost, won);
+                in_block = true;
+            }
         }
-        unsigned node = 1;
-        for (size_t k = base; k < path.size(); k++) node = 2 * node + path[k];
-        if (lost >> node & 1) { answer = "invalid"; break; }
-        if (!(won >> node & 1)) {
+        if (in_block) {
+            unsigned node = 1;
+            for (size_t k = base; k < depth; k++) node = 2 * node + path[k];
+            is_lost = lost >> node & 1;
+            is_won = won >> node & 1;
+        } else {
+            bool known = depth - line_base >= line.after;
+            is_lost = known && !line.value;
+            is_won = known && line.value;
+        }
+        if (is_lost) { answer = "invalid"; break; }
+        if (is_won) reach = depth;
+        else {
             if (branches == budget) { answer = "unknown"; break; }
             branches++;
             path.push_back(0);
@@ -124,6 +173,7 @@ int main(int argc, char **argv) {
         while (!path.empty()) {
             bool value = path.back();
             path.pop_back();
+            line_base = ~(size_t)0;
             if (base != ~(size_t)0 && base > path.size()) base = ~(size_t)0;
             if (!value) { path.push_back(1); answer = nullptr; break; }
         }

@@ -9,6 +9,7 @@ work=$(mktemp -d)
 trap 'rm -rf "$work"' EXIT
 true=0 valid=0 same=0 broken=0 confirmed=0
 for seed in $(seq 1 "${1:-20}"); do
+    rm -f "$work/in"
     "$celdrinn" gen "$seed" "${2:-40}" "$work/in" > "$work/line"
     "$celdrinn" solve "$work/in" "$work/out" "$work/log" "$work/cert" > "$work/line" || true
     case $(cat "$work/line") in true*) true=$((true + 1)) ;; *) continue ;; esac

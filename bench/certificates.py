@@ -2,17 +2,39 @@
 """A formula and circuits for `validate` that need a search over so many inputs.
 
   certificates.py USED ALL GATES IN CERT [SEED]
+  certificates.py copies N IN CERT
 
 ALL universals, of which the first USED decide: one existential is their parity, another its negation, and a clause asks that one
 of them holds, so that it stays open until all of these have values. The other gates are random ands of earlier literals and of the
 first USED inputs, a fifth of them parts of exclusive ors; ten existentials, in no clause that could be false, are the last of them.
 The circuits are Skolem functions: `validate` answers `valid` after 2 to the USED - 1 branches.
+
+`copies`: N universals, and N existentials, each to be equal to one of them, which it is. Each clause stays open until its
+universal has a value, so all inputs get one before anything is said.
 """
 import random
 import sys
 
 
+def write_copies(count, formula, cert):
+    inputs = range(1, count + 1)
+    with open(formula, "w") as f:
+        f.write(f"p cnf {2 * count} {2 * count}\n")
+        f.write("a " + " ".join(str(k) for k in inputs) + " 0\n")
+        f.write("e " + " ".join(str(count + k) for k in inputs) + " 0\n")
+        f.writelines(f"{k} -{count + k} 0\n-{k} {count + k} 0\n" for k in inputs)
+    with open(cert, "w") as f:
+        f.write(f"aag {count} {count} 0 {count} 0\n")
+        for _ in range(2):
+            f.writelines(f"{2 * k}\n" for k in inputs)
+        f.writelines(f"i{k - 1} {k}\n" for k in inputs)
+        f.writelines(f"o{k - 1} {count + k}\n" for k in inputs)
+
+
 def main():
+    if sys.argv[1] == "copies":
+        write_copies(int(sys.argv[2]), sys.argv[3], sys.argv[4])
+        return
     used, all_, gates = (int(x) for x in sys.argv[1:4])
     rng = random.Random(sys.argv[6] if len(sys.argv) > 6 else "1")
     lines, top = [], all_

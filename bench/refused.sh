@@ -12,10 +12,10 @@ trap 'rm -rf "$work"' EXIT
 cc -shared -fPIC -O1 -o "$work/refuse.so" bench/refuse.c -ldl || exit 1
 cd "$work" || exit 1
 
-bad=0
+bad=0 all=0
 refuse() {
     REFUSE_OUT=$work/count LD_PRELOAD=$work/refuse.so "$program" "$@" >wanted 2>/dev/null
-    local status=$? count no=0 same=0
+    local status=$? count no=0 same=0 silent=0
     count=$(cat count)
     for n in $(seq 1 "$count"); do
         REFUSE=$n LD_PRELOAD=$work/refuse.so "$program" "$@" >got 2>/dev/null
@@ -26,6 +26,7 @@ refuse() {
                 echo "$1, allocation $n: status 6 and $(cat got)"
                 bad=1
             fi
+            [ -s got ] || silent=$((silent + 1))
             no=$((no + 1))
         elif [ "$now" = "$status" ] && cmp -s got wanted; then
             same=$((same + 1))
@@ -34,7 +35,8 @@ refuse() {
             bad=1
         fi
     done
-    echo "$* : $count allocations, $no times no memory, $same times as without"
+    all=$((all + count))
+    echo "$* : $count allocations, $no times no memory ($silent without a line), $same times as without"
 }
 
 refuse simplify "$examples/equivalence.qdimacs" out log
@@ -50,4 +52,17 @@ refuse refute "$examples/parity.qdimacs" "$examples/parity-out.qdimacs" "$exampl
 refuse validate "$examples/equivalence.qdimacs" "$examples/equivalence.aag"
 refuse solve "$examples/equivalence.qdimacs" out log cert
 refuse gen 7 5 formula
+refuse check "$examples/parity.qdimacs" "$examples/parity-out.qdimacs" "$examples/parity.qrat" --part=1/2
+refuse check "$examples/parity.qdimacs" "$examples/parity-out.qdimacs" "$examples/parity.qrat" --part=2/2
+refuse disprove "$examples/parity.qdimacs" "$examples/parity.qrat"
+printf 'p cnf 2 4\n1 2 0\n-1 2 0\n1 -2 0\n-1 -2 0\n' >cnf
+printf 'a\004\000d\002\004\000a\000' >bytes
+refuse disprove cnf bytes
+printf 'p cnf 2 2\na 1 0\ne 2 0\n1 2 0\n-1 -2 0\n' >formula
+printf 'p qrp 2 2\na 1 0\ne 2 0\n3 1 -2 0 0\n4 -1 2 0 0\n5 1 0 3 0\n6 -1 0 4 0\n7 0 5 6 0\nr SAT\n' >trace
+refuse extract formula trace cert
+refuse miter "$examples/equivalence.qdimacs" "$examples/equivalence.aag" out
+"$program" refute "$examples/parity.qdimacs" "$examples/parity-out.qdimacs" "$examples/parity.qrat" "$examples/parity-out.aag" herbrand >line
+refuse miter "$examples/parity.qdimacs" herbrand out --herbrand
+echo "$all allocations in all"
 exit "$bad"

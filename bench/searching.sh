@@ -29,6 +29,15 @@ solved() {
         awk '{ t = $8 - $7; n = $5; printf "| %s | %d | %d | %s | %d | %.2f s | %.2f s | %.0f | %.0f | %.1f MiB |\n", $1, $2, $3, $10, n, t, $6, (t > 0 ? n / t : 0), ($6 > 0 ? n / $6 : 0), $9 / 1024 }'
 }
 
+# N copies of inputs, with a budget of N branches
+copied() {
+    python3 "$here/certificates.py" copies "$1" "$work/in" "$work/cert"
+    found=$("$here/out/blocks" "$work/in" "$work/cert" "$1")
+    timed "$celdrinn" validate "$work/in" "$work/cert" --budget="$1"
+    echo "$1 $found $(cat "$work/time") $(cat "$work/line")" |
+        awk '{ printf "| %d copies | 0 | %s | %d | %d | %.2f s | | %.2f s | | %.1f MiB |\n", $1, $8, $3, $4, $6, $5, $7 / 1024 }'
+}
+
 validated() {
     python3 "$here/certificates.py" "$1" "$2" "$3" "$work/in" "$work/cert"
     found=$("$here/out/blocks" "$work/in" "$work/cert")
@@ -43,6 +52,7 @@ if [ "${1:-solve}" = solve ]; then
     for pair in "23 150" "5 150" "11 150" "24 200" "25 200"; do
         # shellcheck disable=SC2086
         set -- $pair
+        rm -f "$work/in"
         "$celdrinn" gen "$1" "$2" "$work/in" >"$work/line"
         solved "gen-$1-$2"
     done
@@ -58,4 +68,7 @@ else
     validated 20 20 100000
     validated 12 12 1000000
     validated 16 1000 10000
+    copied 8000
+    copied 16000
+    copied 32000
 fi

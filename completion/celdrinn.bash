@@ -12,7 +12,7 @@ _celdrinn() {
             [ "$COMP_CWORD" -eq 2 ] && mapfile -t COMPREPLY < <(compgen -W "simplify check rebuild annotate refute extract disprove miter validate certify solve gen demo mend causes" -- "$word")
             return
             ;;
-        simplify) kinds=fff options="--budget= --grow= --expand= --best --stats --force --quiet --verbose" ;;
+        simplify) kinds=fff options="--budget= --grow= --expand= --time= --best --stats --force --quiet --verbose" ;;
         check) kinds=fff options="--part= --stats --quiet --verbose" ;;
         rebuild) kinds=fffff options="--stats --force --quiet --verbose" ;;
         annotate) kinds=ffff options="--stats --force --quiet --verbose" ;;
@@ -22,9 +22,9 @@ _celdrinn() {
         miter) kinds=fff options="--herbrand --stats --force --quiet --verbose" ;;
         validate) kinds=ff options="--budget= --with= --herbrand --seconds= --stats --quiet --verbose" ;;
         certify) kinds=ff options="--seconds= --check --force --quiet --verbose" ;;
-        solve) kinds=ffff options="--budget= --seconds= --stats --force --quiet --verbose" ;;
-        gen) kinds=nnf options="--quiet --verbose" ;;
-        demo) kinds=nnfff options="--quiet --verbose" ;;
+        solve) kinds=ffff options="--budget= --grow= --expand= --seconds= --stats --force --quiet --verbose" ;;
+        gen) kinds=nnf options="--force --quiet --verbose" ;;
+        demo) kinds=nnfff options="--force --quiet --verbose" ;;
         mend) kinds=ff options="--force --quiet --verbose" ;;
         *) return ;;
     esac

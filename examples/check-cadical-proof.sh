@@ -11,7 +11,8 @@ proof=
 case ${1-} in --proof=*) proof=${1#--proof=} && shift ;; esac
 named=${1:-$here/pigeons.cnf}
 take "$named" && in=$file
-[ $# -lt 2 ] || keep_apart "$named" "$2"
+name_to "${2:-}"
+[ $# -lt 2 ] || keep_apart "$named" "$to"
 
 if [ -n "$proof" ]; then
     take "$proof" && proof=$file
@@ -61,5 +62,5 @@ make_log() {
 echo "$named is unsatisfiable: the proof is right"
 if [ $# -ge 2 ]; then
     make_log
-    "$celdrinn" annotate "$in" "$work/out" "$work/log" "$2" && "$celdrinn" check "$in" "$work/out" "$2"
+    "$celdrinn" annotate "$in" "$work/out" "$work/log" "$to" && "$celdrinn" check "$in" "$work/out" "$to"
 fi

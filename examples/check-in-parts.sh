@@ -1,13 +1,16 @@
 #!/bin/sh
 # Checks one long log in parts, beside each other. The formulas between the parts are made by replay.awk, which is not trusted: a part
-# is verified only where its steps lead from the formula before it to the one behind it. So if all parts are verified, all these
-# formulas have one truth value.
+# is verified only where its steps lead from the formula before it to the one behind it. So if all parts are verified, `check` would
+# verify the parts one behind the other as one log from IN to OUT, and LOG, where it has the same words: theorems
+# (`checked_parts_are_checked`, `same_words_are_checked_alike` of crates/q_parts). That it has them is compared here. `check --part` needs
+# no formulas between parts: examples/many-machines.
 # Says `verified N` and ends with 0 then; else it says what `check` says of the first part that is refused, and ends with 1.
 # GNU parallel is called where it is there, and may use other machines, on which CELDRINN (by this name) has to be; else xargs is.
 # Usage: examples/check-in-parts.sh [-p PARTS] [-j JOBS] [-s HOST,HOST..] [IN OUT LOG]
 set -u
 here=$(cd "$(dirname "$0")" && pwd)
 . "$here/common.sh"
+replay=$parts/replay.awk
 jobs=$(nproc 2>/dev/null || echo 2)
 parts='' hosts=''
 while getopts p:j:s: option; do
@@ -38,6 +41,7 @@ check_parts() {
         [ -z "$hosts" ] || set -- "$@" --sshlogin "$hosts" --workdir ... --cleanup --transferfile '{1}' --transferfile '{2}' --transferfile '{3}'
         parallel "$@" "$celdrinn" check '{1}' '{2}' '{3}'
     else
+        # shellcheck disable=SC2016 # the inner shell has these words
         xargs -n 3 -P "$jobs" sh -c '"$0" check "$1" "$2" "$3" >"$3.line"' "$celdrinn"
         k=1
         while [ -f "$k.qrat.line" ]; do
@@ -48,10 +52,35 @@ check_parts() {
 }
 
 # A part is checked as soon as it is there. The first one begins with IN, and the last one has to end in OUT.
-awk -v every=$(((steps + parts - 1) / parts)) -v total="$steps" -v dir="$work" -f "$here/replay.awk" "$in" "$log" | (cd "$work" && check_parts >lines)
+awk -v every=$(((steps + parts - 1) / parts)) -v total="$steps" -v dir="$work" -f "$replay" "$in" "$log" | (cd "$work" && check_parts >lines)
 [ -f "$work/count" ] || exit 1
 read -r parts steps is_cut <"$work/count"
 [ "$is_cut" -eq 0 ] || { echo "refused: the log ends inside a step" && exit 1; }
+# What was checked are the steps of LOG: the words of the parts, one behind the other, are its words, but for zeros in front.
+k=1
+while [ -f "$work/$k.qrat" ]; do
+    cat "$work/$k.qrat"
+    k=$((k + 1))
+done >"$work/joined"
+awk -v joined="$work/joined" '
+    function word(    line) {
+        while (at >= words) {
+            if ((getline line <joined) <= 0) return ""
+            words = split(line, row)
+            at = 0
+        }
+        return row[++at]
+    }
+    function plain(text) {
+        while (text ~ /^-?0[0-9]/) sub(/0/, "", text)
+        return text
+    }
+    /^[ \t\r]*c/ { next }
+    {
+        gsub(/\r/, " ")
+        for (i = 1; i <= NF; i++) if (plain($i) "" != word() "") { other = 1; exit }
+    }
+    END { exit other || word() != "" }' "$log" || { echo "refused: the parts are not the log" && exit 1; }
 awk -v n="$parts" -v steps="$steps" '
     $1 == "verified" && NF == 2 { sum += $2; next }
     first == "" { first = "part " NR ": " $0 }

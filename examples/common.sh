@@ -1,4 +1,4 @@
-# shellcheck shell=sh
+# shellcheck shell=sh disable=SC2034 # the scripts read what is set here
 # What the scripts of this folder share; each of them reads it and runs nothing of it by itself. `here` is the folder.
 # CELDRINN names the program, where it is neither the launcher of this repository nor on the PATH.
 
@@ -58,6 +58,9 @@ take() {
     unpack "$file" >"$work/taken$taken" || { echo "can't unpack '$1'" >&2 && exit 4; }
     file=$work/taken$taken
 }
+
+# Sets `to` to a name under which a program writes a file, also where it begins as an option does.
+name_to() { case $1 in -?*) to=./$1 ;; *) to=$1 ;; esac; }
 
 # Ends the script where a file that is written would be one that is read: their names.
 keep_apart() {

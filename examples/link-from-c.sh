@@ -13,7 +13,7 @@ done
 [ -n "$cc" ] || skip "a C compiler" gcc
 
 # In a checkout the library is in dist/, where it is installed in lib/ beside include/.
-library= header=
+library='' header=''
 for folder in "${CELDRINN_LIBRARY:-}" "$here/../dist" "$here/../../../../lib" /usr/local/lib /usr/lib; do
     for archive in "$folder/libceldrinn.a" "$folder/libceldrinn-x86_64-linux.a"; do
         [ -n "$library" ] || { [ -f "$archive" ] && library=$archive; }
@@ -22,10 +22,10 @@ done
 for folder in "${CELDRINN_LIBRARY:-}" "$here/../packaging" "$here/../../../../include" /usr/local/include /usr/include; do
     [ -n "$header" ] || { [ -f "$folder/celdrinn.h" ] && header=$folder; }
 done
-[ -n "$library" ] && [ -n "$header" ] || {
+if [ -z "$library" ] || [ -z "$header" ]; then
     echo "skipped: libceldrinn.a and celdrinn.h are not installed"
     exit 0
-}
+fi
 
 "$cc" -O2 -I "$header" -o "$work/linked" "$here/linked.c" "$library" || exit 1
 "$work/linked" <"$in" >"$work/out" 2>"$work/lines"

@@ -2,6 +2,7 @@
 # F.checked (what check said). What is done already is not done again, unless OPTIONS are other ones. A formula that is refused stops only
 # itself under -k. Names may have blanks, colons and whatever else a file's name may have, but no line end.
 # Usage: make -f examples/many.mk -j4 -k [FOLDER=folder] [OPTIONS=--grow=16]
+quote := '
 FOLDER = .
 OPTIONS = --grow=16
 CELDRINN = celdrinn
@@ -10,8 +11,11 @@ override CELDRINN := $(abspath $(CELDRINN))
 endif
 export FOLDER OPTIONS CELDRINN
 
+ifeq ($(shell command -v '$(subst $(quote),'\$(quote)',$(CELDRINN))'),)
+$(error '$(CELDRINN)' is not on the PATH: CELDRINN=.. names the program)
+endif
+
 # make can't name all files, so a formula is the number of its place in the folder, and the shell finds it.
-quote := '
 hash := \#
 count := $(shell cd '$(subst $(quote),'\$(quote)',$(FOLDER))' && set -- *.qdimacs && [ -e "$$1" ] && seq $$$(hash))
 

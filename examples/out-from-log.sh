@@ -12,9 +12,10 @@ keep_apart "$2" "$3"
 keep_apart "$3" "$4"
 take "$1" && in=$file
 take "$2" && log=$file
-out=$3 whole=$4
+name_to "$3" && out=$to
+name_to "$4" && whole=$to
 
-awk -v every=0 -v dir="$work" -f "$here/replay.awk" "$in" "$log" || exit 1
+awk -v every=0 -v dir="$work" -f "$parts/replay.awk" "$in" "$log" || exit 1
 cat "$work/1.qdimacs" >"$out" && cat "$work/1.qrat" >"$whole" || exit 5
 # whoever made OUT, check says whether it is right
 "$celdrinn" check "$in" "$out" "$whole"

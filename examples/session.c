@@ -1,5 +1,5 @@
 /* A formula from arrays, simplified by the shared library: for each value of 1 there is one of 2 that differs from it, so nothing is left,
- * and a Skolem function comes back. docs/PIPELINES.md, "From a program", says how it is compiled. */
+ * and a Skolem function comes back. docs/PIPELINES.md, "From a program in C", says how it is compiled. */
 #include "celdrinn2.h"
 #include <stdio.h>
 

@@ -1,5 +1,5 @@
 // The shared library from C++: a formula from vectors, simplified under a limit, and what is left of it.
-// docs/PIPELINES.md, "From a program", says how it is compiled.
+// docs/PIPELINES.md, "From a program in C", says how it is compiled.
 #include "celdrinn2.h"
 #include <cstdlib>
 #include <iostream>

@@ -8,7 +8,9 @@ here=$(cd "$(dirname "$0")" && pwd)
 . "$here/common.sh"
 [ $# -ge 4 ] || { echo "usage: $0 SECONDS IN OUT LOG [OPTION-OF-SIMPLIFY ..]" >&2 && exit 64; }
 has timeout || skip timeout coreutils
-seconds=$1 out=$3 log=$4
+seconds=$1
+name_to "$3" && out=$to
+name_to "$4" && log=$to
 keep_apart "$2" "$out"
 keep_apart "$2" "$log"
 keep_apart "$out" "$log"

@@ -8,7 +8,8 @@ here=$(cd "$(dirname "$0")" && pwd)
 . "$here/common.sh"
 in=${1:-$here/one-block.qdimacs}
 take "$in"
-keep_apart "$in" "${2:-$work/cert}"
+name_to "${2:-$work/cert}"
+keep_apart "$in" "$to"
 
 "$celdrinn" simplify "$file" "$work/out" "$work/log"
 case $? in
@@ -31,5 +32,5 @@ esac
 # OUT may use the number of a variable of IN that is gone for a new one, so its model is no assignment of IN; rebuild carries it
 # back.
 constants "$work/model" "$work/out" >"$work/skolem"
-"$celdrinn" rebuild "$file" "$work/out" "$work/log" "$work/skolem" "${2:-$work/cert}" || exit 1
+"$celdrinn" rebuild "$file" "$work/out" "$work/log" "$work/skolem" "$to" || exit 1
 [ -n "${2:-}" ] || cat "$work/cert"

@@ -9,4 +9,13 @@ here=$(cd "$(dirname "$0")" && pwd)
 . "$here/common.sh"
 find_sat_solver || skip "CaDiCaL or MiniSat" cadical
 [ $# -gt 0 ] || set -- "$here/equivalence.qdimacs" "$here/equivalence.aag"
-"$celdrinn" validate --with=$sat "$@"
+# names may begin as options do
+case $#:$1 in
+    1:* | *:--*) ;;
+    *)
+        in=$1 cert=$2
+        shift 2
+        set -- "$@" -- "$in" "$cert"
+        ;;
+esac
+"$celdrinn" validate --with="$sat" "$@"

@@ -1,6 +1,6 @@
 /* Celdrinn's library in front of a SAT solver's: the formula of IN is simplified, and where one block of existentials is left, PicoSAT (or
  * CaDiCaL, with -DCADICAL) decides it. Its model is carried back to Skolem functions of IN, which go to CERT.
- * docs/PIPELINES.md, "From a program", says how it is compiled. Usage: with-sat IN CERT */
+ * docs/PIPELINES.md, "From a program in C", says how it is compiled. Usage: with-sat IN CERT */
 #include "celdrinn2.h"
 #include <stdio.h>
 #include <stdlib.h>

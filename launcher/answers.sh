@@ -16,16 +16,24 @@ finish() {
 }
 
 # A signal ends the program, and then the launcher as if it had none of this.
-child='' beside='' within='' words=''
+child='' beside='' lanes='' within='' words=''
 stop() {
     trap - EXIT
     [ -z "$child" ] || kill -TERM "$child" 2>/dev/null
     [ -z "$beside" ] || kill -TERM "$beside" 2>/dev/null
+    end_lanes
     [ -z "$child" ] || wait "$child" 2>/dev/null
     end_streams 2>/dev/null
     [ -z "$work" ] || rm -rf "$work"
     trap - "$1"
     kill -"$1" $$
+}
+
+# Ends what the launcher does twice beside itself, with all that was started there.
+end_lanes() {
+    for process in $lanes; do kill -TERM "$process" 2>/dev/null; done
+    for process in $lanes; do wait "$process" 2>/dev/null; done
+    lanes=
 }
 
 # The program ends with the launcher, however that ends, where the system can see to it.
@@ -45,10 +53,11 @@ run() {
     esac
     case $command:$stats in
         *:yes) words=$work/words is_shown= ;;
-        simplify:* | solve:* | gen:* | demo:* | mend:*) is_shown= ;;
+        simplify:* | gen:* | demo:* | mend:*) is_shown= ;;
         *) look_whether_shown ;;
     esac
-    [ -z "$is_shown" ] || words=$work/words
+    case $command in solve) is_quiet= ;; *) is_quiet=$is_shown ;; esac
+    [ -z "$is_quiet" ] || words=$work/words
     # A limit on the size of files makes a write fail, and doesn't kill the program.
     trap '' XFSZ 2>/dev/null
     # Large pages, where the system has them: look-ups all over a large formula wait less for memory.
@@ -59,7 +68,7 @@ run() {
     (
         eval "exec <&$number" && close_ours
         [ -z "$words" ] || exec 2>"$words"
-        [ -z "$is_shown" ] || { CELDRINN_PROGRESS=0 && export CELDRINN_PROGRESS; }
+        [ -z "$is_quiet" ] || { CELDRINN_PROGRESS=0 && export CELDRINN_PROGRESS; }
         exec $tied $within "$program" "$@" >"$work/line"
     ) &
     child=$!
@@ -100,13 +109,23 @@ explain_line() {
     name=$(named "$1")
     kept=$(kept_words)
     more=
-    if [ -f "$name" ]; then
-        more=$(unpacked "$name" 2>/dev/null | LC_ALL=C tr '\000\r' '\001 ' | LC_ALL=C awk -v kind="$2" -v at="$3" -v cause="$4" -f "$parts/explain.awk" 2>/dev/null)
+    if [ -s "$work/$1.why" ]; then
+        tell "$name" "this begins as binary AIGER does, but $(cat "$work/$1.why")"
+        return
+    fi
+    text=$name
+    [ ! -f "$work/$1.aag" ] || text=$work/$1.aag
+    if [ -f "$text" ]; then
+        more=$(unpacked "$text" 2>/dev/null | LC_ALL=C tr '\000\r' '\001 ' | LC_ALL=C awk -v kind="$2" -v at="$3" -v cause="$4" -v is_binary="${text#"$name"}" -f "$parts/explain.awk" 2>/dev/null)
         [ "$2" != formula ] || ! unpacked "$name" 2>/dev/null | mends "$name" || more="$more; 'celdrinn mend $name OUT' writes it anew"
     fi
     [ -z "$kept" ] || [ -z "$more" ] || kept="$kept: "
     [ -n "$kept$more" ] || kept="the first offence is here"
-    tell "$name" "$3" "$kept$more"
+    if [ "$text" = "$name" ]; then
+        tell "$name" "$3" "$kept$more"
+    else
+        tell "$name" "in line $3 of it as a text: $kept$more"
+    fi
 }
 
 # What is wrong in a trace, by the cause.
@@ -164,7 +183,12 @@ explain() {
             esac
             ;;
         'circuits too large') say "what would be written is larger than is read" ;;
-        'no memory') say "memory ran out; a smaller --budget or --expand wants less" ;;
+        'no memory')
+            case $command in
+                simplify | solve) say "memory ran out; a smaller --expand wants less, and --budget of simplify stops before" ;;
+                *) say "memory ran out" ;;
+            esac
+            ;;
         'write fault' | 'read fault') explain_fault ;;
         usage) ;;
         *) [ -z "$words" ] || cat "$words" >&2 ;;
@@ -189,7 +213,7 @@ log_role() { if [ -n "${name_PROOF-}" ]; then echo PROOF; elif [ -n "${name_TRAC
 circuits_role() { case $command in rebuild) echo SKOLEM ;; refute) echo HERBRAND ;; *) echo CERT ;; esac; }
 formula_role() { case $command in rebuild | refute) echo OUT ;; *) echo IN ;; esac; }
 
-is_told=''
+is_told='' last_read=''
 
 # Starts a command with its operands and names: `start OPERAND NAME ..`
 start() {
@@ -213,7 +237,10 @@ start() {
         divide "$1"
         eval "name_$role=\$2"
         case $kind in
-            '<') read_by "$2" "$role" ;;
+            '<')
+                read_by "$2" "$role"
+                last_read=$way
+                ;;
             '>') write_by "$2" "$role" ;;
             *) way=$2 ;;
         esac
@@ -226,14 +253,23 @@ start() {
     case $command in
         mend) run_mended "$@" ;;
         certify) run_certify "$@" ;;
-        simplify) if [ -n "$best" ]; then run_best "$@"; else run "$command" "$@" $passed; fi ;;
+        simplify)
+            if [ -n "$best" ]; then
+                run_best "$@"
+            elif [ -n "$time" ]; then
+                run_timed "$@"
+            else
+                run "$command" "$@" $passed
+            fi
+            ;;
+        solve) if [ -n "$bounded" ]; then run_solved "$@"; else run "$command" "$@" $passed; fi ;;
         validate) if [ -n "$solver" ]; then run_decided "$@"; else run "$command" "$@" $passed; fi ;;
         *) run "$command" "$@" $passed $herbrand ;;
     esac
     end_streams
     case $status in 0 | 2 | 10 | 20) pack_empty || write_failed=yes ;; esac
     if [ -n "$read_failed" ]; then
-        say "a packed file could not be unpacked to its end"
+        say "a packed file, or one from a pipe, could not be read to its end"
         answer 'read fault' 4
     elif [ -n "$write_failed" ] && [ "$status" -ne 3 ]; then
         say "a file could not be packed to its end"

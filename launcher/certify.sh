@@ -4,7 +4,8 @@
 # carries them back. No solver is believed.
 #
 # There are several ways, and nobody knows which one is short: each gets some seconds, and those that did not end get four times as many, until
-# one gives circuits of IN, none is left, or the time of the call is over.
+# one gives circuits of IN, none is left, or the time of the call is over. Where there are two processors, two lanes share the ways, beside each
+# other: the first circuits are taken, and the other lane is ended.
 
 first_span=4
 
@@ -16,8 +17,9 @@ ended=' ' pending=''
 is_ended() { case $ended in *" $1 "*) return 0 ;; *) return 1 ;; esac; }
 end_way() { ended="$ended$1 "; }
 
-# The time of a way; one that gets none is left for later.
+# The time of a way; one that gets none is left for later. A lane ends where the launcher is gone.
 allow_way() {
+    kill -0 $$ 2>/dev/null || exit 5
     allow $span && return 0
     pending=yes
     return 1
@@ -157,23 +159,92 @@ certify_by() {
     return 1
 }
 
-# All ways, with more and more time.
-certify() {
+# These ways, with more and more time. That a literal went by extended reduction is told to the other lane by a file.
+certify_by_ways() {
     while :; do
         pending=
-        for name in weak strong large plain itself; do
+        for name; do
+            [ ! -f "$all/extended" ] || is_extended=yes
             case $name:$is_extended in
                 plain:yes) has_plain || continue ;;
                 plain: | strong:yes | large:yes) continue ;;
             esac
             certify_by $name && return 0
             [ -z "$is_over" ] || return 1
+            [ -z "$is_extended" ] || : >"$all/extended"
         done
         [ -n "$pending" ] && allow || return 1
         span=$((span * 4))
     done
 }
 has_plain() { (find_line simplify && case " $third " in *' plain '*) ;; *) exit 1 ;; esac); }
+
+# A lane works in a folder of its own, the second one a second later, since most answers are there by then. At its end it leaves there what it has, and writes one byte to the launcher.
+run_lane() {
+    lane=$1
+    shift
+    work=$all/$lane
+    trap 'end_lane 143' TERM HUP
+    trap 'printf %s "$lane" >&"$ends"' EXIT
+    mkdir "$work" || exit 5
+    [ -z "$delay" ] || { sleep "$delay" & child=$! && wait "$child" && child=; }
+    if certify_by_ways "$@"; then echo "$answer" >"$work/found"; fi
+    [ -z "$is_over" ] || printf '%s\n%s\n' "$status" "$line" >"$work/over"
+    [ -z "$pending" ] || : >"$work/pending"
+    exit 0
+}
+end_lane() {
+    trap '' TERM HUP
+    [ -z "$child" ] || kill -TERM "$child" 2>/dev/null
+    [ -z "$beside" ] || kill -TERM "$beside" 2>/dev/null
+    wait
+    exit "$1"
+}
+
+# Waits until a lane has ended, and sets `lane`. A signal that comes meanwhile is not kept waiting.
+wait_for_lane() {
+    (close_ours "$ends" && eval "exec <&$ends" && exec dd bs=1 count=1 2>/dev/null) >"$all/ended" &
+    child=$!
+    wait "$child"
+    child=
+    lane=$(cat "$all/ended")
+}
+
+# What a lane has left. Fails where the other one may still find something.
+take_lane() {
+    [ ! -f "$all/$lane/pending" ] || pending=yes
+    if [ -f "$all/$lane/over" ]; then
+        is_over=yes words=$all/$lane/said
+        { read -r status && read -r line; } <"$all/$lane/over"
+    elif [ -f "$all/$lane/found" ]; then
+        answer=$(cat "$all/$lane/found")
+        mv "$all/$lane/cert" "$work/cert"
+    else
+        return 1
+    fi
+}
+
+has_two_processors() { [ "$(getconf _NPROCESSORS_ONLN 2>/dev/null || echo 1)" -gt 1 ]; }
+
+# All ways, in two lanes where that can be. Ends with 0 where circuits of IN are there, and `answer` is set.
+certify() {
+    all=$work
+    if ! has_two_processors; then
+        certify_by_ways weak strong large plain itself
+        return
+    fi
+    mkfifo "$work/ends" || finish 5
+    spare_number && ends=$number && eval "exec $ends<>\"\$work/ends\""
+    delay='' && run_lane 1 weak large plain &
+    lanes=$!
+    delay=1 && run_lane 2 strong itself &
+    lanes="$lanes $!"
+    answer='' pending=''
+    wait_for_lane
+    take_lane || { wait_for_lane && take_lane; }
+    end_lanes
+    [ -n "$answer" ]
+}
 
 # Tests the circuits once more, on IN itself: by `validate`, or by a SAT solver.
 check_circuits() {

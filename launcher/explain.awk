@@ -1,5 +1,5 @@
 # Says what is wrong in a line of a file, with its words and numbers. `kind` is formula, log, trace or circuits, `at` the line and `cause` the number
-# of the refusal. It only says what was refused, and decides nothing. Bytes 0 come as 1.
+# of the refusal. It only says what was refused, and decides nothing. Bytes 0 come as 1. `is_binary` says that the text was made of binary AIGER.
 
 function is_number(t) { return t ~ /^-?[0-9]+$/ && t !~ /^-0+$/ }
 function abs(t) { sub(/^-/, "", t); return t + 0 }
@@ -17,7 +17,8 @@ function look_at_head() {
     if (head ~ /^(\377\376|\376\377)/ || head ~ /^.\001/) return "this is a text in UTF-16"
     if (head ~ /^\357\273\277/) return "a byte order mark stands before the text"
     if (head ~ /^aag /) return "these are circuits in AIGER"
-    if (head ~ /^aig /) return kind == "circuits" ? "this is binary AIGER: 'aigtoaig FILE.aig FILE.aag' makes a text of it" : "these are circuits in AIGER"
+    if (head ~ /^aig /) return "these are circuits in binary AIGER"
+    if (head ~ /^aig2 /) return "this is a form of AIGER that ABC alone has: 'write_aiger' without -c writes what is read"
     if (head ~ /^#QCIR/) return "this is QCIR"
     if (head ~ /^\.model/ || head ~ /^\.inputs/) return "this is a circuit in BLIF: examples/circuit-to-qdimacs.sh makes a formula of it"
     if (head ~ /^p qrat/) return "this is a log with hints"
@@ -48,7 +49,8 @@ NF > 0 && !begun {
         if ($1 == "p" && $2 == "cnf") put("V and C are two numbers, and here stands '" cut($0) "'")
         if ($1 == "P" || $2 == "CNF") put("small letters are wanted: 'p cnf'")
         if ($1 == "p") put("the first line of the text has to be 'p cnf V C'")
-        if ($1 ~ /^#/) put("a comment begins with 'c'")
+        if ($1 ~ /^#/) { is_hash = 1; begun = 0; next }
+        if (is_hash) put($0 ~ /^[.]/ ? "this is a circuit in BLIF: examples/circuit-to-qdimacs.sh makes a formula of it" : "a comment begins with 'c'")
         put("there is no header before '" cut($0) "'")
     }
 }
@@ -61,7 +63,12 @@ NF > 0 && !begun {
             if (t ~ /^-0+$/) put("'" t "' has a sign")
             if (t == "c") put("a comment begins a line of its own")
             if (t == "%") put("'%' is the end of a file of SATLIB")
-            if (t ~ /^[AE]$/ || t ~ /^\+[0-9]+$/ || t == "p" || t ~ /[\013\014\032]/) put("'" t "' is not read")
+            if (t == "p") put("a second header stands here: are these two files?")
+            if (t ~ /\032/) put("the byte 26 stands here, the end of a file of DOS")
+            if (t ~ /[\013\014]/) put("a form feed or a vertical tab stands here, which is no blank")
+            if (t ~ /^[AE]$/ || t ~ /^\+[0-9]+$/) put("'" t "' is not read")
+            if (t == "x") put("'x' begins an exclusive or, which is another format")
+            if (t == "v" || t == "V" || t == "s") put("this is a solver's answer")
             if (t == "d") put("'d' begins a set of DQDIMACS, which is not read")
             if (t == "a" || t == "e") put("the set before '" t "' has no 0")
             put(t ~ /\001/ ? "a byte 0 stands here" : "'" t "' is no number")
@@ -82,6 +89,9 @@ NF > 0 && !begun {
 END {
     if (said) exit
     if (NR == 0) put("the file is empty")
+    if (kind == "circuits" && cause == 7 && is_binary) put("ABC writes symbols with 'write_aiger -s'")
+    if (kind != "formula") exit
+    if (cause == 1 && is_hash) put("a comment begins with 'c'")
     if (cause == 1 && !begun) put("there are comments alone")
     if (cause == 1) put("the header breaks off")
     if (cause == 6) put("the header says " c " clauses, and here are " found + many)

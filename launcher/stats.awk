@@ -1,5 +1,5 @@
 # Makes the table of --stats: first two times two lines of the shell's `times`, then what the program said of its progress. `began` and `ended` are
-# seconds, `peak` kilobytes, `bytes` those of the log.
+# seconds, `peak` kilobytes, `bytes` those of the log, `steps` how many of its steps are additions, deletions, drops, new and removed variables.
 
 function title(text,    line) {
     line = "--- [ " text " ] "
@@ -49,7 +49,16 @@ END {
         title("moves that were proposed and taken")
         for (i = 1; i <= rule_count; i++) if (taken[i] > 0) printf "%-28s %12d %12s %s\n", rules[i], taken[i], "", share(taken[i], moves)
         printf "%-28s %12d\n", "all", moves
-        if (bytes != "") printf "%-28s %12d bytes\n", "log", bytes
+    }
+    if (bytes != "") {
+        title("log")
+        n = split("clauses added,clauses deleted,universal literals dropped,variables added,variables removed", names, ",")
+        if (split(steps, step, " ") == n) {
+            for (i = 1; i <= n; i++) all += step[i]
+            for (i = 1; i <= n; i++) if (step[i] > 0) printf "%-28s %12d %12s %s\n", names[i], step[i], "", share(step[i], all)
+            printf "%-28s %12d\n", "all steps", all
+        }
+        printf "%-28s %12d\n", "bytes", bytes
     }
     title("seconds and memory")
     if (at > 0) {

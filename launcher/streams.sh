@@ -54,10 +54,14 @@ read_by() {
         -) way=/dev/stdin ;;
         -*) way=./$1 ;;
     esac
-    find_packer "$1"
-    [ -n "$packer" ] && [ -f "$1" ] || return 0
-    command -v $packer >/dev/null || { say "to read '$1' takes $packer, which is not here" && answer 'read fault' 4; }
-    [ -r "$1" ] || answer 'read fault' 4
+    packer=
+    [ ! -f "$1" ] || find_packer "$1"
+    if [ -n "$packer" ]; then
+        command -v $packer >/dev/null || { say "to read '$1' takes $packer, which is not here" && answer 'read fault' 4; }
+        [ -r "$1" ] || answer 'read fault' 4
+    fi
+    case $2 in SKOLEM | HERBRAND | CERT) read_circuits "$1" "$2" && return ;; esac
+    [ -n "$packer" ] || return 0
     way=$work/$2
     mkfifo "$way" || finish 5
     (close_ours && exec $packer -dc <"$1" >"$way") &
@@ -76,8 +80,9 @@ store() {
 }
 
 # Sets `way` to the name under which the program writes a file. What goes to standard output goes through a pipe, and the line to standard
-# error. The launcher holds each pipe open for writing until the program has ended, so that no tool waits in vain for its first byte; it reads
-# none of them, so that the program is told where a tool has ended before it.
+# error. The launcher holds each pipe open for writing until the program has ended, so that no tool waits in vain for its first byte. It opens
+# the tool's end too, before the tool is there, and lets go of it: so the tool never waits for a writer that has ended already, and the program
+# is told where a tool has ended before it.
 writers='' nulls=/dev/null is_moved='' packed=''
 write_by() {
     way=$1
@@ -94,19 +99,18 @@ write_by() {
     way=$work/$2
     mkfifo "$way" || finish 5
     spare_number && hold=$number
-    spare_number && eval "exec $number<>\"\$way\" $hold>\"\$way\" $number<&-"
-    our_numbers=${our_numbers%?}
+    [ "$1" != - ] || { spare_number && is_moved=$number && eval "exec $number>&1" && exec 1>&2; }
+    spare_number && eval "exec $number<>\"\$way\" $hold>\"\$way\" $number<\"\$way\""
     if [ "$1" = - ]; then
-        spare_number
-        eval "exec $number>&1" && exec 1>&2
-        is_moved=$number
-        (eval "exec >&$number" && close_ours && exec cat <"$way") &
+        (eval "exec >&$is_moved <&$number" && close_ours && exec cat) &
     else
-        (close_ours && exec <"$way" && pack $packer "$2" "$1") &
+        (eval "exec <&$number" && close_ours && pack $packer "$2" "$1") &
         packed="$packed$2 $packer $1
 "
     fi
     writers="$writers $!"
+    eval "exec $number<&-"
+    our_numbers=${our_numbers%?}
 }
 
 # Ends the tools when the program has ended, and says in `read_failed` and `write_failed` whether one of them failed.

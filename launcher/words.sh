@@ -55,7 +55,7 @@ look_at_share() {
 }
 
 # Takes an option. What is the program's goes to `passed`; what is the launcher's sets a variable of its name.
-passed='' seen='' best='' force='' quiet='' verbose='' stats='' seconds='' solver='' herbrand='' check=''
+passed='' seen='' best='' force='' quiet='' verbose='' stats='' seconds='' solver='' herbrand='' check='' time=''
 take_option() {
     option=${1%%=*}
     option=${option#--}
@@ -88,6 +88,7 @@ take_option() {
         stats) stats=yes ;;
         with) solver=${1#*=} ;;
         seconds) seconds=${1#*=} ;;
+        time) time=${1#*=} ;;
         herbrand) herbrand=$1 ;;
         *) passed="$passed $1" ;;
     esac
@@ -257,7 +258,10 @@ look() {
         refuse "too many words for $command: '$1'${many:-; see 'celdrinn help $command'}"
     fi
     inputs='' outputs='' log='' place=0
-    [ $# -lt 3 ] || log=$3
+    case $command in
+        simplify | solve) log=${3-} ;;
+        demo) log=${5-} ;;
+    esac
     count=$#
     for operand in $operands; do
         place=$((place + 1))

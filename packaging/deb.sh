@@ -39,7 +39,8 @@ gzip -9n "$root"/usr/share/man/man1/*.1
 mkdir -p "$root/usr/share/zsh/vendor-completions" &&
     mv "$root/usr/share/zsh/site-functions/_celdrinn" "$root/usr/share/zsh/vendor-completions/" &&
     rmdir "$root/usr/share/zsh/site-functions" || exit 1
-mkdir -p "$root/usr/share/lintian/overrides" && cp packaging/lintian-overrides "$root/usr/share/lintian/overrides/celdrinn" || exit 1
+mkdir -p "$root/usr/share/lintian/overrides" && cp packaging/lintian-overrides "$root/usr/share/lintian/overrides/celdrinn" &&
+    chmod 644 "$root/usr/share/lintian/overrides/celdrinn" || exit 1
 
 mkdir "$root/DEBIAN"
 cat >"$root/DEBIAN/control" <<END

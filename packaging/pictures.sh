@@ -1,5 +1,5 @@
 #!/bin/sh
-# Draws the pictures of the pages, docs/pictures/*.svg: the two pipelines as they are told below, the bars of "Which bounds" from the table of
+# Draws the pictures of the pages, docs/pictures/*.svg: the pipelines as they are told below, the bars of "Which bounds" from the table of
 # docs/PIPELINES.md. With --check it says which of them are not what is drawn, and ends with 1. With --circuit it draws a circuit file on standard
 # output, as docs/pictures/lamp.svg was, from what `celdrinn certify examples/lamp.qdimacs` writes.
 # Usage: packaging/pictures.sh [--check | --circuit AAG]
@@ -43,7 +43,7 @@ draw_pipeline() {
             }
             for (i = 1; i <= count; i++) {
                 name = names[i]
-                printf "<rect x=\"%d\" y=\"%d\" width=\"84\" height=\"30\" rx=\"%d\" fill=\"%s\" stroke=\"black\"/>\n", x(name) - 42, y(name) - 15, kind[name] == "tool" ? 15 : 2, kind[name] == "tool" ? (name ~ /solver|DepQBF/ ? "#f6d8a8" : "#cfe3f7") : "#f2f2f2"
+                printf "<rect x=\"%d\" y=\"%d\" width=\"84\" height=\"30\" rx=\"%d\" fill=\"%s\" stroke=\"black\"/>\n", x(name) - 42, y(name) - 15, kind[name] == "tool" ? 15 : 2, kind[name] == "tool" ? (name ~ /solver|DepQBF|ABC/ ? "#f6d8a8" : "#cfe3f7") : "#f2f2f2"
                 label = name; gsub(/_/, " ", label)
                 printf "<text x=\"%d\" y=\"%d\"%s>%s</text>\n", x(name), y(name) + 4, (length(label) > 11) ? " font-size=\"11\"" : "", label
             }
@@ -118,6 +118,47 @@ arrow extract CIRCUITS
 arrow CIRCUITS rebuild/refute
 arrow LOG rebuild/refute
 arrow rebuild/refute CERT
+END
+draw_pipeline "A SAT solver's proof, and one that begins behind simplify" >"$work/pictures/proof.svg" <<'END'
+file CNF 0 0
+tool SAT_solver 1 0
+file PROOF 2 0
+tool disprove 3 0
+arrow CNF SAT_solver
+arrow SAT_solver PROOF
+arrow PROOF disprove
+END
+draw_pipeline "Circuits that a SAT solver decides" >"$work/pictures/decide.svg" <<'END'
+file IN 0 0
+file CERT 0 1
+tool miter 1 0
+file OUT 2 0
+tool SAT_solver 3 0
+file PROOF 4 0
+tool disprove 5 0
+arrow IN miter
+arrow CERT miter
+arrow miter OUT
+arrow OUT SAT_solver
+arrow SAT_solver PROOF
+arrow PROOF disprove
+END
+draw_pipeline "Synthesis from a circuit, and a smaller circuit back" >"$work/pictures/circuits.svg" <<'END'
+file CIRCUIT 0 0
+tool ABC 1 0
+file IN 2 0
+tool certify 3 0
+file CERT 4 0
+tool ABC_again 5 0
+file SMALLER 5 1
+tool validate 4 1
+arrow CIRCUIT ABC
+arrow ABC IN
+arrow IN certify
+arrow certify CERT
+arrow CERT ABC_again
+arrow ABC_again SMALLER
+arrow SMALLER validate
 END
 draw_bars >"$work/pictures/bounds.svg"
 for picture in "$work/pictures"/*; do

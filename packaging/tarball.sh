@@ -23,8 +23,8 @@ cp -R packaging/* "$work/$name/packaging/" || exit 1
 rm -rf "$work/$name/packaging/lib/build"
 find "$work/$name" -name __pycache__ -prune -exec rm -rf {} +
 packaging/date.sh >"$work/$name/packaging/date"
-chmod -R u+rwX,go+rX,go-w "$work/$name" || exit 1
 cp -R crates/q_rows/args crates/q_rows/data crates/q_rows/stdout "$work/$name/crates/q_rows/" || exit 1
+chmod -R u+rwX,go+rX,go-w "$work/$name" || exit 1
 # one owner, one date, one order: the same files make the same archive
 tar -C "$work" --sort=name --owner=0 --group=0 --numeric-owner --mtime="@$(packaging/date.sh)" -cf "$work/tar" "$name" || exit 1
 gzip -9n "$work/tar" && mv "$work/tar.gz" "$to/$name.tar.gz" && echo "$to/$name.tar.gz"

@@ -13,11 +13,12 @@ mkdir "$work/bin"
 ln -s "${CELDRINN:-$top/celdrinn}" "$work/bin/celdrinn"
 PATH=$work/bin:$PATH
 CELDRINN_PROGRESS=0
-# where a checkout is called, what the launcher notes goes with the rest
-XDG_CACHE_HOME=$work/cache
+# what the launcher notes of a checkout, and what fish and parallel keep, goes with the rest
+XDG_CACHE_HOME=$work/cache XDG_CONFIG_HOME=$work/config XDG_DATA_HOME=$work/share PARALLEL_HOME=$work/parallel
+mkdir "$PARALLEL_HOME"
 CELDRINN=$work/bin/celdrinn
 examples=${EXAMPLES:-$top/examples}
-export PATH CELDRINN CELDRINN_PROGRESS XDG_CACHE_HOME examples top
+export PATH CELDRINN CELDRINN_PROGRESS XDG_CACHE_HOME XDG_CONFIG_HOME XDG_DATA_HOME PARALLEL_HOME examples top
 passed=0 failed=0 skipped=0
 
 # Closes a row: `name` is it, `why` says what is wrong, `missing` what is missing.

@@ -99,12 +99,13 @@ def read(text):
     lines, end = lines_of(text), text.count(b"\n") + 1
     most, inputs, outputs, gates = read_header(words_of(lines[0]) if lines else [])
     found = Definitions(most)
-    kinds = ["input"] * inputs + ["output"] * outputs + ["gate"] * gates
-    for place, kind in enumerate(kinds, 1):
+    behind = 1 + inputs + outputs + gates
+    # the header may say any number, and the file has its lines alone
+    for place in range(1, behind):
         if place >= len(lines):
             raise Refused(end, 8)
+        kind = "input" if place <= inputs else "output" if place <= inputs + outputs else "gate"
         found.take(place + 1, kind, lines[place])
-    behind = 1 + len(kinds)
     named = read_symbols(lines[behind:], behind + 1, inputs, outputs, end)
     uses = [(line, [literal]) for line, literal in found.outputs] + [(line, row[1:]) for line, row in found.gates]
     for line, row in uses:

@@ -5,16 +5,17 @@ import circuits
 import formulas
 import logs
 
-# files: name -> bytes, None for one that is missing, or FOLDER; fault: the place where a written file goes, or None
-Case = namedtuple("Case", "verb options files fault")
+# files: name -> bytes, None for one that is missing, or FOLDER; fault: the place where a written file goes, or None; left: the written files that
+# nobody wants, for which the launcher names the null device
+Case = namedtuple("Case", "verb options files fault left", defaults=[frozenset()])
 Answer = namedtuple("Answer", "status line files")  # files: name -> bytes of the written ones that are there
 FOLDER = "a folder"
 
 READS = {"simplify": ["IN"], "check": ["IN", "OUT", "LOG"], "annotate": ["IN", "OUT", "LOG"], "rebuild": ["IN", "OUT", "LOG", "SKOLEM"],
          "refute": ["IN", "OUT", "LOG", "HERBRAND"], "validate": ["IN", "CERT"], "miter": ["IN", "CERT"], "solve": ["IN"],
-         "extract": ["IN", "TRACE"], "gen": [], "demo": []}
+         "extract": ["IN", "TRACE"], "disprove": ["IN", "PROOF"], "gen": [], "demo": []}
 WRITES = {"simplify": ["OUT", "LOG"], "check": [], "annotate": ["HINTED"], "rebuild": ["CERT"], "refute": ["CERT"], "validate": [],
-          "miter": ["OUT"], "solve": ["OUT", "LOG", "CERT"], "extract": ["CERT"], "gen": ["OUT"], "demo": ["IN", "OUT", "LOG"]}
+          "miter": ["OUT"], "solve": ["OUT", "LOG", "CERT"], "extract": ["CERT"], "disprove": [], "gen": ["OUT"], "demo": ["IN", "OUT", "LOG"]}
 
 
 class Wrong(Exception):
@@ -64,10 +65,16 @@ def fitting(given, found, owner):
         raise Told(7, f"circuits {why}")
 
 
+def part_of(case):
+    """The part of a log that is judged."""
+    word = next((o.removeprefix("--part=") for o in case.options if o.startswith("--part=")), "1/1")
+    return tuple(int(n) for n in word.split("/"))
+
+
 def log_in(case, plain_alone=False):
     """The formulas and what is to be said of the log between them."""
     start, end = formula_in(case, "IN"), formula_in(case, "OUT")
-    judged = logs.judge(start, end, held(case, "LOG"), plain_alone)
+    judged = logs.judge(start, end, held(case, "LOG"), plain_alone, part_of(case))
     if judged.refusal:
         raise Told(1, f"refused {judged.refusal}")
     return start, end, judged
@@ -97,6 +104,11 @@ def written_formula(answer, name):
     return found
 
 
+def are_right(case, answer, right, given, owner, gates):
+    """Whether circuits that were written are right; of those that nobody wants nothing is known."""
+    return "CERT" in case.left or right(given, written_circuits(answer, given, owner, gates))
+
+
 def written_circuits(answer, given, owner, gates):
     """Circuits that were written, in their canonical order, with so many gates."""
     found = circuits.read(written(answer, "CERT"))
@@ -120,14 +132,13 @@ def simplify(case, answer):
     want((answer.status == 20) == (end.matrix == [frozenset()]), "false where the empty clause is left")
     want(answer.status != 2 or budget is not None and first - last >= budget, "spent where the budget is")
     want(formulas.is_true(start) == formulas.is_true(end), "one truth value")
-    judged = logs.judge(start, end, written(answer, "LOG"))
-    want(judged.refusal is None, f"a right log, and not {judged.refusal}")
-    return None
+    judged = None if "LOG" in case.left else logs.judge(start, end, written(answer, "LOG"))
+    want(judged is None or judged.refusal is None, f"a right log, and not {judged and judged.refusal}")
 
 
 def check(case, answer):
     start, end, judged = log_in(case)
-    want(formulas.is_true(start) == formulas.is_true(end), "one truth value")
+    want(part_of(case)[1] > 1 or formulas.is_true(start) == formulas.is_true(end), "one truth value")
     raise Told(0, f"verified {judged.steps}")
 
 
@@ -147,8 +158,9 @@ def rebuild(case, answer):
     if frozenset() in end.matrix:
         raise Told(7, "circuits of a false output")
     want(answer.status == 0, "status 0")
-    made = written_circuits(answer, start, "e", number_behind(answer.line, "rebuilt"))
-    want(not circuits.are_skolem(end, given) or circuits.are_skolem(start, made), "Skolem functions of IN")
+    gates = number_behind(answer.line, "rebuilt")
+    win = are_right(case, answer, circuits.are_skolem, start, "e", gates)
+    want(not circuits.are_skolem(end, given) or win, "Skolem functions of IN")
 
 
 def refute(case, answer):
@@ -160,8 +172,9 @@ def refute(case, answer):
     if not end.matrix:
         raise Told(7, "circuits of a true output")
     want(answer.status == 0, "status 0")
-    made = written_circuits(answer, start, "a", number_behind(answer.line, "refuted"))
-    want(not circuits.are_herbrand(end, given) or circuits.are_herbrand(start, made), "Herbrand functions of IN")
+    gates = number_behind(answer.line, "refuted")
+    win = are_right(case, answer, circuits.are_herbrand, start, "a", gates)
+    want(not circuits.are_herbrand(end, given) or win, "Herbrand functions of IN")
 
 
 def validate(case, answer):
@@ -276,15 +289,17 @@ def miter(case, answer):
 
 def solve(case, answer):
     start = formula_in(case, "IN")
-    end = written_formula(answer, "OUT")
-    judged = logs.judge(start, end, written(answer, "LOG"))
-    want(judged.refusal is None, f"a right log, and not {judged.refusal}")
+    if "OUT" not in case.left:
+        end = written_formula(answer, "OUT")
+        want(formulas.is_true(start) == formulas.is_true(end), "one truth value")
+        judged = None if "LOG" in case.left else logs.judge(start, end, written(answer, "LOG"))
+        want(judged is None or judged.refusal is None, f"a right log, and not {judged and judged.refusal}")
     if answer.status == 12:
         want(answer.line == "unknown" and option(case, "budget", None) is not None, "unknown under a budget alone")
     elif formulas.is_true(start):
         want(answer.status == 10, "status 10")
-        made = written_circuits(answer, start, "e", number_behind(answer.line, "true"))
-        want(circuits.are_skolem(start, made), "Skolem functions of IN")
+        gates = number_behind(answer.line, "true")
+        want(are_right(case, answer, circuits.are_skolem, start, "e", gates), "Skolem functions of IN")
     else:
         raise Told(20, "false")
 
@@ -295,12 +310,24 @@ def extract(case, answer):
     if answer.status in (10, 20):
         owner, word = ("e", "true") if answer.status == 10 else ("a", "false")
         want(formulas.is_true(start) == (owner == "e"), "the truth")
-        made = written_circuits(answer, start, owner, number_behind(answer.line, word))
         right = circuits.are_skolem if owner == "e" else circuits.are_herbrand
-        want(right(start, made), "circuits that win")
+        want(are_right(case, answer, right, start, owner, number_behind(answer.line, word)), "circuits that win")
         return
     want((answer.status, answer.line.split(" ")[0]) in ((1, "refused"), (12, "unknown")), "a verdict or a refusal")
     want("CERT" not in answer.files, "no CERT")
+
+
+def disprove(case, answer):
+    start = formula_in(case, "IN")
+    if frozenset() in start.matrix:
+        raise Told(20, "false 0")  # no proof is read
+    proof = held(case, "PROOF")
+    in_bytes = "--binary" in case.options or logs.is_binary(proof)
+    judged = logs.refute(start, (logs.binary_steps if in_bytes else logs.text_steps)(proof))
+    if judged.refusal:
+        raise Told(1, f"refused {judged.refusal}")
+    want(not formulas.is_true(start), "a false formula")
+    raise Told(20, f"false {judged.steps}")
 
 
 def is_generated(text, size):
@@ -331,7 +358,7 @@ def demo(case, answer):
 
 
 JUDGES = {"simplify": simplify, "check": check, "annotate": annotate, "rebuild": rebuild, "refute": refute, "validate": validate,
-          "miter": miter, "solve": solve, "extract": extract, "gen": gen, "demo": demo}
+          "miter": miter, "solve": solve, "extract": extract, "disprove": disprove, "gen": gen, "demo": demo}
 
 
 def judge(case, answer):

@@ -4,12 +4,13 @@
     bench/fuzz/fuzz.py [--seed N] [--runs N] [--seconds N] [--verb WORD] [--program FILE] [--keep FOLDER]
 
 Formulas, logs of both profiles, circuits and traces are made by chance, most of them right and many with mistakes; some files are missing or are folders,
-some places can't be written, and some files may not grow. The reference (formulas.py, logs.py, circuits.py, commands.py) follows docs/FORMATS.md and
+some places can't be written, some files may not grow, and some nobody wants (as where OUT, LOG or CERT is left out). The reference (formulas.py, logs.py, circuits.py, commands.py) follows docs/FORMATS.md and
 docs/THEORY.md, and decides truth by truth tables. At the first difference the case is made as small as it goes and kept in a folder, and the exit status is 1.
 The same seed plays the same cases. A trace needs depqbf; without it none is played.
 """
 import argparse
 import collections
+import hashlib
 import os
 import random
 import resource
@@ -28,6 +29,8 @@ from commands import FOLDER, READS, WRITES, Answer, Case, judge
 HERE = os.path.dirname(os.path.realpath(__file__))
 PROGRAM = os.path.join(HERE, "..", "..", "dist", "celdrinn-x86_64-linux")
 LONGEST = 300
+# of this program and of each call
+MOST_MEMORY = 4 << 30
 FULL = "/dev/full"
 NOWHERE = "nowhere/file"
 
@@ -54,7 +57,8 @@ class Player:
         """The words of a case: numbers before names, and options behind them."""
         numbers = [o for o in case.options if not o.startswith("--")]
         names = list(dict.fromkeys(READS[case.verb] + WRITES[case.verb]))
-        place = dict([case.fault]) if case.fault and case.fault[0] != "size" else {}
+        place = {name: "/" * k + "dev/null" for k, name in enumerate(sorted(case.left), 1)}
+        place.update(dict([case.fault]) if case.fault and case.fault[0] != "size" else {})
         return [case.verb, *numbers, *(place.get(n, n) for n in names), *(o for o in case.options if o.startswith("--"))]
 
     def play(self, case):
@@ -89,7 +93,7 @@ class Maker:
 
     def __init__(self, rng, player, verb):
         self.rng, self.player, self.verb = rng, player, verb
-        self.verbs = [v for v in READS if v not in ("gen", "demo", "extract")] * 8 + ["gen", "demo"]
+        self.verbs = [v for v in READS if v not in ("gen", "demo", "extract")] * 8 + ["gen", "demo"] + ["check"] * 4
         self.solver = shutil.which("depqbf")
         self.verbs += ["extract"] * 4 if self.solver else []
 
@@ -103,6 +107,9 @@ class Maker:
             found.append(f"--budget={rng.randint(0, 12)}")
         elif verb == "miter" and rng.random() < 0.5:
             found.append("--herbrand")
+        elif verb == "check" and rng.random() < 0.5:
+            parts = rng.randint(1, 4)
+            found.append(f"--part={rng.randint(1, parts)}/{parts}")
         elif verb in ("gen", "demo"):
             found = [str(rng.randrange(2**64)), str(rng.randint(1, 9 if verb == "demo" else 400))]
         return found
@@ -128,12 +135,24 @@ class Maker:
         words = [self.solver, "--trace=qrp", "--dep-man=simple", "--traditional-qcdcl", "--no-qbce-dynamic", "IN"]
         return subprocess.run(words, cwd=self.player.folder, stdout=subprocess.PIPE, stderr=subprocess.DEVNULL, check=False).stdout
 
-    def right_files(self, verb, owner):
+    def proof_for(self, text, options):
+        """A proof of a formula, as a log or in bytes; `options` may get a word."""
+        rng = self.rng
+        log = making.refutation(rng, formulas.read(text)) if rng.random() < 0.7 else self.run_of(text)[1]
+        if rng.random() < 0.5:
+            options += ["--binary"] if rng.random() < 0.3 else []
+            return making.in_bytes(log)
+        options += ["--binary"] if rng.random() < 0.03 else []
+        return log
+
+    def right_files(self, verb, owner, options):
         """Files of a command, none of them spoiled; the circuits are the owner's."""
         text = making.text_of(self.rng, making.formula(self.rng))
         files = {"IN": text} if "IN" in READS[verb] else {}
         if "LOG" in READS[verb]:
             files["OUT"], files["LOG"] = self.run_of(text)
+            if options and verb == "check" and self.rng.random() < 0.7:
+                files["LOG"] = making.padding(self.rng, formulas.read(text)) + files["LOG"]
             if verb != "annotate" and self.rng.random() < 0.5:
                 hinted = self.player.play(Case("annotate", [], dict(files), None)).files.get("HINTED")
                 files["LOG"] = hinted if hinted is not None else files["LOG"]
@@ -145,6 +164,8 @@ class Maker:
             files["CERT"] = self.circuits_for(text, owner)
         elif verb == "extract":
             files["TRACE"] = self.trace_for(text)
+        elif verb == "disprove":
+            files["PROOF"] = self.proof_for(text, options)
         return files
 
     def spoil(self, files):
@@ -156,25 +177,35 @@ class Maker:
                 files[name] = rng.choice((None, FOLDER, b""))
             elif name == "LOG" and not logs.is_hinted(files[name]):
                 files[name] = making.spoil_log(rng, files[name], formulas.read(files["IN"]) if is_formula(files["IN"]) else formulas.Formula([], []))
+            elif name == "PROOF" and rng.random() < 0.5:
+                files[name] = making.spoil_bytes(rng, files[name])
             else:
                 files[name] = making.spoil(rng, files[name])
 
-    def fault(self, verb):
+    def left(self, verb):
+        """The written files that nobody wants."""
+        if verb not in ("simplify", "rebuild", "refute", "extract", "solve") or self.rng.random() < 0.8:
+            return frozenset()
+        return frozenset(name for name in WRITES[verb] if name != "OUT" or verb == "solve" if self.rng.random() < 0.7)
+
+    def fault(self, verb, left):
         """A written file that can't be, or a size that none may pass."""
         rng = self.rng
-        if not WRITES[verb] or rng.random() > 0.06:
+        names = [name for name in WRITES[verb] if name not in left]
+        if not names or rng.random() > 0.06:
             return None
         if rng.random() < 0.4:
             return ("size", rng.choice((0, 1, 10, 40, 100)))
-        return (rng.choice(WRITES[verb]), rng.choice((FULL, NOWHERE, "folder")))
+        return (rng.choice(names), rng.choice((FULL, NOWHERE, "folder")))
 
     def case(self):
         verb = self.verb or self.rng.choice(self.verbs)
         options = self.options(verb)
-        files = self.right_files(verb, "a" if verb == "refute" or "--herbrand" in options else "e")
+        files = self.right_files(verb, "a" if verb == "refute" or "--herbrand" in options else "e", options)
         if files and self.rng.random() < 0.55:
             self.spoil(files)
-        return Case(verb, options, files, self.fault(verb))
+        left = self.left(verb)
+        return Case(verb, options, files, self.fault(verb, left), left)
 
 
 def is_formula(held):
@@ -198,16 +229,23 @@ def smaller(text):
             yield b"".join(lines[:at] + [b" ".join(words[:place] + words[place + 1:])] + lines[at + 1:])
 
 
+def smaller_cases(case):
+    """Cases with fewer options, lines or words, one after the other: all of them at once would not fit into memory."""
+    for word in case.options:
+        if word.startswith("--"):
+            yield case._replace(options=[o for o in case.options if o != word])
+    for name, held in case.files.items():
+        if isinstance(held, bytes):
+            for text in smaller(held):
+                yield case._replace(files={**case.files, name: text})
+
+
 def shrink(player, case, tries=2000):
     """A small case with a difference still."""
     going = True
     while going and tries > 0:
         going = False
-        candidates = [case._replace(options=[o for o in case.options if o != word]) for word in case.options if word.startswith("--")]
-        for name, held in case.files.items():
-            if isinstance(held, bytes):
-                candidates += [case._replace(files={**case.files, name: text}) for text in smaller(held)]
-        for candidate in candidates:
+        for candidate in smaller_cases(case):
             tries -= 1
             if tries <= 0:
                 break
@@ -247,7 +285,7 @@ def settled_again(player, case, answer):
     """Whether a settled formula settles at once."""
     if case.verb != "simplify" or answer.status != 0 or case.fault:
         return None
-    again = player.play(case._replace(files={"IN": answer.files["OUT"]}, options=[o for o in case.options if "budget" not in o]))
+    again = player.play(case._replace(files={"IN": answer.files["OUT"]}, options=[o for o in case.options if "budget" not in o], left=frozenset()))
     return None if again.files == {"OUT": answer.files["OUT"], "LOG": b""} else "wanted no rule on a settled formula"
 
 
@@ -263,9 +301,9 @@ def play(words, counts):
             case = maker.case()
             answer = player.play(case)
             wrong = judge(case, answer) or over_size(case, answer) or settled_again(player, case, answer)
-            counts[case.verb, answer.status] += 1
+            counts[kind_of(case), answer.status] += 1
             if wrong:
-                print(f"case {number} of seed {words.seed}: {wrong}, came {answer.status} '{answer.line}'")
+                print(f"case {number} of seed {words.seed}: {wrong}, came {answer.status} '{answer.line}'", flush=True)
                 print("\n".join(keep(player, shrink(player, case), words.keep)))
                 return False
     except KeyboardInterrupt:
@@ -275,13 +313,23 @@ def play(words, counts):
     return True
 
 
-def show(counts):
-    """A line for each command: its cases, and how many ended with which status."""
-    for verb in READS:
-        row = sorted((status, n) for (v, status), n in counts.items() if v == verb)
-        if row:
-            print(f"{verb:9} {sum(n for _, n in row):8}   " + "  ".join(f"{status}: {n}" for status, n in row))
-    print(f"{'all':9} {sum(counts.values()):8}")
+def kind_of(case):
+    """What a case is counted as: its command, the option that makes it another one, and whether a file is left out."""
+    words = [o.split("=")[0] for o in case.options if o.startswith(("--part", "--binary", "--herbrand"))]
+    return " ".join([case.verb, *words, *(["left out"] if case.left else [])])
+
+
+def show(counts, program):
+    """A line for each kind of case: how many there were, and how many ended with which status; then what the statuses mean together."""
+    for kind in sorted({kind for kind, _ in counts}):
+        row = sorted((status, n) for (k, status), n in counts.items() if k == kind)
+        print(f"{kind:20} {sum(n for _, n in row):8}   " + "  ".join(f"{status}: {n}" for status, n in row))
+    sums = collections.Counter()
+    for (_, status), n in counts.items():
+        sums["accepted" if status in (0, 10, 20) else "faults" if status in (4, 5, 6) else "out of budget" if status in (2, 12) else "refused"] += n
+    print(f"{'all':20} {sum(counts.values()):8}   " + "  ".join(f"{word}: {n}" for word, n in sorted(sums.items())))
+    with open(program, "rb") as text:
+        print(f"program {hashlib.sha256(text.read()).hexdigest()}")
 
 
 def main():
@@ -293,9 +341,10 @@ def main():
     parser.add_argument("--program", default=PROGRAM)
     parser.add_argument("--keep", default="fuzz-difference")
     words = parser.parse_args()
+    resource.setrlimit(resource.RLIMIT_AS, (MOST_MEMORY, MOST_MEMORY))
     counts = collections.Counter()
     right = play(words, counts)
-    show(counts)
+    show(counts, words.program)
     sys.exit(0 if right else 1)
 
 

@@ -182,6 +182,7 @@ class Run:
         self.clauses = dict(enumerate(formula.matrix, 1))
         self.next = len(self.clauses) + 1
         self.extended = None
+        self.order = Order(self.prefix)
 
     def rest(self, name):
         return [c for n, c in self.clauses.items() if n != name]
@@ -191,8 +192,7 @@ class Run:
 
     def cause(self, step):
         """The least cause for which a step without hints is not valid, or None."""
-        order = Order(self.prefix)
-        return self.cause_of_variables(step, order) or self.cause_of_clause(step, order)
+        return self.cause_of_variables(step, self.order) or self.cause_of_clause(step, self.order)
 
     def cause_of_variables(self, step, order):
         bound = order.quantifier
@@ -204,6 +204,13 @@ class Run:
         if step.kind == "r" and any(step.literals[0] in map(abs, c) for c in self.clauses.values()):
             return 7
         return None
+
+    def making_cause(self, step):
+        """The least cause for which a step can't be made, whoever judges it, or None."""
+        cause = self.cause_of_variables(step, self.order)
+        if cause or step.kind not in "du":
+            return cause
+        return 3 if self.name_of(frozenset(step.literals)) is None else None
 
     def cause_of_clause(self, step, order):
         if step.kind in "er":
@@ -233,14 +240,14 @@ class Run:
 
     def is_extended(self, step):
         """Whether a valid drop is neither by a universal pivot nor plain."""
-        order, clause, first = Order(self.prefix), frozenset(step.literals), step.literals[0]
+        order, clause, first = self.order, frozenset(step.literals), step.literals[0]
         inner = any(order.quantifier[abs(k)] == "e" and not order.outer_or_same(abs(k), abs(first)) for k in clause)
         rest = self.rest(self.name_of(clause))
         return (inner or -first in clause) and not self.is_universal_pivot(order, rest, clause, first)
 
-    def make(self, step, name=None):
-        """Makes a valid step."""
-        if step.kind == "u" and self.extended is None and self.is_extended(step):
+    def make(self, step, name=None, is_judged=True):
+        """Makes a step; a valid one, where it was judged."""
+        if is_judged and step.kind == "u" and self.extended is None and self.is_extended(step):
             self.extended = step.line
         clause = frozenset(step.literals)
         if step.kind == "add":
@@ -253,12 +260,14 @@ class Run:
         elif step.kind == "e":
             at = next(i for i, (_, v) in enumerate(self.prefix) if v == step.literals[1])
             self.prefix.insert(at + 1, ("e", step.literals[0]))
+            self.order = Order(self.prefix)
         else:
             self.prefix = [(q, v) for q, v in self.prefix if v != step.literals[0]]
+            self.order = Order(self.prefix)
 
     def hinted_cause(self, hinted):
         """The least cause for a step with its proof part, or None."""
-        step, order = hinted.step, Order(self.prefix)
+        step, order = hinted.step, self.order
         cause = self.cause_of_variables(step, order)
         if cause or step.kind in "er":
             return cause
@@ -317,10 +326,18 @@ def chains(clauses, clause, hints):
 
 Judged = namedtuple("Judged", "refusal steps extended")  # the refusal is 'line L cause K' or 'end cause K', or None
 
+BLOCK = 1000
+WHOLE = (1, 1)
 
-def judge(formula, output, text, plain_alone=False):
-    """What a check says of a log."""
-    run, words, steps = Run(formula), Words(text), 0
+
+def is_own(part, place):
+    """Whether a step is one of a part I/N: its blocks are dealt in turn."""
+    return place // BLOCK % part[1] == part[0] - 1
+
+
+def judge(formula, output, text, plain_alone=False, part=WHOLE):
+    """What a check says of a log, or of a part of it; the steps are those of the part."""
+    run, words, steps, place = Run(formula), Words(text), 0, 0
     hinted = is_hinted(text)
     try:
         if hinted and not plain_alone:
@@ -334,12 +351,70 @@ def judge(formula, output, text, plain_alone=False):
                 step, name, cause = found.step, found.name, run.hinted_cause(found)
             else:
                 step, name = read_step(words), None
-                cause = run.cause(step)
+                cause = run.cause(step) if is_own(part, place) else run.making_cause(step)
             if cause:
                 raise Refused(step.line, cause)
-            run.make(step, name)
-            steps += 1
+            run.make(step, name, is_own(part, place))
+            steps += is_own(part, place)
+            place += 1
     except Refused as refused:
         return Judged(f"line {refused.refusal.line} cause {refused.refusal.cause}", steps, None)
     cause = run.cause_at_end(output)
     return Judged(f"end cause {cause}" if cause else None, steps, run.extended)
+
+
+def refute(formula, steps):
+    """What is said of a refutation, whose deletions need no reason: the steps, from a text or from bytes, each with its line."""
+    run, count = Run(formula), 0
+    try:
+        while frozenset() not in run.clauses.values():
+            step = next(steps, None)
+            if step is None:
+                return Judged("end cause 11", count, None)
+            cause = run.making_cause(step) if step.kind == "d" else run.cause(step)
+            if cause:
+                raise Refused(step.line, cause)
+            run.make(step)
+            count += 1
+    except Refused as refused:
+        return Judged(f"line {refused.refusal.line} cause {refused.refusal.cause}", count, None)
+    return Judged(None, count, None)
+
+
+def text_steps(text):
+    """The steps of a log, one after the other."""
+    words = Words(text)
+    while not words.is_over():
+        yield read_step(words)
+
+
+def is_binary(text):
+    """Whether a proof is in bytes, by the first two of them."""
+    return text[:1] == b"a" or text[:1] == b"d" and text[1:2] not in (b"", b" ", b"\t", b"\r", b"\n")
+
+
+def binary_steps(text):
+    """The steps of a proof in bytes; the line of each is its number."""
+    at, line = 0, 0
+
+    def group():
+        nonlocal at
+        value, shift = 0, 0
+        while shift < 35 and at < len(text):
+            byte = text[at]
+            at, value, shift = at + 1, value | (byte & 127) << shift, shift + 7
+            if byte < 128:
+                return value
+        raise Refused(line, 1)
+
+    while at < len(text):
+        line += 1
+        kind = {b"a": "add", b"d": "d"}.get(text[at : at + 1])
+        if kind is None:
+            raise Refused(line, 1)
+        at, row = at + 1, []
+        while (value := group()) != 0:
+            if value == 1 or value // 2 > MOST_LITERAL:
+                raise Refused(line, 1)
+            row.append(-(value // 2) if value & 1 else value // 2)
+        yield Step(line, kind, row)

@@ -108,6 +108,50 @@ def walk(rng, start):
     return "".join(lines).encode(), formulas.canonical(run.formula())
 
 
+def resolvent(rng, run):
+    """A clause that two clauses give, mostly; its first literal is one of them."""
+    clauses = list(run.clauses.values()) or [frozenset()]
+    one, other = rng.choice(clauses), rng.choice(clauses)
+    clash = [k for k in one if -k in other]
+    row = list(one - {clash[0]} | other - {-clash[0]}) if clash else list(one)
+    rng.shuffle(row)
+    return row[1:] if rng.random() < 0.3 else row
+
+
+def refutation(rng, start):
+    """A log of steps that are valid but for deletions, which need no reason; the last one may be the empty clause."""
+    run, lines = logs.Run(start), []
+    for _ in range(rng.randint(1, 50)):
+        step = logs.Step(0, "add", resolvent(rng, run)) if rng.random() < 0.7 else some_step(rng, run)
+        cause = run.making_cause(step) if step.kind == "d" and rng.random() < 0.5 else run.cause(step)
+        if cause is None:
+            lines.append(step_text(step) + "\n")
+            run.make(step)
+        if step.kind != "d" and run.cause(logs.Step(0, "add", [])) is None and rng.random() < 0.8:
+            lines.append("0\n")
+            break
+    return "".join(lines).encode()
+
+
+def in_bytes(text):
+    """The additions and deletions of a log as a binary proof."""
+    def group(value):
+        return bytes([value]) if value < 128 else bytes([value & 127 | 128]) + group(value >> 7)
+
+    steps = [step for step in logs.text_steps(text) if step.kind in ("add", "d")]
+    rows = [(b"a" if step.kind == "add" else b"d") + b"".join(group(2 * abs(k) + (k < 0)) for k in step.literals) + b"\0" for step in steps]
+    return b"".join(rows)
+
+
+def padding(rng, start):
+    """So many valid steps that a block of them ends near what stands behind; they leave the formula as it was."""
+    if not start.prefix:
+        return b""
+    v = rng.choice(start.prefix)[1]
+    pairs = (logs.BLOCK * rng.randint(1, 3) - rng.choice((0, 0, 2, 4, 6, 20))) // 2
+    return (f"{v} {-v} 0\nd {v} {-v} 0\n" * pairs).encode()
+
+
 def some_circuits(rng, given, owner):
     """Circuits for a formula, most of them winning."""
     return circuits.strategy(given, owner, rng, rng.choice((0.0, 0.0, 0.0, 0.2, 1.0)))
@@ -146,6 +190,14 @@ def spoil_lines(rng, text):
     else:
         lines[here], lines[there] = lines[there], lines[here]
     return b"".join(lines)
+
+
+def spoil_bytes(rng, text):
+    """Bytes of which one goes, is another one, or comes twice."""
+    if not text:
+        return b"a"
+    at = rng.randrange(len(text))
+    return text[:at] + rng.choice((b"", bytes([rng.randrange(256)]), text[at : at + 1] * 2, b"\0", b"\xff\xff")) + text[at + 1 :]
 
 
 def spoil(rng, text):

@@ -1,5 +1,5 @@
 /* OUT of a stopped run: the steps of its log are made on IN, one after the other. Nothing here is proved, and nothing is judged:
- * celdrinn_check says whether LOG leads to what this makes. The program does the same by `celdrinn apply`. */
+ * celdrinn_check says whether LOG leads to what this makes. */
 #define _GNU_SOURCE
 #include "replay.h"
 #include <limits.h>
