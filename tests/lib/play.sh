@@ -36,8 +36,7 @@ fi
 if is_asked memory; then
     "$CC" -O1 -fPIC -shared -o "$work/refuse.so" "$here/refuse.c" || exit 1
     k=1 why='' noticed=0 done=0
-    "$work/lib/test" once
-    [ $? -eq 0 ] || why="the call ends with another status than 0 where nothing is refused"
+    "$work/lib/test" once || why="the call ends with another status than 0 where nothing is refused"
     while [ $done -lt 10 ] && [ -z "$why" ]; do
         LD_PRELOAD=$work/refuse.so REFUSE=$k "$work/lib/test" once
         status=$?
