@@ -1,7 +1,6 @@
 pub mod FilePieces
 pub mod LogEntries
 pub mod SharedSteps
-pub mod SharedHints
 pub mod BothCheckers
 pub mod WholeLogs
 pub mod AuditSteps

@@ -1,4 +1,3 @@
-//! The judge's answer.
 use q_aig::Certificate;
 
 /// What the judge says of a trace.

@@ -1,7 +1,5 @@
 pub mod KnownValues
 pub mod ClauseReads
-pub mod ClauseValues
 pub mod FalseClause
 pub mod WordBits
-pub mod LineValues
-pub mod NodeValues
+pub mod WordVerdicts

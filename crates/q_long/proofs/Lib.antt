@@ -1,6 +1,0 @@
-pub mod Deciding
-pub mod Layers
-pub mod Winning
-pub mod Valuing
-pub mod Distant
-pub mod Refuting

@@ -1,3 +1,0 @@
-pub mod Valued
-pub mod Decided
-pub mod Distant

@@ -1,2 +1,0 @@
-pub mod LogParts
-pub mod CheckedParts
