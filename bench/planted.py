@@ -3,9 +3,11 @@
 
     bench/planted.py FOLDER [CRATE ..]      into a copy of the repository, as CRATE/must-fail/zz_NAME.edit
     bench/planted.py --once                 names each bug and each edit of which an old text does not stand exactly once
+    bench/planted.py --table [--check]      writes the table of docs/TESTING.md, or says whether it is what the bugs say
 
 In a copy `rt must-fail CRATE` says of each whether the prover refuses it. One that it does not refuse shows a contract that is too weak, or a bug that changes nothing.
 """
+import collections
 import glob
 import os
 import sys
@@ -14,13 +16,19 @@ HOME = os.path.dirname(os.path.realpath(__file__))
 CRATES = os.path.join(os.path.dirname(HOME), "crates")
 
 
-def bugs():
-    """Crate, name and text of each bug."""
+def parts():
+    """Crate, name, what is said and text of each bug."""
     with open(f"{HOME}/planted.txt", encoding="utf-8") as lines:
         for part in lines.read().split("\n\n"):
-            head, _, *text = part.strip("\n").split("\n")
+            head, said, *text = part.strip("\n").split("\n")
             _, crate, name = head.split(" ")
-            yield crate, name, "\n".join(text) + "\n"
+            yield crate, name, said.removeprefix("in: "), "\n".join(text) + "\n"
+
+
+def bugs():
+    """Crate, name and text of each bug."""
+    for crate, name, _, text in parts():
+        yield crate, name, text
 
 
 def edits():
@@ -70,6 +78,56 @@ def look():
     return 1 if strange else 0
 
 
+VERDICTS = {
+    "refused": "tried, and refused by a proof of the function",
+    "proves": "tried, and proves: it costs time alone",
+    "earlier": "refused on an earlier form of the sources, not tried anew",
+    "edit": "an edit before, refused as such",
+    "not tried": "not tried",
+}
+
+
+def verdict(said):
+    """What became of a bug."""
+    end = said.rsplit("; ", 1)[-1]
+    for word, verdict_of in (("refused on an earlier", "earlier"), ("refused when tried as an edit", "edit"), ("refused", "refused"), ("not tried", "not tried")):
+        if end.startswith(word):
+            return verdict_of
+    return "proves"
+
+
+def has_proof_file(crate, said, text):
+    """Whether a function that a bug changes has a proof file: then a refusal may show only that this no longer fits."""
+    function = said.split(": ")[0].split("::")[-1]
+    stems = {file.removeprefix("src/").removesuffix(".rt") for file, _, _ in changes(text)}
+    return any(os.path.isdir(place) for stem in stems for place in glob.glob(f"{CRATES}/{crate}/proofs/{stem}/**/{function}", recursive=True))
+
+
+def table():
+    """The table of docs/TESTING.md: how many bugs there are, by what became of them."""
+    counts = collections.Counter((verdict(said), has_proof_file(crate, said, text)) for crate, _, said, text in parts())
+    rows = [(words, counts[key, False], counts[key, True]) for key, words in VERDICTS.items()]
+    rows.append(("all", sum(row[1] for row in rows), sum(row[2] for row in rows)))
+    lines = ["| Bugs | in functions without a proof file | in others | all |", "|---|---|---|---|"]
+    return "\n".join(lines + [f"| {words} | {free} | {bound} | {free + bound} |" for words, free, bound in rows]) + "\n"
+
+
+def put_table(check):
+    """Writes the table, or says whether it is there."""
+    page = f"{os.path.dirname(HOME)}/docs/TESTING.md"
+    with open(page, encoding="utf-8") as lines:
+        text = lines.read()
+    before, rest = text.split("| Bugs |", 1)
+    behind = rest.split("\n\n", 1)[1]
+    wanted = before + table() + "\n" + behind
+    if check:
+        print("the table is what the bugs say" if wanted == text else "docs/TESTING.md has another table: bench/planted.py --table writes it")
+        return 0 if wanted == text else 1
+    with open(page, "w", encoding="utf-8") as out:
+        out.write(wanted)
+    return 0
+
+
 def plant(folder, crates):
     """Puts the bugs of these crates, or of all, into a copy."""
     for crate, name, text in bugs():
@@ -84,6 +142,8 @@ def main(words):
         sys.exit(__doc__)
     if words == ["--once"]:
         sys.exit(look())
+    if words[0] == "--table":
+        sys.exit(put_table(words[1:] == ["--check"]))
     plant(words[0], words[1:])
 
 

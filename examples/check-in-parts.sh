@@ -1,7 +1,8 @@
 #!/bin/sh
 # Checks one long log in parts, beside each other. The formulas between the parts are made by replay.awk, which is not trusted: a part
-# is verified only where its steps lead from the formula before it to the one behind it. So if all parts are verified, the parts one behind
-# the other lead from IN to OUT, whose truth value is one. That they have the words of LOG is compared here. `check --part` needs
+# is verified only where its steps lead from the formula before it to the one behind it. So if all parts are verified, `check` would
+# verify the parts one behind the other as one log from IN to OUT, and LOG, where it has the same words: theorems
+# (`checked_parts_are_checked`, `same_words_are_checked_alike` of crates/q_parts). That it has them is compared here. `check --part` needs
 # no formulas between parts: examples/many-machines.
 # Says `verified N` and ends with 0 then; else it says what `check` says of the first part that is refused, and ends with 1.
 # GNU parallel is called where it is there, and may use other machines, on which CELDRINN (by this name) has to be; else xargs is.

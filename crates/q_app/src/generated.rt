@@ -1,3 +1,4 @@
+//! The outcome of `gen`: its status and its line.
 ghost use Rattle.std.specs.Prelude.{◌≡◌};
 ghost use Rattle.q_command.specs.Sinks.{IsSaid, view_sink};
 ghost use Rattle.q_app.specs.Generating.{line_of_generated, status_of_generated};

@@ -1,3 +1,4 @@
+//! The five names of `rebuild` and `refute`: words that are five and differ.
 ghost use Rattle.std.specs.Prelude.{◌≡◌, ◌&&◌, option_map};
 ghost use Rattle.q_app.specs.Rebuilds.{five};
 ghost use Rattle.q_app.specs.RebuildWords.{are_four as spec_are_four, is_new as spec_is_new, rebuild_names};

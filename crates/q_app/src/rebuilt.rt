@@ -1,3 +1,4 @@
+//! The outcome of `rebuild`: its status and its line.
 ghost use Rattle.std.specs.Prelude.{◌≡◌};
 ghost use Rattle.q_command.specs.Sinks.{IsSaid, view_sink};
 ghost use Rattle.q_app.specs.RebuiltLines.{line_of_rebuilt, status_of_rebuilt};

@@ -1,3 +1,4 @@
+//! The outcome of `simplify`: its status and its line.
 ghost use Rattle.std.specs.Prelude.{◌≡◌};
 ghost use Rattle.q_command.specs.Sinks.{IsSaid, view_sink};
 ghost use Rattle.q_app.specs.Statuses.{status_of_ending, status_of_simplified};

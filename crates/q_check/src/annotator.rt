@@ -6,9 +6,11 @@ ghost use Rattle.q_judge.specs.Tried.{IsEndRefusal};
 ghost use Rattle.q_judge.specs.declared.error.CheckError.TheVariants.{NoMemory as MemoryError};
 ghost use Rattle.q_check.specs.Annotations.{HasForm, IsAnnotated};
 ghost use Rattle.q_check.specs.Checked.{IsRefusal};
+ghost use Rattle.q_check.specs.Replays.{IsNumberedStep, IsUnfitFor};
 
 use crate::annotating::{add, delete, drop_literal, fresh, remove};
 use crate::named::{Cut, Named};
+use crate::named_passing::make;
 use crate::numbered::NumberedBook;
 use crate::rows::StepRows;
 use q_judge::{CheckError, first_lit, load_clause, load_rest};
@@ -78,6 +80,23 @@ impl Annotator {
         let proof = annotate(&mut self.book, &mut self.rows, self.limits, step)?;
         self.steps += 1;
         Ok(proof)
+    }
+
+    /// Makes the step if it can be made, and shows nothing: another one does. The clauses have the numbers that they have where the step is
+    /// shown. After an error the annotator is as before.
+    pub fn pass(&mut self, step: &Step) -> Result<(), CheckError>
+        requires { self.old.steps < 2 ^ 61 }
+        ensures made { OnOk result (IsNumberedStep self.old.limits self.old.formula step.now
+            self.new.formula) }
+        ensures limits { self.new.limits ≡ self.old.limits }
+        ensures steps { OnOk result (self.new.steps ≡ self.old.steps + 1) }
+        ensures refused { IfErr result (IsUnfitFor self.old.limits (plain self.old.formula)
+            step.now) }
+        ensures unchanged { OnErr result (self.new ≡ self.old) }
+    {
+        make(&mut self.book, &mut self.rows, self.limits, step)?;
+        self.steps += 1;
+        Ok(())
     }
 
     /// Ends the check: blocks and clauses are those of the output, in any order.

@@ -1,13 +1,16 @@
 //! The checker of hints: it takes the steps of a log whose proof parts show that they are valid, and searches for
 //! nothing but whether a deletion by a pivot is implied, where the undo list is kept.
-ghost use Rattle.std.specs.Prelude.{◌≡◌, ◌<◌, ◌+◌, ◌^◌, [], IfOk, IfErr, OnOk, OnErr};
+ghost use Rattle.std.specs.Prelude.{◌≡◌, ◌<◌, ◌+◌, ◌^◌, [], false, IfOk, IfErr, OnOk, OnErr};
 ghost use Rattle.q_logic.specs.Prelude.{begun, plain, HintedValid, hinted_after, AreModerate, SameFormula};
 ghost use Rattle.q_judge.specs.Tried.{IsEndRefusal};
 ghost use Rattle.q_judge.specs.declared.error.CheckError.TheVariants.{NoMemory as MemoryError};
 ghost use Rattle.q_check.specs.Checked.{HasGrown};
 ghost use Rattle.q_check.specs.HintChecks.{IsHintRefusal, IsHintTried};
+ghost use Rattle.q_check.specs.Replays.{IsHintUnfitFor};
+ghost use Rattle.q_same_steps.specs.HintedMaking.{HintedApplies};
 
 use crate::checker::Verified;
+use crate::hint_passing::make;
 use crate::hinted::{add, delete, drop_literal, fresh, remove};
 use crate::named::{Cut, Named};
 use crate::numbered::NumberedBook;
@@ -97,6 +100,26 @@ impl HintChecker {
         if let Some(entry) = entry {
             self.undo.push_reserved(entry);
         }
+        self.steps += 1;
+        Ok(())
+    }
+
+    /// Makes the step if it can be made, without a look at its hints: another one judges it. What the undo list notes needs a judgement, so
+    /// it isn't kept. After an error the checker is as before.
+    pub fn pass(&mut self, step: &Step, proof: &Proof) -> Result<(), CheckError>
+        requires keeps { self.old.keeps ≡ false }
+        requires count { self.old.steps < 2 ^ 61 }
+        ensures fit { OnOk result (HintedApplies self.old.limits self.old.formula step.now
+            proof.now) }
+        ensures after { OnOk result (self.new.formula ≡ hinted_after self.old.formula step.now
+            proof.now) }
+        ensures kept { (self.new.limits ≡ self.old.limits) × (self.new.keeps ≡ self.old.keeps) × (self.new.undo ≡ self.old.undo) }
+        ensures steps { OnOk result (self.new.steps ≡ self.old.steps + 1) }
+        ensures refused { IfErr result (IsHintUnfitFor self.old.limits self.old.formula step.now
+            proof.now) }
+        ensures unchanged { OnErr result (self.new ≡ self.old) }
+    {
+        make(&mut self.book, &mut self.rows, self.settings, step, proof)?;
         self.steps += 1;
         Ok(())
     }

@@ -2,8 +2,9 @@
 use Rattle.std.proofs.Common.{◌≡◌, ◌≤◌, ◌<◌, ◌+◌, ◌-◌, ◌∙◌, refl, sym, ap, subst, arith, ℕ, Bool, true, false, cond, List, [], ◌∷◌, ◌++◌, length, take, drop, Option, Some, None, Ok, Err, append-nil, append_assoc, length-append, length-drop}
 use Rattle.std.proofs.lemmas.List.{take-append-drop, length-take-le}
 use Rattle.std.proofs.Math.Seq.{take-add, take-length}
-use Rattle.q_logic.specs.Prelude.{PrenexFormula, HintedSteps as AreValid, NumberedFormula, ProofPart, begun, standard, ProofStep}
+use Rattle.q_logic.specs.Prelude.{PrenexFormula, ProofPart, begun, standard, ProofStep}
 use Rattle.q_shares.specs.Shares.{Share, AreMade, count}
+use Rattle.q_shares.specs.HintedShares.{AreHintedMade}
 use Rattle.q_log.specs.declared.error.LogError.{LogError}
 use Rattle.q_log.specs.declared.error.LogError.TheVariants as log
 use Rattle.q_hinted.specs.Logs.{Entry as BothEntry, Entries, behind, onto, stopped, finished, read_entries, hinted_in}
@@ -26,7 +27,7 @@ use Rattle.q_command.specs.declared.part.Part.{Part}
 use Rattle.q_command.specs.declared.trial.Trial.{Trial}
 use Rattle.q_command.specs.declared.outcome.Outcome.{Outcome}
 use Rattle.q_command.specs.declared.outcome.Outcome.TheVariants.{Verified, RefusedLine, RefusedEnd, RefusedInput, ReadFault, NoMemory}
-use Rattle.q_command.proofs.LogEntries.{bare-append, length-bare, plain-number, steps_of-append, steps_of-length}
+use Rattle.q_command.proofs.LogEntries.{bare-append, length-bare, plain-number, hinted-number, steps_of-append, steps_of-length}
 use Rattle.q_command.proofs.SharedSteps.{count-more}
 use Rattle.q_command.proofs.WholeLogs.{refused-at, offends-at, says-like}
 
@@ -48,7 +49,7 @@ behind-behind xs ys o = ap (λ (es : List BothEntry). let e : Entries = record {
 -- whose turn the next step is
 pub is_turn : (j : Share) (es : List BothEntry) (x : Option ProofPart) (t : Bool) (n : ℕ) → AreLike x es → n ≡ length es → t ≡ j n → IsTurn j es x t
 is_turn j es None t n like c e = e ∙ ap j (c ∙ sym (plain-number es like))
-is_turn j es (Some x) t n like c e = tt
+is_turn j es (Some x) t n like c e = e ∙ ap j (c ∙ sym (hinted-number es like))
 
 -- so many steps were judged
 told-more : (j : Share) (es : List BothEntry) (e : BothEntry) (n old new : ℕ) → n ≡ length es → old ≡ count j 0 (steps_of (bare es)) → new ≡ cond (j n) (old + 1) old → new ≡ count j 0 (steps_of (bare (es ++ e ∷ [])))
@@ -204,21 +205,21 @@ refuses_step a bytes w e o h next F front s =
     let r : read_entries standard.bytes (front ++ bytes) ≡ behind s.entries (onto e o) = s.log bytes ∙ ap (behind s.entries) next in
     stops_convict (share_of a.trial.part) w F (front ++ bytes) s.entries e o (h F s.entries (like_log (front ++ bytes) s.entries e o r) s.steps) r
 
--- behind the plain steps stands a formula, and behind the others a numbered one
+-- behind the steps stands a formula
 plain-stand : (keep : Bool) (j : Share) (F : PrenexFormula) (ps : List Entry) (c : Option Checked) → IsBehindPlain keep j F ps c → AreMade j standard 0 F (steps_of ps)
 plain-stand keep j F ps None h = subst (λ (xs : List Entry). AreMade j standard 0 F (steps_of xs)) (sym h) tt
 plain-stand keep j F ps (Some c) h = h.leads.steps
 
-hinted-stand : (keep : Bool) (F : PrenexFormula) (hs : List HintedEntry) (c : Option HintChecked) → IsBehindHinted keep F hs c → (M : NumberedFormula) × AreValid standard (begun F) (hinted_of hs) M
-hinted-stand keep F hs None h = (begun F, subst (λ (xs : List HintedEntry). AreValid standard (begun F) (hinted_of xs) (begun F)) (sym h) refl)
-hinted-stand keep F hs (Some c) h = (c.formula, h.steps)
+hinted-stand : (keep : Bool) (j : Share) (F : PrenexFormula) (hs : List HintedEntry) (c : Option HintChecked) → IsBehindHinted keep j F hs c → AreHintedMade j standard 0 (begun F) (hinted_of hs)
+hinted-stand keep j F hs None h = subst (λ (xs : List HintedEntry). AreHintedMade j standard 0 (begun F) (hinted_of xs)) (sym h) tt
+hinted-stand keep j F hs (Some c) h = h.steps
 
 offends : (d : Share) (F : PrenexFormula) (j : Judges) (log : List ℕ) (es : List BothEntry) (e : LogError) (n c : ℕ) → read_entries standard.bytes log ≡ behind es (stopped e) → AreBehind d F j es → IsOffence (Some e) n c → IsRefusedShared d F log n c
 offends d F j log es e n c r b o =
     let p = plain-stand j.keeps_undo d F (plain_in es) j.plain b.plain in
-    let h = hinted-stand j.keeps_undo F (hinted_in es) j.hinted b.hinted in
+    let h = hinted-stand j.keeps_undo d F (hinted_in es) j.hinted b.hinted in
     let same : behind es (stopped e) ≡ record { entries = es; refused = Some e } = ap (λ (xs : List BothEntry). let x : Entries = record { entries = xs; refused = Some e } in x) (append-nil es) in
-    offends-at d F log es (Some e) n c h.0 (r ∙ same) p h.1 o
+    offends-at d F log es (Some e) n c (r ∙ same) p h o
 
 pub stops_offence : (d : Share) (F : PrenexFormula) (w : Outcome) (j : Judges) (text : List ℕ) (es : List BothEntry) (e : LogError) → w ≡ log_refused e → AreBehind d F j es → (¬ (e ≡ log.NoMemory) → read_entries standard.bytes text ≡ behind es (stopped e)) → Stops d w F text
 stops_offence d F w j text es (log.BadLine n) q b r = subst (λ (x : Outcome). Stops d x F text) (sym q) (offends d F j text es (log.BadLine n) n 1 (r (λ x. cc)) b (refl, refl))

@@ -1,7 +1,7 @@
 -- The checkers of both profiles, step by step, and their ends.
-use Rattle.std.proofs.Common.{◌≡◌, inl, inr, ◌<◌, ◌==◌, ◌∙◌, refl, sym, ap, subst, arith, ℕ, Bool, true, false, List, [], ◌∷◌, ◌++◌, map, length, append-nil, length-append, Option, Some, None, Result, Ok, Err, IfOk, IfErr, OnOk, IsSome, IsSomeAnd, is_some}
+use Rattle.std.proofs.Common.{◌≡◌, inl, inr, ◌<◌, ◌==◌, ◌+◌, ◌∙◌, refl, sym, ap, subst, arith, ℕ, Bool, true, false, List, [], ◌∷◌, ◌++◌, map, length, append-nil, length-append, Option, Some, None, Result, Ok, Err, IfOk, IfErr, OnOk, IsSome, IsSomeAnd, is_some}
 use Rattle.std.proofs.lemmas.Bool.Decides.{nat_tests}
-use Rattle.q_logic.specs.Prelude.{PrenexFormula, Prefix, Matrix, Hinted, HintedSteps, HintedValid, HintedCause, NumberedFormula, ProofPart, begun, plain, strip, hinted_after, standard, numbered, blocks, SameBlocks, SameFormula, AreAlike, ProofStep, Valid, Cause, after, UndoEntry, Undos}
+use Rattle.q_logic.specs.Prelude.{PrenexFormula, Prefix, Matrix, Hinted, HintedValid, NumberedFormula, ProofPart, begun, plain, strip, hinted_after, standard, numbered, blocks, SameBlocks, SameFormula, AreAlike, ProofStep, Valid, Cause, after, UndoEntry, Undos}
 use Rattle.q_logic.specs.declared.limits.Limits.{Limits}
 use Rattle.q_logic.proofs.Common.{alike_itself, alike_swapped, live-numbered}
 use Rattle.q_logic.proofs.HintedRuns.{hinted-valid, hinted-after}
@@ -12,18 +12,21 @@ use Rattle.q_judge.specs.declared.error.CheckError.TheVariants.{Refused, NoMemor
 use Rattle.q_check.specs.declared.checker.Verified.{Verified}
 use Rattle.q_check.specs.Alike.{Leads}
 use Rattle.q_check.specs.Checked.{Checked, HasGrown, IsRefusal}
-use Rattle.q_check.specs.Replays.{IsUnfitFor}
+use Rattle.q_check.specs.Replays.{IsUnfitFor, IsHintUnfitFor}
 use Rattle.q_check.specs.HintChecks.{HintChecked, IsHintRefusal}
 use Rattle.q_check.proofs.CheckerRuns.{leads_begin, leads_more, leads_undos}
 use Rattle.q_same_steps.specs.Making.{Applies, Unfit, made}
+use Rattle.q_same_steps.specs.HintedMaking.{hinted_made}
 use Rattle.q_shares.specs.Shares.{Share, AreMade, ShareRun, judged}
+use Rattle.q_shares.specs.HintedShares.{AreHintedMade}
 use Rattle.q_command.specs.Parts.{IsWhole}
 use Rattle.q_command.specs.Logs.{Entry, HintedEntry, steps_of, hinted_of, EndsApart}
 use Rattle.q_command.specs.Judging.{AreBehind, ArePure, IsFree, IsMade, LeadsMade, SameTask, IsBehindPlain, IsBehindHinted, HasTakenPlain, HasTakenHinted, IsBadPlain, IsBadHinted, HavePassedPlain, HaveEndedPlain, HaveStoppedPlain, HavePassed, HaveStopped, Leaves, plain_in, bare}
-use Rattle.q_command.specs.LazyCheckers.{IsHeld, first_in, IsReadyPlain, IsReadyHinted, IsNewPlain, IsSteppedPlain, KeepsNone, new_hinted, HasSteppedPlain, HasSteppedHinted, IsEndedPlain, IsEndedHinted, hints_taken}
+use Rattle.q_command.specs.LazyCheckers.{IsHeld, first_in, IsReadyPlain, IsReadyHinted, IsNewPlain, IsSteppedPlain, IsSteppedHinted, KeepsNone, KeepsNoHinted, new_hinted, HasSteppedPlain, HasSteppedHinted, IsEndedPlain, IsEndedHinted, hints_taken}
 use Rattle.q_command.specs.declared.judges.Judges.{Judges}
 use Rattle.q_command.proofs.SharedSteps.{judged-cause, made_begin, made_more, whole-leads}
-use Rattle.q_command.proofs.LogEntries.{steps_of-length, plain_in-append, hinted_in-append, steps_of-append, hinted_of-append, strip-append, hinted_in-plain, bare-plain, bare-hinted, stripped-steps, only-plain}
+use Rattle.q_command.proofs.SharedHints.{Fits as FitsHinted, Fails as FailsHinted, are-hinted-more, hinted-made-more}
+use Rattle.q_command.proofs.LogEntries.{steps_of-length, plain_in-append, hinted_in-append, steps_of-append, hinted_of-append, strip-append, hinted_in-plain, bare-plain, bare-hinted, stripped-steps, only-plain, hinted_of-length}
 
 pub plain-begun : (F : PrenexFormula) → plain (begun F) ≡ F
 plain-begun F = ap (λ (X : Matrix). let G : PrenexFormula = record { prefix = F.prefix; matrix = X } in G) (live-numbered F.matrix)
@@ -85,61 +88,59 @@ begun-plain : (j : Share) (F : PrenexFormula) (ps : List Entry) (c : Checked) �
 begun-plain j F ps c z a = subst (λ (xs : List Entry). LeadsMade j F (steps_of xs) c.formula) (sym z) (made_begin j F c.formula a)
 
 -- one step with its proof part more
-steps-more : (N M : NumberedFormula) (hs : List Hinted) (h : Hinted) (E : NumberedFormula) → HintedSteps standard N hs M → HintedValid standard M h.step h.proof → E ≡ hinted_after M h.step h.proof → HintedSteps standard N (hs ++ h ∷ []) E
-steps-more N M [] h E e v q =
-    let w : HintedValid standard N h.step h.proof = subst (λ (G : NumberedFormula). HintedValid standard G h.step h.proof) (sym e) v in
-    (w, ap (λ (G : NumberedFormula). hinted_after G h.step h.proof) e ∙ sym q)
-steps-more N M (x ∷ hs) h E (u, r) v q = (u, steps-more (hinted_after N x.step x.proof) M hs h E r v q)
-
-more-hinted : (keep : Bool) (F : PrenexFormula) (hs : List HintedEntry) (n : ℕ) (s : ProofStep) (t : ProofPart) (N : NumberedFormula) (old : List UndoEntry) (new : HintChecked) → HintedSteps standard (begun F) (hinted_of hs) N → Leads standard F (strip (hinted_of hs)) (plain N) → (keep ≡ true → Undos F (strip (hinted_of hs)) old) → new.limits ≡ standard → new.keeps ≡ keep → HintedValid standard N s t → new.formula ≡ hinted_after N s t → HasGrown keep (plain N) s old new.undo → HasTakenHinted keep F (hs ++ (n, record { step = s; proof = t }) ∷ []) new
-more-hinted keep F hs n s t N old new r l u m k v a g =
+more-hinted : (keep : Bool) (j : Share) (F : PrenexFormula) (hs : List HintedEntry) (n : ℕ) (s : ProofStep) (t : ProofPart) (N : NumberedFormula) (old : List UndoEntry) (new : HintChecked) → AreHintedMade j standard 0 (begun F) (hinted_of hs) → N ≡ hinted_made (begun F) (hinted_of hs) → (IsWhole j → Leads standard F (strip (hinted_of hs)) (plain N)) → (keep ≡ true → IsWhole j → Undos F (strip (hinted_of hs)) old) → new.limits ≡ standard → new.keeps ≡ keep → FitsHinted (j (length hs)) standard N s t → new.formula ≡ hinted_after N s t → (j (length hs) ≡ true → HasGrown keep (plain N) s old new.undo) → HasTakenHinted keep j F (hs ++ (n, record { step = s; proof = t }) ∷ []) new
+more-hinted keep j F hs n s t N old new r q l u m k v a g =
     let h : Hinted = record { step = s; proof = t } in
+    let E : NumberedFormula = hinted_made (begun F) (hinted_of hs) in
     let e : hinted_of (hs ++ (n, h) ∷ []) ≡ hinted_of hs ++ h ∷ [] = hinted_of-append hs ((n, h) ∷ []) in
     let d : strip (hinted_of (hs ++ (n, h) ∷ [])) ≡ strip (hinted_of hs) ++ s ∷ [] = ap strip e ∙ strip-append (hinted_of hs) (h ∷ []) in
-    let b : AreAlike (after (plain N) s) (plain new.formula) = subst (λ (M : NumberedFormula). AreAlike (after (plain N) s) (plain M)) (sym a) (hinted-after standard N s t v) in
+    let z : length (hinted_of hs) ≡ length hs = hinted_of-length hs in
+    let i : length hs ≡ 0 + length (hinted_of hs) = omega (arith, z) in
+    let v' : FitsHinted (j (0 + length (hinted_of hs))) standard E s t = subst (λ (x : ℕ). FitsHinted (j x) standard E s t) i (subst (λ (M : NumberedFormula). FitsHinted (j (length hs)) standard M s t) q v) in
     record {
       some = omega (arith, length-append hs ((n, h) ∷ []));
       limits = m;
       keeps = k;
-      steps = subst (λ (xs : List Hinted). HintedSteps standard (begun F) xs new.formula) (sym e) (steps-more (begun F) N (hinted_of hs) h new.formula r v a);
-      leads = subst (λ (ss : List ProofStep). Leads standard F ss (plain new.formula)) (sym d) (leads_more standard F (strip (hinted_of hs)) (plain N) (plain new.formula) s l (hinted-valid standard N s t v) b);
-      undone = λ x. subst (λ (ss : List ProofStep). Undos F ss new.undo) (sym d) (grown-plain keep F (plain N) (strip (hinted_of hs)) s old new.undo l u g x);
+      steps = subst (λ (xs : List Hinted). AreHintedMade j standard 0 (begun F) xs) (sym e) (are-hinted-more j standard 0 (begun F) (hinted_of hs) h r v');
+      last = a ∙ (ap (λ (M : NumberedFormula). hinted_after M s t) q ∙ (sym (hinted-made-more (begun F) (hinted_of hs) h) ∙ ap (λ (xs : List Hinted). hinted_made (begun F) xs) (sym e)));
+      leads = λ w.
+          let x : HintedValid standard N s t = subst (λ (b : Bool). FitsHinted b standard N s t) (w (length hs)) v in
+          let b : AreAlike (after (plain N) s) (plain new.formula) = subst (λ (M : NumberedFormula). AreAlike (after (plain N) s) (plain M)) (sym a) (hinted-after standard N s t x) in
+          subst (λ (ss : List ProofStep). Leads standard F ss (plain new.formula)) (sym d) (leads_more standard F (strip (hinted_of hs)) (plain N) (plain new.formula) s (l w) (hinted-valid standard N s t x) b);
+      undone = λ x w. subst (λ (ss : List ProofStep). Undos F ss new.undo) (sym d) (grown-plain keep F (plain N) (strip (hinted_of hs)) s old new.undo (l w) (λ y. u y w) (g (w (length hs))) x);
     }
 
-pub hinted-goes-on : (keep : Bool) (F : PrenexFormula) (hs : List HintedEntry) (n : ℕ) (s : ProofStep) (t : ProofPart) (old new : HintChecked) → HasTakenHinted keep F hs old → HintedValid old.limits old.formula s t → new.formula ≡ hinted_after old.formula s t → HasGrown old.keeps (plain old.formula) s old.undo new.undo → new.limits ≡ old.limits → new.keeps ≡ old.keeps → HasTakenHinted keep F (hs ++ (n, record { step = s; proof = t }) ∷ []) new
-hinted-goes-on keep F hs n s t old new h v a g m k =
-    more-hinted keep F hs n s t old.formula old.undo new h.steps h.leads h.undone (m ∙ h.limits) (k ∙ h.keeps)
-    (subst (λ (x : Limits). HintedValid x old.formula s t) h.limits v) a (subst (λ (b : Bool). HasGrown b (plain old.formula) s old.undo new.undo) h.keeps g)
+hinted-goes-on : (keep : Bool) (j : Share) (F : PrenexFormula) (hs : List HintedEntry) (n : ℕ) (s : ProofStep) (t : ProofPart) (b : Bool) (u : Unit) (old new : HintChecked) → b ≡ j (length hs) → HasTakenHinted keep j F hs old → IsSteppedHinted s t b (Ok u) old new → HasTakenHinted keep j F (hs ++ (n, record { step = s; proof = t }) ∷ []) new
+hinted-goes-on keep j F hs n s t b u old new q h r =
+    more-hinted keep j F hs n s t old.formula old.undo new h.steps h.last h.leads h.undone (r.limits ∙ h.limits) (r.keeps ∙ h.keeps)
+    (subst (λ (m : Limits). FitsHinted (j (length hs)) m old.formula s t) h.limits (subst (λ (x : Bool). FitsHinted x old.limits old.formula s t) q r.valid))
+    r.after (λ w. subst (λ (x : Bool). HasGrown x (plain old.formula) s old.undo new.undo) h.keeps (r.undo (q ∙ w)))
 
-pub hinted-wrong : (keep : Bool) (F : PrenexFormula) (hs : List HintedEntry) (s : ProofStep) (t : ProofPart) (c : HintChecked) (e : CheckError) → HasTakenHinted keep F hs c → IsHintRefusal c.limits c.formula s t e → IsBadHinted F hs s t e
-hinted-wrong keep F hs s t c (Refused n) h r = record {
-  last = c.formula;
-  steps = h.steps;
-  cause = subst (λ (x : Limits). HintedCause x c.formula s t n) h.limits r;
+-- a refusal, as it is said of the numbered formula behind the steps
+hinted-refused : (b : Bool) (j : Share) (F : PrenexFormula) (hs : List HintedEntry) (s : ProofStep) (t : ProofPart) (c : HintChecked) (e : CheckError) → b ≡ j (length hs) → c.limits ≡ standard → AreHintedMade j standard 0 (begun F) (hinted_of hs) → c.formula ≡ hinted_made (begun F) (hinted_of hs) → judged b (IsHintRefusal c.limits c.formula s t e) (IsHintUnfitFor c.limits c.formula s t e) → IsBadHinted j F hs s t e
+hinted-refused b j F hs s t c (Refused n) q m a l r = record {
+  steps = a;
+  cause = subst (λ (x : Bool). FailsHinted x standard (hinted_made (begun F) (hinted_of hs)) s t n) q
+      (subst (λ (N : NumberedFormula). FailsHinted b standard N s t n) l (subst (λ (x : Limits). FailsHinted b x c.formula s t n) m (of-refused b r)));
 }
-hinted-wrong keep F hs s t c NoMemory h r = tt
+  where
+    of-refused : (b : Bool) → judged b (IsHintRefusal c.limits c.formula s t (Refused n)) (IsHintUnfitFor c.limits c.formula s t (Refused n)) → FailsHinted b c.limits c.formula s t n
+    of-refused true h = h
+    of-refused false h = h
+hinted-refused b j F hs s t c NoMemory q m a l r = tt
 
 leads-begun : (F : PrenexFormula) → Leads standard F [] (plain (begun F))
 leads-begun F = leads_begin standard F (plain (begun F)) (subst (λ (G : PrenexFormula). AreAlike F G) (sym (plain-begun F)) (alike_itself F))
 
-taken-first : (keep : Bool) (F : PrenexFormula) (n : ℕ) (s : ProofStep) (t : ProofPart) (first new : HintChecked) → first ≡ new_hinted keep F → HintedValid first.limits first.formula s t → new.formula ≡ hinted_after first.formula s t → HasGrown first.keeps (plain first.formula) s first.undo new.undo → new.limits ≡ first.limits → new.keeps ≡ first.keeps → HasTakenHinted keep F ((n, record { step = s; proof = t }) ∷ []) new
-taken-first keep F n s t first new e v a g m k =
-    let w : HintedValid standard (begun F) s t = subst (λ (c : HintChecked). HintedValid c.limits c.formula s t) e v in
-    let b : new.formula ≡ hinted_after (begun F) s t = subst (λ (c : HintChecked). new.formula ≡ hinted_after c.formula s t) e a in
-    let d : HasGrown keep (plain (begun F)) s [] new.undo = subst (λ (c : HintChecked). HasGrown c.keeps (plain c.formula) s c.undo new.undo) e g in
-    more-hinted keep F [] n s t (begun F) [] new refl (leads-begun F) (λ x. refl) (m ∙ ap (λ (c : HintChecked). c.limits) e) (k ∙ ap (λ (c : HintChecked). c.keeps) e) w b d
+hinted-begins : (keep : Bool) (j : Share) (F : PrenexFormula) (hs : List HintedEntry) (n : ℕ) (s : ProofStep) (t : ProofPart) (b : Bool) (u : Unit) (new : HintChecked) → b ≡ j (length hs) → hs ≡ [] → IsSteppedHinted s t b (Ok u) (new_hinted keep F) new → HasTakenHinted keep j F (hs ++ (n, record { step = s; proof = t }) ∷ []) new
+hinted-begins keep j F hs n s t b u new q z r =
+    let o : b ≡ j 0 = q ∙ ap (λ (xs : List HintedEntry). j (length xs)) z in
+    subst (λ (xs : List HintedEntry). HasTakenHinted keep j F (xs ++ (n, record { step = s; proof = t }) ∷ []) new) (sym z)
+    (more-hinted keep j F [] n s t (begun F) [] new tt refl (λ w. leads-begun F) (λ x w. refl) r.limits r.keeps
+    (subst (λ (x : Bool). FitsHinted x standard (begun F) s t) o r.valid) r.after (λ w. r.undo (o ∙ w)))
 
-pub hinted-begins : (keep : Bool) (F : PrenexFormula) (hs : List HintedEntry) (n : ℕ) (s : ProofStep) (t : ProofPart) (first new : HintChecked) → hs ≡ [] → first ≡ new_hinted keep F → HintedValid first.limits first.formula s t → new.formula ≡ hinted_after first.formula s t → HasGrown first.keeps (plain first.formula) s first.undo new.undo → new.limits ≡ first.limits → new.keeps ≡ first.keeps → HasTakenHinted keep F (hs ++ (n, record { step = s; proof = t }) ∷ []) new
-hinted-begins keep F hs n s t first new z e v a g m k =
-    subst (λ (xs : List HintedEntry). HasTakenHinted keep F (xs ++ (n, record { step = s; proof = t }) ∷ []) new) (sym z) (taken-first keep F n s t first new e v a g m k)
-
-pub hinted-wrong-first : (keep : Bool) (F : PrenexFormula) (hs : List HintedEntry) (s : ProofStep) (t : ProofPart) (c : HintChecked) (e : CheckError) → hs ≡ [] → c ≡ new_hinted keep F → IsHintRefusal c.limits c.formula s t e → IsBadHinted F hs s t e
-hinted-wrong-first keep F hs s t c (Refused n) z q r = record {
-  last = begun F;
-  steps = subst (λ (xs : List HintedEntry). HintedSteps standard (begun F) (hinted_of xs) (begun F)) (sym z) refl;
-  cause = subst (λ (x : HintChecked). HintedCause x.limits x.formula s t n) q r;
-}
-hinted-wrong-first keep F hs s t c NoMemory z q r = tt
+hinted-begun : (j : Share) (F : PrenexFormula) (hs : List HintedEntry) → hs ≡ [] → AreHintedMade j standard 0 (begun F) (hinted_of hs) × (begun F ≡ hinted_made (begun F) (hinted_of hs))
+hinted-begun j F hs z = subst (λ (xs : List HintedEntry). AreHintedMade j standard 0 (begun F) (hinted_of xs) × (begun F ≡ hinted_made (begun F) (hinted_of xs))) (sym z) (tt, refl)
 
 -- a step goes to the checker of its profile
 pub behind-plain : (d : Share) (F : PrenexFormula) (old new : Judges) (es : List BothEntry) (n : ℕ) (s : ProofStep) → (IsBehindPlain old.keeps_undo d F (plain_in es) old.plain → IsBehindPlain old.keeps_undo d F (plain_in es ++ (n, s) ∷ []) new.plain) → IsHeld F new.origin → SameTask old new → new.hinted ≡ old.hinted → AreBehind d F old es → AreBehind d F new (es ++ (n, s, None) ∷ [])
@@ -147,24 +148,24 @@ behind-plain d F old new es n s f held same h b =
     let p : IsBehindPlain old.keeps_undo d F (plain_in es ++ (n, s) ∷ []) new.plain = f b.plain in
     let q : IsBehindPlain old.keeps_undo d F (plain_in (es ++ (n, s, None) ∷ [])) new.plain = subst (λ (ps : List Entry). IsBehindPlain old.keeps_undo d F ps new.plain) (sym (plain_in-append es ((n, s, None) ∷ []))) p in
     let i : hinted_in (es ++ (n, s, None) ∷ []) ≡ hinted_in es = hinted_in-append es ((n, s, None) ∷ []) ∙ append-nil (hinted_in es) in
-    let j : IsBehindHinted old.keeps_undo F (hinted_in (es ++ (n, s, None) ∷ [])) new.hinted = subst (λ (o : Option HintChecked). IsBehindHinted old.keeps_undo F (hinted_in (es ++ (n, s, None) ∷ [])) o) (sym h) (subst (λ (hs : List HintedEntry). IsBehindHinted old.keeps_undo F hs old.hinted) (sym i) b.hinted) in
+    let j : IsBehindHinted old.keeps_undo d F (hinted_in (es ++ (n, s, None) ∷ [])) new.hinted = subst (λ (o : Option HintChecked). IsBehindHinted old.keeps_undo d F (hinted_in (es ++ (n, s, None) ∷ [])) o) (sym h) (subst (λ (hs : List HintedEntry). IsBehindHinted old.keeps_undo d F hs old.hinted) (sym i) b.hinted) in
     record {
       origin = held;
       plain = subst (λ (k : Bool). IsBehindPlain k d F (plain_in (es ++ (n, s, None) ∷ [])) new.plain) (sym same.keeps) q;
-      hinted = subst (λ (k : Bool). IsBehindHinted k F (hinted_in (es ++ (n, s, None) ∷ [])) new.hinted) (sym same.keeps) j;
+      hinted = subst (λ (k : Bool). IsBehindHinted k d F (hinted_in (es ++ (n, s, None) ∷ [])) new.hinted) (sym same.keeps) j;
     }
 
-pub behind-hinted : (d : Share) (F : PrenexFormula) (old new : Judges) (es : List BothEntry) (n : ℕ) (s : ProofStep) (t : ProofPart) → ((hs : List HintedEntry) → (line : ℕ) → IsBehindHinted old.keeps_undo F hs old.hinted → IsBehindHinted old.keeps_undo F (hs ++ (line, record { step = s; proof = t }) ∷ []) new.hinted) → IsHeld F new.origin → SameTask old new → new.plain ≡ old.plain → AreBehind d F old es → AreBehind d F new (es ++ (n, s, Some t) ∷ [])
+pub behind-hinted : (d : Share) (F : PrenexFormula) (old new : Judges) (es : List BothEntry) (n : ℕ) (s : ProofStep) (t : ProofPart) → (IsBehindHinted old.keeps_undo d F (hinted_in es) old.hinted → IsBehindHinted old.keeps_undo d F (hinted_in es ++ (n, record { step = s; proof = t }) ∷ []) new.hinted) → IsHeld F new.origin → SameTask old new → new.plain ≡ old.plain → AreBehind d F old es → AreBehind d F new (es ++ (n, s, Some t) ∷ [])
 behind-hinted d F old new es n s t f held same h b =
     let more : List BothEntry = es ++ (n, s, Some t) ∷ [] in
-    let p : IsBehindHinted old.keeps_undo F (hinted_in es ++ (n, record { step = s; proof = t }) ∷ []) new.hinted = f (hinted_in es) n b.hinted in
-    let q : IsBehindHinted old.keeps_undo F (hinted_in more) new.hinted = subst (λ (hs : List HintedEntry). IsBehindHinted old.keeps_undo F hs new.hinted) (sym (hinted_in-append es ((n, s, Some t) ∷ []))) p in
+    let p : IsBehindHinted old.keeps_undo d F (hinted_in es ++ (n, record { step = s; proof = t }) ∷ []) new.hinted = f b.hinted in
+    let q : IsBehindHinted old.keeps_undo d F (hinted_in more) new.hinted = subst (λ (hs : List HintedEntry). IsBehindHinted old.keeps_undo d F hs new.hinted) (sym (hinted_in-append es ((n, s, Some t) ∷ []))) p in
     let i : plain_in more ≡ plain_in es = plain_in-append es ((n, s, Some t) ∷ []) ∙ append-nil (plain_in es) in
     let j : IsBehindPlain old.keeps_undo d F (plain_in more) new.plain = subst (λ (o : Option Checked). IsBehindPlain old.keeps_undo d F (plain_in more) o) (sym h) (subst (λ (ps : List Entry). IsBehindPlain old.keeps_undo d F ps old.plain) (sym i) b.plain) in
     record {
       origin = held;
       plain = subst (λ (k : Bool). IsBehindPlain k d F (plain_in more) new.plain) (sym same.keeps) j;
-      hinted = subst (λ (k : Bool). IsBehindHinted k F (hinted_in more) new.hinted) (sym same.keeps) q;
+      hinted = subst (λ (k : Bool). IsBehindHinted k d F (hinted_in more) new.hinted) (sym same.keeps) q;
     }
 
 -- what is in a place that is ready
@@ -205,19 +206,41 @@ filled-plain-none j new h f =
     let p : (F : PrenexFormula) × IsHeld F j.origin = some-held j.origin in
     ready-plain-none j.keeps_undo p.0 j.plain new (h p.0 p.1) f.keeps f.plain
 
+ready-hinted-none : (keep : Bool) (F : PrenexFormula) (old new : Option HintChecked) → IsReadyHinted keep F old new → keep ≡ false → KeepsNoHinted old → KeepsNoHinted new
+ready-hinted-none keep F (Some c) new h e k = subst (λ (o : Option HintChecked). KeepsNoHinted o) (sym h) k
+ready-hinted-none keep F None new h e k = subst (λ (o : Option HintChecked). KeepsNoHinted o) (sym h) e
+
+pub filled-hinted-none : (j : Judges) (new : Option HintChecked) → ((F : PrenexFormula) → IsHeld F j.origin → IsReadyHinted j.keeps_undo F j.hinted new) → IsFree j → KeepsNoHinted new
+filled-hinted-none j new h f =
+    let p : (F : PrenexFormula) × IsHeld F j.origin = some-held j.origin in
+    ready-hinted-none j.keeps_undo p.0 j.hinted new (h p.0 p.1) f.keeps f.hinted
+
 pub stepped-none : (s : ProofStep) (t : Bool) (r : Result Unit CheckError) (old new : Option Checked) → HasSteppedPlain s t r old new → KeepsNone old → KeepsNone new
 stepped-none s t r (Some c) (Some d) h k = h.keeps ∙ k
 stepped-none s t r (Some c) None h k = absurd h
 stepped-none s t r None new h k = absurd h
 
--- and behind a step, of either profile
-pub free_after : (j k : Judges) (mid : Option Checked) (s : ProofStep) (t : Bool) (r : Result Unit CheckError) → ((F : PrenexFormula) → IsHeld F j.origin → IsReadyPlain j.keeps_undo F j.plain mid) → HasSteppedPlain s t r mid k.plain → k.keeps_undo ≡ j.keeps_undo → OnOk r (IsFree j → IsFree k)
-free_after j k mid s t (Ok u) h b e = λ f. record { keeps = e ∙ f.keeps; plain = stepped-none s t (Ok u) mid k.plain b (filled-plain-none j mid h f) }
-free_after j k mid s t (Err w) h b e = tt
+stepped-hinted-none : (s : ProofStep) (t : ProofPart) (b : Bool) (r : Result Unit CheckError) (old new : Option HintChecked) → HasSteppedHinted s t b r old new → KeepsNoHinted old → KeepsNoHinted new
+stepped-hinted-none s t b r (Some c) (Some d) h k = h.keeps ∙ k
+stepped-hinted-none s t b r (Some c) None h k = absurd h
+stepped-hinted-none s t b r None new h k = absurd h
 
-pub free_beside : (j k : Judges) (r : Result Unit CheckError) → SameTask j k → k.plain ≡ j.plain → OnOk r (IsFree j → IsFree k)
-free_beside j k (Ok u) s p = λ f. record { keeps = s.keeps ∙ f.keeps; plain = subst (λ (o : Option Checked). KeepsNone o) (sym p) f.plain }
-free_beside j k (Err w) s p = tt
+-- and behind a step, of either profile
+pub free_after : (j k : Judges) (mid : Option Checked) (s : ProofStep) (t : Bool) (r : Result Unit CheckError) → ((F : PrenexFormula) → IsHeld F j.origin → IsReadyPlain j.keeps_undo F j.plain mid) → HasSteppedPlain s t r mid k.plain → k.keeps_undo ≡ j.keeps_undo → k.hinted ≡ j.hinted → OnOk r (IsFree j → IsFree k)
+free_after j k mid s t (Ok u) h b e x = λ f. record {
+  keeps = e ∙ f.keeps;
+  plain = stepped-none s t (Ok u) mid k.plain b (filled-plain-none j mid h f);
+  hinted = subst (λ (o : Option HintChecked). KeepsNoHinted o) (sym x) f.hinted;
+}
+free_after j k mid s t (Err w) h b e x = tt
+
+pub free_after_hinted : (j k : Judges) (mid : Option HintChecked) (s : ProofStep) (t : ProofPart) (b : Bool) (r : Result Unit CheckError) → ((F : PrenexFormula) → IsHeld F j.origin → IsReadyHinted j.keeps_undo F j.hinted mid) → HasSteppedHinted s t b r mid k.hinted → k.keeps_undo ≡ j.keeps_undo → k.plain ≡ j.plain → OnOk r (IsFree j → IsFree k)
+free_after_hinted j k mid s t b (Ok u) h q e x = λ f. record {
+  keeps = e ∙ f.keeps;
+  plain = subst (λ (o : Option Checked). KeepsNone o) (sym x) f.plain;
+  hinted = stepped-hinted-none s t b (Ok u) mid k.hinted q (filled-hinted-none j mid h f);
+}
+free_after_hinted j k mid s t b (Err w) h q e x = tt
 
 pub filled-hinted-some : (keep : Bool) (o : Option PrenexFormula) (old new : Option HintChecked) → ((F : PrenexFormula) → IsHeld F o → IsReadyHinted keep F old new) → IsSome new
 filled-hinted-some keep o old new h =
@@ -255,47 +278,52 @@ refusal-plain keep F s t (Err e) (Some c) mid new h k = λ j ps q b.
 refusal-plain keep F s t (Err e) None (Some c) new h k = λ j ps q z. refused-plain t j F ps s c e q h.limits (begun-plain j F ps c z h.alike) (refuses-plain s t e c new k)
 refusal-plain keep F s t (Err e) None None new h k = absurd h
 
-goes-on-hinted : (keep : Bool) (F : PrenexFormula) (s : ProofStep) (t : ProofPart) (u : Unit) (c : HintChecked) (new : Option HintChecked) → HasSteppedHinted s t (Ok u) (Some c) new → (hs : List HintedEntry) (line : ℕ) → HasTakenHinted keep F hs c → IsBehindHinted keep F (hs ++ (line, record { step = s; proof = t }) ∷ []) new
-goes-on-hinted keep F s t u c (Some d) k hs line b = hinted-goes-on keep F hs line s t c d b k.valid k.after k.undo k.limits k.keeps
-goes-on-hinted keep F s t u c None k hs line b = absurd k
+goes-on-hinted : (keep : Bool) (F : PrenexFormula) (s : ProofStep) (t : ProofPart) (b : Bool) (u : Unit) (c : HintChecked) (new : Option HintChecked) → HasSteppedHinted s t b (Ok u) (Some c) new → (j : Share) (hs : List HintedEntry) (line : ℕ) → b ≡ j (length hs) → HasTakenHinted keep j F hs c → IsBehindHinted keep j F (hs ++ (line, record { step = s; proof = t }) ∷ []) new
+goes-on-hinted keep F s t b u c (Some d) k j hs line q h = hinted-goes-on keep j F hs line s t b u c d q h k
+goes-on-hinted keep F s t b u c None k j hs line q h = absurd k
 
-begins-hinted : (keep : Bool) (F : PrenexFormula) (s : ProofStep) (t : ProofPart) (u : Unit) (new : Option HintChecked) → HasSteppedHinted s t (Ok u) (Some (new_hinted keep F)) new → (hs : List HintedEntry) (line : ℕ) → hs ≡ [] → IsBehindHinted keep F (hs ++ (line, record { step = s; proof = t }) ∷ []) new
-begins-hinted keep F s t u (Some d) k hs line z = hinted-begins keep F hs line s t (new_hinted keep F) d z refl k.valid k.after k.undo k.limits k.keeps
-begins-hinted keep F s t u None k hs line z = absurd k
+begins-hinted : (keep : Bool) (F : PrenexFormula) (s : ProofStep) (t : ProofPart) (b : Bool) (u : Unit) (new : Option HintChecked) → HasSteppedHinted s t b (Ok u) (Some (new_hinted keep F)) new → (j : Share) (hs : List HintedEntry) (line : ℕ) → b ≡ j (length hs) → hs ≡ [] → IsBehindHinted keep j F (hs ++ (line, record { step = s; proof = t }) ∷ []) new
+begins-hinted keep F s t b u (Some d) k j hs line q z = hinted-begins keep j F hs line s t b u d q z k
+begins-hinted keep F s t b u None k j hs line q z = absurd k
 
-pub answer-hinted : (keep : Bool) (F : PrenexFormula) (s : ProofStep) (t : ProofPart) (r : Result Unit CheckError) (old mid new : Option HintChecked) → IsReadyHinted keep F old mid → HasSteppedHinted s t r mid new → OnOk r ((hs : List HintedEntry) → (line : ℕ) → IsBehindHinted keep F hs old → IsBehindHinted keep F (hs ++ (line, record { step = s; proof = t }) ∷ []) new)
-answer-hinted keep F s t (Err e) old mid new h k = tt
-answer-hinted keep F s t (Ok u) (Some c) mid new h k = goes-on-hinted keep F s t u c new (subst (λ (o : Option HintChecked). HasSteppedHinted s t (Ok u) o new) h k)
-answer-hinted keep F s t (Ok u) None mid new h k = begins-hinted keep F s t u new (subst (λ (o : Option HintChecked). HasSteppedHinted s t (Ok u) o new) h k)
+pub answer-hinted : (keep : Bool) (F : PrenexFormula) (s : ProofStep) (t : ProofPart) (b : Bool) (r : Result Unit CheckError) (old mid new : Option HintChecked) → IsReadyHinted keep F old mid → HasSteppedHinted s t b r mid new → OnOk r ((j : Share) → (hs : List HintedEntry) → (line : ℕ) → b ≡ j (length hs) → IsBehindHinted keep j F hs old → IsBehindHinted keep j F (hs ++ (line, record { step = s; proof = t }) ∷ []) new)
+answer-hinted keep F s t b (Err e) old mid new h k = tt
+answer-hinted keep F s t b (Ok u) (Some c) mid new h k = goes-on-hinted keep F s t b u c new (subst (λ (o : Option HintChecked). HasSteppedHinted s t b (Ok u) o new) h k)
+answer-hinted keep F s t b (Ok u) None mid new h k = begins-hinted keep F s t b u new (subst (λ (o : Option HintChecked). HasSteppedHinted s t b (Ok u) o new) h k)
 
-refuses-hinted : (s : ProofStep) (t : ProofPart) (e : CheckError) (c : HintChecked) (new : Option HintChecked) → HasSteppedHinted s t (Err e) (Some c) new → IsHintRefusal c.limits c.formula s t e
-refuses-hinted s t e c (Some d) k = k.refused
-refuses-hinted s t e c None k = absurd k
+refuses-hinted : (s : ProofStep) (t : ProofPart) (b : Bool) (e : CheckError) (c : HintChecked) (new : Option HintChecked) → HasSteppedHinted s t b (Err e) (Some c) new → judged b (IsHintRefusal c.limits c.formula s t e) (IsHintUnfitFor c.limits c.formula s t e)
+refuses-hinted s t b e c (Some d) k = k.refused
+refuses-hinted s t b e c None k = absurd k
 
-pub refusal-hinted : (keep : Bool) (F : PrenexFormula) (s : ProofStep) (t : ProofPart) (r : Result Unit CheckError) (old mid new : Option HintChecked) → IsReadyHinted keep F old mid → HasSteppedHinted s t r mid new → IfErr r (λ e. (hs : List HintedEntry) → IsBehindHinted keep F hs old → IsBadHinted F hs s t e)
-refusal-hinted keep F s t (Ok u) old mid new h k = tt
-refusal-hinted keep F s t (Err e) (Some c) mid new h k = λ hs b.
-    hinted-wrong keep F hs s t c e b (refuses-hinted s t e c new (subst (λ (o : Option HintChecked). HasSteppedHinted s t (Err e) o new) h k))
-refusal-hinted keep F s t (Err e) None mid new h k = λ hs z.
-    hinted-wrong-first keep F hs s t (new_hinted keep F) e z refl (refuses-hinted s t e (new_hinted keep F) new (subst (λ (o : Option HintChecked). HasSteppedHinted s t (Err e) o new) h k))
+pub refusal-hinted : (keep : Bool) (F : PrenexFormula) (s : ProofStep) (t : ProofPart) (b : Bool) (r : Result Unit CheckError) (old mid new : Option HintChecked) → IsReadyHinted keep F old mid → HasSteppedHinted s t b r mid new → IfErr r (λ e. (j : Share) → (hs : List HintedEntry) → b ≡ j (length hs) → IsBehindHinted keep j F hs old → IsBadHinted j F hs s t e)
+refusal-hinted keep F s t b (Ok u) old mid new h k = tt
+refusal-hinted keep F s t b (Err e) (Some c) mid new h k = λ j hs q w.
+    hinted-refused b j F hs s t c e q w.limits w.steps w.last (refuses-hinted s t b e c new (subst (λ (o : Option HintChecked). HasSteppedHinted s t b (Err e) o new) h k))
+refusal-hinted keep F s t b (Err e) None mid new h k = λ j hs q z.
+    let w = hinted-begun j F hs z in
+    hinted-refused b j F hs s t (new_hinted keep F) e q refl w.0 w.1 (refuses-hinted s t b e (new_hinted keep F) new (subst (λ (o : Option HintChecked). HasSteppedHinted s t b (Err e) o new) h k))
 
 -- want of memory says nothing
 pub memory-plain : (j : Share) (F : PrenexFormula) (s : ProofStep) (e : CheckError) → e ≡ NoMemory → (ps : List Entry) → IsBadPlain j F ps s e
 memory-plain j F s e z ps = subst (λ (x : CheckError). IsBadPlain j F ps s x) (sym z) tt
 
-pub memory-hinted : (F : PrenexFormula) (s : ProofStep) (t : ProofPart) (e : CheckError) → e ≡ NoMemory → (hs : List HintedEntry) → IsBadHinted F hs s t e
-memory-hinted F s t e z hs = subst (λ (x : CheckError). IsBadHinted F hs s t x) (sym z) tt
+pub memory-hinted : (j : Share) (F : PrenexFormula) (s : ProofStep) (t : ProofPart) (e : CheckError) → e ≡ NoMemory → (hs : List HintedEntry) → IsBadHinted j F hs s t e
+memory-hinted j F s t e z hs = subst (λ (x : CheckError). IsBadHinted j F hs s t x) (sym z) tt
 
 -- before the first step
 pub made-behind : (d : Share) (F : PrenexFormula) (origin : Option PrenexFormula) (keep : Bool) (j : Judges) → IsHeld F origin → IsMade origin keep j → AreBehind d F j []
 made-behind d F origin keep j held m = record {
   origin = subst (λ (o : Option PrenexFormula). IsHeld F o) (sym m.origin_is) held;
   plain = subst (λ (o : Option Checked). IsBehindPlain j.keeps_undo d F [] o) (sym m.plain) refl;
-  hinted = subst (λ (o : Option HintChecked). IsBehindHinted j.keeps_undo F [] o) (sym m.hinted) refl;
+  hinted = subst (λ (o : Option HintChecked). IsBehindHinted j.keeps_undo d F [] o) (sym m.hinted) refl;
 }
 
 pub made-free : (origin : Option PrenexFormula) (keep : Bool) (j : Judges) → IsMade origin keep j → keep ≡ false → IsFree j
-made-free origin keep j m e = record { keeps = m.keeps ∙ e; plain = subst (λ (o : Option Checked). KeepsNone o) (sym m.plain) tt }
+made-free origin keep j m e = record {
+  keeps = m.keeps ∙ e;
+  plain = subst (λ (o : Option Checked). KeepsNone o) (sym m.plain) tt;
+  hinted = subst (λ (o : Option HintChecked). KeepsNoHinted o) (sym m.hinted) tt;
+}
 
 pub made-hints : (origin : Option PrenexFormula) (keep : Bool) (j : Judges) → IsMade origin keep j → hints_taken j.hinted ≡ 0
 made-hints origin keep j m = ap hints_taken m.hinted
@@ -343,27 +371,27 @@ all-hinted-then es h (inl q) =
     let n : length (hinted_in es) ≡ 0 = ap length z in
     absurd (omega (arith, n, h))
 
-hinted-left : (keep : Bool) (j : Share) (F : PrenexFormula) (es : List BothEntry) (c : HintChecked) → HasTakenHinted keep F (hinted_in es) c → ArePure es → Leaves j F es (plain c.formula)
-hinted-left keep j F es c h p = inr (record { all = all-hinted-then es h.some p; numbered = c.formula; steps = h.steps; last_is = refl })
+hinted-left : (keep : Bool) (j : Share) (F : PrenexFormula) (es : List BothEntry) (c : HintChecked) → HasTakenHinted keep j F (hinted_in es) c → ArePure es → Leaves j F es (plain c.formula)
+hinted-left keep j F es c h p = inr (record { all = all-hinted-then es h.some p; steps = h.steps; last_is = ap plain h.last })
 
 bare-steps : (es : List BothEntry) → es ≡ map hinted_entry (hinted_in es) → steps_of (bare es) ≡ strip (hinted_of (hinted_in es))
 bare-steps es q = ap (λ (xs : List BothEntry). steps_of (bare xs)) q ∙ (ap steps_of (bare-hinted (hinted_in es)) ∙ stripped-steps (hinted_in es))
 
-pub hinted-passes : (keep : Bool) (j : Share) (F : PrenexFormula) (es : List BothEntry) (c : HintChecked) (G : PrenexFormula) (us : List UndoEntry) → HasTakenHinted keep F (hinted_in es) c → ArePure es → SameFormula (plain c.formula) G → us ≡ c.undo → HavePassed keep j F es G us
+pub hinted-passes : (keep : Bool) (j : Share) (F : PrenexFormula) (es : List BothEntry) (c : HintChecked) (G : PrenexFormula) (us : List UndoEntry) → HasTakenHinted keep j F (hinted_in es) c → ArePure es → SameFormula (plain c.formula) G → us ≡ c.undo → HavePassed keep j F es G us
 hinted-passes keep j F es c G us h p s u = record {
   last = plain c.formula;
   leaves = hinted-left keep j F es c h p;
   same = s;
-  undone = λ k w. subst (λ (vs : List UndoEntry). Undos F (steps_of (bare es)) vs) (sym u) (subst (λ (ss : List ProofStep). Undos F ss c.undo) (sym (bare-steps es (all-hinted-then es h.some p))) (h.undone k));
+  undone = λ k w. subst (λ (vs : List UndoEntry). Undos F (steps_of (bare es)) vs) (sym u) (subst (λ (ss : List ProofStep). Undos F ss c.undo) (sym (bare-steps es (all-hinted-then es h.some p))) (h.undone k w));
 }
 
-pub hinted-stops : (keep : Bool) (j : Share) (F : PrenexFormula) (es : List BothEntry) (c : HintChecked) (G : PrenexFormula) (e : CheckError) → HasTakenHinted keep F (hinted_in es) c → ArePure es → IsEndRefusal (plain c.formula) G e → HaveStopped j F es G e
+pub hinted-stops : (keep : Bool) (j : Share) (F : PrenexFormula) (es : List BothEntry) (c : HintChecked) (G : PrenexFormula) (e : CheckError) → HasTakenHinted keep j F (hinted_in es) c → ArePure es → IsEndRefusal (plain c.formula) G e → HaveStopped j F es G e
 hinted-stops keep j F es c G (Refused n) h p r = record { last = plain c.formula; leaves = hinted-left keep j F es c h p; apart = ends-apart (plain c.formula) (plain c.formula) G n (alike_itself (plain c.formula)) r }
 hinted-stops keep j F es c G NoMemory h p r = tt
 
-pub none-hinted : (keep : Bool) (F : PrenexFormula) (hs : List HintedEntry) (o : Option HintChecked) → is_some o ≡ false → IsBehindHinted keep F hs o → hs ≡ []
-none-hinted keep F hs None n b = b
-none-hinted keep F hs (Some c) n b = cc
+pub none-hinted : (keep : Bool) (j : Share) (F : PrenexFormula) (hs : List HintedEntry) (o : Option HintChecked) → is_some o ≡ false → IsBehindHinted keep j F hs o → hs ≡ []
+none-hinted keep j F hs None n b = b
+none-hinted keep j F hs (Some c) n b = cc
 
 -- where there is no checker of hints, all steps are plain
 pub all-plain-passes : (keep : Bool) (j : Share) (F : PrenexFormula) (es : List BothEntry) (G : PrenexFormula) (us : List UndoEntry) → hinted_in es ≡ [] → HavePassedPlain keep j F (plain_in es) G us → HavePassed keep j F es G us
@@ -408,13 +436,13 @@ stopped-plain k F G (Err e) None None h q = absurd h
 pub memory-ends : (j : Share) (F : PrenexFormula) (ps : List Entry) (G : PrenexFormula) (e : CheckError) → e ≡ NoMemory → HaveStoppedPlain j F ps G e
 memory-ends j F ps G e z = subst (λ (x : CheckError). HaveStoppedPlain j F ps G x) (sym z) tt
 
-pub hinted-passed : (keep : Bool) (j : Share) (F : PrenexFormula) (es : List BothEntry) (o : Option HintChecked) (G : PrenexFormula) (r : Result Verified CheckError) (us : List UndoEntry) → IsSomeAnd o (IsEndedHinted G r) → IsBehindHinted keep F (hinted_in es) o → ArePure es → r ≡ Ok (record { undo = us }) → HavePassed keep j F es G us
+pub hinted-passed : (keep : Bool) (j : Share) (F : PrenexFormula) (es : List BothEntry) (o : Option HintChecked) (G : PrenexFormula) (r : Result Verified CheckError) (us : List UndoEntry) → IsSomeAnd o (IsEndedHinted G r) → IsBehindHinted keep j F (hinted_in es) o → ArePure es → r ≡ Ok (record { undo = us }) → HavePassed keep j F es G us
 hinted-passed keep j F es None G r us k b p e = absurd k
 hinted-passed keep j F es (Some c) G r us k b p e =
     let w : IsEndedHinted G (Ok (record { undo = us })) c = subst (λ (x : Result Verified CheckError). IsEndedHinted G x c) e k in
     hinted-passes keep j F es c G us b p w.same w.undo
 
-pub hinted-stopped : (keep : Bool) (j : Share) (F : PrenexFormula) (es : List BothEntry) (o : Option HintChecked) (G : PrenexFormula) (r : Result Verified CheckError) (w : CheckError) → IsSomeAnd o (IsEndedHinted G r) → IsBehindHinted keep F (hinted_in es) o → ArePure es → r ≡ Err w → HaveStopped j F es G w
+pub hinted-stopped : (keep : Bool) (j : Share) (F : PrenexFormula) (es : List BothEntry) (o : Option HintChecked) (G : PrenexFormula) (r : Result Verified CheckError) (w : CheckError) → IsSomeAnd o (IsEndedHinted G r) → IsBehindHinted keep j F (hinted_in es) o → ArePure es → r ≡ Err w → HaveStopped j F es G w
 hinted-stopped keep j F es None G r w k b p e = absurd k
 hinted-stopped keep j F es (Some c) G r w k b p e =
     let x : IsEndedHinted G (Err w) c = subst (λ (y : Result Verified CheckError). IsEndedHinted G y c) e k in

@@ -1,6 +1,7 @@
 pub mod FilePieces
 pub mod LogEntries
 pub mod SharedSteps
+pub mod SharedHints
 pub mod BothCheckers
 pub mod WholeLogs
 pub mod AuditSteps

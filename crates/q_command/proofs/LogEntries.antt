@@ -70,6 +70,10 @@ pub hinted_of-append : (xs ys : List HintedEntry) → hinted_of (xs ++ ys) ≡ h
 hinted_of-append [] ys = refl
 hinted_of-append (h ∷ xs) ys = ap (λ (hs : List Hinted). h.1 ∷ hs) (hinted_of-append xs ys)
 
+pub hinted_of-length : (hs : List HintedEntry) → length (hinted_of hs) ≡ length hs
+hinted_of-length [] = refl
+hinted_of-length (h ∷ hs) = ap suc (hinted_of-length hs)
+
 pub strip-append : (xs ys : List Hinted) → strip (xs ++ ys) ≡ strip xs ++ strip ys
 strip-append [] ys = refl
 strip-append (h ∷ xs) ys = ap (λ (ss : List ProofStep). h.step ∷ ss) (strip-append xs ys)
@@ -86,6 +90,15 @@ only-plain (e ∷ es) h = go e.2 h (only-plain es)
 -- so many steps come before another, where all are plain
 pub plain-number : (es : List BothEntry) → hinted_in es ≡ [] → length (plain_in es) ≡ length es
 plain-number es h = sym (length-map (plain_in es) plain_entry) ∙ ap length (sym (only-plain es h))
+
+-- so it is where all have proof parts
+pub hinted-number : (es : List BothEntry) → plain_in es ≡ [] → length (hinted_in es) ≡ length es
+hinted-number [] h = refl
+hinted-number (e ∷ es) h = go e.2 h (hinted-number es)
+  where
+    go : (t : Option ProofPart) → if_plain e.0 e.1 t (plain_in es) ≡ [] → (plain_in es ≡ [] → length (hinted_in es) ≡ length es) → length (if_hinted e.0 e.1 t (hinted_in es)) ≡ suc (length es)
+    go None k ih = cc
+    go (Some t) k ih = ap suc (ih k)
 
 pub first-empty : {X : Type 0} (xs ys : List X) → xs ++ ys ≡ [] → xs ≡ []
 first-empty [] ys h = refl

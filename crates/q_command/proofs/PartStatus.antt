@@ -2,26 +2,28 @@
 use Rattle.std.proofs.Common.{◌≡◌, ◌⊎◌, inl, inr, ◌∙◌, sym, ap, subst, arith, ℕ, ◌+◌, Bool, true, false, List, [], ◌∷◌, Some, None}
 use Rattle.std.proofs.lemmas.Option.{same_Some}
 use Rattle.q_logic.specs.declared.limits.Limits.{Limits}
-use Rattle.q_logic.specs.Prelude.{PrenexFormula, standard, ProofStep, Valid, Cause, after, SameFormula, begun, plain, HintedSteps as AreValid, NumberedFormula}
+use Rattle.q_logic.specs.Prelude.{PrenexFormula, standard, ProofStep, Valid, Cause, after, SameFormula, begun, plain, hinted_after, NumberedFormula}
 use Rattle.q_logic.specs.Steps.{add, delete, drop_literal, fresh, remove_variable}
 use Rattle.q_logic.proofs.Validity.{Valid-no_cause}
 use Rattle.q_same_steps.specs.Making.{Applies, IsUnfit, Unfit, made}
+use Rattle.q_same_steps.specs.HintedMaking.{hinted_made}
 use Rattle.q_shares.specs.Shares.{Share, AreMade, judged}
+use Rattle.q_shares.specs.HintedShares.{AreHintedMade}
 use Rattle.q_io.specs.Files.{bytes_at}
 use Rattle.q_log.specs.Logs as logs
 use Rattle.q_hinted.specs.Logs.{read_entries}
 use Rattle.q_hinted.proofs.Profiles.{no-steps}
-use Rattle.q_command.specs.Logs.{Entry, steps_of, hinted_of, IsFirstBadHinted}
-use Rattle.q_command.specs.Checks.{IsHintedWay}
+use Rattle.q_command.specs.Logs.{Entry, HintedEntry, steps_of, hinted_of}
 use Rattle.q_command.specs.Names.{ThreeNames}
-use Rattle.q_command.specs.Parts.{ChecksShared, EndsElsewhereShared, IsFirstBadShared, IsPlainShareWay, IsRefusedShared, IsShareLog, LeadsShared, share_of, told}
+use Rattle.q_command.specs.Parts.{ChecksShared, EndsElsewhereShared, IsFirstBadShared, IsFirstBadHintedShared, IsPlainShareWay, IsHintedShareWay, IsRefusedShared, IsShareLog, LeadsShared, share_of, told}
 use Rattle.q_command.specs.declared.part.Part.{Part}
 use Rattle.q_command.specs.declared.outcome.Role.TheVariants.{In, Out}
 use Rattle.q_command.specs.declared.outcome.Outcome.{Outcome}
 use Rattle.q_command.specs.declared.outcome.Outcome.TheVariants.{Verified, RefusedLine, RefusedEnd, RefusedInput, ReadFault, NoMemory}
 use Rattle.q_command.specs.declared.status.Status.TheVariants as status
-use Rattle.q_command.proofs.CheckStatus.{Settles, all_or_none-some, answers-by, hinted-one, no_offence, not_both_hinted}
+use Rattle.q_command.proofs.CheckStatus.{Settles, all_or_none-some, answers-by, no_offence}
 use Rattle.q_command.proofs.OutcomeStatus.{check-usage}
+use Rattle.q_command.proofs.SharedHints.{hinted-right-or-wrong}
 use Rattle.q_command.proofs.ToldLaws.{ToldLaws, exact}
 use Rattle.q_command.proofs.WholeLogs.{second, not-both-profiles}
 
@@ -37,7 +39,7 @@ fit-no_unfit m F (fresh v x) n h w = w.1 h
 fit-no_unfit m F (remove_variable v) n h (inl w) = let e = h.0 in let f = w.1 in cc
 fit-no_unfit m F (remove_variable v) n h (inr w) = w.1 h.1
 
-right-or-wrong : (b : Bool) (m : Limits) (F : PrenexFormula) (s : ProofStep) (n : ℕ) → judged b (Valid m F s) (Applies m F s) → judged b (Cause m F s n) (Unfit m F s n) → ⊥
+pub right-or-wrong : (b : Bool) (m : Limits) (F : PrenexFormula) (s : ProofStep) (n : ℕ) → judged b (Valid m F s) (Applies m F s) → judged b (Cause m F s n) (Unfit m F s n) → ⊥
 right-or-wrong true m F s n v w = Valid-no_cause m F s n v w
 right-or-wrong false m F s n v w = fit-no_unfit m F s n v w.applies
 
@@ -45,6 +47,11 @@ not_both_shared : (j : Share) (k : ℕ) (F : PrenexFormula) (es : List Entry) (n
 not_both_shared j k F [] n c b v = b
 not_both_shared j k F (e ∷ es) n c (inl (line, cause)) v = right-or-wrong (j k) standard F e.1 c v.0 cause
 not_both_shared j k F (e ∷ es) n c (inr (valid, later)) v = not_both_shared j (k + 1) (after F e.1) es n c later v.1
+
+not_both_hinted : (j : Share) (k : ℕ) (N : NumberedFormula) (hs : List HintedEntry) (n c : ℕ) → IsFirstBadHintedShared j k N hs None n c → AreHintedMade j standard k N (hinted_of hs) → ⊥
+not_both_hinted j k N [] n c b v = b
+not_both_hinted j k N (h ∷ hs) n c (inl (line, cause)) v = hinted-right-or-wrong (j k) standard N h.1.step h.1.proof c v.0 cause
+not_both_hinted j k N (h ∷ hs) n c (inr (fits, later)) v = not_both_hinted j (k + 1) (hinted_after N h.1.step h.1.proof) hs n c later v.1
 
 line_no_share : (j : Share) (log : List ℕ) (F G : PrenexFormula) (n c : ℕ) → IsRefusedShared j F log n c → LeadsShared j log F G → ⊥
 line_no_share j log F G n c (inl (one, b)) (es, inl r) =
@@ -56,12 +63,12 @@ line_no_share j log F G n c (inr (two, b)) (es, inl r) =
     cc
 line_no_share j log F G n c (inr (two, b)) (es, inr r) =
     let p = second log r.hinted r.is_log in
-    not_both_hinted (begun F) r.run.last r.hinted n c (subst (λ x. IsFirstBadHinted (begun F) r.hinted x n c) p.refused (subst (λ x. IsFirstBadHinted (begun F) x (read_entries standard.bytes log).refused n c) p.hinted b)) r.run.steps
+    not_both_hinted j 0 (begun F) r.hinted n c (subst (λ x. IsFirstBadHintedShared j 0 (begun F) r.hinted x n c) p.refused (subst (λ x. IsFirstBadHintedShared j 0 (begun F) x (read_entries standard.bytes log).refused n c) p.hinted b)) r.run.steps
 
 end_no_share : (j : Share) (log : List ℕ) (F G : PrenexFormula) (c : ℕ) → EndsElsewhereShared j log F G c → LeadsShared j log F G → ⊥
 end_no_share j log F G c e (es, r) = go e.way r
   where
-    go : IsPlainShareWay j log F e.last ⊎ IsHintedWay log F e.last → IsShareLog j log F G es → ⊥
+    go : IsPlainShareWay j log F e.last ⊎ IsHintedShareWay j log F e.last → IsShareLog j log F G es → ⊥
     go (inl w) (inl r) =
         let same : w.entries ≡ es = same_Some w.entries es (sym w.is_log ∙ r.is_log) in
         let last : made F (steps_of es) ≡ e.last = ap (λ (xs : List Entry). made F (steps_of xs)) (sym same) ∙ sym w.last_is in
@@ -70,8 +77,8 @@ end_no_share j log F G c e (es, r) = go e.way r
     go (inr w) (inl r) = not-both-profiles log es w.hinted r.is_log w.is_log
     go (inr w) (inr r) =
         let same : w.hinted ≡ r.hinted = same_Some w.hinted r.hinted (sym w.is_log ∙ r.is_log) in
-        let last : w.numbered ≡ r.run.last = hinted-one (begun F) w.numbered r.run.last (hinted_of r.hinted) (subst (λ x. AreValid standard (begun F) (hinted_of x) w.numbered) same w.steps) r.run.steps in
-        e.apart.differ (subst (λ (L : PrenexFormula). SameFormula L G) (sym (w.last_is ∙ ap plain last)) r.run.same)
+        let last : plain (hinted_made (begun F) (hinted_of r.hinted)) ≡ e.last = ap (λ (xs : List HintedEntry). plain (hinted_made (begun F) (hinted_of xs))) (sym same) ∙ sym w.last_is in
+        e.apart.differ (subst (λ (L : PrenexFormula). SameFormula L G) last r.run.same)
 
 settled : (j : Share) (due : Outcome) (i o l : List ℕ) → ChecksShared j due i o l → Settles (LeadsShared j l) due i o
 settled j (Verified n) i o l h = record { from = h.from; to = h.to; is_input = h.is_input; is_output = h.is_output; holds = (h.holds.0, h.holds.1) }

@@ -4,8 +4,10 @@ use Rattle.std.proofs.lemmas.Option.{same_Some}
 use Rattle.std.proofs.lemmas.List.Sums.{sum_by-cons}
 use Rattle.q_logic.specs.Prelude.{PrenexFormula, IsIn}
 use Rattle.q_shares.specs.Shares.{Share, ShareRun, AllSay, AreDealt, count, counts, shares_of}
+use Rattle.q_shares.specs.HintedShares.{HintedShareRun}
 use Rattle.q_shares.proofs.SharedRuns.{shares-run, run-share, counts-sum}
-use Rattle.q_command.specs.Logs.{Entry, steps_of, stripped}
+use Rattle.q_shares.proofs.HintedSharedRuns.{hinted-shares-run, hinted-run-share}
+use Rattle.q_command.specs.Logs.{Entry, HintedEntry, steps_of, hinted_of, stripped}
 use Rattle.q_command.specs.Checks.{Checks, IsRunLog}
 use Rattle.q_command.specs.Parts.{AllVerified, ChecksShared, IsShareLog}
 use Rattle.q_command.specs.declared.outcome.Outcome.TheVariants.{Verified}
@@ -49,7 +51,16 @@ module _ (i o l : List ℕ) (j : Share) (m : ℕ) (v : ChecksShared j (Verified 
 
   -- the steps are a run
   runs : (js : List Share) → AreDealt js → ((k : Share) → IsIn k js → IsShareLog k l v.from v.to v.holds.0) → IsShareLog j l v.from v.to v.holds.0 → IsRunLog l v.from v.to v.holds.0
-  runs js d h (inr a) = inr a
+  runs js d h (inr a) = inr (record {
+    hinted = a.hinted;
+    is_log = a.is_log;
+    run = hinted-shares-run js v.from v.to (hinted_of a.hinted) d (λ k x. hinted k (h k x));
+    entries_are = a.entries_are;
+  })
+    where
+      hinted : (k : Share) → IsShareLog k l v.from v.to v.holds.0 → HintedShareRun k v.from (hinted_of a.hinted) v.to
+      hinted k (inl b) = absurd (not-both-profiles l v.holds.0 a.hinted b.is_log a.is_log)
+      hinted k (inr b) = subst (λ (hs : List HintedEntry). HintedShareRun k v.from (hinted_of hs) v.to) (same_Some b.hinted a.hinted (sym b.is_log ∙ a.is_log)) b.run
   runs js d h (inl a) = inl (record { is_log = a.is_log; run = shares-run js v.from v.to (steps_of v.holds.0) d (λ k x. plain k (h k x)) })
     where
       plain : (k : Share) → IsShareLog k l v.from v.to v.holds.0 → ShareRun k v.from (steps_of v.holds.0) v.to
@@ -77,7 +88,7 @@ parts-verify (j ∷ js) (m ∷ ms) i o l d a =
 -- and who is one of them says so too
 share-log : (j : Share) (log : List ℕ) (F G : PrenexFormula) (es : List Entry) → IsRunLog log F G es → IsShareLog j log F G es
 share-log j log F G es (inl a) = inl (record { is_log = a.is_log; run = run-share j F G (steps_of es) a.run })
-share-log j log F G es (inr a) = inr a
+share-log j log F G es (inr a) = inr (record { hinted = a.hinted; is_log = a.is_log; run = hinted-run-share j F G (hinted_of a.hinted) a.run; entries_are = a.entries_are })
 
 pub verified-parts : (j : Share) (m : ℕ) (i o l : List ℕ) → Checks (Verified m) i o l → (k : ℕ) × ChecksShared j (Verified k) i o l
 verified-parts j m i o l v = (

@@ -1,10 +1,12 @@
 -- A whole log of either profile: its first token tells how it is read.
 use Rattle.std.proofs.Common.{◌≡◌, ◌⊎◌, inl, inr, ◌==◌, ◌+◌, ◌∙◌, refl, sym, ap, subst, arith, ℕ, suc, Bool, true, false, List, [], ◌∷◌, ◌++◌, map, length, if◌then◌else◌, Option, Some, None}
 use Rattle.std.proofs.lemmas.Bool.Decides.{nat_tests}
-use Rattle.q_logic.specs.Prelude.{PrenexFormula, HintedSteps as AreValid, HintedCause, NumberedFormula, ProofPart, begun, plain, strip, hinted_after, standard, ValidSteps, SameFormula, Run, ProofStep, Cause, after, UndoEntry}
+use Rattle.q_logic.specs.Prelude.{PrenexFormula, NumberedFormula, ProofPart, begun, plain, strip, hinted_after, standard, ValidSteps, SameFormula, Run, ProofStep, Cause, after, UndoEntry}
 use Rattle.q_logic.proofs.HintedRuns.{hinted-run}
 use Rattle.q_same_steps.specs.Making.{Unfit, made}
+use Rattle.q_same_steps.specs.HintedMaking.{hinted_made}
 use Rattle.q_shares.specs.Shares.{Share, AreMade, ShareRun, count, judged}
+use Rattle.q_shares.specs.HintedShares.{AreHintedMade}
 use Rattle.q_text.specs.declared.tokens.Token.{Token}
 use Rattle.q_text.specs.declared.tokens.TokenKind.{TokenKind}
 use Rattle.q_text.specs.declared.tokens.TokenKind.TheVariants.{Number, P, Cnf, Qrat, E, A, D, U, R, Other}
@@ -13,13 +15,14 @@ use Rattle.q_log.specs.Logs as logs
 use Rattle.q_hinted.specs.Grammar.{first_profile}
 use Rattle.q_hinted.specs.Logs.{Entry as BothEntry, Entries, Profile, HintedSteps, all_or_none, profile_of, tokens_within, read_entries, plain_entries, plain_entry, hinted_entry, hinted_in}
 use Rattle.q_hinted.proofs.Profiles.{plain-read, no-steps, parts-read}
-use Rattle.q_command.specs.Logs.{Entry, HintedEntry, steps_of, hinted_of, stripped, IsOffence, IsFirstBad, IsFirstBadHinted, IsRefusedAt}
-use Rattle.q_command.specs.Checks.{IsRunLog, IsHintedWay}
-use Rattle.q_command.specs.Parts.{IsFirstBadShared, IsRefusedShared, IsShareLog, IsPlainShareWay, EndsElsewhereShared, LogPassesShared}
+use Rattle.q_command.specs.Logs.{Entry, HintedEntry, steps_of, hinted_of, stripped, IsOffence, IsFirstBad}
+use Rattle.q_command.specs.Checks.{IsRunLog}
+use Rattle.q_command.specs.Parts.{IsFirstBadShared, IsFirstBadHintedShared, IsRefusedShared, IsShareLog, IsPlainShareWay, IsHintedShareWay, EndsElsewhereShared, LogPassesShared}
 use Rattle.q_command.specs.Judging.{ArePure, Leaves, HavePassed, HaveEnded, plain_in, bare}
 use Rattle.q_command.specs.Trials.{AreLike, IsWrong}
 use Rattle.q_command.proofs.LogEntries.{plain_in-append, hinted_in-append, plain_in-plain, hinted_in-plain, plain_in-hinted, bare-plain, bare-hinted, stripped-steps, first-empty, not-empty}
 use Rattle.q_command.proofs.BothCheckers.{plain-begun}
+use Rattle.q_command.proofs.SharedHints.{Fails}
 
 pub profile-told : (limit : ℕ) (bytes : List ℕ) → (Profile limit bytes ≡ 1) ⊎ (Profile limit bytes ≡ 2)
 profile-told limit bytes = of-tokens (tokens_within limit bytes)
@@ -99,9 +102,14 @@ bad-shared j k F (p ∷ ps) n s more r c v w =
     let E : PrenexFormula = made (after F p.1) (steps_of ps) in
     inr (v.0, bad-shared j (k + 1) (after F p.1) ps n s more r c v.1 (subst (λ (i : ℕ). judged (j i) (Cause standard E s c) (Unfit standard E s c)) z w))
 
-bad-hinted : (N : NumberedFormula) (hs : List HintedEntry) (n : ℕ) (s : ProofStep) (t : ProofPart) (more : List HintedEntry) (r : Option LogError) (c : ℕ) (L : NumberedFormula) → AreValid standard N (hinted_of hs) L → HintedCause standard L s t c → IsFirstBadHinted N (hs ++ (n, record { step = s; proof = t }) ∷ more) r n c
-bad-hinted N [] n s t more r c L v w = inl (refl, subst (λ (M : NumberedFormula). HintedCause standard M s t c) (sym v) w)
-bad-hinted N (h ∷ hs) n s t more r c L v w = inr (v.0, bad-hinted (hinted_after N h.1.step h.1.proof) hs n s t more r c L v.1 w)
+bad-hinted : (j : Share) (k : ℕ) (N : NumberedFormula) (hs : List HintedEntry) (n : ℕ) (s : ProofStep) (t : ProofPart) (more : List HintedEntry) (r : Option LogError) (c : ℕ) → AreHintedMade j standard k N (hinted_of hs) → Fails (j (k + length hs)) standard (hinted_made N (hinted_of hs)) s t c → IsFirstBadHintedShared j k N (hs ++ (n, record { step = s; proof = t }) ∷ more) r n c
+bad-hinted j k N [] n s t more r c v w =
+    let z : k + 0 ≡ k = omega arith in
+    inl (refl, subst (λ (i : ℕ). Fails (j i) standard N s t c) z w)
+bad-hinted j k N (h ∷ hs) n s t more r c v w =
+    let z : k + suc (length hs) ≡ (k + 1) + length hs = omega arith in
+    let M : NumberedFormula = hinted_made (hinted_after N h.1.step h.1.proof) (hinted_of hs) in
+    inr (v.0, bad-hinted j (k + 1) (hinted_after N h.1.step h.1.proof) hs n s t more r c v.1 (subst (λ (i : ℕ). Fails (j i) standard M s t c) z w))
 
 -- an offence behind valid steps
 pub offence-plain : (F : PrenexFormula) (ps : List Entry) (r : Option LogError) (n c : ℕ) (L : PrenexFormula) → ValidSteps standard F (steps_of ps) L → IsOffence r n c → IsFirstBad F ps r n c
@@ -112,9 +120,9 @@ offence-shared : (j : Share) (k : ℕ) (F : PrenexFormula) (ps : List Entry) (r 
 offence-shared j k F [] r n c v o = o
 offence-shared j k F (p ∷ ps) r n c v o = inr (v.0, offence-shared j (k + 1) (after F p.1) ps r n c v.1 o)
 
-offence-hinted : (N : NumberedFormula) (hs : List HintedEntry) (r : Option LogError) (n c : ℕ) (L : NumberedFormula) → AreValid standard N (hinted_of hs) L → IsOffence r n c → IsFirstBadHinted N hs r n c
-offence-hinted N [] r n c L v o = o
-offence-hinted N (h ∷ hs) r n c L v o = inr (v.0, offence-hinted (hinted_after N h.1.step h.1.proof) hs r n c L v.1 o)
+offence-hinted : (j : Share) (k : ℕ) (N : NumberedFormula) (hs : List HintedEntry) (r : Option LogError) (n c : ℕ) → AreHintedMade j standard k N (hinted_of hs) → IsOffence r n c → IsFirstBadHintedShared j k N hs r n c
+offence-hinted j k N [] r n c v o = o
+offence-hinted j k N (h ∷ hs) r n c v o = inr (v.0, offence-hinted j (k + 1) (hinted_after N h.1.step h.1.proof) hs r n c v.1 o)
 
 -- the log is refused at the step
 pub refused-at : (j : Share) (F : PrenexFormula) (log : List ℕ) (es : List BothEntry) (n : ℕ) (s : ProofStep) (x : Option ProofPart) (more : List BothEntry) (r : Option LogError) (c : ℕ) → Says log (es ++ (n, s, x) ∷ more) r → IsWrong j F es s x c → IsRefusedShared j F log n c
@@ -141,17 +149,23 @@ refused-at j F log es n s x more r c h w = go (profile-told standard.bytes log) 
         absurd (not-empty (plain_in es) (plain_in more) (n, s) e)
     go (inr p) (Some t) h w =
         let e : hinted_in (read_entries standard.bytes log).entries ≡ hinted_in es ++ (n, record { step = s; proof = t }) ∷ hinted_in more = ap (λ (o : Entries). hinted_in o.entries) h ∙ hinted_in-append es ((n, s, Some t) ∷ more) in
-        inr (p, subst (λ (hs : List HintedEntry). IsFirstBadHinted (begun F) hs (read_entries standard.bytes log).refused n c) (sym e) (bad-hinted (begun F) (hinted_in es) n s t (hinted_in more) (read_entries standard.bytes log).refused c w.last w.steps w.cause))
+        let z : length (hinted_in es) ≡ 0 + length (hinted_in es) = omega arith in
+        let M : NumberedFormula = hinted_made (begun F) (hinted_of (hinted_in es)) in
+        inr (
+          p,
+          subst (λ (hs : List HintedEntry). IsFirstBadHintedShared j 0 (begun F) hs (read_entries standard.bytes log).refused n c) (sym e)
+              (bad-hinted j 0 (begun F) (hinted_in es) n s t (hinted_in more) (read_entries standard.bytes log).refused c w.steps (subst (λ (i : ℕ). Fails (j i) standard M s t c) z w.cause)),
+        )
 
 -- the log is refused behind its steps
-pub offends-at : (j : Share) (F : PrenexFormula) (log : List ℕ) (es : List BothEntry) (r : Option LogError) (n c : ℕ) (M : NumberedFormula) → Says log es r → AreMade j standard 0 F (steps_of (plain_in es)) → AreValid standard (begun F) (hinted_of (hinted_in es)) M → IsOffence r n c → IsRefusedShared j F log n c
-offends-at j F log es r n c M h v w o = go (profile-told standard.bytes log)
+pub offends-at : (j : Share) (F : PrenexFormula) (log : List ℕ) (es : List BothEntry) (r : Option LogError) (n c : ℕ) → Says log es r → AreMade j standard 0 F (steps_of (plain_in es)) → AreHintedMade j standard 0 (begun F) (hinted_of (hinted_in es)) → IsOffence r n c → IsRefusedShared j F log n c
+offends-at j F log es r n c h v w o = go (profile-told standard.bytes log)
   where
     go : (Profile standard.bytes log ≡ 1) ⊎ (Profile standard.bytes log ≡ 2) → IsRefusedShared j F log n c
     go (inl p) =
         let a = says-plain log es r h p in
         inl (p, subst (λ (x : Option LogError). IsFirstBadShared j 0 F (logs.read standard.bytes log).steps x n c) (sym a.refused) (subst (λ (ps : List Entry). IsFirstBadShared j 0 F ps r n c) (sym a.steps) (offence-shared j 0 F (plain_in es) r n c v o)))
-    go (inr p) = inr (p, subst (λ (x : Entries). IsFirstBadHinted (begun F) (hinted_in x.entries) x.refused n c) (sym h) (offence-hinted (begun F) (hinted_in es) r n c M w o))
+    go (inr p) = inr (p, subst (λ (x : Entries). IsFirstBadHintedShared j 0 (begun F) (hinted_in x.entries) x.refused n c) (sym h) (offence-hinted j 0 (begun F) (hinted_in es) r n c w o))
 
 -- the steps of a whole log
 is-plain-log : (log : List ℕ) (es : List BothEntry) → Says log es None → Profile standard.bytes log ≡ 1 → logs.Steps standard.bytes log ≡ Some (plain_in es)
@@ -180,28 +194,26 @@ leaves-plain j F es L q (inl a) = record { steps = a.steps; last_is = a.last_is 
 leaves-plain j F es L q (inr a) =
     let none : hinted_in es ≡ [] = ap hinted_in q ∙ hinted_in-plain (plain_in es) in
     let zero : plain_in es ≡ [] = ap plain_in a.all ∙ plain_in-hinted (hinted_in es) in
-    let same : begun F ≡ a.numbered = subst (λ (hs : List HintedEntry). AreValid standard (begun F) (hinted_of hs) a.numbered) none a.steps in
-    let e : L ≡ F = a.last_is ∙ (ap plain (sym same) ∙ plain-begun F) in
+    let same : L ≡ plain (begun F) = subst (λ (hs : List HintedEntry). L ≡ plain (hinted_made (begun F) (hinted_of hs))) none a.last_is in
+    let e : L ≡ F = same ∙ plain-begun F in
     record {
       steps = subst (λ (ps : List Entry). AreMade j standard 0 F (steps_of ps)) (sym zero) tt;
       last_is = subst (λ (ps : List Entry). L ≡ made F (steps_of ps)) (sym zero) e;
     }
 
-record LeavesNumbered (F : PrenexFormula) (es : List BothEntry) (L : PrenexFormula) : Type 0 where
-  numbered : NumberedFormula
-  steps : AreValid standard (begun F) (hinted_of (hinted_in es)) numbered
-  last_is : L ≡ plain numbered
+record LeavesNumbered (j : Share) (F : PrenexFormula) (es : List BothEntry) (L : PrenexFormula) : Type 0 where
+  steps : AreHintedMade j standard 0 (begun F) (hinted_of (hinted_in es))
+  last_is : L ≡ plain (hinted_made (begun F) (hinted_of (hinted_in es)))
 
-leaves-hinted : (j : Share) (F : PrenexFormula) (es : List BothEntry) (L : PrenexFormula) → es ≡ map hinted_entry (hinted_in es) → Leaves j F es L → LeavesNumbered F es L
-leaves-hinted j F es L q (inr a) = record { numbered = a.numbered; steps = a.steps; last_is = a.last_is }
+leaves-hinted : (j : Share) (F : PrenexFormula) (es : List BothEntry) (L : PrenexFormula) → es ≡ map hinted_entry (hinted_in es) → Leaves j F es L → LeavesNumbered j F es L
+leaves-hinted j F es L q (inr a) = record { steps = a.steps; last_is = a.last_is }
 leaves-hinted j F es L q (inl a) =
     let zero : plain_in es ≡ [] = ap plain_in q ∙ plain_in-hinted (hinted_in es) in
     let none : hinted_in es ≡ [] = ap hinted_in a.all ∙ hinted_in-plain (plain_in es) in
     let same : L ≡ F = subst (λ (ps : List Entry). L ≡ made F (steps_of ps)) zero a.last_is in
     record {
-      numbered = begun F;
-      steps = subst (λ (hs : List HintedEntry). AreValid standard (begun F) (hinted_of hs) (begun F)) (sym none) refl;
-      last_is = same ∙ sym (plain-begun F);
+      steps = subst (λ (hs : List HintedEntry). AreHintedMade j standard 0 (begun F) (hinted_of hs)) (sym none) tt;
+      last_is = subst (λ (hs : List HintedEntry). L ≡ plain (hinted_made (begun F) (hinted_of hs))) (sym none) (same ∙ sym (plain-begun F));
     }
 
 -- the log leads to the output
@@ -227,7 +239,6 @@ passes-whole keep j F G log es us h w n k = (record { entries = bare es; leads =
           hinted = hinted_in es;
           is_log = is-hinted-log log es h p;
           run = record {
-            last = l.numbered;
             steps = l.steps;
             same = subst (λ (L : PrenexFormula). SameFormula L G) l.last_is w.same;
           };
@@ -238,7 +249,7 @@ passes-whole keep j F G log es us h w n k = (record { entries = bare es; leads =
 pub ends-whole : (j : Share) (F G : PrenexFormula) (log : List ℕ) (es : List BothEntry) (c : ℕ) → Says log es None → HaveEnded j F es G c → EndsElsewhereShared j log F G c
 ends-whole j F G log es c h w = record { last = w.last; way = go (profile-told standard.bytes log); apart = w.apart }
   where
-    go : (Profile standard.bytes log ≡ 1) ⊎ (Profile standard.bytes log ≡ 2) → IsPlainShareWay j log F w.last ⊎ IsHintedWay log F w.last
+    go : (Profile standard.bytes log ≡ 1) ⊎ (Profile standard.bytes log ≡ 2) → IsPlainShareWay j log F w.last ⊎ IsHintedShareWay j log F w.last
     go (inl p) =
         let q = (says-plain log es None h p).all in
         let l = leaves-plain j F es w.last q w.leaves in
@@ -246,7 +257,7 @@ ends-whole j F G log es c h w = record { last = w.last; way = go (profile-told s
     go (inr p) =
         let q = says-hinted log es None h p in
         let l = leaves-hinted j F es w.last q w.leaves in
-        inr (record { hinted = hinted_in es; is_log = is-hinted-log log es h p; numbered = l.numbered; steps = l.steps; last_is = l.last_is })
+        inr (record { hinted = hinted_in es; is_log = is-hinted-log log es h p; steps = l.steps; last_is = l.last_is })
 
 -- a log of hints has the second profile
 pub record IsSecond (log : List ℕ) (hs : List HintedEntry) : Type 0 where

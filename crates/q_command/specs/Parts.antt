@@ -1,15 +1,17 @@
 -- A log that many check, each a part of its steps: what one of them says. Steps of other parts are made, and not judged.
 use Rattle.std.specs.Prelude.{◌≡◌, ◌⊎◌, ◌+◌, ℕ, Bool, true, List, [], ◌∷◌, Option, Some}
-use Rattle.q_logic.specs.Prelude.{PrenexFormula, begun, standard, ProofStep, Valid, Cause, after, UndoEntry, Undos}
+use Rattle.q_logic.specs.Prelude.{PrenexFormula, NumberedFormula, HintedValid, HintedCause, hinted_after, begun, plain, standard, Valid, Cause, after, UndoEntry, Undos}
 use Rattle.q_same_steps.specs.Making.{Applies, Unfit, made}
+use Rattle.q_same_steps.specs.HintedMaking.{HintedApplies, HintedUnfit, hinted_made}
 use Rattle.q_shares.specs.Shares.{Share, AreMade, ShareRun, count, dealt, judged}
+use Rattle.q_shares.specs.HintedShares.{AreHintedMade, HintedShareRun}
 use Rattle.q_dimacs.specs.Offences.{Offence}
 use Rattle.q_log.specs.declared.error.LogError.{LogError}
 use Rattle.q_log.specs.Logs as logs
-use Rattle.q_hinted.specs.Logs.{Profile, hinted_in, read_entries}
-use Rattle.q_command.specs.Logs.{Entry, steps_of, EndsApart, IsFirstBadHinted, IsOffence}
+use Rattle.q_hinted.specs.Logs.{Profile, HintedSteps, hinted_in, read_entries}
+use Rattle.q_command.specs.Logs.{Entry, HintedEntry, steps_of, hinted_of, stripped, EndsApart, IsOffence}
 use Rattle.q_io.specs.Files.{bytes_at}
-use Rattle.q_command.specs.Checks.{AnswersBy, IsFileOf, IsHintedRunLog, IsHintedWay, OfFormulas}
+use Rattle.q_command.specs.Checks.{AnswersBy, IsFileOf, OfFormulas}
 use Rattle.q_command.specs.Lines.{line_of}
 use Rattle.q_command.specs.Names.{ThreeNames, names_read}
 use Rattle.q_command.specs.Statuses.{status_of}
@@ -35,20 +37,35 @@ IsFirstBadShared j k F (e ∷ es) offence line cause =
     ((line ≡ e.0) × judged (j k) (Cause standard F e.1 cause) (Unfit standard F e.1 cause))
     ⊎ (judged (j k) (Valid standard F e.1) (Applies standard F e.1) × IsFirstBadShared j (k + 1) (after F e.1) es offence line cause)
 
--- the log is refused at this line; one of the second profile as by those who judge all steps
+-- the same of steps with their proof parts
+abbrev pub IsFirstBadHintedShared : Share → ℕ → NumberedFormula → List HintedEntry → Option LogError → ℕ → ℕ → Type 0
+IsFirstBadHintedShared j k N [] offence line cause = IsOffence offence line cause
+IsFirstBadHintedShared j k N (h ∷ hs) offence line cause =
+    ((line ≡ h.0) × judged (j k) (HintedCause standard N h.1.step h.1.proof cause) (HintedUnfit standard N h.1.step h.1.proof cause))
+    ⊎ (judged (j k) (HintedValid standard N h.1.step h.1.proof) (HintedApplies standard N h.1.step h.1.proof)
+    × IsFirstBadHintedShared j (k + 1) (hinted_after N h.1.step h.1.proof) hs offence line cause)
+
+-- the log is refused at this line
 abbrev pub IsRefusedShared : Share → PrenexFormula → List ℕ → ℕ → ℕ → Type 0
 IsRefusedShared j F log line cause =
     ((Profile standard.bytes log ≡ 1) × IsFirstBadShared j 0 F (logs.read standard.bytes log).steps (logs.read standard.bytes log).refused line cause)
-    ⊎ ((Profile standard.bytes log ≡ 2) × IsFirstBadHinted (begun F) (hinted_in (read_entries standard.bytes log).entries) (read_entries standard.bytes log).refused line cause)
+    ⊎ ((Profile standard.bytes log ≡ 2) × IsFirstBadHintedShared j 0 (begun F) (hinted_in (read_entries standard.bytes log).entries) (read_entries standard.bytes log).refused line cause)
 
 -- the bytes are a plain log, whose steps lead from F to G as far as the share tells
 pub record IsPlainShareLog (j : Share) (log : List ℕ) (F G : PrenexFormula) (entries : List Entry) : Type 0 where
   pub is_log : logs.Steps standard.bytes log ≡ Some entries
   pub run : ShareRun j F (steps_of entries) G
 
--- the same of a log of either profile; where it has hints, all steps are judged by them
+-- the bytes are a log of the second profile; without their proof parts the steps are the entries
+pub record IsHintedShareLog (j : Share) (log : List ℕ) (F G : PrenexFormula) (entries : List Entry) : Type 0 where
+  pub hinted : List HintedEntry
+  pub is_log : HintedSteps standard.bytes log ≡ Some hinted
+  pub run : HintedShareRun j F (hinted_of hinted) G
+  pub entries_are : entries ≡ stripped hinted
+
+-- a log of either profile
 abbrev pub IsShareLog : Share → List ℕ → PrenexFormula → PrenexFormula → List Entry → Type 0
-IsShareLog j log F G entries = IsPlainShareLog j log F G entries ⊎ IsHintedRunLog log F G entries
+IsShareLog j log F G entries = IsPlainShareLog j log F G entries ⊎ IsHintedShareLog j log F G entries
 
 abbrev pub LeadsShared : Share → List ℕ → PrenexFormula → PrenexFormula → Type 0
 LeadsShared j log F G = (entries : List Entry) × IsShareLog j log F G entries
@@ -68,10 +85,17 @@ pub record IsPlainShareWay (j : Share) (log : List ℕ) (F last : PrenexFormula)
   pub steps : AreMade j standard 0 F (steps_of entries)
   pub last_is : last ≡ made F (steps_of entries)
 
+-- the same of a log of the second profile, where those of the share are valid as their proof parts show
+pub record IsHintedShareWay (j : Share) (log : List ℕ) (F last : PrenexFormula) : Type 0 where
+  pub hinted : List HintedEntry
+  pub is_log : HintedSteps standard.bytes log ≡ Some hinted
+  pub steps : AreHintedMade j standard 0 (begun F) (hinted_of hinted)
+  pub last_is : last ≡ plain (hinted_made (begun F) (hinted_of hinted))
+
 -- the steps end in a formula other than G
 pub record EndsElsewhereShared (j : Share) (log : List ℕ) (F G : PrenexFormula) (cause : ℕ) : Type 0 where
   pub last : PrenexFormula
-  pub way : IsPlainShareWay j log F last ⊎ IsHintedWay log F last
+  pub way : IsPlainShareWay j log F last ⊎ IsHintedShareWay j log F last
   pub apart : EndsApart last G cause
 
 -- what the outcome says of a log, from the formula F to G

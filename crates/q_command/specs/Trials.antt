@@ -40,7 +40,7 @@ pub record HasTried (e : BothEntry) (old new : Trial) : Type 0 where
 -- the step is wrong behind those of its profile
 abbrev pub IsWrong : Share → PrenexFormula → List BothEntry → ProofStep → Option ProofPart → ℕ → Type 0
 IsWrong j F es s None cause = IsWrongPlain j F (plain_in es) s cause
-IsWrong j F es s (Some t) cause = IsWrongHinted F (hinted_in es) s t cause
+IsWrong j F es s (Some t) cause = IsWrongHinted j F (hinted_in es) s t cause
 
 -- what is said of a step behind others
 abbrev pub Convicts : Share → Outcome → PrenexFormula → List BothEntry → BothEntry → Type 0

@@ -45,7 +45,7 @@ impl Judges {
         }
     }
 
-    /// Takes a step if it is valid, or, where it isn't judged, if it can be made; one with a proof part, if this shows it.
+    /// Takes a step if it is valid, one with a proof part if this shows it, or, where it isn't judged, if it can be made.
     pub fn step(
         &mut self,
         step: &Step,
@@ -69,7 +69,7 @@ impl Judges {
     {
         match proof {
             None => self.step_plain(step, judged),
-            Some(proof) => self.step_hinted(step, proof),
+            Some(proof) => self.step_hinted(step, proof, judged),
         }
     }
 
@@ -95,17 +95,20 @@ impl Judges {
         self.plain.step(step, judged)
     }
 
-    fn step_hinted(&mut self, step: &Step, proof: &Proof) -> Result<(), CheckError>
-        requires { hints_taken self.old.hinted < 2 ^ 61 }
+    fn step_hinted(&mut self, step: &Step, proof: &Proof, judged: bool) -> Result<(), CheckError>
+        requires hints { hints_taken self.old.hinted < 2 ^ 61 }
+        requires free { judged ≡ false → IsFree self.old }
         ensures behind { OnOk result
-            ((F : PrenexFormula) → IsHeld F self.old.origin → (hs : List (ℕ × Hinted)) → (line : ℕ)
-            → IsBehindHinted self.old.keeps_undo F hs self.old.hinted
-            → IsBehindHinted self.old.keeps_undo F
+            ((F : PrenexFormula) → IsHeld F self.old.origin → (j : Share) → (hs : List (ℕ × Hinted))
+            → (line : ℕ) → judged ≡ j (length hs)
+            → IsBehindHinted self.old.keeps_undo j F hs self.old.hinted
+            → IsBehindHinted self.old.keeps_undo j F
             (hs ++ (line, record { step = step.now; proof = proof.now }) ∷ []) self.new.hinted) }
         ensures refused { IfErr result (λ e.
-            (F : PrenexFormula) → IsHeld F self.old.origin → (hs : List (ℕ × Hinted))
-            → IsBehindHinted self.old.keeps_undo F hs self.old.hinted
-            → IsBadHinted F hs step.now proof.now e) }
+            (F : PrenexFormula) → IsHeld F self.old.origin → (j : Share) → (hs : List (ℕ × Hinted))
+            → judged ≡ j (length hs) → IsBehindHinted self.old.keeps_undo j F hs self.old.hinted
+            → IsBadHinted j F hs step.now proof.now e) }
+        ensures free { OnOk result (IsFree self.old → IsFree self.new) }
         ensures origin { OnOk result
             ((F : PrenexFormula) → IsHeld F self.old.origin → IsHeld F self.new.origin) }
         ensures same { SameTask self.old self.new }
@@ -115,7 +118,7 @@ impl Judges {
     {
         self.hinted.fill(self.alloc, &self.origin, self.keeps_undo)?;
         self.origin.release();
-        self.hinted.step(step, proof)
+        self.hinted.step(step, proof, judged)
     }
 
     /// Ends the check: blocks and clauses are those of the output, in any order.

@@ -2,7 +2,7 @@
 ghost use Rattle.std.specs.Prelude.{◌≡◌, ◌<◌, ◌+◌, ◌^◌, false, None, IsSome, IsSomeAnd, is_some, OnOk, IfErr};
 ghost use Rattle.q_judge.specs.declared.error.CheckError.TheVariants.{NoMemory as MemoryError};
 ghost use Rattle.q_logic.specs.Prelude.{PrenexFormula};
-ghost use Rattle.q_command.specs.LazyCheckers.{IsHeld, HasSteppedHinted, HasSteppedPlain, IsEndedHinted, IsEndedPlain, IsReadyHinted, IsReadyPlain, KeepsNone, hints_taken};
+ghost use Rattle.q_command.specs.LazyCheckers.{IsHeld, HasSteppedHinted, HasSteppedPlain, IsEndedHinted, IsEndedPlain, IsReadyHinted, IsReadyPlain, KeepsNoHinted, KeepsNone, hints_taken};
 
 use crate::origin::Origin;
 use q_check::{CheckError, Checker, HintChecker, Verified};
@@ -137,14 +137,19 @@ impl LazyHintChecker {
         Ok(())
     }
 
-    /// A step of the checker that is here.
-    pub fn step(&mut self, step: &Step, proof: &Proof) -> Result<(), CheckError>
+    /// A step of the checker that is here, which judges it by its hints, or makes it without a look at them.
+    pub fn step(&mut self, step: &Step, proof: &Proof, judged: bool) -> Result<(), CheckError>
         requires there { IsSome self.old }
+        requires free { judged ≡ false → KeepsNoHinted self.old }
         requires hints { hints_taken self.old < 2 ^ 61 }
-        ensures stepped { HasSteppedHinted step.now proof.now result self.old self.new }
+        ensures stepped { HasSteppedHinted step.now proof.now judged result self.old self.new }
         ensures taken { OnOk result (hints_taken self.new ≡ hints_taken self.old + 1) }
     {
-        self.row[0].step(step, proof)
+        if judged {
+            self.row[0].step(step, proof)
+        } else {
+            self.row[0].pass(step, proof)
+        }
     }
 
     /// The end of the checker that is here.

@@ -1,3 +1,4 @@
+//! The outcome of a check of a log. Commands that check one first hold it in their own outcome, and say its line.
 ghost use Rattle.std.specs.Prelude.{◌≡◌};
 ghost use Rattle.q_command.specs.Statuses.{status_of};
 ghost use Rattle.q_command.specs.Lines.{line_of};

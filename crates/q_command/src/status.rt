@@ -1,3 +1,4 @@
+//! The statuses of all commands, and the exit status of each: 10 and 20 for truth values, as with QBF and SAT solvers.
 ghost use Rattle.std.specs.Prelude.{◌≡◌};
 ghost use Rattle.q_command.specs.Statuses.{code_of, passes as spec_passes};
 

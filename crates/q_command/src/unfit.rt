@@ -1,3 +1,5 @@
+//! Circuits that are none of a formula: one enum for the commands that judge circuits. The crates below them keep errors of
+//! their own, since their contracts speak of different prefixes.
 ghost use Rattle.std.specs.Prelude.{◌≡◌};
 ghost use Rattle.q_command.specs.Unfits.{line_of_unfit};
 

@@ -1,19 +1,20 @@
 -- Circuits over the drops of a variable, from the last to the first.
-use Rattle.std.proofs.Common.{◌≡◌, ℕ, zero, suc, ◌+◌, ◌<◌, ◌≤◌, Bool, true, false, cond, eqb, List, [], ◌∷◌, ◌++◌, inl, inr, length, map, drop, get_or, slice_get, arith, refl, sym, ap, ◌∙◌, subst, Option, Some, None}
+use Rattle.std.proofs.Common.{◌≡◌, ℕ, zero, suc, ◌+◌, ◌<◌, ◌≤◌, Bool, true, false, cond, eqb, List, [], ◌∷◌, ◌++◌, inl, inr, length, map, drop, get_or, slice_get, arith, refl, sym, ap, ap₂, ◌∙◌, subst, Option, Some, None}
 use Rattle.std.proofs.lemmas.List.{length_push, length-map, drop_all}
 use Rattle.std.proofs.lemmas.Option.{slice_get_within}
-use Rattle.q_logic.specs.Prelude.{Literal, IsIn, value_of, conjunction, Strategy, literal_circuit, falsum}
+use Rattle.q_logic.specs.Prelude.{Literal, IsIn, literals_in, value_of, conjunction, Strategy, literal_circuit, falsum}
 use Rattle.q_logic.proofs.Common.{IsIn-append_left}
-use Rattle.q_aig.specs.Prelude.{Net, IsLiteral, tree_at, operand_of, Serves, IsConjunction}
+use Rattle.q_aig.specs.Prelude.{Net, IsLiteral, tree_at, operand_of, Keeps, Serves, IsConjunction}
 use Rattle.q_aig.proofs.Substitutes.{serves-self, serves-same, serves-then, serves-conjunction}
-use Rattle.q_carry.specs.Prelude.{AreLiterals, IsAt, IsGrown, IsRaised, literal_operand}
+use Rattle.q_carry.specs.Prelude.{look_at, AreLiterals, IsAt, IsGrown, IsRaised, ClauseCovered, literal_operand}
+use Rattle.q_carry.specs.Tabled.{is_there}
 use Rattle.q_carry.proofs.Folds.{and-start, and-assoc, IsIn-last}
-use Rattle.q_carry.proofs.LiteralRows.{at-kept, literal-serves}
+use Rattle.q_carry.proofs.LiteralRows.{literals-kept, at-kept, literal-serves, literals-put}
 use Rattle.q_carry.proofs.CircuitParts.{grown-none, grown-then, grown-by, true-serves, false-serves, constant-there, raise-more}
 use Rattle.q_derive.specs.Extracted.{Drop, every_circuit, made, decided}
 use Rattle.q_extract.specs.declared.drops.Fall.{Fall}
 use Rattle.q_extract.specs.Rows.{IsHere, IsLast, drop_of, kept_in}
-use Rattle.q_extract.specs.Built.{IsEvery, IsMade, weight_of, AllCovered, IsDecided}
+use Rattle.q_extract.specs.Built.{IsEvery, AreHeld, HeldServe, unmade, IsShared, IsGuard, IsMade, cost_of, whole, beside, AllCovered, IsDecided}
 
 pub get-is : {X : Type 0} (xs : List X) (i : ℕ) (x : X) → i < length xs → x ≡ get_or xs i x → slice_get xs i ≡ Some x
 get-is [] i x h e = absurd (omega arith)
@@ -62,15 +63,116 @@ every-more old now new ins tb T k l m r li lt s e d =
           serves-then _ _ _ d.serves (serves-then _ _ _ (serves-conjunction _ _ _ _ a b) (every-last c T k));
     }
 
+-- guards
+pub there-is : (o : Option ℕ) (l : ℕ) → o ≡ Some l → is_there o ≡ true
+there-is o l e = ap is_there e
+
+unmade-same : (guards : List (List Literal)) (f g : ℕ → Option ℕ) → ((x : ℕ) → g x ≡ f x) → unmade guards g ≡ unmade guards f
+unmade-same [] f g h = refl
+unmade-same (T ∷ guards) f g h =
+    ap₂ (λ (o : Option ℕ) (n : ℕ). cond (is_there o) 0 (length T) + n) (h 0) (unmade-same guards (λ x. f (x + 1)) (λ x. g (x + 1)) (λ x. h (x + 1)))
+
+add-one : (n : ℕ) → n + 1 ≡ suc n
+add-one n = omega arith
+
+first-not : (x : ℕ) → eqb (x + 1) 0 ≡ false
+first-not x = grind arith
+
+next-same : (x n : ℕ) → eqb (x + 1) (suc n) ≡ eqb x n
+next-same x n = grind arith
+
+unmade-less : (guards : List (List Literal)) (f g : ℕ → Option ℕ) (n l : ℕ) (T : List Literal) → slice_get guards n ≡ Some T → f n ≡ None →
+    ((x : ℕ) → g x ≡ cond (eqb x n) (Some l) (f x)) → unmade guards g + length T ≡ unmade guards f
+unmade-less [] f g n l T e z h = absurd (cc)
+unmade-less (S ∷ guards) f g zero l T e z h =
+    let a : is_there (g 0) ≡ true = ap is_there (h 0) in
+    let b : is_there (f 0) ≡ false = ap is_there z in
+    let s : S ≡ T = cc in
+    let m : length S ≡ length T = ap length s in
+    let r : unmade guards (λ x. g (x + 1)) ≡ unmade guards (λ x. f (x + 1)) = unmade-same guards (λ x. f (x + 1)) (λ x. g (x + 1)) (λ x. h (x + 1) ∙ ap (λ (t : Bool). cond t (Some l) (f (x + 1))) (first-not x)) in
+    rw (a, b, r) (omega arith)
+unmade-less (S ∷ guards) f g (suc n) l T e z h =
+    let a : g 0 ≡ f 0 = h 0 ∙ ap (λ (t : Bool). cond t (Some l) (f 0)) (let q : eqb 0 (suc n) ≡ false = grind arith in q) in
+    let r : unmade guards (λ x. g (x + 1)) + length T ≡ unmade guards (λ x. f (x + 1)) = unmade-less guards (λ x. f (x + 1)) (λ x. g (x + 1)) n l T e (ap f (add-one n) ∙ z) (λ x. h (x + 1) ∙ ap (λ (t : Bool). cond t (Some l) (f (x + 1))) (next-same x n)) in
+    rw a (omega arith)
+
+pub unmade-none : (guards : List (List Literal)) (f : ℕ → Option ℕ) → ((x : ℕ) → f x ≡ None) → unmade guards f ≡ literals_in guards
+unmade-none [] f h = refl
+unmade-none (T ∷ guards) f h =
+    let a : is_there (f 0) ≡ false = ap is_there (h 0) in
+    let r = unmade-none guards (λ x. f (x + 1)) (λ x. h (x + 1)) in
+    rw (a, r) refl
+
+pub held-serve-kept : (a b : Net) (guards : List (List Literal)) (held : List (Option ℕ)) (U : ℕ → Bool) (c : Strategy) → Keeps a b →
+    AreLiterals a held → HeldServe a guards held U c → HeldServe b guards held U c
+held-serve-kept a b guards held U c k lits h g l e =
+    let r = h g l e in (r.0, serves-then _ _ _ (serves-same _ _ (k l (lits g l e)).1) r.1)
+
+pub guard-held : (a : Net) (ins tb : List (Option ℕ)) (guards : List (List Literal)) (held : List (Option ℕ)) (g l : ℕ) →
+    AreHeld a guards held → look_at held g ≡ Some l → IsGuard a a ins tb guards held held (kept_in (slice_get guards g)) l
+guard-held a ins tb guards held g l h e = record {
+  grown = grown-then a a a 0 0 (length (kept_in (slice_get guards g))) (grown-none a) (grown-none a) (omega arith);
+  shared = omega arith;
+  there = h.literals g l e;
+  sound = h;
+  serves = λ U c at v w. (v, (v g l e).1);
+}
+
+pub guard-made : (old new : Net) (ins tb : List (Option ℕ)) (guards : List (List Literal)) (held held2 : List (Option ℕ)) (g l : ℕ) (T : List Literal) →
+    AreHeld old guards held → look_at held g ≡ None → slice_get guards g ≡ Some T → IsEvery old new ins tb T l → length held2 ≡ length held →
+    ((x : ℕ) → look_at held2 x ≡ cond (eqb x g) (Some l) (look_at held x)) →
+    IsGuard old new ins tb guards held held2 (kept_in (slice_get guards g)) l
+guard-made old new ins tb guards held held2 g l T h none at e size put =
+    subst (λ (S : List Literal). IsGuard old new ins tb guards held held2 S l) (sym own) (record {
+      grown = e.grown;
+      shared =
+          let u : unmade guards (look_at held2) + length T ≡ unmade guards (look_at held) = unmade-less guards (look_at held) (look_at held2) g l T at none put in
+          let n : length new.gates ≤ length old.gates + length T = e.grown.gates in
+          omega arith;
+      there = e.there;
+      sound = record {
+        size = size ∙ h.size;
+        literals = literals-put new held held2 g (Some l) put (λ m q. let s : l ≡ m = cc in subst (IsLiteral new) s e.there) (literals-kept old new held e.grown.kept h.literals);
+      };
+      serves = λ U c a v w. (all U c a v w, e.serves U c a w);
+    })
+  where
+    own : kept_in (slice_get guards g) ≡ T
+    own = ap kept_in at
+
+    all : (U : ℕ → Bool) (c : Strategy) → IsAt old ins tb U c → HeldServe old guards held U c → ClauseCovered U c T → HeldServe new guards held2 U c
+    all U c a v w x m q = go (eqb x g) refl (sym (put x) ∙ q)
+      where
+        go : (b : Bool) → eqb x g ≡ b → cond b (Some l) (look_at held x) ≡ Some m →
+            ClauseCovered U c (kept_in (slice_get guards x)) × Serves (tree_at new m) (every_circuit c (kept_in (slice_get guards x)))
+        go true s f =
+            let i : x ≡ g = grind arith in
+            let k : l ≡ m = cc in
+            let o : kept_in (slice_get guards x) ≡ T = ap (λ n. kept_in (slice_get guards n)) i ∙ own in
+            subst (λ (S : List Literal). ClauseCovered U c S × Serves (tree_at new m) (every_circuit c S)) (sym o)
+            (w, subst (λ n. Serves (tree_at new n) (every_circuit c T)) k (e.serves U c a w))
+        go false s f = held-serve-kept old new guards held U c e.grown.kept h.literals v x m f
+
 -- one drop
-pub made-is : (old mid new : Net) (ins tb : List (Option ℕ)) (k : Literal) (T : List Literal) (a h r : ℕ) → IsLiteral old a →
-    IsEvery old mid ins tb T h → IsRaised mid new k.negative a h r → IsMade old new ins tb k T a r
-made-is old mid new ins tb k T a h r la e d = record {
+pub made-is : (old mid new : Net) (ins tb : List (Option ℕ)) (guards : List (List Literal)) (held held2 : List (Option ℕ)) (k : Literal) (T : List Literal) (a h r : ℕ) → IsLiteral old a →
+    IsGuard old mid ins tb guards held held2 T h → IsRaised mid new k.negative a h r → IsMade old new ins tb guards held held2 k T a r
+made-is old mid new ins tb guards held held2 k T a h r la e d = record {
   grown = grown-then old mid new (length T) 1 (length T + 1) e.grown d.grown (omega arith);
+  shared =
+      let x : IsShared old mid guards held held2 0 = e.shared in
+      let y : length new.gates ≤ length mid.gates + 1 = d.grown.gates in
+      omega arith;
   there = d.there;
-  serves = λ U c t g v s.
+  sound = record {
+    size = e.sound.size;
+    literals = literals-kept mid new held2 d.grown.kept e.sound.literals;
+  };
+  serves = λ U c t g v w s.
       let x : Serves (tree_at mid a) t = serves-then _ _ _ (serves-same _ _ (e.grown.kept a la).1) s in
-      serves-then _ _ _ d.serves (raise-more k.negative _ _ _ _ x (e.serves U c g v));
+      let y = e.serves U c g v w in (
+        held-serve-kept mid new guards held2 U c d.grown.kept e.sound.literals y.0,
+        serves-then _ _ _ d.serves (raise-more k.negative _ _ _ _ x y.1),
+      );
 }
 
 -- drops of other variables
@@ -118,39 +220,51 @@ drop-in guards (x ∷ row) zero f e = let s : x ≡ f = cc in inl (ap (drop_of g
 drop-in guards (x ∷ row) (suc j) f e = inr (drop-in guards row j f e)
 
 -- the circuit over the drops from a place on
-pub record IsPart (old new : Net) (ins tb : List (Option ℕ)) (e : ℕ) (ds : List Drop) (n l : ℕ) : Type 0 where
-  pub grown : IsGrown old new (weight_of e (drop n ds))
+pub record IsPart (old new : Net) (ins tb : List (Option ℕ)) (guards : List (List Literal)) (held held2 : List (Option ℕ)) (e : ℕ) (ds : List Drop) (n l : ℕ) : Type 0 where
+  pub grown : IsGrown old new (cost_of whole e (drop n ds))
+  pub shared : IsShared old new guards held held2 (cost_of beside e (drop n ds))
   pub there : IsLiteral new l
-  pub serves : (U : ℕ → Bool) → (c : Strategy) → IsAt old ins tb U c → AllCovered U c e ds → Serves (tree_at new l) (decided c e (drop n ds))
+  pub sound : AreHeld new guards held2
+  pub serves : (U : ℕ → Bool) → (c : Strategy) → IsAt old ins tb U c → HeldServe old guards held U c → AllCovered U c e ds →
+      HeldServe new guards held2 U c × Serves (tree_at new l) (decided c e (drop n ds))
 
-pub part-start : (a : Net) (ins tb : List (Option ℕ)) (e : ℕ) (guards : List (List Literal)) (row : List Fall) (n l : ℕ) → n ≡ length row →
-    (operand_of l).node ≡ falsum → (operand_of l).negated ≡ false → IsPart a a ins tb e (map (drop_of guards) row) n l
-part-start a ins tb e guards row n l m f g =
+pub part-start : (a : Net) (ins tb : List (Option ℕ)) (held : List (Option ℕ)) (e : ℕ) (guards : List (List Literal)) (row : List Fall) (n l : ℕ) → n ≡ length row →
+    AreHeld a guards held → (operand_of l).node ≡ falsum → (operand_of l).negated ≡ false → IsPart a a ins tb guards held held e (map (drop_of guards) row) n l
+part-start a ins tb held e guards row n l m h f g =
     let len : length (map (drop_of guards) row) ≡ length row = length-map row (drop_of guards) in
     let z : drop n (map (drop_of guards) row) ≡ [] = drop_all n (map (drop_of guards) row) (omega arith) in
     record {
       grown = rw z (grown-none a);
+      shared = rw z (omega arith);
       there = constant-there a l f;
-      serves = λ U c h v. rw z (false-serves a l f g);
+      sound = h;
+      serves = λ U c at v w. (v, rw z (false-serves a l f g));
     }
 
 skip-decided : (c : Strategy) (e : ℕ) (d : Drop) (ds : List Drop) → eqb d.literal.var e ≡ false → decided c e (d ∷ ds) ≡ decided c e ds
 skip-decided c e d ds h = rw h refl
 
-skip-weight : (e : ℕ) (d : Drop) (ds : List Drop) → eqb d.literal.var e ≡ false → weight_of e (d ∷ ds) ≡ weight_of e ds
-skip-weight e d ds h = rw h refl
+skip-cost : (w : Drop → ℕ) (e : ℕ) (d : Drop) (ds : List Drop) → eqb d.literal.var e ≡ false → cost_of w e (d ∷ ds) ≡ cost_of w e ds
+skip-cost w e d ds h = rw h refl
 
-pub part-more : (old now new : Net) (ins tb : List (Option ℕ)) (e : ℕ) (guards : List (List Literal)) (row : List Fall) (n j a r : ℕ) (f : Fall) →
-    AreLiterals old ins → AreLiterals old tb → IsPart old now ins tb e (map (drop_of guards) row) n a → IsLast row e n (Some j) →
-    slice_get row j ≡ Some f → IsMade now new ins tb f.lit (kept_in (slice_get guards f.guard)) a r →
-    IsPart old new ins tb e (map (drop_of guards) row) j r
-part-more old now new ins tb e guards row n j a r f li lt p (below, (g, q, v), none) at m = record {
-  grown = grown-then old now new (weight_of e (drop n ds)) (length d.kept + 1) (weight_of e (drop j ds)) p.grown m.grown (let z = heavy in omega arith);
+pub part-more : (old now new : Net) (ins tb : List (Option ℕ)) (held held2 held3 : List (Option ℕ)) (e : ℕ) (guards : List (List Literal)) (row : List Fall) (n j a r : ℕ) (f : Fall) →
+    AreLiterals old ins → AreLiterals old tb → IsPart old now ins tb guards held held2 e (map (drop_of guards) row) n a → IsLast row e n (Some j) →
+    slice_get row j ≡ Some f → IsMade now new ins tb guards held2 held3 f.lit (kept_in (slice_get guards f.guard)) a r →
+    IsPart old new ins tb guards held held3 e (map (drop_of guards) row) j r
+part-more old now new ins tb held held2 held3 e guards row n j a r f li lt p (below, (g, q, v), none) at m = record {
+  grown = grown-then old now new (cost_of whole e (drop n ds)) (length d.kept + 1) (cost_of whole e (drop j ds)) p.grown m.grown (let z = heavy whole in omega arith);
+  shared =
+      let z : cost_of beside e (drop j ds) ≡ 1 + cost_of beside e (drop n ds) = heavy beside in
+      let x : IsShared old now guards held held2 (cost_of beside e (drop n ds)) = p.shared in
+      let y : IsShared now new guards held2 held3 1 = m.shared in
+      omega arith;
   there = m.there;
-  serves = λ U c h w.
+  sound = m.sound;
+  serves = λ U c h u w.
       let x = at-kept old now ins tb U c p.grown.kept li lt h in
-      subst (Serves (tree_at new r)) (sym (whole c))
-      (m.serves U c (decided c e (drop n ds)) x (w d (drop-in guards row j f at) own) (p.serves U c h w));
+      let y = p.serves U c h u w in
+      let z = m.serves U c (decided c e (drop n ds)) x y.0 (w d (drop-in guards row j f at) own) y.1 in
+      (z.0, subst (Serves (tree_at new r)) (sym (circuit c)) z.1);
 }
   where
     ds : List Drop
@@ -162,25 +276,28 @@ part-more old now new ins tb e guards row n j a r f li lt p (below, (g, q, v), n
     own : eqb f.lit.var e ≡ true
     own = let s : g ≡ f = cc in let z : f.lit.var ≡ e = subst (λ (y : Fall). y.lit.var ≡ e) s v in grind arith
 
-    whole : (c : Strategy) → decided c e (drop j ds) ≡ made f.lit (every_circuit c d.kept) (decided c e (drop n ds))
-    whole c =
+    circuit : (c : Strategy) → decided c e (drop j ds) ≡ made f.lit (every_circuit c d.kept) (decided c e (drop n ds))
+    circuit c =
         ap (decided c e) (drop-here guards row j f at) ∙
         ap (λ (b : Bool). cond b (made f.lit (every_circuit c d.kept) (decided c e (drop (suc j) ds))) (decided c e (drop (suc j) ds))) own ∙
         ap (made f.lit (every_circuit c d.kept)) (skip-between (decided c e) e (skip-decided c e) guards row (suc j) n (omega arith) (λ i x y. none i (omega arith) y))
 
-    heavy : weight_of e (drop j ds) ≡ length d.kept + 1 + weight_of e (drop n ds)
-    heavy =
-        ap (weight_of e) (drop-here guards row j f at) ∙
-        ap (λ (b : Bool). cond b (length d.kept + 1 + weight_of e (drop (suc j) ds)) (weight_of e (drop (suc j) ds))) own ∙
-        ap (λ k. length d.kept + 1 + k) (skip-between (weight_of e) e (skip-weight e) guards row (suc j) n (omega arith) (λ i x y. none i (omega arith) y))
+    heavy : (w : Drop → ℕ) → cost_of w e (drop j ds) ≡ w d + cost_of w e (drop n ds)
+    heavy w =
+        ap (cost_of w e) (drop-here guards row j f at) ∙
+        ap (λ (b : Bool). cond b (w d + cost_of w e (drop (suc j) ds)) (cost_of w e (drop (suc j) ds))) own ∙
+        ap (λ k. w d + k) (skip-between (cost_of w e) e (skip-cost w e) guards row (suc j) n (omega arith) (λ i x y. none i (omega arith) y))
 
-pub part-end : (old new : Net) (ins tb : List (Option ℕ)) (e : ℕ) (guards : List (List Literal)) (row : List Fall) (ds : List Drop) (n l : ℕ) →
-    map (drop_of guards) row ≡ ds → IsPart old new ins tb e (map (drop_of guards) row) n l → IsLast row e n None →
-    IsDecided old new ins tb e ds l
-part-end old new ins tb e guards row ds n l q p none = subst (λ (xs : List Drop). IsDecided old new ins tb e xs l) q (record {
-  grown = subst (IsGrown old new) (sym (skip-front (weight_of e) e (skip-weight e) guards row n none)) p.grown;
+pub part-end : (old new : Net) (ins tb : List (Option ℕ)) (held held2 : List (Option ℕ)) (e : ℕ) (guards : List (List Literal)) (row : List Fall) (ds : List Drop) (n l : ℕ) →
+    map (drop_of guards) row ≡ ds → IsPart old new ins tb guards held held2 e (map (drop_of guards) row) n l → IsLast row e n None →
+    IsDecided old new ins tb guards held held2 e ds l
+part-end old new ins tb held held2 e guards row ds n l q p none = subst (λ (xs : List Drop). IsDecided old new ins tb guards held held2 e xs l) q (record {
+  grown = subst (IsGrown old new) (sym (skip-front (cost_of whole e) e (skip-cost whole e) guards row n none)) p.grown;
+  shared = subst (IsShared old new guards held held2) (sym (skip-front (cost_of beside e) e (skip-cost beside e) guards row n none)) p.shared;
   there = p.there;
-  serves = λ U c h v. subst (Serves (tree_at new l)) (sym (skip-front (decided c e) e (skip-decided c e) guards row n none)) (p.serves U c h v);
+  sound = p.sound;
+  serves = λ U c h u w. let y = p.serves U c h u w in
+      (y.0, subst (Serves (tree_at new l)) (sym (skip-front (decided c e) e (skip-decided c e) guards row n none)) y.1);
 })
 
 pub last-below : (row : List Fall) (e n : ℕ) (at : Option ℕ) (j : ℕ) → IsLast row e n at → at ≡ Some j → j < length row

@@ -1,5 +1,5 @@
 -- Drops, as the code holds them.
-use Rattle.std.specs.Prelude.{◌≡◌, ◌<◌, ℕ, List, [], ◌∷◌, ◌++◌, length, map, slice_get, Option, Some, None}
+use Rattle.std.specs.Prelude.{◌≡◌, ◌<◌, ℕ, List, [], ◌++◌, length, map, slice_get, Option, Some, None}
 use Rattle.q_logic.specs.Prelude.{Literal}
 use Rattle.q_carry.specs.Prelude.{look_at}
 use Rattle.q_derive.specs.Extracted.{Drop}

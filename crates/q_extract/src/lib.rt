@@ -6,6 +6,7 @@
 mod building;
 mod drops;
 mod extracting;
+mod guards;
 
 pub use drops::{Drops, Fall, no_drops, take_away};
 pub use extracting::extract;

@@ -1,3 +1,4 @@
+//! What `refute` and `Trail` refuse: circuits that are none of the result, and steps that no reversal undoes.
 use q_logic::NoMemory as MemoryMissing;
 use std::alloc::AllocError;
 

@@ -1,3 +1,5 @@
+//! Why a step is refused. The numbers are those of the lines that are put and of the table of causes; which of them comes
+//! is the least that applies (`specs/Causes`).
 ghost use Rattle.std.specs.Prelude.{◌≡◌};
 ghost use Rattle.q_judge.specs.Causes.{number};
 ghost use Rattle.q_judge.specs.declared.error.CheckError.TheVariants.{Refused as refused};

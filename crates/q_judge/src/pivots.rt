@@ -261,6 +261,17 @@ pub fn warrant_of(
     Ok(Warrant::Pivot)
 }
 
+// What follows from the clauses alone is found before a clause goes whose pivot is evident. Where it is not found, as behind a
+// clause of one literal, the store lets all of it go with the clause, and finds it anew.
+fn find_root(store: &mut Store, skip: Option<usize>) -> Result<(), NoMemory>
+    ensures { store.new ≡ store.old }
+{
+    if skip.is_some() {
+        store.implied(&[], None)?;
+    }
+    Ok(())
+}
+
 /// Whether the clause may come or go; refused as by `warrant_of`. An evident pivot is looked for first, since that takes no
 /// propagation.
 pub fn permit_of(
@@ -285,6 +296,7 @@ pub fn permit_of(
         candidate.clause,
         candidate.first,
     )? {
+        find_root(store, candidate.skip)?;
         return Ok(());
     }
     warrant_of(store, scope, buffers, candidate)?;

@@ -1,3 +1,4 @@
+//! The judge's answer.
 use q_aig::Certificate;
 
 /// What the judge says of a trace.

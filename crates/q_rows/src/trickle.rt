@@ -1,3 +1,4 @@
+//! A device that answers each read with a single byte, so that readers meet every cut of their bytes.
 ghost use Rattle.std.specs.Prelude.{Some};
 
 use q_io::{DeviceError, Files, MemFiles};

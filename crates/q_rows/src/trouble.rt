@@ -1,3 +1,4 @@
+//! What may go wrong while a row is played. Each error of the crates below becomes one of these, so that rows use `?`.
 use q_check::CheckError;
 use q_io::DeviceError;
 use q_logic::NoMemory as MemoryMissing;

@@ -1,3 +1,4 @@
+//! The outcome of `annotate`: its status and its line.
 ghost use Rattle.std.specs.Prelude.{◌≡◌};
 ghost use Rattle.q_command.specs.Sinks.{IsSaid, view_sink};
 ghost use Rattle.q_run_annotate.specs.AnnotatedLines.{line_of_annotated, status_of_annotated};

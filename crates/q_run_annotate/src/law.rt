@@ -1,3 +1,4 @@
+//! What `annotate` promises to `check`: a law over the files that it leaves.
 ghost use Rattle.std.specs.Prelude.{◌≡◌, ◌≢◌, ◌≤◌, ℕ, length, Some};
 ghost use Rattle.q_io.specs.Files.{Disk, bytes_at};
 ghost use Rattle.q_command.specs.Checks.{IsVerified};

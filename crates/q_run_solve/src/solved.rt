@@ -1,3 +1,4 @@
+//! The outcome of `solve`: its status and its line.
 ghost use Rattle.std.specs.Prelude.{◌≡◌};
 ghost use Rattle.q_command.specs.Sinks.{IsSaid, view_sink};
 ghost use Rattle.q_run_solve.specs.SolvedLines.{line_of_solved, status_of_solved};

@@ -1,3 +1,5 @@
+//! The outcome of `validate`: its status and its line. The line of a counterexample is made before it is put, since it may
+//! be of any length and want memory (`text`).
 ghost use Rattle.std.specs.Prelude.{◌≡◌};
 ghost use Rattle.q_command.specs.Sinks.{IsSaid, view_sink};
 ghost use Rattle.q_run_validate.specs.ValidatedLines.{line_of_validated, status_of_validated};

@@ -5,10 +5,11 @@ use Rattle.q_logic.specs.Prelude.{PrenexFormula, IsIn, SameFormula, standard}
 use Rattle.q_logic.specs.Steps.{ProofStep, add, delete, drop_literal, fresh, remove_variable}
 use Rattle.q_logic.specs.Hinted.{NumberedFormula, ProofPart, Hinted, HintedValid, HintedSteps, HintedRun, hinted_after, begun, plain}
 use Rattle.q_shares.specs.Shares.{Share, judged, shares_of, AreDealt}
-use Rattle.q_shares.specs.HintedShares.{HintedApplies, hinted_made, AreHintedMade, HintedShareRun, AllSayHinted}
+use Rattle.q_same_steps.specs.HintedMaking.{HintedApplies, hinted_made}
+use Rattle.q_shares.specs.HintedShares.{AreHintedMade, HintedShareRun, AllSayHinted}
 use Rattle.q_shares.proofs.SharedRuns.{finds}
 
-hinted_valid-applies : (m : Limits) (F : NumberedFormula) (s : ProofStep) (t : ProofPart) → HintedValid m F s t → HintedApplies m F s t
+pub hinted_valid-applies : (m : Limits) (F : NumberedFormula) (s : ProofStep) (t : ProofPart) → HintedValid m F s t → HintedApplies m F s t
 hinted_valid-applies m F (add p C) t v = (v.0, v.2)
 hinted_valid-applies m F (delete p C) t v = (v.0, v.1)
 hinted_valid-applies m F (drop_literal l C) t v = (v.0, v.1)
@@ -26,11 +27,11 @@ shared-hinted js m k F (h ∷ hs) d a =
       shared-hinted js m (k + 1) (hinted_after F h.step h.proof) hs d (λ i n. (a i n).1),
     )
 
-hinted-made : (m : Limits) (F E : NumberedFormula) (hs : List Hinted) → HintedSteps m F hs E → hinted_made F hs ≡ E
+pub hinted-made : (m : Limits) (F E : NumberedFormula) (hs : List Hinted) → HintedSteps m F hs E → hinted_made F hs ≡ E
 hinted-made m F E [] e = e
 hinted-made m F E (h ∷ hs) (v, r) = hinted-made m (hinted_after F h.step h.proof) E hs r
 
-hinted-shared : (j : Share) (m : Limits) (k : ℕ) (F E : NumberedFormula) (hs : List Hinted) → HintedSteps m F hs E → AreHintedMade j m k F hs
+pub hinted-shared : (j : Share) (m : Limits) (k : ℕ) (F E : NumberedFormula) (hs : List Hinted) → HintedSteps m F hs E → AreHintedMade j m k F hs
 hinted-shared j m k F E [] e = tt
 hinted-shared j m k F E (h ∷ hs) (v, r) = (go (j k), hinted-shared j m (k + 1) (hinted_after F h.step h.proof) E hs r)
   where

@@ -29,11 +29,11 @@ shared-valid js m k F (s ∷ ss) d h =
       shared-valid js m (k + 1) (after F s) ss d (λ i n. (h i n).1),
     )
 
-valid-made : (m : Limits) (F E : PrenexFormula) (ss : List ProofStep) → ValidSteps m F ss E → made F ss ≡ E
+pub valid-made : (m : Limits) (F E : PrenexFormula) (ss : List ProofStep) → ValidSteps m F ss E → made F ss ≡ E
 valid-made m F E [] e = e
 valid-made m F E (s ∷ ss) (v, r) = valid-made m (after F s) E ss r
 
-valid-shared : (j : Share) (m : Limits) (k : ℕ) (F E : PrenexFormula) (ss : List ProofStep) → ValidSteps m F ss E → AreMade j m k F ss
+pub valid-shared : (j : Share) (m : Limits) (k : ℕ) (F E : PrenexFormula) (ss : List ProofStep) → ValidSteps m F ss E → AreMade j m k F ss
 valid-shared j m k F E [] e = tt
 valid-shared j m k F E (s ∷ ss) (v, r) = (go (j k), valid-shared j m (k + 1) (after F s) E ss r)
   where

@@ -1,3 +1,4 @@
+//! What a run of the simplifier is told.
 use q_logic::Bounds;
 
 /// How far the rules may go, and after which fall of the measure no further target is taken.

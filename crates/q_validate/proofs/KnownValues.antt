@@ -15,9 +15,7 @@ use Rattle.q_search.specs.Walks.{AreUniversal}
 use Rattle.q_logic.specs.declared.formulas.Quant.TheVariants.{Forall}
 use Rattle.q_search.proofs.PathValues.{set-unbound, set-value, open-bound}
 use Rattle.q_logic.specs.Branches.{known, known_both, known_signed, as_prefix, claim_of, literal_value, search_of, true_literals, counter_at, counter}
-use Rattle.q_validate.specs.Stands.{unset, values, known_along, nothing_known, AreTold, Spot, claim_at, node_of}
-use Rattle.q_validate.specs.Words.{path_to, Tells}
-use Rattle.q_validate.specs.declared.words.Known.{Known}
+use Rattle.q_validate.specs.Stands.{unset, values, known_along, AreTold, Spot, claim_at, node_of}
 
 tail-distinct : (u : ℕ) (us : List ℕ) → AreDistinct (u ∷ us) → AreDistinct us
 tail-distinct u us d i j h k e = let z : suc i ≡ suc j = d (suc i) (suc j) (omega arith) (omega arith) e in omega arith
@@ -71,18 +69,24 @@ known-input us vs i d h = elim (cases_lt i (length vs)) [
 ]
 
 -- One more gate.
-pub told-more : (a : Net) (path : List Bool) (row more : List Known) (l r : ℕ) (z : Known) → IsNet a → AreTold a path row →
-    slice_get a.gates (length row) ≡ Some (gate_of (l, r)) →
-    Tells z (λ m. known_both (known_along a.inputs (path ++ path_to m) (tree_at a l)) (known_along a.inputs (path ++ path_to m) (tree_at a r))) →
-    more ≡ row ++ z ∷ [] → AreTold a path more
-told-more a path row more l r z net k s q m g h = elim (cases_lt g (length row)) [
+pub told-more : {T : Type 0} (Says : T → (List Bool → Option Bool) → Type 0) (a : Net) (path : List Bool) (row more : List T) (l r : ℕ) (z : T) →
+    IsNet a → AreTold Says a path row → slice_get a.gates (length row) ≡ Some (gate_of (l, r)) →
+    Says z (λ w. known_both (known_along a.inputs (path ++ w) (tree_at a l)) (known_along a.inputs (path ++ w) (tree_at a r))) →
+    more ≡ row ++ z ∷ [] → AreTold Says a path more
+told-more {T} Says a path row more l r z net k s q m g v e = elim (cases_lt g (length row)) [
   | inl w ↦
-      subst (λ (v : Known). Tells v (λ n. known_along a.inputs (path ++ path_to n) (get_or (gate_trees a.inputs [] a.gates) g (Circuit.constant false))))
-      (sym (ap (λ (t : List Known). get_or t g nothing_known) m ∙ get_or_append_left row (z ∷ []) nothing_known g w)) (k g w)
+      k g v (slice_get-get_or row g z w ∙ ap (λ (x : T). Some x) (sym (get_or_append_left row (z ∷ []) z g w) ∙ ap (λ (t : List T). get_or t g z) (sym m))
+      ∙ sym (slice_get-get_or more g z (slice_get_within more g v e)) ∙ e)
   | inr w ↦
       let n : length more ≡ length row + 1 = ap length m ∙ length_push row z in
+      let b : g < length more = slice_get_within more g v e in
       let i : length row ≡ g = omega arith in
-      subst (λ (j : ℕ). Tells (get_or more j nothing_known) (λ n. known_along a.inputs (path ++ path_to n) (get_or (gate_trees a.inputs [] a.gates) j (Circuit.constant false)))) i last
+      let t : Some z ≡ Some v =
+      ap (λ (x : T). Some x) (sym (ap (λ (j : ℕ). get_or more j z) (sym i) ∙ ap (λ (t : List T). get_or t (length row) z) m ∙ get_or_push row z z (length row) refl))
+      ∙ sym (slice_get-get_or more g z b) ∙ e in
+      let y : z ≡ v = (cc) in
+      subst (λ (x : T). Says x (λ w. known_along a.inputs (path ++ w) (get_or (gate_trees a.inputs [] a.gates) g (Circuit.constant false)))) y
+      (subst (λ (j : ℕ). Says z (λ w. known_along a.inputs (path ++ w) (get_or (gate_trees a.inputs [] a.gates) j (Circuit.constant false)))) i last)
 ]
   where
     d : Gate
@@ -101,11 +105,8 @@ told-more a path row more l r z net k s q m g h = elim (cases_lt g (length row))
         subst (λ (j : ℕ). get_or (gate_trees a.inputs [] a.gates) j (Circuit.constant false) ≡ gate_tree a.inputs (gate_trees a.inputs [] a.gates) d) o
         (subst (λ (x : Gate). get_or (gate_trees a.inputs [] a.gates) (0 + length row) (Circuit.constant false) ≡ gate_tree a.inputs (gate_trees a.inputs [] a.gates) x) is t)
 
-    last : Tells (get_or more (length row) nothing_known) (λ n. known_along a.inputs (path ++ path_to n) (get_or (gate_trees a.inputs [] a.gates) (length row) (Circuit.constant false)))
-    last =
-        subst (λ (v : Known). Tells v (λ n. known_along a.inputs (path ++ path_to n) (get_or (gate_trees a.inputs [] a.gates) (length row) (Circuit.constant false))))
-        (sym (ap (λ (t : List Known). get_or t (length row) nothing_known) m ∙ get_or_push row z nothing_known (length row) refl))
-        (subst (λ (t : Circuit). Tells z (λ n. known_along a.inputs (path ++ path_to n) t)) (sym tree) q)
+    last : Says z (λ w. known_along a.inputs (path ++ w) (get_or (gate_trees a.inputs [] a.gates) (length row) (Circuit.constant false)))
+    last = subst (λ (t : Circuit). Says z (λ w. known_along a.inputs (path ++ w) t)) (sym tree) q
 
 -- The name at the place of an input.
 pub name-at : (us : List ℕ) (v : ℕ) → place (as_prefix us) v < length us → (get_or us (place (as_prefix us) v) 0 ≡ v) × (is_bound (as_prefix us) v ≡ true)

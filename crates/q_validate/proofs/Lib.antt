@@ -1,5 +1,7 @@
 pub mod KnownValues
 pub mod ClauseReads
+pub mod ClauseValues
 pub mod FalseClause
 pub mod WordBits
-pub mod WordVerdicts
+pub mod LineValues
+pub mod NodeValues

@@ -1,8 +1,8 @@
 -- Bits of words, and the words of inputs.
-use Rattle.std.proofs.Common.{◌≡◌, ◌+◌, ◌-◌, ◌*◌, ◌/◌, ◌%◌, ◌^◌, ◌<◌, ◌≤◌, ℕ, zero, suc, Bool, true, false, cond, not, ◌&&◌, ◌||◌, eqb, nat_lt, List, [], ◌∷◌, ◌++◌, length, get_or, slice_get, Option, Some, None, min, max, bit_and, bit_or, refl, sym, ap, ◌∙◌, arith, add-one, w64}
+use Rattle.std.proofs.Common.{◌≡◌, ◌+◌, ◌*◌, ◌/◌, ◌%◌, ◌^◌, ◌<◌, ◌≤◌, ℕ, zero, suc, Bool, true, false, cond, ◌&&◌, ◌||◌, eqb, nat_lt, List, [], ◌∷◌, ◌++◌, length, get_or, slice_get, Option, Some, None, min, max, bit_and, bit_or, refl, sym, ap, ◌∙◌, arith, add-one}
 use mir.Val.{bool_byte}
-use Rattle.std.specs.Int.{bit_at, bit_not}
-use Rattle.std.proofs.lemmas.Nat.Bits.{bit_at_and, bit_at_or, bit_at-lt, bit_at-zero, bit_at_ones, bit_at_not}
+use Rattle.std.specs.Int.{bit_at}
+use Rattle.std.proofs.lemmas.Nat.Bits.{bit_at_and, bit_at_or, bit_at-lt, bit_at-zero, bit_at_ones}
 use Rattle.std.proofs.Math.Nat.{pow-succ'}
 use Rattle.std.proofs.Math.Pow.{pow_mono}
 use Rattle.std.proofs.lemmas.Option.{slice_get_past}
@@ -29,11 +29,6 @@ max-bits (suc zero) (suc zero) l h = refl
 max-bits (suc zero) (suc (suc b)) l h = absurd (omega arith)
 max-bits (suc (suc a)) b l h = absurd (omega arith)
 
-not-bits : (a : ℕ) → a < 2 → eqb (1 - a) 1 ≡ not (eqb a 1)
-not-bits zero l = refl
-not-bits (suc zero) l = refl
-not-bits (suc (suc a)) l = absurd (omega arith)
-
 pub bit-and : (a b m : ℕ) → bit (bit_and a b) m ≡ bit a m && bit b m
 bit-and a b m = ap (λ n. eqb n 1) (bit_at_and a b m) ∙ min-bits (bit_at a m) (bit_at b m) (bit_at-lt a m) (bit_at-lt b m)
 
@@ -45,9 +40,6 @@ bit-zero m = ap (λ n. eqb n 1) (bit_at-zero m)
 
 pub bit-ones : (m : ℕ) → m < 64 → bit 18446744073709551615 m ≡ true
 bit-ones m h = ap (λ n. eqb n 1) (bit_at_ones 64 m h)
-
-pub bit-not : (a m : ℕ) → a < 2 ^ 64 → m < 64 → bit (bit_not w64 a) m ≡ not (bit a m)
-bit-not a m l h = ap (λ n. eqb n 1) (bit_at_not w64 a m l h) ∙ not-bits (bit_at a m) (bit_at-lt a m)
 
 -- a test of the first numbers
 all_below : ℕ → (ℕ → Bool) → Bool
@@ -77,7 +69,7 @@ input_tested : all_below 5 (λ j. all_below 64 (input_test j)) ≡ true
 unfolding all_below input_test path_to
 input_tested = refl
 
-pub input-told : (j : ℕ) → j < 5 → Tells (record { zero = get_or ZEROS j 0; one = get_or ONES j 0 }) (λ m. slice_get (path_to m) j)
+pub input-told : (j : ℕ) → j < 5 → Tells (record { zero = get_or ZEROS j 0; one = get_or ONES j 0 }) (λ w. slice_get w j)
 unfolding input_test
 input-told j h = record {
   zeros = λ m l. bool_eq-sound _ _ (both m l).0;
@@ -104,7 +96,7 @@ short_tested = refl
 pub path-short : (m : ℕ) → m < 64 → length (path_to m) ≤ 5
 path-short m h = let z : nat_lt (length (path_to m)) 6 ≡ true = all_below-one 64 (λ n. nat_lt (length (path_to n)) 6) short_tested m h in grind arith
 
-pub input-untold : (j : ℕ) → 5 ≤ j → Tells (record { zero = 0; one = 0 }) (λ m. slice_get (path_to m) j)
+pub input-untold : (j : ℕ) → 5 ≤ j → Tells (record { zero = 0; one = 0 }) (λ w. slice_get w j)
 input-untold j h = record {
   zeros = λ m l. bit-zero m ∙ sym (ap is_zero (none m l));
   ones = λ m l. bit-zero m ∙ sym (ap is_one (none m l));
@@ -114,11 +106,11 @@ input-untold j h = record {
     none m l = let z : length (path_to m) ≤ 5 = path-short m l in slice_get_past (path_to m) j (omega arith)
 
 -- what is known, taken together
-pub both-told : (x y z : Known) (f g : ℕ → Option Bool) → z.zero ≡ bit_or x.zero y.zero → z.one ≡ bit_and x.one y.one →
-    Tells x f → Tells y g → Tells z (λ m. known_both (f m) (g m))
+pub both-told : (x y z : Known) (f g : List Bool → Option Bool) → z.zero ≡ bit_or x.zero y.zero → z.one ≡ bit_and x.one y.one →
+    Tells x f → Tells y g → Tells z (λ w. known_both (f w) (g w))
 both-told x y z f g d e t u = record {
-  zeros = λ m l. ap (λ w. bit w m) d ∙ bit-or x.zero y.zero m ∙ both (bit x.zero m) (bit y.zero m) (f m) (g m) (t.zeros m l) (u.zeros m l);
-  ones = λ m l. ap (λ w. bit w m) e ∙ bit-and x.one y.one m ∙ each (bit x.one m) (bit y.one m) (f m) (g m) (t.ones m l) (u.ones m l);
+  zeros = λ m l. ap (λ w. bit w m) d ∙ bit-or x.zero y.zero m ∙ both (bit x.zero m) (bit y.zero m) (f (path_to m)) (g (path_to m)) (t.zeros m l) (u.zeros m l);
+  ones = λ m l. ap (λ w. bit w m) e ∙ bit-and x.one y.one m ∙ each (bit x.one m) (bit y.one m) (f (path_to m)) (g (path_to m)) (t.ones m l) (u.ones m l);
 }
   where
     zero-both : (a b : Option Bool) → is_zero a || is_zero b ≡ is_zero (known_both a b)
@@ -141,10 +133,10 @@ both-told x y z f g d e t u = record {
     each : (p q : Bool) (a b : Option Bool) → p ≡ is_one a → q ≡ is_one b → p && q ≡ is_one (known_both a b)
     each p q a b h k = ap (λ r. r && q) h ∙ ap (λ r. is_one a && r) k ∙ one-both a b
 
-pub true-told : Tells (record { zero = 0; one = 18446744073709551615 }) (λ m. Some true)
+pub true-told : Tells (record { zero = 0; one = 18446744073709551615 }) (λ w. Some true)
 true-told = record { zeros = λ m l. bit-zero m; ones = λ m l. bit-ones m l }
 
-pub false-told : Tells (record { zero = 18446744073709551615; one = 0 }) (λ m. Some false)
+pub false-told : Tells (record { zero = 18446744073709551615; one = 0 }) (λ w. Some false)
 false-told = record { zeros = λ m l. bit-ones m l; ones = λ m l. bit-zero m }
 
 -- One step down the path.

@@ -1,5 +1,5 @@
 -- Where the search stands, and the rows that it reads.
-use Rattle.std.specs.Prelude.{◌≡◌, ◌<◌, ◌≤◌, ◌++◌, ℕ, Bool, true, false, List, [], length, take, slice_index_or, Option, Some, None}
+use Rattle.std.specs.Prelude.{◌≡◌, ◌<◌, ◌≤◌, ◌++◌, ◌-◌, ℕ, Bool, true, false, List, [], length, take, slice_get, slice_index_or, Option, Some, None}
 use Rattle.q_logic.specs.declared.verdict.Verdict.{Verdict}
 use Rattle.q_logic.specs.Prelude.{Literal, Clause, Prefix, PrenexFormula, Assignment, Circuit, CertificateView, gate_trees, trees_of, given, Node, nothing}
 use Rattle.q_logic.specs.Prefixes.{place, is_bound, is_existential}
@@ -9,9 +9,11 @@ use Rattle.q_search.specs.Paths.{along, rest_of}
 use Rattle.q_search.specs.PlaceTables.{PlaceRow, ArePlaces}
 use Rattle.q_search.specs.Walks.{Walk}
 use Rattle.q_carry.specs.Prelude.{AreCircuits}
-use Rattle.q_validate.specs.Words.{path_to, Tells, TellsVerdict}
-use Rattle.q_validate.specs.declared.words.Known.{Known}
+use Rattle.q_validate.specs.Below.{known_clause, known_clauses}
+use Rattle.q_validate.specs.Words.{Tells}
+use Rattle.q_validate.specs.Lines.{zeros, Follows}
 use Rattle.q_validate.specs.declared.node.Block.{Block}
+use Rattle.q_validate.specs.declared.node.Line.{Line}
 use Rattle.std.proofs.Common.{refl, ◌∙◌}
 
 -- a formula, a certificate, and values of the first inputs
@@ -48,38 +50,44 @@ literal_along q path k = literal_value q (unset q.inputs path) (values q.inputs 
 abbrev pub clause_along : Claim → List Bool → Clause → Verdict
 clause_along q path C = clause_verdict q (unset q.inputs path) (values q.inputs path) C
 
-abbrev pub verdict_along : Claim → List Bool → Verdict
-verdict_along q path = verdict q q.formula.matrix (unset q.inputs path) (values q.inputs path)
+abbrev pub clause_known : Claim → List Bool → Clause → Option Bool
+clause_known q path C = known_clause q (unset q.inputs path) (values q.inputs path) C
 
-abbrev pub nothing_known : Known
-nothing_known = record { zero = 0; one = 0 }
+abbrev pub formula_known : Claim → List Bool → Option Bool
+formula_known q path = known_clauses q (unset q.inputs path) (values q.inputs path) q.formula.matrix
 
--- what is known of each of the first gates, at all nodes below the end of a path
-abbrev pub AreTold : Net → List Bool → List Known → Type 0
-AreTold a path row =
-    (g : ℕ) → g < length row →
-    Tells (slice_index_or row g nothing_known)
-    (λ m. known_along a.inputs (path ++ path_to m) (slice_index_or (gate_trees a.inputs [] a.gates) g (Circuit.constant false)))
+-- what is known of each of the first gates, at all nodes of a shape below the end of a path
+abbrev pub AreTold : {T : Type 0} → (T → (List Bool → Option Bool) → Type 0) → Net → List Bool → List T → Type 0
+AreTold Says a path row =
+    (g : ℕ) (k : _) → slice_get row g ≡ Some k →
+    Says k (λ w. known_along a.inputs (path ++ w) (slice_index_or (gate_trees a.inputs [] a.gates) g (Circuit.constant false)))
 
 -- the same of each gate
-pub record IsRow (c : CertificateView) (path : List Bool) (row : List Known) : Type 0 where
-  pub room : length row ≡ length c.gates
-  pub told : AreTold (net_of c) path row
+abbrev pub IsRow : {T : Type 0} → (T → (List Bool → Option Bool) → Type 0) → CertificateView → List Bool → List T → Type 0
+IsRow Says c path row = (length row ≡ length c.gates) × AreTold Says (net_of c) path row
 
--- what the clauses say of all nodes below the end of a path, if this was found
+-- what is known of the formula at all nodes of a subtree that holds the end of the path, if this was found
 abbrev pub IsBlock : Claim → List Bool → Option Block → Type 0
 IsBlock q path None = Unit {0}
 IsBlock q path (Some b) =
-    (b.base ≤ length path) × TellsVerdict b.told (λ m. verdict_along q (take b.base path ++ path_to m))
+    (b.base ≤ length path) × Tells b.told (λ w. formula_known q (take b.base path ++ w))
+
+-- the same at all nodes of a line that holds it
+abbrev pub IsLine : Claim → List Bool → Option Line → Type 0
+IsLine q path None = Unit {0}
+IsLine q path (Some l) =
+    (l.base ≤ length path) × (path ≡ take l.base path ++ zeros (length path - l.base))
+    × Follows l.told (λ w. formula_known q (take l.base path ++ w))
 
 -- what holds of each node
-pub record IsStand (F : PrenexFormula) (c : CertificateView) (tb : List (Option ℕ)) (places : PlaceRow) (path : List Bool) (block : Option Block) : Type 0 where
+pub record IsStand (F : PrenexFormula) (c : CertificateView) (tb : List (Option ℕ)) (places : PlaceRow) (path : List Bool) (block : Option Block) (line : Option Line) : Type 0 where
   pub net : IsNet (net_of c)
   pub circuits : AreCircuits (net_of c) (trees_of c) tb
   pub are_places : ArePlaces (as_prefix c.inputs) places
   pub trees : (x : ℕ) → given (trees_of c x) ≡ is_existential F.prefix x
   pub within : length path ≤ length c.inputs
   pub told : IsBlock (claim_of F c) path block
+  pub straight : IsLine (claim_of F c) path line
 
 -- formula and certificate stay
 pub record KeepsClaim (s t : Spot) : Type 0 where

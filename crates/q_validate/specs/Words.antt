@@ -1,11 +1,9 @@
 -- Words with a bit for each node of a subtree.
-use Rattle.std.specs.Prelude.{◌≡◌, ◌<◌, ◌/◌, ◌%◌, ℕ, zero, suc, Bool, true, false, cond, eqb, nat_lt, List, [], ◌∷◌, ◌++◌, Option}
+use Rattle.std.specs.Prelude.{◌≡◌, ◌<◌, ◌/◌, ◌%◌, ℕ, zero, suc, Bool, cond, eqb, nat_lt, List, [], ◌∷◌, ◌++◌, Option}
 use Rattle.std.specs.Int.{bit_at}
-use Rattle.q_logic.specs.declared.verdict.Verdict.{Verdict}
-use Rattle.q_logic.specs.declared.verdict.Verdict.TheVariants.{Lost, Won, Open}
-use Rattle.q_logic.specs.Branches.{is_zero, is_one, is_false}
+use Rattle.q_logic.specs.Branches.{is_zero, is_one}
 use Rattle.q_validate.specs.declared.words.Known.{Known}
-use Rattle.q_validate.specs.declared.words.Told.{Told}
+use Rattle.std.proofs.Common.{ap, ◌∙◌}
 
 abbrev pub bit : ℕ → ℕ → Bool
 bit word m = eqb (bit_at word m) 1
@@ -23,16 +21,12 @@ abbrev pub Marks : ℕ → (ℕ → Bool) → Type 0
 Marks word f = (m : ℕ) → m < 64 → bit word m ≡ f m
 
 -- what is known at each node
-pub record Tells (k : Known) (f : ℕ → Option Bool) : Type 0 where
-  pub zeros : Marks k.zero (λ m. is_zero (f m))
-  pub ones : Marks k.one (λ m. is_one (f m))
+pub record Tells (k : Known) (f : List Bool → Option Bool) : Type 0 where
+  pub zeros : Marks k.zero (λ m. is_zero (f (path_to m)))
+  pub ones : Marks k.one (λ m. is_one (f (path_to m)))
 
-abbrev pub is_won : Verdict → Bool
-is_won Lost = false
-is_won Won = true
-is_won Open = false
-
--- what is said of each node
-pub record TellsVerdict (t : Told) (f : ℕ → Verdict) : Type 0 where
-  pub losts : Marks t.lost (λ m. is_false (f m))
-  pub wons : Marks t.won (λ m. is_won (f m))
+pub tells_same : (k : Known) (f g : List Bool → Option Bool) → Tells k f → ((w : List Bool) → f w ≡ g w) → Tells k g
+tells_same k f g t e = record {
+  zeros = λ m l. t.zeros m l ∙ ap is_zero (e (path_to m));
+  ones = λ m l. t.ones m l ∙ ap is_one (e (path_to m));
+}

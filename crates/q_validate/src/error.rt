@@ -1,3 +1,4 @@
+//! Why circuits are not validated: the four refusals of `q_carry`, under the names that `validate` says, and want of memory.
 use q_carry::Misfit;
 use q_logic::NoMemory as MemoryMissing;
 

@@ -1,16 +1,19 @@
-//! A node of the search for a false clause: the values of the first inputs. What the clauses say is found for a node and
-//! all nodes of the five levels below it in one pass over the gates, and kept while the search stays below that node.
-ghost use Rattle.std.specs.Prelude.{◌≡◌, ◌≤◌, ◌<◌, ◌+◌, ◌++◌, ◌∷◌, [], ℕ, length, Some, IfOk, IfSome, OnOk, OnErr, MatchOption};
+//! A node of the search for a false clause: the values of the first inputs. One pass over the gates tells what the clauses
+//! say of many nodes, and is kept while the search stays among these: of a *line*, down to the last input, where the
+//! search goes deep, or of a *block*, the five levels below a node, where it turns near its leaves. So n inputs that all
+//! get values cost three passes, and 32 leaves beside each other one.
+ghost use Rattle.std.specs.Prelude.{◌≡◌, ◌≤◌, ◌<◌, ◌+◌, ◌++◌, ◌∷◌, [], ℕ, false, length, Some, None, IfOk, IfSome, OnOk, OnErr, MatchOption};
 ghost use Rattle.q_logic.specs.declared.verdict.Verdict.TheVariants.{Open};
 ghost use Rattle.q_logic.specs.Prelude.{is_existential, trees_of, given};
 ghost use Rattle.q_logic.specs.Branches.{as_prefix};
-ghost use Rattle.q_aig.specs.Prelude.{AreDistinct, net_of};
+ghost use Rattle.q_aig.specs.Prelude.{IsNet, net_of};
 ghost use Rattle.q_carry.specs.Prelude.{AreCircuits};
 ghost use Rattle.q_search.specs.Walks.{said_here, IsInner};
-ghost use Rattle.q_validate.specs.Stands.{claim_at, walk_of, IsBlock, IsPlace};
+ghost use Rattle.q_validate.specs.Stands.{claim_at, walk_of, IsBlock, IsLine, IsPlace};
 
 use crate::known::fill;
-use crate::words::{DEPTH, Known, Told, node_at};
+use crate::line::Since;
+use crate::words::{DEPTH, Known, node_at};
 use q_aig::Certificate;
 use q_logic::{Bound, Formula, NoMemory, Quant, Verdict};
 use q_search::{PlaceTable, Position};
@@ -21,11 +24,18 @@ use std::mem::replace;
 mod clauses;
 mod counter;
 
-/// What the clauses say of a node after so many values, and of the nodes below it.
+/// What is known of the formula at a node after so many values, and at the nodes of the five levels below it.
 #[derive(Clone, Copy)]
 pub struct Block {
     pub base: usize,
-    pub told: Told,
+    pub told: Known,
+}
+
+/// What is known of it at a node after so many values, and at those to which zeros lead from there.
+#[derive(Clone, Copy)]
+pub struct Line {
+    pub base: usize,
+    pub told: Since,
 }
 
 /// The values of the first inputs, in a certificate whose circuits are to be Skolem functions of a formula.
@@ -37,7 +47,11 @@ pub struct Node<'a> {
     places: PlaceTable,
     path: Vec<bool>,
     block: Option<Block>,
+    line: Option<Line>,
+    // The length of the path at the last leaf.
+    reach: usize,
     row: Vec<Known>,
+    line_row: Vec<Since>,
 }
 
 impl<'a> Model for Node<'a> {
@@ -52,7 +66,7 @@ impl<'a> Model for Node<'a> {
     } };
 
     ghost invariant = { λ n. IsStand n.formula.now n.certificate.now n.circuits.items n.places
-        n.path.items n.block };
+        n.path.items n.block n.line };
 }
 
 // The inputs as a prefix of universals.
@@ -69,13 +83,13 @@ fn universals(alloc: Global, names: &[u32]) -> Result<Vec<Bound>, NoMemory>
     Ok(prefix)
 }
 
-// Where a block begins: five inputs before the end, or at the node itself.
-fn base_of(values: usize, inputs: usize) -> usize
-    requires { values ≤ inputs }
+// Where a block begins that is to hold the leaves at a depth: five inputs above them, or at the node itself.
+fn base_of(values: usize, leaves: usize) -> usize
+    requires { values ≤ leaves }
     ensures within { result ≤ values }
     ensures near { values ≤ result + 5 }
 {
-    values.min(inputs.saturating_sub(DEPTH))
+    values.min(leaves.saturating_sub(DEPTH))
 }
 
 // The block, if the node after so many values is in it.
@@ -86,6 +100,13 @@ fn kept(block: Option<Block>, values: usize) -> Option<Block>
         Some(found) if found.base <= values => block,
         _ => None,
     }
+}
+
+// The line, if one more value leads along it.
+fn straight(line: Option<Line>, value: bool) -> Option<Line>
+    ensures { IfSome result (λ l. (line ≡ Some l) × (value ≡ false)) }
+{
+    if value { None } else { line }
 }
 
 impl<'a> Node<'a> {
@@ -115,14 +136,17 @@ impl<'a> Node<'a> {
             places,
             path: Vec::new(alloc),
             block: None,
+            line: None,
+            reach: 0,
             row: Vec::new(alloc),
+            line_row: Vec::new(alloc),
         })
     }
 
     // The place of an input among the inputs.
     fn place(&self, var: u32) -> Option<usize>
         ensures place { IsPlace self.now.certificate.inputs var result }
-        ensures distinct { AreDistinct self.now.certificate.inputs }
+        ensures net { IsNet (net_of self.now.certificate) }
     {
         let place = self.places.place(var);
         if place < self.certificate.aig().inputs().len() {
@@ -141,22 +165,29 @@ impl<'a> Node<'a> {
         fill(self.certificate.aig(), path, row)?;
         Ok(Block {
             base,
-            told: self.formula_told(path, row),
+            told: self.formula_known(path, row),
         })
     }
 
-    // The block in which the node is: the one that is there, or a new one.
-    fn find_block(&mut self) -> Result<Block, NoMemory>
-        ensures same { self.new ≡ self.old }
-        ensures near { IfOk result (λ b. length self.old.path ≤ b.base + 5) }
-        ensures block { IfOk result (λ b. IsBlock (claim_at self.old) self.old.path (Some b)) }
+    // The block that is there, if the node is in it.
+    fn near_block(&self) -> Option<Block>
+        ensures near { IfSome result (λ b. length self.now.path ≤ b.base + 5) }
+        ensures block { IfSome result (λ b. IsBlock (claim_at self.now) self.now.path (Some b)) }
     {
-        if let Some(block) = self.block {
-            if self.path.len() - block.base <= DEPTH {
-                return Ok(block);
-            }
+        match self.block {
+            Some(block) if self.path.len() - block.base <= DEPTH => Some(block),
+            _ => None,
         }
-        self.renew()
+    }
+
+    // How many values the next leaf may have.
+    fn leaves(&self) -> usize
+        ensures { length self.now.path ≤ result }
+    {
+        if self.reach < self.path.len() {
+            return self.certificate.aig().inputs().len();
+        }
+        self.reach
     }
 
     // A new block.
@@ -165,12 +196,68 @@ impl<'a> Node<'a> {
         ensures near { IfOk result (λ b. length self.old.path ≤ b.base + 5) }
         ensures block { IfOk result (λ b. IsBlock (claim_at self.old) self.old.path (Some b)) }
     {
-        let base = base_of(self.path.len(), self.certificate.aig().inputs().len());
+        let base = base_of(self.path.len(), self.leaves());
         let mut row = replace(&mut self.row, Vec::new(*self.path.allocator()));
         let block = self.survey(base, &mut row)?;
         self.row = row;
         self.block = Some(block);
         Ok(block)
+    }
+
+    // What the clauses say of the nodes to which zeros lead from here.
+    fn look_down(&self, row: &mut Vec<Since>) -> Result<Line, NoMemory>
+        ensures { IfOk result (λ l. IsLine (claim_at self.now) self.now.path (Some l)) }
+    {
+        fill(self.certificate.aig(), &self.path, row)?;
+        Ok(Line {
+            base: self.path.len(),
+            told: self.formula_known(&self.path, row),
+        })
+    }
+
+    // A new line.
+    fn draw(&mut self) -> Result<Line, NoMemory>
+        ensures same { self.new ≡ self.old }
+        ensures line { IfOk result (λ l. IsLine (claim_at self.old) self.old.path (Some l)) }
+    {
+        let mut row = replace(&mut self.line_row, Vec::new(*self.path.allocator()));
+        let line = self.look_down(&mut row)?;
+        self.line_row = row;
+        self.line = Some(line);
+        Ok(line)
+    }
+
+    // Whether the next leaf is likely to lie deeper than two blocks go.
+    fn goes_deep(&self) -> bool {
+        self.leaves().saturating_sub(self.path.len()) > 2 * DEPTH + 1
+    }
+
+    // What the clauses say of the node, by what is there or by a new pass.
+    fn find_verdict(&mut self) -> Result<Verdict, NoMemory>
+        ensures same { self.new ≡ self.old }
+        ensures value { IfOk result (λ v. v ≡ said_here (walk_of self.old)) }
+    {
+        if let Some(block) = self.near_block() {
+            return Ok(self.look(block));
+        }
+        if let Some(line) = self.line {
+            return Ok(self.look_along(line));
+        }
+        if self.goes_deep() {
+            let line = self.draw()?;
+            return Ok(self.look_along(line));
+        }
+        let block = self.renew()?;
+        Ok(self.look(block))
+    }
+
+    // Notes how deep a leaf is.
+    fn note(&mut self, verdict: Verdict)
+        ensures { self.new ≡ self.old }
+    {
+        if let Verdict::Won = verdict {
+            self.reach = self.path.len();
+        }
     }
 
     fn give(&mut self, value: bool) -> Result<(), NoMemory>
@@ -183,6 +270,7 @@ impl<'a> Node<'a> {
         ensures err { OnErr result (self.new ≡ self.old) }
     {
         self.path.push(value)?;
+        self.line = straight(self.line, value);
         Ok(())
     }
 
@@ -197,6 +285,7 @@ impl<'a> Node<'a> {
     {
         let value = self.path.pop()?;
         self.block = kept(self.block, self.path.len());
+        self.line = None;
         Some(value)
     }
 
@@ -204,11 +293,18 @@ impl<'a> Node<'a> {
     fn look(&self, block: Block) -> Verdict
         requires near { length self.now.path ≤ block.base + 5 }
         requires block { IsBlock (claim_at self.now) self.now.path (Some block) }
-        ensures value { result ≡ said_here (walk_of self.now) }
-        ensures open { result ≡ Open → IsInner (walk_of self.now) }
+        ensures { result ≡ said_here (walk_of self.now) }
     {
         let node = node_at(&self.path[block.base..]);
         block.told.at(node)
+    }
+
+    // The same by its line.
+    fn look_along(&self, line: Line) -> Verdict
+        requires { IsLine (claim_at self.now) self.now.path (Some line) }
+        ensures { result ≡ said_here (walk_of self.now) }
+    {
+        line.told.at(self.path.len() - line.base)
     }
 }
 
@@ -220,8 +316,9 @@ impl<'a> Position for Node<'a> {
     ghost Keeps = { KeepsClaim };
 
     fn verdict(&mut self) -> Result<Verdict, NoMemory> {
-        let block = self.find_block()?;
-        Ok(self.look(block))
+        let verdict = self.find_verdict()?;
+        self.note(verdict);
+        Ok(verdict)
     }
 
     fn down(&mut self, value: bool) -> Result<(), NoMemory> {

@@ -1,10 +1,10 @@
 //! Words with a bit for each of the 63 nodes of a subtree of six levels: its root is 1, and below n stand 2n, where the
 //! next input is 0, and 2n + 1, where it is 1. So one step on words is a step at all these nodes.
-ghost use Rattle.std.specs.Prelude.{◌≡◌, ◌≤◌, ◌<◌, ℕ, Bool, Option, Some, None, length, slice_get};
-ghost use Rattle.q_logic.specs.declared.verdict.Verdict.{Verdict as Said};
-ghost use Rattle.q_logic.specs.Branches.{known_both, known_signed};
-ghost use Rattle.q_validate.specs.Words.{bit, path_to, Tells, TellsVerdict};
+ghost use Rattle.std.specs.Prelude.{◌≡◌, ◌≤◌, ◌<◌, List, Bool, Option, length};
+ghost use Rattle.q_validate.specs.Below.{verdict_of};
+ghost use Rattle.q_validate.specs.Words.{bit, path_to, Tells};
 
+use crate::below::Below;
 use q_logic::Verdict;
 
 /// How many inputs may get a value below the root of a subtree.
@@ -56,10 +56,28 @@ pub struct Known {
 }
 
 impl Known {
-    /// The same at each node.
-    pub fn value(value: bool) -> Known
-        ensures { Tells result (λ m. Some value) }
+    /// What a value says of a node.
+    pub fn at(self, node: u32) -> Verdict
+        requires { node < 64 }
+        ensures { (f : List Bool → Option Bool) → Tells self f
+            → result ≡ verdict_of (f (path_to node)) }
     {
+        if is_set(self.zero, node) {
+            return Verdict::Lost;
+        }
+        if is_set(self.one, node) {
+            return Verdict::Won;
+        }
+        Verdict::Open
+    }
+}
+
+impl Below for Known {
+    ghost use Rattle.q_validate.specs.Words.{Tells, tells_same};
+
+    ghost Says = { Tells };
+
+    fn value(value: bool) -> Known {
         if value {
             return Known {
                 zero: 0,
@@ -72,10 +90,7 @@ impl Known {
         }
     }
 
-    /// An input behind the root: it has the value that the path to a node has.
-    pub fn input(place: usize) -> Known
-        ensures { Tells result (λ m. slice_get (path_to m) place) }
-    {
+    fn input(place: usize) -> Known {
         if place < DEPTH {
             return Known {
                 zero: ZEROS[place],
@@ -85,10 +100,7 @@ impl Known {
         Known { zero: 0, one: 0 }
     }
 
-    pub fn signed(self, negative: bool) -> Known
-        ensures { (f : ℕ → Option Bool) → Tells self f
-            → Tells result (λ m. known_signed negative (f m)) }
-    {
+    fn signed(self, negative: bool) -> Known {
         if negative {
             return Known {
                 zero: self.one,
@@ -98,35 +110,12 @@ impl Known {
         self
     }
 
-    pub fn and(self, other: Known) -> Known
-        ensures { (f g : ℕ → Option Bool) → Tells self f → Tells other g
-            → Tells result (λ m. known_both (f m) (g m)) }
-    {
+    fn and(self, other: Known) -> Known {
         Known {
             zero: self.zero | other.zero,
             one: self.one & other.one,
         }
     }
-}
 
-/// What is said of nodes: those that are lost, and those that are won; the others are open.
-#[derive(Clone, Copy)]
-pub struct Told {
-    pub lost: u64,
-    pub won: u64,
-}
-
-impl Told {
-    pub fn at(self, node: u32) -> Verdict
-        requires { node < 64 }
-        ensures { (f : ℕ → Said) → TellsVerdict self f → result ≡ f node }
-    {
-        if is_set(self.lost, node) {
-            return Verdict::Lost;
-        }
-        if is_set(self.won, node) {
-            return Verdict::Won;
-        }
-        Verdict::Open
-    }
+    ghost says_same = { tells_same };
 }

@@ -1,45 +1,43 @@
-//! What clauses say of a node and of those below it, by the row of gates: each is true, false or open.
+//! What is known of clauses at a node and at those of a shape below it, by the row of gates.
 ghost use Rattle.std.specs.Prelude.{◌≡◌, ◌<◌, ◌+◌, ◌++◌, ◌||◌, drop, length, false};
 ghost use Rattle.q_logic.specs.Prelude.{is_existential};
-ghost use Rattle.q_logic.specs.Branches.{known_signed, is_missing as is_missing_spec, has_one, all_zero, both_missing as both_missing_spec};
+ghost use Rattle.q_logic.specs.Branches.{known_signed, is_missing as is_missing_spec, both_missing as both_missing_spec};
 ghost use Rattle.q_aig.specs.Prelude.{IsLiteral, tree_at, net_of};
-ghost use Rattle.q_validate.specs.Words.{path_to, Marks, Tells, TellsVerdict};
-ghost use Rattle.q_validate.specs.Stands.{claim_at, unset, values, known_along, literal_along, clause_along, verdict_along, IsRow};
+ghost use Rattle.q_validate.specs.Below.{known_literals};
+ghost use Rattle.q_validate.specs.Stands.{claim_at, unset, values, known_along, literal_along, clause_known as clause_along, formula_known as formula_along, IsRow};
 
+use crate::below::Below;
 use crate::known::{input_known, literal_known};
 use crate::node::Node;
-use crate::words::{Known, Told};
 use q_carry::look;
 use q_logic::{Lit, holds};
 
 impl<'a> Node<'a> {
     // What is known of a literal that has no circuit: one of no input counts as 0.
-    fn input_literal(&self, path: &[bool], lit: Lit) -> Known
+    fn input_literal<T: Below>(&self, path: &[bool], lit: Lit) -> T
         requires { is_existential self.now.formula.prefix lit.var ≡ false }
-        ensures { Tells result (λ m. literal_along (claim_at self.now) (path.now ++ path_to m)
-            lit) }
+        ensures { T.Says result (λ w. literal_along (claim_at self.now) (path.now ++ w) lit) }
     {
         match self.place(lit.var()) {
-            Some(place) => input_known(path, place).signed(lit.negative()),
-            None => Known::value(false),
+            Some(place) => input_known::<T>(path, place).signed(lit.negative()),
+            None => T::value(false),
         }
     }
 
     // What is known of a literal by its circuit.
-    fn circuit_literal(&self, path: &[bool], row: &[Known], lit: Lit, circuit: u64) -> Known
-        requires row { IsRow self.now.certificate path.now row.now }
+    fn circuit_literal<T: Below>(&self, path: &[bool], row: &[T], lit: Lit, circuit: u64) -> T
+        requires row { IsRow T.Says self.now.certificate path.now row.now }
         requires there { IsLiteral (net_of self.now.certificate) circuit }
-        ensures { Tells result (λ m. known_signed lit.negative
-            (known_along self.now.certificate.inputs (path.now ++ path_to m)
+        ensures { T.Says result (λ w. known_signed lit.negative
+            (known_along self.now.certificate.inputs (path.now ++ w)
             (tree_at (net_of self.now.certificate) circuit))) }
     {
         literal_known(self.certificate.aig(), path, row, circuit).signed(lit.negative())
     }
 
-    fn literal(&self, path: &[bool], row: &[Known], lit: Lit) -> Known
-        requires { IsRow self.now.certificate path.now row.now }
-        ensures { Tells result (λ m. literal_along (claim_at self.now) (path.now ++ path_to m)
-            lit) }
+    fn literal<T: Below>(&self, path: &[bool], row: &[T], lit: Lit) -> T
+        requires { IsRow T.Says self.now.certificate path.now row.now }
+        ensures { T.Says result (λ w. literal_along (claim_at self.now) (path.now ++ w) lit) }
     {
         match look(&self.circuits, lit.var()) {
             Some(circuit) => self.circuit_literal(path, row, lit, circuit),
@@ -47,24 +45,16 @@ impl<'a> Node<'a> {
         }
     }
 
-    // Where all literals of a clause are 0, and where some literal is 1.
-    fn clause_known(&self, path: &[bool], row: &[Known], clause: &[Lit]) -> Known
-        requires { IsRow self.now.certificate path.now row.now }
-        ensures zeros { Marks result.zero (λ m. all_zero (claim_at self.now)
-            (unset self.now.certificate.inputs (path.now ++ path_to m))
-            (values self.now.certificate.inputs (path.now ++ path_to m)) clause.now) }
-        ensures ones { Marks result.one (λ m. has_one (claim_at self.now)
-            (unset self.now.certificate.inputs (path.now ++ path_to m))
-            (values self.now.certificate.inputs (path.now ++ path_to m)) clause.now) }
+    // The literals of a clause, taken together.
+    fn literals<T: Below>(&self, path: &[bool], row: &[T], clause: &[Lit]) -> T
+        requires { IsRow T.Says self.now.certificate path.now row.now }
+        ensures { T.Says result (λ w. known_literals (claim_at self.now)
+            (unset self.now.certificate.inputs (path.now ++ w))
+            (values self.now.certificate.inputs (path.now ++ w)) clause.now) }
     {
-        let mut all = Known {
-            zero: u64::MAX,
-            one: 0,
-        };
+        let mut all = T::value(false);
         for lit in clause {
-            let known = self.literal(path, row, *lit);
-            all.zero &= known.zero;
-            all.one |= known.one;
+            all = all.or(self.literal(path, row, *lit));
         }
         all
     }
@@ -101,40 +91,26 @@ impl<'a> Node<'a> {
         false
     }
 
-    /// What is said of a clause.
-    pub fn clause_told(&self, path: &[bool], row: &[Known], clause: &[Lit]) -> Told
-        requires { IsRow self.now.certificate path.now row.now }
-        ensures { TellsVerdict result (λ m. clause_along (claim_at self.now) (path.now ++ path_to m)
-            clause.now) }
+    /// What is known of a clause.
+    pub fn clause_known<T: Below>(&self, path: &[bool], row: &[T], clause: &[Lit]) -> T
+        requires { IsRow T.Says self.now.certificate path.now row.now }
+        ensures { T.Says result (λ w. clause_along (claim_at self.now) (path.now ++ w) clause.now) }
     {
         if self.both_missing(clause) {
-            return Told {
-                lost: 0,
-                won: u64::MAX,
-            };
+            return T::value(true);
         }
-        let known = self.clause_known(path, row, clause);
-        Told {
-            lost: known.zero & !known.one,
-            won: known.one,
-        }
+        self.literals(path, row, clause)
     }
 
-    /// What is said of the formula.
-    pub fn formula_told(&self, path: &[bool], row: &[Known]) -> Told
-        requires { IsRow self.now.certificate path.now row.now }
-        ensures { TellsVerdict result (λ m. verdict_along (claim_at self.now)
-            (path.now ++ path_to m)) }
+    /// What is known of the formula.
+    pub fn formula_known<T: Below>(&self, path: &[bool], row: &[T]) -> T
+        requires { IsRow T.Says self.now.certificate path.now row.now }
+        ensures { T.Says result (λ w. formula_along (claim_at self.now) (path.now ++ w)) }
     {
-        let mut told = Told {
-            lost: 0,
-            won: u64::MAX,
-        };
+        let mut all = T::value(true);
         for i in 0..self.formula.clauses() {
-            let more = self.clause_told(path, row, self.formula.clause(i));
-            told.lost |= more.lost;
-            told.won &= more.won;
+            all = all.and(self.clause_known(path, row, self.formula.clause(i)));
         }
-        told
+        all
     }
 }

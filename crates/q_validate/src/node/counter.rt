@@ -1,12 +1,13 @@
 //! The values of the universals at a node where some clause is false.
 ghost use Rattle.std.specs.Prelude.{◌≡◌, ◌<◌, ◌≤◌, ◌++◌, ◌∷◌, ◌^◌, [], cond, false, IfOk, OnOk, slice_index_or};
 ghost use Rattle.q_logic.specs.Branches.{is_input, true_literals, counter_at, first_false as first_false_spec, denial as denial_spec, is_false as is_false_spec};
+ghost use Rattle.q_validate.specs.Lines.{Follows};
 ghost use Rattle.q_validate.specs.Stands.{claim_at, clause_along, node_of, values, IsRow};
 
 use crate::known::fill;
+use crate::line::Since;
 use crate::node::Node;
-use crate::words::{Known, is_set};
-use q_logic::{Bound, Lit, Lits, NoMemory, Quant};
+use q_logic::{Bound, Lit, Lits, NoMemory, Quant, Verdict};
 use std::alloc::Global;
 
 // The value that makes the literal of a variable false.
@@ -31,19 +32,29 @@ fn value_or_zero(path: &[bool], place: usize) -> bool
     }
 }
 
+fn is_lost(verdict: Verdict) -> bool
+    ensures { result ≡ is_false_spec verdict }
+{
+    match verdict {
+        Verdict::Lost => true,
+        Verdict::Won | Verdict::Open => false,
+    }
+}
+
 impl<'a> Node<'a> {
     // Whether a clause is false at the node itself.
-    fn is_false(&self, row: &[Known], clause: &[Lit]) -> bool
-        requires { IsRow self.now.certificate self.now.path row.now }
+    fn is_false(&self, row: &[Since], clause: &[Lit]) -> bool
+        requires { IsRow Follows self.now.certificate self.now.path row.now }
         ensures { result ≡ is_false_spec (clause_along (claim_at self.now) self.now.path
             clause.now) }
     {
-        is_set(self.clause_told(&self.path, row, clause).lost, 1)
+        let known: Since = self.clause_known(&self.path, row, clause);
+        is_lost(known.at(0))
     }
 
     // The first false clause, or the empty one.
-    fn first_false(&self, row: &[Known]) -> &[Lit]
-        requires { IsRow self.now.certificate self.now.path row.now }
+    fn first_false(&self, row: &[Since]) -> &[Lit]
+        requires { IsRow Follows self.now.certificate self.now.path row.now }
         ensures { result.now ≡ first_false_spec (claim_at self.now)
             (node_of self.now) self.now.formula.matrix }
     {

@@ -24,4 +24,4 @@ returns c =
     let o = c.args.owner in
     proved-ended o F c.args.trace.now c.args.prefix.now c.args.end c.judge_cone.new.desk.away.drops c.in_ok-made-in-None.made c.requires.prefix c.requires.formula c.requires.end
     (subst (IsConeJudged o c.args.prefix.now F.matrix (entries_of c.args.trace.now.lines) c.judge_cone.new.desk.away.drops) c.in-None.is c.in_ok-found.ensures)
-    c.in_ok-made-in-None.ensures
+    c.in_ok-made-in-None.ensures.extracted

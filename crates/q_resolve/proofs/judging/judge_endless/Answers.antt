@@ -20,4 +20,4 @@ returns c =
     let o = c.args.owner in
     let t : c.may_stand.result ≡ true = let x = c.if-not-may_stand.false in grind arith in
     proved-endless o F c.args.trace.now c.args.prefix.now (drops_in c.new_desk-desk.result.away.drops) c.in_ok-made.made c.requires.prefix c.requires.formula c.requires.endless
-    ((may-decides o F.matrix []).0 (sym c.may_stand.ensures ∙ t)) c.new_desk-desk.ensures.none c.in_ok-made.ensures
+    ((may-decides o F.matrix []).0 (sym c.may_stand.ensures ∙ t)) c.new_desk-desk.ensures.none c.in_ok-made.ensures.extracted

@@ -19,10 +19,10 @@ pub returns-clause-passed : goal.returns-clause-passed
 returns-clause-passed c =
     ok_then c.with_origin-2.result c.with_origin-2.ensures.ok
     (λ x e j F es b p. plain-passed c.args.self.keeps_undo j F es c.args.self.plain c.args.output.now c.finish_plain-ended.result x.undo
-    (none-hinted c.args.self.keeps_undo F (hinted_in es) c.args.self.hinted (sym c.is_taken.ensures ∙ c.if-is_taken.false) b.hinted) b.plain (ok_then c.finish_plain-ended.result c.finish_plain-ended.ensures.passed (λ v f. f F b.origin)) e.0)
+    (none-hinted c.args.self.keeps_undo j F (hinted_in es) c.args.self.hinted (sym c.is_taken.ensures ∙ c.if-is_taken.false) b.hinted) b.plain (ok_then c.finish_plain-ended.result c.finish_plain-ended.ensures.passed (λ v f. f F b.origin)) e.0)
 
 pub returns-clause-refused : goal.returns-clause-refused
 returns-clause-refused c =
     err_then c.with_origin-2.result c.with_origin-2.ensures.err
     (λ w e j F es b p. plain-stopped c.args.self.keeps_undo j F es c.args.self.plain c.args.output.now c.finish_plain-ended.result w
-    (none-hinted c.args.self.keeps_undo F (hinted_in es) c.args.self.hinted (sym c.is_taken.ensures ∙ c.if-is_taken.false) b.hinted) b.plain (err_then c.finish_plain-ended.result c.finish_plain-ended.ensures.refused (λ v f. f F b.origin)) e)
+    (none-hinted c.args.self.keeps_undo j F (hinted_in es) c.args.self.hinted (sym c.is_taken.ensures ∙ c.if-is_taken.false) b.hinted) b.plain (err_then c.finish_plain-ended.result c.finish_plain-ended.ensures.refused (λ v f. f F b.origin)) e)

@@ -4,7 +4,7 @@ use Rattle.q_logic.proofs.Common.{on_both}
 use Rattle.q_hinted.specs.Logs.{hinted_in}
 use Rattle.q_command.specs.Judging.{AreBehind, IsRefusedBehind, IsTurn, plain_in}
 use Rattle.q_command.proofs.FilePieces.{err_then}
-use Rattle.q_command.proofs.BothCheckers.{behind-plain, behind-hinted, free_beside}
+use Rattle.q_command.proofs.BothCheckers.{behind-plain, behind-hinted}
 use Rattle.q_command.proofs.judges.Judges.step.Goals as goal
 
 pub returns-in-None-clause-behind : goal.returns-in-None-clause-behind
@@ -17,7 +17,7 @@ pub returns-in-Some-clause-behind : goal.returns-in-Some-clause-behind
 returns-in-Some-clause-behind c =
     on_both c.step_hinted.result c.step_hinted.ensures.behind c.step_hinted.ensures.origin
     (λ f o j F es line turn b. subst (λ (x : Option ProofPart). AreBehind j F c.step_hinted.new.self (es ++ (line, c.args.step.now, x) ∷ [])) (sym c.in-Some.is)
-    (behind-hinted j F c.args.self.now c.step_hinted.new.self es line c.args.step.now c.in-Some.proof (f F b.origin) (o F b.origin) c.step_hinted.ensures.same c.step_hinted.ensures.plain b))
+    (behind-hinted j F c.args.self.now c.step_hinted.new.self es line c.args.step.now c.in-Some.proof (f F b.origin j (hinted_in es) line (subst (λ (x : Option ProofPart). IsTurn j es x c.args.judged) c.in-Some.is turn)) (o F b.origin) c.step_hinted.ensures.same c.step_hinted.ensures.plain b))
 
 pub returns-in-None-clause-refused : goal.returns-in-None-clause-refused
 returns-in-None-clause-refused c =
@@ -28,7 +28,5 @@ returns-in-None-clause-refused c =
 pub returns-in-Some-clause-refused : goal.returns-in-Some-clause-refused
 returns-in-Some-clause-refused c =
     err_then c.step_hinted.result c.step_hinted.ensures.refused
-    (λ e f j F es turn b. subst (λ (x : Option ProofPart). IsRefusedBehind j F es c.args.step.now x e) (sym c.in-Some.is) (f F b.origin (hinted_in es) b.hinted))
-
-pub returns-in-Some-clause-free : goal.returns-in-Some-clause-free
-returns-in-Some-clause-free c = free_beside c.args.self.now c.step_hinted.new.self c.step_hinted.result c.step_hinted.ensures.same c.step_hinted.ensures.plain
+    (λ e f j F es turn b. subst (λ (x : Option ProofPart). IsRefusedBehind j F es c.args.step.now x e) (sym c.in-Some.is)
+    (f F b.origin j (hinted_in es) (subst (λ (x : Option ProofPart). IsTurn j es x c.args.judged) c.in-Some.is turn) b.hinted))

@@ -20,4 +20,4 @@ returns-clause-refused c =
     (λ F held. refusal-plain c.args.self.now.keeps_undo F c.args.step.now c.args.judged c.step.result c.args.self.now.plain c.fill.new.self c.step.new.self (c.in_ok-fill.ensures.ready F held) c.step.ensures)
 
 pub returns-clause-free : goal.returns-clause-free
-returns-clause-free c = free_after c.args.self.now _ c.fill.new.self c.args.step.now c.args.judged c.step.result c.in_ok-fill.ensures.ready c.step.ensures refl
+returns-clause-free c = free_after c.args.self.now _ c.fill.new.self c.args.step.now c.args.judged c.step.result c.in_ok-fill.ensures.ready c.step.ensures refl refl

@@ -10,7 +10,7 @@ returns-in-Some c =
     let s = c.args.self.now in
     let v = c.args.var in
     let p = c.in-Some.ensures.place in
-    let d : AreDistinct s.certificate.inputs = c.in-Some.ensures.distinct in
+    let d : AreDistinct s.certificate.inputs = c.in-Some.ensures.net.distinct in
     c.value_or_zero.ensures
     ∙ ap (λ (vs : List Bool). get_or vs c.in-Some.place false) (c.deref.ensures.value ∙ ap (λ (t : Spot). t.path) c.self.view_is)
     ∙ ap (λ (i : ℕ). get_or s.path i false) p.0

@@ -1,0 +1,6 @@
+pub mod Deciding
+pub mod Layers
+pub mod Winning
+pub mod Valuing
+pub mod Distant
+pub mod Refuting

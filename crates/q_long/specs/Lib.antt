@@ -1,0 +1,3 @@
+pub mod Valued
+pub mod Decided
+pub mod Distant

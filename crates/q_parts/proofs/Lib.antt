@@ -1,0 +1,7 @@
+mod JoinedLogs
+mod JoinedFiles
+mod SameWords
+mod CheckedParts
+mod RisingLines
+mod RisingEntries
+mod LeastRefusals
