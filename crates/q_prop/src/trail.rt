@@ -48,10 +48,14 @@ impl Trail {
         }
     }
 
-    /// The slot whose clause may have forced the literal. It is looked at before it is used: a wrong one costs
-    /// time alone.
+    /// The slot whose clause may have forced the literal, and none for a literal that is not on the trail. It is
+    /// looked at before it is used: a wrong one costs time alone.
     pub(crate) fn reason(&self, lit: Lit) -> usize {
-        self.reasons.get(lit.index())
+        if self.has(lit) {
+            self.reasons.get(lit.index())
+        } else {
+            NO_SLOT
+        }
     }
 
     /// Notes another slot as the one that may have forced the literal, in place of this one.
