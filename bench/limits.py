@@ -7,9 +7,9 @@ Each family is run at three sizes: those of bench/shapes.py, and of bench/famili
 where these would take minutes. `check` and `annotate` take the log that `simplify` wrote. A run is stopped after N processor seconds (20); then the
 larger sizes are left out. One run each, with the seconds in the program's own code (user).
 
-The table has a line for each family: the sizes, the clauses and the seconds of each command at the three sizes, and the exponent, by which power of the
-number of clauses the time grew from the second size to the third. It is left out where the second time is below 0.05 seconds, which tells too little.
-Below stand the exponents above 1.3, and where `check` takes more than twice the time of `simplify` and 0.1 seconds, or `annotate` more than one and a
+The table has two families in a line: the sizes, the clauses at the last one where their number is another, and the seconds of each command at the three
+sizes, with the exponent in brackets: by which power of the number of clauses the time grew from the second size to the third. It is left out where the
+second time is below 0.05 seconds, which tells too little. Below stand the exponents above 1.3, and where `check` takes more than twice the time of `simplify` and 0.1 seconds, or `annotate` more than one and a
 half times that of `check` and 0.1 seconds. The table is written after each family, so a run that is stopped loses nothing.
 """
 import math
@@ -27,9 +27,7 @@ COMMANDS = ("simplify", "check", "annotate")
 
 # The statuses of an answer: of a command that did its work, and of a formula that is true or false.
 ANSWERS = (0, 10, 20)
-HEAD = """| Family, sizes | Clauses | `simplify` | | `check` | | `annotate` | |
-|---|---|---|---|---|---|---|---|
-"""
+HEAD = "| Family, sizes (clauses) | `simplify` | `check` | `annotate` |"
 
 # Families whose sizes for 64,000 clauses would take long.
 SMALLER = {"game": (9, 16, 24), "gripper": (8, 16, 32), "completion": (25, 50, 100), "adder": (51, 205, 600), "gates": (1333, 5333, 16000)}
@@ -90,12 +88,13 @@ def shown(seconds):
 
 def line_of(name, sizes, runs):
     """The line of a family in the table, and what is to be said of it below."""
-    cells = [f"{name} {', '.join(f'{size:,}' for size in sizes[:len(runs)])}", ", ".join(f"{clauses:,}" for clauses, _ in runs)]
+    last = runs[-1][0]
+    cells = [f"{name} {', '.join(f'{size:,}' for size in sizes[:len(runs)])}" + (f" ({last:,})" if last != sizes[len(runs) - 1] else "")]
     remarks = []
     for command in COMMANDS:
         points = [(clauses, took[command]) for clauses, took in runs if command in took]
         power = exponent(points)
-        cells += [", ".join(shown(seconds) for _, seconds in points), f"{power:.2f}" if power is not None else ""]
+        cells.append(", ".join(shown(seconds) for _, seconds in points) + (f" ({power:.2f})" if power is not None else ""))
         if power is not None and power > 1.3:
             remarks.append(f"{name}: `{command}` grows with the power {power:.2f}")
     took = runs[-1][1]
@@ -103,11 +102,20 @@ def line_of(name, sizes, runs):
         ours, theirs = took.get(command), took.get(other)
         if ours is not None and theirs is not None and ours > times * theirs and ours > 0.1:
             remarks.append(f"{name}: `{command}` {ours:.2f} s, `{other}` {theirs:.2f} s")
-    return f"| {' | '.join(cells)} |\n", remarks
+    return f"| {' | '.join(cells)} |", remarks
+
+
+def in_two(lines):
+    """The lines of a table, its second half beside the first."""
+    half = (len(lines) + 1) // 2
+    rows = [HEAD + HEAD[1:], "|---" * 8 + "|"]
+    for at in range(half):
+        rows.append(lines[at] + (lines[half + at][1:] if half + at < len(lines) else " | | | |"))
+    return "".join(f"{row}\n" for row in rows)
 
 
 def tell(path, lines, remarks):
-    text = HEAD + "".join(lines) + "\n" + "".join(f"- {remark}\n" for remark in remarks)
+    text = in_two(lines) + "\n" + "".join(f"- {remark}\n" for remark in remarks)
     with open(path, "w", encoding="utf-8") as out:
         out.write(text)
 
@@ -133,7 +141,7 @@ def main(words):
             line, more = line_of(name, sizes_of(name), runs)
             lines.append(line)
             remarks += more
-            print(line, end="", flush=True)
+            print(line, flush=True)
             tell(path, lines, remarks)
         os.chdir(HOME)
     print("".join(f"- {remark}\n" for remark in remarks), end="")

@@ -34,58 +34,63 @@ take "${3:-$here/parity.qrat}" && log=$file
 steps=$(awk '/^[ \t\r]*c/ { next } { for (i = 1; i <= NF; i++) if ($i ~ /^0+\r*$/) n++ } END { print n + 0 }' "$log")
 cp "$in" "$work/0.qdimacs" && cp "$out" "$work/out.qdimacs" || exit 1
 
-# Checks the parts, which come as lines of three names; one line for each part, in the order of the parts.
+# Checks the parts, which come as lines of three names; what each says stands behind its number and a tab.
 check_parts() {
     if has parallel; then
-        set -- --will-cite -k -j "$jobs" --colsep ' '
+        set -- --will-cite --tagstring '{#}' -j "$jobs" --colsep ' '
         [ -z "$hosts" ] || set -- "$@" --sshlogin "$hosts" --workdir ... --cleanup --transferfile '{1}' --transferfile '{2}' --transferfile '{3}'
         parallel "$@" "$celdrinn" check '{1}' '{2}' '{3}'
     else
         # shellcheck disable=SC2016 # the inner shell has these words
         xargs -n 3 -P "$jobs" sh -c '"$0" check "$1" "$2" "$3" >"$3.line"' "$celdrinn"
         k=1
-        while [ -f "$k.qrat.line" ]; do
-            cat "$k.qrat.line"
+        while [ -f "$k.qrat" ]; do
+            printf '%s\t%s\n' $k "$(cat "$k.qrat.line")"
             k=$((k + 1))
         done
     fi
 }
 
 # A part is checked as soon as it is there. The first one begins with IN, and the last one has to end in OUT.
-awk -v every=$(((steps + parts - 1) / parts)) -v total="$steps" -v dir="$work" -f "$replay" "$in" "$log" | (cd "$work" && check_parts >lines)
+awk -v every=$(((steps + parts - 1) / parts)) -v total="$steps" -v dir="$work" -f "$replay" "$in" "$log" | tee "$work/names" | (cd "$work" && check_parts >lines)
 [ -f "$work/count" ] || exit 1
 read -r parts steps is_cut <"$work/count"
 [ "$is_cut" -eq 0 ] || { echo "refused: the log ends inside a step" && exit 1; }
+
 # What was checked are the steps of LOG: the words of the parts, one behind the other, are its words, but for zeros in front.
+tab=$(printf '\t') cr=$(printf '\r')
+words() { sed "/^[ $tab$cr]*c/d" | tr " $tab$cr" '\n\n\n' | sed '/^$/d; s/^\(-\{0,1\}\)0*\([0-9]\)/\1\2/'; }
+count=0
+while [ -f "$work/$((count + 1)).qrat" ]; do count=$((count + 1)); done
 k=1
-while [ -f "$work/$k.qrat" ]; do
+while [ $k -le $count ]; do
     cat "$work/$k.qrat"
     k=$((k + 1))
-done >"$work/joined"
-awk -v joined="$work/joined" '
-    function word(    line) {
-        while (at >= words) {
-            if ((getline line <joined) <= 0) return ""
-            words = split(line, row)
-            at = 0
-        }
-        return row[++at]
-    }
-    function plain(text) {
-        while (text ~ /^-?0[0-9]/) sub(/0/, "", text)
-        return text
-    }
-    /^[ \t\r]*c/ { next }
-    {
-        gsub(/\r/, " ")
-        for (i = 1; i <= NF; i++) if (plain($i) "" != word() "") { other = 1; exit }
-    }
-    END { exit other || word() != "" }' "$log" || { echo "refused: the parts are not the log" && exit 1; }
-awk -v n="$parts" -v steps="$steps" '
-    $1 == "verified" && NF == 2 { sum += $2; next }
-    first == "" { first = "part " NR ": " $0 }
-    END {
-        if (first == "" && (NR != n || sum != steps)) first = "not all parts were checked"
-        print first == "" ? "verified " sum : first
-        exit first != ""
-    }' "$work/lines"
+done | words >"$work/joined"
+words <"$log" | cmp -s - "$work/joined" || { echo "refused: the parts are not the log" && exit 1; }
+# Each part was checked from the formula behind the one before it, and the last one to OUT.
+k=1
+while [ $k -le $count ]; do
+    behind=$k
+    [ $k -lt $count ] || behind=out
+    echo "$((k - 1)).qdimacs $behind.qdimacs $k.qrat"
+    k=$((k + 1))
+done | cmp -s - "$work/names" || { echo "refused: the parts are no chain" && exit 1; }
+
+# All parts are verified, or the first that is not says why. The shell adds the numbers.
+sum=0 k=1
+while [ $k -le $count ]; do
+    line=$(sed -n "s/^$k$tab//p" "$work/lines")
+    case $line in
+        'verified '*[!0-9]* | 'verified ') break ;;
+        'verified '*) sum=$((sum + ${line#verified })) ;;
+        *) break ;;
+    esac
+    k=$((k + 1))
+done
+if [ $k -gt $count ] && [ $count -gt 0 ]; then
+    echo "verified $sum"
+    exit
+fi
+echo "part $k: ${line:-it has said nothing}"
+exit 1

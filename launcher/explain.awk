@@ -22,6 +22,7 @@ function look_at_head() {
     if (head ~ /^#QCIR/) return "this is QCIR"
     if (head ~ /^\.model/ || head ~ /^\.inputs/) return "this is a circuit in BLIF: examples/circuit-to-qdimacs.sh makes a formula of it"
     if (head ~ /^p qrat/) return "this is a log with hints"
+    if (kind == "formula" && head ~ /^[dur] -?[0-9]/) return "this is a log; which file stands where is in 'celdrinn --help'"
     if (head ~ /^p bqrp/) return "this is a binary trace: depqbf writes a text with --trace=qrp"
     if (head ~ /^p qrp/ && kind != "trace") return "this is a solver's trace, for 'celdrinn extract'"
     if (head ~ /^p +(wcnf|inccnf|qcnf|dqcnf)/) { split(head, word, " "); return "this is " word[2] ", another format" }

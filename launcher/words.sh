@@ -250,7 +250,9 @@ count_operands() {
 look() {
     count_operands
     if [ $# -lt $least ]; then
-        refuse "$command takes $(shown_operands); see 'celdrinn help $command'"
+        piped=
+        case $#:$operands in 0:*'<'*) if [ -p /dev/stdin ] || [ -s /dev/stdin ]; then piped=" ('-' is standard input)"; fi ;; esac
+        refuse "$command takes $(shown_operands); see 'celdrinn help $command'$piped"
     elif [ $# -gt $most ]; then
         shift $most
         many=

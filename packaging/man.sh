@@ -1,6 +1,6 @@
 #!/bin/sh
 # Makes a manual page for each command, docs/man/celdrinn-COMMAND.1, of the command's help and the table launcher/words.txt; with --check it says
-# which of them are not what these say, or which command docs/celdrinn.1 doesn't have, and ends with 1. Usage: packaging/man.sh [--check]
+# which of them are not what these say, or which command or option docs/celdrinn.1 doesn't have, and ends with 1. Usage: packaging/man.sh [--check]
 set -u
 cd "$(dirname "$0")/.." || exit 1
 work=$(mktemp -d) || exit 1
@@ -60,6 +60,10 @@ while read -r command text; do
     page "$command" "$text" >"$work/man/celdrinn-$command.1"
     grep -q "^\.Cm $command\$" docs/celdrinn.1 || { echo "docs/celdrinn.1 lacks the command $command" >&2 && exit 1; }
 done <"$work/commands"
+sed -n 's/^--\([a-z]*\).*/\1/p' launcher/words.txt >"$work/options"
+while read -r option; do
+    grep -q "^\.\(Fl\|It\|Op\) .*-$option\( \|\$\)" docs/celdrinn.1 || { echo "docs/celdrinn.1 lacks the option --$option" >&2 && exit 1; }
+done <"$work/options"
 
 if [ "${1-}" = --check ]; then
     diff -r "$work/man" docs/man >"$work/diff" || { head -n 1 "$work/diff" >&2 && exit 1; }

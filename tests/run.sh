@@ -99,8 +99,9 @@ play_version >"$work/versions" && count "$work/versions"
 play_words >"$work/said" && count "$work/said"
 play_man >"$work/said" && count "$work/said"
 play_pictures >"$work/said" && count "$work/said"
-tests/pages.sh README.md docs/TUTORIAL.md docs/A-CERTIFICATE.md docs/for-*.md >"$work/pages.rows"
-for table in tests/*.rows "$work/pages.rows"; do
+tests/pages.sh README.md docs/TUTORIAL.md docs/A-CERTIFICATE.md docs/A-LOG.md docs/for-*.md >"$work/pages.rows"
+tests/sections.sh docs/PIPELINES.md >"$work/sections.rows"
+for table in tests/*.rows "$work/pages.rows" "$work/sections.rows"; do
     tests/play.sh "$table" >"$work/played"
     grep '^ok \|^wrong \|^skipped ' "$work/played" >"$work/table"
     tail -n 1 "$work/played" | grep -q ' skipped$' || echo "wrong $table: it was not played to its end" >>"$work/table"

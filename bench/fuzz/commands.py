@@ -146,6 +146,13 @@ def annotate(case, answer):
     start, end, judged = log_in(case, plain_alone=True)
     want((answer.status, answer.line) == (0, f"annotated {judged.steps}"), f"'annotated {judged.steps}'")
     text = written(answer, "HINTED")
+    place, parts = part_of(case)
+    if place > 1 or parts > 1 and judged.steps >= logs.BLOCK:
+        # the lines of a part are no whole log
+        lines = text.splitlines()
+        want(len(lines) == judged.steps + (place == 1), "a line for each step of the part")
+        want((lines[:1] == [b"p qrat 2"]) == (place == 1), "the header in the first part")
+        return
     hinted = logs.judge(start, end, text)
     want(logs.is_hinted(text) and hinted.refusal is None, f"a right log with hints, and not {hinted.refusal}")
     want(hinted.steps == judged.steps, "as many steps")

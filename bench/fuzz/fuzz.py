@@ -107,7 +107,7 @@ class Maker:
             found.append(f"--budget={rng.randint(0, 12)}")
         elif verb == "miter" and rng.random() < 0.5:
             found.append("--herbrand")
-        elif verb == "check" and rng.random() < 0.5:
+        elif verb in ("check", "annotate") and rng.random() < 0.5:
             parts = rng.randint(1, 4)
             found.append(f"--part={rng.randint(1, parts)}/{parts}")
         elif verb in ("gen", "demo"):

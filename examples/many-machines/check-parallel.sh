@@ -4,19 +4,21 @@
 # Says `verified N`, or the refusal in the least line, and ends with 0 or 1; 12 where a part has not ended.
 # With -f the first part that is refused ends the others: the log is wrong then, but another part might have been refused in an earlier line.
 # With -s the files are copied to each host once, and the program is there by the name in CELDRINN.
-# Usage: examples/many-machines/check-parallel.sh [-n PARTS] [-j JOBS] [-s HOST,HOST..] [-f] [IN OUT LOG]
+# With -w HINTED the parts write the log with hints: each the lines of its own blocks. These are joined as HINTED, and one check of it decides.
+# Usage: examples/many-machines/check-parallel.sh [-n PARTS] [-j JOBS] [-s HOST,HOST..] [-f] [-w HINTED] [IN OUT LOG]
 set -u
 here=$(cd "$(dirname "$0")/.." && pwd)
 . "$here/common.sh"
-usage() { echo "usage: $0 [-n PARTS] [-j JOBS] [-s HOST,HOST..] [-f] [IN OUT LOG]" >&2 && exit 64; }
+usage() { echo "usage: $0 [-n PARTS] [-j JOBS] [-s HOST,HOST..] [-f] [-w HINTED] [IN OUT LOG]" >&2 && exit 64; }
 jobs=$(nproc 2>/dev/null || echo 2)
-parts='' hosts='' halt=never
-while getopts n:j:s:f option; do
+parts='' hosts='' halt=never hinted=''
+while getopts n:j:s:fw: option; do
     case $option in
         n) parts=$OPTARG ;;
         j) jobs=$OPTARG ;;
         s) hosts=$OPTARG ;;
         f) halt=now,fail=1 ;;
+        w) hinted=$OPTARG ;;
         *) usage ;;
     esac
 done
@@ -36,8 +38,18 @@ put in "$1"
 put out "$2"
 put log "$3"
 case $celdrinn in /*) ;; */*) celdrinn=$PWD/$celdrinn ;; esac
-set -- --will-cite -q --tag -j "$jobs" --halt "$halt"
+case $hinted in '' | /*) ;; *) hinted=$PWD/$hinted ;; esac
+set -- --will-cite -q --tagstring "{}/$parts" -j "$jobs" --halt "$halt"
 [ -z "$hosts" ] || set -- "$@" --sshlogin "$hosts" --workdir "celdrinn-${work##*.}" --cleanup --basefile in --basefile out --basefile log
+[ -z "$hosts" ] || [ -z "$hinted" ] || set -- "$@" --return '{}.part'
 cd "$work" || exit 1
-seq "$parts" | parallel "$@" "$celdrinn" check in out log "--part={}/$parts" >lines
-awk -v parts="$parts" -f "$here/many-machines/join.awk" lines
+if [ -z "$hinted" ]; then
+    seq "$parts" | parallel "$@" "$celdrinn" check in out log "--part={}/$parts" >lines
+    "$here/many-machines/join.sh" "$parts" <lines
+    exit
+fi
+seq "$parts" | parallel "$@" "$celdrinn" annotate in out log '{}.part' "--part={}/$parts" >lines
+"$here/many-machines/join.sh" "$parts" <lines || exit
+# shellcheck disable=SC2046 # the names are numbers
+"$here/many-machines/join-lines.sh" $(seq -f %g.part "$parts") >"$hinted" || exit 5
+"$celdrinn" check in out "$hinted"

@@ -4,18 +4,20 @@
 # FOLDER keeps the lines of parts that have ended, so a run that broke off goes on with the others. With -f the first part that is refused ends
 # the others: the log is wrong then, but another part might have been refused in an earlier line. The three files, FOLDER and the program are to
 # be seen from each node. -o gives words to sbatch, as in -o '--partition=long --time=2:00:00 --mem=8G'.
-# Usage: examples/many-machines/check-slurm.sh [-n PARTS] [-d FOLDER] [-o OPTIONS] [-f] [IN OUT LOG]
+# With -w HINTED the parts write the log with hints, and one check of what is joined decides.
+# Usage: examples/many-machines/check-slurm.sh [-n PARTS] [-d FOLDER] [-o OPTIONS] [-f] [-w HINTED] [IN OUT LOG]
 set -u
 here=$(cd "$(dirname "$0")/.." && pwd)
 . "$here/common.sh"
-usage() { echo "usage: $0 [-n PARTS] [-d FOLDER] [-o OPTIONS] [-f] [IN OUT LOG]" >&2 && exit 64; }
-PARTS=4 FOLDER=parts FIRST='' options=''
-while getopts n:d:o:f option; do
+usage() { echo "usage: $0 [-n PARTS] [-d FOLDER] [-o OPTIONS] [-f] [-w HINTED] [IN OUT LOG]" >&2 && exit 64; }
+PARTS=4 FOLDER=parts FIRST='' HINTED='' options=''
+while getopts n:d:o:fw: option; do
     case $option in
         n) PARTS=$OPTARG ;;
         d) FOLDER=$OPTARG ;;
         o) options=$OPTARG ;;
         f) FIRST=yes ;;
+        w) HINTED=$OPTARG ;;
         *) usage ;;
     esac
 done
@@ -26,8 +28,9 @@ has sbatch || skip Slurm slurm-wlm
 
 whole() { case $1 in /*) echo "$1" ;; *) echo "$PWD/$1" ;; esac; }
 IN=$(whole "$1") OUT=$(whole "$2") LOG=$(whole "$3") FOLDER=$(whole "$FOLDER") PARTS_SH=$here/many-machines/parts.sh
+[ -z "$HINTED" ] || HINTED=$(whole "$HINTED")
 case $celdrinn in */*) CELDRINN=$(whole "$celdrinn") ;; *) CELDRINN=$celdrinn ;; esac
-export IN OUT LOG PARTS FOLDER FIRST CELDRINN PARTS_SH
+export IN OUT LOG PARTS FOLDER FIRST HINTED CELDRINN PARTS_SH
 "$PARTS_SH" begin || exit
 missing=$("$PARTS_SH" missing | paste -sd, -)
 if [ -n "$missing" ]; then

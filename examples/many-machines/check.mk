@@ -1,7 +1,8 @@
 # Checks one long log by several processes at once, for `make -j`: each makes all steps, and judges every so many blocks of 1,000; all together
 # say what one check says. FOLDER keeps the lines of parts that have ended, so a run that broke off goes on; the last line is `verified N`, or
 # the line of `celdrinn check` where the log is refused, and then make ends with 2.
-# Usage: make -s -f examples/many-machines/check.mk -j4 IN=f.qdimacs OUT=g.qdimacs LOG=f.qrat [PARTS=4] [FOLDER=parts]
+# With HINTED the parts write the log with hints, and one check of what is joined decides.
+# Usage: make -s -f examples/many-machines/check.mk -j4 IN=f.qdimacs OUT=g.qdimacs LOG=f.qrat [PARTS=4] [FOLDER=parts] [HINTED=f.hinted]
 PARTS = 4
 FOLDER = parts
 CELDRINN ?= celdrinn
@@ -9,7 +10,7 @@ ifneq ($(findstring /,$(CELDRINN)),)
 override CELDRINN := $(abspath $(CELDRINN))
 endif
 here := $(dir $(lastword $(MAKEFILE_LIST)))
-export IN OUT LOG PARTS FOLDER CELDRINN
+export IN OUT LOG PARTS FOLDER HINTED CELDRINN
 parts := $(shell seq $(PARTS))
 
 join: $(parts:%=part-%)

@@ -1,6 +1,7 @@
 #!/bin/sh
 # What make and Slurm call for a check in parts: FOLDER has the line of each part that has ended, so a run that broke off goes on.
 # The environment has IN, OUT, LOG, PARTS and FOLDER, and in CELDRINN the program. FOLDER, and all other names, are to be seen from each machine.
+# With HINTED the parts write the log with hints, each its lines into FOLDER; these are joined as HINTED, and one check of it decides.
 # Usage: parts.sh begin | run PART | missing | join
 set -u
 here=$(cd "$(dirname "$0")" && pwd)
@@ -11,13 +12,17 @@ case $1 in
         for name in "$IN" "$OUT" "$LOG"; do
             { [ -r "$name" ] && [ -f "$name" ]; } || { echo "can't read '$name'" >&2 && exit 4; }
         done
-        { echo "$PARTS" && ls -lL --time-style=full-iso "$IN" "$OUT" "$LOG"; } >"$FOLDER/now" || exit 5
-        cmp -s "$FOLDER/now" "$FOLDER/of" || rm -f "$FOLDER"/*.line "$FOLDER"/*.new
+        { echo "$PARTS ${HINTED:+with hints}" && ls -lL --time-style=full-iso "$IN" "$OUT" "$LOG"; } >"$FOLDER/now" || exit 5
+        cmp -s "$FOLDER/now" "$FOLDER/of" || rm -f "$FOLDER"/*.line "$FOLDER"/*.new "$FOLDER"/*.part
         mv "$FOLDER/now" "$FOLDER/of"
         ;;
     run)
         [ ! -s "$FOLDER/$2.line" ] || exit 0
-        "$CELDRINN" check "$IN" "$OUT" "$LOG" --part="$2/$PARTS" >"$FOLDER/$2.new"
+        if [ -z "${HINTED-}" ]; then
+            "$CELDRINN" check "$IN" "$OUT" "$LOG" --part="$2/$PARTS" >"$FOLDER/$2.new"
+        else
+            "$CELDRINN" annotate "$IN" "$OUT" "$LOG" "$FOLDER/$2.part" --part="$2/$PARTS" >"$FOLDER/$2.new"
+        fi
         status=$?
         # what was killed has said nothing, and a fault of the machine is no answer
         case $status in 0 | 1 | 3 | 64) mv "$FOLDER/$2.new" "$FOLDER/$2.line" ;; esac
@@ -34,7 +39,11 @@ case $1 in
         for name in "$FOLDER"/*.line "$FOLDER"/*.new; do
             [ -f "$name" ] || continue
             part=${name##*/}
-            printf '%s\t%s\n' "${part%.*}" "$(head -n 1 "$name")"
-        done | awk -v parts="$PARTS" -f "$here/join.awk"
+            printf '%s\t%s\n' "${part%.*}/$PARTS" "$(head -n 1 "$name")"
+        done | "$here/join.sh" "$PARTS" || exit
+        [ -n "${HINTED-}" ] || exit 0
+        # shellcheck disable=SC2046 # the names are numbers
+        (cd "$FOLDER" && "$here/join-lines.sh" $(seq -f %g.part "$PARTS")) >"$HINTED" || exit 5
+        "$CELDRINN" check "$IN" "$OUT" "$HINTED"
         ;;
 esac

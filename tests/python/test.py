@@ -1,10 +1,10 @@
 """Plays the module for Python beside brute force. One line a row: `ok NAME` or `wrong NAME`; status 1 where one is wrong.
 Where CELDRINN_LIBRARY names the library, what it answers is compared with what the program does.
 Usage: CELDRINN=.. [CELDRINN_LIBRARY=..] PYTHONPATH=.. python3 test.py [COUNT]"""
-import _thread
 import itertools
 import os
 import random
+import signal
 import sys
 import threading
 import time
@@ -156,8 +156,11 @@ def play_interrupt():
 
     def interrupt():
         began.append(time.perf_counter())
-        _thread.interrupt_main()
+        # a signal, as Ctrl-C is one: what the main thread waits for is broken off
+        signal.pthread_kill(threading.main_thread().ident, signal.SIGINT)
 
+    # a shell lets what it starts behind `&` ignore it
+    signal.signal(signal.SIGINT, signal.default_int_handler)
     timer = threading.Timer(0.5, interrupt)
     timer.start()
     try:

@@ -5,6 +5,7 @@ use Rattle.q_command.proofs.ToldLaws as law
 use Rattle.q_command.proofs.ToldLaws.{ToldLaws}
 use Rattle.q_run_solve.proofs.SolveStatus as solve
 use Rattle.q_run_annotate.proofs.AnnotateStatus as annotate
+use Rattle.q_run_annotate.proofs.PartStatus as annotated_part
 use Rattle.q_run_refute.proofs.RefuteStatus as refute
 use Rattle.q_run_validate.proofs.ValidateStatus as validate
 use Rattle.q_run_extract.proofs.ExtractStatus as extract
@@ -12,7 +13,7 @@ use Rattle.q_run_miter.proofs.MiterStatus as miter
 use Rattle.q_run_disprove.proofs.DisproveStatus as disprove
 use Rattle.q_app.specs.Completeness.{EachCompletes}
 use Rattle.q_app.specs.Told.{told}
-use Rattle.q_app.specs.Words.{Command, checking, sharing, simplifying, rebuilding, generating, solving, annotating, refuting, validating, mitering, extracting, disproving}
+use Rattle.q_app.specs.Words.{Command, checking, sharing, simplifying, rebuilding, generating, solving, annotating, annotating_part, refuting, validating, mitering, extracting, disproving}
 use Rattle.q_app.proofs.GenStatus as generate
 use Rattle.q_app.proofs.RebuildStatus as rebuild
 use Rattle.q_app.proofs.SimplifyStatus as simplify
@@ -25,6 +26,7 @@ laws (rebuilding n) = rebuild.laws n
 laws (generating k name) = generate.laws k name
 laws (solving n b) = solve.laws n b
 laws (annotating n) = annotate.laws n
+laws (annotating_part n p) = annotated_part.laws n p
 laws (refuting n) = refute.laws n
 laws (validating n b) = validate.laws n b
 laws (mitering n s) = miter.laws n s

@@ -1,8 +1,9 @@
--- The words of `check`, behind its names one that asks for a part of the log.
+-- The words of `check` and `annotate`, behind their names one that asks for a part of the log.
 use Rattle.std.specs.Prelude.{ℕ, ◌-◌, ◌==◌, ◌&&◌, suc, nat_le, if◌then◌else◌, List, [], ◌∷◌, Option, Some, None, option_map, position, take, drop, codes}
 use Rattle.q_command.specs.declared.part.Part.{Part}
 use Rattle.q_command.specs.Names.{ThreeNames}
-use Rattle.q_app.specs.Words.{Request, alone, behind, checking, number_of, sharing}
+use Rattle.q_run_annotate.specs.Annotates.{AnnotateFiles}
+use Rattle.q_app.specs.Words.{Request, alone, annotating, annotating_part, behind, checking, number_of, sharing}
 
 -- the part of this place among so many, counted from 1
 abbrev pub part_by : Option ℕ → Option ℕ → Option Part
@@ -41,3 +42,13 @@ check_with n (Some (Some p)) = alone (sharing n p)
 abbrev pub check_of : Option (ThreeNames × List (List ℕ)) → Request
 check_of None = None
 check_of (Some (n, words)) = check_with n (part_of words)
+
+-- `annotate IN OUT LOG HINTED`, and with a part
+abbrev pub annotate_with : AnnotateFiles → Option (Option Part) → Request
+annotate_with n None = None
+annotate_with n (Some None) = alone (annotating n)
+annotate_with n (Some (Some p)) = alone (annotating_part n p)
+
+abbrev pub annotate_of : Option (ThreeNames × List ℕ × List (List ℕ)) → Request
+annotate_of None = None
+annotate_of (Some (n, h, words)) = annotate_with (record { input = n.input; output = n.output; log = n.log; hinted = h }) (part_of words)

@@ -7,11 +7,12 @@ use Rattle.q_app.specs.Rebuilds as rebuild
 use Rattle.q_app.specs.Generating as generate
 use Rattle.q_run_solve.specs.Solves as solve
 use Rattle.q_run_annotate.specs.Annotates as annotate
+use Rattle.q_run_annotate.specs.AnnotatedParts as annotated_part
 use Rattle.q_run_refute.specs.Refutes as refute
 use Rattle.q_run_validate.specs.Validates as validate
 use Rattle.q_run_extract.specs.Extracts as extract
 use Rattle.q_run_miter.specs.Mitering as miter
-use Rattle.q_app.specs.Words.{Command, checking, sharing, simplifying, rebuilding, generating, solving, annotating, refuting, validating, mitering, extracting, disproving}
+use Rattle.q_app.specs.Words.{Command, checking, sharing, simplifying, rebuilding, generating, solving, annotating, annotating_part, refuting, validating, mitering, extracting, disproving}
 use Rattle.q_run_disprove.specs.Disproofs as disprove
 
 abbrev pub told : Command → Told
@@ -22,6 +23,7 @@ told (rebuilding n) = rebuild.told n
 told (generating k name) = generate.told k name
 told (solving n b) = solve.told n b
 told (annotating n) = annotate.told n
+told (annotating_part n p) = annotated_part.told n p
 told (refuting n) = refute.told n
 told (validating n b) = validate.told n b
 told (mitering n s) = miter.told n s

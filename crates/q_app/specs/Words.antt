@@ -31,6 +31,7 @@ pub data Command : Type 0 where
   generating : Scale → List ℕ → Command
   solving : SolveFiles → Option ℕ → Command
   annotating : AnnotateFiles → Command
+  annotating_part : AnnotateFiles → Part → Command
   refuting : RefuteFiles → Command
   validating : ValidateFiles → Option ℕ → Command
   mitering : MiterFiles → Side → Command
@@ -176,12 +177,6 @@ validate_of (Some (i, c, words)) = validate_with (record { input = i; cert = c }
 abbrev pub refute_of : Option FiveNames → Request
 refute_of None = None
 refute_of (Some n) = alone (refuting (record { input = n.input; output = n.output; log = n.log; herbrand = n.skolem; cert = n.cert }))
-
--- `annotate IN OUT LOG HINTED`
-abbrev pub annotate_of : Option (ThreeNames × List ℕ × List (List ℕ)) → Request
-annotate_of None = None
-annotate_of (Some (n, h, [])) = alone (annotating (record { input = n.input; output = n.output; log = n.log; hinted = h }))
-annotate_of (Some (n, h, word ∷ words)) = None
 
 -- `solve IN OUT LOG CERT` with a budget
 abbrev pub solve_with : SolveFiles → Option (Option ℕ) → Request

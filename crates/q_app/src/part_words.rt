@@ -1,4 +1,4 @@
-// The option of `check` that judges a part of the log.
+// The option of `check` and `annotate` that judges a part of the log.
 ghost use Rattle.std.specs.Prelude.{◌≡◌, ◌≤◌, ◌==◌, Some, position};
 ghost use Rattle.q_app.specs.Operands.{texts};
 ghost use Rattle.q_app.specs.PartWords.{part_by, part_in, part_of as spec_part_of, part_of_option};

@@ -20,7 +20,7 @@ use q_command::{Names, Part, Status, check, check_part, put};
 use q_gen::generated_is_read;
 use q_io::{Files, Sink};
 use q_log::texts_are_read;
-use q_run_annotate::run as run_annotate;
+use q_run_annotate::{run as run_annotate, run_part as run_annotate_part};
 use q_run_disprove::run as run_disprove;
 use q_run_extract::run as run_extract;
 use q_run_miter::run as run_miter;
@@ -170,6 +170,9 @@ fn run_command<F: Files, S: Sink>(
         Command::Validate { names, budget } => run_validate(alloc, files, out, names, budget),
         Command::Refute { names } => run_refute(alloc, files, out, names),
         Command::Annotate { names } => run_annotate(alloc, files, out, names),
+        Command::AnnotateShare { names, part } => {
+            run_annotate_part(alloc, files, out, names, part)
+        }
         Command::Solve { names, budget } => { run_solve(alloc, files, out, names, budget, guides) }
         Command::Extract { names } => run_extract(alloc, files, out, names),
         Command::Miter { names, side } => run_miter(alloc, files, out, names, side),

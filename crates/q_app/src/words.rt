@@ -1,8 +1,8 @@
 // The words of the command line.
 ghost use Rattle.std.specs.Prelude.{◌≡◌, ◌≢◌, ◌≤◌, option_map, IfSome, Some};
 ghost use Rattle.q_app.specs.RebuildWords.{rebuild_names};
-ghost use Rattle.q_app.specs.PartWords.{check_of};
-ghost use Rattle.q_app.specs.Words.{annotate_of, demo_by, demo_of, extract_of, generate_of, miter_of, refute_of, scale_of as spec_scale_of, side_of as spec_side_of, simplify_of, solve_of, validate_of, disprove_of};
+ghost use Rattle.q_app.specs.PartWords.{annotate_of, check_of};
+ghost use Rattle.q_app.specs.Words.{demo_by, demo_of, extract_of, generate_of, miter_of, refute_of, scale_of as spec_scale_of, side_of as spec_side_of, simplify_of, solve_of, validate_of, disprove_of};
 ghost use Rattle.q_app.specs.Operands.{fourth, just_three, three_names as spec_three_names, two_names as spec_two_names, texts};
 ghost use Rattle.q_app.specs.Commands.{IsFit, bounds_in, by_verb as spec_by_verb, commands_of, request};
 
@@ -58,6 +58,10 @@ pub(crate) enum Command<'a> {
     },
     Annotate {
         names: AnnotateNames<'a>,
+    },
+    AnnotateShare {
+        names: AnnotateNames<'a>,
+        part: Part,
     },
     Solve {
         names: SolveNames<'a>,
@@ -216,17 +220,17 @@ fn parse_annotate(operands: &[String]) -> Option<Command>
     let Some(four) = four_names(operands) else {
         return None;
     };
-    if !four.rest.is_empty() {
-        return None;
+    let names = AnnotateNames {
+        input: four.names.input,
+        output: four.names.output,
+        log: four.names.log,
+        hinted: four.last,
+    };
+    match part_of(four.rest) {
+        Some(Some(part)) => Some(Command::AnnotateShare { names, part }),
+        Some(None) => Some(Command::Annotate { names }),
+        None => None,
     }
-    Some(Command::Annotate {
-        names: AnnotateNames {
-            input: four.names.input,
-            output: four.names.output,
-            log: four.names.log,
-            hinted: four.last,
-        },
-    })
 }
 
 fn parse_solve(operands: &[String]) -> Option<Command>

@@ -16,4 +16,4 @@ pub mod AskedPlaces
 pub mod CoverPass
 pub mod DecidedPlan
 pub mod HiddenClosure
-pub mod AroundRows
+pub mod WatchedSets

@@ -11,7 +11,7 @@ use Rattle.q_blocked.specs.declared.growth.Growth.{Growth}
 use Rattle.q_blocked.specs.declared.plan.Stage.{Stage}
 use Rattle.q_blocked.specs.Units.{HasUnits}
 use Rattle.q_blocked.specs.Walks.{IsBeside, GivesNone, GivesNoneAt, Gives}
-use Rattle.q_blocked.specs.Growths.{IsGrowing, IsPushed, IsPassive, UnitsGiveNone, Growing, HasSpread}
+use Rattle.q_blocked.specs.Growths.{IsGrowing, IsPushed, IsLonger, IsPassive, UnitsGiveNone, Growing, HasSpread}
 use Rattle.q_rule.proofs.IdClauses.{others-find}
 use Rattle.q_blocked.proofs.ListFronts.{place-get}
 use Rattle.q_blocked.proofs.HiddenLiterals.{other_or}
@@ -70,9 +70,9 @@ module _ (P : Prefix) (X : Matrix) (C S : Clause) (ss : List Stage) (base worked
         (gives_none-more (take worked S) S (new ∷ []) E (g.gives_none E i k (subst (λ (H : Clause). IsIn k H) (walked-more (new ∷ [])) x) y));
   }
 
--- The list of the next literal was walked.
-pub growing-walked : (P : Prefix) (X : Matrix) (C S K : Clause) (ss : List Stage) (base worked : ℕ) (k : Literal) → worked < length S → slice_get S worked ≡ Some k → ((E : Clause) → IsIn E X × IsIn k E → GivesNoneAt S (S ++ K) E) → IsGrowing P X C (S ++ K) ss base worked → IsGrowing P X C (S ++ K) ss base (worked + 1)
-growing-walked P X C S K ss base worked k more at' f g = record {
+-- The clauses with the next literal give nothing more.
+pub growing-worked : (P : Prefix) (X : Matrix) (C S K : Clause) (ss : List Stage) (base worked : ℕ) (k : Literal) → worked < length S → slice_get S worked ≡ Some k → ((E : Clause) → IsIn E X × IsIn k E → GivesNoneAt (take (worked + 1) S) (S ++ K) E) → IsGrowing P X C (S ++ K) ss base worked → IsGrowing P X C (S ++ K) ss base (worked + 1)
+growing-worked P X C S K ss base worked k more at' f g = record {
   reached = g.reached;
   consistent = g.consistent;
   walked = let l = length-append S K in omega arith;
@@ -92,7 +92,7 @@ growing-walked P X C S K ss base worked k more at' f g = record {
     ]
 
     go : (D : Clause) → IsIn D X → (j : Literal) → IsIn j (take (worked + 1) (S ++ K)) → IsIn j D → IsIn k D ⊎ (IsIn k D → ⊥) → GivesNoneAt (take (worked + 1) (S ++ K)) (S ++ K) D
-    go D i j x y (inl m) new o h = let r : GivesNoneAt (take (worked + 1) (S ++ K)) (S ++ K) D = subst (λ (H : Clause). GivesNoneAt H (S ++ K) D) (sym e) (gives_none-less (take (worked + 1) S) S (S ++ K) D (λ l z. IsIn-take S (worked + 1) l z) (f D (i, m))) in r new o h
+    go D i j x y (inl m) new o h = let r : GivesNoneAt (take (worked + 1) (S ++ K)) (S ++ K) D = subst (λ (H : Clause). GivesNoneAt H (S ++ K) D) (sym e) (f D (i, m)) in r new o h
     go D i j x y (inr n) new m h = elim (before j x) [
       | inl a ↦ g.gives_none D i j a y new m (λ l z d. elim (before l (h l z d)) [ inl b ↦ b | inr q ↦ absurd (n (subst (λ (v : Literal). IsIn v D) q z)) ])
       | inr q ↦ absurd (n (subst (λ (v : Literal). IsIn v D) q y))
@@ -131,6 +131,20 @@ pushed-on a b c f g = record {
   base = g.base ∙ f.base;
   worked = g.worked ∙ f.worked;
 }
+
+pub longer-pushed : (a b : Growth) → IsPushed a b → IsLonger a b
+longer-pushed a b p = record { added = p.added; set = p.set; worked = p.worked }
+
+pub longer-on : (a b c : Growth) → IsLonger a b → IsLonger b c → IsLonger a c
+longer-on a b c f g = record {
+  added = f.added ++ g.added;
+  set = g.set ∙ (ap (λ (S : Clause). S ++ g.added) f.set ∙ append_assoc a.set f.added g.added);
+  worked = g.worked ∙ f.worked;
+}
+
+-- from or to a growth of the same set
+pub longer-same : (a b : Growth) → b.set ≡ a.set → b.worked ≡ a.worked → IsLonger a b
+longer-same a b e w = record { added = []; set = e ∙ sym (append-none a.set); worked = w }
 
 pub pushed-gives_none : (a b c : Growth) (D : Clause) → IsPushed b c → GivesNoneAt a.set b.set D → GivesNoneAt a.set c.set D
 pushed-gives_none a b c D f h = subst (λ (S : Clause). GivesNoneAt a.set S D) (sym f.set) (gives_none-more a.set b.set f.added D h)

@@ -76,6 +76,12 @@ abbrev pub HasSpread : Seen → ℕ → (Clause → Type 0) → Growth → Growt
 HasSpread k c Q old new true = Covered k c new
 HasSpread k c Q old new false = Growing k c new × IsPushed old new × ((E : Clause) → Q E → GivesNoneAt old.set new.set E)
 
+-- literals have come, behind the place up to which the lists were walked
+pub record IsLonger (old new : Growth) : Type 0 where
+  pub added : List Literal
+  pub set : new.set ≡ old.set ++ added
+  pub worked : new.worked ≡ old.worked
+
 -- the lists of all literals were walked
 abbrev pub HasClosed : Seen → ℕ → Growth → Bool → Type 0
 HasClosed k c new true = Covered k c new
@@ -88,7 +94,7 @@ IsPassive P X S l = is_existential P l.var ≡ true → CoversNothing P X l S
 -- what a look at some literals for covered ones has made of a growth
 abbrev pub HasLooked : Seen → ℕ → (Literal → Type 0) → Growth → Growth → Progress → Type 0
 HasLooked k c Q old new Ended = Covered k c new
-HasLooked k c Q old new Grown = Growing k c new
+HasLooked k c Q old new Grown = Growing k c new × IsLonger old new
 HasLooked k c Q old new Unchanged = Growing k c new × (new.set ≡ old.set) × (new.worked ≡ old.worked) × ((l : Literal) → Q l → IsPassive k.prefix (others c (slots k)) old.set l) × (new.asked.items ≡ old.asked.items)
 
 -- literals that are in no S are covered by S on l
@@ -98,10 +104,10 @@ pub record CoveredBy (P : Prefix) (X : Matrix) (S : Clause) (K : List Literal) (
   pub looked : IsLooked P X l S K true
 
 -- covered literals have come; or the growth has ended
-abbrev pub HasCovered : Seen → ℕ → Growth → Progress → Type 0
-HasCovered k c new Ended = Covered k c new
-HasCovered k c new Grown = Growing k c new
-HasCovered k c new Unchanged = ⊥
+abbrev pub HasCovered : Seen → ℕ → Growth → Growth → Progress → Type 0
+HasCovered k c old new Ended = Covered k c new
+HasCovered k c old new Grown = Growing k c new × IsLonger old new
+HasCovered k c old new Unchanged = ⊥
 
 -- one turn over all that lets the set grow
 abbrev pub HasTurned : Seen → ℕ → Growth → Progress → Type 0
@@ -115,7 +121,7 @@ UnitsGiveNone X S = (D : Clause) → IsIn D X → IsSingle D → GivesNone S D
 
 abbrev pub HasUsedUnits : Seen → ℕ → Growth → Growth → Progress → Type 0
 HasUsedUnits k c old new Ended = Covered k c new
-HasUsedUnits k c old new Grown = Growing k c new
+HasUsedUnits k c old new Grown = Growing k c new × IsLonger old new
 HasUsedUnits k c old new Unchanged = (new.set ≡ old.set) × UnitsGiveNone (others c (slots k)) old.set
 
 -- whether the clause is covered
@@ -124,6 +130,6 @@ HasDecided k c new true = Covered k c new
 HasDecided k c new false = (C : Clause) → slot (slots k) c ≡ Some C → Covers k.prefix (others c (slots k)) C → ⊥
 
 -- known steps were taken: its growth has ended, or goes on
-abbrev pub HasReplayed : Seen → ℕ → Growth → Bool → Type 0
-HasReplayed k c new true = Covered k c new
-HasReplayed k c new false = Growing k c new
+abbrev pub HasReplayed : Seen → ℕ → Growth → Growth → Bool → Type 0
+HasReplayed k c old new true = Covered k c new
+HasReplayed k c old new false = Growing k c new × (new.worked ≡ old.worked)

@@ -1,10 +1,10 @@
 -- What a search learns of a formula.
 use Rattle.q_kernel.specs.Prelude.{Seen, slots}
-use Rattle.q_snapshot.specs.Rows.{AreRowsOf}
+use Rattle.q_watch.specs.Watches.{AreRightFor}
 use Rattle.q_blocked.specs.declared.search.Search.{Search}
 use Rattle.q_blocked.specs.Units.{AreRight}
 
 -- it is right for a kernel
 pub record IsRightFor (k : Seen) (s : Search) : Type 0 where
   pub units : AreRight (slots k) s.units
-  pub rows : AreRowsOf k s.rows
+  pub watches : AreRightFor k s.watches

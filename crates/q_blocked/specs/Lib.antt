@@ -6,4 +6,4 @@ pub mod Plans
 pub mod Growths
 pub mod Searches
 pub mod Learned
-pub mod Around
+pub mod Following

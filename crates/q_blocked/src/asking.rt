@@ -18,7 +18,7 @@ impl Search {
         ensures { (k : Seen) → IsRightFor k self.new }
     {
         self.units.forget();
-        self.rows.forget();
+        self.watches.forget();
     }
 
     /// Whether a clause is covered. What is learned of the kernel serves for the next question on the same one. Of the steps those stay

@@ -12,8 +12,8 @@
 //! **Condition and law.** `Covers` (`q_logic/specs/Covering.antt`). No is right because of `closed-covers_none`
 //! (`q_logic/proofs/CoverRun.antt`): what stops one order of growing stops every order.
 //!
-//! **How it is found.** The set is a list with marks. The list of each literal is walked once for hidden literals,
-//! when its turn comes; then each literal that did not come hidden is looked at for covered ones, until a pass over
+//! **How it is found.** The set is a list with marks. For hidden literals the list of each literal is walked once, when its turn comes;
+//! where many clauses are tested in one formula, the clauses that watch it instead (`watching.rt`). Then each literal that did not come hidden is looked at for covered ones, until a pass over
 //! them finds none. The clauses of one literal come last, since no list leads to them, and only where nothing else ended the growth.
 //!
 //! On a literal l that came hidden nothing is covered. The clause that gave it holds `not l`, and its other literals are in the
@@ -30,7 +30,7 @@
 //! pivot of it is as good. So there is a stage for each covered growth, and one before it only where its literal has
 //! come since the last one. The last clause goes by its pivot, or because it is implied.
 //!
-//! **Cost.** For hidden literals the lists of the set's literals once, of each clause mostly one or two literals. For
+//! **Cost.** For hidden literals the lists of the set's literals once, or the clauses that watch them. For
 //! covered ones two clauses for each literal of the set, as often as covered literals come, and the list of the
 //! negation of a literal where what was noted for it holds no more. The text of the steps grows with the stages times
 //! the set. Where there are clauses of one literal, finding them is a pass over the formula, once in a search and once
@@ -42,18 +42,20 @@ ghost use Rattle.std.specs.Prelude.{◌≡◌, ◌↔◌, ℕ, ◌++◌, ◌<◌
 ghost use Rattle.q_logic.specs.declared.rule_bounds.Bounds.{Bounds};
 ghost use Rattle.q_logic.specs.Prelude.{Literal, negation, Clause, IsIn, slot, others, cover, Fits};
 ghost use Rattle.q_kernel.specs.Prelude.{Seen, slots};
-ghost use Rattle.q_blocked.specs.Growths.{Growing, CoveredBy, HasCovered, HasLooked, HasTurned, HasDecided};
-ghost use Rattle.q_snapshot.specs.Rows.{AreRowsOf};
+ghost use Rattle.q_blocked.specs.Growths.{Growing, CoveredBy, HasCovered, HasLooked, HasDecided};
+ghost use Rattle.q_watch.specs.Watches.{AreRightFor};
+ghost use Rattle.q_blocked.specs.Following.{IsFollowed, HasTurnedFollowed};
 ghost use Rattle.q_blocked.specs.Units.{AreRight};
 ghost use Rattle.q_blocked.specs.Plans.{IsPlanFor};
 
 use crate::covered::{covered_at, is_bare};
 use crate::growth::{Growth, add_places};
-use crate::hidden::{close, use_units};
+use crate::hidden::use_units;
 use crate::pairs::covers_nothing;
 use crate::progress::Progress;
 use crate::replay::{Step, use_hint};
 use crate::search::Search;
+use crate::watching::close;
 use q_kernel::{ClauseId, Kernel};
 use q_logic::{Lit, NoMemory};
 use q_rule::{Queue, clause_of, is_existential, is_tautology};
@@ -86,6 +88,7 @@ fn end_stage(growth: &mut Growth, place: usize) -> Result<(), NoMemory>
         ((k : Seen) (c : ℕ) → Growing k c growth.old → Growing k c growth.new) }
     ensures staged { OnOk result (place < growth.new.base) }
     ensures set { growth.new.set ≡ growth.old.set }
+    ensures worked { growth.new.worked ≡ growth.old.worked }
     ensures found { growth.new.found ≡ growth.old.found }
 {
     growth.steps.push(Step::Covered(place))?;
@@ -107,7 +110,7 @@ fn cover_by(
     requires found { (l : Literal) → slice_get growth.old.set place ≡ Some l
         → CoveredBy kernel.now.prefix (others c (slots kernel.now)) growth.old.set
         growth.old.found.items l }
-    ensures { IfOk result (HasCovered kernel.now c growth.new) }
+    ensures { IfOk result (HasCovered kernel.now c growth.old growth.new) }
 {
     kernel.sound();
     let l = growth.set.at(place);
@@ -190,18 +193,22 @@ fn pass(kernel: &Kernel, growth: &mut Growth, c: ClauseId) -> Result<Progress, N
 // Grows by all that is known without the clauses of one literal, and then by these.
 fn round(kernel: &Kernel, search: &mut Search, c: ClauseId) -> Result<Progress, NoMemory>
     requires growing { Growing kernel.now c search.old.growth }
+    requires followed { IsFollowed kernel.now search.old.watches c search.old.growth }
     requires units { AreRight (slots kernel.now) search.old.units }
-    requires rows { AreRowsOf kernel.now search.old.rows }
-    ensures turned { IfOk result (HasTurned kernel.now c search.new.growth) }
+    requires watches { AreRightFor kernel.now search.old.watches }
+    ensures turned { IfOk result (HasTurnedFollowed kernel.now c search.new.watches search.new.growth) }
     ensures units { AreRight (slots kernel.now) search.new.units }
-    ensures rows { AreRowsOf kernel.now search.new.rows }
+    ensures watches { AreRightFor kernel.now search.new.watches }
 {
-    if close(kernel, &mut search.growth, &mut search.rows, c)? {
+    if close(kernel, &mut search.growth, &mut search.watches, c)? {
         return Ok(Progress::Ended);
     }
     let progress = pass(kernel, &mut search.growth, c)?;
-    if progress.is_ended() || progress.is_grown() {
-        return Ok(progress);
+    if progress.is_ended() {
+        return Ok(Progress::Ended);
+    }
+    if progress.is_grown() {
+        return Ok(Progress::Grown);
     }
     search.units.learn(kernel)?;
     let last = use_units(kernel, &mut search.growth, c, &search.units.ids)?;
@@ -211,11 +218,12 @@ fn round(kernel: &Kernel, search: &mut Search, c: ClauseId) -> Result<Progress, 
 // Whether some growth of the set ends.
 fn covers(kernel: &Kernel, search: &mut Search, c: ClauseId) -> Result<bool, NoMemory>
     requires growing { Growing kernel.now c search.old.growth }
+    requires followed { IsFollowed kernel.now search.old.watches c search.old.growth }
     requires units { AreRight (slots kernel.now) search.old.units }
-    requires rows { AreRowsOf kernel.now search.old.rows }
+    requires watches { AreRightFor kernel.now search.old.watches }
     ensures decided { IfOk result (HasDecided kernel.now c search.new.growth) }
     ensures units { AreRight (slots kernel.now) search.new.units }
-    ensures rows { AreRowsOf kernel.now search.new.rows }
+    ensures watches { AreRightFor kernel.now search.new.watches }
 {
     for _round in 0..usize::MAX {
         let progress = round(kernel, search, c)?;
@@ -233,18 +241,19 @@ fn covers(kernel: &Kernel, search: &mut Search, c: ClauseId) -> Result<bool, NoM
 /// Whether some growth of a clause ends; the steps by which the clause goes then.
 pub fn fits_cover(kernel: &Kernel, search: &mut Search, c: ClauseId) -> Result<bool, NoMemory>
     requires units { AreRight (slots kernel.now) search.old.units }
-    requires rows { AreRowsOf kernel.now search.old.rows }
+    requires watches { AreRightFor kernel.now search.old.watches }
     ensures fits { IfOk result (λ yes.
         (B : Bounds) → IsTrue yes ↔ Fits B kernel.now.prefix (slots kernel.now) (cover c)) }
     ensures plan { IfOk result (λ yes.
         IsTrue yes → IsPlanFor kernel.now.prefix (slots kernel.now) c search.new.growth.plan) }
     ensures units { AreRight (slots kernel.now) search.new.units }
-    ensures rows { AreRowsOf kernel.now search.new.rows }
+    ensures watches { AreRightFor kernel.now search.new.watches }
 {
     if !kernel.live(c) {
         return Ok(false);
     }
     kernel.sound();
+    search.watches.learn(kernel);
     let yes = decide(kernel, search, c)?;
     if yes {
         search.growth.write()?;
@@ -255,10 +264,10 @@ pub fn fits_cover(kernel: &Kernel, search: &mut Search, c: ClauseId) -> Result<b
 fn decide(kernel: &Kernel, search: &mut Search, c: ClauseId) -> Result<bool, NoMemory>
     requires live { (C : Clause) × (slot (slots kernel.now) c ≡ Some C) }
     requires units { AreRight (slots kernel.now) search.old.units }
-    requires rows { AreRowsOf kernel.now search.old.rows }
+    requires watches { AreRightFor kernel.now search.old.watches }
     ensures decided { IfOk result (HasDecided kernel.now c search.new.growth) }
     ensures units { AreRight (slots kernel.now) search.new.units }
-    ensures rows { AreRowsOf kernel.now search.new.rows }
+    ensures watches { AreRightFor kernel.now search.new.watches }
 {
     let clause = clause_of(kernel, c);
     search.growth.begin(clause)?;

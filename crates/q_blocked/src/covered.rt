@@ -153,7 +153,7 @@ fn narrow(
 /// Whether some clause with the negation of l is open; the covered literals that are not in the set then.
 // Hot where the two clauses that were noted do not show that nothing comes: each open clause costs a walk
 // over what is left. It stops once nothing is. What clashed once goes on clashing while the set grows, so a place in the list
-// could be kept for each literal; that was not tried, and neither were rows of `q_snapshot` here.
+// could be kept for each literal; that was not tried.
 pub fn covered_at(
     kernel: &Kernel,
     set: &Queue,

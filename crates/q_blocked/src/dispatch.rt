@@ -37,7 +37,7 @@ pub fn fits(kernel: &Kernel, search: &mut Search, target: &Target) -> Result<boo
         }
         Target::Cover { c } => {
             search.units.forget();
-            search.rows.forget();
+            search.watches.forget();
             let yes = fits_cover(kernel, search, c)?;
             Ok(yes)
         }

@@ -3,7 +3,7 @@ ghost use Rattle.std.specs.Prelude.{◌≡◌, ◌≤◌, Some, IfOk};
 ghost use Rattle.q_logic.specs.Prelude.{Clause, IsIn, slot, place};
 ghost use Rattle.q_kernel.specs.Prelude.{slots};
 ghost use Rattle.q_blocked.specs.Targets.{target_of};
-ghost use Rattle.q_snapshot.specs.Rows.{AreRowsOf};
+ghost use Rattle.q_watch.specs.Watches.{AreRightFor};
 ghost use Rattle.q_blocked.specs.Units.{AreRight};
 ghost use Rattle.q_rule.specs.Searching.{IsFound, IsAt};
 ghost use Rattle.q_blocked.specs.Searches.{IsPivotOf, IsOn};
@@ -26,7 +26,7 @@ pub fn find_from(
     ensures { IfOk result (IsFound target_of kernel.now (λ t. from ≤ place (target_of t))) }
 {
     search.units.forget();
-    search.rows.forget();
+    search.watches.forget();
     for c in kernel.ids_from(from) {
         let found = find_at(kernel, search, c)?;
         if found.is_some() {
@@ -40,10 +40,10 @@ pub fn find_from(
 fn find_at(kernel: &Kernel, search: &mut Search, c: ClauseId) -> Result<Option<Target>, NoMemory>
     requires live { (C : Clause) × (slot (slots kernel.now) c ≡ Some C) }
     requires units { AreRight (slots kernel.now) search.old.units }
-    requires rows { AreRowsOf kernel.now search.old.rows }
+    requires watches { AreRightFor kernel.now search.old.watches }
     ensures found { IfOk result (IsFound target_of kernel.now (IsAt target_of c)) }
     ensures units { AreRight (slots kernel.now) search.new.units }
-    ensures rows { AreRowsOf kernel.now search.new.rows }
+    ensures watches { AreRightFor kernel.now search.new.watches }
 {
     let found = find_pivot(kernel, &mut search.growth.set, c)?;
     if found.is_some() {

@@ -3,20 +3,18 @@ ghost use Rattle.std.specs.Prelude.{◌≡◌, ◌≢◌, ◌↔◌, Some, None,
 ghost use Rattle.q_logic.specs.Prelude.{Literal, negation, Clause, IsIn, IsSubset, IsTautology, others};
 ghost use Rattle.q_kernel.specs.Prelude.{slots};
 ghost use Rattle.q_blocked.specs.Walks.{IsBeside, GivesNone, Gives};
-ghost use Rattle.q_snapshot.specs.Rows.{AreRowsOf};
+ghost use Rattle.q_watch.specs.Watches.{IsSame};
 ghost use Rattle.q_blocked.specs.Units.{HasUnits};
 ghost use Rattle.q_blocked.specs.Growths.{Growing, HasSpread, HasClosed, HasUsedUnits};
 
-use crate::around::spread_next;
 use crate::growth::Growth;
 use crate::nothing_hidden::gives_none;
 use crate::progress::Progress;
 use crate::replay::Step;
-use crate::spreading::spread_row;
 use q_kernel::{ClauseId, Kernel};
 use q_logic::{Lit, NoMemory};
 use q_rule::{Queue, clause_of};
-use q_snapshot::Rows;
+use q_watch::Watches;
 
 // A literal of the clause that is not in the set.
 fn outside(clause: &[Lit], set: &Queue) -> Option<Lit>
@@ -135,53 +133,9 @@ pub(crate) fn take_hidden(
     Ok(ended)
 }
 
-/// Grows by the hidden literals that the clauses with a literal of the set give: by its row, where that was made.
-pub(crate) fn spread(
-    kernel: &Kernel,
-    growth: &mut Growth,
-    rows: &mut Rows,
-    c: ClauseId,
-    k: Lit,
-) -> Result<bool, NoMemory>
-    requires growing { Growing kernel.now c growth.old }
-    requires rows { AreRowsOf kernel.now rows.old }
-    ensures spread { IfOk result
-        (HasSpread kernel.now c (λ E.
-        IsIn E (others c (slots kernel.now)) × IsIn k E) growth.old growth.new) }
-    ensures rows { AreRowsOf kernel.now rows.new }
-{
-    match rows.row(k) {
-        Some(row) => spread_row(kernel, growth, c, k, row),
-        None => spread_anew(kernel, growth, rows, c, k),
-    }
-}
-
-/// The same where the row was not made yet.
-pub(crate) fn spread_anew(
-    kernel: &Kernel,
-    growth: &mut Growth,
-    rows: &mut Rows,
-    c: ClauseId,
-    k: Lit,
-) -> Result<bool, NoMemory>
-    requires growing { Growing kernel.now c growth.old }
-    requires rows { AreRowsOf kernel.now rows.old }
-    ensures spread { IfOk result
-        (HasSpread kernel.now c (λ E.
-        IsIn E (others c (slots kernel.now)) × IsIn k E) growth.old growth.new) }
-    ensures rows { AreRowsOf kernel.now rows.new }
-{
-    rows.learn(kernel, k);
-    match rows.row(k) {
-        Some(row) => spread_row(kernel, growth, c, k, row),
-        None => spread_list(kernel, growth, c, k),
-    }
-}
-
-// The same along the list of the literal in the kernel.
-// Hot where few clauses are tested: each step waits for a link, an owner, a slot and a word in turn. Where many are, the
-// row takes its place. A count for each clause of its literals outside the set was tried in its stead: it gains where the
-// formula fits into the cache, and loses a third and more where it does not.
+// Grows by the hidden literals that the clauses with a literal of the set give, along its list in the kernel.
+// Hot where few clauses are tested: each step waits for a link, an owner, a slot and a word in turn. Where many are, watches
+// take its place (`watching.rt`).
 fn spread_list(kernel: &Kernel, growth: &mut Growth, c: ClauseId, k: Lit) -> Result<bool, NoMemory>
     requires { Growing kernel.now c growth.old }
     ensures { IfOk result (HasSpread kernel.now c (λ E.
@@ -195,23 +149,22 @@ fn spread_list(kernel: &Kernel, growth: &mut Growth, c: ClauseId, k: Lit) -> Res
     Ok(false)
 }
 
-/// Grows by all hidden literals but those of clauses of one literal. The list of each literal is walked once, however
-/// the set grows: a clause gives nothing new until one of its literals comes. A long one is gone around (`around.rt`). Yes where the
-/// growth ends.
-pub fn close(
+/// Grows by all hidden literals. The list of each literal is walked once, however the set grows: a clause gives nothing new until one
+/// of its literals comes. Yes where the growth ends.
+pub(crate) fn close_by_lists(
     kernel: &Kernel,
     growth: &mut Growth,
-    rows: &mut Rows,
+    watches: &mut Watches,
     c: ClauseId,
 ) -> Result<bool, NoMemory>
-    requires growing { Growing kernel.now c growth.old }
-    requires rows { AreRowsOf kernel.now rows.old }
+    requires { Growing kernel.now c growth.old }
     ensures closed { IfOk result (HasClosed kernel.now c growth.new) }
-    ensures rows { AreRowsOf kernel.now rows.new }
+    ensures same { IsSame watches.old watches.new }
 {
     while growth.worked < growth.set.len() {
         let k = growth.set.at(growth.worked);
-        if spread_next(kernel, growth, rows, c, k)? {
+        watches.meet(kernel.count(k));
+        if spread_list(kernel, growth, c, k)? {
             return Ok(true);
         }
         growth.worked += 1;

@@ -1,7 +1,6 @@
 //! Blocked and covered clauses, and universal literals on which a clause is blocked.
 #![tactic(auto)]
 
-mod around;
 mod asking;
 mod blocked;
 mod clashing;
@@ -21,9 +20,9 @@ mod replay;
 mod room;
 mod rules;
 mod search;
-mod spreading;
 mod target;
 mod units;
+mod watching;
 
 pub use q_kernel::Taken;
 pub use q_logic::Bounds;

@@ -69,7 +69,7 @@ fn redo_hidden(
     d: ClauseId,
 ) -> Result<bool, NoMemory>
     requires { Growing kernel.now c growth.old }
-    ensures { IfOk result (HasReplayed kernel.now c growth.new) }
+    ensures { IfOk result (HasReplayed kernel.now c growth.old growth.new) }
 {
     let Some(new) = hidden_by(kernel, &growth.set, c, d) else {
         return Ok(false);
@@ -81,7 +81,7 @@ fn redo_hidden(
 // Takes a step, where it can be taken. Yes where the growth ends.
 fn redo(kernel: &Kernel, growth: &mut Growth, c: ClauseId, step: Step) -> Result<bool, NoMemory>
     requires { Growing kernel.now c growth.old }
-    ensures { IfOk result (HasReplayed kernel.now c growth.new) }
+    ensures { IfOk result (HasReplayed kernel.now c growth.old growth.new) }
 {
     match step {
         Step::Hidden(d) => redo_hidden(kernel, growth, c, d),
@@ -102,7 +102,7 @@ fn replay(
     steps: &[Step],
 ) -> Result<bool, NoMemory>
     requires { Growing kernel.now c growth.old }
-    ensures { IfOk result (HasReplayed kernel.now c growth.new) }
+    ensures { IfOk result (HasReplayed kernel.now c growth.old growth.new) }
 {
     for step in steps {
         if redo(kernel, growth, c, *step)? {
@@ -115,9 +115,9 @@ fn replay(
 /// Grows by the steps of the hint, if it is for this clause. Yes where the growth ends.
 pub(crate) fn use_hint(kernel: &Kernel, search: &mut Search, c: ClauseId) -> Result<bool, NoMemory>
     requires { Growing kernel.now c search.old.growth }
-    ensures replayed { IfOk result (HasReplayed kernel.now c search.new.growth) }
+    ensures replayed { IfOk result (HasReplayed kernel.now c search.old.growth search.new.growth) }
     ensures units { search.new.units ≡ search.old.units }
-    ensures rows { search.new.rows ≡ search.old.rows }
+    ensures watches { search.new.watches ≡ search.old.watches }
 {
     if !search.hint.is_used_for(c) {
         return Ok(false);

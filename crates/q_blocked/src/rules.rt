@@ -14,7 +14,7 @@ use crate::units::Units;
 use q_kernel::{Kernel, Taken};
 use q_logic::{Bounds, NoMemory};
 use q_rule::Rules;
-use q_snapshot::Rows;
+use q_watch::Watches;
 use std::alloc::Global;
 
 impl Rules for Search {
@@ -29,7 +29,7 @@ impl Rules for Search {
             growth: Growth::new(alloc),
             hint: Hint::new(alloc),
             units: Units::new(alloc),
-            rows: Rows::new(alloc),
+            watches: Watches::new(alloc),
             needed: Needed::new(alloc),
             larger: Vec::new(alloc),
         }

@@ -4,7 +4,7 @@ use crate::needed::Needed;
 use crate::replay::Hint;
 use crate::units::Units;
 use q_logic::Lit;
-use q_snapshot::Rows;
+use q_watch::Watches;
 
 /// Room for searches. It serves for any kernel.
 #[derive(Drop)]
@@ -15,8 +15,8 @@ pub struct Search {
     pub(crate) hint: Hint,
     /// The clauses of one literal.
     pub(crate) units: Units,
-    /// The clauses that hold a literal, where many clauses were tested.
-    pub(crate) rows: Rows,
+    /// Two watched literals for each clause, where many clauses were tested.
+    pub(crate) watches: Watches,
     /// Room for the steps on which a growth rests.
     pub(crate) needed: Needed,
     /// Room for the larger clauses of a plan.

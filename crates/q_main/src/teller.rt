@@ -18,7 +18,8 @@ impl Teller {
 }
 
 impl Watch for Teller {
-    fn look(&self, pass: Pass, kernel: &Kernel) {
+    fn look(&self, pass: Pass, kernel: &Kernel) -> bool {
         self.board.note_look(Some(pass), kernel);
+        true
     }
 }

@@ -19,7 +19,7 @@ use Rattle.q_command.proofs.CheckStatus.{carried, line_no_run, end_no_run, no_of
 use Rattle.q_command.proofs.ToldLaws.{ToldLaws, exact}
 use Rattle.q_command.proofs.WholeLogs.{profile-told}
 use Rattle.q_run_annotate.specs.AnnotatedLines.{status_of_annotated}
-use Rattle.q_run_annotate.specs.Annotates.{AnnotateFiles, IsWhole, IsPart, IsPlainVerified, IsNoPlainRun, LeadsPlain, EndsPlain, PlainChecks, Annotates, AnnotatesExactly, told}
+use Rattle.q_run_annotate.specs.Annotates.{AnnotateFiles, AnnotatesBy, Annotation, AnswersBy, ChecksBy, IsAnnotation, IsPartBy, IsWholeBy, LeadsPlain, LogRefuses, EndsPlain, Refusal, told}
 use Rattle.q_run_annotate.specs.declared.annotated.Annotated.{Annotated}
 use Rattle.q_run_annotate.specs.declared.annotated.Annotated.TheVariants.{Written, Unverified, WriteFault, NoMemory}
 
@@ -34,27 +34,34 @@ line-no-plain log F G n c b (es, r) = go (profile-told standard.bytes log)
 end-no-plain : (log : List ℕ) (F G : PrenexFormula) (c : ℕ) → EndsPlain log F G c → LeadsPlain log F G → ⊥
 end-no-plain log F G c e (es, r) = end_no_run log F G c (record { last = e.last; way = inl e.way; apart = e.apart }) (es, inl r)
 
-module _ (given : Status) (n : AnnotateFiles) (before : Disk) (after : Option Disk) where
-  abbrev Result : Type 0
-  Result = AnnotatesExactly given n before after
+-- what is said of a log settles whether it leads from one formula to another
+pub record Settles (L : PrenexFormula → PrenexFormula → Type 0) (A : Annotation) (R : Refusal) : Type 0 where
+  pub leads : (k : ℕ) (F G : PrenexFormula) (text : List ℕ) → A k F G text → L F G
+  pub line : (n c : ℕ) (F G : PrenexFormula) → R (outcome.RefusedLine n c) F G → L F G → ⊥
+  pub end : (c : ℕ) (F G : PrenexFormula) → R (outcome.RefusedEnd c) F G → L F G → ⊥
 
-  whole-verified : (k : ℕ) → IsWhole k n before after → IsPlainVerified (bytes_at before n.input) (bytes_at before n.output) (bytes_at before n.log)
-  whole-verified k h =
-      let x = h.holds.1 in
-      record {
-        from = h.from;
-        to = h.to;
-        is_input = h.is_input;
-        is_output = h.is_output;
-        holds = (x.entries, record { is_log = x.is_log; run = hinted-leads h.from h.to (steps_of x.entries) h.holds.0 x.hinted });
-      }
+module _ (L : PrenexFormula → PrenexFormula → Type 0) (A : Annotation) (R : Refusal) (law : Settles L A R) (given : Status) (n : AnnotateFiles) (before : Disk) (after : Option Disk) where
+  abbrev Result : Type 0
+  Result = AnswersBy L A given n before after
+
+  abbrev Leads : Type 0
+  Leads = OfFormulas (bytes_at before n.input) (bytes_at before n.output) L
+
+  whole-verified : (k : ℕ) → IsWholeBy A k n before after → Leads
+  whole-verified k h = record {
+    from = h.from;
+    to = h.to;
+    is_input = h.is_input;
+    is_output = h.is_output;
+    holds = law.leads k h.from h.to h.holds.0 h.holds.1;
+  }
 
   -- formulas that were read are no refused inputs
   no-refusal : {P : PrenexFormula → PrenexFormula → Type 0} → OfFormulas (bytes_at before n.input) (bytes_at before n.output) P → IsNoFormula (bytes_at before n.input) ⊎ IsNoFormula (bytes_at before n.output) → ⊥
   no-refusal v (inl z) = z v.from v.is_input
   no-refusal v (inr z) = z v.to v.is_output
 
-  whole : (k : ℕ) → IsWhole k n before after → given ≡ status.Done → Result
+  whole : (k : ℕ) → IsWholeBy A k n before after → given ≡ status.Done → Result
   whole k h e =
       let v = whole-verified k h in
       record {
@@ -72,7 +79,7 @@ module _ (given : Status) (n : AnnotateFiles) (before : Disk) (after : Option Di
         left = λ x. absurd (elim x [ inl a ↦ (let w : status.Done ≡ status.WriteFault = sym e ∙ a in cc) | inr a ↦ (let w : status.Done ≡ status.NoMemory = sym e ∙ a in cc) ]);
       }
 
-  faulty : MayCome given → (given ≡ status.ReadFault → after ≡ Some before) → ((given ≡ status.WriteFault) ⊎ (given ≡ status.NoMemory) → (after ≡ Some before) ⊎ IsPart n before after) → Result
+  faulty : MayCome given → (given ≡ status.ReadFault → after ≡ Some before) → ((given ≡ status.WriteFault) ⊎ (given ≡ status.NoMemory) → (after ≡ Some before) ⊎ IsPartBy A n before after) → Result
   faulty m same l =
       record {
         done = ((λ x. absurd (come m x)), (λ f. inr m));
@@ -101,7 +108,7 @@ module _ (given : Status) (n : AnnotateFiles) (before : Disk) (after : Option Di
       come-input (inr (inl a)) x = cc
       come-input (inr (inr a)) x = cc
 
-  refused : IsNoPlainRun (bytes_at before n.input) (bytes_at before n.output) (bytes_at before n.log) → after ≡ Some before → given ≡ status.LogRefused → Result
+  refused : OfFormulas (bytes_at before n.input) (bytes_at before n.output) (λ F G. ¬ L F G) → after ≡ Some before → given ≡ status.LogRefused → Result
   refused r same e = record {
     done = ((λ x. absurd (let w : status.LogRefused ≡ status.Done = sym e ∙ x in cc)), (λ v. absurd (r.holds (carried _ _ _ _ r v))));
     written = λ x. absurd (let w : status.LogRefused ≡ status.Done = sym e ∙ x in cc);
@@ -121,19 +128,19 @@ module _ (given : Status) (n : AnnotateFiles) (before : Disk) (after : Option Di
     left = λ x. inl same;
   }
 
-  unverified : (w : Outcome) → IsUnverified w → PlainChecks w (bytes_at before n.input) (bytes_at before n.output) (bytes_at before n.log) → after ≡ Some before → given ≡ status_of w → Result
+  unverified : (w : Outcome) → IsUnverified w → ChecksBy R w (bytes_at before n.input) (bytes_at before n.output) → after ≡ Some before → given ≡ status_of w → Result
   unverified (outcome.Verified k) u h same e = absurd u
   unverified (outcome.RefusedLine k c) u h same e =
-      refused (record { from = h.from; to = h.to; is_input = h.is_input; is_output = h.is_output; holds = line-no-plain (bytes_at before n.log) h.from h.to k c h.holds }) same e
+      refused (record { from = h.from; to = h.to; is_input = h.is_input; is_output = h.is_output; holds = law.line k c h.from h.to h.holds }) same e
   unverified (outcome.RefusedEnd c) u h same e =
-      refused (record { from = h.from; to = h.to; is_input = h.is_input; is_output = h.is_output; holds = end-no-plain (bytes_at before n.log) h.from h.to c h.holds }) same e
+      refused (record { from = h.from; to = h.to; is_input = h.is_input; is_output = h.is_output; holds = law.end c h.from h.to h.holds }) same e
   unverified (outcome.RefusedInput In k c) u h same e = no-formula (inl (λ F f. no_offence (bytes_at before n.input) F k c h f)) same e
   unverified (outcome.RefusedInput Out k c) u h same e = no-formula (inr (λ F f. no_offence (bytes_at before n.output) F k c h.2 f)) same e
   unverified outcome.ReadFault u h same e = faulty (inl e) (λ x. same) (λ x. inl same)
   unverified outcome.NoMemory u h same e = faulty (inr (inr e)) (λ x. same) (λ x. inl same)
 
   -- what stands where the line could not be put
-  stands : (due : Annotated) → Annotates due n before after → (after ≡ Some before) ⊎ IsPart n before after
+  stands : (due : Annotated) → AnnotatesBy A R due n before after → (after ≡ Some before) ⊎ IsPartBy A n before after
   stands (Written k) h =
       let w = h.holds in
       inr (record {
@@ -157,13 +164,13 @@ module _ (given : Status) (n : AnnotateFiles) (before : Disk) (after : Option Di
   stands WriteFault h = inr h
   stands NoMemory h = h
 
-  due-answers : (due : Annotated) → Annotates due n before after → given ≡ status_of_annotated due → Result
+  due-answers : (due : Annotated) → AnnotatesBy A R due n before after → given ≡ status_of_annotated due → Result
   due-answers (Written k) h e = whole k h e
   due-answers (Unverified o) h e = unverified o h.0 h.1 h.2 e
   due-answers WriteFault h e = faulty (inr (inl e)) (λ x. let w : status.WriteFault ≡ status.ReadFault = sym e ∙ x in cc) (λ x. inr h)
   due-answers NoMemory h e = faulty (inr (inr e)) (λ x. let w : status.NoMemory ≡ status.ReadFault = sym e ∙ x in cc) (λ x. h)
 
-  pub annotate-answers : (due : Annotated) (old new : SinkView) → Annotates due n before after → IsDue (status_of_annotated due) given old new → Result
+  pub annotate-answers : (due : Annotated) (old new : SinkView) → AnnotatesBy A R due n before after → IsDue (status_of_annotated due) given old new → Result
   annotate-answers due old new h (inl e) = due-answers due h e
   annotate-answers due old new h (inr (inl e)) = faulty (inr (inl e.0)) (λ x. let w : status.WriteFault ≡ status.ReadFault = sym e.0 ∙ x in cc) (λ x. stands due h)
   annotate-answers due old new h (inr (inr e)) = faulty (inr (inr e.0)) (λ x. let w : status.NoMemory ≡ status.ReadFault = sym e.0 ∙ x in cc) (λ x. stands due h)
@@ -179,9 +186,18 @@ annotate-usage (Unverified outcome.NoMemory) e = cc
 annotate-usage WriteFault e = cc
 annotate-usage NoMemory e = cc
 
+plain-settles : (log : List ℕ) → Settles (LeadsPlain log) (IsAnnotation log) (λ w F G. LogRefuses w F G log)
+plain-settles log = record {
+  leads = λ k F G text a. (a.entries, record { is_log = a.is_log; run = hinted-leads F G (steps_of a.entries) text a.hinted });
+  line = λ n c F G b. line-no-plain log F G n c b;
+  end = λ c F G e. end-no-plain log F G c e;
+}
+
 pub laws : (n : AnnotateFiles) → ToldLaws (told n)
 laws n = record {
-  gives = λ o given disk after old new h d. annotate-answers given n disk after o old new h d;
+  gives = λ o given disk after old new h d.
+      let l = bytes_at disk n.log in
+      annotate-answers (LeadsPlain l) (IsAnnotation l) (λ w F G. LogRefuses w F G l) (plain-settles l) given n disk after o old new h d;
   no_usage = annotate-usage;
   answers = λ given disk after m g. (exact given status.Done _ m g.done, exact given status.LogRefused _ m g.log_refused);
 }

@@ -52,7 +52,7 @@ logged-texts : (ts : List StepText) → AllByRecursion IsSpelled ts → AllByRec
 logged-texts [] a = tt
 logged-texts (t ∷ ts) a = (record { step = step_of-IsStep t.kind t.lits a.0.form; numbers = numbers-of t.kind t.lits a.0.form a.0.numbers }, logged-texts ts a.1)
 
-read-logged : (log : List ℕ) (es : List Entry) → Steps standard.bytes log ≡ Some es → AllByRecursion IsLogged (steps_of es)
+pub read-logged : (log : List ℕ) (es : List Entry) → Steps standard.bytes log ≡ Some es → AllByRecursion IsLogged (steps_of es)
 read-logged log es e =
     let l = read-spelled standard.bytes log es e in
     subst (λ (xs : List Entry). AllByRecursion IsLogged (steps_of xs)) (sym l.steps_are) (logged-texts l.texts l.spelled)

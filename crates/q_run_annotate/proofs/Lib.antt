@@ -4,3 +4,9 @@ pub mod AnnotatedSteps
 pub mod AnnotateOutcome
 pub mod AnnotatedLog
 pub mod AnnotateStatus
+pub mod PartStatus
+pub mod WholeParts
+pub mod JoinedLines
+pub mod JoinedParts
+pub mod PartsAnnotate
+pub mod JoinedExists

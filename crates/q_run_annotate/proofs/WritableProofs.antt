@@ -1,5 +1,5 @@
 -- A proof part that shows a step, and has nothing beside, is one that a log can hold.
-use Rattle.std.proofs.Common.{◌≡◌, ◌≤◌, ◌<◌, ◌^◌, ℕ, zero, suc, List, [], ◌∷◌, ◌++◌, map, inl, inr, refl, sym, ap, ◌∙◌, subst, Option, None, Some, length, slice_get, ◌+◌, arith, suc-le-suc, zero-le}
+use Rattle.std.proofs.Common.{◌≡◌, ◌≤◌, ◌<◌, ◌^◌, ℕ, zero, suc, Bool, true, false, cond, List, [], ◌∷◌, ◌++◌, append-nil, map, inl, inr, refl, sym, ap, ◌∙◌, subst, Option, None, Some, length, slice_get, ◌+◌, arith, suc-le-suc, zero-le}
 use Rattle.std.specs.List.{AllByRecursion}
 use Rattle.q_logic.specs.declared.limits.Limits.{Limits}
 use Rattle.q_logic.specs.declared.proof_part.ProofKind.{ProofKind}
@@ -8,7 +8,12 @@ use Rattle.q_logic.proofs.Common.{length-set_slot, slot-below}
 use Rattle.q_hinted.specs.Parts.{IsNumber, IsGroup, AreGroups, IsPartOf}
 use Rattle.q_check.specs.Annotations.{Annotating, HasForm}
 use Rattle.q_hinted.specs.Texts.{hinted_text}
-use Rattle.q_run_annotate.specs.Readings.{IsUnderWay, Goes}
+use Rattle.q_same_steps.specs.HintedMaking.{HintedApplies}
+use Rattle.q_shares.specs.Shares.{judged}
+use Rattle.q_shares.proofs.HintedSharedRuns.{hinted_valid-applies}
+use Rattle.q_check.specs.Replays.{IsNumberedStep}
+use Rattle.q_run_annotate.specs.AnnotatedShares.{line_if}
+use Rattle.q_run_annotate.specs.Readings.{Fits, IsUnderWay, Goes, turn}
 use Rattle.q_run_annotate.specs.declared.scribe.Scribe.{Scribe}
 use Rattle.q_check.proofs.AscendingNumbers.{with-in}
 use Rattle.q_check.proofs.HintNumbers.{slot-emptied}
@@ -100,35 +105,60 @@ front-set n o C [] e h = cc
 front-set zero o C (x ∷ N) e h = cc
 front-set (suc n) o C (x ∷ N) e h = e
 
-pub after-front : (m : Limits) (F : NumberedFormula) (s : ProofStep) (t : ProofPart) → HintedValid m F s t → slice_get F.slots 0 ≡ Some None → slice_get (hinted_after F s t).slots 0 ≡ Some None
+after-front : (m : Limits) (F : NumberedFormula) (s : ProofStep) (t : ProofPart) → HintedApplies m F s t → slice_get F.slots 0 ≡ Some None → slice_get (hinted_after F s t).slots 0 ≡ Some None
 after-front m F (add p C) t v e = front-more F.slots (Some C) e
 after-front m F (delete p C) t v e = front-emptied t.number F.slots e
 after-front m F (drop_literal l C) t v e = front-set t.number (Some (without l C)) C F.slots e v.1
 after-front m F (fresh v w) t h e = e
 after-front m F (remove_variable v) t h e = e
 
-pub goes : (s : ProofStep) (t : ProofPart) (old new : Scribe) → IsUnderWay old.annotator → old.annotator.steps < 2 ^ 60 → HintedValid old.annotator.limits old.annotator.formula s t → HasForm s t →
-    new.annotator.formula ≡ hinted_after old.annotator.formula s t → new.annotator.limits ≡ old.annotator.limits → new.annotator.steps ≡ old.annotator.steps + 1 → new.text.items ≡ old.text.items ++ hinted_text s t → Goes s old new
-goes s t old new u l v f e m n x =
+-- the annotator goes on
+still-under-way : (s : ProofStep) (t : ProofPart) (a b : Annotating) → IsUnderWay a → HintedApplies standard a.formula s t → b.formula ≡ hinted_after a.formula s t → b.limits ≡ a.limits → b.steps ≡ a.steps + 1 → IsUnderWay b
+still-under-way s t a b u w e m n =
+    let p = after-length a.formula s t in
+    let r : length b.formula.slots ≡ length (hinted_after a.formula s t).slots = ap (λ (F : NumberedFormula). length F.slots) e in
+    let q = u.few in
+    record {
+      limits = m ∙ u.limits;
+      no_clause = subst (λ (F : NumberedFormula). slice_get F.slots 0 ≡ Some None) (sym e) (after-front standard a.formula s t w u.no_clause);
+      few = omega (arith, p, r, q, n);
+    }
+
+-- a step that is shown
+pub goes : (s : ProofStep) (t : ProofPart) (old new : Scribe) → turn old ≡ true → IsUnderWay old.annotator → old.annotator.steps < 2 ^ 60 → HintedValid old.annotator.limits old.annotator.formula s t → HasForm s t →
+    new.annotator.formula ≡ hinted_after old.annotator.formula s t → new.annotator.limits ≡ old.annotator.limits → new.annotator.steps ≡ old.annotator.steps + 1 →
+    new.part ≡ old.part → new.text.items ≡ old.text.items ++ hinted_text s t → new.written ≡ old.written + 1 → Goes s old new
+goes s t old new own u l v f e m n p x z =
     let a : Annotating = old.annotator in
     let w : HintedValid standard a.formula s t = subst (λ (k : Limits). HintedValid k a.formula s t) u.limits v in
     record {
-      part = t;
-      fits = part-fits standard a.formula s t w f (fits-front a.formula.slots u.no_clause) (let q = u.few in omega arith);
-      shown = w;
+      proof = t;
+      fits = subst (λ (b : Bool). judged b (IsPartOf (kind_of s) t) (Unit {0})) (sym own)
+          (part-fits standard a.formula s t w f (fits-front a.formula.slots u.no_clause) (let q = u.few in omega arith));
+      made = subst (λ (b : Bool). Fits b a s t) (sym own) w;
       formula = e;
-      under_way = record {
-        limits = m ∙ u.limits;
-        no_clause = subst (λ (F : NumberedFormula). slice_get F.slots 0 ≡ Some None) (sym e) (after-front standard a.formula s t w u.no_clause);
-        few = few;
-      };
+      under_way = still-under-way s t a new.annotator u (hinted_valid-applies standard a.formula s t w) e m n;
       steps = n;
-      text = x;
+      part = p;
+      text = x ∙ ap (λ (b : Bool). old.text.items ++ line_if b s t) (sym own);
+      written = z ∙ ap (λ (b : Bool). cond b (old.written + 1) old.written) (sym own);
     }
-  where
-    few : length new.annotator.formula.slots ≤ 2 ^ 60 + new.annotator.steps + 1
-    few =
-        let q = u.few in
-        let p = after-length old.annotator.formula s t in
-        let r : length new.annotator.formula.slots ≡ length (hinted_after old.annotator.formula s t).slots = ap (λ (F : NumberedFormula). length F.slots) e in
-        omega (arith, p, r, q, n)
+
+-- a step that is made
+pub passes : (s : ProofStep) (old new : Scribe) → turn old ≡ false → IsUnderWay old.annotator → IsNumberedStep old.annotator.limits old.annotator.formula s new.annotator.formula →
+    new.annotator.limits ≡ old.annotator.limits → new.annotator.steps ≡ old.annotator.steps + 1 →
+    new.part ≡ old.part → new.text.items ≡ old.text.items → new.written ≡ old.written → Goes s old new
+passes s old new other u v m n p x z =
+    let a : Annotating = old.annotator in
+    let w : HintedApplies standard a.formula s v.proof = subst (λ (k : Limits). HintedApplies k a.formula s v.proof) u.limits v.fits in
+    record {
+      proof = v.proof;
+      fits = subst (λ (b : Bool). judged b (IsPartOf (kind_of s) v.proof) (Unit {0})) (sym other) tt;
+      made = subst (λ (b : Bool). Fits b a s v.proof) (sym other) w;
+      formula = v.after;
+      under_way = still-under-way s v.proof a new.annotator u w v.after m n;
+      steps = n;
+      part = p;
+      text = x ∙ (sym (append-nil old.text.items) ∙ ap (λ (b : Bool). old.text.items ++ line_if b s v.proof) (sym other));
+      written = z ∙ ap (λ (b : Bool). cond b (old.written + 1) old.written) (sym other);
+    }

@@ -80,56 +80,85 @@ LogRefuses (outcome.RefusedInput r n c) F G log = ⊥
 LogRefuses outcome.ReadFault F G log = Unit {0}
 LogRefuses outcome.NoMemory F G log = Unit {0}
 
--- what is said of the three files
+-- a log is refused where this is said of it, between two formulas
+abbrev pub Refusal : Type 1
+Refusal = Outcome → PrenexFormula → PrenexFormula → Type 0
+
+-- what is said of the three files, where R is what is said of the log
+abbrev pub ChecksBy : Refusal → Outcome → List ℕ → List ℕ → Type 0
+ChecksBy R (outcome.Verified n) i o = ⊥
+ChecksBy R (outcome.RefusedLine n c) i o = OfFormulas i o (R (outcome.RefusedLine n c))
+ChecksBy R (outcome.RefusedEnd c) i o = OfFormulas i o (R (outcome.RefusedEnd c))
+ChecksBy R (outcome.RefusedInput In n c) i o = Offence standard i n c
+ChecksBy R (outcome.RefusedInput Out n c) i o = (F : PrenexFormula) × IsFileOf i F × Offence standard o n c
+ChecksBy R outcome.ReadFault i o = Unit {0}
+ChecksBy R outcome.NoMemory i o = Unit {0}
+
 abbrev pub PlainChecks : Outcome → List ℕ → List ℕ → List ℕ → Type 0
-PlainChecks (outcome.Verified n) i o l = ⊥
-PlainChecks (outcome.RefusedLine n c) i o l = OfFormulas i o (λ F G. LogRefuses (outcome.RefusedLine n c) F G l)
-PlainChecks (outcome.RefusedEnd c) i o l = OfFormulas i o (λ F G. LogRefuses (outcome.RefusedEnd c) F G l)
-PlainChecks (outcome.RefusedInput In n c) i o l = Offence standard i n c
-PlainChecks (outcome.RefusedInput Out n c) i o l = (F : PrenexFormula) × IsFileOf i F × Offence standard o n c
-PlainChecks outcome.ReadFault i o l = Unit {0}
-PlainChecks outcome.NoMemory i o l = Unit {0}
+PlainChecks w i o l = ChecksBy (λ x F G. LogRefuses x F G l) w i o
 
 -- why HINTED is not written, of the files as they were
 abbrev pub NotAnnotated : Outcome → AnnotateFiles → Disk → Type 0
 NotAnnotated o n before = PlainChecks o (bytes_at before n.input) (bytes_at before n.output) (bytes_at before n.log)
 
--- the files hold formulas, and this is the text of LOG's steps with hints
-abbrev pub IsAnnotated : AnnotateFiles → Disk → ℕ → List ℕ → Type 0
-IsAnnotated n before steps text =
-    OfFormulas (bytes_at before n.input) (bytes_at before n.output) (λ F G. IsAnnotation (bytes_at before n.log) steps F G text)
+-- a text that is to be written, by its number of steps, between two formulas
+abbrev pub Annotation : Type 1
+Annotation = ℕ → PrenexFormula → PrenexFormula → List ℕ → Type 0
+
+-- the files hold formulas, and this is the text between them
+abbrev pub IsAnnotatedBy : Annotation → AnnotateFiles → Disk → ℕ → List ℕ → Type 0
+IsAnnotatedBy A n before steps text =
+    OfFormulas (bytes_at before n.input) (bytes_at before n.output) (λ F G. A steps F G text)
 
 -- HINTED is written whole
-abbrev pub IsWhole : ℕ → AnnotateFiles → Disk → Option Disk → Type 0
-IsWhole steps n before after =
+abbrev pub IsWholeBy : Annotation → ℕ → AnnotateFiles → Disk → Option Disk → Type 0
+IsWholeBy A steps n before after =
     OfFormulas (bytes_at before n.input) (bytes_at before n.output) (λ F G.
-    (text : List ℕ) × IsAnnotation (bytes_at before n.log) steps F G text × HoldsBytes n.hinted text before after)
+    (text : List ℕ) × A steps F G text × HoldsBytes n.hinted text before after)
 
 -- a fault or want of memory while it was written
-abbrev pub IsPart : AnnotateFiles → Disk → Option Disk → Type 0
-IsPart n before after =
+abbrev pub IsPartBy : Annotation → AnnotateFiles → Disk → Option Disk → Type 0
+IsPartBy A n before after =
     OfFormulas (bytes_at before n.input) (bytes_at before n.output) (λ F G.
-    (steps : ℕ) × (text : List ℕ) × IsAnnotation (bytes_at before n.log) steps F G text × MayHoldFront n.hinted text before after)
+    (steps : ℕ) × (text : List ℕ) × A steps F G text × MayHoldFront n.hinted text before after)
 
 -- what there is to say, and what the files hold then
+abbrev pub AnnotatesBy : Annotation → Refusal → Annotated → AnnotateFiles → Disk → Option Disk → Type 0
+AnnotatesBy A R (Written k) n before after = IsWholeBy A k n before after
+AnnotatesBy A R (Unverified o) n before after =
+    IsUnverified o × ChecksBy R o (bytes_at before n.input) (bytes_at before n.output) × (after ≡ Some before)
+AnnotatesBy A R WriteFault n before after = IsPartBy A n before after
+AnnotatesBy A R NoMemory n before after = (after ≡ Some before) ⊎ IsPartBy A n before after
+
+-- the files hold formulas, and this is the text of LOG's steps with hints
+abbrev pub IsAnnotated : AnnotateFiles → Disk → ℕ → List ℕ → Type 0
+IsAnnotated n before steps text = IsAnnotatedBy (IsAnnotation (bytes_at before n.log)) n before steps text
+
+abbrev pub IsWhole : ℕ → AnnotateFiles → Disk → Option Disk → Type 0
+IsWhole steps n before after = IsWholeBy (IsAnnotation (bytes_at before n.log)) steps n before after
+
+abbrev pub IsPart : AnnotateFiles → Disk → Option Disk → Type 0
+IsPart n before after = IsPartBy (IsAnnotation (bytes_at before n.log)) n before after
+
 abbrev pub Annotates : Annotated → AnnotateFiles → Disk → Option Disk → Type 0
-Annotates (Written k) n before after = IsWhole k n before after
-Annotates (Unverified o) n before after =
-    IsUnverified o × NotAnnotated o n before × (after ≡ Some before)
-Annotates WriteFault n before after = IsPart n before after
-Annotates NoMemory n before after = (after ≡ Some before) ⊎ IsPart n before after
+Annotates o n before after =
+    AnnotatesBy (IsAnnotation (bytes_at before n.log)) (λ x F G. LogRefuses x F G (bytes_at before n.log)) o n before after
 
 abbrev pub IsUntouched : Status → Type 0
 IsUntouched s = (s ≡ status.LogRefused) ⊎ (s ≡ status.InputRefused) ⊎ (s ≡ status.ReadFault)
 
--- when each status of `annotate` comes, and what the files hold then
-pub record AnnotatesExactly (given : Status) (n : AnnotateFiles) (before : Disk) (after : Option Disk) : Type 0 where
-  pub done : Exactly given status.Done (IsPlainVerified (bytes_at before n.input) (bytes_at before n.output) (bytes_at before n.log))
-  pub written : given ≡ status.Done → (k : ℕ) × IsWhole k n before after
-  pub log_refused : Exactly given status.LogRefused (IsNoPlainRun (bytes_at before n.input) (bytes_at before n.output) (bytes_at before n.log))
+-- when each status comes, where L says that the log leads from one formula to another, and what the files hold then
+pub record AnswersBy (L : PrenexFormula → PrenexFormula → Type 0) (A : Annotation) (given : Status) (n : AnnotateFiles) (before : Disk) (after : Option Disk) : Type 0 where
+  pub done : Exactly given status.Done (OfFormulas (bytes_at before n.input) (bytes_at before n.output) L)
+  pub written : given ≡ status.Done → (k : ℕ) × IsWholeBy A k n before after
+  pub log_refused : Exactly given status.LogRefused (OfFormulas (bytes_at before n.input) (bytes_at before n.output) (λ F G. ¬ L F G))
   pub input_refused : Exactly given status.InputRefused (IsNoFormula (bytes_at before n.input) ⊎ IsNoFormula (bytes_at before n.output))
   pub untouched : IsUntouched given → after ≡ Some before
-  pub left : (given ≡ status.WriteFault) ⊎ (given ≡ status.NoMemory) → (after ≡ Some before) ⊎ IsPart n before after
+  pub left : (given ≡ status.WriteFault) ⊎ (given ≡ status.NoMemory) → (after ≡ Some before) ⊎ IsPartBy A n before after
+
+-- when each status of `annotate` comes, and what the files hold then
+abbrev pub AnnotatesExactly : Status → AnnotateFiles → Disk → Option Disk → Type 0
+AnnotatesExactly given n before after = AnswersBy (LeadsPlain (bytes_at before n.log)) (IsAnnotation (bytes_at before n.log)) given n before after
 
 -- what `check` says of the files where it verified so many steps
 abbrev pub SaysVerified : ℕ → List ℕ → List ℕ → List ℕ → Type 0

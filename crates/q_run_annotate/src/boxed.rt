@@ -3,6 +3,7 @@ ghost use Rattle.std.specs.Prelude.{◌≡◌, ◌<◌, ◌+◌, ◌^◌, IfOk, 
 ghost use Rattle.q_logic.specs.Prelude.{begun, plain, HintedValid, hinted_after, standard, SameFormula};
 ghost use Rattle.q_check.specs.Annotations.{HasForm};
 ghost use Rattle.q_check.specs.Checked.{IsRefusal};
+ghost use Rattle.q_check.specs.Replays.{IsNumberedStep, IsUnfitFor};
 ghost use Rattle.q_judge.specs.Tried.{IsEndRefusal};
 
 use q_check::{Annotator, CheckError};
@@ -60,6 +61,20 @@ impl BoxedAnnotator {
         ensures unchanged { OnErr result (self.new ≡ self.old) }
     {
         self.row[0].step(step)
+    }
+
+    /// Makes the step if it can be made, and shows nothing.
+    pub fn pass(&mut self, step: &Step) -> Result<(), CheckError>
+        requires { self.old.steps < 2 ^ 61 }
+        ensures made { OnOk result (IsNumberedStep self.old.limits self.old.formula step.now
+            self.new.formula) }
+        ensures limits { self.new.limits ≡ self.old.limits }
+        ensures steps { OnOk result (self.new.steps ≡ self.old.steps + 1) }
+        ensures refused { IfErr result
+            (IsUnfitFor self.old.limits (plain self.old.formula) step.now) }
+        ensures unchanged { OnErr result (self.new ≡ self.old) }
+    {
+        self.row[0].pass(step)
     }
 
     /// Ends the check: blocks and clauses are those of the output, in any order.

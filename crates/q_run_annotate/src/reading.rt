@@ -3,17 +3,19 @@ ghost use Rattle.std.specs.Prelude.{◌≡◌, ◌≤◌, ◌<◌, ◌+◌, List
 ghost use Rattle.q_io.specs.Files.{RoseFor, bytes_at};
 ghost use Rattle.q_command.specs.Reading.{OnlyReadsFiles};
 ghost use Rattle.q_command.specs.Checks.{IsUnverified};
-ghost use Rattle.q_run_annotate.specs.Annotates.{IsAnnotation, LogRefuses};
+ghost use Rattle.q_command.specs.Parts.{share_of};
+ghost use Rattle.q_run_annotate.specs.AnnotatedShares.{IsShareAnnotation};
+ghost use Rattle.q_run_annotate.specs.AnnotatedParts.{LogRefusesShared};
 ghost use Rattle.q_run_annotate.specs.Readings.{IsOpen, IsStarted, Advances, Refuses, HasTaken, HasEnded, Passes, Concludes};
 
 use crate::scribe::{HintedText, Scribe};
-use q_command::{Ends, Outcome, log_refusal};
+use q_command::{Ends, Outcome, Part, log_refusal};
 use q_io::{DeviceError, Files};
 use q_log::LogReader;
 use q_logic::{Formula, Limits, NoMemory};
 use std::alloc::Global;
 
-/// The reader of a plain log, and the text of the steps so far.
+/// The reader of a plain log, and the text of the part's steps so far.
 #[derive(Drop)]
 pub(crate) struct Reading {
     reader: LogReader,
@@ -21,13 +23,13 @@ pub(crate) struct Reading {
 }
 
 impl Reading {
-    fn start(alloc: Global, formula: &Formula) -> Result<Reading, NoMemory>
-        ensures { IfOk result (IsStarted formula.now) }
+    fn start(alloc: Global, formula: &Formula, part: Part) -> Result<Reading, NoMemory>
+        ensures { IfOk result (IsStarted formula.now part) }
     {
         let Ok(reader) = LogReader::new(alloc, Limits::standard().bytes) else {
             return Err(NoMemory);
         };
-        let scribe = Scribe::start(alloc, formula)?;
+        let scribe = Scribe::start(alloc, formula, part)?;
         Ok(Reading { reader, scribe })
     }
 
@@ -142,26 +144,28 @@ impl Reading {
     }
 }
 
-/// The text of the log with hints, where its steps lead from the formula of IN to that of OUT.
+/// The text of a part of the log with hints, where its steps lead from the formula of IN to that of OUT.
 pub(crate) fn read_log<F: Files>(
     alloc: Global,
     files: &mut F,
     name: &str,
     buffer: &mut [u8],
     ends: &Ends,
+    part: Part,
 ) -> Result<HintedText, Outcome>
     requires room { 0 < length buffer.old }
     ensures annotation { IfOk result (λ t. IfSome (F.held files.old)
-        (λ disk. IsAnnotation (bytes_at disk name.now) t.steps ends.now.from ends.now.to
-        t.text.items)) }
+        (λ disk. IsShareAnnotation (share_of part) (bytes_at disk name.now) t.steps ends.now.from
+        ends.now.to t.text.items)) }
     ensures refused { IfErr result (λ o. IfSome (F.held files.old)
-        (λ disk. LogRefuses o ends.now.from ends.now.to (bytes_at disk name.now))) }
+        (λ disk. LogRefusesShared (share_of part) o ends.now.from ends.now.to
+        (bytes_at disk name.now))) }
     ensures unverified { IfErr result IsUnverified }
     ensures fault { IsErrOf result Outcome.ReadFault
         → RoseFor F.read_faults name.now files.old files.new }
     ensures only_reads { OnlyReadsFiles F.Files files.old files.new }
 {
-    let Ok(mut reading) = Reading::start(alloc, &ends.from) else {
+    let Ok(mut reading) = Reading::start(alloc, &ends.from, part) else {
         return Err(Outcome::NoMemory);
     };
     let mut at = 0u64;

@@ -1,3 +1,3 @@
-pub mod RuleTargets
+pub mod GroupTargets
 pub mod ReversedLists
 pub mod TurnParts

@@ -99,7 +99,7 @@ pub record AsksOne (before after : List Meaning) (P : Meaning → Type 0) : Type
 abbrev pub Asks : Driving → Seen → Turn → Driving → Seen → Type 0
 Asks before old answer after new = AsksOne before.guides after.guides (λ then. Decides then.last then.heard before old answer after new)
 
--- a turn searches: a target of the first rule that has one is taken
+-- a turn searches: a target of the first group that has one is taken
 abbrev pub Searched : Bounds → Seen → Turn → Seen → Type 0
 Searched B old turn.Moved new = (t : Target) × IsOfFirst B old t × IsTaken B old new t
 Searched B old turn.Asked new = ⊥

@@ -17,7 +17,7 @@ mod turns;
 pub use drive::Drive;
 pub use fewest::FewestFirst;
 pub use guide::{Guide, Proposal};
-pub use moves::{Move, RULES, Rule};
+pub use moves::{GROUPS, Group, Move, RULE_NAMES, RULES};
 pub use q_kernel::Taken;
 pub use q_logic::Bounds;
 pub use searches::Searches;

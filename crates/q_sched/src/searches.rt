@@ -1,12 +1,12 @@
-//! The searches of all rules, kept from turn to turn.
+//! The searches of all groups of rules, kept from turn to turn.
 ghost use Rattle.std.specs.Prelude.{◌≡◌, ◌↔◌, IfOk, OnErr, IsTrue};
-ghost use Rattle.q_kernel.specs.Prelude.{SameView, IsReady, Applies};
+ghost use Rattle.q_kernel.specs.Prelude.{Seen, SameView, IsReady, Applies};
 ghost use Rattle.q_reduce.specs.Learned.{nothing_learned, IsFitFor};
 ghost use Rattle.q_rule.specs.Searching.{Tries};
 ghost use Rattle.q_sched.specs.Moves.{target_of};
 ghost use Rattle.q_sched.specs.Searching.{FindsOf, FindsAny};
 
-use crate::moves::{Move, RULES, Rule};
+use crate::moves::{GROUPS, Group, Move};
 use q_blocked::Step;
 use q_kernel::{Kernel, Taken};
 use q_logic::{Bounds, NoMemory};
@@ -37,7 +37,8 @@ impl Model for Searches {
 impl Searches {
     /// Nothing is learned. It takes no memory.
     pub fn new(alloc: Global) -> Searches
-        ensures { result ≡ nothing_learned }
+        ensures nothing { result ≡ nothing_learned }
+        ensures fit { (k : Seen) → IsFitFor k result }
     {
         Searches {
             plain: Rules::new(alloc),
@@ -102,7 +103,7 @@ impl Searches {
         ensures err { OnErr result (SameView kernel.old kernel.new) }
         ensures fit { IsFitFor kernel.new self.new }
     {
-        if target.rule() != Rule::Reduce {
+        if target.group() != Group::Reduce {
             self.plain.forget();
         }
         match target {
@@ -115,42 +116,42 @@ impl Searches {
         }
     }
 
-    /// A target of a rule whose place is at least a number; none exactly where none from that place on applies.
+    /// A target of a group whose place is at least a number; none exactly where none from that place on applies.
     pub fn find(
         &mut self,
         kernel: &Kernel,
-        rule: Rule,
+        group: Group,
         bounds: &Bounds,
         from: u32,
     ) -> Result<Option<Move>, NoMemory>
         requires ready { IsReady kernel.now }
         requires fit { IsFitFor kernel.now self.old }
-        ensures finds { IfOk result (FindsOf rule bounds.now kernel.now from) }
+        ensures finds { IfOk result (FindsOf group bounds.now kernel.now from) }
         ensures fit { IsFitFor kernel.now self.new }
     {
-        let found = match rule {
-            Rule::Reduce => self.plain.find(kernel, bounds, from)?.map(Move::Reduce),
-            Rule::Subsume => self.subsume.find(kernel, bounds, from)?.map(Move::Subsume),
-            Rule::Merge => self.equiv.find(kernel, bounds, from)?.map(Move::Merge),
-            Rule::Block => self.blocked.find(kernel, bounds, from)?.map(Move::Block),
-            Rule::Eliminate => self
+        let found = match group {
+            Group::Reduce => self.plain.find(kernel, bounds, from)?.map(Move::Reduce),
+            Group::Subsume => self.subsume.find(kernel, bounds, from)?.map(Move::Subsume),
+            Group::Merge => self.equiv.find(kernel, bounds, from)?.map(Move::Merge),
+            Group::Block => self.blocked.find(kernel, bounds, from)?.map(Move::Block),
+            Group::Eliminate => self
                 .eliminate
                 .find(kernel, bounds, from)?
                 .map(Move::Eliminate),
-            Rule::Expand => self.expand.find(kernel, bounds, from)?.map(Move::Expand),
+            Group::Expand => self.expand.find(kernel, bounds, from)?.map(Move::Expand),
         };
         Ok(found)
     }
 
-    /// A target of the first rule that has one; none exactly where no target applies.
+    /// A target of the first group that has one; none exactly where no target applies.
     pub fn find_any(&mut self, kernel: &Kernel, bounds: &Bounds) -> Result<Option<Move>, NoMemory>
         requires ready { IsReady kernel.now }
         requires fit { IsFitFor kernel.now self.old }
         ensures finds { IfOk result (FindsAny bounds.now kernel.now) }
         ensures fit { IsFitFor kernel.now self.new }
     {
-        for place in 0..RULES {
-            let found = self.find(kernel, Rule::at(place), bounds, 0)?;
+        for place in 0..GROUPS {
+            let found = self.find(kernel, Group::at(place), bounds, 0)?;
             if found.is_some() {
                 return Ok(found);
             }

@@ -54,12 +54,11 @@ impl Blocking {
         requires ready { IsReady kernel.now }
     {
         for _ in 0..u64::MAX {
-            watch.look(Pass::Block, kernel);
-            let found = self.next_in_list(kernel, bounds)?;
+            let found = self.next_in_list(kernel, bounds, watch)?;
             if found.is_some() {
                 return Ok(found);
             }
-            if !self.take_list(kernel, limit)? {
+            if !watch.look(Pass::Block, kernel) || !self.take_list(kernel, limit)? {
                 return Ok(None);
             }
         }
@@ -77,13 +76,21 @@ impl Blocking {
         Ok(true)
     }
 
-    fn next_in_list(&mut self, kernel: &Kernel, bounds: &Bounds) -> Result<Option<Target>, NoMemory>
+    fn next_in_list<W: Watch>(
+        &mut self,
+        kernel: &Kernel,
+        bounds: &Bounds,
+        watch: &W,
+    ) -> Result<Option<Target>, NoMemory>
         requires ready { IsReady kernel.now }
     {
         let Some(lit) = self.on else {
             return Ok(None);
         };
         for _ in 0..self.ids.len() {
+            if !watch.look(Pass::Block, kernel) {
+                return Ok(None);
+            }
             let Some(c) = self.ids.pop() else {
                 return Ok(None);
             };

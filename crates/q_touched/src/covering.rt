@@ -54,9 +54,14 @@ impl Covering {
     }
 
     /// Gathers the clauses of all literals that wait and stand in at most so many clauses.
-    pub(crate) fn collect(&mut self, kernel: &Kernel, limit: u32) -> Result<(), NoMemory> {
+    pub(crate) fn collect<W: Watch>(
+        &mut self,
+        kernel: &Kernel,
+        limit: u32,
+        watch: &W,
+    ) -> Result<(), NoMemory> {
         self.batch.clear();
-        self.gather_ids(kernel, limit)?;
+        self.gather_ids(kernel, limit, watch)?;
         for _ in 0..self.gathered.len() {
             let Some(c) = self.gathered.pop() else {
                 return Ok(());
@@ -69,8 +74,16 @@ impl Covering {
         Ok(())
     }
 
-    fn gather_ids(&mut self, kernel: &Kernel, limit: u32) -> Result<(), NoMemory> {
+    fn gather_ids<W: Watch>(
+        &mut self,
+        kernel: &Kernel,
+        limit: u32,
+        watch: &W,
+    ) -> Result<(), NoMemory> {
         for _ in 0..u64::MAX {
+            if !watch.look(Pass::Cover, kernel) {
+                return Ok(());
+            }
             let Some(lit) = self.waiting.next(kernel, limit)? else {
                 return Ok(());
             };
@@ -97,13 +110,16 @@ impl Covering {
         kernel: &Kernel,
         watch: &W,
     ) -> Result<Option<Target>, NoMemory> {
-        let found = self.hand_out(kernel)?;
+        let found = self.hand_out(kernel, watch)?;
         if found.is_some() {
             return Ok(found);
         }
         for _ in 0..self.batch.len() {
+            if !watch.look(Pass::Cover, kernel) {
+                return Ok(None);
+            }
             self.fill(kernel, watch)?;
-            let found = self.hand_out(kernel)?;
+            let found = self.hand_out(kernel, watch)?;
             if found.is_some() {
                 return Ok(found);
             }
@@ -112,8 +128,15 @@ impl Covering {
     }
 
     // The next clause of the span that is covered still, by its steps or by others.
-    fn hand_out(&mut self, kernel: &Kernel) -> Result<Option<Target>, NoMemory> {
+    fn hand_out<W: Watch>(
+        &mut self,
+        kernel: &Kernel,
+        watch: &W,
+    ) -> Result<Option<Target>, NoMemory> {
         for _ in 0..self.span.left() {
+            if !watch.look(Pass::Cover, kernel) {
+                return Ok(None);
+            }
             let Some(c) = self.span.hand_out() else {
                 return Ok(None);
             };
@@ -142,7 +165,9 @@ impl Covering {
             if self.looks.is_done_with(kernel, c) {
                 continue;
             }
-            watch.look(Pass::Cover, kernel);
+            if !watch.look(Pass::Cover, kernel) {
+                return Ok(());
+            }
             self.looks.look(c)?;
             if self.search.covers(kernel, c)? {
                 self.span.put(c, self.search.steps())?;

@@ -79,7 +79,9 @@ fn collect_all<W: Watch>(
 {
     let mut stay = 0usize;
     for c in kernel.ids() {
-        watch.look(Pass::Cut, kernel);
+        if !watch.look(Pass::Cut, kernel) {
+            return Ok(());
+        }
         stay = stay.saturating_add(collect_from(kernel, bounds, search, batch, c)?);
         if stay > patience.saturating_add(batch.len()) {
             return Ok(());

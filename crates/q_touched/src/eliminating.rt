@@ -51,10 +51,12 @@ impl Eliminating {
         requires ready { IsReady kernel.now }
     {
         for _ in 0..u64::MAX {
+            if !watch.look(Pass::Eliminate, kernel) {
+                return Ok(None);
+            }
             let Some(Reverse((places, x))) = self.heap.pop() else {
                 return Ok(None);
             };
-            watch.look(Pass::Eliminate, kernel);
             let now = weight(kernel, x);
             if now != 0 && now != places {
                 self.heap.push(Reverse((now, x)))?;

@@ -39,10 +39,12 @@ impl Expanding {
         requires ready { IsReady kernel.now }
     {
         for _ in 0..self.waiting.len() {
+            if !watch.look(Pass::Expand, kernel) {
+                return Ok(None);
+            }
             let Some(u) = self.waiting.pop() else {
                 return Ok(None);
             };
-            watch.look(Pass::Expand, kernel);
             let target = Target::Expand { u };
             if self.search.applies(kernel, &target, bounds)? {
                 return Ok(Some(target));

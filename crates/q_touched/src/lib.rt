@@ -21,8 +21,10 @@ mod span;
 mod strategy;
 mod subsuming;
 mod touched;
+mod unextended;
 mod watch;
 
 pub use impatient::Impatient;
 pub use touched::Touched;
+pub use unextended::Unextended;
 pub use watch::{Pass, Quiet, Watch};

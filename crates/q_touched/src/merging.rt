@@ -32,9 +32,8 @@ impl Merging {
 
     /// Gathers all merges, where there may be new ones.
     pub(crate) fn collect<W: Watch>(&mut self, kernel: &Kernel, watch: &W) -> Result<(), NoMemory> {
-        if self.is_due {
+        if self.is_due && watch.look(Pass::Merge, kernel) {
             self.is_due = false;
-            watch.look(Pass::Merge, kernel);
             candidates(kernel, &mut self.search, &mut self.batch)?;
             self.batch.reverse();
         }

@@ -64,6 +64,9 @@ impl Parts {
     ) -> Result<(), NoMemory> {
         self.note_clauses(kernel, watch)?;
         for var in 1..=kernel.greatest_var() {
+            if !watch.look(Pass::Note, kernel) {
+                return Ok(());
+            }
             self.note_variable(kernel, var)?;
         }
         Ok(())
@@ -72,7 +75,9 @@ impl Parts {
     fn note_clauses<W: Watch>(&mut self, kernel: &Kernel, watch: &W) -> Result<(), NoMemory> {
         self.subsuming.restart();
         for c in kernel.ids() {
-            watch.look(Pass::Note, kernel);
+            if !watch.look(Pass::Note, kernel) {
+                return Ok(());
+            }
             self.plain.touch(kernel, c)?;
             self.subsuming.hang(kernel, c)?;
         }

@@ -118,14 +118,22 @@ fn innermost_cut(kernel: &Kernel, c: ClauseId) -> Option<Target> {
     None
 }
 
+// Whether a literal can leave a clause by plain universal reduction.
 fn is_innermost(kernel: &Kernel, clause: &[Lit], l: Lit) -> bool {
-    if !kernel.prefix().contains(l.var()) || holds(clause, l.negated()) {
+    kernel.prefix().contains(l.var())
+        && !holds(clause, l.negated())
+        && !has_inner(kernel, clause, l)
+}
+
+/// Whether an existential literal of a clause is inner to a literal of the prefix.
+pub(crate) fn has_inner(kernel: &Kernel, clause: &[Lit], l: Lit) -> bool {
+    if !kernel.prefix().contains(l.var()) {
         return false;
     }
     for k in clause {
         if is_inner(kernel, k.var(), l.var()) {
-            return false;
+            return true;
         }
     }
-    true
+    false
 }

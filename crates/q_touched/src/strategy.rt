@@ -264,7 +264,7 @@ impl<W: Watch> Strategy<W> {
             if limit == u32::MAX {
                 self.parts.covering.release()?;
             }
-            self.parts.covering.collect(kernel, limit)?;
+            self.parts.covering.collect(kernel, limit, &self.watch)?;
         }
         match self.parts.covering.next(kernel, &self.watch)? {
             Some(target) => Ok(Some(Move::Block(target))),

@@ -100,10 +100,12 @@ impl Subsuming {
             return Ok(first);
         }
         for _ in 0..self.waiting.len() {
+            if !watch.look(Pass::Subsume, kernel) {
+                return Ok(None);
+            }
             let Some(c) = self.waiting.pop() else {
                 return Ok(None);
             };
-            watch.look(Pass::Subsume, kernel);
             let found = self.look(kernel, bounds, c)?;
             if found.is_some() {
                 return Ok(found);
@@ -126,7 +128,9 @@ impl Subsuming {
                 self.start = u32::MAX;
                 return Ok(None);
             };
-            watch.look(Pass::Subsume, kernel);
+            if !watch.look(Pass::Subsume, kernel) {
+                return Ok(None);
+            }
             self.start = d.saturating_add(1);
             let found = self.ask(kernel, bounds, d)?;
             if found.is_some() {

@@ -1,4 +1,5 @@
-//! Who is told what the guide looks at. Nothing rests on it: by it a program says that a long pass goes on.
+//! Who is told what the guide looks at, and says whether it goes on. By it a program says that a long pass goes on, and ends one
+//! that takes too long. Nothing rests on it but how much is proposed.
 
 use q_kernel::Kernel;
 
@@ -18,13 +19,17 @@ pub enum Pass {
 
 /// Is told of each clause, literal or variable before it is looked at, so it should answer soon.
 pub trait Watch: Drop {
-    fn look(&self, pass: Pass, kernel: &Kernel);
+    /// Whether to go on. Where it says no, the pass ends there and proposes nothing more, as each pass behind it does that asks; so
+    /// once it has said no, it should say nothing else.
+    fn look(&self, pass: Pass, kernel: &Kernel) -> bool;
 }
 
-/// Says nothing.
+/// Says nothing, and goes on.
 #[derive(Clone, Copy, Debug, Drop)]
 pub struct Quiet;
 
 impl Watch for Quiet {
-    fn look(&self, _pass: Pass, _kernel: &Kernel) {}
+    fn look(&self, _pass: Pass, _kernel: &Kernel) -> bool {
+        true
+    }
 }

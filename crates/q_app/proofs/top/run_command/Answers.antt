@@ -37,6 +37,10 @@ pub returns-in-Annotate : goal.returns-in-Annotate
 returns-in-Annotate g c =
     subst (λ (k : Parsed). InTurn (commands_of k) (devices g.F.Files g.S.Sink c.args.files.now c.args.out.now) c.run-in-Annotate.result (devices g.F.Files g.S.Sink c.run-in-Annotate.new.files c.run-in-Annotate.new.out)) (sym c.in-Annotate.is) c.run-in-Annotate.ensures
 
+pub returns-in-AnnotateShare : goal.returns-in-AnnotateShare
+returns-in-AnnotateShare g c =
+    subst (λ (k : Parsed). InTurn (commands_of k) (devices g.F.Files g.S.Sink c.args.files.now c.args.out.now) c.run_part.result (devices g.F.Files g.S.Sink c.run_part.new.files c.run_part.new.out)) (sym c.in-AnnotateShare.is) c.run_part.ensures
+
 pub returns-in-Solve : goal.returns-in-Solve
 returns-in-Solve g c =
     subst (λ (k : Parsed). InTurn (commands_of k) (devices g.F.Files g.S.Sink c.args.files.now c.args.out.now) c.run-in-Solve.result (devices g.F.Files g.S.Sink c.run-in-Solve.new.files c.run-in-Solve.new.out)) (sym c.in-Solve.is) c.run-in-Solve.ensures

@@ -1,13 +1,15 @@
 use Rattle.std.proofs.Common.{◌≡◌, ◌∙◌, ◌↔◌, List, Bool, true, false, Some, take, slice_get, sym, ap, subst, inl, inr}
 use Rattle.std.proofs.lemmas.Option.{same_Some}
+use Rattle.std.proofs.lemmas.Result.{IfOk-weaker}
 use Rattle.q_logic.specs.Prelude.{Literal, Clause, Matrix, Prefix, IsIn, is_existential, others}
 use Rattle.q_logic.specs.Blocking.{AllClash}
 use Rattle.q_logic.proofs.CoverRun.{in_or_not}
 use Rattle.q_kernel.specs.Prelude.{slots}
 use Rattle.q_blocked.specs.Walks.{IsLooked, CoversNothing}
-use Rattle.q_blocked.specs.Growths.{IsPassive, CoveredBy}
+use Rattle.q_blocked.specs.Growths.{IsPassive, CoveredBy, HasCovered, HasLooked}
 use Rattle.q_blocked.proofs.ClauseFronts.{place-front}
 use Rattle.q_blocked.proofs.ReachedSets.{covered-blocked}
+use Rattle.q_blocked.proofs.CoverPass.{covered-looked}
 use Rattle.q_blocked.proofs.cover.cover_at.Goals as goal
 
 pub returns-then-not-branch : goal.returns-then-not-branch
@@ -72,3 +74,12 @@ cover_by-requires-clause-found c l e =
     subst (λ (T : Clause). CoveredBy k.prefix X T new.found.items l) (sym q)
     (subst (λ (L : List Literal). CoveredBy k.prefix X S L l) (sym f)
     (subst (λ (j : Literal). CoveredBy k.prefix X S K j) i r))
+
+pub returns : goal.returns
+returns c =
+    let k = c.args.kernel.now in
+    let old = c.args.growth.now in
+    let mid = c.end_stage-2.new.growth in
+    let new = c.cover_by.new.growth in
+    let Q : Literal → Type 0 = λ l. slice_get old.set c.args.place ≡ Some l in
+    IfOk-weaker c.cover_by.result (HasCovered k c.args.c mid new) (HasLooked k c.args.c Q old new) (λ o h. covered-looked k c.args.c Q old mid new o c.end_stage-2.ensures.set c.end_stage-2.ensures.worked h) c.cover_by.ensures

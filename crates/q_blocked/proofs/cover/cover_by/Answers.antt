@@ -3,7 +3,7 @@ use Rattle.q_logic.specs.Prelude.{Literal, negation, Clause, IsIn, IsTautology, 
 use Rattle.q_logic.proofs.Common.{IsIn-append_right, test-false, IsIn-take}
 use Rattle.q_kernel.specs.Prelude.{slots}
 use Rattle.q_blocked.specs.declared.plan.Stage.{Stage}
-use Rattle.q_blocked.specs.Growths.{IsGrowing, IsAsked, HasPlaces, IsCovered}
+use Rattle.q_blocked.specs.Growths.{IsGrowing, IsAsked, IsLonger, HasPlaces, IsCovered}
 use Rattle.q_blocked.proofs.ClauseFronts.{place-front}
 use Rattle.q_blocked.proofs.CoveredLiterals.{covered-growth}
 use Rattle.q_blocked.proofs.ReachedSets.{covered-opposed}
@@ -53,14 +53,18 @@ returns c =
     (subst (λ (n : ℕ). HasPlaces g.asked.items c.len-before.result n c.add_places.new.places.items) (c.len.ensures ∙ f) c.in_ok-add_places.ensures) in
     let asked : new.asked.items ≡ c.add_places.new.places.items = ap (λ v. v.items) c.in_ok-note.ensures.asked in
     let stage : Stage = record { to = z; on = Some l } in
-    let stages : new.plan.stages.items ≡ g.plan.stages.items ++ stage ∷ [] = c.in_ok-note.ensures.stages ∙ ap (λ (n : ℕ). g.plan.stages.items ++ record { to = n; on = Some l } ∷ []) f in (
-      r.0,
-      r.1,
-      subst (λ (T : Clause). IsGrowing k.prefix X r.0 T new.plan.stages.items new.base new.worked) (sym (c.in_ok-note.ensures.set ∙ e))
-          (subst (λ (ss : List Stage). IsGrowing k.prefix X r.0 (S ++ K) ss new.base new.worked) (sym stages)
-          (subst (λ (n : ℕ). IsGrowing k.prefix X r.0 (S ++ K) (g.plan.stages.items ++ stage ∷ []) n new.worked) (sym (c.in_ok-note.ensures.base ∙ f))
-          (subst (λ (n : ℕ). IsGrowing k.prefix X r.0 (S ++ K) (g.plan.stages.items ++ stage ∷ []) z n) (sym c.in_ok-note.ensures.worked)
-          (growing-covered k.prefix X r.0 S g.plan.stages.items g.base g.worked r.2 K (covered-growth k.prefix X l S q.some.0 K q.existential (IsIn-take S g.base l m) q.some.1 q.looked) m (others-within k c.args.c c.sound.ensures) n)))),
-      subst (λ (T : Clause). IsAsked X T new.asked.items) (sym (c.in_ok-note.ensures.set ∙ e))
-          (subst (λ (xs : List ℕ). IsAsked X (S ++ K) xs) (sym asked) (asked-covered X S K g.asked.items c.add_places.new.places.items places r.3)),
+    let stages : new.plan.stages.items ≡ g.plan.stages.items ++ stage ∷ [] = c.in_ok-note.ensures.stages ∙ ap (λ (n : ℕ). g.plan.stages.items ++ record { to = n; on = Some l } ∷ []) f in
+    let longer : IsLonger g new = record { added = K; set = c.in_ok-note.ensures.set ∙ e; worked = c.in_ok-note.ensures.worked } in (
+      (
+        r.0,
+        r.1,
+        subst (λ (T : Clause). IsGrowing k.prefix X r.0 T new.plan.stages.items new.base new.worked) (sym (c.in_ok-note.ensures.set ∙ e))
+            (subst (λ (ss : List Stage). IsGrowing k.prefix X r.0 (S ++ K) ss new.base new.worked) (sym stages)
+            (subst (λ (n : ℕ). IsGrowing k.prefix X r.0 (S ++ K) (g.plan.stages.items ++ stage ∷ []) n new.worked) (sym (c.in_ok-note.ensures.base ∙ f))
+            (subst (λ (n : ℕ). IsGrowing k.prefix X r.0 (S ++ K) (g.plan.stages.items ++ stage ∷ []) z n) (sym c.in_ok-note.ensures.worked)
+            (growing-covered k.prefix X r.0 S g.plan.stages.items g.base g.worked r.2 K (covered-growth k.prefix X l S q.some.0 K q.existential (IsIn-take S g.base l m) q.some.1 q.looked) m (others-within k c.args.c c.sound.ensures) n)))),
+        subst (λ (T : Clause). IsAsked X T new.asked.items) (sym (c.in_ok-note.ensures.set ∙ e))
+            (subst (λ (xs : List ℕ). IsAsked X (S ++ K) xs) (sym asked) (asked-covered X S K g.asked.items c.add_places.new.places.items places r.3)),
+      ),
+      longer,
     )

@@ -1,12 +1,14 @@
 use Rattle.q_kernel.specs.Prelude.{slots}
-use Rattle.q_snapshot.specs.Rows.{AreRowsOf}
+use Rattle.q_watch.specs.Watches.{AreRightFor}
 use Rattle.q_blocked.specs.Units.{AreRight}
 use Rattle.q_blocked.specs.Growths.{Growing}
+use Rattle.q_blocked.specs.Following.{IsFollowed}
 use Rattle.q_blocked.proofs.cover.covers.Given as goal
 
 abbrev pub invariant-loop-round : goal.invariant-loop-round
 invariant-loop-round l = record {
   growing : Growing l.kernel l.c l.search.growth;
   units : AreRight (slots l.kernel) l.search.units;
-  rows : AreRowsOf l.kernel l.search.rows;
+  watches : AreRightFor l.kernel l.search.watches;
+  followed : IsFollowed l.kernel l.search.watches l.c l.search.growth;
 }

@@ -1,4 +1,4 @@
-use Rattle.std.proofs.Common.{ℕ, Bool, List, [], None, length, sym, subst}
+use Rattle.std.proofs.Common.{◌∙◌, ℕ, Bool, true, false, List, [], None, length, sym, subst}
 use Rattle.q_logic.specs.Prelude.{Clause, others}
 use Rattle.q_kernel.specs.Prelude.{slots}
 use Rattle.q_logic.proofs.Common.{test-false}
@@ -7,6 +7,7 @@ use Rattle.q_blocked.specs.Growths.{IsGrowing, IsAsked, IsCovered, HasReplayed}
 use Rattle.q_blocked.proofs.ReachedSets.{reached-begun, covered-tautology}
 use Rattle.q_blocked.proofs.SetGrowth.{growing-begun}
 use Rattle.q_blocked.proofs.AskedPlaces.{asked-begun}
+use Rattle.q_blocked.proofs.WatchedSets.{followed-begun}
 use Rattle.q_blocked.proofs.cover.decide.Goals as goal
 
 pub returns-then-is_tautology-clause-decided : goal.returns-then-is_tautology-clause-decided
@@ -42,7 +43,16 @@ use_hint-requires c =
     )
 
 pub returns-then-branch-clause-decided : goal.returns-then-branch-clause-decided
-returns-then-branch-clause-decided c = subst (λ (b : Bool). HasReplayed c.args.kernel.now c.args.c c.use_hint.new.search.growth b) c.if-branch.true c.in_ok-use_hint.ensures.replayed
+returns-then-branch-clause-decided c =
+    let h : HasReplayed c.args.kernel.now c.args.c c.begin.new.self c.use_hint.new.search.growth true = subst (λ (b : Bool). HasReplayed c.args.kernel.now c.args.c c.begin.new.self c.use_hint.new.search.growth b) c.if-branch.true c.in_ok-use_hint.ensures.replayed in
+    h
 
 pub covers-requires-clause-growing : goal.covers-requires-clause-growing
-covers-requires-clause-growing c = subst (λ (b : Bool). HasReplayed c.args.kernel.now c.args.c c.use_hint.new.search.growth b) c.if-branch.false c.in_ok-use_hint.ensures.replayed
+covers-requires-clause-growing c =
+    let h : HasReplayed c.args.kernel.now c.args.c c.begin.new.self c.use_hint.new.search.growth false = subst (λ (b : Bool). HasReplayed c.args.kernel.now c.args.c c.begin.new.self c.use_hint.new.search.growth b) c.if-branch.false c.in_ok-use_hint.ensures.replayed in
+    h.0
+
+pub covers-requires-clause-followed : goal.covers-requires-clause-followed
+covers-requires-clause-followed c =
+    let h : HasReplayed c.args.kernel.now c.args.c c.begin.new.self c.use_hint.new.search.growth false = subst (λ (b : Bool). HasReplayed c.args.kernel.now c.args.c c.begin.new.self c.use_hint.new.search.growth b) c.if-branch.false c.in_ok-use_hint.ensures.replayed in
+    followed-begun c.args.kernel.now c.use_hint.new.search.watches c.args.c c.use_hint.new.search.growth (h.1 ∙ c.in_ok-begin.ensures.worked)

@@ -28,3 +28,6 @@ returns-then-at-len c =
     let past : length c.loop-at.growth.asked.items ≤ c.loop-at.at = omega (arith, c.len.ensures, c.if-at-len.true) in
     passing-all c.args.kernel.now c.args.c c.args.growth.now c.loop-at.growth c.loop-at.at c.requires.growing past
     (subst (λ (b : Bool). IsPassing c.args.kernel.now c.args.c c.args.growth.now c.loop-at.growth c.loop-at.at b) c.if-grew.false c.loop-at.invariant)
+
+pub returns-then-grew : goal.returns-then-grew
+returns-then-grew c = (c.loop-at.invariant.growing, c.loop-at.invariant.longer)

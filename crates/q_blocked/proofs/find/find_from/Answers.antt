@@ -13,7 +13,7 @@ pub find_at-requires-clause-live : goal.find_at-requires-clause-live
 find_at-requires-clause-live c = live-turn _ _ c.ids_from-c-items.ensures.live c.into_iter-c-iterator.ensures.into_iter_gives c.loop-c.yielded_by c.in-Some.ensures.steps
 
 pub loop-c-init : goal.loop-c-init
-loop-c-init c = record { tried = λ i e b. absurd (omega arith); units = λ e. absurd (true≢false (sym e ∙ c.forget.ensures)); rows = c.forget-2.ensures c.args.kernel.now }
+loop-c-init c = record { tried = λ i e b. absurd (omega arith); units = λ e. absurd (true≢false (sym e ∙ c.forget.ensures)); watches = c.forget-2.ensures c.args.kernel.now }
 
 pub returns-then-is_some : goal.returns-then-is_some
 returns-then-is_some c =
@@ -27,7 +27,7 @@ loop-c-preserved c =
     record {
       tried = All-more (IsTried k) c.loop-c.yielded c.in-Some.c c.loop-c.invariant.tried (record { none = none });
       units = c.in_ok-found.ensures.units;
-      rows = c.in_ok-found.ensures.rows;
+      watches = c.in_ok-found.ensures.watches;
     }
 
 pub returns : goal.returns

@@ -4,7 +4,7 @@ use Rattle.q_kernel.specs.Prelude.{slots}
 use Rattle.q_logic.proofs.Common.{taken-cases, taken-all}
 use Rattle.q_blocked.specs.Walks.{IsBeside, GivesNoneAt}
 use Rattle.q_blocked.specs.Growths.{HasSpread}
-use Rattle.q_blocked.proofs.SetGrowth.{pushed-none, pushed-on, pushed-gives_none, pushed-less, pushed-same, units-gives_none}
+use Rattle.q_blocked.proofs.SetGrowth.{pushed-none, pushed-on, pushed-gives_none, pushed-less, pushed-same, longer-pushed, units-gives_none}
 use Rattle.q_blocked.proofs.hidden.use_units.Goals as goal
 
 pub loop-d-init : goal.loop-d-init
@@ -44,3 +44,6 @@ returns c =
       units-gives_none (slots k) c.args.c units first.set c.requires.units (λ d m D b. subst (λ (S : Clause). GivesNoneAt first.set S D) e
           (c.loop-d.invariant.gives_none d (subst (λ (xs : List ℕ). IsIn d xs) (sym (taken-all units c.loop-d.d-index c.loop-d-test.false)) m) D b)),
     )
+
+pub returns-then-len-before : goal.returns-then-len-before
+returns-then-len-before c = (c.loop-d.invariant.growing, longer-pushed c.args.growth.now c.loop-d.growth c.loop-d.invariant.pushed)

@@ -12,9 +12,9 @@ hidden_by-requires c = c.requires.2.consistent
 pub give-requires-clause-gives : goal.give-requires-clause-gives
 give-requires-clause-gives c = c.in-Some.ensures.some c.in-Some.new refl
 
-replayed : (k : Seen) (c : ℕ) (Q : Clause → Type 0) (old new : Growth) (ended : Bool) → HasSpread k c Q old new ended → HasReplayed k c new ended
+replayed : (k : Seen) (c : ℕ) (Q : Clause → Type 0) (old new : Growth) (ended : Bool) → HasSpread k c Q old new ended → HasReplayed k c old new ended
 replayed k c Q old new true h = h
-replayed k c Q old new false h = h.0
+replayed k c Q old new false h = (h.0, h.1.worked)
 
 pub returns : goal.returns
 returns c =

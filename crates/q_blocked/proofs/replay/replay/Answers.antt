@@ -1,9 +1,16 @@
-use Rattle.std.proofs.Common.{Bool, subst}
+use Rattle.std.proofs.Common.{◌∙◌, Bool, true, false, refl, subst}
 use Rattle.q_blocked.specs.Growths.{HasReplayed}
 use Rattle.q_blocked.proofs.replay.replay.Goals as goal
 
+pub loop-step-init : goal.loop-step-init
+loop-step-init c = (c.requires, refl)
+
 pub loop-step-preserved : goal.loop-step-preserved
-loop-step-preserved c = subst (λ (b : Bool). HasReplayed c.args.kernel.now c.args.c c.redo.new.growth b) c.if-branch.false c.in_ok-redo.ensures
+loop-step-preserved c =
+    let h : HasReplayed c.args.kernel.now c.args.c c.loop-step.growth c.redo.new.growth false = subst (λ (b : Bool). HasReplayed c.args.kernel.now c.args.c c.loop-step.growth c.redo.new.growth b) c.if-branch.false c.in_ok-redo.ensures in
+    (h.0, h.1 ∙ c.loop-step.invariant.1)
 
 pub returns-then-branch : goal.returns-then-branch
-returns-then-branch c = subst (λ (b : Bool). HasReplayed c.args.kernel.now c.args.c c.redo.new.growth b) c.if-branch.true c.in_ok-redo.ensures
+returns-then-branch c =
+    let h : HasReplayed c.args.kernel.now c.args.c c.loop-step.growth c.redo.new.growth true = subst (λ (b : Bool). HasReplayed c.args.kernel.now c.args.c c.loop-step.growth c.redo.new.growth b) c.if-branch.true c.in_ok-redo.ensures in
+    h

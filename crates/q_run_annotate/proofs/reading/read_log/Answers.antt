@@ -19,14 +19,14 @@ returns-in-Ok-eq0-clause-annotation g c =
     let taken = at_same _ _ _ c.loop-reading.invariant.only_reads.same c.in-Ok-eq0.ensures.taken in
     ok_goes _ c.finish.result (g.F.Files.held c.args.files.now) c.finish.ensures.passed
     (λ t h. if_some_2 (g.F.Files.held c.args.files.now) c.loop-reading.invariant.front taken
-    (λ disk f p. passes_file (bytes_at disk c.args.name.now) c.args.ends.now.from c.args.ends.now.to c.in-Ok.reading c.read_piece.new.self t c.in-Ok.ensures (tries_end _ _ _ _ _ _ c.in-Ok-eq0.field-0-test f p) h))
+    (λ disk f p. passes_file (bytes_at disk c.args.name.now) c.args.ends.now.from c.args.ends.now.to c.args.part c.in-Ok.reading c.read_piece.new.self t c.in-Ok.ensures (tries_end _ _ _ _ _ _ c.in-Ok-eq0.field-0-test f p) h))
 
 pub returns-in-Ok-eq0-clause-refused : goal.returns-in-Ok-eq0-clause-refused
 returns-in-Ok-eq0-clause-refused g c =
     let taken = at_same _ _ _ c.loop-reading.invariant.only_reads.same c.in-Ok-eq0.ensures.taken in
     err_goes _ c.finish.result (g.F.Files.held c.args.files.now) c.finish.ensures.refused
     (λ w h. if_some_2 (g.F.Files.held c.args.files.now) c.loop-reading.invariant.front taken
-    (λ disk f p. concludes_file (bytes_at disk c.args.name.now) c.args.ends.now.from c.args.ends.now.to c.in-Ok.reading c.read_piece.new.self w c.in-Ok.ensures (tries_end _ _ _ _ _ _ c.in-Ok-eq0.field-0-test f p) h))
+    (λ disk f p. concludes_file (bytes_at disk c.args.name.now) c.args.ends.now.from c.args.ends.now.to c.args.part c.in-Ok.reading c.read_piece.new.self w c.in-Ok.ensures (tries_end _ _ _ _ _ _ c.in-Ok-eq0.field-0-test f p) h))
 
 pub loop-reading-preserved : goal.loop-reading-preserved
 loop-reading-preserved g c =
@@ -42,7 +42,7 @@ pub returns-in-Err-clause-refused : goal.returns-in-Err-clause-refused
 returns-in-Err-clause-refused g c =
     let refused = at_same _ _ _ c.loop-reading.invariant.only_reads.same c.in-Err.ensures.refused in
     if_some_2 (g.F.Files.held c.args.files.now) c.loop-reading.invariant.front refused
-    (λ disk f r. refuses_log (bytes_at disk c.args.name.now) c.loop-reading.at c.args.ends.now.from c.args.ends.now.to c.in-Ok.reading c.loop-reading.reading c.in-Err.outcome c.in-Ok.ensures f r)
+    (λ disk f r. refuses_log (bytes_at disk c.args.name.now) c.loop-reading.at c.args.ends.now.from c.args.ends.now.to c.args.part c.in-Ok.reading c.loop-reading.reading c.in-Err.outcome c.in-Ok.ensures f r)
 
 pub returns-in-Ok-eq0-clause-only_reads : goal.returns-in-Ok-eq0-clause-only_reads
 returns-in-Ok-eq0-clause-only_reads g c = reads_still _ _ _ _ _ _ c.loop-reading.invariant.only_reads c.read_piece.ensures.only_reads

@@ -2,4 +2,4 @@ use Rattle.std.proofs.Common.{◌∙◌, sym, true≢false}
 use Rattle.q_blocked.proofs.search.Search.forget.Goals as goal
 
 pub returns : goal.returns
-returns c k = record { units = λ e. absurd (true≢false (sym e ∙ c.forget.ensures)); rows = c.forget-2.ensures k }
+returns c k = record { units = λ e. absurd (true≢false (sym e ∙ c.forget.ensures)); watches = c.forget-2.ensures k }

@@ -16,8 +16,9 @@ returns c =
       stands = record {
         entries = [];
         log = λ rest. sym (c.in-Ok.ensures.log rest ∙ ap (λ (k : ℕ). read k rest) bytes);
-        so_far = begins c.args.formula.now c.in_ok-scribe.scribe begun;
+        so_far = begins c.args.formula.now c.args.part c.in_ok-scribe.scribe begun;
       };
+      part = begun.part;
       left = left;
-      goes_on = record { under_way = sets-out c.args.formula.now c.in_ok-scribe.scribe begun; room = omega (arith, left, none) };
+      goes_on = record { under_way = sets-out c.args.formula.now c.args.part c.in_ok-scribe.scribe begun; room = omega (arith, left, none); fewer = omega (arith, begun.written, none) };
     }

@@ -1,4 +1,4 @@
-use Rattle.std.proofs.Common.{arith}
+use Rattle.std.proofs.Common.{arith, refl}
 use Rattle.q_run_annotate.proofs.scribe.Scribe.start.Goals as goal
 
 pub returns-in-Ok : goal.returns-in-Ok
@@ -6,5 +6,7 @@ returns-in-Ok c =
     record {
       annotator = c.in-Ok.ensures.started;
       few = omega (arith, c.if-clauses-ge-MOST.false, c.clauses.ensures.value);
-      text = rw c.new-text.ensures.items at c.in_ok-push_header.ensures.ok;
+      part = refl;
+      text = c.in_ok-text.ensures;
+      written = refl;
     }

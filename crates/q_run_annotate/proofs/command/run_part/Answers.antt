@@ -1,0 +1,13 @@
+use Rattle.q_command.specs.Devices.{devices}
+use Rattle.q_command.proofs.ToldLaws.{runs}
+use Rattle.q_run_annotate.specs.Annotates.{files_of}
+use Rattle.q_run_annotate.specs.AnnotatedParts.{told}
+use Rattle.q_run_annotate.proofs.PartStatus.{laws}
+use Rattle.q_run_annotate.proofs.command.run_part.Goals as goal
+
+pub returns : goal.returns
+returns g c =
+    runs (told (files_of c.args.names) c.args.part) (laws (files_of c.args.names) c.args.part) c.annotate_part.result
+    (devices g.F.Files g.S.Sink c.args.files.now c.args.out.now) (devices g.F.Files g.S.Sink c.annotate_part.new.files c.say.new.out)
+    c.say.result c.annotate_part.ensures.annotates c.say.ensures
+    c.annotate_part.ensures.read_fault c.annotate_part.ensures.write_fault tt

@@ -1,3 +1,0 @@
-pub mod PassedEntries
-pub mod Others
-pub mod PairEntries

@@ -1,0 +1,3 @@
+pub mod RowLemmas
+pub mod QuietClauses
+pub mod MovedWatches
