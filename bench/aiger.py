@@ -1,7 +1,7 @@
 #!/usr/bin/env python3
 """Tries the launcher's text of binary AIGER (launcher/aiger.awk) beside a reader of its own, on random circuits of which half have changed bytes.
 
-    bench/aiger.py [SEED [COUNT]]
+Usage: bench/aiger.py [SEED [COUNT]]
 
 Both have to write the same text, or to refuse the same byte; in both ways in which awk gets the bytes, where it takes a byte 0. Ends with 1 at the first
 difference.
@@ -12,7 +12,9 @@ import re
 import subprocess
 import sys
 
-AWK = os.path.join(os.path.dirname(os.path.realpath(__file__)), "..", "launcher", "aiger.awk")
+from words import HOME, split
+
+AWK = f"{HOME}/launcher/aiger.awk"
 MOST = 268435456
 
 
@@ -125,8 +127,9 @@ def by_awk(text, ways):
     return int(re.match(rb"byte (\d+): ", run.stderr).group(1))
 
 
-def main(words):
-    seed, count = (int(w) for w in (words + ["1", "1000"][len(words) :])[:2])
+def main():
+    words, _ = split(__doc__, 0, 2)
+    seed, count = (int(w) for w in words + ["1", "1000"][len(words) :])
     accepted = refused = 0
     length = subprocess.run(["awk", "{ print length($0) }"], input=b"a\0b\n", stdout=subprocess.PIPE, check=True).stdout
     all_ways = [["-v", "numbers=1"]] + ([[]] if length == b"3\n" else [])
@@ -151,4 +154,4 @@ def main(words):
 
 
 if __name__ == "__main__":
-    sys.exit(main(sys.argv[1:]))
+    sys.exit(main())

@@ -1,8 +1,8 @@
 #!/usr/bin/env python3
 """Runs `simplify` and another program with its words in turn over many instances, and writes a table beside each other.
 
-    bench/beside.py OTHER GENERATORS [--class=medium,large] [--families=a,b] [--rungs=N] [--seconds=N] [--times=N]
-                    [--clauses=N] [--check] [--out=TABLE.md] [--program=CELDRINN]
+Usage: bench/beside.py OTHER GENERATORS [--class=medium,large] [--families=a,b] [--rungs=N] [--seconds=N] [--times=N]
+                       [--clauses=N] [--check] [--out=TABLE.md]
 
 OTHER takes the words `simplify IN OUT LOG`. GENERATORS is a Python program with the words `list` and `gen FAMILY SIZE FILE`; its list has a line
 for each family, and under it the sizes of each class. Both programs run in turn, each so often as --times says (3), and the least processor time counts.
@@ -22,7 +22,7 @@ import sys
 import tempfile
 import time
 
-HOME = os.path.dirname(os.path.dirname(os.path.realpath(__file__)))
+from words import CELDRINN, split
 
 
 def families(generators):
@@ -81,16 +81,9 @@ def measure(folder, path, ours, other, options):
     return row
 
 
-def main(words):
-    options = {"class": "medium,large", "families": "", "rungs": 2, "seconds": 20, "times": 3, "clauses": 1000000,
-               "check": False, "out": "", "program": f"{HOME}/dist/celdrinn-x86_64-linux"}
-    names = [word for word in words if not word.startswith("--")]
-    for word in words:
-        if word.startswith("--"):
-            name, _, value = word[2:].partition("=")
-            options[name] = True if name == "check" else type(options[name])(value)
-    if len(names) != 2:
-        sys.exit(__doc__)
+def main():
+    names, options = split(__doc__, 2, 2, **{"class": "medium,large", "families": "", "rungs": 2, "seconds": 20, "times": 3, "clauses": 1000000,
+                                             "check": False, "out": ""})
     other, generators = names
     lines, rows = [], []
 
@@ -112,7 +105,7 @@ def main(words):
                 count = clauses_of(path)
                 if count > options["clauses"]:
                     break
-                row = measure(folder, path, options["program"], other, options)
+                row = measure(folder, path, CELDRINN, other, options)
                 a, b = row["ours"], row["other"]
                 ratio = a[0] / b[0] if a[0] and b[0] else None
                 rows.append((family, size, count, a[0], b[0], ratio))
@@ -143,4 +136,4 @@ def main(words):
 
 
 if __name__ == "__main__":
-    main(sys.argv[1:])
+    main()

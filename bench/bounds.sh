@@ -1,25 +1,27 @@
 #!/usr/bin/env bash
 # Measures which bounds of `simplify` help a solver: for each formula DepQBF alone, and after `simplify` with three pairs of bounds, each call
 # with so many processor seconds. One line a formula goes to bench/out/bounds.tsv; what is printed is a table of the sums.
-# Usage: bench/bounds.sh [SECONDS [FAMILY=SIZE,SIZE,.. ..]]
+#
+# Usage: bench/bounds.sh [--seconds=N] [FAMILY=SIZE,SIZE,.. ..]; wants depqbf. N is 3 if not said; FAMILY is one of bench/families.py.
 set -u
-cd "$(dirname "$0")/.." || exit 1
-celdrinn=${CELDRINN:-dist/celdrinn-x86_64-linux}
-seconds=${1:-3}
-[ $# -eq 0 ] || shift
+# shellcheck source=common.sh
+. "$(dirname "$0")/common.sh"
+option_seconds=3
+take_words seconds "$@"
+want depqbf
+set -- "${names[@]}"
+cd "$top" || exit 1
 [ $# -gt 0 ] || set -- qbf=100,150,200,250,300,400 random=100,200,300,400,500,600 gates=10,20,40,80,160,333 tower=10,40,100,308 parity=5,10,15,20,50,250 \
     adder=2,3,4,5,6,8,10,13,20,30,51 boxes=2,3,4,5,6,8,10,14,20,26 register=10,15,20,25,29,40 game=3,4,5,6,7,8,9 gripper=1,2,3,4 equal=50,476 cover=20,308
 mkdir -p bench/out
 table=bench/out/bounds.tsv
-work=$(mktemp -d) || exit 1
-trap 'rm -rf "$work"' EXIT
 
 # Runs a command with so many processor seconds and tells its status.
-limited() { (ulimit -t "$seconds" && exec "$@") >/dev/null 2>&1; }
+limited() { (ulimit -t "$option_seconds" && exec "$@") >/dev/null 2>&1; }
 
 # What becomes of a formula under bounds: `decided` by simplify, `solved` by the solver, or `open`.
 play() {
-    limited "$celdrinn" simplify "$work/f" "$work/g" /dev/null "$@"
+    limited "$program" simplify "$work/f" "$work/g" /dev/null "$@"
     case $? in
         10 | 20) echo decided ;;
         0) solve "$work/g" ;;

@@ -1,8 +1,8 @@
 #!/usr/bin/env python3
 """A formula and circuits for `validate` that need a search over so many inputs.
 
-  certificates.py USED ALL GATES IN CERT [SEED]
-  certificates.py copies N IN CERT
+Usage: bench/certificates.py USED ALL GATES IN CERT [SEED]
+       bench/certificates.py copies N IN CERT
 
 ALL universals, of which the first USED decide: one existential is their parity, another its negation, and a clause asks that one
 of them holds, so that it stays open until all of these have values. The other gates are random ands of earlier literals and of the
@@ -13,7 +13,8 @@ The circuits are Skolem functions: `validate` answers `valid` after 2 to the USE
 universal has a value, so all inputs get one before anything is said.
 """
 import random
-import sys
+
+from words import split
 
 
 def write_copies(count, formula, cert):
@@ -32,11 +33,12 @@ def write_copies(count, formula, cert):
 
 
 def main():
-    if sys.argv[1] == "copies":
-        write_copies(int(sys.argv[2]), sys.argv[3], sys.argv[4])
+    words, _ = split(__doc__, 4, 6)
+    if words[0] == "copies":
+        write_copies(int(words[1]), words[2], words[3])
         return
-    used, all_, gates = (int(x) for x in sys.argv[1:4])
-    rng = random.Random(sys.argv[6] if len(sys.argv) > 6 else "1")
+    used, all_, gates = (int(x) for x in words[:3])
+    rng = random.Random(words[5] if len(words) > 5 else "1")
     lines, top = [], all_
 
     def gate(a, b):
@@ -59,7 +61,7 @@ def main():
         pool.append(gate(pool[-1], pool[-2]))
     outs = [parity, parity ^ 1] + pool[-10:]
     first = all_ + 1
-    with open(sys.argv[4], "w") as f:
+    with open(words[3], "w") as f:
         names = range(first, first + len(outs))
         f.write(f"p cnf {all_ + len(outs)} {1 + len(outs) - 2}\n")
         f.write("a " + " ".join(str(k) for k in range(1, all_ + 1)) + " 0\n")
@@ -67,7 +69,7 @@ def main():
         f.write(f"{first} {first + 1} 0\n")
         for k in list(names)[2:]:
             f.write(f"{first} {first + 1} {k} 0\n")
-    with open(sys.argv[5], "w") as f:
+    with open(words[4], "w") as f:
         f.write(f"aag {top} {all_} 0 {len(outs)} {len(lines)}\n")
         f.writelines(f"{2 * k}\n" for k in range(1, all_ + 1))
         f.writelines(f"{o}\n" for o in outs)
@@ -76,4 +78,5 @@ def main():
         f.writelines(f"o{k} {first + k}\n" for k in range(len(outs)))
 
 
-main()
+if __name__ == "__main__":
+    main()

@@ -2,13 +2,15 @@
 """Random small formulas of all shapes: what `celdrinn certify` answers is compared with DepQBF, and its circuits are tested on the formula, by
 `validate` where it is true and by CaDiCaL over the clauses of `miter` where it is false.
 
-Usage: bench/certifying.py SEED COUNT     (CELDRINN names the program; wants depqbf and cadical)
+Usage: bench/certifying.py SEED COUNT; wants depqbf and cadical. CELDRINN names the launcher, by default `celdrinn` of the PATH.
 """
 import os
 import random
 import subprocess
 import sys
 import tempfile
+
+from words import split
 
 
 def formula(rng):
@@ -41,7 +43,8 @@ def formula(rng):
 
 
 def main():
-    rng, count = random.Random(int(sys.argv[1])), int(sys.argv[2])
+    words, _ = split(__doc__, 2, 2)
+    rng, count = random.Random(int(words[0])), int(words[1])
     program = os.path.abspath(os.environ.get("CELDRINN", "celdrinn")) if "CELDRINN" in os.environ else "celdrinn"
     counts = {10: 0, 20: 0}
     wrong = 0
@@ -66,4 +69,5 @@ def main():
     return 1 if wrong else 0
 
 
-sys.exit(main())
+if __name__ == "__main__":
+    sys.exit(main())

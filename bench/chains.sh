@@ -1,12 +1,14 @@
 #!/usr/bin/env bash
 # Times `check` on logs of pivot deletions and drops over formulas of one long chain of clauses, from
 # 50,000 to 400,000 steps, two deletions for each drop. The time should grow no worse than n log n.
-# With -f STEPS FOLDER it only writes the files in, out and log.
+# With --write it only writes the files in, out and log.
+#
+# Usage: bench/chains.sh | bench/chains.sh --write STEPS FOLDER
 set -eu
-export CELDRINN_PROGRESS=0
-cd "$(dirname "$0")/.."
-work=$(mktemp -d)
-trap 'rm -rf "$work"' EXIT
+# shellcheck source=common.sh
+. "$(dirname "$0")/common.sh"
+option_write=
+take_words write "$@"
 
 files() {
     python3 - "$@" <<'PYTHON'
@@ -40,12 +42,12 @@ write("out", ends + [(i,) for i in range(1, drops + 1)])
 PYTHON
 }
 
-if [ "${1-}" = -f ]; then
-    files "$3" "$2"
+if [ -n "$option_write" ]; then
+    files "${names[1]}" "${names[0]}"
     exit
 fi
 
 for steps in 50000 100000 200000 300000 400000; do
     files "$work" "$steps"
-    /usr/bin/time -f "$steps steps: %e s, %M KiB" ./celdrinn check "$work/in" "$work/out" "$work/log"
+    /usr/bin/time -f "$steps steps: %e s, %M KiB" "$program" check "$work/in" "$work/out" "$work/log"
 done

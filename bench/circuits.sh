@@ -1,18 +1,19 @@
 #!/usr/bin/env bash
 # Makes circuit files of 1,000,000 gates in a temporary folder, lets the built program read them, and reports bytes per
-# second and peak memory. Usage: bench/circuits.sh [GATES]
+# second and peak memory.
+#
+# Usage: bench/circuits.sh [GATES]
 #
 # The files are read by `rebuild` with a formula of one existential variable and an empty log. The first three have no output,
 # so the program stops once it has read them: gates in order, gates from the last to the first, and gates of which the last
 # two depend on each other. The fourth has the last gate as its output, so all gates are copied and written again. The peak is
 # at least that of the measuring script, about 10 MiB.
 set -eu
-export CELDRINN_PROGRESS=0
-cd "$(dirname "$0")/.."
-work=$(mktemp -d)
-trap 'rm -rf "$work"' EXIT
+# shellcheck source=common.sh
+. "$(dirname "$0")/common.sh"
+take_words "" "$@"
 
-python3 - "$work" "${1:-1000000}" <<'PYTHON'
+python3 - "$work" "${names[0]:-1000000}" <<'PYTHON'
 import os, shutil, sys
 
 work, count = sys.argv[1], int(sys.argv[2])
@@ -48,14 +49,14 @@ open(os.path.join(work, "empty"), "w").close()
 PYTHON
 
 # A process of its own, since a child's peak is at least that of the process that begins it.
-python3 - "$work" <<'PYTHON'
+python3 - "$work" "$program" <<'PYTHON'
 import os, subprocess, sys, time
 
 
 def measure(name):
     paths = [os.path.join(sys.argv[1], file) for file in ("formula", "formula-again", "empty", name, "cert")]
     begun = time.monotonic()
-    process = subprocess.Popen(["./celdrinn", "rebuild", *paths], stdout=subprocess.PIPE)
+    process = subprocess.Popen([sys.argv[2], "rebuild", *paths], stdout=subprocess.PIPE)
     said = process.stdout.read().decode().strip()
     _, _, usage = os.wait4(process.pid, 0)
     taken = time.monotonic() - begun
@@ -68,7 +69,6 @@ def measure(name):
     )
 
 
-subprocess.run(["./celdrinn"], stdout=subprocess.DEVNULL)
 for name in ("ordered", "reversed", "cycle", "written"):
     measure(name)
 PYTHON

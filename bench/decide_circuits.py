@@ -2,15 +2,15 @@
 """Says of circuits, as `rebuild`, `refute` and `extract` write them, whether they are Skolem or Herbrand functions of a formula: the
 names, what each output reads, and then all values of the inputs at once, or a call of CaDiCaL.
 
-    bench/decide_circuits.py IN CERT [--sat[=SECONDS]]
+Usage: bench/decide_circuits.py IN CERT [--sat=SECONDS]
 
 Outputs that are IN's existentials are to be Skolem functions, those that are its universals Herbrand functions. It says `skolem`, `herbrand`,
 `wrong: ..` or `unknown`. It shares nothing with the program.
 """
 import subprocess
-import sys
 
 from judge_traces import read_formula
+from words import split
 
 
 class Circuits:
@@ -127,9 +127,9 @@ def decide(formula, cert, seconds=None, owner=None):
 
 
 def main():
-    options = [word for word in sys.argv[3:] if word.startswith("--sat")]
-    seconds = int(options[0].partition("=")[2] or 1000) if options else None
-    with open(sys.argv[1], "rb") as formula, open(sys.argv[2], "rb") as cert:
+    names, options = split(__doc__, 2, 2, sat="")
+    seconds = int(options["sat"]) if options["sat"] else None
+    with open(names[0], "rb") as formula, open(names[1], "rb") as cert:
         print(decide(formula.read(), cert.read(), seconds))
 
 

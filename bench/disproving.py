@@ -1,9 +1,9 @@
 #!/usr/bin/env python3
 """Tries `disprove` on SAT solvers' proofs.
 
-    bench/disproving.py right COUNT     proofs that CaDiCaL makes of so many CNFs, with and without preprocessing, as text and in bytes, from a
-                                        file and from a pipe, and those of PicoSAT: each is to be `false N` with N the steps to the empty clause
-    bench/disproving.py mutated COUNT   so many proofs with one to three changes; the line is to be that of bench/judge_proofs.py
+Usage: bench/disproving.py right COUNT    proofs that CaDiCaL makes of so many CNFs, with and without preprocessing, as text and in bytes, from a
+                                          file and from a pipe, and those of PicoSAT: each is to be `false N` with N the steps to the empty clause
+       bench/disproving.py mutated COUNT  so many proofs with one to three changes; the line is to be that of bench/judge_proofs.py
 
 CELDRINN names the program. Where it has no `disprove`, the judge alone is asked. COUNT is 200 and 2000 for the figures of bench/RESULTS.md. It
 counts what was said, lists what is wrong, keeps the files of that in bench/out/proofs/, and ends with 1 where something is.
@@ -17,6 +17,7 @@ import sys
 
 from judge_proofs import judge
 from trials import CELDRINN, Trial, get, place, put, run, text_of
+from words import split
 
 WAYS = {
     "default": [],
@@ -309,10 +310,9 @@ def try_mutated(trial, count):
 
 
 def main():
-    if len(sys.argv) != 3:
-        sys.exit(__doc__)
+    names, _ = split(__doc__, 2, 2)
     with Proofs() as trial:
-        {"right": try_right, "mutated": try_mutated}[sys.argv[1]](trial, int(sys.argv[2]))
+        {"right": try_right, "mutated": try_mutated}[names[0]](trial, int(names[1]))
         sys.exit(trial.close())
 
 

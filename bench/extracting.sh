@@ -2,17 +2,20 @@
 # Times `extract` on traces of any length, and reports bytes, megabytes a second, peak memory and the length of CERT. Equality of n bits (for
 # each value of n existentials an opponent has one that falsifies it) has a trace of about 1.15 * 2^n kB that is needed as a whole: 13 gives
 # 9 MB, 16 113 MB, 19 1.3 GB. DepQBF makes it, which takes longer than anything else here.
-# BESIDE names another program with the same words (IN TRACE CERT), which is timed too. With -i instructions are counted by callgrind as well,
-# which takes some fifty times as long. TRACES names a folder where traces stay. Usage: bench/extracting.sh [-i] [N | FORMULA ..]
+#
+# Usage: bench/extracting.sh [--counted] [--beside=PROGRAM] [--traces=FOLDER] [N | FORMULA ..]; wants depqbf
+#
+# --beside names another program with the same words (IN TRACE CERT), which is timed too. With --counted instructions are counted by callgrind
+# as well, which takes some fifty times as long. --traces names a folder where traces stay.
 set -eu
-here=$(cd "$(dirname "$0")" && pwd)
-program=${CELDRINN:-$here/../dist/celdrinn-x86_64-linux}
-work=$(mktemp -d)
-trap 'rm -rf "$work"' EXIT
-folder=${TRACES:-$work}
+# shellcheck source=common.sh
+. "$(dirname "$0")/common.sh"
+option_counted='' option_beside='' option_traces=$work
+take_words "counted beside traces" "$@"
+want depqbf
+set -- "${names[@]}"
+folder=$option_traces
 mkdir -p "$folder"
-counted=
-[ "${1-}" != -i ] || { counted=yes && shift; }
 
 equality() {
     awk -v n="$1" 'BEGIN {
@@ -33,7 +36,7 @@ measure() {
         time = $1 + $2
         printf "  %s: `%s`, %.2f s (%.2f of the system), %.0f MB/s, %.0f MiB, CERT %.1f MB\n", name, said, time, $2, bytes / 1e6 / (time > 0.01 ? time : 0.01), $3 / 1024, cert / 1e6
     }' "$work/time"
-    [ -z "$counted" ] || valgrind --tool=callgrind --callgrind-out-file=/dev/null "$@" 2>&1 >"$work/said" |
+    [ -z "$option_counted" ] || valgrind --tool=callgrind --callgrind-out-file=/dev/null "$@" 2>&1 >"$work/said" |
         awk '/Collected/ { printf "    %.1f million instructions\n", $NF / 1e6 }'
 }
 
@@ -47,5 +50,5 @@ for given; do
     [ -s "$trace" ] || depqbf --trace=qrp --dep-man=simple --traditional-qcdcl --no-qbce-dynamic "$formula" >"$trace" || true
     echo "$(basename "$formula"): $(wc -c <"$trace") bytes, $(grep -c '^[0-9]' "$trace") lines"
     measure extract "$program" extract "$formula" "$trace" "$work/cert"
-    [ -z "${BESIDE-}" ] || measure "$(basename "$BESIDE")" "$BESIDE" "$formula" "$trace" "$work/cert"
+    [ -z "$option_beside" ] || measure "$(basename "$option_beside")" "$option_beside" "$formula" "$trace" "$work/cert"
 done

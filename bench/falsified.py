@@ -1,12 +1,15 @@
 #!/usr/bin/env python3
 """Whether values of the universals falsify a clause, with each existential at its circuit's value.
 
-  falsified.py IN CERT LITERAL..          prints the first false clause, or ends with 1 where there is none
-  falsified.py negate CERT GATE OUT       writes CERT with the first operand of a gate (from 0 on) negated
+Usage: bench/falsified.py IN CERT LITERAL ..
+
+It prints the first false clause, or ends with 1 where there is none.
 
 It shares nothing with the validator: gates are evaluated one after the other, at these values alone.
 """
 import sys
+
+from words import split
 
 
 def read_certificate(path):
@@ -26,20 +29,10 @@ def read_certificate(path):
     return ins, outs, gates, names
 
 
-def negate(cert, gate, out):
-    lines = open(cert).read().split("\n")
-    _, _, inputs, _, outputs, _ = lines[0].split()
-    at = 1 + int(inputs) + int(outputs) + gate
-    left, a, b = (int(x) for x in lines[at].split())
-    lines[at] = f"{left} {a ^ 1} {b}"
-    open(out, "w").write("\n".join(lines))
-
-
 def main():
-    if sys.argv[1] == "negate":
-        return negate(sys.argv[2], int(sys.argv[3]), sys.argv[4])
-    universals = {abs(int(x)): int(x) > 0 for x in sys.argv[3:]}
-    ins, outs, gates, names = read_certificate(sys.argv[2])
+    words, _ = split(__doc__, 2)
+    universals = {abs(int(x)): int(x) > 0 for x in words[2:]}
+    ins, outs, gates, names = read_certificate(words[1])
     value = {0: False}
     for k, lit in enumerate(ins):
         value[lit // 2] = universals[names[f"i{k}"]]
@@ -49,11 +42,11 @@ def main():
     for k, lit in enumerate(outs):
         known[names[f"o{k}"]] = value[lit // 2] ^ bool(lit & 1)
     clause = []
-    for line in open(sys.argv[1]):
-        words = line.split()
-        if not words or words[0] in ("c", "p", "e", "a"):
+    for line in open(words[0]):
+        literals = line.split()
+        if not literals or literals[0] in ("c", "p", "e", "a"):
             continue
-        for lit in map(int, words):
+        for lit in map(int, literals):
             if lit:
                 clause.append(lit)
                 continue
@@ -64,4 +57,5 @@ def main():
     return 1
 
 
-sys.exit(main())
+if __name__ == "__main__":
+    sys.exit(main())

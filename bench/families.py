@@ -1,14 +1,16 @@
 #!/usr/bin/env python3
 """Writes formulas of the families that bench/ measures.
 
-    bench/families.py list                  the families, each with its sizes from small to large
-    bench/families.py FAMILY SIZE FILE      one formula, in QDIMACS; the same words give the same bytes
+Usage: bench/families.py list                the families, each with its sizes from small to large
+       bench/families.py FAMILY SIZE FILE      one formula, in QDIMACS; the same words give the same bytes
 
 What SIZE counts is the family's own matter. The listed sizes give about 1,000, 4,000, 16,000, 64,000, 256,000 and
 1,000,000 clauses.
 """
 import random
 import sys
+
+from words import split
 
 TRUE = "true"
 FALSE = "false"
@@ -603,7 +605,8 @@ FAMILIES = {
 }
 
 
-def main(words):
+def main():
+    words, _ = split(__doc__, 1, 3)
     if words == ["list"]:
         for name, (make, sizes) in FAMILIES.items():
             print(f"{name:10} {make.__doc__}\n           {' '.join(map(str, sizes))}")
@@ -615,4 +618,4 @@ def main(words):
 
 
 if __name__ == "__main__":
-    main(sys.argv[1:])
+    main()

@@ -1,7 +1,7 @@
 #!/usr/bin/env python3
 """Judges a refutation plainly and slowly: the line that `disprove` is to say of a CNF and a SAT solver's proof.
 
-    bench/judge_proofs.py [--binary] CNF PROOF
+Usage: bench/judge_proofs.py [--binary] CNF PROOF
 
 The steps are made one by one, and nothing is read once the empty clause is there: then it is `false N` after N steps. An addition is
 implied by propagation, or its first literal is a pivot: with the outer clause of each clause that holds the negation (in a CNF, all of its
@@ -11,9 +11,9 @@ It shares nothing with the program. Causes: 1 bad line, 2 a variable, 3 no such 
 line is the number of the step.
 """
 import collections
-import sys
 
 from judge_traces import read_formula, tokens
+from words import split
 
 GREATEST = 2147483647
 
@@ -160,9 +160,9 @@ def judge(cnf, proof, binary=None):
 
 
 def main():
-    names = [word for word in sys.argv[1:] if word != "--binary"]
+    names, options = split(__doc__, 2, 2, binary=False)
     with open(names[0], "rb") as cnf, open(names[1], "rb") as proof:
-        print(judge(cnf.read(), proof.read(), True if len(names) + 1 < len(sys.argv) else None))
+        print(judge(cnf.read(), proof.read(), True if options["binary"] else None))
 
 
 if __name__ == "__main__":

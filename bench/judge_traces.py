@@ -2,11 +2,11 @@
 """Judges a solver's trace of a formula plainly and slowly, by docs/FORMATS.md alone: the line that `extract` is to say, but for its
 number of gates.
 
-    bench/judge_traces.py IN TRACE
+Usage: bench/judge_traces.py IN TRACE
 
 IN has to be a formula. It shares nothing with the program, and makes no circuits; bench/decide_circuits.py judges those.
 """
-import sys
+from words import split
 
 BLANKS = b" \t\r\n"
 
@@ -186,7 +186,8 @@ def judge(formula, trace):
 
 
 def main():
-    with open(sys.argv[1], "rb") as formula, open(sys.argv[2], "rb") as trace:
+    names, _ = split(__doc__, 2, 2)
+    with open(names[0], "rb") as formula, open(names[1], "rb") as trace:
         print(judge(formula.read(), trace.read()))
 
 

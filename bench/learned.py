@@ -2,15 +2,16 @@
 """Makes a log of many additions that propagate far: what CaDiCaL learns of random formulas of three literals a clause, each over
 variables of its own.
 
-    bench/learned.py FORMULAS VARIABLES STEPS FOLDER
+Usage: bench/learned.py FORMULAS VARIABLES STEPS FOLDER
 
-writes FOLDER/in, FOLDER/log and FOLDER/out (the formula with the added clauses). Of each formula at most a minute of clauses is taken,
+It writes FOLDER/in, FOLDER/log and FOLDER/out (the formula with the added clauses). Of each formula at most a minute of clauses is taken,
 and only those before the first one of fewer than two literals, so none of them is decided.
 """
 import os
 import random
 import subprocess
-import sys
+
+from words import split
 
 
 def formula(variables):
@@ -38,7 +39,8 @@ def learned(variables, clauses, folder):
 
 
 def main():
-    formulas, variables, steps, folder = *map(int, sys.argv[1:4]), sys.argv[4]
+    names, _ = split(__doc__, 4, 4)
+    formulas, variables, steps, folder = *map(int, names[:3]), names[3]
     os.makedirs(folder, exist_ok=True)
     clauses, added = [], []
     for number in range(formulas):
@@ -61,4 +63,5 @@ def main():
         out.write(f"p cnf {last} {len(clauses) + len(added)}\n{prefix}{text(clauses)}{text(added)}")
 
 
-main()
+if __name__ == "__main__":
+    main()

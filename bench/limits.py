@@ -1,7 +1,7 @@
 #!/usr/bin/env python3
 """How the time of `simplify`, `check` and `annotate` grows, for every family of bench/families.py and bench/shapes.py.
 
-    bench/limits.py [--seconds=N] [--program=CELDRINN] [--out=TABLE.md] [FAMILY ..]
+Usage: bench/limits.py [--seconds=N] [--out=TABLE.md] [FAMILY ..]
 
 Each family is run at three sizes: those of bench/shapes.py, and of bench/families.py the sizes for about 4,000, 16,000 and 64,000 clauses, smaller ones
 where these would take minutes. `check` and `annotate` take the log that `simplify` wrote. A run is stopped after N processor seconds (20); then the
@@ -21,8 +21,8 @@ import tempfile
 
 import families
 import shapes
+from words import CELDRINN, HOME, split
 
-HOME = os.path.dirname(os.path.dirname(os.path.realpath(__file__)))
 COMMANDS = ("simplify", "check", "annotate")
 
 # The statuses of an answer: of a command that did its work, and of a formula that is true or false.
@@ -120,14 +120,12 @@ def tell(path, lines, remarks):
         out.write(text)
 
 
-def main(words):
-    given = dict(word[2:].split("=", 1) for word in words if word.startswith("--") and "=" in word)
-    names = [word for word in words if not word.startswith("--")] or [*families.FAMILIES, *shapes.FAMILIES]
-    if set(given) - {"seconds", "program", "out"} or any(name not in {**families.FAMILIES, **shapes.FAMILIES} for name in names):
+def main():
+    names, options = split(__doc__, seconds=20, out=f"{HOME}/bench/out/limits.md")
+    names = names or [*families.FAMILIES, *shapes.FAMILIES]
+    if any(name not in {**families.FAMILIES, **shapes.FAMILIES} for name in names):
         sys.exit(__doc__)
-    program = os.path.realpath(given.get("program", f"{HOME}/dist/celdrinn-x86_64-linux"))
-    seconds = int(given.get("seconds", "20"))
-    path = os.path.realpath(given.get("out", f"{HOME}/bench/out/limits.md"))
+    seconds, path = options["seconds"], os.path.realpath(options["out"])
     os.makedirs(os.path.dirname(path), exist_ok=True)
     lines, remarks = [], []
     with tempfile.TemporaryDirectory() as folder:
@@ -135,7 +133,7 @@ def main(words):
         for name in names:
             runs = []
             for size in sizes_of(name):
-                runs.append(measure(program, name, size, seconds))
+                runs.append(measure(CELDRINN, name, size, seconds))
                 if len(runs[-1][1]) < len(COMMANDS) or None in runs[-1][1].values():
                     break
             line, more = line_of(name, sizes_of(name), runs)
@@ -149,4 +147,4 @@ def main(words):
 
 
 if __name__ == "__main__":
-    main(sys.argv[1:])
+    main()

@@ -1,5 +1,8 @@
 #!/bin/sh
-# Prints a table of bench/run.sh as Markdown: a line for each formula. Usage: bench/markdown.sh TABLE.tsv
+# Prints a table of bench/run.sh as Markdown: a line for each formula.
+#
+# Usage: bench/markdown.sh TABLE.tsv
+[ "${1:---help}" != --help ] || { sed -n '2,4s/^# \{0,1\}//p' "$0" && exit; }
 awk -F '\t' '
     function finish() {
         if (formula != "")

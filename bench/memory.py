@@ -1,7 +1,7 @@
 #!/usr/bin/env python3
 """What `simplify` does with too little memory.
 
-    bench/memory.py [PROGRAM]
+Usage: bench/memory.py
 
 Five formulas, each first with ample memory and then with its address space limited (as by `ulimit -v`) in steps of an eighth of what it took. A line a run:
 the limit in KiB, the status, the processor seconds, and how many times the seconds of the run with ample memory that is. A run is ended after 60 processor
@@ -10,11 +10,11 @@ seconds; its status is then -9 or -24.
 import os
 import resource
 import subprocess
-import sys
 import tempfile
 import time
 
-HOME = os.path.dirname(os.path.dirname(os.path.realpath(__file__)))
+from words import CELDRINN, HOME, split
+
 FORMULAS = (("gen", 20000), ("equal", 30000), ("gated", 5300), ("copies", 16000), ("adder", 51))
 SECONDS = 60
 
@@ -50,8 +50,9 @@ def run(program, limit):
     return child.returncode, used, peak
 
 
-def main(words):
-    program = os.path.realpath(words[0] if words else f"{HOME}/dist/celdrinn-x86_64-linux")
+def main():
+    split(__doc__, 0, 0)
+    program = CELDRINN
     with tempfile.TemporaryDirectory() as folder:
         os.chdir(folder)
         for family, size in FORMULAS:
@@ -69,4 +70,4 @@ def main(words):
 
 
 if __name__ == "__main__":
-    main(sys.argv[1:])
+    main()

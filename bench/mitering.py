@@ -1,9 +1,9 @@
 #!/usr/bin/env python3
 """Tries `miter`: clauses that are false exactly where circuits are Skolem (Herbrand) functions of a formula.
 
-    bench/mitering.py random FROM TO                 random formulas with circuits of both kinds, right and wrong
-    bench/mitering.py traced FROM TO                 those that `extract` makes of DepQBF's traces, as they are and with a gate changed
-    bench/mitering.py scale SECONDS BITS COPIES ..   adders of so many bits, over 2 BITS inputs, so many copies of each; right and wrong
+Usage: bench/mitering.py random FROM TO                 random formulas with circuits of both kinds, right and wrong
+       bench/mitering.py traced FROM TO                 those that `extract` makes of DepQBF's traces, as they are and with a gate changed
+       bench/mitering.py scale SECONDS BITS COPIES ..   adders of so many bits, over 2 BITS inputs, so many copies of each; right and wrong
 
 What CaDiCaL says of the clauses is compared with `validate` (Skolem functions) and with all values (bench/decide_circuits.py); a model's
 values of the others' variables are tested by evaluation. CELDRINN names the program. Of `scale` it reports sizes, and processor seconds of
@@ -17,6 +17,7 @@ from decide_circuits import Circuits, by_all_values, misfit
 from judge_traces import read_formula
 from traces import VERDICTS, random_formula, trace_of
 from trials import CELDRINN, Trial, get, measured, place, put, run, text_of
+from words import split
 
 
 def cert_of(greatest, inputs, outputs, gates):
@@ -204,9 +205,8 @@ def try_scale(trial, seconds, sizes):
 
 
 def main():
-    if len(sys.argv) < 4:
-        sys.exit(__doc__)
-    kind, *numbers = [sys.argv[1], *map(int, sys.argv[2:])]
+    (kind, *numbers), _ = split(__doc__, 3)
+    numbers = list(map(int, numbers))
     with Miters() as trial:
         if kind == "scale":
             try_scale(trial, numbers[0], numbers[1:])

@@ -1,9 +1,9 @@
 #!/usr/bin/env python3
 """Plants the bugs of bench/planted.txt as must-fail edits, or looks whether bugs and edits fit the sources.
 
-    bench/planted.py FOLDER [CRATE ..]      into a copy of the repository, as CRATE/must-fail/zz_NAME.edit
-    bench/planted.py --once                 names each bug and each edit of which an old text does not stand exactly once
-    bench/planted.py --table [--check]      writes the table of docs/TESTING.md, or says whether it is what the bugs say
+Usage: bench/planted.py FOLDER [CRATE ..]      into a copy of the repository, as CRATE/must-fail/zz_NAME.edit
+       bench/planted.py --once                 names each bug and each edit of which an old text does not stand exactly once
+       bench/planted.py --table [--check]      writes the table of docs/TESTING.md, or says whether it is what the bugs say
 
 In a copy `rt must-fail CRATE` says of each whether the prover refuses it. One that it does not refuse shows a contract that is too weak, or a bug that changes nothing.
 """
@@ -11,6 +11,8 @@ import collections
 import glob
 import os
 import sys
+
+from words import split
 
 HOME = os.path.dirname(os.path.realpath(__file__))
 CRATES = os.path.join(os.path.dirname(HOME), "crates")
@@ -137,15 +139,16 @@ def plant(folder, crates):
                 out.write(text)
 
 
-def main(words):
-    if not words:
-        sys.exit(__doc__)
-    if words == ["--once"]:
+def main():
+    names, options = split(__doc__, once=False, table=False, check=False)
+    if options["once"]:
         sys.exit(look())
-    if words[0] == "--table":
-        sys.exit(put_table(words[1:] == ["--check"]))
-    plant(words[0], words[1:])
+    if options["table"]:
+        sys.exit(put_table(options["check"]))
+    if not names:
+        sys.exit(__doc__)
+    plant(names[0], names[1:])
 
 
 if __name__ == "__main__":
-    main(sys.argv[1:])
+    main()

@@ -1,14 +1,17 @@
 #!/usr/bin/env bash
 # Draws a table of bench/run.sh: a field for each family with a line for each tool, over the number of clauses; the grey line
-# grows in proportion. Beside TABLE.tsv it writes TABLE-time.png and TABLE-memory.png. Usage: bench/plot.sh TABLE.tsv
+# grows in proportion. Beside TABLE.tsv it writes TABLE-time.png and TABLE-memory.png.
+#
+# Usage: bench/plot.sh TABLE.tsv; wants gnuplot (on Debian gnuplot-nox)
 set -eu
-table=$1
+# shellcheck source=common.sh
+. "$(dirname "$0")/common.sh"
+take_words "" "$@"
+table=${names[0]:?a table of bench/run.sh}
 command -v gnuplot >/dev/null || {
     echo "no plot: gnuplot is not installed (on Debian: apt-get install gnuplot-nox)"
     exit 0
 }
-work=$(mktemp -d)
-trap 'rm -rf "$work"' EXIT
 
 # a file for each line that is drawn: clauses, seconds, MiB
 awk -F '\t' -v work="$work" 'NR > 1 && $5 != "-" { print $3, $5, $6 >(work "/" $1 "." $4) }' "$table"

@@ -2,14 +2,15 @@
 # Makes a formula of 1,000,000 clauses and a log of 1,000,000 steps in a temporary folder, lets the
 # built program read them, and reports bytes per second and peak memory.
 #
+# Usage: bench/read.sh
+#
 # The formula is read twice, as IN and as OUT of a check with an empty log, and the time includes the
 # comparison of the two. The log adds a clause that follows and deletes it, again and again, so its time
 # includes the checking of the steps. The peak is at least that of the measuring script, about 10 MiB.
 set -eu
-export CELDRINN_PROGRESS=0
-cd "$(dirname "$0")/.."
-work=$(mktemp -d)
-trap 'rm -rf "$work"' EXIT
+# shellcheck source=common.sh
+. "$(dirname "$0")/common.sh"
+take_words "" "$@"
 
 python3 - "$work" <<'PYTHON'
 import os, random, shutil, sys
@@ -44,14 +45,14 @@ for name in ("formula", "unit"):
 PYTHON
 
 # A process of its own, since a child's peak is at least that of the process that begins it.
-python3 - "$work" <<'PYTHON'
+python3 - "$work" "$program" <<'PYTHON'
 import os, subprocess, sys, time
 
 
 def measure(name, files):
     paths = [os.path.join(sys.argv[1], file) for file in files]
     begun = time.monotonic()
-    process = subprocess.Popen(["./celdrinn", "check", *paths], stdout=subprocess.PIPE)
+    process = subprocess.Popen([sys.argv[2], "check", *paths], stdout=subprocess.PIPE)
     said = process.stdout.read().decode().strip()
     _, _, usage = os.wait4(process.pid, 0)
     taken = time.monotonic() - begun
@@ -60,7 +61,6 @@ def measure(name, files):
     print(f"{name}: {size:.1f} MB read in {taken:.2f} s, {size / taken:.0f} MB/s, peak {peak:.0f} MiB; {said}")
 
 
-subprocess.run(["./celdrinn"], stdout=subprocess.DEVNULL)
 measure("formula", ["formula", "formula-again", "empty"])
 measure("log", ["unit", "unit-again", "log"])
 PYTHON

@@ -1,15 +1,16 @@
 #!/usr/bin/env bash
 # Refuses each allocation of some runs in turn, in the built program, and says what it answers then: `no memory` with status
 # 6, or what it answers with all its memory (where only a guide or the kernel's journal went without). Anything else is a
-# fault, and is listed. Needs a C compiler. Usage: bench/refused.sh [PROGRAM]
+# fault, and is listed.
+#
+# Usage: bench/refused.sh; wants a C compiler
 set -u
-export CELDRINN_PROGRESS=0
-cd "$(dirname "$0")/.." || exit 1
-program=$(realpath "${1:-dist/celdrinn-x86_64-linux}")
-examples=$(realpath examples)
-work=$(mktemp -d)
-trap 'rm -rf "$work"' EXIT
-cc -shared -fPIC -O1 -o "$work/refuse.so" bench/refuse.c -ldl || exit 1
+# shellcheck source=common.sh
+. "$(dirname "$0")/common.sh"
+take_words "" "$@"
+want cc
+examples=$top/examples
+cc -shared -fPIC -O1 -o "$work/refuse.so" "$top/bench/refuse.c" -ldl || exit 1
 cd "$work" || exit 1
 
 bad=0 all=0

@@ -1,7 +1,8 @@
 #!/usr/bin/env bash
 # Times `refute` on two families of logs, and reports steps, bytes, processor seconds and peak memory. Time and memory should be
-# linear in the log and the circuits. Usage: bench/refuting.sh [reduced|replaced [GATES..]]; CELDRINN names another program. With
-# -f FAMILY GATES FOLDER it only writes the files in, out, log and herbrand.
+# linear in the log and the circuits. With --write it only writes the files in, out, log and herbrand.
+#
+# Usage: bench/refuting.sh [reduced | replaced [GATES ..]] | bench/refuting.sh --write FAMILY GATES FOLDER
 #
 # reduced: a false formula of many gates is taken down to the empty clause. Of each gate g, the conjunction of x and y, the opponent's
 # u tells the value before g is chosen: where u differs from g a chain of clauses is cut, and so u is to be equal to g. Elimination
@@ -11,11 +12,11 @@
 # replaced: a fresh y is made equal to each x by two additions, and a circuit of so many gates reads all y. On the way back each
 # y is replaced three times.
 set -eu
-export CELDRINN_PROGRESS=0
-cd "$(dirname "$0")/.."
-program=${CELDRINN:-./celdrinn}
-work=$(mktemp -d)
-trap 'rm -rf "$work"' EXIT
+# shellcheck source=common.sh
+. "$(dirname "$0")/common.sh"
+option_write=
+take_words write "$@"
+set -- "${names[@]}"
 
 files() {
     python3 - "$@" <<'PYTHON'
@@ -98,8 +99,8 @@ measure() {
     done
 }
 
-if [ "${1-}" = -f ]; then
-    files "$2" "$3" "$4"
+if [ -n "$option_write" ]; then
+    files "$1" "$2" "$3"
 elif [ $# -gt 1 ]; then
     measure "$@"
 else

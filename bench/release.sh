@@ -1,6 +1,9 @@
 #!/bin/sh
 # Remakes dist/: the program, the one that plays the rows and the library for C, proved and built from the sources as they are, and
 # the sources' hash beside them.
+#
+# Usage: bench/release.sh; wants Rattle's kit and a C compiler
+[ $# -eq 0 ] || { sed -n '2,5s/^# \{0,1\}//p' "$0" && exit 64; }
 set -u
 cd "$(dirname "$0")/.." || exit 1
 
@@ -24,8 +27,8 @@ release() {
 
 # The library has the calls; what they want of malloc, packaging/celdrinn_memory.c, is compiled and put beside them.
 release_library() {
-    library=crates/q_lib/out/libq_lib.a
-    is_built "$library" || (cd crates/q_lib && rt lib) || exit 1
+    library=crates/q_c_library/out/libq_c_library.a
+    is_built "$library" || (cd crates/q_c_library && rt lib) || exit 1
     to=$PWD/dist/libceldrinn-x86_64-linux.a
     work=$(mktemp -d) || exit 1
     ${CC:-cc} -O2 -fPIC -c -o "$work/celdrinn_memory.o" packaging/celdrinn_memory.c || exit 1
@@ -35,7 +38,7 @@ release_library() {
 
 before=$(bench/sources.sh)
 release q_main celdrinn
-release q_rows rows
+release q_tests rows
 release_library
 if [ "$(bench/sources.sh)" != "$before" ]; then
     echo "release: the sources changed meanwhile" >&2

@@ -1,6 +1,8 @@
 #!/bin/sh
-# Rewrites what q_rows is to put, from the names of the rows in its tables: each row passes.
-cd "$(dirname "$0")/../crates/q_rows" || exit 1
+# Rewrites what q_tests is to put, from the names of the rows in its tables: each row passes.
+#
+# Usage: bench/rows.sh
+cd "$(dirname "$0")/../crates/q_tests" || exit 1
 tables=$(sed 's#^#data/#' args)
 {
     # shellcheck disable=SC2086

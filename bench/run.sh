@@ -1,42 +1,27 @@
 #!/usr/bin/env bash
 # Measures families of formulas from small to large, and writes a table of time and memory, and plots of both against size.
 #
-#   bench/run.sh [-r RUNGS] [-t SECONDS] [-w NAME=PROGRAM] [-o TABLE.tsv] [FAMILY ..]
+# Usage: bench/run.sh [--rungs=N] [--seconds=N] [--beside=NAME=PROGRAM] [--out=TABLE.tsv] [FAMILY ..]
 #
 # FAMILY is one of bench/families.py (its `list` says what they are) or `chains`, which has a log of its own and is only
-# checked; all of them by default. The sizes give about 1,000, 4,000, 16,000, 64,000, 256,000 and 1,000,000 clauses; RUNGS
-# says how many of them are run, 3 by default. SECONDS is the time that each run gets, 20 by default.
+# checked; all of them by default. The sizes give about 1,000, 4,000, 16,000, 64,000, 256,000 and 1,000,000 clauses; --rungs
+# says how many of them are run, 3 by default. --seconds is the time that each run gets, 20 by default; a dash means that it was up.
 #
 # Beside `simplify` and `check` stand, where they are installed: MiniSat and CaDiCaL as preprocessors, for families without
 # universals; DepQBF on the formula before and after, for those with some. PROGRAM is another build of Celdrinn, or any program
-# with its words for `simplify`.
-#
-# Time is that of the processor. A dash means that the time was up. The family `others` stands for the scripts beside this
-# one, with their own sizes and words: reading, proofs of a SAT solver, circuits; what they say goes into files beside the table.
+# with its words for `simplify`. The family `others` stands for the scripts beside this one, with their own sizes and words:
+# reading, proofs of a SAT solver, circuits; what they say goes into files beside the table.
 set -eu
-export CELDRINN_PROGRESS=0
-cd "$(dirname "$0")/.."
-rungs=3
-limit=20
-beside=
-table=bench/out/table.tsv
-while getopts r:t:w:o: option; do
-    case $option in
-        r) rungs=$OPTARG ;;
-        t) limit=$OPTARG ;;
-        w) beside=$OPTARG ;;
-        o) table=$OPTARG ;;
-        *) exit 64 ;;
-    esac
-done
-shift $((OPTIND - 1))
+# shellcheck source=common.sh
+. "$(dirname "$0")/common.sh"
+option_rungs=3 option_seconds=20 option_beside='' option_out=bench/out/table.tsv
+take_words "rungs seconds beside out" "$@"
+set -- "${names[@]}"
+cd "$top"
+rungs=$option_rungs limit=$option_seconds beside=$option_beside table=$option_out
 # shellcheck disable=SC2046
 [ $# -gt 0 ] || set -- $(bench/families.py list | sed -n 's/^\([a-z]\+\) .*/\1/p') chains
 mkdir -p "$(dirname "$table")"
-work=$(mktemp -d)
-trap 'rm -rf "$work"' EXIT
-./celdrinn --version >/dev/null
-./celdrinn >/dev/null || true
 
 has() { command -v "$1" >/dev/null; }
 
@@ -70,15 +55,15 @@ measure() {
     size=$2
     rm -f "$work/out"
     if [ "$family" = chains ]; then
-        bench/chains.sh -f "$size" "$work"
+        bench/chains.sh --write "$size" "$work"
         clauses=$size
-        row check ./celdrinn check "$work/in" "$work/out" "$work/log"
+        row check "$program" check "$work/in" "$work/out" "$work/log"
         return
     fi
     bench/families.py "$family" "$size" "$work/in"
     clauses=$(sed -n '1s/.* //p' "$work/in")
-    row simplify ./celdrinn simplify "$work/in" "$work/out" "$work/log"
-    [ ! -s "$work/out" ] || row check ./celdrinn check "$work/in" "$work/out" "$work/log"
+    row simplify "$program" simplify "$work/in" "$work/out" "$work/log"
+    [ ! -s "$work/out" ] || row check "$program" check "$work/in" "$work/out" "$work/log"
     [ -z "$beside" ] || row "${beside%%=*}" "${beside#*=}" simplify "$work/in" "$work/left" "$work/left-log"
     others
 }

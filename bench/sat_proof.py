@@ -2,15 +2,16 @@
 """Makes a proof of a SAT solver into files for `check`: a random formula of three literals a clause that is mostly
 unsatisfiable, and CaDiCaL's proof of it.
 
-    bench/sat_proof.py VARIABLES FOLDER
+Usage: bench/sat_proof.py VARIABLES FOLDER; wants cadical
 
-writes FOLDER/in (DIMACS), FOLDER/bound (the same with its variables bound), FOLDER/log (the proof's additions; its deletions
+It writes FOLDER/in (DIMACS), FOLDER/bound (the same with its variables bound), FOLDER/log (the proof's additions; its deletions
 are left out, and CaDiCaL keeps its clauses) and FOLDER/out (the formula with the added clauses).
 """
 import os
 import random
 import subprocess
-import sys
+
+from words import split
 
 
 def formula(variables):
@@ -29,7 +30,8 @@ def bound(variables, clauses):
 
 
 def main():
-    variables, folder = int(sys.argv[1]), sys.argv[2]
+    names, _ = split(__doc__, 2, 2)
+    variables, folder = int(names[0]), names[1]
     place = lambda name: os.path.join(folder, name)
     clauses = formula(variables)
     with open(place("in"), "w") as out:
@@ -43,4 +45,5 @@ def main():
             out.write(text)
 
 
-main()
+if __name__ == "__main__":
+    main()

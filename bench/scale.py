@@ -1,7 +1,7 @@
 #!/usr/bin/env python3
 """Large formulas: seconds and bytes a clause of `simplify` and `check`, beside MiniSat and CaDiCaL as preprocessors.
 
-    bench/scale.py [--seconds=N] [--program=CELDRINN] [--out=TABLE.md] [FAMILY or FAMILY:CLAUSES ..]
+Usage: bench/scale.py [--seconds=N] [--out=TABLE.md] [FAMILY or FAMILY:CLAUSES ..]
 
 FAMILY is one of sat, register and subsumed of bench/families.py, which have no universals; all three by default. Each has about 100,000, 1,000,000 and
 5,000,000 clauses, or the number behind the colon. A run is stopped after N processor seconds (600). One run each.
@@ -18,7 +18,8 @@ import subprocess
 import sys
 import tempfile
 
-HOME = os.path.dirname(os.path.dirname(os.path.realpath(__file__)))
+from words import CELDRINN, HOME, split
+
 CLAUSES = (100_000, 1_000_000, 5_000_000)
 
 # Clauses for one of a family's sizes.
@@ -83,13 +84,12 @@ def measure(program, family, clauses, seconds):
     return f"| {' | '.join(cells)} |\n"
 
 
-def main(words):
-    given = dict(word[2:].split("=", 1) for word in words if word.startswith("--") and "=" in word)
-    names = [word for word in words if not word.startswith("--")] or list(CLAUSES_OF_ONE)
-    if set(given) - {"seconds", "program", "out"} or any(name.split(":")[0] not in CLAUSES_OF_ONE for name in names):
+def main():
+    names, options = split(__doc__, seconds=600, out=f"{HOME}/bench/out/scale.md")
+    names = names or list(CLAUSES_OF_ONE)
+    if any(name.split(":")[0] not in CLAUSES_OF_ONE for name in names):
         sys.exit(__doc__)
-    program = os.path.realpath(given.get("program", f"{HOME}/dist/celdrinn-x86_64-linux"))
-    path = os.path.realpath(given.get("out", f"{HOME}/bench/out/scale.md"))
+    program, path = CELDRINN, os.path.realpath(options["out"])
     os.makedirs(os.path.dirname(path), exist_ok=True)
     columns = [name if name[0].isupper() else f"`{name}`" for name, _, _ in tools(program)]
     text = f"| Formula, clauses | {' | '.join(columns)} |\n|{'---|' * (len(columns) + 1)}\n"
@@ -99,7 +99,7 @@ def main(words):
         for name in names:
             family, _, count = name.partition(":")
             for clauses in [int(count)] if count else CLAUSES:
-                line = measure(program, family, clauses, int(given.get("seconds", "600")))
+                line = measure(program, family, clauses, options["seconds"])
                 print(line, end="", flush=True)
                 text += line
                 with open(path, "w", encoding="utf-8") as out:
@@ -109,4 +109,4 @@ def main(words):
 
 
 if __name__ == "__main__":
-    main(sys.argv[1:])
+    main()

@@ -1,16 +1,20 @@
 #!/usr/bin/env bash
 # The searches of `solve` and `validate` beside C++ programs of the same searches (search.cpp, blocks.cpp): processor seconds and peaks.
-#   bench/searching.sh [solve|validate] [BUDGET]
-# CELDRINN names the program. Of `solve` the time of `simplify` on the same formula is taken off; the other program is timed after reading.
+#
+# Usage: bench/searching.sh [--budget=N] [solve | validate]; wants g++
+#
+# Of `solve` the time of `simplify` on the same formula is taken off; the other program is timed after reading.
 set -eu
-here=$(cd "$(dirname "$0")" && pwd)
-celdrinn=${CELDRINN:-$here/../celdrinn}
-budget=${2:-3000000}
+# shellcheck source=common.sh
+. "$(dirname "$0")/common.sh"
+option_budget=3000000
+take_words budget "$@"
+want g++
+here=$top/bench
+budget=$option_budget
 mkdir -p "$here/out"
-work=$(mktemp -d)
-trap 'rm -rf "$work"' EXIT
-for program in search blocks; do
-    [ "$here/out/$program" -nt "$here/$program.cpp" ] || g++ -std=c++17 -O2 -o "$here/out/$program" "$here/$program.cpp"
+for other in search blocks; do
+    [ "$here/out/$other" -nt "$here/$other.cpp" ] || g++ -std=c++17 -O2 -o "$here/out/$other" "$here/$other.cpp"
 done
 
 # seconds and KiB of a run, in $work/time
@@ -20,10 +24,10 @@ timed() {
 
 solved() {
     name=$1
-    timed "$celdrinn" simplify "$work/in" "$work/out" "$work/log"
+    timed "$program" simplify "$work/in" "$work/out" "$work/log"
     before=$(cut -d' ' -f1 "$work/time")
     found=$("$here/out/search" "$work/out" "$budget")
-    timed "$celdrinn" solve "$work/in" "$work/out" "$work/log" "$work/cert" --budget="$budget"
+    timed "$program" solve "$work/in" "$work/out" "$work/log" "$work/cert" --budget="$budget"
     after=$(cut -d' ' -f1 "$work/time")
     echo "$name $(head -n 1 "$work/out" | cut -d' ' -f3,4) $found $before $after $(cut -d' ' -f2 "$work/time") $(head -n 1 "$work/line")" |
         awk '{ t = $8 - $7; n = $5; printf "| %s | %d | %d | %s | %d | %.2f s | %.2f s | %.0f | %.0f | %.1f MiB |\n", $1, $2, $3, $10, n, t, $6, (t > 0 ? n / t : 0), ($6 > 0 ? n / $6 : 0), $9 / 1024 }'
@@ -33,7 +37,7 @@ solved() {
 copied() {
     python3 "$here/certificates.py" copies "$1" "$work/in" "$work/cert"
     found=$("$here/out/blocks" "$work/in" "$work/cert" "$1")
-    timed "$celdrinn" validate "$work/in" "$work/cert" --budget="$1"
+    timed "$program" validate "$work/in" "$work/cert" --budget="$1"
     echo "$1 $found $(cat "$work/time") $(cat "$work/line")" |
         awk '{ printf "| %d copies | 0 | %s | %d | %d | %.2f s | | %.2f s | | %.1f MiB |\n", $1, $8, $3, $4, $6, $5, $7 / 1024 }'
 }
@@ -41,19 +45,19 @@ copied() {
 validated() {
     python3 "$here/certificates.py" "$1" "$2" "$3" "$work/in" "$work/cert"
     found=$("$here/out/blocks" "$work/in" "$work/cert")
-    timed "$celdrinn" validate "$work/in" "$work/cert"
+    timed "$program" validate "$work/in" "$work/cert"
     echo "$1 $2 $3 $found $(cat "$work/time") $(cat "$work/line")" |
         awk '{ printf "| %d of %d | %d | %s | %d | %d | %.2f s | %.1f us | %.2f s | %.1f us | %.1f MiB |\n", $1, $2, $3, $10, $5, $6, $8, 1e6 * $8 / (2 * $5 + 1), $7, 1e6 * $7 / (2 * $5 + 1), $9 / 1024 }'
 }
 
-if [ "${1:-solve}" = solve ]; then
+if [ "${names[0]:-solve}" = solve ]; then
     echo "| Formula | Variables left | Clauses left | Answer | Decisions | \`solve\` | C++ | Decisions a second | C++ | Peak |"
     echo "|---|---|---|---|---|---|---|---|---|---|"
     for pair in "23 150" "5 150" "11 150" "24 200" "25 200"; do
         # shellcheck disable=SC2086
         set -- $pair
         rm -f "$work/in"
-        "$celdrinn" gen "$1" "$2" "$work/in" >"$work/line"
+        "$program" gen "$1" "$2" "$work/in" >"$work/line"
         solved "gen-$1-$2"
     done
     for pair in "adder 20" "game 4" "parity 22"; do

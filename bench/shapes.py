@@ -1,8 +1,8 @@
 #!/usr/bin/env python3
 """Writes formulas of shapes in which something grows long: a clause, the list of a literal, a chain, the row of blocks.
 
-    bench/shapes.py list                  the families, each with three sizes
-    bench/shapes.py FAMILY SIZE FILE      one formula, in QDIMACS; the same words give the same bytes
+Usage: bench/shapes.py list                the families, each with three sizes
+       bench/shapes.py FAMILY SIZE FILE      one formula, in QDIMACS; the same words give the same bytes
 
 They stand beside those of bench/families.py, and bench/limits.py measures both. What SIZE counts is the family's own matter.
 """
@@ -10,6 +10,7 @@ import random
 import sys
 
 from families import FALSE, TRUE, Formula, Gates, number, signed, turned
+from words import split
 
 
 # Long lists and long clauses
@@ -247,7 +248,8 @@ FAMILIES = {
 }
 
 
-def main(words):
+def main():
+    words, _ = split(__doc__, 1, 3)
     if words == ["list"]:
         for name, (make, sizes) in FAMILIES.items():
             print(f"{name:11} {make.__doc__}\n            {' '.join(map(str, sizes))}")
@@ -259,4 +261,4 @@ def main(words):
 
 
 if __name__ == "__main__":
-    main(sys.argv[1:])
+    main()

@@ -1,14 +1,20 @@
 #!/usr/bin/env bash
 # The trials of what solvers write, one after the other, as bench/RESULTS.md has them: traces for `extract`, circuits for `miter`, proofs for
-# `disprove`. On a free machine it takes about an hour, on a busy one many. Words choose some of them: traces, chain, speed, miters, scale,
-# proofs; -q makes a tenth of each. What is said goes to bench/out/solvers/NAME as well.
-# GENERATORS names the folder of formulas for `chain`, without which those of bench/families.py are taken; CELDRINN names the program.
-# Usage: bench/solvers.sh [-q] [NAME ..]
+# `disprove`. On a free machine it takes about an hour, on a busy one many. What is said goes to bench/out/solvers/NAME as well.
+#
+# Usage: bench/solvers.sh [--quick] [--formulas=FOLDER] [NAME ..]; wants depqbf, cadical, picosat
+#
+# NAME is one of traces, chain, speed, miters, scale, proofs. --quick makes a tenth of each. --formulas names those of `chain`, by default some of
+# bench/families.py.
 set -u
-export CELDRINN_PROGRESS=0
-cd "$(dirname "$0")" || exit 1
+# shellcheck source=common.sh
+. "$(dirname "$0")/common.sh"
+option_quick='' option_formulas=
+take_words "quick formulas" "$@"
+set -- "${names[@]}"
+cd "$top/bench" || exit 1
 share=1
-[ "${1-}" != -q ] || { share=10 && shift; }
+[ -z "$option_quick" ] || share=10
 out=out/solvers
 mkdir -p $out
 of() { echo $(($1 / share)); }
@@ -31,11 +37,11 @@ trial() {
             ./traces.py mutated 0 "$(of 400)"
             ;;
         chain)
-            [ -n "${GENERATORS-}" ] || { small_formulas && GENERATORS=$out/formulas; }
-            ./traces.py folder "$GENERATORS"
-            ./traces.py chain 3 "$GENERATORS"/*
+            [ -n "$option_formulas" ] || { small_formulas && option_formulas=$out/formulas; }
+            ./traces.py folder "$option_formulas"
+            ./traces.py chain 3 "$option_formulas"/*
             ;;
-        speed) if [ $share -gt 1 ]; then ./extracting.sh 13; else ./extracting.sh -i 13 && ./extracting.sh 16 19; fi ;;
+        speed) if [ $share -gt 1 ]; then ./extracting.sh 13; else ./extracting.sh --counted 13 && ./extracting.sh 16 19; fi ;;
         miters)
             ./mitering.py random 0 "$(of 1000)"
             ./mitering.py traced 0 "$(of 1000)"

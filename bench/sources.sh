@@ -1,5 +1,7 @@
 #!/bin/sh
 # The hash of the sources that the program is proved and built from: of each file's name and bytes.
+#
+# Usage: bench/sources.sh
 cd "$(dirname "$0")/.." || exit 1
 {
     printf 'crates.txt\0'

@@ -1,7 +1,7 @@
 #!/usr/bin/env python3
 """Memory where few variables have great numbers.
 
-    bench/sparse.py [PROGRAM]
+Usage: bench/sparse.py
 
 A formula of 40 variables (8 universal) and 368 clauses, which no rule changes, under the greatest numbers up to N. A line for each N: the peaks of resident
 memory of `simplify` and of `check` in MiB, and what that is in bytes for each number up to N.
@@ -12,7 +12,8 @@ import subprocess
 import sys
 import tempfile
 
-HOME = os.path.dirname(os.path.dirname(os.path.realpath(__file__)))
+from words import CELDRINN, split
+
 NUMBERS = (1 << 20, 1 << 22, 16_777_215)
 
 
@@ -42,8 +43,9 @@ def peak(*words):
     return int(kib) * 1024, line
 
 
-def main(words):
-    program = os.path.realpath(words[0] if words else f"{HOME}/dist/celdrinn-x86_64-linux")
+def main():
+    split(__doc__, 0, 0)
+    program = CELDRINN
     os.environ["CELDRINN_PROGRESS"] = "0"
     with tempfile.TemporaryDirectory() as folder:
         os.chdir(folder)
@@ -58,4 +60,4 @@ def main(words):
 
 
 if __name__ == "__main__":
-    main(sys.argv[1:])
+    main()

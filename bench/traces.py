@@ -2,15 +2,14 @@
 """Tries `extract` on traces that DepQBF writes: what the program says is compared with bench/judge_traces.py, and the circuits that it
 writes are judged by bench/decide_circuits.py.
 
-    bench/traces.py random FROM TO [WAY..]       random formulas of all shapes, circuits judged by all values
-    bench/traces.py larger FROM TO [WAY..]       larger ones, as in the family equality with noise
-    bench/traces.py mutated FROM TO              right traces with one to three changes, twelve for each formula
-    bench/traces.py folder FOLDER [WAY..]        the formulas of a folder, two seconds each; circuits judged by a SAT solver
-    bench/traces.py chain SECONDS FORMULA..      a certificate of each: from IN's trace, and from OUT's, carried back
+Usage: bench/traces.py random FROM TO [WAY..]       random formulas of all shapes, circuits judged by all values
+       bench/traces.py larger FROM TO [WAY..]       larger ones, as in the family equality with noise
+       bench/traces.py mutated FROM TO              right traces with one to three changes, twelve for each formula
+       bench/traces.py folder FOLDER [WAY..]        the formulas of a folder, two seconds each; circuits judged by a SAT solver
+       bench/traces.py chain SECONDS FORMULA..      a certificate of each: from IN's trace, and from OUT's, carried back
 
-WAY is plain (--traditional-qcdcl), eager (--no-lazy-qpup), or either with `-long` behind (--long-dist-res). CELDRINN names the program,
-BESIDE another one, called in the same way (IN TRACE CERT), whose line is then compared too. It counts what was said, lists what is
-wrong, keeps the files of that in bench/out/traces/, and ends with 1 where something is.
+WAY is plain (--traditional-qcdcl), eager (--no-lazy-qpup), or either with `-long` behind (--long-dist-res). BESIDE names another program, called in
+the same way (IN TRACE CERT), whose line is then compared too. It counts what was said, lists what is wrong, keeps the files of that in bench/out/traces/, and ends with 1 where something is.
 """
 import os
 import random
@@ -19,6 +18,7 @@ import sys
 from decide_circuits import decide
 from judge_traces import judge
 from trials import CELDRINN, Trial, get, place, put, run, text_of
+from words import split
 
 BESIDE = os.environ.get("BESIDE")
 WAYS = {"plain": ["--traditional-qcdcl"], "eager": ["--no-lazy-qpup"]}
@@ -277,9 +277,7 @@ def try_chain(trial, seconds, formulas):
 
 
 def main():
-    if len(sys.argv) < 3:
-        sys.exit(__doc__)
-    kind, *words = sys.argv[1:]
+    (kind, *words), _ = split(__doc__, 2)
     makers = {"random": (random_formula, ["plain"]), "larger": (larger_formula, ["plain-long", "eager-long"])}
     with Traces() as trial:
         if kind in makers:

@@ -6,8 +6,9 @@ import resource
 import shutil
 import subprocess
 
-HERE = os.path.dirname(os.path.abspath(__file__))
-CELDRINN = os.environ.get("CELDRINN", os.path.join(HERE, "../dist/celdrinn-x86_64-linux"))
+from words import CELDRINN, HOME
+
+HERE = f"{HOME}/bench"
 WORK = os.path.join(os.environ.get("TMPDIR", "/tmp"), f"trial-{os.getpid()}")
 
 

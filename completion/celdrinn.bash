@@ -18,7 +18,7 @@ _celdrinn() {
         annotate) kinds=ffff options="--part= --stats --force --quiet --verbose" ;;
         refute) kinds=fffff options="--stats --force --quiet --verbose" ;;
         extract) kinds=fff options="--stats --force --quiet --verbose" ;;
-        disprove) kinds=ff options="--binary --stats --quiet --verbose" ;;
+        disprove) kinds=ff options="--binary --part= --stats --quiet --verbose" ;;
         miter) kinds=fff options="--herbrand --stats --force --quiet --verbose" ;;
         validate) kinds=ff options="--budget= --with= --herbrand --seconds= --stats --quiet --verbose" ;;
         certify) kinds=ff options="--seconds= --check --force --quiet --verbose" ;;

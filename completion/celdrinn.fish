@@ -83,7 +83,7 @@ complete -c celdrinn -n '__celdrinn_wants_option simplify validate solve' -a --b
 complete -c celdrinn -n '__celdrinn_wants_option simplify solve' -a --grow= -d 'by how much an elimination may let the formula grow'
 complete -c celdrinn -n '__celdrinn_wants_option simplify solve' -a --expand= -d 'by how much an expansion may let the formula grow'
 complete -c celdrinn -n '__celdrinn_wants_option simplify' -a --time= -d 'takes no further step after so many seconds, and writes what is reached'
-complete -c celdrinn -n '__celdrinn_wants_option check annotate' -a --part= -d 'judges every Nth block of 1,000 steps, and makes the others'
+complete -c celdrinn -n '__celdrinn_wants_option check annotate disprove' -a --part= -d 'judges every Nth block of 1,000 steps, and makes the others'
 complete -c celdrinn -n '__celdrinn_wants_option disprove' -a --binary -d 'reads as a binary proof what could be a text'
 complete -c celdrinn -n '__celdrinn_wants_option miter validate' -a --herbrand -d 'takes circuits of the universals'
 complete -c celdrinn -n '__celdrinn_wants_option simplify' -a --best -d 'tries large expansions beside it, for so many seconds, and keeps the better end'

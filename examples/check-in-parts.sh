@@ -59,6 +59,7 @@ read -r parts steps is_cut <"$work/count"
 
 # What was checked are the steps of LOG: the words of the parts, one behind the other, are its words, but for zeros in front.
 tab=$(printf '\t') cr=$(printf '\r')
+# shellcheck disable=SC2020
 words() { sed "/^[ $tab$cr]*c/d" | tr " $tab$cr" '\n\n\n' | sed '/^$/d; s/^\(-\{0,1\}\)0*\([0-9]\)/\1\2/'; }
 count=0
 while [ -f "$work/$((count + 1)).qrat" ]; do count=$((count + 1)); done

@@ -11,7 +11,7 @@ work=$(mktemp -d) || exit 1
 trap 'rm -rf "$work"' EXIT
 umask 022
 
-mkdir -p "$work/$name/crates/q_rows" "$work/$name/dist" "$work/$name/packaging" || exit 1
+mkdir -p "$work/$name/crates/q_tests" "$work/$name/dist" "$work/$name/packaging" || exit 1
 # in an archive the program lies beside the launcher
 program=dist/celdrinn-x86_64-linux
 [ -f "$program" ] || program=program
@@ -23,7 +23,7 @@ cp -R packaging/* "$work/$name/packaging/" || exit 1
 rm -rf "$work/$name/packaging/lib/build"
 find "$work/$name" -name __pycache__ -prune -exec rm -rf {} +
 packaging/date.sh >"$work/$name/packaging/date"
-cp -R crates/q_rows/args crates/q_rows/data crates/q_rows/stdout "$work/$name/crates/q_rows/" || exit 1
+cp -R crates/q_tests/args crates/q_tests/data crates/q_tests/stdout "$work/$name/crates/q_tests/" || exit 1
 chmod -R u+rwX,go+rX,go-w "$work/$name" || exit 1
 # one owner, one date, one order: the same files make the same archive
 tar -C "$work" --sort=name --owner=0 --group=0 --numeric-owner --mtime="@$(packaging/date.sh)" -cf "$work/tar" "$name" || exit 1

@@ -1,8 +1,18 @@
 #!/bin/sh
 # Plays rows about the program as a user meets it: words, files, lines, statuses, what is said on standard error.
 # Says `ok NAME`, `skipped NAME: what is missing` or `wrong NAME: why` for each row, and ends with 1 where one is wrong.
-# docs/TESTING.md has the lines of a row. CELDRINN names the program, where it isn't this repository's launcher.
-# Usage: tests/play.sh TABLE ..
+# Usage: tests/play.sh TABLE ..; CELDRINN names the program, where it isn't this repository's launcher.
+#
+# A row begins with `row NAME` and is played in a folder of its own, in which `celdrinn` is the launcher. Then each line is one of these:
+#   file NAME TEXT               makes a file; `\n` is a line end, and nothing behind the name is no byte
+#   wants TOOL, user             the row is skipped without this tool, or for root
+#   do COMMAND                   runs it by `sh -c`; the lines behind it look at what it answered. $examples and $top are folders.
+#                                Where it says `skipped ..`, the row is skipped
+#   status N, ends               its exit status; that this is 0, 10 or 20
+#   line TEXT, shows TEXT        its whole standard output, as it stands or with `\n` for line ends
+#   silent, says TEXT            that there is none; that it has this text
+#   error TEXT, quiet            its standard error has this text, or nothing
+#   holds NAME TEXT              the file has these bytes
 set -u
 top=$(cd "$(dirname "$0")/.." && pwd)
 work=$(mktemp -d) || exit 1

@@ -1,5 +1,5 @@
 #!/bin/sh
-# Plays all tests with the released programs, which takes seconds and no kit: the rows of crates/q_rows, the rows about the program
+# Plays all tests with the released programs, which takes seconds and no kit: the rows of crates/q_tests, the rows about the program
 # as a user meets it, and the scripts of examples/. Each wrong row has a line; the last line counts.
 # Usage: tests/run.sh [-v], where -v shows the lines of all rows
 set -u
@@ -24,15 +24,15 @@ count() {
 play_rows() {
     player=$here/dist/rows-x86_64-linux
     if ! [ -f "$player" ]; then
-        echo "skipped the rows of crates/q_rows: dist/ has no program that plays them"
+        echo "skipped the rows of crates/q_tests: dist/ has no program that plays them"
         return
     fi
-    cp -R crates/q_rows/data "$work/data"
-    (cd "$work/data" && xargs "$player" <"$here/crates/q_rows/args") >"$work/put" 2>&1
-    if cmp -s "$work/put" crates/q_rows/stdout; then
+    cp -R crates/q_tests/data "$work/data"
+    (cd "$work/data" && xargs "$player" <"$here/crates/q_tests/args") >"$work/put" 2>&1
+    if cmp -s "$work/put" crates/q_tests/stdout; then
         grep '^ok ' "$work/put"
     else
-        echo "wrong crates/q_rows: $(grep -v '^ok ' "$work/put" | head -n 1)"
+        echo "wrong crates/q_tests: $(grep -v '^ok ' "$work/put" | head -n 1)"
     fi
 }
 
@@ -45,7 +45,7 @@ play_disk() {
     # in an archive the program lies beside the launcher
     program=dist/celdrinn-x86_64-linux
     [ -f "$program" ] || program=./program
-    python3 tests/disk/play.py "$program" crates/q_rows/data/*.rows >"$work/disk" 2>"$work/words"
+    python3 tests/disk/play.py "$program" crates/q_tests/data/*.rows >"$work/disk" 2>"$work/words"
     grep '^ok \|^wrong ' "$work/disk"
     tail -n 1 "$work/disk" | grep -q ' passed, ' || echo "wrong rows over a real folder: $(tail -n 1 "$work/words")"
 }
@@ -99,8 +99,8 @@ play_version >"$work/versions" && count "$work/versions"
 play_words >"$work/said" && count "$work/said"
 play_man >"$work/said" && count "$work/said"
 play_pictures >"$work/said" && count "$work/said"
-tests/pages.sh README.md docs/TUTORIAL.md docs/A-CERTIFICATE.md docs/A-LOG.md docs/for-*.md >"$work/pages.rows"
-tests/sections.sh docs/PIPELINES.md >"$work/sections.rows"
+tests/pages.sh README.md docs/TUTORIAL.md docs/A-CERTIFICATE.md docs/A-LOG.md docs/for-readers.md examples/README.md >"$work/pages.rows"
+tests/sections.sh docs/PIPELINES.md examples/many-machines/README.md >"$work/sections.rows"
 for table in tests/*.rows "$work/pages.rows" "$work/sections.rows"; do
     tests/play.sh "$table" >"$work/played"
     grep '^ok \|^wrong \|^skipped ' "$work/played" >"$work/table"

@@ -1,7 +1,7 @@
 #!/usr/bin/env python3
 """Plays random cases of every command with the released program, and compares each answer with a reference of its own.
 
-    bench/fuzz/fuzz.py [--seed N] [--runs N] [--seconds N] [--verb WORD] [--program FILE] [--keep FOLDER]
+Usage: bench/fuzz/fuzz.py [--seed=N] [--runs=N] [--seconds=N] [--verb=WORD] [--keep=FOLDER]; wants depqbf for traces. CELDRINN names the program.
 
 Formulas, logs of both profiles, circuits and traces are made by chance, most of them right and many with mistakes; some files are missing or are folders,
 some places can't be written, some files may not grow, and some nobody wants (as where OUT, LOG or CERT is left out). The reference (formulas.py, logs.py, circuits.py, commands.py) follows docs/FORMATS.md and
@@ -27,7 +27,7 @@ import making
 from commands import FOLDER, READS, WRITES, Answer, Case, judge
 
 HERE = os.path.dirname(os.path.realpath(__file__))
-PROGRAM = os.path.join(HERE, "..", "..", "dist", "celdrinn-x86_64-linux")
+PROGRAM = os.path.realpath(os.environ.get("CELDRINN", os.path.join(HERE, "..", "..", "dist", "celdrinn-x86_64-linux")))
 LONGEST = 300
 # of this program and of each call
 MOST_MEMORY = 4 << 30
@@ -291,7 +291,7 @@ def settled_again(player, case, answer):
 
 def play(words, counts):
     """Plays cases; the first one with a difference is kept."""
-    player = Player(words.program)
+    player = Player(PROGRAM)
     end = time.monotonic() + words.seconds
     try:
         for number in range(words.runs):
@@ -333,18 +333,17 @@ def show(counts, program):
 
 
 def main():
-    parser = argparse.ArgumentParser(description="plays random cases with the released program")
+    parser = argparse.ArgumentParser(description=__doc__, formatter_class=argparse.RawDescriptionHelpFormatter)
     parser.add_argument("--seed", type=int, default=1)
     parser.add_argument("--runs", type=int, default=2000)
     parser.add_argument("--seconds", type=float, default=3600)
     parser.add_argument("--verb", choices=sorted(READS))
-    parser.add_argument("--program", default=PROGRAM)
     parser.add_argument("--keep", default="fuzz-difference")
     words = parser.parse_args()
     resource.setrlimit(resource.RLIMIT_AS, (MOST_MEMORY, MOST_MEMORY))
     counts = collections.Counter()
     right = play(words, counts)
-    show(counts, words.program)
+    show(counts, PROGRAM)
     sys.exit(0 if right else 1)
 
 

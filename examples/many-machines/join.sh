@@ -1,13 +1,13 @@
 #!/bin/sh
-# Joins what the parts of `check` or `annotate` say: lines of standard input, each of a part as in 2/8, a tab, and what it said. Where all N have said
-# `verified M` (or all `annotated M`), the last line is `verified` (or `annotated`) with the sum, and the status 0; where some refuse it is the least
-# refusal, and 1. What else a part says (of a file that is no formula, of a fault) is said as it is, with its status. Where a part says nothing, two
+# Joins what the parts of `check`, `annotate` or `disprove` say: lines of standard input, each of a part as in 2/8, a tab, and what it said. Where all N
+# have said `verified M` (or all `annotated M`), the last line is `verified` (or `annotated`) with the sum, and the status 0; for parts of `disprove`
+# it is `false` with the sum, and 20. Where some refuse it is the least refusal, and 1. What else a part says (of a file that is no formula, of a fault) is said as it is, with its status. Where a part says nothing, two
 # things, or is one of another number of parts, it is `unknown`, and 12. The same line twice is one. Numbers are compared and added by the shell.
-# Usage: join.sh N <LINES
+# Usage: join.sh N [disprove] <LINES
 set -u
-usage() { echo "usage: $0 N <LINES" >&2 && exit 64; }
-[ $# -eq 1 ] || usage
-parts=$1
+usage() { echo "usage: $0 N [disprove] <LINES" >&2 && exit 64; }
+case $#:${2-} in 1: | 2:disprove) ;; *) usage ;; esac
+parts=$1 command=${2-}
 case $parts in '' | *[!0-9]* | 0* | ????????????*) usage ;; esac
 tab=$(printf '\t')
 
@@ -105,4 +105,8 @@ if [ -n "${silent-}" ]; then
     exit 12
 fi
 [ "$count" -eq "$parts" ] || exit 12
+if [ "$command/$verb" = disprove/verified ]; then
+    echo "false $sum"
+    exit 20
+fi
 echo "$verb $sum"

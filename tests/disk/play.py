@@ -1,5 +1,5 @@
 #!/usr/bin/env python3
-"""Plays the rows of crates/q_rows with the program over a real folder, beside what they say of files in memory.
+"""Plays the rows of crates/q_tests with the program over a real folder, beside what they say of files in memory.
 
     tests/disk/play.py PROGRAM TABLE ..
 

@@ -11,9 +11,10 @@ use Rattle.q_run_validate.proofs.ValidateStatus as validate
 use Rattle.q_run_extract.proofs.ExtractStatus as extract
 use Rattle.q_run_miter.proofs.MiterStatus as miter
 use Rattle.q_run_disprove.proofs.DisproveStatus as disprove
+use Rattle.q_run_disprove.proofs.SharedStatus as disproved_part
 use Rattle.q_app.specs.Completeness.{EachCompletes}
 use Rattle.q_app.specs.Told.{told}
-use Rattle.q_app.specs.Words.{Command, checking, sharing, simplifying, rebuilding, generating, solving, annotating, annotating_part, refuting, validating, mitering, extracting, disproving}
+use Rattle.q_app.specs.Words.{Command, checking, sharing, simplifying, rebuilding, generating, solving, annotating, annotating_part, refuting, validating, mitering, extracting, disproving, disproving_part}
 use Rattle.q_app.proofs.GenStatus as generate
 use Rattle.q_app.proofs.RebuildStatus as rebuild
 use Rattle.q_app.proofs.SimplifyStatus as simplify
@@ -32,6 +33,7 @@ laws (validating n b) = validate.laws n b
 laws (mitering n s) = miter.laws n s
 laws (extracting n) = extract.laws n
 laws (disproving n b) = disprove.laws n b
+laws (disproving_part n b p) = disproved_part.laws n b p
 
 pub completes : EachCompletes
 completes c before given after r = law.completes (told c) (laws c) before given after r

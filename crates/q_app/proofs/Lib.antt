@@ -1,5 +1,6 @@
 pub mod OptionWords
 pub mod PartOptions
+pub mod DisproveFlags
 pub mod CommandWords
 pub mod SimplifyStatus
 pub mod VerifiedFiles

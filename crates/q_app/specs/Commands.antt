@@ -4,10 +4,11 @@ use Rattle.std.specs.Str.{bytes_eq}
 use Rattle.q_logic.specs.declared.rule_bounds.Bounds.{Bounds}
 use Rattle.q_command.specs.Names.{three, three_of}
 use Rattle.q_app.specs.Rebuilds.{FiveNames, five}
-use Rattle.q_app.specs.Words.{Command, checking, sharing, simplifying, rebuilding, generating, solving, annotating, annotating_part, refuting, validating, mitering, extracting, Request, simplify_of, rebuild_of, generate_of, validate_of, refute_of, solve_of, miter_of, extract_of, demo, demo_of, nothing_set, options_of, disproving, disprove_of}
+use Rattle.q_app.specs.Words.{Command, checking, sharing, simplifying, rebuilding, generating, solving, annotating, annotating_part, refuting, validating, mitering, extracting, Request, simplify_of, rebuild_of, generate_of, validate_of, refute_of, solve_of, miter_of, extract_of, demo, demo_of, nothing_set, options_of, disproving, disproving_part}
 use Rattle.q_app.specs.Operands.{Differ, DifferFour, fourth, just_three, three_names, two_names}
 use Rattle.q_app.specs.RebuildWords.{rebuild_names}
 use Rattle.q_app.specs.PartWords.{annotate_of, check_of}
+use Rattle.q_app.specs.DisproveWords.{disprove_of}
 use Rattle.q_run_validate.specs.Validates.{files_of as validate_files_of}
 use Rattle.q_run_refute.specs.Refutes.{files_of as refute_files_of}
 use Rattle.q_run_annotate.specs.Annotates.{files_of as annotate_files_of}
@@ -17,7 +18,7 @@ use Rattle.q_run_extract.specs.Extracts.{files_of as extract_files_of}
 use Rattle.q_run_disprove.specs.Disproofs.{files_of as disprove_files_of}
 use Rattle.q_app.specs.declared.rebuild_words.RebuildNames.{RebuildNames}
 use Rattle.q_app.specs.declared.words.Command.{Command as Parsed}
-use Rattle.q_app.specs.declared.words.Command.TheVariants.{Check, Share, Simplify, Rebuild, Generate, Solve, Annotate, AnnotateShare, Refute, Validate, Miter, Extract, Demo, Disprove}
+use Rattle.q_app.specs.declared.words.Command.TheVariants.{Check, Share, Simplify, Rebuild, Generate, Solve, Annotate, AnnotateShare, Refute, Validate, Miter, Extract, Demo, Disprove, DisproveShare}
 
 -- by the verb and its operands; all else is no command
 abbrev pub by_verb : List ℕ → List (List ℕ) → Request
@@ -57,6 +58,7 @@ commands_of (Solve n b) = solving (solve_files_of n) b ∷ []
 commands_of (Extract n) = extracting (extract_files_of n) ∷ []
 commands_of (Miter n s) = mitering (miter_files_of n) s ∷ []
 commands_of (Disprove n b) = disproving (disprove_files_of n) b ∷ []
+commands_of (DisproveShare n b p) = disproving_part (disprove_files_of n) b p ∷ []
 commands_of (Demo k n) = demo k (three_of n)
 
 -- such a command can be done: its numbers are within their limits, and its names differ

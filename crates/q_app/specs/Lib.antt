@@ -3,6 +3,7 @@ pub mod Lines
 pub mod Operands
 pub mod Words
 pub mod PartWords
+pub mod DisproveWords
 pub mod Refusals
 pub mod Simplifying
 pub mod RebuiltLines

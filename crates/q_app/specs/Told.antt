@@ -12,8 +12,9 @@ use Rattle.q_run_refute.specs.Refutes as refute
 use Rattle.q_run_validate.specs.Validates as validate
 use Rattle.q_run_extract.specs.Extracts as extract
 use Rattle.q_run_miter.specs.Mitering as miter
-use Rattle.q_app.specs.Words.{Command, checking, sharing, simplifying, rebuilding, generating, solving, annotating, annotating_part, refuting, validating, mitering, extracting, disproving}
+use Rattle.q_app.specs.Words.{Command, checking, sharing, simplifying, rebuilding, generating, solving, annotating, annotating_part, refuting, validating, mitering, extracting, disproving, disproving_part}
 use Rattle.q_run_disprove.specs.Disproofs as disprove
+use Rattle.q_run_disprove.specs.SharedDisproofs as disproved_part
 
 abbrev pub told : Command → Told
 told (checking n) = check.told n
@@ -29,3 +30,4 @@ told (validating n b) = validate.told n b
 told (mitering n s) = miter.told n s
 told (extracting n) = extract.told n
 told (disproving n b) = disprove.told n b
+told (disproving_part n b p) = disproved_part.told_part n b p

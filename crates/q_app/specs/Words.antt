@@ -37,6 +37,7 @@ pub data Command : Type 0 where
   mitering : MiterFiles → Side → Command
   extracting : ExtractFiles → Command
   disproving : DisproveFiles → Bool → Command
+  disproving_part : DisproveFiles → Bool → Part → Command
 
 -- what the words ask for: commands that are done one after the other; none where they are not understood
 abbrev pub Request : Type 0
@@ -205,12 +206,3 @@ abbrev pub miter_of : Option (ThreeNames × List (List ℕ)) → Request
 miter_of None = None
 miter_of (Some (n, words)) =
     miter_with (record { input = n.input; cert = n.output; output = n.log }) (flag_in (codes "--herbrand") words)
-
--- `disprove IN PROOF`, where `--binary` may follow
-abbrev pub disprove_with : DisproveFiles → Option Bool → Request
-disprove_with n None = None
-disprove_with n (Some b) = alone (disproving n b)
-
-abbrev pub disprove_of : Option (List ℕ × List ℕ × List (List ℕ)) → Request
-disprove_of None = None
-disprove_of (Some (i, p, words)) = disprove_with (record { input = i; proof = p }) (flag_in (codes "--binary") words)

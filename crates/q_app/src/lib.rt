@@ -1,6 +1,7 @@
 //! The top call: all that the program does, over files and a sink.
 #![tactic(auto)]
 
+mod disprove_words;
 mod gen_file;
 mod generated;
 mod laws;

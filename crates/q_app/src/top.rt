@@ -21,7 +21,7 @@ use q_gen::generated_is_read;
 use q_io::{Files, Sink};
 use q_log::texts_are_read;
 use q_run_annotate::{run as run_annotate, run_part as run_annotate_part};
-use q_run_disprove::run as run_disprove;
+use q_run_disprove::{run as run_disprove, run_part as run_disprove_part};
 use q_run_extract::run as run_extract;
 use q_run_miter::run as run_miter;
 use q_run_refute::run as run_refute;
@@ -177,14 +177,19 @@ fn run_command<F: Files, S: Sink>(
         Command::Extract { names } => run_extract(alloc, files, out, names),
         Command::Miter { names, side } => run_miter(alloc, files, out, names, side),
         Command::Disprove { names, binary } => run_disprove(alloc, files, out, names, binary),
+        Command::DisproveShare {
+            names,
+            binary,
+            part,
+        } => run_disprove_part(alloc, files, out, names, binary, part),
         Command::Demo { scale, names } => {
             run_demo(alloc, files, out, Demonstration { scale, names }, guides)
         }
     }
 }
 
-/// Does all that the program does: `simplify`, `check`, `rebuild`, `gen` or `demo`, as the words ask, over these files, with
-/// one line for each command put into the sink. Main hands in the disk, standard output and the words after the
+/// Does what the words ask, one command after the other, over these files, with one line for each command put into the
+/// sink. Main hands in the disk, standard output and the words after the
 /// program's name. The guides serve `simplify`: they are asked which target is tried next, and what is proved holds for
 /// every list of them.
 pub fn run<F: Files, S: Sink>(

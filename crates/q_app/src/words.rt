@@ -2,10 +2,13 @@
 ghost use Rattle.std.specs.Prelude.{◌≡◌, ◌≢◌, ◌≤◌, option_map, IfSome, Some};
 ghost use Rattle.q_app.specs.RebuildWords.{rebuild_names};
 ghost use Rattle.q_app.specs.PartWords.{annotate_of, check_of};
-ghost use Rattle.q_app.specs.Words.{demo_by, demo_of, extract_of, generate_of, miter_of, refute_of, scale_of as spec_scale_of, side_of as spec_side_of, simplify_of, solve_of, validate_of, disprove_of};
+ghost use Rattle.q_app.specs.DisproveWords.{disprove_of, disprove_shared};
+ghost use Rattle.q_app.specs.Words.{demo_by, demo_of, extract_of, generate_of, miter_of, refute_of, scale_of as spec_scale_of, side_of as spec_side_of, simplify_of, solve_of, validate_of};
+ghost use Rattle.q_run_disprove.specs.Disproofs.{files_of as disprove_files_of};
 ghost use Rattle.q_app.specs.Operands.{fourth, just_three, three_names as spec_three_names, two_names as spec_two_names, texts};
 ghost use Rattle.q_app.specs.Commands.{IsFit, bounds_in, by_verb as spec_by_verb, commands_of, request};
 
+use crate::disprove_words::options_of;
 use crate::operands::{budget_of, flag_of, four_names, only_names, three_names, two_names};
 use crate::part_words::part_of;
 use crate::rebuild_words::{RebuildNames, parse_rebuild};
@@ -77,6 +80,11 @@ pub(crate) enum Command<'a> {
     Disprove {
         names: DisproveNames<'a>,
         binary: bool,
+    },
+    DisproveShare {
+        names: DisproveNames<'a>,
+        binary: bool,
+        part: Part,
     },
     Demo {
         scale: Scale,
@@ -314,9 +322,24 @@ fn parse_disprove(operands: &[String]) -> Option<Command>
         input: pair.first,
         proof: pair.second,
     };
-    match flag_of(pair.rest, "--binary") {
-        Some(binary) => Some(Command::Disprove { names, binary }),
+    match options_of(pair.rest) {
+        Some(options) => Some(disprove_by(names, options.binary, options.part)),
         None => None,
+    }
+}
+
+fn disprove_by(names: DisproveNames, binary: bool, part: Option<Part>) -> Command
+    ensures request { Some (commands_of result)
+        ≡ disprove_shared (disprove_files_of names.entry) binary part }
+    ensures fit { IsFit result }
+{
+    match part {
+        Some(part) => Command::DisproveShare {
+            names,
+            binary,
+            part,
+        },
+        None => Command::Disprove { names, binary },
     }
 }
 

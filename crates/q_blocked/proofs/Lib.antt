@@ -10,6 +10,7 @@ pub mod CoverStages
 pub mod FilteredLiterals
 pub mod HiddenLiterals
 pub mod CoveredLiterals
+pub mod PartedCouples
 pub mod ReachedSets
 pub mod SetGrowth
 pub mod AskedPlaces

@@ -57,3 +57,11 @@ IsLooked P X l S K true = IsOpen P X l S × ((k : Literal) → IsIn k K ↔ (InE
 -- the clause of the id d, if it is not c, clashes with S on l
 pub record ClashesAt (P : Prefix) (N : Slots) (c : ℕ) (l : Literal) (S : Clause) (d : ℕ) : Type 0 where
   pub each : (D : Clause) → IsBeside N c d D → Clashes P l S D
+
+-- m is in D, and no other literal is but a
+abbrev pub IsCouple : Literal → Literal → Clause → Type 0
+IsCouple m a D = IsIn m D × ((k : Literal) → IsIn k D → (k ≡ m) ⊎ (k ≡ a))
+
+-- so the clause of the id d, which is not c
+abbrev pub IsCoupleAt : Slots → ℕ → ℕ → Literal → Literal → Type 0
+IsCoupleAt N c d m a = (D : Clause) × IsBeside N c d D × IsCouple m a D

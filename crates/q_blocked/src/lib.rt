@@ -4,6 +4,7 @@
 mod asking;
 mod blocked;
 mod clashing;
+mod couples;
 mod cover;
 mod covered;
 mod covering;

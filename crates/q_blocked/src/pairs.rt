@@ -5,10 +5,10 @@ ghost use Rattle.q_kernel.specs.Prelude.{slots};
 ghost use Rattle.q_blocked.specs.Walks.{IsOpenAt, CoversNothing};
 
 use crate::clashing::{clashes, is_fresh};
+use crate::couples::couples_cover_nothing;
 use q_kernel::{ClauseId, Kernel};
 use q_logic::{Lit, NoMemory, holds};
-use q_ordered::{is_at, skip_to};
-use q_rule::{Queue, clause_of};
+use q_rule::{Queue, clause_of, is_at, skip_to};
 use std::alloc::Global;
 
 /// Two clauses.
@@ -134,6 +134,9 @@ pub fn covers_nothing(kernel: &Kernel, set: &Queue, pairs: &Pairs, c: ClauseId, 
         set.now }
 {
     let pair = pairs.of(l);
+    if couples_cover_nothing(kernel, set, c, pair, l) {
+        return true;
+    }
     if !is_open(kernel, set, c, pair.first, l) {
         return false;
     }

@@ -12,7 +12,7 @@ use crate::passing::make;
 use crate::rows::{Settings, StepRows};
 use crate::tries;
 use q_judge::{CheckError, Ledger, Undo, Undos, first_lit, load_clause, load_rest};
-use q_logic::{Formula, Kind, Limits, Step};
+use q_logic::{Formula, Kind, Limits, NoMemory, Step};
 use std::alloc::Global;
 use std::marker::Model;
 
@@ -27,7 +27,7 @@ pub struct Checker {
 
 impl Model for Checker {
     ghost use Rattle.std.specs.Prelude.{map};
-    ghost use Rattle.q_logic.specs.Prelude.{AreModerate};
+    ghost use Rattle.q_logic.specs.Prelude.{AreModerate, IsProper};
     ghost use Rattle.q_check.specs.Checked.{Checked};
     ghost use Rattle.q_judge.specs.Entries.{entry_of};
     ghost use Rattle.q_judge.specs.Ledgers.{formula_in};
@@ -41,7 +41,7 @@ impl Model for Checker {
       keeps = c.settings.keeps;
     } };
 
-    ghost invariant = { λ c. AreModerate c.settings.limits };
+    ghost invariant = { λ c. AreModerate c.settings.limits × IsProper (formula_in c.ledger) };
 }
 
 /// What an accepted proof leaves.
@@ -62,6 +62,7 @@ impl Checker {
             × (c.limits ≡ limits) × (c.keeps ≡ keep_undo)) }
         ensures only_memory { IfErr result (λ e. e ≡ MemoryError) }
     {
+        let _ = formula.prefix();
         let ledger = Ledger::start(alloc, formula)?;
         Ok(Checker {
             ledger,
@@ -85,6 +86,7 @@ impl Checker {
         ensures unchanged { OnErr result (self.new ≡ self.old) }
     {
         self.undo.reserve(1)?;
+        let _ = step.lits();
         let entry = try_step(&mut self.ledger, &mut self.rows, self.settings, step)?;
         if let Some(entry) = entry {
             self.undo.push_reserved(entry);
@@ -102,7 +104,18 @@ impl Checker {
         ensures refused { IfErr result (IsUnfitFor self.old.limits self.old.formula step.now) }
         ensures unchanged { OnErr result (self.new ≡ self.old) }
     {
-        make(&mut self.ledger, &mut self.rows, self.settings.limits, step)
+        let _ = step.lits();
+        make(&mut self.ledger, &mut self.rows, self.settings.limits, step)?;
+        Ok(())
+    }
+
+    /// The formula now: the prefix as it stands, and the clauses in some order.
+    pub fn formula(&self, alloc: Global) -> Result<Formula, NoMemory>
+        ensures { IfOk result (λ f. f ≡ self.now.formula) }
+    {
+        let prefix = self.ledger.scope().bounds(alloc)?;
+        let (lits, ends) = self.ledger.clauses()?.into_parts();
+        Ok(Formula::from_parts(prefix, lits, ends))
     }
 
     /// Whether the empty clause is there, so that the formula is false.

@@ -1,6 +1,6 @@
 -- How gains are counted, clause by clause.
-use Rattle.std.proofs.Common.{◌≡◌, ◌<◌, ◌≤◌, ◌+◌, ◌++◌, ℕ, Bool, true, false, cond, List, [], ◌∷◌, length, drop, get_or, None, Some, arith, refl, ap, ◌∙◌, subst, length-append}
-use Rattle.q_logic.specs.Prelude.{Literal, IsBelow, negation, ArePairs, Slots, slot, live, clauses_at, Clause, Matrix, without, size_of, literals_in, has, union, missing, is_tautology, put_unless_tautology, resolvent, resolve_one}
+use Rattle.std.proofs.Common.{◌≡◌, ◌<◌, ◌≤◌, ◌+◌, ◌++◌, ℕ, Bool, true, false, cond, List, [], ◌∷◌, length, drop, get_or, None, Some, arith, refl, sym, ap, ◌∙◌, subst, length-append}
+use Rattle.q_logic.specs.Prelude.{Literal, IsBelow, negation, ArePairs, Slots, slot, live, clauses_at, Clause, Matrix, without, size_of, literals_in, has, union, missing, is_tautology, put_unless_tautology, resolvent, resolve_one, resolve_all}
 use Rattle.q_logic.proofs.Common.{pairs-ordered, without-ordered, without-shorter, without-IsIn}
 use Rattle.q_kernel.proofs.SlotLists.{size-parts, size-gone}
 use Rattle.q_eliminate.specs.declared.counting.Gain.{Gain}
@@ -60,6 +60,10 @@ gain-none from bound V h = record {
   within = λ g e. absurd (let z : None ≡ Some g = e in cc);
   passed = λ e. h;
 }
+
+-- the resolvents of a clause come first
+pub resolved-first : (l n : Literal) (M C : Clause) (X Y Z : Matrix) → M ≡ without l C → n ≡ negation l → X ≡ C ∷ Z → resolve_all l X Y ≡ joined M n Y ++ resolve_all l Z Y
+resolved-first l n M C X Y Z e f g = ap (λ (W : Matrix). resolve_all l W Y) g ∙ ap (λ (W : Matrix). W ++ resolve_all l Z Y) (sym (joined-resolve l C Y) ∙ (ap (λ (A : Clause). joined A (negation l) Y) (sym e) ∙ ap (λ (k : Literal). joined M k Y) (sym f)))
 
 -- Some of what is to come at once.
 pub gaining-part : (from gain more : Gain) (bound : ℕ) (V P W : Matrix) → IsGain gain P bound (Some more) → IsGaining from gain bound V (P ++ W) → IsGaining from more bound V W

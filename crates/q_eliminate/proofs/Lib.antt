@@ -2,6 +2,7 @@ pub mod LiteralIds
 pub mod IdWalks
 pub mod ClauseUnions
 pub mod GainCounts
+pub mod EarlySums
 pub mod ResolventOrder
 pub mod VariableClauses
 pub mod EliminateConditions

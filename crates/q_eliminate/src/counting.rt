@@ -52,8 +52,8 @@ pub fn gain_of(
     Ok(Some(gain))
 }
 
-// Marks the literals of a clause but one.
-fn mark(marks: &mut Queue, clause: &[Lit], out: Lit) -> Result<(), NoMemory>
+/// Marks the literals of a clause but one.
+pub fn mark(marks: &mut Queue, clause: &[Lit], out: Lit) -> Result<(), NoMemory>
     ensures { OnOk result (marks.new ≡ without out clause.now) }
 {
     marks.clear();
@@ -98,8 +98,8 @@ fn gain_with(
     Some(gain)
 }
 
-// The length of the marked literals with those of a clause but one; none where a literal and its negation meet.
-fn length_with(marks: &Queue, clause: &[Lit], out: Lit) -> Option<usize>
+/// The length of the marked literals with those of a clause but one; none where a literal and its negation meet.
+pub fn length_with(marks: &Queue, clause: &[Lit], out: Lit) -> Option<usize>
     requires { length marks.now + length clause.now < 2 ^ 64 }
     ensures { result ≡ joined_length marks.now (without out clause.now) }
 {

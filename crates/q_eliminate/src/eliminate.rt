@@ -15,7 +15,8 @@
 //!
 //! Search: variables in ascending order. The ids of both sides are gathered from their lists. The outer side is looked for
 //! on the shorter one first. Resolvents are measured one after the other, by marks of one parent, and given up as soon as
-//! they pass the bound; none is made before all are known to fit. Nothing is kept from one variable to the next.
+//! they pass the bound; none is made before all are known to fit. Where long clauses with short ones pass it alone (`early.rt`), nothing
+//! else is read. Nothing is kept from one variable to the next.
 //!
 //! Cost: what the clauses of x are, and for each pair of them the length of the one that is not marked. A target that
 //! applies is measured once and made once.

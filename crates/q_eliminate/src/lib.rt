@@ -4,6 +4,7 @@
 mod adding;
 mod conditions;
 mod counting;
+mod early;
 mod eliminate;
 mod find;
 mod plan;

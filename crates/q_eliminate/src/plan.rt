@@ -9,6 +9,7 @@ ghost use Rattle.q_eliminate.specs.Plans.{MayGo, IsPlanOf};
 
 use crate::conditions::split_sign;
 use crate::counting::{Gain, gain_of};
+use crate::early::pass_early;
 use crate::search::Search;
 use crate::sides::weight;
 use q_kernel::{ClauseId, Kernel};
@@ -76,13 +77,16 @@ fn plan_on(
     ensures none { IfOk result (λ o.
         o ≡ None → MayGo bounds.now.grow kernel.now.prefix (live (slots kernel.now)) lit → ⊥) }
 {
-    let Some(outer) = split_sign(kernel, lit, ids, others) else {
-        return Ok(None);
-    };
     kernel.sound();
     let count = ids.len() + others.len();
     let size = weight(kernel, ids) + weight(kernel, others);
     let bound = size + bounds.grow as usize;
+    if pass_early(kernel, marks, lit, ids, others, bound)? {
+        return Ok(None);
+    }
+    let Some(outer) = split_sign(kernel, lit, ids, others) else {
+        return Ok(None);
+    };
     let Some(gain) = gain_of(kernel, marks, lit, ids, others, bound)? else {
         return Ok(None);
     };

@@ -6,8 +6,8 @@ use Rattle.q_logic.specs.Exchanging.{exchanged}
 use Rattle.q_logic.specs.Herbrands.{MatrixFalse}
 use Rattle.q_logic.proofs.Common.{MatrixTrue-agree, clause_of-ordered}
 use Rattle.q_logic.proofs.Exchanged.{exchanged-lawful, exchanged-distinct}
-use Rattle.q_carry.specs.Made.{universals}
-use Rattle.q_carry.specs.Narrowed.{IsNarrowed}
+use Rattle.q_certificate.specs.Made.{universals}
+use Rattle.q_certificate.specs.Narrowed.{IsNarrowed}
 use Rattle.q_miter.specs.Miters.{AreCircuits, VarsUpTo, greatest_name, top_of, in_order, IsCnf, lean_miter, herbrand_miter, gate_definitions, selectors, selections, needed, translated_matrix}
 use Rattle.q_miter.proofs.Lean.{lean-decided, lean-smaller}
 use Rattle.q_miter.proofs.Miters.{herbrand-decided, skolem-length, herbrand-length}

@@ -3,7 +3,7 @@ use Rattle.std.specs.Prelude.{◌≡◌, ◌≤◌, length}
 use Rattle.std.specs.List.{AllByRecursion}
 use Rattle.q_logic.specs.declared.limits.Limits.{Limits}
 use Rattle.q_logic.specs.Prelude.{IsBelow, ArePairs, Matrix, PrenexFormula, CertificateView, literals_in}
-use Rattle.q_carry.specs.Narrowed.{IsNarrowed}
+use Rattle.q_certificate.specs.Narrowed.{IsNarrowed}
 use Rattle.q_miter.specs.Miters.{AreCircuits, VarsUpTo}
 use Rattle.q_encode.specs.declared.side.Side.{Side}
 use Rattle.q_encode.specs.Sides.{turned, miter_of}

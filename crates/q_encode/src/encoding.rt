@@ -14,7 +14,7 @@ use crate::skolem::skolem_clauses;
 use crate::sums::{greatest, is_small};
 use crate::turning::turn;
 use q_aig::Certificate;
-use q_carry::narrow;
+use q_certificate::narrow;
 use q_logic::{Clauses, Formula, NoMemory};
 use std::alloc::Global;
 

@@ -2,33 +2,36 @@
 use Rattle.std.proofs.Common.{◌≡◌, ℕ, zero, suc, ◌+◌, ◌<◌, ◌≤◌, Bool, true, false, cond, ◌||◌, eqb, List, [], ◌∷◌, ◌++◌, inl, inr, length, map, take, drop, get_or, slice_get, arith, refl, sym, ap, ap₂, ◌∙◌, subst, Option, Some, None}
 use Rattle.std.proofs.lemmas.List.{take_all}
 use Rattle.q_logic.specs.declared.formulas.Bound.{Bound}
-use Rattle.q_logic.specs.Prelude.{Literal, IsIn, literals_in, Circuit, conjunction, inverter, or_input, given, literal_circuit, Prefix, is_exists, is_existential, is_universal, is_bound, Distinct, Strategy, with_circuit, CertificateView, NamedOutput}
+use Rattle.q_logic.specs.Prelude.{IsIn, Circuit, conjunction, circuit_of, or_input, given, Prefix, is_exists, is_existential, is_universal, is_bound, Distinct, Strategy, with_circuit, CertificateView, NamedOutput}
 use Rattle.q_logic.specs.Prefixes.{place}
 use Rattle.q_logic.proofs.PrefixOrder.{existential-is_bound, is_bound-universal, universal-not_existential}
 use Rattle.q_aig.specs.Prelude.{Net, IsLiteral, tree_at, Serves}
-use Rattle.q_carry.specs.Prelude.{look_at, AreLiterals, IsAt, Stands, IsGrown, IsCovered, IsOpened, IsNamed}
-use Rattle.q_carry.proofs.LiteralRows.{literals-kept, at-kept, stands-put, literals-put}
-use Rattle.q_carry.proofs.CircuitParts.{grown-none, grown-then}
-use Rattle.q_carry.proofs.NamedCertificates.{existentials-named, made-serves, made-lawful}
-use Rattle.q_derive.specs.Extracted.{Drop, every_circuit, decided, with_next, with_all, circuits_by, AreBehind}
-use Rattle.q_derive.proofs.Layers.{place-bound, all-given}
-use Rattle.q_derive.proofs.Winning.{lawful-by}
+use Rattle.q_certificate.specs.Prelude.{look_at, AreLiterals, IsAt, Stands, InputsAt, IsGrown, IsOpened, IsNamed, universals}
+use Rattle.q_certificate.proofs.LiteralRows.{inputs-kept, literals-kept, at-kept, stands-put, literals-put}
+use Rattle.q_certificate.proofs.CircuitParts.{grown-none, grown-then}
+use Rattle.q_certificate.proofs.NamedCertificates.{existentials-named, made-serves, made-lawful}
+use Rattle.q_derive.proofs.Layers.{place-bound}
+use Rattle.q_long.specs.Valued.{Value}
+use Rattle.q_long.specs.Decided.{Drop, alike, every_circuit, decided, with_next, with_all, circuits_by, AreBehind}
+use Rattle.q_long.proofs.Layers.{all-given}
+use Rattle.q_long.proofs.Winning.{lawful-by}
+use Rattle.q_extract.specs.Merges.{no_circuits}
 use Rattle.q_extract.specs.Rows.{kept_in}
-use Rattle.q_extract.specs.Built.{IsNoneHeld, AreHeld, HeldServe, unmade, IsShared, cost_of, cost, whole, beside, AllCovered, IsDecided, IsNext, IsExtracted}
+use Rattle.q_extract.specs.Built.{IsNoneHeld, AreHeld, HeldServe, unmade, IsShared, IsGiven, whole_weight, cost_of, cost, whole, beside, AllCovered, IsDecided, IsNext, IsExtracted}
 use Rattle.q_extract.proofs.Walked.{unmade-none}
 
 -- one variable
-pub next-forall : (a : Net) (ins tb : List (Option ℕ)) (guards : List (List Literal)) (held : List (Option ℕ)) (b : Bound) (ds : List Drop) → is_exists b.quant ≡ false →
+pub next-forall : (a : Net) (ins tb : List (Option ℕ)) (guards : List (List Value)) (held : List (Option ℕ)) (b : Bound) (ds : List Drop) → is_exists b.quant ≡ false →
     AreLiterals a tb → AreHeld a guards held → IsNext a a ins tb tb guards held held b ds
 next-forall a ins tb guards held b ds e lt h = record {
   grown = subst (λ t. IsGrown a a (cond t (cost_of whole b.var ds) 0)) (sym e) (grown-none a);
   shared = subst (λ t. IsShared a a guards held held (cond t (cost_of beside b.var ds) 0)) (sym e) (omega arith);
   literals = lt;
   sound = h;
-  at = λ U c at u v. (u, subst (λ t. IsAt a ins tb U (cond t (with_circuit b.var (Some (decided c b.var ds)) c) c)) (sym e) at);
+  at = λ U c at u v. (u, subst (λ t. IsAt a ins tb U (cond t (with_circuit b.var (Some (decided ds c b.var)) c) c)) (sym e) at);
 }
 
-pub next-exists : (old new : Net) (ins tb tb2 : List (Option ℕ)) (guards : List (List Literal)) (held held2 : List (Option ℕ)) (b : Bound) (ds : List Drop) (r : ℕ) → is_exists b.quant ≡ true →
+pub next-exists : (old new : Net) (ins tb tb2 : List (Option ℕ)) (guards : List (List Value)) (held held2 : List (Option ℕ)) (b : Bound) (ds : List Drop) (r : ℕ) → is_exists b.quant ≡ true →
     AreLiterals old ins → AreLiterals old tb → IsDecided old new ins tb guards held held2 b.var ds r →
     ((x : ℕ) → look_at tb2 x ≡ cond (eqb x b.var) (Some r) (look_at tb x)) → IsNext old new ins tb tb2 guards held held2 b ds
 next-exists old new ins tb tb2 guards held held2 b ds r e li lt d put = record {
@@ -39,10 +42,10 @@ next-exists old new ins tb tb2 guards held held2 b ds r e li lt d put = record {
   sound = d.sound;
   at = λ U c h u v. let y = d.serves U c h u (v e) in (
     y.0,
-    subst (λ t. IsAt new ins tb2 U (cond t (with_circuit b.var (Some (decided c b.var ds)) c) c)) (sym e)
-        (stands-put new ins tb tb2 U c (with_circuit b.var (Some (decided c b.var ds)) c) b.var (Some r) put
-        (λ x q. ap (λ (t : Bool). cond t (Some (decided c b.var ds)) (c x)) q)
-        (λ x q. subst (λ (t : Bool). Stands new (cond t (Some (decided c b.var ds)) (c x)) (Some r)) (sym q) y.1)
+    subst (λ t. IsAt new ins tb2 U (cond t (with_circuit b.var (Some (decided ds c b.var)) c) c)) (sym e)
+        (stands-put new ins tb tb2 U c (with_circuit b.var (Some (decided ds c b.var)) c) b.var (Some r) put
+        (λ x q. ap (λ (t : Bool). cond t (Some (decided ds c b.var)) (c x)) q)
+        (λ x q. subst (λ (t : Bool). Stands new (cond t (Some (decided ds c b.var)) (c x)) (Some r)) (sym q) y.1)
         (at-kept old new ins tb U c d.grown.kept li lt h)),
   );
 }
@@ -58,9 +61,9 @@ cost-last w [] b ds = omega arith
 cost-last w (a ∷ Q) b ds = let i = cost-last w Q b ds in omega arith
 
 all-last : (Q : Prefix) (b : Bound) (ds : List Drop) (c : Strategy) →
-    with_all ds (Q ++ b ∷ []) c ≡ with_next ds (with_all ds Q c) b
+    with_all (decided ds) (Q ++ b ∷ []) c ≡ with_next (decided ds) (with_all (decided ds) Q c) b
 all-last [] b ds c = refl
-all-last (a ∷ Q) b ds c = all-last Q b ds (with_next ds c a)
+all-last (a ∷ Q) b ds c = all-last Q b ds (with_next (decided ds) c a)
 
 distinct-front : (Q R : Prefix) → Distinct (Q ++ R) → Distinct Q
 distinct-front [] R d = tt
@@ -100,21 +103,27 @@ split-at (a ∷ P) zero b h e = ap (λ (x : Bound). x ∷ P) (sym e) ∙ ap (λ 
     whole (x ∷ xs) = refl
 split-at (a ∷ P) (suc i) b h e = ap (λ (xs : Prefix). a ∷ xs) (split-at P i b (omega arith) e)
 
-pub record IsBuilt (P : Prefix) (guards : List (List Literal)) (ds : List Drop) (n : ℕ) (base now : Net) (ins tb : List (Option ℕ)) (none held : List (Option ℕ)) : Type 0 where
+-- the graph before the first variable: inputs, and the circuits of n merges
+pub record IsBase (a : Net) (ins : List (Option ℕ)) (P : Prefix) (n : ℕ) : Type 0 where
+  pub inputs : a.inputs ≡ universals P
+  pub gates : length a.gates ≤ n + n + n
+  pub at : InputsAt a ins (is_universal P)
+
+pub record IsBuilt (P : Prefix) (guards : List (List Value)) (ds : List Drop) (n : ℕ) (base now : Net) (ins tb : List (Option ℕ)) (none held : List (Option ℕ)) : Type 0 where
   pub grown : IsGrown base now (cost_upto whole (take n P) ds)
   pub shared : IsShared base now guards none held (cost_upto beside (take n P) ds)
   pub literals : AreLiterals now tb
   pub sound : AreHeld now guards held
-  pub serve : HeldServe now guards held (is_universal P) (with_all ds (take n P) (λ x. None))
-  pub at : IsAt now ins tb (is_universal P) (with_all ds (take n P) (λ x. None))
+  pub serve : HeldServe now guards held (is_universal P) (with_all (decided ds) (take n P) (λ x. None))
+  pub at : IsAt now ins tb (is_universal P) (with_all (decided ds) (take n P) (λ x. None))
 
 look-nothing : (x : ℕ) → look_at [] x ≡ None
 look-nothing zero = refl
 look-nothing (suc x) = refl
 
-start : (P : Prefix) (guards : List (List Literal)) (ds : List Drop) (base : Net) (ins held : List (Option ℕ)) → IsOpened base ins P →
+start : (P : Prefix) (guards : List (List Value)) (ds : List Drop) (base : Net) (ins held : List (Option ℕ)) (n : ℕ) → IsBase base ins P n →
     IsNoneHeld (length guards) held → IsBuilt P guards ds 0 base base ins [] held held
-start P guards ds base ins held o h = record {
+start P guards ds base ins held n o h = record {
   grown = subst (λ (Q : Prefix). IsGrown base base (cost_upto whole Q ds)) (sym (none P)) (grown-none base);
   shared = omega arith;
   literals = λ x l e. absurd (let z = look-nothing x in cc);
@@ -125,8 +134,8 @@ start P guards ds base ins held o h = record {
   serve = λ x l e. absurd (let z = h.none x in cc);
   at = record {
     inputs = o.at;
-    circuits = λ x. subst (λ m. Stands base (with_all ds (take 0 P) (λ y. None) x) m) (sym (look-nothing x))
-        (subst (λ (Q : Prefix). Stands base (with_all ds Q (λ y. None) x) None) (sym (none P)) tt);
+    circuits = λ x. subst (λ m. Stands base (with_all (decided ds) (take 0 P) (λ y. None) x) m) (sym (look-nothing x))
+        (subst (λ (Q : Prefix). Stands base (with_all (decided ds) Q (λ y. None) x) None) (sym (none P)) tt);
   };
 }
   where
@@ -134,66 +143,67 @@ start P guards ds base ins held o h = record {
     none [] = refl
     none (b ∷ Q) = refl
 
-pub built-start : (P : Prefix) (guards : List (List Literal)) (ds : List Drop) (base : Net) (ins tb held : List (Option ℕ)) → tb ≡ [] → IsOpened base ins P →
+pub built-start : (P : Prefix) (guards : List (List Value)) (ds : List Drop) (base : Net) (ins tb held : List (Option ℕ)) (n : ℕ) → tb ≡ [] → IsBase base ins P n →
     IsNoneHeld (length guards) held → IsBuilt P guards ds 0 base base ins tb held held
-built-start P guards ds base ins tb held e o h = subst (λ (xs : List (Option ℕ)). IsBuilt P guards ds 0 base base ins xs held held) (sym e) (start P guards ds base ins held o h)
+built-start P guards ds base ins tb held n e o h = subst (λ (xs : List (Option ℕ)). IsBuilt P guards ds 0 base base ins xs held held) (sym e) (start P guards ds base ins held n o h)
 
 covered : (P : Prefix) (ds : List Drop) (Q : Prefix) (b : Bound) (R : Prefix) → P ≡ Q ++ b ∷ R → Distinct P → AreBehind P ds →
-    AllCovered (is_universal P) (with_all ds Q (λ x. None)) b.var ds
+    AllCovered (is_universal P) (with_all (decided ds) Q (λ x. None)) b.var ds
 covered P ds Q b R e di a d m q k i = go (is_existential P k.var) refl
   where
-    same : d.literal.var ≡ b.var
+    same : d.value.var ≡ b.var
     same = grind arith
 
     before : place P k.var < place P b.var
-    before = subst (λ v. place P k.var < place P v) same (a d m k i)
+    before = subst (λ v. place P k.var < place P v) same ((a d m).behind k i)
 
     front : Distinct Q
     front = distinct-front Q (b ∷ R) (subst Distinct e di)
 
-    go : (t : Bool) → is_existential P k.var ≡ t → IsCovered (is_universal P) (with_all ds Q (λ x. None)) k
+    go : (t : Bool) → is_existential P k.var ≡ t → IsGiven (is_universal P) (with_all (decided ds) Q (λ x. None)) k.var
     go true h =
         let z : is_existential Q k.var ≡ true = front-existential Q b R k.var (subst (λ (X : Prefix). place X k.var < place X b.var) e before) (subst (λ (X : Prefix). is_existential X k.var ≡ true) e h) in
-        inl (all-given ds Q (λ x. None) k.var front ∙ ap (λ t. t || false) z)
+        inl (all-given (decided ds) Q (λ x. None) k.var front ∙ ap (λ t. t || false) z)
     go false h = inr (is_bound-universal P k.var (place-bound P k.var b.var before) h)
 
 -- one more circuit leaves alone what has its circuit
-same-literal : (c : Strategy) (x : ℕ) (t : Option Circuit) (k : Literal) → eqb k.var x ≡ false → literal_circuit (with_circuit x t c) k ≡ literal_circuit c k
-same-literal c x t k e = ap (λ (o : Option Circuit). cond k.negative (inverter (or_input k.var o)) (or_input k.var o)) (ap (λ (b : Bool). cond b t (c k.var)) e)
+same-circuit : (c : Strategy) (x : ℕ) (t : Option Circuit) (v : Value) → eqb v.var x ≡ false →
+    alike (circuit_of (with_circuit x t c) v.var) v.circuit ≡ alike (circuit_of c v.var) v.circuit
+same-circuit c x t v e = ap (λ (o : Option Circuit). alike (or_input v.var o) v.circuit) (ap (λ (b : Bool). cond b t (c v.var)) e)
 
-same-every : (c : Strategy) (x : ℕ) (t : Option Circuit) (T : List Literal) → ((k : Literal) → IsIn k T → eqb k.var x ≡ false) →
+same-every : (c : Strategy) (x : ℕ) (t : Option Circuit) (T : List Value) → ((v : Value) → IsIn v T → eqb v.var x ≡ false) →
     every_circuit (with_circuit x t c) T ≡ every_circuit c T
 same-every c x t [] h = refl
-same-every c x t (k ∷ T) h =
-    ap₂ (λ (a b : Circuit). conjunction a b) (same-literal c x t k (h k (inl refl))) (same-every c x t T (λ j i. h j (inr i)))
+same-every c x t (v ∷ T) h =
+    ap₂ (λ (a b : Circuit). conjunction a b) (same-circuit c x t v (h v (inl refl))) (same-every c x t T (λ w i. h w (inr i)))
 
-still-serve : (a : Net) (guards : List (List Literal)) (held : List (Option ℕ)) (U : ℕ → Bool) (c : Strategy) (x : ℕ) (t : Circuit) →
+still-serve : (a : Net) (guards : List (List Value)) (held : List (Option ℕ)) (U : ℕ → Bool) (c : Strategy) (x : ℕ) (t : Circuit) →
     given (c x) ≡ false → U x ≡ false → HeldServe a guards held U c → HeldServe a guards held U (with_circuit x (Some t) c)
 still-serve a guards held U c x t g u h y l e =
     let r = h y l e in
-    let apart : (k : Literal) → IsIn k (kept_in (slice_get guards y)) → eqb k.var x ≡ false = λ k i. away k (r.0 k i) in
+    let apart : (k : Value) → IsIn k (kept_in (slice_get guards y)) → eqb k.var x ≡ false = λ k i. away k (r.0 k i) in
     (λ k i. here k (apart k i) (r.0 k i), subst (Serves (tree_at a l)) (sym (same-every c x (Some t) (kept_in (slice_get guards y)) apart)) r.1)
   where
-    away : (k : Literal) → IsCovered U c k → eqb k.var x ≡ false
+    away : (k : Value) → IsGiven U c k.var → eqb k.var x ≡ false
     away k v = go (eqb k.var x) refl v
       where
-        go : (b : Bool) → eqb k.var x ≡ b → IsCovered U c k → b ≡ false
+        go : (b : Bool) → eqb k.var x ≡ b → IsGiven U c k.var → b ≡ false
         go false q w = refl
         go true q (inl w) = absurd (let s : k.var ≡ x = grind arith in let z : given (c x) ≡ true = subst (λ v. given (c v) ≡ true) s w in cc)
         go true q (inr w) = absurd (let s : k.var ≡ x = grind arith in let z : U x ≡ true = subst (λ v. U v ≡ true) s w in cc)
 
-    here : (k : Literal) → eqb k.var x ≡ false → IsCovered U c k → IsCovered U (with_circuit x (Some t) c) k
+    here : (k : Value) → eqb k.var x ≡ false → IsGiven U c k.var → IsGiven U (with_circuit x (Some t) c) k.var
     here k q (inl w) = inl (ap (λ (b : Bool). given (cond b (Some t) (c k.var))) q ∙ w)
     here k q (inr w) = inr w
 
-serve-next : (a : Net) (guards : List (List Literal)) (held : List (Option ℕ)) (U : ℕ → Bool) (c : Strategy) (ds : List Drop) (b : Bound) →
+serve-next : (a : Net) (guards : List (List Value)) (held : List (Option ℕ)) (U : ℕ → Bool) (c : Strategy) (ds : List Drop) (b : Bound) →
     (is_exists b.quant ≡ true → (given (c b.var) ≡ false) × (U b.var ≡ false)) → HeldServe a guards held U c →
-    HeldServe a guards held U (with_next ds c b)
+    HeldServe a guards held U (with_next (decided ds) c b)
 serve-next a guards held U c ds b new h = go (is_exists b.quant) refl
   where
-    go : (q : Bool) → is_exists b.quant ≡ q → HeldServe a guards held U (cond q (with_circuit b.var (Some (decided c b.var ds)) c) c)
+    go : (q : Bool) → is_exists b.quant ≡ q → HeldServe a guards held U (cond q (with_circuit b.var (Some (decided ds c b.var)) c) c)
     go false e = h
-    go true e = still-serve a guards held U c b.var (decided c b.var ds) (new e).0 (new e).1 h
+    go true e = still-serve a guards held U c b.var (decided ds c b.var) (new e).0 (new e).1 h
 
 -- a variable is new behind those before it
 front-free : (Q : Prefix) (b : Bound) (R : Prefix) → Distinct (Q ++ b ∷ R) → is_bound Q b.var ≡ false
@@ -227,16 +237,16 @@ exists-alone P x e = go (is_universal P x) refl
     go true h = absurd (let z = universal-not_existential P x h in cc)
 
 is-new : (P : Prefix) (ds : List Drop) (Q : Prefix) (b : Bound) (R : Prefix) → P ≡ Q ++ b ∷ R → Distinct P → is_exists b.quant ≡ true →
-    (given (with_all ds Q (λ x. None) b.var) ≡ false) × (is_universal P b.var ≡ false)
+    (given (with_all (decided ds) Q (λ x. None) b.var) ≡ false) × (is_universal P b.var ≡ false)
 is-new P ds Q b R e di x =
     let d : Distinct (Q ++ b ∷ R) = subst Distinct e di in
     let n : is_bound Q b.var ≡ false = front-free Q b R d in
     let z : is_existential Q b.var ≡ false = grind (arith, existential-is_bound Q b.var) in (
-      all-given ds Q (λ y. None) b.var (distinct-front Q (b ∷ R) d) ∙ ap (λ t. t || false) z,
+      all-given (decided ds) Q (λ y. None) b.var (distinct-front Q (b ∷ R) d) ∙ ap (λ t. t || false) z,
       exists-alone P b.var (subst (λ (X : Prefix). is_existential X b.var ≡ true) (sym e) (here-exists Q b R n x)),
     )
 
-pub built-more : (P : Prefix) (guards : List (List Literal)) (ds : List Drop) (i : ℕ) (b : Bound) (base now new : Net) (ins tb tb2 none held held2 : List (Option ℕ)) →
+pub built-more : (P : Prefix) (guards : List (List Value)) (ds : List Drop) (i : ℕ) (b : Bound) (base now new : Net) (ins tb tb2 none held held2 : List (Option ℕ)) →
     Distinct P → AreBehind P ds → i < length P → b ≡ get_or P i b → take (i + 1) P ≡ take i P ++ b ∷ [] →
     IsBuilt P guards ds i base now ins tb none held → IsNext now new ins tb tb2 guards held held2 b ds → IsBuilt P guards ds (i + 1) base new ins tb2 none held2
 built-more P guards ds i b base now new ins tb tb2 none held held2 di a lt is t built n = record {
@@ -261,32 +271,32 @@ built-more P guards ds i b base now new ins tb tb2 none held held2 di a lt is t 
     split = split-at P i b lt is
 
     front : Strategy
-    front = with_all ds (take i P) (λ x. None)
+    front = with_all (decided ds) (take i P) (λ x. None)
 
-    circuits : with_all ds (take (i + 1) P) (λ x. None) ≡ with_next ds front b
-    circuits = ap (λ (Q : Prefix). with_all ds Q (λ x. None)) t ∙ all-last (take i P) b ds (λ x. None)
+    circuits : with_all (decided ds) (take (i + 1) P) (λ x. None) ≡ with_next (decided ds) front b
+    circuits = ap (λ (Q : Prefix). with_all (decided ds) Q (λ x. None)) t ∙ all-last (take i P) b ds (λ x. None)
 
-    next : HeldServe new guards held2 (is_universal P) front × IsAt new ins tb2 (is_universal P) (with_next ds front b)
+    next : HeldServe new guards held2 (is_universal P) front × IsAt new ins tb2 (is_universal P) (with_next (decided ds) front b)
     next = n.at (is_universal P) front built.at built.serve (λ e. covered P ds (take i P) b (drop (suc i) P) split di a)
 
 -- What all of them cost.
-upto-free : (w : Drop → ℕ) (P : Prefix) (d : Drop) (ds : List Drop) → is_bound P d.literal.var ≡ false → cost_upto w P (d ∷ ds) ≡ cost_upto w P ds
+upto-free : (w : Drop → ℕ) (P : Prefix) (d : Drop) (ds : List Drop) → is_bound P d.value.var ≡ false → cost_upto w P (d ∷ ds) ≡ cost_upto w P ds
 upto-free w [] d ds h = refl
 upto-free w (b ∷ P) d ds h =
-    let n : eqb d.literal.var b.var ≡ false = grind arith in
-    let m : is_bound P d.literal.var ≡ false = grind arith in
+    let n : eqb d.value.var b.var ≡ false = grind arith in
+    let m : is_bound P d.value.var ≡ false = grind arith in
     let i : cost_upto w P (d ∷ ds) ≡ cost_upto w P ds = upto-free w P d ds m in
     rw (n, i) refl
 
 upto-one : (w : Drop → ℕ) (P : Prefix) (d : Drop) (ds : List Drop) → Distinct P → cost_upto w P (d ∷ ds) ≤ w d + cost_upto w P ds
 upto-one w [] d ds h = omega arith
-upto-one w (b ∷ P) d ds h = step (eqb d.literal.var b.var) refl (is_exists b.quant) (upto-one w P d ds h.1)
+upto-one w (b ∷ P) d ds h = step (eqb d.value.var b.var) refl (is_exists b.quant) (upto-one w P d ds h.1)
   where
-    step : (t : Bool) → eqb d.literal.var b.var ≡ t → (e : Bool) → cost_upto w P (d ∷ ds) ≤ w d + cost_upto w P ds →
+    step : (t : Bool) → eqb d.value.var b.var ≡ t → (e : Bool) → cost_upto w P (d ∷ ds) ≤ w d + cost_upto w P ds →
         cond e (cond t (w d + cost_of w b.var ds) (cost_of w b.var ds)) 0 + cost_upto w P (d ∷ ds) ≤
         w d + (cond e (cost_of w b.var ds) 0 + cost_upto w P ds)
     step true q true ih =
-        let s : b.var ≡ d.literal.var = grind arith in
+        let s : b.var ≡ d.value.var = grind arith in
         let f : cost_upto w P (d ∷ ds) ≡ cost_upto w P ds = upto-free w P d ds (subst (λ v. is_bound P v ≡ false) s h.0) in
         omega arith
     step true q false ih = omega arith
@@ -305,13 +315,13 @@ upto-all : (w : Drop → ℕ) (P : Prefix) (ds : List Drop) → Distinct P → c
 upto-all w P [] d = let z = upto-nothing w P in omega arith
 upto-all w P (x ∷ ds) d = let i = upto-all w P ds d in let o = upto-one w P x ds d in omega arith
 
-pub extracted : (P : Prefix) (guards : List (List Literal)) (ds : List Drop) (base last : Net) (made : CertificateView) (ins tb none held : List (Option ℕ)) (n : ℕ) → Distinct P →
-    AreBehind P ds → IsOpened base ins P → length P ≤ n → IsBuilt P guards ds n base last ins tb none held → IsNamed last made tb P →
-    IsExtracted P ds made
-extracted P guards ds base last made ins tb none held n di de opened le built named =
+pub extracted : (P : Prefix) (guards : List (List Value)) (ds : List Drop) (base last : Net) (made : CertificateView) (ins tb none held : List (Option ℕ)) (n m : ℕ) → Distinct P →
+    AreBehind P ds → IsBase base ins P m → length P ≤ n → IsBuilt P guards ds n base last ins tb none held → IsNamed last made tb P →
+    IsExtracted P ds m made
+extracted P guards ds base last made ins tb none held n m di de opened le built named =
     let all : take n P ≡ P = take_all n P le in
     let law = lawful-by P ds di de in
-    let at : IsAt last ins tb (is_universal P) (circuits_by P ds) = subst (λ (Q : Prefix). IsAt last ins tb (is_universal P) (with_all ds Q (λ x. None))) all built.at in
+    let at : IsAt last ins tb (is_universal P) (circuits_by P ds) = subst (λ (Q : Prefix). IsAt last ins tb (is_universal P) (with_all (decided ds) Q (λ x. None))) all built.at in
     record {
       inputs = named.inputs ∙ built.grown.inputs ∙ opened.inputs;
       outputs = ap (map (λ (o : NamedOutput). o.name)) named.outputs ∙ existentials-named tb P;
@@ -320,25 +330,34 @@ extracted P guards ds base last made ins tb none held n di de opened le built na
       gates =
           let a : length last.gates ≤ length base.gates + cost_upto whole P ds = subst (λ (Q : Prefix). length last.gates ≤ length base.gates + cost_upto whole Q ds) all built.grown.gates in
           let b = upto-all whole P ds di in
-          let z : length base.gates ≡ 0 = ap length opened.gates in
-          let m : length made.gates ≡ length last.gates = ap length named.gates in
+          let z : length base.gates ≤ m + m + m = opened.gates in
+          let y : length made.gates ≡ length last.gates = ap length named.gates in
           omega arith;
     }
 
-ones : (ds : List Drop) → cost beside ds ≡ length ds
-ones [] = refl
-ones (d ∷ ds) = let i = ones ds in omega arith
-
--- a gate for each literal of a guard, once, and one for each drop
-pub extracted-shared : (P : Prefix) (guards : List (List Literal)) (ds : List Drop) (base last : Net) (made : CertificateView) (ins tb none held : List (Option ℕ)) (n m : ℕ) → Distinct P →
-    IsOpened base ins P → length P ≤ n → IsBuilt P guards ds n base last ins tb none held → IsNamed last made tb P → IsNoneHeld (length guards) none →
-    length ds ≡ m → length made.gates ≤ literals_in guards + m
-extracted-shared P guards ds base last made ins tb none held n m di opened le built named h e =
+-- what the guards cost, each once, what the drops do, and three for each merge
+pub extracted-shared : (P : Prefix) (guards : List (List Value)) (ds : List Drop) (base last : Net) (made : CertificateView) (ins tb none held : List (Option ℕ)) (n m : ℕ) → Distinct P →
+    IsBase base ins P m → length P ≤ n → IsBuilt P guards ds n base last ins tb none held → IsNamed last made tb P → IsNoneHeld (length guards) none →
+    length made.gates ≤ whole_weight guards + cost beside ds + (m + m + m)
+extracted-shared P guards ds base last made ins tb none held n m di opened le built named h =
     let all : take n P ≡ P = take_all n P le in
     let a : IsShared base last guards none held (cost_upto beside P ds) = subst (λ (Q : Prefix). IsShared base last guards none held (cost_upto beside Q ds)) all built.shared in
     let b = upto-all beside P ds di in
-    let o = ones ds in
-    let z : length base.gates ≡ 0 = ap length opened.gates in
+    let z : length base.gates ≤ m + m + m = opened.gates in
     let g : length made.gates ≡ length last.gates = ap length named.gates in
-    let u : unmade guards (look_at none) ≡ literals_in guards = unmade-none guards (look_at none) h.none in
+    let u : unmade guards (look_at none) ≡ whole_weight guards = unmade-none guards (look_at none) h.none in
     omega arith
+
+-- after the merges
+pub base-is : (P : Prefix) (old now : Net) (ins : List (Option ℕ)) (n : ℕ) → IsOpened old ins P → IsGrown old now (n + n + n) → IsBase now ins P n
+base-is P old now ins n o g = record {
+  inputs = g.inputs ∙ o.inputs;
+  gates = let z : length old.gates ≡ 0 = ap length o.gates in let y : length now.gates ≤ length old.gates + (n + n + n) = g.gates in omega arith;
+  at = inputs-kept old now ins (is_universal P) g.kept o.literals o.at;
+}
+
+pub opened-at : (P : Prefix) (a : Net) (ins tb : List (Option ℕ)) → IsOpened a ins P → tb ≡ [] → IsAt a ins tb (is_universal P) no_circuits
+opened-at P a ins tb o e = subst (λ (xs : List (Option ℕ)). IsAt a ins xs (is_universal P) no_circuits) (sym e) (record {
+  inputs = o.at;
+  circuits = λ x. subst (λ m. Stands a None m) (sym (look-nothing x)) tt;
+})

@@ -1,3 +1,4 @@
+pub mod Merged
 pub mod Chained
 pub mod Walked
 pub mod Entered

@@ -1,2 +1,4 @@
+pub mod Saying
+pub mod Merges
 pub mod Rows
 pub mod Built

@@ -1,13 +1,16 @@
 //! Guards: a guard is the conjunction of what a line keeps. Its circuit is made when a drop of the line first asks for it, and serves
 //! all drops of the line from then on, since whatever it reads has its circuit by then and keeps it.
-ghost use Rattle.std.specs.Prelude.{◌≡◌, ◌==◌, if◌then◌else◌, ℕ, Some, None, ◌<◌, length, slice_get, IfOk};
-ghost use Rattle.q_carry.specs.Prelude.{look_at, AreLiterals};
-ghost use Rattle.q_extract.specs.Rows.{kept_in};
-ghost use Rattle.q_extract.specs.Built.{AreHeld, IsEvery, IsGuard, IsNoneHeld};
+ghost use Rattle.std.specs.Prelude.{◌≡◌, ◌==◌, if◌then◌else◌, ℕ, Some, None, false, ◌<◌, length, slice_get, IfOk};
+ghost use Rattle.q_certificate.specs.Prelude.{look_at, AreLiterals};
+ghost use Rattle.q_extract.specs.Saying.{said_in};
+ghost use Rattle.q_extract.specs.Merges.{AreNodes, merge_circuits, value_at};
+ghost use Rattle.q_extract.specs.Rows.{guards_in, kept_in, AreSound};
+ghost use Rattle.q_extract.specs.Built.{AreHeld, IsAlike, IsEvery, IsGuard, IsNoneHeld};
 
 use crate::drops::Drops;
-use q_aig::{Aig, constant};
-use q_carry::Tables;
+use crate::merging::{choose, node};
+use q_aig::{Aig, constant, negate};
+use q_certificate::Tables;
 use q_logic::{Lit, NoMemory};
 use std::alloc::Global;
 
@@ -36,16 +39,64 @@ fn hold(held: &mut Vec<Option<u64>>, guard: usize, lit: u64)
     held[guard] = Some(lit);
 }
 
-// The conjunction of a term.
-fn every_of(aig: &mut Aig, tables: &Tables, term: &[Lit]) -> Result<u64, NoMemory>
+// The literal that is true where its variable is.
+fn positive(lit: Lit) -> Lit
+    ensures { result ≡ record { var = lit.var; negative = false } }
+{
+    if lit.negative() {
+        return lit.negated();
+    }
+    lit
+}
+
+// Whether a variable has the value that a guard asks for.
+fn part_of(
+    aig: &mut Aig,
+    tables: &Tables,
+    drops: &Drops,
+    nodes: &[u64],
+    guard: usize,
+    lit: Lit,
+) -> Result<u64, NoMemory>
     requires inputs { AreLiterals aig.old tables.now.inputs.items }
     requires circuits { AreLiterals aig.old tables.now.circuits.items }
-    ensures { IfOk result (IsEvery aig.old aig.new tables.now.inputs.items
-        tables.now.circuits.items term.now) }
+    requires drops { AreSound drops.now }
+    requires nodes { AreNodes aig.old (merge_circuits drops.now.merges.items) nodes.now }
+    ensures { IfOk result (IsAlike aig.old aig.new tables.now.inputs.items
+        tables.now.circuits.items (value_at (merge_circuits drops.now.merges.items)
+        (said_in drops.now.said guard) lit)) }
 {
+    match drops.said.get(guard, lit.var()) {
+        None => Ok(tables.literal(lit)),
+        Some(merge) => {
+            let own = tables.literal(positive(lit));
+            let value = node(nodes, merge);
+            let part = choose(aig, own, value, negate(value))?;
+            Ok(part)
+        }
+    }
+}
+
+// The conjunction of what a line keeps.
+fn every_of(
+    aig: &mut Aig,
+    tables: &Tables,
+    drops: &Drops,
+    nodes: &[u64],
+    guard: usize,
+) -> Result<u64, NoMemory>
+    requires inputs { AreLiterals aig.old tables.now.inputs.items }
+    requires circuits { AreLiterals aig.old tables.now.circuits.items }
+    requires drops { AreSound drops.now }
+    requires nodes { AreNodes aig.old (merge_circuits drops.now.merges.items) nodes.now }
+    requires guard { guard < length drops.now.guards }
+    ensures { IfOk result (IsEvery aig.old aig.new tables.now.inputs.items
+        tables.now.circuits.items (kept_in (slice_get (guards_in drops.now) guard))) }
+{
+    let term = drops.guards.clause(guard);
     let mut every = constant(true);
     for k in term {
-        let part = tables.literal(*k);
+        let part = part_of(aig, tables, drops, nodes, guard, *k)?;
         every = aig.and(every, part)?;
     }
     Ok(every)
@@ -56,20 +107,24 @@ pub fn guard_of(
     aig: &mut Aig,
     tables: &Tables,
     drops: &Drops,
+    nodes: &[u64],
     held: &mut Vec<Option<u64>>,
     guard: usize,
 ) -> Result<u64, NoMemory>
     requires inputs { AreLiterals aig.old tables.now.inputs.items }
     requires circuits { AreLiterals aig.old tables.now.circuits.items }
-    requires held { AreHeld aig.old drops.now.guards held.old.items }
+    requires drops { AreSound drops.now }
+    requires nodes { AreNodes aig.old (merge_circuits drops.now.merges.items) nodes.now }
+    requires held { AreHeld aig.old (guards_in drops.now) held.old.items }
     requires guard { guard < length drops.now.guards }
     ensures { IfOk result (IsGuard aig.old aig.new tables.now.inputs.items tables.now.circuits.items
-        drops.now.guards held.old.items held.new.items (kept_in (slice_get drops.now.guards guard))) }
+        (guards_in drops.now) held.old.items held.new.items
+        (kept_in (slice_get (guards_in drops.now) guard))) }
 {
     match held_at(held, guard) {
         Some(lit) => Ok(lit),
         None => {
-            let every = every_of(aig, tables, drops.guards.clause(guard))?;
+            let every = every_of(aig, tables, drops, nodes, guard)?;
             hold(held, guard, every);
             Ok(every)
         }

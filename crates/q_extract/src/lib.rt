@@ -7,6 +7,9 @@ mod building;
 mod drops;
 mod extracting;
 mod guards;
+mod merging;
+mod said;
 
-pub use drops::{Drops, Fall, no_drops, take_away};
+pub use drops::{Drops, Fall, merge, no_drops, say, take_away};
 pub use extracting::extract;
+pub use said::{Merge, Said, Sayings};

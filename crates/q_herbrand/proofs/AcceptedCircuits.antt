@@ -4,10 +4,10 @@ use Rattle.q_logic.specs.Prelude.{IsIn, PrenexFormula, IsFormula, CertificateVie
 use Rattle.q_logic.specs.Exchanging.{exchanged}
 use Rattle.q_logic.specs.Herbrands.{MatrixFalse, HerbrandOf}
 use Rattle.q_logic.proofs.Exchanged.{exchanged-distinct, lawful-exchanged}
-use Rattle.q_carry.specs.declared.error.Misfit.TheVariants as misfit
-use Rattle.q_carry.proofs.LawfulFit.{lawful-fits}
-use Rattle.q_carry.proofs.AlikeFit.{fits-alike}
-use Rattle.q_carry.proofs.Misfits.{misfit-not_fits}
+use Rattle.q_certificate.specs.declared.error.Misfit.TheVariants as misfit
+use Rattle.q_certificate.proofs.LawfulFit.{lawful-fits}
+use Rattle.q_certificate.proofs.AlikeFit.{fits-alike}
+use Rattle.q_certificate.proofs.Misfits.{misfit-not_fits}
 use Rattle.q_herbrand.specs.declared.error.HerbrandError.{HerbrandError}
 use Rattle.q_herbrand.specs.declared.error.HerbrandError.TheVariants as refusal
 use Rattle.q_herbrand.specs.Refusals.{IsRefused, IsAccepted}

@@ -6,13 +6,13 @@ use Rattle.q_logic.specs.declared.formulas.Quant.TheVariants.{Exists, Forall}
 use Rattle.q_logic.specs.Prelude.{Prefix, Distinct, is_exists, is_existential}
 use Rattle.q_logic.proofs.Common.{distinct-at}
 use Rattle.q_aig.specs.Prelude.{Net, IsLiteral, operand_of}
-use Rattle.q_carry.specs.Prelude.{look_at, AreLiterals, is_there}
-use Rattle.q_carry.proofs.CircuitCopies.{copy-there}
-use Rattle.q_carry.proofs.PrefixInputs.{no_bound}
-use Rattle.q_carry.proofs.VariableTables.{existentials-forall, is_existential-last}
-use Rattle.q_slots.specs.declared.slots.Slots.{Slots}
-use Rattle.q_slots.specs.declared.building.Settled.{Settled}
-use Rattle.q_slots.specs.Settled.{AreRows}
+use Rattle.q_certificate.specs.Prelude.{look_at, AreLiterals, is_there}
+use Rattle.q_certificate.proofs.CircuitCopies.{copy-there}
+use Rattle.q_certificate.proofs.PrefixInputs.{no_bound}
+use Rattle.q_certificate.proofs.VariableTables.{existentials-forall, is_existential-last}
+use Rattle.q_herbrand.specs.declared.slots.Slots.{Slots}
+use Rattle.q_herbrand.specs.declared.building.Settled.{Settled}
+use Rattle.q_herbrand.specs.Settled.{AreRows}
 use Rattle.q_herbrand.specs.declared.drafting.Draft.{Draft}
 use Rattle.q_herbrand.specs.Drafted.{IsBuiltFrom, IsChosen}
 

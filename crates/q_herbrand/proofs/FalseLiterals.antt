@@ -6,10 +6,10 @@ use Rattle.q_logic.specs.Prelude.{Literal, negation, Clause, Circuit, value_of, 
 use Rattle.q_logic.proofs.Common.{IsIn-append_left}
 use Rattle.q_aig.specs.Prelude.{Net, IsLiteral, tree_at, operand_of, turned, Serves, IsConjunction}
 use Rattle.q_aig.proofs.Substitutes.{serves-self, serves-same, serves-then, serves-inverter, serves-conjunction, turned-serves}
-use Rattle.q_carry.specs.Prelude.{look_at, AreLiterals, literal_operand, Stands, IsRaised, IsUndone}
-use Rattle.q_carry.proofs.Folds.{IsIn-last, and-start, and-assoc}
-use Rattle.q_carry.proofs.LiteralRows.{literals-kept, at-kept, literal-serves, stands-put, literals-put}
-use Rattle.q_carry.proofs.CircuitParts.{grown-none, grown-then, grown-by, raise-more}
+use Rattle.q_certificate.specs.Prelude.{look_at, AreLiterals, literal_operand, Stands, IsRaised, IsUndone}
+use Rattle.q_certificate.proofs.Folds.{IsIn-last, and-start, and-assoc}
+use Rattle.q_certificate.proofs.LiteralRows.{literals-kept, at-kept, literal-serves, stands-put, literals-put}
+use Rattle.q_certificate.proofs.CircuitParts.{grown-none, grown-then, grown-by, raise-more}
 use Rattle.q_logic.specs.Reversals.{none_of, lowered_one, lowered_by, turned as turned_entry, plain, removed}
 use Rattle.q_herbrand.specs.Inputs.{has_input}
 use Rattle.q_herbrand.specs.Parts.{IsNoneOf, IsLoweredOne, AreLowered}

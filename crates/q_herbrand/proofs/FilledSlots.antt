@@ -7,15 +7,15 @@ use Rattle.q_logic.specs.Prelude.{Circuit, input, Reads, replaced, Strategy, cir
 use Rattle.q_logic.proofs.UniversalPivot.{given-reread}
 use Rattle.q_aig.specs.Prelude.{Net, IsLiteral, tree_at, IsNet, Keeps, Serves}
 use Rattle.q_aig.proofs.Substitutes.{serves-same, serves-then}
-use Rattle.q_carry.specs.Prelude.{look_at, IsGrown}
-use Rattle.q_carry.proofs.InputReads.{net-inputs}
-use Rattle.q_carry.proofs.LiteralRows.{literals-kept, inputs-kept, literals-put}
-use Rattle.q_carry.proofs.CircuitParts.{keeps-then}
-use Rattle.q_carry.proofs.NamedCertificates.{not-given}
-use Rattle.q_slots.specs.declared.slots.Slots.{Slots}
-use Rattle.q_slots.specs.Under.{under, twice}
-use Rattle.q_slots.specs.Slots.{AreSlots, AreOwned, IsRenewed, slot_at, owner_at}
-use Rattle.q_slots.proofs.ReplacedInputs.{replaced-under, under-same, twice-serves, replaced-unread, replaced-itself, replaced-other}
+use Rattle.q_certificate.specs.Prelude.{look_at, IsGrown}
+use Rattle.q_certificate.proofs.InputReads.{net-inputs}
+use Rattle.q_certificate.proofs.LiteralRows.{literals-kept, inputs-kept, literals-put}
+use Rattle.q_certificate.proofs.CircuitParts.{keeps-then}
+use Rattle.q_certificate.proofs.NamedCertificates.{not-given}
+use Rattle.q_herbrand.specs.declared.slots.Slots.{Slots}
+use Rattle.q_herbrand.specs.Under.{under, twice}
+use Rattle.q_herbrand.specs.Slots.{AreSlots, AreOwned, IsRenewed, slot_at, owner_at}
+use Rattle.q_herbrand.proofs.ReplacedInputs.{replaced-under, under-same, twice-serves, replaced-unread, replaced-itself, replaced-other}
 use Rattle.q_herbrand.specs.Inputs.{has_input}
 use Rattle.q_herbrand.specs.Following.{tree_of_literal, standing, AreUnder, Follows, IsReady}
 use Rattle.q_herbrand.proofs.SubstitutedCircuits.{serves-replaced}

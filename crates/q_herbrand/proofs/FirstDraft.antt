@@ -9,13 +9,13 @@ use Rattle.q_logic.proofs.Exchanged.{exchanged-universal}
 use Rattle.q_aig.specs.declared.output.Output.{Output}
 use Rattle.q_aig.specs.Prelude.{Net, IsLiteral, tree_at, output_of, net_of, AreOutputs, Serves}
 use Rattle.q_aig.proofs.Substitutes.{serves-same, serves-then}
-use Rattle.q_carry.specs.Prelude.{look_at, AreLiterals, IsAt, Stands, is_there, AreMarked, AreCopied, ArePlaced, marked_upto, strategy_of}
-use Rattle.q_carry.proofs.MarkedGates.{upto-most, cones-count}
-use Rattle.q_carry.proofs.NamedCertificates.{outputs-read}
-use Rattle.q_carry.proofs.LiteralRows.{literals-kept}
-use Rattle.q_slots.specs.declared.slots.Slots.{Slots}
-use Rattle.q_slots.specs.Under.{under}
-use Rattle.q_slots.specs.Slots.{IsBegun, slot_at, owner_at}
+use Rattle.q_certificate.specs.Prelude.{look_at, AreLiterals, IsAt, Stands, is_there, AreMarked, AreCopied, ArePlaced, marked_upto, strategy_of}
+use Rattle.q_certificate.proofs.MarkedGates.{upto-most, cones-count}
+use Rattle.q_certificate.proofs.NamedCertificates.{outputs-read}
+use Rattle.q_certificate.proofs.LiteralRows.{literals-kept}
+use Rattle.q_herbrand.specs.declared.slots.Slots.{Slots}
+use Rattle.q_herbrand.specs.Under.{under}
+use Rattle.q_herbrand.specs.Slots.{IsBegun, slot_at, owner_at}
 use Rattle.q_herbrand.specs.declared.drafting.Draft.{Draft}
 use Rattle.q_herbrand.specs.Inputs.{has_input, AreInputs}
 use Rattle.q_herbrand.specs.Covered.{weights}

@@ -7,7 +7,7 @@ use Rattle.q_logic.specs.declared.formulas.Bound.{Bound}
 use Rattle.q_logic.specs.Prelude.{Prefix, is_exists, is_existential, input, input_at, Operand, IsThere, operand_tree, gate_trees}
 use Rattle.q_logic.proofs.Common.{IsIn-append}
 use Rattle.q_aig.specs.Prelude.{Net, tree_at, operand_of, IsNew}
-use Rattle.q_carry.specs.Prelude.{look_at, AreLiterals, InputsAt, is_there}
+use Rattle.q_certificate.specs.Prelude.{look_at, AreLiterals, InputsAt, is_there}
 use Rattle.q_logic.specs.Reversals.{Reversal, freshened}
 use Rattle.q_herbrand.specs.Inputs.{has_input, AreInputs, IsAdded, AreOpened, AreFreshAdded, fresh_var}
 

@@ -7,15 +7,15 @@ use Rattle.q_logic.specs.Reversals.{Reversal, added, freshened, lifted}
 use Rattle.q_logic.proofs.Common.{Reads-all_of, none_or_some}
 use Rattle.q_aig.specs.Prelude.{Net, IsLiteral, tree_at, operand_of, IsNet, Serves}
 use Rattle.q_aig.proofs.Substitutes.{serves-same, serves-then}
-use Rattle.q_carry.specs.Prelude.{OutersCovered, look_at, AreLiterals, IsAt, IsGrown, IsAllOf, IsRaised}
-use Rattle.q_carry.proofs.InputReads.{net-inputs}
-use Rattle.q_carry.proofs.LiteralRows.{inputs-kept, literals-kept, literals-put}
-use Rattle.q_carry.proofs.CircuitParts.{grown-none, keeps-then, raise-more, constant-there, false-serves, same-gates}
-use Rattle.q_carry.proofs.NamedCertificates.{not-given}
-use Rattle.q_slots.specs.declared.slots.Slots.{Slots}
-use Rattle.q_slots.specs.Under.{under}
-use Rattle.q_slots.specs.Slots.{IsRenewed, slot_at}
-use Rattle.q_slots.proofs.ReplacedInputs.{under-same, Reads-through, serves-under}
+use Rattle.q_certificate.specs.Prelude.{OutersCovered, look_at, AreLiterals, IsAt, IsGrown, IsAllOf, IsRaised}
+use Rattle.q_certificate.proofs.InputReads.{net-inputs}
+use Rattle.q_certificate.proofs.LiteralRows.{inputs-kept, literals-kept, literals-put}
+use Rattle.q_certificate.proofs.CircuitParts.{grown-none, keeps-then, raise-more, constant-there, false-serves, same-gates}
+use Rattle.q_certificate.proofs.NamedCertificates.{not-given}
+use Rattle.q_herbrand.specs.declared.slots.Slots.{Slots}
+use Rattle.q_herbrand.specs.Under.{under}
+use Rattle.q_herbrand.specs.Slots.{IsRenewed, slot_at}
+use Rattle.q_herbrand.proofs.ReplacedInputs.{under-same, Reads-through, serves-under}
 use Rattle.q_herbrand.specs.Inputs.{has_input}
 use Rattle.q_herbrand.specs.Covered.{EntryCovered, OutersClear}
 use Rattle.q_herbrand.specs.Following.{tree_of_literal, standing, AreUnder, Follows, IsReady, IsTaken}

@@ -1,3 +1,7 @@
+pub mod ReplacedInputs
+pub mod SlotNodes
+pub mod GateCounts
+pub mod BuiltNodes
 pub mod SubstitutedCircuits
 pub mod RowSteps
 pub mod FalseLiterals
@@ -7,7 +11,9 @@ pub mod FilledSlots
 pub mod InputReplacements
 pub mod FirstDraft
 pub mod ChosenCircuits
+pub mod MadeSteps
 pub mod RunCircuits
+pub mod ZeroCircuits
 pub mod AcceptedCircuits
 pub mod DropKinds
 pub mod RunReversals

@@ -5,7 +5,7 @@ use Rattle.std.proofs.lemmas.Bool.{cases_lt}
 use Rattle.q_logic.specs.declared.formulas.Bound.{Bound}
 use Rattle.q_logic.specs.Prelude.{Prefix}
 use Rattle.q_logic.specs.Exchanging.{exchanged, exchanged_bound}
-use Rattle.q_carry.specs.Prelude.{look_at}
+use Rattle.q_certificate.specs.Prelude.{look_at}
 use Rattle.q_herbrand.specs.Drafted.{either}
 
 pub exchanged-last : (P : Prefix) (b : Bound) → exchanged (P ++ b ∷ []) ≡ exchanged P ++ exchanged_bound b ∷ []

@@ -3,29 +3,31 @@ use Rattle.std.proofs.Common.{◌≡◌, ℕ, ◌+◌, ◌≤◌, Bool, true, fa
 use Rattle.std.proofs.lemmas.Bool.{cases_Bool, both_ways}
 use Rattle.q_logic.specs.declared.formulas.Quant.{Quant}
 use Rattle.q_logic.specs.declared.formulas.Quant.TheVariants.{Exists, Forall}
-use Rattle.q_logic.specs.Prelude.{Literal, negation, Prefix, Clause, Matrix, IsIn, PrenexFormula, is_exists, is_existential, is_universal, is_bound, outer_or_same, Distinct, IsFormula, Assignment, Circuit, value_of, constant, replaced, CertificateView, trees_of, Strategy, circuit_of, outcome, Lawful, given, or_input, map_circuit, reread, keeps, ProofStep, add, delete, drop_literal, fresh, remove_variable, one_less, insert_after, removed_from, after, Run, OutersOf}
-use Rattle.q_logic.proofs.Common.{IsIn-outer, circuit_of-none, IsIn-append_left, IsIn-append_right, Justified, JustifiedSteps, JustifiedRun, Run-justified, is_bound-universal, existential-is_bound, outer_existential-free, universal-not_existential, insert-is_existential, removed-is_existential, removed-unbound, one_less-IsIn, at_or_other, after-formula, unbound-universal}
+use Rattle.q_logic.specs.Prelude.{Literal, negation, Prefix, Clause, Matrix, IsIn, PrenexFormula, is_exists, is_existential, is_universal, is_bound, outer_or_same, Distinct, IsFormula, Assignment, Circuit, value_of, constant, replaced, CertificateView, trees_of, Strategy, circuit_of, outcome, Lawful, given, or_input, map_circuit, reread, keeps, ProofStep, add, delete, drop_literal, fresh, remove_variable, one_less, insert_after, removed_from, after, standard, Run, OutersOf}
+use Rattle.q_logic.proofs.Common.{IsIn-outer, circuit_of-none, IsIn-append_left, IsIn-append_right, Justified, Valid-justified, Run-justified, is_bound-universal, existential-is_bound, outer_existential-free, universal-not_existential, insert-is_existential, removed-is_existential, removed-unbound, one_less-IsIn, at_or_other, unbound-universal}
 use Rattle.q_logic.proofs.Outers.{outers-members}
 use Rattle.q_aig.specs.Prelude.{Net, tree_at, Serves}
 use Rattle.q_aig.proofs.Substitutes.{serves-same, serves-then}
-use Rattle.q_carry.specs.Prelude.{IsCovered, OutersCovered, look_at, IsAt, Stands, is_there, universals, existentials, IsNamed}
-use Rattle.q_carry.specs.Narrowed.{IsNarrowed}
-use Rattle.q_carry.proofs.NamedCertificates.{made-serves, made-lawful}
-use Rattle.q_slots.specs.declared.building.Settled.{Settled}
-use Rattle.q_slots.specs.Under.{under}
-use Rattle.q_slots.specs.Settled.{IsSettled}
+use Rattle.q_certificate.specs.Prelude.{IsCovered, OutersCovered, look_at, IsAt, Stands, is_there, universals, existentials, IsNamed}
+use Rattle.q_certificate.specs.Narrowed.{IsNarrowed}
+use Rattle.q_certificate.proofs.NamedCertificates.{made-serves, made-lawful}
+use Rattle.q_herbrand.specs.declared.building.Settled.{Settled}
+use Rattle.q_herbrand.specs.Under.{under}
+use Rattle.q_herbrand.specs.Settled.{IsSettled}
 use Rattle.q_logic.specs.Exchanging.{exchanged, other_quant}
 use Rattle.q_logic.specs.Herbrands.{LawfulHerbrand}
 use Rattle.q_logic.specs.Reversals.{Reversal, freshened, removed, Forth, Reversed, Reversals, IsPlainDrop, inner}
 use Rattle.q_logic.proofs.Exchanged.{exchanged-existential, exchanged-universal, exchanged-outer, exchanged-before, exchanged-distinct, lawful-exchanged, exchanged-lawful}
 use Rattle.q_logic.proofs.Falsity.{MatrixFalse-agree}
-use Rattle.q_logic.proofs.ForthRuns.{pivot_of, universal_of, step-lawful, steps-lawful, lawful_herbrand-same, run-lawful, run-carries}
+use Rattle.q_logic.proofs.ForthRuns.{pivot_of, universal_of, step-lawful, run-lawful, run-carries}
+use Rattle.q_refutation.specs.Refutations.{MayBeMade, AreMade}
 use Rattle.q_herbrand.specs.Inputs.{has_input, AreOpened}
 use Rattle.q_herbrand.specs.Covered.{OutersClear, AreCovered, weights}
 use Rattle.q_herbrand.specs.declared.drafting.Draft.{Draft}
 use Rattle.q_herbrand.specs.Following.{tree_of_literal, Follows}
 use Rattle.q_herbrand.specs.Drafted.{IsLawfulRun, IsDrafted, IsBuiltFrom, IsChosen}
 use Rattle.q_herbrand.specs.Refuted.{IsWide, IsRefuted}
+use Rattle.q_herbrand.proofs.MadeSteps.{step-formula, made-lawful_back}
 use Rattle.q_herbrand.proofs.InputEntries.{inputs-at}
 
 removed-existential : (v : ℕ) (P : Prefix) → Distinct P → (x : ℕ) → is_existential (removed_from v P) x ≡ true →
@@ -124,11 +126,12 @@ module _ (U : ℕ → Bool) where
       go (Some q) = refl
 
   step-covered : (F : PrenexFormula) (s : ProofStep) (es rest : List Reversal) (c : Strategy) → IsFormula F →
-      Justified F s → Reversed F s es → HasExistentials F → HasFresh es →
+      MayBeMade false standard F s → Reversed F s es → HasExistentials F → HasFresh es →
       LawfulHerbrand (after F s).prefix (Forth rest c) → AreCovered U rest c → AreCovered U (es ++ rest) c
   step-covered F (add p C) es rest c f v (inl (i, e)) h n l r = subst (λ es. AreCovered U (es ++ rest) c) (sym e) r
   step-covered F (add p C) es rest c f v (inr (n, (m, Os, is, os, e))) h fr l r =
-      let pv = pivot_of F C p m is n v.1 in
+      let j = Valid-justified standard F (add p C) v in
+      let pv = pivot_of F C p m is n j.1 in
       subst (λ es. AreCovered U (es ++ rest) c) (sym e) (
         (
           h m.var pv.existential_pivot,
@@ -149,16 +152,19 @@ module _ (U : ℕ → Bool) where
       subst (λ es. AreCovered U (es ++ rest) c) (sym e) r
   step-covered F (drop_literal k C) es rest c f v (inr (n, p, inr (t, e))) h fr l r =
       subst (λ es. AreCovered U (es ++ rest) c) (sym e) (
-        (λ j i. literal-covered F (Forth rest c) j h l (f.closed C v.0 j (IsIn-outer F.prefix k C j i).0)),
-        inner-universal F C k (Forth rest c) f v.0
-            (universal_of F.prefix (one_less C F.matrix) C k v.1).0 p l,
+        (λ j i. literal-covered F (Forth rest c) j h l (f.closed C (dropped v).0 j (IsIn-outer F.prefix k C j i).0)),
+        inner-universal F C k (Forth rest c) f (dropped v).0
+            (universal_of F.prefix (one_less C F.matrix) C k (dropped v).1).0 p l,
         r,
       )
+    where
+      dropped : MayBeMade false standard F (drop_literal k C) → Justified F (drop_literal k C)
+      dropped w = Valid-justified standard F (drop_literal k C) w
   step-covered F (fresh v w) es rest c f j e h n l r =
       let back : LawfulHerbrand F.prefix (Forth (freshened v ∷ []) (Forth rest c)) =
-      step-lawful F (fresh v w) (freshened v ∷ []) (Forth rest c) f j refl l in
+      step-lawful F (fresh v w) (freshened v ∷ []) (Forth rest c) f (Valid-justified standard F (fresh v w) j) refl l in
       let none : given (reread v (constant false) (Forth rest c) v) ≡ false =
-      back.trees v ∙ unbound-universal F.prefix v j.0 in
+      back.trees v ∙ unbound-universal F.prefix v (Valid-justified standard F (fresh v w) j).0 in
       subst (λ es. AreCovered U (es ++ rest) c) (sym e) (
         n v (subst (IsIn (freshened v)) (sym e) (inl refl)),
         sym (given-reread v (constant false) (Forth rest c)) ∙ none,
@@ -179,43 +185,37 @@ module _ (U : ℕ → Bool) where
       (IsIn-append_right (freshened v) es rest m))
 
   pub steps-covered : (F : PrenexFormula) (ss : List ProofStep) (E : PrenexFormula) (rs : List Reversal) (c :
-      Strategy) → IsFormula F → JustifiedSteps F ss E → Reversals F ss rs → LawfulHerbrand E.prefix c →
+      Strategy) → IsFormula F → AreMade false standard F ss E → Reversals F ss rs → LawfulHerbrand E.prefix c →
       HasExistentials F → HasFresh rs → AreCovered U rs c
   steps-covered F [] E rs c f r u l h n = subst (λ rs. AreCovered U rs c) (sym u) tt
   steps-covered F (s ∷ ss) E rs c f r (es, rest, e, u, is) l h n =
-      let g : IsFormula (after F s) = after-formula F s f r.0 in
+      let g : IsFormula (after F s) = step-formula F s f r.0 in
       let ne = left-fresh es rest rs is n in
       let below = steps-covered (after F s) ss E rest c g r.1 u l (after-existentials F s es f e h ne)
       (right-fresh es rest rs is n) in
       subst (λ rs. AreCovered U rs c) (sym is)
-      (step-covered F s es rest c f r.0 e h ne (steps-lawful (after F s) ss E rest c g r.1 u l) below)
+      (step-covered F s es rest c f r.0 e h ne (made-lawful_back (after F s) ss E rest c g r.1 u l) below)
 
   pub steps-existentials : (F : PrenexFormula) (ss : List ProofStep) (E : PrenexFormula) (rs : List Reversal) →
-      IsFormula F → JustifiedSteps F ss E → Reversals F ss rs → HasExistentials F → HasFresh rs → HasExistentials E
+      IsFormula F → AreMade false standard F ss E → Reversals F ss rs → HasExistentials F → HasFresh rs → HasExistentials E
   steps-existentials F [] E rs f r u h n = subst HasExistentials r h
   steps-existentials F (s ∷ ss) E rs f r (es, rest, e, u, is) h n =
-      steps-existentials (after F s) ss E rest (after-formula F s f r.0) r.1 u
+      steps-existentials (after F s) ss E rest (step-formula F s f r.0) r.1 u
       (after-existentials F s es f e h (left-fresh es rest rs is n)) (right-fresh es rest rs is n)
 
 -- What holds of the circuits that a run's end was given.
 module _ (F : PrenexFormula) (rs : List Reversal) (gave : CertificateView) (base : Net) (ins : List (Option ℕ)) (d :
     Draft) (f : IsFormula F) (run : IsLawfulRun F rs gave) (opened : AreOpened base ins F.prefix rs) (drafted :
     IsDrafted base ins gave rs d) where
-  ran : JustifiedRun F run.steps run.last
-  ran = Run-justified F run.steps run.last run.run
-
-  end-lawful : LawfulHerbrand ran.last.prefix (trees_of gave)
-  end-lawful = lawful_herbrand-same ran.last run.last (trees_of gave) ran.same run.lawful
-
   back-lawful : Lawful (exchanged F.prefix) (Forth rs (trees_of gave))
   back-lawful = lawful-exchanged F.prefix (Forth rs (trees_of gave))
-      (run-lawful F run.steps run.last rs (trees_of gave) f ran run.reversals run.lawful)
+      (made-lawful_back F run.steps run.last rs (trees_of gave) f run.made run.reversals run.lawful)
 
   pub end-follows : Follows d.aig ins d.tables.circuits.items d.slots (Forth rs (trees_of gave))
-  end-follows = drafted.follows ran.last.prefix (lawful-exchanged ran.last.prefix (trees_of gave) end-lawful)
-      (steps-existentials (has_input ins) F run.steps ran.last rs f ran.steps run.reversals opened.existentials
+  end-follows = drafted.follows run.last.prefix (lawful-exchanged run.last.prefix (trees_of gave) run.lawful)
+      (steps-existentials (has_input ins) F run.steps run.last rs f run.made run.reversals opened.existentials
       opened.fresh)
-      (steps-covered (has_input ins) F run.steps ran.last rs (trees_of gave) f ran.steps run.reversals end-lawful
+      (steps-covered (has_input ins) F run.steps run.last rs (trees_of gave) f run.made run.reversals run.lawful
       opened.existentials opened.fresh)
 
   module _ (now : Net) (m : Settled) (row : List (Option ℕ)) (made : CertificateView) (settled : IsSettled d.aig base
@@ -273,7 +273,7 @@ module _ (F : PrenexFormula) (rs : List Reversal) (gave : CertificateView) (base
     }
 
 -- Names of an exchanged prefix.
-universals-exchanged : (P : Prefix) → universals (exchanged P) ≡ existentials P
+pub universals-exchanged : (P : Prefix) → universals (exchanged P) ≡ existentials P
 universals-exchanged [] = refl
 universals-exchanged (b ∷ P) = go b.quant (universals-exchanged P)
   where
@@ -283,7 +283,7 @@ universals-exchanged (b ∷ P) = go b.quant (universals-exchanged P)
     go Exists e = ap (λ (xs : List ℕ). b.var ∷ xs) e
     go Forall e = e
 
-existentials-exchanged : (P : Prefix) → existentials (exchanged P) ≡ universals P
+pub existentials-exchanged : (P : Prefix) → existentials (exchanged P) ≡ universals P
 existentials-exchanged [] = refl
 existentials-exchanged (b ∷ P) = go b.quant (existentials-exchanged P)
   where

@@ -1,6 +1,5 @@
 -- The reversals of a run, step by step.
-use Rattle.std.proofs.Common.{◌≡◌, true, List, [], ◌∷◌, ◌++◌, Option, Some, None, map, inl, inr, refl, sym, ap, ◌∙◌, subst, append-nil, append_assoc}
-use Rattle.q_logic.specs.declared.limits.Limits.{Limits}
+use Rattle.std.proofs.Common.{◌≡◌, true, false, List, [], ◌∷◌, ◌++◌, Option, Some, None, map, inl, inr, refl, sym, ap, ◌∙◌, subst, append-nil, append_assoc}
 use Rattle.q_logic.specs.Prelude.{Literal, negation, Clause, Matrix, Prefix, PrenexFormula, standard, formula_of, is_bound, Implied, ProofStep, add, delete, drop_literal, fresh, remove_variable, one_less, IsWarranted, Valid, after, ValidSteps, AreAlike}
 use Rattle.q_logic.specs.Reversals.{Reversal, IsExtended, Reversed, Reversals}
 use Rattle.q_logic.proofs.Common.{implied-within, forall_pivot-within, outers-same, alike_swapped, alike_through, alike_valid, alike_after, existential-is_bound, SameClauses, IsIn-alike, alike-sym, valid_more}
@@ -8,7 +7,10 @@ use Rattle.q_logic.proofs.ClauseCounts.{one_less-same}
 use Rattle.q_logic.proofs.AlikeFormulas.{less-within}
 use Rattle.q_herbrand.specs.declared.reversal.Reversal.{Reversal as Entry}
 use Rattle.q_herbrand.specs.Entries.{entry_of, entries_of}
-use Rattle.q_herbrand.specs.Trails.{Trailed, HasGrownBy, HasNoted}
+use Rattle.q_refutation.specs.Refutations.{MayBeMade, AreMade}
+use Rattle.q_refutation.proofs.FirstEmpty.{alike_may}
+use Rattle.q_herbrand.specs.Trails.{Trailed, HasGrownBy, HasMade, HasNoted}
+use Rattle.q_herbrand.proofs.MadeSteps.{made_more, valid-all_made}
 
 -- The entry of an addition.
 pub warranted-pivot : (P : Prefix) (X : Matrix) (C : Clause) (p : Option Literal) (l : Literal) → IsWarranted P X C p →
@@ -64,21 +66,21 @@ alike_extended F G t a x =
     subst (λ (P : Prefix). IsExtended (formula_of P G.matrix) t) a.prefix
     (same_extended F.prefix F.matrix G.matrix a.clauses t x)
 
-reversals_more : (m : Limits) (F : PrenexFormula) (ss : List ProofStep) (E : PrenexFormula) (t : ProofStep)
-    (rs es : List Reversal) → ValidSteps m F ss E → Reversals F ss rs → Reversed E t es →
+reversals_more : (F : PrenexFormula) (ss : List ProofStep) (E : PrenexFormula) (t : ProofStep)
+    (rs es : List Reversal) → AreMade false standard F ss E → Reversals F ss rs → Reversed E t es →
     Reversals F (ss ++ t ∷ []) (rs ++ es)
-reversals_more m F [] E t rs es v u e = (
+reversals_more F [] E t rs es v u e = (
   es,
   [],
   subst (λ (G : PrenexFormula). Reversed G t es) (sym v) e,
   refl,
   ap (λ (ws : List Reversal). ws ++ es) u ∙ sym (append-nil es),
 )
-reversals_more m F (u ∷ ss) E t rs es v (fs, rest, f, r, q) e = (
+reversals_more F (u ∷ ss) E t rs es v (fs, rest, f, r, q) e = (
   fs,
   rest ++ es,
   f,
-  reversals_more m (after F u) ss E t rest es v.1 r e,
+  reversals_more (after F u) ss E t rest es v.1 r e,
   ap (λ (ws : List Reversal). ws ++ es) q ∙ append_assoc fs rest es,
 )
 
@@ -94,7 +96,7 @@ noted-more F ss t u p h v a (es, r, e) = record {
       (alike_valid standard t.formula h.last p (alike_swapped h.last t.formula h.alike) v);
   alike = alike_through (after h.last p) (after t.formula p) u.formula (alike_after h.last t.formula p h.alike) a;
   reversals = subst (Reversals F (ss ++ p ∷ [])) (sym e)
-      (reversals_more standard F ss h.last p t.reversals es h.steps h.reversals
+      (reversals_more F ss h.last p t.reversals es (valid-all_made F ss h.last h.steps) h.reversals
       (alike_reversed t.formula h.last p es (alike_swapped h.last t.formula h.alike) r));
 }
 
@@ -102,14 +104,30 @@ pub map_last : (xs : List Entry) (x : Entry) → map entry_of (xs ++ x ∷ []) �
 map_last [] x = refl
 map_last (y ∷ xs) x = ap (λ (rs : List Reversal). entry_of y ∷ rs) (map_last xs x)
 
+pub made-begun : (F : PrenexFormula) (t : Trailed) → AreAlike F t.formula → t.reversals ≡ [] → HasMade F [] t
+made-begun F t a e = record { last = F; steps = refl; alike = a; reversals = e }
+
+step-made : (F : PrenexFormula) (ss : List ProofStep) (t u : Trailed) (p : ProofStep) → HasMade F ss t →
+    MayBeMade false standard t.formula p → AreAlike (after t.formula p) u.formula →
+    HasGrownBy t.formula p t.reversals u.reversals → HasMade F (ss ++ p ∷ []) u
+step-made F ss t u p h v a (es, r, e) = record {
+  last = after h.last p;
+  steps = made_more F ss h.last p h.steps
+      (alike_may standard t.formula h.last p (alike_swapped h.last t.formula h.alike) v);
+  alike = alike_through (after h.last p) (after t.formula p) u.formula (alike_after h.last t.formula p h.alike) a;
+  reversals = subst (Reversals F (ss ++ p ∷ [])) (sym e)
+      (reversals_more F ss h.last p t.reversals es h.steps h.reversals
+      (alike_reversed t.formula h.last p es (alike_swapped h.last t.formula h.alike) r));
+}
+
 -- The same of the parts of a trail.
-pub noted-by : (F : PrenexFormula) (ss : List ProofStep) (t u : Trailed) (course : PrenexFormula) (old : List Entry)
+pub made-by : (F : PrenexFormula) (ss : List ProofStep) (t u : Trailed) (course : PrenexFormula) (old : List Entry)
     (p : ProofStep) (r : Option Entry) → record { formula = course; reversals = map entry_of old } ≡ t →
-    HasNoted F ss t → Valid standard t.formula p →
+    HasMade F ss t → MayBeMade false standard t.formula p →
     AreAlike (after course p) u.formula × Reversed course p (entries_of r) →
-    u.reversals ≡ map entry_of old ++ entries_of r → HasNoted F (ss ++ p ∷ []) u
-noted-by F ss t u course old p r e h v a q =
-    noted-more F ss t u p h v (subst (λ (w : Trailed). AreAlike (after w.formula p) u.formula) e a.0) (
+    u.reversals ≡ map entry_of old ++ entries_of r → HasMade F (ss ++ p ∷ []) u
+made-by F ss t u course old p r e h v a q =
+    step-made F ss t u p h v (subst (λ (w : Trailed). AreAlike (after w.formula p) u.formula) e a.0) (
       entries_of r,
       subst (λ (w : Trailed). Reversed w.formula p (entries_of r)) e a.1,
       q ∙ ap (λ (w : Trailed). w.reversals ++ entries_of r) e,

@@ -4,14 +4,14 @@ use Rattle.q_logic.specs.Prelude.{Literal, negation, Clause, IsIn, Circuit, cons
 use Rattle.q_logic.specs.Reversals.{Reversal, none_of, lowered_by, turned, plain, removed, carried, Forth}
 use Rattle.q_aig.specs.Prelude.{Net, tree_at, Keeps, Serves}
 use Rattle.q_aig.proofs.Substitutes.{serves-self, serves-same, serves-then, serves-inverter, serves-conjunction}
-use Rattle.q_carry.specs.Prelude.{IsCovered, ClauseCovered, OutersCovered, look_at, AreLiterals, InputsAt, IsAt, Stands, IsGrown}
-use Rattle.q_carry.proofs.Folds.{serves-disjunction}
-use Rattle.q_carry.proofs.LiteralRows.{literals-kept, inputs-kept}
-use Rattle.q_carry.proofs.CircuitParts.{raise-more}
-use Rattle.q_slots.specs.declared.slots.Slots.{Slots}
-use Rattle.q_slots.specs.Under.{under, twice}
-use Rattle.q_slots.specs.Slots.{AreSlots, AreOwned, IsResolved}
-use Rattle.q_slots.proofs.ReplacedInputs.{under-operand, serves-under}
+use Rattle.q_certificate.specs.Prelude.{IsCovered, ClauseCovered, OutersCovered, look_at, AreLiterals, InputsAt, IsAt, Stands, IsGrown}
+use Rattle.q_certificate.proofs.Folds.{serves-disjunction}
+use Rattle.q_certificate.proofs.LiteralRows.{literals-kept, inputs-kept}
+use Rattle.q_certificate.proofs.CircuitParts.{raise-more}
+use Rattle.q_herbrand.specs.declared.slots.Slots.{Slots}
+use Rattle.q_herbrand.specs.Under.{under, twice}
+use Rattle.q_herbrand.specs.Slots.{AreSlots, AreOwned, IsResolved}
+use Rattle.q_herbrand.proofs.ReplacedInputs.{under-operand, serves-under}
 use Rattle.q_herbrand.specs.Inputs.{has_input}
 use Rattle.q_herbrand.specs.Covered.{EntryCovered, EntryOwned, weight, weights}
 use Rattle.q_herbrand.specs.Carried.{IsCarried}

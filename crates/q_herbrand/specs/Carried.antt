@@ -2,7 +2,7 @@
 use Rattle.std.specs.Prelude.{ℕ, List, Option}
 use Rattle.q_logic.specs.Prelude.{Strategy}
 use Rattle.q_aig.specs.Prelude.{Net}
-use Rattle.q_carry.specs.Prelude.{AreLiterals, IsAt, IsGrown}
+use Rattle.q_certificate.specs.Prelude.{AreLiterals, IsAt, IsGrown}
 use Rattle.q_logic.specs.Reversals.{Reversal, carried}
 use Rattle.q_herbrand.specs.Inputs.{has_input}
 use Rattle.q_herbrand.specs.Covered.{EntryCovered, weight}

@@ -1,7 +1,7 @@
 -- What an entry asks of the circuits, and what it costs.
 use Rattle.std.specs.Prelude.{◌≡◌, ℕ, ◌+◌, Bool, true, false, List, [], ◌∷◌, length}
 use Rattle.q_logic.specs.Prelude.{Literal, Clause, IsIn, Reads, Strategy, circuit_of, given, literals_in}
-use Rattle.q_carry.specs.Prelude.{ClauseCovered, OutersCovered}
+use Rattle.q_certificate.specs.Prelude.{ClauseCovered, OutersCovered}
 use Rattle.q_logic.specs.Reversals.{Reversal, added, turned, plain, freshened, removed, Forth}
 
 -- the circuits of the literals do not read v

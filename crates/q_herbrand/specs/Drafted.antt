@@ -1,12 +1,13 @@
 -- Circuits copied into a graph over slots, and out of it.
-use Rattle.std.specs.Prelude.{◌≡◌, ◌≤◌, ℕ, ◌+◌, Bool, true, List, length, Option, Some, None}
-use Rattle.q_logic.specs.Prelude.{Prefix, PrenexFormula, is_existential, CertificateView, trees_of, Lawful, ProofStep, Run}
+use Rattle.std.specs.Prelude.{◌≡◌, ◌≤◌, ℕ, ◌+◌, Bool, true, false, List, length, Option, Some, None}
+use Rattle.q_logic.specs.Prelude.{Prefix, PrenexFormula, is_existential, CertificateView, trees_of, Lawful, ProofStep, standard}
 use Rattle.q_logic.specs.Herbrands.{LawfulHerbrand}
 use Rattle.q_logic.specs.Exchanging.{exchanged}
 use Rattle.q_logic.specs.Reversals.{Reversal, Forth, Reversals as ReversalsOf}
+use Rattle.q_refutation.specs.Refutations.{AreMade}
 use Rattle.q_aig.specs.Prelude.{Net, operand_of, marked_count}
-use Rattle.q_carry.specs.Prelude.{look_at, AreLiterals, IsAt, AreExistentials, copied_operand, HasCones}
-use Rattle.q_slots.specs.declared.building.Settled.{Settled}
+use Rattle.q_certificate.specs.Prelude.{look_at, AreLiterals, IsAt, AreExistentials, copied_operand, HasCones}
+use Rattle.q_herbrand.specs.declared.building.Settled.{Settled}
 use Rattle.q_herbrand.specs.declared.drafting.Draft.{Draft}
 use Rattle.q_herbrand.specs.Inputs.{has_input}
 use Rattle.q_herbrand.specs.Covered.{AreCovered, weights}
@@ -20,11 +21,11 @@ either None m = m
 abbrev pub AreMerged : List (Option ℕ) → List (Option ℕ) → List (Option ℕ) → Type 0
 AreMerged tb ins row = (x : ℕ) → look_at row x ≡ either (look_at tb x) (look_at ins x)
 
--- circuits that are lawful for the end of a run with these reversals
+-- circuits that are lawful for the end of steps with these reversals, which may be made
 pub record IsLawfulRun (F : PrenexFormula) (rs : List Reversal) (gave : CertificateView) : Type 0 where
   pub last : PrenexFormula
   pub steps : List ProofStep
-  pub run : Run F steps last
+  pub made : AreMade false standard F steps last
   pub reversals : ReversalsOf F steps rs
   pub lawful : LawfulHerbrand last.prefix (trees_of gave)
 

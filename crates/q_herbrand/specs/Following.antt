@@ -3,10 +3,10 @@ use Rattle.std.specs.Prelude.{◌≡◌, ◌≤◌, ◌<◌, ◌⊎◌, ℕ, ◌
 use Rattle.q_logic.specs.Prelude.{Circuit, Strategy, circuit_of, given}
 use Rattle.q_logic.specs.Reversals.{Reversal, carried, Forth}
 use Rattle.q_aig.specs.Prelude.{Net, tree_at, Serves}
-use Rattle.q_carry.specs.Prelude.{look_at, AreLiterals, InputsAt}
-use Rattle.q_slots.specs.declared.slots.Slots.{Slots}
-use Rattle.q_slots.specs.Under.{under}
-use Rattle.q_slots.specs.Slots.{AreSlots, AreOwned, IsResolved}
+use Rattle.q_certificate.specs.Prelude.{look_at, AreLiterals, InputsAt}
+use Rattle.q_herbrand.specs.declared.slots.Slots.{Slots}
+use Rattle.q_herbrand.specs.Under.{under}
+use Rattle.q_herbrand.specs.Slots.{AreSlots, AreOwned, IsResolved}
 use Rattle.q_herbrand.specs.Inputs.{has_input}
 use Rattle.q_herbrand.specs.Covered.{EntryCovered, EntryOwned, AreCovered, weight, weights}
 

@@ -2,7 +2,7 @@
 use Rattle.std.specs.Prelude.{◌≡◌, ◌<◌, ℕ, Bool, true, false, List, [], length, slice_index_or, Option, Some, None}
 use Rattle.q_logic.specs.Prelude.{Prefix, IsIn, is_existential, input_at}
 use Rattle.q_aig.specs.Prelude.{Net, operand_of}
-use Rattle.q_carry.specs.Prelude.{look_at, is_there}
+use Rattle.q_certificate.specs.Prelude.{look_at, is_there}
 use Rattle.q_logic.specs.Reversals.{Reversal, added, turned, plain, freshened, removed}
 
 -- the variable is an input

@@ -1,3 +1,7 @@
+pub mod Under
+pub mod Slots
+pub mod Nodes
+pub mod Settled
 pub mod Inputs
 pub mod Covered
 pub mod Parts
@@ -9,3 +13,4 @@ pub mod Refusals
 pub mod Refuted
 pub mod Drops
 pub mod Trails
+pub mod Disproved

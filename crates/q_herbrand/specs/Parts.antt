@@ -2,7 +2,7 @@
 use Rattle.std.specs.Prelude.{ℕ, Bool, List, Option, length}
 use Rattle.q_logic.specs.Prelude.{Literal, Clause, Circuit, Strategy}
 use Rattle.q_aig.specs.Prelude.{Net, IsLiteral, tree_at, Serves}
-use Rattle.q_carry.specs.Prelude.{ClauseCovered, AreLiterals, IsAt, IsGrown}
+use Rattle.q_certificate.specs.Prelude.{ClauseCovered, AreLiterals, IsAt, IsGrown}
 use Rattle.q_logic.specs.Reversals.{none_of, lowered_one, lowered_by}
 
 -- no literal of the clause

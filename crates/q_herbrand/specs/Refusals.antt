@@ -1,8 +1,8 @@
 -- Why circuits are refused.
 use Rattle.std.specs.Prelude.{◌≡◌, []}
 use Rattle.q_logic.specs.Prelude.{PrenexFormula, CertificateView}
-use Rattle.q_carry.specs.Prelude.{Fits, IsMisfit}
-use Rattle.q_carry.specs.declared.error.Misfit.TheVariants.{MissingOutput as missing, StrangeOutput as strange, StrangeInput as strange_input, Reads as reads}
+use Rattle.q_certificate.specs.Prelude.{Fits, IsMisfit}
+use Rattle.q_certificate.specs.declared.error.Misfit.TheVariants.{MissingOutput as missing, StrangeOutput as strange, StrangeInput as strange_input, Reads as reads}
 use Rattle.q_logic.specs.Exchanging.{exchanged}
 use Rattle.q_herbrand.specs.declared.error.HerbrandError.{HerbrandError}
 use Rattle.q_herbrand.specs.declared.error.HerbrandError.TheVariants.{MissingOutput, StrangeOutput, StrangeInput, Reads, TrueOutput, NoMemory}

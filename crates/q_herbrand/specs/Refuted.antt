@@ -2,7 +2,7 @@
 use Rattle.std.specs.Prelude.{◌≡◌, ◌≤◌, ℕ, ◌+◌, Bool, true, List, length, map}
 use Rattle.q_logic.specs.Prelude.{PrenexFormula, is_universal, Assignment, value_of, CertificateView, trees_of, circuit_of, Lawful}
 use Rattle.q_aig.specs.Prelude.{Serves, marked_count}
-use Rattle.q_carry.specs.Prelude.{HasCones, universals, existentials}
+use Rattle.q_certificate.specs.Prelude.{HasCones, universals, existentials}
 use Rattle.q_logic.specs.Exchanging.{exchanged}
 use Rattle.q_logic.specs.Herbrands.{LawfulHerbrand, HerbrandOf}
 use Rattle.q_logic.specs.Reversals.{Reversal, Forth}

@@ -3,17 +3,18 @@
 ghost use Rattle.std.specs.Prelude.{◌≡◌, IfOk};
 ghost use Rattle.q_logic.specs.Prelude.{Distinct};
 ghost use Rattle.q_logic.specs.Exchanging.{exchanged};
-ghost use Rattle.q_carry.specs.Prelude.{look_at};
+ghost use Rattle.q_certificate.specs.Prelude.{look_at};
 ghost use Rattle.q_herbrand.specs.Refuted.{IsWide};
 ghost use Rattle.q_herbrand.specs.Drafted.{IsBuiltFrom, IsChosen, IsLawfulRun, IsWritten};
 
+use crate::building::Settled;
 use crate::drafting::{Draft, make_draft};
 use crate::inputs::open;
 use crate::reversal::Reversals;
+use crate::settling::settle;
 use q_aig::{Aig, Certificate};
-use q_carry::{look, name_outputs, put, translate};
+use q_certificate::{look, name_outputs, put, translate};
 use q_logic::{Bound, Formula, NoMemory, Quant};
-use q_slots::{Settled, settle};
 use std::alloc::Global;
 
 // The literal of a circuit of the draft.

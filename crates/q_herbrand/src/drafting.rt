@@ -1,16 +1,16 @@
 //! The draft: the gates that the given circuits need, over slots, with all entries taken.
 ghost use Rattle.std.specs.Prelude.{◌≡◌, ◌≤◌, ℕ, max, length, IfOk};
-ghost use Rattle.q_carry.specs.Prelude.{look_at};
+ghost use Rattle.q_certificate.specs.Prelude.{look_at};
 ghost use Rattle.q_herbrand.specs.Inputs.{AreInputs};
 ghost use Rattle.q_herbrand.specs.Drafted.{either, AreMerged, IsDrafted, IsCopiedInto};
 
 use crate::entries::take_all;
 use crate::inputs::reopen;
 use crate::reversal::Reversals;
+use crate::slots::{Slots, begin};
 use q_aig::{Aig, Certificate};
-use q_carry::{Tables, copy_gates, mark_cones, place_outputs};
+use q_certificate::{Tables, copy_gates, mark_cones, place_outputs};
 use q_logic::NoMemory;
-use q_slots::{Slots, begin};
 use std::alloc::Global;
 
 /// A graph over slots: its first inputs, which are those of the row, and the circuits in it.

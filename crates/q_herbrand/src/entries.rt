@@ -6,7 +6,7 @@
 ghost use Rattle.std.specs.Prelude.{◌≡◌, ◌++◌, List, Option, Some, ℕ, length, IfOk, OnOk};
 ghost use Rattle.q_logic.specs.Prelude.{Literal, negation, falsum};
 ghost use Rattle.q_aig.specs.Prelude.{operand_of, IsLiteral};
-ghost use Rattle.q_carry.specs.Prelude.{AreLiterals, look_at};
+ghost use Rattle.q_certificate.specs.Prelude.{AreLiterals, look_at};
 ghost use Rattle.q_logic.specs.Reversals.{added, turned, plain, freshened, removed};
 ghost use Rattle.q_herbrand.specs.Parts.{IsNoneOf, IsLoweredOne, AreLowered};
 ghost use Rattle.q_herbrand.specs.Carried.{IsCarried};
@@ -14,10 +14,10 @@ ghost use Rattle.q_herbrand.specs.Following.{IsReady, IsTaken, AreTaken};
 ghost use Rattle.q_herbrand.specs.Entries.{entry_of};
 
 use crate::reversal::{Reversal, Reversals};
+use crate::slots::{Slots, fill, renew, slot_of};
 use q_aig::{Aig, constant, negate};
-use q_carry::{Tables, all_of, look, put, raise};
+use q_certificate::{Tables, all_of, look, put, raise};
 use q_logic::{Clauses, Lit, NoMemory};
-use q_slots::{Slots, fill, renew, slot_of};
 
 // The conjunction of the negations.
 fn none_of(aig: &mut Aig, tables: &Tables, clause: &[Lit]) -> Result<u64, NoMemory>

@@ -2,10 +2,13 @@
 //!
 //! `Trail` notes what the steps of a log leave, each over the formula that the steps before it made.
 //! `refute` tests the given circuits, copies the gates that they need, and takes the reversals from the last to the first.
-//! `specs/Trails` says what is noted, `specs/Refusals` which circuits are refused, `specs/Refuted` what comes out.
+//! `disprove` needs no circuits: where the steps lead to the empty clause, each universal is 0 there.
+//! `specs/Trails` says what is noted, `specs/Refusals` which circuits are refused, `specs/Refuted` and `specs/Disproved` what comes out.
 #![tactic(auto)]
 
+mod building;
 mod carrying;
+mod disproving;
 mod drafting;
 mod drops;
 mod entries;
@@ -13,11 +16,16 @@ mod error;
 mod exchanging;
 mod inputs;
 mod laws;
+mod nodes;
 mod reversal;
+mod settling;
+mod slots;
 mod steps;
 mod trail;
 mod whole;
+mod zeros;
 
+pub use disproving::disprove;
 pub use error::{HerbrandError, TrailError};
 pub use laws::{
     alike_circuits_are_accepted_alike, herbrand_functions_are_accepted,

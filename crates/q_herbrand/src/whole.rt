@@ -1,7 +1,7 @@
 //! Herbrand functions of the output, carried back to the input.
 ghost use Rattle.std.specs.Prelude.{◌≡◌, List, IfOk, IfErr, OnOk};
 ghost use Rattle.q_logic.specs.Prelude.{ProofStep, Run, PrenexFormula, CertificateView};
-ghost use Rattle.q_carry.specs.Prelude.{Fits, IsMisfit};
+ghost use Rattle.q_certificate.specs.Prelude.{Fits, IsMisfit};
 ghost use Rattle.q_logic.specs.Exchanging.{exchanged};
 ghost use Rattle.q_logic.specs.Reversals.{Reversals as ReversalsOf};
 ghost use Rattle.q_herbrand.specs.Refuted.{IsRefuted};
@@ -12,7 +12,7 @@ use crate::error::HerbrandError;
 use crate::exchanging::exchange;
 use crate::reversal::Reversals;
 use q_aig::Certificate;
-use q_carry::{Misfit, fitting_circuits_are_lawful, narrow, test};
+use q_certificate::{Misfit, fitting_circuits_are_lawful, narrow, test};
 use q_logic::Formula;
 use std::alloc::Global;
 

@@ -11,7 +11,7 @@ held-in s n C h = Contains-IsIn C (filled s) (filled-in s n C h)
 pub in-held : (s : Slots) (C : Clause) → IsIn C (filled s) → (n : ℕ) × Holds s n C
 in-held s C m = filled-cases s C (IsIn-Contains C (filled s) m)
 
-filled-append : (s t : Slots) → filled (s ++ t) ≡ filled s ++ filled t
+pub filled-append : (s t : Slots) → filled (s ++ t) ≡ filled s ++ filled t
 filled-append [] t = refl
 filled-append (None ∷ s) t = filled-append s t
 filled-append (Some C ∷ s) t = ap (λ (X : Matrix). C ∷ X) (filled-append s t)

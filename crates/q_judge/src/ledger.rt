@@ -95,6 +95,21 @@ impl Ledger {
         &self.store
     }
 
+    /// The clauses now, by ascending slot.
+    pub fn clauses(&self) -> Result<Clauses, NoMemory>
+        ensures { IfOk result (λ c. c ≡ filled self.now.slots) }
+    {
+        let count = self.clauses as usize;
+        let mut clauses = Clauses::with_capacity(self.alloc, count, self.lits as usize)?;
+        for at in 0..self.store.slots() {
+            let Some(clause) = self.store.slot(at) else {
+                continue;
+            };
+            clauses.push(clause)?;
+        }
+        Ok(clauses)
+    }
+
     /// Whether one more clause keeps the checker's limits, four times those of a file.
     pub fn has_room(&self, limits: Limits, clause: &[Lit]) -> bool
         requires { AreModerate limits }

@@ -164,8 +164,8 @@ impl Scope {
         Ok(are_same_bindings(&mine.bindings, &others.bindings))
     }
 
-    // The variables in order.
-    fn bounds(&self, alloc: Global) -> Result<Vec<Bound>, NoMemory>
+    /// The variables in order.
+    pub fn bounds(&self, alloc: Global) -> Result<Vec<Bound>, NoMemory>
         ensures same { IfOk result (λ bounds. bounds.items ≡ self.now) }
         ensures distinct { IfOk result (λ bounds. Distinct bounds.items) }
     {

@@ -11,3 +11,4 @@ pub mod HandedSteps
 pub mod LeastInFront
 pub mod LogPieces
 mod Fewer
+pub mod StepEnds

@@ -5,3 +5,4 @@ pub mod Logs
 pub mod Reading
 pub mod Spelled
 pub mod Texts
+pub mod Fronts

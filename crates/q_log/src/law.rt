@@ -3,6 +3,7 @@ ghost use Rattle.std.specs.List.{AllByRecursion};
 ghost use Rattle.q_logic.specs.declared.rule_bounds.Bounds.{Bounds};
 ghost use Rattle.q_logic.specs.Prelude.{Prefix, PrenexFormula, IsInLimits, standard, Slots, live, formula_of, IsProper, Applicable, result_of, Run, ProofStep, swept, Target};
 ghost use Rattle.q_log.specs.Logs.{Steps};
+ghost use Rattle.q_log.specs.Fronts.{RefusalsAreLeast};
 ghost use Rattle.q_log.specs.Spelled.{Log};
 ghost use Rattle.q_log.specs.Texts.{IsLogged, on_lines, steps_text};
 
@@ -38,4 +39,10 @@ pub fn targets_can_be_logged()
 pub fn sweeping_can_be_logged()
     ensures { (F : PrenexFormula) → IsProper F → IsInLimits standard F →
         (ss : List ProofStep) × Run F ss (swept F) × AllByRecursion IsLogged ss }
+{}
+
+/// A log is refused at the end of the shortest front of its tokens that no log continues, at its own end where it ends inside a step,
+/// or at the first byte past the limit.
+pub fn log_refusals_are_least()
+    ensures { RefusalsAreLeast }
 {}

@@ -11,8 +11,8 @@ mod text;
 pub use builder::StepBuilder;
 pub use error::LogError;
 pub use law::{
-    grammar_is_read, runs_can_be_logged, sweeping_can_be_logged, targets_can_be_logged,
-    texts_are_read,
+    grammar_is_read, log_refusals_are_least, runs_can_be_logged, sweeping_can_be_logged,
+    targets_can_be_logged, texts_are_read,
 };
 pub use reader::LogReader;
 pub use text::{push_step, step_len, write_head, write_shorter, write_step};

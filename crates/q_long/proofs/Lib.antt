@@ -4,3 +4,5 @@ pub mod Winning
 pub mod Valuing
 pub mod Distant
 pub mod Refuting
+pub mod Following
+pub mod Finishing

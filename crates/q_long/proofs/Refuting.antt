@@ -95,7 +95,7 @@ not-both true false h k = cc
 not-both false true h k = cc
 not-both false false h k = cc
 
-clause-false : (X : Matrix) (B : Assignment) (T : List Literal) → Turned (HoldsClause X) T → TermTrue B T → MatrixFalse B X
+pub clause-false : (X : Matrix) (B : Assignment) (T : List Literal) → Turned (HoldsClause X) T → TermTrue B T → MatrixFalse B X
 clause-false X B T (S, (D, m, w), e) t = (D, m, none)
   where
     none : ClauseTrue B D → ⊥

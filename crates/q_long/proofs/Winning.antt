@@ -23,7 +23,7 @@ gives-in x (v ∷ T) h = go (eqb v.var x) refl h (gives-in x T)
     go true p q ih = (v, inl refl, grind arith)
     go false p q ih = let r = ih q in (r.0, inr r.1, r.2)
 
-in-gives : (v : Value) (T : List Value) → IsIn v T → gives v.var T ≡ true
+pub in-gives : (v : Value) (T : List Value) → IsIn v T → gives v.var T ≡ true
 in-gives v [] m = elim m [ ]
 in-gives v (w ∷ T) (inl e) =
     let q : eqb w.var v.var ≡ true = let z : w.var ≡ v.var = ap (λ (x : Value). x.var) (sym e) in grind arith in rw q refl

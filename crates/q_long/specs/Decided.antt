@@ -46,6 +46,11 @@ drops_in lines (line ∷ last) = drops_by lines line.values line.reason ++ drops
 abbrev pub drops : List Line → List Drop
 drops lines = drops_in lines lines
 
+-- values that one line takes away, which keeps T
+abbrev pub drops_of : List Value → List Value → List Drop
+drops_of [] T = []
+drops_of (v ∷ S) T = record { value = v; kept = T } ∷ drops_of S T
+
 -- both are true or both are false
 abbrev pub alike : Circuit → Circuit → Circuit
 alike s t = disjunction (conjunction s t) (conjunction (inverter s) (inverter t))

@@ -1,13 +1,14 @@
 -- Derivations whose lines give values: what a line says of a variable is a circuit over the opponent's variables before it. The
 -- owner's variables are the existentials of the prefix. (Such circuits are the merge maps of Beyersdorff, Blinkhorn, Mahajan,
 -- "Building Strategies into QBF Proofs", Journal of Automated Reasoning 65, 2021.)
-use Rattle.std.specs.Prelude.{◌≡◌, ℕ, ◌<◌, Bool, true, cond, not, ◌&&◌, List, [], ◌∷◌, ◌⊎◌, slice_get, Some}
+use Rattle.std.specs.Prelude.{◌≡◌, ℕ, ◌<◌, Bool, true, cond, not, ◌&&◌, List, [], ◌∷◌, map, ◌⊎◌, slice_get, Some}
 use Rattle.q_logic.specs.Literals.{Literal, negation, bool_eq}
 use Rattle.q_logic.specs.Formulas.{Prefix, IsIn}
 use Rattle.q_logic.specs.Prefixes.{is_existential, universal_before, place}
 use Rattle.q_logic.specs.Truth.{Assignment}
 use Rattle.q_logic.specs.Circuits.{Circuit, constant, value_of, Reads, choice}
 use Rattle.q_derive.specs.Derivations.{Reason, leaf, resolve, reduce}
+use Rattle.q_derive.specs.Extracted.{turned_all}
 
 -- a variable, and what a line says that it is
 pub record Value : Type 0 where
@@ -90,3 +91,15 @@ IsLeafOf lines T = (n : ℕ) × (line : Line) × (slice_get lines n ≡ Some lin
 -- some line has no value
 abbrev pub HasEmpty : List Line → Type 0
 HasEmpty lines = (n : ℕ) × (line : Line) × (slice_get lines n ≡ Some line) × (line.values ≡ [])
+
+-- the values by which all literals are true
+abbrev pub values_for : List Literal → List Value
+values_for T = map value_for T
+
+-- the values are those of literals of this kind
+abbrev pub AreOf : (List Literal → Type 0) → List Value → Type 0
+AreOf L V = (T : List Literal) × L T × (V ≡ values_for T)
+
+-- the literals are those of such a clause, turned round
+abbrev pub IsTurned : (List Literal → Type 0) → List Literal → Type 0
+IsTurned L T = (S : List Literal) × L S × (T ≡ turned_all S)

@@ -8,5 +8,6 @@
 mod laws;
 
 pub use laws::{
-    long_refutations_give_herbrand, long_term_proofs_give_skolem, valued_derivations_win,
+    long_refutations_give_herbrand, long_term_proofs_give_skolem, valued_derivations_decide,
+    valued_derivations_win,
 };

@@ -1,10 +1,9 @@
 //! What a run has done so far. A long run says it on standard error, about once a second.
 
-use crate::rules::{NAMES, RULES, rule_of};
 use crate::sizes::{Count, Sizes, sizes_of};
+use q_guides::Pass;
 use q_kernel::Kernel;
-use q_sched::Move;
-use q_touched::Pass;
+use q_sched::{Move, RULE_NAMES, RULES};
 use std::cell::{Cell, RefCell};
 use std::env;
 use std::io::{IsTerminal, Write};
@@ -254,7 +253,7 @@ impl Board {
     /// A target was taken.
     pub(crate) fn note_taken(&self, target: &Move) {
         if let Ok(mut taken) = self.taken.try_borrow_mut() {
-            let rule = rule_of(target);
+            let rule = target.rule();
             taken[rule] = taken[rule].saturating_add(1);
         }
     }
@@ -329,7 +328,7 @@ impl Board {
         let counts = self.counts();
         for rule in 0..RULES {
             let count = counts[rule];
-            let name = NAMES[rule];
+            let name = RULE_NAMES[rule];
             let _ = eprintln!(self.rt; "{count:>10} {name}");
         }
     }

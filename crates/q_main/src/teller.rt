@@ -1,8 +1,8 @@
 //! What a guide looks at, told to a board.
 
 use crate::board::Board;
+use q_guides::{Pass, Watch};
 use q_kernel::Kernel;
-use q_touched::{Pass, Watch};
 use std::rc::Rc;
 
 /// Tells it.

@@ -2,6 +2,6 @@ mod JoinedLogs
 mod JoinedFiles
 mod SameWords
 mod CheckedParts
-mod RisingLines
+pub mod RisingLines
 mod RisingEntries
 mod LeastRefusals

@@ -1,7 +1,7 @@
 -- Circuits of the same inputs, names and trees are accepted alike.
 use Rattle.std.proofs.Common.{◌≡◌, ℕ, map, subst}
 use Rattle.q_logic.specs.Prelude.{PrenexFormula, CertificateView, trees_of, Strategy, SkolemOf}
-use Rattle.q_carry.proofs.AlikeFit.{fits-alike}
+use Rattle.q_certificate.proofs.AlikeFit.{fits-alike}
 use Rattle.q_rebuild.specs.Refusals.{IsAccepted}
 
 pub same-strategy : (s t : Strategy) → ((x : ℕ) → s x ≡ t x) → s ≡ t

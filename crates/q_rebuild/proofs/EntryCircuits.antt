@@ -5,7 +5,7 @@ use Rattle.q_logic.specs.Prelude.{Literal, negation, Prefix, Clause, IsIn, Prene
 use Rattle.q_logic.proofs.Common.{JustifiedSteps, JustifiedRun, IsIn-outer, one_less-IsIn, at_or_other, is_bound-universal, removed-unbound, after-formula, rebuilt-lawful, universal-is_bound, removed-is_universal}
 use Rattle.q_logic.proofs.Blocks.{lawful-same, Same-itself}
 use Rattle.q_logic.proofs.Outers.{outers-members}
-use Rattle.q_carry.specs.Prelude.{IsCovered, OutersCovered, EntryCovered}
+use Rattle.q_certificate.specs.Prelude.{IsCovered, OutersCovered, EntryCovered}
 use Rattle.q_rebuild.specs.TakenBack.{AreCovered}
 
 insert-universal : (w v : ℕ) (P : Prefix) (x : ℕ) → is_universal (insert_after w v P) x ≡ true → is_universal P x ≡ true

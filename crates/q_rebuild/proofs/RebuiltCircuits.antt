@@ -6,9 +6,9 @@ use Rattle.q_logic.proofs.Common.{JustifiedRun, Run-justified, MatrixTrue-agree,
 use Rattle.q_logic.proofs.Blocks.{lawful-same}
 use Rattle.q_aig.specs.declared.output.Output.{Output}
 use Rattle.q_aig.specs.Prelude.{Net, tree_at, output_of, net_of, AreOutputs}
-use Rattle.q_carry.specs.Prelude.{look_at, IsAt, or_zero, marked_upto, AreMarked, AreCopied, ArePlaced, strategy_of, IsOpened, IsNamed}
-use Rattle.q_carry.proofs.MarkedGates.{upto-most, cones-count}
-use Rattle.q_carry.proofs.NamedCertificates.{outputs-read, existentials-named, not-given, made-is, made-serves, made-lawful}
+use Rattle.q_certificate.specs.Prelude.{look_at, IsAt, or_zero, marked_upto, AreMarked, AreCopied, ArePlaced, strategy_of, IsOpened, IsNamed}
+use Rattle.q_certificate.proofs.MarkedGates.{upto-most, cones-count}
+use Rattle.q_certificate.proofs.NamedCertificates.{outputs-read, existentials-named, not-given, made-is, made-serves, made-lawful}
 use Rattle.q_rebuild.specs.TakenBack.{weights, AreUndone}
 use Rattle.q_rebuild.specs.Rebuilt.{IsRebuilt}
 use Rattle.q_rebuild.proofs.EntryCircuits.{run-covered, steps-universal}

@@ -1,10 +1,10 @@
 -- What is refused is not accepted.
 use Rattle.std.proofs.Common.{◌≡◌, refl}
 use Rattle.q_logic.specs.Prelude.{PrenexFormula, CertificateView}
-use Rattle.q_carry.specs.declared.error.Misfit.{Misfit}
-use Rattle.q_carry.specs.declared.error.Misfit.TheVariants as misfit
-use Rattle.q_carry.specs.Prelude.{IsMisfit}
-use Rattle.q_carry.proofs.Misfits.{misfit-not_fits}
+use Rattle.q_certificate.specs.declared.error.Misfit.{Misfit}
+use Rattle.q_certificate.specs.declared.error.Misfit.TheVariants as misfit
+use Rattle.q_certificate.specs.Prelude.{IsMisfit}
+use Rattle.q_certificate.proofs.Misfits.{misfit-not_fits}
 use Rattle.q_rebuild.specs.Refusals.{IsRefused, IsAccepted, error_of}
 use Rattle.q_rebuild.specs.declared.error.RebuildError.{RebuildError}
 use Rattle.q_rebuild.specs.declared.error.RebuildError.TheVariants as refusal

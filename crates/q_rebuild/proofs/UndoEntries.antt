@@ -2,8 +2,8 @@
 use Rattle.std.proofs.Common.{ℕ, ◌+◌, List, [], ◌∷◌, Option, arith}
 use Rattle.q_logic.specs.Prelude.{UndoEntry, Back}
 use Rattle.q_aig.specs.Prelude.{Net}
-use Rattle.q_carry.specs.Prelude.{weight, AreLiterals, IsUndone}
-use Rattle.q_carry.proofs.CircuitParts.{grown-none, grown-then}
+use Rattle.q_certificate.specs.Prelude.{weight, AreLiterals, IsUndone}
+use Rattle.q_certificate.proofs.CircuitParts.{grown-none, grown-then}
 use Rattle.q_rebuild.specs.TakenBack.{weights, AreUndone}
 
 pub are-none : (a : Net) (ins tb : List (Option ℕ)) → AreLiterals a tb → AreUndone a a ins tb tb []

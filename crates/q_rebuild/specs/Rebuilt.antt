@@ -2,7 +2,7 @@
 use Rattle.std.specs.Prelude.{◌≡◌, ◌≤◌, ℕ, ◌+◌, Bool, true, List, length, map}
 use Rattle.q_logic.specs.Prelude.{PrenexFormula, is_existential, Assignment, value_of, CertificateView, trees_of, circuit_of, Lawful, SkolemOf, UndoEntry, Back}
 use Rattle.q_aig.specs.Prelude.{marked_count}
-use Rattle.q_carry.specs.Prelude.{universals, existentials, HasCones}
+use Rattle.q_certificate.specs.Prelude.{universals, existentials, HasCones}
 use Rattle.q_rebuild.specs.TakenBack.{weights}
 
 -- circuits of the formula before, made from those of the formula after

@@ -1,9 +1,9 @@
 -- Why circuits are refused.
 use Rattle.std.specs.Prelude.{[]}
 use Rattle.q_logic.specs.Prelude.{PrenexFormula, IsIn, CertificateView}
-use Rattle.q_carry.specs.declared.error.Misfit.{Misfit}
-use Rattle.q_carry.specs.declared.error.Misfit.TheVariants as misfit
-use Rattle.q_carry.specs.Prelude.{Fits, IsMisfit}
+use Rattle.q_certificate.specs.declared.error.Misfit.{Misfit}
+use Rattle.q_certificate.specs.declared.error.Misfit.TheVariants as misfit
+use Rattle.q_certificate.specs.Prelude.{Fits, IsMisfit}
 use Rattle.q_rebuild.specs.declared.error.RebuildError.{RebuildError}
 use Rattle.q_rebuild.specs.declared.error.RebuildError.TheVariants.{MissingOutput, StrangeOutput, StrangeInput, Reads, FalseOutput, NoMemory}
 

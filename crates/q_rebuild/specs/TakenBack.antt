@@ -2,7 +2,7 @@
 use Rattle.std.specs.Prelude.{ℕ, ◌+◌, Bool, List, [], ◌∷◌, Option}
 use Rattle.q_logic.specs.Prelude.{Strategy, UndoEntry, Back}
 use Rattle.q_aig.specs.Prelude.{Net}
-use Rattle.q_carry.specs.Prelude.{EntryCovered, weight, AreLiterals, IsAt, IsGrown}
+use Rattle.q_certificate.specs.Prelude.{EntryCovered, weight, AreLiterals, IsAt, IsGrown}
 
 -- whenever an entry is undone, what its outer clauses hold has a circuit or is an input
 abbrev pub AreCovered : (ℕ → Bool) → List UndoEntry → Strategy → Type 0

@@ -14,7 +14,7 @@ pub fn test(alloc: Global, output: &Formula, given: &mut Certificate) -> Result<
     ensures accepted { OnOk result (IsAccepted output.now given.old) }
     ensures refused { IfErr result (IsRefused output.now given.old) }
 {
-    q_carry::test(alloc, output.prefix(), given)?;
+    q_certificate::test(alloc, output.prefix(), given)?;
     if has_empty(output) {
         return Err(RebuildError::FalseOutput);
     }

@@ -5,7 +5,7 @@ ghost use Rattle.q_rebuild.specs.Rebuilt.{IsRebuilt};
 
 use crate::entries::take_back;
 use q_aig::{Aig, Certificate};
-use q_carry::{Tables, copy_gates, mark_cones, name_outputs, open_inputs, place_outputs};
+use q_certificate::{Tables, copy_gates, mark_cones, name_outputs, open_inputs, place_outputs};
 use q_check::Undos;
 use q_logic::{Formula, NoMemory};
 use std::alloc::Global;

@@ -3,13 +3,13 @@
 //! h` for a positive pivot v, `v and not h` for a negative one, with h over the circuits before this entry. Each literal
 //! and each clause of the list costs one gate at most.
 ghost use Rattle.std.specs.Prelude.{◌≡◌, OnOk};
-ghost use Rattle.q_carry.specs.Prelude.{AreLiterals, IsUndone};
+ghost use Rattle.q_certificate.specs.Prelude.{AreLiterals, IsUndone};
 ghost use Rattle.q_rebuild.specs.TakenBack.{AreUndone};
 ghost use Rattle.q_judge.specs.Entries.{entry_of};
 ghost use Rattle.q_logic.specs.Prelude.{pivot as pivot_entry};
 
 use q_aig::{Aig, constant};
-use q_carry::{Tables, all_of, look, put, raise};
+use q_certificate::{Tables, all_of, look, put, raise};
 use q_check::{Clauses, Undo, Undos};
 use q_logic::{Lit, NoMemory};
 

@@ -9,7 +9,7 @@ use crate::accepting::test;
 use crate::carrying::carry;
 use crate::error::RebuildError;
 use q_aig::Certificate;
-use q_carry::fitting_circuits_are_lawful;
+use q_certificate::fitting_circuits_are_lawful;
 use q_check::Undos;
 use q_logic::Formula;
 use std::alloc::Global;

@@ -1,20 +1,21 @@
 -- What follows of a trace from what the judge found.
-use Rattle.std.proofs.Common.{◌≡◌, ◌↔◌, ℕ, zero, suc, ◌<◌, ◌≤◌, Bool, true, false, ◌&&◌, List, [], ◌∷◌, ◌++◌, ◌⊎◌, inl, inr, length, map, arith, refl, sym, ap, ap₂, ◌∙◌, subst, slice_get, Option, Some, None}
-use Rattle.std.proofs.lemmas.List.{append-nil}
+use Rattle.std.proofs.Common.{◌≡◌, ℕ, zero, suc, ◌<◌, Bool, true, false, List, [], ◌∷◌, inl, inr, length, map, arith, refl, sym, ap, ◌∙◌, subst, slice_get, Option, Some, None}
 use Rattle.std.proofs.lemmas.Option.{slice_get_within}
-use Rattle.q_logic.specs.Prelude.{Literal, negation, Prefix, Matrix, PrenexFormula, IsIn, IsSubset, is_existential, IsFormula, Distinct, Assignment, value_of, Strategy, circuit_of, or_input, outcome, Lawful, SkolemOf, CertificateView, trees_of, has}
+use Rattle.q_logic.specs.Prelude.{Literal, negation, Prefix, Matrix, PrenexFormula, is_existential, IsFormula, Distinct, Assignment, value_of, Strategy, circuit_of, or_input, outcome, Lawful, SkolemOf, CertificateView, trees_of}
 use Rattle.q_logic.specs.Exchanging.{exchanged}
 use Rattle.q_logic.specs.Herbrands.{HerbrandOf}
 use Rattle.q_logic.proofs.Common.{MatrixTrue-agree}
 use Rattle.q_logic.proofs.Exchanged.{exchanged-lawful, exchanged-distinct}
 use Rattle.q_logic.proofs.Falsity.{MatrixFalse-agree}
-use Rattle.q_carry.proofs.NamedCertificates.{not-given}
-use Rattle.q_derive.specs.Derivations.{Line, Reason, leaf, resolve, reduce, Follows, IsDerivation, IsAnyDerivation, IsTermProof, IsRefutation, IsHitting, HoldsClause, HasEmpty}
-use Rattle.q_derive.specs.Extracted.{Drop, drops, circuits_by, circuits_of, turned, turned_drop, AreBehind}
-use Rattle.q_derive.specs.Traces.{Entry, Parents, nothing, missing, single, double, parents, literals_in, IsParent, IsLeaf, IsInner, AreBound, Stands, IsRight, InCone, end, further, IsEnd, IsEndless, IsTrace, IsOneOf}
-use Rattle.q_derive.proofs.Winning.{derived-lawful, proof-skolem, any-derivation, drops-behind}
-use Rattle.q_derive.proofs.Turning.{refutation-herbrand, refutation-any}
-use Rattle.q_derive.proofs.Following.{HasLine, leaf-further, drops-turned}
+use Rattle.q_certificate.proofs.NamedCertificates.{not-given}
+use Rattle.q_derive.specs.Derivations.{Reason, leaf, resolve, reduce, IsHitting, HoldsClause}
+use Rattle.q_derive.specs.Extracted.{turned_all}
+use Rattle.q_long.specs.Valued.{Value, Line, Follows, IsDerivation, AreOf, IsTurned, HasEmpty}
+use Rattle.q_long.specs.Decided.{Drop, drops, circuits_of, AreBehind}
+use Rattle.q_derive.specs.Traces.{Entry, Parents, nothing, missing, single, double, parents, literals_in, AreBound, Stands, InCone, end, further, IsEnd, IsEndless, IsTrace}
+use Rattle.q_long.proofs.Winning.{derived-lawful, drops-behind}
+use Rattle.q_long.proofs.Following.{leaf-further}
+use Rattle.q_long.proofs.Finishing.{ended-skolem, ended-herbrand}
 use Rattle.q_extract.specs.Built.{IsExtracted}
 use Rattle.q_extract.specs.Rows.{drops_in}
 use Rattle.q_extract.specs.declared.drops.Drops.{Drops}
@@ -22,14 +23,16 @@ use Rattle.q_resolve.specs.declared.leaves.Owner.{Owner}
 use Rattle.q_resolve.specs.declared.leaves.Owner.TheVariants.{Exists, Forall}
 use Rattle.q_resolve.specs.declared.fault.Fault.{Fault}
 use Rattle.q_resolve.specs.declared.fault.Fault.TheVariants.{Unbound, Missing, NoLeaf, NoPivot, Merged, Lost, Shed}
-use Rattle.q_resolve.specs.Faults.{IsFault, IsLeastFault, HasParents}
+use Rattle.q_resolve.specs.Faults.{IsFault, IsLeastFault}
 use Rattle.q_resolve.specs.Leaves.{MayStand, prefix_for}
-use Rattle.q_resolve.specs.Reduced.{sided, sided_drop}
+use Rattle.q_resolve.specs.Plain.{sided, side_values}
 use Rattle.q_qrp.specs.Lines.{Proof}
 use Rattle.q_resolve.specs.declared.judged.Judged.{Judged}
 use Rattle.q_resolve.specs.declared.judged.Judged.TheVariants.{Proved, Refused}
-use Rattle.q_resolve.specs.Judged.{entries_of, parents_at, sources_in, AreRight, IsFirst, IsRefusal, IsProofOf, Decide, IsMadeFor, IsAnswer}
-use Rattle.q_resolve.specs.Derived.{IsDerivedFrom, IsStood}
+use Rattle.q_resolve.specs.Judged.{entries_of, sources_in, AreRight, IsFirst, IsRefusal, IsProofOf, Decide, IsMadeFor, IsAnswer}
+use Rattle.q_resolve.specs.Derived.{IsSided, IsDerivedFrom, IsStood}
+use Rattle.q_extract.specs.Merges.{HavePivotsIn}
+use Rattle.q_extract.specs.declared.said.Merge.{Merge}
 
 -- a line with a fault is not right
 fault-wrong : (P : Prefix) (L : List Literal → Type 0) (from : Parents) (T : List Literal) (f : Fault) → IsFault P L from T f →
@@ -115,93 +118,92 @@ same-outcome P c d lc ld v A x = go (is_existential P x) refl
         let n : d x ≡ None = not-given (d x) (ld.trees x ∙ e) in
         ap (λ o. value_of (or_input x o) A) m ∙ sym (ap (λ o. value_of (or_input x o) A) n)
 
-same-values : (P : Prefix) (lines : List Line) (made : CertificateView) → Distinct P → IsAnyDerivation P lines → IsExtracted P (drops lines) made →
+same-values : (P : Prefix) (L : List Value → Type 0) (lines : List Line) (n : ℕ) (made : CertificateView) → Distinct P → IsDerivation P L lines → IsExtracted P (drops lines) n made →
     (A : Assignment) (y : ℕ) → outcome (circuits_of P lines) A y ≡ outcome (trees_of made) A y
-same-values P lines made di de x A y =
-    sym (same-outcome P (trees_of made) (circuits_of P lines) x.lawful (derived-lawful P lines di de) x.values A y)
+same-values P L lines n made di de x A y =
+    sym (same-outcome P (trees_of made) (circuits_of P lines) x.lawful (derived-lawful P L lines di de) x.values A y)
 
-skolem-made : (F : PrenexFormula) (lines : List Line) (made : CertificateView) → IsFormula F → IsTermProof F lines →
-    IsExtracted F.prefix (drops lines) made → SkolemOf F (trees_of made)
-skolem-made F lines made f p x = record {
+skolem-made : (F : PrenexFormula) (lines : List Line) (n : ℕ) (made : CertificateView) → IsFormula F → IsDerivation F.prefix (AreOf (IsHitting F.matrix)) lines → HasEmpty lines →
+    IsExtracted F.prefix (drops lines) n made → SkolemOf F (trees_of made)
+skolem-made F lines n made f d e x = record {
   lawful = x.lawful;
   wins = λ A. MatrixTrue-agree (outcome (circuits_of F.prefix lines) A) (outcome (trees_of made) A) F.matrix
-      (same-values F.prefix lines made f.distinct (any-derivation F.prefix (IsHitting F.matrix) lines p.follows) x A)
-      ((proof-skolem F lines f p).wins A);
+      (same-values F.prefix (AreOf (IsHitting F.matrix)) lines n made f.distinct d x A)
+      ((ended-skolem F lines f d e).wins A);
 }
 
-herbrand-made : (F : PrenexFormula) (lines : List Line) (made : CertificateView) → IsFormula F → IsRefutation F lines →
-    IsExtracted (exchanged F.prefix) (drops (turned lines)) made → HerbrandOf F (trees_of made)
-herbrand-made F lines made f p x = record {
+herbrand-made : (F : PrenexFormula) (lines : List Line) (n : ℕ) (made : CertificateView) → IsFormula F →
+    IsDerivation (exchanged F.prefix) (AreOf (IsTurned (HoldsClause F.matrix))) lines → HasEmpty lines →
+    IsExtracted (exchanged F.prefix) (drops lines) n made → HerbrandOf F (trees_of made)
+herbrand-made F lines n made f d e x = record {
   lawful = exchanged-lawful F.prefix (trees_of made) x.lawful;
-  loses = λ A. MatrixFalse-agree (outcome (circuits_of (exchanged F.prefix) (turned lines)) A) (outcome (trees_of made) A) F.matrix
-      (same-values (exchanged F.prefix) (turned lines) made (exchanged-distinct F.prefix f.distinct) (refutation-any F lines p) x A)
-      ((refutation-herbrand F lines f p).loses A);
+  loses = λ A. MatrixFalse-agree (outcome (circuits_of (exchanged F.prefix) lines) A) (outcome (trees_of made) A) F.matrix
+      (same-values (exchanged F.prefix) (AreOf (IsTurned (HoldsClause F.matrix))) lines n made (exchanged-distinct F.prefix f.distinct) d x A)
+      ((ended-herbrand F lines f d e).loses A);
 }
 
 -- both sides
-follows-map : (P : Prefix) (L M : List Literal → Type 0) (lines : List Line) (n : ℕ) (T : List Literal) (r : Reason) →
-    ((S : List Literal) → L S → M S) → Follows P L lines n T r → Follows P M lines n T r
+follows-map : (P : Prefix) (L M : List Value → Type 0) (lines : List Line) (n : ℕ) (T : List Value) (r : Reason) →
+    ((S : List Value) → L S → M S) → Follows P L lines n T r → Follows P M lines n T r
 follows-map P L M lines n T leaf h f = h T f
 follows-map P L M lines n T (resolve i j k) h f = f
 follows-map P L M lines n T (reduce i) h f = f
+
+derivation-map : (P : Prefix) (L M : List Value → Type 0) (lines : List Line) → ((S : List Value) → L S → M S) → IsDerivation P L lines → IsDerivation P M lines
+derivation-map P L M lines h d = record {
+  local = d.local;
+  follows = λ n line e. follows-map P L M lines n line.values line.reason h (d.follows n line e);
+}
 
 literals-own : (T : List Literal) → map (sided Exists) T ≡ T
 literals-own [] = refl
 literals-own (k ∷ T) = ap (λ (xs : List Literal). k ∷ xs) (literals-own T)
 
-drops-own : (ds : List Drop) → map (sided_drop Exists) ds ≡ ds
-drops-own [] = refl
-drops-own (d ∷ ds) = ap₂ (λ (x : Drop) (xs : List Drop). x ∷ xs) (ap (λ (T : List Literal). record { literal = d.literal; kept = T }) (literals-own d.kept)) (drops-own ds)
+literals-turned : (T : List Literal) → map (sided Forall) T ≡ turned_all T
+literals-turned [] = refl
+literals-turned (k ∷ T) = ap (λ (xs : List Literal). negation k ∷ xs) (literals-turned T)
 
-drops-other : (ds : List Drop) → map (sided_drop Forall) ds ≡ map turned_drop ds
-drops-other [] = refl
-drops-other (d ∷ ds) = ap (λ (xs : List Drop). turned_drop d ∷ xs) (drops-other ds)
+hitting-leaf : (X : Matrix) (V : List Value) → AreOf (IsSided Exists X) V → AreOf (IsHitting X) V
+hitting-leaf X V (T, (S, h, q), e) = (T, subst (IsHitting X) (sym (q ∙ literals-own S)) h, e)
+
+clause-leaf : (X : Matrix) (V : List Value) → AreOf (IsSided Forall X) V → AreOf (IsTurned (HoldsClause X)) V
+clause-leaf X V (T, (S, h, q), e) = (T, (S, (h.0, h.1, h.2), q ∙ literals-turned S), e)
 
 -- a derivation that ends, with what it takes away
 pub record IsFinished (o : Owner) (F : PrenexFormula) (lines : List Line) (ds : List Drop) : Type 0 where
-  pub derivation : IsDerivation (prefix_for o F.prefix) (MayStand o F.matrix) lines
-  pub same : ds ≡ map (sided_drop o) (drops lines)
+  pub derivation : IsDerivation (prefix_for o F.prefix) (AreOf (IsSided o F.matrix)) lines
+  pub same : ds ≡ drops lines
   pub ends : HasEmpty lines
 
-refuted : (F : PrenexFormula) (lines : List Line) (ds : List Drop) → IsFinished Forall F lines ds → IsRefutation F lines
-refuted F lines ds h = record {
-  follows = λ n line e. follows-map (exchanged F.prefix) (IsOneOf F.matrix) (HoldsClause F.matrix) lines n line.literals line.reason
-      (λ S x. (x.0, x.1, x.2)) (h.derivation n line e);
-  ends = h.ends;
-}
-
 pub finished-behind : (o : Owner) (F : PrenexFormula) (lines : List Line) (ds : List Drop) → IsFinished o F lines ds → AreBehind (prefix_for o F.prefix) ds
-finished-behind Exists F lines ds h =
-    subst (AreBehind F.prefix) (sym (h.same ∙ drops-own (drops lines)))
-    (drops-behind F.prefix lines (any-derivation F.prefix (IsHitting F.matrix) lines h.derivation))
-finished-behind Forall F lines ds h =
-    subst (AreBehind (exchanged F.prefix)) (sym (h.same ∙ drops-other (drops lines) ∙ sym (drops-turned lines)))
-    (drops-behind (exchanged F.prefix) (turned lines) (refutation-any F lines (refuted F lines ds h)))
+finished-behind o F lines ds h =
+    subst (AreBehind (prefix_for o F.prefix)) (sym h.same) (drops-behind (prefix_for o F.prefix) (AreOf (IsSided o F.matrix)) lines h.derivation)
 
-pub finished-decides : (o : Owner) (F : PrenexFormula) (lines : List Line) (ds : List Drop) (made : CertificateView) → IsFormula F →
-    IsFinished o F lines ds → IsExtracted (prefix_for o F.prefix) ds made → IsMadeFor (prefix_for o F.prefix) made × Decide o F made
-finished-decides o F lines ds made f h x = (record { inputs = x.inputs; outputs = x.outputs; lawful = x.lawful }, go o h x)
+pub finished-decides : (o : Owner) (F : PrenexFormula) (lines : List Line) (ds : List Drop) (n : ℕ) (made : CertificateView) → IsFormula F →
+    IsFinished o F lines ds → IsExtracted (prefix_for o F.prefix) ds n made → IsMadeFor (prefix_for o F.prefix) made × Decide o F made
+finished-decides o F lines ds n made f h x = (record { inputs = x.inputs; outputs = x.outputs; lawful = x.lawful }, go o h x)
   where
-    go : (o : Owner) → IsFinished o F lines ds → IsExtracted (prefix_for o F.prefix) ds made → Decide o F made
+    go : (o : Owner) → IsFinished o F lines ds → IsExtracted (prefix_for o F.prefix) ds n made → Decide o F made
     go Exists h x =
-        skolem-made F lines made f (record { follows = h.derivation; ends = h.ends })
-        (subst (λ (xs : List Drop). IsExtracted F.prefix xs made) (h.same ∙ drops-own (drops lines)) x)
+        skolem-made F lines n made f (derivation-map F.prefix (AreOf (IsSided Exists F.matrix)) (AreOf (IsHitting F.matrix)) lines (hitting-leaf F.matrix) h.derivation) h.ends
+        (subst (λ (xs : List Drop). IsExtracted F.prefix xs n made) h.same x)
     go Forall h x =
-        herbrand-made F lines made f (refuted F lines ds h)
-        (subst (λ (xs : List Drop). IsExtracted (exchanged F.prefix) xs made) (h.same ∙ drops-other (drops lines) ∙ sym (drops-turned lines)) x)
+        herbrand-made F lines n made f (derivation-map (exchanged F.prefix) (AreOf (IsSided Forall F.matrix)) (AreOf (IsTurned (HoldsClause F.matrix))) lines (clause-leaf F.matrix) h.derivation) h.ends
+        (subst (λ (xs : List Drop). IsExtracted (exchanged F.prefix) xs n made) h.same x)
 
 pub finished-cone : (o : Owner) (F : PrenexFormula) (es : List Entry) (n : ℕ) (d : Drops) → IsEnd es n →
     (h : IsDerivedFrom o (prefix_for o F.prefix) F.matrix es (length es) d) → IsFinished o F h.lines (drops_in d)
 finished-cone o F es n d e h = record {
   derivation = h.derivation;
   same = h.same;
-  ends = let r = h.covers n (slice_get_within es n e.empty.0 e.empty.1) (end n e) e.empty.0 e.empty.1 in (r.0, r.1, r.2, r.3 ∙ e.empty.2);
+  ends = let r = h.covers n (slice_get_within es n e.empty.0 e.empty.1) (end n e) e.empty.0 e.empty.1 in (r.0, r.1, r.2, r.3 ∙ ap (side_values o) e.empty.2);
 }
 
 pub finished-leaf : (o : Owner) (F : PrenexFormula) (ds : List Drop) → ds ≡ [] → MayStand o F.matrix [] → (lines : List Line) × IsFinished o F lines ds
 finished-leaf o F ds e l =
-    let r = leaf-further (prefix_for o F.prefix) (MayStand o F.matrix) [] [] [] (record { derivation = λ n line h. absurd (cc); same = refl }) l in
-    (r.0, record { derivation = r.1.derived.derivation; same = e ∙ sym (ap (map (sided_drop o)) r.1.derived.same); ends = r.1.there })
+    let r = leaf-further (prefix_for o F.prefix) (AreOf (IsSided o F.matrix)) [] [] []
+    (record { derivation = record { local = λ n line h. absurd (cc); follows = λ n line h. absurd (cc) }; same = refl }) (λ v m. absurd m) ([], ([], l, refl), refl) in
+    (r.0, record { derivation = r.1.derived.derivation; same = e ∙ sym r.1.derived.same; ends = r.1.there })
 
 -- what the judge says in the end
 pub refused-endless : (o : Owner) (F : PrenexFormula) (proof : Proof) → IsEndless (entries_of proof.lines) → (MayStand o F.matrix [] → ⊥) →
@@ -215,20 +217,20 @@ refused-line o F proof P n f (Refused line cause) e h (l, s, p, q) =
     let w : IsFirst o (prefix_for o F.prefix) F.matrix (entries_of proof.lines) n f = subst (λ (Q : Prefix). IsFirst o Q F.matrix (entries_of proof.lines) n f) e h in
     (first-wrong o F (entries_of proof.lines) n f w, inr (n, l, f, s, p, q, w))
 
-pub proved-endless : (o : Owner) (F : PrenexFormula) (proof : Proof) (P : Prefix) (ds : List Drop) (made : CertificateView) → P ≡ prefix_for o F.prefix → IsFormula F →
-    IsEndless (entries_of proof.lines) → MayStand o F.matrix [] → ds ≡ [] → IsExtracted P ds made → IsAnswer o F proof (Proved made)
-proved-endless o F proof P ds made e f h l d x =
+pub proved-endless : (o : Owner) (F : PrenexFormula) (proof : Proof) (P : Prefix) (ds : List Drop) (m : ℕ) (made : CertificateView) → P ≡ prefix_for o F.prefix → IsFormula F →
+    IsEndless (entries_of proof.lines) → MayStand o F.matrix [] → ds ≡ [] → IsExtracted P ds m made → IsAnswer o F proof (Proved made)
+proved-endless o F proof P ds m made e f h l d x =
     let z = finished-leaf o F ds d l in
-    let r = finished-decides o F z.0 ds made f z.1 (subst (λ (Q : Prefix). IsExtracted Q ds made) e x) in
+    let r = finished-decides o F z.0 ds m made f z.1 (subst (λ (Q : Prefix). IsExtracted Q ds m made) e x) in
     (endless-proof o F (entries_of proof.lines) h l, r.0, r.1)
 
-pub proved-ended : (o : Owner) (F : PrenexFormula) (proof : Proof) (P : Prefix) (n : ℕ) (d : Drops) (made : CertificateView) → P ≡ prefix_for o F.prefix → IsFormula F →
-    IsEnd (entries_of proof.lines) n → IsStood o P F.matrix (entries_of proof.lines) (length (entries_of proof.lines)) d → IsExtracted P (drops_in d) made →
+pub proved-ended : (o : Owner) (F : PrenexFormula) (proof : Proof) (P : Prefix) (n : ℕ) (d : Drops) (m : ℕ) (made : CertificateView) → P ≡ prefix_for o F.prefix → IsFormula F →
+    IsEnd (entries_of proof.lines) n → IsStood o P F.matrix (entries_of proof.lines) (length (entries_of proof.lines)) d → IsExtracted P (drops_in d) m made →
     IsAnswer o F proof (Proved made)
-proved-ended o F proof P n d made e f h s x =
+proved-ended o F proof P n d m made e f h s x =
     let es = entries_of proof.lines in
     let t : IsStood o (prefix_for o F.prefix) F.matrix es (length es) d = subst (λ (Q : Prefix). IsStood o Q F.matrix es (length es) d) e s in
-    let r = finished-decides o F t.derived.lines (drops_in d) made f (finished-cone o F es n d h t.derived) (subst (λ (Q : Prefix). IsExtracted Q (drops_in d) made) e x) in
+    let r = finished-decides o F t.derived.lines (drops_in d) m made f (finished-cone o F es n d h t.derived) (subst (λ (Q : Prefix). IsExtracted Q (drops_in d) m made) e x) in
     (ended-proof o F es n h t.right, r.0, r.1)
 
 pub ended-behind : (o : Owner) (F : PrenexFormula) (proof : Proof) (P : Prefix) (n : ℕ) (d : Drops) → P ≡ prefix_for o F.prefix →
@@ -240,3 +242,6 @@ ended-behind o F proof P n d e h s =
 
 pub none-behind : (P : Prefix) (ds : List Drop) → ds ≡ [] → AreBehind P ds
 none-behind P ds e = subst (AreBehind P) (sym e) (λ d m. absurd m)
+
+pub no-pivots : (U : ℕ → Bool) (ms : List Merge) → ms ≡ [] → HavePivotsIn U ms
+no-pivots U ms e = subst (HavePivotsIn U) (sym e) (λ i m h. absurd (cc))

@@ -1,11 +1,11 @@
 -- Lines by their numbers, and the cone of the end.
-use Rattle.std.proofs.Common.{◌≡◌, ◌↔◌, ℕ, zero, suc, ◌+◌, ◌-◌, ◌<◌, ◌≤◌, ◌==◌, Bool, true, false, cond, eqb, nat_lt, List, [], ◌∷◌, ◌++◌, ◌⊎◌, inl, inr, length, map, take, replicate, get_or, set, length-set, arith, refl, sym, ap, ◌∙◌, subst, slice_get, Option, Some, None, get_or-set_same, get_or-set_other}
+use Rattle.std.proofs.Common.{◌≡◌, ◌↔◌, ℕ, zero, suc, ◌+◌, ◌-◌, ◌<◌, ◌≤◌, ◌==◌, Bool, true, false, eqb, nat_lt, List, [], ◌∷◌, ◌++◌, ◌⊎◌, inl, inr, length, take, replicate, get_or, set, length-set, arith, refl, sym, ap, ◌∙◌, subst, slice_get, Option, Some, None, get_or-set_same, get_or-set_other}
 use Rattle.std.specs.Option.{option_map}
 use Rattle.std.proofs.lemmas.List.{length-map}
 use Rattle.std.proofs.lemmas.Bool.{cases_eq}
 use Rattle.std.proofs.lemmas.Option.{slice_get_within, slice_get-map}
 use Rattle.q_logic.specs.Prelude.{Literal}
-use Rattle.q_derive.specs.Traces.{Entry, Sources, none, one, two, earlier, place_of, literals_in, InCone, end, further, IsEnd, IsEndless, IsNamed}
+use Rattle.q_derive.specs.Traces.{Entry, none, one, two, earlier, InCone, end, further, IsEnd, IsNamed}
 use Rattle.q_qrp.specs.Lines.{Line, AreRising, row_of, literals_of}
 use Rattle.q_qrp.specs.declared.trace.Row.{Row}
 use Rattle.q_resolve.specs.Judged.{entry_of, entries_of, sources_in, IsEndUpto, IsEndOf, AreCone, AreClear, AreMarkedBy}

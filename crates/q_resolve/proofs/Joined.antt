@@ -1,12 +1,13 @@
 -- Literals that join others, each once; and literals of a list, one further.
-use Rattle.std.proofs.Common.{◌≡◌, ◌↔◌, ℕ, ◌<◌, ◌≤◌, Bool, true, false, cond, nat_lt, List, [], ◌∷◌, ◌++◌, ◌⊎◌, inl, inr, map, arith, refl, sym, ap, ◌∙◌, subst}
-use Rattle.std.proofs.lemmas.List.{append_assoc, append-nil}
-use Rattle.q_logic.specs.Prelude.{Literal, negation, literal_eq, Prefix, IsIn, has, without}
+use Rattle.std.proofs.Common.{◌≡◌, ℕ, ◌<◌, ◌≤◌, Bool, true, false, cond, nat_lt, List, [], ◌∷◌, ◌++◌, inl, inr, map, arith, refl, sym, ap, ◌∙◌, subst}
+use Rattle.std.proofs.lemmas.List.{append_assoc}
+use Rattle.q_logic.specs.Prelude.{Literal, negation, literal_eq, Prefix, IsIn, without}
 use Rattle.q_logic.specs.Prefixes.{place}
-use Rattle.q_logic.proofs.Common.{has-IsIn, IsIn-has, IsIn-append, IsIn-append_left, IsIn-append_right, literal_eq-sound, literal_eq-itself}
+use Rattle.q_logic.proofs.Common.{IsIn-append, IsIn-append_left, IsIn-append_right, literal_eq-sound, literal_eq-itself}
 use Rattle.q_derive.specs.Traces.{resolvent}
 use Rattle.q_resolve.specs.declared.leaves.Owner.{Owner}
-use Rattle.q_resolve.specs.Reduced.{front_of, back_of, sided, IsJoined, IsSame}
+use Rattle.q_resolve.specs.Plain.{sided}
+use Rattle.q_resolve.specs.Reduced.{front_of, back_of, IsJoined, IsSame}
 
 pub joined-none : (old : List Literal) → IsJoined old [] old
 joined-none old k = (λ m. inl m, λ m. elim m [ inl i ↦ i | inr i ↦ absurd i ])

@@ -1,12 +1,10 @@
 -- What the tests of a line say of it.
-use Rattle.std.proofs.Common.{◌≡◌, ◌↔◌, ℕ, ◌<◌, Bool, true, false, cond, not, ◌&&◌, zero, suc, List, [], ◌∷◌, ◌++◌, ◌⊎◌, inl, inr, length, get_or, arith, refl, sym, ap, ◌∙◌, subst, Option, Some, None}
+use Rattle.std.proofs.Common.{◌≡◌, ℕ, ◌<◌, Bool, true, false, not, ◌&&◌, zero, suc, List, [], ◌∷◌, ◌++◌, ◌⊎◌, inl, inr, length, get_or, arith, refl, subst, Option, Some, None}
 use Rattle.q_logic.specs.Prelude.{Literal, negation, Prefix, Matrix, IsIn, is_bound, is_existential, has, without}
-use Rattle.q_logic.specs.Prefixes.{place}
-use Rattle.q_logic.proofs.Common.{has-IsIn, IsIn-has, IsIn-append, IsIn-append_left, IsIn-append_right, without-IsIn}
-use Rattle.q_derive.specs.Traces.{Parents, nothing, missing, single, double, IsParent, IsPivot, resolvent, IsKept, IsShed, IsMerged, IsClash, IsLeaf, IsInner, AreBound, Stands}
+use Rattle.q_logic.proofs.Common.{IsIn-append, without-IsIn}
+use Rattle.q_derive.specs.Traces.{Parents, nothing, missing, single, double, IsParent, IsPivot, resolvent, IsKept, IsShed, IsMerged, IsClash, IsLeaf, AreBound}
 use Rattle.q_derive.specs.Testing.{every, some}
-use Rattle.q_derive.proofs.Testing.{Decides, both, either, neither, every-decides, some-decides, has-decides}
-use Rattle.q_extract.specs.Rows.{drops_in, AreSound}
+use Rattle.q_derive.proofs.Testing.{Decides, both, every-decides, some-decides, has-decides}
 use Rattle.q_extract.specs.declared.drops.Drops.{Drops}
 use Rattle.q_resolve.specs.Tests.{is_other, is_turning}
 use Rattle.q_resolve.specs.declared.leaves.Owner.{Owner}
@@ -14,8 +12,8 @@ use Rattle.q_resolve.specs.declared.fault.Fault.{Fault}
 use Rattle.q_resolve.specs.declared.fault.Fault.TheVariants.{Unbound, Missing, NoLeaf, NoPivot, Merged, Lost, Shed}
 use Rattle.q_resolve.specs.Faults.{HasParents, IsFault, IsLeastFault, number_of}
 use Rattle.q_resolve.specs.Leaves.{MayStand}
-use Rattle.q_resolve.specs.Reduced.{IsSame, IsTakenAway, IsNoted, IsReduction}
-use Rattle.q_resolve.specs.Judged.{IsResolved, IsTrial, IsWorst, IsTried, later_of, IsStep, IsInnerJudged, IsAnyStep, IsLineJudged}
+use Rattle.q_resolve.specs.Reduced.{IsSame, IsNoted, IsReduction}
+use Rattle.q_resolve.specs.Judged.{IsTrial, IsWorst, IsTried, later_of, IsInnerJudged, IsLineJudged}
 
 -- tests of one literal
 other-decides : (P : Prefix) (T : List Literal) (k : Literal) → Decides (is_other P T k) (IsIn (negation k) T × (is_existential P k.var ≡ true))
@@ -83,7 +81,7 @@ turn-same Q R s k = ((s k).1, (s k).0)
 noted-same : (o : Owner) (P : Prefix) (Q R T : List Literal) (old new : Drops) → IsSame Q R → IsNoted o P R T old new → IsNoted o P Q T old new
 noted-same o P Q R T old new s h n =
     let r = h (λ m. n (m.0, m.1, (s m.0).0 m.2, (s (negation m.0)).0 m.3)) in
-    (r.0, r.1, record { whole = λ k m. r.2.whole k ((s k).1 m); kept = r.2.kept; apart = r.2.apart; drops = r.2.drops })
+    (r.0, r.1, record { whole = λ k m. r.2.whole k ((s k).1 m); from = λ v m. (let x = r.2.from v m in (x.0, (s x.0).0 x.1, x.2)); kept = r.2.kept; apart = r.2.apart; drops = r.2.drops })
 
 pub trial-is : (o : Owner) (P : Prefix) (S U R T : List Literal) (k : Literal) (old new : Drops) (f : Option Fault) → IsPivot P S U k →
     IsSame (resolvent S U k) R → IsReduction o P R T old new f → IsTrial o P S U k T old new f

@@ -1,8 +1,8 @@
 -- A line with what it names.
 use Rattle.std.proofs.Common.{◌≡◌, ℕ, List, refl, sym, ap, ◌∙◌, subst, slice_get, Option, Some, None}
-use Rattle.q_logic.specs.Prelude.{Literal, Prefix, Matrix, PrenexFormula}
-use Rattle.q_derive.specs.Traces.{Entry, nothing, missing, IsLeaf, AreBound, literals_in}
-use Rattle.q_extract.specs.Rows.{AreSound}
+use Rattle.q_logic.specs.Prelude.{Literal, Prefix, Matrix}
+use Rattle.q_derive.specs.Traces.{nothing, missing, AreBound, literals_in}
+use Rattle.q_resolve.specs.Plain.{ArePlain}
 use Rattle.q_extract.specs.declared.drops.Drops.{Drops}
 use Rattle.q_qrp.specs.Lines.{Line, literals_of}
 use Rattle.q_resolve.specs.declared.leaves.Owner.{Owner}
@@ -14,13 +14,13 @@ use Rattle.q_resolve.specs.Judged.{IsLeafJudged, IsLineJudged, entries_of}
 use Rattle.q_resolve.proofs.LineFaults.{least-leaf, least-gone}
 use Rattle.q_resolve.proofs.Coned.{entry-at}
 
-pub line-leaf : (o : Owner) (P : Prefix) (X : Matrix) (T : List Literal) (d : Drops) (f : Option Fault) → AreBound P T → AreSound d →
+pub line-leaf : (o : Owner) (P : Prefix) (X : Matrix) (T : List Literal) (d : Drops) (f : Option Fault) → AreBound P T → ArePlain d →
     IsLeafJudged P (MayStand o X) T NoLeaf f → IsLineJudged o P X nothing T d d f
 line-leaf o P X T d None b a l = (b, l, a, refl)
 line-leaf o P X T d (Some f) b a (e, n) =
     subst (IsLeastFault P (MayStand o X) nothing T) (sym e) (least-leaf P (MayStand o X) T b n)
 
-pub line-gone : (o : Owner) (P : Prefix) (X : Matrix) (T : List Literal) (d : Drops) (f : Option Fault) → AreBound P T → AreSound d →
+pub line-gone : (o : Owner) (P : Prefix) (X : Matrix) (T : List Literal) (d : Drops) (f : Option Fault) → AreBound P T → ArePlain d →
     IsLeafJudged P (MayStand o X) T Missing f → IsLineJudged o P X missing T d d f
 line-gone o P X T d None b a l = (b, l, a, refl)
 line-gone o P X T d (Some f) b a (e, n) =

@@ -1,15 +1,15 @@
 -- Tests of all items, one after the other, and places of variables.
-use Rattle.std.proofs.Common.{◌≡◌, ◌↔◌, ℕ, zero, suc, ◌+◌, ◌<◌, ◌≤◌, Bool, true, false, cond, not, ◌&&◌, ◌||◌, eqb, nat_lt, ◌==◌, List, [], ◌∷◌, ◌++◌, length, drop, take, get_or, slice_get, arith, refl, sym, ap, ◌∙◌, subst, Option, Some, None}
+use Rattle.std.proofs.Common.{◌≡◌, ◌↔◌, ℕ, suc, ◌+◌, ◌<◌, ◌≤◌, Bool, true, false, cond, ◌&&◌, ◌||◌, eqb, List, [], ◌∷◌, ◌++◌, length, drop, take, get_or, arith, refl, sym, ap, ◌∙◌, subst, Option, Some, None}
 use Rattle.std.proofs.lemmas.List.{drop_more, drop_all, length-take}
 use Rattle.q_logic.specs.declared.formulas.Bound.{Bound}
-use Rattle.q_logic.specs.Prelude.{PrenexFormula, Literal, negation, literal_eq, IsIn, Prefix, is_exists, is_existential, is_bound, has, Distinct}
+use Rattle.q_logic.specs.Prelude.{Literal, literal_eq, IsIn, Prefix, is_exists, is_existential, is_bound, has, Distinct}
 use Rattle.q_logic.specs.Prefixes.{place}
 use Rattle.q_logic.specs.Exchanging.{exchanged, exchanged_bound}
 use Rattle.q_logic.proofs.Common.{IsIn-has, has-IsIn, literal_eq-sound, literal_eq-itself}
 use Rattle.q_logic.specs.Sets.{IsTautology, is_tautology}
 use Rattle.q_logic.proofs.Common.{is_tautology-whole, is_tautology-none}
 use Rattle.q_resolve.specs.Seats.{AreSeats}
-use Rattle.q_carry.specs.Prelude.{look_at}
+use Rattle.q_certificate.specs.Prelude.{look_at}
 use Rattle.q_derive.specs.Testing.{every, some}
 
 pub every-stop : {X : Type 0} (f : X → Bool) (xs : List X) (i : ℕ) (x : X) → i < length xs → x ≡ get_or xs i x →

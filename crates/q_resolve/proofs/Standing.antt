@@ -1,5 +1,5 @@
 -- Which lines may stand by themselves.
-use Rattle.std.proofs.Common.{◌≡◌, ◌&&◌, List}
+use Rattle.std.proofs.Common.{List}
 use Rattle.q_logic.specs.Prelude.{Literal, Matrix, IsIn, IsSubset, has}
 use Rattle.q_derive.specs.Traces.{IsOneOf}
 use Rattle.q_derive.specs.Testing.{every, some}

@@ -1,8 +1,9 @@
 -- The lines of the cone, one after the other.
-use Rattle.std.proofs.Common.{◌≡◌, ◌↔◌, ℕ, zero, suc, ◌+◌, ◌<◌, ◌≤◌, Bool, true, false, List, [], ◌∷◌, length, get_or, arith, refl, sym, ap, ◌∙◌, subst, slice_get, Option, Some, None}
+use Rattle.std.proofs.Common.{◌≡◌, ℕ, zero, suc, ◌+◌, ◌<◌, Bool, true, false, List, [], ◌∷◌, length, get_or, arith, refl, ap, ◌∙◌, slice_get, Option, Some, None}
 use Rattle.q_logic.specs.Prelude.{Prefix, Matrix}
-use Rattle.q_derive.specs.Traces.{Entry, Parents, parents, literals_in, InCone}
-use Rattle.q_extract.specs.Rows.{drops_in, AreSound}
+use Rattle.q_derive.specs.Traces.{Entry, parents, literals_in, InCone}
+use Rattle.q_extract.specs.Rows.{drops_in}
+use Rattle.q_resolve.specs.Plain.{ArePlain}
 use Rattle.q_extract.specs.declared.drops.Drops.{Drops}
 use Rattle.q_qrp.specs.Lines.{Line, row_of}
 use Rattle.q_qrp.specs.declared.trace.Row.{Row}
@@ -20,7 +21,7 @@ some-there [] n h = absurd (omega arith)
 some-there (x ∷ xs) zero h = (x, refl)
 some-there (x ∷ xs) (suc n) h = some-there xs n (omega arith)
 
-pub stood-start : (o : Owner) (P : Prefix) (X : Matrix) (es : List Entry) (d : Drops) → AreSound d → drops_in d ≡ [] → IsStood o P X es 0 d
+pub stood-start : (o : Owner) (P : Prefix) (X : Matrix) (es : List Entry) (d : Drops) → ArePlain d → drops_in d ≡ [] → IsStood o P X es 0 d
 stood-start o P X es d s e = record { right = right-start o P X es; sound = s; derived = derived-start o P X es d e }
 
 pub stood-skip : (o : Owner) (P : Prefix) (X : Matrix) (es : List Entry) (n : ℕ) (d : Drops) (marks : List Bool) → AreCone es marks →

@@ -1,30 +1,34 @@
 -- A derivation of the lines of a cone, and what it takes away.
 use Rattle.std.specs.Prelude.{◌≡◌, ℕ, ◌+◌, ◌<◌, List, map, length, slice_get, Option, Some, None}
 use Rattle.q_logic.specs.Prelude.{Literal, Prefix, Matrix}
-use Rattle.q_derive.specs.Derivations.{Line, IsDerivation}
-use Rattle.q_derive.specs.Extracted.{drops}
+use Rattle.q_long.specs.Valued.{Line, IsDerivation, AreOf}
+use Rattle.q_long.specs.Decided.{drops}
 use Rattle.q_derive.specs.Traces.{Entry, InCone}
-use Rattle.q_extract.specs.Rows.{drops_in, AreSound}
+use Rattle.q_extract.specs.Rows.{drops_in}
+use Rattle.q_resolve.specs.Plain.{ArePlain, sided, side_values}
 use Rattle.q_extract.specs.declared.drops.Drops.{Drops}
 use Rattle.q_resolve.specs.declared.leaves.Owner.{Owner}
 use Rattle.q_resolve.specs.declared.fault.Fault.{Fault}
 use Rattle.q_resolve.specs.declared.fault.Wrong.{Wrong}
 use Rattle.q_resolve.specs.Leaves.{MayStand}
-use Rattle.q_resolve.specs.Reduced.{sided_drop}
 use Rattle.q_resolve.specs.Judged.{AreRight, IsFirst}
+
+-- the literals are those of a line that may stand by itself, read as a term
+abbrev pub IsSided : Owner → Matrix → List Literal → Type 0
+IsSided o X T = (S : List Literal) × MayStand o X S × (T ≡ map (sided o) S)
 
 -- the lines of the cone before n stand in a derivation, which takes these drops away
 pub record IsDerivedFrom (o : Owner) (P : Prefix) (X : Matrix) (es : List Entry) (n : ℕ) (d : Drops) : Type 0 where
   pub lines : List Line
-  pub derivation : IsDerivation P (MayStand o X) lines
-  pub same : drops_in d ≡ map (sided_drop o) (drops lines)
+  pub derivation : IsDerivation P (AreOf (IsSided o X)) lines
+  pub same : drops_in d ≡ drops lines
   pub covers : (m : ℕ) → m < n → InCone es m → (e : Entry) → slice_get es m ≡ Some e →
-      (i : ℕ) × (l : Line) × (slice_get lines i ≡ Some l) × (l.literals ≡ e.literals)
+      (i : ℕ) × (l : Line) × (slice_get lines i ≡ Some l) × (l.values ≡ side_values o e.literals)
 
 -- all lines of the cone before n are right, and these are their drops
 pub record IsStood (o : Owner) (P : Prefix) (X : Matrix) (es : List Entry) (n : ℕ) (d : Drops) : Type 0 where
   pub right : AreRight o P X es n
-  pub sound : AreSound d
+  pub sound : ArePlain d
   pub derived : IsDerivedFrom o P X es n d
 
 -- the line at n: the lines up to it are right, or it is the first that is not

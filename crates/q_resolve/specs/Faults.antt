@@ -1,5 +1,5 @@
 -- What is wrong with a line of a trace, and which fault is named.
-use Rattle.std.specs.Prelude.{◌≡◌, ℕ, ◌<◌, true, false, List, ◌⊎◌, slice_get, Option, Some, None}
+use Rattle.std.specs.Prelude.{◌≡◌, ℕ, ◌<◌, false, List, ◌⊎◌, Option, Some, None}
 use Rattle.q_logic.specs.Prelude.{Literal, Prefix, IsIn, is_bound}
 use Rattle.q_derive.specs.Traces.{Parents, nothing, missing, single, double, IsParent, IsKept, IsShed, IsMerged, IsClash, IsLeaf, AreBound, Stands}
 use Rattle.q_resolve.specs.declared.fault.Fault.{Fault}

@@ -2,11 +2,9 @@
 use Rattle.std.specs.Prelude.{◌≡◌, ◌↔◌, ◌⊎◌, ℕ, ◌<◌, Bool, true, false, List, [], map, length, slice_index_or, slice_get, Option, Some, None}
 use Rattle.q_logic.specs.Prelude.{Literal, Prefix, Matrix, IsIn, PrenexFormula, CertificateView, trees_of, Lawful, SkolemOf}
 use Rattle.q_logic.specs.Herbrands.{HerbrandOf}
-use Rattle.q_logic.specs.Exchanging.{exchanged}
-use Rattle.q_carry.specs.Prelude.{universals, existentials}
-use Rattle.q_derive.specs.Derivations.{IsHitting}
-use Rattle.q_derive.specs.Traces.{Entry, Sources, none, one, two, Parents, nothing, missing, single, double, parents, earlier, IsNamed, literals_in, IsParent, IsPivot, resolvent, IsKept, IsShed, IsLeaf, IsInner, AreBound, Stands, IsRight, InCone, IsEnd, IsEndless, IsTrace, IsTermTrace, IsClauseTrace, IsOneOf}
-use Rattle.q_extract.specs.Rows.{drops_in, AreSound}
+use Rattle.q_certificate.specs.Prelude.{universals, existentials}
+use Rattle.q_derive.specs.Traces.{Entry, Sources, none, one, two, Parents, nothing, missing, single, double, parents, earlier, IsNamed, literals_in, IsParent, IsPivot, resolvent, IsKept, IsShed, IsLeaf, IsInner, AreBound, Stands, IsRight, InCone, IsEnd, IsEndless, IsTermTrace, IsClauseTrace}
+use Rattle.q_resolve.specs.Plain.{ArePlain}
 use Rattle.q_extract.specs.declared.drops.Drops.{Drops}
 use Rattle.q_qrp.specs.Lines.{Line, Proof}
 use Rattle.q_qrp.specs.declared.trace.Antecedents.{Antecedents}
@@ -57,7 +55,7 @@ AreParentsBound P (double S U) = AreBound P S × AreBound P U
 -- one literal of the first line as a pivot
 abbrev pub IsResolved : Owner → Prefix → List Literal → List Literal → Literal → List Literal → Drops → Drops → Type 0
 IsResolved o P S U k T old new =
-    IsPivot P S U k × IsKept P (resolvent S U k) T × IsShed P (resolvent S U k) T × AreSound new ×
+    IsPivot P S U k × IsKept P (resolvent S U k) T × IsShed P (resolvent S U k) T × ArePlain new ×
     IsNoted o P (resolvent S U k) T old new
 
 abbrev pub IsTrial : Owner → Prefix → List Literal → List Literal → Literal → List Literal → Drops → Drops → Option Fault → Type 0
@@ -103,7 +101,7 @@ IsStep o P from T old new = (R : List Literal) × IsParent P from R × IsNoted o
 
 -- a line that follows from others
 abbrev pub IsInnerJudged : Owner → Prefix → Parents → List Literal → Drops → Drops → Option Fault → Type 0
-IsInnerJudged o P from T old new None = IsInner P from T × AreSound new × IsStep o P from T old new
+IsInnerJudged o P from T old new None = IsInner P from T × ArePlain new × IsStep o P from T old new
 IsInnerJudged o P from T old new (Some f) = IsLeastFault P (λ S. Unit {0}) from T f
 
 -- a line that may stand by itself alone: no fault where it does
@@ -120,7 +118,7 @@ IsAnyStep o P (double S U) T old new = IsStep o P (double S U) T old new
 
 abbrev pub IsLineJudged : Owner → Prefix → Matrix → Parents → List Literal → Drops → Drops → Option Fault → Type 0
 IsLineJudged o P X from T old new None =
-    AreBound P T × Stands P (MayStand o X) from T × AreSound new × IsAnyStep o P from T old new
+    AreBound P T × Stands P (MayStand o X) from T × ArePlain new × IsAnyStep o P from T old new
 IsLineJudged o P X from T old new (Some f) = IsLeastFault P (MayStand o X) from T f
 
 -- the sources of a line, if it is there

@@ -1,6 +1,6 @@
 -- Which lines may stand by themselves: terms that hit all clauses, or clauses of the formula.
 use Rattle.std.specs.Prelude.{Bool, ◌&&◌, List}
-use Rattle.q_logic.specs.Prelude.{Literal, Matrix, has, Prefix, PrenexFormula}
+use Rattle.q_logic.specs.Prelude.{Literal, Matrix, has, Prefix}
 use Rattle.q_logic.specs.Exchanging.{exchanged}
 use Rattle.q_derive.specs.Derivations.{IsHitting}
 use Rattle.q_derive.specs.Testing.{every, some, is_hitting}

@@ -3,6 +3,7 @@ pub mod Seats
 pub mod Tests
 pub mod Leaves
 pub mod Faults
+pub mod Plain
 pub mod Reduced
 pub mod Judged
 pub mod Derived

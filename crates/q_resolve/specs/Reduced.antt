@@ -1,13 +1,14 @@
 -- What is taken away of a line, and what a reduction answers.
-use Rattle.std.specs.Prelude.{◌≡◌, ◌↔◌, ◌⊎◌, ℕ, ◌<◌, Bool, true, cond, nat_lt, List, [], ◌∷◌, ◌++◌, map, Option, Some, None}
-use Rattle.q_logic.specs.Prelude.{Literal, negation, Prefix, IsIn, is_existential}
+use Rattle.std.specs.Prelude.{◌≡◌, ◌↔◌, ◌⊎◌, ℕ, ◌<◌, true, cond, nat_lt, List, [], ◌∷◌, ◌++◌, Option, Some, None}
+use Rattle.q_logic.specs.Prelude.{Literal, Prefix, IsIn, is_existential}
 use Rattle.q_logic.specs.Prefixes.{place}
-use Rattle.q_derive.specs.Extracted.{Drop, drops_of}
+use Rattle.q_long.specs.Valued.{Value, value_for}
+use Rattle.q_long.specs.Decided.{drops_of}
 use Rattle.q_derive.specs.Traces.{IsKept, IsShed, IsMerged}
-use Rattle.q_extract.specs.Rows.{drops_in, AreSound}
+use Rattle.q_extract.specs.Rows.{drops_in}
+use Rattle.q_resolve.specs.Plain.{ArePlain, sided, side_values}
 use Rattle.q_extract.specs.declared.drops.Drops.{Drops}
 use Rattle.q_resolve.specs.declared.leaves.Owner.{Owner}
-use Rattle.q_resolve.specs.declared.leaves.Owner.TheVariants.{Exists, Forall}
 use Rattle.q_resolve.specs.declared.fault.Fault.{Fault}
 use Rattle.q_resolve.specs.declared.fault.Fault.TheVariants.{Unbound, Missing, NoLeaf, NoPivot, Merged, Lost, Shed}
 
@@ -28,33 +29,26 @@ abbrev pub back_of : Prefix → ℕ → List Literal → List Literal
 back_of P at [] = []
 back_of P at (k ∷ R) = cond (nat_lt (place P k.var) at) (back_of P at R) (k ∷ back_of P at R)
 
--- a literal of a line as one of the owner's term: a clause is read as the term that says that it is false
-abbrev pub sided : Owner → Literal → Literal
-sided Exists k = k
-sided Forall k = negation k
-
-abbrev pub sided_drop : Owner → Drop → Drop
-sided_drop o d = record { literal = sided o d.literal; kept = map (sided o) d.kept }
-
--- the literals of the owner that are taken away stand behind those that are kept
-pub record IsApart (P : Prefix) (G Ts : List Literal) : Type 0 where
-  pub owned : (g : Literal) → IsIn g Ts → is_existential P g.var ≡ true
-  pub alone : (g : Literal) → IsIn g Ts → IsIn (negation g) (G ++ Ts) → ⊥
-  pub behind : (g : Literal) → IsIn g Ts → (k : Literal) → IsIn k G → place P k.var < place P g.var
+-- the values of the owner's variables that are taken away stand behind those that are kept
+pub record IsApart (P : Prefix) (G Ts : List Value) : Type 0 where
+  pub owned : (g : Value) → IsIn g Ts → is_existential P g.var ≡ true
+  pub alone : (g : Value) → IsIn g Ts → (v : Value) → IsIn v (G ++ Ts) → v.var ≡ g.var → v ≡ g
+  pub behind : (g : Value) → IsIn g Ts → (v : Value) → IsIn v G → place P v.var < place P g.var
 
 -- T keeps G of R, and takes Ts away
-pub record IsTakenAway (o : Owner) (P : Prefix) (R T G Ts : List Literal) (old new : Drops) : Type 0 where
-  pub whole : (k : Literal) → IsIn k R → IsIn k (G ++ Ts)
-  pub kept : (k : Literal) → IsIn k G → IsIn k T
+pub record IsTakenAway (o : Owner) (P : Prefix) (R T : List Literal) (G Ts : List Value) (old new : Drops) : Type 0 where
+  pub whole : (k : Literal) → IsIn k R → IsIn (value_for (sided o k)) (G ++ Ts)
+  pub from : (v : Value) → IsIn v (G ++ Ts) → (k : Literal) × IsIn k R × (v ≡ value_for (sided o k))
+  pub kept : (v : Value) → IsIn v G → IsIn v (side_values o T)
   pub apart : IsApart P G Ts
-  pub drops : drops_in new ≡ drops_in old ++ map (sided_drop o) (drops_of Ts G)
+  pub drops : drops_in new ≡ drops_in old ++ drops_of Ts G
 
 abbrev pub IsNoted : Owner → Prefix → List Literal → List Literal → Drops → Drops → Type 0
-IsNoted o P R T old new = ¬ IsMerged P R → (G : List Literal) × (Ts : List Literal) × IsTakenAway o P R T G Ts old new
+IsNoted o P R T old new = ¬ IsMerged P R → (G : List Value) × (Ts : List Value) × IsTakenAway o P R T G Ts old new
 
 -- whether R reduces to T
 abbrev pub IsReduction : Owner → Prefix → List Literal → List Literal → Drops → Drops → Option Fault → Type 0
-IsReduction o P R T old new None = IsKept P R T × IsShed P R T × AreSound new × IsNoted o P R T old new
+IsReduction o P R T old new None = IsKept P R T × IsShed P R T × ArePlain new × IsNoted o P R T old new
 IsReduction o P R T old new (Some Unbound) = ⊥
 IsReduction o P R T old new (Some Missing) = ⊥
 IsReduction o P R T old new (Some NoLeaf) = ⊥

@@ -2,7 +2,8 @@
 ghost use Rattle.std.specs.Prelude.{◌≡◌, ◌<◌, [], length, slice_get, slice_index_or, false, IfOk};
 ghost use Rattle.q_logic.specs.Prelude.{Distinct, IsFormula};
 ghost use Rattle.q_derive.specs.Traces.{literals_in, IsEnd, IsEndless};
-ghost use Rattle.q_extract.specs.Rows.{drops_in, AreSound};
+ghost use Rattle.q_extract.specs.Rows.{drops_in};
+ghost use Rattle.q_resolve.specs.Plain.{ArePlain};
 ghost use Rattle.q_resolve.specs.Seats.{AreSeats};
 ghost use Rattle.q_resolve.specs.Leaves.{prefix_for};
 ghost use Rattle.q_resolve.specs.Judged.{entries_of, parents_at, AreParentsBound, IsLineJudged, AreCone, IsAnswer, IsCertified, IsRefuted, IsRefusal};
@@ -33,7 +34,7 @@ fn judge_at(
     n: usize,
 ) -> Result<Option<Fault>, NoMemory>
     requires seats { AreSeats prefix.now seats.now }
-    requires sound { AreSound desk.old.away.drops }
+    requires sound { ArePlain desk.old.away.drops }
     requires place { n < length trace.now.lines }
     requires bound { AreParentsBound prefix.now (parents_at (entries_of trace.now.lines) n) }
     ensures { IfOk result (λ fault. IsLineJudged owner prefix.now formula.now.matrix (parents_at
@@ -90,7 +91,7 @@ fn judge_cone(
     cone: &[bool],
 ) -> Result<Option<Wrong>, NoMemory>
     requires seats { AreSeats prefix.now seats.now }
-    requires sound { AreSound desk.old.away.drops }
+    requires sound { ArePlain desk.old.away.drops }
     requires none { drops_in desk.old.away.drops ≡ [] }
     requires cone { AreCone (entries_of trace.now.lines) cone.now }
     ensures { IfOk result (λ found. IsConeJudged owner prefix.now formula.now.matrix (entries_of
@@ -108,7 +109,7 @@ fn judge_cone(
 
 fn new_desk(alloc: Global) -> Desk
     ensures own { result.own ≡ [] }
-    ensures sound { AreSound result.away.drops }
+    ensures sound { ArePlain result.away.drops }
     ensures none { drops_in result.away.drops ≡ [] }
 {
     Desk {

@@ -2,7 +2,7 @@
 ghost use Rattle.std.specs.Prelude.{◌≡◌, ◌↔◌, ◌<◌, ◌≤◌, IfOk, IsTrue, length, slice_get};
 ghost use Rattle.q_logic.specs.Prelude.{IsIn};
 ghost use Rattle.q_derive.specs.Traces.{AreBound, IsLeaf, parents, single, double, literals_in};
-ghost use Rattle.q_extract.specs.Rows.{AreSound};
+ghost use Rattle.q_resolve.specs.Plain.{ArePlain};
 ghost use Rattle.q_resolve.specs.Seats.{AreSeats};
 ghost use Rattle.q_resolve.specs.Leaves.{MayStand};
 ghost use Rattle.q_resolve.specs.Judged.{AreParentsBound, entries_of, found_parents, later_of, AreBefore, IsTrial, IsTried, IsLeafJudged, IsInnerJudged, IsLineJudged};
@@ -32,7 +32,7 @@ fn try_pivot(
     pivot: Lit,
 ) -> Result<Option<Fault>, NoMemory>
     requires seats { AreSeats prefix.now seats.now }
-    requires sound { AreSound away.old.drops }
+    requires sound { ArePlain away.old.drops }
     requires marked { marked.now ≡ second.now }
     requires first { AreBound prefix.now first.now }
     requires second { AreBound prefix.now second.now }
@@ -70,7 +70,7 @@ fn try_pivots(
     second: &[Lit],
 ) -> Result<Option<Fault>, NoMemory>
     requires seats { AreSeats prefix.now seats.now }
-    requires sound { AreSound away.old.drops }
+    requires sound { ArePlain away.old.drops }
     requires marked { marked.now ≡ second.now }
     requires first { AreBound prefix.now first.now }
     requires second { AreBound prefix.now second.now }
@@ -101,7 +101,7 @@ fn judge_single(
     source: &[Lit],
 ) -> Result<Option<Fault>, NoMemory>
     requires seats { AreSeats prefix.now seats.now }
-    requires sound { AreSound away.old.drops }
+    requires sound { ArePlain away.old.drops }
     requires own { own.now ≡ term.now }
     requires bound { AreBound prefix.now term.now }
     requires source { AreBound prefix.now source.now }
@@ -129,7 +129,7 @@ fn judge_double(
     second: &[Lit],
 ) -> Result<Option<Fault>, NoMemory>
     requires seats { AreSeats prefix.now seats.now }
-    requires sound { AreSound away.old.drops }
+    requires sound { ArePlain away.old.drops }
     requires own { own.now ≡ term.now }
     requires bound { AreBound prefix.now term.now }
     requires first { AreBound prefix.now first.now }
@@ -213,7 +213,7 @@ pub fn judge_line(
     found: Found,
 ) -> Result<Option<Fault>, NoMemory>
     requires seats { AreSeats prefix.now seats.now }
-    requires sound { AreSound desk.old.away.drops }
+    requires sound { ArePlain desk.old.away.drops }
     requires found { AreBefore (length trace.now.lines) found }
     requires bound { AreParentsBound prefix.now (found_parents (entries_of trace.now.lines) found) }
     ensures { IfOk result (λ fault. IsLineJudged owner prefix.now formula.now.matrix (found_parents

@@ -1,7 +1,7 @@
 //! Whether a parent reduces to a line, whose literals are marked.
 ghost use Rattle.std.specs.Prelude.{◌≡◌, OnOk, IfOk};
 ghost use Rattle.q_derive.specs.Traces.{AreBound};
-ghost use Rattle.q_extract.specs.Rows.{AreSound};
+ghost use Rattle.q_resolve.specs.Plain.{ArePlain};
 ghost use Rattle.q_resolve.specs.Seats.{AreSeats};
 ghost use Rattle.q_resolve.specs.Reduced.{IsReduction};
 
@@ -22,7 +22,7 @@ pub fn reduce(
     parent: &[Lit],
 ) -> Result<Option<Fault>, NoMemory>
     requires seats { AreSeats prefix.now seats.now }
-    requires sound { AreSound away.old.drops }
+    requires sound { ArePlain away.old.drops }
     requires bound { AreBound prefix.now parent.now }
     ensures { IfOk result (λ fault. IsReduction owner prefix.now parent.now marked.now away.old.drops
         away.new.drops fault) }

@@ -2,10 +2,11 @@
 ghost use Rattle.std.specs.Prelude.{◌≡◌, ◌++◌, ◌∷◌, [], map, OnOk};
 ghost use Rattle.q_logic.specs.Prelude.{without};
 ghost use Rattle.q_derive.specs.Traces.{resolvent};
-ghost use Rattle.q_derive.specs.Extracted.{drops_of};
-ghost use Rattle.q_extract.specs.Rows.{drops_in, AreSound, IsMore};
+ghost use Rattle.q_long.specs.Decided.{drops_of};
+ghost use Rattle.q_extract.specs.Rows.{drops_in, values_next, AreSound, IsMore};
+ghost use Rattle.q_resolve.specs.Plain.{ArePlain, sided};
 ghost use Rattle.q_resolve.specs.Seats.{AreSeats};
-ghost use Rattle.q_resolve.specs.Reduced.{front_of, back_of, sided, IsJoined, IsSame};
+ghost use Rattle.q_resolve.specs.Reduced.{front_of, back_of, IsJoined, IsSame};
 
 use crate::leaves::Owner;
 use crate::marked::Marked;
@@ -66,7 +67,7 @@ pub struct Away {
 
 impl Away {
     pub fn new(alloc: Global) -> Away
-        ensures sound { AreSound result.drops }
+        ensures sound { ArePlain result.drops }
         ensures none { drops_in result.drops ≡ [] }
     {
         Away {
@@ -128,8 +129,9 @@ pub fn put_away(
 ) -> Result<(), NoMemory>
     requires seats { AreSeats prefix.now seats.now }
     requires sound { AreSound away.old.drops }
-    ensures { OnOk result (IsMore away.old.drops away.new.drops (drops_of (map (sided owner) (back_of
-        prefix.now at parent.now)) (map (sided owner) (front_of prefix.now at parent.now)))) }
+    ensures { OnOk result (IsMore away.old.drops away.new.drops (drops_of
+        (values_next away.old.drops (map (sided owner) (back_of prefix.now at parent.now)))
+        (values_next away.old.drops (map (sided owner) (front_of prefix.now at parent.now))))) }
 {
     away.kept.clear();
     push_front(&mut away.kept, prefix, seats, owner, at, parent)?;

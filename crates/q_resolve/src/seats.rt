@@ -6,7 +6,7 @@ ghost use Rattle.q_logic.specs.Prefixes.{place, Distinct};
 ghost use Rattle.q_logic.specs.Exchanging.{exchanged, exchanged_bound, other_quant};
 ghost use Rattle.q_resolve.specs.Seats.{AreSeats};
 
-use q_carry::{look, put};
+use q_certificate::{look, put};
 use q_logic::{Bound, Lit, NoMemory, Quant};
 use std::alloc::Global;
 

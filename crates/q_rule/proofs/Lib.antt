@@ -1,3 +1,4 @@
+pub mod OrderedClauses
 pub mod MarkChanges
 pub mod Quantifiers
 pub mod OuterOrder

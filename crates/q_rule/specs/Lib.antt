@@ -1,3 +1,4 @@
+pub mod Looks
 pub mod Marks
 pub mod Quants
 pub mod Becoming

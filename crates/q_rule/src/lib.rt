@@ -3,12 +3,16 @@
 #![tactic(auto)]
 
 mod clauses;
+mod missing;
+mod places;
 mod queue;
 mod room;
 mod rules;
 mod variables;
 
 pub use clauses::only_literal;
+pub use missing::first_missing;
+pub use places::{is_at, skip_to};
 pub use q_logic::is_tautology;
 pub use queue::Queue;
 pub use room::reserve_log;

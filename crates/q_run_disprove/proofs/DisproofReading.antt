@@ -11,7 +11,8 @@ use Rattle.q_binary.specs.Forms.{ProofState, IsStop, left_of, to_come}
 use Rattle.q_binary.specs.Forms as forms
 use Rattle.q_command.specs.Logs.{Entry}
 use Rattle.q_command.proofs.AuditSteps.{front-of, left-over}
-use Rattle.q_run_disprove.specs.Disproofs.{SaysOf, proof_of}
+use Rattle.q_run_disprove.specs.Disproofs.{proof_of}
+use Rattle.q_run_disprove.specs.SharedDisproofs.{SaysShared}
 use Rattle.q_run_disprove.specs.Readings.{Advances, Concludes, Convicts, Goes, HasTaken, IsOpen, IsSoFar, IsUnderWay, Stands, Tells, log_refused}
 use Rattle.q_run_disprove.specs.declared.disproved.Disproved.{Disproved}
 use Rattle.q_run_disprove.specs.declared.disproved.Disproved.TheVariants as outcome
@@ -30,7 +31,7 @@ behind-behind xs ys o = ap (λ (es : List Entry). let e : Parsed = record { step
 
 pub advances_begin : (a : Reading) → IsOpen a → Advances a a []
 advances_begin a o = record {
-  stands = λ b F front s. subst (λ (xs : List ℕ). Stands b F a xs) (sym (append-nil front)) s;
+  stands = λ b j F front s. subst (λ (xs : List ℕ). Stands b j F a xs) (sym (append-nil front)) s;
   left = omega arith;
   goes_on = o;
 }
@@ -40,10 +41,10 @@ advances_nothing : (old new : Reading) (bytes : List ℕ) → IsOpen old → new
 advances_nothing old new bytes o same next left =
     let count : new.refuter.steps ≡ old.refuter.steps = ap (λ (x : Refuter). x.steps) same in
     record {
-      stands = λ b F front s. record {
+      stands = λ b j F front s. record {
         entries = s.entries;
         proof = λ rest. ap (proof_of b) (append_assoc front bytes rest) ∙ (s.proof (bytes ++ rest) ∙ ap (behind s.entries) (next rest));
-        so_far = subst (λ (x : Refuter). IsSoFar F s.entries x) (sym same) s.so_far;
+        so_far = subst (λ (x : Refuter). IsSoFar j F s.entries x) (sym same) s.so_far;
       };
       left = left;
       goes_on = record {
@@ -56,10 +57,10 @@ advances_nothing old new bytes o same next left =
 advances_step : (old new : Reading) (bytes : List ℕ) (n : ℕ) (s : ProofStep) → IsOpen old → 0 < length bytes → Goes s old.refuter new.refuter → ((rest : List ℕ) → to_come old.reader (bytes ++ rest) ≡ onto (n, s) (to_come new.reader rest)) → left_of new.reader + length bytes ≡ left_of old.reader → Advances old new bytes
 advances_step old new bytes n s o some g next left =
     record {
-      stands = λ b F front x. record {
+      stands = λ b j F front x. record {
         entries = x.entries ++ (n, s) ∷ [];
         proof = λ rest. ap (proof_of b) (append_assoc front bytes rest) ∙ (x.proof (bytes ++ rest) ∙ (ap (behind x.entries) (next rest) ∙ behind-behind x.entries ((n, s) ∷ []) (to_come new.reader rest)));
-        so_far = goes-on F x.entries old.refuter x.so_far o.under_way.unlost n s new.refuter g;
+        so_far = goes-on j F x.entries old.refuter x.so_far o.under_way.unlost n s new.refuter g;
       };
       left = left;
       goes_on = record { under_way = g.under_way; room = omega (arith, o.room, g.steps, left, some) };
@@ -80,7 +81,7 @@ advances_taken old r t piece n o l s open-now g q h left w =
 
 advances_more : (a b c : Reading) (xs ys : List ℕ) → Advances a b xs → Advances b c ys → Advances a c (xs ++ ys)
 advances_more a b c xs ys f g = record {
-  stands = λ k F front s. subst (λ (zs : List ℕ). Stands k F c zs) (append_assoc front xs ys) (g.stands k F (front ++ xs) (f.stands k F front s));
+  stands = λ k j F front s. subst (λ (zs : List ℕ). Stands k j F c zs) (append_assoc front xs ys) (g.stands k j F (front ++ xs) (f.stands k j F front s));
   left = omega (arith, f.left, g.left, length-append xs ys);
   goes_on = g.goes_on;
 }
@@ -90,30 +91,30 @@ pub advances_further : (a b c : Reading) (piece : List ℕ) (i n : ℕ) → Adva
 advances_further a b c piece i n f g = subst (λ xs. Advances a c xs) (sym (take-add i n piece)) (advances_more a b c (take i piece) (take n (drop i piece)) f g)
 
 -- what a step tells of all bytes behind those that are read
-tells_step : (a : Reading) (bytes : List ℕ) (w : Disproved) (e : Entry) (o : Parsed) → IsOpen a → Convicts w a.refuter.checker.formula a.refuter.steps e → to_come a.reader bytes ≡ onto e o → Tells w a bytes
-tells_step a bytes w e o open-now h next b F front s =
-    subst (λ (p : Parsed). SaysOf w F p) (sym (s.proof bytes ∙ ap (behind s.entries) next))
-    (step-says F s.entries a.refuter s.so_far open-now.under_way.unlost w e o h)
+tells_step : (a : Reading) (bytes : List ℕ) (w : Disproved) (e : Entry) (o : Parsed) → IsOpen a → Convicts w a.refuter e → to_come a.reader bytes ≡ onto e o → Tells w a bytes
+tells_step a bytes w e o open-now h next b j F front s =
+    subst (λ (p : Parsed). SaysShared j w F p) (sym (s.proof bytes ∙ ap (behind s.entries) next))
+    (step-says j F s.entries a.refuter s.so_far open-now.under_way.unlost w e o h)
 
 -- a step that the front of a piece makes whole
-pub tells_piece : (a : Reading) (piece : List ℕ) (n : ℕ) (w : Disproved) (e : Entry) (now : List ℕ → Parsed) → IsOpen a → Convicts w a.refuter.checker.formula a.refuter.steps e → ((rest : List ℕ) → to_come a.reader (take n piece ++ rest) ≡ onto e (now rest)) → (rest : List ℕ) → Tells w a (piece ++ rest)
+pub tells_piece : (a : Reading) (piece : List ℕ) (n : ℕ) (w : Disproved) (e : Entry) (now : List ℕ → Parsed) → IsOpen a → Convicts w a.refuter e → ((rest : List ℕ) → to_come a.reader (take n piece ++ rest) ≡ onto e (now rest)) → (rest : List ℕ) → Tells w a (piece ++ rest)
 tells_piece a piece n w e now open-now h next rest =
     subst (λ (xs : List ℕ). Tells w a xs) (front-of n piece rest) (tells_step a (take n piece ++ (drop n piece ++ rest)) w e (now (drop n piece ++ rest)) open-now h (next (drop n piece ++ rest)))
 
-tells_last : (a : Reading) (w : Disproved) (e : Entry) → IsOpen a → Convicts w a.refuter.checker.formula a.refuter.steps e → to_come a.reader [] ≡ onto e finished → Tells w a []
+tells_last : (a : Reading) (w : Disproved) (e : Entry) → IsOpen a → Convicts w a.refuter e → to_come a.reader [] ≡ onto e finished → Tells w a []
 tells_last a w e open-now h next = tells_step a [] w e finished open-now h next
 
 -- what a line that is no step tells
 tells_stop : (a : Reading) (bytes : List ℕ) (w : Disproved) (x : LogError) → IsOpen a → w ≡ log_refused x → IsStop x (to_come a.reader bytes) → Tells w a bytes
-tells_stop a bytes w (log.BadLine n) open-now q h b F front s =
-    subst (λ (o : Disproved). SaysOf o F (proof_of b (front ++ bytes))) (sym q)
-    (subst (λ (p : Parsed). SaysOf (outcome.RefusedLine n 1) F p) (sym (s.proof bytes ∙ ap (behind s.entries) h))
-    (offence-says F s.entries a.refuter s.so_far open-now.under_way.unlost (log.BadLine n) n 1 (refl, refl)))
-tells_stop a bytes w (log.Limit n) open-now q h b F front s =
-    subst (λ (o : Disproved). SaysOf o F (proof_of b (front ++ bytes))) (sym q)
-    (subst (λ (p : Parsed). SaysOf (outcome.RefusedLine n 8) F p) (sym (s.proof bytes ∙ ap (behind s.entries) h))
-    (offence-says F s.entries a.refuter s.so_far open-now.under_way.unlost (log.Limit n) n 8 (refl, refl)))
-tells_stop a bytes w log.NoMemory open-now q h b F front s = subst (λ (o : Disproved). SaysOf o F (proof_of b (front ++ bytes))) (sym q) tt
+tells_stop a bytes w (log.BadLine n) open-now q h b j F front s =
+    subst (λ (o : Disproved). SaysShared j o F (proof_of b (front ++ bytes))) (sym q)
+    (subst (λ (p : Parsed). SaysShared j (outcome.RefusedLine n 1) F p) (sym (s.proof bytes ∙ ap (behind s.entries) h))
+    (offence-says j F s.entries a.refuter s.so_far open-now.under_way.unlost (log.BadLine n) n 1 (refl, refl)))
+tells_stop a bytes w (log.Limit n) open-now q h b j F front s =
+    subst (λ (o : Disproved). SaysShared j o F (proof_of b (front ++ bytes))) (sym q)
+    (subst (λ (p : Parsed). SaysShared j (outcome.RefusedLine n 8) F p) (sym (s.proof bytes ∙ ap (behind s.entries) h))
+    (offence-says j F s.entries a.refuter s.so_far open-now.under_way.unlost (log.Limit n) n 8 (refl, refl)))
+tells_stop a bytes w log.NoMemory open-now q h b j F front s = subst (λ (o : Disproved). SaysShared j o F (proof_of b (front ++ bytes))) (sym q) tt
 
 pub tells_offence : (a : Reading) (new : ProofState) (piece : List ℕ) (x : LogError) (w : Disproved) → IsOpen a → w ≡ log_refused x → forms.Passes (Err x) a.reader new piece → (rest : List ℕ) → Tells w a (piece ++ rest)
 tells_offence a new piece x w open-now q h rest = tells_stop a (piece ++ rest) w x open-now q (h rest)
@@ -128,14 +129,14 @@ tells_bad_end a x w open-now q h = tells_stop a [] w x open-now q (stop-at-end x
 
 -- the proof ends without a step more, or with one
 tells_end : (a : Reading) → IsOpen a → to_come a.reader [] ≡ finished → Tells outcome.RefusedEnd a []
-tells_end a open-now e b F front s =
-    subst (λ (p : Parsed). SaysOf outcome.RefusedEnd F p) (sym (s.proof [] ∙ ap (behind s.entries) e))
-    (end-says F s.entries a.refuter s.so_far open-now.under_way.unlost)
+tells_end a open-now e b j F front s =
+    subst (λ (p : Parsed). SaysShared j outcome.RefusedEnd F p) (sym (s.proof [] ∙ ap (behind s.entries) e))
+    (end-says j F s.entries a.refuter s.so_far open-now.under_way.unlost)
 
 tells_end_step : (a : Reading) (t : Refuter) (n : ℕ) (p : ProofStep) → IsOpen a → Goes p a.refuter t → to_come a.reader [] ≡ onto (n, p) finished → Tells outcome.RefusedEnd a []
-tells_end_step a t n p open-now g r b F front s =
-    subst (λ (x : Parsed). SaysOf outcome.RefusedEnd F x) (sym (s.proof [] ∙ (ap (behind s.entries) r ∙ behind-behind s.entries ((n, p) ∷ []) finished)))
-    (end-says F (s.entries ++ (n, p) ∷ []) t (goes-on F s.entries a.refuter s.so_far open-now.under_way.unlost n p t g) g.under_way.unlost)
+tells_end_step a t n p open-now g r b j F front s =
+    subst (λ (x : Parsed). SaysShared j outcome.RefusedEnd F x) (sym (s.proof [] ∙ (ap (behind s.entries) r ∙ behind-behind s.entries ((n, p) ∷ []) finished)))
+    (end-says j F (s.entries ++ (n, p) ∷ []) t (goes-on j F s.entries a.refuter s.so_far open-now.under_way.unlost n p t g) g.under_way.unlost)
 
 pub tells_conclusion : (a : Reading) (r : Result (Option Entry) LogError) (w : Disproved) → IsOpen a → reading.Ends r (to_come a.reader []) → Concludes r a.refuter w → Tells w a []
 tells_conclusion a (Ok None) w o h c = subst (λ (x : Disproved). Tells x a []) (sym c) (tells_end a o h)
@@ -145,8 +146,8 @@ tells_conclusion a (Err x) w o h c = tells_bad_end a x w o c h
 
 -- what is told of bytes that follow others
 tells_later : (a b : Reading) (xs ys : List ℕ) (w : Disproved) → Advances a b xs → Tells w b ys → Tells w a (xs ++ ys)
-tells_later a b xs ys w f r k F front s =
-    subst (λ (zs : List ℕ). SaysOf w F (proof_of k zs)) (append_assoc front xs ys) (r k F (front ++ xs) (f.stands k F front s))
+tells_later a b xs ys w f r k j F front s =
+    subst (λ (zs : List ℕ). SaysShared j w F (proof_of k zs)) (append_assoc front xs ys) (r k j F (front ++ xs) (f.stands k j F front s))
 
 pub tells_from : (a b : Reading) (piece : List ℕ) (i : ℕ) (w : Disproved) → Advances a b (take i piece) → ((rest : List ℕ) → Tells w b (drop i piece ++ rest)) → (rest : List ℕ) → Tells w a (piece ++ rest)
 tells_from a b piece i w f r rest = subst (λ xs. Tells w a xs) (front-of i piece rest) (tells_later a b (take i piece) (drop i piece ++ rest) w f (r rest))

@@ -33,13 +33,13 @@ end-not : (F : PrenexFormula) (p : Parsed) → EndFails F p → IsRefutation F p
 end-not F p ((at, r), o) h = refused-not F p at None r h
 
 -- an answer that is due, one that does not come, and one in whose place a fault came
-due : (given s : Status) (P : Type 0) → given ≡ s → P → Exactly given s P
+pub due : (given s : Status) (P : Type 0) → given ≡ s → P → Exactly given s P
 due given s P e p = ((λ x. p), (λ x. inl e))
 
-not-due : (given s t : Status) (P : Type 0) → given ≡ s → (s ≡ t → ⊥) → (P → ⊥) → Exactly given t P
+pub not-due : (given s t : Status) (P : Type 0) → given ≡ s → (s ≡ t → ⊥) → (P → ⊥) → Exactly given t P
 not-due given s t P e d h = ((λ x. absurd (d (sym e ∙ x))), (λ p. absurd (h p)))
 
-faulty : (given t : Status) (P : Type 0) → MayCome given → (MayCome t → ⊥) → Exactly given t P
+pub faulty : (given t : Status) (P : Type 0) → MayCome given → (MayCome t → ⊥) → Exactly given t P
 faulty given t P m d = ((λ x. absurd (d (subst MayCome x m))), (λ p. inr m))
 
 false-stays : MayCome status.False → ⊥
@@ -47,12 +47,12 @@ false-stays (inl a) = cc
 false-stays (inr (inl a)) = cc
 false-stays (inr (inr a)) = cc
 
-log-stays : MayCome status.LogRefused → ⊥
+pub log-stays : MayCome status.LogRefused → ⊥
 log-stays (inl a) = cc
 log-stays (inr (inl a)) = cc
 log-stays (inr (inr a)) = cc
 
-input-stays : MayCome status.InputRefused → ⊥
+pub input-stays : MayCome status.InputRefused → ⊥
 input-stays (inl a) = cc
 input-stays (inr (inl a)) = cc
 input-stays (inr (inr a)) = cc

@@ -1,3 +1,4 @@
 pub mod DisprovedLines
 pub mod Disproofs
+pub mod SharedDisproofs
 pub mod Readings

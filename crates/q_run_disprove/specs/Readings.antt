@@ -1,5 +1,5 @@
 -- A proof whose steps are made while it is read.
-use Rattle.std.specs.Prelude.{◌≡◌, ◌⊎◌, ◌≤◌, ◌+◌, ℕ, Bool, true, false, List, [], ◌++◌, length, take, drop, Option, None, Some, Result, Ok, Err}
+use Rattle.std.specs.Prelude.{◌≡◌, ◌⊎◌, ◌≤◌, ◌+◌, ℕ, Bool, true, false, cond, List, [], ◌++◌, length, take, drop, Option, None, Some, Result, Ok, Err}
 use Rattle.q_logic.specs.declared.steps.Kind.{Kind}
 use Rattle.q_logic.specs.declared.steps.Kind.TheVariants as kind
 use Rattle.q_logic.specs.Prelude.{PrenexFormula, AreAlike, ProofStep, after, standard}
@@ -9,9 +9,14 @@ use Rattle.q_log.specs.Logs.{behind}
 use Rattle.q_binary.specs.Forms.{left_of, to_come}
 use Rattle.q_judge.specs.declared.error.CheckError.{CheckError}
 use Rattle.q_judge.specs.declared.error.CheckError.TheVariants as check
-use Rattle.q_refutation.specs.Refutations.{AreMadeUnlost, BadCause, IsLost, MayBeMade}
+use Rattle.q_shares.specs.Shares.{Share, count}
+use Rattle.q_refutation.specs.Refutations.{BadCause, IsLost}
+use Rattle.q_refutation.specs.SharedRefutations.{AreTakenUnlost, MayBeTaken, NotTaken}
 use Rattle.q_command.specs.Logs.{Entry, steps_of}
-use Rattle.q_run_disprove.specs.Disproofs.{SaysOf, proof_of}
+use Rattle.q_command.specs.Parts.{share_of}
+use Rattle.q_command.specs.declared.part.Part.{Part}
+use Rattle.q_run_disprove.specs.Disproofs.{proof_of}
+use Rattle.q_run_disprove.specs.SharedDisproofs.{SaysShared}
 use Rattle.q_run_disprove.specs.declared.disproved.Disproved.{Disproved}
 use Rattle.q_run_disprove.specs.declared.disproved.Disproved.TheVariants as outcome
 use Rattle.q_run_disprove.specs.declared.reading.Reading.{Reading}
@@ -40,17 +45,32 @@ abbrev pub IsBadFor : PrenexFormula → ProofStep → CheckError → Type 0
 IsBadFor F s (check.Refused n) = BadCause false standard F s n
 IsBadFor F s check.NoMemory = Unit {0}
 
+abbrev pub IsNotTakenFor : Bool → PrenexFormula → ProofStep → CheckError → Type 0
+IsNotTakenFor own F s (check.Refused n) = NotTaken own standard F s n
+IsNotTakenFor own F s check.NoMemory = Unit {0}
+
+-- whether the next step is one of the part
+abbrev pub is_own : Refuter → Bool
+is_own t = share_of t.part t.steps
+
+-- one more step, which is one of the part or not
+abbrev pub counted : Bool → ℕ → ℕ
+counted own n = cond own (n + 1) n
+
 -- the checker has the limits of the program and keeps no undo list, and the empty clause is not there
 pub record IsUnderWay (t : Refuter) : Type 0 where
   pub limits : t.checker.limits ≡ standard
   pub keeps : t.checker.keeps ≡ false
   pub unlost : ¬ IsLost t.checker.formula
+  pub fewer : t.own ≤ t.steps
 
 -- no step is made
-pub record IsBegun (F : PrenexFormula) (t : Refuter) : Type 0 where
+pub record IsBegun (part : Part) (F : PrenexFormula) (t : Refuter) : Type 0 where
   pub under_way : IsUnderWay t
   pub alike : AreAlike F t.checker.formula
+  pub part_is : t.part ≡ part
   pub none : t.steps ≡ 0
+  pub no_own : t.own ≡ 0
 
 -- what is said before the first step
 abbrev pub TellsAtOnce : PrenexFormula → Disproved → Type 0
@@ -63,55 +83,59 @@ TellsAtOnce F outcome.NoMemory = Unit {0}
 
 -- one step more is made, and the empty clause is not there
 pub record Goes (s : ProofStep) (old new : Refuter) : Type 0 where
-  pub may : MayBeMade false standard old.checker.formula s
+  pub may : MayBeTaken (is_own old) standard old.checker.formula s
   pub alike : AreAlike (after old.checker.formula s) new.checker.formula
   pub under_way : IsUnderWay new
+  pub part : new.part ≡ old.part
   pub steps : new.steps ≡ old.steps + 1
+  pub own : new.own ≡ counted (is_own old) old.own
 
--- what is said of a step behind k others: the empty clause comes by it, or it may not be made
-abbrev pub Convicts : Disproved → PrenexFormula → ℕ → Entry → Type 0
-Convicts (outcome.False n) E k e = MayBeMade false standard E e.1 × IsLost (after E e.1) × (n ≡ k + 1)
-Convicts (outcome.RefusedLine n c) E k e = (n ≡ e.0) × BadCause false standard E e.1 c
-Convicts outcome.RefusedEnd E k e = ⊥
-Convicts (outcome.RefusedInput n c) E k e = ⊥
-Convicts outcome.ReadFault E k e = ⊥
-Convicts outcome.NoMemory E k e = Unit {0}
+-- what is said of the next step: the empty clause comes by it, or it is not taken
+abbrev pub Convicts : Disproved → Refuter → Entry → Type 0
+Convicts (outcome.False n) t e =
+    MayBeTaken (is_own t) standard t.checker.formula e.1 × IsLost (after t.checker.formula e.1) × (n ≡ counted (is_own t) t.own)
+Convicts (outcome.RefusedLine n c) t e = (n ≡ e.0) × NotTaken (is_own t) standard t.checker.formula e.1 c
+Convicts outcome.RefusedEnd t e = ⊥
+Convicts (outcome.RefusedInput n c) t e = ⊥
+Convicts outcome.ReadFault t e = ⊥
+Convicts outcome.NoMemory t e = Unit {0}
 
 -- what the end of the proof tells: there is no step more, or one, or a line that is none
 abbrev pub Concludes : Result (Option Entry) LogError → Refuter → Disproved → Type 0
 Concludes (Ok None) t w = w ≡ outcome.RefusedEnd
-Concludes (Ok (Some e)) t w =
-    Convicts w t.checker.formula t.steps e ⊎ ((w ≡ outcome.RefusedEnd) × ((new : Refuter) × Goes e.1 t new))
+Concludes (Ok (Some e)) t w = Convicts w t e ⊎ ((w ≡ outcome.RefusedEnd) × ((new : Refuter) × Goes e.1 t new))
 Concludes (Err x) t w = w ≡ log_refused x
 
--- these steps are made from F on, and the empty clause was never there
-pub record IsSoFar (F : PrenexFormula) (es : List Entry) (t : Refuter) : Type 0 where
+-- these steps are made from F on, those of the share were judged, and the empty clause was never there
+pub record IsSoFar (j : Share) (F : PrenexFormula) (es : List Entry) (t : Refuter) : Type 0 where
   pub last : PrenexFormula
-  pub made : AreMadeUnlost false standard F (steps_of es) last
+  pub share : share_of t.part ≡ j
+  pub made : AreTakenUnlost j standard 0 F (steps_of es) last
   pub alike : AreAlike last t.checker.formula
-  pub count : t.steps ≡ length es
+  pub all : t.steps ≡ length es
+  pub own : t.own ≡ count j 0 (steps_of es)
 
 -- there is room to count a step for each byte
 pub record IsOpen (r : Reading) : Type 0 where
   pub under_way : IsUnderWay r.refuter
   pub room : r.refuter.steps + left_of r.reader ≤ 1099511627776
 
--- these bytes of the proof are read, and all steps in them are made
-pub record Stands (binary : Bool) (F : PrenexFormula) (r : Reading) (bytes : List ℕ) : Type 0 where
+-- these bytes of the proof are read, all steps in them are made, and those of the share were judged
+pub record Stands (binary : Bool) (j : Share) (F : PrenexFormula) (r : Reading) (bytes : List ℕ) : Type 0 where
   pub entries : List Entry
   pub proof : (rest : List ℕ) → proof_of binary (bytes ++ rest) ≡ behind entries (to_come r.reader rest)
-  pub so_far : IsSoFar F entries r.refuter
+  pub so_far : IsSoFar j F entries r.refuter
 
 -- these bytes more are read
 pub record Advances (old new : Reading) (bytes : List ℕ) : Type 0 where
-  pub stands : (binary : Bool) → (F : PrenexFormula) → (front : List ℕ) → Stands binary F old front → Stands binary F new (front ++ bytes)
+  pub stands : (binary : Bool) → (j : Share) → (F : PrenexFormula) → (front : List ℕ) → Stands binary j F old front → Stands binary j F new (front ++ bytes)
   pub left : left_of new.reader + length bytes ≡ left_of old.reader
   pub goes_on : IsOpen new
 
 -- it is so of the proof that has these bytes behind those that are read
 abbrev pub Tells : Disproved → Reading → List ℕ → Type 0
 Tells o r bytes =
-    (binary : Bool) → (F : PrenexFormula) → (front : List ℕ) → Stands binary F r front → SaysOf o F (proof_of binary (front ++ bytes))
+    (binary : Bool) → (j : Share) → (F : PrenexFormula) → (front : List ℕ) → Stands binary j F r front → SaysShared j o F (proof_of binary (front ++ bytes))
 
 -- n bytes of the file were taken, from a place on
 pub record HasTaken (file : List ℕ) (place n : ℕ) (old new : Reading) : Type 0 where
@@ -120,7 +144,7 @@ pub record HasTaken (file : List ℕ) (place n : ℕ) (old new : Reading) : Type
   pub end : n ≡ 0 → length file ≤ place
 
 -- nothing is read yet, and the proof begins with the formula
-pub record IsStarted (binary : Bool) (F : PrenexFormula) (r : Reading) : Type 0 where
-  pub stands : Stands binary F r []
+pub record IsStarted (binary : Bool) (part : Part) (F : PrenexFormula) (r : Reading) : Type 0 where
+  pub stands : Stands binary (share_of part) F r []
   pub left : left_of r.reader ≡ 1099511627776
   pub goes_on : IsOpen r

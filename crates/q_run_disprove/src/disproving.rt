@@ -2,14 +2,16 @@
 ghost use Rattle.std.specs.Prelude.{◌≡◌, ◌≢◌, IfSome};
 ghost use Rattle.q_io.specs.Files.{RoseAmong, RoseFor, bytes_at};
 ghost use Rattle.q_command.specs.Reading.{OnlyReadsFiles};
+ghost use Rattle.q_command.specs.Parts.{share_of};
 ghost use Rattle.q_command.specs.declared.status.Status.TheVariants as status;
 ghost use Rattle.q_run_disprove.specs.DisprovedLines.{status_of_disproved};
-ghost use Rattle.q_run_disprove.specs.Disproofs.{Disproves, SaysOf, files_of, names_read, proof_of, refused_input as input_refused};
+ghost use Rattle.q_run_disprove.specs.Disproofs.{Disproves, files_of, names_read, proof_of, refused_input as input_refused};
+ghost use Rattle.q_run_disprove.specs.SharedDisproofs.{PartDisproves, SaysShared, told_by_part};
 
 use crate::disproved::Disproved;
 use crate::names::DisproveNames;
 use crate::reading::{Reading, read_proof};
-use q_command::{InputError, PIECE, read_input};
+use q_command::{InputError, PIECE, Part, read_input};
 use q_io::Files;
 use q_logic::Formula;
 use std::alloc::Global;
@@ -24,16 +26,17 @@ fn refused_input(error: InputError) -> Disproved
     }
 }
 
-// What there is to say of a formula and a proof.
+// What there is to say of a formula and a proof, where steps of the part are judged and counted.
 fn judge<F: Files>(
     alloc: Global,
     files: &mut F,
     name: &str,
     formula: Formula,
     binary: bool,
+    part: Part,
 ) -> Disproved
-    ensures says { IfSome (F.held files.old)
-        (λ disk. SaysOf result formula (proof_of binary (bytes_at disk name.now))) }
+    ensures says { IfSome (F.held files.old) (λ disk.
+        SaysShared (share_of part) result formula (proof_of binary (bytes_at disk name.now))) }
     ensures fault { result ≡ Disproved.ReadFault
         → RoseFor F.read_faults name.now files.old files.new }
     ensures only_reads { OnlyReadsFiles F.Files files.old files.new }
@@ -41,9 +44,31 @@ fn judge<F: Files>(
     let Ok(mut room) = vec![in alloc; 0u8; PIECE] else {
         return Disproved::NoMemory;
     };
-    match Reading::start(alloc, formula, binary) {
+    match Reading::start(alloc, formula, binary, part) {
         Ok(reading) => read_proof(files, name, &mut room, reading),
         Err(outcome) => outcome,
+    }
+}
+
+/// What there is to say over the files of these names, where steps of the part are judged and counted.
+pub(crate) fn disprove_shared<F: Files>(
+    alloc: Global,
+    files: &mut F,
+    names: DisproveNames,
+    binary: bool,
+    part: Part,
+) -> Disproved
+    ensures disproves { IfSome (F.held files.old) (λ disk.
+        PartDisproves (share_of part) (told_by_part result) (files_of names.entry) binary disk
+        (F.held files.new)) }
+    ensures read_fault { status_of_disproved result ≡ status.ReadFault
+        → RoseAmong F.read_faults (names_read (files_of names.entry)) files.old files.new }
+    ensures write_fault { status_of_disproved result ≢ status.WriteFault }
+    ensures held { F.held files.new ≡ F.held files.old }
+{
+    match read_input(alloc, files, names.input) {
+        Ok(formula) => judge(alloc, files, names.proof, formula, binary, part),
+        Err(error) => refused_input(error),
     }
 }
 
@@ -61,8 +86,5 @@ pub fn disprove_files<F: Files>(
     ensures write_fault { status_of_disproved result ≢ status.WriteFault }
     ensures held { F.held files.new ≡ F.held files.old }
 {
-    match read_input(alloc, files, names.input) {
-        Ok(formula) => judge(alloc, files, names.proof, formula, binary),
-        Err(error) => refused_input(error),
-    }
+    disprove_shared(alloc, files, names, binary, Part::whole())
 }

@@ -8,6 +8,7 @@ ghost use Rattle.q_run_disprove.specs.Readings.{Advances, Concludes, HasTaken, I
 use crate::disproved::Disproved;
 use crate::refuter::Refuter;
 use q_binary::ProofReader;
+use q_command::Part;
 use q_io::{DeviceError, Files};
 use q_log::LogError;
 use q_logic::{Formula, Limits, Step};
@@ -49,16 +50,21 @@ fn conclude(refuter: &mut Refuter, end: Result<Option<(u64, Step)>, LogError>) -
 }
 
 impl Reading {
-    /// Nothing is read, and the proof begins with this formula, unless the empty clause is in it.
-    pub fn start(alloc: Global, formula: Formula, binary: bool) -> Result<Reading, Disproved>
-        ensures started { IfOk result (IsStarted binary formula) }
+    /// Nothing is read, and the proof begins with this formula, unless the empty clause is in it. Steps of the part are judged.
+    pub fn start(
+        alloc: Global,
+        formula: Formula,
+        binary: bool,
+        part: Part,
+    ) -> Result<Reading, Disproved>
+        ensures started { IfOk result (IsStarted binary part formula) }
         ensures lost { IfErr result (TellsAtOnce formula) }
         ensures fault { IsErrOf result Disproved.ReadFault → ⊥ }
     {
         let Ok(reader) = ProofReader::new(alloc, Limits::standard().bytes, binary) else {
             return Err(Disproved::NoMemory);
         };
-        match Refuter::start(alloc, &formula) {
+        match Refuter::start(alloc, &formula, part) {
             Ok(refuter) => Ok(Reading { reader, refuter }),
             Err(outcome) => Err(outcome),
         }

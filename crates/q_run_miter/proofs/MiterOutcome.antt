@@ -7,9 +7,9 @@ use Rattle.q_io.specs.declared.error.DeviceError.{DeviceError}
 use Rattle.q_io.specs.declared.error.DeviceError.TheVariants as device
 use Rattle.q_dimacs.specs.Building.{formula_of}
 use Rattle.q_aiger.specs.Circuits.{AreCircuits}
-use Rattle.q_carry.specs.Prelude.{Fits, IsMisfit}
-use Rattle.q_carry.specs.declared.error.Misfit.{Misfit}
-use Rattle.q_carry.specs.declared.error.Misfit.TheVariants as misfit
+use Rattle.q_certificate.specs.Prelude.{Fits, IsMisfit}
+use Rattle.q_certificate.specs.declared.error.Misfit.{Misfit}
+use Rattle.q_certificate.specs.declared.error.Misfit.TheVariants as misfit
 use Rattle.q_cnf.specs.Cnf.{cnf_text, AreVariables, no_sets}
 use Rattle.q_cnf.proofs.ReadCnf.{cnf-read}
 use Rattle.q_encode.specs.declared.side.Side.{Side}

@@ -5,11 +5,11 @@ use Rattle.q_logic.specs.Prelude.{PrenexFormula, CertificateView, Matrix, standa
 use Rattle.q_io.specs.Files.{Disk, bytes_at, HoldsBytes, MayHoldFront}
 use Rattle.q_aiger.specs.Alike.{AreAlike}
 use Rattle.q_aiger.proofs.GateOrders.{one-meaning, offence-none}
-use Rattle.q_carry.specs.Prelude.{Fits}
-use Rattle.q_carry.specs.declared.error.Misfit.{Misfit}
-use Rattle.q_carry.specs.declared.error.Misfit.TheVariants as misfit
-use Rattle.q_carry.proofs.AlikeFit.{fits-alike}
-use Rattle.q_carry.proofs.Misfits.{misfit-not_fits}
+use Rattle.q_certificate.specs.Prelude.{Fits}
+use Rattle.q_certificate.specs.declared.error.Misfit.{Misfit}
+use Rattle.q_certificate.specs.declared.error.Misfit.TheVariants as misfit
+use Rattle.q_certificate.proofs.AlikeFit.{fits-alike}
+use Rattle.q_certificate.proofs.Misfits.{misfit-not_fits}
 use Rattle.q_encode.specs.declared.side.Side.{Side}
 use Rattle.q_encode.specs.Sides.{turned}
 use Rattle.q_encode.specs.Sums.{IsSmall, AreIn, sums_of}

@@ -7,9 +7,9 @@ use Rattle.q_io.specs.declared.error.DeviceError.TheVariants as device
 use Rattle.q_dimacs.specs.Offences.{Offence}
 use Rattle.q_aiger.specs.Circuits.{AreCircuits, Offence as CircuitsOffence}
 use Rattle.q_aiger.specs.Alike.{IsNoCircuits}
-use Rattle.q_carry.specs.Prelude.{Fits, IsMisfit}
-use Rattle.q_carry.specs.declared.error.Misfit.{Misfit}
-use Rattle.q_carry.specs.declared.error.Misfit.TheVariants as misfit
+use Rattle.q_certificate.specs.Prelude.{Fits, IsMisfit}
+use Rattle.q_certificate.specs.declared.error.Misfit.{Misfit}
+use Rattle.q_certificate.specs.declared.error.Misfit.TheVariants as misfit
 use Rattle.q_miter.specs.Miters.{IsCnf}
 use Rattle.q_cnf.specs.Cnf.{cnf_text, AreVariables}
 use Rattle.q_encode.specs.declared.side.Side.{Side}

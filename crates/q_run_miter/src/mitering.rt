@@ -8,7 +8,7 @@ ghost use Rattle.q_run_miter.specs.Mitering.{AreMade, CircuitsFail, Miters, Puts
 use crate::mitered::Mitered;
 use crate::names::MiterNames;
 use q_aig::Certificate;
-use q_carry::{Misfit, fitting_circuits_are_lawful, test};
+use q_certificate::{Misfit, fitting_circuits_are_lawful, test};
 use q_cnf::write_cnf;
 use q_command::{CircuitsError, InputError, Unfit, read_circuits, read_input};
 use q_encode::{EncodeError, Side, encode, turn};

@@ -9,7 +9,7 @@ use Rattle.q_io.specs.declared.error.DeviceError.TheVariants as device
 use Rattle.q_dimacs.specs.Writing.{formula_text}
 use Rattle.q_dimacs.specs.Offences.{Offence}
 use Rattle.q_aiger.specs.Writing.{IsCanonical}
-use Rattle.q_carry.specs.Prelude.{universals, existentials}
+use Rattle.q_certificate.specs.Prelude.{universals, existentials}
 use Rattle.q_search.specs.Budgets.{IsBelow}
 use Rattle.q_sched.specs.Settled.{IsSettled}
 use Rattle.q_simplify.specs.declared.report.Report.{Report}

@@ -6,11 +6,11 @@ use Rattle.q_io.specs.Files.{Disk, bytes_at}
 use Rattle.q_aiger.specs.Alike.{AreAlike}
 use Rattle.q_aiger.proofs.GateOrders.{one-meaning, offence-none}
 use Rattle.q_search.specs.Budgets.{IsBelow}
-use Rattle.q_carry.specs.Prelude.{Fits}
-use Rattle.q_carry.specs.declared.error.Misfit.TheVariants as misfit
-use Rattle.q_carry.proofs.AlikeFit.{fits-alike}
-use Rattle.q_carry.proofs.LawfulFit.{lawful-fits}
-use Rattle.q_carry.proofs.Misfits.{misfit-not_fits}
+use Rattle.q_certificate.specs.Prelude.{Fits}
+use Rattle.q_certificate.specs.declared.error.Misfit.TheVariants as misfit
+use Rattle.q_certificate.proofs.AlikeFit.{fits-alike}
+use Rattle.q_certificate.proofs.LawfulFit.{lawful-fits}
+use Rattle.q_certificate.proofs.Misfits.{misfit-not_fits}
 use Rattle.q_validate.specs.Refusals.{IsRefused, misfit_of}
 use Rattle.q_validate.specs.declared.error.ValidateError.{ValidateError}
 use Rattle.q_validate.specs.declared.error.ValidateError.TheVariants as refusal

@@ -7,7 +7,7 @@ use Rattle.q_dimacs.specs.Offences.{Offence}
 use Rattle.q_aiger.specs.Circuits.{AreCircuits, Offence as CircuitsOffence}
 use Rattle.q_aiger.specs.Alike.{IsNoCircuits}
 use Rattle.q_search.specs.Budgets.{IsBelow}
-use Rattle.q_carry.specs.Prelude.{Fits}
+use Rattle.q_certificate.specs.Prelude.{Fits}
 use Rattle.q_validate.specs.Answers.{IsAnswer}
 use Rattle.q_validate.specs.Refusals.{IsRefused}
 use Rattle.q_validate.specs.declared.validating.Answer.{Answer}

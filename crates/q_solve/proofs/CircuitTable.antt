@@ -12,8 +12,8 @@ use Rattle.q_logic.proofs.PickedCircuits.{circuits-skolem}
 use Rattle.q_aig.specs.Prelude.{Net, tree_at, Serves}
 use Rattle.q_search.specs.Walks.{Walk}
 use Rattle.q_search.proofs.NodeSteps.{along-none}
-use Rattle.q_carry.specs.Prelude.{look_at, Stands, IsAt}
-use Rattle.q_carry.proofs.NamedCertificates.{existentials-named, not-given, made-serves, made-lawful}
+use Rattle.q_certificate.specs.Prelude.{look_at, Stands, IsAt}
+use Rattle.q_certificate.proofs.NamedCertificates.{existentials-named, not-given, made-serves, made-lawful}
 use Rattle.q_solve.specs.declared.picks.Pick.{Pick}
 use Rattle.q_solve.specs.declared.circuits.Circuits.{Circuits}
 use Rattle.q_solve.specs.Picks.{lit_at, AreBelow, IsRow, IsTaken}

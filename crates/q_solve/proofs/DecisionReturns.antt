@@ -14,9 +14,9 @@ use Rattle.q_search.specs.Paths.{along, rest_of, said}
 use Rattle.q_search.specs.Walks.{Walk, moved, said_here}
 use Rattle.q_search.proofs.PathLemmas.{along-more, rest-more}
 use Rattle.q_search.proofs.NodeSteps.{rest-some}
-use Rattle.q_carry.specs.Prelude.{look_at, AreLiterals, InputsAt}
-use Rattle.q_carry.proofs.LiteralRows.{literals-kept, inputs-kept}
-use Rattle.q_carry.proofs.Folds.{serves-disjunction}
+use Rattle.q_certificate.specs.Prelude.{look_at, AreLiterals, InputsAt}
+use Rattle.q_certificate.proofs.LiteralRows.{literals-kept, inputs-kept}
+use Rattle.q_certificate.proofs.Folds.{serves-disjunction}
 use Rattle.q_solve.specs.declared.picks.Pick.{Pick}
 use Rattle.q_solve.specs.declared.circuits.Circuits.{Circuits}
 use Rattle.q_solve.specs.Picks.{lit_at, IsRow}

@@ -10,9 +10,9 @@ use Rattle.q_logic.specs.Decisions.{is_true, standing}
 use Rattle.q_logic.proofs.Common.{is_tautology-sound, is_tautology-whole}
 use Rattle.q_search.specs.Paths.{along, rest_of}
 use Rattle.q_search.proofs.PathValues.{drop-step}
-use Rattle.q_counts.specs.declared.counts.Count.{Count}
-use Rattle.q_counts.specs.Counting.{if_so, is_chosen, how_many, count_of, times, times_in, clause_at, count_at, row_at, IsGrown}
-use Rattle.q_counts.proofs.CountChanges.{times-append, none-and, so-few}
+use Rattle.q_solve.specs.declared.counts.Count.{Count}
+use Rattle.q_solve.specs.Counting.{if_so, is_chosen, how_many, count_of, times, times_in, clause_at, count_at, row_at, IsGrown}
+use Rattle.q_solve.proofs.CountChanges.{times-append, none-and, so-few}
 use Rattle.q_solve.specs.declared.sides.Sides.{Sides}
 use Rattle.q_solve.specs.Counted.{side, row_of, IsCounted}
 

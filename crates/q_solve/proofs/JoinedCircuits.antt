@@ -4,9 +4,9 @@ use Rattle.std.proofs.lemmas.Bool.{cases_lt, eqb-true}
 use Rattle.q_logic.specs.Prelude.{value_of, inverter, conjunction}
 use Rattle.q_aig.specs.Prelude.{Net, IsLiteral, tree_at, operand_of, turned, Keeps, Serves, IsConjunction}
 use Rattle.q_aig.proofs.Substitutes.{serves-same, serves-then, serves-inverter, serves-conjunction, turned-serves}
-use Rattle.q_carry.specs.Prelude.{IsDisjunction}
-use Rattle.q_carry.proofs.Folds.{serves-disjunction}
-use Rattle.q_carry.proofs.CircuitParts.{keeps-then}
+use Rattle.q_certificate.specs.Prelude.{IsDisjunction}
+use Rattle.q_certificate.proofs.Folds.{serves-disjunction}
+use Rattle.q_certificate.proofs.CircuitParts.{keeps-then}
 use Rattle.q_solve.specs.declared.picks.Pick.{Pick}
 use Rattle.q_solve.specs.Picks.{lit_at, AreBelow, IsRow, top_of, IsTaken}
 use Rattle.q_solve.specs.Joins.{chosen, IsChosen, AreIn, IsJoined, IsJoining}

@@ -1,3 +1,7 @@
+pub mod CountChanges
+pub mod LiteralChange
+pub mod NodeCounts
+pub mod CountRows
 pub mod UnsetLiterals
 pub mod GrownRows
 pub mod JoinedCircuits

@@ -7,7 +7,7 @@ use Rattle.q_logic.specs.Decisions.{verdict, search_of, decisions}
 use Rattle.q_search.specs.Walks.{Walk, moved, said_here, IsTurned, IsEnd, IsNext, IsInner}
 use Rattle.q_search.specs.Budgets.{IsBelow, IsPayment}
 use Rattle.q_search.proofs.NodeSteps.{IsGoing, left_to_do, going-start, going-down, going-next, going-end, leaf-won, leaf-lost}
-use Rattle.q_carry.specs.Prelude.{IsOpened}
+use Rattle.q_certificate.specs.Prelude.{IsOpened}
 use Rattle.q_solve.specs.declared.circuits.Circuits.{Circuits}
 use Rattle.q_solve.specs.Places.{Spot, walk_of}
 use Rattle.q_solve.specs.Picks.{AreBelow, IsRow}

@@ -9,9 +9,9 @@ use Rattle.q_logic.specs.declared.verdict.Standing.TheVariants.{True, False, Cho
 use Rattle.q_logic.specs.Decisions.{standing}
 use Rattle.q_search.specs.Paths.{along, rest_of}
 use Rattle.q_search.proofs.PathLemmas.{along-more, rest-more}
-use Rattle.q_counts.specs.declared.counts.Count.{Count}
-use Rattle.q_counts.specs.Counting.{times, times_in, clause_at, changed, row_at, AreCounts, CanShift, IsShifted}
-use Rattle.q_counts.proofs.LiteralChange.{can-shift, counts-shifted, counts-same}
+use Rattle.q_solve.specs.declared.counts.Count.{Count}
+use Rattle.q_solve.specs.Counting.{times, times_in, clause_at, changed, row_at, AreCounts, CanShift, IsShifted}
+use Rattle.q_solve.proofs.LiteralChange.{can-shift, counts-shifted, counts-same}
 use Rattle.q_solve.specs.declared.places.Known.{Known}
 use Rattle.q_solve.specs.declared.sides.Sides.{Sides}
 use Rattle.q_solve.specs.Places.{open_to, known_open, known_value}

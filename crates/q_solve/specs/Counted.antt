@@ -5,8 +5,8 @@ use Rattle.q_logic.specs.Prefixes.{is_bound, place}
 use Rattle.q_logic.specs.declared.verdict.Standing.{Standing}
 use Rattle.q_logic.specs.Decisions.{standing}
 use Rattle.q_search.specs.Paths.{along, rest_of}
-use Rattle.q_counts.specs.declared.counts.Count.{Count}
-use Rattle.q_counts.specs.Counting.{row_at, clause_at, AreHolders, AreCounts}
+use Rattle.q_solve.specs.declared.counts.Count.{Count}
+use Rattle.q_solve.specs.Counting.{row_at, clause_at, AreHolders, AreCounts}
 use Rattle.q_solve.specs.declared.places.Known.{Known}
 use Rattle.q_solve.specs.declared.sides.Sides.{Sides}
 

@@ -2,7 +2,7 @@
 use Rattle.std.specs.Prelude.{◌≡◌, ℕ, true, Option, map}
 use Rattle.q_logic.specs.Prelude.{PrenexFormula, is_existential, Assignment, Holds, value_of, CertificateView, trees_of, SkolemOf, circuit_of}
 use Rattle.q_logic.specs.Decisions.{decisions, circuits_of}
-use Rattle.q_carry.specs.Prelude.{universals, existentials}
+use Rattle.q_certificate.specs.Prelude.{universals, existentials}
 use Rattle.q_search.specs.Budgets.{IsBelow}
 use Rattle.q_solve.specs.declared.searching.Found.{Found}
 use Rattle.q_solve.specs.declared.searching.Found.TheVariants.{Yes, No, Unknown}

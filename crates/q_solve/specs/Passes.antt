@@ -5,7 +5,7 @@ use Rattle.q_logic.specs.declared.formulas.Quant.{Quant}
 use Rattle.q_logic.specs.declared.formulas.Quant.TheVariants.{Exists, Forall}
 use Rattle.q_logic.specs.Prelude.{goes_on}
 use Rattle.q_aig.specs.Prelude.{IsLiteral}
-use Rattle.q_carry.specs.Prelude.{look_at}
+use Rattle.q_certificate.specs.Prelude.{look_at}
 use Rattle.q_solve.specs.declared.picks.Pick.{Pick}
 use Rattle.q_solve.specs.declared.circuits.Circuits.{Circuits}
 use Rattle.q_solve.specs.Picks.{IsRow}

@@ -9,7 +9,7 @@ use Rattle.q_logic.specs.Decisions.{circuits_at}
 use Rattle.q_aig.specs.Prelude.{Net, tree_at, Serves}
 use Rattle.q_search.specs.Paths.{along, rest_of, said}
 use Rattle.q_search.specs.Walks.{Walk}
-use Rattle.q_carry.specs.Prelude.{AreLiterals, InputsAt, universals}
+use Rattle.q_certificate.specs.Prelude.{AreLiterals, InputsAt, universals}
 use Rattle.q_solve.specs.declared.picks.Pick.{Pick}
 use Rattle.q_solve.specs.declared.circuits.Circuits.{Circuits}
 use Rattle.q_solve.specs.Picks.{lit_at, AreBelow, IsRow}

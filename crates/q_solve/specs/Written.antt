@@ -3,7 +3,7 @@ use Rattle.std.specs.Prelude.{◌≡◌, ◌≤◌, ℕ, suc, cond, ◌+◌, Lis
 use Rattle.q_logic.specs.Prelude.{Prefix, CertificateView}
 use Rattle.q_logic.specs.Prefixes.{is_existential, place}
 use Rattle.q_aig.specs.Prelude.{Net}
-use Rattle.q_carry.specs.Prelude.{look_at, IsNamed}
+use Rattle.q_certificate.specs.Prelude.{look_at, IsNamed}
 use Rattle.q_solve.specs.declared.picks.Pick.{Pick}
 use Rattle.q_solve.specs.Picks.{lit_at, AreBelow, IsRow}
 

@@ -4,14 +4,14 @@
 ghost use Rattle.std.specs.Prelude.{◌≡◌, ℕ, [], true, false, IfOk, OnOk};
 ghost use Rattle.q_logic.specs.declared.formulas.Quant.TheVariants.{Exists, Forall};
 ghost use Rattle.q_logic.specs.Prelude.{Distinct};
-ghost use Rattle.q_carry.specs.Prelude.{IsOpened};
+ghost use Rattle.q_certificate.specs.Prelude.{IsOpened};
 ghost use Rattle.q_solve.specs.Passes.{SameGraph, IsPassed, CanPass, IsDropped, has_second};
 
 use crate::joining::join;
 use crate::node::Decision;
 use crate::picks::{Pick, Picks};
 use q_aig::Aig;
-use q_carry::{look, open_inputs};
+use q_certificate::{look, open_inputs};
 use q_logic::{Bound, NoMemory, Quant};
 use std::alloc::Global;
 use std::mem;

@@ -7,7 +7,7 @@ ghost use Rattle.q_solve.specs.Joins.{IsChosen, IsJoined, AreIn};
 
 use crate::picks::{Pick, Picks, take, top};
 use q_aig::{Aig, negate};
-use q_carry::or;
+use q_certificate::or;
 use q_logic::NoMemory;
 
 // The second literal where u is true, and the first where it is false.

@@ -5,6 +5,8 @@
 
 mod circuits;
 mod climbing;
+mod counts;
+mod holders;
 mod joining;
 mod loading;
 mod node;

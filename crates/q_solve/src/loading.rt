@@ -5,12 +5,12 @@ ghost use Rattle.q_logic.specs.Prefixes.{Distinct, is_bound, place};
 ghost use Rattle.q_logic.specs.Decisions.{standing};
 ghost use Rattle.q_search.specs.Paths.{along, rest_of};
 ghost use Rattle.q_search.specs.PlaceTables.{ArePlaces};
-ghost use Rattle.q_counts.specs.Counting.{if_so, count_of, times, times_in};
+ghost use Rattle.q_solve.specs.Counting.{if_so, count_of, times, times_in};
 ghost use Rattle.q_solve.specs.Counted.{row_of, IsCounted};
 
+use crate::counts::{Count, Counts};
 use crate::places::first_standing;
 use crate::sides::Sides;
-use q_counts::{Count, Counts};
 use q_logic::{Bound, Formula, Lit, NoMemory, is_tautology};
 use q_search::PlaceTable;
 use std::alloc::Global;

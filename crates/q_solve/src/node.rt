@@ -6,10 +6,10 @@ ghost use Rattle.q_logic.specs.declared.verdict.Verdict.TheVariants.{Open};
 ghost use Rattle.q_logic.specs.Decisions.{verdict as verdict_spec};
 ghost use Rattle.q_solve.specs.Places.{unset, values, IsLast};
 
+use crate::counts::Counts;
 use crate::loading::load;
 use crate::places::{known_open, known_value};
 use crate::sides::{Sides, change};
-use q_counts::Counts;
 use q_logic::{Bound, Formula, NoMemory, Verdict};
 use std::alloc::Global;
 use std::marker::Model;

@@ -2,11 +2,12 @@
 //! variable gets a value or loses it.
 ghost use Rattle.std.specs.Prelude.{◌≡◌, ◌<◌, ◌++◌, ◌∷◌, ◌&&◌, [], ℕ, Bool, cond, eqb, OnOk};
 ghost use Rattle.q_logic.specs.Prelude.{bool_eq};
-ghost use Rattle.q_counts.specs.Counting.{row_at, AreCounts};
+ghost use Rattle.q_solve.specs.Counting.{row_at, AreCounts};
 ghost use Rattle.q_solve.specs.Counted.{side, turned, IsAt};
 
+use crate::counts::Counts;
+use crate::holders::Holders;
 use crate::places::Known;
-use q_counts::{Counts, Holders};
 use q_logic::NoMemory;
 use std::alloc::Global;
 

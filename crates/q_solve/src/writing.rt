@@ -1,7 +1,7 @@
 //! The circuits of the root as a certificate: the universals are its inputs, the existentials its outputs.
 ghost use Rattle.std.specs.Prelude.{◌≡◌, ◌==◌, ◌&&◌, if◌then◌else◌, ◌<◌, ℕ, suc, length, Some, IfOk, OnOk};
 ghost use Rattle.q_logic.specs.Prelude.{Distinct, is_exists};
-ghost use Rattle.q_carry.specs.Prelude.{look_at};
+ghost use Rattle.q_certificate.specs.Prelude.{look_at};
 ghost use Rattle.q_solve.specs.Joins.{AreIn};
 ghost use Rattle.q_solve.specs.Picks.{AreBelow, IsRow};
 ghost use Rattle.q_solve.specs.Written.{AreEntries, IsWritten};
@@ -9,7 +9,7 @@ ghost use Rattle.q_solve.specs.Written.{AreEntries, IsWritten};
 use crate::circuits::Circuits;
 use crate::picks::{Pick, take};
 use q_aig::Certificate;
-use q_carry::{name_outputs, put};
+use q_certificate::{name_outputs, put};
 use q_logic::{Bound, NoMemory, Quant};
 use std::alloc::Global;
 

@@ -4,7 +4,7 @@ use Rattle.q_logic.specs.Prelude.{Literal, IsBelow, negation, literal_eq, pack, 
 use Rattle.q_logic.proofs.Common.{literal_eq-sound, literal_eq-itself, same_or_not, without-other, IsIn-without, without-IsIn, without-in_order}
 use Rattle.q_kernel.proofs.KernelInvariant.{length-shorter}
 use Rattle.q_subsume.specs.Looks.{IsTurnedWithin}
-use Rattle.q_ordered.proofs.OrderedClauses.{all-below}
+use Rattle.q_rule.proofs.OrderedClauses.{all-below}
 
 below_or_not : (a b : ℕ) → (a < b) ⊎ (b ≤ a)
 below_or_not a b = grind arith

@@ -23,8 +23,7 @@ use crate::strengthen::is_turned_within;
 use crate::target::Target;
 use q_kernel::{ClauseId, Kernel};
 use q_logic::Lit;
-use q_ordered::first_missing;
-use q_rule::clause_of;
+use q_rule::{clause_of, first_missing};
 
 /// A target that fits and whose place is at least a number. The search goes once round all clauses.
 pub fn find_from(kernel: &Kernel, search: &mut Search, from: u32) -> Option<Target>

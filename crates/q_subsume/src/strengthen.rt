@@ -18,8 +18,7 @@ ghost use Rattle.q_subsume.specs.Looks.{IsTurnedWithin};
 use crate::subsumed::are_two;
 use q_kernel::{ClauseId, Kernel};
 use q_logic::{Lit, holds};
-use q_ordered::first_missing;
-use q_rule::clause_of;
+use q_rule::{clause_of, first_missing};
 
 /// Whether the clause c, which holds the negation of l, lies within the clause d once that literal is turned into l.
 pub fn is_turned_within(c: &[Lit], d: &[Lit], l: Lit) -> bool

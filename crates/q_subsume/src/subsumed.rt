@@ -16,8 +16,7 @@ ghost use Rattle.q_subsume.specs.Looks.{AreTwo};
 
 use q_kernel::{ClauseId, Kernel};
 use q_logic::Lit;
-use q_ordered::first_missing;
-use q_rule::clause_of;
+use q_rule::{clause_of, first_missing};
 
 /// Whether all literals of the clause c are in the clause d.
 pub fn is_within(c: &[Lit], d: &[Lit]) -> bool

@@ -4,7 +4,7 @@ use Rattle.q_logic.specs.Prelude.{Literal, Clause, Prefix, PrenexFormula, IsIn, 
 use Rattle.q_logic.specs.Branches.{true_literals, claim_of, search_of, counter, counter_at}
 use Rattle.q_logic.proofs.Common.{value_of-agree, is_bound-universal}
 use Rattle.q_logic.proofs.FirstMoves.{signed-value}
-use Rattle.q_carry.proofs.NamedCertificates.{before-universal}
+use Rattle.q_certificate.proofs.NamedCertificates.{before-universal}
 use Rattle.q_validate.specs.Answers.{Falsify}
 
 -- Where the literals are true, each universal has the value that they tell.

@@ -1,8 +1,8 @@
 -- Why circuits are refused.
 use Rattle.q_logic.specs.Prelude.{PrenexFormula, CertificateView}
-use Rattle.q_carry.specs.Prelude.{IsMisfit}
-use Rattle.q_carry.specs.declared.error.Misfit.{Misfit}
-use Rattle.q_carry.specs.declared.error.Misfit.TheVariants.{MissingOutput as missing_output, StrangeOutput as strange_output, StrangeInput as strange_input, Reads as reads, NoMemory as no_memory}
+use Rattle.q_certificate.specs.Prelude.{IsMisfit}
+use Rattle.q_certificate.specs.declared.error.Misfit.{Misfit}
+use Rattle.q_certificate.specs.declared.error.Misfit.TheVariants.{MissingOutput as missing_output, StrangeOutput as strange_output, StrangeInput as strange_input, Reads as reads, NoMemory as no_memory}
 use Rattle.q_validate.specs.declared.error.ValidateError.{ValidateError}
 use Rattle.q_validate.specs.declared.error.ValidateError.TheVariants.{MissingOutput, StrangeOutput, StrangeInput, Reads, NoMemory}
 

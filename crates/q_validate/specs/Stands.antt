@@ -8,7 +8,7 @@ use Rattle.q_aig.specs.Prelude.{Net, IsNet, net_of}
 use Rattle.q_search.specs.Paths.{along, rest_of}
 use Rattle.q_search.specs.PlaceTables.{PlaceRow, ArePlaces}
 use Rattle.q_search.specs.Walks.{Walk}
-use Rattle.q_carry.specs.Prelude.{AreCircuits}
+use Rattle.q_certificate.specs.Prelude.{AreCircuits}
 use Rattle.q_validate.specs.Below.{known_clause, known_clauses}
 use Rattle.q_validate.specs.Words.{Tells}
 use Rattle.q_validate.specs.Lines.{zeros, Follows}

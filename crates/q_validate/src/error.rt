@@ -1,5 +1,5 @@
-//! Why circuits are not validated: the four refusals of `q_carry`, under the names that `validate` says, and want of memory.
-use q_carry::Misfit;
+//! Why circuits are not validated: the four refusals of `q_certificate`, under the names that `validate` says, and want of memory.
+use q_certificate::Misfit;
 use q_logic::NoMemory as MemoryMissing;
 
 /// Why circuits are not validated.

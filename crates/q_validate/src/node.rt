@@ -7,7 +7,7 @@ ghost use Rattle.q_logic.specs.declared.verdict.Verdict.TheVariants.{Open};
 ghost use Rattle.q_logic.specs.Prelude.{is_existential, trees_of, given};
 ghost use Rattle.q_logic.specs.Branches.{as_prefix};
 ghost use Rattle.q_aig.specs.Prelude.{IsNet, net_of};
-ghost use Rattle.q_carry.specs.Prelude.{AreCircuits};
+ghost use Rattle.q_certificate.specs.Prelude.{AreCircuits};
 ghost use Rattle.q_search.specs.Walks.{said_here, IsInner};
 ghost use Rattle.q_validate.specs.Stands.{claim_at, walk_of, IsBlock, IsLine, IsPlace};
 

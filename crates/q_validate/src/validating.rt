@@ -2,14 +2,14 @@
 ghost use Rattle.std.specs.Prelude.{◌≡◌, ◌<◌, ◌^◌, IfOk, IfErr, OnOk, length};
 ghost use Rattle.q_logic.specs.Prelude.{trees_of, Lawful};
 ghost use Rattle.q_logic.specs.Branches.{claim_of, branches, AreFed};
-ghost use Rattle.q_carry.specs.Prelude.{Fits};
+ghost use Rattle.q_certificate.specs.Prelude.{Fits};
 ghost use Rattle.q_validate.specs.Answers.{IsAnswer};
 ghost use Rattle.q_validate.specs.Refusals.{IsRefused};
 
 use crate::error::ValidateError;
 use crate::node::Node;
 use q_aig::Certificate;
-use q_carry::{circuits_of, fitting_circuits_are_lawful, test};
+use q_certificate::{circuits_of, fitting_circuits_are_lawful, test};
 use q_logic::{Formula, Lits, NoMemory, branches_are_few, counters_falsify, valid_is_skolem};
 use q_search::{Ending, find_lost};
 use std::alloc::Global;

@@ -9,7 +9,7 @@ ghost use Rattle.q_validate.specs.Stands.{claim_at, unset, values, known_along, 
 use crate::below::Below;
 use crate::known::{input_known, literal_known};
 use crate::node::Node;
-use q_carry::look;
+use q_certificate::look;
 use q_logic::{Lit, holds};
 
 impl<'a> Node<'a> {

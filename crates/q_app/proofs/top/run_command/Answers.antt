@@ -57,6 +57,10 @@ pub returns-in-Disprove : goal.returns-in-Disprove
 returns-in-Disprove g c =
     subst (λ (k : Parsed). InTurn (commands_of k) (devices g.F.Files g.S.Sink c.args.files.now c.args.out.now) c.run-in-Disprove.result (devices g.F.Files g.S.Sink c.run-in-Disprove.new.files c.run-in-Disprove.new.out)) (sym c.in-Disprove.is) c.run-in-Disprove.ensures
 
+pub returns-in-DisproveShare : goal.returns-in-DisproveShare
+returns-in-DisproveShare g c =
+    subst (λ (k : Parsed). InTurn (commands_of k) (devices g.F.Files g.S.Sink c.args.files.now c.args.out.now) c.run_part-in-DisproveShare.result (devices g.F.Files g.S.Sink c.run_part-in-DisproveShare.new.files c.run_part-in-DisproveShare.new.out)) (sym c.in-DisproveShare.is) c.run_part-in-DisproveShare.ensures
+
 pub returns-in-Demo : goal.returns-in-Demo
 returns-in-Demo g c =
     subst (λ (k : Parsed). InTurn (commands_of k) (devices g.F.Files g.S.Sink c.args.files.now c.args.out.now) c.run_demo.result (devices g.F.Files g.S.Sink c.run_demo.new.files c.run_demo.new.out)) (sym c.in-Demo.is) c.run_demo.ensures

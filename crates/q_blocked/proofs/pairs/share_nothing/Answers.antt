@@ -1,7 +1,7 @@
 use Rattle.std.proofs.Common.{◌≡◌, true, subst, inl, inr}
 use Rattle.q_logic.specs.Prelude.{Literal, Clause, IsIn, keeps}
 use Rattle.q_logic.proofs.Common.{item-in, taken-cases, taken-all, test-false}
-use Rattle.q_ordered.proofs.OrderedClauses.{dropped-more, left-here, left-on}
+use Rattle.q_rule.proofs.OrderedClauses.{dropped-more, left-here, left-on}
 use Rattle.q_blocked.proofs.pairs.share_nothing.Goals as goal
 
 pub is_fresh-requires-clause-there : goal.is_fresh-requires-clause-there

@@ -1,6 +1,6 @@
 use Rattle.std.proofs.Common.{◌≡◌, true, take}
 use Rattle.q_logic.specs.Prelude.{Literal, IsIn, keeps}
-use Rattle.q_ordered.proofs.OrderedClauses.{IsLeft}
+use Rattle.q_rule.proofs.OrderedClauses.{IsLeft}
 use Rattle.q_blocked.proofs.pairs.share_nothing.Given as goal
 
 abbrev pub invariant-loop-k : goal.invariant-loop-k

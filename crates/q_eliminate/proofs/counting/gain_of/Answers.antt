@@ -6,7 +6,7 @@ use Rattle.q_eliminate.specs.declared.counting.Gain.{Gain}
 use Rattle.q_eliminate.specs.Gains.{no_gain, joined, IsGain}
 use Rattle.q_eliminate.specs.Plans.{IsPlain}
 use Rattle.q_eliminate.proofs.IdWalks.{live-at, all-at, at-next}
-use Rattle.q_eliminate.proofs.GainCounts.{IsGaining, gaining-part, gaining-part_passed, gain-none, joined-resolve, clause-short, plain-without}
+use Rattle.q_eliminate.proofs.GainCounts.{IsGaining, gaining-part, gaining-part_passed, gain-none, resolved-first, clause-short, plain-without}
 use Rattle.q_eliminate.proofs.counting.gain_of.Goals as goal
 
 pub lits-requires : goal.lits-requires
@@ -26,10 +26,6 @@ gain_with-requires-clause-short c =
     let w = without-shorter c.args.lit c.lits.result.now in
     let e = ap length c.in_ok-mark.ensures in omega arith
 
--- the resolvents of a clause come first
-part : (l n : Literal) (M C : Clause) (X Y Z : Matrix) → M ≡ without l C → n ≡ negation l → X ≡ C ∷ Z → resolve_all l X Y ≡ joined M n Y ++ resolve_all l Z Y
-part l n M C X Y Z e f g = ap (λ (W : Matrix). resolve_all l W Y) g ∙ ap (λ (W : Matrix). W ++ resolve_all l Z Y) (sym (joined-resolve l C Y) ∙ (ap (λ (A : Clause). joined A (negation l) Y) (sym e) ∙ ap (λ (k : Literal). joined M k Y) (sym f)))
-
 pub returns-in-None : goal.returns-in-None
 returns-in-None c =
     let N = slots c.args.kernel.now in
@@ -38,7 +34,7 @@ returns-in-None c =
     let X = clauses_at N (drop c.loop-id.id-index c.args.ids.now) in
     let Z = clauses_at N (drop (c.loop-id.id-index + 1) c.args.ids.now) in
     let V = resolve_all l (clauses_at N c.args.ids.now) Y in
-    let p = part l c.negated.result c.mark.new.marks c.lits.result.now X Y Z c.in_ok-mark.ensures c.negated.ensures (at-next N c.args.ids.now c.loop-id.id-index c.lits.result.now c.loop-id-test.true c.lits.ensures.clause) in
+    let p = resolved-first l c.negated.result c.mark.new.marks c.lits.result.now X Y Z c.in_ok-mark.ensures c.negated.ensures (at-next N c.args.ids.now c.loop-id.id-index c.lits.result.now c.loop-id-test.true c.lits.ensures.clause) in
     gain-none no_gain c.args.bound V
     (gaining-part_passed no_gain c.loop-id.gain c.args.bound V (joined c.mark.new.marks c.negated.result Y) (resolve_all l Z Y)
     (subst (λ (o : Option Gain). IsGain c.loop-id.gain (joined c.mark.new.marks c.negated.result Y) c.args.bound o) c.in-None.is c.gain_with.ensures)
@@ -52,7 +48,7 @@ loop-id-preserved c =
     let X = clauses_at N (drop c.loop-id.id-index c.args.ids.now) in
     let Z = clauses_at N (drop (c.loop-id.id-index + 1) c.args.ids.now) in
     let V = resolve_all l (clauses_at N c.args.ids.now) Y in
-    let p = part l c.negated.result c.mark.new.marks c.lits.result.now X Y Z c.in_ok-mark.ensures c.negated.ensures (at-next N c.args.ids.now c.loop-id.id-index c.lits.result.now c.loop-id-test.true c.lits.ensures.clause) in
+    let p = resolved-first l c.negated.result c.mark.new.marks c.lits.result.now X Y Z c.in_ok-mark.ensures c.negated.ensures (at-next N c.args.ids.now c.loop-id.id-index c.lits.result.now c.loop-id-test.true c.lits.ensures.clause) in
     gaining-part no_gain c.loop-id.gain c.in-Some.more c.args.bound V (joined c.mark.new.marks c.negated.result Y) (resolve_all l Z Y)
     (subst (λ (o : Option Gain). IsGain c.loop-id.gain (joined c.mark.new.marks c.negated.result Y) c.args.bound o) c.in-Some.is c.gain_with.ensures)
     (subst (λ (W : Matrix). IsGaining no_gain c.loop-id.gain c.args.bound V W) p c.loop-id.invariant)

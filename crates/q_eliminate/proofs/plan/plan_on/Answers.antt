@@ -1,7 +1,9 @@
 use Rattle.std.proofs.Common.{◌≡◌, ◌≤◌, ◌+◌, ◌∙◌, ℕ, List, length, inl, inr, refl, sym, arith, true≢false}
-use Rattle.q_logic.specs.Prelude.{Literal, negation, size_of, clauses_at}
+use Rattle.q_logic.specs.Prelude.{Literal, negation, size_of, resolve_all, clauses_at}
 use Rattle.q_kernel.specs.Prelude.{Seen, slots, IsSound}
+use Rattle.q_eliminate.specs.Gains.{no_gain}
 use Rattle.q_eliminate.specs.Sides.{AreIdsOf}
+use Rattle.q_eliminate.proofs.GainCounts.{gain-none}
 use Rattle.q_eliminate.proofs.VariableClauses.{live-ids, plain-side, ids-small, gain-told, gain-passed, planned, unplanned}
 use Rattle.q_eliminate.proofs.plan.plan_on.Goals as goal
 
@@ -107,3 +109,21 @@ pub returns-else-keeps_limits-clause-none : goal.returns-else-keeps_limits-claus
 returns-else-keeps_limits-clause-none c f m =
     let i = rw c.in-Some-2.is at c.in_ok-gain.ensures in
     true≢false (sym (c.keeps_limits.ensures.1 (unplanned c.args.kernel.now c.args.lit c.args.ids.now c.args.others.now c.requires.ids c.requires.others c.args.bounds.now.grow (c.weight.result + c.weight-2.result) c.in-Some-2.gain (λ j. c.weight.ensures j + c.weight-2.ensures j) i m)) ∙ c.if-keeps_limits.false)
+
+pub pass_early-requires-clause-live : goal.pass_early-requires-clause-live
+pass_early-requires-clause-live c = live-ids c.args.kernel.now c.args.lit c.args.ids.now c.requires.ids
+
+pub pass_early-requires-clause-others : goal.pass_early-requires-clause-others
+pass_early-requires-clause-others c = live-ids c.args.kernel.now (negation c.args.lit) c.args.others.now c.requires.others
+
+pub returns-then-branch-clause-none : goal.returns-then-branch-clause-none
+returns-then-branch-clause-none c f m =
+    let k = c.args.kernel.now in
+    let grow = c.args.bounds.now.grow in
+    let bound = c.weight.result + c.weight-2.result + grow in
+    let e : bound ≡ size_of (clauses_at (slots k) c.args.ids.now) + size_of (clauses_at (slots k) c.args.others.now) + grow = (λ j. c.weight.ensures j + c.weight-2.ensures j + grow) in
+    let p = c.in_ok-pass_early.ensures c.if-branch.true
+    (plain-side k c.args.lit c.args.ids.now c.requires.ids (λ D i n. m.split.no_tautology D i (inl n)))
+    (plain-side k (negation c.args.lit) c.args.others.now c.requires.others (λ D i n. m.split.no_tautology D i (inr n))) in
+    gain-passed k c.args.lit c.args.ids.now c.args.others.now c.requires.ids c.requires.others bound grow e
+    (gain-none no_gain bound (resolve_all c.args.lit (clauses_at (slots k) c.args.ids.now) (clauses_at (slots k) c.args.others.now)) (omega arith)) m.small

@@ -1,6 +1,6 @@
 use Rattle.std.proofs.Common.{◌≡◌, ◌∙◌, sym, ap, subst, arith}
 use Rattle.q_logic.specs.Prelude.{Prefix, Distinct, Lawful, trees_of, greatest}
-use Rattle.q_carry.specs.Narrowed.{IsNarrowed}
+use Rattle.q_certificate.specs.Narrowed.{IsNarrowed}
 use Rattle.q_encode.specs.Sides.{turned}
 use Rattle.q_encode.proofs.GivenCircuits.{turned-distinct, made-names, made-top, small-room}
 use Rattle.q_encode.proofs.encoding.encode_small.Goals as goal

@@ -1,9 +1,9 @@
 use Rattle.std.proofs.Common.{List, ℕ, Option, subst, sym, refl, ◌∙◌}
 use Rattle.q_logic.specs.Prelude.{Prefix, Distinct}
-use Rattle.q_carry.specs.Prelude.{IsNamed, AreLiterals, InputsAt, is_there, look_at}
+use Rattle.q_certificate.specs.Prelude.{IsNamed, AreLiterals, InputsAt, is_there, look_at}
 use Rattle.q_logic.specs.Exchanging.{exchanged}
 use Rattle.q_logic.proofs.Exchanged.{exchanged-distinct}
-use Rattle.q_slots.specs.Slots.{AreOwned}
+use Rattle.q_herbrand.specs.Slots.{AreOwned}
 use Rattle.q_herbrand.specs.Inputs.{AreOpened}
 use Rattle.q_herbrand.specs.Drafted.{IsChosen}
 use Rattle.q_herbrand.proofs.InputEntries.{inputs-literals, inputs-at}

@@ -1,6 +1,6 @@
 use Rattle.std.proofs.Common.{subst, length}
 use Rattle.q_aig.specs.Prelude.{Net, net_of}
-use Rattle.q_carry.specs.Prelude.{AreMarked, AreCopied, ArePlaced}
+use Rattle.q_certificate.specs.Prelude.{AreMarked, AreCopied, ArePlaced}
 use Rattle.q_herbrand.specs.Drafted.{AreMerged}
 use Rattle.q_herbrand.proofs.FirstDraft.{copied-into}
 use Rattle.q_herbrand.proofs.drafting.copy_into.Goals as goal

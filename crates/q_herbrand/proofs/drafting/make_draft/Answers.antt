@@ -1,5 +1,5 @@
 use Rattle.std.proofs.Common.{◌∙◌, List, ℕ, length, subst, sym, ap}
-use Rattle.q_slots.specs.Slots.{IsBegun}
+use Rattle.q_herbrand.specs.Slots.{IsBegun}
 use Rattle.q_herbrand.specs.Inputs.{AreInputs}
 use Rattle.q_herbrand.specs.Drafted.{IsCopiedInto}
 use Rattle.q_herbrand.proofs.FirstDraft.{begun-ready, drafted}

@@ -1,5 +1,5 @@
 use Rattle.std.proofs.Common.{◌≡◌, ◌<◌, ℕ, length}
-use Rattle.q_carry.specs.Prelude.{look_at}
+use Rattle.q_certificate.specs.Prelude.{look_at}
 use Rattle.q_herbrand.specs.Drafted.{either}
 use Rattle.q_herbrand.proofs.drafting.merge.Given as goal
 

@@ -1,5 +1,5 @@
 use Rattle.std.proofs.Common.{◌≡◌, ℕ, sym, subst, ap, ◌∙◌, cond, eqb, not, Bool, List, Option, Some}
-use Rattle.q_carry.specs.Prelude.{look_at, IsRaised}
+use Rattle.q_certificate.specs.Prelude.{look_at, IsRaised}
 use Rattle.q_herbrand.proofs.FalseLiterals.{lowered-put}
 use Rattle.q_herbrand.proofs.entries.lower.Goals as goal
 

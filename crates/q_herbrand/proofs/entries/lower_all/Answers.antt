@@ -1,6 +1,6 @@
 use Rattle.std.proofs.Common.{◌≡◌, ◌≤◌, ℕ, ◌-◌, [], ◌∷◌, drop, length, sym, subst, List, arith}
 use Rattle.q_logic.specs.Prelude.{Literal}
-use Rattle.q_carry.proofs.LiteralRows.{literals-kept}
+use Rattle.q_certificate.proofs.LiteralRows.{literals-kept}
 use Rattle.q_herbrand.specs.Parts.{IsLoweredOne, AreLowered}
 use Rattle.q_herbrand.proofs.FalseLiterals.{lowered-more, drop-item}
 use Rattle.q_herbrand.proofs.entries.lower_all.Goals as goal

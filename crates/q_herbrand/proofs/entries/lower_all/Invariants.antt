@@ -1,6 +1,6 @@
 use Rattle.std.proofs.Common.{◌≤◌, ℕ, List, Option, length, drop}
 use Rattle.q_aig.specs.Prelude.{IsLiteral}
-use Rattle.q_carry.specs.Prelude.{AreLiterals}
+use Rattle.q_certificate.specs.Prelude.{AreLiterals}
 use Rattle.q_herbrand.specs.Parts.{AreLowered}
 use Rattle.q_herbrand.proofs.entries.lower_all.Given as goal
 

@@ -2,7 +2,7 @@ use Rattle.std.proofs.Common.{◌≡◌, ◌+◌, ◌++◌, ◌∷◌, [], take,
 use Rattle.q_logic.specs.Prelude.{Clause}
 use Rattle.q_logic.proofs.Common.{taken}
 use Rattle.q_aig.proofs.Substitutes.{turned-there}
-use Rattle.q_carry.proofs.LiteralRows.{literals-kept, literal-there}
+use Rattle.q_certificate.proofs.LiteralRows.{literals-kept, literal-there}
 use Rattle.q_herbrand.specs.Parts.{IsNoneOf}
 use Rattle.q_herbrand.proofs.FalseLiterals.{none-more}
 use Rattle.q_herbrand.proofs.entries.none_of.Goals as goal

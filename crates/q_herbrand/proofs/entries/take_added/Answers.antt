@@ -1,6 +1,6 @@
 use Rattle.std.proofs.Common.{◌≡◌, ◌<◌, true, length, set, ap, ◌∙◌, Some, ℕ}
-use Rattle.q_carry.specs.Prelude.{IsRaised}
-use Rattle.q_slots.specs.Slots.{slot_at, IsRenewed}
+use Rattle.q_certificate.specs.Prelude.{IsRaised}
+use Rattle.q_herbrand.specs.Slots.{slot_at, IsRenewed}
 use Rattle.q_herbrand.specs.Inputs.{has_input}
 use Rattle.q_herbrand.proofs.InputReplacements.{renewed-literals, taken-added}
 use Rattle.q_herbrand.proofs.entries.take_added.Goals as goal

@@ -1,7 +1,7 @@
 use Rattle.std.proofs.Common.{◌≡◌, ◌≤◌, ℕ, ◌+◌, ◌-◌, ◌∷◌, drop, length, map, sym, subst, ap, ◌∙◌, List, Option, arith}
 use Rattle.std.proofs.lemmas.List.{length-map}
 use Rattle.q_logic.specs.Reversals.{Reversal}
-use Rattle.q_carry.proofs.LongerLists.{drop-mapped}
+use Rattle.q_certificate.proofs.LongerLists.{drop-mapped}
 use Rattle.q_herbrand.specs.Entries.{entry_of}
 use Rattle.q_herbrand.specs.Following.{IsReady, IsTaken, AreTaken}
 use Rattle.q_herbrand.proofs.SlotCircuits.{taken-more}

@@ -1,5 +1,5 @@
 use Rattle.std.proofs.Common.{◌≡◌, ◌<◌, true, length, set, ap, ◌∙◌, Some, ℕ}
-use Rattle.q_slots.specs.Slots.{slot_at}
+use Rattle.q_herbrand.specs.Slots.{slot_at}
 use Rattle.q_herbrand.specs.Inputs.{has_input}
 use Rattle.q_herbrand.proofs.InputReplacements.{taken-fresh}
 use Rattle.q_herbrand.proofs.entries.take_fresh.Goals as goal

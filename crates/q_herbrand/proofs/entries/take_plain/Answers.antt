@@ -1,5 +1,5 @@
 use Rattle.std.proofs.Common.{[]}
-use Rattle.q_carry.proofs.LiteralRows.{literals-kept}
+use Rattle.q_certificate.proofs.LiteralRows.{literals-kept}
 use Rattle.q_herbrand.proofs.FalseLiterals.{carried-plain}
 use Rattle.q_herbrand.proofs.entries.take_plain.Goals as goal
 

@@ -1,4 +1,4 @@
-use Rattle.q_carry.proofs.CircuitParts.{undone-removed}
+use Rattle.q_certificate.proofs.CircuitParts.{undone-removed}
 use Rattle.q_herbrand.proofs.FalseLiterals.{carried-removed}
 use Rattle.q_herbrand.proofs.entries.take_removed.Goals as goal
 

@@ -1,7 +1,7 @@
 use Rattle.std.proofs.Common.{◌≡◌, ℕ, sym, subst, ap, ◌∙◌, cond, eqb, not, Bool, List, Option, Some}
 use Rattle.q_logic.specs.Prelude.{negation}
-use Rattle.q_carry.specs.Prelude.{look_at, IsRaised}
-use Rattle.q_carry.proofs.CircuitParts.{undone-pivot}
+use Rattle.q_certificate.specs.Prelude.{look_at, IsRaised}
+use Rattle.q_certificate.proofs.CircuitParts.{undone-pivot}
 use Rattle.q_herbrand.proofs.FalseLiterals.{carried-turned}
 use Rattle.q_herbrand.proofs.entries.take_turned.Goals as goal
 

@@ -3,7 +3,7 @@ use Rattle.std.proofs.lemmas.List.{take_more}
 use Rattle.q_logic.specs.declared.formulas.Bound.{Bound}
 use Rattle.q_logic.specs.Prelude.{Prefix}
 use Rattle.q_logic.specs.Exchanging.{exchanged}
-use Rattle.q_carry.proofs.PrefixInputs.{no_bound}
+use Rattle.q_certificate.proofs.PrefixInputs.{no_bound}
 use Rattle.q_herbrand.proofs.RowSteps.{exchanged-last}
 use Rattle.q_herbrand.proofs.exchanging.exchange.Goals as goal
 

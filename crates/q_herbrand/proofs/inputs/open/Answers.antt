@@ -1,7 +1,7 @@
 use Rattle.std.proofs.Common.{◌≡◌, ◌+◌, ◌++◌, ◌∷◌, [], get_or, take, sym, subst, ◌∙◌}
 use Rattle.std.proofs.lemmas.List.{take_more}
 use Rattle.q_logic.specs.Prelude.{Prefix}
-use Rattle.q_carry.proofs.PrefixInputs.{no_bound}
+use Rattle.q_certificate.proofs.PrefixInputs.{no_bound}
 use Rattle.q_herbrand.specs.Inputs.{AreOpened}
 use Rattle.q_herbrand.proofs.InputEntries.{opened-other, opened-more}
 use Rattle.q_herbrand.proofs.inputs.open.Goals.{then-existential+in_ok-add, else-existential}

@@ -1,6 +1,6 @@
 use Rattle.std.proofs.Common.{◌≡◌, sym, subst, ap, ◌∙◌}
 use Rattle.q_logic.specs.Prelude.{Prefix, Distinct}
-use Rattle.q_carry.specs.Prelude.{IsMisfit}
+use Rattle.q_certificate.specs.Prelude.{IsMisfit}
 use Rattle.q_logic.specs.Exchanging.{exchanged}
 use Rattle.q_logic.proofs.Exchanged.{exchanged-distinct}
 use Rattle.q_herbrand.proofs.whole.fit.Goals as goal

@@ -1,11 +1,13 @@
 use Rattle.std.proofs.Common.{◌≡◌, sym, subst, ap, ◌∙◌}
-use Rattle.q_logic.specs.Prelude.{Prefix, Distinct, IsFormula, CertificateView, trees_of, Lawful}
-use Rattle.q_carry.specs.Narrowed.{IsNarrowed}
-use Rattle.q_carry.specs.Prelude.{Fits}
+use Rattle.q_logic.specs.Prelude.{Prefix, Distinct, IsFormula, CertificateView, trees_of, Lawful, Run}
+use Rattle.q_certificate.specs.Narrowed.{IsNarrowed}
+use Rattle.q_certificate.specs.Prelude.{Fits}
 use Rattle.q_logic.specs.Exchanging.{exchanged}
 use Rattle.q_logic.specs.Herbrands.{LawfulHerbrand}
 use Rattle.q_logic.proofs.Exchanged.{exchanged-distinct, exchanged-lawful}
 use Rattle.q_herbrand.specs.Refuted.{IsWide, IsRefuted}
+use Rattle.q_logic.proofs.ForthRuns.{lawful_herbrand-same}
+use Rattle.q_herbrand.proofs.MadeSteps.{valid-all_made}
 use Rattle.q_herbrand.proofs.RunCircuits.{refuted}
 use Rattle.q_herbrand.proofs.whole.refute.Goals as goal
 
@@ -23,13 +25,15 @@ carry-requires-clause-run c =
     let fits : Fits (exchanged c.args.output.now.prefix) c.accept.new.given =
     subst (λ (g : CertificateView). Fits (exchanged c.args.output.now.prefix) g)
     (sym c.in_ok-accept.ensures.unchanged) c.in_ok-accept.ensures.accepted.fits in
+    let run : Run c.args.input.now c.requires.0 c.args.output.now = c.requires.1 in
     record {
-      last = c.args.output.now;
+      last = run.last;
       steps = c.requires.0;
-      run = c.requires.1;
+      made = valid-all_made c.args.input.now c.requires.0 run.last run.steps;
       reversals = c.requires.2;
-      lawful = exchanged-lawful c.args.output.now.prefix (trees_of c.accept.new.given)
-          (c.fitting_circuits_are_lawful.ensures.lawful (exchanged c.args.output.now.prefix) fits);
+      lawful = lawful_herbrand-same run.last c.args.output.now (trees_of c.accept.new.given) run.same
+          (exchanged-lawful c.args.output.now.prefix (trees_of c.accept.new.given)
+          (c.fitting_circuits_are_lawful.ensures.lawful (exchanged c.args.output.now.prefix) fits));
     }
 
 pub returns-clause-refuted : goal.returns-clause-refuted

@@ -1,7 +1,7 @@
 use Rattle.std.proofs.Common.{subst, length}
 use Rattle.q_aig.specs.Prelude.{Net, net_of}
-use Rattle.q_carry.specs.Prelude.{AreMarked, AreCopied, ArePlaced, IsOpened, IsNamed}
-use Rattle.q_carry.proofs.LiteralRows.{literals-kept}
+use Rattle.q_certificate.specs.Prelude.{AreMarked, AreCopied, ArePlaced, IsOpened, IsNamed}
+use Rattle.q_certificate.proofs.LiteralRows.{literals-kept}
 use Rattle.q_rebuild.proofs.RebuiltCircuits.{rebuilt}
 use Rattle.q_rebuild.proofs.carrying.carry.Goals as goal
 

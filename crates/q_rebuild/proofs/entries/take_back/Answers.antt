@@ -2,9 +2,9 @@ use Rattle.std.proofs.Common.{◌≡◌, ◌≤◌, ℕ, ◌+◌, ◌-◌, ◌�
 use Rattle.std.proofs.lemmas.List.{length-map}
 use Rattle.q_logic.specs.Prelude.{UndoEntry}
 use Rattle.q_judge.specs.Entries.{entry_of}
-use Rattle.q_carry.specs.Prelude.{IsUndone}
+use Rattle.q_certificate.specs.Prelude.{IsUndone}
 use Rattle.q_rebuild.specs.TakenBack.{AreUndone}
-use Rattle.q_carry.proofs.LongerLists.{drop-mapped}
+use Rattle.q_certificate.proofs.LongerLists.{drop-mapped}
 use Rattle.q_rebuild.proofs.UndoEntries.{are-more}
 use Rattle.q_rebuild.proofs.entries.take_back.Goals as goal
 

@@ -1,4 +1,4 @@
-use Rattle.std.proofs.Common.{◌≡◌, ◌<◌, ◌≤◌, ◌+◌, ◌-◌, ◌∙◌, sym, ap, subst, length, get_or, true, false, arith}
+use Rattle.std.proofs.Common.{◌≡◌, ◌<◌, ◌≤◌, ◌+◌, ◌-◌, ◌∙◌, sym, subst, length, false, arith}
 use Rattle.q_resolve.specs.Judged.{entries_of}
 use Rattle.q_extract.proofs.Walked.{any-default}
 use Rattle.q_resolve.proofs.Coned.{IsMarkedDown, entries-length, marked-start, marked-skip, marked-down, marked-all}

@@ -1,4 +1,4 @@
-use Rattle.std.proofs.Common.{◌≡◌, ◌≤◌, ◌+◌, [], length, sym, ap, ◌∙◌, subst, Some, None, Option, ℕ, arith, true, false}
+use Rattle.std.proofs.Common.{◌≤◌, ◌+◌, length, sym, ◌∙◌, subst, arith}
 use Rattle.q_resolve.specs.Judged.{entries_of, IsEndUpto}
 use Rattle.q_resolve.proofs.Coned.{end-more, end-new, end-last, entries-length, literals-there, nothing-is, something-is}
 use Rattle.q_resolve.proofs.cone.find_end.Goals.{then-is_empty, else-is_empty}

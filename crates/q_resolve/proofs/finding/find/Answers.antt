@@ -1,5 +1,4 @@
-use Rattle.std.proofs.Common.{◌≡◌, ◌<◌, ◌≤◌, ◌∙◌, sym, ap, subst, arith}
-use Rattle.q_qrp.specs.Lines.{Line}
+use Rattle.std.proofs.Common.{◌≡◌, ◌≤◌, ◌∙◌, sym, ap, arith}
 use Rattle.q_qrp.specs.declared.trace.Row.{Row}
 use Rattle.q_resolve.proofs.Coned.{line-there, found-at, found-not, found-not-at}
 use Rattle.q_resolve.proofs.finding.find.Goals.{else-low-n-via-then-low-n+else-row-number-2, else-low-n-via-else-low-n}

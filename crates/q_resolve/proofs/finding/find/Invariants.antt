@@ -1,5 +1,5 @@
 use Rattle.std.proofs.Common.{◌≡◌, ◌≤◌, ◌<◌, ℕ, ◌-◌, slice_get, Some}
-use Rattle.q_qrp.specs.Lines.{Line, AreRising}
+use Rattle.q_qrp.specs.Lines.{Line}
 use Rattle.q_resolve.proofs.finding.find.Given as goal
 
 abbrev pub invariant-loop-low : goal.invariant-loop-low

@@ -1,4 +1,4 @@
-use Rattle.std.proofs.Common.{◌≡◌, ◌<◌, ◌∙◌, sym, length, List, arith, false, true}
+use Rattle.std.proofs.Common.{◌<◌, ◌∙◌, sym, length, List, arith}
 use Rattle.std.proofs.lemmas.Option.{get_or_from_slice_get}
 use Rattle.q_logic.specs.Prelude.{Literal}
 use Rattle.q_resolve.specs.Leaves.{is_same}

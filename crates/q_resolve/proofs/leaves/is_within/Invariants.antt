@@ -1,4 +1,4 @@
-use Rattle.std.proofs.Common.{◌≡◌, drop, List}
+use Rattle.std.proofs.Common.{◌≡◌, drop}
 use Rattle.q_logic.specs.Prelude.{Literal, has}
 use Rattle.q_derive.specs.Testing.{every}
 use Rattle.q_resolve.proofs.leaves.is_within.Given as goal

@@ -1,11 +1,10 @@
-use Rattle.std.proofs.Common.{◌≡◌, ◌+◌, ◌++◌, ◌∷◌, [], take, sym, ap, ◌∙◌, subst, refl, inl, inr, true, false, Bool, List, Option, Some, None, arith}
-use Rattle.q_logic.specs.Prelude.{Literal, IsIn}
-use Rattle.q_derive.specs.Traces.{single, double, IsPivot, IsMerged, IsClash, AreBound}
-use Rattle.q_derive.specs.Testing.{every, some}
-use Rattle.q_resolve.specs.Tests.{is_other, is_turning}
+use Rattle.std.proofs.Common.{◌≡◌, sym, ap, ◌∙◌, subst, refl, inl, List}
+use Rattle.q_logic.specs.Prelude.{Literal}
+use Rattle.q_derive.specs.Traces.{single}
+use Rattle.q_derive.specs.Testing.{some}
+use Rattle.q_resolve.specs.Tests.{is_other}
 use Rattle.q_resolve.specs.Reduced.{IsReduction}
-use Rattle.q_resolve.specs.Judged.{IsTrial, IsTried, IsWorst}
-use Rattle.q_resolve.proofs.LineFaults.{meeting-yes, meeting-no, pivot-yes, pivot-no, some-pivot, no-pivot, resolved-bound, trial-is, worst-next, least-merged, least-no_pivot, least-unbound, single-is, double-is, line-single, line-double, least-leaf, least-gone, bound-yes, bound-no}
+use Rattle.q_resolve.proofs.LineFaults.{meeting-yes, meeting-no, least-merged, single-is}
 use Rattle.q_resolve.proofs.lines.judge_single.Goals as goal
 
 pub returns-then-some_meets : goal.returns-then-some_meets

@@ -1,11 +1,9 @@
-use Rattle.std.proofs.Common.{◌≡◌, ◌+◌, ◌++◌, ◌∷◌, [], take, sym, ap, ◌∙◌, subst, refl, inl, inr, true, false, Bool, List, Option, Some, None, arith}
-use Rattle.q_logic.specs.Prelude.{Literal, IsIn}
-use Rattle.q_derive.specs.Traces.{single, double, IsPivot, IsMerged, IsClash, AreBound}
-use Rattle.q_derive.specs.Testing.{every, some}
-use Rattle.q_resolve.specs.Tests.{is_other, is_turning}
+use Rattle.std.proofs.Common.{◌≡◌, sym, ap, ◌∙◌, subst, refl, true, false, List, arith}
+use Rattle.q_logic.specs.Prelude.{Literal}
+use Rattle.q_derive.specs.Traces.{AreBound}
+use Rattle.q_resolve.specs.Tests.{is_turning}
 use Rattle.q_resolve.specs.Reduced.{IsReduction}
-use Rattle.q_resolve.specs.Judged.{IsTrial, IsTried, IsWorst}
-use Rattle.q_resolve.proofs.LineFaults.{meeting-yes, meeting-no, pivot-yes, pivot-no, some-pivot, no-pivot, resolved-bound, trial-is, worst-next, least-merged, least-no_pivot, least-unbound, single-is, double-is, line-single, line-double, least-leaf, least-gone, bound-yes, bound-no}
+use Rattle.q_resolve.proofs.LineFaults.{pivot-yes, pivot-no, resolved-bound, trial-is}
 use Rattle.q_resolve.proofs.lines.try_pivot.Goals as goal
 
 pub returns-then-not-is_pivot : goal.returns-then-not-is_pivot

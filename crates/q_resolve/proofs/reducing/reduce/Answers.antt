@@ -1,10 +1,10 @@
-use Rattle.std.proofs.Common.{◌≡◌, ◌≤◌, ◌∙◌, [], ◌++◌, length, sym, ap, subst, refl, true, false, arith}
+use Rattle.std.proofs.Common.{◌≡◌, ◌≤◌, ◌∙◌, length, sym, ap, refl, true, false, arith}
 use Rattle.std.proofs.lemmas.List.{append-nil}
 use Rattle.q_logic.specs.Prelude.{Literal}
 use Rattle.q_derive.specs.Testing.{every}
 use Rattle.q_extract.specs.Rows.{drops_in}
 use Rattle.q_resolve.specs.Tests.{is_front, outermost}
-use Rattle.q_resolve.proofs.Reduced.{lost-is, kept-is, shed-is, unshed-is, noted-nothing, noted-taken}
+use Rattle.q_resolve.proofs.Reduced.{lost-is, kept-is, shed-is, unshed-is, noted-nothing, noted-taken, more-plain}
 use Rattle.q_resolve.proofs.reducing.reduce.Goals as goal
 
 pub returns-then-loses : goal.returns-then-loses
@@ -22,6 +22,9 @@ returns-then-not-is_clear_before c =
       refl,
     )
 
+pub put_away-requires-clause-sound : goal.put_away-requires-clause-sound
+put_away-requires-clause-sound c = c.requires.sound.sound
+
 pub returns-in_ok-put_away : goal.returns-in_ok-put_away
 returns-in_ok-put_away c =
     let P = c.args.prefix.now in
@@ -33,8 +36,8 @@ returns-in_ok-put_away c =
     let clear : every (λ (k : Literal). is_front P (outermost P T R) k) R ≡ true = sym (ap (λ n. every (λ (k : Literal). is_front P n k) R) a) ∙ sym c.is_clear_before.ensures ∙ t in (
       kept,
       shed-is P R T clear,
-      c.in_ok-put_away.ensures.sound,
-      noted-taken c.args.owner P R T c.args.away.now.drops c.put_away.new.away.drops kept clear (rw a at c.in_ok-put_away.ensures.drops),
+      more-plain c.args.away.now.drops c.put_away.new.away.drops _ c.requires.sound c.in_ok-put_away.ensures,
+      noted-taken c.args.owner P R T c.args.away.now.drops c.put_away.new.away.drops c.requires.sound kept clear (rw a at c.in_ok-put_away.ensures.drops),
     )
 
 pub returns-else-at-prefix : goal.returns-else-at-prefix

@@ -1,4 +1,4 @@
-use Rattle.std.proofs.Common.{◌≡◌, subst}
+use Rattle.std.proofs.Common.{subst}
 use Rattle.q_logic.specs.Prelude.{Literal, without}
 use Rattle.q_resolve.specs.Reduced.{IsJoined}
 use Rattle.q_resolve.proofs.Joined.{resolved}

@@ -1,7 +1,7 @@
-use Rattle.std.proofs.Common.{◌≡◌, ◌∙◌, sym, ap, arith, true, false, get_or}
+use Rattle.std.proofs.Common.{◌∙◌, sym, ap, arith, get_or}
 use Rattle.q_logic.specs.declared.formulas.Bound.{Bound}
 use Rattle.q_logic.specs.declared.formulas.Quant.TheVariants.{Exists}
-use Rattle.q_logic.specs.Prelude.{Literal, is_exists}
+use Rattle.q_logic.specs.Prelude.{is_exists}
 use Rattle.q_resolve.proofs.Scanned.{bound-of, unbound-of, unbound-place, place-quant}
 use Rattle.q_resolve.proofs.seats.is_owned.Goals as goal
 

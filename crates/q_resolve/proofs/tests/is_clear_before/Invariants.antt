@@ -1,4 +1,4 @@
-use Rattle.std.proofs.Common.{◌≡◌, drop, List}
+use Rattle.std.proofs.Common.{◌≡◌, drop}
 use Rattle.q_logic.specs.Prelude.{Literal}
 use Rattle.q_resolve.specs.Tests.{is_front}
 use Rattle.q_derive.specs.Testing.{every}

@@ -1,42 +1,9 @@
-use Rattle.std.proofs.Common.{◌≡◌, ◌∙◌, inl, inr, ap, subst, Err}
-use Rattle.std.proofs.lemmas.Option.{IfSome_then}
-use Rattle.q_io.proofs.FaultCounts.{rose_later}
-use Rattle.q_command.proofs.FilePieces.{if_some_2, at_same}
-use Rattle.q_command.specs.declared.status.Status.TheVariants as status
-use Rattle.q_run_disprove.specs.DisprovedLines.{status_of_disproved}
+use Rattle.q_command.specs.Parts.{share_of}
 use Rattle.q_run_disprove.specs.Disproofs.{files_of}
-use Rattle.q_run_disprove.specs.declared.disproved.Disproved.{Disproved}
-use Rattle.q_run_disprove.proofs.DisproveOutcome.{says-files, says-of, input-says, input-fault, fault-is, never-write}
+use Rattle.q_run_disprove.proofs.DisproveOutcome.{whole-disproves}
 use Rattle.q_run_disprove.proofs.disproving.disprove_files.Goals as goal
 
-pub returns-in-Ok-clause-disproves : goal.returns-in-Ok-clause-disproves
-returns-in-Ok-clause-disproves g c =
-    says-files c.judge.result (files_of c.args.names) c.args.binary (g.F.Files.held c.args.files.now) (g.F.Files.held c.judge.new.files)
-    (c.judge.ensures.only_reads.same ∙ c.in-Ok.ensures.only_reads.same)
-    (if_some_2 (g.F.Files.held c.args.files.now) c.in-Ok.ensures.formula
-    (at_same _ _ _ c.in-Ok.ensures.only_reads.same c.judge.ensures.says)
-    (λ disk f a. says-of c.judge.result (files_of c.args.names) c.args.binary disk c.in-Ok.formula f a))
-
-pub returns-in-Ok-clause-read_fault : goal.returns-in-Ok-clause-read_fault
-returns-in-Ok-clause-read_fault g c e =
-    inr (rose_later (g.F.Files.read_faults c.args.files.now c.args.names.proof.now) (g.F.Files.read_faults c.read_input.new.files c.args.names.proof.now) (g.F.Files.read_faults c.judge.new.files c.args.names.proof.now)
-    (c.in-Ok.ensures.only_reads.later.read c.args.names.proof.now)
-    (c.judge.ensures.fault (fault-is c.judge.result e)))
-
-pub returns-in-Ok-clause-write_fault : goal.returns-in-Ok-clause-write_fault
-returns-in-Ok-clause-write_fault g c = never-write c.judge.result
-
-pub returns-in-Err-clause-disproves : goal.returns-in-Err-clause-disproves
-returns-in-Err-clause-disproves g c =
-    says-files c.refused_input.result (files_of c.args.names) c.args.binary (g.F.Files.held c.args.files.now) (g.F.Files.held c.read_input.new.files)
-    c.in-Err.ensures.only_reads.same
-    (IfSome_then (g.F.Files.held c.args.files.now) c.in-Err.ensures.refused
-    (λ disk r. input-says c.in-Err.error c.refused_input.result (files_of c.args.names) c.args.binary disk c.refused_input.ensures r))
-
-pub returns-in-Err-clause-read_fault : goal.returns-in-Err-clause-read_fault
-returns-in-Err-clause-read_fault g c e =
-    inl (c.in-Err.ensures.fault (ap Err (input-fault c.in-Err.error
-    (subst (λ (o : Disproved). status_of_disproved o ≡ status.ReadFault) c.refused_input.ensures e))))
-
-pub returns-in-Err-clause-write_fault : goal.returns-in-Err-clause-write_fault
-returns-in-Err-clause-write_fault g c = never-write c.refused_input.result
+pub returns-clause-disproves : goal.returns-clause-disproves
+returns-clause-disproves g c =
+    whole-disproves (share_of c.whole.result) c.whole.ensures c.disprove_shared.result (files_of c.args.names) c.args.binary
+    (g.F.Files.held c.args.files.now) (g.F.Files.held c.disprove_shared.new.files) c.disprove_shared.ensures.disproves

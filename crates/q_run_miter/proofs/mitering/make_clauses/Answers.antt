@@ -1,6 +1,6 @@
 use Rattle.std.proofs.Common.{◌≡◌, ◌∙◌, sym, ap, subst, Err}
 use Rattle.q_logic.specs.Prelude.{Prefix, CertificateView, Distinct, trees_of}
-use Rattle.q_carry.specs.Prelude.{Fits}
+use Rattle.q_certificate.specs.Prelude.{Fits}
 use Rattle.q_encode.specs.Sides.{turned}
 use Rattle.q_encode.specs.Sums.{IsSmall}
 use Rattle.q_encode.proofs.GivenCircuits.{turned-distinct}

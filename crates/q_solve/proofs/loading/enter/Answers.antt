@@ -4,7 +4,7 @@ use Rattle.q_logic.specs.Prefixes.{place}
 use Rattle.q_logic.proofs.Common.{item-in}
 use Rattle.q_search.specs.PlaceTables.{place_in}
 use Rattle.q_search.proofs.PathValues.{place-bound}
-use Rattle.q_counts.specs.Counting.{row_at}
+use Rattle.q_solve.specs.Counting.{row_at}
 use Rattle.q_solve.specs.Counted.{side}
 use Rattle.q_solve.proofs.EnteredClauses.{enter-step, IsPushed}
 use Rattle.q_solve.proofs.loading.enter.Goals as goal

@@ -1,6 +1,6 @@
 use Rattle.std.proofs.Common.{◌≡◌, ◌+◌, ℕ, true, eqb, drop}
 use Rattle.q_logic.specs.Prelude.{Literal, is_bound}
-use Rattle.q_counts.specs.Counting.{if_so, times, times_in}
+use Rattle.q_solve.specs.Counting.{if_so, times, times_in}
 use Rattle.q_solve.specs.Counted.{row_of}
 use Rattle.q_solve.proofs.loading.enter.Given as goal
 

@@ -2,7 +2,7 @@ use Rattle.std.proofs.Common.{◌≡◌, ◌<◌, ◌+◌, ℕ, true, [], eqb, l
 use Rattle.q_logic.specs.Prelude.{Literal, Prefix, is_bound, nothing}
 use Rattle.q_logic.specs.Decisions.{standing}
 use Rattle.q_search.specs.Paths.{along, rest_of}
-use Rattle.q_counts.specs.Counting.{if_so, count_of, times, times_in}
+use Rattle.q_solve.specs.Counting.{if_so, count_of, times, times_in}
 use Rattle.q_solve.specs.Counted.{row_of}
 use Rattle.q_solve.proofs.EnteredClauses.{loaded-more}
 use Rattle.q_solve.proofs.loading.load.Goals as goal

@@ -1,6 +1,6 @@
 use Rattle.std.proofs.Common.{sym, ◌∙◌, subst}
 use Rattle.q_logic.specs.Prelude.{Prefix}
-use Rattle.q_carry.specs.Prelude.{IsOpened}
+use Rattle.q_certificate.specs.Prelude.{IsOpened}
 use Rattle.q_solve.specs.Written.{IsWritten}
 use Rattle.q_search.proofs.NodeSteps.{going-out}
 use Rattle.q_solve.specs.Places.{walk_of}

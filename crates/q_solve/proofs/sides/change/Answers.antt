@@ -1,5 +1,5 @@
 use Rattle.std.proofs.Common.{List, ℕ, sym, subst}
-use Rattle.q_counts.specs.Counting.{CanShift, IsShifted}
+use Rattle.q_solve.specs.Counting.{CanShift, IsShifted}
 use Rattle.q_solve.proofs.ValueChanges.{can-first, can-second, both-changed}
 use Rattle.q_solve.proofs.sides.change.Goals as goal
 

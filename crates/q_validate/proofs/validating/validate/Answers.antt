@@ -1,6 +1,6 @@
 use Rattle.std.proofs.Common.{sym, subst, ◌∙◌}
 use Rattle.q_logic.specs.Prelude.{Prefix, CertificateView, trees_of, Lawful}
-use Rattle.q_carry.specs.Prelude.{Fits}
+use Rattle.q_certificate.specs.Prelude.{Fits}
 use Rattle.q_validate.specs.Answers.{IsAnswer}
 use Rattle.q_validate.proofs.KnownValues.{named-bound}
 use Rattle.q_validate.proofs.validating.validate.Goals as goal

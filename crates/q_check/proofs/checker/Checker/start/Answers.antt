@@ -3,6 +3,7 @@ use Rattle.q_logic.specs.Prelude.{PrenexFormula, copies, AreAlike}
 use Rattle.q_judge.specs.Entries.{entry_of}
 use Rattle.q_judge.specs.Ledgers.{Slotted, slotted, formula_in}
 use Rattle.q_judge.proofs.StartFormula.{filled-numbered}
+use Rattle.q_check.proofs.ProperSteps.{alike-proper}
 use Rattle.q_check.proofs.checker.Checker.start.Goals as goal
 
 slotted-alike : (F : PrenexFormula) → AreAlike F (formula_in (slotted F))
@@ -16,3 +17,9 @@ returns-clause-started c =
       refl,
       refl,
     )
+
+pub invariant_of-result : goal.invariant_of-result
+invariant_of-result c =
+    let F = c.args.formula.now in
+    let a = subst (λ (L : Slotted). AreAlike F (formula_in L)) (sym c.in_ok-ledger.ensures) (slotted-alike F) in
+    (c.requires, alike-proper F (formula_in c.in_ok-ledger.ledger) a c.prefix.ensures.proper)

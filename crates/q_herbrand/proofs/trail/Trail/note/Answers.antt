@@ -1,29 +1,8 @@
-use Rattle.std.proofs.Common.{List, Option, [], ◌∷◌, ◌++◌, map, append-nil, ap, sym, ◌∙◌}
-use Rattle.q_judge.specs.Ledgers.{formula_in}
-use Rattle.q_herbrand.specs.declared.reversal.Reversal.{Reversal as Entry}
-use Rattle.q_herbrand.specs.Entries.{entry_of, entries_of}
-use Rattle.q_herbrand.proofs.RunReversals.{map_last, noted-by}
+use Rattle.q_logic.proofs.Common.{on_both}
+use Rattle.q_herbrand.proofs.RunReversals.{noted-more}
 use Rattle.q_herbrand.proofs.trail.Trail.note.Goals as goal
 
-pub returns-in-Some-clause-noted : goal.returns-in-Some-clause-noted
-returns-in-Some-clause-noted c F ss h =
-    let old = c.self.inside.entries.items in
-    noted-by F ss c.args.self.now
-    (record { formula = formula_in c.pass.new.ledger; reversals = map entry_of c.push_reserved.new.self.items })
-    (formula_in c.self.inside.ledger) old c.args.step.now c.in_ok-entry.entry c.self.view_is h c.requires
-    c.in_ok-entry.ensures
-    (ap (map entry_of) (c.push_reserved.ensures.items
-    ∙ ap (λ (xs : List Entry). xs ++ c.in-Some.entry ∷ []) c.in_ok-reserve.ensures.items)
-    ∙ map_last old c.in-Some.entry
-    ∙ ap (λ (o : Option Entry). map entry_of old ++ entries_of o) (sym c.in-Some.is))
-
-pub returns-in_default-clause-noted : goal.returns-in_default-clause-noted
-returns-in_default-clause-noted c F ss h =
-    let old = c.self.inside.entries.items in
-    noted-by F ss c.args.self.now
-    (record { formula = formula_in c.pass.new.ledger; reversals = map entry_of c.reserve.new.self.items })
-    (formula_in c.self.inside.ledger) old c.args.step.now c.in_ok-entry.entry c.self.view_is h c.requires
-    c.in_ok-entry.ensures
-    (ap (map entry_of) c.in_ok-reserve.ensures.items
-    ∙ sym (append-nil (map entry_of old))
-    ∙ ap (λ (o : Option Entry). map entry_of old ++ entries_of o) (sym c.in_default.is))
+pub returns-clause-noted : goal.returns-clause-noted
+returns-clause-noted c =
+    on_both c.note_made.result c.note_made.ensures.formula c.note_made.ensures.reversals
+    (λ a g F ss h. noted-more F ss c.args.self.now c.note_made.new.self c.args.step.now h c.requires a g)

@@ -1,29 +1,44 @@
-use Rattle.std.proofs.Common.{◌≡◌, ◌⊎◌, refl, subst, false}
+use Rattle.std.proofs.Common.{◌≡◌, ◌⊎◌, ◌∙◌, ◌≤◌, ◌+◌, refl, sym, ap, subst, arith, false, Bool}
 use Rattle.q_logic.specs.declared.steps.Kind.{Kind}
-use Rattle.q_logic.specs.Prelude.{after}
+use Rattle.q_logic.specs.Prelude.{after, standard}
 use Rattle.q_logic.proofs.Common.{alike_swapped}
 use Rattle.q_refutation.specs.Refutations.{IsLost}
+use Rattle.q_refutation.specs.SharedRefutations.{MayBeTaken}
 use Rattle.q_refutation.proofs.FirstEmpty.{alike_lost}
-use Rattle.q_run_disprove.specs.Readings.{may_bring}
+use Rattle.q_run_disprove.specs.Readings.{counted, may_bring}
 use Rattle.q_run_disprove.proofs.DisproofSteps.{unlost-now}
+use Rattle.q_run_disprove.proofs.TakenSteps.{own-fewer, refusal-convicts}
 use Rattle.q_run_disprove.proofs.refuter.Refuter.take.Goals as goal
+
+pub one_more_if-self-requires : goal.one_more_if-self-requires
+one_more_if-self-requires c = omega (arith, c.requires.under_way.fewer, c.requires.few)
+
+pub returns-in-Err-clause-convicts : goal.returns-in-Err-clause-convicts
+returns-in-Err-clause-convicts c =
+    refusal-convicts c.args.self.now c.args.line c.args.step.now c.judges-own.result c.in-Err.error c.step_refusal.result c.step_refusal.ensures c.judges-own.ensures c.in-Err.ensures.refused
 
 pub returns-then-has_come-clause-convicts : goal.returns-then-has_come-clause-convicts
 returns-then-has_come-clause-convicts c =
     let behind = after c.args.self.now.checker.formula c.args.step.now in
-    let alike = alike_swapped behind c.make.new.checker.formula c.in_default.ensures.after in
-    (c.in_default.ensures.may, alike_lost c.make.new.checker.formula behind alike (c.has_come.ensures.yes c.if-has_come.true), refl)
+    let alike = alike_swapped behind c.make_or_pass.new.checker.formula c.in_default.ensures.after in (
+      subst (λ (own : Bool). MayBeTaken own standard c.args.self.now.checker.formula c.args.step.now) c.judges-own.ensures c.in_default.ensures.may,
+      alike_lost c.make_or_pass.new.checker.formula behind alike (c.has_come.ensures.yes c.if-has_come.true),
+      c.one_more_if-self.ensures ∙ ap (λ (own : Bool). counted own c.args.self.now.own) c.judges-own.ensures,
+    )
 
 pub returns-clause-goes : goal.returns-clause-goes
 returns-clause-goes c =
-    let no = subst (λ (k : Kind). (may_bring k ≡ false) ⊎ (IsLost c.make.new.checker.formula → ⊥)) c.kind.ensures (c.has_come.ensures.no c.if-has_come.false) in
+    let no = subst (λ (k : Kind). (may_bring k ≡ false) ⊎ (IsLost c.make_or_pass.new.checker.formula → ⊥)) c.kind.ensures (c.has_come.ensures.no c.if-has_come.false) in
     record {
-      may = c.in_default.ensures.may;
+      may = subst (λ (own : Bool). MayBeTaken own standard c.args.self.now.checker.formula c.args.step.now) c.judges-own.ensures c.in_default.ensures.may;
       alike = c.in_default.ensures.after;
       under_way = record {
-        limits = c.make.ensures.limits;
-        keeps = c.make.ensures.keeps;
-        unlost = unlost-now c.args.self.now.checker.formula c.make.new.checker.formula c.args.step.now c.requires.under_way.unlost c.in_default.ensures.after no;
+        limits = c.make_or_pass.ensures.limits;
+        keeps = c.make_or_pass.ensures.keeps;
+        unlost = unlost-now c.args.self.now.checker.formula c.make_or_pass.new.checker.formula c.args.step.now c.requires.under_way.unlost c.in_default.ensures.after no;
+        fewer = subst (λ n. n ≤ c.args.self.now.steps + 1) (sym c.one_more_if-self.ensures) (own-fewer c.judges-own.result c.args.self.now.own c.args.self.now.steps c.requires.under_way.fewer);
       };
+      part = refl;
       steps = refl;
+      own = c.one_more_if-self.ensures ∙ ap (λ (own : Bool). counted own c.args.self.now.own) c.judges-own.ensures;
     }

@@ -5,7 +5,7 @@ use Rattle.q_logic.specs.Decisions.{standing}
 use Rattle.q_logic.specs.Prelude.{nothing}
 use Rattle.q_search.specs.Paths.{along}
 use Rattle.q_search.proofs.PathValues.{last-bound}
-use Rattle.q_counts.specs.Counting.{AreCounts}
+use Rattle.q_solve.specs.Counting.{AreCounts}
 use Rattle.q_solve.specs.declared.places.Known.{Known}
 use Rattle.q_solve.specs.Places.{Spot}
 use Rattle.q_solve.specs.Counted.{turned, IsCounted}

@@ -4,7 +4,7 @@ use Rattle.q_logic.specs.Prelude.{Prefix}
 use Rattle.q_logic.specs.Decisions.{verdict}
 use Rattle.q_logic.proofs.WonSearch.{closed-end}
 use Rattle.q_search.proofs.PathValues.{rest-none}
-use Rattle.q_counts.proofs.NodeCounts.{counts-told}
+use Rattle.q_solve.proofs.NodeCounts.{counts-told}
 use Rattle.q_solve.specs.Places.{Spot, unset, values}
 use Rattle.q_solve.proofs.node.Node.look.Goals as goal
 

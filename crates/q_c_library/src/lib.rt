@@ -1,0 +1,115 @@
+//! Celdrinn for programs in C: `simplify`, `check` and `rebuild` over bytes in memory. Each call is one run of the program over
+//! files in memory, and its answer is the program's exit status. packaging/celdrinn.h declares the calls.
+#![tactic(auto)]
+
+mod copying;
+mod running;
+
+ghost use Rattle.std.specs.Prelude.{◌≡◌, ◌∷◌, [], codes};
+ghost use Rattle.q_io.specs.Files.{bytes_at};
+ghost use Rattle.q_c_library.specs.Calls.{Called, Copied, HoldsFour, HoldsOne, HoldsThree, no_lengths, over_three};
+
+use copying::{put, put_file};
+use q_app::Status;
+use running::{Left, check, rebuild, simplify};
+use std::alloc::Global;
+
+/// How many bytes each result has, also where its buffer was too short for it. What a call does not make has 0.
+#[repr(C)]
+#[derive(Clone, Copy)]
+pub struct Lengths {
+    pub output: usize,
+    pub log: usize,
+    pub line: usize,
+}
+
+const NOTHING: Lengths = Lengths {
+    output: 0,
+    log: 0,
+    line: 0,
+};
+
+/// Whether LOG leads from IN to OUT, as `celdrinn check IN OUT LOG` answers it. Its line goes into the buffer.
+#[unsafe(no_mangle)]
+pub extern "C" fn celdrinn_check(
+    alloc: Global,
+    input: &[u8],
+    output: &[u8],
+    log: &[u8],
+    line: &mut [u8],
+    lengths: &mut Lengths,
+) -> u8
+    ensures { Called (over_three (codes "check") []) (λ disk.
+        HoldsThree disk input.now output.now log.now) result (λ disk text.
+        Copied text line.old line.new lengths.new.line × (lengths.new.output ≡ 0)
+        × (lengths.new.log ≡ 0)) ((lengths.new ≡ no_lengths) × (line.new ≡ line.old)) }
+{
+    *lengths = NOTHING;
+    match check(alloc, input, output, log) {
+        Ok(left) => {
+            lengths.line = put(left.line.bytes(), line);
+            left.status.code()
+        }
+        Err(_) => Status::NoMemory.code(),
+    }
+}
+
+/// Simplifies IN, as `celdrinn simplify IN OUT LOG` does; OUT, LOG and its line go into the buffers.
+#[unsafe(no_mangle)]
+pub extern "C" fn celdrinn_simplify(
+    alloc: Global,
+    input: &[u8],
+    output: &mut [u8],
+    log: &mut [u8],
+    line: &mut [u8],
+    lengths: &mut Lengths,
+) -> u8
+    ensures { Called (over_three (codes "simplify") []) (λ disk. HoldsOne input.now disk) result
+        (λ disk text. Copied text line.old line.new lengths.new.line
+        × Copied (bytes_at disk (codes "OUT")) output.old output.new lengths.new.output
+        × Copied (bytes_at disk (codes "LOG")) log.old log.new lengths.new.log)
+        ((lengths.new ≡ no_lengths) × (output.new ≡ output.old) × (log.new ≡ log.old)
+        × (line.new ≡ line.old)) }
+{
+    *lengths = NOTHING;
+    match simplify(alloc, input) {
+        Ok(left) => {
+            lengths.output = put_file(&left.files, "OUT", output);
+            lengths.log = put_file(&left.files, "LOG", log);
+            lengths.line = put(left.line.bytes(), line);
+            left.status.code()
+        }
+        Err(_) => Status::NoMemory.code(),
+    }
+}
+
+/// Carries circuits of OUT back to circuits of IN, as `celdrinn rebuild IN OUT LOG SKOLEM CERT` does; CERT and its line go into
+/// the buffers, and the length of CERT is that of `output`.
+#[unsafe(no_mangle)]
+pub extern "C" fn celdrinn_rebuild(
+    alloc: Global,
+    input: &[u8],
+    output: &[u8],
+    log: &[u8],
+    skolem: &[u8],
+    cert: &mut [u8],
+    line: &mut [u8],
+    lengths: &mut Lengths,
+) -> u8
+    ensures { Called (over_three (codes "rebuild") (codes "SKOLEM" ∷ codes "CERT" ∷ []))
+        (λ disk. HoldsFour disk input.now output.now log.now skolem.now) result
+        (λ disk text. Copied text line.old line.new lengths.new.line
+        × Copied (bytes_at disk (codes "CERT")) cert.old cert.new lengths.new.output
+        × (lengths.new.log ≡ 0)) ((lengths.new ≡ no_lengths) × (cert.new ≡ cert.old)
+        × (line.new ≡ line.old)) }
+{
+    *lengths = NOTHING;
+    match rebuild(alloc, input, output, log, skolem) {
+        Ok(left) => {
+            lengths.output = put_file(&left.files, "CERT", cert);
+            lengths.line = put(left.line.bytes(), line);
+            left.status.code()
+        }
+        Err(_) => Status::NoMemory.code(),
+    }
+}

@@ -1,5 +1,0 @@
-use Rattle.q_carry.specs.Tabled.{ArePlacesUpto}
-use Rattle.q_carry.proofs.by_variable.places_of.Given as goal
-
-abbrev pub invariant-loop-i : goal.invariant-loop-i
-invariant-loop-i l = ArePlacesUpto l.names l.i l.table.items

@@ -1,5 +1,0 @@
-use Rattle.q_carry.proofs.Misfits.{misfit-not_fits}
-use Rattle.q_carry.proofs.laws.misfits_do_not_fit.Goals as goal
-
-pub returns : goal.returns
-returns c = misfit-not_fits

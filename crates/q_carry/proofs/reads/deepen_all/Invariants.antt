@@ -1,5 +1,0 @@
-use Rattle.q_carry.specs.Peaks.{AreDepths}
-use Rattle.q_carry.proofs.reads.deepen_all.Given as goal
-
-abbrev pub invariant-loop-i : goal.invariant-loop-i
-invariant-loop-i l = AreDepths l.prefix l.names l.depths

@@ -1,4 +1,0 @@
-pub mod CountChanges
-pub mod LiteralChange
-pub mod NodeCounts
-pub mod CountRows

@@ -1,0 +1,7 @@
+pub mod MadeSteps
+pub mod WordsRead
+pub mod ApplyReading
+pub mod ApplyOutcome
+pub mod ApplyStatus
+pub mod AppliedLogs
+pub mod Putting

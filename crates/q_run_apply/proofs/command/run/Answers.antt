@@ -1,0 +1,12 @@
+use Rattle.q_command.specs.Devices.{devices}
+use Rattle.q_command.proofs.ToldLaws.{runs}
+use Rattle.q_run_apply.specs.Applications.{files_of, told}
+use Rattle.q_run_apply.proofs.ApplyStatus.{laws}
+use Rattle.q_run_apply.proofs.command.run.Goals as goal
+
+pub returns : goal.returns
+returns g c =
+    runs (told (files_of c.args.names)) (laws (files_of c.args.names)) c.apply_files.result
+    (devices g.F.Files g.S.Sink c.args.files.now c.args.out.now) (devices g.F.Files g.S.Sink c.apply_files.new.files c.say.new.out)
+    c.say.result c.apply_files.ensures.applies c.say.ensures
+    c.apply_files.ensures.read_fault c.apply_files.ensures.write_fault tt

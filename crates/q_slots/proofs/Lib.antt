@@ -1,4 +1,0 @@
-pub mod ReplacedInputs
-pub mod SlotNodes
-pub mod GateCounts
-pub mod BuiltNodes

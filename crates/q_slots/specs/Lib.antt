@@ -1,4 +1,0 @@
-pub mod Under
-pub mod Slots
-pub mod Nodes
-pub mod Settled

@@ -1,4 +1,0 @@
-use Rattle.q_touched.proofs.covering.Covering.hand_out.Goals as goal
-
-pub covers-requires : goal.covers-requires
-covers-requires g c = c.suggest.ensures c.args.kernel.now (c.forget.ensures c.args.kernel.now)
